@@ -1,0 +1,67 @@
+//! Who and what is spoken of.
+
+/// A server, 0 to 7.
+#[derive(Clone, Copy, Debug, PartialEq, Eq)]
+pub struct ServerNo(pub u8);
+
+/// A client, 1 to 8.
+#[derive(Clone, Copy, Debug, PartialEq, Eq)]
+pub struct ClientNo(pub u8);
+
+#[derive(Clone, Copy, Debug, PartialEq, Eq)]
+pub struct FileNo(pub u32);
+
+/// A block of a file, 0 to 119.
+#[derive(Clone, Copy, Debug, PartialEq, Eq)]
+pub struct BlockNo(pub u16);
+
+/// A transaction: its coordinator, the epoch in which it was begun and its ticket there.
+#[derive(Clone, Copy, Debug, PartialEq, Eq)]
+pub struct Tid {
+    pub server: ServerNo,
+    pub epoch: u32,
+    pub ticket: u32,
+}
+
+/// A transaction's work at one server, named as a transaction is.
+#[derive(Clone, Copy, Debug, PartialEq, Eq)]
+pub struct WorkId {
+    pub server: ServerNo,
+    pub epoch: u32,
+    pub ticket: u32,
+}
+
+/// What a lock is held on: a file itself, or one block of it.
+#[derive(Clone, Copy, Debug, PartialEq, Eq)]
+pub enum LockUnit {
+    File(FileNo),
+    Block(FileNo, BlockNo),
+}
+
+/// What is free less what is promised, and the greater need that was refused.
+#[derive(Clone, Copy, Debug, PartialEq, Eq)]
+pub struct Short {
+    pub free: u32,
+    pub need: u32,
+}
+
+/// Why a transaction was aborted.
+#[derive(Clone, Copy, Debug, PartialEq, Eq)]
+pub enum Cause {
+    /// Its client asked for it.
+    Requested,
+    /// Its work at the server was broken at the unit, by the transaction.
+    Broken(ServerNo, LockUnit, Tid),
+    /// The server lost its part of it.
+    Lost(ServerNo),
+    /// The server had no room: the number of the refusal, what was free, what was needed.
+    Full(ServerNo, u8, u32, u32),
+}
+
+/// Where a server's names come from: its epoch, and the next ticket in it.
+#[derive(Clone, Copy, Debug, PartialEq, Eq)]
+pub struct Tickets {
+    pub server: ServerNo,
+    pub epoch: u32,
+    pub next: u32,
+}
