@@ -6,5 +6,8 @@ mod names;
 mod op;
 
 pub use device::{FaultKind, Outside, Page, Stopped};
-pub use names::{BlockNo, Cause, ClientNo, FileNo, LockUnit, ServerNo, Short, Tickets, Tid, WorkId};
+pub use names::{
+    BlockNo, Cause, ClientNo, FileNo, LockUnit, MsgKind, Party, ServerNo, Short, Tickets, Tid,
+    WorkId,
+};
 pub use op::{Answer, Block, Command, Op};

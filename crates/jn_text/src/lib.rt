@@ -1,0 +1,2 @@
+//! Numbers and bytes as they are spelled in schedules and reports.
+#![tactic(auto)]
