@@ -1,0 +1,6 @@
+pub mod Stored
+pub mod Lines
+pub mod Order
+pub mod Told
+pub mod Shown
+pub mod Follows

@@ -1,0 +1,6 @@
+//! What a report says of a schedule: the order of the commits, and whether the answers are that order's.
+#![tactic(auto)]
+
+mod files;
+
+pub use files::{Files, Performed, StoredBlock, StoredFile};
