@@ -1,0 +1,2 @@
+//! The top call: reads a schedule, runs it and writes the report.
+#![tactic(auto)]
