@@ -342,3 +342,20 @@ ordered-committed es ls e i j t ps below o =
         each (says.Aborted c j u cause) h k = neither u h k
         each (says.Broke s u w by) h k = neither u h k
         each _ h k = tt
+
+-- what the commits give after one more
+pub replay-committed : (es : List Event) (ls : List Line) (e : Event) (i j : ℕ) (t : Tid) (ps : List Performed) → AllAnswerWithin (length es) ls → Ordered es ls (Running t ps)
+    → let ms : List Line = (record { when = AtEvent i; text = says.Commit t }) ∷ (record { when = AtEvent i; text = says.Committed client_1 j t }) ∷ [] in
+    replay no_files (es ++ e ∷ []) (ls ++ ms) (history_of (ls ++ ms)) ≡ files_then ps (replay no_files es ls (history_of ls))
+replay-committed es ls e i j t ps below o =
+    let ms : List Line = (record { when = AtEvent i; text = says.Commit t }) ∷ (record { when = AtEvent i; text = says.Committed client_1 j t }) ∷ [] in
+    let did : (u : Tid) → ops_of (es ++ e ∷ []) (ls ++ ms) u ≡ ops_of es ls u = λ u. ops_of-more es ls e ms u below ∙ ap (λ (qs : List Performed). ops_of es ls u ++ qs) (none u (owner_of u None ls)) ∙ nothing_more (ops_of es ls u) in
+    let each = DidTheSame-each es ls (es ++ e ∷ []) (ls ++ ms) (history_of ls) (λ u k. did u) in
+    ap (λ (ts : List Tid). replay no_files (es ++ e ∷ []) (ls ++ ms) ts) (history_of-append ls ms)
+    ∙ replay-more no_files (es ++ e ∷ []) (ls ++ ms) (history_of ls) t
+    ∙ ap (λ (fs : AllFiles). files_then (ops_of (es ++ e ∷ []) (ls ++ ms) t) fs) (replay-same no_files es ls (es ++ e ∷ []) (ls ++ ms) (history_of ls) each)
+    ∙ ap (λ (qs : List Performed). files_then qs (replay no_files es ls (history_of ls))) (did t ∙ o.stands.did)
+  where
+    none : (u : Tid) (w : Option ClientNo) → ops_from (es ++ e ∷ []) u w ((record { when = AtEvent i; text = says.Commit t }) ∷ (record { when = AtEvent i; text = says.Committed client_1 j t }) ∷ []) ≡ []
+    none u None = refl
+    none u (Some c) = refl
