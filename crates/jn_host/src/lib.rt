@@ -11,13 +11,17 @@ ghost use Rattle.jn_host.specs.declared.KeepFailure.TheVariants.{Failed as CallF
 use std::alloc::{AllocError, AllocFailed, Global};
 
 mod fault_plan;
+mod file_keeper;
 mod memory_keeper;
 mod memory_sink;
 mod memory_source;
+mod standard;
 
+pub use file_keeper::{FileKeeper, MOST_LOADED};
 pub use memory_keeper::MemoryKeeper;
 pub use memory_sink::MemorySink;
 pub use memory_source::MemorySource;
+pub use standard::{StandardInput, StandardOutput};
 
 /// A call to the outside failed, and its object's count of faults rose.
 #[derive(Clone, Copy, Debug, PartialEq, Eq)]
