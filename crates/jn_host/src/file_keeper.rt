@@ -4,15 +4,13 @@ ghost use Rattle.std.specs.Prelude.{◌≡◌, None};
 ghost use Rattle.jn_host.specs.Outside.{bumped};
 ghost use Rattle.jn_host.specs.declared.KeepFailure.TheVariants.{Failed as CallFailed, Memory};
 
-use std::alloc::Global;
-use std::fs;
-use std::fs::File;
-use std::io;
-use std::io::{ErrorKind, Read};
-use std::rt::Files;
-
 use crate::fault_plan::failed;
 use crate::{KeepFailure, Keeper};
+use std::alloc::Global;
+use std::fs::File;
+use std::io::{ErrorKind, Read};
+use std::rt::Files;
+use std::{fs, io};
 
 /// The most bytes that are loaded of a file: one more than the longest image has, so that a file
 /// that is longer is seen to be.
@@ -73,7 +71,7 @@ impl<R: Files> Keeper for FileKeeper<R> {
     }
 
     /// Writes the whole file anew.
-    fn save(&mut self, _alloc: Global, name: &str, bytes: &[u8]) -> Result<(), KeepFailure> {
+    fn save(&mut self, name: &str, bytes: &[u8]) -> Result<(), KeepFailure> {
         match fs::write(&self.files, name, bytes) {
             Ok(()) => Ok(()),
             Err(error) => Err(failure_of(error, &mut self.faults)),

@@ -16,6 +16,8 @@ mod memory_keeper;
 mod memory_sink;
 mod memory_source;
 mod standard;
+#[cfg(test)]
+mod tests;
 
 pub use file_keeper::{FileKeeper, MOST_LOADED};
 pub use memory_keeper::MemoryKeeper;
@@ -102,6 +104,6 @@ pub trait Keeper {
 
     /// Makes the name hold the bytes. What it holds after a call that failed isn't promised; where
     /// there was no memory nothing has changed.
-    fn save(&mut self, alloc: Global, name: &str, bytes: &[u8]) -> Result<(), KeepFailure>
+    fn save(&mut self, name: &str, bytes: &[u8]) -> Result<(), KeepFailure>
         ensures saved { KeeperSaved (kept self.old) (faults self.old) name.now bytes.now result (kept self.new) (faults self.new) };
 }

@@ -15,6 +15,7 @@ use std::collections::BTreeMap;
 /// Keeps byte strings in memory. Chosen loads and saves fail and change nothing.
 #[derive(Drop)]
 pub struct MemoryKeeper {
+    alloc: Global,
     held: BTreeMap<String, Vec<u8>>,
     loads: FaultPlan,
     saves: FaultPlan,
@@ -30,6 +31,7 @@ impl MemoryKeeper {
         ensures saves { (result.saves.failing ≡ failing_saves) × (result.saves.calls ≡ 0) }
     {
         MemoryKeeper {
+            alloc,
             held: BTreeMap::new(alloc),
             loads: FaultPlan::new(failing_loads),
             saves: FaultPlan::new(failing_saves),
@@ -66,7 +68,7 @@ impl Keeper for MemoryKeeper {
         }
     }
 
-    fn save(&mut self, alloc: Global, name: &str, bytes: &[u8]) -> Result<(), KeepFailure>
+    fn save(&mut self, name: &str, bytes: &[u8]) -> Result<(), KeepFailure>
         ensures saved { let kept = ⟦<MemoryKeeper as Keeper>⟧.kept in
             KeeperSaved (kept self.old) self.old.faults name.now bytes.now result (kept self.new) self.new.faults }
         ensures planned { (result ≡ Err CallFailed) ↔ (is_planned self.old.saves.failing.items (bumped self.old.saves.calls) ≡ true) }
@@ -76,8 +78,8 @@ impl Keeper for MemoryKeeper {
         if self.saves.strikes() {
             return Err(failed(&mut self.faults).into());
         }
-        let name = String::from_str(alloc, name)?;
-        let bytes = Vec::from_slice(alloc, bytes)?;
+        let name = String::from_str(self.alloc, name)?;
+        let bytes = Vec::from_slice(self.alloc, bytes)?;
         self.held.insert(name, bytes)?;
         Ok(())
     }

@@ -2,10 +2,9 @@
 
 ghost use Rattle.std.specs.Prelude.{◌≡◌, None};
 
-use std::io::{Read, Write};
-
 use crate::fault_plan::failed;
 use crate::{Failed, Sink, Source};
+use std::io::{Read, Write};
 
 /// A reader as a source: `StandardInput::new(rt.reader())`.
 #[derive(Drop)]
