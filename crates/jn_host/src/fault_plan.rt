@@ -2,7 +2,7 @@
 
 ghost use Rattle.std.specs.Prelude.{◌≡◌};
 ghost use Rattle.jn_host.specs.Outside.{bumped};
-ghost use Rattle.jn_host.specs.FaultPlan.{is_planned};
+ghost use Rattle.jn_host.specs.FaultPlan.{Plans, after_call, fails_next};
 
 use crate::Failed;
 
@@ -15,16 +15,15 @@ pub struct FaultPlan {
 
 impl FaultPlan {
     pub fn new(failing: Vec<u64>) -> FaultPlan
-        ensures failing { result.failing ≡ failing }
-        ensures calls { result.calls ≡ 0 }
+        ensures { Plans failing result }
     {
         FaultPlan { failing, calls: 0 }
     }
 
     /// Counts a call, and answers whether it is to fail.
     pub fn strikes(&mut self) -> bool
-        ensures calls { self.new ≡ record self.old { calls = bumped self.old.calls } }
-        ensures planned { result ≡ is_planned self.old.failing.items (bumped self.old.calls) }
+        ensures counted { self.new ≡ after_call self.old }
+        ensures planned { result ≡ fails_next self.old }
     {
         self.calls = self.calls.saturating_add(1);
         let call = self.calls;

@@ -1,10 +1,10 @@
 //! A keeper that lies in memory.
 
-ghost use Rattle.std.specs.Prelude.{◌≡◌, ℕ, Some, None, Err, List, Option, ◌↔◌, true};
+ghost use Rattle.std.specs.Prelude.{◌≡◌, ℕ, Some, None, Err, List, ◌↔◌, true};
 ghost use Rattle.std.specs.Option.{option_map};
 ghost use Rattle.std.specs.BTreeMap.{get_by_text};
-ghost use Rattle.jn_host.specs.Outside.{KeeperLoaded, KeeperSaved, kept_at, bumped};
-ghost use Rattle.jn_host.specs.FaultPlan.{is_planned};
+ghost use Rattle.jn_host.specs.Outside.{KeeperLoaded, KeeperSaved, kept_at};
+ghost use Rattle.jn_host.specs.FaultPlan.{Plans, after_call, fails_next};
 ghost use Rattle.jn_host.specs.declared.KeepFailure.TheVariants.{Failed as CallFailed};
 
 use crate::fault_plan::{FaultPlan, failed};
@@ -27,8 +27,8 @@ impl MemoryKeeper {
     pub fn new(alloc: Global, failing_loads: Vec<u64>, failing_saves: Vec<u64>) -> MemoryKeeper
         ensures kept { (name : List ℕ) → kept_at (⟦<MemoryKeeper as Keeper>⟧.kept result) name ≡ Some None }
         ensures faults { ⟦<MemoryKeeper as Keeper>⟧.faults result ≡ 0 }
-        ensures loads { (result.loads.failing ≡ failing_loads) × (result.loads.calls ≡ 0) }
-        ensures saves { (result.saves.failing ≡ failing_saves) × (result.saves.calls ≡ 0) }
+        ensures loads { Plans failing_loads result.loads }
+        ensures saves { Plans failing_saves result.saves }
     {
         MemoryKeeper {
             alloc,
@@ -53,10 +53,10 @@ impl Keeper for MemoryKeeper {
     ghost faults = { λ s. s.faults };
 
     fn load(&mut self, alloc: Global, name: &str) -> Result<Option<Vec<u8>>, KeepFailure>
-        ensures loaded { let kept = ⟦<MemoryKeeper as Keeper>⟧.kept in
-            KeeperLoaded (kept self.old) self.old.faults name.now result (kept self.new) self.new.faults }
-        ensures planned { (result ≡ Err CallFailed) ↔ (is_planned self.old.loads.failing.items (bumped self.old.loads.calls) ≡ true) }
-        ensures loads { self.new.loads ≡ record self.old.loads { calls = bumped self.old.loads.calls } }
+        ensures loaded { let s = ⟦<MemoryKeeper as Keeper>⟧ in
+            KeeperLoaded (s.kept self.old) (s.faults self.old) name.now result (s.kept self.new) (s.faults self.new) }
+        ensures planned { (result ≡ Err CallFailed) ↔ (fails_next self.old.loads ≡ true) }
+        ensures loads { self.new.loads ≡ after_call self.old.loads }
         ensures saves { self.new.saves ≡ self.old.saves }
     {
         if self.loads.strikes() {
@@ -69,10 +69,10 @@ impl Keeper for MemoryKeeper {
     }
 
     fn save(&mut self, name: &str, bytes: &[u8]) -> Result<(), KeepFailure>
-        ensures saved { let kept = ⟦<MemoryKeeper as Keeper>⟧.kept in
-            KeeperSaved (kept self.old) self.old.faults name.now bytes.now result (kept self.new) self.new.faults }
-        ensures planned { (result ≡ Err CallFailed) ↔ (is_planned self.old.saves.failing.items (bumped self.old.saves.calls) ≡ true) }
-        ensures saves { self.new.saves ≡ record self.old.saves { calls = bumped self.old.saves.calls } }
+        ensures saved { let s = ⟦<MemoryKeeper as Keeper>⟧ in
+            KeeperSaved (s.kept self.old) (s.faults self.old) name.now bytes.now result (s.kept self.new) (s.faults self.new) }
+        ensures planned { (result ≡ Err CallFailed) ↔ (fails_next self.old.saves ≡ true) }
+        ensures saves { self.new.saves ≡ after_call self.old.saves }
         ensures loads { self.new.loads ≡ self.old.loads }
     {
         if self.saves.strikes() {

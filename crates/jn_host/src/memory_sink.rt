@@ -1,8 +1,8 @@
 //! A sink that lies in memory.
 
-ghost use Rattle.std.specs.Prelude.{◌≡◌, ◌<◌, ℕ, Some, IfOk, [], length, min, is_err, true, Option, List};
-ghost use Rattle.jn_host.specs.Outside.{SinkWrote, bumped};
-ghost use Rattle.jn_host.specs.FaultPlan.{is_planned};
+ghost use Rattle.std.specs.Prelude.{◌≡◌, ◌<◌, Some, IfOk, [], length, min, is_err, true};
+ghost use Rattle.jn_host.specs.Outside.{SinkWrote};
+ghost use Rattle.jn_host.specs.FaultPlan.{Plans, after_call, fails_next};
 
 use crate::fault_plan::{FaultPlan, failed};
 use crate::{Failed, Sink};
@@ -26,7 +26,7 @@ impl MemorySink {
         requires { 0 < limit }
         ensures taken { ⟦<MemorySink as Sink>⟧.taken result ≡ Some [] }
         ensures faults { ⟦<MemorySink as Sink>⟧.faults result ≡ 0 }
-        ensures plan { (result.plan.failing ≡ failing) × (result.plan.calls ≡ 0) }
+        ensures plan { Plans failing result.plan }
         ensures limit { result.limit ≡ limit }
     {
         MemorySink {
@@ -51,11 +51,11 @@ impl Sink for MemorySink {
     ghost faults = { λ s. s.faults };
 
     fn write(&mut self, from: &[u8]) -> Result<usize, Failed>
-        ensures wrote { let taken = ⟦<MemorySink as Sink>⟧.taken in
-            SinkWrote (taken self.old) self.old.faults from.now result (taken self.new) self.new.faults }
-        ensures planned { is_planned self.old.plan.failing.items (bumped self.old.plan.calls) ≡ true → is_err result ≡ true }
+        ensures wrote { let s = ⟦<MemorySink as Sink>⟧ in
+            SinkWrote (s.taken self.old) (s.faults self.old) from.now result (s.taken self.new) (s.faults self.new) }
+        ensures planned { fails_next self.old.plan ≡ true → is_err result ≡ true }
         ensures most { IfOk result (λ n. n ≡ min (length from.now) self.old.limit) }
-        ensures plan { self.new.plan ≡ record self.old.plan { calls = bumped self.old.plan.calls } }
+        ensures plan { self.new.plan ≡ after_call self.old.plan }
         ensures limit { self.new.limit ≡ self.old.limit }
     {
         if self.plan.strikes() {

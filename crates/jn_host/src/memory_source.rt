@@ -1,8 +1,9 @@
 //! A source that lies in memory.
 
-ghost use Rattle.std.specs.Prelude.{◌≡◌, ◌<◌, ◌≤◌, ◌↔◌, ℕ, Some, IfOk, drop, length, min, is_err, vec_len, ◌-◌, Option, List};
-ghost use Rattle.jn_host.specs.Outside.{SourceRead, bumped};
-ghost use Rattle.jn_host.specs.FaultPlan.{is_planned};
+ghost use Rattle.std.specs.Prelude.{◌≡◌, ◌<◌, ◌≤◌, Some, IfOk, drop, length, min, is_err, vec_len};
+ghost use Rattle.std.specs.Option.{option_map};
+ghost use Rattle.jn_host.specs.Outside.{SourceRead};
+ghost use Rattle.jn_host.specs.FaultPlan.{Plans, after_call, fails_next};
 
 use crate::fault_plan::{FaultPlan, failed};
 use crate::{Failed, Source};
@@ -26,7 +27,7 @@ impl MemorySource {
         requires { 0 < limit }
         ensures left { ⟦<MemorySource as Source>⟧.left result ≡ Some bytes.items }
         ensures faults { ⟦<MemorySource as Source>⟧.faults result ≡ 0 }
-        ensures plan { (result.plan.failing ≡ failing) × (result.plan.calls ≡ 0) }
+        ensures plan { Plans failing result.plan }
         ensures limit { result.limit ≡ limit }
     {
         MemorySource {
@@ -45,11 +46,13 @@ impl Source for MemorySource {
     ghost faults = { λ s. s.faults };
 
     fn read(&mut self, into: &mut [u8]) -> Result<usize, Failed>
-        ensures read { let left = ⟦<MemorySource as Source>⟧.left in
-            SourceRead (left self.old) self.old.faults into.old result (left self.new) self.new.faults into.new }
-        ensures planned { is_err result ≡ is_planned self.old.plan.failing.items (bumped self.old.plan.calls) }
-        ensures most { IfOk result (λ n. n ≡ min (min (length into.old) self.old.limit) (vec_len self.old.bytes - self.old.at)) }
-        ensures plan { self.new.plan ≡ record self.old.plan { calls = bumped self.old.plan.calls } }
+        ensures read { let s = ⟦<MemorySource as Source>⟧ in
+            SourceRead (s.left self.old) (s.faults self.old) into.old result (s.left self.new) (s.faults self.new) into.new }
+        ensures planned { is_err result ≡ fails_next self.old.plan }
+        // As many as the room, the limit and the bytes left allow.
+        ensures most { IfOk result (λ n. let most = min (length into.old) self.old.limit in
+            Some n ≡ option_map (λ bytes. min most (length bytes)) (⟦<MemorySource as Source>⟧.left self.old)) }
+        ensures plan { self.new.plan ≡ after_call self.old.plan }
         ensures limit { self.new.limit ≡ self.old.limit }
     {
         if self.plan.strikes() {

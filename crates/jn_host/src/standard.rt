@@ -1,6 +1,8 @@
 //! Standard input and output as a source and a sink. They tell nothing of their bytes.
 
-ghost use Rattle.std.specs.Prelude.{◌≡◌, None};
+ghost use Rattle.std.specs.Prelude.{◌≡◌, ◌<◌, ℕ, None, IfOk, OnErr, length, take};
+ghost use Rattle.std.specs.Io.KnownBytes.{ReadConsumes, Appends};
+ghost use Rattle.jn_host.specs.Outside.{SourceRead, SinkWrote};
 
 use crate::fault_plan::failed;
 use crate::{Failed, Sink, Source};
@@ -28,7 +30,11 @@ impl<R: Read> Source for StandardInput<R> {
 
     ghost faults = { λ s. s.faults };
 
-    fn read(&mut self, into: &mut [u8]) -> Result<usize, Failed> {
+    fn read(&mut self, into: &mut [u8]) -> Result<usize, Failed>
+        ensures read { SourceRead None self.old.faults into.old result None self.new.faults into.new }
+        // It passes on what the reader gave.
+        ensures passed { ReadConsumes (R.remaining self.old.reader) (R.remaining self.new.reader) result into.new }
+    {
         match self.reader.read(into) {
             Ok(count) => Ok(count),
             Err(_error) => Err(failed(&mut self.faults)),
@@ -60,7 +66,11 @@ impl<W: Write> Sink for StandardOutput<W> {
     ghost faults = { λ s. s.faults };
 
     /// A writer that takes nothing of bytes that are there, or can't be flushed, has failed.
-    fn write(&mut self, from: &[u8]) -> Result<usize, Failed> {
+    fn write(&mut self, from: &[u8]) -> Result<usize, Failed>
+        ensures wrote { SinkWrote None self.old.faults from.now result None self.new.faults }
+        // The writer has what was taken.
+        ensures passed { IfOk result (λ n. Appends (W.contents self.old.writer) (W.contents self.new.writer) (take n from.now)) }
+    {
         match self.writer.write(from) {
             Ok(count) if 0 < count || from.is_empty() => match self.writer.flush() {
                 Ok(()) => Ok(count),
