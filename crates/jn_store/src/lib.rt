@@ -3,7 +3,7 @@
 //! Stable storage is that of Lampson and Sturgis (1979): a put that is answered Ok is there, and one
 //! that is stopped leaves the old page or the new. `specs/Store.antt` says what each call does,
 //! `specs/Choices.antt` has the words in which the layers above speak of what a stop may leave, and
-//! `proofs/Store.antt` and `proofs/Choices.antt` have the lemmas.
+//! `proofs/Laws.antt` and `proofs/Choices.antt` have the lemmas.
 #![tactic(auto)]
 
 mod array;
