@@ -1,5 +1,5 @@
 -- How numbers and bytes are spelled in schedules and reports.
-use Rattle.std.specs.Prelude.{◌≡◌, ◌≤◌, ◌+◌, ℕ, Bool, List, [], ◌∷◌, ◌++◌, length, take, drop, decimal, nat_eq, if◌then◌else◌, slice_index}
+use Rattle.std.specs.Prelude.{ℕ, List, [], ◌∷◌, nat_eq, if◌then◌else◌}
 use Rattle.hex.specs.Hex.{encode_lower}
 
 -- the bytes without the zeros at their end
