@@ -1,5 +1,5 @@
 -- The lines of a report by the event that they stand at, and the events by their numbers.
-use Rattle.std.specs.Prelude.{ℕ, zero, suc, ◌+◌, Bool, true, false, nat_eq, nat_lt, if◌then◌else◌, List, [], ◌∷◌, Option, Some, None, ◌++◌, filter}
+use Rattle.std.specs.Prelude.{ℕ, zero, suc, Bool, true, false, nat_eq, nat_lt, List, [], ◌∷◌, Option, Some, None, ◌++◌, filter}
 use Rattle.std.specs.List.{list_any}
 use Rattle.jn_base.specs.declared.names.Tid.{Tid}
 use Rattle.jn_base.specs.Names.{tid_eq}
