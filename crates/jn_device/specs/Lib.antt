@@ -1,0 +1,4 @@
+pub mod Device
+pub mod Calls
+pub mod Events
+pub mod Later

@@ -1,0 +1,3 @@
+pub mod Store
+pub mod Pairs
+pub mod Choices

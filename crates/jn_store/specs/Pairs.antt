@@ -1,0 +1,21 @@
+-- A device of 2N pages as a store of N: page i is kept at i and at i + N.
+use Rattle.std.specs.Prelude.{ℕ, ◌+◌, ◌/◌, ◌&&◌}
+use Rattle.jn_device.specs.Device.{DeviceState}
+use Rattle.jn_store.specs.Store.{StoreView}
+
+abbrev pub view_at : ℕ → DeviceState → StoreView
+view_at half s = record {
+  count = half;
+  first = λ i. (s.pages i).bytes;
+  second = λ i. (s.pages (i + half)).bytes;
+  both = λ i. (s.pages i).good && (s.pages (i + half)).good;
+  power = s.power;
+  waiting = s.waiting;
+  told = s.told;
+  calls = s.calls;
+  puts = s.puts;
+  stops = s.stops;
+}
+
+abbrev pub pairs_view : DeviceState → StoreView
+pairs_view s = view_at (s.count / 2) s
