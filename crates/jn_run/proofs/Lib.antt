@@ -1,1 +1,3 @@
 pub mod OneClient
+pub mod Chapters
+pub mod Story

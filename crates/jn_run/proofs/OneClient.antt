@@ -69,7 +69,7 @@ AllOfEvents-append : (n : ℕ) (ls ms : List Line) → AllOfEvents n ls → AllO
 AllOfEvents-append n [] ms a b = b
 AllOfEvents-append n (l ∷ ls) ms a b = (a.0, AllOfEvents-append n ls ms a.1 b)
 
-length-more : (es : List Event) (e : Event) → length (es ++ e ∷ []) ≡ suc (length es)
+pub length-more : (es : List Event) (e : Event) → length (es ++ e ∷ []) ≡ suc (length es)
 length-more [] e = refl
 length-more (d ∷ es) e = ap suc (length-more es e)
 
@@ -134,7 +134,7 @@ pub ops_of-more : (es : List Event) (ls : List Line) (e : Event) (ms : List Line
     → ops_of (es ++ e ∷ []) (ls ++ ms) u ≡ ops_of es ls u ++ ops_from (es ++ e ∷ []) u (owner_of u None ls) ms
 ops_of-more es ls e ms u h = ops_from-append (es ++ e ∷ []) u None ls ms ∙ ap (λ (ps : List Performed). ps ++ ops_from (es ++ e ∷ []) u (owner_of u None ls) ms) (ops_from-events es (e ∷ []) u None ls h)
 
-nothing_more : {A : Type 0} (xs : List A) → xs ++ [] ≡ xs
+pub nothing_more : {A : Type 0} (xs : List A) → xs ++ [] ≡ xs
 nothing_more [] = refl
 nothing_more {A = A} (x ∷ xs) = ap (λ (ys : List A). x ∷ ys) (nothing_more xs)
 

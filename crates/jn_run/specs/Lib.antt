@@ -1,2 +1,5 @@
+pub mod Codes
 pub mod Form
 pub mod Pages
+pub mod Outcome
+pub mod Story

@@ -1,2 +1,6 @@
 //! The top call: reads a schedule, runs it and writes the report.
 #![tactic(auto)]
+
+mod status;
+
+pub use status::Status;
