@@ -1,3 +1,4 @@
 pub mod OneClient
 pub mod Chapters
 pub mod Story
+pub mod Ending

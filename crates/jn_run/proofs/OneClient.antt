@@ -118,7 +118,7 @@ pub record Ordered (es : List Event) (ls : List Line) (stage : Stage) : Type 0 w
   pub owners : (u : Tid) → (owner_of u None ls ≡ None) ⊎ (owner_of u None ls ≡ Some client_1)
   pub stands : StandsAt es ls stage
 
-DidTheSame-each : (es : List Event) (ls : List Line) (fs : List Event) (ms : List Line) (ts : List Tid)
+pub DidTheSame-each : (es : List Event) (ls : List Line) (fs : List Event) (ms : List Line) (ts : List Tid)
     → ((u : Tid) → has_tid ts u ≡ true → ops_of fs ms u ≡ ops_of es ls u) → DidTheSame es ls fs ms ts
 DidTheSame-each es ls fs ms [] h = tt
 DidTheSame-each es ls fs ms (t ∷ ts) h = (h t (first t (has_tid ts t)), DidTheSame-each es ls fs ms ts (λ u k. h u (later (tid_eq t u) (has_tid ts u) k)))

@@ -3,3 +3,4 @@ pub mod Form
 pub mod Pages
 pub mod Outcome
 pub mod Story
+pub mod Ending
