@@ -2,3 +2,4 @@ pub mod OneClient
 pub mod Chapters
 pub mod Story
 pub mod Ending
+pub mod Prints
