@@ -4,3 +4,4 @@ pub mod Pages
 pub mod Outcome
 pub mod Story
 pub mod Ending
+pub mod Outside

@@ -1,6 +1,7 @@
 //! The top call: reads a schedule, runs it and writes the report.
 #![tactic(auto)]
 
+mod outside;
 mod status;
 
 pub use status::Status;
