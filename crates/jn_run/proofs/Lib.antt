@@ -3,4 +3,4 @@ pub mod Chapters
 pub mod Story
 pub mod Ending
 pub mod Prints
-pub mod Bytes
+pub mod Joined
