@@ -173,3 +173,6 @@ impl PhysPower for MemDisk {
         self.faults.clear_told();
     }
 }
+
+#[cfg(test)]
+mod tests;
