@@ -1,6 +1,8 @@
 //! Numbers and bytes as they are spelled in schedules and reports.
 #![tactic(auto)]
 
+mod read;
 mod write;
 
+pub use read::{one_number_stands_at_a_place, read_number};
 pub use write::{push_hex, push_number};
