@@ -4,7 +4,6 @@ use Rattle.std.proofs.lemmas.Bool.Decides.{nat_tests}
 use Rattle.std.proofs.lemmas.Fmt.{decimal-digits_value, digits_decimal, digits_value-decimal, decimal_nonempty, first_decimal, decimal_digit, decimal_injective}
 use Rattle.std.proofs.lemmas.Int.Digits.{digits_value_more}
 use Rattle.std.proofs.lemmas.Str.Parse.{IsNumeralModel, numerals_by_value, tells_digits, digit_at, digits_value-take-le}
-use Rattle.std.proofs.lemmas.List.{length-drop, length-take-le}
 use Rattle.std.proofs.lemmas.List.Folds.{length-prefix_len}
 use Rattle.std.proofs.lemmas.List.{get_or-take}
 use Rattle.std.proofs.lemmas.List.Sums.{prefix_len_passes}
@@ -14,7 +13,7 @@ use Rattle.std.specs.Int.{IsInRange}
 use Rattle.std.specs.List.{prefix_len}
 use Rattle.std.specs.Str.Parse.{AllDigits, digits_value}
 use Rattle.jn_text.specs.Read.{IsNumberAt}
-use Rattle.jn_text.proofs.Runs.{run_is, run_stops, run_within}
+use Rattle.jn_text.proofs.Runs.{length-take_drop, run_ends, run_is, run_spelled, run_taken, run_within}
 
 own : IsNumeralModel (AllDigits 10) (digits_value 10)
 own = numerals_by_value (AllDigits 10) tells_digits
@@ -52,9 +51,6 @@ too_large ds i value within is large small =
     let less = digits_value-take-le 10 ds (i + 1) (omega arith) in
     large (omega arith)
 
-length-take_drop : (bytes : List ℕ) (start end : ℕ) → end ≤ length bytes → length (take (end - start) (drop start bytes)) ≡ end - start
-length-take_drop bytes start end within = length-take-le (end - start) (drop start bytes) (omega (arith, length-drop start bytes))
-
 -- the digits of a number are all there are at its place
 pub number_is_run : (bytes : List ℕ) (start limit n end : ℕ) → limit < 2 ^ 64 → IsNumberAt bytes start limit n end
     → prefix_len is_ascii_digit (drop start bytes) ≡ end - start
@@ -81,22 +77,19 @@ run_digits xs count counted =
 -- the run of digits is a number that stands there, where it spells one
 pub run_is_number : (bytes rest : List ℕ) (start limit n count : ℕ) → start ≤ length bytes → rest ≡ drop start bytes
     → count ≡ prefix_len is_ascii_digit rest → n ≤ limit → take count rest ≡ decimal n → IsNumberAt bytes start limit n (start + count)
-run_is_number bytes rest start limit n count within same counted small spelled =
-    let run : count ≡ prefix_len is_ascii_digit (drop start bytes) = counted ∙ ap (prefix_len is_ascii_digit) same in
-    let whole : start + count - start ≡ count = omega arith in record {
-      ordered = omega arith;
-      within = omega (arith, run_within is_ascii_digit bytes start within);
-      digits = ap (λ (l : List ℕ). take (start + count - start) l) (sym same) ∙ ap (λ (k : ℕ). take k rest) whole ∙ spelled;
-      small = small;
-      whole = ap (λ (k : ℕ). is_ascii_digit (get_or bytes (start + k) 0)) run ∙ run_stops is_ascii_digit bytes start refl;
-    }
+run_is_number bytes rest start limit n count within same counted small spelled = record {
+  ordered = omega arith;
+  within = run_within is_ascii_digit bytes rest start count same counted within;
+  digits = run_spelled is_ascii_digit bytes rest start count same counted ∙ spelled;
+  small = small;
+  whole = run_ends is_ascii_digit bytes rest start count same counted refl;
+}
 
 -- what stands there is spelled by the run of digits
 pub number_is_spelled : (bytes rest : List ℕ) (start limit n end count : ℕ) → limit < 2 ^ 64 → rest ≡ drop start bytes
     → count ≡ prefix_len is_ascii_digit rest → IsNumberAt bytes start limit n end → take count rest ≡ decimal n
 number_is_spelled bytes rest start limit n end count fits same counted at =
-    let run : count ≡ end - start = counted ∙ ap (prefix_len is_ascii_digit) same ∙ number_is_run bytes start limit n end fits at in
-    ap (λ (l : List ℕ). take count l) same ∙ ap (λ (k : ℕ). take k (drop start bytes)) run ∙ at.digits
+    (run_taken is_ascii_digit bytes rest start count same counted end (number_is_run bytes start limit n end fits at)).1 ∙ at.digits
 
 -- one number stands there at most
 pub number_is_one : (bytes : List ℕ) (start limit n m end last : ℕ) → limit < 2 ^ 64 → IsNumberAt bytes start limit n end → IsNumberAt bytes start limit m last → (n ≡ m) × (end ≡ last)

@@ -1,6 +1,6 @@
 -- The run of bytes of one kind at a place of a text: where it ends, and that nothing else is one.
 use Rattle.std.proofs.Common.{◌≡◌, ℕ, ◌+◌, ◌-◌, ◌<◌, ◌≤◌, Bool, true, false, List, length, take, drop, get_or, arith, ap, ◌∙◌, sym, inl, inr}
-use Rattle.std.proofs.lemmas.List.{get_or-take, get_or-drop, get_or_past, length-drop}
+use Rattle.std.proofs.lemmas.List.{get_or-take, get_or-drop, get_or_past, length-drop, length-take-le}
 use Rattle.std.proofs.lemmas.List.Sums.{prefix_len_is, prefix_len_stops, prefix_len-le-length}
 use Rattle.std.proofs.lemmas.Bool.{cases_lt}
 use Rattle.std.specs.List.{prefix_len}
@@ -29,6 +29,30 @@ run_stops p bytes start none =
       | inr after ↦ ap p (get_or_past rest n 0 after) ∙ none
     ]
 
--- so many bytes are there
-pub run_within : (p : ℕ → Bool) (bytes : List ℕ) (start : ℕ) → start ≤ length bytes → start + prefix_len p (drop start bytes) ≤ length bytes
-run_within p bytes start within = omega (arith, prefix_len-le-length p (drop start bytes), length-drop start bytes)
+pub length-take_drop : (bytes : List ℕ) (start end : ℕ) → end ≤ length bytes → length (take (end - start) (drop start bytes)) ≡ end - start
+length-take_drop bytes start end within = length-take-le (end - start) (drop start bytes) (omega (arith, length-drop start bytes))
+
+-- a run of so many bytes, counted in what follows its place
+module _ (p : ℕ → Bool) (bytes rest : List ℕ) (start count : ℕ) (same : rest ≡ drop start bytes) (counted : count ≡ prefix_len p rest) where
+  -- it is within the text
+  pub run_within : start ≤ length bytes → start + count ≤ length bytes
+  run_within within =
+      let run : count ≡ prefix_len p (drop start bytes) = counted ∙ ap (prefix_len p) same in
+      omega (arith, prefix_len-le-length p (drop start bytes), length-drop start bytes)
+
+  -- its bytes
+  pub run_spelled : take (start + count - start) (drop start bytes) ≡ take count rest
+  run_spelled =
+      let whole : start + count - start ≡ count = omega arith in
+      ap (λ (k : ℕ). take k (drop start bytes)) whole ∙ ap (take count) (sym same)
+
+  -- nothing of its kind follows
+  pub run_ends : p 0 ≡ false → p (get_or bytes (start + count) 0) ≡ false
+  run_ends none =
+      ap (λ (k : ℕ). p (get_or bytes (start + k) 0)) (counted ∙ ap (prefix_len p) same) ∙ run_stops p bytes start none
+
+  -- what ends where its run does is the run
+  pub run_taken : (end : ℕ) → prefix_len p (drop start bytes) ≡ end - start → (count ≡ end - start) × (take count rest ≡ take (end - start) (drop start bytes))
+  run_taken end run =
+      let whole : count ≡ end - start = counted ∙ ap (prefix_len p) same ∙ run in
+      (whole, ap (take count) same ∙ ap (λ (k : ℕ). take k (drop start bytes)) whole)

@@ -1,9 +1,12 @@
 //! Reads numbers and bytes at a place of a text.
-ghost use Rattle.std.specs.Prelude.{true, ◌≡◌, ◌≢◌, ◌+◌, ◌*◌, ◌^◌, ◌<◌, ◌≤◌, ℕ, List, length, decimal, IfSome, IfNone, MatchOption, SomeIff};
+ghost use Rattle.std.specs.Prelude.{true, ◌≡◌, ◌≢◌, ◌+◌, ◌*◌, ◌%◌, ◌^◌, ◌<◌, ◌≤◌, ℕ, List, length, decimal, IfSome, IfNone, IfOk, MatchOption, SomeIff};
 ghost use Rattle.std.specs.Char.{digit_value, is_ascii_digit};
-ghost use Rattle.std.specs.List.{prefix_len};
+ghost use Rattle.std.specs.List.{prefix_len, AllPass};
 ghost use Rattle.std.specs.Str.Parse.{AllDigits, digits_value};
-ghost use Rattle.jn_text.specs.Read.{IsNumberAt};
+ghost use Rattle.hex.specs.Hex.{encode_lower, IsBytes};
+ghost use Rattle.jn_text.specs.Read.{is_lower_hex_digit, IsHexAt, IsNumberAt};
+
+use std::alloc::{AllocError, Global};
 
 /// The number of at most `limit` whose digits begin at the index `at` of the text, and the index
 /// after them. It has no sign and no leading zero. `None` where no such number stands there, as
@@ -67,4 +70,58 @@ fn with_digit(value: u64, digit: u8) -> Option<u64>
     ensures { SomeIff result (value * 10 + digit_value digit < 2 ^ 64) (value * 10 + digit_value digit) }
 {
     value.checked_mul(10)?.checked_add(u64::from(digit - b'0'))
+}
+
+/// The bytes that are spelled at the index `at` of the text, and the index after their spelling:
+/// `-` for no bytes, or 1 to 448 bytes as pairs of lower-case hexadecimal digits, with another byte
+/// or the end of the text behind them. `None` where no such spelling stands there.
+pub fn read_hex(
+    alloc: Global,
+    bytes: &[u8],
+    at: usize,
+) -> Result<Option<(Vec<u8>, usize)>, AllocError>
+    requires { at ≤ length bytes.now }
+    ensures found { IfOk result (λ o. IfSome o (λ r. IsHexAt bytes.now at r.0.items r.1)) }
+    ensures none { IfOk result (λ o.
+        IfNone o ((content : List ℕ) → (end : ℕ) → ¬ IsHexAt bytes.now at content end)) }
+{
+    if at < bytes.len() && bytes[at] == b'-' {
+        return Ok(Some((Vec::new(alloc), at + 1)));
+    }
+    let rest = &bytes[at..];
+    let count = hex_digit_count(rest);
+    if count == 0 || count > 2 * MAX_BYTES || count % 2 != 0 {
+        return Ok(None);
+    }
+    let content = decoded(alloc, &rest[..count])?;
+    Ok(Some((content, at + count)))
+}
+
+/// At most one spelling of bytes stands at a place of a text.
+pub fn one_spelling_stands_at_a_place()
+    ensures { (bytes : List ℕ) → (at : ℕ) → (c d : List ℕ) → (e f : ℕ)
+        → IsHexAt bytes at c e → IsHexAt bytes at d f → (c ≡ d) × (e ≡ f) }
+{}
+
+/// The most bytes that are read: those of a block.
+const MAX_BYTES: usize = 448;
+
+/// How many lower-case hexadecimal digits the bytes begin with.
+fn hex_digit_count(bytes: &[u8]) -> usize
+    ensures { result ≡ prefix_len is_lower_hex_digit bytes.now }
+{
+    bytes
+        .iter()
+        .take_while(|b| matches!(**b, b'0'..=b'9' | b'a'..=b'f'))
+        .count()
+}
+
+/// The bytes that the pairs of digits spell.
+fn decoded(alloc: Global, digits: &[u8]) -> Result<Vec<u8>, AllocError>
+    requires even { length digits.now % 2 ≡ 0 }
+    requires lower { AllPass is_lower_hex_digit digits.now }
+    ensures { IfOk result (λ v. (encode_lower v.items ≡ digits.now) × IsBytes v.items) }
+{
+    // Digits in pairs decode, so that memory alone can be lacking.
+    hex::decode(alloc, digits).map_err(|_| AllocError)
 }
