@@ -1,3 +1,4 @@
 pub mod StoredLemmas
 pub mod DoesLemmas
 pub mod Orders
+pub mod LineLemmas
