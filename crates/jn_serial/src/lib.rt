@@ -15,3 +15,6 @@ pub use order::{agrees, replay};
 pub use outcomes::told;
 pub use perform::do_op;
 pub use transactions::ops_of;
+
+#[cfg(test)]
+mod tests;
