@@ -34,7 +34,8 @@ impl Files {
 
 /// Does operations one after another, whatever they are answered.
 fn do_all(alloc: Global, files: &mut Files, ops: &[Performed]) -> Result<(), AllocError>
-    ensures { OnOk result (AreSame (files_of files.new) (order.files_then ops.now (files_of files.old))) }
+    ensures { OnOk result
+        (AreSame (files_of files.new) (order.files_then ops.now (files_of files.old))) }
 {
     for p in ops {
         do_op(alloc, files, p.server, &p.op)?;
@@ -50,7 +51,8 @@ pub fn replay(
     lines: &[Line],
     list: &[Tid],
 ) -> Result<Files, AllocError>
-    ensures { IfOk result (λ fs. AreSame (files_of fs) (order.replay (files_of files.now) events.now lines.now list.now)) }
+    ensures { IfOk result (λ fs. AreSame (files_of fs)
+        (order.replay (files_of files.now) events.now lines.now list.now)) }
 {
     let mut after = files.copy(alloc)?;
     for t in list {
@@ -63,7 +65,8 @@ pub fn replay(
 /// Does operations one after another, until the files give another answer than the one told.
 fn gives_answers(alloc: Global, files: &mut Files, ops: &[Performed]) -> Result<bool, AllocError>
     ensures answers { IfOk result (λ b. IsTrue b ↔ order.GivesAnswers (files_of files.old) ops.now) }
-    ensures after { IfOk result (λ b. b ≡ true → AreSame (files_of files.new) (order.files_then ops.now (files_of files.old))) }
+    ensures after { IfOk result (λ b. b ≡ true
+        → AreSame (files_of files.new) (order.files_then ops.now (files_of files.old))) }
 {
     for p in ops {
         let answer = do_op(alloc, files, p.server, &p.op)?;

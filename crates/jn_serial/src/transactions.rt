@@ -34,7 +34,9 @@ fn performed(
     number: u32,
     answer: Answer,
 ) -> Option<Performed>
-    ensures { option_to_list result ≡ (if client_eq client to then order.performed_in client answer (lines_of.event_at events.now number) else []) }
+    ensures { option_to_list result
+        ≡ (if client_eq client to
+        then order.performed_in client answer (lines_of.event_at events.now number) else []) }
 {
     if client == to {
         performed_in(client, answer, event_at(events, number))
@@ -95,7 +97,8 @@ fn push_answered(
     owner: Option<ClientNo>,
     text: &Text,
 ) -> Result<(), AllocError>
-    ensures { OnOk result (performed.new.items ≡ performed.old.items ++ order.answered_by events.now owner text.now) }
+    ensures { OnOk result (performed.new.items
+        ≡ performed.old.items ++ order.answered_by events.now owner text.now) }
 {
     let Some(client) = owner else {
         return Ok(());
