@@ -4,3 +4,9 @@ pub mod Story
 pub mod Ending
 pub mod Prints
 pub mod Joined
+pub mod HexWords
+pub mod Numbers
+pub mod Operations
+pub mod Parts
+pub mod Steps
+pub mod Tests

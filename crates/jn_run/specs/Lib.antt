@@ -5,3 +5,4 @@ pub mod Outcome
 pub mod Story
 pub mod Ending
 pub mod Outside
+pub mod Reading
