@@ -1,2 +1,5 @@
 pub mod Form
 pub mod Pages
+pub mod StorePages
+pub mod Heads
+pub mod Disk

@@ -1,2 +1,4 @@
 //! The top call: reads a schedule, runs it and writes the report.
 #![tactic(auto)]
+
+mod disk;
