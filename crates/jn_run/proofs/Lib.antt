@@ -1,2 +1,4 @@
 pub mod Store
 pub mod Root
+pub mod Heads
+pub mod Carried

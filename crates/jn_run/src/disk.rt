@@ -13,12 +13,15 @@
 ghost use Rattle.std.specs.Prelude.{◌≡◌, ◌≢◌, ◌<◌, ◌≤◌, ◌+◌, ◌-◌, ◌*◌, ◌^◌, ◌++◌, ℕ, IfOk, slice_index, length, drop, take};
 ghost use Rattle.byteorder.specs.Endian.{big_number};
 ghost use Rattle.jn_store.specs.Choices.{with_page};
-ghost use Rattle.jn_run.specs.Pages.{IsFresh, epoch_in, head_place, data_place};
-ghost use Rattle.jn_run.specs.Heads.{counts, page_total, root_page, with_epoch, AddressesFit};
+ghost use Rattle.jn_serial.specs.Stored.{block_count, files_of};
+ghost use Rattle.jn_run.specs.Pages.{IsFresh, HoldsFiles, server_0, epoch_in, head_place, data_place};
+ghost use Rattle.jn_run.specs.Heads.{counts, page_total, root_page, with_epoch, AddressesFit, AreStored, HoldsFile};
 ghost use Rattle.jn_run.specs.StorePages.{page_count, pages_in};
 
+use crate::head::{data_page, head_page};
 use byteorder::{BigEndian, ByteOrder};
 use jn_base::{Page, PageWriter};
+use jn_serial::{Files, StoredBlock, StoredFile};
 use jn_store::{ArrayStore, StableStore};
 use std::alloc::{AllocError, Global};
 
@@ -41,6 +44,9 @@ pub struct Disk {
     pool: u16,
     heads: u16,
     leaves: u16,
+    // what the numbers' type says, for proofs that see the disk behind a reference
+    ghost addressed: { leaves < 2 ^ 16 },
+    ghost few: { page_total (counts pool heads leaves) < 2 ^ 18 },
     ghost whole: { page_count store ≡ page_total (counts pool heads leaves) },
     ghost fits: { AddressesFit (counts pool heads leaves) (pages_in store) },
 }
@@ -80,6 +86,63 @@ impl Disk {
         BigEndian::write_u32(&mut root[EPOCH_AT..16], epoch);
         self.put(0, &root);
         epoch
+    }
+
+    /// Makes these files of server 0 the disk's.
+    pub fn carry_out(&mut self, files: &Files)
+        requires fresh { IsFresh (counts_of self.old) (pages_of self.old) }
+        requires heads { length files.now.stored.items ≤ (counts_of self.old).heads }
+        requires leaves { block_count files.now.stored.items ≤ (counts_of self.old).leaves }
+        ensures holds { HoldsFiles (counts_of self.new) (pages_of self.new) (files_of files.now server_0) }
+        ensures root { pages_of self.new 0 ≡ pages_of self.old 0 }
+        ensures counts { counts_of self.new ≡ counts_of self.old }
+    {
+        let mut next = 0;
+        for (i, file) in files.stored.iter().enumerate() {
+            if file.server.0 == 0 {
+                self.put_file(i as u16, next, file);
+                next += file.blocks.len() as u16;
+            }
+        }
+    }
+
+    /// Puts a file's blocks in the data pages from index base on, and then its head as head i.
+    fn put_file(&mut self, i: u16, base: u16, file: &StoredFile)
+        requires head { i < (counts_of self.old).heads }
+        requires room { base + length file.now.blocks.items ≤ (counts_of self.old).leaves }
+        ensures held { HoldsFile (counts_of self.old) (pages_of self.new) (base + length file.now.blocks.items) i file.now }
+        ensures others { (j : ℕ) → j < data_place (counts_of self.old) base → j ≢ head_place (counts_of self.old) i → pages_of self.new j ≡ pages_of self.old j }
+        ensures counts { counts_of self.new ≡ counts_of self.old }
+    {
+        let blocks = file.blocks.as_slice();
+        self.put_blocks(base, blocks);
+        self.put(self.head_place(i), &head_page(file.file, base, blocks));
+    }
+
+    /// Puts blocks in the data pages from index base on.
+    fn put_blocks(&mut self, base: u16, blocks: &[StoredBlock])
+        requires { base + length blocks.now ≤ (counts_of self.old).leaves }
+        ensures stored { AreStored (counts_of self.old) (pages_of self.new) base (length blocks.now) blocks.now }
+        ensures below { (j : ℕ) → j < data_place (counts_of self.old) base → pages_of self.new j ≡ pages_of self.old j }
+        ensures counts { counts_of self.new ≡ counts_of self.old }
+    {
+        for (k, stored) in blocks.iter().enumerate() {
+            self.put(self.data_place(base + k as u16), &data_page(&stored.bytes));
+        }
+    }
+
+    /// The page of head i.
+    fn head_place(&self, i: u16) -> u32
+        ensures { result ≡ head_place (counts_of self.now) i }
+    {
+        1 + u32::from(self.pool) + u32::from(i)
+    }
+
+    /// The page of data page i.
+    fn data_place(&self, i: u16) -> u32
+        ensures { result ≡ data_place (counts_of self.now) i }
+    {
+        1 + u32::from(self.pool) + u32::from(self.heads) + u32::from(i)
     }
 
     #[tactic(auto, unfolding(crate::specs::StorePages::pages_in, crate::specs::StorePages::page_count))]

@@ -10,6 +10,8 @@ use Rattle.jn_run.proofs.disk.Disk.new.Goals as goal
 
 pub invariant_of-disk : goal.invariant_of-disk
 invariant_of-disk c = record {
+  addressed = omega arith;
+  few = omega arith;
   whole = blank_count c.in_ok-store.store 177 c.in_ok-store.ensures;
   fits = λ i p below few used. absurd (let free = blank_at c.in_ok-store.store 177 c.in_ok-store.ensures (head_place (counts 32 16 128) i) in cc (free, used));
 }

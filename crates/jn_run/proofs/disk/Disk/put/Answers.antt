@@ -10,6 +10,8 @@ invariant_of-self c =
     let disk = c.args.self.now in
     let within : c.args.i < page_count disk.store = omega (arith, disk.whole, c.requires.within) in
     record {
+      addressed = disk.addressed;
+      few = disk.few;
       whole = put_count disk.store c.put.new.self c.args.i c.args.page.now (is_ok c.put.result) c.put.ensures.put ∙ disk.whole;
       fits = subst (AddressesFit (counts disk.pool disk.heads disk.leaves)) (sym (put_pages disk.store c.put.new.self c.args.i c.args.page.now (is_ok c.put.result) c.put.ensures.put within)) c.requires.fits;
     }
