@@ -2,5 +2,8 @@
 #![tactic(auto)]
 
 mod line;
+mod word;
+mod write;
 
 pub use line::{EventRefusal, Line, Refusal, Text, When};
+pub use write::push_line;

@@ -1,3 +1,8 @@
+pub mod OneClient
+pub mod Chapters
+pub mod Story
+pub mod Ending
+pub mod Prints
 pub mod Store
 pub mod Root
 pub mod Heads

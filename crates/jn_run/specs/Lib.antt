@@ -1,5 +1,9 @@
+pub mod Codes
 pub mod Form
 pub mod Pages
+pub mod Outcome
+pub mod Story
+pub mod Ending
 pub mod StorePages
 pub mod Heads
 pub mod Disk

@@ -3,3 +3,6 @@
 
 mod disk;
 mod head;
+mod status;
+
+pub use status::Status;

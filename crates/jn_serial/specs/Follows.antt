@@ -169,11 +169,15 @@ pub record FollowsEvent (out : Outstanding) (number : ℕ) (e : Event) (lines : 
   pub fit : AllFit (after_event out number e lines) lines
   pub own : AllOwnInPlace number e lines
 
+-- what is outstanding after an event and its lines
+abbrev pub after_one : Outstanding → ℕ → Event → List Line → Outstanding
+after_one out number e lines = after_answers (after_event out number e lines) lines
+
 abbrev pub FollowsFrom : Outstanding → ℕ → List Event → List Line → Type 0
 FollowsFrom out number [] lines = Unit {0}
 FollowsFrom out number (e ∷ es) lines =
     FollowsEvent out number e (lines_at (AtEvent number) lines)
-    × FollowsFrom (after_answers (after_event out number e (lines_at (AtEvent number) lines)) (lines_at (AtEvent number) lines)) (number + 1) es lines
+    × FollowsFrom (after_one out number e (lines_at (AtEvent number) lines)) (number + 1) es lines
 
 abbrev pub is_answer : Text → Bool
 is_answer (says.Begun c j t) = true

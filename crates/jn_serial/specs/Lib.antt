@@ -4,3 +4,4 @@ pub mod Order
 pub mod Told
 pub mod Shown
 pub mod Follows
+pub mod Edits

@@ -2,5 +2,7 @@
 #![tactic(auto)]
 
 mod files;
+mod perform;
 
 pub use files::{Files, Performed, StoredBlock, StoredFile};
+pub use perform::do_op;

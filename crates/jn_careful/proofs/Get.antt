@@ -1,0 +1,118 @@
+-- The looks of a careful get.
+use Rattle.std.proofs.Common.{◌≡◌, ◌≢◌, ◌⊎◌, ⊎_elim, ℕ, ◌+◌, ◌≤◌, ◌<◌, true, false, List, Option, Some, None, Result, Ok, Err, ◌∙◌, ap, sym, arith}
+use Rattle.std.proofs.lemmas.Bool.Decides.{nat_tests}
+use Rattle.std.specs.Prelude.{IsErr}
+use Rattle.jn_base.specs.declared.device.Stopped.{Stopped}
+use Rattle.jn_device.specs.declared.Look.{Look}
+use Rattle.jn_device.specs.declared.Look.TheVariants.{Good, LooksBad}
+use Rattle.jn_device.specs.Device.{DeviceState, partner_of}
+use Rattle.jn_device.specs.Calls.{GetStep}
+use Rattle.jn_device.specs.Later.{Later, OthersStruck}
+use Rattle.jn_device.proofs.Later.{later_trans, struck_trans}
+use Rattle.jn_device.proofs.Steps.{get_later, get_struck, get_bytes}
+use Rattle.jn_careful.specs.Careful.{CarefulGot, IsServed, IsStopped}
+
+-- after n looks that failed
+pub record Looking (s : DeviceState) (p n : ℕ) (t : DeviceState) : Type 0 where
+  pub later : Later s t
+  pub calls : t.calls ≤ s.calls + n
+  pub puts : t.puts ≡ s.puts
+  pub struck : OthersStruck p s t
+  pub bytes : (q : ℕ) → (t.pages q).bytes ≡ (s.pages q).bytes
+  pub tried : ((t.pages p).good ≡ false) ⊎ (n ≤ (t.pages p).fails)
+  pub half : partner_of s p ≢ p → (s.pages p).good ≡ true → (s.pages (partner_of s p)).good ≡ false → ((t.pages p).good ≡ true) × ((t.pages (partner_of s p)).good ≡ false)
+  pub power : 0 < n → t.power ≡ true
+  pub stops : t.stops ≡ s.stops
+
+-- a good page whose partner is bad, in a look that fails
+lonely : (t : DeviceState) (p : ℕ) (answer : Result Look Stopped) (u : DeviceState) → GetStep t p answer u → answer ≡ Ok LooksBad → (t.pages p).good ≡ true → (t.pages (partner_of t p)).good ≡ false → (u.pages p).good ≡ true
+lonely t p answer u step e g b = grind (arith, nat_tests)
+
+lonely_partner : (t : DeviceState) (p : ℕ) (answer : Result Look Stopped) (u : DeviceState) → GetStep t p answer u → answer ≡ Ok LooksBad → (t.pages p).good ≡ true → (t.pages (partner_of t p)).good ≡ false → partner_of t p ≢ p → (u.pages (partner_of t p)).good ≡ false
+lonely_partner t p answer u step e g b apart = let now = step.others (partner_of t p) apart in grind (arith, nat_tests)
+
+pub gets_up : (t : DeviceState) (p : ℕ) (answer : Result Look Stopped) (u : DeviceState) → GetStep t p answer u → u.calls ≤ t.calls + 1
+gets_up t p answer u step = grind (arith, nat_tests)
+
+module _ (s : DeviceState) (p n : ℕ) (t : DeviceState) (l : Looking s p n t) (answer : Result Look Stopped) (u : DeviceState) (step : GetStep t p answer u) where
+  since : Later s u
+  since = later_trans s t u l.later (get_later t p answer u step)
+
+  more_struck : OthersStruck p s u
+  more_struck = struck_trans p s t u l.later (get_later t p answer u step) l.struck (get_struck t p answer u step)
+
+  same_bytes : (q : ℕ) → (u.pages q).bytes ≡ (s.pages q).bytes
+  same_bytes q = get_bytes t p answer u step q ∙ l.bytes q
+
+  same_partner : partner_of t p ≡ partner_of s p
+  same_partner = grind (arith, l.later.count)
+
+  still : answer ≡ Ok LooksBad → ((u.pages p).good ≡ false) ⊎ (n + 1 ≤ (u.pages p).fails)
+  still e = let was = l.tried in grind (arith, nat_tests)
+
+  ok_served : (look : Look) → answer ≡ Ok look → IsServed s u
+  ok_served look e = record { power = grind (arith, nat_tests); stops = let was = l.stops in grind (arith, nat_tests) }
+
+  rises : (w : Stopped) → answer ≡ Err w → IsStopped s u
+  rises w e = let up = l.later.stops in record { power = grind (arith, nat_tests); stops = grind (arith, nat_tests) }
+
+  pub look_again : answer ≡ Ok LooksBad → Looking s p (n + 1) u
+  look_again e = record {
+    later = since;
+    calls = omega (arith, gets_up t p answer u step, l.calls);
+    puts = step.puts ∙ l.puts;
+    struck = more_struck;
+    bytes = same_bytes;
+    tried = still e;
+    half = λ apart g b. let now = l.half apart g b in
+        let bad : (t.pages (partner_of t p)).good ≡ false = ap (λ q. (t.pages q).good) same_partner ∙ now.1 in
+        (lonely t p answer u step e now.0 bad, ap (λ q. (u.pages q).good) (sym same_partner) ∙ lonely_partner t p answer u step e now.0 bad (λ h. apart (sym same_partner ∙ h)));
+    power = λ _. (ok_served LooksBad e).power;
+    stops = (ok_served LooksBad e).stops;
+  }
+
+  pub look_good : (v : List ℕ) → n + 1 ≤ 4 → answer ≡ Ok (Good v) → CarefulGot s p (Ok (Some v)) u
+  look_good v few e = record {
+    later = since;
+    calls = omega (arith, gets_up t p answer u step, l.calls);
+    puts = step.puts ∙ l.puts;
+    struck = more_struck;
+    bytes = same_bytes;
+    good = λ w is. grind (arith, nat_tests);
+    bad = λ is. absurd (cc is);
+    half = λ is. absurd (cc is);
+    served = λ _ _. ok_served (Good v) e;
+    stopped = λ w is. absurd (cc is);
+    calm = λ q on w is. cc is;
+  }
+
+  pub look_err : (w : Stopped) → n + 1 ≤ 4 → answer ≡ Err w → (r : Result (Option (List ℕ)) Stopped) → IsErr r → CarefulGot s p r u
+  look_err w few e (Ok v) h = absurd (cc h)
+  look_err w few e (Err v) h = record {
+    later = since;
+    calls = omega (arith, gets_up t p answer u step, l.calls);
+    puts = step.puts ∙ l.puts;
+    struck = more_struck;
+    bytes = same_bytes;
+    good = λ v is. absurd (cc is);
+    bad = λ is. absurd (cc is);
+    half = λ is. absurd (cc is);
+    served = λ a is. absurd (cc is);
+    stopped = λ w' is. rises w e;
+    calm = λ q on w' is. let on' = since.power q on in let off = (rises w e).power in cc (on', off);
+  }
+
+pub look_end : (s : DeviceState) (p n : ℕ) (t : DeviceState) → Looking s p n t → n ≡ 4 → (t.pages p).fails ≤ 3 → CarefulGot s p (Ok None) t
+look_end s p n t l four few = record {
+  later = l.later;
+  calls = omega (arith, l.calls);
+  puts = l.puts;
+  struck = l.struck;
+  bytes = l.bytes;
+  good = λ w is. absurd (cc is);
+  bad = λ _. ⊎_elim (λ h. h) (λ h. absurd (omega (arith, h))) l.tried;
+  half = λ _ apart g b. let now = l.half apart g b in ⊎_elim (λ bad. cc (now.0, bad)) (λ h. omega (arith, h)) l.tried;
+  served = λ a is. record { power = l.power (omega arith); stops = l.stops };
+  stopped = λ w is. absurd (cc is);
+  calm = λ q on w is. cc is;
+}

@@ -1,0 +1,162 @@
+-- The turns of a careful put.
+use Rattle.std.proofs.Common.{◌≡◌, ◌≢◌, ◌⊎◌, inl, inr, ⊎_elim, ℕ, ◌+◌, ◌*◌, ◌≤◌, Bool, true, false, List, [], Result, Ok, Err, refl, ◌∙◌, subst, arith}
+use Rattle.std.proofs.lemmas.Bool.Decides.{nat_tests}
+use Rattle.std.specs.Prelude.{IsErr, is_err}
+use Rattle.jn_base.specs.declared.device.Stopped.{Stopped}
+use Rattle.jn_device.specs.declared.Look.{Look}
+use Rattle.jn_device.specs.declared.Look.TheVariants.{Good, LooksBad}
+use Rattle.jn_device.specs.Device.{DeviceState, Rose}
+use Rattle.jn_device.specs.Calls.{GetStep, PutStep}
+use Rattle.jn_device.specs.Later.{Later, OthersStruck}
+use Rattle.jn_device.proofs.Later.{later_trans, struck_trans, rose_since, rose_then}
+use Rattle.jn_device.proofs.Steps.{get_later, put_later, get_struck, put_struck, get_bytes, put_bytes, put_bytes_at}
+use Rattle.jn_careful.proofs.Get.{gets_up}
+use Rattle.jn_careful.specs.Careful.{CarefulPut, IsServed, IsStopped}
+
+-- after n puts whose page was not there
+pub record Putting (s : DeviceState) (p : ℕ) (new : List ℕ) (n : ℕ) (t : DeviceState) : Type 0 where
+  pub later : Later s t
+  pub calls : t.calls ≤ s.calls + 2 * n
+  pub struck : OthersStruck p s t
+  pub others : (q : ℕ) → q ≢ p → (t.pages q).bytes ≡ (s.pages q).bytes
+  pub bytes : ((t.pages p).bytes ≡ new) ⊎ ((t.pages p).bytes ≡ (s.pages p).bytes)
+  pub tried : n ≤ (t.pages p).fails
+  pub stops : t.stops ≡ s.stops
+
+-- a put that is answered Ok: the page is there, or it failed once more
+done_or_failed : (t : DeviceState) (p : ℕ) (new : List ℕ) (m : DeviceState) → PutStep t p new false m
+    → (((m.pages p).good ≡ true) × ((m.pages p).bytes ≡ new) × ((t.pages p).fails ≤ (m.pages p).fails)) ⊎ (((t.pages p).fails + 1 ≤ (m.pages p).fails) × (((m.pages p).bytes ≡ new) ⊎ ((m.pages p).missed ≡ true)))
+done_or_failed t p new m put = grind (arith, nat_tests)
+
+lost : (m : DeviceState) (p : ℕ) (u : DeviceState) → GetStep m p (Ok LooksBad) u → ((m.pages p).fails ≤ (u.pages p).fails) × ((m.pages p).good ≡ true → (m.pages p).fails + 1 ≤ (u.pages p).fails)
+lost m p u look = (grind (arith, nat_tests), λ g. grind (arith, nat_tests))
+
+seen : (m : DeviceState) (p : ℕ) (v : List ℕ) (u : DeviceState) → GetStep m p (Ok (Good v)) u → (v ≡ (m.pages p).bytes) × ((m.pages p).missed ≡ true → (m.pages p).fails ≤ (u.pages p).fails)
+seen m p v u look = (grind (arith, nat_tests), λ g. grind (arith, nat_tests))
+
+fails_bad : (t : DeviceState) (p : ℕ) (new : List ℕ) (m u : DeviceState) → PutStep t p new false m → GetStep m p (Ok LooksBad) u → (t.pages p).fails + 1 ≤ (u.pages p).fails
+fails_bad t p new m u put look = let f = lost m p u look in ⊎_elim (λ d. omega (arith, d.2, f.1 d.0)) (λ d. omega (arith, d.0, f.0)) (done_or_failed t p new m put)
+
+fails_other : (t : DeviceState) (p : ℕ) (new : List ℕ) (m : DeviceState) (v : List ℕ) (u : DeviceState) → PutStep t p new false m → GetStep m p (Ok (Good v)) u → (v ≡ new → ⊥) → (t.pages p).fails + 1 ≤ (u.pages p).fails
+fails_other t p new m v u put look other =
+    let f = seen m p v u look in
+    ⊎_elim (λ d. absurd (other (f.0 ∙ d.1))) (λ d. ⊎_elim (λ b. absurd (other (f.0 ∙ b))) (λ g. omega (arith, d.0, f.1 g)) d.1) (done_or_failed t p new m put)
+
+put_stopped : (t : DeviceState) (p : ℕ) (new : List ℕ) (m : DeviceState) → PutStep t p new true m → IsStopped t m
+put_stopped t p new m step = record { power = grind (arith, nat_tests); stops = grind (arith, nat_tests) }
+
+put_served : (t : DeviceState) (p : ℕ) (new : List ℕ) (m : DeviceState) → PutStep t p new false m → (m.stops ≡ t.stops) × Rose t.puts m.puts
+put_served t p new m step = (grind (arith, nat_tests), grind (arith, nat_tests))
+
+get_stopped : (t : DeviceState) (p : ℕ) (w : Stopped) (m : DeviceState) → GetStep t p (Err w) m → IsStopped t m
+get_stopped t p w m step = record { power = grind (arith, nat_tests); stops = grind (arith, nat_tests) }
+
+get_served : (t : DeviceState) (p : ℕ) (look : Look) (m : DeviceState) → GetStep t p (Ok look) m → IsServed t m
+get_served t p look m step = record { power = grind (arith, nat_tests); stops = grind (arith, nat_tests) }
+
+found_good : (t : DeviceState) (p : ℕ) (v : List ℕ) (u : DeviceState) → GetStep t p (Ok (Good v)) u → ((u.pages p).good ≡ true) × ((u.pages p).bytes ≡ v)
+found_good t p v u step = grind (arith, nat_tests)
+
+puts_up : (t : DeviceState) (p : ℕ) (new : List ℕ) (stopped : Bool) (m : DeviceState) → PutStep t p new stopped m → m.calls ≤ t.calls + 1
+puts_up t p new stopped m step = grind (arith, nat_tests)
+
+stopped_since : (s t m : DeviceState) → Later s t → Later t m → IsStopped t m → IsStopped s m
+stopped_since s t m st tm off = record { power = off.power; stops = rose_since s.stops t.stops m.stops st.stops tm.stops off.stops }
+
+ends : (s m : DeviceState) → Later s m → m.power ≡ false → s.waiting ≡ [] → s.power ≡ true → ⊥
+ends s m later off quiet on = let on' = later.power quiet on in cc (on', off)
+
+module _ (s : DeviceState) (p : ℕ) (new : List ℕ) (n : ℕ) (t : DeviceState) (l : Putting s p new n t) (few : n + 1 ≤ 4) where
+  at : (x : List ℕ) → (x ≡ new) ⊎ (x ≡ (t.pages p).bytes) → (x ≡ new) ⊎ (x ≡ (s.pages p).bytes)
+  at x h = ⊎_elim (λ e. inl e) (λ e. ⊎_elim (λ f. inl (e ∙ f)) (λ f. inr (e ∙ f)) l.bytes) h
+
+  pub put_err : (m : DeviceState) → PutStep t p new true m → (r : Result (Unit {0}) Stopped) → IsErr r → CarefulPut s p new (is_err r) m
+  put_err m step (Ok v) h = absurd (cc h)
+  put_err m step (Err v) h =
+      let later = put_later t p new true m step in
+      let off = put_stopped t p new m step in
+      record {
+        later = later_trans s t m l.later later;
+        calls = omega (arith, puts_up t p new true m step, l.calls);
+        struck = struck_trans p s t m l.later later l.struck (put_struck t p new true m step);
+        others = λ q ne. put_bytes t p new true m step q ne ∙ l.others q ne;
+        bytes = at (m.pages p).bytes (put_bytes_at t p new true m step);
+        done = λ is. absurd (cc is);
+        wrote = λ is. absurd (cc is);
+        served = λ is. absurd (cc is);
+        stop = λ _. stopped_since s t m l.later later off;
+        calm = λ q on. absurd (ends s m (later_trans s t m l.later later) off.power q on);
+      }
+
+  module _ (m : DeviceState) (put : PutStep t p new false m) (answer : Result Look Stopped) (u : DeviceState) (look : GetStep m p answer u) where
+    to_m : Later s m
+    to_m = later_trans s t m l.later (put_later t p new false m put)
+
+    turn : Later s u
+    turn = later_trans s m u to_m (get_later m p answer u look)
+
+    turn_calls : u.calls ≤ s.calls + (2 * n + 2)
+    turn_calls = omega (arith, puts_up t p new false m put, gets_up m p answer u look, l.calls)
+
+    turn_struck : OthersStruck p s u
+    turn_struck = struck_trans p s m u to_m (get_later m p answer u look) (struck_trans p s t m l.later (put_later t p new false m put) l.struck (put_struck t p new false m put)) (get_struck m p answer u look)
+
+    turn_others : (q : ℕ) → q ≢ p → (u.pages q).bytes ≡ (s.pages q).bytes
+    turn_others q ne = get_bytes m p answer u look q ∙ put_bytes t p new false m put q ne ∙ l.others q ne
+
+    turn_at : ((u.pages p).bytes ≡ new) ⊎ ((u.pages p).bytes ≡ (s.pages p).bytes)
+    turn_at = at (u.pages p).bytes (⊎_elim (λ e. inl (get_bytes m p answer u look p ∙ e)) (λ e. inr (get_bytes m p answer u look p ∙ e)) (put_bytes_at t p new false m put))
+
+    at_look : {a : Result Look Stopped} → answer ≡ a → GetStep m p a u
+    at_look e = subst (λ (a : Result Look Stopped). GetStep m p a u) e look
+
+    turn_served : (found : Look) → answer ≡ Ok found → IsServed s u
+    turn_served found e = let now = get_served m p found u (at_look e) in record { power = now.power; stops = now.stops ∙ (put_served t p new m put).0 ∙ l.stops }
+
+    pub put_again : (found : Look) → answer ≡ Ok found → (t.pages p).fails + 1 ≤ (u.pages p).fails → Putting s p new (n + 1) u
+    put_again found e more = record {
+      later = turn;
+      calls = omega (arith, turn_calls);
+      struck = turn_struck;
+      others = turn_others;
+      bytes = turn_at;
+      tried = omega (arith, more, l.tried);
+      stops = (turn_served found e).stops;
+    }
+
+    pub put_found : (v : List ℕ) → answer ≡ Ok (Good v) → v ≡ new → CarefulPut s p new false u
+    put_found v e is = record {
+      later = turn;
+      calls = omega (arith, turn_calls);
+      struck = turn_struck;
+      others = turn_others;
+      bytes = turn_at;
+      done = λ _. let f = found_good m p v u (at_look e) in (f.0, f.1 ∙ is);
+      wrote = λ _. rose_then s.puts m.puts u.puts (rose_since s.puts t.puts m.puts l.later.puts (put_later t p new false m put).puts (put_served t p new m put).1) (get_later m p answer u look).puts;
+      served = λ _. turn_served (Good v) e;
+      stop = λ is. absurd (cc is);
+      calm = λ _ _. refl;
+    }
+
+    pub put_looked_err : (w : Stopped) → answer ≡ Err w → (r : Result (Unit {0}) Stopped) → IsErr r → CarefulPut s p new (is_err r) u
+    put_looked_err w e (Ok v) h = absurd (cc h)
+    put_looked_err w e (Err v) h =
+        let off = get_stopped m p w u (at_look e) in
+        record {
+          later = turn;
+          calls = omega (arith, turn_calls);
+          struck = turn_struck;
+          others = turn_others;
+          bytes = turn_at;
+          done = λ is. absurd (cc is);
+          wrote = λ is. absurd (cc is);
+          served = λ is. absurd (cc is);
+          stop = λ _. stopped_since s m u to_m (get_later m p answer u look) off;
+          calm = λ q on. absurd (ends s u turn off.power q on);
+        }
+
+  pub put_bad : (m u : DeviceState) → PutStep t p new false m → GetStep m p (Ok LooksBad) u → Putting s p new (n + 1) u
+  put_bad m u put look = put_again m put _ u look LooksBad refl (fails_bad t p new m u put look)
+
+  pub put_other : (m u : DeviceState) (v : List ℕ) → PutStep t p new false m → GetStep m p (Ok (Good v)) u → (v ≡ new → ⊥) → Putting s p new (n + 1) u
+  put_other m u v put look other = put_again m put _ u look (Good v) refl (fails_other t p new m v u put look other)

@@ -1,0 +1,82 @@
+//! A disk of physical pages, as the layers above see it.
+//!
+//! Every call is the device step of `jn_device`: a get and a put meet at most one fault each, and
+//! nothing else happens to the pages. No call takes memory.
+#![tactic(auto)]
+
+ghost use Rattle.std.specs.Prelude.{◌≡◌, ◌≤◌, ◌<◌, ◌^◌, [], ℕ, is_err, true};
+ghost use Rattle.jn_device.specs.Device.{DeviceState};
+ghost use Rattle.jn_device.specs.Calls.{GetStep, PutStep};
+ghost use Rattle.jn_device.specs.Events.{PowersUp, powered_off, Decays, Revives, Arms, is_within, disarmed, cleared};
+
+use jn_base::{FaultKind, Outside, Page, Stopped};
+use jn_device::Look;
+
+/// Physical pages, numbered from 0. Page p and page p + count / 2 are partners.
+pub trait PhysDisk {
+    /// The pages, the power, the faults that wait and the counts.
+    ghost state: { Self → DeviceState };
+
+    /// How many physical pages there are.
+    fn count(&self) -> u32
+        ensures { result ≡ (state self.now).count };
+
+    /// A good page's bytes. Stopped is answered without power, and at a stop, which takes the power.
+    fn get(&mut self, p: u32) -> Result<Look, Stopped>
+        requires { p < (state self.old).count }
+        ensures step { GetStep (state self.old) p result (state self.new) };
+
+    /// Ok doesn't say that the page is there: a put may miss its page or spoil it, unnoticed.
+    fn put(&mut self, p: u32, page: &Page) -> Result<(), Stopped>
+        requires { p < (state self.old).count }
+        ensures step { PutStep (state self.old) p page.now (is_err result) (state self.new) };
+
+    /// A page fails at most three times between two reads.
+    ghost few_fails: { (d : Self) (q : ℕ) → ((state d).pages q).fails ≤ 3 };
+
+    /// A page's number fits a `u32`.
+    ghost count_fits: { (d : Self) → (state d).count < 2 ^ 32 };
+}
+
+/// A disk whose power and faults can be set.
+pub trait PhysPower: PhysDisk {
+    /// The power comes: each page has failed no more, and missed no put.
+    fn power_up(&mut self)
+        ensures up { PowersUp (Self.state self.old) (Self.state self.new) };
+
+    /// The power goes.
+    fn power_off(&mut self)
+        ensures off { Self.state self.new ≡ powered_off (Self.state self.old) };
+
+    /// A page goes bad. False exactly where that is not allowed, and then nothing is done. It is
+    /// not listed as outside.
+    fn decay(&mut self, p: u32) -> bool
+        requires { p < (Self.state self.old).count }
+        ensures decays { Decays (Self.state self.old) p result (Self.state self.new) };
+
+    /// A page is good again, with the bytes that it keeps.
+    fn revive(&mut self, p: u32)
+        requires { p < (Self.state self.old).count }
+        ensures revives { Revives (Self.state self.old) p (Self.state self.new) };
+
+    /// A fault strikes at the n-th call from now, counted under power. False exactly where sixteen
+    /// wait, or one for that call, and then nothing is done. Nothing may be left in `outside`, so
+    /// that its room suffices.
+    fn arm(&mut self, n: u32, kind: FaultKind) -> bool
+        requires from_one { 0 < n }
+        requires within { is_within (Self.state self.old).count kind ≡ true }
+        requires none_told { (Self.state self.old).told ≡ [] }
+        ensures arms { Arms (Self.state self.old) n kind result (Self.state self.new) };
+
+    /// No fault waits any more.
+    fn disarm(&mut self)
+        ensures disarmed { Self.state self.new ≡ disarmed (Self.state self.old) };
+
+    /// The faults that gets and puts told as outside the allowed ones, the oldest first.
+    fn outside(&self) -> &[Outside]
+        ensures { result.now ≡ (Self.state self.now).told };
+
+    /// Forgets the faults that were outside.
+    fn clear_outside(&mut self)
+        ensures cleared { Self.state self.new ≡ cleared (Self.state self.old) };
+}
