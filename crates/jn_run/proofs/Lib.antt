@@ -10,3 +10,7 @@ pub mod Operations
 pub mod Parts
 pub mod Steps
 pub mod Tests
+pub mod Store
+pub mod Root
+pub mod Heads
+pub mod Carried

@@ -6,3 +6,6 @@ pub mod Story
 pub mod Ending
 pub mod Outside
 pub mod Reading
+pub mod StorePages
+pub mod Heads
+pub mod Disk

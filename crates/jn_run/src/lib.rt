@@ -2,7 +2,12 @@
 #![tactic(auto)]
 
 <<<<<<< HEAD
+<<<<<<< HEAD
 mod outside;
+=======
+mod disk;
+mod head;
+>>>>>>> 361ca8ce46a801796352dfe0e866d669062468fa
 mod status;
 
 pub use status::Status;

@@ -1,0 +1,190 @@
+//! The disk of server 0.
+//!
+//! Page 0 is the root. Behind it stand the pool, whose pages are zeros as long as no transaction is
+//! under way; a head for each file; and the data pages, with a block in each. Numbers are written
+//! with their highest byte first, and zeros fill each page.
+//!
+//! | Page | Bytes |
+//! |---|---|
+//! | root | `JUN1`, the version (1 byte, 1), the server (1 byte), how many pool pages, heads and data pages there are (2 bytes each), the epoch (4 bytes) |
+//! | free head | zeros |
+//! | used head | 1 (1 byte), the file's number (4 bytes), for each of its blocks 0 to 119 the address (2 bytes): 0 for none, else 1 more than the index of its data page |
+//! | data page | the 448 bytes of a block |
+ghost use Rattle.std.specs.Prelude.{◌≡◌, ◌≢◌, ◌<◌, ◌≤◌, ◌+◌, ◌-◌, ◌*◌, ◌^◌, ◌++◌, ℕ, IfOk, slice_index, length, drop, take};
+ghost use Rattle.byteorder.specs.Endian.{big_number};
+ghost use Rattle.jn_store.specs.Choices.{with_page};
+ghost use Rattle.jn_serial.specs.Stored.{block_count, files_of};
+ghost use Rattle.jn_run.specs.Pages.{IsFresh, HoldsFiles, server_0, epoch_in, head_place, data_place};
+ghost use Rattle.jn_run.specs.Heads.{counts, page_total, root_page, with_epoch, AddressesFit, AreStored, HoldsFile};
+ghost use Rattle.jn_run.specs.StorePages.{page_count, pages_in};
+
+use crate::head::{data_page, head_page};
+use byteorder::{BigEndian, ByteOrder};
+use jn_base::{Page, PageWriter};
+use jn_serial::{Files, StoredBlock, StoredFile};
+use jn_store::{ArrayStore, StableStore};
+use std::alloc::{AllocError, Global};
+
+/// The version of the format.
+const VERSION: u8 = 1;
+
+/// How many pages of each kind a new disk has.
+const POOL: u16 = 32;
+
+const HEADS: u16 = 16;
+
+const LEAVES: u16 = 128;
+
+/// Where the epoch stands in the root.
+const EPOCH_AT: usize = 12;
+
+#[derive(Drop)]
+pub struct Disk {
+    store: ArrayStore,
+    pool: u16,
+    heads: u16,
+    leaves: u16,
+    // what the numbers' type says, for proofs that see the disk behind a reference
+    ghost addressed: { leaves < 2 ^ 16 },
+    ghost few: { page_total (counts pool heads leaves) < 2 ^ 18 },
+    ghost whole: { page_count store ≡ page_total (counts pool heads leaves) },
+    ghost fits: { AddressesFit (counts pool heads leaves) (pages_in store) },
+}
+
+impl Disk {
+    ghost use Rattle.jn_run.specs.Disk.{counts_of, pages_of};
+
+    /// A disk with no files, in epoch 0.
+    pub fn new(alloc: Global) -> Result<Self, AllocError>
+        ensures counts { IfOk result (λ d. counts_of d ≡ counts 32 16 128) }
+        ensures root { IfOk result (λ d. pages_of d 0 ≡ root_page (counts_of d) 0) }
+        ensures epoch { IfOk result (λ d. epoch_in (pages_of d 0) ≡ 0) }
+        ensures fresh { IfOk result (λ d. IsFresh (counts_of d) (pages_of d)) }
+    {
+        let store = ArrayStore::new(alloc, 177)?;
+        let mut disk = Disk {
+            store,
+            pool: POOL,
+            heads: HEADS,
+            leaves: LEAVES,
+        };
+        disk.put(0, &first_root());
+        Ok(disk)
+    }
+
+    /// Begins the next epoch, and says which it is.
+    pub fn raise_epoch(&mut self) -> u32
+        requires { epoch_in (pages_of self.old 0) < 2 ^ 32 - 1 }
+        ensures next { result ≡ epoch_in (pages_of self.old 0) + 1 }
+        ensures epoch { epoch_in (pages_of self.new 0) ≡ result }
+        ensures root { pages_of self.new 0 ≡ with_epoch (pages_of self.old 0) result }
+        ensures others { (i : ℕ) → i ≢ 0 → pages_of self.new i ≡ pages_of self.old i }
+        ensures counts { counts_of self.new ≡ counts_of self.old }
+    {
+        let mut root = self.page(0);
+        let epoch = BigEndian::read_u32(&root[EPOCH_AT..16]) + 1;
+        BigEndian::write_u32(&mut root[EPOCH_AT..16], epoch);
+        self.put(0, &root);
+        epoch
+    }
+
+    /// Makes these files of server 0 the disk's.
+    pub fn carry_out(&mut self, files: &Files)
+        requires fresh { IsFresh (counts_of self.old) (pages_of self.old) }
+        requires heads { length files.now.stored.items ≤ (counts_of self.old).heads }
+        requires leaves { block_count files.now.stored.items ≤ (counts_of self.old).leaves }
+        ensures holds { HoldsFiles (counts_of self.new) (pages_of self.new) (files_of files.now server_0) }
+        ensures root { pages_of self.new 0 ≡ pages_of self.old 0 }
+        ensures counts { counts_of self.new ≡ counts_of self.old }
+    {
+        let mut next = 0;
+        for (i, file) in files.stored.iter().enumerate() {
+            if file.server.0 == 0 {
+                self.put_file(i as u16, next, file);
+                next += file.blocks.len() as u16;
+            }
+        }
+    }
+
+    /// Puts a file's blocks in the data pages from index base on, and then its head as head i.
+    fn put_file(&mut self, i: u16, base: u16, file: &StoredFile)
+        requires head { i < (counts_of self.old).heads }
+        requires room { base + length file.now.blocks.items ≤ (counts_of self.old).leaves }
+        ensures held { HoldsFile (counts_of self.old) (pages_of self.new) (base + length file.now.blocks.items) i file.now }
+        ensures others { (j : ℕ) → j < data_place (counts_of self.old) base → j ≢ head_place (counts_of self.old) i → pages_of self.new j ≡ pages_of self.old j }
+        ensures counts { counts_of self.new ≡ counts_of self.old }
+    {
+        let blocks = file.blocks.as_slice();
+        self.put_blocks(base, blocks);
+        self.put(self.head_place(i), &head_page(file.file, base, blocks));
+    }
+
+    /// Puts blocks in the data pages from index base on.
+    fn put_blocks(&mut self, base: u16, blocks: &[StoredBlock])
+        requires { base + length blocks.now ≤ (counts_of self.old).leaves }
+        ensures stored { AreStored (counts_of self.old) (pages_of self.new) base (length blocks.now) blocks.now }
+        ensures below { (j : ℕ) → j < data_place (counts_of self.old) base → pages_of self.new j ≡ pages_of self.old j }
+        ensures counts { counts_of self.new ≡ counts_of self.old }
+    {
+        for (k, stored) in blocks.iter().enumerate() {
+            self.put(self.data_place(base + k as u16), &data_page(&stored.bytes));
+        }
+    }
+
+    /// The page of head i.
+    fn head_place(&self, i: u16) -> u32
+        ensures { result ≡ head_place (counts_of self.now) i }
+    {
+        1 + u32::from(self.pool) + u32::from(i)
+    }
+
+    /// The page of data page i.
+    fn data_place(&self, i: u16) -> u32
+        ensures { result ≡ data_place (counts_of self.now) i }
+    {
+        1 + u32::from(self.pool) + u32::from(self.heads) + u32::from(i)
+    }
+
+    #[tactic(auto, unfolding(crate::specs::StorePages::pages_in, crate::specs::StorePages::page_count))]
+    fn page(&mut self, i: u32) -> Page
+        requires { i < page_total (counts_of self.old) }
+        ensures found { result ≡ pages_of self.old i }
+        ensures pages { pages_of self.new ≡ pages_of self.old }
+        ensures counts { counts_of self.new ≡ counts_of self.old }
+    {
+        match self.store.get(i) {
+            Ok(page) => page,
+            Err(_) => unreachable!(),
+        }
+    }
+
+    #[tactic(auto, unfolding(crate::specs::StorePages::pages_in, crate::specs::StorePages::page_count))]
+    fn put(&mut self, i: u32, page: &Page)
+        requires within { i < page_total (counts_of self.old) }
+        requires fits { AddressesFit (counts_of self.old) (with_page (pages_of self.old) i page.now) }
+        ensures pages { pages_of self.new ≡ with_page (pages_of self.old) i page.now }
+        ensures counts { counts_of self.new ≡ counts_of self.old }
+    {
+        match self.store.put(i, page) {
+            Ok(()) => {}
+            Err(_) => unreachable!(),
+        }
+    }
+}
+
+/// The root of a new disk.
+#[tactic(auto, unfolding(crate::specs::Heads::root_page))]
+fn first_root() -> Page
+    ensures root { result ≡ root_page (counts 32 16 128) 0 }
+    ensures epoch { epoch_in result ≡ 0 }
+{
+    let mut root = PageWriter::new();
+    root.put_bytes(b"JUN1");
+    root.put_u8(VERSION);
+    root.put_u8(0);
+    root.put_u16(POOL);
+    root.put_u16(HEADS);
+    root.put_u16(LEAVES);
+    root.put_u32(0);
+    root.finish()
+}
