@@ -4,6 +4,7 @@ pub mod Story
 pub mod Ending
 pub mod Prints
 pub mod Joined
+pub mod Telling
 pub mod HexWords
 pub mod Numbers
 pub mod Operations

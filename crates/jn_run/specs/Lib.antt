@@ -5,6 +5,7 @@ pub mod Outcome
 pub mod Story
 pub mod Ending
 pub mod Outside
+pub mod Runs
 pub mod Reading
 pub mod StorePages
 pub mod Heads

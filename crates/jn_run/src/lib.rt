@@ -5,6 +5,7 @@ mod disk;
 mod form;
 mod head;
 mod outside;
+mod run;
 mod status;
 
 pub use status::Status;
