@@ -1,6 +1,6 @@
 pub mod HexWords
-pub mod Numbers
-pub mod Operations
-pub mod Parts
-pub mod Steps
-pub mod Tests
+pub mod NumberWords
+pub mod OperationLines
+pub mod OperationWords
+pub mod TextParts
+pub mod Told
