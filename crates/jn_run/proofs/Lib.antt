@@ -15,3 +15,8 @@ pub mod Store
 pub mod Root
 pub mod Heads
 pub mod Carried
+pub mod NumberWords
+pub mod OperationLines
+pub mod OperationWords
+pub mod TextParts
+pub mod Told

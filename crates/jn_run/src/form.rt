@@ -20,6 +20,9 @@ const CLOSING: &[u8] = b"c1 end\nsettle\n";
 /// How many operations a schedule of the form has at most.
 const MAX_OPS: usize = 16;
 
+/// How many blocks a file has.
+const BLOCKS: u32 = 120;
+
 /// The operations of a schedule of the form; `None` where the bytes aren't of it.
 ///
 /// Its lines, each with a line feed at its end, are `c1 begin 0`, `settle`, `c1 open 0`, `settle`,
@@ -83,7 +86,7 @@ fn write_of(words: &[u8]) -> Option<Op>
     let (block, bytes) = part(words, b' ')?;
     let file = number_of(file)?;
     let block = number_of(block)?;
-    if block >= 120 {
+    if block >= BLOCKS {
         return None;
     }
     Some(Op::Write(FileNo(file), BlockNo(block as u16), block_of(bytes)?))
@@ -162,18 +165,98 @@ fn part(text: &[u8], byte: u8) -> Option<(&[u8], &[u8])>
 #[cfg(test)]
 mod tests {
     use super::*;
+    use std::test::Fail;
 
-    fn is_read(rt: &HostRuntime, text: &[u8]) -> bool {
-        matches!(read_form(rt.alloc(), text), Ok(Some(_)))
+    /// Whether a schedule with these lines between its first four and its last two is read.
+    fn is_read(alloc: Global, lines: &[u8]) -> Result<bool, AllocError> {
+        let mut text = Vec::from_slice(alloc, b"c1 begin 0\nsettle\nc1 open 0\nsettle\n")?;
+        text.extend_from_slice(lines)?;
+        text.extend_from_slice(b"c1 end\nsettle\n")?;
+        Ok(read_form(alloc, &text)?.is_some())
     }
 
     #[test]
-    fn tries(rt: HostRuntime) {
-        assert!(rt;
-            is_read(
-                &rt,
-                b"c1 begin 0\nsettle\nc1 open 0\nsettle\nc1 create 0 7\nsettle\nc1 write 0 7 0 6869\nsettle\nc1 end\nsettle\n"
-            )
-        );
+    fn reads_a_create_and_a_write(rt: HostRuntime) -> Result<(), Fail> {
+        let text =
+            b"c1 begin 0\nsettle\nc1 open 0\nsettle\nc1 create 0 7\nsettle\nc1 write 0 7 5 6869\nsettle\nc1 end\nsettle\n";
+        let ops = read_form(rt.alloc(), text)?.ok_or("refused")?;
+        let mut stored = [0; 448];
+        stored[0] = b'h';
+        stored[1] = b'i';
+        assert_eq!(rt; ops.len(), 2);
+        assert!(rt; matches!(&ops[0], Op::Create(FileNo(7))));
+        assert!(rt; matches!(&ops[1], Op::Write(FileNo(7), BlockNo(5), block) if *block == stored));
+        Ok(())
+    }
+
+    #[test]
+    fn refuses_near_misses(rt: HostRuntime) -> Result<(), Fail> {
+        let cases: [(&str, bool); 22] = [
+            ("", true),
+            ("c1 create 0 0\nsettle\n", true),
+            ("c1 create 0 4294967295\nsettle\n", true),
+            ("c1 create 0 4294967296\nsettle\n", false),
+            ("c1 create 0 07\nsettle\n", false),
+            ("c1 create 0 +7\nsettle\n", false),
+            ("c1 create 0 \nsettle\n", false),
+            ("c1 create 0  7\nsettle\n", false),
+            ("c1 create 0 7 \nsettle\n", false),
+            ("c1 create 0 7\r\nsettle\n", false),
+            ("c1 create 1 7\nsettle\n", false),
+            ("c1 create 0 7\n", false),
+            ("settle\nc1 create 0 7\nsettle\n", false),
+            ("c1 remove 0 7\nsettle\n", false),
+            ("c1 write 0 7 119 -\nsettle\n", true),
+            ("c1 write 0 7 120 -\nsettle\n", false),
+            ("c1 write 0 7 00 -\nsettle\n", false),
+            ("c1 write 0 7 0 6a\nsettle\n", true),
+            ("c1 write 0 7 0 6A\nsettle\n", false),
+            ("c1 write 0 7 0 6a6\nsettle\n", false),
+            ("c1 write 0 7 0 \nsettle\n", false),
+            ("c1 write 0 7 0 6a \nsettle\n", false),
+        ];
+        for (lines, want) in cases {
+            assert_eq!(rt; is_read(rt.alloc(), lines.as_bytes())?, want, "{lines}");
+        }
+        let texts = [
+            "",
+            "c1 begin 0\nsettle\nc1 open 0\nsettle\nc1 end\nsettle",
+            "c1 begin 0\nsettle\nc1 open 0\nsettle\nc1 end\nsettle\n\n",
+            "c1 begin 0\nsettle\nc1 open 0\nsettle\nc1 end\nsettle\nc1 end\nsettle\n",
+            "c1 begin 0\nsettle\nc1 end\nsettle\n",
+        ];
+        for text in texts {
+            assert!(rt; read_form(rt.alloc(), text.as_bytes())?.is_none(), "{text}");
+        }
+        Ok(())
+    }
+
+    /// A text, and another `count` times behind it.
+    fn repeated(
+        alloc: Global,
+        before: &str,
+        part: &str,
+        count: usize,
+    ) -> Result<Vec<u8>, AllocError> {
+        let mut lines = Vec::from_slice(alloc, before.as_bytes())?;
+        for _ in 0..count {
+            lines.extend_from_slice(part.as_bytes())?;
+        }
+        Ok(lines)
+    }
+
+    #[test]
+    fn keeps_the_limits(rt: HostRuntime) -> Result<(), Fail> {
+        let alloc = rt.alloc();
+        for (count, want) in [(448, true), (449, false)] {
+            let mut line = repeated(alloc, "c1 write 0 7 0 ", "6a", count)?;
+            line.extend_from_slice(b"\nsettle\n")?;
+            assert_eq!(rt; is_read(alloc, &line)?, want, "{count} bytes");
+        }
+        for (count, want) in [(16, true), (17, false)] {
+            let lines = repeated(alloc, "", "c1 create 0 7\nsettle\n", count)?;
+            assert_eq!(rt; is_read(alloc, &lines)?, want, "{count} operations");
+        }
+        Ok(())
     }
 }

@@ -1,5 +1,5 @@
 use Rattle.jn_run.proofs.HexWords.{decoded, told}
-use Rattle.jn_run.proofs.Tests.{ok_not_err, on_ok}
+use Rattle.jn_run.proofs.Told.{ok_not_err, on_ok}
 use Rattle.jn_run.proofs.form.decode.Goals as goal
 
 pub returns-then-is_err : goal.returns-then-is_err

@@ -1,6 +1,6 @@
 use Rattle.std.proofs.Common.{◌≡◌, ◌∙◌, sym, ap, decimal}
-use Rattle.jn_run.proofs.Numbers.{number_utf8, number_parses}
-use Rattle.jn_run.proofs.Tests.{differ, ok_or_err}
+use Rattle.jn_run.proofs.NumberWords.{number_utf8, number_parses}
+use Rattle.jn_run.proofs.Told.{differ, ok_or_err}
 use Rattle.jn_run.proofs.form.number_of.Goals as goal
 
 pub returns-in_default : goal.returns-in_default

@@ -1,4 +1,4 @@
-use Rattle.jn_run.proofs.Steps.{behind_line, step_from, stepped}
+use Rattle.jn_run.proofs.OperationLines.{behind_line, step_from, stepped}
 use Rattle.jn_run.proofs.form.op_at.Goals as goal
 
 pub returns-in_err-line : goal.returns-in_err-line

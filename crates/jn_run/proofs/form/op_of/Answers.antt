@@ -1,6 +1,6 @@
 use Rattle.std.proofs.Common.{◌≡◌, ◌∙◌, ◌++◌, List, ℕ, ap}
 use Rattle.jn_run.specs.Form.{create_words, write_words}
-use Rattle.jn_run.proofs.Operations.{op_created, begins}
+use Rattle.jn_run.proofs.OperationWords.{op_created, begins}
 use Rattle.jn_run.proofs.form.op_of.Goals as goal
 
 pub returns-in_err-number_of : goal.returns-in_err-number_of

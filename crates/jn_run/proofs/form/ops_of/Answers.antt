@@ -1,7 +1,7 @@
 use Rattle.std.proofs.Common.{inl, inr, arith}
 use Rattle.jn_run.specs.Form.{end_words, settled}
-use Rattle.jn_run.proofs.Steps.{ends, ends_not, goes_on}
-use Rattle.jn_run.proofs.Tests.{differ, same_if_not}
+use Rattle.jn_run.proofs.OperationLines.{ends, ends_not, goes_on}
+use Rattle.jn_run.proofs.Told.{differ, same_if_not}
 use Rattle.jn_run.proofs.form.ops_of.Goals as goal
 use Rattle.jn_run.proofs.form.ops_of.Goals.{else-loop-rest-test, then-loop-rest-test+in_default}
 

@@ -1,6 +1,6 @@
 use Rattle.std.proofs.Common.{◌≤◌, ◌-◌, length}
 use Rattle.std.specs.Prelude.{vec_len}
-use Rattle.jn_run.proofs.Steps.{IsAt}
+use Rattle.jn_run.proofs.OperationLines.{IsAt}
 use Rattle.jn_run.proofs.form.ops_of.Given as goal
 
 abbrev pub invariant-loop-rest : goal.invariant-loop-rest

@@ -1,7 +1,7 @@
 use Rattle.std.proofs.Common.{◌≡◌, take, ap, sym, ◌∙◌}
 use Rattle.std.proofs.lemmas.List.{take_all}
 use Rattle.jn_run.specs.Reading.{lacks}
-use Rattle.jn_run.proofs.Parts.{lacks-next, lacks-not}
+use Rattle.jn_run.proofs.TextParts.{lacks-next, lacks-not}
 use Rattle.jn_run.proofs.form.part.Goals as goal
 
 pub loop-i-preserved : goal.loop-i-preserved

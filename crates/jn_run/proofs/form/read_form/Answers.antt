@@ -2,8 +2,8 @@ use Rattle.std.proofs.Common.{◌≡◌, ◌++◌}
 use Rattle.std.proofs.lemmas.Result.{IfOk-weaker}
 use Rattle.jn_run.specs.Form.{IsForm, begin_words, open_words, settled}
 use Rattle.jn_run.specs.Reading.{AreSteps}
-use Rattle.jn_run.proofs.Steps.{form_from, form_opens, form_steps, opening}
-use Rattle.jn_run.proofs.Tests.{reads_found, reads_only}
+use Rattle.jn_run.proofs.OperationLines.{form_from, form_opens, form_steps, opening}
+use Rattle.jn_run.proofs.Told.{reads_found, reads_only}
 use Rattle.jn_run.proofs.form.read_form.Goals as goal
 
 pub returns-in-Some-clause-found : goal.returns-in-Some-clause-found

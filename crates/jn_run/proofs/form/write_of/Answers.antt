@@ -1,5 +1,5 @@
 use Rattle.std.proofs.Common.{arith}
-use Rattle.jn_run.proofs.Operations.{op_written, behind_file, behind_block, block_number, block_below}
+use Rattle.jn_run.proofs.OperationWords.{op_written, behind_file, behind_block, block_number, block_below}
 use Rattle.jn_run.proofs.form.write_of.Goals as goal
 
 pub returns-in_err-file : goal.returns-in_err-file
@@ -21,10 +21,10 @@ returns-in_err-block-2 c = rw c.from_residual-in_err-block-2.ensures (λ op spel
     let w = op_written op c.args.words.now spells in
     c.in_err-block-2.ensures w.block (block_number _ _ w (behind_block _ _ _ _ _ w c.in_ok-file.ensures c.in_ok-block.ensures).0))
 
-pub returns-then-block-ge120 : goal.returns-then-block-ge120
-returns-then-block-ge120 c op spells =
+pub returns-then-block-ge-BLOCKS : goal.returns-then-block-ge-BLOCKS
+returns-then-block-ge-BLOCKS c op spells =
     let w = op_written op c.args.words.now spells in
-    let past = c.if-block-ge120.true in
+    let past = c.if-block-ge-BLOCKS.true in
     let below = block_below _ _ _ w (behind_block _ _ _ _ _ w c.in_ok-file.ensures c.in_ok-block.ensures).0 c.in_ok-block-2.ensures in
     omega (arith, below, past)
 

@@ -6,15 +6,18 @@ use Rattle.std.specs.Prelude.{Option, Some, None, IfSome, IfNone}
 use Rattle.std.specs.Cmp.Lexicographic.{pointwise}
 use Rattle.jn_run.specs.Reading.{Reads}
 
+-- a result is one of the two
 pub ok_or_err : {T E : Type 0} (r : Result T E) (x : T) (e : E) → r ≡ Ok x → r ≡ Err e → ⊥
 ok_or_err r x e ok err = cc
 
+-- what `!=` has told of two slices
 pub differ : (xs ys : List ℕ) → true ≡ not (pointwise eqb xs ys) → xs ≡ ys → ⊥
 differ xs ys test same = let equal = (bytes_eq-Decides xs ys).1 same in cc (test ∙ ap not equal)
 
 pub ok_not_err : {T E : Type 0} (r : Result T E) (x : T) → r ≡ Ok x → true ≡ is_err r → ⊥
 ok_not_err r x ok err = cc (err ∙ ap is_err ok)
 
+-- what holds of an `Ok`
 pub on_ok : {T E P : Type 0} (r : Result T E) → true ≡ is_ok r → OnOk r P → P
 on_ok (Ok x) ok h = h
 on_ok (Err e) ok h = absurd (false≢true (sym ok))

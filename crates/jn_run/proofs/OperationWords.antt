@@ -8,8 +8,8 @@ use Rattle.jn_base.specs.declared.op.Op.TheVariants.{Create, Remove, Cut, Read, 
 use Rattle.jn_text.specs.Words.{hex_word}
 use Rattle.jn_run.specs.Form.{SpellsOp, SpellsWrite, create_words, write_words}
 use Rattle.jn_run.specs.Reading.{IsNumber, IsParted, SpellsBlock}
-use Rattle.jn_run.proofs.Numbers.{decimal-lacks}
-use Rattle.jn_run.proofs.Parts.{parted_once}
+use Rattle.jn_run.proofs.NumberWords.{decimal-lacks}
+use Rattle.jn_run.proofs.TextParts.{parted_once}
 
 -- the words behind `c1 write 0 `
 pub record IsWritten (words : List ℕ) : Type 0 where

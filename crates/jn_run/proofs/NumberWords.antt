@@ -7,11 +7,13 @@ use Rattle.std.specs.Prelude.{decimal}
 use Rattle.std.specs.Str.{IsUtf8}
 use Rattle.std.specs.Str.Parse.{ParsesUnsigned}
 use Rattle.jn_run.specs.Reading.{IsNumber, lacks}
-use Rattle.jn_run.proofs.Parts.{lacks-append}
+use Rattle.jn_run.proofs.TextParts.{lacks-append}
 
+-- a number's word is text
 pub number_utf8 : (word : List ℕ) (n : ℕ) → IsNumber word n → IsUtf8 word
 number_utf8 word n number = rw number.1 (IsUtf8-from_ascii (decimal n) (IsAscii-decimal n (omega arith)))
 
+-- and parses to the number
 pub number_parses : {E : Type 0} (word digits : List ℕ) (n : ℕ) (r : Result ℕ E) → digits ≡ word → IsNumber word n → ParsesUnsigned 32 10 digits r → r ≡ Ok n
 number_parses word digits n r same number parses = parse-decimal 32 n digits r number.0 (omega arith) (same ∙ number.1) parses
 

@@ -1,6 +1,7 @@
 -- An operation's two lines at the front of a text.
-use Rattle.std.proofs.Common.{◌≡◌, ℕ, ◌+◌, ◌≤◌, true, List, [], ◌∷◌, ◌++◌, length, get_or, ◌⊎◌, inl, inr, refl, ap, sym, ◌∙◌, arith, append_assoc, zero-add}
+use Rattle.std.proofs.Common.{◌≡◌, ℕ, ◌+◌, ◌<◌, ◌≤◌, true, List, [], ◌∷◌, ◌++◌, length, get_or, ◌⊎◌, inl, inr, refl, ap, sym, ◌∙◌, arith, append_assoc, zero-add}
 use Rattle.std.proofs.lemmas.List.{append-nil, append_cancel_left, length-append}
+use Rattle.std.specs.List.{AllByRecursion}
 use Rattle.std.specs.Prelude.{codes, decimal}
 use Rattle.jn_base.specs.declared.op.Op.{Op}
 use Rattle.jn_base.specs.declared.op.Op.TheVariants.{Create, Remove, Cut, Read, Write}
@@ -8,8 +9,8 @@ use Rattle.jn_text.specs.Words.{hex_word}
 use Rattle.jn_run.specs.Form.{IsForm, SpellsOp, SpellsOps, begin_words, create_words, end_words, open_words, settled, write_words}
 use Rattle.jn_run.specs.Reading.{AreSteps, IsParted, IsStep, lacks}
 use Rattle.jn_run.proofs.HexWords.{hex_word-lacks}
-use Rattle.jn_run.proofs.Numbers.{decimal-lacks}
-use Rattle.jn_run.proofs.Parts.{lacks-append, parted_once}
+use Rattle.jn_run.proofs.NumberWords.{decimal-lacks}
+use Rattle.jn_run.proofs.TextParts.{lacks-append, parted_once}
 
 -- no line feed is in an operation's line
 op-lacks : (op : Op) (words : List ℕ) → SpellsOp op words → lacks 10 words ≡ true
@@ -31,15 +32,18 @@ op-lacks (Read f p) words spells = absurd spells
 abbrev pub settle_line : List ℕ
 settle_line = codes "settle" ++ 10 ∷ []
 
+-- the line feed behind an operation's line is the first
 pub stepped : (text : List ℕ) (step : Op × List ℕ) (s : IsStep text step) → IsParted 10 text (s.0, settle_line ++ step.1)
 unfolding settled
 stepped text step s = (op-lacks step.0 s.0 s.1, s.2 ∙ append_assoc s.0 settled step.1)
 
+-- and a line that was read so is one
 pub step_from : (text line behind rest : List ℕ) (op : Op) → IsParted 10 text (line, behind) → behind ≡ settle_line ++ rest → SpellsOp op line → IsStep text (op, rest)
 unfolding settled
 step_from text line behind rest op parted same spells =
     (line, spells, parted.1 ∙ ap (λ (b : List ℕ). line ++ 10 ∷ b) same ∙ sym (append_assoc line settled rest))
 
+-- there is one such line
 pub behind_line : (text line behind : List ℕ) (step : Op × List ℕ) (s : IsStep text step) → IsParted 10 text (line, behind) → (line ≡ s.0) × (behind ≡ settle_line ++ step.1)
 behind_line text line behind step s parted = parted_once 10 text (line, behind) (s.0, settle_line ++ step.1) parted (stepped text step s)
 
@@ -81,6 +85,7 @@ step_not_end text left op step end = go op step.1 (sym step.2 ∙ end)
     go (Cut f p) spells e = spells
     go (Read f p) spells e = spells
 
+-- one operation more
 pub goes_on : (text rest left : List ℕ) (read : List Op) (op : Op) → IsAt text rest read → IsStep rest (op, left) → IsAt text left (read ++ op ∷ [])
 goes_on text rest left read op at step = record {
   found = λ more spells. rw append_assoc (at.found (op ∷ more) (step.0, left, step.1, spells, step.2));
@@ -106,6 +111,7 @@ ends_not text rest read at stuck unended all are = let more = at.only all are in
     go (other ∷ more) spells few (inl none) = none (other, spells.1) (spells.0, spells.2, spells.4)
     go (other ∷ more) spells few (inr full) = omega arith
 
+-- the first four lines
 abbrev pub opening : List ℕ
 opening = begin_words ++ settled ++ open_words ++ settled
 
@@ -119,3 +125,24 @@ pub form_steps : (text rest : List ℕ) (ops : List Op) → text ≡ opening ++ 
 form_steps text rest ops opens form =
     let same = append_cancel_left opening rest form.rest (sym opens ∙ form.opens) in
     (form.few, rw same form.spelled)
+
+-- what is asked for at a block is asked for at one that is there
+abbrev pub IsWithin : Op → Type 0
+IsWithin (Create f) = Unit {0}
+IsWithin (Write f p stored) = p.0 < 120
+IsWithin _ = ⊥
+
+-- the operations of a schedule are creates, and writes within a file
+pub form_within : (text : List ℕ) (ops : List Op) → IsForm text ops → AllByRecursion IsWithin ops
+form_within text ops form = go ops form.rest form.spelled
+  where
+    one : (op : Op) (words : List ℕ) → SpellsOp op words → IsWithin op
+    one (Create f) words spells = tt
+    one (Write f p stored) words spells = let fits = spells.block_fits in omega arith
+    one (Remove f) words spells = spells
+    one (Cut f p) words spells = spells
+    one (Read f p) words spells = spells
+
+    go : (ops : List Op) (rest : List ℕ) → SpellsOps ops rest → AllByRecursion IsWithin ops
+    go [] rest spells = tt
+    go (op ∷ ops) rest spells = (one op spells.0 spells.2, go ops spells.1 spells.3)
