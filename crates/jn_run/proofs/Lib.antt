@@ -7,3 +7,4 @@ pub mod Store
 pub mod Root
 pub mod Heads
 pub mod Carried
+pub mod Printed

@@ -7,3 +7,4 @@ pub mod Ending
 pub mod StorePages
 pub mod Heads
 pub mod Disk
+pub mod Printed
