@@ -38,13 +38,13 @@ given : (es : List Event) (ls : List Line) (out : Outstanding) (command : Comman
     → Talk (es ++ events.Command client_1 command ∷ []) ls (with_asked out client_1 (Some (record { number = next_number es; command = command })))
 given es ls out command t =
     subst (λ (m : List Line). Talk (es ++ events.Command client_1 command ∷ []) m (with_asked out client_1 (Some (record { number = next_number es; command = command })))) (nothing_more ls)
-      (talk-more es ls out (events.Command client_1 command) [] t (record {
-        within = tt;
-        below = tt;
-        no_show = refl;
-        follows = record { fit = tt; own = tt };
-        of_events = tt;
-      }))
+    (talk-more es ls out (events.Command client_1 command) [] t (record {
+      within = tt;
+      below = tt;
+      no_show = refl;
+      follows = record { fit = tt; own = tt };
+      of_events = tt;
+    }))
 
 -- a text that is the last answer to a command of client 1
 pub record IsAnswerTo (number : ℕ) (command : Command) (text : Text) : Type 0 where
@@ -75,13 +75,13 @@ told : (es : List Event) (ls : List Line) (out : Outstanding) (number : ℕ) (co
     → Talk (es ++ events.Settle ∷ []) (ls ++ line_at (next_number es) text ∷ []) (with_asked out client_1 None)
 told es ls out number command text t waits before a =
     subst (λ (o : Outstanding). Talk (es ++ events.Settle ∷ []) (ls ++ line_at (next_number es) text ∷ []) o) (after-answer out number command text a)
-      (talk-more es ls out events.Settle (line_at (next_number es) text ∷ []) t (record {
-        within = ((omega arith, omega arith), tt);
-        below = (a.within (suc (length es)) (omega arith), tt);
-        no_show = refl;
-        follows = record { fit = (fits-answer out number command text waits a, tt); own = (a.own (next_number es) events.Settle, tt) };
-        of_events = (λ is. (omega arith, omega arith), tt);
-      }))
+    (talk-more es ls out events.Settle (line_at (next_number es) text ∷ []) t (record {
+      within = ((omega arith, omega arith), tt);
+      below = (a.within (suc (length es)) (omega arith), tt);
+      no_show = refl;
+      follows = record { fit = (fits-answer out number command text waits a, tt); own = (a.own (next_number es) events.Settle, tt) };
+      of_events = (λ is. (omega arith, omega arith), tt);
+    }))
 
 -- a command and its answer
 pub talk-chapter : (es : List Event) (ls : List Line) (out : Outstanding) (command : Command) (text : Text) → Talk es ls out → IsAnswerTo (next_number es) command text
@@ -90,12 +90,12 @@ talk-chapter es ls out command text t a =
     let longer = length-more es (events.Command client_1 command) in
     let place : next_number (es ++ events.Command client_1 command ∷ []) ≡ next_number es + 1 = omega (arith, longer) in
     subst (λ (n : ℕ). Talk ((es ++ events.Command client_1 command ∷ []) ++ events.Settle ∷ []) (ls ++ line_at n text ∷ []) (with_asked (with_asked out client_1 (Some (record { number = next_number es; command = command }))) client_1 None)) place
-      (told (es ++ events.Command client_1 command ∷ []) ls (with_asked out client_1 (Some (record { number = next_number es; command = command }))) (next_number es) command text (given es ls out command t) refl (omega (arith, longer)) a)
+    (told (es ++ events.Command client_1 command ∷ []) ls (with_asked out client_1 (Some (record { number = next_number es; command = command }))) (next_number es) command text (given es ls out command t) refl (omega (arith, longer)) a)
 
 -- the end of a transaction: it is named, and its client is told
 pub talk-committed : (es : List Event) (ls : List Line) (out : Outstanding) (t : Tid) → Talk es ls out
     → Talk ((es ++ events.Command client_1 commands.End ∷ []) ++ events.Settle ∷ []) (ls ++ line_at (next_number es + 1) (says.Commit t) ∷ line_at (next_number es + 1) (says.Committed client_1 (next_number es) t) ∷ [])
-      (with_asked (with_asked out client_1 (Some (record { number = next_number es; command = commands.End }))) client_1 None)
+    (with_asked (with_asked out client_1 (Some (record { number = next_number es; command = commands.End }))) client_1 None)
 talk-committed es ls out t talk =
     let n = next_number es in
     let e : Event = events.Command client_1 commands.End in
@@ -103,10 +103,10 @@ talk-committed es ls out t talk =
     let longer = length-more es e in
     let place : next_number (es ++ e ∷ []) ≡ n + 1 = omega (arith, longer) in
     subst (λ (m : ℕ). Talk ((es ++ e ∷ []) ++ events.Settle ∷ []) (ls ++ line_at m (says.Commit t) ∷ line_at m (says.Committed client_1 n t) ∷ []) (with_asked asked client_1 None)) place
-      (talk-more (es ++ e ∷ []) ls asked events.Settle (line_at (next_number (es ++ e ∷ [])) (says.Commit t) ∷ line_at (next_number (es ++ e ∷ [])) (says.Committed client_1 n t) ∷ []) (given es ls out commands.End talk) (record {
-        within = ((omega arith, omega arith), ((omega arith, omega arith), tt));
-        below = (tt, (tt, tt));
-        no_show = refl;
-        follows = record { fit = (refl, (fits-answer asked n commands.End (says.Committed client_1 n t) refl (record { addressed = refl; form = refl; last = refl; own = λ m d. refl; within = λ m h. tt }), tt)); own = (refl, (refl, tt)) };
-        of_events = (λ is. (omega arith, omega arith), (λ is. (omega arith, omega arith), tt));
-      }))
+    (talk-more (es ++ e ∷ []) ls asked events.Settle (line_at (next_number (es ++ e ∷ [])) (says.Commit t) ∷ line_at (next_number (es ++ e ∷ [])) (says.Committed client_1 n t) ∷ []) (given es ls out commands.End talk) (record {
+      within = ((omega arith, omega arith), ((omega arith, omega arith), tt));
+      below = (tt, (tt, tt));
+      no_show = refl;
+      follows = record { fit = (refl, (fits-answer asked n commands.End (says.Committed client_1 n t) refl (record { addressed = refl; form = refl; last = refl; own = λ m d. refl; within = λ m h. tt }), tt)); own = (refl, (refl, tt)) };
+      of_events = (λ is. (omega arith, omega arith), (λ is. (omega arith, omega arith), tt));
+    }))

@@ -45,6 +45,7 @@ no-show (d ∷ es) (suc zero) s h e = never d h.0 e
       where
         some_same : (d : Event) → Some d ≡ Some (Rattle.jn_schedule.specs.declared.Event.TheVariants.Show s) → d ≡ Rattle.jn_schedule.specs.declared.Event.TheVariants.Show s
         some_same d e = cc
+
         clash : true ≡ false → ⊥
         clash e = cc
 no-show (d ∷ es) (suc (suc i)) s h e = no-show es (suc i) s h.1 e
@@ -194,7 +195,7 @@ ends-run es ls ends files e of_end shows =
     let did : (t : Tid) → ops_of es (ls ++ ends) t ≡ ops_of es ls t = λ t. ops_of-append es t ls ends ∙ ap (λ (ps : List Performed). ops_of es ls t ++ ps) (q.ops es t (owner_then t None ls)) ∙ nothing_more (ops_of es ls t) in
     let each = DidTheSame-each es ls es (ls ++ ends) (history_of ls) (λ t k. did t) in
     let gives : replay no_files es (ls ++ ends) (history_of (ls ++ ends)) ≡ files =
-        ap (λ (ts : List Tid). replay no_files es (ls ++ ends) ts) history ∙ replay-same no_files es ls es (ls ++ ends) (history_of ls) each ∙ e.gives in
+    ap (λ (ts : List Tid). replay no_files es (ls ++ ends) ts) history ∙ replay-same no_files es ls es (ls ++ ends) (history_of ls) each ∙ e.gives in
     let all : lines_at End (ls ++ ends) ≡ ends = lines_at-append End ls ends ∙ ap (λ (m : List Line). m ++ lines_at End ends) (no-end (next_number es) ls s.talk.within) ∙ q.all in
     let events : (i : ℕ) → lines_at (AtEvent i) (ls ++ ends) ≡ lines_at (AtEvent i) ls = λ i. lines_at-append (AtEvent i) ls ends ∙ ap (λ (m : List Line). lines_at (AtEvent i) ls ++ m) (q.events i) ∙ nothing_more (lines_at (AtEvent i) ls) in
     record {

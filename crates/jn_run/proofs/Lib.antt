@@ -20,3 +20,4 @@ pub mod OperationLines
 pub mod OperationWords
 pub mod TextParts
 pub mod Told
+pub mod Printed

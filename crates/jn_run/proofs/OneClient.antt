@@ -86,7 +86,7 @@ talk-more es ls out e ms t n =
       no_shows = NoShows-more es e t.no_shows n.no_show;
       answers = follows-more nothing_asked 1 es e (ls ++ ms) (follows-earlier nothing_asked 1 es ls ms (next_number es + 1) n.within t.answers)
           (subst (λ (o : Outstanding). FollowsEvent o (next_number es) e (lines_at (AtEvent (next_number es)) (ls ++ ms))) (sym kept)
-            (subst (λ (m : List Line). FollowsEvent out (next_number es) e m) (sym newest) n.follows));
+          (subst (λ (m : List Line). FollowsEvent out (next_number es) e m) (sym newest) n.follows));
       of_events = subst (λ k. AllOfEvents k (ls ++ ms)) longer (AllOfEvents-append (suc (length es)) ls ms (AllOfEvents-wider (length es) (suc (length es)) ls (omega arith) t.of_events) n.of_events);
       waits = outstanding-more nothing_asked 1 es e (ls ++ ms)
           ∙ ap (λ (o : Outstanding). after_one o (next_number es) e (lines_at (AtEvent (next_number es)) (ls ++ ms))) kept
@@ -125,6 +125,7 @@ DidTheSame-each es ls fs ms (t ∷ ts) h = (h t (first t (has_tid ts t)), DidThe
   where
     first : (t : Tid) (b : Bool) → (tid_eq t t || b) ≡ true
     first t b = grind (arith, tid_tells t t)
+
     later : (a b : Bool) → b ≡ true → (a || b) ≡ true
     later true b h = refl
     later false b h = h
@@ -251,7 +252,7 @@ clash false p q = cc
 other_tid : (ts : List Tid) (t u : Tid) → has_tid ts u ≡ true → has_tid ts t ≡ false → tid_eq u t ≡ false
 other_tid ts t u k new =
     elim (tid_tells u t) [
-      inl h ↦ absurd (clash (has_tid ts t) (subst (λ (v : Tid). has_tid ts v ≡ true) h.1 k) new)
+      | inl h ↦ absurd (clash (has_tid ts t) (subst (λ (v : Tid). has_tid ts v ≡ true) h.1 k) new)
       | inr h ↦ h.0
     ]
 
@@ -288,12 +289,15 @@ ordered-begun es ls e i j t below o unused =
         none : (w : Option ClientNo) → ops_from (es ++ e ∷ []) u w ((record { when = AtEvent i; text = says.Begun client_1 j t }) ∷ []) ≡ []
         none None = refl
         none (Some c) = refl
+
     self : (t : Tid) → tid_eq t t ≡ true
     self t = grind (arith, tid_tells t t)
+
     owned : (u : Tid) (b : Bool) (w : Option ClientNo) → (w ≡ None) ⊎ (w ≡ Some client_1) → (cond b (Some client_1) (cond (is_client w client_1) None w) ≡ None) ⊎ (cond b (Some client_1) (cond (is_client w client_1) None w) ≡ Some client_1)
     owned u true w h = inr refl
     owned u false w (inl h) = rw h (inl refl)
     owned u false w (inr h) = rw h (inl refl)
+
     passed : (u : Tid) → tid_eq u t ≡ false → (w : Option ClientNo) → (w ≡ None) ⊎ (w ≡ Some client_1) → cond (tid_eq u t) (Some client_1) (cond (is_client w client_1) None w) ≡ None
     passed u h w (inl k) = rw (h, k) refl
     passed u h w (inr k) = rw (h, k) refl
@@ -311,9 +315,9 @@ ordered-committed es ls e i j t ps below o =
     record {
       agrees = subst (λ (ts : List Tid). AgreesFrom no_files (es ++ e ∷ []) (ls ++ ms) ts) (sym history)
           (AgreesFrom-more no_files (es ++ e ∷ []) (ls ++ ms) (history_of ls) t
-            (AgreesFrom-same no_files es ls (es ++ e ∷ []) (ls ++ ms) (history_of ls) each o.agrees)
-            (subst (λ (fs : AllFiles). GivesAnswers fs (ops_of (es ++ e ∷ []) (ls ++ ms) t)) (sym (replay-same no_files es ls (es ++ e ∷ []) (ls ++ ms) (history_of ls) each))
-              (subst (λ (qs : List Performed). GivesAnswers (replay no_files es ls (history_of ls)) qs) (sym (did t ∙ o.stands.did)) o.stands.gives)));
+          (AgreesFrom-same no_files es ls (es ++ e ∷ []) (ls ++ ms) (history_of ls) each o.agrees)
+          (subst (λ (fs : AllFiles). GivesAnswers fs (ops_of (es ++ e ∷ []) (ls ++ ms) t)) (sym (replay-same no_files es ls (es ++ e ∷ []) (ls ++ ms) (history_of ls) each))
+          (subst (λ (qs : List Performed). GivesAnswers (replay no_files es ls (history_of ls)) qs) (sym (did t ∙ o.stands.did)) o.stands.gives)));
       told = record {
         before = NamesBefore-append [] ls ms o.told.before (tt, (is_named (history_of ls) t, tt));
         once = subst (λ (ts : List Tid). NamesOnce ts) (sym history) (NamesOnce-more (history_of ls) t o.told.once o.stands.new);
@@ -326,18 +330,21 @@ ordered-committed es ls e i j t ps below o =
     none : (u : Tid) (w : Option ClientNo) → ops_from (es ++ e ∷ []) u w ((record { when = AtEvent i; text = says.Commit t }) ∷ (record { when = AtEvent i; text = says.Committed client_1 j t }) ∷ []) ≡ []
     none u None = refl
     none u (Some c) = refl
+
     is_named : (ts : List Tid) (t : Tid) → has_tid (ts ++ t ∷ []) t ≡ true
     is_named ts t = has_tid-append ts (t ∷ []) t ∙ last (has_tid ts t) (tid_eq t t) (grind (arith, tid_tells t t))
       where
         last : (a b : Bool) → b ≡ true → (a || (b || false)) ≡ true
         last true b h = refl
         last false b h = rw h refl
+
     both : (ts : List Tid) (t : Tid) (ls : List Line) → NamesNone ts ls → NamesNone (t ∷ []) ls → NamesNone (ts ++ t ∷ []) ls
     both ts t [] a b = tt
     both ts t (l ∷ ls) a b = (each l.text a.0 b.0, both ts t ls a.1 b.1)
       where
         neither : (u : Tid) → has_tid ts u ≡ false → has_tid (t ∷ []) u ≡ false → has_tid (ts ++ t ∷ []) u ≡ false
         neither u h k = has_tid-append ts (t ∷ []) u ∙ rw (h, k) refl
+
         each : (text : Text) → IsNotNamedWhere ts text → IsNotNamedWhere (t ∷ []) text → IsNotNamedWhere (ts ++ t ∷ []) text
         each (says.Aborted c j u cause) h k = neither u h k
         each (says.Broke s u w by) h k = neither u h k

@@ -10,3 +10,4 @@ pub mod Reading
 pub mod StorePages
 pub mod Heads
 pub mod Disk
+pub mod Printed

@@ -10,17 +10,21 @@
 //! | free head | zeros |
 //! | used head | 1 (1 byte), the file's number (4 bytes), for each of its blocks 0 to 119 the address (2 bytes): 0 for none, else 1 more than the index of its data page |
 //! | data page | the 448 bytes of a block |
-ghost use Rattle.std.specs.Prelude.{◌≡◌, ◌≢◌, ◌<◌, ◌≤◌, ◌+◌, ◌-◌, ◌*◌, ◌^◌, ◌++◌, ℕ, IfOk, slice_index, length, drop, take};
+ghost use Rattle.std.specs.Prelude.{◌≡◌, ◌≢◌, ◌<◌, ◌≤◌, ◌+◌, ◌-◌, ◌*◌, ◌^◌, ◌++◌, ℕ, IfOk, OnOk, slice_index, length, drop, take};
 ghost use Rattle.byteorder.specs.Endian.{big_number};
 ghost use Rattle.jn_store.specs.Choices.{with_page};
 ghost use Rattle.jn_serial.specs.Stored.{block_count, files_of};
-ghost use Rattle.jn_run.specs.Pages.{IsFresh, HoldsFiles, server_0, epoch_in, head_place, data_place};
+ghost use Rattle.jn_run.specs.Printed.{Prints, IsOfFile, IsBlock, IsLeast};
+ghost use Rattle.jn_run.specs.Pages.{files_of_pages, head_of, PrintsFiles, IsFresh, HoldsFiles, server_0, epoch_in, head_place, data_place};
 ghost use Rattle.jn_run.specs.Heads.{counts, page_total, root_page, with_epoch, AddressesFit, AreStored, HoldsFile};
 ghost use Rattle.jn_run.specs.StorePages.{page_count, pages_in};
 
-use crate::head::{data_page, head_page};
+use crate::head::{
+    BLOCKS, address_in, block_of, data_page, head_page, is_head_of, least_with, number_in,
+};
 use byteorder::{BigEndian, ByteOrder};
-use jn_base::{Page, PageWriter};
+use jn_base::{BlockNo, FileNo, Page, PageWriter, ServerNo};
+use jn_report::{Line, Text, When};
 use jn_serial::{Files, StoredBlock, StoredFile};
 use jn_store::{ArrayStore, StableStore};
 use std::alloc::{AllocError, Global};
@@ -34,6 +38,9 @@ const POOL: u16 = 32;
 const HEADS: u16 = 16;
 
 const LEAVES: u16 = 128;
+
+/// The server whose disk it is.
+const SERVER: ServerNo = ServerNo(0);
 
 /// Where the epoch stands in the root.
 const EPOCH_AT: usize = 12;
@@ -106,6 +113,21 @@ impl Disk {
         }
     }
 
+    /// Prints the files and their blocks in ascending order, from the pages themselves. Where memory
+    /// runs out some of the lines may stand there.
+    pub fn print(&mut self, lines: &mut Vec<Line>) -> Result<(), AllocError>
+        ensures ok { OnOk result (PrintsFiles (files_of_pages (counts_of self.old) (pages_of self.old)) lines.old.items lines.new.items) }
+        ensures pages { pages_of self.new ≡ pages_of self.old }
+        ensures counts { counts_of self.new ≡ counts_of self.old }
+    {
+        let mut from: u64 = 0;
+        while let Some(number) = self.next_number(from) {
+            self.print_file(FileNo(number), lines)?;
+            from = u64::from(number) + 1;
+        }
+        Ok(())
+    }
+
     /// Puts a file's blocks in the data pages from index base on, and then its head as head i.
     fn put_file(&mut self, i: u16, base: u16, file: &StoredFile)
         requires head { i < (counts_of self.old).heads }
@@ -129,6 +151,73 @@ impl Disk {
         for (k, stored) in blocks.iter().enumerate() {
             self.put(self.data_place(base + k as u16), &data_page(&stored.bytes));
         }
+    }
+
+    /// Prints a file and its blocks, if it is there.
+    fn print_file(&mut self, file: FileNo, lines: &mut Vec<Line>) -> Result<(), AllocError>
+        ensures ok { OnOk result (Prints (files_of_pages (counts_of self.old) (pages_of self.old)) (IsOfFile file) lines.old.items lines.new.items) }
+        ensures pages { pages_of self.new ≡ pages_of self.old }
+        ensures counts { counts_of self.new ≡ counts_of self.old }
+    {
+        let Some(head) = self.head_of(file) else {
+            return Ok(());
+        };
+        lines.push(print_line(Text::File(SERVER, file)))?;
+        for block in 0..BLOCKS {
+            self.print_block(file, BlockNo(block), &head, lines)?;
+        }
+        Ok(())
+    }
+
+    /// Prints a block of the file that this is the head of, if it is stored.
+    fn print_block(
+        &mut self,
+        file: FileNo,
+        block: BlockNo,
+        head: &Page,
+        lines: &mut Vec<Line>,
+    ) -> Result<(), AllocError>
+        requires head { head_of (counts_of self.old) (pages_of self.old) file ≡ Some head.now }
+        requires within { block.0 < 120 }
+        ensures ok { OnOk result (Prints (files_of_pages (counts_of self.old) (pages_of self.old)) (IsBlock file block) lines.old.items lines.new.items) }
+        ensures pages { pages_of self.new ≡ pages_of self.old }
+        ensures counts { counts_of self.new ≡ counts_of self.old }
+    {
+        let address = address_in(head, block);
+        if address > 0 {
+            let page = self.page(self.data_place(address - 1));
+            lines.push(print_line(Text::Page(SERVER, file, block, block_of(&page))))?;
+        }
+        Ok(())
+    }
+
+    /// The least number, from a bound on, of a file that is there.
+    fn next_number(&mut self, from: u64) -> Option<u32>
+        ensures least { IsLeast (counts_of self.old) (pages_of self.old) from (counts_of self.old).heads result }
+        ensures pages { pages_of self.new ≡ pages_of self.old }
+        ensures counts { counts_of self.new ≡ counts_of self.old }
+    {
+        let mut least = None;
+        for i in 0..self.heads {
+            let page = self.page(self.head_place(i));
+            least = least_with(from, least, number_in(&page));
+        }
+        least
+    }
+
+    /// The first head of a file, if it is there.
+    fn head_of(&mut self, file: FileNo) -> Option<Page>
+        ensures found { result ≡ head_of (counts_of self.old) (pages_of self.old) file }
+        ensures pages { pages_of self.new ≡ pages_of self.old }
+        ensures counts { counts_of self.new ≡ counts_of self.old }
+    {
+        for i in 0..self.heads {
+            let page = self.page(self.head_place(i));
+            if is_head_of(file, &page) {
+                return Some(page);
+            }
+        }
+        None
     }
 
     /// The page of head i.
@@ -187,4 +276,80 @@ fn first_root() -> Page
     root.put_u16(LEAVES);
     root.put_u32(0);
     root.finish()
+}
+
+/// A line at the end.
+fn print_line(text: Text) -> Line
+    ensures { result ≡ record { when = When.End; text = text } }
+{
+    Line {
+        when: When::End,
+        text,
+    }
+}
+
+#[cfg(test)]
+mod tests {
+    use super::*;
+    use jn_serial::StoredFile;
+    use std::test::Fail;
+
+    fn stored(block: u16, byte: u8) -> StoredBlock {
+        StoredBlock {
+            block: BlockNo(block),
+            bytes: [byte; 448],
+        }
+    }
+
+    /// Whether a line prints the file, or the block of it with this byte at its end.
+    fn prints(line: &Line, file: u32, block: Option<(u16, u8)>) -> bool {
+        match (line.text, block) {
+            (Text::File(s, f), None) => s == SERVER && f.0 == file,
+            (Text::Page(s, f, b, bytes), Some((number, byte))) => {
+                s == SERVER && f.0 == file && b.0 == number && bytes[447] == byte
+            }
+            _ => false,
+        }
+    }
+
+    #[test]
+    fn files_are_printed_in_order(rt: HostRuntime) -> Result<(), Fail> {
+        let mut nine = Vec::new(rt.alloc());
+        nine.push(stored(119, 1))?;
+        nine.push(stored(0, 2))?;
+        nine.push(stored(0, 3))?;
+        let mut seven = Vec::new(rt.alloc());
+        seven.push(stored(5, 4))?;
+        seven.push(stored(2, 5))?;
+        let mut files = Vec::new(rt.alloc());
+        for (number, blocks) in [(9, nine), (7, seven)] {
+            files.push(StoredFile {
+                server: SERVER,
+                file: FileNo(number),
+                blocks,
+            })?;
+        }
+        let files = Files { stored: files };
+
+        let mut disk = Disk::new(rt.alloc())?;
+        assert_eq!(rt; disk.raise_epoch(), 1);
+        assert!(rt; files.stored.len() <= 16);
+        disk.carry_out(&files);
+        let mut lines = Vec::new(rt.alloc());
+        disk.print(&mut lines)?;
+
+        let expected = [
+            (7, None),
+            (7, Some((2, 5))),
+            (7, Some((5, 4))),
+            (9, None),
+            (9, Some((0, 2))),
+            (9, Some((119, 1))),
+        ];
+        assert_eq!(rt; lines.len(), expected.len());
+        for (line, (file, block)) in lines.iter().zip(expected) {
+            assert!(rt; prints(line, file, block));
+        }
+        Ok(())
+    }
 }
