@@ -6,11 +6,6 @@ pub mod Prints
 pub mod Joined
 pub mod Telling
 pub mod HexWords
-pub mod Numbers
-pub mod Operations
-pub mod Parts
-pub mod Steps
-pub mod Tests
 pub mod Store
 pub mod Root
 pub mod Heads

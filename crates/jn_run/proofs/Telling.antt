@@ -1,6 +1,6 @@
 -- Chapters told one after another.
-use Rattle.std.proofs.Common.{◌≡◌, ℕ, zero, suc, ◌+◌, ◌≤◌, Bool, true, false, List, [], ◌∷◌, ◌++◌, length, take, Option, Some, None, Result, Ok, Err, is_ok, IsErrAnd, refl, sym, ◌∙◌, ap, subst, arith, min, append_assoc}
-use Rattle.std.proofs.Math.Seq.{take-append-add}
+use Rattle.std.proofs.Common.{◌≡◌, ℕ, zero, suc, ◌+◌, ◌≤◌, Bool, true, false, List, [], ◌∷◌, ◌++◌, length, take, drop, Option, Some, None, Result, Ok, Err, is_ok, IsErrAnd, refl, sym, ◌∙◌, ap, subst, arith, min, append_assoc}
+use Rattle.std.proofs.Math.Seq.{take-append-add, take-append_seam, take-length}
 use Rattle.std.proofs.lemmas.List.{take_min, take-append-le}
 use Rattle.jn_run.proofs.OneClient.{nothing_more}
 use Rattle.std.specs.Io.KnownBytes.{append_known}
@@ -9,10 +9,14 @@ use Rattle.jn_report.specs.Text.{report_text}
 use Rattle.jn_host.specs.Outside.{Rose}
 use Rattle.jn_host.proofs.Faults.{rose_since}
 use Rattle.jn_run.specs.declared.outside.RunFault.{RunFault}
-use Rattle.jn_run.specs.declared.outside.RunFault.TheVariants.{Write}
+use Rattle.jn_run.specs.declared.outside.RunFault.TheVariants.{Write, Memory}
 use Rattle.jn_run.specs.Outcome.{Took, TookFront}
 use Rattle.jn_run.specs.Outside.{Reports, Tells}
-use Rattle.jn_run.specs.Story.{Chapter, lines_in}
+use Rattle.jn_base.specs.declared.op.Op.{Op}
+use Rattle.jn_base.specs.declared.op.Command.TheVariants.{Do}
+use Rattle.jn_order.specs.Files.{AllFiles, answer_to, all_files_after}
+use Rattle.jn_run.specs.Pages.{server_0}
+use Rattle.jn_run.specs.Story.{Chapter, lines_in, op_chapters, answered_chapter, answer_text, files_at_end}
 use Rattle.jn_run.proofs.Joined.{report_text-append, lines_in-append}
 
 append_twice : (known : Option (List ℕ)) (xs ys : List ℕ) → append_known (append_known known xs) ys ≡ append_known known (xs ++ ys)
@@ -76,3 +80,52 @@ tells-line a b f g c l r same t = tells-one a b f g c r (subst (λ (ls : List Li
 pub handed-on : (a b : Option (List ℕ)) (f g : ℕ) (cs : List Chapter) (r : Result (Unit {0}) RunFault) (e : RunFault) → IsErrAnd r (λ x. x ≡ e) → Tells a f cs (Err e) b g → Tells a f cs r b g
 handed-on a b f g cs (Ok u) e h t = absurd h
 handed-on a b f g cs (Err x) e h t = subst (λ (y : RunFault). Tells a f cs (Err y) b g) (sym h) t
+
+-- a run that was cut off between two chapters
+pub tells-stop : (a b : Option (List ℕ)) (f g : ℕ) (xs ys : List Chapter) (r : Result (Unit {0}) RunFault) → IsErrAnd r (λ e. e ≡ Memory) → Tells a f xs (Ok tt) b g → Tells a f (xs ++ ys) r b g
+tells-stop a b f g xs ys (Ok u) h t = absurd h
+tells-stop a b f g xs ys (Err e) h t = record {
+  count = t.count;
+  whole = λ ok. cc;
+  front = λ cut. (length xs, subst (λ (cs : List Chapter). TookFront a b (report_text (lines_in cs))) (sym (take-append_seam xs ys)) (all a b (report_text (lines_in xs)) (t.whole refl)));
+  rose = λ w. cc;
+}
+  where
+    all : (a b : Option (List ℕ)) (text : List ℕ) → Took a b text → TookFront a b text
+    all a b text h = (length text, h ∙ ap (λ (t : List ℕ). append_known a t) (sym (take-length text)))
+
+-- the operations before place i are told, and the files are those after them
+pub record ToldOf (a : Option (List ℕ)) (f : ℕ) (before : AllFiles) (ops : List Op) (i number : ℕ) (files : AllFiles) (b : Option (List ℕ)) (g : ℕ) : Type 0 where
+  pub done : List Chapter
+  pub told : Tells a f done (Ok tt) b g
+  pub rest : op_chapters 5 before ops ≡ done ++ op_chapters number files (drop i ops)
+  pub ends : files_at_end before ops ≡ files_at_end files (drop i ops)
+
+pub told-of-none : (a : Option (List ℕ)) (f : ℕ) (files : AllFiles) (ops : List Op) → ToldOf a f files ops 0 5 files a f
+told-of-none a f files ops = record { done = []; told = tells-nothing a f; rest = refl; ends = refl }
+
+abbrev pub chapter_of : ℕ → AllFiles → Op → Chapter
+chapter_of number files op = answered_chapter number (Do server_0 op) (answer_text number (answer_to op (files server_0)) ∷ [])
+
+-- one more operation
+pub told-of-more : (a b c : Option (List ℕ)) (f g h : ℕ) (before : AllFiles) (ops : List Op) (i number : ℕ) (files files' : AllFiles) (op : Op) → ToldOf a f before ops i number files b g → drop i ops ≡ op ∷ drop (i + 1) ops
+    → files' ≡ all_files_after server_0 op files → Tells b g (chapter_of number files op ∷ []) (Ok tt) c h → ToldOf a f before ops (i + 1) (number + 2) files' c h
+told-of-more a b c f g h before ops i number files files' op t next after told = record {
+  done = t.done ++ chapter_of number files op ∷ [];
+  told = tells-then a b c f g h t.done (chapter_of number files op ∷ []) (Ok tt) t.told told;
+  rest = t.rest ∙ ap (λ (os : List Op). t.done ++ op_chapters number files os) next ∙ sym (append_assoc t.done (chapter_of number files op ∷ []) (op_chapters (number + 2) (all_files_after server_0 op files) (drop (i + 1) ops))) ∙ ap (λ (fs : AllFiles). (t.done ++ chapter_of number files op ∷ []) ++ op_chapters (number + 2) fs (drop (i + 1) ops)) (sym after);
+  ends = t.ends ∙ ap (λ (os : List Op). files_at_end files os) next ∙ ap (λ (fs : AllFiles). files_at_end fs (drop (i + 1) ops)) (sym after);
+}
+
+-- the answer to one more operation wasn't told
+pub told-of-cut : (a b c : Option (List ℕ)) (f g h : ℕ) (before : AllFiles) (ops : List Op) (i number : ℕ) (files : AllFiles) (op : Op) (e : RunFault) → ToldOf a f before ops i number files b g → drop i ops ≡ op ∷ drop (i + 1) ops
+    → Tells b g (chapter_of number files op ∷ []) (Err e) c h → Tells a f (op_chapters 5 before ops) (Err e) c h
+told-of-cut a b c f g h before ops i number files op e t next cut =
+    subst (λ (cs : List Chapter). Tells a f cs (Err e) c h)
+      (sym (t.rest ∙ ap (λ (os : List Op). t.done ++ op_chapters number files os) next ∙ sym (append_assoc t.done (chapter_of number files op ∷ []) (op_chapters (number + 2) (all_files_after server_0 op files) (drop (i + 1) ops)))))
+      (tells-cut a c f h (t.done ++ chapter_of number files op ∷ []) (op_chapters (number + 2) (all_files_after server_0 op files) (drop (i + 1) ops)) e
+        (tells-then a b c f g h t.done (chapter_of number files op ∷ []) (Err e) t.told cut))
+
+-- there was no memory for one more operation
+pub told-of-stop : (a b : Option (List ℕ)) (f g : ℕ) (before : AllFiles) (ops : List Op) (i number : ℕ) (files : AllFiles) (r : Result (Unit {0}) RunFault) → ToldOf a f before ops i number files b g → IsErrAnd r (λ e. e ≡ Memory) → Tells a f (op_chapters 5 before ops) r b g
+told-of-stop a b f g before ops i number files r t memory = subst (λ (cs : List Chapter). Tells a f cs r b g) (sym t.rest) (tells-stop a b f g t.done (op_chapters number files (drop i ops)) r memory t.told)
