@@ -8,17 +8,18 @@ use jn_base::Answer;
 pub(crate) fn is_same_answer(a: &Answer, b: &Answer) -> bool
     ensures { IsTrue result ↔ (a.now ≡ b.now) }
 {
-    match (a, b) {
-        (Answer::Did, Answer::Did)
-        | (Answer::NoFile, Answer::NoFile)
-        | (Answer::Exists, Answer::Exists)
-        | (Answer::TooManyReads, Answer::TooManyReads)
-        | (Answer::TooManyWrites, Answer::TooManyWrites)
-        | (Answer::Closing, Answer::Closing) => true,
-        (Answer::Read(x), Answer::Read(y)) => x == y,
-        (Answer::Locked(u, t), Answer::Locked(v, w))
-        | (Answer::Broken(u, t), Answer::Broken(v, w)) => u == v && t == w,
-        (Answer::Lost(epoch, now), Answer::Lost(other, then)) => epoch == other && now == then,
-        _ => false,
+    match a {
+        Answer::Did => matches!(b, Answer::Did),
+        Answer::Read(x) => matches!(b, Answer::Read(y) if x == y),
+        Answer::NoFile => matches!(b, Answer::NoFile),
+        Answer::Exists => matches!(b, Answer::Exists),
+        Answer::Locked(u, t) => matches!(b, Answer::Locked(v, w) if u == v && t == w),
+        Answer::TooManyReads => matches!(b, Answer::TooManyReads),
+        Answer::TooManyWrites => matches!(b, Answer::TooManyWrites),
+        Answer::Broken(u, t) => matches!(b, Answer::Broken(v, w) if u == v && t == w),
+        Answer::Lost(epoch, now) => {
+            matches!(b, Answer::Lost(other, then) if epoch == other && now == then)
+        }
+        Answer::Closing => matches!(b, Answer::Closing),
     }
 }

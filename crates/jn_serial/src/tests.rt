@@ -117,43 +117,45 @@ fn report(alloc: Global, write: Text, commits: u8) -> Result<Vec<Line>, AllocErr
     Ok(lines)
 }
 
-#[test]
-fn a_report(rt: HostRuntime) -> Result<(), Fail> {
-    let alloc = rt.alloc();
-    let events = schedule();
-    let empty = Files::new(alloc);
-    let wrote = Text::Did(CLIENT, 7);
-    for (write, commits, agrees_with, is_told) in [
-        (wrote, 1, true, true),
-        (Text::Refused(CLIENT, 7, Refusal::NoFile), 1, false, true),
-        (wrote, 0, true, false),
-        (wrote, 2, false, false),
-    ] {
-        let lines = report(alloc, write, commits)?;
-        assert_eq!(rt;
-            agrees(alloc, &empty, &events, &lines)?,
-            agrees_with,
-            "{commits}"
-        );
-        assert_eq!(rt; told(alloc, &lines)?, is_told, "{commits}");
-    }
+/// What `agrees` and `told` say of that report, on no files.
+fn verdicts(alloc: Global, write: Text, commits: u8) -> Result<(bool, bool), AllocError> {
+    let files = Files::new(alloc);
+    let lines = report(alloc, write, commits)?;
+    let agrees_with = agrees(alloc, &files, &schedule(), &lines)?;
+    Ok((agrees_with, told(alloc, &lines)?))
+}
 
-    let lines = report(alloc, wrote, 1)?;
-    let named = history(alloc, &lines)?;
-    assert_eq!(rt; named.as_slice(), [BEGUN].as_slice());
-    let ops = ops_of(alloc, &events, &lines, BEGUN)?;
-    assert_eq!(rt; ops.len(), 2);
-    for p in &ops {
-        assert!(rt; is_same_answer(&p.answer, &Answer::Did));
+#[test]
+fn reports(rt: HostRuntime) -> Result<(), Fail> {
+    let wrote = Text::Did(CLIENT, 7);
+    let refused = Text::Refused(CLIENT, 7, Refusal::NoFile);
+    for (write, commits, want) in [
+        (wrote, 1, (true, true)),
+        (refused, 1, (false, true)),
+        (wrote, 0, (true, false)),
+        (wrote, 2, (false, false)),
+    ] {
+        let said = verdicts(rt.alloc(), write, commits)?;
+        assert!(rt; said == want);
     }
-    let mut after = replay(alloc, &empty, &events, &lines, &named)?;
-    let read = Op::Read(SEVEN, BlockNo(0));
-    expect(
-        &rt,
-        alloc,
-        &mut after,
-        read,
-        Answer::Read(block(0x68, 0x69)),
-    )?;
+    Ok(())
+}
+
+/// The files after the transactions that the report names, and how many operations its own did.
+fn replayed(alloc: Global) -> Result<(Files, usize), AllocError> {
+    let events = schedule();
+    let lines = report(alloc, Text::Did(CLIENT, 7), 1)?;
+    let named = history(alloc, &lines)?;
+    let ops = ops_of(alloc, &events, &lines, BEGUN)?;
+    let after = replay(alloc, &Files::new(alloc), &events, &lines, &named)?;
+    Ok((after, ops.len()))
+}
+
+#[test]
+fn a_report_replayed(rt: HostRuntime) -> Result<(), Fail> {
+    let (mut after, ops) = replayed(rt.alloc())?;
+    assert_eq!(rt; ops, 2);
+    let hi = Answer::Read(block(0x68, 0x69));
+    expect(&rt, rt.alloc(), &mut after, Op::Read(SEVEN, BlockNo(0)), hi)?;
     Ok(())
 }
