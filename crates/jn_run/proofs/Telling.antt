@@ -1,5 +1,5 @@
 -- Chapters told one after another.
-use Rattle.std.proofs.Common.{◌≡◌, ℕ, zero, suc, ◌+◌, ◌≤◌, Bool, true, false, List, [], ◌∷◌, ◌++◌, length, take, drop, Option, Some, None, Result, Ok, Err, is_ok, IsErrAnd, refl, sym, ◌∙◌, ap, subst, arith, min, append_assoc}
+use Rattle.std.proofs.Common.{◌≡◌, ℕ, zero, suc, ◌+◌, ◌<◌, ◌≤◌, Bool, true, false, List, [], ◌∷◌, ◌++◌, length, take, drop, Option, Some, None, Result, Ok, Err, is_ok, IsErrAnd, refl, sym, ◌∙◌, ap, subst, arith, min, append_assoc, get_or, add-one, drop-cons}
 use Rattle.std.proofs.Math.Seq.{take-append-add, take-append_seam, take-length}
 use Rattle.std.proofs.lemmas.List.{take_min, take-append-le}
 use Rattle.jn_run.proofs.OneClient.{nothing_more}
@@ -129,3 +129,7 @@ told-of-cut a b c f g h before ops i number files op e t next cut =
 -- there was no memory for one more operation
 pub told-of-stop : (a b : Option (List ℕ)) (f g : ℕ) (before : AllFiles) (ops : List Op) (i number : ℕ) (files : AllFiles) (r : Result (Unit {0}) RunFault) → ToldOf a f before ops i number files b g → IsErrAnd r (λ e. e ≡ Memory) → Tells a f (op_chapters 5 before ops) r b g
 told-of-stop a b f g before ops i number files r t memory = subst (λ (cs : List Chapter). Tells a f cs r b g) (sym t.rest) (tells-stop a b f g t.done (op_chapters number files (drop i ops)) r memory t.told)
+
+-- the operation at a place, and those after it
+pub next-op : (d : Op) (ops : List Op) (i : ℕ) → i < length ops → drop i ops ≡ get_or ops i d ∷ drop (i + 1) ops
+next-op d ops i h = rw (add-one, drop-cons ops i d) refl

@@ -7,7 +7,11 @@ use Rattle.jn_report.specs.Text.{report_text}
 use Rattle.jn_host.specs.Outside.{Rose}
 use Rattle.jn_run.specs.declared.outside.RunFault.{RunFault}
 use Rattle.jn_run.specs.declared.outside.RunFault.TheVariants as runs
+use Rattle.jn_order.specs.Files.{Files}
+use Rattle.jn_serial.specs.Shown.{ShowsFiles}
 use Rattle.jn_run.specs.Form.{events_of}
+use Rattle.jn_run.specs.Pages.{server_0, only_server_0, ArePrints}
+use Rattle.jn_run.specs.Ending.{ending}
 use Rattle.jn_run.specs.Outcome.{Took, TookFront, IsRun, IsRunSoFar}
 
 -- no operation writes a block past the last
@@ -34,3 +38,10 @@ pub record Ran (taken : Option (List ℕ)) (faults : ℕ) (ops : List Op) (answe
   pub whole : is_ok answer ≡ true → WholeRun taken ops taken'
   pub part : is_ok answer ≡ false → PartRun taken ops taken'
   pub rose : answer ≡ Err runs.Write → Rose faults faults'
+
+-- the lines at the end, with those that print these files
+pub record ArePrinted (files : Files) (epoch : ℕ) (lines : List Line) : Type 0 where
+  pub prints : List Line
+  pub all : lines ≡ ending epoch prints
+  pub are_prints : ArePrints prints
+  pub shows : ShowsFiles (only_server_0 files) server_0 prints
