@@ -72,11 +72,11 @@ abbrev pub AreOfEnd : List Line → Type 0
 AreOfEnd [] = Unit {0}
 AreOfEnd (l ∷ ls) = (l.when ≡ End) × (is_of_end l.text ≡ true) × AreOfEnd ls
 
-AreOfEnd-append : (xs ys : List Line) → AreOfEnd xs → AreOfEnd ys → AreOfEnd (xs ++ ys)
+pub AreOfEnd-append : (xs ys : List Line) → AreOfEnd xs → AreOfEnd ys → AreOfEnd (xs ++ ys)
 AreOfEnd-append [] ys a b = b
 AreOfEnd-append (x ∷ xs) ys a b = (a.0, a.1, AreOfEnd-append xs ys a.2 b)
 
-AreOfEnd-prints : (ls : List Line) → ArePrints ls → AreOfEnd ls
+pub AreOfEnd-prints : (ls : List Line) → ArePrints ls → AreOfEnd ls
 AreOfEnd-prints [] h = tt
 AreOfEnd-prints (l ∷ ls) h = (h.0, of_end l.text h.1, AreOfEnd-prints ls h.2)
   where

@@ -5,6 +5,7 @@ pub mod Ending
 pub mod Prints
 pub mod Joined
 pub mod Telling
+pub mod Ran
 pub mod HexWords
 pub mod Store
 pub mod Root

@@ -11,6 +11,7 @@ use Rattle.jn_run.specs.Reading.{AreSteps, IsParted, IsStep, lacks}
 use Rattle.jn_run.proofs.HexWords.{hex_word-lacks}
 use Rattle.jn_run.proofs.NumberWords.{decimal-lacks}
 use Rattle.jn_run.proofs.TextParts.{lacks-append, parted_once}
+use Rattle.jn_run.specs.Runs.{WritesWithin, AllWriteWithin}
 
 -- no line feed is in an operation's line
 op-lacks : (op : Op) (words : List ℕ) → SpellsOp op words → lacks 10 words ≡ true
@@ -126,23 +127,17 @@ form_steps text rest ops opens form =
     let same = append_cancel_left opening rest form.rest (sym opens ∙ form.opens) in
     (form.few, rw same form.spelled)
 
--- what is asked for at a block is asked for at one that is there
-abbrev pub IsWithin : Op → Type 0
-IsWithin (Create f) = Unit {0}
-IsWithin (Write f p stored) = p.0 < 120
-IsWithin _ = ⊥
-
 -- the operations of a schedule are creates, and writes within a file
-pub form_within : (text : List ℕ) (ops : List Op) → IsForm text ops → AllByRecursion IsWithin ops
+pub form_within : (text : List ℕ) (ops : List Op) → IsForm text ops → AllWriteWithin ops
 form_within text ops form = go ops form.rest form.spelled
   where
-    one : (op : Op) (words : List ℕ) → SpellsOp op words → IsWithin op
+    one : (op : Op) (words : List ℕ) → SpellsOp op words → WritesWithin op
     one (Create f) words spells = tt
     one (Write f p stored) words spells = let fits = spells.block_fits in omega arith
-    one (Remove f) words spells = spells
-    one (Cut f p) words spells = spells
-    one (Read f p) words spells = spells
+    one (Remove f) words spells = tt
+    one (Cut f p) words spells = tt
+    one (Read f p) words spells = tt
 
-    go : (ops : List Op) (rest : List ℕ) → SpellsOps ops rest → AllByRecursion IsWithin ops
+    go : (ops : List Op) (rest : List ℕ) → SpellsOps ops rest → AllWriteWithin ops
     go [] rest spells = tt
     go (op ∷ ops) rest spells = (one op spells.0 spells.2, go ops spells.1 spells.3)

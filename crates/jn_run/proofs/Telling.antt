@@ -133,3 +133,7 @@ told-of-stop a b f g before ops i number files r t memory = subst (λ (cs : List
 -- the operation at a place, and those after it
 pub next-op : (d : Op) (ops : List Op) (i : ℕ) → i < length ops → drop i ops ≡ get_or ops i d ∷ drop (i + 1) ops
 next-op d ops i h = rw (add-one, drop-cons ops i d) refl
+
+-- the same where nothing is left to tell
+pub tells-stopped : (a b : Option (List ℕ)) (f g : ℕ) (xs : List Chapter) (r : Result (Unit {0}) RunFault) → IsErrAnd r (λ e. e ≡ Memory) → Tells a f xs (Ok tt) b g → Tells a f xs r b g
+tells-stopped a b f g xs r h t = subst (λ (cs : List Chapter). Tells a f cs r b g) (nothing_more xs) (tells-stop a b f g xs [] r h t)

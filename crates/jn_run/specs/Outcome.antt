@@ -56,10 +56,10 @@ Took before after text = after ≡ append_known before text
 abbrev pub TookFront : Option (List ℕ) → Option (List ℕ) → List ℕ → Type 0
 TookFront before after text = (n : ℕ) × (after ≡ append_known before (take n text))
 
-unfoldable pub refused_words : List ℕ
+abbrev pub refused_words : List ℕ
 refused_words = codes "refused: words" ++ 10 ∷ []
 
-unfoldable pub refused_form : List ℕ
+abbrev pub refused_form : List ℕ
 refused_form = codes "refused: schedule form" ++ 10 ∷ []
 
 -- bytes that are no schedule of the form

@@ -10,7 +10,7 @@ use Rattle.jn_run.specs.Pages.{server_0}
 use Rattle.jn_run.specs.Story.{line_at, answer_text}
 use Rattle.std.proofs.Common.{get_or}
 use Rattle.jn_run.proofs.Telling.{told-of-stop, told-of-cut, told-of-more, tells-line, handed-on, chapter_of, next-op}
-use Rattle.jn_run.proofs.run.tell_operations.Goals as goal
+use Rattle.jn_run.proofs.operations.tell_operations.Goals as goal
 
 pub returns-in_err-answer-clause-told : goal.returns-in_err-answer-clause-told
 returns-in_err-answer-clause-told g c = told-of-stop _ _ _ _ _ c.args.ops.now c.loop-op.op-index c.loop-op.number _ _ c.loop-op.invariant.told c.from_residual.ensures.1

@@ -4,7 +4,7 @@ use Rattle.jn_run.specs.Pages.{server_0}
 use Rattle.jn_report.specs.declared.line.Line.{Line}
 use Rattle.jn_run.specs.Story.{line_at, start_chapter, begin_chapter, open_chapter, opening_chapters}
 use Rattle.jn_run.proofs.Telling.{tells-line, tells-then, tells-cut, handed-on}
-use Rattle.jn_run.proofs.run.tell_opening.Goals as goal
+use Rattle.jn_run.proofs.operations.tell_opening.Goals as goal
 
 pub returns-in_err-report : goal.returns-in_err-report
 returns-in_err-report g c =

@@ -1,7 +1,7 @@
 use Rattle.std.proofs.Common.{◌≡◌, ◌≤◌, ◌+◌, ◌*◌, length}
 use Rattle.jn_serial.specs.Stored.{files_of, block_count}
 use Rattle.jn_run.proofs.Telling.{ToldOf}
-use Rattle.jn_run.proofs.run.tell_operations.Given as goal
+use Rattle.jn_run.proofs.operations.tell_operations.Given as goal
 
 abbrev pub invariant-loop-op : goal.invariant-loop-op
 invariant-loop-op g l = record {
