@@ -291,7 +291,6 @@ fn print_line(text: Text) -> Line
 #[cfg(test)]
 mod tests {
     use super::*;
-    use jn_serial::StoredFile;
     use std::test::Fail;
 
     fn stored(block: u16, byte: u8) -> StoredBlock {
@@ -299,6 +298,29 @@ mod tests {
             block: BlockNo(block),
             bytes: [byte; 448],
         }
+    }
+
+    fn file_of(alloc: Global, file: u32, blocks: &[StoredBlock]) -> Result<StoredFile, AllocError>
+        ensures { IfOk result (λ x. length x.blocks.items ≡ length blocks.now) }
+    {
+        Ok(StoredFile {
+            server: SERVER,
+            file: FileNo(file),
+            blocks: blocks.to_vec(alloc)?,
+        })
+    }
+
+    /// Files 9 and 7, whose blocks stand out of order. Block 0 of file 9 stands twice.
+    fn two_files(alloc: Global) -> Result<Files, AllocError>
+        ensures heads { IfOk result (λ files. length files.stored.items ≤ 16) }
+        ensures leaves { IfOk result (λ files. block_count files.stored.items ≤ 128) }
+    {
+        let nine = file_of(alloc, 9, &[stored(119, 1), stored(0, 2), stored(0, 3)])?;
+        let seven = file_of(alloc, 7, &[stored(5, 4), stored(2, 5)])?;
+        let mut files = Vec::new(alloc);
+        files.push(nine)?;
+        files.push(seven)?;
+        Ok(Files { stored: files })
     }
 
     /// Whether a line prints the file, or the block of it with this byte at its end.
@@ -314,27 +336,9 @@ mod tests {
 
     #[test]
     fn files_are_printed_in_order(rt: HostRuntime) -> Result<(), Fail> {
-        let mut nine = Vec::new(rt.alloc());
-        nine.push(stored(119, 1))?;
-        nine.push(stored(0, 2))?;
-        nine.push(stored(0, 3))?;
-        let mut seven = Vec::new(rt.alloc());
-        seven.push(stored(5, 4))?;
-        seven.push(stored(2, 5))?;
-        let mut files = Vec::new(rt.alloc());
-        for (number, blocks) in [(9, nine), (7, seven)] {
-            files.push(StoredFile {
-                server: SERVER,
-                file: FileNo(number),
-                blocks,
-            })?;
-        }
-        let files = Files { stored: files };
-
         let mut disk = Disk::new(rt.alloc())?;
         assert_eq!(rt; disk.raise_epoch(), 1);
-        assert!(rt; files.stored.len() <= 16);
-        disk.carry_out(&files);
+        disk.carry_out(&two_files(rt.alloc())?);
         let mut lines = Vec::new(rt.alloc());
         disk.print(&mut lines)?;
 
