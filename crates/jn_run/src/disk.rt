@@ -88,10 +88,9 @@ impl Disk {
         ensures others { (i : ℕ) → i ≢ 0 → pages_of self.new i ≡ pages_of self.old i }
         ensures counts { counts_of self.new ≡ counts_of self.old }
     {
-        let mut root = self.page(0);
-        let epoch = BigEndian::read_u32(&root[EPOCH_AT..16]) + 1;
-        BigEndian::write_u32(&mut root[EPOCH_AT..16], epoch);
-        self.put(0, &root);
+        let root = self.page(0);
+        let epoch = BigEndian::read_u32(&root[EPOCH_AT..]) + 1;
+        self.put(0, &with_epoch(&root, epoch));
         epoch
     }
 
@@ -276,6 +275,16 @@ fn first_root() -> Page
     root.put_u16(LEAVES);
     root.put_u32(0);
     root.finish()
+}
+
+/// A root with another epoch.
+fn with_epoch(root: &Page, epoch: u32) -> Page
+    ensures root { result ≡ with_epoch root.now epoch }
+    ensures epoch { epoch_in result ≡ epoch }
+{
+    let mut page = *root;
+    BigEndian::write_u32(&mut page[EPOCH_AT..EPOCH_AT + 4], epoch);
+    page
 }
 
 /// A line at the end.
