@@ -45,6 +45,8 @@ const SERVER: ServerNo = ServerNo(0);
 /// Where the epoch stands in the root.
 const EPOCH_AT: usize = 12;
 
+/// The pages of the server: contracts see their counts and, by number, their bytes. The addresses of
+/// a used head lead to data pages that there are.
 #[derive(Drop)]
 pub struct Disk {
     store: ArrayStore,
