@@ -8,8 +8,9 @@ use Rattle.jn_base.specs.declared.device.Outside.{Outside}
 use Rattle.jn_base.specs.declared.device.Stopped.{Stopped}
 use Rattle.jn_device.specs.declared.Armed.{Armed}
 use Rattle.jn_device.specs.declared.Look.{Look}
-use Rattle.jn_device.specs.Device.{DeviceState, page_met}
+use Rattle.jn_device.specs.Device.{DeviceState, page_met, IsSound}
 use Rattle.jn_device.specs.Calls.{due, waiting_on, strike, CallStep, GetStep, PutStep, told_of}
+use Rattle.jn_device.specs.Events.{Becomes, Decays}
 use Rattle.jn_device.specs.Later.{Later, OthersStruck, count_kind, count_told, is_stop, touches, darkness}
 
 -- 1 where the fault that strikes is of these kinds
@@ -126,3 +127,16 @@ module _ (s : DeviceState) (p : ℕ) (new : List ℕ) (stopped : Bool) (t : Devi
   -- to the new ones, or not
   pub put_bytes_at : ((t.pages p).bytes ≡ new) ⊎ ((t.pages p).bytes ≡ (s.pages p).bytes)
   put_bytes_at = grind (arith, nat_tests)
+
+-- so does an event that strikes a page
+pub becomes_met_sound : (s t : DeviceState) (k : Option FaultKind) (power : Bool) → Becomes s (page_met s k) power t → IsSound s → IsSound t
+becomes_met_sound s t k power becomes sound i below =
+    let lt : i < s.count / 2 = subst (λ c. i < c / 2) becomes.count below in
+    let met = met_sound s k i lt (sound i lt) in
+    let first = becomes.pages_are i in
+    let second = becomes.pages_are (i + s.count / 2) in
+    let now : ((t.pages i).good || (t.pages (i + s.count / 2)).good) ≡ true = cc (met, first, second) in
+    subst (λ c. ((t.pages i).good || (t.pages (i + c / 2)).good) ≡ true) (sym becomes.count) now
+
+pub decays_sound : (s t : DeviceState) (p : ℕ) (answer : Bool) → Decays s p answer t → IsSound s → IsSound t
+decays_sound s t p answer decays sound = becomes_met_sound s t (Some (Decay p)) s.power decays.becomes sound

@@ -13,21 +13,21 @@ ghost use Rattle.jn_device.specs.Device.{blank_page};
 use jn_base::{FaultKind, Page};
 
 /// What a device answers to a get.
-#[derive(Clone, Copy)]
+#[derive(Clone, Copy, Debug, PartialEq, Eq)]
 pub enum Look {
     Good(Page),
     LooksBad,
 }
 
 /// A physical page as it is kept: a bad page keeps its bytes, which no call sees.
-#[derive(Clone, Copy)]
+#[derive(Clone, Copy, Debug, PartialEq, Eq)]
 pub struct Half {
     pub good: bool,
     pub bytes: Page,
 }
 
 /// A fault that waits.
-#[derive(Clone, Copy)]
+#[derive(Clone, Copy, Debug, PartialEq, Eq)]
 pub struct Armed {
     /// The number of calls until it strikes, from 1.
     pub after: u32,
@@ -35,7 +35,7 @@ pub struct Armed {
 }
 
 /// What becomes of a get.
-#[derive(Clone, Copy)]
+#[derive(Clone, Copy, Debug, PartialEq, Eq)]
 pub enum GetOutcome {
     /// Nothing is done, and Stopped is answered.
     Unread,
@@ -48,7 +48,7 @@ pub enum GetOutcome {
 }
 
 /// What becomes of a put.
-#[derive(Clone, Copy)]
+#[derive(Clone, Copy, Debug, PartialEq, Eq)]
 pub enum PutOutcome {
     /// Nothing is done, and Stopped is answered.
     Unwritten,

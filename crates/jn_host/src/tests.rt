@@ -90,6 +90,7 @@ fn a_reader_is_a_source(rt: HostRuntime) {
     assert_eq!(rt; room[0], b'e');
     assert_eq!(rt; source.read(&mut room), Ok(0));
     assert_eq!(rt; StandardInput::new(Broken).read(&mut room), Err(Failed));
+    assert_eq!(rt; StandardInput::new(rt.reader()).read(&mut []), Ok(0));
 }
 
 #[test]
@@ -102,6 +103,7 @@ fn a_writer_is_a_sink(rt: HostRuntime) {
     assert_eq!(rt; sink.write(b""), Ok(0));
     assert_eq!(rt; place, *b"pages");
     assert_eq!(rt; StandardOutput::new(Broken).write(b"none"), Err(Failed));
+    assert_eq!(rt; StandardOutput::new(io::writer(&rt)).write(b""), Ok(0));
 }
 
 #[test]

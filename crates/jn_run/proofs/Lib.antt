@@ -3,8 +3,16 @@ pub mod Chapters
 pub mod Story
 pub mod Ending
 pub mod Prints
+pub mod Joined
+pub mod Telling
+pub mod HexWords
 pub mod Store
 pub mod Root
 pub mod Heads
 pub mod Carried
+pub mod NumberWords
+pub mod OperationLines
+pub mod OperationWords
+pub mod TextParts
+pub mod Told
 pub mod Printed

@@ -21,15 +21,7 @@ use Rattle.jn_serial.proofs.Orders.{AreSame-equal, says-append}
 use Rattle.jn_run.specs.Pages.{Counts, Pages, server_0, only_server_0, HoldsFiles, files_of_pages, head_of, block_in}
 use Rattle.jn_run.specs.Story.{files_at_end}
 use Rattle.jn_run.specs.Ending.{end_line, ending}
-
--- no operation writes a block past the last
-abbrev pub WritesWithin : Op → Type 0
-WritesWithin (Write f p bytes) = p.0 < 120
-WritesWithin _ = Unit {0}
-
-abbrev pub AllWriteWithin : List Op → Type 0
-AllWriteWithin [] = Unit {0}
-AllWriteWithin (op ∷ ops) = WritesWithin op × AllWriteWithin ops
+use Rattle.jn_run.specs.Runs.{WritesWithin, AllWriteWithin}
 
 -- files at one server, with blocks 0 to 119
 pub record AtServer0 (files : AllFiles) : Type 0 where

@@ -2,7 +2,10 @@
 #![tactic(auto)]
 
 mod disk;
+mod form;
 mod head;
+mod outside;
+mod run;
 mod status;
 
 pub use status::Status;

@@ -4,3 +4,4 @@ pub mod Telling
 pub mod StoredLemmas
 pub mod DoesLemmas
 pub mod Orders
+pub mod LineLemmas

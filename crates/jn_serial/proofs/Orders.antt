@@ -1,12 +1,13 @@
 -- The order of commits, on the same files and on lists joined end to end.
-use Rattle.std.proofs.Common.{◌≡◌, Bool, ◌||◌, List, [], ◌∷◌, ◌++◌, filter, refl, sym, ap, ◌∙◌, subst, inl, inr, append_assoc, append-nil}
+use Rattle.std.proofs.Common.{ℕ, length, ◌≡◌, Bool, ◌||◌, List, [], ◌∷◌, ◌++◌, filter, refl, sym, ap, ◌∙◌, subst, inl, inr, append_assoc, append-nil, ◌+◌, ◌<◌, ◌↔◌, drop, get_or, add-one, drop-cons}
 use Rattle.std.specs.List.{list_any}
 use Rattle.std.specs.Prelude.{Option, None}
 use Rattle.std.proofs.lemmas.Bool.{cases_Bool}
 use Rattle.jn_base.specs.declared.names.ClientNo.{ClientNo}
 use Rattle.jn_base.specs.declared.names.Tid.{Tid}
 use Rattle.jn_base.specs.Names.{tid_eq}
-use Rattle.jn_order.specs.Files.{AllFiles, all_files_after}
+use Rattle.jn_base.specs.declared.op.Answer.{Answer}
+use Rattle.jn_order.specs.Files.{AllFiles, answer_to, all_files_after}
 use Rattle.jn_order.proofs.FilesLemmas.{same_files}
 use Rattle.jn_schedule.specs.declared.Event.{Event}
 use Rattle.jn_report.specs.declared.line.When.{When}
@@ -137,3 +138,23 @@ NamesNone-append named (l ∷ xs) ys h k = (h.0, NamesNone-append named xs ys h.
 pub NamesNone-parts : (named : List Tid) (xs ys : List Line) → NamesNone named (xs ++ ys) → NamesNone named xs × NamesNone named ys
 NamesNone-parts named [] ys h = (tt, h)
 NamesNone-parts named (l ∷ xs) ys h = let parts = NamesNone-parts named xs ys h.1 in ((h.0, parts.0), parts.1)
+
+drop_here : {X : Type 0} (xs : List X) (i : ℕ) (d : X) → i < length xs → drop i xs ≡ get_or xs i d ∷ drop (i + 1) xs
+drop_here xs i d h = rw add-one (drop-cons xs i d h)
+
+-- one step of a loop over operations
+pub files_then-step : (ops : List Performed) (i : ℕ) (d : Performed) (before after : AllFiles) → i < length ops → AreSame after (all_files_after (get_or ops i d).server (get_or ops i d).op before) → files_then (drop (i + 1) ops) after ≡ files_then (drop i ops) before
+files_then-step ops i d before after h same = rw (drop_here ops i d h, same_files after (all_files_after (get_or ops i d).server (get_or ops i d).op before) same)
+
+-- one step of a loop that compares answers
+pub GivesAnswers-step : (ops : List Performed) (i : ℕ) (d : Performed) (before after : AllFiles) (answer : Answer) → i < length ops → AreSame after (all_files_after (get_or ops i d).server (get_or ops i d).op before) → answer ≡ answer_to (get_or ops i d).op (before (get_or ops i d).server) → answer ≡ (get_or ops i d).answer → GivesAnswers before (drop i ops) ↔ GivesAnswers after (drop (i + 1) ops)
+GivesAnswers-step ops i d before after answer h same gives told =
+    rw (drop_here ops i d h, same_files after (all_files_after (get_or ops i d).server (get_or ops i d).op before) same) (λ k. k.1, λ k. (sym gives ∙ told, k))
+
+-- one step of a loop over committed transactions
+pub AgreesFrom-step : (events : List Event) (lines : List Line) (ts : List Tid) (i : ℕ) (d : Tid) (ps : List Performed) (before after : AllFiles) → i < length ts → ps ≡ ops_of events lines (get_or ts i d) → GivesAnswers before ps → AreSame after (files_then ps before) → AgreesFrom before events lines (drop i ts) ↔ AgreesFrom after events lines (drop (i + 1) ts)
+AgreesFrom-step events lines ts i d ps before after h e gives same =
+    rw (drop_here ts i d h, same_files after (files_then ps before) same, ← e) (λ k. k.1, λ k. (gives, k))
+
+pub ↔-trans : {P Q R : Type 0} → P ↔ Q → Q ↔ R → P ↔ R
+↔-trans pq qr = (λ p. qr.0 (pq.0 p), λ r. pq.1 (qr.1 r))

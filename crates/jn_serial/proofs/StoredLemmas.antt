@@ -1,5 +1,5 @@
 -- The stored files and blocks, read by name after an edit of the list.
-use Rattle.std.proofs.Common.{◌≡◌, ℕ, zero, suc, ◌+◌, ◌<◌, ◌≤◌, nat_lt, Bool, true, not, ◌&&◌, if◌then◌else◌, List, [], ◌∷◌, ◌++◌, length, filter, position, set, get_or, Option, Some, None, refl, ap, ◌∙◌, subst, inl, inr, arith}
+use Rattle.std.proofs.Common.{sym, map, ◌≡◌, ℕ, zero, suc, ◌+◌, ◌<◌, ◌≤◌, nat_lt, Bool, true, not, ◌&&◌, if◌then◌else◌, List, [], ◌∷◌, ◌++◌, length, filter, position, set, get_or, Option, Some, None, refl, ap, ◌∙◌, subst, inl, inr, arith}
 use Rattle.std.specs.List.{position_or_len, find}
 use Rattle.std.specs.Prelude.{option_map, is_some}
 use Rattle.std.proofs.lemmas.Option.{slice_get_read, slice_get_past, same_Some}
@@ -12,8 +12,11 @@ use Rattle.jn_base.specs.declared.names.BlockNo.{BlockNo}
 use Rattle.jn_base.specs.Names.{server_eq, file_eq, block_eq}
 use Rattle.jn_serial.specs.declared.files.StoredBlock.{StoredBlock}
 use Rattle.jn_serial.specs.declared.files.StoredFile.{StoredFile}
-use Rattle.jn_serial.specs.Stored.{stored_file, stored_block, block_count}
-use Rattle.jn_serial.specs.Edits.{is_file, is_block}
+use Rattle.jn_base.specs.declared.names.LockUnit.{LockUnit}
+use Rattle.jn_base.specs.declared.names.LockUnit.TheVariants.{File, Block}
+use Rattle.jn_order.specs.Files.{there}
+use Rattle.jn_serial.specs.Stored.{registers, AreSame, stored_file, stored_block, block_count}
+use Rattle.jn_serial.specs.Edits.{Contents, contents, is_file, is_block}
 
 -- the first file of a name, after another was put in its place
 pub stored_file-set : (s : ServerNo) (f : FileNo) (xs : List StoredFile) (i : ℕ) (y : StoredFile) → position_or_len (is_file s f) xs ≡ i → i < length xs → is_file s f y ≡ true → (q : ServerNo) (g : FileNo) → stored_file q g (set xs i y) ≡ (if server_eq s q && file_eq f g then Some y else stored_file q g xs)
@@ -123,3 +126,24 @@ some_file_place s f xs h = some_of (stored_file s f xs) (ap is_some (stored_file
     passes : {X : Type 0} (p : X → Bool) (xs : List X) → is_some (position p xs) ≡ true → is_some (find p xs) ≡ true
     passes p [] h = h
     passes p (x ∷ xs) h = elim (cases_Bool (p x)) [ inl e ↦ rw e | inr e ↦ rw e (passes p xs (grind (arith, nat_tests))) ]
+
+-- a register of a list of files, from the first of them and the rest
+abbrev register_of : ServerNo → LockUnit → Contents → Option (List ℕ) → Option (List ℕ)
+register_of q (File g) c rest = if server_eq c.server q && file_eq c.file g then Some there else rest
+register_of q (Block g b) c rest = if server_eq c.server q && file_eq c.file g then stored_block b c.blocks else rest
+
+registers-cons : (x : StoredFile) (xs : List StoredFile) (q : ServerNo) (u : LockUnit) → registers (x ∷ xs) q u ≡ register_of q u (contents x) (registers xs q u)
+registers-cons x xs q (File g) = elim (cases_Bool (is_file q g x)) [ inl h ↦ rw h | inr h ↦ rw h ]
+registers-cons x xs q (Block g b) = elim (cases_Bool (is_file q g x)) [ inl h ↦ rw h | inr h ↦ rw h ]
+
+pub registers-contents : (xs ys : List StoredFile) → map contents xs ≡ map contents ys → AreSame (registers xs) (registers ys)
+registers-contents [] [] e q u = refl
+registers-contents [] (y ∷ ys) e q u = absurd (cc e)
+registers-contents (x ∷ xs) [] e q u = absurd (cc e)
+registers-contents (x ∷ xs) (y ∷ ys) e q u =
+    let first : contents x ≡ contents y = cc in
+    let rest : map contents xs ≡ map contents ys = cc in
+    registers-cons x xs q u
+    ∙ ap (λ (c : Contents). register_of q u c (registers xs q u)) first
+    ∙ ap (register_of q u (contents y)) (registers-contents xs ys rest q u)
+    ∙ sym (registers-cons y ys q u)

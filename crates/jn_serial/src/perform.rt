@@ -57,7 +57,8 @@ fn remove(stored: &mut Vec<StoredFile>, server: ServerNo, file: FileNo) -> Answe
 }
 
 fn keep_below(blocks: &mut Vec<StoredBlock>, block: BlockNo)
-    ensures { blocks.new.items ≡ filter (λ (x : StoredBlock). nat_lt x.block.0 block.0) blocks.old.items }
+    ensures { blocks.new.items
+        ≡ filter (λ (x : StoredBlock). nat_lt x.block.0 block.0) blocks.old.items }
 {
     blocks.retain(|x| x.block.0 < block.0);
 }
@@ -91,7 +92,8 @@ fn read(stored: &Vec<StoredFile>, server: ServerNo, file: FileNo, block: BlockNo
 }
 
 fn put_block(blocks: &mut Vec<StoredBlock>, block: BlockNo, bytes: &Block) -> Result<(), AllocError>
-    ensures stored { OnOk result ((p : BlockNo) → stored_block p blocks.new.items ≡ (if block_eq block p then Some bytes.now else stored_block p blocks.old.items)) }
+    ensures stored { OnOk result ((p : BlockNo) → stored_block p blocks.new.items
+        ≡ (if block_eq block p then Some bytes.now else stored_block p blocks.old.items)) }
     ensures unchanged { OnErr result (blocks.new.items ≡ blocks.old.items) }
     ensures room { length blocks.new.items ≤ length blocks.old.items + 1 }
 {
@@ -132,7 +134,8 @@ pub fn do_op(
     op: &Op,
 ) -> Result<Answer, AllocError>
     ensures answer { IfOk result (λ a. a ≡ answer_to op.now (files_of files.old server)) }
-    ensures after { OnOk result (AreSame (files_of files.new) (all_files_after server op.now (files_of files.old))) }
+    ensures after { OnOk result
+        (AreSame (files_of files.new) (all_files_after server op.now (files_of files.old))) }
     ensures unchanged { OnErr result (AreSame (files_of files.new) (files_of files.old)) }
     ensures room { length files.new.stored.items ≤ length files.old.stored.items + 1 }
     ensures blocks { block_count files.new.stored.items ≤ block_count files.old.stored.items + 1 }

@@ -15,4 +15,4 @@ returns c =
     let f = c.args.file in
     let xs = c.args.stored.now.items in
     let x = some_file_place s f xs (grind (arith, c.if-is_none.ensures)) in
-    remove_there s f xs c.retain.new.self.items x.0 x.1 (filter_same _ (λ (x : StoredFile). not (is_file s f x)) _ (λ x b q h. search rules) _ _ c.retain.ensures.filtered)
+    remove_there s f xs c.retain.new.self.items x.0 x.1 (filter_same _ (λ (x : StoredFile). not (is_file s f x)) _ (λ x b q h. search rules) xs c.retain.new.self.items c.retain.ensures.filtered)

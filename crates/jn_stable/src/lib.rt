@@ -1,0 +1,10 @@
+//! Stable pages (Lampson and Sturgis 1979): each is kept as an ordered pair of careful pages.
+//!
+//! A put writes the first half and, once that has succeeded, the second, so that a stop leaves at
+//! least one of them whole. Of each pair at least one half is always good.
+#![tactic(auto)]
+
+mod pairs;
+mod power;
+
+pub use pairs::Pairs;

@@ -1,0 +1,93 @@
+// Pairs of careful pages as a store.
+ghost use Rattle.std.specs.Prelude.{◌≡◌, ◌≤◌, ◌<◌, ◌/◌, ◌^◌, ◌*◌, ℕ};
+ghost use Rattle.std.proofs.Common.{arith};
+ghost use Rattle.jn_device.specs.Device.{IsSound};
+ghost use Rattle.jn_store.specs.Pairs.{pairs_view};
+
+use jn_base::{Page, Stopped};
+use jn_careful::Careful;
+use jn_phys::PhysDisk;
+use jn_store::StableStore;
+use std::marker::Model;
+
+/// Stable page i on the physical pages i and i + N of a disk of 2N. Contracts see the disk itself.
+#[derive(Drop)]
+pub struct Pairs<D: PhysDisk> {
+    pub(crate) disk: Careful<D>,
+}
+
+impl<D: PhysDisk> Model for Pairs<D> {
+    ghost Value = { D };
+
+    ghost view = { λ s. s.disk };
+
+    ghost invariant = { λ s. IsSound (D.state s.disk) };
+}
+
+impl<D: PhysDisk> Pairs<D> {
+    /// A store on a disk with an even number of pages, of whose pairs at least one half is good.
+    pub fn new(disk: D) -> Self
+        requires even { 2 * ((D.state disk).count / 2) ≡ (D.state disk).count }
+        requires sound { IsSound (D.state disk) }
+        ensures { result ≡ disk }
+    {
+        Pairs {
+            disk: Careful::new(disk),
+        }
+    }
+
+    /// The disk, of whose pairs at least one half is good.
+    pub fn into_inner(self) -> D
+        ensures disk { result ≡ self }
+        ensures sound { IsSound (D.state result) }
+    {
+        let Pairs { disk } = self;
+        disk.into_inner()
+    }
+}
+
+impl<D: PhysDisk> StableStore for Pairs<D> {
+    ghost view = { λ s. pairs_view (D.state s) };
+
+    ghost count_fits = { λ s. let fits = D.count_fits s in Prim.omega (arith, fits) };
+
+    fn count(&self) -> u32 {
+        self.disk.count() / 2
+    }
+
+    fn get(&mut self, i: u32) -> Result<Page, Stopped> {
+        let other = i + self.disk.count() / 2;
+        if let Some(page) = self.disk.get(i)? {
+            return Ok(page);
+        }
+        let Some(page) = self.disk.get(other)? else {
+            unreachable!()
+        };
+        Ok(page)
+    }
+
+    fn put(&mut self, i: u32, page: &Page) -> Result<(), Stopped> {
+        let other = i + self.disk.count() / 2;
+        self.disk.put(i, page)?;
+        self.disk.put(other, page)?;
+        Ok(())
+    }
+
+    fn cleanup(&mut self, i: u32) -> Result<bool, Stopped> {
+        let other = i + self.disk.count() / 2;
+        let first = self.disk.get(i)?;
+        let second = self.disk.get(other)?;
+        match (first, second) {
+            (Some(a), Some(b)) => {
+                if a == b {
+                    return Ok(false);
+                }
+                self.disk.put(other, &a)?;
+            }
+            (Some(a), None) => self.disk.put(other, &a)?,
+            (None, Some(b)) => self.disk.put(i, &b)?,
+            (None, None) => unreachable!(),
+        }
+        Ok(true)
+    }
+}
