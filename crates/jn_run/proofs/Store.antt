@@ -1,6 +1,6 @@
 -- What the calls of the plain store do to its pages.
-use Rattle.std.proofs.Common.{◌≡◌, ◌≢◌, ◌<◌, inl, inr, ℕ, Bool, true, false, List, refl, sym, ap, ◌∙◌, arith, slice_index}
-use Rattle.std.specs.Prelude.{nat_lt, nat_eq, if◌then◌else◌, []}
+use Rattle.std.proofs.Common.{◌≡◌, ◌<◌, inl, inr, ℕ, Bool, true, false, List, refl, sym, ap, ◌∙◌, arith, slice_index}
+use Rattle.std.specs.Prelude.{nat_lt, if◌then◌else◌, []}
 use Rattle.std.proofs.lemmas.Bool.{cases_eq, cases_lt}
 use Rattle.std.proofs.lemmas.Bool.Decides.{nat_tests}
 use Rattle.std.proofs.Math.Path.{fun_ext}

@@ -1,5 +1,5 @@
 -- Lines that print the files of a disk, part by part.
-use Rattle.std.specs.Prelude.{◌≡◌, ◌<◌, ◌≤◌, ◌++◌, ℕ, Bool, false, nat_eq, nat_lt, min, if◌then◌else◌, List, drop, slice_index, Option, Some, None, MatchOption, IfSome, IsSome}
+use Rattle.std.specs.Prelude.{◌≡◌, ◌<◌, ◌≤◌, ◌++◌, ℕ, Bool, false, nat_eq, nat_lt, min, if◌then◌else◌, List, drop, slice_index, Option, Some, None, MatchOption, IfSome}
 use Rattle.byteorder.specs.Endian.{big_number}
 use Rattle.jn_base.specs.declared.names.FileNo.{FileNo}
 use Rattle.jn_base.specs.declared.names.BlockNo.{BlockNo}
@@ -10,7 +10,7 @@ use Rattle.jn_report.specs.declared.line.Text.{Text}
 use Rattle.jn_report.specs.declared.line.Line.{Line}
 use Rattle.jn_serial.specs.Lines.{says}
 use Rattle.jn_serial.specs.Shown.{AllAsIn, accounts_file, accounts_block}
-use Rattle.jn_run.specs.Pages.{Counts, Pages, head_place, head_of, server_0, only_server_0, ArePrints}
+use Rattle.jn_run.specs.Pages.{Counts, Pages, head_place, server_0, only_server_0, ArePrints}
 
 -- the number of the file whose head a page is, if it is a used one
 abbrev pub number_in : List ℕ → Option ℕ

@@ -45,6 +45,8 @@ const SERVER: ServerNo = ServerNo(0);
 /// Where the epoch stands in the root.
 const EPOCH_AT: usize = 12;
 
+/// The pages of the server: contracts see their counts and, by number, their bytes. The addresses of
+/// a used head lead to data pages that there are.
 #[derive(Drop)]
 pub struct Disk {
     store: ArrayStore,
@@ -88,10 +90,9 @@ impl Disk {
         ensures others { (i : ℕ) → i ≢ 0 → pages_of self.new i ≡ pages_of self.old i }
         ensures counts { counts_of self.new ≡ counts_of self.old }
     {
-        let mut root = self.page(0);
-        let epoch = BigEndian::read_u32(&root[EPOCH_AT..16]) + 1;
-        BigEndian::write_u32(&mut root[EPOCH_AT..16], epoch);
-        self.put(0, &root);
+        let root = self.page(0);
+        let epoch = BigEndian::read_u32(&root[EPOCH_AT..]) + 1;
+        self.put(0, &with_epoch(&root, epoch));
         epoch
     }
 
@@ -278,6 +279,16 @@ fn first_root() -> Page
     root.finish()
 }
 
+/// A root with another epoch.
+fn with_epoch(root: &Page, epoch: u32) -> Page
+    ensures root { result ≡ with_epoch root.now epoch }
+    ensures epoch { epoch_in result ≡ epoch }
+{
+    let mut page = *root;
+    BigEndian::write_u32(&mut page[EPOCH_AT..EPOCH_AT + 4], epoch);
+    page
+}
+
 /// A line at the end.
 fn print_line(text: Text) -> Line
     ensures { result ≡ record { when = When.End; text = text } }
@@ -291,7 +302,6 @@ fn print_line(text: Text) -> Line
 #[cfg(test)]
 mod tests {
     use super::*;
-    use jn_serial::StoredFile;
     use std::test::Fail;
 
     fn stored(block: u16, byte: u8) -> StoredBlock {
@@ -299,6 +309,29 @@ mod tests {
             block: BlockNo(block),
             bytes: [byte; 448],
         }
+    }
+
+    fn file_of(alloc: Global, file: u32, blocks: &[StoredBlock]) -> Result<StoredFile, AllocError>
+        ensures { IfOk result (λ x. length x.blocks.items ≡ length blocks.now) }
+    {
+        Ok(StoredFile {
+            server: SERVER,
+            file: FileNo(file),
+            blocks: blocks.to_vec(alloc)?,
+        })
+    }
+
+    /// Files 9 and 7, whose blocks stand out of order. Block 0 of file 9 stands twice.
+    fn two_files(alloc: Global) -> Result<Files, AllocError>
+        ensures heads { IfOk result (λ files. length files.stored.items ≤ 16) }
+        ensures leaves { IfOk result (λ files. block_count files.stored.items ≤ 128) }
+    {
+        let nine = file_of(alloc, 9, &[stored(119, 1), stored(0, 2), stored(0, 3)])?;
+        let seven = file_of(alloc, 7, &[stored(5, 4), stored(2, 5)])?;
+        let mut files = Vec::new(alloc);
+        files.push(nine)?;
+        files.push(seven)?;
+        Ok(Files { stored: files })
     }
 
     /// Whether a line prints the file, or the block of it with this byte at its end.
@@ -314,27 +347,9 @@ mod tests {
 
     #[test]
     fn files_are_printed_in_order(rt: HostRuntime) -> Result<(), Fail> {
-        let mut nine = Vec::new(rt.alloc());
-        nine.push(stored(119, 1))?;
-        nine.push(stored(0, 2))?;
-        nine.push(stored(0, 3))?;
-        let mut seven = Vec::new(rt.alloc());
-        seven.push(stored(5, 4))?;
-        seven.push(stored(2, 5))?;
-        let mut files = Vec::new(rt.alloc());
-        for (number, blocks) in [(9, nine), (7, seven)] {
-            files.push(StoredFile {
-                server: SERVER,
-                file: FileNo(number),
-                blocks,
-            })?;
-        }
-        let files = Files { stored: files };
-
         let mut disk = Disk::new(rt.alloc())?;
         assert_eq!(rt; disk.raise_epoch(), 1);
-        assert!(rt; files.stored.len() <= 16);
-        disk.carry_out(&files);
+        disk.carry_out(&two_files(rt.alloc())?);
         let mut lines = Vec::new(rt.alloc());
         disk.print(&mut lines)?;
 

@@ -1,5 +1,5 @@
 -- A blank store has no used head, and the root is none.
-use Rattle.std.proofs.Common.{◌≡◌, ◌≢◌, ◌+◌, ℕ, List, slice_index, ap, ◌∙◌, arith}
+use Rattle.std.proofs.Common.{◌≢◌, ℕ, List, slice_index, ap, ◌∙◌, arith}
 use Rattle.jn_store.proofs.Choices.{with_other}
 use Rattle.jn_run.specs.Pages.{Pages, head_place}
 use Rattle.jn_run.specs.Heads.{counts}

@@ -1,5 +1,4 @@
-use Rattle.std.proofs.Common.{◌≡◌, ◌+◌, ℕ, List, refl, sym, ap, subst, ◌∙◌}
-use Rattle.std.specs.Prelude.{Option}
+use Rattle.std.proofs.Common.{◌≡◌, ◌+◌, refl, sym, ap, subst, ◌∙◌}
 use Rattle.jn_run.specs.Pages.{Counts, Pages, head_place}
 use Rattle.jn_run.specs.Printed.{IsLeast, least_with, number_in}
 use Rattle.jn_run.specs.Disk.{counts_of, pages_of}

@@ -1,10 +1,9 @@
-use Rattle.std.proofs.Common.{◌≡◌, ◌⊎◌, inl, inr, ◌+◌, ◌<◌, ◌≤◌, ℕ, List, refl, sym, ap, subst, ◌∙◌, arith}
+use Rattle.std.proofs.Common.{◌≡◌, inl, inr, ◌+◌, ℕ, sym, ap, subst, ◌∙◌}
 use Rattle.std.specs.Prelude.{Option, Some, None}
 use Rattle.std.proofs.lemmas.Bool.{cases_lt}
 use Rattle.jn_base.specs.declared.names.FileNo.{FileNo}
-use Rattle.jn_base.specs.declared.names.LockUnit.{LockUnit}
 use Rattle.jn_order.specs.Files.{Files}
-use Rattle.jn_run.specs.Pages.{Counts, Pages, files_of_pages, PrintsFiles}
+use Rattle.jn_run.specs.Pages.{Counts, Pages, files_of_pages}
 use Rattle.jn_run.specs.Printed.{Prints, IsBelow, IsOfFile, IsLeast, file_in}
 use Rattle.jn_run.specs.Disk.{counts_of, pages_of}
 use Rattle.jn_run.proofs.Printed.{prints_then, prints_files, one_more_file, below_least}

@@ -1,10 +1,10 @@
-use Rattle.std.proofs.Common.{◌≡◌, ◌⊎◌, inl, inr, ◌+◌, ◌-◌, ◌<◌, ◌≤◌, ◌++◌, ◌∷◌, [], ℕ, List, take, refl, sym, ap, subst, ◌∙◌, arith}
-use Rattle.std.specs.Prelude.{Option, Some, option_and_then}
+use Rattle.std.proofs.Common.{◌≡◌, inl, ◌-◌, ◌++◌, ◌∷◌, [], ℕ, List, take, refl, sym, ap, subst, ◌∙◌, arith}
+use Rattle.std.specs.Prelude.{Some, option_and_then}
 use Rattle.jn_base.specs.declared.names.LockUnit.TheVariants.{Block}
 use Rattle.jn_report.specs.declared.line.When.TheVariants.{End}
 use Rattle.jn_report.specs.declared.line.Text.TheVariants as says
 use Rattle.jn_report.specs.declared.line.Line.{Line}
-use Rattle.jn_run.specs.Pages.{Counts, Pages, files_of_pages, server_0, block_in, data_place, address_in}
+use Rattle.jn_run.specs.Pages.{Counts, Pages, files_of_pages, server_0, block_in, data_place}
 use Rattle.jn_run.specs.Printed.{Prints, IsBlock}
 use Rattle.jn_run.specs.Disk.{counts_of, pages_of}
 use Rattle.jn_run.proofs.Printed.{head_fits, block_at, page_accounts, prints_line}

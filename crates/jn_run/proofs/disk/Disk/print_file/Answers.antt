@@ -1,6 +1,5 @@
-use Rattle.std.proofs.Common.{◌≡◌, ◌+◌, ℕ, List, refl, sym, ap, subst, ◌∙◌}
+use Rattle.std.proofs.Common.{◌≡◌, ◌+◌, ap, subst, ◌∙◌}
 use Rattle.jn_base.specs.declared.names.BlockNo.{BlockNo}
-use Rattle.jn_report.specs.declared.line.Line.{Line}
 use Rattle.jn_order.specs.Files.{Files}
 use Rattle.jn_run.specs.Pages.{Counts, Pages, files_of_pages}
 use Rattle.jn_run.specs.Printed.{Prints, IsBlock, IsOfFirstBlocks}

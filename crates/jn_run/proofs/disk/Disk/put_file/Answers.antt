@@ -1,9 +1,9 @@
-use Rattle.std.proofs.Common.{◌≡◌, ◌≤◌, ◌<◌, ◌+◌, ℕ, List, length, sym, ap, subst, ◌∙◌, arith, refl}
+use Rattle.std.proofs.Common.{◌≡◌, ◌+◌, ℕ, List, length, sym, ap, subst, ◌∙◌, arith, refl}
 use Rattle.jn_store.specs.Choices.{with_page}
 use Rattle.jn_store.proofs.Choices.{with_same}
 use Rattle.jn_serial.specs.declared.files.StoredBlock.{StoredBlock}
 use Rattle.jn_run.specs.Pages.{Counts, Pages, head_place}
-use Rattle.jn_run.specs.Heads.{AddressesFit, AreStored, IsHeadPage, HoldsFile, address_of}
+use Rattle.jn_run.specs.Heads.{AddressesFit, AreStored, IsHeadPage, HoldsFile}
 use Rattle.jn_run.specs.Disk.{counts_of, pages_of}
 use Rattle.jn_run.proofs.Heads.{address_le, fits_with_head, stored_with_head, holds_file}
 use Rattle.jn_run.proofs.disk.Disk.put_file.Goals as goal
