@@ -1,5 +1,5 @@
 -- Each chapter of the story keeps what holds so far.
-use Rattle.std.proofs.Common.{◌≡◌, ◌≢◌, ◌⊎◌, inl, inr, ℕ, suc, ◌+◌, ◌*◌, ◌<◌, ◌≤◌, Bool, true, false, nat_eq, ◌||◌, ◌&&◌, cond, List, [], ◌∷◌, ◌++◌, length, take, Option, Some, None, refl, sym, ◌∙◌, ap, subst, arith, append_assoc, length-append}
+use Rattle.std.proofs.Common.{append-nil, ◌≡◌, ◌≢◌, ◌⊎◌, inl, inr, ℕ, suc, ◌+◌, ◌*◌, ◌<◌, ◌≤◌, Bool, true, false, nat_eq, ◌||◌, ◌&&◌, cond, List, [], ◌∷◌, ◌++◌, length, take, Option, Some, None, refl, sym, ◌∙◌, ap, subst, arith, append_assoc, length-append}
 use Rattle.std.proofs.lemmas.Bool.Decides.{nat_tests}
 use Rattle.jn_base.specs.declared.names.ServerNo.{ServerNo}
 use Rattle.jn_base.specs.declared.names.Tid.{Tid}
@@ -24,7 +24,7 @@ use Rattle.jn_serial.proofs.Ops.{AnswersWithin}
 use Rattle.jn_run.specs.Form.{client_1}
 use Rattle.jn_run.specs.Pages.{server_0}
 use Rattle.jn_run.specs.Story.{Chapter, line_at, the_tid}
-use Rattle.jn_run.proofs.OneClient.{Talk, TalksOn, talk-more, Stage, Idle, Running, Ordered, next_number, ordered-silent, ordered-answer, ordered-begun, ordered-committed, ordered-plain, IsPlain, IsUnused, replay-committed, length-more, nothing_more}
+use Rattle.jn_run.proofs.OneClient.{Talk, TalksOn, talk-more, Stage, Idle, Running, Ordered, next_number, ordered-silent, ordered-answer, ordered-begun, ordered-committed, ordered-plain, IsPlain, IsUnused, replay-committed, length-more}
 
 -- what holds between two chapters: nothing is outstanding
 pub record SoFar (es : List Event) (ls : List Line) (stage : Stage) : Type 0 where
@@ -37,7 +37,7 @@ pub record SoFar (es : List Event) (ls : List Line) (stage : Stage) : Type 0 whe
 given : (es : List Event) (ls : List Line) (out : Outstanding) (command : Command) → Talk es ls out
     → Talk (es ++ events.Command client_1 command ∷ []) ls (with_asked out client_1 (Some (record { number = next_number es; command = command })))
 given es ls out command t =
-    subst (λ (m : List Line). Talk (es ++ events.Command client_1 command ∷ []) m (with_asked out client_1 (Some (record { number = next_number es; command = command })))) (nothing_more ls)
+    subst (λ (m : List Line). Talk (es ++ events.Command client_1 command ∷ []) m (with_asked out client_1 (Some (record { number = next_number es; command = command })))) (append-nil ls)
     (talk-more es ls out (events.Command client_1 command) [] t (record {
       within = tt;
       below = tt;

@@ -62,14 +62,15 @@ pages-hold g pages files holds a = AreSame-equal (only_server_0 (files_of_pages 
     there : (u : LockUnit) → files_of_pages g pages u ≡ files server_0 u
     there (File f) = holds.file f
     there (Block f p) = elim (leb_tells 120 p.0) [
-        inl h ↦ no-block-past g pages f p h.1 ∙ sym (a.blocks f p h.1)
-        | inr h ↦ holds.block f p h.1
-      ]
+      | inl h ↦ no-block-past g pages f p h.1 ∙ sym (a.blocks f p h.1)
+      | inr h ↦ holds.block f p h.1
+    ]
+
     same : (s : ServerNo) (u : LockUnit) → only_server_0 (files_of_pages g pages) s u ≡ files s u
     same s u = elim (server_tells s server_0) [
-        inl h ↦ ap (λ (b : Bool). cond b (files_of_pages g pages u) None) h.0 ∙ there u ∙ ap (λ (q : ServerNo). files q u) (sym h.1)
-        | inr h ↦ ap (λ (b : Bool). cond b (files_of_pages g pages u) None) h.0 ∙ sym (a.elsewhere s u h.0)
-      ]
+      | inl h ↦ ap (λ (b : Bool). cond b (files_of_pages g pages u) None) h.0 ∙ there u ∙ ap (λ (q : ServerNo). files q u) (sym h.1)
+      | inr h ↦ ap (λ (b : Bool). cond b (files_of_pages g pages u) None) h.0 ∙ sym (a.elsewhere s u h.0)
+    ]
 
 AllAsIn-append : (files : AllFiles) (xs ys : List Line) → AllAsIn files xs → AllAsIn files ys → AllAsIn files (xs ++ ys)
 AllAsIn-append files [] ys a b = b
@@ -98,12 +99,14 @@ ending-shows epoch prints files shows a s = record {
   where
     seen : (test : Text → Bool) → test (says.Down server_0) ≡ false → test (says.Up server_0 epoch) ≡ false → test (says.Commits 1) ≡ false → says test (ending epoch prints) ≡ says test prints
     seen test down up commits = prints-alone epoch prints test down up commits
+
     file : (f : FileNo) → says (accounts_file s f) (ending epoch prints) ≡ false → ((server_eq s server_0 ≡ true) × (s ≡ server_0)) ⊎ ((server_eq s server_0 ≡ false) × (s ≢ server_0)) → files s (File f) ≡ None
     file f h (inl k) = subst (λ (q : ServerNo). files q (File f) ≡ None) (sym k.1) (shows.no_other_file f (subst (λ (q : ServerNo). says (accounts_file q f) prints ≡ false) k.1 (sym (seen (accounts_file s f) refl refl refl) ∙ h)))
     file f h (inr k) = a.elsewhere s (File f) k.0
+
     block : (f : FileNo) (p : BlockNo) → says (prints_file s f) (ending epoch prints) ≡ true → says (accounts_block s f p) (ending epoch prints) ≡ false → ((server_eq s server_0 ≡ true) × (s ≡ server_0)) ⊎ ((server_eq s server_0 ≡ false) × (s ≢ server_0)) → files s (Block f p) ≡ None
     block f p h k (inl e) = subst (λ (q : ServerNo). files q (Block f p) ≡ None) (sym e.1)
         (shows.no_other_block f p
-          (subst (λ (q : ServerNo). says (prints_file q f) prints ≡ true) e.1 (sym (seen (prints_file s f) refl refl refl) ∙ h))
-          (subst (λ (q : ServerNo). says (accounts_block q f p) prints ≡ false) e.1 (sym (seen (accounts_block s f p) refl refl refl) ∙ k)))
+        (subst (λ (q : ServerNo). says (prints_file q f) prints ≡ true) e.1 (sym (seen (prints_file s f) refl refl refl) ∙ h))
+        (subst (λ (q : ServerNo). says (accounts_block q f p) prints ≡ false) e.1 (sym (seen (accounts_block s f p) refl refl refl) ∙ k)))
     block f p h k (inr e) = a.elsewhere s (Block f p) e.0

@@ -1,5 +1,5 @@
 -- What a run leaves, from what was told of its chapters.
-use Rattle.std.proofs.Common.{◌≡◌, ◌≢◌, ℕ, zero, suc, ◌+◌, ◌*◌, ◌<◌, ◌≤◌, Bool, true, false, cond, List, [], ◌∷◌, ◌++◌, length, take, drop, Option, Some, None, option_map, option_and_then, Result, Ok, Err, is_ok, IsErr, IsErrAnd, refl, sym, ◌∙◌, ap, subst, arith, append_assoc}
+use Rattle.std.proofs.Common.{append-nil, ◌≡◌, ◌≢◌, ℕ, zero, suc, ◌+◌, ◌*◌, ◌<◌, ◌≤◌, Bool, true, false, cond, List, [], ◌∷◌, ◌++◌, length, take, drop, Option, Some, None, option_map, option_and_then, Result, Ok, Err, is_ok, IsErr, IsErrAnd, refl, sym, ◌∙◌, ap, subst, arith, append_assoc}
 use Rattle.jn_base.specs.declared.names.FileNo.{FileNo}
 use Rattle.jn_base.specs.declared.names.ServerNo.{ServerNo}
 use Rattle.jn_base.specs.declared.names.LockUnit.{LockUnit}
@@ -24,7 +24,6 @@ use Rattle.jn_run.specs.Outside.{Reports, Tells}
 use Rattle.jn_run.specs.Story.{Chapter, lines_in, events_in, story, op_chapters, end_chapter, opening_chapters, files_at_end}
 use Rattle.jn_run.specs.Ending.{end_line, ending}
 use Rattle.jn_run.specs.Runs.{AllWriteWithin, WholeRun, PartRun, Ran, ArePrinted}
-use Rattle.jn_run.proofs.OneClient.{nothing_more}
 use Rattle.jn_run.proofs.Story.{story-told}
 use Rattle.jn_run.proofs.Ending.{holds, ends-run, AreOfEnd, AreOfEnd-append, AreOfEnd-prints}
 use Rattle.jn_run.proofs.Prints.{at-server-0, no-files-at-server-0, pages-hold, ending-shows, AtServer0}
@@ -86,16 +85,16 @@ ran-to-end a b c f g h ops epoch counts pages lines r told within hold printed r
     let shows : ShowsFiles (files_at_end no_files ops) server_0 printed.prints = subst (λ (fs : AllFiles). ShowsFiles fs server_0 printed.prints) same printed.shows in
     let quiet : AreOfEnd (ending epoch printed.prints) = (refl, refl, (refl, refl, AreOfEnd-append printed.prints (end_line (says.Commits 1) ∷ []) (AreOfEnd-prints printed.prints printed.are_prints) (refl, refl, tt))) in
     let whole : IsRun (events_in (story ops)) (lines_in (story ops) ++ ending epoch printed.prints) =
-        ends-run (events_in (story ops)) (lines_in (story ops)) (ending epoch printed.prints) (files_at_end no_files ops) (story-told ops).ends quiet (ending-shows epoch printed.prints (files_at_end no_files ops) shows at) in
+    ends-run (events_in (story ops)) (lines_in (story ops)) (ending epoch printed.prints) (files_at_end no_files ops) (story-told ops).ends quiet (ending-shows epoch printed.prints (files_at_end no_files ops) shows at) in
     let run : IsRun (events_of ops) (lines_in (story ops) ++ lines) =
-        subst (λ (ls : List Line). IsRun (events_of ops) (lines_in (story ops) ++ ls)) (sym printed.all) (subst (λ (es : List Event). IsRun es (lines_in (story ops) ++ ending epoch printed.prints)) (events_in-story ops) whole) in
+    subst (λ (ls : List Line). IsRun (events_of ops) (lines_in (story ops) ++ ls)) (sym printed.all) (subst (λ (es : List Event). IsRun es (lines_in (story ops) ++ ending epoch printed.prints)) (events_in-story ops) whole) in
     let text = sym (report_text-append (lines_in (story ops)) lines) in
     record {
       count = omega (arith, told.count, reported.count);
       whole = λ ok. record { lines = lines_in (story ops) ++ lines; run = run; took = subst (λ (t : List ℕ). Took a c t) text (took-then a b c (report_text (lines_in (story ops))) (report_text lines) (told.whole refl) (reported.whole ok)) };
       part = λ cut. record {
         lines = lines_in (story ops) ++ lines;
-        run = record { done = events_of ops; others = []; all = sym (nothing_more (events_of ops)); holds = run.holds };
+        run = record { done = events_of ops; others = []; all = sym (append-nil (events_of ops)); holds = run.holds };
         took = subst (λ (t : List ℕ). TookFront a c t) text (front-then a b c (report_text (lines_in (story ops))) (report_text lines) (told.whole refl) (reported.front cut));
       };
       rose = λ e. rose_since f g h told.count reported.count (reported.rose e);
