@@ -1,16 +1,9 @@
 -- The end of a run: the lines that print the files show what the commits give.
-use Rattle.std.proofs.Common.{append-nil, ◌≡◌, ◌≢◌, ◌⊎◌, inl, inr, ℕ, zero, suc, ◌+◌, ◌<◌, ◌≤◌, Bool, true, false, nat_eq, nat_lt, ◌||◌, ◌&&◌, cond, List, [], ◌∷◌, ◌++◌, length, take, drop, Option, Some, None, refl, sym, ◌∙◌, ap, subst, arith, append_assoc}
-use Rattle.std.proofs.lemmas.Bool.Decides.{nat_tests}
+use Rattle.std.proofs.Common.{append-nil, ◌≡◌, ℕ, zero, suc, ◌+◌, Bool, true, false, ◌||◌, cond, List, [], ◌∷◌, ◌++◌, length, Option, Some, None, refl, sym, ◌∙◌, ap, subst}
 use Rattle.jn_base.specs.declared.names.ServerNo.{ServerNo}
 use Rattle.jn_base.specs.declared.names.ClientNo.{ClientNo}
-use Rattle.jn_base.specs.declared.names.FileNo.{FileNo}
-use Rattle.jn_base.specs.declared.names.BlockNo.{BlockNo}
 use Rattle.jn_base.specs.declared.names.Tid.{Tid}
-use Rattle.jn_base.specs.declared.names.LockUnit.{LockUnit}
-use Rattle.jn_base.specs.declared.names.LockUnit.TheVariants.{File, Block}
-use Rattle.jn_base.specs.Names.{server_eq, tid_eq}
-use Rattle.jn_base.proofs.Tells.{server_tells}
-use Rattle.jn_order.specs.Files.{Files, AllFiles, no_files}
+use Rattle.jn_order.specs.Files.{AllFiles, no_files}
 use Rattle.jn_schedule.specs.declared.Event.{Event}
 use Rattle.jn_report.specs.declared.line.When.{When}
 use Rattle.jn_report.specs.declared.line.When.TheVariants.{Event as AtEvent, End}
@@ -18,19 +11,18 @@ use Rattle.jn_report.specs.declared.line.Text.{Text}
 use Rattle.jn_report.specs.declared.line.Text.TheVariants as says
 use Rattle.jn_report.specs.declared.line.Line.{Line}
 use Rattle.jn_serial.specs.declared.files.Performed.{Performed}
-use Rattle.jn_serial.specs.Lines.{when_eq, lines_at, lines_before, says, event_at, history_of, has_tid, commit_in}
+use Rattle.jn_serial.specs.Lines.{when_eq, lines_at, says, event_at, history_of, commit_in}
 use Rattle.jn_serial.specs.Order.{answered_by, owner_after, ops_from, ops_of, replay, AgreesFrom}
-use Rattle.jn_serial.specs.Told.{Told, NamesBefore, NamesOnce, NamesNone}
-use Rattle.jn_serial.specs.Shown.{IsAsIn, AllAsIn, prints_file, accounts_file, accounts_block, is_locked, ShowsFiles, ShownSoFar, ShownAtEnd}
+use Rattle.jn_serial.specs.Told.{NamesBefore, NamesOnce, NamesNone}
+use Rattle.jn_serial.specs.Shown.{is_locked, ShowsFiles}
 use Rattle.jn_serial.specs.Follows.{nothing_asked, FollowsEvent, FollowsFrom, after_one, AllOfEvents, is_answer, Follows}
 use Rattle.jn_serial.proofs.Growth.{AreWithin}
-use Rattle.jn_serial.proofs.Ops.{DidTheSame, replay-by_ops, AgreesFrom-by_ops}
-use Rattle.jn_serial.proofs.Orders.{AreSame-equal, ops_of-append, owner_then, history_of-append, lines_at-append, says-append, NamesBefore-append, NamesNone-append}
-use Rattle.jn_run.specs.Pages.{server_0, only_server_0, ArePrints, is_print}
-use Rattle.jn_run.specs.Story.{events_in, lines_in}
-use Rattle.jn_run.specs.Ending.{end_line, ending}
+use Rattle.jn_serial.proofs.Ops.{replay-by_ops, AgreesFrom-by_ops}
+use Rattle.jn_serial.proofs.Orders.{ops_of-append, owner_then, history_of-append, lines_at-append, NamesBefore-append, NamesNone-append}
+use Rattle.jn_run.specs.Pages.{ArePrints, is_print}
+use Rattle.jn_run.specs.Ending.{end_line}
 use Rattle.jn_run.specs.Outcome.{Holds, IsRun}
-use Rattle.jn_run.proofs.OneClient.{Talk, NoShows, is_show, Idle, Stage, Ordered, next_number, DidTheSame-each}
+use Rattle.jn_run.proofs.OneClient.{NoShows, is_show, Stage, next_number, DidTheSame-each}
 use Rattle.jn_run.proofs.Chapters.{SoFar}
 use Rattle.jn_run.proofs.Story.{Ends}
 

@@ -1,12 +1,10 @@
 -- One client at one server: what its talk and its transactions keep, event by event.
-use Rattle.std.proofs.Common.{◌≡◌, ◌≢◌, ◌⊎◌, inl, inr, ℕ, suc, ◌+◌, ◌<◌, ◌≤◌, Bool, true, false, ◌||◌, cond, List, [], ◌∷◌, ◌++◌, length, Option, Some, None, refl, sym, ◌∙◌, ap, subst, arith, append_assoc, append-nil}
-use Rattle.std.proofs.lemmas.Bool.Decides.{nat_tests}
+use Rattle.std.proofs.Common.{◌≡◌, ◌⊎◌, inl, inr, ℕ, suc, ◌+◌, ◌≤◌, Bool, true, false, ◌||◌, cond, List, [], ◌∷◌, ◌++◌, length, Option, Some, None, refl, sym, ◌∙◌, ap, subst, arith, append-nil}
 use Rattle.jn_base.specs.declared.names.ClientNo.{ClientNo}
-use Rattle.jn_base.specs.declared.names.ServerNo.{ServerNo}
 use Rattle.jn_base.specs.declared.names.Tid.{Tid}
 use Rattle.jn_base.specs.Names.{tid_eq}
 use Rattle.jn_base.proofs.Tells.{tid_tells}
-use Rattle.jn_order.specs.Files.{AllFiles, no_files, answer_to}
+use Rattle.jn_order.specs.Files.{AllFiles, no_files}
 use Rattle.jn_schedule.specs.declared.Event.{Event}
 use Rattle.jn_schedule.specs.declared.Event.TheVariants.{Show}
 use Rattle.jn_report.specs.declared.line.When.{When}
@@ -15,11 +13,11 @@ use Rattle.jn_report.specs.declared.line.Text.{Text}
 use Rattle.jn_report.specs.declared.line.Text.TheVariants as says
 use Rattle.jn_report.specs.declared.line.Line.{Line}
 use Rattle.jn_serial.specs.declared.files.Performed.{Performed}
-use Rattle.jn_serial.specs.Lines.{lines_at, event_at, history_of, has_tid, commit_in}
-use Rattle.jn_serial.specs.Order.{answered, answered_by, owner_after, is_client, ops_from, ops_of, files_then, replay, GivesAnswers, AgreesFrom, Agrees}
-use Rattle.jn_serial.specs.Told.{IsNamedWhere, NamesBefore, NamesOnce, IsNotNamedWhere, NamesNone, Told}
-use Rattle.jn_serial.specs.Follows.{Outstanding, nothing_asked, FollowsEvent, FollowsFrom, after_one, AllOfEvents, IsOfEvent, is_answer, Follows}
-use Rattle.jn_serial.proofs.Growth.{IsWithin, AreWithin, AreWithin-wider, AreWithin-append, lines_at-newest, outstanding_after, follows-more, follows-earlier, outstanding-more, outstanding-earlier}
+use Rattle.jn_serial.specs.Lines.{lines_at, history_of, has_tid, commit_in}
+use Rattle.jn_serial.specs.Order.{answered, owner_after, is_client, ops_from, ops_of, files_then, replay, GivesAnswers, AgreesFrom, Agrees}
+use Rattle.jn_serial.specs.Told.{IsNamedWhere, NamesOnce, IsNotNamedWhere, NamesNone, Told}
+use Rattle.jn_serial.specs.Follows.{Outstanding, nothing_asked, FollowsEvent, FollowsFrom, after_one, AllOfEvents, IsOfEvent}
+use Rattle.jn_serial.proofs.Growth.{AreWithin, AreWithin-wider, AreWithin-append, lines_at-newest, outstanding_after, follows-more, follows-earlier, outstanding-more, outstanding-earlier}
 use Rattle.jn_serial.proofs.Ops.{AllAnswerWithin, AllAnswerWithin-wider, AllAnswerWithin-append, ops_from-events, DidTheSame, replay-by_ops, AgreesFrom-by_ops, AgreesFrom-more, replay-more}
 use Rattle.jn_serial.proofs.Orders.{owner_then, owner_then-append, ops_from-append, history_of-append, has_tid-append, NamesBefore-append, NamesNone-append}
 use Rattle.jn_serial.proofs.Telling.{NamesOnce-more}

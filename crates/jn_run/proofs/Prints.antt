@@ -1,5 +1,5 @@
 -- The lines that print a server's files, among the others at the end.
-use Rattle.std.proofs.Common.{◌≡◌, ◌≢◌, ◌⊎◌, inl, inr, ℕ, ◌+◌, ◌<◌, ◌≤◌, Bool, true, false, nat_lt, nat_le, ◌||◌, ◌&&◌, cond, List, [], ◌∷◌, ◌++◌, Option, Some, None, option_and_then, refl, sym, ◌∙◌, ap, subst, arith}
+use Rattle.std.proofs.Common.{◌≡◌, ◌≢◌, ◌⊎◌, inl, inr, ℕ, ◌≤◌, Bool, true, false, ◌||◌, cond, List, [], ◌∷◌, ◌++◌, Option, Some, None, option_and_then, refl, sym, ◌∙◌, ap, subst, arith}
 use Rattle.std.proofs.lemmas.Bool.Decides.{nat_tests, leb_tells}
 use Rattle.jn_base.specs.declared.names.ServerNo.{ServerNo}
 use Rattle.jn_base.specs.declared.names.FileNo.{FileNo}
@@ -9,13 +9,12 @@ use Rattle.jn_base.specs.declared.names.LockUnit.TheVariants.{File, Block}
 use Rattle.jn_base.specs.declared.op.Op.{Op}
 use Rattle.jn_base.specs.declared.op.Op.TheVariants.{Create, Remove, Cut, Read, Write}
 use Rattle.jn_base.specs.Names.{server_eq}
-use Rattle.jn_base.proofs.Tells.{server_tells, file_tells, block_tells}
+use Rattle.jn_base.proofs.Tells.{server_tells}
 use Rattle.jn_order.specs.Files.{Files, AllFiles, no_files, all_files_after, files_after}
 use Rattle.jn_report.specs.declared.line.Text.{Text}
 use Rattle.jn_report.specs.declared.line.Text.TheVariants as says
 use Rattle.jn_report.specs.declared.line.Line.{Line}
 use Rattle.jn_serial.specs.Lines.{says}
-use Rattle.jn_serial.specs.Stored.{AreSame}
 use Rattle.jn_serial.specs.Shown.{AllAsIn, prints_file, accounts_file, accounts_block, ShowsFiles}
 use Rattle.jn_serial.proofs.Orders.{AreSame-equal, says-append}
 use Rattle.jn_run.specs.Pages.{Counts, Pages, server_0, only_server_0, HoldsFiles, files_of_pages, head_of, block_in}

@@ -1,7 +1,6 @@
 -- What a run leaves, from what was told of its chapters.
 use Rattle.std.proofs.Common.{append-nil, ◌≡◌, ◌≢◌, ℕ, zero, suc, ◌+◌, ◌*◌, ◌<◌, ◌≤◌, Bool, true, false, cond, List, [], ◌∷◌, ◌++◌, length, take, drop, Option, Some, None, option_map, option_and_then, Result, Ok, Err, is_ok, IsErr, IsErrAnd, refl, sym, ◌∙◌, ap, subst, arith, append_assoc}
 use Rattle.jn_base.specs.declared.names.FileNo.{FileNo}
-use Rattle.jn_base.specs.declared.names.ServerNo.{ServerNo}
 use Rattle.jn_base.specs.declared.names.LockUnit.{LockUnit}
 use Rattle.jn_base.specs.declared.names.LockUnit.TheVariants.{File, Block}
 use Rattle.jn_base.specs.declared.op.Op.{Op}
@@ -13,17 +12,15 @@ use Rattle.jn_report.specs.declared.line.Line.{Line}
 use Rattle.jn_report.specs.Text.{report_text}
 use Rattle.jn_serial.specs.Shown.{ShowsFiles}
 use Rattle.jn_serial.proofs.Orders.{AreSame-equal}
-use Rattle.jn_host.specs.Outside.{Rose}
 use Rattle.jn_host.proofs.Faults.{rose_since}
 use Rattle.jn_run.specs.declared.outside.RunFault.{RunFault}
-use Rattle.jn_run.specs.declared.outside.RunFault.TheVariants as runs
 use Rattle.jn_run.specs.Form.{events_of, op_events}
-use Rattle.jn_run.specs.Pages.{Counts, Pages, server_0, only_server_0, files_of_pages, head_from, head_place, data_place, is_head_of, block_in, block_behind, address_in, HoldsFiles, PrintsFiles, ArePrints}
-use Rattle.jn_run.specs.Outcome.{Took, TookFront, Holds, IsRun, IsRunSoFar}
+use Rattle.jn_run.specs.Pages.{Counts, Pages, server_0, only_server_0, files_of_pages, head_from, head_place, data_place, is_head_of, block_in, block_behind, address_in, HoldsFiles, PrintsFiles}
+use Rattle.jn_run.specs.Outcome.{Took, TookFront, IsRun}
 use Rattle.jn_run.specs.Outside.{Reports, Tells}
 use Rattle.jn_run.specs.Story.{Chapter, lines_in, events_in, story, op_chapters, end_chapter, opening_chapters, files_at_end}
 use Rattle.jn_run.specs.Ending.{end_line, ending}
-use Rattle.jn_run.specs.Runs.{AllWriteWithin, WholeRun, PartRun, Ran, ArePrinted}
+use Rattle.jn_run.specs.Runs.{AllWriteWithin, Ran, ArePrinted}
 use Rattle.jn_run.proofs.Story.{story-told}
 use Rattle.jn_run.proofs.Ending.{holds, ends-run, AreOfEnd, AreOfEnd-append, AreOfEnd-prints}
 use Rattle.jn_run.proofs.Prints.{at-server-0, no-files-at-server-0, pages-hold, ending-shows, AtServer0}

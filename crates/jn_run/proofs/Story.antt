@@ -1,14 +1,12 @@
 -- The story of a schedule of the form: what holds after each chapter, and at its end.
-use Rattle.std.proofs.Common.{append-nil, ◌≡◌, ◌≢◌, ◌⊎◌, inl, inr, ℕ, zero, suc, ◌+◌, ◌*◌, ◌<◌, ◌≤◌, Bool, true, false, cond, List, [], ◌∷◌, ◌++◌, length, take, drop, Option, Some, None, is_some, refl, sym, ◌∙◌, ap, subst, arith, append_assoc, length-append}
+use Rattle.std.proofs.Common.{append-nil, ◌≡◌, inl, ℕ, zero, suc, ◌+◌, ◌*◌, true, List, [], ◌∷◌, ◌++◌, length, take, Option, Some, None, refl, sym, ◌∙◌, ap, subst, arith, append_assoc, length-append}
 use Rattle.jn_base.specs.declared.op.Op.{Op}
 use Rattle.jn_base.specs.declared.op.Op.TheVariants.{Create, Remove, Cut, Read, Write}
 use Rattle.jn_base.specs.declared.op.Answer.{Answer}
 use Rattle.jn_base.specs.declared.op.Answer.TheVariants as answers
 use Rattle.jn_base.specs.declared.op.Command.{Command}
 use Rattle.jn_base.specs.declared.op.Command.TheVariants as commands
-use Rattle.jn_base.specs.declared.names.FileNo.{FileNo}
-use Rattle.jn_base.specs.declared.names.LockUnit.TheVariants.{File}
-use Rattle.jn_order.specs.Files.{Files, AllFiles, no_files, answer_to, all_files_after, or_else, zeros}
+use Rattle.jn_order.specs.Files.{Files, AllFiles, no_files, answer_to, all_files_after}
 use Rattle.jn_schedule.specs.declared.Event.{Event}
 use Rattle.jn_schedule.specs.declared.Event.TheVariants as events
 use Rattle.jn_report.specs.declared.line.Text.TheVariants as says
@@ -24,7 +22,7 @@ use Rattle.jn_serial.proofs.Orders.{history_of-append}
 use Rattle.jn_run.specs.Form.{client_1}
 use Rattle.jn_run.specs.Pages.{server_0}
 use Rattle.jn_run.specs.Story.{Chapter, line_at, the_tid, answer_text, answered_chapter, events_in, lines_in, op_chapters, end_chapter, start_chapter, begin_chapter, open_chapter, story, files_at_end}
-use Rattle.jn_run.proofs.OneClient.{Talk, Stage, Idle, Running, Ordered, next_number, ordered-silent, ordered-answer, IsPlain, length-more, IsUnused, ordered-begun, ordered-committed, replay-committed}
+use Rattle.jn_run.proofs.OneClient.{Stage, Idle, Running, next_number, ordered-silent, ordered-answer, IsPlain, length-more, IsUnused, ordered-begun, ordered-committed, replay-committed}
 use Rattle.jn_run.proofs.Chapters.{SoFar, IsAnswerTo, talk-chapter, talk-committed}
 
 -- a text that tells an answer is the last one, and nothing but an answer

@@ -1,15 +1,14 @@
 -- Chapters told one after another.
-use Rattle.std.proofs.Common.{append-nil, ◌≡◌, ℕ, zero, suc, ◌+◌, ◌<◌, ◌≤◌, Bool, true, false, List, [], ◌∷◌, ◌++◌, length, take, drop, Option, Some, None, Result, Ok, Err, is_ok, IsErrAnd, refl, sym, ◌∙◌, ap, subst, arith, min, append_assoc, get_or, add-one, drop-cons}
+use Rattle.std.proofs.Common.{append-nil, ◌≡◌, ℕ, ◌+◌, ◌<◌, List, [], ◌∷◌, ◌++◌, length, take, drop, Option, Some, None, Result, Ok, Err, IsErrAnd, refl, sym, ◌∙◌, ap, subst, arith, min, append_assoc, get_or, add-one, drop-cons}
 use Rattle.std.proofs.Math.Seq.{take-append-add, take-append_seam, take-length}
 use Rattle.std.proofs.lemmas.List.{take_min, take-append-le}
 use Rattle.std.specs.Io.KnownBytes.{append_known}
 use Rattle.jn_report.specs.declared.line.Line.{Line}
 use Rattle.jn_report.specs.Text.{report_text}
-use Rattle.jn_host.specs.Outside.{Rose}
 use Rattle.jn_host.proofs.Faults.{rose_since}
 use Rattle.jn_host.proofs.Writing.{append_twice}
 use Rattle.jn_run.specs.declared.outside.RunFault.{RunFault}
-use Rattle.jn_run.specs.declared.outside.RunFault.TheVariants.{Write, Memory}
+use Rattle.jn_run.specs.declared.outside.RunFault.TheVariants.{Memory}
 use Rattle.jn_run.specs.Outcome.{Took, TookFront}
 use Rattle.jn_run.specs.Outside.{Reports, Tells}
 use Rattle.jn_base.specs.declared.op.Op.{Op}

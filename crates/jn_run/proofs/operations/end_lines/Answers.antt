@@ -1,6 +1,6 @@
-use Rattle.std.proofs.Common.{◌∙◌, [], ◌∷◌, ◌++◌, List, ap, refl}
+use Rattle.std.proofs.Common.{◌∙◌, [], ◌∷◌, ◌++◌, List, ap}
 use Rattle.jn_report.specs.declared.line.Line.{Line}
-use Rattle.jn_run.specs.Pages.{Counts, files_of_pages, epoch_in}
+use Rattle.jn_run.specs.Pages.{Counts, files_of_pages}
 use Rattle.jn_run.specs.Disk.{counts_of, pages_of}
 use Rattle.jn_run.proofs.Ran.{files-root, are-printed}
 use Rattle.jn_run.proofs.operations.end_lines.Goals as goal

@@ -1,5 +1,5 @@
-use Rattle.std.proofs.Common.{◌≡◌, ◌∙◌, ℕ, ◌+◌, ◌*◌, List, [], ◌∷◌, ◌++◌, length, Option, Result, Ok, refl, sym, ap, subst, arith}
-use Rattle.jn_order.specs.Files.{Files, AllFiles, no_files}
+use Rattle.std.proofs.Common.{◌≡◌, ℕ, ◌+◌, ◌*◌, List, [], ◌∷◌, ◌++◌, length, Option, Result, sym, subst}
+use Rattle.jn_order.specs.Files.{AllFiles, no_files}
 use Rattle.jn_serial.specs.Stored.{files_of}
 use Rattle.jn_serial.proofs.Orders.{AreSame-equal}
 use Rattle.jn_base.specs.declared.op.Op.{Op}

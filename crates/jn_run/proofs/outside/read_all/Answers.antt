@@ -1,6 +1,5 @@
-use Rattle.std.proofs.Common.{◌≡◌, ◌∙◌, ℕ, ◌<◌, ◌≤◌, length, take, List, Option, Some, None, Ok, Vec, arith, refl, sym, ap, subst, length-append}
+use Rattle.std.proofs.Common.{◌≡◌, ◌∙◌, ℕ, ◌<◌, ◌≤◌, length, take, List, Option, Some, None, Ok, Vec, arith, refl, sym, ap, subst}
 use Rattle.std.proofs.lemmas.Grind.{common_steps}
-use Rattle.std.specs.Io.KnownBytes.{prepend_known}
 use Rattle.std.specs.declared.alloc.Global.{Global}
 use Rattle.jn_host.proofs.Reading.{reads_join, reads_end}
 use Rattle.jn_run.specs.Outcome.{IsText, most_bytes}
