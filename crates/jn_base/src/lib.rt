@@ -2,9 +2,14 @@
 #![tactic(auto)]
 
 mod device;
+mod fields;
 mod names;
 mod op;
 
 pub use device::{FaultKind, Outside, Page, Stopped};
-pub use names::{BlockNo, Cause, ClientNo, FileNo, LockUnit, ServerNo, Short, Tickets, Tid, WorkId};
+pub use fields::{PageWriter, numbers_are_read_back, take_bytes, take_u8, take_u16, take_u32};
+pub use names::{
+    BlockNo, Cause, ClientNo, FileNo, LockUnit, MsgKind, Party, ServerNo, Short, Tickets, Tid,
+    WorkId,
+};
 pub use op::{Answer, Block, Command, Op};

@@ -65,3 +65,31 @@ pub struct Tickets {
     pub epoch: u32,
     pub next: u32,
 }
+
+/// Who sends a message, and who takes it.
+#[derive(Clone, Copy, Debug, PartialEq, Eq)]
+pub enum Party {
+    Client(ClientNo),
+    Server(ServerNo),
+}
+
+/// The kinds of messages.
+#[derive(Clone, Copy, Debug, PartialEq, Eq)]
+pub enum MsgKind {
+    Begin,
+    Open,
+    Op,
+    End,
+    Abort,
+    Thanks,
+    Begun,
+    Opened,
+    Answer,
+    Outcome,
+    Prepare,
+    Commit,
+    Drop,
+    Vote,
+    Done,
+    Inquire,
+}

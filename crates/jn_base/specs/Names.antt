@@ -1,0 +1,26 @@
+-- Whether two names are the same.
+use Rattle.std.specs.Prelude.{Bool, nat_eq, ◌&&◌}
+use Rattle.jn_base.specs.declared.names.ServerNo.{ServerNo}
+use Rattle.jn_base.specs.declared.names.ClientNo.{ClientNo}
+use Rattle.jn_base.specs.declared.names.FileNo.{FileNo}
+use Rattle.jn_base.specs.declared.names.BlockNo.{BlockNo}
+use Rattle.jn_base.specs.declared.names.Tid.{Tid}
+use Rattle.jn_base.specs.declared.names.WorkId.{WorkId}
+
+abbrev pub server_eq : ServerNo → ServerNo → Bool
+server_eq a b = nat_eq a.0 b.0
+
+abbrev pub client_eq : ClientNo → ClientNo → Bool
+client_eq a b = nat_eq a.0 b.0
+
+abbrev pub file_eq : FileNo → FileNo → Bool
+file_eq a b = nat_eq a.0 b.0
+
+abbrev pub block_eq : BlockNo → BlockNo → Bool
+block_eq a b = nat_eq a.0 b.0
+
+abbrev pub tid_eq : Tid → Tid → Bool
+tid_eq a b = server_eq a.server b.server && (nat_eq a.epoch b.epoch && nat_eq a.ticket b.ticket)
+
+abbrev pub work_eq : WorkId → WorkId → Bool
+work_eq a b = server_eq a.server b.server && (nat_eq a.epoch b.epoch && nat_eq a.ticket b.ticket)

@@ -1,0 +1,6 @@
+-- What an append that runs out of memory leaves.
+use Rattle.std.specs.Prelude.{◌≡◌, ℕ, List, length, take}
+
+-- what was there is still there, at the front
+abbrev pub IsKept : List ℕ → List ℕ → Type 0
+IsKept old new = take (length old) new ≡ old

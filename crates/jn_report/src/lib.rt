@@ -1,0 +1,11 @@
+//! Reports: what is printed of a run, line by line.
+#![tactic(auto)]
+
+mod line;
+#[cfg(test)]
+mod tests;
+mod word;
+mod write;
+
+pub use line::{EventRefusal, Line, Refusal, Text, When};
+pub use write::push_line;

@@ -1,0 +1,219 @@
+-- The end of a run: the lines that print the files show what the commits give.
+use Rattle.std.proofs.Common.{◌≡◌, ◌≢◌, ◌⊎◌, inl, inr, ℕ, zero, suc, ◌+◌, ◌<◌, ◌≤◌, Bool, true, false, nat_eq, nat_lt, ◌||◌, ◌&&◌, cond, List, [], ◌∷◌, ◌++◌, length, take, drop, Option, Some, None, refl, sym, ◌∙◌, ap, subst, arith, append_assoc}
+use Rattle.std.proofs.lemmas.Bool.Decides.{nat_tests}
+use Rattle.jn_base.specs.declared.names.ServerNo.{ServerNo}
+use Rattle.jn_base.specs.declared.names.ClientNo.{ClientNo}
+use Rattle.jn_base.specs.declared.names.FileNo.{FileNo}
+use Rattle.jn_base.specs.declared.names.BlockNo.{BlockNo}
+use Rattle.jn_base.specs.declared.names.Tid.{Tid}
+use Rattle.jn_base.specs.declared.names.LockUnit.{LockUnit}
+use Rattle.jn_base.specs.declared.names.LockUnit.TheVariants.{File, Block}
+use Rattle.jn_base.specs.Names.{server_eq, tid_eq}
+use Rattle.jn_base.proofs.Tells.{server_tells}
+use Rattle.jn_order.specs.Files.{Files, AllFiles, no_files}
+use Rattle.jn_schedule.specs.declared.Event.{Event}
+use Rattle.jn_report.specs.declared.line.When.{When}
+use Rattle.jn_report.specs.declared.line.When.TheVariants.{Event as AtEvent, End}
+use Rattle.jn_report.specs.declared.line.Text.{Text}
+use Rattle.jn_report.specs.declared.line.Text.TheVariants as says
+use Rattle.jn_report.specs.declared.line.Line.{Line}
+use Rattle.jn_serial.specs.declared.files.Performed.{Performed}
+use Rattle.jn_serial.specs.Lines.{when_eq, lines_at, lines_before, says, event_at, history_of, has_tid, commit_in}
+use Rattle.jn_serial.specs.Order.{answered_by, owner_after, ops_from, ops_of, replay, AgreesFrom}
+use Rattle.jn_serial.specs.Told.{Told, NamesBefore, NamesOnce, NamesNone}
+use Rattle.jn_serial.specs.Shown.{IsAsIn, AllAsIn, prints_file, accounts_file, accounts_block, is_locked, ShowsFiles, ShownSoFar, ShownAtEnd}
+use Rattle.jn_serial.specs.Follows.{nothing_asked, FollowsEvent, FollowsFrom, after_one, AllOfEvents, is_answer, Follows}
+use Rattle.jn_serial.proofs.Growth.{AreWithin}
+use Rattle.jn_serial.proofs.Ops.{DidTheSame, replay-same, AgreesFrom-same}
+use Rattle.jn_serial.proofs.Orders.{AreSame-equal, ops_of-append, owner_then, history_of-append, lines_at-append, says-append, NamesBefore-append, NamesNone-append}
+use Rattle.jn_run.specs.Pages.{server_0, only_server_0, ArePrints, is_print}
+use Rattle.jn_run.specs.Story.{events_in, lines_in}
+use Rattle.jn_run.specs.Ending.{end_line, ending}
+use Rattle.jn_run.specs.Outcome.{Holds, IsRun}
+use Rattle.jn_run.proofs.OneClient.{Talk, NoShows, is_show, Idle, Stage, Ordered, next_number, DidTheSame-each, nothing_more}
+use Rattle.jn_run.proofs.Chapters.{SoFar}
+use Rattle.jn_run.proofs.Story.{Ends}
+
+-- no event of these is a show
+no-show : (es : List Event) (i : ℕ) (s : ServerNo) → NoShows es → event_at es i ≡ Some (Rattle.jn_schedule.specs.declared.Event.TheVariants.Show s) → ⊥
+no-show [] i s h e = cc
+no-show (d ∷ es) zero s h e = cc
+no-show (d ∷ es) (suc zero) s h e = never d h.0 e
+  where
+    never : (d : Event) → is_show d ≡ false → Some d ≡ Some (Rattle.jn_schedule.specs.declared.Event.TheVariants.Show s) → ⊥
+    never d h e = clash (subst (λ (x : Event). is_show x ≡ false) (some_same d e) h)
+      where
+        some_same : (d : Event) → Some d ≡ Some (Rattle.jn_schedule.specs.declared.Event.TheVariants.Show s) → d ≡ Rattle.jn_schedule.specs.declared.Event.TheVariants.Show s
+        some_same d e = cc
+
+        clash : true ≡ false → ⊥
+        clash e = cc
+no-show (d ∷ es) (suc (suc i)) s h e = no-show es (suc i) s h.1 e
+
+-- what holds so far, as the outcome says it
+pub holds : (es : List Event) (ls : List Line) (stage : Stage) → SoFar es ls stage → Holds es ls
+holds es ls stage s = record {
+  agrees = s.ordered.agrees;
+  shown = λ i q e printed. absurd (no-show es i q s.talk.no_shows e);
+  told = s.ordered.told;
+  follows = record { answers = s.talk.answers; of_events = s.talk.of_events };
+}
+
+-- lines at the end that answer, begin, commit, abort, break and lock nothing
+abbrev pub is_of_end : Text → Bool
+is_of_end (says.Up s epoch) = true
+is_of_end (says.Down s) = true
+is_of_end (says.File s f) = true
+is_of_end (says.Page s f p bytes) = true
+is_of_end (says.Commits n) = true
+is_of_end _ = false
+
+abbrev pub AreOfEnd : List Line → Type 0
+AreOfEnd [] = Unit {0}
+AreOfEnd (l ∷ ls) = (l.when ≡ End) × (is_of_end l.text ≡ true) × AreOfEnd ls
+
+pub AreOfEnd-append : (xs ys : List Line) → AreOfEnd xs → AreOfEnd ys → AreOfEnd (xs ++ ys)
+AreOfEnd-append [] ys a b = b
+AreOfEnd-append (x ∷ xs) ys a b = (a.0, a.1, AreOfEnd-append xs ys a.2 b)
+
+pub AreOfEnd-prints : (ls : List Line) → ArePrints ls → AreOfEnd ls
+AreOfEnd-prints [] h = tt
+AreOfEnd-prints (l ∷ ls) h = (h.0, of_end l.text h.1, AreOfEnd-prints ls h.2)
+  where
+    of_end : (text : Text) → is_print text ≡ true → is_of_end text ≡ true
+    of_end (says.File s f) h = refl
+    of_end (says.Page s f p bytes) h = refl
+    of_end _ h = absurd (never h)
+      where
+        never : false ≡ true → ⊥
+        never e = cc
+
+-- what a text of the end is not
+pub record SaysNothing (text : Text) : Type 0 where
+  pub no_begin : (t : Tid) (o : Option ClientNo) → owner_after t o text ≡ o
+  pub no_commit : commit_in text ≡ []
+  pub no_answer : is_answer text ≡ false
+  pub no_op : (es : List Event) (o : Option ClientNo) → answered_by es o text ≡ []
+  pub told : (ts : List Tid) → NamesBefore ts (end_line text ∷ [])
+  pub not_lost : (ts : List Tid) → NamesNone ts (end_line text ∷ [])
+  pub unlocked : is_locked text ≡ false
+
+says-nothing : (text : Text) → is_of_end text ≡ true → SaysNothing text
+says-nothing (says.Up q epoch) h = record { no_begin = λ t o. refl; no_commit = refl; no_answer = refl; no_op = none; told = λ ts. (tt, tt); not_lost = λ ts. (tt, tt); unlocked = refl }
+  where
+    none : (es : List Event) (o : Option ClientNo) → answered_by es o (says.Up q epoch) ≡ []
+    none es None = refl
+    none es (Some c) = refl
+says-nothing (says.Down q) h = record { no_begin = λ t o. refl; no_commit = refl; no_answer = refl; no_op = none; told = λ ts. (tt, tt); not_lost = λ ts. (tt, tt); unlocked = refl }
+  where
+    none : (es : List Event) (o : Option ClientNo) → answered_by es o (says.Down q) ≡ []
+    none es None = refl
+    none es (Some c) = refl
+says-nothing (says.File q f) h = record { no_begin = λ t o. refl; no_commit = refl; no_answer = refl; no_op = none; told = λ ts. (tt, tt); not_lost = λ ts. (tt, tt); unlocked = refl }
+  where
+    none : (es : List Event) (o : Option ClientNo) → answered_by es o (says.File q f) ≡ []
+    none es None = refl
+    none es (Some c) = refl
+says-nothing (says.Page q f p bytes) h = record { no_begin = λ t o. refl; no_commit = refl; no_answer = refl; no_op = none; told = λ ts. (tt, tt); not_lost = λ ts. (tt, tt); unlocked = refl }
+  where
+    none : (es : List Event) (o : Option ClientNo) → answered_by es o (says.Page q f p bytes) ≡ []
+    none es None = refl
+    none es (Some c) = refl
+says-nothing (says.Commits n) h = record { no_begin = λ t o. refl; no_commit = refl; no_answer = refl; no_op = none; told = λ ts. (tt, tt); not_lost = λ ts. (tt, tt); unlocked = refl }
+  where
+    none : (es : List Event) (o : Option ClientNo) → answered_by es o (says.Commits n) ≡ []
+    none es None = refl
+    none es (Some c) = refl
+says-nothing _ h = absurd (never h)
+  where
+    never : false ≡ true → ⊥
+    never e = cc
+
+-- of a list of such lines
+pub record EndsQuietly (ends : List Line) : Type 0 where
+  pub events : (i : ℕ) → lines_at (AtEvent i) ends ≡ []
+  pub all : lines_at End ends ≡ ends
+  pub owners : (t : Tid) (o : Option ClientNo) → owner_then t o ends ≡ o
+  pub history : history_of ends ≡ []
+  pub ops : (es : List Event) (t : Tid) (o : Option ClientNo) → ops_from es t o ends ≡ []
+  pub answers : (n : ℕ) → AllOfEvents n ends
+  pub told : (ts : List Tid) → NamesBefore ts ends
+  pub not_lost : (ts : List Tid) → NamesNone ts ends
+  pub unlocked : says is_locked ends ≡ false
+
+when-event : (w : When) (i : ℕ) → w ≡ End → when_eq w (AtEvent i) ≡ false
+when-event w i h = rw h refl
+
+when-end : (w : When) → w ≡ End → when_eq w End ≡ true
+when-end w h = rw h refl
+
+ends-quietly : (ends : List Line) → AreOfEnd ends → EndsQuietly ends
+ends-quietly [] h = record { events = λ i. refl; all = refl; owners = λ t o. refl; history = refl; ops = λ es t o. refl; answers = λ n. tt; told = λ ts. tt; not_lost = λ ts. tt; unlocked = refl }
+ends-quietly (l ∷ ls) h =
+    let q = ends-quietly ls h.2 in
+    let n = says-nothing l.text h.1 in
+    record {
+      events = λ i. ap (λ (b : Bool). cond b (l ∷ lines_at (AtEvent i) ls) (lines_at (AtEvent i) ls)) (when-event l.when i h.0) ∙ q.events i;
+      all = ap (λ (b : Bool). cond b (l ∷ lines_at End ls) (lines_at End ls)) (when-end l.when h.0) ∙ ap (λ (m : List Line). l ∷ m) q.all;
+      owners = λ t o. ap (λ (w : Option ClientNo). owner_then t w ls) (n.no_begin t o) ∙ q.owners t o;
+      history = ap (λ (ts : List Tid). ts ++ history_of ls) n.no_commit ∙ q.history;
+      ops = λ es t o. ap (λ (ps : List Performed). ps ++ ops_from es t (owner_after t o l.text) ls) (n.no_op es o) ∙ q.ops es t (owner_after t o l.text);
+      answers = λ k. (λ is. absurd (clash (is_answer l.text) is n.no_answer), q.answers k);
+      told = λ ts. ((n.told ts).0, subst (λ (us : List Tid). NamesBefore us ls) (sym (ap (λ (us : List Tid). ts ++ us) n.no_commit ∙ nothing_more ts)) (q.told ts));
+      not_lost = λ ts. ((n.not_lost ts).0, q.not_lost ts);
+      unlocked = ap (λ (b : Bool). b || says is_locked ls) n.unlocked ∙ q.unlocked;
+    }
+  where
+    clash : (b : Bool) → b ≡ true → b ≡ false → ⊥
+    clash b p q = cc
+
+no-end : (high : ℕ) (ls : List Line) → AreWithin 0 high ls → lines_at End ls ≡ []
+no-end high [] h = refl
+no-end high (l ∷ ls) h = ap (λ (b : Bool). cond b (l ∷ lines_at End ls) (lines_at End ls)) (within l.when h.0) ∙ no-end high ls h.1
+  where
+    within : (w : When) → Rattle.jn_serial.proofs.Growth.IsWithin 0 high w → when_eq w End ≡ false
+    within (AtEvent i) h = refl
+    within End h = absurd h
+
+follows-same : (out : Rattle.jn_serial.specs.Follows.Outstanding) (n : ℕ) (es : List Event) (xs ys : List Line) → ((i : ℕ) → lines_at (AtEvent i) ys ≡ lines_at (AtEvent i) xs) → FollowsFrom out n es xs → FollowsFrom out n es ys
+follows-same out n [] xs ys same h = tt
+follows-same out n (e ∷ es) xs ys same h = (
+  subst (λ (m : List Line). FollowsEvent out n e m) (sym (same n)) h.0,
+  follows-same (after_one out n e (lines_at (AtEvent n) ys)) (n + 1) es xs ys same (subst (λ (m : List Line). FollowsFrom (after_one out n e m) (n + 1) es xs) (sym (same n)) h.1),
+)
+
+AllOfEvents-append : (n : ℕ) (xs ys : List Line) → AllOfEvents n xs → AllOfEvents n ys → AllOfEvents n (xs ++ ys)
+AllOfEvents-append n [] ys a b = b
+AllOfEvents-append n (x ∷ xs) ys a b = (a.0, AllOfEvents-append n xs ys a.1 b)
+
+-- the end of the run, where its lines show these files
+pub ends-run : (es : List Event) (ls ends : List Line) (files : AllFiles) → Ends es ls files → AreOfEnd ends → ((s : ServerNo) → ShowsFiles files s ends) → IsRun es (ls ++ ends)
+ends-run es ls ends files e of_end shows =
+    let q = ends-quietly ends of_end in
+    let s = e.so_far in
+    let history : history_of (ls ++ ends) ≡ history_of ls = history_of-append ls ends ∙ ap (λ (ts : List Tid). history_of ls ++ ts) q.history ∙ nothing_more (history_of ls) in
+    let did : (t : Tid) → ops_of es (ls ++ ends) t ≡ ops_of es ls t = λ t. ops_of-append es t ls ends ∙ ap (λ (ps : List Performed). ops_of es ls t ++ ps) (q.ops es t (owner_then t None ls)) ∙ nothing_more (ops_of es ls t) in
+    let each = DidTheSame-each es ls es (ls ++ ends) (history_of ls) (λ t k. did t) in
+    let gives : replay no_files es (ls ++ ends) (history_of (ls ++ ends)) ≡ files =
+    ap (λ (ts : List Tid). replay no_files es (ls ++ ends) ts) history ∙ replay-same no_files es ls es (ls ++ ends) (history_of ls) each ∙ e.gives in
+    let all : lines_at End (ls ++ ends) ≡ ends = lines_at-append End ls ends ∙ ap (λ (m : List Line). m ++ lines_at End ends) (no-end (next_number es) ls s.talk.within) ∙ q.all in
+    let events : (i : ℕ) → lines_at (AtEvent i) (ls ++ ends) ≡ lines_at (AtEvent i) ls = λ i. lines_at-append (AtEvent i) ls ends ∙ ap (λ (m : List Line). lines_at (AtEvent i) ls ++ m) (q.events i) ∙ nothing_more (lines_at (AtEvent i) ls) in
+    record {
+      holds = record {
+        agrees = subst (λ (ts : List Tid). AgreesFrom no_files es (ls ++ ends) ts) (sym history) (AgreesFrom-same no_files es ls es (ls ++ ends) (history_of ls) each s.ordered.agrees);
+        shown = λ i p h printed. absurd (no-show es i p s.talk.no_shows h);
+        told = record {
+          before = NamesBefore-append [] ls ends s.ordered.told.before (q.told (history_of ls));
+          once = subst (λ (ts : List Tid). NamesOnce ts) (sym history) s.ordered.told.once;
+          not_lost = subst (λ (ts : List Tid). NamesNone ts (ls ++ ends)) (sym history) (NamesNone-append (history_of ls) ls ends s.ordered.told.not_lost (q.not_lost (history_of ls)));
+        };
+        follows = record {
+          answers = follows-same nothing_asked 1 es ls (ls ++ ends) events s.talk.answers;
+          of_events = AllOfEvents-append (length es) ls ends s.talk.of_events (q.answers (length es));
+        };
+      };
+      shown_at_end = record {
+        all = λ p. subst (λ (fs : AllFiles). ShowsFiles fs p (lines_at End (ls ++ ends))) (sym gives) (subst (λ (m : List Line). ShowsFiles files p m) (sym all) (shows p));
+        unlocked = ap (λ (m : List Line). says is_locked m) all ∙ q.unlocked;
+      };
+    }

@@ -1,0 +1,13 @@
+-- What is seen of a server's disk.
+use Rattle.jn_run.specs.declared.disk.Disk.{Disk}
+use Rattle.jn_run.specs.Pages.{Counts, Pages}
+use Rattle.jn_run.specs.Heads.{counts}
+use Rattle.jn_run.specs.StorePages.{pages_in}
+
+-- how many pages there are of each kind
+abbrev pub counts_of : Disk → Counts
+counts_of d = counts d.pool d.heads d.leaves
+
+-- its stable pages, and nothing past the last
+abbrev pub pages_of : Disk → Pages
+pages_of d = pages_in d.store

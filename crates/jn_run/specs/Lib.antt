@@ -1,0 +1,13 @@
+pub mod Codes
+pub mod Form
+pub mod Pages
+pub mod Outcome
+pub mod Story
+pub mod Ending
+pub mod Outside
+pub mod Runs
+pub mod Reading
+pub mod StorePages
+pub mod Heads
+pub mod Disk
+pub mod Printed

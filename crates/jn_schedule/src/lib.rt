@@ -1,0 +1,35 @@
+//! Schedules: what happens, event by event.
+#![tactic(auto)]
+
+use jn_base::{ClientNo, Command, FaultKind, ServerNo, Tid};
+
+/// One event of a schedule, with its words as typed values.
+#[derive(Clone, Copy)]
+pub enum Event {
+    /// A client is told to do something: `c1 begin S` and so on, each command of `Command`.
+    Command(ClientNo, Command),
+    /// A client sends its outstanding message once more.
+    Again(ClientNo),
+    /// The message of this number is handed over.
+    Deliver(u32),
+    /// Messages and background steps, until nothing is left to do.
+    Settle,
+    /// One background step of a server.
+    Step(ServerNo),
+    /// A server sends again what waits for an answer.
+    Nudge(ServerNo),
+    /// The transaction's work at the server may be broken from now on.
+    Timeout(ServerNo, Tid),
+    /// Each pair of pages is cleaned.
+    Scrub(ServerNo),
+    /// A physical page goes bad.
+    Decay(ServerNo, u32),
+    /// A bad physical page is good again.
+    Revive(ServerNo, u32),
+    /// A fault waits for the server's n-th device call from now.
+    Arm(ServerNo, u32, FaultKind),
+    Crash(ServerNo),
+    Restart(ServerNo),
+    /// The server's files are printed.
+    Show(ServerNo),
+}

@@ -1,0 +1,145 @@
+-- What a transaction did, and what the commits give, with more events and more lines.
+use Rattle.std.proofs.Common.{◌≡◌, ℕ, zero, suc, ◌+◌, ◌<◌, ◌≤◌, Bool, true, false, ◌||◌, cond, List, [], ◌∷◌, ◌++◌, length, Option, Some, None, refl, sym, ◌∙◌, ap, subst, arith, append_assoc}
+use Rattle.std.specs.List.{list_any}
+use Rattle.jn_base.specs.declared.names.ClientNo.{ClientNo}
+use Rattle.jn_base.specs.declared.names.Tid.{Tid}
+use Rattle.jn_base.specs.declared.op.Answer.{Answer}
+use Rattle.jn_base.specs.Names.{client_eq, tid_eq}
+use Rattle.jn_order.specs.Files.{AllFiles, answer_to, all_files_after}
+use Rattle.jn_schedule.specs.declared.Event.{Event}
+use Rattle.jn_report.specs.declared.line.Refusal.{Refusal}
+use Rattle.jn_report.specs.declared.line.Refusal.TheVariants as refusals
+use Rattle.jn_report.specs.declared.line.Text.{Text}
+use Rattle.jn_report.specs.declared.line.Text.TheVariants as says
+use Rattle.jn_report.specs.declared.line.Line.{Line}
+use Rattle.jn_serial.specs.declared.files.Performed.{Performed}
+use Rattle.jn_serial.specs.Lines.{event_at, history_of, has_tid, commit_in}
+use Rattle.jn_serial.specs.Order.{performed_in, answered, answered_by, owner_after, ops_from, ops_of, files_then, replay, GivesAnswers, AgreesFrom}
+use Rattle.jn_serial.proofs.Growth.{event_at-front}
+
+-- the number of the command that a line answers from the files, if it does so, is at most n
+abbrev pub AnswersWithin : ℕ → Text → Type 0
+AnswersWithin n (says.Did c j) = j ≤ n
+AnswersWithin n (says.Read c j bytes) = j ≤ n
+AnswersWithin n (says.Refused c j refusal) = j ≤ n
+AnswersWithin n _ = Unit {0}
+
+abbrev pub AllAnswerWithin : ℕ → List Line → Type 0
+AllAnswerWithin n [] = Unit {0}
+AllAnswerWithin n (l ∷ ls) = AnswersWithin n l.text × AllAnswerWithin n ls
+
+AnswersWithin-wider : (n m : ℕ) (text : Text) → n ≤ m → AnswersWithin n text → AnswersWithin m text
+AnswersWithin-wider n m (says.Did c j) h w = omega arith
+AnswersWithin-wider n m (says.Read c j bytes) h w = omega arith
+AnswersWithin-wider n m (says.Refused c j refusal) h w = omega arith
+AnswersWithin-wider n m (says.Up s e) h w = tt
+AnswersWithin-wider n m (says.Down s) h w = tt
+AnswersWithin-wider n m (says.Stopped s) h w = tt
+AnswersWithin-wider n m (says.Outside s o) h w = tt
+AnswersWithin-wider n m (says.Ignored k) h w = tt
+AnswersWithin-wider n m (says.Lost k) h w = tt
+AnswersWithin-wider n m (says.Commit t) h w = tt
+AnswersWithin-wider n m (says.Broke s t u by) h w = tt
+AnswersWithin-wider n m (says.Begun c j t) h w = tt
+AnswersWithin-wider n m (says.Opened c j s) h w = tt
+AnswersWithin-wider n m (says.Waiting c j s u t) h w = tt
+AnswersWithin-wider n m (says.Committed c j t) h w = tt
+AnswersWithin-wider n m (says.Aborted c j t cause) h w = tt
+AnswersWithin-wider n m (says.RefusedEvent r) h w = tt
+AnswersWithin-wider n m (says.File s f) h w = tt
+AnswersWithin-wider n m (says.Page s f p bytes) h w = tt
+AnswersWithin-wider n m (says.Locked s u t) h w = tt
+AnswersWithin-wider n m (says.Commits k) h w = tt
+AnswersWithin-wider n m (says.Message k a b kind) h w = tt
+
+pub AllAnswerWithin-wider : (n m : ℕ) (ls : List Line) → n ≤ m → AllAnswerWithin n ls → AllAnswerWithin m ls
+AllAnswerWithin-wider n m [] h w = tt
+AllAnswerWithin-wider n m (l ∷ ls) h w = (AnswersWithin-wider n m l.text h w.0, AllAnswerWithin-wider n m ls h w.1)
+
+pub AllAnswerWithin-append : (n : ℕ) (ls ms : List Line) → AllAnswerWithin n ls → AllAnswerWithin n ms → AllAnswerWithin n (ls ++ ms)
+AllAnswerWithin-append n [] ms a b = b
+AllAnswerWithin-append n (l ∷ ls) ms a b = (a.0, AllAnswerWithin-append n ls ms a.1 b)
+
+performed-events : (es fs : List Event) (c d : ClientNo) (a : Answer) (j : ℕ) → j ≤ length es
+    → cond (client_eq c d) (performed_in c a (event_at (es ++ fs) j)) [] ≡ cond (client_eq c d) (performed_in c a (event_at es j)) []
+performed-events es fs c d a j h = ap (λ (e : Option Event). cond (client_eq c d) (performed_in c a e) []) (event_at-front es fs j h)
+
+-- later events don't change what an earlier line answers
+answered-events : (es fs : List Event) (c : ClientNo) (text : Text) → AnswersWithin (length es) text → answered (es ++ fs) c text ≡ answered es c text
+answered-events es fs c (says.Did d j) h = performed-events es fs c d _ j h
+answered-events es fs c (says.Read d j bytes) h = performed-events es fs c d _ j h
+answered-events es fs c (says.Refused d j refusals.NoFile) h = performed-events es fs c d _ j h
+answered-events es fs c (says.Refused d j refusals.Exists) h = performed-events es fs c d _ j h
+answered-events es fs c _ h = refl
+
+answered_by-events : (es fs : List Event) (owner : Option ClientNo) (text : Text) → AnswersWithin (length es) text → answered_by (es ++ fs) owner text ≡ answered_by es owner text
+answered_by-events es fs None text h = refl
+answered_by-events es fs (Some c) text h = answered-events es fs c text h
+
+pub ops_from-events : (es fs : List Event) (t : Tid) (owner : Option ClientNo) (ls : List Line) → AllAnswerWithin (length es) ls → ops_from (es ++ fs) t owner ls ≡ ops_from es t owner ls
+ops_from-events es fs t owner [] h = refl
+ops_from-events es fs t owner (l ∷ ls) h =
+    ap (λ (ps : List Performed). ps ++ ops_from (es ++ fs) t (owner_after t owner l.text) ls) (answered_by-events es fs owner l.text h.0)
+    ∙ ap (λ (ps : List Performed). answered_by es owner l.text ++ ps) (ops_from-events es fs t (owner_after t owner l.text) ls h.1)
+
+-- whose transaction it is after these lines
+abbrev pub owner_of : Tid → Option ClientNo → List Line → Option ClientNo
+owner_of t owner [] = owner
+owner_of t owner (l ∷ ls) = owner_of t (owner_after t owner l.text) ls
+
+pub owner_of-append : (t : Tid) (owner : Option ClientNo) (ls ms : List Line) → owner_of t owner (ls ++ ms) ≡ owner_of t (owner_of t owner ls) ms
+owner_of-append t owner [] ms = refl
+owner_of-append t owner (l ∷ ls) ms = owner_of-append t (owner_after t owner l.text) ls ms
+
+pub ops_from-append : (es : List Event) (t : Tid) (owner : Option ClientNo) (ls ms : List Line) → ops_from es t owner (ls ++ ms) ≡ ops_from es t owner ls ++ ops_from es t (owner_of t owner ls) ms
+ops_from-append es t owner [] ms = refl
+ops_from-append es t owner (l ∷ ls) ms =
+    ap (λ (ps : List Performed). answered_by es owner l.text ++ ps) (ops_from-append es t (owner_after t owner l.text) ls ms)
+    ∙ sym (append_assoc (answered_by es owner l.text) (ops_from es t (owner_after t owner l.text) ls) (ops_from es t (owner_of t (owner_after t owner l.text) ls) ms))
+
+-- the commits depend on what their transactions did alone
+abbrev pub DidTheSame : List Event → List Line → List Event → List Line → List Tid → Type 0
+DidTheSame es ls fs ms [] = Unit {0}
+DidTheSame es ls fs ms (t ∷ ts) = (ops_of fs ms t ≡ ops_of es ls t) × DidTheSame es ls fs ms ts
+
+pub replay-same : (files : AllFiles) (es : List Event) (ls : List Line) (fs : List Event) (ms : List Line) (ts : List Tid) → DidTheSame es ls fs ms ts → replay files fs ms ts ≡ replay files es ls ts
+replay-same files es ls fs ms [] h = refl
+replay-same files es ls fs ms (t ∷ ts) h =
+    replay-same (files_then (ops_of fs ms t) files) es ls fs ms ts h.1 ∙ ap (λ (ps : List Performed). replay (files_then ps files) es ls ts) h.0
+
+pub AgreesFrom-same : (files : AllFiles) (es : List Event) (ls : List Line) (fs : List Event) (ms : List Line) (ts : List Tid) → DidTheSame es ls fs ms ts → AgreesFrom files es ls ts → AgreesFrom files fs ms ts
+AgreesFrom-same files es ls fs ms [] h a = tt
+AgreesFrom-same files es ls fs ms (t ∷ ts) h a = (
+  subst (λ (ps : List Performed). GivesAnswers files ps) (sym h.0) a.0,
+  AgreesFrom-same (files_then (ops_of fs ms t) files) es ls fs ms ts h.1 (subst (λ (ps : List Performed). AgreesFrom (files_then ps files) es ls ts) (sym h.0) a.1),
+)
+
+-- one more commit
+pub AgreesFrom-more : (files : AllFiles) (es : List Event) (ls : List Line) (ts : List Tid) (t : Tid) → AgreesFrom files es ls ts → GivesAnswers (replay files es ls ts) (ops_of es ls t) → AgreesFrom files es ls (ts ++ t ∷ [])
+AgreesFrom-more files es ls [] t a g = (g, tt)
+AgreesFrom-more files es ls (u ∷ ts) t a g = (a.0, AgreesFrom-more (files_then (ops_of es ls u) files) es ls ts t a.1 g)
+
+pub replay-more : (files : AllFiles) (es : List Event) (ls : List Line) (ts : List Tid) (t : Tid) → replay files es ls (ts ++ t ∷ []) ≡ files_then (ops_of es ls t) (replay files es ls ts)
+replay-more files es ls [] t = refl
+replay-more files es ls (u ∷ ts) t = replay-more (files_then (ops_of es ls u) files) es ls ts t
+
+-- one more operation
+pub GivesAnswers-more : (files : AllFiles) (ps : List Performed) (p : Performed) → GivesAnswers files ps → answer_to p.op (files_then ps files p.server) ≡ p.answer → GivesAnswers files (ps ++ p ∷ [])
+GivesAnswers-more files [] p g a = (a, tt)
+GivesAnswers-more files (q ∷ ps) p g a = (g.0, GivesAnswers-more (all_files_after q.server q.op files) ps p g.1 a)
+
+pub files_then-more : (files : AllFiles) (ps : List Performed) (p : Performed) → files_then (ps ++ p ∷ []) files ≡ all_files_after p.server p.op (files_then ps files)
+files_then-more files [] p = refl
+files_then-more files (q ∷ ps) p = files_then-more (all_files_after q.server q.op files) ps p
+
+pub history_of-append : (ls ms : List Line) → history_of (ls ++ ms) ≡ history_of ls ++ history_of ms
+history_of-append [] ms = refl
+history_of-append (l ∷ ls) ms = ap (λ (ts : List Tid). commit_in l.text ++ ts) (history_of-append ls ms) ∙ sym (append_assoc (commit_in l.text) (history_of ls) (history_of ms))
+
+pub has_tid-append : (ts us : List Tid) (t : Tid) → has_tid (ts ++ us) t ≡ (has_tid ts t || has_tid us t)
+has_tid-append [] us t = refl
+has_tid-append (u ∷ ts) us t = ap (λ (b : Bool). tid_eq u t || b) (has_tid-append ts us t) ∙ or_assoc (tid_eq u t) (has_tid ts t) (has_tid us t)
+  where
+    or_assoc : (a b c : Bool) → (a || (b || c)) ≡ ((a || b) || c)
+    or_assoc true b c = refl
+    or_assoc false b c = refl

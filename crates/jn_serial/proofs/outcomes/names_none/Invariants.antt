@@ -1,0 +1,6 @@
+use Rattle.std.proofs.Common.{◌↔◌, drop}
+use Rattle.jn_serial.specs.Told.{NamesNone}
+use Rattle.jn_serial.proofs.outcomes.names_none.Given as goal
+
+abbrev pub invariant-loop-line : goal.invariant-loop-line
+invariant-loop-line l = NamesNone l.named l.lines ↔ NamesNone l.named (drop l.line-index l.lines)

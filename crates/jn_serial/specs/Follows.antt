@@ -1,0 +1,204 @@
+-- Each answer to a client answers its outstanding command, in a form of that command.
+use Rattle.std.specs.Prelude.{◌≡◌, ℕ, ◌+◌, ◌≤◌, Bool, true, false, nat_eq, ◌&&◌, ◌||◌, not, if◌then◌else◌, List, [], ◌∷◌, length, Option, Some, None}
+use Rattle.jn_base.specs.declared.names.ClientNo.{ClientNo}
+use Rattle.jn_base.specs.declared.op.Op.{Op}
+use Rattle.jn_base.specs.declared.op.Op.TheVariants as ops
+use Rattle.jn_base.specs.declared.op.Command.{Command}
+use Rattle.jn_base.specs.declared.op.Command.TheVariants as commands
+use Rattle.jn_base.specs.Names.{client_eq}
+use Rattle.jn_schedule.specs.declared.Event.{Event}
+use Rattle.jn_schedule.specs.declared.Event.TheVariants as events
+use Rattle.jn_report.specs.declared.line.When.{When}
+use Rattle.jn_report.specs.declared.line.When.TheVariants.{Event as AtEvent, End}
+use Rattle.jn_report.specs.declared.line.Refusal.{Refusal}
+use Rattle.jn_report.specs.declared.line.Refusal.TheVariants as refusals
+use Rattle.jn_report.specs.declared.line.Text.{Text}
+use Rattle.jn_report.specs.declared.line.Text.TheVariants as says
+use Rattle.jn_report.specs.declared.line.Line.{Line}
+use Rattle.jn_serial.specs.Lines.{lines_at, says}
+
+-- a command with the number of its event
+pub record Asked : Type 0 where
+  pub number : ℕ
+  pub command : Command
+
+-- what each client waits for
+abbrev pub Outstanding : Type 0
+Outstanding = ClientNo → Option Asked
+
+abbrev pub nothing_asked : Outstanding
+nothing_asked c = None
+
+abbrev pub with_asked : Outstanding → ClientNo → Option Asked → Outstanding
+with_asked out c x d = if client_eq c d then x else out d
+
+-- the refusals of a command by the client itself, in the command's own event
+abbrev pub is_own : Refusal → Bool
+is_own refusals.ClientBusy = true
+is_own refusals.NoTransaction = true
+is_own refusals.HasTransaction = true
+is_own refusals.NotOpen = true
+is_own refusals.AlreadyOpen = true
+is_own refusals.NoSuchServer = true
+is_own _ = false
+
+-- which operations a refusal can answer
+abbrev pub can_have : Refusal → Op → Bool
+can_have refusals.NoFile (ops.Create f) = false
+can_have refusals.NoFile _ = true
+can_have refusals.Exists (ops.Create f) = true
+can_have refusals.Exists _ = false
+can_have (refusals.Locked u t) op = true
+can_have refusals.TooManyReads op = true
+can_have refusals.TooManyWrites (ops.Read f p) = false
+can_have refusals.TooManyWrites _ = true
+can_have (refusals.Broken u t) op = true
+can_have (refusals.Lost epoch now) op = true
+can_have refusals.Closing op = true
+can_have _ op = false
+
+abbrev pub is_read : Op → Bool
+is_read (ops.Read f p) = true
+is_read _ = false
+
+-- which texts answer a command
+abbrev pub answers_begin : Text → Bool
+answers_begin (says.Begun c j t) = true
+answers_begin (says.Refused c j refusals.TooManyTransactions) = true
+answers_begin _ = false
+
+abbrev pub answers_open : Text → Bool
+answers_open (says.Opened c j s) = true
+answers_open (says.Refused c j refusals.TooManyWorks) = true
+answers_open _ = false
+
+abbrev pub answers_op : Op → Text → Bool
+answers_op op (says.Did c j) = not (is_read op)
+answers_op op (says.Read c j bytes) = is_read op
+answers_op op (says.Refused c j refusal) = can_have refusal op
+answers_op op _ = false
+
+abbrev pub answers_end : Text → Bool
+answers_end (says.Waiting c j s u t) = true
+answers_end (says.Committed c j t) = true
+answers_end (says.Aborted c j t cause) = true
+answers_end _ = false
+
+abbrev pub answers_abort : Text → Bool
+answers_abort (says.Committed c j t) = true
+answers_abort (says.Aborted c j t cause) = true
+answers_abort _ = false
+
+abbrev pub answers_command : Command → Text → Bool
+answers_command (commands.Begin s) text = answers_begin text
+answers_command (commands.Open s) text = answers_open text
+answers_command (commands.Do s op) text = answers_op op text
+answers_command commands.End text = answers_end text
+answers_command commands.Abort text = answers_abort text
+
+pub record Addressed : Type 0 where
+  pub client : ClientNo
+  pub number : ℕ
+
+abbrev pub addressed : ClientNo → ℕ → Option Addressed
+addressed c j = Some (record { client = c; number = j })
+
+-- whom a line answers, and which command, by the number of its event
+abbrev pub answer_in : Text → Option Addressed
+answer_in (says.Begun c j t) = addressed c j
+answer_in (says.Opened c j s) = addressed c j
+answer_in (says.Did c j) = addressed c j
+answer_in (says.Read c j bytes) = addressed c j
+answer_in (says.Refused c j refusal) = if is_own refusal then None else addressed c j
+answer_in (says.Waiting c j s u t) = addressed c j
+answer_in (says.Committed c j t) = addressed c j
+answer_in (says.Aborted c j t cause) = addressed c j
+answer_in _ = None
+
+-- whether it is the last answer
+abbrev pub is_last : Text → Bool
+is_last (says.Waiting c j s u t) = false
+is_last _ = true
+
+abbrev pub fits_asked : Option Asked → ℕ → Text → Bool
+fits_asked None j text = false
+fits_asked (Some a) j text = nat_eq a.number j && answers_command a.command text
+
+abbrev pub fits : Outstanding → Option Addressed → Text → Bool
+fits out None text = true
+fits out (Some a) text = fits_asked (out a.client) a.number text
+
+abbrev pub after_answer : Outstanding → Option Addressed → Text → Outstanding
+after_answer out None text = out
+after_answer out (Some a) text = if is_last text then with_asked out a.client None else out
+
+-- the answers of an event, one after another, answer what is outstanding
+abbrev pub AllFit : Outstanding → List Line → Type 0
+AllFit out [] = Unit {0}
+AllFit out (l ∷ ls) = (fits out (answer_in l.text) l.text ≡ true) × AllFit (after_answer out (answer_in l.text) l.text) ls
+
+abbrev pub after_answers : Outstanding → List Line → Outstanding
+after_answers out [] = out
+after_answers out (l ∷ ls) = after_answers (after_answer out (answer_in l.text) l.text) ls
+
+-- a command that its client refused
+abbrev pub refuses_own : ClientNo → ℕ → Text → Bool
+refuses_own c number (says.Refused d j refusal) = is_own refusal && (client_eq c d && nat_eq number j)
+refuses_own c number _ = false
+
+-- what is outstanding once an event's command is given: it replaces what was
+abbrev pub after_event : Outstanding → ℕ → Event → List Line → Outstanding
+after_event out number (events.Command c command) lines =
+    if says (refuses_own c number) lines then out else with_asked out c (Some (record { number = number; command = command }))
+after_event out number _ lines = out
+
+abbrev pub is_command_of : Event → ClientNo → Bool
+is_command_of (events.Command c command) d = client_eq c d
+is_command_of _ d = false
+
+-- the client's own refusals stand in the command's own event
+abbrev pub own_in_place : ℕ → Event → Text → Bool
+own_in_place number e (says.Refused c j refusal) = not (is_own refusal) || (nat_eq number j && is_command_of e c)
+own_in_place number e _ = true
+
+abbrev pub AllOwnInPlace : ℕ → Event → List Line → Type 0
+AllOwnInPlace number e [] = Unit {0}
+AllOwnInPlace number e (l ∷ ls) = (own_in_place number e l.text ≡ true) × AllOwnInPlace number e ls
+
+pub record FollowsEvent (out : Outstanding) (number : ℕ) (e : Event) (lines : List Line) : Type 0 where
+  pub fit : AllFit (after_event out number e lines) lines
+  pub own : AllOwnInPlace number e lines
+
+-- what is outstanding after an event and its lines
+abbrev pub after_one : Outstanding → ℕ → Event → List Line → Outstanding
+after_one out number e lines = after_answers (after_event out number e lines) lines
+
+abbrev pub FollowsFrom : Outstanding → ℕ → List Event → List Line → Type 0
+FollowsFrom out number [] lines = Unit {0}
+FollowsFrom out number (e ∷ es) lines =
+    FollowsEvent out number e (lines_at (AtEvent number) lines)
+    × FollowsFrom (after_one out number e (lines_at (AtEvent number) lines)) (number + 1) es lines
+
+abbrev pub is_answer : Text → Bool
+is_answer (says.Begun c j t) = true
+is_answer (says.Opened c j s) = true
+is_answer (says.Did c j) = true
+is_answer (says.Read c j bytes) = true
+is_answer (says.Refused c j refusal) = true
+is_answer (says.Waiting c j s u t) = true
+is_answer (says.Committed c j t) = true
+is_answer (says.Aborted c j t cause) = true
+is_answer _ = false
+
+abbrev pub IsOfEvent : ℕ → When → Type 0
+IsOfEvent count (AtEvent i) = (1 ≤ i) × (i ≤ count)
+IsOfEvent count End = ⊥
+
+-- every answer stands at an event
+abbrev pub AllOfEvents : ℕ → List Line → Type 0
+AllOfEvents count [] = Unit {0}
+AllOfEvents count (l ∷ ls) = (is_answer l.text ≡ true → IsOfEvent count l.when) × AllOfEvents count ls
+
+pub record Follows (events : List Event) (lines : List Line) : Type 0 where
+  pub answers : FollowsFrom nothing_asked 1 events lines
+  pub of_events : AllOfEvents (length events) lines

@@ -1,0 +1,73 @@
+-- What a report shows of the files.
+use Rattle.std.specs.Prelude.{◌≡◌, ℕ, Bool, true, false, ◌&&◌, List, [], ◌∷◌, Some, None, is_some}
+use Rattle.jn_base.specs.declared.names.ServerNo.{ServerNo}
+use Rattle.jn_base.specs.declared.names.FileNo.{FileNo}
+use Rattle.jn_base.specs.declared.names.BlockNo.{BlockNo}
+use Rattle.jn_base.specs.declared.names.LockUnit.TheVariants.{File, Block}
+use Rattle.jn_base.specs.Names.{server_eq, file_eq, block_eq}
+use Rattle.jn_order.specs.Files.{AllFiles}
+use Rattle.jn_schedule.specs.declared.Event.{Event}
+use Rattle.jn_schedule.specs.declared.Event.TheVariants.{Show}
+use Rattle.jn_report.specs.declared.line.When.TheVariants.{Event as AtEvent, End}
+use Rattle.jn_report.specs.declared.line.Text.{Text}
+use Rattle.jn_report.specs.declared.line.Text.TheVariants as says
+use Rattle.jn_report.specs.declared.line.Line.{Line}
+use Rattle.jn_serial.specs.Lines.{lines_at, lines_before, says, event_at, history_of}
+use Rattle.jn_serial.specs.Order.{replay}
+
+-- a line that prints a file or a page prints what is there
+abbrev pub IsAsIn : AllFiles → Text → Type 0
+IsAsIn files (says.File s f) = is_some (files s (File f)) ≡ true
+IsAsIn files (says.Page s f p bytes) = files s (Block f p) ≡ Some bytes
+IsAsIn files _ = Unit {0}
+
+abbrev pub AllAsIn : AllFiles → List Line → Type 0
+AllAsIn files [] = Unit {0}
+AllAsIn files (l ∷ ls) = IsAsIn files l.text × AllAsIn files ls
+
+abbrev pub prints_file : ServerNo → FileNo → Text → Bool
+prints_file s f (says.File t g) = server_eq t s && file_eq g f
+prints_file s f _ = false
+
+-- the file is printed, or shown as locked
+abbrev pub accounts_file : ServerNo → FileNo → Text → Bool
+accounts_file s f (says.File t g) = server_eq t s && file_eq g f
+accounts_file s f (says.Locked t (File g) by) = server_eq t s && file_eq g f
+accounts_file s f _ = false
+
+-- the block is printed, or shown as locked
+abbrev pub accounts_block : ServerNo → FileNo → BlockNo → Text → Bool
+accounts_block s f p (says.Page t g q bytes) = server_eq t s && (file_eq g f && block_eq q p)
+accounts_block s f p (says.Locked t (Block g q) by) = server_eq t s && (file_eq g f && block_eq q p)
+accounts_block s f p _ = false
+
+-- these lines print the files of a server, but for what they show as locked
+pub record ShowsFiles (files : AllFiles) (s : ServerNo) (lines : List Line) : Type 0 where
+  pub printed : AllAsIn files lines
+  pub no_other_file : (f : FileNo) → says (accounts_file s f) lines ≡ false → files s (File f) ≡ None
+  pub no_other_block : (f : FileNo) (p : BlockNo) → says (prints_file s f) lines ≡ true → says (accounts_block s f p) lines ≡ false → files s (Block f p) ≡ None
+
+-- a show that was refused or stopped
+abbrev pub is_no_show : Text → Bool
+is_no_show (says.RefusedEvent refusal) = true
+is_no_show (says.Stopped s) = true
+is_no_show _ = false
+
+abbrev pub is_locked : Text → Bool
+is_locked (says.Locked s u t) = true
+is_locked _ = false
+
+-- each show that printed shows the files after the commits before it
+abbrev pub ShownSoFar : AllFiles → List Event → List Line → Type 0
+ShownSoFar files events lines =
+    (i : ℕ) (s : ServerNo) → event_at events i ≡ Some (Show s) → says is_no_show (lines_at (AtEvent i) lines) ≡ false
+    → ShowsFiles (replay files events lines (history_of (lines_before (AtEvent i) lines))) s (lines_at (AtEvent i) lines)
+
+-- the end shows the files of every server after all commits, and nothing locked
+pub record ShownAtEnd (files : AllFiles) (events : List Event) (lines : List Line) : Type 0 where
+  pub all : (s : ServerNo) → ShowsFiles (replay files events lines (history_of lines)) s (lines_at End lines)
+  pub unlocked : says is_locked (lines_at End lines) ≡ false
+
+pub record Shown (files : AllFiles) (events : List Event) (lines : List Line) : Type 0 where
+  pub so_far : ShownSoFar files events lines
+  pub at_end : ShownAtEnd files events lines

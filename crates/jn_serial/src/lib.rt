@@ -1,0 +1,20 @@
+//! What a report says of a schedule: the order of the commits, and whether the answers are that order's.
+#![tactic(auto)]
+
+mod answers;
+mod files;
+mod lines;
+mod order;
+mod outcomes;
+mod perform;
+mod transactions;
+
+pub use files::{Files, Performed, StoredBlock, StoredFile};
+pub use lines::history;
+pub use order::{agrees, replay};
+pub use outcomes::told;
+pub use perform::do_op;
+pub use transactions::ops_of;
+
+#[cfg(test)]
+mod tests;

@@ -1,0 +1,4 @@
+pub mod HexDigits
+pub mod Numbers
+pub mod Runs
+pub mod Zeros

@@ -1,0 +1,12 @@
+//! Numbers and bytes as they are spelled in schedules and reports.
+#![tactic(auto)]
+
+mod read;
+#[cfg(test)]
+mod tests;
+mod write;
+
+pub use read::{
+    one_number_stands_at_a_place, one_spelling_stands_at_a_place, read_hex, read_number,
+};
+pub use write::{push_hex, push_number};
