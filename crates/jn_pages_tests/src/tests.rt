@@ -311,3 +311,18 @@ fn a_stop_leaves_candidates_that_the_store_allows(rt: HostRuntime) -> Result<(),
     }
     Ok(())
 }
+
+#[test]
+fn a_get_answers_the_first_good_half(rt: HostRuntime) -> Result<(), Fail> {
+    for (from, byte, calls) in [
+        ((Good(1), Good(2)), 1, 1),
+        ((Good(1), Bad(2)), 1, 1),
+        ((Bad(1), Good(2)), 2, 5),
+    ] {
+        let mut store = store_of(&rt, rt.alloc(), from)?;
+        let got = store.get(0).map(|page| byte_of(&page));
+        assert_eq!(rt; got, Ok(byte), "{from:?}");
+        assert_eq!(rt; store.into_inner().calls(), calls, "{from:?}");
+    }
+    Ok(())
+}

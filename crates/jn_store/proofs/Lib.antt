@@ -1,2 +1,3 @@
 pub mod Laws
 pub mod Choices
+pub mod Events

@@ -1,0 +1,42 @@
+-- What befalls a store's device between calls, as the store's users see it.
+use Rattle.std.proofs.Common.{◌≡◌, ℕ, ◌+◌, ◌/◌, Bool, true, Option, Some, refl, ◌∙◌, ap, arith}
+use Rattle.std.proofs.lemmas.Bool.Decides.{nat_tests}
+use Rattle.std.specs.Prelude.{◌&&◌}
+use Rattle.jn_base.specs.declared.device.FaultKind.{FaultKind}
+use Rattle.jn_base.specs.declared.device.FaultKind.TheVariants.{Decay, Revive}
+use Rattle.jn_device.specs.Device.{PageState, DeviceState, page_met}
+use Rattle.jn_device.specs.Events.{Becomes, PowersUp, Decays, Revives}
+use Rattle.jn_store.specs.Store.{IsSamePage, IsWhole}
+use Rattle.jn_store.specs.Pairs.{pairs_view}
+
+met_bytes : (s : DeviceState) (k : Option FaultKind) (q : ℕ) → (page_met s k q).bytes ≡ (s.pages q).bytes
+met_bytes s k q = grind (arith, nat_tests)
+
+module _ (s t : DeviceState) (pages : ℕ → PageState) (power : Bool) (becomes : Becomes s pages power t) where
+  pub becomes_count : (pairs_view t).count ≡ (pairs_view s).count
+  becomes_count = ap (λ n. n / 2) becomes.count
+
+  pub becomes_same : ((q : ℕ) → (pages q).bytes ≡ (s.pages q).bytes) → (i : ℕ) → IsSamePage (pairs_view s) (pairs_view t) i
+  becomes_same bytes i = record {
+    first = ap (λ (x : PageState). x.bytes) (becomes.pages_are i) ∙ bytes i;
+    second = ap (λ n. (t.pages (i + n / 2)).bytes) becomes.count ∙ ap (λ (x : PageState). x.bytes) (becomes.pages_are (i + s.count / 2)) ∙ bytes (i + s.count / 2);
+  }
+
+-- no event changes a candidate
+pub powers_up_same : (s t : DeviceState) → PowersUp s t → (i : ℕ) → IsSamePage (pairs_view s) (pairs_view t) i
+powers_up_same s t up i = becomes_same s t _ true up (λ q. refl) i
+
+pub decays_same : (s t : DeviceState) (p : ℕ) (answer : Bool) → Decays s p answer t → (i : ℕ) → IsSamePage (pairs_view s) (pairs_view t) i
+decays_same s t p answer decays i = becomes_same s t _ s.power decays.becomes (met_bytes s (Some (Decay p))) i
+
+pub revives_same : (s t : DeviceState) (p : ℕ) → Revives s p t → (i : ℕ) → IsSamePage (pairs_view s) (pairs_view t) i
+revives_same s t p revives i = becomes_same s t _ s.power revives (met_bytes s (Some (Revive p))) i
+
+-- and the power's coming leaves each whole page whole
+pub powers_up_whole : (s t : DeviceState) → PowersUp s t → (i : ℕ) → IsWhole (pairs_view s) i → IsWhole (pairs_view t) i
+powers_up_whole s t up i whole =
+    let same = powers_up_same s t up i in
+    record {
+      both = ap (λ n. (t.pages i).good && (t.pages (i + n / 2)).good) up.count ∙ ap (λ (x : PageState). x.good && (t.pages (i + s.count / 2)).good) (up.pages_are i) ∙ ap (λ (x : PageState). (s.pages i).good && x.good) (up.pages_are (i + s.count / 2)) ∙ whole.both;
+      clean = cc (same.first, same.second, whole.clean);
+    }
