@@ -1,5 +1,5 @@
 -- What a run leaves, from what was told of its chapters.
-use Rattle.std.proofs.Common.{append-nil, ◌≡◌, ◌≢◌, ℕ, zero, suc, ◌+◌, ◌*◌, ◌<◌, ◌≤◌, Bool, true, false, cond, List, [], ◌∷◌, ◌++◌, length, take, drop, Option, Some, None, option_map, option_and_then, Result, Ok, Err, is_ok, IsErr, IsErrAnd, refl, sym, ◌∙◌, ap, subst, arith, append_assoc}
+use Rattle.std.proofs.Common.{append-nil, ◌≡◌, ◌≢◌, inl, inr, ℕ, zero, suc, ◌+◌, ◌*◌, ◌<◌, ◌≤◌, Bool, true, false, cond, List, [], ◌∷◌, ◌++◌, length, take, drop, Option, Some, None, option_map, option_and_then, Result, Ok, Err, is_ok, IsErr, IsErrAnd, refl, sym, ◌∙◌, ap, subst, arith, append_assoc}
 use Rattle.jn_base.specs.declared.names.FileNo.{FileNo}
 use Rattle.jn_base.specs.declared.names.LockUnit.{LockUnit}
 use Rattle.jn_base.specs.declared.names.LockUnit.TheVariants.{File, Block}
@@ -16,7 +16,7 @@ use Rattle.jn_host.proofs.Faults.{rose_since}
 use Rattle.jn_run.specs.declared.outside.RunFault.{RunFault}
 use Rattle.jn_run.specs.Form.{events_of, op_events}
 use Rattle.jn_run.specs.Pages.{Counts, Pages, server_0, only_server_0, files_of_pages, head_from, head_place, data_place, is_head_of, block_in, block_behind, address_in, HoldsFiles, PrintsFiles}
-use Rattle.jn_run.specs.Outcome.{Took, TookFront, IsRun}
+use Rattle.jn_run.specs.Outcome.{Took, TookFront, IsRun, IsReport}
 use Rattle.jn_run.specs.Outside.{Reports, Tells}
 use Rattle.jn_run.specs.Story.{Chapter, lines_in, events_in, story, op_chapters, end_chapter, opening_chapters, files_at_end}
 use Rattle.jn_run.specs.Ending.{end_line, ending}
@@ -61,6 +61,7 @@ ran-in-part a b f g ops (Err e) h t =
       whole = λ ok. cc;
       part = λ cut. record {
         lines = lines_in (take k (story ops));
+        report = inl (k, refl);
         run = record {
           done = events_in (take k (story ops));
           others = events_in (drop k (story ops));
@@ -75,8 +76,8 @@ ran-in-part a b f g ops (Err e) h t =
 -- the lines at the end, after the whole story
 pub ran-to-end : (a b c : Option (List ℕ)) (f g h : ℕ) (ops : List Op) (epoch : ℕ) (counts : Counts) (pages : Pages) (lines : List Line) (r : Result (Unit {0}) RunFault)
     → Tells a f (story ops) (Ok tt) b g → AllWriteWithin ops → HoldsFiles counts pages (files_at_end no_files ops server_0)
-    → ArePrinted (files_of_pages counts pages) epoch lines → Reports b g lines r c h → Ran a f ops r c h
-ran-to-end a b c f g h ops epoch counts pages lines r told within hold printed reported =
+    → epoch ≡ 2 → ArePrinted (files_of_pages counts pages) epoch lines → Reports b g lines r c h → Ran a f ops r c h
+ran-to-end a b c f g h ops epoch counts pages lines r told within hold second printed reported =
     let at : AtServer0 (files_at_end no_files ops) = at-server-0 ops no_files within no-files-at-server-0 in
     let same = pages-hold counts pages (files_at_end no_files ops) hold at in
     let shows : ShowsFiles (files_at_end no_files ops) server_0 printed.prints = subst (λ (fs : AllFiles). ShowsFiles fs server_0 printed.prints) same printed.shows in
@@ -86,11 +87,17 @@ ran-to-end a b c f g h ops epoch counts pages lines r told within hold printed r
     let run : IsRun (events_of ops) (lines_in (story ops) ++ lines) =
     subst (λ (ls : List Line). IsRun (events_of ops) (lines_in (story ops) ++ ls)) (sym printed.all) (subst (λ (es : List Event). IsRun es (lines_in (story ops) ++ ending epoch printed.prints)) (events_in-story ops) whole) in
     let text = sym (report_text-append (lines_in (story ops)) lines) in
+    let report : IsReport ops (lines_in (story ops) ++ lines) = record {
+      prints = printed.prints;
+      are_prints = printed.are_prints;
+      all = ap (λ (ls : List Line). lines_in (story ops) ++ ls) (printed.all ∙ ap (λ n. ending n printed.prints) second);
+    } in
     record {
       count = omega (arith, told.count, reported.count);
-      whole = λ ok. record { lines = lines_in (story ops) ++ lines; run = run; took = subst (λ (t : List ℕ). Took a c t) text (took-then a b c (report_text (lines_in (story ops))) (report_text lines) (told.whole refl) (reported.whole ok)) };
+      whole = λ ok. record { lines = lines_in (story ops) ++ lines; report = report; run = run; took = subst (λ (t : List ℕ). Took a c t) text (took-then a b c (report_text (lines_in (story ops))) (report_text lines) (told.whole refl) (reported.whole ok)) };
       part = λ cut. record {
         lines = lines_in (story ops) ++ lines;
+        report = inr report;
         run = record { done = events_of ops; others = []; all = sym (append-nil (events_of ops)); holds = run.holds };
         took = subst (λ (t : List ℕ). TookFront a c t) text (front-then a b c (report_text (lines_in (story ops))) (report_text lines) (told.whole refl) (reported.front cut));
       };

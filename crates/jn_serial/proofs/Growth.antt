@@ -118,7 +118,7 @@ follows-earlier out number (e ∷ es) ls ms high within h =
     let same = lines_at-earlier (number + suc (length es)) high number ls ms within (omega arith) in (
       subst (λ (m : List Line). FollowsEvent out number e m) (sym same) h.0,
       subst (λ (m : List Line). FollowsFrom (after_one out number e m) (number + 1) es (ls ++ ms)) (sym same)
-        (follows-earlier (after_one out number e (lines_at (AtEvent number) ls)) (number + 1) es ls ms high (subst (λ n. AreWithin n high ms) (shift number (length es)) within) h.1),
+          (follows-earlier (after_one out number e (lines_at (AtEvent number) ls)) (number + 1) es ls ms high (subst (λ n. AreWithin n high ms) (shift number (length es)) within) h.1),
     )
   where
     shift : (a b : ℕ) → a + suc b ≡ (a + 1) + b

@@ -22,5 +22,6 @@ NamesOnce-more (u ∷ ts) t once new = (
     parts : (a b : Bool) → (a || b) ≡ false → (a ≡ false) × (b ≡ false)
     parts true b h = cc
     parts false b h = (refl, h)
+
     neither : (a b : Bool) → a ≡ false → b ≡ false → (a || (b || false)) ≡ false
     neither a b g h = rw (g, h) refl

@@ -1,4 +1,4 @@
-use Rattle.std.proofs.Common.{◌≡◌, ℕ, ◌+◌, ◌*◌, List, [], ◌∷◌, ◌++◌, length, Option, Result, sym, subst}
+use Rattle.std.proofs.Common.{◌≡◌, ℕ, ◌+◌, ◌*◌, List, [], ◌∷◌, ◌++◌, length, Option, Result, sym, ap, subst}
 use Rattle.jn_order.specs.Files.{AllFiles, no_files}
 use Rattle.jn_serial.specs.Stored.{files_of}
 use Rattle.jn_serial.proofs.Orders.{AreSame-equal}
@@ -70,6 +70,10 @@ carried : (g : Counts) (pages : Pages) (fs begin : AllFiles) (ops : List Op) →
 carried g pages fs begin ops none ends h =
     subst (λ (x : AllFiles). HoldsFiles g pages (files_at_end x ops server_0)) none (subst (λ (x : AllFiles). HoldsFiles g pages (x server_0)) ends h)
 
+-- the root's epoch was raised twice
+second_epoch : (before after : List ℕ) (first none : ℕ) → after ≡ before → epoch_in before ≡ first → first ≡ none + 1 → none ≡ 0 → epoch_in after + 1 ≡ 2
+second_epoch before after first none same is next start = ap (λ (p : List ℕ). epoch_in p + 1) same ∙ ap (λ n. n + 1) (is ∙ next ∙ ap (λ n. n + 1) start)
+
 pub returns : goal.returns
 returns g c =
     let ops = c.args.ops.now in
@@ -82,5 +86,6 @@ returns g c =
           c.in_ok-tell_commit.ensures.told)
           c.requires.within
           (carried (counts_of disk) (pages_of disk) (files_of c.tell_operations.new.files) (files_of c.new-files.result) ops none c.in_ok-tell_operations.ensures.files c.carry_out.ensures.holds)
+          (second_epoch (pages_of c.raise_epoch-epoch.new.self 0) (pages_of disk 0) _ _ c.carry_out.ensures.root c.raise_epoch-epoch.ensures.epoch c.raise_epoch-epoch.ensures.next c.in_ok-disk.ensures.epoch)
           (subst (λ (ls : List Line). ArePrinted (files_of_pages (counts_of disk) (pages_of disk)) (epoch_in (pages_of disk 0) + 1) ls) (sym c.deref.ensures.value) c.in_ok-lines.ensures) c.report.ensures.reported;
     }
