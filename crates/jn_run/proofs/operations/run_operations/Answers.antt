@@ -1,4 +1,4 @@
-use Rattle.std.proofs.Common.{◌≡◌, ℕ, ◌+◌, ◌*◌, List, [], ◌∷◌, ◌++◌, length, Option, Result, sym, ap, subst}
+use Rattle.std.proofs.Common.{◌≡◌, ◌∙◌, ℕ, ◌+◌, ◌*◌, List, [], ◌∷◌, ◌++◌, length, Option, Result, sym, ap, subst}
 use Rattle.jn_order.specs.Files.{AllFiles, no_files}
 use Rattle.jn_serial.specs.Stored.{files_of}
 use Rattle.jn_serial.proofs.Orders.{AreSame-equal}
