@@ -7,7 +7,7 @@ use Rattle.jn_device.specs.declared.Look.{Look}
 use Rattle.jn_device.specs.declared.Look.TheVariants.{Good, LooksBad}
 use Rattle.jn_device.specs.Device.{DeviceState, partner_of}
 use Rattle.jn_device.specs.Calls.{GetStep}
-use Rattle.jn_device.specs.Later.{Later, OthersStruck}
+use Rattle.jn_device.specs.Later.{Later, Struck}
 use Rattle.jn_device.proofs.Later.{later_trans, struck_trans}
 use Rattle.jn_device.proofs.Steps.{get_later, get_struck, get_bytes}
 use Rattle.jn_careful.specs.Careful.{CarefulGot, IsServed, IsStopped}
@@ -17,7 +17,7 @@ pub record Looking (s : DeviceState) (p n : ℕ) (t : DeviceState) : Type 0 wher
   pub later : Later s t
   pub calls : t.calls ≤ s.calls + n
   pub puts : t.puts ≡ s.puts
-  pub struck : OthersStruck p s t
+  pub struck : (q : ℕ) → Struck q s t
   pub bytes : (q : ℕ) → (t.pages q).bytes ≡ (s.pages q).bytes
   pub tried : ((t.pages p).good ≡ false) ⊎ (n ≤ (t.pages p).fails)
   pub half : partner_of s p ≢ p → (s.pages p).good ≡ true → (s.pages (partner_of s p)).good ≡ false → ((t.pages p).good ≡ true) × ((t.pages (partner_of s p)).good ≡ false)
@@ -38,8 +38,8 @@ module _ (s : DeviceState) (p n : ℕ) (t : DeviceState) (l : Looking s p n t) (
   since : Later s u
   since = later_trans s t u l.later (get_later t p answer u step)
 
-  more_struck : OthersStruck p s u
-  more_struck = struck_trans p s t u l.later (get_later t p answer u step) l.struck (get_struck t p answer u step)
+  more_struck : (q : ℕ) → Struck q s u
+  more_struck q = struck_trans q s t u l.later (get_later t p answer u step) (l.struck q) (get_struck t p answer u step q)
 
   same_bytes : (q : ℕ) → (u.pages q).bytes ≡ (s.pages q).bytes
   same_bytes q = get_bytes t p answer u step q ∙ l.bytes q
@@ -76,7 +76,8 @@ module _ (s : DeviceState) (p n : ℕ) (t : DeviceState) (l : Looking s p n t) (
     later = since;
     calls = omega (arith, gets_up t p answer u step, l.calls);
     puts = step.puts ∙ l.puts;
-    struck = more_struck;
+    struck = λ q _. more_struck q;
+    own = more_struck p;
     bytes = same_bytes;
     good = λ w is. grind (arith, nat_tests);
     bad = λ is. absurd (cc is);
@@ -92,7 +93,8 @@ module _ (s : DeviceState) (p n : ℕ) (t : DeviceState) (l : Looking s p n t) (
     later = since;
     calls = omega (arith, gets_up t p answer u step, l.calls);
     puts = step.puts ∙ l.puts;
-    struck = more_struck;
+    struck = λ q _. more_struck q;
+    own = more_struck p;
     bytes = same_bytes;
     good = λ v is. absurd (cc is);
     bad = λ is. absurd (cc is);
@@ -107,7 +109,8 @@ look_end s p n t l four few = record {
   later = l.later;
   calls = omega (arith, l.calls);
   puts = l.puts;
-  struck = l.struck;
+  struck = λ q _. l.struck q;
+  own = l.struck p;
   bytes = l.bytes;
   good = λ w is. absurd (cc is);
   bad = λ _. ⊎_elim (λ h. h) (λ h. absurd (omega (arith, h))) l.tried;

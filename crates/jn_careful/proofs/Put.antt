@@ -7,7 +7,7 @@ use Rattle.jn_device.specs.declared.Look.{Look}
 use Rattle.jn_device.specs.declared.Look.TheVariants.{Good, LooksBad}
 use Rattle.jn_device.specs.Device.{DeviceState, Rose}
 use Rattle.jn_device.specs.Calls.{GetStep, PutStep}
-use Rattle.jn_device.specs.Later.{Later, OthersStruck}
+use Rattle.jn_device.specs.Later.{Later, Struck}
 use Rattle.jn_device.proofs.Later.{later_trans, struck_trans, rose_since, rose_then}
 use Rattle.jn_device.proofs.Steps.{get_later, put_later, get_struck, put_struck, get_bytes, put_bytes, put_bytes_at}
 use Rattle.jn_careful.proofs.Get.{gets_up}
@@ -17,7 +17,7 @@ use Rattle.jn_careful.specs.Careful.{CarefulPut, IsServed, IsStopped}
 pub record Putting (s : DeviceState) (p : ℕ) (new : List ℕ) (n : ℕ) (t : DeviceState) : Type 0 where
   pub later : Later s t
   pub calls : t.calls ≤ s.calls + 2 * n
-  pub struck : OthersStruck p s t
+  pub struck : (q : ℕ) → q ≢ p → Struck q s t
   pub others : (q : ℕ) → q ≢ p → (t.pages q).bytes ≡ (s.pages q).bytes
   pub bytes : ((t.pages p).bytes ≡ new) ⊎ ((t.pages p).bytes ≡ (s.pages p).bytes)
   pub tried : n ≤ (t.pages p).fails
@@ -78,7 +78,7 @@ module _ (s : DeviceState) (p : ℕ) (new : List ℕ) (n : ℕ) (t : DeviceState
       record {
         later = later_trans s t m l.later later;
         calls = omega (arith, puts_up t p new true m step, l.calls);
-        struck = struck_trans p s t m l.later later l.struck (put_struck t p new true m step);
+        struck = λ q ne. struck_trans q s t m l.later later (l.struck q ne) (put_struck t p new true m step q ne);
         others = λ q ne. put_bytes t p new true m step q ne ∙ l.others q ne;
         bytes = at (m.pages p).bytes (put_bytes_at t p new true m step);
         done = λ is. absurd (cc is);
@@ -98,8 +98,8 @@ module _ (s : DeviceState) (p : ℕ) (new : List ℕ) (n : ℕ) (t : DeviceState
     turn_calls : u.calls ≤ s.calls + (2 * n + 2)
     turn_calls = omega (arith, puts_up t p new false m put, gets_up m p answer u look, l.calls)
 
-    turn_struck : OthersStruck p s u
-    turn_struck = struck_trans p s m u to_m (get_later m p answer u look) (struck_trans p s t m l.later (put_later t p new false m put) l.struck (put_struck t p new false m put)) (get_struck m p answer u look)
+    turn_struck : (q : ℕ) → q ≢ p → Struck q s u
+    turn_struck q ne = struck_trans q s m u to_m (get_later m p answer u look) (struck_trans q s t m l.later (put_later t p new false m put) (l.struck q ne) (put_struck t p new false m put q ne)) (get_struck m p answer u look q)
 
     turn_others : (q : ℕ) → q ≢ p → (u.pages q).bytes ≡ (s.pages q).bytes
     turn_others q ne = get_bytes m p answer u look q ∙ put_bytes t p new false m put q ne ∙ l.others q ne

@@ -2,7 +2,7 @@
 use Rattle.std.specs.Prelude.{◌≡◌, ◌≢◌, ◌⊎◌, ℕ, ◌+◌, ◌≤◌, Bool, true, false, List, [], Option, Some, None, Result, Ok, Err}
 use Rattle.jn_base.specs.declared.device.Stopped.{Stopped}
 use Rattle.jn_device.specs.Device.{DeviceState, Rose, partner_of}
-use Rattle.jn_device.specs.Later.{Later, OthersStruck}
+use Rattle.jn_device.specs.Later.{Later, Struck}
 
 -- a call that is answered Ok: the power is there, and no stop was counted
 pub record IsServed (s t : DeviceState) : Type 0 where
@@ -19,8 +19,9 @@ pub record CarefulGot (s : DeviceState) (p : ℕ) (answer : Result (Option (List
   pub later : Later s t
   pub calls : t.calls ≤ s.calls + 4
   pub puts : t.puts ≡ s.puts
-  -- no bytes change, and other pages become good or bad only by faults that struck them
-  pub struck : OthersStruck p s t
+  -- no bytes change, and a page becomes good or bad only by a fault that struck it
+  pub struck : (q : ℕ) → q ≢ p → Struck q s t
+  pub own : Struck p s t
   pub bytes : (q : ℕ) → (t.pages q).bytes ≡ (s.pages q).bytes
   pub good : (v : List ℕ) → answer ≡ Ok (Some v) → (v ≡ (t.pages p).bytes) × ((t.pages p).good ≡ true)
   pub bad : answer ≡ Ok None → (t.pages p).good ≡ false
@@ -34,7 +35,7 @@ pub record CarefulGot (s : DeviceState) (p : ℕ) (answer : Result (Option (List
 pub record CarefulPut (s : DeviceState) (p : ℕ) (new : List ℕ) (stopped : Bool) (t : DeviceState) : Type 0 where
   pub later : Later s t
   pub calls : t.calls ≤ s.calls + 8
-  pub struck : OthersStruck p s t
+  pub struck : (q : ℕ) → q ≢ p → Struck q s t
   pub others : (q : ℕ) → q ≢ p → (t.pages q).bytes ≡ (s.pages q).bytes
   pub bytes : ((t.pages p).bytes ≡ new) ⊎ ((t.pages p).bytes ≡ (s.pages p).bytes)
   pub done : stopped ≡ false → ((t.pages p).good ≡ true) × ((t.pages p).bytes ≡ new)

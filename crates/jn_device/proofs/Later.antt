@@ -4,7 +4,7 @@ use Rattle.std.proofs.lemmas.Bool.Decides.{nat_tests}
 use Rattle.jn_base.specs.declared.device.Outside.{Outside}
 use Rattle.jn_device.specs.declared.Armed.{Armed}
 use Rattle.jn_device.specs.Device.{DeviceState, bumped, Rose}
-use Rattle.jn_device.specs.Later.{Later, Spends, OthersStruck, touches}
+use Rattle.jn_device.specs.Later.{Later, Spends, Struck, touches}
 
 pub rose_bumped : (n : ℕ) → Rose n (bumped n)
 rose_bumped n = grind (arith, nat_tests)
@@ -56,5 +56,5 @@ later_trans a b c f g = record {
   good = λ q on i h. g.good (f.quiet q) (f.power q on) i (f.good q on i h);
 }
 
-pub struck_trans : (p : ℕ) (a b c : DeviceState) → Later a b → Later b c → OthersStruck p a b → OthersStruck p b c → OthersStruck p a c
-struck_trans p a b c ab bc f g q ne = grind (arith, f q ne, g q ne, ab.spends.used (touches q), bc.spends.used (touches q))
+pub struck_trans : (q : ℕ) (a b c : DeviceState) → Later a b → Later b c → Struck q a b → Struck q b c → Struck q a c
+struck_trans q a b c ab bc f g = grind (arith, f, g, ab.spends.used (touches q), bc.spends.used (touches q))

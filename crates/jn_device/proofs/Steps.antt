@@ -1,5 +1,5 @@
 -- What one call of the device keeps.
-use Rattle.std.proofs.Common.{◌≡◌, ◌≢◌, ◌⊎◌, ℕ, ◌+◌, ◌≤◌, ◌<◌, ◌/◌, Bool, true, List, [], ◌∷◌, ◌++◌, Option, Some, None, Result, sym, ap, subst, arith}
+use Rattle.std.proofs.Common.{◌≡◌, ◌≢◌, ◌⊎◌, inl, inr, ◌∙◌, ℕ, ◌+◌, ◌≤◌, ◌<◌, ◌/◌, Bool, true, List, [], ◌∷◌, ◌++◌, Option, Some, None, Result, sym, ap, subst, arith}
 use Rattle.std.proofs.lemmas.Bool.Decides.{nat_tests}
 use Rattle.std.specs.Prelude.{◌||◌, if◌then◌else◌}
 use Rattle.jn_base.specs.declared.device.FaultKind.{FaultKind}
@@ -11,7 +11,7 @@ use Rattle.jn_device.specs.declared.Look.{Look}
 use Rattle.jn_device.specs.Device.{DeviceState, page_met, IsSound}
 use Rattle.jn_device.specs.Calls.{due, waiting_on, strike, CallStep, GetStep, PutStep, told_of}
 use Rattle.jn_device.specs.Events.{Becomes, Decays}
-use Rattle.jn_device.specs.Later.{Later, OthersStruck, count_kind, count_told, is_stop, touches, darkness}
+use Rattle.jn_device.specs.Later.{Later, Struck, count_kind, count_told, is_stop, touches, darkness}
 
 -- 1 where the fault that strikes is of these kinds
 abbrev struck_count : (FaultKind → Bool) → Option FaultKind → ℕ
@@ -49,6 +49,10 @@ met_sound s (Some StopBefore) i below had = had
 met_sound s (Some StopTorn) i below had = had
 met_sound s (Some StopAfter) i below had = had
 
+-- a page that becomes good or bad by itself is the one of the fault that strikes
+met_struck : (s : DeviceState) (k : Option FaultKind) (q : ℕ) → ((page_met s k q).good ≡ (s.pages q).good) ⊎ (struck_count (touches q) k ≡ 1)
+met_struck s k q = grind (arith, nat_tests)
+
 -- what each call does to the faults, whatever it tells
 module _ (s : DeviceState) (stops is_done : Bool) (g : FaultKind → Bool) (p : ℕ) (t : DeviceState) (call : CallStep s stops is_done (told_of g p (strike s)) t) where
   call_used : (f : FaultKind → Bool) → count_kind f t.waiting ≤ count_kind f s.waiting
@@ -85,8 +89,11 @@ module _ (s : DeviceState) (p : ℕ) (answer : Result Look Stopped) (t : DeviceS
     good = get_good;
   }
 
-  pub get_struck : OthersStruck p s t
-  get_struck q ne = grind (arith, nat_tests, spent_on (touches q) s.waiting, ap (count_kind (touches q)) step.call.waiting)
+  pub get_struck : (q : ℕ) → Struck q s t
+  get_struck q = elim (met_struck s (strike s) q) [
+    | inl same ↦ inl (got_good q ∙ same)
+    | inr one ↦ inr (grind (arith, spent_on (touches q) s.waiting, ap (count_kind (touches q)) step.call.waiting))
+  ]
 
   -- a get changes no bytes
   pub get_bytes : (q : ℕ) → (t.pages q).bytes ≡ (s.pages q).bytes
@@ -117,7 +124,7 @@ module _ (s : DeviceState) (p : ℕ) (new : List ℕ) (stopped : Bool) (t : Devi
     good = put_good;
   }
 
-  pub put_struck : OthersStruck p s t
+  pub put_struck : (q : ℕ) → q ≢ p → Struck q s t
   put_struck q ne = grind (arith, nat_tests, spent_on (touches q) s.waiting, ap (count_kind (touches q)) step.call.waiting)
 
   -- a put changes the bytes of its page alone

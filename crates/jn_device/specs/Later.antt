@@ -1,5 +1,5 @@
 -- What every run of calls keeps.
-use Rattle.std.specs.Prelude.{◌≡◌, ◌≢◌, ◌⊎◌, ℕ, ◌+◌, ◌≤◌, ◌<◌, Bool, true, false, if◌then◌else◌, nat_eq, List, [], ◌∷◌}
+use Rattle.std.specs.Prelude.{◌≡◌, ◌⊎◌, ℕ, ◌+◌, ◌≤◌, ◌<◌, Bool, true, false, if◌then◌else◌, nat_eq, List, [], ◌∷◌}
 use Rattle.jn_base.specs.declared.device.FaultKind.{FaultKind}
 use Rattle.jn_base.specs.declared.device.FaultKind.TheVariants.{Decay, Revive, StopBefore, StopTorn, StopAfter}
 use Rattle.jn_base.specs.declared.device.Outside.{Outside}
@@ -56,6 +56,6 @@ pub record Later (s t : DeviceState) : Type 0 where
   pub no_stop : s.waiting ≡ [] → s.power ≡ true → t.stops ≡ s.stops
   pub good : s.waiting ≡ [] → s.power ≡ true → (q : ℕ) → (s.pages q).good ≡ true → (t.pages q).good ≡ true
 
--- a page other than p became good or bad only where a decay or a revival of it struck
-abbrev pub OthersStruck : ℕ → DeviceState → DeviceState → Type 0
-OthersStruck p s t = (q : ℕ) → q ≢ p → ((t.pages q).good ≡ (s.pages q).good) ⊎ (count_kind (touches q) t.waiting < count_kind (touches q) s.waiting)
+-- page q became good or bad only where a decay or a revival of it struck
+abbrev pub Struck : ℕ → DeviceState → DeviceState → Type 0
+Struck q s t = ((t.pages q).good ≡ (s.pages q).good) ⊎ (count_kind (touches q) t.waiting < count_kind (touches q) s.waiting)

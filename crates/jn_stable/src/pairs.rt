@@ -1,8 +1,10 @@
 // Pairs of careful pages as a store.
-ghost use Rattle.std.specs.Prelude.{◌≡◌, ◌≤◌, ◌<◌, ◌/◌, ◌^◌, ◌*◌, ℕ};
+ghost use Rattle.std.specs.Prelude.{◌≡◌, ◌≤◌, ◌<◌, ◌/◌, ◌^◌, ◌*◌, ℕ, is_ok};
 ghost use Rattle.std.proofs.Common.{arith};
 ghost use Rattle.jn_device.specs.Device.{IsSound};
 ghost use Rattle.jn_store.specs.Pairs.{pairs_view};
+ghost use Rattle.jn_store.specs.Store.{StoreGot, StorePut, StoreCleaned};
+ghost use Rattle.jn_stable.specs.Order.{GetsInOrder, PutsInOrder, CleansInOrder};
 
 use jn_base::{Page, Stopped};
 use jn_careful::Careful;
@@ -55,7 +57,11 @@ impl<D: PhysDisk> StableStore for Pairs<D> {
         self.disk.count() / 2
     }
 
-    fn get(&mut self, i: u32) -> Result<Page, Stopped> {
+    fn get(&mut self, i: u32) -> Result<Page, Stopped>
+        requires { i < (pairs_view (D.state self.old)).count }
+        ensures got { StoreGot (pairs_view (D.state self.old)) i result (pairs_view (D.state self.new)) }
+        ensures order { GetsInOrder (D.state self.old) i result }
+    {
         let other = i + self.disk.count() / 2;
         if let Some(page) = self.disk.get(i)? {
             return Ok(page);
@@ -66,14 +72,22 @@ impl<D: PhysDisk> StableStore for Pairs<D> {
         Ok(page)
     }
 
-    fn put(&mut self, i: u32, page: &Page) -> Result<(), Stopped> {
+    fn put(&mut self, i: u32, page: &Page) -> Result<(), Stopped>
+        requires { i < (pairs_view (D.state self.old)).count }
+        ensures put { StorePut (pairs_view (D.state self.old)) i page.now (is_ok result) (pairs_view (D.state self.new)) }
+        ensures order { PutsInOrder (D.state self.old) i page.now (D.state self.new) }
+    {
         let other = i + self.disk.count() / 2;
         self.disk.put(i, page)?;
         self.disk.put(other, page)?;
         Ok(())
     }
 
-    fn cleanup(&mut self, i: u32) -> Result<bool, Stopped> {
+    fn cleanup(&mut self, i: u32) -> Result<bool, Stopped>
+        requires { i < (pairs_view (D.state self.old)).count }
+        ensures cleaned { StoreCleaned (pairs_view (D.state self.old)) i result (pairs_view (D.state self.new)) }
+        ensures order { CleansInOrder (D.state self.old) i (D.state self.new) }
+    {
         let other = i + self.disk.count() / 2;
         let first = self.disk.get(i)?;
         let second = self.disk.get(other)?;
