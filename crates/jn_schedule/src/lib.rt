@@ -1,6 +1,12 @@
 //! Schedules: what happens, event by event.
 #![tactic(auto)]
 
+mod fault;
+mod reading;
+mod word;
+mod words;
+
+pub use fault::{LineFault, ParseFault};
 use jn_base::{ClientNo, Command, FaultKind, ServerNo, Tid};
 
 /// One event of a schedule, with its words as typed values.

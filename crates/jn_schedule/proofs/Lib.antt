@@ -1,0 +1,5 @@
+mod Blocks
+mod HexWords
+mod Numbers
+mod TextParts
+mod Told
