@@ -12,10 +12,10 @@ use Rattle.jn_schedule.specs.Faults.{same}
 use Rattle.jn_schedule.specs.Grammar.{IsByte, SpellsBlock, filled}
 use Rattle.jn_schedule.specs.Reading.{Reads, block_if, block_in}
 use Rattle.jn_schedule.proofs.HexWords.{bytes_at, bytes_from, hex_word-some}
-use Rattle.jn_schedule.proofs.Numbers.{both, all_of, is-le}
+use Rattle.jn_schedule.proofs.Numbers.{both, all_of, is-le, le-is}
 use Rattle.jn_schedule.proofs.Told.{reads_same}
 
-some_is : {X : Type 0} (x y : X) → ◌≡◌ {A = Option X} (Some x) (Some y) → x ≡ y
+pub some_is : {X : Type 0} (x y : X) → ◌≡◌ {A = Option X} (Some x) (Some y) → x ≡ y
 some_is x y e = cc
 
 lt-is : (m n : ℕ) → nat_lt m n ≡ true → m < n
@@ -23,9 +23,6 @@ lt-is m n h = grind (arith, nat_tests)
 
 is-lt : (m n : ℕ) → m < n → nat_lt m n ≡ true
 is-lt m n h = grind (arith, nat_tests)
-
-le-is : (m n : ℕ) → nat_le m n ≡ true → m ≤ n
-le-is m n h = grind (arith, nat_tests)
 
 -- what is read is spelled so
 pub block_sound : (w stored : List ℕ) → block_in w ≡ Some stored → SpellsBlock stored w

@@ -28,7 +28,7 @@ both false b c h = absurd cc
 pub all_of : (a b c : Bool) → a ≡ true → b ≡ true → c ≡ true → (a && (b && c)) ≡ true
 all_of a b c p q r = rw (p, q, r) refl
 
-le-is : (m n : ℕ) → nat_le m n ≡ true → m ≤ n
+pub le-is : (m n : ℕ) → nat_le m n ≡ true → m ≤ n
 le-is m n h = grind (arith, nat_tests)
 
 pub is-le : (m n : ℕ) → m ≤ n → nat_le m n ≡ true
