@@ -1,3 +1,4 @@
+mod Again
 mod Arguments
 mod Blocks
 mod Events
