@@ -3,6 +3,7 @@ mod Arguments
 mod Blocks
 mod Events
 mod HexWords
+mod Lines
 mod Numbers
 mod TextParts
 mod Told

@@ -1,5 +1,5 @@
 -- How the words of a line are read, one after the other: an event, or a fault.
-use Rattle.std.specs.Prelude.{◌≡◌, ℕ, ◌+◌, ◌-◌, ◌^◌, ◌++◌, Bool, true, false, ◌&&◌, nat_eq, nat_le, nat_lt, List, [], ◌∷◌, length, map, Option, Some, None, MatchOption, Result, Ok, Err, option_and_then, option_map, ok_or, if◌then◌else◌, codes, decimal}
+use Rattle.std.specs.Prelude.{◌≡◌, ℕ, ◌+◌, ◌-◌, ◌^◌, ◌++◌, Bool, true, false, not, ◌&&◌, nat_eq, nat_le, nat_lt, List, [], ◌∷◌, length, map, Option, Some, None, MatchOption, Result, Ok, Err, option_and_then, option_map, ok_or, if◌then◌else◌, codes, decimal}
 use Rattle.std.specs.Borrow.{Bor}
 use Rattle.std.specs.Str.Parse.{digits_value}
 use Rattle.hex.specs.Hex.{decode_of, encode_lower}
@@ -24,7 +24,10 @@ use Rattle.jn_schedule.specs.declared.reading.Kind.{Kind}
 use Rattle.jn_schedule.specs.declared.reading.Kind.TheVariants as armed
 use Rattle.jn_schedule.specs.declared.fault.LineFault.{LineFault}
 use Rattle.jn_schedule.specs.declared.fault.LineFault.TheVariants as faults
-use Rattle.jn_schedule.specs.Faults.{same}
+use Rattle.jn_schedule.specs.declared.fault.ParseFault.{ParseFault}
+use Rattle.jn_schedule.specs.declared.fault.ParseFault.TheVariants as parse
+use Rattle.std.specs.Global.{Vec}
+use Rattle.jn_schedule.specs.Faults.{same, number_of}
 use Rattle.jn_schedule.specs.Grammar.{filled, is_passed}
 
 abbrev pub texts : List (Bor (List ℕ)) → List (List ℕ)
@@ -243,3 +246,25 @@ then_lines number (Err fault) rest = Err (number, fault)
 unfoldable pub read_lines : ℕ → List (List (List ℕ)) → Result (List Event) (ℕ × LineFault)
 read_lines number [] = Ok []
 read_lines number (ws ∷ lines) = then_lines number (read_line ws) (read_lines (number + 1) lines)
+
+-- ---- what the program answers
+
+-- what reading told, unless memory ran out
+abbrev pub Fails : ParseFault → Result (List Event) (ℕ × LineFault) → Type 0
+Fails parse.Memory read = Unit {0}
+Fails (parse.Syntax line number) read = (fault : LineFault) × (number ≡ number_of fault) × (read ≡ Err (line, fault))
+
+abbrev pub Gives : Result (Vec Event) ParseFault → Result (List Event) (ℕ × LineFault) → Type 0
+Gives (Ok v) read = read ≡ Ok v.items
+Gives (Err e) read = Fails e read
+
+-- the events of a line of this number are added, or its fault is told, unless memory ran out
+abbrev pub AddsLine : Result (Unit {0}) ParseFault → ℕ → Result (List Event) LineFault → List Event → List Event → Type 0
+AddsLine (Ok x) at read before after = (es : List Event) × (read ≡ Ok es) × (after ≡ before ++ es)
+AddsLine (Err parse.Memory) at read before after = Unit {0}
+AddsLine (Err (parse.Syntax line number)) at read before after = (fault : LineFault) × (number ≡ number_of fault) × (line ≡ at) × (read ≡ Err fault)
+
+-- the first byte other than a space begins a word of an event
+abbrev pub begins_event : List ℕ → Bool
+begins_event [] = false
+begins_event (b ∷ bs) = if nat_eq b 32 then begins_event bs else not (nat_eq b 35)
