@@ -1,5 +1,5 @@
 -- What is spelled is read: the words of each event.
-use Rattle.std.proofs.Common.{codes, ◌≡◌, ◌≢◌, ℕ, ◌+◌, ◌-◌, ◌^◌, ◌<◌, ◌≤◌, ◌++◌, ◌⊎◌, ◌&&◌, inl, inr, Bool, true, false, cond, nat_eq, nat_le, List, [], ◌∷◌, length, map, Option, Some, None, Result, Ok, Err, MatchResult, MatchBool, ok_or, refl, sym, ap, ◌∙◌, subst, arith}
+use Rattle.std.proofs.Common.{codes, ◌≡◌, ℕ, ◌+◌, ◌-◌, inl, inr, Bool, true, false, cond, nat_eq, nat_le, List, [], ◌∷◌, length, map, Option, Some, None, Result, Ok, Err, MatchResult, MatchBool, refl, sym, ap, ◌∙◌, subst, arith}
 use Rattle.std.proofs.lemmas.Bool.Decides.{nat_tests}
 use Rattle.jn_base.specs.declared.device.FaultKind.{FaultKind}
 use Rattle.jn_base.specs.declared.device.FaultKind.TheVariants as kinds
@@ -21,7 +21,7 @@ use Rattle.jn_schedule.specs.Faults as places
 use Rattle.jn_schedule.specs.Faults.{FirstUnfilled, HasFault, Place, PlacesFault, command_places, is_client, places_of}
 use Rattle.jn_schedule.specs.Reading.{◌>>=◌, arm_of, by_client, client_event, client_of, command_of, event_of, fault_kind_of, has_count, kind_of, message_alone, no_client_event, nothing, one, opening_of, other_event, page_alone, server_alone, server_file, server_file_block, server_name, server_of, server_page, value_of, verb_of, written}
 use Rattle.jn_schedule.proofs.Values.{value_again, server_again, file_again, block_no_again, page_again, name_again, bytes_again}
-use Rattle.jn_schedule.proofs.Arguments.{place_of, none, none_unfilled}
+use Rattle.jn_schedule.proofs.Arguments.{place_of, none_unfilled}
 use Rattle.jn_schedule.proofs.Numbers.{all_of, is-le}
 
 -- ---- arguments
@@ -139,10 +139,11 @@ client_again c w spells =
     let least = spells.0 in
     let most = spells.1 in
     let tests = all_of true (nat_le 49 (48 + c.0)) (nat_le (48 + c.0) 56) refl (is-le 49 (48 + c.0) (omega arith)) (is-le (48 + c.0) 56 (omega arith)) in
-    let back : 48 + c.0 - 48 ≡ c.0 = omega arith in
-    (ap client_of spells.2 ∙ ap (λ (t : Bool). client_if t (48 + c.0 - 48)) tests ∙ ap (λ (n : ℕ). client_if true n) back,
-    ap is_client spells.2 ∙ tests,
-    ap begins_comment spells.2)
+    let back : 48 + c.0 - 48 ≡ c.0 = omega arith in (
+      ap client_of spells.2 ∙ ap (λ (t : Bool). client_if t (48 + c.0 - 48)) tests ∙ ap (λ (n : ℕ). client_if true n) back,
+      ap is_client spells.2 ∙ tests,
+      ap begins_comment spells.2,
+    )
 
 -- a fault's words behind its server and its call
 kind_again : (s : ServerNo) (n : ℕ) (a b k : List ℕ) (args : List (List ℕ)) (fault : FaultKind) → server_of a ≡ Ok s → value_of 1 1000000 b ≡ Ok n

@@ -1,5 +1,5 @@
 -- What the readers of the words behind the keywords tell.
-use Rattle.std.proofs.Common.{codes, ◌≡◌, ◌≢◌, ℕ, ◌+◌, ◌-◌, ◌^◌, ◌<◌, ◌≤◌, ◌++◌, ◌⊎◌, inl, inr, Bool, true, false, nat_eq, List, [], ◌∷◌, length, map, Result, Ok, Err, MatchResult, MatchBool, refl, sym, ap, ◌∙◌, subst, arith}
+use Rattle.std.proofs.Common.{codes, ◌≡◌, ◌≢◌, ℕ, inl, inr, Bool, false, nat_eq, List, [], ◌∷◌, length, map, Result, Ok, Err, MatchResult, MatchBool, refl, sym, subst, arith}
 use Rattle.std.proofs.lemmas.Bool.Decides.{nat_tests}
 use Rattle.jn_base.specs.declared.names.BlockNo.{BlockNo}
 use Rattle.jn_base.specs.declared.names.FileNo.{FileNo}
@@ -14,8 +14,8 @@ use Rattle.jn_schedule.specs.Grammar as grammar
 use Rattle.jn_schedule.specs.Grammar.{Part, SpellsPart, SpellsParts, command_parts, block_part, file_part, page_part, server_part}
 use Rattle.jn_schedule.specs.Faults as places
 use Rattle.jn_schedule.specs.Faults.{Fills, FirstUnfilled, Place, PlacesFault, block_place, fault_at, file_place, page_place, server_place}
-use Rattle.jn_schedule.specs.Reading.{◌>>=◌, block_no_of, bytes_of, file_of, message_alone, name_of, nothing, one, page_alone, page_of, server_alone, server_file, server_file_block, server_name, server_of, server_page, value_of, written}
-use Rattle.jn_schedule.proofs.Values.{Told, number_told, server_told, file_told, block_no_told, page_told, name_told, bytes_told, value_again, server_again, file_again, block_no_again, page_again, name_again, bytes_again}
+use Rattle.jn_schedule.specs.Reading.{◌>>=◌, block_no_of, bytes_of, file_of, message_alone, name_of, nothing, page_alone, page_of, server_alone, server_file, server_file_block, server_name, server_of, server_page, value_of, written}
+use Rattle.jn_schedule.proofs.Values.{Told, number_told, server_told, file_told, block_no_told, page_told, name_told, bytes_told}
 
 -- what stands where a part does
 abbrev pub place_of : Part → Place

@@ -1,5 +1,5 @@
 -- What reading the words of a line tells: the event that they spell, or their fault.
-use Rattle.std.proofs.Common.{codes, ◌≡◌, ◌≢◌, ℕ, ◌+◌, ◌-◌, ◌^◌, ◌<◌, ◌≤◌, ◌++◌, ◌⊎◌, ◌&&◌, inl, inr, Bool, true, false, cond, nat_eq, nat_le, List, [], ◌∷◌, length, map, Option, Some, None, MatchOption, Result, Ok, Err, MatchResult, MatchBool, ok_or, refl, sym, ap, ◌∙◌, subst, arith}
+use Rattle.std.proofs.Common.{codes, ◌≡◌, ℕ, ◌+◌, ◌-◌, ◌≤◌, ◌++◌, ◌&&◌, inl, inr, Bool, true, false, cond, nat_eq, nat_le, List, [], ◌∷◌, length, map, Option, Some, None, MatchOption, Result, Ok, Err, MatchResult, MatchBool, ok_or, refl, sym, ap, ◌∙◌, subst, arith}
 use Rattle.std.proofs.lemmas.Bool.{eqb-true}
 use Rattle.std.proofs.lemmas.Bool.Decides.{nat_tests}
 use Rattle.std.proofs.lemmas.Slice.Eq.{bytes_eq-Decides}
@@ -8,7 +8,6 @@ use Rattle.jn_base.specs.declared.device.FaultKind.{FaultKind}
 use Rattle.jn_base.specs.declared.device.FaultKind.TheVariants as kinds
 use Rattle.jn_base.specs.declared.names.ClientNo.{ClientNo}
 use Rattle.jn_base.specs.declared.names.ServerNo.{ServerNo}
-use Rattle.jn_base.specs.declared.op.Command.{Command}
 use Rattle.jn_base.specs.declared.op.Command.TheVariants as commands
 use Rattle.jn_base.specs.declared.op.Op.TheVariants as ops
 use Rattle.jn_schedule.specs.declared.Event.{Event}
@@ -28,7 +27,7 @@ use Rattle.jn_schedule.specs.Faults.{Fills, FirstUnfilled, HasFault, Place, Plac
 use Rattle.jn_schedule.specs.Reading.{◌>>=◌, arm_of, by_client, client_event, client_of, command_of, event_of, fault_kind_of, has_count, kind_of, kind_words, lookup, message_alone, no_client_event, nothing, one, opening_of, opening_words, other_event, page_alone, page_of, server_alone, server_file, server_file_block, server_name, server_of, server_page, value_of, verb_of, verb_words, written}
 use Rattle.jn_schedule.proofs.Numbers.{both, le-is}
 use Rattle.jn_schedule.proofs.Values.{Told, number_told, page_told, server_told}
-use Rattle.jn_schedule.proofs.Arguments.{fills, wrong_count, nothing_told, server_alone_told, page_alone_told, message_alone_told, server_file_told, server_file_block_told, server_name_told, server_page_told, written_told}
+use Rattle.jn_schedule.proofs.Arguments.{fills, wrong_count, nothing_told, server_alone_told, message_alone_told, server_file_told, server_file_block_told, server_name_told, server_page_told, written_told}
 
 -- ---- steps
 
@@ -83,17 +82,34 @@ CommandTold w args v = MatchResult (command_of v args) (λ x. SpellsParts (comma
 
 commands_told : (w : List ℕ) (args : List (List ℕ)) → AllByRecursion (λ e. w ≡ e.0 → CommandTold w args e.1) verb_words
 unfolding command_of
-commands_told w args =
-    ((λ h. over _ _ _ _ (λ s. commands.Begin s) (λ s spells. (h, spells)) (λ f x. x) (server_alone args) (server_alone_told args)),
-    ((λ h. over _ _ _ _ (λ s. commands.Open s) (λ s spells. (h, spells)) (λ f x. x) (server_alone args) (server_alone_told args)),
-    ((λ h. over _ _ _ _ (λ x. commands.Do x.0 (ops.Create x.1)) (λ x spells. (h, spells)) (λ f x. x) (server_file args) (server_file_told args)),
-    ((λ h. over _ _ _ _ (λ x. commands.Do x.0 (ops.Remove x.1)) (λ x spells. (h, spells)) (λ f x. x) (server_file args) (server_file_told args)),
-    ((λ h. over _ _ _ _ (λ x. commands.Do x.0 (ops.Cut x.1 x.2)) (λ x spells. (h, spells)) (λ f x. x) (server_file_block args) (server_file_block_told args)),
-    ((λ h. over _ _ _ _ (λ x. commands.Do x.0 (ops.Read x.1 x.2)) (λ x spells. (h, spells)) (λ f x. x) (server_file_block args) (server_file_block_told args)),
-    ((λ h. subst (λ (k : List ℕ). MatchResult (written args) (λ x. SpellsParts (command_parts x) (k ∷ args)) (λ f. PlacesFault (server_place ∷ file_place ∷ block_place ∷ places.Bytes ∷ []) args f)) (sym h) (written_told args)),
-    ((λ h. over _ _ _ _ (λ x. commands.End) (λ x spells. (h, spells)) (λ f x. x) (nothing args) (nothing_told args)),
-    ((λ h. over _ _ _ _ (λ x. commands.Abort) (λ x spells. (h, spells)) (λ f x. x) (nothing args) (nothing_told args)),
-    tt)))))))))
+commands_told w args = (
+  (λ h. over _ _ _ _ (λ s. commands.Begin s) (λ s spells. (h, spells)) (λ f x. x) (server_alone args) (server_alone_told args)),
+  (
+    (λ h. over _ _ _ _ (λ s. commands.Open s) (λ s spells. (h, spells)) (λ f x. x) (server_alone args) (server_alone_told args)),
+    (
+      (λ h. over _ _ _ _ (λ x. commands.Do x.0 (ops.Create x.1)) (λ x spells. (h, spells)) (λ f x. x) (server_file args) (server_file_told args)),
+      (
+        (λ h. over _ _ _ _ (λ x. commands.Do x.0 (ops.Remove x.1)) (λ x spells. (h, spells)) (λ f x. x) (server_file args) (server_file_told args)),
+        (
+          (λ h. over _ _ _ _ (λ x. commands.Do x.0 (ops.Cut x.1 x.2)) (λ x spells. (h, spells)) (λ f x. x) (server_file_block args) (server_file_block_told args)),
+          (
+            (λ h. over _ _ _ _ (λ x. commands.Do x.0 (ops.Read x.1 x.2)) (λ x spells. (h, spells)) (λ f x. x) (server_file_block args) (server_file_block_told args)),
+            (
+              (λ h. subst (λ (k : List ℕ). MatchResult (written args) (λ x. SpellsParts (command_parts x) (k ∷ args)) (λ f. PlacesFault (server_place ∷ file_place ∷ block_place ∷ places.Bytes ∷ []) args f)) (sym h) (written_told args)),
+              (
+                (λ h. over _ _ _ _ (λ x. commands.End) (λ x spells. (h, spells)) (λ f x. x) (nothing args) (nothing_told args)),
+                (
+                  (λ h. over _ _ _ _ (λ x. commands.Abort) (λ x spells. (h, spells)) (λ f x. x) (nothing args) (nothing_told args)),
+                  tt,
+                ),
+              ),
+            ),
+          ),
+        ),
+      ),
+    ),
+  ),
+)
 
 all_map : {X : Type 0} (P Q : X → Type 0) → ((x : X) → P x → Q x) → (xs : List X) → AllByRecursion P xs → AllByRecursion Q xs
 all_map P Q so [] all = tt
@@ -138,19 +154,40 @@ opening_places openings.Show = server_place ∷ []
 others_told : (w : List ℕ) (args : List (List ℕ))
     → AllByRecursion (λ e. w ≡ e.0 → MatchResult (other_event e.1 args) (λ x. Spells x (w ∷ args)) (λ f. PlacesFault (places.Keyword ∷ opening_places e.1) (w ∷ args) f)) opening_words
 unfolding other_event
-others_told w args =
-    ((λ h. over _ _ _ _ (λ k. events.Deliver k) (λ k spells. (h, spells)) (λ f x. filled_first places.Keyword (places.Number 0 999999 ∷ []) w args f tt x) (message_alone args) (message_alone_told args)),
-    ((λ h. over _ _ _ _ (λ x. events.Settle) (λ x spells. (h, spells)) (λ f x. filled_first places.Keyword ([]) w args f tt x) (nothing args) (nothing_told args)),
-    ((λ h. over _ _ _ _ (λ s. events.Step s) (λ s spells. (h, spells)) (λ f x. filled_first places.Keyword (server_place ∷ []) w args f tt x) (server_alone args) (server_alone_told args)),
-    ((λ h. over _ _ _ _ (λ s. events.Nudge s) (λ s spells. (h, spells)) (λ f x. filled_first places.Keyword (server_place ∷ []) w args f tt x) (server_alone args) (server_alone_told args)),
-    ((λ h. over _ _ _ _ (λ x. events.Timeout x.0 x.1) (λ x spells. (h, spells)) (λ f x. filled_first places.Keyword (server_place ∷ places.Name ∷ []) w args f tt x) (server_name args) (server_name_told args)),
-    ((λ h. over _ _ _ _ (λ s. events.Scrub s) (λ s spells. (h, spells)) (λ f x. filled_first places.Keyword (server_place ∷ []) w args f tt x) (server_alone args) (server_alone_told args)),
-    ((λ h. over _ _ _ _ (λ x. events.Decay x.0 x.1) (λ x spells. (h, spells)) (λ f x. filled_first places.Keyword (server_place ∷ page_place ∷ []) w args f tt x) (server_page args) (server_page_told args)),
-    ((λ h. over _ _ _ _ (λ x. events.Revive x.0 x.1) (λ x spells. (h, spells)) (λ f x. filled_first places.Keyword (server_place ∷ page_place ∷ []) w args f tt x) (server_page args) (server_page_told args)),
-    ((λ h. over _ _ _ _ (λ s. events.Crash s) (λ s spells. (h, spells)) (λ f x. filled_first places.Keyword (server_place ∷ []) w args f tt x) (server_alone args) (server_alone_told args)),
-    ((λ h. over _ _ _ _ (λ s. events.Restart s) (λ s spells. (h, spells)) (λ f x. filled_first places.Keyword (server_place ∷ []) w args f tt x) (server_alone args) (server_alone_told args)),
-    ((λ h. over _ _ _ _ (λ s. events.Show s) (λ s spells. (h, spells)) (λ f x. filled_first places.Keyword (server_place ∷ []) w args f tt x) (server_alone args) (server_alone_told args)),
-    tt)))))))))))
+others_told w args = (
+  (λ h. over _ _ _ _ (λ k. events.Deliver k) (λ k spells. (h, spells)) (λ f x. filled_first places.Keyword (places.Number 0 999999 ∷ []) w args f tt x) (message_alone args) (message_alone_told args)),
+  (
+    (λ h. over _ _ _ _ (λ x. events.Settle) (λ x spells. (h, spells)) (λ f x. filled_first places.Keyword ([]) w args f tt x) (nothing args) (nothing_told args)),
+    (
+      (λ h. over _ _ _ _ (λ s. events.Step s) (λ s spells. (h, spells)) (λ f x. filled_first places.Keyword (server_place ∷ []) w args f tt x) (server_alone args) (server_alone_told args)),
+      (
+        (λ h. over _ _ _ _ (λ s. events.Nudge s) (λ s spells. (h, spells)) (λ f x. filled_first places.Keyword (server_place ∷ []) w args f tt x) (server_alone args) (server_alone_told args)),
+        (
+          (λ h. over _ _ _ _ (λ x. events.Timeout x.0 x.1) (λ x spells. (h, spells)) (λ f x. filled_first places.Keyword (server_place ∷ places.Name ∷ []) w args f tt x) (server_name args) (server_name_told args)),
+          (
+            (λ h. over _ _ _ _ (λ s. events.Scrub s) (λ s spells. (h, spells)) (λ f x. filled_first places.Keyword (server_place ∷ []) w args f tt x) (server_alone args) (server_alone_told args)),
+            (
+              (λ h. over _ _ _ _ (λ x. events.Decay x.0 x.1) (λ x spells. (h, spells)) (λ f x. filled_first places.Keyword (server_place ∷ page_place ∷ []) w args f tt x) (server_page args) (server_page_told args)),
+              (
+                (λ h. over _ _ _ _ (λ x. events.Revive x.0 x.1) (λ x spells. (h, spells)) (λ f x. filled_first places.Keyword (server_place ∷ page_place ∷ []) w args f tt x) (server_page args) (server_page_told args)),
+                (
+                  (λ h. over _ _ _ _ (λ s. events.Crash s) (λ s spells. (h, spells)) (λ f x. filled_first places.Keyword (server_place ∷ []) w args f tt x) (server_alone args) (server_alone_told args)),
+                  (
+                    (λ h. over _ _ _ _ (λ s. events.Restart s) (λ s spells. (h, spells)) (λ f x. filled_first places.Keyword (server_place ∷ []) w args f tt x) (server_alone args) (server_alone_told args)),
+                    (
+                      (λ h. over _ _ _ _ (λ s. events.Show s) (λ s spells. (h, spells)) (λ f x. filled_first places.Keyword (server_place ∷ []) w args f tt x) (server_alone args) (server_alone_told args)),
+                      tt,
+                    ),
+                  ),
+                ),
+              ),
+            ),
+          ),
+        ),
+      ),
+    ),
+  ),
+)
 
 -- ---- faults that are armed
 
@@ -200,16 +237,31 @@ page_kind_told w s n k (b ∷ d ∷ args) made arm kind = wrong_count (arm_front
 
 kinds_told : (w s n k : List ℕ) (args : List (List ℕ)) → w ≡ codes "arm" → AllByRecursion (λ e. k ≡ e.0 → ArmTold w s n k args e.1) kind_words
 unfolding has_count fault_kind_of
-kinds_told w s n k args arm =
-    ((λ h. alone_told w s n k args kinds.Soft arm (h, tt)),
-    ((λ h. alone_told w s n k args kinds.Null arm (h, tt)),
-    ((λ h. alone_told w s n k args kinds.Bad arm (h, tt)),
-    ((λ h. alone_told w s n k args kinds.StopBefore arm (h, tt)),
-    ((λ h. alone_told w s n k args kinds.StopTorn arm (h, tt)),
-    ((λ h. alone_told w s n k args kinds.StopAfter arm (h, tt)),
-    ((λ h. page_kind_told w s n k args kinds.Decay arm (λ g b spells. (h, (spells, tt)))),
-    ((λ h. page_kind_told w s n k args kinds.Revive arm (λ g b spells. (h, (spells, tt)))),
-    tt))))))))
+kinds_told w s n k args arm = (
+  (λ h. alone_told w s n k args kinds.Soft arm (h, tt)),
+  (
+    (λ h. alone_told w s n k args kinds.Null arm (h, tt)),
+    (
+      (λ h. alone_told w s n k args kinds.Bad arm (h, tt)),
+      (
+        (λ h. alone_told w s n k args kinds.StopBefore arm (h, tt)),
+        (
+          (λ h. alone_told w s n k args kinds.StopTorn arm (h, tt)),
+          (
+            (λ h. alone_told w s n k args kinds.StopAfter arm (h, tt)),
+            (
+              (λ h. page_kind_told w s n k args kinds.Decay arm (λ g b spells. (h, (spells, tt)))),
+              (
+                (λ h. page_kind_told w s n k args kinds.Revive arm (λ g b spells. (h, (spells, tt)))),
+                tt,
+              ),
+            ),
+          ),
+        ),
+      ),
+    ),
+  ),
+)
 
 arm_told : (w : List ℕ) (ws : List (List ℕ)) → w ≡ codes "arm" → MatchResult (arm_of ws) (λ x. Spells x (w ∷ ws)) (λ f. FaultBy (arm_places ws) (w ∷ ws) f)
 unfolding arm_of kind_of

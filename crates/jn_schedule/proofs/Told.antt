@@ -1,5 +1,5 @@
 -- What tests and matches have told.
-use Rattle.std.proofs.Common.{◌≡◌, ◌≢◌, Bool, true, false, Ok, Err, Option, Some, None, Result, is_err, is_ok, OnOk, refl, sym, ap, ◌∙◌}
+use Rattle.std.proofs.Common.{◌≡◌, true, Ok, Err, Option, Some, None, Result, is_err, is_ok, OnOk, refl, sym, ap, ◌∙◌}
 use Rattle.std.proofs.lemmas.Bool.{false≢true}
 use Rattle.jn_schedule.specs.Reading.{Reads}
 

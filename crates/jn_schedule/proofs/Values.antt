@@ -1,5 +1,5 @@
 -- What each reader of a word tells: what the word spells, or that it spells nothing of the kind.
-use Rattle.std.proofs.Common.{◌≡◌, ◌≢◌, ℕ, ◌+◌, ◌-◌, ◌^◌, ◌<◌, ◌≤◌, ◌++◌, List, [], ◌∷◌, Option, Some, None, Result, Ok, Err, MatchResult, option_map, ok_or, decimal, refl, sym, ap, ◌∙◌, subst, arith}
+use Rattle.std.proofs.Common.{◌≡◌, ℕ, ◌-◌, ◌^◌, ◌<◌, ◌++◌, List, ◌∷◌, Option, Some, None, Result, Ok, Err, MatchResult, option_map, ok_or, decimal, refl, ap, ◌∙◌, subst, arith}
 use Rattle.std.proofs.lemmas.Option.{option_and_then_some}
 use Rattle.jn_base.specs.declared.names.BlockNo.{BlockNo}
 use Rattle.jn_base.specs.declared.names.FileNo.{FileNo}
@@ -123,10 +123,13 @@ name_in-again w t spells =
     let ticket = spells.ticket in
     let first = decimal-lacks 46 t.server.0 (omega arith) (omega arith) in
     let second = decimal-lacks 46 t.epoch (omega arith) (omega arith) in
-    rw spells.spelled (rw (cut-at (decimal t.server.0) (decimal t.epoch ++ 46 ∷ decimal t.ticket) first, cut-at (decimal t.epoch) (decimal t.ticket) second,
-    server_in-again (decimal t.server.0) t.server (omega arith, server, refl),
-    number_again 0 (2 ^ 32 - 1) (decimal t.epoch) t.epoch (omega arith) (omega arith, omega arith, refl),
-    number_again 0 (2 ^ 32 - 1) (decimal t.ticket) t.ticket (omega arith) (omega arith, omega arith, refl)) refl)
+    rw spells.spelled (rw (
+      cut-at (decimal t.server.0) (decimal t.epoch ++ 46 ∷ decimal t.ticket) first,
+      cut-at (decimal t.epoch) (decimal t.ticket) second,
+      server_in-again (decimal t.server.0) t.server (omega arith, server, refl),
+      number_again 0 (2 ^ 32 - 1) (decimal t.epoch) t.epoch (omega arith) (omega arith, omega arith, refl),
+      number_again 0 (2 ^ 32 - 1) (decimal t.ticket) t.ticket (omega arith) (omega arith, omega arith, refl),
+    ) refl)
 
 pub name_told : (w : List ℕ) → Told places.Name (λ t. grammar.Name t) w (name_of w)
 unfolding name_of

@@ -32,14 +32,12 @@ pub fn parse(alloc: Global, text: &[u8]) -> Result<Vec<Event>, ParseFault>
 /// A text has events or a first fault, and not both.
 pub fn a_text_with_a_fault_is_no_schedule()
     ensures { (text : List ℕ) (es : List AnEvent) (line number : ℕ) → IsSchedule text es → ¬ IsFirstFault text line number }
-{
-}
+{}
 
 /// A text has one list of events.
 pub fn a_schedule_has_one_list_of_events()
     ensures { (text : List ℕ) (es others : List AnEvent) → IsSchedule text es → IsSchedule text others → es ≡ others }
-{
-}
+{}
 
 fn read_text(alloc: Global, text: &[u8]) -> Result<Vec<Event>, ParseFault>
     ensures { Gives result (read_lines 1 (word_lines text.now)) }

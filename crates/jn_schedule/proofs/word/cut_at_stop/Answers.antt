@@ -1,7 +1,5 @@
-use Rattle.std.proofs.Common.{◌+◌, ◌≡◌, ◌++◌, ◌∷◌, take, drop, get_or, ap, sym, ◌∙◌, arith}
-use Rattle.std.proofs.lemmas.Grind.{common_steps}
+use Rattle.std.proofs.Common.{◌+◌, ◌≡◌, take, ap, sym, ◌∙◌}
 use Rattle.std.proofs.lemmas.List.{take_all}
-use Rattle.jn_schedule.specs.Reading.{cut_at_stop}
 use Rattle.jn_schedule.proofs.TextParts.{lacks, lacks-next, cut-here, cut-none, rest_is}
 use Rattle.jn_schedule.proofs.word.cut_at_stop.Goals as goal
 

@@ -1,4 +1,4 @@
-use Rattle.std.proofs.Common.{◌≡◌, ◌≢◌, ◌⊎◌, ◌<◌, None, length, inl, inr, arith, sym}
+use Rattle.std.proofs.Common.{◌≢◌, ◌⊎◌, ◌<◌, None, length, inl, inr, arith}
 use Rattle.jn_schedule.proofs.Numbers.{number_at, number_same, number_found, number_other}
 use Rattle.jn_schedule.proofs.word.number_in.Goals as goal
 use Rattle.jn_schedule.proofs.word.number_in.Goals.{else-end-word-via-then-end-word+else-low-number, else-end-word-via-else-end-word}
