@@ -1,7 +1,15 @@
 //! Schedules: what happens, event by event.
 #![tactic(auto)]
 
+mod fault;
+mod reading;
+mod schedule;
+mod word;
+mod words;
+
+pub use fault::{LineFault, ParseFault};
 use jn_base::{ClientNo, Command, FaultKind, ServerNo, Tid};
+pub use schedule::{a_schedule_has_one_list_of_events, a_text_with_a_fault_is_no_schedule, parse};
 
 /// One event of a schedule, with its words as typed values.
 #[derive(Clone, Copy)]

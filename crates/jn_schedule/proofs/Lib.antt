@@ -1,0 +1,10 @@
+mod Again
+mod Arguments
+mod Blocks
+mod Events
+mod HexWords
+mod Lines
+mod Numbers
+mod TextParts
+mod Told
+mod Values

@@ -1,0 +1,174 @@
+-- Reading lines one after the other: what is told, and that what is there is told.
+use Rattle.std.proofs.Common.{◌≡◌, ℕ, ◌+◌, ◌<◌, ◌≤◌, ◌++◌, ◌⊎◌, inl, inr, Bool, true, false, cond, List, [], ◌∷◌, length, map, drop, get_or, Result, Ok, Err, IfOk, MatchResult, refl, sym, ap, ◌∙◌, subst, append_assoc}
+use Rattle.std.proofs.lemmas.List.{append-nil, at_drop_all, at_drop_more}
+use Rattle.std.specs.Global.{Vec}
+use Rattle.jn_schedule.specs.declared.Event.{Event}
+use Rattle.jn_schedule.specs.declared.fault.LineFault.{LineFault}
+use Rattle.jn_schedule.specs.declared.fault.ParseFault.{ParseFault}
+use Rattle.jn_schedule.specs.declared.fault.ParseFault.TheVariants as parse
+use Rattle.jn_schedule.specs.Grammar.{AreLines, IsSchedule, Spells, is_passed, word_lines, words_of}
+use Rattle.jn_schedule.specs.Faults.{HasFault, IsFirstFault, LinesFault, number_of}
+use Rattle.jn_schedule.specs.Reading.{◌>>=◌, AddsLine, Fails, Gives, event_of, in_front, read_line, read_lines, then_lines}
+use Rattle.jn_schedule.proofs.Again.{fault_one, spelled_no_fault, spelled_read}
+use Rattle.jn_schedule.proofs.Events.{event_told}
+
+-- a line that is read: it is passed over, or spells an event, and its events stand before those of the lines behind it
+record Read (ws : List (List ℕ)) (es : List Event) : Type 0 where
+  pub good : (is_passed ws ≡ true) ⊎ ((e : Event) × Spells e ws)
+  pub before : (lines : List (List (List ℕ))) (more : List Event) → AreLines lines more → AreLines (ws ∷ lines) (es ++ more)
+
+line_told : (ws : List (List ℕ)) → MatchResult (read_line ws) (λ es. Read ws es) (λ f. (is_passed ws ≡ false) × HasFault ws f)
+unfolding read_line
+line_told ws = go (is_passed ws) refl (event_of ws) (event_told ws)
+  where
+    go : (b : Bool) → is_passed ws ≡ b → (r : Result Event LineFault) → MatchResult r (λ e. Spells e ws) (λ f. HasFault ws f)
+        → MatchResult (cond b (Ok []) (r >>= λ e. Ok (e ∷ []))) (λ es. Read ws es) (λ f. (b ≡ false) × HasFault ws f)
+    go true is r h = record { good = inl is; before = λ lines more are. inl (is, are) }
+    go false is (Ok e) h = record { good = inr (e, h); before = λ lines more are. inr (e, more, refl, h, are) }
+    go false is (Err f) h = (refl, h)
+
+-- lines that are read are these events, and a fault that is told is the first one
+pub lines_told : (n : ℕ) (lines : List (List (List ℕ))) → MatchResult (read_lines n lines) (λ es. AreLines lines es) (λ x. LinesFault n lines x.0 x.1)
+unfolding read_lines
+lines_told n [] = refl
+lines_told n (ws ∷ lines) = go (read_line ws) (line_told ws) (read_lines (n + 1) lines) (lines_told (n + 1) lines)
+  where
+    go : (r : Result (List Event) LineFault) → MatchResult r (λ es. Read ws es) (λ f. (is_passed ws ≡ false) × HasFault ws f)
+        → (q : Result (List Event) (ℕ × LineFault)) → MatchResult q (λ es. AreLines lines es) (λ x. LinesFault (n + 1) lines x.0 x.1)
+        → MatchResult (then_lines n r q) (λ es. AreLines (ws ∷ lines) es) (λ x. LinesFault n (ws ∷ lines) x.0 x.1)
+    go (Ok es) h (Ok more) k = h.before lines more k
+    go (Ok es) h (Err x) k = inr (h.good, k)
+    go (Err f) h q k = inl (h.0, refl, h.1)
+
+line_passed : (ws : List (List ℕ)) → is_passed ws ≡ true → read_line ws ≡ Ok []
+unfolding read_line
+line_passed ws passed = rw passed refl
+
+line_event : (ws : List (List ℕ)) (e : Event) → Spells e ws → read_line ws ≡ Ok (e ∷ [])
+unfolding read_line
+line_event ws e spells = let read = spelled_read e ws spells in rw (read.line, read.event) refl
+
+line_fault : (ws : List (List ℕ)) (f : LineFault) → is_passed ws ≡ false → HasFault ws f → read_line ws ≡ Err f
+unfolding read_line
+line_fault ws f event fault = rw event (go (event_of ws) (event_told ws))
+  where
+    go : (r : Result Event LineFault) → MatchResult r (λ e. Spells e ws) (λ g. HasFault ws g) → (r >>= λ e. Ok (e ∷ [])) ≡ Err f
+    go (Ok e) spells = absurd (spelled_no_fault e ws f spells fault)
+    go (Err g) other = ap (λ (x : LineFault). Err x) (fault_one ws g f other fault)
+
+-- events are read
+pub lines_again : (n : ℕ) (lines : List (List (List ℕ))) (es : List Event) → AreLines lines es → read_lines n lines ≡ Ok es
+unfolding read_lines
+lines_again n [] es are = ap (λ (l : List Event). Ok l) (sym are)
+lines_again n (ws ∷ lines) es (inl passed) = rw (line_passed ws passed.0, lines_again (n + 1) lines es passed.1) refl
+lines_again n (ws ∷ lines) es (inr event) =
+    rw (line_event ws event.0 event.3, lines_again (n + 1) lines event.1 event.4) (ap (λ (l : List Event). Ok l) (sym event.2))
+
+-- the first fault is told
+pub fault_again : (n : ℕ) (lines : List (List (List ℕ))) (line : ℕ) (f : LineFault) → LinesFault n lines line f → read_lines n lines ≡ Err (line, f)
+unfolding read_lines
+fault_again n [] line f fault = absurd fault
+fault_again n (ws ∷ lines) line f (inl here) = rw (line_fault ws f here.0 here.2) (ap (λ (l : ℕ). Err (l, f)) (sym here.1))
+fault_again n (ws ∷ lines) line f (inr (inl passed, more)) = rw (line_passed ws passed, fault_again (n + 1) lines line f more) refl
+fault_again n (ws ∷ lines) line f (inr (inr event, more)) = rw (line_event ws event.0 event.1, fault_again (n + 1) lines line f more) refl
+
+-- ---- as a loop does
+
+in_front_twice : (a b : List Event) (r : Result (List Event) (ℕ × LineFault)) → in_front a (in_front b r) ≡ in_front (a ++ b) r
+in_front_twice a b (Ok more) = ap (λ (l : List Event). Ok l) (sym (append_assoc a b more))
+in_front_twice a b (Err e) = refl
+
+-- the lines from this one on
+at_line : (front : List Event) (all : List (List ℕ)) (k : ℕ) (line : List ℕ) (total : Result (List Event) (ℕ × LineFault)) → (k < length all) × (line ≡ get_or all k line)
+    → in_front front (read_lines (k + 1) (map words_of (drop k all))) ≡ total
+    → in_front front (then_lines (k + 1) (read_line (words_of line)) (read_lines (k + 1 + 1) (map words_of (drop (k + 1) all)))) ≡ total
+unfolding read_lines
+at_line front all k line total turn so_far =
+    let f : List (List ℕ) → Result (List Event) (ℕ × LineFault) = λ l. in_front front (read_lines (k + 1) (map words_of l)) in
+    ap (λ (l : List ℕ). f (l ∷ drop (k + 1) all)) turn.1 ∙ sym (at_drop_more f all k line turn.0) ∙ so_far
+
+-- one line more
+pub goes_on : (front es : List Event) (all : List (List ℕ)) (k : ℕ) (line : List ℕ) (total : Result (List Event) (ℕ × LineFault)) → (k < length all) × (line ≡ get_or all k line)
+    → read_line (words_of line) ≡ Ok es → in_front front (read_lines (k + 1) (map words_of (drop k all))) ≡ total
+    → in_front (front ++ es) (read_lines (k + 1 + 1) (map words_of (drop (k + 1) all))) ≡ total
+goes_on front es all k line total turn read so_far =
+    let rest = read_lines (k + 1 + 1) (map words_of (drop (k + 1) all)) in
+    sym (in_front_twice front es rest)
+    ∙ ap (λ (r : Result (List Event) LineFault). in_front front (then_lines (k + 1) r rest)) (sym read)
+    ∙ at_line front all k line total turn so_far
+
+-- a line at fault
+pub stops : (front : List Event) (f : LineFault) (all : List (List ℕ)) (k : ℕ) (line : List ℕ) (total : Result (List Event) (ℕ × LineFault)) → (k < length all) × (line ≡ get_or all k line)
+    → read_line (words_of line) ≡ Err f → in_front front (read_lines (k + 1) (map words_of (drop k all))) ≡ total → total ≡ Err (k + 1, f)
+stops front f all k line total turn read so_far =
+    let rest = read_lines (k + 1 + 1) (map words_of (drop (k + 1) all)) in
+    sym (at_line front all k line total turn so_far)
+    ∙ ap (λ (r : Result (List Event) LineFault). in_front front (then_lines (k + 1) r rest)) read
+
+-- behind the last line
+pub is_done : (front : List Event) (all : List (List ℕ)) (k : ℕ) (total : Result (List Event) (ℕ × LineFault)) → length all ≤ k
+    → in_front front (read_lines (k + 1) (map words_of (drop k all))) ≡ total → total ≡ Ok front
+unfolding read_lines
+is_done front all k total past so_far =
+    let f : List (List ℕ) → Result (List Event) (ℕ × LineFault) = λ l. in_front front (read_lines (k + 1) (map words_of l)) in
+    sym so_far ∙ at_drop_all f all k past ∙ ap (λ (l : List Event). Ok l) (append-nil front)
+
+pub starts : (read : Result (List Event) (ℕ × LineFault)) → in_front [] read ≡ read
+starts (Ok es) = refl
+starts (Err e) = refl
+
+-- the exit at a line that isn't read
+pub exits : (front : List Event) (all : List (List ℕ)) (k at : ℕ) (line : List ℕ) (after : List Event) (total : Result (List Event) (ℕ × LineFault)) (e : ParseFault) → at ≡ k + 1
+    → (k < length all) × (line ≡ get_or all k line) → AddsLine (Err e) at (read_line (words_of line)) front after
+    → in_front front (read_lines (k + 1) (map words_of (drop k all))) ≡ total → Fails e total
+exits front all k at line after total parse.Memory is turn adds so_far = tt
+exits front all k at line after total (parse.Syntax place number) is turn adds so_far =
+    (adds.0, adds.1, stops front adds.0 all k line total turn adds.3 so_far ∙ ap (λ (l : ℕ). Err (l, adds.0)) (sym is ∙ sym adds.2))
+
+-- ---- the clauses
+
+pub found : (text : List ℕ) (r : Result (Vec Event) ParseFault) → Gives r (read_lines 1 (word_lines text)) → IfOk r (λ v. IsSchedule text v.items)
+found text (Ok v) gives = subst (λ (q : Result (List Event) (ℕ × LineFault)). MatchResult q (λ es. AreLines (word_lines text) es) (λ x. LinesFault 1 (word_lines text) x.0 x.1)) gives (lines_told 1 (word_lines text))
+found text (Err e) gives = tt
+
+pub only : (text : List ℕ) (r : Result (Vec Event) ParseFault) → Gives r (read_lines 1 (word_lines text)) → (es : List Event) → IsSchedule text es → MatchResult r (λ v. v.items ≡ es) (λ e. e ≡ parse.Memory)
+only text (Ok v) gives es are = let again = lines_again 1 (word_lines text) es are in cc
+only text (Err parse.Memory) gives es are = refl
+only text (Err (parse.Syntax line number)) gives es are = let again = lines_again 1 (word_lines text) es are in absurd (cc (again, gives.2))
+
+pub fault : (text : List ℕ) (r : Result (Vec Event) ParseFault) → Gives r (read_lines 1 (word_lines text)) → (line number : ℕ) → r ≡ Err (parse.Syntax line number) → IsFirstFault text line number
+fault text (Ok v) gives line number is = absurd cc
+fault text (Err parse.Memory) gives line number is = absurd cc
+fault text (Err (parse.Syntax at n)) gives line number is =
+    let told : LinesFault 1 (word_lines text) at gives.0 = subst (λ (q : Result (List Event) (ℕ × LineFault)). MatchResult q (λ es. AreLines (word_lines text) es) (λ x. LinesFault 1 (word_lines text) x.0 x.1)) gives.2 (lines_told 1 (word_lines text)) in
+    let same_line : at ≡ line = cc in
+    let same_number : n ≡ number = cc in
+    (gives.0, sym same_number ∙ gives.1, subst (λ (l : ℕ). LinesFault 1 (word_lines text) l gives.0) same_line told)
+
+err_same : (x y : ℕ × LineFault) → ◌≡◌ {A = Result (List Event) (ℕ × LineFault)} (Err x) (Err y) → x ≡ y
+err_same x y e = cc
+
+pub first : (text : List ℕ) (r : Result (Vec Event) ParseFault) → Gives r (read_lines 1 (word_lines text)) → (line number : ℕ) → IsFirstFault text line number
+    → (r ≡ Err (parse.Syntax line number)) ⊎ (r ≡ Err parse.Memory)
+first text (Ok v) gives line number is = let again = fault_again 1 (word_lines text) line is.0 is.2 in absurd (cc (again, gives))
+first text (Err parse.Memory) gives line number is = inr refl
+first text (Err (parse.Syntax at n)) gives line number is =
+    let again = fault_again 1 (word_lines text) line is.0 is.2 in
+    let pair : ◌≡◌ {A = Result (List Event) (ℕ × LineFault)} (Err (at, gives.0)) (Err (line, is.0)) = sym gives.2 ∙ again in
+    let same_pair = err_same (at, gives.0) (line, is.0) pair in
+    let same_line : at ≡ line = ap (λ (p : ℕ × LineFault). p.0) same_pair in
+    let same_fault : gives.0 ≡ is.0 = ap (λ (p : ℕ × LineFault). p.1) same_pair in
+    let same_number : n ≡ number = gives.1 ∙ ap number_of same_fault ∙ sym is.1 in
+    inl (rw (same_line, same_number) refl)
+
+pub no_schedule : (text : List ℕ) (es : List Event) (line number : ℕ) → IsSchedule text es → IsFirstFault text line number → ⊥
+no_schedule text es line number are is =
+    let again = lines_again 1 (word_lines text) es are in
+    let told = fault_again 1 (word_lines text) line is.0 is.2 in
+    cc (again, told)
+
+pub one_list : (text : List ℕ) (es others : List Event) → IsSchedule text es → IsSchedule text others → es ≡ others
+one_list text es others are too =
+    let again = lines_again 1 (word_lines text) es are in
+    let told = lines_again 1 (word_lines text) others too in
+    cc (again, told)

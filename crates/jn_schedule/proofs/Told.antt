@@ -1,0 +1,18 @@
+-- What tests and matches have told.
+use Rattle.std.proofs.Common.{◌≡◌, true, Ok, Err, Option, Some, None, Result, is_err, is_ok, OnOk, refl, sym, ap, ◌∙◌}
+use Rattle.std.proofs.lemmas.Bool.{false≢true}
+use Rattle.jn_schedule.specs.Reading.{Reads}
+
+pub ok_not_err : {T E : Type 0} (r : Result T E) (x : T) → r ≡ Ok x → true ≡ is_err r → ⊥
+ok_not_err r x ok err = cc (err ∙ ap is_err ok)
+
+-- what holds of an `Ok`
+pub on_ok : {T E P : Type 0} (r : Result T E) → true ≡ is_ok r → OnOk r P → P
+on_ok (Ok x) ok h = h
+on_ok (Err e) ok h = absurd (false≢true (sym ok))
+
+-- a reader of what is spelled so answers what a function does that is exact for it
+pub reads_same : {X : Type 0} (P : X → Type 0) (r o : Option X) → ((x : X) → o ≡ Some x → P x) → ((x : X) → P x → o ≡ Some x) → Reads P r → r ≡ o
+reads_same P None None sound again h = refl
+reads_same P None (Some x) sound again h = absurd (h x (sound x refl))
+reads_same P (Some x) o sound again h = sym (again x h)

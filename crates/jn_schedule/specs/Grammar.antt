@@ -1,0 +1,160 @@
+-- Which events a schedule's text has.
+use Rattle.std.specs.Prelude.{◌≡◌, ℕ, ◌+◌, ◌-◌, ◌^◌, ◌≤◌, ◌<◌, ◌⊎◌, ◌++◌, Bool, true, false, not, nat_eq, List, [], ◌∷◌, length, filter, map, replicate, codes, decimal}
+use Rattle.std.specs.List.{AllByRecursion, slice_split}
+use Rattle.jn_base.specs.declared.device.FaultKind.{FaultKind}
+use Rattle.jn_base.specs.declared.device.FaultKind.TheVariants as kinds
+use Rattle.jn_base.specs.declared.names.ServerNo.{ServerNo}
+use Rattle.jn_base.specs.declared.names.Tid.{Tid}
+use Rattle.jn_base.specs.declared.op.Command.{Command}
+use Rattle.jn_base.specs.declared.op.Command.TheVariants as commands
+use Rattle.jn_base.specs.declared.op.Op.{Op}
+use Rattle.jn_base.specs.declared.op.Op.TheVariants as ops
+use Rattle.jn_schedule.specs.declared.Event.{Event}
+use Rattle.jn_schedule.specs.declared.Event.TheVariants as events
+use Rattle.jn_text.specs.Words.{hex_word}
+
+-- the lines of a text, cut at line feeds; behind the last line feed stands a line that may have no bytes
+abbrev pub lines_of : List ℕ → List (List ℕ)
+lines_of text = slice_split (λ b. nat_eq b 10) text
+
+abbrev pub has_bytes : List ℕ → Bool
+has_bytes word = not (nat_eq (length word) 0)
+
+-- the words of a line, cut at spaces
+abbrev pub words_of : List ℕ → List (List ℕ)
+words_of line = filter has_bytes (slice_split (λ b. nat_eq b 32) line)
+
+-- `#`
+abbrev pub begins_comment : List ℕ → Bool
+begins_comment [] = false
+begins_comment (b ∷ bs) = nat_eq b 35
+
+-- a line of no words is no event, nor is a comment
+abbrev pub is_passed : List (List ℕ) → Bool
+is_passed [] = true
+is_passed (w ∷ ws) = begins_comment w
+
+-- what one word of an event spells
+pub data Part : Type 0 where
+  Keyword : List ℕ → Part
+  Client : ℕ → Part
+  -- the least number that may stand there, the greatest one, and the number
+  Number : ℕ → ℕ → ℕ → Part
+  Name : Tid → Part
+  -- a block's bytes
+  Bytes : List ℕ → Part
+
+-- a client is `c1` to `c8`
+abbrev pub SpellsClient : ℕ → List ℕ → Type 0
+SpellsClient c w = (1 ≤ c) × (c ≤ 8) × (w ≡ 99 ∷ (48 + c) ∷ [])
+
+abbrev pub SpellsNumber : ℕ → ℕ → ℕ → List ℕ → Type 0
+SpellsNumber low high n w = (low ≤ n) × (n ≤ high) × (w ≡ decimal n)
+
+-- a transaction is its server, its epoch and its ticket, with full stops between them
+pub record SpellsName (t : Tid) (w : List ℕ) : Type 0 where
+  pub server : t.server.0 ≤ 7
+  pub epoch : t.epoch < 2 ^ 32
+  pub ticket : t.ticket < 2 ^ 32
+  pub spelled : w ≡ decimal t.server.0 ++ 46 ∷ (decimal t.epoch ++ 46 ∷ decimal t.ticket)
+
+abbrev pub IsByte : ℕ → Type 0
+IsByte b = b < 256
+
+-- bytes as a block: zeros follow them
+abbrev pub filled : List ℕ → List ℕ
+filled bytes = bytes ++ replicate (448 - length bytes) 0
+
+-- the word spells the first bytes of the block, and zeros follow them
+pub record SpellsBlock (stored w : List ℕ) : Type 0 where
+  pub bytes : List ℕ
+  pub few : length bytes ≤ 448
+  pub are_bytes : AllByRecursion IsByte bytes
+  pub stores : stored ≡ filled bytes
+  pub spelled : w ≡ hex_word bytes
+
+abbrev pub SpellsPart : Part → List ℕ → Type 0
+SpellsPart (Keyword k) w = w ≡ k
+SpellsPart (Client c) w = SpellsClient c w
+SpellsPart (Number low high n) w = SpellsNumber low high n w
+SpellsPart (Name t) w = SpellsName t w
+SpellsPart (Bytes stored) w = SpellsBlock stored w
+
+-- each part by its word
+abbrev pub SpellsParts : List Part → List (List ℕ) → Type 0
+SpellsParts [] [] = Unit {0}
+SpellsParts [] (w ∷ ws) = ⊥
+SpellsParts (p ∷ ps) [] = ⊥
+SpellsParts (p ∷ ps) (w ∷ ws) = SpellsPart p w × SpellsParts ps ws
+
+abbrev pub server_part : ℕ → Part
+server_part s = Number 0 7 s
+
+abbrev pub file_part : ℕ → Part
+file_part f = Number 0 (2 ^ 32 - 1) f
+
+abbrev pub block_part : ℕ → Part
+block_part p = Number 0 119 p
+
+-- a physical page
+abbrev pub page_part : ℕ → Part
+page_part g = Number 0 20001 g
+
+abbrev pub op_parts : ServerNo → Op → List Part
+op_parts s (ops.Create f) = Keyword (codes "create") ∷ server_part s.0 ∷ file_part f.0 ∷ []
+op_parts s (ops.Remove f) = Keyword (codes "remove") ∷ server_part s.0 ∷ file_part f.0 ∷ []
+op_parts s (ops.Cut f p) = Keyword (codes "cut") ∷ server_part s.0 ∷ file_part f.0 ∷ block_part p.0 ∷ []
+op_parts s (ops.Read f p) = Keyword (codes "read") ∷ server_part s.0 ∷ file_part f.0 ∷ block_part p.0 ∷ []
+op_parts s (ops.Write f p stored) = Keyword (codes "write") ∷ server_part s.0 ∷ file_part f.0 ∷ block_part p.0 ∷ Bytes stored ∷ []
+
+abbrev pub command_parts : Command → List Part
+command_parts (commands.Begin s) = Keyword (codes "begin") ∷ server_part s.0 ∷ []
+command_parts (commands.Open s) = Keyword (codes "open") ∷ server_part s.0 ∷ []
+command_parts (commands.Do s op) = op_parts s op
+command_parts commands.End = Keyword (codes "end") ∷ []
+command_parts commands.Abort = Keyword (codes "abort") ∷ []
+
+abbrev pub kind_parts : FaultKind → List Part
+kind_parts kinds.Soft = Keyword (codes "soft") ∷ []
+kind_parts kinds.Null = Keyword (codes "null") ∷ []
+kind_parts kinds.Bad = Keyword (codes "bad") ∷ []
+kind_parts (kinds.Decay g) = Keyword (codes "decay") ∷ page_part g ∷ []
+kind_parts (kinds.Revive g) = Keyword (codes "revive") ∷ page_part g ∷ []
+kind_parts kinds.StopBefore = Keyword (codes "stop-before") ∷ []
+kind_parts kinds.StopTorn = Keyword (codes "stop-torn") ∷ []
+kind_parts kinds.StopAfter = Keyword (codes "stop-after") ∷ []
+
+-- the words of each event
+abbrev pub parts_of : Event → List Part
+parts_of (events.Command c command) = Client c.0 ∷ command_parts command
+parts_of (events.Again c) = Client c.0 ∷ Keyword (codes "again") ∷ []
+parts_of (events.Deliver k) = Keyword (codes "deliver") ∷ Number 0 999999 k ∷ []
+parts_of events.Settle = Keyword (codes "settle") ∷ []
+parts_of (events.Step s) = Keyword (codes "step") ∷ server_part s.0 ∷ []
+parts_of (events.Nudge s) = Keyword (codes "nudge") ∷ server_part s.0 ∷ []
+parts_of (events.Timeout s t) = Keyword (codes "timeout") ∷ server_part s.0 ∷ Name t ∷ []
+parts_of (events.Scrub s) = Keyword (codes "scrub") ∷ server_part s.0 ∷ []
+parts_of (events.Decay s g) = Keyword (codes "decay") ∷ server_part s.0 ∷ page_part g ∷ []
+parts_of (events.Revive s g) = Keyword (codes "revive") ∷ server_part s.0 ∷ page_part g ∷ []
+parts_of (events.Arm s n kind) = Keyword (codes "arm") ∷ server_part s.0 ∷ Number 1 1000000 n ∷ kind_parts kind
+parts_of (events.Crash s) = Keyword (codes "crash") ∷ server_part s.0 ∷ []
+parts_of (events.Restart s) = Keyword (codes "restart") ∷ server_part s.0 ∷ []
+parts_of (events.Show s) = Keyword (codes "show") ∷ server_part s.0 ∷ []
+
+-- the words of a line spell the event
+abbrev pub Spells : Event → List (List ℕ) → Type 0
+Spells e ws = SpellsParts (parts_of e) ws
+
+-- each line is passed over, or spells the next event
+abbrev pub AreLines : List (List (List ℕ)) → List Event → Type 0
+AreLines [] es = es ≡ []
+AreLines (ws ∷ lines) es = ((is_passed ws ≡ true) × AreLines lines es)
+    ⊎ ((e : Event) × (more : List Event) × (es ≡ e ∷ more) × Spells e ws × AreLines lines more)
+
+-- the words of each line
+abbrev pub word_lines : List ℕ → List (List (List ℕ))
+word_lines text = map words_of (lines_of text)
+
+-- the text is a schedule with these events
+abbrev pub IsSchedule : List ℕ → List Event → Type 0
+IsSchedule text es = AreLines (word_lines text) es

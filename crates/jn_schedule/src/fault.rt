@@ -1,0 +1,57 @@
+//! Why a text is no schedule.
+ghost use Rattle.std.specs.Prelude.{◌≡◌};
+ghost use Rattle.jn_schedule.specs.Faults.{number_of};
+ghost use Rattle.jn_schedule.specs.declared.fault.ParseFault.TheVariants.{Memory};
+
+use std::alloc::{AllocError, AllocFailed};
+
+/// What is wrong with a line: the first that holds, in this order.
+#[derive(Clone, Copy, Debug, PartialEq, Eq, Drop)]
+pub enum LineFault {
+    /// The first word, the second after a client, or the fourth of an `arm`, isn't one that can stand there.
+    Keyword,
+    /// There are too few words, or too many.
+    Count,
+    /// A number or a name isn't spelled as one, or isn't in its range.
+    Value,
+    /// The bytes of a block aren't spelled as pairs of digits.
+    Bytes,
+}
+
+impl LineFault {
+    /// The number by which the fault is reported, 1 to 4.
+    pub fn number(self) -> u8
+        ensures { result ≡ number_of self }
+    {
+        match self {
+            LineFault::Keyword => 1,
+            LineFault::Count => 2,
+            LineFault::Value => 3,
+            LineFault::Bytes => 4,
+        }
+    }
+}
+
+/// Why a text was not read.
+#[derive(Clone, Copy, Debug, PartialEq, Eq, Drop)]
+pub enum ParseFault {
+    /// The first line that is at fault, where lines count from 1, and the number of its fault.
+    Syntax { line: usize, number: u8 },
+    Memory,
+}
+
+impl From<AllocError> for ParseFault {
+    ghost from_gives = { λ _ e. e ≡ Memory };
+
+    fn from(_e: AllocError) -> ParseFault {
+        ParseFault::Memory
+    }
+}
+
+impl<T: Drop> From<AllocFailed<T>> for ParseFault {
+    ghost from_gives = { λ _ e. e ≡ Memory };
+
+    fn from(_e: AllocFailed<T>) -> ParseFault {
+        ParseFault::Memory
+    }
+}

@@ -1,0 +1,100 @@
+//! The events of a whole text.
+ghost use Rattle.std.specs.Prelude.{◌≡◌, ◌⊎◌, ℕ, List, Ok, Err, Result, IfOk, MatchResult, count_by};
+ghost use Rattle.jn_schedule.specs.declared.Event.{Event as AnEvent};
+ghost use Rattle.jn_schedule.specs.Faults.{IsFirstFault};
+ghost use Rattle.jn_schedule.specs.Grammar.{IsSchedule, lines_of, word_lines, words_of};
+ghost use Rattle.jn_schedule.specs.Reading.{AddsLine, Gives, begins_event, read_line, read_lines};
+ghost use Rattle.jn_schedule.specs.declared.fault.ParseFault.TheVariants.{Memory, Syntax};
+
+use crate::Event;
+use crate::fault::ParseFault;
+use crate::reading::event_of;
+use crate::words::{is_passed, words_of};
+use std::alloc::Global;
+
+/// The events of a schedule's text, or its first fault.
+///
+/// Lines end with a line feed, which the last may lack. A word is a run of bytes other than spaces.
+/// A line with no words is no event, nor is one whose first word begins with `#`.
+pub fn parse(alloc: Global, text: &[u8]) -> Result<Vec<Event>, ParseFault>
+    // What is read is a schedule with these events.
+    ensures found { IfOk result (λ v. IsSchedule text.now v.items) }
+    // A schedule is read, unless memory runs out.
+    ensures only { (es : List AnEvent) → IsSchedule text.now es → MatchResult result (λ v. v.items ≡ es) (λ e. e ≡ Memory) }
+    // A fault that is told is the first one.
+    ensures fault { (line number : ℕ) → result ≡ Err (Syntax line number) → IsFirstFault text.now line number }
+    // The first fault is told, unless memory runs out.
+    ensures first { (line number : ℕ) → IsFirstFault text.now line number → (result ≡ Err (Syntax line number)) ⊎ (result ≡ Err Memory) }
+{
+    read_text(alloc, text)
+}
+
+/// A text has events or a first fault, and not both.
+pub fn a_text_with_a_fault_is_no_schedule()
+    ensures { (text : List ℕ) (es : List AnEvent) (line number : ℕ) → IsSchedule text es → ¬ IsFirstFault text line number }
+{}
+
+/// A text has one list of events.
+pub fn a_schedule_has_one_list_of_events()
+    ensures { (text : List ℕ) (es others : List AnEvent) → IsSchedule text es → IsSchedule text others → es ≡ others }
+{}
+
+fn read_text(alloc: Global, text: &[u8]) -> Result<Vec<Event>, ParseFault>
+    ensures { Gives result (read_lines 1 (word_lines text.now)) }
+{
+    // Events are large: room is taken once.
+    let mut events = Vec::with_capacity(alloc, count_events(text))?;
+    let mut number = 0;
+    for line in text.split(|b| *b == b'\n') {
+        number += 1;
+        read_line(alloc, line, number, &mut events)?;
+    }
+    Ok(events)
+}
+
+/// Adds the event of a line, if it is one.
+#[tactic(auto, unfolding(crate::specs::Reading::read_line))]
+fn read_line(
+    alloc: Global,
+    line: &[u8],
+    number: usize,
+    events: &mut Vec<Event>,
+) -> Result<(), ParseFault>
+    ensures { AddsLine result number (read_line (words_of line.now)) events.old.items events.new.items }
+{
+    let words = words_of(alloc, line)?;
+    if is_passed(&words) {
+        return Ok(());
+    }
+    match event_of(&words) {
+        Ok(event) => {
+            events.push(event)?;
+            Ok(())
+        }
+        Err(fault) => Err(ParseFault::Syntax {
+            line: number,
+            number: fault.number(),
+        }),
+    }
+}
+
+/// How many lines are events, if no line is at fault.
+fn count_events(text: &[u8]) -> usize
+    ensures { result ≡ count_by begins_event (lines_of text.now) }
+{
+    text.split(|b| *b == b'\n')
+        .filter(|line| begins_event(line))
+        .count()
+}
+
+/// Whether the first byte other than a space is there, and begins no comment.
+fn begins_event(line: &[u8]) -> bool
+    ensures { result ≡ begins_event line.now }
+{
+    for b in line {
+        if *b != b' ' {
+            return *b != b'#';
+        }
+    }
+    false
+}
