@@ -1,2 +1,4 @@
 pub mod Fields
 pub mod Roots
+pub mod Lists
+pub mod Heads

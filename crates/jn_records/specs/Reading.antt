@@ -1,5 +1,5 @@
 -- Fields read from the front of bytes: each is a value and the bytes behind it, where there are enough.
-use Rattle.std.specs.Prelude.{◌≡◌, ℕ, List, length, take, drop, Option, Some, None, nat_lt, if◌then◌else◌}
+use Rattle.std.specs.Prelude.{◌≡◌, ℕ, zero, suc, List, [], ◌∷◌, length, take, drop, Option, Some, None, nat_lt, if◌then◌else◌}
 use Rattle.byteorder.specs.Endian.{big_number}
 use Rattle.jn_records.specs.declared.root.Root.{Root}
 
@@ -29,3 +29,11 @@ root_at page = do
   leaves ← number_at 2 heads.1
   epoch ← number_at 4 leaves.1
   Some (record { server = record { 0 = server.0 }; pool = pool.0; heads = heads.0; leaves = leaves.0; epoch = epoch.0 }, epoch.1)
+
+-- so many values of one kind, one after another
+unfoldable pub list_at : {X : Type 0} → (List ℕ → Option (X × List ℕ)) → ℕ → List ℕ → Option (List X × List ℕ)
+list_at read zero bytes = Some ([], bytes)
+list_at read (suc n) bytes = do
+  first ← read bytes
+  others ← list_at read n first.1
+  Some (first.0 ∷ others.0, others.1)

@@ -6,6 +6,10 @@
 #![tactic(auto)]
 
 mod field;
+mod head;
+mod list;
 mod root;
 
+pub use head::{BLOCKS, Head};
+pub use list::ListOf;
 pub use root::Root;
