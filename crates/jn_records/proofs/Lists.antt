@@ -63,3 +63,7 @@ length-fields f size each (x ∷ xs) =
     let ih : length (flat_map f xs) ≡ size * length xs = length-fields f size each xs in
     let n : suc (length xs) ≡ length (x ∷ xs) = omega arith in
     length-append (f x) (flat_map f xs) ∙ (let sum : length (f x) + length (flat_map f xs) ≡ size * length xs + size = omega (arith, one, ih) in sum) ∙ sym k ∙ ap (λ (m : ℕ). size * m) n
+
+-- how long bytes are with a piece behind them
+pub grows : (new old piece : List ℕ) (k : ℕ) → length piece ≡ k → new ≡ old ++ piece → length new ≡ length old + k
+grows new old piece k len e = ap (λ (l : List ℕ). length l) e ∙ length-append old piece ∙ ap (λ (n : ℕ). length old + n) len

@@ -6,10 +6,22 @@
 #![tactic(auto)]
 
 mod field;
+mod flag;
 mod head;
+mod intention;
 mod list;
+mod name;
+mod record;
 mod root;
+mod work;
 
+pub use flag::Flag;
 pub use head::{BLOCKS, Head};
+pub use intention::{Intention, StoredIntention, What};
 pub use list::ListOf;
+pub use record::{READS, Record, WORKS};
 pub use root::Root;
+pub use work::{WorkHead, WorkState};
+
+#[cfg(test)]
+mod tests;
