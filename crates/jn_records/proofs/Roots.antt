@@ -1,0 +1,31 @@
+-- A root is read again from its page.
+use Rattle.std.proofs.Common.{◌≡◌, ℕ, List, ◌++◌, Some, refl, ap, ◌∙◌, replicate}
+use Rattle.std.specs.Prelude.{codes}
+use Rattle.byteorder.specs.Endian.{big_bytes}
+use Rattle.jn_records.specs.declared.root.Root.{Root}
+use Rattle.jn_records.specs.Pages.{root_bytes, root_page, IsRoot}
+use Rattle.jn_records.specs.Reading.{root_at}
+use Rattle.jn_records.proofs.Fields.{number_again, bytes_again}
+
+root_again : (r : Root) (rest : List ℕ) → IsRoot r → root_at (root_bytes r ++ rest) ≡ Some (r, rest)
+unfolding root_at
+root_again r rest is =
+    let after_leaves = big_bytes 4 r.epoch ++ rest in
+    let after_heads = big_bytes 2 r.leaves ++ after_leaves in
+    let after_pool = big_bytes 2 r.heads ++ after_heads in
+    let after_server = big_bytes 2 r.pool ++ after_pool in
+    let after_begin = big_bytes 1 r.server.0 ++ after_server in
+    let regrouped : root_bytes r ++ rest ≡ (codes "JUN1" ++ big_bytes 1 1) ++ after_begin = refl in
+    ap root_at regrouped
+    ∙ rw (
+      bytes_again 5 (codes "JUN1" ++ big_bytes 1 1) after_begin refl,
+      number_again 1 r.server.0 after_server is.server,
+      number_again 2 r.pool after_pool is.pool,
+      number_again 2 r.heads after_heads is.heads,
+      number_again 2 r.leaves after_leaves is.leaves,
+      number_again 4 r.epoch rest is.epoch,
+    ) refl
+
+pub root_is_read : (page : List ℕ) (r : Root) → IsRoot r → page ≡ root_page r → root_at page ≡ Some (r, replicate 496 0)
+unfolding root_page
+root_is_read page r is e = ap root_at e ∙ root_again r (replicate 496 0) is

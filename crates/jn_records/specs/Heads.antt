@@ -1,0 +1,47 @@
+-- The heads of files: their bytes, and how they are read.
+use Rattle.std.specs.Prelude.{◌≡◌, ◌<◌, ◌^◌, ◌++◌, ℕ, List, [], length, Option, Some, None, nat_eq, nat_le, Bool, true, flat_map, if◌then◌else◌}
+use Rattle.std.specs.List.{list_all}
+use Rattle.byteorder.specs.Endian.{big_bytes}
+use Rattle.jn_records.specs.declared.head.Head.{Head}
+use Rattle.jn_records.specs.declared.head.Head.TheVariants.{Free, Used}
+use Rattle.jn_records.specs.Pages.{padded}
+use Rattle.jn_records.specs.Reading.{◌>>=◌, number_at, list_at}
+
+-- A free head is zeros. A used one has kind 1, its file and the addresses of its blocks.
+abbrev pub head_bytes : Head → List ℕ
+head_bytes Free = []
+head_bytes (Used file addresses) = big_bytes 1 1 ++ big_bytes 4 file.0 ++ flat_map (λ a. big_bytes 2 a) addresses
+
+unfoldable pub head_page : Head → List ℕ
+head_page h = padded (head_bytes h)
+
+-- a head has an address for each block that there may be
+abbrev pub has_page : Head → Bool
+has_page Free = true
+has_page (Used file addresses) = nat_eq (length addresses) 120
+
+-- no address is past the data pages: 0 is none, and a page's is its index and 1
+abbrev pub within : ℕ → Head → Bool
+within leaves Free = true
+within leaves (Used file addresses) = list_all (λ a. nat_le a leaves) addresses
+
+-- a head whose pages are so many
+pub record IsHead (leaves : ℕ) (h : Head) : Type 0 where
+  pub whole : has_page h ≡ true
+  pub within_leaves : within leaves h ≡ true
+
+-- a number of its type
+abbrev pub FileFits : Head → Type 0
+FileFits Free = Unit {0}
+FileFits (Used file addresses) = file.0 < 2 ^ 32
+
+unfoldable pub used_at : List ℕ → Option Head
+used_at bytes = do
+  file ← number_at 4 bytes
+  addresses ← list_at (λ b. number_at 2 b) 120 file.1
+  Some (Used (record { 0 = file.0 }) addresses.0)
+
+unfoldable pub head_at : List ℕ → Option Head
+head_at bytes = do
+  kind ← number_at 1 bytes
+  if nat_eq kind.0 0 then Some Free else if nat_eq kind.0 1 then used_at kind.1 else None

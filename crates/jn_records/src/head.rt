@@ -1,0 +1,201 @@
+//! The heads of files.
+ghost use Rattle.std.specs.Prelude.{◌≡◌, ◌≤◌, ◌^◌, ◌<◌, true, List, length, nat_le, Option, Some, IfOk, IfSome, IsTrue, ◌↔◌};
+ghost use Rattle.std.specs.List.{list_all};
+ghost use Rattle.jn_records.specs.declared.head.Head.{Head};
+ghost use Rattle.jn_records.specs.declared.head.Head.TheVariants.{Used};
+ghost use Rattle.jn_records.specs.Heads.{head_page, has_page, within, IsHead, FileFits, used_at, head_at};
+
+use crate::field::{same_page, u8_at, u32_at};
+use crate::list::{ListOf, list_at, put_list};
+use jn_base::{FileNo, Page, PageWriter};
+use std::alloc::{AllocError, Global};
+
+/// The first byte of a head that no file has: its page is zeros.
+const FREE: u8 = 0;
+
+/// The first byte of a file's head.
+const USED: u8 = 1;
+
+/// How many blocks a file may have: a head has an address for each.
+pub const BLOCKS: u8 = 120;
+
+/// A head: which file has it, and where the file's blocks are.
+#[derive(Drop)]
+pub enum Head {
+    Free,
+    Used {
+        file: FileNo,
+        /// Of each block its address: 0 where it isn't stored, else its data page's index and 1.
+        addresses: ListOf<u16>,
+    },
+}
+
+impl Head {
+    /// The page of the head.
+    #[tactic(auto, unfolding(crate::specs::Heads::head_page))]
+    pub fn encode(&self) -> Page
+        requires { has_page self.now ≡ true }
+        ensures { result ≡ head_page self.now }
+    {
+        match self {
+            Head::Free => PageWriter::new().finish(),
+            Head::Used { file, addresses } => used_page(*file, addresses.as_slice()),
+        }
+    }
+
+    /// The head whose page this is, where there is one and no address is past so many data pages.
+    pub fn decode(alloc: Global, page: &Page, leaves: u16) -> Result<Option<Self>, AllocError>
+        ensures found { IfOk result (λ r. IfSome r (λ head. IsHead leaves head × (page.now ≡ head_page head))) }
+        ensures only { (head : Head) → IsHead leaves head → FileFits head → page.now ≡ head_page head → IfOk result (λ r. r ≡ Some head) }
+    {
+        let head = head_at(alloc, page)?;
+        Ok(of_page(head, page, leaves))
+    }
+
+    /// Whether this is the head's page, and no address is past so many data pages.
+    fn is_of(&self, page: &Page, leaves: u16) -> bool
+        ensures { IsTrue result ↔ (IsHead leaves self.now × (page.now ≡ head_page self.now)) }
+    {
+        self.has_page() && self.within(leaves) && same_page(&self.encode(), page)
+    }
+
+    fn has_page(&self) -> bool
+        ensures { result ≡ has_page self.now }
+    {
+        match self {
+            Head::Free => true,
+            Head::Used { addresses, .. } => addresses.as_slice().len() == BLOCKS as usize,
+        }
+    }
+
+    /// Whether no address is past so many data pages.
+    fn within(&self, leaves: u16) -> bool
+        ensures { result ≡ within leaves self.now }
+    {
+        match self {
+            Head::Free => true,
+            Head::Used { addresses, .. } => all_within(addresses.as_slice(), leaves),
+        }
+    }
+}
+
+/// The head, where this is its page.
+fn of_page(head: Option<Head>, page: &Page, leaves: u16) -> Option<Head>
+    ensures found { IfSome result (λ head. IsHead leaves head × (page.now ≡ head_page head)) }
+    ensures only { (h : Head) → head ≡ Some h → IsHead leaves h → page.now ≡ head_page h → result ≡ Some h }
+{
+    match head {
+        Some(head) if head.is_of(page, leaves) => Some(head),
+        _ => None,
+    }
+}
+
+fn all_within(addresses: &[u16], leaves: u16) -> bool
+    ensures { result ≡ list_all (λ a. nat_le a leaves) addresses.now }
+{
+    addresses.iter().all(|a| *a <= leaves)
+}
+
+#[tactic(auto, unfolding(crate::specs::Heads::head_page))]
+fn used_page(file: FileNo, addresses: &[u16]) -> Page
+    requires { length addresses.now ≡ 120 }
+    ensures { result ≡ head_page (Used file addresses.now) }
+{
+    let mut page = PageWriter::new();
+    page.put_u8(USED);
+    page.put_u32(file.0);
+    put_list(&mut page, addresses);
+    page.finish()
+}
+
+#[tactic(auto, unfolding(crate::specs::Heads::used_at))]
+fn used_at(alloc: Global, bytes: &[u8]) -> Result<Option<Head>, AllocError>
+    ensures { IfOk result (λ r. r ≡ used_at bytes.now) }
+{
+    let Some((file, rest)) = u32_at(bytes) else {
+        return Ok(None);
+    };
+    let Some((addresses, _)) = list_at(alloc, BLOCKS, rest)? else {
+        return Ok(None);
+    };
+    Ok(Some(Head::Used {
+        file: FileNo(file),
+        addresses: ListOf::from_vec(addresses),
+    }))
+}
+
+#[tactic(auto, unfolding(crate::specs::Heads::head_at))]
+fn head_at(alloc: Global, bytes: &[u8]) -> Result<Option<Head>, AllocError>
+    ensures { IfOk result (λ r. r ≡ head_at bytes.now) }
+{
+    let Some((kind, rest)) = u8_at(bytes) else {
+        return Ok(None);
+    };
+    match kind {
+        FREE => Ok(Some(Head::Free)),
+        USED => used_at(alloc, rest),
+        _ => Ok(None),
+    }
+}
+
+#[cfg(test)]
+mod tests {
+    use super::*;
+    use std::test::Fail;
+
+    /// File 0x01020304, whose block 0 is in data page 127 and block 2 in data page 4.
+    const BEGIN: [u8; 11] = [1, 1, 2, 3, 4, 0, 128, 0, 0, 0, 5];
+
+    fn changed(page: &Page, at: usize, byte: u8) -> Page {
+        let mut changed = *page;
+        if at < 512 {
+            changed[at] = byte;
+        }
+        changed
+    }
+
+    #[test]
+    fn a_head_has_one_page(rt: HostRuntime) -> Result<(), Fail> {
+        let mut addresses = vec![in rt.alloc(); 0; 120]?;
+        assert_eq!(rt; addresses.len(), 120);
+        addresses[0] = 128;
+        addresses[2] = 5;
+        let head = Head::Used {
+            file: FileNo(0x0102_0304),
+            addresses: ListOf::from_vec(addresses),
+        };
+        assert!(rt; head.has_page());
+        let page = head.encode();
+        assert!(rt; page.starts_with(&BEGIN));
+        for (at, byte, leaves, same) in [
+            (0, 1, 128, true),
+            (0, 1, 127, false),
+            (0, 2, 128, false),
+            (0, 0, 128, false),
+            (244, 200, 128, false),
+            (244, 7, 128, true),
+            (245, 1, 128, false),
+        ] {
+            let decoded = Head::decode(rt.alloc(), &changed(&page, at, byte), leaves)?;
+            assert_eq!(rt; decoded.is_some(), same);
+        }
+        Ok(())
+    }
+
+    #[test]
+    fn the_parts_of_a_head_are_read(rt: HostRuntime) -> Result<(), Fail> {
+        let mut page = PageWriter::new();
+        page.put_bytes(&BEGIN);
+        match Head::decode(rt.alloc(), &page.finish(), 200)? {
+            Some(Head::Used { file, addresses }) => {
+                assert_eq!(rt; file, FileNo(0x0102_0304));
+                let addresses = addresses.into_vec();
+                assert_eq!(rt; &addresses[..4], [128, 0, 5, 0].as_slice());
+            }
+            _ => assert!(rt; false),
+        }
+        let zeros = PageWriter::new().finish();
+        assert!(rt; matches!(Head::decode(rt.alloc(), &zeros, 0)?, Some(Head::Free)));
+        Ok(())
+    }
+}

@@ -1,0 +1,124 @@
+//! The root of a server's pages.
+ghost use Rattle.std.specs.Prelude.{◌≡◌, Some, IfSome};
+ghost use Rattle.jn_records.specs.declared.root.Root.{Root};
+ghost use Rattle.jn_records.specs.Pages.{root_page, IsRoot};
+ghost use Rattle.jn_records.specs.Reading.{Gives, root_at};
+
+use crate::field::{bytes_at, same_page, u8_at, u16_at, u32_at};
+use jn_base::{Page, PageWriter, ServerNo};
+
+/// The name of the format, at the front of the root.
+const NAME: [u8; 4] = *b"JUN1";
+
+/// The version of the format.
+const VERSION: u8 = 1;
+
+/// The root: whose pages these are, how many there are of each kind, and the epoch.
+#[derive(Clone, Copy, Debug, PartialEq, Eq)]
+pub struct Root {
+    pub server: ServerNo,
+    /// Pages of the pool of records.
+    pub pool: u16,
+    /// Heads of files.
+    pub heads: u16,
+    /// Data pages.
+    pub leaves: u16,
+    /// How often the server was started.
+    pub epoch: u32,
+}
+
+impl Root {
+    /// The page of the root.
+    #[tactic(auto, unfolding(crate::specs::Pages::root_page))]
+    pub fn encode(&self) -> Page
+        ensures { result ≡ root_page self.now }
+    {
+        let mut page = PageWriter::new();
+        page.put_bytes(&NAME);
+        page.put_u8(VERSION);
+        page.put_u8(self.server.0);
+        page.put_u16(self.pool);
+        page.put_u16(self.heads);
+        page.put_u16(self.leaves);
+        page.put_u32(self.epoch);
+        page.finish()
+    }
+
+    /// The root whose page this is, where there is one.
+    pub fn decode(page: &Page) -> Option<Self>
+        ensures found { IfSome result (λ root. page.now ≡ root_page root) }
+        ensures only { (root : Root) → IsRoot root → page.now ≡ root_page root → result ≡ Some root }
+    {
+        let (root, _) = root_at(page)?;
+        if same_page(&root.encode(), page) {
+            Some(root)
+        } else {
+            None
+        }
+    }
+}
+
+#[tactic(auto, unfolding(crate::specs::Reading::root_at))]
+fn root_at(page: &[u8]) -> Option<(Root, &[u8])>
+    ensures { Gives (λ r. (r.0, r.1.now)) result (root_at page.now) }
+{
+    let (_begin, rest) = bytes_at(page, 5)?;
+    let (server, rest) = u8_at(rest)?;
+    let (pool, rest) = u16_at(rest)?;
+    let (heads, rest) = u16_at(rest)?;
+    let (leaves, rest) = u16_at(rest)?;
+    let (epoch, rest) = u32_at(rest)?;
+    let root = Root {
+        server: ServerNo(server),
+        pool,
+        heads,
+        leaves,
+        epoch,
+    };
+    Some((root, rest))
+}
+
+#[cfg(test)]
+mod tests {
+    use super::*;
+
+    const BEGIN: [u8; 16] = [
+        b'J', b'U', b'N', b'1', 1, 0, 0, 32, 0, 16, 0, 128, 0, 0, 0, 2,
+    ];
+
+    fn page_of(begin: &[u8; 16]) -> Page {
+        let mut page = PageWriter::new();
+        page.put_bytes(begin);
+        page.finish()
+    }
+
+    #[test]
+    fn a_root_has_one_page(rt: HostRuntime) {
+        let root = Root {
+            server: ServerNo(0),
+            pool: 32,
+            heads: 16,
+            leaves: 128,
+            epoch: 2,
+        };
+        let page = root.encode();
+        assert_eq!(rt; &page[..16], BEGIN.as_slice());
+        assert_eq!(rt; Root::decode(&page_of(&BEGIN)), Some(root));
+    }
+
+    #[test]
+    fn a_changed_root_is_another_or_none(rt: HostRuntime) {
+        for (at, same) in [
+            (0, false),
+            (4, false),
+            (5, true),
+            (15, true),
+            (16, false),
+            (511, false),
+        ] {
+            let mut page = page_of(&BEGIN);
+            page[at] = 7;
+            assert_eq!(rt; Root::decode(&page).is_some(), same);
+        }
+    }
+}
