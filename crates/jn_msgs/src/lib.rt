@@ -1,0 +1,12 @@
+//! What clients and servers say to one another, and what a step sends and tells.
+#![tactic(auto)]
+
+mod message;
+mod out;
+#[cfg(test)]
+mod tests;
+mod works;
+
+pub use message::{Message, Note, Outcome, Vote};
+pub use out::Out;
+pub use works::Works;

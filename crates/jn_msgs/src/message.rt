@@ -1,0 +1,96 @@
+//! The messages of the protocol, in the order of a transaction's life.
+
+ghost use Rattle.std.specs.Prelude.{◌≡◌};
+ghost use Rattle.jn_msgs.specs.Kinds.{kind_of};
+
+use crate::works::Works;
+use jn_base::{Answer, Cause, ClientNo, LockUnit, MsgKind, Op, ServerNo, Tid, WorkId};
+
+/// What a worker says of a work that is to be prepared.
+#[derive(Clone, Copy, Debug, PartialEq, Eq, Drop)]
+pub enum Vote {
+    /// The work is prepared.
+    Ready,
+    /// Another transaction holds the unit.
+    Waiting(LockUnit, Tid),
+    /// The work was broken at the unit, by the transaction.
+    Broken(LockUnit, Tid),
+    /// The work isn't live: its epoch, and the epoch now.
+    Lost(u32, u32),
+    /// There is no room: the number of the refusal, what is free, what is needed.
+    Full(u8, u32, u32),
+}
+
+/// What a client is told of its transaction's end.
+#[derive(Clone, Copy, Debug, PartialEq, Eq, Drop)]
+pub enum Outcome {
+    Committed,
+    Aborted(Cause),
+    /// At the server another transaction holds the unit.
+    Waiting(ServerNo, LockUnit, Tid),
+    /// The server knows of no such transaction in this epoch.
+    NotKnown(ServerNo, u32),
+}
+
+/// What a step tells beside its messages.
+#[derive(Clone, Copy, Debug, PartialEq, Eq, Drop)]
+pub enum Note {
+    /// The transaction committed.
+    Commit(Tid),
+    /// The first transaction's work was broken at the unit, by the second.
+    Broke(Tid, LockUnit, Tid),
+    /// The message had no effect.
+    Ignored,
+}
+
+/// A message. `request` counts a client's requests, `number` the operations of a work.
+#[derive(Drop)]
+pub enum Message {
+    Begin(ClientNo, u32),
+    /// The client, its request and the transaction.
+    Open(ClientNo, u32, Tid),
+    /// The client, its request, the work, the operation's number and the operation.
+    Op(ClientNo, u32, WorkId, u32, Op),
+    /// The client, its request, the transaction and its works.
+    End(ClientNo, u32, Tid, Works),
+    Abort(ClientNo, u32, Tid, Works),
+    Thanks(ClientNo, Tid),
+    /// The new transaction, or none where no more can be live there.
+    Begun(ClientNo, u32, Option<Tid>),
+    /// The transaction and its new work, or none where no more can be live there.
+    Opened(ClientNo, u32, Tid, Option<WorkId>),
+    Answer(ClientNo, u32, Answer),
+    Outcome(ClientNo, Tid, Outcome),
+    /// The transaction, its client and the work that is to be prepared.
+    Prepare(Tid, ClientNo, WorkId),
+    Commit(Tid, WorkId),
+    Drop(Tid, WorkId),
+    Vote(Tid, WorkId, Vote),
+    Done(Tid, WorkId),
+    Inquire(Tid, WorkId),
+}
+
+impl Message {
+    pub fn kind(&self) -> MsgKind
+        ensures { result ≡ kind_of self.now }
+    {
+        match self {
+            Message::Begin(..) => MsgKind::Begin,
+            Message::Open(..) => MsgKind::Open,
+            Message::Op(..) => MsgKind::Op,
+            Message::End(..) => MsgKind::End,
+            Message::Abort(..) => MsgKind::Abort,
+            Message::Thanks(..) => MsgKind::Thanks,
+            Message::Begun(..) => MsgKind::Begun,
+            Message::Opened(..) => MsgKind::Opened,
+            Message::Answer(..) => MsgKind::Answer,
+            Message::Outcome(..) => MsgKind::Outcome,
+            Message::Prepare(..) => MsgKind::Prepare,
+            Message::Commit(..) => MsgKind::Commit,
+            Message::Drop(..) => MsgKind::Drop,
+            Message::Vote(..) => MsgKind::Vote,
+            Message::Done(..) => MsgKind::Done,
+            Message::Inquire(..) => MsgKind::Inquire,
+        }
+    }
+}
