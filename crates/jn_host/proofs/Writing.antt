@@ -7,7 +7,8 @@ use Rattle.std.proofs.lemmas.Grind.{common_steps}
 use Rattle.jn_host.specs.declared.Failed.{Failed}
 use Rattle.jn_host.specs.Outside.{SinkWrote}
 
-append_twice : (known : Option (List ℕ)) (xs ys : List ℕ) → append_known (append_known known xs) ys ≡ append_known known (xs ++ ys)
+-- bytes taken after others
+pub append_twice : (known : Option (List ℕ)) (xs ys : List ℕ) → append_known (append_known known xs) ys ≡ append_known known (xs ++ ys)
 append_twice None xs ys = refl
 append_twice (Some zs) xs ys = grind (arith, common_steps)
 

@@ -1,30 +1,19 @@
 -- Each chapter of the story keeps what holds so far.
-use Rattle.std.proofs.Common.{◌≡◌, ◌≢◌, ◌⊎◌, inl, inr, ℕ, suc, ◌+◌, ◌*◌, ◌<◌, ◌≤◌, Bool, true, false, nat_eq, ◌||◌, ◌&&◌, cond, List, [], ◌∷◌, ◌++◌, length, take, Option, Some, None, refl, sym, ◌∙◌, ap, subst, arith, append_assoc, length-append}
+use Rattle.std.proofs.Common.{append-nil, ◌≡◌, ℕ, suc, ◌+◌, ◌≤◌, Bool, true, nat_eq, ◌&&◌, cond, List, [], ◌∷◌, ◌++◌, length, Option, Some, None, refl, ◌∙◌, ap, subst, arith}
 use Rattle.std.proofs.lemmas.Bool.Decides.{nat_tests}
-use Rattle.jn_base.specs.declared.names.ServerNo.{ServerNo}
 use Rattle.jn_base.specs.declared.names.Tid.{Tid}
-use Rattle.jn_base.specs.declared.op.Op.{Op}
-use Rattle.jn_base.specs.declared.op.Op.TheVariants.{Create, Write}
-use Rattle.jn_base.specs.declared.op.Answer.{Answer}
 use Rattle.jn_base.specs.declared.op.Command.{Command}
 use Rattle.jn_base.specs.declared.op.Command.TheVariants as commands
-use Rattle.jn_order.specs.Files.{AllFiles, no_files, answer_to, all_files_after}
 use Rattle.jn_schedule.specs.declared.Event.{Event}
 use Rattle.jn_schedule.specs.declared.Event.TheVariants as events
-use Rattle.jn_report.specs.declared.line.When.TheVariants.{Event as AtEvent}
 use Rattle.jn_report.specs.declared.line.Text.{Text}
 use Rattle.jn_report.specs.declared.line.Text.TheVariants as says
 use Rattle.jn_report.specs.declared.line.Line.{Line}
-use Rattle.jn_serial.specs.declared.files.Performed.{Performed}
-use Rattle.jn_serial.specs.Lines.{event_at, history_of, has_tid}
-use Rattle.jn_serial.specs.Order.{answered, replay, files_then, GivesAnswers}
-use Rattle.jn_serial.specs.Follows.{Outstanding, Asked, Addressed, nothing_asked, with_asked, after_one, after_event, answer_in, answers_command, own_in_place, fits_asked, after_answer, is_last, is_answer, fits, AllOfEvents}
-use Rattle.jn_serial.proofs.Growth.{event_at-front, event_at-next}
+use Rattle.jn_serial.specs.Follows.{Outstanding, Asked, Addressed, with_asked, answer_in, answers_command, own_in_place, fits_asked, after_answer, is_last, fits}
 use Rattle.jn_serial.proofs.Ops.{AnswersWithin}
 use Rattle.jn_run.specs.Form.{client_1}
-use Rattle.jn_run.specs.Pages.{server_0}
-use Rattle.jn_run.specs.Story.{Chapter, line_at, the_tid}
-use Rattle.jn_run.proofs.OneClient.{Talk, TalksOn, talk-more, Stage, Idle, Running, Ordered, next_number, ordered-silent, ordered-answer, ordered-begun, ordered-committed, ordered-plain, IsPlain, IsUnused, replay-committed, length-more, nothing_more}
+use Rattle.jn_run.specs.Story.{line_at}
+use Rattle.jn_run.proofs.OneClient.{Talk, talk-more, Stage, Ordered, next_number, length-more}
 
 -- what holds between two chapters: nothing is outstanding
 pub record SoFar (es : List Event) (ls : List Line) (stage : Stage) : Type 0 where
@@ -37,7 +26,7 @@ pub record SoFar (es : List Event) (ls : List Line) (stage : Stage) : Type 0 whe
 given : (es : List Event) (ls : List Line) (out : Outstanding) (command : Command) → Talk es ls out
     → Talk (es ++ events.Command client_1 command ∷ []) ls (with_asked out client_1 (Some (record { number = next_number es; command = command })))
 given es ls out command t =
-    subst (λ (m : List Line). Talk (es ++ events.Command client_1 command ∷ []) m (with_asked out client_1 (Some (record { number = next_number es; command = command })))) (nothing_more ls)
+    subst (λ (m : List Line). Talk (es ++ events.Command client_1 command ∷ []) m (with_asked out client_1 (Some (record { number = next_number es; command = command })))) (append-nil ls)
     (talk-more es ls out (events.Command client_1 command) [] t (record {
       within = tt;
       below = tt;

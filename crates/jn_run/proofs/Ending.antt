@@ -1,16 +1,9 @@
 -- The end of a run: the lines that print the files show what the commits give.
-use Rattle.std.proofs.Common.{◌≡◌, ◌≢◌, ◌⊎◌, inl, inr, ℕ, zero, suc, ◌+◌, ◌<◌, ◌≤◌, Bool, true, false, nat_eq, nat_lt, ◌||◌, ◌&&◌, cond, List, [], ◌∷◌, ◌++◌, length, take, drop, Option, Some, None, refl, sym, ◌∙◌, ap, subst, arith, append_assoc}
-use Rattle.std.proofs.lemmas.Bool.Decides.{nat_tests}
+use Rattle.std.proofs.Common.{append-nil, ◌≡◌, ℕ, zero, suc, ◌+◌, Bool, true, false, ◌||◌, cond, List, [], ◌∷◌, ◌++◌, length, Option, Some, None, refl, sym, ◌∙◌, ap, subst}
 use Rattle.jn_base.specs.declared.names.ServerNo.{ServerNo}
 use Rattle.jn_base.specs.declared.names.ClientNo.{ClientNo}
-use Rattle.jn_base.specs.declared.names.FileNo.{FileNo}
-use Rattle.jn_base.specs.declared.names.BlockNo.{BlockNo}
 use Rattle.jn_base.specs.declared.names.Tid.{Tid}
-use Rattle.jn_base.specs.declared.names.LockUnit.{LockUnit}
-use Rattle.jn_base.specs.declared.names.LockUnit.TheVariants.{File, Block}
-use Rattle.jn_base.specs.Names.{server_eq, tid_eq}
-use Rattle.jn_base.proofs.Tells.{server_tells}
-use Rattle.jn_order.specs.Files.{Files, AllFiles, no_files}
+use Rattle.jn_order.specs.Files.{AllFiles, no_files}
 use Rattle.jn_schedule.specs.declared.Event.{Event}
 use Rattle.jn_report.specs.declared.line.When.{When}
 use Rattle.jn_report.specs.declared.line.When.TheVariants.{Event as AtEvent, End}
@@ -18,19 +11,18 @@ use Rattle.jn_report.specs.declared.line.Text.{Text}
 use Rattle.jn_report.specs.declared.line.Text.TheVariants as says
 use Rattle.jn_report.specs.declared.line.Line.{Line}
 use Rattle.jn_serial.specs.declared.files.Performed.{Performed}
-use Rattle.jn_serial.specs.Lines.{when_eq, lines_at, lines_before, says, event_at, history_of, has_tid, commit_in}
+use Rattle.jn_serial.specs.Lines.{when_eq, lines_at, says, event_at, history_of, commit_in}
 use Rattle.jn_serial.specs.Order.{answered_by, owner_after, ops_from, ops_of, replay, AgreesFrom}
-use Rattle.jn_serial.specs.Told.{Told, NamesBefore, NamesOnce, NamesNone}
-use Rattle.jn_serial.specs.Shown.{IsAsIn, AllAsIn, prints_file, accounts_file, accounts_block, is_locked, ShowsFiles, ShownSoFar, ShownAtEnd}
+use Rattle.jn_serial.specs.Told.{NamesBefore, NamesOnce, NamesNone}
+use Rattle.jn_serial.specs.Shown.{is_locked, ShowsFiles}
 use Rattle.jn_serial.specs.Follows.{nothing_asked, FollowsEvent, FollowsFrom, after_one, AllOfEvents, is_answer, Follows}
 use Rattle.jn_serial.proofs.Growth.{AreWithin}
-use Rattle.jn_serial.proofs.Ops.{DidTheSame, replay-same, AgreesFrom-same}
-use Rattle.jn_serial.proofs.Orders.{AreSame-equal, ops_of-append, owner_then, history_of-append, lines_at-append, says-append, NamesBefore-append, NamesNone-append}
-use Rattle.jn_run.specs.Pages.{server_0, only_server_0, ArePrints, is_print}
-use Rattle.jn_run.specs.Story.{events_in, lines_in}
-use Rattle.jn_run.specs.Ending.{end_line, ending}
+use Rattle.jn_serial.proofs.Ops.{replay-by_ops, AgreesFrom-by_ops}
+use Rattle.jn_serial.proofs.Orders.{ops_of-append, owner_then, history_of-append, lines_at-append, NamesBefore-append, NamesNone-append}
+use Rattle.jn_run.specs.Pages.{ArePrints, is_print}
+use Rattle.jn_run.specs.Ending.{end_line}
 use Rattle.jn_run.specs.Outcome.{Holds, IsRun}
-use Rattle.jn_run.proofs.OneClient.{Talk, NoShows, is_show, Idle, Stage, Ordered, next_number, DidTheSame-each, nothing_more}
+use Rattle.jn_run.proofs.OneClient.{NoShows, is_show, Stage, next_number, DidTheSame-each}
 use Rattle.jn_run.proofs.Chapters.{SoFar}
 use Rattle.jn_run.proofs.Story.{Ends}
 
@@ -159,7 +151,7 @@ ends-quietly (l ∷ ls) h =
       history = ap (λ (ts : List Tid). ts ++ history_of ls) n.no_commit ∙ q.history;
       ops = λ es t o. ap (λ (ps : List Performed). ps ++ ops_from es t (owner_after t o l.text) ls) (n.no_op es o) ∙ q.ops es t (owner_after t o l.text);
       answers = λ k. (λ is. absurd (clash (is_answer l.text) is n.no_answer), q.answers k);
-      told = λ ts. ((n.told ts).0, subst (λ (us : List Tid). NamesBefore us ls) (sym (ap (λ (us : List Tid). ts ++ us) n.no_commit ∙ nothing_more ts)) (q.told ts));
+      told = λ ts. ((n.told ts).0, subst (λ (us : List Tid). NamesBefore us ls) (sym (ap (λ (us : List Tid). ts ++ us) n.no_commit ∙ append-nil ts)) (q.told ts));
       not_lost = λ ts. ((n.not_lost ts).0, q.not_lost ts);
       unlocked = ap (λ (b : Bool). b || says is_locked ls) n.unlocked ∙ q.unlocked;
     }
@@ -191,16 +183,16 @@ pub ends-run : (es : List Event) (ls ends : List Line) (files : AllFiles) → En
 ends-run es ls ends files e of_end shows =
     let q = ends-quietly ends of_end in
     let s = e.so_far in
-    let history : history_of (ls ++ ends) ≡ history_of ls = history_of-append ls ends ∙ ap (λ (ts : List Tid). history_of ls ++ ts) q.history ∙ nothing_more (history_of ls) in
-    let did : (t : Tid) → ops_of es (ls ++ ends) t ≡ ops_of es ls t = λ t. ops_of-append es t ls ends ∙ ap (λ (ps : List Performed). ops_of es ls t ++ ps) (q.ops es t (owner_then t None ls)) ∙ nothing_more (ops_of es ls t) in
+    let history : history_of (ls ++ ends) ≡ history_of ls = history_of-append ls ends ∙ ap (λ (ts : List Tid). history_of ls ++ ts) q.history ∙ append-nil (history_of ls) in
+    let did : (t : Tid) → ops_of es (ls ++ ends) t ≡ ops_of es ls t = λ t. ops_of-append es t ls ends ∙ ap (λ (ps : List Performed). ops_of es ls t ++ ps) (q.ops es t (owner_then t None ls)) ∙ append-nil (ops_of es ls t) in
     let each = DidTheSame-each es ls es (ls ++ ends) (history_of ls) (λ t k. did t) in
     let gives : replay no_files es (ls ++ ends) (history_of (ls ++ ends)) ≡ files =
-    ap (λ (ts : List Tid). replay no_files es (ls ++ ends) ts) history ∙ replay-same no_files es ls es (ls ++ ends) (history_of ls) each ∙ e.gives in
+    ap (λ (ts : List Tid). replay no_files es (ls ++ ends) ts) history ∙ replay-by_ops no_files es ls es (ls ++ ends) (history_of ls) each ∙ e.gives in
     let all : lines_at End (ls ++ ends) ≡ ends = lines_at-append End ls ends ∙ ap (λ (m : List Line). m ++ lines_at End ends) (no-end (next_number es) ls s.talk.within) ∙ q.all in
-    let events : (i : ℕ) → lines_at (AtEvent i) (ls ++ ends) ≡ lines_at (AtEvent i) ls = λ i. lines_at-append (AtEvent i) ls ends ∙ ap (λ (m : List Line). lines_at (AtEvent i) ls ++ m) (q.events i) ∙ nothing_more (lines_at (AtEvent i) ls) in
+    let events : (i : ℕ) → lines_at (AtEvent i) (ls ++ ends) ≡ lines_at (AtEvent i) ls = λ i. lines_at-append (AtEvent i) ls ends ∙ ap (λ (m : List Line). lines_at (AtEvent i) ls ++ m) (q.events i) ∙ append-nil (lines_at (AtEvent i) ls) in
     record {
       holds = record {
-        agrees = subst (λ (ts : List Tid). AgreesFrom no_files es (ls ++ ends) ts) (sym history) (AgreesFrom-same no_files es ls es (ls ++ ends) (history_of ls) each s.ordered.agrees);
+        agrees = subst (λ (ts : List Tid). AgreesFrom no_files es (ls ++ ends) ts) (sym history) (AgreesFrom-by_ops no_files es ls es (ls ++ ends) (history_of ls) each s.ordered.agrees);
         shown = λ i p h printed. absurd (no-show es i p s.talk.no_shows h);
         told = record {
           before = NamesBefore-append [] ls ends s.ordered.told.before (q.told (history_of ls));

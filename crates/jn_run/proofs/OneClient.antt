@@ -1,12 +1,10 @@
 -- One client at one server: what its talk and its transactions keep, event by event.
-use Rattle.std.proofs.Common.{◌≡◌, ◌≢◌, ◌⊎◌, inl, inr, ℕ, suc, ◌+◌, ◌<◌, ◌≤◌, Bool, true, false, ◌||◌, cond, List, [], ◌∷◌, ◌++◌, length, Option, Some, None, refl, sym, ◌∙◌, ap, subst, arith, append_assoc, length-append}
-use Rattle.std.proofs.lemmas.Bool.Decides.{nat_tests}
+use Rattle.std.proofs.Common.{◌≡◌, ◌⊎◌, inl, inr, ℕ, suc, ◌+◌, ◌≤◌, Bool, true, false, ◌||◌, cond, List, [], ◌∷◌, ◌++◌, length, Option, Some, None, refl, sym, ◌∙◌, ap, subst, arith, append-nil}
 use Rattle.jn_base.specs.declared.names.ClientNo.{ClientNo}
-use Rattle.jn_base.specs.declared.names.ServerNo.{ServerNo}
 use Rattle.jn_base.specs.declared.names.Tid.{Tid}
 use Rattle.jn_base.specs.Names.{tid_eq}
 use Rattle.jn_base.proofs.Tells.{tid_tells}
-use Rattle.jn_order.specs.Files.{AllFiles, no_files, answer_to}
+use Rattle.jn_order.specs.Files.{AllFiles, no_files}
 use Rattle.jn_schedule.specs.declared.Event.{Event}
 use Rattle.jn_schedule.specs.declared.Event.TheVariants.{Show}
 use Rattle.jn_report.specs.declared.line.When.{When}
@@ -15,13 +13,14 @@ use Rattle.jn_report.specs.declared.line.Text.{Text}
 use Rattle.jn_report.specs.declared.line.Text.TheVariants as says
 use Rattle.jn_report.specs.declared.line.Line.{Line}
 use Rattle.jn_serial.specs.declared.files.Performed.{Performed}
-use Rattle.jn_serial.specs.Lines.{lines_at, event_at, history_of, has_tid, commit_in}
-use Rattle.jn_serial.specs.Order.{answered, answered_by, owner_after, is_client, ops_from, ops_of, files_then, replay, GivesAnswers, AgreesFrom, Agrees}
-use Rattle.jn_serial.specs.Told.{IsNamedWhere, NamesBefore, NamesOnce, IsNotNamedWhere, NamesNone, Told}
-use Rattle.jn_serial.specs.Follows.{Outstanding, nothing_asked, FollowsEvent, FollowsFrom, after_one, AllOfEvents, IsOfEvent, is_answer, Follows}
-use Rattle.jn_serial.proofs.Growth.{IsWithin, AreWithin, AreWithin-wider, AreWithin-append, lines_at-newest, outstanding_after, follows-more, follows-earlier, outstanding-more, outstanding-earlier}
-use Rattle.jn_serial.proofs.Ops.{AllAnswerWithin, AllAnswerWithin-wider, AllAnswerWithin-append, ops_from-events, ops_from-append, owner_of, owner_of-append, DidTheSame, replay-same, AgreesFrom-same, AgreesFrom-more, replay-more, history_of-append, has_tid-append}
-use Rattle.jn_serial.proofs.Telling.{NamesBefore-append, NamesNone-append, NamesOnce-more}
+use Rattle.jn_serial.specs.Lines.{lines_at, history_of, has_tid, commit_in}
+use Rattle.jn_serial.specs.Order.{answered, owner_after, is_client, ops_from, ops_of, files_then, replay, GivesAnswers, AgreesFrom, Agrees}
+use Rattle.jn_serial.specs.Told.{IsNamedWhere, NamesOnce, IsNotNamedWhere, NamesNone, Told}
+use Rattle.jn_serial.specs.Follows.{Outstanding, nothing_asked, FollowsEvent, FollowsFrom, after_one, AllOfEvents, IsOfEvent}
+use Rattle.jn_serial.proofs.Growth.{AreWithin, AreWithin-wider, AreWithin-append, lines_at-newest, outstanding_after, follows-more, follows-earlier, outstanding-more, outstanding-earlier}
+use Rattle.jn_serial.proofs.Ops.{AllAnswerWithin, AllAnswerWithin-wider, AllAnswerWithin-append, ops_from-events, DidTheSame, replay-by_ops, AgreesFrom-by_ops, AgreesFrom-more, replay-more}
+use Rattle.jn_serial.proofs.Orders.{owner_then, owner_then-append, ops_from-append, history_of-append, has_tid-append, NamesBefore-append, NamesNone-append}
+use Rattle.jn_serial.proofs.Telling.{NamesOnce-more}
 use Rattle.jn_run.specs.Form.{client_1}
 
 -- the number of the next event
@@ -100,8 +99,8 @@ pub data Stage : Type 0 where
 
 -- the transaction that runs, with what it did so far
 pub record Runs (es : List Event) (ls : List Line) (t : Tid) (ps : List Performed) : Type 0 where
-  pub owner : owner_of t None ls ≡ Some client_1
-  pub others : (u : Tid) → has_tid (history_of ls) u ≡ true → owner_of u None ls ≡ None
+  pub owner : owner_then t None ls ≡ Some client_1
+  pub others : (u : Tid) → has_tid (history_of ls) u ≡ true → owner_then u None ls ≡ None
   pub new : has_tid (history_of ls) t ≡ false
   pub unnamed : NamesNone (t ∷ []) ls
   pub did : ops_of es ls t ≡ ps
@@ -115,7 +114,7 @@ StandsAt es ls (Running t ps) = Runs es ls t ps
 pub record Ordered (es : List Event) (ls : List Line) (stage : Stage) : Type 0 where
   pub agrees : Agrees no_files es ls
   pub told : Told ls
-  pub owners : (u : Tid) → (owner_of u None ls ≡ None) ⊎ (owner_of u None ls ≡ Some client_1)
+  pub owners : (u : Tid) → (owner_then u None ls ≡ None) ⊎ (owner_then u None ls ≡ Some client_1)
   pub stands : StandsAt es ls stage
 
 pub DidTheSame-each : (es : List Event) (ls : List Line) (fs : List Event) (ms : List Line) (ts : List Tid)
@@ -132,19 +131,15 @@ DidTheSame-each es ls fs ms (t ∷ ts) h = (h t (first t (has_tid ts t)), DidThe
 
 -- what a transaction did, with one more event and its lines
 pub ops_of-more : (es : List Event) (ls : List Line) (e : Event) (ms : List Line) (u : Tid) → AllAnswerWithin (length es) ls
-    → ops_of (es ++ e ∷ []) (ls ++ ms) u ≡ ops_of es ls u ++ ops_from (es ++ e ∷ []) u (owner_of u None ls) ms
-ops_of-more es ls e ms u h = ops_from-append (es ++ e ∷ []) u None ls ms ∙ ap (λ (ps : List Performed). ps ++ ops_from (es ++ e ∷ []) u (owner_of u None ls) ms) (ops_from-events es (e ∷ []) u None ls h)
-
-pub nothing_more : {A : Type 0} (xs : List A) → xs ++ [] ≡ xs
-nothing_more [] = refl
-nothing_more {A = A} (x ∷ xs) = ap (λ (ys : List A). x ∷ ys) (nothing_more xs)
+    → ops_of (es ++ e ∷ []) (ls ++ ms) u ≡ ops_of es ls u ++ ops_from (es ++ e ∷ []) u (owner_then u None ls) ms
+ops_of-more es ls e ms u h = ops_from-append (es ++ e ∷ []) u None ls ms ∙ ap (λ (ps : List Performed). ps ++ ops_from (es ++ e ∷ []) u (owner_then u None ls) ms) (ops_from-events es (e ∷ []) u None ls h)
 
 -- an event without lines
 pub ordered-silent : (es : List Event) (ls : List Line) (stage : Stage) (e : Event) → AllAnswerWithin (length es) ls → Ordered es ls stage → Ordered (es ++ e ∷ []) ls stage
 ordered-silent es ls stage e below o =
     let same = DidTheSame-each es ls (es ++ e ∷ []) ls (history_of ls) (λ u k. ops_from-events es (e ∷ []) u None ls below) in
     record {
-      agrees = AgreesFrom-same no_files es ls (es ++ e ∷ []) ls (history_of ls) same o.agrees;
+      agrees = AgreesFrom-by_ops no_files es ls (es ++ e ∷ []) ls (history_of ls) same o.agrees;
       told = o.told;
       owners = o.owners;
       stands = at_stage stage o.stands same;
@@ -158,7 +153,7 @@ ordered-silent es ls stage e below o =
       new = s.new;
       unnamed = s.unnamed;
       did = ops_from-events es (e ∷ []) t None ls below ∙ s.did;
-      gives = subst (λ (fs : AllFiles). GivesAnswers fs ps) (sym (replay-same no_files es ls (es ++ e ∷ []) ls (history_of ls) same)) s.gives;
+      gives = subst (λ (fs : AllFiles). GivesAnswers fs ps) (sym (replay-by_ops no_files es ls (es ++ e ∷ []) ls (history_of ls) same)) s.gives;
     }
 
 -- a line that begins, commits, acknowledges, aborts and breaks nothing
@@ -170,7 +165,7 @@ pub record IsPlain (text : Text) : Type 0 where
 
 told-plain : (ls : List Line) (l : Line) → IsPlain l.text → Told ls → Told (ls ++ l ∷ [])
 told-plain ls l plain told =
-    let same : history_of (ls ++ l ∷ []) ≡ history_of ls = history_of-append ls (l ∷ []) ∙ ap (λ (ts : List Tid). history_of ls ++ (ts ++ [])) plain.no_commit ∙ nothing_more (history_of ls) in
+    let same : history_of (ls ++ l ∷ []) ≡ history_of ls = history_of-append ls (l ∷ []) ∙ ap (λ (ts : List Tid). history_of ls ++ (ts ++ [])) plain.no_commit ∙ append-nil (history_of ls) in
     record {
       before = NamesBefore-append [] ls (l ∷ []) told.before (plain.not_told (history_of ls), tt);
       once = subst (λ (ts : List Tid). NamesOnce ts) (sym same) told.once;
@@ -178,17 +173,17 @@ told-plain ls l plain told =
     }
 
 history-plain : (ls : List Line) (l : Line) → IsPlain l.text → history_of (ls ++ l ∷ []) ≡ history_of ls
-history-plain ls l plain = history_of-append ls (l ∷ []) ∙ ap (λ (ts : List Tid). history_of ls ++ (ts ++ [])) plain.no_commit ∙ nothing_more (history_of ls)
+history-plain ls l plain = history_of-append ls (l ∷ []) ∙ ap (λ (ts : List Tid). history_of ls ++ (ts ++ [])) plain.no_commit ∙ append-nil (history_of ls)
 
-owner-plain : (ls : List Line) (l : Line) (u : Tid) → IsPlain l.text → owner_of u None (ls ++ l ∷ []) ≡ owner_of u None ls
-owner-plain ls l u plain = owner_of-append u None ls (l ∷ []) ∙ plain.no_begin u (owner_of u None ls)
+owner-plain : (ls : List Line) (l : Line) (u : Tid) → IsPlain l.text → owner_then u None (ls ++ l ∷ []) ≡ owner_then u None ls
+owner-plain ls l u plain = owner_then-append u None ls (l ∷ []) ∙ plain.no_begin u (owner_then u None ls)
 
 -- a transaction whose owner is none did nothing more
-ops-same : (es : List Event) (ls : List Line) (e : Event) (l : Line) (u : Tid) → AllAnswerWithin (length es) ls → owner_of u None ls ≡ None → ops_of (es ++ e ∷ []) (ls ++ l ∷ []) u ≡ ops_of es ls u
+ops-same : (es : List Event) (ls : List Line) (e : Event) (l : Line) (u : Tid) → AllAnswerWithin (length es) ls → owner_then u None ls ≡ None → ops_of (es ++ e ∷ []) (ls ++ l ∷ []) u ≡ ops_of es ls u
 ops-same es ls e l u below h =
     ops_of-more es ls e (l ∷ []) u below
     ∙ ap (λ (o : Option ClientNo). ops_of es ls u ++ ops_from (es ++ e ∷ []) u o (l ∷ [])) h
-    ∙ nothing_more (ops_of es ls u)
+    ∙ append-nil (ops_of es ls u)
 
 -- a line that answers nothing from the files, where no transaction runs
 pub ordered-plain : (es : List Event) (ls : List Line) (e : Event) (l : Line) → AllAnswerWithin (length es) ls → Ordered es ls Idle → IsPlain l.text
@@ -197,19 +192,19 @@ ordered-plain es ls e l below o plain nothing =
     let same : history_of (ls ++ l ∷ []) ≡ history_of ls = history-plain ls l plain in
     record {
       agrees = subst (λ (ts : List Tid). AgreesFrom no_files (es ++ e ∷ []) (ls ++ l ∷ []) ts) (sym same)
-          (AgreesFrom-same no_files es ls (es ++ e ∷ []) (ls ++ l ∷ []) (history_of ls) (DidTheSame-each es ls (es ++ e ∷ []) (ls ++ l ∷ []) (history_of ls) (λ u k. did u (o.owners u))) o.agrees);
+          (AgreesFrom-by_ops no_files es ls (es ++ e ∷ []) (ls ++ l ∷ []) (history_of ls) (DidTheSame-each es ls (es ++ e ∷ []) (ls ++ l ∷ []) (history_of ls) (λ u k. did u (o.owners u))) o.agrees);
       told = told-plain ls l plain o.told;
       owners = λ u. subst (λ (w : Option ClientNo). (w ≡ None) ⊎ (w ≡ Some client_1)) (sym (owner-plain ls l u plain)) (o.owners u);
       stands = tt;
     }
   where
-    did : (u : Tid) → (owner_of u None ls ≡ None) ⊎ (owner_of u None ls ≡ Some client_1) → ops_of (es ++ e ∷ []) (ls ++ l ∷ []) u ≡ ops_of es ls u
+    did : (u : Tid) → (owner_then u None ls ≡ None) ⊎ (owner_then u None ls ≡ Some client_1) → ops_of (es ++ e ∷ []) (ls ++ l ∷ []) u ≡ ops_of es ls u
     did u (inl h) = ops-same es ls e l u below h
     did u (inr h) =
         ops_of-more es ls e (l ∷ []) u below
         ∙ ap (λ (w : Option ClientNo). ops_of es ls u ++ ops_from (es ++ e ∷ []) u w (l ∷ [])) h
         ∙ ap (λ (ps : List Performed). ops_of es ls u ++ (ps ++ [])) nothing
-        ∙ nothing_more (ops_of es ls u)
+        ∙ append-nil (ops_of es ls u)
 
 -- a line that may answer an operation of the transaction that runs
 pub ordered-answer : (es : List Event) (ls : List Line) (e : Event) (l : Line) (t : Tid) (ps qs : List Performed) → AllAnswerWithin (length es) ls → Ordered es ls (Running t ps) → IsPlain l.text
@@ -220,7 +215,7 @@ ordered-answer es ls e l t ps qs below o plain answer gives =
     let did = DidTheSame-each es ls (es ++ e ∷ []) (ls ++ l ∷ []) (history_of ls) (λ u k. ops-same es ls e l u below (o.stands.others u k)) in
     record {
       agrees = subst (λ (ts : List Tid). AgreesFrom no_files (es ++ e ∷ []) (ls ++ l ∷ []) ts) (sym same)
-          (AgreesFrom-same no_files es ls (es ++ e ∷ []) (ls ++ l ∷ []) (history_of ls) did o.agrees);
+          (AgreesFrom-by_ops no_files es ls (es ++ e ∷ []) (ls ++ l ∷ []) (history_of ls) did o.agrees);
       told = told-plain ls l plain o.told;
       owners = λ u. subst (λ (w : Option ClientNo). (w ≡ None) ⊎ (w ≡ Some client_1)) (sym (owner-plain ls l u plain)) (o.owners u);
       stands = record {
@@ -232,9 +227,9 @@ ordered-answer es ls e l t ps qs below o plain answer gives =
             ∙ ap (λ (w : Option ClientNo). ops_of es ls t ++ ops_from (es ++ e ∷ []) t w (l ∷ [])) o.stands.owner
             ∙ ap (λ (rs : List Performed). ops_of es ls t ++ (rs ++ [])) answer
             ∙ ap (λ (rs : List Performed). rs ++ (qs ++ [])) o.stands.did
-            ∙ ap (λ (rs : List Performed). ps ++ rs) (nothing_more qs);
+            ∙ ap (λ (rs : List Performed). ps ++ rs) (append-nil qs);
         gives = subst (λ (fs : AllFiles). GivesAnswers fs (ps ++ qs))
-            (sym (ap (λ (ts : List Tid). replay no_files (es ++ e ∷ []) (ls ++ l ∷ []) ts) same ∙ replay-same no_files es ls (es ++ e ∷ []) (ls ++ l ∷ []) (history_of ls) did)) gives;
+            (sym (ap (λ (ts : List Tid). replay no_files (es ++ e ∷ []) (ls ++ l ∷ []) ts) same ∙ replay-by_ops no_files es ls (es ++ e ∷ []) (ls ++ l ∷ []) (history_of ls) did)) gives;
       };
     }
 
@@ -261,21 +256,21 @@ pub ordered-begun : (es : List Event) (ls : List Line) (e : Event) (i j : ℕ) (
     → Ordered (es ++ e ∷ []) (ls ++ (record { when = AtEvent i; text = says.Begun client_1 j t }) ∷ []) (Running t [])
 ordered-begun es ls e i j t below o unused =
     let l : Line = record { when = AtEvent i; text = says.Begun client_1 j t } in
-    let same : history_of (ls ++ l ∷ []) ≡ history_of ls = history_of-append ls (l ∷ []) ∙ nothing_more (history_of ls) in
+    let same : history_of (ls ++ l ∷ []) ≡ history_of ls = history_of-append ls (l ∷ []) ∙ append-nil (history_of ls) in
     let did : (u : Tid) → ops_of (es ++ e ∷ []) (ls ++ l ∷ []) u ≡ ops_of es ls u = λ u. did_same u in
     let each = DidTheSame-each es ls (es ++ e ∷ []) (ls ++ l ∷ []) (history_of ls) (λ u k. did u) in
     record {
       agrees = subst (λ (ts : List Tid). AgreesFrom no_files (es ++ e ∷ []) (ls ++ l ∷ []) ts) (sym same)
-          (AgreesFrom-same no_files es ls (es ++ e ∷ []) (ls ++ l ∷ []) (history_of ls) each o.agrees);
+          (AgreesFrom-by_ops no_files es ls (es ++ e ∷ []) (ls ++ l ∷ []) (history_of ls) each o.agrees);
       told = record {
         before = NamesBefore-append [] ls (l ∷ []) o.told.before (tt, tt);
         once = subst (λ (ts : List Tid). NamesOnce ts) (sym same) o.told.once;
         not_lost = subst (λ (ts : List Tid). NamesNone ts (ls ++ l ∷ [])) (sym same) (NamesNone-append (history_of ls) ls (l ∷ []) o.told.not_lost (tt, tt));
       };
-      owners = λ u. subst (λ (w : Option ClientNo). (w ≡ None) ⊎ (w ≡ Some client_1)) (sym (owner_of-append u None ls (l ∷ []))) (owned u (tid_eq u t) (owner_of u None ls) (o.owners u));
+      owners = λ u. subst (λ (w : Option ClientNo). (w ≡ None) ⊎ (w ≡ Some client_1)) (sym (owner_then-append u None ls (l ∷ []))) (owned u (tid_eq u t) (owner_then u None ls) (o.owners u));
       stands = record {
-        owner = owner_of-append t None ls (l ∷ []) ∙ ap (λ (b : Bool). cond b (Some client_1) (cond (is_client (owner_of t None ls) client_1) None (owner_of t None ls))) (self t);
-        others = λ u k. owner_of-append u None ls (l ∷ []) ∙ passed u (other_tid (history_of ls) t u (ap (λ (ts : List Tid). has_tid ts u) (sym same) ∙ k) unused.no_commit) (owner_of u None ls) (o.owners u);
+        owner = owner_then-append t None ls (l ∷ []) ∙ ap (λ (b : Bool). cond b (Some client_1) (cond (is_client (owner_then t None ls) client_1) None (owner_then t None ls))) (self t);
+        others = λ u k. owner_then-append u None ls (l ∷ []) ∙ passed u (other_tid (history_of ls) t u (ap (λ (ts : List Tid). has_tid ts u) (sym same) ∙ k) unused.no_commit) (owner_then u None ls) (o.owners u);
         new = ap (λ (ts : List Tid). has_tid ts t) same ∙ unused.no_commit;
         unnamed = NamesNone-append (t ∷ []) ls (l ∷ []) unused.no_loss (tt, tt);
         did = did t ∙ unused.no_ops;
@@ -284,7 +279,7 @@ ordered-begun es ls e i j t below o unused =
     }
   where
     did_same : (u : Tid) → ops_of (es ++ e ∷ []) (ls ++ (record { when = AtEvent i; text = says.Begun client_1 j t }) ∷ []) u ≡ ops_of es ls u
-    did_same u = ops_of-more es ls e ((record { when = AtEvent i; text = says.Begun client_1 j t }) ∷ []) u below ∙ ap (λ (ps : List Performed). ops_of es ls u ++ ps) (none (owner_of u None ls)) ∙ nothing_more (ops_of es ls u)
+    did_same u = ops_of-more es ls e ((record { when = AtEvent i; text = says.Begun client_1 j t }) ∷ []) u below ∙ ap (λ (ps : List Performed). ops_of es ls u ++ ps) (none (owner_then u None ls)) ∙ append-nil (ops_of es ls u)
       where
         none : (w : Option ClientNo) → ops_from (es ++ e ∷ []) u w ((record { when = AtEvent i; text = says.Begun client_1 j t }) ∷ []) ≡ []
         none None = refl
@@ -310,20 +305,20 @@ ordered-committed es ls e i j t ps below o =
     let told : Line = record { when = AtEvent i; text = says.Committed client_1 j t } in
     let ms : List Line = named ∷ told ∷ [] in
     let history : history_of (ls ++ ms) ≡ history_of ls ++ t ∷ [] = history_of-append ls ms in
-    let did : (u : Tid) → ops_of (es ++ e ∷ []) (ls ++ ms) u ≡ ops_of es ls u = λ u. ops_of-more es ls e ms u below ∙ ap (λ (qs : List Performed). ops_of es ls u ++ qs) (none u (owner_of u None ls)) ∙ nothing_more (ops_of es ls u) in
+    let did : (u : Tid) → ops_of (es ++ e ∷ []) (ls ++ ms) u ≡ ops_of es ls u = λ u. ops_of-more es ls e ms u below ∙ ap (λ (qs : List Performed). ops_of es ls u ++ qs) (none u (owner_then u None ls)) ∙ append-nil (ops_of es ls u) in
     let each = DidTheSame-each es ls (es ++ e ∷ []) (ls ++ ms) (history_of ls) (λ u k. did u) in
     record {
       agrees = subst (λ (ts : List Tid). AgreesFrom no_files (es ++ e ∷ []) (ls ++ ms) ts) (sym history)
           (AgreesFrom-more no_files (es ++ e ∷ []) (ls ++ ms) (history_of ls) t
-          (AgreesFrom-same no_files es ls (es ++ e ∷ []) (ls ++ ms) (history_of ls) each o.agrees)
-          (subst (λ (fs : AllFiles). GivesAnswers fs (ops_of (es ++ e ∷ []) (ls ++ ms) t)) (sym (replay-same no_files es ls (es ++ e ∷ []) (ls ++ ms) (history_of ls) each))
+          (AgreesFrom-by_ops no_files es ls (es ++ e ∷ []) (ls ++ ms) (history_of ls) each o.agrees)
+          (subst (λ (fs : AllFiles). GivesAnswers fs (ops_of (es ++ e ∷ []) (ls ++ ms) t)) (sym (replay-by_ops no_files es ls (es ++ e ∷ []) (ls ++ ms) (history_of ls) each))
           (subst (λ (qs : List Performed). GivesAnswers (replay no_files es ls (history_of ls)) qs) (sym (did t ∙ o.stands.did)) o.stands.gives)));
       told = record {
         before = NamesBefore-append [] ls ms o.told.before (tt, (is_named (history_of ls) t, tt));
         once = subst (λ (ts : List Tid). NamesOnce ts) (sym history) (NamesOnce-more (history_of ls) t o.told.once o.stands.new);
         not_lost = subst (λ (ts : List Tid). NamesNone ts (ls ++ ms)) (sym history) (NamesNone-append (history_of ls ++ t ∷ []) ls ms (both (history_of ls) t ls o.told.not_lost o.stands.unnamed) (tt, (tt, tt)));
       };
-      owners = λ u. subst (λ (w : Option ClientNo). (w ≡ None) ⊎ (w ≡ Some client_1)) (sym (owner_of-append u None ls ms)) (o.owners u);
+      owners = λ u. subst (λ (w : Option ClientNo). (w ≡ None) ⊎ (w ≡ Some client_1)) (sym (owner_then-append u None ls ms)) (o.owners u);
       stands = tt;
     }
   where
@@ -356,11 +351,11 @@ pub replay-committed : (es : List Event) (ls : List Line) (e : Event) (i j : ℕ
     replay no_files (es ++ e ∷ []) (ls ++ ms) (history_of (ls ++ ms)) ≡ files_then ps (replay no_files es ls (history_of ls))
 replay-committed es ls e i j t ps below o =
     let ms : List Line = (record { when = AtEvent i; text = says.Commit t }) ∷ (record { when = AtEvent i; text = says.Committed client_1 j t }) ∷ [] in
-    let did : (u : Tid) → ops_of (es ++ e ∷ []) (ls ++ ms) u ≡ ops_of es ls u = λ u. ops_of-more es ls e ms u below ∙ ap (λ (qs : List Performed). ops_of es ls u ++ qs) (none u (owner_of u None ls)) ∙ nothing_more (ops_of es ls u) in
+    let did : (u : Tid) → ops_of (es ++ e ∷ []) (ls ++ ms) u ≡ ops_of es ls u = λ u. ops_of-more es ls e ms u below ∙ ap (λ (qs : List Performed). ops_of es ls u ++ qs) (none u (owner_then u None ls)) ∙ append-nil (ops_of es ls u) in
     let each = DidTheSame-each es ls (es ++ e ∷ []) (ls ++ ms) (history_of ls) (λ u k. did u) in
     ap (λ (ts : List Tid). replay no_files (es ++ e ∷ []) (ls ++ ms) ts) (history_of-append ls ms)
     ∙ replay-more no_files (es ++ e ∷ []) (ls ++ ms) (history_of ls) t
-    ∙ ap (λ (fs : AllFiles). files_then (ops_of (es ++ e ∷ []) (ls ++ ms) t) fs) (replay-same no_files es ls (es ++ e ∷ []) (ls ++ ms) (history_of ls) each)
+    ∙ ap (λ (fs : AllFiles). files_then (ops_of (es ++ e ∷ []) (ls ++ ms) t) fs) (replay-by_ops no_files es ls (es ++ e ∷ []) (ls ++ ms) (history_of ls) each)
     ∙ ap (λ (qs : List Performed). files_then qs (replay no_files es ls (history_of ls))) (did t ∙ o.stands.did)
   where
     none : (u : Tid) (w : Option ClientNo) → ops_from (es ++ e ∷ []) u w ((record { when = AtEvent i; text = says.Commit t }) ∷ (record { when = AtEvent i; text = says.Committed client_1 j t }) ∷ []) ≡ []

@@ -1,5 +1,5 @@
 -- The lines that print a server's files, among the others at the end.
-use Rattle.std.proofs.Common.{◌≡◌, ◌≢◌, ◌⊎◌, inl, inr, ℕ, ◌+◌, ◌<◌, ◌≤◌, Bool, true, false, nat_lt, nat_le, ◌||◌, ◌&&◌, cond, List, [], ◌∷◌, ◌++◌, Option, Some, None, option_and_then, refl, sym, ◌∙◌, ap, subst, arith}
+use Rattle.std.proofs.Common.{◌≡◌, ◌≢◌, ◌⊎◌, inl, inr, ℕ, ◌≤◌, Bool, true, false, ◌||◌, cond, List, [], ◌∷◌, ◌++◌, Option, Some, None, option_and_then, refl, sym, ◌∙◌, ap, subst, arith}
 use Rattle.std.proofs.lemmas.Bool.Decides.{nat_tests, leb_tells}
 use Rattle.jn_base.specs.declared.names.ServerNo.{ServerNo}
 use Rattle.jn_base.specs.declared.names.FileNo.{FileNo}
@@ -9,13 +9,12 @@ use Rattle.jn_base.specs.declared.names.LockUnit.TheVariants.{File, Block}
 use Rattle.jn_base.specs.declared.op.Op.{Op}
 use Rattle.jn_base.specs.declared.op.Op.TheVariants.{Create, Remove, Cut, Read, Write}
 use Rattle.jn_base.specs.Names.{server_eq}
-use Rattle.jn_base.proofs.Tells.{server_tells, file_tells, block_tells}
+use Rattle.jn_base.proofs.Tells.{server_tells}
 use Rattle.jn_order.specs.Files.{Files, AllFiles, no_files, all_files_after, files_after}
 use Rattle.jn_report.specs.declared.line.Text.{Text}
 use Rattle.jn_report.specs.declared.line.Text.TheVariants as says
 use Rattle.jn_report.specs.declared.line.Line.{Line}
 use Rattle.jn_serial.specs.Lines.{says}
-use Rattle.jn_serial.specs.Stored.{AreSame}
 use Rattle.jn_serial.specs.Shown.{AllAsIn, prints_file, accounts_file, accounts_block, ShowsFiles}
 use Rattle.jn_serial.proofs.Orders.{AreSame-equal, says-append}
 use Rattle.jn_run.specs.Pages.{Counts, Pages, server_0, only_server_0, HoldsFiles, files_of_pages, head_of, block_in}
@@ -62,14 +61,15 @@ pages-hold g pages files holds a = AreSame-equal (only_server_0 (files_of_pages 
     there : (u : LockUnit) → files_of_pages g pages u ≡ files server_0 u
     there (File f) = holds.file f
     there (Block f p) = elim (leb_tells 120 p.0) [
-        inl h ↦ no-block-past g pages f p h.1 ∙ sym (a.blocks f p h.1)
-        | inr h ↦ holds.block f p h.1
-      ]
+      | inl h ↦ no-block-past g pages f p h.1 ∙ sym (a.blocks f p h.1)
+      | inr h ↦ holds.block f p h.1
+    ]
+
     same : (s : ServerNo) (u : LockUnit) → only_server_0 (files_of_pages g pages) s u ≡ files s u
     same s u = elim (server_tells s server_0) [
-        inl h ↦ ap (λ (b : Bool). cond b (files_of_pages g pages u) None) h.0 ∙ there u ∙ ap (λ (q : ServerNo). files q u) (sym h.1)
-        | inr h ↦ ap (λ (b : Bool). cond b (files_of_pages g pages u) None) h.0 ∙ sym (a.elsewhere s u h.0)
-      ]
+      | inl h ↦ ap (λ (b : Bool). cond b (files_of_pages g pages u) None) h.0 ∙ there u ∙ ap (λ (q : ServerNo). files q u) (sym h.1)
+      | inr h ↦ ap (λ (b : Bool). cond b (files_of_pages g pages u) None) h.0 ∙ sym (a.elsewhere s u h.0)
+    ]
 
 AllAsIn-append : (files : AllFiles) (xs ys : List Line) → AllAsIn files xs → AllAsIn files ys → AllAsIn files (xs ++ ys)
 AllAsIn-append files [] ys a b = b
@@ -98,12 +98,14 @@ ending-shows epoch prints files shows a s = record {
   where
     seen : (test : Text → Bool) → test (says.Down server_0) ≡ false → test (says.Up server_0 epoch) ≡ false → test (says.Commits 1) ≡ false → says test (ending epoch prints) ≡ says test prints
     seen test down up commits = prints-alone epoch prints test down up commits
+
     file : (f : FileNo) → says (accounts_file s f) (ending epoch prints) ≡ false → ((server_eq s server_0 ≡ true) × (s ≡ server_0)) ⊎ ((server_eq s server_0 ≡ false) × (s ≢ server_0)) → files s (File f) ≡ None
     file f h (inl k) = subst (λ (q : ServerNo). files q (File f) ≡ None) (sym k.1) (shows.no_other_file f (subst (λ (q : ServerNo). says (accounts_file q f) prints ≡ false) k.1 (sym (seen (accounts_file s f) refl refl refl) ∙ h)))
     file f h (inr k) = a.elsewhere s (File f) k.0
+
     block : (f : FileNo) (p : BlockNo) → says (prints_file s f) (ending epoch prints) ≡ true → says (accounts_block s f p) (ending epoch prints) ≡ false → ((server_eq s server_0 ≡ true) × (s ≡ server_0)) ⊎ ((server_eq s server_0 ≡ false) × (s ≢ server_0)) → files s (Block f p) ≡ None
     block f p h k (inl e) = subst (λ (q : ServerNo). files q (Block f p) ≡ None) (sym e.1)
         (shows.no_other_block f p
-          (subst (λ (q : ServerNo). says (prints_file q f) prints ≡ true) e.1 (sym (seen (prints_file s f) refl refl refl) ∙ h))
-          (subst (λ (q : ServerNo). says (accounts_block q f p) prints ≡ false) e.1 (sym (seen (accounts_block s f p) refl refl refl) ∙ k)))
+        (subst (λ (q : ServerNo). says (prints_file q f) prints ≡ true) e.1 (sym (seen (prints_file s f) refl refl refl) ∙ h))
+        (subst (λ (q : ServerNo). says (accounts_block q f p) prints ≡ false) e.1 (sym (seen (accounts_block s f p) refl refl refl) ∙ k)))
     block f p h k (inr e) = a.elsewhere s (Block f p) e.0

@@ -1,7 +1,6 @@
 -- What a run leaves, from what was told of its chapters.
-use Rattle.std.proofs.Common.{◌≡◌, ◌≢◌, ℕ, zero, suc, ◌+◌, ◌*◌, ◌<◌, ◌≤◌, Bool, true, false, cond, List, [], ◌∷◌, ◌++◌, length, take, drop, Option, Some, None, option_map, option_and_then, Result, Ok, Err, is_ok, IsErr, IsErrAnd, refl, sym, ◌∙◌, ap, subst, arith, append_assoc}
+use Rattle.std.proofs.Common.{append-nil, ◌≡◌, ◌≢◌, inl, inr, ℕ, zero, suc, ◌+◌, ◌*◌, ◌<◌, ◌≤◌, Bool, true, false, cond, List, [], ◌∷◌, ◌++◌, length, take, drop, Option, Some, None, option_map, option_and_then, Result, Ok, Err, is_ok, IsErr, IsErrAnd, refl, sym, ◌∙◌, ap, subst, arith, append_assoc}
 use Rattle.jn_base.specs.declared.names.FileNo.{FileNo}
-use Rattle.jn_base.specs.declared.names.ServerNo.{ServerNo}
 use Rattle.jn_base.specs.declared.names.LockUnit.{LockUnit}
 use Rattle.jn_base.specs.declared.names.LockUnit.TheVariants.{File, Block}
 use Rattle.jn_base.specs.declared.op.Op.{Op}
@@ -13,18 +12,15 @@ use Rattle.jn_report.specs.declared.line.Line.{Line}
 use Rattle.jn_report.specs.Text.{report_text}
 use Rattle.jn_serial.specs.Shown.{ShowsFiles}
 use Rattle.jn_serial.proofs.Orders.{AreSame-equal}
-use Rattle.jn_host.specs.Outside.{Rose}
 use Rattle.jn_host.proofs.Faults.{rose_since}
 use Rattle.jn_run.specs.declared.outside.RunFault.{RunFault}
-use Rattle.jn_run.specs.declared.outside.RunFault.TheVariants as runs
 use Rattle.jn_run.specs.Form.{events_of, op_events}
-use Rattle.jn_run.specs.Pages.{Counts, Pages, server_0, only_server_0, files_of_pages, head_from, head_place, data_place, is_head_of, block_in, block_behind, address_in, HoldsFiles, PrintsFiles, ArePrints}
-use Rattle.jn_run.specs.Outcome.{Took, TookFront, Holds, IsRun, IsRunSoFar}
+use Rattle.jn_run.specs.Pages.{Counts, Pages, server_0, only_server_0, files_of_pages, head_from, head_place, data_place, is_head_of, block_in, block_behind, address_in, HoldsFiles, PrintsFiles}
+use Rattle.jn_run.specs.Outcome.{Took, TookFront, IsRun, IsReport}
 use Rattle.jn_run.specs.Outside.{Reports, Tells}
 use Rattle.jn_run.specs.Story.{Chapter, lines_in, events_in, story, op_chapters, end_chapter, opening_chapters, files_at_end}
 use Rattle.jn_run.specs.Ending.{end_line, ending}
-use Rattle.jn_run.specs.Runs.{AllWriteWithin, WholeRun, PartRun, Ran, ArePrinted}
-use Rattle.jn_run.proofs.OneClient.{nothing_more}
+use Rattle.jn_run.specs.Runs.{AllWriteWithin, Ran, ArePrinted}
 use Rattle.jn_run.proofs.Story.{story-told}
 use Rattle.jn_run.proofs.Ending.{holds, ends-run, AreOfEnd, AreOfEnd-append, AreOfEnd-prints}
 use Rattle.jn_run.proofs.Prints.{at-server-0, no-files-at-server-0, pages-hold, ending-shows, AtServer0}
@@ -65,6 +61,7 @@ ran-in-part a b f g ops (Err e) h t =
       whole = λ ok. cc;
       part = λ cut. record {
         lines = lines_in (take k (story ops));
+        report = inl (k, refl);
         run = record {
           done = events_in (take k (story ops));
           others = events_in (drop k (story ops));
@@ -79,23 +76,29 @@ ran-in-part a b f g ops (Err e) h t =
 -- the lines at the end, after the whole story
 pub ran-to-end : (a b c : Option (List ℕ)) (f g h : ℕ) (ops : List Op) (epoch : ℕ) (counts : Counts) (pages : Pages) (lines : List Line) (r : Result (Unit {0}) RunFault)
     → Tells a f (story ops) (Ok tt) b g → AllWriteWithin ops → HoldsFiles counts pages (files_at_end no_files ops server_0)
-    → ArePrinted (files_of_pages counts pages) epoch lines → Reports b g lines r c h → Ran a f ops r c h
-ran-to-end a b c f g h ops epoch counts pages lines r told within hold printed reported =
+    → epoch ≡ 2 → ArePrinted (files_of_pages counts pages) epoch lines → Reports b g lines r c h → Ran a f ops r c h
+ran-to-end a b c f g h ops epoch counts pages lines r told within hold second printed reported =
     let at : AtServer0 (files_at_end no_files ops) = at-server-0 ops no_files within no-files-at-server-0 in
     let same = pages-hold counts pages (files_at_end no_files ops) hold at in
     let shows : ShowsFiles (files_at_end no_files ops) server_0 printed.prints = subst (λ (fs : AllFiles). ShowsFiles fs server_0 printed.prints) same printed.shows in
     let quiet : AreOfEnd (ending epoch printed.prints) = (refl, refl, (refl, refl, AreOfEnd-append printed.prints (end_line (says.Commits 1) ∷ []) (AreOfEnd-prints printed.prints printed.are_prints) (refl, refl, tt))) in
     let whole : IsRun (events_in (story ops)) (lines_in (story ops) ++ ending epoch printed.prints) =
-        ends-run (events_in (story ops)) (lines_in (story ops)) (ending epoch printed.prints) (files_at_end no_files ops) (story-told ops).ends quiet (ending-shows epoch printed.prints (files_at_end no_files ops) shows at) in
+    ends-run (events_in (story ops)) (lines_in (story ops)) (ending epoch printed.prints) (files_at_end no_files ops) (story-told ops).ends quiet (ending-shows epoch printed.prints (files_at_end no_files ops) shows at) in
     let run : IsRun (events_of ops) (lines_in (story ops) ++ lines) =
-        subst (λ (ls : List Line). IsRun (events_of ops) (lines_in (story ops) ++ ls)) (sym printed.all) (subst (λ (es : List Event). IsRun es (lines_in (story ops) ++ ending epoch printed.prints)) (events_in-story ops) whole) in
+    subst (λ (ls : List Line). IsRun (events_of ops) (lines_in (story ops) ++ ls)) (sym printed.all) (subst (λ (es : List Event). IsRun es (lines_in (story ops) ++ ending epoch printed.prints)) (events_in-story ops) whole) in
     let text = sym (report_text-append (lines_in (story ops)) lines) in
+    let report : IsReport ops (lines_in (story ops) ++ lines) = record {
+      prints = printed.prints;
+      are_prints = printed.are_prints;
+      all = ap (λ (ls : List Line). lines_in (story ops) ++ ls) (printed.all ∙ ap (λ n. ending n printed.prints) second);
+    } in
     record {
       count = omega (arith, told.count, reported.count);
-      whole = λ ok. record { lines = lines_in (story ops) ++ lines; run = run; took = subst (λ (t : List ℕ). Took a c t) text (took-then a b c (report_text (lines_in (story ops))) (report_text lines) (told.whole refl) (reported.whole ok)) };
+      whole = λ ok. record { lines = lines_in (story ops) ++ lines; report = report; run = run; took = subst (λ (t : List ℕ). Took a c t) text (took-then a b c (report_text (lines_in (story ops))) (report_text lines) (told.whole refl) (reported.whole ok)) };
       part = λ cut. record {
         lines = lines_in (story ops) ++ lines;
-        run = record { done = events_of ops; others = []; all = sym (nothing_more (events_of ops)); holds = run.holds };
+        report = inr report;
+        run = record { done = events_of ops; others = []; all = sym (append-nil (events_of ops)); holds = run.holds };
         took = subst (λ (t : List ℕ). TookFront a c t) text (front-then a b c (report_text (lines_in (story ops))) (report_text lines) (told.whole refl) (reported.front cut));
       };
       rose = λ e. rose_since f g h told.count reported.count (reported.rose e);

@@ -1,15 +1,14 @@
 -- Chapters told one after another.
-use Rattle.std.proofs.Common.{◌≡◌, ℕ, zero, suc, ◌+◌, ◌<◌, ◌≤◌, Bool, true, false, List, [], ◌∷◌, ◌++◌, length, take, drop, Option, Some, None, Result, Ok, Err, is_ok, IsErrAnd, refl, sym, ◌∙◌, ap, subst, arith, min, append_assoc, get_or, add-one, drop-cons}
+use Rattle.std.proofs.Common.{append-nil, ◌≡◌, ℕ, ◌+◌, ◌<◌, List, [], ◌∷◌, ◌++◌, length, take, drop, Option, Some, None, Result, Ok, Err, IsErrAnd, refl, sym, ◌∙◌, ap, subst, arith, min, append_assoc, get_or, add-one, drop-cons}
 use Rattle.std.proofs.Math.Seq.{take-append-add, take-append_seam, take-length}
 use Rattle.std.proofs.lemmas.List.{take_min, take-append-le}
-use Rattle.jn_run.proofs.OneClient.{nothing_more}
 use Rattle.std.specs.Io.KnownBytes.{append_known}
 use Rattle.jn_report.specs.declared.line.Line.{Line}
 use Rattle.jn_report.specs.Text.{report_text}
-use Rattle.jn_host.specs.Outside.{Rose}
 use Rattle.jn_host.proofs.Faults.{rose_since}
+use Rattle.jn_host.proofs.Writing.{append_twice}
 use Rattle.jn_run.specs.declared.outside.RunFault.{RunFault}
-use Rattle.jn_run.specs.declared.outside.RunFault.TheVariants.{Write, Memory}
+use Rattle.jn_run.specs.declared.outside.RunFault.TheVariants.{Memory}
 use Rattle.jn_run.specs.Outcome.{Took, TookFront}
 use Rattle.jn_run.specs.Outside.{Reports, Tells}
 use Rattle.jn_base.specs.declared.op.Op.{Op}
@@ -18,10 +17,6 @@ use Rattle.jn_order.specs.Files.{AllFiles, answer_to, all_files_after}
 use Rattle.jn_run.specs.Pages.{server_0}
 use Rattle.jn_run.specs.Story.{Chapter, lines_in, op_chapters, answered_chapter, answer_text, files_at_end}
 use Rattle.jn_run.proofs.Joined.{report_text-append, lines_in-append}
-
-append_twice : (known : Option (List ℕ)) (xs ys : List ℕ) → append_known (append_known known xs) ys ≡ append_known known (xs ++ ys)
-append_twice None xs ys = refl
-append_twice (Some zs) xs ys = ap (λ (t : List ℕ). Some t) (append_assoc zs xs ys)
 
 pub took-then : (a b c : Option (List ℕ)) (xs ys : List ℕ) → Took a b xs → Took b c ys → Took a c (xs ++ ys)
 took-then a b c xs ys first second = second ∙ ap (λ (t : Option (List ℕ)). append_known t ys) first ∙ append_twice a xs ys
@@ -35,7 +30,7 @@ tells-nothing a f = record { count = omega arith; whole = λ h. nothing a; front
   where
     nothing : (a : Option (List ℕ)) → a ≡ append_known a []
     nothing None = refl
-    nothing (Some xs) = ap (λ (t : List ℕ). Some t) (sym (nothing_more xs))
+    nothing (Some xs) = ap (λ (t : List ℕ). Some t) (sym (append-nil xs))
 
 -- a chapter told after others
 pub tells-then : (a b c : Option (List ℕ)) (f g h : ℕ) (xs ys : List Chapter) (r : Result (Unit {0}) RunFault) → Tells a f xs (Ok tt) b g → Tells b g ys r c h → Tells a f (xs ++ ys) r c h
@@ -67,8 +62,8 @@ tells-cut a b f g xs ys e t = record {
 pub tells-one : (a b : Option (List ℕ)) (f g : ℕ) (c : Chapter) (r : Result (Unit {0}) RunFault) → Reports a f c.lines r b g → Tells a f (c ∷ []) r b g
 tells-one a b f g c r t = record {
   count = t.count;
-  whole = λ ok. subst (λ (ls : List Line). Took a b (report_text ls)) (sym (nothing_more c.lines)) (t.whole ok);
-  front = λ cut. (1, subst (λ (ls : List Line). TookFront a b (report_text ls)) (sym (nothing_more c.lines)) (t.front cut));
+  whole = λ ok. subst (λ (ls : List Line). Took a b (report_text ls)) (sym (append-nil c.lines)) (t.whole ok);
+  front = λ cut. (1, subst (λ (ls : List Line). TookFront a b (report_text ls)) (sym (append-nil c.lines)) (t.front cut));
   rose = t.rose;
 }
 
@@ -122,9 +117,9 @@ pub told-of-cut : (a b c : Option (List ℕ)) (f g h : ℕ) (before : AllFiles) 
     → Tells b g (chapter_of number files op ∷ []) (Err e) c h → Tells a f (op_chapters 5 before ops) (Err e) c h
 told-of-cut a b c f g h before ops i number files op e t next cut =
     subst (λ (cs : List Chapter). Tells a f cs (Err e) c h)
-      (sym (t.rest ∙ ap (λ (os : List Op). t.done ++ op_chapters number files os) next ∙ sym (append_assoc t.done (chapter_of number files op ∷ []) (op_chapters (number + 2) (all_files_after server_0 op files) (drop (i + 1) ops)))))
-      (tells-cut a c f h (t.done ++ chapter_of number files op ∷ []) (op_chapters (number + 2) (all_files_after server_0 op files) (drop (i + 1) ops)) e
-        (tells-then a b c f g h t.done (chapter_of number files op ∷ []) (Err e) t.told cut))
+    (sym (t.rest ∙ ap (λ (os : List Op). t.done ++ op_chapters number files os) next ∙ sym (append_assoc t.done (chapter_of number files op ∷ []) (op_chapters (number + 2) (all_files_after server_0 op files) (drop (i + 1) ops)))))
+    (tells-cut a c f h (t.done ++ chapter_of number files op ∷ []) (op_chapters (number + 2) (all_files_after server_0 op files) (drop (i + 1) ops)) e
+    (tells-then a b c f g h t.done (chapter_of number files op ∷ []) (Err e) t.told cut))
 
 -- there was no memory for one more operation
 pub told-of-stop : (a b : Option (List ℕ)) (f g : ℕ) (before : AllFiles) (ops : List Op) (i number : ℕ) (files : AllFiles) (r : Result (Unit {0}) RunFault) → ToldOf a f before ops i number files b g → IsErrAnd r (λ e. e ≡ Memory) → Tells a f (op_chapters 5 before ops) r b g
@@ -136,4 +131,4 @@ next-op d ops i h = rw (add-one, drop-cons ops i d) refl
 
 -- the same where nothing is left to tell
 pub tells-stopped : (a b : Option (List ℕ)) (f g : ℕ) (xs : List Chapter) (r : Result (Unit {0}) RunFault) → IsErrAnd r (λ e. e ≡ Memory) → Tells a f xs (Ok tt) b g → Tells a f xs r b g
-tells-stopped a b f g xs r h t = subst (λ (cs : List Chapter). Tells a f cs r b g) (nothing_more xs) (tells-stop a b f g xs [] r h t)
+tells-stopped a b f g xs r h t = subst (λ (cs : List Chapter). Tells a f cs r b g) (append-nil xs) (tells-stop a b f g xs [] r h t)

@@ -13,6 +13,9 @@ use Rattle.jn_serial.specs.Shown.{ShownSoFar, ShownAtEnd}
 use Rattle.jn_serial.specs.Follows.{Follows}
 use Rattle.jn_host.specs.Outside.{Rose}
 use Rattle.jn_run.specs.Form.{IsForm, events_of}
+use Rattle.jn_run.specs.Pages.{ArePrints}
+use Rattle.jn_run.specs.Story.{story, lines_in}
+use Rattle.jn_run.specs.Ending.{ending}
 use Rattle.jn_run.specs.declared.status.Status.{Status}
 use Rattle.jn_run.specs.declared.status.Status.TheVariants as statuses
 
@@ -39,6 +42,16 @@ pub record IsRunSoFar (events : List Event) (lines : List Line) : Type 0 where
   pub others : List Event
   pub all : events ≡ done ++ others
   pub holds : Holds done lines
+
+-- The whole report of a schedule of the form: the story of its operations, and the end, with the lines that print the files.
+pub record IsReport (ops : List Op) (lines : List Line) : Type 0 where
+  pub prints : List Line
+  pub are_prints : ArePrints prints
+  pub all : lines ≡ lines_in (story ops) ++ ending 2 prints
+
+-- the report of a run up to some event: some chapters of the story, or all of it
+abbrev pub IsReportSoFar : List Op → List Line → Type 0
+IsReportSoFar ops lines = ((k : ℕ) × (lines ≡ lines_in (take k (story ops)))) ⊎ IsReport ops lines
 
 -- the longest schedule
 abbrev pub most_bytes : ℕ
@@ -81,25 +94,35 @@ pub record Reads (o : Outside) (text : List ℕ) : Type 0 where
   pub told : IsText o.left text
   pub fits : length text ≤ most_bytes
 
--- the run was done, and the sink took its whole report
+-- the sink took the whole report of a run
+pub record WholeRun (taken : Option (List ℕ)) (ops : List Op) (taken' : Option (List ℕ)) : Type 0 where
+  pub lines : List Line
+  pub report : IsReport ops lines
+  pub run : IsRun (events_of ops) lines
+  pub took : Took taken taken' (report_text lines)
+
+-- the sink took a front of the report of a run up to some event
+pub record PartRun (taken : Option (List ℕ)) (ops : List Op) (taken' : Option (List ℕ)) : Type 0 where
+  pub lines : List Line
+  pub report : IsReportSoFar ops lines
+  pub run : IsRunSoFar (events_of ops) lines
+  pub took : TookFront taken taken' (report_text lines)
+
+-- the run was done
 pub record RanWhole (o : Outside) : Type 0 where
   pub text : List ℕ
   pub reads : Reads o text
   pub ops : List Op
   pub form : IsForm text ops
-  pub lines : List Line
-  pub run : IsRun (events_of ops) lines
-  pub took : Took o.taken o.taken' (report_text lines)
+  pub ran : WholeRun o.taken ops o.taken'
 
--- the run was cut off, and the sink took a front of its report
+-- the run was cut off
 pub record RanInPart (o : Outside) : Type 0 where
   pub text : List ℕ
   pub reads : Reads o text
   pub ops : List Op
   pub form : IsForm text ops
-  pub lines : List Line
-  pub run : IsRunSoFar (events_of ops) lines
-  pub took : TookFront o.taken o.taken' (report_text lines)
+  pub ran : PartRun o.taken ops o.taken'
 
 -- the bytes were refused
 pub record RefusedForm (o : Outside) : Type 0 where

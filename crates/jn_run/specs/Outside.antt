@@ -1,11 +1,9 @@
 -- What is read of the source and written to the sink.
-use Rattle.std.specs.Prelude.{◌≡◌, ◌≤◌, ◌<◌, ℕ, Bool, true, false, List, [], ◌∷◌, ◌++◌, length, take, Option, Some, None, Result, Ok, Err, is_ok, Vec, IfSome}
-use Rattle.std.specs.Io.KnownBytes.{append_known}
+use Rattle.std.specs.Prelude.{◌≡◌, ◌≤◌, ◌<◌, ℕ, Bool, true, false, List, length, take, Option, Result, Ok, Err, is_ok, Vec, IfSome}
 use Rattle.std.specs.declared.alloc.Global.{Global}
 use Rattle.jn_report.specs.declared.line.Line.{Line}
 use Rattle.jn_report.specs.Text.{report_text}
 use Rattle.jn_host.specs.Outside.{Rose}
-use Rattle.jn_host.specs.declared.Failed.{Failed}
 use Rattle.jn_run.specs.declared.outside.ReadFault.{ReadFault}
 use Rattle.jn_run.specs.declared.outside.ReadFault.TheVariants as reads
 use Rattle.jn_run.specs.declared.outside.RunFault.{RunFault}

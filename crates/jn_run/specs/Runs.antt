@@ -1,18 +1,16 @@
 -- What a run of a schedule of the form leaves.
-use Rattle.std.specs.Prelude.{◌≡◌, ◌⊎◌, ◌≤◌, ◌<◌, ℕ, Bool, true, false, List, [], ◌∷◌, Option, Result, Ok, Err, is_ok}
+use Rattle.std.specs.Prelude.{◌≡◌, ◌≤◌, ◌<◌, ℕ, true, false, List, [], ◌∷◌, Option, Result, Err, is_ok}
 use Rattle.jn_base.specs.declared.op.Op.{Op}
 use Rattle.jn_base.specs.declared.op.Op.TheVariants.{Write}
 use Rattle.jn_report.specs.declared.line.Line.{Line}
-use Rattle.jn_report.specs.Text.{report_text}
 use Rattle.jn_host.specs.Outside.{Rose}
 use Rattle.jn_run.specs.declared.outside.RunFault.{RunFault}
 use Rattle.jn_run.specs.declared.outside.RunFault.TheVariants as runs
 use Rattle.jn_order.specs.Files.{Files}
 use Rattle.jn_serial.specs.Shown.{ShowsFiles}
-use Rattle.jn_run.specs.Form.{events_of}
 use Rattle.jn_run.specs.Pages.{server_0, only_server_0, ArePrints}
 use Rattle.jn_run.specs.Ending.{ending}
-use Rattle.jn_run.specs.Outcome.{Took, TookFront, IsRun, IsRunSoFar}
+use Rattle.jn_run.specs.Outcome.{WholeRun, PartRun}
 
 -- no operation writes a block past the last
 abbrev pub WritesWithin : Op → Type 0
@@ -22,16 +20,6 @@ WritesWithin _ = Unit {0}
 abbrev pub AllWriteWithin : List Op → Type 0
 AllWriteWithin [] = Unit {0}
 AllWriteWithin (op ∷ ops) = WritesWithin op × AllWriteWithin ops
-
-pub record WholeRun (taken : Option (List ℕ)) (ops : List Op) (taken' : Option (List ℕ)) : Type 0 where
-  pub lines : List Line
-  pub run : IsRun (events_of ops) lines
-  pub took : Took taken taken' (report_text lines)
-
-pub record PartRun (taken : Option (List ℕ)) (ops : List Op) (taken' : Option (List ℕ)) : Type 0 where
-  pub lines : List Line
-  pub run : IsRunSoFar (events_of ops) lines
-  pub took : TookFront taken taken' (report_text lines)
 
 pub record Ran (taken : Option (List ℕ)) (faults : ℕ) (ops : List Op) (answer : Result (Unit {0}) RunFault) (taken' : Option (List ℕ)) (faults' : ℕ) : Type 0 where
   pub count : faults ≤ faults'

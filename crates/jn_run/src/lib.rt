@@ -13,11 +13,12 @@ mod head;
 mod operations;
 mod outside;
 mod status;
+#[cfg(test)]
+mod tests;
 mod words;
 
-pub use status::Status;
-
 use outside::{ReadFault, RunFault};
+pub use status::Status;
 
 /// Does all that the program does: reads the words and the schedule, runs it and writes the report.
 ///
@@ -36,14 +37,14 @@ pub fn run<S: Source, K: Sink, I: Keeper>(
     images: &mut I,
 ) -> Status
     ensures outcome { OutcomeOf (IsCommand words.now) (record {
-        left = S.left source.old;
-        read_faults = S.faults source.old;
-        read_faults' = S.faults source.new;
-        taken = K.taken sink.old;
-        taken' = K.taken sink.new;
-        write_faults = K.faults sink.old;
-        write_faults' = K.faults sink.new;
-      }) result }
+      left = S.left source.old;
+      read_faults = S.faults source.old;
+      read_faults' = S.faults source.new;
+      taken = K.taken sink.old;
+      taken' = K.taken sink.new;
+      write_faults = K.faults sink.old;
+      write_faults' = K.faults sink.new;
+    }) result }
     ensures images { images.new ≡ images.old }
 {
     let _images = images;

@@ -19,7 +19,9 @@ use std::alloc::{AllocError, Global};
 
 /// The one client, the one server and the one transaction.
 const CLIENT: ClientNo = ClientNo(1);
+
 const SERVER: ServerNo = ServerNo(0);
+
 const TRANSACTION: Tid = Tid {
     server: SERVER,
     epoch: 1,
@@ -41,7 +43,11 @@ fn tell_opening<K: Sink>(alloc: Global, epoch: u32, sink: &mut K) -> Result<(), 
     ensures told { Tells (K.taken sink.old) (K.faults sink.old) opening_chapters result (K.taken sink.new) (K.faults sink.new) }
 {
     report(alloc, sink, &[line_at(0, Text::Up(SERVER, epoch))])?;
-    report(alloc, sink, &[line_at(2, Text::Begun(CLIENT, 1, TRANSACTION))])?;
+    report(
+        alloc,
+        sink,
+        &[line_at(2, Text::Begun(CLIENT, 1, TRANSACTION))],
+    )?;
     report(alloc, sink, &[line_at(4, Text::Opened(CLIENT, 3, SERVER))])
 }
 
@@ -73,7 +79,11 @@ fn tell_operations<K: Sink>(
     let mut number = 5;
     for op in ops {
         let answer = do_op(alloc, files, SERVER, op)?;
-        report(alloc, sink, &[line_at(number + 1, text_of_answer(number, &answer))])?;
+        report(
+            alloc,
+            sink,
+            &[line_at(number + 1, text_of_answer(number, &answer))],
+        )?;
         number += 2;
     }
     Ok(())

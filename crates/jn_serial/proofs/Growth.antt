@@ -1,11 +1,12 @@
 -- One more event, with its lines: what holds of the events and lines so far is kept.
-use Rattle.std.proofs.Common.{◌≡◌, ◌≢◌, ◌⊎◌, inl, inr, ℕ, zero, suc, ◌+◌, ◌<◌, ◌≤◌, Bool, true, false, nat_eq, nat_lt, cond, List, [], ◌∷◌, ◌++◌, length, Option, Some, None, filter, refl, sym, ◌∙◌, ap, subst, arith, add-one, length-append, append_assoc}
+use Rattle.std.proofs.Common.{◌≡◌, ◌≢◌, ◌⊎◌, inl, inr, ℕ, zero, suc, ◌+◌, ◌<◌, ◌≤◌, Bool, true, false, nat_eq, nat_lt, cond, List, [], ◌∷◌, ◌++◌, length, Option, Some, None, filter, refl, sym, ◌∙◌, ap, subst, arith, add-one, append-nil}
 use Rattle.std.proofs.lemmas.Bool.Decides.{nat_tests}
 use Rattle.jn_schedule.specs.declared.Event.{Event}
 use Rattle.jn_report.specs.declared.line.When.{When}
 use Rattle.jn_report.specs.declared.line.When.TheVariants.{Event as AtEvent, End}
 use Rattle.jn_report.specs.declared.line.Line.{Line}
 use Rattle.jn_serial.specs.Lines.{when_eq, lines_at, event_at}
+use Rattle.jn_serial.proofs.Orders.{lines_at-append}
 use Rattle.jn_serial.specs.Follows.{Outstanding, FollowsEvent, FollowsFrom, after_event, after_answers, after_one}
 
 -- each line stands at an event from low on and below high
@@ -40,23 +41,12 @@ pub lines_at-whole : (i : ℕ) (ls : List Line) → AreWithin i (i + 1) ls → l
 lines_at-whole i [] within = refl
 lines_at-whole i (l ∷ ls) within = lines_at-take l (AtEvent i) ls (this_event i l.when within.0) ∙ ap (λ (m : List Line). l ∷ m) (lines_at-whole i ls within.1)
 
-filter-then : (w : When) (ls ms : List Line) → lines_at w (ls ++ ms) ≡ lines_at w ls ++ lines_at w ms
-filter-then w [] ms = refl
-filter-then w (l ∷ ls) ms = elim (when_eq l.when w) as (λ b. cond b (l ∷ lines_at w (ls ++ ms)) (lines_at w (ls ++ ms)) ≡ cond b (l ∷ lines_at w ls) (lines_at w ls) ++ lines_at w ms) [
-      true ↦ ap (λ (m : List Line). l ∷ m) (filter-then w ls ms)
-      | false ↦ filter-then w ls ms
-    ]
-
 -- lines of earlier events, and then those of one more
 pub lines_at-earlier : (low high i : ℕ) (ls ms : List Line) → AreWithin low high ms → i < low → lines_at (AtEvent i) (ls ++ ms) ≡ lines_at (AtEvent i) ls
-lines_at-earlier low high i ls ms within before = filter-then (AtEvent i) ls ms ∙ ap (λ (m : List Line). lines_at (AtEvent i) ls ++ m) (lines_at-outside low high i ms within (inl before)) ∙ nothing_more (lines_at (AtEvent i) ls)
-  where
-    nothing_more : (xs : List Line) → xs ++ [] ≡ xs
-    nothing_more [] = refl
-    nothing_more (x ∷ xs) = ap (λ (m : List Line). x ∷ m) (nothing_more xs)
+lines_at-earlier low high i ls ms within before = lines_at-append (AtEvent i) ls ms ∙ ap (λ (m : List Line). lines_at (AtEvent i) ls ++ m) (lines_at-outside low high i ms within (inl before)) ∙ append-nil (lines_at (AtEvent i) ls)
 
 pub lines_at-newest : (i : ℕ) (ls ms : List Line) → AreWithin 0 i ls → AreWithin i (i + 1) ms → lines_at (AtEvent i) (ls ++ ms) ≡ ms
-lines_at-newest i ls ms old new = filter-then (AtEvent i) ls ms ∙ ap (λ (m : List Line). m ++ lines_at (AtEvent i) ms) (lines_at-outside 0 i i ls old (inr (≤-self i))) ∙ lines_at-whole i ms new
+lines_at-newest i ls ms old new = lines_at-append (AtEvent i) ls ms ∙ ap (λ (m : List Line). m ++ lines_at (AtEvent i) ms) (lines_at-outside 0 i i ls old (inr (≤-self i))) ∙ lines_at-whole i ms new
   where
     ≤-self : (n : ℕ) → n ≤ n
     ≤-self n = omega arith
@@ -128,7 +118,7 @@ follows-earlier out number (e ∷ es) ls ms high within h =
     let same = lines_at-earlier (number + suc (length es)) high number ls ms within (omega arith) in (
       subst (λ (m : List Line). FollowsEvent out number e m) (sym same) h.0,
       subst (λ (m : List Line). FollowsFrom (after_one out number e m) (number + 1) es (ls ++ ms)) (sym same)
-        (follows-earlier (after_one out number e (lines_at (AtEvent number) ls)) (number + 1) es ls ms high (subst (λ n. AreWithin n high ms) (shift number (length es)) within) h.1),
+          (follows-earlier (after_one out number e (lines_at (AtEvent number) ls)) (number + 1) es ls ms high (subst (λ n. AreWithin n high ms) (shift number (length es)) within) h.1),
     )
   where
     shift : (a b : ℕ) → a + suc b ≡ (a + 1) + b

@@ -82,36 +82,21 @@ ops_from-events es fs t owner (l ∷ ls) h =
     ap (λ (ps : List Performed). ps ++ ops_from (es ++ fs) t (owner_after t owner l.text) ls) (answered_by-events es fs owner l.text h.0)
     ∙ ap (λ (ps : List Performed). answered_by es owner l.text ++ ps) (ops_from-events es fs t (owner_after t owner l.text) ls h.1)
 
--- whose transaction it is after these lines
-abbrev pub owner_of : Tid → Option ClientNo → List Line → Option ClientNo
-owner_of t owner [] = owner
-owner_of t owner (l ∷ ls) = owner_of t (owner_after t owner l.text) ls
-
-pub owner_of-append : (t : Tid) (owner : Option ClientNo) (ls ms : List Line) → owner_of t owner (ls ++ ms) ≡ owner_of t (owner_of t owner ls) ms
-owner_of-append t owner [] ms = refl
-owner_of-append t owner (l ∷ ls) ms = owner_of-append t (owner_after t owner l.text) ls ms
-
-pub ops_from-append : (es : List Event) (t : Tid) (owner : Option ClientNo) (ls ms : List Line) → ops_from es t owner (ls ++ ms) ≡ ops_from es t owner ls ++ ops_from es t (owner_of t owner ls) ms
-ops_from-append es t owner [] ms = refl
-ops_from-append es t owner (l ∷ ls) ms =
-    ap (λ (ps : List Performed). answered_by es owner l.text ++ ps) (ops_from-append es t (owner_after t owner l.text) ls ms)
-    ∙ sym (append_assoc (answered_by es owner l.text) (ops_from es t (owner_after t owner l.text) ls) (ops_from es t (owner_of t (owner_after t owner l.text) ls) ms))
-
 -- the commits depend on what their transactions did alone
 abbrev pub DidTheSame : List Event → List Line → List Event → List Line → List Tid → Type 0
 DidTheSame es ls fs ms [] = Unit {0}
 DidTheSame es ls fs ms (t ∷ ts) = (ops_of fs ms t ≡ ops_of es ls t) × DidTheSame es ls fs ms ts
 
-pub replay-same : (files : AllFiles) (es : List Event) (ls : List Line) (fs : List Event) (ms : List Line) (ts : List Tid) → DidTheSame es ls fs ms ts → replay files fs ms ts ≡ replay files es ls ts
-replay-same files es ls fs ms [] h = refl
-replay-same files es ls fs ms (t ∷ ts) h =
-    replay-same (files_then (ops_of fs ms t) files) es ls fs ms ts h.1 ∙ ap (λ (ps : List Performed). replay (files_then ps files) es ls ts) h.0
+pub replay-by_ops : (files : AllFiles) (es : List Event) (ls : List Line) (fs : List Event) (ms : List Line) (ts : List Tid) → DidTheSame es ls fs ms ts → replay files fs ms ts ≡ replay files es ls ts
+replay-by_ops files es ls fs ms [] h = refl
+replay-by_ops files es ls fs ms (t ∷ ts) h =
+    replay-by_ops (files_then (ops_of fs ms t) files) es ls fs ms ts h.1 ∙ ap (λ (ps : List Performed). replay (files_then ps files) es ls ts) h.0
 
-pub AgreesFrom-same : (files : AllFiles) (es : List Event) (ls : List Line) (fs : List Event) (ms : List Line) (ts : List Tid) → DidTheSame es ls fs ms ts → AgreesFrom files es ls ts → AgreesFrom files fs ms ts
-AgreesFrom-same files es ls fs ms [] h a = tt
-AgreesFrom-same files es ls fs ms (t ∷ ts) h a = (
+pub AgreesFrom-by_ops : (files : AllFiles) (es : List Event) (ls : List Line) (fs : List Event) (ms : List Line) (ts : List Tid) → DidTheSame es ls fs ms ts → AgreesFrom files es ls ts → AgreesFrom files fs ms ts
+AgreesFrom-by_ops files es ls fs ms [] h a = tt
+AgreesFrom-by_ops files es ls fs ms (t ∷ ts) h a = (
   subst (λ (ps : List Performed). GivesAnswers files ps) (sym h.0) a.0,
-  AgreesFrom-same (files_then (ops_of fs ms t) files) es ls fs ms ts h.1 (subst (λ (ps : List Performed). AgreesFrom (files_then ps files) es ls ts) (sym h.0) a.1),
+  AgreesFrom-by_ops (files_then (ops_of fs ms t) files) es ls fs ms ts h.1 (subst (λ (ps : List Performed). AgreesFrom (files_then ps files) es ls ts) (sym h.0) a.1),
 )
 
 -- one more commit
@@ -131,15 +116,3 @@ GivesAnswers-more files (q ∷ ps) p g a = (g.0, GivesAnswers-more (all_files_af
 pub files_then-more : (files : AllFiles) (ps : List Performed) (p : Performed) → files_then (ps ++ p ∷ []) files ≡ all_files_after p.server p.op (files_then ps files)
 files_then-more files [] p = refl
 files_then-more files (q ∷ ps) p = files_then-more (all_files_after q.server q.op files) ps p
-
-pub history_of-append : (ls ms : List Line) → history_of (ls ++ ms) ≡ history_of ls ++ history_of ms
-history_of-append [] ms = refl
-history_of-append (l ∷ ls) ms = ap (λ (ts : List Tid). commit_in l.text ++ ts) (history_of-append ls ms) ∙ sym (append_assoc (commit_in l.text) (history_of ls) (history_of ms))
-
-pub has_tid-append : (ts us : List Tid) (t : Tid) → has_tid (ts ++ us) t ≡ (has_tid ts t || has_tid us t)
-has_tid-append [] us t = refl
-has_tid-append (u ∷ ts) us t = ap (λ (b : Bool). tid_eq u t || b) (has_tid-append ts us t) ∙ or_assoc (tid_eq u t) (has_tid ts t) (has_tid us t)
-  where
-    or_assoc : (a b c : Bool) → (a || (b || c)) ≡ ((a || b) || c)
-    or_assoc true b c = refl
-    or_assoc false b c = refl

@@ -7,22 +7,7 @@ use Rattle.jn_report.specs.declared.line.Line.{Line}
 use Rattle.jn_serial.specs.Lines.{has_tid, commit_in, history_of}
 use Rattle.jn_serial.specs.Told.{IsNamedWhere, NamesBefore, NamesOnce, IsNotNamedWhere, NamesNone, Told}
 use Rattle.jn_base.proofs.Tells.{tid_tells}
-use Rattle.jn_serial.proofs.Ops.{has_tid-append}
-
-pub NamesBefore-append : (named : List Tid) (ls ms : List Line) → NamesBefore named ls → NamesBefore (named ++ history_of ls) ms → NamesBefore named (ls ++ ms)
-NamesBefore-append named [] ms a b = subst (λ (ts : List Tid). NamesBefore ts ms) (nothing_more named) b
-  where
-    nothing_more : (ts : List Tid) → ts ++ [] ≡ ts
-    nothing_more [] = refl
-    nothing_more (t ∷ ts) = ap (λ (us : List Tid). t ∷ us) (nothing_more ts)
-NamesBefore-append named (l ∷ ls) ms a b = (
-  a.0,
-  NamesBefore-append (named ++ commit_in l.text) ls ms a.1 (subst (λ (ts : List Tid). NamesBefore ts ms) (sym (append_assoc named (commit_in l.text) (history_of ls))) b),
-)
-
-pub NamesNone-append : (named : List Tid) (ls ms : List Line) → NamesNone named ls → NamesNone named ms → NamesNone named (ls ++ ms)
-NamesNone-append named [] ms a b = b
-NamesNone-append named (l ∷ ls) ms a b = (a.0, NamesNone-append named ls ms a.1 b)
+use Rattle.jn_serial.proofs.Orders.{has_tid-append}
 
 other_way : (u t : Tid) → tid_eq u t ≡ false → tid_eq t u ≡ false
 other_way u t h = grind (arith, tid_tells u t, tid_tells t u)
@@ -37,5 +22,6 @@ NamesOnce-more (u ∷ ts) t once new = (
     parts : (a b : Bool) → (a || b) ≡ false → (a ≡ false) × (b ≡ false)
     parts true b h = cc
     parts false b h = (refl, h)
+
     neither : (a b : Bool) → a ≡ false → b ≡ false → (a || (b || false)) ≡ false
     neither a b g h = rw (g, h) refl

@@ -1,6 +1,6 @@
-use Rattle.std.proofs.Common.{◌∙◌, [], ◌∷◌, ◌++◌, List, ap, refl}
+use Rattle.std.proofs.Common.{◌∙◌, [], ◌∷◌, ◌++◌, List, ap}
 use Rattle.jn_report.specs.declared.line.Line.{Line}
-use Rattle.jn_run.specs.Pages.{Counts, files_of_pages, epoch_in}
+use Rattle.jn_run.specs.Pages.{Counts, files_of_pages}
 use Rattle.jn_run.specs.Disk.{counts_of, pages_of}
 use Rattle.jn_run.proofs.Ran.{files-root, are-printed}
 use Rattle.jn_run.proofs.operations.end_lines.Goals as goal
@@ -11,7 +11,7 @@ returns c =
     let after = c.raise_epoch-epoch.new.self in
     let raised = c.raise_epoch-epoch.ensures in
     are-printed (files_of_pages (counts_of before) (pages_of before)) (files_of_pages (counts_of after) (pages_of after)) _ c.raise_epoch-epoch.result c.end_line.result c.end_line-2.result c.end_line-3.result c.push-2.new.self.items c.print.new.lines.items c.push-3.new.self.items
-      (λ u. ap (λ (n : Counts). files_of_pages n (pages_of after) u) raised.counts ∙ files-root (counts_of before) (pages_of before) (pages_of after) raised.others u)
-      raised.next c.end_line.ensures c.end_line-2.ensures c.end_line-3.ensures
-      (c.in_ok-push-2.ensures.items ∙ ap (λ (ls : List Line). ls ++ c.end_line-2.result ∷ []) (c.in_ok-push.ensures.items ∙ ap (λ (ls : List Line). ls ++ c.end_line.result ∷ []) c.new-lines.ensures.items))
-      c.in_ok-print.ensures.ok c.in_ok-push-3.ensures.items
+    (λ u. ap (λ (n : Counts). files_of_pages n (pages_of after) u) raised.counts ∙ files-root (counts_of before) (pages_of before) (pages_of after) raised.others u)
+    raised.next c.end_line.ensures c.end_line-2.ensures c.end_line-3.ensures
+    (c.in_ok-push-2.ensures.items ∙ ap (λ (ls : List Line). ls ++ c.end_line-2.result ∷ []) (c.in_ok-push.ensures.items ∙ ap (λ (ls : List Line). ls ++ c.end_line.result ∷ []) c.new-lines.ensures.items))
+    c.in_ok-print.ensures.ok c.in_ok-push-3.ensures.items

@@ -1,4 +1,4 @@
-use Rattle.std.proofs.Common.{◌≡◌, ◌∙◌, ℕ, ◌+◌, List, [], ◌∷◌, Ok, refl, sym, ap, arith}
+use Rattle.std.proofs.Common.{◌≡◌, ◌∙◌, ◌+◌, [], ◌∷◌, sym, ap, arith}
 use Rattle.jn_base.specs.declared.op.Op.{Op}
 use Rattle.jn_base.specs.declared.op.Op.TheVariants.{Create}
 use Rattle.jn_report.specs.declared.line.Line.{Line}
@@ -30,7 +30,7 @@ returns-in_err-report-clause-told g c =
     let text : c.text_of_answer.result ≡ answer_text n (answer_to op (files server_0)) = c.text_of_answer.ensures ∙ ap (λ x. answer_text n x) a.answer in
     let line : (chapter_of n files op).lines ≡ c.line_at.result ∷ [] = ap (λ (l : Line). l ∷ []) (sym (c.line_at.ensures ∙ ap (λ (t : Text). line_at (n + 1) t) text)) in
     handed-on _ _ _ _ _ _ c.in_err-report.field-0.0 c.from_residual-in_err-report.ensures.1
-      (told-of-cut _ _ _ _ _ _ _ ops i n files op _ c.loop-op.invariant.told (next-op first_op ops i c.loop-op-test.true) (tells-line _ _ _ _ (chapter_of n files op) c.line_at.result _ line c.in_err-report.ensures.reported))
+    (told-of-cut _ _ _ _ _ _ _ ops i n files op _ c.loop-op.invariant.told (next-op first_op ops i c.loop-op-test.true) (tells-line _ _ _ _ (chapter_of n files op) c.line_at.result _ line c.in_err-report.ensures.reported))
 
 pub loop-op-preserved : goal.loop-op-preserved
 unfolding first_op

@@ -1,6 +1,5 @@
-use Rattle.std.proofs.Common.{◌≡◌, ◌∙◌, ℕ, ◌<◌, ◌≤◌, length, take, List, Option, Some, None, Ok, Vec, arith, refl, sym, ap, subst, length-append}
+use Rattle.std.proofs.Common.{◌≡◌, ◌∙◌, ℕ, ◌<◌, ◌≤◌, length, take, List, Option, Some, None, Ok, Vec, arith, refl, sym, ap, subst}
 use Rattle.std.proofs.lemmas.Grind.{common_steps}
-use Rattle.std.specs.Io.KnownBytes.{prepend_known}
 use Rattle.std.specs.declared.alloc.Global.{Global}
 use Rattle.jn_host.proofs.Reading.{reads_join, reads_end}
 use Rattle.jn_run.specs.Outcome.{IsText, most_bytes}
@@ -15,8 +14,8 @@ returns-then-count-eq0 g c =
     let r = c.read.ensures.read in
     let room : 0 < length (take c.min-room.result c.loop-piece.piece) = grind (arith, common_steps) in
     let told : IsText (g.S.Source.left c.args.source.now) c.loop-piece.bytes.items =
-        is_text (g.S.Source.left c.args.source.now) c.loop-piece.bytes.items
-          (λ all e. reads_end all c.loop-piece.bytes.items _ _ _ _ _ _ _ (sym e ∙ c.loop-piece.invariant.given) r (c.in_ok-count.was ∙ ap (λ n. Ok n) c.if-count-eq0.true) room) in
+    is_text (g.S.Source.left c.args.source.now) c.loop-piece.bytes.items
+    (λ all e. reads_end all c.loop-piece.bytes.items _ _ _ _ _ _ _ (sym e ∙ c.loop-piece.invariant.given) r (c.in_ok-count.was ∙ ap (λ n. Ok n) c.if-count-eq0.true) room) in
     let few : length c.loop-piece.bytes.items ≤ most_bytes = omega (arith, c.loop-piece-test.true) in
     record {
       read = record {
