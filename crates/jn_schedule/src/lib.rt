@@ -4,6 +4,8 @@
 mod fault;
 mod reading;
 mod schedule;
+#[cfg(test)]
+mod tests;
 mod word;
 mod words;
 
