@@ -1,10 +1,23 @@
 //! The stable pages of a server, each with one value.
 //!
-//! Page 0 is the root. Behind it stand the records, then the heads of files, then the data pages. A
-//! page that isn't exactly the page of a value, the zeros behind its fields among it, is no page of
-//! the format. So each decoder reads the fields and then compares the page with the value's own.
+//! Page 0 is the root. Behind it stand the records, then the heads of files, then the data pages.
+//! Numbers have their highest byte first, and zeros follow the fields to the end of the page. A name is
+//! that of a transaction or a work: its server (1 byte), epoch and ticket (4 bytes each).
+//!
+//! | page | fields |
+//! |---|---|
+//! | root | `JUN1`, the version (1 byte, 1), the server (1), how many records, heads and data pages there are (2 each), the epoch (4) |
+//! | free record, free head | zeros |
+//! | intention | kind 1, the work's and the transaction's name, its place in the work (1), 1 fresh, 2 gone, 3 cut or 4 put (1), the file (4), the block (2), the put's data page as its index and 1 (2) |
+//! | ready, going work | kind 2, 3, the work's and the transaction's name, the client (1), how many intentions and read units (1 each), of each unit its file (4) and block (2; 65,535 for the file itself), ascending |
+//! | flag | kind 4, the transaction's name, the client (1), the request that ended it (4), how many works (1) and their names |
+//! | head | kind 1, the file (4), of 120 blocks the data page as its index and 1, or 0 for none (2 each) |
+//!
+//! A page that isn't exactly the page of a value is no page of the format. So each decoder reads the
+//! fields and then compares the page with the value's own; `no_page_is_two_values` is the law behind it.
 #![tactic(auto)]
 
+mod distinct;
 mod field;
 mod flag;
 mod head;
@@ -15,6 +28,7 @@ mod record;
 mod root;
 mod work;
 
+pub use distinct::no_page_is_two_values;
 pub use flag::Flag;
 pub use head::{BLOCKS, Head};
 pub use intention::{Intention, StoredIntention, What};
