@@ -1,0 +1,9 @@
+pub mod Orders
+pub mod Places
+pub mod Among
+pub mod Least
+pub mod Conflicts
+pub mod Breaks
+pub mod Granting
+pub mod Kept
+pub mod Changed

@@ -1,0 +1,115 @@
+-- What is answered to a work that asks for locks, and how the table changes.
+use Rattle.std.specs.Prelude.{◌≡◌, ◌≢◌, Bool, true, false, not, ◌&&◌, ◌||◌, if◌then◌else◌, List, [], ◌∷◌, Option, Some, None, MatchOption}
+use Rattle.std.specs.List.{list_all}
+use Rattle.jn_base.specs.declared.names.WorkId.{WorkId}
+use Rattle.jn_base.specs.declared.names.LockUnit.{LockUnit}
+use Rattle.jn_base.specs.Names.{work_eq}
+use Rattle.jn_locks.specs.declared.words.Mode.{Mode}
+use Rattle.jn_locks.specs.declared.words.Mode.TheVariants.{Read, IntentionWrite, Commit}
+use Rattle.jn_locks.specs.declared.words.Conflict.{Conflict}
+use Rattle.jn_locks.specs.declared.words.Lock.{Lock}
+use Rattle.jn_locks.specs.declared.words.LockFault.{LockFault}
+use Rattle.jn_locks.specs.declared.words.LockFault.TheVariants.{Conflict as Conflicts, Memory}
+use Rattle.jn_locks.specs.declared.words.Broken.{Broken}
+use Rattle.jn_locks.specs.Locks.{together, unit_eq, Table, Wants, holds, is_vulnerable, is_prepared, blocks, yields, unit_before, work_before}
+
+-- no work stands in the way
+abbrev pub NoConflict : Table → WorkId → Wants → Type 0
+NoConflict t W wants = (u : LockUnit) (V : WorkId) → blocks t W wants u V ≡ false
+
+-- the first wanted unit at which a work stands in the way, and the least such work
+pub record IsConflict (t : Table) (W : WorkId) (wants : Wants) (c : Conflict) : Type 0 where
+  pub stands : blocks t W wants c.unit c.holder ≡ true
+  pub first : (u : LockUnit) (V : WorkId) → blocks t W wants u V ≡ true → unit_before u c.unit ≡ false
+  pub least : (V : WorkId) → blocks t W wants c.unit V ≡ true → work_before V c.holder ≡ false
+
+-- where the work was broken, if it was
+abbrev pub broken_at : List Broken → WorkId → Option LockUnit
+broken_at [] V = None
+broken_at (b ∷ bs) V = if work_eq b.work V then Some b.unit else broken_at bs V
+
+abbrev pub is_broken : List Broken → WorkId → Bool
+is_broken [] V = false
+is_broken (b ∷ bs) V = work_eq b.work V || is_broken bs V
+
+-- each name comes before all later ones
+abbrev pub is_rising : List Broken → Bool
+is_rising [] = true
+is_rising (b ∷ bs) = list_all (λ (c : Broken). work_before b.work c.work) bs && is_rising bs
+
+-- the works that give way and are collided with, in rising order, each at the first unit where it is
+pub record AreBroken (t : Table) (W : WorkId) (wants : Wants) (bs : List Broken) : Type 0 where
+  pub rising : is_rising bs ≡ true
+  pub each : (V : WorkId) → MatchOption (broken_at bs V)
+      ((u : LockUnit) → yields t W wants u V ≡ false)
+      (λ (at : LockUnit). (yields t W wants at V ≡ true) × ((u : LockUnit) → yields t W wants u V ≡ true → unit_before u at ≡ false))
+
+-- broken works hold nothing and are vulnerable no more
+pub record Grants (t : Table) (W : WorkId) (mine : Wants) (bs : List Broken) (t' : Table) : Type 0 where
+  pub locks : (V : WorkId) (u : LockUnit) (m : Mode) → holds t' V u m ≡ (if work_eq W V then mine u m else (if is_broken bs V then false else holds t V u m))
+  pub vulnerable : (V : WorkId) → is_vulnerable t' V ≡ (is_vulnerable t V && not (is_broken bs V))
+
+-- what a work holds once its wants are granted
+abbrev pub also : Wants → Wants → Wants
+also held wants u m = held u m || wants u m
+
+-- what a work holds once its intentions are for commit
+abbrev pub committed : Wants → Wants
+committed held u Read = held u Read
+committed held u IntentionWrite = false
+committed held u Commit = held u Commit || held u IntentionWrite
+
+-- a granted ask
+pub record Asks (t : Table) (W : WorkId) (wants : Wants) (bs : List Broken) (t' : Table) : Type 0 where
+  pub free : NoConflict t W wants
+  pub broken : AreBroken t W wants bs
+  pub grants : Grants t W (also (holds t W) wants) bs t'
+  pub prepared : (V : WorkId) → is_prepared t' V ≡ is_prepared t V
+
+-- a granted change to commit locks
+pub record Commits (t : Table) (W : WorkId) (wants : Wants) (bs : List Broken) (t' : Table) : Type 0 where
+  pub free : NoConflict t W wants
+  pub broken : AreBroken t W wants bs
+  pub grants : Grants t W (committed (holds t W)) bs t'
+  pub prepared : (V : WorkId) → is_prepared t' V ≡ (work_eq W V || is_prepared t V)
+
+-- why nothing is granted; want of memory is free
+abbrev pub IsRefusal : Table → WorkId → Wants → LockFault → Type 0
+IsRefusal t W wants (Conflicts c) = IsConflict t W wants c
+IsRefusal t W wants Memory = Unit {0}
+
+-- why a test finds that nothing would be granted
+abbrev pub IsConflictFault : Table → WorkId → Wants → LockFault → Type 0
+IsConflictFault t W wants (Conflicts c) = IsConflict t W wants c
+IsConflictFault t W wants Memory = ⊥
+
+-- what a restart makes of the units that a prepared work writes and reads
+abbrev pub is_unit : List LockUnit → LockUnit → Bool
+is_unit [] u = false
+is_unit (v ∷ vs) u = unit_eq v u || is_unit vs u
+
+abbrev pub rebuilt : List LockUnit → List LockUnit → Wants
+rebuilt commits reads u Read = is_unit reads u
+rebuilt commits reads u IntentionWrite = false
+rebuilt commits reads u Commit = is_unit commits u
+
+-- each other work's locks go with these
+abbrev pub Fits : Table → WorkId → Wants → Type 0
+Fits t W wants = (V : WorkId) → W ≢ V → (u : LockUnit) (m n : Mode) → wants u m ≡ true → holds t V u n ≡ true → together m n ≡ true
+
+-- a work that is prepared again
+pub record Rebuilds (t : Table) (W : WorkId) (wants : Wants) (t' : Table) : Type 0 where
+  pub locks : (V : WorkId) (u : LockUnit) (m : Mode) → holds t' V u m ≡ (if work_eq W V then also (holds t W) wants u m else holds t V u m)
+  pub vulnerable : (V : WorkId) → is_vulnerable t' V ≡ is_vulnerable t V
+  pub prepared : (V : WorkId) → is_prepared t' V ≡ (work_eq W V || is_prepared t V)
+
+-- a work that is forgotten
+pub record Releases (t : Table) (W : WorkId) (t' : Table) : Type 0 where
+  pub locks : (V : WorkId) (u : LockUnit) (m : Mode) → holds t' V u m ≡ (if work_eq W V then false else holds t V u m)
+  pub vulnerable : (V : WorkId) → is_vulnerable t' V ≡ (if work_eq W V then false else is_vulnerable t V)
+  pub prepared : (V : WorkId) → is_prepared t' V ≡ (if work_eq W V then false else is_prepared t V)
+
+-- who holds the unit, and how
+abbrev pub holders_in : List Lock → LockUnit → List (WorkId × Mode)
+holders_in [] u = []
+holders_in (l ∷ ls) u = if unit_eq l.unit u then (l.work, l.mode) ∷ holders_in ls u else holders_in ls u

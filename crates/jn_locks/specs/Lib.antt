@@ -1,0 +1,3 @@
+pub mod Locks
+pub mod Asked
+pub mod Loops

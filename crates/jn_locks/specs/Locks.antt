@@ -1,0 +1,108 @@
+-- Who holds what, and when one work stands in another's way.
+use Rattle.std.specs.Prelude.{◌≡◌, ◌≢◌, Bool, true, false, nat_eq, nat_lt, nat_le, not, ◌&&◌, ◌||◌, List, [], ◌∷◌}
+use Rattle.jn_base.specs.declared.names.WorkId.{WorkId}
+use Rattle.jn_base.specs.declared.names.LockUnit.{LockUnit}
+use Rattle.jn_base.specs.declared.names.LockUnit.TheVariants.{File, Block}
+use Rattle.jn_base.specs.Names.{file_eq, block_eq, work_eq}
+use Rattle.jn_locks.specs.declared.words.Mode.{Mode}
+use Rattle.jn_locks.specs.declared.words.Mode.TheVariants.{Read, IntentionWrite, Commit}
+use Rattle.jn_locks.specs.declared.words.Want.{Want}
+use Rattle.jn_locks.specs.declared.words.Lock.{Lock}
+
+-- which modes two works may hold at one unit
+abbrev pub together : Mode → Mode → Bool
+together Read Read = true
+together Read IntentionWrite = true
+together IntentionWrite Read = true
+together _ _ = false
+
+abbrev pub mode_eq : Mode → Mode → Bool
+mode_eq Read Read = true
+mode_eq IntentionWrite IntentionWrite = true
+mode_eq Commit Commit = true
+mode_eq _ _ = false
+
+abbrev pub unit_eq : LockUnit → LockUnit → Bool
+unit_eq (File f) (File g) = file_eq f g
+unit_eq (Block f p) (Block g q) = file_eq f g && block_eq p q
+unit_eq _ _ = false
+
+-- by file, the file itself before its blocks
+unfoldable pub unit_before : LockUnit → LockUnit → Bool
+unit_before (File f) (File g) = nat_lt f.0 g.0
+unit_before (File f) (Block g q) = nat_le f.0 g.0
+unit_before (Block f p) (File g) = nat_lt f.0 g.0
+unit_before (Block f p) (Block g q) = nat_lt f.0 g.0 || (nat_eq f.0 g.0 && nat_lt p.0 q.0)
+
+-- by server, then epoch, then ticket
+unfoldable pub work_before : WorkId → WorkId → Bool
+work_before a b = nat_lt a.server.0 b.server.0 || (nat_eq a.server.0 b.server.0 && (nat_lt a.epoch b.epoch || (nat_eq a.epoch b.epoch && nat_lt a.ticket b.ticket)))
+
+-- the locks that are held, the works that were made vulnerable, and those that are prepared
+pub record Table : Type 0 where
+  pub locks : List Lock
+  pub vulnerable : List WorkId
+  pub prepared : List WorkId
+
+-- whether it is that work's lock of that unit in that mode
+abbrev pub lock_is : Lock → WorkId → LockUnit → Mode → Bool
+lock_is l V u m = work_eq l.work V && (unit_eq l.unit u && mode_eq l.mode m)
+
+abbrev pub is_held : List Lock → WorkId → LockUnit → Mode → Bool
+is_held [] V u m = false
+is_held (l ∷ ls) V u m = lock_is l V u m || is_held ls V u m
+
+-- whether the work holds the unit in that mode
+abbrev pub holds : Table → WorkId → LockUnit → Mode → Bool
+holds t = is_held t.locks
+
+abbrev pub is_listed : List WorkId → WorkId → Bool
+is_listed [] V = false
+is_listed (W ∷ Ws) V = work_eq W V || is_listed Ws V
+
+abbrev pub is_vulnerable : Table → WorkId → Bool
+is_vulnerable t V = is_listed t.vulnerable V
+
+-- from a granted change to commit locks, or a rebuild, until its release
+abbrev pub is_prepared : Table → WorkId → Bool
+is_prepared t V = is_listed t.prepared V
+
+-- a vulnerable work that isn't prepared is no conflict
+abbrev pub gives_way : Table → WorkId → Bool
+gives_way t V = is_vulnerable t V && not (is_prepared t V)
+
+-- no two works hold modes that do not go together
+abbrev pub IsCompatible : Table → Type 0
+IsCompatible t = (V W : WorkId) → V ≢ W → (u : LockUnit) (m n : Mode) → holds t V u m ≡ true → holds t W u n ≡ true → together m n ≡ true
+
+-- what is wanted, as a test of units and modes
+abbrev pub Wants : Type 0
+Wants = LockUnit → Mode → Bool
+
+abbrev pub wanted : List Want → Wants
+wanted [] u m = false
+wanted (w ∷ ws) u m = (unit_eq w.unit u && mode_eq w.mode m) || wanted ws u m
+
+-- what a work needs for its intentions: to hold for commit what it holds for intention-write
+abbrev pub commit_wants_in : List Lock → WorkId → Wants
+commit_wants_in ls W u Read = false
+commit_wants_in ls W u IntentionWrite = false
+commit_wants_in ls W u Commit = is_held ls W u IntentionWrite
+
+abbrev pub commit_wants : Table → WorkId → Wants
+commit_wants t = commit_wants_in t.locks
+
+abbrev pub some_mode : (Mode → Bool) → Bool
+some_mode test = test Read || (test IntentionWrite || test Commit)
+
+-- another work holds the unit in a mode that does not go with a wanted one
+abbrev pub collides : Table → WorkId → Wants → LockUnit → WorkId → Bool
+collides t W wants u V = not (work_eq V W) && some_mode (λ m. some_mode (λ n. wants u m && (holds t V u n && not (together m n))))
+
+-- and it doesn't give way
+abbrev pub blocks : Table → WorkId → Wants → LockUnit → WorkId → Bool
+blocks t W wants u V = collides t W wants u V && not (gives_way t V)
+
+-- or it does
+abbrev pub yields : Table → WorkId → Wants → LockUnit → WorkId → Bool
+yields t W wants u V = collides t W wants u V && gives_way t V

@@ -1,0 +1,17 @@
+//! The lock table of a server: which work holds which unit in which mode.
+//!
+//! Two works may hold one unit if each reads it, or one reads it and the other intends to write it. A commit lock goes
+//! with no other. One work's own locks never conflict.
+#![tactic(auto)]
+
+mod broken;
+mod changes;
+mod held;
+mod order;
+mod table;
+#[cfg(test)]
+mod tests;
+mod words;
+
+pub use table::{Granted, LockTable};
+pub use words::{Broken, Conflict, Lock, LockFault, Mode, Want};

@@ -1,0 +1,60 @@
+//! Modes, wants, locks and what stands in their way.
+
+use jn_base::{LockUnit, WorkId};
+use std::alloc::AllocError;
+
+/// How a unit is held.
+#[derive(Clone, Copy, Debug, PartialEq, Eq)]
+pub enum Mode {
+    Read,
+    IntentionWrite,
+    Commit,
+}
+
+/// A lock that a work asks for.
+#[derive(Clone, Copy, Debug, PartialEq, Eq)]
+pub struct Want {
+    pub unit: LockUnit,
+    pub mode: Mode,
+}
+
+/// A lock that a work holds.
+#[derive(Clone, Copy, Debug, PartialEq, Eq)]
+pub struct Lock {
+    pub work: WorkId,
+    pub unit: LockUnit,
+    pub mode: Mode,
+}
+
+/// The first wanted unit that another work holds in a mode that doesn't go with a wanted one, and the least such work.
+#[derive(Clone, Copy, Debug, PartialEq, Eq)]
+pub struct Conflict {
+    pub unit: LockUnit,
+    pub holder: WorkId,
+}
+
+/// A work that lost its locks, and the first unit at which it was collided with.
+#[derive(Clone, Copy, Debug, PartialEq, Eq)]
+pub struct Broken {
+    pub work: WorkId,
+    pub unit: LockUnit,
+}
+
+/// Why locks aren't granted.
+#[derive(Clone, Copy, Debug, PartialEq, Eq)]
+pub enum LockFault {
+    Conflict(Conflict),
+    /// There is no memory.
+    Memory,
+}
+
+impl From<AllocError> for LockFault {
+    ghost use Rattle.std.specs.Prelude.{◌≡◌};
+    ghost use Rattle.jn_locks.specs.declared.words.LockFault.TheVariants.{Memory};
+
+    ghost from_gives = { λ _ e. e ≡ Memory };
+
+    fn from(_e: AllocError) -> LockFault {
+        LockFault::Memory
+    }
+}
