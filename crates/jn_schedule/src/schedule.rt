@@ -29,7 +29,7 @@ pub fn parse(alloc: Global, text: &[u8]) -> Result<Vec<Event>, ParseFault>
     read_text(alloc, text)
 }
 
-/// A text has events or a first fault, and not both.
+/// A text that has a first fault is no schedule.
 pub fn a_text_with_a_fault_is_no_schedule()
     ensures { (text : List ℕ) (es : List AnEvent) (line number : ℕ) → IsSchedule text es → ¬ IsFirstFault text line number }
 {}
