@@ -25,6 +25,14 @@ impl ArrayStore {
         }
         Ok(ArrayStore { pages })
     }
+
+    /// A page as it stands, without a copy.
+    pub fn page(&self, i: u32) -> &Page
+        requires { i < (⟦<ArrayStore as StableStore>⟧.view self.now).count }
+        ensures { result.now ≡ (⟦<ArrayStore as StableStore>⟧.view self.now).first i }
+    {
+        &self.pages[i as usize]
+    }
 }
 
 impl StableStore for ArrayStore {
@@ -72,6 +80,7 @@ mod tests {
         assert_eq!(rt; store.count(), 3);
         assert_eq!(rt; store.put(1, &[7; 512]), Ok(()));
         assert_eq!(rt; store.get(1), Ok([7; 512]));
+        assert_eq!(rt; store.page(1), &[7; 512]);
         assert_eq!(rt; store.get(2), Ok([0; 512]));
         assert_eq!(rt; store.cleanup(1), Ok(false));
         assert_eq!(rt; store.get(1), Ok([7; 512]));
