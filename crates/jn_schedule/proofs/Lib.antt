@@ -5,6 +5,7 @@ mod Events
 mod HexWords
 mod Lines
 mod Numbers
+mod Places
 mod TextParts
 mod Told
 mod Values

@@ -172,3 +172,12 @@ one_list text es others are too =
     let again = lines_again 1 (word_lines text) es are in
     let told = lines_again 1 (word_lines text) others too in
     cc (again, told)
+
+-- each text is a schedule, or has a first fault
+pub told : (text : List ℕ) → ((es : List Event) × IsSchedule text es) ⊎ ((line : ℕ) × (number : ℕ) × IsFirstFault text line number)
+told text = go (read_lines 1 (word_lines text)) (lines_told 1 (word_lines text))
+  where
+    go : (r : Result (List Event) (ℕ × LineFault)) → MatchResult r (λ es. AreLines (word_lines text) es) (λ x. LinesFault 1 (word_lines text) x.0 x.1)
+        → ((es : List Event) × IsSchedule text es) ⊎ ((line : ℕ) × (number : ℕ) × IsFirstFault text line number)
+    go (Ok es) h = inl (es, h)
+    go (Err x) h = inr (x.0, number_of x.1, (x.1, refl, h))

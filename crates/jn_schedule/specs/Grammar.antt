@@ -1,5 +1,5 @@
 -- Which events a schedule's text has.
-use Rattle.std.specs.Prelude.{◌≡◌, ℕ, ◌+◌, ◌-◌, ◌^◌, ◌≤◌, ◌<◌, ◌⊎◌, ◌++◌, Bool, true, false, not, nat_eq, List, [], ◌∷◌, length, filter, map, replicate, codes, decimal}
+use Rattle.std.specs.Prelude.{◌≡◌, ℕ, ◌+◌, ◌-◌, ◌^◌, ◌≤◌, ◌<◌, ◌⊎◌, ◌++◌, Bool, true, false, not, nat_eq, List, [], ◌∷◌, length, filter, map, replicate, codes, decimal, Option, Some, None, if◌then◌else◌}
 use Rattle.std.specs.List.{AllByRecursion, slice_split}
 use Rattle.jn_base.specs.declared.device.FaultKind.{FaultKind}
 use Rattle.jn_base.specs.declared.device.FaultKind.TheVariants as kinds
@@ -154,6 +154,17 @@ AreLines (ws ∷ lines) es = ((is_passed ws ≡ true) × AreLines lines es)
 -- the words of each line
 abbrev pub word_lines : List ℕ → List (List (List ℕ))
 word_lines text = map words_of (lines_of text)
+
+-- of lines of which the first has a number, the line of the event of an index, from 0
+abbrev pub event_line : ℕ → List (List (List ℕ)) → ℕ → Option ℕ
+event_line first [] index = None
+event_line first (ws ∷ lines) index =
+    if is_passed ws then event_line (first + 1) lines index
+    else (if nat_eq index 0 then Some first else event_line (first + 1) lines (index - 1))
+
+-- the line of a text, from 1, at which the event of an index stands
+abbrev pub line_of_event : List ℕ → ℕ → Option ℕ
+line_of_event text index = event_line 1 (word_lines text) index
 
 -- the text is a schedule with these events
 abbrev pub IsSchedule : List ℕ → List Event → Type 0

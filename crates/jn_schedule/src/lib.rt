@@ -2,6 +2,7 @@
 #![tactic(auto)]
 
 mod fault;
+mod place;
 mod reading;
 mod schedule;
 #[cfg(test)]
@@ -11,7 +12,11 @@ mod words;
 
 pub use fault::{LineFault, ParseFault};
 use jn_base::{ClientNo, Command, FaultKind, ServerNo, Tid};
-pub use schedule::{a_schedule_has_one_list_of_events, a_text_with_a_fault_is_no_schedule, parse};
+pub use place::line_of_event;
+pub use schedule::{
+    a_schedule_has_one_list_of_events, a_text_is_a_schedule_or_has_a_fault,
+    a_text_with_a_fault_is_no_schedule, parse,
+};
 
 /// One event of a schedule, with its words as typed values.
 #[derive(Clone, Copy)]

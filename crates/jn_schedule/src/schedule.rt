@@ -29,6 +29,12 @@ pub fn parse(alloc: Global, text: &[u8]) -> Result<Vec<Event>, ParseFault>
     read_text(alloc, text)
 }
 
+/// A text is a schedule, or has a first fault.
+pub fn a_text_is_a_schedule_or_has_a_fault()
+    ensures { (text : List ℕ) → ((es : List AnEvent) × IsSchedule text es)
+        ⊎ ((line : ℕ) × (number : ℕ) × IsFirstFault text line number) }
+{}
+
 /// A text that has a first fault is no schedule.
 pub fn a_text_with_a_fault_is_no_schedule()
     ensures { (text : List ℕ) (es : List AnEvent) (line number : ℕ) → IsSchedule text es → ¬ IsFirstFault text line number }

@@ -1,4 +1,4 @@
-use crate::{Event, ParseFault, parse};
+use crate::{Event, ParseFault, line_of_event, parse};
 use jn_base::{BlockNo, ClientNo, Command, FaultKind, FileNo, Op, ServerNo, Tid};
 use std::alloc::{AllocError, Global};
 use std::test::Fail;
@@ -287,5 +287,16 @@ fn reads_each_fault_that_is_armed(rt: HostRuntime) -> Result<(), Fail> {
     for (event, want) in events.iter().zip(&kinds) {
         assert!(rt; matches!(event, Event::Arm(ServerNo(1), 2, kind) if kind == want));
     }
+    Ok(())
+}
+
+#[test]
+fn finds_the_line_of_each_event(rt: HostRuntime) -> Result<(), Fail> {
+    let text = b"# a comment\nsettle\n\n  \nsettle\nshow 0";
+    let alloc = rt.alloc();
+    assert_eq!(rt; line_of_event(alloc, text, 0)?, Some(2));
+    assert_eq!(rt; line_of_event(alloc, text, 1)?, Some(5));
+    assert_eq!(rt; line_of_event(alloc, text, 2)?, Some(6));
+    assert_eq!(rt; line_of_event(alloc, text, 3)?, None);
     Ok(())
 }

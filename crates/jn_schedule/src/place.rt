@@ -1,0 +1,26 @@
+//! Where an event stands in a text.
+ghost use Rattle.std.specs.Prelude.{◌≡◌, IfOk};
+ghost use Rattle.jn_schedule.specs.Grammar.{line_of_event};
+
+use crate::words::{is_passed, words_of};
+use std::alloc::{AllocError, Global};
+
+/// The line of a text, from 1, at which the event of an index stands; indexes count from 0. None where
+/// there are fewer events.
+pub fn line_of_event(alloc: Global, text: &[u8], index: usize) -> Result<Option<usize>, AllocError>
+    ensures { IfOk result (λ found. found ≡ line_of_event text.now index) }
+{
+    let mut left = index;
+    let mut number = 0;
+    for line in text.split(|b| *b == b'\n') {
+        number += 1;
+        let words = words_of(alloc, line)?;
+        if !is_passed(&words) {
+            if left == 0 {
+                return Ok(Some(number));
+            }
+            left -= 1;
+        }
+    }
+    Ok(None)
+}
