@@ -4,3 +4,7 @@ pub mod Lists
 pub mod Heads
 pub mod NamesAgain
 pub mod RecordsAgain
+pub mod NetLemmas
+pub mod CarriedLemmas
+pub mod FilesThereLemmas
+pub mod EditLemmas

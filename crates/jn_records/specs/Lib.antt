@@ -4,3 +4,7 @@ pub mod Heads
 pub mod Names
 pub mod Intentions
 pub mod Records
+pub mod NetLists
+pub mod NetEdits
+pub mod StablePages
+pub mod Sound

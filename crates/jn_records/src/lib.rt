@@ -15,6 +15,9 @@
 //!
 //! A page that isn't exactly the page of a value is no page of the format. So each decoder reads the
 //! fields and then compares the page with the value's own; `no_page_is_two_values` is the law behind it.
+//!
+//! What a work will do to the files is a list of intentions. `NetList` keeps it as short as it can be while
+//! the work goes on.
 #![tactic(auto)]
 
 mod distinct;
@@ -24,6 +27,8 @@ mod head;
 mod intention;
 mod list;
 mod name;
+mod net_laws;
+mod net_list;
 mod record;
 mod root;
 mod work;
@@ -33,9 +38,17 @@ pub use flag::Flag;
 pub use head::{BLOCKS, Head};
 pub use intention::{Intention, StoredIntention, What};
 pub use list::ListOf;
+pub use net_laws::{
+    a_list_is_one_change, a_net_list_gives_what_its_operations_give,
+    an_operation_that_was_done_keeps_the_files_there, carrying_out_again_gives_the_same,
+    the_files_named_tell_whether_files_are_there,
+};
+pub use net_list::{Need, NetList, Seen, needs_head, puts_in};
 pub use record::{READS, Record, WORKS};
 pub use root::Root;
 pub use work::{WorkHead, WorkState};
 
+#[cfg(test)]
+mod net_tests;
 #[cfg(test)]
 mod tests;

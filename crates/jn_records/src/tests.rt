@@ -1,6 +1,7 @@
 //! Pages of records written out by hand.
 use super::*;
 use jn_base::{BlockNo, ClientNo, FileNo, LockUnit, Page, PageWriter, ServerNo, Tid, WorkId};
+use std::alloc::{AllocError, Global};
 use std::test::Fail;
 
 /// Intention 7 of work 1.2.3 of transaction 0.5.6: block 119 of file 9 is put, and stands in data page 127.
@@ -11,6 +12,12 @@ const INTENTION: [u8; 29] = [
 /// That work is ready for client 8, with 3 intentions, and has read file 9 and its block 4.
 const READY: [u8; 34] = [
     2, 1, 0, 0, 0, 2, 0, 0, 0, 3, 0, 0, 0, 0, 5, 0, 0, 0, 6, 8, 3, 2, 0, 0, 0, 9, 255, 255, 0, 0,
+    0, 9, 0, 4,
+];
+
+/// The work after its transaction has committed.
+const GOING: [u8; 34] = [
+    3, 1, 0, 0, 0, 2, 0, 0, 0, 3, 0, 0, 0, 0, 5, 0, 0, 0, 6, 8, 3, 2, 0, 0, 0, 9, 255, 255, 0, 0,
     0, 9, 0, 4,
 ];
 
@@ -52,6 +59,7 @@ fn records_are_spelled_as_they_are_read(rt: HostRuntime) -> Result<(), Fail> {
     for begin in [
         INTENTION.as_slice(),
         READY.as_slice(),
+        GOING.as_slice(),
         FLAG.as_slice(),
         [0].as_slice(),
     ] {
@@ -159,6 +167,48 @@ fn a_changed_ready_work_is_another_or_none(rt: HostRuntime) -> Result<(), Fail> 
     ] {
         let decoded = Record::decode(rt.alloc(), &changed(&page, at, byte))?;
         assert_eq!(rt; decoded.is_some(), same);
+    }
+    Ok(())
+}
+
+/// Whether a page is that of no record or of the one that it is read as.
+fn is_read_as_itself(alloc: Global, page: &Page) -> Result<bool, AllocError> {
+    let value = Record::decode(alloc, page)?;
+    Ok(match value {
+        Some(value) => value.encode() == *page,
+        None => true,
+    })
+}
+
+#[test]
+fn each_byte_of_a_record_tells(rt: HostRuntime) -> Result<(), Fail> {
+    for begin in [
+        INTENTION.as_slice(),
+        READY.as_slice(),
+        GOING.as_slice(),
+        FLAG.as_slice(),
+        [0].as_slice(),
+    ] {
+        let page = page_of(begin);
+        for at in 0..512 {
+            let other = changed(&page, at, page[at].wrapping_add(1));
+            assert!(rt; is_read_as_itself(rt.alloc(), &other)?);
+        }
+    }
+    Ok(())
+}
+
+#[test]
+fn each_byte_of_a_root_and_of_a_head_tells(rt: HostRuntime) -> Result<(), Fail> {
+    let root = page_of(&[74, 85, 78, 49, 1, 0, 0, 32, 0, 16, 0, 128, 0, 0, 0, 2]);
+    let head = page_of(&[1, 0, 0, 0, 7, 0, 1, 0, 128]);
+    for at in 0..512 {
+        let other = changed(&root, at, root[at].wrapping_add(1));
+        let value = Root::decode(&other);
+        assert!(rt; value.is_none_or(|root| root.encode() == other));
+        let other = changed(&head, at, head[at].wrapping_add(1));
+        let value = Head::decode(rt.alloc(), &other, 128)?;
+        assert!(rt; value.is_none_or(|head| head.encode() == other));
     }
     Ok(())
 }

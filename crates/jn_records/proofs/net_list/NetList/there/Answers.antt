@@ -1,0 +1,11 @@
+use Rattle.std.proofs.Common.{sym, subst, ◌≡◌, ◌∙◌, List}
+use Rattle.jn_records.specs.declared.intention.Intention.{Intention}
+use Rattle.jn_records.specs.NetLists.{entry, as_first}
+use Rattle.jn_records.specs.NetEdits.{there_by}
+use Rattle.jn_records.proofs.EditLemmas.{list-there}
+use Rattle.jn_records.proofs.net_list.NetList.there.Goals as goal
+
+pub returns : goal.returns
+returns c = rw (← c.self.view_is) (λ files same.
+    list-there c.self.inside.items.items c.self.invariant c.args.f c.args.stored files same
+    ∙ sym (subst (λ (l : List Intention). c.is_there.result ≡ there_by (as_first (entry l c.args.f 0)) c.args.stored) c.deref.ensures.value c.is_there.ensures))

@@ -1,0 +1,6 @@
+use Rattle.std.proofs.Common.{◌≡◌, drop}
+use Rattle.jn_records.specs.NetLists.{entry}
+use Rattle.jn_records.proofs.net_list.entry.Given as goal
+
+abbrev pub invariant-loop-intention : goal.invariant-loop-intention
+invariant-loop-intention l = entry (drop l.intention-index l.list) l.f l.place ≡ entry l.list l.f l.place

@@ -1,0 +1,78 @@
+-- Sound images: the pages of a server that was closed, each pair good and equal, with nothing under way.
+use Rattle.std.specs.Prelude.{◌≡◌, ◌<◌, ◌^◌, ◌+◌, ◌*◌, ℕ, Bool, true, List, drop, replicate}
+use Rattle.jn_base.specs.declared.names.ServerNo.{ServerNo}
+use Rattle.jn_records.specs.declared.head.Head.{Head}
+use Rattle.jn_records.specs.declared.record.Record.TheVariants.{Free}
+use Rattle.jn_records.specs.declared.root.Root.{Root}
+use Rattle.jn_records.specs.Pages.{root_page}
+use Rattle.jn_records.specs.Heads.{head_page, IsHead, FileFits}
+use Rattle.jn_records.specs.Records.{record_page}
+use Rattle.jn_records.specs.StablePages.{Counts, Pages, page_count, slot_place, head_place, data_place, is_used, file_in, address_in}
+
+-- What an image says: whose it is, how many pages there are of each kind, and of each physical page whether it
+-- is good and its bytes. The halves of stable page i are the physical pages i and i + page_count.
+pub record Image : Type 0 where
+  pub server : ServerNo
+  pub counts : Counts
+  pub good : ℕ → Bool
+  pub bytes : Pages
+
+abbrev pub root_of : Image → ℕ → Root
+root_of m epoch = record { server = m.server; pool = m.counts.pool; heads = m.counts.heads; leaves = m.counts.leaves; epoch = epoch }
+
+-- stable page 0 is the root of this server and these counts, at some epoch
+abbrev pub HasRoot : Image → Type 0
+HasRoot m = (epoch : ℕ) × (epoch < 2 ^ 32) × (m.bytes 0 ≡ root_page (root_of m epoch))
+
+-- physical page p is good
+abbrev pub IsGood : Image → ℕ → Type 0
+IsGood m p = m.good p ≡ true
+
+-- both halves of stable page i have the same bytes
+abbrev pub HalvesAgree : Image → ℕ → Type 0
+HalvesAgree m i = m.bytes i ≡ m.bytes (i + page_count m.counts)
+
+-- slot i of the pool is free
+abbrev pub SlotIsFree : Image → ℕ → Type 0
+SlotIsFree m i = m.bytes (slot_place m.counts i) ≡ record_page Free
+
+abbrev pub head_bytes_of : Image → ℕ → List ℕ
+head_bytes_of m i = m.bytes (head_place m.counts i)
+
+-- one head at most is used for file f
+abbrev pub HasOneHead : Image → ℕ → Type 0
+HasOneHead m f =
+    (i j : ℕ) → i < m.counts.heads → j < m.counts.heads
+    → is_used (head_bytes_of m i) ≡ true → file_in (head_bytes_of m i) ≡ f
+    → is_used (head_bytes_of m j) ≡ true → file_in (head_bytes_of m j) ≡ f → i ≡ j
+
+-- head i is the page of a head, with no address past the data pages
+abbrev pub IsWhole : Image → ℕ → Type 0
+IsWhole m i = (h : Head) × IsHead m.counts.leaves h × FileFits h × (head_bytes_of m i ≡ head_page h)
+
+-- head i is used and has address a at block p
+pub record Names (m : Image) (a i p : ℕ) : Type 0 where
+  pub head : i < m.counts.heads
+  pub block : p < 120
+  pub used : is_used (head_bytes_of m i) ≡ true
+  pub address : address_in (head_bytes_of m i) p ≡ a
+
+-- address a is named once at most
+abbrev pub IsNamedOnce : Image → ℕ → Type 0
+IsNamedOnce m a = (i j p q : ℕ) → Names m a i p → Names m a j q → (i ≡ j) × (p ≡ q)
+
+-- data page i has zeros behind its block
+abbrev pub TailIsZeros : Image → ℕ → Type 0
+TailIsZeros m i = drop 448 (m.bytes (data_place m.counts i)) ≡ replicate 64 0
+
+-- The image of server s is sound. Each field is one way in which it may not be.
+pub record IsSound (s : ServerNo) (m : Image) : Type 0 where
+  pub server : m.server ≡ s
+  pub root : HasRoot m
+  pub good : (p : ℕ) → p < 2 * page_count m.counts → IsGood m p
+  pub pairs : (i : ℕ) → i < page_count m.counts → HalvesAgree m i
+  pub pool : (i : ℕ) → i < m.counts.pool → SlotIsFree m i
+  pub files : (f : ℕ) → HasOneHead m f
+  pub heads : (i : ℕ) → i < m.counts.heads → IsWhole m i
+  pub addresses : (a : ℕ) → 0 < a → IsNamedOnce m a
+  pub tails : (i : ℕ) → i < m.counts.leaves → TailIsZeros m i

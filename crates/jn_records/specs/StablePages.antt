@@ -1,0 +1,63 @@
+-- Where the stable pages of each kind stand, and the files that they hold.
+use Rattle.std.specs.Prelude.{ℕ, zero, suc, ◌+◌, ◌*◌, Bool, ◌&&◌, nat_eq, nat_lt, if◌then◌else◌, List, take, drop, Option, Some, None, option_map, option_and_then, slice_index}
+use Rattle.byteorder.specs.Endian.{big_number}
+use Rattle.jn_base.specs.declared.names.FileNo.{FileNo}
+use Rattle.jn_base.specs.declared.names.BlockNo.{BlockNo}
+use Rattle.jn_base.specs.declared.names.LockUnit.TheVariants.{File, Block}
+use Rattle.jn_order.specs.Files.{Files, there}
+
+-- how many stable pages there are of each kind, behind the root at 0: the pool, the heads, the data pages
+pub record Counts : Type 0 where
+  pub pool : ℕ
+  pub heads : ℕ
+  pub leaves : ℕ
+
+abbrev pub Pages : Type 0
+Pages = ℕ → List ℕ
+
+abbrev pub page_count : Counts → ℕ
+page_count g = 1 + g.pool + g.heads + g.leaves
+
+abbrev pub slot_place : Counts → ℕ → ℕ
+slot_place g i = 1 + i
+
+abbrev pub head_place : Counts → ℕ → ℕ
+head_place g i = 1 + g.pool + i
+
+abbrev pub data_place : Counts → ℕ → ℕ
+data_place g i = 1 + g.pool + g.heads + i
+
+-- a used head begins with 1 and has its file's number in the next four bytes
+abbrev pub is_used : List ℕ → Bool
+is_used page = nat_eq (slice_index page 0) 1
+
+abbrev pub file_in : List ℕ → ℕ
+file_in page = big_number 4 (drop 1 page)
+
+-- and then an address of two bytes for each block: 0 for none, else 1 more than the data page's index
+abbrev pub address_in : List ℕ → ℕ → ℕ
+address_in page k = big_number 2 (drop (5 + 2 * k) page)
+
+abbrev pub is_head_of : FileNo → List ℕ → Bool
+is_head_of f page = is_used page && nat_eq (file_in page) f.0
+
+-- the head of a file, among n heads from i on
+abbrev pub head_from : Counts → Pages → FileNo → ℕ → ℕ → Option (List ℕ)
+head_from g pages f i zero = None
+head_from g pages f i (suc n) = if is_head_of f (pages (head_place g i)) then Some (pages (head_place g i)) else head_from g pages f (i + 1) n
+
+abbrev pub head_of : Counts → Pages → FileNo → Option (List ℕ)
+head_of g pages f = head_from g pages f 0 g.heads
+
+-- what an address leads to: the first 448 bytes of the data page
+abbrev pub block_behind : Counts → Pages → ℕ → Option (List ℕ)
+block_behind g pages zero = None
+block_behind g pages (suc a) = Some (take 448 (pages (data_place g a)))
+
+abbrev pub block_in : Counts → Pages → BlockNo → List ℕ → Option (List ℕ)
+block_in g pages p head = if nat_lt p.0 120 then block_behind g pages (address_in head p.0) else None
+
+-- each used head's file, with the blocks that have an address
+abbrev pub files_of_pages : Counts → Pages → Files
+files_of_pages g pages (File f) = option_map (λ head. there) (head_of g pages f)
+files_of_pages g pages (Block f p) = option_and_then (block_in g pages p) (head_of g pages f)
