@@ -1,7 +1,10 @@
 pub mod Growth
 pub mod Ops
+pub mod CausedGrowth
 pub mod Telling
 pub mod StoredLemmas
 pub mod DoesLemmas
 pub mod Orders
 pub mod LineLemmas
+pub mod Entries
+pub mod ShownLemmas

@@ -1,19 +1,17 @@
 -- What a transaction did, and what the commits give, with more events and more lines.
-use Rattle.std.proofs.Common.{◌≡◌, ℕ, zero, suc, ◌+◌, ◌<◌, ◌≤◌, Bool, true, false, ◌||◌, cond, List, [], ◌∷◌, ◌++◌, length, Option, Some, None, refl, sym, ◌∙◌, ap, subst, arith, append_assoc}
-use Rattle.std.specs.List.{list_any}
+use Rattle.std.proofs.Common.{◌≡◌, ℕ, ◌≤◌, cond, List, [], ◌∷◌, ◌++◌, length, Option, Some, None, refl, sym, ◌∙◌, ap, subst, arith}
 use Rattle.jn_base.specs.declared.names.ClientNo.{ClientNo}
 use Rattle.jn_base.specs.declared.names.Tid.{Tid}
 use Rattle.jn_base.specs.declared.op.Answer.{Answer}
-use Rattle.jn_base.specs.Names.{client_eq, tid_eq}
+use Rattle.jn_base.specs.Names.{client_eq}
 use Rattle.jn_order.specs.Files.{AllFiles, answer_to, all_files_after}
 use Rattle.jn_schedule.specs.declared.Event.{Event}
-use Rattle.jn_report.specs.declared.line.Refusal.{Refusal}
 use Rattle.jn_report.specs.declared.line.Refusal.TheVariants as refusals
 use Rattle.jn_report.specs.declared.line.Text.{Text}
 use Rattle.jn_report.specs.declared.line.Text.TheVariants as says
 use Rattle.jn_report.specs.declared.line.Line.{Line}
 use Rattle.jn_serial.specs.declared.files.Performed.{Performed}
-use Rattle.jn_serial.specs.Lines.{event_at, history_of, has_tid, commit_in}
+use Rattle.jn_serial.specs.Lines.{event_at}
 use Rattle.jn_serial.specs.Order.{performed_in, answered, answered_by, owner_after, ops_from, ops_of, files_then, replay, GivesAnswers, AgreesFrom}
 use Rattle.jn_serial.proofs.Growth.{event_at-front}
 

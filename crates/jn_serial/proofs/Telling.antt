@@ -1,11 +1,9 @@
 -- What is told of outcomes, with more lines.
-use Rattle.std.proofs.Common.{◌≡◌, Bool, true, false, ◌||◌, List, [], ◌∷◌, ◌++◌, refl, sym, ◌∙◌, ap, subst, append_assoc, arith}
+use Rattle.std.proofs.Common.{◌≡◌, Bool, true, false, ◌||◌, List, [], ◌∷◌, ◌++◌, refl, ◌∙◌, arith}
 use Rattle.jn_base.specs.declared.names.Tid.{Tid}
 use Rattle.jn_base.specs.Names.{tid_eq}
-use Rattle.jn_report.specs.declared.line.Text.{Text}
-use Rattle.jn_report.specs.declared.line.Line.{Line}
-use Rattle.jn_serial.specs.Lines.{has_tid, commit_in, history_of}
-use Rattle.jn_serial.specs.Told.{IsNamedWhere, NamesBefore, NamesOnce, IsNotNamedWhere, NamesNone, Told}
+use Rattle.jn_serial.specs.Lines.{has_tid}
+use Rattle.jn_serial.specs.Told.{NamesOnce}
 use Rattle.jn_base.proofs.Tells.{tid_tells}
 use Rattle.jn_serial.proofs.Orders.{has_tid-append}
 

@@ -15,12 +15,9 @@ use Rattle.jn_report.specs.declared.line.Refusal.TheVariants as refusals
 use Rattle.jn_report.specs.declared.line.Text.{Text}
 use Rattle.jn_report.specs.declared.line.Text.TheVariants as says
 use Rattle.jn_report.specs.declared.line.Line.{Line}
+pub use Rattle.jn_serial.specs.declared.following.Asked.{Asked}
+pub use Rattle.jn_serial.specs.declared.following.Addressed.{Addressed}
 use Rattle.jn_serial.specs.Lines.{lines_at, says}
-
--- a command with the number of its event
-pub record Asked : Type 0 where
-  pub number : ℕ
-  pub command : Command
 
 -- what each client waits for
 abbrev pub Outstanding : Type 0
@@ -95,10 +92,6 @@ answers_command (commands.Open s) text = answers_open text
 answers_command (commands.Do s op) text = answers_op op text
 answers_command commands.End text = answers_end text
 answers_command commands.Abort text = answers_abort text
-
-pub record Addressed : Type 0 where
-  pub client : ClientNo
-  pub number : ℕ
 
 abbrev pub addressed : ClientNo → ℕ → Option Addressed
 addressed c j = Some (record { client = c; number = j })

@@ -2,6 +2,9 @@ pub mod Stored
 pub mod Lines
 pub mod Order
 pub mod Told
+pub mod Caused
 pub mod Shown
+pub mod Accounts
 pub mod Follows
+pub mod Asked
 pub mod Edits

@@ -11,7 +11,11 @@ use crate::files::{Files, StoredBlock, StoredFile};
 use jn_base::{Answer, Block, BlockNo, FileNo, Op, ServerNo};
 use std::alloc::{AllocError, Global};
 
-fn place_of_file(stored: &Vec<StoredFile>, server: ServerNo, file: FileNo) -> Option<usize>
+pub(crate) fn place_of_file(
+    stored: &Vec<StoredFile>,
+    server: ServerNo,
+    file: FileNo,
+) -> Option<usize>
     ensures { result ≡ position (is_file server file) stored.now.items }
 {
     stored
@@ -19,7 +23,7 @@ fn place_of_file(stored: &Vec<StoredFile>, server: ServerNo, file: FileNo) -> Op
         .position(|x| x.server == server && x.file == file)
 }
 
-fn place_of_block(blocks: &Vec<StoredBlock>, block: BlockNo) -> Option<usize>
+pub(crate) fn place_of_block(blocks: &Vec<StoredBlock>, block: BlockNo) -> Option<usize>
     ensures { result ≡ position (is_block block) blocks.now.items }
 {
     blocks.iter().position(|x| x.block == block)

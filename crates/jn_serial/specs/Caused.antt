@@ -1,0 +1,151 @@
+-- What stands before an abort, a stop and a refused fault.
+use Rattle.std.specs.Prelude.{◌≡◌, ℕ, ◌+◌, Bool, true, false, nat_eq, nat_lt, nat_le, ◌&&◌, ◌||◌, not, if◌then◌else◌, List, [], ◌∷◌, ◌++◌, Option, Some, None, filter, count_by}
+use Rattle.jn_base.specs.declared.names.ServerNo.{ServerNo}
+use Rattle.jn_base.specs.declared.names.ClientNo.{ClientNo}
+use Rattle.jn_base.specs.declared.names.LockUnit.{LockUnit}
+use Rattle.jn_base.specs.declared.names.LockUnit.TheVariants as units
+use Rattle.jn_base.specs.declared.names.Tid.{Tid}
+use Rattle.jn_base.specs.declared.names.Cause.{Cause}
+use Rattle.jn_base.specs.declared.names.Cause.TheVariants as causes
+use Rattle.jn_base.specs.declared.op.Command.TheVariants as commands
+use Rattle.jn_base.specs.declared.device.FaultKind.{FaultKind}
+use Rattle.jn_base.specs.declared.device.FaultKind.TheVariants.{StopBefore, StopTorn, StopAfter}
+use Rattle.jn_base.specs.Names.{server_eq, client_eq, file_eq, block_eq, tid_eq}
+use Rattle.jn_schedule.specs.declared.Event.{Event}
+use Rattle.jn_schedule.specs.declared.Event.TheVariants as events
+use Rattle.jn_report.specs.declared.line.When.{When}
+use Rattle.jn_report.specs.declared.line.When.TheVariants.{Event as AtEvent}
+use Rattle.jn_report.specs.declared.line.Text.{Text}
+use Rattle.jn_report.specs.declared.line.Text.TheVariants as says
+use Rattle.jn_report.specs.declared.line.Line.{Line}
+use Rattle.jn_serial.specs.Lines.{is_before, lines_at, lines_before, says}
+
+-- whether some event, told with its number, passes a test
+abbrev pub any_event : (ℕ → Event → Bool) → ℕ → List Event → Bool
+any_event test number [] = false
+any_event test number (e ∷ es) = test number e || any_event test (number + 1) es
+
+-- how many events, told with their numbers, pass a test
+abbrev pub count_events : (ℕ → Event → Bool) → ℕ → List Event → ℕ
+count_events test number [] = 0
+count_events test number (e ∷ es) = (if test number e then 1 else 0) + count_events test (number + 1) es
+
+-- how many lines say this
+abbrev pub count_lines : (Text → Bool) → List Line → ℕ
+count_lines test lines = count_by (λ (l : Line). test l.text) lines
+
+-- the lines of later events
+abbrev pub lines_after : When → List Line → List Line
+lines_after w lines = filter (λ (l : Line). is_before w l.when) lines
+
+abbrev pub unit_eq : LockUnit → LockUnit → Bool
+unit_eq (units.File f) (units.File g) = file_eq f g
+unit_eq (units.Block f p) (units.Block g q) = file_eq f g && block_eq p q
+unit_eq _ _ = false
+
+-- the transaction that a client began last, by these lines
+abbrev pub begun_after : ClientNo → Option Tid → Text → Option Tid
+begun_after c now (says.Begun d j t) = if client_eq c d then Some t else now
+begun_after c now _ = now
+
+abbrev pub begun_then : ClientNo → Option Tid → List Line → Option Tid
+begun_then c now [] = now
+begun_then c now (l ∷ ls) = begun_then c (begun_after c now l.text) ls
+
+abbrev pub last_begun : ClientNo → List Line → Option Tid
+last_begun c lines = begun_then c None lines
+
+abbrev pub is_tid : Option Tid → Tid → Bool
+is_tid None t = false
+is_tid (Some u) t = tid_eq u t
+
+-- a command of the client in this event is given in T: T is what the client began last, by the lines of earlier events
+abbrev pub is_in : ClientNo → Tid → ℕ → List Line → Bool
+is_in c t number lines = is_tid (last_begun c (lines_before (AtEvent number) lines)) t
+
+-- the event is an `abort` of the client, in T
+abbrev pub aborts : ClientNo → Tid → List Line → ℕ → Event → Bool
+aborts c t lines number (events.Command d commands.Abort) = client_eq c d && is_in c t number lines
+aborts c t lines number _ = false
+
+abbrev pub begins : ClientNo → ℕ → Tid → Text → Bool
+begins c number t (says.Begun d j u) = client_eq c d && (nat_eq number j && tid_eq u t)
+begins c number t _ = false
+
+-- the event is before, and an abort of the client in T
+abbrev pub asks : ClientNo → Tid → List Line → When → ℕ → Event → Bool
+asks c t lines w number e = is_before (AtEvent number) w && aborts c t lines number e
+
+-- the event is the command that began T, at this server, or opens the server in T
+abbrev pub joins : ClientNo → Tid → ServerNo → List Line → ℕ → Event → Bool
+joins c t s lines number (events.Command d (commands.Begin r)) = client_eq c d && (server_eq r s && says (begins c number t) lines)
+joins c t s lines number (events.Command d (commands.Open r)) = client_eq c d && (server_eq r s && is_in c t number lines)
+joins c t s lines number _ = false
+
+abbrev pub goes_down : ServerNo → Text → Bool
+goes_down s (says.Down r) = server_eq r s
+goes_down s (says.Stopped r) = server_eq r s
+goes_down s _ = false
+
+-- the event is a command by which T came to the server, which went down after it
+abbrev pub loses : ClientNo → Tid → ServerNo → List Line → ℕ → Event → Bool
+loses c t s lines number e = joins c t s lines number e && says (goes_down s) (lines_after (AtEvent number) lines)
+
+abbrev pub breaks : ServerNo → Tid → LockUnit → Tid → Text → Bool
+breaks s t u by (says.Broke r v w x) = server_eq r s && (tid_eq v t && (unit_eq w u && tid_eq x by))
+breaks s t u by _ = false
+
+-- the cause of an abort of the client's T stands before it: in the events before its own, and in the lines so far
+abbrev pub is_caused_by : List Event → List Line → When → ClientNo → Tid → Cause → Bool
+is_caused_by es lines w c t causes.Requested = any_event (asks c t lines w) 1 es
+is_caused_by es lines w c t (causes.Broken s u by) = says (breaks s t u by) lines
+is_caused_by es lines w c t (causes.Lost s) = any_event (loses c t s lines) 1 es
+is_caused_by es lines w c t (causes.Full s refusal free need) = nat_lt free need
+
+abbrev pub is_stop : FaultKind → Bool
+is_stop StopBefore = true
+is_stop StopTorn = true
+is_stop StopAfter = true
+is_stop _ = false
+
+abbrev pub refuses_event : Text → Bool
+refuses_event (says.RefusedEvent refusal) = true
+refuses_event _ = false
+
+-- the event was before, and was not refused
+abbrev pub is_accepted : List Line → When → ℕ → Bool
+is_accepted lines w number = is_before (AtEvent number) w && not (says refuses_event (lines_at (AtEvent number) lines))
+
+abbrev pub stops : ServerNo → Text → Bool
+stops s (says.Stopped r) = server_eq r s
+stops s _ = false
+
+-- the event can have stopped the server
+abbrev pub arms_stop : ServerNo → List Line → When → ℕ → Event → Bool
+arms_stop s lines w number (events.Arm r n kind) = server_eq r s && (is_stop kind && is_accepted lines w number)
+arms_stop s lines w number _ = false
+
+abbrev pub refuses_fault : ServerNo → Text → Bool
+refuses_fault s (says.Outside r fault) = server_eq r s
+refuses_fault s _ = false
+
+-- the event can have given a fault that was refused: a decay gives one of its own event alone
+abbrev pub gives_fault : ServerNo → List Line → When → ℕ → Event → Bool
+gives_fault s lines w number (events.Arm r n kind) = server_eq r s && is_accepted lines w number
+gives_fault s lines w number (events.Decay r page) = server_eq r s && says (refuses_fault s) (lines_at (AtEvent number) lines)
+gives_fault s lines w number _ = false
+
+-- what a line needs, by the lines up to it: an abort its cause, and each stop and each refused fault an event of its own
+abbrev pub is_caused : List Event → List Line → When → Text → Bool
+is_caused es lines w (says.Aborted c j t cause) = is_caused_by es lines w c t cause
+is_caused es lines w (says.Stopped s) = nat_le (count_lines (stops s) lines) (count_events (arms_stop s lines w) 1 es)
+is_caused es lines w (says.Outside s fault) = nat_le (count_lines (refuses_fault s) lines) (count_events (gives_fault s lines w) 1 es)
+is_caused es lines w _ = true
+
+abbrev pub CausedFrom : List Event → List Line → List Line → Type 0
+CausedFrom es before [] = Unit {0}
+CausedFrom es before (l ∷ ls) = (is_caused es (before ++ l ∷ []) l.when l.text ≡ true) × CausedFrom es (before ++ l ∷ []) ls
+
+-- each abort has its cause, and each stop and each refused fault an event of its own
+abbrev pub Caused : List Event → List Line → Type 0
+Caused es lines = CausedFrom es [] lines
