@@ -1,16 +1,21 @@
 -- The least conflict is the first wanted unit's least holder.
-use Rattle.std.proofs.Common.{◌≡◌, ◌⊎◌, inl, inr, Bool, true, false, Some, None, sym, ◌∙◌, subst, arith}
-use Rattle.std.specs.Prelude.{not, ◌&&◌, ◌||◌}
+use Rattle.std.proofs.Common.{◌≡◌, ◌⊎◌, inl, inr, ℕ, suc, ◌+◌, ◌<◌, length, get_or, drop, drop-cons, add-one, Bool, true, false, List, [], ◌∷◌, ◌++◌, Option, Some, None, ap, refl, sym, ◌∙◌, subst, arith}
+use Rattle.std.specs.Prelude.{not, ◌&&◌, ◌||◌, if◌then◌else◌}
 use Rattle.jn_base.specs.declared.names.WorkId.{WorkId}
 use Rattle.jn_base.specs.declared.names.LockUnit.{LockUnit}
+use Rattle.jn_locks.specs.declared.words.Mode.TheVariants.{IntentionWrite, Commit}
 use Rattle.jn_locks.specs.declared.words.Conflict.{Conflict}
-use Rattle.jn_locks.specs.declared.words.Lock.{Lock}
-use Rattle.jn_locks.specs.Locks.{unit_eq, unit_before, work_before, Table, Wants, gives_way, blocks}
+use Rattle.jn_locks.specs.Holders.{holds_in}
+use Rattle.jn_locks.specs.declared.words.Want.{Want}
+use Rattle.jn_locks.specs.declared.words.Broken.{Broken}
+use Rattle.jn_locks.specs.declared.held.Held.{Held}
+use Rattle.jn_locks.specs.Locks.{unit_eq, unit_before, work_before, wanted, gives_way, blocks}
 use Rattle.jn_locks.specs.Asked.{NoConflict, IsConflict}
-use Rattle.jn_locks.specs.Loops.{lock_blocks, least_of, conflict_at, conflict_before}
+use Rattle.jn_locks.specs.Tables.{at, table_of}
+use Rattle.jn_locks.specs.Loops.{collisions_at, collisions, intentions, intended_at, stays_in_way, least_conflict, conflict_at, conflict_before}
 use Rattle.jn_locks.proofs.Orders.{unit_before-irreflexive, work_before-irreflexive, conflict_before-transitive, conflict_before-total, onward}
-use Rattle.jn_locks.proofs.Among.{Among, every_among, by_lock, lock_of, unit_same}
-use Rattle.jn_locks.proofs.Least.{IsLeast, none_passes, least_is}
+use Rattle.jn_locks.proofs.Collisions.{Among, every_among, by_collision, collision_by, unit_same}
+use Rattle.jn_locks.proofs.Least.{IsLeast, none_passes, least_is, least_of-append}
 
 conflict_before-irreflexive : (c : Conflict) → conflict_before c c ≡ false
 conflict_before-irreflexive c = grind (arith, unit_before-irreflexive c.unit, work_before-irreflexive c.holder)
@@ -24,31 +29,52 @@ not_both e = absurd (cc e)
 not_earlier : (a b c : Bool) → (a || (b && c)) ≡ false → (a ≡ false) × (b ≡ true → c ≡ false)
 not_earlier a b c h = (grind arith, λ k. grind arith)
 
-module _ (t : Table) (W : WorkId) (wants : Wants) where
-  pub no_conflict : least_of (lock_blocks t W wants) conflict_at conflict_before None t.locks ≡ None → NoConflict t W wants
-  no_conflict h u V = unless (blocks t W wants u V) (λ k.
-      let r = lock_of t W wants (λ V. not (gives_way t V)) u V k in
-      not_both (sym r.2 ∙ every_among (λ l. lock_blocks t W wants l ≡ false) t.locks r.0
-      (none_passes (lock_blocks t W wants) conflict_at conflict_before conflict_before-irreflexive conflict_before-transitive
-      (onward conflict_before conflict_before-transitive conflict_before-total) None t.locks h).1 r.1))
+module _ (h : Held) (W : WorkId) (ws : List Want) where
+  pub no_conflict : least_conflict (table_of h) None (collisions (at h.units) W ws) ≡ None → NoConflict (table_of h) W (wanted ws)
+  no_conflict e u V = unless (blocks (table_of h) W (wanted ws) u V) (λ k.
+      let r = collision_by h W ws (λ V. not (gives_way (table_of h) V)) u V k in
+      not_both (sym r.1 ∙ every_among (λ b. stays_in_way (table_of h) b ≡ false) (collisions (at h.units) W ws) (record { work = V; unit = u })
+      (none_passes (stays_in_way (table_of h)) conflict_at conflict_before conflict_before-irreflexive conflict_before-transitive
+      (onward conflict_before conflict_before-transitive conflict_before-total) None (collisions (at h.units) W ws) e).1 r.0))
 
-  pub conflict_is : (c : Conflict) → least_of (lock_blocks t W wants) conflict_at conflict_before None t.locks ≡ Some c → IsConflict t W wants c
-  conflict_is c h = record {
+  pub conflict_is : (c : Conflict) → least_conflict (table_of h) None (collisions (at h.units) W ws) ≡ Some c → IsConflict (table_of h) W (wanted ws) c
+  conflict_is c e = record {
     stands = from least.from;
-    first = λ u V k. let r = lock_of t W wants (λ V. not (gives_way t V)) u V k in
-        subst (λ (z : LockUnit). unit_before z c.unit ≡ false) r.3 (not_before r.0 r.1 r.2).0;
-    least = λ V k. let r = lock_of t W wants (λ V. not (gives_way t V)) c.unit V k in
-        subst (λ (z : WorkId). work_before z c.holder ≡ false) r.4 ((not_before r.0 r.1 r.2).1 (subst (λ (z : LockUnit). unit_eq z c.unit ≡ true) (sym r.3) (unit_same c.unit)));
+    first = λ u V k. let r = collision_by h W ws (λ V. not (gives_way (table_of h) V)) u V k in (not_before (record { work = V; unit = u }) r.0 r.1).0;
+    least = λ V k. let r = collision_by h W ws (λ V. not (gives_way (table_of h) V)) c.unit V k in (not_before (record { work = V; unit = c.unit }) r.0 r.1).1 (unit_same c.unit);
   }
     where
-      least : IsLeast (lock_blocks t W wants) conflict_at conflict_before None t.locks c
-      least = least_is (lock_blocks t W wants) conflict_at conflict_before conflict_before-irreflexive conflict_before-transitive
-          (onward conflict_before conflict_before-transitive conflict_before-total) None t.locks c h
+      least : IsLeast (stays_in_way (table_of h)) conflict_at conflict_before None (collisions (at h.units) W ws) c
+      least = least_is (stays_in_way (table_of h)) conflict_at conflict_before conflict_before-irreflexive conflict_before-transitive
+          (onward conflict_before conflict_before-transitive conflict_before-total) None (collisions (at h.units) W ws) c e
 
-      from : ((None ≡ Some c) ⊎ ((l : Lock) × Among l t.locks × (lock_blocks t W wants l ≡ true) × (conflict_at l ≡ c))) → blocks t W wants c.unit c.holder ≡ true
+      from : ((None ≡ Some c) ⊎ ((b : Broken) × Among b (collisions (at h.units) W ws) × (stays_in_way (table_of h) b ≡ true) × (conflict_at b ≡ c))) → blocks (table_of h) W (wanted ws) c.unit c.holder ≡ true
       from (inl e) = absurd (cc e)
-      from (inr q) = subst (λ (d : Conflict). blocks t W wants d.unit d.holder ≡ true) q.3 (by_lock t W wants (λ V. not (gives_way t V)) q.0 q.1 q.2)
+      from (inr q) = subst (λ (d : Conflict). blocks (table_of h) W (wanted ws) d.unit d.holder ≡ true) q.3 (by_collision h W ws (λ V. not (gives_way (table_of h) V)) q.0 q.1 q.2)
 
-      not_before : (l : Lock) → Among l t.locks → lock_blocks t W wants l ≡ true → (unit_before l.unit c.unit ≡ false) × (unit_eq l.unit c.unit ≡ true → work_before l.work c.holder ≡ false)
-      not_before l here pass = not_earlier (unit_before l.unit c.unit) (unit_eq l.unit c.unit) (work_before l.work c.holder)
-          (every_among (λ l. lock_blocks t W wants l ≡ true → conflict_before (conflict_at l) c ≡ false) t.locks l least.none here pass)
+      not_before : (b : Broken) → Among b (collisions (at h.units) W ws) → stays_in_way (table_of h) b ≡ true → (unit_before b.unit c.unit ≡ false) × (unit_eq b.unit c.unit ≡ true → work_before b.work c.holder ≡ false)
+      not_before b here pass = not_earlier (unit_before b.unit c.unit) (unit_eq b.unit c.unit) (work_before b.work c.holder)
+          (every_among (λ b. stays_in_way (table_of h) b ≡ true → conflict_before (conflict_at b) c ≡ false) (collisions (at h.units) W ws) b least.none here pass)
+
+module _ (h : Held) (W : WorkId) (best new : Option Conflict) where
+  -- one want further
+  pub conflict_step : (ws : List Want) (i : ℕ) (d : Want) → i < length ws → new ≡ least_conflict (table_of h) best (collisions_at W (get_or ws i d) (at h.units (get_or ws i d).unit))
+      → least_conflict (table_of h) new (collisions (at h.units) W (drop (i + 1) ws)) ≡ least_conflict (table_of h) best (collisions (at h.units) W (drop i ws))
+  conflict_step ws i d within e = rw add-one (
+      ap (λ (o : Option Conflict). least_conflict (table_of h) o (collisions (at h.units) W (drop (suc i) ws))) e
+      ∙ sym (least_of-append (stays_in_way (table_of h)) conflict_at conflict_before best (collisions_at W (get_or ws i d) (at h.units (get_or ws i d).unit)) (collisions (at h.units) W (drop (suc i) ws)))
+      ∙ ap (λ (xs : List Want). least_conflict (table_of h) best (collisions (at h.units) W xs)) (sym (drop-cons ws i d within)))
+
+  -- one unit further
+  pub intention_step : (us : List LockUnit) (i : ℕ) (d : LockUnit) → i < length us → new ≡ least_conflict (table_of h) best (intended_at (at h.units) W (get_or us i d))
+      → least_conflict (table_of h) new (collisions (at h.units) W (intentions (at h.units) W (drop (i + 1) us))) ≡ least_conflict (table_of h) best (collisions (at h.units) W (intentions (at h.units) W (drop i us)))
+  intention_step us i d within e = rw add-one (
+      ap (λ (o : Option Conflict). least_conflict (table_of h) o (collisions (at h.units) W (intentions (at h.units) W (drop (suc i) us)))) e
+      ∙ sym (least_of-append (stays_in_way (table_of h)) conflict_at conflict_before best (intended_at (at h.units) W (get_or us i d)) (collisions (at h.units) W (intentions (at h.units) W (drop (suc i) us))))
+      ∙ ap (λ (bs : List Broken). least_conflict (table_of h) best bs) (by (holds_in (at h.units (get_or us i d)) W IntentionWrite))
+      ∙ ap (λ (xs : List LockUnit). least_conflict (table_of h) best (collisions (at h.units) W (intentions (at h.units) W xs))) (sym (drop-cons us i d within)))
+    where
+      by : (b : Bool) → (if b then collisions_at W (record { unit = get_or us i d; mode = Commit }) (at h.units (get_or us i d)) else []) ++ collisions (at h.units) W (intentions (at h.units) W (drop (suc i) us))
+          ≡ collisions (at h.units) W (if b then (record { unit = get_or us i d; mode = Commit }) ∷ intentions (at h.units) W (drop (suc i) us) else intentions (at h.units) W (drop (suc i) us))
+      by true = refl
+      by false = refl

@@ -1,16 +1,18 @@
 -- A grant keeps the locks compatible.
-use Rattle.std.proofs.Common.{◌≡◌, ◌≢◌, ◌⊎◌, inl, inr, Bool, true, false, List, Option, sym, ◌∙◌, ap, subst, arith}
-use Rattle.std.specs.Prelude.{not, ◌&&◌, ◌||◌, if◌then◌else◌, MatchOption}
+use Rattle.std.proofs.Common.{◌≡◌, ◌≢◌, ◌⊎◌, inl, inr, Bool, true, false, List, Option, Result, Ok, Err, sym, ◌∙◌, ap, subst, arith}
+use Rattle.std.specs.Prelude.{not, ◌&&◌, ◌||◌, if◌then◌else◌, MatchOption, IfOk, OnOk, OnErr}
 use Rattle.jn_base.specs.declared.names.WorkId.{WorkId}
 use Rattle.jn_base.specs.declared.names.LockUnit.{LockUnit}
 use Rattle.jn_base.specs.Names.{work_eq}
 use Rattle.jn_base.proofs.Tells.{work_tells}
 use Rattle.jn_locks.specs.declared.words.Mode.{Mode}
 use Rattle.jn_locks.specs.declared.words.Mode.TheVariants.{Read, IntentionWrite, Commit}
+use Rattle.jn_locks.specs.declared.words.Standing.{Standing}
+use Rattle.jn_locks.specs.declared.words.Standing.TheVariants.{Prepared}
 use Rattle.jn_locks.specs.declared.words.Broken.{Broken}
-use Rattle.jn_locks.specs.Locks.{together, Table, Wants, holds, IsCompatible, gives_way, some_mode, collides, yields, unit_before, commit_wants}
-use Rattle.jn_locks.specs.Asked.{is_broken, NoConflict, AreBroken, Grants, Asks, Commits, Rebuilds, Releases, Fits, also, committed}
-use Rattle.jn_locks.proofs.Among.{and_true, either_true, some_mode_of}
+use Rattle.jn_locks.specs.Locks.{together, Table, Wants, holds, IsCompatible, gives_way, some_mode, collides, yields, unit_before, commit_wants, or_active}
+use Rattle.jn_locks.specs.Asked.{is_broken, NoConflict, AreBroken, Grants, Asks, Commits, Rebuilds, Releases, Exposes, Fits, also, committed}
+use Rattle.jn_locks.proofs.Collisions.{and_true, either_true, some_mode_of}
 use Rattle.jn_locks.proofs.Breaks.{is_broken_none}
 
 pub together_sym : (m n : Mode) → together m n ≡ together n m
@@ -43,7 +45,7 @@ module _ (t : Table) (W : WorkId) (wants : Wants) (bs : List Broken) (free : NoC
       apart (inl p) = absurd (ne (sym p.1))
       apart (inr p) = ap not p.0
 
-  module _ (mine : Wants) (from : (u : LockUnit) (m : Mode) → mine u m ≡ true → (holds t W u m ≡ true) ⊎ (wants u m ≡ true)) (had : IsCompatible t) where
+  module _ (mine : Wants) (stands : Standing) (from : (u : LockUnit) (m : Mode) → mine u m ≡ true → (holds t W u m ≡ true) ⊎ (wants u m ≡ true)) (had : IsCompatible t) where
     mixed : (V : WorkId) (u : LockUnit) (m n : Mode) → W ≢ V → is_broken bs V ≡ false → mine u m ≡ true → holds t V u n ≡ true → together m n ≡ true
     mixed V u m n ne h p q = by (from u m p)
       where
@@ -51,7 +53,7 @@ module _ (t : Table) (W : WorkId) (wants : Wants) (bs : List Broken) (free : NoC
         by (inl k) = had W V ne u m n k q
         by (inr k) = clear V ne h u m n k q
 
-    pub granted_compatible : (t' : Table) → Grants t W mine bs t' → IsCompatible t'
+    pub granted_compatible : (t' : Table) → Grants t W mine stands bs t' → IsCompatible t'
     granted_compatible t' g A B ne u m n p q = both (work_tells W A) (work_tells W B) (sym (g.locks A u m) ∙ p) (sym (g.locks B u n) ∙ q)
       where
         theirs : (V : WorkId) (n : Mode) → (if is_broken bs V then false else holds t V u n) ≡ true → (is_broken bs V ≡ false) × (holds t V u n ≡ true)
@@ -73,10 +75,10 @@ module _ (t : Table) (W : WorkId) (wants : Wants) (bs : List Broken) (free : NoC
             had A B ne u m n r.1 s.1
 
 pub asked_compatible : (t : Table) (W : WorkId) (wants : Wants) (bs : List Broken) (t' : Table) → IsCompatible t → Asks t W wants bs t' → IsCompatible t'
-asked_compatible t W wants bs t' had h = granted_compatible t W wants bs h.free h.broken (also (holds t W) wants) (λ u m p. either_true (holds t W u m) (wants u m) p) had t' h.grants
+asked_compatible t W wants bs t' had h = granted_compatible t W wants bs h.free h.broken (also (holds t W) wants) (or_active (t.standing W)) (λ u m p. either_true (holds t W u m) (wants u m) p) had t' h.grants
 
 pub committed_compatible : (t : Table) (W : WorkId) (bs : List Broken) (t' : Table) → IsCompatible t → Commits t W (commit_wants t W) bs t' → IsCompatible t'
-committed_compatible t W bs t' had h = granted_compatible t W (commit_wants t W) bs h.free h.broken (committed (holds t W)) from had t' h.grants
+committed_compatible t W bs t' had h = granted_compatible t W (commit_wants t W) bs h.free h.broken (committed (holds t W)) Prepared from had t' h.grants
   where
     from : (u : LockUnit) (m : Mode) → committed (holds t W) u m ≡ true → (holds t W u m ≡ true) ⊎ (commit_wants t W u m ≡ true)
     from u Read p = inl p
@@ -105,3 +107,15 @@ released_compatible t W t' had h A B ne u m n p q = had A B ne u m n (theirs A m
   where
     theirs : (V : WorkId) (n : Mode) → (if work_eq W V then false else holds t V u n) ≡ true → holds t V u n ≡ true
     theirs V n h = grind arith
+
+pub exposed_compatible : (t : Table) (W : WorkId) (t' : Table) → IsCompatible t → Exposes t W t' → IsCompatible t'
+exposed_compatible t W t' had h A B ne u m n p q = had A B ne u m n (sym (h.locks A u m) ∙ p) (sym (h.locks B u n) ∙ q)
+
+-- what a grant keeps, a refusal keeps too
+pub compatible_after : {T E : Type 0} (r : Result T E) (P : T → Type 0) (t t' : Table) → IsCompatible t → ((v : T) → P v → IsCompatible t') → IfOk r P → OnErr r (t' ≡ t) → IsCompatible t'
+compatible_after (Ok v) P t t' had gives h k = gives v h
+compatible_after (Err e) P t t' had gives h k = subst IsCompatible (sym k) had
+
+pub compatible_after_ok : {T E : Type 0} (r : Result T E) (P : Type 0) (t t' : Table) → IsCompatible t → (P → IsCompatible t') → OnOk r P → OnErr r (t' ≡ t) → IsCompatible t'
+compatible_after_ok (Ok v) P t t' had gives h k = gives h
+compatible_after_ok (Err e) P t t' had gives h k = subst IsCompatible (sym k) had

@@ -1,17 +1,17 @@
--- The least of the locks' keys.
-use Rattle.std.proofs.Common.{◌≡◌, ◌⊎◌, inl, inr, Bool, true, false, List, [], ◌∷◌, Option, Some, None, refl, sym, ◌∙◌, subst, arith}
+-- The least of the collisions' keys.
+use Rattle.std.proofs.Common.{◌≡◌, ◌⊎◌, inl, inr, Bool, true, false, List, [], ◌∷◌, ◌++◌, Option, Some, None, refl, sym, ◌∙◌, subst, arith}
 use Rattle.std.specs.Prelude.{if◌then◌else◌}
-use Rattle.jn_locks.specs.declared.words.Lock.{Lock}
+use Rattle.jn_locks.specs.declared.words.Broken.{Broken}
 use Rattle.jn_locks.specs.Loops.{lesser, least_of}
-use Rattle.jn_locks.proofs.Among.{Among, Every}
+use Rattle.jn_locks.proofs.Collisions.{Among, Every}
 
--- the key is one of the locks that pass, or was the best before, and none comes before it
-pub record IsLeast {A : Type 0} (test : Lock → Bool) (key : Lock → A) (before : A → A → Bool) (best : Option A) (ls : List Lock) (c : A) : Type 0 where
-  pub from : (best ≡ Some c) ⊎ ((l : Lock) × Among l ls × (test l ≡ true) × (key l ≡ c))
+-- the key is one of the collisions that pass, or was the best before, and none comes before it
+pub record IsLeast {A : Type 0} (test : Broken → Bool) (key : Broken → A) (before : A → A → Bool) (best : Option A) (ls : List Broken) (c : A) : Type 0 where
+  pub from : (best ≡ Some c) ⊎ ((l : Broken) × Among l ls × (test l ≡ true) × (key l ≡ c))
   pub best_not : (d : A) → best ≡ Some d → before d c ≡ false
   pub none : Every (λ l. test l ≡ true → before (key l) c ≡ false) ls
 
-module _ {A : Type 0} (test : Lock → Bool) (key : Lock → A) (before : A → A → Bool) (irreflexive : (a : A) → before a a ≡ false)
+module _ {A : Type 0} (test : Broken → Bool) (key : Broken → A) (before : A → A → Bool) (irreflexive : (a : A) → before a a ≡ false)
     (transitive : (a b c : A) → before a b ≡ true → before b c ≡ true → before a c ≡ true)
     (onward : (a b c : A) → before a c ≡ true → before b c ≡ false → before a b ≡ true) where
   same : (x y : A) → Some x ≡ Some y → x ≡ y
@@ -23,8 +23,8 @@ module _ {A : Type 0} (test : Lock → Bool) (key : Lock → A) (before : A → 
   not_both : {B : Type 0} → true ≡ false → B
   not_both e = absurd (cc e)
 
-  -- no lock passes
-  pub none_passes : (best : Option A) (ls : List Lock) → least_of test key before best ls ≡ None → (best ≡ None) × Every (λ l. test l ≡ false) ls
+  -- no collision passes
+  pub none_passes : (best : Option A) (ls : List Broken) → least_of test key before best ls ≡ None → (best ≡ None) × Every (λ l. test l ≡ false) ls
   none_passes best [] h = (h, tt)
   none_passes best (l ∷ ls) h = by (λ b. none_passes b ls) (test l) refl h
     where
@@ -32,7 +32,7 @@ module _ {A : Type 0} (test : Lock → Bool) (key : Lock → A) (before : A → 
       by rest true e k = absurd (cc (rest (Some (lesser before best (key l))) k).0)
       by rest false e k = let r = rest best k in (r.0, (e, r.1))
 
-  pub least_is : (best : Option A) (ls : List Lock) (c : A) → least_of test key before best ls ≡ Some c → IsLeast test key before best ls c
+  pub least_is : (best : Option A) (ls : List Broken) (c : A) → least_of test key before best ls ≡ Some c → IsLeast test key before best ls c
   least_is best [] c h = record { from = inl h; best_not = λ d e. subst (λ (x : A). before d x ≡ false) (same d c (sym e ∙ h)) (irreflexive d); none = tt }
   least_is best (l ∷ ls) c h = by (λ b. least_is b ls c) (test l) refl h
     where
@@ -63,3 +63,8 @@ module _ {A : Type 0} (test : Lock → Bool) (key : Lock → A) (before : A → 
         best_not = r.best_not;
         none = (λ p. not_both (sym p ∙ e), r.none);
       }
+
+pub least_of-append : {A : Type 0} (test : Broken → Bool) (key : Broken → A) (before : A → A → Bool) (best : Option A) (xs ys : List Broken)
+    → least_of test key before best (xs ++ ys) ≡ least_of test key before (least_of test key before best xs) ys
+least_of-append test key before best [] ys = refl
+least_of-append test key before best (x ∷ xs) ys = least_of-append test key before (if test x then Some (lesser before best (key x)) else best) xs ys

@@ -7,11 +7,13 @@ use Rattle.jn_base.specs.Names.{work_eq}
 use Rattle.jn_locks.specs.declared.words.Mode.{Mode}
 use Rattle.jn_locks.specs.declared.words.Mode.TheVariants.{Read, IntentionWrite, Commit}
 use Rattle.jn_locks.specs.declared.words.Conflict.{Conflict}
-use Rattle.jn_locks.specs.declared.words.Lock.{Lock}
+use Rattle.jn_locks.specs.declared.words.Standing.{Standing}
+use Rattle.jn_locks.specs.declared.words.Standing.TheVariants.{Prepared}
+use Rattle.jn_locks.specs.declared.words.Want.{Want}
 use Rattle.jn_locks.specs.declared.words.LockFault.{LockFault}
 use Rattle.jn_locks.specs.declared.words.LockFault.TheVariants.{Conflict as Conflicts, Memory}
 use Rattle.jn_locks.specs.declared.words.Broken.{Broken}
-use Rattle.jn_locks.specs.Locks.{together, unit_eq, Table, Wants, holds, is_vulnerable, is_prepared, blocks, yields, unit_before, work_before}
+use Rattle.jn_locks.specs.Locks.{together, mode_eq, unit_eq, is_unit, Table, Wants, holds, or_active, made_vulnerable, blocks, yields, unit_before, work_before}
 
 -- no work stands in the way
 abbrev pub NoConflict : Table → WorkId → Wants → Type 0
@@ -44,10 +46,10 @@ pub record AreBroken (t : Table) (W : WorkId) (wants : Wants) (bs : List Broken)
       ((u : LockUnit) → yields t W wants u V ≡ false)
       (λ (at : LockUnit). (yields t W wants at V ≡ true) × ((u : LockUnit) → yields t W wants u V ≡ true → unit_before u at ≡ false))
 
--- broken works hold nothing and are vulnerable no more
-pub record Grants (t : Table) (W : WorkId) (mine : Wants) (bs : List Broken) (t' : Table) : Type 0 where
+-- broken works hold nothing and are known no more
+pub record Grants (t : Table) (W : WorkId) (mine : Wants) (stands : Standing) (bs : List Broken) (t' : Table) : Type 0 where
   pub locks : (V : WorkId) (u : LockUnit) (m : Mode) → holds t' V u m ≡ (if work_eq W V then mine u m else (if is_broken bs V then false else holds t V u m))
-  pub vulnerable : (V : WorkId) → is_vulnerable t' V ≡ (is_vulnerable t V && not (is_broken bs V))
+  pub standing : (V : WorkId) → t'.standing V ≡ (if work_eq W V then Some stands else (if is_broken bs V then None else t.standing V))
 
 -- what a work holds once its wants are granted
 abbrev pub also : Wants → Wants → Wants
@@ -59,19 +61,22 @@ committed held u Read = held u Read
 committed held u IntentionWrite = false
 committed held u Commit = held u Commit || held u IntentionWrite
 
+-- whether the unit is wanted in some mode
+abbrev pub is_wanted_unit : List Want → LockUnit → Bool
+is_wanted_unit [] u = false
+is_wanted_unit (w ∷ ws) u = unit_eq w.unit u || is_wanted_unit ws u
+
 -- a granted ask
 pub record Asks (t : Table) (W : WorkId) (wants : Wants) (bs : List Broken) (t' : Table) : Type 0 where
   pub free : NoConflict t W wants
   pub broken : AreBroken t W wants bs
-  pub grants : Grants t W (also (holds t W) wants) bs t'
-  pub prepared : (V : WorkId) → is_prepared t' V ≡ is_prepared t V
+  pub grants : Grants t W (also (holds t W) wants) (or_active (t.standing W)) bs t'
 
 -- a granted change to commit locks
 pub record Commits (t : Table) (W : WorkId) (wants : Wants) (bs : List Broken) (t' : Table) : Type 0 where
   pub free : NoConflict t W wants
   pub broken : AreBroken t W wants bs
-  pub grants : Grants t W (committed (holds t W)) bs t'
-  pub prepared : (V : WorkId) → is_prepared t' V ≡ (work_eq W V || is_prepared t V)
+  pub grants : Grants t W (committed (holds t W)) Prepared bs t'
 
 -- why nothing is granted; want of memory is free
 abbrev pub IsRefusal : Table → WorkId → Wants → LockFault → Type 0
@@ -84,10 +89,6 @@ IsConflictFault t W wants (Conflicts c) = IsConflict t W wants c
 IsConflictFault t W wants Memory = ⊥
 
 -- what a restart makes of the units that a prepared work writes and reads
-abbrev pub is_unit : List LockUnit → LockUnit → Bool
-is_unit [] u = false
-is_unit (v ∷ vs) u = unit_eq v u || is_unit vs u
-
 abbrev pub rebuilt : List LockUnit → List LockUnit → Wants
 rebuilt commits reads u Read = is_unit reads u
 rebuilt commits reads u IntentionWrite = false
@@ -100,16 +101,31 @@ Fits t W wants = (V : WorkId) → W ≢ V → (u : LockUnit) (m n : Mode) → wa
 -- a work that is prepared again
 pub record Rebuilds (t : Table) (W : WorkId) (wants : Wants) (t' : Table) : Type 0 where
   pub locks : (V : WorkId) (u : LockUnit) (m : Mode) → holds t' V u m ≡ (if work_eq W V then also (holds t W) wants u m else holds t V u m)
-  pub vulnerable : (V : WorkId) → is_vulnerable t' V ≡ is_vulnerable t V
-  pub prepared : (V : WorkId) → is_prepared t' V ≡ (work_eq W V || is_prepared t V)
+  pub standing : (V : WorkId) → t'.standing V ≡ (if work_eq W V then Some Prepared else t.standing V)
 
 -- a work that is forgotten
 pub record Releases (t : Table) (W : WorkId) (t' : Table) : Type 0 where
   pub locks : (V : WorkId) (u : LockUnit) (m : Mode) → holds t' V u m ≡ (if work_eq W V then false else holds t V u m)
-  pub vulnerable : (V : WorkId) → is_vulnerable t' V ≡ (if work_eq W V then false else is_vulnerable t V)
-  pub prepared : (V : WorkId) → is_prepared t' V ≡ (if work_eq W V then false else is_prepared t V)
+  pub standing : (V : WorkId) → t'.standing V ≡ (if work_eq W V then None else t.standing V)
 
--- who holds the unit, and how
-abbrev pub holders_in : List Lock → LockUnit → List (WorkId × Mode)
-holders_in [] u = []
-holders_in (l ∷ ls) u = if unit_eq l.unit u then (l.work, l.mode) ∷ holders_in ls u else holders_in ls u
+-- a work that gives way from now on, if it is known and not prepared
+pub record Exposes (t : Table) (W : WorkId) (t' : Table) : Type 0 where
+  pub locks : (V : WorkId) (u : LockUnit) (m : Mode) → holds t' V u m ≡ holds t V u m
+  pub standing : (V : WorkId) → t'.standing V ≡ (if work_eq W V then made_vulnerable (t.standing W) else t.standing V)
+
+abbrev pub is_lock : WorkId × Mode → WorkId → Mode → Bool
+is_lock l V m = work_eq l.0 V && mode_eq l.1 m
+
+abbrev pub stands_in : List (WorkId × Mode) → WorkId → Mode → Bool
+stands_in [] V m = false
+stands_in (l ∷ ls) V m = is_lock l V m || stands_in ls V m
+
+-- no lock stands twice
+abbrev pub stand_once : List (WorkId × Mode) → Bool
+stand_once [] = true
+stand_once (l ∷ ls) = not (stands_in ls l.0 l.1) && stand_once ls
+
+-- the locks of one unit, each once
+pub record AreHolders (t : Table) (u : LockUnit) (ls : List (WorkId × Mode)) : Type 0 where
+  pub exactly : (V : WorkId) (m : Mode) → stands_in ls V m ≡ holds t V u m
+  pub once : stand_once ls ≡ true

@@ -1,13 +1,15 @@
 -- Who holds what, and when one work stands in another's way.
-use Rattle.std.specs.Prelude.{◌≡◌, ◌≢◌, Bool, true, false, nat_eq, nat_lt, nat_le, not, ◌&&◌, ◌||◌, List, [], ◌∷◌}
+use Rattle.std.specs.Prelude.{◌≡◌, ◌≢◌, Bool, true, false, nat_eq, nat_lt, nat_le, not, ◌&&◌, ◌||◌, List, [], ◌∷◌, Option, Some, None}
+use Rattle.std.specs.Option.{option_map}
 use Rattle.jn_base.specs.declared.names.WorkId.{WorkId}
 use Rattle.jn_base.specs.declared.names.LockUnit.{LockUnit}
 use Rattle.jn_base.specs.declared.names.LockUnit.TheVariants.{File, Block}
 use Rattle.jn_base.specs.Names.{file_eq, block_eq, work_eq}
 use Rattle.jn_locks.specs.declared.words.Mode.{Mode}
 use Rattle.jn_locks.specs.declared.words.Mode.TheVariants.{Read, IntentionWrite, Commit}
+use Rattle.jn_locks.specs.declared.words.Standing.{Standing}
+use Rattle.jn_locks.specs.declared.words.Standing.TheVariants.{Active, Vulnerable, Prepared}
 use Rattle.jn_locks.specs.declared.words.Want.{Want}
-use Rattle.jn_locks.specs.declared.words.Lock.{Lock}
 
 -- which modes two works may hold at one unit
 abbrev pub together : Mode → Mode → Bool
@@ -38,38 +40,34 @@ unit_before (Block f p) (Block g q) = nat_lt f.0 g.0 || (nat_eq f.0 g.0 && nat_l
 unfoldable pub work_before : WorkId → WorkId → Bool
 work_before a b = nat_lt a.server.0 b.server.0 || (nat_eq a.server.0 b.server.0 && (nat_lt a.epoch b.epoch || (nat_eq a.epoch b.epoch && nat_lt a.ticket b.ticket)))
 
--- the locks that are held, the works that were made vulnerable, and those that are prepared
+-- whether a work holds a unit in a mode, and how each work stands that is known
 pub record Table : Type 0 where
-  pub locks : List Lock
-  pub vulnerable : List WorkId
-  pub prepared : List WorkId
+  pub holds : WorkId → LockUnit → Mode → Bool
+  pub standing : WorkId → Option Standing
 
--- whether it is that work's lock of that unit in that mode
-abbrev pub lock_is : Lock → WorkId → LockUnit → Mode → Bool
-lock_is l V u m = work_eq l.work V && (unit_eq l.unit u && mode_eq l.mode m)
-
-abbrev pub is_held : List Lock → WorkId → LockUnit → Mode → Bool
-is_held [] V u m = false
-is_held (l ∷ ls) V u m = lock_is l V u m || is_held ls V u m
-
--- whether the work holds the unit in that mode
 abbrev pub holds : Table → WorkId → LockUnit → Mode → Bool
-holds t = is_held t.locks
+holds t = t.holds
 
-abbrev pub is_listed : List WorkId → WorkId → Bool
-is_listed [] V = false
-is_listed (W ∷ Ws) V = work_eq W V || is_listed Ws V
+-- the standing of a work that is known from now on
+abbrev pub or_active : Option Standing → Standing
+or_active None = Active
+or_active (Some s) = s
 
-abbrev pub is_vulnerable : Table → WorkId → Bool
-is_vulnerable t V = is_listed t.vulnerable V
+-- an active work becomes vulnerable; a prepared one never does, and one that isn't known stays so
+abbrev pub once_vulnerable : Standing → Standing
+once_vulnerable Prepared = Prepared
+once_vulnerable _ = Vulnerable
 
--- from a granted change to commit locks, or a rebuild, until its release
-abbrev pub is_prepared : Table → WorkId → Bool
-is_prepared t V = is_listed t.prepared V
+abbrev pub made_vulnerable : Option Standing → Option Standing
+made_vulnerable = option_map once_vulnerable
 
--- a vulnerable work that isn't prepared is no conflict
+-- a vulnerable work is no conflict
+abbrev pub is_vulnerable : Option Standing → Bool
+is_vulnerable (Some Vulnerable) = true
+is_vulnerable _ = false
+
 abbrev pub gives_way : Table → WorkId → Bool
-gives_way t V = is_vulnerable t V && not (is_prepared t V)
+gives_way t V = is_vulnerable (t.standing V)
 
 -- no two works hold modes that do not go together
 abbrev pub IsCompatible : Table → Type 0
@@ -84,13 +82,10 @@ wanted [] u m = false
 wanted (w ∷ ws) u m = (unit_eq w.unit u && mode_eq w.mode m) || wanted ws u m
 
 -- what a work needs for its intentions: to hold for commit what it holds for intention-write
-abbrev pub commit_wants_in : List Lock → WorkId → Wants
-commit_wants_in ls W u Read = false
-commit_wants_in ls W u IntentionWrite = false
-commit_wants_in ls W u Commit = is_held ls W u IntentionWrite
-
 abbrev pub commit_wants : Table → WorkId → Wants
-commit_wants t = commit_wants_in t.locks
+commit_wants t W u Read = false
+commit_wants t W u IntentionWrite = false
+commit_wants t W u Commit = holds t W u IntentionWrite
 
 abbrev pub some_mode : (Mode → Bool) → Bool
 some_mode test = test Read || (test IntentionWrite || test Commit)
@@ -106,3 +101,7 @@ blocks t W wants u V = collides t W wants u V && not (gives_way t V)
 -- or it does
 abbrev pub yields : Table → WorkId → Wants → LockUnit → WorkId → Bool
 yields t W wants u V = collides t W wants u V && gives_way t V
+
+abbrev pub is_unit : List LockUnit → LockUnit → Bool
+is_unit [] u = false
+is_unit (v ∷ vs) u = unit_eq v u || is_unit vs u

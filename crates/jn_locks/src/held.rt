@@ -1,225 +1,127 @@
-//! What is held, with the searches for what stands in the way.
+//! What is held, and how it changes.
 
-ghost use Rattle.std.specs.Prelude.{◌≡◌, ◌||◌, ◌&&◌, ◌+◌, ◌≤◌, [], None, IfOk, IfErr, OnOk, OnErr, MatchResult, if◌then◌else◌, vec_len, vec_capacity};
+ghost use Rattle.std.specs.Prelude.{◌≡◌, ◌||◌, ◌&&◌, ◌+◌, ◌≤◌, ◌<◌, [], true, false, None, Some, IfOk, IfErr, OnOk, OnErr, length, if◌then◌else◌};
+ghost use Rattle.jn_base.specs.declared.names.WorkId.{WorkId};
 ghost use Rattle.jn_base.specs.declared.names.LockUnit.{LockUnit};
-ghost use Rattle.jn_base.specs.Names as names;
+ghost use Rattle.jn_base.specs.Names.{work_eq};
 ghost use Rattle.jn_locks.specs.declared.words.Mode.{Mode};
-ghost use Rattle.jn_locks.specs.declared.words.Mode.TheVariants.{Commit, IntentionWrite};
-ghost use Rattle.jn_locks.specs.Asked as asked;
 ghost use Rattle.jn_locks.specs.Locks as locks;
+ghost use Rattle.jn_locks.specs.Asked as asked;
+ghost use Rattle.jn_locks.specs.Holders.{is_among, without};
 ghost use Rattle.jn_locks.specs.Loops as loops;
+ghost use Rattle.jn_locks.specs.Tables as tables;
+ghost use Rattle.jn_locks.specs.Tables.{IsSound, table_of};
 
-use crate::broken::add_broken;
-use crate::changes::{
-    add_locks, drop_broken, drop_intentions, drop_locks, forget_broken, forget_work,
-};
-use crate::order::{mode_eq, together, unit_before, unit_eq, work_before, work_eq};
-use crate::words::{Broken, Conflict, Lock, LockFault, Mode, Want};
+use crate::holders::{is_among, modes_of};
+use crate::modes::{committed, with_mode};
+use crate::units::Units;
+use crate::wants::unit_wants;
+use crate::words::{Broken, LockFault, Want};
+use crate::works::Works;
 use jn_base::{LockUnit, WorkId};
 use std::alloc::{AllocError, Global};
 
-/// The locks, the works that were made vulnerable and those that are prepared.
+/// The holders of each unit and the units of each work.
 #[derive(Drop)]
 pub(crate) struct Held {
-    pub(crate) locks: Vec<Lock>,
-    pub(crate) vulnerable: Vec<WorkId>,
-    pub(crate) prepared: Vec<WorkId>,
-}
-
-/// What a work wants: these locks, or commit locks where it holds intention-write.
-#[derive(Clone, Copy)]
-pub(crate) enum Wanted<'a> {
-    These(&'a [Want]),
-    ForCommit,
-}
-
-pub(crate) fn is_wanted(wants: &[Want], unit: LockUnit, mode: Mode) -> bool
-    ensures { result ≡ locks.wanted wants.now unit mode }
-{
-    for w in wants {
-        if unit_eq(w.unit, unit) && mode_eq(w.mode, mode) {
-            return true;
-        }
-    }
-    false
-}
-
-pub(crate) fn is_held(held: &[Lock], work: WorkId, unit: LockUnit, mode: Mode) -> bool
-    ensures { result ≡ locks.is_held held.now work unit mode }
-{
-    for l in held {
-        if work_eq(l.work, work) && (unit_eq(l.unit, unit) && mode_eq(l.mode, mode)) {
-            return true;
-        }
-    }
-    false
-}
-
-pub(crate) fn is_listed(works: &[WorkId], work: WorkId) -> bool
-    ensures { result ≡ locks.is_listed works.now work }
-{
-    for w in works {
-        if work_eq(*w, work) {
-            return true;
-        }
-    }
-    false
-}
-
-/// The lesser of two conflicts: at the earlier unit, and there with the lesser work.
-fn lesser_conflict(best: Option<Conflict>, c: Conflict) -> Conflict
-    ensures { result ≡ loops.lesser loops.conflict_before best c }
-{
-    match best {
-        None => c,
-        Some(b) => {
-            if unit_before(c.unit, b.unit)
-                || (unit_eq(c.unit, b.unit) && work_before(c.holder, b.holder))
-            {
-                c
-            } else {
-                b
-            }
-        }
-    }
+    pub(crate) units: Units,
+    pub(crate) works: Works,
 }
 
 impl Held {
-    fn gives_way(&self, work: WorkId) -> bool
-        ensures { result ≡ locks.gives_way (loops.table_of self.now) work }
+    pub(crate) fn new(alloc: Global) -> Held
+        ensures holds { (V : WorkId) (u : LockUnit) (m : Mode) → (table_of result).holds V u m ≡ false }
+        ensures standing { (V : WorkId) → (table_of result).standing V ≡ None }
+        ensures sound_after { IsSound result }
     {
-        is_listed(&self.vulnerable, work) && !is_listed(&self.prepared, work)
-    }
-
-    fn wants(&self, work: WorkId, wanted: Wanted, unit: LockUnit, mode: Mode) -> bool
-        ensures { result ≡ loops.wants_of (loops.table_of self.now) work wanted.entry unit mode }
-    {
-        match wanted {
-            Wanted::These(wants) => is_wanted(wants, unit, mode),
-            Wanted::ForCommit => match mode {
-                Mode::Commit => is_held(&self.locks, work, unit, Mode::IntentionWrite),
-                _ => false,
-            },
+        Held {
+            units: Units::new(alloc),
+            works: Works::new(alloc),
         }
     }
 
-    /// Whether a lock is another work's, in a mode that doesn't go with a wanted one.
-    fn collides(&self, work: WorkId, wanted: Wanted, lock: &Lock) -> bool
-        ensures { result ≡ loops.lock_collides work (loops.wants_of (loops.table_of self.now) work wanted.entry) lock.now }
+    /// Makes room for the work at each unit that it wants.
+    fn make_room(&mut self, alloc: Global, wants: &[Want]) -> Result<(), AllocError>
+        ensures at { (u : LockUnit) → tables.at self.new.units u ≡ tables.at self.old.units u }
+        ensures works { self.new.works ≡ self.old.works }
+        ensures room { OnOk result ((u : LockUnit) → asked.is_wanted_unit wants.now u ≡ true → tables.has_room_at self.new.units u ≡ true) }
     {
-        !work_eq(lock.work, work)
-            && ((self.wants(work, wanted, lock.unit, Mode::Read)
-                && !together(Mode::Read, lock.mode))
-                || ((self.wants(work, wanted, lock.unit, Mode::IntentionWrite)
-                    && !together(Mode::IntentionWrite, lock.mode))
-                    || (self.wants(work, wanted, lock.unit, Mode::Commit)
-                        && !together(Mode::Commit, lock.mode))))
-    }
-
-    /// The least conflict.
-    pub(crate) fn first_conflict(&self, work: WorkId, wanted: Wanted) -> Option<Conflict>
-        ensures { let t = loops.table_of self.now in
-            result ≡ loops.least_of (loops.lock_blocks t work (loops.wants_of t work wanted.entry)) loops.conflict_at loops.conflict_before None t.locks }
-    {
-        let mut best = None;
-        for lock in &self.locks {
-            if self.collides(work, wanted, lock) && !self.gives_way(lock.work) {
-                best = Some(lesser_conflict(
-                    best,
-                    Conflict {
-                        unit: lock.unit,
-                        holder: lock.work,
-                    },
-                ));
-            }
+        for want in wants {
+            self.units.make_room(alloc, want.unit)?;
         }
-        best
+        Ok(())
     }
 
-    /// The works that give way and are collided with.
-    pub(crate) fn broken(
-        &self,
-        alloc: Global,
-        work: WorkId,
-        wanted: Wanted,
-    ) -> Result<Vec<Broken>, AllocError>
-        ensures { let t = loops.table_of self.now in
-            IfOk result (λ v. v.items ≡ loops.all_broken (loops.lock_yields t work (loops.wants_of t work wanted.entry)) [] t.locks) }
+    /// One lock more for the work, for which there is room.
+    fn add(&mut self, work: WorkId, want: Want)
+        requires has_place { (is_among (tables.at self.old.units want.unit) work || tables.has_room_at self.old.units want.unit) ≡ true }
+        requires has_room { 0 < tables.room_of self.old.works work }
+        requires sound { IsSound self.old }
+        ensures holds { (V : WorkId) (u : LockUnit) (m : Mode) → (table_of self.new).holds V u m ≡ ((table_of self.old).holds V u m || (work_eq work V && (locks.unit_eq want.unit u && locks.mode_eq want.mode m))) }
+        ensures standing { (V : WorkId) → (table_of self.new).standing V ≡ (table_of self.old).standing V }
+        ensures sound_after { IsSound self.new }
+        ensures here { is_among (tables.at self.new.units want.unit) work ≡ true }
+        ensures still { (u : LockUnit) → (is_among (tables.at self.old.units u) work || tables.has_room_at self.old.units u) ≡ true → (is_among (tables.at self.new.units u) work || tables.has_room_at self.new.units u) ≡ true }
+        ensures room { tables.room_of self.old.works work ≤ tables.room_of self.new.works work + 1 }
     {
-        let mut broken = Vec::new(alloc);
-        for lock in &self.locks {
-            if self.collides(work, wanted, lock) && self.gives_way(lock.work) {
-                add_broken(
-                    &mut broken,
-                    Broken {
-                        work: lock.work,
-                        unit: lock.unit,
-                    },
-                )?;
-            }
+        let holders = self.units.at(want.unit);
+        let is_new = !is_among(holders, work);
+        let modes = with_mode(modes_of(holders, work), want.mode);
+        self.units.put(want.unit, work, modes);
+        if is_new {
+            self.works.push_unit(work, want.unit);
         }
-        Ok(broken)
     }
-}
 
-/// Adds a want for commit where the lock is the work's for intention-write.
-fn push_commit(wants: &mut Vec<Want>, lock: Lock, work: WorkId) -> Result<(), AllocError>
-    ensures { IfOk result (λ _. (u : LockUnit) (m : Mode) → locks.wanted wants.new.items u m ≡ (locks.wanted wants.old.items u m
-        || (names.work_eq lock.work work && (locks.mode_eq lock.mode IntentionWrite && (locks.unit_eq lock.unit u && locks.mode_eq Commit m))))) }
-{
-    if work_eq(lock.work, work) && mode_eq(lock.mode, Mode::IntentionWrite) {
-        wants.push(Want {
-            unit: lock.unit,
-            mode: Mode::Commit,
-        })?;
-    }
-    Ok(())
-}
-
-/// Where a work holds intention-write, as wants for commit.
-fn commit_wants(alloc: Global, held: &[Lock], work: WorkId) -> Result<Vec<Want>, AllocError>
-    ensures { IfOk result (λ v. (u : LockUnit) (m : Mode) → locks.wanted v.items u m ≡ locks.commit_wants_in held.now work u m) }
-{
-    let mut wants = Vec::new(alloc);
-    for l in held {
-        push_commit(&mut wants, *l, work)?;
-    }
-    Ok(wants)
-}
-
-/// Wants the units in a mode.
-fn push_units(wants: &mut Vec<Want>, units: &[LockUnit], mode: Mode) -> Result<(), AllocError>
-    ensures { IfOk result (λ _. (u : LockUnit) (m : Mode) → locks.wanted wants.new.items u m ≡ (locks.wanted wants.old.items u m || (asked.is_unit units.now u && locks.mode_eq mode m))) }
-{
-    for unit in units {
-        wants.push(Want { unit: *unit, mode })?;
-    }
-    Ok(())
-}
-
-/// What a restart makes of the units that a prepared work writes and reads.
-fn unit_wants(
-    alloc: Global,
-    commits: &[LockUnit],
-    reads: &[LockUnit],
-) -> Result<Vec<Want>, AllocError>
-    ensures { IfOk result (λ v. (u : LockUnit) (m : Mode) → locks.wanted v.items u m ≡ asked.rebuilt commits.now reads.now u m) }
-{
-    let mut wants = Vec::new(alloc);
-    push_units(&mut wants, commits, Mode::Commit)?;
-    push_units(&mut wants, reads, Mode::Read)?;
-    Ok(wants)
-}
-
-impl Held {
-    /// Whether nothing stands in the way of what is wanted.
-    pub(crate) fn test(&self, work: WorkId, wanted: Wanted) -> Result<(), LockFault>
-        ensures { let t = loops.table_of self.now in
-            MatchResult result (λ _. asked.NoConflict t work (loops.wants_of t work wanted.entry)) (asked.IsConflictFault t work (loops.wants_of t work wanted.entry)) }
+    /// All locks that the work wants, for which there is room.
+    fn add_all(&mut self, work: WorkId, wants: &[Want])
+        requires has_place { (u : LockUnit) → asked.is_wanted_unit wants.now u ≡ true → (is_among (tables.at self.old.units u) work || tables.has_room_at self.old.units u) ≡ true }
+        requires has_room { length wants.now ≤ tables.room_of self.old.works work }
+        requires sound { IsSound self.old }
+        ensures holds { (V : WorkId) (u : LockUnit) (m : Mode) → (table_of self.new).holds V u m ≡ ((table_of self.old).holds V u m || (work_eq work V && locks.wanted wants.now u m)) }
+        ensures standing { (V : WorkId) → (table_of self.new).standing V ≡ (table_of self.old).standing V }
+        ensures sound_after { IsSound self.new }
     {
-        match self.first_conflict(work, wanted) {
-            None => Ok(()),
-            Some(c) => Err(LockFault::Conflict(c)),
+        for want in wants {
+            self.add(work, *want);
+        }
+    }
+
+    /// Commit locks in place of those for intention-write, at units that the work holds.
+    fn turn(&mut self, work: WorkId, wants: &[Want])
+        requires has_place { (u : LockUnit) → asked.is_wanted_unit wants.now u ≡ true → is_among (tables.at self.old.units u) work ≡ true }
+        requires sound { IsSound self.old }
+        ensures holds { (V : WorkId) (u : LockUnit) (m : Mode) → (table_of self.new).holds V u m ≡
+            (if work_eq work V && asked.is_wanted_unit wants.now u then asked.committed ((table_of self.old).holds work) u m else (table_of self.old).holds V u m) }
+        ensures works { self.new.works ≡ self.old.works }
+        ensures sound_after { IsSound self.new }
+    {
+        for want in wants {
+            let modes = committed(modes_of(self.units.at(want.unit), work));
+            self.units.put(want.unit, work, modes);
+        }
+    }
+
+    /// Forgets a work.
+    pub(crate) fn release(&mut self, work: WorkId)
+        requires { IsSound self.old }
+        ensures released { asked.Releases (table_of self.old) work (table_of self.new) }
+        ensures sound_after { IsSound self.new }
+    {
+        if let Some(units) = self.works.remove(work) {
+            drop_units(&mut self.units, work, &units);
+        }
+    }
+
+    /// Forgets the broken works.
+    fn break_all(&mut self, broken: &[Broken])
+        requires { IsSound self.old }
+        ensures holds { (V : WorkId) (u : LockUnit) (m : Mode) → (table_of self.new).holds V u m ≡ (if asked.is_broken broken.now V then false else (table_of self.old).holds V u m) }
+        ensures standing { (V : WorkId) → (table_of self.new).standing V ≡ (if asked.is_broken broken.now V then None else (table_of self.old).standing V) }
+        ensures sound_after { IsSound self.new }
+    {
+        for b in broken {
+            self.release(b.work);
         }
     }
 
@@ -230,33 +132,36 @@ impl Held {
         work: WorkId,
         wants: &[Want],
     ) -> Result<Vec<Broken>, LockFault>
-        ensures granted { IfOk result (λ v. asked.Asks (loops.table_of self.old) work (locks.wanted wants.now) v.items (loops.table_of self.new)) }
-        ensures refused { IfErr result (asked.IsRefusal (loops.table_of self.old) work (locks.wanted wants.now)) }
-        ensures unchanged { OnErr result (loops.table_of self.new ≡ loops.table_of self.old) }
+        requires { IsSound self.old }
+        ensures granted { IfOk result (λ v. asked.Asks (table_of self.old) work (locks.wanted wants.now) v.items (table_of self.new)) }
+        ensures refused { IfErr result (asked.IsRefusal (table_of self.old) work (locks.wanted wants.now)) }
+        ensures unchanged { OnErr result (table_of self.new ≡ table_of self.old) }
+        ensures sound_after { IsSound self.new }
     {
-        self.test(work, Wanted::These(wants))?;
-        let broken = self.broken(alloc, work, Wanted::These(wants))?;
-        add_locks(&mut self.locks, work, wants)?;
-        drop_broken(&mut self.locks, &broken);
-        forget_broken(&mut self.vulnerable, &broken);
+        self.test(work, wants)?;
+        let broken = self.broken(alloc, work, wants)?;
+        self.make_room(alloc, wants)?;
+        self.works.enter(alloc, work, wants.len())?;
+        self.add_all(work, wants);
+        self.break_all(&broken);
         Ok(broken)
     }
 
     /// Turns the work's locks for intention-write into commit locks, or changes nothing.
     pub(crate) fn commit(&mut self, alloc: Global, work: WorkId) -> Result<Vec<Broken>, LockFault>
-        ensures granted { IfOk result (λ v. asked.Commits (loops.table_of self.old) work (locks.commit_wants (loops.table_of self.old) work) v.items (loops.table_of self.new)) }
-        ensures refused { IfErr result (asked.IsRefusal (loops.table_of self.old) work (locks.commit_wants (loops.table_of self.old) work)) }
-        ensures unchanged { OnErr result (loops.table_of self.new ≡ loops.table_of self.old) }
+        requires { IsSound self.old }
+        ensures granted { IfOk result (λ v. asked.Commits (table_of self.old) work (locks.commit_wants (table_of self.old) work) v.items (table_of self.new)) }
+        ensures refused { IfErr result (asked.IsRefusal (table_of self.old) work (locks.commit_wants (table_of self.old) work)) }
+        ensures unchanged { OnErr result (table_of self.new ≡ table_of self.old) }
+        ensures sound_after { IsSound self.new }
     {
-        self.test(work, Wanted::ForCommit)?;
-        let broken = self.broken(alloc, work, Wanted::ForCommit)?;
-        let wants = commit_wants(alloc, &self.locks, work)?;
-        self.prepared.reserve(1)?;
-        add_locks(&mut self.locks, work, &wants)?;
-        drop_intentions(&mut self.locks, work);
-        drop_broken(&mut self.locks, &broken);
-        forget_broken(&mut self.vulnerable, &broken);
-        self.prepared.push_reserved(work);
+        let wants = self.commit_wants(alloc, work)?;
+        self.test(work, &wants)?;
+        let broken = self.broken(alloc, work, &wants)?;
+        self.works.enter(alloc, work, 0)?;
+        self.turn(work, &wants);
+        self.works.prepare(work);
+        self.break_all(&broken);
         Ok(broken)
     }
 
@@ -268,39 +173,25 @@ impl Held {
         commits: &[LockUnit],
         reads: &[LockUnit],
     ) -> Result<(), AllocError>
-        ensures rebuilt { OnOk result (asked.Rebuilds (loops.table_of self.old) work (asked.rebuilt commits.now reads.now) (loops.table_of self.new)) }
-        ensures unchanged { OnErr result (loops.table_of self.new ≡ loops.table_of self.old) }
+        requires { IsSound self.old }
+        ensures rebuilt { OnOk result (asked.Rebuilds (table_of self.old) work (asked.rebuilt commits.now reads.now) (table_of self.new)) }
+        ensures unchanged { OnErr result (table_of self.new ≡ table_of self.old) }
+        ensures sound_after { IsSound self.new }
     {
         let wants = unit_wants(alloc, commits, reads)?;
-        self.prepared.reserve(1)?;
-        add_locks(&mut self.locks, work, &wants)?;
-        self.prepared.push_reserved(work);
+        self.make_room(alloc, &wants)?;
+        self.works.enter(alloc, work, wants.len())?;
+        self.add_all(work, &wants);
+        self.works.prepare(work);
         Ok(())
-    }
-
-    /// Forgets a work.
-    pub(crate) fn release(&mut self, work: WorkId)
-        ensures { asked.Releases (loops.table_of self.old) work (loops.table_of self.new) }
-    {
-        drop_locks(&mut self.locks, work);
-        forget_work(&mut self.vulnerable, work);
-        forget_work(&mut self.prepared, work);
     }
 }
 
-/// Who holds the unit, and how.
-pub(crate) fn holders_in(
-    alloc: Global,
-    held: &[Lock],
-    unit: LockUnit,
-) -> Result<Vec<(WorkId, Mode)>, AllocError>
-    ensures { IfOk result (λ v. v.items ≡ asked.holders_in held.now unit) }
+/// The work holds these units no more.
+fn drop_units(units: &mut Units, work: WorkId, list: &[LockUnit])
+    ensures { (u : LockUnit) → tables.at units.new u ≡ (if locks.is_unit list.now u then without work (tables.at units.old u) else tables.at units.old u) }
 {
-    let mut holders = Vec::new(alloc);
-    for l in held {
-        if unit_eq(l.unit, unit) {
-            holders.push((l.work, l.mode))?;
-        }
+    for unit in list {
+        units.drop_work(*unit, work);
     }
-    Ok(holders)
 }

@@ -5,13 +5,18 @@
 #![tactic(auto)]
 
 mod broken;
-mod changes;
 mod held;
+mod holders;
+mod modes;
 mod order;
+mod search;
 mod table;
 #[cfg(test)]
 mod tests;
+mod units;
+mod wants;
 mod words;
+mod works;
 
 pub use table::{Granted, LockTable};
-pub use words::{Broken, Conflict, Lock, LockFault, Mode, Want};
+pub use words::{Broken, Conflict, LockFault, Mode, Standing, Want};

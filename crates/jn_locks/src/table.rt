@@ -1,12 +1,14 @@
 //! The lock table as its users see it.
 
-ghost use Rattle.std.specs.Prelude.{◌≡◌, ◌||◌, [], IfOk, IfErr, OnOk, OnErr, MatchResult};
+ghost use Rattle.std.specs.Prelude.{◌≡◌, None, false, IfOk, IfErr, OnOk, OnErr, MatchResult};
 ghost use Rattle.jn_base.specs.declared.names.WorkId.{WorkId};
-ghost use Rattle.jn_base.specs.Names.{work_eq};
-ghost use Rattle.jn_locks.specs.Locks.{wanted, commit_wants, is_vulnerable};
-ghost use Rattle.jn_locks.specs.Asked.{Asks, Commits, Rebuilds, Releases, Fits, NoConflict, IsRefusal, IsConflictFault, rebuilt, holders_in};
+ghost use Rattle.jn_base.specs.declared.names.LockUnit.{LockUnit};
+ghost use Rattle.jn_locks.specs.declared.words.Mode.{Mode};
+ghost use Rattle.jn_locks.specs.Locks.{wanted, commit_wants, IsCompatible};
+ghost use Rattle.jn_locks.specs.Asked.{Asks, Commits, Rebuilds, Releases, Exposes, Fits, NoConflict, IsRefusal, IsConflictFault, AreHolders, rebuilt};
+ghost use Rattle.jn_locks.specs.Tables.{table_of, IsSound};
 
-use crate::held::{Held, Wanted, holders_in, is_listed};
+use crate::held::Held;
 use crate::words::{Broken, LockFault, Mode, Want};
 use jn_base::{LockUnit, WorkId};
 use std::alloc::{AllocError, Global};
@@ -35,42 +37,34 @@ impl Granted {
     }
 }
 
-/// Which work holds which unit in which mode. No two works hold modes that don't go together.
+/// Which work holds which unit in which mode, and how each work stands that is known. No two works hold modes that don't go
+/// together. A work is known from its first granted request, which may want nothing, or its rebuild, until it is released
+/// or broken.
 #[derive(Drop)]
 pub struct LockTable {
     held: Held,
-}
-
-impl Model for LockTable {
-    ghost use Rattle.jn_locks.specs.Locks.{Table, IsCompatible};
-    ghost use Rattle.jn_locks.specs.Loops.{table_of};
-
-    ghost Value = { Table };
-
-    ghost view = { λ a. table_of a.held };
-
-    ghost invariant = { λ a. IsCompatible (table_of a.held) };
+    ghost compatible: { IsCompatible (table_of held) },
+    ghost sound: { IsSound held },
 }
 
 impl LockTable {
-    /// Nothing is held.
+    ghost use Rattle.jn_locks.specs.LockTables.{table};
+
+    /// Nothing is held, and no work is known.
     pub fn new(alloc: Global) -> LockTable
-        ensures { result ≡ record { locks = []; vulnerable = []; prepared = [] } }
+        ensures holds { (V : WorkId) (u : LockUnit) (m : Mode) → (table result).holds V u m ≡ false }
+        ensures standing { (V : WorkId) → (table result).standing V ≡ None }
     {
         LockTable {
-            held: Held {
-                locks: Vec::new(alloc),
-                vulnerable: Vec::new(alloc),
-                prepared: Vec::new(alloc),
-            },
+            held: Held::new(alloc),
         }
     }
 
     /// Grants all that the work wants, and breaks the vulnerable works in the way, or changes nothing.
     pub fn ask(&mut self, alloc: Global, work: WorkId, wants: &[Want]) -> Result<Granted, LockFault>
-        ensures granted { IfOk result (λ bs. Asks self.old work (wanted wants.now) bs self.new) }
-        ensures refused { IfErr result (IsRefusal self.old work (wanted wants.now)) }
-        ensures unchanged { OnErr result (self.new ≡ self.old) }
+        ensures granted { IfOk result (λ bs. Asks (table self.old) work (wanted wants.now) bs (table self.new)) }
+        ensures refused { IfErr result (IsRefusal (table self.old) work (wanted wants.now)) }
+        ensures unchanged { OnErr result (table self.new ≡ table self.old) }
     {
         let broken = self.held.ask(alloc, work, wants)?;
         Ok(Granted { broken })
@@ -79,9 +73,9 @@ impl LockTable {
     /// Turns the work's locks for intention-write into commit locks, and breaks the vulnerable works in the way, or
     /// changes nothing.
     pub fn to_commit(&mut self, alloc: Global, work: WorkId) -> Result<Granted, LockFault>
-        ensures granted { IfOk result (λ bs. Commits self.old work (commit_wants self.old work) bs self.new) }
-        ensures refused { IfErr result (IsRefusal self.old work (commit_wants self.old work)) }
-        ensures unchanged { OnErr result (self.new ≡ self.old) }
+        ensures granted { IfOk result (λ bs. Commits (table self.old) work (commit_wants (table self.old) work) bs (table self.new)) }
+        ensures refused { IfErr result (IsRefusal (table self.old) work (commit_wants (table self.old) work)) }
+        ensures unchanged { OnErr result (table self.new ≡ table self.old) }
     {
         let broken = self.held.commit(alloc, work)?;
         Ok(Granted { broken })
@@ -89,9 +83,9 @@ impl LockTable {
 
     /// Whether `to_commit` would find no conflict; the error is a conflict.
     pub fn test_commit(&self, work: WorkId) -> Result<(), LockFault>
-        ensures { MatchResult result (λ _. NoConflict self.now work (commit_wants self.now work)) (IsConflictFault self.now work (commit_wants self.now work)) }
+        ensures { MatchResult result (λ _. NoConflict (table self.now) work (commit_wants (table self.now) work)) (IsConflictFault (table self.now) work (commit_wants (table self.now) work)) }
     {
-        self.held.test(work, Wanted::ForCommit)
+        self.held.test_commit(work)
     }
 
     /// The work is prepared, as a restart finds it: it holds commit locks on the units that it writes and reads the
@@ -103,39 +97,31 @@ impl LockTable {
         commits: &[LockUnit],
         reads: &[LockUnit],
     ) -> Result<(), AllocError>
-        requires { Fits self.old work (rebuilt commits.now reads.now) }
-        ensures rebuilt { OnOk result (Rebuilds self.old work (rebuilt commits.now reads.now) self.new) }
-        ensures unchanged { OnErr result (self.new ≡ self.old) }
+        requires { Fits (table self.old) work (rebuilt commits.now reads.now) }
+        ensures rebuilt { OnOk result (Rebuilds (table self.old) work (rebuilt commits.now reads.now) (table self.new)) }
+        ensures unchanged { OnErr result (table self.new ≡ table self.old) }
     {
-        self.held.rebuild(alloc, work, commits, reads)?;
-        Ok(())
+        self.held.rebuild(alloc, work, commits, reads)
     }
 
-    /// From now on the work gives way, unless it is prepared.
-    pub fn make_vulnerable(&mut self, work: WorkId) -> Result<(), AllocError>
-        ensures added { IfOk result (λ _. (V : WorkId) → is_vulnerable self.new V ≡ (work_eq work V || is_vulnerable self.old V)) }
-        ensures locks { self.new.locks ≡ self.old.locks }
-        ensures prepared { self.new.prepared ≡ self.old.prepared }
-        ensures unchanged { OnErr result (self.new ≡ self.old) }
+    /// From now on the work gives way, if it is known and not prepared.
+    pub fn make_vulnerable(&mut self, work: WorkId)
+        ensures { Exposes (table self.old) work (table self.new) }
     {
-        if is_listed(&self.held.vulnerable, work) {
-            return Ok(());
-        }
-        self.held.vulnerable.push(work)?;
-        Ok(())
+        self.held.works.make_vulnerable(work);
     }
 
     /// Forgets the work.
     pub fn release(&mut self, work: WorkId)
-        ensures { Releases self.old work self.new }
+        ensures { Releases (table self.old) work (table self.new) }
     {
         self.held.release(work);
     }
 
-    /// Who holds the unit, and how.
+    /// Who holds the unit, and how: each lock once.
     pub fn holders(&self, alloc: Global, unit: LockUnit) -> Result<Vec<(WorkId, Mode)>, AllocError>
-        ensures { IfOk result (λ v. v.items ≡ holders_in self.now.locks unit) }
+        ensures { IfOk result (λ v. AreHolders (table self.now) unit v.items) }
     {
-        holders_in(alloc, &self.held.locks, unit)
+        self.held.holders(alloc, unit)
     }
 }

@@ -70,9 +70,9 @@ fn first_unit_and_least_holder(rt: HostRuntime) -> Result<(), Fail> {
     let found = table.to_commit(rt.alloc(), work(6)).err();
     assert_eq!(rt; found, Some(LockFault::Conflict(three)));
     assert_eq!(rt; table.holders(rt.alloc(), three.unit)?.len(), 3);
-    table.make_vulnerable(work(4))?;
-    table.make_vulnerable(work(5))?;
-    table.make_vulnerable(work(1))?;
+    table.make_vulnerable(work(4));
+    table.make_vulnerable(work(5));
+    table.make_vulnerable(work(1));
     let granted = table.to_commit(rt.alloc(), work(6))?;
     let broken = [
         Broken {
@@ -103,7 +103,7 @@ fn prepared_again(rt: HostRuntime) -> Result<(), Fail> {
     let mut table = LockTable::new(rt.alloc());
     let block = LockUnit::Block(FileNo(7), BlockNo(1));
     table.rebuild(rt.alloc(), work(1), &[block], &[LockUnit::File(FileNo(7))])?;
-    table.make_vulnerable(work(1))?;
+    table.make_vulnerable(work(1));
     let read = Want {
         unit: block,
         mode: Mode::Read,

@@ -1,4 +1,4 @@
-//! Modes, wants, locks and what stands in their way.
+//! Modes, wants and what stands in their way.
 
 use jn_base::{LockUnit, WorkId};
 use std::alloc::AllocError;
@@ -11,6 +11,16 @@ pub enum Mode {
     Commit,
 }
 
+/// How a work stands that the table knows.
+#[derive(Clone, Copy, Debug, PartialEq, Eq)]
+pub enum Standing {
+    Active,
+    /// It gives way to others.
+    Vulnerable,
+    /// It is to be carried out or dropped, and never gives way.
+    Prepared,
+}
+
 /// A lock that a work asks for.
 #[derive(Clone, Copy, Debug, PartialEq, Eq)]
 pub struct Want {
@@ -18,12 +28,19 @@ pub struct Want {
     pub mode: Mode,
 }
 
-/// A lock that a work holds.
+/// The modes in which a work holds a unit.
 #[derive(Clone, Copy, Debug, PartialEq, Eq)]
-pub struct Lock {
-    pub work: WorkId,
-    pub unit: LockUnit,
-    pub mode: Mode,
+pub(crate) struct Modes {
+    pub(crate) read: bool,
+    pub(crate) intention_write: bool,
+    pub(crate) commit: bool,
+}
+
+/// A work that holds a unit.
+#[derive(Clone, Copy, Debug, PartialEq, Eq)]
+pub(crate) struct Holder {
+    pub(crate) work: WorkId,
+    pub(crate) modes: Modes,
 }
 
 /// The first wanted unit that another work holds in a mode that doesn't go with a wanted one, and the least such work.

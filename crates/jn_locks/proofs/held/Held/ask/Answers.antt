@@ -1,8 +1,33 @@
-use Rattle.jn_locks.specs.Loops.{table_of}
-use Rattle.jn_locks.proofs.Changed.{asks_from}
+use Rattle.std.proofs.Common.{false, List, None, Some, ap, ◌∙◌}
+use Rattle.std.specs.Prelude.{◌||◌, ◌&&◌, if◌then◌else◌}
+use Rattle.jn_base.specs.Names.{work_eq}
+use Rattle.jn_locks.specs.declared.words.Broken.{Broken}
+use Rattle.jn_locks.specs.declared.words.Holder.{Holder}
+use Rattle.jn_locks.specs.declared.works.Works.{Works}
+use Rattle.jn_locks.specs.Locks.{wanted, or_active}
+use Rattle.jn_locks.specs.Holders.{holds_in}
+use Rattle.jn_locks.specs.Asked.{is_broken}
+use Rattle.jn_locks.specs.Tables.{table_of, standing_of}
+use Rattle.jn_locks.proofs.Intends.{after_break, or_wanted}
+use Rattle.jn_locks.proofs.Breaks.{not_self}
 use Rattle.jn_locks.proofs.held.Held.ask.Goals as goal
 
 pub returns-clause-granted : goal.returns-clause-granted
 returns-clause-granted c =
-    asks_from (table_of c.args.self.now) c.args.work c.in_ok-broken.broken.items _ _ c.deref.ensures.value c.deref-2.ensures.value c.add_locks.new.held.items _ _ c.forget_broken.ensures
-    c.args.wants.now c.in_ok-test.ensures c.in_ok-broken.ensures c.in_ok-add_locks.ensures.added c.drop_broken.ensures
+    let t = table_of c.args.self.now in
+    let bs = c.in_ok-broken.broken.items in
+    let itself = not_self t c.args.work (wanted c.args.wants.now) bs c.in_ok-broken.ensures in
+    record {
+      free = c.in_ok-test.ensures;
+      broken = c.in_ok-broken.ensures;
+      grants = record {
+        locks = λ V u m. after_break bs c.args.work itself false V _ _ _ _
+            (c.break_all.ensures.holds V u m ∙ ap (λ (b : List Broken). if is_broken b V then false else (table_of c.add_all.new.self).holds V u m) c.deref.ensures.value)
+            (c.add_all.ensures.holds V u m ∙ ap (λ (hs : List Holder). holds_in hs V m || (work_eq c.args.work V && wanted c.args.wants.now u m)) (c.in_ok-make_room.ensures.at u)
+            ∙ or_wanted t.holds c.args.work V u m (wanted c.args.wants.now u m));
+        standing = λ V. after_break bs c.args.work itself None V _ _ _ _
+            (c.break_all.ensures.standing V ∙ ap (λ (b : List Broken). if is_broken b V then None else (table_of c.add_all.new.self).standing V) c.deref.ensures.value)
+            (c.add_all.ensures.standing V ∙ c.in_ok-enter.ensures.standing V
+            ∙ ap (λ (s : Works). if work_eq c.args.work V then Some (or_active (standing_of s c.args.work)) else standing_of s V) c.in_ok-make_room.ensures.works);
+      };
+    }

@@ -1,9 +1,8 @@
 use Rattle.std.proofs.Common.{◌≡◌, drop, []}
-use Rattle.jn_locks.specs.Loops.{table_of, wants_of, all_broken, lock_yields}
+use Rattle.jn_locks.specs.Tables.{table_of, at}
+use Rattle.jn_locks.specs.Loops.{all_broken, makes_way, collisions}
 use Rattle.jn_locks.proofs.held.Held.broken.Given as goal
 
-abbrev pub invariant-loop-lock : goal.invariant-loop-lock
-invariant-loop-lock l =
-    let t = table_of l.self in
-    let test = lock_yields t l.work (wants_of t l.work l.wanted) in
-    all_broken test l.broken.items (drop l.lock-index t.locks) ≡ all_broken test [] t.locks
+abbrev pub invariant-loop-want : goal.invariant-loop-want
+invariant-loop-want l =
+    all_broken (makes_way (table_of l.self)) l.broken.items (collisions (at l.self.units) l.work (drop l.want-index l.wants)) ≡ all_broken (makes_way (table_of l.self)) [] (collisions (at l.self.units) l.work l.wants)

@@ -1,0 +1,9 @@
+use Rattle.std.proofs.Common.{◌≡◌, ◌++◌, drop}
+use Rattle.jn_locks.specs.Tables.{at, units_of}
+use Rattle.jn_locks.specs.Loops.{intentions}
+use Rattle.jn_locks.proofs.held.Held.commit_wants.Given as goal
+
+abbrev pub invariant-loop-unit : goal.invariant-loop-unit
+invariant-loop-unit l =
+    let us = units_of l.self.works l.work in
+    l.wants.items ++ intentions (at l.self.units) l.work (drop l.unit-index us) ≡ intentions (at l.self.units) l.work us

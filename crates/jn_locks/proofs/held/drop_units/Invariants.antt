@@ -1,0 +1,8 @@
+use Rattle.std.proofs.Common.{◌≡◌, drop}
+use Rattle.jn_base.specs.declared.names.LockUnit.{LockUnit}
+use Rattle.jn_locks.specs.Tables.{at}
+use Rattle.jn_locks.proofs.Steps.{dropped_in}
+use Rattle.jn_locks.proofs.held.drop_units.Given as goal
+
+abbrev pub invariant-loop-unit : goal.invariant-loop-unit
+invariant-loop-unit l = (u : LockUnit) → dropped_in (at l.units) l.work (drop l.unit-index l.list) u ≡ dropped_in (at l.fn.units) l.work l.list u

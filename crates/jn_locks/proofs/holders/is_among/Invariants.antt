@@ -1,0 +1,6 @@
+use Rattle.std.proofs.Common.{◌≡◌, drop}
+use Rattle.jn_locks.specs.Holders.{is_among}
+use Rattle.jn_locks.proofs.holders.is_among.Given as goal
+
+abbrev pub invariant-loop-h : goal.invariant-loop-h
+invariant-loop-h l = is_among (drop l.h-index l.all) l.work ≡ is_among l.all l.work
