@@ -1,0 +1,7 @@
+pub mod Stable
+pub mod Client
+pub mod Outcomes
+pub mod Worker
+pub mod Coordinator
+pub mod Examples
+pub mod ClientLaws
