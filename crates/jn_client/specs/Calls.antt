@@ -1,0 +1,61 @@
+-- What the calls of a client give.
+use Rattle.std.specs.Prelude.{◌≡◌, ℕ, Bool, true, nat_eq, nat_lt, ◌+◌, ◌&&◌, if◌then◌else◌, List, [], ◌∷◌, Option, Some, None, Result, Ok, Err}
+use Rattle.jn_base.specs.declared.names.ClientNo.{ClientNo}
+use Rattle.jn_base.specs.declared.names.Party.{Party}
+use Rattle.jn_base.specs.declared.op.Command.{Command}
+use Rattle.jn_base.specs.declared.op.Command.TheVariants.{Do}
+use Rattle.jn_base.specs.Names.{client_eq}
+use Rattle.jn_base.specs.declared.names.Cause.{Cause}
+use Rattle.jn_msgs.specs.declared.message.Message.{Message}
+use Rattle.jn_msgs.specs.declared.message.Outcome.{Outcome}
+use Rattle.jn_msgs.specs.declared.message.Outcome.TheVariants.{Committed, Aborted}
+use Rattle.jn_rows.specs.declared.client.OpenWork.{OpenWork}
+use Rattle.jn_rows.specs.declared.client.Outstanding.{Outstanding}
+use Rattle.jn_rows.specs.Client.{ClientTable, Commanded, Refuses, Sends, with_operation}
+use Rattle.jn_client.specs.declared.words.CommandFault.{CommandFault}
+use Rattle.jn_client.specs.declared.words.CommandFault.TheVariants.{Refused, Memory}
+
+-- a command whose row this is: what it gives, and the table after it; without memory nothing changes
+abbrev pub Gives : Commanded → ClientTable → Result (Option (Party × Message)) CommandFault → ClientTable → Type 0
+Gives row t (Ok (Some m)) t' = row ≡ Sends t' m.0 m.1
+Gives row t (Ok None) t' = ⊥
+Gives row t (Err (Refused refusal)) t' = (row ≡ Refuses refusal) × (t' ≡ t)
+Gives row t (Err Memory) t' = t' ≡ t
+
+-- the table once the message of a command is sent
+abbrev pub works_after : Command → List OpenWork → List OpenWork
+works_after (Do s op) ws = with_operation s ws
+works_after c ws = ws
+
+abbrev pub sent_table : ClientTable → ℕ → Command → Party → Message → ClientTable
+sent_table t j command to m = record t {
+  works = works_after command t.works;
+  next = t.next + 1;
+  outstanding = Some (record { event = j; request = t.next; command = command; to = to; message = m });
+}
+
+-- the message of a command, or its refusal
+abbrev pub Asks : (ℕ → Commanded) → ClientTable → Command → Result (Party × Message) CommandFault → Type 0
+Asks row t command (Ok m) = (j : ℕ) → row j ≡ Sends (sent_table t j command m.0 m.1) m.0 m.1
+Asks row t command (Err (Refused refusal)) = (j : ℕ) → row j ≡ Refuses refusal
+Asks row t command (Err Memory) = Unit {0}
+
+-- the event and the command of the outstanding request, where a client's message replies to it
+abbrev pub replied_to : ClientNo → Option Outstanding → ClientNo → ℕ → Option (ℕ × Command)
+replied_to me None client request = None
+replied_to me (Some o) client request = if client_eq client me && nat_eq o.request request then Some (o.event, o.command) else None
+
+-- the event of the outstanding command, where it passes the test
+abbrev pub event_where : (Command → Bool) → Option Outstanding → Option ℕ
+event_where test None = None
+event_where test (Some o) = if test o.command then Some o.event else None
+
+-- no work has had as many operations
+abbrev pub are_below : ℕ → List OpenWork → Bool
+are_below n [] = true
+are_below n (w ∷ ws) = nat_lt w.last n && are_below n ws
+
+-- committed, or aborted for a cause
+abbrev pub decision : Option Cause → Outcome
+decision None = Committed
+decision (Some cause) = Aborted cause

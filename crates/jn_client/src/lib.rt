@@ -1,0 +1,12 @@
+//! A client: at most one transaction, and at most one command that it waits for.
+#![tactic(auto)]
+
+mod client;
+mod copies;
+#[cfg(test)]
+mod tests;
+mod words;
+
+pub use client::Client;
+pub use jn_rows::Taken;
+pub use words::CommandFault;
