@@ -1,0 +1,5 @@
+pub mod Laws
+pub mod Listings
+pub mod Intended
+pub mod Kept
+pub mod Seen

@@ -1,0 +1,5 @@
+pub mod Listing
+pub mod Orderly
+pub mod Storage
+pub mod Calls
+pub mod Viewing

@@ -1,0 +1,50 @@
+//! Why a work isn't prepared, or a flag not promised.
+
+ghost use Rattle.std.specs.Prelude.{◌≡◌};
+
+use jn_base::Short;
+use std::alloc::AllocError;
+
+/// Why a work isn't prepared. Only after `Stopped` may anything have changed.
+#[derive(Clone, Copy, Debug, PartialEq, Eq, Drop)]
+pub enum PrepareFault {
+    /// Too few slots for records are free and not promised.
+    Records(Short),
+    /// Too few data pages are free.
+    Pages(Short),
+    /// Too few heads are free and not promised.
+    Heads(Short),
+    /// The device has no power.
+    Stopped,
+    /// There is no memory for it.
+    Memory,
+}
+
+/// Why no record is promised for a flag. Nothing has changed.
+#[derive(Clone, Copy, Debug, PartialEq, Eq, Drop)]
+pub enum PromiseFault {
+    /// No slot for a record is free and not promised.
+    Short(Short),
+    /// There is no memory for the flag.
+    Memory,
+}
+
+impl From<AllocError> for PrepareFault {
+    ghost use Rattle.jn_storage.specs.declared.faults.PrepareFault.TheVariants.{Memory};
+
+    ghost from_gives = { λ _ e. e ≡ Memory };
+
+    fn from(_e: AllocError) -> PrepareFault {
+        PrepareFault::Memory
+    }
+}
+
+impl From<AllocError> for PromiseFault {
+    ghost use Rattle.jn_storage.specs.declared.faults.PromiseFault.TheVariants.{Memory};
+
+    ghost from_gives = { λ _ e. e ≡ Memory };
+
+    fn from(_e: AllocError) -> PromiseFault {
+        PromiseFault::Memory
+    }
+}

@@ -1,0 +1,90 @@
+// Stored files seen through the list of a work that isn't prepared yet.
+ghost use Rattle.std.specs.Prelude.{◌≡◌, ◌<◌, ◌+◌, ◌^◌, length, count_by};
+ghost use Rattle.jn_order.specs.Files.{file_of, zeros};
+ghost use Rattle.jn_records.specs.NetLists.{needs_a_head, block_of};
+ghost use Rattle.jn_storage.specs.Storage.{IsServing, file_there, needed};
+ghost use Rattle.jn_storage.specs.Calls.{state};
+ghost use Rattle.jn_storage.specs.Viewing.{BlockInRange, Viewed, ReadOrZeros};
+
+use crate::StoredFiles;
+use jn_base::{Answer, Block, BlockNo, FileNo, Op, Stopped};
+use jn_records::{Intention, Need, NetList, needs_head, puts_in};
+
+/// The answer to an operation on the files with the list's intentions carried out. The device is asked
+/// only for a stored block of which the list says nothing.
+pub fn view<W: StoredFiles>(net: &NetList, files: &mut W, op: &Op) -> Result<Answer, Stopped>
+    requires serving { IsServing (W.view files.old) }
+    requires range { BlockInRange op.now }
+    ensures viewed { Viewed net.now (W.view files.old) op.now result (W.view files.new) }
+{
+    let stored = files.file_there(file_of(op));
+    if let Some(answer) = net.answer(op, stored) {
+        return Ok(answer);
+    }
+    let block = read_or_zeros(files, file_of(op), block_of(op))?;
+    Ok(Answer::Read(block))
+}
+
+/// What a list needs where it is prepared.
+pub fn need<W: StoredFiles>(list: &[Intention], files: &W) -> Need
+    requires serving { IsServing (W.view files.now) }
+    requires length { length list.now + 1 < 2 ^ 32 }
+    ensures { result ≡ needed (state (W.view files.now)) list.now }
+{
+    Need {
+        records: list.len() as u32 + 1,
+        heads: heads_needed(list, files),
+        pages: puts_in(list),
+    }
+}
+
+/// How many fresh files of a list aren't there.
+fn heads_needed<W: StoredFiles>(list: &[Intention], files: &W) -> u32
+    requires serving { IsServing (W.view files.now) }
+    requires length { length list.now < 2 ^ 32 }
+    ensures { result ≡ count_by (λ i. needs_a_head (file_there (state (W.view files.now)).files i.file) i) list.now }
+{
+    let mut heads = 0;
+    for intention in list {
+        if needs_head(intention, files.file_there(intention.file)) {
+            heads += 1;
+        }
+    }
+    heads
+}
+
+fn file_of(op: &Op) -> FileNo
+    ensures { result ≡ file_of op.now }
+{
+    match op {
+        Op::Create(f) | Op::Remove(f) | Op::Cut(f, _) | Op::Read(f, _) | Op::Write(f, _, _) => *f,
+    }
+}
+
+fn block_of(op: &Op) -> BlockNo
+    ensures { result ≡ block_of op.now }
+{
+    match op {
+        Op::Create(_) | Op::Remove(_) => BlockNo(0),
+        Op::Cut(_, p) | Op::Read(_, p) | Op::Write(_, p, _) => *p,
+    }
+}
+
+fn zeros() -> Block
+    ensures { result ≡ zeros }
+{
+    [0; 448]
+}
+
+/// A stored block, or zeros where none is stored, without asking the device.
+fn read_or_zeros<W: StoredFiles>(files: &mut W, f: FileNo, p: BlockNo) -> Result<Block, Stopped>
+    requires serving { IsServing (W.view files.old) }
+    requires range { p.0 < 120 }
+    ensures read { ReadOrZeros (W.view files.old) f p result (W.view files.new) }
+{
+    if !files.mapped(f, p) {
+        return Ok(zeros());
+    }
+    let block = files.read_block(f, p)?;
+    Ok(block.unwrap_or(zeros()))
+}
