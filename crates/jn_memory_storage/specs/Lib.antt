@@ -1,0 +1,4 @@
+pub mod Find
+pub mod Memory
+pub mod Inside
+pub mod Carried
