@@ -1,0 +1,54 @@
+-- Lists by slot, and the index that numbers them.
+use Rattle.std.proofs.Common.{◌≡◌, ◌⊎◌, inr, ⊎_elim, ◌≤◌, ◌<◌, ℕ, zero, suc, ◌+◌, Bool, true, false, List, [], ◌∷◌, ◌++◌, length, None, Some, refl, sym, ◌∙◌, ap, subst, arith}
+use Rattle.std.proofs.lemmas.Bool.Decides.{nat_tests}
+use Rattle.std.proofs.lemmas.List.Sums.{length-filter}
+use Rattle.std.specs.Prelude.{nat_eq, nat_lt, slice_set, position, filter, count_by}
+use Rattle.std.specs.List.{enumerate_from, position_or_len}
+use Rattle.std.specs.Map.{values_of, lookup}
+use Rattle.indexmap.specs.IndexMap.{IndexMap, set_value_at, insert_entry}
+use Rattle.indexmap.proofs.CallerLemmas.{insert_entry-new}
+
+-- a value of the index is changed in its place
+pub set_numbered : {X : Type 0} (xs : List X) (n i : ℕ) (w : X) → set_value_at (enumerate_from n xs) i w ≡ enumerate_from n (slice_set xs i w)
+set_numbered [] n i w = refl
+set_numbered (x ∷ xs) n zero w = refl
+set_numbered (x ∷ xs) n (suc i) w = ap (λ l. (n, x) ∷ l) (set_numbered xs (n + 1) i w)
+
+pub values_set : {K X : Type 0} (es : List (K × X)) (i : ℕ) (w : X) → values_of (set_value_at es i w) ≡ slice_set (values_of es) i w
+values_set [] i w = refl
+values_set (e ∷ es) zero w = refl
+values_set (e ∷ es) (suc i) w = ap (λ l. e.1 ∷ l) (values_set es i w)
+
+-- the next value goes last
+pub push_numbered : {X : Type 0} (xs : List X) (n : ℕ) (x : X) → enumerate_from n (xs ++ x ∷ []) ≡ enumerate_from n xs ++ (n + length xs, x) ∷ []
+push_numbered [] n x = ap (λ k. (k, x) ∷ []) (omega arith)
+push_numbered (y ∷ xs) n x = ap (λ l. (n, y) ∷ l) (push_numbered xs (n + 1) x ∙ ap (λ k. enumerate_from (n + 1) xs ++ (k, x) ∷ []) (omega arith))
+
+pub values_push : {K X : Type 0} (es : List (K × X)) (k : K) (x : X) → values_of (es ++ (k, x) ∷ []) ≡ values_of es ++ x ∷ []
+values_push [] k x = refl
+values_push (e ∷ es) k x = ap (λ l. e.1 ∷ l) (values_push es k x)
+
+-- either one passes, and then one is counted, or none is
+counted : {X : Type 0} (test : X → Bool) (xs : List X) → ((position_or_len test xs < length xs) × (0 < length (filter test xs))) ⊎ ((position_or_len test xs ≡ length xs) × (length (filter test xs) ≡ 0))
+counted test [] = inr (refl, refl)
+counted test (x ∷ xs) = by (test x) refl (counted test xs)
+  where
+    by : (b : Bool) → test x ≡ b → ((position_or_len test xs < length xs) × (0 < length (filter test xs))) ⊎ ((position_or_len test xs ≡ length xs) × (length (filter test xs) ≡ 0))
+        → ((position_or_len test (x ∷ xs) < length (x ∷ xs)) × (0 < length (filter test (x ∷ xs)))) ⊎ ((position_or_len test (x ∷ xs) ≡ length (x ∷ xs)) × (length (filter test (x ∷ xs)) ≡ 0))
+    by b e rest = grind (arith, nat_tests)
+
+pub none_counted : {X : Type 0} (test : X → Bool) (xs : List X) → position test xs ≡ None → count_by test xs ≡ 0
+none_counted test xs none = sym (length-filter test xs) ∙ ⊎_elim (λ h. let t : nat_lt (position_or_len test xs) (length xs) ≡ true = grind (arith, nat_tests, h.0) in absurd (cc (t, none))) (λ h. h.1) (counted test xs)
+
+pub some_counted : {X : Type 0} (test : X → Bool) (xs : List X) (i : ℕ) → position test xs ≡ Some i → 0 < count_by test xs
+some_counted test xs i some = subst (λ n. 0 < n) (length-filter test xs) (⊎_elim (λ h. h.1) (λ h. let t : nat_lt (position_or_len test xs) (length xs) ≡ false = grind (arith, nat_tests, h.0) in absurd (cc (t, some))) (counted test xs))
+
+-- the index doesn't have a slot past its last
+absent_past : {X : Type 0} (xs : List X) (n k : ℕ) → n + length xs ≤ k → lookup (nat_eq k) (enumerate_from n xs) ≡ None
+absent_past [] n k past = refl
+absent_past (x ∷ xs) n k past =
+    let t : nat_eq k n ≡ false = grind (arith, nat_tests, past) in
+    rw t (absent_past xs (n + 1) k (omega (arith, past)))
+
+pub index_push : {X S : Type 0} (m : IndexMap ℕ X S) (n : ℕ) (x : X) → m.entries ≡ enumerate_from 0 (values_of m.entries) → length (values_of m.entries) ≡ n → insert_entry nat_eq m.entries n x ≡ m.entries ++ (n, x) ∷ []
+index_push m n x numbered long = insert_entry-new nat_eq m n x (ap (lookup (nat_eq n)) numbered ∙ absent_past (values_of m.entries) 0 n (omega (arith, long)))

@@ -1,0 +1,131 @@
+-- How what a store's pool holds goes on over a put.
+use Rattle.std.proofs.Common.{◌≡◌, ◌≢◌, ◌⊎◌, inl, inr, ⊎_elim, ℕ, ◌^◌, ◌<◌, Bool, true, false, List, length, Some, refl, sym, ◌∙◌, ap, subst, arith}
+use Rattle.std.proofs.lemmas.Bool.{cases_eq, cases_lt}
+use Rattle.std.proofs.lemmas.List.{get_or_past, get_or-set_same, get_or-set_other, length-set}
+use Rattle.std.specs.Prelude.{slice_set}
+use Rattle.std.specs.List.{enumerate_from}
+use Rattle.std.specs.Map.{values_of}
+use Rattle.indexmap.specs.IndexMap.{set_value_at}
+use Rattle.jn_records.specs.declared.record.Record.{Record}
+use Rattle.jn_records.specs.declared.record.Record.TheVariants.{Free, Ready}
+use Rattle.jn_records.specs.Records.{record_page, has_page, record_at}
+use Rattle.jn_records.proofs.RecordsAgain.{record_is_read}
+use Rattle.jn_device.specs.Device.{blank_page}
+use Rattle.jn_store.specs.Store.{StoreView, IsOnly, IsSamePage, StorePut}
+use Rattle.jn_store.specs.Choices.{IsChoice, Leads, with_page}
+use Rattle.jn_store.proofs.Choices.{choice_only, put_leads, with_same, with_other}
+use Rattle.jn_sets.specs.Pool.{page_of, is_ready, going_of, ready_of, record_in, members_in, IsRecord, IsReadable, IsStored, Holds, Says}
+use Rattle.jn_sets.specs.Sets.{IsIndex, Puts}
+use Rattle.jn_sets.proofs.Slots.{set_numbered, values_set}
+
+-- a record is read again from its page
+pub page_says : (pages : ℕ → List ℕ) (slot : ℕ) (r : Record) → IsRecord r → pages (page_of slot) ≡ record_page r → members_in pages slot ≡ Some r
+page_says pages slot r is e = record_is_read (pages (page_of slot)) r is.whole is.fits e
+
+-- each choice says what the pool holds
+pub holds_says : (records : List Record) (v : StoreView) (d : ℕ → List ℕ) → length records < v.count → Holds records v → IsChoice v d → Says d records
+holds_says records v d there holds choice slot below =
+    let stored = holds slot below in
+    page_says d slot (record_in records slot) stored.of_format (choice_only v d (page_of slot) (record_page (record_in records slot)) choice (omega arith) stored.only)
+
+pub same_stored : (v w : StoreView) (slot : ℕ) (r : Record) → IsSamePage v w (page_of slot) → IsStored v slot r → IsStored w slot r
+same_stored v w slot r same stored = record {
+  of_format = stored.of_format;
+  only = record { first = same.first ∙ stored.only.first; second = same.second ∙ stored.only.second };
+}
+
+module _ (old : List Record) (v : StoreView) (slot : ℕ) (value : Record) (ok : Bool) (w : StoreView)
+    (put : StorePut v (page_of slot) (record_page value) ok w) (is : IsRecord value) (below : slot < length old) (there : length old < v.count) (holds : Holds old v) where
+  in_set : (j : ℕ) → j ≡ slot → record_in (slice_set old slot value) j ≡ value
+  in_set j e = subst (λ k. record_in (slice_set old slot value) k ≡ value) (sym e) (get_or-set_same old slot value Free below)
+
+  out_of_set : (j : ℕ) → j ≢ slot → record_in (slice_set old slot value) j ≡ record_in old j
+  out_of_set j ne = get_or-set_other old slot j value Free ne
+
+  within : (j : ℕ) → j < length (slice_set old slot value) → j < length old
+  within j lt = subst (λ n. j < n) (length-set old slot value) lt
+
+  pub new_holds : ok ≡ true → Holds (slice_set old slot value) w
+  new_holds done j lt = elim (cases_eq j slot) [
+    | inl e ↦ subst (IsStored w j) (sym (in_set j e)) (record { of_format = is; only = subst (λ k. IsOnly w (page_of k) (record_page value)) (sym e) (put.done done) })
+    | inr ne ↦ subst (IsStored w j) (sym (out_of_set j ne)) (same_stored v w j (record_in old j) (put.others (page_of j) (omega (arith, within j lt)) (λ e. ne (omega (arith, e)))) (holds j (within j lt)))
+  ]
+
+  says_old : (d : ℕ → List ℕ) → Leads v (λ c. c) d → Says d old
+  says_old d leads j lt = ap record_at (leads.2 (page_of j) (omega arith)) ∙ holds_says old v leads.0 there holds leads.1 j lt
+
+  says_new : (d : ℕ → List ℕ) → Leads v (λ c. with_page c (page_of slot) (record_page value)) d → Says d (slice_set old slot value)
+  says_new d leads j lt = elim (cases_eq j slot) [
+    | inl e ↦ page_says d j value is (leads.2 (page_of j) (omega (arith, within j lt)) ∙ with_same leads.0 (page_of slot) (record_page value) (page_of j) (ap page_of (sym e))) ∙ ap (λ (r : Record). Some r) (sym (in_set j e))
+    | inr ne ↦ ap record_at (leads.2 (page_of j) (omega (arith, within j lt)) ∙ with_other leads.0 (page_of slot) (record_page value) (page_of j) (λ e. ne (omega (arith, e))))
+        ∙ holds_says old v leads.0 there holds leads.1 j (within j lt) ∙ ap (λ (r : Record). Some r) (sym (out_of_set j ne))
+  ]
+
+  pub says_old_or_new : (d : ℕ → List ℕ) → IsChoice w d → Says d old ⊎ Says d (slice_set old slot value)
+  says_old_or_new d choice = ⊎_elim (λ h. inl (says_old d h)) (λ h. inr (says_new d h)) (put_leads v (page_of slot) (record_page value) ok w put (omega arith) d choice)
+
+module _ (old : List Record) (v : StoreView) (slot : ℕ) (value : Record) (w : StoreView) (p : ℕ) (page : List ℕ) (at : p ≡ page_of slot) (spelled : page ≡ record_page value)
+    (is : IsRecord value) (below : slot < length old) (there : length old < v.count) where
+  its_put : (ok : Bool) → StorePut v p page ok w → StorePut v (page_of slot) (record_page value) ok w
+  its_put ok put = subst (λ q. StorePut v q (record_page value) ok w) at (subst (λ x. StorePut v p x ok w) spelled put)
+
+  pub puts_done : (new : List Record) → StorePut v p page true w → new ≡ slice_set old slot value → Puts old v slot value true new w
+  puts_done new put e = record {
+    put = its_put true put;
+    done = λ _. e;
+    slots = ap length e ∙ length-set old slot value;
+    stopped = λ h. absurd (cc h);
+    holds = λ holds ok. subst (λ l. Holds l w) (sym e) (new_holds old v slot value true w (its_put true put) is below there holds ok);
+    old_or_new = λ holds d choice. says_old_or_new old v slot value true w (its_put true put) is below there holds d choice;
+  }
+
+  pub puts_stopped : (ok : Bool) → ok ≡ false → StorePut v p page false w → Puts old v slot value ok old w
+  puts_stopped ok err put = subst (λ b. Puts old v slot value b old w) (sym err) (record {
+    put = its_put false put;
+    done = λ h. absurd (cc h);
+    slots = refl;
+    stopped = λ _. refl;
+    holds = λ _ h. absurd (cc h);
+    old_or_new = λ holds d choice. says_old_or_new old v slot value false w (its_put false put) is below there holds d choice;
+  })
+
+-- a page of zeros is that of a free record
+pub blank_readable : (v : StoreView) (slot : ℕ) → IsOnly v (page_of slot) blank_page → IsReadable v slot
+unfolding blank_page record_page
+blank_readable v slot only = record { clean = only.first ∙ sym only.second; page = (Free, record { whole = refl; fits = tt }, only.first) }
+
+-- what the pool holds can be loaded again
+pub holds_readable : (records : List Record) (v : StoreView) (slot : ℕ) → slot < length records → Holds records v → IsReadable v slot
+holds_readable records v slot below holds =
+    let stored = holds slot below in
+    record { clean = stored.only.first ∙ sym stored.only.second; page = (record_in records slot, stored.of_format, stored.only.first) }
+
+-- ---- the index
+
+pub index_set : (es : List (ℕ × Record)) (slot : ℕ) (value : Record) → IsIndex es → slot < length (values_of es) → has_page value ≡ true → IsIndex (set_value_at es slot value)
+index_set es slot value is below page =
+    let changed = values_set es slot value in
+    record {
+      few = subst (λ (l : List Record). length l < 2 ^ 16) (sym changed) (omega (arith, length-set (values_of es) slot value, is.few));
+      numbered = ap (λ (l : List (ℕ × Record)). set_value_at l slot value) is.numbered ∙ set_numbered (values_of es) 0 slot value ∙ ap (enumerate_from 0) (sym changed);
+      pages = λ j. ap (λ (l : List Record). has_page (record_in l j)) changed ∙ elim (cases_eq j slot) [
+        | inl e ↦ ap (λ k. has_page (record_in (slice_set (values_of es) slot value) k)) e ∙ ap has_page (get_or-set_same (values_of es) slot value Free below) ∙ page
+        | inr ne ↦ ap has_page (get_or-set_other (values_of es) slot j value Free ne) ∙ is.pages j
+      ];
+    }
+
+-- ---- a ready record that becomes a going one
+
+pub ready_within : (records : List Record) (slot : ℕ) → is_ready (record_in records slot) ≡ true → slot < length records
+ready_within records slot ready = elim (cases_lt slot (length records)) [
+  | inl lt ↦ lt
+  | inr past ↦ absurd (cc (ap is_ready (get_or_past records slot Free past), ready))
+]
+
+pub going_page : (r : Record) → is_ready r ≡ true → has_page r ≡ true → has_page (going_of r) ≡ true
+going_page (Ready head intentions reads) ready page = page
+going_page r ready page = absurd (cc ready)
+
+pub ready_again : (r : Record) → is_ready r ≡ true → ready_of (going_of r) ≡ r
+ready_again (Ready head intentions reads) ready = refl
+ready_again r ready = absurd (cc ready)

@@ -1,0 +1,8 @@
+use Rattle.std.proofs.Common.{drop}
+use Rattle.std.specs.List.{AllByRecursion}
+use Rattle.jn_records.specs.Names.{WorkFits}
+use Rattle.jn_sets.proofs.numbers.works_fit.Given as goal
+
+-- all fit where the others do
+abbrev pub invariant-loop-work : goal.invariant-loop-work
+invariant-loop-work l = AllByRecursion WorkFits (drop l.work-index l.works) → AllByRecursion WorkFits l.works

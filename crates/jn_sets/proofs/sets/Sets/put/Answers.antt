@@ -1,0 +1,9 @@
+use Rattle.std.proofs.Common.{rules}
+use Rattle.jn_sets.proofs.Stored.{puts_done, puts_stopped}
+use Rattle.jn_sets.proofs.sets.Sets.put.Goals as goal
+
+pub returns-in_err-put : goal.returns-in_err-put
+returns-in_err-put g c = puts_stopped _ _ _ _ _ _ _ c.page_of.ensures c.encode.ensures (record { whole = c.requires.page; fits = c.record_fits.ensures }) c.requires.slot c.requires.there _ (search rules) c.in_err-put.ensures.put
+
+pub returns : goal.returns
+returns g c = puts_done _ _ _ _ _ _ _ c.page_of.ensures c.encode.ensures (record { whole = c.requires.page; fits = c.record_fits.ensures }) c.requires.slot c.requires.there _ c.in_ok-put.ensures.put c.set.ensures

@@ -1,0 +1,107 @@
+-- The pool: a record for each of its slots, and the pages on which they stand.
+use Rattle.std.specs.Prelude.{◌≡◌, ℕ, ◌+◌, ◌<◌, List, length, slice_index_or, filter, count_by, not, ◌&&◌, nat_eq, Bool, true, false, Option, Some}
+use Rattle.std.specs.List.{list_any, enumerate_from}
+use Rattle.jn_base.specs.declared.names.Tid.{Tid}
+use Rattle.jn_base.specs.declared.names.WorkId.{WorkId}
+use Rattle.jn_base.specs.Names.{tid_eq, work_eq}
+use Rattle.jn_records.specs.declared.record.Record.{Record}
+use Rattle.jn_records.specs.declared.record.Record.TheVariants.{Free, Intention, Ready, Going, Flag as FlagRecord}
+use Rattle.jn_records.specs.Records.{record_page, has_page, RecordFits, record_at}
+use Rattle.jn_sets.specs.declared.find.Wanted.{Wanted}
+use Rattle.jn_sets.specs.declared.find.Wanted.TheVariants.{Free as WantedFree, Prepared, Intention as WantedIntention, Flag as WantedFlag}
+use Rattle.jn_store.specs.Store.{StoreView, IsClean, IsOnly}
+
+-- ---- records by slot
+
+-- a slot's record: free past the last slot
+abbrev pub record_in : List Record → ℕ → Record
+record_in records slot = slice_index_or records slot Free
+
+abbrev pub is_free : Record → Bool
+is_free Free = true
+is_free _ = false
+
+-- how many slots hold no record
+abbrev pub free_count : List Record → ℕ
+free_count records = count_by is_free records
+
+-- the slots that hold a record, with it, ascending
+abbrev pub members_of : List Record → List (ℕ × Record)
+members_of records = filter (λ m. not (is_free m.1)) (enumerate_from 0 records)
+
+-- the ready or going record of a work
+abbrev pub is_prepared : WorkId → Record → Bool
+is_prepared work (Ready head intentions reads) = work_eq head.work work
+is_prepared work (Going head intentions reads) = work_eq head.work work
+is_prepared work _ = false
+
+abbrev pub is_ready : Record → Bool
+is_ready (Ready head intentions reads) = true
+is_ready _ = false
+
+-- a ready record as a going one, and the other way round
+abbrev pub going_of : Record → Record
+going_of (Ready head intentions reads) = Going head intentions reads
+going_of r = r
+
+abbrev pub ready_of : Record → Record
+ready_of (Going head intentions reads) = Ready head intentions reads
+ready_of r = r
+
+-- one of a work's intentions, by its place among them
+abbrev pub is_intention : WorkId → ℕ → Record → Bool
+is_intention work order (Intention w t o i) = work_eq w work && nat_eq o order
+is_intention work order _ = false
+
+abbrev pub is_flag : Tid → Record → Bool
+is_flag tid (FlagRecord f) = tid_eq f.tid tid
+is_flag tid _ = false
+
+abbrev pub is_wanted : Wanted → Record → Bool
+is_wanted WantedFree = is_free
+is_wanted (Prepared work) = is_prepared work
+is_wanted (WantedIntention work order) = is_intention work order
+is_wanted (WantedFlag tid) = is_flag tid
+
+-- an intention whose work has no ready or going record
+abbrev pub is_rubbish : List Record → Record → Bool
+is_rubbish records (Intention work tid order i) = not (list_any (is_prepared work) records)
+is_rubbish records _ = false
+
+-- ---- records on pages
+
+-- a slot's page stands behind the root
+abbrev pub page_of : ℕ → ℕ
+page_of slot = slot + 1
+
+-- what the pool's pages say: of each slot its record, where its page is one
+abbrev pub members_in : (ℕ → List ℕ) → ℕ → Option Record
+members_in pages slot = record_at (pages (page_of slot))
+
+-- a value that a page of the pool can have
+pub record IsRecord (r : Record) : Type 0 where
+  pub whole : has_page r ≡ true
+  -- numbers of their types
+  pub fits : RecordFits r
+
+-- a page of the format
+abbrev pub IsRecordPage : List ℕ → Type 0
+IsRecordPage page = (r : Record) × IsRecord r × (page ≡ record_page r)
+
+-- a slot's page has one candidate, which is of the format
+pub record IsReadable (v : StoreView) (slot : ℕ) : Type 0 where
+  pub clean : IsClean v (page_of slot)
+  pub page : IsRecordPage (v.first (page_of slot))
+
+-- the one candidate of a slot's page is the page of this record
+pub record IsStored (v : StoreView) (slot : ℕ) (r : Record) : Type 0 where
+  pub of_format : IsRecord r
+  pub only : IsOnly v (page_of slot) (record_page r)
+
+-- so it is with each slot
+abbrev pub Holds : List Record → StoreView → Type 0
+Holds records v = (slot : ℕ) → slot < length records → IsStored v slot (record_in records slot)
+
+-- the pool's pages say these records
+abbrev pub Says : (ℕ → List ℕ) → List Record → Type 0
+Says pages records = (slot : ℕ) → slot < length records → members_in pages slot ≡ Some (record_in records slot)

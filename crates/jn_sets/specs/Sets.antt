@@ -1,0 +1,33 @@
+-- What the calls of a set of records do to it and to its store.
+use Rattle.std.specs.Prelude.{◌≡◌, ◌⊎◌, ℕ, ◌+◌, ◌*◌, ◌^◌, ◌≤◌, ◌<◌, Bool, true, false, List, length, slice_set}
+use Rattle.std.specs.List.{enumerate_from}
+use Rattle.std.specs.Map.{values_of}
+use Rattle.jn_records.specs.declared.record.Record.{Record}
+use Rattle.jn_records.specs.Records.{record_page, has_page}
+use Rattle.jn_store.specs.Store.{StoreView, StoreLater, StorePut, IsSamePage}
+use Rattle.jn_store.specs.Choices.{IsChoice}
+use Rattle.jn_sets.specs.Pool.{page_of, record_in, Holds, Says}
+
+-- an index: it numbers its records from 0 on, and each has a page
+pub record IsIndex (entries : List (ℕ × Record)) : Type 0 where
+  pub few : length (values_of entries) < 2 ^ 16
+  pub numbered : entries ≡ enumerate_from 0 (values_of entries)
+  pub pages : (slot : ℕ) → has_page (record_in (values_of entries) slot) ≡ true
+
+-- so many gets: no page changes
+pub record StoreRead (v : StoreView) (gets : ℕ) (w : StoreView) : Type 0 where
+  pub later : StoreLater v w
+  pub calls : w.calls ≤ v.calls + 8 * gets
+  pub puts : w.puts ≡ v.puts
+  pub same : (j : ℕ) → IsSamePage v w j
+
+-- one slot gets this record by one put of its page: the set and the store before, then after
+pub record Puts (old : List Record) (v : StoreView) (slot : ℕ) (value : Record) (ok : Bool) (new : List Record) (w : StoreView) : Type 0 where
+  pub put : StorePut v (page_of slot) (record_page value) ok w
+  pub done : ok ≡ true → new ≡ slice_set old slot value
+  pub slots : length new ≡ length old
+  -- the set is as before a stop, whatever the store holds
+  pub stopped : ok ≡ false → new ≡ old
+  pub holds : Holds old v → ok ≡ true → Holds new w
+  -- and the pages, as they turn out to be, say the old records or the new
+  pub old_or_new : Holds old v → (d : ℕ → List ℕ) → IsChoice w d → Says d old ⊎ Says d (slice_set old slot value)

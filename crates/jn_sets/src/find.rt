@@ -1,0 +1,119 @@
+//! What a slot's record is asked for.
+ghost use Rattle.std.specs.Prelude.{◌≡◌};
+ghost use Rattle.jn_base.specs.Names as names;
+ghost use Rattle.jn_sets.specs.Pool as pool;
+
+use jn_base::{Tid, WorkId};
+use jn_records::Record;
+
+fn work_eq(a: WorkId, b: WorkId) -> bool
+    ensures { result ≡ names.work_eq a b }
+{
+    a.server.0 == b.server.0 && (a.epoch == b.epoch && a.ticket == b.ticket)
+}
+
+fn tid_eq(a: Tid, b: Tid) -> bool
+    ensures { result ≡ names.tid_eq a b }
+{
+    a.server.0 == b.server.0 && (a.epoch == b.epoch && a.ticket == b.ticket)
+}
+
+pub(crate) fn is_free(value: &Record) -> bool
+    ensures { result ≡ pool.is_free value.now }
+{
+    matches!(value, Record::Free)
+}
+
+/// What a slot is searched for.
+#[derive(Clone, Copy)]
+pub(crate) enum Wanted {
+    /// No record.
+    Free,
+    /// The ready or going record of a work.
+    Prepared(WorkId),
+    /// The intention of a work with this place.
+    Intention(WorkId, u8),
+    /// The commit flag of a transaction.
+    Flag(Tid),
+}
+
+pub(crate) fn is_wanted(wanted: Wanted, value: &Record) -> bool
+    ensures { result ≡ pool.is_wanted wanted value.now }
+{
+    match wanted {
+        Wanted::Free => is_free(value),
+        Wanted::Prepared(work) => is_prepared(work, value),
+        Wanted::Intention(work, order) => is_intention(work, order, value),
+        Wanted::Flag(tid) => is_flag(tid, value),
+    }
+}
+
+/// Whether it is the ready or going record of the work.
+pub(crate) fn is_prepared(work: WorkId, value: &Record) -> bool
+    ensures { result ≡ pool.is_prepared work value.now }
+{
+    match value {
+        Record::Ready { head, .. } | Record::Going { head, .. } => work_eq(head.work, work),
+        _ => false,
+    }
+}
+
+/// Whether it is the work's intention with this place.
+fn is_intention(work: WorkId, order: u8, value: &Record) -> bool
+    ensures { result ≡ pool.is_intention work order value.now }
+{
+    match value {
+        Record::Intention {
+            work: of,
+            order: at,
+            ..
+        } => work_eq(*of, work) && *at == order,
+        _ => false,
+    }
+}
+
+/// Whether it is the transaction's commit flag.
+fn is_flag(tid: Tid, value: &Record) -> bool
+    ensures { result ≡ pool.is_flag tid value.now }
+{
+    match value {
+        Record::Flag(flag) => tid_eq(flag.tid, tid),
+        _ => false,
+    }
+}
+
+/// A ready record as a going one.
+pub(crate) fn going_of(value: Record) -> Record
+    ensures { result ≡ pool.going_of value }
+{
+    match value {
+        Record::Ready {
+            head,
+            intentions,
+            reads,
+        } => Record::Going {
+            head,
+            intentions,
+            reads,
+        },
+        other => other,
+    }
+}
+
+/// A going record as a ready one.
+pub(crate) fn ready_of(value: Record) -> Record
+    ensures { result ≡ pool.ready_of value }
+{
+    match value {
+        Record::Going {
+            head,
+            intentions,
+            reads,
+        } => Record::Ready {
+            head,
+            intentions,
+            reads,
+        },
+        other => other,
+    }
+}

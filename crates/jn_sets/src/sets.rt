@@ -1,0 +1,324 @@
+//! The set of records.
+ghost use Rattle.std.specs.Prelude.{◌≡◌, ◌≢◌, ◌↔◌, ◌<◌, ◌+◌, ℕ, true, false, not, List, length, position, slice_get, slice_set, map, option_map, Option, Some, None, Ok, Err, is_ok, IfOk, IfSome, IsOk, ◌^◌};
+ghost use Rattle.std.specs.List.{list_any};
+ghost use Rattle.jn_records.specs.declared.record.Record.TheVariants.{Free};
+ghost use Rattle.jn_records.specs.Records.{has_page};
+ghost use Rattle.jn_store.specs.Store.{IsCalm, IsServed, IsStop, StoreLater};
+ghost use Rattle.jn_sets.specs.declared.fault.LoadFault.TheVariants.{Stopped as LoadStopped};
+ghost use Rattle.jn_sets.specs.declared.fault.SetFault.TheVariants.{Full};
+ghost use Rattle.jn_sets.specs.Pool as pool;
+ghost use Rattle.jn_sets.specs.Sets.{StoreRead, Puts};
+
+use crate::fault::{LoadFault, SetFault};
+use crate::find::{Wanted, going_of, is_free, is_prepared, is_wanted, ready_of};
+use crate::numbers::record_fits;
+use indexmap::IndexMap;
+use jn_base::{Page, Stopped, Tid, WorkId};
+use jn_records::{Record, Root};
+use jn_store::StableStore;
+use std::alloc::{AllocError, Global};
+use std::marker::Model;
+use std::mem;
+
+/// The records of a pool. Contracts see them as a list, by slot.
+///
+/// The store isn't kept: the calls that need it are passed it, and it is that from which the set was
+/// loaded. The index has every slot, also the free ones.
+#[derive(Drop)]
+pub struct Sets {
+    index: IndexMap<u16, Record>,
+}
+
+impl Model for Sets {
+    ghost use Rattle.std.specs.Prelude.{List};
+    ghost use Rattle.indexmap.specs.IndexMap.{values};
+    ghost use Rattle.jn_records.specs.declared.record.Record.{Record};
+    ghost use Rattle.jn_sets.specs.Sets.{IsIndex};
+
+    ghost Value = { List Record };
+
+    ghost view = { λ s. values s.index };
+
+    // the index numbers its values, and each has a page
+    ghost invariant = { λ s. IsIndex s.index.entries };
+}
+
+impl Sets {
+    /// The set that the store's pool holds. Each of its slots has to be clean and of the format.
+    pub fn load<S: StableStore>(
+        alloc: Global,
+        store: &mut S,
+        root: &Root,
+    ) -> Result<Self, LoadFault>
+        requires counts { (S.view store.old).count ≡ 1 + root.now.pool + root.now.heads + root.now.leaves }
+        requires readable { (slot : ℕ) → slot < root.now.pool → pool.IsReadable (S.view store.old) slot }
+        ensures slots { IfOk result (λ sets. length sets ≡ root.now.pool) }
+        ensures holds { IfOk result (λ sets. pool.Holds sets (S.view store.new)) }
+        ensures read { StoreRead (S.view store.old) root.now.pool (S.view store.new) }
+        ensures served { IsOk result → 0 < root.now.pool → IsServed (S.view store.old) (S.view store.new) }
+        ensures stop { result ≡ Err LoadStopped → IsStop (S.view store.old) (S.view store.new) }
+        ensures calm { IsCalm (S.view store.old) → result ≢ Err LoadStopped }
+    {
+        let mut index = IndexMap::with_capacity(alloc, root.pool as usize)?;
+        for slot in 0..root.pool {
+            let value = read_slot(alloc, store, slot)?;
+            index.insert(slot, value)?;
+        }
+        Ok(Sets { index })
+    }
+
+    /// How many slots there are.
+    pub fn slots(&self) -> u16
+        ensures { result ≡ length self.now }
+    {
+        self.index.len() as u16
+    }
+
+    /// How many slots hold no record.
+    pub fn free(&self) -> u32
+        ensures { result ≡ pool.free_count self.now }
+    {
+        self.index.values().filter(|value| is_free(*value)).count() as u32
+    }
+
+    /// The slot's record, `Free` where it holds none; `None` where there is no such slot.
+    pub fn record(&self, slot: u16) -> Option<&Record>
+        ensures { option_map (λ r. r.now) result ≡ slice_get self.now slot }
+    {
+        let (_, value) = self.index.get_index(slot as usize)?;
+        Some(value)
+    }
+
+    /// Whether there is such a slot, and it holds a record.
+    pub fn holds(&self, slot: u16) -> bool
+        ensures { result ≡ not (pool.is_free (pool.record_in self.now slot)) }
+    {
+        match self.record(slot) {
+            Some(value) => !is_free(value),
+            None => false,
+        }
+    }
+
+    /// The slots that hold a record, with it, ascending.
+    pub fn members(&self, alloc: Global) -> Result<Vec<(u16, &Record)>, AllocError>
+        ensures { IfOk result (λ list. map (λ m. (m.0, m.1.now)) list.items ≡ pool.members_of self.now) }
+    {
+        let mut list = Vec::new(alloc);
+        for (slot, value) in self.index.iter() {
+            if !is_free(value) {
+                list.push((*slot, value))?;
+            }
+        }
+        Ok(list)
+    }
+
+    /// The lowest slot with the ready or going record of the work.
+    pub fn prepared_slot(&self, work: WorkId) -> Option<u16>
+        ensures { result ≡ position (pool.is_prepared work) self.now }
+    {
+        self.lowest(Wanted::Prepared(work))
+    }
+
+    /// The lowest slot with the work's intention of this place.
+    pub fn intention_slot(&self, work: WorkId, order: u8) -> Option<u16>
+        ensures { result ≡ position (pool.is_intention work order) self.now }
+    {
+        self.lowest(Wanted::Intention(work, order))
+    }
+
+    /// The lowest slot with the transaction's commit flag.
+    pub fn flag_slot(&self, tid: Tid) -> Option<u16>
+        ensures { result ≡ position (pool.is_flag tid) self.now }
+    {
+        self.lowest(Wanted::Flag(tid))
+    }
+
+    /// Inserts a record into the lowest free slot, and says which. `Full` comes exactly where none is free,
+    /// and then nothing is done.
+    pub fn insert<S: StableStore>(&mut self, store: &mut S, value: Record) -> Result<u16, SetFault>
+        requires there { length self.old < (S.view store.old).count }
+        requires used { pool.is_free value ≡ false }
+        requires page { has_page value ≡ true }
+        ensures full { (result ≡ Err Full) ↔ (pool.free_count self.old ≡ 0) }
+        ensures unchanged { result ≡ Err Full → (self.new ≡ self.old) × (S.view store.new ≡ S.view store.old) }
+        ensures lowest { IfOk result (λ slot. position pool.is_free self.old ≡ Some slot) }
+        ensures puts { (slot : ℕ) → position pool.is_free self.old ≡ Some slot
+            → Puts self.old (S.view store.old) slot value (is_ok result) self.new (S.view store.new) }
+        ensures slots { length self.new ≡ length self.old }
+        ensures later { StoreLater (S.view store.old) (S.view store.new) }
+    {
+        let Some(free) = self.lowest(Wanted::Free) else {
+            return Err(SetFault::Full);
+        };
+        self.put(store, free, value)?;
+        Ok(free)
+    }
+
+    /// Puts another record in place of the slot's.
+    pub fn replace<S: StableStore>(
+        &mut self,
+        store: &mut S,
+        slot: u16,
+        value: Record,
+    ) -> Result<(), Stopped>
+        requires there { length self.old < (S.view store.old).count }
+        requires held { pool.is_free (pool.record_in self.old slot) ≡ false }
+        requires used { pool.is_free value ≡ false }
+        requires page { has_page value ≡ true }
+        ensures { Puts self.old (S.view store.old) slot value (is_ok result) self.new (S.view store.new) }
+    {
+        self.put(store, slot, value)
+    }
+
+    /// Removes the slot's record.
+    pub fn remove<S: StableStore>(&mut self, store: &mut S, slot: u16) -> Result<(), Stopped>
+        requires there { length self.old < (S.view store.old).count }
+        requires held { pool.is_free (pool.record_in self.old slot) ≡ false }
+        ensures { Puts self.old (S.view store.old) slot Free (is_ok result) self.new (S.view store.new) }
+    {
+        self.put(store, slot, Record::Free)
+    }
+
+    /// Makes the slot's ready record a going one.
+    pub fn set_going<S: StableStore>(&mut self, store: &mut S, slot: u16) -> Result<(), Stopped>
+        requires there { length self.old < (S.view store.old).count }
+        requires ready { pool.is_ready (pool.record_in self.old slot) ≡ true }
+        ensures { Puts self.old (S.view store.old) slot (pool.going_of (pool.record_in self.old slot)) (is_ok result) self.new (S.view store.new) }
+    {
+        let going = going_of(self.take(slot));
+        record_fits(&going);
+        match store.put(page_of(slot), &going.encode()) {
+            Ok(()) => {
+                self.set(slot, going);
+                Ok(())
+            }
+            Err(stopped) => {
+                self.set(slot, ready_of(going));
+                Err(stopped)
+            }
+        }
+    }
+
+    /// Erases the intention of the lowest slot whose work has no ready or going record. False exactly
+    /// where there is none, and then nothing is done.
+    pub fn erase_one<S: StableStore>(&mut self, store: &mut S) -> Result<bool, Stopped>
+        requires there { length self.old < (S.view store.old).count }
+        ensures none { position (pool.is_rubbish self.old) self.old ≡ None
+            → (result ≡ Ok false) × (self.new ≡ self.old) × (S.view store.new ≡ S.view store.old) }
+        ensures erased { (slot : ℕ) → position (pool.is_rubbish self.old) self.old ≡ Some slot
+            → IfOk result (λ erased. erased ≡ true) × Puts self.old (S.view store.old) slot Free (is_ok result) self.new (S.view store.new) }
+        ensures slots { length self.new ≡ length self.old }
+        ensures later { StoreLater (S.view store.old) (S.view store.new) }
+    {
+        let Some(rubbish) = self.rubbish_slot() else {
+            return Ok(false);
+        };
+        self.put(store, rubbish, Record::Free)?;
+        Ok(true)
+    }
+
+    fn lowest(&self, wanted: Wanted) -> Option<u16>
+        ensures { result ≡ position (pool.is_wanted wanted) self.now }
+    {
+        Some(self.place(wanted)? as u16)
+    }
+
+    fn place(&self, wanted: Wanted) -> Option<usize>
+        ensures first { result ≡ position (pool.is_wanted wanted) self.now }
+        ensures few { IfSome result (λ i. i < 2 ^ 16) }
+    {
+        self.index
+            .values()
+            .position(|value| is_wanted(wanted, value))
+    }
+
+    /// The lowest slot with an intention whose work has no ready or going record.
+    fn rubbish_slot(&self) -> Option<u16>
+        ensures { result ≡ position (pool.is_rubbish self.now) self.now }
+    {
+        Some(self.rubbish_place()? as u16)
+    }
+
+    fn rubbish_place(&self) -> Option<usize>
+        ensures first { result ≡ position (pool.is_rubbish self.now) self.now }
+        ensures few { IfSome result (λ i. i < 2 ^ 16) }
+    {
+        self.index.values().position(|value| self.is_rubbish(value))
+    }
+
+    fn is_rubbish(&self, value: &Record) -> bool
+        ensures { result ≡ pool.is_rubbish self.now value.now }
+    {
+        match value {
+            Record::Intention { work, .. } => !self.has_prepared(*work),
+            _ => false,
+        }
+    }
+
+    fn has_prepared(&self, work: WorkId) -> bool
+        ensures { result ≡ list_any (pool.is_prepared work) self.now }
+    {
+        self.index.values().any(|value| is_prepared(work, value))
+    }
+
+    /// Puts the slot's page, and then the index has its record.
+    fn put<S: StableStore>(
+        &mut self,
+        store: &mut S,
+        slot: u16,
+        value: Record,
+    ) -> Result<(), Stopped>
+        requires there { length self.old < (S.view store.old).count }
+        requires slot { slot < length self.old }
+        requires page { has_page value ≡ true }
+        ensures { Puts self.old (S.view store.old) slot value (is_ok result) self.new (S.view store.new) }
+    {
+        record_fits(&value);
+        store.put(page_of(slot), &value.encode())?;
+        self.set(slot, value);
+        Ok(())
+    }
+
+    /// Takes the slot's record out of the index.
+    fn take(&mut self, slot: u16) -> Record
+        requires { slot < length self.old }
+        ensures taken { result ≡ pool.record_in self.old slot }
+        ensures page { has_page result ≡ true }
+        ensures left { self.new ≡ slice_set self.old slot Free }
+    {
+        mem::replace(&mut self.index[slot as usize], Record::Free)
+    }
+
+    fn set(&mut self, slot: u16, value: Record)
+        requires slot { slot < length self.old }
+        requires page { has_page value ≡ true }
+        ensures { self.new ≡ slice_set self.old slot value }
+    {
+        self.index[slot as usize] = value;
+    }
+}
+
+/// The slot's page, behind the root.
+fn page_of(slot: u16) -> u32
+    ensures { result ≡ pool.page_of slot }
+{
+    u32::from(slot) + 1
+}
+
+/// The record of a slot whose page is clean and of the format.
+fn read_slot<S: StableStore>(alloc: Global, store: &mut S, slot: u16) -> Result<Record, LoadFault>
+    requires there { slot + 1 < (S.view store.old).count }
+    requires readable { pool.IsReadable (S.view store.old) slot }
+    ensures stored { IfOk result (λ value. pool.IsStored (S.view store.old) slot value) }
+    ensures read { StoreRead (S.view store.old) 1 (S.view store.new) }
+    ensures served { IsOk result → IsServed (S.view store.old) (S.view store.new) }
+    ensures stop { result ≡ Err LoadStopped → IsStop (S.view store.old) (S.view store.new) }
+    ensures calm { IsCalm (S.view store.old) → result ≢ Err LoadStopped }
+{
+    let page = store.get(page_of(slot))?;
+    let Some(value) = Record::decode(alloc, &page)? else {
+        unreachable!()
+    };
+    record_fits(&value);
+    Ok(value)
+}
