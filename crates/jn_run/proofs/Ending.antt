@@ -15,16 +15,16 @@ use Rattle.jn_serial.specs.Lines.{when_eq, lines_at, says, event_at, history_of,
 use Rattle.jn_serial.specs.Order.{answered_by, owner_after, ops_from, ops_of, replay, AgreesFrom}
 use Rattle.jn_serial.specs.Told.{NamesBefore, NamesOnce, NamesNone}
 use Rattle.jn_serial.specs.Shown.{is_locked, ShowsFiles}
-use Rattle.jn_serial.specs.Follows.{nothing_asked, FollowsEvent, FollowsFrom, after_one, AllOfEvents, is_answer, Follows}
+use Rattle.jn_serial.specs.Follows.{Outstanding, nothing_asked, FollowsEvent, FollowsFrom, after_one, AllOfEvents, is_answer, Follows}
+use Rattle.jn_serial.specs.Caused.{Caused}
 use Rattle.jn_serial.proofs.Growth.{AreWithin}
+use Rattle.jn_serial.proofs.CausedGrowth.{Caused-lines, needs_cause, NeedNoCause, CausedFrom-plain}
 use Rattle.jn_serial.proofs.Ops.{replay-by_ops, AgreesFrom-by_ops}
 use Rattle.jn_serial.proofs.Orders.{ops_of-append, owner_then, history_of-append, lines_at-append, NamesBefore-append, NamesNone-append}
 use Rattle.jn_run.specs.Pages.{ArePrints, is_print}
 use Rattle.jn_run.specs.Ending.{end_line}
 use Rattle.jn_run.specs.Outcome.{Holds, IsRun}
-use Rattle.jn_run.proofs.OneClient.{NoShows, is_show, Stage, next_number, DidTheSame-each}
-use Rattle.jn_run.proofs.Chapters.{SoFar}
-use Rattle.jn_run.proofs.Story.{Ends}
+use Rattle.jn_run.proofs.OneClient.{Talk, Ordered, NoShows, is_show, Stage, next_number, DidTheSame-each}
 
 -- no event of these is a show
 no-show : (es : List Event) (i : ℕ) (s : ServerNo) → NoShows es → event_at es i ≡ Some (Rattle.jn_schedule.specs.declared.Event.TheVariants.Show s) → ⊥
@@ -42,6 +42,13 @@ no-show (d ∷ es) (suc zero) s h e = never d h.0 e
         clash e = cc
 no-show (d ∷ es) (suc (suc i)) s h e = no-show es (suc i) s h.1 e
 
+-- what holds of the events and lines so far
+pub record SoFar (es : List Event) (ls : List Line) (stage : Stage) : Type 0 where
+  pub out : Outstanding
+  pub talk : Talk es ls out
+  pub ordered : Ordered es ls stage
+  pub caused : Caused es ls
+
 -- what holds so far, as the outcome says it
 pub holds : (es : List Event) (ls : List Line) (stage : Stage) → SoFar es ls stage → Holds es ls
 holds es ls stage s = record {
@@ -49,6 +56,7 @@ holds es ls stage s = record {
   shown = λ i q e printed. absurd (no-show es i q s.talk.no_shows e);
   told = s.ordered.told;
   follows = record { answers = s.talk.answers; of_events = s.talk.of_events };
+  caused = s.caused;
 }
 
 -- lines at the end that answer, begin, commit, abort, break and lock nothing
@@ -159,6 +167,21 @@ ends-quietly (l ∷ ls) h =
     clash : (b : Bool) → b ≡ true → b ≡ false → ⊥
     clash b p q = cc
 
+needs-none : (text : Text) → is_of_end text ≡ true → needs_cause text ≡ false
+needs-none (says.Up q epoch) h = refl
+needs-none (says.Down q) h = refl
+needs-none (says.File q f) h = refl
+needs-none (says.Page q f p bytes) h = refl
+needs-none (says.Commits n) h = refl
+needs-none _ h = absurd (never h)
+  where
+    never : false ≡ true → ⊥
+    never e = cc
+
+need-none : (ends : List Line) → AreOfEnd ends → NeedNoCause ends
+need-none [] h = tt
+need-none (l ∷ ls) h = (needs-none l.text h.1, need-none ls h.2)
+
 no-end : (high : ℕ) (ls : List Line) → AreWithin 0 high ls → lines_at End ls ≡ []
 no-end high [] h = refl
 no-end high (l ∷ ls) h = ap (λ (b : Bool). cond b (l ∷ lines_at End ls) (lines_at End ls)) (within l.when h.0) ∙ no-end high ls h.1
@@ -179,15 +202,14 @@ AllOfEvents-append n [] ys a b = b
 AllOfEvents-append n (x ∷ xs) ys a b = (a.0, AllOfEvents-append n xs ys a.1 b)
 
 -- the end of the run, where its lines show these files
-pub ends-run : (es : List Event) (ls ends : List Line) (files : AllFiles) → Ends es ls files → AreOfEnd ends → ((s : ServerNo) → ShowsFiles files s ends) → IsRun es (ls ++ ends)
-ends-run es ls ends files e of_end shows =
+pub ends-run : (es : List Event) (ls ends : List Line) (stage : Stage) (files : AllFiles) → SoFar es ls stage → replay no_files es ls (history_of ls) ≡ files → AreOfEnd ends → ((s : ServerNo) → ShowsFiles files s ends) → IsRun es (ls ++ ends)
+ends-run es ls ends stage files s e of_end shows =
     let q = ends-quietly ends of_end in
-    let s = e.so_far in
     let history : history_of (ls ++ ends) ≡ history_of ls = history_of-append ls ends ∙ ap (λ (ts : List Tid). history_of ls ++ ts) q.history ∙ append-nil (history_of ls) in
     let did : (t : Tid) → ops_of es (ls ++ ends) t ≡ ops_of es ls t = λ t. ops_of-append es t ls ends ∙ ap (λ (ps : List Performed). ops_of es ls t ++ ps) (q.ops es t (owner_then t None ls)) ∙ append-nil (ops_of es ls t) in
     let each = DidTheSame-each es ls es (ls ++ ends) (history_of ls) (λ t k. did t) in
     let gives : replay no_files es (ls ++ ends) (history_of (ls ++ ends)) ≡ files =
-    ap (λ (ts : List Tid). replay no_files es (ls ++ ends) ts) history ∙ replay-by_ops no_files es ls es (ls ++ ends) (history_of ls) each ∙ e.gives in
+    ap (λ (ts : List Tid). replay no_files es (ls ++ ends) ts) history ∙ replay-by_ops no_files es ls es (ls ++ ends) (history_of ls) each ∙ e in
     let all : lines_at End (ls ++ ends) ≡ ends = lines_at-append End ls ends ∙ ap (λ (m : List Line). m ++ lines_at End ends) (no-end (next_number es) ls s.talk.within) ∙ q.all in
     let events : (i : ℕ) → lines_at (AtEvent i) (ls ++ ends) ≡ lines_at (AtEvent i) ls = λ i. lines_at-append (AtEvent i) ls ends ∙ ap (λ (m : List Line). lines_at (AtEvent i) ls ++ m) (q.events i) ∙ append-nil (lines_at (AtEvent i) ls) in
     record {
@@ -203,6 +225,7 @@ ends-run es ls ends files e of_end shows =
           answers = follows-same nothing_asked 1 es ls (ls ++ ends) events s.talk.answers;
           of_events = AllOfEvents-append (length es) ls ends s.talk.of_events (q.answers (length es));
         };
+        caused = Caused-lines es ls ends s.caused (CausedFrom-plain es ls ends (need-none ends of_end));
       };
       shown_at_end = record {
         all = λ p. subst (λ (fs : AllFiles). ShowsFiles fs p (lines_at End (ls ++ ends))) (sym gives) (subst (λ (m : List Line). ShowsFiles files p m) (sym all) (shows p));

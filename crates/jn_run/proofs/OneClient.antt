@@ -21,7 +21,7 @@ use Rattle.jn_serial.proofs.Growth.{AreWithin, AreWithin-wider, AreWithin-append
 use Rattle.jn_serial.proofs.Ops.{AllAnswerWithin, AllAnswerWithin-wider, AllAnswerWithin-append, ops_from-events, DidTheSame, replay-by_ops, AgreesFrom-by_ops, AgreesFrom-more, replay-more}
 use Rattle.jn_serial.proofs.Orders.{owner_then, owner_then-append, ops_from-append, history_of-append, has_tid-append, NamesBefore-append, NamesNone-append}
 use Rattle.jn_serial.proofs.Telling.{NamesOnce-more}
-use Rattle.jn_run.specs.Form.{client_1}
+use Rattle.jn_run.specs.Names.{client_1}
 
 -- the number of the next event
 abbrev pub next_number : List Event → ℕ
@@ -64,7 +64,7 @@ AllOfEvents-wider n m (l ∷ ls) h a = (λ is. wider l.when (a.0 is), AllOfEvent
     wider (AtEvent i) b = (b.0, omega arith)
     wider End b = absurd b
 
-AllOfEvents-append : (n : ℕ) (ls ms : List Line) → AllOfEvents n ls → AllOfEvents n ms → AllOfEvents n (ls ++ ms)
+pub AllOfEvents-append : (n : ℕ) (ls ms : List Line) → AllOfEvents n ls → AllOfEvents n ms → AllOfEvents n (ls ++ ms)
 AllOfEvents-append n [] ms a b = b
 AllOfEvents-append n (l ∷ ls) ms a b = (a.0, AllOfEvents-append n ls ms a.1 b)
 
@@ -129,11 +129,6 @@ DidTheSame-each es ls fs ms (t ∷ ts) h = (h t (first t (has_tid ts t)), DidThe
     later true b h = refl
     later false b h = h
 
--- what a transaction did, with one more event and its lines
-pub ops_of-more : (es : List Event) (ls : List Line) (e : Event) (ms : List Line) (u : Tid) → AllAnswerWithin (length es) ls
-    → ops_of (es ++ e ∷ []) (ls ++ ms) u ≡ ops_of es ls u ++ ops_from (es ++ e ∷ []) u (owner_then u None ls) ms
-ops_of-more es ls e ms u h = ops_from-append (es ++ e ∷ []) u None ls ms ∙ ap (λ (ps : List Performed). ps ++ ops_from (es ++ e ∷ []) u (owner_then u None ls) ms) (ops_from-events es (e ∷ []) u None ls h)
-
 -- an event without lines
 pub ordered-silent : (es : List Event) (ls : List Line) (stage : Stage) (e : Event) → AllAnswerWithin (length es) ls → Ordered es ls stage → Ordered (es ++ e ∷ []) ls stage
 ordered-silent es ls stage e below o =
@@ -156,82 +151,114 @@ ordered-silent es ls stage e below o =
       gives = subst (λ (fs : AllFiles). GivesAnswers fs ps) (sym (replay-by_ops no_files es ls (es ++ e ∷ []) ls (history_of ls) same)) s.gives;
     }
 
--- a line that begins, commits, acknowledges, aborts and breaks nothing
-pub record IsPlain (text : Text) : Type 0 where
+-- the commits give the same after an event without lines
+pub replay-silent : (es : List Event) (ls : List Line) (e : Event) → AllAnswerWithin (length es) ls → replay no_files (es ++ e ∷ []) ls (history_of ls) ≡ replay no_files es ls (history_of ls)
+replay-silent es ls e below = replay-by_ops no_files es ls (es ++ e ∷ []) ls (history_of ls) (DidTheSame-each es ls (es ++ e ∷ []) ls (history_of ls) (λ u k. ops_from-events es (e ∷ []) u None ls below))
+
+-- a line that begins and commits nothing, where these are committed
+pub record IsQuiet (ts : List Tid) (text : Text) : Type 0 where
   pub no_begin : (t : Tid) (o : Option ClientNo) → owner_after t o text ≡ o
   pub no_commit : commit_in text ≡ []
-  pub not_told : (ts : List Tid) → IsNamedWhere ts text
-  pub no_loss : (ts : List Tid) → IsNotNamedWhere ts text
+  pub told : IsNamedWhere ts text
+  pub no_loss : IsNotNamedWhere ts text
 
-told-plain : (ls : List Line) (l : Line) → IsPlain l.text → Told ls → Told (ls ++ l ∷ [])
-told-plain ls l plain told =
-    let same : history_of (ls ++ l ∷ []) ≡ history_of ls = history_of-append ls (l ∷ []) ∙ ap (λ (ts : List Tid). history_of ls ++ (ts ++ [])) plain.no_commit ∙ append-nil (history_of ls) in
+-- a line that aborts and breaks nothing either
+pub record IsPlain (text : Text) : Type 0 where
+  pub quiet : (ts : List Tid) → IsQuiet ts text
+
+told-quiet : (ls : List Line) (l : Line) → IsQuiet (history_of ls) l.text → Told ls → Told (ls ++ l ∷ [])
+told-quiet ls l quiet told =
+    let same : history_of (ls ++ l ∷ []) ≡ history_of ls = history_of-append ls (l ∷ []) ∙ ap (λ (ts : List Tid). history_of ls ++ (ts ++ [])) quiet.no_commit ∙ append-nil (history_of ls) in
     record {
-      before = NamesBefore-append [] ls (l ∷ []) told.before (plain.not_told (history_of ls), tt);
+      before = NamesBefore-append [] ls (l ∷ []) told.before (quiet.told, tt);
       once = subst (λ (ts : List Tid). NamesOnce ts) (sym same) told.once;
-      not_lost = subst (λ (ts : List Tid). NamesNone ts (ls ++ l ∷ [])) (sym same) (NamesNone-append (history_of ls) ls (l ∷ []) told.not_lost (plain.no_loss (history_of ls), tt));
+      not_lost = subst (λ (ts : List Tid). NamesNone ts (ls ++ l ∷ [])) (sym same) (NamesNone-append (history_of ls) ls (l ∷ []) told.not_lost (quiet.no_loss, tt));
     }
 
-history-plain : (ls : List Line) (l : Line) → IsPlain l.text → history_of (ls ++ l ∷ []) ≡ history_of ls
-history-plain ls l plain = history_of-append ls (l ∷ []) ∙ ap (λ (ts : List Tid). history_of ls ++ (ts ++ [])) plain.no_commit ∙ append-nil (history_of ls)
+pub history-quiet : (ls : List Line) (l : Line) → commit_in l.text ≡ [] → history_of (ls ++ l ∷ []) ≡ history_of ls
+history-quiet ls l none = history_of-append ls (l ∷ []) ∙ ap (λ (ts : List Tid). history_of ls ++ (ts ++ [])) none ∙ append-nil (history_of ls)
 
-owner-plain : (ls : List Line) (l : Line) (u : Tid) → IsPlain l.text → owner_then u None (ls ++ l ∷ []) ≡ owner_then u None ls
-owner-plain ls l u plain = owner_then-append u None ls (l ∷ []) ∙ plain.no_begin u (owner_then u None ls)
+owner-quiet : (ls : List Line) (l : Line) (u : Tid) → ((t : Tid) (o : Option ClientNo) → owner_after t o l.text ≡ o) → owner_then u None (ls ++ l ∷ []) ≡ owner_then u None ls
+owner-quiet ls l u same = owner_then-append u None ls (l ∷ []) ∙ same u (owner_then u None ls)
 
 -- a transaction whose owner is none did nothing more
-ops-same : (es : List Event) (ls : List Line) (e : Event) (l : Line) (u : Tid) → AllAnswerWithin (length es) ls → owner_then u None ls ≡ None → ops_of (es ++ e ∷ []) (ls ++ l ∷ []) u ≡ ops_of es ls u
-ops-same es ls e l u below h =
-    ops_of-more es ls e (l ∷ []) u below
-    ∙ ap (λ (o : Option ClientNo). ops_of es ls u ++ ops_from (es ++ e ∷ []) u o (l ∷ [])) h
+ops-unowned : (es : List Event) (ls : List Line) (l : Line) (u : Tid) → owner_then u None ls ≡ None → ops_of es (ls ++ l ∷ []) u ≡ ops_of es ls u
+ops-unowned es ls l u h =
+    ops_from-append es u None ls (l ∷ [])
+    ∙ ap (λ (o : Option ClientNo). ops_of es ls u ++ ops_from es u o (l ∷ [])) h
     ∙ append-nil (ops_of es ls u)
 
+-- nor did any, by a line that answers nothing from the files
+ops-unanswered : (es : List Event) (ls : List Line) (l : Line) (u : Tid) → answered es client_1 l.text ≡ [] → (owner_then u None ls ≡ None) ⊎ (owner_then u None ls ≡ Some client_1) → ops_of es (ls ++ l ∷ []) u ≡ ops_of es ls u
+ops-unanswered es ls l u nothing (inl h) = ops-unowned es ls l u h
+ops-unanswered es ls l u nothing (inr h) =
+    ops_from-append es u None ls (l ∷ [])
+    ∙ ap (λ (w : Option ClientNo). ops_of es ls u ++ ops_from es u w (l ∷ [])) h
+    ∙ ap (λ (ps : List Performed). ops_of es ls u ++ (ps ++ [])) nothing
+    ∙ append-nil (ops_of es ls u)
+
+unanswered-same : (es : List Event) (ls : List Line) (l : Line) → ((u : Tid) → (owner_then u None ls ≡ None) ⊎ (owner_then u None ls ≡ Some client_1)) → answered es client_1 l.text ≡ [] → DidTheSame es ls es (ls ++ l ∷ []) (history_of ls)
+unanswered-same es ls l owners nothing = DidTheSame-each es ls es (ls ++ l ∷ []) (history_of ls) (λ u k. ops-unanswered es ls l u nothing (owners u))
+
 -- a line that answers nothing from the files, where no transaction runs
-pub ordered-plain : (es : List Event) (ls : List Line) (e : Event) (l : Line) → AllAnswerWithin (length es) ls → Ordered es ls Idle → IsPlain l.text
-    → answered (es ++ e ∷ []) client_1 l.text ≡ [] → Ordered (es ++ e ∷ []) (ls ++ l ∷ []) Idle
-ordered-plain es ls e l below o plain nothing =
-    let same : history_of (ls ++ l ∷ []) ≡ history_of ls = history-plain ls l plain in
+pub ordered-quiet : (es : List Event) (ls : List Line) (l : Line) → Ordered es ls Idle → IsQuiet (history_of ls) l.text → answered es client_1 l.text ≡ [] → Ordered es (ls ++ l ∷ []) Idle
+ordered-quiet es ls l o quiet nothing =
     record {
-      agrees = subst (λ (ts : List Tid). AgreesFrom no_files (es ++ e ∷ []) (ls ++ l ∷ []) ts) (sym same)
-          (AgreesFrom-by_ops no_files es ls (es ++ e ∷ []) (ls ++ l ∷ []) (history_of ls) (DidTheSame-each es ls (es ++ e ∷ []) (ls ++ l ∷ []) (history_of ls) (λ u k. did u (o.owners u))) o.agrees);
-      told = told-plain ls l plain o.told;
-      owners = λ u. subst (λ (w : Option ClientNo). (w ≡ None) ⊎ (w ≡ Some client_1)) (sym (owner-plain ls l u plain)) (o.owners u);
+      agrees = subst (λ (ts : List Tid). AgreesFrom no_files es (ls ++ l ∷ []) ts) (sym (history-quiet ls l quiet.no_commit))
+          (AgreesFrom-by_ops no_files es ls es (ls ++ l ∷ []) (history_of ls) (unanswered-same es ls l o.owners nothing) o.agrees);
+      told = told-quiet ls l quiet o.told;
+      owners = λ u. subst (λ (w : Option ClientNo). (w ≡ None) ⊎ (w ≡ Some client_1)) (sym (owner-quiet ls l u quiet.no_begin)) (o.owners u);
       stands = tt;
     }
-  where
-    did : (u : Tid) → (owner_then u None ls ≡ None) ⊎ (owner_then u None ls ≡ Some client_1) → ops_of (es ++ e ∷ []) (ls ++ l ∷ []) u ≡ ops_of es ls u
-    did u (inl h) = ops-same es ls e l u below h
-    did u (inr h) =
-        ops_of-more es ls e (l ∷ []) u below
-        ∙ ap (λ (w : Option ClientNo). ops_of es ls u ++ ops_from (es ++ e ∷ []) u w (l ∷ [])) h
-        ∙ ap (λ (ps : List Performed). ops_of es ls u ++ (ps ++ [])) nothing
-        ∙ append-nil (ops_of es ls u)
+
+-- the commits give the same after such a line
+pub replay-quiet : (es : List Event) (ls : List Line) (stage : Stage) (l : Line) → Ordered es ls stage → commit_in l.text ≡ [] → answered es client_1 l.text ≡ []
+    → replay no_files es (ls ++ l ∷ []) (history_of (ls ++ l ∷ [])) ≡ replay no_files es ls (history_of ls)
+replay-quiet es ls stage l o none nothing =
+    ap (λ (ts : List Tid). replay no_files es (ls ++ l ∷ []) ts) (history-quiet ls l none)
+    ∙ replay-by_ops no_files es ls es (ls ++ l ∷ []) (history_of ls) (unanswered-same es ls l o.owners nothing)
+
+-- a transaction that is over
+pub ordered-over : (es : List Event) (ls : List Line) (t : Tid) (ps : List Performed) → Ordered es ls (Running t ps) → Ordered es ls Idle
+ordered-over es ls t ps o = record { agrees = o.agrees; told = o.told; owners = o.owners; stands = tt }
+
+-- committed transactions do nothing more while another runs
+running-same : (es : List Event) (ls : List Line) (l : Line) (t : Tid) (ps : List Performed) → Runs es ls t ps → DidTheSame es ls es (ls ++ l ∷ []) (history_of ls)
+running-same es ls l t ps r = DidTheSame-each es ls es (ls ++ l ∷ []) (history_of ls) (λ u k. ops-unowned es ls l u (r.others u k))
 
 -- a line that may answer an operation of the transaction that runs
-pub ordered-answer : (es : List Event) (ls : List Line) (e : Event) (l : Line) (t : Tid) (ps qs : List Performed) → AllAnswerWithin (length es) ls → Ordered es ls (Running t ps) → IsPlain l.text
-    → answered (es ++ e ∷ []) client_1 l.text ≡ qs → GivesAnswers (replay no_files es ls (history_of ls)) (ps ++ qs)
-    → Ordered (es ++ e ∷ []) (ls ++ l ∷ []) (Running t (ps ++ qs))
-ordered-answer es ls e l t ps qs below o plain answer gives =
-    let same : history_of (ls ++ l ∷ []) ≡ history_of ls = history-plain ls l plain in
-    let did = DidTheSame-each es ls (es ++ e ∷ []) (ls ++ l ∷ []) (history_of ls) (λ u k. ops-same es ls e l u below (o.stands.others u k)) in
+pub ordered-answer : (es : List Event) (ls : List Line) (l : Line) (t : Tid) (ps qs : List Performed) → Ordered es ls (Running t ps) → IsPlain l.text
+    → answered es client_1 l.text ≡ qs → GivesAnswers (replay no_files es ls (history_of ls)) (ps ++ qs)
+    → Ordered es (ls ++ l ∷ []) (Running t (ps ++ qs))
+ordered-answer es ls l t ps qs o plain answer gives =
+    let quiet = plain.quiet (history_of ls) in
+    let same : history_of (ls ++ l ∷ []) ≡ history_of ls = history-quiet ls l quiet.no_commit in
+    let did = running-same es ls l t ps o.stands in
     record {
-      agrees = subst (λ (ts : List Tid). AgreesFrom no_files (es ++ e ∷ []) (ls ++ l ∷ []) ts) (sym same)
-          (AgreesFrom-by_ops no_files es ls (es ++ e ∷ []) (ls ++ l ∷ []) (history_of ls) did o.agrees);
-      told = told-plain ls l plain o.told;
-      owners = λ u. subst (λ (w : Option ClientNo). (w ≡ None) ⊎ (w ≡ Some client_1)) (sym (owner-plain ls l u plain)) (o.owners u);
+      agrees = subst (λ (ts : List Tid). AgreesFrom no_files es (ls ++ l ∷ []) ts) (sym same)
+          (AgreesFrom-by_ops no_files es ls es (ls ++ l ∷ []) (history_of ls) did o.agrees);
+      told = told-quiet ls l quiet o.told;
+      owners = λ u. subst (λ (w : Option ClientNo). (w ≡ None) ⊎ (w ≡ Some client_1)) (sym (owner-quiet ls l u quiet.no_begin)) (o.owners u);
       stands = record {
-        owner = owner-plain ls l t plain ∙ o.stands.owner;
-        others = λ u k. owner-plain ls l u plain ∙ o.stands.others u (ap (λ (ts : List Tid). has_tid ts u) (sym same) ∙ k);
+        owner = owner-quiet ls l t quiet.no_begin ∙ o.stands.owner;
+        others = λ u k. owner-quiet ls l u quiet.no_begin ∙ o.stands.others u (ap (λ (ts : List Tid). has_tid ts u) (sym same) ∙ k);
         new = ap (λ (ts : List Tid). has_tid ts t) same ∙ o.stands.new;
-        unnamed = NamesNone-append (t ∷ []) ls (l ∷ []) o.stands.unnamed (plain.no_loss (t ∷ []), tt);
-        did = ops_of-more es ls e (l ∷ []) t below
-            ∙ ap (λ (w : Option ClientNo). ops_of es ls t ++ ops_from (es ++ e ∷ []) t w (l ∷ [])) o.stands.owner
+        unnamed = NamesNone-append (t ∷ []) ls (l ∷ []) o.stands.unnamed ((plain.quiet (t ∷ [])).no_loss, tt);
+        did = ops_from-append es t None ls (l ∷ [])
+            ∙ ap (λ (w : Option ClientNo). ops_of es ls t ++ ops_from es t w (l ∷ [])) o.stands.owner
             ∙ ap (λ (rs : List Performed). ops_of es ls t ++ (rs ++ [])) answer
             ∙ ap (λ (rs : List Performed). rs ++ (qs ++ [])) o.stands.did
             ∙ ap (λ (rs : List Performed). ps ++ rs) (append-nil qs);
         gives = subst (λ (fs : AllFiles). GivesAnswers fs (ps ++ qs))
-            (sym (ap (λ (ts : List Tid). replay no_files (es ++ e ∷ []) (ls ++ l ∷ []) ts) same ∙ replay-by_ops no_files es ls (es ++ e ∷ []) (ls ++ l ∷ []) (history_of ls) did)) gives;
+            (sym (ap (λ (ts : List Tid). replay no_files es (ls ++ l ∷ []) ts) same ∙ replay-by_ops no_files es ls es (ls ++ l ∷ []) (history_of ls) did)) gives;
       };
     }
+
+pub replay-running : (es : List Event) (ls : List Line) (l : Line) (t : Tid) (ps : List Performed) → Ordered es ls (Running t ps) → commit_in l.text ≡ []
+    → replay no_files es (ls ++ l ∷ []) (history_of (ls ++ l ∷ [])) ≡ replay no_files es ls (history_of ls)
+replay-running es ls l t ps o none =
+    ap (λ (ts : List Tid). replay no_files es (ls ++ l ∷ []) ts) (history-quiet ls l none)
+    ∙ replay-by_ops no_files es ls es (ls ++ l ∷ []) (history_of ls) (running-same es ls l t ps o.stands)
 
 -- a name that no line has used
 pub record IsUnused (es : List Event) (ls : List Line) (t : Tid) : Type 0 where
@@ -252,16 +279,15 @@ other_tid ts t u k new =
     ]
 
 -- a transaction begins
-pub ordered-begun : (es : List Event) (ls : List Line) (e : Event) (i j : ℕ) (t : Tid) → AllAnswerWithin (length es) ls → Ordered es ls Idle → IsUnused es ls t
-    → Ordered (es ++ e ∷ []) (ls ++ (record { when = AtEvent i; text = says.Begun client_1 j t }) ∷ []) (Running t [])
-ordered-begun es ls e i j t below o unused =
+pub ordered-begun : (es : List Event) (ls : List Line) (i j : ℕ) (t : Tid) → Ordered es ls Idle → IsUnused es ls t
+    → Ordered es (ls ++ (record { when = AtEvent i; text = says.Begun client_1 j t }) ∷ []) (Running t [])
+ordered-begun es ls i j t o unused =
     let l : Line = record { when = AtEvent i; text = says.Begun client_1 j t } in
-    let same : history_of (ls ++ l ∷ []) ≡ history_of ls = history_of-append ls (l ∷ []) ∙ append-nil (history_of ls) in
-    let did : (u : Tid) → ops_of (es ++ e ∷ []) (ls ++ l ∷ []) u ≡ ops_of es ls u = λ u. did_same u in
-    let each = DidTheSame-each es ls (es ++ e ∷ []) (ls ++ l ∷ []) (history_of ls) (λ u k. did u) in
+    let same : history_of (ls ++ l ∷ []) ≡ history_of ls = history-quiet ls l refl in
+    let each = unanswered-same es ls l o.owners refl in
     record {
-      agrees = subst (λ (ts : List Tid). AgreesFrom no_files (es ++ e ∷ []) (ls ++ l ∷ []) ts) (sym same)
-          (AgreesFrom-by_ops no_files es ls (es ++ e ∷ []) (ls ++ l ∷ []) (history_of ls) each o.agrees);
+      agrees = subst (λ (ts : List Tid). AgreesFrom no_files es (ls ++ l ∷ []) ts) (sym same)
+          (AgreesFrom-by_ops no_files es ls es (ls ++ l ∷ []) (history_of ls) each o.agrees);
       told = record {
         before = NamesBefore-append [] ls (l ∷ []) o.told.before (tt, tt);
         once = subst (λ (ts : List Tid). NamesOnce ts) (sym same) o.told.once;
@@ -273,18 +299,11 @@ ordered-begun es ls e i j t below o unused =
         others = λ u k. owner_then-append u None ls (l ∷ []) ∙ passed u (other_tid (history_of ls) t u (ap (λ (ts : List Tid). has_tid ts u) (sym same) ∙ k) unused.no_commit) (owner_then u None ls) (o.owners u);
         new = ap (λ (ts : List Tid). has_tid ts t) same ∙ unused.no_commit;
         unnamed = NamesNone-append (t ∷ []) ls (l ∷ []) unused.no_loss (tt, tt);
-        did = did t ∙ unused.no_ops;
+        did = ops-unanswered es ls l t refl (o.owners t) ∙ unused.no_ops;
         gives = tt;
       };
     }
   where
-    did_same : (u : Tid) → ops_of (es ++ e ∷ []) (ls ++ (record { when = AtEvent i; text = says.Begun client_1 j t }) ∷ []) u ≡ ops_of es ls u
-    did_same u = ops_of-more es ls e ((record { when = AtEvent i; text = says.Begun client_1 j t }) ∷ []) u below ∙ ap (λ (ps : List Performed). ops_of es ls u ++ ps) (none (owner_then u None ls)) ∙ append-nil (ops_of es ls u)
-      where
-        none : (w : Option ClientNo) → ops_from (es ++ e ∷ []) u w ((record { when = AtEvent i; text = says.Begun client_1 j t }) ∷ []) ≡ []
-        none None = refl
-        none (Some c) = refl
-
     self : (t : Tid) → tid_eq t t ≡ true
     self t = grind (arith, tid_tells t t)
 
@@ -297,42 +316,37 @@ ordered-begun es ls e i j t below o unused =
     passed u h w (inl k) = rw (h, k) refl
     passed u h w (inr k) = rw (h, k) refl
 
--- the transaction that runs is committed, and its client is told
-pub ordered-committed : (es : List Event) (ls : List Line) (e : Event) (i j : ℕ) (t : Tid) (ps : List Performed) → AllAnswerWithin (length es) ls → Ordered es ls (Running t ps)
-    → Ordered (es ++ e ∷ []) (ls ++ (record { when = AtEvent i; text = says.Commit t }) ∷ (record { when = AtEvent i; text = says.Committed client_1 j t }) ∷ []) Idle
-ordered-committed es ls e i j t ps below o =
-    let named : Line = record { when = AtEvent i; text = says.Commit t } in
-    let told : Line = record { when = AtEvent i; text = says.Committed client_1 j t } in
-    let ms : List Line = named ∷ told ∷ [] in
-    let history : history_of (ls ++ ms) ≡ history_of ls ++ t ∷ [] = history_of-append ls ms in
-    let did : (u : Tid) → ops_of (es ++ e ∷ []) (ls ++ ms) u ≡ ops_of es ls u = λ u. ops_of-more es ls e ms u below ∙ ap (λ (qs : List Performed). ops_of es ls u ++ qs) (none u (owner_then u None ls)) ∙ append-nil (ops_of es ls u) in
-    let each = DidTheSame-each es ls (es ++ e ∷ []) (ls ++ ms) (history_of ls) (λ u k. did u) in
+abbrev commit_line : ℕ → Tid → Line
+commit_line i t = record { when = AtEvent i; text = says.Commit t }
+
+pub is_named : (ts : List Tid) (t : Tid) → has_tid (ts ++ t ∷ []) t ≡ true
+is_named ts t = has_tid-append ts (t ∷ []) t ∙ last (has_tid ts t) (tid_eq t t) (grind (arith, tid_tells t t))
+  where
+    last : (a b : Bool) → b ≡ true → (a || (b || false)) ≡ true
+    last true b h = refl
+    last false b h = rw h refl
+
+-- the transaction that runs is committed
+pub ordered-committed : (es : List Event) (ls : List Line) (i : ℕ) (t : Tid) (ps : List Performed) → Ordered es ls (Running t ps) → Ordered es (ls ++ (record { when = AtEvent i; text = says.Commit t }) ∷ []) Idle
+ordered-committed es ls i t ps o =
+    let l = commit_line i t in
+    let history : history_of (ls ++ l ∷ []) ≡ history_of ls ++ t ∷ [] = history_of-append ls (l ∷ []) in
+    let each = unanswered-same es ls l o.owners refl in
     record {
-      agrees = subst (λ (ts : List Tid). AgreesFrom no_files (es ++ e ∷ []) (ls ++ ms) ts) (sym history)
-          (AgreesFrom-more no_files (es ++ e ∷ []) (ls ++ ms) (history_of ls) t
-          (AgreesFrom-by_ops no_files es ls (es ++ e ∷ []) (ls ++ ms) (history_of ls) each o.agrees)
-          (subst (λ (fs : AllFiles). GivesAnswers fs (ops_of (es ++ e ∷ []) (ls ++ ms) t)) (sym (replay-by_ops no_files es ls (es ++ e ∷ []) (ls ++ ms) (history_of ls) each))
-          (subst (λ (qs : List Performed). GivesAnswers (replay no_files es ls (history_of ls)) qs) (sym (did t ∙ o.stands.did)) o.stands.gives)));
+      agrees = subst (λ (ts : List Tid). AgreesFrom no_files es (ls ++ l ∷ []) ts) (sym history)
+          (AgreesFrom-more no_files es (ls ++ l ∷ []) (history_of ls) t
+          (AgreesFrom-by_ops no_files es ls es (ls ++ l ∷ []) (history_of ls) each o.agrees)
+          (subst (λ (fs : AllFiles). GivesAnswers fs (ops_of es (ls ++ l ∷ []) t)) (sym (replay-by_ops no_files es ls es (ls ++ l ∷ []) (history_of ls) each))
+          (subst (λ (qs : List Performed). GivesAnswers (replay no_files es ls (history_of ls)) qs) (sym (ops-unanswered es ls l t refl (o.owners t) ∙ o.stands.did)) o.stands.gives)));
       told = record {
-        before = NamesBefore-append [] ls ms o.told.before (tt, (is_named (history_of ls) t, tt));
+        before = NamesBefore-append [] ls (l ∷ []) o.told.before (tt, tt);
         once = subst (λ (ts : List Tid). NamesOnce ts) (sym history) (NamesOnce-more (history_of ls) t o.told.once o.stands.new);
-        not_lost = subst (λ (ts : List Tid). NamesNone ts (ls ++ ms)) (sym history) (NamesNone-append (history_of ls ++ t ∷ []) ls ms (both (history_of ls) t ls o.told.not_lost o.stands.unnamed) (tt, (tt, tt)));
+        not_lost = subst (λ (ts : List Tid). NamesNone ts (ls ++ l ∷ [])) (sym history) (NamesNone-append (history_of ls ++ t ∷ []) ls (l ∷ []) (both (history_of ls) t ls o.told.not_lost o.stands.unnamed) (tt, tt));
       };
-      owners = λ u. subst (λ (w : Option ClientNo). (w ≡ None) ⊎ (w ≡ Some client_1)) (sym (owner_then-append u None ls ms)) (o.owners u);
+      owners = λ u. subst (λ (w : Option ClientNo). (w ≡ None) ⊎ (w ≡ Some client_1)) (sym (owner_then-append u None ls (l ∷ []))) (o.owners u);
       stands = tt;
     }
   where
-    none : (u : Tid) (w : Option ClientNo) → ops_from (es ++ e ∷ []) u w ((record { when = AtEvent i; text = says.Commit t }) ∷ (record { when = AtEvent i; text = says.Committed client_1 j t }) ∷ []) ≡ []
-    none u None = refl
-    none u (Some c) = refl
-
-    is_named : (ts : List Tid) (t : Tid) → has_tid (ts ++ t ∷ []) t ≡ true
-    is_named ts t = has_tid-append ts (t ∷ []) t ∙ last (has_tid ts t) (tid_eq t t) (grind (arith, tid_tells t t))
-      where
-        last : (a b : Bool) → b ≡ true → (a || (b || false)) ≡ true
-        last true b h = refl
-        last false b h = rw h refl
-
     both : (ts : List Tid) (t : Tid) (ls : List Line) → NamesNone ts ls → NamesNone (t ∷ []) ls → NamesNone (ts ++ t ∷ []) ls
     both ts t [] a b = tt
     both ts t (l ∷ ls) a b = (each l.text a.0 b.0, both ts t ls a.1 b.1)
@@ -345,19 +359,16 @@ ordered-committed es ls e i j t ps below o =
         each (says.Broke s u w by) h k = neither u h k
         each _ h k = tt
 
+-- it is named then
+pub named-committed : (ls : List Line) (i : ℕ) (t : Tid) → has_tid (history_of (ls ++ (record { when = AtEvent i; text = says.Commit t }) ∷ [])) t ≡ true
+named-committed ls i t = ap (λ (ts : List Tid). has_tid ts t) (history_of-append ls (commit_line i t ∷ [])) ∙ is_named (history_of ls) t
+
 -- what the commits give after one more
-pub replay-committed : (es : List Event) (ls : List Line) (e : Event) (i j : ℕ) (t : Tid) (ps : List Performed) → AllAnswerWithin (length es) ls → Ordered es ls (Running t ps)
-    → let ms : List Line = (record { when = AtEvent i; text = says.Commit t }) ∷ (record { when = AtEvent i; text = says.Committed client_1 j t }) ∷ [] in
-    replay no_files (es ++ e ∷ []) (ls ++ ms) (history_of (ls ++ ms)) ≡ files_then ps (replay no_files es ls (history_of ls))
-replay-committed es ls e i j t ps below o =
-    let ms : List Line = (record { when = AtEvent i; text = says.Commit t }) ∷ (record { when = AtEvent i; text = says.Committed client_1 j t }) ∷ [] in
-    let did : (u : Tid) → ops_of (es ++ e ∷ []) (ls ++ ms) u ≡ ops_of es ls u = λ u. ops_of-more es ls e ms u below ∙ ap (λ (qs : List Performed). ops_of es ls u ++ qs) (none u (owner_then u None ls)) ∙ append-nil (ops_of es ls u) in
-    let each = DidTheSame-each es ls (es ++ e ∷ []) (ls ++ ms) (history_of ls) (λ u k. did u) in
-    ap (λ (ts : List Tid). replay no_files (es ++ e ∷ []) (ls ++ ms) ts) (history_of-append ls ms)
-    ∙ replay-more no_files (es ++ e ∷ []) (ls ++ ms) (history_of ls) t
-    ∙ ap (λ (fs : AllFiles). files_then (ops_of (es ++ e ∷ []) (ls ++ ms) t) fs) (replay-by_ops no_files es ls (es ++ e ∷ []) (ls ++ ms) (history_of ls) each)
-    ∙ ap (λ (qs : List Performed). files_then qs (replay no_files es ls (history_of ls))) (did t ∙ o.stands.did)
-  where
-    none : (u : Tid) (w : Option ClientNo) → ops_from (es ++ e ∷ []) u w ((record { when = AtEvent i; text = says.Commit t }) ∷ (record { when = AtEvent i; text = says.Committed client_1 j t }) ∷ []) ≡ []
-    none u None = refl
-    none u (Some c) = refl
+pub replay-committed : (es : List Event) (ls : List Line) (i : ℕ) (t : Tid) (ps : List Performed) → Ordered es ls (Running t ps)
+    → replay no_files es (ls ++ (record { when = AtEvent i; text = says.Commit t }) ∷ []) (history_of (ls ++ (record { when = AtEvent i; text = says.Commit t }) ∷ [])) ≡ files_then ps (replay no_files es ls (history_of ls))
+replay-committed es ls i t ps o =
+    let l = commit_line i t in
+    ap (λ (ts : List Tid). replay no_files es (ls ++ l ∷ []) ts) (history_of-append ls (l ∷ []))
+    ∙ replay-more no_files es (ls ++ l ∷ []) (history_of ls) t
+    ∙ ap (λ (fs : AllFiles). files_then (ops_of es (ls ++ l ∷ []) t) fs) (replay-by_ops no_files es ls es (ls ++ l ∷ []) (history_of ls) (unanswered-same es ls l o.owners refl))
+    ∙ ap (λ (qs : List Performed). files_then qs (replay no_files es ls (history_of ls))) (ops-unanswered es ls l t refl (o.owners t) ∙ o.stands.did)

@@ -1,8 +1,7 @@
 -- What a call of the program leaves, by its status.
-use Rattle.std.specs.Prelude.{◌≡◌, ◌≤◌, ◌<◌, ◌⊎◌, ℕ, List, [], ◌∷◌, ◌++◌, length, take, Option, Some, None, String, string_bytes, codes, IfSome}
+use Rattle.std.specs.Prelude.{◌≡◌, true, ◌≤◌, ◌<◌, ◌⊎◌, ℕ, List, [], ◌∷◌, ◌++◌, length, take, Option, Some, None, String, string_bytes, codes, decimal, IfSome}
 use Rattle.std.specs.Io.KnownBytes.{append_known}
 use Rattle.std.specs.declared.alloc.Global.{Global}
-use Rattle.jn_base.specs.declared.op.Op.{Op}
 use Rattle.jn_order.specs.Files.{no_files}
 use Rattle.jn_schedule.specs.declared.Event.{Event}
 use Rattle.jn_report.specs.declared.line.Line.{Line}
@@ -11,10 +10,13 @@ use Rattle.jn_serial.specs.Order.{Agrees}
 use Rattle.jn_serial.specs.Told.{Told}
 use Rattle.jn_serial.specs.Shown.{ShownSoFar, ShownAtEnd}
 use Rattle.jn_serial.specs.Follows.{Follows}
+use Rattle.jn_serial.specs.Caused.{Caused}
 use Rattle.jn_host.specs.Outside.{Rose}
-use Rattle.jn_run.specs.Form.{IsForm, events_of}
+use Rattle.jn_schedule.specs.Grammar.{IsSchedule}
+use Rattle.jn_schedule.specs.Faults.{IsFirstFault}
+use Rattle.jn_run.specs.Runnable.{all_run, IsNotRun}
 use Rattle.jn_run.specs.Pages.{ArePrints}
-use Rattle.jn_run.specs.Story.{story, lines_in}
+use Rattle.jn_run.specs.Names.{start_line}
 use Rattle.jn_run.specs.Ending.{ending}
 use Rattle.jn_run.specs.declared.status.Status.{Status}
 use Rattle.jn_run.specs.declared.status.Status.TheVariants as statuses
@@ -30,6 +32,7 @@ pub record Holds (events : List Event) (lines : List Line) : Type 0 where
   pub shown : ShownSoFar no_files events lines
   pub told : Told lines
   pub follows : Follows events lines
+  pub caused : Caused events lines
 
 -- the lines of a whole run
 pub record IsRun (events : List Event) (lines : List Line) : Type 0 where
@@ -43,15 +46,13 @@ pub record IsRunSoFar (events : List Event) (lines : List Line) : Type 0 where
   pub all : events ≡ done ++ others
   pub holds : Holds done lines
 
--- The whole report of a schedule of the form: the story of its operations, and the end, with the lines that print the files.
-pub record IsReport (ops : List Op) (lines : List Line) : Type 0 where
+-- The whole report of a run: the start, what its events tell, and the end, with the lines that print the files.
+pub record IsReport (lines : List Line) : Type 0 where
+  pub told : List Line
   pub prints : List Line
+  pub commits : ℕ
   pub are_prints : ArePrints prints
-  pub all : lines ≡ lines_in (story ops) ++ ending 2 prints
-
--- the report of a run up to some event: some chapters of the story, or all of it
-abbrev pub IsReportSoFar : List Op → List Line → Type 0
-IsReportSoFar ops lines = ((k : ℕ) × (lines ≡ lines_in (take k (story ops)))) ⊎ IsReport ops lines
+  pub all : lines ≡ start_line ∷ told ++ ending 2 commits prints
 
 -- the longest schedule
 abbrev pub most_bytes : ℕ
@@ -72,12 +73,18 @@ TookFront before after text = (n : ℕ) × (after ≡ append_known before (take 
 abbrev pub refused_words : List ℕ
 refused_words = codes "refused: words" ++ 10 ∷ []
 
-abbrev pub refused_form : List ℕ
-refused_form = codes "refused: schedule form" ++ 10 ∷ []
+-- a schedule's line is refused, by the number of its fault
+abbrev pub refused_line : ℕ → ℕ → List ℕ
+refused_line line number = codes "refused: schedule line " ++ decimal line ++ codes " number " ++ decimal number ++ 10 ∷ []
 
--- bytes that are no schedule of the form
-abbrev pub IsNoForm : List ℕ → Type 0
-IsNoForm text = (ops : List Op) → IsForm text ops → ⊥
+-- the most events
+abbrev pub most_events : ℕ
+most_events = 100000
+
+-- the bytes are no schedule, and this is their first fault; or they are one with an event that isn't run, the first in
+-- this line
+abbrev pub IsRefused : List ℕ → ℕ → ℕ → Type 0
+IsRefused text line number = IsFirstFault text line number ⊎ ((number ≡ 1) × IsNotRun text line)
 
 -- what the outside was before the call and after it
 pub record Outside : Type 0 where
@@ -89,56 +96,88 @@ pub record Outside : Type 0 where
   pub write_faults : ℕ
   pub write_faults' : ℕ
 
--- the source had this schedule of the form, whole
+-- the source had these bytes, whole
 pub record Reads (o : Outside) (text : List ℕ) : Type 0 where
   pub told : IsText o.left text
   pub fits : length text ≤ most_bytes
 
 -- the sink took the whole report of a run
-pub record WholeRun (taken : Option (List ℕ)) (ops : List Op) (taken' : Option (List ℕ)) : Type 0 where
+pub record WholeRun (taken : Option (List ℕ)) (events : List Event) (taken' : Option (List ℕ)) : Type 0 where
   pub lines : List Line
-  pub report : IsReport ops lines
-  pub run : IsRun (events_of ops) lines
+  pub report : IsReport lines
+  pub run : IsRun events lines
   pub took : Took taken taken' (report_text lines)
 
--- the sink took a front of the report of a run up to some event
-pub record PartRun (taken : Option (List ℕ)) (ops : List Op) (taken' : Option (List ℕ)) : Type 0 where
+-- the sink took a front of the report of a run up to some event, or of the whole run
+pub record PartRun (taken : Option (List ℕ)) (events : List Event) (taken' : Option (List ℕ)) : Type 0 where
   pub lines : List Line
-  pub report : IsReportSoFar ops lines
-  pub run : IsRunSoFar (events_of ops) lines
+  pub run : IsRunSoFar events lines
   pub took : TookFront taken taken' (report_text lines)
+
+-- a schedule that is run
+pub record IsRunnable (text : List ℕ) (events : List Event) : Type 0 where
+  pub schedule : IsSchedule text events
+  pub few : length events ≤ most_events
+  pub known : all_run events ≡ true
 
 -- the run was done
 pub record RanWhole (o : Outside) : Type 0 where
   pub text : List ℕ
   pub reads : Reads o text
-  pub ops : List Op
-  pub form : IsForm text ops
-  pub ran : WholeRun o.taken ops o.taken'
+  pub events : List Event
+  pub runs : IsRunnable text events
+  pub ran : WholeRun o.taken events o.taken'
 
 -- the run was cut off
 pub record RanInPart (o : Outside) : Type 0 where
   pub text : List ℕ
   pub reads : Reads o text
-  pub ops : List Op
-  pub form : IsForm text ops
-  pub ran : PartRun o.taken ops o.taken'
+  pub events : List Event
+  pub runs : IsRunnable text events
+  pub ran : PartRun o.taken events o.taken'
 
--- the bytes were refused
-pub record RefusedForm (o : Outside) : Type 0 where
+-- the bytes were refused, and the sink took this of the text that says so
+pub record RefusedSchedule (o : Outside) (TookOf : List ℕ → Type 0) : Type 0 where
   pub text : List ℕ
   pub reads : Reads o text
-  pub no_form : IsNoForm text
+  pub line : ℕ
+  pub number : ℕ
+  pub refused : IsRefused text line number
+  pub took : TookOf (refused_line line number)
+
+-- the schedule is too long
+pub record HasTooManyEvents (o : Outside) : Type 0 where
+  pub text : List ℕ
+  pub reads : Reads o text
+  pub events : List Event
+  pub schedule : IsSchedule text events
+  pub many : most_events < length events
+
+abbrev pub IsTooLong : Outside → Type 0
+IsTooLong o = IfSome o.left (λ bytes. most_bytes < length bytes) ⊎ HasTooManyEvents o
 
 abbrev pub OutcomeOf : Type 0 → Outside → Status → Type 0
 OutcomeOf command o statuses.Done = command × RanWhole o
 OutcomeOf command o statuses.Words = ¬ command × Took o.taken o.taken' refused_words
-OutcomeOf command o statuses.Schedule = command × RefusedForm o × Took o.taken o.taken' refused_form
+OutcomeOf command o statuses.Schedule = command × RefusedSchedule o (Took o.taken o.taken')
 OutcomeOf command o statuses.Image = ⊥
 OutcomeOf command o statuses.Read = command × Rose o.read_faults o.read_faults' × (o.taken' ≡ o.taken)
 OutcomeOf command o statuses.Write =
     Rose o.write_faults o.write_faults'
-    × ((¬ command × TookFront o.taken o.taken' refused_words) ⊎ ((command × RefusedForm o × TookFront o.taken o.taken' refused_form) ⊎ (command × RanInPart o)))
+    × ((¬ command × TookFront o.taken o.taken' refused_words) ⊎ ((command × RefusedSchedule o (TookFront o.taken o.taken')) ⊎ (command × RanInPart o)))
 OutcomeOf command o statuses.Keep = ⊥
-OutcomeOf command o statuses.Limit = command × IfSome o.left (λ bytes. most_bytes < length bytes) × (o.taken' ≡ o.taken)
+OutcomeOf command o statuses.Limit = command × IsTooLong o × (o.taken' ≡ o.taken)
 OutcomeOf command o statuses.Memory = command × ((o.taken' ≡ o.taken) ⊎ RanInPart o)
+
+-- what a call leaves whose words are the command and whose source had this text, whole
+abbrev pub OutcomeOn : List ℕ → Option (List ℕ) → ℕ → Status → Option (List ℕ) → ℕ → Type 0
+OutcomeOn text taken faults status taken' faults' =
+    (left : Option (List ℕ)) (read_faults read_faults' : ℕ) → IsText left text → length text ≤ most_bytes
+    → OutcomeOf (Unit {0}) (record { left = left; read_faults = read_faults; read_faults' = read_faults'; taken = taken; taken' = taken'; write_faults = faults; write_faults' = faults' }) status
+
+-- a line of a schedule was refused
+abbrev pub Refuses : ℕ → ℕ → Option (List ℕ) → ℕ → Status → Option (List ℕ) → ℕ → Type 0
+Refuses line number taken faults statuses.Schedule taken' faults' = Took taken taken' (refused_line line number)
+Refuses line number taken faults statuses.Write taken' faults' = Rose faults faults' × TookFront taken taken' (refused_line line number)
+Refuses line number taken faults statuses.Memory taken' faults' = taken' ≡ taken
+Refuses line number taken faults _ taken' faults' = ⊥

@@ -1,5 +1,5 @@
 -- What is read of the source and written to the sink.
-use Rattle.std.specs.Prelude.{◌≡◌, ◌≤◌, ◌<◌, ℕ, Bool, true, false, List, length, take, Option, Result, Ok, Err, is_ok, Vec, IfSome}
+use Rattle.std.specs.Prelude.{◌≡◌, ◌≤◌, ◌<◌, ℕ, Bool, true, false, List, length, Option, Result, Ok, Err, is_ok, Vec, IfSome}
 use Rattle.std.specs.declared.alloc.Global.{Global}
 use Rattle.jn_report.specs.declared.line.Line.{Line}
 use Rattle.jn_report.specs.Text.{report_text}
@@ -9,7 +9,6 @@ use Rattle.jn_run.specs.declared.outside.ReadFault.TheVariants as reads
 use Rattle.jn_run.specs.declared.outside.RunFault.{RunFault}
 use Rattle.jn_run.specs.declared.outside.RunFault.TheVariants as runs
 use Rattle.jn_run.specs.Outcome.{IsText, Took, TookFront, most_bytes}
-use Rattle.jn_run.specs.Story.{Chapter, lines_in}
 
 -- a source was read to its end
 pub record ReadsAll (left : Option (List ℕ)) (faults : ℕ) (answer : Result (Vec ℕ Global) ReadFault) (faults' : ℕ) : Type 0 where
@@ -31,11 +30,4 @@ pub record Reports (taken : Option (List ℕ)) (faults : ℕ) (lines : List Line
   pub count : faults ≤ faults'
   pub whole : is_ok answer ≡ true → Took taken taken' (report_text lines)
   pub front : is_ok answer ≡ false → TookFront taken taken' (report_text lines)
-  pub rose : answer ≡ Err runs.Write → Rose faults faults'
-
--- chapters were written to a sink: a front of them where it failed
-pub record Tells (taken : Option (List ℕ)) (faults : ℕ) (chapters : List Chapter) (answer : Result (Unit {0}) RunFault) (taken' : Option (List ℕ)) (faults' : ℕ) : Type 0 where
-  pub count : faults ≤ faults'
-  pub whole : is_ok answer ≡ true → Took taken taken' (report_text (lines_in chapters))
-  pub front : is_ok answer ≡ false → (k : ℕ) × TookFront taken taken' (report_text (lines_in (take k chapters)))
   pub rose : answer ≡ Err runs.Write → Rose faults faults'

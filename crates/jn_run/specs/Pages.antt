@@ -69,11 +69,6 @@ only_server_0 files s u = if server_eq s server_0 then files u else None
 abbrev pub IsFresh : Counts → Pages → Type 0
 IsFresh g pages = (i : ℕ) → i < g.heads → slice_index (pages (head_place g i)) 0 ≡ 0
 
--- the pages hold these files
-pub record HoldsFiles (g : Counts) (pages : Pages) (files : Files) : Type 0 where
-  pub file : (f : FileNo) → files_of_pages g pages (File f) ≡ files (File f)
-  pub block : (f : FileNo) (p : BlockNo) → p.0 < 120 → files_of_pages g pages (Block f p) ≡ files (Block f p)
-
 -- the epoch of the root
 abbrev pub epoch_in : List ℕ → ℕ
 epoch_in root = big_number 4 (drop 12 root)

@@ -10,22 +10,29 @@
 //! | free head | zeros |
 //! | used head | 1 (1 byte), the file's number (4 bytes), for each of its blocks 0 to 119 the address (2 bytes): 0 for none, else 1 more than the index of its data page |
 //! | data page | the 448 bytes of a block |
-ghost use Rattle.std.specs.Prelude.{◌≡◌, ◌≢◌, ◌<◌, ◌≤◌, ◌+◌, ◌-◌, ◌*◌, ◌^◌, ◌++◌, ℕ, IfOk, OnOk, slice_index, length, drop, take};
+ghost use Rattle.std.specs.Prelude.{◌≡◌, ◌≢◌, ◌<◌, ◌≤◌, ◌+◌, ◌-◌, ◌*◌, ◌^◌, ◌++◌, ℕ, IfOk, OnOk, IfSome, Option, Some, true, false, is_some, not, slice_index, slice_index_or, replicate, length, drop, take};
 ghost use Rattle.byteorder.specs.Endian.{big_number};
 ghost use Rattle.jn_store.specs.Choices.{with_page};
-ghost use Rattle.jn_serial.specs.Stored.{block_count, files_of};
+ghost use Rattle.jn_base.specs.declared.names.LockUnit.TheVariants.{File};
+ghost use Rattle.jn_base.specs.declared.names.LockUnit.TheVariants as units;
+ghost use Rattle.jn_order.specs.Files.{change, created, removed, cut_from, written};
+ghost use Rattle.jn_records.specs.NetLists.{FilesThere, intention_change, list_change, finds_file};
+ghost use Rattle.jn_run.specs.Room.{HasRoom, AllPutWithin, PutsWithin, Changes, free_pages, free_heads, is_named, is_used, pages_for, heads_for};
+ghost use Rattle.jn_run.specs.Sound.{IsSound, FindsHead, IsHeadAt, IsPlaceOf, FillsPage, PutsHead};
 ghost use Rattle.jn_run.specs.Printed.{Prints, IsOfFile, IsBlock, IsLeast};
-ghost use Rattle.jn_run.specs.Pages.{files_of_pages, head_of, PrintsFiles, IsFresh, HoldsFiles, server_0, epoch_in, head_place, data_place};
-ghost use Rattle.jn_run.specs.Heads.{counts, page_total, root_page, with_epoch, AddressesFit, AreStored, HoldsFile};
+ghost use Rattle.jn_run.specs.Pages.{files_of_pages, head_of, PrintsFiles, IsFresh, epoch_in, address_in, head_place, data_place};
+ghost use Rattle.jn_run.specs.Heads.{counts, page_total, root_page, with_epoch};
 ghost use Rattle.jn_run.specs.StorePages.{page_count, pages_in};
 
 use crate::head::{
-    BLOCKS, address_in, block_of, data_page, head_page, is_head_of, least_with, number_in,
+    Addresses, BLOCKS, Marks, address_in, addresses_in, block_of, cut_addresses, data_page,
+    empty_head_page, free_head_page, is_head_of, is_used, least_with, mark_addresses, number_in,
+    used_page,
 };
 use byteorder::{BigEndian, ByteOrder};
-use jn_base::{BlockNo, FileNo, Page, PageWriter, ServerNo};
+use jn_base::{Block, BlockNo, FileNo, Page, PageWriter, ServerNo};
+use jn_records::{Intention, What};
 use jn_report::{Line, Text, When};
-use jn_serial::{Files, StoredBlock, StoredFile};
 use jn_store::{ArrayStore, StableStore};
 use std::alloc::{AllocError, Global};
 
@@ -45,8 +52,8 @@ const SERVER: ServerNo = ServerNo(0);
 /// Where the epoch stands in the root.
 const EPOCH_AT: usize = 12;
 
-/// The pages of the server: contracts see their counts and, by number, their bytes. The addresses of
-/// a used head lead to data pages that there are.
+/// The pages of the server: contracts see their counts and, by number, their bytes. No file has two
+/// heads, and the addresses of a used head lead to data pages that there are.
 #[derive(Drop)]
 pub struct Disk {
     store: ArrayStore,
@@ -54,14 +61,14 @@ pub struct Disk {
     heads: u16,
     leaves: u16,
     // what the numbers' type says, for proofs that see the disk behind a reference
-    ghost addressed: { leaves < 2 ^ 16 },
+    ghost addressed: { leaves ≤ 128 },
     ghost few: { page_total (counts pool heads leaves) < 2 ^ 18 },
     ghost whole: { page_count store ≡ page_total (counts pool heads leaves) },
-    ghost fits: { AddressesFit (counts pool heads leaves) (pages_in store) },
+    ghost sound: { IsSound (counts pool heads leaves) (pages_in store) },
 }
 
 impl Disk {
-    ghost use Rattle.jn_run.specs.Disk.{counts_of, pages_of};
+    ghost use Rattle.jn_run.specs.Disk.{counts_of, pages_of, files_on};
 
     /// A disk with no files, in epoch 0.
     pub fn new(alloc: Global) -> Result<Self, AllocError>
@@ -96,22 +103,152 @@ impl Disk {
         epoch
     }
 
-    /// Makes these files of server 0 the disk's.
-    pub fn carry_out(&mut self, files: &Files)
-        requires fresh { IsFresh (counts_of self.old) (pages_of self.old) }
-        requires heads { length files.now.stored.items ≤ (counts_of self.old).heads }
-        requires leaves { block_count files.now.stored.items ≤ (counts_of self.old).leaves }
-        ensures holds { HoldsFiles (counts_of self.new) (pages_of self.new) (files_of files.now server_0) }
+    /// Whether a file is there.
+    pub fn file_there(&self, file: FileNo) -> bool
+        ensures { result ≡ is_some (files_on self.now (File file)) }
+    {
+        self.head_at(file).is_some()
+    }
+
+    /// A block, if it is stored.
+    pub fn read_block(&self, file: FileNo, block: BlockNo) -> Option<Block>
+        ensures { result ≡ files_on self.now (units.Block file block) }
+    {
+        let i = self.head_at(file)?;
+        if block.0 >= BLOCKS {
+            return None;
+        }
+        let address = address_in(self.page_at(self.head_place(i)), block);
+        if address == 0 {
+            return None;
+        }
+        Some(block_of(self.page_at(self.data_place(address - 1))))
+    }
+
+    /// How many data pages no head names.
+    pub fn free_pages(&self) -> u32
+        ensures { result ≡ free_pages (counts_of self.now) (pages_of self.now) }
+    {
+        let named = self.named_pages();
+        let mut free = 0;
+        for d in 0..self.leaves {
+            if !named[d as usize] {
+                free += 1;
+            }
+        }
+        free
+    }
+
+    /// How many heads no file has.
+    pub fn free_heads(&self) -> u32
+        ensures { result ≡ free_heads (counts_of self.now) (pages_of self.now) }
+    {
+        let mut free = 0;
+        for i in 0..self.heads {
+            if !is_used(self.page_at(self.head_place(i))) {
+                free += 1;
+            }
+        }
+        free
+    }
+
+    /// Carries out a list of intentions, one after another.
+    pub fn carry_out(&mut self, list: &[Intention])
+        requires there { FilesThere list.now (files_on self.old) }
+        requires within { AllPutWithin list.now }
+        requires room { HasRoom (counts_of self.old) (pages_of self.old) list.now }
+        ensures files { files_on self.new ≡ change (list_change list.now) (files_on self.old) }
         ensures root { pages_of self.new 0 ≡ pages_of self.old 0 }
         ensures counts { counts_of self.new ≡ counts_of self.old }
     {
-        let mut next = 0;
-        for (i, file) in files.stored.iter().enumerate() {
-            if file.server.0 == 0 {
-                self.put_file(i as u16, next, file);
-                next += file.blocks.len() as u16;
-            }
+        for intention in list {
+            self.carry_out_one(intention);
         }
+    }
+
+    fn carry_out_one(&mut self, intention: &Intention)
+        requires there { finds_file intention.now.what (files_on self.old (File intention.now.file)) ≡ true }
+        requires within { PutsWithin intention.now.what intention.now.block }
+        requires pages { pages_for intention.now.what ≤ free_pages (counts_of self.old) (pages_of self.old) }
+        requires heads { heads_for intention.now.what (files_on self.old (File intention.now.file)) ≤ free_heads (counts_of self.old) (pages_of self.old) }
+        ensures changes { Changes (counts_of self.old) (pages_of self.old) (pages_of self.new) (intention_change intention.now) (pages_for intention.now.what) (heads_for intention.now.what (files_on self.old (File intention.now.file))) }
+        ensures counts { counts_of self.new ≡ counts_of self.old }
+    {
+        match intention.what {
+            What::Fresh => self.make_fresh(intention.file),
+            What::Gone => self.remove(intention.file),
+            What::Cut => self.cut(intention.file, intention.block),
+            What::Put => self.put_block(intention.file, intention.block, &intention.bytes),
+        }
+    }
+
+    /// Makes a file be there with no blocks.
+    fn make_fresh(&mut self, file: FileNo)
+        requires { heads_for What.Fresh (files_on self.old (File file)) ≤ free_heads (counts_of self.old) (pages_of self.old) }
+        ensures changes { Changes (counts_of self.old) (pages_of self.old) (pages_of self.new) (created file) 0 (heads_for What.Fresh (files_on self.old (File file))) }
+        ensures counts { counts_of self.new ≡ counts_of self.old }
+    {
+        let i = self.place_for(file);
+        self.put(self.head_place(i), &empty_head_page(file));
+    }
+
+    /// Makes a file be absent.
+    fn remove(&mut self, file: FileNo)
+        ensures changes { Changes (counts_of self.old) (pages_of self.old) (pages_of self.new) (removed file) 0 0 }
+        ensures counts { counts_of self.new ≡ counts_of self.old }
+    {
+        if let Some(i) = self.head_at(file) {
+            self.put(self.head_place(i), &free_head_page());
+        }
+    }
+
+    /// Takes a file's blocks from a number on away.
+    fn cut(&mut self, file: FileNo, from: BlockNo)
+        requires { is_some (files_on self.old (File file)) ≡ true }
+        ensures changes { Changes (counts_of self.old) (pages_of self.old) (pages_of self.new) (cut_from file from) 0 0 }
+        ensures counts { counts_of self.new ≡ counts_of self.old }
+    {
+        let i = self.head_of_file(file);
+        let mut addresses = self.addresses(i);
+        cut_addresses(&mut addresses, from.0);
+        self.put_head(i, file, &addresses);
+    }
+
+    /// Puts a block of a file into a free data page, and then the page's address into the file's head.
+    fn put_block(&mut self, file: FileNo, block: BlockNo, bytes: &Block)
+        requires there { is_some (files_on self.old (File file)) ≡ true }
+        requires within { block.0 < 120 }
+        requires room { 0 < free_pages (counts_of self.old) (pages_of self.old) }
+        ensures changes { Changes (counts_of self.old) (pages_of self.old) (pages_of self.new) (written file block bytes.now) 1 0 }
+        ensures counts { counts_of self.new ≡ counts_of self.old }
+    {
+        let d = self.fill_page(bytes);
+        self.name_page(file, block, d);
+    }
+
+    /// Puts bytes into the first data page that no head names.
+    fn fill_page(&mut self, bytes: &Block) -> u16
+        requires { 0 < free_pages (counts_of self.old) (pages_of self.old) }
+        ensures filled { FillsPage (counts_of self.old) (pages_of self.old) (pages_of self.new) result bytes.now }
+        ensures counts { counts_of self.new ≡ counts_of self.old }
+    {
+        let d = self.free_page();
+        self.put(self.data_place(d), &data_page(bytes));
+        d
+    }
+
+    /// Makes a data page that of a block.
+    fn name_page(&mut self, file: FileNo, block: BlockNo, d: u16)
+        requires there { is_some (files_on self.old (File file)) ≡ true }
+        requires within { block.0 < 120 }
+        requires page { d < (counts_of self.old).leaves }
+        ensures changes { Changes (counts_of self.old) (pages_of self.old) (pages_of self.new) (written file block (take 448 (pages_of self.old (data_place (counts_of self.old) d)))) 1 0 }
+        ensures counts { counts_of self.new ≡ counts_of self.old }
+    {
+        let i = self.head_of_file(file);
+        let mut addresses = self.addresses(i);
+        addresses[block.0 as usize] = d + 1;
+        self.put_head(i, file, &addresses);
     }
 
     /// Prints the files and their blocks in ascending order, from the pages themselves. Where memory
@@ -127,31 +264,6 @@ impl Disk {
             from = u64::from(number) + 1;
         }
         Ok(())
-    }
-
-    /// Puts a file's blocks in the data pages from index base on, and then its head as head i.
-    fn put_file(&mut self, i: u16, base: u16, file: &StoredFile)
-        requires head { i < (counts_of self.old).heads }
-        requires room { base + length file.now.blocks.items ≤ (counts_of self.old).leaves }
-        ensures held { HoldsFile (counts_of self.old) (pages_of self.new) (base + length file.now.blocks.items) i file.now }
-        ensures others { (j : ℕ) → j < data_place (counts_of self.old) base → j ≢ head_place (counts_of self.old) i → pages_of self.new j ≡ pages_of self.old j }
-        ensures counts { counts_of self.new ≡ counts_of self.old }
-    {
-        let blocks = file.blocks.as_slice();
-        self.put_blocks(base, blocks);
-        self.put(self.head_place(i), &head_page(file.file, base, blocks));
-    }
-
-    /// Puts blocks in the data pages from index base on.
-    fn put_blocks(&mut self, base: u16, blocks: &[StoredBlock])
-        requires { base + length blocks.now ≤ (counts_of self.old).leaves }
-        ensures stored { AreStored (counts_of self.old) (pages_of self.new) base (length blocks.now) blocks.now }
-        ensures below { (j : ℕ) → j < data_place (counts_of self.old) base → pages_of self.new j ≡ pages_of self.old j }
-        ensures counts { counts_of self.new ≡ counts_of self.old }
-    {
-        for (k, stored) in blocks.iter().enumerate() {
-            self.put(self.data_place(base + k as u16), &data_page(&stored.bytes));
-        }
     }
 
     /// Prints a file and its blocks, if it is there.
@@ -221,6 +333,103 @@ impl Disk {
         None
     }
 
+    /// The head of a file, if it is there.
+    fn head_at(&self, file: FileNo) -> Option<u16>
+        ensures { FindsHead (counts_of self.now) (pages_of self.now) file result }
+    {
+        for i in 0..self.heads {
+            if is_head_of(file, self.page_at(self.head_place(i))) {
+                return Some(i);
+            }
+        }
+        None
+    }
+
+    /// The head of a file that is there.
+    fn head_of_file(&self, file: FileNo) -> u16
+        requires { is_some (files_on self.now (File file)) ≡ true }
+        ensures { IsHeadAt (counts_of self.now) (pages_of self.now) file result }
+    {
+        match self.head_at(file) {
+            Some(i) => i,
+            None => unreachable!(),
+        }
+    }
+
+    /// The head of a file, or a free one where the file isn't there.
+    fn place_for(&self, file: FileNo) -> u16
+        requires { heads_for What.Fresh (files_on self.now (File file)) ≤ free_heads (counts_of self.now) (pages_of self.now) }
+        ensures { IsPlaceOf (counts_of self.now) (pages_of self.now) file result }
+    {
+        match self.head_at(file) {
+            Some(i) => i,
+            None => self.free_head(),
+        }
+    }
+
+    /// The first head that no file has.
+    fn free_head(&self) -> u16
+        requires { 0 < free_heads (counts_of self.now) (pages_of self.now) }
+        ensures within { result < (counts_of self.now).heads }
+        ensures free { is_used (pages_of self.now (head_place (counts_of self.now) result)) ≡ false }
+        ensures first { (j : ℕ) → j < result → is_used (pages_of self.now (head_place (counts_of self.now) j)) ≡ true }
+    {
+        for i in 0..self.heads {
+            if !is_used(self.page_at(self.head_place(i))) {
+                return i;
+            }
+        }
+        unreachable!()
+    }
+
+    /// The first data page that no head names.
+    fn free_page(&self) -> u16
+        requires { 0 < free_pages (counts_of self.now) (pages_of self.now) }
+        ensures within { result < (counts_of self.now).leaves }
+        ensures free { is_named (counts_of self.now) (pages_of self.now) result ≡ false }
+        ensures first { (d : ℕ) → d < result → is_named (counts_of self.now) (pages_of self.now) d ≡ true }
+    {
+        let named = self.named_pages();
+        for d in 0..self.leaves {
+            if !named[d as usize] {
+                return d;
+            }
+        }
+        unreachable!()
+    }
+
+    /// Which data pages heads name.
+    fn named_pages(&self) -> Marks
+        ensures { (d : ℕ) → d < 128 → slice_index_or result d false ≡ is_named (counts_of self.now) (pages_of self.now) d }
+    {
+        let mut named = [false; 128];
+        for i in 0..self.heads {
+            let head = self.page_at(self.head_place(i));
+            if is_used(head) {
+                mark_addresses(head, &mut named);
+            }
+        }
+        named
+    }
+
+    /// The addresses in a head.
+    fn addresses(&self, i: u16) -> Addresses
+        requires { i < (counts_of self.now).heads }
+        ensures { (p : ℕ) → p < 120 → slice_index result p ≡ address_in (pages_of self.now (head_place (counts_of self.now) i)) p }
+    {
+        addresses_in(self.page_at(self.head_place(i)))
+    }
+
+    /// Puts a file's head with these addresses in its place.
+    fn put_head(&mut self, i: u16, file: FileNo, addresses: &Addresses)
+        requires place { IsPlaceOf (counts_of self.old) (pages_of self.old) file i }
+        requires few { (p : ℕ) → p < 120 → slice_index addresses.now p ≤ (counts_of self.old).leaves }
+        ensures head { PutsHead (counts_of self.old) (pages_of self.old) (pages_of self.new) file i addresses.now }
+        ensures counts { counts_of self.new ≡ counts_of self.old }
+    {
+        self.put(self.head_place(i), &used_page(file, addresses));
+    }
+
     /// The page of head i.
     fn head_place(&self, i: u16) -> u32
         ensures { result ≡ head_place (counts_of self.now) i }
@@ -233,6 +442,15 @@ impl Disk {
         ensures { result ≡ data_place (counts_of self.now) i }
     {
         1 + u32::from(self.pool) + u32::from(self.heads) + u32::from(i)
+    }
+
+    /// A page as it stands, without a copy.
+    #[tactic(auto, unfolding(crate::specs::StorePages::pages_in, crate::specs::StorePages::page_count))]
+    fn page_at(&self, i: u32) -> &Page
+        requires { i < page_total (counts_of self.now) }
+        ensures { result.now ≡ pages_of self.now i }
+    {
+        self.store.page(i)
     }
 
     #[tactic(auto, unfolding(crate::specs::StorePages::pages_in, crate::specs::StorePages::page_count))]
@@ -251,7 +469,7 @@ impl Disk {
     #[tactic(auto, unfolding(crate::specs::StorePages::pages_in, crate::specs::StorePages::page_count))]
     fn put(&mut self, i: u32, page: &Page)
         requires within { i < page_total (counts_of self.old) }
-        requires fits { AddressesFit (counts_of self.old) (with_page (pages_of self.old) i page.now) }
+        requires sound { IsSound (counts_of self.old) (with_page (pages_of self.old) i page.now) }
         ensures pages { pages_of self.new ≡ with_page (pages_of self.old) i page.now }
         ensures counts { counts_of self.new ≡ counts_of self.old }
     {
@@ -300,71 +518,4 @@ fn print_line(text: Text) -> Line
 }
 
 #[cfg(test)]
-mod tests {
-    use super::*;
-    use std::test::Fail;
-
-    fn stored(block: u16, byte: u8) -> StoredBlock {
-        StoredBlock {
-            block: BlockNo(block),
-            bytes: [byte; 448],
-        }
-    }
-
-    fn file_of(alloc: Global, file: u32, blocks: &[StoredBlock]) -> Result<StoredFile, AllocError>
-        ensures { IfOk result (λ x. length x.blocks.items ≡ length blocks.now) }
-    {
-        Ok(StoredFile {
-            server: SERVER,
-            file: FileNo(file),
-            blocks: blocks.to_vec(alloc)?,
-        })
-    }
-
-    /// Files 9 and 7, whose blocks stand out of order. Block 0 of file 9 stands twice.
-    fn two_files(alloc: Global) -> Result<Files, AllocError>
-        ensures heads { IfOk result (λ files. length files.stored.items ≤ 16) }
-        ensures leaves { IfOk result (λ files. block_count files.stored.items ≤ 128) }
-    {
-        let nine = file_of(alloc, 9, &[stored(119, 1), stored(0, 2), stored(0, 3)])?;
-        let seven = file_of(alloc, 7, &[stored(5, 4), stored(2, 5)])?;
-        let mut files = Vec::new(alloc);
-        files.push(nine)?;
-        files.push(seven)?;
-        Ok(Files { stored: files })
-    }
-
-    /// Whether a line prints the file, or the block of it with this byte at its end.
-    fn prints(line: &Line, file: u32, block: Option<(u16, u8)>) -> bool {
-        match (line.text, block) {
-            (Text::File(s, f), None) => s == SERVER && f.0 == file,
-            (Text::Page(s, f, b, bytes), Some((number, byte))) => {
-                s == SERVER && f.0 == file && b.0 == number && bytes[447] == byte
-            }
-            _ => false,
-        }
-    }
-
-    #[test]
-    fn files_are_printed_in_order(rt: HostRuntime) -> Result<(), Fail> {
-        let mut disk = Disk::new(rt.alloc())?;
-        assert_eq!(rt; disk.raise_epoch(), 1);
-        disk.carry_out(&two_files(rt.alloc())?);
-        let mut lines = Vec::new(rt.alloc());
-        disk.print(&mut lines)?;
-
-        let expected = [
-            (7, None),
-            (7, Some((2, 5))),
-            (7, Some((5, 4))),
-            (9, None),
-            (9, Some((0, 2))),
-            (9, Some((119, 1))),
-        ];
-        assert_eq!(rt; lines.len(), expected.len());
-        for (line, (file, block)) in lines.iter().zip(expected) {
-            assert!(rt; prints(line, file, block));
-        }
-        Ok(())
-    }
-}
+mod tests;

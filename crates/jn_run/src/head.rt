@@ -1,18 +1,24 @@
 //! The pages of heads and of blocks.
-ghost use Rattle.std.specs.Prelude.{◌≡◌, ◌<◌, ◌+◌, ◌^◌, length, take};
+ghost use Rattle.std.specs.Prelude.{◌≡◌, ◌<◌, ◌≤◌, ◌+◌, ◌^◌, ℕ, ◌||◌, false, true, length, take, slice_index, slice_index_or};
 ghost use Rattle.jn_run.specs.Pages.{is_head_of, address_in};
 ghost use Rattle.jn_run.specs.Printed.{number_in, least_with};
-ghost use Rattle.jn_run.specs.Heads.{address_of, IsHeadPage};
+ghost use Rattle.jn_run.specs.Room.{is_used, has_address};
+ghost use Rattle.jn_run.specs.Sound.{IsHeadWith};
 
 use byteorder::{BigEndian, ByteOrder};
 use jn_base::{Block, BlockNo, FileNo, Page, PageWriter};
-use jn_serial::StoredBlock;
 
 /// The first byte of a used head.
 pub const USED: u8 = 1;
 
 /// How many blocks a head has addresses for.
 pub const BLOCKS: u16 = 120;
+
+/// Of each block its address.
+pub type Addresses = [u16; 120];
+
+/// Of each data page whether it is marked.
+pub type Marks = [bool; 128];
 
 /// The page of a block.
 pub fn data_page(block: &Block) -> Page
@@ -23,31 +29,73 @@ pub fn data_page(block: &Block) -> Page
     page.finish()
 }
 
-/// The address of a block, where the file's blocks stand in the data pages from index base on.
-pub fn address_of_block(block: u16, base: u16, blocks: &[StoredBlock]) -> u16
-    requires { base + length blocks.now < 2 ^ 16 }
-    ensures { result ≡ address_of block base blocks.now }
-{
-    for (k, stored) in blocks.iter().enumerate() {
-        if stored.block.0 == block {
-            return base + k as u16 + 1;
-        }
-    }
-    0
-}
-
-/// The head of a file whose blocks stand in the data pages from index base on.
-pub fn head_page(file: FileNo, base: u16, blocks: &[StoredBlock]) -> Page
-    requires { base + length blocks.now < 2 ^ 16 }
-    ensures { IsHeadPage file.0 base blocks.now result }
+/// The page of a file's head with these addresses.
+pub fn used_page(file: FileNo, addresses: &Addresses) -> Page
+    ensures { IsHeadWith file addresses.now result }
 {
     let mut page = PageWriter::new();
     page.put_u8(USED);
     page.put_u32(file.0);
-    for block in 0..BLOCKS {
-        page.put_u16(address_of_block(block, base, blocks));
+    for address in addresses {
+        page.put_u16(*address);
     }
     page.finish()
+}
+
+/// The page of the head of a file without blocks.
+pub fn empty_head_page(file: FileNo) -> Page
+    ensures here { is_head_of file result ≡ true }
+    ensures empty { (p : ℕ) → p < 120 → address_in result p ≡ 0 }
+{
+    used_page(file, &[0; 120])
+}
+
+/// The page of a head that no file has.
+pub fn free_head_page() -> Page
+    ensures { is_used result ≡ false }
+{
+    PageWriter::new().finish()
+}
+
+/// The addresses of a head.
+pub fn addresses_in(head: &Page) -> Addresses
+    ensures { (p : ℕ) → p < 120 → slice_index result p ≡ address_in head.now p }
+{
+    let mut addresses = [0; 120];
+    for block in 0..BLOCKS {
+        addresses[block as usize] = address_in(head, BlockNo(block));
+    }
+    addresses
+}
+
+/// Takes the addresses of blocks from a number on away.
+pub fn cut_addresses(addresses: &mut Addresses, from: u16)
+    ensures kept { (p : ℕ) → p < 120 → p < from → slice_index addresses.new p ≡ slice_index addresses.old p }
+    ensures gone { (p : ℕ) → p < 120 → from ≤ p → slice_index addresses.new p ≡ 0 }
+{
+    for block in from..BLOCKS {
+        addresses[block as usize] = 0;
+    }
+}
+
+/// Marks the data pages that a head has addresses of.
+pub fn mark_addresses(head: &Page, named: &mut Marks)
+    requires { (p : ℕ) → p < 120 → address_in head.now p ≤ 128 }
+    ensures { (d : ℕ) → d < 128 → slice_index_or named.new d false ≡ (slice_index_or named.old d false || has_address head.now d) }
+{
+    for block in 0..BLOCKS {
+        let address = address_in(head, BlockNo(block));
+        if address > 0 {
+            named[address as usize - 1] = true;
+        }
+    }
+}
+
+/// Whether a file has the head.
+pub fn is_used(head: &Page) -> bool
+    ensures { result ≡ is_used head.now }
+{
+    head[0] == USED
 }
 
 /// Whether a page is the used head of this file.

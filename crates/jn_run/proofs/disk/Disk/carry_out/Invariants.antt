@@ -1,15 +1,17 @@
-use Rattle.std.proofs.Common.{◌≡◌, ◌+◌, ◌≤◌, ◌<◌, ℕ, drop}
-use Rattle.jn_serial.specs.Stored.{block_count}
-use Rattle.jn_run.specs.Heads.{IsFree, HoldsEntries}
-use Rattle.jn_run.specs.Disk.{counts_of, pages_of}
+use Rattle.std.proofs.Common.{◌≡◌, drop}
+use Rattle.jn_order.specs.Files.{change}
+use Rattle.jn_records.specs.NetLists.{FilesThere, list_change}
+use Rattle.jn_run.specs.Room.{HasRoom, AllPutWithin}
+use Rattle.jn_run.specs.Disk.{counts_of, pages_of, files_on}
 use Rattle.jn_run.proofs.disk.Disk.carry_out.Given as goal
 
--- the first entries are held, the other heads are free, and there is room for the blocks that are left
-abbrev pub invariant-loop-i : goal.invariant-loop-i
-invariant-loop-i l = record {
+-- what is left of the list changes the files now as the whole list changes them at the start
+abbrev pub invariant-loop-intention : goal.invariant-loop-intention
+invariant-loop-intention l = record {
   counts : counts_of l.self ≡ counts_of l.fn.self;
   root : pages_of l.self 0 ≡ pages_of l.fn.self 0;
-  room : l.next + block_count (drop l.i l.files.stored.items) ≤ l.fn.self.leaves;
-  held : HoldsEntries (counts_of l.fn.self) (pages_of l.self) l.next l.i l.files.stored.items;
-  free : (j : ℕ) → l.i ≤ j → j < l.fn.self.heads → IsFree (counts_of l.fn.self) (pages_of l.self) j;
+  there : FilesThere (drop l.intention-index l.list) (files_on l.self);
+  within : AllPutWithin (drop l.intention-index l.list);
+  room : HasRoom (counts_of l.self) (pages_of l.self) (drop l.intention-index l.list);
+  files : change (list_change (drop l.intention-index l.list)) (files_on l.self) ≡ change (list_change l.list) (files_on l.fn.self);
 }

@@ -5,6 +5,7 @@ use Rattle.jn_run.specs.Pages.{Pages, head_place}
 use Rattle.jn_run.specs.Heads.{counts}
 use Rattle.jn_run.specs.StorePages.{pages_in}
 use Rattle.jn_run.specs.Disk.{counts_of}
+use Rattle.jn_run.proofs.DataChange.{sound_of_blank}
 use Rattle.jn_run.proofs.Store.{blank_count, blank_at}
 use Rattle.jn_run.proofs.disk.Disk.new.Goals as goal
 
@@ -13,7 +14,7 @@ invariant_of-disk c = record {
   addressed = omega arith;
   few = omega arith;
   whole = blank_count c.in_ok-store.store 177 c.in_ok-store.ensures;
-  fits = λ i p below few used. absurd (let free = blank_at c.in_ok-store.store 177 c.in_ok-store.ensures (head_place (counts 32 16 128) i) in cc (free, used));
+  sound = sound_of_blank (counts 32 16 128) (pages_in c.in_ok-store.store) (λ i. blank_at c.in_ok-store.store 177 c.in_ok-store.ensures (head_place (counts 32 16 128) i));
 }
 
 pub returns-clause-fresh : goal.returns-clause-fresh

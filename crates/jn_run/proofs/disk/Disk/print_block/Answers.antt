@@ -13,7 +13,7 @@ use Rattle.jn_run.proofs.disk.Disk.print_block.Goals as goal
 pub page-page-requires : goal.page-page-requires
 page-page-requires c =
     let disk = c.args.self.now in
-    let few = head_fits (counts_of disk) (pages_of disk) c.args.file disk.fits c.args.head.now c.requires.head c.args.block.0 c.requires.within in
+    let few = head_fits (counts_of disk) (pages_of disk) c.args.file disk.sound.fits c.args.head.now c.requires.head c.args.block.0 c.requires.within in
     omega (arith, few, c.address_in-address.ensures, c.data_place.ensures, c.if-address-gt0.true)
 
 pub returns-in_ok-push-clause-ok : goal.returns-in_ok-push-clause-ok

@@ -1,6 +1,7 @@
 use Rattle.std.proofs.Common.{subst, sym, ◌∙◌, ◌<◌, arith}
 use Rattle.std.specs.Prelude.{is_ok}
-use Rattle.jn_run.specs.Heads.{AddressesFit, counts}
+use Rattle.jn_run.specs.Heads.{counts}
+use Rattle.jn_run.specs.Sound.{IsSound}
 use Rattle.jn_run.specs.StorePages.{page_count}
 use Rattle.jn_run.proofs.Store.{put_count, put_pages}
 use Rattle.jn_run.proofs.disk.Disk.put.Goals as goal
@@ -13,5 +14,5 @@ invariant_of-self c =
       addressed = disk.addressed;
       few = disk.few;
       whole = put_count disk.store c.put.new.self c.args.i c.args.page.now (is_ok c.put.result) c.put.ensures.put ∙ disk.whole;
-      fits = subst (AddressesFit (counts disk.pool disk.heads disk.leaves)) (sym (put_pages disk.store c.put.new.self c.args.i c.args.page.now (is_ok c.put.result) c.put.ensures.put within)) c.requires.fits;
+      sound = subst (IsSound (counts disk.pool disk.heads disk.leaves)) (sym (put_pages disk.store c.put.new.self c.args.i c.args.page.now (is_ok c.put.result) c.put.ensures.put within)) c.requires.sound;
     }

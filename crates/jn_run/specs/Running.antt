@@ -1,0 +1,24 @@
+-- What a run of events leaves.
+use Rattle.std.specs.Prelude.{◌≡◌, ◌≤◌, ◌⊎◌, ℕ, true, false, List, Option, Result, Err, is_ok}
+use Rattle.jn_schedule.specs.declared.Event.{Event}
+use Rattle.jn_report.specs.declared.line.Line.{Line}
+use Rattle.jn_report.specs.Text.{report_text}
+use Rattle.jn_host.specs.Outside.{Rose}
+use Rattle.jn_run.specs.declared.outside.RunFault.{RunFault}
+use Rattle.jn_run.specs.declared.outside.RunFault.TheVariants as runs
+use Rattle.jn_run.specs.Moves.{View, Runs}
+use Rattle.jn_run.specs.Outcome.{WholeRun, PartRun, Took, TookFront}
+
+-- what the sink took of one event's lines
+pub record RunsEvent (taken : Option (List ℕ)) (faults n : ℕ) (e : Event) (v : View) (answer : Result (Unit {0}) RunFault) (w : View) (taken' : Option (List ℕ)) (faults' : ℕ) : Type 0 where
+  pub count : faults ≤ faults'
+  pub whole : is_ok answer ≡ true → (ms : List Line) × Runs n e v w ms × Took taken taken' (report_text ms)
+  pub part : is_ok answer ≡ false → (taken' ≡ taken) ⊎ ((ms : List Line) × Runs n e v w ms × TookFront taken taken' (report_text ms))
+  pub rose : answer ≡ Err runs.Write → Rose faults faults'
+
+-- what it took of all
+pub record Ran (taken : Option (List ℕ)) (faults : ℕ) (events : List Event) (answer : Result (Unit {0}) RunFault) (taken' : Option (List ℕ)) (faults' : ℕ) : Type 0 where
+  pub count : faults ≤ faults'
+  pub whole : is_ok answer ≡ true → WholeRun taken events taken'
+  pub part : is_ok answer ≡ false → PartRun taken events taken'
+  pub rose : answer ≡ Err runs.Write → Rose faults faults'

@@ -1,0 +1,728 @@
+//! The world of one server and one client.
+
+ghost use Rattle.jn_base.specs.declared.names.Cause.TheVariants.{Requested, Full};
+ghost use Rattle.std.specs.Prelude.{◌↔◌, ◌⊎◌, ◌≡◌, length, ℕ, List, [], IfOk, None, IfSome, IfNone, ◌<◌, ◌≤◌, Some, true};
+ghost use Rattle.jn_report.specs.declared.line.Line.{Line};
+ghost use Rattle.jn_records.specs.NetLists.{FilesThere};
+ghost use Rattle.jn_run.specs.Disk.{files_on, counts_of, pages_of};
+ghost use Rattle.jn_run.specs.Room.{HasRoom};
+ghost use Rattle.jn_run.specs.Within.{op_within, asked_within, command_within, event_within, puts_within};
+ghost use Rattle.jn_run.specs.Moves.{IsOutcome, abort_asked, begin_asked, open_asked, is_op_asked, opened_as};
+ghost use Rattle.jn_schedule.specs.declared.Event.TheVariants as events;
+ghost use Rattle.jn_run.specs.Pages.{epoch_in, only_server_0, server_0};
+ghost use Rattle.jn_order.specs.Files.{no_files};
+ghost use Rattle.jn_run.specs.Ending.{ArePrinted, end_line};
+ghost use Rattle.jn_run.specs.Names.{client_1, name_of, line_at};
+ghost use Rattle.jn_run.specs.Moves.{Leads, Runs, CanAbort, IsEnding, Undecided, AbortedBy, Committed, decided, drawn, is_ending, answer_text};
+ghost use Rattle.jn_run.specs.Runnable.{is_run};
+
+use crate::changes::{Changes, Shortage};
+use crate::client::{Asked, Client};
+use crate::disk::Disk;
+use crate::traffic::{Kind, Traffic};
+use jn_base::{Answer, Cause, ClientNo, Command, Op, ServerNo, Tid};
+use jn_report::{Line, Refusal, Text, When};
+use jn_schedule::Event;
+use std::alloc::{AllocError, Global};
+
+pub const CLIENT: ClientNo = ClientNo(1);
+
+pub const SERVER: ServerNo = ServerNo(0);
+
+/// The epoch of a run, from the first start of the server to the end.
+const EPOCH: u32 = 1;
+
+/// Where the client's last transaction stands at its coordinator.
+#[derive(Clone, Copy)]
+pub enum Phase {
+    Open,
+    Voting,
+    Committed,
+    Aborted(Cause),
+}
+
+/// Where the server's part of it stands.
+#[derive(Clone, Copy, PartialEq, Eq)]
+enum Work {
+    None,
+    Active,
+    Ready,
+    Going,
+}
+
+/// A server and its client.
+#[derive(Drop)]
+pub struct World {
+    disk: Disk,
+    client: Client,
+    phase: Phase,
+    changes: Changes,
+    next_ticket: u32,
+    commits: u32,
+    // What follows tells only which messages are sent.
+    work: Work,
+    // of a committed transaction: the work has carried it out
+    is_done: bool,
+    // its client knows the outcome
+    is_thanked: bool,
+    traffic: Traffic,
+    ghost there: { FilesThere changes.list (files_on disk) },
+    ghost within: { puts_within changes.list ≡ true },
+    ghost few: { length changes.list ≤ 24 },
+    ghost asked: { asked_within client.asked ≡ true },
+    ghost epoch: { epoch_in (pages_of disk 0) ≡ 1 },
+}
+
+impl World {
+    ghost use Rattle.jn_run.specs.World.{view_of};
+
+    /// A server with a new disk, which has come up, and a client.
+    pub fn new(alloc: Global) -> Result<World, AllocError>
+        ensures asked { IfOk result (λ w. (view_of w).asked ≡ None) }
+        ensures current { IfOk result (λ w. (view_of w).current ≡ None) }
+        ensures stored { IfOk result (λ w. no_files ≡ only_server_0 (view_of w).stored) }
+    {
+        let mut disk = Disk::new(alloc)?;
+        disk.raise_epoch();
+        Ok(World {
+            disk,
+            client: Client::new(),
+            phase: Phase::Committed,
+            changes: Changes::new(alloc),
+            next_ticket: 0,
+            commits: 0,
+            work: Work::None,
+            is_done: true,
+            is_thanked: true,
+            traffic: Traffic::new(alloc),
+        })
+    }
+
+    /// Runs an event, and adds its lines.
+    pub fn event(
+        &mut self,
+        alloc: Global,
+        number: u32,
+        event: &Event,
+        lines: &mut Vec<Line>,
+    ) -> Result<(), AllocError>
+        requires known { is_run event.now ≡ true }
+        requires within { event_within event.now ≡ true }
+        requires first { lines.old.items ≡ [] }
+        ensures ran { IfOk result (λ done. Runs number event.now (view_of self.old) (view_of self.new) lines.new.items) }
+    {
+        match event {
+            Event::Command(_, command) => self.command(number, command, lines),
+            Event::Again(_) => self.again(),
+            _ => self.settle(alloc, number, lines),
+        }
+    }
+
+    fn command(
+        &mut self,
+        number: u32,
+        command: &Command,
+        lines: &mut Vec<Line>,
+    ) -> Result<(), AllocError>
+        requires within { command_within command.now ≡ true }
+        requires first { lines.old.items ≡ [] }
+        ensures ran { IfOk result (λ done. Runs number (events.Command client_1 command.now) (view_of self.old) (view_of self.new) lines.new.items) }
+    {
+        match self.client.command(number, command) {
+            Some(refusal) => {
+                let text = Text::Refused(CLIENT, number, refusal);
+                lines.push(line_at(number, text))?;
+                Ok(())
+            }
+            None => self.traffic.send(kind_of(command)),
+        }
+    }
+
+    /// The client sends its outstanding message once more.
+    fn again(&mut self) -> Result<(), AllocError>
+        ensures same { view_of self.new ≡ view_of self.old }
+    {
+        match self.client.asked {
+            Some(asked) => self.traffic.send(kind_of(&asked.command)),
+            None => Ok(()),
+        }
+    }
+
+    /// Messages and steps, until nothing is left to do; then the server asks of its work.
+    fn settle(
+        &mut self,
+        alloc: Global,
+        number: u32,
+        lines: &mut Vec<Line>,
+    ) -> Result<(), AllocError>
+        ensures moved { IfOk result (λ taken. Leads number (view_of self.old) lines.old.items (view_of self.new) lines.new.items) }
+    {
+        self.settle_once(alloc, number, lines)?;
+        if self.work != Work::None {
+            self.traffic.send(Kind::Inquire)?;
+            self.settle_once(alloc, number, lines)?;
+        }
+        Ok(())
+    }
+
+    fn settle_once(
+        &mut self,
+        alloc: Global,
+        number: u32,
+        lines: &mut Vec<Line>,
+    ) -> Result<(), AllocError>
+        ensures moved { IfOk result (λ taken. Leads number (view_of self.old) lines.old.items (view_of self.new) lines.new.items) }
+    {
+        for _ in 0..u64::MAX {
+            match self.traffic.next() {
+                Some((k, kind)) => self.deliver(alloc, number, k, kind, lines)?,
+                None => {
+                    if self.work != Work::Going {
+                        return Ok(());
+                    }
+                    self.work = Work::None;
+                    self.traffic.send(Kind::Done)?;
+                }
+            }
+        }
+        Ok(())
+    }
+
+    /// Hands message k over.
+    fn deliver(
+        &mut self,
+        alloc: Global,
+        number: u32,
+        k: u32,
+        kind: Kind,
+        lines: &mut Vec<Line>,
+    ) -> Result<(), AllocError>
+        ensures moved { IfOk result (λ taken. Leads number (view_of self.old) lines.old.items (view_of self.new) lines.new.items) }
+    {
+        if !self.is_taken(alloc, number, kind, lines)? {
+            lines.push(line_at(number, Text::Ignored(k)))?;
+        }
+        Ok(())
+    }
+
+    /// Whether a message isn't stale; then what it leads to happens.
+    fn is_taken(
+        &mut self,
+        alloc: Global,
+        number: u32,
+        kind: Kind,
+        lines: &mut Vec<Line>,
+    ) -> Result<bool, AllocError>
+        ensures moved { IfOk result (λ taken. Leads number (view_of self.old) lines.old.items (view_of self.new) lines.new.items) }
+    {
+        match kind {
+            Kind::Begun => self.take_begun(alloc, number, lines),
+            Kind::Opened => self.take_opened(number, lines),
+            Kind::Answer => self.take_answer(number, lines),
+            Kind::Outcome => self.take_outcome(number, lines),
+            Kind::End => self.end(alloc, number, lines),
+            Kind::Vote => self.vote(alloc, number, lines),
+            Kind::Abort => self.abort(),
+            Kind::Open => self.open(),
+            _ => self.pass(kind),
+        }
+    }
+
+    // At the client.
+
+    fn take_begun(
+        &mut self,
+        alloc: Global,
+        number: u32,
+        lines: &mut Vec<Line>,
+    ) -> Result<bool, AllocError>
+        ensures moved { IfOk result (λ taken. Leads number (view_of self.old) lines.old.items (view_of self.new) lines.new.items) }
+    {
+        let Some(j) = self.asked_begin() else {
+            return Ok(false);
+        };
+        if self.client.current.is_some() {
+            return Ok(false);
+        }
+        let Some(tid) = self.draw() else {
+            return Ok(false);
+        };
+        lines.push(line_at(number, Text::Begun(CLIENT, j, tid)))?;
+        self.begin(alloc, tid);
+        Ok(true)
+    }
+
+    /// The number of the begin that the client waits for.
+    fn asked_begin(&self) -> Option<u32>
+        ensures { result ≡ begin_asked (view_of self.now).asked }
+    {
+        let asked = self.client.asked?;
+        match asked.command {
+            Command::Begin(_) => Some(asked.number),
+            _ => None,
+        }
+    }
+
+    /// The transaction is the client's, and open.
+    fn begin(&mut self, alloc: Global, tid: Tid)
+        ensures { view_of self.new ≡ opened_as (view_of self.old) tid }
+    {
+        self.changes = Changes::new(alloc);
+        self.phase = Phase::Open;
+        self.client = Client {
+            asked: None,
+            current: Some(tid),
+            is_open: false,
+        };
+        self.is_done = false;
+        self.is_thanked = false;
+    }
+
+    fn take_opened(&mut self, number: u32, lines: &mut Vec<Line>) -> Result<bool, AllocError>
+        ensures moved { IfOk result (λ taken. Leads number (view_of self.old) lines.old.items (view_of self.new) lines.new.items) }
+    {
+        let Some(j) = self.asked_open() else {
+            return Ok(false);
+        };
+        lines.push(line_at(number, Text::Opened(CLIENT, j, SERVER)))?;
+        self.client.asked = None;
+        self.client.is_open = true;
+        Ok(true)
+    }
+
+    /// The number of the open that the client waits for.
+    fn asked_open(&self) -> Option<u32>
+        ensures { result ≡ open_asked (view_of self.now).asked }
+    {
+        let asked = self.client.asked?;
+        match asked.command {
+            Command::Open(_) => Some(asked.number),
+            _ => None,
+        }
+    }
+
+    /// An answer to the operation that the client waits for. Nothing has happened since it was performed,
+    /// so it is performed here.
+    fn take_answer(&mut self, number: u32, lines: &mut Vec<Line>) -> Result<bool, AllocError>
+        ensures moved { IfOk result (λ taken. Leads number (view_of self.old) lines.old.items (view_of self.new) lines.new.items) }
+    {
+        let Some((j, op)) = self.asked_op() else {
+            return Ok(false);
+        };
+        if self.client.current.is_none() || !self.is_undecided() {
+            return Ok(false);
+        }
+        let answer = self.changes.perform(&self.disk, &op)?;
+        lines.push(line_at(number, text_of_answer(j, &answer)))?;
+        self.client.asked = None;
+        Ok(true)
+    }
+
+    /// The operation that the client waits for, and its number.
+    fn asked_op(&self) -> Option<(u32, Op)>
+        ensures asked { IfSome result (λ x. is_op_asked (view_of self.now).asked x.0 x.1) }
+        ensures within { IfSome result (λ x. op_within x.1 ≡ true) }
+    {
+        let asked = self.client.asked?;
+        match asked.command {
+            Command::Do(ServerNo(0), op) => Some((asked.number, op)),
+            _ => None,
+        }
+    }
+
+    fn is_undecided(&self) -> bool
+        ensures { (result ≡ true) ↔ ((view_of self.now).fate ≡ Undecided) }
+    {
+        match self.phase {
+            Phase::Open | Phase::Voting => true,
+            _ => false,
+        }
+    }
+
+    fn take_outcome(&mut self, number: u32, lines: &mut Vec<Line>) -> Result<bool, AllocError>
+        ensures moved { IfOk result (λ taken. Leads number (view_of self.old) lines.old.items (view_of self.new) lines.new.items) }
+    {
+        let Some(tid) = self.client.current else {
+            self.traffic.send(Kind::Thanks)?;
+            return Ok(true);
+        };
+        let Some(text) = self.outcome_text(tid) else {
+            return Ok(false);
+        };
+        lines.push(line_at(number, text))?;
+        self.client = Client::new();
+        self.traffic.send(Kind::Thanks)?;
+        Ok(true)
+    }
+
+    /// What the client is told of its transaction's outcome.
+    fn outcome_text(&self, tid: Tid) -> Option<Text>
+        requires { self.now.client.current ≡ Some tid }
+        ensures { IfSome result (λ text. IsOutcome (view_of self.now) tid text) }
+    {
+        let asked = self.client.asked?;
+        match self.phase {
+            Phase::Committed if is_ending(&asked.command) => {
+                Some(Text::Committed(CLIENT, asked.number, tid))
+            }
+            Phase::Aborted(cause) if is_ending(&asked.command) => {
+                Some(Text::Aborted(CLIENT, asked.number, tid, cause))
+            }
+            _ => None,
+        }
+    }
+
+    // At the server.
+
+    /// A work begins, if none is there.
+    fn open(&mut self) -> Result<bool, AllocError>
+        ensures moved { (view_of self.new ≡ view_of self.old) ⊎ (view_of self.new ≡ drawn (view_of self.old)) }
+    {
+        if self.work == Work::None {
+            let _name = self.draw();
+            self.work = Work::Active;
+        }
+        self.reply(Kind::Opened)
+    }
+
+    /// The end of a transaction: at once where it opened no server.
+    fn end(&mut self, alloc: Global, number: u32, lines: &mut Vec<Line>) -> Result<bool, AllocError>
+        ensures moved { IfOk result (λ taken. Leads number (view_of self.old) lines.old.items (view_of self.new) lines.new.items) }
+    {
+        match self.phase {
+            Phase::Open if self.client.is_open => {
+                self.phase = Phase::Voting;
+                self.traffic.send(Kind::Prepare)?;
+                Ok(true)
+            }
+            Phase::Open => self.decide(alloc, number, lines),
+            Phase::Voting => {
+                self.traffic.send(Kind::Prepare)?;
+                Ok(true)
+            }
+            _ => self.tell_outcome(),
+        }
+    }
+
+    fn abort(&mut self) -> Result<bool, AllocError>
+        ensures moved { (view_of self.new ≡ view_of self.old) ⊎ (CanAbort (view_of self.old) Requested × (view_of self.new ≡ decided (view_of self.old) (AbortedBy Requested) (view_of self.old).stored)) }
+    {
+        if self.is_undecided() && self.asks_abort() {
+            return self.decide_abort(Cause::Requested);
+        }
+        self.tell_outcome()
+    }
+
+    fn asks_abort(&self) -> bool
+        ensures { result ≡ abort_asked (view_of self.now).asked }
+    {
+        match self.client.asked {
+            Some(asked) => matches!(asked.command, Command::Abort),
+            None => false,
+        }
+    }
+
+    fn tell_outcome(&mut self) -> Result<bool, AllocError>
+        ensures same { view_of self.new ≡ view_of self.old }
+    {
+        if !self.is_known() {
+            return Ok(false);
+        }
+        self.traffic.send(Kind::Outcome)?;
+        Ok(true)
+    }
+
+    fn vote(
+        &mut self,
+        alloc: Global,
+        number: u32,
+        lines: &mut Vec<Line>,
+    ) -> Result<bool, AllocError>
+        ensures moved { IfOk result (λ taken. Leads number (view_of self.old) lines.old.items (view_of self.new) lines.new.items) }
+    {
+        match self.phase {
+            Phase::Open => Ok(false),
+            Phase::Voting => self.decide(alloc, number, lines),
+            _ => {
+                self.answer_work()?;
+                Ok(true)
+            }
+        }
+    }
+
+    /// Commits the transaction, or aborts it where the disk has no room for it.
+    fn decide(
+        &mut self,
+        alloc: Global,
+        number: u32,
+        lines: &mut Vec<Line>,
+    ) -> Result<bool, AllocError>
+        requires open { (view_of self.old).fate ≡ Undecided }
+        ensures moved { IfOk result (λ taken. Leads number (view_of self.old) lines.old.items (view_of self.new) lines.new.items) }
+    {
+        match (self.client.asked, self.client.current) {
+            (Some(asked), Some(tid)) if is_ending(&asked.command) => {
+                match self.changes.shortage(&self.disk) {
+                    Some(short) => self.decide_abort(full(&short)),
+                    None => {
+                        self.commit(alloc, number, tid, lines)?;
+                        Ok(true)
+                    }
+                }
+            }
+            _ => Ok(false),
+        }
+    }
+
+    fn commit(
+        &mut self,
+        alloc: Global,
+        number: u32,
+        tid: Tid,
+        lines: &mut Vec<Line>,
+    ) -> Result<(), AllocError>
+        requires open { (view_of self.old).fate ≡ Undecided }
+        requires ending { IsEnding (view_of self.old) }
+        requires current { self.old.client.current ≡ Some tid }
+        requires room { HasRoom (counts_of self.old.disk) (pages_of self.old.disk) self.old.changes.list }
+        ensures moved { IfOk result (λ done. Leads number (view_of self.old) lines.old.items (view_of self.new) lines.new.items) }
+    {
+        lines.push(line_at(number, Text::Commit(tid)))?;
+        self.carry_out(alloc);
+        self.commits = self.commits.saturating_add(1);
+        self.is_done = !self.client.is_open;
+        self.send_commit()
+    }
+
+    /// Sends the commit to the work, if there is one, and the outcome to the client.
+    fn send_commit(&mut self) -> Result<(), AllocError>
+        ensures same { view_of self.new ≡ view_of self.old }
+    {
+        if self.client.is_open {
+            self.traffic.send(Kind::Commit)?;
+        }
+        self.traffic.send(Kind::Outcome)
+    }
+
+    /// The transaction is committed, and its changes are the disk's.
+    fn carry_out(&mut self, alloc: Global)
+        requires room { HasRoom (counts_of self.old.disk) (pages_of self.old.disk) self.old.changes.list }
+        ensures { view_of self.new ≡ decided (view_of self.old) Committed (view_of self.old).sees }
+    {
+        self.disk.carry_out(self.changes.list());
+        self.changes = Changes::new(alloc);
+        self.phase = Phase::Committed;
+    }
+
+    fn decide_abort(&mut self, cause: Cause) -> Result<bool, AllocError>
+        ensures decided { view_of self.new ≡ decided (view_of self.old) (AbortedBy cause) (view_of self.old).stored }
+    {
+        self.phase = Phase::Aborted(cause);
+        self.is_done = true;
+        if self.client.is_open {
+            self.traffic.send(Kind::Drop)?;
+        }
+        self.traffic.send(Kind::Outcome)?;
+        Ok(true)
+    }
+
+    /// Answers a work of a transaction that is decided or unknown.
+    fn answer_work(&mut self) -> Result<(), AllocError>
+        ensures same { view_of self.new ≡ view_of self.old }
+    {
+        match self.phase {
+            Phase::Committed if !self.is_done => self.traffic.send(Kind::Commit),
+            _ => self.traffic.send(Kind::Drop),
+        }
+    }
+
+    /// Whether the coordinator has the transaction.
+    fn is_known(&self) -> bool {
+        match self.phase {
+            Phase::Committed | Phase::Aborted(_) => !(self.is_done && self.is_thanked),
+            _ => true,
+        }
+    }
+
+    /// The messages that tell no client anything.
+    fn pass(&mut self, kind: Kind) -> Result<bool, AllocError>
+        ensures same { view_of self.new ≡ view_of self.old }
+    {
+        match kind {
+            Kind::Begin => self.reply(Kind::Begun),
+            Kind::Op => self.reply(Kind::Answer),
+            Kind::Prepare => self.prepare(),
+            Kind::Commit => self.carry_on(),
+            Kind::Drop => Ok(self.drop_work()),
+            Kind::Done => Ok(self.note_done()),
+            Kind::Thanks => Ok(self.note_thanks()),
+            _ => self.inquire(),
+        }
+    }
+
+    fn reply(&mut self, kind: Kind) -> Result<bool, AllocError>
+        ensures same { view_of self.new ≡ view_of self.old }
+    {
+        self.traffic.send(kind)?;
+        Ok(true)
+    }
+
+    fn prepare(&mut self) -> Result<bool, AllocError>
+        ensures same { view_of self.new ≡ view_of self.old }
+    {
+        if self.work == Work::Going {
+            return Ok(false);
+        }
+        if self.work == Work::Active && self.changes.shortage(&self.disk).is_none() {
+            self.work = Work::Ready;
+        }
+        self.reply(Kind::Vote)
+    }
+
+    fn carry_on(&mut self) -> Result<bool, AllocError>
+        ensures same { view_of self.new ≡ view_of self.old }
+    {
+        match self.work {
+            Work::Ready => {
+                self.work = Work::Going;
+                Ok(true)
+            }
+            Work::None => self.reply(Kind::Done),
+            _ => Ok(false),
+        }
+    }
+
+    fn drop_work(&mut self) -> bool
+        ensures same { view_of self.new ≡ view_of self.old }
+    {
+        match self.work {
+            Work::Active | Work::Ready => {
+                self.work = Work::None;
+                true
+            }
+            _ => false,
+        }
+    }
+
+    fn note_done(&mut self) -> bool
+        ensures same { view_of self.new ≡ view_of self.old }
+    {
+        match self.phase {
+            Phase::Committed if !self.is_done => {
+                self.is_done = true;
+                true
+            }
+            _ => false,
+        }
+    }
+
+    fn note_thanks(&mut self) -> bool
+        ensures same { view_of self.new ≡ view_of self.old }
+    {
+        match self.phase {
+            Phase::Committed | Phase::Aborted(_) if !self.is_thanked => {
+                self.is_thanked = true;
+                true
+            }
+            _ => false,
+        }
+    }
+
+    fn inquire(&mut self) -> Result<bool, AllocError>
+        ensures same { view_of self.new ≡ view_of self.old }
+    {
+        match self.phase {
+            Phase::Open | Phase::Voting => Ok(true),
+            _ => {
+                self.answer_work()?;
+                Ok(true)
+            }
+        }
+    }
+
+    /// Draws a name.
+    fn draw(&mut self) -> Option<Tid>
+        ensures drawn { IfSome result (λ t. (t ≡ name_of (view_of self.old).next) × (view_of self.new ≡ drawn (view_of self.old))) }
+        ensures none { IfNone result (view_of self.new ≡ view_of self.old) }
+        ensures client { self.new.client ≡ self.old.client }
+    {
+        let ticket = self.next_ticket;
+        self.next_ticket = ticket.checked_add(1)?;
+        Some(Tid {
+            server: SERVER,
+            epoch: EPOCH,
+            ticket,
+        })
+    }
+
+    /// The lines at the end: the server goes down and comes up again, its files are printed from its pages,
+    /// and the commits are counted.
+    pub fn close(self, alloc: Global) -> Result<Vec<Line>, AllocError>
+        ensures { IfOk result (λ v. ArePrinted (view_of self).stored 2 v.items) }
+    {
+        let mut disk = self.disk;
+        let epoch = disk.raise_epoch();
+        let mut lines = Vec::new(alloc);
+        lines.push(end_line(Text::Down(SERVER)))?;
+        lines.push(end_line(Text::Up(SERVER, epoch)))?;
+        disk.print(&mut lines)?;
+        lines.push(end_line(Text::Commits(self.commits)))?;
+        Ok(lines)
+    }
+}
+
+/// The message of a command.
+fn kind_of(command: &Command) -> Kind {
+    match command {
+        Command::Begin(_) => Kind::Begin,
+        Command::Open(_) => Kind::Open,
+        Command::Do(..) => Kind::Op,
+        Command::End => Kind::End,
+        Command::Abort => Kind::Abort,
+    }
+}
+
+/// Whether a command ends a transaction.
+fn is_ending(command: &Command) -> bool
+    ensures { result ≡ is_ending command.now }
+{
+    matches!(command, Command::End | Command::Abort)
+}
+
+fn full(short: &Shortage) -> Cause
+    ensures { result ≡ Full server_0 short.now.number short.now.free short.now.need }
+{
+    Cause::Full(SERVER, short.number, short.free, short.need)
+}
+
+/// How an answer to an operation is told.
+fn text_of_answer(number: u32, answer: &Answer) -> Text
+    ensures { result ≡ answer_text number answer.now }
+{
+    match answer {
+        Answer::Did => Text::Did(CLIENT, number),
+        Answer::Read(bytes) => Text::Read(CLIENT, number, *bytes),
+        Answer::Exists => Text::Refused(CLIENT, number, Refusal::Exists),
+        Answer::TooManyReads => Text::Refused(CLIENT, number, Refusal::TooManyReads),
+        Answer::TooManyWrites => Text::Refused(CLIENT, number, Refusal::TooManyWrites),
+        _ => Text::Refused(CLIENT, number, Refusal::NoFile),
+    }
+}
+
+fn line_at(number: u32, text: Text) -> Line
+    ensures { result ≡ line_at number text }
+{
+    Line {
+        when: When::Event(number),
+        text,
+    }
+}
+
+fn end_line(text: Text) -> Line
+    ensures { result ≡ end_line text }
+{
+    Line {
+        when: When::End,
+        text,
+    }
+}
