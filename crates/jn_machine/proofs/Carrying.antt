@@ -9,7 +9,7 @@ use Rattle.jn_order.specs.Files.{Files, or_else, change}
 use Rattle.jn_records.specs.declared.intention.Intention.{Intention}
 use Rattle.jn_records.specs.NetLists.{intention_change, list_change}
 use Rattle.jn_rows.specs.Stable.{StableState, Prepared, Pick, MarkGoing, CarryOut, RemoveWork, made_by, gone_on}
-use Rattle.jn_rows.specs.Worker.{has_unit}
+use Rattle.jn_locks.specs.Locks.{is_unit}
 use Rattle.jn_machine.specs.Held.{commit_units, HoldsForCommit, Writes}
 use Rattle.jn_machine.specs.World.{World, base}
 use Rattle.jn_machine.specs.FoundStates.{IsPrepared, MayBeFound}
@@ -129,7 +129,7 @@ module _ (w : World) (x : StableState) (W : WorkId) (may : MayGoOn w W) (f : May
   going_found = record {
     prepared = λ V q is. going_by V q (at_work_cases x.works W (gone_on (x.works W)) V (Some q) is);
     apart = λ A B a b i j ne u h. let k = was A a i in let l = was B b j in
-        let r = f.apart A B k.0 l.0 k.1 l.1 ne u (subst (λ l. HoldsForCommit l u) k.2 h) in (subst (λ l. has_unit u (commit_units l) ≡ false) (sym l.2) r.0, subst (λ g. has_unit u g ≡ false) (sym l.3) r.1);
+        let r = f.apart A B k.0 l.0 k.1 l.1 ne u (subst (λ l. HoldsForCommit l u) k.2 h) in (subst (λ l. is_unit (commit_units l) u ≡ false) (sym l.2) r.0, subst (λ g. is_unit g u ≡ false) (sym l.3) r.1);
     disk = λ u free. f.disk u (λ V p is n. free_by u free V p is (y.works V) (at_work_cases x.works W (gone_on (x.works W)) V (y.works V) refl) refl n);
     no_reader = λ A V a q e i at u h. let k = was V q i in f.no_reader A V a k.0 e k.1 at u (subst (λ l. HoldsForCommit l u) k.2 h);
     ready = λ V at r d n. ready_by V (y.works V) (at_work_cases x.works W (gone_on (x.works W)) V (y.works V) refl) (f.ready V at r d n);

@@ -11,7 +11,7 @@ use Rattle.jn_records.specs.declared.flag.Flag.{Flag}
 use Rattle.jn_records.specs.declared.work.WorkHead.{WorkHead}
 use Rattle.jn_records.specs.NetLists.{list_change}
 use Rattle.jn_rows.specs.Stable.{StableState, Prepared, FlagState, Pick, AddReady, AddFlag, DropFlag, at_work, made_by, ready_work, flag_state}
-use Rattle.jn_rows.specs.Worker.{has_unit}
+use Rattle.jn_locks.specs.Locks.{is_unit}
 use Rattle.jn_machine.specs.Traces.{asked, effects, Agrees}
 use Rattle.jn_machine.specs.Held.{commit_units, HoldsForCommit, HasRead, ReadsFiles}
 use Rattle.jn_machine.specs.World.{World, Working, base}
@@ -79,9 +79,9 @@ pub record Prepares (w : World) (x : StableState) (W : WorkId) (p : Prepared) : 
   pub agrees : Agrees (base w W.server) (w.trace W)
   pub nowhere : x.works W ≡ None
   -- what it holds for commit no other work holds, and what another holds for commit it doesn't hold
-  pub mine : (V : WorkId) (q : Prepared) → x.works V ≡ Some q → (u : LockUnit) → HoldsForCommit p.list u → (has_unit u (commit_units q.list) ≡ false) × (has_unit u q.reads ≡ false)
-  pub others : (V : WorkId) (q : Prepared) → x.works V ≡ Some q → (u : LockUnit) → HoldsForCommit q.list u → (has_unit u (commit_units p.list) ≡ false) × (has_unit u p.reads ≡ false)
-  pub no_reader : (V : WorkId) (a : Working) → w.active V ≡ Some a → V.server ≡ W.server → (u : LockUnit) → HoldsForCommit p.list u → has_unit u a.reads ≡ false
+  pub mine : (V : WorkId) (q : Prepared) → x.works V ≡ Some q → (u : LockUnit) → HoldsForCommit p.list u → (is_unit (commit_units q.list) u ≡ false) × (is_unit q.reads u ≡ false)
+  pub others : (V : WorkId) (q : Prepared) → x.works V ≡ Some q → (u : LockUnit) → HoldsForCommit q.list u → (is_unit (commit_units p.list) u ≡ false) × (is_unit p.reads u ≡ false)
+  pub no_reader : (V : WorkId) (a : Working) → w.active V ≡ Some a → V.server ≡ W.server → (u : LockUnit) → HoldsForCommit p.list u → is_unit a.reads u ≡ false
 
 abbrev with_work : WorkId → Prepared → StableState → StableState
 with_work W p x = record x { works = at_work x.works W (Some p) }
@@ -112,7 +112,7 @@ module _ (w : World) (x : StableState) (W : WorkId) (p : Prepared) (may : Prepar
   prepare_by V q (inr (ne, k)) = f.prepared V q k
 
   abbrev AreApart : Prepared → Prepared → LockUnit → Type 0
-  AreApart a b u = HoldsForCommit a.list u → (has_unit u (commit_units b.list) ≡ false) × (has_unit u b.reads ≡ false)
+  AreApart a b u = HoldsForCommit a.list u → (is_unit (commit_units b.list) u ≡ false) × (is_unit b.reads u ≡ false)
 
   apart_by : (A B : WorkId) (a b : Prepared) → Case A a → Case B b → A ≢ B → (u : LockUnit) → AreApart a b u
   apart_by A B a b (inl (e, k)) (inl (g, l)) ne u = absurd (ne (sym e ∙ g))
@@ -120,7 +120,7 @@ module _ (w : World) (x : StableState) (W : WorkId) (p : Prepared) (may : Prepar
   apart_by A B a b (inr (nf, k)) (inl (g, l)) ne u = subst (λ (z : Prepared). AreApart a z u) (some_is p b l) (may.others A a k u)
   apart_by A B a b (inr (nf, k)) (inr (ng, l)) ne u = f.apart A B a b k l ne u
 
-  reader_by : (A V : WorkId) (a : Working) (q : Prepared) → w.active A ≡ Some a → Case V q → A.server ≡ W.server → (u : LockUnit) → HoldsForCommit q.list u → has_unit u a.reads ≡ false
+  reader_by : (A V : WorkId) (a : Working) (q : Prepared) → w.active A ≡ Some a → Case V q → A.server ≡ W.server → (u : LockUnit) → HoldsForCommit q.list u → is_unit a.reads u ≡ false
   reader_by A V a q is (inl (e, k)) at u h = may.no_reader A a is at u (subst (λ (z : Prepared). HoldsForCommit z.list u) (sym (some_is p q k)) h)
   reader_by A V a q is (inr (ne, k)) at u h = f.no_reader A V a q is k at u h
 
@@ -153,7 +153,7 @@ module _ (w : World) (x : StableState) (head : WorkHead) (list : List Intention)
   its_part : w.part (w.owner W) W.server ≡ Some W
   its_part = subst (λ T. w.part T W.server ≡ Some W) may.tid may.part
 
-  readers : (V : WorkId) (a : Working) → (((W ≡ V) × (None ≡ Some a)) ⊎ ((W ≢ V) × (w.active V ≡ Some a))) → V.server ≡ W.server → (u : LockUnit) → HoldsForCommit list u → has_unit u a.reads ≡ false
+  readers : (V : WorkId) (a : Working) → (((W ≡ V) × (None ≡ Some a)) ⊎ ((W ≢ V) × (w.active V ≡ Some a))) → V.server ≡ W.server → (u : LockUnit) → HoldsForCommit list u → is_unit a.reads u ≡ false
   readers V a (inl (e, k)) = absurd (none_some a k)
   readers V a (inr (ne, k)) = may.no_reader V a k ne
 

@@ -9,7 +9,7 @@ use Rattle.jn_base.proofs.Tells.{tid_tells}
 use Rattle.jn_order.specs.Files.{Files, or_else, change}
 use Rattle.jn_records.specs.NetLists.{list_change}
 use Rattle.jn_rows.specs.Stable.{Prepared, FlagState, Pick}
-use Rattle.jn_rows.specs.Worker.{has_unit}
+use Rattle.jn_locks.specs.Locks.{is_unit}
 use Rattle.jn_machine.specs.Traces.{Answered, asked, effects, Agrees}
 use Rattle.jn_machine.specs.Held.{Writes}
 use Rattle.jn_machine.specs.World.{World, Working, Knowledge, Unknown, Begun, Voting, Committed, IsSerial, base}
@@ -81,7 +81,7 @@ module _ (w : World) (T : Tid) (may : MayName w T) (inv : CoreFacts w) where
 
   -- T's work does not write what another work at that server reads or writes
   apart_from : (s : ServerNo) (c : Pick) (V : WorkId) (p : Prepared) → (w.found s c).works V ≡ Some p → T ≢ w.owner V → (W : WorkId) → w.part T s ≡ Some W → (u : LockUnit) → is_some (effects (w.trace W) u) ≡ true
-      → (is_some (list_change p.list u) ≡ false) × (has_unit u p.reads ≡ false)
+      → (is_some (list_change p.list u) ≡ false) × (is_unit p.reads u ≡ false)
   apart_from s c V p is ne W part u h =
       let k = its s c W part in
       let f = inv.states s c in
@@ -125,7 +125,7 @@ module _ (w : World) (T : Tid) (may : MayName w T) (inv : CoreFacts w) where
       not_active = h.not_active;
       going = λ g. named_was (w.owner V) (h.going g);
       next = h.next;
-      agrees = λ n. let k = not_named_was (w.owner V) n in still_agrees s (w.trace V) (λ W part u q. no_true (is_some (effects (w.trace W) u)) (λ r. not_both (has_unit u p.reads) (h.reads u q) (apart_from s c V p is k.0 W part u r).1)) (h.agrees k.1);
+      agrees = λ n. let k = not_named_was (w.owner V) n in still_agrees s (w.trace V) (λ W part u q. no_true (is_some (effects (w.trace W) u)) (λ r. not_both (is_unit p.reads u) (h.reads u q) (apart_from s c V p is k.0 W part u r).1)) (h.agrees k.1);
       written = λ n u x k. written_by s c V p is n (tid_tells T (w.owner V)) u x k;
     };
     apart = f.apart;
@@ -145,7 +145,7 @@ module _ (w : World) (T : Tid) (may : MayName w T) (inv : CoreFacts w) where
 
   active_still : (V : WorkId) (a : Working) → w.active V ≡ Some a → Agrees (base v V.server) (w.trace V)
   active_still V a is = let h = inv.active V a is in still_agrees V.server (w.trace V) (λ W part u q. no_true (is_some (effects (w.trace W) u)) (λ r. let k = its V.server some_pick W part in
-      not_both (has_unit u a.reads) (h.reads u q) (reads_apart k.0.list a.list a.reads ((inv.states V.server some_pick).no_reader V W a k.0 is k.1 refl) h.reads_files u
+      not_both (is_unit a.reads u) (h.reads u q) (reads_apart k.0.list a.list a.reads ((inv.states V.server some_pick).no_reader V W a k.0 is k.1 refl) h.reads_files u
       (subst (λ o. is_some o ≡ true) (sym (((inv.states V.server some_pick).prepared W k.0 k.1).list u)) r)))) h.agrees
 
   name_named : (U : Tid) → v.named U ≡ true → TellsTid T U → IsNamed v U

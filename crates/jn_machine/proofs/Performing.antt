@@ -9,7 +9,7 @@ use Rattle.jn_order.specs.Files.{Files, Change, change, answer_to}
 use Rattle.jn_order.specs.Changes.{or_also}
 use Rattle.jn_records.specs.NetLists.{list_change}
 use Rattle.jn_rows.specs.Stable.{Prepared, Pick, at_work}
-use Rattle.jn_rows.specs.Worker.{has_unit}
+use Rattle.jn_locks.specs.Locks.{is_unit}
 use Rattle.jn_machine.specs.Traces.{Answered, asks, asked, effect_of, effects, Agrees}
 use Rattle.jn_machine.specs.Held.{HoldsForCommit, HasRead, file_unit}
 use Rattle.jn_machine.specs.World.{World, Working, base}
@@ -31,8 +31,8 @@ module _ (w : World) (W : WorkId) (T : Tid) (fresh : w.opened W ≡ false) (up :
   new_ready = false_unless (w.was_ready W) (λ o. not_both (w.opened W) (inv.parts (w.owner W) W.server W (inv.rest.part_of W o)).opened fresh)
 
   reader_by : (s : ServerNo) (c : Pick) (A V : WorkId) (a : Working) (q : Prepared) → (((W ≡ A) × (Some new_work ≡ Some a)) ⊎ ((W ≢ A) × (w.active A ≡ Some a))) → (w.found s c).works V ≡ Some q → A.server ≡ s
-      → (u : LockUnit) → HoldsForCommit q.list u → has_unit u a.reads ≡ false
-  reader_by s c A V a q (inl (e, k)) is at u h = subst (λ (x : Working). has_unit u x.reads ≡ false) (some_is new_work a k) refl
+      → (u : LockUnit) → HoldsForCommit q.list u → is_unit a.reads u ≡ false
+  reader_by s c A V a q (inl (e, k)) is at u h = subst (λ (x : Working). is_unit x.reads u ≡ false) (some_is new_work a k) refl
   reader_by s c A V a q (inr (ne, k)) is at u h = (inv.states s c).no_reader A V a q k is at u h
 
   open_states : (s : ServerNo) (c : Pick) → MayBeFound (open_work W T w) s (w.found s c)
@@ -123,7 +123,7 @@ reads_more t l a b u p q r h = grind (arith, asked_more t l u)
 module _ (w : World) (W : WorkId) (l : Answered) (a : Working) (may : MayPerform w W l a) (inv : CoreFacts w) where
   -- the order so far and the disk agree on what is asked
   same : (u : LockUnit) → HasRead a.reads u → base w W.server u ≡ (w.found W.server may.seen).files u
-  same u r = (inv.states W.server may.seen).disk u (λ V p is n. unless (is_some (list_change p.list u)) (has_unit u a.reads) (λ t. reads_apart p.list a.list a.reads (may.no_commit may.seen V p is) may.reads_files u t) r)
+  same u r = (inv.states W.server may.seen).disk u (λ V p is n. unless (is_some (list_change p.list u)) (is_unit a.reads u) (λ t. reads_apart p.list a.list a.reads (may.no_commit may.seen V p is) may.reads_files u t) r)
 
   right : answer_to l.op (change (effects (w.trace W)) (base w W.server)) ≡ l.answer
   right = let h = inv.active W may.before may.is in
@@ -144,7 +144,7 @@ module _ (w : World) (W : WorkId) (l : Answered) (a : Working) (may : MayPerform
     agrees : Agrees (base w W.server) t;
   }) (sym e) (record {
     list = λ u. more_change (effects (w.trace W)) (list_change may.before.list) (effect_of l u) (list_change a.list u) u (sym (h.list u)) (may.list u) ∙ sym (effects_more (w.trace W) l u);
-    reads = λ u q. reads_more (w.trace W) l (λ v. has_unit v a.reads) (λ v. has_unit v may.before.reads) u (h.reads u) (may.kept u) (may.reads u) q;
+    reads = λ u q. reads_more (w.trace W) l (λ v. is_unit a.reads v) (λ v. is_unit may.before.reads v) u (h.reads u) (may.kept u) (may.reads u) q;
     agrees = agrees_more (w.trace W) l (base w W.server) h.agrees right;
   })
 
@@ -172,8 +172,8 @@ module _ (w : World) (W : WorkId) (l : Answered) (a : Working) (may : MayPerform
   }
 
   reader_now : (s : ServerNo) (c : Pick) (A V : WorkId) (x : Working) (q : Prepared) → (((W ≡ A) × (Some a ≡ Some x)) ⊎ ((W ≢ A) × (w.active A ≡ Some x))) → (w.found s c).works V ≡ Some q → A.server ≡ s
-      → (u : LockUnit) → HoldsForCommit q.list u → has_unit u x.reads ≡ false
-  reader_now s c A V x q (inl (e, k)) is at u h = subst (λ (z : Working). has_unit u z.reads ≡ false) (some_is a x k)
+      → (u : LockUnit) → HoldsForCommit q.list u → is_unit x.reads u ≡ false
+  reader_now s c A V x q (inl (e, k)) is at u h = subst (λ (z : Working). is_unit z.reads u ≡ false) (some_is a x k)
       (may.no_commit c V q (subst (λ s. (w.found s c).works V ≡ Some q) (sym at ∙ ap (λ (z : WorkId). z.server) (sym e)) is) u h)
   reader_now s c A V x q (inr (ne, k)) is at u h = (inv.states s c).no_reader A V x q k is at u h
 

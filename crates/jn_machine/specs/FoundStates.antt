@@ -7,7 +7,7 @@ use Rattle.jn_base.specs.declared.names.Tid.{Tid}
 use Rattle.jn_base.specs.declared.names.WorkId.{WorkId}
 use Rattle.jn_records.specs.NetLists.{list_change}
 use Rattle.jn_rows.specs.Stable.{StableState, Prepared, FlagState}
-use Rattle.jn_rows.specs.Worker.{has_unit}
+use Rattle.jn_locks.specs.Locks.{is_unit}
 use Rattle.jn_rows.specs.Coordinator.{is_work}
 use Rattle.jn_machine.specs.Traces.{asked, effects, Agrees}
 use Rattle.jn_machine.specs.Held.{commit_units, HoldsForCommit, HasRead, ReadsFiles}
@@ -63,11 +63,11 @@ abbrev pub MayBeFound : World → ServerNo → StableState → Type 0
 MayBeFound w s x = record {
   prepared : (W : WorkId) (p : Prepared) → x.works W ≡ Some p → IsPrepared w s x W p;
   -- what one prepared work holds for commit, no other holds
-  apart : (W V : WorkId) (p q : Prepared) → x.works W ≡ Some p → x.works V ≡ Some q → W ≢ V → (u : LockUnit) → HoldsForCommit p.list u → (has_unit u (commit_units q.list) ≡ false) × (has_unit u q.reads ≡ false);
+  apart : (W V : WorkId) (p q : Prepared) → x.works W ≡ Some p → x.works V ≡ Some q → W ≢ V → (u : LockUnit) → HoldsForCommit p.list u → (is_unit (commit_units q.list) u ≡ false) × (is_unit q.reads u ≡ false);
   -- a register that no named work will write is as the commits so far leave it
   disk : (u : LockUnit) → ((W : WorkId) (p : Prepared) → x.works W ≡ Some p → w.named (w.owner W) ≡ true → is_some (list_change p.list u) ≡ false) → base w s u ≡ x.files u;
   -- no work that goes on has read what a prepared one holds for commit
-  no_reader : (W V : WorkId) (a : Working) (q : Prepared) → w.active W ≡ Some a → x.works V ≡ Some q → W.server ≡ s → (u : LockUnit) → HoldsForCommit q.list u → has_unit u a.reads ≡ false;
+  no_reader : (W V : WorkId) (a : Working) (q : Prepared) → w.active W ≡ Some a → x.works V ≡ Some q → W.server ≡ s → (u : LockUnit) → HoldsForCommit q.list u → is_unit a.reads u ≡ false;
   -- what was ready is prepared, until its transaction is aborted or named
   ready : (W : WorkId) → W.server ≡ s → w.was_ready W ≡ true → w.aborted (w.owner W) ≡ false → w.named (w.owner W) ≡ false → is_some (x.works W) ≡ true;
   flag : (T : Tid) (flag : FlagState) → x.flags T ≡ Some flag → HasFlag w s T flag;

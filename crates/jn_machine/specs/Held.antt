@@ -4,17 +4,18 @@ use Rattle.jn_base.specs.declared.names.LockUnit.{LockUnit}
 use Rattle.jn_base.specs.declared.names.LockUnit.TheVariants.{File, Block}
 use Rattle.jn_records.specs.declared.intention.Intention.{Intention}
 use Rattle.jn_records.specs.NetLists.{list_change}
-use Rattle.jn_rows.specs.Worker.{has_unit, written_unit}
+use Rattle.jn_rows.specs.Worker.{written_unit}
+use Rattle.jn_locks.specs.Locks.{is_unit}
 
 -- the units that a prepared work holds for commit
 abbrev pub commit_units : List Intention → List LockUnit
 commit_units list = map (λ (i : Intention). written_unit i.what i.file i.block) list
 
 abbrev pub HoldsForCommit : List Intention → LockUnit → Type 0
-HoldsForCommit list u = has_unit u (commit_units list) ≡ true
+HoldsForCommit list u = is_unit (commit_units list) u ≡ true
 
 abbrev pub HasRead : List LockUnit → LockUnit → Type 0
-HasRead reads u = has_unit u reads ≡ true
+HasRead reads u = is_unit reads u ≡ true
 
 -- the register changes when the list is carried out
 abbrev pub Writes : List Intention → LockUnit → Type 0

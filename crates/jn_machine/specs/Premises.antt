@@ -11,7 +11,7 @@ use Rattle.jn_records.specs.declared.flag.Flag.{Flag}
 use Rattle.jn_records.specs.declared.work.WorkHead.{WorkHead}
 use Rattle.jn_records.specs.NetLists.{intention_change, list_change}
 use Rattle.jn_rows.specs.Stable.{StableState, Prepared, Pick, Change, AddReady, MarkGoing, CarryOut, RemoveWork, AddFlag, DropFlag}
-use Rattle.jn_rows.specs.Worker.{has_unit}
+use Rattle.jn_locks.specs.Locks.{is_unit}
 use Rattle.jn_machine.specs.Traces.{Answered, effect_of, asks}
 use Rattle.jn_machine.specs.Held.{commit_units, HoldsForCommit, HasRead, Writes, ReadsFiles}
 use Rattle.jn_machine.specs.World.{World, Working, Knowledge}
@@ -43,7 +43,7 @@ pub record MayPerform (w : World) (W : WorkId) (answered : Answered) (a : Workin
   pub reads_files : ReadsFiles a.list a.reads
   pub seen : Pick
   pub answers : answered.answer ≡ answer_to answered.op (change (list_change before.list) (w.found W.server seen).files)
-  pub no_commit : (c : Pick) (V : WorkId) (q : Prepared) → (w.found W.server c).works V ≡ Some q → (u : LockUnit) → HoldsForCommit q.list u → has_unit u a.reads ≡ false
+  pub no_commit : (c : Pick) (V : WorkId) (q : Prepared) → (w.found W.server c).works V ≡ Some q → (u : LockUnit) → HoldsForCommit q.list u → is_unit a.reads u ≡ false
 
 -- the works are of the transaction, and it had no end before
 pub record MayEnd (w : World) (T : Tid) (works : ServerNo → Option WorkId) : Type 0 where
@@ -77,9 +77,9 @@ pub record MayPrepare (w : World) (x : StableState) (head : WorkHead) (list : Li
   pub active : w.active head.work ≡ Some (record { list = list; reads = reads })
   pub tid : head.tid ≡ w.owner head.work
   pub part : w.part head.tid head.work.server ≡ Some head.work
-  pub mine : (V : WorkId) (q : Prepared) → x.works V ≡ Some q → (u : LockUnit) → HoldsForCommit list u → (has_unit u (commit_units q.list) ≡ false) × (has_unit u q.reads ≡ false)
-  pub others : (V : WorkId) (q : Prepared) → x.works V ≡ Some q → (u : LockUnit) → HoldsForCommit q.list u → (has_unit u (commit_units list) ≡ false) × (has_unit u reads ≡ false)
-  pub no_reader : (V : WorkId) (a : Working) → w.active V ≡ Some a → head.work ≢ V → V.server ≡ head.work.server → (u : LockUnit) → HoldsForCommit list u → has_unit u a.reads ≡ false
+  pub mine : (V : WorkId) (q : Prepared) → x.works V ≡ Some q → (u : LockUnit) → HoldsForCommit list u → (is_unit (commit_units q.list) u ≡ false) × (is_unit q.reads u ≡ false)
+  pub others : (V : WorkId) (q : Prepared) → x.works V ≡ Some q → (u : LockUnit) → HoldsForCommit q.list u → (is_unit (commit_units list) u ≡ false) × (is_unit reads u ≡ false)
+  pub no_reader : (V : WorkId) (a : Working) → w.active V ≡ Some a → head.work ≢ V → V.server ≡ head.work.server → (u : LockUnit) → HoldsForCommit list u → is_unit a.reads u ≡ false
 
 -- its transaction has committed, and it is carried out from its first intention
 pub record MayGoOn (w : World) (W : WorkId) : Type 0 where
