@@ -1,2 +1,4 @@
 pub mod Works
 pub mod Keeping
+pub mod Asking
+pub mod Blocking
