@@ -2,3 +2,4 @@ pub mod Works
 pub mod Keeping
 pub mod Asking
 pub mod Blocking
+pub mod Breaking
