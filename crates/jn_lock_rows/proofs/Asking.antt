@@ -1,16 +1,16 @@
 -- What is wanted: units with their modes, in order of units, and where a phase collides with it.
-use Rattle.std.proofs.Common.{◌≡◌, ◌⊎◌, inl, inr, Bool, true, false, List, [], ◌∷◌, ◌++◌, Option, Some, None, refl, sym, ◌∙◌, ap, subst, arith}
+use Rattle.std.proofs.Common.{◌≡◌, ◌⊎◌, inl, inr, Bool, true, false, List, [], ◌∷◌, ◌++◌, Some, None, refl, sym, ◌∙◌, ap, subst, arith}
 use Rattle.std.proofs.Math.Path.{fun_ext}
 use Rattle.std.specs.Prelude.{◌&&◌, ◌||◌, not, if◌then◌else◌}
 use Rattle.jn_base.specs.declared.names.LockUnit.{LockUnit}
 use Rattle.jn_locks.specs.declared.words.Mode.{Mode}
 use Rattle.jn_locks.specs.declared.words.Mode.TheVariants.{Read, IntentionWrite, Commit}
 use Rattle.jn_locks.specs.declared.words.Want.{Want}
-use Rattle.jn_locks.specs.Locks.{Wants, together, mode_eq, some_mode, unit_eq, unit_before, is_unit, wanted as wanted_by}
-use Rattle.jn_locks.proofs.Orders.{unit_tells, unit_before-irreflexive, unit_before-transitive, unit_before-total}
+use Rattle.jn_locks.specs.Locks.{together, mode_eq, some_mode, unit_eq, unit_before, is_unit, wanted as wanted_by}
+use Rattle.jn_locks.proofs.Orders.{unit_tells, unit_before-irreflexive, unit_before-transitive}
 use Rattle.jn_locks.proofs.Collisions.{unit_same, unit_is}
 use Rattle.jn_rows.specs.declared.worker.Phase.{Phase}
-use Rattle.jn_rows.specs.Worker.{Wanted, wanted, has_mode, holds, collides_at, collision, with_unit, with_units, units_for, commit_wants}
+use Rattle.jn_rows.specs.Worker.{Wanted, has_mode, holds, collides_at, collision}
 use Rattle.jn_lock_rows.specs.Matching.{wants_in, units_in, wants_at, want_list, units_rise, is_unit_before}
 use Rattle.jn_lock_rows.proofs.Works.{not_both}
 
@@ -73,9 +73,6 @@ wants-first want wants h = fun_ext (λ m. let e = unit_same want.unit in let lat
 
 pub wants-later : (want : Wanted) (wants : List Wanted) (u : LockUnit) → unit_eq want.unit u ≡ false → wants_in (want ∷ wants) u ≡ wants_in wants u
 wants-later want wants u e = fun_ext (λ m. ap (λ b. (b && has_mode m want.modes) || wants_in wants u m) e)
-
-pub wants-none : (want : Wanted) (wants : List Wanted) → is_unit_before want.unit (units_in wants) ≡ true → wants_in wants want.unit ≡ (λ m. false)
-wants-none want wants h = fun_ext (λ m. wants-behind want.unit wants m h)
 
 -- ---- collisions
 

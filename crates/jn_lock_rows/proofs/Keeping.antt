@@ -1,7 +1,6 @@
 -- Each call of the lock table keeps what it says of the works, once their rows have done the same.
 use Rattle.std.proofs.Common.{◌≡◌, Bool, true, false, List, [], ◌∷◌, ◌++◌, Option, Some, None, refl, sym, ◌∙◌, ap, subst, arith}
-use Rattle.std.proofs.lemmas.Bool.Decides.{nat_tests}
-use Rattle.std.specs.Prelude.{◌&&◌, ◌||◌, not, if◌then◌else◌, is_some}
+use Rattle.std.specs.Prelude.{◌&&◌, ◌||◌, if◌then◌else◌, is_some}
 use Rattle.jn_base.specs.declared.names.Tid.{Tid}
 use Rattle.jn_base.specs.declared.names.WorkId.{WorkId}
 use Rattle.jn_base.specs.declared.names.LockUnit.{LockUnit}
@@ -11,10 +10,9 @@ use Rattle.jn_locks.specs.declared.words.Mode.TheVariants.{Read, IntentionWrite,
 use Rattle.jn_locks.specs.declared.words.Standing.{Standing}
 use Rattle.jn_locks.specs.declared.words.Standing.TheVariants as standings
 use Rattle.jn_locks.specs.declared.words.Broken.{Broken as BrokenAt}
-use Rattle.jn_locks.specs.Locks.{Table, Wants, is_unit, once_vulnerable, made_vulnerable}
+use Rattle.jn_locks.specs.Locks.{Table, Wants, made_vulnerable}
 use Rattle.jn_locks.specs.Asked.{is_broken, Grants, Rebuilds, Releases, Exposes, rebuilt, also}
 use Rattle.jn_rows.specs.declared.worker.Work.{Work}
-use Rattle.jn_rows.specs.declared.worker.ActiveWork.{ActiveWork}
 use Rattle.jn_rows.specs.declared.worker.Phase.{Phase}
 use Rattle.jn_rows.specs.declared.worker.Phase.TheVariants.{Active, Broken, Prepared as Stored}
 use Rattle.jn_rows.specs.Worker.{Wanted, holds, work_at, with_phase, without, vulnerable, breaks_at, broken_by, after_grant}

@@ -3,3 +3,5 @@ pub mod Keeping
 pub mod Asking
 pub mod Blocking
 pub mod Breaking
+pub mod Granting
+pub mod Restoring

@@ -1,14 +1,14 @@
 -- A worker's works, looked for by name, once one or more of them change.
-use Rattle.std.proofs.Common.{◌≡◌, ◌⊎◌, inl, inr, Bool, true, false, List, [], ◌∷◌, ◌++◌, Option, Some, None, refl, sym, ◌∙◌, ap, subst, arith}
+use Rattle.std.proofs.Common.{◌≡◌, inl, inr, Bool, true, false, List, [], ◌∷◌, ◌++◌, Option, Some, None, refl, sym, ◌∙◌, subst, arith}
 use Rattle.std.proofs.lemmas.Bool.Decides.{nat_tests}
-use Rattle.std.specs.Prelude.{◌&&◌, ◌||◌, not, if◌then◌else◌, map}
+use Rattle.std.specs.Prelude.{◌&&◌, if◌then◌else◌}
 use Rattle.jn_base.specs.declared.names.Tid.{Tid}
 use Rattle.jn_base.specs.declared.names.WorkId.{WorkId}
 use Rattle.jn_base.specs.declared.names.LockUnit.{LockUnit}
 use Rattle.jn_base.specs.Names.{work_eq}
 use Rattle.jn_base.proofs.Tells.{work_tells}
 use Rattle.jn_locks.specs.Locks.{work_before}
-use Rattle.jn_locks.proofs.Orders.{work_before-irreflexive, work_before-transitive, work_before-total}
+use Rattle.jn_locks.proofs.Orders.{work_before-irreflexive, work_before-transitive}
 use Rattle.jn_rows.specs.declared.worker.Work.{Work}
 use Rattle.jn_rows.specs.declared.worker.Phase.{Phase}
 use Rattle.jn_rows.specs.Worker.{Wanted, work_at, with_phase, without, breaks_at, broken_by, after_grant}

@@ -8,6 +8,7 @@ use Rattle.jn_locks.specs.declared.words.Broken.{Broken as BrokenAt}
 use Rattle.jn_msgs.specs.declared.message.Note.{Note}
 use Rattle.jn_msgs.specs.declared.message.Note.TheVariants.{Broke}
 use Rattle.jn_rows.specs.declared.worker.Work.{Work}
+use Rattle.jn_rows.specs.declared.worker.Phase.{Phase}
 use Rattle.jn_rows.specs.declared.worker.Phase.TheVariants.{Broken}
 use Rattle.jn_rows.specs.Worker.{Wanted, work_at, with_phase, conflict, breaks_at, after_grant, break_notes}
 
@@ -46,3 +47,7 @@ pub record BreaksAs (works : List Work) (T : Tid) (W : WorkId) (wants : List Wan
   pub broken : bs ≡ broken_list W wants works
   pub after : after_breaks T bs works ≡ after_grant T W wants works
   pub notes : notes_of T bs works ≡ break_notes T W wants works
+
+-- the works as a grant leaves them, where this work has the phase that it asked for
+abbrev pub granted : Work → List Wanted → Phase → List Work → List Work
+granted w wants phase works = with_phase w.name phase (after_grant w.tid w.name wants works)

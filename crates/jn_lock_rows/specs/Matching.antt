@@ -1,16 +1,19 @@
 -- How a lock table says what a worker's works hold.
-use Rattle.std.specs.Prelude.{◌≡◌, Bool, true, false, ◌&&◌, ◌||◌, if◌then◌else◌, List, [], ◌∷◌, ◌++◌, Option, Some, None}
+use Rattle.std.specs.Prelude.{◌≡◌, ◌≢◌, Bool, true, false, ◌&&◌, ◌||◌, if◌then◌else◌, List, [], ◌∷◌, ◌++◌, map, Option, Some, None}
 use Rattle.jn_base.specs.declared.names.WorkId.{WorkId}
 use Rattle.jn_base.specs.declared.names.LockUnit.{LockUnit}
 use Rattle.jn_locks.specs.declared.words.Mode.{Mode}
 use Rattle.jn_locks.specs.declared.words.Standing.{Standing}
 use Rattle.jn_locks.specs.declared.words.Standing.TheVariants as standings
 use Rattle.jn_locks.specs.declared.words.Want.{Want}
-use Rattle.jn_locks.specs.Locks.{Table, Wants, unit_eq, unit_before, work_before}
+use Rattle.jn_records.specs.declared.intention.Intention.{Intention}
+use Rattle.jn_locks.specs.Locks.{Table, Wants, together, unit_eq, unit_before, work_before}
+use Rattle.jn_locks.specs.Asked.{rebuilt}
 use Rattle.jn_rows.specs.declared.worker.Work.{Work}
 use Rattle.jn_rows.specs.declared.worker.Phase.{Phase}
 use Rattle.jn_rows.specs.declared.worker.Phase.TheVariants.{Active, Broken, Prepared as Stored}
-use Rattle.jn_rows.specs.Worker.{Wanted, has_mode, holds, work_at}
+use Rattle.jn_rows.specs.Stable.{Prepared}
+use Rattle.jn_rows.specs.Worker.{Wanted, has_mode, holds, work_at, written_unit}
 
 -- what a work holds that was looked for
 abbrev pub held_in : Option Work → LockUnit → Mode → Bool
@@ -89,3 +92,21 @@ wants_at u (m ∷ ms) = (record { unit = u; mode = m }) ∷ wants_at u ms
 abbrev pub want_list : List Wanted → List Want
 want_list [] = []
 want_list (want ∷ wants) = wants_at want.unit want.modes ++ want_list wants
+
+-- ---- after a restart
+
+-- the units that a prepared work writes
+abbrev pub units_of : Prepared → List LockUnit
+units_of p = map (λ (i : Intention). written_unit i.what i.file i.block) p.list
+
+-- what it holds
+abbrev pub wants_of : Prepared → Wants
+wants_of p = rebuilt (units_of p) p.reads
+
+-- the works of each two names go together
+abbrev pub GoTogether : (WorkId → Option Prepared) → Type 0
+GoTogether works = (V W : WorkId) (p q : Prepared) → V ≢ W → works V ≡ Some p → works W ≡ Some q → (u : LockUnit) (m n : Mode) → wants_of p u m ≡ true → wants_of q u n ≡ true → together m n ≡ true
+
+abbrev pub is_name_after : WorkId → List WorkId → Bool
+is_name_after W [] = true
+is_name_after W (V ∷ Vs) = work_before V W && is_name_after W Vs

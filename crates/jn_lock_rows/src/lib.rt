@@ -7,4 +7,9 @@
 
 mod laws;
 
-pub use laws::a_new_table_matches_no_works;
+pub use laws::{
+    a_counted_operation_matches, a_new_table_matches_no_works,
+    a_prepare_is_refused_as_the_rows_say, a_released_work_matches, a_restored_work_matches,
+    a_vulnerable_work_matches, a_work_is_stored_as_the_rows_say, an_opened_work_matches,
+    an_operation_is_granted_as_the_rows_say, an_operation_is_refused_as_the_rows_say,
+};
