@@ -13,6 +13,7 @@ use Rattle.jn_base.specs.Names.{work_eq}
 use Rattle.jn_locks.specs.declared.words.Mode.{Mode}
 use Rattle.jn_locks.specs.declared.words.Mode.TheVariants.{Read, IntentionWrite, Commit}
 use Rattle.jn_locks.specs.declared.words.Standing.TheVariants as standings
+use Rattle.jn_locks.specs.declared.words.Want.{Want}
 use Rattle.jn_locks.specs.declared.words.Conflict.{Conflict}
 use Rattle.jn_locks.specs.declared.words.Broken.{Broken as BrokenAt}
 use Rattle.jn_locks.specs.Locks.{Table, Wants, is_unit, unit_eq, unit_before, or_active, wanted, commit_wants as table_wants}
@@ -24,7 +25,7 @@ use Rattle.jn_rows.specs.declared.worker.ActiveWork.{ActiveWork}
 use Rattle.jn_rows.specs.declared.worker.Phase.{Phase}
 use Rattle.jn_rows.specs.declared.worker.Phase.TheVariants.{Active, Prepared as Stored}
 use Rattle.jn_rows.specs.Worker.{Wanted, has_mode, holds, gives_way, work_at, with_phase, with_unit, with_units, units_for, wants_of, commit_wants, is_fit, done, counted, new_work, conflict}
-use Rattle.jn_lock_rows.specs.Matching.{LocksMatch, held_in, standing_in, standing_of, is_ordered, is_after, wants_in, units_in, want_list, units_rise, is_unit_before}
+use Rattle.jn_lock_rows.specs.Matching.{LocksMatch, held_in, standing_in, standing_of, is_ordered, is_after, wants_in, units_in, want_list, units_of_mode, units_rise, is_unit_before}
 use Rattle.jn_lock_rows.specs.Calls.{FindsConflict, BreaksAs, broken_if, broken_list, granted}
 use Rattle.jn_lock_rows.proofs.Works.{none-front}
 use Rattle.jn_lock_rows.proofs.Keeping.{match-more, match_kept, match-granted, found-ordered}
@@ -86,6 +87,30 @@ wants-rise op false = refl
 wants-rise (ops.Read f p) true = grind (arith, nat_tests)
 wants-rise (ops.Write f p bytes) true = grind (arith, nat_tests)
 wants-rise op true = refl
+
+-- the units that are wanted in a mode
+same-units : (op : Op) (fit : Bool) (m : Mode) → units_of_mode m (want_list (wants_of op fit)) ≡ units_for m (wants_of op fit)
+same-units op false Read = refl
+same-units op false IntentionWrite = refl
+same-units op false Commit = refl
+same-units (ops.Read f p) true Read = refl
+same-units (ops.Read f p) true IntentionWrite = refl
+same-units (ops.Read f p) true Commit = refl
+same-units (ops.Write f p bytes) true Read = refl
+same-units (ops.Write f p bytes) true IntentionWrite = refl
+same-units (ops.Write f p bytes) true Commit = refl
+same-units (ops.Create f) true Read = refl
+same-units (ops.Create f) true IntentionWrite = refl
+same-units (ops.Create f) true Commit = refl
+same-units (ops.Remove f) true Read = refl
+same-units (ops.Remove f) true IntentionWrite = refl
+same-units (ops.Remove f) true Commit = refl
+same-units (ops.Cut f p) true Read = refl
+same-units (ops.Cut f p) true IntentionWrite = refl
+same-units (ops.Cut f p) true Commit = refl
+
+pub units_wanted : (op : Op) (fit : Bool) (m : Mode) (wants : List Want) (held : List LockUnit) → wants ≡ want_list (wants_of op fit) → with_units (units_of_mode m wants) held ≡ with_units (units_for m (wants_of op fit)) held
+units_wanted op fit m wants held e = ap (λ us. with_units us held) (ap (units_of_mode m) e ∙ same-units op fit m)
 
 -- none wants to hold for commit
 pub no-commit : (op : Op) (fit : Bool) (u : LockUnit) → wants_in (wants_of op fit) u Commit ≡ false

@@ -5,3 +5,4 @@ pub mod Blocking
 pub mod Breaking
 pub mod Granting
 pub mod Restoring
+pub mod Places

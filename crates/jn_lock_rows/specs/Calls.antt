@@ -47,6 +47,8 @@ pub record BreaksAs (works : List Work) (T : Tid) (W : WorkId) (wants : List Wan
   pub broken : bs ≡ broken_list W wants works
   pub after : after_breaks T bs works ≡ after_grant T W wants works
   pub notes : notes_of T bs works ≡ break_notes T W wants works
+  -- the works may be told of once they are broken
+  pub notes_after : (phase : Phase) → notes_of T bs (with_phase W phase (after_grant T W wants works)) ≡ break_notes T W wants works
 
 -- the works as a grant leaves them, where this work has the phase that it asked for
 abbrev pub granted : Work → List Wanted → Phase → List Work → List Work

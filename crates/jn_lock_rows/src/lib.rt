@@ -6,6 +6,7 @@
 #![tactic(auto)]
 
 mod laws;
+mod wants;
 
 pub use laws::{
     a_counted_operation_matches, a_new_table_matches_no_works,
@@ -13,3 +14,4 @@ pub use laws::{
     a_vulnerable_work_matches, a_work_is_stored_as_the_rows_say, an_opened_work_matches,
     an_operation_is_granted_as_the_rows_say, an_operation_is_refused_as_the_rows_say,
 };
+pub use wants::{operation_wants, units_with};
