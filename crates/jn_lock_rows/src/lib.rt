@@ -2,10 +2,12 @@
 //! its phase, its conflicts, grants and broken works are those of the rows.
 //!
 //! `specs/Matching.antt` says when a lock table matches the works, `specs/Calls.antt` what its answers are then,
-//! and `proofs/` has the lemmas for each call. The functions here do nothing: their contracts are the laws.
+//! and `proofs/` has the lemmas for each call. `laws` has functions that do nothing: their contracts are the laws.
 #![tactic(auto)]
 
 mod laws;
+#[cfg(test)]
+mod tests;
 mod wants;
 
 pub use laws::{
