@@ -6,3 +6,5 @@ pub mod Breaking
 pub mod Granting
 pub mod Restoring
 pub mod Places
+pub mod Edits
+pub mod Together
