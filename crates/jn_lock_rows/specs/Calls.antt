@@ -1,9 +1,10 @@
 -- What the lock table's answers are to the rows.
-use Rattle.std.specs.Prelude.{◌≡◌, List, [], ◌∷◌, ◌++◌, Option, Some, None, Bool}
+use Rattle.std.specs.Prelude.{◌≡◌, if◌then◌else◌, List, [], ◌∷◌, ◌++◌, Option, Some, None, Bool}
 use Rattle.jn_base.specs.declared.names.WorkId.{WorkId}
 use Rattle.jn_base.specs.declared.names.Tid.{Tid}
 use Rattle.jn_base.specs.declared.names.LockUnit.{LockUnit}
 use Rattle.jn_base.specs.declared.op.Op.{Op}
+use Rattle.jn_base.specs.Names.{work_eq}
 use Rattle.jn_locks.specs.declared.words.Conflict.{Conflict}
 use Rattle.jn_locks.specs.declared.words.LockFault.{LockFault}
 use Rattle.jn_locks.specs.declared.words.LockFault.TheVariants.{Conflict as Conflicts, Memory as NoMemory}
@@ -14,7 +15,7 @@ use Rattle.jn_msgs.specs.declared.message.Note.TheVariants.{Broke}
 use Rattle.jn_rows.specs.declared.worker.Work.{Work}
 use Rattle.jn_rows.specs.declared.worker.Phase.{Phase}
 use Rattle.jn_rows.specs.declared.worker.ActiveWork.{ActiveWork}
-use Rattle.jn_rows.specs.declared.worker.Phase.TheVariants.{Active, Broken}
+use Rattle.jn_rows.specs.declared.worker.Phase.TheVariants.{Active, Broken, Prepared as Stored}
 use Rattle.jn_rows.specs.Worker.{Wanted, work_at, with_phase, conflict, breaks_at, after_grant, break_notes, with_units, units_for, wants_of}
 use Rattle.jn_lock_rows.specs.declared.grants.Refused.{Refused}
 use Rattle.jn_lock_rows.specs.declared.grants.Refused.TheVariants.{Held, Memory}
@@ -87,6 +88,23 @@ pub record Becomes (works : List Work) (T : Tid) (W : WorkId) (op : Op) (fit : B
   pub reads : next.reads ≡ with_units (units_for Read (wants_of op fit)) active.reads
   pub writes : next.writes ≡ with_units (units_for IntentionWrite (wants_of op fit)) active.writes
   pub vulnerable : next.vulnerable ≡ active.vulnerable
+
+-- an active work of T
+pub record IsActive (works : List Work) (T : Tid) (W : WorkId) (a : ActiveWork) : Type 0 where
+  pub work : Work
+  pub found : work_at W works ≡ Some work
+  pub tid : work.tid ≡ T
+  pub phase : work.phase ≡ Active a
+
+-- an active work's phase once it is stored
+abbrev pub stored : Phase → Phase
+stored (Active a) = Stored (record { reads = a.reads; writes = a.writes })
+stored phase = phase
+
+-- a work's phase changes
+abbrev pub rephased : WorkId → (Phase → Phase) → List Work → List Work
+rephased W f [] = []
+rephased W f (w ∷ ws) = if work_eq w.name W then (record w { phase = f w.phase }) ∷ ws else w ∷ rephased W f ws
 
 -- the works as a grant leaves them, where this work has the phase that it asked for
 abbrev pub granted : Work → List Wanted → Phase → List Work → List Work

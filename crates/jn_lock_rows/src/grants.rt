@@ -2,13 +2,15 @@
 
 ghost use Rattle.std.specs.Prelude.{◌≡◌, true, is_some, IfOk, IfErr, OnErr};
 ghost use Rattle.jn_locks.specs.LockTables.{table};
+ghost use Rattle.jn_base.specs.declared.names.Tid.{Tid};
+ghost use Rattle.jn_rows.specs.declared.worker.ActiveWork.{ActiveWork};
 ghost use Rattle.jn_rows.specs.declared.worker.Phase.TheVariants.{Active};
 ghost use Rattle.jn_rows.specs.Worker as rows;
 ghost use Rattle.jn_lock_rows.specs.Calls as calls;
 ghost use Rattle.jn_lock_rows.specs.Matching.{LocksMatch};
 
 use crate::breaks::break_works;
-use crate::finding::{set_phase, work_at};
+use crate::finding::{set_phase, store_work, work_at};
 use crate::wants::operation_wants;
 use jn_base::{LockUnit, Op, Tid, WorkId};
 use jn_locks::{Granted, LockFault, LockTable};
@@ -75,5 +77,45 @@ pub fn grant_operation(
             Ok(granted)
         }
         Err(fault) => Err(told_as(works, fault)),
+    }
+}
+
+/// Turns the locks of the transaction's active work into those of a stored one and breaks the works in the way, or
+/// changes nothing.
+pub fn grant_storing(
+    alloc: Global,
+    locks: &mut LockTable,
+    works: &mut [Work],
+    tid: Tid,
+    name: WorkId,
+) -> Result<Granted, Refused>
+    requires matches { LocksMatch works.old (table locks.old) }
+    requires active { (a : ActiveWork) × calls.IsActive works.old tid name a }
+    ensures granted { IfOk result (λ bs. (a : ActiveWork) → calls.IsActive works.old tid name a → calls.Grants works.old tid name (rows.commit_wants a.writes) (calls.stored (Active a)) bs works.new) }
+    ensures refused { IfErr result (λ fault. (a : ActiveWork) → calls.IsActive works.old tid name a → calls.IsRefused works.old name (rows.commit_wants a.writes) fault) }
+    ensures same { OnErr result (works.new ≡ works.old) }
+    ensures matches { LocksMatch works.new (table locks.new) }
+{
+    match locks.to_commit(alloc, name) {
+        Ok(granted) => {
+            break_works(works, granted.broken(), tid);
+            store_work(works, name);
+            Ok(granted)
+        }
+        Err(fault) => Err(told_as(works, fault)),
+    }
+}
+
+/// The unit, and the transaction that holds it, at which `grant_storing` would be refused.
+pub fn test_storing(locks: &LockTable, works: &[Work], name: WorkId) -> Option<(LockUnit, Tid)>
+    requires matches { LocksMatch works.now (table locks.now) }
+    ensures { (T : Tid) (a : ActiveWork) → calls.IsActive works.now T name a → result ≡ rows.conflict name (rows.commit_wants a.writes) works.now }
+{
+    match locks.test_commit(name) {
+        Ok(()) => None,
+        Err(fault) => match told_as(works, fault) {
+            Refused::Held(unit, tid) => Some((unit, tid)),
+            Refused::Memory => None,
+        },
     }
 }
