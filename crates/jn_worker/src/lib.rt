@@ -1,0 +1,11 @@
+//! The worker of a server: its live works, over any storage of works.
+#![tactic(auto)]
+
+mod finish;
+mod step;
+mod words;
+mod worker;
+mod works;
+
+pub use words::WorkerFault;
+pub use worker::Worker;
