@@ -6,3 +6,5 @@ pub mod Decided
 pub mod TimesOut
 pub mod Carried
 pub mod Stepped
+pub mod Sorting
+pub mod Restored

@@ -2,6 +2,7 @@
 #![tactic(auto)]
 
 mod finish;
+mod restore;
 mod step;
 mod words;
 mod worker;

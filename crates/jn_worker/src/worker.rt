@@ -3,7 +3,6 @@ ghost use Rattle.std.specs.Prelude.{◌≡◌, is_ok};
 ghost use Rattle.jn_rows.specs.Worker as rows;
 ghost use Rattle.jn_worker.specs.Calls.{AsksAgain, TimesOut};
 
-use crate::words::WorkerFault;
 use crate::works::{commit_holder, expose, is_in, work_of};
 use jn_base::{LockUnit, Party, Tid, WorkId};
 use jn_locks::LockTable;
@@ -45,7 +44,7 @@ impl Worker {
 
     #[tactic(auto, using(crate::proofs::Again::again_row))]
     /// Asks for the outcome of each work that isn't going, in rising order of their names.
-    pub fn again(&self, out: &mut Out) -> Result<(), WorkerFault>
+    pub fn again(&self, out: &mut Out) -> Result<(), AllocError>
         ensures { AsksAgain self.now out.old (is_ok result) out.new }
     {
         for work in &self.works {
