@@ -11,12 +11,14 @@ use Rattle.jn_locks.specs.Locks.{Table, unit_before, work_before, is_vulnerable}
 use Rattle.jn_locks.specs.Asked.{AreBroken, broken_at, is_broken, is_rising}
 use Rattle.jn_locks.proofs.Orders.{unit_before-total, work_before-transitive, work_before-total}
 use Rattle.jn_msgs.specs.declared.message.Note.{Note}
+use Rattle.jn_msgs.specs.declared.message.Note.TheVariants.{Broke}
 use Rattle.jn_rows.specs.declared.worker.Work.{Work}
+use Rattle.jn_rows.specs.declared.worker.Phase.{Phase}
 use Rattle.jn_rows.specs.declared.worker.Phase.TheVariants.{Broken}
 use Rattle.jn_rows.specs.Worker.{Wanted, holds, gives_way, work_at, with_phase, collision, breaks_at, broken_by, note_of, after_grant, break_notes, conflict}
 use Rattle.jn_lock_rows.specs.Matching.{LocksMatch, held_in, standing_in, standing_of, are_rising, is_before, wants_in, units_in, units_rise}
 use Rattle.jn_lock_rows.specs.Calls.{BreaksAs, broken_if, broken_list, after_breaks, notes_of, note_if}
-use Rattle.jn_lock_rows.proofs.Works.{not_both, work_same, work_is, not-before, work_eq-sym, found-name, none-behind}
+use Rattle.jn_lock_rows.proofs.Works.{not_both, work_same, work_is, not-before, work_eq-sym, found-name, none-behind, in_phase, at-phase, once_granted, at-grant}
 use Rattle.jn_lock_rows.proofs.Asking.{clash, clash-free, no_collision, collision-first}
 use Rattle.jn_lock_rows.proofs.Blocking.{matched, vulnerable-is}
 use Rattle.jn_lock_rows.proofs.Keeping.{breaks_of}
@@ -212,6 +214,44 @@ module _ (W : WorkId) (wants : List Wanted) where
         by (Some u) a e = ap (λ c. note_if T u (if c then Some w else work_at w.name ws) ++ notes_of T (broken_list W wants ws) (w ∷ ws)) (work_same w.name)
             ∙ ap (λ (ns : List Note). note_if T u (Some w) ++ ns) (apart-notes w (broken_list W wants ws) ws a ∙ e)
 
+-- ---- the notes need no more than the transactions of the works
+
+abbrev tid_in : Option Work → Option Tid
+tid_in None = None
+tid_in (Some v) = Some v.tid
+
+abbrev note_by : Tid → LockUnit → Option Tid → List Note
+note_by T u None = []
+note_by T u (Some by) = Broke by u T ∷ []
+
+note-by : (T : Tid) (u : LockUnit) (o : Option Work) → note_if T u o ≡ note_by T u (tid_in o)
+note-by T u None = refl
+note-by T u (Some v) = refl
+
+notes-same : (T : Tid) (bs : List BrokenAt) (xs ys : List Work) → ((V : WorkId) → tid_in (work_at V xs) ≡ tid_in (work_at V ys)) → notes_of T bs xs ≡ notes_of T bs ys
+notes-same T [] xs ys same = refl
+notes-same T (b ∷ bs) xs ys same = let here = note-by T b.unit (work_at b.work xs) ∙ ap (note_by T b.unit) (same b.work) ∙ sym (note-by T b.unit (work_at b.work ys)) in
+    let rest = notes-same T bs xs ys same in cc
+
+tid-phase : (V W : WorkId) (phase : Phase) (ws : List Work) → tid_in (work_at V (with_phase W phase ws)) ≡ tid_in (work_at V ws)
+tid-phase V W phase ws = ap tid_in (at-phase V W phase ws) ∙ by (work_eq W V) (work_at V ws)
+  where
+    by : (b : Bool) (o : Option Work) → tid_in (if b then in_phase phase o else o) ≡ tid_in o
+    by true None = refl
+    by true (Some v) = refl
+    by false o = refl
+
+tid-grant : (T : Tid) (W : WorkId) (wants : List Wanted) (V : WorkId) (ws : List Work) → tid_in (work_at V (after_grant T W wants ws)) ≡ tid_in (work_at V ws)
+tid-grant T W wants V ws = ap tid_in (at-grant T W wants V ws) ∙ by (work_at V ws)
+  where
+    same : (v : Work) (o : Option LockUnit) → Some (broken_by T o v).tid ≡ Some v.tid
+    same v None = refl
+    same v (Some u) = refl
+
+    by : (o : Option Work) → tid_in (once_granted T W wants o) ≡ tid_in o
+    by None = refl
+    by (Some v) = same v (breaks_at W wants v)
+
 -- ---- what a grant says
 
 module _ (works : List Work) (t : Table) (h : LocksMatch works t) (T : Tid) (W : WorkId) (wants : List Wanted) (rise : units_rise (units_in wants) ≡ true) (bs : List BrokenAt) (b : AreBroken t W (wants_in wants) bs) where
@@ -227,5 +267,9 @@ module _ (works : List Work) (t : Table) (h : LocksMatch works t) (T : Tid) (W :
     free = free;
     broken = list-is;
     after = ap (λ (cs : List BrokenAt). after_breaks T cs works) list-is ∙ breaks-all W wants T works h.rising;
-    notes = ap (λ (cs : List BrokenAt). notes_of T cs works) list-is ∙ notes-all W wants T works h.rising;
+    notes = told;
+    notes_after = λ phase. notes-same T bs (with_phase W phase (after_grant T W wants works)) works (λ V. tid-phase V W phase (after_grant T W wants works) ∙ tid-grant T W wants V works) ∙ told;
   }
+    where
+      told : notes_of T bs works ≡ break_notes T W wants works
+      told = ap (λ (cs : List BrokenAt). notes_of T cs works) list-is ∙ notes-all W wants T works h.rising

@@ -13,6 +13,7 @@ use Rattle.jn_base.specs.Names.{work_eq}
 use Rattle.jn_locks.specs.declared.words.Mode.{Mode}
 use Rattle.jn_locks.specs.declared.words.Mode.TheVariants.{Read, IntentionWrite, Commit}
 use Rattle.jn_locks.specs.declared.words.Standing.TheVariants as standings
+use Rattle.jn_locks.specs.declared.words.Want.{Want}
 use Rattle.jn_locks.specs.declared.words.Conflict.{Conflict}
 use Rattle.jn_locks.specs.declared.words.Broken.{Broken as BrokenAt}
 use Rattle.jn_locks.specs.Locks.{Table, Wants, is_unit, unit_eq, unit_before, or_active, wanted, commit_wants as table_wants}
@@ -23,8 +24,8 @@ use Rattle.jn_rows.specs.declared.worker.Work.{Work}
 use Rattle.jn_rows.specs.declared.worker.ActiveWork.{ActiveWork}
 use Rattle.jn_rows.specs.declared.worker.Phase.{Phase}
 use Rattle.jn_rows.specs.declared.worker.Phase.TheVariants.{Active, Prepared as Stored}
-use Rattle.jn_rows.specs.Worker.{Wanted, has_mode, holds, gives_way, work_at, with_phase, with_unit, with_units, units_for, wants_of, commit_wants, is_fit, done, counted, new_work, conflict}
-use Rattle.jn_lock_rows.specs.Matching.{LocksMatch, held_in, standing_in, standing_of, is_ordered, is_after, wants_in, units_in, want_list, units_rise, is_unit_before}
+use Rattle.jn_rows.specs.Worker.{Wanted, has_mode, holds, gives_way, work_at, with_phase, with_unit, with_units, units_for, wants_of, commit_wants, counted, new_work, conflict}
+use Rattle.jn_lock_rows.specs.Matching.{LocksMatch, held_in, standing_in, standing_of, is_ordered, is_after, wants_in, units_in, want_list, units_of_mode, units_rise, is_unit_before}
 use Rattle.jn_lock_rows.specs.Calls.{FindsConflict, BreaksAs, broken_if, broken_list, granted}
 use Rattle.jn_lock_rows.proofs.Works.{none-front}
 use Rattle.jn_lock_rows.proofs.Keeping.{match-more, match_kept, match-granted, found-ordered}
@@ -87,6 +88,30 @@ wants-rise (ops.Read f p) true = grind (arith, nat_tests)
 wants-rise (ops.Write f p bytes) true = grind (arith, nat_tests)
 wants-rise op true = refl
 
+-- the units that are wanted in a mode
+same-units : (op : Op) (fit : Bool) (m : Mode) → units_of_mode m (want_list (wants_of op fit)) ≡ units_for m (wants_of op fit)
+same-units op false Read = refl
+same-units op false IntentionWrite = refl
+same-units op false Commit = refl
+same-units (ops.Read f p) true Read = refl
+same-units (ops.Read f p) true IntentionWrite = refl
+same-units (ops.Read f p) true Commit = refl
+same-units (ops.Write f p bytes) true Read = refl
+same-units (ops.Write f p bytes) true IntentionWrite = refl
+same-units (ops.Write f p bytes) true Commit = refl
+same-units (ops.Create f) true Read = refl
+same-units (ops.Create f) true IntentionWrite = refl
+same-units (ops.Create f) true Commit = refl
+same-units (ops.Remove f) true Read = refl
+same-units (ops.Remove f) true IntentionWrite = refl
+same-units (ops.Remove f) true Commit = refl
+same-units (ops.Cut f p) true Read = refl
+same-units (ops.Cut f p) true IntentionWrite = refl
+same-units (ops.Cut f p) true Commit = refl
+
+pub units_wanted : (op : Op) (fit : Bool) (m : Mode) (wants : List Want) (held : List LockUnit) → wants ≡ want_list (wants_of op fit) → with_units (units_of_mode m wants) held ≡ with_units (units_for m (wants_of op fit)) held
+units_wanted op fit m wants held e = ap (λ us. with_units us held) (ap (units_of_mode m) e ∙ same-units op fit m)
+
 -- none wants to hold for commit
 pub no-commit : (op : Op) (fit : Bool) (u : LockUnit) → wants_in (wants_of op fit) u Commit ≡ false
 no-commit op false u = grind arith
@@ -127,26 +152,27 @@ module _ (works : List Work) (w : Work) (a : ActiveWork) (t : Table) (h : LocksM
       same u IntentionWrite = refl
       same u Commit = refl
 
-  module _ (op : Op) (answer : Answer) (bs : List BrokenAt) (now : Table) (g : Asks t w.name (wanted (want_list (wants_of op (is_fit answer)))) bs now) where
-    abbrev wish : List Wanted
-    wish = wants_of op (is_fit answer)
+  module _ (op : Op) (fit : Bool) (next : ActiveWork) (reads : next.reads ≡ with_units (units_for Read (wants_of op fit)) a.reads)
+      (writes : next.writes ≡ with_units (units_for IntentionWrite (wants_of op fit)) a.writes) (vulnerable : next.vulnerable ≡ a.vulnerable)
+      (bs : List BrokenAt) (now : Table) (g : Asks t w.name (wanted (want_list (wants_of op fit))) bs now) where
+    asks : Asks t w.name (wants_in (wants_of op fit)) bs now
+    asks = subst (λ (q : Wants). Asks t w.name q bs now) (wanted-same (wants_of op fit)) g
 
-    asks : Asks t w.name (wants_in wish) bs now
-    asks = subst (λ (q : Wants). Asks t w.name q bs now) (wanted-same wish) g
+    mine : (u : LockUnit) (m : Mode) → also (λ u m. t.holds w.name u m) (wants_in (wants_of op fit)) u m ≡ holds (Active next) u m
+    mine u Read = joined (held-by u Read) (is_unit-units_for Read (wants_of op fit) u) (is_unit-with_units (units_for Read (wants_of op fit)) a.reads u) ∙ sym (ap (λ us. is_unit us u) reads)
+    mine u IntentionWrite = joined (held-by u IntentionWrite) (is_unit-units_for IntentionWrite (wants_of op fit) u) (is_unit-with_units (units_for IntentionWrite (wants_of op fit)) a.writes u)
+        ∙ sym (ap (λ us. is_unit us u) writes)
+    mine u Commit = neither (held-by u Commit) (no-commit op fit u)
 
-    mine : (u : LockUnit) (m : Mode) → also (λ u m. t.holds w.name u m) (wants_in wish) u m ≡ holds (Active (done a op answer wish)) u m
-    mine u Read = joined (held-by u Read) (is_unit-units_for Read wish u) (is_unit-with_units (units_for Read wish) a.reads u)
-    mine u IntentionWrite = joined (held-by u IntentionWrite) (is_unit-units_for IntentionWrite wish u) (is_unit-with_units (units_for IntentionWrite wish) a.writes u)
-    mine u Commit = neither (held-by u Commit) (no-commit op (is_fit answer) u)
+    pub match_next : LocksMatch (granted w (wants_of op fit) (Active next) works) now
+    match_next = match-granted w.tid w.name (wants_of op fit) works w (Active next) t now h found bs
+        (broken-is works t h w.tid w.name (wants_of op fit) (wants-rise op fit) bs asks.broken)
+        (also (λ u m. t.holds w.name u m) (wants_in (wants_of op fit))) (or_active (t.standing w.name)) asks.grants mine
+        (ap (λ o. Some (or_active o)) stands-as ∙ ap (λ v. Some (if v then standings.Vulnerable else standings.Active)) (sym vulnerable))
+        (subst (λ (us : List LockUnit). units_rise us ≡ true) (sym writes) (rise-with_units (units_for IntentionWrite (wants_of op fit)) a.writes writes-rise))
 
-    pub match_done : LocksMatch (granted w wish (Active (done a op answer wish)) works) now
-    match_done = match-granted w.tid w.name wish works w (Active (done a op answer wish)) t now h found bs
-        (broken-is works t h w.tid w.name wish (wants-rise op (is_fit answer)) bs asks.broken)
-        (also (λ u m. t.holds w.name u m) (wants_in wish)) (or_active (t.standing w.name)) asks.grants mine (ap (λ o. Some (or_active o)) stands-as)
-        (rise-with_units (units_for IntentionWrite wish) a.writes writes-rise)
-
-    pub breaks_done : BreaksAs works w.tid w.name wish bs
-    breaks_done = breaks_as works t h w.tid w.name wish (wants-rise op (is_fit answer)) bs asks.broken (no_conflict works t h w.name wish (wants-rise op (is_fit answer)) asks.free)
+    pub breaks_next : BreaksAs works w.tid w.name (wants_of op fit) bs
+    breaks_next = breaks_as works t h w.tid w.name (wants_of op fit) (wants-rise op fit) bs asks.broken (no_conflict works t h w.name (wants_of op fit) (wants-rise op fit) asks.free)
 
   -- ---- to commit
 

@@ -5,3 +5,6 @@ pub mod Blocking
 pub mod Breaking
 pub mod Granting
 pub mod Restoring
+pub mod Places
+pub mod Edits
+pub mod Together

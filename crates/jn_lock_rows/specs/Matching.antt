@@ -7,7 +7,7 @@ use Rattle.jn_locks.specs.declared.words.Standing.{Standing}
 use Rattle.jn_locks.specs.declared.words.Standing.TheVariants as standings
 use Rattle.jn_locks.specs.declared.words.Want.{Want}
 use Rattle.jn_records.specs.declared.intention.Intention.{Intention}
-use Rattle.jn_locks.specs.Locks.{Table, Wants, together, unit_eq, unit_before, work_before}
+use Rattle.jn_locks.specs.Locks.{Table, Wants, together, mode_eq, unit_eq, unit_before, work_before}
 use Rattle.jn_locks.specs.Asked.{rebuilt}
 use Rattle.jn_rows.specs.declared.worker.Work.{Work}
 use Rattle.jn_rows.specs.declared.worker.Phase.{Phase}
@@ -92,6 +92,11 @@ wants_at u (m ∷ ms) = (record { unit = u; mode = m }) ∷ wants_at u ms
 abbrev pub want_list : List Wanted → List Want
 want_list [] = []
 want_list (want ∷ wants) = wants_at want.unit want.modes ++ want_list wants
+
+-- the units that are wanted in a mode, as a lock table is asked
+abbrev pub units_of_mode : Mode → List Want → List LockUnit
+units_of_mode m [] = []
+units_of_mode m (want ∷ wants) = if mode_eq want.mode m then want.unit ∷ units_of_mode m wants else units_of_mode m wants
 
 -- ---- after a restart
 

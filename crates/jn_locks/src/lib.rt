@@ -18,5 +18,6 @@ mod wants;
 mod words;
 mod works;
 
+pub use order::{unit_before, work_before};
 pub use table::{Granted, LockTable};
 pub use words::{Broken, Conflict, LockFault, Mode, Standing, Want};

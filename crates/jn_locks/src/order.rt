@@ -42,7 +42,7 @@ pub(crate) fn unit_eq(a: LockUnit, b: LockUnit) -> bool
 
 /// Whether a unit comes before another: by file, the file itself before its blocks.
 #[tactic(auto, unfolding(crate::specs::Locks::unit_before))]
-pub(crate) fn unit_before(a: LockUnit, b: LockUnit) -> bool
+pub fn unit_before(a: LockUnit, b: LockUnit) -> bool
     ensures { result ≡ locks.unit_before a b }
 {
     match (a, b) {
@@ -61,7 +61,7 @@ pub(crate) fn work_eq(a: WorkId, b: WorkId) -> bool
 
 /// Whether a work's name comes before another's: by server, then epoch, then ticket.
 #[tactic(auto, unfolding(crate::specs::Locks::work_before))]
-pub(crate) fn work_before(a: WorkId, b: WorkId) -> bool
+pub fn work_before(a: WorkId, b: WorkId) -> bool
     ensures { result ≡ locks.work_before a b }
 {
     a.server.0 < b.server.0
