@@ -1,5 +1,5 @@
 -- Each change of the stable state keeps what a recovery asks of it.
-use Rattle.std.proofs.Common.{◌≡◌, ◌≢◌, ⊎_elim, ◌+◌, ℕ, zero, Bool, true, false, not, ◌&&◌, ◌||◌, List, [], ◌∷◌, Option, Some, None, refl, sym, ◌∙◌, ap, subst, arith, map, add-zero}
+use Rattle.std.proofs.Common.{◌≡◌, ◌≢◌, ⊎_elim, ◌+◌, ℕ, zero, Bool, true, false, not, ◌&&◌, ◌||◌, List, [], ◌∷◌, Option, Some, None, refl, sym, ◌∙◌, ap, subst, arith, map, add-zero, true≢false}
 use Rattle.std.specs.Prelude.{slice_get, is_some}
 use Rattle.std.specs.List.{list_all}
 use Rattle.jn_base.specs.declared.names.FileNo.{FileNo}
@@ -17,8 +17,9 @@ use Rattle.jn_records.specs.declared.intention.What.TheVariants.{Fresh, Gone, Cu
 use Rattle.jn_records.specs.declared.intention.Intention.{Intention}
 use Rattle.jn_records.specs.NetLists.{intention_change, place_of, in_order, entry, first_by, as_first, net_of, is_put, is_fresh}
 use Rattle.jn_locks.specs.declared.words.Mode.{Mode}
+use Rattle.jn_locks.specs.declared.words.Mode.TheVariants.{Read, IntentionWrite, Commit}
 use Rattle.jn_locks.specs.Asked.{rebuilt}
-use Rattle.jn_locks.specs.Locks.{is_unit}
+use Rattle.jn_locks.specs.Locks.{is_unit, together}
 use Rattle.jn_rows.specs.Stable.{StableState, Prepared, MarkGoing, CarryOut, RemoveWork, AddFlag, DropFlag, made_by, at_work, gone_on}
 use Rattle.jn_storage.specs.Listing.{is_in, IsListing, AtMost, total}
 use Rattle.jn_storage.specs.Orderly.{IsOrderly, IsPrepared, IsGiven, GoTogether, unit_by, unit_of, held_by, needs_file, first_of}
@@ -152,16 +153,23 @@ put-there i files f h = let at = there-after i files f in by i.what refl at
     by Cut is at = at
     by Put is at = at
 
--- each file of a work that goes together with the intention's is there after as before
-others-there : (i : Intention) (k : ℕ) (x : StableState) (p q : Prepared) → slice_get p.list k ≡ Some i → GoTogether p q → IsPrepared x.files q.list q.reads
-    → list_all (λ j. bool_eq (file_there (change (intention_change i) x.files) j.file) (file_there x.files j.file)) q.list ≡ true
-others-there i k x p q at apart is = by (is_put i.what) refl
+-- one work's units are none of those that another read
+abbrev pub AreApart : List Intention → List LockUnit → Type 0
+AreApart list reads = (u : LockUnit) → is_unit (map unit_of list) u ≡ true → is_unit reads u ≡ true → ⊥
+
+apart-reads : (p q : Prepared) → GoTogether p q → AreApart p.list q.reads
+apart-reads p q go u c r = true≢false (sym (go u Commit Read c r))
+
+-- each file of a work that read none of the intention's units is there after as before
+others-there : (i : Intention) (k : ℕ) (files : Files) (from list : List Intention) (reads : List LockUnit) → slice_get from k ≡ Some i → AreApart from reads → IsPrepared files list reads
+    → list_all (λ j. bool_eq (file_there (change (intention_change i) files) j.file) (file_there files j.file)) list ≡ true
+others-there i k files from list reads at apart is = by (is_put i.what) refl
   where
     same : (a b : Bool) → a ≡ b → bool_eq a b ≡ true
     same a b e = grind (arith, e)
 
-    commits : is_put i.what ≡ false → is_unit (map unit_of p.list) (File i.file) ≡ true
-    commits h = subst (λ u. is_unit (map unit_of p.list) u ≡ true) (file_unit i.what h) (unit-of p.list k i at)
+    commits : is_put i.what ≡ false → is_unit (map unit_of from) (File i.file) ≡ true
+    commits h = subst (λ u. is_unit (map unit_of from) u ≡ true) (file_unit i.what h) (unit-of from k i at)
       where
         file_unit : (w : What) → is_put w ≡ false → unit_by w i.file i.block ≡ File i.file
         file_unit Fresh h = refl
@@ -169,10 +177,17 @@ others-there i k x p q at apart is = by (is_put i.what) refl
         file_unit Cut h = refl
         file_unit Put h = absurd (cc h)
 
-    by : (b : Bool) → is_put i.what ≡ b → list_all (λ j. bool_eq (file_there (change (intention_change i) x.files) j.file) (file_there x.files j.file)) q.list ≡ true
-    by true h = all-by (λ j. true) (λ j. true) _ q.list (λ j _ _. same _ _ (put-there i x.files j.file h)) (all-true q.list) (all-true q.list)
-    by false h = all-by (λ j. not (file_eq i.file j.file)) (λ j. true) _ q.list (λ j n _. same _ _ (other-there i x.files j.file n))
-        (apart-files i (map unit_of p.list) p.reads (map unit_of q.list) q.reads q.list apart (commits h) is.reads_files) (all-true q.list)
+    goes : (u : LockUnit) (m n : Mode) → rebuilt (map unit_of from) [] u m ≡ true → rebuilt [] reads u n ≡ true → together m n ≡ true
+    goes u Commit Read c r = absurd (apart u c r)
+    goes u Commit IntentionWrite c r = absurd (cc r)
+    goes u Commit Commit c r = absurd (cc r)
+    goes u Read n c r = absurd (cc c)
+    goes u IntentionWrite n c r = absurd (cc c)
+
+    by : (b : Bool) → is_put i.what ≡ b → list_all (λ j. bool_eq (file_there (change (intention_change i) files) j.file) (file_there files j.file)) list ≡ true
+    by true h = all-by (λ j. true) (λ j. true) _ list (λ j _ _. same _ _ (put-there i files j.file h)) (all-true list) (all-true list)
+    by false h = all-by (λ j. not (file_eq i.file j.file)) (λ j. true) _ list (λ j n _. same _ _ (other-there i files j.file n))
+        (apart-files i (map unit_of from) [] [] reads list goes (commits h) is.reads_files) (all-true list)
 
 prepared-with : (files after : Files) (list : List Intention) (reads : List LockUnit) → IsPrepared files list reads → list_all (λ j. not (needs_file (first_of list j)) || file_there after j.file) list ≡ true → IsPrepared after list reads
 prepared-with files after list reads is there = record {
@@ -187,13 +202,23 @@ prepared-with files after list reads is there = record {
   no_lost_put = is.no_lost_put;
 }
 
+-- a work that read none of the units of the intention's work may be prepared after as before
+pub prepared-carried : (i : Intention) (k : ℕ) (files : Files) (from list : List Intention) (reads : List LockUnit) → slice_get from k ≡ Some i → AreApart from reads → IsPrepared files list reads → IsPrepared (change (intention_change i) files) list reads
+prepared-carried i k files from list reads at apart is = prepared-with files (change (intention_change i) files) list reads is
+    (all-by (λ j. bool_eq (file_there (change (intention_change i) files) j.file) (file_there files j.file)) (λ j. not (needs_file (first_of list j)) || file_there files j.file) _ list
+    (λ j s h. moved (file_there (change (intention_change i) files) j.file) (file_there files j.file) (needs_file (first_of list j)) s h)
+    (others-there i k files from list reads at apart is) is.files_there)
+  where
+    moved : (a b n : Bool) → bool_eq a b ≡ true → (not n || b) ≡ true → (not n || a) ≡ true
+    moved a b n s h = grind (arith, s, h)
+
 pub orderly-carried : (server : ServerNo) (x : StableState) (w : WorkId) (p : Prepared) (k : ℕ) (i : Intention) → IsOrderly server x → x.works w ≡ Some p → slice_get p.list k ≡ Some i → IsOrderly server (made_by (CarryOut w i) x)
 orderly-carried server x w p k i o at here = record {
   works_few = o.works_few;
   flags_few = o.flags_few;
   works_given = o.works_given;
   flags_given = o.flags_given;
-  prepared = λ v q e. prepared-with x.files (change (intention_change i) x.files) q.list q.reads (o.prepared v q e) (⊎_elim (λ t. own v q (t.1) e) (λ t. other v q (t.1) e) (work_tells w v));
+  prepared = λ v q e. ⊎_elim (λ t. prepared-with x.files (change (intention_change i) x.files) q.list q.reads (o.prepared v q e) (own v q (t.1) e)) (λ t. prepared-carried i k x.files p.list q.list q.reads here (apart-reads p q (o.apart w v p q (t.1) at e)) (o.prepared v q e)) (work_tells w v);
   apart = o.apart;
 }
   where
@@ -211,14 +236,6 @@ orderly-carried server x w p k i o at here = record {
           where
             list_same : (p q : Prepared) → Some p ≡ Some q → p.list ≡ q.list
             list_same p q e = grind (arith, e)
-
-    other : (v : WorkId) (q : Prepared) → w ≢ v → x.works v ≡ Some q → list_all (λ j. not (needs_file (first_of q.list j)) || file_there after j.file) q.list ≡ true
-    other v q ne e = all-by (λ j. bool_eq (file_there after j.file) (file_there x.files j.file)) (λ j. not (needs_file (first_of q.list j)) || file_there x.files j.file) _ q.list
-        (λ j s h. moved (file_there after j.file) (file_there x.files j.file) (needs_file (first_of q.list j)) s h)
-        (others-there i k x p q here (o.apart w v p q ne at e) (o.prepared v q e)) (o.prepared v q e).files_there
-      where
-        moved : (a b n : Bool) → bool_eq a b ≡ true → (not n || b) ≡ true → (not n || a) ≡ true
-        moved a b n s h = grind (arith, s, h)
 
 -- ---- the heads that prepared works need
 
@@ -283,7 +300,7 @@ needs-other server x w v p k i o at here ne = by (x.works v) refl
   where
     by : (q : Option Prepared) → x.works v ≡ q → needs (file_there (change (intention_change i) x.files)) (intentions q) ≡ needs (file_there x.files) (intentions q)
     by None e = refl
-    by (Some q) e = needs-same _ _ q.list (others-there i k x p q here (o.apart w v p q ne at e) (o.prepared v q e))
+    by (Some q) e = needs-same _ _ q.list (others-there i k x.files p.list q.list q.reads here (apart-reads p q (o.apart w v p q ne at e)) (o.prepared v q e))
 
 -- all works together need a head less where the intention makes a file, and else as many as before
 pub promises-carried : (server : ServerNo) (x : StableState) (w : WorkId) (p : Prepared) (k : ℕ) (i : Intention) (keys : List WorkId) → IsOrderly server x → x.works w ≡ Some p → slice_get p.list k ≡ Some i

@@ -1,0 +1,97 @@
+-- Changing one work of a list.
+use Rattle.std.proofs.Common.{◌≡◌, ℕ, zero, suc, true, false, ◌≤◌, ◌<◌, List, [], ◌∷◌, ◌++◌, length, take, drop, slice_set, slice_index_or, Bool, Some, if◌then◌else◌, refl, sym, ◌∙◌, ap, subst, arith}
+use Rattle.std.specs.Prelude.{◌&&◌}
+use Rattle.jn_base.specs.declared.names.Tid.{Tid}
+use Rattle.jn_base.specs.declared.names.WorkId.{WorkId}
+use Rattle.jn_base.specs.Names.{tid_eq, work_eq}
+use Rattle.jn_rows.specs.declared.worker.Work.{Work}
+use Rattle.jn_rows.specs.declared.worker.Phase.{Phase}
+use Rattle.jn_rows.specs.Worker.{work_at, work_of, with_phase, without}
+use Rattle.jn_lock_rows.specs.Matching.{are_rising, is_before}
+use Rattle.jn_lock_rows.proofs.Works.{work_same, not-before, found-behind}
+use Rattle.jn_storage.specs.Listing.{is_in}
+use Rattle.jn_worker.specs.Calls.{rephased, going_in}
+
+-- the work at place i has the name
+pub set_at : (W : WorkId) (phase : Phase) (d : Work) (ws : List Work) (i : ℕ) → i < length ws → work_eq (slice_index_or ws i d).name W ≡ true
+    → slice_set ws i (record (slice_index_or ws i d) { phase = phase }) ≡ take i ws ++ with_phase W phase (drop i ws)
+set_at W phase d [] i h e = grind arith
+set_at W phase d (w ∷ ws) zero h e = grind arith
+set_at W phase d (w ∷ ws) (suc i) h e = let rest = set_at W phase d ws i (omega arith) e in grind (arith, rest)
+
+-- no work has it
+pub set_none : (W : WorkId) (phase : Phase) (ws : List Work) (i : ℕ) → length ws ≤ i → take i ws ++ with_phase W phase (drop i ws) ≡ ws
+set_none W phase [] zero h = refl
+set_none W phase [] (suc i) h = refl
+set_none W phase (w ∷ ws) zero h = grind arith
+set_none W phase (w ∷ ws) (suc i) h = let rest = set_none W phase ws i (omega arith) in grind (arith, rest)
+
+pub without_none : (W : WorkId) (ws : List Work) (i : ℕ) → length ws ≤ i → take i ws ++ without W (drop i ws) ≡ ws
+without_none W [] zero h = refl
+without_none W [] (suc i) h = refl
+without_none W (w ∷ ws) zero h = grind arith
+without_none W (w ∷ ws) (suc i) h = let rest = without_none W ws i (omega arith) in grind (arith, rest)
+
+-- and its phase is changed
+pub rephased_at : (W : WorkId) (f : Phase → Phase) (d : Work) (ws : List Work) (i : ℕ) → i < length ws → work_eq (slice_index_or ws i d).name W ≡ true
+    → slice_set ws i (record (slice_index_or ws i d) { phase = f (slice_index_or ws i d).phase }) ≡ take i ws ++ rephased W f (drop i ws)
+rephased_at W f d [] i h e = grind arith
+rephased_at W f d (w ∷ ws) zero h e = grind arith
+rephased_at W f d (w ∷ ws) (suc i) h e = let rest = rephased_at W f d ws i (omega arith) e in grind (arith, rest)
+
+pub rephased_none : (W : WorkId) (f : Phase → Phase) (ws : List Work) (i : ℕ) → length ws ≤ i → take i ws ++ rephased W f (drop i ws) ≡ ws
+rephased_none W f [] zero h = refl
+rephased_none W f [] (suc i) h = refl
+rephased_none W f (w ∷ ws) zero h = grind arith
+rephased_none W f (w ∷ ws) (suc i) h = let rest = rephased_none W f ws i (omega arith) in grind (arith, rest)
+
+same : (x w : Work) → Some x ≡ Some w → x ≡ w
+same x w h = cc
+
+and_first : (a b : Bool) → (a && b) ≡ true → a ≡ true
+and_first a b h = grind (arith, h)
+
+and_later : (a b : Bool) → (a && b) ≡ true → b ≡ true
+and_later a b h = grind (arith, h)
+
+here : (x w : Work) (xs : List Work) → x ≡ w → (if work_eq x.name w.name then Some x else work_at w.name xs) ≡ Some w
+here x w xs e = subst (λ (y : Work). (if work_eq y.name w.name then Some y else work_at w.name xs) ≡ Some w) (sym e) (ap (λ b. if b then Some w else work_at w.name xs) (work_same w.name))
+
+pub rephased-is : (W : WorkId) (f : Phase → Phase) (ws : List Work) (w : Work) → work_at W ws ≡ Some w → rephased W f ws ≡ with_phase W (f w.phase) ws
+rephased-is W f [] w h = refl
+rephased-is W f (x ∷ xs) w h = by (work_eq x.name W) (rephased-is W f xs w) h
+  where
+    by : (b : Bool) → (work_at W xs ≡ Some w → rephased W f xs ≡ with_phase W (f w.phase) xs) → (if b then Some x else work_at W xs) ≡ Some w
+        → (if b then record x { phase = f x.phase } ∷ xs else x ∷ rephased W f xs) ≡ (if b then record x { phase = f w.phase } ∷ xs else x ∷ with_phase W (f w.phase) xs)
+    by true again h = ap (λ (y : Work). record x { phase = f y.phase } ∷ xs) (same x w h)
+    by false again h = ap (λ l. x ∷ l) (again h)
+
+-- the first work of a transaction is found by its name
+pub found_by_name : (T : Tid) (ws : List Work) (w : Work) → are_rising ws ≡ true → work_of T ws ≡ Some w → work_at w.name ws ≡ Some w
+found_by_name T [] w r h = absurd (cc h)
+found_by_name T (x ∷ xs) w r h = by (tid_eq x.tid T) (found_by_name T xs w (and_later (is_before x.name xs) (are_rising xs) r)) h
+  where
+    by : (b : Bool) → (work_of T xs ≡ Some w → work_at w.name xs ≡ Some w) → (if b then Some x else work_of T xs) ≡ Some w → (if work_eq x.name w.name then Some x else work_at w.name xs) ≡ Some w
+    by true again h = here x w xs (same x w h)
+    by false again h = ap (λ b. if b then Some x else work_at w.name xs) (not-before x.name w.name (found-behind w.name x.name xs w (and_first (is_before x.name xs) (are_rising xs) r) (again h))) ∙ again h
+
+-- and the first going one
+pub going_by_name : (going : List WorkId) (ws : List Work) (w : Work) → are_rising ws ≡ true → going_in going ws ≡ Some w → (work_at w.name ws ≡ Some w) × (is_in work_eq w.name going ≡ true)
+going_by_name going [] w r h = absurd (cc h)
+going_by_name going (x ∷ xs) w r h = by (is_in work_eq x.name going) refl (going_by_name going xs w (and_later (is_before x.name xs) (are_rising xs) r)) h
+  where
+    by : (b : Bool) → is_in work_eq x.name going ≡ b → (going_in going xs ≡ Some w → (work_at w.name xs ≡ Some w) × (is_in work_eq w.name going ≡ true)) → (if b then Some x else going_in going xs) ≡ Some w
+        → ((if work_eq x.name w.name then Some x else work_at w.name xs) ≡ Some w) × (is_in work_eq w.name going ≡ true)
+    by true e again h = (here x w xs (same x w h), subst (λ (y : Work). is_in work_eq y.name going ≡ true) (same x w h) e)
+    by false e again h = (ap (λ b. if b then Some x else work_at w.name xs) (not-before x.name w.name (found-behind w.name x.name xs w (and_first (is_before x.name xs) (are_rising xs) r) (again h).0)) ∙ (again h).0, (again h).1)
+
+index-same : (ws : List Work) (i : ℕ) (x d : Work) → i < length ws → slice_index_or ws i x ≡ slice_index_or ws i d
+index-same [] i x d h = absurd (omega (arith, h))
+index-same (w ∷ ws) zero x d h = refl
+index-same (w ∷ ws) (suc i) x d h = index-same ws i x d (omega (arith, h))
+
+-- the work that was read at place i is changed there
+pub rephased_here : (W : WorkId) (f : Phase → Phase) (ws : List Work) (i : ℕ) (x d : Work) (phase : Phase) → i < length ws → x ≡ slice_index_or ws i x → d ≡ slice_index_or ws i d → work_eq x.name W ≡ true → phase ≡ f d.phase
+    → slice_set ws i (record d { phase = phase }) ≡ take i ws ++ rephased W f (drop i ws)
+rephased_here W f ws i x d phase lt a b e is = ap (λ phase. slice_set ws i (record d { phase = phase })) is ∙ (ap (λ (y : Work). slice_set ws i (record y { phase = f y.phase })) b
+    ∙ rephased_at W f d ws i lt (subst (λ (y : Work). work_eq y.name W ≡ true) (a ∙ index-same ws i x d lt) e))

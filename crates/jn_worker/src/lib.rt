@@ -1,0 +1,12 @@
+//! The worker of a server: its live works, over any storage of works.
+#![tactic(auto)]
+
+mod finish;
+mod restore;
+mod step;
+mod words;
+mod worker;
+mod works;
+
+pub use words::WorkerFault;
+pub use worker::Worker;

@@ -1,0 +1,69 @@
+// What a worker does without a message.
+ghost use Rattle.std.specs.Prelude.{◌≡◌, true, is_some};
+ghost use Rattle.jn_base.specs.declared.names.Tickets.{Tickets};
+ghost use Rattle.jn_records.specs.Reading.{Gives};
+ghost use Rattle.jn_rows.specs.Worker as rows;
+ghost use Rattle.jn_storage.specs.Calls.{IsGoing, next_of};
+ghost use Rattle.jn_worker.specs.Calls.{Takes, Steps, going_in};
+ghost use Rattle.jn_worker.specs.Fitting.{Fits, seen};
+
+use crate::words::WorkerFault;
+use crate::worker::Worker;
+use crate::works::{forget_name, is_in, remove};
+use jn_base::{Party, Tid, WorkId};
+use jn_msgs::{Message, Out};
+use jn_rows::Work;
+use jn_storage::WorkStore;
+
+/// The first going work.
+fn going_work<'a>(works: &'a [Work], going: &[WorkId]) -> Option<&'a Work>
+    ensures { Gives (λ w. w.now) result (going_in going.now works.now) }
+{
+    for work in works {
+        if is_in(going, work.name) {
+            return Some(work);
+        }
+    }
+    None
+}
+
+impl Worker {
+    /// Carries out the next intention of the going work of least name, or where none is left, forgets that work and
+    /// tells its coordinator. Without a going work it erases a record that no work has. False where nothing is to do.
+    pub fn step<W: WorkStore>(&mut self, store: &mut W, out: &mut Out) -> Result<bool, WorkerFault>
+        requires fits { Fits self.old (W.view store.old) }
+        ensures steps { (k : Tickets) → Steps (rows.worker_step self.old.table (seen (W.view store.old)) k) self.old (W.view store.old) out.old k result self.new (W.view store.new) out.new k }
+    {
+        let Some(work) = going_work(&self.works, &self.going) else {
+            return Ok(store.erase_step()?);
+        };
+        let (name, tid) = (work.name, work.tid);
+        self.carry_on(store, name, tid, out)?;
+        Ok(true)
+    }
+
+    /// Carries on with a going work.
+    fn carry_on<W: WorkStore>(
+        &mut self,
+        store: &mut W,
+        name: WorkId,
+        tid: Tid,
+        out: &mut Out,
+    ) -> Result<(), WorkerFault>
+        requires fits { Fits self.old (W.view store.old) }
+        requires live { is_some (rows.work_at name self.old.table) ≡ true }
+        requires going { IsGoing (W.view store.old) name }
+        ensures takes { (k : Tickets) → Takes (rows.carried_row self.old.table k (rows.new_work name tid) (next_of (W.view store.old) name)) self.old (W.view store.old) out.old k result self.new (W.view store.new) out.new k }
+    {
+        let _locks = &self.locks;
+        if store.apply_step(name)? {
+            return Ok(());
+        }
+        store.forget(name)?;
+        self.locks.release(name);
+        remove(&mut self.works, name);
+        forget_name(&mut self.going, name);
+        out.send(Party::Server(tid.server), Message::Done(tid, name))?;
+        Ok(())
+    }
+}
