@@ -1,0 +1,4 @@
+pub mod World
+pub mod Servers
+pub mod Steps
+pub mod Example
