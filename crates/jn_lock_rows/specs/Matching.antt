@@ -1,0 +1,91 @@
+-- How a lock table says what a worker's works hold.
+use Rattle.std.specs.Prelude.{◌≡◌, Bool, true, false, ◌&&◌, ◌||◌, if◌then◌else◌, List, [], ◌∷◌, ◌++◌, Option, Some, None}
+use Rattle.jn_base.specs.declared.names.WorkId.{WorkId}
+use Rattle.jn_base.specs.declared.names.LockUnit.{LockUnit}
+use Rattle.jn_locks.specs.declared.words.Mode.{Mode}
+use Rattle.jn_locks.specs.declared.words.Standing.{Standing}
+use Rattle.jn_locks.specs.declared.words.Standing.TheVariants as standings
+use Rattle.jn_locks.specs.declared.words.Want.{Want}
+use Rattle.jn_locks.specs.Locks.{Table, Wants, unit_eq, unit_before, work_before}
+use Rattle.jn_rows.specs.declared.worker.Work.{Work}
+use Rattle.jn_rows.specs.declared.worker.Phase.{Phase}
+use Rattle.jn_rows.specs.declared.worker.Phase.TheVariants.{Active, Broken, Prepared as Stored}
+use Rattle.jn_rows.specs.Worker.{Wanted, has_mode, holds, work_at}
+
+-- what a work holds that was looked for
+abbrev pub held_in : Option Work → LockUnit → Mode → Bool
+held_in None u m = false
+held_in (Some w) u m = holds w.phase u m
+
+-- how a lock table knows a work in this phase; a broken one it doesn't know
+abbrev pub standing_in : Phase → Option Standing
+standing_in (Active a) = Some (if a.vulnerable then standings.Vulnerable else standings.Active)
+standing_in (Broken u by) = None
+standing_in (Stored p) = Some standings.Prepared
+
+abbrev pub standing_of : Option Work → Option Standing
+standing_of None = None
+standing_of (Some w) = standing_in w.phase
+
+-- the lock table of these works
+abbrev pub locks_of : List Work → Table
+locks_of works = record { holds = λ V u m. held_in (work_at V works) u m; standing = λ V. standing_of (work_at V works) }
+
+-- whether this name comes before those of all the works
+abbrev pub is_before : WorkId → List Work → Bool
+is_before W [] = true
+is_before W (v ∷ vs) = work_before W v.name && is_before W vs
+
+-- and after
+abbrev pub is_after : WorkId → List Work → Bool
+is_after W [] = true
+is_after W (v ∷ vs) = work_before v.name W && is_after W vs
+
+abbrev pub are_rising : List Work → Bool
+are_rising [] = true
+are_rising (v ∷ vs) = is_before v.name vs && are_rising vs
+
+abbrev pub is_unit_before : LockUnit → List LockUnit → Bool
+is_unit_before u [] = true
+is_unit_before u (v ∷ vs) = unit_before u v && is_unit_before u vs
+
+abbrev pub units_rise : List LockUnit → Bool
+units_rise [] = true
+units_rise (u ∷ us) = is_unit_before u us && units_rise us
+
+-- whether the units that it is to write are in order
+abbrev pub is_ordered : Phase → Bool
+is_ordered (Active a) = units_rise a.writes
+is_ordered phase = true
+
+abbrev pub are_ordered : List Work → Bool
+are_ordered [] = true
+are_ordered (v ∷ vs) = is_ordered v.phase && are_ordered vs
+
+-- the lock table says of each work what it holds and how it stands; the works' names rise, and so do the units that each
+-- is to write. An active work is known from its opening on, when it asks for nothing
+pub record LocksMatch (works : List Work) (t : Table) : Type 0 where
+  pub locks : (V : WorkId) (u : LockUnit) (m : Mode) → t.holds V u m ≡ held_in (work_at V works) u m
+  pub standing : (V : WorkId) → t.standing V ≡ standing_of (work_at V works)
+  pub rising : are_rising works ≡ true
+  pub ordered : are_ordered works ≡ true
+
+-- ---- what is wanted
+
+-- whether a unit is wanted in a mode
+abbrev pub wants_in : List Wanted → Wants
+wants_in [] u m = false
+wants_in (want ∷ wants) u m = (unit_eq want.unit u && has_mode m want.modes) || wants_in wants u m
+
+abbrev pub units_in : List Wanted → List LockUnit
+units_in [] = []
+units_in (want ∷ wants) = want.unit ∷ units_in wants
+
+abbrev pub wants_at : LockUnit → List Mode → List Want
+wants_at u [] = []
+wants_at u (m ∷ ms) = (record { unit = u; mode = m }) ∷ wants_at u ms
+
+-- the wants as a lock table is asked for them
+abbrev pub want_list : List Wanted → List Want
+want_list [] = []
+want_list (want ∷ wants) = wants_at want.unit want.modes ++ want_list wants
