@@ -1,0 +1,10 @@
+pub mod Clear
+pub mod Granted
+pub mod Keeping
+pub mod Units
+pub mod Rows
+pub mod Tables
+pub mod WorkerRows
+pub mod CoordinatorRows
+pub mod Restored
+pub mod Steps

@@ -1,4 +1,5 @@
 pub mod World
 pub mod Servers
 pub mod Steps
+pub mod LockFacts
 pub mod Example

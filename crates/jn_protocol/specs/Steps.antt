@@ -142,7 +142,7 @@ stop_restart s raised (Some m) w = w
 abbrev pub restart_with : ServerNo → StableState → List WorkId → List Tid → World → World
 restart_with s x works tids w = record w {
   memory = at_server w.memory s (Some (restored s x works tids));
-  found = at_server w.found s (λ c. with_epoch x);
+  found = λ q c. if server_eq s q then with_epoch x else w.found q c;
   lines = w.lines ++ (says.Up s (x.epoch + 1) ∷ named_now tids w.lines);
 }
 

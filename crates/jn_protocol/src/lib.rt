@@ -1,12 +1,15 @@
 //! The whole system as steps of its clients and servers by their rows, and what holds after any list of them.
 #![tactic(auto)]
 
-ghost use Rattle.std.specs.Prelude.{◌≡◌, true, [], ◌∷◌, ◌++◌, Some, None};
+ghost use Rattle.std.specs.Prelude.{◌≡◌, ℕ, true, List, [], ◌∷◌, ◌++◌, Some, None};
+ghost use Rattle.jn_base.specs.declared.names.ServerNo.{ServerNo};
 ghost use Rattle.jn_base.specs.declared.names.LockUnit.TheVariants.{File};
-ghost use Rattle.jn_order.specs.Files.{there};
+ghost use Rattle.jn_order.specs.Files.{AllFiles, there};
 ghost use Rattle.jn_report.specs.declared.line.Text.TheVariants as says;
 ghost use Rattle.jn_rows.specs.Stable.{Pick};
-ghost use Rattle.jn_protocol.specs.Steps.{run, IsRun};
+ghost use Rattle.jn_protocol.specs.World.{opening};
+ghost use Rattle.jn_protocol.specs.Steps.{Step, run, IsRun};
+ghost use Rattle.jn_protocol.specs.LockFacts.{LockFacts};
 ghost use Rattle.jn_protocol.specs.Example.{the_server, the_client, the_file, the_transaction, the_work, start, to_the_vote, to_the_end, with_a_stop};
 
 /// A client makes a file: each step by its row, up to the moment when nothing of the transaction is left.
@@ -27,4 +30,12 @@ pub fn a_commit_is_found_again()
         ∷ says.Stopped the_server ∷ says.Up the_server 1 ∷ says.Commit the_transaction ∷ says.Down the_server ∷ says.Up the_server 2 ∷ [] }
     ensures file { (c : Pick) → ((run (to_the_vote ++ with_a_stop) start).found the_server c).files (File the_file) ≡ Some there }
     ensures work { (c : Pick) → ((run (to_the_vote ++ with_a_stop) start).found the_server c).works the_work ≡ None }
+{}
+
+/// Whatever steps come one after another, stops and restarts among them: at each server each work's name stands once, no
+/// two works hold a unit in modes that don't go together, each active work holds what its intentions write, each work
+/// reads the file of each unit that it reads or writes, and the prepared works are the stable ones.
+pub fn locks_go_together()
+    ensures { (servers : ℕ) (files : AllFiles) (epochs : ServerNo → ℕ) (steps : List Step) → IsRun steps (opening servers files epochs)
+        → LockFacts (run steps (opening servers files epochs)) }
 {}
