@@ -8,3 +8,12 @@ pub mod WorkerRows
 pub mod CoordinatorRows
 pub mod Restored
 pub mod Steps
+pub mod Performed
+pub mod Mirrored
+pub mod Losing
+pub mod GrantMoves
+pub mod OpMoves
+pub mod QuietMoves
+pub mod PrepareMoves
+pub mod WorkerMoves
+pub mod StepMoves

@@ -52,7 +52,7 @@ open-keeps x k t c request T None fact = either x k (nat_lt (length t) 64) _ _
 
 -- ---- Op
 
-no-lock : (m : Option Answer) (o : Option Held) → first_of_two m (locked o) ≡ None → o ≡ None
+pub no-lock : (m : Option Answer) (o : Option Held) → first_of_two m (locked o) ≡ None → o ≡ None
 no-lock None None h = refl
 no-lock None (Some held) h = absurd (grind arith)
 no-lock (Some answer) o h = absurd (grind arith)
