@@ -17,3 +17,4 @@ pub mod QuietMoves
 pub mod PrepareMoves
 pub mod WorkerMoves
 pub mod StepMoves
+pub mod LostCommits

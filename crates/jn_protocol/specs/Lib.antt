@@ -4,3 +4,4 @@ pub mod Steps
 pub mod LockFacts
 pub mod Mirrors
 pub mod Example
+pub mod WrongRuns

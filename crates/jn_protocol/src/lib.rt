@@ -1,6 +1,8 @@
 //! The whole system as steps of its clients and servers by their rows, and what holds after any list of them.
 #![tactic(auto)]
 
+mod wrong;
+
 ghost use Rattle.std.specs.Prelude.{◌≡◌, ℕ, true, List, [], ◌∷◌, ◌++◌, Some, None};
 ghost use Rattle.jn_base.specs.declared.names.ServerNo.{ServerNo};
 ghost use Rattle.jn_base.specs.declared.names.LockUnit.TheVariants.{File};
@@ -14,6 +16,8 @@ ghost use Rattle.jn_machine.specs.Premises.{MayRun};
 ghost use Rattle.jn_protocol.specs.LockFacts.{LockFacts};
 ghost use Rattle.jn_protocol.specs.Mirrors.{Mirrors, MovesTo, is_shown};
 ghost use Rattle.jn_protocol.specs.Example.{the_server, the_client, the_file, the_transaction, the_work, start, to_the_vote, to_the_end, with_a_stop};
+
+pub use wrong::{wrong_rows_lose_a_commit, wrong_rows_mix_the_order};
 
 /// A client makes a file: each step by its row, up to the moment when nothing of the transaction is left.
 pub fn a_transaction_commits()
