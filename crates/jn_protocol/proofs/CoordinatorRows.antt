@@ -1,0 +1,225 @@
+-- No row of a coordinator changes a stable work, and each draws one ticket at most.
+use Rattle.std.proofs.Common.{◌≡◌, ◌⊎◌, inl, inr, ℕ, zero, suc, ◌+◌, Bool, true, false, List, [], ◌∷◌, ◌++◌, take, Option, Some, None, refl, ◌∙◌, arith}
+use Rattle.std.specs.Prelude.{◌&&◌, not, if◌then◌else◌, nat_lt, nat_eq, length}
+use Rattle.jn_base.specs.declared.names.ClientNo.{ClientNo}
+use Rattle.jn_base.specs.declared.names.Tid.{Tid}
+use Rattle.jn_base.specs.declared.names.WorkId.{WorkId}
+use Rattle.jn_base.specs.declared.names.Tickets.{Tickets}
+use Rattle.jn_base.specs.Names.{client_eq}
+use Rattle.jn_msgs.specs.declared.message.Message.{Message}
+use Rattle.jn_msgs.specs.declared.message.Message.TheVariants as messages
+use Rattle.jn_msgs.specs.declared.message.Vote.{Vote}
+use Rattle.jn_msgs.specs.declared.message.Vote.TheVariants as votes
+use Rattle.jn_msgs.specs.declared.message.Note.{Note}
+use Rattle.jn_rows.specs.declared.coordinator.Transaction.{Transaction}
+use Rattle.jn_rows.specs.declared.coordinator.Stage.{Stage}
+use Rattle.jn_rows.specs.declared.coordinator.Stage.TheVariants.{Open, Voting, Committed, Aborted}
+use Rattle.jn_rows.specs.declared.coordinator.Voting.{Voting as Ballot}
+use Rattle.jn_rows.specs.declared.coordinator.Committed.{Committed as Commitment}
+use Rattle.jn_rows.specs.Stable.{StableState, Change, AddReady, MarkGoing, CarryOut, RemoveWork, AddFlag, DropFlag, made_all}
+use Rattle.jn_rows.specs.Outcomes.{RowOutcome, Sent}
+use Rattle.jn_rows.specs.Coordinator.{CoordinatorTable, all_in, is_work, commit_row, forget_row, thanked_changes, changes_of_closing, begin_new, begin_again, begun_by, begin_row, end_promised, end_stage, end_row, abort_stage, abort_request, told_stage, inquire_row, noted, counted_vote, vote_stage, vote_row, done_stage, done_row, thanks_stage, thanks_row, coordinator_row, transaction_at, with_work, after_closing, seen_now}
+
+abbrev pub is_of_flag : Change → Bool
+is_of_flag (AddFlag flag) = true
+is_of_flag (DropFlag T) = true
+is_of_flag change = false
+
+abbrev pub are_of_flags : List Change → Bool
+are_of_flags [] = true
+are_of_flags (change ∷ changes) = is_of_flag change && are_of_flags changes
+
+-- ---- such changes keep the works
+
+flag-works : (c : Change) (x : StableState) → is_of_flag c ≡ true → (made_all (c ∷ []) x).works ≡ x.works
+flag-works (AddFlag flag) x h = refl
+flag-works (DropFlag T) x h = refl
+flag-works (AddReady head list reads) x h = absurd (grind arith)
+flag-works (MarkGoing W) x h = absurd (grind arith)
+flag-works (CarryOut W i) x h = absurd (grind arith)
+flag-works (RemoveWork W) x h = absurd (grind arith)
+
+flag-epoch : (c : Change) (x : StableState) → (made_all (c ∷ []) x).epoch ≡ x.epoch
+flag-epoch (AddFlag flag) x = refl
+flag-epoch (DropFlag T) x = refl
+flag-epoch (AddReady head list reads) x = refl
+flag-epoch (MarkGoing W) x = refl
+flag-epoch (CarryOut W i) x = refl
+flag-epoch (RemoveWork W) x = refl
+
+first-of : (a b : Bool) → (a && b) ≡ true → a ≡ true
+first-of a b h = grind arith
+
+second-of : (a b : Bool) → (a && b) ≡ true → b ≡ true
+second-of a b h = grind arith
+
+pub flags-keep : (changes : List Change) (n : ℕ) (x : StableState) → are_of_flags changes ≡ true → (made_all (take n changes) x).works ≡ x.works
+flags-keep [] zero x h = refl
+flags-keep [] (suc n) x h = refl
+flags-keep (c ∷ changes) zero x h = refl
+flags-keep (c ∷ changes) (suc n) x h = flags-keep changes n (made_all (c ∷ []) x) (second-of (is_of_flag c) (are_of_flags changes) h) ∙ flag-works c x (first-of (is_of_flag c) (are_of_flags changes) h)
+
+pub flags-all : (changes : List Change) (x : StableState) → are_of_flags changes ≡ true → (made_all changes x).works ≡ x.works
+flags-all [] x h = refl
+flags-all (c ∷ changes) x h = flags-all changes (made_all (c ∷ []) x) (second-of (is_of_flag c) (are_of_flags changes) h) ∙ flag-works c x (first-of (is_of_flag c) (are_of_flags changes) h)
+
+pub epoch-kept : (changes : List Change) (n : ℕ) (x : StableState) → (made_all (take n changes) x).epoch ≡ x.epoch
+epoch-kept [] zero x = refl
+epoch-kept [] (suc n) x = refl
+epoch-kept (c ∷ changes) zero x = refl
+epoch-kept (c ∷ changes) (suc n) x = epoch-kept changes n (made_all (c ∷ []) x) ∙ flag-epoch c x
+
+pub epoch-all : (changes : List Change) (x : StableState) → (made_all changes x).epoch ≡ x.epoch
+epoch-all [] x = refl
+epoch-all (c ∷ changes) x = epoch-all changes (made_all (c ∷ []) x) ∙ flag-epoch c x
+
+-- ---- the rows
+
+pub record Aside (k : Tickets) (row : RowOutcome CoordinatorTable) : Type 0 where
+  pub flags : are_of_flags row.changes ≡ true
+  pub tickets : (row.tickets ≡ k) ⊎ (row.tickets ≡ record k { next = k.next + 1 })
+
+still : (k : Tickets) (t : CoordinatorTable) (sent : List Sent) (notes : List Note) → Aside k (record { table = t; changes = []; messages = sent; notes = notes; tickets = k })
+still k t sent notes = record { flags = refl; tickets = inl refl }
+
+either : (k : Tickets) (b : Bool) (r q : RowOutcome CoordinatorTable) → Aside k r → Aside k q → Aside k (if b then r else q)
+either k true r q h l = h
+either k false r q h l = l
+
+flags-append : (a b : List Change) → are_of_flags a ≡ true → are_of_flags b ≡ true → are_of_flags (a ++ b) ≡ true
+flags-append [] b h l = l
+flags-append (c ∷ a) b h l = both (is_of_flag c) (are_of_flags (a ++ b)) (first-of (is_of_flag c) (are_of_flags a) h) (flags-append a b (second-of (is_of_flag c) (are_of_flags a) h) l)
+  where
+    both : (p q : Bool) → p ≡ true → q ≡ true → (p && q) ≡ true
+    both p q e f = grind arith
+
+thanked-flags : (s : Stage) (x : Transaction) → are_of_flags (thanked_changes s x) ≡ true
+thanked-flags (Committed d) x = by (all_in d.works d.done)
+  where
+    by : (b : Bool) → are_of_flags (if b then DropFlag x.tid ∷ [] else []) ≡ true
+    by true = refl
+    by false = refl
+thanked-flags Open x = refl
+thanked-flags (Voting b) x = refl
+thanked-flags (Aborted cause) x = refl
+
+closing-flags : (c : ClientNo) (xs : List Transaction) → are_of_flags (changes_of_closing c xs) ≡ true
+closing-flags c [] = refl
+closing-flags c (x ∷ xs) = by (client_eq x.client c) (closing-flags c xs)
+  where
+    by : (b : Bool) → are_of_flags (changes_of_closing c xs) ≡ true → are_of_flags (if b then thanked_changes x.stage x ++ changes_of_closing c xs else changes_of_closing c xs) ≡ true
+    by true h = flags-append (thanked_changes x.stage x) (changes_of_closing c xs) (thanked-flags x.stage x) h
+    by false h = h
+
+again-aside : (t : CoordinatorTable) (k : Tickets) (c : ClientNo) (request : ℕ) (o : Option Transaction) → Aside k (begin_again t k c request o)
+again-aside t k c request (Some x) = still k t _ _
+again-aside t k c request None = still k t _ _
+
+new-aside : (t : CoordinatorTable) (changes : List Change) (k : Tickets) (c : ClientNo) (request : ℕ) → are_of_flags changes ≡ true → Aside k (begin_new t changes k c request)
+new-aside t changes k c request h = either k (nat_lt (length t.transactions) 64) _ _ (record { flags = h; tickets = inr refl }) (record { flags = h; tickets = inl refl })
+
+begin-aside : (t : CoordinatorTable) (k : Tickets) (c : ClientNo) (request : ℕ) → Aside k (begin_row t k c request)
+begin-aside t k c request = either k (nat_lt (t.seen c) request) _ _
+    (new-aside (record { transactions = after_closing c t.transactions; seen = seen_now t.seen c request }) (changes_of_closing c t.transactions) k c request (closing-flags c t.transactions))
+    (either k (nat_eq (t.seen c) request) _ _ (again-aside t k c request (begun_by c request t.transactions)) (still k t _ _))
+
+commit-aside : (t : CoordinatorTable) (k : Tickets) (x : Transaction) (request : ℕ) (works : List WorkId) → Aside k (commit_row t k x request works)
+commit-aside t k x request works = record { flags = refl; tickets = inl refl }
+
+promised-aside : (t : CoordinatorTable) (k : Tickets) (x : Transaction) (request : ℕ) (works : List WorkId) → Aside k (end_promised t k x request works)
+promised-aside t k x request [] = commit-aside t k x request []
+promised-aside t k x request (W ∷ Ws) = still k _ _ _
+
+end-aside : (t : CoordinatorTable) (free : ℕ) (k : Tickets) (x : Transaction) (request : ℕ) (works : List WorkId) (s : Stage) → Aside k (end_stage t free k x request works s)
+end-aside t free k x request works Open = either k (nat_lt free 1) _ _ (still k _ _ _) (promised-aside t k x request works)
+end-aside t free k x request works (Voting b) = still k _ _ _
+end-aside t free k x request works (Committed d) = still k _ _ _
+end-aside t free k x request works (Aborted cause) = still k _ _ _
+
+ends-aside : (t : CoordinatorTable) (free : ℕ) (k : Tickets) (c : ClientNo) (request : ℕ) (T : Tid) (works : List WorkId) (o : Option Transaction) → Aside k (end_row t free k c request T works o)
+ends-aside t free k c request T works (Some x) = end-aside t free k x request works x.stage
+ends-aside t free k c request T works None = still k _ _ _
+
+abort-aside : (t : CoordinatorTable) (k : Tickets) (x : Transaction) (works : List WorkId) (s : Stage) → Aside k (abort_stage t k x works s)
+abort-aside t k x works Open = still k _ _ _
+abort-aside t k x works (Voting b) = still k _ _ _
+abort-aside t k x works (Committed d) = still k _ _ _
+abort-aside t k x works (Aborted cause) = still k _ _ _
+
+aborts-aside : (t : CoordinatorTable) (k : Tickets) (c : ClientNo) (T : Tid) (works : List WorkId) (o : Option Transaction) → Aside k (abort_request t k c T works o)
+aborts-aside t k c T works (Some x) = abort-aside t k x works x.stage
+aborts-aside t k c T works None = still k _ _ _
+
+told-aside : (t : CoordinatorTable) (k : Tickets) (T : Tid) (W : WorkId) (s : Stage) → Aside k (told_stage t k T W s)
+told-aside t k T W (Committed d) = either k (is_work W d.works && not (is_work W d.done)) _ _ (still k _ _ _) (still k _ _ _)
+told-aside t k T W (Aborted cause) = still k _ _ _
+told-aside t k T W Open = still k _ _ _
+told-aside t k T W (Voting b) = still k _ _ _
+
+inquire-aside : (t : CoordinatorTable) (k : Tickets) (T : Tid) (W : WorkId) (o : Option Transaction) → Aside k (inquire_row t k T W o)
+inquire-aside t k T W (Some x) = told-aside t k T W x.stage
+inquire-aside t k T W None = still k _ _ _
+
+noted-aside : (t : CoordinatorTable) (k : Tickets) (x : Transaction) (b : Ballot) → Aside k (noted t k x b)
+noted-aside t k x b = either k (all_in b.works b.ready) _ _ (commit-aside t k x b.request b.works) (still k _ _ _)
+
+counted-aside : (t : CoordinatorTable) (k : Tickets) (x : Transaction) (b : Ballot) (W : WorkId) (vote : Vote) → Aside k (counted_vote t k x b W vote)
+counted-aside t k x b W votes.Ready = noted-aside t k x (record b { ready = with_work W b.ready })
+counted-aside t k x b W (votes.Waiting u by) = either k (is_work W b.ready) _ _ (still k _ _ _) (still k _ _ _)
+counted-aside t k x b W (votes.Lost n m) = still k _ _ _
+counted-aside t k x b W (votes.Broken u by) = still k _ _ _
+counted-aside t k x b W (votes.Full n m l) = still k _ _ _
+
+vote-aside : (t : CoordinatorTable) (k : Tickets) (x : Transaction) (W : WorkId) (vote : Vote) (s : Stage) → Aside k (vote_stage t k x W vote s)
+vote-aside t k x W vote Open = still k _ _ _
+vote-aside t k x W vote (Voting b) = either k (is_work W b.works) _ _ (counted-aside t k x b W vote) (still k _ _ _)
+vote-aside t k x W vote (Committed d) = told-aside t k x.tid W (Committed d)
+vote-aside t k x W vote (Aborted cause) = told-aside t k x.tid W (Aborted cause)
+
+votes-aside : (t : CoordinatorTable) (k : Tickets) (T : Tid) (W : WorkId) (vote : Vote) (o : Option Transaction) → Aside k (vote_row t k T W vote o)
+votes-aside t k T W vote (Some x) = vote-aside t k x W vote x.stage
+votes-aside t k T W vote None = still k _ _ _
+
+dropped : (t : CoordinatorTable) (k : Tickets) (T : Tid) → Aside k (record { table = t; changes = DropFlag T ∷ []; messages = []; notes = []; tickets = k })
+dropped t k T = record { flags = refl; tickets = inl refl }
+
+forget-aside : (t : CoordinatorTable) (k : Tickets) (T : Tid) (d : Commitment) → Aside k (forget_row t k T d)
+forget-aside t k T d = either k (d.thanked && all_in d.works d.done) _ _ (dropped _ k T) (still k _ _ _)
+
+done-aside : (t : CoordinatorTable) (k : Tickets) (T : Tid) (W : WorkId) (s : Stage) → Aside k (done_stage t k T W s)
+done-aside t k T W (Committed d) = either k (is_work W d.works && not (is_work W d.done)) _ _ (forget-aside t k T (record d { done = d.done ++ W ∷ [] })) (still k _ _ _)
+done-aside t k T W Open = still k _ _ _
+done-aside t k T W (Voting b) = still k _ _ _
+done-aside t k T W (Aborted cause) = still k _ _ _
+
+dones-aside : (t : CoordinatorTable) (k : Tickets) (T : Tid) (W : WorkId) (o : Option Transaction) → Aside k (done_row t k T W o)
+dones-aside t k T W (Some x) = done-aside t k T W x.stage
+dones-aside t k T W None = still k _ _ _
+
+thank-aside : (t : CoordinatorTable) (k : Tickets) (T : Tid) (s : Stage) → Aside k (thanks_stage t k T s)
+thank-aside t k T (Committed d) = either k d.thanked _ _ (still k _ _ _) (forget-aside t k T (record d { thanked = true }))
+thank-aside t k T (Aborted cause) = still k _ _ _
+thank-aside t k T Open = still k _ _ _
+thank-aside t k T (Voting b) = still k _ _ _
+
+thanks-aside : (t : CoordinatorTable) (k : Tickets) (T : Tid) (o : Option Transaction) → Aside k (thanks_row t k T o)
+thanks-aside t k T (Some x) = thank-aside t k T x.stage
+thanks-aside t k T None = still k _ _ _
+
+pub coordinator-aside : (t : CoordinatorTable) (free : ℕ) (k : Tickets) (m : Message) → Aside k (coordinator_row t free k m)
+coordinator-aside t free k (messages.Begin c request) = begin-aside t k c request
+coordinator-aside t free k (messages.End c request T works) = ends-aside t free k c request T works (transaction_at T t.transactions)
+coordinator-aside t free k (messages.Abort c request T works) = aborts-aside t k c T works (transaction_at T t.transactions)
+coordinator-aside t free k (messages.Thanks c T) = thanks-aside t k T (transaction_at T t.transactions)
+coordinator-aside t free k (messages.Vote T W vote) = votes-aside t k T W vote (transaction_at T t.transactions)
+coordinator-aside t free k (messages.Done T W) = dones-aside t k T W (transaction_at T t.transactions)
+coordinator-aside t free k (messages.Inquire T W) = inquire-aside t k T W (transaction_at T t.transactions)
+coordinator-aside t free k (messages.Open c request T) = still k _ _ _
+coordinator-aside t free k (messages.Op c request W number op) = still k _ _ _
+coordinator-aside t free k (messages.Begun c request T) = still k _ _ _
+coordinator-aside t free k (messages.Opened c request T W) = still k _ _ _
+coordinator-aside t free k (messages.Answer c request answer) = still k _ _ _
+coordinator-aside t free k (messages.Outcome c T outcome) = still k _ _ _
+coordinator-aside t free k (messages.Prepare T c W) = still k _ _ _
+coordinator-aside t free k (messages.Commit T W) = still k _ _ _
+coordinator-aside t free k (messages.Drop T W) = still k _ _ _

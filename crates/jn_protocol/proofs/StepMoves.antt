@@ -1,0 +1,275 @@
+-- Steps of the whole system as steps of the machine.
+use Rattle.std.proofs.Common.{◌≡◌, ◌≢◌, ◌⊎◌, ◌<◌, ◌≤◌, inl, inr, ℕ, Bool, true, false, List, [], ◌∷◌, Option, Some, None, is_some, length, refl, sym, ◌∙◌, ap, subst, arith}
+use Rattle.std.specs.Prelude.{if◌then◌else◌, slice_get, All, get_or}
+use Rattle.std.proofs.lemmas.List.Elements.{All-get_or, All-nil}
+use Rattle.std.proofs.Common.{append-nil}
+use Rattle.std.proofs.lemmas.Option.{slice_get_cases}
+use Rattle.jn_base.specs.declared.names.ServerNo.{ServerNo}
+use Rattle.jn_base.specs.declared.names.Tid.{Tid}
+use Rattle.jn_base.specs.declared.names.WorkId.{WorkId}
+use Rattle.jn_base.specs.declared.names.Party.TheVariants.{Client, Server}
+use Rattle.jn_base.specs.Names.{server_eq}
+use Rattle.jn_base.proofs.Tells.{server_tells}
+use Rattle.jn_order.specs.Files.{AllFiles}
+use Rattle.jn_msgs.specs.declared.message.Message.{Message}
+use Rattle.jn_msgs.specs.declared.message.Message.TheVariants as messages
+use Rattle.jn_rows.specs.declared.worker.Work.{Work}
+use Rattle.jn_rows.specs.declared.worker.Phase.{Phase}
+use Rattle.jn_rows.specs.declared.worker.Phase.TheVariants.{Active, Broken, Prepared as Stored}
+use Rattle.jn_rows.specs.Stable.{Pick, stable}
+use Rattle.jn_rows.specs.Outcomes.{RowOutcome, Sent}
+use Rattle.jn_rows.specs.Worker.{WorkerTable, work_at, work_of, timed_out, vulnerable}
+use Rattle.jn_report.specs.declared.line.Text.{Text}
+use Rattle.jn_machine.specs.World.{World as Machine, Unknown}
+use Rattle.jn_machine.specs.Transactions.{PartFact}
+use Rattle.jn_machine.specs.Steps.{Atom, Crash as Crashes, Narrow as Narrows, RaiseEpoch, with_epoch, run, opening_world}
+use Rattle.jn_machine.specs.Premises.{MayRun}
+use Rattle.jn_machine.specs.Messages.{Says}
+use Rattle.jn_machine.proofs.Runs.{run_kept, opening_kept}
+use Rattle.jn_machine.proofs.MessageLemmas.{still_true}
+use Rattle.jn_protocol.specs.World.{World, Memory, at_server, opening, new_memory}
+use Rattle.jn_protocol.specs.Servers.{Room, of_worker, server_row, of_timeout}
+use Rattle.jn_protocol.specs.Steps.{Step, NextEvent, Tell, Again, Deliver, Work as Works, Nudge, Timeout, StopDelivery, StopWork, Crash, Narrow, StopRestart, Restart, after, done, at_memory, handed, timeout, crash, narrow, stop_restart}
+use Rattle.jn_protocol.specs.LockFacts.{LockFacts, ServerFact, UpFact}
+use Rattle.jn_protocol.specs.Mirrors.{Mirrors, MovesTo, IsTrue, is_shown, is_shown_sent, is_shown_message, active_in, next_in, known_in, working_in}
+use Rattle.jn_protocol.proofs.Tables.{of-found}
+use Rattle.jn_protocol.proofs.Mirrored.{mirrored}
+use Rattle.jn_protocol.proofs.QuietMoves.{RowMoves, phase-moves}
+use Rattle.jn_protocol.proofs.WorkerMoves.{opens, ops-move, prepares-move}
+
+no-step : (P : Type 0) → false ≡ true → P
+no-step P h = absurd (grind arith)
+
+-- a message that was sent is true
+is-true : (w : Machine) (sent : List Sent) (k : ℕ) (x : Sent) → All (IsTrue w) sent → slice_get sent k ≡ Some x → IsTrue w x
+is-true w sent k x all h = by (slice_get_cases sent k).1
+  where
+    some : (a b : Sent) → Some a ≡ Some b → a ≡ b
+    some a b e = cc
+
+    by : ((y : Sent) × (k < length sent) × (slice_get sent k ≡ Some y) × (get_or sent k y ≡ y)) ⊎ ((length sent ≤ k) × (slice_get sent k ≡ None)) → IsTrue w x
+    by (inl p) = subst (IsTrue w) (some p.0 x (sym p.2 ∙ h)) (subst (IsTrue w) p.3 (All-get_or (IsTrue w) sent k p.0 p.1 all))
+    by (inr p) = absurd (none (sym p.1 ∙ h))
+      where
+        none : None ≡ Some x → ⊥
+        none q = cc
+
+-- a world with the same tables, states and messages
+same-tables : (w : Machine) (r q : World) → Mirrors r w → ((s : ServerNo) → q.memory s ≡ r.memory s) → ((s : ServerNo) (c : Pick) → q.found s c ≡ r.found s c) → q.sent ≡ r.sent → Mirrors q w
+same-tables w r q h m f sent = record {
+  up = λ s. h.up s ∙ sym (ap is_some (m s));
+  found = λ s c. h.found s c ∙ sym (f s c);
+  active = λ W. h.active W ∙ sym (ap (λ o. active_in o W) (m W.server));
+  next = λ W. h.next W ∙ sym (ap (λ o. next_in o W) (m W.server));
+  ticket = λ s n e. h.ticket s n (sym (m s) ∙ e);
+  knowledge = λ T. h.knowledge T ∙ sym (ap (λ o. known_in o T) (m T.server));
+  owner = λ s n W v e k. h.owner s n W v (sym (m s) ∙ e) k;
+  says = subst (λ l. All (IsTrue w) l) (sym sent) h.says;
+}
+
+module _ (w : Machine) (grow : (atoms : List Atom) → MayRun atoms w → (message : Message) → Says w message → Says (run atoms w) message) (parts : PartFact w) where
+  -- nothing that the machine sees
+  stays : (r : World) → Mirrors r w → MovesTo r w
+  stays r h = record { atoms = []; may = tt; mirrors = h }
+
+  module _ (r : World) (h : Mirrors r w) where
+    -- a worker's row
+    of-row : (s : ServerNo) (m : Memory) (k : Option ℕ) (row : RowOutcome WorkerTable) → r.memory s ≡ Some m → RowMoves s m row w → MovesTo (done s k (of_worker m row) r) w
+    of-row s m k row is moves = record { atoms = moves.atoms; may = moves.may; mirrors = mirrored r w (run moves.atoms w) s m row k h is moves.does }
+
+    delivered : (s : ServerNo) (m : Memory) (k : ℕ) (room : Room) (message : Message) → r.memory s ≡ Some m → UpFact s m (r.found s) → Says w message → is_shown_message message ≡ true
+        → MovesTo (done s (Some k) (server_row m (stable (r.found s)) room message) r) w
+    delivered s m k room (messages.Open c request T) is up said shown = of-row s m (Some k) _ is (opens r w s m h is up grow parts c request T (work_of T m.worker) refl said)
+    delivered s m k room (messages.Op c request W number op) is up said shown = of-row s m (Some k) _ is (ops-move r w s m h is up grow parts c request W number op (work_at W m.worker) refl)
+    delivered s m k room (messages.Prepare T c W) is up said shown = of-row s m (Some k) _ is (prepares-move r w s m h is up grow parts room T c W (work_at W m.worker) refl said)
+    delivered s m k room (messages.Begin c request) is up said shown = no-step _ shown
+    delivered s m k room (messages.End c request T works) is up said shown = no-step _ shown
+    delivered s m k room (messages.Abort c request T works) is up said shown = no-step _ shown
+    delivered s m k room (messages.Thanks c T) is up said shown = no-step _ shown
+    delivered s m k room (messages.Begun c request T) is up said shown = no-step _ shown
+    delivered s m k room (messages.Opened c request T W) is up said shown = no-step _ shown
+    delivered s m k room (messages.Answer c request answer) is up said shown = no-step _ shown
+    delivered s m k room (messages.Outcome c T outcome) is up said shown = no-step _ shown
+    delivered s m k room (messages.Commit T W) is up said shown = no-step _ shown
+    delivered s m k room (messages.Drop T W) is up said shown = no-step _ shown
+    delivered s m k room (messages.Vote T W vote) is up said shown = no-step _ shown
+    delivered s m k room (messages.Done T W) is up said shown = no-step _ shown
+    delivered s m k room (messages.Inquire T W) is up said shown = no-step _ shown
+
+    at-server : (s : ServerNo) (k : ℕ) (room : Room) (message : Message) (o : Option Memory) → r.memory s ≡ o → ServerFact s o (r.found s) → Says w message → is_shown_message message ≡ true → MovesTo (at_memory s k room None message o r) w
+    at-server s k room message None is fact said shown = stays _ (same-tables w r _ h (λ q. refl) (λ q c. refl) refl)
+    at-server s k room message (Some m) is fact said shown = delivered s m k room message is fact said shown
+
+    handed-over : (k : ℕ) (room : Room) (o : Option Sent) → LockFacts r → slice_get r.sent k ≡ o → is_shown_sent o ≡ true → MovesTo (handed k room None o r) w
+    handed-over k room None locks e shown = stays r h
+    handed-over k room (Some (Client c, message)) locks e shown = no-step _ shown
+    handed-over k room (Some (Server s, message)) locks e shown = at-server s k room message (r.memory s) refl (locks s) (is-true w r.sent k (Server s, message) h.says e) shown
+
+    -- a timeout
+    vulnerable-same : (p : Phase) → working_in (vulnerable p) ≡ working_in p
+    vulnerable-same (Active a) = refl
+    vulnerable-same (Broken u T) = refl
+    vulnerable-same (Stored p) = refl
+
+    -- ---- a crash
+
+    abbrev Tells : ServerNo → ServerNo → Type 0
+    Tells s q = ((server_eq s q ≡ true) × (s ≡ q)) ⊎ ((server_eq s q ≡ false) × (s ≢ q))
+
+    crashes : (s : ServerNo) (lines : List Text) → Mirrors (record r { memory = at_server r.memory s None; lines = lines }) (run (Crashes s ∷ []) w)
+    crashes s lines = record {
+      up = λ q. up q (server_tells s q);
+      found = h.found;
+      active = λ W. active W (server_tells s W.server);
+      next = λ W. next W (server_tells s W.server);
+      ticket = λ q n e. ticket q n (server_tells s q) e;
+      knowledge = λ T. knowledge T (server_tells s T.server);
+      owner = λ q n W v e k. owner q n W v (server_tells s q) e k;
+      says = λ k d l. grow (Crashes s ∷ []) (tt, tt) _ (h.says k d l);
+    }
+      where
+        up : (q : ServerNo) → Tells s q → (if server_eq s q then false else w.up q) ≡ is_some (at_server r.memory s None q)
+        up q (inl p) = ap (λ (b : Bool). if b then false else w.up q) p.0 ∙ sym (ap (λ (b : Bool). is_some (if b then None else r.memory q)) p.0)
+        up q (inr p) = ap (λ (b : Bool). if b then false else w.up q) p.0 ∙ h.up q ∙ sym (ap (λ (b : Bool). is_some (if b then None else r.memory q)) p.0)
+
+        active : (W : WorkId) → Tells s W.server → (if server_eq s W.server then None else w.active W) ≡ active_in (at_server r.memory s None W.server) W
+        active W (inl p) = ap (λ (b : Bool). if b then None else w.active W) p.0 ∙ sym (ap (λ (b : Bool). active_in (if b then None else r.memory W.server) W) p.0)
+        active W (inr p) = ap (λ (b : Bool). if b then None else w.active W) p.0 ∙ h.active W ∙ sym (ap (λ (b : Bool). active_in (if b then None else r.memory W.server) W) p.0)
+
+        next : (W : WorkId) → Tells s W.server → (if server_eq s W.server then 0 else w.next W) ≡ next_in (at_server r.memory s None W.server) W
+        next W (inl p) = ap (λ (b : Bool). if b then 0 else w.next W) p.0 ∙ sym (ap (λ (b : Bool). next_in (if b then None else r.memory W.server) W) p.0)
+        next W (inr p) = ap (λ (b : Bool). if b then 0 else w.next W) p.0 ∙ h.next W ∙ sym (ap (λ (b : Bool). next_in (if b then None else r.memory W.server) W) p.0)
+
+        knowledge : (T : Tid) → Tells s T.server → (run (Crashes s ∷ []) w).knowledge T ≡ known_in (at_server r.memory s None T.server) T
+        knowledge T (inl p) = ap (λ (b : Bool). if b then Unknown else w.knowledge T) p.0 ∙ sym (ap (λ (b : Bool). known_in (if b then None else r.memory T.server) T) p.0)
+        knowledge T (inr p) = ap (λ (b : Bool). if b then Unknown else w.knowledge T) p.0 ∙ h.knowledge T ∙ sym (ap (λ (b : Bool). known_in (if b then None else r.memory T.server) T) p.0)
+
+        none : (n : Memory) → None ≡ Some n → ⊥
+        none n e = cc
+
+        ticket : (q : ServerNo) (n : Memory) → Tells s q → at_server r.memory s None q ≡ Some n → w.ticket q ≡ n.tickets.next
+        ticket q n (inl p) e = absurd (none n (subst (λ (b : Bool). (if b then None else r.memory q) ≡ Some n) p.0 e))
+        ticket q n (inr p) e = h.ticket q n (subst (λ (b : Bool). (if b then None else r.memory q) ≡ Some n) p.0 e)
+
+        owner : (q : ServerNo) (n : Memory) (W : WorkId) (v : Work) → Tells s q → at_server r.memory s None q ≡ Some n → work_at W n.worker ≡ Some v → Says w (messages.Inquire v.tid W)
+        owner q n W v (inl p) e k = absurd (none n (subst (λ (b : Bool). (if b then None else r.memory q) ≡ Some n) p.0 e))
+        owner q n W v (inr p) e k = h.owner q n W v (subst (λ (b : Bool). (if b then None else r.memory q) ≡ Some n) p.0 e) k
+
+    crash-moves : (s : ServerNo) (o : Option Memory) → MovesTo (crash s o r) w
+    crash-moves s None = stays r h
+    crash-moves s (Some m) = record { atoms = Crashes s ∷ []; may = (tt, tt); mirrors = crashes s _ }
+
+    -- ---- a server that is down
+
+    narrow-moves : (s : ServerNo) (g : Pick → Pick) (o : Option Memory) → MovesTo (narrow s g o r) w
+    narrow-moves s g (Some m) = stays r h
+    narrow-moves s g None = record {
+      atoms = Narrows s g ∷ [];
+      may = (tt, tt);
+      mirrors = record {
+        up = h.up;
+        found = λ q c. by q c (server_eq s q);
+        active = h.active;
+        next = h.next;
+        ticket = h.ticket;
+        knowledge = h.knowledge;
+        owner = h.owner;
+        says = λ k d l. grow (Narrows s g ∷ []) (tt, tt) _ (h.says k d l);
+      };
+    }
+      where
+        by : (q : ServerNo) (c : Pick) (b : Bool) → (if b then w.found s (g c) else w.found q c) ≡ (if b then r.found s (g c) else r.found q c)
+        by q c true = h.found s (g c)
+        by q c false = h.found q c
+
+    raise-moves : (s : ServerNo) (raised : Pick → Bool) (o : Option Memory) → r.memory s ≡ o → MovesTo (stop_restart s raised o r) w
+    raise-moves s raised (Some m) is = stays r h
+    raise-moves s raised None is = record {
+      atoms = RaiseEpoch s raised ∷ [];
+      may = may;
+      mirrors = record {
+        up = h.up;
+        found = λ q c. by q c (server_eq s q) (raised c);
+        active = h.active;
+        next = h.next;
+        ticket = h.ticket;
+        knowledge = h.knowledge;
+        owner = h.owner;
+        says = λ k d l. grow (RaiseEpoch s raised ∷ []) may _ (h.says k d l);
+      };
+    }
+      where
+        may : MayRun (RaiseEpoch s raised ∷ []) w
+        may = (h.up s ∙ ap is_some is, tt)
+
+        by : (q : ServerNo) (c : Pick) (b d : Bool) → (if b then (if d then with_epoch (w.found s c) else w.found s c) else w.found q c) ≡ (if b then (if d then with_epoch (r.found s c) else r.found s c) else r.found q c)
+        by q c true true = ap with_epoch (h.found s c)
+        by q c true false = h.found s c
+        by q c false d = h.found q c
+
+    -- ---- a timeout
+
+    same-memory : (s : ServerNo) (m : Memory) (q : ServerNo) → r.memory s ≡ Some m → at_server r.memory s (Some m) q ≡ r.memory q
+    same-memory s m q is = by (server_tells s q)
+      where
+        by : Tells s q → (if server_eq s q then Some m else r.memory q) ≡ r.memory q
+        by (inl p) = ap (λ (b : Bool). if b then Some m else r.memory q) p.0 ∙ sym is ∙ ap r.memory p.1
+        by (inr p) = ap (λ (b : Bool). if b then Some m else r.memory q) p.0
+
+    same-found : (s q : ServerNo) (c : Pick) → r.found q c ≡ (if server_eq s q then r.found s c else r.found q c)
+    same-found s q c = by (server_tells s q)
+      where
+        by : Tells s q → r.found q c ≡ (if server_eq s q then r.found s c else r.found q c)
+        by (inl p) = ap (λ (z : ServerNo). r.found z c) (sym p.1) ∙ sym (ap (λ (b : Bool). if b then r.found s c else r.found q c) p.0)
+        by (inr p) = sym (ap (λ (b : Bool). if b then r.found s c else r.found q c) p.0)
+
+    timeout-moves : (s : ServerNo) (T : Tid) (o : Option Memory) → r.memory s ≡ o → ServerFact s o (r.found s) → MovesTo (timeout s T o r) w
+    timeout-moves s T None is fact = stays r h
+    timeout-moves s T (Some m) is up = by (work_of T m.worker) refl
+      where
+        by : (v : Option Work) → work_of T m.worker ≡ v → MovesTo (record r { memory = at_server r.memory s (Some (of_timeout m (timed_out m.worker v))) }) w
+        by None e = stays _ (same-tables w r _ h (λ q. same-memory s m q is) (λ q c. refl) refl)
+        by (Some x) e =
+            let moves = phase-moves r w s m h is up x (vulnerable x.phase) [] [] (of-found T m.worker x up.table.rising e) (vulnerable-same x.phase) (All-nil (IsTrue w)) in
+            let moved = of-row s m None _ is moves in
+            record { atoms = moved.atoms; may = moved.may; mirrors = same-tables (run moved.atoms w) _ _ moved.mirrors (λ q. refl) (λ q c. same-found s q c) (sym (append-nil r.sent)) }
+
+    -- ---- every step that is shown
+
+    pub moves : (step : Step) → LockFacts r → is_shown step r ≡ true → MovesTo (after step r) w
+    moves NextEvent locks shown = stays _ (same-tables w r _ h (λ q. refl) (λ q c. refl) refl)
+    moves (Deliver k room) locks shown = handed-over k room (slice_get r.sent k) locks refl shown
+    moves (Timeout s T) locks shown = timeout-moves s T (r.memory s) refl (locks s)
+    moves (Crash s) locks shown = crash-moves s (r.memory s)
+    moves (Narrow s g) locks shown = narrow-moves s g (r.memory s)
+    moves (StopRestart s raised) locks shown = raise-moves s raised (r.memory s) refl
+    moves (Tell c command) locks shown = no-step _ shown
+    moves (Again c) locks shown = no-step _ shown
+    moves (Works s room) locks shown = no-step _ shown
+    moves (Nudge s) locks shown = no-step _ shown
+    moves (StopDelivery k room made) locks shown = no-step _ shown
+    moves (StopWork s room made) locks shown = no-step _ shown
+    moves (Restart s pick Ws Ts) locks shown = no-step _ shown
+
+pub step-moves : (files : AllFiles) (epochs : ServerNo → ℕ) (before : List Atom) (r : World) → MayRun before (opening_world files epochs) → Mirrors r (run before (opening_world files epochs)) → LockFacts r
+    → (step : Step) → is_shown step r ≡ true → MovesTo (after step r) (run before (opening_world files epochs))
+step-moves files epochs before r may h locks step shown = moves (run before (opening_world files epochs)) (λ atoms further message said. still_true files epochs before atoms may further message said)
+    (run_kept before (opening_world files epochs) may (opening_kept files epochs)).core.parts r h step locks shown
+
+pub opening-mirrors : (servers : ℕ) (files : AllFiles) (epochs : ServerNo → ℕ) → Mirrors (opening servers files epochs) (opening_world files epochs)
+opening-mirrors servers files epochs = record {
+  up = λ s. refl;
+  found = λ s c. refl;
+  active = λ W. refl;
+  next = λ W. refl;
+  ticket = λ s m e. ap (λ (x : Memory). x.tickets.next) (same (new_memory s (epochs s)) m e);
+  knowledge = λ T. refl;
+  owner = λ s m W v e h. absurd (none v (subst (λ (x : Memory). work_at W x.worker ≡ Some v) (sym (same (new_memory s (epochs s)) m e)) h));
+  says = All-nil (IsTrue (opening_world files epochs));
+}
+  where
+    same : (a b : Memory) → Some a ≡ Some b → a ≡ b
+    same a b e = cc
+
+    none : (v : Work) → None ≡ Some v → ⊥
+    none v e = cc
