@@ -1,0 +1,3 @@
+pub mod Found
+pub mod PoolLemmas
+pub mod PoolLaws

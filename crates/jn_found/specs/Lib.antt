@@ -1,3 +1,4 @@
 pub mod Contents
 pub mod Pages
 pub mod Recoverable
+pub mod Changes

@@ -1,3 +1,10 @@
 //! What a server finds on its pages after a stop: the stable state of each choice of halves, what a recovery may
 //! rely on, and how one put of a page changes it.
 #![tactic(auto)]
+
+mod pool_laws;
+
+pub use pool_laws::{
+    a_flag_is_its_record, a_freed_record_removes_its_work, a_going_record_marks_its_work,
+    a_ready_record_prepares_its_work, an_intention_without_its_work_changes_nothing,
+};
