@@ -1,3 +1,4 @@
 pub mod Found
 pub mod PoolLemmas
 pub mod PoolLaws
+pub mod HeadLaws

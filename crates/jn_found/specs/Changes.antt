@@ -1,16 +1,25 @@
 -- One put of a page, as a change of what the pages say, and when it is a change of the stable state.
-use Rattle.std.specs.Prelude.{◌≡◌, ℕ, ◌<◌, Bool, true, false, ◌||◌, List, length, slice_set}
+use Rattle.std.specs.Prelude.{◌≡◌, ℕ, ◌<◌, Bool, true, false, ◌||◌, nat_eq, nat_le, if◌then◌else◌, List, length, slice_set}
 use Rattle.std.specs.List.{list_any}
+use Rattle.jn_base.specs.declared.names.BlockNo.{BlockNo}
+use Rattle.jn_base.specs.declared.names.FileNo.{FileNo}
 use Rattle.jn_base.specs.declared.names.LockUnit.{LockUnit}
 use Rattle.jn_base.specs.declared.names.Tid.{Tid}
 use Rattle.jn_base.specs.declared.names.WorkId.{WorkId}
+use Rattle.jn_base.specs.Names.{block_eq}
 use Rattle.jn_records.specs.declared.flag.Flag.{Flag}
+use Rattle.jn_records.specs.declared.head.Head.{Head}
+use Rattle.jn_records.specs.declared.head.Head.TheVariants.{Free as FreeHead, Used}
 use Rattle.jn_records.specs.declared.intention.Intention.{Intention}
+use Rattle.jn_records.specs.declared.intention.StoredIntention.{StoredIntention}
+use Rattle.jn_records.specs.declared.intention.What.{What}
+use Rattle.jn_records.specs.declared.intention.What.TheVariants.{Fresh, Gone, Cut, Put}
 use Rattle.jn_records.specs.declared.record.Record.{Record}
 use Rattle.jn_records.specs.declared.record.Record.TheVariants.{Free, Ready}
 use Rattle.jn_records.specs.declared.work.WorkHead.{WorkHead}
+use Rattle.jn_records.specs.Intentions.{intention_has_page}
 use Rattle.jn_sets.specs.Pool.{record_in, is_free, is_prepared, is_flag, is_rubbish}
-use Rattle.jn_found.specs.Contents.{Contents, full_list}
+use Rattle.jn_found.specs.Contents.{Contents, full_list, head_in, is_head_of, address_at}
 use Rattle.jn_found.specs.Recoverable.{PassesOnce}
 
 -- ---- a record's page is put
@@ -60,3 +69,50 @@ pub record IsFlagSlot (c : Contents) (slot : ℕ) (t : Tid) : Type 0 where
   pub there : slot < length c.pool
   pub stands : is_flag t (record_in c.pool slot) ≡ true
   pub once : PassesOnce (λ i. is_flag t (record_in c.pool i))
+
+-- ---- a head's page is put
+
+abbrev pub with_head : Contents → ℕ → Head → Contents
+with_head c place new = record c { heads = slice_set c.heads place new }
+
+-- the address of a block where an intention is carried out
+abbrev pub address_after : What → BlockNo → ℕ → BlockNo → ℕ → ℕ
+address_after Put block a p old = if block_eq block p then a else old
+address_after Cut block a p old = if nat_le block.0 p.0 then 0 else old
+address_after _ block a p old = 0
+
+-- a head that an intention may be carried out at: that of its file, and for a fresh file also a free one
+abbrev pub serves_for : What → FileNo → Head → Bool
+serves_for Fresh f FreeHead = true
+serves_for what f h = is_head_of f h
+
+-- and what it is then
+abbrev pub is_head_after : What → FileNo → Head → Bool
+is_head_after Gone f FreeHead = true
+is_head_after Gone f (Used g addresses) = false
+is_head_after what f h = is_head_of f h
+
+-- an intention is carried out at a place of the heads
+pub record IsHeadPut (c : Contents) (i : StoredIntention) (place : ℕ) (new : Head) : Type 0 where
+  pub there : place < length c.heads
+  pub names : intention_has_page i ≡ true
+  -- no other head is its file's
+  pub only : (j : ℕ) → is_head_of i.file (head_in c.heads j) ≡ true → j ≡ place
+  pub serves : serves_for i.what i.file (head_in c.heads place) ≡ true
+  pub file_after : is_head_after i.what i.file new ≡ true
+  pub addresses : (p : BlockNo) → address_at new p ≡ address_after i.what i.block i.address p (address_at (head_in c.heads place) p)
+
+-- a file that is gone already has no head, and nothing is put
+pub record IsGoneAlready (c : Contents) (i : StoredIntention) : Type 0 where
+  pub gone : i.what ≡ Gone
+  pub absent : list_any (is_head_of i.file) c.heads ≡ false
+
+-- ---- a data page is put
+
+abbrev pub with_block : Contents → ℕ → List ℕ → Contents
+with_block c d bytes = record c { blocks = λ k. if nat_eq d k then bytes else c.blocks k }
+
+-- ---- the root is put
+
+abbrev pub with_epoch : Contents → ℕ → Contents
+with_epoch c epoch = record c { epoch = epoch }

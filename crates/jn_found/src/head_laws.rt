@@ -1,0 +1,16 @@
+//! What one put of a head's page or a data page changes.
+ghost use Rattle.std.specs.Prelude.{◌≡◌, ℕ, false, List};
+ghost use Rattle.jn_base.specs.declared.names.WorkId.{WorkId};
+ghost use Rattle.jn_records.specs.declared.head.Head.{Head};
+ghost use Rattle.jn_records.specs.declared.intention.StoredIntention.{StoredIntention};
+ghost use Rattle.jn_rows.specs.Stable.{made_by, CarryOut};
+ghost use Rattle.jn_found.specs.Contents.{Contents, state_in, intended};
+ghost use Rattle.jn_found.specs.Changes.{with_head, IsHeadPut, IsGoneAlready};
+
+/// A head's put carries out an intention of a work: a put's block is then the data page that its intention names. A
+/// file that is gone already is removed by nothing.
+pub fn a_head_carries_out_an_intention()
+    ensures put { (c : Contents) (work : WorkId) (i : StoredIntention) (place : ℕ) (new : Head) → IsHeadPut c i place new
+        → state_in (with_head c place new) ≡ made_by (CarryOut work (intended c.blocks i)) (state_in c) }
+    ensures gone { (c : Contents) (work : WorkId) (i : StoredIntention) → IsGoneAlready c i → state_in c ≡ made_by (CarryOut work (intended c.blocks i)) (state_in c) }
+{}
