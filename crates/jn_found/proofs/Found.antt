@@ -52,3 +52,45 @@ module _ {X : Type 0} (p : X → Bool) (d : X) where
   any_same [] i y e = refl
   any_same (x ∷ xs) zero y e = ap (λ t. t || list_any p xs) (sym e)
   any_same (x ∷ xs) (suc i) y e = ap (λ t. p x || t) (any_same xs i y e)
+
+  pub found_passes : (xs : List X) (x : X) → find p xs ≡ Some x → p x ≡ true
+  found_passes [] x e = absurd (none_some x e)
+    where
+      none_some : {A : Type 0} → (a : A) → None ≡ Some a → ⊥
+      none_some a e = cc
+  found_passes (y ∷ ys) x e = by (p y) refl (found_passes ys x) e
+    where
+      some_is : {A : Type 0} → (a b : A) → Some a ≡ Some b → a ≡ b
+      some_is a b e = cc
+
+      by : (b : Bool) → p y ≡ b → (find p ys ≡ Some x → p x ≡ true) → cond b (Some y) (find p ys) ≡ Some x → p x ≡ true
+      by true t rest e = subst (λ z. p z ≡ true) (some_is y x e) t
+      by false t rest e = rest e
+
+  pub found_any : (xs : List X) (x : X) → find p xs ≡ Some x → list_any p xs ≡ true
+  found_any xs x e = by (list_any p xs) refl
+    where
+      clash : (y : X) → None ≡ Some y → ⊥
+      clash y e = cc
+
+      by : (b : Bool) → list_any p xs ≡ b → b ≡ true
+      by true t = refl
+      by false t = absurd (clash x (sym (none_passes xs t) ∙ e))
+
+  -- what fails everywhere fails at what is found
+  pub found_fails : (q : X → Bool) (xs : List X) (x : X) → find p xs ≡ Some x → list_any q xs ≡ false → q x ≡ false
+  found_fails q [] x e none = absurd (none_some x e)
+    where
+      none_some : {A : Type 0} → (a : A) → None ≡ Some a → ⊥
+      none_some a e = cc
+  found_fails q (y ∷ ys) x e none = by (p y) (found_fails q ys x) e none
+    where
+      some_is : {A : Type 0} → (a b : A) → Some a ≡ Some b → a ≡ b
+      some_is a b e = cc
+
+      first : (a b : Bool) → (a || b) ≡ false → (a ≡ false) × (b ≡ false)
+      first a b h = grind arith
+
+      by : (b : Bool) → (find p ys ≡ Some x → list_any q ys ≡ false → q x ≡ false) → cond b (Some y) (find p ys) ≡ Some x → (q y || list_any q ys) ≡ false → q x ≡ false
+      by true rest e h = subst (λ z. q z ≡ false) (some_is y x e) (first (q y) (list_any q ys) h).0
+      by false rest e h = rest e (first (q y) (list_any q ys) h).1

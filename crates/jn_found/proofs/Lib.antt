@@ -2,3 +2,4 @@ pub mod Found
 pub mod PoolLemmas
 pub mod PoolLaws
 pub mod HeadLaws
+pub mod FillLaws
