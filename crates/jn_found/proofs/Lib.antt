@@ -3,3 +3,4 @@ pub mod PoolLemmas
 pub mod PoolLaws
 pub mod HeadLaws
 pub mod FillLaws
+pub mod HeadPages

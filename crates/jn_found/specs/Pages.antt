@@ -1,5 +1,5 @@
 -- What is found on pages: by each pick of halves what they say, and the stable state.
-use Rattle.std.specs.Prelude.{◌≡◌, ℕ, zero, suc, ◌+◌, ◌<◌, ◌^◌, nat_lt, if◌then◌else◌, List, [], ◌∷◌, take, drop, replicate, Option, Some, None}
+use Rattle.std.specs.Prelude.{◌≡◌, ℕ, zero, suc, ◌+◌, ◌<◌, nat_lt, if◌then◌else◌, List, [], ◌∷◌, take, drop, replicate, Option, Some, None}
 use Rattle.jn_base.specs.declared.names.ServerNo.{ServerNo}
 use Rattle.jn_records.specs.declared.head.Head.{Head}
 use Rattle.jn_records.specs.declared.head.Head.TheVariants.{Free as FreeHead}
@@ -7,7 +7,7 @@ use Rattle.jn_records.specs.declared.record.Record.{Record}
 use Rattle.jn_records.specs.declared.record.Record.TheVariants.{Free}
 use Rattle.jn_records.specs.declared.root.Root.{Root}
 use Rattle.jn_records.specs.Heads.{head_page, head_at, IsHead, FileFits}
-use Rattle.jn_records.specs.Pages.{root_page}
+use Rattle.jn_records.specs.Pages.{root_page, IsRoot}
 use Rattle.jn_records.specs.Reading.{root_at}
 use Rattle.jn_records.specs.Records.{record_at}
 use Rattle.jn_records.specs.StablePages.{Counts, Pages, slot_place, head_place, data_place, files_of_pages}
@@ -87,7 +87,7 @@ abbrev pub root_by : ServerNo → Counts → ℕ → Root
 root_by server g epoch = record { server = server; pool = g.pool; heads = g.heads; leaves = g.leaves; epoch = epoch }
 
 abbrev pub IsRootPage : ServerNo → Counts → List ℕ → Type 0
-IsRootPage server g page = (epoch : ℕ) × (epoch < 2 ^ 32) × (page ≡ root_page (root_by server g epoch))
+IsRootPage server g page = (epoch : ℕ) × IsRoot (root_by server g epoch) × (page ≡ root_page (root_by server g epoch))
 
 abbrev pub IsHeadPage : ℕ → List ℕ → Type 0
 IsHeadPage leaves page = (h : Head) × IsHead leaves h × FileFits h × (page ≡ head_page h)
