@@ -61,7 +61,7 @@ module _ (leaves : ℕ) (page : List ℕ) (few : leaves < 2 ^ 16) where
     pub used_file : file_in page ≡ f.0
     used_file = ap file_in regrouped ∙ big_number-reads_back 4 f.0 (flat_map (λ a. two a) xs ++ replicate (512 - length (head_bytes (Used f xs))) 0) (omega (arith, fits))
 
-    whole : length xs ≡ 120
+    pub whole : length xs ≡ 120
     whole = grind (arith, nat_tests, is.whole)
 
     pub used_address : (p : ℕ) → p < 120 → address_in page p ≡ slice_index xs p

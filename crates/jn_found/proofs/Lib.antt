@@ -4,3 +4,5 @@ pub mod PoolLaws
 pub mod HeadLaws
 pub mod FillLaws
 pub mod HeadPages
+pub mod FilesOnPages
+pub mod PageChanges
