@@ -6,3 +6,5 @@ pub mod FillLaws
 pub mod HeadPages
 pub mod FilesOnPages
 pub mod PageChanges
+pub mod PagePuts
+pub mod Picking

@@ -2,3 +2,4 @@ pub mod Contents
 pub mod Pages
 pub mod Recoverable
 pub mod Changes
+pub mod Puts

@@ -17,8 +17,8 @@ use Rattle.jn_rows.specs.Stable.{Pick}
 use Rattle.jn_sets.specs.Pool.{record_in, is_prepared, is_intention, is_flag}
 use Rattle.jn_storage.specs.Storage.{IsLoadable}
 use Rattle.jn_store.specs.Store.{StoreView, IsClean}
-use Rattle.jn_found.specs.Contents.{Contents, head_in, is_head_of, address_at, intention_of, heads_name, works_name}
-use Rattle.jn_found.specs.Pages.{contents_of, state_of, pages_by, IsOfFormat}
+use Rattle.jn_found.specs.Contents.{Contents, head_in, is_head_of, address_at, intention_of, heads_name, works_name, state_in}
+use Rattle.jn_found.specs.Pages.{contents_of, pages_by, IsOfFormat}
 
 -- ---- what stands once
 
@@ -69,14 +69,19 @@ pub record AddressesDiffer (leaves : ℕ) (c : Contents) : Type 0 where
   -- a head has the address of such an intention at its file and block alone
   pub carried : (a i j : ℕ) (s : StoredIntention) (f : FileNo) (p : BlockNo) → Intends c i s → s.address ≡ suc a → Addresses c j f p (suc a) → (f ≡ s.file) × (p ≡ s.block)
 
--- ---- the pages of one choice
+-- ---- one choice
 
+-- what a recovery asks of what pages say
+pub record IsConsistent (server : ServerNo) (g : Counts) (c : Contents) : Type 0 where
+  pub distinct : IsDistinct c
+  pub complete : (i : ℕ) → IsCompleteBy c.pool (record_in c.pool i)
+  pub addresses : AddressesDiffer g.leaves c
+  pub loadable : IsLoadable server g.heads (state_in c)
+
+-- the pages of one choice
 pub record IsFound (server : ServerNo) (g : Counts) (pages : Pages) : Type 0 where
   pub of_format : IsOfFormat server g pages
-  pub distinct : IsDistinct (contents_of g pages)
-  pub complete : (i : ℕ) → IsCompleteBy (contents_of g pages).pool (record_in (contents_of g pages).pool i)
-  pub addresses : AddressesDiffer g.leaves (contents_of g pages)
-  pub loadable : IsLoadable server g.heads (state_of g pages)
+  pub consistent : IsConsistent server g (contents_of g pages)
 
 -- ---- the store
 
@@ -86,7 +91,7 @@ is_named c d = heads_name c.heads (suc d) || works_name c.pool (suc d)
 
 -- each data page that is named in some choice has one candidate
 abbrev pub NamedAreClean : Counts → StoreView → Type 0
-NamedAreClean g v = (c : Pick) (d : ℕ) → is_named (contents_of g (pages_by v c)) d ≡ true → IsClean v (data_place g d)
+NamedAreClean g v = (c : Pick) (d : ℕ) → d < g.leaves → is_named (contents_of g (pages_by v c)) d ≡ true → IsClean v (data_place g d)
 
 -- a store from which a recovery may begin: so it is at every moment, whatever was stopped
 pub record IsRecoverable (server : ServerNo) (g : Counts) (v : StoreView) : Type 0 where

@@ -4,9 +4,14 @@
 
 mod head_laws;
 mod pool_laws;
+mod stop_laws;
 
 pub use head_laws::{a_head_carries_out_an_intention, a_page_without_a_name_changes_nothing, a_root_has_the_epoch};
 pub use pool_laws::{
     a_flag_is_its_record, a_freed_record_removes_its_work, a_going_record_marks_its_work,
     a_ready_record_prepares_its_work, an_intention_without_its_work_changes_nothing,
+};
+pub use stop_laws::{
+    a_put_is_one_change, a_put_leaves_a_recovery, a_put_page_is_read_again,
+    fewer_candidates_change_nothing, the_state_is_what_the_pages_say,
 };
