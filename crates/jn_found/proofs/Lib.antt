@@ -8,3 +8,5 @@ pub mod FilesOnPages
 pub mod PageChanges
 pub mod PagePuts
 pub mod Picking
+pub mod Again
+pub mod Slots

@@ -2,10 +2,12 @@
 //! rely on, and how one put of a page changes it.
 #![tactic(auto)]
 
+mod again_laws;
 mod head_laws;
 mod pool_laws;
 mod stop_laws;
 
+pub use again_laws::a_recovery_may_carry_out_again;
 pub use head_laws::{a_head_carries_out_an_intention, a_page_without_a_name_changes_nothing, a_root_has_the_epoch};
 pub use pool_laws::{
     a_flag_is_its_record, a_freed_record_removes_its_work, a_going_record_marks_its_work,
