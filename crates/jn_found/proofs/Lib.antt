@@ -10,3 +10,4 @@ pub mod PagePuts
 pub mod Picking
 pub mod Again
 pub mod Slots
+pub mod Naming

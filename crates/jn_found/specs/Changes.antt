@@ -33,6 +33,7 @@ is_idle pool r = is_free r || is_rubbish pool r
 
 -- the slot of a record that counts for nothing gets another such
 pub record IsIdlePut (c : Contents) (slot : ℕ) (new : Record) : Type 0 where
+  pub there : slot < length c.pool
   pub old_idle : is_idle c.pool (record_in c.pool slot) ≡ true
   pub new_idle : is_idle c.pool new ≡ true
 
