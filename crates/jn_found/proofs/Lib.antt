@@ -11,3 +11,4 @@ pub mod Picking
 pub mod Again
 pub mod Slots
 pub mod Naming
+pub mod PoolKept

@@ -77,35 +77,35 @@ module _ (c : Contents) (slot : ℕ) where
             ∙ ap (λ b. at_tid (flags_in c.pool) t (flag_by (if b then Some (FlagRecord flag) else None))) (tid_same t))
 
   -- a record of a work is none of another, no intention and no flag
-  prepared_list : (w v : WorkId) (k : ℕ) (r : Record) → is_prepared w r ≡ true → is_intention v k r ≡ false
+  pub prepared_list : (w v : WorkId) (k : ℕ) (r : Record) → is_prepared w r ≡ true → is_intention v k r ≡ false
   prepared_list w v k Free h = refl
   prepared_list w v k (Intention x t o i) h = absurd (true≢false (sym h))
   prepared_list w v k (Ready head n reads) h = refl
   prepared_list w v k (Going head n reads) h = refl
   prepared_list w v k (FlagRecord f) h = refl
 
-  prepared_flag : (w : WorkId) (t : Tid) (r : Record) → is_prepared w r ≡ true → is_flag t r ≡ false
+  pub prepared_flag : (w : WorkId) (t : Tid) (r : Record) → is_prepared w r ≡ true → is_flag t r ≡ false
   prepared_flag w t Free h = refl
   prepared_flag w t (Intention x u o i) h = refl
   prepared_flag w t (Ready head n reads) h = refl
   prepared_flag w t (Going head n reads) h = refl
   prepared_flag w t (FlagRecord f) h = absurd (true≢false (sym h))
 
-  prepared_other : (w v : WorkId) (r : Record) → is_prepared w r ≡ true → w ≢ v → is_prepared v r ≡ false
+  pub prepared_other : (w v : WorkId) (r : Record) → is_prepared w r ≡ true → w ≢ v → is_prepared v r ≡ false
   prepared_other w v Free h ne = refl
   prepared_other w v (Intention x u o i) h ne = refl
   prepared_other w v (Ready head n reads) h ne = grind (arith, work_tells)
   prepared_other w v (Going head n reads) h ne = grind (arith, work_tells)
   prepared_other w v (FlagRecord f) h ne = refl
 
-  flag_list : (t : Tid) (v : WorkId) (k : ℕ) (r : Record) → is_flag t r ≡ true → (is_intention v k r ≡ false) × (is_prepared v r ≡ false)
+  pub flag_list : (t : Tid) (v : WorkId) (k : ℕ) (r : Record) → is_flag t r ≡ true → (is_intention v k r ≡ false) × (is_prepared v r ≡ false)
   flag_list t v k Free h = (refl, refl)
   flag_list t v k (Intention x u o i) h = absurd (true≢false (sym h))
   flag_list t v k (Ready head n reads) h = absurd (true≢false (sym h))
   flag_list t v k (Going head n reads) h = absurd (true≢false (sym h))
   flag_list t v k (FlagRecord f) h = (refl, refl)
 
-  flag_other : (t u : Tid) (r : Record) → is_flag t r ≡ true → t ≢ u → is_flag u r ≡ false
+  pub flag_other : (t u : Tid) (r : Record) → is_flag t r ≡ true → t ≢ u → is_flag u r ≡ false
   flag_other t u Free h ne = refl
   flag_other t u (Intention x y o i) h ne = refl
   flag_other t u (Ready head n reads) h ne = refl

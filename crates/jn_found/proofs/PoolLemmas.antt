@@ -85,14 +85,14 @@ module _ (pool : List Record) (slot : ℕ) (new : Record) where
 -- ---- records that count for nothing
 
 -- free, or an intention of a work that isn't prepared
-idle_kept : (pool : List Record) (r : Record) (v : WorkId) → (is_free r || is_rubbish pool r) ≡ true → is_prepared v r ≡ false
+pub idle_kept : (pool : List Record) (r : Record) (v : WorkId) → (is_free r || is_rubbish pool r) ≡ true → is_prepared v r ≡ false
 idle_kept pool Free v h = refl
 idle_kept pool (Intention w t k i) v h = refl
 idle_kept pool (Ready head n reads) v h = absurd (true≢false (sym h))
 idle_kept pool (Going head n reads) v h = absurd (true≢false (sym h))
 idle_kept pool (FlagRecord f) v h = absurd (true≢false (sym h))
 
-idle_flag : (pool : List Record) (r : Record) (t : Tid) → (is_free r || is_rubbish pool r) ≡ true → is_flag t r ≡ false
+pub idle_flag : (pool : List Record) (r : Record) (t : Tid) → (is_free r || is_rubbish pool r) ≡ true → is_flag t r ≡ false
 idle_flag pool Free t h = refl
 idle_flag pool (Intention w u k i) t h = refl
 idle_flag pool (Ready head n reads) t h = absurd (true≢false (sym h))
@@ -100,7 +100,7 @@ idle_flag pool (Going head n reads) t h = absurd (true≢false (sym h))
 idle_flag pool (FlagRecord f) t h = absurd (true≢false (sym h))
 
 -- of a prepared work it is no intention
-idle_list : (pool : List Record) (r : Record) (v : WorkId) (order : ℕ) → (is_free r || is_rubbish pool r) ≡ true → list_any (is_prepared v) pool ≡ true → is_intention v order r ≡ false
+pub idle_list : (pool : List Record) (r : Record) (v : WorkId) (order : ℕ) → (is_free r || is_rubbish pool r) ≡ true → list_any (is_prepared v) pool ≡ true → is_intention v order r ≡ false
 idle_list pool Free v order h p = refl
 idle_list pool (Ready head n reads) v order h p = absurd (true≢false (sym h))
 idle_list pool (Going head n reads) v order h p = absurd (true≢false (sym h))
