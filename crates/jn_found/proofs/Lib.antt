@@ -12,3 +12,4 @@ pub mod Again
 pub mod Slots
 pub mod Naming
 pub mod PoolKept
+pub mod ConsistentPuts

@@ -98,3 +98,22 @@ pub record IsRecoverable (server : ServerNo) (g : Counts) (v : StoreView) : Type
   pub count : page_count g ≡ v.count
   pub each : (c : Pick) → IsFound server g (pages_by v c)
   pub clean : NamedAreClean g v
+
+-- ---- the addresses of a work that isn't prepared yet
+
+-- slot i has this intention of the work
+pub record HasAt (pool : List Record) (work : WorkId) (i : ℕ) (s : StoredIntention) : Type 0 where
+  pub tid : Tid
+  pub order : ℕ
+  pub stands : record_in pool i ≡ IntentionRecord work tid order s
+
+-- the data pages that its intentions name are there, each is named once, and by nothing else
+pub record AreFresh (leaves : ℕ) (c : Contents) (work : WorkId) : Type 0 where
+  pub fit : (i : ℕ) (s : StoredIntention) → HasAt c.pool work i s → s.address ≤ leaves
+  pub unnamed : (i d : ℕ) (s : StoredIntention) → HasAt c.pool work i s → s.address ≡ suc d → is_named c d ≡ false
+  pub differ : (i j d : ℕ) (s t : StoredIntention) → HasAt c.pool work i s → HasAt c.pool work j t → s.address ≡ suc d → t.address ≡ suc d → i ≡ j
+
+-- a work that may become prepared: all its intentions stand, with data pages of their own
+pub record IsWhole (leaves : ℕ) (c : Contents) (work : WorkId) (n : ℕ) : Type 0 where
+  pub intentions : HasIntentions c.pool work n
+  pub fresh : AreFresh leaves c work
