@@ -13,3 +13,5 @@ pub mod Slots
 pub mod Naming
 pub mod PoolKept
 pub mod ConsistentPuts
+pub mod ReadyPut
+pub mod HeadKept
