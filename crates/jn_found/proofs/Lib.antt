@@ -15,3 +15,4 @@ pub mod PoolKept
 pub mod ConsistentPuts
 pub mod ReadyPut
 pub mod HeadKept
+pub mod OtherPuts
