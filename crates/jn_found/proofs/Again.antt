@@ -5,7 +5,7 @@ use Rattle.jn_records.specs.declared.intention.Intention.{Intention}
 use Rattle.jn_records.specs.NetLists.{carried_out, after_turns, intention_change}
 use Rattle.jn_records.proofs.CarriedLemmas.{turns-again}
 use Rattle.jn_order.specs.Files.{change}
-use Rattle.jn_rows.specs.Stable.{StableState, made_all, made_by, CarryOut}
+use Rattle.jn_rows.specs.Stable.{StableState, made_all, CarryOut}
 
 pub carried_files : (work : WorkId) (list : List Intention) (x : StableState) → made_all (map (λ i. CarryOut work i) list) x ≡ record x { files = carried_out list x.files }
 carried_files work [] x = refl

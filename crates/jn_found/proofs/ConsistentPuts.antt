@@ -1,33 +1,29 @@
 -- Each put of a record leaves what a recovery asks.
-use Rattle.std.proofs.Common.{◌≡◌, ◌≢◌, ◌⊎◌, inl, inr, ⊎_elim, ℕ, zero, suc, ◌<◌, ◌≤◌, Bool, true, false, ◌&&◌, ◌||◌, List, [], ◌∷◌, length, Option, None, Some, refl, sym, ◌∙◌, ap, subst, true≢false, arith}
+use Rattle.std.proofs.Common.{◌≡◌, ◌⊎◌, inl, inr, ℕ, suc, ◌<◌, Bool, true, false, ◌||◌, List, length, refl, sym, ◌∙◌, ap, subst, true≢false, arith}
 use Rattle.std.specs.Prelude.{slice_set}
 use Rattle.std.specs.List.{list_any}
-use Rattle.jn_base.specs.declared.names.BlockNo.{BlockNo}
-use Rattle.jn_base.specs.declared.names.FileNo.{FileNo}
 use Rattle.jn_base.specs.declared.names.LockUnit.{LockUnit}
 use Rattle.jn_base.specs.declared.names.ServerNo.{ServerNo}
 use Rattle.jn_base.specs.declared.names.Tid.{Tid}
 use Rattle.jn_base.specs.declared.names.WorkId.{WorkId}
-use Rattle.jn_base.specs.Names.{work_eq, tid_eq}
-use Rattle.jn_base.proofs.Tells.{work_tells, tid_tells}
+use Rattle.jn_base.specs.Names.{tid_eq}
+use Rattle.jn_base.proofs.Tells.{tid_tells}
 use Rattle.jn_records.specs.declared.flag.Flag.{Flag}
-use Rattle.jn_records.specs.declared.intention.Intention.{Intention as FullIntention}
-use Rattle.jn_records.specs.declared.intention.StoredIntention.{StoredIntention}
 use Rattle.jn_records.specs.declared.record.Record.{Record}
 use Rattle.jn_records.specs.declared.record.Record.TheVariants.{Free, Intention, Ready, Going, Flag as FlagRecord}
 use Rattle.jn_records.specs.declared.work.WorkHead.{WorkHead}
 use Rattle.jn_records.specs.StablePages.{Counts}
-use Rattle.jn_rows.specs.Stable.{made_by, AddReady, MarkGoing, RemoveWork, AddFlag, DropFlag}
-use Rattle.jn_sets.specs.Pool.{record_in, is_free, is_prepared, is_intention, is_flag, is_rubbish}
+use Rattle.jn_rows.specs.Stable.{made_by, MarkGoing, RemoveWork, AddFlag, DropFlag}
+use Rattle.jn_sets.specs.Pool.{record_in, is_prepared, is_intention, is_flag}
 use Rattle.jn_storage.specs.Storage.{IsLoadable}
 use Rattle.jn_found.specs.Contents.{Contents, state_in, heads_name, works_name}
-use Rattle.jn_found.specs.Changes.{with_record, is_idle, IsIdlePut, IsFreeSlot, IsReadyPut, IsReadySlot, IsPreparedSlot, IsFlagPut, IsFlagSlot}
-use Rattle.jn_found.specs.Recoverable.{IsDistinct, HasIntentions, IsCompleteBy, Intends, Addresses, AddressesDiffer, IsConsistent, is_named, HasAt, AreFresh, IsWhole}
-use Rattle.jn_found.proofs.Slots.{passes_any, any_fewer}
-use Rattle.jn_found.proofs.Naming.{named_intends, intends_named, addresses_named}
+use Rattle.jn_found.specs.Changes.{with_record, is_idle, IsIdlePut, IsReadySlot, IsPreparedSlot, IsFlagPut, IsFlagSlot}
+use Rattle.jn_found.specs.Recoverable.{IsCompleteBy, IsConsistent, is_named}
+use Rattle.jn_found.proofs.Slots.{any_fewer}
+use Rattle.jn_found.proofs.Naming.{named_intends, intends_named}
 use Rattle.jn_found.proofs.PoolLemmas.{idle_kept, idle_flag, idle_list}
-use Rattle.jn_found.proofs.PoolLaws.{idle_law, ready_law, going_law, removed_law, flag_law, dropped_law, prepared_list, prepared_flag, flag_list}
-use Rattle.jn_found.proofs.PoolKept.{distinct_kept, complete_kept, intends_stands, intends_before, addresses_kept}
+use Rattle.jn_found.proofs.PoolLaws.{idle_law, going_law, removed_law, flag_law, dropped_law, prepared_list, flag_list}
+use Rattle.jn_found.proofs.PoolKept.{distinct_kept, complete_kept, intends_before, addresses_kept}
 
 -- a put that makes no work new
 module _ (c : Contents) (slot : ℕ) (new : Record) (there : slot < length c.pool)

@@ -1,7 +1,7 @@
 -- The files of pages are those of the heads that stand on them.
-use Rattle.std.proofs.Common.{◌≡◌, ◌⊎◌, inl, inr, ⊎_elim, ◌<◌, ◌≤◌, ◌+◌, ◌^◌, ℕ, zero, suc, Bool, true, false, if◌then◌else◌, List, [], ◌∷◌, length, Option, Some, None, refl, sym, ap, subst, ◌∙◌, true≢false, arith}
+use Rattle.std.proofs.Common.{◌≡◌, ⊎_elim, ◌<◌, ◌≤◌, ◌+◌, ◌^◌, ℕ, zero, suc, Bool, true, false, if◌then◌else◌, List, Option, Some, None, refl, sym, ap, subst, ◌∙◌, true≢false, arith}
 use Rattle.std.proofs.Math.Path.{fun_ext}
-use Rattle.std.specs.Prelude.{slice_index_or, nat_eq, nat_lt, take, option_map, option_and_then}
+use Rattle.std.specs.Prelude.{slice_index_or, nat_lt, option_map, option_and_then}
 use Rattle.std.specs.List.{find}
 use Rattle.std.proofs.lemmas.Bool.{cases_lt}
 use Rattle.std.proofs.lemmas.Bool.Decides.{nat_tests}
@@ -10,14 +10,13 @@ use Rattle.jn_base.specs.declared.names.FileNo.{FileNo}
 use Rattle.jn_base.specs.declared.names.BlockNo.{BlockNo}
 use Rattle.jn_base.specs.declared.names.LockUnit.{LockUnit}
 use Rattle.jn_base.specs.declared.names.LockUnit.TheVariants.{File, Block}
-use Rattle.jn_base.specs.Names.{file_eq}
 use Rattle.jn_order.specs.Files.{there}
 use Rattle.jn_records.specs.declared.head.Head.{Head}
 use Rattle.jn_records.specs.declared.head.Head.TheVariants.{Free as FreeHead, Used}
-use Rattle.jn_records.specs.Heads.{head_page, head_at, IsHead, FileFits}
-use Rattle.jn_records.specs.StablePages.{Counts, Pages, head_place, data_place, is_used, file_in, address_in, is_head_of as is_page_of, head_from, head_of, block_behind, block_in as block_on_page, files_of_pages}
+use Rattle.jn_records.specs.Heads.{head_page, IsHead, FileFits}
+use Rattle.jn_records.specs.StablePages.{Counts, Pages, head_place, address_in, is_head_of as is_page_of, head_from, head_of, block_behind, block_in as block_on_page, files_of_pages}
 use Rattle.jn_records.proofs.Heads.{head_is_read}
-use Rattle.jn_found.specs.Contents.{is_head_of, behind, block_in, address_at, files_in, state_in}
+use Rattle.jn_found.specs.Contents.{is_head_of, behind, block_in, files_in, state_in}
 use Rattle.jn_found.specs.Pages.{head_or_free, head_on, heads_on, block_on, listed, IsHeadPage, state_of, contents_of}
 use Rattle.jn_found.proofs.HeadPages.{free_unused, used_kind, used_file, used_address, whole}
 
@@ -69,9 +68,9 @@ module _ (g : Counts) (pages : Pages) (few : g.leaves < 2 ^ 16) where
       let on : head_on g pages i ≡ at.0 = ap head_or_free (head_is_read g.leaves page at.0 few at.1 at.2 at.3) in
       let next : suc i ≡ i + 1 = omega arith in
       one_more page (head_on g pages i) (is_page_of f page) (is_head_of f (head_on g pages i)) (head_from g pages f (i + 1) n) (find (is_head_of f) (listed (head_on g pages) (suc i) n))
-          (stands page at.0 at.1 at.2 at.3 f ∙ ap (is_head_of f) (sym on))
-          (λ t. subst (SameBlocks page) (sym on) (blocks_if page at.0 at.1 at.2 at.3 f (ap (is_head_of f) (sym on) ∙ t)))
-          (subst (λ k. Pairs (head_from g pages f k n) (find (is_head_of f) (listed (head_on g pages) (suc i) n))) next (pairs format f (suc i) n (omega (arith, fits))))
+      (stands page at.0 at.1 at.2 at.3 f ∙ ap (is_head_of f) (sym on))
+      (λ t. subst (SameBlocks page) (sym on) (blocks_if page at.0 at.1 at.2 at.3 f (ap (is_head_of f) (sym on) ∙ t)))
+      (subst (λ k. Pairs (head_from g pages f k n) (find (is_head_of f) (listed (head_on g pages) (suc i) n))) next (pairs format f (suc i) n (omega (arith, fits))))
 
   file_same : (o : Option (List ℕ)) (q : Option Head) → Pairs o q → option_map (λ head. there) o ≡ option_map (λ h. there) q
   file_same o q (Neither a b) = rw (a, b) refl

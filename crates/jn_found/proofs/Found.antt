@@ -1,5 +1,5 @@
 -- What is found in a list of which one place is written.
-use Rattle.std.proofs.Common.{◌≡◌, ◌≢◌, ◌⊎◌, inl, inr, ℕ, zero, suc, ◌<◌, Bool, true, false, cond, ◌||◌, if◌then◌else◌, List, [], ◌∷◌, length, Option, None, Some, get_or, set, refl, sym, ◌∙◌, ap, subst, true≢false, arith}
+use Rattle.std.proofs.Common.{◌≡◌, inl, inr, ℕ, zero, suc, ◌<◌, Bool, true, false, cond, ◌||◌, if◌then◌else◌, List, [], ◌∷◌, length, Option, None, Some, get_or, set, refl, sym, ◌∙◌, ap, subst, true≢false, arith}
 use Rattle.std.proofs.lemmas.Bool.{cases_eq}
 use Rattle.std.proofs.lemmas.List.{get_or-set_same, get_or-set_other}
 use Rattle.std.specs.List.{find, list_any}
@@ -94,3 +94,11 @@ module _ {X : Type 0} (p : X → Bool) (d : X) where
       by : (b : Bool) → (find p ys ≡ Some x → list_any q ys ≡ false → q x ≡ false) → cond b (Some y) (find p ys) ≡ Some x → (q y || list_any q ys) ≡ false → q x ≡ false
       by true rest e h = subst (λ z. q z ≡ false) (some_is y x e) (first (q y) (list_any q ys) h).0
       by false rest e h = rest e (first (q y) (list_any q ys) h).1
+
+  -- what is found and passes another test is one that passes it
+  pub found_any_by : (q : X → Bool) (xs : List X) (x : X) → find p xs ≡ Some x → q x ≡ true → list_any q xs ≡ true
+  found_any_by q xs x e t = by (list_any q xs) refl
+    where
+      by : (b : Bool) → list_any q xs ≡ b → b ≡ true
+      by true h = refl
+      by false h = absurd (true≢false (sym t ∙ found_fails q xs x e h))

@@ -1,13 +1,10 @@
 -- The put of a head leaves what a recovery asks.
-use Rattle.std.proofs.Common.{◌≡◌, ◌≢◌, ◌⊎◌, inl, inr, ⊎_elim, ℕ, zero, suc, ◌<◌, ◌≤◌, Bool, true, false, ◌||◌, if◌then◌else◌, List, length, Option, Some, refl, sym, ◌∙◌, ap, subst, true≢false, arith}
-use Rattle.std.proofs.lemmas.Bool.Decides.{nat_tests}
+use Rattle.std.proofs.Common.{◌≡◌, ◌⊎◌, inl, inr, ⊎_elim, ℕ, suc, Bool, true, false, ◌||◌, if◌then◌else◌, Some, refl, sym, ◌∙◌, ap, subst, true≢false, arith}
 use Rattle.std.specs.Prelude.{slice_set, nat_le}
-use Rattle.std.specs.List.{list_any}
 use Rattle.jn_base.specs.declared.names.BlockNo.{BlockNo}
 use Rattle.jn_base.specs.declared.names.FileNo.{FileNo}
 use Rattle.jn_base.specs.declared.names.ServerNo.{ServerNo}
 use Rattle.jn_base.specs.declared.names.WorkId.{WorkId}
-use Rattle.jn_base.specs.Names.{file_eq, block_eq}
 use Rattle.jn_base.proofs.Tells.{file_tells, block_tells}
 use Rattle.jn_records.specs.declared.head.Head.{Head}
 use Rattle.jn_records.specs.declared.head.Head.TheVariants.{Free as FreeHead, Used}
@@ -76,12 +73,12 @@ module _ (c : Contents) (i : StoredIntention) (place : ℕ) (new : Head) (put : 
       let file : i.file ≡ f = after_head i.what i.file f new put.file_after is_new in
       let from : address_after i.what i.block i.address p (address_at (head_in c.heads place) p) ≡ suc a = sym (put.addresses p) ∙ ap (λ x. address_at x p) (sym e.1) ∙ h.address in
       ⊎_elim
-          (λ stays. inl (record {
-            head = ap (λ k. is_head_of f (head_in c.heads k)) e.0 ∙ subst (λ g. is_head_of g (head_in c.heads place) ≡ true) file (still_head i.what i.file i.block p i.address a (head_in c.heads place) put.serves stays);
-            address = ap (λ k. address_at (head_in c.heads k) p) e.0 ∙ stays;
-          }))
-          (λ own. inr (own.0, sym file, own.1))
-          (came_from i.what i.block p i.address a (address_at (head_in c.heads place) p) from))
+      (λ stays. inl (record {
+        head = ap (λ k. is_head_of f (head_in c.heads k)) e.0 ∙ subst (λ g. is_head_of g (head_in c.heads place) ≡ true) file (still_head i.what i.file i.block p i.address a (head_in c.heads place) put.serves stays);
+        address = ap (λ k. address_at (head_in c.heads k) p) e.0 ∙ stays;
+      }))
+      (λ own. inr (own.0, sym file, own.1))
+      (came_from i.what i.block p i.address a (address_at (head_in c.heads place) p) from))
       (λ e. inl (record { head = ap (is_head_of f) (sym e.1) ∙ h.head; address = ap (λ x. address_at x p) (sym e.1) ∙ h.address }))
       (at_set FreeHead c.heads place new put.there j)
 

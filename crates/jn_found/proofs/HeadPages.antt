@@ -1,20 +1,15 @@
 -- A head's page, field by field.
-use Rattle.std.proofs.Common.{◌≡◌, ◌<◌, ◌≤◌, ◌+◌, ◌*◌, ◌^◌, ◌++◌, ◌-◌, ℕ, zero, suc, Bool, true, false, if◌then◌else◌, List, [], ◌∷◌, length, drop, replicate, Option, Some, None, refl, sym, ap, subst, ◌∙◌, arith}
-use Rattle.std.specs.Prelude.{slice_index, slice_index_or, nat_eq, nat_lt, nat_le, flat_map, take}
+use Rattle.std.proofs.Common.{◌≡◌, ◌<◌, ◌+◌, ◌*◌, ◌^◌, ◌++◌, ◌-◌, ℕ, zero, suc, true, false, List, [], ◌∷◌, length, drop, replicate, refl, sym, ap, ◌∙◌, arith}
+use Rattle.std.specs.Prelude.{slice_index, nat_le, flat_map}
 use Rattle.std.specs.List.{list_all, AllByRecursion}
 use Rattle.std.proofs.lemmas.Bool.Decides.{nat_tests}
-use Rattle.std.proofs.lemmas.List.{append_assoc, drop_at, length-append, get_or_past}
+use Rattle.std.proofs.lemmas.List.{append_assoc, drop_at, length-append}
 use Rattle.byteorder.specs.Endian.{big_bytes, big_number}
 use Rattle.byteorder.specs.Numbers.{big_number-reads_back, length-bytes_high_first}
 use Rattle.jn_base.specs.declared.names.FileNo.{FileNo}
-use Rattle.jn_base.specs.declared.names.BlockNo.{BlockNo}
-use Rattle.jn_base.specs.Names.{file_eq}
-use Rattle.jn_records.specs.declared.head.Head.{Head}
 use Rattle.jn_records.specs.declared.head.Head.TheVariants.{Free as FreeHead, Used}
 use Rattle.jn_records.specs.Heads.{head_bytes, head_page, IsHead, FileFits}
-use Rattle.jn_records.specs.StablePages.{Counts, Pages, data_place, is_used, file_in, address_in, is_head_of as is_page_of, block_behind, block_in as block_on_page}
-use Rattle.jn_found.specs.Contents.{is_head_of, behind, block_in, address_at}
-use Rattle.jn_found.specs.Pages.{block_on}
+use Rattle.jn_records.specs.StablePages.{is_used, file_in, address_in}
 
 abbrev two : ℕ → List ℕ
 two a = big_bytes 2 a

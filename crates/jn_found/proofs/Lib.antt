@@ -16,3 +16,6 @@ pub mod ConsistentPuts
 pub mod ReadyPut
 pub mod HeadKept
 pub mod OtherPuts
+pub mod CleanPages
+pub mod Behind
+pub mod Saying

@@ -1,10 +1,9 @@
 -- One page's put as a change of what the pages say.
-use Rattle.std.proofs.Common.{◌≡◌, ◌≢◌, ◌⊎◌, inl, inr, ⊎_elim, ◌<◌, ◌≤◌, ◌+◌, ◌^◌, ℕ, zero, suc, Bool, true, false, if◌then◌else◌, List, [], ◌∷◌, length, Option, Some, None, get_or, set, refl, sym, ap, subst, ◌∙◌, arith}
+use Rattle.std.proofs.Common.{◌≡◌, ◌≢◌, inl, inr, ◌<◌, ◌≤◌, ◌+◌, ◌^◌, ℕ, zero, suc, true, false, if◌then◌else◌, List, ◌∷◌, length, set, refl, sym, ap, ◌∙◌, arith}
 use Rattle.std.proofs.Math.Path.{fun_ext}
-use Rattle.std.specs.Prelude.{nat_eq, take, drop, replicate, slice_set}
+use Rattle.std.specs.Prelude.{nat_eq, take}
 use Rattle.std.proofs.lemmas.Bool.{cases_eq}
 use Rattle.std.proofs.lemmas.Bool.Decides.{nat_tests}
-use Rattle.jn_base.specs.declared.names.ServerNo.{ServerNo}
 use Rattle.jn_records.specs.declared.head.Head.{Head}
 use Rattle.jn_records.specs.declared.record.Record.{Record}
 use Rattle.jn_records.specs.declared.root.Root.{Root}
@@ -16,12 +15,12 @@ use Rattle.jn_records.specs.StablePages.{Counts, Pages, slot_place, head_place, 
 use Rattle.jn_records.proofs.Heads.{head_is_read}
 use Rattle.jn_records.proofs.RecordsAgain.{record_is_read}
 use Rattle.jn_records.proofs.Roots.{root_is_read}
-use Rattle.jn_sets.specs.Pool.{IsRecord, IsRecordPage}
+use Rattle.jn_sets.specs.Pool.{IsRecord}
 use Rattle.jn_store.specs.Choices.{with_page}
 use Rattle.jn_store.proofs.Choices.{with_same, with_other}
 use Rattle.jn_found.specs.Contents.{Contents}
 use Rattle.jn_found.specs.Changes.{with_record, with_head, with_block, with_epoch}
-use Rattle.jn_found.specs.Pages.{epoch_by, epoch_in, record_or_free, head_or_free, record_on, head_on, block_on, listed, pool_on, heads_on, contents_of, IsRootPage, IsHeadPage, IsDataPage, IsOfFormat}
+use Rattle.jn_found.specs.Pages.{epoch_by, epoch_in, record_or_free, head_or_free, record_on, head_on, block_on, listed, pool_on, heads_on, contents_of}
 
 -- ---- lists of values by number
 
@@ -54,7 +53,7 @@ length-listed f i (suc n) = ap suc (length-listed f (suc i) n)
 
 -- ---- contents
 
-contents_as : (one two : Contents) → one.epoch ≡ two.epoch → one.pool ≡ two.pool → one.heads ≡ two.heads → one.blocks ≡ two.blocks → one ≡ two
+pub contents_as : (one two : Contents) → one.epoch ≡ two.epoch → one.pool ≡ two.pool → one.heads ≡ two.heads → one.blocks ≡ two.blocks → one ≡ two
 contents_as one two a b c d = ap (λ x. record one { epoch = x }) a ∙ ap (λ x. record one { epoch = two.epoch; pool = x }) b ∙ ap (λ x. record one { epoch = two.epoch; pool = two.pool; heads = x }) c ∙ ap (λ x. record two { blocks = x }) d
 
 module _ (g : Counts) (pages : Pages) (k : ℕ) (page : List ℕ) where

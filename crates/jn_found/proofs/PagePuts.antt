@@ -1,6 +1,6 @@
 -- A put of any page, as a change of what the pages say.
-use Rattle.std.proofs.Common.{◌≡◌, ◌≢◌, ◌⊎◌, inl, inr, ⊎_elim, ◌<◌, ◌≤◌, ◌+◌, ◌^◌, ◌++◌, ℕ, Bool, true, false, if◌then◌else◌, List, length, Option, Some, None, refl, sym, ap, subst, ◌∙◌, arith}
-use Rattle.std.specs.Prelude.{nat_eq, take, drop, replicate}
+use Rattle.std.proofs.Common.{◌≡◌, ◌≢◌, inl, inr, ◌<◌, ◌^◌, ◌++◌, ℕ, List, refl, sym, ap, subst, ◌∙◌, arith}
+use Rattle.std.specs.Prelude.{replicate}
 use Rattle.std.proofs.lemmas.Bool.{cases_eq}
 use Rattle.std.proofs.lemmas.List.{take_at, drop_at}
 use Rattle.jn_base.specs.declared.names.ServerNo.{ServerNo}
@@ -8,7 +8,6 @@ use Rattle.jn_records.specs.StablePages.{Counts, Pages, slot_place, head_place, 
 use Rattle.jn_sets.specs.Pool.{IsRecordPage}
 use Rattle.jn_store.specs.Choices.{with_page}
 use Rattle.jn_store.proofs.Choices.{with_same, with_other}
-use Rattle.jn_found.specs.Contents.{Contents}
 use Rattle.jn_found.specs.Changes.{with_block}
 use Rattle.jn_found.specs.Pages.{root_by, contents_of, IsRootPage, IsHeadPage, IsDataPage, IsOfFormat}
 use Rattle.jn_found.specs.Puts.{PagePut, RootPut, RecordPut, HeadPut, BlockPut, place_of, page_of, IsPagePut, put_in}

@@ -1,16 +1,16 @@
 -- What a pick of halves finds after a put, done or stopped.
-use Rattle.std.proofs.Common.{◌≡◌, ◌≢◌, ◌⊎◌, inl, inr, ⊎_elim, ◌<◌, ◌≤◌, ◌+◌, ◌^◌, ℕ, Bool, true, false, if◌then◌else◌, List, [], refl, sym, ap, subst, ◌∙◌, true≢false, arith}
+use Rattle.std.proofs.Common.{◌≡◌, ◌≢◌, ◌⊎◌, inl, inr, ⊎_elim, ◌<◌, ◌≤◌, ℕ, Bool, true, false, if◌then◌else◌, List, [], refl, sym, ap, subst, ◌∙◌, arith}
 use Rattle.std.proofs.Math.Path.{fun_ext}
 use Rattle.std.specs.Prelude.{nat_eq, nat_lt}
 use Rattle.std.proofs.lemmas.Bool.{cases_eq, cases_lt}
 use Rattle.std.proofs.lemmas.Bool.Decides.{nat_tests}
 use Rattle.jn_base.specs.declared.names.ServerNo.{ServerNo}
-use Rattle.jn_records.specs.StablePages.{Counts, Pages, page_count, data_place}
+use Rattle.jn_records.specs.StablePages.{Counts, page_count, data_place}
 use Rattle.jn_rows.specs.Stable.{StableState, Pick, Change, made_by, Changed, Unchanged}
 use Rattle.jn_store.specs.Store.{StoreView, Candidate, IsClean, StorePut}
 use Rattle.jn_store.specs.Choices.{with_page}
 use Rattle.jn_store.proofs.Choices.{with_same, with_other}
-use Rattle.jn_found.specs.Contents.{Contents, state_in}
+use Rattle.jn_found.specs.Contents.{state_in}
 use Rattle.jn_found.specs.Pages.{half_of, pages_by, found_on, contents_of, state_of, IsOfFormat}
 use Rattle.jn_found.specs.Recoverable.{IsConsistent, IsFound, NamedAreClean, IsRecoverable, is_named}
 use Rattle.jn_found.specs.Puts.{PagePut, RootPut, RecordPut, HeadPut, BlockPut, place_of, page_of, IsPagePut, put_in, IsReadable, contents_by, Makes, is_written, KeepsClean, KeepsConsistent, IsPut, IsFewer}
@@ -132,6 +132,12 @@ module _ (server : ServerNo) (g : Counts) (v : StoreView) (put : PagePut) (ok : 
   pub found_new : (y : StableState) → Makes g v put y → ok ≡ true → (c : Pick) → found_on g w c ≡ y
   found_new y makes done c = ap (state_of g) (picks_done v (place_of g put) (page_of server g put) ok w is.step there c done) ∙ new_state c ∙ makes c
 
+  pub found_picked : (c : Pick) → (b : Pick) × ((found_on g w c ≡ found_on g v b) ⊎ (found_on g w c ≡ state_in (put_in put (contents_by g v b))))
+  found_picked c = ⊎_elim (λ old. (old.0, inl (ap (state_of g) old.1))) (λ new. (c, inr (ap (state_of g) new ∙ new_state c))) (step_picks c)
+
+  pub found_done : ok ≡ true → (c : Pick) → found_on g w c ≡ state_in (put_in put (contents_by g v c))
+  found_done done c = ap (state_of g) (picks_done v (place_of g put) (page_of server g put) ok w is.step there c done) ∙ new_state c
+
   pub is_changed : (x : StableState) (step : Change) → ((c : Pick) → found_on g v c ≡ x) → Makes g v put (made_by step x) → Changed x step ok (found_on g w)
   is_changed x step before makes = record { done = found_new (made_by step x) makes; stop = λ _. found_old_or_new x (made_by step x) before makes }
 
@@ -214,6 +220,9 @@ module _ (v w : StoreView) (fewer : IsFewer v w) where
 
   pub fewer_found : (g : Counts) (x : StableState) → ((c : Pick) → found_on g v c ≡ x) → Unchanged x (found_on g w)
   fewer_found g x before c = ap (state_of g) (earlier_pages c) ∙ before (earlier c)
+
+  pub fewer_picked : (g : Counts) (c : Pick) → (b : Pick) × (found_on g w c ≡ found_on g v b)
+  fewer_picked g c = (earlier c, ap (state_of g) (earlier_pages c))
 
   -- a page with one candidate keeps it
   pub fewer_clean : (j : ℕ) → j < v.count → IsClean v j → IsClean w j

@@ -1,14 +1,13 @@
 -- One record's change as a change of the stable state.
-use Rattle.std.proofs.Common.{◌≡◌, ◌≢◌, ℕ, ◌<◌, Bool, true, false, if◌then◌else◌, List, length, Option, None, Some, refl, sym, ◌∙◌, ap, subst, true≢false, arith}
+use Rattle.std.proofs.Common.{◌≡◌, ◌≢◌, ℕ, Bool, true, false, if◌then◌else◌, List, Option, None, Some, refl, sym, ◌∙◌, ap, true≢false, arith}
 use Rattle.std.proofs.Math.Path.{fun_ext}
-use Rattle.std.specs.List.{find, list_any}
+use Rattle.std.specs.List.{list_any}
 use Rattle.std.specs.Prelude.{slice_set}
 use Rattle.jn_base.specs.declared.names.LockUnit.{LockUnit}
 use Rattle.jn_base.specs.declared.names.Tid.{Tid}
 use Rattle.jn_base.specs.declared.names.WorkId.{WorkId}
 use Rattle.jn_base.specs.Names.{work_eq, tid_eq}
 use Rattle.jn_base.proofs.Tells.{work_tells, tid_tells}
-use Rattle.jn_order.specs.Files.{Files}
 use Rattle.jn_records.specs.declared.flag.Flag.{Flag}
 use Rattle.jn_records.specs.declared.intention.Intention.{Intention as FullIntention}
 use Rattle.jn_records.specs.declared.record.Record.{Record}
@@ -62,19 +61,19 @@ module _ (c : Contents) (slot : ℕ) where
     ready_law head n list reads put =
         let w = head.work in
         let written : works_in (slice_set c.pool slot (Ready head n reads)) c.blocks ≡ at_work (works_in c.pool c.blocks) w (Some (prepared_as head list reads false)) =
-            works_written c.pool c.blocks slot (Ready head n reads) free_list (λ v k. refl) free.there w (none_else (is_prepared w) refl put.new) (λ v ne. free_work v) (λ v ne. work_other w v ne)
-            ∙ ap (λ b. at_work (works_in c.pool c.blocks) w (prepared_by c.pool c.blocks w (if b then Some (Ready head n reads) else None))) (work_same w)
-            ∙ ap (λ l. at_work (works_in c.pool c.blocks) w (Some (prepared_as head l reads false))) put.list_stands in
+        works_written c.pool c.blocks slot (Ready head n reads) free_list (λ v k. refl) free.there w (none_else (is_prepared w) refl put.new) (λ v ne. free_work v) (λ v ne. work_other w v ne)
+        ∙ ap (λ b. at_work (works_in c.pool c.blocks) w (prepared_by c.pool c.blocks w (if b then Some (Ready head n reads) else None))) (work_same w)
+        ∙ ap (λ l. at_work (works_in c.pool c.blocks) w (Some (prepared_as head l reads false))) put.list_stands in
         same_state (state_in (with_record c slot (Ready head n reads))) (at_work (works_in c.pool c.blocks) w (Some (prepared_as head list reads false))) (flags_in c.pool) written
-            (flags_kept c.pool slot (Ready head n reads) free_flag (λ t. refl))
+        (flags_kept c.pool slot (Ready head n reads) free_flag (λ t. refl))
 
     pub flag_law : (flag : Flag) → IsFlagPut c slot flag → state_in (with_record c slot (FlagRecord flag)) ≡ made_by (AddFlag flag) (state_in c)
     flag_law flag put =
         let t = flag.tid in
         same_state (state_in (with_record c slot (FlagRecord flag))) (works_in c.pool c.blocks) (at_tid (flags_in c.pool) t (Some (flag_state flag)))
-            (fun_ext (λ v. work_kept c.pool c.blocks slot (FlagRecord flag) free_list (λ v k. refl) v (free_work v) refl))
-            (flags_written c.pool slot (FlagRecord flag) free.there t (none_else (is_flag t) refl put.new) (λ u ne. free_flag u) (λ u ne. tid_other t u ne)
-            ∙ ap (λ b. at_tid (flags_in c.pool) t (flag_by (if b then Some (FlagRecord flag) else None))) (tid_same t))
+        (fun_ext (λ v. work_kept c.pool c.blocks slot (FlagRecord flag) free_list (λ v k. refl) v (free_work v) refl))
+        (flags_written c.pool slot (FlagRecord flag) free.there t (none_else (is_flag t) refl put.new) (λ u ne. free_flag u) (λ u ne. tid_other t u ne)
+        ∙ ap (λ b. at_tid (flags_in c.pool) t (flag_by (if b then Some (FlagRecord flag) else None))) (tid_same t))
 
   -- a record of a work is none of another, no intention and no flag
   pub prepared_list : (w v : WorkId) (k : ℕ) (r : Record) → is_prepared w r ≡ true → is_intention v k r ≡ false
@@ -129,9 +128,9 @@ module _ (c : Contents) (slot : ℕ) where
       let stands : is_prepared w (record_in c.pool slot) ≡ true = ap (is_prepared w) at.stands ∙ work_same w in
       let list = full_list c.pool c.blocks w n in
       let before : works_in c.pool c.blocks w ≡ Some (prepared_as head list reads false) =
-          ap (prepared_by c.pool c.blocks w) (found_once (is_prepared w) Free c.pool slot refl (λ j t. at.once j slot t stands) ∙ ap (λ b. if b then Some (record_in c.pool slot) else None) stands ∙ ap (λ (r : Record). Some r) at.stands) in
+      ap (prepared_by c.pool c.blocks w) (found_once (is_prepared w) Free c.pool slot refl (λ j t. at.once j slot t stands) ∙ ap (λ b. if b then Some (record_in c.pool slot) else None) stands ∙ ap (λ (r : Record). Some r) at.stands) in
       same_state (state_in (with_record c slot (Going head n reads))) (at_work (works_in c.pool c.blocks) w (gone_on (works_in c.pool c.blocks w))) (flags_in c.pool)
-          (works_written c.pool c.blocks slot (Going head n reads) (λ v k. prepared_list w v k (record_in c.pool slot) stands) (λ v k. refl) at.there w (λ j t. at.once j slot t stands) (λ v ne. prepared_other w v (record_in c.pool slot) stands ne) (λ v ne. work_other w v ne)
-          ∙ ap (λ b. at_work (works_in c.pool c.blocks) w (prepared_by c.pool c.blocks w (if b then Some (Going head n reads) else None))) (work_same w)
-          ∙ sym (ap (λ o. at_work (works_in c.pool c.blocks) w (gone_on o)) before))
-          (flags_kept c.pool slot (Going head n reads) (λ t. prepared_flag w t (record_in c.pool slot) stands) (λ t. refl))
+      (works_written c.pool c.blocks slot (Going head n reads) (λ v k. prepared_list w v k (record_in c.pool slot) stands) (λ v k. refl) at.there w (λ j t. at.once j slot t stands) (λ v ne. prepared_other w v (record_in c.pool slot) stands ne) (λ v ne. work_other w v ne)
+      ∙ ap (λ b. at_work (works_in c.pool c.blocks) w (prepared_by c.pool c.blocks w (if b then Some (Going head n reads) else None))) (work_same w)
+      ∙ sym (ap (λ o. at_work (works_in c.pool c.blocks) w (gone_on o)) before))
+      (flags_kept c.pool slot (Going head n reads) (λ t. prepared_flag w t (record_in c.pool slot) stands) (λ t. refl))

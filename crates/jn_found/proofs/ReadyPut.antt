@@ -1,5 +1,5 @@
 -- The put of a ready record leaves what a recovery asks.
-use Rattle.std.proofs.Common.{◌≡◌, ◌≢◌, ◌⊎◌, inl, inr, ⊎_elim, ℕ, zero, suc, ◌<◌, ◌≤◌, Bool, true, false, ◌||◌, List, length, refl, sym, ◌∙◌, ap, subst, true≢false, arith}
+use Rattle.std.proofs.Common.{◌≡◌, ◌⊎◌, inl, inr, ⊎_elim, ℕ, suc, ◌<◌, ◌≤◌, Bool, true, false, ◌||◌, List, length, refl, sym, ◌∙◌, ap, subst, true≢false, arith}
 use Rattle.std.specs.Prelude.{slice_set}
 use Rattle.std.specs.List.{list_any}
 use Rattle.jn_base.specs.declared.names.BlockNo.{BlockNo}
@@ -16,7 +16,7 @@ use Rattle.jn_records.specs.declared.record.Record.TheVariants.{Free, Intention,
 use Rattle.jn_records.specs.declared.work.WorkHead.{WorkHead}
 use Rattle.jn_records.specs.StablePages.{Counts}
 use Rattle.jn_rows.specs.Stable.{made_by, AddReady}
-use Rattle.jn_sets.specs.Pool.{record_in, is_prepared, is_intention, is_flag}
+use Rattle.jn_sets.specs.Pool.{record_in, is_prepared, is_intention}
 use Rattle.jn_storage.specs.Storage.{IsLoadable}
 use Rattle.jn_found.specs.Contents.{Contents, state_in, heads_name, works_name}
 use Rattle.jn_found.specs.Changes.{with_record, IsReadyPut}
@@ -47,15 +47,15 @@ module _ (c : Contents) (slot : ℕ) (head : WorkHead) (n : ℕ) (list : List Fu
   split i s h =
       let stands = intends_stands c slot (Ready head n reads) there quiet i s h in
       ⊎_elim
-          (λ same. inr (record { tid = h.tid; order = h.order; stands = stands ∙ ap (λ w. Intention w h.tid h.order s) (sym same.1) }))
-          (λ other. inl (record {
-            work = h.work;
-            tid = h.tid;
-            order = h.order;
-            stands = stands;
-            prepared = any_fewer Free c.pool slot (Ready head n reads) there (is_prepared h.work) refl (λ t. absurd (true≢false (sym t ∙ other.0))) h.prepared;
-          }))
-          (work_tells head.work h.work)
+      (λ same. inr (record { tid = h.tid; order = h.order; stands = stands ∙ ap (λ w. Intention w h.tid h.order s) (sym same.1) }))
+      (λ other. inl (record {
+        work = h.work;
+        tid = h.tid;
+        order = h.order;
+        stands = stands;
+        prepared = any_fewer Free c.pool slot (Ready head n reads) there (is_prepared h.work) refl (λ t. absurd (true≢false (sym t ∙ other.0))) h.prepared;
+      }))
+      (work_tells head.work h.work)
 
   named_by_work : (a i : ℕ) (s : StoredIntention) → Intends c i s → s.address ≡ suc a → is_named c a ≡ true
   named_by_work a i s h e = let t = intends_named c i s (suc a) h e in grind (arith, t)

@@ -1,18 +1,18 @@
 -- The put of one page, by what the page is, and what it asks of the store.
-use Rattle.std.specs.Prelude.{◌≡◌, ℕ, ◌+◌, ◌<◌, ◌++◌, Bool, true, false, nat_eq, List, length, replicate}
+use Rattle.std.specs.Prelude.{◌≡◌, ℕ, ◌<◌, ◌++◌, Bool, true, false, nat_eq, List, length, replicate}
 use Rattle.jn_base.specs.declared.names.ServerNo.{ServerNo}
 use Rattle.jn_records.specs.declared.head.Head.{Head}
 use Rattle.jn_records.specs.declared.record.Record.{Record}
 use Rattle.jn_records.specs.Heads.{head_page, IsHead, FileFits}
 use Rattle.jn_records.specs.Pages.{root_page, IsRoot}
 use Rattle.jn_records.specs.Records.{record_page}
-use Rattle.jn_records.specs.StablePages.{Counts, Pages, page_count, slot_place, head_place, data_place}
-use Rattle.jn_rows.specs.Stable.{Pick, StableState, Change, made_by}
+use Rattle.jn_records.specs.StablePages.{Counts, page_count, slot_place, head_place, data_place}
+use Rattle.jn_rows.specs.Stable.{Pick, StableState}
 use Rattle.jn_sets.specs.Pool.{IsRecord}
 use Rattle.jn_store.specs.Store.{StoreView, StorePut, IsClean, Shrinks}
 use Rattle.jn_found.specs.Contents.{Contents, state_in}
 use Rattle.jn_found.specs.Changes.{with_record, with_head, with_block, with_epoch}
-use Rattle.jn_found.specs.Pages.{root_by, contents_of, pages_by, found_on, IsOfFormat}
+use Rattle.jn_found.specs.Pages.{root_by, contents_of, pages_by, IsOfFormat}
 use Rattle.jn_found.specs.Recoverable.{is_named, IsConsistent}
 
 pub data PagePut : Type 0 where
@@ -87,6 +87,12 @@ pub record IsPut (server : ServerNo) (g : Counts) (v : StoreView) (put : PagePut
   pub readable : IsReadable server g v
   pub page : IsPagePut server g put
   pub step : PutStep server g v put ok w
+
+-- the pages of root, records and heads have one candidate each
+pub record IsFrontClean (g : Counts) (v : StoreView) : Type 0 where
+  pub root : IsClean v 0
+  pub pool : (i : ℕ) → i < g.pool → IsClean v (slot_place g i)
+  pub heads : (i : ℕ) → i < g.heads → IsClean v (head_place g i)
 
 -- no page has a new candidate, as after a get, a cleanup or a decay
 pub record IsFewer (v w : StoreView) : Type 0 where

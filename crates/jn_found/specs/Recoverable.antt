@@ -1,23 +1,20 @@
 -- What a recovery asks of a server's pages, whichever halves it will read.
-use Rattle.std.specs.Prelude.{◌≡◌, ◌≢◌, ℕ, suc, ◌≤◌, ◌<◌, Bool, true, false, ◌||◌, List, is_some}
+use Rattle.std.specs.Prelude.{◌≡◌, ℕ, suc, ◌≤◌, ◌<◌, Bool, true, false, ◌||◌, List, length, is_some}
 use Rattle.std.specs.List.{list_any}
 use Rattle.jn_base.specs.declared.names.BlockNo.{BlockNo}
 use Rattle.jn_base.specs.declared.names.FileNo.{FileNo}
-use Rattle.jn_base.specs.declared.names.LockUnit.{LockUnit}
 use Rattle.jn_base.specs.declared.names.ServerNo.{ServerNo}
 use Rattle.jn_base.specs.declared.names.Tid.{Tid}
 use Rattle.jn_base.specs.declared.names.WorkId.{WorkId}
-use Rattle.jn_records.specs.declared.head.Head.{Head}
 use Rattle.jn_records.specs.declared.intention.StoredIntention.{StoredIntention}
 use Rattle.jn_records.specs.declared.record.Record.{Record}
 use Rattle.jn_records.specs.declared.record.Record.TheVariants.{Intention as IntentionRecord, Ready, Going}
-use Rattle.jn_records.specs.declared.work.WorkHead.{WorkHead}
 use Rattle.jn_records.specs.StablePages.{Counts, Pages, page_count, data_place}
 use Rattle.jn_rows.specs.Stable.{Pick}
 use Rattle.jn_sets.specs.Pool.{record_in, is_prepared, is_intention, is_flag}
 use Rattle.jn_storage.specs.Storage.{IsLoadable}
 use Rattle.jn_store.specs.Store.{StoreView, IsClean}
-use Rattle.jn_found.specs.Contents.{Contents, head_in, is_head_of, address_at, intention_of, heads_name, works_name, state_in}
+use Rattle.jn_found.specs.Contents.{Contents, head_in, is_head_of, address_at, intention_of, heads_name, works_name, stored_list, state_in}
 use Rattle.jn_found.specs.Pages.{contents_of, pages_by, IsOfFormat}
 
 -- ---- what stands once
@@ -117,3 +114,14 @@ pub record AreFresh (leaves : ℕ) (c : Contents) (work : WorkId) : Type 0 where
 pub record IsWhole (leaves : ℕ) (c : Contents) (work : WorkId) (n : ℕ) : Type 0 where
   pub intentions : HasIntentions c.pool work n
   pub fresh : AreFresh leaves c work
+
+-- ---- a work whose intentions are put one after another
+
+-- the first intentions of a work stand in the pool, and no others of it
+pub record HasFirst (pool : List Record) (work : WorkId) (stored : List StoredIntention) : Type 0 where
+  pub list_stands : stored_list pool work (length stored) ≡ stored
+  pub intentions : HasIntentions pool work (length stored)
+
+-- no record is an intention of the work
+abbrev pub HasNone : List Record → WorkId → Type 0
+HasNone pool work = (order i : ℕ) → is_intention work order (record_in pool i) ≡ false

@@ -1,5 +1,5 @@
 //! What one put of a head's page or a data page changes.
-ghost use Rattle.std.specs.Prelude.{◌≡◌, ℕ, false, List};
+ghost use Rattle.std.specs.Prelude.{◌≡◌, ℕ, true, false, List};
 ghost use Rattle.jn_base.specs.declared.names.WorkId.{WorkId};
 ghost use Rattle.jn_records.specs.declared.head.Head.{Head};
 ghost use Rattle.jn_records.specs.declared.intention.StoredIntention.{StoredIntention};
@@ -14,6 +14,11 @@ pub fn a_head_carries_out_an_intention()
     ensures put { (c : Contents) (work : WorkId) (i : StoredIntention) (place : ℕ) (new : Head) → IsHeadPut c i place new
         → state_in (with_head c place new) ≡ made_by (CarryOut work (intended c.blocks i)) (state_in c) }
     ensures gone { (c : Contents) (work : WorkId) (i : StoredIntention) → IsGoneAlready c i → state_in c ≡ made_by (CarryOut work (intended c.blocks i)) (state_in c) }
+{}
+
+/// The state reads the data pages that heads and prepared works name, and no other.
+pub fn the_state_reads_named_pages_alone()
+    ensures { (c : Contents) (blocks : ℕ → List ℕ) → ((d : ℕ) → is_named c d ≡ true → blocks d ≡ c.blocks d) → state_in (record c { blocks = blocks }) ≡ state_in c }
 {}
 
 /// A data page that no head and no prepared work names gets another block, and nothing changes.

@@ -9,16 +9,21 @@ mod pool_laws;
 mod stop_laws;
 
 pub use again_laws::a_recovery_may_carry_out_again;
-pub use head_laws::{a_head_carries_out_an_intention, a_page_without_a_name_changes_nothing, a_root_has_the_epoch};
+pub use head_laws::{
+    a_head_carries_out_an_intention, a_page_without_a_name_changes_nothing, a_root_has_the_epoch,
+    the_state_reads_named_pages_alone,
+};
 pub use kept_laws::{
     a_put_gives_no_new_names, a_record_keeps_what_a_recovery_asks,
     other_pages_keep_what_a_recovery_asks,
 };
 pub use pool_laws::{
     a_flag_is_its_record, a_freed_record_removes_its_work, a_going_record_marks_its_work,
-    a_ready_record_prepares_its_work, an_intention_without_its_work_changes_nothing,
+    a_ready_record_prepares_its_work, an_intention_comes_behind_the_others,
+    an_intention_without_its_work_changes_nothing,
 };
 pub use stop_laws::{
     a_put_is_one_change, a_put_leaves_a_recovery, a_put_page_is_read_again,
-    fewer_candidates_change_nothing, the_state_is_what_the_pages_say,
+    clean_pages_find_one_state, fewer_candidates_change_nothing, pages_say_their_records_and_heads,
+    the_state_is_what_the_pages_say,
 };

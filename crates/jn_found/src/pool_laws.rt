@@ -1,14 +1,17 @@
 //! What one put of a record's page changes.
-ghost use Rattle.std.specs.Prelude.{◌≡◌, ℕ, List};
+ghost use Rattle.std.specs.Prelude.{◌≡◌, ◌<◌, ◌++◌, ◌∷◌, ℕ, List, [], length, slice_set};
 ghost use Rattle.jn_base.specs.declared.names.LockUnit.{LockUnit};
 ghost use Rattle.jn_base.specs.declared.names.Tid.{Tid};
 ghost use Rattle.jn_base.specs.declared.names.WorkId.{WorkId};
 ghost use Rattle.jn_records.specs.declared.flag.Flag.{Flag};
 ghost use Rattle.jn_records.specs.declared.intention.Intention.{Intention};
+ghost use Rattle.jn_records.specs.declared.intention.StoredIntention.{StoredIntention};
 ghost use Rattle.jn_records.specs.declared.record.Record.{Record};
-ghost use Rattle.jn_records.specs.declared.record.Record.TheVariants.{Free, Ready, Going, Flag as FlagRecord};
+ghost use Rattle.jn_records.specs.declared.record.Record.TheVariants.{Free, Intention as IntentionRecord, Ready, Going, Flag as FlagRecord};
 ghost use Rattle.jn_records.specs.declared.work.WorkHead.{WorkHead};
 ghost use Rattle.jn_rows.specs.Stable.{made_by, AddReady, MarkGoing, RemoveWork, AddFlag, DropFlag};
+ghost use Rattle.jn_sets.specs.Pool.{record_in};
+ghost use Rattle.jn_found.specs.Recoverable.{HasFirst, HasNone};
 ghost use Rattle.jn_found.specs.Contents.{Contents, state_in};
 ghost use Rattle.jn_found.specs.Changes.{with_record, IsIdlePut, IsReadyPut, IsReadySlot, IsPreparedSlot, IsFlagPut, IsFlagSlot};
 
@@ -39,4 +42,11 @@ pub fn a_freed_record_removes_its_work()
 pub fn a_flag_is_its_record()
     ensures put { (c : Contents) (slot : ℕ) (flag : Flag) → IsFlagPut c slot flag → state_in (with_record c slot (FlagRecord flag)) ≡ made_by (AddFlag flag) (state_in c) }
     ensures freed { (c : Contents) (slot : ℕ) (t : Tid) → IsFlagSlot c slot t → state_in (with_record c slot Free) ≡ made_by (DropFlag t) (state_in c) }
+{}
+
+/// The intentions of a work that is being prepared are put in order, each at a free slot.
+pub fn an_intention_comes_behind_the_others()
+    ensures first { (pool : List Record) (work : WorkId) → HasNone pool work → HasFirst pool work [] }
+    ensures next { (pool : List Record) (slot : ℕ) (work : WorkId) (tid : Tid) (stored : List StoredIntention) (i : StoredIntention) → slot < length pool → record_in pool slot ≡ Free → HasFirst pool work stored
+        → HasFirst (slice_set pool slot (IntentionRecord work tid (length stored) i)) work (stored ++ i ∷ []) }
 {}

@@ -1,4 +1,5 @@
-use Rattle.jn_found.proofs.Picking.{is_changed, is_unchanged, found_old_or_new, found_new, still_readable}
+use Rattle.std.proofs.Common.{true, refl}
+use Rattle.jn_found.proofs.Picking.{found_picked, found_done, is_changed, is_unchanged, found_old_or_new, found_new, still_readable}
 use Rattle.jn_found.proofs.stop_laws.a_put_is_one_change.Goals as goal
 
 pub returns : goal.returns
@@ -8,4 +9,6 @@ returns a = record {
   old_or_new = λ server g v w put ok x y is before makes c. found_old_or_new server g v put ok w is x y before makes c;
   done = λ server g v w put ok y is makes done c. found_new server g v put ok w is y makes done c;
   readable = λ server g v w put ok is. still_readable server g v put ok w is;
+  picked = λ server g v w put ok is c. found_picked server g v put ok w is c;
+  picked_done = λ server g v w put is c. found_done server g v put true w is refl c;
 }
