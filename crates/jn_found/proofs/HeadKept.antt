@@ -22,7 +22,7 @@ use Rattle.jn_found.proofs.Slots.{at_set, once_set}
 use Rattle.jn_found.proofs.Naming.{intends_named, addresses_named, named_addresses}
 use Rattle.jn_found.proofs.HeadLaws.{carried_law}
 
-one_file : (f g : FileNo) (h : Head) → is_head_of f h ≡ true → is_head_of g h ≡ true → f ≡ g
+pub one_file : (f g : FileNo) (h : Head) → is_head_of f h ≡ true → is_head_of g h ≡ true → f ≡ g
 one_file f g FreeHead s t = absurd (true≢false (sym s))
 one_file f g (Used k xs) s t = grind (arith, file_tells)
 

@@ -19,3 +19,5 @@ pub mod OtherPuts
 pub mod CleanPages
 pub mod Behind
 pub mod Saying
+pub mod Images
+pub mod SoundImages

@@ -3,3 +3,4 @@ pub mod Pages
 pub mod Recoverable
 pub mod Changes
 pub mod Puts
+pub mod Images

@@ -6,6 +6,7 @@ mod again_laws;
 mod head_laws;
 mod kept_laws;
 mod pool_laws;
+mod start_laws;
 mod stop_laws;
 
 pub use again_laws::a_recovery_may_carry_out_again;
@@ -22,6 +23,7 @@ pub use pool_laws::{
     a_ready_record_prepares_its_work, an_intention_comes_behind_the_others,
     an_intention_without_its_work_changes_nothing,
 };
+pub use start_laws::a_sound_image_is_recoverable;
 pub use stop_laws::{
     a_put_is_one_change, a_put_leaves_a_recovery, a_put_page_is_read_again,
     clean_pages_find_one_state, fewer_candidates_change_nothing, pages_say_their_records_and_heads,
