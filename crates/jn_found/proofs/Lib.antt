@@ -21,3 +21,4 @@ pub mod Behind
 pub mod Saying
 pub mod Images
 pub mod SoundImages
+pub mod HeldLaws

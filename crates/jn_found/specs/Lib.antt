@@ -4,3 +4,4 @@ pub mod Recoverable
 pub mod Changes
 pub mod Puts
 pub mod Images
+pub mod Held
