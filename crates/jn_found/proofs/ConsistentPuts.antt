@@ -52,7 +52,7 @@ no : (b : Bool) → b ≡ false → b ≡ true → ⊥
 no b f t = true≢false (sym t ∙ f)
 
 module _ (c : Contents) (slot : ℕ) where
-  module _ (new : Record) (put : IsIdlePut c slot new) where
+  module _ (new : Record) (put : IsIdlePut c.pool slot new) where
     idle_quiet : (w : WorkId) (k : ℕ) → list_any (is_prepared w) (slice_set c.pool slot new) ≡ true → (is_intention w k (record_in c.pool slot) ≡ false) × (is_intention w k new ≡ false)
     idle_quiet w k t =
         let before = any_fewer Free c.pool slot new put.there (is_prepared w) refl (λ h. absurd (no (is_prepared w new) (idle_kept c.pool new w put.new_idle) h)) t in
@@ -79,7 +79,7 @@ module _ (c : Contents) (slot : ℕ) where
     idle_named = mild_named c slot new put.there idle_quiet idle_mild idle_flags (idle_whole new put.new_idle)
 
   -- a going record in place of the ready one
-  module _ (head : WorkHead) (n : ℕ) (reads : List LockUnit) (at : IsReadySlot c slot head n reads) where
+  module _ (head : WorkHead) (n : ℕ) (reads : List LockUnit) (at : IsReadySlot c.pool slot head n reads) where
     going_quiet : (w : WorkId) (k : ℕ) → list_any (is_prepared w) (slice_set c.pool slot (Going head n reads)) ≡ true → (is_intention w k (record_in c.pool slot) ≡ false) × (is_intention w k (Going head n reads) ≡ false)
     going_quiet w k t = (ap (is_intention w k) at.stands, refl)
 
@@ -107,7 +107,7 @@ module _ (c : Contents) (slot : ℕ) where
     freed_named : (d : ℕ) → is_named (with_record c slot Free) d ≡ true → is_named c d ≡ true
     freed_named = mild_named c slot Free there (λ w k t. (lists w k, refl)) (λ w h. absurd (true≢false (sym h))) (λ t h. absurd (true≢false (sym h))) tt
 
-  module _ (w : WorkId) (at : IsPreparedSlot c slot w) where
+  module _ (w : WorkId) (at : IsPreparedSlot c.pool slot w) where
     pub removed_consistent : (server : ServerNo) (g : Counts) → IsLoadable server g.heads (made_by (RemoveWork w) (state_in c)) → IsConsistent server g c → IsConsistent server g (with_record c slot Free)
     removed_consistent server g loadable = freed_consistent at.there (λ v k. prepared_list c slot w v k (record_in c.pool slot) at.stands) server g
         (subst (IsLoadable server g.heads) (sym (removed_law c slot w at)) loadable)
@@ -115,7 +115,7 @@ module _ (c : Contents) (slot : ℕ) where
     pub removed_named : (d : ℕ) → is_named (with_record c slot Free) d ≡ true → is_named c d ≡ true
     removed_named = freed_named at.there (λ v k. prepared_list c slot w v k (record_in c.pool slot) at.stands)
 
-  module _ (t : Tid) (at : IsFlagSlot c slot t) where
+  module _ (t : Tid) (at : IsFlagSlot c.pool slot t) where
     pub dropped_consistent : (server : ServerNo) (g : Counts) → IsLoadable server g.heads (made_by (DropFlag t) (state_in c)) → IsConsistent server g c → IsConsistent server g (with_record c slot Free)
     dropped_consistent server g loadable = freed_consistent at.there (λ v k. (flag_list c slot t v k (record_in c.pool slot) at.stands).0) server g
         (subst (IsLoadable server g.heads) (sym (dropped_law c slot t at)) loadable)
@@ -124,7 +124,7 @@ module _ (c : Contents) (slot : ℕ) where
     dropped_named = freed_named at.there (λ v k. (flag_list c slot t v k (record_in c.pool slot) at.stands).0)
 
   -- the first flag of a transaction
-  module _ (flag : Flag) (put : IsFlagPut c slot flag) where
+  module _ (flag : Flag) (put : IsFlagPut c.pool slot flag) where
     flag_quiet : (w : WorkId) (k : ℕ) → list_any (is_prepared w) (slice_set c.pool slot (FlagRecord flag)) ≡ true → (is_intention w k (record_in c.pool slot) ≡ false) × (is_intention w k (FlagRecord flag) ≡ false)
     flag_quiet w k t = (ap (is_intention w k) put.slot_free.free, refl)
 

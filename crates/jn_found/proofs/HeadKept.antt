@@ -52,7 +52,7 @@ after_head Fresh f g (Used k xs) s t = grind (arith, file_tells)
 after_head Cut f g (Used k xs) s t = grind (arith, file_tells)
 after_head Put f g (Used k xs) s t = grind (arith, file_tells)
 
-module _ (c : Contents) (i : StoredIntention) (place : ℕ) (new : Head) (put : IsHeadPut c i place new) where
+module _ (c : Contents) (i : StoredIntention) (place : ℕ) (new : Head) (put : IsHeadPut c.heads i place new) where
   abbrev old : Head
   old = head_in c.heads place
 

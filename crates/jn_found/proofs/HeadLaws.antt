@@ -97,7 +97,7 @@ module _ (blocks : ℕ → List ℕ) (f : FileNo) (n : BlockNo) (a : ℕ) (old n
   block_by Cut p needs s t e = grind (arith, file_tells, e)
   block_by Put p needs s t e = grind (arith, file_tells, block_tells, e)
 
-module _ (c : Contents) (i : StoredIntention) (place : ℕ) (new : Head) (put : IsHeadPut c i place new) where
+module _ (c : Contents) (i : StoredIntention) (place : ℕ) (new : Head) (put : IsHeadPut c.heads i place new) where
   abbrev old : Head
   old = head_in c.heads place
 

@@ -39,10 +39,10 @@ clash : (b : Bool) → b ≡ false → b ≡ true → ⊥
 clash b f t = grind arith
 
 module _ (c : Contents) (slot : ℕ) where
-  pub idle_law : (new : Record) → IsIdlePut c slot new → state_in (with_record c slot new) ≡ state_in c
+  pub idle_law : (new : Record) → IsIdlePut c.pool slot new → state_in (with_record c slot new) ≡ state_in c
   idle_law new put = same_state (state_in (with_record c slot new)) (works_in c.pool c.blocks) (flags_in c.pool) (idle_works c.pool c.blocks slot new put.old_idle put.new_idle) (idle_flags c.pool slot new put.old_idle put.new_idle)
 
-  module _ (free : IsFreeSlot c slot) where
+  module _ (free : IsFreeSlot c.pool slot) where
     free_list : (v : WorkId) (k : ℕ) → is_intention v k (record_in c.pool slot) ≡ false
     free_list v k = ap (is_intention v k) free.free
 
@@ -56,7 +56,7 @@ module _ (c : Contents) (slot : ℕ) where
     none_else : (p : Record → Bool) → p Free ≡ false → list_any p c.pool ≡ false → (j : ℕ) → p (record_in c.pool j) ≡ true → j ≡ slot
     none_else p out none j t = absurd (clash (p (record_in c.pool j)) (none_at p Free c.pool j out none) t)
 
-    pub ready_law : (head : WorkHead) (n : ℕ) (list : List FullIntention) (reads : List LockUnit) → IsReadyPut c slot head n list
+    pub ready_law : (head : WorkHead) (n : ℕ) (list : List FullIntention) (reads : List LockUnit) → IsReadyPut c.pool c.blocks slot head n list
         → state_in (with_record c slot (Ready head n reads)) ≡ made_by (AddReady head list reads) (state_in c)
     ready_law head n list reads put =
         let w = head.work in
@@ -67,7 +67,7 @@ module _ (c : Contents) (slot : ℕ) where
         same_state (state_in (with_record c slot (Ready head n reads))) (at_work (works_in c.pool c.blocks) w (Some (prepared_as head list reads false))) (flags_in c.pool) written
         (flags_kept c.pool slot (Ready head n reads) free_flag (λ t. refl))
 
-    pub flag_law : (flag : Flag) → IsFlagPut c slot flag → state_in (with_record c slot (FlagRecord flag)) ≡ made_by (AddFlag flag) (state_in c)
+    pub flag_law : (flag : Flag) → IsFlagPut c.pool slot flag → state_in (with_record c slot (FlagRecord flag)) ≡ made_by (AddFlag flag) (state_in c)
     flag_law flag put =
         let t = flag.tid in
         same_state (state_in (with_record c slot (FlagRecord flag))) (works_in c.pool c.blocks) (at_tid (flags_in c.pool) t (Some (flag_state flag)))
@@ -111,17 +111,17 @@ module _ (c : Contents) (slot : ℕ) where
   flag_other t u (Going head n reads) h ne = refl
   flag_other t u (FlagRecord f) h ne = grind (arith, tid_tells)
 
-  pub removed_law : (w : WorkId) → IsPreparedSlot c slot w → state_in (with_record c slot Free) ≡ made_by (RemoveWork w) (state_in c)
+  pub removed_law : (w : WorkId) → IsPreparedSlot c.pool slot w → state_in (with_record c slot Free) ≡ made_by (RemoveWork w) (state_in c)
   removed_law w at = same_state (state_in (with_record c slot Free)) (at_work (works_in c.pool c.blocks) w None) (flags_in c.pool)
       (works_written c.pool c.blocks slot Free (λ v k. prepared_list w v k (record_in c.pool slot) at.stands) (λ v k. refl) at.there w (λ j t. at.once j slot t at.stands) (λ v ne. prepared_other w v (record_in c.pool slot) at.stands ne) (λ v ne. refl))
       (flags_kept c.pool slot Free (λ t. prepared_flag w t (record_in c.pool slot) at.stands) (λ t. refl))
 
-  pub dropped_law : (t : Tid) → IsFlagSlot c slot t → state_in (with_record c slot Free) ≡ made_by (DropFlag t) (state_in c)
+  pub dropped_law : (t : Tid) → IsFlagSlot c.pool slot t → state_in (with_record c slot Free) ≡ made_by (DropFlag t) (state_in c)
   dropped_law t at = same_state (state_in (with_record c slot Free)) (works_in c.pool c.blocks) (at_tid (flags_in c.pool) t None)
       (fun_ext (λ v. work_kept c.pool c.blocks slot Free (λ u k. (flag_list t u k (record_in c.pool slot) at.stands).0) (λ u k. refl) v (flag_list t v 0 (record_in c.pool slot) at.stands).1 refl))
       (flags_written c.pool slot Free at.there t (λ j p. at.once j slot p at.stands) (λ u ne. flag_other t u (record_in c.pool slot) at.stands ne) (λ u ne. refl))
 
-  pub going_law : (head : WorkHead) (n : ℕ) (reads : List LockUnit) → IsReadySlot c slot head n reads
+  pub going_law : (head : WorkHead) (n : ℕ) (reads : List LockUnit) → IsReadySlot c.pool slot head n reads
       → state_in (with_record c slot (Going head n reads)) ≡ made_by (MarkGoing head.work) (state_in c)
   going_law head n reads at =
       let w = head.work in

@@ -26,7 +26,7 @@ use Rattle.jn_found.proofs.Naming.{named_intends, intends_named, addresses_named
 use Rattle.jn_found.proofs.PoolLaws.{ready_law}
 use Rattle.jn_found.proofs.PoolKept.{distinct_kept, complete_kept, intends_stands}
 
-module _ (c : Contents) (slot : ℕ) (head : WorkHead) (n : ℕ) (list : List FullIntention) (reads : List LockUnit) (put : IsReadyPut c slot head n list) where
+module _ (c : Contents) (slot : ℕ) (head : WorkHead) (n : ℕ) (list : List FullIntention) (reads : List LockUnit) (put : IsReadyPut c.pool c.blocks slot head n list) where
   abbrev new : Record
   new = Ready head n reads
 

@@ -32,44 +32,44 @@ abbrev pub is_idle : List Record → Record → Bool
 is_idle pool r = is_free r || is_rubbish pool r
 
 -- the slot of a record that counts for nothing gets another such
-pub record IsIdlePut (c : Contents) (slot : ℕ) (new : Record) : Type 0 where
-  pub there : slot < length c.pool
-  pub old_idle : is_idle c.pool (record_in c.pool slot) ≡ true
-  pub new_idle : is_idle c.pool new ≡ true
+pub record IsIdlePut (pool : List Record) (slot : ℕ) (new : Record) : Type 0 where
+  pub there : slot < length pool
+  pub old_idle : is_idle pool (record_in pool slot) ≡ true
+  pub new_idle : is_idle pool new ≡ true
 
 -- a free slot
-pub record IsFreeSlot (c : Contents) (slot : ℕ) : Type 0 where
-  pub there : slot < length c.pool
-  pub free : record_in c.pool slot ≡ Free
+pub record IsFreeSlot (pool : List Record) (slot : ℕ) : Type 0 where
+  pub there : slot < length pool
+  pub free : record_in pool slot ≡ Free
 
 -- a free slot gets the ready record of a work that isn't prepared, whose intentions stand in the pool
-pub record IsReadyPut (c : Contents) (slot : ℕ) (head : WorkHead) (n : ℕ) (list : List Intention) : Type 0 where
-  pub slot_free : IsFreeSlot c slot
-  pub new : list_any (is_prepared head.work) c.pool ≡ false
-  pub list_stands : full_list c.pool c.blocks head.work n ≡ list
+pub record IsReadyPut (pool : List Record) (blocks : ℕ → List ℕ) (slot : ℕ) (head : WorkHead) (n : ℕ) (list : List Intention) : Type 0 where
+  pub slot_free : IsFreeSlot pool slot
+  pub new : list_any (is_prepared head.work) pool ≡ false
+  pub list_stands : full_list pool blocks head.work n ≡ list
 
 -- the slot of a work's one ready record
-pub record IsReadySlot (c : Contents) (slot : ℕ) (head : WorkHead) (n : ℕ) (reads : List LockUnit) : Type 0 where
-  pub there : slot < length c.pool
-  pub stands : record_in c.pool slot ≡ Ready head n reads
-  pub once : PassesOnce (λ i. is_prepared head.work (record_in c.pool i))
+pub record IsReadySlot (pool : List Record) (slot : ℕ) (head : WorkHead) (n : ℕ) (reads : List LockUnit) : Type 0 where
+  pub there : slot < length pool
+  pub stands : record_in pool slot ≡ Ready head n reads
+  pub once : PassesOnce (λ i. is_prepared head.work (record_in pool i))
 
 -- the slot of a work's one ready or going record
-pub record IsPreparedSlot (c : Contents) (slot : ℕ) (work : WorkId) : Type 0 where
-  pub there : slot < length c.pool
-  pub stands : is_prepared work (record_in c.pool slot) ≡ true
-  pub once : PassesOnce (λ i. is_prepared work (record_in c.pool i))
+pub record IsPreparedSlot (pool : List Record) (slot : ℕ) (work : WorkId) : Type 0 where
+  pub there : slot < length pool
+  pub stands : is_prepared work (record_in pool slot) ≡ true
+  pub once : PassesOnce (λ i. is_prepared work (record_in pool i))
 
 -- a free slot gets the first flag of a transaction
-pub record IsFlagPut (c : Contents) (slot : ℕ) (flag : Flag) : Type 0 where
-  pub slot_free : IsFreeSlot c slot
-  pub new : list_any (is_flag flag.tid) c.pool ≡ false
+pub record IsFlagPut (pool : List Record) (slot : ℕ) (flag : Flag) : Type 0 where
+  pub slot_free : IsFreeSlot pool slot
+  pub new : list_any (is_flag flag.tid) pool ≡ false
 
 -- the slot of a transaction's one flag
-pub record IsFlagSlot (c : Contents) (slot : ℕ) (t : Tid) : Type 0 where
-  pub there : slot < length c.pool
-  pub stands : is_flag t (record_in c.pool slot) ≡ true
-  pub once : PassesOnce (λ i. is_flag t (record_in c.pool i))
+pub record IsFlagSlot (pool : List Record) (slot : ℕ) (t : Tid) : Type 0 where
+  pub there : slot < length pool
+  pub stands : is_flag t (record_in pool slot) ≡ true
+  pub once : PassesOnce (λ i. is_flag t (record_in pool i))
 
 -- ---- a head's page is put
 
@@ -94,19 +94,19 @@ is_head_after Gone f (Used g addresses) = false
 is_head_after what f h = is_head_of f h
 
 -- an intention is carried out at a place of the heads
-pub record IsHeadPut (c : Contents) (i : StoredIntention) (place : ℕ) (new : Head) : Type 0 where
-  pub there : place < length c.heads
+pub record IsHeadPut (heads : List Head) (i : StoredIntention) (place : ℕ) (new : Head) : Type 0 where
+  pub there : place < length heads
   pub names : intention_has_page i ≡ true
   -- no other head is its file's
-  pub only : (j : ℕ) → is_head_of i.file (head_in c.heads j) ≡ true → j ≡ place
-  pub serves : serves_for i.what i.file (head_in c.heads place) ≡ true
+  pub only : (j : ℕ) → is_head_of i.file (head_in heads j) ≡ true → j ≡ place
+  pub serves : serves_for i.what i.file (head_in heads place) ≡ true
   pub file_after : is_head_after i.what i.file new ≡ true
-  pub addresses : (p : BlockNo) → address_at new p ≡ address_after i.what i.block i.address p (address_at (head_in c.heads place) p)
+  pub addresses : (p : BlockNo) → address_at new p ≡ address_after i.what i.block i.address p (address_at (head_in heads place) p)
 
 -- a file that is gone already has no head, and nothing is put
-pub record IsGoneAlready (c : Contents) (i : StoredIntention) : Type 0 where
+pub record IsGoneAlready (heads : List Head) (i : StoredIntention) : Type 0 where
   pub gone : i.what ≡ Gone
-  pub absent : list_any (is_head_of i.file) c.heads ≡ false
+  pub absent : list_any (is_head_of i.file) heads ≡ false
 
 -- ---- a data page is put
 

@@ -11,9 +11,9 @@ ghost use Rattle.jn_found.specs.Changes.{with_head, with_block, with_epoch, IsHe
 /// A head's put carries out an intention of a work: a put's block is then the data page that its intention names. A
 /// file that is gone already is removed by nothing.
 pub fn a_head_carries_out_an_intention()
-    ensures put { (c : Contents) (work : WorkId) (i : StoredIntention) (place : ℕ) (new : Head) → IsHeadPut c i place new
+    ensures put { (c : Contents) (work : WorkId) (i : StoredIntention) (place : ℕ) (new : Head) → IsHeadPut c.heads i place new
         → state_in (with_head c place new) ≡ made_by (CarryOut work (intended c.blocks i)) (state_in c) }
-    ensures gone { (c : Contents) (work : WorkId) (i : StoredIntention) → IsGoneAlready c i → state_in c ≡ made_by (CarryOut work (intended c.blocks i)) (state_in c) }
+    ensures gone { (c : Contents) (work : WorkId) (i : StoredIntention) → IsGoneAlready c.heads i → state_in c ≡ made_by (CarryOut work (intended c.blocks i)) (state_in c) }
 {}
 
 /// The state reads the data pages that heads and prepared works name, and no other.

@@ -18,30 +18,30 @@ ghost use Rattle.jn_found.specs.Changes.{with_record, IsIdlePut, IsReadyPut, IsR
 /// The intentions of a work change nothing while its ready record isn't there: neither where one is put nor where
 /// one is erased.
 pub fn an_intention_without_its_work_changes_nothing()
-    ensures { (c : Contents) (slot : ℕ) (new : Record) → IsIdlePut c slot new → state_in (with_record c slot new) ≡ state_in c }
+    ensures { (c : Contents) (slot : ℕ) (new : Record) → IsIdlePut c.pool slot new → state_in (with_record c slot new) ≡ state_in c }
 {}
 
 /// The ready record prepares its work, with all its intentions at once.
 pub fn a_ready_record_prepares_its_work()
-    ensures { (c : Contents) (slot : ℕ) (head : WorkHead) (n : ℕ) (list : List Intention) (reads : List LockUnit) → IsReadyPut c slot head n list
+    ensures { (c : Contents) (slot : ℕ) (head : WorkHead) (n : ℕ) (list : List Intention) (reads : List LockUnit) → IsReadyPut c.pool c.blocks slot head n list
         → state_in (with_record c slot (Ready head n reads)) ≡ made_by (AddReady head list reads) (state_in c) }
 {}
 
 /// A going record in place of the ready one marks the work as going.
 pub fn a_going_record_marks_its_work()
-    ensures { (c : Contents) (slot : ℕ) (head : WorkHead) (n : ℕ) (reads : List LockUnit) → IsReadySlot c slot head n reads
+    ensures { (c : Contents) (slot : ℕ) (head : WorkHead) (n : ℕ) (reads : List LockUnit) → IsReadySlot c.pool slot head n reads
         → state_in (with_record c slot (Going head n reads)) ≡ made_by (MarkGoing head.work) (state_in c) }
 {}
 
 /// Without its ready or going record a work is no longer there.
 pub fn a_freed_record_removes_its_work()
-    ensures { (c : Contents) (slot : ℕ) (work : WorkId) → IsPreparedSlot c slot work → state_in (with_record c slot Free) ≡ made_by (RemoveWork work) (state_in c) }
+    ensures { (c : Contents) (slot : ℕ) (work : WorkId) → IsPreparedSlot c.pool slot work → state_in (with_record c slot Free) ≡ made_by (RemoveWork work) (state_in c) }
 {}
 
 /// A flag stands from its record's put on, until the record is freed.
 pub fn a_flag_is_its_record()
-    ensures put { (c : Contents) (slot : ℕ) (flag : Flag) → IsFlagPut c slot flag → state_in (with_record c slot (FlagRecord flag)) ≡ made_by (AddFlag flag) (state_in c) }
-    ensures freed { (c : Contents) (slot : ℕ) (t : Tid) → IsFlagSlot c slot t → state_in (with_record c slot Free) ≡ made_by (DropFlag t) (state_in c) }
+    ensures put { (c : Contents) (slot : ℕ) (flag : Flag) → IsFlagPut c.pool slot flag → state_in (with_record c slot (FlagRecord flag)) ≡ made_by (AddFlag flag) (state_in c) }
+    ensures freed { (c : Contents) (slot : ℕ) (t : Tid) → IsFlagSlot c.pool slot t → state_in (with_record c slot Free) ≡ made_by (DropFlag t) (state_in c) }
 {}
 
 /// The intentions of a work that is being prepared are put in order, each at a free slot.
