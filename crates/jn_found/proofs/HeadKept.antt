@@ -66,7 +66,7 @@ module _ (c : Contents) (i : StoredIntention) (place : ℕ) (new : Head) (put : 
       at_place f e j t = ⊎_elim (λ h. h.0) (λ h. put.only j (subst (λ g. is_head_of g (head_in c.heads j) ≡ true) (sym e) (ap (is_head_of f) (sym h.1) ∙ t))) (at_set FreeHead c.heads place new put.there j)
 
   -- an address of a head stood before, or is the intention's
-  split : (j : ℕ) (f : FileNo) (p : BlockNo) (a : ℕ) → Addresses (with_head c place new) j f p (suc a) → Addresses c j f p (suc a) ⊎ ((i.address ≡ suc a) × (f ≡ i.file) × (p ≡ i.block))
+  split : (j : ℕ) (f : FileNo) (p : BlockNo) (a : ℕ) → Addresses (slice_set c.heads place new) j f p (suc a) → Addresses c.heads j f p (suc a) ⊎ ((i.address ≡ suc a) × (f ≡ i.file) × (p ≡ i.block))
   split j f p a h = ⊎_elim
       (λ e.
       let is_new : is_head_of f new ≡ true = ap (is_head_of f) (sym e.1) ∙ h.head in
@@ -82,34 +82,31 @@ module _ (c : Contents) (i : StoredIntention) (place : ℕ) (new : Head) (put : 
       (λ e. inl (record { head = ap (is_head_of f) (sym e.1) ∙ h.head; address = ap (λ x. address_at x p) (sym e.1) ∙ h.address }))
       (at_set FreeHead c.heads place new put.there j)
 
-  module _ (slot : ℕ) (stands : Intends c slot i) where
-    again : (k : ℕ) (s : StoredIntention) → Intends (with_head c place new) k s → Intends c k s
-    again k s h = record { work = h.work; tid = h.tid; order = h.order; stands = h.stands; prepared = h.prepared }
-
+  module _ (slot : ℕ) (stands : Intends c.pool slot i) where
     -- at one slot stands one intention
-    same_one : (k : ℕ) (s : StoredIntention) → Intends c k s → k ≡ slot → s ≡ i
+    same_one : (k : ℕ) (s : StoredIntention) → Intends c.pool k s → k ≡ slot → s ≡ i
     same_one k s h e = some_is s i (sym (ap stored_in h.stands) ∙ ap (λ q. stored_in (record_in c.pool q)) e ∙ ap stored_in stands.stands)
       where
         some_is : {A : Type 0} → (a b : A) → Some a ≡ Some b → a ≡ b
         some_is a b e = cc
 
     module _ (leaves : ℕ) (before : AddressesDiffer leaves c) where
-      heads_differ : (a j k : ℕ) (f g : FileNo) (p q : BlockNo) → (Addresses c j f p (suc a) ⊎ ((i.address ≡ suc a) × (f ≡ i.file) × (p ≡ i.block))) → (Addresses c k g q (suc a) ⊎ ((i.address ≡ suc a) × (g ≡ i.file) × (q ≡ i.block))) → (f ≡ g) × (p ≡ q)
+      heads_differ : (a j k : ℕ) (f g : FileNo) (p q : BlockNo) → (Addresses c.heads j f p (suc a) ⊎ ((i.address ≡ suc a) × (f ≡ i.file) × (p ≡ i.block))) → (Addresses c.heads k g q (suc a) ⊎ ((i.address ≡ suc a) × (g ≡ i.file) × (q ≡ i.block))) → (f ≡ g) × (p ≡ q)
       heads_differ a j k f g p q (inl x) (inl y) = before.heads a j k f g p q x y
       heads_differ a j k f g p q (inl x) (inr y) = let h = before.carried a slot j i f p stands y.0 x in (h.0 ∙ sym y.1, h.1 ∙ sym y.2)
       heads_differ a j k f g p q (inr x) (inl y) = let h = before.carried a slot k i g q stands x.0 y in (x.1 ∙ sym h.0, x.2 ∙ sym h.1)
       heads_differ a j k f g p q (inr x) (inr y) = (x.1 ∙ sym y.1, x.2 ∙ sym y.2)
 
-      carried : (a k j : ℕ) (s : StoredIntention) (f : FileNo) (p : BlockNo) → Intends c k s → s.address ≡ suc a → (Addresses c j f p (suc a) ⊎ ((i.address ≡ suc a) × (f ≡ i.file) × (p ≡ i.block))) → (f ≡ s.file) × (p ≡ s.block)
+      carried : (a k j : ℕ) (s : StoredIntention) (f : FileNo) (p : BlockNo) → Intends c.pool k s → s.address ≡ suc a → (Addresses c.heads j f p (suc a) ⊎ ((i.address ≡ suc a) × (f ≡ i.file) × (p ≡ i.block))) → (f ≡ s.file) × (p ≡ s.block)
       carried a k j s f p x e (inl y) = before.carried a k j s f p x e y
       carried a k j s f p x e (inr y) = let same = same_one k s x (before.works a k slot s i x stands e y.0) in (y.1 ∙ ap (λ z. z.file) (sym same), y.2 ∙ ap (λ z. z.block) (sym same))
 
       addresses_put : AddressesDiffer leaves (with_head c place new)
       addresses_put = record {
         heads = λ a j k f g p q x y. heads_differ a j k f g p q (split j f p a x) (split k g q a y);
-        works = λ a k j s t x y. before.works a k j s t (again k s x) (again j t y);
-        works_fit = λ k s x. before.works_fit k s (again k s x);
-        carried = λ a k j s f p x e y. carried a k j s f p (again k s x) e (split j f p a y);
+        works = λ a k j s t x y. before.works a k j s t x y;
+        works_fit = λ k s x. before.works_fit k s x;
+        carried = λ a k j s f p x e y. carried a k j s f p x e (split j f p a y);
       }
 
     pub head_consistent : (server : ServerNo) (g : Counts) (w : WorkId) → IsLoadable server g.heads (made_by (CarryOut w (intended c.blocks i)) (state_in c)) → IsConsistent server g c → IsConsistent server g (with_head c place new)

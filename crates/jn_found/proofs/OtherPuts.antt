@@ -12,12 +12,7 @@ use Rattle.jn_found.proofs.FillLaws.{fill_law}
 
 -- where pool and heads are the same, so are the addresses
 same_addresses : (leaves : ℕ) (c : Contents) (epoch : ℕ) (blocks : ℕ → List ℕ) → AddressesDiffer leaves c → AddressesDiffer leaves (record { epoch = epoch; pool = c.pool; heads = c.heads; blocks = blocks })
-same_addresses leaves c epoch blocks before = record {
-  heads = λ a i j f g p q x y. before.heads a i j f g p q (record { head = x.head; address = x.address }) (record { head = y.head; address = y.address });
-  works = λ a i j s t x y. before.works a i j s t (record { work = x.work; tid = x.tid; order = x.order; stands = x.stands; prepared = x.prepared }) (record { work = y.work; tid = y.tid; order = y.order; stands = y.stands; prepared = y.prepared });
-  works_fit = λ i s x. before.works_fit i s (record { work = x.work; tid = x.tid; order = x.order; stands = x.stands; prepared = x.prepared });
-  carried = λ a i j s f p x e y. before.carried a i j s f p (record { work = x.work; tid = x.tid; order = x.order; stands = x.stands; prepared = x.prepared }) e (record { head = y.head; address = y.address });
-}
+same_addresses leaves c epoch blocks before = record { heads = before.heads; works = before.works; works_fit = before.works_fit; carried = before.carried }
 
 pub block_consistent : (server : ServerNo) (g : Counts) (c : Contents) (d : ℕ) (bytes : List ℕ) → is_named c d ≡ false → IsConsistent server g c → IsConsistent server g (with_block c d bytes)
 block_consistent server g c d bytes unnamed before = record {

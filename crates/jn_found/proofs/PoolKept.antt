@@ -65,7 +65,7 @@ module _ (c : Contents) (slot : ℕ) (new : Record) (there : slot < length c.poo
         (at_set Free c.pool slot new there i))
 
     -- an intention of a prepared work stood there before
-    pub intends_stands : (i : ℕ) (s : StoredIntention) (h : Intends (with_record c slot new) i s) → record_in c.pool i ≡ Intention h.work h.tid h.order s
+    pub intends_stands : (i : ℕ) (s : StoredIntention) (h : Intends (slice_set c.pool slot new) i s) → record_in c.pool i ≡ Intention h.work h.tid h.order s
     intends_stands i s h = ⊎_elim
         (λ e. absurd (true≢false (sym (same h.work h.order) ∙ sym (ap (is_intention h.work h.order) (sym e.1 ∙ h.stands)) ∙ (quiet h.work h.order h.prepared).1)))
         (λ e. sym e.1 ∙ h.stands)
@@ -75,7 +75,7 @@ module _ (c : Contents) (slot : ℕ) (new : Record) (there : slot < length c.poo
         same w k = grind (arith, work_tells, nat_tests)
 
     module _ (mild : (w : WorkId) → is_prepared w new ≡ true → is_prepared w (record_in c.pool slot) ≡ true) where
-      pub intends_before : (i : ℕ) (s : StoredIntention) → Intends (with_record c slot new) i s → Intends c i s
+      pub intends_before : (i : ℕ) (s : StoredIntention) → Intends (slice_set c.pool slot new) i s → Intends c.pool i s
       intends_before i s h = record {
         work = h.work;
         tid = h.tid;
@@ -87,8 +87,8 @@ module _ (c : Contents) (slot : ℕ) (new : Record) (there : slot < length c.poo
       -- where no work is new, no address is
       pub addresses_kept : (leaves : ℕ) → AddressesDiffer leaves c → AddressesDiffer leaves (with_record c slot new)
       addresses_kept leaves before = record {
-        heads = λ a i j f g p q x y. before.heads a i j f g p q (record { head = x.head; address = x.address }) (record { head = y.head; address = y.address });
+        heads = λ a i j f g p q x y. before.heads a i j f g p q x y;
         works = λ a i j s t x y. before.works a i j s t (intends_before i s x) (intends_before j t y);
         works_fit = λ i s x. before.works_fit i s (intends_before i s x);
-        carried = λ a i j s f p x e y. before.carried a i j s f p (intends_before i s x) e (record { head = y.head; address = y.address });
+        carried = λ a i j s f p x e y. before.carried a i j s f p (intends_before i s x) e y;
       }

@@ -43,7 +43,7 @@ module _ (c : Contents) (slot : ℕ) (head : WorkHead) (n : ℕ) (list : List Fu
       same h = grind (arith, work_tells)
 
   -- an intention of a prepared work was one before, or is the new work's
-  split : (i : ℕ) (s : StoredIntention) → Intends (with_record c slot (Ready head n reads)) i s → Intends c i s ⊎ HasAt c.pool head.work i s
+  split : (i : ℕ) (s : StoredIntention) → Intends (slice_set c.pool slot (Ready head n reads)) i s → Intends c.pool i s ⊎ HasAt c.pool head.work i s
   split i s h =
       let stands = intends_stands c slot (Ready head n reads) there quiet i s h in
       ⊎_elim
@@ -57,36 +57,36 @@ module _ (c : Contents) (slot : ℕ) (head : WorkHead) (n : ℕ) (list : List Fu
       }))
       (work_tells head.work h.work)
 
-  named_by_work : (a i : ℕ) (s : StoredIntention) → Intends c i s → s.address ≡ suc a → is_named c a ≡ true
+  named_by_work : (a i : ℕ) (s : StoredIntention) → Intends c.pool i s → s.address ≡ suc a → is_named c a ≡ true
   named_by_work a i s h e = let t = intends_named c i s (suc a) h e in grind (arith, t)
 
-  named_by_head : (a j : ℕ) (f : FileNo) (p : BlockNo) → Addresses c j f p (suc a) → is_named c a ≡ true
+  named_by_head : (a j : ℕ) (f : FileNo) (p : BlockNo) → Addresses c.heads j f p (suc a) → is_named c a ≡ true
   named_by_head a j f p h = let t = addresses_named c j f p a h in grind (arith, t)
 
   module _ (leaves : ℕ) (fresh : AreFresh leaves c head.work) (before : AddressesDiffer leaves c) where
     clash : (a i : ℕ) (s : StoredIntention) → HasAt c.pool head.work i s → s.address ≡ suc a → is_named c a ≡ true → ⊥
     clash a i s h e t = true≢false (sym t ∙ fresh.unnamed i a s h e)
 
-    works_differ : (a i j : ℕ) (s t : StoredIntention) → (Intends c i s ⊎ HasAt c.pool head.work i s) → (Intends c j t ⊎ HasAt c.pool head.work j t) → s.address ≡ suc a → t.address ≡ suc a → i ≡ j
+    works_differ : (a i j : ℕ) (s t : StoredIntention) → (Intends c.pool i s ⊎ HasAt c.pool head.work i s) → (Intends c.pool j t ⊎ HasAt c.pool head.work j t) → s.address ≡ suc a → t.address ≡ suc a → i ≡ j
     works_differ a i j s t (inl x) (inl y) d e = before.works a i j s t x y d e
     works_differ a i j s t (inl x) (inr y) d e = absurd (clash a j t y e (named_by_work a i s x d))
     works_differ a i j s t (inr x) (inl y) d e = absurd (clash a i s x d (named_by_work a j t y e))
     works_differ a i j s t (inr x) (inr y) d e = fresh.differ i j a s t x y d e
 
-    works_fit : (i : ℕ) (s : StoredIntention) → (Intends c i s ⊎ HasAt c.pool head.work i s) → s.address ≤ leaves
+    works_fit : (i : ℕ) (s : StoredIntention) → (Intends c.pool i s ⊎ HasAt c.pool head.work i s) → s.address ≤ leaves
     works_fit i s (inl x) = before.works_fit i s x
     works_fit i s (inr x) = fresh.fit i s x
 
-    carried : (a i j : ℕ) (s : StoredIntention) (f : FileNo) (p : BlockNo) → (Intends c i s ⊎ HasAt c.pool head.work i s) → s.address ≡ suc a → Addresses c j f p (suc a) → (f ≡ s.file) × (p ≡ s.block)
+    carried : (a i j : ℕ) (s : StoredIntention) (f : FileNo) (p : BlockNo) → (Intends c.pool i s ⊎ HasAt c.pool head.work i s) → s.address ≡ suc a → Addresses c.heads j f p (suc a) → (f ≡ s.file) × (p ≡ s.block)
     carried a i j s f p (inl x) e y = before.carried a i j s f p x e y
     carried a i j s f p (inr x) e y = absurd (clash a i s x e (named_by_head a j f p y))
 
     addresses_after : AddressesDiffer leaves (with_record c slot (Ready head n reads))
     addresses_after = record {
-      heads = λ a i j f g p q x y. before.heads a i j f g p q (record { head = x.head; address = x.address }) (record { head = y.head; address = y.address });
+      heads = λ a i j f g p q x y. before.heads a i j f g p q x y;
       works = λ a i j s t x y. works_differ a i j s t (split i s x) (split j t y);
       works_fit = λ i s x. works_fit i s (split i s x);
-      carried = λ a i j s f p x e y. carried a i j s f p (split i s x) e (record { head = y.head; address = y.address });
+      carried = λ a i j s f p x e y. carried a i j s f p (split i s x) e y;
     }
 
   pub ready_consistent : (server : ServerNo) (g : Counts) → IsWhole g.leaves c head.work n → IsLoadable server g.heads (made_by (AddReady head list reads) (state_in c))

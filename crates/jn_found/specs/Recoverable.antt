@@ -6,6 +6,7 @@ use Rattle.jn_base.specs.declared.names.FileNo.{FileNo}
 use Rattle.jn_base.specs.declared.names.ServerNo.{ServerNo}
 use Rattle.jn_base.specs.declared.names.Tid.{Tid}
 use Rattle.jn_base.specs.declared.names.WorkId.{WorkId}
+use Rattle.jn_records.specs.declared.head.Head.{Head}
 use Rattle.jn_records.specs.declared.intention.StoredIntention.{StoredIntention}
 use Rattle.jn_records.specs.declared.record.Record.{Record}
 use Rattle.jn_records.specs.declared.record.Record.TheVariants.{Intention as IntentionRecord, Ready, Going}
@@ -45,26 +46,26 @@ IsCompleteBy pool _ = Unit {0}
 -- ---- addresses
 
 -- slot i has this intention of a prepared work
-pub record Intends (c : Contents) (i : ℕ) (s : StoredIntention) : Type 0 where
+pub record Intends (pool : List Record) (i : ℕ) (s : StoredIntention) : Type 0 where
   pub work : WorkId
   pub tid : Tid
   pub order : ℕ
-  pub stands : record_in c.pool i ≡ IntentionRecord work tid order s
-  pub prepared : list_any (is_prepared work) c.pool ≡ true
+  pub stands : record_in pool i ≡ IntentionRecord work tid order s
+  pub prepared : list_any (is_prepared work) pool ≡ true
 
 -- head i has an address at a block of a file
-pub record Addresses (c : Contents) (i : ℕ) (f : FileNo) (p : BlockNo) (a : ℕ) : Type 0 where
-  pub head : is_head_of f (head_in c.heads i) ≡ true
-  pub address : address_at (head_in c.heads i) p ≡ a
+pub record Addresses (heads : List Head) (i : ℕ) (f : FileNo) (p : BlockNo) (a : ℕ) : Type 0 where
+  pub head : is_head_of f (head_in heads i) ≡ true
+  pub address : address_at (head_in heads i) p ≡ a
 
 pub record AddressesDiffer (leaves : ℕ) (c : Contents) : Type 0 where
   -- no address stands twice in the heads
-  pub heads : (a i j : ℕ) (f g : FileNo) (p q : BlockNo) → Addresses c i f p (suc a) → Addresses c j g q (suc a) → (f ≡ g) × (p ≡ q)
+  pub heads : (a i j : ℕ) (f g : FileNo) (p q : BlockNo) → Addresses c.heads i f p (suc a) → Addresses c.heads j g q (suc a) → (f ≡ g) × (p ≡ q)
   -- nor in the intentions of prepared works, whose addresses lead to data pages that there are
-  pub works : (a i j : ℕ) (s t : StoredIntention) → Intends c i s → Intends c j t → s.address ≡ suc a → t.address ≡ suc a → i ≡ j
-  pub works_fit : (i : ℕ) (s : StoredIntention) → Intends c i s → s.address ≤ leaves
+  pub works : (a i j : ℕ) (s t : StoredIntention) → Intends c.pool i s → Intends c.pool j t → s.address ≡ suc a → t.address ≡ suc a → i ≡ j
+  pub works_fit : (i : ℕ) (s : StoredIntention) → Intends c.pool i s → s.address ≤ leaves
   -- a head has the address of such an intention at its file and block alone
-  pub carried : (a i j : ℕ) (s : StoredIntention) (f : FileNo) (p : BlockNo) → Intends c i s → s.address ≡ suc a → Addresses c j f p (suc a) → (f ≡ s.file) × (p ≡ s.block)
+  pub carried : (a i j : ℕ) (s : StoredIntention) (f : FileNo) (p : BlockNo) → Intends c.pool i s → s.address ≡ suc a → Addresses c.heads j f p (suc a) → (f ≡ s.file) × (p ≡ s.block)
 
 -- ---- one choice
 

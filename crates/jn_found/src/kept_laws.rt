@@ -37,7 +37,7 @@ pub fn a_record_keeps_what_a_recovery_asks()
 /// So does the put of a head that carries out an intention of a prepared work, of a data page that nothing names, and
 /// of a root with a later epoch.
 pub fn other_pages_keep_what_a_recovery_asks()
-    ensures head { (server : ServerNo) (g : Counts) (c : Contents) (slot : ℕ) (work : WorkId) (i : StoredIntention) (place : ℕ) (new : Head) → IsHeadPut c.heads i place new → Intends c slot i
+    ensures head { (server : ServerNo) (g : Counts) (c : Contents) (slot : ℕ) (work : WorkId) (i : StoredIntention) (place : ℕ) (new : Head) → IsHeadPut c.heads i place new → Intends c.pool slot i
         → IsLoadable server g.heads (made_by (CarryOut work (intended c.blocks i)) (state_in c)) → IsConsistent server g c → IsConsistent server g (with_head c place new) }
     ensures block { (server : ServerNo) (g : Counts) (c : Contents) (d : ℕ) (bytes : List ℕ) → is_named c d ≡ false → IsConsistent server g c → IsConsistent server g (with_block c d bytes) }
     ensures root { (server : ServerNo) (g : Counts) (c : Contents) (epoch : ℕ) → c.epoch ≤ epoch → IsConsistent server g c → IsConsistent server g (with_epoch c epoch) }
@@ -54,5 +54,5 @@ pub fn a_put_gives_no_new_names()
     ensures removed { (c : Contents) (slot d : ℕ) (work : WorkId) → IsPreparedSlot c.pool slot work → is_named (with_record c slot Free) d ≡ true → is_named c d ≡ true }
     ensures flagged { (c : Contents) (slot d : ℕ) (flag : Flag) → IsFlagPut c.pool slot flag → is_named (with_record c slot (FlagRecord flag)) d ≡ true → is_named c d ≡ true }
     ensures dropped { (c : Contents) (slot d : ℕ) (t : Tid) → IsFlagSlot c.pool slot t → is_named (with_record c slot Free) d ≡ true → is_named c d ≡ true }
-    ensures head { (c : Contents) (slot d : ℕ) (i : StoredIntention) (place : ℕ) (new : Head) → IsHeadPut c.heads i place new → Intends c slot i → is_named (with_head c place new) d ≡ true → is_named c d ≡ true }
+    ensures head { (c : Contents) (slot d : ℕ) (i : StoredIntention) (place : ℕ) (new : Head) → IsHeadPut c.heads i place new → Intends c.pool slot i → is_named (with_head c place new) d ≡ true → is_named c d ≡ true }
 {}
