@@ -22,3 +22,4 @@ pub mod Saying
 pub mod Images
 pub mod SoundImages
 pub mod HeldLaws
+pub mod RecoveryLaws

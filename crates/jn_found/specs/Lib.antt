@@ -5,3 +5,4 @@ pub mod Changes
 pub mod Puts
 pub mod Images
 pub mod Held
+pub mod Recovery

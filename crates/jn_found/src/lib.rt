@@ -7,6 +7,7 @@ mod head_laws;
 mod held_laws;
 mod kept_laws;
 mod pool_laws;
+mod recovery_laws;
 mod start_laws;
 mod stop_laws;
 
@@ -25,6 +26,7 @@ pub use pool_laws::{
     a_ready_record_prepares_its_work, an_intention_comes_behind_the_others,
     an_intention_without_its_work_changes_nothing,
 };
+pub use recovery_laws::a_recovery_finds_what_was_there;
 pub use start_laws::a_sound_image_is_recoverable;
 pub use stop_laws::{
     a_put_is_one_change, a_put_leaves_a_recovery, a_put_page_is_read_again,
