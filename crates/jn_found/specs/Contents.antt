@@ -1,0 +1,136 @@
+-- What the pages of a server say, apart from their bytes, and the stable state that follows from it.
+use Rattle.std.specs.Prelude.{ℕ, zero, suc, nat_eq, Bool, true, false, ◌&&◌, List, [], ◌∷◌, map, slice_index_or, Option, Some, None, option_map, option_and_then}
+use Rattle.std.specs.List.{find, list_any}
+use Rattle.jn_base.specs.declared.names.BlockNo.{BlockNo}
+use Rattle.jn_base.specs.declared.names.FileNo.{FileNo}
+use Rattle.jn_base.specs.declared.names.LockUnit.{LockUnit}
+use Rattle.jn_base.specs.declared.names.LockUnit.TheVariants.{File, Block}
+use Rattle.jn_base.specs.declared.names.Tid.{Tid}
+use Rattle.jn_base.specs.declared.names.WorkId.{WorkId}
+use Rattle.jn_base.specs.Names.{file_eq}
+use Rattle.jn_order.specs.Files.{Files, there, zeros}
+use Rattle.jn_records.specs.declared.head.Head.{Head}
+use Rattle.jn_records.specs.declared.head.Head.TheVariants.{Free as FreeHead, Used}
+use Rattle.jn_records.specs.declared.intention.Intention.{Intention}
+use Rattle.jn_records.specs.declared.intention.StoredIntention.{StoredIntention}
+use Rattle.jn_records.specs.declared.intention.What.{What}
+use Rattle.jn_records.specs.declared.intention.What.TheVariants.{Put}
+use Rattle.jn_records.specs.declared.record.Record.{Record}
+use Rattle.jn_records.specs.declared.record.Record.TheVariants.{Intention as IntentionRecord, Ready, Going, Flag as FlagRecord}
+use Rattle.jn_records.specs.declared.work.WorkHead.{WorkHead}
+use Rattle.jn_rows.specs.Stable.{StableState, Prepared, FlagState, flag_state}
+use Rattle.jn_sets.specs.Pool.{is_prepared, is_intention, is_flag}
+
+-- the root's epoch, a record for each slot of the pool, a head for each place, and the block of each data page
+pub record Contents : Type 0 where
+  pub epoch : ℕ
+  pub pool : List Record
+  pub heads : List Head
+  pub blocks : ℕ → List ℕ
+
+-- ---- the files
+
+abbrev pub head_in : List Head → ℕ → Head
+head_in heads i = slice_index_or heads i FreeHead
+
+abbrev pub is_head_of : FileNo → Head → Bool
+is_head_of f FreeHead = false
+is_head_of f (Used g addresses) = file_eq g f
+
+-- what an address leads to: 0 to nothing, and any other to the data page whose index and 1 it is
+abbrev pub behind : (ℕ → List ℕ) → ℕ → Option (List ℕ)
+behind blocks zero = None
+behind blocks (suc d) = Some (blocks d)
+
+-- the address of a block: 0 where it isn't stored
+abbrev pub address_at : Head → BlockNo → ℕ
+address_at FreeHead p = 0
+address_at (Used f addresses) p = slice_index_or addresses p.0 0
+
+abbrev pub block_in : (ℕ → List ℕ) → BlockNo → Head → Option (List ℕ)
+block_in blocks p h = behind blocks (address_at h p)
+
+-- each used head's file, with the blocks that have an address
+abbrev pub files_in : List Head → (ℕ → List ℕ) → Files
+files_in heads blocks (File f) = option_map (λ h. there) (find (is_head_of f) heads)
+files_in heads blocks (Block f p) = option_and_then (block_in blocks p) (find (is_head_of f) heads)
+
+-- ---- the works
+
+-- the bytes of an intention: a put's stand in the data page that it names
+abbrev pub bytes_by : (ℕ → List ℕ) → What → ℕ → List ℕ
+bytes_by blocks Put (suc d) = blocks d
+bytes_by blocks _ _ = zeros
+
+abbrev pub intended : (ℕ → List ℕ) → StoredIntention → Intention
+intended blocks i = record { what = i.what; file = i.file; block = i.block; bytes = bytes_by blocks i.what i.address }
+
+abbrev pub stored_in : Record → Option StoredIntention
+stored_in (IntentionRecord work tid order i) = Some i
+stored_in _ = None
+
+-- a work's intention at a place among them
+abbrev pub intention_of : List Record → WorkId → ℕ → Option StoredIntention
+intention_of pool work order = option_and_then stored_in (find (is_intention work order) pool)
+
+abbrev pub with_first : {A : Type 0} → Option A → List A → List A
+with_first None list = list
+with_first (Some x) list = x ∷ list
+
+-- so many intentions of a work from a place on; what is missing is left out
+abbrev pub intentions_from : List Record → WorkId → ℕ → ℕ → List StoredIntention
+intentions_from pool work order zero = []
+intentions_from pool work order (suc n) = with_first (intention_of pool work order) (intentions_from pool work (suc order) n)
+
+-- a work's list, as its records have it
+abbrev pub stored_list : List Record → WorkId → ℕ → List StoredIntention
+stored_list pool work n = intentions_from pool work 0 n
+
+-- and with the bytes of its puts
+abbrev pub full_list : List Record → (ℕ → List ℕ) → WorkId → ℕ → List Intention
+full_list pool blocks work n = map (intended blocks) (stored_list pool work n)
+
+abbrev pub prepared_as : WorkHead → List Intention → List LockUnit → Bool → Prepared
+prepared_as head list reads going = record { tid = head.tid; client = head.client; list = list; reads = reads; going = going }
+
+abbrev pub prepared_by : List Record → (ℕ → List ℕ) → WorkId → Option Record → Option Prepared
+prepared_by pool blocks work (Some (Ready head n reads)) = Some (prepared_as head (full_list pool blocks work n) reads false)
+prepared_by pool blocks work (Some (Going head n reads)) = Some (prepared_as head (full_list pool blocks work n) reads true)
+prepared_by pool blocks work _ = None
+
+-- one work for each ready or going record, with its intentions by their places
+abbrev pub works_in : List Record → (ℕ → List ℕ) → WorkId → Option Prepared
+works_in pool blocks work = prepared_by pool blocks work (find (is_prepared work) pool)
+
+-- ---- the flags
+
+abbrev pub flag_by : Option Record → Option FlagState
+flag_by (Some (FlagRecord flag)) = Some (flag_state flag)
+flag_by _ = None
+
+abbrev pub flags_in : List Record → Tid → Option FlagState
+flags_in pool t = flag_by (find (is_flag t) pool)
+
+-- ---- the state
+
+abbrev pub state_in : Contents → StableState
+state_in c = record { epoch = c.epoch; files = files_in c.heads c.blocks; works = works_in c.pool c.blocks; flags = flags_in c.pool }
+
+-- ---- which data pages are in use
+
+abbrev pub has_address : ℕ → Head → Bool
+has_address a FreeHead = false
+has_address a (Used f addresses) = list_any (λ b. nat_eq b a) addresses
+
+-- an intention of a prepared work with this address
+abbrev pub holds_address : List Record → ℕ → Record → Bool
+holds_address pool a (IntentionRecord work tid order i) = nat_eq i.address a && list_any (is_prepared work) pool
+holds_address pool a _ = false
+
+-- some head has the address
+abbrev pub heads_name : List Head → ℕ → Bool
+heads_name heads a = list_any (has_address a) heads
+
+-- some prepared work has it
+abbrev pub works_name : List Record → ℕ → Bool
+works_name pool a = list_any (holds_address pool a) pool
