@@ -59,9 +59,17 @@ impl FreeList {
         ensures fewer { IfSome result (λ _. free_count self.new + 1 ≡ free_count self.old) }
         ensures none { IfNone result (self.new ≡ self.old) }
     {
-        let a = first_set(&self.is_free)?;
+        let a = self.first()?;
         self.take_this(a);
         Some(a)
+    }
+
+    /// The least number that is free.
+    pub fn first(&self) -> Option<u16>
+        ensures found { IsSome result ↔ (0 < free_count self.now) }
+        ensures least { IfSome result (λ a. IsLeastFree self.now a) }
+    {
+        first_set(&self.is_free)
     }
 
     /// Whether a number is free. One that isn't below the count is not.

@@ -1,6 +1,6 @@
 -- What the calls of a table of files do to it and to its store.
 use Rattle.std.specs.Prelude.{◌≡◌, ◌⊎◌, ℕ, suc, ◌+◌, ◌*◌, ◌≤◌, ◌<◌, Bool, true, false, List, slice_set, Option, Some, None, Result, Ok}
-use Rattle.jn_alloc.specs.Free.{FreeNumbers, with_free, with_promised, IsLeastFree}
+use Rattle.jn_alloc.specs.Free.{free_count, FreeNumbers, with_free, with_promised, IsLeastFree}
 use Rattle.jn_base.specs.declared.device.Stopped.{Stopped}
 use Rattle.jn_base.specs.declared.names.FileNo.{FileNo}
 use Rattle.jn_base.specs.declared.names.BlockNo.{BlockNo}
@@ -64,9 +64,9 @@ pub record SetsHead (t : TableView) (v : StoreView) (f : FileNo) (new_head : Hea
   pub place : IsPlaceOf t f slot
   pub puts : PutsHead t v slot (new_head (head_in t.heads slot)) c ok u w
 
--- a head can be taken
-abbrev pub CanTake : FreeNumbers → ℕ → Type 0
-CanTake free count = free.promised < count
+-- who takes a number has no promise of what is left
+abbrev pub MayTake : FreeNumbers → Type 0
+MayTake free = (free_count free ≡ 0) ⊎ (free.promised < free_count free)
 
 -- data page a may become block p of file f: it is held, it has one candidate, and no head names it elsewhere
 pub record MayBecome (t : TableView) (v : StoreView) (f : FileNo) (p a : ℕ) : Type 0 where

@@ -1,8 +1,7 @@
 -- The table of files: which file each head has and where its blocks are, and which data pages are held.
-use Rattle.std.specs.Prelude.{◌≡◌, ◌≢◌, ◌↔◌, ℕ, zero, suc, ◌^◌, ◌<◌, Bool, true, false, List, [], ◌∷◌, length, take, replicate, slice_index, slice_index_or, slice_set, Option, Some, None, is_some, option_map, option_and_then, if◌then◌else◌}
+use Rattle.std.specs.Prelude.{◌≡◌, ◌≢◌, ◌↔◌, ℕ, zero, suc, ◌^◌, ◌<◌, Bool, true, false, List, [], ◌∷◌, length, take, replicate, slice_index, slice_index_or, slice_set, Option, Some, None, is_some, nat_lt, option_map, if◌then◌else◌}
 use Rattle.jn_alloc.specs.Free.{FreeNumbers, count_of, is_free as is_free_number}
 use Rattle.jn_base.specs.declared.names.FileNo.{FileNo}
-use Rattle.jn_base.specs.declared.names.BlockNo.{BlockNo}
 use Rattle.jn_base.specs.declared.names.LockUnit.TheVariants.{File, Block}
 use Rattle.jn_base.specs.Names.{file_eq}
 use Rattle.jn_order.specs.Files.{Files, there}
@@ -100,21 +99,29 @@ abbrev pub addresses : FileNo → List Head → Option (List ℕ)
 addresses f [] = None
 addresses f (h ∷ hs) = if is_of f h then Some (addresses_of h) else addresses f hs
 
+abbrev pub or_nil : Option (List ℕ) → List ℕ
+or_nil None = []
+or_nil (Some xs) = xs
+
 -- what an address leads to: the first 448 bytes of the data page
 abbrev pub behind : (ℕ → List ℕ) → ℕ → Option (List ℕ)
 behind leaves zero = None
 behind leaves (suc a) = Some (take 448 (leaves a))
 
+-- a block's address in its file's head, 0 where there is none
+abbrev pub address_for : List Head → FileNo → ℕ → ℕ
+address_for heads f p = slice_index (or_nil (addresses f heads)) p
+
 -- the files of these heads, where the data pages are these
 abbrev pub files_of : List Head → (ℕ → List ℕ) → Files
 files_of heads leaves (File f) = option_map (λ xs. there) (addresses f heads)
-files_of heads leaves (Block f p) = option_and_then (λ xs. behind leaves (slice_index xs p.0)) (addresses f heads)
+files_of heads leaves (Block f p) = behind leaves (address_for heads f p.0)
 
 abbrev pub exists : List Head → FileNo → Bool
 exists heads f = is_some (addresses f heads)
 
-abbrev pub is_mapped : List Head → FileNo → BlockNo → Bool
-is_mapped heads f p = is_some (files_of heads (λ a. []) (Block f p))
+abbrev pub is_mapped : List Head → FileNo → ℕ → Bool
+is_mapped heads f p = nat_lt 0 (address_for heads f p)
 
 -- ---- heads as they are put
 
@@ -136,3 +143,8 @@ cut_head n (Used f xs) = Used f (cut_addresses n xs)
 abbrev pub with_leaf : ℕ → ℕ → Head → Head
 with_leaf p a Free = Free
 with_leaf p a (Used f xs) = Used f (slice_set xs p (suc a))
+
+-- a file's head with these addresses, or a free one
+abbrev pub head_with : Option FileNo → List ℕ → Head
+head_with None xs = Free
+head_with (Some f) xs = Used f xs
