@@ -7,3 +7,4 @@ pub mod Spelled
 pub mod Putting
 pub mod Setting
 pub mod Leaves
+pub mod Loading

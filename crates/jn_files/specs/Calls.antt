@@ -7,8 +7,9 @@ use Rattle.jn_base.specs.declared.names.BlockNo.{BlockNo}
 use Rattle.jn_base.specs.declared.names.LockUnit.TheVariants.{Block}
 use Rattle.jn_order.specs.Files.{Change, change}
 use Rattle.jn_records.specs.declared.head.Head.{Head}
+use Rattle.jn_records.specs.declared.root.Root.{Root}
 use Rattle.jn_records.specs.Heads.{head_page}
-use Rattle.jn_records.specs.StablePages.{Pages, head_place, data_place, page_count, files_of_pages}
+use Rattle.jn_records.specs.StablePages.{Counts, Pages, head_place, data_place, page_count, files_of_pages}
 use Rattle.jn_store.specs.Store.{StoreView, StoreLater, StorePut, IsSamePage}
 use Rattle.jn_store.specs.Choices.{IsChoice}
 use Rattle.jn_files.specs.Table.{TableView, IsTable, head_in, is_of, exists, is_held, IsUnnamed, files_of, address_of}
@@ -24,6 +25,19 @@ pub record StoreRead (v : StoreView) (gets : ℕ) (w : StoreView) : Type 0 where
   pub calls : w.calls ≤ v.calls + 8 * gets
   pub puts : w.puts ≡ v.puts
   pub same : (j : ℕ) → IsSamePage v w j
+
+-- ---- loading
+
+abbrev pub counts_of : Root → Counts
+counts_of root = record { pool = root.pool; heads = root.heads; leaves = root.leaves }
+
+-- no data page is held, and nothing is promised
+pub record IsLoaded (g : Counts) (t : TableView) : Type 0 where
+  pub counts : t.counts ≡ g
+  pub table : IsTable t
+  pub loose : (a : ℕ) → is_held t a ≡ false
+  pub promised_heads : t.free_heads.promised ≡ 0
+  pub promised_leaves : t.free_leaves.promised ≡ 0
 
 -- ---- heads
 

@@ -1,13 +1,15 @@
 -- How the table keeps its parts.
-use Rattle.std.specs.Prelude.{◌≡◌, ◌≢◌, ◌⊎◌, ℕ, suc, ◌-◌, ◌<◌, Bool, true, false, nat_eq, if◌then◌else◌, List, length, slice_set, slice_index_or}
+use Rattle.std.specs.Prelude.{◌≡◌, ◌≢◌, ◌⊎◌, ℕ, suc, ◌-◌, ◌<◌, Bool, true, false, nat_eq, if◌then◌else◌, List, length, slice_set, slice_index_or, take, ◌↔◌, ◌≢◌}
 use Rattle.jn_alloc.specs.Free.{FreeNumbers, count_of, free_count, is_free as is_free_number, with_free, IsLeastFree}
 use Rattle.jn_base.specs.declared.names.FileNo.{FileNo}
 use Rattle.jn_order.specs.Files.{Change, change}
 use Rattle.jn_records.specs.declared.head.Head.{Head}
-use Rattle.jn_records.specs.StablePages.{data_place}
-use Rattle.jn_store.specs.Store.{StoreView}
+use Rattle.jn_records.specs.StablePages.{Counts as PageCounts, data_place}
+use Rattle.jn_records.specs.Heads.{head_page, has_page}
+use Rattle.jn_store.specs.Store.{StoreView, IsOnly}
 use Rattle.jn_files.specs.Table.{TableView, head_in, is_free, is_of, exists, address_of, files_of, IsHeadOf}
-use Rattle.jn_files.specs.Pages.{IsLeaf, Holds}
+use Rattle.jn_files.specs.Pages.{IsLeaf, Holds, IsLoadable}
+use Rattle.jn_files.specs.Calls.{StoreRead}
 
 abbrev pub view_of : ℕ → List Head → List Bool → FreeNumbers → FreeNumbers → TableView
 view_of pool heads held free_heads free_leaves = record {
@@ -78,3 +80,50 @@ pub record Drops (held : List Bool) (old new : Head) (n : ℕ) (v w : FreeNumber
 abbrev pub freed_one : List Bool → ℕ → ℕ → FreeNumbers → FreeNumbers
 freed_one held was is v =
     if nat_eq was 0 then v else if nat_eq was is then v else if slice_index_or held (was - 1) false then v else with_free v (was - 1) true
+
+-- ---- loading
+
+-- a place has one candidate, the page of this head
+pub record IsHeadAt (v : StoreView) (place leaves : ℕ) (h : Head) : Type 0 where
+  pub only : IsOnly v place (head_page h)
+  pub head : IsHeadOf leaves h
+
+pub record AreFreeHeads (heads : List Head) (free : FreeNumbers) : Type 0 where
+  pub count : count_of free ≡ length heads
+  pub promised : free.promised ≡ 0
+  pub each : (slot : ℕ) → slot < length heads → is_free_number free slot ≡ is_free (head_in heads slot)
+
+-- a data page is free where none of the first heads names it
+pub record IsLeftBy (leaves : ℕ) (heads : List Head) (n a : ℕ) : Type 0 where
+  pub below : a < leaves
+  pub unnamed : (slot p : ℕ) → slot < n → address_of (head_in heads slot) p ≢ suc a
+
+pub record AreFreeLeaves (leaves : ℕ) (heads : List Head) (n : ℕ) (free : FreeNumbers) : Type 0 where
+  pub count : count_of free ≡ leaves
+  pub promised : free.promised ≡ 0
+  pub each : (a : ℕ) → (is_free_number free a ≡ true) ↔ IsLeftBy leaves heads n a
+
+-- what a head names is free, and named once
+pub record MayTakeNamed (h : Head) (v : FreeNumbers) : Type 0 where
+  pub whole : has_page h ≡ true
+  pub promised : v.promised ≡ 0
+  pub free : (a p : ℕ) → address_of h p ≡ suc a → is_free_number v a ≡ true
+  pub once : (a p q : ℕ) → address_of h p ≡ suc a → address_of h q ≡ suc a → p ≡ q
+
+-- what the first blocks of a head have is free no more
+pub record TakesNamed (h : Head) (n : ℕ) (v w : FreeNumbers) : Type 0 where
+  pub count : count_of w ≡ count_of v
+  pub promised : w.promised ≡ v.promised
+  pub taken : (p a : ℕ) → p < n → address_of h p ≡ suc a → is_free_number w a ≡ false
+  pub kept : (a : ℕ) → is_free_number v a ≡ true → ((p : ℕ) → p < n → address_of h p ≢ suc a) → is_free_number w a ≡ true
+  pub only : (a : ℕ) → is_free_number w a ≡ true → is_free_number v a ≡ true
+
+abbrev pub taken_one : ℕ → FreeNumbers → FreeNumbers
+taken_one address v = if nat_eq address 0 then v else with_free v (address - 1) false
+
+-- the first slots are read
+pub record ReadTo (g : PageCounts) (v : StoreView) (n : ℕ) (slots : List Head) (w : StoreView) : Type 0 where
+  pub front : (heads : List Head) → IsLoadable g heads v → slots ≡ take n heads
+  pub read : StoreRead v n w
+  pub power : 0 < n → w.power ≡ true
+  pub stops : w.stops ≡ v.stops

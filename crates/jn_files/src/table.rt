@@ -1,5 +1,5 @@
 //! The table of files.
-ghost use Rattle.std.specs.Prelude.{◌≡◌, ◌≢◌, ◌↔◌, ◌<◌, ◌≤◌, ◌+◌, ◌-◌, ℕ, suc, true, false, length, List, slice_set, slice_index_or, Option, Some, None, Ok, Err, is_ok, is_some, IfOk, IfSome, IfNone, IfErr, IsOk, IsSome, OnOk, OnErr, take};
+ghost use Rattle.std.specs.Prelude.{◌≡◌, ◌^◌, ◌≢◌, ◌↔◌, ◌<◌, ◌≤◌, ◌+◌, ◌-◌, ℕ, suc, true, false, length, List, slice_set, slice_index_or, Option, Some, None, Ok, Err, is_ok, is_some, IfOk, IfSome, IfNone, IfErr, IsOk, IsSome, OnOk, OnErr, take};
 ghost use Rattle.jn_alloc.specs.Free.{free_count, is_free as is_free_number, count_of, IsLeastFree};
 ghost use Rattle.jn_order.specs.Files.{Change, created, removed, cut_from, written};
 ghost use Rattle.jn_records.specs.declared.head.Head.{Head as HeadOf};
@@ -48,6 +48,36 @@ impl Model for FileTable {
 }
 
 impl FileTable {
+    /// The table of the heads that the store holds. None of its data pages is held, and none is promised. This call alone takes
+    /// memory.
+    pub fn load<S: StableStore>(
+        alloc: Global,
+        store: &mut S,
+        root: &Root,
+    ) -> Result<Self, LoadFault>
+        requires counts { (S.view store.old).count ≡ 1 + root.now.pool + root.now.heads + root.now.leaves }
+        requires loadable { (heads : List HeadOf) × pages.IsLoadable (calls.counts_of root.now) heads (S.view store.old) }
+        ensures loaded { IfOk result (λ t. calls.IsLoaded (calls.counts_of root.now) t) }
+        ensures heads { (heads : List HeadOf) → pages.IsLoadable (calls.counts_of root.now) heads (S.view store.old) → IfOk result (λ t. t.heads ≡ heads) }
+        ensures holds { IfOk result (λ t. pages.Holds t (S.view store.new)) }
+        ensures read { calls.StoreRead (S.view store.old) root.now.heads (S.view store.new) }
+        ensures served { IsOk result → 0 < root.now.heads → IsServed (S.view store.old) (S.view store.new) }
+        ensures stop { result ≡ Err LoadStopped → IsStop (S.view store.old) (S.view store.new) }
+        ensures calm { IsCalm (S.view store.old) → result ≢ Err LoadStopped }
+    {
+        let slots = read_slots(alloc, store, root)?;
+        let free_heads = free_heads(alloc, &slots)?;
+        let free_leaves = free_leaves(alloc, root.leaves, &slots)?;
+        let held = none_held(alloc, root.leaves)?;
+        Ok(FileTable {
+            pool: root.pool,
+            slots,
+            held,
+            free_heads,
+            free_leaves,
+        })
+    }
+
     /// Whether a file is there.
     pub fn exists(&self, f: FileNo) -> bool
         ensures { result ≡ table.exists self.now.heads f }
@@ -297,6 +327,114 @@ impl FileTable {
     {
         1 + u32::from(self.pool) + self.slots.len() as u32 + u32::from(a)
     }
+}
+
+/// The heads of a store.
+fn read_slots<S: StableStore>(
+    alloc: Global,
+    store: &mut S,
+    root: &Root,
+) -> Result<Vec<Slot>, LoadFault>
+    requires counts { (S.view store.old).count ≡ 1 + root.now.pool + root.now.heads + root.now.leaves }
+    requires loadable { (heads : List HeadOf) × pages.IsLoadable (calls.counts_of root.now) heads (S.view store.old) }
+    ensures heads { (heads : List HeadOf) → pages.IsLoadable (calls.counts_of root.now) heads (S.view store.old) → IfOk result (λ slots. slots.items ≡ heads) }
+    ensures few { root.now.heads < 2 ^ 16 }
+    ensures read { calls.StoreRead (S.view store.old) root.now.heads (S.view store.new) }
+    ensures served { IsOk result → 0 < root.now.heads → IsServed (S.view store.old) (S.view store.new) }
+    ensures stop { result ≡ Err LoadStopped → IsStop (S.view store.old) (S.view store.new) }
+    ensures calm { IsCalm (S.view store.old) → result ≢ Err LoadStopped }
+{
+    let mut slots = Vec::with_capacity(alloc, root.heads as usize)?;
+    for slot in 0..root.heads {
+        let head = read_slot(
+            alloc,
+            store,
+            1 + u32::from(root.pool) + u32::from(slot),
+            root.leaves,
+        )?;
+        slots.push(head)?;
+    }
+    Ok(slots)
+}
+
+/// The head whose page stands clean at a place.
+fn read_slot<S: StableStore>(
+    alloc: Global,
+    store: &mut S,
+    place: u32,
+    leaves: u16,
+) -> Result<Slot, LoadFault>
+    requires there { place < (S.view store.old).count }
+    requires readable { (h : HeadOf) × inside.IsHeadAt (S.view store.old) place leaves h }
+    ensures found { (h : HeadOf) → inside.IsHeadAt (S.view store.old) place leaves h → IfOk result (λ slot. slot ≡ h) }
+    ensures read { calls.StoreRead (S.view store.old) 1 (S.view store.new) }
+    ensures served { IsOk result → IsServed (S.view store.old) (S.view store.new) }
+    ensures stop { result ≡ Err LoadStopped → IsStop (S.view store.old) (S.view store.new) }
+    ensures calm { IsCalm (S.view store.old) → result ≢ Err LoadStopped }
+{
+    let page = store.get(place)?;
+    let Some(head) = Head::decode(alloc, &page, leaves)? else {
+        unreachable!()
+    };
+    Ok(Slot::of_head(&head))
+}
+
+/// The list of the heads that no file has.
+fn free_heads(alloc: Global, slots: &[Slot]) -> Result<FreeList, AllocError>
+    requires { length slots.now ≤ 65535 }
+    ensures { IfOk result (λ free. inside.AreFreeHeads slots.now free) }
+{
+    let mut free = FreeList::new(alloc, slots.len() as u16, &[])?;
+    for (slot, head) in slots.iter().enumerate() {
+        if !head.is_free() {
+            free.take_this(slot as u16);
+        }
+    }
+    Ok(free)
+}
+
+/// The list of the data pages that no head names.
+fn free_leaves(alloc: Global, leaves: u16, slots: &[Slot]) -> Result<FreeList, AllocError>
+    requires { table.AreHeads leaves slots.now }
+    ensures { IfOk result (λ free. inside.AreFreeLeaves leaves slots.now (length slots.now) free) }
+{
+    let mut free = FreeList::new(alloc, leaves, &[])?;
+    for head in slots {
+        take_named(&mut free, head);
+    }
+    Ok(free)
+}
+
+/// Takes the data pages that a head names.
+fn take_named(free: &mut FreeList, head: &Slot)
+    requires { inside.MayTakeNamed head.now free.old }
+    ensures { inside.TakesNamed head.now 120 free.old free.new }
+{
+    for p in 0..BLOCKS {
+        take_one(free, head.address(p));
+    }
+}
+
+fn take_one(free: &mut FreeList, address: u16)
+    requires promised { free.old.promised ≡ 0 }
+    requires free { (a : ℕ) → address ≡ suc a → is_free_number free.old a ≡ true }
+    ensures { free.new ≡ inside.taken_one address free.old }
+{
+    if address > 0 {
+        free.take_this(address - 1);
+    }
+}
+
+fn none_held(alloc: Global, count: u16) -> Result<Vec<bool>, AllocError>
+    ensures length { IfOk result (λ flags. length flags.items ≡ count) }
+    ensures few { count < 2 ^ 16 }
+    ensures none { IfOk result (λ flags. (a : ℕ) → slice_index_or flags.items a false ≡ false) }
+{
+    let mut flags = Vec::with_capacity(alloc, count as usize)?;
+    for _ in 0..count {
+        flags.push(false)?;
+    }
+    Ok(flags)
 }
 
 /// The slot of a file's head.
