@@ -59,10 +59,36 @@ impl FreeList {
         ensures fewer { IfSome result (λ _. free_count self.new + 1 ≡ free_count self.old) }
         ensures none { IfNone result (self.new ≡ self.old) }
     {
-        let a = first_set(&self.is_free)?;
+        let a = self.first()?;
+        self.take_this(a);
+        Some(a)
+    }
+
+    /// The least number that is free.
+    pub fn first(&self) -> Option<u16>
+        ensures found { IsSome result ↔ (0 < free_count self.now) }
+        ensures least { IfSome result (λ a. IsLeastFree self.now a) }
+    {
+        first_set(&self.is_free)
+    }
+
+    /// Whether a number is free. One that isn't below the count is not.
+    pub fn is_free(&self, a: u16) -> bool
+        ensures { result ≡ is_free self.now a }
+    {
+        let a = a as usize;
+        a < self.is_free.len() && self.is_free[a]
+    }
+
+    /// Takes this number, which is free. None of those promised is taken.
+    pub fn take_this(&mut self, a: u16)
+        requires free { is_free self.old a ≡ true }
+        requires unpromised { (self.old.promised ≡ 0) ⊎ (self.old.promised < free_count self.old) }
+        ensures taken { self.new ≡ with_free self.old a false }
+        ensures fewer { free_count self.new + 1 ≡ free_count self.old }
+    {
         self.is_free[a as usize] = false;
         self.free -= 1;
-        Some(a)
     }
 
     /// Gives a number back.
@@ -180,6 +206,10 @@ mod tests {
         assert_eq!(rt; list.take(), Some(1));
         assert_eq!(rt; (list.free(), list.promised()), (2, 2));
         list.release(2);
+        assert_eq!(rt;
+            (list.is_free(4), list.is_free(3), list.is_free(9)),
+            (true, false, false)
+        );
         for expected in [Some(2), Some(4), None] {
             assert!(rt; list.promised() == 0);
             assert_eq!(rt; list.take(), expected);
@@ -194,6 +224,9 @@ mod tests {
         let a = list.take().ok_or("none is free")?;
         list.give(a);
         assert_eq!(rt; (a, list.free()), (0, 2));
+        assert!(rt; list.is_free(1) && list.promised() == 0);
+        list.take_this(1);
+        assert_eq!(rt; (list.is_free(1), list.free()), (false, 1));
         Ok(())
     }
 }

@@ -96,8 +96,9 @@ fn all_within(addresses: &[u16], leaves: u16) -> bool
     addresses.iter().all(|a| *a <= leaves)
 }
 
+/// The page of a file's head with these addresses. It takes no memory.
 #[tactic(auto, unfolding(crate::specs::Heads::head_page))]
-fn used_page(file: FileNo, addresses: &[u16]) -> Page
+pub fn used_page(file: FileNo, addresses: &[u16]) -> Page
     requires { length addresses.now ≡ 120 }
     ensures { result ≡ head_page (Used file addresses.now) }
 {

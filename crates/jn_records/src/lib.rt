@@ -35,7 +35,7 @@ mod work;
 
 pub use distinct::no_page_is_two_values;
 pub use flag::Flag;
-pub use head::{BLOCKS, Head};
+pub use head::{BLOCKS, Head, used_page};
 pub use intention::{Intention, StoredIntention, What};
 pub use list::ListOf;
 pub use net_laws::{

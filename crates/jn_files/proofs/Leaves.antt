@@ -1,0 +1,163 @@
+-- Data pages: one is filled, read, or let go.
+use Rattle.std.proofs.Common.{◌≡◌, ◌≢◌, inl, inr, ⊎_elim, ◌<◌, ◌↔◌, ◌-◌, ℕ, suc, Bool, true, false, List, length, drop, replicate, Some, None, Result, Ok, refl, sym, ap, subst, ◌∙◌, arith}
+use Rattle.std.proofs.lemmas.Bool.{cases_eq, false_from_ne_true}
+use Rattle.std.proofs.lemmas.List.{drop_at, get_or-set_same, get_or-set_other, length-set}
+use Rattle.std.specs.Prelude.{slice_set, slice_index_or, take}
+use Rattle.jn_alloc.specs.Free.{FreeNumbers, count_of, is_free as is_free_number, with_free}
+use Rattle.jn_base.specs.declared.device.Stopped.{Stopped}
+use Rattle.jn_base.specs.declared.names.FileNo.{FileNo}
+use Rattle.jn_base.specs.declared.names.BlockNo.{BlockNo}
+use Rattle.jn_base.specs.declared.names.LockUnit.TheVariants.{Block}
+use Rattle.jn_order.specs.Files.{Files}
+use Rattle.jn_records.specs.declared.head.Head.{Head}
+use Rattle.jn_records.specs.Heads.{head_page}
+use Rattle.jn_records.specs.StablePages.{Pages, head_place, data_place, files_of_pages}
+use Rattle.jn_store.specs.Store.{StoreView, Candidate, StoreGot, StorePut}
+use Rattle.jn_store.specs.Choices.{IsChoice}
+use Rattle.jn_store.proofs.Laws.{later_refl, same_refl}
+use Rattle.jn_files.specs.Table.{TableView, head_in, address_of, address_for, behind, IsUnnamed, IsFreeLeaf, IsTable, AreHeads}
+use Rattle.jn_files.specs.Pages.{leaves_in, leaf_page, IsLeaf, Holds, files_in}
+use Rattle.jn_files.specs.Calls.{Fits, StoreRead, BlockGot, Fills}
+use Rattle.jn_files.specs.Inside.{view_of, IsNamed}
+use Rattle.jn_files.proofs.Lookup.{named_by}
+use Rattle.jn_files.proofs.Putting.{files_said, same_leaves, says_choice, leaf_choice, files_first, named_below, same_leaf, same_only}
+use Rattle.jn_files.proofs.Setting.{set_below}
+
+-- ---- filling
+
+module _ (t : TableView) (v : StoreView) (a : ℕ) (block : List ℕ) (ok : Bool) (w : StoreView) (put : StorePut v (data_place t.counts a) (leaf_page block) ok w)
+    (is : IsTable t) (below : a < t.counts.leaves) (unnamed : IsUnnamed t.heads a) (fits : Fits t v) where
+  kept_leaf : (b : ℕ) → b < t.counts.leaves → b ≢ a → IsLeaf v (data_place t.counts b) → IsLeaf w (data_place t.counts b)
+  kept_leaf b lt ne leaf = same_leaf v w (data_place t.counts b) (put.others (data_place t.counts b) (omega arith) (λ e. ne (omega (arith, e)))) leaf
+
+  not_a : (slot p b : ℕ) → address_of (head_in t.heads slot) p ≡ suc b → b ≢ a
+  not_a slot p b e same = unnamed slot p (e ∙ ap suc same)
+
+  fill_holds : Holds t v → Holds t w
+  fill_holds holds = record {
+    stored = λ j lt. same_only v w (head_place t.counts j) (head_page (head_in t.heads j)) (put.others (head_place t.counts j) (let s = is.slots in omega arith) (λ e. let s = is.slots in omega (arith, e))) (holds.stored j lt);
+    leaves = λ j p b e. kept_leaf b (named_below t.counts t.heads is.heads j p b e) (not_a j p b e) (holds.leaves j p b e);
+  }
+
+  fill_files : Holds t v → (d : Pages) → IsChoice w d → files_of_pages t.counts d ≡ files_in t.counts v
+  fill_files holds d choice =
+      let after = fill_holds holds in
+      let count = put.later.count ∙ fits in
+      files_said t.counts d t.heads is.slots is.few_leaves is.heads (says_choice t.counts t.heads w is.slots is.few_leaves is.heads count after d choice)
+      ∙ same_leaves t.heads (leaves_in t.counts d) (leaves_in t.counts v.first) (λ j p b e.
+      leaf_choice t.counts t.heads w is.slots is.few_leaves is.heads count after d b choice (named_below t.counts t.heads is.heads j p b e) (after.leaves j p b e)
+      ∙ (put.others (data_place t.counts b) (let lt = named_below t.counts t.heads is.heads j p b e in omega arith) (λ x. not_a j p b e (omega (arith, x)))).first)
+      ∙ sym (files_first t.counts t.heads v is.slots is.few_leaves is.heads fits holds)
+
+pub fills : (t : TableView) (v : StoreView) (a : ℕ) (block : List ℕ) (ok : Bool) (w : StoreView) (at : ℕ) (page : List ℕ) → at ≡ data_place t.counts a → page ≡ leaf_page block → StorePut v at page ok w
+    → IsTable t → a < t.counts.leaves → IsUnnamed t.heads a → Fits t v → length block ≡ 448 → Fills t v a block ok w
+fills t v a block ok w at page at_is page_is raw is below unnamed fits long =
+    let put : StorePut v (data_place t.counts a) (leaf_page block) ok w = subst (λ (k : ℕ). StorePut v k (leaf_page block) ok w) at_is (subst (λ (x : List ℕ). StorePut v at x ok w) page_is raw) in
+    record {
+      put = put;
+      leaf = λ e. let only = put.done e in record { clean = only.first ∙ sym only.second; tail = ap (drop 448) only.first ∙ drop_at block (replicate 64 0) 448 long };
+      holds = λ holds. fill_holds t v a block ok w put is below unnamed fits holds;
+      files = λ holds d choice. fill_files t v a block ok w put is below unnamed fits holds d choice;
+    }
+
+-- ---- reading
+
+read_none : (v : StoreView) → StoreRead v 1 v
+read_none v = record { later = later_refl v; calls = omega arith; puts = refl; same = λ j. same_refl v j }
+
+pub read_one : (v : StoreView) (i : ℕ) (answer : Result (List ℕ) Stopped) (w : StoreView) → StoreGot v i answer w → StoreRead v 1 w
+read_one v i answer w got = record { later = got.later; calls = let n = got.calls in omega arith; puts = got.puts; same = got.same }
+
+module _ (t : TableView) (v : StoreView) (is : IsTable t) (fits : Fits t v) (holds : Holds t v) (f : FileNo) (p : BlockNo) where
+  block_is : files_in t.counts v (Block f p) ≡ behind (leaves_in t.counts v.first) (address_for t.heads f p.0)
+  block_is = ap (λ (files : Files). files (Block f p)) (files_first t.counts t.heads v is.slots is.few_leaves is.heads fits holds)
+
+  pub got_none : (x : ℕ) → x ≡ address_for t.heads f p.0 → x ≡ 0 → BlockGot t v f p (Ok None) v
+  got_none x e zero_is = record {
+    read = read_none v;
+    found = λ block same. let none : None ≡ block = cc same in sym none ∙ sym (block_is ∙ ap (behind (leaves_in t.counts v.first)) (sym e ∙ zero_is));
+  }
+
+  named : (x : ℕ) → x ≡ address_for t.heads f p.0 → x ≢ 0 → (slot : ℕ) × (address_of (head_in t.heads slot) p.0 ≡ suc (x - 1))
+  named x e ne = named_by f t.heads p.0 (x - 1) (sym e ∙ (let s : x ≡ suc (x - 1) = omega arith in s))
+
+  pub leaf_place_below : (x : ℕ) → x ≡ address_for t.heads f p.0 → x ≢ 0 → data_place t.counts (x - 1) < v.count
+  leaf_place_below x e ne = let n = named x e ne in let lt = named_below t.counts t.heads is.heads n.0 p.0 (x - 1) n.1 in omega arith
+
+  pub got_some : (x i : ℕ) (page block : List ℕ) (w : StoreView) → x ≡ address_for t.heads f p.0 → x ≢ 0 → i ≡ data_place t.counts (x - 1) → StoreGot v i (Ok page) w → block ≡ take 448 page → BlockGot t v f p (Ok (Some block)) w
+  got_some x i page block w e ne place got block_of =
+      let n = named x e ne in
+      let leaf = holds.leaves n.0 p.0 (x - 1) n.1 in
+      let here : Candidate v (data_place t.counts (x - 1)) page = subst (λ (k : ℕ). Candidate v k page) place (got.found page refl) in
+      let page_is : page ≡ v.first (data_place t.counts (x - 1)) = ⊎_elim (λ a. a) (λ b. b ∙ sym leaf.clean) here in
+      record {
+        read = read_one v i (Ok page) w got;
+        found = λ b same. let some : Some block ≡ b = cc same in
+            sym some ∙ ap (λ (l : List ℕ). Some l) (block_of ∙ ap (take 448) page_is)
+            ∙ sym (block_is ∙ ap (behind (leaves_in t.counts v.first)) (sym e ∙ (let s : x ≡ suc (x - 1) = omega arith in s)));
+      }
+
+-- ---- a data page that is held no more
+
+module _ (pool : ℕ) (heads : List Head) (held : List Bool) (fh fl fl2 : FreeNumbers) (a : ℕ) (is : IsTable (view_of pool heads held fh fl)) (was : slice_index_or held a false ≡ true)
+    (count : count_of fl2 ≡ count_of fl) (others : (b : ℕ) → b ≢ a → is_free_number fl2 b ≡ is_free_number fl b) (here : (is_free_number fl2 a ≡ true) ↔ IsUnnamed heads a) where
+  below : a < length held
+  below = set_below held a was
+
+  loose_other : (b : ℕ) → b ≢ a → slice_index_or (slice_set held a false) b false ≡ slice_index_or held b false
+  loose_other b ne = get_or-set_other held a b false false ne
+
+  loose_here : slice_index_or (slice_set held a false) a false ≡ false
+  loose_here = get_or-set_same held a false false below
+
+  free_to : (b : ℕ) → is_free_number fl2 b ≡ true → IsFreeLeaf (view_of pool heads (slice_set held a false) fh fl2) b
+  free_to b free = elim (cases_eq b a) [
+    | inl e ↦ record {
+      below = let n = length-set held a false in let lt = below in omega arith;
+      loose = subst (λ (k : ℕ). slice_index_or (slice_set held a false) k false ≡ false) (sym e) loose_here;
+      unnamed = subst (λ (k : ℕ). IsUnnamed heads k) (sym e) (here.0 (subst (λ (k : ℕ). is_free_number fl2 k ≡ true) e free));
+    }
+    | inr ne ↦ let old = (is.free_leaves b).0 (sym (others b ne) ∙ free) in record {
+      below = let n = length-set held a false in let lt = old.below in omega arith;
+      loose = loose_other b ne ∙ old.loose;
+      unnamed = old.unnamed;
+    }
+  ]
+
+  to_free : (b : ℕ) → IsFreeLeaf (view_of pool heads (slice_set held a false) fh fl2) b → is_free_number fl2 b ≡ true
+  to_free b leaf = elim (cases_eq b a) [
+    | inl e ↦ subst (λ (k : ℕ). is_free_number fl2 k ≡ true) (sym e) (here.1 (subst (λ (k : ℕ). IsUnnamed heads k) e leaf.unnamed))
+    | inr ne ↦ others b ne ∙ (is.free_leaves b).1 (record { below = let n = length-set held a false in let lt = leaf.below in omega arith; loose = sym (loose_other b ne) ∙ leaf.loose; unnamed = leaf.unnamed })
+  ]
+
+  pub let_go_table : IsTable (view_of pool heads (slice_set held a false) fh fl2)
+  let_go_table =
+      let n : length (slice_set held a false) ≡ length held = length-set held a false in
+      record {
+        heads = subst (λ (k : ℕ). AreHeads k heads) (sym n) is.heads;
+        slots = refl;
+        leaves = refl;
+        few_heads = is.few_heads;
+        few_leaves = let few = is.few_leaves in omega arith;
+        head_count = is.head_count;
+        free_heads = is.free_heads;
+        leaf_count = count ∙ is.leaf_count ∙ sym n;
+        free_leaves = λ b. (free_to b, to_free b);
+      }
+
+pub named_used : (pool : ℕ) (heads : List Head) (held : List Bool) (fh fl : FreeNumbers) (a : ℕ) → IsTable (view_of pool heads held fh fl) → slice_index_or held a false ≡ true → is_free_number fl a ≡ false
+named_used pool heads held fh fl a is was = false_from_ne_true (is_free_number fl a) (λ free. let loose : slice_index_or held a false ≡ false = ((is.free_leaves a).0 free).loose in cc (loose, was))
+
+-- it stays named
+pub let_go_named : (pool : ℕ) (heads : List Head) (held : List Bool) (fh fl : FreeNumbers) (a : ℕ) → IsTable (view_of pool heads held fh fl) → slice_index_or held a false ≡ true → IsNamed heads a
+    → IsTable (view_of pool heads (slice_set held a false) fh fl)
+let_go_named pool heads held fh fl a is was named =
+    let_go_table pool heads held fh fl fl a is was refl (λ b ne. refl)
+    (λ free. absurd (let used = named_used pool heads held fh fl a is was in cc (used, free)), λ unnamed. absurd (unnamed named.slot named.block named.here))
+
+-- or it is free
+pub let_go_free : (pool : ℕ) (heads : List Head) (held : List Bool) (fh fl : FreeNumbers) (a : ℕ) → IsTable (view_of pool heads held fh fl) → slice_index_or held a false ≡ true → IsUnnamed heads a
+    → IsTable (view_of pool heads (slice_set held a false) fh (with_free fl a true))
+let_go_free pool heads held fh fl a is was unnamed =
+    let_go_table pool heads held fh fl (with_free fl a true) a is was (length-set fl.flags a true) (λ b ne. get_or-set_other fl.flags a b true false ne)
+    (λ free. unnamed, λ u. get_or-set_same fl.flags a true false (let lt = set_below held a was in let n = is.leaf_count in omega arith))

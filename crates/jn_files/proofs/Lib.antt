@@ -1,0 +1,10 @@
+pub mod Cutting
+pub mod Freeing
+pub mod Standing
+pub mod Lookup
+pub mod Changing
+pub mod Spelled
+pub mod Putting
+pub mod Setting
+pub mod Leaves
+pub mod Loading

@@ -1,0 +1,9 @@
+use Rattle.std.proofs.Common.{◌≡◌, ℕ, false, length}
+use Rattle.std.specs.Prelude.{slice_index_or}
+use Rattle.jn_files.proofs.table.none_held.Given as goal
+
+abbrev pub invariant-loop : goal.invariant-loop
+invariant-loop l = record {
+  so_many : length l.flags.items ≡ l.counter;
+  none_set : (a : ℕ) → slice_index_or l.flags.items a false ≡ false;
+}

@@ -1,0 +1,5 @@
+use Rattle.jn_files.specs.Inside.{TakesNamed}
+use Rattle.jn_files.proofs.table.take_named.Given as goal
+
+abbrev pub invariant-loop-p : goal.invariant-loop-p
+invariant-loop-p l = TakesNamed l.head l.p l.initial.free l.free

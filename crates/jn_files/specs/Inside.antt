@@ -1,0 +1,129 @@
+-- How the table keeps its parts.
+use Rattle.std.specs.Prelude.{◌≡◌, ◌≢◌, ◌⊎◌, ℕ, suc, ◌-◌, ◌<◌, Bool, true, false, nat_eq, if◌then◌else◌, List, length, slice_set, slice_index_or, take, ◌↔◌, ◌≢◌}
+use Rattle.jn_alloc.specs.Free.{FreeNumbers, count_of, free_count, is_free as is_free_number, with_free, IsLeastFree}
+use Rattle.jn_base.specs.declared.names.FileNo.{FileNo}
+use Rattle.jn_order.specs.Files.{Change, change}
+use Rattle.jn_records.specs.declared.head.Head.{Head}
+use Rattle.jn_records.specs.StablePages.{Counts as PageCounts, data_place}
+use Rattle.jn_records.specs.Heads.{head_page, has_page}
+use Rattle.jn_store.specs.Store.{StoreView, IsOnly}
+use Rattle.jn_files.specs.Table.{TableView, head_in, is_free, is_of, exists, address_of, files_of, IsHeadOf}
+use Rattle.jn_files.specs.Pages.{IsLeaf, Holds, IsLoadable}
+use Rattle.jn_files.specs.Calls.{StoreRead}
+
+abbrev pub view_of : ℕ → List Head → List Bool → FreeNumbers → FreeNumbers → TableView
+view_of pool heads held free_heads free_leaves = record {
+  counts = record { pool = pool; heads = length heads; leaves = length held };
+  heads = heads;
+  held = held;
+  free_heads = free_heads;
+  free_leaves = free_leaves;
+}
+
+-- a head may take the place of the slot's
+pub record MayStand (t : TableView) (slot : ℕ) (h : Head) : Type 0 where
+  pub below : slot < t.counts.heads
+  pub head : IsHeadOf t.counts.leaves h
+  pub file : (f : FileNo) (j : ℕ) → is_of f h ≡ true → is_of f (head_in t.heads j) ≡ true → j ≡ slot
+  pub elsewhere : (a p j q : ℕ) → address_of h p ≡ suc a → address_of (head_in t.heads j) q ≡ suc a → (j ≡ slot) × (q ≡ p)
+  pub once : (a p q : ℕ) → address_of h p ≡ suc a → address_of h q ≡ suc a → p ≡ q
+  pub used : (a p : ℕ) → address_of h p ≡ suc a → is_free_number t.free_leaves a ≡ false
+  pub room : is_free (head_in t.heads slot) ≡ true → is_free h ≡ false → t.free_heads.promised < free_count t.free_heads
+
+-- which is this change of the files
+abbrev pub IsChange : List Head → ℕ → Head → ((ℕ → List ℕ) → Change) → Type 0
+IsChange heads slot h c = (leaves : ℕ → List ℕ) → files_of (slice_set heads slot h) leaves ≡ change (c leaves) (files_of heads leaves)
+
+-- what it names has one candidate, where that holds of what the table names
+abbrev pub AreLeaves : TableView → StoreView → Head → Type 0
+AreLeaves t v h = Holds t v → (p a : ℕ) → address_of h p ≡ suc a → IsLeaf v (data_place t.counts a)
+
+abbrev pub IsPlace : List Head → FreeNumbers → FileNo → ℕ → Type 0
+IsPlace heads free_heads f slot = (is_of f (head_in heads slot) ≡ true) ⊎ ((exists heads f ≡ false) × IsLeastFree free_heads slot)
+
+pub record IsNamed (heads : List Head) (a : ℕ) : Type 0 where
+  pub slot : ℕ
+  pub block : ℕ
+  pub here : address_of (head_in heads slot) block ≡ suc a
+
+-- one number is free or isn't
+pub record Counts (v : FreeNumbers) (slot : ℕ) (is : Bool) (w : FreeNumbers) : Type 0 where
+  pub flags : w.flags ≡ slice_set v.flags slot is
+  pub promised : w.promised ≡ v.promised
+
+-- what a head names isn't free, is there, and is named once
+pub record MayDrop (held : List Bool) (old : Head) (v : FreeNumbers) : Type 0 where
+  pub count : count_of v ≡ length held
+  pub below : (a p : ℕ) → address_of old p ≡ suc a → a < length held
+  pub used : (a p : ℕ) → address_of old p ≡ suc a → is_free_number v a ≡ false
+  pub once : (a p q : ℕ) → address_of old p ≡ suc a → address_of old q ≡ suc a → p ≡ q
+
+-- block q's data page is a no more
+pub record IsDropped (held : List Bool) (old new : Head) (q a : ℕ) : Type 0 where
+  pub was : address_of old q ≡ suc a
+  pub changed : address_of new q ≢ suc a
+  pub loose : slice_index_or held a false ≡ false
+
+pub record DropsAmong (held : List Bool) (old new : Head) (n a : ℕ) : Type 0 where
+  pub block : ℕ
+  pub below : block < n
+  pub dropped : IsDropped held old new block a
+
+-- what the first blocks lead to no more is free, unless it is held
+pub record Drops (held : List Bool) (old new : Head) (n : ℕ) (v w : FreeNumbers) : Type 0 where
+  pub count : count_of w ≡ count_of v
+  pub promised : w.promised ≡ v.promised
+  pub only : (a : ℕ) → is_free_number w a ≡ true → (is_free_number v a ≡ true) ⊎ DropsAmong held old new n a
+  pub kept : (a : ℕ) → is_free_number v a ≡ true → is_free_number w a ≡ true
+  pub freed : (q a : ℕ) → q < n → IsDropped held old new q a → is_free_number w a ≡ true
+
+abbrev pub freed_one : List Bool → ℕ → ℕ → FreeNumbers → FreeNumbers
+freed_one held was is v =
+    if nat_eq was 0 then v else if nat_eq was is then v else if slice_index_or held (was - 1) false then v else with_free v (was - 1) true
+
+-- ---- loading
+
+-- a place has one candidate, the page of this head
+pub record IsHeadAt (v : StoreView) (place leaves : ℕ) (h : Head) : Type 0 where
+  pub only : IsOnly v place (head_page h)
+  pub head : IsHeadOf leaves h
+
+pub record AreFreeHeads (heads : List Head) (free : FreeNumbers) : Type 0 where
+  pub count : count_of free ≡ length heads
+  pub promised : free.promised ≡ 0
+  pub each : (slot : ℕ) → slot < length heads → is_free_number free slot ≡ is_free (head_in heads slot)
+
+-- a data page is free where none of the first heads names it
+pub record IsLeftBy (leaves : ℕ) (heads : List Head) (n a : ℕ) : Type 0 where
+  pub below : a < leaves
+  pub unnamed : (slot p : ℕ) → slot < n → address_of (head_in heads slot) p ≢ suc a
+
+pub record AreFreeLeaves (leaves : ℕ) (heads : List Head) (n : ℕ) (free : FreeNumbers) : Type 0 where
+  pub count : count_of free ≡ leaves
+  pub promised : free.promised ≡ 0
+  pub each : (a : ℕ) → (is_free_number free a ≡ true) ↔ IsLeftBy leaves heads n a
+
+-- what a head names is free, and named once
+pub record MayTakeNamed (h : Head) (v : FreeNumbers) : Type 0 where
+  pub whole : has_page h ≡ true
+  pub promised : v.promised ≡ 0
+  pub free : (a p : ℕ) → address_of h p ≡ suc a → is_free_number v a ≡ true
+  pub once : (a p q : ℕ) → address_of h p ≡ suc a → address_of h q ≡ suc a → p ≡ q
+
+-- what the first blocks of a head have is free no more
+pub record TakesNamed (h : Head) (n : ℕ) (v w : FreeNumbers) : Type 0 where
+  pub count : count_of w ≡ count_of v
+  pub promised : w.promised ≡ v.promised
+  pub taken : (p a : ℕ) → p < n → address_of h p ≡ suc a → is_free_number w a ≡ false
+  pub kept : (a : ℕ) → is_free_number v a ≡ true → ((p : ℕ) → p < n → address_of h p ≢ suc a) → is_free_number w a ≡ true
+  pub only : (a : ℕ) → is_free_number w a ≡ true → is_free_number v a ≡ true
+
+abbrev pub taken_one : ℕ → FreeNumbers → FreeNumbers
+taken_one address v = if nat_eq address 0 then v else with_free v (address - 1) false
+
+-- the first slots are read
+pub record ReadTo (g : PageCounts) (v : StoreView) (n : ℕ) (slots : List Head) (w : StoreView) : Type 0 where
+  pub front : (heads : List Head) → IsLoadable g heads v → slots ≡ take n heads
+  pub read : StoreRead v n w
+  pub power : 0 < n → w.power ≡ true
+  pub stops : w.stops ≡ v.stops

@@ -1,0 +1,4 @@
+pub mod Table
+pub mod Pages
+pub mod Calls
+pub mod Inside

@@ -1,0 +1,552 @@
+//! The table of files.
+ghost use Rattle.std.specs.Prelude.{◌≡◌, ◌^◌, ◌≢◌, ◌↔◌, ◌<◌, ◌≤◌, ◌+◌, ◌-◌, ℕ, suc, true, false, length, List, slice_set, slice_index_or, Option, Some, None, Ok, Err, is_ok, is_some, IfOk, IfSome, IfNone, IfErr, IsOk, IsSome, OnOk, OnErr, take};
+ghost use Rattle.jn_alloc.specs.Free.{free_count, is_free as is_free_number, count_of, IsLeastFree};
+ghost use Rattle.jn_order.specs.Files.{Change, created, removed, cut_from, written};
+ghost use Rattle.jn_records.specs.declared.head.Head.{Head as HeadOf};
+ghost use Rattle.jn_records.specs.declared.head.Head.TheVariants.{Free};
+ghost use Rattle.jn_records.specs.Heads.{has_page};
+ghost use Rattle.jn_records.specs.StablePages.{head_place, data_place};
+ghost use Rattle.jn_store.specs.Store.{IsCalm, IsServed, IsStop, StorePut};
+ghost use Rattle.jn_files.specs.declared.fault.LoadFault.TheVariants.{Stopped as LoadStopped};
+ghost use Rattle.jn_files.specs.Table as table;
+ghost use Rattle.jn_files.specs.Pages as pages;
+ghost use Rattle.jn_files.specs.Calls as calls;
+ghost use Rattle.jn_files.specs.Inside as inside;
+
+use crate::fault::LoadFault;
+use crate::slot::{BLOCKS, Slot};
+use jn_alloc::FreeList;
+use jn_base::{Block, BlockNo, FileNo, Page, PageWriter, Short, Stopped};
+use jn_records::{Head, Root};
+use jn_store::StableStore;
+use std::alloc::{AllocError, Global};
+use std::marker::Model;
+use std::mem;
+
+/// The heads of a store, and which of its data pages are held.
+///
+/// The store isn't kept: the calls that need it are passed it, and it is that from which the table was loaded.
+#[derive(Drop)]
+pub struct FileTable {
+    pool: u16,
+    slots: Vec<Slot>,
+    held: Vec<bool>,
+    free_heads: FreeList,
+    free_leaves: FreeList,
+}
+
+impl Model for FileTable {
+    ghost use Rattle.std.specs.Prelude.{vec_len};
+    ghost use Rattle.jn_files.specs.Table.{TableView, IsTable};
+    ghost use Rattle.jn_files.specs.Inside.{view_of};
+
+    ghost Value = { TableView };
+
+    ghost view = { λ t. view_of t.pool t.slots.items t.held.items t.free_heads t.free_leaves };
+
+    ghost invariant = { λ t. IsTable (view_of t.pool t.slots.items t.held.items t.free_heads t.free_leaves) };
+}
+
+impl FileTable {
+    /// The table of the heads that the store holds. None of its data pages is held, and none is promised. This call alone takes
+    /// memory.
+    pub fn load<S: StableStore>(
+        alloc: Global,
+        store: &mut S,
+        root: &Root,
+    ) -> Result<Self, LoadFault>
+        requires counts { (S.view store.old).count ≡ 1 + root.now.pool + root.now.heads + root.now.leaves }
+        requires loadable { (heads : List HeadOf) × pages.IsLoadable (calls.counts_of root.now) heads (S.view store.old) }
+        ensures loaded { IfOk result (λ t. calls.IsLoaded (calls.counts_of root.now) t) }
+        ensures heads { (heads : List HeadOf) → pages.IsLoadable (calls.counts_of root.now) heads (S.view store.old) → IfOk result (λ t. t.heads ≡ heads) }
+        ensures holds { IfOk result (λ t. pages.Holds t (S.view store.new)) }
+        ensures read { calls.StoreRead (S.view store.old) root.now.heads (S.view store.new) }
+        ensures served { IsOk result → 0 < root.now.heads → IsServed (S.view store.old) (S.view store.new) }
+        ensures stop { result ≡ Err LoadStopped → IsStop (S.view store.old) (S.view store.new) }
+        ensures calm { IsCalm (S.view store.old) → result ≢ Err LoadStopped }
+    {
+        let slots = read_slots(alloc, store, root)?;
+        let free_heads = free_heads(alloc, &slots)?;
+        let free_leaves = free_leaves(alloc, root.leaves, &slots)?;
+        let held = none_held(alloc, root.leaves)?;
+        Ok(FileTable {
+            pool: root.pool,
+            slots,
+            held,
+            free_heads,
+            free_leaves,
+        })
+    }
+
+    /// Whether a file is there.
+    pub fn exists(&self, f: FileNo) -> bool
+        ensures { result ≡ table.exists self.now.heads f }
+    {
+        slot_of(&self.slots, f).is_some()
+    }
+
+    /// Whether a block is stored.
+    pub fn mapped(&self, f: FileNo, p: BlockNo) -> bool
+        requires { p.0 < 120 }
+        ensures { result ≡ table.is_mapped self.now.heads f p.0 }
+    {
+        address_for(&self.slots, f, p) > 0
+    }
+
+    /// The heads that are free and promised.
+    pub fn heads(&self) -> &FreeList
+        ensures { result.now ≡ self.now.free_heads }
+    {
+        &self.free_heads
+    }
+
+    /// The data pages that are free and promised.
+    pub fn leaves(&self) -> &FreeList
+        ensures { result.now ≡ self.now.free_leaves }
+    {
+        &self.free_leaves
+    }
+
+    /// Whether a data page is held.
+    pub fn is_held(&self, a: u16) -> bool
+        ensures { result ≡ table.is_held self.now a }
+    {
+        let a = a as usize;
+        a < self.held.len() && self.held[a]
+    }
+
+    /// Promises so many free heads, where so many are free and not promised.
+    pub fn promise_heads(&mut self, n: u32) -> Result<(), Short>
+        ensures enough { IsOk result ↔ (n ≤ free_count self.old.free_heads - self.old.free_heads.promised) }
+        ensures ok { OnOk result (self.new ≡ calls.with_promised_heads self.old (self.old.free_heads.promised + n)) }
+        ensures short { IfErr result (λ short. (short.free ≡ free_count self.old.free_heads - self.old.free_heads.promised) × (short.need ≡ n)) }
+        ensures err { OnErr result (self.new ≡ self.old) }
+    {
+        self.free_heads.promise(n)
+    }
+
+    /// Takes back the promise of so many.
+    pub fn release_heads(&mut self, n: u32)
+        requires { n ≤ self.old.free_heads.promised }
+        ensures { self.new ≡ calls.with_promised_heads self.old (self.old.free_heads.promised - n) }
+    {
+        self.free_heads.release(n);
+    }
+
+    /// Promises so many free data pages, where so many are free and not promised.
+    pub fn promise_leaves(&mut self, n: u32) -> Result<(), Short>
+        ensures enough { IsOk result ↔ (n ≤ free_count self.old.free_leaves - self.old.free_leaves.promised) }
+        ensures ok { OnOk result (self.new ≡ calls.with_promised_leaves self.old (self.old.free_leaves.promised + n)) }
+        ensures short { IfErr result (λ short. (short.free ≡ free_count self.old.free_leaves - self.old.free_leaves.promised) × (short.need ≡ n)) }
+        ensures err { OnErr result (self.new ≡ self.old) }
+    {
+        self.free_leaves.promise(n)
+    }
+
+    /// Takes back the promise of so many.
+    pub fn release_leaves(&mut self, n: u32)
+        requires { n ≤ self.old.free_leaves.promised }
+        ensures { self.new ≡ calls.with_promised_leaves self.old (self.old.free_leaves.promised - n) }
+    {
+        self.free_leaves.release(n);
+    }
+
+    /// Makes a file empty; one that isn't there gets the lowest free head.
+    pub fn set_fresh<S: StableStore>(&mut self, store: &mut S, f: FileNo) -> Result<(), Stopped>
+        requires fits { calls.Fits self.old (S.view store.old) }
+        requires room { table.exists self.old.heads f ≡ false → self.old.free_heads.promised < free_count self.old.free_heads }
+        ensures { calls.SetsHead self.old (S.view store.old) f (λ h. table.fresh_head f) (λ leaves. created f) (is_ok result) self.new (S.view store.new) }
+    {
+        let slot = place_of(&self.slots, &self.free_heads, f);
+        self.put_head(store, slot, Slot::fresh(f))
+    }
+
+    /// Makes a file gone. Where it isn't there nothing is done.
+    pub fn set_gone<S: StableStore>(&mut self, store: &mut S, f: FileNo) -> Result<(), Stopped>
+        requires fits { calls.Fits self.old (S.view store.old) }
+        ensures there { table.exists self.old.heads f ≡ true → calls.SetsHead self.old (S.view store.old) f (λ h. Free) (λ leaves. removed f) (is_ok result) self.new (S.view store.new) }
+        ensures absent { table.exists self.old.heads f ≡ false → (IsOk result) × (self.new ≡ self.old) × (S.view store.new ≡ S.view store.old) }
+    {
+        let Some(slot) = slot_of(&self.slots, f) else {
+            return Ok(());
+        };
+        self.put_head(store, slot, Slot::free())
+    }
+
+    /// Takes the blocks of a file from one on away.
+    pub fn set_cut<S: StableStore>(
+        &mut self,
+        store: &mut S,
+        f: FileNo,
+        n: BlockNo,
+    ) -> Result<(), Stopped>
+        requires fits { calls.Fits self.old (S.view store.old) }
+        requires there { table.exists self.old.heads f ≡ true }
+        requires range { n.0 < 120 }
+        ensures { calls.SetsHead self.old (S.view store.old) f (table.cut_head n.0) (λ leaves. cut_from f n) (is_ok result) self.new (S.view store.new) }
+    {
+        let Some(slot) = slot_of(&self.slots, f) else {
+            unreachable!()
+        };
+        let head = self.slots[slot as usize].cut(n.0);
+        self.put_head(store, slot, head)
+    }
+
+    /// Makes a data page that is held a file's block.
+    pub fn set_address<S: StableStore>(
+        &mut self,
+        store: &mut S,
+        f: FileNo,
+        p: BlockNo,
+        a: u16,
+    ) -> Result<(), Stopped>
+        requires fits { calls.Fits self.old (S.view store.old) }
+        requires there { table.exists self.old.heads f ≡ true }
+        requires range { p.0 < 120 }
+        requires leaf { calls.MayBecome self.old (S.view store.old) f p.0 a }
+        ensures { calls.SetsHead self.old (S.view store.old) f (table.with_leaf p.0 a) (λ leaves. written f p (take 448 (leaves a))) (is_ok result) self.new (S.view store.new) }
+    {
+        let Some(slot) = slot_of(&self.slots, f) else {
+            unreachable!()
+        };
+        let head = self.slots[slot as usize].with_leaf(p.0, a);
+        self.put_head(store, slot, head)
+    }
+
+    /// Puts a block to a data page that is held and that no head names.
+    pub fn fill<S: StableStore>(&self, store: &mut S, a: u16, block: &Block) -> Result<(), Stopped>
+        requires fits { calls.Fits self.now (S.view store.old) }
+        requires held { table.is_held self.now a ≡ true }
+        requires unnamed { table.IsUnnamed self.now.heads a }
+        ensures { calls.Fills self.now (S.view store.old) a block.now (is_ok result) (S.view store.new) }
+    {
+        let _held = &self.held;
+        store.put(self.data_page(a), &leaf_page(block))
+    }
+
+    /// The block, where one is stored.
+    pub fn read_block<S: StableStore>(
+        &self,
+        store: &mut S,
+        f: FileNo,
+        p: BlockNo,
+    ) -> Result<Option<Block>, Stopped>
+        requires fits { calls.Fits self.now (S.view store.old) }
+        requires holds { pages.Holds self.now (S.view store.old) }
+        requires range { p.0 < 120 }
+        ensures got { calls.BlockGot self.now (S.view store.old) f p result (S.view store.new) }
+        ensures unasked { table.is_mapped self.now.heads f p.0 ≡ false → (result ≡ Ok None) × (S.view store.new ≡ S.view store.old) }
+        ensures served { table.is_mapped self.now.heads f p.0 ≡ true → IsOk result → IsServed (S.view store.old) (S.view store.new) }
+        ensures stop { is_ok result ≡ false → IsStop (S.view store.old) (S.view store.new) }
+        ensures calm { IsCalm (S.view store.old) → IsOk result }
+    {
+        let address = address_for(&self.slots, f, p);
+        if address == 0 {
+            return Ok(None);
+        }
+        let page = store.get(self.data_page(address - 1))?;
+        Ok(Some(block_of(&page)))
+    }
+
+    /// Takes the lowest free data page, which is held from now on. Who has a promise releases it first.
+    pub fn take_leaf(&mut self) -> Option<u16>
+        requires { calls.MayTake self.old.free_leaves }
+        ensures found { IsSome result ↔ (0 < free_count self.old.free_leaves) }
+        ensures least { IfSome result (λ a. IsLeastFree self.old.free_leaves a) }
+        ensures taken { IfSome result (λ a. self.new ≡ calls.with_held self.old a) }
+        ensures none { IfNone result (self.new ≡ self.old) }
+    {
+        let a = self.free_leaves.take()?;
+        self.held[a as usize] = true;
+        Some(a)
+    }
+
+    /// Holds a data page, while none is promised.
+    pub fn hold(&mut self, a: u16)
+        requires below { a < self.old.counts.leaves }
+        requires loose { table.is_held self.old a ≡ false }
+        requires unpromised { self.old.free_leaves.promised ≡ 0 }
+        ensures { self.new ≡ calls.with_held self.old a }
+    {
+        if self.free_leaves.is_free(a) {
+            self.free_leaves.take_this(a);
+        }
+        self.held[a as usize] = true;
+    }
+
+    /// Holds a data page no more.
+    pub fn let_go(&mut self, a: u16)
+        requires { table.is_held self.old a ≡ true }
+        ensures { calls.LetsGo self.old a self.new }
+    {
+        self.held[a as usize] = false;
+        if !is_named(&self.slots, a) {
+            self.free_leaves.give(a);
+        }
+    }
+
+    /// Puts a head's page, and then the table has it.
+    fn put_head<S: StableStore>(
+        &mut self,
+        store: &mut S,
+        slot: u16,
+        head: Slot,
+    ) -> Result<(), Stopped>
+        requires fits { calls.Fits self.old (S.view store.old) }
+        requires may { inside.MayStand self.old slot head }
+        ensures { (c : (ℕ → List ℕ) → Change) → inside.IsChange self.old.heads slot head c → inside.AreLeaves self.old (S.view store.old) head
+            → calls.PutsHead self.old (S.view store.old) slot head c (is_ok result) self.new (S.view store.new) }
+    {
+        let _heads = &self.slots;
+        store.put(self.head_page(slot), &head.page())?;
+        self.set_head(slot, head);
+        Ok(())
+    }
+
+    /// The table has another head. What it leads to no more is free, unless it is held.
+    fn set_head(&mut self, slot: u16, head: Slot)
+        requires { inside.MayStand self.old slot head }
+        ensures { calls.IsChanged self.old slot head self.new }
+    {
+        let old = mem::replace(&mut self.slots[slot as usize], head);
+        let new = &self.slots[slot as usize];
+        count_head(&mut self.free_heads, slot, old.is_free(), new.is_free());
+        free_dropped(&mut self.free_leaves, &self.held, &old, new);
+    }
+
+    /// The place of a head's page.
+    fn head_page(&self, slot: u16) -> u32
+        ensures { result ≡ head_place self.now.counts slot }
+    {
+        1 + u32::from(self.pool) + u32::from(slot)
+    }
+
+    /// The place of a data page.
+    fn data_page(&self, a: u16) -> u32
+        ensures { result ≡ data_place self.now.counts a }
+    {
+        1 + u32::from(self.pool) + self.slots.len() as u32 + u32::from(a)
+    }
+}
+
+/// The heads of a store.
+fn read_slots<S: StableStore>(
+    alloc: Global,
+    store: &mut S,
+    root: &Root,
+) -> Result<Vec<Slot>, LoadFault>
+    requires counts { (S.view store.old).count ≡ 1 + root.now.pool + root.now.heads + root.now.leaves }
+    requires loadable { (heads : List HeadOf) × pages.IsLoadable (calls.counts_of root.now) heads (S.view store.old) }
+    ensures heads { (heads : List HeadOf) → pages.IsLoadable (calls.counts_of root.now) heads (S.view store.old) → IfOk result (λ slots. slots.items ≡ heads) }
+    ensures few { root.now.heads < 2 ^ 16 }
+    ensures read { calls.StoreRead (S.view store.old) root.now.heads (S.view store.new) }
+    ensures served { IsOk result → 0 < root.now.heads → IsServed (S.view store.old) (S.view store.new) }
+    ensures stop { result ≡ Err LoadStopped → IsStop (S.view store.old) (S.view store.new) }
+    ensures calm { IsCalm (S.view store.old) → result ≢ Err LoadStopped }
+{
+    let mut slots = Vec::with_capacity(alloc, root.heads as usize)?;
+    for slot in 0..root.heads {
+        let head = read_slot(
+            alloc,
+            store,
+            1 + u32::from(root.pool) + u32::from(slot),
+            root.leaves,
+        )?;
+        slots.push(head)?;
+    }
+    Ok(slots)
+}
+
+/// The head whose page stands clean at a place.
+fn read_slot<S: StableStore>(
+    alloc: Global,
+    store: &mut S,
+    place: u32,
+    leaves: u16,
+) -> Result<Slot, LoadFault>
+    requires there { place < (S.view store.old).count }
+    requires readable { (h : HeadOf) × inside.IsHeadAt (S.view store.old) place leaves h }
+    ensures found { (h : HeadOf) → inside.IsHeadAt (S.view store.old) place leaves h → IfOk result (λ slot. slot ≡ h) }
+    ensures read { calls.StoreRead (S.view store.old) 1 (S.view store.new) }
+    ensures served { IsOk result → IsServed (S.view store.old) (S.view store.new) }
+    ensures stop { result ≡ Err LoadStopped → IsStop (S.view store.old) (S.view store.new) }
+    ensures calm { IsCalm (S.view store.old) → result ≢ Err LoadStopped }
+{
+    let page = store.get(place)?;
+    let Some(head) = Head::decode(alloc, &page, leaves)? else {
+        unreachable!()
+    };
+    Ok(Slot::of_head(&head))
+}
+
+/// The list of the heads that no file has.
+fn free_heads(alloc: Global, slots: &[Slot]) -> Result<FreeList, AllocError>
+    requires { length slots.now ≤ 65535 }
+    ensures { IfOk result (λ free. inside.AreFreeHeads slots.now free) }
+{
+    let mut free = FreeList::new(alloc, slots.len() as u16, &[])?;
+    for (slot, head) in slots.iter().enumerate() {
+        if !head.is_free() {
+            free.take_this(slot as u16);
+        }
+    }
+    Ok(free)
+}
+
+/// The list of the data pages that no head names.
+fn free_leaves(alloc: Global, leaves: u16, slots: &[Slot]) -> Result<FreeList, AllocError>
+    requires { table.AreHeads leaves slots.now }
+    ensures { IfOk result (λ free. inside.AreFreeLeaves leaves slots.now (length slots.now) free) }
+{
+    let mut free = FreeList::new(alloc, leaves, &[])?;
+    for head in slots {
+        take_named(&mut free, head);
+    }
+    Ok(free)
+}
+
+/// Takes the data pages that a head names.
+fn take_named(free: &mut FreeList, head: &Slot)
+    requires { inside.MayTakeNamed head.now free.old }
+    ensures { inside.TakesNamed head.now 120 free.old free.new }
+{
+    for p in 0..BLOCKS {
+        take_one(free, head.address(p));
+    }
+}
+
+fn take_one(free: &mut FreeList, address: u16)
+    requires promised { free.old.promised ≡ 0 }
+    requires free { (a : ℕ) → address ≡ suc a → is_free_number free.old a ≡ true }
+    ensures { free.new ≡ inside.taken_one address free.old }
+{
+    if address > 0 {
+        free.take_this(address - 1);
+    }
+}
+
+fn none_held(alloc: Global, count: u16) -> Result<Vec<bool>, AllocError>
+    ensures length { IfOk result (λ flags. length flags.items ≡ count) }
+    ensures few { count < 2 ^ 16 }
+    ensures none { IfOk result (λ flags. (a : ℕ) → slice_index_or flags.items a false ≡ false) }
+{
+    let mut flags = Vec::with_capacity(alloc, count as usize)?;
+    for _ in 0..count {
+        flags.push(false)?;
+    }
+    Ok(flags)
+}
+
+/// The slot of a file's head.
+fn slot_of(slots: &[Slot], f: FileNo) -> Option<u16>
+    requires { length slots.now ≤ 65535 }
+    ensures found { IfSome result (λ slot. (slot < length slots.now) × (table.is_of f (table.head_in slots.now slot) ≡ true)) }
+    ensures there { is_some result ≡ table.exists slots.now f }
+{
+    for (slot, head) in slots.iter().enumerate() {
+        if head.is_of(f) {
+            return Some(slot as u16);
+        }
+    }
+    None
+}
+
+/// The slot of a file's head, or the lowest free one.
+fn place_of(slots: &[Slot], free_heads: &FreeList, f: FileNo) -> u16
+    requires few { length slots.now ≤ 65535 }
+    requires room { table.exists slots.now f ≡ false → 0 < free_count free_heads.now }
+    ensures { inside.IsPlace slots.now free_heads.now f result }
+{
+    if let Some(slot) = slot_of(slots, f) {
+        return slot;
+    }
+    let Some(slot) = free_heads.first() else {
+        unreachable!()
+    };
+    slot
+}
+
+/// A block's address in its file's head, 0 where there is none.
+fn address_for(slots: &[Slot], f: FileNo, p: BlockNo) -> u16
+    requires { p.0 < 120 }
+    ensures { result ≡ table.address_for slots.now f p.0 }
+{
+    for head in slots {
+        if head.is_of(f) {
+            return head.address(p.0);
+        }
+    }
+    0
+}
+
+/// Whether a head names a data page.
+fn is_named(slots: &[Slot], a: u16) -> bool
+    requires page { a < 65535 }
+    requires whole { (slot : ℕ) → has_page (table.head_in slots.now slot) ≡ true }
+    ensures named { result ≡ true → inside.IsNamed slots.now a }
+    ensures unnamed { result ≡ false → table.IsUnnamed slots.now a }
+{
+    for head in slots {
+        if head.names(a) {
+            return true;
+        }
+    }
+    false
+}
+
+/// The free heads where one was free or wasn't, and is free or isn't.
+fn count_head(free_heads: &mut FreeList, slot: u16, was: bool, is: bool)
+    requires below { slot < count_of free_heads.old }
+    requires was { is_free_number free_heads.old slot ≡ was }
+    requires room { was ≡ true → is ≡ false → free_heads.old.promised < free_count free_heads.old }
+    ensures { inside.Counts free_heads.old slot is free_heads.new }
+{
+    if was && !is {
+        free_heads.take_this(slot);
+    }
+    if is && !was {
+        free_heads.give(slot);
+    }
+}
+
+/// The data pages to which a head leads no more are free, unless they are held.
+fn free_dropped(free: &mut FreeList, held: &[bool], old: &Slot, new: &Slot)
+    requires { inside.MayDrop held.now old.now free.old }
+    ensures { inside.Drops held.now old.now new.now 120 free.old free.new }
+{
+    for p in 0..BLOCKS {
+        free_one(free, held, old.address(p), new.address(p));
+    }
+}
+
+fn free_one(free: &mut FreeList, held: &[bool], was: u16, is: u16)
+    requires below { was ≤ length held.now }
+    requires count { count_of free.old ≡ length held.now }
+    requires used { (a : ℕ) → was ≡ suc a → is_free_number free.old a ≡ false }
+    ensures { free.new ≡ inside.freed_one held.now was is free.old }
+{
+    if was == 0 || was == is {
+        return;
+    }
+    if !held[was as usize - 1] {
+        free.give(was - 1);
+    }
+}
+
+/// The page of a block, with zeros behind it.
+fn leaf_page(block: &Block) -> Page
+    ensures { result ≡ pages.leaf_page block.now }
+{
+    let mut page = PageWriter::new();
+    page.put_bytes(block);
+    page.finish()
+}
+
+/// The block in a data page.
+fn block_of(page: &Page) -> Block
+    ensures { result ≡ take 448 page.now }
+{
+    let mut block = [0; 448];
+    block.copy_from_slice(&page[..448]);
+    block
+}
