@@ -1,6 +1,6 @@
 //! What a step sends and tells.
 
-ghost use Rattle.std.specs.Prelude.{◌≡◌, [], ◌∷◌, ◌++◌, is_ok, if◌then◌else◌};
+ghost use Rattle.std.specs.Prelude.{◌≡◌, [], ◌∷◌, ◌++◌, take, is_ok, if◌then◌else◌};
 
 use crate::message::{Message, Note};
 use jn_base::Party;
@@ -50,6 +50,14 @@ impl Out {
     {
         self.notes.push(note)?;
         Ok(())
+    }
+
+    /// Takes back all but so many first messages and notes.
+    pub fn truncate(&mut self, messages: usize, notes: usize)
+        ensures { self.new ≡ record { messages = take messages self.old.messages; notes = take notes self.old.notes } }
+    {
+        self.messages.truncate(messages);
+        self.notes.truncate(notes);
     }
 
     pub fn messages(&self) -> &[(Party, Message)]

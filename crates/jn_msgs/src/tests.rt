@@ -17,8 +17,9 @@ fn sends_and_notes_in_order(rt: HostRuntime) -> Result<(), Fail> {
         epoch: 5,
         ticket: 6,
     };
-    let works = Works::from_vec([work].to_vec(rt.alloc())?);
-    assert_eq!(rt; works.as_slice().len(), 1);
+    let mut works = Works::from_vec([work].to_vec(rt.alloc())?);
+    works.push(work)?;
+    assert_eq!(rt; works.as_slice().len(), 2);
     let mut out = Out::new(rt.alloc());
     out.send(
         Party::Server(ServerNo(1)),
@@ -33,8 +34,9 @@ fn sends_and_notes_in_order(rt: HostRuntime) -> Result<(), Fail> {
     assert_eq!(rt; out.messages()[0].1.kind(), MsgKind::End);
     assert_eq!(rt; out.messages()[1].1.kind(), MsgKind::Outcome);
     assert_eq!(rt; out.notes(), [Note::Commit(TID)].as_slice());
+    out.truncate(1, 1);
     let (messages, notes) = out.into_parts();
-    assert_eq!(rt; messages.len(), 2);
+    assert_eq!(rt; messages.len(), 1);
     assert_eq!(rt; notes.len(), 1);
     Ok(())
 }

@@ -1,8 +1,9 @@
 //! The works that a message names.
 
-ghost use Rattle.std.specs.Prelude.{◌≡◌};
+ghost use Rattle.std.specs.Prelude.{◌≡◌, [], ◌∷◌, ◌++◌, is_ok, if◌then◌else◌};
 
 use jn_base::WorkId;
+use std::alloc::AllocError;
 use std::marker::Model;
 
 /// The works of a transaction, in the order in which its client opened them: contracts see the list.
@@ -32,6 +33,14 @@ impl Works {
     {
         let Works { items } = self;
         items
+    }
+
+    /// Adds a work. Without memory nothing changes.
+    pub fn push(&mut self, work: WorkId) -> Result<(), AllocError>
+        ensures { self.new ≡ (if is_ok result then self.old ++ work ∷ [] else self.old) }
+    {
+        self.items.push(work)?;
+        Ok(())
     }
 
     pub fn as_slice(&self) -> &[WorkId]

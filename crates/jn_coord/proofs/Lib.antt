@@ -1,0 +1,6 @@
+pub mod Tables
+pub mod Sends
+pub mod Fitting
+pub mod Rows
+pub mod Room
+pub mod Ending

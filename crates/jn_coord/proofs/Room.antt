@@ -1,0 +1,71 @@
+-- A flag that is to be put has its room.
+use Rattle.std.proofs.Common.{◌≡◌, ℕ, Bool, true, false, not, ◌+◌, ◌≤◌, ◌<◌, ◌&&◌, ◌||◌, if◌then◌else◌, List, [], ◌∷◌, Option, Some, None, length, refl, sym, ◌∙◌, ap, subst, arith}
+use Rattle.std.specs.Prelude.{is_some}
+use Rattle.jn_base.specs.declared.names.ClientNo.{ClientNo}
+use Rattle.jn_base.specs.declared.names.Tid.{Tid}
+use Rattle.jn_base.specs.declared.names.WorkId.{WorkId}
+use Rattle.jn_base.specs.Names.{tid_eq}
+use Rattle.jn_base.proofs.Tells.{tid_tells}
+use Rattle.jn_rows.specs.declared.coordinator.Transaction.{Transaction}
+use Rattle.jn_rows.specs.Stable.{FlagState}
+use Rattle.jn_rows.specs.Coordinator.{transaction_at}
+use Rattle.jn_storage.specs.Listing.{is_in, are_different}
+use Rattle.jn_storage.specs.Storage.{StorageView}
+use Rattle.jn_storage.specs.Calls.{state, MayPutFlag, HasFlag}
+use Rattle.jn_coord.specs.Remembered.{Remembered, rises}
+use Rattle.jn_coord.specs.Calls.{flag_told, committed_as, committed_at, works_in, spare_of, FitsWith}
+use Rattle.jn_coord.proofs.Fitting.{above-none, has-promise}
+
+-- the names of the committed transactions
+abbrev committed_names : List Transaction → List Tid
+committed_names [] = []
+committed_names (x ∷ xs) = if is_some (committed_as x.client x.stage) then x.tid ∷ committed_names xs else committed_names xs
+
+names-listed : (U : Tid) (xs : List Transaction) → rises xs ≡ true → is_in tid_eq U (committed_names xs) ≡ is_some (committed_at U xs)
+names-listed U [] h = refl
+names-listed U (x ∷ xs) h = let again = names-listed U xs in let none = above-none x.tid xs in let t = tid_tells x.tid U in grind (arith, h)
+
+names-different : (xs : List Transaction) → rises xs ≡ true → are_different tid_eq (committed_names xs) ≡ true
+names-different [] h = refl
+names-different (x ∷ xs) h = let again = names-different xs in let listed = names-listed x.tid xs in let none = above-none x.tid xs in grind (arith, h)
+
+names-few : (xs : List Transaction) → length (committed_names xs) ≤ length xs
+names-few [] = omega arith
+names-few (x ∷ xs) = let again = names-few xs in grind arith
+
+names-fewer : (T : Tid) (xs : List Transaction) → is_some (transaction_at T xs) ≡ true → committed_at T xs ≡ None → length (committed_names xs) + 1 ≤ length xs
+names-fewer T [] s n = absurd (cc s)
+names-fewer T (x ∷ xs) s n = let again = names-fewer T xs in let few = names-few xs in grind (arith, s, n)
+
+told-some : (o : Option FlagState) → is_some (flag_told o) ≡ is_some o
+told-some None = refl
+told-some (Some flag) = refl
+
+told-none : (o : Option FlagState) → flag_told o ≡ None → o ≡ None
+told-none None e = refl
+told-none (Some flag) e = absurd (cc e)
+
+pub may-put : (r : Remembered) (v : StorageView) (T : Tid) (y : Transaction) (client : ClientNo) (request : ℕ) (works : List WorkId)
+    → FitsWith (spare_of (transaction_at T r.transactions)) r v → transaction_at T r.transactions ≡ Some y → committed_at T r.transactions ≡ None → length works ≤ 8
+    → MayPutFlag v (record { tid = T; client = client; request = request; works = works })
+may-put r v T y client request works fits found undecided few = record {
+  promise = has-promise T r v y fits found;
+  works_fit = few;
+  room = record {
+    keys = committed_names r.transactions;
+    listing = record {
+      different = names-different r.transactions fits.rising;
+      all = λ U. names-listed U r.transactions fits.rising ∙ sym (ap is_some (fits.flags U)) ∙ told-some ((state v).flags U);
+    };
+    few = omega (arith, names-fewer T r.transactions (ap is_some found) undecided, fits.few);
+  };
+  new = told-none ((state v).flags T) (fits.flags T ∙ undecided);
+  given = fits.given T (ap is_some found);
+}
+
+pub has_flag : (spare : ℕ) (r : Remembered) (v : StorageView) (T : Tid) (works : List WorkId) → FitsWith spare r v → works_in (committed_at T r.transactions) ≡ Some works → HasFlag v T
+has_flag spare r v T works fits e = sym (told-some ((state v).flags T)) ∙ ap is_some (fits.flags T) ∙ some (committed_at T r.transactions) e
+  where
+    some : (o : Option (ClientNo × List WorkId)) → works_in o ≡ Some works → is_some o ≡ true
+    some None f = absurd (cc f)
+    some (Some told) f = refl

@@ -1,0 +1,6 @@
+use Rattle.std.proofs.Common.{refl}
+use Rattle.jn_coord.proofs.Sends.{longer_same}
+use Rattle.jn_coord.proofs.coordinator.Coordinator.end_open.Goals as goal
+
+pub returns-in-Err-Memory : goal.returns-in-Err-Memory
+returns-in-Err-Memory g c = λ x at. (refl, c.in-Err-Memory.ensures.promised.kept refl, longer_same _ _ refl)

@@ -1,0 +1,7 @@
+use Rattle.std.proofs.Common.{sym, ◌∙◌, ap}
+use Rattle.std.specs.Option.{option_copied}
+use Rattle.jn_coord.specs.Remembered.{table_of}
+use Rattle.jn_coord.proofs.coordinator.Coordinator.inquire.Goals as goal
+
+pub returns : goal.returns
+returns c = λ k. rw (sym c.find.ensures ∙ ap option_copied c.in-Some.is) (c.tell_work.ensures (table_of c.args.self.now) k)
