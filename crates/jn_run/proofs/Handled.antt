@@ -1,18 +1,12 @@
 -- What each handler of the world leads to.
 use Rattle.std.proofs.Common.{◌≡◌, ◌⊎◌, inl, inr, ℕ, true, false, List, [], ◌∷◌, ◌++◌, Option, Some, None, refl, sym, ◌∙◌, ap, subst, IfSome, IfNone}
-use Rattle.jn_base.specs.declared.names.ServerNo.{ServerNo}
 use Rattle.jn_base.specs.declared.names.Tid.{Tid}
-use Rattle.jn_base.specs.declared.op.Op.{Op}
-use Rattle.jn_base.specs.declared.op.Answer.{Answer}
 use Rattle.jn_base.specs.declared.op.Command.{Command}
 use Rattle.jn_base.specs.declared.op.Command.TheVariants as commands
-use Rattle.jn_order.specs.Files.{Files}
-use Rattle.jn_report.specs.declared.line.Text.{Text}
 use Rattle.jn_report.specs.declared.line.Text.TheVariants as says
 use Rattle.jn_report.specs.declared.line.Line.{Line}
 use Rattle.jn_serial.specs.declared.following.Asked.{Asked}
-use Rattle.jn_run.specs.Pages.{server_0}
-use Rattle.jn_run.specs.Names.{client_1, name_of, line_at}
+use Rattle.jn_run.specs.Names.{line_at}
 use Rattle.jn_run.specs.Moves.{View, Fate, Undecided, Committed, AbortedBy, asked_for, is_ending, IsEnding, IsPerformed, answer_text, begun, drawn, answered_with, decided, over, Leads, stays, joined, begins, opens, performs, commits, tells_commit, tells_abort}
 
 -- a move whose view and lines are given by equations

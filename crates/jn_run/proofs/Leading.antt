@@ -1,5 +1,5 @@
 -- What the events of a world lead to, from what its handlers tell.
-use Rattle.std.proofs.Common.{◌≡◌, ◌⊎◌, inl, inr, ℕ, Bool, true, false, cond, List, [], ◌∷◌, ◌++◌, Option, Some, None, Result, Ok, Err, refl, sym, ◌∙◌, ap, subst, IfSome, IfNone, IfOk, ◌<◌}
+use Rattle.std.proofs.Common.{◌≡◌, ◌⊎◌, inl, inr, ℕ, true, List, [], Option, Some, None, Result, Ok, Err, refl, sym, ◌∙◌, ap, subst, IfSome, IfNone, IfOk, ◌<◌}
 use Rattle.std.specs.Prelude.{is_some, option_map}
 use Rattle.jn_base.specs.declared.names.Cause.{Cause}
 use Rattle.jn_base.specs.declared.names.Cause.TheVariants as causes
@@ -10,9 +10,6 @@ use Rattle.jn_base.specs.declared.op.Command.{Command}
 use Rattle.jn_base.specs.declared.op.Command.TheVariants as commands
 use Rattle.jn_base.specs.Names.{client_eq}
 use Rattle.jn_base.proofs.Tells.{client_tells}
-use Rattle.jn_report.specs.declared.line.Refusal.{Refusal}
-use Rattle.jn_report.specs.declared.line.Refusal.TheVariants as refusals
-use Rattle.jn_report.specs.declared.line.Text.TheVariants as says
 use Rattle.jn_report.specs.declared.line.Line.{Line}
 use Rattle.jn_records.specs.declared.intention.Intention.{Intention}
 use Rattle.jn_schedule.specs.declared.Event.{Event}
@@ -24,14 +21,14 @@ use Rattle.jn_run.specs.declared.world.World.{World}
 use Rattle.jn_run.specs.declared.world.Phase.{Phase}
 use Rattle.jn_run.specs.declared.world.Phase.TheVariants as phases
 use Rattle.jn_run.specs.Disk.{files_on}
-use Rattle.jn_run.specs.Moves.{View, Undecided, CanAbort, CanCause, CanAsk, Leads, Runs, asks, refuses, sends_again, settles, joined, drawn}
-use Rattle.jn_run.specs.Names.{client_1, line_at}
+use Rattle.jn_run.specs.Moves.{View, Undecided, CanAbort, CanCause, Leads, Runs, sends_again, settles, joined, drawn}
+use Rattle.jn_run.specs.Names.{client_1}
 use Rattle.jn_run.specs.Pages.{Counts, Pages}
 use Rattle.jn_run.specs.Runnable.{is_run}
 use Rattle.jn_run.specs.Seen.{sees, IsShort}
 use Rattle.jn_run.specs.Client.{asked_of}
 use Rattle.jn_run.specs.World.{fate_of, view_of}
-use Rattle.jn_run.proofs.Handled.{not-some, same-leads}
+use Rattle.jn_run.proofs.Handled.{same-leads}
 
 -- what holds holds of a good result
 pub if-ok : {A E : Type 0} (P : Type 0) (r : Result A E) → P → IfOk r (λ x. P)

@@ -1,5 +1,5 @@
 -- What the rows of the client's table lead to.
-use Rattle.std.proofs.Common.{◌≡◌, ℕ, ◌+◌, Bool, true, false, cond, ◌&&◌, List, [], ◌∷◌, ◌++◌, Option, Some, None, refl, sym, ◌∙◌, ap, subst, inl, inr, arith}
+use Rattle.std.proofs.Common.{◌≡◌, ℕ, Bool, true, false, cond, ◌&&◌, List, [], ◌∷◌, ◌++◌, Option, Some, None, refl, sym, ◌∙◌, ap, subst, inl, inr, arith}
 use Rattle.std.specs.Prelude.{is_some, option_map, nat_eq, Result, Ok, Err, IfOk}
 use Rattle.std.proofs.lemmas.Bool.{and_parts}
 use Rattle.std.proofs.lemmas.Bool.Decides.{nat_tests}
@@ -11,10 +11,9 @@ use Rattle.jn_base.specs.declared.names.Party.{Party}
 use Rattle.jn_base.specs.declared.op.Op.{Op}
 use Rattle.jn_base.specs.declared.op.Op.TheVariants as ops
 use Rattle.jn_base.specs.declared.op.Answer.{Answer}
-use Rattle.jn_base.specs.declared.op.Answer.TheVariants as answers
 use Rattle.jn_base.specs.declared.op.Command.{Command}
 use Rattle.jn_base.specs.declared.op.Command.TheVariants.{Begin, Open, Do, End, Abort}
-use Rattle.jn_base.specs.Names.{client_eq, tid_eq}
+use Rattle.jn_base.specs.Names.{client_eq}
 use Rattle.jn_base.proofs.Tells.{client_tells, tid_tells}
 use Rattle.jn_base.specs.declared.names.LockUnit.TheVariants.{File}
 use Rattle.jn_schedule.specs.declared.Event.TheVariants as events
@@ -23,7 +22,6 @@ use Rattle.jn_msgs.specs.declared.message.Message.TheVariants as messages
 use Rattle.jn_msgs.specs.declared.message.Outcome.{Outcome}
 use Rattle.jn_msgs.specs.declared.message.Outcome.TheVariants as outcomes
 use Rattle.jn_order.specs.Files.{Files, answer_to}
-use Rattle.jn_report.specs.declared.line.Refusal.{Refusal}
 use Rattle.jn_report.specs.declared.line.Refusal.TheVariants as refusals
 use Rattle.jn_report.specs.declared.line.Text.{Text}
 use Rattle.jn_report.specs.declared.line.Text.TheVariants as says
@@ -36,12 +34,11 @@ use Rattle.jn_rows.specs.Client.{ClientTable, Commanded, Refuses, Sends, if_wait
 use Rattle.jn_client.specs.Calls.{Gives, waiting_in}
 use Rattle.jn_client.specs.declared.words.CommandFault.{CommandFault}
 use Rattle.jn_client.specs.declared.words.CommandFault.TheVariants.{Refused, Memory}
-use Rattle.jn_serial.specs.declared.following.Asked.{Asked}
 use Rattle.jn_serial.specs.Follows.{is_own}
 use Rattle.jn_run.specs.Names.{client_1, name_of, line_at}
 use Rattle.jn_run.specs.Pages.{server_0}
 use Rattle.jn_run.specs.Within.{command_within, asked_within}
-use Rattle.jn_run.specs.Moves.{View, Fate, Undecided, Committed, AbortedBy, CanAsk, asked_for, is_ending, IsPerformed, Performed as IsDone, ReadsOut, WritesOut, answer_text, begun, answered_with, drawn, waiting_for, Leads, stays, begins, opens, performs, tells_commit, tells_abort, Runs, asks, refuses}
+use Rattle.jn_run.specs.Moves.{View, Fate, Undecided, Committed, AbortedBy, CanAsk, asked_for, is_ending, IsPerformed, Performed as IsDone, ReadsOut, WritesOut, answer_text, answered_with, drawn, waiting_for, Leads, stays, begins, opens, performs, tells_commit, tells_abort, Runs, asks, refuses}
 use Rattle.jn_run.specs.Client.{asked_of, is_ours, IsHanded, IsRefused, with_client, with_line, begin_asked, is_op_asked, open_now, outcome_of}
 use Rattle.jn_run.proofs.Handled.{moved-to}
 

@@ -1,7 +1,6 @@
 use Rattle.std.proofs.Common.{refl, sym, ◌∙◌, ap}
-use Rattle.jn_report.specs.declared.line.Line.{Line}
 use Rattle.jn_rows.specs.declared.client.Taken.{Taken}
-use Rattle.jn_rows.specs.declared.client.Taken.TheVariants.{Ignored, Send, Told}
+use Rattle.jn_rows.specs.declared.client.Taken.TheVariants.{Send, Told}
 use Rattle.jn_rows.specs.Client.{take_row}
 use Rattle.jn_run.specs.World.{view_of}
 use Rattle.jn_run.proofs.Rows.{handed-as, ours-taken}
