@@ -3,13 +3,13 @@
 ghost use Rattle.std.specs.Prelude.{◌≡◌, ◌+◌, ◌<◌, ◌^◌, ℕ, true, is_some, IfOk, IfErr, IfSome, MatchResult};
 ghost use Rattle.jn_base.specs.declared.op.Command.TheVariants.{Begin, Open, Do, End, Abort};
 ghost use Rattle.jn_client.specs.declared.words.CommandFault.TheVariants.{Memory};
-ghost use Rattle.jn_client.specs.Calls.{Gives, Asks, replied_to, event_where, are_below, works_after, decision};
+ghost use Rattle.jn_client.specs.Calls.{Gives, Asks, replied_to, event_where, are_below, waiting_in, works_after, decision};
 ghost use Rattle.jn_msgs.specs.declared.message.Message.TheVariants as messages;
 ghost use Rattle.jn_msgs.specs.declared.message.Outcome.TheVariants as outcomes;
 ghost use Rattle.jn_rows.specs.Client as rows;
 
 use crate::copies::{copy_of, names_of};
-use crate::words::CommandFault;
+use crate::words::{CommandFault, Waiting};
 use jn_base::{Answer, Cause, ClientNo, Command, Op, Party, ServerNo, Tid, WorkId};
 use jn_msgs::{Message, Outcome};
 use jn_report::{Refusal, Text};
@@ -141,6 +141,32 @@ impl Client {
         ensures { result ≡ self.now.next }
     {
         self.next
+    }
+
+    /// The command that the client waits for.
+    pub fn waits_for(&self) -> Option<Waiting>
+        ensures { result ≡ waiting_in self.now.outstanding }
+    {
+        let o = self.outstanding.as_ref()?;
+        Some(Waiting {
+            event: o.event,
+            request: o.request,
+            command: o.command,
+        })
+    }
+
+    /// The client's transaction.
+    pub fn transaction(&self) -> Option<Tid>
+        ensures { result ≡ self.now.transaction }
+    {
+        self.transaction
+    }
+
+    /// Whether its transaction has a work at a server.
+    pub fn is_open_at(&self, server: ServerNo) -> bool
+        ensures { result ≡ is_some (rows.work_at server self.now.works) }
+    {
+        self.work_at(server).is_some()
     }
 
     /// Does a command that the event of this number gives: its message, with who is to take it, or why none is sent.

@@ -9,4 +9,4 @@ mod words;
 
 pub use client::Client;
 pub use jn_rows::Taken;
-pub use words::CommandFault;
+pub use words::{CommandFault, Waiting};

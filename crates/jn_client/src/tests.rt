@@ -304,3 +304,43 @@ fn operations_are_numbered(rt: HostRuntime) -> Result<(), Fail> {
     assert!(rt; matches!(client.take(&none), Taken::Ignored));
     Ok(())
 }
+
+/// The event, the request and whether the command that a client waits for is of its transaction's end.
+fn asked_of(client: &Client) -> Option<(u32, u32, bool)> {
+    let asked = client.waits_for()?;
+    let is_end = matches!(asked.command, Command::End | Command::Abort);
+    Some((asked.event, asked.request, is_end))
+}
+
+#[test]
+fn a_client_tells_what_it_has(rt: HostRuntime) -> Result<(), Fail> {
+    let want = [
+        (0, None, None, false),
+        (1, Some((11, 1, false)), None, false),
+        (2, None, Some(TID), false),
+        (3, Some((12, 2, false)), Some(TID), false),
+        (4, None, Some(TID), true),
+        (5, Some((13, 3, false)), Some(TID), true),
+        (7, Some((14, 4, true)), Some(TID), true),
+        (8, Some((14, 4, true)), Some(TID), true),
+    ];
+    for (step, asked, transaction, is_open) in want {
+        let client = client_at(rt.alloc(), step);
+        assert_eq!(rt; asked_of(&client), asked, "asked after {step}");
+        assert_eq!(rt;
+            client.transaction(),
+            transaction,
+            "transaction after {step}"
+        );
+        assert_eq!(rt;
+            client.is_open_at(ServerNo(0)),
+            is_open,
+            "open after {step}"
+        );
+        assert!(rt;
+            !client.is_open_at(ServerNo(1)),
+            "the other server after {step}"
+        );
+    }
+    Ok(())
+}

@@ -12,7 +12,7 @@ use Rattle.jn_run.specs.Names.{line_at}
 use Rattle.jn_run.specs.Moves.{View, Undecided, Committed, decided, is_ending, IsEnding, Leads, commits}
 
 abbrev committed_as : View → Files → Files → View
-committed_as v stored sees = record { asked = v.asked; current = v.current; fate = Committed; stored = stored; sees = sees; next = v.next }
+committed_as v stored sees = record { asked = v.asked; current = v.current; requests = v.requests; fate = Committed; stored = stored; sees = sees; next = v.next }
 
 -- the changes are the disk's, and there are none left
 pub carried-view : (v : View) (stored : Files) (list : List Intention) → stored ≡ v.sees → list ≡ []

@@ -1,5 +1,5 @@
 -- What the events of a world lead to, from what its handlers tell.
-use Rattle.std.proofs.Common.{◌≡◌, ◌⊎◌, inl, inr, ℕ, Bool, true, false, cond, List, [], ◌∷◌, ◌++◌, Option, Some, None, Result, Ok, Err, refl, sym, ◌∙◌, ap, subst, IfSome, IfNone, IfOk, ◌<◌}
+use Rattle.std.proofs.Common.{◌≡◌, ◌⊎◌, inl, inr, ℕ, true, List, [], Option, Some, None, Result, Ok, Err, refl, sym, ◌∙◌, ap, subst, IfSome, IfNone, IfOk, ◌<◌}
 use Rattle.std.specs.Prelude.{is_some, option_map}
 use Rattle.jn_base.specs.declared.names.Cause.{Cause}
 use Rattle.jn_base.specs.declared.names.Cause.TheVariants as causes
@@ -10,42 +10,34 @@ use Rattle.jn_base.specs.declared.op.Command.{Command}
 use Rattle.jn_base.specs.declared.op.Command.TheVariants as commands
 use Rattle.jn_base.specs.Names.{client_eq}
 use Rattle.jn_base.proofs.Tells.{client_tells}
-use Rattle.jn_report.specs.declared.line.Refusal.{Refusal}
-use Rattle.jn_report.specs.declared.line.Refusal.TheVariants as refusals
-use Rattle.jn_report.specs.declared.line.Text.TheVariants as says
 use Rattle.jn_report.specs.declared.line.Line.{Line}
 use Rattle.jn_records.specs.declared.intention.Intention.{Intention}
 use Rattle.jn_schedule.specs.declared.Event.{Event}
 use Rattle.jn_schedule.specs.declared.Event.TheVariants as events
 use Rattle.jn_serial.specs.declared.following.Asked.{Asked}
-use Rattle.jn_run.specs.declared.client.Client.{Client}
+use Rattle.jn_client.specs.Calls.{waiting_in}
 use Rattle.jn_run.specs.declared.changes.Shortage.{Shortage}
 use Rattle.jn_run.specs.declared.world.World.{World}
 use Rattle.jn_run.specs.declared.world.Phase.{Phase}
 use Rattle.jn_run.specs.declared.world.Phase.TheVariants as phases
-use Rattle.jn_run.specs.Asking.{names_a_server, without_transaction, refusal_when_free, refusal_of_known, refusal_of, taken}
 use Rattle.jn_run.specs.Disk.{files_on}
-use Rattle.jn_run.specs.Moves.{View, Undecided, CanAbort, CanCause, CanAsk, Leads, Runs, asks, refuses, sends_again, settles, joined, drawn}
-use Rattle.jn_run.specs.Names.{client_1, line_at}
+use Rattle.jn_run.specs.Moves.{View, Undecided, CanAbort, CanCause, Leads, Runs, sends_again, settles, joined, drawn}
+use Rattle.jn_run.specs.Names.{client_1}
 use Rattle.jn_run.specs.Pages.{Counts, Pages}
 use Rattle.jn_run.specs.Runnable.{is_run}
 use Rattle.jn_run.specs.Seen.{sees, IsShort}
-use Rattle.jn_run.specs.World.{asked_of, fate_of, view_of}
-use Rattle.jn_run.proofs.Asked.{refused-own}
-use Rattle.jn_run.proofs.Handled.{not-some, same-leads}
+use Rattle.jn_run.specs.Client.{asked_of}
+use Rattle.jn_run.specs.World.{fate_of, view_of}
+use Rattle.jn_run.proofs.Handled.{same-leads}
 
 -- what holds holds of a good result
 pub if-ok : {A E : Type 0} (P : Type 0) (r : Result A E) → P → IfOk r (λ x. P)
 if-ok P (Ok x) p = p
 if-ok P (Err e) p = tt
 
--- the view of a world with this client
-abbrev pub view_with : World → Client → View
-view_with w x = record { asked = option_map asked_of x.asked; current = x.current; fate = fate_of w.phase; stored = files_on w.disk; sees = sees w.changes w.disk; next = w.next_ticket }
-
 -- the view of a world with this phase
 abbrev pub view_at : World → Phase → View
-view_at w p = record { asked = option_map asked_of w.client.asked; current = w.client.current; fate = fate_of p; stored = files_on w.disk; sees = sees w.changes w.disk; next = w.next_ticket }
+view_at w p = record { asked = option_map asked_of (waiting_in w.client.outstanding); current = w.client.transaction; requests = w.client.next; fate = fate_of p; stored = files_on w.disk; sees = sees w.changes w.disk; next = w.next_ticket }
 
 pub voting-leads : (n : ℕ) (w : World) (ls : List Line) → w.phase ≡ phases.Open → Leads n (view_of w) ls (view_at w phases.Voting) ls
 voting-leads n w ls is = same-leads n (view_of w) (view_at w phases.Voting) ls (sym (ap (λ (p : Phase). view_at w p) is))
@@ -72,53 +64,6 @@ full-aborts v a cause s number free need fate asked is h = (
   subst (λ (x : Option Asked). Rattle.std.specs.Prelude.MatchOption x ⊥ (λ y. CanCause y.command cause)) (sym asked)
       (subst (λ (x : Cause). CanCause a.command x) (sym is) (full-causes a.command s number free need h)),
 )
-
--- which commands the client takes
-if-none-then : (b : Bool) (x : Option Refusal) (r : Refusal) → cond b x (Some r) ≡ None → x ≡ None
-if-none-then true x r h = h
-if-none-then false x r h = cc
-
-if-none-true : (b : Bool) (x : Option Refusal) (r : Refusal) → cond b x (Some r) ≡ None → b ≡ true
-if-none-true true x r h = refl
-if-none-true false x r h = cc
-
-if-none-false : (b : Bool) (x : Option Refusal) (r : Refusal) → cond b (Some r) x ≡ None → b ≡ false
-if-none-false true x r h = cc
-if-none-false false x r h = refl
-
-not-asked : (o : Option Rattle.jn_run.specs.declared.client.Asked.Asked) → is_some o ≡ false → option_map asked_of o ≡ None
-not-asked o h = ap (λ (x : Option Rattle.jn_run.specs.declared.client.Asked.Asked). option_map asked_of x) (not-some o h)
-
-can-ask : (w : World) (command : Command) → refusal_of w.client command ≡ None → CanAsk (view_of w) command
-can-ask w commands.Abort h = if-none-true (is_some w.client.current) None refusals.NoTransaction h
-can-ask w commands.End h = not-asked w.client.asked (if-none-false (is_some w.client.asked) (without_transaction w.client) refusals.ClientBusy h)
-can-ask w (commands.Begin s) h =
-    not-asked w.client.asked (if-none-false (is_some w.client.asked) (refusal_when_free w.client (commands.Begin s)) refusals.ClientBusy
-    (if-none-then (names_a_server (commands.Begin s)) (refusal_of_known w.client (commands.Begin s)) refusals.NoSuchServer h))
-can-ask w (commands.Open s) h =
-    not-asked w.client.asked (if-none-false (is_some w.client.asked) (refusal_when_free w.client (commands.Open s)) refusals.ClientBusy
-    (if-none-then (names_a_server (commands.Open s)) (refusal_of_known w.client (commands.Open s)) refusals.NoSuchServer h))
-can-ask w (commands.Do s op) h =
-    not-asked w.client.asked (if-none-false (is_some w.client.asked) (refusal_when_free w.client (commands.Do s op)) refusals.ClientBusy
-    (if-none-then (names_a_server (commands.Do s op)) (refusal_of_known w.client (commands.Do s op)) refusals.NoSuchServer h))
-
-pub refused-runs : (n : ℕ) (w : World) (command : Command) (o : Option Refusal) (r : Refusal) (after : Client) (ls ms : List Line) (l : Line)
-    → o ≡ refusal_of w.client command → o ≡ Some r → after ≡ taken o w.client n command → ls ≡ [] → l ≡ line_at n (says.Refused client_1 n r) → ms ≡ ls ++ l ∷ []
-    → Runs n (events.Command client_1 command) (view_of w) (view_with w after) ms
-refused-runs n w command o r after ls ms l why is then-is none line items =
-    let same : after ≡ w.client = then-is ∙ ap (λ (x : Option Refusal). taken x w.client n command) is in
-    let told : ms ≡ line_at n (says.Refused client_1 n r) ∷ [] = items ∙ ap (λ (xs : List Line). xs ++ l ∷ []) none ∙ ap (λ (x : Line). x ∷ []) line in
-    subst (λ (xs : List Line). Runs n (events.Command client_1 command) (view_of w) (view_with w after) xs) (sym told)
-    (subst (λ (x : Client). Runs n (events.Command client_1 command) (view_of w) (view_with w x) (line_at n (says.Refused client_1 n r) ∷ [])) (sym same)
-    (refuses command r (view_of w) (refused-own w.client command r (sym why ∙ is))))
-
-pub asked-runs : (n : ℕ) (w : World) (command : Command) (o : Option Refusal) (after : Client) (ls : List Line)
-    → o ≡ refusal_of w.client command → o ≡ None → after ≡ taken o w.client n command → ls ≡ [] → Runs n (events.Command client_1 command) (view_of w) (view_with w after) ls
-asked-runs n w command o after ls why is then-is none =
-    let same : after ≡ taken None w.client n command = then-is ∙ ap (λ (x : Option Refusal). taken x w.client n command) is in
-    subst (λ (xs : List Line). Runs n (events.Command client_1 command) (view_of w) (view_with w after) xs) (sym none)
-    (subst (λ (x : Client). Runs n (events.Command client_1 command) (view_of w) (view_with w x) []) (sym same)
-    (asks command (view_of w) (can-ask w command (sym why ∙ is))))
 
 -- the events that are run
 client-is : (c : ClientNo) → client_eq c client_1 ≡ true → c ≡ client_1

@@ -23,7 +23,8 @@ pub mod Lists
 pub mod Spelled
 pub mod Needs
 pub mod Handled
-pub mod Asked
+pub mod Rows
+pub mod Requests
 pub mod Schedules
 pub mod Leading
 pub mod Stops

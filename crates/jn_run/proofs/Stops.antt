@@ -35,7 +35,7 @@ empty-start = AreSame-equal no_files (only_server_0 no-file) (λ s u. go (server
     go false = refl
 
 abbrev new-view : View
-new-view = record { asked = None; current = None; fate = Committed; stored = no-file; sees = no-file; next = 0 }
+new-view = record { asked = None; current = None; requests = 1; fate = Committed; stored = no-file; sees = no-file; next = 0 }
 
 -- nothing is told yet
 pub nothing-told : (a : Option (List ℕ)) (events : List Event) → PartRun a events a

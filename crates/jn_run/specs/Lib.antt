@@ -14,6 +14,6 @@ pub mod Room
 pub mod Sound
 pub mod World
 pub mod Running
-pub mod Asking
+pub mod Client
 pub mod Within
 pub mod Seen

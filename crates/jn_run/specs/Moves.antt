@@ -1,5 +1,5 @@
 -- What can happen at the client and at its server, and what each move tells.
-use Rattle.std.specs.Prelude.{◌≡◌, ◌<◌, ℕ, suc, Bool, true, false, List, [], ◌∷◌, ◌++◌, Option, Some, None, MatchOption, is_some}
+use Rattle.std.specs.Prelude.{◌≡◌, ◌<◌, ℕ, suc, ◌+◌, Bool, true, false, List, [], ◌∷◌, ◌++◌, Option, Some, None, MatchOption, is_some}
 use Rattle.jn_base.specs.declared.names.Tid.{Tid}
 use Rattle.jn_base.specs.declared.names.ServerNo.{ServerNo}
 use Rattle.jn_base.specs.declared.names.Cause.{Cause}
@@ -32,6 +32,8 @@ pub record View : Type 0 where
   -- the command that the client waits for, and its transaction
   pub asked : Option Asked
   pub current : Option Tid
+  -- the number of its next request
+  pub requests : ℕ
   pub fate : Fate
   -- the files of the server, and what the transaction sees of them
   pub stored : Files
@@ -47,23 +49,6 @@ is_ending commands.End = true
 is_ending commands.Abort = true
 is_ending _ = false
 
--- the number of the command that the client waits for, if it is a begin, an open, an operation at server 0, an ending
-abbrev pub begin_by : ℕ → Command → Option ℕ
-begin_by j (commands.Begin s) = Some j
-begin_by j _ = None
-
-abbrev pub begin_asked : Option Asked → Option ℕ
-begin_asked None = None
-begin_asked (Some a) = begin_by a.number a.command
-
-abbrev pub open_by : ℕ → Command → Option ℕ
-open_by j (commands.Open s) = Some j
-open_by j _ = None
-
-abbrev pub open_asked : Option Asked → Option ℕ
-open_asked None = None
-open_asked (Some a) = open_by a.number a.command
-
 abbrev pub is_abort : Command → Bool
 is_abort commands.Abort = true
 is_abort _ = false
@@ -71,10 +56,6 @@ is_abort _ = false
 abbrev pub abort_asked : Option Asked → Bool
 abort_asked None = false
 abort_asked (Some a) = is_abort a.command
-
-abbrev pub is_op_asked : Option Asked → ℕ → Op → Type 0
-is_op_asked None j op = ⊥
-is_op_asked (Some a) j op = (a.number ≡ j) × (a.command ≡ commands.Do server_0 op)
 
 -- how an answer from the files is told
 abbrev pub answer_text : ℕ → Answer → Text
@@ -93,31 +74,27 @@ pub data IsPerformed (op : Op) (files : Files) : Answer → Files → Type 0 whe
 
 -- the transaction begins
 abbrev pub begun : View → View
-begun v = record { asked = None; current = Some (name_of v.next); fate = Undecided; stored = v.stored; sees = v.stored; next = suc v.next }
-
--- a transaction of a name that was drawn begins
-abbrev pub opened_as : View → Tid → View
-opened_as v t = record { asked = None; current = Some t; fate = Undecided; stored = v.stored; sees = v.stored; next = v.next }
+begun v = record { asked = None; current = Some (name_of v.next); requests = v.requests; fate = Undecided; stored = v.stored; sees = v.stored; next = suc v.next }
 
 -- the command is answered, and the transaction sees these files
 abbrev pub answered_with : View → Files → View
-answered_with v files = record { asked = None; current = v.current; fate = v.fate; stored = v.stored; sees = files; next = v.next }
+answered_with v files = record { asked = None; current = v.current; requests = v.requests; fate = v.fate; stored = v.stored; sees = files; next = v.next }
 
 -- a name is drawn
 abbrev pub drawn : View → View
-drawn v = record { asked = v.asked; current = v.current; fate = v.fate; stored = v.stored; sees = v.sees; next = suc v.next }
+drawn v = record { asked = v.asked; current = v.current; requests = v.requests; fate = v.fate; stored = v.stored; sees = v.sees; next = suc v.next }
 
 -- the transaction is decided, and these files are stored
 abbrev pub decided : View → Fate → Files → View
-decided v fate files = record { asked = v.asked; current = v.current; fate = fate; stored = files; sees = v.sees; next = v.next }
+decided v fate files = record { asked = v.asked; current = v.current; requests = v.requests; fate = fate; stored = files; sees = v.sees; next = v.next }
 
 -- the client knows the outcome
 abbrev pub over : View → View
-over v = record { asked = None; current = None; fate = v.fate; stored = v.stored; sees = v.sees; next = v.next }
+over v = record { asked = None; current = None; requests = v.requests; fate = v.fate; stored = v.stored; sees = v.sees; next = v.next }
 
 -- the client waits for a command
 abbrev pub waiting_for : View → ℕ → Command → View
-waiting_for v n command = record { asked = asked_for n command; current = v.current; fate = v.fate; stored = v.stored; sees = v.sees; next = v.next }
+waiting_for v n command = record { asked = asked_for n command; current = v.current; requests = v.requests + 1; fate = v.fate; stored = v.stored; sees = v.sees; next = v.next }
 
 -- what can abort a transaction whose client waits for this command
 abbrev pub CanCause : Command → Cause → Type 0
@@ -132,12 +109,6 @@ CanAbort v cause = (v.fate ≡ Undecided) × MatchOption v.asked ⊥ (λ a. CanC
 -- the client waits for the end of its transaction, or for an abort
 abbrev pub IsEnding : View → Type 0
 IsEnding v = MatchOption v.asked ⊥ (λ a. is_ending a.command ≡ true)
-
--- how the client is told of what was decided
-abbrev pub IsOutcome : View → Tid → Text → Type 0
-IsOutcome v t (says.Committed c j u) = (command : Command) × (v.asked ≡ asked_for j command) × (is_ending command ≡ true) × (v.fate ≡ Committed) × (c ≡ client_1) × (u ≡ t)
-IsOutcome v t (says.Aborted c j u cause) = (command : Command) × (v.asked ≡ asked_for j command) × (is_ending command ≡ true) × (v.fate ≡ AbortedBy cause) × (c ≡ client_1) × (u ≡ t)
-IsOutcome v t _ = ⊥
 
 -- What happens in event n, from one view and the lines so far to another view and more lines: one move, or moves one
 -- after another.

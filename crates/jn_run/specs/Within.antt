@@ -10,7 +10,7 @@ use Rattle.jn_schedule.specs.declared.Event.TheVariants as events
 use Rattle.jn_records.specs.declared.intention.What.{What}
 use Rattle.jn_records.specs.declared.intention.What.TheVariants.{Put}
 use Rattle.jn_records.specs.declared.intention.Intention.{Intention}
-use Rattle.jn_run.specs.declared.client.Asked.{Asked}
+use Rattle.jn_rows.specs.declared.client.Outstanding.{Outstanding}
 
 abbrev pub op_within : Op → Bool
 op_within (ops.Write f p bytes) = nat_lt p.0 120
@@ -20,9 +20,9 @@ abbrev pub command_within : Command → Bool
 command_within (commands.Do s op) = op_within op
 command_within _ = true
 
-abbrev pub asked_within : Option Asked → Bool
+abbrev pub asked_within : Option Outstanding → Bool
 asked_within None = true
-asked_within (Some a) = command_within a.command
+asked_within (Some o) = command_within o.command
 
 abbrev pub event_within : Event → Bool
 event_within (events.Command c command) = command_within command

@@ -1,16 +1,13 @@
 -- What is seen of the world.
 use Rattle.std.specs.Prelude.{option_map}
-use Rattle.jn_serial.specs.declared.following.Asked.{Asked}
-use Rattle.jn_run.specs.declared.client.Asked.{Asked as ToldOf}
+use Rattle.jn_client.specs.Calls.{waiting_in}
 use Rattle.jn_run.specs.declared.world.Phase.{Phase}
 use Rattle.jn_run.specs.declared.world.Phase.TheVariants as phases
 use Rattle.jn_run.specs.declared.world.World.{World}
+use Rattle.jn_run.specs.Client.{asked_of}
 use Rattle.jn_run.specs.Disk.{files_on}
 use Rattle.jn_run.specs.Moves.{Fate, Undecided, Committed, AbortedBy, View}
 use Rattle.jn_run.specs.Seen.{sees}
-
-abbrev pub asked_of : ToldOf → Asked
-asked_of a = record { number = a.number; command = a.command }
 
 abbrev pub fate_of : Phase → Fate
 fate_of phases.Open = Undecided
@@ -20,8 +17,9 @@ fate_of (phases.Aborted cause) = AbortedBy cause
 
 abbrev pub view_of : World → View
 view_of w = record {
-  asked = option_map asked_of w.client.asked;
-  current = w.client.current;
+  asked = option_map asked_of (waiting_in w.client.outstanding);
+  current = w.client.transaction;
+  requests = w.client.next;
   fate = fate_of w.phase;
   stored = files_on w.disk;
   sees = sees w.changes w.disk;

@@ -1,6 +1,6 @@
 //! The events of a schedule, run one after another.
 
-ghost use Rattle.std.specs.Prelude.{◌≡◌, ◌≤◌, length, true};
+ghost use Rattle.std.specs.Prelude.{◌≡◌, ◌<◌, ◌≤◌, ◌+◌, ◌^◌, length, true};
 ghost use Rattle.jn_run.specs.Names.{start_line};
 ghost use Rattle.jn_run.specs.Runnable.{is_run, all_run, first_not_run};
 ghost use Rattle.jn_run.specs.Running.{Ran, RunsEvent};
@@ -77,6 +77,7 @@ fn run_event<K: Sink>(
 ) -> Result<(), RunFault>
     requires known { is_run event.now ≡ true }
     requires within { event_within event.now ≡ true }
+    requires few { (view_of world.old).requests + 1 < 2 ^ 32 }
     ensures ran { RunsEvent (K.taken sink.old) (K.faults sink.old) number event.now (view_of world.old) result (view_of world.new) (K.taken sink.new) (K.faults sink.new) }
 {
     let mut lines = Vec::new(alloc);

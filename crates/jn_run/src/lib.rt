@@ -9,7 +9,6 @@ use jn_host::{Failed, Keeper, Sink, Source};
 use std::alloc::Global;
 
 mod changes;
-mod client;
 mod disk;
 mod events;
 mod head;

@@ -2,20 +2,21 @@
 //! between two settles only copies of one command's message and then aborts can be on their way, so
 //! nothing that a message tells has changed by then.
 
+use jn_msgs::Message;
 use std::alloc::{AllocError, Global};
 
-/// What a message is.
+/// What a message is, with the client's request where it asks for an answer or is one.
 #[derive(Clone, Copy, Debug, PartialEq, Eq)]
 pub enum Kind {
-    Begin,
-    Open,
-    Op,
+    Begin(u32),
+    Open(u32),
+    Op(u32),
     End,
     Abort,
     Thanks,
-    Begun,
-    Opened,
-    Answer,
+    Begun(u32),
+    Opened(u32),
+    Answer(u32),
     Outcome,
     Prepare,
     Commit,
@@ -63,5 +64,27 @@ impl Traffic {
         self.delivered += 1;
         self.number = number.saturating_add(1);
         Some((number, kind))
+    }
+}
+
+/// What a message is.
+pub fn kind_of(message: &Message) -> Kind {
+    match message {
+        Message::Begin(_, request) => Kind::Begin(*request),
+        Message::Open(_, request, _) => Kind::Open(*request),
+        Message::Op(_, request, ..) => Kind::Op(*request),
+        Message::End(..) => Kind::End,
+        Message::Abort(..) => Kind::Abort,
+        Message::Thanks(..) => Kind::Thanks,
+        Message::Begun(_, request, _) => Kind::Begun(*request),
+        Message::Opened(_, request, ..) => Kind::Opened(*request),
+        Message::Answer(_, request, _) => Kind::Answer(*request),
+        Message::Outcome(..) => Kind::Outcome,
+        Message::Prepare(..) => Kind::Prepare,
+        Message::Commit(..) => Kind::Commit,
+        Message::Drop(..) => Kind::Drop,
+        Message::Vote(..) => Kind::Vote,
+        Message::Done(..) => Kind::Done,
+        Message::Inquire(..) => Kind::Inquire,
     }
 }

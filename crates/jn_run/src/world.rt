@@ -1,33 +1,38 @@
 //! The world of one server and one client.
 
 ghost use Rattle.jn_base.specs.declared.names.Cause.TheVariants.{Requested, Full};
-ghost use Rattle.std.specs.Prelude.{◌↔◌, ◌⊎◌, ◌≡◌, length, ℕ, List, [], IfOk, None, IfSome, IfNone, ◌<◌, ◌≤◌, Some, true};
+ghost use Rattle.std.specs.Prelude.{◌↔◌, ◌⊎◌, ◌≡◌, length, ℕ, List, [], IfOk, None, IfSome, IfNone, ◌<◌, ◌≤◌, ◌+◌, ◌^◌, Some, true};
 ghost use Rattle.jn_report.specs.declared.line.Line.{Line};
 ghost use Rattle.jn_records.specs.NetLists.{FilesThere};
 ghost use Rattle.jn_run.specs.Disk.{files_on, counts_of, pages_of};
 ghost use Rattle.jn_run.specs.Room.{HasRoom};
-ghost use Rattle.jn_run.specs.Within.{op_within, asked_within, command_within, event_within, puts_within};
-ghost use Rattle.jn_run.specs.Moves.{IsOutcome, abort_asked, begin_asked, open_asked, is_op_asked, opened_as};
+ghost use Rattle.jn_run.specs.Within.{op_within, command_within, event_within, puts_within};
+ghost use Rattle.jn_run.specs.Client.{is_ours, IsHanded, IsRefused, begin_asked, is_op_asked, open_now, outcome_of};
+ghost use Rattle.jn_rows.specs.Client.{take_row};
 ghost use Rattle.jn_schedule.specs.declared.Event.TheVariants as events;
 ghost use Rattle.jn_run.specs.Pages.{epoch_in, only_server_0, server_0};
 ghost use Rattle.jn_order.specs.Files.{no_files};
 ghost use Rattle.jn_run.specs.Ending.{ArePrinted, end_line};
 ghost use Rattle.jn_run.specs.Names.{client_1, name_of, line_at};
-ghost use Rattle.jn_run.specs.Moves.{Leads, Runs, CanAbort, IsEnding, Undecided, AbortedBy, Committed, decided, drawn, is_ending, answer_text};
+ghost use Rattle.jn_run.specs.Moves.{Leads, Runs, CanAbort, IsEnding, Undecided, AbortedBy, Committed, abort_asked, decided, drawn, is_ending};
 ghost use Rattle.jn_run.specs.Runnable.{is_run};
 
 use crate::changes::{Changes, Shortage};
-use crate::client::{Asked, Client};
 use crate::disk::Disk;
-use crate::traffic::{Kind, Traffic};
-use jn_base::{Answer, Cause, ClientNo, Command, Op, ServerNo, Tid};
-use jn_report::{Line, Refusal, Text, When};
+use crate::traffic::{Kind, Traffic, kind_of};
+use jn_base::{Cause, ClientNo, Command, Op, Party, ServerNo, Tid, WorkId};
+use jn_client::{Client, CommandFault, Taken};
+use jn_msgs::{Message, Outcome};
+use jn_report::{Line, Text, When};
 use jn_schedule::Event;
 use std::alloc::{AllocError, Global};
 
 pub const CLIENT: ClientNo = ClientNo(1);
 
 pub const SERVER: ServerNo = ServerNo(0);
+
+/// How many servers the client knows of.
+const SERVERS: u8 = 1;
 
 /// The epoch of a run, from the first start of the server to the end.
 const EPOCH: u32 = 1;
@@ -55,8 +60,12 @@ enum Work {
 pub struct World {
     disk: Disk,
     client: Client,
+    // its last transaction
+    tid: Tid,
     phase: Phase,
     changes: Changes,
+    // the ticket of its last work
+    opened: u32,
     next_ticket: u32,
     commits: u32,
     // What follows tells only which messages are sent.
@@ -69,7 +78,7 @@ pub struct World {
     ghost there: { FilesThere changes.list (files_on disk) },
     ghost within: { puts_within changes.list ≡ true },
     ghost few: { length changes.list ≤ 24 },
-    ghost asked: { asked_within client.asked ≡ true },
+    ghost ours: { is_ours client ≡ true },
     ghost epoch: { epoch_in (pages_of disk 0) ≡ 1 },
 }
 
@@ -80,15 +89,18 @@ impl World {
     pub fn new(alloc: Global) -> Result<World, AllocError>
         ensures asked { IfOk result (λ w. (view_of w).asked ≡ None) }
         ensures current { IfOk result (λ w. (view_of w).current ≡ None) }
+        ensures requests { IfOk result (λ w. (view_of w).requests ≡ 1) }
         ensures stored { IfOk result (λ w. no_files ≡ only_server_0 (view_of w).stored) }
     {
         let mut disk = Disk::new(alloc)?;
         disk.raise_epoch();
         Ok(World {
             disk,
-            client: Client::new(),
+            client: Client::new(alloc, CLIENT, SERVERS),
+            tid: tid_of(0),
             phase: Phase::Committed,
             changes: Changes::new(alloc),
+            opened: 0,
             next_ticket: 0,
             commits: 0,
             work: Work::None,
@@ -108,6 +120,7 @@ impl World {
     ) -> Result<(), AllocError>
         requires known { is_run event.now ≡ true }
         requires within { event_within event.now ≡ true }
+        requires few { (view_of self.old).requests + 1 < 2 ^ 32 }
         requires first { lines.old.items ≡ [] }
         ensures ran { IfOk result (λ done. Runs number event.now (view_of self.old) (view_of self.new) lines.new.items) }
     {
@@ -125,16 +138,13 @@ impl World {
         lines: &mut Vec<Line>,
     ) -> Result<(), AllocError>
         requires within { command_within command.now ≡ true }
+        requires few { (view_of self.old).requests + 1 < 2 ^ 32 }
         requires first { lines.old.items ≡ [] }
         ensures ran { IfOk result (λ done. Runs number (events.Command client_1 command.now) (view_of self.old) (view_of self.new) lines.new.items) }
     {
         match self.client.command(number, command) {
-            Some(refusal) => {
-                let text = Text::Refused(CLIENT, number, refusal);
-                lines.push(line_at(number, text))?;
-                Ok(())
-            }
-            None => self.traffic.send(kind_of(command)),
+            Ok(sent) => self.send(sent),
+            Err(fault) => refuse(number, fault, lines),
         }
     }
 
@@ -142,10 +152,8 @@ impl World {
     fn again(&mut self) -> Result<(), AllocError>
         ensures same { view_of self.new ≡ view_of self.old }
     {
-        match self.client.asked {
-            Some(asked) => self.traffic.send(kind_of(&asked.command)),
-            None => Ok(()),
-        }
+        let sent = self.client.again()?;
+        self.send(sent)
     }
 
     /// Messages and steps, until nothing is left to do; then the server asks of its work.
@@ -216,116 +224,142 @@ impl World {
         ensures moved { IfOk result (λ taken. Leads number (view_of self.old) lines.old.items (view_of self.new) lines.new.items) }
     {
         match kind {
-            Kind::Begun => self.take_begun(alloc, number, lines),
-            Kind::Opened => self.take_opened(number, lines),
-            Kind::Answer => self.take_answer(number, lines),
+            Kind::Begun(request) => self.take_begun(alloc, number, request, lines),
+            Kind::Opened(request) => self.take_opened(number, request, lines),
+            Kind::Answer(request) => self.take_answer(number, request, lines),
             Kind::Outcome => self.take_outcome(number, lines),
             Kind::End => self.end(alloc, number, lines),
             Kind::Vote => self.vote(alloc, number, lines),
             Kind::Abort => self.abort(),
-            Kind::Open => self.open(),
+            Kind::Open(request) => self.open(request),
             _ => self.pass(kind),
         }
     }
 
     // At the client.
 
+    /// Hands the client a message, reports what it tells and sends what it sends. Whether it wasn't stale.
+    fn hand(
+        &mut self,
+        number: u32,
+        message: &Message,
+        lines: &mut Vec<Line>,
+    ) -> Result<bool, AllocError>
+        ensures handed { IfOk result (λ taken. IsHanded number (take_row self.old.client message.now) (view_of self.old) lines.old.items (view_of self.new) lines.new.items) }
+    {
+        match self.client.take(message) {
+            Taken::Ignored => Ok(false),
+            Taken::Send(to, thanks) => {
+                self.send(Some((to, thanks)))?;
+                Ok(true)
+            }
+            Taken::Told(text, thanks) => {
+                lines.push(line_at(number, text))?;
+                self.send(thanks)?;
+                Ok(true)
+            }
+        }
+    }
+
+    /// Sends what the client gives.
+    fn send(&mut self, sent: Option<(Party, Message)>) -> Result<(), AllocError>
+        ensures same { view_of self.new ≡ view_of self.old }
+    {
+        match sent {
+            Some((_, message)) => self.traffic.send(kind_of(&message)),
+            None => Ok(()),
+        }
+    }
+
+    /// A begin that the client waits for is done here: nothing has happened since it was asked for.
     fn take_begun(
         &mut self,
         alloc: Global,
         number: u32,
+        request: u32,
         lines: &mut Vec<Line>,
     ) -> Result<bool, AllocError>
         ensures moved { IfOk result (λ taken. Leads number (view_of self.old) lines.old.items (view_of self.new) lines.new.items) }
     {
-        let Some(j) = self.asked_begin() else {
-            return Ok(false);
-        };
-        if self.client.current.is_some() {
+        if !self.asks_begin(request) || self.client.transaction().is_some() {
             return Ok(false);
         }
         let Some(tid) = self.draw() else {
             return Ok(false);
         };
-        lines.push(line_at(number, Text::Begun(CLIENT, j, tid)))?;
         self.begin(alloc, tid);
-        Ok(true)
+        self.hand(number, &Message::Begun(CLIENT, request, Some(tid)), lines)
     }
 
-    /// The number of the begin that the client waits for.
-    fn asked_begin(&self) -> Option<u32>
-        ensures { result ≡ begin_asked (view_of self.now).asked }
+    /// Whether the client waits for a begin of this request.
+    fn asks_begin(&self, request: u32) -> bool
+        ensures { result ≡ begin_asked request self.now.client.outstanding }
     {
-        let asked = self.client.asked?;
-        match asked.command {
-            Command::Begin(_) => Some(asked.number),
-            _ => None,
+        match self.client.waits_for() {
+            Some(asked) if asked.request == request => matches!(asked.command, Command::Begin(_)),
+            _ => false,
         }
     }
 
-    /// The transaction is the client's, and open.
+    /// The transaction of this name is open.
     fn begin(&mut self, alloc: Global, tid: Tid)
-        ensures { view_of self.new ≡ opened_as (view_of self.old) tid }
+        ensures begun { view_of self.new ≡ open_now (view_of self.old) }
+        ensures client { self.new.client ≡ self.old.client }
     {
         self.changes = Changes::new(alloc);
         self.phase = Phase::Open;
-        self.client = Client {
-            asked: None,
-            current: Some(tid),
-            is_open: false,
-        };
+        self.tid = tid;
         self.is_done = false;
         self.is_thanked = false;
     }
 
-    fn take_opened(&mut self, number: u32, lines: &mut Vec<Line>) -> Result<bool, AllocError>
+    fn take_opened(
+        &mut self,
+        number: u32,
+        request: u32,
+        lines: &mut Vec<Line>,
+    ) -> Result<bool, AllocError>
         ensures moved { IfOk result (λ taken. Leads number (view_of self.old) lines.old.items (view_of self.new) lines.new.items) }
     {
-        let Some(j) = self.asked_open() else {
-            return Ok(false);
+        let work = WorkId {
+            server: SERVER,
+            epoch: EPOCH,
+            ticket: self.opened,
         };
-        lines.push(line_at(number, Text::Opened(CLIENT, j, SERVER)))?;
-        self.client.asked = None;
-        self.client.is_open = true;
-        Ok(true)
+        self.hand(
+            number,
+            &Message::Opened(CLIENT, request, self.tid, Some(work)),
+            lines,
+        )
     }
 
-    /// The number of the open that the client waits for.
-    fn asked_open(&self) -> Option<u32>
-        ensures { result ≡ open_asked (view_of self.now).asked }
-    {
-        let asked = self.client.asked?;
-        match asked.command {
-            Command::Open(_) => Some(asked.number),
-            _ => None,
-        }
-    }
-
-    /// An answer to the operation that the client waits for. Nothing has happened since it was performed,
-    /// so it is performed here.
-    fn take_answer(&mut self, number: u32, lines: &mut Vec<Line>) -> Result<bool, AllocError>
+    /// An operation that the client waits for is performed here: nothing has happened since it was asked for.
+    fn take_answer(
+        &mut self,
+        number: u32,
+        request: u32,
+        lines: &mut Vec<Line>,
+    ) -> Result<bool, AllocError>
         ensures moved { IfOk result (λ taken. Leads number (view_of self.old) lines.old.items (view_of self.new) lines.new.items) }
     {
-        let Some((j, op)) = self.asked_op() else {
+        let Some(op) = self.asked_op(request) else {
             return Ok(false);
         };
-        if self.client.current.is_none() || !self.is_undecided() {
+        if self.client.transaction().is_none() || !self.is_undecided() {
             return Ok(false);
         }
         let answer = self.changes.perform(&self.disk, &op)?;
-        lines.push(line_at(number, text_of_answer(j, &answer)))?;
-        self.client.asked = None;
-        Ok(true)
+        self.hand(number, &Message::Answer(CLIENT, request, answer), lines)
     }
 
-    /// The operation that the client waits for, and its number.
-    fn asked_op(&self) -> Option<(u32, Op)>
-        ensures asked { IfSome result (λ x. is_op_asked (view_of self.now).asked x.0 x.1) }
-        ensures within { IfSome result (λ x. op_within x.1 ≡ true) }
+    /// The operation of this request, where the client waits for it.
+    fn asked_op(&self, request: u32) -> Option<Op>
+        ensures asked { IfSome result (λ op. is_op_asked request op self.now.client.outstanding) }
+        ensures within { IfSome result (λ op. op_within op ≡ true) }
     {
-        let asked = self.client.asked?;
+        let asked = self.client.waits_for()?;
         match asked.command {
-            Command::Do(ServerNo(0), op) => Some((asked.number, op)),
+            Command::Do(ServerNo(0), op) if asked.request == request => Some(op),
             _ => None,
         }
     }
@@ -342,47 +376,47 @@ impl World {
     fn take_outcome(&mut self, number: u32, lines: &mut Vec<Line>) -> Result<bool, AllocError>
         ensures moved { IfOk result (λ taken. Leads number (view_of self.old) lines.old.items (view_of self.new) lines.new.items) }
     {
-        let Some(tid) = self.client.current else {
-            self.traffic.send(Kind::Thanks)?;
-            return Ok(true);
-        };
-        let Some(text) = self.outcome_text(tid) else {
+        let Some(outcome) = self.outcome() else {
             return Ok(false);
         };
-        lines.push(line_at(number, text))?;
-        self.client = Client::new();
-        self.traffic.send(Kind::Thanks)?;
-        Ok(true)
+        self.hand(number, &Message::Outcome(CLIENT, self.tid, outcome), lines)
     }
 
-    /// What the client is told of its transaction's outcome.
-    fn outcome_text(&self, tid: Tid) -> Option<Text>
-        requires { self.now.client.current ≡ Some tid }
-        ensures { IfSome result (λ text. IsOutcome (view_of self.now) tid text) }
+    /// What is decided of the last transaction.
+    fn outcome(&self) -> Option<Outcome>
+        ensures { result ≡ outcome_of (view_of self.now).fate }
     {
-        let asked = self.client.asked?;
         match self.phase {
-            Phase::Committed if is_ending(&asked.command) => {
-                Some(Text::Committed(CLIENT, asked.number, tid))
-            }
-            Phase::Aborted(cause) if is_ending(&asked.command) => {
-                Some(Text::Aborted(CLIENT, asked.number, tid, cause))
-            }
+            Phase::Committed => Some(Outcome::Committed),
+            Phase::Aborted(cause) => Some(Outcome::Aborted(cause)),
             _ => None,
         }
     }
 
     // At the server.
 
-    /// A work begins, if none is there.
-    fn open(&mut self) -> Result<bool, AllocError>
+    fn open(&mut self, request: u32) -> Result<bool, AllocError>
         ensures moved { (view_of self.new ≡ view_of self.old) ⊎ (view_of self.new ≡ drawn (view_of self.old)) }
     {
-        if self.work == Work::None {
-            let _name = self.draw();
-            self.work = Work::Active;
+        if !self.has_begun_work() {
+            return Ok(false);
         }
-        self.reply(Kind::Opened)
+        self.reply(Kind::Opened(request))
+    }
+
+    /// Begins a work, if none is there. Whether there is one then.
+    fn has_begun_work(&mut self) -> bool
+        ensures moved { (view_of self.new ≡ view_of self.old) ⊎ (view_of self.new ≡ drawn (view_of self.old)) }
+    {
+        if self.work != Work::None {
+            return true;
+        }
+        let Some(name) = self.draw() else {
+            return false;
+        };
+        self.opened = name.ticket;
+        self.work = Work::Active;
+        true
     }
 
     /// The end of a transaction: at once where it opened no server.
@@ -390,7 +424,7 @@ impl World {
         ensures moved { IfOk result (λ taken. Leads number (view_of self.old) lines.old.items (view_of self.new) lines.new.items) }
     {
         match self.phase {
-            Phase::Open if self.client.is_open => {
+            Phase::Open if self.client.is_open_at(SERVER) => {
                 self.phase = Phase::Voting;
                 self.traffic.send(Kind::Prepare)?;
                 Ok(true)
@@ -416,7 +450,7 @@ impl World {
     fn asks_abort(&self) -> bool
         ensures { result ≡ abort_asked (view_of self.now).asked }
     {
-        match self.client.asked {
+        match self.client.waits_for() {
             Some(asked) => matches!(asked.command, Command::Abort),
             None => false,
         }
@@ -460,7 +494,7 @@ impl World {
         requires open { (view_of self.old).fate ≡ Undecided }
         ensures moved { IfOk result (λ taken. Leads number (view_of self.old) lines.old.items (view_of self.new) lines.new.items) }
     {
-        match (self.client.asked, self.client.current) {
+        match (self.client.waits_for(), self.client.transaction()) {
             (Some(asked), Some(tid)) if is_ending(&asked.command) => {
                 match self.changes.shortage(&self.disk) {
                     Some(short) => self.decide_abort(full(&short)),
@@ -483,14 +517,14 @@ impl World {
     ) -> Result<(), AllocError>
         requires open { (view_of self.old).fate ≡ Undecided }
         requires ending { IsEnding (view_of self.old) }
-        requires current { self.old.client.current ≡ Some tid }
+        requires current { self.old.client.transaction ≡ Some tid }
         requires room { HasRoom (counts_of self.old.disk) (pages_of self.old.disk) self.old.changes.list }
         ensures moved { IfOk result (λ done. Leads number (view_of self.old) lines.old.items (view_of self.new) lines.new.items) }
     {
         lines.push(line_at(number, Text::Commit(tid)))?;
         self.carry_out(alloc);
         self.commits = self.commits.saturating_add(1);
-        self.is_done = !self.client.is_open;
+        self.is_done = !self.client.is_open_at(SERVER);
         self.send_commit()
     }
 
@@ -498,7 +532,7 @@ impl World {
     fn send_commit(&mut self) -> Result<(), AllocError>
         ensures same { view_of self.new ≡ view_of self.old }
     {
-        if self.client.is_open {
+        if self.client.is_open_at(SERVER) {
             self.traffic.send(Kind::Commit)?;
         }
         self.traffic.send(Kind::Outcome)
@@ -519,7 +553,7 @@ impl World {
     {
         self.phase = Phase::Aborted(cause);
         self.is_done = true;
-        if self.client.is_open {
+        if self.client.is_open_at(SERVER) {
             self.traffic.send(Kind::Drop)?;
         }
         self.traffic.send(Kind::Outcome)?;
@@ -549,8 +583,8 @@ impl World {
         ensures same { view_of self.new ≡ view_of self.old }
     {
         match kind {
-            Kind::Begin => self.reply(Kind::Begun),
-            Kind::Op => self.reply(Kind::Answer),
+            Kind::Begin(request) => self.reply(Kind::Begun(request)),
+            Kind::Op(request) => self.reply(Kind::Answer(request)),
             Kind::Prepare => self.prepare(),
             Kind::Commit => self.carry_on(),
             Kind::Drop => Ok(self.drop_work()),
@@ -648,11 +682,7 @@ impl World {
     {
         let ticket = self.next_ticket;
         self.next_ticket = ticket.checked_add(1)?;
-        Some(Tid {
-            server: SERVER,
-            epoch: EPOCH,
-            ticket,
-        })
+        Some(tid_of(ticket))
     }
 
     /// The lines at the end: the server goes down and comes up again, its files are printed from its pages,
@@ -671,14 +701,28 @@ impl World {
     }
 }
 
-/// The message of a command.
-fn kind_of(command: &Command) -> Kind {
-    match command {
-        Command::Begin(_) => Kind::Begin,
-        Command::Open(_) => Kind::Open,
-        Command::Do(..) => Kind::Op,
-        Command::End => Kind::End,
-        Command::Abort => Kind::Abort,
+/// Says why the client refuses the command of an event.
+fn refuse(number: u32, fault: CommandFault, lines: &mut Vec<Line>) -> Result<(), AllocError>
+    ensures { IfOk result (λ done. IsRefused number fault lines.old.items lines.new.items) }
+{
+    match fault {
+        CommandFault::Memory => Err(AllocError),
+        CommandFault::Refused(refusal) => {
+            let text = Text::Refused(CLIENT, number, refusal);
+            lines.push(line_at(number, text))?;
+            Ok(())
+        }
+    }
+}
+
+/// The name of a ticket.
+fn tid_of(ticket: u32) -> Tid
+    ensures { result ≡ name_of ticket }
+{
+    Tid {
+        server: SERVER,
+        epoch: EPOCH,
+        ticket,
     }
 }
 
@@ -693,20 +737,6 @@ fn full(short: &Shortage) -> Cause
     ensures { result ≡ Full server_0 short.now.number short.now.free short.now.need }
 {
     Cause::Full(SERVER, short.number, short.free, short.need)
-}
-
-/// How an answer to an operation is told.
-fn text_of_answer(number: u32, answer: &Answer) -> Text
-    ensures { result ≡ answer_text number answer.now }
-{
-    match answer {
-        Answer::Did => Text::Did(CLIENT, number),
-        Answer::Read(bytes) => Text::Read(CLIENT, number, *bytes),
-        Answer::Exists => Text::Refused(CLIENT, number, Refusal::Exists),
-        Answer::TooManyReads => Text::Refused(CLIENT, number, Refusal::TooManyReads),
-        Answer::TooManyWrites => Text::Refused(CLIENT, number, Refusal::TooManyWrites),
-        _ => Text::Refused(CLIENT, number, Refusal::NoFile),
-    }
 }
 
 fn line_at(number: u32, text: Text) -> Line

@@ -4,6 +4,7 @@ use Rattle.jn_report.specs.declared.line.Line.{Line}
 use Rattle.jn_run.specs.World.{view_of}
 use Rattle.jn_run.specs.Ending.{ArePrinted}
 use Rattle.jn_run.proofs.Running.{between-start}
+use Rattle.jn_run.proofs.Requests.{one-more-request}
 use Rattle.jn_run.proofs.Schedules.{one-is-run, one-is-within}
 use Rattle.jn_run.proofs.Stops.{cut-first, cut-start, cut-at, cut-end, told-start}
 use Rattle.jn_run.proofs.Cut.{ToldTo, told-more, ran-to-end}
@@ -28,6 +29,7 @@ loop-event-init g c =
     let start = c.in_ok-world.ensures in
     record {
       number = refl;
+      requests = omega (arith, start.requests);
       told = told-start _ _ _ _ c.args.events.now (view_of c.in_ok-world.world) (c.start_line.result ∷ []) c.report.result (ap is_ok c.in_ok-report.was)
           (between-start (view_of c.in_ok-world.world) start.asked start.current start.stored) (ap (λ (l : Line). l ∷ []) c.start_line.ensures) c.report.ensures.reported;
     }
@@ -37,6 +39,9 @@ run_event-requires-clause-known g c = one-is-run _ c.args.events.now c.loop-even
 
 pub run_event-requires-clause-within : goal.run_event-requires-clause-within
 run_event-requires-clause-within g c = one-is-within _ c.args.events.now c.loop-event.event-index c.loop-event-test.true c.requires.within
+
+pub run_event-requires-clause-few : goal.run_event-requires-clause-few
+run_event-requires-clause-few g c = omega (arith, c.loop-event.invariant.requests, c.loop-event-test.true, c.requires.few)
 
 pub returns-in_err-run_event : goal.returns-in_err-run_event
 returns-in_err-run_event g c =
@@ -49,6 +54,7 @@ returns-in_err-run_event g c =
 pub loop-event-preserved : goal.loop-event-preserved
 loop-event-preserved g c = record {
   number = ap (λ (n : ℕ). n + 1) c.loop-event.invariant.number;
+  requests = one-more-request _ _ _ _ _ _ _ _ _ c.loop-event.event-index (c.run_event.ensures.ran) (ap is_ok c.in_ok-run_event.was) c.loop-event.invariant.requests;
   told = told-more _ _ _ _ _ _ _ c.args.events.now c.loop-event.event-index (c.loop-event.number + 1) (view_of c.loop-event.world) (view_of c.run_event.new.world) c.run_event.result
       c.loop-event-test.true (ap (λ (n : ℕ). n + 1) c.loop-event.invariant.number) c.loop-event.invariant.told c.run_event.ensures.ran (ap is_ok c.in_ok-run_event.was);
 }

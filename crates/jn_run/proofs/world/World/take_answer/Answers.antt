@@ -1,10 +1,8 @@
-use Rattle.std.proofs.Common.{not, ◌∙◌, ap}
-use Rattle.jn_report.specs.declared.line.Text.{Text}
-use Rattle.jn_run.specs.Names.{line_at}
+use Rattle.std.proofs.Common.{not, sym, ◌∙◌, ap, is_some}
 use Rattle.jn_run.specs.Seen.{sees}
 use Rattle.jn_run.specs.World.{view_of}
 use Rattle.jn_run.specs.Moves.{stays}
-use Rattle.jn_run.proofs.Handled.{performed-by}
+use Rattle.jn_run.proofs.Rows.{answered-on, handed, seeing}
 use Rattle.jn_run.proofs.world.World.take_answer.Goals as goal
 
 pub returns-in_default : goal.returns-in_default
@@ -15,7 +13,7 @@ returns-then-is_none c = record { moved = stays _ _ }
 
 pub returns : goal.returns
 returns c = record {
-  moved = performed-by c.args.number c.in-Some.j c.in-Some.op c.in_ok-answer.answer (sees c.perform.new.self c.args.self.now.disk) (view_of c.args.self.now) c.args.lines.now.items c.push.new.self.items c.line_at.result
-      c.in-Some.ensures.asked (c.is_none.ensures ∙ ap not c.if-is_none.false) (c.is_undecided.ensures.0 c.if-not-is_undecided.false) c.in_ok-answer.ensures.performed
-      (c.line_at.ensures ∙ ap (λ (t : Text). line_at c.args.number t) c.text_of_answer.ensures) c.in_ok-push.ensures.items;
+  moved = handed c.hand.result c.args.number _ (view_of c.args.self.now) (seeing (view_of c.args.self.now) (sees c.perform.new.self c.args.self.now.disk)) (view_of c.hand.new.self) c.args.lines.now.items c.hand.new.lines.items c.hand.ensures.handed
+      (answered-on c.args.number c.args.request (view_of c.args.self.now) c.args.self.now.client c.in-Some.op c.in_ok-answer.answer (sees c.perform.new.self c.args.self.now.disk) c.args.lines.now.items c.args.self.now.ours
+      c.in-Some.ensures.asked (ap is_some (sym c.transaction.ensures) ∙ c.is_none.ensures ∙ ap not c.if-is_none.false) (c.is_undecided.ensures.0 c.if-not-is_undecided.false) c.in_ok-answer.ensures.performed);
 }

@@ -1,10 +1,10 @@
-use Rattle.std.proofs.Common.{sym, ◌∙◌}
-use Rattle.jn_run.specs.Moves.{stays}
-use Rattle.jn_run.proofs.Handled.{opened-by}
+use Rattle.std.proofs.Common.{refl}
+use Rattle.jn_run.specs.World.{view_of}
+use Rattle.jn_run.proofs.Rows.{opened-on, handed}
 use Rattle.jn_run.proofs.world.World.take_opened.Goals as goal
 
-pub returns-in_default : goal.returns-in_default
-returns-in_default c = record { moved = stays _ _ }
-
 pub returns : goal.returns
-returns c = record { moved = opened-by _ _ _ _ _ _ (sym c.asked_open.ensures ∙ c.in-Some.is) c.line_at.ensures c.in_ok-push.ensures.items }
+returns c = record {
+  moved = handed c.hand.result c.args.number _ (view_of c.args.self.now) (view_of c.args.self.now) (view_of c.hand.new.self) c.args.lines.now.items c.hand.new.lines.items c.hand.ensures.handed
+      (opened-on c.args.number c.args.request (view_of c.args.self.now) c.args.self.now.client c.args.self.now.tid _ c.args.lines.now.items c.args.self.now.ours refl);
+}
