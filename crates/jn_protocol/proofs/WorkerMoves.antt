@@ -41,7 +41,7 @@ use Rattle.jn_protocol.proofs.Tables.{of-found}
 use Rattle.jn_protocol.proofs.WorkerRows.{no-lock}
 use Rattle.jn_protocol.proofs.GrantMoves.{found-here, found-same, active-here}
 use Rattle.jn_protocol.proofs.Mirrored.{DoesRow}
-use Rattle.jn_protocol.proofs.QuietMoves.{RowMoves, sends-moves, phase-moves, open-moves}
+use Rattle.jn_protocol.proofs.QuietMoves.{RowMoves, still-stops, sends-moves, phase-moves, open-moves}
 use Rattle.jn_protocol.proofs.OpMoves.{atoms, may-op, op-does, op-ran}
 use Rattle.jn_protocol.proofs.PrepareMoves.{prepare-moves}
 
@@ -86,6 +86,7 @@ module _ (r : World) (w : Machine) (s : ServerNo) (m : Memory) (mirrors : Mirror
           may = may-op r w s m mirrors is up grow x a found e op free;
           does = subst (λ (v : Machine). DoesRow s m (granted_row m.worker m.tickets c request x a op answer (wants_of op (is_fit answer)) None) w v)
               (sym (op-ran r w s m mirrors is up grow x a found e op free)) (op-does r w s m mirrors is up grow x a found e op free c request);
+          stops = still-stops r w s m mirrors is up _ refl;
         }
 
     again : (c : ClientNo) (request : ℕ) (o : Option Answer) → RowMoves s m (repeated m.worker m.tickets c request o) w
@@ -144,6 +145,7 @@ module _ (r : World) (w : Machine) (s : ServerNo) (m : Memory) (mirrors : Mirror
         says = All-cons (IsTrue (run (NoteReady x.name ∷ []) w)) (Server T.server, messages.Vote T x.name votes.Ready) [] (noted (work_tells x.name x.name), grow (NoteReady x.name ∷ []) may (messages.Prepare T c x.name) said)
             (All-nil (IsTrue (run (NoteReady x.name ∷ []) w)));
       };
+      stops = still-stops r w s m mirrors is up _ refl;
     }
       where
         may : MayRun (NoteReady x.name ∷ []) w

@@ -21,7 +21,7 @@ use Rattle.jn_machine.specs.Steps.{Atom, run}
 use Rattle.jn_machine.specs.Premises.{MayRun}
 use Rattle.jn_machine.specs.Messages.{Says}
 use Rattle.jn_protocol.specs.World.{World, Memory}
-use Rattle.jn_protocol.specs.Steps.{Step, NextEvent, Deliver, Timeout, Crash, Narrow, StopRestart}
+use Rattle.jn_protocol.specs.Steps.{Step, NextEvent, Deliver, StopDelivery, Timeout, Crash, Narrow, StopRestart}
 
 -- ---- what a server's tables say
 
@@ -95,6 +95,7 @@ is_shown_sent (Some (Server s, message)) = is_shown_message message
 abbrev pub is_shown : Step → World → Bool
 is_shown NextEvent r = true
 is_shown (Deliver k room) r = is_shown_sent (slice_get r.sent k)
+is_shown (StopDelivery k room made) r = is_shown_sent (slice_get r.sent k)
 is_shown (Timeout s T) r = true
 is_shown (Crash s) r = true
 is_shown (Narrow s g) r = true
