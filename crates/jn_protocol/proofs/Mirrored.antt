@@ -19,7 +19,7 @@ use Rattle.jn_machine.specs.Messages.{Says}
 use Rattle.jn_protocol.specs.World.{World, Memory, at_server}
 use Rattle.jn_protocol.specs.Servers.{of_worker, counted_all}
 use Rattle.jn_protocol.specs.Steps.{done, stopped}
-use Rattle.jn_protocol.specs.Mirrors.{Mirrors, IsTrue, working_of, active_in, next_in, known_in}
+use Rattle.jn_protocol.specs.Mirrors.{Mirrors, IsTrue, IsAddressed, working_of, active_in, next_in, known_in}
 
 -- what the machine's steps have changed at the server of a row
 pub record DoesRow (s : ServerNo) (m : Memory) (row : RowOutcome WorkerTable) (w v : Machine) : Type 0 where
@@ -35,6 +35,7 @@ pub record DoesRow (s : ServerNo) (m : Memory) (row : RowOutcome WorkerTable) (w
   pub owner : (W : WorkId) (x : Work) → work_at W row.table ≡ Some x → Says v (Inquire x.tid W)
   pub grows : (message : Message) → Says w message → Says v message
   pub says : All (IsTrue v) row.messages
+  pub addressed : All IsAddressed row.messages
 
 All-grows : (w v : Machine) → ((message : Message) → Says w message → Says v message) → (sent : List Sent) → All (IsTrue w) sent → All (IsTrue v) sent
 All-grows w v g sent h = λ k d l. g _ (h k d l)
@@ -94,6 +95,7 @@ module _ (r : World) (w v : Machine) (s : ServerNo) (m : Memory) (row : RowOutco
     knowledge = λ T. is-known T (server_tells s T.server);
     owner = λ q n W x e h. is-owner q n W x (server_tells s q) e h;
     says = All-append (IsTrue v) r.sent row.messages (All-grows w v does.grows r.sent mirrors.says) does.says;
+    addressed = All-append IsAddressed r.sent row.messages mirrors.addressed does.addressed;
   }
 
 -- ---- a row that is stopped
@@ -154,4 +156,5 @@ module _ (r : World) (w v : Machine) (s : ServerNo) (m : Memory) (row : RowOutco
     knowledge = λ T. gone-known T (server_tells s T.server);
     owner = λ q n W x e h. gone-owner q n W x (server_tells s q) e h;
     says = All-grows w (crash s v) (λ message h. grow message (does.grows message h)) r.sent mirrors.says;
+    addressed = mirrors.addressed;
   }

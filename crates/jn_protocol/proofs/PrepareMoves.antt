@@ -30,7 +30,7 @@ use Rattle.jn_machine.specs.Premises.{MayRun, MayPrepare}
 use Rattle.jn_machine.specs.Messages.{Says, IsPartOf}
 use Rattle.jn_protocol.specs.World.{World, Memory}
 use Rattle.jn_protocol.specs.LockFacts.{UpFact, TableFact, StoredFact, IsSoundWork, IsSoundActive}
-use Rattle.jn_protocol.specs.Mirrors.{Mirrors, IsTrue, working_of, working_in, next_in}
+use Rattle.jn_protocol.specs.Mirrors.{Mirrors, IsTrue, IsAddressed, working_of, working_in, next_in}
 use Rattle.jn_protocol.proofs.Granted.{Regrants, granted}
 use Rattle.jn_protocol.proofs.Rows.{prepared-keeps}
 use Rattle.jn_protocol.proofs.Restored.{stored-fact}
@@ -230,6 +230,7 @@ module _ (r : World) (w : Machine) (s : ServerNo) (m : Memory) (mirrors : Mirror
     grows = grown;
     says = All-cons (IsTrue prepared-world) (Server T.server, messages.Vote T x.name votes.Ready) []
         (was-ready, grown (messages.Prepare T c x.name) said) (All-nil (IsTrue prepared-world));
+    addressed = All-cons IsAddressed (Server T.server, messages.Vote T x.name votes.Ready) [] tt (All-nil IsAddressed);
   }
 
   -- ---- where it is stopped

@@ -32,7 +32,7 @@ use Rattle.jn_protocol.specs.World.{World, Memory, at_server, opening, new_memor
 use Rattle.jn_protocol.specs.Servers.{Room, of_worker, server_row, of_timeout}
 use Rattle.jn_protocol.specs.Steps.{Step, NextEvent, Tell, Again, Deliver, Work as Works, Nudge, Timeout, StopDelivery, StopWork, Crash, Narrow, StopRestart, Restart, after, done, stopped, ends, at_memory, handed, timeout, crash, narrow, stop_restart}
 use Rattle.jn_protocol.specs.LockFacts.{LockFacts, ServerFact, UpFact}
-use Rattle.jn_protocol.specs.Mirrors.{Mirrors, MovesTo, IsTrue, is_shown, is_shown_sent, is_shown_message, active_in, next_in, known_in, working_in}
+use Rattle.jn_protocol.specs.Mirrors.{Mirrors, MovesTo, IsTrue, IsAddressed, is_shown, is_shown_sent, is_shown_message, active_in, next_in, known_in, working_in}
 use Rattle.jn_protocol.proofs.Tables.{of-found}
 use Rattle.jn_protocol.proofs.Mirrored.{mirrored, stop-mirrored}
 use Rattle.jn_protocol.proofs.QuietMoves.{RowMoves, StopMoves, phase-moves}
@@ -67,6 +67,7 @@ same-tables w r q h m f sent = record {
   knowledge = λ T. h.knowledge T ∙ sym (ap (λ o. known_in o T) (m T.server));
   owner = λ s n W v e k. h.owner s n W v (sym (m s) ∙ e) k;
   says = subst (λ l. All (IsTrue w) l) (sym sent) h.says;
+  addressed = subst (λ l. All IsAddressed l) (sym sent) h.addressed;
 }
 
 module _ (w : Machine) (grow : (atoms : List Atom) → MayRun atoms w → (message : Message) → Says w message → Says (run atoms w) message) (parts : PartFact w)
@@ -142,6 +143,7 @@ module _ (w : Machine) (grow : (atoms : List Atom) → MayRun atoms w → (messa
       knowledge = λ T. knowledge T (server_tells s T.server);
       owner = λ q n W v e k. owner q n W v (server_tells s q) e k;
       says = λ k d l. grow (Crashes s ∷ []) (tt, tt) _ (h.says k d l);
+      addressed = h.addressed;
     }
       where
         up : (q : ServerNo) → Tells s q → (if server_eq s q then false else w.up q) ≡ is_some (at_server r.memory s None q)
@@ -191,6 +193,7 @@ module _ (w : Machine) (grow : (atoms : List Atom) → MayRun atoms w → (messa
         knowledge = h.knowledge;
         owner = h.owner;
         says = λ k d l. grow (Narrows s g ∷ []) (tt, tt) _ (h.says k d l);
+        addressed = h.addressed;
       };
     }
       where
@@ -212,6 +215,7 @@ module _ (w : Machine) (grow : (atoms : List Atom) → MayRun atoms w → (messa
         knowledge = h.knowledge;
         owner = h.owner;
         says = λ k d l. grow (RaiseEpoch s raised ∷ []) may _ (h.says k d l);
+        addressed = h.addressed;
       };
     }
       where
@@ -246,7 +250,7 @@ module _ (w : Machine) (grow : (atoms : List Atom) → MayRun atoms w → (messa
         by : (v : Option Work) → work_of T m.worker ≡ v → MovesTo (record r { memory = at_server r.memory s (Some (of_timeout m (timed_out m.worker v))) }) w
         by None e = stays _ (same-tables w r _ h (λ q. same-memory s m q is) (λ q c. refl) refl)
         by (Some x) e =
-            let moves = phase-moves r w s m h is up x (vulnerable x.phase) [] [] (of-found T m.worker x up.table.rising e) (vulnerable-same x.phase) (All-nil (IsTrue w)) in
+            let moves = phase-moves r w s m h is up x (vulnerable x.phase) [] [] (of-found T m.worker x up.table.rising e) (vulnerable-same x.phase) (All-nil (IsTrue w), All-nil IsAddressed) in
             let moved = of-row s m None _ is moves in
             record { atoms = moved.atoms; may = moved.may; mirrors = same-tables (run moved.atoms w) _ _ moved.mirrors (λ q. refl) (λ q c. same-found s q c) (sym (append-nil r.sent)) }
 
@@ -283,6 +287,7 @@ opening-mirrors servers files epochs = record {
   knowledge = λ T. refl;
   owner = λ s m W v e h. absurd (none v (subst (λ (x : Memory). work_at W x.worker ≡ Some v) (sym (same (new_memory s (epochs s)) m e)) h));
   says = All-nil (IsTrue (opening_world files epochs));
+  addressed = All-nil IsAddressed;
 }
   where
     same : (a b : Memory) → Some a ≡ Some b → a ≡ b

@@ -61,6 +61,14 @@ known_in (Some m) T = knowledge_of (transaction_at T m.coordinator.transactions)
 abbrev pub IsTrue : Machine → Sent → Type 0
 IsTrue w sent = Says w sent.1
 
+-- a message to a work goes to its server
+abbrev pub IsAddressed : Sent → Type 0
+IsAddressed (Server s, messages.Op c request W number op) = W.server ≡ s
+IsAddressed (Server s, messages.Prepare T c W) = W.server ≡ s
+IsAddressed (Server s, messages.Commit T W) = W.server ≡ s
+IsAddressed (Server s, messages.Drop T W) = W.server ≡ s
+IsAddressed sent = Unit {0}
+
 pub record Mirrors (r : World) (w : Machine) : Type 0 where
   pub up : (s : ServerNo) → w.up s ≡ is_some (r.memory s)
   pub found : (s : ServerNo) (c : Pick) → w.found s c ≡ r.found s c
@@ -72,6 +80,7 @@ pub record Mirrors (r : World) (w : Machine) : Type 0 where
   pub owner : (s : ServerNo) (m : Memory) (W : WorkId) (v : Work) → r.memory s ≡ Some m → work_at W m.worker ≡ Some v → Says w (messages.Inquire v.tid W)
   -- every message that was sent is true
   pub says : All (IsTrue w) r.sent
+  pub addressed : All IsAddressed r.sent
 
 -- steps of the machine that may come, after which it stands where the whole system does
 pub record MovesTo (r : World) (w : Machine) : Type 0 where
