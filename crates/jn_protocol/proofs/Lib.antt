@@ -16,5 +16,6 @@ pub mod OpMoves
 pub mod QuietMoves
 pub mod PrepareMoves
 pub mod WorkerMoves
+pub mod CommitMoves
 pub mod StepMoves
 pub mod LostCommits

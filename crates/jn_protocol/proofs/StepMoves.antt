@@ -37,20 +37,21 @@ use Rattle.jn_protocol.proofs.Tables.{of-found}
 use Rattle.jn_protocol.proofs.Mirrored.{mirrored, stop-mirrored}
 use Rattle.jn_protocol.proofs.QuietMoves.{RowMoves, StopMoves, phase-moves}
 use Rattle.jn_protocol.proofs.Losing.{run-append, may-append}
+use Rattle.jn_protocol.proofs.CommitMoves.{commits-move}
 use Rattle.jn_protocol.proofs.WorkerMoves.{opens, ops-move, prepares-move}
 
 no-step : (P : Type 0) → false ≡ true → P
 no-step P h = absurd (grind arith)
 
--- a message that was sent is true
-is-true : (w : Machine) (sent : List Sent) (k : ℕ) (x : Sent) → All (IsTrue w) sent → slice_get sent k ≡ Some x → IsTrue w x
-is-true w sent k x all h = by (slice_get_cases sent k).1
+-- what holds of every message that was sent
+holds-of : (P : Sent → Type 0) (sent : List Sent) (k : ℕ) (x : Sent) → All P sent → slice_get sent k ≡ Some x → P x
+holds-of P sent k x all h = by (slice_get_cases sent k).1
   where
     some : (a b : Sent) → Some a ≡ Some b → a ≡ b
     some a b e = cc
 
-    by : ((y : Sent) × (k < length sent) × (slice_get sent k ≡ Some y) × (get_or sent k y ≡ y)) ⊎ ((length sent ≤ k) × (slice_get sent k ≡ None)) → IsTrue w x
-    by (inl p) = subst (IsTrue w) (some p.0 x (sym p.2 ∙ h)) (subst (IsTrue w) p.3 (All-get_or (IsTrue w) sent k p.0 p.1 all))
+    by : ((y : Sent) × (k < length sent) × (slice_get sent k ≡ Some y) × (get_or sent k y ≡ y)) ⊎ ((length sent ≤ k) × (slice_get sent k ≡ None)) → P x
+    by (inl p) = subst P (some p.0 x (sym p.2 ∙ h)) (subst P p.3 (All-get_or P sent k p.0 p.1 all))
     by (inr p) = absurd (none (sym p.1 ∙ h))
       where
         none : None ≡ Some x → ⊥
@@ -94,33 +95,33 @@ module _ (w : Machine) (grow : (atoms : List Atom) → MayRun atoms w → (messa
     either-way s m k None row is moves = of-row s m (Some k) row is moves
     either-way s m k (Some made) row is moves = of-stop s m made row (moves.stops made)
 
-    delivered : (s : ServerNo) (m : Memory) (k : ℕ) (room : Room) (stop : Option (Pick → ℕ)) (message : Message) → r.memory s ≡ Some m → UpFact s m (r.found s) → Says w message → is_shown_message message ≡ true
+    delivered : (s : ServerNo) (m : Memory) (k : ℕ) (room : Room) (stop : Option (Pick → ℕ)) (message : Message) → r.memory s ≡ Some m → UpFact s m (r.found s) → Says w message → IsAddressed (Server s, message) → is_shown_message message ≡ true
         → MovesTo (ends s (Some k) stop (server_row m (stable (r.found s)) room message) r) w
-    delivered s m k room stop (messages.Open c request T) is up said shown = either-way s m k stop _ is (opens r w s m h is up grow parts c request T (work_of T m.worker) refl said)
-    delivered s m k room stop (messages.Op c request W number op) is up said shown = either-way s m k stop _ is (ops-move r w s m h is up grow parts c request W number op (work_at W m.worker) refl)
-    delivered s m k room stop (messages.Prepare T c W) is up said shown = either-way s m k stop _ is (prepares-move r w s m h is up grow parts room T c W (work_at W m.worker) refl said)
-    delivered s m k room stop (messages.Begin c request) is up said shown = no-step _ shown
-    delivered s m k room stop (messages.End c request T works) is up said shown = no-step _ shown
-    delivered s m k room stop (messages.Abort c request T works) is up said shown = no-step _ shown
-    delivered s m k room stop (messages.Thanks c T) is up said shown = no-step _ shown
-    delivered s m k room stop (messages.Begun c request T) is up said shown = no-step _ shown
-    delivered s m k room stop (messages.Opened c request T W) is up said shown = no-step _ shown
-    delivered s m k room stop (messages.Answer c request answer) is up said shown = no-step _ shown
-    delivered s m k room stop (messages.Outcome c T outcome) is up said shown = no-step _ shown
-    delivered s m k room stop (messages.Commit T W) is up said shown = no-step _ shown
-    delivered s m k room stop (messages.Drop T W) is up said shown = no-step _ shown
-    delivered s m k room stop (messages.Vote T W vote) is up said shown = no-step _ shown
-    delivered s m k room stop (messages.Done T W) is up said shown = no-step _ shown
-    delivered s m k room stop (messages.Inquire T W) is up said shown = no-step _ shown
+    delivered s m k room stop (messages.Open c request T) is up said to shown = either-way s m k stop _ is (opens r w s m h is up grow parts c request T (work_of T m.worker) refl said)
+    delivered s m k room stop (messages.Op c request W number op) is up said to shown = either-way s m k stop _ is (ops-move r w s m h is up grow parts c request W number op (work_at W m.worker) refl)
+    delivered s m k room stop (messages.Prepare T c W) is up said to shown = either-way s m k stop _ is (prepares-move r w s m h is up grow parts room T c W (work_at W m.worker) refl said)
+    delivered s m k room stop (messages.Begin c request) is up said to shown = no-step _ shown
+    delivered s m k room stop (messages.End c request T works) is up said to shown = no-step _ shown
+    delivered s m k room stop (messages.Abort c request T works) is up said to shown = no-step _ shown
+    delivered s m k room stop (messages.Thanks c T) is up said to shown = no-step _ shown
+    delivered s m k room stop (messages.Begun c request T) is up said to shown = no-step _ shown
+    delivered s m k room stop (messages.Opened c request T W) is up said to shown = no-step _ shown
+    delivered s m k room stop (messages.Answer c request answer) is up said to shown = no-step _ shown
+    delivered s m k room stop (messages.Outcome c T outcome) is up said to shown = no-step _ shown
+    delivered s m k room stop (messages.Commit T W) is up said to shown = either-way s m k stop _ is (commits-move r w s m h is up grow parts room T W said to (work_at W m.worker) refl)
+    delivered s m k room stop (messages.Drop T W) is up said to shown = no-step _ shown
+    delivered s m k room stop (messages.Vote T W vote) is up said to shown = no-step _ shown
+    delivered s m k room stop (messages.Done T W) is up said to shown = no-step _ shown
+    delivered s m k room stop (messages.Inquire T W) is up said to shown = no-step _ shown
 
-    at-server : (s : ServerNo) (k : ℕ) (room : Room) (stop : Option (Pick → ℕ)) (message : Message) (o : Option Memory) → r.memory s ≡ o → ServerFact s o (r.found s) → Says w message → is_shown_message message ≡ true → MovesTo (at_memory s k room stop message o r) w
-    at-server s k room stop message None is fact said shown = stays _ (same-tables w r _ h (λ q. refl) (λ q c. refl) refl)
-    at-server s k room stop message (Some m) is fact said shown = delivered s m k room stop message is fact said shown
+    at-server : (s : ServerNo) (k : ℕ) (room : Room) (stop : Option (Pick → ℕ)) (message : Message) (o : Option Memory) → r.memory s ≡ o → ServerFact s o (r.found s) → Says w message → IsAddressed (Server s, message) → is_shown_message message ≡ true → MovesTo (at_memory s k room stop message o r) w
+    at-server s k room stop message None is fact said to shown = stays _ (same-tables w r _ h (λ q. refl) (λ q c. refl) refl)
+    at-server s k room stop message (Some m) is fact said to shown = delivered s m k room stop message is fact said to shown
 
     handed-over : (k : ℕ) (room : Room) (stop : Option (Pick → ℕ)) (o : Option Sent) → LockFacts r → slice_get r.sent k ≡ o → is_shown_sent o ≡ true → MovesTo (handed k room stop o r) w
     handed-over k room stop None locks e shown = stays r h
     handed-over k room stop (Some (Client c, message)) locks e shown = no-step _ shown
-    handed-over k room stop (Some (Server s, message)) locks e shown = at-server s k room stop message (r.memory s) refl (locks s) (is-true w r.sent k (Server s, message) h.says e) shown
+    handed-over k room stop (Some (Server s, message)) locks e shown = at-server s k room stop message (r.memory s) refl (locks s) (holds-of (IsTrue w) r.sent k (Server s, message) h.says e) (holds-of IsAddressed r.sent k (Server s, message) h.addressed e) shown
 
     -- a timeout
     vulnerable-same : (p : Phase) → working_in (vulnerable p) ≡ working_in p

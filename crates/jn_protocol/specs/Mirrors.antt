@@ -94,6 +94,7 @@ abbrev pub is_shown_message : Message → Bool
 is_shown_message (messages.Open c request T) = true
 is_shown_message (messages.Op c request W number op) = true
 is_shown_message (messages.Prepare T c W) = true
+is_shown_message (messages.Commit T W) = true
 is_shown_message message = false
 
 abbrev pub is_shown_sent : Option Sent → Bool
