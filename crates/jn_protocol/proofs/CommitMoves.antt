@@ -1,6 +1,6 @@
 -- What a worker does with a Commit, as steps of the machine: its work goes on, or is over.
 use Rattle.std.proofs.Common.{◌≡◌, ◌≢◌, ◌⊎◌, inl, inr, ℕ, zero, suc, Bool, true, false, List, [], ◌∷◌, Option, Some, None, is_some, refl, sym, ◌∙◌, ap, subst, arith}
-use Rattle.std.specs.Prelude.{if◌then◌else◌, take, All}
+use Rattle.std.specs.Prelude.{if◌then◌else◌, take}
 use Rattle.std.proofs.lemmas.List.Elements.{All-nil, All-cons}
 use Rattle.jn_base.specs.declared.names.ServerNo.{ServerNo}
 use Rattle.jn_base.specs.declared.names.Tid.{Tid}
@@ -15,8 +15,7 @@ use Rattle.jn_rows.specs.declared.worker.Work.{Work}
 use Rattle.jn_rows.specs.declared.worker.Phase.{Phase}
 use Rattle.jn_rows.specs.declared.worker.Phase.TheVariants.{Active, Broken, Prepared as Stored}
 use Rattle.jn_rows.specs.Stable.{StableState, Prepared, Pick, MarkGoing, made_by, made_all, at_work, stable, is_going}
-use Rattle.jn_rows.specs.Outcomes.{RowOutcome}
-use Rattle.jn_rows.specs.Worker.{WorkerTable, work_at, commit_phase, commit_row}
+use Rattle.jn_rows.specs.Worker.{work_at, commit_phase, commit_row}
 use Rattle.jn_machine.specs.World.{World as Machine}
 use Rattle.jn_machine.specs.Transactions.{PartFact}
 use Rattle.jn_machine.specs.Steps.{Atom, NoteOver, Make, always, run}
@@ -27,7 +26,7 @@ use Rattle.jn_protocol.specs.Servers.{Room, storage_of}
 use Rattle.jn_protocol.specs.LockFacts.{UpFact}
 use Rattle.jn_protocol.specs.Mirrors.{Mirrors, IsTrue, IsAddressed, working_of, next_in}
 use Rattle.jn_protocol.proofs.GrantMoves.{active-here, found-here, found-same}
-use Rattle.jn_protocol.proofs.Mirrored.{DoesRow, DoesStop}
+use Rattle.jn_protocol.proofs.Mirrored.{DoesStop}
 use Rattle.jn_protocol.proofs.QuietMoves.{RowMoves, still-stops, sends-moves}
 
 abbrev some_made : ℕ → Bool

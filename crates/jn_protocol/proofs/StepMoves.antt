@@ -18,7 +18,7 @@ use Rattle.jn_rows.specs.declared.worker.Phase.{Phase}
 use Rattle.jn_rows.specs.declared.worker.Phase.TheVariants.{Active, Broken, Prepared as Stored}
 use Rattle.jn_rows.specs.Stable.{Pick, stable}
 use Rattle.jn_rows.specs.Outcomes.{RowOutcome, Sent}
-use Rattle.jn_rows.specs.Worker.{WorkerTable, work_at, work_of, timed_out, vulnerable}
+use Rattle.jn_rows.specs.Worker.{worker_step, WorkerTable, work_at, work_of, timed_out, vulnerable}
 use Rattle.jn_report.specs.declared.line.Text.{Text}
 use Rattle.jn_machine.specs.World.{World as Machine, Unknown}
 use Rattle.jn_machine.specs.Transactions.{PartFact}
@@ -29,14 +29,15 @@ use Rattle.jn_machine.proofs.Runs.{run_kept, opening_kept}
 use Rattle.jn_machine.specs.Invariant.{Invariant}
 use Rattle.jn_machine.proofs.MessageLemmas.{still_true, grows, says_still}
 use Rattle.jn_protocol.specs.World.{World, Memory, at_server, opening, new_memory}
-use Rattle.jn_protocol.specs.Servers.{Room, of_worker, server_row, of_timeout}
-use Rattle.jn_protocol.specs.Steps.{Step, NextEvent, Tell, Again, Deliver, Work as Works, Nudge, Timeout, StopDelivery, StopWork, Crash, Narrow, StopRestart, Restart, after, done, stopped, ends, at_memory, handed, timeout, crash, narrow, stop_restart}
+use Rattle.jn_protocol.specs.Servers.{storage_of, of_step, Room, of_worker, server_row, of_timeout}
+use Rattle.jn_protocol.specs.Steps.{works, work, Step, NextEvent, Tell, Again, Deliver, Work as Works, Nudge, Timeout, StopDelivery, StopWork, Crash, Narrow, StopRestart, Restart, after, done, stopped, ends, at_memory, handed, timeout, crash, narrow, stop_restart}
 use Rattle.jn_protocol.specs.LockFacts.{LockFacts, ServerFact, UpFact}
 use Rattle.jn_protocol.specs.Mirrors.{Mirrors, MovesTo, IsTrue, IsAddressed, is_shown, is_shown_sent, is_shown_message, active_in, next_in, known_in, working_in}
 use Rattle.jn_protocol.proofs.Tables.{of-found}
 use Rattle.jn_protocol.proofs.Mirrored.{mirrored, stop-mirrored}
 use Rattle.jn_protocol.proofs.QuietMoves.{RowMoves, StopMoves, phase-moves}
 use Rattle.jn_protocol.proofs.Losing.{run-append, may-append}
+use Rattle.jn_protocol.proofs.CarryMoves.{step-move}
 use Rattle.jn_protocol.proofs.CommitMoves.{commits-move}
 use Rattle.jn_protocol.proofs.WorkerMoves.{opens, ops-move, prepares-move}
 
@@ -91,15 +92,15 @@ module _ (w : Machine) (grow : (atoms : List Atom) → MayRun atoms w → (messa
           (stop-mirrored r w (run moves.atoms w) s m row made h moves.does (λ message said. says_still (run moves.atoms w) (run (Crashes s ∷ []) (run moves.atoms w)) (grows (Crashes s) (run moves.atoms w) tt (sound moves.atoms moves.may).names) message said));
     }
 
-    either-way : (s : ServerNo) (m : Memory) (k : ℕ) (stop : Option (Pick → ℕ)) (row : RowOutcome WorkerTable) → r.memory s ≡ Some m → RowMoves s m row w → MovesTo (ends s (Some k) stop (of_worker m row) r) w
-    either-way s m k None row is moves = of-row s m (Some k) row is moves
+    either-way : (s : ServerNo) (m : Memory) (k : Option ℕ) (stop : Option (Pick → ℕ)) (row : RowOutcome WorkerTable) → r.memory s ≡ Some m → RowMoves s m row w → MovesTo (ends s k stop (of_worker m row) r) w
+    either-way s m k None row is moves = of-row s m k row is moves
     either-way s m k (Some made) row is moves = of-stop s m made row (moves.stops made)
 
     delivered : (s : ServerNo) (m : Memory) (k : ℕ) (room : Room) (stop : Option (Pick → ℕ)) (message : Message) → r.memory s ≡ Some m → UpFact s m (r.found s) → Says w message → IsAddressed (Server s, message) → is_shown_message message ≡ true
         → MovesTo (ends s (Some k) stop (server_row m (stable (r.found s)) room message) r) w
-    delivered s m k room stop (messages.Open c request T) is up said to shown = either-way s m k stop _ is (opens r w s m h is up grow parts c request T (work_of T m.worker) refl said)
-    delivered s m k room stop (messages.Op c request W number op) is up said to shown = either-way s m k stop _ is (ops-move r w s m h is up grow parts c request W number op (work_at W m.worker) refl)
-    delivered s m k room stop (messages.Prepare T c W) is up said to shown = either-way s m k stop _ is (prepares-move r w s m h is up grow parts room T c W (work_at W m.worker) refl said)
+    delivered s m k room stop (messages.Open c request T) is up said to shown = either-way s m (Some k) stop _ is (opens r w s m h is up grow parts c request T (work_of T m.worker) refl said)
+    delivered s m k room stop (messages.Op c request W number op) is up said to shown = either-way s m (Some k) stop _ is (ops-move r w s m h is up grow parts c request W number op (work_at W m.worker) refl)
+    delivered s m k room stop (messages.Prepare T c W) is up said to shown = either-way s m (Some k) stop _ is (prepares-move r w s m h is up grow parts room T c W (work_at W m.worker) refl said)
     delivered s m k room stop (messages.Begin c request) is up said to shown = no-step _ shown
     delivered s m k room stop (messages.End c request T works) is up said to shown = no-step _ shown
     delivered s m k room stop (messages.Abort c request T works) is up said to shown = no-step _ shown
@@ -108,7 +109,7 @@ module _ (w : Machine) (grow : (atoms : List Atom) → MayRun atoms w → (messa
     delivered s m k room stop (messages.Opened c request T W) is up said to shown = no-step _ shown
     delivered s m k room stop (messages.Answer c request answer) is up said to shown = no-step _ shown
     delivered s m k room stop (messages.Outcome c T outcome) is up said to shown = no-step _ shown
-    delivered s m k room stop (messages.Commit T W) is up said to shown = either-way s m k stop _ is (commits-move r w s m h is up grow parts room T W said to (work_at W m.worker) refl)
+    delivered s m k room stop (messages.Commit T W) is up said to shown = either-way s m (Some k) stop _ is (commits-move r w s m h is up grow parts room T W said to (work_at W m.worker) refl)
     delivered s m k room stop (messages.Drop T W) is up said to shown = no-step _ shown
     delivered s m k room stop (messages.Vote T W vote) is up said to shown = no-step _ shown
     delivered s m k room stop (messages.Done T W) is up said to shown = no-step _ shown
@@ -228,6 +229,16 @@ module _ (w : Machine) (grow : (atoms : List Atom) → MayRun atoms w → (messa
         by q c true false = h.found s c
         by q c false d = h.found q c
 
+    -- ---- a background step
+
+    work-moves : (s : ServerNo) (room : Room) (stop : Option (Pick → ℕ)) (o : Option Memory) → r.memory s ≡ o → ServerFact s o (r.found s) → MovesTo (work s room stop o r) w
+    work-moves s room stop None is fact = stays r h
+    work-moves s room stop (Some m) is up = by (worker_step m.worker (storage_of m (stable (r.found s)) room) m.tickets) refl
+      where
+        by : (o : Option (RowOutcome WorkerTable)) → worker_step m.worker (storage_of m (stable (r.found s)) room) m.tickets ≡ o → MovesTo (works s stop (of_step m o) r) w
+        by None e = stays r h
+        by (Some row) e = either-way s m None stop row is (step-move r w s m h is up grow (sound [] tt) room row e)
+
     -- ---- a timeout
 
     same-memory : (s : ServerNo) (m : Memory) (q : ServerNo) → r.memory s ≡ Some m → at_server r.memory s (Some m) q ≡ r.memory q
@@ -266,10 +277,10 @@ module _ (w : Machine) (grow : (atoms : List Atom) → MayRun atoms w → (messa
     moves (StopRestart s raised) locks shown = raise-moves s raised (r.memory s) refl
     moves (Tell c command) locks shown = no-step _ shown
     moves (Again c) locks shown = no-step _ shown
-    moves (Works s room) locks shown = no-step _ shown
+    moves (Works s room) locks shown = work-moves s room None (r.memory s) refl (locks s)
     moves (Nudge s) locks shown = no-step _ shown
     moves (StopDelivery k room made) locks shown = handed-over k room (Some made) (slice_get r.sent k) locks refl shown
-    moves (StopWork s room made) locks shown = no-step _ shown
+    moves (StopWork s room made) locks shown = work-moves s room (Some made) (r.memory s) refl (locks s)
     moves (Restart s pick Ws Ts) locks shown = no-step _ shown
 
 pub step-moves : (files : AllFiles) (epochs : ServerNo → ℕ) (before : List Atom) (r : World) → MayRun before (opening_world files epochs) → Mirrors r (run before (opening_world files epochs)) → LockFacts r

@@ -21,7 +21,7 @@ use Rattle.jn_machine.specs.Steps.{Atom, run}
 use Rattle.jn_machine.specs.Premises.{MayRun}
 use Rattle.jn_machine.specs.Messages.{Says}
 use Rattle.jn_protocol.specs.World.{World, Memory}
-use Rattle.jn_protocol.specs.Steps.{Step, NextEvent, Deliver, StopDelivery, Timeout, Crash, Narrow, StopRestart}
+use Rattle.jn_protocol.specs.Steps.{Step, NextEvent, Deliver, StopDelivery, Work as Background, StopWork, Timeout, Crash, Narrow, StopRestart}
 
 -- ---- what a server's tables say
 
@@ -106,6 +106,8 @@ abbrev pub is_shown : Step → World → Bool
 is_shown NextEvent r = true
 is_shown (Deliver k room) r = is_shown_sent (slice_get r.sent k)
 is_shown (StopDelivery k room made) r = is_shown_sent (slice_get r.sent k)
+is_shown (Background s room) r = true
+is_shown (StopWork s room made) r = true
 is_shown (Timeout s T) r = true
 is_shown (Crash s) r = true
 is_shown (Narrow s g) r = true
