@@ -1,5 +1,5 @@
 -- What a worker does with a going work, as steps of the machine: its next intention is carried out, or it is over.
-use Rattle.std.proofs.Common.{◌≡◌, ◌≢◌, ◌⊎◌, inl, inr, ℕ, zero, suc, ◌+◌, Bool, true, false, List, [], ◌∷◌, take, Option, Some, None, is_some, refl, sym, ◌∙◌, ap, subst, arith}
+use Rattle.std.proofs.Common.{◌≡◌, ◌≢◌, ◌⊎◌, inl, inr, ℕ, suc, ◌+◌, Bool, true, false, List, [], ◌∷◌, take, Option, Some, None, is_some, refl, sym, ◌∙◌, ap, subst, arith}
 use Rattle.std.specs.Prelude.{if◌then◌else◌, slice_get}
 use Rattle.std.proofs.lemmas.List.Elements.{All-nil, All-cons}
 use Rattle.jn_base.specs.declared.names.ServerNo.{ServerNo}
@@ -16,7 +16,7 @@ use Rattle.jn_records.specs.NetLists.{intention_change, list_change}
 use Rattle.jn_msgs.specs.declared.message.Message.{Message}
 use Rattle.jn_msgs.specs.declared.message.Message.TheVariants as messages
 use Rattle.jn_rows.specs.declared.worker.Work.{Work}
-use Rattle.jn_rows.specs.Stable.{StableState, Prepared, Pick, CarryOut, RemoveWork, is_going, made_by, made_all, at_work, stable}
+use Rattle.jn_rows.specs.Stable.{StableState, Prepared, Pick, CarryOut, RemoveWork, is_going, made_by, at_work, stable}
 use Rattle.jn_rows.specs.Outcomes.{RowOutcome}
 use Rattle.jn_rows.specs.Worker.{WorkerTable, work_at, without, going_work, going_row, carried_row, intentions_of, worker_step}
 use Rattle.jn_lock_rows.proofs.Works.{at-less}
@@ -34,13 +34,9 @@ use Rattle.jn_protocol.specs.Servers.{Room, storage_of}
 use Rattle.jn_protocol.proofs.WorkerRows.{going-is}
 use Rattle.jn_protocol.proofs.Restored.{stored-fact}
 use Rattle.jn_protocol.proofs.GrantMoves.{active-here, found-here}
-use Rattle.jn_protocol.proofs.Mirrored.{DoesStop}
+use Rattle.jn_protocol.proofs.Mirrored.{some_made, made-one, DoesStop}
 use Rattle.jn_protocol.proofs.QuietMoves.{RowMoves, sends-moves}
 use Rattle.jn_protocol.proofs.Intended.{step-writes, step-more, take-end}
-
-abbrev some_made : ℕ → Bool
-some_made zero = false
-some_made (suc n) = true
 
 one-more : (n : ℕ) → suc n ≡ n + 1
 one-more n = omega arith
@@ -133,11 +129,6 @@ module _ (r : World) (w : Machine) (s : ServerNo) (m : Memory) (mirrors : Mirror
         by (inl f) = absurd (ne (sym at ∙ ap (λ (U : WorkId). U.server) f.1))
         by (inr f) = ap (λ (b : Bool). if b then n else (if b then 0 else w.next V)) f.0
 
-    made-one : (n : ℕ) (z : StableState) → (if some_made n then made_by (CarryOut N i) z else z) ≡ made_all (take n (CarryOut N i ∷ [])) z
-    made-one zero z = refl
-    made-one (suc zero) z = refl
-    made-one (suc (suc n)) z = refl
-
     abbrev stop-atoms : (Pick → ℕ) → List Atom
     stop-atoms made = Count N 0 ∷ Make (λ c. some_made (made c)) (CarryOut N i) ∷ []
 
@@ -155,7 +146,7 @@ module _ (r : World) (w : Machine) (s : ServerNo) (m : Memory) (mirrors : Mirror
     stop-does made = record {
       up = λ q. refl;
       found = λ q c. ap (λ (z : ServerNo). if server_eq z q then (if some_made (made c) then made_by (CarryOut N i) (w.found z c) else w.found z c) else w.found q c) at
-          ∙ ap (λ z. if server_eq s q then z else w.found q c) (made-one (made c) (w.found s c));
+          ∙ ap (λ z. if server_eq s q then z else w.found q c) (made-one (CarryOut N i) (made c) (w.found s c));
       elsewhere = λ V ne. refl;
       next = stop-next;
       ticket = λ q ne. refl;
@@ -250,11 +241,6 @@ module _ (r : World) (w : Machine) (s : ServerNo) (m : Memory) (mirrors : Mirror
         no q = cc
     owner-left V v (inr f) h = mirrors.owner s m V v is (subst (λ (b : Bool). (if b then None else work_at V m.worker) ≡ Some v) f.0 h)
 
-    made-none : (n : ℕ) (z : StableState) → (if some_made n then made_by (RemoveWork N) z else z) ≡ made_all (take n (RemoveWork N ∷ [])) z
-    made-none zero z = refl
-    made-none (suc zero) z = refl
-    made-none (suc (suc n)) z = refl
-
     abbrev over-stops : (Pick → ℕ) → List Atom
     over-stops made = Count N 0 ∷ Make (λ c. some_made (made c)) (RemoveWork N) ∷ []
 
@@ -268,7 +254,7 @@ module _ (r : World) (w : Machine) (s : ServerNo) (m : Memory) (mirrors : Mirror
     over-stop-does made = record {
       up = λ q. refl;
       found = λ q c. ap (λ (z : ServerNo). if server_eq z q then (if some_made (made c) then made_by (RemoveWork N) (w.found z c) else w.found z c) else w.found q c) at
-          ∙ ap (λ z. if server_eq s q then z else w.found q c) (made-none (made c) (w.found s c));
+          ∙ ap (λ z. if server_eq s q then z else w.found q c) (made-one (RemoveWork N) (made c) (w.found s c));
       elsewhere = λ V ne. refl;
       next = λ V ne. zero-there V ne (work_tells N V);
       ticket = λ q ne. refl;

@@ -1,6 +1,6 @@
 -- What a worker does with a Commit, as steps of the machine: its work goes on, or is over.
-use Rattle.std.proofs.Common.{◌≡◌, ◌≢◌, ◌⊎◌, inl, inr, ℕ, zero, suc, Bool, true, false, List, [], ◌∷◌, Option, Some, None, is_some, refl, sym, ◌∙◌, ap, subst, arith}
-use Rattle.std.specs.Prelude.{if◌then◌else◌, take}
+use Rattle.std.proofs.Common.{◌≡◌, ◌≢◌, ◌⊎◌, inl, inr, ℕ, Bool, true, false, List, [], ◌∷◌, Option, Some, None, is_some, refl, sym, ◌∙◌, ap, subst, arith}
+use Rattle.std.specs.Prelude.{if◌then◌else◌}
 use Rattle.std.proofs.lemmas.List.Elements.{All-nil, All-cons}
 use Rattle.jn_base.specs.declared.names.ServerNo.{ServerNo}
 use Rattle.jn_base.specs.declared.names.Tid.{Tid}
@@ -14,7 +14,7 @@ use Rattle.jn_msgs.specs.declared.message.Note.TheVariants.{Ignored}
 use Rattle.jn_rows.specs.declared.worker.Work.{Work}
 use Rattle.jn_rows.specs.declared.worker.Phase.{Phase}
 use Rattle.jn_rows.specs.declared.worker.Phase.TheVariants.{Active, Broken, Prepared as Stored}
-use Rattle.jn_rows.specs.Stable.{StableState, Prepared, Pick, MarkGoing, made_by, made_all, at_work, stable, is_going}
+use Rattle.jn_rows.specs.Stable.{StableState, Prepared, Pick, MarkGoing, made_by, at_work, stable, is_going}
 use Rattle.jn_rows.specs.Worker.{work_at, commit_phase, commit_row}
 use Rattle.jn_machine.specs.World.{World as Machine}
 use Rattle.jn_machine.specs.Transactions.{PartFact}
@@ -26,12 +26,8 @@ use Rattle.jn_protocol.specs.Servers.{Room, storage_of}
 use Rattle.jn_protocol.specs.LockFacts.{UpFact}
 use Rattle.jn_protocol.specs.Mirrors.{Mirrors, IsTrue, IsAddressed, working_of, next_in}
 use Rattle.jn_protocol.proofs.GrantMoves.{active-here, found-here, found-same}
-use Rattle.jn_protocol.proofs.Mirrored.{DoesStop}
+use Rattle.jn_protocol.proofs.Mirrored.{some_made, made-one, DoesStop}
 use Rattle.jn_protocol.proofs.QuietMoves.{RowMoves, still-stops, sends-moves}
-
-abbrev some_made : ℕ → Bool
-some_made zero = false
-some_made (suc n) = true
 
 module _ (r : World) (w : Machine) (s : ServerNo) (m : Memory) (mirrors : Mirrors r w) (is : r.memory s ≡ Some m) (up : UpFact s m (r.found s))
     (grow : (atoms : List Atom) → MayRun atoms w → (message : Message) → Says w message → Says (run atoms w) message) (parts : PartFact w)
@@ -100,16 +96,11 @@ module _ (r : World) (w : Machine) (s : ServerNo) (m : Memory) (mirrors : Mirror
     may-mark : (done : Pick → Bool) → MayRun (Make done (MarkGoing W) ∷ []) w
     may-mark done = (λ c. may-go, tt)
 
-    made-one : (n : ℕ) (z : StableState) → (if some_made n then made_by (MarkGoing W) z else z) ≡ made_all (take n (MarkGoing W ∷ [])) z
-    made-one zero z = refl
-    made-one (suc zero) z = refl
-    made-one (suc (suc n)) z = refl
-
     mark-stops : (made : Pick → ℕ) → DoesStop s (record { table = m.worker; changes = MarkGoing W ∷ []; messages = []; notes = []; tickets = m.tickets }) made w (run (Make (λ p. some_made (made p)) (MarkGoing W) ∷ []) w)
     mark-stops made = record {
       up = λ q. refl;
       found = λ q p. ap (λ (z : ServerNo). if server_eq z q then (if some_made (made p) then made_by (MarkGoing W) (w.found z p) else w.found z p) else w.found q p) at
-          ∙ ap (λ z. if server_eq s q then z else w.found q p) (made-one (made p) (w.found s p));
+          ∙ ap (λ z. if server_eq s q then z else w.found q p) (made-one (MarkGoing W) (made p) (w.found s p));
       elsewhere = λ V ne. refl;
       next = λ V ne. refl;
       ticket = λ q ne. refl;

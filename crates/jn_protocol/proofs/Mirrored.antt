@@ -1,5 +1,5 @@
 -- Where the machine's steps do what a worker's row does, the machine stands again where the whole system does.
-use Rattle.std.proofs.Common.{◌≡◌, ◌≢◌, ◌⊎◌, inl, inr, ℕ, Bool, true, false, List, Option, Some, None, is_some, sym, ◌∙◌, ap, subst}
+use Rattle.std.proofs.Common.{◌≡◌, ◌≢◌, ◌⊎◌, inl, inr, ℕ, zero, suc, Bool, true, false, List, [], ◌∷◌, Option, Some, None, is_some, refl, sym, ◌∙◌, ap, subst}
 use Rattle.std.specs.Prelude.{if◌then◌else◌, take, All}
 use Rattle.std.proofs.lemmas.List.Elements.{All-append}
 use Rattle.jn_base.specs.declared.names.ServerNo.{ServerNo}
@@ -10,7 +10,7 @@ use Rattle.jn_base.proofs.Tells.{server_tells}
 use Rattle.jn_msgs.specs.declared.message.Message.{Message}
 use Rattle.jn_msgs.specs.declared.message.Message.TheVariants.{Inquire}
 use Rattle.jn_rows.specs.declared.worker.Work.{Work}
-use Rattle.jn_rows.specs.Stable.{Pick, made_all}
+use Rattle.jn_rows.specs.Stable.{StableState, Change, Pick, made_by, made_all}
 use Rattle.jn_rows.specs.Outcomes.{RowOutcome, Sent}
 use Rattle.jn_rows.specs.Worker.{WorkerTable, work_at}
 use Rattle.jn_machine.specs.World.{World as Machine, Unknown}
@@ -99,6 +99,16 @@ module _ (r : World) (w v : Machine) (s : ServerNo) (m : Memory) (row : RowOutco
   }
 
 -- ---- a row that is stopped
+
+-- of one change, none or all is made
+abbrev pub some_made : ℕ → Bool
+some_made zero = false
+some_made (suc n) = true
+
+pub made-one : (step : Change) (n : ℕ) (z : StableState) → (if some_made n then made_by step z else z) ≡ made_all (take n (step ∷ [])) z
+made-one step zero z = refl
+made-one step (suc zero) z = refl
+made-one step (suc (suc n)) z = refl
 
 -- what the machine's steps have changed of the stable states when a row's server stops
 pub record DoesStop (s : ServerNo) (row : RowOutcome WorkerTable) (made : Pick → ℕ) (w v : Machine) : Type 0 where

@@ -1,6 +1,6 @@
 -- A work that is prepared, as steps of the machine: the works that break are lost, and the work goes to the stable state.
-use Rattle.std.proofs.Common.{◌≡◌, ◌≢◌, ◌⊎◌, inl, inr, ℕ, zero, suc, Bool, true, false, List, [], ◌∷◌, ◌++◌, Option, Some, None, is_some, refl, sym, ◌∙◌, ap, subst, arith}
-use Rattle.std.specs.Prelude.{if◌then◌else◌, take}
+use Rattle.std.proofs.Common.{◌≡◌, ◌≢◌, ◌⊎◌, inl, inr, ℕ, Bool, true, false, List, [], ◌∷◌, ◌++◌, Option, Some, None, is_some, refl, sym, ◌∙◌, ap, subst, arith}
+use Rattle.std.specs.Prelude.{if◌then◌else◌}
 use Rattle.std.proofs.lemmas.List.Elements.{All-nil, All-cons}
 use Rattle.jn_base.specs.declared.names.ServerNo.{ServerNo}
 use Rattle.jn_base.specs.declared.names.ClientNo.{ClientNo}
@@ -20,7 +20,7 @@ use Rattle.jn_rows.specs.declared.worker.Work.{Work}
 use Rattle.jn_rows.specs.declared.worker.Phase.{Phase}
 use Rattle.jn_rows.specs.declared.worker.Phase.TheVariants.{Active, Broken, Prepared as Stored}
 use Rattle.jn_rows.specs.declared.worker.ActiveWork.{ActiveWork}
-use Rattle.jn_rows.specs.Stable.{StableState, Prepared, Pick, AddReady, made_by, made_all, at_work, stable, ready_work}
+use Rattle.jn_rows.specs.Stable.{StableState, Prepared, Pick, AddReady, made_by, at_work, stable, ready_work}
 use Rattle.jn_rows.specs.Worker.{WorkerTable, work_at, commit_wants, after_grant, with_phase, prepared_row, conflict}
 use Rattle.jn_machine.specs.Held.{commit_units, HoldsForCommit}
 use Rattle.jn_machine.specs.World.{World as Machine, Working}
@@ -37,7 +37,7 @@ use Rattle.jn_protocol.proofs.Restored.{stored-fact}
 use Rattle.jn_protocol.proofs.Losing.{loses, lost, lose_all, run-loses, run-append, may-lose}
 use Rattle.jn_protocol.proofs.GrantMoves.{found-here, broken, its-server, own-now, left-own, left-here, left-elsewhere, elsewhere-other, owner-now}
 use Rattle.jn_protocol.proofs.OpMoves.{reads-free}
-use Rattle.jn_protocol.proofs.Mirrored.{DoesRow, DoesStop}
+use Rattle.jn_protocol.proofs.Mirrored.{some_made, made-one, DoesRow, DoesStop}
 use Rattle.jn_protocol.proofs.QuietMoves.{RowMoves}
 
 false-unless : (b : Bool) → (b ≡ true → ⊥) → b ≡ false
@@ -45,10 +45,6 @@ false-unless b h = grind arith
 
 not-true : false ≡ true → ⊥
 not-true h = grind arith
-
-abbrev some_made : ℕ → Bool
-some_made zero = false
-some_made (suc n) = true
 
 -- an active work's entry
 active-entry : (o : Option Work) (a : Working) → working_of o ≡ Some a → (y : Work) × (b : ActiveWork) × (o ≡ Some y) × (y.phase ≡ Active b) × (a.reads ≡ b.reads)
@@ -235,11 +231,6 @@ module _ (r : World) (w : Machine) (s : ServerNo) (m : Memory) (mirrors : Mirror
 
   -- ---- where it is stopped
 
-  made-one : (n : ℕ) (z : StableState) → (if some_made n then made_by (AddReady head a.list a.reads) z else z) ≡ made_all (take n (AddReady head a.list a.reads ∷ [])) z
-  made-one zero z = refl
-  made-one (suc zero) z = refl
-  made-one (suc (suc n)) z = refl
-
   module _ (made : Pick → ℕ) where
     abbrev stop-atoms : List Atom
     stop-atoms = loses breaks ++ Prepare (λ p. some_made (made p)) head a.list a.reads ∷ []
@@ -259,7 +250,7 @@ module _ (r : World) (w : Machine) (s : ServerNo) (m : Memory) (mirrors : Mirror
     stop-does = record {
       up = λ q. refl;
       found = λ q p. ap (λ (z : ServerNo). if server_eq z q then (if some_made (made p) then made_by (AddReady head a.list a.reads) (w.found z p) else w.found z p) else w.found q p) server
-          ∙ ap (λ z. if server_eq s q then z else w.found q p) (made-one (made p) (w.found s p));
+          ∙ ap (λ z. if server_eq s q then z else w.found q p) (made-one (AddReady head a.list a.reads) (made p) (w.found s p));
       elsewhere = is-elsewhere;
       next = λ W ne. refl;
       ticket = λ q ne. refl;
