@@ -16,5 +16,8 @@ pub mod OpMoves
 pub mod QuietMoves
 pub mod PrepareMoves
 pub mod WorkerMoves
+pub mod Intended
+pub mod CarryMoves
+pub mod CommitMoves
 pub mod StepMoves
 pub mod LostCommits

@@ -45,6 +45,10 @@ pub may-lose : (Vs : List WorkId) (rest : List Atom) (w : Machine) → MayRun re
 may-lose [] rest w h = h
 may-lose (V ∷ Vs) rest w h = (tt, may-lose Vs rest (lose V w) h)
 
+pub may-append : (a b : List Atom) (w : Machine) → MayRun a w → MayRun b (run a w) → MayRun (a ++ b) w
+may-append [] b w h k = k
+may-append (x ∷ a) b w h k = (h.0, may-append a b (run (x ∷ []) w) h.1 k)
+
 -- ---- the works of a table that don't stay
 
 abbrev pub missing : (WorkId → Bool) → WorkerTable → List WorkId

@@ -31,7 +31,7 @@ use Rattle.jn_machine.specs.Premises.{MayRun, MayPerform}
 use Rattle.jn_machine.specs.Messages.{Says}
 use Rattle.jn_protocol.specs.World.{World, Memory}
 use Rattle.jn_protocol.specs.LockFacts.{UpFact, TableFact, IsSoundWork, IsSoundActive}
-use Rattle.jn_protocol.specs.Mirrors.{Mirrors, IsTrue, working_of, working_in, next_in}
+use Rattle.jn_protocol.specs.Mirrors.{Mirrors, IsTrue, IsAddressed, working_of, working_in, next_in}
 use Rattle.jn_protocol.proofs.Granted.{Regrants, granted}
 use Rattle.jn_protocol.proofs.Rows.{done-keeps}
 use Rattle.jn_protocol.proofs.Restored.{Entry, entry-of}
@@ -179,6 +179,7 @@ module _ (r : World) (w : Machine) (s : ServerNo) (m : Memory) (mirrors : Mirror
       owner = λ V v h. grown (messages.Inquire v.tid V) (owner-now r w s m mirrors is up x.name x (wants_of op (is_fit its-answer)) (Active after-op) now found g V v h);
       grows = grown;
       says = All-cons (IsTrue performed-world) (Client c, messages.Answer c request its-answer) [] tt (All-nil (IsTrue performed-world));
+      addressed = All-cons IsAddressed (Client c, messages.Answer c request its-answer) [] tt (All-nil IsAddressed);
     }
 
     pub op-ran : run atoms w ≡ performed-world

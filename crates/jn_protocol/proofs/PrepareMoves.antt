@@ -1,5 +1,5 @@
 -- A work that is prepared, as steps of the machine: the works that break are lost, and the work goes to the stable state.
-use Rattle.std.proofs.Common.{◌≡◌, ◌≢◌, ◌⊎◌, inl, inr, Bool, true, false, List, [], ◌∷◌, ◌++◌, Option, Some, None, is_some, refl, sym, ◌∙◌, ap, subst, arith}
+use Rattle.std.proofs.Common.{◌≡◌, ◌≢◌, ◌⊎◌, inl, inr, ℕ, Bool, true, false, List, [], ◌∷◌, ◌++◌, Option, Some, None, is_some, refl, sym, ◌∙◌, ap, subst, arith}
 use Rattle.std.specs.Prelude.{if◌then◌else◌}
 use Rattle.std.proofs.lemmas.List.Elements.{All-nil, All-cons}
 use Rattle.jn_base.specs.declared.names.ServerNo.{ServerNo}
@@ -30,14 +30,14 @@ use Rattle.jn_machine.specs.Premises.{MayRun, MayPrepare}
 use Rattle.jn_machine.specs.Messages.{Says, IsPartOf}
 use Rattle.jn_protocol.specs.World.{World, Memory}
 use Rattle.jn_protocol.specs.LockFacts.{UpFact, TableFact, StoredFact, IsSoundWork, IsSoundActive}
-use Rattle.jn_protocol.specs.Mirrors.{Mirrors, IsTrue, working_of, working_in, next_in}
+use Rattle.jn_protocol.specs.Mirrors.{Mirrors, IsTrue, IsAddressed, working_of, working_in, next_in}
 use Rattle.jn_protocol.proofs.Granted.{Regrants, granted}
 use Rattle.jn_protocol.proofs.Rows.{prepared-keeps}
 use Rattle.jn_protocol.proofs.Restored.{stored-fact}
 use Rattle.jn_protocol.proofs.Losing.{loses, lost, lose_all, run-loses, run-append, may-lose}
 use Rattle.jn_protocol.proofs.GrantMoves.{found-here, broken, its-server, own-now, left-own, left-here, left-elsewhere, elsewhere-other, owner-now}
 use Rattle.jn_protocol.proofs.OpMoves.{reads-free}
-use Rattle.jn_protocol.proofs.Mirrored.{DoesRow}
+use Rattle.jn_protocol.proofs.Mirrored.{some_made, made-one, DoesRow, DoesStop}
 use Rattle.jn_protocol.proofs.QuietMoves.{RowMoves}
 
 false-unless : (b : Bool) → (b ≡ true → ⊥) → b ≡ false
@@ -226,7 +226,46 @@ module _ (r : World) (w : Machine) (s : ServerNo) (m : Memory) (mirrors : Mirror
     grows = grown;
     says = All-cons (IsTrue prepared-world) (Server T.server, messages.Vote T x.name votes.Ready) []
         (was-ready, grown (messages.Prepare T c x.name) said) (All-nil (IsTrue prepared-world));
+    addressed = All-cons IsAddressed (Server T.server, messages.Vote T x.name votes.Ready) [] tt (All-nil IsAddressed);
   }
 
+  -- ---- where it is stopped
+
+  module _ (made : Pick → ℕ) where
+    abbrev stop-atoms : List Atom
+    stop-atoms = loses breaks ++ Prepare (λ p. some_made (made p)) head a.list a.reads ∷ []
+
+    abbrev stopped-world : Machine
+    stopped-world = after (Prepare (λ p. some_made (made p)) head a.list a.reads) (lose_all breaks w)
+
+    stop-ran : run stop-atoms w ≡ stopped-world
+    stop-ran = run-append (loses breaks) (Prepare (λ p. some_made (made p)) head a.list a.reads ∷ []) w
+        ∙ ap (λ (v : Machine). after (Prepare (λ p. some_made (made p)) head a.list a.reads) v) (run-loses breaks w)
+
+    may-stop : MayRun stop-atoms w
+    may-stop = may-lose breaks (Prepare (λ p. some_made (made p)) head a.list a.reads ∷ []) w
+        (subst (λ (v : Machine). MayRun (Prepare (λ p. some_made (made p)) head a.list a.reads ∷ []) v) (sym (run-loses breaks w)) (may-prepare, tt))
+
+    stop-does : DoesStop s (prepared_row m.worker m.tickets T c x a votes.Ready) made w stopped-world
+    stop-does = record {
+      up = λ q. refl;
+      found = λ q p. ap (λ (z : ServerNo). if server_eq z q then (if some_made (made p) then made_by (AddReady head a.list a.reads) (w.found z p) else w.found z p) else w.found q p) server
+          ∙ ap (λ z. if server_eq s q then z else w.found q p) (made-one (AddReady head a.list a.reads) (made p) (w.found s p));
+      elsewhere = is-elsewhere;
+      next = λ W ne. refl;
+      ticket = λ q ne. refl;
+      knowledge = λ U ne. refl;
+      grows = λ message h. subst (λ (v : Machine). Says v message) stop-ran (grow stop-atoms may-stop message h);
+    }
+
   pub prepare-moves : RowMoves s m (prepared_row m.worker m.tickets T c x a votes.Ready) w
-  prepare-moves = record { atoms = atoms; may = may-all; does = subst (λ (v : Machine). DoesRow s m (prepared_row m.worker m.tickets T c x a votes.Ready) w v) (sym ran) does }
+  prepare-moves = record {
+    atoms = atoms;
+    may = may-all;
+    does = subst (λ (v : Machine). DoesRow s m (prepared_row m.worker m.tickets T c x a votes.Ready) w v) (sym ran) does;
+    stops = λ made. record {
+      atoms = stop-atoms made;
+      may = may-stop made;
+      does = subst (λ (v : Machine). DoesStop s (prepared_row m.worker m.tickets T c x a votes.Ready) made w v) (sym (stop-ran made)) (stop-does made);
+    };
+  }

@@ -1,6 +1,6 @@
 -- Rows that change no stable state and no active work, and the opening of a work, as steps of the machine.
-use Rattle.std.proofs.Common.{◌≡◌, ◌≢◌, ◌⊎◌, inl, inr, ℕ, ◌+◌, Bool, true, false, List, [], ◌∷◌, ◌++◌, Some, is_some, refl, sym, ◌∙◌, ap, subst}
-use Rattle.std.specs.Prelude.{if◌then◌else◌, All}
+use Rattle.std.proofs.Common.{◌≡◌, ◌≢◌, ◌⊎◌, inl, inr, ℕ, zero, suc, ◌+◌, Bool, true, false, List, [], ◌∷◌, ◌++◌, Some, is_some, refl, sym, ◌∙◌, ap, subst}
+use Rattle.std.specs.Prelude.{if◌then◌else◌, take, All}
 use Rattle.std.proofs.lemmas.List.Elements.{All-nil, All-cons}
 use Rattle.jn_base.specs.declared.names.ServerNo.{ServerNo}
 use Rattle.jn_base.specs.declared.names.ClientNo.{ClientNo}
@@ -14,7 +14,7 @@ use Rattle.jn_msgs.specs.declared.message.Message.TheVariants as messages
 use Rattle.jn_msgs.specs.declared.message.Note.{Note}
 use Rattle.jn_rows.specs.declared.worker.Work.{Work}
 use Rattle.jn_rows.specs.declared.worker.Phase.{Phase}
-use Rattle.jn_rows.specs.Stable.{at_work}
+use Rattle.jn_rows.specs.Stable.{StableState, Pick, at_work, made_all}
 use Rattle.jn_rows.specs.Outcomes.{RowOutcome, Sent}
 use Rattle.jn_rows.specs.Worker.{WorkerTable, work_at, with_phase, name_from, new_work}
 use Rattle.jn_lock_rows.proofs.Works.{at-more, at-phase, in_phase, work_is}
@@ -24,23 +24,55 @@ use Rattle.jn_machine.specs.Premises.{MayRun}
 use Rattle.jn_machine.specs.Messages.{Says}
 use Rattle.jn_protocol.specs.World.{World, Memory}
 use Rattle.jn_protocol.specs.LockFacts.{UpFact}
-use Rattle.jn_protocol.specs.Mirrors.{Mirrors, IsTrue, working_of, working_in, next_in}
+use Rattle.jn_protocol.specs.Mirrors.{Mirrors, IsTrue, IsAddressed, working_of, working_in, next_in}
 use Rattle.jn_protocol.proofs.GrantMoves.{active-here, found-here, found-same}
-use Rattle.jn_protocol.proofs.Mirrored.{DoesRow}
+use Rattle.jn_protocol.proofs.Mirrored.{DoesRow, DoesStop}
+
+-- steps of the machine that may come, and change what a stopped row has changed
+pub record StopMoves (s : ServerNo) (row : RowOutcome WorkerTable) (made : Pick → ℕ) (w : Machine) : Type 0 where
+  pub atoms : List Atom
+  pub may : MayRun atoms w
+  pub does : DoesStop s row made w (run atoms w)
 
 -- steps of the machine that may come, and do what the row does
 pub record RowMoves (s : ServerNo) (m : Memory) (row : RowOutcome WorkerTable) (w : Machine) : Type 0 where
   pub atoms : List Atom
   pub may : MayRun atoms w
   pub does : DoesRow s m row w (run atoms w)
+  -- and where it is stopped
+  pub stops : (made : Pick → ℕ) → StopMoves s row made w
 
 some-same : {A : Type 0} → (a b : A) → Some a ≡ Some b → a ≡ b
 some-same a b e = cc
 
 module _ (r : World) (w : Machine) (s : ServerNo) (m : Memory) (mirrors : Mirrors r w) (is : r.memory s ≡ Some m) (up : UpFact s m (r.found s)) where
+  -- true, and to the right server
+  abbrev pub AllGood : List Sent → Type 0
+  AllGood sent = All (IsTrue w) sent × All IsAddressed sent
+
+  none-made : (n : ℕ) (x : StableState) → x ≡ made_all (take n []) x
+  none-made zero x = refl
+  none-made (suc n) x = refl
+
+  -- a row without a change that is stopped
+  pub still-stops : (row : RowOutcome WorkerTable) → row.changes ≡ [] → (made : Pick → ℕ) → StopMoves s row made w
+  still-stops row e made = record {
+    atoms = [];
+    may = tt;
+    does = record {
+      up = λ q. refl;
+      found = λ q c. found-same r w s m mirrors is up q c ∙ ap (λ x. if server_eq s q then x else w.found q c) (none-made (made c) (w.found s c) ∙ ap (λ cs. made_all (take (made c) cs) (w.found s c)) (sym e));
+      elsewhere = λ W ne. refl;
+      next = λ W ne. refl;
+      ticket = λ q ne. refl;
+      knowledge = λ T ne. refl;
+      grows = λ message h. h;
+    };
+  }
+
   -- the same works are active, for the same transactions
   pub quiet-moves : (now : WorkerTable) (sent : List Sent) (notes : List Note) → ((V : WorkId) → working_of (work_at V now) ≡ working_of (work_at V m.worker))
-      → ((V : WorkId) (v : Work) → work_at V now ≡ Some v → Says w (messages.Inquire v.tid V)) → All (IsTrue w) sent
+      → ((V : WorkId) (v : Work) → work_at V now ≡ Some v → Says w (messages.Inquire v.tid V)) → AllGood sent
       → RowMoves s m (record { table = now; changes = []; messages = sent; notes = notes; tickets = m.tickets }) w
   quiet-moves now sent notes same owner says = record {
     atoms = [];
@@ -57,15 +89,17 @@ module _ (r : World) (w : Machine) (s : ServerNo) (m : Memory) (mirrors : Mirror
       knowledge = λ T. refl;
       owner = owner;
       grows = λ message h. h;
-      says = says;
+      says = says.0;
+      addressed = says.1;
     };
+    stops = still-stops _ refl;
   }
 
-  pub sends-moves : (sent : List Sent) (notes : List Note) → All (IsTrue w) sent → RowMoves s m (record { table = m.worker; changes = []; messages = sent; notes = notes; tickets = m.tickets }) w
+  pub sends-moves : (sent : List Sent) (notes : List Note) → AllGood sent → RowMoves s m (record { table = m.worker; changes = []; messages = sent; notes = notes; tickets = m.tickets }) w
   sends-moves sent notes says = quiet-moves m.worker sent notes (λ V. refl) (λ V v h. mirrors.owner s m V v is h) says
 
   -- a work in another phase, in which it is active or not as before
-  pub phase-moves : (x : Work) (phase : Phase) (sent : List Sent) (notes : List Note) → work_at x.name m.worker ≡ Some x → working_in phase ≡ working_in x.phase → All (IsTrue w) sent
+  pub phase-moves : (x : Work) (phase : Phase) (sent : List Sent) (notes : List Note) → work_at x.name m.worker ≡ Some x → working_in phase ≡ working_in x.phase → AllGood sent
       → RowMoves s m (record { table = with_phase x.name phase m.worker; changes = []; messages = sent; notes = notes; tickets = m.tickets }) w
   phase-moves x phase sent notes found same says = quiet-moves (with_phase x.name phase m.worker) sent notes
       (λ V. ap working_of (at-phase V x.name phase m.worker) ∙ still V (work_eq x.name V) refl)
@@ -169,5 +203,7 @@ module _ (r : World) (w : Machine) (s : ServerNo) (m : Memory) (mirrors : Mirror
         owner = owner-now;
         grows = λ message h. grow (Open (name_from m.tickets) T ∷ []) may-open message h;
         says = All-cons (IsTrue machine) (Client c, messages.Opened c request T (Some (name_from m.tickets))) [] opened-now (All-nil (IsTrue machine));
+        addressed = All-cons IsAddressed (Client c, messages.Opened c request T (Some (name_from m.tickets))) [] tt (All-nil IsAddressed);
       };
+      stops = still-stops _ refl;
     }

@@ -1,5 +1,5 @@
 -- Steps of the whole system as steps of the machine.
-use Rattle.std.proofs.Common.{◌≡◌, ◌≢◌, ◌⊎◌, ◌<◌, ◌≤◌, inl, inr, ℕ, Bool, true, false, List, [], ◌∷◌, Option, Some, None, is_some, length, refl, sym, ◌∙◌, ap, subst, arith}
+use Rattle.std.proofs.Common.{◌≡◌, ◌≢◌, ◌⊎◌, ◌<◌, ◌≤◌, inl, inr, ℕ, Bool, true, false, List, [], ◌∷◌, ◌++◌, Option, Some, None, is_some, length, refl, sym, ◌∙◌, ap, subst, arith}
 use Rattle.std.specs.Prelude.{if◌then◌else◌, slice_get, All, get_or}
 use Rattle.std.proofs.lemmas.List.Elements.{All-get_or, All-nil}
 use Rattle.std.proofs.Common.{append-nil}
@@ -18,7 +18,7 @@ use Rattle.jn_rows.specs.declared.worker.Phase.{Phase}
 use Rattle.jn_rows.specs.declared.worker.Phase.TheVariants.{Active, Broken, Prepared as Stored}
 use Rattle.jn_rows.specs.Stable.{Pick, stable}
 use Rattle.jn_rows.specs.Outcomes.{RowOutcome, Sent}
-use Rattle.jn_rows.specs.Worker.{WorkerTable, work_at, work_of, timed_out, vulnerable}
+use Rattle.jn_rows.specs.Worker.{worker_step, WorkerTable, work_at, work_of, timed_out, vulnerable}
 use Rattle.jn_report.specs.declared.line.Text.{Text}
 use Rattle.jn_machine.specs.World.{World as Machine, Unknown}
 use Rattle.jn_machine.specs.Transactions.{PartFact}
@@ -26,29 +26,33 @@ use Rattle.jn_machine.specs.Steps.{Atom, Crash as Crashes, Narrow as Narrows, Ra
 use Rattle.jn_machine.specs.Premises.{MayRun}
 use Rattle.jn_machine.specs.Messages.{Says}
 use Rattle.jn_machine.proofs.Runs.{run_kept, opening_kept}
-use Rattle.jn_machine.proofs.MessageLemmas.{still_true}
+use Rattle.jn_machine.specs.Invariant.{Invariant}
+use Rattle.jn_machine.proofs.MessageLemmas.{still_true, grows, says_still}
 use Rattle.jn_protocol.specs.World.{World, Memory, at_server, opening, new_memory}
-use Rattle.jn_protocol.specs.Servers.{Room, of_worker, server_row, of_timeout}
-use Rattle.jn_protocol.specs.Steps.{Step, NextEvent, Tell, Again, Deliver, Work as Works, Nudge, Timeout, StopDelivery, StopWork, Crash, Narrow, StopRestart, Restart, after, done, at_memory, handed, timeout, crash, narrow, stop_restart}
+use Rattle.jn_protocol.specs.Servers.{storage_of, of_step, Room, of_worker, server_row, of_timeout}
+use Rattle.jn_protocol.specs.Steps.{works, work, Step, NextEvent, Tell, Again, Deliver, Work as Works, Nudge, Timeout, StopDelivery, StopWork, Crash, Narrow, StopRestart, Restart, after, done, stopped, ends, at_memory, handed, timeout, crash, narrow, stop_restart}
 use Rattle.jn_protocol.specs.LockFacts.{LockFacts, ServerFact, UpFact}
-use Rattle.jn_protocol.specs.Mirrors.{Mirrors, MovesTo, IsTrue, is_shown, is_shown_sent, is_shown_message, active_in, next_in, known_in, working_in}
+use Rattle.jn_protocol.specs.Mirrors.{Mirrors, MovesTo, IsTrue, IsAddressed, is_shown, is_shown_sent, is_shown_message, active_in, next_in, known_in, working_in}
 use Rattle.jn_protocol.proofs.Tables.{of-found}
-use Rattle.jn_protocol.proofs.Mirrored.{mirrored}
-use Rattle.jn_protocol.proofs.QuietMoves.{RowMoves, phase-moves}
+use Rattle.jn_protocol.proofs.Mirrored.{mirrored, stop-mirrored}
+use Rattle.jn_protocol.proofs.QuietMoves.{RowMoves, StopMoves, phase-moves}
+use Rattle.jn_protocol.proofs.Losing.{run-append, may-append}
+use Rattle.jn_protocol.proofs.CarryMoves.{step-move}
+use Rattle.jn_protocol.proofs.CommitMoves.{commits-move}
 use Rattle.jn_protocol.proofs.WorkerMoves.{opens, ops-move, prepares-move}
 
 no-step : (P : Type 0) → false ≡ true → P
 no-step P h = absurd (grind arith)
 
--- a message that was sent is true
-is-true : (w : Machine) (sent : List Sent) (k : ℕ) (x : Sent) → All (IsTrue w) sent → slice_get sent k ≡ Some x → IsTrue w x
-is-true w sent k x all h = by (slice_get_cases sent k).1
+-- what holds of every message that was sent
+holds-of : (P : Sent → Type 0) (sent : List Sent) (k : ℕ) (x : Sent) → All P sent → slice_get sent k ≡ Some x → P x
+holds-of P sent k x all h = by (slice_get_cases sent k).1
   where
     some : (a b : Sent) → Some a ≡ Some b → a ≡ b
     some a b e = cc
 
-    by : ((y : Sent) × (k < length sent) × (slice_get sent k ≡ Some y) × (get_or sent k y ≡ y)) ⊎ ((length sent ≤ k) × (slice_get sent k ≡ None)) → IsTrue w x
-    by (inl p) = subst (IsTrue w) (some p.0 x (sym p.2 ∙ h)) (subst (IsTrue w) p.3 (All-get_or (IsTrue w) sent k p.0 p.1 all))
+    by : ((y : Sent) × (k < length sent) × (slice_get sent k ≡ Some y) × (get_or sent k y ≡ y)) ⊎ ((length sent ≤ k) × (slice_get sent k ≡ None)) → P x
+    by (inl p) = subst P (some p.0 x (sym p.2 ∙ h)) (subst P p.3 (All-get_or P sent k p.0 p.1 all))
     by (inr p) = absurd (none (sym p.1 ∙ h))
       where
         none : None ≡ Some x → ⊥
@@ -65,9 +69,11 @@ same-tables w r q h m f sent = record {
   knowledge = λ T. h.knowledge T ∙ sym (ap (λ o. known_in o T) (m T.server));
   owner = λ s n W v e k. h.owner s n W v (sym (m s) ∙ e) k;
   says = subst (λ l. All (IsTrue w) l) (sym sent) h.says;
+  addressed = subst (λ l. All IsAddressed l) (sym sent) h.addressed;
 }
 
-module _ (w : Machine) (grow : (atoms : List Atom) → MayRun atoms w → (message : Message) → Says w message → Says (run atoms w) message) (parts : PartFact w) where
+module _ (w : Machine) (grow : (atoms : List Atom) → MayRun atoms w → (message : Message) → Says w message → Says (run atoms w) message) (parts : PartFact w)
+    (sound : (atoms : List Atom) → MayRun atoms w → Invariant (run atoms w)) where
   -- nothing that the machine sees
   stays : (r : World) → Mirrors r w → MovesTo r w
   stays r h = record { atoms = []; may = tt; mirrors = h }
@@ -77,33 +83,46 @@ module _ (w : Machine) (grow : (atoms : List Atom) → MayRun atoms w → (messa
     of-row : (s : ServerNo) (m : Memory) (k : Option ℕ) (row : RowOutcome WorkerTable) → r.memory s ≡ Some m → RowMoves s m row w → MovesTo (done s k (of_worker m row) r) w
     of-row s m k row is moves = record { atoms = moves.atoms; may = moves.may; mirrors = mirrored r w (run moves.atoms w) s m row k h is moves.does }
 
-    delivered : (s : ServerNo) (m : Memory) (k : ℕ) (room : Room) (message : Message) → r.memory s ≡ Some m → UpFact s m (r.found s) → Says w message → is_shown_message message ≡ true
-        → MovesTo (done s (Some k) (server_row m (stable (r.found s)) room message) r) w
-    delivered s m k room (messages.Open c request T) is up said shown = of-row s m (Some k) _ is (opens r w s m h is up grow parts c request T (work_of T m.worker) refl said)
-    delivered s m k room (messages.Op c request W number op) is up said shown = of-row s m (Some k) _ is (ops-move r w s m h is up grow parts c request W number op (work_at W m.worker) refl)
-    delivered s m k room (messages.Prepare T c W) is up said shown = of-row s m (Some k) _ is (prepares-move r w s m h is up grow parts room T c W (work_at W m.worker) refl said)
-    delivered s m k room (messages.Begin c request) is up said shown = no-step _ shown
-    delivered s m k room (messages.End c request T works) is up said shown = no-step _ shown
-    delivered s m k room (messages.Abort c request T works) is up said shown = no-step _ shown
-    delivered s m k room (messages.Thanks c T) is up said shown = no-step _ shown
-    delivered s m k room (messages.Begun c request T) is up said shown = no-step _ shown
-    delivered s m k room (messages.Opened c request T W) is up said shown = no-step _ shown
-    delivered s m k room (messages.Answer c request answer) is up said shown = no-step _ shown
-    delivered s m k room (messages.Outcome c T outcome) is up said shown = no-step _ shown
-    delivered s m k room (messages.Commit T W) is up said shown = no-step _ shown
-    delivered s m k room (messages.Drop T W) is up said shown = no-step _ shown
-    delivered s m k room (messages.Vote T W vote) is up said shown = no-step _ shown
-    delivered s m k room (messages.Done T W) is up said shown = no-step _ shown
-    delivered s m k room (messages.Inquire T W) is up said shown = no-step _ shown
+    -- or stopped
+    of-stop : (s : ServerNo) (m : Memory) (made : Pick → ℕ) (row : RowOutcome WorkerTable) → StopMoves s row made w → MovesTo (stopped s made (of_worker m row) r) w
+    of-stop s m made row moves = record {
+      atoms = moves.atoms ++ Crashes s ∷ [];
+      may = may-append moves.atoms (Crashes s ∷ []) w moves.may (tt, tt);
+      mirrors = subst (λ (v : Machine). Mirrors (stopped s made (of_worker m row) r) v) (sym (run-append moves.atoms (Crashes s ∷ []) w))
+          (stop-mirrored r w (run moves.atoms w) s m row made h moves.does (λ message said. says_still (run moves.atoms w) (run (Crashes s ∷ []) (run moves.atoms w)) (grows (Crashes s) (run moves.atoms w) tt (sound moves.atoms moves.may).names) message said));
+    }
 
-    at-server : (s : ServerNo) (k : ℕ) (room : Room) (message : Message) (o : Option Memory) → r.memory s ≡ o → ServerFact s o (r.found s) → Says w message → is_shown_message message ≡ true → MovesTo (at_memory s k room None message o r) w
-    at-server s k room message None is fact said shown = stays _ (same-tables w r _ h (λ q. refl) (λ q c. refl) refl)
-    at-server s k room message (Some m) is fact said shown = delivered s m k room message is fact said shown
+    either-way : (s : ServerNo) (m : Memory) (k : Option ℕ) (stop : Option (Pick → ℕ)) (row : RowOutcome WorkerTable) → r.memory s ≡ Some m → RowMoves s m row w → MovesTo (ends s k stop (of_worker m row) r) w
+    either-way s m k None row is moves = of-row s m k row is moves
+    either-way s m k (Some made) row is moves = of-stop s m made row (moves.stops made)
 
-    handed-over : (k : ℕ) (room : Room) (o : Option Sent) → LockFacts r → slice_get r.sent k ≡ o → is_shown_sent o ≡ true → MovesTo (handed k room None o r) w
-    handed-over k room None locks e shown = stays r h
-    handed-over k room (Some (Client c, message)) locks e shown = no-step _ shown
-    handed-over k room (Some (Server s, message)) locks e shown = at-server s k room message (r.memory s) refl (locks s) (is-true w r.sent k (Server s, message) h.says e) shown
+    delivered : (s : ServerNo) (m : Memory) (k : ℕ) (room : Room) (stop : Option (Pick → ℕ)) (message : Message) → r.memory s ≡ Some m → UpFact s m (r.found s) → Says w message → IsAddressed (Server s, message) → is_shown_message message ≡ true
+        → MovesTo (ends s (Some k) stop (server_row m (stable (r.found s)) room message) r) w
+    delivered s m k room stop (messages.Open c request T) is up said to shown = either-way s m (Some k) stop _ is (opens r w s m h is up grow parts c request T (work_of T m.worker) refl said)
+    delivered s m k room stop (messages.Op c request W number op) is up said to shown = either-way s m (Some k) stop _ is (ops-move r w s m h is up grow parts c request W number op (work_at W m.worker) refl)
+    delivered s m k room stop (messages.Prepare T c W) is up said to shown = either-way s m (Some k) stop _ is (prepares-move r w s m h is up grow parts room T c W (work_at W m.worker) refl said)
+    delivered s m k room stop (messages.Begin c request) is up said to shown = no-step _ shown
+    delivered s m k room stop (messages.End c request T works) is up said to shown = no-step _ shown
+    delivered s m k room stop (messages.Abort c request T works) is up said to shown = no-step _ shown
+    delivered s m k room stop (messages.Thanks c T) is up said to shown = no-step _ shown
+    delivered s m k room stop (messages.Begun c request T) is up said to shown = no-step _ shown
+    delivered s m k room stop (messages.Opened c request T W) is up said to shown = no-step _ shown
+    delivered s m k room stop (messages.Answer c request answer) is up said to shown = no-step _ shown
+    delivered s m k room stop (messages.Outcome c T outcome) is up said to shown = no-step _ shown
+    delivered s m k room stop (messages.Commit T W) is up said to shown = either-way s m (Some k) stop _ is (commits-move r w s m h is up grow parts room T W said to (work_at W m.worker) refl)
+    delivered s m k room stop (messages.Drop T W) is up said to shown = no-step _ shown
+    delivered s m k room stop (messages.Vote T W vote) is up said to shown = no-step _ shown
+    delivered s m k room stop (messages.Done T W) is up said to shown = no-step _ shown
+    delivered s m k room stop (messages.Inquire T W) is up said to shown = no-step _ shown
+
+    at-server : (s : ServerNo) (k : ℕ) (room : Room) (stop : Option (Pick → ℕ)) (message : Message) (o : Option Memory) → r.memory s ≡ o → ServerFact s o (r.found s) → Says w message → IsAddressed (Server s, message) → is_shown_message message ≡ true → MovesTo (at_memory s k room stop message o r) w
+    at-server s k room stop message None is fact said to shown = stays _ (same-tables w r _ h (λ q. refl) (λ q c. refl) refl)
+    at-server s k room stop message (Some m) is fact said to shown = delivered s m k room stop message is fact said to shown
+
+    handed-over : (k : ℕ) (room : Room) (stop : Option (Pick → ℕ)) (o : Option Sent) → LockFacts r → slice_get r.sent k ≡ o → is_shown_sent o ≡ true → MovesTo (handed k room stop o r) w
+    handed-over k room stop None locks e shown = stays r h
+    handed-over k room stop (Some (Client c, message)) locks e shown = no-step _ shown
+    handed-over k room stop (Some (Server s, message)) locks e shown = at-server s k room stop message (r.memory s) refl (locks s) (holds-of (IsTrue w) r.sent k (Server s, message) h.says e) (holds-of IsAddressed r.sent k (Server s, message) h.addressed e) shown
 
     -- a timeout
     vulnerable-same : (p : Phase) → working_in (vulnerable p) ≡ working_in p
@@ -126,6 +145,7 @@ module _ (w : Machine) (grow : (atoms : List Atom) → MayRun atoms w → (messa
       knowledge = λ T. knowledge T (server_tells s T.server);
       owner = λ q n W v e k. owner q n W v (server_tells s q) e k;
       says = λ k d l. grow (Crashes s ∷ []) (tt, tt) _ (h.says k d l);
+      addressed = h.addressed;
     }
       where
         up : (q : ServerNo) → Tells s q → (if server_eq s q then false else w.up q) ≡ is_some (at_server r.memory s None q)
@@ -175,6 +195,7 @@ module _ (w : Machine) (grow : (atoms : List Atom) → MayRun atoms w → (messa
         knowledge = h.knowledge;
         owner = h.owner;
         says = λ k d l. grow (Narrows s g ∷ []) (tt, tt) _ (h.says k d l);
+        addressed = h.addressed;
       };
     }
       where
@@ -196,6 +217,7 @@ module _ (w : Machine) (grow : (atoms : List Atom) → MayRun atoms w → (messa
         knowledge = h.knowledge;
         owner = h.owner;
         says = λ k d l. grow (RaiseEpoch s raised ∷ []) may _ (h.says k d l);
+        addressed = h.addressed;
       };
     }
       where
@@ -206,6 +228,16 @@ module _ (w : Machine) (grow : (atoms : List Atom) → MayRun atoms w → (messa
         by q c true true = ap with_epoch (h.found s c)
         by q c true false = h.found s c
         by q c false d = h.found q c
+
+    -- ---- a background step
+
+    work-moves : (s : ServerNo) (room : Room) (stop : Option (Pick → ℕ)) (o : Option Memory) → r.memory s ≡ o → ServerFact s o (r.found s) → MovesTo (work s room stop o r) w
+    work-moves s room stop None is fact = stays r h
+    work-moves s room stop (Some m) is up = by (worker_step m.worker (storage_of m (stable (r.found s)) room) m.tickets) refl
+      where
+        by : (o : Option (RowOutcome WorkerTable)) → worker_step m.worker (storage_of m (stable (r.found s)) room) m.tickets ≡ o → MovesTo (works s stop (of_step m o) r) w
+        by None e = stays r h
+        by (Some row) e = either-way s m None stop row is (step-move r w s m h is up grow (sound [] tt) room row e)
 
     -- ---- a timeout
 
@@ -230,7 +262,7 @@ module _ (w : Machine) (grow : (atoms : List Atom) → MayRun atoms w → (messa
         by : (v : Option Work) → work_of T m.worker ≡ v → MovesTo (record r { memory = at_server r.memory s (Some (of_timeout m (timed_out m.worker v))) }) w
         by None e = stays _ (same-tables w r _ h (λ q. same-memory s m q is) (λ q c. refl) refl)
         by (Some x) e =
-            let moves = phase-moves r w s m h is up x (vulnerable x.phase) [] [] (of-found T m.worker x up.table.rising e) (vulnerable-same x.phase) (All-nil (IsTrue w)) in
+            let moves = phase-moves r w s m h is up x (vulnerable x.phase) [] [] (of-found T m.worker x up.table.rising e) (vulnerable-same x.phase) (All-nil (IsTrue w), All-nil IsAddressed) in
             let moved = of-row s m None _ is moves in
             record { atoms = moved.atoms; may = moved.may; mirrors = same-tables (run moved.atoms w) _ _ moved.mirrors (λ q. refl) (λ q c. same-found s q c) (sym (append-nil r.sent)) }
 
@@ -238,23 +270,24 @@ module _ (w : Machine) (grow : (atoms : List Atom) → MayRun atoms w → (messa
 
     pub moves : (step : Step) → LockFacts r → is_shown step r ≡ true → MovesTo (after step r) w
     moves NextEvent locks shown = stays _ (same-tables w r _ h (λ q. refl) (λ q c. refl) refl)
-    moves (Deliver k room) locks shown = handed-over k room (slice_get r.sent k) locks refl shown
+    moves (Deliver k room) locks shown = handed-over k room None (slice_get r.sent k) locks refl shown
     moves (Timeout s T) locks shown = timeout-moves s T (r.memory s) refl (locks s)
     moves (Crash s) locks shown = crash-moves s (r.memory s)
     moves (Narrow s g) locks shown = narrow-moves s g (r.memory s)
     moves (StopRestart s raised) locks shown = raise-moves s raised (r.memory s) refl
     moves (Tell c command) locks shown = no-step _ shown
     moves (Again c) locks shown = no-step _ shown
-    moves (Works s room) locks shown = no-step _ shown
+    moves (Works s room) locks shown = work-moves s room None (r.memory s) refl (locks s)
     moves (Nudge s) locks shown = no-step _ shown
-    moves (StopDelivery k room made) locks shown = no-step _ shown
-    moves (StopWork s room made) locks shown = no-step _ shown
+    moves (StopDelivery k room made) locks shown = handed-over k room (Some made) (slice_get r.sent k) locks refl shown
+    moves (StopWork s room made) locks shown = work-moves s room (Some made) (r.memory s) refl (locks s)
     moves (Restart s pick Ws Ts) locks shown = no-step _ shown
 
 pub step-moves : (files : AllFiles) (epochs : ServerNo → ℕ) (before : List Atom) (r : World) → MayRun before (opening_world files epochs) → Mirrors r (run before (opening_world files epochs)) → LockFacts r
     → (step : Step) → is_shown step r ≡ true → MovesTo (after step r) (run before (opening_world files epochs))
 step-moves files epochs before r may h locks step shown = moves (run before (opening_world files epochs)) (λ atoms further message said. still_true files epochs before atoms may further message said)
-    (run_kept before (opening_world files epochs) may (opening_kept files epochs)).core.parts r h step locks shown
+    (run_kept before (opening_world files epochs) may (opening_kept files epochs)).core.parts
+    (λ atoms further. run_kept atoms (run before (opening_world files epochs)) further (run_kept before (opening_world files epochs) may (opening_kept files epochs))) r h step locks shown
 
 pub opening-mirrors : (servers : ℕ) (files : AllFiles) (epochs : ServerNo → ℕ) → Mirrors (opening servers files epochs) (opening_world files epochs)
 opening-mirrors servers files epochs = record {
@@ -266,6 +299,7 @@ opening-mirrors servers files epochs = record {
   knowledge = λ T. refl;
   owner = λ s m W v e h. absurd (none v (subst (λ (x : Memory). work_at W x.worker ≡ Some v) (sym (same (new_memory s (epochs s)) m e)) h));
   says = All-nil (IsTrue (opening_world files epochs));
+  addressed = All-nil IsAddressed;
 }
   where
     same : (a b : Memory) → Some a ≡ Some b → a ≡ b

@@ -13,7 +13,7 @@ use Rattle.jn_order.specs.Files.{AllFiles}
 use Rattle.jn_msgs.specs.declared.message.Message.{Message}
 use Rattle.jn_rows.specs.declared.client.Taken.{Taken}
 use Rattle.jn_rows.specs.declared.client.Taken.TheVariants as taken
-use Rattle.jn_rows.specs.Stable.{StableState, Pick, Change, stable, made_all}
+use Rattle.jn_rows.specs.Stable.{StableState, Pick, Change, stable, made_all, is_going}
 use Rattle.jn_rows.specs.Outcomes.{RowOutcome, Sent}
 use Rattle.jn_rows.specs.Worker.{WorkerTable, worker_row, worker_step, timeout_row}
 use Rattle.jn_rows.specs.Coordinator.{CoordinatorTable, coordinator_row}
@@ -36,9 +36,11 @@ record Leaves (s : ServerNo) (x : StableState) (row : RowOutcome Memory) : Type 
   table : TableFact row.table.worker row.table.tickets (made_all row.changes x).works
   server : row.table.tickets.server ≡ s
   epoch : row.table.tickets.epoch ≡ (made_all row.changes x).epoch
+  idle : (V : WorkId) → is_going ((made_all row.changes x).works V) ≡ false → row.table.next V ≡ 0
   stops : (n : ℕ) → StoredFact s (made_all (take n row.changes) x).epoch (made_all (take n row.changes) x).works
 
-module _ (s : ServerNo) (m : Memory) (x : StableState) (table : TableFact m.worker m.tickets x.works) (server : m.tickets.server ≡ s) (epoch : m.tickets.epoch ≡ x.epoch) where
+module _ (s : ServerNo) (m : Memory) (x : StableState) (table : TableFact m.worker m.tickets x.works) (server : m.tickets.server ≡ s) (epoch : m.tickets.epoch ≡ x.epoch)
+    (idle : (V : WorkId) → is_going (x.works V) ≡ false → m.next V ≡ 0) where
   before : StoredFact s x.epoch x.works
   before = stored-fact s m.worker m.tickets x.epoch x.works table server epoch
 
@@ -47,6 +49,7 @@ module _ (s : ServerNo) (m : Memory) (x : StableState) (table : TableFact m.work
     table = h.table;
     server = h.server ∙ server;
     epoch = now;
+    idle = h.idle m.next idle;
     stops = λ n. by n (h.few n);
   }
     where
@@ -62,6 +65,7 @@ module _ (s : ServerNo) (m : Memory) (x : StableState) (table : TableFact m.work
   of-coordinator row h = record {
     table = subst (λ f. TableFact m.worker row.tickets f) (sym (flags-all row.changes x h.flags)) (drawn h.tickets);
     server = same h.tickets ∙ server;
+    idle = λ V e. idle V (sym (ap (λ f. is_going (f V)) (flags-all row.changes x h.flags)) ∙ e);
     epoch = now h.tickets ∙ epoch ∙ sym (epoch-all row.changes x);
     stops = λ n. subst (λ e. StoredFact s e (made_all (take n row.changes) x).works) (sym (epoch-kept row.changes n x))
         (subst (λ f. StoredFact s x.epoch f) (sym (flags-keep row.changes n x h.flags)) before);
@@ -138,6 +142,7 @@ module _ (s : ServerNo) (w : World) (m : Memory) (h : LockFacts w) (up : UpFact 
     same = λ c. ap (λ x. made_all row.changes x) (up.same c);
     server = leaves.server;
     epoch = leaves.epoch;
+    idle = leaves.idle;
     table = leaves.table;
   })
 
@@ -166,7 +171,7 @@ handed-keeps k room stop (Some (Server s, message)) w h = by (w.memory s) refl
     by : (o : Option Memory) → w.memory s ≡ o → LockFacts (at_memory s k room stop message o w)
     by None e = h
     by (Some m) e = let up = is-up s w m h e in
-        ends-keeps s w m h up (server_row m (stable (w.found s)) room message) (row-leaves s m (stable (w.found s)) up.table up.server up.epoch room message) (Some k) stop
+        ends-keeps s w m h up (server_row m (stable (w.found s)) room message) (row-leaves s m (stable (w.found s)) up.table up.server up.epoch up.idle room message) (Some k) stop
 
 work-keeps : (s : ServerNo) (room : Room) (stop : Option (Pick → ℕ)) (o : Option Memory) (w : World) → LockFacts w → w.memory s ≡ o → LockFacts (work s room stop o w)
 work-keeps s room stop None w h e = h
@@ -177,14 +182,14 @@ work-keeps s room stop (Some m) w h e = by (server_step m (stable (w.found s)) r
 
     by : (o : Option (RowOutcome Memory)) → server_step m (stable (w.found s)) room ≡ o → LockFacts (works s stop o w)
     by None q = h
-    by (Some row) q = ends-keeps s w m h up row (step-leaves s m (stable (w.found s)) up.table up.server up.epoch room row q) None stop
+    by (Some row) q = ends-keeps s w m h up row (step-leaves s m (stable (w.found s)) up.table up.server up.epoch up.idle room row q) None stop
 
 timeout-is : (m : Memory) (T : Tid) (s : ServerNo) (found : Pick → StableState) → UpFact s m found → UpFact s (server_timeout m T) found
 timeout-is m T s found up = by (timeout_row m.worker T) refl
   where
     by : (o : Option WorkerTable) → timeout_row m.worker T ≡ o → UpFact s (of_timeout m o) found
     by None e = up
-    by (Some t) e = record { same = up.same; server = up.server; epoch = up.epoch; table = timeout-keeps m.worker t m.tickets (stable found).works T up.table e }
+    by (Some t) e = record { same = up.same; server = up.server; epoch = up.epoch; idle = up.idle; table = timeout-keeps m.worker t m.tickets (stable found).works T up.table e }
 
 timeout-step : (s : ServerNo) (T : Tid) (o : Option Memory) (w : World) → LockFacts w → w.memory s ≡ o → LockFacts (timeout s T o w)
 timeout-step s T None w h e = h
@@ -231,6 +236,7 @@ restart-step s pick Ws Ts None w h e names = changed-at s w _ (λ c. with_epoch 
   same = λ c. refl;
   server = refl;
   epoch = refl;
+  idle = λ V e. refl;
   table = restart-keeps s (w.found s pick) Ws (is-down s w h e pick) names.0;
 })
 restart-step s pick Ws Ts (Some m) w h e names = h
@@ -261,6 +267,7 @@ opening-keeps servers files epochs s = record {
   same = λ c. refl;
   server = refl;
   epoch = refl;
+  idle = λ V e. refl;
   table = record {
     rising = refl;
     before = refl;

@@ -35,13 +35,13 @@ use Rattle.jn_lock_rows.proofs.Works.{found-name}
 use Rattle.jn_protocol.specs.World.{World, Memory}
 use Rattle.jn_protocol.specs.Servers.{Room, storage_of}
 use Rattle.jn_protocol.specs.LockFacts.{UpFact, IsSoundWork, IsSoundPrepared}
-use Rattle.jn_protocol.specs.Mirrors.{Mirrors, IsTrue, working_in, next_in}
+use Rattle.jn_protocol.specs.Mirrors.{Mirrors, IsTrue, IsAddressed, working_in, next_in}
 use Rattle.jn_protocol.proofs.Rows.{by-name}
 use Rattle.jn_protocol.proofs.Tables.{of-found}
 use Rattle.jn_protocol.proofs.WorkerRows.{no-lock}
 use Rattle.jn_protocol.proofs.GrantMoves.{found-here, found-same, active-here}
 use Rattle.jn_protocol.proofs.Mirrored.{DoesRow}
-use Rattle.jn_protocol.proofs.QuietMoves.{RowMoves, sends-moves, phase-moves, open-moves}
+use Rattle.jn_protocol.proofs.QuietMoves.{RowMoves, still-stops, sends-moves, phase-moves, open-moves}
 use Rattle.jn_protocol.proofs.OpMoves.{atoms, may-op, op-does, op-ran}
 use Rattle.jn_protocol.proofs.PrepareMoves.{prepare-moves}
 
@@ -55,19 +55,19 @@ of-tid T (y ∷ ys) v h = grind (arith, of-tid T ys v, tid_tells y.tid T)
 
 module _ (r : World) (w : Machine) (s : ServerNo) (m : Memory) (mirrors : Mirrors r w) (is : r.memory s ≡ Some m) (up : UpFact s m (r.found s))
     (grow : (atoms : List Atom) → MayRun atoms w → (message : Message) → Says w message → Says (run atoms w) message) (parts : PartFact w) where
-  one : (sent : Sent) → IsTrue w sent → All (IsTrue w) (sent ∷ [])
-  one sent h = All-cons (IsTrue w) sent [] h (All-nil (IsTrue w))
+  one : (sent : Sent) → IsTrue w sent → IsAddressed sent → All (IsTrue w) (sent ∷ []) × All IsAddressed (sent ∷ [])
+  one sent h a = (All-cons (IsTrue w) sent [] h (All-nil (IsTrue w)), All-cons IsAddressed sent [] a (All-nil IsAddressed))
 
-  none : All (IsTrue w) []
-  none = All-nil (IsTrue w)
+  none : All (IsTrue w) [] × All IsAddressed []
+  none = (All-nil (IsTrue w), All-nil IsAddressed)
 
   -- ---- Open
 
   pub opens : (c : ClientNo) (request : ℕ) (T : Tid) (o : Option Work) → work_of T m.worker ≡ o → w.begun T ≡ true → RowMoves s m (open_row m.worker m.tickets c request T o) w
   opens c request T (Some v) h begun = sends-moves r w s m mirrors is up _ [] (one (Client c, messages.Opened c request T (Some v.name)) (subst (λ (U : Tid). Says w (messages.Inquire U v.name)) (of-tid T m.worker v h)
-      (mirrors.owner s m v.name v is (of-found T m.worker v up.table.rising h))))
+      (mirrors.owner s m v.name v is (of-found T m.worker v up.table.rising h))) tt)
   opens c request T None h begun = either s m w (nat_lt (length m.worker) 64) _ _ (open-moves r w s m mirrors is up T begun grow c request)
-      (sends-moves r w s m mirrors is up _ [] (one (Client c, messages.Opened c request T None) tt))
+      (sends-moves r w s m mirrors is up _ [] (one (Client c, messages.Opened c request T None) tt tt))
 
   -- ---- Op
 
@@ -76,7 +76,7 @@ module _ (r : World) (w : Machine) (s : ServerNo) (m : Memory) (mirrors : Mirror
         → refusal_of m.worker x.name a op (answer_to op (change (list_change a.list) (stable (r.found s)).files)) (wants_of op (is_fit (answer_to op (change (list_change a.list) (stable (r.found s)).files)))) ≡ o
         → RowMoves s m (granted_row m.worker m.tickets c request x a op (answer_to op (change (list_change a.list) (stable (r.found s)).files))
         (wants_of op (is_fit (answer_to op (change (list_change a.list) (stable (r.found s)).files)))) o) w
-    granted c request a op (Some refusal) e h = phase-moves r w s m mirrors is up x (Active (counted a refusal)) _ [] found (sym (ap working_in e)) (one (Client c, messages.Answer c request refusal) tt)
+    granted c request a op (Some refusal) e h = phase-moves r w s m mirrors is up x (Active (counted a refusal)) _ [] found (sym (ap working_in e)) (one (Client c, messages.Answer c request refusal) tt tt)
     granted c request a op None e h =
         let answer = answer_to op (change (list_change a.list) (stable (r.found s)).files) in
         let free : conflict x.name (wants_of op (is_fit answer)) m.worker ≡ None = no-lock (past_limit (length (with_units (units_for Read (wants_of op (is_fit answer))) a.reads)) (if is_fit answer then length_with a.list op else length a.list))
@@ -86,10 +86,11 @@ module _ (r : World) (w : Machine) (s : ServerNo) (m : Memory) (mirrors : Mirror
           may = may-op r w s m mirrors is up grow x a found e op free;
           does = subst (λ (v : Machine). DoesRow s m (granted_row m.worker m.tickets c request x a op answer (wants_of op (is_fit answer)) None) w v)
               (sym (op-ran r w s m mirrors is up grow x a found e op free)) (op-does r w s m mirrors is up grow x a found e op free c request);
+          stops = still-stops r w s m mirrors is up _ refl;
         }
 
     again : (c : ClientNo) (request : ℕ) (o : Option Answer) → RowMoves s m (repeated m.worker m.tickets c request o) w
-    again c request (Some answer) = sends-moves r w s m mirrors is up _ [] (one (Client c, messages.Answer c request answer) tt)
+    again c request (Some answer) = sends-moves r w s m mirrors is up _ [] (one (Client c, messages.Answer c request answer) tt tt)
     again c request None = sends-moves r w s m mirrors is up _ _ none
 
     numbered : (c : ClientNo) (request : ℕ) (a : ActiveWork) (number : ℕ) (op : Op) → x.phase ≡ Active a → RowMoves s m (by_number m.worker (stable (r.found s)).files m.tickets c request x a number op) w
@@ -98,18 +99,18 @@ module _ (r : World) (w : Machine) (s : ServerNo) (m : Memory) (mirrors : Mirror
 
     by-phase : (c : ClientNo) (request number : ℕ) (op : Op) (p : Phase) → x.phase ≡ p → RowMoves s m (op_phase m.worker (stable (r.found s)).files m.tickets c request x number op p) w
     by-phase c request number op (Active a) e = numbered c request a number op e
-    by-phase c request number op (Broken u T) e = sends-moves r w s m mirrors is up _ [] (one (Client c, messages.Answer c request _) tt)
-    by-phase c request number op (Stored p) e = sends-moves r w s m mirrors is up _ [] (one (Client c, messages.Answer c request _) tt)
+    by-phase c request number op (Broken u T) e = sends-moves r w s m mirrors is up _ [] (one (Client c, messages.Answer c request _) tt tt)
+    by-phase c request number op (Stored p) e = sends-moves r w s m mirrors is up _ [] (one (Client c, messages.Answer c request _) tt tt)
 
   pub ops-move : (c : ClientNo) (request : ℕ) (W : WorkId) (number : ℕ) (op : Op) (o : Option Work) → work_at W m.worker ≡ o → RowMoves s m (op_row m.worker (stable (r.found s)).files m.tickets c request W number op o) w
   ops-move c request W number op (Some x) h = by-phase x (by-name W m.worker x h) c request number op x.phase refl
-  ops-move c request W number op None h = sends-moves r w s m mirrors is up _ [] (one (Client c, messages.Answer c request _) tt)
+  ops-move c request W number op None h = sends-moves r w s m mirrors is up _ [] (one (Client c, messages.Answer c request _) tt tt)
 
   -- ---- Prepare
 
   module _ (room : Room) (T : Tid) (c : ClientNo) (x : Work) (found : work_at x.name m.worker ≡ Some x) (said : IsPartOf w T x.name) where
     votes-no : (vote : Vote) → Says w (messages.Vote T x.name vote) → RowMoves s m (record { table = m.worker; changes = []; messages = (Server T.server, messages.Vote T x.name vote) ∷ []; notes = []; tickets = m.tickets }) w
-    votes-no vote h = sends-moves r w s m mirrors is up _ [] (one (Server T.server, messages.Vote T x.name vote) h)
+    votes-no vote h = sends-moves r w s m mirrors is up _ [] (one (Server T.server, messages.Vote T x.name vote) h tt)
 
     voted : (a : ActiveWork) (vote : Vote) → x.phase ≡ Active a → conflict x.name (commit_wants a.writes) m.worker ≡ None → RowMoves s m (prepared_row m.worker m.tickets T c x a vote) w
     voted a votes.Ready e free = prepare-moves r w s m mirrors is up grow parts x a found e T c said free
@@ -143,7 +144,9 @@ module _ (r : World) (w : Machine) (s : ServerNo) (m : Memory) (mirrors : Mirror
         grows = λ message h. grow (NoteReady x.name ∷ []) may message h;
         says = All-cons (IsTrue (run (NoteReady x.name ∷ []) w)) (Server T.server, messages.Vote T x.name votes.Ready) [] (noted (work_tells x.name x.name), grow (NoteReady x.name ∷ []) may (messages.Prepare T c x.name) said)
             (All-nil (IsTrue (run (NoteReady x.name ∷ []) w)));
+        addressed = All-cons IsAddressed (Server T.server, messages.Vote T x.name votes.Ready) [] tt (All-nil IsAddressed);
       };
+      stops = still-stops r w s m mirrors is up _ refl;
     }
       where
         may : MayRun (NoteReady x.name ∷ []) w
@@ -162,4 +165,4 @@ module _ (r : World) (w : Machine) (s : ServerNo) (m : Memory) (mirrors : Mirror
   pub prepares-move : (room : Room) (T : Tid) (c : ClientNo) (W : WorkId) (o : Option Work) → work_at W m.worker ≡ o → IsPartOf w T W
       → RowMoves s m (prepare_row m.worker (storage_of m (stable (r.found s)) room) m.tickets T c W o) w
   prepares-move room T c W (Some x) h said = by-stage room T c x (by-name W m.worker x h) (subst (λ (U : WorkId). IsPartOf w T U) (sym (found-name W m.worker x h)) said) x.phase refl
-  prepares-move room T c W None h said = sends-moves r w s m mirrors is up _ [] (one (Server T.server, messages.Vote T W _) (tt, said))
+  prepares-move room T c W None h said = sends-moves r w s m mirrors is up _ [] (one (Server T.server, messages.Vote T W _) (tt, said) tt)

@@ -1,5 +1,5 @@
 -- Each row of a worker keeps what holds of its works and locks: every message, every background step, a timeout.
-use Rattle.std.proofs.Common.{◌≡◌, ◌≢◌, ℕ, ◌+◌, Bool, true, false, List, [], ◌∷◌, Option, Some, None, refl, sym, subst, arith}
+use Rattle.std.proofs.Common.{ap, ◌∙◌, ◌⊎◌, inr, inl, ◌≡◌, ◌≢◌, ℕ, ◌+◌, Bool, true, false, List, [], ◌∷◌, Option, Some, None, refl, sym, subst, arith}
 use Rattle.std.specs.Prelude.{if◌then◌else◌, nat_lt, nat_eq, length, slice_get}
 use Rattle.jn_base.specs.declared.names.ClientNo.{ClientNo}
 use Rattle.jn_base.specs.declared.names.Tid.{Tid}
@@ -8,6 +8,7 @@ use Rattle.jn_base.specs.declared.names.Tickets.{Tickets}
 use Rattle.jn_base.specs.declared.names.LockUnit.{LockUnit}
 use Rattle.jn_base.specs.declared.op.Op.{Op}
 use Rattle.jn_base.specs.declared.op.Answer.{Answer}
+use Rattle.jn_base.specs.Names.{work_eq}
 use Rattle.jn_base.proofs.Tells.{work_tells}
 use Rattle.jn_order.specs.Files.{answer_to, change}
 use Rattle.jn_records.specs.declared.intention.Intention.{Intention}
@@ -23,19 +24,74 @@ use Rattle.jn_rows.specs.declared.worker.Work.{Work}
 use Rattle.jn_rows.specs.declared.worker.Phase.{Phase}
 use Rattle.jn_rows.specs.declared.worker.Phase.TheVariants.{Active, Broken, Prepared as Stored}
 use Rattle.jn_rows.specs.declared.worker.ActiveWork.{ActiveWork}
-use Rattle.jn_rows.specs.Stable.{StableState, Prepared, RemoveWork, made_all, at_work, is_going}
+use Rattle.jn_rows.specs.Stable.{StableState, Prepared, RemoveWork, made_all, at_work, is_going, gone_on}
 use Rattle.jn_rows.specs.Outcomes.{RowOutcome, Sent}
 use Rattle.jn_rows.specs.Worker.{WorkerTable, WorkStorage, Held, wants_of, commit_wants, holds, work_at, work_of, with_phase, without, conflict, counted, is_fit, granted_row, refusal_of, first_of_two, locked, past_limit, by_number, repeated, op_phase, op_row, open_row, vote_of, shortage, need_in, prepared_row, prepare_phase, prepare_row, commit_phase, commit_row, drop_phase, drop_row, worker_row, worker_step, going_row, going_work, carried_row, intentions_of, vulnerable, timed_out, timeout_row, units_for, with_units}
 use Rattle.jn_records.specs.NetLists.{length_with}
 use Rattle.jn_protocol.specs.LockFacts.{IsSoundWork, IsSoundActive, TableFact}
-use Rattle.jn_protocol.proofs.Rows.{RowKeeps, none-of, one-of, phase-keeps, done-keeps, prepared-keeps}
+use Rattle.jn_protocol.proofs.Rows.{by-name, RowKeeps, none-of, one-of, phase-keeps, done-keeps, prepared-keeps}
 use Rattle.jn_protocol.proofs.Tables.{opened-keeps, less-keeps, going-keeps, of-found}
+
+-- ---- what counts as carried out
+
+absent : {o : Option Prepared} {a : ActiveWork} → IsSoundActive o a → o ≡ None
+absent h = h.not_stored
+
+module _ (stored : WorkId → Option Prepared) (W : WorkId) (next : WorkId → ℕ) (h : (V : WorkId) → is_going (stored V) ≡ false → next V ≡ 0) where
+  abbrev Is : WorkId → Type 0
+  Is V = ((work_eq W V ≡ true) × (W ≡ V)) ⊎ ((work_eq W V ≡ false) × (W ≢ V))
+
+  idle-put : stored W ≡ None → (p : Option Prepared) (V : WorkId) → is_going (at_work stored W p V) ≡ false → next V ≡ 0
+  idle-put none p V g = by (work_tells W V)
+    where
+      by : Is V → next V ≡ 0
+      by (inl e) = subst (λ (U : WorkId). next U ≡ 0) e.1 (h W (ap is_going none))
+      by (inr e) = h V (sym (ap (λ (b : Bool). is_going (if b then p else stored V)) e.0) ∙ g)
+
+  idle-mark : (V : WorkId) → is_going (at_work stored W (gone_on (stored W)) V) ≡ false → next V ≡ 0
+  idle-mark V g = by (work_tells W V)
+    where
+      gone : (o : Option Prepared) → is_going (gone_on o) ≡ false → is_going o ≡ false
+      gone None e = refl
+      gone (Some p) e = absurd (grind arith)
+
+      by : Is V → next V ≡ 0
+      by (inl e) = subst (λ (U : WorkId). next U ≡ 0) e.1 (h W (gone (stored W) (sym (ap (λ (b : Bool). is_going (if b then gone_on (stored W) else stored V)) e.0) ∙ g)))
+      by (inr e) = h V (sym (ap (λ (b : Bool). is_going (if b then gone_on (stored W) else stored V)) e.0) ∙ g)
+
+  idle-gone : (V : WorkId) → is_going (at_work stored W None V) ≡ false → at_work next W 0 V ≡ 0
+  idle-gone V g = by (work_tells W V)
+    where
+      by : Is V → (if work_eq W V then 0 else next V) ≡ 0
+      by (inl e) = ap (λ (b : Bool). if b then 0 else next V) e.0
+      by (inr e) = ap (λ (b : Bool). if b then 0 else next V) e.0 ∙ h V (sym (ap (λ (b : Bool). is_going (if b then None else stored V)) e.0) ∙ g)
+
+  idle-carried : is_going (stored W) ≡ true → (V : WorkId) → is_going (stored V) ≡ false → at_work next W (next W + 1) V ≡ 0
+  idle-carried going V g = by (work_tells W V)
+    where
+      no : true ≡ false → ⊥
+      no q = cc
+
+      by : Is V → (if work_eq W V then next W + 1 else next V) ≡ 0
+      by (inl e) = absurd (no (sym going ∙ ap (λ (U : WorkId). is_going (stored U)) e.1 ∙ g))
+      by (inr e) = ap (λ (b : Bool). if b then next W + 1 else next V) e.0 ∙ h V g
+
+pub going-is : (x : StableState) (t : WorkerTable) (w : Work) → going_work x t ≡ Some w → is_going (x.works w.name) ≡ true
+going-is x [] w h = absurd (grind arith)
+going-is x (y ∷ ys) w h = by (is_going (x.works y.name)) refl h (going-is x ys w)
+  where
+    by : (b : Bool) → is_going (x.works y.name) ≡ b → (if b then Some y else going_work x ys) ≡ Some w → (going_work x ys ≡ Some w → is_going (x.works w.name) ≡ true) → is_going (x.works w.name) ≡ true
+    by true e k on = subst (λ (z : Work). is_going (x.works z.name) ≡ true) (some k) e
+      where
+        some : Some y ≡ Some w → y ≡ w
+        some q = cc
+    by false e k on = on k
 
 -- ---- rows without a change
 
 still : (x : StableState) (k : Tickets) (t : WorkerTable) (sent : List Sent) (notes : List Note) → TableFact t k x.works
     → RowKeeps x k (record { table = t; changes = []; messages = sent; notes = notes; tickets = k })
-still x k t sent notes fact = record { table = fact; server = refl; epoch = refl; same_epoch = refl; few = λ n. none-of [] n refl }
+still x k t sent notes fact = record { table = fact; server = refl; epoch = refl; same_epoch = refl; few = λ n. none-of [] n refl; idle = λ next h. h }
 
 -- whatever the test tells
 either : (x : StableState) (k : Tickets) (b : Bool) (r q : RowOutcome WorkerTable) → RowKeeps x k r → RowKeeps x k q → RowKeeps x k (if b then r else q)
@@ -47,7 +103,7 @@ either x k false r q h l = l
 open-keeps : (x : StableState) (k : Tickets) (t : WorkerTable) (c : ClientNo) (request : ℕ) (T : Tid) (o : Option Work) → TableFact t k x.works → RowKeeps x k (open_row t k c request T o)
 open-keeps x k t c request T (Some w) fact = still x k t _ _ fact
 open-keeps x k t c request T None fact = either x k (nat_lt (length t) 64) _ _
-    (record { table = opened-keeps t k x.works T fact; server = refl; epoch = refl; same_epoch = refl; few = λ n. none-of [] n refl })
+    (record { table = opened-keeps t k x.works T fact; server = refl; epoch = refl; same_epoch = refl; few = λ n. none-of [] n refl; idle = λ next h. h })
     (still x k t _ _ fact)
 
 -- ---- Op
@@ -101,6 +157,7 @@ module _ (x : StableState) (k : Tickets) (t : WorkerTable) (W : WorkId) (w : Wor
     epoch = refl;
     same_epoch = refl;
     few = one-of _;
+    idle = λ next h V g. idle-put x.works w.name next h (absent (subst (λ (p : Phase). IsSoundWork (x.works w.name) w.tid p) e (fact.sound w.name w (by-name W t w found)))) _ V g;
   }
     where
       others : (N V : WorkId) (p : Option Prepared) → N ≢ V → at_work x.works N p V ≡ x.works V
@@ -130,7 +187,7 @@ module _ (x : StableState) (k : Tickets) (t : WorkerTable) (W : WorkId) (w : Wor
   commit-keeps s (Active a) = still x k t _ _ fact
   commit-keeps s (Broken u by) = still x k t _ _ fact
   commit-keeps s (Stored p) = either x k (is_going (s.state.works W)) _ _ (still x k t _ _ fact)
-      (record { table = going-keeps W t k x.works fact; server = refl; epoch = refl; same_epoch = refl; few = one-of _ })
+      (record { table = going-keeps W t k x.works fact; server = refl; epoch = refl; same_epoch = refl; few = one-of _; idle = λ next h V g. idle-mark x.works W next h V g })
 
   removed-keeps : (sent : List Sent) (V : WorkId) → RowKeeps x k (record { table = without V t; changes = RemoveWork V ∷ []; messages = sent; notes = []; tickets = k })
   removed-keeps sent V = record {
@@ -139,6 +196,7 @@ module _ (x : StableState) (k : Tickets) (t : WorkerTable) (W : WorkId) (w : Wor
     epoch = refl;
     same_epoch = refl;
     few = one-of _;
+    idle = λ next h U g. idle-gone x.works V next h U g;
   }
 
   -- a work that isn't stable goes
@@ -192,22 +250,23 @@ module _ (s : WorkStorage) (k : Tickets) (t : WorkerTable) (fact : TableFact t k
 
   -- ---- without a message
 
-  carried : (w : Work) (o : Option Intention) → RowKeeps s.state k (carried_row t k w o)
-  carried w (Some i) = record { table = fact; server = refl; epoch = refl; same_epoch = refl; few = one-of _ }
-  carried w None = record {
+  carried : (w : Work) (o : Option Intention) → is_going (s.state.works w.name) ≡ true → RowKeeps s.state k (carried_row t k w o)
+  carried w (Some i) g = record { table = fact; server = refl; epoch = refl; same_epoch = refl; few = one-of _; idle = λ next h V e. idle-carried s.state.works w.name next h g V e }
+  carried w None g = record {
     table = less-keeps w.name t k s.state.works (at_work s.state.works w.name None) fact (λ U ne. grind (arith, work_tells w.name U)) (grind (arith, work_tells w.name w.name));
     server = refl;
     epoch = refl;
     same_epoch = refl;
     few = one-of _;
+    idle = λ next h U e. idle-gone s.state.works w.name next h U e;
   }
 
-  going : (o : Option Work) (row : RowOutcome WorkerTable) → going_row t s k o ≡ Some row → RowKeeps s.state k row
-  going (Some w) row h = subst (λ (r : RowOutcome WorkerTable). RowKeeps s.state k r) (some h) (carried w (slice_get (intentions_of (s.state.works w.name)) (s.next w.name)))
+  going : (o : Option Work) (row : RowOutcome WorkerTable) → going_work s.state t ≡ o → going_row t s k o ≡ Some row → RowKeeps s.state k row
+  going (Some w) row is h = subst (λ (r : RowOutcome WorkerTable). RowKeeps s.state k r) (some h) (carried w (slice_get (intentions_of (s.state.works w.name)) (s.next w.name)) (going-is s.state t w is))
     where
       some : {a b : RowOutcome WorkerTable} → Some a ≡ Some b → a ≡ b
       some e = cc
-  going None row h = by s.rubbish h
+  going None row is h = by s.rubbish h
     where
       some : {a b : RowOutcome WorkerTable} → Some a ≡ Some b → a ≡ b
       some e = cc
@@ -220,7 +279,7 @@ module _ (s : WorkStorage) (k : Tickets) (t : WorkerTable) (fact : TableFact t k
           none q = cc
 
   pub step-keeps : (row : RowOutcome WorkerTable) → worker_step t s k ≡ Some row → RowKeeps s.state k row
-  step-keeps row h = going (going_work s.state t) row h
+  step-keeps row h = going (going_work s.state t) row refl h
 
 -- ---- a timeout
 

@@ -1,5 +1,5 @@
 -- What holds of the works and locks of each server between any two steps.
-use Rattle.std.specs.Prelude.{◌≡◌, ◌≢◌, ◌≤◌, ◌⊎◌, ℕ, true, List, Option, Some, None, is_some}
+use Rattle.std.specs.Prelude.{◌≡◌, ◌≢◌, ◌≤◌, ◌⊎◌, ℕ, true, false, List, Option, Some, None, is_some}
 use Rattle.jn_base.specs.declared.names.ServerNo.{ServerNo}
 use Rattle.jn_base.specs.declared.names.LockUnit.{LockUnit}
 use Rattle.jn_base.specs.declared.names.Tid.{Tid}
@@ -13,7 +13,7 @@ use Rattle.jn_rows.specs.declared.worker.Phase.{Phase}
 use Rattle.jn_rows.specs.declared.worker.Phase.TheVariants.{Active, Broken, Prepared as Stored}
 use Rattle.jn_rows.specs.declared.worker.ActiveWork.{ActiveWork}
 use Rattle.jn_rows.specs.declared.worker.PreparedWork.{PreparedWork}
-use Rattle.jn_rows.specs.Stable.{StableState, Prepared, Pick, IsUp, stable}
+use Rattle.jn_rows.specs.Stable.{StableState, Prepared, Pick, IsUp, stable, is_going}
 use Rattle.jn_rows.specs.Worker.{WorkerTable, work_at, holds, name_from}
 use Rattle.jn_lock_rows.specs.Matching.{are_rising, is_after}
 use Rattle.jn_machine.specs.Held.{commit_units, HoldsForCommit, HasRead, ReadsFiles, file_unit}
@@ -76,6 +76,8 @@ pub record UpFact (s : ServerNo) (m : Memory) (found : Pick → StableState) : T
   pub server : m.tickets.server ≡ s
   pub epoch : m.tickets.epoch ≡ (stable found).epoch
   pub table : TableFact m.worker m.tickets (stable found).works
+  -- nothing is carried out of a work that isn't going
+  pub idle : (W : WorkId) → is_going ((stable found).works W) ≡ false → m.next W ≡ 0
 
 abbrev pub ServerFact : ServerNo → Option Memory → (Pick → StableState) → Type 0
 ServerFact s None found = (c : Pick) → StoredFact s (found c).epoch (found c).works

@@ -21,7 +21,7 @@ use Rattle.jn_machine.specs.Steps.{Atom, run}
 use Rattle.jn_machine.specs.Premises.{MayRun}
 use Rattle.jn_machine.specs.Messages.{Says}
 use Rattle.jn_protocol.specs.World.{World, Memory}
-use Rattle.jn_protocol.specs.Steps.{Step, NextEvent, Deliver, Timeout, Crash, Narrow, StopRestart}
+use Rattle.jn_protocol.specs.Steps.{Step, NextEvent, Deliver, StopDelivery, Work as Background, StopWork, Timeout, Crash, Narrow, StopRestart}
 
 -- ---- what a server's tables say
 
@@ -61,6 +61,14 @@ known_in (Some m) T = knowledge_of (transaction_at T m.coordinator.transactions)
 abbrev pub IsTrue : Machine → Sent → Type 0
 IsTrue w sent = Says w sent.1
 
+-- a message to a work goes to its server
+abbrev pub IsAddressed : Sent → Type 0
+IsAddressed (Server s, messages.Op c request W number op) = W.server ≡ s
+IsAddressed (Server s, messages.Prepare T c W) = W.server ≡ s
+IsAddressed (Server s, messages.Commit T W) = W.server ≡ s
+IsAddressed (Server s, messages.Drop T W) = W.server ≡ s
+IsAddressed sent = Unit {0}
+
 pub record Mirrors (r : World) (w : Machine) : Type 0 where
   pub up : (s : ServerNo) → w.up s ≡ is_some (r.memory s)
   pub found : (s : ServerNo) (c : Pick) → w.found s c ≡ r.found s c
@@ -72,6 +80,7 @@ pub record Mirrors (r : World) (w : Machine) : Type 0 where
   pub owner : (s : ServerNo) (m : Memory) (W : WorkId) (v : Work) → r.memory s ≡ Some m → work_at W m.worker ≡ Some v → Says w (messages.Inquire v.tid W)
   -- every message that was sent is true
   pub says : All (IsTrue w) r.sent
+  pub addressed : All IsAddressed r.sent
 
 -- steps of the machine that may come, after which it stands where the whole system does
 pub record MovesTo (r : World) (w : Machine) : Type 0 where
@@ -85,6 +94,7 @@ abbrev pub is_shown_message : Message → Bool
 is_shown_message (messages.Open c request T) = true
 is_shown_message (messages.Op c request W number op) = true
 is_shown_message (messages.Prepare T c W) = true
+is_shown_message (messages.Commit T W) = true
 is_shown_message message = false
 
 abbrev pub is_shown_sent : Option Sent → Bool
@@ -95,6 +105,9 @@ is_shown_sent (Some (Server s, message)) = is_shown_message message
 abbrev pub is_shown : Step → World → Bool
 is_shown NextEvent r = true
 is_shown (Deliver k room) r = is_shown_sent (slice_get r.sent k)
+is_shown (StopDelivery k room made) r = is_shown_sent (slice_get r.sent k)
+is_shown (Background s room) r = true
+is_shown (StopWork s room made) r = true
 is_shown (Timeout s T) r = true
 is_shown (Crash s) r = true
 is_shown (Narrow s g) r = true

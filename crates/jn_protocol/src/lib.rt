@@ -49,8 +49,8 @@ pub fn locks_go_together()
 
 /// The machine of small steps starts where the whole system does. Wherever it stands where the whole system does, after
 /// any steps, and a step comes that is among those shown so far, there are steps of the machine that may come, after which
-/// it stands there again. Shown are the delivery of an Open, an Op and a Prepare, whatever is answered, a timeout, a
-/// crash, a decay, and a restart that is stopped.
+/// it stands there again. Shown are the delivery of an Open, an Op, a Prepare and a Commit, and a background step, each
+/// done or stopped; a timeout, a crash, a decay, and a restart that is stopped.
 pub fn steps_are_moves()
     ensures start { (servers : ℕ) (files : AllFiles) (epochs : ServerNo → ℕ) → Mirrors (opening servers files epochs) (opening_world files epochs) }
     ensures step { (servers : ℕ) (files : AllFiles) (epochs : ServerNo → ℕ) (steps : List Step) (atoms : List Atom)
