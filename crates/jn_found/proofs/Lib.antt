@@ -23,3 +23,4 @@ pub mod Images
 pub mod SoundImages
 pub mod HeldLaws
 pub mod RecoveryLaws
+pub mod HeldAfter

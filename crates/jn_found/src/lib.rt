@@ -16,7 +16,9 @@ pub use head_laws::{
     a_head_carries_out_an_intention, a_page_without_a_name_changes_nothing, a_root_has_the_epoch,
     the_state_reads_named_pages_alone,
 };
-pub use held_laws::{each_pick_says_what_is_held, gets_and_cleanups_bring_no_candidate};
+pub use held_laws::{
+    a_put_is_held, each_pick_says_what_is_held, gets_and_cleanups_bring_no_candidate,
+};
 pub use kept_laws::{
     a_put_gives_no_new_names, a_record_keeps_what_a_recovery_asks,
     other_pages_keep_what_a_recovery_asks,
