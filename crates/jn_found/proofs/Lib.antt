@@ -24,3 +24,4 @@ pub mod SoundImages
 pub mod HeldLaws
 pub mod RecoveryLaws
 pub mod HeldAfter
+pub mod StandingLaws
