@@ -25,3 +25,4 @@ pub mod HeldLaws
 pub mod RecoveryLaws
 pub mod HeldAfter
 pub mod StandingLaws
+pub mod CallLaws

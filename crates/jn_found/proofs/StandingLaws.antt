@@ -1,17 +1,17 @@
 -- Puts on a store that stands.
-use Rattle.std.proofs.Common.{◌≡◌, ◌⊎◌, inl, inr, ⊎_elim, ◌<◌, ℕ, Bool, true, false, List, refl, sym, ap, subst, ◌∙◌, arith}
+use Rattle.std.proofs.Common.{◌≡◌, ◌<◌, ℕ, Bool, true, false, List, sym, ap, subst, ◌∙◌}
 use Rattle.jn_base.specs.declared.names.ServerNo.{ServerNo}
 use Rattle.jn_records.specs.declared.head.Head.{Head}
 use Rattle.jn_records.specs.declared.record.Record.{Record}
 use Rattle.jn_records.specs.StablePages.{Counts, data_place}
-use Rattle.jn_rows.specs.Stable.{StableState, Pick, Change, made_by, stable}
+use Rattle.jn_rows.specs.Stable.{Pick, Change, made_by}
 use Rattle.jn_storage.specs.Storage.{IsLoadable}
 use Rattle.jn_store.specs.Store.{StoreView, IsClean}
 use Rattle.jn_found.specs.Contents.{Contents, state_in}
 use Rattle.jn_found.specs.Pages.{found_on, pages_by}
-use Rattle.jn_found.specs.Puts.{PagePut, IsPagePut, PutStep, put_in, IsReadable, IsPut, is_written, KeepsClean, contents_by}
+use Rattle.jn_found.specs.Puts.{PagePut, PutStep, put_in, IsReadable, IsPut, is_written, contents_by}
 use Rattle.jn_found.specs.Recoverable.{IsConsistent, IsRecoverable, is_named}
-use Rattle.jn_found.specs.Held.{IsHeld, held_contents, epoch_after, records_after, heads_after}
+use Rattle.jn_found.specs.Held.{held_contents, epoch_after, records_after, heads_after}
 use Rattle.jn_found.specs.Standing.{IsStanding, standing_state, IsPutStep, MayChange, Makes, MakesNothing}
 use Rattle.jn_found.proofs.CleanPages.{one_state}
 use Rattle.jn_found.proofs.FilesOnPages.{state_on_pages}
@@ -36,7 +36,7 @@ module _ (server : ServerNo) (g : Counts) (v : StoreView) (epoch : ℕ) (records
   state_said : (c : Pick) → standing_state g v ≡ state_in (held_contents g v epoch records heads c)
   state_said c = let format = (standing.recoverable.each c).of_format in sym (up c) ∙ state_on_pages g (pages_by v c) format.root.1.leaves format.heads ∙ ap (λ x. state_in x) (as_said c)
 
-  consistent : (c : Pick) → IsConsistent server g (held_contents g v epoch records heads c)
+  pub consistent : (c : Pick) → IsConsistent server g (held_contents g v epoch records heads c)
   consistent c = subst (IsConsistent server g) (as_said c) (standing.recoverable.each c).consistent
 
   is_put : IsPut server g v put ok w

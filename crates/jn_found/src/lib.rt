@@ -3,6 +3,7 @@
 #![tactic(auto)]
 
 mod again_laws;
+mod call_laws;
 mod head_laws;
 mod held_laws;
 mod kept_laws;
@@ -12,6 +13,9 @@ mod start_laws;
 mod stop_laws;
 
 pub use again_laws::a_recovery_may_carry_out_again;
+pub use call_laws::{
+    a_flag_is_one_change, a_work_goes_on_by_single_changes, preparing_is_one_change,
+};
 pub use head_laws::{
     a_head_carries_out_an_intention, a_page_without_a_name_changes_nothing, a_root_has_the_epoch,
     the_state_reads_named_pages_alone,
