@@ -26,3 +26,4 @@ pub mod RecoveryLaws
 pub mod HeldAfter
 pub mod StandingLaws
 pub mod CallLaws
+pub mod Choosing

@@ -7,6 +7,8 @@ ghost use Rattle.jn_records.specs.declared.record.Record.{Record};
 ghost use Rattle.jn_records.specs.StablePages.{Counts};
 ghost use Rattle.jn_rows.specs.Stable.{Pick};
 ghost use Rattle.jn_store.specs.Store.{StoreView, StoreGot, StoreCleaned};
+ghost use Rattle.jn_store.specs.Choices.{IsChoice, Agree};
+ghost use Rattle.jn_found.specs.Pages.{pages_by};
 ghost use Rattle.jn_found.specs.Held.{IsHeld, held_contents, epoch_after, records_after, heads_after};
 ghost use Rattle.jn_found.specs.Puts.{PagePut, IsPagePut, PutStep, contents_by, IsFrontClean, IsFewer};
 
@@ -15,6 +17,12 @@ pub fn each_pick_says_what_is_held()
     ensures contents { (server : ServerNo) (g : Counts) (v : StoreView) (epoch : ℕ) (records : List Record) (heads : List Head) → IsHeld server g v epoch records heads
         → (c : Pick) → contents_by g v c ≡ held_contents g v epoch records heads c }
     ensures front { (server : ServerNo) (g : Counts) (v : StoreView) (epoch : ℕ) (records : List Record) (heads : List Head) → IsHeld server g v epoch records heads → IsFrontClean g v }
+{}
+
+/// The pages that a pick reads are a choice of the store's candidates, and each choice is that of a pick.
+pub fn a_pick_is_a_choice()
+    ensures chosen { (v : StoreView) (c : Pick) → IsChoice v (pages_by v c) }
+    ensures picked { (v : StoreView) (d : ℕ → List ℕ) → IsChoice v d → (c : Pick) × Agree v.count d (pages_by v c) }
 {}
 
 /// A put that is done leaves each of them known.

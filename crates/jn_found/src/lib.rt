@@ -21,7 +21,8 @@ pub use head_laws::{
     the_state_reads_named_pages_alone,
 };
 pub use held_laws::{
-    a_put_is_held, each_pick_says_what_is_held, gets_and_cleanups_bring_no_candidate,
+    a_pick_is_a_choice, a_put_is_held, each_pick_says_what_is_held,
+    gets_and_cleanups_bring_no_candidate,
 };
 pub use kept_laws::{
     a_put_gives_no_new_names, a_record_keeps_what_a_recovery_asks,
