@@ -1,5 +1,5 @@
 -- The puts of a storage's calls on a store that stands.
-use Rattle.std.proofs.Common.{◌≡◌, ⊎_elim, ◌<◌, ◌||◌, ℕ, suc, Bool, true, false, List, refl, sym, ap, subst, ◌∙◌, true≢false, arith}
+use Rattle.std.proofs.Common.{◌≡◌, ⊎_elim, ◌<◌, ◌≤◌, ◌||◌, ℕ, suc, Bool, true, false, List, refl, sym, ap, subst, ◌∙◌, true≢false, arith}
 use Rattle.std.proofs.lemmas.Bool.Decides.{nat_tests}
 use Rattle.std.specs.Prelude.{nat_eq}
 use Rattle.jn_base.specs.declared.names.LockUnit.{LockUnit}
@@ -14,7 +14,7 @@ use Rattle.jn_records.specs.declared.record.Record.{Record}
 use Rattle.jn_records.specs.declared.record.Record.TheVariants.{Free, Ready, Going, Flag as FlagRecord}
 use Rattle.jn_records.specs.declared.work.WorkHead.{WorkHead}
 use Rattle.jn_records.specs.StablePages.{Counts, data_place}
-use Rattle.jn_rows.specs.Stable.{Pick, made_by, AddReady, MarkGoing, CarryOut, RemoveWork, AddFlag, DropFlag}
+use Rattle.jn_rows.specs.Stable.{StableState, Pick, made_by, AddReady, MarkGoing, CarryOut, RemoveWork, AddFlag, DropFlag}
 use Rattle.jn_sets.specs.Pool.{record_in}
 use Rattle.jn_storage.specs.Storage.{IsLoadable}
 use Rattle.jn_store.specs.Store.{StoreView, IsClean}
@@ -22,17 +22,18 @@ use Rattle.jn_found.specs.Contents.{Contents, state_in, intended, heads_name, wo
 use Rattle.jn_found.specs.Changes.{IsIdlePut, IsReadyPut, IsReadySlot, IsPreparedSlot, IsFlagPut, IsFlagSlot, IsHeadPut}
 use Rattle.jn_found.specs.Held.{held_contents}
 use Rattle.jn_found.specs.Pages.{block_on, pages_by}
-use Rattle.jn_found.specs.Puts.{RecordPut, HeadPut, BlockPut}
-use Rattle.jn_found.specs.Recoverable.{IsCompleteBy, Intends, HasAt, IsWhole}
-use Rattle.jn_found.specs.Standing.{IsStanding, IsPutStep, MayChange, Makes, MakesNothing}
+use Rattle.jn_found.specs.Puts.{RootPut, RecordPut, HeadPut, BlockPut, put_in, contents_by, IsPut}
+use Rattle.jn_found.specs.Recoverable.{IsCompleteBy, Intends, HasAt, IsWhole, IsRecoverable}
+use Rattle.jn_found.specs.Standing.{IsStanding, IsPutStep, MayChange, Makes, MakesNothing, MakesEpoch, standing_state}
 use Rattle.jn_found.proofs.ConsistentPuts.{idle_consistent, idle_named, going_consistent, going_named, removed_consistent, removed_named, flag_consistent, flag_named, dropped_consistent, dropped_named}
 use Rattle.jn_found.proofs.FillLaws.{fill_law}
 use Rattle.jn_found.proofs.HeadKept.{head_consistent, head_named}
 use Rattle.jn_found.proofs.HeadLaws.{carried_law}
-use Rattle.jn_found.proofs.OtherPuts.{block_consistent}
+use Rattle.jn_found.proofs.OtherPuts.{block_consistent, root_consistent}
 use Rattle.jn_found.proofs.PoolLaws.{idle_law, ready_law, going_law, removed_law, flag_law, dropped_law}
 use Rattle.jn_found.proofs.ReadyPut.{ready_consistent, ready_named}
-use Rattle.jn_found.proofs.StandingLaws.{consistent, makes, makes_nothing, clean_before, may_by}
+use Rattle.jn_found.proofs.StandingLaws.{consistent, makes, makes_nothing, clean_before, may_by, as_said, up, state_said, is_put, standing_after, recoverable_after}
+use Rattle.jn_found.proofs.Picking.{found_new, found_old_or_new}
 
 module _ (server : ServerNo) (g : Counts) (v w : StoreView) (epoch : ℕ) (records : List Record) (heads : List Head) (ok : Bool) (standing : IsStanding server g v epoch records heads) where
   abbrev said : Pick → Contents
@@ -125,3 +126,24 @@ module _ (server : ServerNo) (g : Counts) (v w : StoreView) (epoch : ℕ) (recor
       (λ c k named. refl)
       (DropFlag t)
       (λ c. dropped_law (held_contents g v epoch records heads c) slot t at)
+
+  pub counts_on : (later : ℕ) → IsPutStep server g v (RootPut later) ok w → epoch ≤ later → MakesEpoch server g v records heads later ok w
+  counts_on later is le = record {
+    done = λ done. found_new server g v (RootPut later) ok w put (record (standing_state g v) { epoch = later }) now done;
+    stop = found_old_or_new server g v (RootPut later) ok w put (standing_state g v) (record (standing_state g v) { epoch = later }) (up server g v epoch records heads standing (RootPut later) ok w is) now;
+    recoverable = recoverable;
+    standing = standing_after server g v epoch records heads standing (RootPut later) ok w is recoverable;
+  }
+    where
+      put : IsPut server g v (RootPut later) ok w
+      put = is_put server g v epoch records heads standing (RootPut later) ok w is
+
+      now : (c : Pick) → state_in (put_in (RootPut later) (contents_by g v c)) ≡ record (standing_state g v) { epoch = later }
+      now c = ap (λ x. state_in (put_in (RootPut later) x)) (as_said server g v epoch records heads standing (RootPut later) ok w is c)
+          ∙ ap (λ (x : StableState). record x { epoch = later }) (sym (state_said server g v epoch records heads standing (RootPut later) ok w is c))
+
+      recoverable : IsRecoverable server g w
+      recoverable = recoverable_after server g v epoch records heads standing (RootPut later) ok w is
+          (λ c before. root_consistent server g (held_contents g v epoch records heads c) later le before)
+          (λ c k lt named. clean_before server g v epoch records heads standing (RootPut later) ok w is c k lt named)
+          (λ c k named. refl)

@@ -27,22 +27,22 @@ module _ (server : ServerNo) (g : Counts) (v : StoreView) (epoch : ℕ) (records
   readable : IsReadable server g v
   readable = record { count = standing.recoverable.count; each = λ c. (standing.recoverable.each c).of_format }
 
-  as_said : (c : Pick) → contents_by g v c ≡ held_contents g v epoch records heads c
+  pub as_said : (c : Pick) → contents_by g v c ≡ held_contents g v epoch records heads c
   as_said c = contents_held server g v epoch records heads standing.held c
 
-  up : (c : Pick) → found_on g v c ≡ standing_state g v
+  pub up : (c : Pick) → found_on g v c ≡ standing_state g v
   up = one_state server g v readable (front_held server g v epoch records heads standing.held) standing.recoverable.clean
 
-  state_said : (c : Pick) → standing_state g v ≡ state_in (held_contents g v epoch records heads c)
+  pub state_said : (c : Pick) → standing_state g v ≡ state_in (held_contents g v epoch records heads c)
   state_said c = let format = (standing.recoverable.each c).of_format in sym (up c) ∙ state_on_pages g (pages_by v c) format.root.1.leaves format.heads ∙ ap (λ x. state_in x) (as_said c)
 
   pub consistent : (c : Pick) → IsConsistent server g (held_contents g v epoch records heads c)
   consistent c = subst (IsConsistent server g) (as_said c) (standing.recoverable.each c).consistent
 
-  is_put : IsPut server g v put ok w
+  pub is_put : IsPut server g v put ok w
   is_put = record { readable = readable; page = is.page; step = is.step }
 
-  standing_after : IsRecoverable server g w → ok ≡ true → IsStanding server g w (epoch_after put epoch) (records_after put records) (heads_after put heads)
+  pub standing_after : IsRecoverable server g w → ok ≡ true → IsStanding server g w (epoch_after put epoch) (records_after put records) (heads_after put heads)
   standing_after recoverable done = record {
     held = held_after server g v w epoch records heads standing.held put is.page (subst (λ b. PutStep server g v put b w) done is.step);
     recoverable = recoverable;
@@ -51,7 +51,7 @@ module _ (server : ServerNo) (g : Counts) (v : StoreView) (epoch : ℕ) (records
   module _ (kept : (c : Pick) → IsConsistent server g (held_contents g v epoch records heads c) → IsConsistent server g (put_in put (held_contents g v epoch records heads c)))
       (names : (c : Pick) (d : ℕ) → d < g.leaves → is_named (put_in put (held_contents g v epoch records heads c)) d ≡ true → IsClean v (data_place g d))
       (unwritten : (c : Pick) (d : ℕ) → is_named (held_contents g v epoch records heads c) d ≡ true → is_written put d ≡ false) where
-    recoverable_after : IsRecoverable server g w
+    pub recoverable_after : IsRecoverable server g w
     recoverable_after = still_recoverable server g v put ok w is_put standing.recoverable
         (λ c. subst (λ x. IsConsistent server g (put_in put x)) (sym (as_said c)) (kept c (consistent c)))
         (record {

@@ -1,10 +1,10 @@
 -- The calls of a storage, as puts on a store that stands.
-use Rattle.std.specs.Prelude.{◌≡◌, ℕ, Bool, true, List}
+use Rattle.std.specs.Prelude.{◌≡◌, ◌⊎◌, ℕ, Bool, true, List}
 use Rattle.jn_base.specs.declared.names.ServerNo.{ServerNo}
 use Rattle.jn_records.specs.declared.head.Head.{Head}
 use Rattle.jn_records.specs.declared.record.Record.{Record}
 use Rattle.jn_records.specs.StablePages.{Counts}
-use Rattle.jn_rows.specs.Stable.{StableState, Change, made_by, stable, Changed, Unchanged}
+use Rattle.jn_rows.specs.Stable.{StableState, Pick, Change, made_by, stable, Changed, Unchanged}
 use Rattle.jn_storage.specs.Storage.{IsLoadable}
 use Rattle.jn_store.specs.Store.{StoreView}
 use Rattle.jn_found.specs.Pages.{found_on}
@@ -41,3 +41,10 @@ pub record MakesNothing (server : ServerNo) (g : Counts) (v : StoreView) (epoch 
   pub unchanged : Unchanged (standing_state g v) (found_on g w)
   pub recoverable : IsRecoverable server g w
   pub standing : ok ≡ true → IsStanding server g w (epoch_after put epoch) (records_after put records) (heads_after put heads)
+
+-- the root is put with a later epoch: by each pick the epoch is the old one or the new, and all else is as it was
+pub record MakesEpoch (server : ServerNo) (g : Counts) (v : StoreView) (records : List Record) (heads : List Head) (later : ℕ) (ok : Bool) (w : StoreView) : Type 0 where
+  pub done : ok ≡ true → (c : Pick) → found_on g w c ≡ record (standing_state g v) { epoch = later }
+  pub stop : (c : Pick) → (found_on g w c ≡ standing_state g v) ⊎ (found_on g w c ≡ record (standing_state g v) { epoch = later })
+  pub recoverable : IsRecoverable server g w
+  pub standing : ok ≡ true → IsStanding server g w later records heads

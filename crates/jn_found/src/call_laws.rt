@@ -1,5 +1,5 @@
 //! What each put of a storage's calls makes of a store that stands, in which root, records and heads are known.
-ghost use Rattle.std.specs.Prelude.{◌≡◌, ◌<◌, ◌||◌, ℕ, suc, false, Bool, List};
+ghost use Rattle.std.specs.Prelude.{◌≡◌, ◌<◌, ◌≤◌, ◌||◌, ℕ, suc, false, Bool, List};
 ghost use Rattle.jn_base.specs.declared.names.LockUnit.{LockUnit};
 ghost use Rattle.jn_base.specs.declared.names.ServerNo.{ServerNo};
 ghost use Rattle.jn_base.specs.declared.names.Tid.{Tid};
@@ -18,9 +18,9 @@ ghost use Rattle.jn_found.specs.Contents.{intended, heads_name, works_name};
 ghost use Rattle.jn_found.specs.Changes.{IsIdlePut, IsReadyPut, IsReadySlot, IsPreparedSlot, IsFlagPut, IsFlagSlot, IsHeadPut};
 ghost use Rattle.jn_found.specs.Held.{held_contents};
 ghost use Rattle.jn_found.specs.Pages.{block_on, pages_by};
-ghost use Rattle.jn_found.specs.Puts.{RecordPut, HeadPut, BlockPut};
+ghost use Rattle.jn_found.specs.Puts.{RootPut, RecordPut, HeadPut, BlockPut};
 ghost use Rattle.jn_found.specs.Recoverable.{Intends, HasAt, IsWhole};
-ghost use Rattle.jn_found.specs.Standing.{IsStanding, IsPutStep, MayChange, Makes, MakesNothing};
+ghost use Rattle.jn_found.specs.Standing.{IsStanding, IsPutStep, MayChange, Makes, MakesNothing, MakesEpoch};
 
 /// While a work is prepared its data pages are filled and its intentions put, which changes nothing; and so does the
 /// erasure of its intentions once it is over. Its ready record prepares it.
@@ -57,4 +57,10 @@ pub fn a_flag_is_one_change()
     ensures dropped { (server : ServerNo) (g : Counts) (v w : StoreView) (epoch : ℕ) (records : List Record) (heads : List Head) (slot : ℕ) (t : Tid) (ok : Bool)
         → IsStanding server g v epoch records heads → IsPutStep server g v (RecordPut slot Free) ok w → IsFlagSlot records slot t
         → MayChange server g v (DropFlag t) → Makes server g v epoch records heads (RecordPut slot Free) (DropFlag t) ok w }
+{}
+
+/// A restart counts itself in the root by one put.
+pub fn a_restart_counts_itself_by_one_put()
+    ensures { (server : ServerNo) (g : Counts) (v w : StoreView) (epoch later : ℕ) (records : List Record) (heads : List Head) (ok : Bool)
+        → IsStanding server g v epoch records heads → IsPutStep server g v (RootPut later) ok w → epoch ≤ later → MakesEpoch server g v records heads later ok w }
 {}
