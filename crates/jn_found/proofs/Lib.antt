@@ -23,3 +23,7 @@ pub mod Images
 pub mod SoundImages
 pub mod HeldLaws
 pub mod RecoveryLaws
+pub mod HeldAfter
+pub mod StandingLaws
+pub mod CallLaws
+pub mod Choosing

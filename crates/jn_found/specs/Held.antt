@@ -1,5 +1,5 @@
 -- A store whose records and heads are known, as while a server is up.
-use Rattle.std.specs.Prelude.{◌≡◌, ℕ, ◌<◌, List, length}
+use Rattle.std.specs.Prelude.{◌≡◌, ℕ, ◌<◌, List, length, slice_set}
 use Rattle.jn_base.specs.declared.names.ServerNo.{ServerNo}
 use Rattle.jn_records.specs.declared.head.Head.{Head}
 use Rattle.jn_records.specs.declared.record.Record.{Record}
@@ -11,6 +11,7 @@ use Rattle.jn_sets.specs.Pool.{Holds}
 use Rattle.jn_store.specs.Store.{StoreView, IsOnly}
 use Rattle.jn_found.specs.Contents.{Contents, head_in}
 use Rattle.jn_found.specs.Pages.{root_by, block_on, pages_by}
+use Rattle.jn_found.specs.Puts.{PagePut, RootPut, RecordPut, HeadPut}
 
 -- the one candidate of a place of the heads is the page of this head
 pub record IsHeadStored (g : Counts) (v : StoreView) (place : ℕ) (h : Head) : Type 0 where
@@ -31,3 +32,17 @@ pub record IsHeld (server : ServerNo) (g : Counts) (v : StoreView) (epoch : ℕ)
 -- what each pick says then: the picks differ in the data pages alone
 abbrev pub held_contents : Counts → StoreView → ℕ → List Record → List Head → Pick → Contents
 held_contents g v epoch records heads c = record { epoch = epoch; pool = records; heads = heads; blocks = block_on g (pages_by v c) }
+
+-- ---- after a put that is done
+
+abbrev pub epoch_after : PagePut → ℕ → ℕ
+epoch_after (RootPut later) epoch = later
+epoch_after _ epoch = epoch
+
+abbrev pub records_after : PagePut → List Record → List Record
+records_after (RecordPut slot r) records = slice_set records slot r
+records_after _ records = records
+
+abbrev pub heads_after : PagePut → List Head → List Head
+heads_after (HeadPut place h) heads = slice_set heads place h
+heads_after _ heads = heads

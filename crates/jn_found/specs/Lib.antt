@@ -6,3 +6,4 @@ pub mod Puts
 pub mod Images
 pub mod Held
 pub mod Recovery
+pub mod Standing

@@ -3,6 +3,7 @@
 #![tactic(auto)]
 
 mod again_laws;
+mod call_laws;
 mod head_laws;
 mod held_laws;
 mod kept_laws;
@@ -12,11 +13,18 @@ mod start_laws;
 mod stop_laws;
 
 pub use again_laws::a_recovery_may_carry_out_again;
+pub use call_laws::{
+    a_flag_is_one_change, a_restart_counts_itself_by_one_put, a_work_goes_on_by_single_changes,
+    preparing_is_one_change,
+};
 pub use head_laws::{
     a_head_carries_out_an_intention, a_page_without_a_name_changes_nothing, a_root_has_the_epoch,
     the_state_reads_named_pages_alone,
 };
-pub use held_laws::{each_pick_says_what_is_held, gets_and_cleanups_bring_no_candidate};
+pub use held_laws::{
+    a_pick_is_a_choice, a_put_is_held, each_pick_says_what_is_held,
+    gets_and_cleanups_bring_no_candidate,
+};
 pub use kept_laws::{
     a_put_gives_no_new_names, a_record_keeps_what_a_recovery_asks,
     other_pages_keep_what_a_recovery_asks,
