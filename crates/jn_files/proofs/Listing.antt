@@ -1,16 +1,15 @@
 -- The least file above another, head by head.
-use Rattle.std.proofs.Common.{◌≡◌, inl, inr, ◌<◌, ◌≤◌, ◌+◌, ℕ, zero, suc, Bool, true, false, List, [], ◌∷◌, length, Option, Some, None, refl, sym, ap, subst, ◌∙◌, arith}
-use Rattle.std.proofs.lemmas.Bool.{cases_eq, cases_lt}
+use Rattle.std.proofs.Common.{◌≡◌, inl, inr, ◌<◌, ◌≤◌, ◌+◌, ℕ, suc, Bool, true, false, List, [], ◌∷◌, length, Option, Some, None, refl, sym, ap, subst, ◌∙◌, arith}
+use Rattle.std.proofs.lemmas.Bool.{cases_eq}
 use Rattle.std.proofs.lemmas.Bool.Decides.{nat_tests}
-use Rattle.std.proofs.lemmas.List.{get_or_past}
-use Rattle.std.specs.Prelude.{nat_lt, is_some, ◌&&◌, if◌then◌else◌}
+use Rattle.std.specs.Prelude.{is_some, ◌&&◌, if◌then◌else◌}
 use Rattle.jn_base.specs.declared.names.FileNo.{FileNo}
 use Rattle.jn_records.specs.declared.head.Head.{Head}
 use Rattle.jn_records.specs.declared.head.Head.TheVariants.{Free, Used}
 use Rattle.jn_files.specs.Table.{head_in, is_of, exists, addresses, addresses_of}
-use Rattle.jn_files.specs.Calls.{is_above, IsNext, NextFile}
-use Rattle.jn_files.specs.Inside.{NextAmong, IsNextAmong, comes_before, better}
-use Rattle.jn_files.proofs.Lookup.{absent_none, of_one, when_true, when_false}
+use Rattle.jn_files.specs.Calls.{is_above, NextFile}
+use Rattle.jn_files.specs.Inside.{IsNextAmong, comes_before, better}
+use Rattle.jn_files.proofs.Lookup.{absent_none, of_one, when_false}
 
 -- a head that the file has
 has_head : (g : FileNo) (hs : List Head) → exists hs g ≡ true → (j : ℕ) × (j < length hs) × (is_of g (head_in hs j) ≡ true)

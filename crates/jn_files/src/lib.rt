@@ -15,3 +15,6 @@ mod table;
 
 pub use fault::LoadFault;
 pub use table::FileTable;
+
+#[cfg(test)]
+mod tests;

@@ -268,6 +268,7 @@ impl FileTable {
         ensures found { IsSome result ↔ (0 < free_count self.old.free_leaves) }
         ensures least { IfSome result (λ a. IsLeastFree self.old.free_leaves a) }
         ensures unnamed { IfSome result (λ a. table.IsUnnamed self.old.heads a) }
+        ensures held { IfSome result (λ a. table.is_held self.new a ≡ true) }
         ensures taken { IfSome result (λ a. self.new ≡ calls.with_held self.old a) }
         ensures none { IfNone result (self.new ≡ self.old) }
     {
