@@ -8,3 +8,5 @@ pub mod Putting
 pub mod Setting
 pub mod Leaves
 pub mod Loading
+pub mod Listing
+pub mod Blank

@@ -1,5 +1,5 @@
 -- What the calls of a table of files do to it and to its store.
-use Rattle.std.specs.Prelude.{◌≡◌, ◌⊎◌, ℕ, suc, ◌+◌, ◌*◌, ◌≤◌, ◌<◌, Bool, true, false, List, slice_set, Option, Some, None, Result, Ok}
+use Rattle.std.specs.Prelude.{◌≡◌, ◌⊎◌, ℕ, suc, ◌+◌, ◌*◌, ◌≤◌, ◌<◌, Bool, true, false, List, slice_set, Option, Some, None, Result, Ok, nat_lt}
 use Rattle.jn_alloc.specs.Free.{free_count, FreeNumbers, with_free, with_promised, IsLeastFree}
 use Rattle.jn_base.specs.declared.device.Stopped.{Stopped}
 use Rattle.jn_base.specs.declared.names.FileNo.{FileNo}
@@ -117,12 +117,18 @@ with_promised_heads t n = record t { free_heads = with_promised t.free_heads n }
 abbrev pub with_promised_leaves : TableView → ℕ → TableView
 with_promised_leaves t n = record t { free_leaves = with_promised t.free_leaves n }
 
--- the least file above another, or the least of all
-abbrev pub IsAbove : Option FileNo → FileNo → Type 0
-IsAbove None f = Unit {0}
-IsAbove (Some after) f = after.0 < f.0
+-- ---- listing
 
-pub record IsNext (t : TableView) (after : Option FileNo) (f : FileNo) : Type 0 where
-  pub stands : exists t.heads f ≡ true
-  pub above : IsAbove after f
-  pub least : (g : FileNo) → exists t.heads g ≡ true → IsAbove after g → f.0 ≤ g.0
+abbrev pub is_above : Option FileNo → FileNo → Bool
+is_above None f = true
+is_above (Some after) f = nat_lt after.0 f.0
+
+-- the least file above another, or the least of all
+pub record IsNext (heads : List Head) (after : Option FileNo) (f : FileNo) : Type 0 where
+  pub stands : exists heads f ≡ true
+  pub above : is_above after f ≡ true
+  pub least : (g : FileNo) → exists heads g ≡ true → is_above after g ≡ true → f.0 ≤ g.0
+
+abbrev pub NextFile : List Head → Option FileNo → Option FileNo → Type 0
+NextFile heads after (Some f) = IsNext heads after f
+NextFile heads after None = (g : FileNo) → exists heads g ≡ true → is_above after g ≡ false

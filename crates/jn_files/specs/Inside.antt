@@ -1,15 +1,16 @@
 -- How the table keeps its parts.
-use Rattle.std.specs.Prelude.{◌≡◌, ◌≢◌, ◌⊎◌, ℕ, suc, ◌-◌, ◌<◌, Bool, true, false, nat_eq, if◌then◌else◌, List, length, slice_set, slice_index_or, take, ◌↔◌, ◌≢◌}
+use Rattle.std.specs.Prelude.{◌≡◌, ◌≢◌, ◌⊎◌, ℕ, suc, ◌-◌, ◌<◌, Bool, true, false, nat_eq, if◌then◌else◌, List, length, slice_set, slice_index_or, take, ◌↔◌, ◌≢◌, nat_lt, Some, None, Option, ◌≤◌, ◌&&◌}
 use Rattle.jn_alloc.specs.Free.{FreeNumbers, count_of, free_count, is_free as is_free_number, with_free, IsLeastFree}
 use Rattle.jn_base.specs.declared.names.FileNo.{FileNo}
 use Rattle.jn_order.specs.Files.{Change, change}
 use Rattle.jn_records.specs.declared.head.Head.{Head}
+use Rattle.jn_records.specs.declared.head.Head.TheVariants.{Free, Used}
 use Rattle.jn_records.specs.StablePages.{Counts as PageCounts, data_place}
 use Rattle.jn_records.specs.Heads.{head_page, has_page}
 use Rattle.jn_store.specs.Store.{StoreView, IsOnly}
 use Rattle.jn_files.specs.Table.{TableView, head_in, is_free, is_of, exists, address_of, files_of, IsHeadOf}
 use Rattle.jn_files.specs.Pages.{IsLeaf, Holds, IsLoadable}
-use Rattle.jn_files.specs.Calls.{StoreRead}
+use Rattle.jn_files.specs.Calls.{is_above, StoreRead}
 
 abbrev pub view_of : ℕ → List Head → List Bool → FreeNumbers → FreeNumbers → TableView
 view_of pool heads held free_heads free_leaves = record {
@@ -127,3 +128,26 @@ pub record ReadTo (g : PageCounts) (v : StoreView) (n : ℕ) (slots : List Head)
   pub read : StoreRead v n w
   pub power : 0 < n → w.power ≡ true
   pub stops : w.stops ≡ v.stops
+
+-- ---- listing
+
+-- the least file among the first heads that is above another
+pub record NextAmong (heads : List Head) (n : ℕ) (after : Option FileNo) (f : FileNo) : Type 0 where
+  pub slot : ℕ
+  pub below : slot < n
+  pub here : is_of f (head_in heads slot) ≡ true
+  pub above : is_above after f ≡ true
+  pub least : (j : ℕ) (g : FileNo) → j < n → is_of g (head_in heads j) ≡ true → is_above after g ≡ true → f.0 ≤ g.0
+
+abbrev pub IsNextAmong : List Head → ℕ → Option FileNo → Option FileNo → Type 0
+IsNextAmong heads n after (Some f) = NextAmong heads n after f
+IsNextAmong heads n after None = (j : ℕ) (g : FileNo) → j < n → is_of g (head_in heads j) ≡ true → is_above after g ≡ false
+
+abbrev pub comes_before : FileNo → Option FileNo → Bool
+comes_before f None = true
+comes_before f (Some best) = nat_lt f.0 best.0
+
+-- the head's file where it is above a last one and less than the best so far; else that one
+abbrev pub better : Head → Option FileNo → Option FileNo → Option FileNo
+better Free after best = best
+better (Used f xs) after best = if is_above after f && comes_before f best then Some f else best

@@ -10,8 +10,13 @@
 #![tactic(auto)]
 
 mod fault;
+mod laws;
 mod slot;
 mod table;
 
 pub use fault::LoadFault;
+pub use laws::pages_hold_the_files_of_heads;
 pub use table::FileTable;
+
+#[cfg(test)]
+mod tests;

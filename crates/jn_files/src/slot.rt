@@ -3,6 +3,8 @@ ghost use Rattle.std.specs.Prelude.{◌≡◌, ◌^◌, ◌<◌, ◌≤◌, ◌�
 ghost use Rattle.jn_records.specs.declared.head.Head.TheVariants.{Free};
 ghost use Rattle.jn_records.specs.Heads.{head_page, has_page};
 ghost use Rattle.jn_files.specs.Table as table;
+ghost use Rattle.jn_files.specs.Calls as calls;
+ghost use Rattle.jn_files.specs.Inside as inside;
 
 use jn_base::{FileNo, Page, PageWriter};
 use jn_records::{Head, used_page};
@@ -118,6 +120,16 @@ impl Slot {
         false
     }
 
+    /// The head's file where it is above a last one and less than the best so far; else that one.
+    pub fn better(&self, after: Option<FileNo>, best: Option<FileNo>) -> Option<FileNo>
+        ensures { result ≡ inside.better self.now after best }
+    {
+        match self.file {
+            Some(file) if is_above(after, file) && comes_before(file, best) => Some(file),
+            _ => best,
+        }
+    }
+
     /// The head without its blocks from one on.
     pub fn cut(&self, n: u16) -> Self
         ensures { result ≡ table.cut_head n self.now }
@@ -160,4 +172,23 @@ fn cut_addresses(old: &Addresses, n: u16) -> Addresses
         addresses[block as usize] = 0;
     }
     addresses
+}
+
+fn is_above(after: Option<FileNo>, f: FileNo) -> bool
+    ensures { result ≡ calls.is_above after f }
+{
+    match after {
+        None => true,
+        Some(after) => after.0 < f.0,
+    }
+}
+
+/// Whether a file is less than the best so far, if there is one.
+fn comes_before(f: FileNo, best: Option<FileNo>) -> bool
+    ensures { result ≡ inside.comes_before f best }
+{
+    match best {
+        None => true,
+        Some(best) => f.0 < best.0,
+    }
 }

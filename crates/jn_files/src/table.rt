@@ -5,7 +5,7 @@ ghost use Rattle.jn_order.specs.Files.{Change, created, removed, cut_from, writt
 ghost use Rattle.jn_records.specs.declared.head.Head.{Head as HeadOf};
 ghost use Rattle.jn_records.specs.declared.head.Head.TheVariants.{Free};
 ghost use Rattle.jn_records.specs.Heads.{has_page};
-ghost use Rattle.jn_records.specs.StablePages.{head_place, data_place};
+ghost use Rattle.jn_records.specs.StablePages.{head_place, data_place, page_count};
 ghost use Rattle.jn_store.specs.Store.{IsCalm, IsServed, IsStop, StorePut};
 ghost use Rattle.jn_files.specs.declared.fault.LoadFault.TheVariants.{Stopped as LoadStopped};
 ghost use Rattle.jn_files.specs.Table as table;
@@ -78,6 +78,20 @@ impl FileTable {
         })
     }
 
+    /// How many stable pages a store has that fits the table.
+    pub fn pages(&self) -> u32
+        ensures { result ≡ page_count self.now.counts }
+    {
+        1 + u32::from(self.pool) + self.slots.len() as u32 + self.held.len() as u32
+    }
+
+    /// Does nothing: its contract says what holds of every table.
+    pub fn is_table(&self)
+        ensures { table.IsTable self.now }
+    {
+        let _heads = &self.slots;
+    }
+
     /// Whether a file is there.
     pub fn exists(&self, f: FileNo) -> bool
         ensures { result ≡ table.exists self.now.heads f }
@@ -91,6 +105,13 @@ impl FileTable {
         ensures { result ≡ table.is_mapped self.now.heads f p.0 }
     {
         address_for(&self.slots, f, p) > 0
+    }
+
+    /// The least file above `after`, or the least of all.
+    pub fn next(&self, after: Option<FileNo>) -> Option<FileNo>
+        ensures { calls.NextFile self.now.heads after result }
+    {
+        next_of(&self.slots, after)
     }
 
     /// The heads that are free and promised.
@@ -253,6 +274,8 @@ impl FileTable {
         requires { calls.MayTake self.old.free_leaves }
         ensures found { IsSome result ↔ (0 < free_count self.old.free_leaves) }
         ensures least { IfSome result (λ a. IsLeastFree self.old.free_leaves a) }
+        ensures unnamed { IfSome result (λ a. table.IsUnnamed self.old.heads a) }
+        ensures held { IfSome result (λ a. table.is_held self.new a ≡ true) }
         ensures taken { IfSome result (λ a. self.new ≡ calls.with_held self.old a) }
         ensures none { IfNone result (self.new ≡ self.old) }
     {
@@ -477,6 +500,17 @@ fn address_for(slots: &[Slot], f: FileNo, p: BlockNo) -> u16
         }
     }
     0
+}
+
+/// The least file above another, or the least of all.
+fn next_of(slots: &[Slot], after: Option<FileNo>) -> Option<FileNo>
+    ensures { calls.NextFile slots.now after result }
+{
+    let mut best = None;
+    for head in slots {
+        best = head.better(after, best);
+    }
+    best
 }
 
 /// Whether a head names a data page.
