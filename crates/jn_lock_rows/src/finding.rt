@@ -5,7 +5,9 @@ ghost use Rattle.jn_rows.specs.Worker as rows;
 ghost use Rattle.jn_lock_rows.specs.Calls as calls;
 
 use jn_base::{FileNo, LockUnit, ServerNo, Tid, WorkId};
-use jn_rows::{Phase, PreparedWork, Work};
+use jn_records::{ListOf, NetList};
+use jn_rows::{ActiveWork, Phase, PreparedWork, Work};
+use std::alloc::Global;
 use std::mem::replace;
 
 /// The work of this name.
@@ -71,5 +73,23 @@ pub(crate) fn store_work(works: &mut [Work], name: WorkId)
             store_phase(&mut works[i].phase);
             return;
         }
+    }
+}
+
+/// A work from the moment when it is opened.
+pub fn new_work(alloc: Global, tid: Tid, name: WorkId) -> Work
+    ensures { result ≡ rows.new_work name tid }
+{
+    Work {
+        name,
+        tid,
+        phase: Phase::Active(ActiveWork {
+            list: NetList::new(alloc),
+            reads: ListOf::from_vec(Vec::new(alloc)),
+            writes: ListOf::from_vec(Vec::new(alloc)),
+            last: 0,
+            kept: None,
+            vulnerable: false,
+        }),
     }
 }

@@ -1,16 +1,16 @@
 //! What a work is granted, with the works that break.
 
-ghost use Rattle.std.specs.Prelude.{◌≡◌, true, is_some, IfOk, IfErr, OnErr};
+ghost use Rattle.std.specs.Prelude.{◌≡◌, ◌++◌, ◌∷◌, [], true, IfOk, IfErr, OnOk, OnErr};
 ghost use Rattle.jn_locks.specs.LockTables.{table};
 ghost use Rattle.jn_base.specs.declared.names.Tid.{Tid};
 ghost use Rattle.jn_rows.specs.declared.worker.ActiveWork.{ActiveWork};
 ghost use Rattle.jn_rows.specs.declared.worker.Phase.TheVariants.{Active};
 ghost use Rattle.jn_rows.specs.Worker as rows;
 ghost use Rattle.jn_lock_rows.specs.Calls as calls;
-ghost use Rattle.jn_lock_rows.specs.Matching.{LocksMatch};
+ghost use Rattle.jn_lock_rows.specs.Matching.{LocksMatch, is_after};
 
 use crate::breaks::break_works;
-use crate::finding::{set_phase, store_work, work_at};
+use crate::finding::{new_work, set_phase, store_work, work_at};
 use crate::wants::operation_wants;
 use jn_base::{LockUnit, Op, Tid, WorkId};
 use jn_locks::{Granted, LockFault, LockTable};
@@ -117,5 +117,29 @@ pub fn test_storing(locks: &LockTable, works: &[Work], name: WorkId) -> Option<(
             Refused::Held(unit, tid) => Some((unit, tid)),
             Refused::Memory => None,
         },
+    }
+}
+
+/// Adds a work, whose name comes after all others, and lets the lock table know it. Without memory nothing changes.
+pub fn open_work(
+    alloc: Global,
+    locks: &mut LockTable,
+    works: &mut Vec<Work>,
+    tid: Tid,
+    name: WorkId,
+) -> Result<(), AllocError>
+    requires matches { LocksMatch works.old.items (table locks.old) }
+    requires last { is_after name works.old.items ≡ true }
+    ensures opened { OnOk result (works.new.items ≡ works.old.items ++ rows.new_work name tid ∷ []) }
+    ensures same { OnErr result (works.new.items ≡ works.old.items) }
+    ensures matches { LocksMatch works.new.items (table locks.new) }
+{
+    works.reserve(1)?;
+    match locks.ask(alloc, name, &[]) {
+        Ok(_granted) => {
+            works.push_reserved(new_work(alloc, tid, name));
+            Ok(())
+        }
+        Err(_) => Err(AllocError),
     }
 }

@@ -15,7 +15,7 @@ mod wants;
 
 pub use breaks::{break_works, note_breaks};
 pub use finding::{set_phase, work_at};
-pub use grants::{Refused, grant_operation, grant_storing, test_storing};
+pub use grants::{Refused, grant_operation, grant_storing, open_work, test_storing};
 pub use laws::{
     a_counted_operation_matches, a_new_table_matches_no_works,
     a_prepare_is_refused_as_the_rows_say, a_released_work_matches, a_restored_work_matches,
