@@ -4,3 +4,4 @@ pub mod Fitting
 pub mod Rows
 pub mod Room
 pub mod Ending
+pub mod ClosingLemmas
