@@ -1,25 +1,24 @@
 -- A client's transactions are closed one by one.
-use Rattle.std.proofs.Common.{◌≡◌, ⊎_elim, ℕ, suc, Bool, true, false, not, ◌+◌, ◌*◌, ◌≤◌, ◌&&◌, if◌then◌else◌, List, [], ◌∷◌, ◌++◌, Option, Some, None, Result, Ok, Err, length, take, refl, sym, ◌∙◌, ap, subst, arith, length-append, append_assoc}
-use Rattle.std.proofs.lemmas.Bool.Decides.{nat_tests}
+use Rattle.std.proofs.Common.{◌≡◌, ⊎_elim, ℕ, suc, Bool, true, false, ◌+◌, ◌≤◌, if◌then◌else◌, List, [], ◌∷◌, ◌++◌, Option, Some, None, Result, Ok, Err, length, take, refl, sym, ◌∙◌, ap, subst, arith, length-append, append_assoc, ◌<◌, zero, drop, slice_set, slice_index_or}
 use Rattle.jn_base.specs.declared.names.ClientNo.{ClientNo}
 use Rattle.jn_base.specs.declared.names.Tid.{Tid}
-use Rattle.jn_base.specs.Names.{client_eq, tid_eq}
-use Rattle.jn_base.proofs.Tells.{tid_tells, client_tells}
+use Rattle.jn_base.specs.Names.{tid_eq}
+use Rattle.jn_base.proofs.Tells.{tid_tells}
 use Rattle.jn_rows.specs.declared.coordinator.Transaction.{Transaction}
 use Rattle.jn_rows.specs.declared.coordinator.Stage.{Stage}
 use Rattle.jn_rows.specs.declared.coordinator.Stage.TheVariants.{Open, Voting, Committed, Aborted}
-use Rattle.jn_rows.specs.Stable.{Change, Changed, DropFlag, IsStopState, StableState, made_all, made_by}
-use Rattle.jn_rows.specs.Coordinator.{transaction_at, without, is_voting, all_in, closed, thanked, thanked_changes, after_closing, changes_of_closing}
+use Rattle.jn_rows.specs.Stable.{Change, DropFlag, StableState, made_all, made_by}
+use Rattle.jn_rows.specs.Coordinator.{transaction_at, without, is_voting, closed, thanked_changes, after_closing, changes_of_closing}
 use Rattle.jn_storage.specs.Storage.{StorageView, IsLoadable}
-use Rattle.jn_storage.specs.Calls.{state, Called, FlagDropped, PromiseReleased}
+use Rattle.jn_storage.specs.Calls.{state, FlagDropped}
 use Rattle.jn_store.proofs.Laws.{stop_since}
 use Rattle.jn_storage.proofs.Laws.{storage_refl, storage_trans}
-use Rattle.jn_coord.specs.Remembered.{Remembered, name_below, are_above, rises}
+use Rattle.jn_coord.specs.Remembered.{Remembered, are_above, rises}
 use Rattle.std.specs.Prelude.{is_ok}
 use Rattle.jn_coord.specs.declared.faults.CoordFault.{CoordFault}
 use Rattle.jn_coord.specs.declared.faults.CoordFault.TheVariants.{Memory, Stopped}
 use Rattle.jn_coord.specs.Calls.{flag_told, committed_as, Fits, Releases}
-use Rattle.jn_coord.specs.Closing.{goes, is_committed, next_closing, tid_in, going_in, LetsGo, GoneFrom, StaysOrGoes, ClosesOn, ClosesNext, ClosingStopped}
+use Rattle.jn_coord.specs.Closing.{goes, is_committed, next_closing, tid_in, going_in, LetsGo, GoneFrom, StaysOrGoes, ClosesOn, ClosesNext, ClosingStopped, known, knowing}
 use Rattle.jn_coord.proofs.Tables.{at-named, for-found}
 use Rattle.jn_coord.proofs.Fitting.{below-not, flags-without, no-votes, promise_held, fits-without}
 use Rattle.jn_coord.proofs.Rows.{released-reaches, told-but}
@@ -268,3 +267,17 @@ step-ends c r s t u v w a b f g e stop = let h = subst (λ d. ClosesNext c s v (
 pub step-stopped : (c : ClientNo) (r s t : Remembered) (u v w : StorageView) (a : Result Bool CoordFault) (fault : CoordFault) → ClosesOn c r u s v → ClosesNext c s v a t w → a ≡ Err fault → ClosingStopped c r u w
 step-stopped c r s t u v w a Memory f g e = absurd (subst (λ d. ClosesNext c s v d t w) e g)
 step-stopped c r s t u v w a Stopped f g e = stopped-after c r s u v w f (subst (λ d. ClosesNext c s v d t w) e g)
+
+-- ---- what is left
+
+pub known_at : (c : ClientNo) (d : Transaction) (xs : List Transaction) (i : ℕ) → i < length xs
+    → take (i + 1) (slice_set xs i (known c (slice_index_or xs i d))) ++ knowing c (drop (i + 1) (slice_set xs i (known c (slice_index_or xs i d)))) ≡ take i xs ++ knowing c (drop i xs)
+known_at c d [] i h = grind arith
+known_at c d (x ∷ xs) zero h = grind arith
+known_at c d (x ∷ xs) (suc i) h = let rest = known_at c d xs i (omega arith) in grind (arith, rest)
+
+pub known_end : (c : ClientNo) (xs : List Transaction) (i : ℕ) → length xs ≤ i → take i xs ++ knowing c (drop i xs) ≡ xs
+known_end c [] zero h = refl
+known_end c [] (suc i) h = refl
+known_end c (x ∷ xs) zero h = grind arith
+known_end c (x ∷ xs) (suc i) h = let rest = known_end c xs i (omega arith) in grind (arith, rest)

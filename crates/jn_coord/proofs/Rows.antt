@@ -1,5 +1,5 @@
 -- What a step of a coordinator comes to, row by row.
-use Rattle.std.proofs.Common.{⊎_elim, ◌≢◌, not, nat_lt, ◌&&◌, ◌-◌, Result, Ok, Err, append-nil, ◌≡◌, ℕ, Bool, true, false, ◌+◌, ◌≤◌, ◌<◌, ◌*◌, if◌then◌else◌, List, [], ◌∷◌, ◌++◌, Option, Some, None, length, refl, sym, ◌∙◌, ap, subst, arith}
+use Rattle.std.proofs.Common.{⊎_elim, ◌≢◌, not, nat_lt, ◌&&◌, ◌-◌, Result, Ok, Err, ◌≡◌, ℕ, Bool, true, false, ◌+◌, ◌≤◌, if◌then◌else◌, List, [], ◌∷◌, ◌++◌, Option, Some, None, length, refl, sym, ◌∙◌, ap, subst, arith}
 use Rattle.std.proofs.lemmas.Bool.Decides.{nat_tests}
 use Rattle.jn_base.specs.declared.names.ClientNo.{ClientNo}
 use Rattle.jn_base.specs.declared.names.Tid.{Tid}
@@ -12,7 +12,6 @@ use Rattle.jn_msgs.specs.declared.message.Message.TheVariants as messages
 use Rattle.jn_msgs.specs.declared.message.Outcome.{Outcome}
 use Rattle.jn_msgs.specs.declared.message.Outcome.TheVariants as outcomes
 use Rattle.jn_msgs.specs.declared.message.Vote.{Vote}
-use Rattle.jn_msgs.specs.declared.message.Note.{Note}
 use Rattle.jn_msgs.specs.declared.message.Note.TheVariants as notes
 use Rattle.jn_msgs.specs.Collected.{Collected}
 use Rattle.jn_rows.specs.declared.coordinator.Transaction.{Transaction}
@@ -22,9 +21,9 @@ use Rattle.jn_rows.specs.declared.coordinator.Stage.TheVariants.{Open, Voting, C
 use Rattle.jn_rows.specs.declared.coordinator.Committed.{Committed as Commitment}
 use Rattle.jn_rows.specs.declared.coordinator.Voting.{Voting as Ballot}
 use Rattle.jn_rows.specs.Stable.{FlagState, Change, Changed, AddFlag, DropFlag, made_by}
-use Rattle.jn_rows.specs.Outcomes.{Sent, RowOutcome, ignored, sends}
-use Rattle.jn_rows.specs.Coordinator.{CoordinatorTable, transaction_at, with_stage, without, is_voting, promised, staged, drops, commits, all_in, abort_row, commit_row, forget_row, noted, thanks_row, thanks_stage, vote_stage, told_stage, dropped, is_work}
-use Rattle.jn_storage.specs.Storage.{StorageView, IsServing}
+use Rattle.jn_rows.specs.Outcomes.{RowOutcome, ignored, sends}
+use Rattle.jn_rows.specs.Coordinator.{CoordinatorTable, transaction_at, with_stage, without, is_voting, drops, commits, all_in, abort_row, commit_row, forget_row, noted, thanks_row, thanks_stage, vote_stage, told_stage, dropped, is_work}
+use Rattle.jn_storage.specs.Storage.{StorageView}
 use Rattle.jn_storage.specs.Calls.{state, PromiseReleased, Called, FlagPut, FlagDropped}
 use Rattle.jn_storage.proofs.Laws.{storage_refl}
 use Rattle.jn_coord.specs.Remembered.{Remembered, table_of, is_aborted}

@@ -1,5 +1,5 @@
 -- What a closing of a client's transactions does, one by one.
-use Rattle.std.specs.Prelude.{◌≡◌, ◌≤◌, ◌<◌, ◌+◌, ◌*◌, ℕ, Bool, true, false, ◌&&◌, if◌then◌else◌, List, [], ◌∷◌, ◌++◌, length, Option, Some, None, Result, Ok, Err}
+use Rattle.std.specs.Prelude.{◌≡◌, ◌≤◌, ◌+◌, ◌*◌, Bool, true, false, ◌&&◌, if◌then◌else◌, List, [], ◌∷◌, ◌++◌, length, Option, Some, None, Result, Ok, Err}
 use Rattle.jn_base.specs.declared.names.ClientNo.{ClientNo}
 use Rattle.jn_base.specs.declared.names.Tid.{Tid}
 use Rattle.jn_base.specs.Names.{client_eq, tid_eq}
@@ -92,3 +92,17 @@ abbrev pub ClosesAll : {A : Type 0} → ClientNo → Remembered → StorageView 
 ClosesAll c r v (Ok x) r' w = ClosesOn c r v r' w × (next_closing c r'.transactions ≡ None)
 ClosesAll c r v (Err Stopped) r' w = ClosingStopped c r v w
 ClosesAll c r v (Err Memory) r' w = ⊥
+
+-- ---- what is left
+
+abbrev pub known_stage : Stage → Stage
+known_stage (Committed d) = Committed (record d { thanked = true })
+known_stage stage = stage
+
+-- the client knows of it, where it is the client's
+abbrev pub known : ClientNo → Transaction → Transaction
+known c x = if client_eq x.client c then record x { stage = known_stage x.stage } else x
+
+abbrev pub knowing : ClientNo → List Transaction → List Transaction
+knowing c [] = []
+knowing c (x ∷ xs) = known c x ∷ knowing c xs

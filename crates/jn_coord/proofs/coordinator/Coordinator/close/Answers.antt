@@ -1,4 +1,4 @@
-use Rattle.std.proofs.Common.{rules, refl, arith}
+use Rattle.std.proofs.Common.{rules, arith}
 use Rattle.jn_coord.proofs.ClosingLemmas.{closes-none, step-on, step-stopped}
 use Rattle.jn_coord.proofs.coordinator.Coordinator.close.Goals as goal
 

@@ -1,4 +1,4 @@
-use Rattle.std.proofs.Common.{◌≡◌, ◌≤◌, ◌+◌, length}
+use Rattle.std.proofs.Common.{◌≤◌, ◌+◌, length}
 use Rattle.jn_coord.specs.Closing.{ClosesOn}
 use Rattle.jn_coord.proofs.coordinator.Coordinator.close.Given as goal
 

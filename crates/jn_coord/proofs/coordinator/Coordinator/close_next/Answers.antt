@@ -1,4 +1,4 @@
-use Rattle.std.proofs.Common.{rules, sym, ◌∙◌, ap, is_ok}
+use Rattle.std.proofs.Common.{rules, sym, ◌∙◌}
 use Rattle.jn_coord.proofs.ClosingLemmas.{going-next, next-closed, next-stopped}
 use Rattle.jn_coord.proofs.coordinator.Coordinator.close_next.Goals as goal
 
