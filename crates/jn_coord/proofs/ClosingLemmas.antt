@@ -18,7 +18,7 @@ use Rattle.std.specs.Prelude.{is_ok}
 use Rattle.jn_coord.specs.declared.faults.CoordFault.{CoordFault}
 use Rattle.jn_coord.specs.declared.faults.CoordFault.TheVariants.{Memory, Stopped}
 use Rattle.jn_coord.specs.Calls.{flag_told, committed_as, Fits, Releases}
-use Rattle.jn_coord.specs.Closing.{goes, is_committed, next_closing, tid_in, going_in, LetsGo, GoneFrom, StaysOrGoes, ClosesOn, ClosesNext, ClosingStopped, known, knowing}
+use Rattle.jn_coord.specs.Closing.{goes, is_committed, next_closing, tid_in, going_in, LetsGo, GoneFrom, StaysOrGoes, ClosesOn, ClosesNext, ClosingStopped, known, knowing, ClosesAll}
 use Rattle.jn_coord.proofs.Tables.{at-named, for-found}
 use Rattle.jn_coord.proofs.Fitting.{below-not, flags-without, no-votes, promise_held, fits-without}
 use Rattle.jn_coord.proofs.Rows.{released-reaches, told-but}
@@ -281,3 +281,12 @@ known_end c [] zero h = refl
 known_end c [] (suc i) h = refl
 known_end c (x ∷ xs) zero h = grind arith
 known_end c (x ∷ xs) (suc i) h = let rest = known_end c xs i (omega arith) in grind (arith, rest)
+
+pub all-stopped : (c : ClientNo) (r s : Remembered) (v w : StorageView) (a : Result (Unit {0}) CoordFault) → ClosesAll c r v a s w → is_ok a ≡ false → ClosingStopped c r v w
+all-stopped c r s v w (Ok x) h e = absurd (cc e)
+all-stopped c r s v w (Err Memory) h e = absurd h
+all-stopped c r s v w (Err Stopped) h e = h
+
+pub all-closed : (c : ClientNo) (r s : Remembered) (v w : StorageView) (a : Result (Unit {0}) CoordFault) → ClosesAll c r v a s w → is_ok a ≡ true → ClosesOn c r v s w × (next_closing c s.transactions ≡ None)
+all-closed c r s v w (Ok x) h e = h
+all-closed c r s v w (Err f) h e = absurd (cc e)

@@ -5,3 +5,4 @@ pub mod Rows
 pub mod Room
 pub mod Ending
 pub mod ClosingLemmas
+pub mod Knowing

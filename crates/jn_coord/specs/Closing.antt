@@ -106,3 +106,17 @@ known c x = if client_eq x.client c then record x { stage = known_stage x.stage 
 abbrev pub knowing : ClientNo → List Transaction → List Transaction
 knowing c [] = []
 knowing c (x ∷ xs) = known c x ∷ knowing c xs
+
+-- a client's transactions are closed, as its next Begin asks
+pub record ClientClosed (c : ClientNo) (r : Remembered) (v : StorageView) (r' : Remembered) (w : StorageView) : Type 0 where
+  pub table : r' ≡ record r { transactions = after_closing c r.transactions }
+  pub made : state w ≡ made_all (changes_of_closing c r.transactions) (state v)
+  pub calls : w.store.calls ≤ v.store.calls + 16 * length (changes_of_closing c r.transactions)
+  pub fits : Fits r' w
+  pub later : StorageLater v w
+  pub no_stop : w.store.stops ≡ v.store.stops
+
+abbrev pub ClosesClient : {A : Type 0} → ClientNo → Remembered → StorageView → Result A CoordFault → Remembered → StorageView → Type 0
+ClosesClient c r v (Ok x) r' w = ClientClosed c r v r' w
+ClosesClient c r v (Err Stopped) r' w = ClosingStopped c r v w
+ClosesClient c r v (Err Memory) r' w = ⊥

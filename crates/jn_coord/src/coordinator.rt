@@ -17,10 +17,10 @@ ghost use Rattle.jn_rows.specs.Outcomes as outcomes;
 ghost use Rattle.jn_storage.specs.Storage.{StorageView, IsServing};
 ghost use Rattle.jn_storage.specs.Calls.{state};
 ghost use Rattle.jn_coord.specs.Remembered.{table_of};
-ghost use Rattle.jn_coord.specs.Closing.{going_in, tid_in, next_closing, LetsGo, ClosesNext, ClosesAll};
+ghost use Rattle.jn_coord.specs.Closing.{going_in, tid_in, next_closing, LetsGo, ClosesNext, ClosesAll, ClosesClient, knowing};
 ghost use Rattle.jn_coord.specs.Calls.{Fits, FitsWith, Does, Adds, added, Releases, committed_as, committed_at, spare_of, voting_in, works_in, ballot_in, stage_in, free_of, is_memory, IsPromised, ballot_row, waiting_row};
 
-use crate::closing::{is_committed, next_closing};
+use crate::closing::{is_committed, know_all, next_closing};
 use crate::faults::CoordFault;
 use crate::sending::{
     note, send_drops, send_outcome, send_prepares, tell_abort, tell_all_again, tell_commit,
@@ -608,6 +608,28 @@ impl Coordinator {
         }
         self.remove(tid);
         Ok(true)
+    }
+
+    /// Closes a client's transactions: the decided ones are known to it, the others are dropped.
+    fn close_client<F: FlagStore>(
+        &mut self,
+        store: &mut F,
+        client: ClientNo,
+    ) -> Result<(), CoordFault>
+        requires fits { Fits self.old (F.view store.old) }
+        ensures { ClosesClient client self.old (F.view store.old) result self.new (F.view store.new) }
+    {
+        if self.close(store, client).is_err() {
+            return Err(CoordFault::Stopped);
+        }
+        self.know_all(client);
+        Ok(())
+    }
+
+    fn know_all(&mut self, client: ClientNo)
+        ensures { self.new ≡ record self.old { transactions = knowing client self.old.transactions } }
+    {
+        know_all(&mut self.transactions, client);
     }
 
     /// Closes a client's transactions, but for those that wait for a work.
