@@ -1,5 +1,5 @@
 -- What one change of a table keeps.
-use Rattle.std.proofs.Common.{◌≡◌, ⊎_elim, ℕ, zero, suc, Bool, true, false, not, nat_lt, ◌+◌, ◌≤◌, ◌<◌, ◌&&◌, ◌||◌, if◌then◌else◌, List, [], ◌∷◌, ◌++◌, Option, Some, None, length, refl, sym, ◌∙◌, ap, subst, arith}
+use Rattle.std.proofs.Common.{◌≡◌, ⊎_elim, ℕ, Bool, true, false, ◌+◌, ◌≤◌, ◌<◌, if◌then◌else◌, List, [], ◌∷◌, Option, Some, None, length, refl, sym, ◌∙◌, ap, subst, arith}
 use Rattle.std.specs.Prelude.{is_some}
 use Rattle.std.proofs.lemmas.Bool.Decides.{nat_tests}
 use Rattle.jn_base.specs.declared.names.Tid.{Tid}
@@ -98,13 +98,16 @@ pub flags-without : (r : Remembered) (v : StorageView) (T : Tid) (x : Transactio
     → (U : Tid) → flag_told ((state v).flags U) ≡ (if tid_eq T U then None else flag_told ((state v).flags U))
 flags-without r v T x fits at none U = ⊎_elim (λ t. rw t.0 (subst (λ V. flag_told ((state v).flags V) ≡ None) t.1 (fits.flags T ∙ committed-found T r.transactions x at ∙ none))) (λ t. rw t.0 refl) (tid_tells T U)
 
+pub no-votes : (v : StorageView) (n : ℕ) (s : Stage) → is_voting s ≡ false → n ≡ v.accounts.promised_records → n + votes s ≡ v.accounts.promised_records
+no-votes v n s still e = rw still (omega (arith, e))
+
 -- ---- a transaction goes
 
 promised-without : (T : Tid) (xs : List Transaction) (x : Transaction) → transaction_at T xs ≡ Some x → promised (without T xs) + votes x.stage ≡ promised xs
 promised-without T [] x e = absurd (cc e)
 promised-without T (y ∷ ys) x e = let again = promised-without T ys x in grind (arith, e)
 
-below-not : (T : Tid) → name_below T T ≡ false
+pub below-not : (T : Tid) → name_below T T ≡ false
 below-not T = grind (arith, nat_tests)
 
 pub above-none : (T : Tid) (xs : List Transaction) → are_above T xs ≡ true → committed_at T xs ≡ None
@@ -135,18 +138,18 @@ named-without : (T U : Tid) (xs : List Transaction) → is_some (transaction_at 
 named-without T U [] h = h
 named-without T U (y ∷ ys) h = let again = named-without T U ys in grind (arith, h)
 
-pub fits-without : (r : Remembered) (v w : StorageView) (T : Tid) (x : Transaction) → FitsWith 0 r v → transaction_at T r.transactions ≡ Some x → is_voting x.stage ≡ false
+pub fits-without : (r : Remembered) (v w : StorageView) (T : Tid) (x : Transaction) → FitsWith 0 r v → transaction_at T r.transactions ≡ Some x
     → IsServing w → w.accounts.server ≡ v.accounts.server → (state w).epoch ≡ (state v).epoch
     → ((U : Tid) → flag_told ((state w).flags U) ≡ (if tid_eq T U then None else flag_told ((state v).flags U)))
-    → w.accounts.promised_records ≡ v.accounts.promised_records
+    → w.accounts.promised_records + votes x.stage ≡ v.accounts.promised_records
     → FitsWith 0 (record r { transactions = without T r.transactions }) w
-fits-without r v w T x fits at quiet serving server epoch flags promises = record {
+fits-without r v w T x fits at serving server epoch flags promises = record {
   serving = serving;
   clients = fits.clients;
   few = omega (arith, length-without T r.transactions, fits.few);
   rising = rises-without T r.transactions fits.rising;
   flags = λ U. flags U ∙ ap (λ o. if tid_eq T U then None else o) (fits.flags U) ∙ sym (committed-without T U r.transactions fits.rising);
-  promises = let less = promised-without T r.transactions x at in grind (arith, promises, quiet, fits.promises);
+  promises = omega (arith, promises, promised-without T r.transactions x at, fits.promises);
   ballots = ballots-without T r.transactions fits.ballots;
   given = λ U h. subst (λ n. IsGiven n (state w).epoch U.server U.epoch) (sym server) (subst (λ n. IsGiven v.accounts.server n U.server U.epoch) (sym epoch) (fits.given U (named-without T U r.transactions h)));
 }

@@ -4,3 +4,5 @@ pub mod Fitting
 pub mod Rows
 pub mod Room
 pub mod Ending
+pub mod ClosingLemmas
+pub mod Knowing

@@ -1,5 +1,5 @@
 -- A flag that is to be put has its room.
-use Rattle.std.proofs.Common.{◌≡◌, ℕ, Bool, true, false, not, ◌+◌, ◌≤◌, ◌<◌, ◌&&◌, ◌||◌, if◌then◌else◌, List, [], ◌∷◌, Option, Some, None, length, refl, sym, ◌∙◌, ap, subst, arith}
+use Rattle.std.proofs.Common.{◌≡◌, ℕ, true, ◌+◌, ◌≤◌, if◌then◌else◌, List, [], ◌∷◌, Option, Some, None, length, refl, sym, ◌∙◌, ap, arith}
 use Rattle.std.specs.Prelude.{is_some}
 use Rattle.jn_base.specs.declared.names.ClientNo.{ClientNo}
 use Rattle.jn_base.specs.declared.names.Tid.{Tid}
@@ -7,6 +7,8 @@ use Rattle.jn_base.specs.declared.names.WorkId.{WorkId}
 use Rattle.jn_base.specs.Names.{tid_eq}
 use Rattle.jn_base.proofs.Tells.{tid_tells}
 use Rattle.jn_rows.specs.declared.coordinator.Transaction.{Transaction}
+use Rattle.jn_rows.specs.declared.coordinator.Stage.{Stage}
+use Rattle.jn_rows.specs.declared.coordinator.Stage.TheVariants.{Open, Voting, Committed, Aborted}
 use Rattle.jn_rows.specs.Stable.{FlagState}
 use Rattle.jn_rows.specs.Coordinator.{transaction_at}
 use Rattle.jn_storage.specs.Listing.{is_in, are_different}
@@ -14,7 +16,8 @@ use Rattle.jn_storage.specs.Storage.{StorageView}
 use Rattle.jn_storage.specs.Calls.{state, MayPutFlag, HasFlag}
 use Rattle.jn_coord.specs.Remembered.{Remembered, rises}
 use Rattle.jn_coord.specs.Calls.{flag_told, committed_as, committed_at, works_in, spare_of, FitsWith}
-use Rattle.jn_coord.proofs.Fitting.{above-none, has-promise}
+use Rattle.jn_coord.specs.Closing.{is_committed}
+use Rattle.jn_coord.proofs.Fitting.{above-none, has-promise, committed-found}
 
 -- the names of the committed transactions
 abbrev committed_names : List Transaction → List Tid
@@ -69,3 +72,12 @@ has_flag spare r v T works fits e = sym (told-some ((state v).flags T)) ∙ ap i
     some : (o : Option (ClientNo × List WorkId)) → works_in o ≡ Some works → is_some o ≡ true
     some None f = absurd (cc f)
     some (Some told) f = refl
+
+pub has_flag_at : (r : Remembered) (v : StorageView) (T : Tid) (y : Transaction) → FitsWith 0 r v → transaction_at T r.transactions ≡ Some y → is_committed y.stage ≡ true → HasFlag v T
+has_flag_at r v T y fits found e = sym (told-some ((state v).flags T)) ∙ ap is_some (fits.flags T ∙ committed-found T r.transactions y found) ∙ some y.stage e
+  where
+    some : (s : Stage) → is_committed s ≡ true → is_some (committed_as y.client s) ≡ true
+    some Open f = absurd (cc f)
+    some (Voting b) f = absurd (cc f)
+    some (Committed d) f = refl
+    some (Aborted cause) f = absurd (cc f)

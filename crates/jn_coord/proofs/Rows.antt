@@ -1,5 +1,5 @@
 -- What a step of a coordinator comes to, row by row.
-use Rattle.std.proofs.Common.{⊎_elim, ◌≢◌, not, nat_lt, ◌&&◌, ◌-◌, Result, Ok, Err, append-nil, ◌≡◌, ℕ, Bool, true, false, ◌+◌, ◌≤◌, ◌<◌, ◌*◌, if◌then◌else◌, List, [], ◌∷◌, ◌++◌, Option, Some, None, length, refl, sym, ◌∙◌, ap, subst, arith}
+use Rattle.std.proofs.Common.{⊎_elim, ◌≢◌, not, nat_lt, ◌&&◌, ◌-◌, Result, Ok, Err, ◌≡◌, ℕ, Bool, true, false, ◌+◌, ◌≤◌, if◌then◌else◌, List, [], ◌∷◌, ◌++◌, Option, Some, None, length, refl, sym, ◌∙◌, ap, subst, arith}
 use Rattle.std.proofs.lemmas.Bool.Decides.{nat_tests}
 use Rattle.jn_base.specs.declared.names.ClientNo.{ClientNo}
 use Rattle.jn_base.specs.declared.names.Tid.{Tid}
@@ -12,7 +12,6 @@ use Rattle.jn_msgs.specs.declared.message.Message.TheVariants as messages
 use Rattle.jn_msgs.specs.declared.message.Outcome.{Outcome}
 use Rattle.jn_msgs.specs.declared.message.Outcome.TheVariants as outcomes
 use Rattle.jn_msgs.specs.declared.message.Vote.{Vote}
-use Rattle.jn_msgs.specs.declared.message.Note.{Note}
 use Rattle.jn_msgs.specs.declared.message.Note.TheVariants as notes
 use Rattle.jn_msgs.specs.Collected.{Collected}
 use Rattle.jn_rows.specs.declared.coordinator.Transaction.{Transaction}
@@ -22,9 +21,9 @@ use Rattle.jn_rows.specs.declared.coordinator.Stage.TheVariants.{Open, Voting, C
 use Rattle.jn_rows.specs.declared.coordinator.Committed.{Committed as Commitment}
 use Rattle.jn_rows.specs.declared.coordinator.Voting.{Voting as Ballot}
 use Rattle.jn_rows.specs.Stable.{FlagState, Change, Changed, AddFlag, DropFlag, made_by}
-use Rattle.jn_rows.specs.Outcomes.{Sent, RowOutcome, ignored, sends}
-use Rattle.jn_rows.specs.Coordinator.{CoordinatorTable, transaction_at, with_stage, without, is_voting, promised, staged, drops, commits, all_in, abort_row, commit_row, forget_row, noted, thanks_row, thanks_stage, vote_stage, told_stage, dropped, is_work}
-use Rattle.jn_storage.specs.Storage.{StorageView, IsServing}
+use Rattle.jn_rows.specs.Outcomes.{RowOutcome, ignored, sends}
+use Rattle.jn_rows.specs.Coordinator.{CoordinatorTable, transaction_at, with_stage, without, is_voting, drops, commits, all_in, abort_row, commit_row, forget_row, noted, thanks_row, thanks_stage, vote_stage, told_stage, dropped, is_work}
+use Rattle.jn_storage.specs.Storage.{StorageView}
 use Rattle.jn_storage.specs.Calls.{state, PromiseReleased, Called, FlagPut, FlagDropped}
 use Rattle.jn_storage.proofs.Laws.{storage_refl}
 use Rattle.jn_coord.specs.Remembered.{Remembered, table_of, is_aborted}
@@ -33,12 +32,12 @@ use Rattle.jn_coord.specs.declared.faults.CoordFault.TheVariants.{Memory, Stoppe
 use Rattle.jn_coord.specs.Calls.{flag_told, committed_as, committed_at, works_in, voting_in, spare_of, Fits, FitsWith, added, Adds, Longer, ballot_in, ballot_of, ballot_fits, ballots_fit, waiting_row, Releases, Reaches, IsDone, IsStopped, Does}
 use Rattle.jn_coord.proofs.Sends.{added_none, longer_same}
 use Rattle.jn_coord.proofs.Tables.{at-named, for-found}
-use Rattle.jn_coord.proofs.Fitting.{votes, fits-staged, fits-without, same-flags, committed-found, flags-without, promise_held, spare-one, has-promise}
+use Rattle.jn_coord.proofs.Fitting.{votes, fits-staged, fits-without, same-flags, committed-found, flags-without, promise_held, spare-one, has-promise, no-votes}
 
 pub stays : (v : StorageView) → Reaches v 0 v
 stays v = record { later = storage_refl v; calls = omega arith }
 
-released-reaches : (v w : StorageView) → PromiseReleased v w → Reaches v 0 w
+pub released-reaches : (v w : StorageView) → PromiseReleased v w → Reaches v 0 w
 released-reaches v w p = subst (λ u. Reaches v 0 u) (sym p.released) (record { later = record { server = refl; pool = refl; heads = refl; leaves = refl; store = (storage_refl v).store }; calls = omega arith })
 
 pub aborted : (r r' : Remembered) (v w : StorageView) (T : Tid) (k : Tickets) (x : Transaction) (cause : Cause) (works : List WorkId) (before after : Collected)
@@ -128,7 +127,7 @@ settled r r' v T k d before fits same waits ts = let s = stands T r.transactions
   no_stop = refl;
 }))
 
-told-but : (b : Bool) (o p : Option FlagState) → flag_told (if b then p else o) ≡ (if b then flag_told p else flag_told o)
+pub told-but : (b : Bool) (o p : Option FlagState) → flag_told (if b then p else o) ≡ (if b then flag_told p else flag_told o)
 told-but true o p = refl
 told-but false o p = refl
 
@@ -141,8 +140,8 @@ forgotten r r' v w T k d before ok fits same over put went ts = let s = stands T
       table = refl;
       sent = added_none before;
       made = p.change.done refl;
-      fits = fits-without r v w T s.one fits s.at s.quiet (p.called.serving refl) p.called.later.server (ap (λ x. x.epoch) at)
-          (λ U. ap (λ x. flag_told (x.flags U)) at ∙ told-but (tid_eq T U) ((state v).flags U) None) (ap (λ a. a.promised_records) (p.accounts refl));
+      fits = fits-without r v w T s.one fits s.at (p.called.serving refl) p.called.later.server (ap (λ x. x.epoch) at)
+          (λ U. ap (λ x. flag_told (x.flags U)) at ∙ told-but (tid_eq T U) ((state v).flags U) None) (no-votes v _ s.one.stage s.quiet (ap (λ a. a.promised_records) (p.accounts refl)));
       reaches = record { later = p.called.later; calls = p.called.calls };
       no_stop = p.called.no_stop refl;
     }))
@@ -267,7 +266,7 @@ aborted-gone r r' v T k y before fits at is ts = subst (λ q. IsDone (thanks_row
       table = refl;
       sent = added_none before;
       made = fits.serving.up;
-      fits = fits-without r v v T y fits at (gone y.stage is).1 fits.serving refl refl (flags-without r v T y fits at (gone y.stage is).0) refl;
+      fits = fits-without r v v T y fits at fits.serving refl refl (flags-without r v T y fits at (gone y.stage is).0) (no-votes v _ y.stage (gone y.stage is).1 refl);
       reaches = stays v;
       no_stop = refl;
     }

@@ -1,5 +1,5 @@
 -- What is sent in several steps.
-use Rattle.std.proofs.Common.{◌≡◌, ◌<◌, ◌+◌, ℕ, zero, suc, slice_index_or, arith, ◌∙◌, ◌++◌, List, [], ◌∷◌, take, length, append_assoc, ap, subst, Result, Ok, Err, refl, sym, append-nil}
+use Rattle.std.proofs.Common.{◌≡◌, ◌<◌, ◌+◌, ℕ, zero, suc, slice_index_or, arith, ◌∙◌, ◌++◌, List, [], ◌∷◌, take, length, append_assoc, ap, subst, Result, Err, refl, sym, append-nil}
 use Rattle.jn_msgs.specs.Collected.{Collected}
 use Rattle.jn_msgs.specs.declared.message.Note.{Note}
 use Rattle.jn_rows.specs.declared.coordinator.Transaction.{Transaction}

@@ -1,2 +1,3 @@
 pub mod Remembered
 pub mod Calls
+pub mod Closing

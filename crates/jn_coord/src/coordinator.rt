@@ -17,8 +17,10 @@ ghost use Rattle.jn_rows.specs.Outcomes as outcomes;
 ghost use Rattle.jn_storage.specs.Storage.{StorageView, IsServing};
 ghost use Rattle.jn_storage.specs.Calls.{state};
 ghost use Rattle.jn_coord.specs.Remembered.{table_of};
+ghost use Rattle.jn_coord.specs.Closing.{going_in, tid_in, next_closing, LetsGo, ClosesNext, ClosesAll, ClosesClient, knowing};
 ghost use Rattle.jn_coord.specs.Calls.{Fits, FitsWith, Does, Adds, added, Releases, committed_as, committed_at, spare_of, voting_in, works_in, ballot_in, stage_in, free_of, is_memory, IsPromised, ballot_row, waiting_row};
 
+use crate::closing::{is_committed, know_all, next_closing};
 use crate::faults::CoordFault;
 use crate::sending::{
     note, send_drops, send_outcome, send_prepares, tell_abort, tell_all_again, tell_commit,
@@ -83,6 +85,13 @@ fn committed_stage(alloc: Global, works: ListOf<WorkId>) -> Stage
 }
 
 impl Coordinator {
+    /// How many transactions are live.
+    fn live(&self) -> usize
+        ensures { result ≡ length self.now.transactions }
+    {
+        self.transactions.len()
+    }
+
     fn find(&self, tid: Tid) -> Option<&Transaction>
         ensures { option_copied result ≡ rows.transaction_at tid self.now.transactions }
     {
@@ -559,6 +568,93 @@ impl Coordinator {
         send_prepares(out, tid, x.client, ballot.works.as_slice())?;
         self.set_stage(tid, Stage::Voting(ballot));
         Ok(())
+    }
+
+    /// The store lets a transaction go: its flag is dropped, or its promise given back.
+    fn let_go<F: FlagStore>(&self, store: &mut F, tid: Tid) -> Result<(), CoordFault>
+        requires fits { Fits self.now (F.view store.old) }
+        requires going { going_in (rows.transaction_at tid self.now.transactions) ≡ true }
+        ensures { (x : Transaction)
+            → rows.transaction_at tid self.now.transactions ≡ Some x
+            → LetsGo x (F.view store.old) result (F.view store.new) }
+    {
+        let Some(x) = self.find(tid) else {
+            return Ok(());
+        };
+        if !is_committed(&x.stage) {
+            release(store, is_voting(&x.stage));
+            return Ok(());
+        }
+        if store.drop_flag(tid).is_err() {
+            return Err(CoordFault::Stopped);
+        }
+        Ok(())
+    }
+
+    /// Closes one transaction more of a client; false where none is left that goes.
+    fn close_next<F: FlagStore>(
+        &mut self,
+        store: &mut F,
+        client: ClientNo,
+    ) -> Result<bool, CoordFault>
+        requires fits { Fits self.old (F.view store.old) }
+        ensures { ClosesNext client self.old (F.view store.old) result self.new (F.view store.new) }
+    {
+        let Some(tid) = self.next_closing(client) else {
+            return Ok(false);
+        };
+        if self.let_go(store, tid).is_err() {
+            return Err(CoordFault::Stopped);
+        }
+        self.remove(tid);
+        Ok(true)
+    }
+
+    /// Closes a client's transactions: the decided ones are known to it, the others are dropped.
+    fn close_client<F: FlagStore>(
+        &mut self,
+        store: &mut F,
+        client: ClientNo,
+    ) -> Result<(), CoordFault>
+        requires fits { Fits self.old (F.view store.old) }
+        ensures { ClosesClient client self.old (F.view store.old) result self.new (F.view store.new) }
+    {
+        if self.close(store, client).is_err() {
+            return Err(CoordFault::Stopped);
+        }
+        self.know_all(client);
+        Ok(())
+    }
+
+    fn know_all(&mut self, client: ClientNo)
+        ensures { self.new ≡ record self.old { transactions = knowing client self.old.transactions } }
+    {
+        know_all(&mut self.transactions, client);
+    }
+
+    /// Closes a client's transactions, but for those that wait for a work.
+    fn close<F: FlagStore>(&mut self, store: &mut F, client: ClientNo) -> Result<(), CoordFault>
+        requires fits { Fits self.old (F.view store.old) }
+        ensures { ClosesAll client self.old (F.view store.old) result self.new (F.view store.new) }
+    {
+        for _closed in 0..self.live() {
+            match self.close_next(store, client) {
+                Err(_) => return Err(CoordFault::Stopped),
+                Ok(more) => {
+                    if !more {
+                        return Ok(());
+                    }
+                }
+            }
+        }
+        Ok(())
+    }
+
+    fn next_closing(&self, client: ClientNo) -> Option<Tid>
+        ensures { result ≡ tid_in (next_closing client self.now.transactions) }
+    {
+        let x = next_closing(&self.transactions, client)?;
+        Some(x.tid)
     }
 
     /// Tells once more what the decided transactions have told, in rising order of their names.

@@ -1,4 +1,4 @@
-use Rattle.std.proofs.Common.{rules, refl, sym, ◌∙◌, ap}
+use Rattle.std.proofs.Common.{rules}
 use Rattle.jn_coord.proofs.Rows.{voting-undecided, counted-on}
 use Rattle.jn_coord.proofs.coordinator.Coordinator.count.Goals as goal
 

@@ -1,4 +1,4 @@
-use Rattle.std.proofs.Common.{rules, sym, ◌∙◌, ap, subst}
+use Rattle.std.proofs.Common.{sym, ◌∙◌, subst}
 use Rattle.jn_rows.specs.Coordinator.{commit_row}
 use Rattle.jn_coord.specs.Remembered.{table_of}
 use Rattle.jn_coord.specs.Calls.{Does, ballot_row}

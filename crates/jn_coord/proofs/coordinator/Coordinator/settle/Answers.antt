@@ -1,4 +1,4 @@
-use Rattle.std.proofs.Common.{rules, sym, ◌∙◌}
+use Rattle.std.proofs.Common.{rules}
 use Rattle.jn_coord.proofs.Rows.{settled, forgotten, not-forgotten}
 use Rattle.jn_coord.proofs.coordinator.Coordinator.settle.Goals as goal
 

@@ -1,0 +1,94 @@
+//! The transactions of a client that goes on to another one.
+ghost use Rattle.std.specs.Prelude.{◌≡◌};
+ghost use Rattle.std.specs.Option.{option_copied};
+ghost use Rattle.jn_base.specs.declared.names.Tickets.{Tickets};
+ghost use Rattle.jn_rows.specs.Coordinator as rows;
+ghost use Rattle.jn_rows.specs.Coordinator.{CoordinatorTable};
+ghost use Rattle.jn_coord.specs.Calls.{Adds};
+ghost use Rattle.jn_coord.specs.Closing.{goes, is_committed, known, knowing, next_closing, tid_in};
+
+use crate::faults::CoordFault;
+use crate::sending::{note, send};
+use crate::table::all_in;
+use jn_base::{ClientNo, Party, Tid};
+use jn_msgs::{Message, Note, Out};
+use jn_rows::{Stage, Transaction};
+
+/// Whether a transaction goes once its client has gone on.
+pub fn goes(stage: &Stage) -> bool
+    ensures { result ≡ goes stage.now }
+{
+    match stage {
+        Stage::Committed(d) => all_in(d.works.as_slice(), d.done.as_slice()),
+        _ => true,
+    }
+}
+
+/// The first of the client's transactions that goes.
+pub fn next_closing(transactions: &[Transaction], client: ClientNo) -> Option<&Transaction>
+    ensures { option_copied result ≡ next_closing client transactions.now }
+{
+    for x in transactions {
+        if x.client == client && goes(&x.stage) {
+            return Some(x);
+        }
+    }
+    None
+}
+
+pub fn is_committed(stage: &Stage) -> bool
+    ensures { result ≡ is_committed stage.now }
+{
+    matches!(stage, Stage::Committed(_))
+}
+
+/// The client knows of a transaction, where it is the client's.
+fn know(x: &mut Transaction, client: ClientNo)
+    ensures { x.new ≡ known client x.old }
+{
+    if x.client != client {
+        return;
+    }
+    if let Stage::Committed(d) = &mut x.stage {
+        d.thanked = true;
+    }
+}
+
+/// A client knows of its transactions.
+#[tactic(auto, using(crate::proofs::ClosingLemmas::known_at, crate::proofs::ClosingLemmas::known_end))]
+pub fn know_all(transactions: &mut [Transaction], client: ClientNo)
+    ensures { transactions.new ≡ knowing client transactions.old }
+{
+    for i in 0..transactions.len() {
+        know(&mut transactions[i], client);
+    }
+}
+
+/// The client's transaction that the request began.
+pub fn begun_by(transactions: &[Transaction], client: ClientNo, request: u32) -> Option<Tid>
+    ensures { result ≡ tid_in (rows.begun_by client request transactions.now) }
+{
+    for x in transactions {
+        if x.client == client && x.begun == Some(request) {
+            return Some(x.tid);
+        }
+    }
+    None
+}
+
+/// Answers a Begin that was answered before, while its transaction is live.
+pub fn begin_again(
+    transactions: &[Transaction],
+    client: ClientNo,
+    request: u32,
+    out: &mut Out,
+) -> Result<(), CoordFault>
+    ensures { (t : CoordinatorTable) (k : Tickets)
+        → Adds (rows.begin_again t k client request (rows.begun_by client request transactions.now)).messages (rows.begin_again t k client request (rows.begun_by client request transactions.now)).notes out.old result out.new }
+{
+    let Some(tid) = begun_by(transactions, client, request) else {
+        return note(out, Note::Ignored);
+    };
+    let begun = Message::Begun(client, request, Some(tid));
+    send(out, Party::Client(client), begun)
+}
