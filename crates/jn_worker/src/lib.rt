@@ -2,6 +2,7 @@
 #![tactic(auto)]
 
 mod finish;
+mod open;
 mod restore;
 mod step;
 mod words;
