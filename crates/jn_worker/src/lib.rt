@@ -5,6 +5,8 @@ mod finish;
 mod open;
 mod restore;
 mod step;
+#[cfg(test)]
+mod tests;
 mod words;
 mod worker;
 mod works;
