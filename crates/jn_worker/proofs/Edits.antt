@@ -12,27 +12,14 @@ use Rattle.jn_lock_rows.proofs.Works.{work_same, not-before, found-behind}
 use Rattle.jn_storage.specs.Listing.{is_in}
 use Rattle.jn_worker.specs.Calls.{rephased, going_in}
 
--- the work at place i has the name
-pub set_at : (W : WorkId) (phase : Phase) (d : Work) (ws : List Work) (i : ℕ) → i < length ws → work_eq (slice_index_or ws i d).name W ≡ true
-    → slice_set ws i (record (slice_index_or ws i d) { phase = phase }) ≡ take i ws ++ with_phase W phase (drop i ws)
-set_at W phase d [] i h e = grind arith
-set_at W phase d (w ∷ ws) zero h e = grind arith
-set_at W phase d (w ∷ ws) (suc i) h e = let rest = set_at W phase d ws i (omega arith) e in grind (arith, rest)
-
--- no work has it
-pub set_none : (W : WorkId) (phase : Phase) (ws : List Work) (i : ℕ) → length ws ≤ i → take i ws ++ with_phase W phase (drop i ws) ≡ ws
-set_none W phase [] zero h = refl
-set_none W phase [] (suc i) h = refl
-set_none W phase (w ∷ ws) zero h = grind arith
-set_none W phase (w ∷ ws) (suc i) h = let rest = set_none W phase ws i (omega arith) in grind (arith, rest)
-
+-- no work has the name
 pub without_none : (W : WorkId) (ws : List Work) (i : ℕ) → length ws ≤ i → take i ws ++ without W (drop i ws) ≡ ws
 without_none W [] zero h = refl
 without_none W [] (suc i) h = refl
 without_none W (w ∷ ws) zero h = grind arith
 without_none W (w ∷ ws) (suc i) h = let rest = without_none W ws i (omega arith) in grind (arith, rest)
 
--- and its phase is changed
+-- the work at place i has the name, and its phase is changed
 pub rephased_at : (W : WorkId) (f : Phase → Phase) (d : Work) (ws : List Work) (i : ℕ) → i < length ws → work_eq (slice_index_or ws i d).name W ≡ true
     → slice_set ws i (record (slice_index_or ws i d) { phase = f (slice_index_or ws i d).phase }) ≡ take i ws ++ rephased W f (drop i ws)
 rephased_at W f d [] i h e = grind arith

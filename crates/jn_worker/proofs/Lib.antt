@@ -8,3 +8,4 @@ pub mod Carried
 pub mod Stepped
 pub mod Sorting
 pub mod Restored
+pub mod Opened

@@ -2,8 +2,11 @@
 #![tactic(auto)]
 
 mod finish;
+mod open;
 mod restore;
 mod step;
+#[cfg(test)]
+mod tests;
 mod words;
 mod worker;
 mod works;

@@ -11,18 +11,6 @@ ghost use Rattle.jn_worker.specs.Calls.{rephased};
 use jn_base::{LockUnit, Tid, WorkId};
 use jn_rows::{Phase, Work};
 
-/// The work of this name.
-pub(crate) fn work_at(works: &[Work], name: WorkId) -> Option<&Work>
-    ensures { Gives (λ w. w.now) result (rows.work_at name works.now) }
-{
-    for work in works {
-        if work.name == name {
-            return Some(work);
-        }
-    }
-    None
-}
-
 /// The first work of a transaction.
 pub(crate) fn work_of(works: &[Work], tid: Tid) -> Option<&Work>
     ensures { Gives (λ w. w.now) result (rows.work_of tid works.now) }
@@ -79,19 +67,6 @@ pub(crate) fn commit_holder(works: &[Work], unit: LockUnit) -> Option<Tid>
         }
     }
     None
-}
-
-/// Puts a work into another phase.
-#[tactic(auto, using(crate::proofs::Edits::set_at, crate::proofs::Edits::set_none))]
-pub(crate) fn set_phase(works: &mut [Work], name: WorkId, phase: Phase)
-    ensures { works.new ≡ rows.with_phase name phase works.old }
-{
-    for i in 0..works.len() {
-        if works[i].name == name {
-            works[i].phase = phase;
-            return;
-        }
-    }
 }
 
 /// Takes a work away.
