@@ -91,11 +91,11 @@ told_kept files (Name T) w may inv h = name_told files w inv h T may.not_named
 told_kept files (Decide flag) w may inv h = let k = name_told files w inv h flag.tid may.1 in record { opening = k.opening; named = k.named; once = k.once; traces = k.traces }
 told_kept files _ w may inv h = record { opening = h.opening; named = h.named; once = h.once; traces = h.traces }
 
-run_told : (files : AllFiles) (atoms : List Atom) (w : World) → MayRun atoms w → Invariant w → IsTold files w → Invariant (run atoms w) × IsTold files (run atoms w)
+pub run_told : (files : AllFiles) (atoms : List Atom) (w : World) → MayRun atoms w → Invariant w → IsTold files w → Invariant (run atoms w) × IsTold files (run atoms w)
 run_told files [] w may inv h = (inv, h)
 run_told files (a ∷ atoms) w may inv h = run_told files atoms (after a w) may.1 (step_kept a w may.0 inv) (told_kept files a w may.0 inv.core h)
 
-opening_told : (files : AllFiles) (epochs : ServerNo → ℕ) → IsTold files (opening_world files epochs)
+pub opening_told : (files : AllFiles) (epochs : ServerNo → ℕ) → IsTold files (opening_world files epochs)
 opening_told files epochs = record { opening = refl; named = λ T. refl; once = tt; traces = tt }
 
 module _ (files : AllFiles) (v : World) (inv : CoreFacts v) (h : IsTold files v) where

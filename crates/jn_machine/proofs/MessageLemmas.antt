@@ -1,5 +1,5 @@
 -- What a message says stays true.
-use Rattle.std.proofs.Common.{◌≡◌, inl, inr, ℕ, Bool, true, false, List, [], ◌∷◌, Option, Some, None, not, refl, sym, ◌∙◌, ap, subst, arith}
+use Rattle.std.proofs.Common.{◌≡◌, ◌≢◌, ◌⊎◌, inl, inr, ℕ, Bool, true, false, List, [], ◌∷◌, Option, Some, None, not, refl, sym, ◌∙◌, ap, subst, arith}
 use Rattle.std.specs.Prelude.{◌&&◌, ◌||◌}
 use Rattle.jn_base.specs.declared.names.ServerNo.{ServerNo}
 use Rattle.jn_base.specs.declared.names.Tid.{Tid}
@@ -200,7 +200,7 @@ grows_on a b c f g = record {
   closed = λ T h. g.closed T (f.closed T h);
 }
 
-run_grows : (atoms : List Atom) (w : World) → MayRun atoms w → Invariant w → Grows w (run atoms w)
+pub run_grows : (atoms : List Atom) (w : World) → MayRun atoms w → Invariant w → Grows w (run atoms w)
 run_grows [] w may inv = record {
   opened = λ W h. h;
   owner = λ W h. refl;
@@ -242,9 +242,12 @@ module _ (w v : World) (g : Grows w v) where
   vote_stays W _ h = tt
 
   drop_stays : (T : Tid) (W : WorkId) → DropSays w T W → DropSays v T W
-  drop_stays T W (inl h) = inl (g.aborted T h)
-  drop_stays T W (inr (inl h)) = inr (inl (g.over W h))
-  drop_stays T W (inr (inr h)) = inr (inr (g.ended T h.0, λ e. h.1 (sym (g.part T h.0 W.server) ∙ e)))
+  drop_stays T W h = (work_stays T W h.0, by h.1)
+    where
+      by : (w.aborted T ≡ true) ⊎ ((w.over W ≡ true) ⊎ ((w.ended T ≡ true) × (w.part T W.server ≢ Some W))) → (v.aborted T ≡ true) ⊎ ((v.over W ≡ true) ⊎ ((v.ended T ≡ true) × (v.part T W.server ≢ Some W)))
+      by (inl k) = inl (g.aborted T k)
+      by (inr (inl k)) = inr (inl (g.over W k))
+      by (inr (inr k)) = inr (inr (g.ended T k.0, λ e. k.1 (sym (g.part T k.0 W.server) ∙ e)))
 
   pub says_still : (m : Message) → Says w m → Says v m
   says_still (messages.Begin c request) h = tt
@@ -255,7 +258,7 @@ module _ (w v : World) (g : Grows w v) where
     g.ended T h.1,
     record { each = λ W i. g.part T h.1 W.server ∙ h.2.each W i; all = λ s W i. h.2.all s W (sym (g.part T h.1 s) ∙ i) },
   )
-  says_still (messages.Abort c request T works) h = g.begun T h
+  says_still (messages.Abort c request T works) h = (g.begun T h.0, λ W i. work_stays T W (h.1 W i))
   says_still (messages.Thanks c T) h = g.closed T h
   says_still (messages.Begun c request T) h = begun_stays T h
   says_still (messages.Opened c request T W) h = opened_stays T W h

@@ -1,5 +1,5 @@
 -- What each message says for good.
-use Rattle.std.specs.Prelude.{◌≡◌, ◌≢◌, ◌⊎◌, true, Option, Some, None}
+use Rattle.std.specs.Prelude.{◌≡◌, ◌≢◌, ◌⊎◌, true, List, Option, Some, None}
 use Rattle.jn_base.specs.declared.names.Tid.{Tid}
 use Rattle.jn_base.specs.declared.names.WorkId.{WorkId}
 use Rattle.jn_msgs.specs.declared.message.Message.{Message}
@@ -8,6 +8,7 @@ use Rattle.jn_msgs.specs.declared.message.Outcome.{Outcome}
 use Rattle.jn_msgs.specs.declared.message.Outcome.TheVariants as outcomes
 use Rattle.jn_msgs.specs.declared.message.Vote.{Vote}
 use Rattle.jn_msgs.specs.declared.message.Vote.TheVariants as votes
+use Rattle.jn_rows.specs.Coordinator.{is_work}
 use Rattle.jn_machine.specs.World.{World}
 use Rattle.jn_machine.specs.FoundStates.{AreParts}
 
@@ -35,16 +36,19 @@ abbrev pub VoteSays : World → WorkId → Vote → Type 0
 VoteSays w W votes.Ready = w.was_ready W ≡ true
 VoteSays w W vote = Unit {0}
 
--- a work is dropped that won't commit, that is over, or that its transaction's end doesn't have
+-- a work of the transaction is dropped that won't commit, that is over, or that its end doesn't have
 abbrev pub DropSays : World → Tid → WorkId → Type 0
-DropSays w T W = (w.aborted T ≡ true) ⊎ ((w.over W ≡ true) ⊎ ((w.ended T ≡ true) × (w.part T W.server ≢ Some W)))
+DropSays w T W = IsWorkOf w T W × ((w.aborted T ≡ true) ⊎ ((w.over W ≡ true) ⊎ ((w.ended T ≡ true) × (w.part T W.server ≢ Some W))))
+
+abbrev pub AreWorksOf : World → Tid → List WorkId → Type 0
+AreWorksOf w T works = (W : WorkId) → is_work W works ≡ true → IsWorkOf w T W
 
 abbrev pub Says : World → Message → Type 0
 Says w (messages.Begin c request) = Unit {0}
 Says w (messages.Open c request T) = w.begun T ≡ true
 Says w (messages.Op c request W number op) = w.opened W ≡ true
 Says w (messages.End c request T works) = (w.begun T ≡ true) × (w.ended T ≡ true) × AreParts w T works
-Says w (messages.Abort c request T works) = w.begun T ≡ true
+Says w (messages.Abort c request T works) = (w.begun T ≡ true) × AreWorksOf w T works
 Says w (messages.Thanks c T) = w.closed T ≡ true
 Says w (messages.Begun c request T) = BegunSays w T
 Says w (messages.Opened c request T W) = OpenedSays w T W

@@ -8,16 +8,4 @@ pub mod WorkerRows
 pub mod CoordinatorRows
 pub mod Restored
 pub mod Steps
-pub mod Performed
-pub mod Mirrored
-pub mod Losing
-pub mod GrantMoves
-pub mod OpMoves
-pub mod QuietMoves
-pub mod PrepareMoves
-pub mod WorkerMoves
-pub mod Intended
-pub mod CarryMoves
-pub mod CommitMoves
-pub mod StepMoves
 pub mod LostCommits

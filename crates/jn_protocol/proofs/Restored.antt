@@ -105,7 +105,7 @@ module _ (x : StableState) where
   abbrev restored-as : WorkId → Prepared → Work
   restored-as V p = record { name = V; tid = p.tid; phase = stored_phase p }
 
-  restored-is : (Ws : List WorkId) (V : WorkId) (v : Work) → work_at V (restored_worker x Ws) ≡ Some v → (p : Prepared) × ((x.works V ≡ Some p) × (v ≡ restored-as V p))
+  pub restored-is : (Ws : List WorkId) (V : WorkId) (v : Work) → work_at V (restored_worker x Ws) ≡ Some v → (p : Prepared) × ((x.works V ≡ Some p) × (v ≡ restored-as V p))
   restored-is [] V v h = absurd (grind arith)
   restored-is (W ∷ Ws) V v h = by (x.works W) refl h (restored-is Ws V v)
     where

@@ -194,9 +194,6 @@ going-keeps W t k stored fact = record {
 
 -- ---- works that are found otherwise than by name
 
-apart-names : (V W : WorkId) → work_before V W ≡ true → work_eq V W ≡ false
-apart-names V W h = not-before V W h
-
 pub of-found : (T : Tid) (t : WorkerTable) (w : Work) → are_rising t ≡ true → work_of T t ≡ Some w → work_at w.name t ≡ Some w
 of-found T [] w r h = absurd (grind arith)
 of-found T (x ∷ xs) w r h = by (tid_eq x.tid T) h (of-found T xs w (tail r))

@@ -10,11 +10,8 @@ ghost use Rattle.jn_order.specs.Files.{AllFiles, there};
 ghost use Rattle.jn_report.specs.declared.line.Text.TheVariants as says;
 ghost use Rattle.jn_rows.specs.Stable.{Pick};
 ghost use Rattle.jn_protocol.specs.World.{opening};
-ghost use Rattle.jn_protocol.specs.Steps.{Step, after, run, IsRun};
-ghost use Rattle.jn_machine.specs.Steps.{Atom, opening_world, run as run_atoms};
-ghost use Rattle.jn_machine.specs.Premises.{MayRun};
+ghost use Rattle.jn_protocol.specs.Steps.{Step, run, IsRun};
 ghost use Rattle.jn_protocol.specs.LockFacts.{LockFacts};
-ghost use Rattle.jn_protocol.specs.Mirrors.{Mirrors, MovesTo, is_shown};
 ghost use Rattle.jn_protocol.specs.Example.{the_server, the_client, the_file, the_transaction, the_work, start, to_the_vote, to_the_end, with_a_stop};
 
 pub use wrong::{wrong_rows_lose_a_commit, wrong_rows_mix_the_order};
@@ -45,17 +42,4 @@ pub fn a_commit_is_found_again()
 pub fn locks_go_together()
     ensures { (servers : ℕ) (files : AllFiles) (epochs : ServerNo → ℕ) (steps : List Step) → IsRun steps (opening servers files epochs)
         → LockFacts (run steps (opening servers files epochs)) }
-{}
-
-/// The machine of small steps starts where the whole system does. Wherever it stands where the whole system does, after
-/// any steps, and a step comes that is among those shown so far, there are steps of the machine that may come, after which
-/// it stands there again. Shown are the delivery of an Open, an Op, a Prepare and a Commit, and a background step, each
-/// done or stopped; a timeout, a crash, a decay, and a restart that is stopped.
-pub fn steps_are_moves()
-    ensures start { (servers : ℕ) (files : AllFiles) (epochs : ServerNo → ℕ) → Mirrors (opening servers files epochs) (opening_world files epochs) }
-    ensures step { (servers : ℕ) (files : AllFiles) (epochs : ServerNo → ℕ) (steps : List Step) (atoms : List Atom)
-        → IsRun steps (opening servers files epochs) → MayRun atoms (opening_world files epochs)
-        → Mirrors (run steps (opening servers files epochs)) (run_atoms atoms (opening_world files epochs))
-        → (step : Step) → is_shown step (run steps (opening servers files epochs)) ≡ true
-        → MovesTo (after step (run steps (opening servers files epochs))) (run_atoms atoms (opening_world files epochs)) }
 {}

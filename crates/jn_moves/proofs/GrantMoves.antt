@@ -15,9 +15,9 @@ use Rattle.jn_machine.specs.World.{World as Machine, Working}
 use Rattle.jn_machine.specs.Messages.{Says}
 use Rattle.jn_protocol.specs.World.{World, Memory}
 use Rattle.jn_protocol.specs.LockFacts.{UpFact}
-use Rattle.jn_protocol.specs.Mirrors.{Mirrors, working_of, working_in, active_in}
+use Rattle.jn_moves.specs.Mirrors.{Mirrors, working_of, working_in, active_in}
 use Rattle.jn_protocol.proofs.Granted.{Origin, Mine, Kept, Broke, Regrants}
-use Rattle.jn_protocol.proofs.Losing.{lost, missing, missing-is, left-active}
+use Rattle.jn_moves.proofs.Losing.{lost, missing, missing-is, left-active}
 
 some-same : {A : Type 0} → (a b : A) → Some a ≡ Some b → a ≡ b
 some-same a b e = cc

@@ -31,15 +31,15 @@ use Rattle.jn_machine.specs.Premises.{MayRun, MayPerform}
 use Rattle.jn_machine.specs.Messages.{Says}
 use Rattle.jn_protocol.specs.World.{World, Memory}
 use Rattle.jn_protocol.specs.LockFacts.{UpFact, TableFact, IsSoundWork, IsSoundActive}
-use Rattle.jn_protocol.specs.Mirrors.{Mirrors, IsTrue, IsAddressed, working_of, working_in, next_in}
+use Rattle.jn_moves.specs.Mirrors.{Mirrors, IsTrue, IsAddressed, working_of, working_in, next_in}
 use Rattle.jn_protocol.proofs.Granted.{Regrants, granted}
 use Rattle.jn_protocol.proofs.Rows.{done-keeps}
 use Rattle.jn_protocol.proofs.Restored.{Entry, entry-of}
 use Rattle.jn_protocol.proofs.Units.{with_units-is}
-use Rattle.jn_protocol.proofs.Performed.{done-changes, wants-asked}
-use Rattle.jn_protocol.proofs.Losing.{loses, lost, lose_all, run-loses, run-append, may-lose}
-use Rattle.jn_protocol.proofs.GrantMoves.{found-here, found-same, broken, its-server, own-now, left-own, left-here, left-elsewhere, elsewhere-other, owner-now}
-use Rattle.jn_protocol.proofs.Mirrored.{DoesRow}
+use Rattle.jn_moves.proofs.Performed.{done-changes, wants-asked}
+use Rattle.jn_moves.proofs.Losing.{loses, lost, lose_all, run-loses, run-append, may-lose}
+use Rattle.jn_moves.proofs.GrantMoves.{found-here, found-same, broken, its-server, own-now, left-own, left-here, left-elsewhere, elsewhere-other, owner-now}
+use Rattle.jn_moves.proofs.Mirrored.{DoesRow}
 
 false-unless : (b : Bool) → (b ≡ true → ⊥) → b ≡ false
 false-unless b h = grind arith
@@ -176,6 +176,8 @@ module _ (r : World) (w : Machine) (s : ServerNo) (m : Memory) (mirrors : Mirror
       ticket_here = mirrors.ticket s m is;
       ticket_elsewhere = λ q ne. refl;
       knowledge = λ T. refl;
+      history = refl;
+      ended = refl;
       owner = λ V v h. grown (messages.Inquire v.tid V) (owner-now r w s m mirrors is up x.name x (wants_of op (is_fit its-answer)) (Active after-op) now found g V v h);
       grows = grown;
       says = All-cons (IsTrue performed-world) (Client c, messages.Answer c request its-answer) [] tt (All-nil (IsTrue performed-world));

@@ -1,6 +1,6 @@
--- What a worker does with a going work, as steps of the machine: its next intention is carried out, or it is over.
+-- What a worker does with a prepared work, as steps of the machine: its next intention is carried out, or it goes.
 use Rattle.std.proofs.Common.{◌≡◌, ◌≢◌, ◌⊎◌, inl, inr, ℕ, suc, ◌+◌, Bool, true, false, List, [], ◌∷◌, take, Option, Some, None, is_some, refl, sym, ◌∙◌, ap, subst, arith}
-use Rattle.std.specs.Prelude.{if◌then◌else◌, slice_get}
+use Rattle.std.specs.Prelude.{if◌then◌else◌, slice_get, All}
 use Rattle.std.proofs.lemmas.List.Elements.{All-nil, All-cons}
 use Rattle.jn_base.specs.declared.names.ServerNo.{ServerNo}
 use Rattle.jn_base.specs.declared.names.Tid.{Tid}
@@ -17,7 +17,7 @@ use Rattle.jn_msgs.specs.declared.message.Message.{Message}
 use Rattle.jn_msgs.specs.declared.message.Message.TheVariants as messages
 use Rattle.jn_rows.specs.declared.worker.Work.{Work}
 use Rattle.jn_rows.specs.Stable.{StableState, Prepared, Pick, CarryOut, RemoveWork, is_going, made_by, at_work, stable}
-use Rattle.jn_rows.specs.Outcomes.{RowOutcome}
+use Rattle.jn_rows.specs.Outcomes.{RowOutcome, Sent}
 use Rattle.jn_rows.specs.Worker.{WorkerTable, work_at, without, going_work, going_row, carried_row, intentions_of, worker_step}
 use Rattle.jn_lock_rows.proofs.Works.{at-less}
 use Rattle.jn_machine.specs.World.{World as Machine}
@@ -29,21 +29,21 @@ use Rattle.jn_machine.specs.Messages.{Says}
 use Rattle.jn_machine.proofs.TraceLemmas.{take_zero}
 use Rattle.jn_protocol.specs.World.{World, Memory}
 use Rattle.jn_protocol.specs.LockFacts.{UpFact}
-use Rattle.jn_protocol.specs.Mirrors.{Mirrors, IsTrue, IsAddressed, working_of, next_in}
+use Rattle.jn_moves.specs.Mirrors.{Mirrors, IsTrue, IsAddressed, working_of, next_in}
 use Rattle.jn_protocol.specs.Servers.{Room, storage_of}
 use Rattle.jn_protocol.proofs.WorkerRows.{going-is}
 use Rattle.jn_protocol.proofs.Restored.{stored-fact}
-use Rattle.jn_protocol.proofs.GrantMoves.{active-here, found-here}
-use Rattle.jn_protocol.proofs.Mirrored.{some_made, made-one, DoesStop}
-use Rattle.jn_protocol.proofs.QuietMoves.{RowMoves, sends-moves}
-use Rattle.jn_protocol.proofs.Intended.{step-writes, step-more, take-end}
+use Rattle.jn_moves.proofs.GrantMoves.{active-here, found-here}
+use Rattle.jn_moves.proofs.Mirrored.{some_made, made-one, DoesStop}
+use Rattle.jn_moves.proofs.QuietMoves.{RowMoves, sends-moves}
+use Rattle.jn_moves.proofs.Intended.{step-writes, step-more, take-end}
 
 one-more : (n : ℕ) → suc n ≡ n + 1
 one-more n = omega arith
 
 module _ (r : World) (w : Machine) (s : ServerNo) (m : Memory) (mirrors : Mirrors r w) (is : r.memory s ≡ Some m) (up : UpFact s m (r.found s))
     (grow : (atoms : List Atom) → MayRun atoms w → (message : Message) → Says w message → Says (run atoms w) message) (inv : Invariant w)
-    (N : WorkId) (p : Prepared) (stored : (stable (r.found s)).works N ≡ Some p) (going : p.going ≡ true) where
+    (N : WorkId) (p : Prepared) (stored : (stable (r.found s)).works N ≡ Some p) where
   at : N.server ≡ s
   at = (stored-fact s m.worker m.tickets m.tickets.epoch (stable (r.found s)).works up.table up.server refl).place N p stored
 
@@ -67,7 +67,7 @@ module _ (r : World) (w : Machine) (s : ServerNo) (m : Memory) (mirrors : Mirror
 
   -- ---- an intention
 
-  module _ (i : Intention) (next : slice_get p.list (m.next N) ≡ Some i) where
+  module _ (going : p.going ≡ true) (i : Intention) (next : slice_get p.list (m.next N) ≡ Some i) where
     abbrev counted : Machine
     counted = run (Count N 0 ∷ []) w
 
@@ -151,6 +151,8 @@ module _ (r : World) (w : Machine) (s : ServerNo) (m : Memory) (mirrors : Mirror
       next = stop-next;
       ticket = λ q ne. refl;
       knowledge = λ U ne. refl;
+      history = refl;
+      ended = refl;
       grows = λ message h. grow (stop-atoms made) (may-stop made) message h;
     }
 
@@ -168,6 +170,8 @@ module _ (r : World) (w : Machine) (s : ServerNo) (m : Memory) (mirrors : Mirror
         ticket_here = mirrors.ticket s m is;
         ticket_elsewhere = λ q ne. refl;
         knowledge = λ U. refl;
+        history = refl;
+        ended = refl;
         owner = λ V v h. grow atoms may-all (messages.Inquire v.tid V) (mirrors.owner s m V v is h);
         grows = λ message h. grow atoms may-all message h;
         says = All-nil (IsTrue (run atoms w));
@@ -176,27 +180,21 @@ module _ (r : World) (w : Machine) (s : ServerNo) (m : Memory) (mirrors : Mirror
       stops = λ made. record { atoms = stop-atoms made; may = may-stop made; does = stop-does made };
     }
 
-  -- ---- nothing is left to carry out
+  -- ---- a work that goes from the stable state, and is over
 
-  module _ (T : Tid) (end : slice_get p.list (m.next N) ≡ None) where
-    prepared : (c : Pick) → IsPrepared w N.server (w.found N.server c) N p
-    prepared c = (inv.core.states N.server c).prepared N p (found-it c)
+  abbrev pub over-atoms : List Atom
+  over-atoms = Count N 0 ∷ Make always (RemoveWork N) ∷ NoteOver N ∷ []
 
-    all-written : (c : Pick) (u : LockUnit) (v : Option (List ℕ)) → list_change p.list u ≡ Some v → (w.found N.server c).files u ≡ v
-    all-written c u v h = (prepared c).next going u v (subst (λ n. list_change (take n p.list) u ≡ Some v) (sym (next-here N at)) (subst (λ l. list_change l u ≡ Some v) (sym (take-end p.list (m.next N) end)) h))
+  pub prepared : (c : Pick) → IsPrepared w N.server (w.found N.server c) N p
+  prepared c = (inv.core.states N.server c).prepared N p (found-it c)
 
-    same-stored : (c : Pick) (q : Prepared) → (w.found N.server c).works N ≡ Some q → p ≡ q
-    same-stored c q e = some (sym (found-it c) ∙ e)
-      where
-        some : Some p ≡ Some q → p ≡ q
-        some z = cc
+  pub same-stored : (c : Pick) (q : Prepared) → (w.found N.server c).works N ≡ Some q → p ≡ q
+  same-stored c q e = some (sym (found-it c) ∙ e)
+    where
+      some : Some p ≡ Some q → p ≡ q
+      some z = cc
 
-    may-remove : (c : Pick) → MayRemove (run (Count N 0 ∷ []) w) (w.found N.server c) N
-    may-remove c = record {
-      why = inl ((prepared c).going going);
-      done = λ q e n u v h. all-written c u v (subst (λ (z : Prepared). list_change z.list u ≡ Some v) (sym (same-stored c q e)) h);
-    }
-
+  module _ (may-remove : (c : Pick) → MayRemove (run (Count N 0 ∷ []) w) (w.found N.server c) N) where
     removed : (c : Pick) → ((run (Count N 0 ∷ Make always (RemoveWork N) ∷ []) w).found N.server c).works N ≡ None
     removed c = by (server_tells N.server N.server) (work_tells N N)
       where
@@ -210,14 +208,8 @@ module _ (r : World) (w : Machine) (s : ServerNo) (m : Memory) (mirrors : Mirror
     may-over : MayBeOver (run (Count N 0 ∷ Make always (RemoveWork N) ∷ []) w) N
     may-over = record { opened = (prepared (λ n. false)).opened; not_active = (prepared (λ n. false)).not_active; nowhere = removed }
 
-    abbrev over-atoms : List Atom
-    over-atoms = Count N 0 ∷ Make always (RemoveWork N) ∷ NoteOver N ∷ []
-
     may-end : MayRun over-atoms w
     may-end = (none-yet w is-up, (may-remove, (may-over, tt)))
-
-    over-now : at_work w.over N true N ≡ true
-    over-now = grind (arith, work_tells N N)
 
     abbrev Is : WorkId → Type 0
     Is V = ((work_eq N V ≡ true) × (N ≡ V)) ⊎ ((work_eq N V ≡ false) × (N ≢ V))
@@ -247,11 +239,11 @@ module _ (r : World) (w : Machine) (s : ServerNo) (m : Memory) (mirrors : Mirror
     may-end-stop : (made : Pick → ℕ) → MayRun (over-stops made) w
     may-end-stop made = (none-yet w is-up, (may-remove, tt))
 
-    abbrev over-row : RowOutcome WorkerTable
-    over-row = record { table = without N m.worker; changes = RemoveWork N ∷ []; messages = (Server T.server, messages.Done T N) ∷ []; notes = []; tickets = m.tickets }
+    abbrev over-row : List Sent → RowOutcome WorkerTable
+    over-row sent = record { table = without N m.worker; changes = RemoveWork N ∷ []; messages = sent; notes = []; tickets = m.tickets }
 
-    over-stop-does : (made : Pick → ℕ) → DoesStop s over-row made w (run (over-stops made) w)
-    over-stop-does made = record {
+    over-stop-does : (sent : List Sent) (made : Pick → ℕ) → DoesStop s (over-row sent) made w (run (over-stops made) w)
+    over-stop-does sent made = record {
       up = λ q. refl;
       found = λ q c. ap (λ (z : ServerNo). if server_eq z q then (if some_made (made c) then made_by (RemoveWork N) (w.found z c) else w.found z c) else w.found q c) at
           ∙ ap (λ z. if server_eq s q then z else w.found q c) (made-one (RemoveWork N) (made c) (w.found s c));
@@ -259,11 +251,13 @@ module _ (r : World) (w : Machine) (s : ServerNo) (m : Memory) (mirrors : Mirror
       next = λ V ne. zero-there V ne (work_tells N V);
       ticket = λ q ne. refl;
       knowledge = λ U ne. refl;
+      history = refl;
+      ended = refl;
       grows = λ message h. grow (over-stops made) (may-end-stop made) message h;
     }
 
-    pub over-moves : RowMoves s m over-row w
-    over-moves = record {
+    pub remove-moves : (sent : List Sent) → All (IsTrue (run over-atoms w)) sent → All IsAddressed sent → RowMoves s m (over-row sent) w
+    remove-moves sent says addressed = record {
       atoms = over-atoms;
       may = may-end;
       does = record {
@@ -276,13 +270,34 @@ module _ (r : World) (w : Machine) (s : ServerNo) (m : Memory) (mirrors : Mirror
         ticket_here = mirrors.ticket s m is;
         ticket_elsewhere = λ q ne. refl;
         knowledge = λ U. refl;
+        history = refl;
+        ended = refl;
         owner = λ V v h. grow over-atoms may-end (messages.Inquire v.tid V) (owner-left V v (work_tells N V) (sym (at-less V N m.worker up.table.rising) ∙ h));
         grows = λ message h. grow over-atoms may-end message h;
-        says = All-cons (IsTrue (run over-atoms w)) (Server T.server, messages.Done T N) [] over-now (All-nil (IsTrue (run over-atoms w)));
-        addressed = All-cons IsAddressed (Server T.server, messages.Done T N) [] tt (All-nil IsAddressed);
+        says = says;
+        addressed = addressed;
       };
-      stops = λ made. record { atoms = over-stops made; may = may-end-stop made; does = over-stop-does made };
+      stops = λ made. record { atoms = over-stops made; may = may-end-stop made; does = over-stop-does sent made };
     }
+
+  -- ---- nothing is left to carry out
+
+  module _ (going : p.going ≡ true) (T : Tid) (end : slice_get p.list (m.next N) ≡ None) where
+    all-written : (c : Pick) (u : LockUnit) (v : Option (List ℕ)) → list_change p.list u ≡ Some v → (w.found N.server c).files u ≡ v
+    all-written c u v h = (prepared c).next going u v (subst (λ n. list_change (take n p.list) u ≡ Some v) (sym (next-here N at)) (subst (λ l. list_change l u ≡ Some v) (sym (take-end p.list (m.next N) end)) h))
+
+    may-remove : (c : Pick) → MayRemove (run (Count N 0 ∷ []) w) (w.found N.server c) N
+    may-remove c = record {
+      why = inl ((prepared c).going going);
+      done = λ q e n u v h. all-written c u v (subst (λ (z : Prepared). list_change z.list u ≡ Some v) (sym (same-stored c q e)) h);
+    }
+
+    over-now : at_work w.over N true N ≡ true
+    over-now = grind (arith, work_tells N N)
+
+    pub over-moves : RowMoves s m (record { table = without N m.worker; changes = RemoveWork N ∷ []; messages = (Server T.server, messages.Done T N) ∷ []; notes = []; tickets = m.tickets }) w
+    over-moves = remove-moves may-remove ((Server T.server, messages.Done T N) ∷ []) (All-cons (IsTrue (run over-atoms w)) (Server T.server, messages.Done T N) [] over-now (All-nil (IsTrue (run over-atoms w))))
+        (All-cons IsAddressed (Server T.server, messages.Done T N) [] refl (All-nil IsAddressed))
 
 -- ---- a background step
 

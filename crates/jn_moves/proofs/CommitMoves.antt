@@ -24,10 +24,10 @@ use Rattle.jn_machine.specs.Messages.{Says}
 use Rattle.jn_protocol.specs.World.{World, Memory}
 use Rattle.jn_protocol.specs.Servers.{Room, storage_of}
 use Rattle.jn_protocol.specs.LockFacts.{UpFact}
-use Rattle.jn_protocol.specs.Mirrors.{Mirrors, IsTrue, IsAddressed, working_of, next_in}
-use Rattle.jn_protocol.proofs.GrantMoves.{active-here, found-here, found-same}
-use Rattle.jn_protocol.proofs.Mirrored.{some_made, made-one, DoesStop}
-use Rattle.jn_protocol.proofs.QuietMoves.{RowMoves, still-stops, sends-moves}
+use Rattle.jn_moves.specs.Mirrors.{Mirrors, IsTrue, IsAddressed, working_of, next_in}
+use Rattle.jn_moves.proofs.GrantMoves.{active-here, found-here, found-same}
+use Rattle.jn_moves.proofs.Mirrored.{some_made, made-one, DoesStop}
+use Rattle.jn_moves.proofs.QuietMoves.{RowMoves, still-stops, sends-moves}
 
 module _ (r : World) (w : Machine) (s : ServerNo) (m : Memory) (mirrors : Mirrors r w) (is : r.memory s ≡ Some m) (up : UpFact s m (r.found s))
     (grow : (atoms : List Atom) → MayRun atoms w → (message : Message) → Says w message → Says (run atoms w) message) (parts : PartFact w)
@@ -76,10 +76,12 @@ module _ (r : World) (w : Machine) (s : ServerNo) (m : Memory) (mirrors : Mirror
         ticket_here = mirrors.ticket s m is;
         ticket_elsewhere = λ q ne. refl;
         knowledge = λ U. refl;
+        history = refl;
+        ended = refl;
         owner = λ V v h. grow (NoteOver W ∷ []) may-over (messages.Inquire v.tid V) (mirrors.owner s m V v is h);
         grows = λ message h. grow (NoteOver W ∷ []) may-over message h;
         says = All-cons (IsTrue (run (NoteOver W ∷ []) w)) (Server T.server, messages.Done T W) [] (over-now (work_tells W W)) (All-nil (IsTrue (run (NoteOver W ∷ []) w)));
-        addressed = All-cons IsAddressed (Server T.server, messages.Done T W) [] tt (All-nil IsAddressed);
+        addressed = All-cons IsAddressed (Server T.server, messages.Done T W) [] refl (All-nil IsAddressed);
       };
       stops = still-stops r w s m mirrors is up _ refl;
     }
@@ -105,6 +107,8 @@ module _ (r : World) (w : Machine) (s : ServerNo) (m : Memory) (mirrors : Mirror
       next = λ V ne. refl;
       ticket = λ q ne. refl;
       knowledge = λ U ne. refl;
+      history = refl;
+      ended = refl;
       grows = λ message h. grow (Make (λ p. some_made (made p)) (MarkGoing W) ∷ []) (may-mark (λ p. some_made (made p))) message h;
     }
 
@@ -122,6 +126,8 @@ module _ (r : World) (w : Machine) (s : ServerNo) (m : Memory) (mirrors : Mirror
         ticket_here = mirrors.ticket s m is;
         ticket_elsewhere = λ q ne. refl;
         knowledge = λ U. refl;
+        history = refl;
+        ended = refl;
         owner = λ V v h. grow (Make always (MarkGoing W) ∷ []) (may-mark always) (messages.Inquire v.tid V) (mirrors.owner s m V v is h);
         grows = λ message h. grow (Make always (MarkGoing W) ∷ []) (may-mark always) message h;
         says = All-nil (IsTrue (run (Make always (MarkGoing W) ∷ []) w));

@@ -12,7 +12,7 @@ use Rattle.jn_rows.specs.Coordinator.{is_work}
 use Rattle.jn_machine.specs.World.{World as Machine, Working}
 use Rattle.jn_machine.specs.Steps.{Atom, Lose, lose, run}
 use Rattle.jn_machine.specs.Premises.{MayRun}
-use Rattle.jn_protocol.specs.Mirrors.{working_of}
+use Rattle.jn_moves.specs.Mirrors.{working_of}
 
 abbrev pub loses : List WorkId → List Atom
 loses [] = []

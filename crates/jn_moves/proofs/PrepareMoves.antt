@@ -30,15 +30,15 @@ use Rattle.jn_machine.specs.Premises.{MayRun, MayPrepare}
 use Rattle.jn_machine.specs.Messages.{Says, IsPartOf}
 use Rattle.jn_protocol.specs.World.{World, Memory}
 use Rattle.jn_protocol.specs.LockFacts.{UpFact, TableFact, StoredFact, IsSoundWork, IsSoundActive}
-use Rattle.jn_protocol.specs.Mirrors.{Mirrors, IsTrue, IsAddressed, working_of, working_in, next_in}
+use Rattle.jn_moves.specs.Mirrors.{Mirrors, IsTrue, IsAddressed, working_of, working_in, next_in}
 use Rattle.jn_protocol.proofs.Granted.{Regrants, granted}
 use Rattle.jn_protocol.proofs.Rows.{prepared-keeps}
 use Rattle.jn_protocol.proofs.Restored.{stored-fact}
-use Rattle.jn_protocol.proofs.Losing.{loses, lost, lose_all, run-loses, run-append, may-lose}
-use Rattle.jn_protocol.proofs.GrantMoves.{found-here, broken, its-server, own-now, left-own, left-here, left-elsewhere, elsewhere-other, owner-now}
-use Rattle.jn_protocol.proofs.OpMoves.{reads-free}
-use Rattle.jn_protocol.proofs.Mirrored.{some_made, made-one, DoesRow, DoesStop}
-use Rattle.jn_protocol.proofs.QuietMoves.{RowMoves}
+use Rattle.jn_moves.proofs.Losing.{loses, lost, lose_all, run-loses, run-append, may-lose}
+use Rattle.jn_moves.proofs.GrantMoves.{found-here, broken, its-server, own-now, left-own, left-here, left-elsewhere, elsewhere-other, owner-now}
+use Rattle.jn_moves.proofs.OpMoves.{reads-free}
+use Rattle.jn_moves.proofs.Mirrored.{some_made, made-one, DoesRow, DoesStop}
+use Rattle.jn_moves.proofs.QuietMoves.{RowMoves}
 
 false-unless : (b : Bool) → (b ≡ true → ⊥) → b ≡ false
 false-unless b h = grind arith
@@ -222,11 +222,13 @@ module _ (r : World) (w : Machine) (s : ServerNo) (m : Memory) (mirrors : Mirror
     ticket_here = mirrors.ticket s m is;
     ticket_elsewhere = λ q ne. refl;
     knowledge = λ U. refl;
+    history = refl;
+    ended = refl;
     owner = λ V v h. grown (messages.Inquire v.tid V) (owner-now r w s m mirrors is up x.name x (commit_wants a.writes) phase now found g V v h);
     grows = grown;
     says = All-cons (IsTrue prepared-world) (Server T.server, messages.Vote T x.name votes.Ready) []
         (was-ready, grown (messages.Prepare T c x.name) said) (All-nil (IsTrue prepared-world));
-    addressed = All-cons IsAddressed (Server T.server, messages.Vote T x.name votes.Ready) [] tt (All-nil IsAddressed);
+    addressed = All-cons IsAddressed (Server T.server, messages.Vote T x.name votes.Ready) [] refl (All-nil IsAddressed);
   }
 
   -- ---- where it is stopped
@@ -255,6 +257,8 @@ module _ (r : World) (w : Machine) (s : ServerNo) (m : Memory) (mirrors : Mirror
       next = λ W ne. refl;
       ticket = λ q ne. refl;
       knowledge = λ U ne. refl;
+      history = refl;
+      ended = refl;
       grows = λ message h. subst (λ (v : Machine). Says v message) stop-ran (grow stop-atoms may-stop message h);
     }
 

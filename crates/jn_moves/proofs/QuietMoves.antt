@@ -24,9 +24,10 @@ use Rattle.jn_machine.specs.Premises.{MayRun}
 use Rattle.jn_machine.specs.Messages.{Says}
 use Rattle.jn_protocol.specs.World.{World, Memory}
 use Rattle.jn_protocol.specs.LockFacts.{UpFact}
-use Rattle.jn_protocol.specs.Mirrors.{Mirrors, IsTrue, IsAddressed, working_of, working_in, next_in}
-use Rattle.jn_protocol.proofs.GrantMoves.{active-here, found-here, found-same}
-use Rattle.jn_protocol.proofs.Mirrored.{DoesRow, DoesStop}
+use Rattle.jn_protocol.specs.Servers.{of_worker}
+use Rattle.jn_moves.specs.Mirrors.{Mirrors, IsTrue, IsAddressed, working_of, working_in, next_in}
+use Rattle.jn_moves.proofs.GrantMoves.{active-here, found-here, found-same}
+use Rattle.jn_moves.proofs.Mirrored.{DoesRow, DoesStop, DoesServer, StopsServer, named_by, worker-does, worker-stops}
 
 -- steps of the machine that may come, and change what a stopped row has changed
 pub record StopMoves (s : ServerNo) (row : RowOutcome WorkerTable) (made : Pick → ℕ) (w : Machine) : Type 0 where
@@ -41,6 +42,26 @@ pub record RowMoves (s : ServerNo) (m : Memory) (row : RowOutcome WorkerTable) (
   pub does : DoesRow s m row w (run atoms w)
   -- and where it is stopped
   pub stops : (made : Pick → ℕ) → StopMoves s row made w
+
+-- the same of a row of both tables
+pub record ServerStops (s : ServerNo) (row : RowOutcome Memory) (made : Pick → ℕ) (w : Machine) : Type 0 where
+  pub atoms : List Atom
+  pub may : MayRun atoms w
+  pub does : StopsServer s row made w (run atoms w)
+
+pub record ServerMoves (s : ServerNo) (row : RowOutcome Memory) (w : Machine) : Type 0 where
+  pub atoms : List Atom
+  pub may : MayRun atoms w
+  pub does : DoesServer s row w (run atoms w)
+  pub stops : (made : Pick → ℕ) → ServerStops s row made w
+
+pub worker-moves : (r : World) (w : Machine) (s : ServerNo) (m : Memory) (row : RowOutcome WorkerTable) → Mirrors r w → r.memory s ≡ Some m → named_by row.notes ≡ [] → RowMoves s m row w → ServerMoves s (of_worker m row) w
+worker-moves r w s m row mirrors is none moves = record {
+  atoms = moves.atoms;
+  may = moves.may;
+  does = worker-does r w (run moves.atoms w) s m row mirrors is none moves.does;
+  stops = λ made. let stop = moves.stops made in record { atoms = stop.atoms; may = stop.may; does = worker-stops s m row made w (run stop.atoms w) stop.does };
+}
 
 some-same : {A : Type 0} → (a b : A) → Some a ≡ Some b → a ≡ b
 some-same a b e = cc
@@ -66,6 +87,8 @@ module _ (r : World) (w : Machine) (s : ServerNo) (m : Memory) (mirrors : Mirror
       next = λ W ne. refl;
       ticket = λ q ne. refl;
       knowledge = λ T ne. refl;
+      history = refl;
+      ended = refl;
       grows = λ message h. h;
     };
   }
@@ -87,6 +110,8 @@ module _ (r : World) (w : Machine) (s : ServerNo) (m : Memory) (mirrors : Mirror
       ticket_here = mirrors.ticket s m is;
       ticket_elsewhere = λ q ne. refl;
       knowledge = λ T. refl;
+      history = refl;
+      ended = refl;
       owner = owner;
       grows = λ message h. h;
       says = says.0;
@@ -200,6 +225,8 @@ module _ (r : World) (w : Machine) (s : ServerNo) (m : Memory) (mirrors : Mirror
         ticket_here = ticket-here;
         ticket_elsewhere = ticket-there;
         knowledge = λ U. refl;
+        history = refl;
+        ended = refl;
         owner = owner-now;
         grows = λ message h. grow (Open (name_from m.tickets) T ∷ []) may-open message h;
         says = All-cons (IsTrue machine) (Client c, messages.Opened c request T (Some (name_from m.tickets))) [] opened-now (All-nil (IsTrue machine));

@@ -13,9 +13,6 @@ take_one i list n = grind arith
 some-same : (a b : Intention) → Some a ≡ Some b → a ≡ b
 some-same a b e = cc
 
-later : {A : Type 0} → (a b : Option A) → is_some b ≡ true → is_some (or_also a b) ≡ true
-later a b h = grind arith
-
 earlier : {A : Type 0} → (a b : Option A) → is_some a ≡ true → is_some (or_also a b) ≡ true
 earlier a b h = grind arith
 

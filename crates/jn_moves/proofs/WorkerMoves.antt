@@ -35,15 +35,15 @@ use Rattle.jn_lock_rows.proofs.Works.{found-name}
 use Rattle.jn_protocol.specs.World.{World, Memory}
 use Rattle.jn_protocol.specs.Servers.{Room, storage_of}
 use Rattle.jn_protocol.specs.LockFacts.{UpFact, IsSoundWork, IsSoundPrepared}
-use Rattle.jn_protocol.specs.Mirrors.{Mirrors, IsTrue, IsAddressed, working_in, next_in}
+use Rattle.jn_moves.specs.Mirrors.{Mirrors, IsTrue, IsAddressed, working_in, next_in}
 use Rattle.jn_protocol.proofs.Rows.{by-name}
 use Rattle.jn_protocol.proofs.Tables.{of-found}
 use Rattle.jn_protocol.proofs.WorkerRows.{no-lock}
-use Rattle.jn_protocol.proofs.GrantMoves.{found-here, found-same, active-here}
-use Rattle.jn_protocol.proofs.Mirrored.{DoesRow}
-use Rattle.jn_protocol.proofs.QuietMoves.{RowMoves, still-stops, sends-moves, phase-moves, open-moves}
-use Rattle.jn_protocol.proofs.OpMoves.{atoms, may-op, op-does, op-ran}
-use Rattle.jn_protocol.proofs.PrepareMoves.{prepare-moves}
+use Rattle.jn_moves.proofs.GrantMoves.{found-here, found-same, active-here}
+use Rattle.jn_moves.proofs.Mirrored.{DoesRow}
+use Rattle.jn_moves.proofs.QuietMoves.{RowMoves, still-stops, sends-moves, phase-moves, open-moves}
+use Rattle.jn_moves.proofs.OpMoves.{atoms, may-op, op-does, op-ran}
+use Rattle.jn_moves.proofs.PrepareMoves.{prepare-moves}
 
 either : (s : ServerNo) (m : Memory) (w : Machine) (b : Bool) (p q : RowOutcome WorkerTable) → RowMoves s m p w → RowMoves s m q w → RowMoves s m (if b then p else q) w
 either s m w true p q h l = h
@@ -110,7 +110,7 @@ module _ (r : World) (w : Machine) (s : ServerNo) (m : Memory) (mirrors : Mirror
 
   module _ (room : Room) (T : Tid) (c : ClientNo) (x : Work) (found : work_at x.name m.worker ≡ Some x) (said : IsPartOf w T x.name) where
     votes-no : (vote : Vote) → Says w (messages.Vote T x.name vote) → RowMoves s m (record { table = m.worker; changes = []; messages = (Server T.server, messages.Vote T x.name vote) ∷ []; notes = []; tickets = m.tickets }) w
-    votes-no vote h = sends-moves r w s m mirrors is up _ [] (one (Server T.server, messages.Vote T x.name vote) h tt)
+    votes-no vote h = sends-moves r w s m mirrors is up _ [] (one (Server T.server, messages.Vote T x.name vote) h refl)
 
     voted : (a : ActiveWork) (vote : Vote) → x.phase ≡ Active a → conflict x.name (commit_wants a.writes) m.worker ≡ None → RowMoves s m (prepared_row m.worker m.tickets T c x a vote) w
     voted a votes.Ready e free = prepare-moves r w s m mirrors is up grow parts x a found e T c said free
@@ -140,11 +140,13 @@ module _ (r : World) (w : Machine) (s : ServerNo) (m : Memory) (mirrors : Mirror
         ticket_here = mirrors.ticket s m is;
         ticket_elsewhere = λ q ne. refl;
         knowledge = λ U. refl;
+        history = refl;
+        ended = refl;
         owner = λ V v h. grow (NoteReady x.name ∷ []) may (messages.Inquire v.tid V) (mirrors.owner s m V v is h);
         grows = λ message h. grow (NoteReady x.name ∷ []) may message h;
         says = All-cons (IsTrue (run (NoteReady x.name ∷ []) w)) (Server T.server, messages.Vote T x.name votes.Ready) [] (noted (work_tells x.name x.name), grow (NoteReady x.name ∷ []) may (messages.Prepare T c x.name) said)
             (All-nil (IsTrue (run (NoteReady x.name ∷ []) w)));
-        addressed = All-cons IsAddressed (Server T.server, messages.Vote T x.name votes.Ready) [] tt (All-nil IsAddressed);
+        addressed = All-cons IsAddressed (Server T.server, messages.Vote T x.name votes.Ready) [] refl (All-nil IsAddressed);
       };
       stops = still-stops r w s m mirrors is up _ refl;
     }
@@ -165,4 +167,4 @@ module _ (r : World) (w : Machine) (s : ServerNo) (m : Memory) (mirrors : Mirror
   pub prepares-move : (room : Room) (T : Tid) (c : ClientNo) (W : WorkId) (o : Option Work) → work_at W m.worker ≡ o → IsPartOf w T W
       → RowMoves s m (prepare_row m.worker (storage_of m (stable (r.found s)) room) m.tickets T c W o) w
   prepares-move room T c W (Some x) h said = by-stage room T c x (by-name W m.worker x h) (subst (λ (U : WorkId). IsPartOf w T U) (sym (found-name W m.worker x h)) said) x.phase refl
-  prepares-move room T c W None h said = sends-moves r w s m mirrors is up _ [] (one (Server T.server, messages.Vote T W _) (tt, said) tt)
+  prepares-move room T c W None h said = sends-moves r w s m mirrors is up _ [] (one (Server T.server, messages.Vote T W _) (tt, said) refl)
