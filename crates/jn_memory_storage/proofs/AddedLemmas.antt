@@ -23,10 +23,10 @@ use Rattle.jn_storage.specs.Calls.{name_of, outline, outline_of, MayPrepare, Wor
 use Rattle.jn_storage.specs.declared.faults.PrepareFault.{PrepareFault}
 use Rattle.jn_storage.proofs.Listings.{total-same}
 use Rattle.jn_memory_storage.specs.declared.parts.WorkList.{WorkList}
-use Rattle.jn_memory_storage.specs.Find.{find_by}
+use Rattle.jn_storage.specs.Finding.{find_by}
 use Rattle.jn_memory_storage.specs.Memory.{MemoryState, IsTold, IsKept, state_of, accounts_of, view_of, work_of, items_of, prepared_in, list_in, next_by, next_in, puts_from, held_in}
 use Rattle.jn_memory_storage.specs.Carried.{stored_as, address_by}
-use Rattle.jn_memory_storage.proofs.Finds.{find-key, find-listed, find-add, different-add, map-add, total-add}
+use Rattle.jn_storage.proofs.Finds.{find-key, find-listed, find-add, different-add, map-add, total-add}
 use Rattle.jn_memory_storage.proofs.Serving.{serving-of}
 use Rattle.jn_memory_storage.proofs.FlagLemmas.{called-memory}
 use Rattle.jn_memory_storage.proofs.WorkLemmas.{by-test, same-as}

@@ -17,10 +17,10 @@ use Rattle.jn_storage.proofs.Listings.{total-but}
 use Rattle.jn_storage.proofs.Laws.{called_not}
 use Rattle.jn_memory_storage.specs.declared.parts.StoredBlock.{StoredBlock}
 use Rattle.jn_memory_storage.specs.declared.parts.WorkList.{WorkList}
-use Rattle.jn_memory_storage.specs.Find.{find_by}
+use Rattle.jn_storage.specs.Finding.{find_by}
 use Rattle.jn_memory_storage.specs.Memory.{MemoryState, IsKept, state_of, view_of, work_of, prepared_in, list_in, next_by, puts_from, held_in}
 use Rattle.jn_memory_storage.specs.Carried.{blocks_carried, files_carried, carried_to}
-use Rattle.jn_memory_storage.proofs.Finds.{find-listed}
+use Rattle.jn_storage.proofs.Finds.{find-listed}
 use Rattle.jn_memory_storage.proofs.Serving.{serving-of}
 use Rattle.jn_memory_storage.proofs.FlagLemmas.{called-memory}
 use Rattle.jn_memory_storage.proofs.RemovedLemmas.{IsRemoval, without_work, needs-are, removed-kept, work-removed}

@@ -20,10 +20,10 @@ use Rattle.jn_locks.proofs.Orders.{unit_tells}
 use Rattle.jn_storage.specs.Listing.{is_in, are_different}
 use Rattle.jn_storage.proofs.Intended.{one_if}
 use Rattle.jn_memory_storage.specs.declared.parts.StoredBlock.{StoredBlock}
-use Rattle.jn_memory_storage.specs.Find.{find_by}
+use Rattle.jn_storage.specs.Finding.{find_by}
 use Rattle.jn_memory_storage.specs.Memory.{files_of, unit_of_block, bytes_of, puts_from}
 use Rattle.jn_memory_storage.specs.Carried.{keeps_by, keeps_block, block_of, added_blocks, blocks_carried, files_by, files_carried}
-use Rattle.jn_memory_storage.proofs.Finds.{find-kept, in-add, different-kept, different-add, keys-kept, length-kept, map-add}
+use Rattle.jn_storage.proofs.Finds.{find-kept, in-add, different-kept, different-add, keys-kept, length-kept, map-add}
 
 in-filter : {K : Type 0} (eq : K → K → Bool) (keep : K → Bool) → ((a b : K) → ((eq a b ≡ true) × (a ≡ b)) ⊎ ((eq a b ≡ false) × (a ≢ b))) → (k : K) (ks : List K) → is_in eq k (filter keep ks) ≡ (is_in eq k ks && keep k)
 in-filter eq keep tells k [] = refl

@@ -19,9 +19,9 @@ use Rattle.jn_storage.specs.declared.faults.PromiseFault.TheVariants.{Short as S
 use Rattle.jn_storage.proofs.Listings.{Tells}
 use Rattle.jn_storage.proofs.Laws.{loadable}
 use Rattle.jn_storage.proofs.Kept.{orderly-put, orderly-dropped}
-use Rattle.jn_memory_storage.specs.Find.{find_by}
+use Rattle.jn_storage.specs.Finding.{find_by}
 use Rattle.jn_memory_storage.specs.Memory.{MemoryState, IsKept, state_of, accounts_of, view_of, flag_in}
-use Rattle.jn_memory_storage.proofs.Finds.{find-listed, find-at, find-add, find-kept, keys-kept, different-kept, different-add, map-add}
+use Rattle.jn_storage.proofs.Finds.{find-listed, find-at, find-add, find-kept, keys-kept, different-kept, different-add, map-add}
 use Rattle.jn_memory_storage.proofs.Serving.{serving-of}
 
 -- a call is served where the storage still serves

@@ -1,4 +1,3 @@
-pub mod Finds
 pub mod Serving
 pub mod FlagLemmas
 pub mod Reading

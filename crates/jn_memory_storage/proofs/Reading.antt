@@ -12,7 +12,7 @@ use Rattle.jn_storage.specs.Listing.{is_in}
 use Rattle.jn_memory_storage.specs.declared.parts.StoredBlock.{StoredBlock}
 use Rattle.jn_memory_storage.specs.Find.{better, comes_before}
 use Rattle.jn_memory_storage.specs.Memory.{files_of}
-use Rattle.jn_memory_storage.proofs.Finds.{in-add}
+use Rattle.jn_storage.proofs.Finds.{in-add}
 
 -- one file more
 next-new : (old new : Files) (after best : Option FileNo) (x : FileNo) → ((g : FileNo) → file_there new g ≡ (file_there old g || file_eq x g)) → NextFile old after best → is_above after x ≡ true → comes_before x best ≡ true → IsNext new after x

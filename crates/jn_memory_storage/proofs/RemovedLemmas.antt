@@ -17,9 +17,9 @@ use Rattle.jn_storage.proofs.Listings.{but, total-same, total-but, is_in-but}
 use Rattle.jn_storage.proofs.Intended.{needs}
 use Rattle.jn_storage.proofs.Kept.{orderly-removed}
 use Rattle.jn_memory_storage.specs.declared.parts.WorkList.{WorkList}
-use Rattle.jn_memory_storage.specs.Find.{find_by}
+use Rattle.jn_storage.specs.Finding.{find_by}
 use Rattle.jn_memory_storage.specs.Memory.{MemoryState, IsTold, IsKept, state_of, view_of, work_of, items_of, prepared_in, list_in, next_by, next_in, puts_from, held_in}
-use Rattle.jn_memory_storage.proofs.Finds.{find-key, find-listed, find-kept, keys-kept, different-kept, but-kept}
+use Rattle.jn_storage.proofs.Finds.{find-key, find-listed, find-kept, keys-kept, different-kept, but-kept}
 use Rattle.jn_memory_storage.proofs.Serving.{serving-of}
 use Rattle.jn_memory_storage.proofs.FlagLemmas.{called-memory, length-less}
 use Rattle.jn_memory_storage.proofs.WorkLemmas.{by-test, length-replicate}

@@ -21,9 +21,9 @@ use Rattle.jn_storage.specs.Storage.{IsServing, IsRecovered, is_stored, intentio
 use Rattle.jn_storage.specs.Calls.{name_of, tid_of}
 use Rattle.jn_memory_storage.specs.declared.parts.StoredBlock.{StoredBlock}
 use Rattle.jn_memory_storage.specs.declared.parts.WorkList.{WorkList}
-use Rattle.jn_memory_storage.specs.Find.{find_by}
+use Rattle.jn_storage.specs.Finding.{find_by}
 use Rattle.jn_memory_storage.specs.Memory.{MemoryState, blank, IsKept, state_of, view_of, unit_of_block, bytes_of, files_of, prepared_in, flag_in, next_by, next_in, puts_from}
-use Rattle.jn_memory_storage.proofs.Finds.{find-listed}
+use Rattle.jn_storage.proofs.Finds.{find-listed}
 
 pub prepared-some : (lists : List WorkList) (o : Option WorkState) → is_some (prepared_in lists o) ≡ is_some o
 prepared-some lists None = refl

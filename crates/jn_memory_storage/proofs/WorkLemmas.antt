@@ -18,10 +18,10 @@ use Rattle.jn_storage.specs.Calls.{name_of, TellsWorks, MarkedGoing, StepApplied
 use Rattle.jn_storage.proofs.Listings.{but, total-same, total-but, is_in-but}
 use Rattle.jn_storage.proofs.Intended.{one_if}
 use Rattle.jn_storage.proofs.Kept.{orderly-marked, orderly-carried, promises-carried, makes_file}
-use Rattle.jn_memory_storage.specs.Find.{find_by}
+use Rattle.jn_storage.specs.Finding.{find_by}
 use Rattle.jn_memory_storage.specs.Memory.{MemoryState, IsTold, IsKept, state_of, accounts_of, view_of, files_of, prepared_in, list_in, next_by, next_in, puts_from, held_in}
 use Rattle.jn_memory_storage.specs.Carried.{going_on, carried_to, blocks_carried, files_carried}
-use Rattle.jn_memory_storage.proofs.Finds.{find-listed, find-at, find-set, keys-set}
+use Rattle.jn_storage.proofs.Finds.{find-listed, find-at, find-set, keys-set}
 use Rattle.jn_memory_storage.proofs.Serving.{serving-of, prepared-some}
 use Rattle.jn_memory_storage.proofs.FlagLemmas.{called-memory}
 use Rattle.jn_memory_storage.proofs.CarriedLemmas.{files-after, files-differ, blocks-differ, files-length, blocks-length, puts-step}

@@ -1,12 +1,7 @@
--- Lists whose elements have keys.
-use Rattle.std.specs.Prelude.{Bool, true, nat_lt, List, [], ◌∷◌, Option, Some, None, ◌&&◌, if◌then◌else◌}
+-- The least file above another.
+use Rattle.std.specs.Prelude.{Bool, true, nat_lt, Option, Some, None, ◌&&◌, if◌then◌else◌}
 use Rattle.jn_base.specs.declared.names.FileNo.{FileNo}
 use Rattle.jn_storage.specs.Calls.{is_above}
-
--- the first element with the key
-abbrev pub find_by : {A K : Type 0} → (K → K → Bool) → (A → K) → List A → K → Option A
-find_by eq key [] k = None
-find_by eq key (x ∷ xs) k = if eq (key x) k then Some x else find_by eq key xs k
 
 -- whether a file is less than the best so far, if there is one
 abbrev pub comes_before : FileNo → Option FileNo → Bool

@@ -21,7 +21,7 @@ use Rattle.jn_storage.specs.Storage.{Accounts, StorageView, IsServing, needed, l
 use Rattle.jn_storage.specs.Calls.{outline, outline_of, name_of, tid_of}
 use Rattle.jn_memory_storage.specs.declared.parts.StoredBlock.{StoredBlock}
 use Rattle.jn_memory_storage.specs.declared.parts.WorkList.{WorkList}
-use Rattle.jn_memory_storage.specs.Find.{find_by}
+use Rattle.jn_storage.specs.Finding.{find_by}
 
 pub record MemoryState : Type 0 where
   pub server : ServerNo

@@ -6,7 +6,7 @@ ghost use Rattle.jn_records.specs.declared.work.WorkState.{WorkState};
 ghost use Rattle.jn_locks.specs.Locks.{unit_eq};
 ghost use Rattle.jn_storage.specs.Listing.{is_in};
 ghost use Rattle.jn_storage.specs.Calls.{name_of};
-ghost use Rattle.jn_memory_storage.specs.Find.{find_by};
+ghost use Rattle.jn_storage.specs.Finding.{find_by};
 ghost use Rattle.jn_memory_storage.specs.Memory.{unit_of_block, bytes_of, list_in};
 
 use crate::parts::{StoredBlock, WorkList};

@@ -3,3 +3,4 @@ pub mod Listings
 pub mod Intended
 pub mod Kept
 pub mod Seen
+pub mod Finds

@@ -3,3 +3,4 @@ pub mod Orderly
 pub mod Storage
 pub mod Calls
 pub mod Viewing
+pub mod Finding

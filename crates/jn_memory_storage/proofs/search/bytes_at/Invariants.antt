@@ -1,7 +1,7 @@
 use Rattle.std.proofs.Common.{◌≡◌, drop}
 use Rattle.jn_base.specs.declared.names.LockUnit.TheVariants.{Block}
 use Rattle.jn_locks.specs.Locks.{unit_eq}
-use Rattle.jn_memory_storage.specs.Find.{find_by}
+use Rattle.jn_storage.specs.Finding.{find_by}
 use Rattle.jn_memory_storage.specs.Memory.{unit_of_block}
 use Rattle.jn_memory_storage.proofs.search.bytes_at.Given as goal
 

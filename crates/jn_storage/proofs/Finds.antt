@@ -3,7 +3,7 @@ use Rattle.std.proofs.Common.{◌≡◌, ℕ, zero, suc, ◌<◌, ◌≤◌, ◌
 use Rattle.std.specs.Prelude.{filter, is_some}
 use Rattle.jn_storage.specs.Listing.{is_in, are_different, total}
 use Rattle.jn_storage.proofs.Listings.{Tells, but}
-use Rattle.jn_memory_storage.specs.Find.{find_by}
+use Rattle.jn_storage.specs.Finding.{find_by}
 
 pub find-key : {A K : Type 0} (eq : K → K → Bool) → Tells eq → (key : A → K) (xs : List A) (k : K) (x : A) → find_by eq key xs k ≡ Some x → key x ≡ k
 find-key eq tells key [] k x e = absurd (cc e)

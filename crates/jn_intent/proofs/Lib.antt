@@ -1,0 +1,16 @@
+pub mod Bridge
+pub mod Standing
+pub mod Serving
+pub mod Reading
+pub mod Pool
+pub mod FlagStates
+pub mod FlagCalls
+pub mod WorkStates
+pub mod Erasing
+pub mod Telling
+pub mod Marking
+pub mod Counting
+pub mod LettingGo
+pub mod Listed
+pub mod Removing
+pub mod Scrubbing

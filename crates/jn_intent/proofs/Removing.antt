@@ -1,0 +1,320 @@
+-- A prepared work is removed, by one put of its record.
+use Rattle.std.proofs.Common.{◌≡◌, ◌≢◌, ⊎_elim, ◌<◌, ◌≤◌, ◌+◌, ◌-◌, ◌^◌, ℕ, suc, Bool, true, false, not, ◌&&◌, if◌then◌else◌, List, [], ◌∷◌, length, map, Option, Some, None, refl, sym, ◌∙◌, ap, subst, true≢false, arith}
+use Rattle.std.proofs.Math.Path.{fun_ext}
+use Rattle.std.proofs.lemmas.List.{length-map}
+use Rattle.std.proofs.lemmas.List.Sums.{sum_by-cons}
+use Rattle.std.specs.Prelude.{is_some, position, slice_set, slice_index_or, filter, count_by, option_map, option_and_then}
+use Rattle.std.specs.List.{find, list_any}
+use Rattle.jn_alloc.specs.Free.{FreeNumbers, free_count as free_numbers}
+use Rattle.jn_base.specs.declared.names.FileNo.{FileNo}
+use Rattle.jn_base.specs.declared.names.Tid.{Tid}
+use Rattle.jn_base.specs.declared.names.WorkId.{WorkId}
+use Rattle.jn_base.specs.Names.{work_eq}
+use Rattle.jn_base.proofs.Tells.{work_tells}
+use Rattle.jn_files.specs.Table.{TableView, IsTable, exists}
+use Rattle.jn_files.specs.Calls.{with_promised_heads}
+use Rattle.jn_found.specs.Contents.{intended, stored_list, prepared_by, works_name}
+use Rattle.jn_found.specs.Held.{held_contents}
+use Rattle.jn_found.specs.Pages.{block_on, pages_by, found_on}
+use Rattle.jn_found.specs.Puts.{RecordPut}
+use Rattle.jn_found.specs.Recoverable.{IsConsistent, IsCompleteBy, HasIntentions}
+use Rattle.jn_found.specs.Standing.{IsStanding, Makes}
+use Rattle.jn_found.proofs.CallLaws.{removes}
+use Rattle.jn_found.proofs.Found.{found_any}
+use Rattle.jn_records.specs.declared.head.Head.{Head}
+use Rattle.jn_records.specs.declared.intention.Intention.{Intention as FullIntention}
+use Rattle.jn_records.specs.declared.intention.StoredIntention.{StoredIntention}
+use Rattle.jn_records.specs.declared.record.Record.{Record}
+use Rattle.jn_records.specs.declared.record.Record.TheVariants.{Free, Intention, Ready, Going, Flag as FlagRecord}
+use Rattle.jn_records.specs.declared.work.WorkState.{WorkState}
+use Rattle.jn_records.specs.NetLists.{is_fresh, needs_a_head}
+use Rattle.jn_records.specs.Records.{record_page, RecordFits}
+use Rattle.jn_records.specs.StablePages.{Counts}
+use Rattle.jn_rows.specs.Stable.{Changed, Prepared, RemoveWork, made_by, is_ready, is_going}
+use Rattle.jn_sets.specs.Pool.{record_in, page_of, is_free, is_prepared, is_intention, is_flag, is_rubbish}
+use Rattle.jn_sets.specs.Sets.{Puts}
+use Rattle.jn_storage.specs.Listing.{is_in, are_different}
+use Rattle.jn_storage.specs.Storage.{IsServing, IsLoadable, file_there, intentions, list_of, needed}
+use Rattle.jn_storage.specs.Calls.{state, name_of, WorkRemoved}
+use Rattle.jn_storage.specs.Finding.{find_by}
+use Rattle.jn_storage.proofs.Finds.{find-at, find-kept, find-listed, keys-kept, different-kept}
+use Rattle.jn_storage.proofs.Listings.{total-but}
+use Rattle.jn_store.specs.Store.{StoreView}
+use Rattle.jn_intent.specs.Memory.{Memory, accounts_of, view_of, next_by, stored_by, holds_page, rubbish_in}
+use Rattle.jn_intent.specs.Matches.{Matches, IsKept, WorksMatch, StoredWork, stored_work, work_by}
+use Rattle.jn_intent.specs.Pages.{pages_let_go, MayLetGo, heads_needed}
+use Rattle.jn_intent.proofs.Counting.{is_of_work, listed_length, gone_found, prepared_gone, removed_rubbish, removed_names}
+use Rattle.jn_intent.proofs.FlagCalls.{free_record}
+use Rattle.jn_intent.proofs.LettingGo.{AreLetGo, ArePagesApart, is_at, let_go, table_taken}
+use Rattle.jn_intent.proofs.Listed.{listed_at, listed_named, pages_apart, names_after}
+use Rattle.jn_intent.proofs.Pool.{position_at, none_position, step_of, free_less, work_stays, flags_stay}
+use Rattle.jn_intent.proofs.Reading.{there_seen}
+use Rattle.jn_intent.proofs.Serving.{Serves, serves_of, serving_by, may_load, called_put}
+use Rattle.jn_intent.proofs.Standing.{consistent}
+use Rattle.jn_intent.proofs.Telling.{works_seen, works_told, prepared_of}
+use Rattle.jn_intent.proofs.WorkStates.{IsRemoved, serves_removed}
+
+-- ---- the record of a prepared work
+
+pub record IsWorkRecord (pool : List Record) (work : WorkId) (r : Record) : Type 0 where
+  pub count : ℕ
+  pub has : HasIntentions pool work count
+  pub listed : (s : StoredWork) → work_by pool work r ≡ Some s → s.list ≡ stored_list pool work count
+  pub no_list : (w : WorkId) (order : ℕ) → is_intention w order r ≡ false
+  pub no_flag : (t : Tid) → is_flag t r ≡ false
+  pub used : is_free r ≡ false
+  pub no_rubbish : (pool : List Record) → is_rubbish pool r ≡ false
+  pub not_of : (w : WorkId) → is_of_work w r ≡ false
+  pub others : (w : WorkId) → work ≢ w → is_prepared w r ≡ false
+  pub few : count < 2 ^ 8
+
+some_is : {A : Type 0} {a b : A} → Some a ≡ Some b → a ≡ b
+some_is e = cc e
+
+pub work_record : (pool : List Record) (work : WorkId) (r : Record) → is_prepared work r ≡ true → IsCompleteBy pool r → RecordFits r → IsWorkRecord pool work r
+work_record pool work Free h complete fits = absurd (true≢false (sym h))
+work_record pool work (Intention w u k i) h complete fits = absurd (true≢false (sym h))
+work_record pool work (FlagRecord f) h complete fits = absurd (true≢false (sym h))
+work_record pool work (Ready head n reads) h complete fits = record {
+  count = n;
+  has = subst (λ w. HasIntentions pool w n) (let t = work_tells head.work work in grind (arith, h)) complete;
+  listed = λ s e. sym (ap (λ (x : StoredWork). x.list) (some_is e));
+  no_list = λ w order. refl;
+  no_flag = λ t. refl;
+  used = refl;
+  no_rubbish = λ pool. refl;
+  not_of = λ w. refl;
+  others = λ w ne. let t = work_tells head.work work in let t2 = work_tells head.work w in grind (arith, h);
+  few = fits.intentions_fit;
+}
+work_record pool work (Going head n reads) h complete fits = record {
+  count = n;
+  has = subst (λ w. HasIntentions pool w n) (let t = work_tells head.work work in grind (arith, h)) complete;
+  listed = λ s e. sym (ap (λ (x : StoredWork). x.list) (some_is e));
+  no_list = λ w order. refl;
+  no_flag = λ t. refl;
+  used = refl;
+  no_rubbish = λ pool. refl;
+  not_of = λ w. refl;
+  others = λ w ne. let t = work_tells head.work work in let t2 = work_tells head.work w in grind (arith, h);
+  few = fits.intentions_fit;
+}
+
+-- ---- the heads that a list needs
+
+pub heads_are : (blocks : ℕ → List ℕ) (heads : List Head) (there : FileNo → Bool) → ((f : FileNo) → exists heads f ≡ there f) → (list : List StoredIntention)
+    → count_by (λ (i : FullIntention). needs_a_head (there i.file) i) (map (intended blocks) list) ≡ heads_needed heads list
+heads_are blocks heads there same [] = refl
+heads_are blocks heads there same (i ∷ list) =
+    let again = heads_are blocks heads there same list in
+    let a = sum_by-cons (λ (i : FullIntention). if needs_a_head (there i.file) i then 1 else 0) (intended blocks i) (map (intended blocks) list) in
+    let b = sum_by-cons (λ (i : StoredIntention). if is_fresh i.what && not (exists heads i.file) then 1 else 0) i list in
+    let here : (is_fresh i.what && not (there i.file)) ≡ (is_fresh i.what && not (exists heads i.file)) = ap (λ b. is_fresh i.what && not b) (sym (same i.file)) in
+    grind (arith, again, a, b, here)
+
+pub is_ready_some : (o : Option Prepared) → is_ready o ≡ true → is_some o ≡ true
+is_ready_some None e = absurd (true≢false (sym e))
+is_ready_some (Some p) e = refl
+
+pub is_going_some : (o : Option Prepared) → is_going o ≡ true → is_some o ≡ true
+is_going_some None e = absurd (true≢false (sym e))
+is_going_some (Some p) e = refl
+
+-- a work where it is listed
+pub found_work : (works : List WorkState) (i : ℕ) (work : WorkId) (s : WorkState) → are_different work_eq (map name_of works) ≡ true → i < length works → ((d : WorkState) → work_eq (slice_index_or works i d).head.work work ≡ true)
+    → slice_index_or works i s ≡ s → find_by work_eq name_of works work ≡ Some s
+found_work works i work s differ below named is =
+    let at = find-at work_eq work_tells name_of works i s below differ in
+    let h = named s in
+    let same : name_of (slice_index_or works i s) ≡ work = (let t = work_tells (name_of (slice_index_or works i s)) work in grind (arith, h)) in
+    subst (λ w. find_by work_eq name_of works w ≡ Some (slice_index_or works i s)) same at ∙ ap (λ (x : WorkState). Some x) is
+
+abbrev pub given_back : Memory → List StoredIntention → TableView
+given_back m list = pages_let_go list (with_promised_heads m.table (m.table.free_heads.promised - heads_needed m.table.heads list))
+
+abbrev pub without_work : Memory → ℕ → WorkId → List StoredIntention → Memory
+without_work m slot work list = record m { records = slice_set m.records slot Free; table = given_back m list; works = filter (λ (s : WorkState). not (work_eq work (name_of s))) m.works }
+
+module _ (m : Memory) (v : StoreView) (kept : IsKept m v) (serving : IsServing (view_of m v)) (work : WorkId) (some : is_some ((state (view_of m v)).works work) ≡ true) where
+  now : Matches m v
+  now = kept serving.power
+
+  abbrev first_blocks : ℕ → List ℕ
+  first_blocks = block_on m.table.counts (pages_by v (λ n. false))
+
+  pub work_slotted : position (is_prepared work) m.records ≡ None → ⊥
+  work_slotted none = true≢false (sym some ∙ ap is_some (works_seen m v now serving work ∙ ap (prepared_by m.records (block_on m.table.counts (pages_by v (λ n. false))) work) (none_position (is_prepared work) m.records none)))
+
+  pub work_listed : is_in work_eq work (map name_of m.works) ≡ false → ⊥
+  work_listed none = true≢false (sym some ∙ ap is_some (works_told m v now serving work) ∙ by (find_by work_eq name_of m.works work) (sym (find-listed work_eq name_of m.works work) ∙ none))
+    where
+      by : (o : Option WorkState) → is_some o ≡ false → is_some (option_map (prepared_of (block_on m.table.counts (pages_by v (λ n. false)))) (option_map stored_work o)) ≡ false
+      by None e = refl
+      by (Some s) e = absurd (true≢false e)
+
+  module _ (slot : ℕ) (at : position (is_prepared work) m.records ≡ Some slot) where
+    there : slot < length m.records
+    there = (position_at (is_prepared work) m.records Free slot at).0
+
+    stands : is_prepared work (record_in m.records slot) ≡ true
+    stands = (position_at (is_prepared work) m.records Free slot at).1
+
+    said : IsConsistent m.server m.table.counts (held_contents m.table.counts v m.epoch m.records m.table.heads (λ n. false))
+    said = consistent m.server m.table.counts v m.epoch m.records m.table.heads now.standing
+
+    its : IsWorkRecord m.records work (record_in m.records slot)
+    its = work_record m.records work (record_in m.records slot) stands (said.complete slot) (now.standing.held.pool slot there).of_format.fits
+
+    pub work_used : is_free (record_in m.records slot) ≡ false
+    work_used = its.used
+
+    prepared : list_any (is_prepared work) m.records ≡ true
+    prepared = found_any (is_prepared work) Free m.records (record_in m.records slot) (position_at (is_prepared work) m.records Free slot at).2
+
+    module _ (s : WorkState) (here : find_by work_eq name_of m.works work ≡ Some s) where
+      list_is : s.list ≡ stored_list m.records work its.count
+      list_is = its.listed (stored_work s) (sym (ap (option_and_then (work_by m.records work)) (position_at (is_prepared work) m.records Free slot at).2) ∙ sym (now.works.each work) ∙ ap (option_map stored_work) here)
+
+      pub list_few : length s.list < 2 ^ 8
+      list_few = let e = ap (λ (l : List StoredIntention). length l) list_is in let n = listed_length m.records work 0 its.count (λ k low high. its.has.all k (omega (arith, high))) in let few = its.few in omega (arith, e, n, few)
+
+      full : list_of (state (view_of m v)) work ≡ map (intended (block_on m.table.counts (pages_by v (λ n. false)))) s.list
+      full = ap intentions (works_told m v now serving work ∙ ap (λ o. option_map (prepared_of (block_on m.table.counts (pages_by v (λ n. false)))) (option_map stored_work o)) here)
+
+      full_length : length (list_of (state (view_of m v)) work) ≡ its.count
+      full_length = ap (λ (l : List FullIntention). length l) full ∙ length-map s.list (intended (block_on m.table.counts (pages_by v (λ n. false)))) ∙ ap (λ (l : List StoredIntention). length l) list_is
+          ∙ listed_length m.records work 0 its.count (λ k low high. its.has.all k (omega (arith, high)))
+
+      heads_is : (needed (state (view_of m v)) (list_of (state (view_of m v)) work)).heads ≡ heads_needed m.table.heads s.list
+      heads_is = ap (λ l. (needed (state (view_of m v)) l).heads) full
+          ∙ heads_are (block_on m.table.counts (pages_by v (λ n. false))) m.table.heads (file_there (state (view_of m v)).files) (there_seen m v kept serving) s.list
+
+      pub heads_enough : heads_needed m.table.heads s.list ≤ m.table.free_heads.promised
+      heads_enough =
+          let whole = total-but work_eq work_tells (λ w. (needed (state (view_of m v)) (list_of (state (view_of m v)) w)).heads) work serving.counted.works serving.counted.works_all.different (serving.counted.works_all.all work ∙ some) in
+          let own = heads_is in let all = serving.counted.promises in omega (arith, whole, own, all)
+
+      gone : AreLetGo (with_promised_heads m.table (m.table.free_heads.promised - heads_needed m.table.heads s.list)) s.list (given_back m s.list)
+      gone = let taken = table_taken m.table now.table in let c = held_contents m.table.counts v m.epoch m.records m.table.heads (λ n. false) in
+          let_go s.list (with_promised_heads m.table (m.table.free_heads.promised - heads_needed m.table.heads s.list))
+          (subst ArePagesApart (sym list_is) (pages_apart c m.table.counts.leaves said.addresses work prepared 0 its.count))
+          (record { there = taken.there; taken = taken.taken })
+          (λ a h. now.held a ∙ listed_named c m.table.counts.leaves said.addresses work prepared a 0 (listed_at m.records work a 0 its.count (ap (list_any (is_at a)) (sym list_is) ∙ h)))
+
+      pub may_let_go : MayLetGo s.list (with_promised_heads m.table (m.table.free_heads.promised - heads_needed m.table.heads s.list))
+      may_let_go = gone.may
+
+      after : Memory
+      after = without_work m slot work s.list
+
+      kept_found : (w : WorkId) → find_by work_eq name_of (filter (λ (t : WorkState). not (work_eq work (name_of t))) m.works) w ≡ (if not (work_eq work w) then find_by work_eq name_of m.works w else None)
+      kept_found w = find-kept work_eq work_tells name_of (λ k. not (work_eq work k)) m.works w
+
+      removed : IsRemoved (state (view_of m v)) (accounts_of m) work (accounts_of (without_work m slot work s.list))
+      removed = record {
+        server = refl;
+        pool = ap (λ (g : Counts). g.pool) gone.only.counts;
+        heads = ap (λ (g : Counts). g.heads) gone.only.counts;
+        leaves = ap (λ (g : Counts). g.leaves) gone.only.counts;
+        counts = record {
+          free_records = free_less m.records slot there its.used;
+          promised_records = refl;
+          free_heads = ap free_numbers gone.only.free_heads;
+          free_pages = gone.free ∙ ap (λ n. free_numbers m.table.free_leaves + n) (sym (ap (λ o. count_by (holds_page m.table.heads) (stored_by o)) here));
+          next = fun_ext (λ w. ap next_by (kept_found w) ∙ next_at (work_eq work w) (find_by work_eq name_of m.works w));
+          held = fun_ext (λ w. ap (λ o. count_by (holds_page (given_back m s.list).heads) (stored_by o)) (kept_found w) ∙ ap (λ hs. count_by (holds_page hs) (stored_by (if not (work_eq work w) then find_by work_eq name_of m.works w else None))) gone.only.heads
+              ∙ held_at (work_eq work w) (find_by work_eq name_of m.works w));
+          rubbish_more = removed_rubbish m.records slot work there stands (said.distinct.works work) its.others prepared its.count its.has (its.no_rubbish m.records) (its.not_of work)
+              ∙ ap (λ n. length (rubbish_in m.records m.records) + n) (sym full_length);
+          rubbish_names = removed_names m.records slot work there stands (said.distinct.works work) its.others prepared;
+        };
+        promised_heads =
+            let kept_heads = ap (λ (f : FreeNumbers). f.promised) gone.only.free_heads in let own = heads_is in let enough = heads_enough in omega (arith, kept_heads, own, enough);
+      }
+        where
+          next_at : (b : Bool) (o : Option WorkState) → next_by (if not b then o else None) ≡ (if b then 0 else next_by o)
+          next_at true o = refl
+          next_at false o = refl
+
+          held_at : (b : Bool) (o : Option WorkState) → count_by (holds_page m.table.heads) (stored_by (if not b then o else None)) ≡ (if b then 0 else count_by (holds_page m.table.heads) (stored_by o))
+          held_at true o = refl
+          held_at false o = refl
+
+      serves : Serves (made_by (RemoveWork work) (state (view_of m v))) (accounts_of (without_work m slot work s.list))
+      serves = serves_removed (state (view_of m v)) (accounts_of m) (accounts_of (without_work m slot work s.list)) work (serves_of m v serving) some removed
+
+      works_left : WorksMatch (slice_set m.records slot Free) (filter (λ (t : WorkState). not (work_eq work (name_of t))) m.works)
+      works_left = record {
+        differ = subst (λ ks. are_different work_eq ks ≡ true) (sym (keys-kept name_of (λ k. not (work_eq work k)) m.works)) (different-kept work_eq (λ k. not (work_eq work k)) (map name_of m.works) now.works.differ);
+        each = λ w. ap (option_map stored_work) (kept_found w) ∙ ⊎_elim (λ h. own w h.1 h.0) (λ h. other w h.1 h.0) (work_tells work w);
+      }
+        where
+          own : (w : WorkId) → work ≡ w → work_eq work w ≡ true → option_map stored_work (if not (work_eq work w) then find_by work_eq name_of m.works w else None) ≡ option_and_then (work_by (slice_set m.records slot Free) w) (find (is_prepared w) (slice_set m.records slot Free))
+          own w e h = ap (λ b. option_map stored_work (if not b then find_by work_eq name_of m.works w else None)) h
+              ∙ sym (ap (option_and_then (work_by (slice_set m.records slot Free) w)) (subst (λ u. find (is_prepared u) (slice_set m.records slot Free) ≡ None) e (gone_found m.records slot work there stands (said.distinct.works work) its.others prepared)))
+
+          other : (w : WorkId) → work ≢ w → work_eq work w ≡ false → option_map stored_work (if not (work_eq work w) then find_by work_eq name_of m.works w else None) ≡ option_and_then (work_by (slice_set m.records slot Free) w) (find (is_prepared w) (slice_set m.records slot Free))
+          other w ne h = ap (λ b. option_map stored_work (if not b then find_by work_eq name_of m.works w else None)) h ∙ now.works.each w
+              ∙ sym (work_stays m.records slot Free w (its.no_list w) (λ order. refl) (its.others w ne) refl)
+
+      module _ (ok : Bool) (records : List Record) (w : StoreView) (puts : Puts m.records v slot Free ok records w) where
+        makes : Makes m.server m.table.counts v m.epoch m.records m.table.heads (RecordPut slot Free) (RemoveWork work) ok w
+        makes = removes m.server m.table.counts v w m.epoch m.records m.table.heads ok now.standing slot work
+            (step_of m.server m.table.counts v slot Free ok w (subst (λ k. slot < k) now.standing.held.slots there) free_record puts.put)
+            (record { there = there; stands = stands; once = said.distinct.works work })
+            (subst (λ n. IsLoadable m.server n (made_by (RemoveWork work) (state (view_of m v)))) (ap (λ (g : Counts). g.heads) gone.only.counts)
+            (may_load (made_by (RemoveWork work) (state (view_of m v))) (accounts_of (without_work m slot work s.list)) serves))
+
+        pub remove_matches : ok ≡ true → IsTable (given_back m s.list) → Matches (without_work m slot work s.list) w
+        remove_matches done table = record {
+          standing = subst (λ g. IsStanding m.server g w m.epoch (slice_set m.records slot Free) (given_back m s.list).heads) (sym gone.only.counts)
+              (subst (λ hs. IsStanding m.server m.table.counts w m.epoch (slice_set m.records slot Free) hs) (sym gone.only.heads) (makes.standing done));
+          table = table;
+          works = works_left;
+          flags = flags_stay m.records slot Free m.flags its.no_flag (λ t. refl) now.flags;
+          held = λ a. gone.held a ∙ ap (λ b. b && not (list_any (is_at a) s.list)) (now.held a) ∙ ap (λ l. works_name m.records (suc a) && not (list_any (is_at a) l)) list_is
+              ∙ names_after (held_contents m.table.counts v m.epoch m.records m.table.heads (λ n. false)) m.table.counts.leaves said.addresses work prepared slot its.count there stands its.has
+              (prepared_gone m.records slot work there stands (said.distinct.works work) its.others prepared) a;
+        }
+
+        pub remove_done : WorkRemoved (view_of m v) work ok (view_of (without_work m slot work s.list) w)
+        remove_done = record {
+          called = called_put m (without_work m slot work s.list) v w (page_of slot) (record_page Free) ok 16 (omega arith) refl gone.only.counts puts.put makes.recoverable
+              (λ e. serving_by (without_work m slot work s.list) w (made_by (RemoveWork work) (state (view_of m v)))
+              (λ c. ap (λ g. found_on g w c) gone.only.counts ∙ makes.change.done e c) (puts.put.served e).power serves);
+          change = subst (λ g. Changed (state (view_of m v)) (RemoveWork work) ok (found_on g w)) (sym gone.only.counts) makes.change;
+          accounts = λ e. removed.counts;
+        }
+
+        pub remove_stopped : ok ≡ false → (b : Bool) → b ≡ ok → WorkRemoved (view_of m v) work b (view_of (record m { records = records }) w)
+        remove_stopped stopped b e = subst (λ r. WorkRemoved (view_of m v) work b (view_of (record m { records = r }) w)) (sym (puts.stopped stopped)) (subst (λ c. WorkRemoved (view_of m v) work c (view_of m w)) (sym e) (record {
+          called = called_put m m v w (page_of slot) (record_page Free) ok 16 (omega arith) refl refl puts.put makes.recoverable (λ e. absurd (true≢false (sym e ∙ stopped)));
+          change = makes.change;
+          accounts = λ e. absurd (true≢false (sym e ∙ stopped));
+        }))
+
+        -- what the code makes
+        pub remove_kept : (table : TableView) (works : List WorkState) → ok ≡ true → IsTable table → table ≡ given_back m s.list → works ≡ filter (λ (t : WorkState). not (work_eq work (name_of t))) m.works
+            → Matches (record m { records = records; table = table; works = works }) w
+        remove_kept table works done is e f = subst (λ n. Matches n w)
+            (ap (λ r. record m { records = r; table = given_back m s.list; works = filter (λ (t : WorkState). not (work_eq work (name_of t))) m.works }) (sym (puts.done done))
+            ∙ ap (λ t. record m { records = records; table = t; works = filter (λ (t : WorkState). not (work_eq work (name_of t))) m.works }) (sym e) ∙ ap (λ l. record m { records = records; table = table; works = l }) (sym f))
+            (remove_matches done (subst IsTable e is))
+
+        pub remove_made : (table : TableView) (works : List WorkState) → ok ≡ true → table ≡ given_back m s.list → works ≡ filter (λ (t : WorkState). not (work_eq work (name_of t))) m.works
+            → WorkRemoved (view_of m v) work ok (view_of (record m { records = records; table = table; works = works }) w)
+        remove_made table works done e f = subst (λ n. WorkRemoved (view_of m v) work ok (view_of n w))
+            (ap (λ r. record m { records = r; table = given_back m s.list; works = filter (λ (t : WorkState). not (work_eq work (name_of t))) m.works }) (sym (puts.done done))
+            ∙ ap (λ t. record m { records = records; table = t; works = filter (λ (t : WorkState). not (work_eq work (name_of t))) m.works }) (sym e) ∙ ap (λ l. record m { records = records; table = table; works = l }) (sym f))
+            remove_done
+
+  its_state : (s : WorkState) × (find_by work_eq name_of m.works work ≡ Some s)
+  its_state = by (find_by work_eq name_of m.works work) refl
+    where
+      by : (o : Option WorkState) → find_by work_eq name_of m.works work ≡ o → (s : WorkState) × (find_by work_eq name_of m.works work ≡ Some s)
+      by None e = absurd (true≢false (sym some ∙ ap is_some (works_told m v now serving work ∙ ap (λ o. option_map (prepared_of (block_on m.table.counts (pages_by v (λ n. false)))) (option_map stored_work o)) e)))
+      by (Some s) e = (s, e)
+
+  pub stopped_there : (slot : ℕ) → position (is_prepared work) m.records ≡ Some slot → (records : List Record) (w : StoreView) → Puts m.records v slot Free false records w
+      → (b : Bool) → b ≡ false → WorkRemoved (view_of m v) work b (view_of (record m { records = records }) w)
+  stopped_there slot at records w puts b e = remove_stopped slot at its_state.0 its_state.1 false records w puts refl b e

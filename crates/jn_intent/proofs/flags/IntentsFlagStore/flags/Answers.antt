@@ -1,0 +1,12 @@
+use Rattle.std.proofs.Common.{subst, sym}
+use Rattle.jn_storage.specs.Storage.{IsServing}
+use Rattle.jn_storage.specs.Calls.{TellsFlags}
+use Rattle.jn_intent.specs.Memory.{view_of}
+use Rattle.jn_intent.specs.Inside.{memory_of}
+use Rattle.jn_intent.proofs.FlagCalls.{tells_flags}
+use Rattle.jn_intent.proofs.flags.IntentsFlagStore.flags.Goals as goal
+
+pub returns : goal.returns
+returns g c =
+    let serving = subst (λ s. IsServing (view_of s.1 (g.S.StableStore.view s.0))) (sym c.self.view_is) c.requires.serving in
+    rw c.deref.ensures.value (subst (λ s. TellsFlags (view_of s.1 (g.S.StableStore.view s.0)) c.self.inside.flags.items) c.self.view_is (tells_flags (memory_of c.self.inside) _ (c.self.invariant.kept serving.power) serving))

@@ -1,0 +1,17 @@
+use Rattle.std.proofs.Common.{◌<◌, sym, subst}
+use Rattle.std.specs.Prelude.{vec_len}
+use Rattle.jn_storage.specs.Storage.{IsServing}
+use Rattle.jn_storage.specs.Calls.{PromiseReleased}
+use Rattle.jn_intent.specs.Memory.{view_of}
+use Rattle.jn_intent.specs.Inside.{memory_of}
+use Rattle.jn_intent.proofs.FlagCalls.{popped, releases}
+use Rattle.jn_intent.proofs.flags.IntentsFlagStore.release_promise.Goals as goal
+
+pub returns : goal.returns
+returns g c =
+    let serving = subst (λ s. IsServing (view_of s.1 (g.S.StableStore.view s.0))) (sym c.self.view_is) c.requires.serving in
+    let promise = subst (λ s. 0 < s.1.promised) (sym c.self.view_is) c.requires.promise in
+    record {
+      released = subst (λ s. PromiseReleased (view_of s.1 (g.S.StableStore.view s.0)) (view_of (memory_of (record c.self.inside { rooms = c.pop.new.self })) (g.S.StableStore.view c.self.inside.store))) c.self.view_is
+          (releases (memory_of c.self.inside) _ c.self.invariant.kept serving (vec_len c.pop.new.self) (popped c.pop.result _ _ c.pop.ensures.cases promise));
+    }

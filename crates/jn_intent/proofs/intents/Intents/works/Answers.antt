@@ -1,0 +1,12 @@
+use Rattle.std.proofs.Common.{subst, sym}
+use Rattle.jn_storage.specs.Storage.{IsServing}
+use Rattle.jn_storage.specs.Calls.{TellsWorks}
+use Rattle.jn_intent.specs.Memory.{view_of}
+use Rattle.jn_intent.specs.Inside.{memory_of}
+use Rattle.jn_intent.proofs.Telling.{tells_works}
+use Rattle.jn_intent.proofs.intents.Intents.works.Goals as goal
+
+pub returns : goal.returns
+returns g c =
+    let serving = subst (λ s. IsServing (view_of s.1 (g.S.StableStore.view s.0))) (sym c.self.view_is) c.requires.serving in
+    rw c.deref.ensures.value (subst (λ s. TellsWorks (view_of s.1 (g.S.StableStore.view s.0)) c.self.inside.works.items) c.self.view_is (tells_works (memory_of c.self.inside) _ (c.self.invariant.kept serving.power) serving))

@@ -1,0 +1,6 @@
+pub mod Memory
+pub mod Matches
+pub mod Inside
+pub mod Works
+pub mod Pages
+pub mod Scrubbing

@@ -1,0 +1,90 @@
+-- What a server's storage keeps in memory beside its store, and what is seen of it.
+use Rattle.std.specs.Prelude.{ℕ, Bool, not, ◌&&◌, nat_lt, if◌then◌else◌, List, [], ◌∷◌, ◌++◌, count_by, Option, Some, None}
+use Rattle.std.specs.List.{list_any}
+use Rattle.jn_alloc.specs.Free.{free_count as free_numbers}
+use Rattle.jn_base.specs.declared.names.ServerNo.{ServerNo}
+use Rattle.jn_base.specs.declared.names.WorkId.{WorkId}
+use Rattle.jn_base.specs.Names.{work_eq}
+use Rattle.jn_files.specs.Table.{TableView}
+use Rattle.jn_found.specs.Contents.{heads_name}
+use Rattle.jn_found.specs.Pages.{found_on}
+use Rattle.jn_records.specs.declared.flag.Flag.{Flag}
+use Rattle.jn_records.specs.declared.head.Head.{Head}
+use Rattle.jn_records.specs.declared.intention.StoredIntention.{StoredIntention}
+use Rattle.jn_records.specs.declared.record.Record.{Record}
+use Rattle.jn_records.specs.declared.record.Record.TheVariants.{Intention as IntentionRecord}
+use Rattle.jn_records.specs.declared.work.WorkState.{WorkState}
+use Rattle.jn_sets.specs.Pool.{free_count, is_prepared}
+use Rattle.jn_storage.specs.Storage.{Accounts, StorageView}
+use Rattle.jn_storage.specs.Calls.{name_of}
+use Rattle.jn_storage.specs.Finding.{find_by}
+use Rattle.jn_store.specs.Store.{StoreView}
+
+pub record Memory : Type 0 where
+  -- the root's server and epoch
+  pub server : ServerNo
+  pub epoch : ℕ
+  -- the pool's records, by slot
+  pub records : List Record
+  -- the heads, what is free of them and of data pages, and which data pages are held
+  pub table : TableView
+  -- the prepared works and the flags
+  pub works : List WorkState
+  pub flags : List Flag
+  -- how many flags were promised a record
+  pub promised : ℕ
+
+-- ---- works
+
+abbrev pub next_by : Option WorkState → ℕ
+next_by None = 0
+next_by (Some s) = s.next
+
+abbrev pub next_in : List WorkState → WorkId → ℕ
+next_in works w = next_by (find_by work_eq name_of works w)
+
+-- whether an intention names a data page that no head does
+abbrev pub holds_page : List Head → StoredIntention → Bool
+holds_page heads i = nat_lt 0 i.address && not (heads_name heads i.address)
+
+abbrev pub stored_by : Option WorkState → List StoredIntention
+stored_by None = []
+stored_by (Some s) = s.list
+
+-- how many data pages a work holds
+abbrev pub held_in : List WorkState → List Head → WorkId → ℕ
+held_in works heads w = count_by (holds_page heads) (stored_by (find_by work_eq name_of works w))
+
+-- ---- rubbish
+
+-- the work of an intention record that no prepared work has
+abbrev pub rubbish_of : List Record → Record → List WorkId
+rubbish_of pool (IntentionRecord work tid order i) = if list_any (is_prepared work) pool then [] else work ∷ []
+rubbish_of pool _ = []
+
+-- of each such record among these the work
+abbrev pub rubbish_in : List Record → List Record → List WorkId
+rubbish_in pool [] = []
+rubbish_in pool (r ∷ rs) = rubbish_of pool r ++ rubbish_in pool rs
+
+-- ---- what is seen
+
+abbrev pub accounts_of : Memory → Accounts
+accounts_of m = record {
+  server = m.server;
+  pool = m.table.counts.pool;
+  heads = m.table.counts.heads;
+  leaves = m.table.counts.leaves;
+  free_records = free_count m.records;
+  free_heads = free_numbers m.table.free_heads;
+  free_pages = free_numbers m.table.free_leaves;
+  promised_records = m.promised;
+  promised_heads = m.table.free_heads.promised;
+  rubbish = rubbish_in m.records m.records;
+  next = next_in m.works;
+  held = held_in m.works m.table.heads;
+}
+
+-- what is found is what the pages say, and the store is the one below
+abbrev pub view_of : Memory → StoreView → StorageView
+view_of m v = record { found = found_on m.table.counts v; accounts = accounts_of m; store = v }

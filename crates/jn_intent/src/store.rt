@@ -1,0 +1,90 @@
+//! The store below a storage.
+ghost use Rattle.std.specs.Prelude.{◌≡◌, ◌≤◌, ◌<◌, ◌+◌, ◌*◌, [], true, is_ok, OnErr, OnOk};
+ghost use Rattle.jn_device.specs.Events.{Decays, Arms, is_within, disarmed, cleared};
+ghost use Rattle.jn_found.specs.Puts.{IsFewer};
+ghost use Rattle.jn_storage.specs.Storage.{IsServing};
+ghost use Rattle.jn_store.specs.Store.{IsCalm, IsStop, StoreLater};
+ghost use Rattle.jn_intent.specs.Scrubbing.{CleansTo, Scrubbed};
+
+use crate::Intents;
+use jn_base::{FaultKind, Outside, Stopped};
+use jn_storage::Storage;
+use jn_store::{Powered, StableStore};
+
+impl<S: StableStore> Intents<S> {
+    /// The store, which alone outlives a stop.
+    pub fn into_store(self) -> S
+        ensures { result ≡ self.0 }
+    {
+        self.store
+    }
+
+    /// Cleans each page of the store, from the first on. Nothing that is found changes.
+    pub fn scrub(&mut self) -> Result<(), Stopped>
+        requires serving { IsServing (⟦<Intents<S> as Storage>⟧.view self.old) }
+        ensures scrubbed { Scrubbed (⟦<Intents<S> as Storage>⟧.view self.old) (is_ok result) (⟦<Intents<S> as Storage>⟧.view self.new) }
+    {
+        clean_all(&mut self.store)
+    }
+}
+
+impl<S: Powered> Intents<S> {
+    /// A page of the device goes bad. False exactly where that is not allowed, and then nothing is done.
+    pub fn decay(&mut self, p: u32) -> bool
+        requires { p < (S.device self.old.0).count }
+        ensures decays { Decays (S.device self.old.0) p result (S.device self.new.0) }
+        ensures memory { self.new.1 ≡ self.old.1 }
+    {
+        self.store.decay(p)
+    }
+
+    /// A fault strikes at the n-th call from now. False exactly where sixteen wait, or one for that call, and then
+    /// nothing is done.
+    pub fn arm(&mut self, n: u32, kind: FaultKind) -> bool
+        requires from_one { 0 < n }
+        requires within { is_within (S.device self.old.0).count kind ≡ true }
+        requires none_told { (S.device self.old.0).told ≡ [] }
+        ensures arms { Arms (S.device self.old.0) n kind result (S.device self.new.0) }
+        ensures memory { self.new.1 ≡ self.old.1 }
+    {
+        self.store.arm(n, kind)
+    }
+
+    /// No fault waits any more.
+    pub fn disarm(&mut self)
+        ensures disarmed { S.device self.new.0 ≡ disarmed (S.device self.old.0) }
+        ensures memory { self.new.1 ≡ self.old.1 }
+    {
+        self.store.disarm();
+    }
+
+    /// The faults that were outside the allowed ones, the oldest first.
+    pub fn outside(&self) -> &[Outside]
+        ensures { result.now ≡ (S.device self.now.0).told }
+    {
+        self.store.outside()
+    }
+
+    /// Forgets the faults that were outside.
+    pub fn clear_outside(&mut self)
+        ensures cleared { S.device self.new.0 ≡ cleared (S.device self.old.0) }
+        ensures memory { self.new.1 ≡ self.old.1 }
+    {
+        self.store.clear_outside();
+    }
+}
+
+fn clean_all<S: StableStore>(store: &mut S) -> Result<(), Stopped>
+    requires { (S.view store.old).power ≡ true }
+    ensures fewer { IsFewer (S.view store.old) (S.view store.new) }
+    ensures later { StoreLater (S.view store.old) (S.view store.new) }
+    ensures calls { (S.view store.new).calls ≤ (S.view store.old).calls + 16 * (S.view store.old).count }
+    ensures cleaned { OnOk result (CleansTo (S.view store.old) (S.view store.old).count (S.view store.new)) }
+    ensures stop { OnErr result (IsStop (S.view store.old) (S.view store.new)) }
+    ensures calm { IsCalm (S.view store.old) → is_ok result ≡ true }
+{
+    for i in 0..store.count() {
+        store.cleanup(i)?;
+    }
+    Ok(())
+}

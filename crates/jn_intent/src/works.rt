@@ -1,0 +1,169 @@
+//! The prepared works of a storage.
+ghost use Rattle.std.specs.Prelude.{◌≡◌, ◌<◌, ◌≤◌, ◌-◌, ◌^◌, is_ok, is_some, not, filter, length, slice_index_or, slice_set, IfSome, IfNone, map, true, false};
+ghost use Rattle.jn_base.specs.Names as names;
+ghost use Rattle.jn_records.specs.declared.work.WorkState.{WorkState};
+ghost use Rattle.jn_storage.specs.Listing.{is_in};
+ghost use Rattle.jn_storage.specs.Storage.{IsServing};
+ghost use Rattle.jn_storage.specs.Calls.{state, IsReady, IsCarriedOut, MarkedGoing, WorkRemoved, RecordErased, TellsWorks, name_of};
+ghost use Rattle.jn_files.specs.Table.{IsTable};
+ghost use Rattle.jn_files.specs.Calls.{with_promised_heads};
+ghost use Rattle.jn_intent.specs.Pages.{page_let_go, pages_let_go, IsHeldAt, MayLetGo, heads_needed};
+ghost use Rattle.jn_intent.specs.Works.{MarksWork, going_on};
+
+use crate::Intents;
+use jn_base::{Stopped, WorkId};
+use jn_files::FileTable;
+use jn_records::{StoredIntention, What, WorkState};
+use jn_storage::Storage;
+use jn_store::StableStore;
+
+impl<S: StableStore> Intents<S> {
+    /// Makes a ready work going: its transaction has committed.
+    pub fn mark_going(&mut self, work: WorkId) -> Result<(), Stopped>
+        requires serving { IsServing (⟦<Intents<S> as Storage>⟧.view self.old) }
+        requires ready { IsReady (⟦<Intents<S> as Storage>⟧.view self.old) work }
+        ensures marked { MarkedGoing (⟦<Intents<S> as Storage>⟧.view self.old) work (is_ok result) (⟦<Intents<S> as Storage>⟧.view self.new) }
+    {
+        let Some(slot) = self.sets.prepared_slot(work) else {
+            unreachable!()
+        };
+        self.sets.set_going(&mut self.store, slot)?;
+        mark(&mut self.works, work);
+        Ok(())
+    }
+
+    /// Removes a going work that is carried out.
+    pub fn forget(&mut self, work: WorkId) -> Result<(), Stopped>
+        requires serving { IsServing (⟦<Intents<S> as Storage>⟧.view self.old) }
+        requires done { IsCarriedOut (⟦<Intents<S> as Storage>⟧.view self.old) work }
+        ensures removed { WorkRemoved (⟦<Intents<S> as Storage>⟧.view self.old) work (is_ok result) (⟦<Intents<S> as Storage>⟧.view self.new) }
+    {
+        self.remove(work)
+    }
+
+    /// Removes a ready work: its transaction was aborted.
+    pub fn drop_ready(&mut self, work: WorkId) -> Result<(), Stopped>
+        requires serving { IsServing (⟦<Intents<S> as Storage>⟧.view self.old) }
+        requires ready { IsReady (⟦<Intents<S> as Storage>⟧.view self.old) work }
+        ensures removed { WorkRemoved (⟦<Intents<S> as Storage>⟧.view self.old) work (is_ok result) (⟦<Intents<S> as Storage>⟧.view self.new) }
+    {
+        self.remove(work)
+    }
+
+    /// Erases one record of an intention that no prepared work has; false where there is none.
+    pub fn erase_step(&mut self) -> Result<bool, Stopped>
+        requires serving { IsServing (⟦<Intents<S> as Storage>⟧.view self.old) }
+        ensures erased { RecordErased (⟦<Intents<S> as Storage>⟧.view self.old) result (⟦<Intents<S> as Storage>⟧.view self.new) }
+    {
+        self.sets.erase_one(&mut self.store)
+    }
+
+    /// The prepared works.
+    pub fn works(&self) -> &[WorkState]
+        requires serving { IsServing (⟦<Intents<S> as Storage>⟧.view self.now) }
+        ensures { TellsWorks (⟦<Intents<S> as Storage>⟧.view self.now) result.now }
+    {
+        &self.works
+    }
+
+    /// Removes a prepared work: the records of its intentions are rubbish, and what it held or was promised is free.
+    fn remove(&mut self, work: WorkId) -> Result<(), Stopped>
+        requires serving { IsServing (⟦<Intents<S> as Storage>⟧.view self.old) }
+        requires prepared { is_some ((state (⟦<Intents<S> as Storage>⟧.view self.old)).works work) ≡ true }
+        ensures removed { WorkRemoved (⟦<Intents<S> as Storage>⟧.view self.old) work (is_ok result) (⟦<Intents<S> as Storage>⟧.view self.new) }
+    {
+        let Some(slot) = self.sets.prepared_slot(work) else {
+            unreachable!()
+        };
+        let Some(i) = index_of(&self.works, work) else {
+            unreachable!()
+        };
+        self.sets.remove(&mut self.store, slot)?;
+        give_back(&mut self.table, self.works[i].list.as_slice());
+        take_work(&mut self.works, work);
+        Ok(())
+    }
+}
+
+/// Gives back what a prepared work holds: the heads that it was promised, and its data pages.
+fn give_back(table: &mut FileTable, list: &[StoredIntention])
+    requires heads { heads_needed table.old.heads list.now ≤ table.old.free_heads.promised }
+    requires few { length list.now < 2 ^ 32 }
+    requires pages { MayLetGo list.now (with_promised_heads table.old (table.old.free_heads.promised - heads_needed table.old.heads list.now)) }
+    ensures given { table.new ≡ pages_let_go list.now (with_promised_heads table.old (table.old.free_heads.promised - heads_needed table.old.heads list.now)) }
+    ensures table { IsTable table.new }
+{
+    let needed = heads_needed(table, list);
+    table.release_heads(needed);
+    let_go(table, list);
+    table.is_table();
+}
+
+fn let_go(table: &mut FileTable, list: &[StoredIntention])
+    requires { MayLetGo list.now table.old }
+    ensures { table.new ≡ pages_let_go list.now table.old }
+{
+    for intention in list {
+        let_page_go(table, intention.address);
+    }
+}
+
+fn let_page_go(table: &mut FileTable, address: u16)
+    requires { IsHeldAt table.old address }
+    ensures { table.new ≡ page_let_go table.old address }
+{
+    if address > 0 {
+        table.let_go(address - 1);
+    }
+}
+
+/// How many fresh files of a list have no head.
+fn heads_needed(table: &FileTable, list: &[StoredIntention]) -> u32
+    requires { length list.now < 2 ^ 32 }
+    ensures { result ≡ heads_needed table.now.heads list.now }
+{
+    let mut heads = 0;
+    for intention in list {
+        if intention.what == What::Fresh && !table.exists(intention.file) {
+            heads += 1;
+        }
+    }
+    heads
+}
+
+/// Takes away a work.
+fn take_work(works: &mut Vec<WorkState>, work: WorkId)
+    ensures { works.new.items ≡ filter (λ (s : WorkState). not (names.work_eq work (name_of s))) works.old.items }
+{
+    works.retain(|state| work != state.head.work);
+}
+
+/// Makes a work going.
+fn mark(works: &mut Vec<WorkState>, work: WorkId)
+    ensures { MarksWork works.old.items work works.new.items }
+{
+    let Some(i) = index_of(works, work) else {
+        return;
+    };
+    set_going(works, i);
+}
+
+fn set_going(works: &mut Vec<WorkState>, i: usize)
+    requires { i < length works.old.items }
+    ensures { (s : WorkState) → slice_index_or works.old.items i s ≡ s → works.new.items ≡ slice_set works.old.items i (going_on s) }
+{
+    works[i].going = true;
+}
+
+/// The index of a work.
+fn index_of(works: &[WorkState], work: WorkId) -> Option<usize>
+    ensures found { IfSome result (λ i. (i < length works.now) × ((d : WorkState) → names.work_eq (slice_index_or works.now i d).head.work work ≡ true)) }
+    ensures none { IfNone result (is_in names.work_eq work (map name_of works.now) ≡ false) }
+{
+    for (i, state) in works.iter().enumerate() {
+        if state.head.work == work {
+            return Some(i);
+        }
+    }
+    None
+}
