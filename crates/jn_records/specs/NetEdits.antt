@@ -59,3 +59,8 @@ in_its_place new list = insert list (front new list) new
 
 abbrev pub with_intention : Op → List Intention → Intention → List Intention
 with_intention op list new = in_its_place new (filter (λ (i : Intention). stays op i) list)
+
+-- the list with what an operation adds, if it adds anything
+abbrev pub list_after : Option Intention → Op → List Intention → List Intention
+list_after None op list = list
+list_after (Some new) op list = with_intention op list new

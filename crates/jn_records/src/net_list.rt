@@ -6,7 +6,7 @@ ghost use Rattle.jn_order.specs.Files.{Files, change, effect, answer_to, file_of
 ghost use Rattle.jn_order.specs.Changes.{and_then};
 ghost use Rattle.jn_records.specs.Reading.{Gives};
 ghost use Rattle.jn_records.specs.NetLists.{InOrder, block_of, blocks_below, list_change, net_of, added, place_of, stands_before, as_first, as_put, entry, stays, length_with, seen_block, answered, is_put_intention, needs_a_head};
-ghost use Rattle.jn_records.specs.NetEdits.{there_by, unput_by, seen_by, plain, cut_again, intention_for, front, in_its_place};
+ghost use Rattle.jn_records.specs.NetEdits.{there_by, unput_by, seen_by, plain, cut_again, intention_for, list_after, front, in_its_place};
 
 use crate::intention::{Intention, What};
 use jn_base::{Answer, Block, BlockNo, FileNo, Op};
@@ -70,6 +70,7 @@ impl NetList {
         ensures net { OnOk result (net_of self.new ≡ added (net_of self.old) op.now) }
         ensures change { OnOk result (list_change self.new ≡ and_then (list_change self.old) (effect op.now)) }
         ensures length { OnOk result (length self.new ≡ length_with self.old op.now) }
+        ensures edited { OnOk result (self.new ≡ list_after (intention_for self.old op.now) op.now self.old) }
         ensures blocks { (n : ℕ) → (block_of op.now).0 < n → blocks_below n self.old ≡ true → OnOk result (blocks_below n self.new ≡ true) }
         ensures err { OnErr result (self.new ≡ self.old) }
     {

@@ -40,7 +40,7 @@ use Rattle.jn_worker.proofs.Fit.{name-later, fits_removed, tickets_removed}
 -- ---- the next intention
 
 -- the units of a stored list are written units of its work
-written-among : (units : List LockUnit) (list : List Intention) (u : LockUnit) → are_written units list ≡ true → is_unit (map unit_of list) u ≡ true → is_unit units u ≡ true
+pub written-among : (units : List LockUnit) (list : List Intention) (u : LockUnit) → are_written units list ≡ true → is_unit (map unit_of list) u ≡ true → is_unit units u ≡ true
 written-among units [] u h e = absurd (cc e)
 written-among units (i ∷ list) u h e = by (unit_eq (unit_of i) u) refl (written-among units list u) h e
   where

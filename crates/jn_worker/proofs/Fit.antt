@@ -212,7 +212,7 @@ tickets_removed t v w W k live m h = record {
 
 -- ---- another phase
 
-length-phase : (W : WorkId) (phase : Phase) (ws : List Work) → length (with_phase W phase ws) ≡ length ws
+pub length-phase : (W : WorkId) (phase : Phase) (ws : List Work) → length (with_phase W phase ws) ≡ length ws
 length-phase W phase [] = refl
 length-phase W phase (w ∷ ws) = let again = length-phase W phase ws in grind arith
 

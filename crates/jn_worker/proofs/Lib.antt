@@ -9,3 +9,16 @@ pub mod Stepped
 pub mod Sorting
 pub mod Restored
 pub mod Opened
+pub mod Refused
+pub mod Granted
+pub mod Apart
+pub mod Storing
+pub mod Voted
+pub mod Units
+pub mod Listed
+pub mod More
+pub mod Repeated
+pub mod Performed
+pub mod Operated
+pub mod Settled
+pub mod Does

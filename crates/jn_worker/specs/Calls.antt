@@ -1,21 +1,37 @@
 -- What the calls of a worker do.
-use Rattle.std.specs.Prelude.{◌≡◌, Bool, true, false, not, if◌then◌else◌, List, [], ◌∷◌, ◌++◌, Option, Some, None, Result, Ok, Err, is_ok}
+use Rattle.std.specs.Prelude.{◌≡◌, ℕ, Bool, true, false, not, if◌then◌else◌, List, [], ◌∷◌, ◌++◌, Option, Some, None, Result, Ok, Err, is_ok}
 use Rattle.jn_base.specs.declared.names.Tickets.{Tickets}
 use Rattle.jn_base.specs.declared.names.Party.TheVariants.{Server}
+use Rattle.jn_base.specs.declared.names.ClientNo.{ClientNo}
 use Rattle.jn_base.specs.declared.names.Tid.{Tid}
 use Rattle.jn_base.specs.declared.names.WorkId.{WorkId}
+use Rattle.jn_base.specs.declared.op.Answer.{Answer}
+use Rattle.jn_base.specs.declared.op.Answer.TheVariants.{Broken as BrokenAnswer, Closing, Locked}
+use Rattle.jn_base.specs.declared.op.Op.{Op}
 use Rattle.jn_base.specs.Names.{work_eq}
 use Rattle.jn_msgs.specs.Collected.{Collected}
 use Rattle.jn_msgs.specs.declared.message.Message.TheVariants as messages
+use Rattle.jn_msgs.specs.declared.message.Note.{Note}
+use Rattle.jn_msgs.specs.declared.message.Vote.{Vote}
+use Rattle.jn_msgs.specs.declared.message.Vote.TheVariants as votes
 use Rattle.jn_rows.specs.declared.worker.Work.{Work}
 use Rattle.jn_rows.specs.declared.worker.Phase.{Phase}
+use Rattle.jn_rows.specs.declared.worker.Phase.TheVariants.{Active, Broken}
+use Rattle.jn_rows.specs.declared.worker.ActiveWork.{ActiveWork}
+use Rattle.jn_lock_rows.specs.declared.grants.Refused.{Refused}
+use Rattle.jn_lock_rows.specs.declared.grants.Refused.TheVariants.{Held, Memory as NotGranted}
+use Rattle.jn_lock_rows.specs.Calls.{stored}
+use Rattle.jn_records.specs.declared.intention.Intention.{Intention}
+use Rattle.jn_records.specs.declared.work.WorkHead.{WorkHead}
+use Rattle.jn_storage.specs.declared.faults.PrepareFault.{PrepareFault}
+use Rattle.jn_storage.specs.declared.faults.PrepareFault.TheVariants.{Records, Pages, Heads, Stopped as NotServed, Memory as NoMemory}
 use Rattle.jn_rows.specs.Outcomes.{RowOutcome, Sent, Performs}
-use Rattle.jn_rows.specs.Worker.{WorkerTable, worker_again, timeout_row}
+use Rattle.jn_rows.specs.Worker.{WorkerTable, worker_again, timeout_row, with_phase, after_grant, break_notes, commit_wants, conflict, locked, counted, done, wants_of, is_fit, refusal_of as refusal_of_row}
 use Rattle.jn_storage.specs.Listing.{is_in}
 use Rattle.jn_storage.specs.Storage.{StorageView}
 use Rattle.jn_storage.specs.Calls.{state, Called}
 use Rattle.jn_worker.specs.declared.words.WorkerFault.{WorkerFault}
-use Rattle.jn_worker.specs.declared.words.WorkerFault.TheVariants.{Stopped}
+use Rattle.jn_worker.specs.declared.words.WorkerFault.TheVariants.{Stopped, Memory}
 use Rattle.jn_worker.specs.Fitting.{WorkerView, Fits, TicketsFit}
 
 abbrev pub has_stopped : {A : Type 0} → Result A WorkerFault → Bool
@@ -64,3 +80,81 @@ pub record TimesOut (T : Tid) (t : WorkerView) (answer : Bool) (u : WorkerView) 
 abbrev pub rephased : WorkId → (Phase → Phase) → WorkerTable → WorkerTable
 rephased W f [] = []
 rephased W f (w ∷ ws) = if work_eq w.name W then record w { phase = f w.phase } ∷ ws else w ∷ rephased W f ws
+
+-- what is voted for a work that isn't active, while its transaction isn't known to have committed
+abbrev pub vote_inactive : Phase → Vote
+vote_inactive (Broken u by) = votes.Broken u by
+vote_inactive phase = votes.Ready
+
+-- what an operation of a work that isn't active is answered
+abbrev pub answer_inactive : Phase → Answer
+answer_inactive (Broken u by) = BrokenAnswer u by
+answer_inactive phase = Closing
+
+abbrev pub head_of : WorkId → Tid → ClientNo → WorkHead
+head_of W T c = record { work = W; tid = T; client = c }
+
+-- the vote where something is short
+abbrev pub refusal_of : PrepareFault → Result Vote WorkerFault
+refusal_of (Records short) = Ok (votes.Full 31 short.free short.need)
+refusal_of (Pages short) = Ok (votes.Full 32 short.free short.need)
+refusal_of (Heads short) = Ok (votes.Full 33 short.free short.need)
+refusal_of NotServed = Err Stopped
+refusal_of NoMemory = Err Memory
+
+-- T's active work is a stored one, the works in its way are broken, and S is told that it is ready
+pub record Stores (t : WorkerView) (T : Tid) (W : WorkId) (a : ActiveWork) (S : Tid) (before : Collected) (u : WorkerView) (after : Collected) : Type 0 where
+  pub works : u ≡ record t { table = with_phase W (stored (Active a)) (after_grant T W (commit_wants a.writes) t.table) }
+  pub sent : after.messages ≡ before.messages ++ (Server S.server, messages.Vote S W votes.Ready) ∷ []
+  pub noted : after.notes ≡ before.notes ++ break_notes T W (commit_wants a.writes) t.table
+
+-- an active work has another list
+abbrev pub relisted : List Intention → Phase → Phase
+relisted list (Active a) = Active (record a { list = list })
+relisted list phase = phase
+
+abbrev pub list_in : List Intention → Phase → List Intention
+list_in other (Active a) = a.list
+list_in other phase = other
+
+abbrev pub list_of : List Intention → Option Work → List Intention
+list_of other None = other
+list_of other (Some w) = list_in other w.phase
+
+-- an active work's operation of this number has this answer
+abbrev pub tallied : ℕ → Answer → Phase → Phase
+tallied number answer (Active a) = Active (record a { last = number; kept = Some answer })
+tallied number answer phase = phase
+
+-- what an operation is answered whose wants aren't granted
+abbrev pub locked_by : Refused → Result Answer WorkerFault
+locked_by (Held u T) = Ok (Locked u T)
+locked_by NotGranted = Err Memory
+
+-- the works once T's active work has done an operation, or was refused it
+abbrev pub settled : WorkerTable → Tid → WorkId → ActiveWork → Op → Answer → Option Answer → WorkerTable
+settled t T W a op answer (Some refusal) = with_phase W (Active (counted a refusal)) t
+settled t T W a op answer None = with_phase W (Active (done a op answer (wants_of op (is_fit answer)))) (after_grant T W (wants_of op (is_fit answer)) t)
+
+abbrev pub told_breaks : WorkerTable → Tid → WorkId → Op → Answer → Option Answer → List Note
+told_breaks t T W op answer (Some refusal) = []
+told_breaks t T W op answer None = break_notes T W (wants_of op (is_fit answer)) t
+
+-- T's active work has done an operation, or was refused it where another work stands in the way
+pub record Granted (t : WorkerView) (T : Tid) (W : WorkId) (a : ActiveWork) (op : Op) (answer : Answer) (refusal : Option Answer) (before : Collected) (u : WorkerView) (after : Collected) : Type 0 where
+  pub refused : refusal ≡ locked (conflict W (wants_of op (is_fit answer)) t.table)
+  pub works : u ≡ record t { table = settled t.table T W a op answer refusal }
+  pub sent : after.messages ≡ before.messages
+  pub noted : after.notes ≡ before.notes ++ told_breaks t.table T W op answer refusal
+
+-- T's active work has done an operation, or was refused it for a limit or for another work
+pub record Settles (t : WorkerView) (T : Tid) (W : WorkId) (a : ActiveWork) (op : Op) (answer : Answer) (refusal : Option Answer) (before : Collected) (u : WorkerView) (after : Collected) : Type 0 where
+  pub refused : refusal ≡ refusal_of_row t.table W a op answer (wants_of op (is_fit answer))
+  pub works : u ≡ record t { table = settled t.table T W a op answer refusal }
+  pub sent : after.messages ≡ before.messages
+  pub noted : after.notes ≡ before.notes ++ told_breaks t.table T W op answer refusal
+
+-- what an operation is answered
+abbrev pub told_of : Answer → Option Answer → Answer
+told_of answer (Some refusal) = refusal
+told_of answer None = answer

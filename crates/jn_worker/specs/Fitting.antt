@@ -55,6 +55,15 @@ abbrev pub is_stored : Phase → Bool
 is_stored (Stored q) = true
 is_stored phase = false
 
+-- whether a work is active
+abbrev pub is_active_phase : Phase → Bool
+is_active_phase (Active a) = true
+is_active_phase phase = false
+
+abbrev pub is_active : Option Work → Bool
+is_active None = false
+is_active (Some w) = is_active_phase w.phase
+
 abbrev pub PhaseFits : Phase → Tid → Option Prepared → Type 0
 PhaseFits (Stored q) T (Some p) = IsStored q T p
 PhaseFits (Stored q) T None = ⊥

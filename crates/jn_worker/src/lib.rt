@@ -2,7 +2,11 @@
 #![tactic(auto)]
 
 mod finish;
+mod lists;
 mod open;
+mod operate;
+mod prepare;
+mod refuse;
 mod restore;
 mod step;
 #[cfg(test)]

@@ -5,7 +5,7 @@ use Rattle.jn_order.specs.Changes.{and_then}
 use Rattle.jn_order.specs.Files.{effect}
 use Rattle.jn_records.specs.declared.intention.Intention.{Intention}
 use Rattle.jn_records.specs.NetLists.{InOrder, blocks_below, net_of, added, net_change, stays}
-use Rattle.jn_records.specs.NetEdits.{intention_for, in_its_place, with_intention}
+use Rattle.jn_records.specs.NetEdits.{intention_for, list_after, in_its_place, with_intention}
 use Rattle.jn_records.proofs.NetLemmas.{list-net, added-change}
 use Rattle.jn_records.proofs.EditLemmas.{edited-in_order, edited-net, edited-length, edited-blocks, unchanged-length}
 use Rattle.jn_records.proofs.net_list.NetList.add.Goals as goal
@@ -47,6 +47,12 @@ returns-clause-change c = rw (← c.self.view_is) (on_ok c.put_in_its_place.resu
     ∙ ap net_change (net c)
     ∙ added-change (net_of c.self.inside.items.items) c.args.op.now
     ∙ ap (λ a. and_then a (effect c.args.op.now)) (sym (list-net c.self.inside.items.items c.self.invariant.order))))
+
+pub returns-in_default-clause-edited : goal.returns-in_default-clause-edited
+returns-in_default-clause-edited c = rw (← c.self.view_is) (sym (ap (λ o. list_after o c.args.op.now c.self.inside.items.items) (ap (λ (l : List Intention). intention_for l c.args.op.now) (sym c.deref.ensures.value) ∙ sym c.in_default.ensures)))
+
+pub returns-clause-edited : goal.returns-clause-edited
+returns-clause-edited c = rw (← c.self.view_is) (on_ok c.put_in_its_place.result (edited c ∙ sym (ap (λ o. list_after o c.args.op.now c.self.inside.items.items) (finds c))))
 
 pub returns-clause-length : goal.returns-clause-length
 returns-clause-length c = rw (← c.self.view_is) (on_ok c.put_in_its_place.result (ap (λ (l : List Intention). length l) (edited c) ∙ edited-length c.args.op.now c.self.inside.items.items c.in-Some.new (finds c)))

@@ -1,0 +1,48 @@
+-- An operation of an active work that isn't its next one.
+use Rattle.std.proofs.Common.{◌≡◌, ◌+◌, ℕ, Bool, true, false, [], ◌∷◌, ◌++◌, Option, Some, None, refl, sym, ◌∙◌, ap, subst}
+use Rattle.std.specs.Prelude.{Ok, nat_eq, if◌then◌else◌}
+use Rattle.std.proofs.lemmas.List.{append-nil}
+use Rattle.jn_base.specs.declared.names.ClientNo.{ClientNo}
+use Rattle.jn_base.specs.declared.names.Party.TheVariants.{Client}
+use Rattle.jn_base.specs.declared.names.Tid.{Tid}
+use Rattle.jn_base.specs.declared.names.Tickets.{Tickets}
+use Rattle.jn_base.specs.declared.names.WorkId.{WorkId}
+use Rattle.jn_base.specs.declared.op.Answer.{Answer}
+use Rattle.jn_base.specs.declared.op.Op.{Op}
+use Rattle.jn_msgs.specs.Collected.{Collected}
+use Rattle.jn_msgs.specs.declared.message.Message.TheVariants as messages
+use Rattle.jn_msgs.specs.declared.message.Note.TheVariants.{Ignored}
+use Rattle.jn_order.specs.Files.{answer_to, change}
+use Rattle.jn_records.specs.NetLists.{list_change}
+use Rattle.jn_rows.specs.declared.worker.ActiveWork.{ActiveWork}
+use Rattle.jn_rows.specs.Outcomes.{ignored}
+use Rattle.jn_rows.specs.Worker.{work_at, op_row, op_phase, performed, repeated, replies}
+use Rattle.jn_lock_rows.specs.Calls.{IsActive}
+use Rattle.jn_storage.specs.Storage.{StorageView}
+use Rattle.jn_storage.specs.Calls.{state}
+use Rattle.jn_worker.specs.Fitting.{WorkerView, Fits, is_active}
+use Rattle.jn_worker.specs.Calls.{Takes}
+use Rattle.jn_worker.proofs.Exits.{without_change}
+use Rattle.jn_worker.proofs.Voted.{found_active}
+
+module _ (t : WorkerView) (v : StorageView) (before after : Collected) (k : Tickets) (c : ClientNo) (request : ℕ) (W : WorkId) (number : ℕ) (op : Op) (kept : Option Answer) (h : Fits t v) (active : is_active (work_at W t.table) ≡ true)
+    (other : (T : Tid) (a : ActiveWork) → IsActive t.table T W a → nat_eq number (a.last + 1) ≡ false) (last : (T : Tid) (a : ActiveWork) → IsActive t.table T W a → kept ≡ (if nat_eq number a.last then a.kept else None)) where
+  row : op_row t.table (state v).files k c request W number op (work_at W t.table) ≡ repeated t.table k c request kept
+  row = let f = found_active t.table W active in let i = f.2 in let a = f.1 in
+      ap (λ o. op_row t.table (state v).files k c request W number op o) i.found ∙ (ap (λ phase. op_phase t.table (state v).files k c request i.work number op phase) i.phase
+      ∙ (ap (λ b. if b then performed t.table k c request i.work a op (answer_to op (change (list_change a.list) (state v).files)) else (if nat_eq number a.last then repeated t.table k c request a.kept else ignored t.table k)) (other f.0 a i)
+      ∙ (by (nat_eq number a.last) a.kept ∙ ap (λ x. repeated t.table k c request x) (sym (last f.0 a i)))))
+    where
+      by : (b : Bool) (x : Option Answer) → (if b then repeated t.table k c request x else ignored t.table k) ≡ repeated t.table k c request (if b then x else None)
+      by true x = refl
+      by false x = refl
+
+  pub repeat_told : (answer : Answer) → kept ≡ Some answer → after ≡ record { messages = before.messages ++ (Client c, messages.Answer c request answer) ∷ []; notes = before.notes }
+      → Takes (op_row t.table (state v).files k c request W number op (work_at W t.table)) t v before k (Ok (tt {0})) t v after k
+  repeat_told answer is sent = subst (λ row. Takes row t v before k (Ok (tt {0})) t v after k) (sym (row ∙ ap (λ x. repeated t.table k c request x) is))
+      (without_change (tt {0}) (replies t.table k c request answer) t t v before after k k refl refl (ap (λ (o : Collected). o.messages) sent) (ap (λ (o : Collected). o.notes) sent ∙ sym (append-nil before.notes)) refl h (λ x. x))
+
+  pub repeat_ignored : kept ≡ None → after ≡ record { messages = before.messages; notes = before.notes ++ Ignored ∷ [] }
+      → Takes (op_row t.table (state v).files k c request W number op (work_at W t.table)) t v before k (Ok (tt {0})) t v after k
+  repeat_ignored is sent = subst (λ row. Takes row t v before k (Ok (tt {0})) t v after k) (sym (row ∙ ap (λ x. repeated t.table k c request x) is))
+      (without_change (tt {0}) (ignored t.table k) t t v before after k k refl refl (ap (λ (o : Collected). o.messages) sent ∙ sym (append-nil before.messages)) (ap (λ (o : Collected). o.notes) sent) refl h (λ x. x))

@@ -1,0 +1,6 @@
+use Rattle.std.proofs.Common.{◌≡◌, ◌++◌, take, drop}
+use Rattle.jn_worker.specs.Calls.{rephased, tallied}
+use Rattle.jn_worker.proofs.lists.tally.Given as goal
+
+abbrev pub invariant-loop-i : goal.invariant-loop-i
+invariant-loop-i l = take l.i l.works.items ++ rephased l.name (tallied l.number l.answer) (drop l.i l.works.items) ≡ rephased l.name (tallied l.number l.answer) l.fn.works.items
