@@ -1,5 +1,5 @@
 -- A client's transactions are closed one by one.
-use Rattle.std.proofs.Common.{◌≡◌, ⊎_elim, ℕ, suc, Bool, true, false, ◌+◌, ◌≤◌, if◌then◌else◌, List, [], ◌∷◌, ◌++◌, Option, Some, None, Result, Ok, Err, length, take, refl, sym, ◌∙◌, ap, subst, arith, length-append, append_assoc, ◌<◌, zero, drop, slice_set, slice_index_or}
+use Rattle.std.proofs.Common.{◌≡◌, ⊎_elim, ℕ, suc, Bool, true, false, ◌+◌, ◌≤◌, ◌&&◌, if◌then◌else◌, List, [], ◌∷◌, ◌++◌, Option, Some, None, Result, Ok, Err, length, take, refl, sym, ◌∙◌, ap, subst, arith, length-append, append_assoc, ◌<◌, zero, drop, slice_set, slice_index_or}
 use Rattle.jn_base.specs.declared.names.ClientNo.{ClientNo}
 use Rattle.jn_base.specs.declared.names.Tid.{Tid}
 use Rattle.jn_base.specs.Names.{tid_eq}
@@ -8,7 +8,7 @@ use Rattle.jn_rows.specs.declared.coordinator.Transaction.{Transaction}
 use Rattle.jn_rows.specs.declared.coordinator.Stage.{Stage}
 use Rattle.jn_rows.specs.declared.coordinator.Stage.TheVariants.{Open, Voting, Committed, Aborted}
 use Rattle.jn_rows.specs.Stable.{Change, DropFlag, StableState, made_all, made_by}
-use Rattle.jn_rows.specs.Coordinator.{transaction_at, without, is_voting, closed, thanked_changes, after_closing, changes_of_closing}
+use Rattle.jn_rows.specs.Coordinator.{transaction_at, without, is_voting, all_in, closed, thanked, thanked_changes}
 use Rattle.jn_storage.specs.Storage.{StorageView, IsLoadable}
 use Rattle.jn_storage.specs.Calls.{state, FlagDropped}
 use Rattle.jn_store.proofs.Laws.{stop_since}
@@ -18,16 +18,16 @@ use Rattle.std.specs.Prelude.{is_ok}
 use Rattle.jn_coord.specs.declared.faults.CoordFault.{CoordFault}
 use Rattle.jn_coord.specs.declared.faults.CoordFault.TheVariants.{Memory, Stopped}
 use Rattle.jn_coord.specs.Calls.{flag_told, committed_as, Fits, Releases}
-use Rattle.jn_coord.specs.Closing.{goes, is_committed, next_closing, tid_in, going_in, LetsGo, GoneFrom, StaysOrGoes, ClosesOn, ClosesNext, ClosingStopped, known, knowing, ClosesAll}
+use Rattle.jn_coord.specs.Closing.{goes, is_committed, is_decided, takes_part, left_by, changes_by, next_closing, tid_in, going_in, LetsGo, GoneFrom, StaysOrGoes, ClosesOn, ClosesNext, ClosingStopped, known, knowing, ClosesAll}
 use Rattle.jn_coord.proofs.Tables.{at-named, for-found}
 use Rattle.jn_coord.proofs.Fitting.{below-not, flags-without, no-votes, promise_held, fits-without}
 use Rattle.jn_coord.proofs.Rows.{released-reaches, told-but}
 
-above-apart : (T : Tid) (x : Transaction) (xs : List Transaction) (c : ClientNo) → are_above T xs ≡ true → next_closing c xs ≡ Some x → tid_eq T x.tid ≡ false
+above-apart : (T : Tid) (x : Transaction) (xs : List Transaction) (c : Option ClientNo) → are_above T xs ≡ true → next_closing c xs ≡ Some x → tid_eq T x.tid ≡ false
 above-apart T x [] c h e = absurd (cc e)
 above-apart T x (y ∷ ys) c h e = let again = above-apart T x ys c in let n = below-not T in let t = tid_tells T y.tid in grind (arith, h, e)
 
-pub next-at : (c : ClientNo) (x : Transaction) (xs : List Transaction) → rises xs ≡ true → next_closing c xs ≡ Some x → transaction_at x.tid xs ≡ Some x
+pub next-at : (c : Option ClientNo) (x : Transaction) (xs : List Transaction) → rises xs ≡ true → next_closing c xs ≡ Some x → transaction_at x.tid xs ≡ Some x
 next-at c x [] h e = absurd (cc e)
 next-at c x (y ∷ ys) h e = let again = next-at c x ys in let apart = above-apart y.tid x ys c in let t = tid_tells x.tid x.tid in grind (arith, h, e)
 
@@ -37,9 +37,16 @@ closed-none x (Voting b) h = refl
 closed-none x (Committed d) h = rw h refl
 closed-none x (Aborted cause) h = refl
 
-pub left-same : (c : ClientNo) (x : Transaction) (xs : List Transaction) → rises xs ≡ true → next_closing c xs ≡ Some x → after_closing c (without x.tid xs) ≡ after_closing c xs
+thanked-none : (x : Transaction) (s : Stage) → (is_decided s && goes s) ≡ true → thanked s x ≡ []
+thanked-none x Open h = absurd (cc h)
+thanked-none x (Voting b) h = absurd (cc h)
+thanked-none x (Committed d) h = let all : all_in d.works d.done ≡ true = h in rw all refl
+thanked-none x (Aborted cause) h = refl
+
+pub left-same : (c : Option ClientNo) (x : Transaction) (xs : List Transaction) → rises xs ≡ true → next_closing c xs ≡ Some x → left_by c (without x.tid xs) ≡ left_by c xs
 left-same c x [] h e = absurd (cc e)
-left-same c x (y ∷ ys) h e = let again = left-same c x ys in let apart = above-apart y.tid x ys c in let t = tid_tells x.tid x.tid in let none = closed-none y y.stage in grind (arith, h, e)
+left-same (Some c) x (y ∷ ys) h e = let again = left-same (Some c) x ys in let apart = above-apart y.tid x ys (Some c) in let t = tid_tells x.tid x.tid in let none = closed-none y y.stage in grind (arith, h, e)
+left-same None x (y ∷ ys) h e = let again = left-same None x ys in let apart = above-apart y.tid x ys None in let t = tid_tells x.tid x.tid in let none = thanked-none y y.stage in grind (arith, h, e)
 
 changes-stay : (x : Transaction) (s : Stage) → goes s ≡ false → thanked_changes s x ≡ []
 changes-stay x Open h = absurd (cc h)
@@ -47,13 +54,22 @@ changes-stay x (Voting b) h = absurd (cc h)
 changes-stay x (Committed d) h = rw h refl
 changes-stay x (Aborted cause) h = absurd (cc h)
 
-pub changes-first : (c : ClientNo) (x : Transaction) (xs : List Transaction) → rises xs ≡ true → next_closing c xs ≡ Some x → changes_of_closing c xs ≡ thanked_changes x.stage x ++ changes_of_closing c (without x.tid xs)
-changes-first c x [] h e = absurd (cc e)
-changes-first c x (y ∷ ys) h e = let again = changes-first c x ys in let apart = above-apart y.tid x ys c in let t = tid_tells x.tid x.tid in let stay = changes-stay y y.stage in grind (arith, h, e)
+changes-stay-thanked : (x : Transaction) (s : Stage) → (is_decided s && goes s) ≡ false → thanked_changes s x ≡ []
+changes-stay-thanked x Open h = refl
+changes-stay-thanked x (Voting b) h = refl
+changes-stay-thanked x (Committed d) h = let all : all_in d.works d.done ≡ false = h in rw all refl
+changes-stay-thanked x (Aborted cause) h = absurd (cc h)
 
-pub changes-none : (c : ClientNo) (xs : List Transaction) → next_closing c xs ≡ None → changes_of_closing c xs ≡ []
-changes-none c [] e = refl
-changes-none c (y ∷ ys) e = let again = changes-none c ys in let stay = changes-stay y y.stage in grind (arith, e)
+pub changes-first : (c : Option ClientNo) (x : Transaction) (xs : List Transaction) → rises xs ≡ true → next_closing c xs ≡ Some x → changes_by c xs ≡ thanked_changes x.stage x ++ changes_by c (without x.tid xs)
+changes-first c x [] h e = absurd (cc e)
+changes-first (Some c) x (y ∷ ys) h e = let again = changes-first (Some c) x ys in let apart = above-apart y.tid x ys (Some c) in let t = tid_tells x.tid x.tid in let stay = changes-stay y y.stage in grind (arith, h, e)
+changes-first None x (y ∷ ys) h e = let again = changes-first None x ys in let apart = above-apart y.tid x ys None in let t = tid_tells x.tid x.tid in let stay = changes-stay-thanked y y.stage in grind (arith, h, e)
+
+pub changes-none : (c : Option ClientNo) (xs : List Transaction) → next_closing c xs ≡ None → changes_by c xs ≡ []
+changes-none (Some c) [] e = refl
+changes-none None [] e = refl
+changes-none (Some c) (y ∷ ys) e = let again = changes-none (Some c) ys in let stay = changes-stay y y.stage in grind (arith, e)
+changes-none None (y ∷ ys) e = let again = changes-none None ys in let stay = changes-stay-thanked y y.stage in grind (arith, e)
 
 pub length-less : (T : Tid) (xs : List Transaction) (x : Transaction) → transaction_at T xs ≡ Some x → length (without T xs) + 1 ≡ length xs
 length-less T [] x e = absurd (cc e)
@@ -144,7 +160,7 @@ made-then : (cs ds : List Change) (x : StableState) → made_all (cs ++ ds) x �
 made-then [] ds x = refl
 made-then (c ∷ cs) ds x = made-then cs ds (made_by c x)
 
-pub closes-next : (c : ClientNo) (r r' : Remembered) (v w : StorageView) (x : Transaction) → Fits r v → next_closing c r.transactions ≡ Some x → GoneFrom x v w → r' ≡ record r { transactions = without x.tid r.transactions }
+pub closes-next : (c : Option ClientNo) (r r' : Remembered) (v w : StorageView) (x : Transaction) → Fits r v → next_closing c r.transactions ≡ Some x → GoneFrom x v w → r' ≡ record r { transactions = without x.tid r.transactions }
     → ClosesOn c r v r' w × (length r'.transactions + 1 ≤ length r.transactions)
 closes-next c r r' v w x fits next gone ts = subst (λ q. ClosesOn c r v q w × (length q.transactions + 1 ≤ length r.transactions)) (sym ts) (
   record {
@@ -164,7 +180,7 @@ closes-next c r r' v w x fits next gone ts = subst (λ q. ClosesOn c r v q w × 
     at : transaction_at x.tid r.transactions ≡ Some x
     at = next-at c x r.transactions fits.rising next
 
-pub closing-stopped : (c : ClientNo) (r : Remembered) (v w : StorageView) (x : Transaction) → Fits r v → next_closing c r.transactions ≡ Some x → StaysOrGoes x v w → ClosingStopped c r v w
+pub closing-stopped : (c : Option ClientNo) (r : Remembered) (v w : StorageView) (x : Transaction) → Fits r v → next_closing c r.transactions ≡ Some x → StaysOrGoes x v w → ClosingStopped c r v w
 closing-stopped c r v w x fits next s = record {
   some = λ p. rw first (⊎_elim (λ e. record { made = 0; is_after = e }) (λ e. record { made = 1; is_after = e ∙ sym (one-made (state v)) }) (s.dropped.change.stop refl p));
   loadable = s.dropped.called.loadable;
@@ -174,9 +190,9 @@ closing-stopped c r v w x fits next s = record {
 }
   where
     rest : List Change
-    rest = changes_of_closing c (without x.tid r.transactions)
+    rest = changes_by c (without x.tid r.transactions)
 
-    first : changes_of_closing c r.transactions ≡ DropFlag x.tid ∷ rest
+    first : changes_by c r.transactions ≡ DropFlag x.tid ∷ rest
     first = changes-first c x r.transactions fits.rising next ∙ ap (λ cs. cs ++ rest) s.one
 
     one-made : (z : StableState) → made_all (take 1 (DropFlag x.tid ∷ rest)) z ≡ made_by (DropFlag x.tid) z
@@ -188,11 +204,15 @@ pub next-named : (o : Option Transaction) (T : Tid) → tid_in o ≡ Some T → 
 next-named None T e = absurd (cc e)
 next-named (Some x) T e = (x, refl, cc e)
 
-next-goes : (c : ClientNo) (x : Transaction) (xs : List Transaction) → next_closing c xs ≡ Some x → goes x.stage ≡ true
-next-goes c x [] e = absurd (cc e)
-next-goes c x (y ∷ ys) e = let again = next-goes c x ys in grind (arith, e)
+takes-goes : (c : Option ClientNo) (x : Transaction) → takes_part c x ≡ true → goes x.stage ≡ true
+takes-goes (Some c) x h = grind (arith, h)
+takes-goes None x h = grind (arith, h)
 
-pub going-next : (c : ClientNo) (T : Tid) (xs : List Transaction) → rises xs ≡ true → tid_in (next_closing c xs) ≡ Some T → going_in (transaction_at T xs) ≡ true
+next-goes : (c : Option ClientNo) (x : Transaction) (xs : List Transaction) → next_closing c xs ≡ Some x → goes x.stage ≡ true
+next-goes c x [] e = absurd (cc e)
+next-goes c x (y ∷ ys) e = let again = next-goes c x ys in let goes-too = takes-goes c y in grind (arith, e)
+
+pub going-next : (c : Option ClientNo) (T : Tid) (xs : List Transaction) → rises xs ≡ true → tid_in (next_closing c xs) ≡ Some T → going_in (transaction_at T xs) ≡ true
 going-next c T xs h e = let n = next-named (next_closing c xs) T e in subst (λ U. going_in (transaction_at U xs) ≡ true) n.2 (ap going_in (next-at c n.0 xs h n.1) ∙ next-goes c n.0 xs n.1)
 
 gone-of : (x : Transaction) (v w : StorageView) (a : Result (Unit {0}) CoordFault) → LetsGo x v a w → is_ok a ≡ true → GoneFrom x v w
@@ -204,28 +224,28 @@ stays-of x v w (Ok y) g e = absurd (cc e)
 stays-of x v w (Err Memory) g e = absurd g
 stays-of x v w (Err Stopped) g e = g
 
-pub next-closed : (c : ClientNo) (r r' : Remembered) (v w : StorageView) (T : Tid) (a : Result (Unit {0}) CoordFault) → Fits r v → tid_in (next_closing c r.transactions) ≡ Some T
+pub next-closed : (c : Option ClientNo) (r r' : Remembered) (v w : StorageView) (T : Tid) (a : Result (Unit {0}) CoordFault) → Fits r v → tid_in (next_closing c r.transactions) ≡ Some T
     → ((x : Transaction) → transaction_at T r.transactions ≡ Some x → LetsGo x v a w) → is_ok a ≡ true → r' ≡ record r { transactions = without T r.transactions }
     → ClosesOn c r v r' w × (length r'.transactions + 1 ≤ length r.transactions)
 next-closed c r r' v w T a fits e goes ok ts = let n = next-named (next_closing c r.transactions) T e in let at = next-at c n.0 r.transactions fits.rising n.1 in
     closes-next c r r' v w n.0 fits n.1 (gone-of n.0 v w a (goes n.0 (subst (λ U. transaction_at U r.transactions ≡ Some n.0) n.2 at)) ok) (ts ∙ ap (λ U. record r { transactions = without U r.transactions }) (sym n.2))
 
-pub next-stopped : (c : ClientNo) (r : Remembered) (v w : StorageView) (T : Tid) (a : Result (Unit {0}) CoordFault) → Fits r v → tid_in (next_closing c r.transactions) ≡ Some T
+pub next-stopped : (c : Option ClientNo) (r : Remembered) (v w : StorageView) (T : Tid) (a : Result (Unit {0}) CoordFault) → Fits r v → tid_in (next_closing c r.transactions) ≡ Some T
     → ((x : Transaction) → transaction_at T r.transactions ≡ Some x → LetsGo x v a w) → is_ok a ≡ false → ClosingStopped c r v w
 next-stopped c r v w T a fits e goes fell = let n = next-named (next_closing c r.transactions) T e in let at = next-at c n.0 r.transactions fits.rising n.1 in
     closing-stopped c r v w n.0 fits n.1 (stays-of n.0 v w a (goes n.0 (subst (λ U. transaction_at U r.transactions ≡ Some n.0) n.2 at)) fell)
 
 -- ---- one after another
 
-pub closes-none : (c : ClientNo) (r : Remembered) (v : StorageView) → Fits r v → ClosesOn c r v r v
+pub closes-none : (c : Option ClientNo) (r : Remembered) (v : StorageView) → Fits r v → ClosesOn c r v r v
 closes-none c r v fits = record { requests = refl; left = refl; first = []; split = refl; made = refl; calls = omega arith; fits = fits; later = storage_refl v; no_stop = refl }
 
-pub closes-more : (c : ClientNo) (r s t : Remembered) (u v w : StorageView) → ClosesOn c r u s v → ClosesOn c s v t w → ClosesOn c r u t w
+pub closes-more : (c : Option ClientNo) (r s t : Remembered) (u v w : StorageView) → ClosesOn c r u s v → ClosesOn c s v t w → ClosesOn c r u t w
 closes-more c r s t u v w f g = record {
   requests = g.requests ∙ f.requests;
   left = g.left ∙ f.left;
   first = f.first ++ g.first;
-  split = f.split ∙ ap (λ cs. f.first ++ cs) g.split ∙ sym (append_assoc f.first g.first (changes_of_closing c t.transactions));
+  split = f.split ∙ ap (λ cs. f.first ++ cs) g.split ∙ sym (append_assoc f.first g.first (changes_by c t.transactions));
   made = g.made ∙ ap (made_all g.first) f.made ∙ sym (made-then f.first g.first (state u));
   calls = let more = length-append f.first g.first in let calls = f.calls in let again = g.calls in omega (arith, more, calls, again);
   fits = g.fits;
@@ -237,56 +257,56 @@ take-past : (cs ds : List Change) (n : ℕ) → take (length cs + n) (cs ++ ds) 
 take-past [] ds n = ap (λ m. take m ds) (let m : 0 + n ≡ n = omega arith in m)
 take-past (c ∷ cs) ds n = let m : suc (length cs) + n ≡ suc (length cs + n) = omega arith in rw m (ap (λ es. c ∷ es) (take-past cs ds n))
 
-pub stopped-after : (c : ClientNo) (r s : Remembered) (u v w : StorageView) → ClosesOn c r u s v → ClosingStopped c s v w → ClosingStopped c r u w
+pub stopped-after : (c : Option ClientNo) (r s : Remembered) (u v w : StorageView) → ClosesOn c r u s v → ClosingStopped c s v w → ClosingStopped c r u w
 stopped-after c r s u v w f g = record {
   some = λ p. let q = g.some p in record {
     made = length f.first + q.made;
-    is_after = q.is_after ∙ ap (made_all (take q.made (changes_of_closing c s.transactions))) f.made ∙ sym (made-then f.first _ (state u)) ∙ ap (λ cs. made_all cs (state u)) (sym (take-past f.first (changes_of_closing c s.transactions) q.made)) ∙ ap (λ cs. made_all (take (length f.first + q.made) cs) (state u)) (sym f.split);
+    is_after = q.is_after ∙ ap (made_all (take q.made (changes_by c s.transactions))) f.made ∙ sym (made-then f.first _ (state u)) ∙ ap (λ cs. made_all cs (state u)) (sym (take-past f.first (changes_by c s.transactions) q.made)) ∙ ap (λ cs. made_all (take (length f.first + q.made) cs) (state u)) (sym f.split);
   };
   loadable = λ p. subst (λ n. IsLoadable n u.accounts.heads (w.found p)) f.later.server (subst (λ n. IsLoadable v.accounts.server n (w.found p)) f.later.heads (g.loadable p));
-  calls = let more = length-append f.first (changes_of_closing c s.transactions) in let all = ap (λ cs. length cs) f.split in let calls = f.calls in let again = g.calls in omega (arith, more, all, calls, again);
+  calls = let more = length-append f.first (changes_by c s.transactions) in let all = ap (λ cs. length cs) f.split in let calls = f.calls in let again = g.calls in omega (arith, more, all, calls, again);
   later = storage_trans u v w f.later g.later;
   stop = stop_since u.store v.store w.store f.later.store g.later.store g.stop;
 }
 
-none-left : (c : ClientNo) (xs : List Transaction) (n : ℕ) → length xs + n ≤ n → next_closing c xs ≡ None
+none-left : (c : Option ClientNo) (xs : List Transaction) (n : ℕ) → length xs + n ≤ n → next_closing c xs ≡ None
 none-left c [] n h = refl
 none-left c (x ∷ xs) n h = absurd (omega (arith, h))
 
-pub closed-all : (c : ClientNo) (r s : Remembered) (u v : StorageView) (i n : ℕ) → ClosesOn c r u s v → length s.transactions + i ≤ n → n ≤ i → ClosesOn c r u s v × (next_closing c s.transactions ≡ None)
+pub closed-all : (c : Option ClientNo) (r s : Remembered) (u v : StorageView) (i n : ℕ) → ClosesOn c r u s v → length s.transactions + i ≤ n → n ≤ i → ClosesOn c r u s v × (next_closing c s.transactions ≡ None)
 closed-all c r s u v i n f few end = (f, none-left c s.transactions i (omega (arith, few, end)))
 
 -- where s is the table before the step
-pub step-on : (c : ClientNo) (r s t : Remembered) (u v w : StorageView) (a : Result Bool CoordFault) (b : Bool) → ClosesOn c r u s v → ClosesNext c s v a t w → a ≡ Ok b → b ≡ true → ClosesOn c r u t w × (length t.transactions + 1 ≤ length s.transactions)
+pub step-on : (c : Option ClientNo) (r s t : Remembered) (u v w : StorageView) (a : Result Bool CoordFault) (b : Bool) → ClosesOn c r u s v → ClosesNext c s v a t w → a ≡ Ok b → b ≡ true → ClosesOn c r u t w × (length t.transactions + 1 ≤ length s.transactions)
 step-on c r s t u v w a b f g e go = let h = subst (λ d. ClosesNext c s v (Ok d) t w) go (subst (λ d. ClosesNext c s v d t w) e g) in (closes-more c r s t u v w f h.0, h.1)
 
-pub step-ends : (c : ClientNo) (r s t : Remembered) (u v w : StorageView) (a : Result Bool CoordFault) (b : Bool) → ClosesOn c r u s v → ClosesNext c s v a t w → a ≡ Ok b → b ≡ false → ClosesOn c r u t w × (next_closing c t.transactions ≡ None)
+pub step-ends : (c : Option ClientNo) (r s t : Remembered) (u v w : StorageView) (a : Result Bool CoordFault) (b : Bool) → ClosesOn c r u s v → ClosesNext c s v a t w → a ≡ Ok b → b ≡ false → ClosesOn c r u t w × (next_closing c t.transactions ≡ None)
 step-ends c r s t u v w a b f g e stop = let h = subst (λ d. ClosesNext c s v (Ok d) t w) stop (subst (λ d. ClosesNext c s v d t w) e g) in
     (subst (λ z. ClosesOn c r u t z) (sym h.2) (subst (λ z. ClosesOn c r u z v) (sym h.1) f), subst (λ z. next_closing c z.transactions ≡ None) (sym h.1) h.0)
 
-pub step-stopped : (c : ClientNo) (r s t : Remembered) (u v w : StorageView) (a : Result Bool CoordFault) (fault : CoordFault) → ClosesOn c r u s v → ClosesNext c s v a t w → a ≡ Err fault → ClosingStopped c r u w
+pub step-stopped : (c : Option ClientNo) (r s t : Remembered) (u v w : StorageView) (a : Result Bool CoordFault) (fault : CoordFault) → ClosesOn c r u s v → ClosesNext c s v a t w → a ≡ Err fault → ClosingStopped c r u w
 step-stopped c r s t u v w a Memory f g e = absurd (subst (λ d. ClosesNext c s v d t w) e g)
 step-stopped c r s t u v w a Stopped f g e = stopped-after c r s u v w f (subst (λ d. ClosesNext c s v d t w) e g)
 
 -- ---- what is left
 
-pub known_at : (c : ClientNo) (d : Transaction) (xs : List Transaction) (i : ℕ) → i < length xs
+pub known_at : (c : Option ClientNo) (d : Transaction) (xs : List Transaction) (i : ℕ) → i < length xs
     → take (i + 1) (slice_set xs i (known c (slice_index_or xs i d))) ++ knowing c (drop (i + 1) (slice_set xs i (known c (slice_index_or xs i d)))) ≡ take i xs ++ knowing c (drop i xs)
 known_at c d [] i h = grind arith
 known_at c d (x ∷ xs) zero h = grind arith
 known_at c d (x ∷ xs) (suc i) h = let rest = known_at c d xs i (omega arith) in grind (arith, rest)
 
-pub known_end : (c : ClientNo) (xs : List Transaction) (i : ℕ) → length xs ≤ i → take i xs ++ knowing c (drop i xs) ≡ xs
+pub known_end : (c : Option ClientNo) (xs : List Transaction) (i : ℕ) → length xs ≤ i → take i xs ++ knowing c (drop i xs) ≡ xs
 known_end c [] zero h = refl
 known_end c [] (suc i) h = refl
 known_end c (x ∷ xs) zero h = grind arith
 known_end c (x ∷ xs) (suc i) h = let rest = known_end c xs i (omega arith) in grind (arith, rest)
 
-pub all-stopped : (c : ClientNo) (r s : Remembered) (v w : StorageView) (a : Result (Unit {0}) CoordFault) → ClosesAll c r v a s w → is_ok a ≡ false → ClosingStopped c r v w
+pub all-stopped : (c : Option ClientNo) (r s : Remembered) (v w : StorageView) (a : Result (Unit {0}) CoordFault) → ClosesAll c r v a s w → is_ok a ≡ false → ClosingStopped c r v w
 all-stopped c r s v w (Ok x) h e = absurd (cc e)
 all-stopped c r s v w (Err Memory) h e = absurd h
 all-stopped c r s v w (Err Stopped) h e = h
 
-pub all-closed : (c : ClientNo) (r s : Remembered) (v w : StorageView) (a : Result (Unit {0}) CoordFault) → ClosesAll c r v a s w → is_ok a ≡ true → ClosesOn c r v s w × (next_closing c s.transactions ≡ None)
+pub all-closed : (c : Option ClientNo) (r s : Remembered) (v w : StorageView) (a : Result (Unit {0}) CoordFault) → ClosesAll c r v a s w → is_ok a ≡ true → ClosesOn c r v s w × (next_closing c s.transactions ≡ None)
 all-closed c r s v w (Ok x) h e = h
 all-closed c r s v w (Err f) h e = absurd (cc e)

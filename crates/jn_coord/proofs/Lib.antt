@@ -6,3 +6,6 @@ pub mod Room
 pub mod Ending
 pub mod ClosingLemmas
 pub mod Knowing
+pub mod Restart
+pub mod Beginnings
+pub mod Onwards

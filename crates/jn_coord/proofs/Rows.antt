@@ -22,7 +22,7 @@ use Rattle.jn_rows.specs.declared.coordinator.Committed.{Committed as Commitment
 use Rattle.jn_rows.specs.declared.coordinator.Voting.{Voting as Ballot}
 use Rattle.jn_rows.specs.Stable.{FlagState, Change, Changed, AddFlag, DropFlag, made_by}
 use Rattle.jn_rows.specs.Outcomes.{RowOutcome, ignored, sends}
-use Rattle.jn_rows.specs.Coordinator.{CoordinatorTable, transaction_at, with_stage, without, is_voting, drops, commits, all_in, abort_row, commit_row, forget_row, noted, thanks_row, thanks_stage, vote_stage, told_stage, dropped, is_work}
+use Rattle.jn_rows.specs.Coordinator.{CoordinatorTable, transaction_at, with_stage, without, is_voting, drops, commits, all_in, abort_row, commit_row, forget_row, noted, thanks_row, thanks_stage, vote_stage, told_stage, inquire_row, dropped, is_work}
 use Rattle.jn_storage.specs.Storage.{StorageView}
 use Rattle.jn_storage.specs.Calls.{state, PromiseReleased, Called, FlagPut, FlagDropped}
 use Rattle.jn_storage.proofs.Laws.{storage_refl}
@@ -306,6 +306,10 @@ told-still t k T W (Committed d) = by (is_work W d.works && not (is_work W d.don
     by true = (refl, refl)
     by false = (refl, refl)
 told-still t k T W (Aborted cause) = (refl, refl)
+
+pub inquire-still : (t : CoordinatorTable) (k : Tickets) (T : Tid) (W : WorkId) (o : Option Transaction) → ((inquire_row t k T W o).table ≡ t) × ((inquire_row t k T W o).changes ≡ [])
+inquire-still t k T W None = (refl, refl)
+inquire-still t k T W (Some x) = told-still t k T W x.stage
 
 pub waiting-still : (t : CoordinatorTable) (k : Tickets) (x : Transaction) (b : Ballot) (W : WorkId) (what : Outcome) → ((waiting_row t k x b W what).table ≡ t) × ((waiting_row t k x b W what).changes ≡ [])
 waiting-still t k x b W what = by (is_work W b.ready)

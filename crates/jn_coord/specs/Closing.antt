@@ -1,13 +1,13 @@
--- What a closing of a client's transactions does, one by one.
+-- What a closing of transactions does, one by one.
 use Rattle.std.specs.Prelude.{◌≡◌, ◌≤◌, ◌+◌, ◌*◌, Bool, true, false, ◌&&◌, if◌then◌else◌, List, [], ◌∷◌, ◌++◌, length, Option, Some, None, Result, Ok, Err}
 use Rattle.jn_base.specs.declared.names.ClientNo.{ClientNo}
 use Rattle.jn_base.specs.declared.names.Tid.{Tid}
 use Rattle.jn_base.specs.Names.{client_eq, tid_eq}
 use Rattle.jn_rows.specs.declared.coordinator.Transaction.{Transaction}
 use Rattle.jn_rows.specs.declared.coordinator.Stage.{Stage}
-use Rattle.jn_rows.specs.declared.coordinator.Stage.TheVariants.{Committed}
+use Rattle.jn_rows.specs.declared.coordinator.Stage.TheVariants.{Committed, Aborted}
 use Rattle.jn_rows.specs.Stable.{Change, DropFlag, Pick, IsStopState, made_all}
-use Rattle.jn_rows.specs.Coordinator.{all_in, is_voting, thanked_changes, after_closing, changes_of_closing}
+use Rattle.jn_rows.specs.Coordinator.{all_in, is_voting, thanked_changes, after_closing, changes_of_closing, all_thanked, flags_of_thanked}
 use Rattle.jn_storage.specs.Storage.{StorageView, StorageLater, IsLoadable, IsServing}
 use Rattle.jn_storage.specs.Calls.{state, FlagDropped}
 use Rattle.jn_store.specs.Store.{IsStop}
@@ -25,10 +25,28 @@ abbrev pub is_committed : Stage → Bool
 is_committed (Committed d) = true
 is_committed stage = false
 
--- the first of the client's transactions that goes
-abbrev pub next_closing : ClientNo → List Transaction → Option Transaction
-next_closing c [] = None
-next_closing c (x ∷ xs) = if client_eq x.client c && goes x.stage then Some x else next_closing c xs
+abbrev pub is_decided : Stage → Bool
+is_decided (Committed d) = true
+is_decided (Aborted cause) = true
+is_decided stage = false
+
+-- One client goes on, which drops what is undecided; or, with none named, every client knows its outcomes.
+abbrev pub takes_part : Option ClientNo → Transaction → Bool
+takes_part (Some c) x = client_eq x.client c && goes x.stage
+takes_part None x = is_decided x.stage && goes x.stage
+
+abbrev pub left_by : Option ClientNo → List Transaction → List Transaction
+left_by (Some c) xs = after_closing c xs
+left_by None xs = all_thanked xs
+
+abbrev pub changes_by : Option ClientNo → List Transaction → List Change
+changes_by (Some c) xs = changes_of_closing c xs
+changes_by None xs = flags_of_thanked xs
+
+-- the first transaction that goes
+abbrev pub next_closing : Option ClientNo → List Transaction → Option Transaction
+next_closing who [] = None
+next_closing who (x ∷ xs) = if takes_part who x then Some x else next_closing who xs
 
 abbrev pub tid_in : Option Transaction → Option Tid
 tid_in None = None
@@ -60,12 +78,12 @@ going_in None = false
 going_in (Some x) = goes x.stage
 
 -- So far in a closing: what is left to do comes to the same, and the two fit.
-pub record ClosesOn (c : ClientNo) (r : Remembered) (v : StorageView) (r' : Remembered) (w : StorageView) : Type 0 where
+pub record ClosesOn (who : Option ClientNo) (r : Remembered) (v : StorageView) (r' : Remembered) (w : StorageView) : Type 0 where
   pub requests : r'.requests ≡ r.requests
-  pub left : after_closing c r'.transactions ≡ after_closing c r.transactions
+  pub left : left_by who r'.transactions ≡ left_by who r.transactions
   -- the changes that were made
   pub first : List Change
-  pub split : changes_of_closing c r.transactions ≡ first ++ changes_of_closing c r'.transactions
+  pub split : changes_by who r.transactions ≡ first ++ changes_by who r'.transactions
   pub made : state w ≡ made_all first (state v)
   pub calls : w.store.calls ≤ v.store.calls + 16 * length first
   pub fits : Fits r' w
@@ -73,25 +91,25 @@ pub record ClosesOn (c : ClientNo) (r : Remembered) (v : StorageView) (r' : Reme
   pub no_stop : w.store.stops ≡ v.store.stops
 
 -- some of the changes are made, from the first one on
-pub record ClosingStopped (c : ClientNo) (r : Remembered) (v : StorageView) (w : StorageView) : Type 0 where
-  pub some : (p : Pick) → IsStopState (state v) (changes_of_closing c r.transactions) (w.found p)
+pub record ClosingStopped (who : Option ClientNo) (r : Remembered) (v : StorageView) (w : StorageView) : Type 0 where
+  pub some : (p : Pick) → IsStopState (state v) (changes_by who r.transactions) (w.found p)
   pub loadable : (p : Pick) → IsLoadable v.accounts.server v.accounts.heads (w.found p)
-  pub calls : w.store.calls ≤ v.store.calls + 16 * length (changes_of_closing c r.transactions)
+  pub calls : w.store.calls ≤ v.store.calls + 16 * length (changes_by who r.transactions)
   pub later : StorageLater v w
   pub stop : IsStop v.store w.store
 
 -- one transaction more is closed; false where none is left
-abbrev pub ClosesNext : ClientNo → Remembered → StorageView → Result Bool CoordFault → Remembered → StorageView → Type 0
-ClosesNext c r v (Ok true) r' w = ClosesOn c r v r' w × (length r'.transactions + 1 ≤ length r.transactions)
-ClosesNext c r v (Ok false) r' w = (next_closing c r.transactions ≡ None) × (r' ≡ r) × (w ≡ v)
-ClosesNext c r v (Err Stopped) r' w = ClosingStopped c r v w
-ClosesNext c r v (Err Memory) r' w = ⊥
+abbrev pub ClosesNext : Option ClientNo → Remembered → StorageView → Result Bool CoordFault → Remembered → StorageView → Type 0
+ClosesNext who r v (Ok true) r' w = ClosesOn who r v r' w × (length r'.transactions + 1 ≤ length r.transactions)
+ClosesNext who r v (Ok false) r' w = (next_closing who r.transactions ≡ None) × (r' ≡ r) × (w ≡ v)
+ClosesNext who r v (Err Stopped) r' w = ClosingStopped who r v w
+ClosesNext who r v (Err Memory) r' w = ⊥
 
 -- every transaction that goes is closed
-abbrev pub ClosesAll : {A : Type 0} → ClientNo → Remembered → StorageView → Result A CoordFault → Remembered → StorageView → Type 0
-ClosesAll c r v (Ok x) r' w = ClosesOn c r v r' w × (next_closing c r'.transactions ≡ None)
-ClosesAll c r v (Err Stopped) r' w = ClosingStopped c r v w
-ClosesAll c r v (Err Memory) r' w = ⊥
+abbrev pub ClosesAll : {A : Type 0} → Option ClientNo → Remembered → StorageView → Result A CoordFault → Remembered → StorageView → Type 0
+ClosesAll who r v (Ok x) r' w = ClosesOn who r v r' w × (next_closing who r'.transactions ≡ None)
+ClosesAll who r v (Err Stopped) r' w = ClosingStopped who r v w
+ClosesAll who r v (Err Memory) r' w = ⊥
 
 -- ---- what is left
 
@@ -99,24 +117,28 @@ abbrev pub known_stage : Stage → Stage
 known_stage (Committed d) = Committed (record d { thanked = true })
 known_stage stage = stage
 
--- the client knows of it, where it is the client's
-abbrev pub known : ClientNo → Transaction → Transaction
-known c x = if client_eq x.client c then record x { stage = known_stage x.stage } else x
+abbrev pub is_of : Option ClientNo → ClientNo → Bool
+is_of (Some c) d = client_eq d c
+is_of None d = true
 
-abbrev pub knowing : ClientNo → List Transaction → List Transaction
-knowing c [] = []
-knowing c (x ∷ xs) = known c x ∷ knowing c xs
+-- its client knows of it, where it is one that does
+abbrev pub known : Option ClientNo → Transaction → Transaction
+known who x = if is_of who x.client then record x { stage = known_stage x.stage } else x
 
--- a client's transactions are closed, as its next Begin asks
-pub record ClientClosed (c : ClientNo) (r : Remembered) (v : StorageView) (r' : Remembered) (w : StorageView) : Type 0 where
-  pub table : r' ≡ record r { transactions = after_closing c r.transactions }
-  pub made : state w ≡ made_all (changes_of_closing c r.transactions) (state v)
-  pub calls : w.store.calls ≤ v.store.calls + 16 * length (changes_of_closing c r.transactions)
+abbrev pub knowing : Option ClientNo → List Transaction → List Transaction
+knowing who [] = []
+knowing who (x ∷ xs) = known who x ∷ knowing who xs
+
+-- the transactions of a client are closed, as its next Begin asks, or all that are decided are thanked
+pub record ClientClosed (who : Option ClientNo) (r : Remembered) (v : StorageView) (r' : Remembered) (w : StorageView) : Type 0 where
+  pub table : r' ≡ record r { transactions = left_by who r.transactions }
+  pub made : state w ≡ made_all (changes_by who r.transactions) (state v)
+  pub calls : w.store.calls ≤ v.store.calls + 16 * length (changes_by who r.transactions)
   pub fits : Fits r' w
   pub later : StorageLater v w
   pub no_stop : w.store.stops ≡ v.store.stops
 
-abbrev pub ClosesClient : {A : Type 0} → ClientNo → Remembered → StorageView → Result A CoordFault → Remembered → StorageView → Type 0
-ClosesClient c r v (Ok x) r' w = ClientClosed c r v r' w
-ClosesClient c r v (Err Stopped) r' w = ClosingStopped c r v w
-ClosesClient c r v (Err Memory) r' w = ⊥
+abbrev pub ClosesClient : {A : Type 0} → Option ClientNo → Remembered → StorageView → Result A CoordFault → Remembered → StorageView → Type 0
+ClosesClient who r v (Ok x) r' w = ClientClosed who r v r' w
+ClosesClient who r v (Err Stopped) r' w = ClosingStopped who r v w
+ClosesClient who r v (Err Memory) r' w = ⊥

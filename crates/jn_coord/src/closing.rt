@@ -5,7 +5,7 @@ ghost use Rattle.jn_base.specs.declared.names.Tickets.{Tickets};
 ghost use Rattle.jn_rows.specs.Coordinator as rows;
 ghost use Rattle.jn_rows.specs.Coordinator.{CoordinatorTable};
 ghost use Rattle.jn_coord.specs.Calls.{Adds};
-ghost use Rattle.jn_coord.specs.Closing.{goes, is_committed, known, knowing, next_closing, tid_in};
+ghost use Rattle.jn_coord.specs.Closing.{goes, is_committed, is_decided, is_of, takes_part, known, knowing, next_closing, tid_in};
 
 use crate::faults::CoordFault;
 use crate::sending::{note, send};
@@ -24,29 +24,54 @@ pub fn goes(stage: &Stage) -> bool
     }
 }
 
-/// The first of the client's transactions that goes.
-pub fn next_closing(transactions: &[Transaction], client: ClientNo) -> Option<&Transaction>
-    ensures { option_copied result ≡ next_closing client transactions.now }
-{
-    for x in transactions {
-        if x.client == client && goes(&x.stage) {
-            return Some(x);
-        }
-    }
-    None
-}
-
 pub fn is_committed(stage: &Stage) -> bool
     ensures { result ≡ is_committed stage.now }
 {
     matches!(stage, Stage::Committed(_))
 }
 
-/// The client knows of a transaction, where it is the client's.
-fn know(x: &mut Transaction, client: ClientNo)
-    ensures { x.new ≡ known client x.old }
+fn is_decided(stage: &Stage) -> bool
+    ensures { result ≡ is_decided stage.now }
 {
-    if x.client != client {
+    matches!(stage, Stage::Committed(_) | Stage::Aborted(_))
+}
+
+/// Whether a transaction goes where a client goes on; or, with none named, where every client knows its outcomes.
+fn takes_part(x: &Transaction, who: Option<ClientNo>) -> bool
+    ensures { result ≡ takes_part who x.now }
+{
+    match who {
+        Some(client) => x.client == client && goes(&x.stage),
+        None => is_decided(&x.stage) && goes(&x.stage),
+    }
+}
+
+/// The first transaction that goes.
+pub fn next_closing(transactions: &[Transaction], who: Option<ClientNo>) -> Option<&Transaction>
+    ensures { option_copied result ≡ next_closing who transactions.now }
+{
+    for x in transactions {
+        if takes_part(x, who) {
+            return Some(x);
+        }
+    }
+    None
+}
+
+fn is_of(client: ClientNo, who: Option<ClientNo>) -> bool
+    ensures { result ≡ is_of who client }
+{
+    match who {
+        Some(other) => client == other,
+        None => true,
+    }
+}
+
+/// Its client knows of a transaction, where it is one that does.
+fn know(x: &mut Transaction, who: Option<ClientNo>)
+    ensures { x.new ≡ known who x.old }
+{
+    if !is_of(x.client, who) {
         return;
     }
     if let Stage::Committed(d) = &mut x.stage {
@@ -54,13 +79,13 @@ fn know(x: &mut Transaction, client: ClientNo)
     }
 }
 
-/// A client knows of its transactions.
+/// A client knows of its transactions, or every client does.
 #[tactic(auto, using(crate::proofs::ClosingLemmas::known_at, crate::proofs::ClosingLemmas::known_end))]
-pub fn know_all(transactions: &mut [Transaction], client: ClientNo)
-    ensures { transactions.new ≡ knowing client transactions.old }
+pub fn know_all(transactions: &mut [Transaction], who: Option<ClientNo>)
+    ensures { transactions.new ≡ knowing who transactions.old }
 {
     for i in 0..transactions.len() {
-        know(&mut transactions[i], client);
+        know(&mut transactions[i], who);
     }
 }
 

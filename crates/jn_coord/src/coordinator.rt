@@ -1,6 +1,6 @@
 //! A coordinator: what it does with each message.
 
-ghost use Rattle.std.specs.Prelude.{◌≡◌, true, false, ◌≤◌, ◌<◌, ◌+◌, ◌-◌, ◌++◌, [], ◌∷◌, length, Option, Some, None, is_some, OnOk, OnErr};
+ghost use Rattle.std.specs.Prelude.{◌≡◌, true, false, ◌≤◌, ◌<◌, ◌+◌, ◌-◌, ◌++◌, [], ◌∷◌, length, Option, Some, None, is_some, IfErr, OnOk, OnErr};
 ghost use Rattle.std.specs.Option.{option_copied};
 ghost use Rattle.jn_base.specs.declared.names.Tickets.{Tickets};
 ghost use Rattle.jn_base.specs.declared.names.Party.TheVariants as parties;
@@ -16,7 +16,9 @@ ghost use Rattle.jn_rows.specs.Coordinator.{CoordinatorTable};
 ghost use Rattle.jn_rows.specs.Outcomes as outcomes;
 ghost use Rattle.jn_storage.specs.Storage.{StorageView, IsServing};
 ghost use Rattle.jn_storage.specs.Calls.{state};
+ghost use Rattle.jn_coord.specs.declared.faults.CoordFault.TheVariants.{Stopped};
 ghost use Rattle.jn_coord.specs.Remembered.{table_of};
+ghost use Rattle.jn_coord.specs.Beginning.{TicketsFit};
 ghost use Rattle.jn_coord.specs.Closing.{going_in, tid_in, next_closing, LetsGo, ClosesNext, ClosesAll, ClosesClient, knowing};
 ghost use Rattle.jn_coord.specs.Calls.{Fits, FitsWith, Does, Adds, added, Releases, committed_as, committed_at, spare_of, voting_in, works_in, ballot_in, stage_in, free_of, is_memory, IsPromised, ballot_row, waiting_row};
 
@@ -41,19 +43,22 @@ use std::marker::Model;
 /// A coordinator: contracts see what it remembers.
 #[derive(Drop)]
 pub struct Coordinator {
-    /// In rising order of their names.
-    transactions: Vec<Transaction>,
+    /// In rising order of their names. There is room for all that may be live.
+    pub(crate) transactions: Vec<Transaction>,
     /// The greatest request that was seen of each client, by its number; 0 where none was.
-    requests: [u32; 256],
-    alloc: Global,
+    pub(crate) requests: [u32; 256],
+    pub(crate) alloc: Global,
 }
 
 impl Model for Coordinator {
+    ghost use Rattle.std.specs.Prelude.{◌≤◌, vec_capacity};
     ghost use Rattle.jn_coord.specs.Remembered.{Remembered};
 
     ghost Value = { Remembered };
 
     ghost view = { λ c. record { transactions = c.transactions.items; requests = c.requests } };
+
+    ghost invariant = { λ c. 64 ≤ vec_capacity c.transactions };
 }
 
 /// Gives back a promise, where there is one.
@@ -191,7 +196,7 @@ impl Coordinator {
 
     /// A work of a committed transaction is carried out.
     #[tactic(auto, using(crate::proofs::Rows::gave_up))]
-    fn done<F: FlagStore>(
+    pub(crate) fn done<F: FlagStore>(
         &mut self,
         store: &mut F,
         tid: Tid,
@@ -217,7 +222,7 @@ impl Coordinator {
 
     /// A client knows the outcome of its transaction.
     #[tactic(auto, using(crate::proofs::Rows::gave_up))]
-    fn thanks<F: FlagStore>(
+    pub(crate) fn thanks<F: FlagStore>(
         &mut self,
         store: &mut F,
         tid: Tid,
@@ -266,7 +271,7 @@ impl Coordinator {
     }
 
     /// A work asks for the outcome.
-    fn inquire(&self, tid: Tid, work: WorkId, out: &mut Out) -> Result<(), CoordFault>
+    pub(crate) fn inquire(&self, tid: Tid, work: WorkId, out: &mut Out) -> Result<(), CoordFault>
         ensures { (k : Tickets)
             → Adds (rows.inquire_row (table_of self.now) k tid work (rows.transaction_at tid self.now.transactions)).messages (rows.inquire_row (table_of self.now) k tid work (rows.transaction_at tid self.now.transactions)).notes out.old result out.new }
     {
@@ -288,7 +293,7 @@ impl Coordinator {
     }
 
     /// A work votes, or tells what its vote waits for.
-    fn vote<F: FlagStore>(
+    pub(crate) fn vote<F: FlagStore>(
         &mut self,
         store: &mut F,
         tid: Tid,
@@ -429,7 +434,7 @@ impl Coordinator {
 
     /// A client asks for the abort of its transaction.
     #[tactic(auto, using(crate::proofs::Rows::gave_up))]
-    fn abort_request<F: FlagStore>(
+    pub(crate) fn abort_request<F: FlagStore>(
         &mut self,
         store: &mut F,
         client: ClientNo,
@@ -457,7 +462,7 @@ impl Coordinator {
 
     /// A client ends its transaction.
     #[tactic(auto, using(crate::proofs::Rows::gave_up))]
-    fn end<F: FlagStore>(
+    pub(crate) fn end<F: FlagStore>(
         &mut self,
         store: &mut F,
         client: ClientNo,
@@ -591,16 +596,16 @@ impl Coordinator {
         Ok(())
     }
 
-    /// Closes one transaction more of a client; false where none is left that goes.
+    /// Closes one transaction more; false where none is left that goes.
     fn close_next<F: FlagStore>(
         &mut self,
         store: &mut F,
-        client: ClientNo,
+        who: Option<ClientNo>,
     ) -> Result<bool, CoordFault>
         requires fits { Fits self.old (F.view store.old) }
-        ensures { ClosesNext client self.old (F.view store.old) result self.new (F.view store.new) }
+        ensures { ClosesNext who self.old (F.view store.old) result self.new (F.view store.new) }
     {
-        let Some(tid) = self.next_closing(client) else {
+        let Some(tid) = self.next_closing(who) else {
             return Ok(false);
         };
         if self.let_go(store, tid).is_err() {
@@ -610,35 +615,54 @@ impl Coordinator {
         Ok(true)
     }
 
-    /// Closes a client's transactions: the decided ones are known to it, the others are dropped.
-    fn close_client<F: FlagStore>(
+    /// Closes a client's transactions: the decided ones are known to it, the others are dropped. With no client named,
+    /// every client knows its outcomes, and what is undecided stays.
+    pub(crate) fn close_client<F: FlagStore>(
         &mut self,
         store: &mut F,
-        client: ClientNo,
+        who: Option<ClientNo>,
     ) -> Result<(), CoordFault>
         requires fits { Fits self.old (F.view store.old) }
-        ensures { ClosesClient client self.old (F.view store.old) result self.new (F.view store.new) }
+        ensures { ClosesClient who self.old (F.view store.old) result self.new (F.view store.new) }
     {
-        if self.close(store, client).is_err() {
+        if self.close(store, who).is_err() {
             return Err(CoordFault::Stopped);
         }
-        self.know_all(client);
+        self.know_all(who);
         Ok(())
     }
 
-    fn know_all(&mut self, client: ClientNo)
-        ensures { self.new ≡ record self.old { transactions = knowing client self.old.transactions } }
+    /// Every client knows the outcomes of its transactions: what is over goes with its flag. This takes no memory.
+    pub fn close_clients<F: FlagStore>(&mut self, store: &mut F) -> Result<(), CoordFault>
+        requires fits { Fits self.old (F.view store.old) }
+        ensures does { (k : Tickets) (before : Collected)
+            → Does (rows.close_clients_row (table_of self.old) k) self.old (F.view store.old) before result self.new (F.view store.new) before }
+        ensures tickets { (k : Tickets) → TicketsFit self.old (F.view store.old) k → OnOk result (TicketsFit self.new (F.view store.new) k) }
+        ensures stopped { IfErr result (λ fault. fault ≡ Stopped) }
     {
-        know_all(&mut self.transactions, client);
+        if self.close_client(store, None).is_err() {
+            return Err(CoordFault::Stopped);
+        }
+        Ok(())
     }
 
-    /// Closes a client's transactions, but for those that wait for a work.
-    fn close<F: FlagStore>(&mut self, store: &mut F, client: ClientNo) -> Result<(), CoordFault>
+    fn know_all(&mut self, who: Option<ClientNo>)
+        ensures { self.new ≡ record self.old { transactions = knowing who self.old.transactions } }
+    {
+        know_all(&mut self.transactions, who);
+    }
+
+    /// Closes transactions, but for those that wait for a work.
+    fn close<F: FlagStore>(
+        &mut self,
+        store: &mut F,
+        who: Option<ClientNo>,
+    ) -> Result<(), CoordFault>
         requires fits { Fits self.old (F.view store.old) }
-        ensures { ClosesAll client self.old (F.view store.old) result self.new (F.view store.new) }
+        ensures { ClosesAll who self.old (F.view store.old) result self.new (F.view store.new) }
     {
         for _closed in 0..self.live() {
-            match self.close_next(store, client) {
+            match self.close_next(store, who) {
                 Err(_) => return Err(CoordFault::Stopped),
                 Ok(more) => {
                     if !more {
@@ -650,10 +674,10 @@ impl Coordinator {
         Ok(())
     }
 
-    fn next_closing(&self, client: ClientNo) -> Option<Tid>
-        ensures { result ≡ tid_in (next_closing client self.now.transactions) }
+    fn next_closing(&self, who: Option<ClientNo>) -> Option<Tid>
+        ensures { result ≡ tid_in (next_closing who self.now.transactions) }
     {
-        let x = next_closing(&self.transactions, client)?;
+        let x = next_closing(&self.transactions, who)?;
         Some(x.tid)
     }
 

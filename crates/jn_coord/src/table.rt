@@ -1,6 +1,6 @@
 //! The transactions of a coordinator.
 
-ghost use Rattle.std.specs.Prelude.{◌≡◌, not, true, ◌&&◌, [], ◌∷◌, ◌++◌, IfOk, IfErr};
+ghost use Rattle.std.specs.Prelude.{◌≡◌, not, true, ◌&&◌, [], ◌∷◌, ◌++◌, IfOk, IfErr, vec_capacity};
 ghost use Rattle.std.specs.Option.{option_copied};
 ghost use Rattle.jn_rows.specs.Coordinator as rows;
 ghost use Rattle.jn_coord.specs.declared.faults.CoordFault.TheVariants.{Memory};
@@ -49,7 +49,8 @@ pub fn set_stage(transactions: &mut [Transaction], tid: Tid, stage: Stage)
 /// A transaction goes.
 #[tactic(auto, using(crate::proofs::Tables::removed_at, crate::proofs::Tables::removed_none, crate::proofs::Tables::place_within))]
 pub fn remove(transactions: &mut Vec<Transaction>, tid: Tid)
-    ensures { transactions.new.items ≡ rows.without tid transactions.old.items }
+    ensures items { transactions.new.items ≡ rows.without tid transactions.old.items }
+    ensures capacity { vec_capacity transactions.new ≡ vec_capacity transactions.old }
 {
     if let Some(i) = place_of(transactions, tid) {
         transactions.remove(i);

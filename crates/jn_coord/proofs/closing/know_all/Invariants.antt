@@ -3,4 +3,4 @@ use Rattle.jn_coord.specs.Closing.{knowing}
 use Rattle.jn_coord.proofs.closing.know_all.Given as goal
 
 abbrev pub invariant-loop-i : goal.invariant-loop-i
-invariant-loop-i l = take l.i l.transactions ++ knowing l.client (drop l.i l.transactions) ≡ knowing l.client l.fn.transactions
+invariant-loop-i l = take l.i l.transactions ++ knowing l.who (drop l.i l.transactions) ≡ knowing l.who l.fn.transactions

@@ -3,4 +3,4 @@ use Rattle.jn_coord.specs.Closing.{next_closing}
 use Rattle.jn_coord.proofs.closing.next_closing.Given as goal
 
 abbrev pub invariant-loop-x : goal.invariant-loop-x
-invariant-loop-x l = next_closing l.client (drop l.x-index l.transactions) ≡ next_closing l.client l.transactions
+invariant-loop-x l = next_closing l.who (drop l.x-index l.transactions) ≡ next_closing l.who l.transactions

@@ -3,4 +3,4 @@ use Rattle.jn_coord.specs.Closing.{ClosesOn}
 use Rattle.jn_coord.proofs.coordinator.Coordinator.close.Given as goal
 
 abbrev pub invariant-loop-closed : goal.invariant-loop-closed
-invariant-loop-closed g l = ClosesOn l.client l.fn.self (g.F.Storage.view l.fn.store) l.self (g.F.Storage.view l.store) × (length l.self.transactions + l._closed ≤ length l.fn.self.transactions)
+invariant-loop-closed g l = ClosesOn l.who l.fn.self (g.F.Storage.view l.fn.store) l.self (g.F.Storage.view l.store) × (length l.self.transactions + l._closed ≤ length l.fn.self.transactions)
