@@ -1,5 +1,5 @@
 -- The number of the client's next request.
-use Rattle.std.proofs.Common.{◌≡◌, ◌≤◌, ◌+◌, ℕ, true, List, Option, Result, Ok, refl, ◌∙◌, arith}
+use Rattle.std.proofs.Common.{◌≡◌, ◌≤◌, ◌+◌, ℕ, List, Option, Result, Ok, refl, ◌∙◌, arith}
 use Rattle.jn_run.specs.declared.outside.RunFault.{RunFault}
 use Rattle.jn_run.specs.Running.{RunsEvent}
 use Rattle.jn_report.specs.declared.line.Line.{Line}
