@@ -64,10 +64,9 @@ none-stored g g' pages pages' fresh counts same = AreSame-equal no_files (only_s
 
 pub are-printed : (files files' : Files) (r commits : ℕ) (down up last : Line) (old new items : List Line)
     → ((u : LockUnit) → files' u ≡ files u) → r ≡ 2 → down ≡ end_line (says.Down server_0) → up ≡ end_line (says.Up server_0 r) → last ≡ end_line (says.Commits commits)
-    → old ≡ down ∷ up ∷ [] → PrintsFiles files' old new → items ≡ new ++ last ∷ [] → ArePrinted files 2 items
+    → old ≡ down ∷ up ∷ [] → PrintsFiles files' old new → items ≡ new ++ last ∷ [] → ArePrinted files 2 commits items
 are-printed files files' r commits down up last old new items same number d u c begins printed ends = record {
   prints = printed.0;
-  commits = commits;
   all = ends ∙ ap (λ (ls : List Line). ls ++ last ∷ []) (printed.1 ∙ ap (λ (ls : List Line). ls ++ printed.0) begins)
       ∙ ap (λ (l : Line). l ∷ up ∷ (printed.0 ++ last ∷ [])) d ∙ ap (λ (l : Line). end_line (says.Down server_0) ∷ l ∷ (printed.0 ++ last ∷ [])) (u ∙ ap (λ (n : ℕ). end_line (says.Up server_0 n)) number)
       ∙ ap (λ (l : Line). end_line (says.Down server_0) ∷ end_line (says.Up server_0 2) ∷ (printed.0 ++ l ∷ [])) c;

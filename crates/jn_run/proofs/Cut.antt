@@ -1,9 +1,11 @@
 -- A run that is told event by event, and may be cut off.
-use Rattle.std.proofs.Common.{◌≡◌, ◌⊎◌, inl, inr, ℕ, zero, suc, ◌+◌, ◌<◌, ◌≤◌, true, false, List, [], ◌∷◌, ◌++◌, length, take, drop, Option, Result, get_or, refl, sym, ◌∙◌, ap, subst, arith, append-nil}
+use Rattle.std.proofs.Common.{◌≡◌, ◌⊎◌, inl, inr, ℕ, zero, suc, ◌+◌, ◌<◌, ◌≤◌, false, List, [], ◌∷◌, ◌++◌, length, take, drop, Option, Result, Ok, get_or, length-append, refl, sym, ◌∙◌, ap, subst, arith, append-nil}
 use Rattle.std.proofs.Math.Seq.{take-length}
 use Rattle.jn_schedule.specs.declared.Event.{Event}
 use Rattle.jn_report.specs.declared.line.Line.{Line}
 use Rattle.jn_report.specs.Text.{report_text}
+use Rattle.jn_serial.specs.Lines.{history_of}
+use Rattle.jn_serial.proofs.Orders.{history_of-append}
 use Rattle.jn_host.proofs.Faults.{rose_since}
 use Rattle.jn_run.specs.declared.outside.RunFault.{RunFault}
 use Rattle.jn_run.specs.Names.{start_line}
@@ -20,10 +22,11 @@ use Rattle.jn_run.proofs.Prints.{at-server-0, ending-shows}
 use Rattle.jn_run.proofs.Joined.{report_text-append}
 use Rattle.jn_run.proofs.Telling.{took-then, front-then, front-all}
 
--- the events before place i are run and told
-pub record ToldTo (a : Option (List ℕ)) (f : ℕ) (events : List Event) (i : ℕ) (v : View) (b : Option (List ℕ)) (g : ℕ) : Type 0 where
+-- the events before place i are run and told, with so many commits
+pub record ToldTo (a : Option (List ℕ)) (f : ℕ) (events : List Event) (i commits : ℕ) (v : View) (b : Option (List ℕ)) (g : ℕ) : Type 0 where
   pub count : f ≤ g
   pub lines : List Line
+  pub counted : commits ≡ length (history_of lines)
   pub between : Between (take i events) (start_line ∷ lines) v
   pub took : Took a b (report_text (start_line ∷ lines))
 
@@ -63,29 +66,30 @@ pub cut-at-start : (a b : Option (List ℕ)) (events : List Event) (v : View) �
 cut-at-start a b events v between took = part-of a b events 0 v (start_line ∷ []) between took
 
 -- between two events
-pub cut-between : (a b : Option (List ℕ)) (f g : ℕ) (events : List Event) (i : ℕ) (v : View) → ToldTo a f events i v b g → PartRun a events b
-cut-between a b f g events i v t = part-of a b events i v (start_line ∷ t.lines) t.between (front-all a b (report_text (start_line ∷ t.lines)) t.took)
+pub cut-between : (a b : Option (List ℕ)) (f g : ℕ) (events : List Event) (i commits : ℕ) (v : View) → ToldTo a f events i commits v b g → PartRun a events b
+cut-between a b f g events i commits v t = part-of a b events i v (start_line ∷ t.lines) t.between (front-all a b (report_text (start_line ∷ t.lines)) t.took)
 
 -- one more event
-pub told-more : (d : Event) (a b c : Option (List ℕ)) (f g h : ℕ) (events : List Event) (i n : ℕ) (v w : View) (r : Result (Unit {0}) RunFault) → i < length events → n ≡ i + 1 → ToldTo a f events i v b g
-    → RunsEvent b g n (get_or events i d) v r w c h → Rattle.std.specs.Prelude.is_ok r ≡ true → ToldTo a f events (i + 1) w c h
-told-more d a b c f g h events i n v w r below number t e ok =
-    let told = e.whole ok in
+pub told-more : (d : Event) (a b c : Option (List ℕ)) (f g h : ℕ) (events : List Event) (i n commits all : ℕ) (v w : View) (r : Result ℕ RunFault) → i < length events → n ≡ i + 1 → ToldTo a f events i commits v b g
+    → RunsEvent b g n commits (get_or events i d) v r w c h → r ≡ Ok all → ToldTo a f events (i + 1) all w c h
+told-more d a b c f g h events i n commits all v w r below number t e ok =
+    let told = e.whole all ok in
     let at : n ≡ next_number (take i events) = number ∙ (let l = length-take events i (omega arith) in omega (arith, l)) in
     record {
       count = omega (arith, t.count, e.count);
       lines = t.lines ++ told.0;
+      counted = (let more = told.3 in let before = t.counted in let both = length-append (history_of t.lines) (history_of told.0) in let joined = ap length (history_of-append t.lines told.0) in omega (arith, more, before, both, joined));
       between = subst (λ (es : List Event). Between es (start_line ∷ (t.lines ++ told.0)) w) (sym (take-next d events i below)) (between-kept (take i events) (start_line ∷ t.lines) at told.1 t.between);
       took = subst (λ (x : List ℕ). Took a c x) (sym (report_text-append (start_line ∷ t.lines) told.0)) (took-then a b c (report_text (start_line ∷ t.lines)) (report_text told.0) t.took told.2);
     }
 
 -- an event that was cut off
-pub cut-in-event : (d : Event) (a b c : Option (List ℕ)) (f g h : ℕ) (events : List Event) (i n : ℕ) (v w : View) (r : Result (Unit {0}) RunFault) → i < length events → n ≡ i + 1 → ToldTo a f events i v b g
-    → RunsEvent b g n (get_or events i d) v r w c h → Rattle.std.specs.Prelude.is_ok r ≡ false → PartRun a events c
-cut-in-event d a b c f g h events i n v w r below number t e cut = which (e.part cut)
+pub cut-in-event : (d : Event) (a b c : Option (List ℕ)) (f g h : ℕ) (events : List Event) (i n commits : ℕ) (v w : View) (r : Result ℕ RunFault) → i < length events → n ≡ i + 1 → ToldTo a f events i commits v b g
+    → RunsEvent b g n commits (get_or events i d) v r w c h → Rattle.std.specs.Prelude.is_ok r ≡ false → PartRun a events c
+cut-in-event d a b c f g h events i n commits v w r below number t e cut = which (e.part cut)
   where
     which : (c ≡ b) ⊎ ((ms : List Line) × Runs n (get_or events i d) v w ms × TookFront b c (report_text ms)) → PartRun a events c
-    which (inl same) = subst (λ (x : Option (List ℕ)). PartRun a events x) (sym same) (cut-between a b f g events i v t)
+    which (inl same) = subst (λ (x : Option (List ℕ)). PartRun a events x) (sym same) (cut-between a b f g events i commits v t)
     which (inr told) =
         let at : n ≡ next_number (take i events) = number ∙ (let l = length-take events i (omega arith) in omega (arith, l)) in
         part-of a c events (i + 1) w (start_line ∷ (t.lines ++ told.0))
@@ -100,21 +104,21 @@ pub record IsWhole (events : List Event) (lines ends : List Line) : Type 0 where
   pub report : IsReport (lines ++ ends)
   pub run : Rattle.jn_run.specs.Outcome.IsRun events (lines ++ ends)
 
-pub whole-run : (events : List Event) (lines ends : List Line) (v : View) → Between events (start_line ∷ lines) v → ArePrinted v.stored 2 ends → IsWhole events (start_line ∷ lines) ends
+pub whole-run : (events : List Event) (lines ends : List Line) (v : View) → Between events (start_line ∷ lines) v → ArePrinted v.stored 2 (length (history_of lines)) ends → IsWhole events (start_line ∷ lines) ends
 whole-run events lines ends v between printed =
     let stage = so-far events (start_line ∷ lines) v between in
     record {
-      report = record { told = lines; prints = printed.prints; commits = printed.commits; are_prints = printed.are_prints; all = ap (λ (m : List Line). start_line ∷ (lines ++ m)) printed.all };
+      report = record { told = lines; prints = printed.prints; are_prints = printed.are_prints; all = ap (λ (m : List Line). start_line ∷ (lines ++ m)) printed.all };
       run = ends-run events (start_line ∷ lines) ends stage.0 (only_server_0 v.stored) stage.1 between.order.stored
-          (subst (λ (m : List Line). AreOfEnd m) (sym printed.all) (of-end printed.commits printed.prints printed.are_prints))
+          (subst (λ (m : List Line). AreOfEnd m) (sym printed.all) (of-end (length (history_of lines)) printed.prints printed.are_prints))
           (λ s. subst (λ (m : List Line). Rattle.jn_serial.specs.Shown.ShowsFiles (only_server_0 v.stored) s m) (sym printed.all)
-          (ending-shows 2 printed.commits printed.prints (only_server_0 v.stored) printed.shows (at-server-0 v.stored) s));
+          (ending-shows 2 (length (history_of lines)) printed.prints (only_server_0 v.stored) printed.shows (at-server-0 v.stored) s));
     }
 
-pub ran-to-end : (a b c : Option (List ℕ)) (f g h : ℕ) (events : List Event) (v : View) (ends : List Line) (r : Result (Unit {0}) RunFault) → ToldTo a f events (length events) v b g → ArePrinted v.stored 2 ends → Reports b g ends r c h → Ran a f events r c h
-ran-to-end a b c f g h events v ends r t printed reports =
+pub ran-to-end : (a b c : Option (List ℕ)) (f g h : ℕ) (events : List Event) (commits : ℕ) (v : View) (ends : List Line) (r : Result (Unit {0}) RunFault) → ToldTo a f events (length events) commits v b g → ArePrinted v.stored 2 commits ends → Reports b g ends r c h → Ran a f events r c h
+ran-to-end a b c f g h events commits v ends r t printed reports =
     let between : Between events (start_line ∷ t.lines) v = subst (λ (es : List Event). Between es (start_line ∷ t.lines) v) (take-length events) t.between in
-    let all = whole-run events t.lines ends v between printed in
+    let all = whole-run events t.lines ends v between (subst (λ n. ArePrinted v.stored 2 n ends) t.counted printed) in
     let text = sym (report_text-append (start_line ∷ t.lines) ends) in
     record {
       count = omega (arith, t.count, reports.count);

@@ -1,5 +1,5 @@
 -- The number of the client's next request.
-use Rattle.std.proofs.Common.{◌≡◌, ◌≤◌, ◌+◌, ℕ, true, List, Option, Result, is_ok, refl, ◌∙◌, arith}
+use Rattle.std.proofs.Common.{◌≡◌, ◌≤◌, ◌+◌, ℕ, List, Option, Result, Ok, refl, ◌∙◌, arith}
 use Rattle.jn_run.specs.declared.outside.RunFault.{RunFault}
 use Rattle.jn_run.specs.Running.{RunsEvent}
 use Rattle.jn_report.specs.declared.line.Line.{Line}
@@ -27,9 +27,9 @@ runs-requests (refuses command refusal v own) = omega arith
 runs-requests (sends_again v) = omega arith
 runs-requests (settles v w ms leads) = let same = leads-requests leads in omega (arith, same)
 
-pub one-more-request : (taken : Option (List ℕ)) (faults n : ℕ) (e : Event) (v : View) (answer : Result (Unit {0}) RunFault) (w : View) (taken' : Option (List ℕ)) (faults' : ℕ) (index : ℕ)
-    → RunsEvent taken faults n e v answer w taken' faults' → is_ok answer ≡ true → v.requests ≤ index + 1 → w.requests ≤ (index + 1) + 1
-one-more-request taken faults n e v answer w taken' faults' index ran is few =
-    let ran = ran.whole is in
+pub one-more-request : (taken : Option (List ℕ)) (faults n commits all : ℕ) (e : Event) (v : View) (answer : Result ℕ RunFault) (w : View) (taken' : Option (List ℕ)) (faults' : ℕ) (index : ℕ)
+    → RunsEvent taken faults n commits e v answer w taken' faults' → answer ≡ Ok all → v.requests ≤ index + 1 → w.requests ≤ (index + 1) + 1
+one-more-request taken faults n before all e v answer w taken' faults' index ran is few =
+    let ran = ran.whole all is in
     let more = runs-requests ran.1 in
     omega (arith, more, few)

@@ -70,23 +70,27 @@ cut-start a b f g events v lines told r e is was between same reports =
     cut-off a b f g events r e is reports.count (λ write. reports.rose (was ∙ sym is ∙ write))
     (cut-at-start a b events v between (subst (λ (ls : List Line). TookFront a b (report_text ls)) same (reports.front (is-cut told e was))))
 
+pub same-fault : {A : Type 0} (r : Result A RunFault) (e : RunFault) → r ≡ Err e → r ≡ Err runs.Write → e ≡ runs.Write
+same-fault r e is write = cc
+
 -- in an event
-pub cut-at : (d : Event) (a b c : Option (List ℕ)) (f g h : ℕ) (events : List Event) (i n : ℕ) (v w : View) (ran r : Result (Unit {0}) RunFault) (e : RunFault) → r ≡ Err e → ran ≡ Err e → i < length events → n ≡ i + 1 → ToldTo a f events i v b g
-    → RunsEvent b g n (get_or events i d) v ran w c h → Ran a f events r c h
-cut-at d a b c f g h events i n v w ran r e is was below number t one =
-    cut-off a c f h events r e is (omega (arith, t.count, one.count)) (λ write. rose_since f g h t.count one.count (one.rose (was ∙ sym is ∙ write)))
-    (cut-in-event d a b c f g h events i n v w ran below number t one (is-cut ran e was))
+pub cut-at : (d : Event) (a b c : Option (List ℕ)) (f g h : ℕ) (events : List Event) (i n commits : ℕ) (v w : View) (ran : Result ℕ RunFault) (r : Result (Unit {0}) RunFault) (e : RunFault) → r ≡ Err e → ran ≡ Err e → i < length events → n ≡ i + 1 → ToldTo a f events i commits v b g
+    → RunsEvent b g n commits (get_or events i d) v ran w c h → Ran a f events r c h
+cut-at d a b c f g h events i n commits v w ran r e is was below number t one =
+    cut-off a c f h events r e is (omega (arith, t.count, one.count)) (λ write. rose_since f g h t.count one.count (one.rose (was ∙ ap (λ e. Err e) (same-fault r e is write))))
+    (cut-in-event d a b c f g h events i n commits v w ran below number t one (is-cut ran e was))
 
 -- behind the events
-pub cut-end : (a b : Option (List ℕ)) (f g : ℕ) (events : List Event) (i : ℕ) (v : View) (r : Result (Unit {0}) RunFault) (e : RunFault) → r ≡ Err e → e ≡ runs.Memory → ToldTo a f events i v b g → Ran a f events r b g
-cut-end a b f g events i v r e is memory t = cut-off a b f g events r e is t.count (λ write. absurd (no-write r e is memory write)) (cut-between a b f g events i v t)
+pub cut-end : (a b : Option (List ℕ)) (f g : ℕ) (events : List Event) (i commits : ℕ) (v : View) (r : Result (Unit {0}) RunFault) (e : RunFault) → r ≡ Err e → e ≡ runs.Memory → ToldTo a f events i commits v b g → Ran a f events r b g
+cut-end a b f g events i commits v r e is memory t = cut-off a b f g events r e is t.count (λ write. absurd (no-write r e is memory write)) (cut-between a b f g events i commits v t)
 
 -- the first line is told
 pub told-start : (a b : Option (List ℕ)) (f g : ℕ) (events : List Event) (v : View) (lines : List Line) (told : Result (Unit {0}) RunFault) → is_ok told ≡ true → Between [] (start_line ∷ []) v → lines ≡ start_line ∷ []
-    → Reports a f lines told b g → ToldTo a f events 0 v b g
+    → Reports a f lines told b g → ToldTo a f events 0 0 v b g
 told-start a b f g events v lines told ok between same reports = record {
   count = reports.count;
   lines = [];
+  counted = refl;
   between = between;
   took = subst (λ (ls : List Line). Took a b (report_text ls)) same (reports.whole ok);
 }

@@ -16,9 +16,8 @@ abbrev pub ending : ℕ → ℕ → List Line → List Line
 ending epoch commits prints = end_line (says.Down server_0) ∷ end_line (says.Up server_0 epoch) ∷ (prints ++ end_line (says.Commits commits) ∷ [])
 
 -- the lines at the end, with those that print these files
-pub record ArePrinted (files : Files) (epoch : ℕ) (lines : List Line) : Type 0 where
+pub record ArePrinted (files : Files) (epoch commits : ℕ) (lines : List Line) : Type 0 where
   pub prints : List Line
-  pub commits : ℕ
   pub all : lines ≡ ending epoch commits prints
   pub are_prints : ArePrints prints
   pub shows : ShowsFiles (only_server_0 files) server_0 prints

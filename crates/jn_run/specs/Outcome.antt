@@ -6,6 +6,7 @@ use Rattle.jn_order.specs.Files.{no_files}
 use Rattle.jn_schedule.specs.declared.Event.{Event}
 use Rattle.jn_report.specs.declared.line.Line.{Line}
 use Rattle.jn_report.specs.Text.{report_text}
+use Rattle.jn_serial.specs.Lines.{history_of}
 use Rattle.jn_serial.specs.Order.{Agrees}
 use Rattle.jn_serial.specs.Told.{Told}
 use Rattle.jn_serial.specs.Shown.{ShownSoFar, ShownAtEnd}
@@ -46,13 +47,13 @@ pub record IsRunSoFar (events : List Event) (lines : List Line) : Type 0 where
   pub all : events ≡ done ++ others
   pub holds : Holds done lines
 
--- The whole report of a run: the start, what its events tell, and the end, with the lines that print the files.
+-- The whole report of a run: the start, what its events tell, and the end, with the lines that print the files and the
+-- number of the commits.
 pub record IsReport (lines : List Line) : Type 0 where
   pub told : List Line
   pub prints : List Line
-  pub commits : ℕ
   pub are_prints : ArePrints prints
-  pub all : lines ≡ start_line ∷ told ++ ending 2 commits prints
+  pub all : lines ≡ start_line ∷ told ++ ending 2 (length (history_of told)) prints
 
 -- the longest schedule
 abbrev pub most_bytes : ℕ

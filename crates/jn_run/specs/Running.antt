@@ -1,18 +1,19 @@
 -- What a run of events leaves.
-use Rattle.std.specs.Prelude.{◌≡◌, ◌≤◌, ◌⊎◌, ℕ, true, false, List, Option, Result, Err, is_ok}
+use Rattle.std.specs.Prelude.{◌≡◌, ◌≤◌, ◌⊎◌, ◌+◌, ℕ, true, false, List, length, Option, Result, Ok, Err, is_ok}
 use Rattle.jn_schedule.specs.declared.Event.{Event}
 use Rattle.jn_report.specs.declared.line.Line.{Line}
 use Rattle.jn_report.specs.Text.{report_text}
+use Rattle.jn_serial.specs.Lines.{history_of}
 use Rattle.jn_host.specs.Outside.{Rose}
 use Rattle.jn_run.specs.declared.outside.RunFault.{RunFault}
 use Rattle.jn_run.specs.declared.outside.RunFault.TheVariants as runs
 use Rattle.jn_run.specs.Moves.{View, Runs}
 use Rattle.jn_run.specs.Outcome.{WholeRun, PartRun, Took, TookFront}
 
--- what the sink took of one event's lines
-pub record RunsEvent (taken : Option (List ℕ)) (faults n : ℕ) (e : Event) (v : View) (answer : Result (Unit {0}) RunFault) (w : View) (taken' : Option (List ℕ)) (faults' : ℕ) : Type 0 where
+-- what the sink took of one event's lines, and how many commits were told by then
+pub record RunsEvent (taken : Option (List ℕ)) (faults n commits : ℕ) (e : Event) (v : View) (answer : Result ℕ RunFault) (w : View) (taken' : Option (List ℕ)) (faults' : ℕ) : Type 0 where
   pub count : faults ≤ faults'
-  pub whole : is_ok answer ≡ true → (ms : List Line) × Runs n e v w ms × Took taken taken' (report_text ms)
+  pub whole : (all : ℕ) → answer ≡ Ok all → (ms : List Line) × Runs n e v w ms × Took taken taken' (report_text ms) × (all ≡ commits + length (history_of ms))
   pub part : is_ok answer ≡ false → (taken' ≡ taken) ⊎ ((ms : List Line) × Runs n e v w ms × TookFront taken taken' (report_text ms))
   pub rose : answer ≡ Err runs.Write → Rose faults faults'
 

@@ -1,6 +1,7 @@
 //! The events of a schedule, run one after another.
 
-ghost use Rattle.std.specs.Prelude.{◌≡◌, ◌<◌, ◌≤◌, ◌+◌, ◌^◌, length, true};
+ghost use Rattle.std.specs.Prelude.{◌≡◌, ◌<◌, ◌≤◌, ◌+◌, ◌^◌, length, true, if◌then◌else◌, IfOk};
+ghost use Rattle.jn_serial.specs.Lines.{history_of, commit_in};
 ghost use Rattle.jn_run.specs.Names.{start_line};
 ghost use Rattle.jn_run.specs.Runnable.{is_run, all_run, first_not_run};
 ghost use Rattle.jn_run.specs.Running.{Ran, RunsEvent};
@@ -13,7 +14,7 @@ use jn_base::ClientNo;
 use jn_host::Sink;
 use jn_report::{Line, Text, When};
 use jn_schedule::Event;
-use std::alloc::Global;
+use std::alloc::{AllocError, Global};
 
 /// Whether this world runs an event: those of client 1, and settles.
 fn is_known(event: &Event) -> bool
@@ -50,11 +51,12 @@ pub fn run_events<K: Sink>(alloc: Global, events: &[Event], sink: &mut K) -> Res
     let mut world = World::new(alloc)?;
     report(alloc, sink, &[start_line()])?;
     let mut number = 0;
+    let mut commits = 0;
     for event in events {
         number += 1;
-        run_event(alloc, &mut world, number, event, sink)?;
+        commits = run_event(alloc, &mut world, number, event, commits, sink)?;
     }
-    let lines = world.close(alloc)?;
+    let lines = world.close(alloc, commits)?;
     report(alloc, sink, &lines)
 }
 
@@ -67,20 +69,43 @@ fn start_line() -> Line
     }
 }
 
-/// Runs an event, and tells its lines.
+/// The commits so far with those that these lines tell. More than a number of 32 bits has room for are taken as want of
+/// memory.
+fn count_commits(before: u32, lines: &[Line]) -> Result<u32, AllocError>
+    ensures { IfOk result (λ n. n ≡ before + length (history_of lines.now)) }
+{
+    let mut commits = before;
+    for line in lines {
+        if is_commit(&line.text) {
+            commits = commits.checked_add(1).ok_or(AllocError)?;
+        }
+    }
+    Ok(commits)
+}
+
+fn is_commit(text: &Text) -> bool
+    ensures { (if result then 1 else 0) ≡ length (commit_in text.now) }
+{
+    matches!(text, Text::Commit(_))
+}
+
+/// Runs an event, and tells its lines. Answers how many commits were told so far.
 fn run_event<K: Sink>(
     alloc: Global,
     world: &mut World,
     number: u32,
     event: &Event,
+    commits: u32,
     sink: &mut K,
-) -> Result<(), RunFault>
+) -> Result<u32, RunFault>
     requires known { is_run event.now ≡ true }
     requires within { event_within event.now ≡ true }
     requires few { (view_of world.old).requests + 1 < 2 ^ 32 }
-    ensures ran { RunsEvent (K.taken sink.old) (K.faults sink.old) number event.now (view_of world.old) result (view_of world.new) (K.taken sink.new) (K.faults sink.new) }
+    ensures ran { RunsEvent (K.taken sink.old) (K.faults sink.old) number commits event.now (view_of world.old) result (view_of world.new) (K.taken sink.new) (K.faults sink.new) }
 {
     let mut lines = Vec::new(alloc);
     world.event(alloc, number, event, &mut lines)?;
-    report(alloc, sink, &lines)
+    let commits = count_commits(commits, &lines)?;
+    report(alloc, sink, &lines)?;
+    Ok(commits)
 }

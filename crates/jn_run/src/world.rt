@@ -67,7 +67,6 @@ pub struct World {
     // the ticket of its last work
     opened: u32,
     next_ticket: u32,
-    commits: u32,
     // What follows tells only which messages are sent.
     work: Work,
     // of a committed transaction: the work has carried it out
@@ -102,7 +101,6 @@ impl World {
             changes: Changes::new(alloc),
             opened: 0,
             next_ticket: 0,
-            commits: 0,
             work: Work::None,
             is_done: true,
             is_thanked: true,
@@ -523,7 +521,6 @@ impl World {
     {
         lines.push(line_at(number, Text::Commit(tid)))?;
         self.carry_out(alloc);
-        self.commits = self.commits.saturating_add(1);
         self.is_done = !self.client.is_open_at(SERVER);
         self.send_commit()
     }
@@ -686,9 +683,9 @@ impl World {
     }
 
     /// The lines at the end: the server goes down and comes up again, its files are printed from its pages,
-    /// and the commits are counted.
-    pub fn close(self, alloc: Global) -> Result<Vec<Line>, AllocError>
-        ensures { IfOk result (λ v. ArePrinted (view_of self).stored 2 v.items) }
+    /// and so many commits are told.
+    pub fn close(self, alloc: Global, commits: u32) -> Result<Vec<Line>, AllocError>
+        ensures { IfOk result (λ v. ArePrinted (view_of self).stored 2 commits v.items) }
     {
         let mut disk = self.disk;
         let epoch = disk.raise_epoch();
@@ -696,7 +693,7 @@ impl World {
         lines.push(end_line(Text::Down(SERVER)))?;
         lines.push(end_line(Text::Up(SERVER, epoch)))?;
         disk.print(&mut lines)?;
-        lines.push(end_line(Text::Commits(self.commits)))?;
+        lines.push(end_line(Text::Commits(commits)))?;
         Ok(lines)
     }
 }

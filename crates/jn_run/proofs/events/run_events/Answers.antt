@@ -43,31 +43,31 @@ run_event-requires-clause-within g c = one-is-within _ c.args.events.now c.loop-
 pub run_event-requires-clause-few : goal.run_event-requires-clause-few
 run_event-requires-clause-few g c = omega (arith, c.loop-event.invariant.requests, c.loop-event-test.true, c.requires.few)
 
-pub returns-in_err-run_event : goal.returns-in_err-run_event
-returns-in_err-run_event g c =
-    let p = err_from_is_err_and c.from_residual-in_err-run_event.result c.from_residual-in_err-run_event.ensures.1 in
+pub returns-in_err-commits : goal.returns-in_err-commits
+returns-in_err-commits g c =
+    let p = err_from_is_err_and c.from_residual-in_err-commits.result c.from_residual-in_err-commits.ensures.1 in
     record {
-      ran = cut-at _ _ _ _ _ _ _ c.args.events.now c.loop-event.event-index (c.loop-event.number + 1) (view_of c.loop-event.world) (view_of c.run_event.new.world) c.run_event.result c.from_residual-in_err-run_event.result p.0 p.1
-          (c.in_err-run_event.was ∙ ap (λ e. Rattle.std.specs.Prelude.Err e) (sym p.2)) c.loop-event-test.true (ap (λ (n : ℕ). n + 1) c.loop-event.invariant.number) c.loop-event.invariant.told c.run_event.ensures.ran;
+      ran = cut-at _ _ _ _ _ _ _ c.args.events.now c.loop-event.event-index (c.loop-event.number + 1) c.loop-event.commits (view_of c.loop-event.world) (view_of c.run_event.new.world) c.run_event.result c.from_residual-in_err-commits.result p.0 p.1
+          (c.in_err-commits.was ∙ ap (λ e. Rattle.std.specs.Prelude.Err e) (sym p.2)) c.loop-event-test.true (ap (λ (n : ℕ). n + 1) c.loop-event.invariant.number) c.loop-event.invariant.told c.run_event.ensures.ran;
     }
 
 pub loop-event-preserved : goal.loop-event-preserved
 loop-event-preserved g c = record {
   number = ap (λ (n : ℕ). n + 1) c.loop-event.invariant.number;
-  requests = one-more-request _ _ _ _ _ _ _ _ _ c.loop-event.event-index (c.run_event.ensures.ran) (ap is_ok c.in_ok-run_event.was) c.loop-event.invariant.requests;
-  told = told-more _ _ _ _ _ _ _ c.args.events.now c.loop-event.event-index (c.loop-event.number + 1) (view_of c.loop-event.world) (view_of c.run_event.new.world) c.run_event.result
-      c.loop-event-test.true (ap (λ (n : ℕ). n + 1) c.loop-event.invariant.number) c.loop-event.invariant.told c.run_event.ensures.ran (ap is_ok c.in_ok-run_event.was);
+  requests = one-more-request _ _ _ _ _ _ _ _ _ _ _ c.loop-event.event-index (c.run_event.ensures.ran) c.in_ok-commits.was c.loop-event.invariant.requests;
+  told = told-more _ _ _ _ _ _ _ c.args.events.now c.loop-event.event-index (c.loop-event.number + 1) c.loop-event.commits _ (view_of c.loop-event.world) (view_of c.run_event.new.world) c.run_event.result
+      c.loop-event-test.true (ap (λ (n : ℕ). n + 1) c.loop-event.invariant.number) c.loop-event.invariant.told c.run_event.ensures.ran c.in_ok-commits.was;
 }
 
 pub returns-in_err-lines : goal.returns-in_err-lines
 returns-in_err-lines g c =
     let p = err_from_is_err_and c.from_residual-in_err-lines.result c.from_residual-in_err-lines.ensures.1 in
-    record { ran = cut-end _ _ _ _ c.args.events.now c.loop-event.event-index (view_of c.loop-event.world) c.from_residual-in_err-lines.result p.0 p.1 p.2 c.loop-event.invariant.told }
+    record { ran = cut-end _ _ _ _ c.args.events.now c.loop-event.event-index c.loop-event.commits (view_of c.loop-event.world) c.from_residual-in_err-lines.result p.0 p.1 p.2 c.loop-event.invariant.told }
 
 pub returns : goal.returns
 returns g c =
     let all : c.loop-event.event-index ≡ length c.args.events.now = omega (arith, c.loop-event-test.false, c.loop-event.auto.event-index-end) in
-    let told = subst (λ (i : ℕ). ToldTo (g.K.Sink.taken c.args.sink.now) (g.K.Sink.faults c.args.sink.now) c.args.events.now i (view_of c.loop-event.world) (g.K.Sink.taken c.loop-event.sink) (g.K.Sink.faults c.loop-event.sink)) all c.loop-event.invariant.told in
-    let printed : ArePrinted (view_of c.loop-event.world).stored 2 c.deref.result.now =
-    subst (λ (ls : List Line). ArePrinted (view_of c.loop-event.world).stored 2 ls) (sym c.deref.ensures.value) c.in_ok-lines.ensures in
-    record { ran = ran-to-end _ _ _ _ _ _ c.args.events.now (view_of c.loop-event.world) c.deref.result.now c.report-2.result told printed c.report-2.ensures.reported }
+    let told = subst (λ (i : ℕ). ToldTo (g.K.Sink.taken c.args.sink.now) (g.K.Sink.faults c.args.sink.now) c.args.events.now i c.loop-event.commits (view_of c.loop-event.world) (g.K.Sink.taken c.loop-event.sink) (g.K.Sink.faults c.loop-event.sink)) all c.loop-event.invariant.told in
+    let printed : ArePrinted (view_of c.loop-event.world).stored 2 c.loop-event.commits c.deref.result.now =
+    subst (λ (ls : List Line). ArePrinted (view_of c.loop-event.world).stored 2 c.loop-event.commits ls) (sym c.deref.ensures.value) c.in_ok-lines.ensures in
+    record { ran = ran-to-end _ _ _ _ _ _ c.args.events.now c.loop-event.commits (view_of c.loop-event.world) c.deref.result.now c.report-2.result told printed c.report-2.ensures.reported }

@@ -7,5 +7,5 @@ abbrev pub invariant-loop-event : goal.invariant-loop-event
 invariant-loop-event g l = record {
   number : l.number ≡ l.event-index;
   requests : (view_of l.world).requests ≤ l.event-index + 1;
-  told : ToldTo (g.K.Sink.taken l.fn.sink) (g.K.Sink.faults l.fn.sink) l.events l.event-index (view_of l.world) (g.K.Sink.taken l.sink) (g.K.Sink.faults l.sink);
+  told : ToldTo (g.K.Sink.taken l.fn.sink) (g.K.Sink.faults l.fn.sink) l.events l.event-index l.commits (view_of l.world) (g.K.Sink.taken l.sink) (g.K.Sink.faults l.sink);
 }
