@@ -23,3 +23,4 @@ pub mod Operated
 pub mod Settled
 pub mod Does
 pub mod Fetched
+pub mod Playing
