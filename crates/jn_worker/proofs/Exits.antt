@@ -16,7 +16,7 @@ use Rattle.jn_worker.specs.declared.words.WorkerFault.TheVariants.{Stopped, Memo
 use Rattle.jn_worker.specs.Fitting.{WorkerView, Fits, TicketsFit}
 use Rattle.jn_worker.specs.Calls.{Takes}
 
-none-made : (x : StableState) (changes : List Change) (found : Pick → StableState) → ((c : Pick) → found c ≡ x) → ChangedAll x changes false found
+pub none-made : (x : StableState) (changes : List Change) (found : Pick → StableState) → ((c : Pick) → found c ≡ x) → ChangedAll x changes false found
 none-made x changes found h = record { done = λ e. absurd (cc e); stop = λ _ c. record { made = 0; is_after = h c } }
 
 -- without memory, where nothing has been done

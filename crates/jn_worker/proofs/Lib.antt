@@ -22,3 +22,5 @@ pub mod Performed
 pub mod Operated
 pub mod Settled
 pub mod Does
+pub mod Fetched
+pub mod Playing

@@ -34,7 +34,7 @@ use Rattle.jn_worker.proofs.Granted.{granted_itself}
 at-rephased : (W : WorkId) (f : Phase → Phase) (ws : List Work) (x : Work) → work_at W ws ≡ Some x → work_at W (rephased W f ws) ≡ Some (record x { phase = f x.phase })
 at-rephased W f ws x at = ap (λ l. work_at W l) (rephased-is W f ws x at) ∙ (at-phase W W (f x.phase) ws ∙ (ap (λ b. if b then in_phase (f x.phase) (work_at W ws) else work_at W ws) (work_same W) ∙ ap (λ o. in_phase (f x.phase) o) at))
 
-at-with : (W : WorkId) (p : Phase) (ws : List Work) (x : Work) → work_at W ws ≡ Some x → work_at W (with_phase W p ws) ≡ Some (record x { phase = p })
+pub at-with : (W : WorkId) (p : Phase) (ws : List Work) (x : Work) → work_at W ws ≡ Some x → work_at W (with_phase W p ws) ≡ Some (record x { phase = p })
 at-with W p ws x at = at-phase W W p ws ∙ (ap (λ b. if b then in_phase p (work_at W ws) else work_at W ws) (work_same W) ∙ ap (λ o. in_phase p o) at)
 
 pub grant_becomes : (t : WorkerView) (ws found given taken : List Work) (gs : List WorkId) (W : WorkId) (x : Work) (a : ActiveWork) (op : Op) (answer : Answer) (fit : Bool) (empty : List Intention) (reads writes : List LockUnit) (next : ActiveWork) → record { table = ws; going = gs } ≡ t → found ≡ ws → work_at W found ≡ Some x → x.phase ≡ Active a

@@ -1,5 +1,5 @@
 -- A step without a message.
-use Rattle.std.proofs.Common.{◌≡◌, Bool, true, false, List, [], ◌∷◌, Option, Some, None, refl, sym, ◌∙◌, ap, subst, arith, true≢false}
+use Rattle.std.proofs.Common.{◌≡◌, ℕ, Bool, true, false, List, [], ◌∷◌, Option, Some, None, refl, sym, ◌∙◌, ap, subst, arith, true≢false}
 use Rattle.std.specs.Prelude.{Result, Ok, Err, is_ok, is_some, not, slice_get, if◌then◌else◌}
 use Rattle.std.proofs.lemmas.List.{append-nil}
 use Rattle.jn_base.specs.declared.device.Stopped.{Stopped}
@@ -56,7 +56,7 @@ erase_stopped t v w before k answer e is h none r = subst (λ row. Steps row t v
     )
 
 -- the works fit as before, where nothing but rubbish is less
-fits_erased : (t : WorkerView) (v w : StorageView) → Fits t v → Called v 16 true w → state w ≡ state v → ((V : WorkId) → is_in work_eq V w.accounts.rubbish ≡ true → is_in work_eq V v.accounts.rubbish ≡ true) → Fits t w
+pub fits_erased : {most : ℕ} (t : WorkerView) (v w : StorageView) → Fits t v → Called v most true w → state w ≡ state v → ((V : WorkId) → is_in work_eq V w.accounts.rubbish ≡ true → is_in work_eq V v.accounts.rubbish ≡ true) → Fits t w
 fits_erased t v w h called same fewer = record {
   serving = called.serving refl;
   few = h.few;
@@ -70,7 +70,7 @@ fits_erased t v w h called same fewer = record {
     still V false e n = refl
     still V true e n = absurd (true≢false (sym (fewer V e) ∙ n))
 
-tickets_erased : (t : WorkerTable) (v w : StorageView) (k : Tickets) → Called v 16 true w → state w ≡ state v → ((V : WorkId) → is_in work_eq V w.accounts.rubbish ≡ true → is_in work_eq V v.accounts.rubbish ≡ true) → TicketsFit t v k → TicketsFit t w k
+pub tickets_erased : {most : ℕ} (t : WorkerTable) (v w : StorageView) (k : Tickets) → Called v most true w → state w ≡ state v → ((V : WorkId) → is_in work_eq V w.accounts.rubbish ≡ true → is_in work_eq V v.accounts.rubbish ≡ true) → TicketsFit t v k → TicketsFit t w k
 tickets_erased t v w k called same fewer h = record { server = h.server ∙ sym called.later.server; epoch = h.epoch ∙ sym (ap (λ x. x.epoch) same); live = h.live; rubbish = λ V e. h.rubbish V (fewer V e) }
 
 abbrev told : Result Bool Stopped → Bool

@@ -1,3 +1,5 @@
 pub mod Fitting
 pub mod Calls
+pub mod Reading
+pub mod Handling
 pub mod Restoring

@@ -2,10 +2,12 @@
 #![tactic(auto)]
 
 mod finish;
+mod handle;
 mod lists;
 mod open;
 mod operate;
 mod prepare;
+mod reading;
 mod refuse;
 mod restore;
 mod step;

@@ -157,7 +157,7 @@ impl Worker {
     }
 
     /// Does an operation of an active work whose answer is known, or answers why not.
-    fn settle(
+    pub(crate) fn settle(
         &mut self,
         name: WorkId,
         number: u32,

@@ -1,0 +1,5 @@
+use Rattle.std.proofs.Common.{sym, ◌∙◌}
+use Rattle.jn_worker.proofs.worker.Worker.operate.Goals as goal
+
+pub repeat-requires-clause-other : goal.repeat-requires-clause-other
+repeat-requires-clause-other g c = λ T a i. sym (c.is_next.ensures T a i) ∙ c.if-not-is_next.true
