@@ -1,0 +1,4 @@
+pub mod Course
+pub mod Settle
+pub mod Events
+pub mod Rows
