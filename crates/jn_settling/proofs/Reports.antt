@@ -1,12 +1,40 @@
 -- What the runs report, computed.
-use Rattle.std.proofs.Common.{◌≡◌, [], ◌∷◌, refl}
+use Rattle.std.proofs.Common.{◌≡◌, [], ◌∷◌, Some, None, refl, arith}
 use Rattle.jn_base.specs.declared.names.LockUnit.TheVariants.{File, Block}
 use Rattle.jn_base.specs.declared.names.Cause.TheVariants.{Requested, Lost, Broken}
 use Rattle.jn_locks.specs.Locks as locks
 use Rattle.jn_report.specs.declared.line.Refusal.TheVariants.{NoFile, Locked}
 use Rattle.jn_report.specs.declared.line.Text.TheVariants as says
-use Rattle.jn_settling.specs.Events.{line}
-use Rattle.jn_settling.specs.Rows.{s0, s1, c1, c2, tid, file, block, padded, report, without_stale, one_write, stopped_at_prepare, two_at_a_block, a_reader_breaks, two_wait, half_prepared, not_prepared, half_committed, not_committed, goes_on_beside}
+use Rattle.jn_order.specs.Files.{there}
+use Rattle.jn_rows.specs.Stable.{Prepared, FlagState, Pick, at_work, at_tid}
+use Rattle.jn_protocol.specs.Steps.{AreNames, tid_before}
+use Rattle.jn_base.specs.declared.names.Tid.{Tid}
+use Rattle.jn_base.specs.declared.names.WorkId.{WorkId}
+use Rattle.jn_base.specs.Names.{tid_eq, work_eq}
+use Rattle.jn_base.proofs.Tells.{work_tells, tid_tells}
+use Rattle.jn_locks.specs.Locks.{work_before}
+use Rattle.jn_settling.specs.Events.{line, AreSteps}
+use Rattle.jn_settling.specs.Rows.{s0, s1, c1, c2, tid, file, block, padded, start, told, report, without_stale, one_write, stopped_at_prepare, two_at_a_block, a_reader_breaks, two_wait, half_prepared, not_prepared, half_committed, not_committed, goes_on_beside, the_work}
+
+-- ---- what the restarts find
+
+no-works : AreNames {A = WorkId} {B = Prepared} work_eq work_before (λ V. None) []
+no-works = record { each = λ a. refl; rising = refl }
+
+no-flags : AreNames {A = Tid} {B = FlagState} tid_eq tid_before (λ T. None) []
+no-flags = record { each = λ a. refl; rising = refl }
+
+one-work : (p : Prepared) → AreNames work_eq work_before (at_work (λ V. None) the_work (Some p)) (the_work ∷ [])
+one-work p = record { each = λ a. grind (arith, work_tells); rising = refl }
+
+one-flag : (p : FlagState) → AreNames tid_eq tid_before (at_tid (λ T. None) (tid s1 0) (Some p)) (tid s1 0 ∷ [])
+one-flag p = record { each = λ a. grind (arith, tid_tells); rising = refl }
+
+-- ---- the runs
+
+pub one_client_writes_page : (c : Pick) → ((told 1 (one_write (padded (104 ∷ 105 ∷ [])))).course.world.found s0 c).files (Block (file 7) (block 0)) ≡ Some (padded (104 ∷ 105 ∷ []))
+unfolding locks.unit_before
+one_client_writes_page c = refl
 
 pub one_client_writes : report 1 (one_write (padded (104 ∷ 105 ∷ [])))
     ≡ line 2 (says.Begun c1 1 (tid s0 0))
@@ -18,6 +46,10 @@ pub one_client_writes : report 1 (one_write (padded (104 ∷ 105 ∷ [])))
     ∷ []
 unfolding locks.unit_before
 one_client_writes = refl
+
+pub one_client_writes_steps : AreSteps 1 (one_write (padded (104 ∷ 105 ∷ []))) (start 1)
+unfolding locks.unit_before
+one_client_writes_steps = ((tt, tt), ((tt, tt), ((tt, tt), ((tt, tt), ((tt, tt), tt)))))
 
 pub a_prepare_is_stopped : report 1 stopped_at_prepare
     ≡ line 2 (says.Begun c1 1 (tid s0 0))
@@ -31,6 +63,10 @@ pub a_prepare_is_stopped : report 1 stopped_at_prepare
     ∷ []
 unfolding locks.unit_before
 a_prepare_is_stopped = refl
+
+pub a_prepare_is_stopped_steps : AreSteps 1 stopped_at_prepare (start 1)
+unfolding locks.unit_before
+a_prepare_is_stopped_steps = ((tt, tt), ((tt, tt), ((tt, tt), (tt, ((tt, tt), (((no-works, no-flags), tt), tt))))))
 
 pub a_write_waits_for_a_reader : report 1 two_at_a_block
     ≡ line 2 (says.Begun c1 1 (tid s0 0))
@@ -50,6 +86,14 @@ pub a_write_waits_for_a_reader : report 1 two_at_a_block
     ∷ []
 unfolding locks.unit_before
 a_write_waits_for_a_reader = refl
+
+pub a_write_waits_for_a_reader_steps : AreSteps 1 two_at_a_block (start 1)
+unfolding locks.unit_before
+a_write_waits_for_a_reader_steps = ((tt, tt), ((tt, tt), ((tt, tt), ((tt, tt), ((tt, tt), ((tt, tt), ((tt, tt), ((tt, tt), ((tt, tt), ((tt, tt), ((tt, tt), ((tt, tt), tt))))))))))))
+
+pub a_reader_gives_way_page : (c : Pick) → ((told 1 a_reader_breaks).course.world.found s0 c).files (Block (file 7) (block 0)) ≡ Some (padded (98 ∷ []))
+unfolding locks.unit_before
+a_reader_gives_way_page c = refl
 
 pub a_reader_gives_way : report 1 a_reader_breaks
     ≡ line 2 (says.Begun c1 1 (tid s0 0))
@@ -74,6 +118,14 @@ pub a_reader_gives_way : report 1 a_reader_breaks
 unfolding locks.unit_before
 a_reader_gives_way = refl
 
+pub a_reader_gives_way_steps : AreSteps 1 a_reader_breaks (start 1)
+unfolding locks.unit_before
+a_reader_gives_way_steps = ((tt, tt), ((tt, tt), ((tt, tt), ((tt, tt), ((tt, tt), ((tt, tt), ((tt, tt), ((tt, tt), ((tt, tt), ((tt, tt), ((tt, tt), ((tt, tt), ((tt, tt), ((tt, tt), ((tt, tt), tt)))))))))))))))
+
+pub two_clients_wait_file : (c : Pick) → ((told 2 two_wait).course.world.found s0 c).files (File (file 7)) ≡ Some there
+unfolding locks.unit_before
+two_clients_wait_file c = refl
+
 pub two_clients_wait : report 2 two_wait
     ≡ line 3 (says.Begun c1 1 (tid s0 0))
     ∷ line 3 (says.Begun c2 2 (tid s0 1))
@@ -96,6 +148,14 @@ pub two_clients_wait : report 2 two_wait
 unfolding locks.unit_before
 two_clients_wait = refl
 
+pub two_clients_wait_steps : AreSteps 2 two_wait (start 2)
+unfolding locks.unit_before
+two_clients_wait_steps = ((tt, tt), ((tt, tt), ((tt, tt), ((tt, tt), ((tt, tt), ((tt, tt), ((tt, tt), ((tt, tt), ((tt, tt), ((tt, tt), ((tt, tt), ((tt, tt), ((tt, tt), tt)))))))))))))
+
+pub a_stopped_prepare_is_found_or_not_found_file : (c : Pick) → ((told 2 half_prepared).course.world.found s0 c).files (File (file 7)) ≡ Some there
+unfolding locks.unit_before
+a_stopped_prepare_is_found_or_not_found_file c = refl
+
 pub a_stopped_prepare_is_found_or_not_found : report 2 half_prepared
     ≡ line 2 (says.Begun c1 1 (tid s1 0))
     ∷ line 4 (says.Opened c1 3 s0)
@@ -109,6 +169,10 @@ pub a_stopped_prepare_is_found_or_not_found : report 2 half_prepared
 unfolding locks.unit_before
 a_stopped_prepare_is_found_or_not_found = refl
 
+pub a_stopped_prepare_is_found_or_not_found_steps : AreSteps 2 half_prepared (start 2)
+unfolding locks.unit_before
+a_stopped_prepare_is_found_or_not_found_steps = ((tt, tt), ((tt, tt), ((tt, tt), (tt, ((tt, tt), (((one-work _, no-flags), tt), tt))))))
+
 pub a_stopped_prepare_is_found_or_not_decayed : report 2 not_prepared
     ≡ line 2 (says.Begun c1 1 (tid s1 0))
     ∷ line 4 (says.Opened c1 3 s0)
@@ -120,6 +184,14 @@ pub a_stopped_prepare_is_found_or_not_decayed : report 2 not_prepared
     ∷ []
 unfolding locks.unit_before
 a_stopped_prepare_is_found_or_not_decayed = refl
+
+pub a_stopped_prepare_is_found_or_not_decayed_steps : AreSteps 2 not_prepared (start 2)
+unfolding locks.unit_before
+a_stopped_prepare_is_found_or_not_decayed_steps = ((tt, tt), ((tt, tt), ((tt, tt), (tt, ((tt, tt), ((tt, tt), (((no-works, no-flags), tt), tt)))))))
+
+pub a_stopped_commit_is_found_or_not_found_file : (c : Pick) → ((told 2 half_committed).course.world.found s0 c).files (File (file 7)) ≡ Some there
+unfolding locks.unit_before
+a_stopped_commit_is_found_or_not_found_file c = refl
 
 pub a_stopped_commit_is_found_or_not_found : report 2 half_committed
     ≡ line 2 (says.Begun c1 1 (tid s1 0))
@@ -137,6 +209,10 @@ pub a_stopped_commit_is_found_or_not_found : report 2 half_committed
 unfolding locks.unit_before
 a_stopped_commit_is_found_or_not_found = refl
 
+pub a_stopped_commit_is_found_or_not_found_steps : AreSteps 2 half_committed (start 2)
+unfolding locks.unit_before
+a_stopped_commit_is_found_or_not_found_steps = ((tt, tt), ((tt, tt), ((tt, tt), (tt, ((tt, tt), (((no-works, one-flag _), tt), tt))))))
+
 pub a_stopped_commit_is_found_or_not_decayed : report 2 not_committed
     ≡ line 2 (says.Begun c1 1 (tid s1 0))
     ∷ line 4 (says.Opened c1 3 s0)
@@ -150,6 +226,18 @@ pub a_stopped_commit_is_found_or_not_decayed : report 2 not_committed
     ∷ []
 unfolding locks.unit_before
 a_stopped_commit_is_found_or_not_decayed = refl
+
+pub a_stopped_commit_is_found_or_not_decayed_steps : AreSteps 2 not_committed (start 2)
+unfolding locks.unit_before
+a_stopped_commit_is_found_or_not_decayed_steps = ((tt, tt), ((tt, tt), ((tt, tt), (tt, ((tt, tt), ((tt, tt), (((no-works, no-flags), tt), tt)))))))
+
+pub a_commit_is_named_at_a_restart_first_file : (c : Pick) → ((told 2 goes_on_beside).course.world.found s0 c).files (File (file 7)) ≡ Some there
+unfolding locks.unit_before
+a_commit_is_named_at_a_restart_first_file c = refl
+
+pub a_commit_is_named_at_a_restart_second_file : (c : Pick) → ((told 2 goes_on_beside).course.world.found s0 c).files (File (file 8)) ≡ Some there
+unfolding locks.unit_before
+a_commit_is_named_at_a_restart_second_file c = refl
 
 pub a_commit_is_named_at_a_restart : without_stale (report 2 goes_on_beside)
     ≡ line 2 (says.Begun c1 1 (tid s1 0))
@@ -168,3 +256,7 @@ pub a_commit_is_named_at_a_restart : without_stale (report 2 goes_on_beside)
     ∷ []
 unfolding locks.unit_before
 a_commit_is_named_at_a_restart = refl
+
+pub a_commit_is_named_at_a_restart_steps : AreSteps 2 goes_on_beside (start 2)
+unfolding locks.unit_before
+a_commit_is_named_at_a_restart_steps = ((tt, tt), ((tt, tt), ((tt, tt), (tt, ((tt, tt), ((tt, tt), ((tt, tt), ((tt, tt), ((tt, tt), ((tt, tt), (((no-works, one-flag _), tt), tt)))))))))))

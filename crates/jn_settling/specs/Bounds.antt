@@ -1,10 +1,13 @@
 -- That a settle ends, and how many messages it hands over.
-use Rattle.std.specs.Prelude.{◌≡◌, ◌≤◌, ℕ, ◌+◌, ◌*◌, List, [], ◌∷◌, length, None}
-use Rattle.jn_protocol.specs.World.{World}
+use Rattle.std.specs.Prelude.{◌≡◌, ◌≤◌, ◌<◌, ℕ, ◌+◌, ◌*◌, false, List, [], ◌∷◌, length, Some, None}
+use Rattle.jn_protocol.specs.World.{World, Memory}
 use Rattle.jn_protocol.specs.Steps.{Step, Deliver, StopDelivery, run, IsRun}
 use Rattle.jn_settling.specs.Course.{Course}
 use Rattle.jn_settling.specs.Settle.{Chance, Chances, servers_from, first_busy, settled}
 use Rattle.jn_settling.specs.Weights.{going_works}
+use Rattle.jn_base.specs.declared.names.ServerNo.{ServerNo}
+use Rattle.jn_rows.specs.Stable.{Pick, is_going}
+use Rattle.jn_base.specs.declared.names.WorkId.{WorkId}
 
 abbrev pub one_if_delivery : Step → ℕ
 one_if_delivery (Deliver k room) = 1
@@ -20,6 +23,10 @@ deliveries (step ∷ steps) = one_if_delivery step + deliveries steps
 pub record IsAtRest (servers : ℕ) (c : Course) : Type 0 where
   pub waits : c.waiting ≡ []
   pub idle : first_busy c.world (servers_from 0 servers) ≡ None
+
+-- no stable state that may be found at a server that is up has a work that goes
+abbrev pub NothingGoes : ℕ → World → Type 0
+NothingGoes servers w = (s : ServerNo) (m : Memory) (c : Pick) (W : WorkId) → s.0 < servers → w.memory s ≡ Some m → is_going ((w.found s c).works W) ≡ false
 
 -- the course's steps are a run from the opening, and lead to its world
 pub record IsCourse (start : World) (c : Course) : Type 0 where
@@ -43,4 +50,5 @@ pub record Ends (servers : ℕ) (first second : ℕ → Chance) (c : Course) : T
   pub steps : ℕ
   pub last : Course
   pub rests : IsAtRest servers last
+  pub quiet : NothingGoes servers last.world
   pub each : (n : ℕ) → steps ≤ n → settled servers (record { first = first; second = second; steps = n }) c ≡ last

@@ -4,7 +4,7 @@ use Rattle.jn_report.specs.declared.line.Text.{Text}
 use Rattle.jn_report.specs.declared.line.Line.{Line}
 use Rattle.jn_report.specs.declared.line.When.TheVariants as when
 use Rattle.jn_protocol.specs.World.{World}
-use Rattle.jn_protocol.specs.Steps.{Step, NextEvent}
+use Rattle.jn_protocol.specs.Steps.{Step, NextEvent, IsRun}
 use Rattle.jn_settling.specs.Course.{Course, go_on}
 use Rattle.jn_settling.specs.Settle.{Chances, settled}
 
@@ -40,3 +40,9 @@ after_events servers (event ∷ events) t = after_events servers events (told_mo
 
 abbrev pub told_by : ℕ → List Event → Course → Told
 told_by servers events c = after_events servers events (record { course = c; report = [] })
+
+-- each step of each event may come in its turn
+abbrev pub AreSteps : ℕ → List Event → Course → Type 0
+AreSteps servers [] c = Unit {0}
+AreSteps servers (Does steps ∷ events) c = IsRun steps (go_on (NextEvent ∷ []) c).world × AreSteps servers events (go_on steps (go_on (NextEvent ∷ []) c))
+AreSteps servers (Settles chances ∷ events) c = AreSteps servers events (settled servers chances (go_on (NextEvent ∷ []) c))

@@ -16,7 +16,7 @@ use Rattle.jn_report.specs.declared.line.Text.TheVariants as says
 use Rattle.jn_rows.specs.Stable.{Pick}
 use Rattle.jn_protocol.specs.Servers.{Room}
 use Rattle.jn_protocol.specs.Steps.{Tell, Again, Restart, Timeout, Narrow}
-use Rattle.jn_settling.specs.Course.{opening_course}
+use Rattle.jn_settling.specs.Course.{opening_course, Course}
 use Rattle.jn_settling.specs.Settle.{Chance}
 use Rattle.jn_settling.specs.Events.{Event, Does, Settles, Told, told_by}
 
@@ -82,8 +82,11 @@ abbrev pub restarts : ServerNo → List WorkId → List Tid → Event
 restarts s works tids = Does (Restart s (λ n. true) works tids ∷ [])
 
 -- what a run of these events on so many servers reports
+abbrev pub start : ℕ → Course
+start servers = opening_course servers no_files (λ s. 1)
+
 abbrev pub told : ℕ → List Event → Told
-told servers events = told_by servers events (opening_course servers no_files (λ s. 1))
+told servers events = told_by servers events (start servers)
 
 abbrev pub report : ℕ → List Event → List Line
 report servers events = (told servers events).report

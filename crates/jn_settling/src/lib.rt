@@ -11,9 +11,10 @@ ghost use Rattle.jn_protocol.specs.World.{opening};
 ghost use Rattle.jn_protocol.specs.Steps.{Step, run, IsRun};
 ghost use Rattle.jn_settling.specs.Course.{opening_course, go, go_on};
 ghost use Rattle.jn_settling.specs.Settle.{Chance, Chances, servers_from, first_busy, next_step};
+ghost use Rattle.jn_settling.specs.Events.{Event, AreSteps, told_by};
 ghost use Rattle.jn_settling.specs.Weights.{burden};
 ghost use Rattle.jn_settling.specs.Sizes.{Sizes};
-ghost use Rattle.jn_settling.specs.Bounds.{one_if_delivery, IsSettle, Ends};
+ghost use Rattle.jn_settling.specs.Bounds.{one_if_delivery, IsCourse, IsSettle, Ends};
 
 pub use rows::{
     a_commit_is_named_at_a_restart, a_prepare_is_stopped, a_reader_gives_way,
@@ -42,6 +43,12 @@ pub fn deliveries_lighten()
     ensures { (servers : ℕ) (files : AllFiles) (epochs : ServerNo → ℕ) (steps : List Step) → servers ≤ 8 → IsRun steps (opening servers files epochs)
         → (chance : Chance) (step : Step) → next_step chance (go_on steps (opening_course servers files epochs)).waiting (first_busy (go_on steps (opening_course servers files epochs)).world (servers_from 0 servers)) ≡ Some step
         → burden (servers_from 0 servers) (go step (go_on steps (opening_course servers files epochs))) + one_if_delivery step ≤ burden (servers_from 0 servers) (go_on steps (opening_course servers files epochs)) }
+{}
+
+/// Events whose steps may come are a run.
+pub fn events_are_runs()
+    ensures { (servers : ℕ) (files : AllFiles) (epochs : ServerNo → ℕ) (events : List Event) → servers ≤ 8 → AreSteps servers events (opening_course servers files epochs)
+        → IsCourse (opening servers files epochs) (told_by servers events (opening_course servers files epochs)).course }
 {}
 
 /// A settle after any run is a run too, and hands over and sends no more messages than its bound, whatever befalls its steps.
