@@ -152,6 +152,7 @@ module _ (m : Memory) (v : StoreView) (now : Matches m v) (serving : IsServing (
         standing = makes.standing done;
         table = now.table;
         works = record { differ = now.works.differ; each = λ w. now.works.each w ∙ sym (stays w) };
+        made = now.made;
         flags = flags_stay m.records slot Free m.flags (λ t. ap (is_flag t) its.is) (λ t. refl) now.flags;
         held = λ a. now.held a ∙ sym (names_kept m.records slot Free same_works (suc a) (unnamed (suc a)) refl);
       }

@@ -14,3 +14,11 @@ pub mod LettingGo
 pub mod Listed
 pub mod Removing
 pub mod Scrubbing
+pub mod HeadPuts
+pub mod Numbers
+pub mod Census
+pub mod WorkPages
+pub mod CarryStates
+pub mod NetOrder
+pub mod NextIntention
+pub mod Applying

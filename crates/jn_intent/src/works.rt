@@ -156,7 +156,7 @@ fn set_going(works: &mut Vec<WorkState>, i: usize)
 }
 
 /// The index of a work.
-fn index_of(works: &[WorkState], work: WorkId) -> Option<usize>
+pub(crate) fn index_of(works: &[WorkState], work: WorkId) -> Option<usize>
     ensures found { IfSome result (λ i. (i < length works.now) × ((d : WorkState) → names.work_eq (slice_index_or works.now i d).head.work work ≡ true)) }
     ensures none { IfNone result (is_in names.work_eq work (map name_of works.now) ≡ false) }
 {
