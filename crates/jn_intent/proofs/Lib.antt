@@ -14,3 +14,9 @@ pub mod LettingGo
 pub mod Listed
 pub mod Removing
 pub mod Scrubbing
+pub mod StoringPool
+pub mod Storing
+pub mod StoringPages
+pub mod ReadyPool
+pub mod ReadyStates
+pub mod Readying

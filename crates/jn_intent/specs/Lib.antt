@@ -4,3 +4,4 @@ pub mod Inside
 pub mod Works
 pub mod Pages
 pub mod Scrubbing
+pub mod Preparing

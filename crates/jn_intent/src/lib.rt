@@ -9,6 +9,7 @@
 mod files;
 mod flags;
 mod intents;
+mod prepare;
 mod store;
 mod works;
 
