@@ -22,3 +22,9 @@ pub mod CarryStates
 pub mod NetOrder
 pub mod NextIntention
 pub mod Applying
+pub mod StoringPool
+pub mod Storing
+pub mod StoringPages
+pub mod ReadyPool
+pub mod ReadyStates
+pub mod Readying

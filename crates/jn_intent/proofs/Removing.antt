@@ -42,10 +42,10 @@ use Rattle.jn_storage.proofs.Listings.{total-but}
 use Rattle.jn_store.specs.Store.{StoreView}
 use Rattle.jn_intent.specs.Memory.{Memory, accounts_of, view_of, next_by, stored_by, holds_page, rubbish_in}
 use Rattle.jn_intent.specs.Matches.{Matches, IsKept, IsMade, WorksMatch, StoredWork, stored_work, work_by}
-use Rattle.jn_intent.specs.Pages.{pages_let_go, MayLetGo, heads_needed}
+use Rattle.jn_intent.specs.Pages.{pages_let_go, MayLetGo, heads_needed, is_at, ArePagesApart}
 use Rattle.jn_intent.proofs.Counting.{is_of_work, listed_length, gone_found, prepared_gone, removed_rubbish, removed_names}
 use Rattle.jn_intent.proofs.FlagCalls.{free_record}
-use Rattle.jn_intent.proofs.LettingGo.{AreLetGo, ArePagesApart, is_at, let_go, table_taken}
+use Rattle.jn_intent.proofs.LettingGo.{AreLetGo, let_go, table_taken}
 use Rattle.jn_intent.proofs.Listed.{listed_at, listed_named, pages_apart, names_after}
 use Rattle.jn_intent.proofs.Pool.{position_at, none_position, step_of, free_less, work_stays, flags_stay}
 use Rattle.jn_intent.proofs.Reading.{there_seen}

@@ -5,3 +5,4 @@ pub mod Works
 pub mod Pages
 pub mod Scrubbing
 pub mod Carrying
+pub mod Preparing

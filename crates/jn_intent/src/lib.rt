@@ -10,6 +10,7 @@ mod carry;
 mod files;
 mod flags;
 mod intents;
+mod prepare;
 mod store;
 mod works;
 
