@@ -20,7 +20,7 @@ use Rattle.jn_files.specs.Table.{TableView, IsTable, IsFreeLeaf, exists}
 use Rattle.jn_files.specs.Calls.{IsChanged}
 use Rattle.jn_found.specs.Contents.{intended, heads_name, works_name, is_head_of}
 use Rattle.jn_found.specs.Held.{held_contents}
-use Rattle.jn_found.specs.Pages.{block_on, pages_by, found_on}
+use Rattle.jn_found.specs.Pages.{found_on}
 use Rattle.jn_found.specs.Puts.{HeadPut}
 use Rattle.jn_found.specs.Standing.{IsStanding, Makes}
 use Rattle.jn_found.proofs.CallLaws.{carries}

@@ -19,7 +19,7 @@ use jn_store::StableStore;
 
 impl<S: StableStore> Intents<S> {
     /// Carries out the next intention of a going work; false where none is left.
-    pub fn apply_step(&mut self, work: WorkId) -> Result<bool, Stopped>
+    pub(crate) fn carry_next(&mut self, work: WorkId) -> Result<bool, Stopped>
         requires serving { IsServing (⟦<Intents<S> as Storage>⟧.view self.old) }
         requires going { IsGoing (⟦<Intents<S> as Storage>⟧.view self.old) work }
         ensures applied { StepApplied (⟦<Intents<S> as Storage>⟧.view self.old) work result (⟦<Intents<S> as Storage>⟧.view self.new) }

@@ -30,7 +30,7 @@ struct PreparedRoom {
 
 impl<S: StableStore> Intents<S> {
     /// Stores a work with its list and what it read, as ready. It takes all its memory before it reaches the device.
-    pub fn prepare(
+    pub(crate) fn prepare_work(
         &mut self,
         alloc: Global,
         head: &WorkHead,

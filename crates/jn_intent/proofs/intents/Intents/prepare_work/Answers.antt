@@ -7,7 +7,7 @@ use Rattle.jn_intent.specs.Memory.{view_of, accounts_of}
 use Rattle.jn_intent.specs.Inside.{memory_of}
 use Rattle.jn_intent.proofs.Readying.{promising, given, begun, list_few, list_short, its_reads, stopped_list, insert_there, insert_left, prepare_stopped, prepare_kept, prepare_done, works_listed, refused_by}
 use Rattle.jn_intent.proofs.StoringPool.{free_slot}
-use Rattle.jn_intent.proofs.intents.Intents.prepare.Goals as goal
+use Rattle.jn_intent.proofs.intents.Intents.prepare_work.Goals as goal
 
 pub need-need-requires-clause-length : goal.need-need-requires-clause-length
 need-need-requires-clause-length g c = list_short (view_of c.args.self.now.1 (g.S.StableStore.view c.args.self.now.0)) c.args.head.now c.args.list.now c.args.reads.now c.requires.may

@@ -9,7 +9,7 @@ use Rattle.jn_intent.specs.Memory.{view_of}
 use Rattle.jn_intent.specs.Inside.{memory_of}
 use Rattle.jn_intent.proofs.Applying.{apply_none, apply_may, apply_few, apply_stopped, apply_dark, apply_done}
 use Rattle.jn_intent.proofs.Removing.{work_listed, is_going_some}
-use Rattle.jn_intent.proofs.intents.Intents.apply_step.Goals as goal
+use Rattle.jn_intent.proofs.intents.Intents.carry_next.Goals as goal
 
 pub unreachable-requires : goal.unreachable-requires
 unreachable-requires g c =
