@@ -1,9 +1,9 @@
 -- The records once the ready record of a work stands behind its intentions.
-use Rattle.std.proofs.Common.{◌≡◌, ◌≢◌, ⊎_elim, ◌<◌, ◌≤◌, ◌+◌, ℕ, zero, suc, Bool, true, false, not, ◌&&◌, ◌||◌, if◌then◌else◌, List, [], ◌∷◌, ◌++◌, length, map, Option, Some, None, get_or, refl, sym, ◌∙◌, ap, subst, true≢false, arith}
+use Rattle.std.proofs.Common.{◌≡◌, ⊎_elim, ◌<◌, ◌≤◌, ◌+◌, ℕ, zero, suc, Bool, true, false, not, ◌||◌, if◌then◌else◌, List, [], ◌∷◌, ◌++◌, length, map, Option, Some, None, refl, sym, ◌∙◌, ap, subst, true≢false, arith}
 use Rattle.std.proofs.lemmas.Bool.{cases_eq}
 use Rattle.std.proofs.lemmas.Bool.Decides.{nat_tests}
 use Rattle.std.proofs.lemmas.List.Elements.{filter-append}
-use Rattle.std.specs.Prelude.{is_some, nat_eq, filter, position, slice_set, option_map, option_and_then}
+use Rattle.std.specs.Prelude.{is_some, filter, position, slice_set, option_map, option_and_then}
 use Rattle.std.specs.List.{find, list_any}
 use Rattle.jn_base.specs.declared.names.LockUnit.{LockUnit}
 use Rattle.jn_base.specs.declared.names.Tid.{Tid}
@@ -16,7 +16,6 @@ use Rattle.jn_found.proofs.Found.{none_passes, any_same, found_once, found_writt
 use Rattle.jn_found.proofs.Naming.{named_intends, intends_named}
 use Rattle.jn_found.proofs.PoolLemmas.{intentions_kept}
 use Rattle.jn_found.proofs.Slots.{at_set, passes_any}
-use Rattle.jn_records.specs.declared.head.Head.{Head}
 use Rattle.jn_records.specs.declared.intention.StoredIntention.{StoredIntention}
 use Rattle.jn_records.specs.declared.record.Record.{Record}
 use Rattle.jn_records.specs.declared.record.Record.TheVariants.{Free, Intention, Ready, Going, Flag as FlagRecord}
@@ -27,13 +26,13 @@ use Rattle.jn_storage.specs.Listing.{are_different}
 use Rattle.jn_storage.specs.Calls.{name_of}
 use Rattle.jn_storage.specs.Finding.{find_by}
 use Rattle.jn_storage.proofs.Finds.{find-add, find-listed, different-add, map-add}
-use Rattle.jn_store.specs.Store.{StoreView}
 use Rattle.jn_intent.specs.Memory.{Memory, rubbish_of, rubbish_in}
-use Rattle.jn_intent.specs.Matches.{WorksMatch, FlagsMatch, StoredWork, stored_work, work_by}
+use Rattle.jn_intent.specs.Matches.{WorksMatch, FlagsMatch, stored_work, work_by}
 use Rattle.jn_intent.specs.Pages.{is_at, ArePagesApart}
-use Rattle.jn_intent.specs.Preparing.{PoolPreparing, IsOwnPage}
-use Rattle.jn_intent.proofs.Listed.{IsListed, listed_at, listed_back}
+use Rattle.jn_intent.specs.Preparing.{PoolPreparing}
+use Rattle.jn_intent.proofs.Listed.{listed_at, listed_back}
 use Rattle.jn_intent.proofs.Pool.{free_more, work_stays, flags_stay}
+use Rattle.jn_intent.proofs.StoringPages.{or_first, or_rest}
 use Rattle.jn_intent.proofs.StoringPool.{is_other, same_work, others_past, free_there, stands_free}
 
 abbrev pub ready_state : WorkHead → List StoredIntention → List LockUnit → WorkState
@@ -173,13 +172,10 @@ module _ (m : Memory) (head : WorkHead) (stored : List StoredIntention) (records
 
   pub ready_prepared : (w : WorkId) → list_any (is_prepared w) (slice_set records slot (Ready head n reads)) ≡ (list_any (is_prepared w) records || work_eq head.work w)
   ready_prepared w = ⊎_elim
-      (λ h. passes_any (is_prepared w) Free (slice_set records slot (Ready head n reads)) slot refl (ap (is_prepared w) stands_ready ∙ h.0) ∙ sym (is_or (list_any (is_prepared w) records) (work_eq head.work w) h.0))
+      (λ h. passes_any (is_prepared w) Free (slice_set records slot (Ready head n reads)) slot refl (ap (is_prepared w) stands_ready ∙ h.0) ∙ sym (or_rest (list_any (is_prepared w) records) (work_eq head.work w) h.0))
       (λ h. any_same (is_prepared w) Free records slot (Ready head n reads) (ap (is_prepared w) was_free ∙ sym h.0) ∙ sym (no_or (list_any (is_prepared w) records) (work_eq head.work w) h.0))
       (work_tells head.work w)
     where
-      is_or : (b c : Bool) → c ≡ true → (b || c) ≡ true
-      is_or b c h = grind (arith, h)
-
       no_or : (b c : Bool) → c ≡ false → (b || c) ≡ b
       no_or true c h = refl
       no_or false c h = h
@@ -225,12 +221,6 @@ module _ (m : Memory) (head : WorkHead) (stored : List StoredIntention) (records
     where
       no_free : Free ≡ Intention w u k s → ⊥
       no_free e = cc e
-
-  or_first : (b c : Bool) → b ≡ true → (b || c) ≡ true
-  or_first b c h = grind (arith, h)
-
-  or_rest : (b c : Bool) → c ≡ true → (b || c) ≡ true
-  or_rest b c h = grind (arith, h)
 
   goes : (a : ℕ) → works_name (slice_set records slot (Ready head n reads)) (suc a) ≡ true → (works_name records (suc a) || list_any (is_at a) stored) ≡ true
   goes a named = let at = named_intends (contents (slice_set records slot (Ready head n reads))) (suc a) named in

@@ -1,7 +1,6 @@
 -- A storage serves on with a work that is prepared.
-use Rattle.std.proofs.Common.{◌≡◌, ⊎_elim, ◌≤◌, ◌<◌, ◌+◌, ◌-◌, ℕ, suc, Bool, true, false, ◌||◌, if◌then◌else◌, List, ◌∷◌, length, Option, Some, None, refl, sym, ◌∙◌, ap, subst, true≢false, arith}
-use Rattle.std.proofs.lemmas.Bool.Decides.{nat_tests}
-use Rattle.std.specs.Prelude.{is_some, nat_lt}
+use Rattle.std.proofs.Common.{◌≡◌, ◌≤◌, ◌+◌, ℕ, Bool, true, false, ◌||◌, if◌then◌else◌, List, ◌∷◌, length, Option, Some, None, refl, sym, ◌∙◌, ap, subst, true≢false, arith}
+use Rattle.std.specs.Prelude.{is_some}
 use Rattle.jn_base.specs.declared.names.LockUnit.{LockUnit}
 use Rattle.jn_base.specs.declared.names.WorkId.{WorkId}
 use Rattle.jn_base.specs.Names.{work_eq}

@@ -1,26 +1,25 @@
 -- A work is prepared: its intentions are stored, and then its ready record is put.
-use Rattle.std.proofs.Common.{◌≡◌, ◌<◌, ◌≤◌, ◌+◌, ◌-◌, ◌*◌, ◌^◌, ◌&&◌, ◌||◌, ℕ, zero, suc, Bool, true, false, not, if◌then◌else◌, List, [], ◌∷◌, ◌++◌, length, map, take, Option, Some, None, refl, sym, ◌∙◌, ap, subst, true≢false, arith, inl}
+use Rattle.std.proofs.Common.{◌≡◌, ◌<◌, ◌≤◌, ◌+◌, ◌-◌, ◌^◌, ◌&&◌, ◌||◌, ℕ, zero, suc, Bool, true, false, not, if◌then◌else◌, List, [], ◌∷◌, ◌++◌, length, map, take, Option, Some, None, refl, sym, ◌∙◌, ap, subst, true≢false, arith, inl}
 use Rattle.std.proofs.Math.Path.{fun_ext}
 use Rattle.std.proofs.Math.Seq.{take-length}
 use Rattle.std.proofs.lemmas.Bool.Decides.{nat_tests}
 use Rattle.std.proofs.lemmas.List.Sums.{sum_by-cons}
-use Rattle.std.specs.Prelude.{Ok, Err, Result, is_ok, is_some, nat_eq, nat_lt, nat_le, position, slice_set, count_by}
+use Rattle.std.specs.Prelude.{Ok, Err, Result, is_ok, nat_eq, nat_lt, nat_le, position, slice_set, count_by}
 use Rattle.std.specs.List.{find, list_all, list_any}
 use Rattle.jn_alloc.specs.Free.{FreeNumbers, free_count as free_numbers}
 use Rattle.jn_base.specs.declared.names.LockUnit.{LockUnit}
 use Rattle.jn_base.specs.declared.names.LockUnit.TheVariants.{File, Block}
-use Rattle.jn_base.specs.declared.names.ServerNo.{ServerNo}
 use Rattle.jn_base.specs.declared.names.WorkId.{WorkId}
 use Rattle.jn_base.specs.Names.{work_eq}
 use Rattle.jn_files.specs.Table.{TableView, IsTable, is_held}
 use Rattle.jn_files.specs.Calls.{with_promised_heads, with_promised_leaves}
 use Rattle.jn_found.specs.Changes.{IsReadyPut}
-use Rattle.jn_found.specs.Contents.{Contents, intended, stored_list, prepared_by, heads_name, works_name}
+use Rattle.jn_found.specs.Contents.{intended, stored_list, prepared_by, heads_name, works_name}
 use Rattle.jn_found.specs.Held.{held_contents}
 use Rattle.jn_found.specs.Pages.{found_on, block_on, pages_by}
 use Rattle.jn_found.specs.Puts.{RecordPut}
-use Rattle.jn_found.specs.Recoverable.{IsRecoverable, HasIntentions, HasAt, IsWhole}
-use Rattle.jn_found.specs.Standing.{IsStanding, Makes, standing_state}
+use Rattle.jn_found.specs.Recoverable.{IsRecoverable, HasIntentions, IsWhole}
+use Rattle.jn_found.specs.Standing.{IsStanding, Makes}
 use Rattle.jn_found.proofs.CallLaws.{readies}
 use Rattle.jn_found.proofs.Found.{found_passes}
 use Rattle.jn_records.specs.declared.head.Head.{Head}
@@ -35,10 +34,10 @@ use Rattle.jn_records.specs.declared.work.WorkHead.{WorkHead}
 use Rattle.jn_records.specs.declared.work.WorkState.{WorkState}
 use Rattle.jn_records.specs.Intentions.{intention_has_page, names_what_it_needs}
 use Rattle.jn_records.specs.NetLists.{is_put, is_put_intention}
-use Rattle.jn_records.specs.Records.{RecordFits, record_page, ascends, reads_have_page, unit_has_page, has_page}
-use Rattle.jn_records.specs.StablePages.{Counts, data_place}
-use Rattle.jn_rows.specs.Stable.{StableState, Prepared, Pick, AddReady, Changed, made_by, ready_work, at_work}
-use Rattle.jn_sets.specs.Pool.{IsRecord, record_in, page_of, is_free, free_count, is_prepared}
+use Rattle.jn_records.specs.Records.{RecordFits, ascends, reads_have_page, unit_has_page}
+use Rattle.jn_records.specs.StablePages.{Counts}
+use Rattle.jn_rows.specs.Stable.{Pick, AddReady, Changed, made_by, ready_work, at_work}
+use Rattle.jn_sets.specs.Pool.{IsRecord, is_free, free_count, is_prepared}
 use Rattle.jn_sets.specs.Sets.{Puts}
 use Rattle.jn_storage.specs.declared.faults.PrepareFault.{PrepareFault}
 use Rattle.jn_storage.specs.declared.faults.PrepareFault.TheVariants.{Records, Pages, Heads, Stopped as Stops}
@@ -46,21 +45,28 @@ use Rattle.jn_storage.specs.Orderly.{IsPrepared, unit_in_range}
 use Rattle.jn_storage.specs.Storage.{Accounts, StorageView, IsServing, IsLoadable, needed}
 use Rattle.jn_storage.specs.Calls.{state, name_of, Called, MayPrepare, WorkPrepared, shortage, short_of, reached, with_work, is_shortage}
 use Rattle.jn_storage.specs.Finding.{find_by}
-use Rattle.jn_store.specs.Store.{StoreView, StoreLater, IsServed, IsStop}
+use Rattle.jn_store.specs.Store.{StoreView, StoreLater, IsStop}
 use Rattle.jn_store.proofs.Laws.{later_refl, later_trans, stop_since}
 use Rattle.jn_intent.specs.Memory.{Memory, accounts_of, view_of, next_by, next_in, held_in, holds_page, stored_by, rubbish_in}
 use Rattle.jn_intent.specs.Matches.{Matches, IsMade, IsKept}
 use Rattle.jn_intent.specs.Pages.{is_at}
-use Rattle.jn_intent.specs.Preparing.{MayStore, PoolPreparing, PagesPreparing, StorePreparing, IsPreparing, StopsUnchanged, Begins, ListStored}
+use Rattle.jn_intent.specs.Preparing.{IsPreparing, StopsUnchanged, Begins, ListStored}
 use Rattle.jn_intent.proofs.FlagCalls.{none_any}
 use Rattle.jn_intent.proofs.Pool.{step_of}
 use Rattle.jn_intent.proofs.ReadyPool.{ready_state, are_fresh, listed_page, ready_flags, ready_free, ready_works, ready_rubbish, ready_names, work_found}
 use Rattle.jn_intent.proofs.ReadyStates.{HasRoom, has_room, its_work, serves_ready}
 use Rattle.jn_intent.proofs.Serving.{Serves, serves_of, serving_by, may_load, loadable_found}
+use Rattle.jn_intent.proofs.StoringPages.{or_first, or_rest}
 use Rattle.jn_intent.proofs.StoringPool.{same_work, pool_begins, free_there, stands_free}
-use Rattle.jn_intent.proofs.Telling.{works_seen, stored_pages, listed_pages}
+use Rattle.jn_intent.proofs.Telling.{works_seen, listed_pages}
 
 -- ---- a list of puts and their pages
+
+first : (b c : Bool) → (b && c) ≡ true → b ≡ true
+first b c h = grind (arith, h)
+
+rest : (b c : Bool) → (b && c) ≡ true → c ≡ true
+rest b c h = grind (arith, h)
 
 -- the data pages that the intentions hold are those of the puts
 held_puts : (blocks : ℕ → List ℕ) (heads : List Head) (stored : List StoredIntention) → list_all intention_has_page stored ≡ true → ((a : ℕ) → list_any (is_at a) stored ≡ true → heads_name heads (suc a) ≡ false)
@@ -73,18 +79,6 @@ held_puts blocks heads (s ∷ stored) pages unnamed =
     let here = ap {B = ℕ} (λ b. if b then 1 else 0) (by s.what s.address refl (first (intention_has_page s) (list_all intention_has_page stored) pages)) in
     omega (arith, again, a, b, here)
   where
-    or_first : (b c : Bool) → b ≡ true → (b || c) ≡ true
-    or_first b c h = grind (arith, h)
-
-    or_rest : (b c : Bool) → c ≡ true → (b || c) ≡ true
-    or_rest b c h = grind (arith, h)
-
-    first : (b c : Bool) → (b && c) ≡ true → b ≡ true
-    first b c h = grind (arith, h)
-
-    rest : (b c : Bool) → (b && c) ≡ true → c ≡ true
-    rest b c h = grind (arith, h)
-
     none : (n : ℕ) (b : Bool) → n ≡ 0 → (nat_lt 0 n && b) ≡ false
     none n b e = grind (arith, nat_tests, e)
 
@@ -139,6 +133,10 @@ no_fault e = cc e
 its_fault : {A E : Type 0} {a b : E} → ◌≡◌ {A = Result A E} (Err a) (Err b) → a ≡ b
 its_fault e = cc e
 
+-- a stop is no shortage
+no_stop : (fault : PrepareFault) → Stops ≡ fault → is_shortage fault ≡ true → ⊥
+no_stop fault e short = true≢false (sym short ∙ ap is_shortage (sym e))
+
 -- ---- a preparation begins
 
 -- the heads are promised, and no data page is
@@ -165,12 +163,6 @@ units_have_page [] h = refl
 units_have_page (u ∷ reads) h = let again = units_have_page reads (rest (unit_in_range u) (list_all (λ u. unit_in_range u) reads) h) in
     both (unit_has_page u) (list_all (λ u. unit_has_page u) reads) (by u (first (unit_in_range u) (list_all (λ u. unit_in_range u) reads) h)) again
   where
-    first : (b c : Bool) → (b && c) ≡ true → b ≡ true
-    first b c h = grind (arith, h)
-
-    rest : (b c : Bool) → (b && c) ≡ true → c ≡ true
-    rest b c h = grind (arith, h)
-
     both : (b c : Bool) → b ≡ true → c ≡ true → (b && c) ≡ true
     both b c x y = grind (arith, x, y)
 
@@ -194,9 +186,6 @@ module _ (m : Memory) (v : StoreView) (now : Matches m v) (serving : IsServing (
 
       all : (b c d : Bool) → b ≡ true → c ≡ true → d ≡ true → (b && c && d) ≡ true
       all b c d x y z = grind (arith, x, y, z)
-
-  pub heads_enough : (needed (state (view_of m v)) list).heads ≤ free_numbers m.table.free_heads - m.table.free_heads.promised
-  heads_enough = let heads = room.heads in omega (arith, heads)
 
   alone : list_any (is_prepared head.work) m.records ≡ false
   alone = none_any (is_prepared head.work) m.records (no_record m.records (block_on m.table.counts (pages_by v (λ n. false))) head.work (find (is_prepared head.work) m.records) refl (sym (works_seen m v now serving head.work) ∙ may.new))
@@ -245,9 +234,6 @@ module _ (m : Memory) (v : StoreView) (now : Matches m v) (serving : IsServing (
       change = λ _. record { done = λ e. absurd (true≢false (sym e)); stop = λ _ c. inl (ap (λ g. found_on g w c) (ap (λ (u : TableView). u.counts) table ∙ s.counts) ∙ s.unchanged c) };
       accounts = λ e. absurd (true≢false (sym e));
     }
-      where
-        no_stop : (fault : PrepareFault) → Stops ≡ fault → is_shortage fault ≡ true → ⊥
-        no_stop fault e short = true≢false (sym short ∙ ap is_shortage (sym e))
 
     module _ (p : IsPreparing (promising m n) v head.work list stored records t w) (all : length stored ≡ length list) where
       pub slots_below : length records < w.count
@@ -351,9 +337,6 @@ module _ (m : Memory) (v : StoreView) (now : Matches m v) (serving : IsServing (
                 (subst (λ b. Changed (state (view_of m v)) (AddReady head list reads) b (found_on m.table.counts x)) stopped changed);
             accounts = λ e. absurd (true≢false (sym e));
           }
-            where
-              no_stop : (fault : PrepareFault) → Stops ≡ fault → is_shortage fault ≡ true → ⊥
-              no_stop fault e short = true≢false (sym short ∙ ap is_shortage (sym e))
 
           pub ready_matches : ok ≡ true → Matches (record m { records = slice_set records slot (Ready head (length list) reads); table = t; works = m.works ++ ready_state head stored reads ∷ [] }) x
           ready_matches done = record {
@@ -419,9 +402,6 @@ module _ (m : Memory) (v : StoreView) (head : WorkHead) (list : List FullIntenti
 
   pub list_few : length list < 2 ^ 8
   list_few = let few = (its m v h.now h.serving head list reads h.may h.enough).length_fits in omega (arith, few)
-
-  pub promise_fits : n ≤ free_numbers m.table.free_heads - m.table.free_heads.promised
-  promise_fits = let few = heads_enough m v h.now h.serving head list reads h.may h.enough in let is = h.heads in omega (arith, few, is)
 
   pub its_reads : (units : List LockUnit) → units ≡ reads → reads_have_page units ≡ true
   its_reads units is = ap (λ u. reads_have_page u) is ∙ reads_page m v h.now h.serving head list reads h.may h.enough

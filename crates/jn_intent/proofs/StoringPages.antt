@@ -1,5 +1,5 @@
 -- The data pages of a work that is being prepared: each is taken free, and filled with the block of its put.
-use Rattle.std.proofs.Common.{◌≡◌, ◌≢◌, ⊎_elim, ◌<◌, ◌≤◌, ◌+◌, ℕ, zero, suc, Bool, true, false, ◌||◌, if◌then◌else◌, List, [], ◌∷◌, ◌++◌, length, map, take, Some, get_or, refl, sym, ◌∙◌, ap, subst, true≢false, arith, length-append}
+use Rattle.std.proofs.Common.{◌≡◌, ⊎_elim, ◌<◌, ◌+◌, ℕ, zero, suc, Bool, true, false, ◌||◌, if◌then◌else◌, List, [], ◌∷◌, ◌++◌, length, map, take, Some, refl, sym, ◌∙◌, ap, subst, true≢false, arith, length-append}
 use Rattle.std.proofs.Math.Seq.{take-suc, take-append_seam}
 use Rattle.std.proofs.lemmas.Bool.{cases_eq}
 use Rattle.std.proofs.lemmas.Bool.Decides.{nat_tests}
@@ -7,9 +7,9 @@ use Rattle.std.proofs.lemmas.List.{get_or-set_same, get_or-set_other, map-append
 use Rattle.std.proofs.lemmas.List.Folds.{list_any-append}
 use Rattle.std.proofs.lemmas.List.Sums.{sum_by-append, sum_by-cons, sum_by-set}
 use Rattle.std.proofs.lemmas.Option.{slice_get_within, get_or_from_slice_get}
-use Rattle.std.specs.Prelude.{Ok, nat_eq, nat_lt, replicate, slice_get, slice_set, slice_index_or, count_by}
+use Rattle.std.specs.Prelude.{nat_eq, nat_lt, replicate, slice_get, slice_set, slice_index_or, count_by}
 use Rattle.std.specs.List.{list_any}
-use Rattle.jn_alloc.specs.Free.{is_free, with_free, free_count as free_numbers}
+use Rattle.jn_alloc.specs.Free.{is_free, free_count as free_numbers}
 use Rattle.jn_files.specs.Table.{TableView, IsTable, IsFreeLeaf, is_held, head_in}
 use Rattle.jn_files.specs.Calls.{with_held}
 use Rattle.jn_files.specs.Pages.{leaf_page}
@@ -23,19 +23,19 @@ use Rattle.jn_records.specs.declared.intention.What.TheVariants.{Fresh, Gone, Cu
 use Rattle.jn_records.specs.NetLists.{Plain, is_put, is_put_intention}
 use Rattle.jn_records.specs.StablePages.{Counts, page_count, data_place}
 use Rattle.jn_rows.specs.Stable.{Pick}
-use Rattle.jn_store.specs.Store.{StoreView, StorePut, IsSamePage, IsClean, IsOnly}
+use Rattle.jn_store.specs.Store.{StoreView, StorePut, IsSamePage}
 use Rattle.jn_intent.specs.Memory.{Memory}
 use Rattle.jn_intent.specs.Pages.{is_at, ArePagesApart}
-use Rattle.jn_intent.specs.Preparing.{stored_as, FillsPage, IsOwnPage, PagesPreparing}
+use Rattle.jn_intent.specs.Preparing.{stored_as, IsOwnPage, PagesPreparing}
 use Rattle.jn_intent.proofs.Bridge.{same_address}
 use Rattle.jn_intent.proofs.Counting.{one}
 
 -- ---- blocks
 
-or_first : (b c : Bool) → b ≡ true → (b || c) ≡ true
+pub or_first : (b c : Bool) → b ≡ true → (b || c) ≡ true
 or_first b c h = grind (arith, h)
 
-or_rest : (b c : Bool) → c ≡ true → (b || c) ≡ true
+pub or_rest : (b c : Bool) → c ≡ true → (b || c) ≡ true
 or_rest b c h = grind (arith, h)
 
 -- intentions are the same where their data pages are

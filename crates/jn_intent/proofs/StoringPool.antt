@@ -1,42 +1,28 @@
 -- The records of a work that is being prepared: intentions that count for nothing, and then its ready record.
-use Rattle.std.proofs.Common.{◌≡◌, ◌≢◌, ⊎_elim, ◌<◌, ◌≤◌, ◌+◌, ℕ, zero, suc, Bool, true, false, not, ◌&&◌, ◌||◌, if◌then◌else◌, List, [], ◌∷◌, ◌++◌, length, map, Option, Some, None, get_or, refl, sym, ◌∙◌, ap, subst, true≢false, arith, length-append}
-use Rattle.std.proofs.lemmas.Bool.{cases_eq}
-use Rattle.std.proofs.lemmas.Bool.Decides.{nat_tests}
+use Rattle.std.proofs.Common.{◌≡◌, ◌<◌, ℕ, zero, suc, Bool, true, false, not, ◌&&◌, ◌||◌, if◌then◌else◌, List, [], ◌∷◌, ◌++◌, length, Option, Some, None, refl, sym, ◌∙◌, ap, subst, true≢false, arith, length-append}
 use Rattle.std.proofs.lemmas.List.Elements.{filter-append}
-use Rattle.std.specs.Prelude.{is_some, nat_eq, filter, position, slice_set, option_map, option_and_then}
-use Rattle.std.specs.List.{find, list_any}
-use Rattle.jn_base.specs.declared.names.LockUnit.{LockUnit}
+use Rattle.std.specs.Prelude.{nat_eq, filter, position, slice_set}
+use Rattle.std.specs.List.{list_any}
 use Rattle.jn_base.specs.declared.names.Tid.{Tid}
 use Rattle.jn_base.specs.declared.names.WorkId.{WorkId}
 use Rattle.jn_base.specs.Names.{work_eq}
 use Rattle.jn_base.proofs.Tells.{work_tells}
 use Rattle.jn_found.specs.Changes.{IsIdlePut}
-use Rattle.jn_found.specs.Contents.{Contents, stored_in, stored_list, with_first, intentions_from, intention_of, holds_address, works_name}
-use Rattle.jn_found.specs.Recoverable.{PassesOnce, HasIntentions, HasAt, HasFirst, HasNone, Intends}
+use Rattle.jn_found.specs.Contents.{holds_address}
+use Rattle.jn_found.specs.Recoverable.{HasNone}
 use Rattle.jn_found.proofs.Behind.{none_first, next_first}
-use Rattle.jn_found.proofs.Found.{none_passes, any_same, found_once, found_written, none_at}
-use Rattle.jn_found.proofs.Naming.{named_intends, intends_named}
-use Rattle.jn_found.proofs.PoolLemmas.{idle_kept, idle_list, intentions_kept}
-use Rattle.jn_found.proofs.Slots.{at_set, passes_at, passes_any}
+use Rattle.jn_found.proofs.Found.{any_same}
 use Rattle.jn_records.specs.declared.intention.StoredIntention.{StoredIntention}
 use Rattle.jn_records.specs.declared.record.Record.{Record}
 use Rattle.jn_records.specs.declared.record.Record.TheVariants.{Free, Intention, Ready, Going, Flag as FlagRecord}
-use Rattle.jn_records.specs.declared.work.WorkHead.{WorkHead}
-use Rattle.jn_records.specs.declared.work.WorkState.{WorkState}
 use Rattle.jn_sets.specs.Pool.{record_in, is_free, free_count, is_prepared, is_intention, is_flag, is_rubbish}
 use Rattle.jn_sets.proofs.Slots.{none_counted}
-use Rattle.jn_storage.specs.Listing.{is_in, are_different}
-use Rattle.jn_storage.specs.Calls.{name_of}
-use Rattle.jn_storage.specs.Finding.{find_by}
-use Rattle.jn_storage.proofs.Finds.{find-add, find-listed, different-add, map-add}
+use Rattle.jn_storage.specs.Listing.{is_in}
 use Rattle.jn_intent.specs.Memory.{Memory, rubbish_of, rubbish_in}
-use Rattle.jn_intent.specs.Matches.{WorksMatch, FlagsMatch, StoredWork, stored_work, work_by}
-use Rattle.jn_intent.specs.Pages.{is_at, ArePagesApart}
+use Rattle.jn_intent.specs.Matches.{WorksMatch, FlagsMatch}
 use Rattle.jn_intent.specs.Preparing.{PoolPreparing}
 use Rattle.jn_intent.proofs.Erasing.{in_both}
-use Rattle.jn_intent.proofs.FlagCalls.{none_any}
-use Rattle.jn_intent.proofs.Listed.{IsListed, listed_at, listed_back}
-use Rattle.jn_intent.proofs.Pool.{position_at, none_position, free_is, free_more, work_stays, flags_stay, names_kept, rubbish_by, rubbish_moves}
+use Rattle.jn_intent.proofs.Pool.{idle_same, idle_works, position_at, free_is, free_more, flags_stay, names_kept, rubbish_moves}
 
 -- ---- rubbish of other works
 
@@ -97,26 +83,6 @@ pool_begins m work works flags alone clean = record {
   free = omega arith;
   names = λ a. refl;
 }
-
--- ---- a record that counts for nothing
-
-module _ (pool : List Record) (slot : ℕ) (new : Record) (idle : IsIdlePut pool slot new) where
-  pub idle_same : (w : WorkId) → is_prepared w (record_in pool slot) ≡ is_prepared w new
-  idle_same w = idle_kept pool (record_in pool slot) w idle.old_idle ∙ sym (idle_kept pool new w idle.new_idle)
-
-  idle_work : (w : WorkId) → option_and_then (work_by (slice_set pool slot new) w) (find (is_prepared w) (slice_set pool slot new)) ≡ option_and_then (work_by pool w) (find (is_prepared w) pool)
-  idle_work w = by (list_any (is_prepared w) pool) refl
-    where
-      by : (b : Bool) → list_any (is_prepared w) pool ≡ b → option_and_then (work_by (slice_set pool slot new) w) (find (is_prepared w) (slice_set pool slot new)) ≡ option_and_then (work_by pool w) (find (is_prepared w) pool)
-      by true e = work_stays pool slot new w (λ order. idle_list pool (record_in pool slot) w order idle.old_idle e) (λ order. idle_list pool new w order idle.new_idle e)
-          (idle_kept pool (record_in pool slot) w idle.old_idle) (idle_kept pool new w idle.new_idle)
-      by false e =
-          let none = none_passes (is_prepared w) Free pool e in
-          let after = none_passes (is_prepared w) Free (slice_set pool slot new) (any_same (is_prepared w) Free pool slot new (idle_same w) ∙ e) in
-          ap (option_and_then (work_by (slice_set pool slot new) w)) after ∙ sym (ap (option_and_then (work_by pool w)) none)
-
-  pub idle_works : (works : List WorkState) → WorksMatch pool works → WorksMatch (slice_set pool slot new) works
-  idle_works works is = record { differ = is.differ; each = λ w. is.each w ∙ sym (idle_work w) }
 
 -- ---- one more intention
 

@@ -1,5 +1,5 @@
 -- How a work is prepared: its intentions are stored one after another, and count for nothing until its ready record is put.
-use Rattle.std.specs.Prelude.{◌≡◌, ℕ, suc, ◌+◌, ◌*◌, ◌≤◌, ◌<◌, Bool, true, false, not, ◌||◌, List, [], ◌∷◌, ◌++◌, length, map, take, filter, count_by, position, slice_get, Option, Some, Result, Ok, is_ok, IfOk}
+use Rattle.std.specs.Prelude.{◌≡◌, ℕ, suc, ◌+◌, ◌*◌, ◌≤◌, ◌<◌, Bool, true, false, not, ◌||◌, List, [], length, map, take, filter, count_by, position, Some, Result, Ok, is_ok, IfOk}
 use Rattle.std.specs.List.{list_any}
 use Rattle.jn_alloc.specs.Free.{IsLeastFree, free_count as free_numbers}
 use Rattle.jn_base.specs.declared.device.Stopped.{Stopped}

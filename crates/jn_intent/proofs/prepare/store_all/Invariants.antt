@@ -1,4 +1,4 @@
-use Rattle.std.proofs.Common.{◌≡◌, ◌≤◌, ℕ, length, vec_capacity}
+use Rattle.std.proofs.Common.{◌≡◌, length, vec_capacity}
 use Rattle.jn_store.specs.Store.{StoreView}
 use Rattle.jn_intent.specs.Memory.{Memory}
 use Rattle.jn_intent.specs.Preparing.{Begins, IsPreparing}
