@@ -1,8 +1,8 @@
 -- A record that counts for nothing is erased.
 use Rattle.std.proofs.Common.{◌≡◌, ◌⊎◌, inl, inr, ⊎_elim, ◌<◌, ◌+◌, ℕ, zero, suc, Bool, true, false, not, ◌&&◌, ◌||◌, if◌then◌else◌, List, [], ◌∷◌, ◌++◌, length, Option, Some, None, refl, sym, ◌∙◌, ap, subst, true≢false, arith, length-append}
 use Rattle.std.proofs.lemmas.List.Sums.{sum_by-set, sum_by-cons}
-use Rattle.std.specs.Prelude.{is_ok, IfOk, Result, Ok, Err, nat_eq, position, slice_set, count_by, option_and_then}
-use Rattle.std.specs.List.{find, list_any}
+use Rattle.std.specs.Prelude.{is_ok, IfOk, Result, Ok, Err, nat_eq, position, slice_set, count_by}
+use Rattle.std.specs.List.{list_any}
 use Rattle.jn_base.specs.declared.device.Stopped.{Stopped}
 use Rattle.jn_base.specs.declared.names.Tid.{Tid}
 use Rattle.jn_base.specs.declared.names.WorkId.{WorkId}
@@ -13,8 +13,6 @@ use Rattle.jn_found.specs.Pages.{found_on}
 use Rattle.jn_found.specs.Puts.{RecordPut}
 use Rattle.jn_found.specs.Standing.{MakesNothing}
 use Rattle.jn_found.proofs.CallLaws.{idles}
-use Rattle.jn_found.proofs.PoolLemmas.{idle_list}
-use Rattle.jn_found.proofs.Found.{none_passes, any_same}
 use Rattle.jn_records.specs.declared.intention.StoredIntention.{StoredIntention}
 use Rattle.jn_records.specs.declared.record.Record.{Record}
 use Rattle.jn_records.specs.declared.record.Record.TheVariants.{Free, Intention, Ready, Going, Flag as FlagRecord}
@@ -27,9 +25,9 @@ use Rattle.jn_storage.specs.Calls.{state, Called, RecordErased, CountsErased}
 use Rattle.jn_storage.proofs.Laws.{called_not}
 use Rattle.jn_store.specs.Store.{StoreView}
 use Rattle.jn_intent.specs.Memory.{Memory, accounts_of, view_of, rubbish_of, rubbish_in}
-use Rattle.jn_intent.specs.Matches.{Matches, IsKept, work_by}
+use Rattle.jn_intent.specs.Matches.{Matches, IsKept}
 use Rattle.jn_intent.proofs.FlagCalls.{none_any, free_record}
-use Rattle.jn_intent.proofs.Pool.{position_at, none_position, step_of, free_less, names_kept, rubbish_moves, work_stays, flags_stay}
+use Rattle.jn_intent.proofs.Pool.{position_at, none_position, step_of, free_less, names_kept, rubbish_moves, idle_works, flags_stay}
 use Rattle.jn_intent.proofs.Serving.{serves_of, serving_by, called_put}
 use Rattle.jn_intent.proofs.WorkStates.{serves_erased}
 
@@ -151,7 +149,8 @@ module _ (m : Memory) (v : StoreView) (now : Matches m v) (serving : IsServing (
       erased_matches done = record {
         standing = makes.standing done;
         table = now.table;
-        works = record { differ = now.works.differ; each = λ w. now.works.each w ∙ sym (stays w) };
+        works = idle_works m.records slot Free idle_put m.works now.works;
+        made = now.made;
         flags = flags_stay m.records slot Free m.flags (λ t. ap (is_flag t) its.is) (λ t. refl) now.flags;
         held = λ a. now.held a ∙ sym (names_kept m.records slot Free same_works (suc a) (unnamed (suc a)) refl);
       }
@@ -162,16 +161,6 @@ module _ (m : Memory) (v : StoreView) (now : Matches m v) (serving : IsServing (
               by : (b : Bool) → (b && false) ≡ false
               by true = refl
               by false = refl
-
-          stays : (w : WorkId) → option_and_then (work_by (slice_set m.records slot Free) w) (find (is_prepared w) (slice_set m.records slot Free)) ≡ option_and_then (work_by m.records w) (find (is_prepared w) m.records)
-          stays w = by (list_any (is_prepared w) m.records) refl
-            where
-              by : (b : Bool) → list_any (is_prepared w) m.records ≡ b → option_and_then (work_by (slice_set m.records slot Free) w) (find (is_prepared w) (slice_set m.records slot Free)) ≡ option_and_then (work_by m.records w) (find (is_prepared w) m.records)
-              by true e = work_stays m.records slot Free w (λ order. idle_list m.records (record_in m.records slot) w order idle_put.old_idle e) (λ order. refl) (same_works w) refl
-              by false e =
-                  let none = none_passes (is_prepared w) Free m.records e in
-                  let after = none_passes (is_prepared w) Free (slice_set m.records slot Free) (any_same (is_prepared w) Free m.records slot Free (same_works w) ∙ e) in
-                  ap (option_and_then (work_by (slice_set m.records slot Free) w)) after ∙ sym (ap (option_and_then (work_by m.records w)) none)
 
       pub erased_done : (n : Memory) (answer : Result Bool Stopped) → is_ok answer ≡ ok → (ok ≡ true → (answer ≡ Ok true) × (n ≡ without_record m slot)) → (ok ≡ false → n ≡ m) → RecordErased (view_of m v) answer (view_of n w)
       erased_done n answer same done stopped = record {

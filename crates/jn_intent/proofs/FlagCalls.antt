@@ -181,6 +181,7 @@ module _ (m : Memory) (v : StoreView) (now : Matches m v) (serving : IsServing (
         standing = makes.standing done;
         table = now.table;
         works = match_stays m.records slot Free no_work free_no_work m.works now.works;
+        made = now.made;
         flags = flags_less m.records m.flags slot t now.flags flag_slot;
         held = λ a. now.held a ∙ sym (names_stay m.records slot Free no_work free_no_work (suc a));
       }
@@ -236,6 +237,7 @@ module _ (m : Memory) (v : StoreView) (now : Matches m v) (serving : IsServing (
         standing = makes_flag.standing done;
         table = now.table;
         works = match_stays m.records slot (FlagRecord flag) no_work_yet (flag_no_work flag) m.works now.works;
+        made = now.made;
         flags = flags_more m.records m.flags slot flag now.flags flag_put none;
         held = λ a. now.held a ∙ sym (names_stay m.records slot (FlagRecord flag) no_work_yet (flag_no_work flag) (suc a));
       }
@@ -320,7 +322,7 @@ module _ (m : Memory) (v : StoreView) (kept : IsKept m v) (serving : IsServing (
   with_promises_still n fits = serving_by (record m { promised = n }) v (state (view_of m v)) serving.up serving.power (serves_promised (state (view_of m v)) (accounts_of m) n (serves_of m v serving) fits)
 
   pub promised_kept : (n : ℕ) → IsKept (record m { promised = n }) v
-  promised_kept n power = let now = kept power in record { standing = now.standing; table = now.table; works = now.works; flags = now.flags; held = now.held }
+  promised_kept n power = let now = kept power in record { standing = now.standing; table = now.table; works = now.works; made = now.made; flags = now.flags; held = now.held }
 
   pub promises : (n : ℕ) → n ≡ m.promised + 1 → m.promised < free_count m.records → FlagPromised {A = Unit {0}} (view_of m v) (Ok tt) (view_of (record m { promised = n }) v)
   promises n e fits = record {

@@ -16,16 +16,7 @@ use Rattle.jn_found.specs.Contents.{heads_name}
 use Rattle.jn_records.specs.declared.intention.StoredIntention.{StoredIntention}
 use Rattle.jn_intent.specs.Memory.{holds_page}
 use Rattle.jn_intent.proofs.Counting.{one}
-use Rattle.jn_intent.specs.Pages.{page_let_go, pages_let_go, IsHeldAt, MayLetGo}
-
--- an intention has the page
-abbrev pub is_at : ℕ → StoredIntention → Bool
-is_at a i = nat_eq i.address (suc a)
-
--- no page stands twice
-abbrev pub ArePagesApart : List StoredIntention → Type 0
-ArePagesApart [] = Unit {0}
-ArePagesApart (i ∷ list) = ((a : ℕ) → is_at a i ≡ true → list_any (is_at a) list ≡ false) × ArePagesApart list
+use Rattle.jn_intent.specs.Pages.{page_let_go, pages_let_go, IsHeldAt, MayLetGo, is_at, ArePagesApart}
 
 -- what is held is there, and isn't free
 pub record HeldAreTaken (t : TableView) : Type 0 where

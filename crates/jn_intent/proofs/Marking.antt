@@ -29,7 +29,7 @@ use Rattle.jn_storage.specs.Finding.{find_by}
 use Rattle.jn_storage.proofs.Finds.{find-set, find-at, find-listed, keys-set}
 use Rattle.jn_store.specs.Store.{StoreView}
 use Rattle.jn_intent.specs.Memory.{Memory, accounts_of, view_of, next_by, next_in, held_in, holds_page, stored_by, rubbish_of, rubbish_in}
-use Rattle.jn_intent.specs.Matches.{Matches, IsKept, WorksMatch, StoredWork, stored_work, work_by}
+use Rattle.jn_intent.specs.Matches.{Matches, IsKept, IsMade, WorksMatch, StoredWork, stored_work, work_by}
 use Rattle.jn_intent.specs.Works.{MarksWork, going_on}
 use Rattle.jn_intent.proofs.Pool.{position_at, none_position, step_of, free_same, names_kept, rubbish_kept, work_stays, flags_stay}
 use Rattle.jn_intent.proofs.Serving.{Serves, serves_of, serving_by, may_load, called_put}
@@ -224,9 +224,15 @@ module _ (m : Memory) (v : StoreView) (now : Matches m v) (serving : IsServing (
           standing = (makes ok records w puts).standing done;
           table = now.table;
           works = works_go;
+          made = λ w. subst (λ o. IsMade m.table.heads o) (sym (found w)) (still (work_eq head.work w) (find_by work_eq name_of m.works w) (now.made w));
           flags = flags_stay m.records slot (Going head n reads) m.flags (λ t. ap (is_flag t) stands) (λ t. refl) now.flags;
           held = λ a. now.held a ∙ sym (names_kept m.records slot (Going head n reads) same_works (suc a) (ap (holds_address m.records (suc a)) stands) refl);
         }
+          where
+            still : (b : Bool) (o : Option WorkState) → IsMade m.table.heads o → IsMade m.table.heads (if b then option_map going_on o else o)
+            still true None is = is
+            still true (Some s) is = is
+            still false o is = is
 
         pub marked_done : MarkedGoing (view_of m v) head.work ok (view_of (with_going m slot head n reads works) w)
         marked_done = record {

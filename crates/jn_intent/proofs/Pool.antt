@@ -13,8 +13,9 @@ use Rattle.jn_base.specs.declared.names.WorkId.{WorkId}
 use Rattle.jn_found.specs.Contents.{holds_address, works_name, stored_list}
 use Rattle.jn_found.specs.Puts.{RecordPut}
 use Rattle.jn_found.specs.Standing.{IsPutStep}
-use Rattle.jn_found.proofs.Found.{any_same}
-use Rattle.jn_found.proofs.PoolLemmas.{intentions_kept}
+use Rattle.jn_found.specs.Changes.{IsIdlePut}
+use Rattle.jn_found.proofs.Found.{any_same, none_passes}
+use Rattle.jn_found.proofs.PoolLemmas.{intentions_kept, idle_kept, idle_list}
 use Rattle.jn_records.specs.declared.flag.Flag.{Flag}
 use Rattle.jn_records.specs.declared.record.Record.{Record}
 use Rattle.jn_records.specs.declared.record.Record.TheVariants.{Free, Intention, Ready, Going, Flag as FlagRecord}
@@ -171,3 +172,23 @@ module _ (pool : List Record) (slot : ℕ) (new : Record) (before : IsOfNoWork (
 
   pub match_stays : (works : List WorkState) → WorksMatch pool works → WorksMatch (slice_set pool slot new) works
   match_stays works is = record { differ = is.differ; each = λ w. is.each w ∙ sym (work_stays pool slot new w (before.lists w) (after.lists w) (before.works w) (after.works w)) }
+
+-- ---- a record that counts for nothing
+
+module _ (pool : List Record) (slot : ℕ) (new : Record) (idle : IsIdlePut pool slot new) where
+  pub idle_same : (w : WorkId) → is_prepared w (record_in pool slot) ≡ is_prepared w new
+  idle_same w = idle_kept pool (record_in pool slot) w idle.old_idle ∙ sym (idle_kept pool new w idle.new_idle)
+
+  idle_work : (w : WorkId) → option_and_then (work_by (slice_set pool slot new) w) (find (is_prepared w) (slice_set pool slot new)) ≡ option_and_then (work_by pool w) (find (is_prepared w) pool)
+  idle_work w = by (list_any (is_prepared w) pool) refl
+    where
+      by : (b : Bool) → list_any (is_prepared w) pool ≡ b → option_and_then (work_by (slice_set pool slot new) w) (find (is_prepared w) (slice_set pool slot new)) ≡ option_and_then (work_by pool w) (find (is_prepared w) pool)
+      by true e = work_stays pool slot new w (λ order. idle_list pool (record_in pool slot) w order idle.old_idle e) (λ order. idle_list pool new w order idle.new_idle e)
+          (idle_kept pool (record_in pool slot) w idle.old_idle) (idle_kept pool new w idle.new_idle)
+      by false e =
+          let none = none_passes (is_prepared w) Free pool e in
+          let after = none_passes (is_prepared w) Free (slice_set pool slot new) (any_same (is_prepared w) Free pool slot new (idle_same w) ∙ e) in
+          ap (option_and_then (work_by (slice_set pool slot new) w)) after ∙ sym (ap (option_and_then (work_by pool w)) none)
+
+  pub idle_works : (works : List WorkState) → WorksMatch pool works → WorksMatch (slice_set pool slot new) works
+  idle_works works is = record { differ = is.differ; each = λ w. is.each w ∙ sym (idle_work w) }

@@ -62,6 +62,7 @@ module _ (m : Memory) (v w : StoreView) (kept : IsKept m v) (serving : IsServing
     standing = standing_same m.server m.table.counts v m.epoch m.records m.table.heads now.standing w later.count same;
     table = now.table;
     works = now.works;
+    made = now.made;
     flags = now.flags;
     held = now.held;
   }

@@ -41,11 +41,11 @@ use Rattle.jn_storage.proofs.Finds.{find-at, find-kept, find-listed, keys-kept, 
 use Rattle.jn_storage.proofs.Listings.{total-but}
 use Rattle.jn_store.specs.Store.{StoreView}
 use Rattle.jn_intent.specs.Memory.{Memory, accounts_of, view_of, next_by, stored_by, holds_page, rubbish_in}
-use Rattle.jn_intent.specs.Matches.{Matches, IsKept, WorksMatch, StoredWork, stored_work, work_by}
-use Rattle.jn_intent.specs.Pages.{pages_let_go, MayLetGo, heads_needed}
+use Rattle.jn_intent.specs.Matches.{Matches, IsKept, IsMade, WorksMatch, StoredWork, stored_work, work_by}
+use Rattle.jn_intent.specs.Pages.{pages_let_go, MayLetGo, heads_needed, is_at, ArePagesApart}
 use Rattle.jn_intent.proofs.Counting.{is_of_work, listed_length, gone_found, prepared_gone, removed_rubbish, removed_names}
 use Rattle.jn_intent.proofs.FlagCalls.{free_record}
-use Rattle.jn_intent.proofs.LettingGo.{AreLetGo, ArePagesApart, is_at, let_go, table_taken}
+use Rattle.jn_intent.proofs.LettingGo.{AreLetGo, let_go, table_taken}
 use Rattle.jn_intent.proofs.Listed.{listed_at, listed_named, pages_apart, names_after}
 use Rattle.jn_intent.proofs.Pool.{position_at, none_position, step_of, free_less, work_stays, flags_stay}
 use Rattle.jn_intent.proofs.Reading.{there_seen}
@@ -271,11 +271,16 @@ module _ (m : Memory) (v : StoreView) (kept : IsKept m v) (serving : IsServing (
               (subst (λ hs. IsStanding m.server m.table.counts w m.epoch (slice_set m.records slot Free) hs) (sym gone.only.heads) (makes.standing done));
           table = table;
           works = works_left;
+          made = λ w. subst (λ o. IsMade (given_back m s.list).heads o) (sym (kept_found w)) (subst (λ hs. IsMade hs (if not (work_eq work w) then find_by work_eq name_of m.works w else None)) (sym gone.only.heads) (still (not (work_eq work w)) (find_by work_eq name_of m.works w) (now.made w)));
           flags = flags_stay m.records slot Free m.flags its.no_flag (λ t. refl) now.flags;
           held = λ a. gone.held a ∙ ap (λ b. b && not (list_any (is_at a) s.list)) (now.held a) ∙ ap (λ l. works_name m.records (suc a) && not (list_any (is_at a) l)) list_is
               ∙ names_after (held_contents m.table.counts v m.epoch m.records m.table.heads (λ n. false)) m.table.counts.leaves said.addresses work prepared slot its.count there stands its.has
               (prepared_gone m.records slot work there stands (said.distinct.works work) its.others prepared) a;
         }
+          where
+            still : (b : Bool) (o : Option WorkState) → IsMade m.table.heads o → IsMade m.table.heads (if b then o else None)
+            still true o is = is
+            still false o is = tt
 
         pub remove_done : WorkRemoved (view_of m v) work ok (view_of (without_work m slot work s.list) w)
         remove_done = record {

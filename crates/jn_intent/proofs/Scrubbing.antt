@@ -85,7 +85,7 @@ module _ (m : Memory) (v w : StoreView) (kept : IsKept m v) (fewer : IsFewer v w
   }
 
   pub fewer_kept : v.power ≡ true → Matches m w
-  fewer_kept power = let now = kept power in record { standing = standing_fewer power; table = now.table; works = now.works; flags = now.flags; held = now.held }
+  fewer_kept power = let now = kept power in record { standing = standing_fewer power; table = now.table; works = now.works; made = now.made; flags = now.flags; held = now.held }
 
   module _ (serving : IsServing (view_of m v)) (ok : Bool) (later : StoreLater v w) (calls : w.calls ≤ v.calls + 16 * v.count) (done : ok ≡ true → CleansTo v v.count w) (stopped : ok ≡ false → IsStop v w) (calm : IsCalm v → ok ≡ true) where
     same : Unchanged (state (view_of m v)) (found_on m.table.counts w)
@@ -115,6 +115,7 @@ same_kept m v w kept count power same on = let now = kept (sym power ∙ on) in 
   standing = standing_same m.server m.table.counts v m.epoch m.records m.table.heads now.standing w count same;
   table = now.table;
   works = now.works;
+  made = now.made;
   flags = now.flags;
   held = now.held;
 }

@@ -4,3 +4,5 @@ pub mod Inside
 pub mod Works
 pub mod Pages
 pub mod Scrubbing
+pub mod Carrying
+pub mod Preparing

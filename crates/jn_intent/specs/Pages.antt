@@ -1,11 +1,21 @@
 -- The data pages of a work's intentions, and what lets them go.
-use Rattle.std.specs.Prelude.{◌≡◌, ℕ, zero, suc, true, false, not, ◌&&◌, if◌then◌else◌, List, [], ◌∷◌, slice_set, count_by}
+use Rattle.std.specs.Prelude.{◌≡◌, ℕ, zero, suc, nat_eq, Bool, true, false, not, ◌&&◌, if◌then◌else◌, List, [], ◌∷◌, slice_set, count_by}
+use Rattle.std.specs.List.{list_any}
 use Rattle.jn_alloc.specs.Free.{with_free}
 use Rattle.jn_files.specs.Table.{TableView, is_held, exists}
 use Rattle.jn_found.specs.Contents.{heads_name}
 use Rattle.jn_records.specs.declared.head.Head.{Head}
 use Rattle.jn_records.specs.NetLists.{is_fresh}
 use Rattle.jn_records.specs.declared.intention.StoredIntention.{StoredIntention}
+
+-- an intention has the page
+abbrev pub is_at : ℕ → StoredIntention → Bool
+is_at a i = nat_eq i.address (suc a)
+
+-- no page stands twice
+abbrev pub ArePagesApart : List StoredIntention → Type 0
+ArePagesApart [] = Unit {0}
+ArePagesApart (i ∷ list) = ((a : ℕ) → is_at a i ≡ true → list_any (is_at a) list ≡ false) × ArePagesApart list
 
 -- data page a is let go: it is free where no head names it
 abbrev pub page_let_go : TableView → ℕ → TableView

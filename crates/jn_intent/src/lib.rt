@@ -6,9 +6,11 @@
 //! what is seen of a storage, `specs/Matches.antt` that what is kept in memory is what stands on the pages.
 #![tactic(auto)]
 
+mod carry;
 mod files;
 mod flags;
 mod intents;
+mod prepare;
 mod store;
 mod works;
 

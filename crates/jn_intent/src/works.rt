@@ -4,26 +4,32 @@ ghost use Rattle.jn_base.specs.Names as names;
 ghost use Rattle.jn_records.specs.declared.work.WorkState.{WorkState};
 ghost use Rattle.jn_storage.specs.Listing.{is_in};
 ghost use Rattle.jn_storage.specs.Storage.{IsServing};
-ghost use Rattle.jn_storage.specs.Calls.{state, IsReady, IsCarriedOut, MarkedGoing, WorkRemoved, RecordErased, TellsWorks, name_of};
+ghost use Rattle.jn_storage.specs.Calls.{state, WorkRemoved, name_of};
 ghost use Rattle.jn_files.specs.Table.{IsTable};
 ghost use Rattle.jn_files.specs.Calls.{with_promised_heads};
 ghost use Rattle.jn_intent.specs.Pages.{page_let_go, pages_let_go, IsHeldAt, MayLetGo, heads_needed};
 ghost use Rattle.jn_intent.specs.Works.{MarksWork, going_on};
 
 use crate::Intents;
-use jn_base::{Stopped, WorkId};
+use jn_base::{LockUnit, Stopped, WorkId};
 use jn_files::FileTable;
-use jn_records::{StoredIntention, What, WorkState};
-use jn_storage::Storage;
+use jn_records::{Intention, StoredIntention, What, WorkHead, WorkState};
+use jn_storage::{PrepareFault, Storage, WorkStore};
 use jn_store::StableStore;
+use std::alloc::Global;
 
-impl<S: StableStore> Intents<S> {
-    /// Makes a ready work going: its transaction has committed.
-    pub fn mark_going(&mut self, work: WorkId) -> Result<(), Stopped>
-        requires serving { IsServing (⟦<Intents<S> as Storage>⟧.view self.old) }
-        requires ready { IsReady (⟦<Intents<S> as Storage>⟧.view self.old) work }
-        ensures marked { MarkedGoing (⟦<Intents<S> as Storage>⟧.view self.old) work (is_ok result) (⟦<Intents<S> as Storage>⟧.view self.new) }
-    {
+impl<S: StableStore> WorkStore for Intents<S> {
+    fn prepare(
+        &mut self,
+        alloc: Global,
+        head: &WorkHead,
+        list: &[Intention],
+        reads: &[LockUnit],
+    ) -> Result<(), PrepareFault> {
+        self.prepare_work(alloc, head, list, reads)
+    }
+
+    fn mark_going(&mut self, work: WorkId) -> Result<(), Stopped> {
         let Some(slot) = self.sets.prepared_slot(work) else {
             unreachable!()
         };
@@ -32,40 +38,28 @@ impl<S: StableStore> Intents<S> {
         Ok(())
     }
 
-    /// Removes a going work that is carried out.
-    pub fn forget(&mut self, work: WorkId) -> Result<(), Stopped>
-        requires serving { IsServing (⟦<Intents<S> as Storage>⟧.view self.old) }
-        requires done { IsCarriedOut (⟦<Intents<S> as Storage>⟧.view self.old) work }
-        ensures removed { WorkRemoved (⟦<Intents<S> as Storage>⟧.view self.old) work (is_ok result) (⟦<Intents<S> as Storage>⟧.view self.new) }
-    {
+    fn apply_step(&mut self, work: WorkId) -> Result<bool, Stopped> {
+        self.carry_next(work)
+    }
+
+    fn forget(&mut self, work: WorkId) -> Result<(), Stopped> {
         self.remove(work)
     }
 
-    /// Removes a ready work: its transaction was aborted.
-    pub fn drop_ready(&mut self, work: WorkId) -> Result<(), Stopped>
-        requires serving { IsServing (⟦<Intents<S> as Storage>⟧.view self.old) }
-        requires ready { IsReady (⟦<Intents<S> as Storage>⟧.view self.old) work }
-        ensures removed { WorkRemoved (⟦<Intents<S> as Storage>⟧.view self.old) work (is_ok result) (⟦<Intents<S> as Storage>⟧.view self.new) }
-    {
+    fn drop_ready(&mut self, work: WorkId) -> Result<(), Stopped> {
         self.remove(work)
     }
 
-    /// Erases one record of an intention that no prepared work has; false where there is none.
-    pub fn erase_step(&mut self) -> Result<bool, Stopped>
-        requires serving { IsServing (⟦<Intents<S> as Storage>⟧.view self.old) }
-        ensures erased { RecordErased (⟦<Intents<S> as Storage>⟧.view self.old) result (⟦<Intents<S> as Storage>⟧.view self.new) }
-    {
+    fn erase_step(&mut self) -> Result<bool, Stopped> {
         self.sets.erase_one(&mut self.store)
     }
 
-    /// The prepared works.
-    pub fn works(&self) -> &[WorkState]
-        requires serving { IsServing (⟦<Intents<S> as Storage>⟧.view self.now) }
-        ensures { TellsWorks (⟦<Intents<S> as Storage>⟧.view self.now) result.now }
-    {
+    fn works(&self) -> &[WorkState] {
         &self.works
     }
+}
 
+impl<S: StableStore> Intents<S> {
     /// Removes a prepared work: the records of its intentions are rubbish, and what it held or was promised is free.
     fn remove(&mut self, work: WorkId) -> Result<(), Stopped>
         requires serving { IsServing (⟦<Intents<S> as Storage>⟧.view self.old) }
@@ -156,7 +150,7 @@ fn set_going(works: &mut Vec<WorkState>, i: usize)
 }
 
 /// The index of a work.
-fn index_of(works: &[WorkState], work: WorkId) -> Option<usize>
+pub(crate) fn index_of(works: &[WorkState], work: WorkId) -> Option<usize>
     ensures found { IfSome result (λ i. (i < length works.now) × ((d : WorkState) → names.work_eq (slice_index_or works.now i d).head.work work ≡ true)) }
     ensures none { IfNone result (is_in names.work_eq work (map name_of works.now) ≡ false) }
 {

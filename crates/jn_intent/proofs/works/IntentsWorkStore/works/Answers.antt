@@ -4,7 +4,7 @@ use Rattle.jn_storage.specs.Calls.{TellsWorks}
 use Rattle.jn_intent.specs.Memory.{view_of}
 use Rattle.jn_intent.specs.Inside.{memory_of}
 use Rattle.jn_intent.proofs.Telling.{tells_works}
-use Rattle.jn_intent.proofs.intents.Intents.works.Goals as goal
+use Rattle.jn_intent.proofs.works.IntentsWorkStore.works.Goals as goal
 
 pub returns : goal.returns
 returns g c =

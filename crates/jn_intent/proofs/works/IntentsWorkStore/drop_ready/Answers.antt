@@ -1,7 +1,7 @@
 use Rattle.jn_storage.specs.Calls.{state}
 use Rattle.jn_intent.specs.Memory.{view_of}
 use Rattle.jn_intent.proofs.Removing.{is_ready_some}
-use Rattle.jn_intent.proofs.intents.Intents.drop_ready.Goals as goal
+use Rattle.jn_intent.proofs.works.IntentsWorkStore.drop_ready.Goals as goal
 
 pub remove-requires-clause-prepared : goal.remove-requires-clause-prepared
 remove-requires-clause-prepared g c = is_ready_some ((state (view_of c.args.self.now.1 (g.S.StableStore.view c.args.self.now.0))).works c.args.work) c.requires.ready

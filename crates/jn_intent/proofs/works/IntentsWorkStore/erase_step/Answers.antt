@@ -4,7 +4,7 @@ use Rattle.jn_storage.specs.Calls.{RecordErased}
 use Rattle.jn_intent.specs.Memory.{view_of}
 use Rattle.jn_intent.specs.Inside.{memory_of}
 use Rattle.jn_intent.proofs.Erasing.{erase_done, erase_kept}
-use Rattle.jn_intent.proofs.intents.Intents.erase_step.Goals as goal
+use Rattle.jn_intent.proofs.works.IntentsWorkStore.erase_step.Goals as goal
 
 pub invariant_of-self : goal.invariant_of-self
 invariant_of-self g c =

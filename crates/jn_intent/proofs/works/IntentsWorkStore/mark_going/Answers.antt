@@ -6,7 +6,7 @@ use Rattle.jn_storage.specs.Calls.{IsReady, MarkedGoing}
 use Rattle.jn_intent.specs.Memory.{view_of}
 use Rattle.jn_intent.specs.Inside.{memory_of}
 use Rattle.jn_intent.proofs.Marking.{ready_slotted, mark_ready, mark_kept, mark_done, mark_stopped}
-use Rattle.jn_intent.proofs.intents.Intents.mark_going.Goals as goal
+use Rattle.jn_intent.proofs.works.IntentsWorkStore.mark_going.Goals as goal
 
 pub unreachable-requires : goal.unreachable-requires
 unreachable-requires g c =

@@ -1,0 +1,347 @@
+-- How many data pages are held for the intentions of works, and named by no head.
+use Rattle.std.proofs.Common.{◌≡◌, ◌≢◌, ◌⊎◌, inl, inr, ⊎_elim, ◌<◌, ◌≤◌, ◌+◌, ◌^◌, ℕ, zero, suc, Bool, true, false, not, ◌&&◌, ◌||◌, if◌then◌else◌, List, [], ◌∷◌, length, Option, Some, None, refl, sym, ◌∙◌, ap, subst, true≢false, arith}
+use Rattle.std.proofs.Math.Path.{fun_ext}
+use Rattle.std.proofs.lemmas.Bool.{cases_eq}
+use Rattle.std.proofs.lemmas.Bool.Decides.{nat_tests}
+use Rattle.std.proofs.lemmas.List.Sums.{sum_by-cons}
+use Rattle.std.specs.Prelude.{nat_lt, nat_le, nat_eq, is_some, count_by, slice_get, option_map, option_and_then}
+use Rattle.std.specs.List.{find, list_any}
+use Rattle.jn_alloc.specs.Free.{free_count as free_numbers}
+use Rattle.jn_base.specs.declared.names.FileNo.{FileNo}
+use Rattle.jn_base.specs.declared.names.LockUnit.{LockUnit}
+use Rattle.jn_base.specs.declared.names.LockUnit.TheVariants.{File, Block}
+use Rattle.jn_base.specs.declared.names.Tid.{Tid}
+use Rattle.jn_base.specs.declared.names.WorkId.{WorkId}
+use Rattle.jn_base.specs.Names.{file_eq, work_eq}
+use Rattle.jn_base.proofs.Tells.{work_tells}
+use Rattle.jn_found.specs.Contents.{heads_name, works_name, stored_in, with_first, intentions_from, stored_list}
+use Rattle.jn_found.specs.Held.{held_contents}
+use Rattle.jn_found.specs.Pages.{block_on, pages_by}
+use Rattle.jn_found.specs.Recoverable.{IsConsistent, IsCompleteBy, HasIntentions}
+use Rattle.jn_found.proofs.Found.{found_any, found_passes}
+use Rattle.jn_found.proofs.Images.{listed_files}
+use Rattle.jn_found.proofs.Naming.{named_intends}
+use Rattle.jn_locks.specs.Locks.{unit_eq}
+use Rattle.jn_records.specs.declared.head.Head.{Head}
+use Rattle.jn_records.specs.declared.intention.StoredIntention.{StoredIntention}
+use Rattle.jn_records.specs.declared.record.Record.{Record}
+use Rattle.jn_records.specs.declared.record.Record.TheVariants.{Free, Intention, Ready, Going, Flag as FlagRecord}
+use Rattle.jn_records.specs.declared.work.WorkState.{WorkState}
+use Rattle.jn_records.specs.Records.{RecordFits}
+use Rattle.jn_rows.specs.Stable.{StableState}
+use Rattle.jn_sets.specs.Pool.{record_in, is_prepared, is_intention}
+use Rattle.jn_storage.specs.Calls.{state, name_of}
+use Rattle.jn_storage.specs.Finding.{find_by}
+use Rattle.jn_storage.specs.Storage.{file_there, is_stored}
+use Rattle.jn_storage.specs.Listing.{is_in, are_different, IsListing, total}
+use Rattle.jn_storage.proofs.Listings.{Tells, but, is_in-but, total-but, total-same}
+use Rattle.jn_store.specs.Store.{StoreView}
+use Rattle.jn_intent.specs.Memory.{Memory, view_of, stored_by, holds_page, held_in}
+use Rattle.jn_intent.specs.Pages.{is_at, ArePagesApart}
+use Rattle.jn_intent.specs.Matches.{Matches, stored_work, work_by}
+use Rattle.jn_intent.proofs.Census.{files_counted, blocks_counted, pages_counted, page_of}
+use Rattle.jn_intent.proofs.Counting.{one, found_at, counts_plus}
+use Rattle.jn_intent.proofs.FlagCalls.{none_any}
+use Rattle.jn_intent.proofs.Listed.{IsListed, listed_at, listed_back, listed_named, pages_apart}
+use Rattle.jn_intent.proofs.Numbers.{how_many, same_members, total_plus, total_none}
+use Rattle.jn_intent.proofs.Removing.{work_record}
+use Rattle.jn_intent.proofs.Standing.{finds, consistent, mapped_found}
+use Rattle.jn_intent.proofs.Telling.{prepared_of, works_by}
+
+-- ---- an intention of a list stands in a record
+
+module _ (pool : List Record) (work : WorkId) where
+  abbrev Stands : StoredIntention → Type 0
+  Stands i = (slot : ℕ) × (u : Tid) × (k : ℕ) × (record_in pool slot ≡ Intention work u k i) × (slot < length pool)
+
+  pub stands_listed : (order n j : ℕ) (i : StoredIntention) → slice_get (intentions_from pool work order n) j ≡ Some i → (slot : ℕ) × (u : Tid) × (k : ℕ) × (record_in pool slot ≡ Intention work u k i) × (slot < length pool)
+  stands_listed order zero j i e = absurd (none j e)
+    where
+      none : (j : ℕ) → slice_get [] j ≡ Some i → ⊥
+      none zero e = cc e
+      none (suc j) e = cc e
+  stands_listed order (suc n) j i e = by (find (is_intention work order) pool) refl (stands_listed (suc order) n) j e
+    where
+      own : (v : WorkId) (u : Tid) (k : ℕ) (s : StoredIntention) → find (is_intention work order) pool ≡ Some (Intention v u k s) → Stands s
+      own v u k s found =
+          let at = found_at Free (is_intention work order) pool (Intention v u k s) found in
+          (at.0, u, k, at.2 ∙ ap (λ w. Intention w u k s) (same (ap (is_intention work order) (sym at.2) ∙ at.3)), at.1)
+        where
+          same : (work_eq v work && nat_eq k order) ≡ true → v ≡ work
+          same h = let t = work_tells v work in grind (arith, h)
+
+      some_is : {A : Type 0} {a b : A} → Some a ≡ Some b → a ≡ b
+      some_is e = cc e
+
+      by : (o : Option Record) → find (is_intention work order) pool ≡ o → ((j : ℕ) (i : StoredIntention) → slice_get (intentions_from pool work (suc order) n) j ≡ Some i → Stands i)
+          → (j : ℕ) → slice_get (with_first (option_and_then stored_in o) (intentions_from pool work (suc order) n)) j ≡ Some i → Stands i
+      by None found rest j e = rest j i e
+      by (Some Free) found rest j e = rest j i e
+      by (Some (Ready head m reads)) found rest j e = rest j i e
+      by (Some (Going head m reads)) found rest j e = rest j i e
+      by (Some (FlagRecord f)) found rest j e = rest j i e
+      by (Some (Intention v u k s)) found rest zero e = subst Stands (some_is e) (own v u k s found)
+      by (Some (Intention v u k s)) found rest (suc j) e = rest j i e
+
+-- ---- totals over what passes once
+
+apart_count : (a : ℕ) (list : List StoredIntention) → ArePagesApart list → count_by (is_at a) list ≡ one (list_any (is_at a) list)
+apart_count a [] apart = refl
+apart_count a (i ∷ list) apart = by (is_at a i) refl (apart_count a list apart.1)
+  where
+    more : count_by (is_at a) (i ∷ list) ≡ one (is_at a i) + count_by (is_at a) list
+    more = sum_by-cons (λ i. if is_at a i then 1 else 0) i list
+
+    by : (b : Bool) → is_at a i ≡ b → count_by (is_at a) list ≡ one (list_any (is_at a) list) → count_by (is_at a) (i ∷ list) ≡ one (b || list_any (is_at a) list)
+    by true e again = let none = again ∙ ap one (apart.0 a e) in let here = ap one e in let m = more in omega (arith, m, none, here)
+    by false e again = let here = ap one e in let m = more in omega (arith, m, again, here)
+
+module _ {K : Type 0} (eq : K → K → Bool) (tells : Tells eq) (p : K → Bool) (keys : List K) (differ : are_different eq keys ≡ true) where
+  total_once : (once : (k l : K) → p k ≡ true → p l ≡ true → k ≡ l) → (b : Bool) → (b ≡ true → (k : K) × (p k ≡ true) × (is_in eq k keys ≡ true)) → ((k : K) → p k ≡ true → b ≡ true) → total (λ k. one (p k)) keys ≡ one b
+  total_once once true some only =
+      let it = some refl in
+      let split = total-but eq tells (λ k. one (p k)) it.0 keys differ it.2 in
+      let rest = total-same eq tells (λ k. one (p k)) (λ k. 0) (but eq it.0 keys) (λ k h. ap one (other it.0 k it.1 (sym (is_in-but eq tells it.0 k keys) ∙ h) (p k) refl)) in
+      let none = total_none (λ (k : K). 0) (λ k. refl) (but eq it.0 keys) in
+      let here = ap one it.1 in omega (arith, split, rest, none, here)
+    where
+      other : (k l : K) → p k ≡ true → (is_in eq l keys && not (eq k l)) ≡ true → (c : Bool) → p l ≡ c → c ≡ false
+      other k l h out false e = refl
+      other k l h out true e = absurd (clash (is_in eq l keys) (eq k l) (equal k l (once k l h e)) out)
+        where
+          clash : (x y : Bool) → y ≡ true → (x && not y) ≡ true → ⊥
+          clash x y e h = grind (arith, e, h)
+
+          equal : (k l : K) → k ≡ l → eq k l ≡ true
+          equal k l e = let t = tells k l in grind (arith, e)
+  total_once once false some only = total_none (λ k. one (p k)) (λ k. ap one (none k (p k) refl)) keys
+    where
+      none : (k : K) (c : Bool) → p k ≡ c → c ≡ false
+      none k true e = sym (only k e)
+      none k false e = refl
+
+-- ---- the works of a storage
+
+-- the blocks of the data pages by the first pick
+abbrev pub first_blocks : Memory → StoreView → ℕ → List ℕ
+first_blocks m v = block_on m.table.counts (pages_by v (λ n. false))
+
+module _ (m : Memory) (v : StoreView) (now : Matches m v) where
+  said : IsConsistent m.server m.table.counts (held_contents m.table.counts v m.epoch m.records m.table.heads (λ n. false))
+  said = consistent m.server m.table.counts v m.epoch m.records m.table.heads now.standing
+
+  -- what is seen of a work is what is kept of it
+  pub work_told : (w : WorkId) → (state (view_of m v)).works w ≡ option_map (prepared_of (first_blocks m v)) (option_map stored_work (find_by work_eq name_of m.works w))
+  work_told w = ap (λ (x : StableState). x.works w) (finds m.server m.table.counts v m.epoch m.records m.table.heads now.standing (λ n. false))
+      ∙ works_by m.records (first_blocks m v) w (find (is_prepared w) m.records) ∙ sym (ap (option_map (prepared_of (first_blocks m v))) (now.works.each w))
+
+  pub record IsStored (w : WorkId) (list : List StoredIntention) : Type 0 where
+    pub count : ℕ
+    pub list_is : list ≡ stored_list m.records w count
+    pub has : HasIntentions m.records w count
+    pub prepared : list_any (is_prepared w) m.records ≡ true
+    pub few : count < 2 ^ 8
+
+  -- the list of a work is that of its records
+  pub its_list : (w : WorkId) (s : WorkState) → find_by work_eq name_of m.works w ≡ Some s → IsStored w s.list
+  its_list w s here = by (find (is_prepared w) m.records) refl (sym (now.works.each w) ∙ ap (option_map stored_work) here)
+    where
+      by : (o : Option Record) → find (is_prepared w) m.records ≡ o → option_and_then (work_by m.records w) o ≡ Some (stored_work s) → IsStored w s.list
+      by None e is = absurd (cc is)
+      by (Some r) e is =
+          let at = found_at Free (is_prepared w) m.records r e in
+          let it = work_record m.records w r (found_passes (is_prepared w) Free m.records r e) (subst (IsCompleteBy m.records) at.2 (said.complete at.0)) (subst RecordFits at.2 (now.standing.held.pool at.0 at.1).of_format.fits) in
+          record { count = it.count; list_is = it.listed (stored_work s) is; has = it.has; prepared = found_any (is_prepared w) Free m.records r e; few = it.few }
+
+  abbrev list_kept : WorkId → List StoredIntention
+  list_kept w = stored_by (find_by work_eq name_of m.works w)
+
+  kept_or_none : (w : WorkId) → (list_kept w ≡ []) ⊎ IsStored w (list_kept w)
+  kept_or_none w = by (find_by work_eq name_of m.works w) refl
+    where
+      by : (o : Option WorkState) → find_by work_eq name_of m.works w ≡ o → (stored_by o ≡ []) ⊎ IsStored w (stored_by o)
+      by None e = inl refl
+      by (Some s) e = inr (its_list w s e)
+
+  -- where it has a page
+  its_page : (w : WorkId) (a : ℕ) → list_any (is_at a) (list_kept w) ≡ true → IsListed m.records w a 0 × (list_any (is_prepared w) m.records ≡ true)
+  its_page w a h = ⊎_elim
+      (λ none. absurd (true≢false (sym h ∙ ap (list_any (is_at a)) none)))
+      (λ is. (listed_at m.records w a 0 is.count (ap (list_any (is_at a)) (sym is.list_is) ∙ h), is.prepared))
+      (kept_or_none w)
+
+  kept_apart : (w : WorkId) → ArePagesApart (list_kept w)
+  kept_apart w = ⊎_elim
+      (λ none. subst ArePagesApart (sym none) tt)
+      (λ is. subst ArePagesApart (sym is.list_is) (pages_apart (held_contents m.table.counts v m.epoch m.records m.table.heads (λ n. false)) m.table.counts.leaves said.addresses w is.prepared 0 is.count))
+      (kept_or_none w)
+
+  one_work : (a : ℕ) (w u : WorkId) → list_any (is_at a) (list_kept w) ≡ true → list_any (is_at a) (list_kept u) ≡ true → w ≡ u
+  one_work a w u h k =
+      let l = its_page w a h in let o = its_page u a k in
+      let slots = said.addresses.works a l.0.slot o.0.slot l.0.intention o.0.intention
+      (record { work = w; tid = l.0.tid; order = l.0.order; stands = l.0.stands; prepared = l.1 }) (record { work = u; tid = o.0.tid; order = o.0.order; stands = o.0.stands; prepared = o.1 }) l.0.address o.0.address in
+      same (sym l.0.stands ∙ ap (record_in m.records) slots ∙ o.0.stands)
+    where
+      same : {w u : WorkId} {t q : Tid} {j k : ℕ} {i s : StoredIntention} → Intention w t j i ≡ Intention u q k s → w ≡ u
+      same e = cc e
+
+  its_work : (a : ℕ) → works_name m.records (suc a) ≡ true → (w : WorkId) × (list_any (is_at a) (list_kept w) ≡ true) × (is_some (find_by work_eq name_of m.works w) ≡ true)
+  its_work a named =
+      let at = named_intends (held_contents m.table.counts v m.epoch m.records m.table.heads (λ n. false)) (suc a) named in
+      by at.2.work at.0 at.2.tid at.2.order at.1 at.2.stands at.3 at.2.prepared (find_by work_eq name_of m.works at.2.work) refl
+    where
+      by : (w : WorkId) (slot : ℕ) (u : Tid) (k : ℕ) (i : StoredIntention) → record_in m.records slot ≡ Intention w u k i → i.address ≡ suc a → list_any (is_prepared w) m.records ≡ true
+          → (o : Option WorkState) → find_by work_eq name_of m.works w ≡ o → (w : WorkId) × (list_any (is_at a) (list_kept w) ≡ true) × (is_some (find_by work_eq name_of m.works w) ≡ true)
+      by w slot u k i stands address prepared None e = absurd (none (find (is_prepared w) m.records) refl (sym (now.works.each w) ∙ ap (option_map stored_work) e))
+        where
+          none : (o : Option Record) → find (is_prepared w) m.records ≡ o → option_and_then (work_by m.records w) o ≡ None → ⊥
+          none None f is = true≢false (sym prepared ∙ none_any (is_prepared w) m.records f)
+          none (Some r) f is = gone r (found_passes (is_prepared w) Free m.records r f) is
+            where
+              gone : (r : Record) → is_prepared w r ≡ true → work_by m.records w r ≡ None → ⊥
+              gone Free h is = true≢false (sym h)
+              gone (Intention v u k i) h is = true≢false (sym h)
+              gone (Ready head n reads) h is = cc is
+              gone (Going head n reads) h is = cc is
+              gone (FlagRecord f) h is = true≢false (sym h)
+      by w slot u k i stands address prepared (Some s) e =
+          let is = its_list w s e in
+          let lt = is.has.no_more k slot (ap (is_intention w k) stands ∙ own w k) in
+          (w, ap (λ o. list_any (is_at a) (stored_by o)) e ∙ ap (list_any (is_at a)) is.list_is ∙ listed_back m.records w a slot u k i stands (is.has.once k) address 0 is.count (omega arith) (omega (arith, lt)), ap is_some e)
+        where
+          own : (w : WorkId) (k : ℕ) → (work_eq w w && nat_eq k k) ≡ true
+          own w k = let t = work_tells w w in grind (arith, nat_tests)
+
+  named_by_list : (w : WorkId) (a : ℕ) → list_any (is_at a) (list_kept w) ≡ true → works_name m.records (suc a) ≡ true
+  named_by_list w a h = let l = its_page w a h in listed_named (held_contents m.table.counts v m.epoch m.records m.table.heads (λ n. false)) m.table.counts.leaves said.addresses w l.1 a 0 l.0
+
+  module _ (works : List WorkId) (all : IsListing work_eq (λ w. is_some ((state (view_of m v)).works w)) works) where
+    listed : (w : WorkId) → is_some (find_by work_eq name_of m.works w) ≡ true → is_in work_eq w works ≡ true
+    listed w h = all.all w ∙ ap is_some (work_told w) ∙ still (find_by work_eq name_of m.works w) h
+      where
+        still : (o : Option WorkState) → is_some o ≡ true → is_some (option_map (prepared_of (first_blocks m v)) (option_map stored_work o)) ≡ true
+        still None h = absurd (true≢false (sym h))
+        still (Some s) h = refl
+
+    -- a page is that of one intention where works name it
+    page_once : (a : ℕ) → total (λ w. count_by (is_at a) (list_kept w)) works ≡ one (works_name m.records (suc a))
+    page_once a =
+        total-same work_eq work_tells (λ w. count_by (is_at a) (list_kept w)) (λ w. one (list_any (is_at a) (list_kept w))) works (λ w h. apart_count a (list_kept w) (kept_apart w))
+        ∙ total_once work_eq work_tells (λ w. list_any (is_at a) (list_kept w)) works all.different (λ w u h k. one_work a w u h k) (works_name m.records (suc a))
+        (λ named. let it = its_work a named in (it.0, it.1, listed it.0 it.2)) (λ w h. named_by_list w a h)
+
+    module _ (heads : List Head) where
+      abbrev held_below : ℕ → StoredIntention → Bool
+      held_below n i = (nat_lt 0 i.address && nat_le i.address n) && not (heads_name heads i.address)
+
+      abbrev held_at : ℕ → StoredIntention → Bool
+      held_at n i = is_at n i && not (heads_name heads (suc n))
+
+      held_step : (n : ℕ) (i : StoredIntention) → one (held_below (suc n) i) ≡ one (held_below n i) + one (held_at n i)
+      held_step n i = ⊎_elim (λ e. own i.address e) (λ ne. other i.address ne) (cases_eq i.address (suc n))
+        where
+          own : (k : ℕ) → k ≡ suc n → one ((nat_lt 0 k && nat_le k (suc n)) && not (heads_name heads k)) ≡ one ((nat_lt 0 k && nat_le k n) && not (heads_name heads k)) + one (nat_eq k (suc n) && not (heads_name heads (suc n)))
+          own k e = subst (λ k. one ((nat_lt 0 k && nat_le k (suc n)) && not (heads_name heads k)) ≡ one ((nat_lt 0 k && nat_le k n) && not (heads_name heads k)) + one (nat_eq k (suc n) && not (heads_name heads (suc n)))) (sym e)
+              (tests (nat_lt 0 (suc n)) (nat_le (suc n) (suc n)) (nat_le (suc n) n) (nat_eq (suc n) (suc n)) (not (heads_name heads (suc n))) (grind (arith, nat_tests)) (grind (arith, nat_tests)) (grind (arith, nat_tests)) (grind (arith, nat_tests)))
+            where
+              tests : (p q r s b : Bool) → p ≡ true → q ≡ true → r ≡ false → s ≡ true → one ((p && q) && b) ≡ one ((p && r) && b) + one (s && b)
+              tests p q r s b e f g h = grind (arith, e, f, g, h)
+
+          other : (k : ℕ) → k ≢ suc n → one ((nat_lt 0 k && nat_le k (suc n)) && not (heads_name heads k)) ≡ one ((nat_lt 0 k && nat_le k n) && not (heads_name heads k)) + one (nat_eq k (suc n) && not (heads_name heads (suc n)))
+          other k ne = tests (nat_lt 0 k) (nat_le k (suc n)) (nat_le k n) (nat_eq k (suc n)) (not (heads_name heads k)) (not (heads_name heads (suc n))) (same k ne) (none k ne)
+            where
+              same : (k : ℕ) → k ≢ suc n → nat_le k (suc n) ≡ nat_le k n
+              same k ne = grind (arith, nat_tests, ne)
+
+              none : (k : ℕ) → k ≢ suc n → nat_eq k (suc n) ≡ false
+              none k ne = grind (arith, nat_tests, ne)
+
+              tests : (p q r s b c : Bool) → q ≡ r → s ≡ false → one ((p && q) && b) ≡ one ((p && r) && b) + one (s && c)
+              tests p q r s b c e f = grind (arith, e, f)
+
+      page_held : (n : ℕ) → total (λ w. count_by (held_at n) (list_kept w)) works ≡ one (works_name m.records (suc n) && not (heads_name heads (suc n)))
+      page_held n = by (heads_name heads (suc n)) refl
+        where
+          by : (b : Bool) → heads_name heads (suc n) ≡ b → total (λ w. count_by (λ i. is_at n i && not b) (list_kept w)) works ≡ one (works_name m.records (suc n) && not b)
+          by true e = total_none (λ w. count_by (λ i. is_at n i && false) (list_kept w)) (λ w. none (list_kept w)) works ∙ no (works_name m.records (suc n))
+            where
+              none : (list : List StoredIntention) → count_by (λ i. is_at n i && false) list ≡ 0
+              none [] = refl
+              none (i ∷ list) = let again = none list in let more = sum_by-cons (λ i. if is_at n i && false then 1 else 0) i list in let here = no (is_at n i) in omega (arith, again, more, here)
+                where
+                  no : (b : Bool) → one (b && false) ≡ 0
+                  no true = refl
+                  no false = refl
+
+              no : (b : Bool) → 0 ≡ one (b && false)
+              no true = refl
+              no false = refl
+          by false e = total-same work_eq work_tells (λ w. count_by (λ i. is_at n i && true) (list_kept w)) (λ w. count_by (is_at n) (list_kept w)) works (λ w h. same_members (λ i. is_at n i && true) (is_at n) (list_kept w) (λ j i e. and_true (is_at n i)))
+              ∙ page_once n ∙ ap one (sym (and_true (works_name m.records (suc n))))
+            where
+              and_true : (b : Bool) → (b && true) ≡ b
+              and_true true = refl
+              and_true false = refl
+
+      pages_below : (n : ℕ) → total (λ w. count_by (held_below n) (list_kept w)) works ≡ how_many (λ a. works_name m.records (suc a) && not (heads_name heads (suc a))) n
+      pages_below zero = total_none (λ w. count_by (held_below 0) (list_kept w)) (λ w. none (list_kept w)) works
+        where
+          none : (list : List StoredIntention) → count_by (held_below 0) list ≡ 0
+          none [] = refl
+          none (i ∷ list) = let again = none list in let more = sum_by-cons (λ i. if held_below 0 i then 1 else 0) i list in let here = no i.address (heads_name heads i.address) in omega (arith, again, more, here)
+            where
+              no : (k : ℕ) (b : Bool) → one ((nat_lt 0 k && nat_le k 0) && not b) ≡ 0
+              no k b = grind (arith, nat_tests)
+      pages_below (suc n) =
+          let split = total_plus (λ w. count_by (held_below n) (list_kept w)) (λ w. count_by (held_at n) (list_kept w)) (λ w. count_by (held_below (suc n)) (list_kept w))
+          (λ w. counts_plus (held_below n) (held_at n) (held_below (suc n)) (held_step n) (list_kept w)) works in
+          let again = pages_below n in let here = page_held n in omega (arith, split, again, here)
+
+      -- the data pages that works hold
+      pub held_counted : total (λ w. count_by (holds_page heads) (list_kept w)) works ≡ how_many (λ a. works_name m.records (suc a) && not (heads_name heads (suc a))) m.table.counts.leaves
+      held_counted = total-same work_eq work_tells (λ w. count_by (holds_page heads) (list_kept w)) (λ w. count_by (held_below m.table.counts.leaves) (list_kept w)) works
+          (λ w h. same_members (holds_page heads) (held_below m.table.counts.leaves) (list_kept w) (λ j i e. within i.address (heads_name heads i.address) (fits w j i e)))
+          ∙ pages_below m.table.counts.leaves
+        where
+          within : (k : ℕ) (b : Bool) → k ≤ m.table.counts.leaves → (nat_lt 0 k && not b) ≡ ((nat_lt 0 k && nat_le k m.table.counts.leaves) && not b)
+          within k b le = grind (arith, nat_tests, le)
+
+          fits : (w : WorkId) (j : ℕ) (i : StoredIntention) → slice_get (list_kept w) j ≡ Some i → i.address ≤ m.table.counts.leaves
+          fits w j i e = ⊎_elim
+              (λ none. absurd (no_member j (ap (λ l. slice_get l j) (sym none) ∙ e)))
+              (λ is. let at = stands_listed m.records w 0 is.count j i (ap (λ l. slice_get l j) (sym is.list_is) ∙ e) in
+              said.addresses.works_fit at.0 i (record { work = w; tid = at.1; order = at.2; stands = at.3; prepared = is.prepared }))
+              (kept_or_none w)
+            where
+              no_member : (j : ℕ) → slice_get [] j ≡ Some i → ⊥
+              no_member zero e = cc e
+              no_member (suc j) e = cc e
+
+    -- each data page, and each head, once
+    pub record IsCensus (files : List FileNo) (blocks : List LockUnit) : Type 0 where
+      pub files_all : IsListing file_eq (file_there (state (view_of m v)).files) files
+      pub heads : free_numbers m.table.free_heads + length files ≡ m.table.counts.heads
+      pub blocks_all : IsListing unit_eq (is_stored (state (view_of m v)).files) blocks
+      pub pages : free_numbers m.table.free_leaves + length blocks + total (held_in m.works m.table.heads) works ≡ m.table.counts.leaves
+
+    pub census : (files : List FileNo) × (blocks : List LockUnit) × IsCensus files blocks
+    census =
+        let files = files_counted m.table now.table in
+        let blocks = blocks_counted m.table.counts.leaves m.table.heads now.table.heads in (
+          listed_files m.table.heads,
+          blocks.0,
+          record {
+            files_all = record { different = files.0.different; all = λ f. files.0.all f ∙ sym (ap (λ (x : StableState). is_some (x.files (File f))) (finds m.server m.table.counts v m.epoch m.records m.table.heads now.standing (λ n. false))) };
+            heads = files.1;
+            blocks_all = record { different = blocks.1.different; all = λ u. blocks.1.all u ∙ stored u };
+            pages =
+                let pages = pages_counted m.table now.table in let held = held_counted m.table.heads in
+                let same = ap (λ h. how_many h m.table.counts.leaves) (fun_ext (λ a. ap (λ b. b && not (heads_name m.table.heads (suc a))) (now.held a))) in
+                let long = blocks.2 in omega (arith, pages, held, same, long);
+          },
+        )
+      where
+        stored : (u : LockUnit) → nat_lt 0 (page_of m.table.heads u) ≡ is_stored (state (view_of m v)).files u
+        stored (File f) = refl
+        stored (Block f p) = mapped_found m.server m.table.counts v m.epoch m.records m.table.heads now.standing f p

@@ -1,0 +1,27 @@
+use Rattle.std.proofs.Common.{List, [], ◌∷◌, length, ap, sym, subst, ◌∙◌, arith, length-append}
+use Rattle.std.proofs.lemmas.Result.{err_from_is_err_and}
+use Rattle.std.specs.Prelude.{is_ok}
+use Rattle.jn_records.specs.declared.intention.StoredIntention.{StoredIntention}
+use Rattle.jn_intent.specs.Preparing.{IsPreparing}
+use Rattle.jn_intent.proofs.Storing.{plain_at, list_on, list_stops}
+use Rattle.jn_intent.proofs.prepare.store_all.Goals as goal
+
+pub store_one-requires-clause-plain : goal.store_one-requires-clause-plain
+store_one-requires-clause-plain g c = plain_at c.args.list.now c.loop-order.order _ c.requires.begins.2.may.plain c.loop-order-test.true
+
+pub returns-in_err-put : goal.returns-in_err-put
+returns-in_err-put g c m v begins =
+    let err = err_from_is_err_and c.from_residual.result c.from_residual.ensures.1 in
+    list_stops m v c.args.head.now c.args.list.now begins.may c.loop-order.stored.items c.loop-order.sets c.loop-order.table _ (c.loop-order.invariant.preparing m v begins)
+    c.loop-order.order c.loop-order.invariant.longer c.loop-order-test.true _ c.store_one.result c.store_one.new.sets c.store_one.new.table (g.S.StableStore.view c.store_one.new.store) c.store_one.ensures.stored c.store_one.ensures.table
+    (ap is_ok c.in_err-put.was) (is_ok c.from_residual.result) (ap is_ok err.1)
+
+pub loop-order-preserved : goal.loop-order-preserved
+loop-order-preserved g c = record {
+  preparing = λ m v begins. subst (λ l. IsPreparing m v c.args.head.now.work c.args.list.now l c.store_one.new.sets c.store_one.new.table (g.S.StableStore.view c.store_one.new.store)) (sym c.push_reserved.ensures.items)
+      (list_on m v c.args.head.now c.args.list.now begins.may c.loop-order.stored.items c.loop-order.sets c.loop-order.table _ (c.loop-order.invariant.preparing m v begins)
+      c.loop-order.order c.loop-order.invariant.longer c.loop-order-test.true _ c.store_one.result c.store_one.new.sets c.store_one.new.table (g.S.StableStore.view c.store_one.new.store) c.store_one.ensures.stored c.store_one.ensures.table
+      _ c.in_ok-put.was);
+  longer = let all = ap (λ (l : List StoredIntention). length l) c.push_reserved.ensures.items in let one = length-append c.loop-order.stored.items (c.in_ok-put.put ∷ []) in let before = c.loop-order.invariant.longer in omega (arith, all, one, before);
+  room = c.push_reserved.ensures.capacity ∙ c.loop-order.invariant.room;
+}
