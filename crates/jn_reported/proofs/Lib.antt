@@ -9,3 +9,4 @@ pub mod Reached
 pub mod Fitting
 pub mod Hearing
 pub mod Following
+pub mod Naming
