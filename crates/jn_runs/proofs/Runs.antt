@@ -81,7 +81,7 @@ module _ (files : AllFiles) (epochs : ServerNo → ℕ) (before : List Atom) (ma
     }
 
     -- every step
-    step-next : (step : Step) → IsStep step r → Next (after step r) w
+    pub step-next : (step : Step) → IsStep step r → Next (after step r) w
     step-next (Tell c End) i = end-next r w mirrors facts inv grow c
     step-next (Tell c (Begin s)) i = shown-next (Tell c (Begin s)) i refl
     step-next (Tell c (Open s)) i = shown-next (Tell c (Open s)) i refl
@@ -113,7 +113,7 @@ run-moves files epochs (step ∷ steps) r before may mirrors facts locks names i
     (λ T. (run_told files before (opening_world files epochs) may (opening_kept files epochs) (opening_told files epochs)).1.named T ∙ committed-any T (run_atoms before (opening_world files epochs)).history ∙ ap (λ l. list_any (λ (V : Tid). tid_eq V T) l) mirrors.commits)
     names step) i.1
 
-opening-facts : (servers : ℕ) (files : AllFiles) (epochs : ServerNo → ℕ) → Facts (opening servers files epochs) (opening_world files epochs)
+pub opening-facts : (servers : ℕ) (files : AllFiles) (epochs : ServerNo → ℕ) → Facts (opening servers files epochs) (opening_world files epochs)
 opening-facts servers files epochs = record {
   unique = λ a b h k e. absurd h;
   tables = λ s m e. subst (λ (x : Memory). HaveOpenings [] x.coordinator.transactions) (same (new_memory s (epochs s)) m e) tt;

@@ -1,0 +1,12 @@
+pub mod Lists
+pub mod Asking
+pub mod WorkerTalk
+pub mod CoordinatorTalk
+pub mod Known
+pub mod ClientTalk
+pub mod Talk
+pub mod Reached
+pub mod Fitting
+pub mod Hearing
+pub mod Following
+pub mod Naming

@@ -1,0 +1,28 @@
+//! What the lines of each run of the whole system say of its schedule: each answer answers a command, outcomes are told as
+//! they are, and each abort, stop and refused fault has its cause.
+#![tactic(auto)]
+
+ghost use Rattle.std.specs.Prelude.{ℕ, List, []};
+ghost use Rattle.jn_base.specs.declared.names.ServerNo.{ServerNo};
+ghost use Rattle.jn_order.specs.Files.{AllFiles};
+ghost use Rattle.jn_serial.specs.Follows.{Follows};
+ghost use Rattle.jn_serial.specs.Lines.{history_of};
+ghost use Rattle.jn_serial.specs.Told.{NamesBefore, NamesOnce};
+ghost use Rattle.jn_protocol.specs.World.{opening};
+ghost use Rattle.jn_reported.specs.Reported.{Item, events_of, lines_of, IsReported};
+
+/// Whatever is done under the events of a schedule, stops and restarts among it: each answer to a client answers its
+/// outstanding command, in a form of that command.
+pub fn answers_follow()
+    ensures { (servers : ℕ) (files : AllFiles) (epochs : ServerNo → ℕ) (items : List Item) → IsReported items (opening servers files epochs)
+        → Follows (events_of items) (lines_of items (opening servers files epochs)) }
+{}
+
+/// Whatever is done under the events of a schedule: no transaction's commit is named twice, and each acknowledged one is
+/// named before.
+pub fn commits_are_named_once()
+    ensures before { (servers : ℕ) (files : AllFiles) (epochs : ServerNo → ℕ) (items : List Item) → IsReported items (opening servers files epochs)
+        → NamesBefore [] (lines_of items (opening servers files epochs)) }
+    ensures once { (servers : ℕ) (files : AllFiles) (epochs : ServerNo → ℕ) (items : List Item) → IsReported items (opening servers files epochs)
+        → NamesOnce (history_of (lines_of items (opening servers files epochs))) }
+{}
