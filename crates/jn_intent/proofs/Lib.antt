@@ -14,3 +14,15 @@ pub mod LettingGo
 pub mod Listed
 pub mod Removing
 pub mod Scrubbing
+pub mod Gathered
+pub mod ErasingAll
+pub mod CleanStore
+pub mod Downs
+pub mod Openings
+pub mod Begins
+pub mod Totals
+pub mod Keys
+pub mod PoolCounted
+pub mod TableCounted
+pub mod Counted
+pub mod Loads

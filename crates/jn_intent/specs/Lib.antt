@@ -4,3 +4,8 @@ pub mod Inside
 pub mod Works
 pub mod Pages
 pub mod Scrubbing
+pub mod Gathering
+pub mod Loading
+pub mod Opening
+pub mod Causes
+pub mod Kept

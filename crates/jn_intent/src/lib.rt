@@ -8,8 +8,12 @@
 
 mod files;
 mod flags;
+mod gathering;
 mod intents;
+mod load;
+mod opening;
 mod store;
 mod works;
 
 pub use intents::Intents;
+pub use load::{Down, DownCause, Found};
