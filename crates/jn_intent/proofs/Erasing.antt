@@ -50,7 +50,7 @@ rubbish_length pool (r ∷ rs) =
     let again = rubbish_length pool rs in let one = rubbish_one pool r in let both = length-append (rubbish_of pool r) (rubbish_in pool rs) in let more = sum_by-cons (λ r. if is_rubbish pool r then 1 else 0) r rs in
     both ∙ (let e : length (rubbish_of pool r) + length (rubbish_in pool rs) ≡ count_by (is_rubbish pool) (r ∷ rs) = omega (arith, again, one, more) in e)
 
-no_rubbish : (pool rs : List Record) → list_any (is_rubbish pool) rs ≡ false → rubbish_in pool rs ≡ []
+pub no_rubbish : (pool rs : List Record) → list_any (is_rubbish pool) rs ≡ false → rubbish_in pool rs ≡ []
 no_rubbish pool [] h = refl
 no_rubbish pool (r ∷ rs) h = by (is_rubbish pool r) refl (no_rubbish pool rs) h
   where
@@ -93,6 +93,34 @@ rubbish_is pool (Ready head n reads) h = absurd (true≢false (sym h))
 rubbish_is pool (Going head n reads) h = absurd (true≢false (sym h))
 rubbish_is pool (FlagRecord f) h = absurd (true≢false (sym h))
 
+-- ---- the first rubbish record is erased
+
+module _ (pool : List Record) (slot : ℕ) (at : position (is_rubbish pool) pool ≡ Some slot) where
+  pub rubbish_there : slot < length pool
+  rubbish_there = (position_at (is_rubbish pool) pool Free slot at).0
+
+  stands : is_rubbish pool (record_in pool slot) ≡ true
+  stands = (position_at (is_rubbish pool) pool Free slot at).1
+
+  pub its_rubbish : IsRubbishOf pool (record_in pool slot)
+  its_rubbish = rubbish_is pool (record_in pool slot) stands
+
+  pub rubbish_idle : IsIdlePut pool slot Free
+  rubbish_idle = record { there = rubbish_there; old_idle = ap (λ b. is_free (record_in pool slot) || b) stands ∙ by (is_free (record_in pool slot)); new_idle = refl }
+    where
+      by : (b : Bool) → (b || true) ≡ true
+      by true = refl
+      by false = refl
+
+  pub rubbish_less : length (rubbish_in (slice_set pool slot Free) (slice_set pool slot Free)) + 1 ≡ length (rubbish_in pool pool)
+  rubbish_less =
+      let moved = ap (λ (l : List WorkId). length l) (rubbish_moves pool slot Free (λ w. ap (is_prepared w) its_rubbish.is)) in
+      let after = rubbish_length pool (slice_set pool slot Free) in
+      let before = rubbish_length pool pool in
+      let one = sum_by-set (λ r. if is_rubbish pool r then 1 else 0) pool slot Free Free rubbish_there in
+      let here = ap {B = ℕ} (λ b. if b then 1 else 0) stands in
+      omega (arith, moved, after, before, one, here)
+
 -- ---- the call
 
 abbrev pub without_record : Memory → ℕ → Memory
@@ -109,20 +137,13 @@ module _ (m : Memory) (v : StoreView) (now : Matches m v) (serving : IsServing (
 
   module _ (slot : ℕ) (at : position (is_rubbish m.records) m.records ≡ Some slot) where
     there : slot < length m.records
-    there = (position_at (is_rubbish m.records) m.records Free slot at).0
-
-    stands : is_rubbish m.records (record_in m.records slot) ≡ true
-    stands = (position_at (is_rubbish m.records) m.records Free slot at).1
+    there = rubbish_there m.records slot at
 
     its : IsRubbishOf m.records (record_in m.records slot)
-    its = rubbish_is m.records (record_in m.records slot) stands
+    its = its_rubbish m.records slot at
 
     idle_put : IsIdlePut m.records slot Free
-    idle_put = record { there = there; old_idle = ap (λ b. is_free (record_in m.records slot) || b) stands ∙ by (is_free (record_in m.records slot)); new_idle = refl }
-      where
-        by : (b : Bool) → (b || true) ≡ true
-        by true = refl
-        by false = refl
+    idle_put = rubbish_idle m.records slot at
 
     same_works : (w : WorkId) → is_prepared w (record_in m.records slot) ≡ is_prepared w Free
     same_works w = ap (is_prepared w) its.is
@@ -130,13 +151,7 @@ module _ (m : Memory) (v : StoreView) (now : Matches m v) (serving : IsServing (
     pub counts : CountsErased (accounts_of m) (accounts_of (without_record m slot))
     counts = record {
       others = ap (λ k. record (accounts_of m) { free_records = k; rubbish = rubbish_in (slice_set m.records slot Free) (slice_set m.records slot Free) }) (free_less m.records slot there (ap is_free its.is));
-      rubbish_less =
-          let moved = ap (λ (l : List WorkId). length l) (rubbish_moves m.records slot Free same_works) in
-          let after = rubbish_length m.records (slice_set m.records slot Free) in
-          let before = rubbish_length m.records m.records in
-          let one = sum_by-set (λ r. if is_rubbish m.records r then 1 else 0) m.records slot Free Free there in
-          let here = ap {B = ℕ} (λ b. if b then 1 else 0) stands in
-          omega (arith, moved, after, before, one, here);
+      rubbish_less = rubbish_less m.records slot at;
       rubbish_names = λ n h. rubbish_fewer m.records m.records slot n (ap (is_in work_eq n) (sym (rubbish_moves m.records slot Free same_works)) ∙ h);
     }
 

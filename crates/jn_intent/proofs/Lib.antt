@@ -28,3 +28,15 @@ pub mod StoringPages
 pub mod ReadyPool
 pub mod ReadyStates
 pub mod Readying
+pub mod Gathered
+pub mod ErasingAll
+pub mod CleanStore
+pub mod Downs
+pub mod Openings
+pub mod Begins
+pub mod Totals
+pub mod Keys
+pub mod PoolCounted
+pub mod TableCounted
+pub mod Counted
+pub mod Loads

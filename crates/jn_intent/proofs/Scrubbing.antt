@@ -32,7 +32,8 @@ cleans_none v = record {
   fewer = fewer_refl v;
   clean = λ i lt. absurd (omega (arith, lt));
   whole = λ calm i lt. absurd (omega (arith, lt));
-  served = λ power. record { power = power; stops = refl };
+  stops = refl;
+  power = λ power. power;
 }
 
 module _ (u v : StoreView) (n : ℕ) (to : CleansTo u n v) (below : n < u.count) where
@@ -48,7 +49,8 @@ module _ (u v : StoreView) (n : ℕ) (to : CleansTo u n v) (below : n < u.count)
         (λ ne. let same = step.others i (omega (arith, lt, ne, below_now)) ne in same.first ∙ to.clean i (omega (arith, lt, ne)) ∙ sym same.second) (cases_eq i n);
     whole = λ calm i lt. ⊎_elim (λ e. subst (IsWhole w) (sym e) (step.calm (to.later.calm calm)).1)
         (λ ne. step.later.whole (to.later.calm calm) i (omega (arith, lt, ne, below_now)) (to.whole calm i (omega (arith, lt, ne)))) (cases_eq i n);
-    served = λ power. record { power = (step.served ok).power; stops = (step.served ok).stops ∙ (to.served power).stops };
+    stops = (step.served ok).stops ∙ to.stops;
+    power = λ power. (step.served ok).power;
   }
 
   module _ (answer : Result Bool Stopped) (w : StoreView) (bad : is_ok answer ≡ false) (step : StoreCleaned v n answer w) where
@@ -97,8 +99,8 @@ module _ (m : Memory) (v w : StoreView) (kept : IsKept m v) (fewer : IsFewer v w
         later = record { server = refl; pool = refl; heads = refl; leaves = refl; store = later };
         calls = calls;
         loadable = loadable_found m.server m.table.counts w (standing_fewer serving.power).recoverable;
-        no_stop = λ e. ((done e).served serving.power).stops;
-        serving = λ e. serving_by m w (state (view_of m v)) same ((done e).served serving.power).power (serves_of m v serving);
+        no_stop = λ e. (done e).stops;
+        serving = λ e. serving_by m w (state (view_of m v)) same ((done e).power serving.power) (serves_of m v serving);
         stop = stopped;
       };
       unchanged = same;

@@ -6,3 +6,8 @@ pub mod Pages
 pub mod Scrubbing
 pub mod Carrying
 pub mod Preparing
+pub mod Gathering
+pub mod Loading
+pub mod Opening
+pub mod Causes
+pub mod Kept

@@ -4,7 +4,7 @@ use Rattle.jn_found.specs.Puts.{IsFewer}
 use Rattle.jn_rows.specs.Stable.{Unchanged}
 use Rattle.jn_storage.specs.Storage.{StorageView}
 use Rattle.jn_storage.specs.Calls.{state, Called}
-use Rattle.jn_store.specs.Store.{StoreView, StoreLater, IsCalm, IsClean, IsWhole, IsServed}
+use Rattle.jn_store.specs.Store.{StoreView, StoreLater, IsCalm, IsClean, IsWhole}
 
 -- the first pages of a store are cleaned
 pub record CleansTo (v : StoreView) (n : ℕ) (w : StoreView) : Type 0 where
@@ -13,7 +13,8 @@ pub record CleansTo (v : StoreView) (n : ℕ) (w : StoreView) : Type 0 where
   pub fewer : IsFewer v w
   pub clean : (i : ℕ) → i < n → IsClean w i
   pub whole : IsCalm v → (i : ℕ) → i < n → IsWhole w i
-  pub served : v.power ≡ true → IsServed v w
+  pub stops : w.stops ≡ v.stops
+  pub power : v.power ≡ true → w.power ≡ true
 
 -- Each page is clean then, and whole where no fault waits.
 pub record Scrubbed (v : StorageView) (ok : Bool) (w : StorageView) : Type 0 where

@@ -9,9 +9,13 @@
 mod carry;
 mod files;
 mod flags;
+mod gathering;
 mod intents;
+mod load;
+mod opening;
 mod prepare;
 mod store;
 mod works;
 
 pub use intents::Intents;
+pub use load::{Down, DownCause, Found};

@@ -74,8 +74,8 @@ impl<S: Powered> Intents<S> {
     }
 }
 
-fn clean_all<S: StableStore>(store: &mut S) -> Result<(), Stopped>
-    requires { (S.view store.old).power ≡ true }
+/// Cleans each page of a store, from the first on.
+pub(crate) fn clean_all<S: StableStore>(store: &mut S) -> Result<(), Stopped>
     ensures fewer { IsFewer (S.view store.old) (S.view store.new) }
     ensures later { StoreLater (S.view store.old) (S.view store.new) }
     ensures calls { (S.view store.new).calls ≤ (S.view store.old).calls + 16 * (S.view store.old).count }

@@ -112,7 +112,7 @@ fn let_page_go(table: &mut FileTable, address: u16)
 }
 
 /// How many fresh files of a list have no head.
-fn heads_needed(table: &FileTable, list: &[StoredIntention]) -> u32
+pub(crate) fn heads_needed(table: &FileTable, list: &[StoredIntention]) -> u32
     requires { length list.now < 2 ^ 32 }
     ensures { result ≡ heads_needed table.now.heads list.now }
 {

@@ -1,0 +1,68 @@
+-- What a recovery does, from its store before to the storage, or where there is none to the store that it gives back.
+use Rattle.std.specs.Prelude.{◌≡◌, ◌≢◌, ◌⊎◌, ◌≤◌, ◌<◌, ◌+◌, ◌*◌, ℕ, suc}
+use Rattle.jn_base.specs.declared.names.ServerNo.{ServerNo}
+use Rattle.jn_found.specs.Pages.{found_on}
+use Rattle.jn_found.specs.Puts.{IsFewer}
+use Rattle.jn_found.specs.Recoverable.{IsRecoverable}
+use Rattle.jn_found.specs.Recovery.{FindsSame}
+use Rattle.jn_records.specs.StablePages.{Counts, page_count}
+use Rattle.jn_rows.specs.Stable.{StableState, Pick}
+use Rattle.jn_storage.specs.Storage.{StorageView, IsRecovered}
+use Rattle.jn_storage.specs.Calls.{state, TellsFlags}
+use Rattle.jn_store.specs.Store.{StoreView, StoreLater, IsCalm, IsClean, IsWhole, IsStop}
+use Rattle.jn_intent.specs.declared.load.DownCause.{DownCause}
+use Rattle.jn_intent.specs.declared.load.DownCause.TheVariants.{Stopped, Memory, EpochsUsedUp}
+use Rattle.jn_intent.specs.declared.load.Found.{Found}
+
+-- the same files, works and flags, in the same epoch or the next one
+pub record IsSameOrNext (x y : StableState) : Type 0 where
+  pub same : y ≡ record x { epoch = y.epoch }
+  pub epoch : (y.epoch ≡ x.epoch) ⊎ (y.epoch ≡ suc x.epoch)
+
+-- Each page is cleaned, the root, the records and the heads are read, and the root and at most each record are put.
+abbrev pub most_calls : Counts → ℕ
+most_calls g = 16 * page_count g + 8 * (1 + g.pool + g.heads) + 16 * (1 + g.pool)
+
+-- What a recovery leaves, however it ended: the next one may begin there, and by each pick it finds what some pick found
+-- before, in the same epoch or the next.
+pub record Recovering (server : ServerNo) (g : Counts) (v w : StoreView) : Type 0 where
+  pub later : StoreLater v w
+  pub calls : w.calls ≤ v.calls + most_calls g
+  pub recoverable : IsRecoverable server g w
+  pub each : (c : Pick) → (b : Pick) × IsSameOrNext (found_on g v b) (found_on g w c)
+  pub finds : FindsSame g v w
+
+-- There is a storage, of what some pick found before, in the next epoch.
+pub record IsLoaded (server : ServerNo) (g : Counts) (v : StoreView) (told : Found) (w : StorageView) : Type 0 where
+  pub recovering : Recovering server g v w.store
+  pub server_is : w.accounts.server ≡ server
+  pub pool : w.accounts.pool ≡ g.pool
+  pub heads : w.accounts.heads ≡ g.heads
+  pub leaves : w.accounts.leaves ≡ g.leaves
+  pub recovered : IsRecovered w
+  pub before : Pick
+  pub found : (c : Pick) → w.found c ≡ record (found_on g v before) { epoch = suc (found_on g v before).epoch }
+  pub epoch : told.epoch ≡ (state w).epoch
+  pub flags : TellsFlags w told.flags
+  pub clean : (i : ℕ) → i < v.count → IsClean w.store i
+  pub whole : IsCalm v → (i : ℕ) → i < v.count → IsWhole w.store i
+  pub no_stop : 0 < g.pool → 0 < g.heads → w.store.stops ≡ v.stops
+
+-- the root that was read has the last epoch, and nothing was put but by cleanups
+pub record IsUsedUp (g : Counts) (v w : StoreView) : Type 0 where
+  pub read : Pick
+  pub last : (found_on g v read).epoch ≡ 4294967295
+  pub fewer : IsFewer v w
+
+-- the root that was read has an epoch before the last
+pub record IsNotUsedUp (g : Counts) (v : StoreView) : Type 0 where
+  pub read : Pick
+  pub before_last : (found_on g v read).epoch < 4294967295
+
+-- There is no storage.
+pub record IsDown (server : ServerNo) (g : Counts) (v : StoreView) (cause : DownCause) (w : StoreView) : Type 0 where
+  pub recovering : Recovering server g v w
+  pub stop : cause ≡ Stopped → IsStop v w
+  pub calm : IsCalm v → cause ≢ Stopped
+  pub used_up : cause ≡ EpochsUsedUp → IsUsedUp g v w
+  pub memory : cause ≡ Memory → IsNotUsedUp g v
