@@ -39,19 +39,16 @@ impl Worker {
     {
         if let Some(work) = work_of(&self.works, tid) {
             let opened = Message::Opened(client, request, tid, Some(work.name));
-            out.send(Party::Client(client), opened)?;
-            return Ok(());
+            return Ok(out.send(Party::Client(client), opened)?);
         }
         if self.works.len() >= 64 {
             let refused = Message::Opened(client, request, tid, None);
-            out.send(Party::Client(client), refused)?;
-            return Ok(());
+            return Ok(out.send(Party::Client(client), refused)?);
         }
         let name = name_from(tickets);
         open_work(self.alloc, &mut self.locks, &mut self.works, tid, name)?;
         tickets.next += 1;
         let opened = Message::Opened(client, request, tid, Some(name));
-        out.send(Party::Client(client), opened)?;
-        Ok(())
+        Ok(out.send(Party::Client(client), opened)?)
     }
 }

@@ -136,8 +136,7 @@ impl Worker {
     {
         let answer = self.settle_read(store, name, number, op, out)?;
         let message = Message::Answer(client, request, answer);
-        out.send(Party::Client(client), message)?;
-        Ok(())
+        Ok(out.send(Party::Client(client), message)?)
     }
 
     /// A client asks for an operation. The device is asked only for a stored block, and only where its read is granted.
