@@ -6,31 +6,13 @@ use Rattle.jn_base.specs.declared.names.WorkId.{WorkId}
 use Rattle.jn_base.specs.Names.{tid_eq, work_eq}
 use Rattle.jn_rows.specs.declared.worker.Work.{Work}
 use Rattle.jn_rows.specs.declared.worker.Phase.{Phase}
-use Rattle.jn_rows.specs.Worker.{work_at, work_of, with_phase, without}
+use Rattle.jn_rows.specs.Worker.{work_at, work_of}
 use Rattle.jn_lock_rows.specs.Matching.{are_rising, is_before}
+use Rattle.jn_lock_rows.proofs.Edits.{rephased_at, same_there}
 use Rattle.jn_lock_rows.proofs.Works.{work_same, not-before, found-behind}
 use Rattle.jn_storage.specs.Listing.{is_in}
-use Rattle.jn_worker.specs.Calls.{rephased, going_in}
-
--- no work has the name
-pub without_none : (W : WorkId) (ws : List Work) (i : ℕ) → length ws ≤ i → take i ws ++ without W (drop i ws) ≡ ws
-without_none W [] zero h = refl
-without_none W [] (suc i) h = refl
-without_none W (w ∷ ws) zero h = grind arith
-without_none W (w ∷ ws) (suc i) h = let rest = without_none W ws i (omega arith) in grind (arith, rest)
-
--- the work at place i has the name, and its phase is changed
-pub rephased_at : (W : WorkId) (f : Phase → Phase) (d : Work) (ws : List Work) (i : ℕ) → i < length ws → work_eq (slice_index_or ws i d).name W ≡ true
-    → slice_set ws i (record (slice_index_or ws i d) { phase = f (slice_index_or ws i d).phase }) ≡ take i ws ++ rephased W f (drop i ws)
-rephased_at W f d [] i h e = grind arith
-rephased_at W f d (w ∷ ws) zero h e = grind arith
-rephased_at W f d (w ∷ ws) (suc i) h e = let rest = rephased_at W f d ws i (omega arith) e in grind (arith, rest)
-
-pub rephased_none : (W : WorkId) (f : Phase → Phase) (ws : List Work) (i : ℕ) → length ws ≤ i → take i ws ++ rephased W f (drop i ws) ≡ ws
-rephased_none W f [] zero h = refl
-rephased_none W f [] (suc i) h = refl
-rephased_none W f (w ∷ ws) zero h = grind arith
-rephased_none W f (w ∷ ws) (suc i) h = let rest = rephased_none W f ws i (omega arith) in grind (arith, rest)
+use Rattle.jn_lock_rows.specs.Calls.{rephased}
+use Rattle.jn_worker.specs.Calls.{going_in}
 
 same : (x w : Work) → Some x ≡ Some w → x ≡ w
 same x w h = cc
@@ -43,15 +25,6 @@ and_later a b h = grind (arith, h)
 
 here : (x w : Work) (xs : List Work) → x ≡ w → (if work_eq x.name w.name then Some x else work_at w.name xs) ≡ Some w
 here x w xs e = subst (λ (y : Work). (if work_eq y.name w.name then Some y else work_at w.name xs) ≡ Some w) (sym e) (ap (λ b. if b then Some w else work_at w.name xs) (work_same w.name))
-
-pub rephased-is : (W : WorkId) (f : Phase → Phase) (ws : List Work) (w : Work) → work_at W ws ≡ Some w → rephased W f ws ≡ with_phase W (f w.phase) ws
-rephased-is W f [] w h = refl
-rephased-is W f (x ∷ xs) w h = by (work_eq x.name W) (rephased-is W f xs w) h
-  where
-    by : (b : Bool) → (work_at W xs ≡ Some w → rephased W f xs ≡ with_phase W (f w.phase) xs) → (if b then Some x else work_at W xs) ≡ Some w
-        → (if b then record x { phase = f x.phase } ∷ xs else x ∷ rephased W f xs) ≡ (if b then record x { phase = f w.phase } ∷ xs else x ∷ with_phase W (f w.phase) xs)
-    by true again h = ap (λ (y : Work). record x { phase = f y.phase } ∷ xs) (same x w h)
-    by false again h = ap (λ l. x ∷ l) (again h)
 
 -- the first work of a transaction is found by its name
 pub found_by_name : (T : Tid) (ws : List Work) (w : Work) → are_rising ws ≡ true → work_of T ws ≡ Some w → work_at w.name ws ≡ Some w
@@ -72,16 +45,11 @@ going_by_name going (x ∷ xs) w r h = by (is_in work_eq x.name going) refl (goi
     by true e again h = (here x w xs (same x w h), subst (λ (y : Work). is_in work_eq y.name going ≡ true) (same x w h) e)
     by false e again h = (ap (λ b. if b then Some x else work_at w.name xs) (not-before x.name w.name (found-behind w.name x.name xs w (and_first (is_before x.name xs) (are_rising xs) r) (again h).0)) ∙ (again h).0, (again h).1)
 
-index-same : (ws : List Work) (i : ℕ) (x d : Work) → i < length ws → slice_index_or ws i x ≡ slice_index_or ws i d
-index-same [] i x d h = absurd (omega (arith, h))
-index-same (w ∷ ws) zero x d h = refl
-index-same (w ∷ ws) (suc i) x d h = index-same ws i x d (omega (arith, h))
-
 -- the work that was read at place i is changed there
-pub rephased_here : (W : WorkId) (f : Phase → Phase) (ws : List Work) (i : ℕ) (x d : Work) (phase : Phase) → i < length ws → x ≡ slice_index_or ws i x → d ≡ slice_index_or ws i d → work_eq x.name W ≡ true → phase ≡ f d.phase
+pub changed_here : (W : WorkId) (f : Phase → Phase) (ws : List Work) (i : ℕ) (x d : Work) (phase : Phase) → i < length ws → x ≡ slice_index_or ws i x → d ≡ slice_index_or ws i d → work_eq x.name W ≡ true → phase ≡ f d.phase
     → slice_set ws i (record d { phase = phase }) ≡ take i ws ++ rephased W f (drop i ws)
-rephased_here W f ws i x d phase lt a b e is = ap (λ phase. slice_set ws i (record d { phase = phase })) is ∙ (ap (λ (y : Work). slice_set ws i (record y { phase = f y.phase })) b
-    ∙ rephased_at W f d ws i lt (subst (λ (y : Work). work_eq y.name W ≡ true) (a ∙ index-same ws i x d lt) e))
+changed_here W f ws i x d phase lt a b e is = ap (λ phase. slice_set ws i (record d { phase = phase })) is ∙ (ap (λ (y : Work). slice_set ws i (record y { phase = f y.phase })) b
+    ∙ rephased_at W f d ws i lt (subst (λ (y : Work). work_eq y.name W ≡ true) (a ∙ same_there ws i x d lt) e))
 
 found-at : (W : WorkId) (d : Work) (ws : List Work) (i : ℕ) → i < length ws → work_eq (slice_index_or ws i d).name W ≡ true → work_at W (drop i ws) ≡ Some (slice_index_or ws i d)
 found-at W d [] i h e = absurd (omega (arith, h))
@@ -90,7 +58,7 @@ found-at W d (w ∷ ws) (suc i) h e = found-at W d ws i (omega (arith, h)) e
 
 -- and it is the one that is found
 pub found_here : (W : WorkId) (ws : List Work) (i : ℕ) (x d : Work) → i < length ws → x ≡ slice_index_or ws i x → d ≡ slice_index_or ws i d → work_eq x.name W ≡ true → work_at W (drop i ws) ≡ Some d
-found_here W ws i x d lt a b e = found-at W d ws i lt (subst (λ (y : Work). work_eq y.name W ≡ true) (a ∙ index-same ws i x d lt) e) ∙ ap (λ (y : Work). Some y) (sym b)
+found_here W ws i x d lt a b e = found-at W d ws i lt (subst (λ (y : Work). work_eq y.name W ≡ true) (a ∙ same_there ws i x d lt) e) ∙ ap (λ (y : Work). Some y) (sym b)
 
 pub none_further : (W : WorkId) (ws : List Work) (i : ℕ) → length ws ≤ i → work_at W (drop i ws) ≡ None
 none_further W [] zero h = refl

@@ -1,6 +1,6 @@
 -- An operation whose answer is a stored block.
 use Rattle.std.proofs.Common.{◌≡◌, ◌<◌, ◌+◌, ℕ, Bool, true, false, not, List, [], ◌∷◌, ◌++◌, length, take, Option, Some, None, Result, Ok, Err, if◌then◌else◌, refl, sym, ◌∙◌, ap, subst, arith, true≢false}
-use Rattle.std.specs.Prelude.{◌&&◌, nat_eq, is_some, is_ok}
+use Rattle.std.specs.Prelude.{◌&&◌, is_some, is_ok}
 use Rattle.std.proofs.lemmas.List.{take_at}
 use Rattle.std.proofs.Math.Seq.{take-length}
 use Rattle.jn_base.specs.declared.device.Stopped.{Stopped}
@@ -9,9 +9,8 @@ use Rattle.jn_base.specs.declared.names.Party.TheVariants.{Client}
 use Rattle.jn_base.specs.declared.names.Tid.{Tid}
 use Rattle.jn_base.specs.declared.names.Tickets.{Tickets}
 use Rattle.jn_base.specs.declared.names.WorkId.{WorkId}
-use Rattle.jn_base.specs.declared.names.LockUnit.TheVariants.{File}
 use Rattle.jn_base.specs.declared.op.Answer.{Answer}
-use Rattle.jn_base.specs.declared.op.Answer.TheVariants.{Did, Read as Found}
+use Rattle.jn_base.specs.declared.op.Answer.TheVariants.{Did}
 use Rattle.jn_base.specs.declared.op.Op.{Op}
 use Rattle.jn_base.specs.declared.op.Op.TheVariants.{Create, Remove, Cut as CutBlocks, Read as ReadOp, Write as WriteOp}
 use Rattle.jn_base.specs.Names.{work_eq}
@@ -23,23 +22,21 @@ use Rattle.jn_records.specs.declared.intention.Intention.{Intention}
 use Rattle.jn_records.specs.NetLists.{list_change, length_with, block_of, answered}
 use Rattle.jn_records.specs.NetEdits.{intention_for}
 use Rattle.jn_locks.specs.declared.words.Mode.TheVariants.{Read, IntentionWrite}
-use Rattle.jn_rows.specs.declared.worker.Work.{Work}
 use Rattle.jn_rows.specs.declared.worker.Phase.TheVariants.{Active}
 use Rattle.jn_rows.specs.declared.worker.ActiveWork.{ActiveWork}
 use Rattle.jn_rows.specs.Outcomes.{RowOutcome}
 use Rattle.jn_rows.specs.Worker.{WorkerTable, work_at, with_phase, after_grant, break_notes, op_row, conflict, locked, wants_of, with_units, units_for, is_fit, past_limit, first_of_two, refusal_of, list_with, counted, done}
-use Rattle.jn_lock_rows.specs.Calls.{IsActive}
+use Rattle.jn_lock_rows.specs.Calls.{IsActive, rephased}
 use Rattle.jn_storage.specs.Listing.{is_in}
 use Rattle.jn_storage.specs.Storage.{StorageView, IsServing}
-use Rattle.jn_storage.specs.Calls.{state, Called}
+use Rattle.jn_storage.specs.Calls.{state}
 use Rattle.jn_storage.specs.Viewing.{Viewed, reads_stored}
-use Rattle.jn_storage.proofs.Laws.{called_not}
 use Rattle.jn_worker.specs.declared.words.WorkerFault.{WorkerFault}
 use Rattle.jn_worker.specs.declared.words.WorkerFault.TheVariants.{Stopped as Stops, Memory}
-use Rattle.jn_worker.specs.Fitting.{WorkerView, Fits, is_active}
-use Rattle.jn_worker.specs.Calls.{Takes, Settles, rephased, tallied, has_stopped, told_of}
+use Rattle.jn_worker.specs.Fitting.{WorkerView, Fits}
+use Rattle.jn_worker.specs.Calls.{Takes, Settles, tallied, has_stopped}
 use Rattle.jn_worker.specs.Reading.{ReadSettles, OnlyReads, answer_now, asks_now, asks_in, asks_for, is_unknown}
-use Rattle.jn_worker.proofs.Edits.{rephased-is}
+use Rattle.jn_lock_rows.proofs.Edits.{rephased-is}
 use Rattle.jn_worker.proofs.Exits.{none-made, called-within}
 use Rattle.jn_worker.proofs.Granted.{granted_itself}
 use Rattle.jn_worker.proofs.Operated.{at-with}
@@ -99,9 +96,6 @@ still-active t u T W a op before after i s = subst (λ (u : WorkerView). IsActiv
 })
 
 -- ---- what was asked of the device
-
-pub reads_nothing : (asks : Bool) (v : StorageView) → IsServing v → OnlyReads asks v true v
-reads_nothing asks v serving = record { called = called_not v 24 serving; unchanged = serving.up; same = λ _. refl; quiet = λ _. refl }
 
 -- the block of a granted read
 viewed-list : (t u : WorkerView) (v w : StorageView) (T : Tid) (W : WorkId) (a : ActiveWork) (op : Op) (r : Result Answer Stopped) (before after : Collected) → IsActive t.table T W a → is_unknown a op v → Settles t T W a op Did None before u after

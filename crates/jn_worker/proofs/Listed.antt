@@ -80,10 +80,7 @@ first_after op list o i e = ap (λ n. (n i.file).first) (net-after op list o e)
 is_same : (x y : Intention) → Some x ≡ Some y → x ≡ y
 is_same x y e = cc e
 
--- of any test of intentions
-of-new : (Q : Intention → Bool) (list : List Intention) (op : Op) (new x : Intention) → intention_for list op ≡ Some new → intention_for list op ≡ Some x → Q x ≡ true → Q new ≡ true
-of-new Q list op new x e f q = subst (λ i. Q i ≡ true) (is_same x new (sym f ∙ e)) q
-
+-- it is of the operation's file
 pub new_file : (list : List Intention) (op : Op) (new : Intention) → intention_for list op ≡ Some new → new.file ≡ file_of op
 new_file list (Create f) new e = ap (λ (i : Intention). i.file) (sym (is_same _ new e))
 new_file list (Remove f) new e = ap (λ (i : Intention). i.file) (sym (is_same _ new e))

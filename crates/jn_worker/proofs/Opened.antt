@@ -11,9 +11,7 @@ use Rattle.jn_base.specs.declared.names.Party.TheVariants.{Client}
 use Rattle.jn_base.specs.Names.{work_eq}
 use Rattle.jn_base.proofs.Tells.{work_tells}
 use Rattle.jn_order.specs.Files.{Files}
-use Rattle.jn_locks.specs.declared.words.Broken.{Broken as BrokenAt}
-use Rattle.jn_locks.specs.Asked.{Asks}
-use Rattle.jn_locks.specs.Locks.{Table, wanted, work_before}
+use Rattle.jn_locks.specs.Locks.{work_before}
 use Rattle.jn_locks.proofs.Orders.{work_before-irreflexive}
 use Rattle.jn_msgs.specs.Collected.{Collected}
 use Rattle.jn_msgs.specs.declared.message.Message.TheVariants as messages
@@ -21,8 +19,7 @@ use Rattle.jn_rows.specs.declared.worker.Work.{Work}
 use Rattle.jn_rows.specs.Outcomes.{sends}
 use Rattle.jn_rows.specs.Stable.{Prepared}
 use Rattle.jn_rows.specs.Worker.{WorkerTable, work_at, work_of, name_from, new_work, open_row}
-use Rattle.jn_lock_rows.specs.Matching.{LocksMatch, is_after}
-use Rattle.jn_lock_rows.proofs.Granting.{match_opened}
+use Rattle.jn_lock_rows.specs.Matching.{is_after}
 use Rattle.jn_lock_rows.proofs.Works.{at-more, none-front}
 use Rattle.jn_storage.specs.Listing.{is_in}
 use Rattle.jn_storage.specs.Orderly.{IsPrepared}
@@ -127,15 +124,11 @@ open_made t u v before after k c request T h f none room is notes sent = subst (
 
 -- ---- as the code has it
 
-pub opened_locks : (works mid after : List Work) (w : Work) (l m : Table) (W : WorkId) (T : Tid) (bs : List BrokenAt) → LocksMatch works l → is_after W works ≡ true → Asks l W (wanted []) bs m → mid ≡ works → w ≡ new_work W T → after ≡ mid ++ w ∷ [] → LocksMatch after m
-opened_locks works mid after w l m W T bs h last g same new is = subst (λ (ws : List Work). LocksMatch ws m) (sym (is ∙ (ap (λ (ws : List Work). ws ++ w ∷ []) same ∙ ap (λ (x : Work). works ++ x ∷ []) new)))
-    (match_opened works l m W T bs h last g)
-
-pub open_here : (t u : WorkerView) (ws found : List Work) (gs : List WorkId) (v : StorageView) (before after : Collected) (k : Tickets) (c : ClientNo) (request : ℕ) (T : Tid) (N : WorkId) (n : ℕ) → record { table = ws; going = gs } ≡ t → found ≡ ws → work_of T found ≡ None
-    → n ≡ length ws → n < 64 → N ≡ name_from k → u ≡ record t { table = t.table ++ new_work N T ∷ [] } → after ≡ record { messages = before.messages ++ (Client c, messages.Opened c request T (Some N)) ∷ []; notes = before.notes }
-    → Fits t v → TicketsFit t.table v k → Takes (open_row t.table k c request T (work_of T t.table)) t v before k (Ok (tt {0})) u v after (record k { next = k.next + 1 })
-open_here t u ws found gs v before after k c request T N n e same none count short name is sent h f = open_made t u v before after k c request T h f
+pub open_here : (t : WorkerView) (ws found opened : List Work) (gs : List WorkId) (v : StorageView) (before after : Collected) (k : Tickets) (c : ClientNo) (request : ℕ) (T : Tid) (N : WorkId) (n : ℕ) → record { table = ws; going = gs } ≡ t → found ≡ ws → work_of T found ≡ None
+    → n ≡ length ws → n < 64 → N ≡ name_from k → opened ≡ ws ++ new_work N T ∷ [] → after ≡ record { messages = before.messages ++ (Client c, messages.Opened c request T (Some N)) ∷ []; notes = before.notes }
+    → Fits t v → TicketsFit t.table v k → Takes (open_row t.table k c request T (work_of T t.table)) t v before k (Ok (tt {0})) (record { table = opened; going = gs }) v after (record k { next = k.next + 1 })
+open_here t ws found opened gs v before after k c request T N n e same none count short name is sent h f = open_made t (record { table = opened; going = gs }) v before after k c request T h f
     (ap (λ (t : WorkerView). work_of T t.table) (sym e) ∙ (ap (λ ws. work_of T ws) (sym same) ∙ none))
     (subst (λ (t : WorkerView). length t.table < 64) e (subst (λ n. n < 64) count short))
-    (is ∙ ap (λ N. record t { table = t.table ++ new_work N T ∷ [] }) name) (ap (λ (o : Collected). o.notes) sent)
+    (ap (λ l. record { table = l; going = gs }) is ∙ (ap (λ (t : WorkerView). record t { table = t.table ++ new_work N T ∷ [] }) e ∙ ap (λ N. record t { table = t.table ++ new_work N T ∷ [] }) name)) (ap (λ (o : Collected). o.notes) sent)
     (ap (λ (o : Collected). o.messages) sent ∙ ap (λ N. before.messages ++ (Client c, messages.Opened c request T (Some N)) ∷ []) name)

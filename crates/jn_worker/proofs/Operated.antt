@@ -22,12 +22,12 @@ use Rattle.jn_rows.specs.declared.worker.Phase.TheVariants.{Active}
 use Rattle.jn_rows.specs.Worker.{work_at, with_phase, after_grant, break_notes, conflict, locked, counted, done, wants_of, with_units, units_for, is_fit, list_with}
 use Rattle.jn_lock_rows.specs.declared.grants.Refused.{Refused}
 use Rattle.jn_lock_rows.specs.declared.grants.Refused.TheVariants.{Held as HeldBy, Memory as NotGranted}
-use Rattle.jn_lock_rows.specs.Calls.{IsActive, Becomes, Grants, IsRefused, note_if, notes_of}
+use Rattle.jn_lock_rows.specs.Calls.{IsActive, Becomes, Grants, IsRefused, note_if, notes_of, rephased}
 use Rattle.jn_lock_rows.proofs.Works.{at-phase, in_phase, work_same}
 use Rattle.jn_worker.specs.declared.words.WorkerFault.{WorkerFault}
 use Rattle.jn_worker.specs.Fitting.{WorkerView}
-use Rattle.jn_worker.specs.Calls.{Granted, rephased, relisted, tallied, list_of, locked_by}
-use Rattle.jn_worker.proofs.Edits.{rephased-is}
+use Rattle.jn_worker.specs.Calls.{Granted, relisted, tallied, list_of, locked_by}
+use Rattle.jn_lock_rows.proofs.Edits.{rephased-is}
 use Rattle.jn_worker.proofs.Performed.{conflict_own, grant_own, notes_own, phase_twice}
 use Rattle.jn_worker.proofs.Granted.{granted_itself}
 

@@ -1,5 +1,5 @@
 -- What a run of calls keeps, for the tests.
-use Rattle.std.proofs.Common.{◌≡◌, ℕ, Bool, true, false, List, [], ◌∷◌, Option, Some, None, Result, Ok, Err, refl, sym, ◌∙◌, ap, subst, true≢false}
+use Rattle.std.proofs.Common.{◌≡◌, ℕ, Bool, true, false, List, [], ◌∷◌, Option, Some, None, Result, refl, sym, ◌∙◌, ap, subst, true≢false}
 use Rattle.std.specs.Prelude.{◌||◌, is_ok}
 use Rattle.jn_base.specs.declared.names.ServerNo.{ServerNo}
 use Rattle.jn_base.specs.declared.names.Tickets.{Tickets}
@@ -16,7 +16,7 @@ use Rattle.jn_storage.specs.Calls.{state}
 use Rattle.jn_memory_storage.specs.Memory.{MemoryState, blank, view_of}
 use Rattle.jn_worker.specs.declared.words.WorkerFault.{WorkerFault}
 use Rattle.jn_worker.specs.Fitting.{WorkerView, Fits, TicketsFit}
-use Rattle.jn_worker.specs.Calls.{Takes, Steps}
+use Rattle.jn_worker.specs.Calls.{Steps}
 use Rattle.jn_worker.specs.Restoring.{Restores}
 
 -- a step keeps what fits

@@ -9,8 +9,10 @@ use Rattle.jn_lock_rows.proofs.Keeping.{match_exposed}
 use Rattle.jn_locks.specs.Locks.{Table}
 use Rattle.jn_locks.specs.Asked.{Exposes}
 use Rattle.jn_worker.specs.Fitting.{WorkerView, Fits, TicketsFit}
-use Rattle.jn_worker.specs.Calls.{TimesOut, rephased}
-use Rattle.jn_worker.proofs.Edits.{rephased-is, found_by_name}
+use Rattle.jn_lock_rows.specs.Calls.{rephased}
+use Rattle.jn_worker.specs.Calls.{TimesOut}
+use Rattle.jn_lock_rows.proofs.Edits.{rephased-is}
+use Rattle.jn_worker.proofs.Edits.{found_by_name}
 use Rattle.jn_worker.proofs.Fit.{fits_vulnerable, tickets_phase}
 
 exposed : (T : Tid) (ws after : List Work) (w : Work) → are_rising ws ≡ true → work_of T ws ≡ Some w → after ≡ rephased w.name vulnerable ws → after ≡ with_phase w.name (vulnerable w.phase) ws

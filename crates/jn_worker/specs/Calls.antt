@@ -76,11 +76,6 @@ pub record TimesOut (T : Tid) (t : WorkerView) (answer : Bool) (u : WorkerView) 
   pub fits : (v : StorageView) → Fits t v → Fits u v
   pub tickets_fit : (v : StorageView) (k : Tickets) → TicketsFit t.table v k → TicketsFit u.table v k
 
--- the work of this name in another phase, made from the one that it had
-abbrev pub rephased : WorkId → (Phase → Phase) → WorkerTable → WorkerTable
-rephased W f [] = []
-rephased W f (w ∷ ws) = if work_eq w.name W then record w { phase = f w.phase } ∷ ws else w ∷ rephased W f ws
-
 -- what is voted for a work that isn't active, while its transaction isn't known to have committed
 abbrev pub vote_inactive : Phase → Vote
 vote_inactive (Broken u by) = votes.Broken u by

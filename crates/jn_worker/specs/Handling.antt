@@ -1,5 +1,5 @@
 -- What a worker does with a message.
-use Rattle.std.specs.Prelude.{◌<◌, Bool, true, false, ⊤}
+use Rattle.std.specs.Prelude.{Bool, true, false, ⊤}
 use Rattle.jn_msgs.specs.declared.message.Message.{Message}
 use Rattle.jn_msgs.specs.declared.message.Message.TheVariants.{Op, Prepare, Commit, Drop}
 use Rattle.jn_rows.specs.Worker.{WorkerTable, work_at}

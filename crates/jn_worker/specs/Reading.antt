@@ -7,14 +7,12 @@ use Rattle.jn_base.specs.declared.op.Op.{Op}
 use Rattle.jn_order.specs.Files.{answer_to, change}
 use Rattle.jn_records.specs.NetLists.{list_change, answered}
 use Rattle.jn_msgs.specs.Collected.{Collected}
-use Rattle.jn_msgs.specs.declared.message.Message.{Message}
-use Rattle.jn_msgs.specs.declared.message.Message.TheVariants as messages
 use Rattle.jn_rows.specs.declared.worker.Work.{Work}
 use Rattle.jn_rows.specs.declared.worker.Phase.{Phase}
 use Rattle.jn_rows.specs.declared.worker.Phase.TheVariants.{Active}
 use Rattle.jn_rows.specs.declared.worker.ActiveWork.{ActiveWork}
 use Rattle.jn_rows.specs.Stable.{Unchanged}
-use Rattle.jn_rows.specs.Worker.{WorkerTable, work_at, wants_of, is_fit, refusal_of}
+use Rattle.jn_rows.specs.Worker.{WorkerTable, wants_of, is_fit, refusal_of}
 use Rattle.jn_storage.specs.Storage.{StorageView}
 use Rattle.jn_storage.specs.Calls.{state, Called}
 use Rattle.jn_storage.specs.Viewing.{reads_stored}

@@ -34,12 +34,10 @@ impl Worker {
         ensures takes { (k : Tickets) → Takes (rows.commit_row self.old.table (seen (W.view store.old)) k tid name (rows.work_at name self.old.table)) self.old (W.view store.old) out.old k result self.new (W.view store.new) out.new k }
     {
         let Some(work) = work_at(&self.works, name) else {
-            out.send(Party::Server(tid.server), Message::Done(tid, name))?;
-            return Ok(());
+            return Ok(out.send(Party::Server(tid.server), Message::Done(tid, name))?);
         };
         if !is_prepared(&work.phase) || is_in(&self.going, name) {
-            out.note(Note::Ignored)?;
-            return Ok(());
+            return Ok(out.note(Note::Ignored)?);
         }
         self.going.reserve(1)?;
         store.mark_going(name)?;
@@ -58,12 +56,10 @@ impl Worker {
         ensures takes { (k : Tickets) → Takes (rows.drop_row self.old.table (seen (W.view store.old)) k name (rows.work_at name self.old.table)) self.old (W.view store.old) out.old k result self.new (W.view store.new) out.new k }
     {
         let Some(work) = work_at(&self.works, name) else {
-            out.note(Note::Ignored)?;
-            return Ok(());
+            return Ok(out.note(Note::Ignored)?);
         };
         if is_in(&self.going, name) {
-            out.note(Note::Ignored)?;
-            return Ok(());
+            return Ok(out.note(Note::Ignored)?);
         }
         if is_prepared(&work.phase) {
             store.drop_ready(name)?;

@@ -1,7 +1,8 @@
 // Changing an active work in a list of works.
 ghost use Rattle.std.specs.Prelude.{◌≡◌};
 ghost use Rattle.jn_rows.specs.Worker as rows;
-ghost use Rattle.jn_worker.specs.Calls.{rephased, relisted, list_in, list_of, tallied};
+ghost use Rattle.jn_lock_rows.specs.Calls.{rephased};
+ghost use Rattle.jn_worker.specs.Calls.{relisted, list_in, list_of, tallied};
 
 use jn_base::{Answer, WorkId};
 use jn_records::NetList;
@@ -19,7 +20,7 @@ fn swap_phase_list(phase: &mut Phase, list: NetList) -> NetList
 }
 
 /// Gives an active work another list, and the former list back.
-#[tactic(auto, using(crate::proofs::Edits::rephased_none))]
+#[tactic(auto, using(jn_lock_rows::proofs::Edits::rephased_none))]
 pub(crate) fn swap_list(works: &mut Vec<Work>, name: WorkId, list: NetList) -> NetList
     ensures works { works.new.items ≡ rephased name (relisted list) works.old.items }
     ensures list { result ≡ list_of list (rows.work_at name works.old.items) }
@@ -42,7 +43,7 @@ fn tally_phase(phase: &mut Phase, number: u32, answer: Answer)
 }
 
 /// An active work's operation has used up its number, and its answer is kept.
-#[tactic(auto, using(crate::proofs::Edits::rephased_none))]
+#[tactic(auto, using(jn_lock_rows::proofs::Edits::rephased_none))]
 pub(crate) fn tally(works: &mut Vec<Work>, name: WorkId, number: u32, answer: Answer)
     ensures { works.new.items ≡ rephased name (tallied number answer) works.old.items }
 {

@@ -203,8 +203,7 @@ impl Worker {
         let refusal = self.settle(name, number, op, answer, out)?;
         let told = told(refusal, answer);
         let message = Message::Answer(client, request, told);
-        out.send(Party::Client(client), message)?;
-        Ok(())
+        Ok(out.send(Party::Client(client), message)?)
     }
 
     /// An operation of an active work that isn't its next one: the last one is answered again.
@@ -222,11 +221,9 @@ impl Worker {
     {
         if let Some(answer) = self.kept_answer(name, number) {
             let message = Message::Answer(client, request, answer);
-            out.send(Party::Client(client), message)?;
-            return Ok(());
+            return Ok(out.send(Party::Client(client), message)?);
         }
-        out.note(Note::Ignored)?;
-        Ok(())
+        Ok(out.note(Note::Ignored)?)
     }
 
     /// What the active work's operation of this number was answered, if it was its last one.

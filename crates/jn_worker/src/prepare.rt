@@ -104,13 +104,11 @@ impl Worker {
         let _locks = &self.locks;
         if let Some((unit, by)) = test_storing(&self.locks, &self.works, name) {
             let waiting = Vote::Waiting(unit, by);
-            out.send(Party::Server(tid.server), Message::Vote(tid, name, waiting))?;
-            return Ok(());
+            return Ok(out.send(Party::Server(tid.server), Message::Vote(tid, name, waiting))?);
         }
         if let Err(fault) = self.store_work(store, client, name) {
             let full = refusal_of(fault)?;
-            out.send(Party::Server(tid.server), Message::Vote(tid, name, full))?;
-            return Ok(());
+            return Ok(out.send(Party::Server(tid.server), Message::Vote(tid, name, full))?);
         }
         self.vote_ready(tid, name, out)?;
         Ok(())

@@ -6,11 +6,11 @@ ghost use Rattle.jn_order.specs.Files.{answer_to, change, file_of};
 ghost use Rattle.jn_records.specs.NetLists.{list_change, answered};
 ghost use Rattle.jn_rows.specs.declared.worker.ActiveWork.{ActiveWork};
 ghost use Rattle.jn_rows.specs.Worker as rows;
-ghost use Rattle.jn_lock_rows.specs.Calls.{IsActive};
+ghost use Rattle.jn_lock_rows.specs.Calls.{IsActive, rephased};
 ghost use Rattle.jn_storage.specs.Calls.{state};
 ghost use Rattle.jn_storage.specs.Storage.{IsServing};
 ghost use Rattle.jn_storage.specs.Viewing.{BlockInRange, Viewed};
-ghost use Rattle.jn_worker.specs.Calls.{Takes, rephased, tallied, has_stopped};
+ghost use Rattle.jn_worker.specs.Calls.{Takes, tallied, has_stopped};
 ghost use Rattle.jn_worker.specs.Reading.{ReadSettles, OnlyReads, asks_now, asks_for, is_unknown};
 ghost use Rattle.jn_worker.specs.Fitting.{Fits, is_active};
 
@@ -136,32 +136,7 @@ impl Worker {
     {
         let answer = self.settle_read(store, name, number, op, out)?;
         let message = Message::Answer(client, request, answer);
-        out.send(Party::Client(client), message)?;
-        Ok(())
-    }
-
-    /// Does the next operation of an active work.
-    fn do_next<W: WorkStore>(
-        &mut self,
-        store: &mut W,
-        client: ClientNo,
-        request: u32,
-        name: WorkId,
-        number: u32,
-        op: &Op,
-        out: &mut Out,
-    ) -> Result<(), WorkerFault>
-        requires fits { Fits self.old (W.view store.old) }
-        requires range { BlockInRange op.now }
-        requires active { is_active (rows.work_at name self.old.table) ≡ true }
-        requires next { (T : Tid) (a : ActiveWork) → IsActive self.old.table T name a → number ≡ a.last + 1 }
-        ensures takes { (k : Tickets) → Takes (rows.op_row self.old.table (state (W.view store.old)).files k client request name number op.now (rows.work_at name self.old.table)) self.old (W.view store.old) out.old k result self.new (W.view store.new) out.new k }
-        ensures asks { asks_for self.old.table (W.view store.old) name number op.now (rows.work_at name self.old.table) ≡ false → W.view store.new ≡ W.view store.old }
-    {
-        if let Some(answer) = self.known_answer(store, name, op) {
-            return self.perform(client, request, name, number, op, answer, out);
-        }
-        self.read(store, client, request, name, number, op, out)
+        Ok(out.send(Party::Client(client), message)?)
     }
 
     /// A client asks for an operation. The device is asked only for a stored block, and only where its read is granted.
@@ -187,6 +162,9 @@ impl Worker {
         if !self.is_next(name, number) {
             return self.repeat(client, request, name, number, out);
         }
-        self.do_next(store, client, request, name, number, op, out)
+        match self.known_answer(store, name, op) {
+            Some(answer) => self.perform(client, request, name, number, op, answer, out),
+            None => self.read(store, client, request, name, number, op, out),
+        }
     }
 }

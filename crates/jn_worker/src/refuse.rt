@@ -50,16 +50,13 @@ impl Worker {
     {
         let Some(work) = work_at(&self.works, name) else {
             let lost = Vote::Lost(name.epoch, tickets.epoch);
-            out.send(Party::Server(tid.server), Message::Vote(tid, name, lost))?;
-            return Ok(());
+            return Ok(out.send(Party::Server(tid.server), Message::Vote(tid, name, lost))?);
         };
         if is_in(&self.going, name) {
-            out.note(Note::Ignored)?;
-            return Ok(());
+            return Ok(out.note(Note::Ignored)?);
         }
         let vote = vote_of(&work.phase);
-        out.send(Party::Server(tid.server), Message::Vote(tid, name, vote))?;
-        Ok(())
+        Ok(out.send(Party::Server(tid.server), Message::Vote(tid, name, vote))?)
     }
 
     /// Answers an operation of a work that isn't active.
@@ -79,7 +76,6 @@ impl Worker {
             Some(work) => answer_of(&work.phase),
         };
         let message = Message::Answer(client, request, answer);
-        out.send(Party::Client(client), message)?;
-        Ok(())
+        Ok(out.send(Party::Client(client), message)?)
     }
 }

@@ -6,7 +6,7 @@ ghost use Rattle.jn_locks.specs.declared.words.Mode.TheVariants.{Commit};
 ghost use Rattle.jn_locks.specs.Locks.{is_unit};
 ghost use Rattle.jn_rows.specs.Worker as rows;
 ghost use Rattle.jn_storage.specs.Listing.{is_in};
-ghost use Rattle.jn_worker.specs.Calls.{rephased};
+ghost use Rattle.jn_lock_rows.specs.Calls.{rephased};
 
 use jn_base::{LockUnit, Tid, WorkId};
 use jn_rows::{Phase, Work};
@@ -90,7 +90,7 @@ fn make_vulnerable(phase: &mut Phase)
 }
 
 /// From now on an active work gives way.
-#[tactic(auto, using(crate::proofs::Edits::rephased_none))]
+#[tactic(auto, using(jn_lock_rows::proofs::Edits::rephased_none))]
 pub(crate) fn expose(works: &mut Vec<Work>, name: WorkId)
     ensures { works.new.items ≡ rephased name rows.vulnerable works.old.items }
 {

@@ -1,5 +1,6 @@
 use Rattle.std.proofs.Common.{◌≡◌, ◌++◌, take, drop}
-use Rattle.jn_worker.specs.Calls.{rephased, tallied}
+use Rattle.jn_lock_rows.specs.Calls.{rephased}
+use Rattle.jn_worker.specs.Calls.{tallied}
 use Rattle.jn_worker.proofs.lists.tally.Given as goal
 
 abbrev pub invariant-loop-i : goal.invariant-loop-i

@@ -1,6 +1,6 @@
 use Rattle.std.proofs.Common.{◌≡◌, ◌++◌, take, drop}
 use Rattle.jn_rows.specs.Worker as rows
-use Rattle.jn_worker.specs.Calls.{rephased}
+use Rattle.jn_lock_rows.specs.Calls.{rephased}
 use Rattle.jn_worker.proofs.works.expose.Given as goal
 
 abbrev pub invariant-loop-i : goal.invariant-loop-i
