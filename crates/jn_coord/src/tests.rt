@@ -500,6 +500,29 @@ fn a_flag_takes_a_record(rt: HostRuntime) -> Result<(), Fail> {
     Ok(())
 }
 
+#[test]
+fn a_begin_that_was_seen_changes_nothing(rt: HostRuntime) -> Result<(), Fail> {
+    // The state; what is told again, and at an End of transaction 1.
+    for (state, again, end) in [
+        (1, "", "p1b p1a"),
+        (2, "", "p1b p1a"),
+        (3, "c1b c1a 3:1c", "3:1c"),
+        (4, "3:1r", "3:1r"),
+    ] {
+        let trial = in_state(&rt, rt.alloc(), state)?;
+        let story = [
+            (Begin(3, 4), "."),
+            (Begin(3, 5), "3+5=1"),
+            (Again, again),
+            (End(1), end),
+        ];
+        trial.hears(&rt, &story)?;
+    }
+    let trial = in_state(&rt, rt.alloc(), 4)?;
+    trial.hears(&rt, &[(Thanks(1), ""), (Begin(3, 5), ".")])?;
+    Ok(())
+}
+
 /// What comes of transaction 1, in this state, where its client begins another one and so many others are live.
 fn close_by_begin(
     rt: &impl Abort,
