@@ -1,0 +1,4 @@
+pub mod Talk
+pub mod Ways
+pub mod Answered
+pub mod Settling
