@@ -1,6 +1,6 @@
 -- What a settle with all servers up answers.
-use Rattle.std.proofs.Common.{◌≡◌, ◌≢◌, ◌⊎◌, inl, inr, ◌≤◌, ◌<◌, ℕ, zero, suc, ◌+◌, Bool, true, false, List, [], ◌∷◌, ◌++◌, Option, Some, None, is_some, true≢false, refl, sym, ◌∙◌, ap, subst, arith}
-use Rattle.std.specs.Prelude.{if◌then◌else◌, slice_get, nat_eq, nat_lt, ◌&&◌, length, map}
+use Rattle.std.proofs.Common.{◌≡◌, ◌≢◌, ◌⊎◌, inl, inr, ◌≤◌, ◌<◌, ℕ, zero, suc, ◌+◌, Bool, true, false, List, [], ◌∷◌, ◌++◌, Option, Some, None, true≢false, refl, sym, ◌∙◌, ap, subst, arith}
+use Rattle.std.specs.Prelude.{if◌then◌else◌, slice_get, nat_eq, nat_lt, ◌&&◌, ◌||◌, length, map}
 use Rattle.std.specs.List.{list_any}
 use Rattle.std.proofs.lemmas.Bool.Decides.{nat_tests}
 use Rattle.jn_base.specs.declared.names.ServerNo.{ServerNo}
@@ -18,22 +18,41 @@ use Rattle.jn_rows.specs.declared.worker.Work.{Work as WorkEntry}
 use Rattle.jn_rows.specs.declared.client.Taken.{Taken}
 use Rattle.jn_rows.specs.declared.client.Taken.TheVariants.{Ignored}
 use Rattle.jn_rows.specs.declared.client.Outstanding.{Outstanding}
-use Rattle.jn_rows.specs.Stable.{StableState, Pick, stable}
+use Rattle.jn_rows.specs.Stable.{Pick, stable}
 use Rattle.jn_rows.specs.Outcomes.{RowOutcome, Sent, sends as sends_row}
 use Rattle.jn_rows.specs.Worker.{work_of, name_from, new_work, open_row}
-use Rattle.jn_rows.specs.Client.{ClientTable, sent_again, Commanded, Refuses, Sends, command_row, take_row, again_row, is_current, is_tid, opens, opened_row, if_waits}
+use Rattle.jn_rows.specs.Client.{ClientTable, sent_again, Commanded, Refuses, Sends, command_row, take_row, is_current, is_tid, opens, opened_row, if_waits, outcome_row, is_end_or_abort, names_of}
 use Rattle.jn_rows.specs.ClientLaws.{after_command}
 use Rattle.jn_protocol.specs.World.{World, Memory, at_client}
 use Rattle.jn_protocol.specs.Servers.{Room, server_row, server_step}
 use Rattle.jn_protocol.specs.Steps.{Step, NextEvent, Tell, Again, Deliver, Work, Nudge, Timeout, StopDelivery, StopWork, Crash, Narrow, StopRestart, Restart, IsStep, after, handed, commanded, work, works, nudge, timeout, crash, narrow, stop_restart, restart}
-use Rattle.jn_protocol.specs.LockFacts.{UpFact, ServerFact, TableFact}
+use Rattle.jn_protocol.specs.LockFacts.{UpFact, ServerFact}
 use Rattle.jn_protocol.proofs.Tables.{of-found}
 use Rattle.jn_settling.specs.Course.{Course, go, go_on}
 use Rattle.jn_settling.specs.Settle.{Chance, servers_from, clients_from, first_busy, handing, working, next_step, onward, until_rest, ask_again}
 use Rattle.jn_settled.specs.Settled.{AreUp, AreAnswered, is_answered}
 use Rattle.jn_settling.proofs.Courses.{Sound, go-sound}
+use Rattle.jn_order.specs.Files.{AllFiles}
+use Rattle.jn_base.specs.declared.names.Cause.TheVariants.{Requested}
+use Rattle.jn_base.proofs.Tells.{tid_tells}
+use Rattle.jn_msgs.specs.declared.message.Outcome.{Outcome}
+use Rattle.jn_msgs.specs.declared.message.Outcome.TheVariants as outcomes
+use Rattle.jn_rows.specs.declared.coordinator.Transaction.{Transaction}
+use Rattle.jn_rows.specs.declared.coordinator.Stage.{Stage}
+use Rattle.jn_rows.specs.declared.coordinator.Stage.TheVariants.{Open, Voting, Committed, Aborted}
+use Rattle.jn_rows.specs.Coordinator.{transaction_at, abort_stage, abort_request, drops, besides, aborted_to}
+use Rattle.jn_runs.proofs.Openings.{Opening, openings, Has as HasOpening}
+use Rattle.jn_settling.proofs.CoordinatorFits.{found-name}
+use Rattle.jn_settled.proofs.Known.{IsKnown, known-step}
+use Rattle.jn_settled.proofs.Owners.{owner_in, owned-found}
+use Rattle.jn_settled.proofs.OwnerSteps.{AreOwned, step-keeps-owned}
 use Rattle.jn_settled.proofs.Talk.{IsStill, IsFitting, FitsCommand, still-fits, command-fits, take-still}
 use Rattle.jn_settled.proofs.Ways.{Has, Reply, IsEnd, OnTheWay, none-still, handed-still, rest-answers, ask-on-the-way, took-clients, ends-clients, memory-clients}
+
+-- an outcome after which its client waits for nothing
+abbrev ends_outcome : Outcome → Bool
+ends_outcome (outcomes.Waiting s u by) = false
+ends_outcome outcome = true
 
 -- ---- what holds of the clients
 
@@ -72,13 +91,20 @@ handed-talks d k room stop (Some (Client c, message)) w h = subst (λ f. Talks d
     (changed c d w.clients (take_row (w.clients c) message).0 (record { name = taken-client (w.clients c) message ∙ (h c).name; fits = still-fits (w.clients c) (take_row (w.clients c) message).0 (take-still (w.clients c) message) (h c).fits }) (h d))
 handed-talks d k room stop (Some (Server s, message)) w h = subst (λ f. Talks d (f d)) (sym (memory-clients s k room stop message (w.memory s) w)) (h d)
 
-module _ (n : ℕ) (at_most : n ≤ 8) (start : World) where
+module _ (n : ℕ) (at_most : n ≤ 8) (start : World) (files : AllFiles) (epochs : ServerNo → ℕ) where
   pub record Talking (d : Course) : Type 0 where
     pub sound : Sound n start d
     pub talks : (c : ClientNo) → Talks c (d.world.clients c)
+    pub known : IsKnown files epochs d.world
+    pub owned : AreOwned d.world
 
   pub go-talking : (d : Course) (step : Step) → Talking d → IsStep step d.world → Talking (go step d)
-  go-talking d step h i = record { sound = go-sound n at_most start d step h.sound i; talks = λ c. by step c }
+  go-talking d step h i = record {
+    sound = go-sound n at_most start d step h.sound i;
+    talks = λ c. by step c;
+    known = known-step files epochs d.world h.known h.sound.locks step i;
+    owned = step-keeps-owned n at_most d.world h.sound.sizes h.sound.locks h.owned step i;
+  }
     where
       w : World
       w = d.world
@@ -179,6 +205,87 @@ module _ (n : ℕ) (at_most : n ≤ 8) (start : World) where
               else sends_row m.worker m.tickets ((Client t.client, messages.Opened t.client o.request T None) ∷ [])).messages
           new true = to (Some (name_from m.tickets)) (here (name_from m.tickets) fact.server)
           new false = to None refl
+
+  -- ---- an Abort is answered
+
+  has-last : (a : List Sent) (x : Sent) → Has x (a ++ x ∷ [])
+  has-last [] x = inl refl
+  has-last (y ∷ a) x = inr (has-last a x)
+
+  owner-has : (os : List Opening) (c : ClientNo) (T : Tid) → owner_in os c T ≡ true → (a : Opening) × HasOpening a os × (a.client ≡ c) × (a.tid ≡ T)
+  owner-has [] c T h = absurd (true≢false (sym h))
+  owner-has (a ∷ os) c T h = by (client_eq a.client c) refl (tid_eq a.tid T) refl h (owner-has os c T)
+    where
+      the-client : client_eq a.client c ≡ true → a.client ≡ c
+      the-client e = let t = client_tells a.client c in grind (arith, e)
+
+      the-tid : tid_eq a.tid T ≡ true → a.tid ≡ T
+      the-tid e = let t = tid_tells a.tid T in grind (arith, e)
+
+      by : (p : Bool) → client_eq a.client c ≡ p → (q : Bool) → tid_eq a.tid T ≡ q → ((p && q) || owner_in os c T) ≡ true → (owner_in os c T ≡ true → (b : Opening) × HasOpening b os × (b.client ≡ c) × (b.tid ≡ T))
+          → (b : Opening) × HasOpening b (a ∷ os) × (b.client ≡ c) × (b.tid ≡ T)
+      by true e true f k again = (a, inl refl, the-client e, the-tid f)
+      by true e false f k again = let x = again k in (x.0, inr x.1, x.2, x.3)
+      by false e q f k again = let x = again k in (x.0, inr x.1, x.2, x.3)
+
+  -- the client of a transaction is the one whose it is
+  its-client : (d : Course) (c : ClientNo) (T : Tid) (m : Memory) (y : Transaction) → Talking d → (d.world.clients c).transaction ≡ Some T → d.world.memory T.server ≡ Some m → transaction_at T m.coordinator.transactions ≡ Some y → y.client ≡ c
+  its-client d c T m y h current up found = let own = owner-has (openings d.world.sent) y.client y.tid (owned-found (owner_in (openings d.world.sent)) T m.coordinator.transactions y ((h.owned T.server).table m up) found) in
+      let facts = h.known.facts in let began = (facts.clients c).current T current in
+      let same = facts.unique own.0 (record { client = c; request = began.request; tid = T }) own.1 began.has (own.3 ∙ found-name T m.coordinator.transactions y found) in sym own.2 ∙ ap (λ (a : Opening). a.client) same
+
+  outcome-ends : (t : ClientTable) (o : Outstanding) (T : Tid) → t.outstanding ≡ Some o → t.transaction ≡ Some T → is_end_or_abort o.command ≡ true → (outcome : Outcome) → ends_outcome outcome ≡ true → IsEnd t (messages.Outcome t.client T outcome)
+  outcome-ends t o T e current waits outcome k = ap (λ (b : Bool). (if◌then◌else◌ {A = ClientTable × Taken} b (outcome_row t T outcome) (t, Ignored)).0.outstanding) itself ∙ by outcome k
+    where
+      itself : client_eq t.client t.client ≡ true
+      itself = grind (arith, nat_tests)
+
+      its : is_current t T ≡ true
+      its = ap (λ z. is_tid T z) current ∙ grind (arith, nat_tests)
+
+      over : (line : ℕ → Taken) → (if_waits t t.outstanding (λ p. is_end_or_abort p.command) (λ j. (record t { transaction = None; works = []; outstanding = None }, line j))).0.outstanding ≡ None
+      over line = ap (λ z. (if_waits t z (λ p. is_end_or_abort p.command) (λ j. (record t { transaction = None; works = []; outstanding = None }, line j))).0.outstanding) e
+          ∙ ap (λ (b : Bool). (if◌then◌else◌ {A = ClientTable × Taken} b (record t { transaction = None; works = []; outstanding = None }, line o.event) (t, Ignored)).0.outstanding) waits
+
+      decided : (other : ClientTable × Taken) (line : ℕ → Taken) → (if is_current t T then if_waits t t.outstanding (λ p. is_end_or_abort p.command) (λ j. (record t { transaction = None; works = []; outstanding = None }, line j)) else other).0.outstanding ≡ None
+      decided other line = ap (λ (b : Bool). (if b then if_waits t t.outstanding (λ p. is_end_or_abort p.command) (λ j. (record t { transaction = None; works = []; outstanding = None }, line j)) else other).0.outstanding) its ∙ over line
+
+      by : (outcome : Outcome) → ends_outcome outcome ≡ true → (outcome_row t T outcome).0.outstanding ≡ None
+      by outcomes.Committed k = decided _ _
+      by (outcomes.Aborted cause) k = decided _ _
+      by (outcomes.NotKnown s epoch) k = decided _ _
+      by (outcomes.Waiting s u held) k = absurd (true≢false (sym k))
+
+  abort-reply : (d : Course) (c : ClientNo) (o : Outstanding) (T : Tid) (works : List WorkId) (m : Memory) (room : Room) → Talking d → (d.world.clients c).outstanding ≡ Some o → is_end_or_abort o.command ≡ true → (d.world.clients c).transaction ≡ Some T
+      → d.world.memory T.server ≡ Some m → Reply c (d.world.clients c) (server_row m (stable (d.world.found T.server)) room (messages.Abort (d.world.clients c).client o.request T works)).messages
+  abort-reply d c o T works m room h e waits current up = by (transaction_at T m.coordinator.transactions) refl
+    where
+      t : ClientTable
+      t = d.world.clients c
+
+      name : (d.world.clients c).client ≡ c
+      name = (h.talks c).name
+
+      outcome : (x : Outcome) → ends_outcome x ≡ true → (sent : List Sent) → Has (Client (d.world.clients c).client, messages.Outcome (d.world.clients c).client T x) sent → Reply c (d.world.clients c) sent
+      outcome x k sent has = record {
+        message = messages.Outcome (d.world.clients c).client T x;
+        has = subst (λ z. Has (Client z, messages.Outcome (d.world.clients c).client T x) sent) name has;
+        ends_it = outcome-ends (d.world.clients c) o T e current waits x k;
+      }
+
+      told : (y : Transaction) (x : Outcome) → transaction_at T m.coordinator.transactions ≡ Some y → ends_outcome x ≡ true → (sent : List Sent) → Has (Client y.client, messages.Outcome y.client y.tid x) sent → Reply c (d.world.clients c) sent
+      told y x is k sent has = outcome x k sent (subst (λ z. Has (Client z, messages.Outcome z T x) sent) (its-client d c T m y h current up is ∙ sym name)
+          (subst (λ z. Has (Client y.client, messages.Outcome y.client z x) sent) (found-name T m.coordinator.transactions y is) has))
+
+      stage : (y : Transaction) → transaction_at T m.coordinator.transactions ≡ Some y → (s : Stage) → Reply c (d.world.clients c) (abort_stage m.coordinator m.tickets y works s).messages
+      stage y is Open = told y (outcomes.Aborted Requested) is refl _ (has-last (drops y.tid works) (aborted_to y Requested))
+      stage y is (Voting b) = told y (outcomes.Aborted Requested) is refl _ (has-last (drops y.tid (b.works ++ besides works b.works)) (aborted_to y Requested))
+      stage y is (Committed x) = told y outcomes.Committed is refl _ (inl refl)
+      stage y is (Aborted cause) = told y (outcomes.Aborted cause) is refl _ (inl refl)
+
+      by : (y : Option Transaction) → transaction_at T m.coordinator.transactions ≡ y → Reply c (d.world.clients c) (abort_request m.coordinator m.tickets (d.world.clients c).client T works y).messages
+      by (Some y) is = stage y is y.stage
+      by None is = outcome (outcomes.NotKnown m.tickets.server m.tickets.epoch) refl _ (inl refl)
 
   -- ---- along a settle
 
@@ -282,7 +389,7 @@ module _ (n : ℕ) (at_most : n ≤ 8) (start : World) where
     abbrev last : Course
     last = until_rest (servers_from 0 n) chances j middle
 
-    module _ (c : ClientNo) (first : 1 ≤ c.0) (most : c.0 ≤ 8) (rests : last.waiting ≡ []) (up : AreUp n last.world) where
+    module _ (c : ClientNo) (first : 1 ≤ c.0) (most : c.0 ≤ 8) (rests : last.waiting ≡ []) (up : AreUp last.world) where
       abbrev t : ClientTable
       t = d.world.clients c
 
@@ -297,29 +404,30 @@ module _ (n : ℕ) (at_most : n ≤ 8) (start : World) where
               none : None ≡ Some o → ⊥
               none z = cc
 
-      open-answered : (o : Outstanding) (s : ServerNo) → t.outstanding ≡ Some o → o.command ≡ commands.Open s → (last.world.clients c).outstanding ≡ None
-      open-answered o s e is = rest-answers n at_most start c t s message Talking (λ d h. h.sound) go-talking replies j chances middle on.so_far on.way (up s below) rests
+      -- one whose message is replied to wherever it comes
+      command-answered : (o : Outstanding) (s : ServerNo) (message : Message) → t.outstanding ≡ Some o → o.to ≡ Server s → o.message ≡ message
+          → ((e : Course) (m : Memory) (room : Room) → Talking e → e.world.clients c ≡ t → e.world.memory s ≡ Some m → Reply c t (server_row m (stable (e.world.found s)) room message).messages)
+          → (last.world.clients c).outstanding ≡ None
+      command-answered o s message e to is replies = rest-answers n at_most start c t s message Talking (λ d h. h.sound) go-talking replies j chances middle on.so_far on.way (up s) rests
         where
-          fits : FitsCommand t o (commands.Open s)
-          fits = subst (λ z. FitsCommand t o z) is ((h.talks c).fits o e)
-
-          message : Message
-          message = messages.Open t.client o.request fits.0
-
-          replies : (d : Course) (m : Memory) (room : Room) → Talking d → d.world.clients c ≡ t → d.world.memory s ≡ Some m → Reply c t (server_row m (stable (d.world.found s)) room message).messages
-          replies d' m room k same is_up = open-reply d' c t o s fits.0 m room k (h.talks c) e is fits.1 is_up
-
-          below : s.0 < n
-          below = let test = fits.4 in let same = (h.sound.sizes.clients c).servers_are in grind (arith, nat_tests, test, same)
-
           on : OnTheWay n at_most start c t s message Talking (λ d h. h.sound) go-talking replies middle
           on = ask-on-the-way n at_most start c t s message Talking (λ d h. h.sound) go-talking replies (clients_from 1 8) (servers_from 0 n) d h refl
-              (ap sent_again e ∙ ap (λ z. Some (z, o.message)) fits.2 ∙ ap (λ z. Some (Server s, z)) fits.3) (among-clients 8 1 c first (omega (arith, most)))
+              (ap sent_again e ∙ ap (λ z. Some (z, o.message)) to ∙ ap (λ z. Some (Server s, z)) is) (among-clients 8 1 c first (omega (arith, most)))
+
+      open-answered : (o : Outstanding) (s : ServerNo) → t.outstanding ≡ Some o → o.command ≡ commands.Open s → (last.world.clients c).outstanding ≡ None
+      open-answered o s e is = let fits = subst (λ z. FitsCommand t o z) is ((h.talks c).fits o e) in
+          command-answered o s (messages.Open t.client o.request fits.0) e fits.2 fits.3 (λ d' m room k same is_up. open-reply d' c t o s fits.0 m room k (h.talks c) e is fits.1 is_up)
+
+      abort-answered : (o : Outstanding) → t.outstanding ≡ Some o → o.command ≡ commands.Abort → (last.world.clients c).outstanding ≡ None
+      abort-answered o e is = let fits = subst (λ z. FitsCommand t o z) is ((h.talks c).fits o e) in
+          command-answered o fits.0.server (messages.Abort t.client o.request fits.0 (names_of t.works)) e fits.2 fits.3
+          (λ d' m room k same is_up. subst (λ (z : ClientTable). Reply c z (server_row m (stable (d'.world.found fits.0.server)) room (messages.Abort z.client o.request fits.0 (names_of t.works))).messages) same
+          (abort-reply d' c o fits.0 (names_of t.works) m room k (ap (λ (z : ClientTable). z.outstanding) same ∙ e) (ap is_end_or_abort is) (ap (λ (z : ClientTable). z.transaction) same ∙ fits.1) is_up))
 
       none-some : (o : Outstanding) → None ≡ Some o → ⊥
       none-some o q = cc
 
-    pub settled-answers : last.waiting ≡ [] → AreUp n last.world → AreAnswered last.world
+    pub settled-answers : last.waiting ≡ [] → AreUp last.world → AreAnswered last.world
     settled-answers rests up c o first most e = by o.command refl
       where
         was : (d.world.clients c).outstanding ≡ Some o
@@ -327,7 +435,7 @@ module _ (n : ℕ) (at_most : n ≤ 8) (start : World) where
 
         by : (command : Command) → o.command ≡ command → is_answered command ≡ false
         by (commands.Open s) is = absurd (none-some c first most rests up o (sym (open-answered c first most rests up o s was is) ∙ e))
+        by commands.Abort is = absurd (none-some c first most rests up o (sym (abort-answered c first most rests up o was is) ∙ e))
         by (commands.Begin s) is = refl
         by (commands.Do s op) is = refl
         by commands.End is = refl
-        by commands.Abort is = refl

@@ -1,27 +1,24 @@
 -- What a client waits for when a settle asks again is on its way until it is answered: its message waits, or a reply to it.
 use Rattle.std.proofs.Common.{◌≡◌, ◌≢◌, ◌⊎◌, inl, inr, ◌≤◌, ◌<◌, ℕ, zero, suc, ◌+◌, Bool, true, false, List, [], ◌∷◌, ◌++◌, length, length-append, Option, Some, None, is_some, true≢false, append_assoc, refl, sym, ◌∙◌, ap, subst, arith}
-use Rattle.std.specs.Prelude.{if◌then◌else◌, slice_get, nat_eq, nat_lt, ◌&&◌, ◌||◌, map}
+use Rattle.std.specs.Prelude.{if◌then◌else◌, slice_get, nat_eq, map}
 use Rattle.std.specs.List.{list_any}
 use Rattle.std.proofs.lemmas.Bool.Decides.{nat_tests}
-use Rattle.std.proofs.lemmas.Option.{slice_get_within}
 use Rattle.jn_base.specs.declared.names.ServerNo.{ServerNo}
 use Rattle.jn_base.specs.declared.names.ClientNo.{ClientNo}
 use Rattle.jn_base.specs.declared.names.Party.TheVariants.{Client, Server}
 use Rattle.jn_base.specs.Names.{server_eq, client_eq}
 use Rattle.jn_base.proofs.Tells.{client_tells, server_tells}
 use Rattle.jn_msgs.specs.declared.message.Message.{Message}
-use Rattle.jn_rows.specs.declared.client.Outstanding.{Outstanding}
 use Rattle.jn_rows.specs.declared.client.Taken.{Taken}
 use Rattle.jn_rows.specs.declared.client.Taken.TheVariants as taken
-use Rattle.jn_rows.specs.Stable.{StableState, Pick, stable}
+use Rattle.jn_rows.specs.Stable.{Pick, stable}
 use Rattle.jn_rows.specs.Outcomes.{RowOutcome, Sent}
 use Rattle.jn_rows.specs.Client.{ClientTable, take_row, again_row}
-use Rattle.jn_protocol.specs.World.{World, Memory, at_server, at_client}
+use Rattle.jn_protocol.specs.World.{World, Memory, at_client}
 use Rattle.jn_protocol.specs.Servers.{Room, server_row, server_step}
-use Rattle.jn_protocol.specs.Steps.{Step, Again, Deliver, Work, Nudge, StopDelivery, StopWork, nudge, sent_now, IsStep, after, ends, done, stopped, at_memory, handed, work, works, took, taken_by}
+use Rattle.jn_protocol.specs.Steps.{Step, Again, Deliver, Work, Nudge, StopDelivery, StopWork, nudge, sent_now, IsStep, after, ends, at_memory, handed, work, works, took}
 use Rattle.jn_settling.specs.Course.{Course, numbered, still_waiting, without_number, go, go_on}
 use Rattle.jn_settling.specs.Settle.{Chance, servers_from, first_busy, handing, working, next_step, onward, until_rest, ask_again}
-use Rattle.jn_settling.specs.Bounds.{IsAtRest}
 use Rattle.jn_settling.proofs.Burdens.{are_below, get-more, get-next}
 use Rattle.jn_settling.proofs.Courses.{Grows, Sound, grows, waiting-is}
 use Rattle.jn_settling.proofs.Parts.{get-some}
