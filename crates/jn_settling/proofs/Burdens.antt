@@ -32,12 +32,12 @@ abbrev pub are_below : ℕ → List ℕ → Bool
 are_below n [] = true
 are_below n (k ∷ ks) = nat_lt k n && are_below n ks
 
-get-more : (xs ys : List Sent) (k : ℕ) → k < length xs → slice_get (xs ++ ys) k ≡ slice_get xs k
+pub get-more : (xs ys : List Sent) (k : ℕ) → k < length xs → slice_get (xs ++ ys) k ≡ slice_get xs k
 get-more [] ys k h = absurd (omega (arith, h))
 get-more (x ∷ xs) ys zero h = refl
 get-more (x ∷ xs) ys (suc k) h = get-more xs ys k (omega (arith, h))
 
-get-next : (xs : List Sent) (y : Sent) (ys : List Sent) → slice_get (xs ++ y ∷ ys) (length xs) ≡ Some y
+pub get-next : (xs : List Sent) (y : Sent) (ys : List Sent) → slice_get (xs ++ y ∷ ys) (length xs) ≡ Some y
 get-next [] y ys = refl
 get-next (x ∷ xs) y ys = get-next xs y ys
 

@@ -57,7 +57,7 @@ pub committed-found : (T : Tid) (xs : List Transaction) (x : Transaction) → tr
 committed-found T [] x e = absurd (cc e)
 committed-found T (y ∷ ys) x e = let again = committed-found T ys x in grind (arith, e)
 
-found-name : (T : Tid) (xs : List Transaction) (x : Transaction) → transaction_at T xs ≡ Some x → x.tid ≡ T
+pub found-name : (T : Tid) (xs : List Transaction) (x : Transaction) → transaction_at T xs ≡ Some x → x.tid ≡ T
 found-name T [] x e = absurd (cc e)
 found-name T (y ∷ ys) x e = let again = found-name T ys x in let t = tid_tells y.tid T in grind (arith, e)
 

@@ -68,7 +68,7 @@ module _ (w : World) where
   nudge-grows s None = same w refl
   nudge-grows s (Some m) = record { new = server_again m (stable (w.found s)); sent = refl }
 
-  grows : (step : Step) → Grows w (after step w)
+  pub grows : (step : Step) → Grows w (after step w)
   grows NextEvent = same (after NextEvent w) refl
   grows (Tell c command) = commanded-grows c (command_row (w.clients c) w.event command)
   grows (Again c) = record { new = sent_now (again_row (w.clients c)); sent = refl }

@@ -1,0 +1,67 @@
+-- Every settle after every run answers.
+use Rattle.std.proofs.Common.{◌≡◌, ◌≤◌, ℕ, suc, ◌+◌, true, List, [], ◌∷◌, Some, None, refl, sym, ◌∙◌, ap, subst, arith}
+use Rattle.jn_base.specs.declared.names.ServerNo.{ServerNo}
+use Rattle.jn_order.specs.Files.{AllFiles}
+use Rattle.jn_rows.specs.declared.client.Outstanding.{Outstanding}
+use Rattle.jn_rows.specs.Stable.{FlagState}
+use Rattle.jn_protocol.specs.World.{World, Memory, opening, new_memory}
+use Rattle.jn_protocol.specs.Steps.{Step, IsRun}
+use Rattle.jn_settling.specs.Course.{Course, opening_course, go, go_on}
+use Rattle.jn_settling.specs.Settle.{Chance, servers_from, clients_from, until_rest, ask_again, settled}
+use Rattle.jn_settling.specs.Weights.{burden}
+use Rattle.jn_settling.proofs.Resting.{PartEnds, part-ends}
+use Rattle.jn_settling.proofs.Settling.{opening-sound}
+use Rattle.jn_settled.specs.Settled.{AreUp, AreAnswered, Answers}
+use Rattle.jn_settled.proofs.Known.{opening-known}
+use Rattle.jn_settled.proofs.Owners.{all_owned, owner_in}
+use Rattle.jn_settled.proofs.Answered.{Talking, go-talking, rest-talking, ask-talking, settled-answers}
+
+module _ (n : ℕ) (at_most : n ≤ 8) (files : AllFiles) (epochs : ServerNo → ℕ) where
+  opening-talking : Talking n at_most (opening n files epochs) files epochs (opening_course n files epochs)
+  opening-talking = record {
+    sound = opening-sound n files epochs;
+    talks = λ c. record { name = refl; fits = λ o e. absurd (none o e) };
+    known = opening-known n files epochs;
+    owned = λ s. record { table = λ m e. subst (λ (z : Memory). all_owned (owner_in []) z.coordinator.transactions ≡ true) (some-memory (new_memory s (epochs s)) m e) refl; flags = λ c T f e. absurd (no-flag f e) };
+  }
+    where
+      none : (o : Outstanding) → None ≡ Some o → ⊥
+      none o e = cc
+
+      no-flag : (f : FlagState) → None ≡ Some f → ⊥
+      no-flag f e = cc
+
+      some-memory : (a b : Memory) → Some a ≡ Some b → a ≡ b
+      some-memory a b e = cc
+
+  go-on-talking : (start : World) (steps : List Step) (c : Course) → Talking n at_most start files epochs c → IsRun steps c.world → Talking n at_most start files epochs (go_on steps c)
+  go-on-talking start [] c h i = h
+  go-on-talking start (step ∷ steps) c h i = go-on-talking start steps (go step c) (go-talking n at_most start files epochs c step h i.0) i.1
+
+  pub course-talking : (steps : List Step) → IsRun steps (opening n files epochs) → Talking n at_most (opening n files epochs) files epochs (go_on steps (opening_course n files epochs))
+  course-talking steps h = go-on-talking (opening n files epochs) steps (opening_course n files epochs) opening-talking h
+
+  pub settle-answers : (start : World) (first second : ℕ → Chance) (c : Course) → Talking n at_most start files epochs c → Answers n first second c
+  settle-answers start first second c h = record {
+    steps = one.steps + two.steps;
+    each = λ j l. subst (λ (z : Course). AreUp z.world → AreAnswered z.world) (sym (whole j l)) (subst (λ (z : Course). AreUp z.world → AreAnswered z.world) (two.each two.steps (omega arith))
+        (settled-answers n at_most start files epochs one.last still two.steps second (ap (λ (z : Course). z.waiting) (two.each two.steps (omega arith)) ∙ (let r = two.rests in r.waits))));
+  }
+    where
+      one : PartEnds n first c
+      one = part-ends n at_most start (suc (burden (servers_from 0 n) c)) first c h.sound (omega arith)
+
+      still : Talking n at_most start files epochs one.last
+      still = subst (λ (z : Course). Talking n at_most start files epochs z) (one.each one.steps (omega arith)) (rest-talking n at_most start files epochs one.steps first c h)
+
+      middle : Course
+      middle = go_on (ask_again (clients_from 1 8) (servers_from 0 n)) one.last
+
+      asked : Talking n at_most start files epochs middle
+      asked = ask-talking n at_most start files epochs (clients_from 1 8) (servers_from 0 n) one.last still
+
+      two : PartEnds n second middle
+      two = part-ends n at_most start (suc (burden (servers_from 0 n) middle)) second middle asked.sound (omega arith)
+
+      whole : (j : ℕ) → one.steps + two.steps ≤ j → settled n (record { first = first; second = second; steps = j }) c ≡ two.last
+      whole j l = ap (λ (z : Course). until_rest (servers_from 0 n) second j (go_on (ask_again (clients_from 1 8) (servers_from 0 n)) z)) (one.each j (omega (arith, l))) ∙ two.each j (omega (arith, l))
