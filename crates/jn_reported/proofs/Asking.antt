@@ -1,5 +1,5 @@
 -- What clients ask of works, and what such an operation can be answered.
-use Rattle.std.proofs.Common.{◌≡◌, ◌≤◌, ℕ, Bool, true, List, ◌++◌, Option, Some, None, refl}
+use Rattle.std.proofs.Common.{◌≡◌, ◌⊎◌, inl, inr, ◌≤◌, ℕ, Bool, true, List, [], ◌++◌, Option, Some, None, refl}
 use Rattle.std.specs.Prelude.{not, length}
 use Rattle.jn_base.specs.declared.names.ClientNo.{ClientNo}
 use Rattle.jn_base.specs.declared.names.WorkId.{WorkId}
@@ -68,6 +68,20 @@ IsReply sent (to, messages.Op c q W n op) = ⊥
 IsReply sent (to, messages.Answer c q answer) = IsAnswered sent c q answer
 IsReply sent message = Unit {0}
 
+-- what a worker sends
+abbrev pub IsWorkers : List Sent → Sent → Type 0
+IsWorkers sent (to, messages.Answer c q answer) = IsAnswered sent c q answer
+IsWorkers sent (to, messages.Opened c q T W) = Unit {0}
+IsWorkers sent (to, messages.Vote T W vote) = Unit {0}
+IsWorkers sent (to, messages.Done T W) = Unit {0}
+IsWorkers sent (to, messages.Inquire T W) = Unit {0}
+IsWorkers sent message = ⊥
+
+pub workers-reply : (sent : List Sent) (x : Sent) → IsWorkers sent x → IsReply sent x
+workers-reply sent (to, messages.Answer c q answer) h = h
+workers-reply sent (to, messages.Op c q W n op) h = absurd h
+workers-reply sent (to, _) h = tt
+
 -- the kept answer is to the operation of this number
 pub record IsKept (sent : List Sent) (W : WorkId) (n : ℕ) (answer : Answer) : Type 0 where
   pub by : Answers sent answer
@@ -78,8 +92,15 @@ abbrev pub KeepsAnswer : List Sent → WorkId → ℕ → Option Answer → Type
 KeepsAnswer sent W n None = Unit {0}
 KeepsAnswer sent W n (Some answer) = IsKept sent W n answer
 
+-- something was asked of the work
+pub record WasAsked (sent : List Sent) (W : WorkId) : Type 0 where
+  pub of : Asking
+  pub asked : IsAsked sent of
+  pub work : of.work ≡ W
+
+-- a work holds nothing until something was asked of it
 abbrev pub KeepsPhase : List Sent → WorkId → Phase → Type 0
-KeepsPhase sent W (Active a) = (length a.list ≤ 24) × KeepsAnswer sent W a.last a.kept
+KeepsPhase sent W (Active a) = (length a.list ≤ 24) × KeepsAnswer sent W a.last a.kept × (((a.reads ≡ []) × (a.writes ≡ [])) ⊎ WasAsked sent W)
 KeepsPhase sent W phase = Unit {0}
 
 abbrev pub KeepsWork : List Sent → Work → Type 0
@@ -101,7 +122,11 @@ keeps-more sent more w h = phase w.phase h
     answer n (Some x) k = record { by = answers-more sent more x k.by; work = k.work; number = k.number }
 
     phase : (p : Phase) → KeepsPhase sent w.name p → KeepsPhase (sent ++ more) w.name p
-    phase (Active a) k = (k.0, answer a.last a.kept k.1)
+    phase (Active a) k = (k.0, answer a.last a.kept k.1, held k.2)
+      where
+        held : ((a.reads ≡ []) × (a.writes ≡ [])) ⊎ WasAsked sent w.name → ((a.reads ≡ []) × (a.writes ≡ [])) ⊎ WasAsked (sent ++ more) w.name
+        held (inl e) = inl e
+        held (inr h) = inr (record { of = h.of; asked = asked-more sent more h.of h.asked; work = h.work })
     phase _ k = tt
 
 pub reply-more : (sent more : List Sent) (x : Sent) → IsReply sent x → IsReply (sent ++ more) x

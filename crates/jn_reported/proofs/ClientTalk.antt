@@ -26,6 +26,7 @@ use Rattle.jn_rows.specs.declared.client.Taken.TheVariants as taken
 use Rattle.jn_rows.specs.Outcomes.{Sent}
 use Rattle.jn_rows.specs.Client.{ClientTable, Commanded, Refuses, Sends, work_at, with_operation, if_server, if_idle, if_transaction, if_no_transaction, if_open, if_not_open, command_row, sends, is_begin, is_current, if_waits, idle, over, begun_row, opened_row, decided_row, outcome_row, take_row}
 use Rattle.jn_machine.specs.World.{World as Machine}
+use Rattle.jn_machine.specs.Messages.{IsWorkOf}
 use Rattle.jn_machine.proofs.Updates.{not_both}
 use Rattle.jn_moves.specs.Mirrors.{AreOpen}
 use Rattle.jn_moves.proofs.ClientRows.{found-open}
@@ -118,6 +119,12 @@ abbrev pub IsHeard : List Sent → Sent → Type 0
 IsHeard sent (to, messages.Answer c q answer) = IsReply sent (to, messages.Answer c q answer)
 IsHeard sent message = Unit {0}
 
+-- what becomes of a table: its requests go on, and a transaction that it has was its before, or has just begun
+pub record TableGoes (os : List Opening) (c : ClientNo) (t u : ClientTable) : Type 0 where
+  pub next : t.next ≤ u.next
+  pub fresh : WaitsStay t u
+  pub has : (T : Tid) → u.transaction ≡ Some T → (t.transaction ≡ Some T) ⊎ ((x : Outstanding) × (t.outstanding ≡ Some x) × ((q : ℕ) → Has (opening c q T) os → x.request ≡ q))
+
 module _ (os : List Opening) (w : Machine) (ended : Tid → Bool) (sent : List Sent) (c : ClientNo) (t : ClientTable) (run : IsRunning os ended c t)
     (unique : (a b : Opening) → Has a os → Has b os → a.tid ≡ b.tid → a ≡ b) (waits : (o : Outstanding) → t.outstanding ≡ Some o → WaitFact sent t o)
     (current : (T : Tid) → t.transaction ≡ Some T → AreOpen w T t.works) where
@@ -134,6 +141,8 @@ module _ (os : List Opening) (w : Machine) (ended : Tid → Bool) (sent : List S
     pub named : a.work ≡ work.work
     pub number : a.number ≡ work.last + 1
     pub fact : AskedFact os w u a
+    pub idle : t.outstanding ≡ None
+    pub of : IsWorkOf w tid a.work
 
   pub record Commands (u : ClientTable) (to : Party) (message : Message) : Type 0 where
     pub next : t.next ≤ u.next
@@ -143,6 +152,7 @@ module _ (os : List Opening) (w : Machine) (ended : Tid → Bool) (sent : List S
     pub waiting : (o : Outstanding) → u.outstanding ≡ Some o → (o.to ≡ to) × (o.message ≡ message) × (is_begin o.command ≡ true → u.transaction ≡ None)
     pub asks : (a : Asking) → asking_in message ≡ Some a → IsNext u a
     pub heard : IsHeard sent (to, message)
+    pub last : (o : Outstanding) → u.outstanding ≡ Some o → u.next ≡ o.request + 1
 
   abbrev pub CommandTalks : Commanded → Type 0
   CommandTalks (Refuses refusal) = Unit {0}
@@ -155,9 +165,9 @@ module _ (os : List Opening) (w : Machine) (ended : Tid → Bool) (sent : List S
       by true = k
       by false = tt
 
-  where-idle : (o : Option Outstanding) (row : Commanded) → CommandTalks row → CommandTalks (if_idle o row)
-  where-idle None row k = k
-  where-idle (Some o) row k = tt
+  where-idle : (o : Option Outstanding) (row : Commanded) → t.outstanding ≡ o → (t.outstanding ≡ None → CommandTalks row) → CommandTalks (if_idle o row)
+  where-idle None row e k = k e
+  where-idle (Some o) row e k = tt
 
   without-one : (o : Option Tid) (row : Commanded) → t.transaction ≡ o → (t.transaction ≡ None → CommandTalks row) → CommandTalks (if_no_transaction o row)
   without-one None row e k = k e
@@ -192,6 +202,7 @@ module _ (os : List Opening) (w : Machine) (ended : Tid → Bool) (sent : List S
     waiting = λ o e. subst (λ (z : Outstanding). (z.to ≡ to) × (z.message ≡ message) × (is_begin z.command ≡ true → t.transaction ≡ None)) (some-out _ o e) (refl, refl, none);
     asks = asks;
     heard = heard;
+    last = λ o e. subst (λ (z : Outstanding). t.next + 1 ≡ z.request + 1) (some-out _ o e) refl;
   }
 
   none-asked : (u : ClientTable) (a : Asking) → None ≡ Some a → IsNext u a
@@ -209,9 +220,9 @@ module _ (os : List Opening) (w : Machine) (ended : Tid → Bool) (sent : List S
   one-stays : (q : ServerNo) (v : OpenWork) → work_at q t.works ≡ Some v → Stays q v t.works
   one-stays q v h = it-stays q v t.works h
 
-  op-next : (j : ℕ) (s : ServerNo) (op : Op) (T : Tid) (v : OpenWork) → t.transaction ≡ Some T → work_at s t.works ≡ Some v
+  op-next : (j : ℕ) (s : ServerNo) (op : Op) (T : Tid) (v : OpenWork) → t.outstanding ≡ None → t.transaction ≡ Some T → work_at s t.works ≡ Some v
       → IsNext (sent-table (with_operation s t.works) j (Do s op) (Server s) (messages.Op t.client t.next v.work (v.last + 1) op)) (record { client = t.client; request = t.next; work = v.work; number = v.last + 1; op = op })
-  op-next j s op T v e f = let its = found-open w T s t.works v (current T e) f in record {
+  op-next j s op T v free e f = let its = found-open w T s t.works v (current T e) f in record {
     client = run.name;
     tid = T;
     is = e;
@@ -220,6 +231,8 @@ module _ (os : List Opening) (w : Machine) (ended : Tid → Bool) (sent : List S
     found = f;
     named = refl;
     number = refl;
+    idle = free;
+    of = its.0;
     fact = record {
       drawn = below t.next;
       waits = λ o h k. subst (λ (z : Outstanding). Does z.command op) (some-out _ o h) (s, refl);
@@ -241,14 +254,14 @@ module _ (os : List Opening) (w : Machine) (ended : Tid → Bool) (sent : List S
       below n = omega arith
 
   pub command-talks : (j : ℕ) (command : Command) → CommandTalks (command_row t j command)
-  command-talks j (Begin s) = at-server s _ (where-idle t.outstanding _ (without-one t.transaction _ refl (λ e. sends-one t.works j (Begin s) _ _ one-stays (λ b. e) (λ a k. none-asked _ a k) tt)))
-  command-talks j (Open s) = at-server s _ (where-idle t.outstanding _ (with-one t.transaction _ refl (λ T e. where-none (work_at s t.works) _ (sends-one t.works j (Open s) _ _ one-stays (no-begin false refl) (λ a k. none-asked _ a k) tt))))
-  command-talks j (Do s op) = at-server s _ (where-idle t.outstanding _ (with-one t.transaction _ refl (λ T e. where-open s (work_at s t.works) _ refl (λ v f. sends-one (with_operation s t.works) j (Do s op) _ _ (counted-stay s t.works) (no-begin false refl)
-      (λ a k. subst (λ (z : Asking). IsNext (sent-table (with_operation s t.works) j (Do s op) (Server s) (messages.Op t.client t.next v.work (v.last + 1) op)) z) (some-asking _ a k) (op-next j s op T v e f)) tt))))
+  command-talks j (Begin s) = at-server s _ (where-idle t.outstanding _ refl (λ free. without-one t.transaction _ refl (λ e. sends-one t.works j (Begin s) _ _ one-stays (λ b. e) (λ a k. none-asked _ a k) tt)))
+  command-talks j (Open s) = at-server s _ (where-idle t.outstanding _ refl (λ free. with-one t.transaction _ refl (λ T e. where-none (work_at s t.works) _ (sends-one t.works j (Open s) _ _ one-stays (no-begin false refl) (λ a k. none-asked _ a k) tt))))
+  command-talks j (Do s op) = at-server s _ (where-idle t.outstanding _ refl (λ free. with-one t.transaction _ refl (λ T e. where-open s (work_at s t.works) _ refl (λ v f. sends-one (with_operation s t.works) j (Do s op) _ _ (counted-stay s t.works) (no-begin false refl)
+      (λ a k. subst (λ (z : Asking). IsNext (sent-table (with_operation s t.works) j (Do s op) (Server s) (messages.Op t.client t.next v.work (v.last + 1) op)) z) (some-asking _ a k) (op-next j s op T v free e f)) tt))))
     where
       some-asking : (a b : Asking) → Some a ≡ Some b → a ≡ b
       some-asking a b q = cc
-  command-talks j End = where-idle t.outstanding _ (with-one t.transaction _ refl (λ T e. sends-one t.works j End _ _ one-stays (no-begin false refl) (λ a k. none-asked _ a k) tt))
+  command-talks j End = where-idle t.outstanding _ refl (λ free. with-one t.transaction _ refl (λ T e. sends-one t.works j End _ _ one-stays (no-begin false refl) (λ a k. none-asked _ a k) tt))
   command-talks j Abort = with-one t.transaction _ refl (λ T e. sends-one t.works j Abort _ _ one-stays (no-begin false refl) (λ a k. none-asked _ a k) tt)
 
   -- ---- a message
@@ -263,9 +276,11 @@ module _ (os : List Opening) (w : Machine) (ended : Tid → Bool) (sent : List S
     pub keeps : (a : Asking) → a.client ≡ c → AskedFact os w t a → AskedFact os w row.0 a
     pub waiting : (o : Outstanding) → row.0.outstanding ≡ Some o → (t.outstanding ≡ Some o) × (row.0.transaction ≡ t.transaction)
     pub little : SaysLittle row.1
+    pub goes : TableGoes os c t row.0
+    pub same_next : row.0.next ≡ t.next
 
   same-row : (what : Taken) → SaysLittle what → TakeTalks (t, what)
-  same-row what k = record { keeps = λ a n h. h; waiting = λ o e. (e, refl); little = k }
+  same-row what k = record { keeps = λ a n h. h; waiting = λ o e. (e, refl); little = k; goes = record { next = self t.next; fresh = λ o e. inl e; has = λ T e. inl e }; same_next = refl }
 
   where-waits : (o : Option Outstanding) (test : Outstanding → Bool) (row : ℕ → ClientTable × Taken) → t.outstanding ≡ o → ((x : Outstanding) → t.outstanding ≡ Some x → test x ≡ true → TakeTalks (row x.event)) → TakeTalks (if_waits t o test row)
   where-waits None test row e k = same-row taken.Ignored tt
@@ -287,13 +302,20 @@ module _ (os : List Opening) (w : Machine) (ended : Tid → Bool) (sent : List S
     keeps = λ a n h. goes-on os w t (record (idle t) { works = works }) a h (self t.next) (λ o e. no-out o _ e) refl stay;
     waiting = λ o e. no-out o _ e;
     little = tt;
+    goes = record { next = self t.next; fresh = λ o e. no-out o _ e; has = λ T e. inl e };
+    same_next = refl;
   }
+
+  no-tid : (T : Tid) → None ≡ Some T → ⊥
+  no-tid T e = cc
 
   over-row : (what : Taken) → SaysLittle what → TakeTalks (over t, what)
   over-row what k = record {
     keeps = λ a n h. ends os w t (over t) a h (self t.next) refl refl (λ T e. subst (λ (d : ClientNo). Began os d t.next T) (sym n) (run.current T e));
     waiting = λ o e. no-out o _ e;
     little = k;
+    goes = record { next = self t.next; fresh = λ o e. no-out o _ e; has = λ T e. absurd (no-tid T e) };
+    same_next = refl;
   }
 
   first-of : (a b : Bool) → (a && b) ≡ true → a ≡ true
@@ -319,10 +341,18 @@ module _ (os : List Opening) (w : Machine) (ended : Tid → Bool) (sent : List S
     keeps = λ a n h. begins os w t (record (idle t) { transaction = Some T; works = [] }) a h (self t.next) T x ((waits x e).begins b) e refl refl (λ q k. ap (λ (z : Opening). z.request) (unique (opening c x.request T) (opening a.client q T) its k refl));
     waiting = λ o q. no-out o _ q;
     little = tt;
+    goes = record { next = self t.next; fresh = λ o q. no-out o _ q; has = λ U q. inr (x, e, λ n k. one U n q k) };
+    same_next = refl;
   }
     where
+      some-tid : (U V : Tid) → Some U ≡ Some V → U ≡ V
+      some-tid U V q = cc
+
       its : Has (opening c x.request T) os
       its = subst (λ (z : ClientNo). Has (opening z x.request T) os) (same-client d f) (subst (λ n. Has (opening d n T) os) (sym (same-number x.request request g)) (has (opening d request T) (inl refl)))
+
+      one : (U : Tid) (n : ℕ) → Some T ≡ Some U → Has (opening c n U) os → x.request ≡ n
+      one U n q k = ap (λ (z : Opening). z.request) (unique (opening c x.request T) (opening c n U) its k (some-tid T U q))
 
   opened-talks : (j : ℕ) (o : Option WorkId) → TakeTalks (opened_row t j o)
   opened-talks j None = idle-row t.works _ one-stays

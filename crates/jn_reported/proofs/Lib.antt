@@ -3,6 +3,8 @@ pub mod Asking
 pub mod WorkerTalk
 pub mod CoordinatorTalk
 pub mod Known
+pub mod Gone
+pub mod Breaking
 pub mod ClientTalk
 pub mod Talk
 pub mod Reached
@@ -10,3 +12,13 @@ pub mod Fitting
 pub mod Hearing
 pub mod Following
 pub mod Naming
+pub mod Past
+pub mod PastRows
+pub mod WorkerChanges
+pub mod PastSteps
+pub mod PastWorld
+pub mod PastClients
+pub mod PastAll
+pub mod Outcomes
+pub mod StepLines
+pub mod Unnamed

@@ -33,8 +33,8 @@ use Rattle.jn_runs.proofs.Facts.{opening, Began, Facts}
 use Rattle.jn_runs.proofs.ClientFacts.{all-have-theirs}
 use Rattle.jn_moves.proofs.StepMoves.{holds-of}
 use Rattle.jn_reported.proofs.Lists.{In, in-first, in-second, in-either, Each, each-in, each-append, each-more, get-in}
-use Rattle.jn_reported.proofs.Asking.{Asking, IsAsked, IsReply, KeepsWork, keeps-more, reply-more}
-use Rattle.jn_reported.proofs.WorkerTalk.{WasSent, worker-talks, step-talks, timeout-talks, restored-talks, again-talks}
+use Rattle.jn_reported.proofs.Asking.{asked-more, Asking, IsAsked, IsReply, IsWorkers, workers-reply, KeepsWork, keeps-more, reply-more}
+use Rattle.jn_reported.proofs.WorkerTalk.{Talks, WasSent, worker-talks, step-talks, timeout-talks, restored-talks, again-talks}
 use Rattle.jn_reported.proofs.CoordinatorTalk.{coordinator-silent, again-silent-all}
 use Rattle.jn_reported.proofs.Known.{IsPast, IsOpen, IsKnown, AskedFact, known-grows, goes-on}
 use Rattle.jn_reported.proofs.ClientTalk.{WaitFact, asking_in, asked-alone, IsHeard, IsNext, CommandTalks, command-talks, TakeTalks, take-talks}
@@ -261,9 +261,12 @@ module _ (r : World) (w v : Machine) (mirrors : Mirrors r w) (facts : Facts r w)
   ends-talk s k None row h = server-talk r.sent r.clients r.memory w v talk grow (at_server r.memory s (Some row.table)) row.messages h.0 (at-works s (Some row.table) (λ m e. subst (λ (z : Memory). Each (KeepsWork r.sent) z.worker) (some-memory row.table m e) h.1))
   ends-talk s k (Some made) row h = gone-talk s
 
+  as-replies : (row : RowOutcome WorkerTable) → Talks r.sent talk.once row → Each (IsReply r.sent) row.messages × Each (KeepsWork r.sent) row.table
+  as-replies row h = (each-more (IsWorkers r.sent) (IsReply r.sent) row.messages (workers-reply r.sent) h.0, h.1)
+
   module _ (s : ServerNo) (m : Memory) (is : r.memory s ≡ Some m) (x : StableState) (room : Room) where
     by-worker : (message : Message) → WasSent r.sent talk.once m.worker m.tickets (talk.works s m is) (storage_of m x room) message → RowTalks (of_worker m (worker_row m.worker (storage_of m x room) m.tickets message))
-    by-worker message sent = worker-talks r.sent talk.once m.worker m.tickets (talk.works s m is) (storage_of m x room) message sent
+    by-worker message sent = as-replies (worker_row m.worker (storage_of m x room) m.tickets message) (worker-talks r.sent talk.once m.worker m.tickets (talk.works s m is) (storage_of m x room) message sent)
 
     by-coordinator : (message : Message) → RowTalks (of_coordinator m (coordinator_row m.coordinator room.free.records m.tickets message))
     by-coordinator message = (coordinator-silent r.sent m.coordinator m.tickets room.free.records message, talk.works s m is)
@@ -305,12 +308,12 @@ module _ (r : World) (w v : Machine) (mirrors : Mirrors r w) (facts : Facts r w)
     where
       by : (o : Option (RowOutcome WorkerTable)) → worker_step m.worker (storage_of m (stable (r.found s)) room) m.tickets ≡ o → Talk (works s stop (of_step m o) r) v
       by None e = same-talk
-      by (Some row) e = ends-talk s None stop (of_worker m row) (step-talks r.sent talk.once m.worker m.tickets (talk.works s m is) (storage_of m (stable (r.found s)) room) row e)
+      by (Some row) e = ends-talk s None stop (of_worker m row) (as-replies row (step-talks r.sent talk.once m.worker m.tickets (talk.works s m is) (storage_of m (stable (r.found s)) room) row e))
 
   nudge-talk : (s : ServerNo) (o : Option Memory) → Talk (nudge s o r) v
   nudge-talk s None = same-talk
   nudge-talk s (Some m) = server-talk r.sent r.clients r.memory w v talk grow r.memory _ (each-append (IsReply r.sent) (worker_again (stable (r.found s)) m.worker) (coordinator_again m.coordinator.transactions)
-      (again-talks r.sent (stable (r.found s)) m.worker) (again-silent-all r.sent m.coordinator.transactions)) talk.works
+      (each-more (IsWorkers r.sent) (IsReply r.sent) (worker_again (stable (r.found s)) m.worker) (workers-reply r.sent) (again-talks r.sent (stable (r.found s)) m.worker)) (again-silent-all r.sent m.coordinator.transactions)) talk.works
 
   timeout-talk : (s : ServerNo) (T : Tid) (o : Option Memory) → r.memory s ≡ o → Talk (timeout s T o r) v
   timeout-talk s T None is = same-talk
@@ -350,6 +353,130 @@ module _ (r : World) (w v : Machine) (mirrors : Mirrors r w) (facts : Facts r w)
   step-talk (Narrow s g) = narrow-talk s g (r.memory s)
   step-talk (StopRestart s raised) = raise-talk s raised (r.memory s)
   step-talk (Restart s pick Ws Ts) = restart-talk s pick Ws Ts (r.memory s)
+
+-- ---- what is asked
+
+-- an operation that is asked for now, by a client that waits for nothing
+pub record IsFresh (r : World) (w : Machine) (a : Asking) : Type 0 where
+  pub tid : Tid
+  pub of : IsWorkOf w tid a.work
+  pub current : (r.clients a.client).transaction ≡ Some tid
+  pub idle : (r.clients a.client).outstanding ≡ None
+
+pub record Asks (r : World) (w : Machine) (sent : List Sent) : Type 0 where
+  pub back : (a : Asking) → IsAsked sent a → IsAsked r.sent a ⊎ IsFresh r w a
+  pub forth : (a : Asking) → IsAsked r.sent a → IsAsked sent a
+
+module _ (r : World) (w : Machine) (mirrors : Mirrors r w) (facts : Facts r w) (talk : Talk r w) where
+  abbrev same-grow : (T : Tid) (W : WorkId) → IsWorkOf w T W → IsWorkOf w T W
+  same-grow = λ T W h. h
+
+  same-asks : Asks r w r.sent
+  same-asks = record { back = λ a h. inl h; forth = λ a h. h }
+
+  reply-asks : (more : List Sent) → Each (IsReply r.sent) more → Asks r w (r.sent ++ more)
+  reply-asks more h = record { back = λ a k. by a (asked-either r.sent more a k); forth = λ a k. asked-more r.sent more a k }
+    where
+      by : (a : Asking) → IsAsked r.sent a ⊎ IsAsked more a → IsAsked r.sent a ⊎ IsFresh r w a
+      by a (inl k) = inl k
+      by a (inr k) = absurd (none-asked r.sent more a h k)
+
+  repeat-asks : (x : Sent) → In x r.sent → Asks r w (r.sent ++ x ∷ [])
+  repeat-asks x h = record { back = λ a k. by a (asked-either r.sent (x ∷ []) a k); forth = λ a k. asked-more r.sent (x ∷ []) a k }
+    where
+      at : (a : Asking) (to : Party) → In (to, messages.Op a.client a.request a.work a.number a.op) (x ∷ []) → In (to, messages.Op a.client a.request a.work a.number a.op) r.sent
+      at a to (inl e) = subst (λ (y : Sent). In y r.sent) e h
+      at a to (inr k) = absurd k
+
+      by : (a : Asking) → IsAsked r.sent a ⊎ IsAsked (x ∷ []) a → IsAsked r.sent a ⊎ IsFresh r w a
+      by a (inl k) = inl k
+      by a (inr k) = inl (record { to = k.to; is = at a k.to k.is })
+
+  nothing-asks : Asks r w (r.sent ++ [])
+  nothing-asks = reply-asks [] tt
+
+  commanded-asks : (c : ClientNo) (row : Commanded) → CommandTalks (openings r.sent) w w.ended r.sent c (r.clients c) (facts.clients c) facts.unique (talk.waits c) (current r w w mirrors facts talk same-grow c) row → Asks r w (commanded c row r).sent
+  commanded-asks c (Refuses refusal) h = same-asks
+  commanded-asks c (Sends u to message) h = record { back = λ a k. by a (asked-either r.sent ((to, message) ∷ []) a k); forth = λ a k. asked-more r.sent ((to, message) ∷ []) a k }
+    where
+      fresh : (a : Asking) → IsNext (openings r.sent) w w.ended r.sent c (r.clients c) (facts.clients c) facts.unique (talk.waits c) (current r w w mirrors facts talk same-grow c) u a → IsFresh r w a
+      fresh a n = record { tid = n.tid; of = n.of; current = ap (λ (d : ClientNo). (r.clients d).transaction) n.client ∙ n.is; idle = ap (λ (d : ClientNo). (r.clients d).outstanding) n.client ∙ n.idle }
+
+      by : (a : Asking) → IsAsked r.sent a ⊎ IsAsked ((to, message) ∷ []) a → IsAsked r.sent a ⊎ IsFresh r w a
+      by a (inl k) = inl k
+      by a (inr k) = inr (fresh a (h.asks a (asked-alone (to, message) a k)))
+
+  again-asks : (c : ClientNo) (o : Option Outstanding) → (r.clients c).outstanding ≡ o → Asks r w (r.sent ++ sent_now (sent_again o))
+  again-asks c None e = nothing-asks
+  again-asks c (Some o) e = repeat-asks (o.to, o.message) (talk.waits c o e).again
+
+  took-asks : (c : ClientNo) (k : ℕ) (u : ClientTable) (what : Taken) → TakeTalks (openings r.sent) w w.ended r.sent c (r.clients c) (facts.clients c) facts.unique (talk.waits c) (current r w w mirrors facts talk same-grow c) (u, what) → Asks r w (took c k u what r).sent
+  took-asks c k u taken.Ignored h = same-asks
+  took-asks c k u (taken.Send to message) h = reply-asks ((to, message) ∷ []) (h.little, tt)
+  took-asks c k u (taken.Told line None) h = nothing-asks
+  took-asks c k u (taken.Told line (Some x)) h = reply-asks (x ∷ []) (h.little, tt)
+
+  ends-asks : (s : ServerNo) (k : Option ℕ) (stop : Option (Pick → ℕ)) (row : RowOutcome Memory) → Each (IsReply r.sent) row.messages → Asks r w (ends s k stop row r).sent
+  ends-asks s k None row h = reply-asks row.messages h
+  ends-asks s k (Some made) row h = same-asks
+
+  memory-asks : (s : ServerNo) (k : ℕ) (room : Room) (stop : Option (Pick → ℕ)) (message : Message) (o : Option Memory) → r.memory s ≡ o → slice_get r.sent k ≡ Some (Server s, message) → Asks r w (at_memory s k room stop message o r).sent
+  memory-asks s k room stop message None is e = same-asks
+  memory-asks s k room stop message (Some m) is e = ends-asks s (Some k) stop _ (row-talks r w w mirrors facts talk same-grow s m is (stable (r.found s)) room message (was-sent r w w mirrors facts talk same-grow s m is (stable (r.found s)) room k message e)).0
+
+  handed-asks : (k : ℕ) (room : Room) (stop : Option (Pick → ℕ)) (o : Option Sent) → slice_get r.sent k ≡ o → Asks r w (handed k room stop o r).sent
+  handed-asks k room stop None e = same-asks
+  handed-asks k room stop (Some (Client c, message)) e = took-asks c k (take_row (r.clients c) message).0 (take_row (r.clients c) message).1 (take-talks (openings r.sent) w w.ended r.sent c (r.clients c) (facts.clients c) facts.unique (talk.waits c) (current r w w mirrors facts talk same-grow c) message
+      (holds-of (λ (x : Sent). (a : Opening) → Has a (opening_in x) → Has a (openings r.sent)) r.sent k (Client c, message) (all-have-theirs r.sent) e))
+  handed-asks k room stop (Some (Server s, message)) e = memory-asks s k room stop message (r.memory s) refl e
+
+  work-asks : (s : ServerNo) (room : Room) (stop : Option (Pick → ℕ)) (o : Option Memory) → r.memory s ≡ o → Asks r w (work s room stop o r).sent
+  work-asks s room stop None is = same-asks
+  work-asks s room stop (Some m) is = by (worker_step m.worker (storage_of m (stable (r.found s)) room) m.tickets) refl
+    where
+      by : (o : Option (RowOutcome WorkerTable)) → worker_step m.worker (storage_of m (stable (r.found s)) room) m.tickets ≡ o → Asks r w (works s stop (of_step m o) r).sent
+      by None e = same-asks
+      by (Some row) e = ends-asks s None stop (of_worker m row) (each-more (IsWorkers r.sent) (IsReply r.sent) row.messages (workers-reply r.sent) (step-talks r.sent talk.once m.worker m.tickets (talk.works s m is) (storage_of m (stable (r.found s)) room) row e).0)
+
+  nudge-asks : (s : ServerNo) (o : Option Memory) → Asks r w (nudge s o r).sent
+  nudge-asks s None = same-asks
+  nudge-asks s (Some m) = reply-asks _ (each-append (IsReply r.sent) (worker_again (stable (r.found s)) m.worker) (coordinator_again m.coordinator.transactions)
+      (each-more (IsWorkers r.sent) (IsReply r.sent) (worker_again (stable (r.found s)) m.worker) (workers-reply r.sent) (again-talks r.sent (stable (r.found s)) m.worker)) (again-silent-all r.sent m.coordinator.transactions))
+
+  timeout-asks : (s : ServerNo) (T : Tid) (o : Option Memory) → Asks r w (timeout s T o r).sent
+  timeout-asks s T None = same-asks
+  timeout-asks s T (Some m) = same-asks
+
+  crash-asks : (s : ServerNo) (o : Option Memory) → Asks r w (crash s o r).sent
+  crash-asks s None = same-asks
+  crash-asks s (Some m) = same-asks
+
+  narrow-asks : (s : ServerNo) (g : Pick → Pick) (o : Option Memory) → Asks r w (narrow s g o r).sent
+  narrow-asks s g None = same-asks
+  narrow-asks s g (Some m) = same-asks
+
+  raise-asks : (s : ServerNo) (raised : Pick → Bool) (o : Option Memory) → Asks r w (stop_restart s raised o r).sent
+  raise-asks s raised None = same-asks
+  raise-asks s raised (Some m) = same-asks
+
+  restart-asks : (s : ServerNo) (pick : Pick) (Ws : List WorkId) (Ts : List Tid) (o : Option Memory) → Asks r w (restart s pick Ws Ts o r).sent
+  restart-asks s pick Ws Ts None = same-asks
+  restart-asks s pick Ws Ts (Some m) = same-asks
+
+  pub step-asks : (step : Step) → Asks r w (after step r).sent
+  step-asks NextEvent = same-asks
+  step-asks (Tell c command) = commanded-asks c (command_row (r.clients c) r.event command) (command-talks (openings r.sent) w w.ended r.sent c (r.clients c) (facts.clients c) facts.unique (talk.waits c) (current r w w mirrors facts talk same-grow c) r.event command)
+  step-asks (Again c) = again-asks c (r.clients c).outstanding refl
+  step-asks (Deliver k room) = handed-asks k room None (slice_get r.sent k) refl
+  step-asks (Work s room) = work-asks s room None (r.memory s) refl
+  step-asks (Nudge s) = nudge-asks s (r.memory s)
+  step-asks (Timeout s T) = timeout-asks s T (r.memory s)
+  step-asks (StopDelivery k room made) = handed-asks k room (Some made) (slice_get r.sent k) refl
+  step-asks (StopWork s room made) = work-asks s room (Some made) (r.memory s) refl
+  step-asks (Crash s) = crash-asks s (r.memory s)
+  step-asks (Narrow s g) = narrow-asks s g (r.memory s)
+  step-asks (StopRestart s raised) = raise-asks s raised (r.memory s)
+  step-asks (Restart s pick Ws Ts) = restart-asks s pick Ws Ts (r.memory s)
 
 pub opening-talk : (servers : ℕ) (files : AllFiles) (epochs : ServerNo → ℕ) (w : Machine) → Talk (opening_world servers files epochs) w
 opening-talk servers files epochs w = record {

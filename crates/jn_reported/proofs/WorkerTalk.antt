@@ -1,5 +1,5 @@
 -- What a worker answers can be the answer of what was asked, and so can what it keeps.
-use Rattle.std.proofs.Common.{◌≡◌, ◌≤◌, ℕ, ◌+◌, Bool, true, false, List, [], ◌∷◌, ◌++◌, Option, Some, None, refl, sym, ◌∙◌, ap, subst, arith}
+use Rattle.std.proofs.Common.{◌≡◌, ◌⊎◌, inl, inr, ◌≤◌, ℕ, ◌+◌, Bool, true, false, List, [], ◌∷◌, ◌++◌, Option, Some, None, refl, sym, ◌∙◌, ap, subst, arith}
 use Rattle.std.specs.Prelude.{if◌then◌else◌, nat_eq, nat_lt, length, slice_get, is_some}
 use Rattle.std.proofs.lemmas.Bool.Decides.{nat_tests}
 use Rattle.jn_base.specs.declared.names.ClientNo.{ClientNo}
@@ -33,7 +33,7 @@ use Rattle.jn_rows.specs.Worker.{WorkerTable, WorkStorage, Wanted, Held, work_at
 use Rattle.jn_locks.specs.declared.words.Mode.TheVariants.{Read}
 use Rattle.jn_lock_rows.proofs.Works.{found-name, work_is}
 use Rattle.jn_reported.proofs.Lists.{Each, each-append}
-use Rattle.jn_reported.proofs.Asking.{Asking, IsAsked, can_answer, Answers, IsAnswered, IsReply, IsKept, KeepsAnswer, KeepsPhase, KeepsWork}
+use Rattle.jn_reported.proofs.Asking.{WasAsked, Asking, IsAsked, can_answer, Answers, IsAnswered, IsWorkers, IsKept, KeepsAnswer, KeepsPhase, KeepsWork}
 
 -- ---- an operation's own answers
 
@@ -180,7 +180,7 @@ each-owned P T (x ∷ xs) w h k = by (tid_eq x.tid T) k (each-owned P T xs w h.1
 
 module _ (sent : List Sent) (once : (a b : Asking) → IsAsked sent a → IsAsked sent b → a.work ≡ b.work → a.number ≡ b.number → a ≡ b) where
   abbrev pub Talks : RowOutcome WorkerTable → Type 0
-  Talks row = Each (IsReply sent) row.messages × Each (KeepsWork sent) row.table
+  Talks row = Each (IsWorkers sent) row.messages × Each (KeepsWork sent) row.table
 
   either : (b : Bool) (p q : RowOutcome WorkerTable) → Talks p → Talks q → Talks (if b then p else q)
   either true p q h l = h
@@ -201,7 +201,7 @@ module _ (sent : List Sent) (once : (a b : Asking) → IsAsked sent a → IsAske
   module _ (t : WorkerTable) (k : Tickets) (keeps : Each (KeepsWork sent) t) where
     open-talks : (c : ClientNo) (q : ℕ) (T : Tid) (o : Option Work) → Talks (open_row t k c q T o)
     open-talks c q T (Some w) = ((tt, tt), keeps)
-    open-talks c q T None = either (nat_lt (length t) 64) _ _ ((tt, tt), each-append (KeepsWork sent) t _ keeps ((short, tt), tt)) ((tt, tt), keeps)
+    open-talks c q T None = either (nat_lt (length t) 64) _ _ ((tt, tt), each-append (KeepsWork sent) t _ keeps ((short, tt, inl (refl, refl)), tt)) ((tt, tt), keeps)
       where
         short : 0 ≤ 24
         short = omega arith
@@ -217,14 +217,17 @@ module _ (sent : List Sent) (once : (a b : Asking) → IsAsked sent a → IsAske
       keep : (answer : Answer) (N : WorkId) (m : ℕ) → N ≡ W → n ≡ m → can_answer op answer ≡ true → IsKept sent N m answer
       keep answer N m e f h = record { by = it answer h; work = sym e; number = f }
 
+      was : {P : Type 0} → (N : WorkId) → N ≡ W → P ⊎ WasAsked sent N
+      was N e = inr (record { of = record { client = c; request = q; work = W; number = n; op = op }; asked = asked; work = sym e })
+
       granted-talks : (w : Work) (a : ActiveWork) (answer : Answer) (o : Option Answer) → w.name ≡ W → n ≡ a.last + 1 → length a.list ≤ 24 → can_answer op answer ≡ true → refusal_of t w.name a op answer (wants_of op (is_fit answer)) ≡ o
           → Talks (granted_row t k c q w a op answer (wants_of op (is_fit answer)) o)
       granted-talks w a answer (Some refusal) e f few fits h = let r = refusal-fits t w.name a op answer (wants_of op (is_fit answer)) refusal few h in
-          ((reply refusal r, tt), each-phase (KeepsWork sent) w.name _ t (λ v g p. (few, keep refusal v.name (a.last + 1) (g ∙ e) f r)) keeps)
+          ((reply refusal r, tt), each-phase (KeepsWork sent) w.name _ t (λ v g p. (few, keep refusal v.name (a.last + 1) (g ∙ e) f r, was v.name (g ∙ e))) keeps)
       granted-talks w a answer None e f few fits h = (
         (reply answer fits, tt),
         each-phase (KeepsWork sent) w.name _ (after_grant w.tid w.name (wants_of op (is_fit answer)) t)
-            (λ v g p. (short-done t w.name a op answer (wants_of op (is_fit answer)) few h, keep answer v.name (a.last + 1) (g ∙ e) f fits)) (grant-keeps w.tid w.name (wants_of op (is_fit answer)) t keeps),
+            (λ v g p. (short-done t w.name a op answer (wants_of op (is_fit answer)) few h, keep answer v.name (a.last + 1) (g ∙ e) f fits, was v.name (g ∙ e))) (grant-keeps w.tid w.name (wants_of op (is_fit answer)) t keeps),
       )
 
       repeated-talks : (w : Work) (last : ℕ) (o : Option Answer) → w.name ≡ W → n ≡ last → KeepsAnswer sent w.name last o → Talks (repeated t k c q o)
@@ -344,10 +347,10 @@ restored-talks sent x (W ∷ Ws) = by (x.works W) (restored-talks sent x Ws)
     by None on = on
     by (Some p) on = (tt, on)
 
-pub again-talks : (sent : List Sent) (x : StableState) (t : WorkerTable) → Each (IsReply sent) (worker_again x t)
+pub again-talks : (sent : List Sent) (x : StableState) (t : WorkerTable) → Each (IsWorkers sent) (worker_again x t)
 again-talks sent x [] = tt
 again-talks sent x (w ∷ ws) = by (is_going (x.works w.name)) (again-talks sent x ws)
   where
-    by : (b : Bool) → Each (IsReply sent) (worker_again x ws) → Each (IsReply sent) (if b then worker_again x ws else (Server w.tid.server, messages.Inquire w.tid w.name) ∷ worker_again x ws)
+    by : (b : Bool) → Each (IsWorkers sent) (worker_again x ws) → Each (IsWorkers sent) (if b then worker_again x ws else (Server w.tid.server, messages.Inquire w.tid w.name) ∷ worker_again x ws)
     by true h = h
     by false h = (tt, h)

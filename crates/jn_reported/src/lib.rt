@@ -2,12 +2,11 @@
 //! they are, and each abort, stop and refused fault has its cause.
 #![tactic(auto)]
 
-ghost use Rattle.std.specs.Prelude.{ℕ, List, []};
+ghost use Rattle.std.specs.Prelude.{ℕ, List};
 ghost use Rattle.jn_base.specs.declared.names.ServerNo.{ServerNo};
 ghost use Rattle.jn_order.specs.Files.{AllFiles};
 ghost use Rattle.jn_serial.specs.Follows.{Follows};
-ghost use Rattle.jn_serial.specs.Lines.{history_of};
-ghost use Rattle.jn_serial.specs.Told.{NamesBefore, NamesOnce};
+ghost use Rattle.jn_serial.specs.Told.{Told};
 ghost use Rattle.jn_protocol.specs.World.{opening};
 ghost use Rattle.jn_reported.specs.Reported.{Item, events_of, lines_of, IsReported};
 
@@ -18,11 +17,9 @@ pub fn answers_follow()
         → Follows (events_of items) (lines_of items (opening servers files epochs)) }
 {}
 
-/// Whatever is done under the events of a schedule: no transaction's commit is named twice, and each acknowledged one is
-/// named before.
-pub fn commits_are_named_once()
-    ensures before { (servers : ℕ) (files : AllFiles) (epochs : ServerNo → ℕ) (items : List Item) → IsReported items (opening servers files epochs)
-        → NamesBefore [] (lines_of items (opening servers files epochs)) }
-    ensures once { (servers : ℕ) (files : AllFiles) (epochs : ServerNo → ℕ) (items : List Item) → IsReported items (opening servers files epochs)
-        → NamesOnce (history_of (lines_of items (opening servers files epochs))) }
+/// Whatever is done under the events of a schedule, stops and restarts among it: no commit is named twice, each that a client
+/// is told of is named before, and no transaction is named that a client is told is aborted, or that a broken work was of.
+pub fn outcomes_are_told()
+    ensures { (servers : ℕ) (files : AllFiles) (epochs : ServerNo → ℕ) (items : List Item) → IsReported items (opening servers files epochs)
+        → Told (lines_of items (opening servers files epochs)) }
 {}

@@ -44,12 +44,20 @@ use Rattle.jn_runs.proofs.ClientFacts.{CommandFacts, sends-one, command-facts, T
 below : (a b : ℕ) → a < b → a < b + 1
 below a b h = omega arith
 
+-- a transaction that a client has was ended, with the client's works
+pub record EndsNow (r : World) (v : Machine) (T : Tid) : Type 0 where
+  pub client : ClientNo
+  pub current : (r.clients client).transaction ≡ Some T
+  pub parts : (W : WorkId) → is_work W (names_of (r.clients client).works) ≡ true → v.part T W.server ≡ Some W
+
 -- the machine's steps for one step of the whole system, after which all holds again
 pub record Next (r : World) (w : Machine) : Type 0 where
   pub atoms : List Atom
   pub may : MayRun atoms w
   pub mirrors : Mirrors r (run atoms w)
   pub facts : Facts r (run atoms w)
+  -- what has ended was so, or ends now
+  pub ends : (T : Tid) → (run atoms w).ended T ≡ true → (w.ended T ≡ true) ⊎ EndsNow r (run atoms w) T
 
 abbrev IsOther : ClientNo → ClientNo → Type 0
 IsOther c d = ((client_eq c d ≡ true) × (c ≡ d)) ⊎ ((client_eq c d ≡ false) × (c ≢ d))
@@ -187,6 +195,7 @@ module _ (r : World) (w : Machine) (mirrors : Mirrors r w) (facts : Facts r w) (
     may = m.may;
     mirrors = m.mirrors;
     facts = still-facts r w (run m.atoms w) mirrors facts inv m.ended (λ T b. grow m.atoms m.may (messages.Open c 0 T) b) _ refl refl facts.tables;
+    ends = λ T e. inl (subst (λ f. f T ≡ true) m.ended e);
   }
 
   module _ (T : Tid) (idle : t.outstanding ≡ None) (its : t.transaction ≡ Some T) where
@@ -304,12 +313,28 @@ module _ (r : World) (w : Machine) (mirrors : Mirrors r w) (facts : Facts r w) (
         by (inl p) = subst (λ (z : Tid). w.begun z ≡ true) p.0 current.0
         by (inr p) = facts.begun U p.1
 
+    own-table : IsOther c c → at_client r.clients c u c ≡ u
+    own-table (inl p) = ap (λ (b : Bool). if b then u else r.clients c) p.0
+    own-table (inr p) = absurd (p.1 refl)
+
+    its-end : EndsNow (commanded c (Sends u (Server T.server) message) r) v T
+    its-end = record {
+      client = c;
+      current = ap (λ (z : ClientTable). z.transaction) (own-table (client_tells c c)) ∙ its;
+      parts = λ W h. end-says.2.each W (subst (λ (z : ClientTable). is_work W (names_of z.works) ≡ true) (own-table (client_tells c c)) h);
+    }
+
+    ends-now : (U : Tid) → ((T ≡ U) × (true ≡ true)) ⊎ ((T ≢ U) × (w.ended U ≡ true)) → (w.ended U ≡ true) ⊎ EndsNow (commanded c (Sends u (Server T.server) message) r) v U
+    ends-now U (inl p) = inr (subst (λ (z : Tid). EndsNow (commanded c (Sends u (Server T.server) message) r) v z) p.0 its-end)
+    ends-now U (inr p) = inl p.1
+
     ended-next : Next (commanded c (Sends u (Server T.server) message) r) w
     ended-next = record {
       atoms = atoms;
       may = may;
       mirrors = ended-mirrors;
       facts = client-keeps r _ w v facts c u refl refl (quiet-more r.sent (Server T.server, message) refl) own others drawn begun-still;
+      ends = λ U e. ends-now U (at_tid_cases w.ended T true U true e);
     }
 
   pub end-next : Next (tell c End r) w

@@ -1,5 +1,5 @@
 -- Each run of the whole system is a run of the machine, and so its commits are in order.
-use Rattle.std.proofs.Common.{◌≡◌, ℕ, true, false, List, [], ◌∷◌, ◌++◌, Option, Some, None, refl, sym, ◌∙◌, ap, subst, arith}
+use Rattle.std.proofs.Common.{◌≡◌, inl, ℕ, true, false, List, [], ◌∷◌, ◌++◌, Option, Some, None, refl, sym, ◌∙◌, ap, subst, arith}
 use Rattle.std.specs.Prelude.{slice_get}
 use Rattle.std.specs.List.{list_any}
 use Rattle.jn_base.specs.declared.names.ServerNo.{ServerNo}
@@ -78,6 +78,7 @@ module _ (files : AllFiles) (epochs : ServerNo → ℕ) (before : List Atom) (ma
       may = m.may;
       mirrors = m.mirrors;
       facts = step-facts r w (run_atoms m.atoms w) mirrors facts inv m.ended (λ T b. grow m.atoms m.may (messages.Open (record { 0 = 0 }) 0 T) b) locks step;
+      ends = λ T e. inl (subst (λ f. f T ≡ true) m.ended e);
     }
 
     -- every step
