@@ -1,2 +1,4 @@
 pub mod Tellings
 pub mod Atoms
+pub mod Acting
+pub mod Rows
