@@ -2,3 +2,5 @@ pub mod Tellings
 pub mod Atoms
 pub mod Acting
 pub mod Rows
+pub mod Facts
+pub mod Quiet

@@ -1,0 +1,365 @@
+-- A step that performs no operation, tells no client anything and sends neither an operation nor an answer keeps the talk.
+use Rattle.std.proofs.Common.{◌≡◌, ◌⊎◌, inl, inr, ◌<◌, ◌≤◌, ◌+◌, Bool, true, false, List, [], ◌∷◌, ◌++◌, append-nil, Option, Some, None, refl, sym, ◌∙◌, ap, subst, arith}
+use Rattle.std.proofs.Math.Path.{fun_ext}
+use Rattle.std.specs.Prelude.{◌||◌, All, get_or}
+use Rattle.std.specs.List.{list_any}
+use Rattle.std.proofs.lemmas.List.Elements.{All-nil, All-cons, All-append}
+use Rattle.jn_base.specs.declared.names.ServerNo.{ServerNo}
+use Rattle.jn_base.specs.declared.names.ClientNo.{ClientNo}
+use Rattle.jn_base.specs.declared.names.Tid.{Tid}
+use Rattle.jn_base.specs.declared.names.WorkId.{WorkId}
+use Rattle.jn_base.specs.declared.op.Op.{Op}
+use Rattle.jn_base.specs.declared.op.Answer.{Answer}
+use Rattle.jn_base.specs.Names.{tid_eq}
+use Rattle.jn_schedule.specs.declared.Event.{Event}
+use Rattle.jn_records.specs.NetLists.{list_change}
+use Rattle.jn_msgs.specs.declared.message.Message.{Message}
+use Rattle.jn_msgs.specs.declared.message.Message.TheVariants as messages
+use Rattle.jn_report.specs.declared.line.Refusal.TheVariants as refusals
+use Rattle.jn_report.specs.declared.line.Text.{Text}
+use Rattle.jn_report.specs.declared.line.Text.TheVariants as says
+use Rattle.jn_rows.specs.declared.worker.ActiveWork.{ActiveWork}
+use Rattle.jn_rows.specs.declared.client.OpenWork.{OpenWork}
+use Rattle.jn_rows.specs.declared.client.Outstanding.{Outstanding}
+use Rattle.jn_rows.specs.Stable.{Prepared, Pick}
+use Rattle.jn_rows.specs.Outcomes.{Sent}
+use Rattle.jn_rows.specs.Client.{ClientTable, work_at as open_at}
+use Rattle.jn_serial.specs.Order.{answered_by, owner_after}
+use Rattle.jn_machine.specs.Traces.{Answered, effects}
+use Rattle.jn_machine.specs.World.{World as Machine, Working}
+use Rattle.jn_machine.specs.Steps.{Atom, run as run_atoms}
+use Rattle.jn_machine.specs.Premises.{MayRun}
+use Rattle.jn_machine.specs.Invariant.{Invariant}
+use Rattle.jn_machine.proofs.MessageLemmas.{Grows, run_grows}
+use Rattle.jn_machine.proofs.Runs.{run_kept}
+use Rattle.jn_machine.proofs.Updates.{not_both, false_unless, none_some, some_of}
+use Rattle.jn_protocol.specs.World.{World, commits_in, has_line}
+use Rattle.jn_moves.specs.Mirrors.{Mirrors, IsCurrent, IsOutstanding}
+use Rattle.jn_moves.proofs.ClientRows.{found-open}
+use Rattle.jn_machine.specs.Messages.{Says}
+use Rattle.jn_machine.specs.Transactions.{IsPart}
+use Rattle.jn_runs.proofs.Openings.{openings, openings-more, Has, has-first}
+use Rattle.jn_runs.proofs.Facts.{opening}
+use Rattle.jn_talk.specs.Told.{ops_in, owner_in, begins_it, is_begun, at_place}
+use Rattle.jn_talk.proofs.Tellings.{SaysAs, trace-more, ops-more, owner-more, begun-more}
+use Rattle.jn_talk.proofs.Atoms.{Extends, extends, IsStill, still, IsPresent, present-back}
+use Rattle.jn_talk.proofs.Acting.{acting, working, acting-of-active, active-of-acting, DidTheSame, IsSilent, AreSilent}
+use Rattle.jn_talk.proofs.Facts.{said, op_asked, IsNumbered, Hears, IsRunningAt, IsTalking, IsPast, IsEndedAt, IsKept, IsDrawn, is_op_of, op_sent, IsOpenAt, IsKnown, IsStarted, Talk}
+
+-- ---- lines that answer nothing and begin nothing
+
+abbrev pub IsDumb : Text → Type 0
+IsDumb (says.Did c j) = ⊥
+IsDumb (says.Read c j bytes) = ⊥
+IsDumb (says.Refused c j refusals.NoFile) = ⊥
+IsDumb (says.Refused c j refusals.Exists) = ⊥
+IsDumb (says.Begun c j T) = ⊥
+IsDumb text = Unit {0}
+
+abbrev pub AreDumb : List Text → Type 0
+AreDumb [] = Unit {0}
+AreDumb (text ∷ texts) = IsDumb text × AreDumb texts
+
+pub record SameTold (before now : List Text) : Type 0 where
+  pub said : (events : List Event) (T : Tid) (s : ServerNo) → said events T s now ≡ said events T s before
+  pub owner : (T : Tid) → owner_in T None now ≡ owner_in T None before
+  pub begun : (T : Tid) → is_begun T now ≡ is_begun T before
+
+dumb-answers : (events : List Event) (c : ClientNo) (text : Text) → IsDumb text → answered_by events (Some c) text ≡ []
+dumb-answers events c (says.Did d j) h = absurd h
+dumb-answers events c (says.Read d j bytes) h = absurd h
+dumb-answers events c (says.Refused d j refusals.NoFile) h = absurd h
+dumb-answers events c (says.Refused d j refusals.Exists) h = absurd h
+dumb-answers events c _ h = refl
+
+dumb-owner : (T : Tid) (o : Option ClientNo) (text : Text) → IsDumb text → owner_after T o text ≡ o
+dumb-owner T o (says.Begun d j U) h = absurd h
+dumb-owner T o _ h = refl
+
+dumb-begun : (T : Tid) (text : Text) → IsDumb text → begins_it T text ≡ false
+dumb-begun T (says.Begun d j U) h = absurd h
+dumb-begun T _ h = refl
+
+dumb-ops : (events : List Event) (T : Tid) (o : Option ClientNo) (texts : List Text) → AreDumb texts → ops_in events T o texts ≡ []
+dumb-ops events T o [] h = refl
+dumb-ops events T o (x ∷ texts) h = ap (λ z. z ++ ops_in events T (owner_after T o x) texts) (by o) ∙ dumb-ops events T (owner_after T o x) texts h.1
+  where
+    by : (o : Option ClientNo) → answered_by events o x ≡ []
+    by None = refl
+    by (Some c) = dumb-answers events c x h.0
+
+dumb-owners : (T : Tid) (o : Option ClientNo) (texts : List Text) → AreDumb texts → owner_in T o texts ≡ o
+dumb-owners T o [] h = refl
+dumb-owners T o (x ∷ texts) h = ap (λ z. owner_in T z texts) (dumb-owner T o x h.0) ∙ dumb-owners T o texts h.1
+
+dumb-begins : (T : Tid) (texts : List Text) → AreDumb texts → is_begun T texts ≡ false
+dumb-begins T [] h = refl
+dumb-begins T (x ∷ texts) h = ap (λ (b : Bool). b || is_begun T texts) (dumb-begun T x h.0) ∙ dumb-begins T texts h.1
+
+or-false : (b : Bool) → (b || false) ≡ b
+or-false b = grind arith
+
+pub same-told : (before more : List Text) → AreDumb more → SameTold before (before ++ more)
+same-told before more h = record {
+  said = λ events T s. ap (λ z. at_place s z) (ops-more events T None before more ∙ ap (λ z. ops_in events T None before ++ z) (dumb-ops events T (owner_in T None before) more h) ∙ append-nil (ops_in events T None before));
+  owner = λ T. owner-more T None before more ∙ dumb-owners T (owner_in T None before) more h;
+  begun = λ T. begun-more T before more ∙ ap (λ z. is_begun T before || z) (dumb-begins T more h) ∙ or-false (is_begun T before);
+}
+
+pub told-same : (texts : List Text) → SameTold texts texts
+told-same texts = record { said = λ events T s. refl; owner = λ T. refl; begun = λ T. refl }
+
+-- ---- what was sent
+
+pub every : (P : Sent → Type 0) (sent : List Sent) → AreSilent sent → ((x : Sent) → IsSilent x → P x) → All P sent
+every P [] h f = All-nil P
+every P (x ∷ sent) h f = All-cons P x sent (f x h.0) (every P sent h.1 f)
+
+pub map-all : (P Q : Sent → Type 0) (sent : List Sent) → ((x : Sent) → P x → Q x) → All P sent → All Q sent
+map-all P Q sent f h = λ i d l. f (get_or sent i d) (h i d l)
+
+pub op_sent-more : (W : WorkId) (a b : List Sent) → op_sent W (a ++ b) ≡ (op_sent W a || op_sent W b)
+op_sent-more W [] b = refl
+op_sent-more W (x ∷ a) b = ap (λ z. is_op_of W x || z) (op_sent-more W a b) ∙ assoc (is_op_of W x) (op_sent W a) (op_sent W b)
+  where
+    assoc : (a b c : Bool) → (a || (b || c)) ≡ ((a || b) || c)
+    assoc a b c = grind arith
+
+silent-no-op : (W : WorkId) (x : Sent) → IsSilent x → is_op_of W x ≡ false
+silent-no-op W (to, messages.Op d request V number op) h = absurd h
+silent-no-op W (to, _) h = refl
+
+silent-none : (W : WorkId) (more : List Sent) → AreSilent more → op_sent W more ≡ false
+silent-none W [] h = refl
+silent-none W (x ∷ more) h = ap (λ (b : Bool). b || op_sent W more) (silent-no-op W x h.0) ∙ silent-none W more h.1
+
+pub same-sent : (W : WorkId) (sent more : List Sent) → AreSilent more → op_sent W (sent ++ more) ≡ op_sent W sent
+same-sent W sent more h = op_sent-more W sent more ∙ ap (λ z. op_sent W sent || z) (silent-none W more h) ∙ or-false (op_sent W sent)
+
+silent-numbered : (v : OpenWork) (o : Option Outstanding) (x : Sent) → IsSilent x → IsNumbered v o x
+silent-numbered v o (to, messages.Op d request W number op) h = absurd h
+silent-numbered v o (to, _) h = tt
+
+silent-past : (W : WorkId) (a : ActiveWork) (x : Sent) → IsSilent x → IsPast W a x
+silent-past W a (to, messages.Op d request V number op) h = absurd h
+silent-past W a (to, _) h = tt
+
+silent-drawn : (r : World) (x : Sent) → IsSilent x → IsDrawn r x
+silent-drawn r (to, messages.Op d request W number op) h = absurd h
+silent-drawn r (to, messages.Answer d request answer) h = absurd h
+silent-drawn r (to, _) h = tt
+
+pub numbered-more : (v : OpenWork) (o : Option Outstanding) (sent more : List Sent) → AreSilent more → All (IsNumbered v o) sent → All (IsNumbered v o) (sent ++ more)
+numbered-more v o sent more h all = All-append (IsNumbered v o) sent more all (every (IsNumbered v o) more h (silent-numbered v o))
+
+pub past-more : (W : WorkId) (a : ActiveWork) (sent more : List Sent) → AreSilent more → All (IsPast W a) sent → All (IsPast W a) (sent ++ more)
+past-more W a sent more h all = All-append (IsPast W a) sent more all (every (IsPast W a) more h (silent-past W a))
+
+pub drawn-more : (r : World) (sent more : List Sent) → AreSilent more → All (IsDrawn r) sent → All (IsDrawn r) (sent ++ more)
+drawn-more r sent more h all = All-append (IsDrawn r) sent more all (every (IsDrawn r) more h (silent-drawn r))
+
+-- ---- both worlds, before and after a step
+
+pub record Moved (r r' : World) (w v : Machine) : Type 0 where
+  pub before : Mirrors r w
+  pub after : Mirrors r' v
+  pub inv : Invariant w
+  pub inv' : Invariant v
+  pub grows : Grows w v
+  pub still : (W : WorkId) → IsStill w W → (v.active W ≡ None) × (v.trace W ≡ w.trace W)
+  pub extends : (W : WorkId) → Extends w v W
+  pub present : (W : WorkId) → w.opened W ≡ true → IsPresent v W → IsPresent w W
+  pub named : (T : Tid) → w.named T ≡ has_line T r.lines
+  pub named' : (T : Tid) → v.named T ≡ has_line T r'.lines
+
+pub moved : (r r' : World) (w : Machine) (atoms : List Atom) → MayRun atoms w → Mirrors r w → Mirrors r' (run_atoms atoms w) → Invariant w
+    → ((T : Tid) → w.named T ≡ has_line T r.lines) → ((T : Tid) → (run_atoms atoms w).named T ≡ has_line T r'.lines) → Moved r r' w (run_atoms atoms w)
+moved r r' w atoms may before now inv named named' = record {
+  before = before;
+  after = now;
+  inv = inv;
+  inv' = run_kept atoms w may inv;
+  grows = run_grows atoms w may inv;
+  still = λ W h. let k = still atoms w W may inv h in (k.0.none, k.1);
+  extends = λ W. extends atoms w W;
+  present = λ W opened h. present-back atoms w W may inv opened h;
+  named = named;
+  named' = named';
+}
+
+-- ---- the step
+
+-- no client changes, and works that take operations before and after have done the same
+pub record IsQuiet (r r' : World) : Type 0 where
+  pub clients : r'.clients ≡ r.clients
+  pub more : List Sent
+  pub sent : r'.sent ≡ r.sent ++ more
+  pub silent : AreSilent more
+  pub told : SameTold r.lines r'.lines
+  pub same : (W : WorkId) (a b : ActiveWork) → acting r W ≡ Some a → acting r' W ≡ Some b → DidTheSame a b
+  pub new : (W : WorkId) (b : ActiveWork) → acting r W ≡ None → acting r' W ≡ Some b → (b.last ≡ 0) × (b.list ≡ [])
+  -- a work that is prepared is so with what it did
+  pub found : (W : WorkId) (c : Pick) (p : Prepared) (a : ActiveWork) → acting r W ≡ Some a → (r'.found W.server c).works W ≡ Some p → a.list ≡ p.list
+  -- no commit is named, or no work changes
+  pub quiet : (commits_in r'.lines ≡ commits_in r.lines) ⊎ ((W : WorkId) → acting r' W ≡ acting r W)
+
+module _ (r r' : World) (w v : Machine) (m : Moved r r' w v) where
+  -- what a work that takes operations did is what its list does
+  its-effects : (W : WorkId) (a : ActiveWork) → acting r W ≡ Some a → effects (w.trace W) ≡ list_change a.list
+  its-effects W a h = fun_ext (λ u. sym ((m.inv.core.active W (working a) (m.before.active W ∙ active-of-acting (r.memory W.server) W a h)).list u))
+
+  now-effects : (W : WorkId) (a : ActiveWork) → acting r' W ≡ Some a → effects (v.trace W) ≡ list_change a.list
+  now-effects W a h = fun_ext (λ u. sym ((m.inv'.core.active W (working a) (m.after.active W ∙ active-of-acting (r'.memory W.server) W a h)).list u))
+
+  pub says-on : (W : WorkId) (told : List Answered) → effects (v.trace W) ≡ effects (w.trace W) → SaysAs told (w.trace W) → SaysAs told (v.trace W)
+  says-on W told same h = let x = m.extends W in subst (λ z. SaysAs told z) (sym x.is) (trace-more told (w.trace W) x.more (ap effects (sym x.is) ∙ same) h)
+
+  -- a work that was opened and takes operations took them before
+  pub acting-back : (W : WorkId) (b : ActiveWork) → w.opened W ≡ true → acting r' W ≡ Some b → (a : ActiveWork) × (acting r W ≡ Some a)
+  acting-back W b opened h = by (w.active W) refl
+    where
+      by : (o : Option Working) → w.active W ≡ o → (a : ActiveWork) × (acting r W ≡ Some a)
+      by None e = absurd (none_some (working b) (sym (m.still W (record { opened = opened; none = e })).0 ∙ m.after.active W ∙ active-of-acting (r'.memory W.server) W b h))
+      by (Some A) e = let k = acting-of-active (r.memory W.server) W A (sym (m.before.active W) ∙ e) in (k.0, k.1.0)
+
+  pub acting-says : (W : WorkId) (a b : ActiveWork) (told : List Answered) → acting r W ≡ Some a → acting r' W ≡ Some b → b.list ≡ a.list → SaysAs told (w.trace W) → SaysAs told (v.trace W)
+  acting-says W a b told e f same h = says-on W told (now-effects W b f ∙ ap list_change same ∙ sym (its-effects W a e)) h
+
+  pub hears-on : (W : WorkId) (op : Option Op) (x : OpenWork) (a b : ActiveWork) (told : List Answered) → acting r W ≡ Some a → acting r' W ≡ Some b → DidTheSame a b → Hears op x a told (w.trace W) → Hears op x b told (v.trace W)
+  hears-on W None x a b told e f same h = (same.last ∙ h.0, acting-says W a b told e f same.list h.1)
+  hears-on W (Some op) x a b told e f same (inl h) = inl (ap (λ n. n + 1) same.last ∙ h.0, acting-says W a b told e f same.list h.1)
+  hears-on W (Some op) x a b told e f same (inr h) = inr (same.last ∙ h.0, (h.1.0, (same.kept ∙ h.1.1.0, acting-says W a b _ e f same.list h.1.1.1)))
+
+  module _ (events : List Event) (q : IsQuiet r r') where
+    -- a work of an end, present now and before
+    module _ (T : Tid) (W : WorkId) (told : List Answered) (part : IsPart w T W.server W) (its : w.part T W.server ≡ Some W) (not-aborted : v.aborted T ≡ false) (was : SaysAs told (w.trace W)) where
+      its-owner : v.owner W ≡ T
+      its-owner = m.grows.owner W part.opened ∙ part.owner
+
+      module _ (a : ActiveWork) (e : acting r W ≡ Some a) where
+        was-active : w.active W ≡ Some (working a)
+        was-active = m.before.active W ∙ active-of-acting (r.memory W.server) W a e
+
+        stored-says : (pick : Pick) (p : Prepared) → (v.found W.server pick).works W ≡ Some p → SaysAs told (v.trace W)
+        stored-says pick p is = says-on W told (now ∙ sym (ap list_change (q.found W pick p a e (ap (λ x. x.works W) (sym (m.after.found W.server pick)) ∙ is))) ∙ sym (its-effects W a e)) was
+          where
+            now : effects (v.trace W) ≡ list_change p.list
+            now = fun_ext (λ u. sym (((m.inv'.core.states W.server pick).prepared W p is).list u))
+
+        -- its transaction wasn't named, since it wasn't ready
+        unnamed : w.named T ≡ false
+        unnamed = false_unless (w.named T) (λ n. not_both (w.was_ready W) ((m.inv.core.named T n).ready W.server W its) (m.inv.core.active W (working a) was-active).not_ready)
+
+        -- it is ready now, so it may be found
+        ready-says : v.was_ready W ≡ true → SaysAs told (v.trace W)
+        ready-says f = by q.quiet
+          where
+            by : (commits_in r'.lines ≡ commits_in r.lines) ⊎ ((U : WorkId) → acting r' U ≡ acting r U) → SaysAs told (v.trace W)
+            by (inl same) =
+                let free : v.named T ≡ false = m.named' T ∙ ap (λ l. list_any (λ (U : Tid). tid_eq U T) l) same ∙ sym (m.named T) ∙ unnamed in
+                let there = (m.inv'.core.states W.server (λ n. false)).ready W refl f (subst (λ (U : Tid). v.aborted U ≡ false) (sym its-owner) not-aborted) (subst (λ (U : Tid). v.named U ≡ false) (sym its-owner) free) in
+                let x = some_of ((v.found W.server (λ n. false)).works W) there in stored-says (λ n. false) x.0 x.1
+            by (inr same) = absurd (not_both (v.was_ready W) f (m.inv'.core.active W (working a) (m.after.active W ∙ active-of-acting (r'.memory W.server) W a (same W ∙ e))).not_ready)
+
+        active-says : (B : Working) → v.active W ≡ Some B → SaysAs told (v.trace W)
+        active-says B f = let b = acting-of-active (r'.memory W.server) W B (sym (m.after.active W) ∙ f) in acting-says W a b.0 told e b.1.0 (q.same W a b.0 e b.1.0).list was
+
+        present-says : IsPresent v W → SaysAs told (v.trace W)
+        present-says (inl f) = active-says f.0 f.1
+        present-says (inr (inl f)) = stored-says f.pick f.work f.is
+        present-says (inr (inr f)) = ready-says f
+
+      ended-says : IsPresent v W → SaysAs told (v.trace W)
+      ended-says p = by (w.active W) refl
+        where
+          by : (o : Option Working) → w.active W ≡ o → SaysAs told (v.trace W)
+          by None e = subst (λ z. SaysAs told z) (sym (m.still W (record { opened = part.opened; none = e })).1) was
+          by (Some A) e = let k = acting-of-active (r.memory W.server) W A (sym (m.before.active W) ∙ e) in present-says k.0 k.1.0 p
+
+    module _ (ended : v.ended ≡ w.ended) (talk : Talk events r w) where
+      all-sent : (P : Sent → Type 0) → All P (r.sent ++ q.more) → All P r'.sent
+      all-sent P h = subst (λ l. All P l) (sym q.sent) h
+
+      module _ (c : ClientNo) where
+        abbrev t : ClientTable
+        t = r.clients c
+
+        h : IsTalking events r w c t
+        h = talk.clients c
+
+        its-opened : (T : Tid) (s : ServerNo) (x : OpenWork) → t.transaction ≡ Some T → open_at s t.works ≡ Some x → w.opened x.work ≡ true
+        its-opened T s x e k = (found-open w T s t.works x (subst (λ o. IsCurrent w o t.works) e (m.before.clients c).current).1 k).0.0
+
+        running-on : (T : Tid) (s : ServerNo) (o : Option OpenWork) → ((x : OpenWork) → o ≡ Some x → w.opened x.work ≡ true) → IsRunningAt events r w T t.outstanding s o → IsRunningAt events r' v T t.outstanding s o
+        running-on T s None opened k = q.told.said events T s ∙ k
+        running-on T s (Some x) opened k = (
+          all-sent (IsNumbered x t.outstanding) (numbered-more x t.outstanding r.sent q.more q.silent k.0),
+          λ b f. let a = acting-back x.work b (opened x refl) f in
+              subst (λ z. Hears (op_asked t.outstanding x.work) x b z (v.trace x.work)) (sym (q.told.said events T s))
+              (hears-on x.work (op_asked t.outstanding x.work) x a.0 b (said events T s r.lines) a.1 f (q.same x.work a.0 b a.1 f) (k.1 a.0 a.1)),
+        )
+
+        talking-on : IsTalking events r' v c t
+        talking-on = record {
+          asking = h.asking;
+          owner = λ T e. q.told.owner T ∙ h.owner T e;
+          running = λ T e k s. running-on T s (open_at s t.works) (λ x l. its-opened T s x e l) (h.running T e k s);
+        }
+
+      past-on : (W : WorkId) (a b : ActiveWork) → b.last ≡ a.last → (x : Sent) → IsPast W a x → IsPast W b x
+      past-on W a b e (to, messages.Op d request V number op) h = λ k. subst (λ n. number ≤ n) (sym e) (h k)
+      past-on W a b e (to, _) h = tt
+
+      ended-on : (T : Tid) (s : ServerNo) (o : Option WorkId) → w.part T s ≡ o → v.aborted T ≡ false → IsEndedAt events r w T s o → IsEndedAt events r' v T s o
+      ended-on T s None e free k = q.told.said events T s ∙ k
+      ended-on T s (Some W) e free k = let part = m.inv.core.parts T s W e in (
+        λ p. subst (λ z. SaysAs z (v.trace W)) (sym (q.told.said events T s)) (ended-says T W (said events T s r.lines) (subst (λ (z : ServerNo). IsPart w T z W) (sym part.place) part) (ap (w.part T) part.place ∙ e) free (k.0 (m.present W part.opened p)) p),
+        λ b f. let a = acting-back W b part.opened f in all-sent (IsPast W b) (past-more W b r.sent q.more q.silent (map-all (IsPast W a.0) (IsPast W b) r.sent (past-on W a.0 b (q.same W a.0 b a.1 f).last) (k.1 a.0 a.1))),
+      )
+
+      kept-on : (d : ClientNo) (o : Outstanding) (answer : Answer) → (r.clients d).outstanding ≡ Some o → (message : Message) → o.message ≡ message → IsKept r answer message → IsKept r' answer message
+      kept-on d o answer e (messages.Op c request W number op) is k = λ b f. let a = acting-back W b (subst (λ (z : Message). Says w z) is (subst (λ x. IsOutstanding w x) e (m.before.clients d).waits).0) f in
+          let g = q.same W a.0 b a.1 f in let h = k a.0 a.1 in (g.last ∙ h.0, g.kept ∙ h.1)
+      kept-on d o answer e _ is k = tt
+
+      drawn-on : (x : Sent) → IsDrawn r x → IsDrawn r' x
+      drawn-on (to, messages.Op d request W number op) h = subst (λ f. (request < (f d).next) × ((o : Outstanding) → (f d).outstanding ≡ Some o → o.request ≡ request → o.message ≡ messages.Op d request W number op)) (sym q.clients) h
+      drawn-on (to, messages.Answer d request answer) h = subst (λ f. (request < (f d).next) × ((o : Outstanding) → (f d).outstanding ≡ Some o → o.request ≡ request → IsKept r' answer o.message)) (sym q.clients)
+          (h.0, λ o e k. kept-on d o answer e o.message refl (h.1 o e k))
+      drawn-on (to, _) h = tt
+
+      -- it has the same owner
+      known-on : (W : WorkId) → IsKnown r w W → IsKnown r' v W
+      known-on W k = let same = m.grows.owner W k.opened in record {
+        opened = m.grows.opened W k.opened;
+        begun = subst (λ (U : Tid). is_begun U r'.lines ≡ true) (sym same) (q.told.begun (w.owner W) ∙ k.begun);
+        its = λ c e. subst (λ f. IsOpenAt W (open_at W.server (f c).works)) (sym q.clients) (k.its c (subst (λ f. (f c).transaction ≡ Some (w.owner W)) q.clients (e ∙ ap Some same)));
+      }
+
+      unasked-on : (W : WorkId) → op_sent W r.sent ≡ false → (b : ActiveWork) → acting r' W ≡ Some b → (b.last ≡ 0) × SaysAs [] (v.trace W)
+      unasked-on W e b f = by (acting r W) refl
+        where
+          by : (o : Option ActiveWork) → acting r W ≡ o → (b.last ≡ 0) × SaysAs [] (v.trace W)
+          by (Some a) k = let same = q.same W a b k f in let was = talk.unasked W e a k in (same.last ∙ was.0, acting-says W a b [] k f same.list was.1)
+          by None k = let fresh = q.new W b k f in (fresh.0, record { effects = sym (now-effects W b f ∙ ap list_change fresh.1); agrees = λ files l. tt })
+
+      started-on : (T : Tid) → IsStarted r T → IsStarted r' T
+      started-on T k = record {
+        client = k.client;
+        request = k.request;
+        has = subst (λ l. Has (opening k.client k.request T) (openings l)) (sym q.sent) (subst (λ l. Has (opening k.client k.request T) l) (sym (openings-more r.sent q.more)) (has-first (opening k.client k.request T) (openings r.sent) (openings q.more) k.has));
+        drawn = subst (λ f. k.request < (f k.client).next) (sym q.clients) k.drawn;
+        before = λ o e. k.before o (subst (λ f. (f k.client).outstanding ≡ Some o) q.clients e);
+      }
+
+      pub quiet-talks : Talk events r' v
+      quiet-talks = record {
+        clients = λ c. subst (λ f. IsTalking events r' v c (f c)) (sym q.clients) (talking-on c);
+        ended = λ T e free s. let e' = subst (λ f. f T ≡ true) ended e in
+            subst (λ o. IsEndedAt events r' v T s o) (sym (m.grows.part T e' s)) (ended-on T s (w.part T s) refl free (talk.ended T e' (false_unless (w.aborted T) (λ k. not_both (v.aborted T) (m.grows.aborted T k) free)) s));
+        owners = λ T c e. subst (λ f. ((f c).transaction ≡ None) ⊎ ((f c).transaction ≡ Some T)) (sym q.clients) (talk.owners T c (sym (q.told.owner T) ∙ e));
+        drawn = all-sent (IsDrawn r') (drawn-more r' r.sent q.more q.silent (map-all (IsDrawn r) (IsDrawn r') r.sent drawn-on talk.drawn));
+        known = λ W e. known-on W (talk.known W (sym (same-sent W r.sent q.more q.silent) ∙ ap (op_sent W) (sym q.sent) ∙ e));
+        unasked = λ W e b f. unasked-on W (sym (same-sent W r.sent q.more q.silent) ∙ ap (op_sent W) (sym q.sent) ∙ e) b f;
+        started = λ T e. started-on T (talk.started T (sym (q.told.begun T) ∙ e));
+      }
