@@ -84,7 +84,7 @@ pub record DidTheSame (a b : ActiveWork) : Type 0 where
   pub last : b.last ≡ a.last
   pub kept : b.kept ≡ a.kept
 
-same-did : (o : Option ActiveWork) (a b : ActiveWork) → o ≡ Some a → o ≡ Some b → DidTheSame a b
+pub same-did : (o : Option ActiveWork) (a b : ActiveWork) → o ≡ Some a → o ≡ Some b → DidTheSame a b
 same-did o a b e f = let k = some_is a b (sym e ∙ f) in record { list = ap (λ (z : ActiveWork). z.list) (sym k); last = ap (λ (z : ActiveWork). z.last) (sym k); kept = ap (λ (z : ActiveWork). z.kept) (sym k) }
 
 -- a work that takes operations before and after has done the same
@@ -99,7 +99,7 @@ abbrev pub TableGoes : WorkerTable → WorkerTable → Type 0
 TableGoes t now = TableStays t now × TableNew t now
 
 -- a work that takes none takes none
-none-new : (o : Option ActiveWork) (b : ActiveWork) → o ≡ None → o ≡ Some b → (b.last ≡ 0) × (b.list ≡ [])
+pub none-new : (o : Option ActiveWork) (b : ActiveWork) → o ≡ None → o ≡ Some b → (b.last ≡ 0) × (b.list ≡ [])
 none-new o b e f = absurd (none_some b (sym e ∙ f))
 
 pub table-same : (t : WorkerTable) → TableGoes t t

@@ -4,3 +4,4 @@ pub mod Acting
 pub mod Rows
 pub mod Facts
 pub mod Quiet
+pub mod ServerSteps

@@ -1,13 +1,16 @@
 -- A step that performs no operation, tells no client anything and sends neither an operation nor an answer keeps the talk.
-use Rattle.std.proofs.Common.{◌≡◌, ◌⊎◌, inl, inr, ◌<◌, ◌≤◌, ◌+◌, Bool, true, false, List, [], ◌∷◌, ◌++◌, append-nil, Option, Some, None, refl, sym, ◌∙◌, ap, subst, arith}
+use Rattle.std.proofs.Common.{◌≡◌, ◌⊎◌, inl, inr, ℕ, ◌+◌, ◌≤◌, ◌<◌, Bool, true, false, List, [], ◌∷◌, ◌++◌, append-nil, Option, Some, None, refl, sym, ◌∙◌, ap, subst, arith}
 use Rattle.std.proofs.Math.Path.{fun_ext}
-use Rattle.std.specs.Prelude.{◌||◌, All, get_or}
+use Rattle.std.specs.Prelude.{◌||◌, if◌then◌else◌, All, get_or, slice_get}
 use Rattle.std.specs.List.{list_any}
 use Rattle.std.proofs.lemmas.List.Elements.{All-nil, All-cons, All-append}
 use Rattle.jn_base.specs.declared.names.ServerNo.{ServerNo}
 use Rattle.jn_base.specs.declared.names.ClientNo.{ClientNo}
 use Rattle.jn_base.specs.declared.names.Tid.{Tid}
 use Rattle.jn_base.specs.declared.names.WorkId.{WorkId}
+use Rattle.jn_base.specs.declared.names.Party.{Party}
+use Rattle.jn_base.specs.declared.op.Command.{Command}
+use Rattle.jn_base.specs.declared.op.Command.TheVariants.{Begin, Open, Do, End, Abort}
 use Rattle.jn_base.specs.declared.op.Op.{Op}
 use Rattle.jn_base.specs.declared.op.Answer.{Answer}
 use Rattle.jn_base.specs.Names.{tid_eq}
@@ -23,7 +26,7 @@ use Rattle.jn_rows.specs.declared.client.OpenWork.{OpenWork}
 use Rattle.jn_rows.specs.declared.client.Outstanding.{Outstanding}
 use Rattle.jn_rows.specs.Stable.{Prepared, Pick}
 use Rattle.jn_rows.specs.Outcomes.{Sent}
-use Rattle.jn_rows.specs.Client.{ClientTable, work_at as open_at}
+use Rattle.jn_rows.specs.Client.{is_end_or_abort, ClientTable, work_at as open_at}
 use Rattle.jn_serial.specs.Order.{answered_by, owner_after}
 use Rattle.jn_machine.specs.Traces.{Answered, effects}
 use Rattle.jn_machine.specs.World.{World as Machine, Working}
@@ -33,18 +36,20 @@ use Rattle.jn_machine.specs.Invariant.{Invariant}
 use Rattle.jn_machine.proofs.MessageLemmas.{Grows, run_grows}
 use Rattle.jn_machine.proofs.Runs.{run_kept}
 use Rattle.jn_machine.proofs.Updates.{not_both, false_unless, none_some, some_of}
+use Rattle.jn_lock_rows.proofs.Works.{work_same}
+use Rattle.jn_moves.proofs.StepMoves.{holds-of}
 use Rattle.jn_protocol.specs.World.{World, commits_in, has_line}
 use Rattle.jn_moves.specs.Mirrors.{Mirrors, IsCurrent, IsOutstanding}
 use Rattle.jn_moves.proofs.ClientRows.{found-open}
 use Rattle.jn_machine.specs.Messages.{Says}
 use Rattle.jn_machine.specs.Transactions.{IsPart}
 use Rattle.jn_runs.proofs.Openings.{openings, openings-more, Has, has-first}
-use Rattle.jn_runs.proofs.Facts.{opening}
+use Rattle.jn_runs.proofs.Facts.{opening, is_closing}
 use Rattle.jn_talk.specs.Told.{ops_in, owner_in, begins_it, is_begun, at_place}
-use Rattle.jn_talk.proofs.Tellings.{SaysAs, trace-more, ops-more, owner-more, begun-more}
+use Rattle.jn_talk.proofs.Tellings.{first-false, second-false, SaysAs, trace-more, ops-more, owner-more, begun-more}
 use Rattle.jn_talk.proofs.Atoms.{Extends, extends, IsStill, still, IsPresent, present-back}
 use Rattle.jn_talk.proofs.Acting.{acting, working, acting-of-active, active-of-acting, DidTheSame, IsSilent, AreSilent}
-use Rattle.jn_talk.proofs.Facts.{said, op_asked, IsNumbered, Hears, IsRunningAt, IsTalking, IsPast, IsEndedAt, IsKept, IsDrawn, is_op_of, op_sent, IsOpenAt, IsKnown, IsStarted, Talk}
+use Rattle.jn_talk.proofs.Facts.{said, counts, op_in, op_asked, IsNumbered, Hears, IsRunningAt, IsAsking, IsTalking, IsPast, IsEndedAt, IsKept, IsDrawn, is_op_of, op_sent, IsOpenAt, IsKnown, IsStarted, Talk}
 
 -- ---- lines that answer nothing and begin nothing
 
@@ -111,6 +116,27 @@ told-same texts = record { said = λ events T s. refl; owner = λ T. refl; begun
 
 -- ---- what was sent
 
+-- no operation
+abbrev pub HasNoOp : Sent → Type 0
+HasNoOp (to, messages.Op c request W number op) = ⊥
+HasNoOp sent = Unit {0}
+
+abbrev pub HaveNoOp : List Sent → Type 0
+HaveNoOp [] = Unit {0}
+HaveNoOp (x ∷ sent) = HasNoOp x × HaveNoOp sent
+
+silent-no : (x : Sent) → IsSilent x → HasNoOp x
+silent-no (to, messages.Op d request W number op) h = absurd h
+silent-no (to, _) h = tt
+
+silent-nos : (sent : List Sent) → AreSilent sent → HaveNoOp sent
+silent-nos [] h = tt
+silent-nos (x ∷ sent) h = (silent-no x h.0, silent-nos sent h.1)
+
+pub every-op : (P : Sent → Type 0) (sent : List Sent) → HaveNoOp sent → ((x : Sent) → HasNoOp x → P x) → All P sent
+every-op P [] h f = All-nil P
+every-op P (x ∷ sent) h f = All-cons P x sent (f x h.0) (every-op P sent h.1 f)
+
 pub every : (P : Sent → Type 0) (sent : List Sent) → AreSilent sent → ((x : Sent) → IsSilent x → P x) → All P sent
 every P [] h f = All-nil P
 every P (x ∷ sent) h f = All-cons P x sent (f x h.0) (every P sent h.1 f)
@@ -125,22 +151,22 @@ op_sent-more W (x ∷ a) b = ap (λ z. is_op_of W x || z) (op_sent-more W a b) �
     assoc : (a b c : Bool) → (a || (b || c)) ≡ ((a || b) || c)
     assoc a b c = grind arith
 
-silent-no-op : (W : WorkId) (x : Sent) → IsSilent x → is_op_of W x ≡ false
+silent-no-op : (W : WorkId) (x : Sent) → HasNoOp x → is_op_of W x ≡ false
 silent-no-op W (to, messages.Op d request V number op) h = absurd h
 silent-no-op W (to, _) h = refl
 
-silent-none : (W : WorkId) (more : List Sent) → AreSilent more → op_sent W more ≡ false
+silent-none : (W : WorkId) (more : List Sent) → HaveNoOp more → op_sent W more ≡ false
 silent-none W [] h = refl
 silent-none W (x ∷ more) h = ap (λ (b : Bool). b || op_sent W more) (silent-no-op W x h.0) ∙ silent-none W more h.1
 
-pub same-sent : (W : WorkId) (sent more : List Sent) → AreSilent more → op_sent W (sent ++ more) ≡ op_sent W sent
+pub same-sent : (W : WorkId) (sent more : List Sent) → HaveNoOp more → op_sent W (sent ++ more) ≡ op_sent W sent
 same-sent W sent more h = op_sent-more W sent more ∙ ap (λ z. op_sent W sent || z) (silent-none W more h) ∙ or-false (op_sent W sent)
 
-silent-numbered : (v : OpenWork) (o : Option Outstanding) (x : Sent) → IsSilent x → IsNumbered v o x
+silent-numbered : (v : OpenWork) (o : Option Outstanding) (x : Sent) → HasNoOp x → IsNumbered v o x
 silent-numbered v o (to, messages.Op d request W number op) h = absurd h
 silent-numbered v o (to, _) h = tt
 
-silent-past : (W : WorkId) (a : ActiveWork) (x : Sent) → IsSilent x → IsPast W a x
+silent-past : (W : WorkId) (a : ActiveWork) (x : Sent) → HasNoOp x → IsPast W a x
 silent-past W a (to, messages.Op d request V number op) h = absurd h
 silent-past W a (to, _) h = tt
 
@@ -149,14 +175,23 @@ silent-drawn r (to, messages.Op d request W number op) h = absurd h
 silent-drawn r (to, messages.Answer d request answer) h = absurd h
 silent-drawn r (to, _) h = tt
 
-pub numbered-more : (v : OpenWork) (o : Option Outstanding) (sent more : List Sent) → AreSilent more → All (IsNumbered v o) sent → All (IsNumbered v o) (sent ++ more)
-numbered-more v o sent more h all = All-append (IsNumbered v o) sent more all (every (IsNumbered v o) more h (silent-numbered v o))
+pub numbered-more : (v : OpenWork) (o : Option Outstanding) (sent more : List Sent) → HaveNoOp more → All (IsNumbered v o) sent → All (IsNumbered v o) (sent ++ more)
+numbered-more v o sent more h all = All-append (IsNumbered v o) sent more all (every-op (IsNumbered v o) more h (silent-numbered v o))
 
-pub past-more : (W : WorkId) (a : ActiveWork) (sent more : List Sent) → AreSilent more → All (IsPast W a) sent → All (IsPast W a) (sent ++ more)
-past-more W a sent more h all = All-append (IsPast W a) sent more all (every (IsPast W a) more h (silent-past W a))
+pub past-more : (W : WorkId) (a : ActiveWork) (sent more : List Sent) → HaveNoOp more → All (IsPast W a) sent → All (IsPast W a) (sent ++ more)
+past-more W a sent more h all = All-append (IsPast W a) sent more all (every-op (IsPast W a) more h (silent-past W a))
 
-pub drawn-more : (r : World) (sent more : List Sent) → AreSilent more → All (IsDrawn r) sent → All (IsDrawn r) (sent ++ more)
-drawn-more r sent more h all = All-append (IsDrawn r) sent more all (every (IsDrawn r) more h (silent-drawn r))
+-- a message that was sent for a work
+none-of : (W : WorkId) (sent : List Sent) → op_sent W sent ≡ false → All (λ x. is_op_of W x ≡ false) sent
+none-of W [] h = All-nil (λ x. is_op_of W x ≡ false)
+none-of W (x ∷ sent) h = All-cons (λ x. is_op_of W x ≡ false) x sent (first-false (is_op_of W x) (op_sent W sent) h) (none-of W sent (second-false (is_op_of W x) (op_sent W sent) h))
+
+pub sent-op : (W : WorkId) (sent : List Sent) (k : ℕ) (x : Sent) → slice_get sent k ≡ Some x → is_op_of W x ≡ true → op_sent W sent ≡ true
+sent-op W sent k x e h = by (op_sent W sent) refl
+  where
+    by : (b : Bool) → op_sent W sent ≡ b → op_sent W sent ≡ true
+    by true f = f
+    by false f = absurd (not_both (is_op_of W x) h (holds-of (λ x. is_op_of W x ≡ false) sent k x (none-of W sent f) e))
 
 -- ---- both worlds, before and after a step
 
@@ -203,6 +238,48 @@ pub record IsQuiet (r r' : World) : Type 0 where
   -- no commit is named, or no work changes
   pub quiet : (commits_in r'.lines ≡ commits_in r.lines) ⊎ ((W : WorkId) → acting r' W ≡ acting r W)
 
+-- A work has performed the operation of a message that was sent, which is the next one, and keeps its answer.
+pub record Advances (r : World) (w v : Machine) (W : WorkId) (a b : ActiveWork) : Type 0 where
+  pub to : Party
+  pub client : ClientNo
+  pub request : ℕ
+  pub number : ℕ
+  pub op : Op
+  pub answer : Answer
+  pub index : ℕ
+  pub sent : slice_get r.sent index ≡ Some (to, messages.Op client request W number op)
+  pub next : number ≡ a.last + 1
+  pub last : b.last ≡ number
+  pub kept : b.kept ≡ Some answer
+  pub says : (told : List Answered) → SaysAs told (w.trace W) → SaysAs (told ++ counts op answer) (v.trace W)
+
+-- No client changes, and works that take operations before and after have done the same, or one operation more.
+pub record IsServing (r r' : World) (w v : Machine) : Type 0 where
+  pub clients : r'.clients ≡ r.clients
+  pub more : List Sent
+  pub sent : r'.sent ≡ r.sent ++ more
+  pub no_op : HaveNoOp more
+  pub replies : All (IsDrawn r') more
+  pub told : SameTold r.lines r'.lines
+  pub same : (W : WorkId) (a b : ActiveWork) → acting r W ≡ Some a → acting r' W ≡ Some b → DidTheSame a b ⊎ Advances r w v W a b
+  pub new : (W : WorkId) (b : ActiveWork) → acting r W ≡ None → acting r' W ≡ Some b → (b.last ≡ 0) × (b.list ≡ [])
+  pub found : (W : WorkId) (c : Pick) (p : Prepared) (a : ActiveWork) → acting r W ≡ Some a → (r'.found W.server c).works W ≡ Some p → a.list ≡ p.list
+  pub quiet : (commits_in r'.lines ≡ commits_in r.lines) ⊎ ((W : WorkId) → acting r' W ≡ acting r W)
+
+pub of-quiet : (r r' : World) (w v : Machine) → IsQuiet r r' → IsServing r r' w v
+of-quiet r r' w v q = record {
+  clients = q.clients;
+  more = q.more;
+  sent = q.sent;
+  no_op = silent-nos q.more q.silent;
+  replies = every (IsDrawn r') q.more q.silent (silent-drawn r');
+  told = q.told;
+  same = λ W a b e f. inl (q.same W a b e f);
+  new = q.new;
+  found = q.found;
+  quiet = q.quiet;
+}
+
 module _ (r r' : World) (w v : Machine) (m : Moved r r' w v) where
   -- what a work that takes operations did is what its list does
   its-effects : (W : WorkId) (a : ActiveWork) → acting r W ≡ Some a → effects (w.trace W) ≡ list_change a.list
@@ -230,9 +307,29 @@ module _ (r r' : World) (w v : Machine) (m : Moved r r' w v) where
   hears-on W (Some op) x a b told e f same (inl h) = inl (ap (λ n. n + 1) same.last ∙ h.0, acting-says W a b told e f same.list h.1)
   hears-on W (Some op) x a b told e f same (inr h) = inr (same.last ∙ h.0, (h.1.0, (same.kept ∙ h.1.1.0, acting-says W a b _ e f same.list h.1.1.1)))
 
-  module _ (events : List Event) (q : IsQuiet r r') where
+  -- the outstanding operation is performed, or one that isn't outstanding can't be
+  advance-hears : (W : WorkId) (o : Option Outstanding) (x : OpenWork) (a b : ActiveWork) (told : List Answered) → x.work ≡ W → Advances r w v W a b → All (IsNumbered x o) r.sent → Hears (op_asked o x.work) x a told (w.trace W) → Hears (op_asked o x.work) x b told (v.trace W)
+  advance-hears W o x a b told e adv all h = by (op_asked o x.work) refl h
+    where
+      its : (adv.number ≤ x.last) × (adv.number ≡ x.last → (p : Op) → op_asked o x.work ≡ Some p → p ≡ adv.op)
+      its = holds-of (IsNumbered x o) r.sent adv.index (adv.to, messages.Op adv.client adv.request W adv.number adv.op) all adv.sent (sym e)
+
+      too-far : a.last ≡ x.last → ⊥
+      too-far l = let n = adv.next in let le = its.0 in omega (arith, l, n, le)
+
+      by : (asked : Option Op) → op_asked o x.work ≡ asked → Hears asked x a told (w.trace W) → Hears asked x b told (v.trace W)
+      by None k g = absurd (too-far g.0)
+      by (Some p) k (inr g) = absurd (too-far g.0)
+      by (Some p) k (inl g) = let now : adv.number ≡ x.last = adv.next ∙ g.0 in
+          inr (adv.last ∙ now, (adv.answer, (adv.kept, subst (λ (z : Op). SaysAs (told ++ counts z adv.answer) (v.trace W)) (sym (its.1 now p k)) (adv.says told g.1))))
+
+  -- nor can one of a work whose transaction was ended
+  not-past : (W : WorkId) (a b : ActiveWork) → Advances r w v W a b → All (IsPast W a) r.sent → ⊥
+  not-past W a b adv all = let le = holds-of (IsPast W a) r.sent adv.index (adv.to, messages.Op adv.client adv.request W adv.number adv.op) all adv.sent refl in let n = adv.next in omega (arith, le, n)
+
+  module _ (events : List Event) (q : IsServing r r' w v) where
     -- a work of an end, present now and before
-    module _ (T : Tid) (W : WorkId) (told : List Answered) (part : IsPart w T W.server W) (its : w.part T W.server ≡ Some W) (not-aborted : v.aborted T ≡ false) (was : SaysAs told (w.trace W)) where
+    module _ (T : Tid) (W : WorkId) (told : List Answered) (part : IsPart w T W.server W) (its : w.part T W.server ≡ Some W) (not-aborted : v.aborted T ≡ false) (was : SaysAs told (w.trace W)) (past : (a : ActiveWork) → acting r W ≡ Some a → All (IsPast W a) r.sent) where
       its-owner : v.owner W ≡ T
       its-owner = m.grows.owner W part.opened ∙ part.owner
 
@@ -262,7 +359,11 @@ module _ (r r' : World) (w v : Machine) (m : Moved r r' w v) where
             by (inr same) = absurd (not_both (v.was_ready W) f (m.inv'.core.active W (working a) (m.after.active W ∙ active-of-acting (r'.memory W.server) W a (same W ∙ e))).not_ready)
 
         active-says : (B : Working) → v.active W ≡ Some B → SaysAs told (v.trace W)
-        active-says B f = let b = acting-of-active (r'.memory W.server) W B (sym (m.after.active W) ∙ f) in acting-says W a b.0 told e b.1.0 (q.same W a b.0 e b.1.0).list was
+        active-says B f = let b = acting-of-active (r'.memory W.server) W B (sym (m.after.active W) ∙ f) in by b.0 b.1.0 (q.same W a b.0 e b.1.0)
+          where
+            by : (b : ActiveWork) → acting r' W ≡ Some b → DidTheSame a b ⊎ Advances r w v W a b → SaysAs told (v.trace W)
+            by b g (inl same) = acting-says W a b told e g same.list was
+            by b g (inr adv) = absurd (not-past W a b adv (past a e))
 
         present-says : IsPresent v W → SaysAs told (v.trace W)
         present-says (inl f) = active-says f.0 f.1
@@ -293,11 +394,16 @@ module _ (r r' : World) (w v : Machine) (m : Moved r r' w v) where
         running-on : (T : Tid) (s : ServerNo) (o : Option OpenWork) → ((x : OpenWork) → o ≡ Some x → w.opened x.work ≡ true) → IsRunningAt events r w T t.outstanding s o → IsRunningAt events r' v T t.outstanding s o
         running-on T s None opened k = q.told.said events T s ∙ k
         running-on T s (Some x) opened k = (
-          all-sent (IsNumbered x t.outstanding) (numbered-more x t.outstanding r.sent q.more q.silent k.0),
+          all-sent (IsNumbered x t.outstanding) (numbered-more x t.outstanding r.sent q.more q.no_op k.0),
           λ b f. let a = acting-back x.work b (opened x refl) f in
               subst (λ z. Hears (op_asked t.outstanding x.work) x b z (v.trace x.work)) (sym (q.told.said events T s))
-              (hears-on x.work (op_asked t.outstanding x.work) x a.0 b (said events T s r.lines) a.1 f (q.same x.work a.0 b a.1 f) (k.1 a.0 a.1)),
+              (by a.0 b a.1 f (q.same x.work a.0 b a.1 f) (k.1 a.0 a.1)),
         )
+          where
+            by : (a b : ActiveWork) → acting r x.work ≡ Some a → acting r' x.work ≡ Some b → DidTheSame a b ⊎ Advances r w v x.work a b → Hears (op_asked t.outstanding x.work) x a (said events T s r.lines) (w.trace x.work)
+                → Hears (op_asked t.outstanding x.work) x b (said events T s r.lines) (v.trace x.work)
+            by a b e f (inl same) g = hears-on x.work (op_asked t.outstanding x.work) x a b (said events T s r.lines) e f same g
+            by a b e f (inr adv) g = advance-hears x.work t.outstanding x a b (said events T s r.lines) refl adv k.0 g
 
         talking-on : IsTalking events r' v c t
         talking-on = record {
@@ -313,13 +419,51 @@ module _ (r r' : World) (w v : Machine) (m : Moved r r' w v) where
       ended-on : (T : Tid) (s : ServerNo) (o : Option WorkId) → w.part T s ≡ o → v.aborted T ≡ false → IsEndedAt events r w T s o → IsEndedAt events r' v T s o
       ended-on T s None e free k = q.told.said events T s ∙ k
       ended-on T s (Some W) e free k = let part = m.inv.core.parts T s W e in (
-        λ p. subst (λ z. SaysAs z (v.trace W)) (sym (q.told.said events T s)) (ended-says T W (said events T s r.lines) (subst (λ (z : ServerNo). IsPart w T z W) (sym part.place) part) (ap (w.part T) part.place ∙ e) free (k.0 (m.present W part.opened p)) p),
-        λ b f. let a = acting-back W b part.opened f in all-sent (IsPast W b) (past-more W b r.sent q.more q.silent (map-all (IsPast W a.0) (IsPast W b) r.sent (past-on W a.0 b (q.same W a.0 b a.1 f).last) (k.1 a.0 a.1))),
+        λ p. subst (λ z. SaysAs z (v.trace W)) (sym (q.told.said events T s)) (ended-says T W (said events T s r.lines) (subst (λ (z : ServerNo). IsPart w T z W) (sym part.place) part) (ap (w.part T) part.place ∙ e) free (k.0 (m.present W part.opened p)) k.1 p),
+        λ b f. let a = acting-back W b part.opened f in all-sent (IsPast W b) (past-more W b r.sent q.more q.no_op (map-all (IsPast W a.0) (IsPast W b) r.sent (past-on W a.0 b (last a.0 b (k.1 a.0 a.1) (q.same W a.0 b a.1 f))) (k.1 a.0 a.1))),
       )
+        where
+          last : (a b : ActiveWork) → All (IsPast W a) r.sent → DidTheSame a b ⊎ Advances r w v W a b → b.last ≡ a.last
+          last a b past (inl same) = same.last
+          last a b past (inr adv) = absurd (not-past W a b adv past)
+
+      -- a work that has kept the answer to an outstanding operation performs no other
+      not-outstanding : (d : ClientNo) (o : Outstanding) → (r.clients d).outstanding ≡ Some o → (W : WorkId) (number : ℕ) (a b : ActiveWork) → ((c : ClientNo) (request : ℕ) (op : Op) → o.message ≡ messages.Op c request W number op → a.last ≡ number → Advances r w v W a b → ⊥)
+      not-outstanding d o e W number a b c request op is l adv = by o.command refl ((talk.clients d).asking o e)
+        where
+          asked : op_in W o.message ≡ Some op
+          asked = ap (op_in W) is ∙ ap (λ (z : Bool). if z then Some op else None) (work_same W)
+
+          other : op_in W o.message ≡ None → ⊥
+          other k = none_some op (sym k ∙ asked)
+
+          none-closes : (s : ServerNo) (p : Op) → o.command ≡ Do s p → is_closing (r.clients d).outstanding ≡ false
+          none-closes s p f = ap is_closing e ∙ ap is_end_or_abort f
+
+          by : (command : Command) → o.command ≡ command → IsAsking events d (r.clients d) o command → ⊥
+          by (Do s p) f k = far (number-of (sym is ∙ k.message))
+            where
+              number-of : messages.Op c request W number op ≡ messages.Op d o.request k.work.work k.work.last p → (W ≡ k.work.work) × (number ≡ k.work.last)
+              number-of g = (cc, cc)
+
+              runs : IsRunningAt events r w k.tid (r.clients d).outstanding s (Some k.work)
+              runs = subst (λ z. IsRunningAt events r w k.tid (r.clients d).outstanding s z) k.is ((talk.clients d).running k.tid k.current (none-closes s p f) s)
+
+              far : (W ≡ k.work.work) × (number ≡ k.work.last) → ⊥
+              far g = let le = (holds-of (IsNumbered k.work (r.clients d).outstanding) r.sent adv.index (adv.to, messages.Op adv.client adv.request W adv.number adv.op) runs.0 adv.sent g.0).0 in
+                  let n = adv.next in let at = g.1 in omega (arith, le, n, l, at)
+          by (Begin s) f k = other (k W)
+          by (Open s) f k = other (k W)
+          by End f k = other (k W)
+          by Abort f k = other (k W)
 
       kept-on : (d : ClientNo) (o : Outstanding) (answer : Answer) → (r.clients d).outstanding ≡ Some o → (message : Message) → o.message ≡ message → IsKept r answer message → IsKept r' answer message
       kept-on d o answer e (messages.Op c request W number op) is k = λ b f. let a = acting-back W b (subst (λ (z : Message). Says w z) is (subst (λ x. IsOutstanding w x) e (m.before.clients d).waits).0) f in
-          let g = q.same W a.0 b a.1 f in let h = k a.0 a.1 in (g.last ∙ h.0, g.kept ∙ h.1)
+          by a.0 b (q.same W a.0 b a.1 f) (k a.0 a.1)
+        where
+          by : (a b : ActiveWork) → DidTheSame a b ⊎ Advances r w v W a b → (a.last ≡ number) × (a.kept ≡ Some answer) → (b.last ≡ number) × (b.kept ≡ Some answer)
+          by a b (inl same) h = (same.last ∙ h.0, same.kept ∙ h.1)
+          by a b (inr adv) h = absurd (not-outstanding d o e W number a b c request op is h.0 adv)
       kept-on d o answer e _ is k = tt
 
       drawn-on : (x : Sent) → IsDrawn r x → IsDrawn r' x
@@ -340,7 +484,11 @@ module _ (r r' : World) (w v : Machine) (m : Moved r r' w v) where
       unasked-on W e b f = by (acting r W) refl
         where
           by : (o : Option ActiveWork) → acting r W ≡ o → (b.last ≡ 0) × SaysAs [] (v.trace W)
-          by (Some a) k = let same = q.same W a b k f in let was = talk.unasked W e a k in (same.last ∙ was.0, acting-says W a b [] k f same.list was.1)
+          by (Some a) k = on a k (q.same W a b k f) (talk.unasked W e a k)
+            where
+              on : (a : ActiveWork) → acting r W ≡ Some a → DidTheSame a b ⊎ Advances r w v W a b → (a.last ≡ 0) × SaysAs [] (w.trace W) → (b.last ≡ 0) × SaysAs [] (v.trace W)
+              on a k (inl same) was = (same.last ∙ was.0, acting-says W a b [] k f same.list was.1)
+              on a k (inr adv) was = absurd (not_both (op_sent W r.sent) (sent-op W r.sent adv.index _ adv.sent (work_same W)) e)
           by None k = let fresh = q.new W b k f in (fresh.0, record { effects = sym (now-effects W b f ∙ ap list_change fresh.1); agrees = λ files l. tt })
 
       started-on : (T : Tid) → IsStarted r T → IsStarted r' T
@@ -352,14 +500,14 @@ module _ (r r' : World) (w v : Machine) (m : Moved r r' w v) where
         before = λ o e. k.before o (subst (λ f. (f k.client).outstanding ≡ Some o) q.clients e);
       }
 
-      pub quiet-talks : Talk events r' v
-      quiet-talks = record {
+      pub serving-talks : Talk events r' v
+      serving-talks = record {
         clients = λ c. subst (λ f. IsTalking events r' v c (f c)) (sym q.clients) (talking-on c);
         ended = λ T e free s. let e' = subst (λ f. f T ≡ true) ended e in
             subst (λ o. IsEndedAt events r' v T s o) (sym (m.grows.part T e' s)) (ended-on T s (w.part T s) refl free (talk.ended T e' (false_unless (w.aborted T) (λ k. not_both (v.aborted T) (m.grows.aborted T k) free)) s));
         owners = λ T c e. subst (λ f. ((f c).transaction ≡ None) ⊎ ((f c).transaction ≡ Some T)) (sym q.clients) (talk.owners T c (sym (q.told.owner T) ∙ e));
-        drawn = all-sent (IsDrawn r') (drawn-more r' r.sent q.more q.silent (map-all (IsDrawn r) (IsDrawn r') r.sent drawn-on talk.drawn));
-        known = λ W e. known-on W (talk.known W (sym (same-sent W r.sent q.more q.silent) ∙ ap (op_sent W) (sym q.sent) ∙ e));
-        unasked = λ W e b f. unasked-on W (sym (same-sent W r.sent q.more q.silent) ∙ ap (op_sent W) (sym q.sent) ∙ e) b f;
+        drawn = all-sent (IsDrawn r') (All-append (IsDrawn r') r.sent q.more (map-all (IsDrawn r) (IsDrawn r') r.sent drawn-on talk.drawn) q.replies);
+        known = λ W e. known-on W (talk.known W (sym (same-sent W r.sent q.more q.no_op) ∙ ap (op_sent W) (sym q.sent) ∙ e));
+        unasked = λ W e b f. unasked-on W (sym (same-sent W r.sent q.more q.no_op) ∙ ap (op_sent W) (sym q.sent) ∙ e) b f;
         started = λ T e. started-on T (talk.started T (sym (q.told.begun T) ∙ e));
       }

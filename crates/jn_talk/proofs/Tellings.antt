@@ -61,10 +61,10 @@ not-begun-after : (T : Tid) (text : Text) → begins_it T text ≡ false → own
 not-begun-after T (says.Begun c event U) h = ap (λ (b : Bool). if b then Some c else None) h
 not-begun-after T _ h = refl
 
-first-false : (a b : Bool) → (a || b) ≡ false → a ≡ false
+pub first-false : (a b : Bool) → (a || b) ≡ false → a ≡ false
 first-false a b h = grind arith
 
-second-false : (a b : Bool) → (a || b) ≡ false → b ≡ false
+pub second-false : (a b : Bool) → (a || b) ≡ false → b ≡ false
 second-false a b h = grind arith
 
 pub none-told : (events : List Event) (T : Tid) (texts : List Text) → is_begun T texts ≡ false → (ops_in events T None texts ≡ []) × (owner_in T None texts ≡ None)
