@@ -5,3 +5,4 @@ pub mod Rows
 pub mod Facts
 pub mod Quiet
 pub mod ServerSteps
+pub mod OpSteps
