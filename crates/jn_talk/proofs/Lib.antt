@@ -6,3 +6,4 @@ pub mod Facts
 pub mod Quiet
 pub mod ServerSteps
 pub mod OpSteps
+pub mod Clients

@@ -129,7 +129,7 @@ silent-no : (x : Sent) → IsSilent x → HasNoOp x
 silent-no (to, messages.Op d request W number op) h = absurd h
 silent-no (to, _) h = tt
 
-silent-nos : (sent : List Sent) → AreSilent sent → HaveNoOp sent
+pub silent-nos : (sent : List Sent) → AreSilent sent → HaveNoOp sent
 silent-nos [] h = tt
 silent-nos (x ∷ sent) h = (silent-no x h.0, silent-nos sent h.1)
 
@@ -170,7 +170,7 @@ silent-past : (W : WorkId) (a : ActiveWork) (x : Sent) → HasNoOp x → IsPast 
 silent-past W a (to, messages.Op d request V number op) h = absurd h
 silent-past W a (to, _) h = tt
 
-silent-drawn : (r : World) (x : Sent) → IsSilent x → IsDrawn r x
+pub silent-drawn : (r : World) (x : Sent) → IsSilent x → IsDrawn r x
 silent-drawn r (to, messages.Op d request W number op) h = absurd h
 silent-drawn r (to, messages.Answer d request answer) h = absurd h
 silent-drawn r (to, _) h = tt
