@@ -31,7 +31,7 @@ use Rattle.jn_runs.proofs.Facts.{opening, is_closing}
 use Rattle.jn_talk.specs.Told.{ops_in, owner_in, is_begun, at_place}
 use Rattle.jn_talk.proofs.Tellings.{SaysAs}
 use Rattle.jn_talk.proofs.Atoms.{IsPresent}
-use Rattle.jn_talk.proofs.Acting.{acting}
+use Rattle.jn_talk.proofs.Acting.{acting, IsSilent}
 
 -- what a transaction was told at a server
 abbrev pub said : List Event → Tid → ServerNo → List Text → List Answered
@@ -67,7 +67,7 @@ pub record IsOperation (events : List Event) (c : ClientNo) (t : ClientTable) (o
 
 abbrev pub IsAsking : List Event → ClientNo → ClientTable → Outstanding → Command → Type 0
 IsAsking events c t o (Do s op) = IsOperation events c t o s op
-IsAsking events c t o command = (W : WorkId) → op_in W o.message ≡ None
+IsAsking events c t o command = IsSilent (o.to, o.message)
 
 -- ---- a work whose transaction goes on
 

@@ -7,3 +7,4 @@ pub mod Quiet
 pub mod ServerSteps
 pub mod OpSteps
 pub mod Clients
+pub mod ClientTells

@@ -170,6 +170,10 @@ silent-past : (W : WorkId) (a : ActiveWork) (x : Sent) → HasNoOp x → IsPast 
 silent-past W a (to, messages.Op d request V number op) h = absurd h
 silent-past W a (to, _) h = tt
 
+pub silent-asks : (W : WorkId) (to : Party) (message : Message) → IsSilent (to, message) → op_in W message ≡ None
+silent-asks W to (messages.Op d request V number op) h = absurd h
+silent-asks W to _ h = refl
+
 pub silent-drawn : (r : World) (x : Sent) → IsSilent x → IsDrawn r x
 silent-drawn r (to, messages.Op d request W number op) h = absurd h
 silent-drawn r (to, messages.Answer d request answer) h = absurd h
@@ -452,10 +456,10 @@ module _ (r r' : World) (w v : Machine) (m : Moved r r' w v) where
               far : (W ≡ k.work.work) × (number ≡ k.work.last) → ⊥
               far g = let le = (holds-of (IsNumbered k.work (r.clients d).outstanding) r.sent adv.index (adv.to, messages.Op adv.client adv.request W adv.number adv.op) runs.0 adv.sent g.0).0 in
                   let n = adv.next in let at = g.1 in omega (arith, le, n, l, at)
-          by (Begin s) f k = other (k W)
-          by (Open s) f k = other (k W)
-          by End f k = other (k W)
-          by Abort f k = other (k W)
+          by (Begin s) f k = other (silent-asks W o.to o.message k)
+          by (Open s) f k = other (silent-asks W o.to o.message k)
+          by End f k = other (silent-asks W o.to o.message k)
+          by Abort f k = other (silent-asks W o.to o.message k)
 
       kept-on : (d : ClientNo) (o : Outstanding) (answer : Answer) → (r.clients d).outstanding ≡ Some o → (message : Message) → o.message ≡ message → IsKept r answer message → IsKept r' answer message
       kept-on d o answer e (messages.Op c request W number op) is k = λ b f. let a = acting-back W b (subst (λ (z : Message). Says w z) is (subst (λ x. IsOutstanding w x) e (m.before.clients d).waits).0) f in
