@@ -1,5 +1,5 @@
 -- A client does a command, or sends its outstanding message once more.
-use Rattle.std.proofs.Common.{◌≡◌, ◌≢◌, ◌⊎◌, inl, inr, ◌<◌, ◌≤◌, ℕ, ◌+◌, Bool, true, false, List, [], ◌∷◌, ◌++◌, append-nil, Option, Some, None, refl, sym, ◌∙◌, ap, subst, arith}
+use Rattle.std.proofs.Common.{nat_lt, ◌≡◌, ◌≢◌, ◌⊎◌, inl, inr, ◌<◌, ◌≤◌, ℕ, ◌+◌, Bool, true, false, List, [], ◌∷◌, ◌++◌, append-nil, Option, Some, None, refl, sym, ◌∙◌, ap, subst, arith}
 use Rattle.std.specs.Prelude.{if◌then◌else◌, ◌||◌, All}
 use Rattle.std.proofs.lemmas.List.Elements.{All-nil, All-cons, All-append}
 use Rattle.jn_base.specs.declared.names.ServerNo.{ServerNo}
@@ -10,7 +10,7 @@ use Rattle.jn_base.specs.declared.names.Party.{Party}
 use Rattle.jn_base.specs.declared.names.Party.TheVariants.{Server}
 use Rattle.jn_base.specs.declared.op.Op.{Op}
 use Rattle.jn_base.specs.declared.op.Command.{Command}
-use Rattle.jn_base.specs.declared.op.Command.TheVariants.{Do}
+use Rattle.jn_base.specs.declared.op.Command.TheVariants.{Begin, Open, Do, End, Abort}
 use Rattle.jn_base.specs.Names.{server_eq, work_eq}
 use Rattle.jn_base.proofs.Tells.{server_tells, work_tells}
 use Rattle.jn_schedule.specs.declared.Event.{Event}
@@ -18,12 +18,13 @@ use Rattle.jn_schedule.specs.declared.Event.TheVariants.{Command as CommandOf}
 use Rattle.jn_msgs.specs.declared.message.Message.{Message}
 use Rattle.jn_msgs.specs.declared.message.Message.TheVariants as messages
 use Rattle.jn_report.specs.declared.line.Refusal.{Refusal}
+use Rattle.jn_report.specs.declared.line.Refusal.TheVariants as refusals
 use Rattle.jn_report.specs.declared.line.Text.TheVariants as says
 use Rattle.jn_rows.specs.declared.worker.ActiveWork.{ActiveWork}
 use Rattle.jn_rows.specs.declared.client.OpenWork.{OpenWork}
 use Rattle.jn_rows.specs.declared.client.Outstanding.{Outstanding}
 use Rattle.jn_rows.specs.Outcomes.{Sent}
-use Rattle.jn_rows.specs.Client.{ClientTable, Commanded, Refuses, work_at as open_at, with_operation, is_end_or_abort, sends}
+use Rattle.jn_rows.specs.Client.{ClientTable, Commanded, if_server, if_idle, if_transaction, if_no_transaction, if_open, if_not_open, Refuses, work_at as open_at, with_operation, sent_again, is_end_or_abort, sends}
 use Rattle.jn_serial.specs.Lines.{event_at}
 use Rattle.jn_lock_rows.proofs.Works.{work_same}
 use Rattle.jn_machine.specs.World.{World as Machine}
@@ -31,16 +32,16 @@ use Rattle.jn_machine.specs.Invariant.{Invariant}
 use Rattle.jn_machine.specs.Messages.{IsWorkOf}
 use Rattle.jn_machine.proofs.Updates.{not_both, some_is, none_some}
 use Rattle.jn_protocol.specs.World.{World, at_client}
-use Rattle.jn_protocol.specs.Steps.{commanded}
+use Rattle.jn_protocol.specs.Steps.{tell, again, commanded, sent_now}
 use Rattle.jn_moves.specs.Mirrors.{Mirrors, IsClient, IsCurrent}
-use Rattle.jn_moves.proofs.ClientRows.{found-open}
+use Rattle.jn_moves.proofs.ClientRows.{found-open, are-counted}
 use Rattle.jn_runs.proofs.Openings.{openings, openings-more, Has, has-first}
 use Rattle.jn_runs.proofs.Facts.{opening, is_closing, Facts}
 use Rattle.jn_talk.specs.Told.{owner_in, is_begun}
 use Rattle.jn_talk.proofs.Tellings.{none-told}
 use Rattle.jn_talk.proofs.Acting.{IsSilent}
 use Rattle.jn_talk.proofs.Facts.{said, op_in, op_asked, IsOperation, IsAsking, IsNumbered, Hears, IsRunningAt, IsTalking, IsPast, IsEndedAt, IsDrawn, op_sent, IsOpenAt, IsKnown, Talk}
-use Rattle.jn_talk.proofs.Quiet.{same-told, told-same, map-all, op_sent-more, silent-asks}
+use Rattle.jn_talk.proofs.Quiet.{IsDumb, same-told, told-same, map-all, op_sent-more, silent-asks}
 use Rattle.jn_talk.proofs.Clients.{by-client, at-own, same-client, now, client-talks, running-still, table-started, plain-talks, no-client-talks}
 
 -- ---- a client's works, once one has an operation more
@@ -69,7 +70,7 @@ counted-other s q (u ∷ us) ne = by (server_tells u.work.server s) (counted-oth
     by (inr p) on = ap (λ (b : Bool). open_at q (if b then record u { last = u.last + 1 } ∷ us else u ∷ with_operation s us)) p.0 ∙ ap (λ z. if server_eq u.work.server q then Some u else z) on
 
 -- works at two servers are two
-other-work : (V W : WorkId) → V.server ≢ W.server → work_eq V W ≡ false
+pub other-work : (V W : WorkId) → V.server ≢ W.server → work_eq V W ≡ false
 other-work V W ne = by (work_tells V W)
   where
     by : ((work_eq V W ≡ true) × (V ≡ W)) ⊎ ((work_eq V W ≡ false) × (V ≢ W)) → work_eq V W ≡ false
@@ -86,7 +87,7 @@ its-begun events T texts c h = by (is_begun T texts) refl
 
 -- ---- an operation is sent, for the first time or once more
 
-module _ (events : List Event) (r : World) (w : Machine) (talk : Talk events r w) (clients : (d : ClientNo) → IsClient w (r.clients d)) (inv : Invariant w) (c : ClientNo) (o : Outstanding) (waits : (r.clients c).outstanding ≡ Some o)
+module _ (events : List Event) (r : World) (w : Machine) (talk : Talk events r w) (clients : (d : ClientNo) → IsCurrent w (r.clients d).transaction (r.clients d).works) (inv : Invariant w) (c : ClientNo) (o : Outstanding) (waits : (r.clients c).outstanding ≡ Some o)
     (s : ServerNo) (op : Op) (its : IsOperation events c (r.clients c) o s op) (drawn : o.request < (r.clients c).next) (fresh : (T : Tid) → (r.clients c).transaction ≡ Some T → w.ended T ≡ false) where
   abbrev W : WorkId
   W = its.work.work
@@ -95,7 +96,7 @@ module _ (events : List Event) (r : World) (w : Machine) (talk : Talk events r w
   x = (o.to, messages.Op c o.request W its.work.last op)
 
   work-of : (d : ClientNo) (T : Tid) (q : ServerNo) (y : OpenWork) → (r.clients d).transaction ≡ Some T → open_at q (r.clients d).works ≡ Some y → IsWorkOf w T y.work × (y.work.server ≡ q)
-  work-of d T q y e k = found-open w T q (r.clients d).works y (subst (λ z. IsCurrent w z (r.clients d).works) e (clients d).current).1 k
+  work-of d T q y e k = found-open w T q (r.clients d).works y (subst (λ z. IsCurrent w z (r.clients d).works) e (clients d)).1 k
 
   its-work : IsWorkOf w its.tid W × (W.server ≡ s)
   its-work = work-of c its.tid s its.work its.current its.is
@@ -196,17 +197,17 @@ module _ (events : List Event) (r : World) (w : Machine) (mirrors : Mirrors r w)
   more : (n : ℕ) → n ≤ n + 1
   more n = omega arith
 
-  refuses : (refusal : Refusal) → (says.Refused c r.event refusal ∷ [] ≡ says.Refused c r.event refusal ∷ []) → Rattle.jn_talk.proofs.Quiet.IsDumb (says.Refused c r.event refusal) → RowTalks (Refuses refusal)
-  refuses refusal e dumb = subst (λ l. Talk events (record r { sent = l; lines = r.lines ++ says.Refused c r.event refusal ∷ [] }) w) (append-nil r.sent)
+  refuses : (refusal : Refusal) → IsDumb (says.Refused c r.event refusal) → RowTalks (Refuses refusal)
+  refuses refusal dumb = subst (λ l. Talk events (record r { sent = l; lines = r.lines ++ says.Refused c r.event refusal ∷ [] }) w) (append-nil r.sent)
       (no-client-talks events r w c [] (says.Refused c r.event refusal ∷ []) talk tt (dumb, tt))
 
   -- a message that is no operation is sent for a command
   sends-plain : (event : ℕ) (command : Command) (to : Party) (message : Message) → IsSilent (to, message)
-      → ((o : Outstanding) → o.to ≡ to → o.message ≡ message → o.command ≡ command → IsAsking events c (record t { next = t.next + 1; outstanding = Some o }) o command)
+      → IsAsking events c (record t { next = t.next + 1; outstanding = Some (record { event = event; request = t.next; command = command; to = to; message = message }) }) (record { event = event; request = t.next; command = command; to = to; message = message }) command
       → (is_end_or_abort command ≡ false → (T : Tid) → t.transaction ≡ Some T → t.outstanding ≡ None) → RowTalks (sends t event command to message)
   sends-plain event command to message silent asking idle = subst (λ l. Talk events (record r { clients = at_client r.clients c u; sent = r.sent ++ (to, message) ∷ []; lines = l }) w) (append-nil r.lines)
       (plain-talks events r w c u ((to, message) ∷ []) [] talk (silent, tt) tt (more t.next, λ p e. inr (subst (λ (z : Outstanding). t.next ≤ z.request) (some_is o p e) (le t.next)))
-      (λ T e. (e, refl)) (λ p e. subst (λ (z : Outstanding). IsAsking events c u z z.command) (some_is o p e) (asking o refl refl refl))
+      (λ T e. (e, refl)) (λ p e. subst (λ (z : Outstanding). IsAsking events c u z z.command) (some_is o p e) asking)
       (λ T e k. let free = idle k T e in (ap is_closing free, λ W. (ap (λ z. op_asked z W) free, silent-asks W to message silent))))
     where
       o : Outstanding
@@ -300,8 +301,8 @@ module _ (events : List Event) (r : World) (w : Machine) (mirrors : Mirrors r w)
         }) (λ U e. table-started events r w c u [] [] draws U (talk.started U (sym (same.begun U) ∙ e)))
 
     -- the table as it is, with the message
-    does-talks : ((d : ClientNo) → IsClient w (at_client r.clients c u d)) → RowTalks (sends (record t { works = with_operation s t.works }) r.event (Do s op) (Server s) (messages.Op t.client t.next v.work (v.last + 1) op))
-    does-talks clients = op-again events r2 w talk2 clients inv c asked (ap (λ (z : ClientTable). z.outstanding) (at-own r.clients c u)) s op
+    does-talks : RowTalks (sends (record t { works = with_operation s t.works }) r.event (Do s op) (Server s) (messages.Op t.client t.next v.work (v.last + 1) op))
+    does-talks = op-again events r2 w talk2 (by-client (λ d z. IsCurrent w z.transaction z.works) r.clients c u its-current (λ d ne. (mirrors.clients d).current)) inv c asked (ap (λ (z : ClientTable). z.outstanding) (at-own r.clients c u)) s op
         (subst (λ z. IsOperation events c z asked s op) (sym (at-own r.clients c u)) operation) (subst (λ z. t.next < z.next) (sym (at-own r.clients c u)) (below t.next)) fresh
       where
         below : (n : ℕ) → n < n + 1
@@ -314,5 +315,66 @@ module _ (events : List Event) (r : World) (w : Machine) (mirrors : Mirrors r w)
         talk2 = subst (λ l. Talk events (record r { clients = at_client r.clients c u; lines = l }) w) (append-nil r.lines)
             (subst (λ l. Talk events (record r { clients = at_client r.clients c u; sent = l; lines = r.lines ++ [] }) w) (append-nil r.sent) table-talks)
 
+        its-current : IsCurrent w t.transaction (with_operation s t.works)
+        its-current = subst (λ z. IsCurrent w z (with_operation s t.works)) (sym current) (let k = subst (λ z. IsCurrent w z t.works) current (mirrors.clients c).current in (k.0, are-counted w T s t.works k.1))
+
         fresh : (U : Tid) → (at_client r.clients c u c).transaction ≡ Some U → w.ended U ≡ false
         fresh U e = (facts.clients c).fresh U (subst (λ (z : ClientTable). z.transaction ≡ Some U) (at-own r.clients c u) e) (ap is_closing idle)
+
+  -- ---- every command
+
+  guard-server : (s : ServerNo) (row : Commanded) → RowTalks row → RowTalks (if_server t s row)
+  guard-server s row k = by (nat_lt s.0 t.servers)
+    where
+      by : (b : Bool) → RowTalks (if b then row else Refuses refusals.NoSuchServer)
+      by true = k
+      by false = refuses refusals.NoSuchServer tt
+
+  guard-idle : (o : Option Outstanding) (row : Commanded) → (o ≡ None → RowTalks row) → RowTalks (if_idle o row)
+  guard-idle None row k = k refl
+  guard-idle (Some o) row k = refuses refusals.ClientBusy tt
+
+  guard-none : (o : Option Tid) (row : Commanded) → (o ≡ None → RowTalks row) → RowTalks (if_no_transaction o row)
+  guard-none None row k = k refl
+  guard-none (Some T) row k = refuses refusals.HasTransaction tt
+
+  guard-one : (o : Option Tid) (row : Tid → Commanded) → ((T : Tid) → o ≡ Some T → RowTalks (row T)) → RowTalks (if_transaction o row)
+  guard-one None row k = refuses refusals.NoTransaction tt
+  guard-one (Some T) row k = k T refl
+
+  guard-closed : (o : Option OpenWork) (row : Commanded) → RowTalks row → RowTalks (if_not_open o row)
+  guard-closed None row k = k
+  guard-closed (Some v) row k = refuses refusals.AlreadyOpen tt
+
+  guard-open : (o : Option OpenWork) (row : OpenWork → Commanded) → ((v : OpenWork) → o ≡ Some v → RowTalks (row v)) → RowTalks (if_open o row)
+  guard-open None row k = refuses refusals.NotOpen tt
+  guard-open (Some v) row k = k v refl
+
+  closes : {A : Type 0} → true ≡ false → A
+  closes q = absurd (grind arith)
+
+  pub tell-talks : (command : Command) → event_at events r.event ≡ Some (CommandOf c command) → Talk events (tell c command r) w
+  tell-talks (Begin s) told = guard-server s _ (guard-idle t.outstanding _ (λ e. guard-none t.transaction _ (λ f. sends-plain r.event (Begin s) _ _ tt tt (λ k T g. absurd (none_some T (sym f ∙ g))))))
+  tell-talks (Open s) told = guard-server s _ (guard-idle t.outstanding _ (λ e. guard-one t.transaction _ (λ T f. guard-closed (open_at s t.works) _ (sends-plain r.event (Open s) _ _ tt tt (λ k U g. e)))))
+  tell-talks (Do s op) told = guard-server s _ (guard-idle t.outstanding _ (λ e. guard-one t.transaction _ (λ T f. guard-open (open_at s t.works) _ (λ v g. does-talks s op e T f v g told))))
+  tell-talks End told = guard-idle t.outstanding _ (λ e. guard-one t.transaction _ (λ T f. sends-plain r.event End _ _ tt tt (λ k U g. e)))
+  tell-talks Abort told = guard-one t.transaction _ (λ T f. sends-plain r.event Abort _ _ tt tt (λ k U g. closes k))
+
+  -- ---- once more
+
+  pub again-talks : Talk events (again c r) w
+  again-talks = by t.outstanding refl
+    where
+      plain : (o : Outstanding) → IsSilent (o.to, o.message) → Talk events (record r { sent = r.sent ++ (o.to, o.message) ∷ [] }) w
+      plain o silent = subst (λ l. Talk events (record r { sent = r.sent ++ (o.to, o.message) ∷ []; lines = l }) w) (append-nil r.lines) (no-client-talks events r w c ((o.to, o.message) ∷ []) [] talk (silent, tt) tt)
+
+      on : (o : Outstanding) (command : Command) → t.outstanding ≡ Some o → o.command ≡ command → IsAsking events c t o command → Talk events (record r { sent = r.sent ++ (o.to, o.message) ∷ [] }) w
+      on o (Do s op) e f k = op-again events r w talk (λ d. (mirrors.clients d).current) inv c o e s op k ((facts.clients c).waits o e).drawn (λ T g. (facts.clients c).fresh T g (ap is_closing e ∙ ap is_end_or_abort f))
+      on o (Begin s) e f k = plain o k
+      on o (Open s) e f k = plain o k
+      on o End e f k = plain o k
+      on o Abort e f k = plain o k
+
+      by : (o : Option Outstanding) → t.outstanding ≡ o → Talk events (record r { sent = r.sent ++ sent_now (sent_again o) }) w
+      by None e = subst (λ l. Talk events (record r { sent = l }) w) (sym (append-nil r.sent)) talk
+      by (Some o) e = on o o.command e refl ((talk.clients c).asking o e)

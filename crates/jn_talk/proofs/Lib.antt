@@ -8,3 +8,4 @@ pub mod ServerSteps
 pub mod OpSteps
 pub mod Clients
 pub mod ClientTells
+pub mod ClientTakes

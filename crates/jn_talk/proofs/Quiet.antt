@@ -186,7 +186,7 @@ pub past-more : (W : WorkId) (a : ActiveWork) (sent more : List Sent) → HaveNo
 past-more W a sent more h all = All-append (IsPast W a) sent more all (every-op (IsPast W a) more h (silent-past W a))
 
 -- a message that was sent for a work
-none-of : (W : WorkId) (sent : List Sent) → op_sent W sent ≡ false → All (λ x. is_op_of W x ≡ false) sent
+pub none-of : (W : WorkId) (sent : List Sent) → op_sent W sent ≡ false → All (λ x. is_op_of W x ≡ false) sent
 none-of W [] h = All-nil (λ x. is_op_of W x ≡ false)
 none-of W (x ∷ sent) h = All-cons (λ x. is_op_of W x ≡ false) x sent (first-false (is_op_of W x) (op_sent W sent) h) (none-of W sent (second-false (is_op_of W x) (op_sent W sent) h))
 

@@ -1,0 +1,272 @@
+-- A client takes a message.
+use Rattle.std.proofs.Common.{◌≡◌, ◌≢◌, ◌⊎◌, inl, inr, ◌<◌, ◌≤◌, ℕ, ◌+◌, Bool, true, false, List, [], ◌∷◌, ◌++◌, append-nil, Option, Some, None, refl, sym, ◌∙◌, ap, subst, arith}
+use Rattle.std.specs.Prelude.{if◌then◌else◌, ◌||◌, ◌&&◌, nat_eq, All, slice_get}
+use Rattle.std.proofs.lemmas.Bool.Decides.{nat_tests}
+use Rattle.std.proofs.lemmas.List.Elements.{All-nil}
+use Rattle.jn_base.specs.declared.names.ServerNo.{ServerNo}
+use Rattle.jn_base.specs.declared.names.ClientNo.{ClientNo}
+use Rattle.jn_base.specs.declared.names.Tid.{Tid}
+use Rattle.jn_base.specs.declared.names.WorkId.{WorkId}
+use Rattle.jn_base.specs.declared.names.Party.TheVariants.{Client, Server}
+use Rattle.jn_base.specs.declared.op.Op.{Op}
+use Rattle.jn_base.specs.declared.op.Answer.{Answer}
+use Rattle.jn_base.specs.declared.op.Answer.TheVariants as answers
+use Rattle.jn_base.specs.declared.op.Command.{Command}
+use Rattle.jn_base.specs.declared.op.Command.TheVariants.{Begin, Open, Do, End, Abort}
+use Rattle.jn_base.specs.Names.{server_eq, client_eq, tid_eq, work_eq}
+use Rattle.jn_base.proofs.Tells.{server_tells, client_tells, tid_tells}
+use Rattle.jn_schedule.specs.declared.Event.{Event}
+use Rattle.jn_schedule.specs.declared.Event.TheVariants.{Command as CommandOf}
+use Rattle.jn_msgs.specs.declared.message.Message.{Message}
+use Rattle.jn_msgs.specs.declared.message.Message.TheVariants as messages
+use Rattle.jn_msgs.specs.declared.message.Outcome.{Outcome}
+use Rattle.jn_msgs.specs.declared.message.Outcome.TheVariants as outcomes
+use Rattle.jn_report.specs.declared.line.Text.{Text}
+use Rattle.jn_report.specs.declared.line.Text.TheVariants as says
+use Rattle.jn_rows.specs.declared.worker.ActiveWork.{ActiveWork}
+use Rattle.jn_rows.specs.declared.client.OpenWork.{OpenWork}
+use Rattle.jn_rows.specs.declared.client.Outstanding.{Outstanding}
+use Rattle.jn_rows.specs.declared.client.Taken.{Taken}
+use Rattle.jn_rows.specs.declared.client.Taken.TheVariants as taken
+use Rattle.jn_rows.specs.Outcomes.{Sent}
+use Rattle.jn_rows.specs.Client.{ClientTable, work_at as open_at, is_begin, is_operation, is_end_or_abort, opens, is_current, is_tid, if_waits, idle, over, begun_row, opened_row, answer_line, decided_row, outcome_row, take_row}
+use Rattle.jn_serial.specs.declared.files.Performed.{Performed}
+use Rattle.jn_serial.specs.Lines.{event_at}
+use Rattle.jn_serial.specs.Order.{performed_in, answered_by, owner_after, is_client}
+use Rattle.jn_lock_rows.proofs.Works.{work_same}
+use Rattle.jn_machine.specs.Traces.{Answered}
+use Rattle.jn_machine.specs.World.{World as Machine}
+use Rattle.jn_machine.specs.Messages.{Says, IsWorkOf}
+use Rattle.jn_machine.proofs.Updates.{not_both, false_unless, some_is, none_some}
+use Rattle.jn_protocol.specs.World.{World, at_client}
+use Rattle.jn_protocol.specs.Steps.{took, taken_by}
+use Rattle.jn_moves.specs.Mirrors.{Mirrors, IsCurrent}
+use Rattle.jn_moves.proofs.ClientRows.{found-open}
+use Rattle.jn_moves.proofs.StepMoves.{holds-of}
+use Rattle.jn_runs.proofs.Openings.{Opening, opening_in, openings, Has}
+use Rattle.jn_runs.proofs.Facts.{opening, is_closing, Facts}
+use Rattle.jn_runs.proofs.ClientFacts.{all-have-theirs}
+use Rattle.jn_talk.specs.Told.{ops_in, owner_in, begins_it, is_begun, at_place}
+use Rattle.jn_talk.proofs.Tellings.{SaysAs, ops-more, owner-more, begun-more, place-more, none-told}
+use Rattle.jn_talk.proofs.Acting.{acting, IsSilent, AreSilent}
+use Rattle.jn_talk.proofs.Facts.{said, counts, op_in, op_asked, IsOperation, IsAsking, IsNumbered, Hears, IsRunningAt, IsTalking, IsKept, IsDrawn, is_op_of, op_sent, IsOpenAt, IsKnown, IsStarted, Talk}
+use Rattle.jn_talk.proofs.Quiet.{IsDumb, same-told, map-all, none-of, silent-asks}
+use Rattle.jn_talk.proofs.Clients.{by-client, now, client-talks, running-still, table-started, plain-talks, same-client-talks}
+use Rattle.jn_talk.proofs.ClientTells.{its-begun, other-work}
+
+-- ---- one line more
+
+same-number : (a b : ℕ) → nat_eq a b ≡ true → a ≡ b
+same-number a b e = grind (arith, nat_tests)
+
+client-same : (c : ClientNo) → client_eq c c ≡ true
+client-same c = by (client_tells c c)
+  where
+    by : ((client_eq c c ≡ true) × (c ≡ c)) ⊎ ((client_eq c c ≡ false) × (c ≢ c)) → client_eq c c ≡ true
+    by (inl p) = p.0
+    by (inr p) = absurd (p.1 refl)
+
+client-other : (c d : ClientNo) → c ≢ d → client_eq c d ≡ false
+client-other c d ne = by (client_tells c d)
+  where
+    by : ((client_eq c d ≡ true) × (c ≡ d)) ⊎ ((client_eq c d ≡ false) × (c ≢ d)) → client_eq c d ≡ false
+    by (inl p) = absurd (ne p.1)
+    by (inr p) = p.0
+
+is-client : (c d : ClientNo) → client_eq c d ≡ true → c ≡ d
+is-client c d h = by (client_tells c d)
+  where
+    by : ((client_eq c d ≡ true) × (c ≡ d)) ⊎ ((client_eq c d ≡ false) × (c ≢ d)) → c ≡ d
+    by (inl p) = p.1
+    by (inr p) = absurd (not_both (client_eq c d) h p.0)
+
+said-more : (events : List Event) (T : Tid) (s : ServerNo) (lines : List Text) (line : Text) → said events T s (lines ++ line ∷ []) ≡ said events T s lines ++ at_place s (answered_by events (owner_in T None lines) line)
+said-more events T s lines line = ap (λ z. at_place s z) (ops-more events T None lines (line ∷ [])) ∙ place-more s (ops_in events T None lines) (answered_by events (owner_in T None lines) line ++ [])
+    ∙ ap (λ z. said events T s lines ++ at_place s z) (append-nil (answered_by events (owner_in T None lines) line))
+
+-- the line of an answer tells the operation's server its answer, where it counts
+module _ (events : List Event) (c : ClientNo) (j : ℕ) (s : ServerNo) (op : Op) (told : event_at events j ≡ Some (CommandOf c (Do s op))) where
+  its-answer : (answer : Answer) (x : Answer) (q : ServerNo) → counts op answer ≡ record { op = op; answer = x } ∷ []
+      → at_place q (if client_eq c c then performed_in c x (event_at events j) else []) ≡ (if server_eq s q then counts op answer else [])
+  its-answer answer x q e = ap (λ (b : Bool). at_place q (if b then performed_in c x (event_at events j) else [])) (client-same c) ∙ ap (λ o. at_place q (performed_in c x o)) told
+      ∙ ap (λ (b : Bool). at_place q (if b then (record { server = s; op = op; answer = x }) ∷ [] else [])) (client-same c) ∙ ap (λ z. if server_eq s q then z else []) (sym e)
+
+  nothing : (q : ServerNo) → at_place q [] ≡ (if server_eq s q then [] else [])
+  nothing q = by (server_eq s q)
+    where
+      by : (b : Bool) → at_place q [] ≡ (if b then [] else [])
+      by true = refl
+      by false = refl
+
+  pub answer-told : (answer : Answer) (q : ServerNo) → at_place q (answered_by events (Some c) (answer_line c j answer)) ≡ (if server_eq s q then counts op answer else [])
+  answer-told answers.Did q = its-answer answers.Did answers.Did q refl
+  answer-told (answers.Read bytes) q = its-answer (answers.Read bytes) (answers.Read bytes) q refl
+  answer-told answers.NoFile q = its-answer answers.NoFile answers.NoFile q refl
+  answer-told answers.Exists q = its-answer answers.Exists answers.Exists q refl
+  answer-told (answers.Locked u T) q = nothing q
+  answer-told answers.TooManyReads q = nothing q
+  answer-told answers.TooManyWrites q = nothing q
+  answer-told (answers.Broken u T) q = nothing q
+  answer-told (answers.Lost was is) q = nothing q
+  answer-told answers.Closing q = nothing q
+
+  -- another client's line tells nothing
+  pub other-told : (d : ClientNo) (answer : Answer) → c ≢ d → answered_by events (Some d) (answer_line c j answer) ≡ []
+  other-told d answer ne = by answer (client-other d c (λ e. ne (sym e)))
+    where
+      by : (answer : Answer) → client_eq d c ≡ false → answered_by events (Some d) (answer_line c j answer) ≡ []
+      by answers.Did e = ap (λ (b : Bool). if b then performed_in d answers.Did (event_at events j) else []) e
+      by (answers.Read bytes) e = ap (λ (b : Bool). if b then performed_in d (answers.Read bytes) (event_at events j) else []) e
+      by answers.NoFile e = ap (λ (b : Bool). if b then performed_in d answers.NoFile (event_at events j) else []) e
+      by answers.Exists e = ap (λ (b : Bool). if b then performed_in d answers.Exists (event_at events j) else []) e
+      by (answers.Locked u T) e = refl
+      by answers.TooManyReads e = refl
+      by answers.TooManyWrites e = refl
+      by (answers.Broken u T) e = refl
+      by (answers.Lost was is) e = refl
+      by answers.Closing e = refl
+
+  pub answer-owner : (T : Tid) (o : Option ClientNo) (answer : Answer) → (owner_after T o (answer_line c j answer) ≡ o) × (begins_it T (answer_line c j answer) ≡ false)
+  answer-owner T o answers.Did = (refl, refl)
+  answer-owner T o (answers.Read bytes) = (refl, refl)
+  answer-owner T o answers.NoFile = (refl, refl)
+  answer-owner T o answers.Exists = (refl, refl)
+  answer-owner T o (answers.Locked u U) = (refl, refl)
+  answer-owner T o answers.TooManyReads = (refl, refl)
+  answer-owner T o answers.TooManyWrites = (refl, refl)
+  answer-owner T o (answers.Broken u U) = (refl, refl)
+  answer-owner T o (answers.Lost was is) = (refl, refl)
+  answer-owner T o answers.Closing = (refl, refl)
+
+or-false : (a b : Bool) → b ≡ false → (a || b) ≡ a
+or-false a b h = grind arith
+
+-- ---- the client takes a message that was sent
+
+module _ (events : List Event) (r : World) (w : Machine) (mirrors : Mirrors r w) (facts : Facts r w) (talk : Talk events r w) (c : ClientNo) (k : ℕ) where
+  abbrev t : ClientTable
+  t = r.clients c
+
+  its-name : t.client ≡ c
+  its-name = (facts.clients c).name
+
+  le : (n : ℕ) → n ≤ n
+  le n = omega arith
+
+  -- no operation is outstanding where the command is none
+  quiet-waits : (o : Outstanding) → t.outstanding ≡ Some o → is_operation o.command ≡ false → (W : WorkId) → op_asked t.outstanding W ≡ None
+  quiet-waits o e none W = ap (λ z. op_asked z W) e ∙ by o.command none ((talk.clients c).asking o e)
+    where
+      by : (command : Command) → is_operation command ≡ false → IsAsking events c t o command → op_in W o.message ≡ None
+      by (Begin s) n a = silent-asks W o.to o.message a
+      by (Open s) n a = silent-asks W o.to o.message a
+      by End n a = silent-asks W o.to o.message a
+      by Abort n a = silent-asks W o.to o.message a
+      by (Do s op) n a = absurd (not_both true refl n)
+
+  -- a table that waits for nothing
+  waits-none : (u : ClientTable) → u.outstanding ≡ None → (o : Outstanding) → {A : Type 0} → u.outstanding ≡ Some o → A
+  waits-none u e o f = absurd (none_some o (sym e ∙ f))
+
+  -- ---- an answer
+
+  module _ (o : Outstanding) (waits : t.outstanding ≡ Some o) (s : ServerNo) (op : Op) (command : o.command ≡ Do s op) (its : IsOperation events c t o s op) (answer : Answer) (kept : IsKept r answer o.message) where
+    line : Text
+    line = answer_line c o.event answer
+
+    abbrev told : World
+    told = now events r w c (idle t) [] (answer_line c o.event answer ∷ [])
+
+    owner-still : (T : Tid) → owner_in T None (r.lines ++ answer_line c o.event answer ∷ []) ≡ owner_in T None r.lines
+    owner-still T = owner-more T None r.lines (answer_line c o.event answer ∷ []) ∙ (answer-owner events c o.event s op its.told T (owner_in T None r.lines) answer).0
+
+    begun-still : (T : Tid) → is_begun T (r.lines ++ answer_line c o.event answer ∷ []) ≡ is_begun T r.lines
+    begun-still T = begun-more T r.lines (answer_line c o.event answer ∷ []) ∙ or-false (is_begun T r.lines) (begins_it T (answer_line c o.event answer) || false)
+        (or-false (begins_it T (answer_line c o.event answer)) false refl ∙ (answer-owner events c o.event s op its.told T None answer).1)
+
+    said-own : (T : Tid) (q : ServerNo) → owner_in T None r.lines ≡ Some c → said events T q (r.lines ++ answer_line c o.event answer ∷ []) ≡ said events T q r.lines ++ (if server_eq s q then counts op answer else [])
+    said-own T q e = said-more events T q r.lines (answer_line c o.event answer) ∙ ap (λ z. said events T q r.lines ++ at_place q (answered_by events z (answer_line c o.event answer))) e
+        ∙ ap (λ z. said events T q r.lines ++ z) (answer-told events c o.event s op its.told answer q)
+
+    said-other : (T : Tid) (d : Option ClientNo) (q : ServerNo) → owner_in T None r.lines ≡ d → ((e : ClientNo) → d ≡ Some e → c ≢ e) → said events T q (r.lines ++ answer_line c o.event answer ∷ []) ≡ said events T q r.lines
+    said-other T d q e ne = said-more events T q r.lines (answer_line c o.event answer) ∙ ap (λ z. said events T q r.lines ++ at_place q (answered_by events z (answer_line c o.event answer))) e ∙ by d ne
+      where
+        by : (d : Option ClientNo) → ((e : ClientNo) → d ≡ Some e → c ≢ e) → said events T q r.lines ++ at_place q (answered_by events d (answer_line c o.event answer)) ≡ said events T q r.lines
+        by None ne = append-nil (said events T q r.lines)
+        by (Some f) ne = ap (λ z. said events T q r.lines ++ at_place q z) (other-told events c o.event s op its.told f answer (ne f refl)) ∙ append-nil (said events T q r.lines)
+
+    runs : is_closing t.outstanding ≡ false
+    runs = ap is_closing waits ∙ ap is_end_or_abort command
+
+    its-place : its.work.work.server ≡ s
+    its-place = (found-open w its.tid s t.works its.work (subst (λ z. IsCurrent w z t.works) its.current (mirrors.clients c).current).1 its.is).1
+
+    asked-here : op_asked t.outstanding its.work.work ≡ Some op
+    asked-here = ap (λ z. op_asked z its.work.work) waits ∙ ap (λ z. op_in its.work.work z) its.message ∙ ap (λ (b : Bool). if b then Some op else None) (work_same its.work.work)
+
+    its-kept : (a : ActiveWork) → acting r its.work.work ≡ Some a → (a.last ≡ its.work.last) × (a.kept ≡ Some answer)
+    its-kept = subst (λ z. IsKept r answer z) its.message kept
+
+    -- what the work has done is told now
+    hears-now : (a : ActiveWork) (before trace : List Answered) → (a.last ≡ its.work.last) × (a.kept ≡ Some answer) → Hears (Some op) its.work a before trace → Hears None its.work a (before ++ counts op answer) trace
+    hears-now a before trace g (inl h) = absurd (off g.0 h.0)
+      where
+        off : a.last ≡ its.work.last → a.last + 1 ≡ its.work.last → ⊥
+        off e f = omega (arith, e, f)
+    hears-now a before trace g (inr h) = (h.0, subst (λ z. SaysAs (before ++ counts op z) trace) (some_is h.1.0 answer (sym h.1.1.0 ∙ g.1)) h.1.1.1)
+
+    numbered-none : (y : OpenWork) (p : Option Outstanding) (z : Sent) → IsNumbered y p z → IsNumbered y None z
+    numbered-none y p (to, messages.Op d request W number op) h = λ e. ((h e).0, λ g q l. absurd (none_some q l))
+    numbered-none y p (to, _) h = tt
+
+    running-now : (q : ServerNo) → IsRunningAt events r w its.tid t.outstanding q (open_at q t.works) → IsRunningAt events told w its.tid None q (open_at q t.works)
+    running-now q h = by (server_tells s q)
+      where
+        owned : owner_in its.tid None r.lines ≡ Some c
+        owned = (talk.clients c).owner its.tid its.current
+
+        here : s ≡ q → server_eq s q ≡ true → IsRunningAt events r w its.tid t.outstanding q (Some its.work) → IsRunningAt events told w its.tid None q (Some its.work)
+        here e b g = (
+          subst (λ l. All (IsNumbered its.work None) l) (sym (append-nil r.sent)) (map-all (IsNumbered its.work t.outstanding) (IsNumbered its.work None) r.sent (numbered-none its.work t.outstanding) g.0),
+          λ a f. subst (λ z. Hears None its.work a z (w.trace its.work.work)) (sym (said-own its.tid q owned ∙ ap (λ (b : Bool). said events its.tid q r.lines ++ (if b then counts op answer else [])) b))
+              (hears-now a (said events its.tid q r.lines) (w.trace its.work.work) (its-kept a f) (subst (λ z. Hears z its.work a (said events its.tid q r.lines) (w.trace its.work.work)) asked-here (g.1 a f))),
+        )
+
+        apart : s ≢ q → (y : OpenWork) → open_at q t.works ≡ Some y → (op_asked t.outstanding y.work ≡ None) × (op_asked None y.work ≡ None)
+        apart ne y l = (ap (λ z. op_asked z y.work) waits ∙ ap (λ z. op_in y.work z) its.message ∙ ap (λ (b : Bool). if b then Some op else None) (other-work its.work.work y.work (λ f. ne (sym its-place ∙ f ∙ place))), refl)
+          where
+            place : y.work.server ≡ q
+            place = (found-open w its.tid q t.works y (subst (λ z. IsCurrent w z t.works) its.current (mirrors.clients c).current).1 l).1
+
+        by : ((server_eq s q ≡ true) × (s ≡ q)) ⊎ ((server_eq s q ≡ false) × (s ≢ q)) → IsRunningAt events told w its.tid None q (open_at q t.works)
+        by (inl p) = subst (λ z. IsRunningAt events told w its.tid None q z) (sym (ap (λ (z : ServerNo). open_at z t.works) (sym p.1) ∙ its.is))
+            (here p.1 p.0 (subst (λ z. IsRunningAt events r w its.tid t.outstanding q z) (ap (λ (z : ServerNo). open_at z t.works) (sym p.1) ∙ its.is) h))
+        by (inr p) = running-still events r w c (idle t) [] (answer_line c o.event answer ∷ []) its.tid q t.outstanding None (open_at q t.works) tt
+            (said-own its.tid q owned ∙ ap (λ (b : Bool). said events its.tid q r.lines ++ (if b then counts op answer else [])) p.0 ∙ append-nil (said events its.tid q r.lines)) (apart p.1) h
+
+    own : IsTalking events told w c (idle t)
+    own = record {
+      asking = λ p e. absurd (none_some p e);
+      owner = λ T e. owner-still T ∙ (talk.clients c).owner T e;
+      running = λ T e g q. subst (λ (z : Tid). IsRunningAt events told w z None q (open_at q t.works)) (some_is its.tid T (sym its.current ∙ e)) (running-now q ((talk.clients c).running its.tid its.current runs q));
+    }
+
+    ended-said : (T : Tid) → w.ended T ≡ true → (q : ServerNo) → said events T q (r.lines ++ answer_line c o.event answer ∷ []) ≡ said events T q r.lines
+    ended-said T e q = said-other T (owner_in T None r.lines) q refl (λ d f g. other (talk.owners T c (f ∙ ap Some (sym g))))
+      where
+        other : (t.transaction ≡ None) ⊎ (t.transaction ≡ Some T) → ⊥
+        other (inl h) = none_some its.tid (sym h ∙ its.current)
+        other (inr h) = not_both (w.ended T) e ((facts.clients c).fresh T h runs)
+
+    pub answer-talks : Talk events told w
+    answer-talks = client-talks events r w c (idle t) [] (answer_line c o.event answer ∷ []) talk tt own
+        (λ T d ne e. (owner-still T ∙ e, λ q. said-other T (Some d) q e (λ f g h. ne (h ∙ sym (some_is d f g)))))
+        ended-said (λ T d e. by-client (λ d z. owner_in T None r.lines ≡ Some d → (z.transaction ≡ None) ⊎ (z.transaction ≡ Some T)) r.clients c (idle t) (talk.owners T c) (λ d ne. talk.owners T d) d (sym (owner-still T) ∙ e))
+        draws (All-nil (IsDrawn told)) (λ W e g. record {
+          opened = g.opened;
+          begun = begun-still (w.owner W) ∙ g.begun;
+          its = by-client (λ d z. z.transaction ≡ Some (w.owner W) → IsOpenAt W (open_at W.server z.works)) r.clients c (idle t) (g.its c) (λ d ne. g.its d);
+        }) (λ T e. table-started events r w c (idle t) [] (answer_line c o.event answer ∷ []) draws T (talk.started T (sym (begun-still T) ∙ e)))
+      where
+        draws : (t.next ≤ (idle t).next) × ((p : Outstanding) → (idle t).outstanding ≡ Some p → (t.outstanding ≡ Some p) ⊎ (t.next ≤ p.request))
+        draws = (le t.next, λ p e. absurd (none_some p e))
