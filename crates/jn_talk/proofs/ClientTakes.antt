@@ -50,8 +50,8 @@ use Rattle.jn_talk.specs.Told.{ops_in, owner_in, begins_it, is_begun, at_place}
 use Rattle.jn_talk.proofs.Tellings.{SaysAs, ops-more, owner-more, begun-more, place-more, none-told}
 use Rattle.jn_talk.proofs.Acting.{acting, IsSilent, AreSilent}
 use Rattle.jn_talk.proofs.Facts.{said, counts, op_in, op_asked, IsOperation, IsAsking, IsNumbered, Hears, IsRunningAt, IsTalking, IsKept, IsDrawn, is_op_of, op_sent, IsOpenAt, IsKnown, IsStarted, Talk}
-use Rattle.jn_talk.proofs.Quiet.{IsDumb, same-told, map-all, none-of, silent-asks}
-use Rattle.jn_talk.proofs.Clients.{by-client, now, client-talks, running-still, table-started, plain-talks, same-client-talks}
+use Rattle.jn_talk.proofs.Quiet.{SameTold, IsDumb, same-told, map-all, none-of, silent-asks}
+use Rattle.jn_talk.proofs.Clients.{by-client, at-own, at-other, now, client-talks, running-still, table-started, plain-talks, same-client-talks}
 use Rattle.jn_talk.proofs.ClientTells.{its-begun, other-work}
 
 -- ---- one line more
@@ -140,6 +140,24 @@ module _ (events : List Event) (c : ClientNo) (j : ℕ) (s : ServerNo) (op : Op)
 
 or-false : (a b : Bool) → b ≡ false → (a || b) ≡ a
 or-false a b h = grind arith
+
+-- ---- one work more
+
+more-there : (q : ServerNo) (works : List OpenWork) (x y : OpenWork) → open_at q works ≡ Some y → open_at q (works ++ x ∷ []) ≡ Some y
+more-there q [] x y h = absurd (none_some y h)
+more-there q (u ∷ us) x y h = by (server_eq u.work.server q) h (more-there q us x y)
+  where
+    by : (b : Bool) → (if b then Some u else open_at q us) ≡ Some y → (open_at q us ≡ Some y → open_at q (us ++ x ∷ []) ≡ Some y) → (if b then Some u else open_at q (us ++ x ∷ [])) ≡ Some y
+    by true k on = k
+    by false k on = on k
+
+more-new : (q : ServerNo) (works : List OpenWork) (x : OpenWork) → open_at q works ≡ None → open_at q (works ++ x ∷ []) ≡ (if server_eq x.work.server q then Some x else None)
+more-new q [] x h = refl
+more-new q (u ∷ us) x h = by (server_eq u.work.server q) h (more-new q us x)
+  where
+    by : (b : Bool) → (if b then Some u else open_at q us) ≡ None → (open_at q us ≡ None → open_at q (us ++ x ∷ []) ≡ (if server_eq x.work.server q then Some x else None)) → (if b then Some u else open_at q (us ++ x ∷ [])) ≡ (if server_eq x.work.server q then Some x else None)
+    by true k on = absurd (none_some u (sym k))
+    by false k on = on k
 
 -- ---- the client takes a message that was sent
 
@@ -270,3 +288,198 @@ module _ (events : List Event) (r : World) (w : Machine) (mirrors : Mirrors r w)
       where
         draws : (t.next ≤ (idle t).next) × ((p : Outstanding) → (idle t).outstanding ≡ Some p → (t.outstanding ≡ Some p) ⊎ (t.next ≤ p.request))
         draws = (le t.next, λ p e. absurd (none_some p e))
+
+  -- ---- its transaction begins
+
+  module _ (o : Outstanding) (waits : t.outstanding ≡ Some o) (begins : is_begin o.command ≡ true) (T : Tid) (has : Has (opening c o.request T) (openings r.sent)) where
+    abbrev in-it : ClientTable
+    in-it = record (idle t) { transaction = Some T; works = [] }
+
+    abbrev begun-line : Text
+    begun-line = says.Begun c o.event T
+
+    abbrev begun-world : World
+    begun-world = now events r w c in-it [] (says.Begun c o.event T ∷ [])
+
+    -- no client was told so before
+    not-begun : is_begun T r.lines ≡ false
+    not-begun = false_unless (is_begun T r.lines) (λ e. clash (talk.started T e))
+      where
+        clash : IsStarted r T → ⊥
+        clash h = self o.request (subst (λ n. n < o.request) request (h.before o (ap (λ (d : ClientNo). (r.clients d).outstanding) client ∙ waits) begins))
+          where
+            same : opening h.client h.request T ≡ opening c o.request T
+            same = facts.unique (opening h.client h.request T) (opening c o.request T) h.has has refl
+
+            client : h.client ≡ c
+            client = ap (λ (a : Opening). a.client) same
+
+            request : h.request ≡ o.request
+            request = ap (λ (a : Opening). a.request) same
+
+            self : (n : ℕ) → n < n → ⊥
+            self n l = omega arith
+
+    said-so : (U : Tid) (q : ServerNo) → said events U q (r.lines ++ says.Begun c o.event T ∷ []) ≡ said events U q r.lines
+    said-so U q = said-more events U q r.lines (says.Begun c o.event T) ∙ by (owner_in U None r.lines)
+      where
+        by : (d : Option ClientNo) → said events U q r.lines ++ at_place q (answered_by events d (says.Begun c o.event T)) ≡ said events U q r.lines
+        by None = append-nil (said events U q r.lines)
+        by (Some d) = append-nil (said events U q r.lines)
+
+    owner-now : (U : Tid) → owner_in U None (r.lines ++ says.Begun c o.event T ∷ []) ≡ owner_after U (owner_in U None r.lines) (says.Begun c o.event T)
+    owner-now U = owner-more U None r.lines (says.Begun c o.event T ∷ [])
+
+    begun-now : (U : Tid) → is_begun U (r.lines ++ says.Begun c o.event T ∷ []) ≡ (is_begun U r.lines || (tid_eq U T || false))
+    begun-now U = begun-more U r.lines (says.Begun c o.event T ∷ [])
+
+    abbrev IsTid : Tid → Type 0
+    IsTid U = ((tid_eq U T ≡ true) × (U ≡ T)) ⊎ ((tid_eq U T ≡ false) × (U ≢ T))
+
+    -- a transaction that is another client's isn't this one
+    other-owner : (U : Tid) (d : ClientNo) → c ≢ d → owner_in U None r.lines ≡ Some d → owner_after U (Some d) (says.Begun c o.event T) ≡ Some d
+    other-owner U d ne e = by (tid_tells U T)
+      where
+        by : IsTid U → (if tid_eq U T then Some c else (if client_eq d c then None else Some d)) ≡ Some d
+        by (inl p) = absurd (not_both (is_begun U r.lines) (its-begun events U r.lines d e) (subst (λ (z : Tid). is_begun z r.lines ≡ false) (sym p.1) not-begun))
+        by (inr p) = ap (λ (b : Bool). if b then Some c else (if client_eq d c then None else Some d)) p.0 ∙ ap (λ (b : Bool). if b then None else Some d) (client-other d c (λ f. ne (sym f)))
+
+    own-owner : owner_in T None (r.lines ++ says.Begun c o.event T ∷ []) ≡ Some c
+    own-owner = owner-now T ∙ by (tid_tells T T)
+      where
+        by : IsTid T → (if tid_eq T T then Some c else (if is_client (owner_in T None r.lines) c then None else owner_in T None r.lines)) ≡ Some c
+        by (inl p) = ap (λ (b : Bool). if b then Some c else (if is_client (owner_in T None r.lines) c then None else owner_in T None r.lines)) p.0
+        by (inr p) = absurd (p.1 refl)
+
+    owners-now : (U : Tid) (d : ClientNo) → owner_in U None (r.lines ++ says.Begun c o.event T ∷ []) ≡ Some d → ((at_client r.clients c in-it d).transaction ≡ None) ⊎ ((at_client r.clients c in-it d).transaction ≡ Some U)
+    owners-now U d e = by (tid_tells U T) (sym (owner-now U) ∙ e)
+      where
+        its : U ≡ T → c ≡ d → ((at_client r.clients c in-it d).transaction ≡ None) ⊎ ((at_client r.clients c in-it d).transaction ≡ Some U)
+        its f g = inr (subst (λ (z : ClientNo). (at_client r.clients c in-it z).transaction ≡ Some U) g (ap (λ (z : ClientTable). z.transaction) (at-own r.clients c in-it) ∙ ap Some (sym f)))
+
+        another : (x : Option ClientNo) → owner_in U None r.lines ≡ x → (if is_client x c then None else x) ≡ Some d → ((at_client r.clients c in-it d).transaction ≡ None) ⊎ ((at_client r.clients c in-it d).transaction ≡ Some U)
+        another None f g = absurd (none_some d g)
+        another (Some h) f g = on (client_tells h c)
+          where
+            on : ((client_eq h c ≡ true) × (h ≡ c)) ⊎ ((client_eq h c ≡ false) × (h ≢ c)) → ((at_client r.clients c in-it d).transaction ≡ None) ⊎ ((at_client r.clients c in-it d).transaction ≡ Some U)
+            on (inl p) = absurd (none_some d (subst (λ (b : Bool). (if b then None else Some h) ≡ Some d) p.0 g))
+            on (inr p) = let same = some_is h d (subst (λ (b : Bool). (if b then None else Some h) ≡ Some d) p.0 g) in
+                subst (λ (z : ClientTable). (z.transaction ≡ None) ⊎ (z.transaction ≡ Some U)) (sym (at-other r.clients c d in-it (λ l. p.1 (same ∙ sym l)))) (talk.owners U d (f ∙ ap Some same))
+
+        by : IsTid U → (if tid_eq U T then Some c else (if is_client (owner_in U None r.lines) c then None else owner_in U None r.lines)) ≡ Some d → ((at_client r.clients c in-it d).transaction ≡ None) ⊎ ((at_client r.clients c in-it d).transaction ≡ Some U)
+        by (inl p) f = its p.1 (some_is c d (subst (λ (b : Bool). (if b then Some c else (if is_client (owner_in U None r.lines) c then None else owner_in U None r.lines)) ≡ Some d) p.0 f))
+        by (inr p) f = another (owner_in U None r.lines) refl (subst (λ (b : Bool). (if b then Some c else (if is_client (owner_in U None r.lines) c then None else owner_in U None r.lines)) ≡ Some d) p.0 f)
+
+    begun-own : IsTalking events begun-world w c in-it
+    begun-own = record {
+      asking = λ p e. absurd (none_some p e);
+      owner = λ U e. subst (λ (z : Tid). owner_in z None (r.lines ++ says.Begun c o.event T ∷ []) ≡ Some c) (some_is T U e) own-owner;
+      running = λ U e g q. subst (λ (z : Tid). said events z q (r.lines ++ says.Begun c o.event T ∷ []) ≡ []) (some_is T U e) (said-so T q ∙ ap (λ z. at_place q z) (none-told events T r.lines not-begun).0);
+    }
+
+    begun-draws : (t.next ≤ in-it.next) × ((p : Outstanding) → in-it.outstanding ≡ Some p → (t.outstanding ≡ Some p) ⊎ (t.next ≤ p.request))
+    begun-draws = (le t.next, λ p e. absurd (none_some p e))
+
+    begun-started : (U : Tid) → is_begun U (r.lines ++ says.Begun c o.event T ∷ []) ≡ true → IsStarted begun-world U
+    begun-started U e = by (is_begun U r.lines) refl (tid_tells U T)
+      where
+        its : IsStarted begun-world T
+        its = record {
+          client = c;
+          request = o.request;
+          has = subst (λ l. Has (opening c o.request T) (openings l)) (sym (append-nil r.sent)) has;
+          drawn = subst (λ (z : ClientTable). o.request < z.next) (sym (at-own r.clients c in-it)) ((facts.clients c).waits o waits).drawn;
+          before = λ p f g. absurd (none_some p (ap (λ (z : ClientTable). z.outstanding) (sym (at-own r.clients c in-it)) ∙ f));
+        }
+
+        by : (b : Bool) → is_begun U r.lines ≡ b → IsTid U → IsStarted begun-world U
+        by true f p = table-started events r w c in-it [] (says.Begun c o.event T ∷ []) begun-draws U (talk.started U f)
+        by false f (inl p) = subst (λ (z : Tid). IsStarted begun-world z) (sym p.1) its
+        by false f (inr p) = absurd (not_both true refl (sym (sym (begun-now U ∙ ap (λ (b : Bool). b || (tid_eq U T || false)) f ∙ ap (λ (b : Bool). b || false) p.0) ∙ e)))
+
+    begun-known : (W : WorkId) → IsKnown r w W → IsKnown begun-world w W
+    begun-known W g = record {
+      opened = g.opened;
+      begun = begun-now (w.owner W) ∙ ap (λ (b : Bool). b || (tid_eq (w.owner W) T || false)) g.begun;
+      its = by-client (λ d z. z.transaction ≡ Some (w.owner W) → IsOpenAt W (open_at W.server z.works)) r.clients c in-it
+          (λ e. absurd (not_both (is_begun (w.owner W) r.lines) g.begun (subst (λ (z : Tid). is_begun z r.lines ≡ false) (some_is T (w.owner W) e) not-begun))) (λ d ne. g.its d);
+    }
+
+    pub begun-talks : Talk events begun-world w
+    begun-talks = client-talks events r w c in-it [] (says.Begun c o.event T ∷ []) talk tt begun-own
+        (λ U d ne e. (owner-now U ∙ ap (λ z. owner_after U z (says.Begun c o.event T)) e ∙ other-owner U d ne e, said-so U)) (λ U e. said-so U) owners-now begun-draws (All-nil (IsDrawn begun-world)) (λ W e g. begun-known W g) begun-started
+
+  -- ---- a work is opened
+
+  module _ (o : Outstanding) (waits : t.outstanding ≡ Some o) (T : Tid) (current : t.transaction ≡ Some T) (W : WorkId) (command : o.command ≡ Open W.server) (closed : open_at W.server t.works ≡ None) (work : IsWorkOf w T W) where
+    abbrev new-work : OpenWork
+    new-work = record { work = W; last = 0 }
+
+    abbrev with-it : ClientTable
+    with-it = record (idle t) { works = t.works ++ new-work ∷ [] }
+
+    abbrev opened-world : World
+    opened-world = now events r w c with-it [] (says.Opened c o.event W.server ∷ [])
+
+    told-same-so : SameTold r.lines (r.lines ++ says.Opened c o.event W.server ∷ [])
+    told-same-so = same-told r.lines (says.Opened c o.event W.server ∷ []) (tt, tt)
+
+    -- no operation was sent for it
+    none-sent : op_sent W r.sent ≡ false
+    none-sent = false_unless (op_sent W r.sent) (λ e. subst (λ z. IsOpenAt W z) closed ((talk.known W e).its c (current ∙ ap Some (sym work.1))))
+
+    none-numbered : (z : Sent) → is_op_of W z ≡ false → IsNumbered new-work None z
+    none-numbered (to, messages.Op d request V number op) h = λ e. absurd (not_both (work_eq V W) (ap (λ (X : WorkId). work_eq X W) e ∙ work_same W) h)
+    none-numbered (to, _) h = tt
+
+    not-operation : is_operation o.command ≡ false
+    not-operation = ap is_operation command
+
+    its-open : IsRunningAt events opened-world w T None W.server (Some new-work)
+    its-open = (
+      subst (λ l. All (IsNumbered new-work None) l) (sym (append-nil r.sent)) (map-all (λ z. is_op_of W z ≡ false) (IsNumbered new-work None) r.sent none-numbered (none-of W r.sent none-sent)),
+      λ a f. let fresh = talk.unasked W none-sent a f in (fresh.0, subst (λ z. SaysAs z (w.trace W)) (sym (told-same-so.said events T W.server ∙ before)) fresh.1),
+    )
+      where
+        before : said events T W.server r.lines ≡ []
+        before = subst (λ z. IsRunningAt events r w T t.outstanding W.server z) closed ((talk.clients c).running T current (ap is_closing waits ∙ ap is_end_or_abort command) W.server)
+
+    open-running : (q : ServerNo) → IsRunningAt events r w T t.outstanding q (open_at q t.works) → IsRunningAt events opened-world w T None q (open_at q (t.works ++ new-work ∷ []))
+    open-running q h = by (open_at q t.works) refl (server_tells W.server q) h
+      where
+        still : (z : Option OpenWork) → IsRunningAt events r w T t.outstanding q z → IsRunningAt events opened-world w T None q z
+        still z g = running-still events r w c with-it [] (says.Opened c o.event W.server ∷ []) T q t.outstanding None z tt (told-same-so.said events T q) (λ y l. (quiet-waits o waits not-operation y.work, refl)) g
+
+        by : (z : Option OpenWork) → open_at q t.works ≡ z → ((server_eq W.server q ≡ true) × (W.server ≡ q)) ⊎ ((server_eq W.server q ≡ false) × (W.server ≢ q)) → IsRunningAt events r w T t.outstanding q z → IsRunningAt events opened-world w T None q (open_at q (t.works ++ new-work ∷ []))
+        by (Some y) e p g = subst (λ z. IsRunningAt events opened-world w T None q z) (sym (more-there q t.works new-work y e)) (still (Some y) g)
+        by None e (inl p) g = subst (λ z. IsRunningAt events opened-world w T None q z) (sym (more-new q t.works new-work e ∙ ap (λ (b : Bool). if b then Some new-work else None) p.0))
+            (subst (λ (z : ServerNo). IsRunningAt events opened-world w T None z (Some new-work)) p.1 its-open)
+        by None e (inr p) g = subst (λ z. IsRunningAt events opened-world w T None q z) (sym (more-new q t.works new-work e ∙ ap (λ (b : Bool). if b then Some new-work else None) p.0)) (still None g)
+
+    opened-own : IsTalking events opened-world w c with-it
+    opened-own = record {
+      asking = λ p e. absurd (none_some p e);
+      owner = λ U e. told-same-so.owner U ∙ (talk.clients c).owner U e;
+      running = λ U e g q. subst (λ (z : Tid). IsRunningAt events opened-world w z None q (open_at q (t.works ++ new-work ∷ []))) (some_is T U (sym current ∙ e))
+          (open-running q ((talk.clients c).running T current (ap is_closing waits ∙ ap is_end_or_abort command) q));
+    }
+
+    open-more : (V : WorkId) (q : ServerNo) → IsOpenAt V (open_at q t.works) → IsOpenAt V (open_at q (t.works ++ new-work ∷ []))
+    open-more V q h = by (open_at q t.works) refl h
+      where
+        by : (z : Option OpenWork) → open_at q t.works ≡ z → IsOpenAt V z → IsOpenAt V (open_at q (t.works ++ new-work ∷ []))
+        by None e g = absurd g
+        by (Some y) e g = subst (λ z. IsOpenAt V z) (sym (more-there q t.works new-work y e)) g
+
+    opened-draws : (t.next ≤ with-it.next) × ((p : Outstanding) → with-it.outstanding ≡ Some p → (t.outstanding ≡ Some p) ⊎ (t.next ≤ p.request))
+    opened-draws = (le t.next, λ p e. absurd (none_some p e))
+
+    pub opened-talks : Talk events opened-world w
+    opened-talks = client-talks events r w c with-it [] (says.Opened c o.event W.server ∷ []) talk tt opened-own
+        (λ U d ne e. (told-same-so.owner U ∙ e, told-same-so.said events U)) (λ U e. told-same-so.said events U)
+        (λ U d e. by-client (λ d z. owner_in U None r.lines ≡ Some d → (z.transaction ≡ None) ⊎ (z.transaction ≡ Some U)) r.clients c with-it (talk.owners U c) (λ d ne. talk.owners U d) d (sym (told-same-so.owner U) ∙ e))
+        opened-draws (All-nil (IsDrawn opened-world)) (λ V e g. record {
+          opened = g.opened;
+          begun = told-same-so.begun (w.owner V) ∙ g.begun;
+          its = by-client (λ d z. z.transaction ≡ Some (w.owner V) → IsOpenAt V (open_at V.server z.works)) r.clients c with-it (λ f. open-more V V.server (g.its c f)) (λ d ne. g.its d);
+        }) (λ U e. table-started events r w c with-it [] (says.Opened c o.event W.server ∷ []) opened-draws U (talk.started U (sym (told-same-so.begun U) ∙ e)))
