@@ -483,3 +483,141 @@ module _ (events : List Event) (r : World) (w : Machine) (mirrors : Mirrors r w)
           begun = told-same-so.begun (w.owner V) ∙ g.begun;
           its = by-client (λ d z. z.transaction ≡ Some (w.owner V) → IsOpenAt V (open_at V.server z.works)) r.clients c with-it (λ f. open-more V V.server (g.its c f)) (λ d ne. g.its d);
         }) (λ U e. table-started events r w c with-it [] (says.Opened c o.event W.server ∷ []) opened-draws U (talk.started U (sym (told-same-so.begun U) ∙ e)))
+
+  -- ---- every message
+
+  abbrev TakeTalks : ClientTable × Taken → Type 0
+  TakeTalks row = Talk events (took c k row.0 row.1 r) w
+
+  ignores : TakeTalks (t, taken.Ignored)
+  ignores = subst (λ l. Talk events (record r { clients = at_client r.clients c t; sent = l; lines = r.lines ++ says.Ignored k ∷ [] }) w) (append-nil r.sent) (same-client-talks events r w c [] (says.Ignored k ∷ []) talk tt (tt, tt))
+
+  where-waits : (o : Option Outstanding) (test : Outstanding → Bool) (row : ℕ → ClientTable × Taken) → t.outstanding ≡ o → ((x : Outstanding) → t.outstanding ≡ Some x → test x ≡ true → TakeTalks (row x.event)) → TakeTalks (if_waits t o test row)
+  where-waits None test row e h = ignores
+  where-waits (Some o) test row e h = by (test o) refl
+    where
+      by : (b : Bool) → test o ≡ b → TakeTalks (if b then row o.event else (t, taken.Ignored))
+      by true f = h o e f
+      by false f = ignores
+
+  either : (b : Bool) (p q : ClientTable × Taken) → (b ≡ true → TakeTalks p) → TakeTalks q → TakeTalks (if b then p else q)
+  either true p q h l = h refl
+  either false p q h l = l
+
+  first-of : (a b : Bool) → (a && b) ≡ true → a ≡ true
+  first-of a b h = grind arith
+
+  second-of : (a b : Bool) → (a && b) ≡ true → b ≡ true
+  second-of a b h = grind arith
+
+  -- a refusal is told
+  refused-talks : (o : Outstanding) (text : Text) → t.outstanding ≡ Some o → is_operation o.command ≡ false → is_end_or_abort o.command ≡ false → IsDumb text → TakeTalks (idle t, taken.Told text None)
+  refused-talks o text e none stays dumb = plain-talks events r w c (idle t) [] (text ∷ []) talk tt (dumb, tt) (le t.next, λ p f. absurd (none_some p f)) (λ T f. (f, refl)) (λ p f. absurd (none_some p f))
+      (λ T f g. (ap is_closing e ∙ stays, λ W. (quiet-waits o e none W, refl)))
+
+  -- its transaction is over
+  over-talks : (text : Text) (more : List Sent) → IsDumb text → AreSilent more → Talk events (now events r w c (over t) more (text ∷ [])) w
+  over-talks text more dumb silent = plain-talks events r w c (over t) more (text ∷ []) talk silent (dumb, tt) (le t.next, λ p f. absurd (none_some p f)) (λ T f. absurd (none_some T f)) (λ p f. absurd (none_some p f)) (λ T f. absurd (none_some T f))
+
+  begin-command : (command : Command) → is_begin command ≡ true → (is_operation command ≡ false) × (is_end_or_abort command ≡ false)
+  begin-command (Begin s) e = (refl, refl)
+  begin-command (Open s) e = absurd (not_both true refl (sym e))
+  begin-command (Do s op) e = absurd (not_both true refl (sym e))
+  begin-command End e = absurd (not_both true refl (sym e))
+  begin-command Abort e = absurd (not_both true refl (sym e))
+
+  open-command : (answer : Option WorkId) (command : Command) → opens answer command ≡ true → (is_operation command ≡ false) × (is_end_or_abort command ≡ false)
+  open-command (Some W) (Open s) e = (refl, refl)
+  open-command None (Open s) e = (refl, refl)
+  open-command (Some W) (Begin s) e = absurd (not_both true refl (sym e))
+  open-command None (Begin s) e = absurd (not_both true refl (sym e))
+  open-command (Some W) (Do s op) e = absurd (not_both true refl (sym e))
+  open-command None (Do s op) e = absurd (not_both true refl (sym e))
+  open-command (Some W) End e = absurd (not_both true refl (sym e))
+  open-command None End e = absurd (not_both true refl (sym e))
+  open-command (Some W) Abort e = absurd (not_both true refl (sym e))
+  open-command None Abort e = absurd (not_both true refl (sym e))
+
+  opens-at : (W : WorkId) (command : Command) → opens (Some W) command ≡ true → command ≡ Open W.server
+  opens-at W (Open s) e = by (server_tells W.server s)
+    where
+      by : ((server_eq W.server s ≡ true) × (W.server ≡ s)) ⊎ ((server_eq W.server s ≡ false) × (W.server ≢ s)) → Open s ≡ Open W.server
+      by (inl p) = ap Open (sym p.1)
+      by (inr p) = absurd (not_both (server_eq W.server s) e p.0)
+  opens-at W (Begin s) e = absurd (not_both true refl (sym e))
+  opens-at W (Do s op) e = absurd (not_both true refl (sym e))
+  opens-at W End e = absurd (not_both true refl (sym e))
+  opens-at W Abort e = absurd (not_both true refl (sym e))
+
+  its-tid : (T : Tid) (o : Option Tid) → is_tid T o ≡ true → o ≡ Some T
+  its-tid T None e = absurd (not_both true refl (sym e))
+  its-tid T (Some U) e = by (tid_tells T U)
+    where
+      by : ((tid_eq T U ≡ true) × (T ≡ U)) ⊎ ((tid_eq T U ≡ false) × (T ≢ U)) → Some U ≡ Some T
+      by (inl p) = ap Some (sym p.1)
+      by (inr p) = absurd (not_both (tid_eq T U) e p.0)
+
+  module _ (message : Message) (sent : slice_get r.sent k ≡ Some (Client c, message)) where
+    begun-takes : (d : ClientNo) (request : ℕ) (answer : Option Tid) → message ≡ messages.Begun d request answer → (o : Outstanding) → t.outstanding ≡ Some o → client_eq d t.client ≡ true → nat_eq o.request request ≡ true → is_begin o.command ≡ true → TakeTalks (begun_row t o.event answer)
+    begun-takes d request None m o e f g b = refused-talks o _ e (begin-command o.command b).0 (begin-command o.command b).1 tt
+    begun-takes d request (Some T) m o e f g b = subst (λ (z : ClientNo). Talk events (now events r w c (record (idle t) { transaction = Some T; works = [] }) [] (says.Begun z o.event T ∷ [])) w) (sym its-name) (begun-talks o e b T has)
+      where
+        all : (a : Opening) → Has a (opening_in (Client c, messages.Begun d request (Some T))) → Has a (openings r.sent)
+        all = holds-of (λ (x : Sent). (a : Opening) → Has a (opening_in x) → Has a (openings r.sent)) r.sent k (Client c, messages.Begun d request (Some T)) (all-have-theirs r.sent) (sent ∙ ap (λ z. Some (Client c, z)) m)
+
+        has : Has (opening c o.request T) (openings r.sent)
+        has = subst (λ (z : ClientNo). Has (opening z o.request T) (openings r.sent)) (is-client d t.client f ∙ its-name) (subst (λ n. Has (opening d n T) (openings r.sent)) (sym (same-number o.request request g)) (all (opening d request T) (inl refl)))
+
+    opened-takes : (T : Tid) (answer : Option WorkId) (o : Outstanding) → t.outstanding ≡ Some o → is_current t T ≡ true → opens answer o.command ≡ true → Says w (messages.Opened c 0 T answer) → TakeTalks (opened_row t o.event answer)
+    opened-takes T None o e f g said = refused-talks o _ e (open-command None o.command g).0 (open-command None o.command g).1 tt
+    opened-takes T (Some W) o e f g said = subst (λ (z : ClientNo). Talk events (now events r w c (record (idle t) { works = t.works ++ (record { work = W; last = 0 }) ∷ [] }) [] (says.Opened z o.event W.server ∷ [])) w) (sym its-name)
+        (opened-talks o e T (its-tid T t.transaction f) W (opens-at W o.command g) ((mirrors.clients c).opening o W.server e (opens-at W o.command g)) said)
+
+    answer-takes : (d : ClientNo) (request : ℕ) (answer : Answer) → message ≡ messages.Answer d request answer → (o : Outstanding) → t.outstanding ≡ Some o → client_eq d t.client ≡ true → nat_eq o.request request ≡ true → is_operation o.command ≡ true
+        → TakeTalks (idle t, taken.Told (answer_line t.client o.event answer) None)
+    answer-takes d request answer m o e f g b = by o.command refl b ((talk.clients c).asking o e)
+      where
+        drawn : IsDrawn r (Client c, messages.Answer d request answer)
+        drawn = holds-of (IsDrawn r) r.sent k (Client c, messages.Answer d request answer) talk.drawn (sent ∙ ap (λ z. Some (Client c, z)) m)
+
+        kept : IsKept r answer o.message
+        kept = drawn.1 o (ap (λ (z : ClientNo). (r.clients z).outstanding) (is-client d t.client f ∙ its-name) ∙ e) (same-number o.request request g)
+
+        by : (command : Command) → o.command ≡ command → is_operation command ≡ true → IsAsking events c t o command → TakeTalks (idle t, taken.Told (answer_line t.client o.event answer) None)
+        by (Do s op) h l its = subst (λ (z : ClientNo). Talk events (now events r w c (idle t) [] (answer_line z o.event answer ∷ [])) w) (sym its-name) (answer-talks o e s op h its answer kept)
+        by (Begin s) h l its = absurd (not_both true refl (sym l))
+        by (Open s) h l its = absurd (not_both true refl (sym l))
+        by End h l its = absurd (not_both true refl (sym l))
+        by Abort h l its = absurd (not_both true refl (sym l))
+
+    decided-takes : (T : Tid) (line : ℕ → Text) → ((j : ℕ) → IsDumb (line j)) → TakeTalks (decided_row t T line)
+    decided-takes T line dumb = either (is_current t T) _ _ (λ e. where-waits t.outstanding _ _ refl (λ o f g. over-talks (line o.event) _ (dumb o.event) (tt, tt)))
+        (subst (λ l. Talk events (record r { clients = at_client r.clients c t; sent = r.sent ++ (Server T.server, messages.Thanks t.client T) ∷ []; lines = l }) w) (append-nil r.lines)
+        (same-client-talks events r w c ((Server T.server, messages.Thanks t.client T) ∷ []) [] talk (tt, tt) tt))
+
+    outcome-takes : (T : Tid) (outcome : Outcome) → TakeTalks (outcome_row t T outcome)
+    outcome-takes T outcomes.Committed = decided-takes T _ (λ j. tt)
+    outcome-takes T (outcomes.Aborted cause) = decided-takes T _ (λ j. tt)
+    outcome-takes T (outcomes.Waiting s u by) = either (is_current t T) _ _ (λ e. where-waits t.outstanding _ _ refl (λ o f g. same-client-talks events r w c [] (says.Waiting t.client o.event s u by ∷ []) talk tt (tt, tt))) ignores
+    outcome-takes T (outcomes.NotKnown s epoch) = either (is_current t T) _ _ (λ e. where-waits t.outstanding _ _ refl (λ o f g. over-talks _ [] tt tt)) ignores
+
+  pub take-talks : (message : Message) → slice_get r.sent k ≡ Some (Client c, message) → Says w message → Talk events (taken_by c k (take_row t message) r) w
+  take-talks (messages.Begun d request answer) sent said = where-waits t.outstanding _ _ refl (λ o e f. let g = second-of (client_eq d t.client) _ f in
+      begun-takes (messages.Begun d request answer) sent d request answer refl o e (first-of (client_eq d t.client) _ f) (first-of (nat_eq o.request request) (is_begin o.command) g) (second-of (nat_eq o.request request) (is_begin o.command) g))
+  take-talks (messages.Opened d request T answer) sent said = where-waits t.outstanding _ _ refl (λ o e f. let g = second-of (nat_eq o.request request) _ (second-of (client_eq d t.client) _ f) in
+      opened-takes (messages.Opened d request T answer) sent T answer o e (first-of (is_current t T) (opens answer o.command) g) (second-of (is_current t T) (opens answer o.command) g) said)
+  take-talks (messages.Answer d request answer) sent said = where-waits t.outstanding _ _ refl (λ o e f. let g = second-of (client_eq d t.client) _ f in
+      answer-takes (messages.Answer d request answer) sent d request answer refl o e (first-of (client_eq d t.client) _ f) (first-of (nat_eq o.request request) (is_operation o.command) g) (second-of (nat_eq o.request request) (is_operation o.command) g))
+  take-talks (messages.Outcome d T outcome) sent said = either (client_eq d t.client) _ _ (λ e. outcome-takes (messages.Outcome d T outcome) sent T outcome) ignores
+  take-talks (messages.Begin d request) sent said = ignores
+  take-talks (messages.Open d request T) sent said = ignores
+  take-talks (messages.Op d request W number op) sent said = ignores
+  take-talks (messages.End d request T works) sent said = ignores
+  take-talks (messages.Abort d request T works) sent said = ignores
+  take-talks (messages.Thanks d T) sent said = ignores
+  take-talks (messages.Prepare T d W) sent said = ignores
+  take-talks (messages.Commit T W) sent said = ignores
+  take-talks (messages.Drop T W) sent said = ignores
+  take-talks (messages.Vote T W vote) sent said = ignores
+  take-talks (messages.Done T W) sent said = ignores
+  take-talks (messages.Inquire T W) sent said = ignores
