@@ -9,3 +9,4 @@ pub mod OpSteps
 pub mod Clients
 pub mod ClientTells
 pub mod ClientTakes
+pub mod Ends
