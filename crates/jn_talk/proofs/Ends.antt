@@ -54,11 +54,11 @@ IsOther c d = ((client_eq c d ≡ true) × (c ≡ d)) ⊎ ((client_eq c d ≡ fa
 -- ---- the machine's step
 
 -- its work at a server
-abbrev work_in : Option OpenWork → Option WorkId
+abbrev pub work_in : Option OpenWork → Option WorkId
 work_in None = None
 work_in (Some x) = Some x.work
 
-abbrev parts_of : List OpenWork → ServerNo → Option WorkId
+abbrev pub parts_of : List OpenWork → ServerNo → Option WorkId
 parts_of works s = work_in (work_at s works)
 
 none-work : (W : WorkId) → None ≡ Some W → ⊥

@@ -10,3 +10,4 @@ pub mod Clients
 pub mod ClientTells
 pub mod ClientTakes
 pub mod Ends
+pub mod Runs
