@@ -11,3 +11,4 @@ pub mod ClientTells
 pub mod ClientTakes
 pub mod Ends
 pub mod Runs
+pub mod Agreeing
