@@ -1,7 +1,7 @@
 -- The commits of the lines are those of the machine, with what its works did.
 use Rattle.std.proofs.Common.{◌≡◌, ◌⊎◌, inl, inr, ℕ, ◌+◌, Bool, true, false, List, [], ◌∷◌, ◌++◌, append-nil, Option, Some, None, refl, sym, ◌∙◌, ap, subst, arith}
 use Rattle.std.proofs.Math.Path.{fun_ext}
-use Rattle.std.specs.Prelude.{◌||◌, All}
+use Rattle.std.specs.Prelude.{◌||◌}
 use Rattle.std.specs.List.{list_any}
 use Rattle.std.proofs.lemmas.List.Elements.{All-nil}
 use Rattle.jn_base.specs.declared.names.ServerNo.{ServerNo}
@@ -10,16 +10,13 @@ use Rattle.jn_base.specs.declared.names.Tid.{Tid}
 use Rattle.jn_base.specs.declared.names.WorkId.{WorkId}
 use Rattle.jn_base.specs.Names.{tid_eq}
 use Rattle.jn_base.proofs.Tells.{tid_tells}
-use Rattle.jn_order.specs.Files.{Files, AllFiles, change}
+use Rattle.jn_order.specs.Files.{AllFiles, change}
 use Rattle.jn_schedule.specs.declared.Event.{Event}
 use Rattle.jn_report.specs.declared.line.Line.{Line}
-use Rattle.jn_rows.specs.declared.worker.ActiveWork.{ActiveWork}
 use Rattle.jn_rows.specs.Stable.{Pick, stable}
-use Rattle.jn_rows.specs.Worker.{commit_holder}
 use Rattle.jn_serial.specs.Lines.{history_of}
 use Rattle.jn_serial.specs.declared.files.Performed.{Performed}
 use Rattle.jn_serial.specs.Order.{ops_of, files_then, replay as replay-lines, GivesAnswers, AgreesFrom}
-use Rattle.jn_machine.specs.Held.{file_unit}
 use Rattle.jn_machine.specs.Traces.{Answered, effects, Agrees}
 use Rattle.jn_machine.specs.World.{World as Machine, Commit, replay, IsSerial}
 use Rattle.jn_machine.specs.Steps.{Atom, trace_of, run as run_atoms, opening_world}
@@ -29,7 +26,7 @@ use Rattle.jn_machine.specs.Order.{has_committed, HasTraces, IsInOrder as InOrde
 use Rattle.jn_machine.proofs.Updates.{not_both, false_unless}
 use Rattle.jn_machine.proofs.Runs.{run_kept, opening_kept}
 use Rattle.jn_machine.proofs.History.{IsTold, run_told, opening_told, in_order}
-use Rattle.jn_protocol.specs.World.{World, Memory, commits_in, opening}
+use Rattle.jn_protocol.specs.World.{World, commits_in, opening}
 use Rattle.jn_protocol.specs.Steps.{Step, IsRun, after, run}
 use Rattle.jn_protocol.specs.LockFacts.{LockFacts, ServerFact}
 use Rattle.jn_protocol.proofs.Steps.{locks-keep, opening-keeps}
@@ -43,9 +40,8 @@ use Rattle.jn_runs.proofs.Unlocked.{writes-nothing}
 use Rattle.jn_talk.specs.Told.{ops_in, at_place}
 use Rattle.jn_talk.specs.Agreement.{AreAsTold}
 use Rattle.jn_talk.proofs.Tellings.{SaysAs, as-itself, all-answers}
-use Rattle.jn_talk.proofs.Acting.{acting}
 use Rattle.jn_talk.proofs.Facts.{said, IsDrawn, IsEndedAt, Talk}
-use Rattle.jn_talk.proofs.Runs.{TellsAs, AllTell, Goes, goes-on}
+use Rattle.jn_talk.proofs.Runs.{TellsAs, AllTell, goes-on}
 
 -- ---- the start
 

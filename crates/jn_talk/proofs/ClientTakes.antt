@@ -30,7 +30,6 @@ use Rattle.jn_rows.specs.declared.client.Taken.{Taken}
 use Rattle.jn_rows.specs.declared.client.Taken.TheVariants as taken
 use Rattle.jn_rows.specs.Outcomes.{Sent}
 use Rattle.jn_rows.specs.Client.{ClientTable, work_at as open_at, is_begin, is_operation, is_end_or_abort, opens, is_current, is_tid, if_waits, idle, over, begun_row, opened_row, answer_line, decided_row, outcome_row, take_row}
-use Rattle.jn_serial.specs.declared.files.Performed.{Performed}
 use Rattle.jn_serial.specs.Lines.{event_at}
 use Rattle.jn_serial.specs.Order.{performed_in, answered_by, owner_after, is_client}
 use Rattle.jn_lock_rows.proofs.Works.{work_same}
@@ -48,7 +47,7 @@ use Rattle.jn_runs.proofs.Facts.{opening, is_closing, Facts}
 use Rattle.jn_runs.proofs.ClientFacts.{all-have-theirs}
 use Rattle.jn_talk.specs.Told.{ops_in, owner_in, begins_it, is_begun, at_place}
 use Rattle.jn_talk.proofs.Tellings.{SaysAs, ops-more, owner-more, begun-more, place-more, none-told}
-use Rattle.jn_talk.proofs.Acting.{acting, IsSilent, AreSilent}
+use Rattle.jn_talk.proofs.Acting.{acting, AreSilent}
 use Rattle.jn_talk.proofs.Facts.{said, counts, op_in, op_asked, IsOperation, IsAsking, IsNumbered, Hears, IsRunningAt, IsTalking, IsKept, IsDrawn, is_op_of, op_sent, IsOpenAt, IsKnown, IsStarted, Talk}
 use Rattle.jn_talk.proofs.Quiet.{SameTold, IsDumb, same-told, map-all, none-of, silent-asks}
 use Rattle.jn_talk.proofs.Clients.{by-client, at-own, at-other, now, client-talks, running-still, table-started, plain-talks, same-client-talks}

@@ -12,3 +12,4 @@ pub mod ClientTakes
 pub mod Ends
 pub mod Runs
 pub mod Agreeing
+pub mod Reports

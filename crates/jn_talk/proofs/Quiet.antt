@@ -85,7 +85,7 @@ dumb-begun : (T : Tid) (text : Text) → IsDumb text → begins_it T text ≡ fa
 dumb-begun T (says.Begun d j U) h = absurd h
 dumb-begun T _ h = refl
 
-dumb-ops : (events : List Event) (T : Tid) (o : Option ClientNo) (texts : List Text) → AreDumb texts → ops_in events T o texts ≡ []
+pub dumb-ops : (events : List Event) (T : Tid) (o : Option ClientNo) (texts : List Text) → AreDumb texts → ops_in events T o texts ≡ []
 dumb-ops events T o [] h = refl
 dumb-ops events T o (x ∷ texts) h = ap (λ z. z ++ ops_in events T (owner_after T o x) texts) (by o) ∙ dumb-ops events T (owner_after T o x) texts h.1
   where
@@ -93,7 +93,7 @@ dumb-ops events T o (x ∷ texts) h = ap (λ z. z ++ ops_in events T (owner_afte
     by None = refl
     by (Some c) = dumb-answers events c x h.0
 
-dumb-owners : (T : Tid) (o : Option ClientNo) (texts : List Text) → AreDumb texts → owner_in T o texts ≡ o
+pub dumb-owners : (T : Tid) (o : Option ClientNo) (texts : List Text) → AreDumb texts → owner_in T o texts ≡ o
 dumb-owners T o [] h = refl
 dumb-owners T o (x ∷ texts) h = ap (λ z. owner_in T z texts) (dumb-owner T o x h.0) ∙ dumb-owners T o texts h.1
 

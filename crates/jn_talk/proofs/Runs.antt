@@ -1,15 +1,12 @@
 -- Every step keeps the talk, whatever steps come one after another.
-use Rattle.std.proofs.Common.{◌≡◌, ◌⊎◌, inl, inr, ℕ, ◌+◌, Bool, true, false, List, [], ◌∷◌, ◌++◌, append-nil, Option, Some, None, refl, sym, ◌∙◌, ap, subst}
-use Rattle.std.specs.Prelude.{slice_get, is_some, All}
-use Rattle.std.specs.List.{list_any}
+use Rattle.std.proofs.Common.{◌≡◌, inl, ℕ, true, List, [], ◌∷◌, ◌++◌, append-nil, Option, Some, None, refl, sym, ◌∙◌, ap, subst}
+use Rattle.std.specs.Prelude.{slice_get, is_some}
 use Rattle.jn_base.specs.declared.names.ServerNo.{ServerNo}
 use Rattle.jn_base.specs.declared.names.ClientNo.{ClientNo}
 use Rattle.jn_base.specs.declared.names.Tid.{Tid}
-use Rattle.jn_base.specs.declared.names.WorkId.{WorkId}
 use Rattle.jn_base.specs.declared.names.Party.TheVariants.{Client, Server}
 use Rattle.jn_base.specs.declared.op.Command.{Command}
 use Rattle.jn_base.specs.declared.op.Command.TheVariants.{Begin, Open, Do, End, Abort}
-use Rattle.jn_base.specs.Names.{tid_eq}
 use Rattle.jn_order.specs.Files.{AllFiles}
 use Rattle.jn_schedule.specs.declared.Event.{Event}
 use Rattle.jn_schedule.specs.declared.Event.TheVariants.{Command as CommandOf}
@@ -18,14 +15,13 @@ use Rattle.jn_msgs.specs.declared.message.Message.{Message}
 use Rattle.jn_msgs.specs.declared.message.Message.TheVariants as messages
 use Rattle.jn_report.specs.declared.line.Refusal.{Refusal}
 use Rattle.jn_report.specs.declared.line.Refusal.TheVariants as refusals
-use Rattle.jn_report.specs.declared.line.Text.{Text}
 use Rattle.jn_report.specs.declared.line.Text.TheVariants as says
 use Rattle.jn_rows.specs.declared.client.Outstanding.{Outstanding}
 use Rattle.jn_rows.specs.declared.client.Taken.{Taken}
 use Rattle.jn_rows.specs.declared.client.Taken.TheVariants as taken
 use Rattle.jn_rows.specs.Stable.{Pick}
 use Rattle.jn_rows.specs.Outcomes.{Sent}
-use Rattle.jn_rows.specs.Client.{ClientTable, Commanded, Refuses, Sends, command_row, take_row, if_idle, if_transaction, names_of, sends, sent_again}
+use Rattle.jn_rows.specs.Client.{ClientTable, Commanded, Refuses, Sends, command_row, take_row, if_idle, if_transaction, names_of, sends}
 use Rattle.jn_machine.specs.World.{World as Machine}
 use Rattle.jn_machine.specs.Invariant.{Invariant}
 use Rattle.jn_machine.specs.Steps.{Atom, End as Ends, run as run_atoms, opening_world}
@@ -35,25 +31,22 @@ use Rattle.jn_machine.specs.Order.{has_committed}
 use Rattle.jn_machine.proofs.Runs.{run_kept, opening_kept}
 use Rattle.jn_machine.proofs.MessageLemmas.{run_grows, says_still}
 use Rattle.jn_machine.proofs.History.{run_told, opening_told}
-use Rattle.jn_protocol.specs.World.{World, Memory, at_client, commits_in, has_line, opening, new_memory}
+use Rattle.jn_protocol.specs.World.{World, commits_in}
 use Rattle.jn_protocol.specs.Servers.{Room}
-use Rattle.jn_protocol.specs.Steps.{Step, NextEvent, Tell, Again, Deliver, Work, Nudge, Timeout, StopDelivery, StopWork, Crash, Narrow, StopRestart, Restart, IsStep, IsRun, after, run, handed, at_memory, commanded, tell, again, took, taken_by, sent_now}
-use Rattle.jn_protocol.specs.LockFacts.{LockFacts, ServerFact}
-use Rattle.jn_protocol.proofs.Steps.{locks-keep}
+use Rattle.jn_protocol.specs.Steps.{Step, NextEvent, Tell, Again, Deliver, Work, Nudge, Timeout, StopDelivery, StopWork, Crash, Narrow, StopRestart, Restart, IsStep, after, handed, at_memory, commanded, tell, again, took}
+use Rattle.jn_protocol.specs.LockFacts.{LockFacts}
 use Rattle.jn_moves.specs.Mirrors.{Mirrors, MovesTo, IsAddressed, IsTrue, is_shown, active_in, next_in, known_in}
-use Rattle.jn_moves.proofs.Losing.{run-append, may-append}
-use Rattle.jn_moves.proofs.Mirrored.{All-grows, client-still, commits-more}
+use Rattle.jn_moves.proofs.Mirrored.{All-grows, client-still}
 use Rattle.jn_moves.proofs.ClientRows.{Takes, takes}
 use Rattle.jn_moves.proofs.ClientMoves.{quiet-line, stays-with}
-use Rattle.jn_moves.proofs.StepMoves.{step-moves, committed-any, holds-of}
+use Rattle.jn_moves.proofs.StepMoves.{step-moves, holds-of}
 use Rattle.jn_runs.proofs.Facts.{Facts}
 use Rattle.jn_runs.proofs.ServerFacts.{still-facts, message-facts, work-facts, nudge-facts, timeout-facts, crash-facts, narrow-facts, raise-facts, restart-facts}
 use Rattle.jn_runs.proofs.ClientSteps.{tell-facts, again-facts, taken-facts}
 use Rattle.jn_talk.proofs.Facts.{IsDrawn, Talk}
-use Rattle.jn_talk.proofs.Quiet.{IsDumb, Moved, moved, IsQuiet, told-same, of-quiet, serving-talks}
+use Rattle.jn_talk.proofs.Quiet.{IsDumb, Moved, IsQuiet, told-same, of-quiet, serving-talks}
 use Rattle.jn_talk.proofs.ServerSteps.{nothing-quiet, at-memory-quiet, work-quiet, nudge-quiet, timeout-quiet, crash-quiet, narrow-quiet, raise-quiet, up-quiet}
-use Rattle.jn_talk.proofs.Rows.{is_op}
-use Rattle.jn_talk.proofs.OpSteps.{Serves, still-serves, named-so, moved-by, op-steps}
+use Rattle.jn_talk.proofs.OpSteps.{Serves, still-serves, moved-by, op-steps}
 use Rattle.jn_talk.proofs.Clients.{no-client-talks}
 use Rattle.jn_talk.proofs.ClientTells.{tell-talks, again-talks}
 use Rattle.jn_talk.proofs.ClientTakes.{take-talks}
