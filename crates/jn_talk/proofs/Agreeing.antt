@@ -27,7 +27,7 @@ use Rattle.jn_machine.proofs.Updates.{not_both, false_unless}
 use Rattle.jn_machine.proofs.Runs.{run_kept, opening_kept}
 use Rattle.jn_machine.proofs.History.{IsTold, run_told, opening_told, in_order}
 use Rattle.jn_protocol.specs.World.{World, commits_in, opening}
-use Rattle.jn_protocol.specs.Steps.{Step, IsRun, after, run}
+use Rattle.jn_protocol.specs.Steps.{Step, IsStep, after}
 use Rattle.jn_protocol.specs.LockFacts.{LockFacts, ServerFact}
 use Rattle.jn_protocol.proofs.Steps.{locks-keep, opening-keeps}
 use Rattle.jn_moves.specs.Mirrors.{Mirrors, commits_of}
@@ -41,7 +41,7 @@ use Rattle.jn_talk.specs.Told.{ops_in, at_place}
 use Rattle.jn_talk.specs.Agreement.{AreAsTold}
 use Rattle.jn_talk.proofs.Tellings.{SaysAs, as-itself, all-answers}
 use Rattle.jn_talk.proofs.Facts.{said, IsDrawn, IsEndedAt, Talk}
-use Rattle.jn_talk.proofs.Runs.{TellsAs, AllTell, goes-on}
+use Rattle.jn_talk.proofs.Runs.{TellsAs, goes-on}
 
 -- ---- the start
 
@@ -74,7 +74,7 @@ pub record Stands (events : List Event) (files : AllFiles) (epochs : ServerNo �
   pub talk : Talk events r (run_atoms atoms (opening_world files epochs))
 
 module _ (events : List Event) (files : AllFiles) (epochs : ServerNo → ℕ) where
-  pub step-stands : (step : Step) (r : World) → Rattle.jn_protocol.specs.Steps.IsStep step r → TellsAs events step r → Stands events files epochs r → Stands events files epochs (after step r)
+  pub step-stands : (step : Step) (r : World) → IsStep step r → TellsAs events step r → Stands events files epochs r → Stands events files epochs (after step r)
   step-stands step r i e h = let next = goes-on events files epochs h.atoms h.may r h.mirrors h.facts h.locks h.talk step i e in let same = run-append h.atoms next.atoms (opening_world files epochs) in record {
     atoms = h.atoms ++ next.atoms;
     may = may-append h.atoms next.atoms (opening_world files epochs) h.may next.may;
@@ -83,10 +83,6 @@ module _ (events : List Event) (files : AllFiles) (epochs : ServerNo → ℕ) wh
     locks = locks-keep step r i h.locks;
     talk = subst (λ (z : Machine). Talk events (after step r) z) (sym same) next.talk;
   }
-
-  pub run-stands : (steps : List Step) (r : World) → IsRun steps r → AllTell events steps r → Stands events files epochs r → Stands events files epochs (run steps r)
-  run-stands [] r i e h = h
-  run-stands (step ∷ steps) r i e h = run-stands steps (after step r) i.1 e.1 (step-stands step r i.0 e.0 h)
 
   pub opening-stands : (servers : ℕ) → Stands events files epochs (opening servers files epochs)
   opening-stands servers = record {

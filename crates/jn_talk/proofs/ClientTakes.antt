@@ -181,16 +181,9 @@ module _ (events : List Event) (r : World) (w : Machine) (mirrors : Mirrors r w)
       by Abort n a = silent-asks W o.to o.message a
       by (Do s op) n a = absurd (not_both true refl n)
 
-  -- a table that waits for nothing
-  waits-none : (u : ClientTable) → u.outstanding ≡ None → (o : Outstanding) → {A : Type 0} → u.outstanding ≡ Some o → A
-  waits-none u e o f = absurd (none_some o (sym e ∙ f))
-
   -- ---- an answer
 
   module _ (o : Outstanding) (waits : t.outstanding ≡ Some o) (s : ServerNo) (op : Op) (command : o.command ≡ Do s op) (its : IsOperation events c t o s op) (answer : Answer) (kept : IsKept r answer o.message) where
-    line : Text
-    line = answer_line c o.event answer
-
     abbrev told : World
     told = now events r w c (idle t) [] (answer_line c o.event answer ∷ [])
 
@@ -293,9 +286,6 @@ module _ (events : List Event) (r : World) (w : Machine) (mirrors : Mirrors r w)
   module _ (o : Outstanding) (waits : t.outstanding ≡ Some o) (begins : is_begin o.command ≡ true) (T : Tid) (has : Has (opening c o.request T) (openings r.sent)) where
     abbrev in-it : ClientTable
     in-it = record (idle t) { transaction = Some T; works = [] }
-
-    abbrev begun-line : Text
-    begun-line = says.Begun c o.event T
 
     abbrev begun-world : World
     begun-world = now events r w c in-it [] (says.Begun c o.event T ∷ [])

@@ -57,10 +57,6 @@ abbrev pub TellsAs : List Event → Step → World → Type 0
 TellsAs events (Tell c command) w = event_at events w.event ≡ Some (CommandOf c command)
 TellsAs events step w = Unit {0}
 
-abbrev pub AllTell : List Event → List Step → World → Type 0
-AllTell events [] w = Unit {0}
-AllTell events (step ∷ steps) w = TellsAs events step w × AllTell events steps (after step w)
-
 -- steps of the machine, after which all holds again
 pub record Goes (events : List Event) (r : World) (w : Machine) : Type 0 where
   pub atoms : List Atom

@@ -2,12 +2,18 @@
 //! gives each committed transaction the answers that it was told.
 #![tactic(auto)]
 
-ghost use Rattle.std.specs.Prelude.{ℕ, List};
+ghost use Rattle.std.specs.Prelude.{◌≡◌, ℕ, List, [], ◌∷◌};
 ghost use Rattle.jn_base.specs.declared.names.ServerNo.{ServerNo};
+ghost use Rattle.jn_base.specs.declared.op.Op.TheVariants as ops;
+ghost use Rattle.jn_base.specs.declared.op.Answer.TheVariants as answers;
 ghost use Rattle.jn_order.specs.Files.{AllFiles};
+ghost use Rattle.jn_serial.specs.Lines.{history_of};
+ghost use Rattle.jn_serial.specs.Order.{ops_of};
 ghost use Rattle.jn_protocol.specs.World.{opening};
+ghost use Rattle.jn_protocol.specs.Example.{the_server, the_file, the_transaction, start};
 ghost use Rattle.jn_reported.specs.Reported.{Item, events_of, lines_of, world_of, IsReported};
 ghost use Rattle.jn_talk.specs.Agreement.{AreAsTold};
+ghost use Rattle.jn_talk.specs.Example.{a_file_is_made};
 
 /// Whatever is done under the events of a schedule, stops and restarts among it: the transactions that the lines name as
 /// committed, run one after another from the opening files, give each of them the answers from the files that its lines
@@ -15,4 +21,12 @@ ghost use Rattle.jn_talk.specs.Agreement.{AreAsTold};
 pub fn commits_are_as_told()
     ensures { (servers : ℕ) (files : AllFiles) (epochs : ServerNo → ℕ) (items : List Item) → IsReported items (opening servers files epochs)
         → AreAsTold files (events_of items) (lines_of items (opening servers files epochs)) (world_of items (opening servers files epochs)) }
+{}
+
+/// There are such runs: here a client makes a file, and its transaction is named with that operation.
+pub fn a_transaction_is_told()
+    ensures run { IsReported a_file_is_made start }
+    ensures commits { history_of (lines_of a_file_is_made start) ≡ the_transaction ∷ [] }
+    ensures operations { ops_of (events_of a_file_is_made) (lines_of a_file_is_made start) the_transaction
+        ≡ record { server = the_server; op = ops.Create the_file; answer = answers.Did } ∷ [] }
 {}
