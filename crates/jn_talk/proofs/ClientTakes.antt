@@ -610,3 +610,76 @@ module _ (events : List Event) (r : World) (w : Machine) (mirrors : Mirrors r w)
   take-talks (messages.Vote T W vote) sent said = ignores
   take-talks (messages.Done T W) sent said = ignores
   take-talks (messages.Inquire T W) sent said = ignores
+
+  -- ---- a transaction that was ended is told nothing more
+
+  module _ (T : Tid) (ended : w.ended T ≡ true) where
+    abbrev RowKeeps : ClientTable × Taken → Type 0
+    RowKeeps row = ops_in events T None (took c k row.0 row.1 r).lines ≡ ops_in events T None r.lines
+
+    one-line : (text : Text) → answered_by events (owner_in T None r.lines) text ≡ [] → ops_in events T None (r.lines ++ text ∷ []) ≡ ops_in events T None r.lines
+    one-line text e = ops-more events T None r.lines (text ∷ []) ∙ ap (λ z. ops_in events T None r.lines ++ (z ++ [])) e ∙ append-nil (ops_in events T None r.lines)
+
+    dumb-line : (text : Text) → IsDumb text → ops_in events T None (r.lines ++ text ∷ []) ≡ ops_in events T None r.lines
+    dumb-line text dumb = (same-told r.lines (text ∷ []) (dumb, tt)).ops events T
+
+    ignored-keeps : RowKeeps (t, taken.Ignored)
+    ignored-keeps = dumb-line (says.Ignored k) tt
+
+    waits-keep : (o : Option Outstanding) (test : Outstanding → Bool) (row : ℕ → ClientTable × Taken) → t.outstanding ≡ o → ((x : Outstanding) → t.outstanding ≡ Some x → test x ≡ true → RowKeeps (row x.event)) → RowKeeps (if_waits t o test row)
+    waits-keep None test row e h = ignored-keeps
+    waits-keep (Some o) test row e h = by (test o) refl
+      where
+        by : (b : Bool) → test o ≡ b → RowKeeps (if b then row o.event else (t, taken.Ignored))
+        by true f = h o e f
+        by false f = ignored-keeps
+
+    either-keeps : (b : Bool) (p q : ClientTable × Taken) → RowKeeps p → RowKeeps q → RowKeeps (if b then p else q)
+    either-keeps true p q h l = h
+    either-keeps false p q h l = l
+
+    begun-keeps : (j : ℕ) (answer : Option Tid) → RowKeeps (begun_row t j answer)
+    begun-keeps j None = dumb-line _ tt
+    begun-keeps j (Some U) = one-line (says.Begun t.client j U) (by (owner_in T None r.lines))
+      where
+        by : (o : Option ClientNo) → answered_by events o (says.Begun t.client j U) ≡ []
+        by None = refl
+        by (Some d) = refl
+
+    opened-keeps : (j : ℕ) (answer : Option WorkId) → RowKeeps (opened_row t j answer)
+    opened-keeps j None = dumb-line _ tt
+    opened-keeps j (Some W) = dumb-line _ tt
+
+    answer-keeps : (o : Outstanding) (answer : Answer) → t.outstanding ≡ Some o → is_operation o.command ≡ true → RowKeeps (idle t, taken.Told (answer_line t.client o.event answer) None)
+    answer-keeps o answer e b = subst (λ (z : ClientNo). ops_in events T None (r.lines ++ answer_line z o.event answer ∷ []) ≡ ops_in events T None r.lines) (sym its-name) (one-line (answer_line c o.event answer) (by o.command refl b ((talk.clients c).asking o e)))
+      where
+        by : (command : Command) → o.command ≡ command → is_operation command ≡ true → IsAsking events c t o command → answered_by events (owner_in T None r.lines) (answer_line c o.event answer) ≡ []
+        by (Do s op) f l its = on (owner_in T None r.lines) refl
+          where
+            on : (d : Option ClientNo) → owner_in T None r.lines ≡ d → answered_by events d (answer_line c o.event answer) ≡ []
+            on None g = refl
+            on (Some d) g = other-told events c o.event s op its.told d answer (λ h. clash (talk.owners T c (g ∙ ap Some (sym h))))
+              where
+                clash : (t.transaction ≡ None) ⊎ (t.transaction ≡ Some T) → ⊥
+                clash (inl h) = none_some its.tid (sym h ∙ its.current)
+                clash (inr h) = not_both (w.ended T) ended ((facts.clients c).fresh T h (ap is_closing e ∙ ap is_end_or_abort f))
+        by (Begin s) f l its = absurd (not_both true refl (sym l))
+        by (Open s) f l its = absurd (not_both true refl (sym l))
+        by End f l its = absurd (not_both true refl (sym l))
+        by Abort f l its = absurd (not_both true refl (sym l))
+
+    decided-keeps : (U : Tid) (line : ℕ → Text) → ((j : ℕ) → IsDumb (line j)) → RowKeeps (decided_row t U line)
+    decided-keeps U line dumb = either-keeps (is_current t U) _ _ (waits-keep t.outstanding _ _ refl (λ o f g. dumb-line (line o.event) (dumb o.event))) refl
+
+    outcome-keeps : (U : Tid) (outcome : Outcome) → RowKeeps (outcome_row t U outcome)
+    outcome-keeps U outcomes.Committed = decided-keeps U _ (λ j. tt)
+    outcome-keeps U (outcomes.Aborted cause) = decided-keeps U _ (λ j. tt)
+    outcome-keeps U (outcomes.Waiting s u by) = either-keeps (is_current t U) _ _ (waits-keep t.outstanding _ _ refl (λ o f g. dumb-line _ tt)) ignored-keeps
+    outcome-keeps U (outcomes.NotKnown s epoch) = either-keeps (is_current t U) _ _ (waits-keep t.outstanding _ _ refl (λ o f g. dumb-line _ tt)) ignored-keeps
+
+    pub take-keeps : (message : Message) → RowKeeps (take_row t message)
+    take-keeps (messages.Begun d request answer) = waits-keep t.outstanding _ _ refl (λ o e f. begun-keeps o.event answer)
+    take-keeps (messages.Opened d request U answer) = waits-keep t.outstanding _ _ refl (λ o e f. opened-keeps o.event answer)
+    take-keeps (messages.Answer d request answer) = waits-keep t.outstanding _ _ refl (λ o e f. answer-keeps o answer e (second-of (nat_eq o.request request) (is_operation o.command) (second-of (client_eq d t.client) _ f)))
+    take-keeps (messages.Outcome d U outcome) = either-keeps (client_eq d t.client) _ _ (outcome-keeps U outcome) ignored-keeps
+    take-keeps _ = ignored-keeps

@@ -66,6 +66,7 @@ AreDumb [] = Unit {0}
 AreDumb (text ∷ texts) = IsDumb text × AreDumb texts
 
 pub record SameTold (before now : List Text) : Type 0 where
+  pub ops : (events : List Event) (T : Tid) → ops_in events T None now ≡ ops_in events T None before
   pub said : (events : List Event) (T : Tid) (s : ServerNo) → said events T s now ≡ said events T s before
   pub owner : (T : Tid) → owner_in T None now ≡ owner_in T None before
   pub begun : (T : Tid) → is_begun T now ≡ is_begun T before
@@ -106,13 +107,17 @@ or-false b = grind arith
 
 pub same-told : (before more : List Text) → AreDumb more → SameTold before (before ++ more)
 same-told before more h = record {
-  said = λ events T s. ap (λ z. at_place s z) (ops-more events T None before more ∙ ap (λ z. ops_in events T None before ++ z) (dumb-ops events T (owner_in T None before) more h) ∙ append-nil (ops_in events T None before));
+  ops = same;
+  said = λ events T s. ap (λ z. at_place s z) (same events T);
   owner = λ T. owner-more T None before more ∙ dumb-owners T (owner_in T None before) more h;
   begun = λ T. begun-more T before more ∙ ap (λ z. is_begun T before || z) (dumb-begins T more h) ∙ or-false (is_begun T before);
 }
+  where
+    same : (events : List Event) (T : Tid) → ops_in events T None (before ++ more) ≡ ops_in events T None before
+    same events T = ops-more events T None before more ∙ ap (λ z. ops_in events T None before ++ z) (dumb-ops events T (owner_in T None before) more h) ∙ append-nil (ops_in events T None before)
 
 pub told-same : (texts : List Text) → SameTold texts texts
-told-same texts = record { said = λ events T s. refl; owner = λ T. refl; begun = λ T. refl }
+told-same texts = record { ops = λ events T. refl; said = λ events T s. refl; owner = λ T. refl; begun = λ T. refl }
 
 -- ---- what was sent
 
