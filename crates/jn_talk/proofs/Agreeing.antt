@@ -25,6 +25,8 @@ use Rattle.jn_machine.specs.Invariant.{Invariant}
 use Rattle.jn_machine.specs.Order.{has_committed, HasTraces, IsInOrder as InOrder}
 use Rattle.jn_machine.proofs.Updates.{not_both, false_unless}
 use Rattle.jn_machine.proofs.Runs.{run_kept, opening_kept}
+use Rattle.jn_machine.proofs.MessageLemmas.{run_grows}
+use Rattle.jn_report.specs.declared.line.Text.{Text}
 use Rattle.jn_machine.proofs.History.{IsTold, run_told, opening_told, in_order}
 use Rattle.jn_protocol.specs.World.{World, commits_in, opening}
 use Rattle.jn_protocol.specs.Steps.{Step, IsStep, after}
@@ -64,17 +66,20 @@ opening-talk events servers files epochs = record {
 
 -- ---- every run
 
--- the machine stands where the whole system does, and the talk holds
-pub record Stands (events : List Event) (files : AllFiles) (epochs : ServerNo → ℕ) (r : World) : Type 0 where
+-- The machine stands where the whole system does, and the talk holds. What was ended before is told nothing more than by the
+-- lines before.
+pub record Stands (events : List Event) (files : AllFiles) (epochs : ServerNo → ℕ) (ended : Tid → Bool) (before : List Text) (r : World) : Type 0 where
   pub atoms : List Atom
   pub may : MayRun atoms (opening_world files epochs)
   pub mirrors : Mirrors r (run_atoms atoms (opening_world files epochs))
   pub facts : Facts r (run_atoms atoms (opening_world files epochs))
   pub locks : LockFacts r
   pub talk : Talk events r (run_atoms atoms (opening_world files epochs))
+  pub still : (T : Tid) → ended T ≡ true → (run_atoms atoms (opening_world files epochs)).ended T ≡ true
+  pub kept : (T : Tid) → ended T ≡ true → ops_in events T None r.lines ≡ ops_in events T None before
 
-module _ (events : List Event) (files : AllFiles) (epochs : ServerNo → ℕ) where
-  pub step-stands : (step : Step) (r : World) → IsStep step r → TellsAs events step r → Stands events files epochs r → Stands events files epochs (after step r)
+module _ (events : List Event) (files : AllFiles) (epochs : ServerNo → ℕ) (ended : Tid → Bool) (before : List Text) where
+  pub step-stands : (step : Step) (r : World) → IsStep step r → TellsAs events step r → Stands events files epochs ended before r → Stands events files epochs ended before (after step r)
   step-stands step r i e h = let next = goes-on events files epochs h.atoms h.may r h.mirrors h.facts h.locks h.talk step i e in let same = run-append h.atoms next.atoms (opening_world files epochs) in record {
     atoms = h.atoms ++ next.atoms;
     may = may-append h.atoms next.atoms (opening_world files epochs) h.may next.may;
@@ -82,17 +87,26 @@ module _ (events : List Event) (files : AllFiles) (epochs : ServerNo → ℕ) wh
     facts = subst (λ (z : Machine). Facts (after step r) z) (sym same) next.facts;
     locks = locks-keep step r i h.locks;
     talk = subst (λ (z : Machine). Talk events (after step r) z) (sym same) next.talk;
+    still = λ T k. subst (λ (z : Machine). z.ended T ≡ true) (sym same) ((run_grows next.atoms (run_atoms h.atoms (opening_world files epochs)) next.may (run_kept h.atoms (opening_world files epochs) h.may (opening_kept files epochs))).ended T (h.still T k));
+    kept = λ T k. next.kept T (h.still T k) ∙ h.kept T k;
   }
 
-  pub opening-stands : (servers : ℕ) → Stands events files epochs (opening servers files epochs)
-  opening-stands servers = record {
-    atoms = [];
-    may = tt;
-    mirrors = opening-mirrors servers files epochs;
-    facts = opening-facts servers files epochs;
-    locks = opening-keeps servers files epochs;
-    talk = opening-talk events servers files epochs;
-  }
+pub opening-stands : (events : List Event) (files : AllFiles) (epochs : ServerNo → ℕ) (servers : ℕ) → Stands events files epochs (λ T. false) [] (opening servers files epochs)
+opening-stands events files epochs servers = record {
+  atoms = [];
+  may = tt;
+  mirrors = opening-mirrors servers files epochs;
+  facts = opening-facts servers files epochs;
+  locks = opening-keeps servers files epochs;
+  talk = opening-talk events servers files epochs;
+  still = λ T e. absurd (not_both true refl (sym e));
+  kept = λ T e. refl;
+}
+
+-- from here on
+pub stands-from : (events : List Event) (files : AllFiles) (epochs : ServerNo → ℕ) (ended : Tid → Bool) (before : List Text) (r : World) (h : Stands events files epochs ended before r)
+    → Stands events files epochs (run_atoms h.atoms (opening_world files epochs)).ended r.lines r
+stands-from events files epochs ended before r h = record { atoms = h.atoms; may = h.may; mirrors = h.mirrors; facts = h.facts; locks = h.locks; talk = h.talk; still = λ T e. e; kept = λ T e. refl }
 
 -- ---- commits
 
@@ -109,11 +123,12 @@ module _ (events : List Event) (r : World) (w : Machine) (inv : Invariant w) (ta
       by None e h = subst (λ z. SaysAs z []) (sym h) (as-itself [])
       by (Some W) e h = h.0 (inr (inr ((inv.core.named T named).ready s W e)))
 
-  commits-told : (history : List Commit) → ((T : Tid) → has_committed T history ≡ true → w.named T ≡ true) → HasTraces w.trace w.part history → AreTold (λ T s. said events T s r.lines) history
-  commits-told [] named h = tt
-  commits-told (c ∷ history) named h = (
-    λ s. subst (λ z. SaysAs (said events c.tid s r.lines) z) (sym (h.0 s)) (trace-told c.tid (named c.tid (here (tid_tells c.tid c.tid))) s),
-    commits-told history (λ T k. named T (later (tid_eq c.tid T) (has_committed T history) k)) h.1,
+  commits-told : (told : Tid → ServerNo → List Answered) → ((T : Tid) → w.named T ≡ true → (s : ServerNo) → told T s ≡ said events T s r.lines) → (history : List Commit) → ((T : Tid) → has_committed T history ≡ true → w.named T ≡ true)
+      → HasTraces w.trace w.part history → AreTold told history
+  commits-told told same [] named h = tt
+  commits-told told same (c ∷ history) named h = (
+    λ s. let k = named c.tid (here (tid_tells c.tid c.tid)) in subst (λ z. SaysAs z (c.traces s)) (sym (same c.tid k s)) (subst (λ z. SaysAs (said events c.tid s r.lines) z) (sym (h.0 s)) (trace-told c.tid k s)),
+    commits-told told same history (λ T k. named T (later (tid_eq c.tid T) (has_committed T history) k)) h.1,
   )
     where
       here : ((tid_eq c.tid c.tid ≡ true) × (c.tid ≡ c.tid)) ⊎ ((tid_eq c.tid c.tid ≡ false) × (Rattle.std.proofs.Common.◌≢◌ c.tid c.tid)) → (tid_eq c.tid c.tid || has_committed c.tid history) ≡ true
@@ -156,13 +171,14 @@ module _ (events : List Event) (lines : List Line) where
 
 -- ---- the commits agree with the lines
 
--- these lines tell of each transaction what the world's do
-pub record SaySo (events : List Event) (lines : List Line) (r : World) : Type 0 where
-  pub ops : (T : Tid) → ops_of events lines T ≡ ops_in events T None r.lines
-  pub commits : history_of lines ≡ commits_in r.lines
+-- these lines tell of each transaction that is named what the world's do
+pub record SaySo (events : List Event) (lines so_far : List Line) (r : World) (ended : Tid → Bool) : Type 0 where
+  pub ops : (T : Tid) → ended T ≡ true → ops_of events lines T ≡ ops_in events T None r.lines
+  pub commits : history_of so_far ≡ commits_in r.lines
 
-pub stands-told : (events : List Event) (files : AllFiles) (epochs : ServerNo → ℕ) (r : World) (lines : List Line) → Stands events files epochs r → SaySo events lines r → AreAsTold files events lines r
-stands-told events files epochs r lines h so = record {
+pub stands-told : (events : List Event) (files : AllFiles) (epochs : ServerNo → ℕ) (ended : Tid → Bool) (before : List Text) (r : World) (lines so_far : List Line) (h : Stands events files epochs ended before r)
+    → SaySo events lines so_far r (run_atoms h.atoms (opening_world files epochs)).ended → AreAsTold files events lines so_far r
+stands-told events files epochs ended before r lines so_far h so = record {
   agrees = subst (λ ts. AgreesFrom files events lines ts) names both.0;
   shown = shown;
   unlocked = λ s n u is free file. shown s (λ k. false) u (λ W p e k. writes-nothing n.worker n.tickets (stable (r.found s)).works (subst (λ o. ServerFact s o (r.found s)) is (h.locks s)).table u free file W p e);
@@ -181,18 +197,18 @@ stands-told events files epochs r lines h so = record {
     order = in_order files epochs h.atoms h.may
 
     are-told : AreTold (λ T s. at_place s (ops_of events lines T)) (run_atoms h.atoms (opening_world files epochs)).history
-    are-told = subst (λ f. AreTold f w.history) (fun_ext (λ T. fun_ext (λ s. ap (λ z. at_place s z) (sym (so.ops T))))) (commits-told events r w inv h.talk w.history (λ T k. told.named T ∙ k) told.traces)
+    are-told = commits-told events r w inv h.talk (λ T s. at_place s (ops_of events lines T)) (λ T k s. ap (λ z. at_place s z) (so.ops T (inv.core.named T k).ended)) w.history (λ T k. told.named T ∙ k) told.traces
 
     both : AgreesFrom files events lines (commits_of (run_atoms h.atoms (opening_world files epochs)).history) × (replay-lines files events lines (commits_of (run_atoms h.atoms (opening_world files epochs)).history) ≡ replay files (run_atoms h.atoms (opening_world files epochs)).history)
     both = told-agree events lines files w.history are-told order.serial
 
-    names : commits_of (run_atoms h.atoms (opening_world files epochs)).history ≡ history_of lines
+    names : commits_of (run_atoms h.atoms (opening_world files epochs)).history ≡ history_of so_far
     names = h.mirrors.commits ∙ sym so.commits
 
-    same-replay : replay files (run_atoms h.atoms (opening_world files epochs)).history ≡ replay-lines files events lines (history_of lines)
+    same-replay : replay files (run_atoms h.atoms (opening_world files epochs)).history ≡ replay-lines files events lines (history_of so_far)
     same-replay = sym both.1 ∙ ap (λ ts. replay-lines files events lines ts) names
 
-    shown : (s : ServerNo) (c : Pick) (u : LockUnit) → IsDone r (r.found s c) u → (r.found s c).files u ≡ replay-lines files events lines (history_of lines) s u
+    shown : (s : ServerNo) (c : Pick) (u : LockUnit) → IsDone r (r.found s c) u → (r.found s c).files u ≡ replay-lines files events lines (history_of so_far) s u
     shown s c u free = ap (λ x. x.files u) (sym (h.mirrors.found s c))
         ∙ order.shown s c u (λ W p e k. free W p (ap (λ x. x.works W) (sym (h.mirrors.found s c)) ∙ e) (ap (λ l. list_any (λ (V : Tid). tid_eq V p.tid) l) (sym h.mirrors.commits) ∙ sym (committed-any p.tid w.history) ∙ k))
         ∙ ap (λ f. f s u) same-replay

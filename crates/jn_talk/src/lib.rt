@@ -2,7 +2,7 @@
 //! gives each committed transaction the answers that it was told.
 #![tactic(auto)]
 
-ghost use Rattle.std.specs.Prelude.{◌≡◌, ℕ, List, [], ◌∷◌};
+ghost use Rattle.std.specs.Prelude.{◌≡◌, ℕ, List, [], ◌∷◌, ◌++◌};
 ghost use Rattle.jn_base.specs.declared.names.ServerNo.{ServerNo};
 ghost use Rattle.jn_base.specs.declared.op.Op.TheVariants as ops;
 ghost use Rattle.jn_base.specs.declared.op.Answer.TheVariants as answers;
@@ -18,10 +18,15 @@ ghost use Rattle.jn_talk.specs.WrongRuns.{lines_in, gives, two_operations, told_
 
 /// Whatever is done under the events of a schedule, stops and restarts among it: the transactions that the lines name as
 /// committed, run one after another from the opening files, give each of them the answers from the files that its lines
-/// tell, and the files that are found at each server, but for what is still to be carried out.
+/// tell, and the files that are found at each server, but for what is still to be carried out. So it is after each event of
+/// the run, and no later line changes what was told of those commits.
 pub fn commits_are_as_told()
-    ensures { (servers : ℕ) (files : AllFiles) (epochs : ServerNo → ℕ) (items : List Item) → IsReported items (opening servers files epochs)
-        → AreAsTold files (events_of items) (lines_of items (opening servers files epochs)) (world_of items (opening servers files epochs)) }
+    ensures agrees { (servers : ℕ) (files : AllFiles) (epochs : ServerNo → ℕ) (items : List Item) → IsReported items (opening servers files epochs)
+        → Agrees files (events_of items) (lines_of items (opening servers files epochs)) }
+    ensures all { (servers : ℕ) (files : AllFiles) (epochs : ServerNo → ℕ) (items : List Item) → IsReported items (opening servers files epochs)
+        → AreAsTold files (events_of items) (lines_of items (opening servers files epochs)) (lines_of items (opening servers files epochs)) (world_of items (opening servers files epochs)) }
+    ensures so_far { (servers : ℕ) (files : AllFiles) (epochs : ServerNo → ℕ) (items more : List Item) → IsReported (items ++ more) (opening servers files epochs)
+        → AreAsTold files (events_of (items ++ more)) (lines_of (items ++ more) (opening servers files epochs)) (lines_of items (opening servers files epochs)) (world_of items (opening servers files epochs)) }
 {}
 
 /// There are such runs: here a client makes a file, and its transaction is named with that operation.
@@ -36,5 +41,5 @@ pub fn a_transaction_is_told()
 /// transaction is told what no files give, and where a worker answers without keeping what it did, one whose files are lost.
 pub fn wrong_rows_tell_otherwise()
     ensures old_answer { Agrees no_files (gives two_operations) (lines_in told_an_old_answer) → ⊥ }
-    ensures lost { AreAsTold no_files (gives one_operation) (lines_in answered_and_lost) answered_and_lost → ⊥ }
+    ensures lost { AreAsTold no_files (gives one_operation) (lines_in answered_and_lost) (lines_in answered_and_lost) answered_and_lost → ⊥ }
 {}
