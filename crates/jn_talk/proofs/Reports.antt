@@ -68,6 +68,10 @@ tell-then events a b c d h k = record {
   commits = commits-more a c ∙ ap (λ z. z ++ commits_in c) h.commits ∙ ap (λ z. commits_in b ++ z) k.commits ∙ sym (commits-more b d);
 }
 
+steps-append : (a b : List Step) (r : World) → run (a ++ b) r ≡ run b (run a r)
+steps-append [] b r = refl
+steps-append (step ∷ a) b r = steps-append a b (after step r)
+
 -- ---- acts
 
 module _ (events : List Event) (files : AllFiles) (epochs : ServerNo → ℕ) (ended : Tid → Bool) (before : List Text) where
@@ -149,10 +153,6 @@ module _ (events : List Event) (files : AllFiles) (epochs : ServerNo → ℕ) (e
     lines : (world_of items r).lines ≡ r.lines ++ new
     same : TellSame events (texts_of (lines_of items r)) new
 
-  run-append : (a b : List Step) (r : World) → run (a ++ b) r ≡ run b (run a r)
-  run-append [] b r = refl
-  run-append (step ∷ a) b r = run-append a b (after step r)
-
   one-item : (item : Item) (items : List Item) (r : World) → Told (after NextEvent r) (after_item item r) (told_under item r) → ItemsTold items (after_item item r) → ItemsTold (item ∷ items) r
   one-item item items r h k = record {
     reached = subst (λ (z : World). Reached files epochs z) (sym together) k.reached;
@@ -165,7 +165,7 @@ module _ (events : List Event) (files : AllFiles) (epochs : ServerNo → ℕ) (e
   }
     where
       together : world_of (item ∷ items) r ≡ world_of items (after_item item r)
-      together = run-append (steps_in item.acts) (steps_of items) (after NextEvent r)
+      together = steps-append (steps_in item.acts) (steps_of items) (after NextEvent r)
 
       one-more : (n m : ℕ) → n + 1 + m ≡ n + suc m
       one-more n m = omega arith
@@ -204,10 +204,6 @@ events-more (item ∷ items) more = ap (λ l. item.event ∷ l) (events-more ite
 under-split : (items more : List Item) → AreUnder (items ++ more) → AreUnder items × AreUnder more
 under-split [] more h = (tt, h)
 under-split (item ∷ items) more h = let k = under-split items more h.1 in ((h.0, k.0), k.1)
-
-steps-append : (a b : List Step) (r : World) → run (a ++ b) r ≡ run b (run a r)
-steps-append [] b r = refl
-steps-append (step ∷ a) b r = steps-append a b (after step r)
 
 lines-more : (items more : List Item) (r : World) → lines_of (items ++ more) r ≡ lines_of items r ++ lines_of more (world_of items r)
 lines-more [] more r = refl

@@ -1,6 +1,6 @@
 -- Every step keeps the talk, whatever steps come one after another.
-use Rattle.std.proofs.Common.{◌≡◌, inl, ℕ, Bool, true, false, List, [], ◌∷◌, ◌++◌, append-nil, Option, Some, None, refl, sym, ◌∙◌, ap, subst}
-use Rattle.std.specs.Prelude.{if◌then◌else◌, nat_lt, slice_get, is_some}
+use Rattle.std.proofs.Common.{◌≡◌, inl, ℕ, true, List, [], ◌∷◌, ◌++◌, append-nil, Option, Some, None, refl, sym, ◌∙◌, ap, subst}
+use Rattle.std.specs.Prelude.{slice_get, is_some}
 use Rattle.jn_base.specs.declared.names.ServerNo.{ServerNo}
 use Rattle.jn_base.specs.declared.names.ClientNo.{ClientNo}
 use Rattle.jn_base.specs.declared.names.Tid.{Tid}
@@ -22,7 +22,7 @@ use Rattle.jn_rows.specs.declared.client.Taken.{Taken}
 use Rattle.jn_rows.specs.declared.client.Taken.TheVariants as taken
 use Rattle.jn_rows.specs.Stable.{Pick}
 use Rattle.jn_rows.specs.Outcomes.{Sent}
-use Rattle.jn_rows.specs.Client.{if_server, if_no_transaction, if_open, if_not_open, work_at, ClientTable, Commanded, Refuses, Sends, command_row, take_row, if_idle, if_transaction, names_of, sends}
+use Rattle.jn_rows.specs.Client.{ClientTable, Commanded, Refuses, Sends, command_row, take_row, if_idle, if_transaction, names_of, sends}
 use Rattle.jn_machine.specs.World.{World as Machine}
 use Rattle.jn_machine.specs.Invariant.{Invariant}
 use Rattle.jn_machine.specs.Steps.{Atom, End as Ends, run as run_atoms, opening_world}
@@ -44,7 +44,9 @@ use Rattle.jn_moves.proofs.StepMoves.{step-moves, holds-of}
 use Rattle.jn_runs.proofs.Facts.{Facts}
 use Rattle.jn_runs.proofs.ServerFacts.{still-facts, message-facts, work-facts, nudge-facts, timeout-facts, crash-facts, narrow-facts, raise-facts, restart-facts}
 use Rattle.jn_runs.proofs.ClientSteps.{tell-facts, again-facts, taken-facts}
-use Rattle.jn_rows.specs.declared.client.OpenWork.{OpenWork}
+use Rattle.jn_serial.specs.Follows.{is_own}
+use Rattle.jn_machine.proofs.Updates.{not_both}
+use Rattle.jn_reported.proofs.Hearing.{Commands, commands}
 use Rattle.jn_talk.specs.Told.{ops_in}
 use Rattle.jn_talk.proofs.Facts.{IsDrawn, Talk}
 use Rattle.jn_talk.proofs.Quiet.{same-told, IsDumb, Moved, IsQuiet, told-same, of-quiet, serving-talks}
@@ -52,7 +54,7 @@ use Rattle.jn_talk.proofs.ServerSteps.{nothing-quiet, at-memory-quiet, work-quie
 use Rattle.jn_talk.proofs.OpSteps.{Serves, still-serves, moved-by, op-steps}
 use Rattle.jn_talk.proofs.Clients.{no-client-talks}
 use Rattle.jn_talk.proofs.ClientTells.{tell-talks, again-talks}
-use Rattle.jn_talk.proofs.ClientTakes.{take-talks, take-keeps}
+use Rattle.jn_talk.proofs.ClientTakes.{take-talks}
 use Rattle.jn_talk.proofs.Ends.{parts_of, end-may, end-mirrors, end-facts, end-talks}
 
 -- a client is told in the event of its command
@@ -88,46 +90,14 @@ took-same w c k t (taken.Told line None) r h = record { memory = refl; found = r
 took-same w c k t (taken.Told line (Some sent)) r h = record { memory = refl; found = refl; commits = quiet-line r.lines line h.1 }
 
 -- a refusal of a command is no answer of the files
-abbrev IsDumbRow : ClientNo → ℕ → Commanded → Type 0
-IsDumbRow c j (Refuses refusal) = IsDumb (says.Refused c j refusal)
-IsDumbRow c j (Sends u to message) = Unit {0}
+own-dumb : (c : ClientNo) (j : ℕ) (refusal : Refusal) → is_own refusal ≡ true → IsDumb (says.Refused c j refusal)
+own-dumb c j refusals.NoFile h = absurd (not_both true refl (sym h))
+own-dumb c j refusals.Exists h = absurd (not_both true refl (sym h))
+own-dumb c j _ h = tt
 
-commands-dumb : (t : ClientTable) (c : ClientNo) (j : ℕ) (command : Command) → IsDumbRow c j (command_row t j command)
-commands-dumb t c j command = by command
-  where
-    server : (s : ServerNo) (row : Commanded) → IsDumbRow c j row → IsDumbRow c j (if_server t s row)
-    server s row k = at (nat_lt s.0 t.servers)
-      where
-        at : (b : Bool) → IsDumbRow c j (if b then row else Refuses refusals.NoSuchServer)
-        at true = k
-        at false = tt
-
-    idle : (o : Option Outstanding) (row : Commanded) → IsDumbRow c j row → IsDumbRow c j (if_idle o row)
-    idle None row k = k
-    idle (Some o) row k = tt
-
-    without : (o : Option Tid) (row : Commanded) → IsDumbRow c j row → IsDumbRow c j (if_no_transaction o row)
-    without None row k = k
-    without (Some T) row k = tt
-
-    with-one : (o : Option Tid) (row : Tid → Commanded) → ((T : Tid) → IsDumbRow c j (row T)) → IsDumbRow c j (if_transaction o row)
-    with-one None row k = tt
-    with-one (Some T) row k = k T
-
-    closed : (o : Option OpenWork) (row : Commanded) → IsDumbRow c j row → IsDumbRow c j (if_not_open o row)
-    closed None row k = k
-    closed (Some v) row k = tt
-
-    opened : (o : Option OpenWork) (row : OpenWork → Commanded) → ((v : OpenWork) → IsDumbRow c j (row v)) → IsDumbRow c j (if_open o row)
-    opened None row k = tt
-    opened (Some v) row k = k v
-
-    by : (command : Command) → IsDumbRow c j (command_row t j command)
-    by (Begin s) = server s _ (idle t.outstanding _ (without t.transaction _ tt))
-    by (Open s) = server s _ (idle t.outstanding _ (with-one t.transaction _ (λ T. closed (work_at s t.works) _ tt)))
-    by (Do s op) = server s _ (idle t.outstanding _ (with-one t.transaction _ (λ T. opened (work_at s t.works) _ (λ v. tt))))
-    by End = idle t.outstanding _ (with-one t.transaction _ (λ T. tt))
-    by Abort = with-one t.transaction _ (λ T. tt)
+command-keeps : (events : List Event) (T : Tid) (c : ClientNo) (command : Command) (row : Commanded) (r : World) → Commands r.event command row → ops_in events T None (commanded c row r).lines ≡ ops_in events T None r.lines
+command-keeps events T c command (Refuses refusal) r h = (same-told r.lines (says.Refused c r.event refusal ∷ []) (own-dumb c r.event refusal h, tt)).ops events T
+command-keeps events T c command (Sends u to message) r h = refl
 
 module _ (events : List Event) (files : AllFiles) (epochs : ServerNo → ℕ) (before : List Atom) (may : MayRun before (opening_world files epochs)) where
   abbrev w : Machine
@@ -168,15 +138,14 @@ module _ (events : List Event) (files : AllFiles) (epochs : ServerNo → ℕ) (b
     quiet-on r' m q f = serves-on r' (still-serves r r' w m (of-quiet r r' w (run_atoms m.atoms w) q)) f
 
     -- a client's step
-    client-on : (r' : World) → MovesTo r' w → SameServers r r' → FactsAfter r' → ((v : Machine) → Mirrors r v → Facts r v → Invariant v → Talk events r v → Talk events r' v) → ((T : Tid) → w.ended T ≡ true → ops_in events T None r'.lines ≡ ops_in events T None r.lines) → Goes events r.lines r' w
-    client-on r' m same f on kept = record {
+    client-on : (r' : World) → MovesTo r' w → SameServers r r' → FactsAfter r' → ((v : Machine) → Mirrors r v → Facts r v → Invariant v → Talk events r v → Talk events r' v × ((T : Tid) → v.ended T ≡ true → ops_in events T None r'.lines ≡ ops_in events T None r.lines)) → Goes events r.lines r' w
+    client-on r' m same f on = record {
       atoms = m.atoms;
       may = m.may;
       mirrors = m.mirrors;
       facts = f v m.ended (begun-on m.atoms m.may);
-      talk = on v back (still-facts r w v mirrors facts inv m.ended (begun-on m.atoms m.may) r refl refl facts.tables) (run_kept m.atoms w m.may inv)
-          (serving-talks r r w v (moves-so r m.atoms m.may back) events (of-quiet r r w v (nothing-quiet r locks)) m.ended talk);
-      kept = kept;
+      talk = now.0;
+      kept = λ T e. now.1 T (subst (λ f. f T ≡ true) (sym m.ended) e);
     }
       where
         v : Machine
@@ -198,6 +167,10 @@ module _ (events : List Event) (files : AllFiles) (epochs : ServerNo → ℕ) (b
           addressed = mirrors.addressed;
         }
 
+        now : Talk events r' (run_atoms m.atoms w) × ((T : Tid) → (run_atoms m.atoms w).ended T ≡ true → ops_in events T None r'.lines ≡ ops_in events T None r.lines)
+        now = on v back (still-facts r w v mirrors facts inv m.ended (begun-on m.atoms m.may) r refl refl facts.tables) (run_kept m.atoms w m.may inv)
+            (serving-talks r r w v (moves-so r m.atoms m.may back) events (of-quiet r r w v (nothing-quiet r locks)) m.ended talk)
+
     -- ---- a message
 
     to-server : (k : ℕ) (room : Room) (stop : Option (Pick → ℕ)) (s : ServerNo) (message : Message) → slice_get r.sent k ≡ Some (Server s, message) → MovesTo (at_memory s k room stop message (r.memory s) r) w → Goes events r.lines (at_memory s k room stop message (r.memory s) r) w
@@ -211,7 +184,7 @@ module _ (events : List Event) (files : AllFiles) (epochs : ServerNo → ℕ) (b
     hands-on k room stop (Some (Client c, message)) e m = let said = holds-of (IsTrue w) r.sent k (Client c, message) mirrors.says e in
         client-on _ m (took-same w c k (take_row (r.clients c) message).0 (take_row (r.clients c) message).1 r (takes w (r.clients c) (mirrors.clients c) message said))
         (λ v ended g. taken-facts r w v mirrors facts ended g inv c k message e)
-        (λ v h f i t. take-talks events r v h f t c k message e (holds-of (IsTrue v) r.sent k (Client c, message) h.says e)) (λ T ended. take-keeps events r w mirrors facts talk c k T ended message)
+        (λ v h f i t. take-talks events r v h f t c k message e (holds-of (IsTrue v) r.sent k (Client c, message) h.says e))
     hands-on k room stop (Some (Server s, message)) e m = to-server k room stop s message e m
 
     -- ---- an End
@@ -219,7 +192,7 @@ module _ (events : List Event) (files : AllFiles) (epochs : ServerNo → ℕ) (b
     refused-on : (c : ClientNo) (refusal : Refusal) → IsDumb (says.Refused c r.event refusal) → Goes events r.lines (commanded c (Refuses refusal) r) w
     refused-on c refusal dumb = client-on _ (stays-with r w mirrors grow r.clients mirrors.clients r.sent mirrors.says mirrors.addressed (r.lines ++ says.Refused c r.event refusal ∷ []) (quiet-line r.lines (says.Refused c r.event refusal) refl))
         (commanded-same c (Refuses refusal) r) (λ v ended g. still-facts r w v mirrors facts inv ended g _ refl refl facts.tables)
-        (λ v h f i t. subst (λ l. Talk events (record r { sent = l; lines = r.lines ++ says.Refused c r.event refusal ∷ [] }) v) (append-nil r.sent) (no-client-talks events r v c [] (says.Refused c r.event refusal ∷ []) t tt (dumb, tt))) (λ T e. (same-told r.lines (says.Refused c r.event refusal ∷ []) (dumb, tt)).ops events T)
+        (λ v h f i t. (subst (λ l. Talk events (record r { sent = l; lines = r.lines ++ says.Refused c r.event refusal ∷ [] }) v) (append-nil r.sent) (no-client-talks events r v c [] (says.Refused c r.event refusal ∷ []) t tt (dumb, tt)), λ T e. (same-told r.lines (says.Refused c r.event refusal ∷ []) (dumb, tt)).ops events T))
 
     end-on : (c : ClientNo) (o : Option Outstanding) (x : Option Tid) → (r.clients c).outstanding ≡ o → (r.clients c).transaction ≡ x
         → Talk events (commanded c (if_idle o (if_transaction x (λ T. sends (r.clients c) r.event End (Server T.server) (messages.End (r.clients c).client (r.clients c).next T (names_of (r.clients c).works))))) r) w
@@ -237,15 +210,8 @@ module _ (events : List Event) (files : AllFiles) (epochs : ServerNo → ℕ) (b
 
     -- ---- every step
 
-    command-keeps : (c : ClientNo) (command : Command) (T : Tid) → ops_in events T None (tell c command r).lines ≡ ops_in events T None r.lines
-    command-keeps c command T = by (command_row (r.clients c) r.event command) (commands-dumb (r.clients c) c r.event command)
-      where
-        by : (row : Commanded) → IsDumbRow c r.event row → ops_in events T None (commanded c row r).lines ≡ ops_in events T None r.lines
-        by (Refuses refusal) dumb = (same-told r.lines (says.Refused c r.event refusal ∷ []) (dumb, tt)).ops events T
-        by (Sends u to message) dumb = refl
-
     tells-on : (c : ClientNo) (command : Command) → event_at events r.event ≡ Some (CommandOf c command) → MovesTo (tell c command r) w → Goes events r.lines (tell c command r) w
-    tells-on c command e m = client-on _ m (commanded-same c (command_row (r.clients c) r.event command) r) (λ v ended g. tell-facts r w v mirrors facts ended g inv c command) (λ v h f i t. tell-talks events r v h f i t c command e) (λ T g. command-keeps c command T)
+    tells-on c command e m = client-on _ m (commanded-same c (command_row (r.clients c) r.event command) r) (λ v ended g. tell-facts r w v mirrors facts ended g inv c command) (λ v h f i t. (tell-talks events r v h f i t c command e, λ T g. command-keeps events T c command (command_row (r.clients c) r.event command) r (commands (r.clients c) r.event command)))
 
     next-quiet : IsQuiet r (after NextEvent r)
     next-quiet = let q = nothing-quiet r locks in record { clients = refl; more = []; sent = sym (append-nil r.sent); silent = tt; told = told-same r.lines; same = q.same; new = q.new; found = q.found; quiet = inl refl }
@@ -263,7 +229,7 @@ module _ (events : List Event) (files : AllFiles) (epochs : ServerNo → ℕ) (b
     goes-on (Tell c (Open s)) i e = tells-on c (Open s) e (moves-of (Tell c (Open s)) i refl)
     goes-on (Tell c (Do s op)) i e = tells-on c (Do s op) e (moves-of (Tell c (Do s op)) i refl)
     goes-on (Tell c Abort) i e = tells-on c Abort e (moves-of (Tell c Abort) i refl)
-    goes-on (Again c) i e = client-on _ (moves-of (Again c) i refl) (again-same c) (λ v ended g. again-facts r w v mirrors facts ended g inv c) (λ v h f i t. again-talks events r v h f i t c) (λ T g. refl)
+    goes-on (Again c) i e = client-on _ (moves-of (Again c) i refl) (again-same c) (λ v ended g. again-facts r w v mirrors facts ended g inv c) (λ v h f i t. (again-talks events r v h f i t c, λ T g. refl))
     goes-on (Deliver k room) i e = hands-on k room None (slice_get r.sent k) refl (moves-of (Deliver k room) i refl)
     goes-on (StopDelivery k room made) i e = hands-on k room (Some made) (slice_get r.sent k) refl (moves-of (StopDelivery k room made) i refl)
     goes-on (Work s room) i e = quiet-on _ (moves-of (Work s room) i refl) (work-quiet r locks s room None (r.memory s) refl (locks s)) (λ v ended g. work-facts r w v mirrors facts inv ended g s room None (r.memory s) refl)
