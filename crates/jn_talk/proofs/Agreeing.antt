@@ -171,7 +171,7 @@ module _ (events : List Event) (lines : List Line) where
 
 -- ---- the commits agree with the lines
 
--- these lines tell of each transaction that is named what the world's do
+-- these lines tell of each transaction that was ended what the world's do
 pub record SaySo (events : List Event) (lines so_far : List Line) (r : World) (ended : Tid → Bool) : Type 0 where
   pub ops : (T : Tid) → ended T ≡ true → ops_of events lines T ≡ ops_in events T None r.lines
   pub commits : history_of so_far ≡ commits_in r.lines

@@ -1,4 +1,5 @@
--- A step that performs no operation, tells no client anything and sends neither an operation nor an answer keeps the talk.
+-- A step keeps the talk in which no client changes and no client is told anything, and in which each work that takes operations does
+-- as much as before, or performs the operation that comes next.
 use Rattle.std.proofs.Common.{◌≡◌, ◌⊎◌, inl, inr, ℕ, ◌+◌, ◌≤◌, ◌<◌, Bool, true, false, List, [], ◌∷◌, ◌++◌, append-nil, Option, Some, None, refl, sym, ◌∙◌, ap, subst, arith}
 use Rattle.std.proofs.Math.Path.{fun_ext}
 use Rattle.std.specs.Prelude.{◌||◌, if◌then◌else◌, All, get_or, slice_get}
@@ -233,7 +234,7 @@ moved r r' w atoms may before now inv named named' = record {
 
 -- ---- the step
 
--- no client changes, and works that take operations before and after have done the same
+-- No client changes, works that take operations before and after have done the same, and neither an operation nor an answer is sent.
 pub record IsQuiet (r r' : World) : Type 0 where
   pub clients : r'.clients ≡ r.clients
   pub more : List Sent

@@ -132,7 +132,7 @@ module _ (r : World) (locks : LockFacts r) where
     quiet = inr (λ W. refl);
   }
 
-  -- a server goes down, and some of a row's changes are made
+  -- a server that is up does a row, or stops within it
   module _ (s : ServerNo) (m : Memory) (is : r.memory s ≡ Some m) where
     -- what is found after some changes
     changed-found : (changes : Pick → List Change) → ((c : Pick) → Adds m.worker (changes c)) → (W : WorkId) (c : Pick) (p : Prepared) (a : ActiveWork) → acting r W ≡ Some a
