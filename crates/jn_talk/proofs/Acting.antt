@@ -186,10 +186,6 @@ pub silent-more : (a b : List Sent) → AreSilent a → AreSilent b → AreSilen
 silent-more [] b h k = k
 silent-more (x ∷ a) b h k = (h.0, silent-more a b h.1 k)
 
-adds-more : (t : WorkerTable) (a b : List Change) → Adds t a → Adds t b → Adds t (a ++ b)
-adds-more t [] b h k = k
-adds-more t (x ∷ a) b h k = (h.0, adds-more t a b h.1 k)
-
 -- a work that is found after the changes was found before with its list, or is prepared with what it did
 abbrev pub FoundBack : StableState → WorkerTable → WorkId → Prepared → Type 0
 FoundBack x t W p = ((q : Prepared) × ((x.works W ≡ Some q) × (q.list ≡ p.list))) ⊎ ((a : ActiveWork) × ((acting_of (work_at W t) ≡ Some a) × (a.list ≡ p.list)))

@@ -30,7 +30,6 @@ use Rattle.jn_rows.specs.declared.client.Taken.{Taken}
 use Rattle.jn_rows.specs.declared.client.Taken.TheVariants as taken
 use Rattle.jn_rows.specs.Outcomes.{Sent}
 use Rattle.jn_rows.specs.Client.{ClientTable, work_at as open_at, is_begin, is_operation, is_end_or_abort, opens, is_current, is_tid, if_waits, idle, over, begun_row, opened_row, answer_line, decided_row, outcome_row, take_row}
-use Rattle.jn_serial.specs.declared.files.Performed.{Performed}
 use Rattle.jn_serial.specs.Lines.{event_at}
 use Rattle.jn_serial.specs.Order.{performed_in, answered_by, owner_after, is_client}
 use Rattle.jn_lock_rows.proofs.Works.{work_same}
@@ -48,7 +47,7 @@ use Rattle.jn_runs.proofs.Facts.{opening, is_closing, Facts}
 use Rattle.jn_runs.proofs.ClientFacts.{all-have-theirs}
 use Rattle.jn_talk.specs.Told.{ops_in, owner_in, begins_it, is_begun, at_place}
 use Rattle.jn_talk.proofs.Tellings.{SaysAs, ops-more, owner-more, begun-more, place-more, none-told}
-use Rattle.jn_talk.proofs.Acting.{acting, IsSilent, AreSilent}
+use Rattle.jn_talk.proofs.Acting.{acting, AreSilent}
 use Rattle.jn_talk.proofs.Facts.{said, counts, op_in, op_asked, IsOperation, IsAsking, IsNumbered, Hears, IsRunningAt, IsTalking, IsKept, IsDrawn, is_op_of, op_sent, IsOpenAt, IsKnown, IsStarted, Talk}
 use Rattle.jn_talk.proofs.Quiet.{SameTold, IsDumb, same-told, map-all, none-of, silent-asks}
 use Rattle.jn_talk.proofs.Clients.{by-client, at-own, at-other, now, client-talks, running-still, table-started, plain-talks, same-client-talks}
@@ -182,16 +181,9 @@ module _ (events : List Event) (r : World) (w : Machine) (mirrors : Mirrors r w)
       by Abort n a = silent-asks W o.to o.message a
       by (Do s op) n a = absurd (not_both true refl n)
 
-  -- a table that waits for nothing
-  waits-none : (u : ClientTable) → u.outstanding ≡ None → (o : Outstanding) → {A : Type 0} → u.outstanding ≡ Some o → A
-  waits-none u e o f = absurd (none_some o (sym e ∙ f))
-
   -- ---- an answer
 
   module _ (o : Outstanding) (waits : t.outstanding ≡ Some o) (s : ServerNo) (op : Op) (command : o.command ≡ Do s op) (its : IsOperation events c t o s op) (answer : Answer) (kept : IsKept r answer o.message) where
-    line : Text
-    line = answer_line c o.event answer
-
     abbrev told : World
     told = now events r w c (idle t) [] (answer_line c o.event answer ∷ [])
 
@@ -294,9 +286,6 @@ module _ (events : List Event) (r : World) (w : Machine) (mirrors : Mirrors r w)
   module _ (o : Outstanding) (waits : t.outstanding ≡ Some o) (begins : is_begin o.command ≡ true) (T : Tid) (has : Has (opening c o.request T) (openings r.sent)) where
     abbrev in-it : ClientTable
     in-it = record (idle t) { transaction = Some T; works = [] }
-
-    abbrev begun-line : Text
-    begun-line = says.Begun c o.event T
 
     abbrev begun-world : World
     begun-world = now events r w c in-it [] (says.Begun c o.event T ∷ [])
@@ -484,13 +473,45 @@ module _ (events : List Event) (r : World) (w : Machine) (mirrors : Mirrors r w)
           its = by-client (λ d z. z.transaction ≡ Some (w.owner V) → IsOpenAt V (open_at V.server z.works)) r.clients c with-it (λ f. open-more V V.server (g.its c f)) (λ d ne. g.its d);
         }) (λ U e. table-started events r w c with-it [] (says.Opened c o.event W.server ∷ []) opened-draws U (talk.started U (sym (told-same-so.begun U) ∙ e)))
 
+  -- ---- lines that tell a transaction nothing
+
+  one-line : (T : Tid) (text : Text) → answered_by events (owner_in T None r.lines) text ≡ [] → ops_in events T None (r.lines ++ text ∷ []) ≡ ops_in events T None r.lines
+  one-line T text e = ops-more events T None r.lines (text ∷ []) ∙ ap (λ z. ops_in events T None r.lines ++ (z ++ [])) e ∙ append-nil (ops_in events T None r.lines)
+
+  dumb-line : (text : Text) → IsDumb text → (T : Tid) → w.ended T ≡ true → ops_in events T None (r.lines ++ text ∷ []) ≡ ops_in events T None r.lines
+  dumb-line text dumb T e = (same-told r.lines (text ∷ []) (dumb, tt)).ops events T
+
+  begun-line : (c : ClientNo) (j : ℕ) (U T : Tid) → w.ended T ≡ true → ops_in events T None (r.lines ++ says.Begun c j U ∷ []) ≡ ops_in events T None r.lines
+  begun-line c j U T e = one-line T (says.Begun c j U) (by (owner_in T None r.lines))
+    where
+      by : (o : Option ClientNo) → answered_by events o (says.Begun c j U) ≡ []
+      by None = refl
+      by (Some d) = refl
+
+  -- the client isn't in it
+  answer-line : (o : Outstanding) → t.outstanding ≡ Some o → (s : ServerNo) (op : Op) → o.command ≡ Do s op → IsOperation events c t o s op → (answer : Answer) (T : Tid) → w.ended T ≡ true
+      → ops_in events T None (r.lines ++ answer_line c o.event answer ∷ []) ≡ ops_in events T None r.lines
+  answer-line o e s op f its answer T ended = one-line T (answer_line c o.event answer) (on (owner_in T None r.lines) refl)
+    where
+      clash : (t.transaction ≡ None) ⊎ (t.transaction ≡ Some T) → ⊥
+      clash (inl h) = none_some its.tid (sym h ∙ its.current)
+      clash (inr h) = not_both (w.ended T) ended ((facts.clients c).fresh T h (ap is_closing e ∙ ap is_end_or_abort f))
+
+      on : (d : Option ClientNo) → owner_in T None r.lines ≡ d → answered_by events d (answer_line c o.event answer) ≡ []
+      on None g = refl
+      on (Some d) g = other-told events c o.event s op its.told d answer (λ h. clash (talk.owners T c (g ∙ ap Some (sym h))))
+
   -- ---- every message
 
+  -- the talk holds, and a transaction that was ended is told nothing more
+  abbrev pub TakesWell : World → Type 0
+  TakesWell r' = Talk events r' w × ((T : Tid) → w.ended T ≡ true → ops_in events T None r'.lines ≡ ops_in events T None r.lines)
+
   abbrev TakeTalks : ClientTable × Taken → Type 0
-  TakeTalks row = Talk events (took c k row.0 row.1 r) w
+  TakeTalks row = TakesWell (took c k row.0 row.1 r)
 
   ignores : TakeTalks (t, taken.Ignored)
-  ignores = subst (λ l. Talk events (record r { clients = at_client r.clients c t; sent = l; lines = r.lines ++ says.Ignored k ∷ [] }) w) (append-nil r.sent) (same-client-talks events r w c [] (says.Ignored k ∷ []) talk tt (tt, tt))
+  ignores = (subst (λ l. Talk events (record r { clients = at_client r.clients c t; sent = l; lines = r.lines ++ says.Ignored k ∷ [] }) w) (append-nil r.sent) (same-client-talks events r w c [] (says.Ignored k ∷ []) talk tt (tt, tt)), dumb-line (says.Ignored k) tt)
 
   where-waits : (o : Option Outstanding) (test : Outstanding → Bool) (row : ℕ → ClientTable × Taken) → t.outstanding ≡ o → ((x : Outstanding) → t.outstanding ≡ Some x → test x ≡ true → TakeTalks (row x.event)) → TakeTalks (if_waits t o test row)
   where-waits None test row e h = ignores
@@ -512,12 +533,18 @@ module _ (events : List Event) (r : World) (w : Machine) (mirrors : Mirrors r w)
 
   -- a refusal is told
   refused-talks : (o : Outstanding) (text : Text) → t.outstanding ≡ Some o → is_operation o.command ≡ false → is_end_or_abort o.command ≡ false → IsDumb text → TakeTalks (idle t, taken.Told text None)
-  refused-talks o text e none stays dumb = plain-talks events r w c (idle t) [] (text ∷ []) talk tt (dumb, tt) (le t.next, λ p f. absurd (none_some p f)) (λ T f. (f, refl)) (λ p f. absurd (none_some p f))
-      (λ T f g. (ap is_closing e ∙ stays, λ W. (quiet-waits o e none W, refl)))
+  refused-talks o text e none stays dumb = (
+    plain-talks events r w c (idle t) [] (text ∷ []) talk tt (dumb, tt) (le t.next, λ p f. absurd (none_some p f)) (λ T f. (f, refl)) (λ p f. absurd (none_some p f))
+        (λ T f g. (ap is_closing e ∙ stays, λ W. (quiet-waits o e none W, refl))),
+    dumb-line text dumb,
+  )
 
   -- its transaction is over
-  over-talks : (text : Text) (more : List Sent) → IsDumb text → AreSilent more → Talk events (now events r w c (over t) more (text ∷ [])) w
-  over-talks text more dumb silent = plain-talks events r w c (over t) more (text ∷ []) talk silent (dumb, tt) (le t.next, λ p f. absurd (none_some p f)) (λ T f. absurd (none_some T f)) (λ p f. absurd (none_some p f)) (λ T f. absurd (none_some T f))
+  over-talks : (text : Text) (more : List Sent) → IsDumb text → AreSilent more → TakesWell (now events r w c (over t) more (text ∷ []))
+  over-talks text more dumb silent = (
+    plain-talks events r w c (over t) more (text ∷ []) talk silent (dumb, tt) (le t.next, λ p f. absurd (none_some p f)) (λ T f. absurd (none_some T f)) (λ p f. absurd (none_some p f)) (λ T f. absurd (none_some T f)),
+    dumb-line text dumb,
+  )
 
   begin-command : (command : Command) → is_begin command ≡ true → (is_operation command ≡ false) × (is_end_or_abort command ≡ false)
   begin-command (Begin s) e = (refl, refl)
@@ -560,7 +587,7 @@ module _ (events : List Event) (r : World) (w : Machine) (mirrors : Mirrors r w)
   module _ (message : Message) (sent : slice_get r.sent k ≡ Some (Client c, message)) where
     begun-takes : (d : ClientNo) (request : ℕ) (answer : Option Tid) → message ≡ messages.Begun d request answer → (o : Outstanding) → t.outstanding ≡ Some o → client_eq d t.client ≡ true → nat_eq o.request request ≡ true → is_begin o.command ≡ true → TakeTalks (begun_row t o.event answer)
     begun-takes d request None m o e f g b = refused-talks o _ e (begin-command o.command b).0 (begin-command o.command b).1 tt
-    begun-takes d request (Some T) m o e f g b = subst (λ (z : ClientNo). Talk events (now events r w c (record (idle t) { transaction = Some T; works = [] }) [] (says.Begun z o.event T ∷ [])) w) (sym its-name) (begun-talks o e b T has)
+    begun-takes d request (Some T) m o e f g b = subst (λ (z : ClientNo). TakesWell (now events r w c (record (idle t) { transaction = Some T; works = [] }) [] (says.Begun z o.event T ∷ []))) (sym its-name) (begun-talks o e b T has, begun-line c o.event T)
       where
         all : (a : Opening) → Has a (opening_in (Client c, messages.Begun d request (Some T))) → Has a (openings r.sent)
         all = holds-of (λ (x : Sent). (a : Opening) → Has a (opening_in x) → Has a (openings r.sent)) r.sent k (Client c, messages.Begun d request (Some T)) (all-have-theirs r.sent) (sent ∙ ap (λ z. Some (Client c, z)) m)
@@ -570,8 +597,8 @@ module _ (events : List Event) (r : World) (w : Machine) (mirrors : Mirrors r w)
 
     opened-takes : (T : Tid) (answer : Option WorkId) (o : Outstanding) → t.outstanding ≡ Some o → is_current t T ≡ true → opens answer o.command ≡ true → Says w (messages.Opened c 0 T answer) → TakeTalks (opened_row t o.event answer)
     opened-takes T None o e f g said = refused-talks o _ e (open-command None o.command g).0 (open-command None o.command g).1 tt
-    opened-takes T (Some W) o e f g said = subst (λ (z : ClientNo). Talk events (now events r w c (record (idle t) { works = t.works ++ (record { work = W; last = 0 }) ∷ [] }) [] (says.Opened z o.event W.server ∷ [])) w) (sym its-name)
-        (opened-talks o e T (its-tid T t.transaction f) W (opens-at W o.command g) ((mirrors.clients c).opening o W.server e (opens-at W o.command g)) said)
+    opened-takes T (Some W) o e f g said = subst (λ (z : ClientNo). TakesWell (now events r w c (record (idle t) { works = t.works ++ (record { work = W; last = 0 }) ∷ [] }) [] (says.Opened z o.event W.server ∷ []))) (sym its-name)
+        (opened-talks o e T (its-tid T t.transaction f) W (opens-at W o.command g) ((mirrors.clients c).opening o W.server e (opens-at W o.command g)) said, dumb-line (says.Opened c o.event W.server) tt)
 
     answer-takes : (d : ClientNo) (request : ℕ) (answer : Answer) → message ≡ messages.Answer d request answer → (o : Outstanding) → t.outstanding ≡ Some o → client_eq d t.client ≡ true → nat_eq o.request request ≡ true → is_operation o.command ≡ true
         → TakeTalks (idle t, taken.Told (answer_line t.client o.event answer) None)
@@ -584,24 +611,26 @@ module _ (events : List Event) (r : World) (w : Machine) (mirrors : Mirrors r w)
         kept = drawn.1 o (ap (λ (z : ClientNo). (r.clients z).outstanding) (is-client d t.client f ∙ its-name) ∙ e) (same-number o.request request g)
 
         by : (command : Command) → o.command ≡ command → is_operation command ≡ true → IsAsking events c t o command → TakeTalks (idle t, taken.Told (answer_line t.client o.event answer) None)
-        by (Do s op) h l its = subst (λ (z : ClientNo). Talk events (now events r w c (idle t) [] (answer_line z o.event answer ∷ [])) w) (sym its-name) (answer-talks o e s op h its answer kept)
+        by (Do s op) h l its = subst (λ (z : ClientNo). TakesWell (now events r w c (idle t) [] (answer_line z o.event answer ∷ []))) (sym its-name) (answer-talks o e s op h its answer kept, answer-line o e s op h its answer)
         by (Begin s) h l its = absurd (not_both true refl (sym l))
         by (Open s) h l its = absurd (not_both true refl (sym l))
         by End h l its = absurd (not_both true refl (sym l))
         by Abort h l its = absurd (not_both true refl (sym l))
 
     decided-takes : (T : Tid) (line : ℕ → Text) → ((j : ℕ) → IsDumb (line j)) → TakeTalks (decided_row t T line)
-    decided-takes T line dumb = either (is_current t T) _ _ (λ e. where-waits t.outstanding _ _ refl (λ o f g. over-talks (line o.event) _ (dumb o.event) (tt, tt)))
-        (subst (λ l. Talk events (record r { clients = at_client r.clients c t; sent = r.sent ++ (Server T.server, messages.Thanks t.client T) ∷ []; lines = l }) w) (append-nil r.lines)
-        (same-client-talks events r w c ((Server T.server, messages.Thanks t.client T) ∷ []) [] talk (tt, tt) tt))
+    decided-takes T line dumb = either (is_current t T) _ _ (λ e. where-waits t.outstanding _ _ refl (λ o f g. over-talks (line o.event) _ (dumb o.event) (tt, tt))) (
+      subst (λ l. Talk events (record r { clients = at_client r.clients c t; sent = r.sent ++ (Server T.server, messages.Thanks t.client T) ∷ []; lines = l }) w) (append-nil r.lines)
+          (same-client-talks events r w c ((Server T.server, messages.Thanks t.client T) ∷ []) [] talk (tt, tt) tt),
+      λ U e. refl,
+    )
 
     outcome-takes : (T : Tid) (outcome : Outcome) → TakeTalks (outcome_row t T outcome)
     outcome-takes T outcomes.Committed = decided-takes T _ (λ j. tt)
     outcome-takes T (outcomes.Aborted cause) = decided-takes T _ (λ j. tt)
-    outcome-takes T (outcomes.Waiting s u by) = either (is_current t T) _ _ (λ e. where-waits t.outstanding _ _ refl (λ o f g. same-client-talks events r w c [] (says.Waiting t.client o.event s u by ∷ []) talk tt (tt, tt))) ignores
+    outcome-takes T (outcomes.Waiting s u by) = either (is_current t T) _ _ (λ e. where-waits t.outstanding _ _ refl (λ o f g. (same-client-talks events r w c [] (says.Waiting t.client o.event s u by ∷ []) talk tt (tt, tt), dumb-line (says.Waiting t.client o.event s u by) tt))) ignores
     outcome-takes T (outcomes.NotKnown s epoch) = either (is_current t T) _ _ (λ e. where-waits t.outstanding _ _ refl (λ o f g. over-talks _ [] tt tt)) ignores
 
-  pub take-talks : (message : Message) → slice_get r.sent k ≡ Some (Client c, message) → Says w message → Talk events (taken_by c k (take_row t message) r) w
+  pub take-talks : (message : Message) → slice_get r.sent k ≡ Some (Client c, message) → Says w message → TakesWell (taken_by c k (take_row t message) r)
   take-talks (messages.Begun d request answer) sent said = where-waits t.outstanding _ _ refl (λ o e f. let g = second-of (client_eq d t.client) _ f in
       begun-takes (messages.Begun d request answer) sent d request answer refl o e (first-of (client_eq d t.client) _ f) (first-of (nat_eq o.request request) (is_begin o.command) g) (second-of (nat_eq o.request request) (is_begin o.command) g))
   take-talks (messages.Opened d request T answer) sent said = where-waits t.outstanding _ _ refl (λ o e f. let g = second-of (nat_eq o.request request) _ (second-of (client_eq d t.client) _ f) in
@@ -609,15 +638,4 @@ module _ (events : List Event) (r : World) (w : Machine) (mirrors : Mirrors r w)
   take-talks (messages.Answer d request answer) sent said = where-waits t.outstanding _ _ refl (λ o e f. let g = second-of (client_eq d t.client) _ f in
       answer-takes (messages.Answer d request answer) sent d request answer refl o e (first-of (client_eq d t.client) _ f) (first-of (nat_eq o.request request) (is_operation o.command) g) (second-of (nat_eq o.request request) (is_operation o.command) g))
   take-talks (messages.Outcome d T outcome) sent said = either (client_eq d t.client) _ _ (λ e. outcome-takes (messages.Outcome d T outcome) sent T outcome) ignores
-  take-talks (messages.Begin d request) sent said = ignores
-  take-talks (messages.Open d request T) sent said = ignores
-  take-talks (messages.Op d request W number op) sent said = ignores
-  take-talks (messages.End d request T works) sent said = ignores
-  take-talks (messages.Abort d request T works) sent said = ignores
-  take-talks (messages.Thanks d T) sent said = ignores
-  take-talks (messages.Prepare T d W) sent said = ignores
-  take-talks (messages.Commit T W) sent said = ignores
-  take-talks (messages.Drop T W) sent said = ignores
-  take-talks (messages.Vote T W vote) sent said = ignores
-  take-talks (messages.Done T W) sent said = ignores
-  take-talks (messages.Inquire T W) sent said = ignores
+  take-talks _ sent said = ignores

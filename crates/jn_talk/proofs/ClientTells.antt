@@ -33,7 +33,7 @@ use Rattle.jn_machine.specs.Messages.{IsWorkOf}
 use Rattle.jn_machine.proofs.Updates.{not_both, some_is, none_some}
 use Rattle.jn_protocol.specs.World.{World, at_client}
 use Rattle.jn_protocol.specs.Steps.{tell, again, commanded, sent_now}
-use Rattle.jn_moves.specs.Mirrors.{Mirrors, IsClient, IsCurrent}
+use Rattle.jn_moves.specs.Mirrors.{Mirrors, IsCurrent}
 use Rattle.jn_moves.proofs.ClientRows.{found-open, are-counted}
 use Rattle.jn_runs.proofs.Openings.{openings, openings-more, Has, has-first}
 use Rattle.jn_runs.proofs.Facts.{opening, is_closing, Facts}
@@ -41,7 +41,7 @@ use Rattle.jn_talk.specs.Told.{owner_in, is_begun}
 use Rattle.jn_talk.proofs.Tellings.{none-told}
 use Rattle.jn_talk.proofs.Acting.{IsSilent}
 use Rattle.jn_talk.proofs.Facts.{said, op_in, op_asked, IsOperation, IsAsking, IsNumbered, Hears, IsRunningAt, IsTalking, IsPast, IsEndedAt, IsDrawn, op_sent, IsOpenAt, IsKnown, Talk}
-use Rattle.jn_talk.proofs.Quiet.{IsDumb, same-told, told-same, map-all, op_sent-more, silent-asks}
+use Rattle.jn_talk.proofs.Quiet.{IsDumb, same-told, map-all, op_sent-more, silent-asks}
 use Rattle.jn_talk.proofs.Clients.{by-client, at-own, same-client, now, client-talks, running-still, table-started, plain-talks, no-client-talks}
 
 -- ---- a client's works, once one has an operation more

@@ -31,7 +31,7 @@ use Rattle.jn_talk.proofs.Quiet.{AreDumb, same-told, silent-nos, silent-drawn, e
 abbrev pub IsOther : ClientNo → ClientNo → Type 0
 IsOther c d = ((client_eq c d ≡ true) × (c ≡ d)) ⊎ ((client_eq c d ≡ false) × (c ≢ d))
 
--- the table that stands after the client's is replaced
+-- the client's table is replaced, and no other
 pub at-own : (clients : ClientNo → ClientTable) (c : ClientNo) (u : ClientTable) → at_client clients c u c ≡ u
 at-own clients c u = by (client_tells c c)
   where
@@ -46,7 +46,7 @@ at-other clients c d u ne = by (client_tells c d)
     by (inl p) = absurd (ne p.1)
     by (inr p) = ap (λ (b : Bool). if b then u else clients d) p.0
 
--- of a table for each client
+-- what holds of the new table, and of each other client's, holds of all
 pub by-client : (P : ClientNo → ClientTable → Type 0) (clients : ClientNo → ClientTable) (c : ClientNo) (u : ClientTable) → P c u → ((d : ClientNo) → c ≢ d → P d (clients d)) → (d : ClientNo) → P d (at_client clients c u d)
 by-client P clients c u own others d = by (client_tells c d)
   where
@@ -54,7 +54,7 @@ by-client P clients c u own others d = by (client_tells c d)
     by (inl p) = subst (λ (z : ClientNo). P z (at_client clients c u z)) p.1 (subst (λ t. P c t) (sym (at-own clients c u)) own)
     by (inr p) = subst (λ t. P d t) (sym (at-other clients c d u p.1)) (others d p.1)
 
--- a client that is in a transaction is the one whose it is
+-- no two clients are in one transaction
 pub same-client : (events : List Event) (r : World) (v : Machine) (c d : ClientNo) (T : Tid) → Talk events r v → (r.clients c).transaction ≡ Some T → (r.clients d).transaction ≡ Some T → c ≡ d
 same-client events r v c d T talk e f = some_is c d (sym ((talk.clients c).owner T e) ∙ (talk.clients d).owner T f)
 

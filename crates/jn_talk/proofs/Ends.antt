@@ -1,13 +1,12 @@
 -- A client ends its transaction: what was told is what its works did.
 use Rattle.std.proofs.Common.{◌≡◌, ◌≢◌, ◌⊎◌, inl, inr, ◌<◌, ◌≤◌, ℕ, ◌+◌, Bool, true, false, List, [], ◌∷◌, ◌++◌, append-nil, Option, Some, None, refl, sym, ◌∙◌, ap, subst, arith}
-use Rattle.std.specs.Prelude.{◌||◌, if◌then◌else◌, All}
+use Rattle.std.specs.Prelude.{◌||◌, if◌then◌else◌}
 use Rattle.std.proofs.lemmas.List.Elements.{All-nil, All-cons, All-append}
 use Rattle.jn_base.specs.declared.names.ServerNo.{ServerNo}
 use Rattle.jn_base.specs.declared.names.ClientNo.{ClientNo}
 use Rattle.jn_base.specs.declared.names.Tid.{Tid}
 use Rattle.jn_base.specs.declared.names.WorkId.{WorkId}
-use Rattle.jn_base.specs.declared.names.Party.TheVariants.{Client, Server}
-use Rattle.jn_base.specs.declared.op.Op.{Op}
+use Rattle.jn_base.specs.declared.names.Party.TheVariants.{Server}
 use Rattle.jn_base.specs.declared.op.Command.TheVariants.{Open, End}
 use Rattle.jn_base.specs.Names.{server_eq, client_eq, tid_eq, work_eq}
 use Rattle.jn_base.proofs.Tells.{server_tells, client_tells, tid_tells, work_tells}
@@ -19,15 +18,15 @@ use Rattle.jn_rows.specs.declared.client.OpenWork.{OpenWork}
 use Rattle.jn_rows.specs.declared.client.Outstanding.{Outstanding}
 use Rattle.jn_rows.specs.Outcomes.{Sent}
 use Rattle.jn_rows.specs.Coordinator.{is_work}
-use Rattle.jn_rows.specs.Client.{ClientTable, Commanded, Refuses, Sends, work_at, names_of, if_idle, if_transaction, sends, is_begin}
+use Rattle.jn_rows.specs.Client.{ClientTable, Sends, work_at, names_of, sends, is_begin}
 use Rattle.jn_machine.specs.World.{World as Machine}
 use Rattle.jn_machine.specs.Invariant.{Invariant}
 use Rattle.jn_machine.specs.Steps.{Atom, End as Ends, end_it, run}
 use Rattle.jn_machine.specs.Premises.{MayRun, MayEnd}
 use Rattle.jn_machine.specs.Messages.{Says, IsWorkOf}
-use Rattle.jn_machine.proofs.Updates.{not_both, some_is, at_tid_here, at_tid_other, at_tid_cases}
+use Rattle.jn_machine.proofs.Updates.{not_both, at_tid_here, at_tid_other, at_tid_cases}
 use Rattle.jn_protocol.specs.World.{World, at_client}
-use Rattle.jn_protocol.specs.Steps.{commanded, tell}
+use Rattle.jn_protocol.specs.Steps.{commanded}
 use Rattle.jn_moves.specs.Mirrors.{Mirrors, IsTrue, IsAddressed, AreOpen, IsCurrent, IsClient}
 use Rattle.jn_moves.proofs.Mirrored.{All-grows, client-still}
 use Rattle.jn_moves.proofs.ClientRows.{found-open, Tells, sends-it}
@@ -35,10 +34,9 @@ use Rattle.jn_moves.proofs.ClientMoves.{mirrors-still, at-one}
 use Rattle.jn_runs.proofs.Openings.{Opening, opening_in, openings, openings-more, Has, HaveOpenings}
 use Rattle.jn_runs.proofs.Facts.{opening, is_closing, Began, IsRunning, Facts}
 use Rattle.jn_runs.proofs.ClientFacts.{CommandFacts, sends-one}
-use Rattle.jn_talk.proofs.Tellings.{SaysAs}
 use Rattle.jn_talk.proofs.Atoms.{IsPresent}
 use Rattle.jn_talk.proofs.Acting.{acting, acting-of-active}
-use Rattle.jn_talk.proofs.Facts.{said, op_asked, IsNumbered, Hears, IsRunningAt, IsTalking, IsPast, IsEndedAt, IsDrawn, IsKnown, IsStarted, Talk}
+use Rattle.jn_talk.proofs.Facts.{IsNumbered, IsRunningAt, IsPast, IsEndedAt, Talk}
 use Rattle.jn_talk.proofs.Quiet.{map-all, past-more}
 use Rattle.jn_talk.proofs.Clients.{by-client}
 
@@ -54,11 +52,11 @@ IsOther c d = ((client_eq c d ≡ true) × (c ≡ d)) ⊎ ((client_eq c d ≡ fa
 -- ---- the machine's step
 
 -- its work at a server
-abbrev work_in : Option OpenWork → Option WorkId
+abbrev pub work_in : Option OpenWork → Option WorkId
 work_in None = None
 work_in (Some x) = Some x.work
 
-abbrev parts_of : List OpenWork → ServerNo → Option WorkId
+abbrev pub parts_of : List OpenWork → ServerNo → Option WorkId
 parts_of works s = work_in (work_at s works)
 
 none-work : (W : WorkId) → None ≡ Some W → ⊥

@@ -145,7 +145,7 @@ pub record IsStarted (r : World) (T : Tid) : Type 0 where
 pub record Talk (events : List Event) (r : World) (w : Machine) : Type 0 where
   pub clients : (c : ClientNo) → IsTalking events r w c (r.clients c)
   pub ended : (T : Tid) → w.ended T ≡ true → w.aborted T ≡ false → (s : ServerNo) → IsEndedAt events r w T s (w.part T s)
-  -- whose the lines say a transaction is has it, or none
+  -- a client whose the lines say a transaction is has that one, or none
   pub owners : (T : Tid) (c : ClientNo) → owner_in T None r.lines ≡ Some c → ((r.clients c).transaction ≡ None) ⊎ ((r.clients c).transaction ≡ Some T)
   pub drawn : All (IsDrawn r) r.sent
   pub known : (W : WorkId) → op_sent W r.sent ≡ true → IsKnown r w W

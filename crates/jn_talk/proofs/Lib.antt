@@ -10,3 +10,6 @@ pub mod Clients
 pub mod ClientTells
 pub mod ClientTakes
 pub mod Ends
+pub mod Runs
+pub mod Agreeing
+pub mod Reports

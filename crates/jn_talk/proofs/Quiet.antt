@@ -1,4 +1,5 @@
--- A step that performs no operation, tells no client anything and sends neither an operation nor an answer keeps the talk.
+-- A step keeps the talk in which no client changes and no client is told anything, and in which each work that takes operations does
+-- as much as before, or performs the operation that comes next.
 use Rattle.std.proofs.Common.{◌≡◌, ◌⊎◌, inl, inr, ℕ, ◌+◌, ◌≤◌, ◌<◌, Bool, true, false, List, [], ◌∷◌, ◌++◌, append-nil, Option, Some, None, refl, sym, ◌∙◌, ap, subst, arith}
 use Rattle.std.proofs.Math.Path.{fun_ext}
 use Rattle.std.specs.Prelude.{◌||◌, if◌then◌else◌, All, get_or, slice_get}
@@ -66,6 +67,7 @@ AreDumb [] = Unit {0}
 AreDumb (text ∷ texts) = IsDumb text × AreDumb texts
 
 pub record SameTold (before now : List Text) : Type 0 where
+  pub ops : (events : List Event) (T : Tid) → ops_in events T None now ≡ ops_in events T None before
   pub said : (events : List Event) (T : Tid) (s : ServerNo) → said events T s now ≡ said events T s before
   pub owner : (T : Tid) → owner_in T None now ≡ owner_in T None before
   pub begun : (T : Tid) → is_begun T now ≡ is_begun T before
@@ -85,7 +87,7 @@ dumb-begun : (T : Tid) (text : Text) → IsDumb text → begins_it T text ≡ fa
 dumb-begun T (says.Begun d j U) h = absurd h
 dumb-begun T _ h = refl
 
-dumb-ops : (events : List Event) (T : Tid) (o : Option ClientNo) (texts : List Text) → AreDumb texts → ops_in events T o texts ≡ []
+pub dumb-ops : (events : List Event) (T : Tid) (o : Option ClientNo) (texts : List Text) → AreDumb texts → ops_in events T o texts ≡ []
 dumb-ops events T o [] h = refl
 dumb-ops events T o (x ∷ texts) h = ap (λ z. z ++ ops_in events T (owner_after T o x) texts) (by o) ∙ dumb-ops events T (owner_after T o x) texts h.1
   where
@@ -93,7 +95,7 @@ dumb-ops events T o (x ∷ texts) h = ap (λ z. z ++ ops_in events T (owner_afte
     by None = refl
     by (Some c) = dumb-answers events c x h.0
 
-dumb-owners : (T : Tid) (o : Option ClientNo) (texts : List Text) → AreDumb texts → owner_in T o texts ≡ o
+pub dumb-owners : (T : Tid) (o : Option ClientNo) (texts : List Text) → AreDumb texts → owner_in T o texts ≡ o
 dumb-owners T o [] h = refl
 dumb-owners T o (x ∷ texts) h = ap (λ z. owner_in T z texts) (dumb-owner T o x h.0) ∙ dumb-owners T o texts h.1
 
@@ -106,13 +108,17 @@ or-false b = grind arith
 
 pub same-told : (before more : List Text) → AreDumb more → SameTold before (before ++ more)
 same-told before more h = record {
-  said = λ events T s. ap (λ z. at_place s z) (ops-more events T None before more ∙ ap (λ z. ops_in events T None before ++ z) (dumb-ops events T (owner_in T None before) more h) ∙ append-nil (ops_in events T None before));
+  ops = same;
+  said = λ events T s. ap (λ z. at_place s z) (same events T);
   owner = λ T. owner-more T None before more ∙ dumb-owners T (owner_in T None before) more h;
   begun = λ T. begun-more T before more ∙ ap (λ z. is_begun T before || z) (dumb-begins T more h) ∙ or-false (is_begun T before);
 }
+  where
+    same : (events : List Event) (T : Tid) → ops_in events T None (before ++ more) ≡ ops_in events T None before
+    same events T = ops-more events T None before more ∙ ap (λ z. ops_in events T None before ++ z) (dumb-ops events T (owner_in T None before) more h) ∙ append-nil (ops_in events T None before)
 
 pub told-same : (texts : List Text) → SameTold texts texts
-told-same texts = record { said = λ events T s. refl; owner = λ T. refl; begun = λ T. refl }
+told-same texts = record { ops = λ events T. refl; said = λ events T s. refl; owner = λ T. refl; begun = λ T. refl }
 
 -- ---- what was sent
 
@@ -228,7 +234,7 @@ moved r r' w atoms may before now inv named named' = record {
 
 -- ---- the step
 
--- no client changes, and works that take operations before and after have done the same
+-- No client changes, works that take operations before and after have done the same, and neither an operation nor an answer is sent.
 pub record IsQuiet (r r' : World) : Type 0 where
   pub clients : r'.clients ≡ r.clients
   pub more : List Sent

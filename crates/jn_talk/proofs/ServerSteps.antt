@@ -27,7 +27,7 @@ use Rattle.jn_protocol.proofs.Restored.{restored-is}
 use Rattle.jn_moves.proofs.Mirrored.{named_by, commits-more, lines-commit}
 use Rattle.jn_moves.proofs.WorkerNotes.{step-none}
 use Rattle.jn_moves.proofs.ClientMoves.{quiet-line}
-use Rattle.jn_talk.proofs.Acting.{acting, acting_at, acting_of, its-work, DidTheSame, same-did, none-new, TableGoes, Adds, FoundBack, all-back, adds-take, step-stays, timeout-stays}
+use Rattle.jn_talk.proofs.Acting.{acting, acting_at, acting_of, its-work, DidTheSame, same-did, none-new, Adds, FoundBack, all-back, adds-take, step-stays, timeout-stays}
 use Rattle.jn_talk.proofs.Rows.{ServerStays, is_op, row-stays, of-worker, server-again}
 use Rattle.jn_talk.proofs.Quiet.{AreDumb, same-told, told-same, IsQuiet}
 
@@ -132,11 +132,8 @@ module _ (r : World) (locks : LockFacts r) where
     quiet = inr (λ W. refl);
   }
 
-  -- a server goes down, and some of a row's changes are made
+  -- a server that is up does a row, or stops within it
   module _ (s : ServerNo) (m : Memory) (is : r.memory s ≡ Some m) where
-    table-goes : (now : Memory) → TableGoes m.worker now.worker → MemoryGoes (Some m) (Some now)
-    table-goes now h = h
-
     -- what is found after some changes
     changed-found : (changes : Pick → List Change) → ((c : Pick) → Adds m.worker (changes c)) → (W : WorkId) (c : Pick) (p : Prepared) (a : ActiveWork) → acting r W ≡ Some a
         → (if server_eq s W.server then made_all (changes c) (r.found s c) else r.found W.server c).works W ≡ Some p → a.list ≡ p.list

@@ -1,1 +1,4 @@
 pub mod Told
+pub mod Agreement
+pub mod Example
+pub mod WrongRuns

@@ -1,0 +1,259 @@
+-- What the lines of a run with its schedule tell of a transaction is what the world's lines tell.
+use Rattle.std.proofs.Common.{Bool, true, false, ◌≡◌, ℕ, suc, ◌+◌, List, [], ◌∷◌, ◌++◌, append-nil, append_assoc, length, Option, Some, None, refl, sym, ◌∙◌, ap, subst, arith}
+use Rattle.jn_base.specs.declared.names.ServerNo.{ServerNo}
+use Rattle.jn_base.specs.declared.names.ClientNo.{ClientNo}
+use Rattle.jn_base.specs.declared.names.Tid.{Tid}
+use Rattle.jn_base.specs.declared.op.Command.{Command}
+use Rattle.jn_order.specs.Files.{AllFiles}
+use Rattle.jn_schedule.specs.declared.Event.{Event}
+use Rattle.jn_schedule.specs.declared.Event.TheVariants as kinds
+use Rattle.jn_report.specs.declared.line.Text.{Text}
+use Rattle.jn_report.specs.declared.line.Text.TheVariants as says
+use Rattle.jn_report.specs.declared.line.Line.{Line}
+use Rattle.jn_rows.specs.Client.{Commanded, Refuses, Sends, command_row}
+use Rattle.jn_serial.specs.Lines.{commit_in, history_of, event_at}
+use Rattle.jn_serial.proofs.Growth.{event_at-next}
+use Rattle.jn_serial.specs.Order.{ops_of}
+use Rattle.jn_machine.specs.Steps.{run as run_atoms, opening_world}
+use Rattle.jn_moves.proofs.Mirrored.{commits-more}
+use Rattle.jn_protocol.specs.World.{World, opening, committed_in, commits_in}
+use Rattle.jn_protocol.specs.Steps.{Step, NextEvent, Tell, IsStep, IsRun, after, run, commanded}
+use Rattle.jn_reported.specs.Reported.{Act, Does, Refuses as Refused, Tells, Item, events_of, steps_in, steps_of, world_of, told_by, told_in, told_under, after_item, at_event, lines_of, IsUnder, AreUnder, IsReported}
+use Rattle.jn_reported.proofs.Lists.{Each}
+use Rattle.jn_reported.proofs.Hearing.{IsQuiet, step-hears}
+use Rattle.jn_reported.proofs.Following.{IsQuietAct, under-quiet, run-split}
+use Rattle.jn_reported.proofs.Reached.{Reached, next-reached, opening-reached}
+use Rattle.jn_reported.proofs.Naming.{adds}
+use Rattle.jn_talk.specs.Told.{ops_in, owner_in}
+use Rattle.jn_talk.specs.Agreement.{AreAsTold}
+use Rattle.jn_talk.proofs.Tellings.{texts_of, ops-of-texts, ops-more, owner-more}
+use Rattle.jn_talk.proofs.Quiet.{AreDumb, dumb-ops, dumb-owners}
+use Rattle.jn_talk.proofs.Runs.{TellsAs}
+use Rattle.jn_talk.proofs.Agreeing.{stands-from, Stands, step-stands, opening-stands, stands-told}
+
+-- ---- lines
+
+texts-more : (xs ys : List Line) → texts_of (xs ++ ys) ≡ texts_of xs ++ texts_of ys
+texts-more [] ys = refl
+texts-more (x ∷ xs) ys = ap (λ z. x.text ∷ z) (texts-more xs ys)
+
+texts-at : (number : ℕ) (texts : List Text) → texts_of (at_event number texts) ≡ texts
+texts-at number [] = refl
+texts-at number (x ∷ texts) = ap (λ z. x ∷ z) (texts-at number texts)
+
+commit-text : (text : Text) → commit_in text ≡ committed_in text
+commit-text (says.Commit T) = refl
+commit-text _ = refl
+
+history-texts : (lines : List Line) → history_of lines ≡ commits_in (texts_of lines)
+history-texts [] = refl
+history-texts (l ∷ lines) = ap (λ z. z ++ history_of lines) (commit-text l.text) ∙ ap (λ z. committed_in l.text ++ z) (history-texts lines)
+
+-- these lines tell of each transaction what those do
+pub record TellSame (events : List Event) (xs ys : List Text) : Type 0 where
+  pub ops : (T : Tid) (o : Option ClientNo) → ops_in events T o xs ≡ ops_in events T o ys
+  pub owner : (T : Tid) (o : Option ClientNo) → owner_in T o xs ≡ owner_in T o ys
+  pub commits : commits_in xs ≡ commits_in ys
+
+tell-same : (events : List Event) (xs : List Text) → TellSame events xs xs
+tell-same events xs = record { ops = λ T o. refl; owner = λ T o. refl; commits = refl }
+
+tell-none : (events : List Event) (xs : List Text) → AreDumb xs → commits_in xs ≡ [] → TellSame events xs []
+tell-none events xs h e = record { ops = λ T o. dumb-ops events T o xs h; owner = λ T o. dumb-owners T o xs h; commits = e }
+
+tell-then : (events : List Event) (a b c d : List Text) → TellSame events a b → TellSame events c d → TellSame events (a ++ c) (b ++ d)
+tell-then events a b c d h k = record {
+  ops = λ T o. ops-more events T o a c ∙ ap (λ z. z ++ ops_in events T (owner_in T o a) c) (h.ops T o) ∙ ap (λ z. ops_in events T o b ++ ops_in events T z c) (h.owner T o) ∙ ap (λ z. ops_in events T o b ++ z) (k.ops T (owner_in T o b)) ∙ sym (ops-more events T o b d);
+  owner = λ T o. owner-more T o a c ∙ ap (λ z. owner_in T z c) (h.owner T o) ∙ k.owner T (owner_in T o b) ∙ sym (owner-more T o b d);
+  commits = commits-more a c ∙ ap (λ z. z ++ commits_in c) h.commits ∙ ap (λ z. commits_in b ++ z) k.commits ∙ sym (commits-more b d);
+}
+
+steps-append : (a b : List Step) (r : World) → run (a ++ b) r ≡ run b (run a r)
+steps-append [] b r = refl
+steps-append (step ∷ a) b r = steps-append a b (after step r)
+
+-- ---- acts
+
+module _ (events : List Event) (files : AllFiles) (epochs : ServerNo → ℕ) (ended : Tid → Bool) (before : List Text) where
+  -- acts, the world after them, and what they tell
+  record Told (r q : World) (texts : List Text) : Type 0 where
+    reached : Reached files epochs q
+    stands : Stands events files epochs ended before q
+    event : q.event ≡ r.event
+    new : List Text
+    lines : q.lines ≡ r.lines ++ new
+    same : TellSame events texts new
+
+  told-nothing : (r : World) (texts : List Text) → Reached files epochs r → Stands events files epochs ended before r → AreDumb texts → commits_in texts ≡ [] → Told r r texts
+  told-nothing r texts h k dumb e = record { reached = h; stands = k; event = refl; new = []; lines = sym (append-nil r.lines); same = tell-none events texts dumb e }
+
+  told-then : (r between q : World) (xs ys : List Text) → Told r between xs → Told between q ys → Told r q (xs ++ ys)
+  told-then r between q xs ys h k = record {
+    reached = k.reached;
+    stands = k.stands;
+    event = k.event ∙ h.event;
+    new = h.new ++ k.new;
+    lines = k.lines ∙ ap (λ z. z ++ k.new) h.lines ∙ append_assoc r.lines h.new k.new;
+    same = tell-then events xs h.new ys k.new h.same k.same;
+  }
+
+  told-step : (r : World) (step : Step) → Reached files epochs r → Stands events files epochs ended before r → IsStep step r → TellsAs events step r → (after step r).event ≡ r.event → Told r (after step r) (told_by (Does step) r)
+  told-step r step h k i e same = record {
+    reached = next-reached files epochs r step i h;
+    stands = step-stands events files epochs ended before step r i e k;
+    event = same;
+    new = told_by (Does step) r;
+    lines = adds files epochs r h step;
+    same = tell-same events (told_by (Does step) r);
+  }
+
+  quiet-tells : (step : Step) (r : World) → IsQuiet step → TellsAs events step r
+  quiet-tells (Tell c command) r h = absurd h
+  quiet-tells _ r h = tt
+
+  quiet-acts : (acts : List Act) (r : World) → Reached files epochs r → Stands events files epochs ended before r → IsRun (steps_in acts) r → Each IsQuietAct acts → Told r (run (steps_in acts) r) (told_in acts r)
+  quiet-acts [] r h k i q = told-nothing r [] h k tt refl
+  quiet-acts (Does step ∷ acts) r h k i q = let first = told-step r step h k i.0 (quiet-tells step r q.0) (step-hears r _ h.facts h.talk step q.0).same_event in
+      told-then r (after step r) (run (steps_in acts) (after step r)) (told_by (Does step) r) (told_in acts (after step r)) first (quiet-acts acts (after step r) first.reached first.stands i.1 q.1)
+  quiet-acts (Refused refusal ∷ acts) r h k i q = told-then r r (run (steps_in acts) r) (says.RefusedEvent refusal ∷ []) (told_in acts r) (told-nothing r (says.RefusedEvent refusal ∷ []) h k (tt, tt) refl) (quiet-acts acts r h k i q.1)
+  quiet-acts (Tells s fault ∷ acts) r h k i q = told-then r r (run (steps_in acts) r) (says.Outside s fault ∷ []) (told_in acts r) (told-nothing r (says.Outside s fault ∷ []) h k (tt, tt) refl) (quiet-acts acts r h k i q.1)
+
+  command-event : (c : ClientNo) (row : Commanded) (r : World) → (commanded c row r).event ≡ r.event
+  command-event c (Refuses refusal) r = refl
+  command-event c (Sends t to message) r = refl
+
+  command-acts : (c : ClientNo) (command : Command) (r : World) → Reached files epochs r → Stands events files epochs ended before r → event_at events r.event ≡ Some (kinds.Command c command)
+      → Told r (run (steps_in (Does (Tell c command) ∷ [])) r) (told_in (Does (Tell c command) ∷ []) r)
+  command-acts c command r h k e = subst (λ l. Told r (after (Tell c command) r) l) (sym (append-nil (told_by (Does (Tell c command)) r)))
+      (told-step r (Tell c command) h k tt e (command-event c (command_row (r.clients c) r.event command) r))
+
+  event-acts : (event : Event) (acts : List Act) (r : World) → Reached files epochs r → Stands events files epochs ended before r → IsRun (steps_in acts) r → IsUnder event acts → event_at events r.event ≡ Some event → Told r (run (steps_in acts) r) (told_in acts r)
+  event-acts (kinds.Command c command) acts r h k i under e = subst (λ l. Told r (run (steps_in l) r) (told_in l r)) (sym under) (command-acts c command r h k e)
+  event-acts (kinds.Show s) acts r h k i under e = absurd under
+  event-acts (kinds.Again c) acts r h k i under e = quiet-acts acts r h k i (under-quiet (kinds.Again c) acts tt under)
+  event-acts (kinds.Deliver n) acts r h k i under e = quiet-acts acts r h k i (under-quiet (kinds.Deliver n) acts tt under)
+  event-acts kinds.Settle acts r h k i under e = quiet-acts acts r h k i (under-quiet kinds.Settle acts tt under)
+  event-acts (kinds.Step s) acts r h k i under e = quiet-acts acts r h k i (under-quiet (kinds.Step s) acts tt under)
+  event-acts (kinds.Nudge s) acts r h k i under e = quiet-acts acts r h k i (under-quiet (kinds.Nudge s) acts tt under)
+  event-acts (kinds.Timeout s T) acts r h k i under e = quiet-acts acts r h k i (under-quiet (kinds.Timeout s T) acts tt under)
+  event-acts (kinds.Scrub s) acts r h k i under e = quiet-acts acts r h k i (under-quiet (kinds.Scrub s) acts tt under)
+  event-acts (kinds.Decay s page) acts r h k i under e = quiet-acts acts r h k i (under-quiet (kinds.Decay s page) acts tt under)
+  event-acts (kinds.Revive s page) acts r h k i under e = quiet-acts acts r h k i (under-quiet (kinds.Revive s page) acts tt under)
+  event-acts (kinds.Arm s n kind) acts r h k i under e = quiet-acts acts r h k i (under-quiet (kinds.Arm s n kind) acts tt under)
+  event-acts (kinds.Crash s) acts r h k i under e = quiet-acts acts r h k i (under-quiet (kinds.Crash s) acts tt under)
+  event-acts (kinds.Restart s) acts r h k i under e = quiet-acts acts r h k i (under-quiet (kinds.Restart s) acts tt under)
+
+  -- ---- items
+
+  pub record ItemsTold (items : List Item) (r : World) : Type 0 where
+    reached : Reached files epochs (world_of items r)
+    event : (world_of items r).event ≡ r.event + length items
+    stands : Stands events files epochs ended before (world_of items r)
+    new : List Text
+    lines : (world_of items r).lines ≡ r.lines ++ new
+    same : TellSame events (texts_of (lines_of items r)) new
+
+  one-item : (item : Item) (items : List Item) (r : World) → Told (after NextEvent r) (after_item item r) (told_under item r) → ItemsTold items (after_item item r) → ItemsTold (item ∷ items) r
+  one-item item items r h k = record {
+    reached = subst (λ (z : World). Reached files epochs z) (sym together) k.reached;
+    event = ap (λ (z : World). z.event) together ∙ k.event ∙ ap (λ n. n + length items) h.event ∙ one-more r.event (length items);
+    stands = subst (λ (z : World). Stands events files epochs ended before z) (sym together) k.stands;
+    new = h.new ++ k.new;
+    lines = ap (λ (z : World). z.lines) together ∙ k.lines ∙ ap (λ z. z ++ k.new) h.lines ∙ append_assoc r.lines h.new k.new;
+    same = subst (λ l. TellSame events l (h.new ++ k.new)) (sym (texts-more (at_event (r.event + 1) (told_under item r)) (lines_of items (after_item item r)) ∙ ap (λ z. z ++ texts_of (lines_of items (after_item item r))) (texts-at (r.event + 1) (told_under item r))))
+        (tell-then events (told_under item r) h.new (texts_of (lines_of items (after_item item r))) k.new h.same k.same);
+  }
+    where
+      together : world_of (item ∷ items) r ≡ world_of items (after_item item r)
+      together = steps-append (steps_in item.acts) (steps_of items) (after NextEvent r)
+
+      one-more : (n m : ℕ) → n + 1 + m ≡ n + suc m
+      one-more n m = omega arith
+
+  length-more : (es : List Event) (e : Event) → length (es ++ e ∷ []) ≡ length es + 1
+  length-more [] e = refl
+  length-more (x ∷ es) e = ap (λ n. suc n) (length-more es e) ∙ move (length es)
+    where
+      move : (n : ℕ) → suc (n + 1) ≡ suc n + 1
+      move n = omega arith
+
+  next-number : (n : ℕ) → suc n ≡ n + 1
+  next-number n = omega arith
+
+  pub items-told : (items : List Item) (r : World) (es later : List Event) → events ≡ es ++ (events_of items ++ later) → length es ≡ r.event → Reached files epochs r → Stands events files epochs ended before r → IsRun (steps_of items) r → AreUnder items → ItemsTold items r
+  items-told [] r es later e n h k i under = record { reached = h; event = none r.event; stands = k; new = []; lines = sym (append-nil r.lines); same = tell-same events [] }
+    where
+      none : (n : ℕ) → n ≡ n + 0
+      none n = omega arith
+  items-told (item ∷ items) r es later e n h k i under =
+      let split = run-split (steps_in item.acts) (steps_of items) (after NextEvent r) i.1 in
+      let first = event-acts item.event item.acts (after NextEvent r) (next-reached files epochs r NextEvent tt h) (step-stands events files epochs ended before NextEvent r tt tt k) split.0 under.0
+      (ap (λ m. event_at events m) (sym (next-number r.event) ∙ ap suc (sym n)) ∙ ap (λ l. event_at l (suc (length es))) e ∙ event_at-next es (events_of items ++ later) item.event) in
+      one-item item items r first (items-told items (after_item item r) (es ++ item.event ∷ []) later (e ∙ sym (append_assoc es (item.event ∷ []) (events_of items ++ later))) (length-more es item.event ∙ ap (λ m. m + 1) n ∙ sym first.event) first.reached first.stands split.1 under.1)
+
+-- ---- a run and its beginning
+
+steps-more : (items more : List Item) → steps_of (items ++ more) ≡ steps_of items ++ steps_of more
+steps-more [] more = refl
+steps-more (item ∷ items) more = ap (λ l. NextEvent ∷ steps_in item.acts ++ l) (steps-more items more) ∙ ap (λ l. NextEvent ∷ l) (sym (append_assoc (steps_in item.acts) (steps_of items) (steps_of more)))
+
+events-more : (items more : List Item) → events_of (items ++ more) ≡ events_of items ++ events_of more
+events-more [] more = refl
+events-more (item ∷ items) more = ap (λ l. item.event ∷ l) (events-more items more)
+
+under-split : (items more : List Item) → AreUnder (items ++ more) → AreUnder items × AreUnder more
+under-split [] more h = (tt, h)
+under-split (item ∷ items) more h = let k = under-split items more h.1 in ((h.0, k.0), k.1)
+
+lines-more : (items more : List Item) (r : World) → lines_of (items ++ more) r ≡ lines_of items r ++ lines_of more (world_of items r)
+lines-more [] more r = refl
+lines-more (item ∷ items) more r = ap (λ l. at_event (r.event + 1) (told_under item r) ++ l)
+    (lines-more items more (after_item item r) ∙ ap (λ (z : World). lines_of items (after_item item r) ++ lines_of more z) (sym (steps-append (steps_in item.acts) (steps_of items) (after NextEvent r))))
+    ∙ sym (append_assoc (at_event (r.event + 1) (told_under item r)) (lines_of items (after_item item r)) (lines_of more (world_of (item ∷ items) r)))
+
+length-events : (items : List Item) → length (events_of items) ≡ length items
+length-events [] = refl
+length-events (item ∷ items) = ap (λ n. suc n) (length-events items)
+
+none-more : (n : ℕ) → n ≡ 0 + n
+none-more n = omega arith
+
+module _ (servers : ℕ) (files : AllFiles) (epochs : ServerNo → ℕ) (items more : List Item) (h : IsReported (items ++ more) (opening servers files epochs)) where
+  abbrev start : World
+  start = opening servers files epochs
+
+  abbrev all : List Event
+  all = events_of (items ++ more)
+
+  split : IsRun (steps_of items) start × IsRun (steps_of more) (world_of items start)
+  split = run-split (steps_of items) (steps_of more) start (subst (λ l. IsRun l start) (steps-more items more) h.steps)
+
+  -- the beginning
+  first : ItemsTold all files epochs (λ T. false) [] items start
+  first = items-told all files epochs (λ T. false) [] items start [] (events_of more) (events-more items more) refl (opening-reached files epochs servers) (opening-stands all files epochs servers) split.0 (under-split items more h.under).0
+
+  abbrev ended : Tid → Bool
+  ended = (run_atoms first.stands.atoms (opening_world files epochs)).ended
+
+  -- and the rest
+  rest : ItemsTold all files epochs ended (world_of items start).lines more (world_of items start)
+  rest = items-told all files epochs ended (world_of items start).lines more (world_of items start) (events_of items) [] (events-more items more ∙ ap (λ l. events_of items ++ l) (sym (append-nil (events_of more)))) (length-events items ∙ none-more (length items) ∙ sym first.event) first.reached
+      (stands-from all files epochs (λ T. false) [] (world_of items start) first.stands) split.1 (under-split items more h.under).1
+
+  its-ops : (T : Tid) → ended T ≡ true → ops_of all (lines_of (items ++ more) start) T ≡ ops_in all T None (world_of items start).lines
+  its-ops T e = ops-of-texts all T None (lines_of (items ++ more) start) ∙ ap (λ l. ops_in all T None l) (ap texts_of (lines-more items more start) ∙ texts-more (lines_of items start) (lines_of more (world_of items start)))
+      ∙ (tell-then all (texts_of (lines_of items start)) first.new (texts_of (lines_of more (world_of items start))) rest.new first.same rest.same).ops T None
+      ∙ ap (λ l. ops_in all T None (l ++ rest.new)) (sym first.lines) ∙ ap (λ l. ops_in all T None l) (sym rest.lines) ∙ rest.stands.kept T e
+
+  pub beginning-as-told : AreAsTold files all (lines_of (items ++ more) start) (lines_of items start) (world_of items start)
+  beginning-as-told = stands-told all files epochs (λ T. false) [] (world_of items start) (lines_of (items ++ more) start) (lines_of items start) first.stands (record {
+    ops = its-ops;
+    commits = history-texts (lines_of items start) ∙ first.same.commits ∙ ap commits_in (sym first.lines);
+  })
+
+-- ---- the whole run
+
+pub run-as-told : (servers : ℕ) (files : AllFiles) (epochs : ServerNo → ℕ) (items : List Item) → IsReported items (opening servers files epochs)
+    → AreAsTold files (events_of items) (lines_of items (opening servers files epochs)) (lines_of items (opening servers files epochs)) (world_of items (opening servers files epochs))
+run-as-told servers files epochs items = let start = opening servers files epochs in
+    subst (λ l. IsReported l start → AreAsTold files (events_of l) (lines_of l start) (lines_of items start) (world_of items start)) (append-nil items) (beginning-as-told servers files epochs items [])
