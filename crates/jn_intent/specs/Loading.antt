@@ -40,12 +40,15 @@ pub record IsLoaded (server : ServerNo) (g : Counts) (v : StoreView) (told : Fou
   pub heads : w.accounts.heads ≡ g.heads
   pub leaves : w.accounts.leaves ≡ g.leaves
   pub recovered : IsRecovered w
+  -- one state, whatever is picked now
   pub before : Pick
   pub found : (c : Pick) → w.found c ≡ record (found_on g v before) { epoch = suc (found_on g v before).epoch }
   pub epoch : told.epoch ≡ (state w).epoch
   pub flags : TellsFlags w told.flags
+  -- each page was cleaned
   pub clean : (i : ℕ) → i < v.count → IsClean w.store i
   pub whole : IsCalm v → (i : ℕ) → i < v.count → IsWhole w.store i
+  -- where there is nothing to load, nothing is said of stops meanwhile
   pub no_stop : 0 < g.pool → 0 < g.heads → w.store.stops ≡ v.stops
 
 -- the root that was read has the last epoch, and nothing was put but by cleanups

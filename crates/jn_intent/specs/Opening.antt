@@ -44,7 +44,7 @@ pub record IsRead (server : ServerNo) (g : Counts) (v : StoreView) (most : ℕ) 
 pub record Stands (server : ServerNo) (g : Counts) (v : StoreView) (most was epoch : ℕ) (records : List Record) (heads : List Head) (w : StoreView) : Type 0 where
   pub later : StoreLater v w
   pub calls : w.calls ≤ v.calls + most
-  -- a load of nothing says nothing of stops
+  -- where there is nothing to load, nothing is said of stops meanwhile
   pub stops : 0 < g.pool → 0 < g.heads → w.stops ≡ v.stops
   pub standing : IsStanding server g w epoch records heads
   pub before : Pick
