@@ -12,11 +12,11 @@ use Rattle.jn_records.specs.declared.head.Head.{Head}
 use Rattle.jn_records.specs.declared.record.Record.{Record}
 use Rattle.jn_records.specs.declared.root.Root.{Root}
 use Rattle.jn_records.specs.Pages.{root_page}
-use Rattle.jn_records.specs.StablePages.{Counts, page_count}
+use Rattle.jn_records.specs.StablePages.{Counts}
 use Rattle.jn_rows.specs.Stable.{StableState}
 use Rattle.jn_store.specs.Store.{StoreView, StorePut, IsClean, IsWhole}
 use Rattle.jn_store.proofs.Laws.{later_trans, only_clean, stop_since, calm_on}
-use Rattle.jn_intent.specs.Loading.{IsSameOrNext, IsDown, most_calls}
+use Rattle.jn_intent.specs.Loading.{IsSameOrNext, IsDown, reading_calls, most_calls}
 use Rattle.jn_intent.specs.Memory.{rubbish_in}
 use Rattle.jn_intent.specs.Opening.{next_root, Stands, IsOpened, ErasesAll, EraseStopped, IsBegun}
 use Rattle.jn_intent.specs.declared.load.DownCause.TheVariants.{Stopped}
@@ -61,7 +61,7 @@ module _ (server : ServerNo) (g : Counts) (v : StoreView) (o : Opened) (u : Stor
         )))
         (stop_since v u x at.stands.later put.later (put.stop bad)) (λ quiet. true≢false (sym (put.calm (at.stands.later.calm quiet)).0 ∙ bad))
 
-    pub put_stands : ok ≡ true → Stands server g v (16 * page_count g + 8 * (1 + g.pool + g.heads) + 16) o.root.epoch (o.root.epoch + 1) o.sets o.table.heads x
+    pub put_stands : ok ≡ true → Stands server g v (reading_calls g + 16) o.root.epoch (o.root.epoch + 1) o.sets o.table.heads x
     put_stands done = record {
       later = later_trans v u x at.stands.later put.later;
       calls = let a = at.stands.calls in let b = put.calls in omega (arith, a, b);
@@ -115,11 +115,11 @@ begun server g v o u x at put new y all p a b c = record {
   last = subst (λ (r : Root). r.epoch < 4294967295) (sym a) at.last;
   next = ap (λ (r : Root). r.epoch + 1) (sym a);
   table = subst (IsTableLoaded g) (sym c) at.table;
-  stands = subst (λ n. Stands server g v n p.root.epoch (o.root.epoch + 1) p.sets p.table.heads y) (let e : 16 * page_count g + 8 * (1 + g.pool + g.heads) + 16 + 16 * g.pool ≡ 16 * page_count g + 8 * (1 + g.pool + g.heads) + 16 * (1 + g.pool) = omega arith in e)
-      (subst (λ (r : Root). Stands server g v (16 * page_count g + 8 * (1 + g.pool + g.heads) + 16 + 16 * g.pool) r.epoch (o.root.epoch + 1) p.sets p.table.heads y) (sym a)
-      (subst (λ l. Stands server g v (16 * page_count g + 8 * (1 + g.pool + g.heads) + 16 + 16 * g.pool) o.root.epoch (o.root.epoch + 1) l p.table.heads y) (sym b)
-      (subst (λ (t : TableView). Stands server g v (16 * page_count g + 8 * (1 + g.pool + g.heads) + 16 + 16 * g.pool) o.root.epoch (o.root.epoch + 1) new t.heads y) (sym c)
-      (erase_stands server g v (16 * page_count g + 8 * (1 + g.pool + g.heads) + 16) o.root.epoch o.sets o.table.heads x (put_stands server g v o u at true x put refl) new y all))));
+  stands = subst (λ n. Stands server g v n p.root.epoch (o.root.epoch + 1) p.sets p.table.heads y) (let e : reading_calls g + 16 + 16 * g.pool ≡ most_calls g = omega arith in e)
+      (subst (λ (r : Root). Stands server g v (reading_calls g + 16 + 16 * g.pool) r.epoch (o.root.epoch + 1) p.sets p.table.heads y) (sym a)
+      (subst (λ l. Stands server g v (reading_calls g + 16 + 16 * g.pool) o.root.epoch (o.root.epoch + 1) l p.table.heads y) (sym b)
+      (subst (λ (t : TableView). Stands server g v (reading_calls g + 16 + 16 * g.pool) o.root.epoch (o.root.epoch + 1) new t.heads y) (sym c)
+      (erase_stands server g v (reading_calls g + 16) o.root.epoch o.sets o.table.heads x (put_stands server g v o u at true x put refl) new y all))));
   power = all.erases.power (put.served refl).power;
   none_left = subst (λ l. rubbish_in l l ≡ []) (sym b) all.none_left;
 }

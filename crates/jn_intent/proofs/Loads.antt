@@ -1,5 +1,5 @@
 -- What a recovery keeps in memory is what stands on the pages, and the storage serves.
-use Rattle.std.proofs.Common.{◌≡◌, inr, ◌<◌, ◌≤◌, ◌+◌, ◌*◌, ℕ, suc, true, false, List, [], Option, Some, None, refl, sym, ◌∙◌, ap, subst, arith}
+use Rattle.std.proofs.Common.{◌≡◌, inr, ◌<◌, ◌≤◌, ◌+◌, ℕ, suc, true, false, List, [], Option, Some, None, refl, sym, ◌∙◌, ap, subst, arith}
 use Rattle.std.proofs.lemmas.List.Sums.{count_by-le-length}
 use Rattle.std.specs.List.{list_any}
 use Rattle.jn_base.specs.declared.names.ServerNo.{ServerNo}
@@ -13,7 +13,7 @@ use Rattle.jn_records.specs.declared.head.Head.{Head}
 use Rattle.jn_records.specs.declared.record.Record.{Record}
 use Rattle.jn_records.specs.declared.root.Root.{Root}
 use Rattle.jn_records.specs.declared.work.WorkState.{WorkState}
-use Rattle.jn_records.specs.StablePages.{Counts, page_count}
+use Rattle.jn_records.specs.StablePages.{Counts}
 use Rattle.jn_rows.specs.Stable.{StableState}
 use Rattle.jn_sets.specs.Pool.{record_in}
 use Rattle.jn_storage.specs.Storage.{IsServing}
@@ -108,11 +108,11 @@ module _ (server : ServerNo) (v : StoreView) (most was : ℕ) (pool : List Recor
 -- ---- of what the code has begun with
 
 module _ (server : ServerNo) (g : Counts) (v : StoreView) (p : Opened) (epoch : ℕ) (w : StoreView) (at : IsBegun server g v p epoch w) where
-  begins : Stands server g v (16 * page_count g + 8 * (1 + g.pool + g.heads) + 16 * (1 + g.pool)) p.root.epoch (p.root.epoch + 1) p.sets p.table.heads w
-  begins = subst (λ n. Stands server g v (16 * page_count g + 8 * (1 + g.pool + g.heads) + 16 * (1 + g.pool)) p.root.epoch n p.sets p.table.heads w) at.next at.stands
+  begins : Stands server g v (most_calls g) p.root.epoch (p.root.epoch + 1) p.sets p.table.heads w
+  begins = subst (λ n. Stands server g v (most_calls g) p.root.epoch n p.sets p.table.heads w) at.next at.stands
 
   pub no_memory : IsDown server g v NoMemory w
-  no_memory = memory_gone server g v (16 * page_count g + 8 * (1 + g.pool + g.heads) + 16 * (1 + g.pool)) p.root.epoch p.sets p.table.heads w begins (omega arith) at.last
+  no_memory = memory_gone server g v (most_calls g) p.root.epoch p.sets p.table.heads w begins (omega arith) at.last
 
   all : IsConsistent server g (held_contents g w epoch p.sets p.table.heads (λ n. false))
   all = consistent server g w epoch p.sets p.table.heads at.stands.standing
@@ -157,15 +157,15 @@ module _ (server : ServerNo) (g : Counts) (v : StoreView) (p : Opened) (epoch : 
     promised : k.table.free_heads.promised ≡ all_needed k.table.heads (works_on p.sets)
     promised = ap (λ (t : TableView). t.free_heads.promised) table.promises ∙ ap (λ l. all_needed l (works_on p.sets)) (sym heads_are)
 
-    stood : Stands server k.table.counts v (16 * page_count g + 8 * (1 + g.pool + g.heads) + 16 * (1 + g.pool)) p.root.epoch (p.root.epoch + 1) p.sets k.table.heads w
-    stood = subst (λ c. Stands server c v (16 * page_count g + 8 * (1 + g.pool + g.heads) + 16 * (1 + g.pool)) p.root.epoch (p.root.epoch + 1) p.sets k.table.heads w) (sym counts_are)
-        (subst (λ l. Stands server g v (16 * page_count g + 8 * (1 + g.pool + g.heads) + 16 * (1 + g.pool)) p.root.epoch (p.root.epoch + 1) p.sets l w) (sym heads_are) begins)
+    stood : Stands server k.table.counts v (most_calls g) p.root.epoch (p.root.epoch + 1) p.sets k.table.heads w
+    stood = subst (λ c. Stands server c v (most_calls g) p.root.epoch (p.root.epoch + 1) p.sets k.table.heads w) (sym counts_are)
+        (subst (λ l. Stands server g v (most_calls g) p.root.epoch (p.root.epoch + 1) p.sets l w) (sym heads_are) begins)
 
     pub kept_matches : Matches (memory_kept k) w
-    kept_matches = subst (λ m. Matches m w) (sym memory_is) (matches server v (16 * page_count g + 8 * (1 + g.pool + g.heads) + 16 * (1 + g.pool)) p.root.epoch p.sets w k.table stood at.power at.none_left is_table held promised)
+    kept_matches = subst (λ m. Matches m w) (sym memory_is) (matches server v (most_calls g) p.root.epoch p.sets w k.table stood at.power at.none_left is_table held promised)
 
     pub kept_loaded : (told : Found) → told.epoch ≡ epoch → told.flags ≡ flags_on p.sets → IsLoaded server g v told (view_of (memory_kept k) w)
     kept_loaded told e f = subst (λ m. IsLoaded server g v told (view_of m w)) (sym memory_is)
         (subst (λ c. IsLoaded server c v told (view_of (memory_at server (p.root.epoch + 1) p.sets k.table) w)) counts_are
-        (loaded server v (16 * page_count g + 8 * (1 + g.pool + g.heads) + 16 * (1 + g.pool)) p.root.epoch p.sets w k.table stood at.power at.none_left is_table held promised
-        (subst (λ c. 16 * page_count g + 8 * (1 + g.pool + g.heads) + 16 * (1 + g.pool) ≤ most_calls c) (sym counts_are) (omega arith)) told (e ∙ at.next) f))
+        (loaded server v (most_calls g) p.root.epoch p.sets w k.table stood at.power at.none_left is_table held promised
+        (subst (λ c. most_calls g ≤ most_calls c) (sym counts_are) (omega arith)) told (e ∙ at.next) f))

@@ -26,7 +26,7 @@ use Rattle.jn_sets.specs.declared.fault.LoadFault.TheVariants.{Stopped as SetsSt
 use Rattle.jn_store.specs.Store.{StoreView, StoreLater, IsSamePage, IsCalm, IsStop, IsServed, IsOnly}
 use Rattle.jn_store.proofs.Laws.{later_trans, same_shrinks, stop_since}
 use Rattle.jn_intent.specs.Causes.{of_sets, of_table}
-use Rattle.jn_intent.specs.Loading.{Recovering, IsDown, IsNotUsedUp, most_calls}
+use Rattle.jn_intent.specs.Loading.{Recovering, IsDown, IsNotUsedUp, reading_calls, most_calls}
 use Rattle.jn_intent.specs.Opening.{IsRead, Stands, RootRead, IsOpened}
 use Rattle.jn_intent.specs.Scrubbing.{CleansTo}
 use Rattle.jn_intent.specs.declared.load.DownCause.{DownCause}
@@ -173,7 +173,7 @@ module _ (server : ServerNo) (g : Counts) (v : StoreView) (before : IsRecoverabl
           pub table_exit : (fault : TableFault) → (fault ≡ TableStopped → IsStop y z) → (IsCalm y → fault ≡ TableStopped → ⊥) → IsDown server g v (of_table fault) z
           table_exit fault stop calm = table_down server g v (16 * page_count g + 8 * 1 + 8 * o.pool) y with_pool (8 * o.heads) z last.later last.calls last.same few before left fault stop calm
 
-          with_heads : IsRead server g v (16 * page_count g + 8 * (1 + g.pool + g.heads)) z
+          with_heads : IsRead server g v (reading_calls g) z
           with_heads = subst (λ n. IsRead server g v n z) (let e = pool_is in let f = heads_is in omega (arith, e, f))
               (reads_more server g v (16 * page_count g + 8 * 1 + 8 * o.pool) y with_pool (8 * o.heads) z last.later last.calls last.same)
 
@@ -182,7 +182,7 @@ module _ (server : ServerNo) (g : Counts) (v : StoreView) (before : IsRecoverabl
             root = a ∙ good.0 ∙ ap (root_by server g) (sym (ap (λ (k : Root). k.epoch) (a ∙ good.0)));
             last = subst (λ n. n < 4294967295) (sym (ap (λ (k : Root). k.epoch) (a ∙ good.0))) good.1;
             table = subst (IsTableLoaded g) (sym c) (subst (λ (k : Root). IsTableLoaded (counts_of k) t) good.0 loaded);
-            stands = stands server g v (16 * page_count g + 8 * (1 + g.pool + g.heads)) z with_heads w.root.epoch w.sets w.table.heads now
+            stands = stands server g v (reading_calls g) z with_heads w.root.epoch w.sets w.table.heads now
                 (λ pool heads. (three (subst (λ n. 0 < n) (sym heads_is) heads)).stops ∙ (two (subst (λ n. 0 < n) (sym pool_is) pool)).stops ∙ one.stops ∙ to.stops);
           }
             where

@@ -19,9 +19,13 @@ pub record IsSameOrNext (x y : StableState) : Type 0 where
   pub same : y ≡ record x { epoch = y.epoch }
   pub epoch : (y.epoch ≡ x.epoch) ⊎ (y.epoch ≡ suc x.epoch)
 
--- Each page is cleaned, the root, the records and the heads are read, and the root and at most each record are put.
+-- Each page is cleaned, and the root, the records and the heads are read.
+abbrev pub reading_calls : Counts → ℕ
+reading_calls g = 16 * page_count g + 8 * (1 + g.pool + g.heads)
+
+-- The root, and each record at most, are put.
 abbrev pub most_calls : Counts → ℕ
-most_calls g = 16 * page_count g + 8 * (1 + g.pool + g.heads) + 16 * (1 + g.pool)
+most_calls g = reading_calls g + 16 * (1 + g.pool)
 
 -- What a recovery leaves, however it ended: the next one may begin there, and by each pick it finds what some pick found
 -- before, in the same epoch or the next.
@@ -40,12 +44,15 @@ pub record IsLoaded (server : ServerNo) (g : Counts) (v : StoreView) (told : Fou
   pub heads : w.accounts.heads ≡ g.heads
   pub leaves : w.accounts.leaves ≡ g.leaves
   pub recovered : IsRecovered w
+  -- one state, whatever is picked now
   pub before : Pick
   pub found : (c : Pick) → w.found c ≡ record (found_on g v before) { epoch = suc (found_on g v before).epoch }
   pub epoch : told.epoch ≡ (state w).epoch
   pub flags : TellsFlags w told.flags
+  -- each page was cleaned
   pub clean : (i : ℕ) → i < v.count → IsClean w.store i
   pub whole : IsCalm v → (i : ℕ) → i < v.count → IsWhole w.store i
+  -- where there is nothing to load, nothing is said of stops meanwhile
   pub no_stop : 0 < g.pool → 0 < g.heads → w.store.stops ≡ v.stops
 
 -- the root that was read has the last epoch, and nothing was put but by cleanups

@@ -9,9 +9,10 @@ use Rattle.jn_found.specs.Puts.{IsFewer}
 use Rattle.jn_records.specs.declared.head.Head.{Head}
 use Rattle.jn_records.specs.declared.record.Record.{Record}
 use Rattle.jn_records.specs.declared.root.Root.{Root}
-use Rattle.jn_records.specs.StablePages.{Counts, page_count}
+use Rattle.jn_records.specs.StablePages.{Counts}
 use Rattle.jn_rows.specs.Stable.{Pick, Unchanged}
 use Rattle.jn_store.specs.Store.{StoreView, StoreLater, IsCalm, IsClean, IsWhole, IsStop}
+use Rattle.jn_intent.specs.Loading.{reading_calls, most_calls}
 use Rattle.jn_intent.specs.Memory.{rubbish_in}
 use Rattle.jn_intent.specs.declared.load.DownCause.{DownCause}
 use Rattle.jn_intent.specs.declared.load.DownCause.TheVariants.{Stopped, Memory, EpochsUsedUp}
@@ -44,7 +45,7 @@ pub record IsRead (server : ServerNo) (g : Counts) (v : StoreView) (most : ℕ) 
 pub record Stands (server : ServerNo) (g : Counts) (v : StoreView) (most was epoch : ℕ) (records : List Record) (heads : List Head) (w : StoreView) : Type 0 where
   pub later : StoreLater v w
   pub calls : w.calls ≤ v.calls + most
-  -- a load of nothing says nothing of stops
+  -- where there is nothing to load, nothing is said of stops meanwhile
   pub stops : 0 < g.pool → 0 < g.heads → w.stops ≡ v.stops
   pub standing : IsStanding server g w epoch records heads
   pub before : Pick
@@ -58,7 +59,7 @@ pub record IsOpened (server : ServerNo) (g : Counts) (v : StoreView) (o : Opened
   pub root : o.root ≡ root_by server g o.root.epoch
   pub last : o.root.epoch < 4294967295
   pub table : IsTableLoaded g o.table
-  pub stands : Stands server g v (16 * page_count g + 8 * (1 + g.pool + g.heads)) o.root.epoch o.root.epoch o.sets o.table.heads w
+  pub stands : Stands server g v (reading_calls g) o.root.epoch o.root.epoch o.sets o.table.heads w
 
 -- ---- rubbish
 
@@ -93,6 +94,6 @@ pub record IsBegun (server : ServerNo) (g : Counts) (v : StoreView) (o : Opened)
   pub last : o.root.epoch < 4294967295
   pub next : epoch ≡ o.root.epoch + 1
   pub table : IsTableLoaded g o.table
-  pub stands : Stands server g v (16 * page_count g + 8 * (1 + g.pool + g.heads) + 16 * (1 + g.pool)) o.root.epoch epoch o.sets o.table.heads w
+  pub stands : Stands server g v (most_calls g) o.root.epoch epoch o.sets o.table.heads w
   pub power : w.power ≡ true
   pub none_left : rubbish_in o.sets o.sets ≡ []

@@ -1,9 +1,8 @@
-use Rattle.std.proofs.Common.{◌≡◌, ◌+◌, ◌*◌, true, refl, sym, subst, arith, rules}
+use Rattle.std.proofs.Common.{◌≡◌, ◌+◌, true, refl, sym, subst, arith, rules}
 use Rattle.std.specs.Prelude.{is_ok}
 use Rattle.jn_records.specs.Pages.{root_page}
-use Rattle.jn_records.specs.StablePages.{page_count}
 use Rattle.jn_store.specs.Store.{StorePut}
-use Rattle.jn_intent.specs.Loading.{IsDown}
+use Rattle.jn_intent.specs.Loading.{IsDown, reading_calls}
 use Rattle.jn_intent.specs.Opening.{next_root, IsBegun}
 use Rattle.jn_intent.specs.declared.load.DownCause.TheVariants.{Stopped}
 use Rattle.jn_intent.proofs.Begins.{has_root, put_down, put_stands, erase_down, begun}
@@ -44,7 +43,7 @@ returns-in_err-erase_all-clause-down g c = λ server counts before.
     let w = g.S.StableStore.view c.erase_all.new.store in
     let at = put_stands server counts v o (g.S.StableStore.view c.open_store.new.store) (c.in_ok-opened.ensures.opened server counts before) (is_ok c.count_restart.result) x c.count_restart.ensures.put (search rules) in
     if_err_is c.from_residual-in_err-erase_all.result (λ cause. IsDown server counts v cause w) Stopped (search rules)
-    (erase_down server counts v (16 * page_count counts + 8 * (1 + counts.pool + counts.heads) + 16) o.root.epoch o.sets o.table.heads x at (omega arith) w
+    (erase_down server counts v (reading_calls counts + 16) o.root.epoch o.sets o.table.heads x at (omega arith) w
     (on_err c.erase_all.result _ (c.erase_all.ensures.stopped server counts (o.root.epoch + 1) o.table.heads at.standing) (search rules)))
 
 pub returns-clause-begun : goal.returns-clause-begun
