@@ -9,6 +9,7 @@ ghost use Rattle.jn_serial.specs.Follows.{Follows};
 ghost use Rattle.jn_serial.specs.Told.{Told};
 ghost use Rattle.jn_protocol.specs.World.{opening};
 ghost use Rattle.jn_reported.specs.Reported.{Item, events_of, lines_of, IsReported};
+ghost use Rattle.jn_reported.specs.Armed.{AreArmed};
 
 /// Whatever is done under the events of a schedule, stops and restarts among it: each answer to a client answers its
 /// outstanding command, in a form of that command.
@@ -22,4 +23,11 @@ pub fn answers_follow()
 pub fn outcomes_are_told()
     ensures { (servers : ℕ) (files : AllFiles) (epochs : ServerNo → ℕ) (items : List Item) → IsReported items (opening servers files epochs)
         → Told (lines_of items (opening servers files epochs)) }
+{}
+
+/// Whatever is done under the events of a schedule: each stop of a server has an arm of a stop before it that was accepted, of
+/// its own, and each fault that is refused has an arm before it, or a decay as its event.
+pub fn stops_and_faults_are_armed()
+    ensures { (servers : ℕ) (files : AllFiles) (epochs : ServerNo → ℕ) (items : List Item) → IsReported items (opening servers files epochs)
+        → AreArmed (events_of items) (lines_of items (opening servers files epochs)) }
 {}
