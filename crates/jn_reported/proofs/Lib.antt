@@ -22,3 +22,5 @@ pub mod PastAll
 pub mod Outcomes
 pub mod StepLines
 pub mod Unnamed
+pub mod Arming
+pub mod ArmedRuns

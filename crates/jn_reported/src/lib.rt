@@ -1,14 +1,17 @@
 //! What the lines of each run of the whole system say of its schedule: each answer answers a command, outcomes are told as
-//! they are, and each abort, stop and refused fault has its cause.
+//! they are, and each stop and refused fault has an event that can have given it.
 #![tactic(auto)]
 
-ghost use Rattle.std.specs.Prelude.{ℕ, List};
+ghost use Rattle.std.specs.Prelude.{◌≡◌, ℕ, List};
 ghost use Rattle.jn_base.specs.declared.names.ServerNo.{ServerNo};
 ghost use Rattle.jn_order.specs.Files.{AllFiles};
 ghost use Rattle.jn_serial.specs.Follows.{Follows};
 ghost use Rattle.jn_serial.specs.Told.{Told};
+ghost use Rattle.jn_protocol.specs.Example.{start};
 ghost use Rattle.jn_protocol.specs.World.{opening};
 ghost use Rattle.jn_reported.specs.Reported.{Item, events_of, lines_of, IsReported};
+ghost use Rattle.jn_reported.specs.Armed.{AreArmed};
+ghost use Rattle.jn_reported.specs.Example.{a_run, its_lines};
 
 /// Whatever is done under the events of a schedule, stops and restarts among it: each answer to a client answers its
 /// outstanding command, in a form of that command.
@@ -22,4 +25,17 @@ pub fn answers_follow()
 pub fn outcomes_are_told()
     ensures { (servers : ℕ) (files : AllFiles) (epochs : ServerNo → ℕ) (items : List Item) → IsReported items (opening servers files epochs)
         → Told (lines_of items (opening servers files epochs)) }
+{}
+
+/// Whatever is done under the events of a schedule: each stop of a server has an arm of a stop before it that was accepted, of
+/// its own, and each fault that is refused has an arm before it, or a decay as its event.
+pub fn stops_and_faults_are_armed()
+    ensures { (servers : ℕ) (files : AllFiles) (epochs : ServerNo → ℕ) (items : List Item) → IsReported items (opening servers files epochs)
+        → AreArmed (events_of items) (lines_of items (opening servers files epochs)) }
+{}
+
+/// A client makes a file and ends; its server is stopped while it puts the flag, and names the commit at its restart.
+pub fn a_commit_is_reported()
+    ensures reported { IsReported a_run start }
+    ensures lines { lines_of a_run start ≡ its_lines }
 {}
