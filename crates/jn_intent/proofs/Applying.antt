@@ -22,6 +22,7 @@ use Rattle.jn_found.specs.Contents.{intended, heads_name, works_name, is_head_of
 use Rattle.jn_found.specs.Held.{held_contents}
 use Rattle.jn_found.specs.Pages.{found_on}
 use Rattle.jn_found.specs.Puts.{HeadPut}
+use Rattle.jn_found.specs.Recoverable.{IsRecoverable}
 use Rattle.jn_found.specs.Standing.{IsStanding, Makes}
 use Rattle.jn_found.proofs.CallLaws.{carries}
 use Rattle.jn_found.proofs.HeadKept.{head_named}
@@ -492,6 +493,13 @@ module _ (m : Memory) (v : StoreView) (now : Matches m v) (serving : IsServing (
           by true e = absurd (true≢false (sym (c.nothing e).0 ∙ stopped))
           by false e = ((c.put e).put.stop stopped).dark
 
+      pub carried_recovers : (ok : Bool) → ok ≡ false → Carries m.table v i ok u w → IsRecoverable m.server u.counts w
+      carried_recovers ok stopped c = by (is_gone_already m.table i) refl
+        where
+          by : (b : Bool) → is_gone_already m.table i ≡ b → IsRecoverable m.server u.counts w
+          by true e = absurd (true≢false (sym (c.nothing e).0 ∙ stopped))
+          by false e = let puts = c.put e in subst (λ g. IsRecoverable m.server g w) (sym (ap (λ (t : TableView). t.counts) (puts.stopped stopped))) (makes ok u w puts).recoverable
+
 -- ---- the same of what the code makes
 
 module _ (m : Memory) (v : StoreView) (kept : IsKept m v) (serving : IsServing (view_of m v)) (work : WorkId) (l : List WorkState) (same : l ≡ m.works) (k : ℕ) (found : (k < length l) × ((d : WorkState) → work_eq (slice_index_or l k d).head.work work ≡ true))
@@ -521,6 +529,9 @@ module _ (m : Memory) (v : StoreView) (kept : IsKept m v) (serving : IsServing (
 
       pub apply_dark : ok ≡ false → IsKept (record m { table = u }) w
       apply_dark stopped power = absurd (true≢false (sym power ∙ carried_dark m v (kept serving.power) serving work s listed i (sym next ∙ some) u w ok stopped c))
+
+      pub apply_recovers : ok ≡ false → IsRecoverable m.server u.counts w
+      apply_recovers stopped = carried_recovers m v (kept serving.power) serving work s listed i (sym next ∙ some) u w ok stopped c
 
       pub apply_done : ok ≡ true → (xs works : List WorkState) → xs ≡ m.works → ((t : WorkState) → slice_index_or xs k t ≡ t → works ≡ slice_set xs k (counted_on t))
           → Matches (record m { table = u; works = works }) w × StepApplied (view_of m v) work (Ok true) (view_of (record m { table = u; works = works }) w)

@@ -11,6 +11,7 @@ use Rattle.jn_found.specs.Changes.{IsIdlePut}
 use Rattle.jn_found.specs.Contents.{holds_address}
 use Rattle.jn_found.specs.Pages.{found_on}
 use Rattle.jn_found.specs.Puts.{RecordPut}
+use Rattle.jn_found.specs.Recoverable.{IsRecoverable}
 use Rattle.jn_found.specs.Standing.{MakesNothing}
 use Rattle.jn_found.proofs.CallLaws.{idles}
 use Rattle.jn_records.specs.declared.intention.StoredIntention.{StoredIntention}
@@ -228,3 +229,10 @@ module _ (m : Memory) (v : StoreView) (kept : IsKept m v) (serving : IsServing (
           ok_or : (b : Bool) → is_ok answer ≡ b → Matches (record m { records = records }) w
           ok_or true is = let at = erased slot e in subst (λ r. Matches (record m { records = r }) w) (sym (at.1.done is)) (erased_matches m v (kept serving.power) serving slot e (is_ok answer) records w at.1 is)
           ok_or false is = let at = erased slot e in absurd (true≢false (sym power ∙ (at.1.put.stop is).dark))
+
+  pub erase_recovers : IsRecoverable m.server m.table.counts w
+  erase_recovers = by (position (is_rubbish m.records) m.records) refl
+    where
+      by : (o : Option ℕ) → position (is_rubbish m.records) m.records ≡ o → IsRecoverable m.server m.table.counts w
+      by None e = subst (IsRecoverable m.server m.table.counts) (sym (none e).2) (kept serving.power).standing.recoverable
+      by (Some slot) e = (makes m v (kept serving.power) serving slot e (is_ok answer) records w (erased slot e).1).recoverable

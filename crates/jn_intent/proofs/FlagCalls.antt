@@ -10,6 +10,7 @@ use Rattle.jn_base.proofs.Tells.{tid_tells}
 use Rattle.jn_found.specs.Changes.{IsFlagSlot, IsFlagPut}
 use Rattle.jn_found.specs.Contents.{flag_by, flags_in}
 use Rattle.jn_found.specs.Puts.{RecordPut}
+use Rattle.jn_found.specs.Recoverable.{IsRecoverable}
 use Rattle.jn_found.specs.Standing.{Makes}
 use Rattle.jn_found.proofs.CallLaws.{flags as flags_put, drops}
 use Rattle.jn_found.proofs.Found.{found_written, none_at}
@@ -282,6 +283,9 @@ module _ (m : Memory) (v : StoreView) (kept : IsKept m v) (serving : IsServing (
     drop_done flags puts e = subst (λ r. FlagDropped (view_of m v) t true (view_of (record m { records = r; flags = flags }) w)) (sym (puts.done refl))
         (subst (λ f. FlagDropped (view_of m v) t true (view_of (record m { records = slice_set m.records slot Free; flags = f }) w)) (sym e) (dropped_done m v (kept serving.power) serving t slot at has true records w puts refl))
 
+    pub drop_recovers : (ok : Bool) → Puts m.records v slot Free ok records w → IsRecoverable m.server m.table.counts w
+    drop_recovers ok puts = (makes m v (kept serving.power) serving t slot at has ok records w puts).recoverable
+
     pub drop_stopped : (b : Bool) → b ≡ false → Puts m.records v slot Free false records w → FlagDropped (view_of m v) t b (view_of (record m { records = records }) w)
     drop_stopped b e puts = subst (λ r. FlagDropped (view_of m v) t b (view_of (record m { records = r }) w)) (sym (puts.stopped refl))
         (subst (λ c. FlagDropped (view_of m v) t c (view_of m w)) (sym e) (dropped_stopped m v (kept serving.power) serving t slot at has false records w puts refl))
@@ -315,6 +319,9 @@ module _ (m : Memory) (v : StoreView) (kept : IsKept m v) (serving : IsServing (
     -- a put that fails was stopped
     pub put_dark : ok ≡ false → w.power ≡ false
     put_dark stopped = (its_put.put.stop stopped).dark
+
+    pub put_recovers : IsRecoverable m.server m.table.counts w
+    put_recovers = (makes_flag m v (kept serving.power) serving flag place.0 promised may less place.1 record_is ok records w its_put).recoverable
 
   -- ---- promises
 

@@ -10,6 +10,7 @@ use Rattle.jn_base.proofs.Tells.{work_tells}
 use Rattle.jn_found.specs.Changes.{IsReadySlot}
 use Rattle.jn_found.specs.Contents.{prepared_by, stored_list, holds_address}
 use Rattle.jn_found.specs.Puts.{RecordPut}
+use Rattle.jn_found.specs.Recoverable.{IsRecoverable}
 use Rattle.jn_found.specs.Standing.{Makes}
 use Rattle.jn_found.proofs.CallLaws.{marks}
 use Rattle.jn_found.proofs.Found.{found_written}
@@ -257,6 +258,10 @@ module _ (m : Memory) (v : StoreView) (kept : IsKept m v) (serving : IsServing (
   module _ (ok : Bool) (records : List Record) (w : StoreView) (puts : Puts m.records v slot (going_of (record_in m.records slot)) ok records w) where
     its_puts : Puts m.records v slot (Going its.0 its.1 its.2) ok records w
     its_puts = subst (λ r. Puts m.records v slot (going_of r) ok records w) its.3 puts
+
+    -- done or stopped
+    pub mark_recovers : IsRecoverable m.server m.table.counts w
+    mark_recovers = (makes m v (kept serving.power) serving slot its.0 its.1 its.2 its.3 at_head ok records w its_puts).recoverable
 
     module _ (works : List WorkState) (marked : MarksWork m.works work works) where
       its_mark : MarksWork m.works its.0.work works

@@ -5,16 +5,21 @@ use Rattle.jn_base.specs.declared.device.Stopped.{Stopped}
 use Rattle.jn_base.specs.declared.names.BlockNo.{BlockNo}
 use Rattle.jn_base.specs.declared.names.FileNo.{FileNo}
 use Rattle.jn_base.specs.declared.names.LockUnit.TheVariants.{Block}
+use Rattle.jn_base.specs.declared.names.ServerNo.{ServerNo}
 use Rattle.jn_order.specs.Files.{Files}
 use Rattle.jn_files.specs.Table.{exists, is_mapped}
 use Rattle.jn_files.specs.Calls.{NextFile as NextHead, is_above as is_above_head, Fits, BlockGot}
 use Rattle.jn_files.specs.Pages.{Holds}
 use Rattle.jn_rows.specs.Stable.{Pick}
 use Rattle.jn_found.specs.Pages.{found_on}
+use Rattle.jn_found.specs.Recoverable.{IsRecoverable}
+use Rattle.jn_found.proofs.Picking.{fewer_recoverable}
 use Rattle.jn_records.specs.declared.head.Head.{Head}
+use Rattle.jn_records.specs.StablePages.{Counts}
 use Rattle.jn_storage.specs.Storage.{IsServing, file_there}
 use Rattle.jn_storage.specs.Calls.{state, NextFile, is_above, BlockRead}
 use Rattle.jn_store.specs.Store.{StoreView, StoreLater, IsSamePage, IsServed, IsStop}
+use Rattle.jn_store.proofs.Laws.{same_shrinks}
 use Rattle.jn_intent.specs.Memory.{Memory, view_of}
 use Rattle.jn_intent.specs.Matches.{IsKept, Matches}
 use Rattle.jn_intent.proofs.Serving.{serves_of, serving_by, loadable_found}
@@ -52,6 +57,10 @@ pub holds_seen : (m : Memory) (v : StoreView) → IsKept m v → IsServing (view
 holds_seen m v kept serving = let now = kept_now m v kept serving in holds m.server m.table.counts v m.epoch m.records m.table.heads now.standing now.table.heads
 
 -- ---- a block is read
+
+-- whether or not the store has power, no page has another candidate
+pub same_recoverable : (server : ServerNo) (g : Counts) (v w : StoreView) → IsRecoverable server g v → w.count ≡ v.count → ((j : ℕ) → IsSamePage v w j) → IsRecoverable server g w
+same_recoverable server g v w before count same = fewer_recoverable v w (record { count = count; shrinks = λ j lt. same_shrinks v w j (same j) }) server g before
 
 module _ (m : Memory) (v w : StoreView) (kept : IsKept m v) (serving : IsServing (view_of m v)) (later : StoreLater v w) (same : (j : ℕ) → IsSamePage v w j) where
   now : Matches m v

@@ -429,6 +429,11 @@ module _ (m : Memory) (v : StoreView) (head : WorkHead) (list : List FullIntenti
         prepare_stopped stopped k server table =
             ready_stopped m v h.now h.serving head list reads h.may h.enough n stored records t w (s.done done) (s.all done) slot at whole put new x its_puts stopped k server table
 
+        -- done or stopped
+        pub prepare_recovers : IsRecoverable m.server t.counts x
+        prepare_recovers = subst (λ g. IsRecoverable m.server g x) (sym (s.done done).pages.counts)
+            (makes m v h.now h.serving head list reads h.may h.enough n stored records t w (s.done done) (s.all done) slot at whole put new x its_puts).recoverable
+
         module _ (works : List WorkState) (works_are : works ≡ m.works ++ ready_state head stored reads ∷ []) (is : put ≡ true) where
           same : record m { records = slice_set records slot (Ready head (length list) reads); table = t; works = m.works ++ ready_state head stored reads ∷ [] } ≡ record m { records = new; table = t; works = works }
           same = λ i. record m { records = sym (its_puts.done is) i; table = t; works = sym works_are i }

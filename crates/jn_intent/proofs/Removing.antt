@@ -17,7 +17,7 @@ use Rattle.jn_found.specs.Contents.{intended, stored_list, prepared_by, works_na
 use Rattle.jn_found.specs.Held.{held_contents}
 use Rattle.jn_found.specs.Pages.{block_on, pages_by, found_on}
 use Rattle.jn_found.specs.Puts.{RecordPut}
-use Rattle.jn_found.specs.Recoverable.{IsConsistent, IsCompleteBy, HasIntentions}
+use Rattle.jn_found.specs.Recoverable.{IsRecoverable, IsConsistent, IsCompleteBy, HasIntentions}
 use Rattle.jn_found.specs.Standing.{IsStanding, Makes}
 use Rattle.jn_found.proofs.CallLaws.{removes}
 use Rattle.jn_found.proofs.Found.{found_any}
@@ -323,3 +323,6 @@ module _ (m : Memory) (v : StoreView) (kept : IsKept m v) (serving : IsServing (
   pub stopped_there : (slot : ℕ) → position (is_prepared work) m.records ≡ Some slot → (records : List Record) (w : StoreView) → Puts m.records v slot Free false records w
       → (b : Bool) → b ≡ false → WorkRemoved (view_of m v) work b (view_of (record m { records = records }) w)
   stopped_there slot at records w puts b e = remove_stopped slot at its_state.0 its_state.1 false records w puts refl b e
+
+  pub remove_recovers : (slot : ℕ) → position (is_prepared work) m.records ≡ Some slot → (ok : Bool) (records : List Record) (w : StoreView) → Puts m.records v slot Free ok records w → IsRecoverable m.server m.table.counts w
+  remove_recovers slot at ok records w puts = (makes slot at its_state.0 its_state.1 ok records w puts).recoverable

@@ -7,6 +7,7 @@ use Rattle.jn_device.specs.Device.{DeviceState, PageState}
 use Rattle.jn_device.specs.Events.{Decays}
 use Rattle.jn_found.specs.Pages.{found_on}
 use Rattle.jn_found.specs.Puts.{IsFewer}
+use Rattle.jn_found.specs.Recoverable.{IsRecoverable}
 use Rattle.jn_found.specs.Standing.{IsStanding}
 use Rattle.jn_found.proofs.HeldLaws.{cleaned_fewer, fewer_refl, fewer_trans}
 use Rattle.jn_found.proofs.Picking.{fewer_found, fewer_recoverable}
@@ -20,6 +21,7 @@ use Rattle.jn_store.proofs.Laws.{later_refl, later_trans, stop_since, shrinks_on
 use Rattle.jn_intent.specs.Memory.{Memory, view_of}
 use Rattle.jn_intent.specs.Matches.{Matches, IsKept}
 use Rattle.jn_intent.specs.Scrubbing.{CleansTo, Scrubbed}
+use Rattle.jn_intent.proofs.Reading.{same_recoverable}
 use Rattle.jn_intent.proofs.Serving.{serves_of, serving_by, loadable_found}
 use Rattle.jn_intent.proofs.Standing.{standing_same}
 
@@ -111,22 +113,29 @@ module _ (m : Memory) (v w : StoreView) (kept : IsKept m v) (fewer : IsFewer v w
 
 -- ---- events of the device
 
--- what the power doesn't take and no page's candidates tell is kept
-pub same_kept : (m : Memory) (v w : StoreView) → IsKept m v → w.count ≡ v.count → w.power ≡ v.power → ((j : ℕ) → IsSamePage v w j) → IsKept m w
-same_kept m v w kept count power same on = let now = kept (sym power ∙ on) in record {
-  standing = standing_same m.server m.table.counts v m.epoch m.records m.table.heads now.standing w count same;
-  table = now.table;
-  works = now.works;
-  made = now.made;
-  flags = now.flags;
-  held = now.held;
-}
+-- with power or without
+abbrev pub IsSafe : Memory → StoreView → Type 0
+IsSafe m v = IsKept m v × IsRecoverable m.server m.table.counts v
 
-pub decayed_kept : (m : Memory) (s t : DeviceState) (p : ℕ) (answer : Bool) → Decays s p answer t → IsKept m (pairs_view s) → IsKept m (pairs_view t)
+-- what the power doesn't take and no page's candidates tell is kept
+pub same_kept : (m : Memory) (v w : StoreView) → IsSafe m v → w.count ≡ v.count → w.power ≡ v.power → ((j : ℕ) → IsSamePage v w j) → IsSafe m w
+same_kept m v w safe count power same = (
+  λ on. let now = safe.0 (sym power ∙ on) in record {
+    standing = standing_same m.server m.table.counts v m.epoch m.records m.table.heads now.standing w count same;
+    table = now.table;
+    works = now.works;
+    made = now.made;
+    flags = now.flags;
+    held = now.held;
+  },
+  same_recoverable m.server m.table.counts v w safe.1 count same,
+)
+
+pub decayed_kept : (m : Memory) (s t : DeviceState) (p : ℕ) (answer : Bool) → Decays s p answer t → IsSafe m (pairs_view s) → IsSafe m (pairs_view t)
 decayed_kept m s t p answer decays kept = same_kept m (pairs_view s) (pairs_view t) kept (ap (λ n. n / 2) decays.becomes.count) decays.becomes.power_is (decays_same s t p answer decays)
 
 -- what waits and what was told is no matter
-pub waits_kept : (m : Memory) (s t : DeviceState) → t.count ≡ s.count → t.power ≡ s.power → t.pages ≡ s.pages → IsKept m (pairs_view s) → IsKept m (pairs_view t)
+pub waits_kept : (m : Memory) (s t : DeviceState) → t.count ≡ s.count → t.power ≡ s.power → t.pages ≡ s.pages → IsSafe m (pairs_view s) → IsSafe m (pairs_view t)
 waits_kept m s t count power pages kept = same_kept m (pairs_view s) (pairs_view t) kept (ap (λ n. n / 2) count) power (λ j. record {
   first = ap (λ (f : ℕ → PageState). (f j).bytes) pages;
   second = ap (λ (f : ℕ → PageState). (f (j + t.count / 2)).bytes) pages ∙ ap (λ n. (s.pages (j + n / 2)).bytes) count;

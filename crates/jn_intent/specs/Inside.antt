@@ -2,6 +2,7 @@
 use Rattle.std.specs.Prelude.{◌≡◌, ◌≤◌, ◌+◌, ℕ, List, [], vec_len, vec_capacity}
 use Rattle.std.specs.List.{AllByRecursion}
 use Rattle.jn_base.specs.declared.names.WorkId.{WorkId}
+use Rattle.jn_found.specs.Recoverable.{IsRecoverable}
 use Rattle.jn_store.specs.Store.{StoreView}
 use Rattle.jn_intent.specs.Memory.{Memory}
 use Rattle.jn_intent.specs.Matches.{IsKept}
@@ -29,8 +30,10 @@ pub record IsRoom (room : Room) : Type 0 where
   pub stored : IsEmptyFor (vec_capacity room.stored) room.stored.items
   pub listed : IsEmptyFor (vec_capacity room.listed) room.listed.items
 
+-- Memory is what stands on the pages, while there is power. With power or without, a recovery may begin from the store.
 -- Each promise has the room that its flag will fill.
 pub record IsSound {S : Type 0} (look : S → StoreView) (s : Inside S) : Type 0 where
   pub kept : IsKept (memory_of s) (look s.store)
+  pub recoverable : IsRecoverable (memory_of s).server (memory_of s).table.counts (look s.store)
   pub flags_room : vec_len s.flags + vec_len s.rooms ≤ vec_capacity s.flags
   pub rooms : AllByRecursion IsRoom s.rooms.items

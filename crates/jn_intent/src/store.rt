@@ -2,6 +2,7 @@
 ghost use Rattle.std.specs.Prelude.{◌≡◌, ◌≤◌, ◌<◌, ◌+◌, ◌*◌, [], true, is_ok, OnErr, OnOk};
 ghost use Rattle.jn_device.specs.Events.{Decays, Arms, is_within, disarmed, cleared};
 ghost use Rattle.jn_found.specs.Puts.{IsFewer};
+ghost use Rattle.jn_found.specs.Recoverable.{IsRecoverable};
 ghost use Rattle.jn_storage.specs.Storage.{IsServing};
 ghost use Rattle.jn_store.specs.Store.{IsCalm, IsStop, StoreLater};
 ghost use Rattle.jn_intent.specs.Scrubbing.{CleansTo, Scrubbed};
@@ -12,9 +13,10 @@ use jn_storage::Storage;
 use jn_store::{Powered, StableStore};
 
 impl<S: StableStore> Intents<S> {
-    /// The store, which alone outlives a stop.
+    /// The store, which alone outlives a stop. A recovery may begin from it, whatever call was stopped.
     pub fn into_store(self) -> S
-        ensures { result ≡ self.0 }
+        ensures same { result ≡ self.0 }
+        ensures recoverable { IsRecoverable self.1.server self.1.table.counts (S.view result) }
     {
         self.store
     }

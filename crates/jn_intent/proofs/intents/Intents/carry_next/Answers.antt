@@ -7,7 +7,7 @@ use Rattle.jn_storage.specs.Storage.{IsServing}
 use Rattle.jn_storage.specs.Calls.{state, name_of, IsGoing, StepApplied}
 use Rattle.jn_intent.specs.Memory.{view_of}
 use Rattle.jn_intent.specs.Inside.{memory_of}
-use Rattle.jn_intent.proofs.Applying.{apply_none, apply_may, apply_few, apply_stopped, apply_dark, apply_done}
+use Rattle.jn_intent.proofs.Applying.{apply_none, apply_may, apply_few, apply_stopped, apply_dark, apply_recovers, apply_done}
 use Rattle.jn_intent.proofs.Removing.{work_listed, is_going_some}
 use Rattle.jn_intent.proofs.intents.Intents.carry_next.Goals as goal
 
@@ -48,6 +48,8 @@ invariant_of-self g c =
     record {
       kept = apply_dark (memory_of c.self.inside) _ c.self.invariant.kept serving c.args.work c.deref.result.now c.deref.ensures.value c.in-Some.i c.in-Some.ensures.found c.index.result.now c.index.ensures c.next_intention.result c.next_intention.ensures
           c.in-Some-next_intention.intention c.in-Some-next_intention.is c.carry_out.new.table (g.S.StableStore.view c.carry_out.new.store) false c.in_err-carry_out.ensures refl;
+      recoverable = apply_recovers (memory_of c.self.inside) _ c.self.invariant.kept serving c.args.work c.deref.result.now c.deref.ensures.value c.in-Some.i c.in-Some.ensures.found c.index.result.now c.index.ensures c.next_intention.result c.next_intention.ensures
+          c.in-Some-next_intention.intention c.in-Some-next_intention.is c.carry_out.new.table (g.S.StableStore.view c.carry_out.new.store) false c.in_err-carry_out.ensures refl;
       flags_room = c.self.invariant.flags_room;
       rooms = c.self.invariant.rooms;
     }
@@ -61,9 +63,11 @@ count_on-requires-clause-few g c =
 pub invariant_of-self-2 : goal.invariant_of-self-2
 invariant_of-self-2 g c =
     let serving = subst (λ s. IsServing (view_of s.1 (g.S.StableStore.view s.0))) (sym c.self.view_is) c.requires.serving in
+    let now = (apply_done (memory_of c.self.inside) _ c.self.invariant.kept serving c.args.work c.deref.result.now c.deref.ensures.value c.in-Some.i c.in-Some.ensures.found c.index.result.now c.index.ensures c.next_intention.result c.next_intention.ensures
+    c.in-Some-next_intention.intention c.in-Some-next_intention.is c.carry_out.new.table (g.S.StableStore.view c.carry_out.new.store) true c.in_ok-carry_out.ensures refl c.self.inside.works.items c.count_on.new.works.items refl c.count_on.ensures).0 in
     record {
-      kept = λ power. (apply_done (memory_of c.self.inside) _ c.self.invariant.kept serving c.args.work c.deref.result.now c.deref.ensures.value c.in-Some.i c.in-Some.ensures.found c.index.result.now c.index.ensures c.next_intention.result c.next_intention.ensures
-          c.in-Some-next_intention.intention c.in-Some-next_intention.is c.carry_out.new.table (g.S.StableStore.view c.carry_out.new.store) true c.in_ok-carry_out.ensures refl c.self.inside.works.items c.count_on.new.works.items refl c.count_on.ensures).0;
+      kept = λ power. now;
+      recoverable = now.standing.recoverable;
       flags_room = c.self.invariant.flags_room;
       rooms = c.self.invariant.rooms;
     }

@@ -1,11 +1,12 @@
 use Rattle.std.proofs.Common.{sym, ap, subst, refl, ◌∙◌, true, false, true≢false, arith}
 use Rattle.std.proofs.lemmas.Result.{err_from_is_err_and}
 use Rattle.std.specs.Prelude.{Ok, Err}
+use Rattle.jn_found.specs.Recoverable.{IsRecoverable}
 use Rattle.jn_storage.specs.declared.faults.PrepareFault.TheVariants.{Stopped as Stops}
 use Rattle.jn_storage.specs.Calls.{WorkPrepared, shortage}
 use Rattle.jn_intent.specs.Memory.{view_of, accounts_of}
 use Rattle.jn_intent.specs.Inside.{memory_of}
-use Rattle.jn_intent.proofs.Readying.{promising, given, begun, list_few, list_short, its_reads, stopped_list, insert_there, insert_left, prepare_stopped, prepare_kept, prepare_done, works_listed, refused_by}
+use Rattle.jn_intent.proofs.Readying.{promising, given, begun, list_few, list_short, its_reads, stopped_list, insert_there, insert_left, prepare_stopped, prepare_recovers, prepare_kept, prepare_done, works_listed, refused_by}
 use Rattle.jn_intent.proofs.StoringPool.{free_slot}
 use Rattle.jn_intent.proofs.intents.Intents.prepare_work.Goals as goal
 
@@ -35,7 +36,8 @@ invariant_of-self-in_default g c =
     let h = given (λ s. g.S.StableStore.view s) c.self.inside.store (memory_of c.self.inside) c.args.self.now c.self.view_is c.self.invariant.kept c.args.head.now c.args.list.now c.args.reads.now c.requires.serving c.requires.may c.need-need.result c.need-need.ensures c.in_ok-test_room.ensures in
     let begin = begun (memory_of c.self.inside) (g.S.StableStore.view c.self.inside.store) c.args.head.now c.args.list.now c.args.reads.now c.need-need.result.heads h c.promise.new.table c.promise.ensures.promised c.promise.ensures.table in
     let stored = c.in_default.ensures (promising (memory_of c.self.inside) c.need-need.result.heads) (g.S.StableStore.view c.self.inside.store) begin in
-    record { kept = λ power. absurd (true≢false (sym power ∙ (stored.stopped refl).stop.dark)); flags_room = c.self.invariant.flags_room; rooms = c.self.invariant.rooms }
+    let s = stored.stopped refl in
+    record { kept = λ power. absurd (true≢false (sym power ∙ s.stop.dark)); recoverable = subst (λ n. IsRecoverable (memory_of c.self.inside).server n (g.S.StableStore.view c.store_all.new.store)) (sym s.counts) s.recoverable; flags_room = c.self.invariant.flags_room; rooms = c.self.invariant.rooms }
 
 pub returns-in_default : goal.returns-in_default
 returns-in_default g c =
@@ -65,7 +67,13 @@ invariant_of-self-in_default-insert g c =
     let begin = begun (memory_of c.self.inside) (g.S.StableStore.view c.self.inside.store) c.args.head.now c.args.list.now c.args.reads.now c.need-need.result.heads h c.promise.new.table c.promise.ensures.promised c.promise.ensures.table in
     let stored = c.in-Ok.ensures (promising (memory_of c.self.inside) c.need-need.result.heads) (g.S.StableStore.view c.self.inside.store) begin in
     let at = free_slot c.store_all.new.sets (insert_left (memory_of c.self.inside) (g.S.StableStore.view c.self.inside.store) c.args.head.now c.args.list.now c.args.reads.now c.need-need.result.heads h c.store_all.new.stored.items c.store_all.new.sets c.store_all.new.table (g.S.StableStore.view c.store_all.new.store) true stored refl) in
-    record { kept = λ power. absurd (true≢false (sym power ∙ ((c.in_default-insert.ensures.puts at.0 at.1).put.stop refl).dark)); flags_room = c.self.invariant.flags_room; rooms = c.self.invariant.rooms }
+    record {
+      kept = λ power. absurd (true≢false (sym power ∙ ((c.in_default-insert.ensures.puts at.0 at.1).put.stop refl).dark));
+      recoverable = prepare_recovers (memory_of c.self.inside) (g.S.StableStore.view c.self.inside.store) c.args.head.now c.args.list.now c.args.reads.now c.need-need.result.heads h c.store_all.new.stored.items c.store_all.new.sets c.store_all.new.table (g.S.StableStore.view c.store_all.new.store) true stored refl c.from_vec.result (c.from_vec.ensures ∙ c.in_ok-room.ensures.reads) c.record_fits.ensures at.0 at.1 false c.insert.new.self (g.S.StableStore.view c.insert.new.store)
+          (c.in_default-insert.ensures.puts at.0 at.1);
+      flags_room = c.self.invariant.flags_room;
+      rooms = c.self.invariant.rooms;
+    }
 
 pub returns-in_default-insert : goal.returns-in_default-insert
 returns-in_default-insert g c =
@@ -84,10 +92,12 @@ invariant_of-self-2 g c =
     let h = given (λ s. g.S.StableStore.view s) c.self.inside.store (memory_of c.self.inside) c.args.self.now c.self.view_is c.self.invariant.kept c.args.head.now c.args.list.now c.args.reads.now c.requires.serving c.requires.may c.need-need.result c.need-need.ensures c.in_ok-test_room.ensures in
     let begin = begun (memory_of c.self.inside) (g.S.StableStore.view c.self.inside.store) c.args.head.now c.args.list.now c.args.reads.now c.need-need.result.heads h c.promise.new.table c.promise.ensures.promised c.promise.ensures.table in
     let stored = c.in-Ok.ensures (promising (memory_of c.self.inside) c.need-need.result.heads) (g.S.StableStore.view c.self.inside.store) begin in
+    let now = prepare_kept (memory_of c.self.inside) (g.S.StableStore.view c.self.inside.store) c.args.head.now c.args.list.now c.args.reads.now c.need-need.result.heads h c.store_all.new.stored.items c.store_all.new.sets c.store_all.new.table (g.S.StableStore.view c.store_all.new.store) true stored refl c.from_vec.result (c.from_vec.ensures ∙ c.in_ok-room.ensures.reads) c.record_fits.ensures c.in-Ok-insert._slot c.in-Ok-insert.ensures.lowest true c.insert.new.self (g.S.StableStore.view c.insert.new.store)
+    (c.in-Ok-insert.ensures.puts c.in-Ok-insert._slot c.in-Ok-insert.ensures.lowest) c.push_reserved.new.self.items
+    (works_listed c.push_reserved.new.self.items c.reserve.new.self.items c.self.inside.works.items c.args.head.now c.from_vec-2.result c.store_all.new.stored.items c.from_vec-3.result c.args.reads.now c.push_reserved.ensures.items c.reserve.ensures.items c.from_vec-2.ensures (c.from_vec-3.ensures ∙ c.in_ok-room.ensures.listed)) refl in
     record {
-      kept = λ power. prepare_kept (memory_of c.self.inside) (g.S.StableStore.view c.self.inside.store) c.args.head.now c.args.list.now c.args.reads.now c.need-need.result.heads h c.store_all.new.stored.items c.store_all.new.sets c.store_all.new.table (g.S.StableStore.view c.store_all.new.store) true stored refl c.from_vec.result (c.from_vec.ensures ∙ c.in_ok-room.ensures.reads) c.record_fits.ensures c.in-Ok-insert._slot c.in-Ok-insert.ensures.lowest true c.insert.new.self (g.S.StableStore.view c.insert.new.store)
-          (c.in-Ok-insert.ensures.puts c.in-Ok-insert._slot c.in-Ok-insert.ensures.lowest) c.push_reserved.new.self.items
-          (works_listed c.push_reserved.new.self.items c.reserve.new.self.items c.self.inside.works.items c.args.head.now c.from_vec-2.result c.store_all.new.stored.items c.from_vec-3.result c.args.reads.now c.push_reserved.ensures.items c.reserve.ensures.items c.from_vec-2.ensures (c.from_vec-3.ensures ∙ c.in_ok-room.ensures.listed)) refl;
+      kept = λ power. now;
+      recoverable = now.standing.recoverable;
       flags_room = c.self.invariant.flags_room;
       rooms = c.self.invariant.rooms;
     }

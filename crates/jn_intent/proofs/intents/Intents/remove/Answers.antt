@@ -1,4 +1,4 @@
-use Rattle.std.proofs.Common.{◌≡◌, ◌<◌, ◌≤◌, ◌-◌, sym, refl, ap, subst, ◌∙◌, true, false, map, length, arith}
+use Rattle.std.proofs.Common.{◌≡◌, ◌<◌, ◌≤◌, ◌-◌, sym, refl, ap, subst, ◌∙◌, true, false, true≢false, map, length, arith}
 use Rattle.std.proofs.lemmas.Result.{err_from_is_err_and}
 use Rattle.std.specs.Prelude.{is_ok, is_some, slice_index_or}
 use Rattle.jn_base.specs.Names.{work_eq}
@@ -10,7 +10,7 @@ use Rattle.jn_files.specs.Calls.{with_promised_heads}
 use Rattle.jn_intent.specs.Memory.{view_of}
 use Rattle.jn_intent.specs.Pages.{MayLetGo, heads_needed}
 use Rattle.jn_intent.specs.Inside.{memory_of}
-use Rattle.jn_intent.proofs.Removing.{found_work, work_slotted, work_listed, work_used, list_few, heads_enough, may_let_go, given_back, stopped_there, remove_kept, remove_made}
+use Rattle.jn_intent.proofs.Removing.{found_work, work_slotted, work_listed, work_used, list_few, heads_enough, may_let_go, given_back, stopped_there, remove_kept, remove_recovers, remove_made}
 use Rattle.jn_intent.proofs.intents.Intents.remove.Goals as goal
 
 pub unreachable-requires : goal.unreachable-requires
@@ -30,6 +30,17 @@ remove-requires-clause-held g c =
     let serving = subst (λ s. IsServing (view_of s.1 (g.S.StableStore.view s.0))) (sym c.self.view_is) c.requires.serving in
     let some = subst (λ s. is_some ((state (view_of s.1 (g.S.StableStore.view s.0))).works c.args.work) ≡ true) (sym c.self.view_is) c.requires.prepared in
     work_used (memory_of c.self.inside) _ c.self.invariant.kept serving c.args.work some c.in-Some.slot (sym c.prepared_slot.ensures ∙ c.in-Some.is)
+
+pub invariant_of-self : goal.invariant_of-self
+invariant_of-self g c =
+    let serving = subst (λ s. IsServing (view_of s.1 (g.S.StableStore.view s.0))) (sym c.self.view_is) c.requires.serving in
+    let some = subst (λ s. is_some ((state (view_of s.1 (g.S.StableStore.view s.0))).works c.args.work) ≡ true) (sym c.self.view_is) c.requires.prepared in
+    record {
+      kept = λ power. absurd (true≢false (sym power ∙ (c.in_err-remove.ensures.put.stop refl).dark));
+      recoverable = remove_recovers (memory_of c.self.inside) _ c.self.invariant.kept serving c.args.work some c.in-Some.slot (sym c.prepared_slot.ensures ∙ c.in-Some.is) false c.remove.new.self (g.S.StableStore.view c.remove.new.store) c.in_err-remove.ensures;
+      flags_room = c.self.invariant.flags_room;
+      rooms = c.self.invariant.rooms;
+    }
 
 pub returns-in_err-remove : goal.returns-in_err-remove
 returns-in_err-remove g c =
@@ -78,9 +89,11 @@ invariant_of-self-2 g c =
     let at = sym c.prepared_slot.ensures ∙ c.in-Some.is in
     let found = subst (λ l. (c.in-Some-index_of.i < length l) × ((d : WorkState) → work_eq (slice_index_or l c.in-Some-index_of.i d).head.work c.args.work ≡ true)) c.deref.ensures.value c.in-Some-index_of.ensures.found in
     let here = found_work c.self.inside.works.items c.in-Some-index_of.i c.args.work c.index.result.now (c.self.invariant.kept serving.power).works.differ found.0 found.1 (sym c.index.ensures) in
+    let now = remove_kept (memory_of c.self.inside) _ c.self.invariant.kept serving c.args.work some c.in-Some.slot at c.index.result.now here true c.remove.new.self (g.S.StableStore.view c.remove.new.store) c.in_ok-remove.ensures c.give_back.new.table c.take_work.new.works.items refl c.give_back.ensures.table
+    (subst (λ l. c.give_back.new.table ≡ given_back (memory_of c.self.inside) l) c.as_slice.ensures c.give_back.ensures.given) c.take_work.ensures in
     record {
-      kept = λ power. remove_kept (memory_of c.self.inside) _ c.self.invariant.kept serving c.args.work some c.in-Some.slot at c.index.result.now here true c.remove.new.self (g.S.StableStore.view c.remove.new.store) c.in_ok-remove.ensures c.give_back.new.table c.take_work.new.works.items refl c.give_back.ensures.table
-          (subst (λ l. c.give_back.new.table ≡ given_back (memory_of c.self.inside) l) c.as_slice.ensures c.give_back.ensures.given) c.take_work.ensures;
+      kept = λ power. now;
+      recoverable = now.standing.recoverable;
       flags_room = c.self.invariant.flags_room;
       rooms = c.self.invariant.rooms;
     }

@@ -1,5 +1,6 @@
 use Rattle.std.proofs.Common.{sym, subst}
 use Rattle.std.specs.Prelude.{is_ok}
+use Rattle.jn_found.proofs.Picking.{fewer_recoverable}
 use Rattle.jn_storage.specs.Storage.{IsServing}
 use Rattle.jn_intent.specs.Memory.{view_of}
 use Rattle.jn_intent.specs.Inside.{memory_of}
@@ -12,6 +13,7 @@ invariant_of-self g c =
     let serving = subst (λ s. IsServing (view_of s.1 (g.S.StableStore.view s.0))) (sym c.self.view_is) c.requires.serving in
     record {
       kept = λ power. fewer_kept (memory_of c.self.inside) _ _ c.self.invariant.kept c.clean_all.ensures.fewer serving.power;
+      recoverable = fewer_recoverable _ _ c.clean_all.ensures.fewer _ _ c.self.invariant.recoverable;
       flags_room = c.self.invariant.flags_room;
       rooms = c.self.invariant.rooms;
     }

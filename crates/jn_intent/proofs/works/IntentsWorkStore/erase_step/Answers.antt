@@ -3,7 +3,7 @@ use Rattle.jn_storage.specs.Storage.{IsServing}
 use Rattle.jn_storage.specs.Calls.{RecordErased}
 use Rattle.jn_intent.specs.Memory.{view_of}
 use Rattle.jn_intent.specs.Inside.{memory_of}
-use Rattle.jn_intent.proofs.Erasing.{erase_done, erase_kept}
+use Rattle.jn_intent.proofs.Erasing.{erase_done, erase_kept, erase_recovers}
 use Rattle.jn_intent.proofs.works.IntentsWorkStore.erase_step.Goals as goal
 
 pub invariant_of-self : goal.invariant_of-self
@@ -11,6 +11,7 @@ invariant_of-self g c =
     let serving = subst (λ s. IsServing (view_of s.1 (g.S.StableStore.view s.0))) (sym c.self.view_is) c.requires.serving in
     record {
       kept = erase_kept (memory_of c.self.inside) _ c.self.invariant.kept serving c.erase_one.result c.erase_one.new.self (g.S.StableStore.view c.erase_one.new.store) c.erase_one.ensures.none c.erase_one.ensures.erased;
+      recoverable = erase_recovers (memory_of c.self.inside) _ c.self.invariant.kept serving c.erase_one.result c.erase_one.new.self (g.S.StableStore.view c.erase_one.new.store) c.erase_one.ensures.none c.erase_one.ensures.erased;
       flags_room = c.self.invariant.flags_room;
       rooms = c.self.invariant.rooms;
     }
