@@ -5,6 +5,7 @@ use Rattle.std.specs.List.{list_any}
 use Rattle.std.proofs.lemmas.Bool.Decides.{nat_tests}
 use Rattle.jn_base.specs.declared.names.ServerNo.{ServerNo}
 use Rattle.jn_base.specs.declared.names.ClientNo.{ClientNo}
+use Rattle.jn_base.specs.declared.names.Party.{Party}
 use Rattle.jn_base.specs.declared.names.Party.TheVariants.{Client, Server}
 use Rattle.jn_base.specs.Names.{server_eq, client_eq}
 use Rattle.jn_base.proofs.Tells.{client_tells, server_tells}
@@ -104,7 +105,7 @@ handed-still c k room stop (Client d, message) w = subst (λ f. IsStill (w.clien
 handed-still c k room stop (Server s, message) w = subst (λ f. IsStill (w.clients c) (f c)) (sym (memory-clients s k room stop message (w.memory s) w)) (inl refl)
 
 -- what it takes
-handed-taken : (c : ClientNo) (k : ℕ) (room : Room) (stop : Option (Pick → ℕ)) (message : Message) (w : World) → (handed k room stop (Some (Client c, message)) w).clients c ≡ (take_row (w.clients c) message).0
+pub handed-taken : (c : ClientNo) (k : ℕ) (room : Room) (stop : Option (Pick → ℕ)) (message : Message) (w : World) → (handed k room stop (Some (Client c, message)) w).clients c ≡ (take_row (w.clients c) message).0
 handed-taken c k room stop message w = ap (λ f. f c) (took-clients c k (take_row (w.clients c) message).0 (take_row (w.clients c) message).1 w) ∙ ap (λ (b : Bool). if b then (take_row (w.clients c) message).0 else w.clients c) itself
   where
     itself : client_eq c c ≡ true
@@ -174,6 +175,26 @@ pub record Reply (c : ClientNo) (t : ClientTable) (sent : List Sent) : Type 0 wh
   pub has : Has (Client c, message) sent
   pub ends_it : IsEnd t message
 
+two-parties : (c : ClientNo) (s : ServerNo) (m r : Message) (x : Option Sent) → x ≡ Some (Client c, m) → x ≡ Some (Server s, r) → ⊥
+two-parties c s m r x e f = apart (ap to_of (sym e ∙ f))
+  where
+    to_of : Option Sent → Party
+    to_of None = Client c
+    to_of (Some y) = y.0
+
+    apart : Client c ≡ Server s → ⊥
+    apart q = cc
+
+-- a reply that waits already
+pub record Answering (c : ClientNo) (t : ClientTable) (d : Course) : Type 0 where
+  pub message : Message
+  pub waits : Waits d.world.sent d.waiting (Client c, message)
+  pub ends_it : IsEnd t message
+
+pub any-without : (j k : ℕ) (ks : List ℕ) → list_any (nat_eq k) ks ≡ true → nat_eq k j ≡ false → list_any (nat_eq k) (without_number j ks) ≡ true
+any-without j k [] h e = absurd (true≢false (sym h))
+any-without j k (i ∷ ks) h e = let again = any-without j k ks in grind (arith, nat_tests, h, e)
+
 pub data Way (c : ClientNo) (t : ClientTable) (x : Sent) (d : Course) : Type 0 where
   answered : (d.world.clients c).outstanding ≡ None → Way c t x d
   asks : d.world.clients c ≡ t → Waits d.world.sent d.waiting x → Way c t x d
@@ -186,7 +207,7 @@ none-still c t now (inr e) h = e
 
 module _ (n : ℕ) (at_most : n ≤ 8) (start : World) (c : ClientNo) (t : ClientTable) (s : ServerNo) (message : Message)
     (Good : Course → Type 0) (sound : (d : Course) → Good d → Sound n start d) (good : (d : Course) (step : Step) → Good d → IsStep step d.world → Good (go step d))
-    (replies : (d : Course) (m : Memory) (room : Room) → Good d → d.world.clients c ≡ t → d.world.memory s ≡ Some m → Reply c t (server_row m (stable (d.world.found s)) room message).messages) where
+    (replies : (d : Course) (m : Memory) (room : Room) → Good d → d.world.clients c ≡ t → d.world.memory s ≡ Some m → Reply c t (server_row m (stable (d.world.found s)) room message).messages ⊎ Answering c t d) where
   abbrev It : Course → Type 0
   It d = Way c t (Server s, message) d
 
@@ -205,9 +226,16 @@ module _ (n : ℕ) (at_most : n ≤ 8) (start : World) (c : ClientNo) (t : Clien
       by : (o : Option Memory) → d.world.memory s ≡ o → (stop : Option (Pick → ℕ)) → is_some ((go (handing k chance.room stop) d).world.memory s) ≡ true → (go (handing k chance.room stop) d).world.clients c ≡ t → It (go (handing k chance.room stop) d)
       by None e stop up still = absurd (true≢false (sym up ∙ ap (λ (w : World). is_some (w.memory s)) (world stop ∙ ap (λ o. at_memory s k chance.room stop message o d.world) e) ∙ ap is_some e))
       by (Some m) e (Some made) up still = absurd (true≢false (sym up ∙ ap (λ (w : World). is_some (w.memory s)) (world (Some made) ∙ ap (λ o. at_memory s k chance.room (Some made) message o d.world) e) ∙ ap (λ (b : Bool). is_some (if b then None else d.world.memory s)) itself))
-      by (Some m) e None up still = let reply = replies d m chance.room h same e in
-          answering still reply.message (now-waits n at_most start d (Deliver k chance.room) (server_row m (stable (d.world.found s)) chance.room message).messages (Client c, reply.message)
-          (ap (λ (w : World). w.sent) (world None ∙ ap (λ o. at_memory s k chance.room None message o d.world) e)) reply.has) reply.ends_it
+      by (Some m) e None up still = replied (replies d m chance.room h same e)
+        where
+          replied : Reply c t (server_row m (stable (d.world.found s)) chance.room message).messages ⊎ Answering c t d → It (go (handing k chance.room None) d)
+          replied (inl reply) = answering still reply.message (now-waits n at_most start d (Deliver k chance.room) (server_row m (stable (d.world.found s)) chance.room message).messages (Client c, reply.message)
+              (ap (λ (w : World). w.sent) (world None ∙ ap (λ o. at_memory s k chance.room None message o d.world) e)) reply.has) reply.ends_it
+          replied (inr reply) = answering still reply.message (still-waits n at_most start d (Deliver k chance.room) (Client c, reply.message) (sound d h) reply.waits (any-without k reply.waits.number d.waiting reply.waits.waits (another (nat_eq reply.waits.number k) refl))) reply.ends_it
+            where
+              another : (b : Bool) → nat_eq reply.waits.number k ≡ b → nat_eq reply.waits.number k ≡ false
+              another false q = q
+              another true q = absurd (two-parties c s reply.message message (slice_get d.world.sent k) (subst (λ (i : ℕ). slice_get d.world.sent i ≡ Some (Client c, reply.message)) (grind (arith, nat_tests, q)) reply.waits.is) is)
 
   -- a message is handed over
   handing-way : (chance : Chance) (d : Course) → Good d → (k : ℕ) (ks : List ℕ) → d.waiting ≡ k ∷ ks → is_some ((go (handing k chance.room chance.stop) d).world.memory s) ≡ true → It d → It (go (handing k chance.room chance.stop) d)
