@@ -19,13 +19,13 @@ use Rattle.jn_rows.specs.declared.client.Taken.{Taken}
 use Rattle.jn_rows.specs.declared.client.Taken.TheVariants.{Ignored}
 use Rattle.jn_rows.specs.declared.client.Outstanding.{Outstanding}
 use Rattle.jn_rows.specs.Stable.{Pick, stable}
-use Rattle.jn_rows.specs.Outcomes.{RowOutcome, Sent, sends as sends_row}
+use Rattle.jn_rows.specs.Outcomes.{Sent, sends as sends_row}
 use Rattle.jn_rows.specs.Worker.{work_of, name_from, new_work, open_row}
 use Rattle.jn_rows.specs.Client.{ClientTable, Commanded, Refuses, Sends, command_row, take_row, is_current, is_tid, opens, opened_row, if_waits, outcome_row, is_end_or_abort}
 use Rattle.jn_rows.specs.ClientLaws.{after_command}
 use Rattle.jn_protocol.specs.World.{World, Memory, at_client}
-use Rattle.jn_protocol.specs.Servers.{Room, server_row, server_step}
-use Rattle.jn_protocol.specs.Steps.{Step, NextEvent, Tell, Again, Deliver, Work, Nudge, Timeout, StopDelivery, StopWork, Crash, Narrow, StopRestart, Restart, IsStep, after, handed, commanded, work, works, nudge, timeout, crash, narrow, stop_restart, restart}
+use Rattle.jn_protocol.specs.Servers.{Room, server_row}
+use Rattle.jn_protocol.specs.Steps.{Step, Tell, Again, Deliver, Work, Nudge, StopDelivery, StopWork, IsStep, after, handed, commanded, works}
 use Rattle.jn_protocol.specs.LockFacts.{UpFact, ServerFact}
 use Rattle.jn_protocol.proofs.Tables.{of-found}
 use Rattle.jn_settling.specs.Course.{Course, go, go_on}
@@ -46,7 +46,7 @@ use Rattle.jn_settled.proofs.Known.{IsKnown, known-step}
 use Rattle.jn_settled.proofs.Owners.{owner_in, owned-found}
 use Rattle.jn_settled.proofs.OwnerSteps.{AreOwned, step-keeps-owned}
 use Rattle.jn_settled.proofs.Talk.{IsStill, IsFitting, still-fits, command-fits, take-still}
-use Rattle.jn_settled.proofs.Ways.{Has, Reply, IsEnd, none-still, handed-still, took-clients, ends-clients, memory-clients}
+use Rattle.jn_settled.proofs.Ways.{Has, Reply, IsEnd, none-still, handed-still, took-clients, memory-clients, quiet-clients}
 
 -- an outcome after which its client waits for nothing
 abbrev ends_outcome : Outcome → Bool
@@ -114,52 +114,11 @@ module _ (n : ℕ) (at_most : n ≤ 8) (start : World) (files : AllFiles) (epoch
       quiet : (step : Step) → (after step d.world).clients ≡ d.world.clients → (c : ClientNo) → Talks c ((after step d.world).clients c)
       quiet step e c = subst (λ f. Talks c (f c)) (sym e) (h.talks c)
 
-      worked : (s : ServerNo) (room : Room) (stop : Option (Pick → ℕ)) (o : Option Memory) → (work s room stop o d.world).clients ≡ d.world.clients
-      worked s room stop None = refl
-      worked s room stop (Some m) = on (server_step m (stable (d.world.found s)) room)
-        where
-          on : (o : Option (RowOutcome Memory)) → (works s stop o d.world).clients ≡ d.world.clients
-          on None = refl
-          on (Some row) = ends-clients s None stop row d.world
-
-      nudged : (s : ServerNo) (o : Option Memory) → (nudge s o d.world).clients ≡ d.world.clients
-      nudged s None = refl
-      nudged s (Some m) = refl
-
-      timed : (s : ServerNo) (T : Tid) (o : Option Memory) → (timeout s T o d.world).clients ≡ d.world.clients
-      timed s T None = refl
-      timed s T (Some m) = refl
-
-      crashed : (s : ServerNo) (o : Option Memory) → (crash s o d.world).clients ≡ d.world.clients
-      crashed s None = refl
-      crashed s (Some m) = refl
-
-      narrowed : (s : ServerNo) (g : Pick → Pick) (o : Option Memory) → (narrow s g o d.world).clients ≡ d.world.clients
-      narrowed s g None = refl
-      narrowed s g (Some m) = refl
-
-      raised : (s : ServerNo) (up : Pick → Bool) (o : Option Memory) → (stop_restart s up o d.world).clients ≡ d.world.clients
-      raised s up None = refl
-      raised s up (Some m) = refl
-
-      restarted : (s : ServerNo) (pick : Pick) (Ws : List WorkId) (Ts : List Tid) (o : Option Memory) → (restart s pick Ws Ts o d.world).clients ≡ d.world.clients
-      restarted s pick Ws Ts None = refl
-      restarted s pick Ws Ts (Some m) = refl
-
       by : (step : Step) (c : ClientNo) → Talks c ((after step d.world).clients c)
-      by NextEvent c = h.talks c
       by (Tell e command) c = commanded-talks e c (command_row (d.world.clients e) d.world.event command) d.world (told e command) (h.talks c)
-      by (Again e) c = h.talks c
       by (Deliver k room) c = handed-talks c k room None (slice_get d.world.sent k) d.world h.talks
       by (StopDelivery k room made) c = handed-talks c k room (Some made) (slice_get d.world.sent k) d.world h.talks
-      by (Work s room) c = quiet (Work s room) (worked s room None (d.world.memory s)) c
-      by (StopWork s room made) c = quiet (StopWork s room made) (worked s room (Some made) (d.world.memory s)) c
-      by (Nudge s) c = quiet (Nudge s) (nudged s (d.world.memory s)) c
-      by (Timeout s T) c = quiet (Timeout s T) (timed s T (d.world.memory s)) c
-      by (Crash s) c = quiet (Crash s) (crashed s (d.world.memory s)) c
-      by (Narrow s g) c = quiet (Narrow s g) (narrowed s g (d.world.memory s)) c
-      by (StopRestart s up) c = quiet (StopRestart s up) (raised s up (d.world.memory s)) c
-      by (Restart s pick Ws Ts) c = quiet (Restart s pick Ws Ts) (restarted s pick Ws Ts (d.world.memory s)) c
+      by step c = quiet step (quiet-clients step d.world refl) c
 
   -- ---- an Open is answered
 
@@ -334,17 +293,9 @@ module _ (n : ℕ) (at_most : n ≤ 8) (start : World) (files : AllFiles) (epoch
         by (Some y) e None = subst (λ o. IsStill t ((handed k room None o d.world).clients c)) (sym e) (then-still (d.world.clients c) _ h (handed-still c k room None y d.world))
         by (Some y) e (Some made) = subst (λ o. IsStill t ((handed k room (Some made) o d.world).clients c)) (sym e) (then-still (d.world.clients c) _ h (handed-still c k room (Some made) y d.world))
 
-    work-same : (s : ServerNo) (room : Room) (stop : Option (Pick → ℕ)) (o : Option Memory) (w : World) → (work s room stop o w).clients ≡ w.clients
-    work-same s room stop None w = refl
-    work-same s room stop (Some m) w = on (server_step m (stable (w.found s)) room)
-      where
-        on : (o : Option (RowOutcome Memory)) → (works s stop o w).clients ≡ w.clients
-        on None = refl
-        on (Some row) = ends-clients s None stop row w
-
     working-on : (d : Course) (s : ServerNo) (room : Room) (stop : Option (Pick → ℕ)) → On d → On (go (working s room stop) d)
-    working-on d s room None h = subst (λ f. IsStill t (f c)) (sym (work-same s room None (d.world.memory s) d.world)) h
-    working-on d s room (Some made) h = subst (λ f. IsStill t (f c)) (sym (work-same s room (Some made) (d.world.memory s) d.world)) h
+    working-on d s room None h = subst (λ f. IsStill t (f c)) (sym (quiet-clients (Work s room) d.world refl)) h
+    working-on d s room (Some made) h = subst (λ f. IsStill t (f c)) (sym (quiet-clients (StopWork s room made) d.world refl)) h
 
     pub rest-on : (j : ℕ) (chances : ℕ → Chance) (d : Course) → On d → On (until_rest (servers_from 0 n) chances j d)
     rest-on zero chances d h = h
@@ -356,16 +307,9 @@ module _ (n : ℕ) (at_most : n ≤ 8) (start : World) (files : AllFiles) (epoch
         by [] (Some s) again = again _ (working-on d s (chances 0).room (chances 0).stop h)
         by [] None again = h
 
-    nudge-on : (d : Course) (s : ServerNo) → On d → On (go (Nudge s) d)
-    nudge-on d s h = by (d.world.memory s)
-      where
-        by : (o : Option Memory) → IsStill t ((nudge s o d.world).clients c)
-        by None = h
-        by (Some m) = h
-
     nudges-on : (servers : List ServerNo) (d : Course) → On d → On (go_on (map (λ (s : ServerNo). Nudge s) servers) d)
     nudges-on [] d h = h
-    nudges-on (s ∷ servers) d h = nudges-on servers (go (Nudge s) d) (nudge-on d s h)
+    nudges-on (s ∷ servers) d h = nudges-on servers (go (Nudge s) d) (subst (λ f. IsStill t (f c)) (sym (quiet-clients (Nudge s) d.world refl)) h)
 
     pub ask-on : (clients : List ClientNo) (servers : List ServerNo) (d : Course) → On d → On (go_on (ask_again clients servers) d)
     ask-on [] servers d h = nudges-on servers d h

@@ -7,7 +7,6 @@ use Rattle.std.proofs.lemmas.Option.{slice_get_within}
 use Rattle.jn_base.specs.declared.names.ServerNo.{ServerNo}
 use Rattle.jn_base.specs.declared.names.ClientNo.{ClientNo}
 use Rattle.jn_base.specs.declared.names.Tid.{Tid}
-use Rattle.jn_base.specs.declared.names.WorkId.{WorkId}
 use Rattle.jn_base.specs.declared.names.Party.TheVariants.{Client, Server}
 use Rattle.jn_base.specs.Names.{client_eq}
 use Rattle.jn_msgs.specs.declared.message.Message.TheVariants as messages
@@ -22,13 +21,13 @@ use Rattle.jn_rows.specs.Outcomes.{RowOutcome, Sent, ignored as ignored_row}
 use Rattle.jn_rows.specs.Coordinator.{CoordinatorTable, after_closing, changes_of_closing, begin_new, begin_again, begun_by, seen_now, name_from}
 use Rattle.jn_rows.specs.Client.{ClientTable, Commanded, Refuses, Sends, command_row, take_row, is_begin, if_waits, begun_row}
 use Rattle.jn_protocol.specs.World.{World, Memory}
-use Rattle.jn_protocol.specs.Servers.{Room, server_row, server_step}
-use Rattle.jn_protocol.specs.Steps.{Step, NextEvent, Tell, Again, Deliver, Work, Nudge, Timeout, StopDelivery, StopWork, Crash, Narrow, StopRestart, Restart, IsStep, after, handed, commanded, work, works, nudge, timeout, crash, narrow, stop_restart, restart}
+use Rattle.jn_protocol.specs.Servers.{Room, server_row}
+use Rattle.jn_protocol.specs.Steps.{Step, NextEvent, Tell, Again, Deliver, Work, Nudge, Timeout, StopDelivery, StopWork, Crash, Narrow, StopRestart, Restart, IsStep, after, handed, commanded}
 use Rattle.jn_settling.specs.Course.{Course, numbered, without_number, still_waiting, go}
 use Rattle.jn_settling.proofs.Burdens.{get-more}
 use Rattle.jn_settling.proofs.Courses.{Grows, grows, waiting-is}
 use Rattle.jn_settled.proofs.Talk.{IsStill, take-still}
-use Rattle.jn_settled.proofs.Ways.{Has, IsEnd, Reply, Answering, any-without, handed-taken, took-clients, ends-clients, memory-clients}
+use Rattle.jn_settled.proofs.Ways.{Has, IsEnd, Reply, Answering, any-without, handed-taken, took-clients, memory-clients, quiet-clients}
 use Rattle.jn_settled.proofs.Requests.{Past, SeenFits, GoesOn, waits_on, waits_not, waits_anew, stays}
 use Rattle.jn_settled.proofs.RequestSteps.{Requests, CommandsAs, commands-as, one-client, still-on, take-next, requests-go, has-at}
 use Rattle.jn_settled.proofs.Answered.{Talking, go-talking}
@@ -131,38 +130,6 @@ module _ (n : ℕ) (at_most : n ≤ 8) (start : World) (files : AllFiles) (epoch
     quiet : (step : Step) → (after step d.world).clients ≡ d.world.clients → (e : ClientNo) → GoesOn (d.world.clients e) ((after step d.world).clients e)
     quiet step q e = subst (λ f. GoesOn (d.world.clients e) (f e)) (sym q) (stays d.world.clients e)
 
-    worked : (s : ServerNo) (room : Room) (stop : Option (Pick → ℕ)) (o : Option Memory) → (work s room stop o d.world).clients ≡ d.world.clients
-    worked s room stop None = refl
-    worked s room stop (Some m) = on (server_step m (stable (d.world.found s)) room)
-      where
-        on : (o : Option (RowOutcome Memory)) → (works s stop o d.world).clients ≡ d.world.clients
-        on None = refl
-        on (Some row) = ends-clients s None stop row d.world
-
-    nudged : (s : ServerNo) (o : Option Memory) → (nudge s o d.world).clients ≡ d.world.clients
-    nudged s None = refl
-    nudged s (Some m) = refl
-
-    timed : (s : ServerNo) (T : Tid) (o : Option Memory) → (timeout s T o d.world).clients ≡ d.world.clients
-    timed s T None = refl
-    timed s T (Some m) = refl
-
-    crashed : (s : ServerNo) (o : Option Memory) → (crash s o d.world).clients ≡ d.world.clients
-    crashed s None = refl
-    crashed s (Some m) = refl
-
-    narrowed : (s : ServerNo) (g : Pick → Pick) (o : Option Memory) → (narrow s g o d.world).clients ≡ d.world.clients
-    narrowed s g None = refl
-    narrowed s g (Some m) = refl
-
-    raised : (s : ServerNo) (up : Pick → Bool) (o : Option Memory) → (stop_restart s up o d.world).clients ≡ d.world.clients
-    raised s up None = refl
-    raised s up (Some m) = refl
-
-    restarted : (s : ServerNo) (pick : Pick) (Ws : List WorkId) (Ts : List Tid) (o : Option Memory) → (restart s pick Ws Ts o d.world).clients ≡ d.world.clients
-    restarted s pick Ws Ts None = refl
-    restarted s pick Ws Ts (Some m) = refl
-
     handed-on : (k : ℕ) (room : Room) (stop : Option (Pick → ℕ)) (o : Option Sent) (e : ClientNo) → GoesOn (d.world.clients e) ((handed k room stop o d.world).clients e)
     handed-on k room stop None e = stays d.world.clients e
     handed-on k room stop (Some (Client c, message)) e = subst (λ f. GoesOn (d.world.clients e) (f e)) (sym (took-clients c k (take_row (d.world.clients c) message).0 (take_row (d.world.clients c) message).1 d.world))
@@ -178,16 +145,7 @@ module _ (n : ℕ) (at_most : n ≤ 8) (start : World) (files : AllFiles) (epoch
         by (Sends t to m) shape = one-client (λ e z. GoesOn (w.clients e) z) w.clients c t (waits_anew (let l = shape.next in omega (arith, l)) shape.waits shape.outstanding shape.request) (stays w.clients) e
     goes-on (Deliver k room) e = handed-on k room None (slice_get w.sent k) e
     goes-on (StopDelivery k room made) e = handed-on k room (Some made) (slice_get w.sent k) e
-    goes-on NextEvent e = stays w.clients e
-    goes-on (Again c) e = stays w.clients e
-    goes-on (Work s room) e = quiet (Work s room) (worked s room None (w.memory s)) e
-    goes-on (StopWork s room made) e = quiet (StopWork s room made) (worked s room (Some made) (w.memory s)) e
-    goes-on (Nudge s) e = quiet (Nudge s) (nudged s (w.memory s)) e
-    goes-on (Timeout s T) e = quiet (Timeout s T) (timed s T (w.memory s)) e
-    goes-on (Crash s) e = quiet (Crash s) (crashed s (w.memory s)) e
-    goes-on (Narrow s g) e = quiet (Narrow s g) (narrowed s g (w.memory s)) e
-    goes-on (StopRestart s up) e = quiet (StopRestart s up) (raised s up (w.memory s)) e
-    goes-on (Restart s pick Ws Ts) e = quiet (Restart s pick Ws Ts) (restarted s pick Ws Ts (w.memory s)) e
+    goes-on step e = quiet step (quiet-clients step d.world refl) e
 
     not-waited-on : (t now : ClientTable) (q : ℕ) → GoesOn t now → q < t.next → NotWaited t q → NotWaited now q
     not-waited-on t now q (waits_on l e) below h = λ o is at. h o (sym e ∙ is) at

@@ -17,7 +17,7 @@ use Rattle.jn_rows.specs.Outcomes.{RowOutcome, Sent}
 use Rattle.jn_rows.specs.Client.{ClientTable, take_row, again_row}
 use Rattle.jn_protocol.specs.World.{World, Memory, at_client}
 use Rattle.jn_protocol.specs.Servers.{Room, server_row, server_step}
-use Rattle.jn_protocol.specs.Steps.{Step, Again, Deliver, Work, Nudge, StopDelivery, StopWork, nudge, sent_now, IsStep, after, ends, at_memory, handed, work, works, took}
+use Rattle.jn_protocol.specs.Steps.{Step, NextEvent, Tell, Again, Deliver, Work, Nudge, Timeout, StopDelivery, StopWork, Crash, Narrow, StopRestart, Restart, IsStep, after, ends, at_memory, handed, work, works, nudge, timeout, crash, narrow, stop_restart, restart, took, sent_now}
 use Rattle.jn_settling.specs.Course.{Course, numbered, still_waiting, without_number, go, go_on}
 use Rattle.jn_settling.specs.Settle.{Chance, servers_from, first_busy, handing, working, next_step, onward, until_rest, ask_again}
 use Rattle.jn_settling.proofs.Burdens.{are_below, get-more, get-next}
@@ -94,6 +94,60 @@ ends-clients s k (Some made) row w = refl
 pub memory-clients : (s : ServerNo) (k : ℕ) (room : Room) (stop : Option (Pick → ℕ)) (message : Message) (o : Option Memory) (w : World) → (at_memory s k room stop message o w).clients ≡ w.clients
 memory-clients s k room stop message None w = refl
 memory-clients s k room stop message (Some m) w = ends-clients s (Some k) stop (server_row m (stable (w.found s)) room message) w
+
+-- no step but these changes a client
+abbrev pub is_quiet : Step → Bool
+is_quiet (Tell c command) = false
+is_quiet (Deliver k room) = false
+is_quiet (StopDelivery k room made) = false
+is_quiet step = true
+
+work-clients : (s : ServerNo) (room : Room) (stop : Option (Pick → ℕ)) (o : Option Memory) (w : World) → (work s room stop o w).clients ≡ w.clients
+work-clients s room stop None w = refl
+work-clients s room stop (Some m) w = on (server_step m (stable (w.found s)) room)
+  where
+    on : (o : Option (RowOutcome Memory)) → (works s stop o w).clients ≡ w.clients
+    on None = refl
+    on (Some row) = ends-clients s None stop row w
+
+pub quiet-clients : (step : Step) (w : World) → is_quiet step ≡ true → (after step w).clients ≡ w.clients
+quiet-clients (Tell c command) w q = absurd (true≢false (sym q))
+quiet-clients (Deliver k room) w q = absurd (true≢false (sym q))
+quiet-clients (StopDelivery k room made) w q = absurd (true≢false (sym q))
+quiet-clients NextEvent w q = refl
+quiet-clients (Again c) w q = refl
+quiet-clients (Work s room) w q = work-clients s room None (w.memory s) w
+quiet-clients (StopWork s room made) w q = work-clients s room (Some made) (w.memory s) w
+quiet-clients (Nudge s) w q = by (w.memory s)
+  where
+    by : (o : Option Memory) → (nudge s o w).clients ≡ w.clients
+    by None = refl
+    by (Some m) = refl
+quiet-clients (Timeout s T) w q = by (w.memory s)
+  where
+    by : (o : Option Memory) → (timeout s T o w).clients ≡ w.clients
+    by None = refl
+    by (Some m) = refl
+quiet-clients (Crash s) w q = by (w.memory s)
+  where
+    by : (o : Option Memory) → (crash s o w).clients ≡ w.clients
+    by None = refl
+    by (Some m) = refl
+quiet-clients (Narrow s g) w q = by (w.memory s)
+  where
+    by : (o : Option Memory) → (narrow s g o w).clients ≡ w.clients
+    by None = refl
+    by (Some m) = refl
+quiet-clients (StopRestart s up) w q = by (w.memory s)
+  where
+    by : (o : Option Memory) → (stop_restart s up o w).clients ≡ w.clients
+    by None = refl
+    by (Some m) = refl
+quiet-clients (Restart s pick Ws Ts) w q = by (w.memory s)
+  where
+    by : (o : Option Memory) → (restart s pick Ws Ts o w).clients ≡ w.clients
+    by None = refl
+    by (Some m) = refl
 
 -- a client takes what is handed to it, and nothing else
 pub handed-still : (c : ClientNo) (k : ℕ) (room : Room) (stop : Option (Pick → ℕ)) (y : Sent) (w : World) → IsStill (w.clients c) ((handed k room stop (Some y) w).clients c)
@@ -317,17 +371,9 @@ module _ (n : ℕ) (at_most : n ≤ 8) (start : World) (c : ClientNo) (t : Clien
   working-clients : (chance : Chance) (d : Course) (q : ServerNo) → (go (working q chance.room chance.stop) d).world.clients ≡ d.world.clients
   working-clients chance d q = by chance.stop
     where
-      at : (stop : Option (Pick → ℕ)) (o : Option Memory) → (work q chance.room stop o d.world).clients ≡ d.world.clients
-      at stop None = refl
-      at stop (Some m) = on (server_step m (stable (d.world.found q)) chance.room)
-        where
-          on : (o : Option (RowOutcome Memory)) → (works q stop o d.world).clients ≡ d.world.clients
-          on None = refl
-          on (Some row) = ends-clients q None stop row d.world
-
       by : (stop : Option (Pick → ℕ)) → (go (working q chance.room stop) d).world.clients ≡ d.world.clients
-      by None = at None (d.world.memory q)
-      by (Some made) = at (Some made) (d.world.memory q)
+      by None = quiet-clients (Work q chance.room) d.world refl
+      by (Some made) = quiet-clients (StopWork q chance.room made) d.world refl
 
   pub rest-answers : (j : ℕ) (chances : ℕ → Chance) (d : Course) → Good d → It d → is_some ((until_rest (servers_from 0 n) chances j d).world.memory s) ≡ true → (until_rest (servers_from 0 n) chances j d).waiting ≡ []
       → ((until_rest (servers_from 0 n) chances j d).world.clients c).outstanding ≡ None
@@ -360,20 +406,13 @@ module _ (n : ℕ) (at_most : n ≤ 8) (start : World) (c : ClientNo) (t : Clien
   ask-way d step h same waits (asks e w) = asks (ap (λ f. f c) same ∙ e) (still-waits n at_most start d step (Server s, message) (sound d h) w (subst (λ l. list_any (nat_eq w.number) l ≡ true) (sym waits) w.waits))
   ask-way d step h same waits (answering e r w end) = answering (ap (λ f. f c) same ∙ e) r (still-waits n at_most start d step (Client c, r) (sound d h) w (subst (λ l. list_any (nat_eq w.number) l ≡ true) (sym waits) w.waits)) end
 
-  nudge-clients : (d : Course) (q : ServerNo) → (go (Nudge q) d).world.clients ≡ d.world.clients
-  nudge-clients d q = by (d.world.memory q)
-    where
-      by : (o : Option Memory) → (nudge q o d.world).clients ≡ d.world.clients
-      by None = refl
-      by (Some m) = refl
-
   pub record OnTheWay (d : Course) : Type 0 where
     pub so_far : Good d
     pub way : It d
 
   nudges-way : (servers : List ServerNo) (d : Course) → OnTheWay d → OnTheWay (go_on (map (λ (q : ServerNo). Nudge q) servers) d)
   nudges-way [] d h = h
-  nudges-way (q ∷ servers) d h = nudges-way servers (go (Nudge q) d) (record { so_far = good d (Nudge q) h.so_far tt; way = ask-way d (Nudge q) h.so_far (nudge-clients d q) refl h.way })
+  nudges-way (q ∷ servers) d h = nudges-way servers (go (Nudge q) d) (record { so_far = good d (Nudge q) h.so_far tt; way = ask-way d (Nudge q) h.so_far (quiet-clients (Nudge q) d.world refl) refl h.way })
 
   agains-way : (clients : List ClientNo) (servers : List ServerNo) (d : Course) → OnTheWay d → OnTheWay (go_on (ask_again clients servers) d)
   agains-way [] servers d h = nudges-way servers d h
