@@ -19,18 +19,17 @@ use Rattle.jn_rows.specs.declared.client.Taken.{Taken}
 use Rattle.jn_rows.specs.declared.client.Taken.TheVariants.{Ignored}
 use Rattle.jn_rows.specs.declared.client.Outstanding.{Outstanding}
 use Rattle.jn_rows.specs.Stable.{Pick, stable}
-use Rattle.jn_rows.specs.Outcomes.{RowOutcome, Sent, sends as sends_row}
+use Rattle.jn_rows.specs.Outcomes.{Sent, sends as sends_row}
 use Rattle.jn_rows.specs.Worker.{work_of, name_from, new_work, open_row}
-use Rattle.jn_rows.specs.Client.{ClientTable, sent_again, Commanded, Refuses, Sends, command_row, take_row, is_current, is_tid, opens, opened_row, if_waits, outcome_row, is_end_or_abort, names_of}
+use Rattle.jn_rows.specs.Client.{ClientTable, Commanded, Refuses, Sends, command_row, take_row, is_current, is_tid, opens, opened_row, if_waits, outcome_row, is_end_or_abort}
 use Rattle.jn_rows.specs.ClientLaws.{after_command}
 use Rattle.jn_protocol.specs.World.{World, Memory, at_client}
-use Rattle.jn_protocol.specs.Servers.{Room, server_row, server_step}
-use Rattle.jn_protocol.specs.Steps.{Step, NextEvent, Tell, Again, Deliver, Work, Nudge, Timeout, StopDelivery, StopWork, Crash, Narrow, StopRestart, Restart, IsStep, after, handed, commanded, work, works, nudge, timeout, crash, narrow, stop_restart, restart}
+use Rattle.jn_protocol.specs.Servers.{Room, server_row}
+use Rattle.jn_protocol.specs.Steps.{Step, Tell, Again, Deliver, Work, Nudge, StopDelivery, StopWork, IsStep, after, handed, commanded, works}
 use Rattle.jn_protocol.specs.LockFacts.{UpFact, ServerFact}
 use Rattle.jn_protocol.proofs.Tables.{of-found}
 use Rattle.jn_settling.specs.Course.{Course, go, go_on}
 use Rattle.jn_settling.specs.Settle.{Chance, servers_from, clients_from, first_busy, handing, working, next_step, onward, until_rest, ask_again}
-use Rattle.jn_settled.specs.Settled.{AreUp, AreAnswered, is_answered}
 use Rattle.jn_settling.proofs.Courses.{Sound, go-sound}
 use Rattle.jn_order.specs.Files.{AllFiles}
 use Rattle.jn_base.specs.declared.names.Cause.TheVariants.{Requested}
@@ -46,8 +45,8 @@ use Rattle.jn_settling.proofs.CoordinatorFits.{found-name}
 use Rattle.jn_settled.proofs.Known.{IsKnown, known-step}
 use Rattle.jn_settled.proofs.Owners.{owner_in, owned-found}
 use Rattle.jn_settled.proofs.OwnerSteps.{AreOwned, step-keeps-owned}
-use Rattle.jn_settled.proofs.Talk.{IsStill, IsFitting, FitsCommand, still-fits, command-fits, take-still}
-use Rattle.jn_settled.proofs.Ways.{Has, Reply, IsEnd, OnTheWay, none-still, handed-still, rest-answers, ask-on-the-way, took-clients, ends-clients, memory-clients}
+use Rattle.jn_settled.proofs.Talk.{IsStill, IsFitting, still-fits, command-fits, take-still}
+use Rattle.jn_settled.proofs.Ways.{Has, Reply, IsEnd, none-still, handed-still, took-clients, memory-clients, quiet-clients}
 
 -- an outcome after which its client waits for nothing
 abbrev ends_outcome : Outcome → Bool
@@ -115,52 +114,11 @@ module _ (n : ℕ) (at_most : n ≤ 8) (start : World) (files : AllFiles) (epoch
       quiet : (step : Step) → (after step d.world).clients ≡ d.world.clients → (c : ClientNo) → Talks c ((after step d.world).clients c)
       quiet step e c = subst (λ f. Talks c (f c)) (sym e) (h.talks c)
 
-      worked : (s : ServerNo) (room : Room) (stop : Option (Pick → ℕ)) (o : Option Memory) → (work s room stop o d.world).clients ≡ d.world.clients
-      worked s room stop None = refl
-      worked s room stop (Some m) = on (server_step m (stable (d.world.found s)) room)
-        where
-          on : (o : Option (RowOutcome Memory)) → (works s stop o d.world).clients ≡ d.world.clients
-          on None = refl
-          on (Some row) = ends-clients s None stop row d.world
-
-      nudged : (s : ServerNo) (o : Option Memory) → (nudge s o d.world).clients ≡ d.world.clients
-      nudged s None = refl
-      nudged s (Some m) = refl
-
-      timed : (s : ServerNo) (T : Tid) (o : Option Memory) → (timeout s T o d.world).clients ≡ d.world.clients
-      timed s T None = refl
-      timed s T (Some m) = refl
-
-      crashed : (s : ServerNo) (o : Option Memory) → (crash s o d.world).clients ≡ d.world.clients
-      crashed s None = refl
-      crashed s (Some m) = refl
-
-      narrowed : (s : ServerNo) (g : Pick → Pick) (o : Option Memory) → (narrow s g o d.world).clients ≡ d.world.clients
-      narrowed s g None = refl
-      narrowed s g (Some m) = refl
-
-      raised : (s : ServerNo) (up : Pick → Bool) (o : Option Memory) → (stop_restart s up o d.world).clients ≡ d.world.clients
-      raised s up None = refl
-      raised s up (Some m) = refl
-
-      restarted : (s : ServerNo) (pick : Pick) (Ws : List WorkId) (Ts : List Tid) (o : Option Memory) → (restart s pick Ws Ts o d.world).clients ≡ d.world.clients
-      restarted s pick Ws Ts None = refl
-      restarted s pick Ws Ts (Some m) = refl
-
       by : (step : Step) (c : ClientNo) → Talks c ((after step d.world).clients c)
-      by NextEvent c = h.talks c
       by (Tell e command) c = commanded-talks e c (command_row (d.world.clients e) d.world.event command) d.world (told e command) (h.talks c)
-      by (Again e) c = h.talks c
       by (Deliver k room) c = handed-talks c k room None (slice_get d.world.sent k) d.world h.talks
       by (StopDelivery k room made) c = handed-talks c k room (Some made) (slice_get d.world.sent k) d.world h.talks
-      by (Work s room) c = quiet (Work s room) (worked s room None (d.world.memory s)) c
-      by (StopWork s room made) c = quiet (StopWork s room made) (worked s room (Some made) (d.world.memory s)) c
-      by (Nudge s) c = quiet (Nudge s) (nudged s (d.world.memory s)) c
-      by (Timeout s T) c = quiet (Timeout s T) (timed s T (d.world.memory s)) c
-      by (Crash s) c = quiet (Crash s) (crashed s (d.world.memory s)) c
-      by (Narrow s g) c = quiet (Narrow s g) (narrowed s g (d.world.memory s)) c
-      by (StopRestart s up) c = quiet (StopRestart s up) (raised s up (d.world.memory s)) c
-      by (Restart s pick Ws Ts) c = quiet (Restart s pick Ws Ts) (restarted s pick Ws Ts (d.world.memory s)) c
+      by step c = quiet step (quiet-clients step d.world refl) c
 
   -- ---- an Open is answered
 
@@ -184,7 +142,7 @@ module _ (n : ℕ) (at_most : n ≤ 8) (start : World) (files : AllFiles) (epoch
       over (Some W) = refl
       over None = refl
 
-  open-reply : (d : Course) (c : ClientNo) (t : ClientTable) (o : Outstanding) (s : ServerNo) (T : Tid) (m : Memory) (room : Room) → Talking d → Talks c t → t.outstanding ≡ Some o → o.command ≡ commands.Open s → t.transaction ≡ Some T
+  pub open-reply : (d : Course) (c : ClientNo) (t : ClientTable) (o : Outstanding) (s : ServerNo) (T : Tid) (m : Memory) (room : Room) → Talking d → Talks c t → t.outstanding ≡ Some o → o.command ≡ commands.Open s → t.transaction ≡ Some T
       → d.world.memory s ≡ Some m → Reply c t (server_row m (stable (d.world.found s)) room (messages.Open t.client o.request T)).messages
   open-reply d c t o s T m room h talk e is current up = by (work_of T m.worker) refl
     where
@@ -212,7 +170,7 @@ module _ (n : ℕ) (at_most : n ≤ 8) (start : World) (files : AllFiles) (epoch
   has-last [] x = inl refl
   has-last (y ∷ a) x = inr (has-last a x)
 
-  owner-has : (os : List Opening) (c : ClientNo) (T : Tid) → owner_in os c T ≡ true → (a : Opening) × HasOpening a os × (a.client ≡ c) × (a.tid ≡ T)
+  pub owner-has : (os : List Opening) (c : ClientNo) (T : Tid) → owner_in os c T ≡ true → (a : Opening) × HasOpening a os × (a.client ≡ c) × (a.tid ≡ T)
   owner-has [] c T h = absurd (true≢false (sym h))
   owner-has (a ∷ os) c T h = by (client_eq a.client c) refl (tid_eq a.tid T) refl h (owner-has os c T)
     where
@@ -256,7 +214,7 @@ module _ (n : ℕ) (at_most : n ≤ 8) (start : World) (files : AllFiles) (epoch
       by (outcomes.NotKnown s epoch) k = decided _ _
       by (outcomes.Waiting s u held) k = absurd (true≢false (sym k))
 
-  abort-reply : (d : Course) (c : ClientNo) (o : Outstanding) (T : Tid) (works : List WorkId) (m : Memory) (room : Room) → Talking d → (d.world.clients c).outstanding ≡ Some o → is_end_or_abort o.command ≡ true → (d.world.clients c).transaction ≡ Some T
+  pub abort-reply : (d : Course) (c : ClientNo) (o : Outstanding) (T : Tid) (works : List WorkId) (m : Memory) (room : Room) → Talking d → (d.world.clients c).outstanding ≡ Some o → is_end_or_abort o.command ≡ true → (d.world.clients c).transaction ≡ Some T
       → d.world.memory T.server ≡ Some m → Reply c (d.world.clients c) (server_row m (stable (d.world.found T.server)) room (messages.Abort (d.world.clients c).client o.request T works)).messages
   abort-reply d c o T works m room h e waits current up = by (transaction_at T m.coordinator.transactions) refl
     where
@@ -291,7 +249,7 @@ module _ (n : ℕ) (at_most : n ≤ 8) (start : World) (files : AllFiles) (epoch
 
   -- whatever each step keeps
   module _ (Good : Course → Type 0) (good : (d : Course) (step : Step) → Good d → IsStep step d.world → Good (go step d)) where
-    rest-keeps : (j : ℕ) (chances : ℕ → Chance) (d : Course) → Good d → Good (until_rest (servers_from 0 n) chances j d)
+    pub rest-keeps : (j : ℕ) (chances : ℕ → Chance) (d : Course) → Good d → Good (until_rest (servers_from 0 n) chances j d)
     rest-keeps zero chances d h = h
     rest-keeps (suc j) chances d h = by d.waiting (first_busy d.world (servers_from 0 n)) (chances 0).stop (rest-keeps j (λ i. chances (i + 1)))
       where
@@ -307,7 +265,7 @@ module _ (n : ℕ) (at_most : n ≤ 8) (start : World) (files : AllFiles) (epoch
     nudges-keep [] d h = h
     nudges-keep (s ∷ servers) d h = nudges-keep servers (go (Nudge s) d) (good d (Nudge s) h tt)
 
-    ask-keeps : (clients : List ClientNo) (servers : List ServerNo) (d : Course) → Good d → Good (go_on (ask_again clients servers) d)
+    pub ask-keeps : (clients : List ClientNo) (servers : List ServerNo) (d : Course) → Good d → Good (go_on (ask_again clients servers) d)
     ask-keeps [] servers d h = nudges-keep servers d h
     ask-keeps (c ∷ clients) servers d h = ask-keeps clients servers (go (Again c) d) (good d (Again c) h tt)
 
@@ -335,17 +293,9 @@ module _ (n : ℕ) (at_most : n ≤ 8) (start : World) (files : AllFiles) (epoch
         by (Some y) e None = subst (λ o. IsStill t ((handed k room None o d.world).clients c)) (sym e) (then-still (d.world.clients c) _ h (handed-still c k room None y d.world))
         by (Some y) e (Some made) = subst (λ o. IsStill t ((handed k room (Some made) o d.world).clients c)) (sym e) (then-still (d.world.clients c) _ h (handed-still c k room (Some made) y d.world))
 
-    work-same : (s : ServerNo) (room : Room) (stop : Option (Pick → ℕ)) (o : Option Memory) (w : World) → (work s room stop o w).clients ≡ w.clients
-    work-same s room stop None w = refl
-    work-same s room stop (Some m) w = on (server_step m (stable (w.found s)) room)
-      where
-        on : (o : Option (RowOutcome Memory)) → (works s stop o w).clients ≡ w.clients
-        on None = refl
-        on (Some row) = ends-clients s None stop row w
-
     working-on : (d : Course) (s : ServerNo) (room : Room) (stop : Option (Pick → ℕ)) → On d → On (go (working s room stop) d)
-    working-on d s room None h = subst (λ f. IsStill t (f c)) (sym (work-same s room None (d.world.memory s) d.world)) h
-    working-on d s room (Some made) h = subst (λ f. IsStill t (f c)) (sym (work-same s room (Some made) (d.world.memory s) d.world)) h
+    working-on d s room None h = subst (λ f. IsStill t (f c)) (sym (quiet-clients (Work s room) d.world refl)) h
+    working-on d s room (Some made) h = subst (λ f. IsStill t (f c)) (sym (quiet-clients (StopWork s room made) d.world refl)) h
 
     pub rest-on : (j : ℕ) (chances : ℕ → Chance) (d : Course) → On d → On (until_rest (servers_from 0 n) chances j d)
     rest-on zero chances d h = h
@@ -357,85 +307,18 @@ module _ (n : ℕ) (at_most : n ≤ 8) (start : World) (files : AllFiles) (epoch
         by [] (Some s) again = again _ (working-on d s (chances 0).room (chances 0).stop h)
         by [] None again = h
 
-    nudge-on : (d : Course) (s : ServerNo) → On d → On (go (Nudge s) d)
-    nudge-on d s h = by (d.world.memory s)
-      where
-        by : (o : Option Memory) → IsStill t ((nudge s o d.world).clients c)
-        by None = h
-        by (Some m) = h
-
     nudges-on : (servers : List ServerNo) (d : Course) → On d → On (go_on (map (λ (s : ServerNo). Nudge s) servers) d)
     nudges-on [] d h = h
-    nudges-on (s ∷ servers) d h = nudges-on servers (go (Nudge s) d) (nudge-on d s h)
+    nudges-on (s ∷ servers) d h = nudges-on servers (go (Nudge s) d) (subst (λ f. IsStill t (f c)) (sym (quiet-clients (Nudge s) d.world refl)) h)
 
     pub ask-on : (clients : List ClientNo) (servers : List ServerNo) (d : Course) → On d → On (go_on (ask_again clients servers) d)
     ask-on [] servers d h = nudges-on servers d h
     ask-on (e ∷ clients) servers d h = ask-on clients servers (go (Again e) d) h
 
-  among-clients : (m c : ℕ) (e : ClientNo) → c ≤ e.0 → e.0 < c + m → list_any (λ z. client_eq z e) (clients_from c m) ≡ true
+  pub among-clients : (m c : ℕ) (e : ClientNo) → c ≤ e.0 → e.0 < c + m → list_any (λ z. client_eq z e) (clients_from c m) ≡ true
   among-clients zero c e l k = absurd (omega (arith, l, k))
   among-clients (suc m) c e l k = by (nat_eq c e.0) refl (among-clients m (c + 1) e)
     where
       by : (b : Bool) → nat_eq c e.0 ≡ b → (c + 1 ≤ e.0 → e.0 < c + 1 + m → list_any (λ z. client_eq z e) (clients_from (c + 1) m) ≡ true) → list_any (λ z. client_eq z e) (clients_from c (suc m)) ≡ true
       by true q again = grind (arith, nat_tests, q)
       by false q again = let on = again (grind (arith, nat_tests, q, l)) (omega (arith, k)) in grind (arith, nat_tests, on)
-
-  -- ---- after the second part
-
-  module _ (d : Course) (h : Talking d) (j : ℕ) (chances : ℕ → Chance) where
-    abbrev middle : Course
-    middle = go_on (ask_again (clients_from 1 8) (servers_from 0 n)) d
-
-    abbrev last : Course
-    last = until_rest (servers_from 0 n) chances j middle
-
-    module _ (c : ClientNo) (first : 1 ≤ c.0) (most : c.0 ≤ 8) (rests : last.waiting ≡ []) (up : AreUp last.world) where
-      abbrev t : ClientTable
-      t = d.world.clients c
-
-      -- what it waits for in the end it waited for before
-      stays : (o : Outstanding) → (last.world.clients c).outstanding ≡ Some o → t.outstanding ≡ Some o
-      stays o e = by (rest-on c t j chances middle (ask-on c t (clients_from 1 8) (servers_from 0 n) d (inl refl)))
-        where
-          by : IsStill t (last.world.clients c) → t.outstanding ≡ Some o
-          by (inl q) = sym (ap (λ (z : ClientTable). z.outstanding) q) ∙ e
-          by (inr q) = absurd (none (sym q ∙ e))
-            where
-              none : None ≡ Some o → ⊥
-              none z = cc
-
-      -- one whose message is replied to wherever it comes
-      command-answered : (o : Outstanding) (s : ServerNo) (message : Message) → t.outstanding ≡ Some o → o.to ≡ Server s → o.message ≡ message
-          → ((e : Course) (m : Memory) (room : Room) → Talking e → e.world.clients c ≡ t → e.world.memory s ≡ Some m → Reply c t (server_row m (stable (e.world.found s)) room message).messages)
-          → (last.world.clients c).outstanding ≡ None
-      command-answered o s message e to is replies = rest-answers n at_most start c t s message Talking (λ d h. h.sound) go-talking replies j chances middle on.so_far on.way (up s) rests
-        where
-          on : OnTheWay n at_most start c t s message Talking (λ d h. h.sound) go-talking replies middle
-          on = ask-on-the-way n at_most start c t s message Talking (λ d h. h.sound) go-talking replies (clients_from 1 8) (servers_from 0 n) d h refl
-              (ap sent_again e ∙ ap (λ z. Some (z, o.message)) to ∙ ap (λ z. Some (Server s, z)) is) (among-clients 8 1 c first (omega (arith, most)))
-
-      open-answered : (o : Outstanding) (s : ServerNo) → t.outstanding ≡ Some o → o.command ≡ commands.Open s → (last.world.clients c).outstanding ≡ None
-      open-answered o s e is = let fits = subst (λ z. FitsCommand t o z) is ((h.talks c).fits o e) in
-          command-answered o s (messages.Open t.client o.request fits.0) e fits.2 fits.3 (λ d' m room k same is_up. open-reply d' c t o s fits.0 m room k (h.talks c) e is fits.1 is_up)
-
-      abort-answered : (o : Outstanding) → t.outstanding ≡ Some o → o.command ≡ commands.Abort → (last.world.clients c).outstanding ≡ None
-      abort-answered o e is = let fits = subst (λ z. FitsCommand t o z) is ((h.talks c).fits o e) in
-          command-answered o fits.0.server (messages.Abort t.client o.request fits.0 (names_of t.works)) e fits.2 fits.3
-          (λ d' m room k same is_up. subst (λ (z : ClientTable). Reply c z (server_row m (stable (d'.world.found fits.0.server)) room (messages.Abort z.client o.request fits.0 (names_of t.works))).messages) same
-          (abort-reply d' c o fits.0 (names_of t.works) m room k (ap (λ (z : ClientTable). z.outstanding) same ∙ e) (ap is_end_or_abort is) (ap (λ (z : ClientTable). z.transaction) same ∙ fits.1) is_up))
-
-      none-some : (o : Outstanding) → None ≡ Some o → ⊥
-      none-some o q = cc
-
-    pub settled-answers : last.waiting ≡ [] → AreUp last.world → AreAnswered last.world
-    settled-answers rests up c o first most e = by o.command refl
-      where
-        was : (d.world.clients c).outstanding ≡ Some o
-        was = stays c first most rests up o e
-
-        by : (command : Command) → o.command ≡ command → is_answered command ≡ false
-        by (commands.Open s) is = absurd (none-some c first most rests up o (sym (open-answered c first most rests up o s was is) ∙ e))
-        by commands.Abort is = absurd (none-some c first most rests up o (sym (abort-answered c first most rests up o was is) ∙ e))
-        by (commands.Begin s) is = refl
-        by (commands.Do s op) is = refl
-        by commands.End is = refl

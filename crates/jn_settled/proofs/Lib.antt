@@ -4,4 +4,9 @@ pub mod Known
 pub mod Owners
 pub mod OwnerSteps
 pub mod Answered
+pub mod Votes
+pub mod Requests
+pub mod RequestSteps
+pub mod Begins
+pub mod Answers
 pub mod Settling

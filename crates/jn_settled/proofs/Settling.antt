@@ -1,5 +1,5 @@
 -- Every settle after every run answers.
-use Rattle.std.proofs.Common.{◌≡◌, ◌≤◌, ℕ, suc, ◌+◌, true, List, [], ◌∷◌, Some, None, refl, sym, ◌∙◌, ap, subst, arith}
+use Rattle.std.proofs.Common.{◌≡◌, ◌≤◌, ℕ, suc, ◌+◌, true, List, [], ◌∷◌, Some, None, refl, sym, ◌∙◌, ap, subst, arith, false, inl}
 use Rattle.jn_base.specs.declared.names.ServerNo.{ServerNo}
 use Rattle.jn_order.specs.Files.{AllFiles}
 use Rattle.jn_rows.specs.declared.client.Outstanding.{Outstanding}
@@ -14,7 +14,15 @@ use Rattle.jn_settling.proofs.Settling.{opening-sound}
 use Rattle.jn_settled.specs.Settled.{AreUp, AreAnswered, Answers}
 use Rattle.jn_settled.proofs.Known.{opening-known}
 use Rattle.jn_settled.proofs.Owners.{all_owned, owner_in}
-use Rattle.jn_settled.proofs.Answered.{Talking, go-talking, rest-talking, ask-talking, settled-answers}
+use Rattle.jn_settled.proofs.Answered.{Talking}
+use Rattle.jn_settled.proofs.Votes.{Votings}
+use Rattle.jn_settled.proofs.Requests.{Past, SeenFits}
+use Rattle.jn_settled.proofs.Begins.{Good, good-go}
+use Rattle.jn_settled.proofs.Answers.{rest-good, ask-good, settled-answers}
+use Rattle.jn_base.specs.declared.names.Party.TheVariants.{Client}
+use Rattle.jn_msgs.specs.declared.message.Message.TheVariants as messages
+use Rattle.jn_rows.specs.Outcomes.{Sent}
+use Rattle.jn_rows.specs.Client.{new_table}
 
 module _ (n : ℕ) (at_most : n ≤ 8) (files : AllFiles) (epochs : ServerNo → ℕ) where
   opening-talking : Talking n at_most (opening n files epochs) files epochs (opening_course n files epochs)
@@ -34,14 +42,41 @@ module _ (n : ℕ) (at_most : n ≤ 8) (files : AllFiles) (epochs : ServerNo →
       some-memory : (a b : Memory) → Some a ≡ Some b → a ≡ b
       some-memory a b e = cc
 
-  go-on-talking : (start : World) (steps : List Step) (c : Course) → Talking n at_most start files epochs c → IsRun steps c.world → Talking n at_most start files epochs (go_on steps c)
+  opening-good : Good n at_most (opening n files epochs) files epochs (opening_course n files epochs)
+  opening-good = record {
+    talking = opening-talking;
+    requests = record {
+      draws = λ c. record { some = omega arith; latest = λ o e. absurd (none o e) };
+      sent = λ x k. absurd k;
+      servers = λ s. record {
+        votings = λ m e. subst (λ (z : Memory). Votings (Past false (λ c. new_table c n)) z.coordinator.transactions) (some-memory (new_memory s (epochs s)) m e) tt;
+        seen = λ m e c. subst (λ (z : Memory). SeenFits (λ c. new_table c n) [] c (z.coordinator.seen c)) (some-memory (new_memory s (epochs s)) m e) (inl refl);
+        flags = λ k T f e. absurd (no-flag f e);
+      };
+    };
+    replies = record { each = λ k c q a e. absurd (no-message (Client c, messages.Begun c q a) e) };
+  }
+    where
+      none : (o : Outstanding) → None ≡ Some o → ⊥
+      none o e = cc
+
+      no-flag : (f : FlagState) → None ≡ Some f → ⊥
+      no-flag f e = cc
+
+      no-message : (x : Sent) → None ≡ Some x → ⊥
+      no-message x e = cc
+
+      some-memory : (a b : Memory) → Some a ≡ Some b → a ≡ b
+      some-memory a b e = cc
+
+  go-on-talking : (start : World) (steps : List Step) (c : Course) → Good n at_most start files epochs c → IsRun steps c.world → Good n at_most start files epochs (go_on steps c)
   go-on-talking start [] c h i = h
-  go-on-talking start (step ∷ steps) c h i = go-on-talking start steps (go step c) (go-talking n at_most start files epochs c step h i.0) i.1
+  go-on-talking start (step ∷ steps) c h i = go-on-talking start steps (go step c) (good-go n at_most start files epochs c step h i.0) i.1
 
-  pub course-talking : (steps : List Step) → IsRun steps (opening n files epochs) → Talking n at_most (opening n files epochs) files epochs (go_on steps (opening_course n files epochs))
-  course-talking steps h = go-on-talking (opening n files epochs) steps (opening_course n files epochs) opening-talking h
+  pub course-talking : (steps : List Step) → IsRun steps (opening n files epochs) → Good n at_most (opening n files epochs) files epochs (go_on steps (opening_course n files epochs))
+  course-talking steps h = go-on-talking (opening n files epochs) steps (opening_course n files epochs) opening-good h
 
-  pub settle-answers : (start : World) (first second : ℕ → Chance) (c : Course) → Talking n at_most start files epochs c → Answers n first second c
+  pub settle-answers : (start : World) (first second : ℕ → Chance) (c : Course) → Good n at_most start files epochs c → Answers n first second c
   settle-answers start first second c h = record {
     steps = one.steps + two.steps;
     each = λ j l. subst (λ (z : Course). AreUp z.world → AreAnswered z.world) (sym (whole j l)) (subst (λ (z : Course). AreUp z.world → AreAnswered z.world) (two.each two.steps (omega arith))
@@ -49,19 +84,19 @@ module _ (n : ℕ) (at_most : n ≤ 8) (files : AllFiles) (epochs : ServerNo →
   }
     where
       one : PartEnds n first c
-      one = part-ends n at_most start (suc (burden (servers_from 0 n) c)) first c h.sound (omega arith)
+      one = part-ends n at_most start (suc (burden (servers_from 0 n) c)) first c h.talking.sound (omega arith)
 
-      still : Talking n at_most start files epochs one.last
-      still = subst (λ (z : Course). Talking n at_most start files epochs z) (one.each one.steps (omega arith)) (rest-talking n at_most start files epochs one.steps first c h)
+      still : Good n at_most start files epochs one.last
+      still = subst (λ (z : Course). Good n at_most start files epochs z) (one.each one.steps (omega arith)) (rest-good n at_most start files epochs one.steps first c h)
 
       middle : Course
       middle = go_on (ask_again (clients_from 1 8) (servers_from 0 n)) one.last
 
-      asked : Talking n at_most start files epochs middle
-      asked = ask-talking n at_most start files epochs (clients_from 1 8) (servers_from 0 n) one.last still
+      asked : Good n at_most start files epochs middle
+      asked = ask-good n at_most start files epochs (clients_from 1 8) (servers_from 0 n) one.last still
 
       two : PartEnds n second middle
-      two = part-ends n at_most start (suc (burden (servers_from 0 n) middle)) second middle asked.sound (omega arith)
+      two = part-ends n at_most start (suc (burden (servers_from 0 n) middle)) second middle asked.talking.sound (omega arith)
 
       whole : (j : ℕ) → one.steps + two.steps ≤ j → settled n (record { first = first; second = second; steps = j }) c ≡ two.last
       whole j l = ap (λ (z : Course). until_rest (servers_from 0 n) second j (go_on (ask_again (clients_from 1 8) (servers_from 0 n)) z)) (one.each j (omega (arith, l))) ∙ two.each j (omega (arith, l))

@@ -5,6 +5,7 @@ use Rattle.std.specs.List.{list_any}
 use Rattle.std.proofs.lemmas.Bool.Decides.{nat_tests}
 use Rattle.jn_base.specs.declared.names.ServerNo.{ServerNo}
 use Rattle.jn_base.specs.declared.names.ClientNo.{ClientNo}
+use Rattle.jn_base.specs.declared.names.Party.{Party}
 use Rattle.jn_base.specs.declared.names.Party.TheVariants.{Client, Server}
 use Rattle.jn_base.specs.Names.{server_eq, client_eq}
 use Rattle.jn_base.proofs.Tells.{client_tells, server_tells}
@@ -16,7 +17,7 @@ use Rattle.jn_rows.specs.Outcomes.{RowOutcome, Sent}
 use Rattle.jn_rows.specs.Client.{ClientTable, take_row, again_row}
 use Rattle.jn_protocol.specs.World.{World, Memory, at_client}
 use Rattle.jn_protocol.specs.Servers.{Room, server_row, server_step}
-use Rattle.jn_protocol.specs.Steps.{Step, Again, Deliver, Work, Nudge, StopDelivery, StopWork, nudge, sent_now, IsStep, after, ends, at_memory, handed, work, works, took}
+use Rattle.jn_protocol.specs.Steps.{Step, NextEvent, Tell, Again, Deliver, Work, Nudge, Timeout, StopDelivery, StopWork, Crash, Narrow, StopRestart, Restart, IsStep, after, ends, at_memory, handed, work, works, nudge, timeout, crash, narrow, stop_restart, restart, took, sent_now}
 use Rattle.jn_settling.specs.Course.{Course, numbered, still_waiting, without_number, go, go_on}
 use Rattle.jn_settling.specs.Settle.{Chance, servers_from, first_busy, handing, working, next_step, onward, until_rest, ask_again}
 use Rattle.jn_settling.proofs.Burdens.{are_below, get-more, get-next}
@@ -94,6 +95,60 @@ pub memory-clients : (s : ServerNo) (k : ℕ) (room : Room) (stop : Option (Pick
 memory-clients s k room stop message None w = refl
 memory-clients s k room stop message (Some m) w = ends-clients s (Some k) stop (server_row m (stable (w.found s)) room message) w
 
+-- no step but these changes a client
+abbrev pub is_quiet : Step → Bool
+is_quiet (Tell c command) = false
+is_quiet (Deliver k room) = false
+is_quiet (StopDelivery k room made) = false
+is_quiet step = true
+
+work-clients : (s : ServerNo) (room : Room) (stop : Option (Pick → ℕ)) (o : Option Memory) (w : World) → (work s room stop o w).clients ≡ w.clients
+work-clients s room stop None w = refl
+work-clients s room stop (Some m) w = on (server_step m (stable (w.found s)) room)
+  where
+    on : (o : Option (RowOutcome Memory)) → (works s stop o w).clients ≡ w.clients
+    on None = refl
+    on (Some row) = ends-clients s None stop row w
+
+pub quiet-clients : (step : Step) (w : World) → is_quiet step ≡ true → (after step w).clients ≡ w.clients
+quiet-clients (Tell c command) w q = absurd (true≢false (sym q))
+quiet-clients (Deliver k room) w q = absurd (true≢false (sym q))
+quiet-clients (StopDelivery k room made) w q = absurd (true≢false (sym q))
+quiet-clients NextEvent w q = refl
+quiet-clients (Again c) w q = refl
+quiet-clients (Work s room) w q = work-clients s room None (w.memory s) w
+quiet-clients (StopWork s room made) w q = work-clients s room (Some made) (w.memory s) w
+quiet-clients (Nudge s) w q = by (w.memory s)
+  where
+    by : (o : Option Memory) → (nudge s o w).clients ≡ w.clients
+    by None = refl
+    by (Some m) = refl
+quiet-clients (Timeout s T) w q = by (w.memory s)
+  where
+    by : (o : Option Memory) → (timeout s T o w).clients ≡ w.clients
+    by None = refl
+    by (Some m) = refl
+quiet-clients (Crash s) w q = by (w.memory s)
+  where
+    by : (o : Option Memory) → (crash s o w).clients ≡ w.clients
+    by None = refl
+    by (Some m) = refl
+quiet-clients (Narrow s g) w q = by (w.memory s)
+  where
+    by : (o : Option Memory) → (narrow s g o w).clients ≡ w.clients
+    by None = refl
+    by (Some m) = refl
+quiet-clients (StopRestart s up) w q = by (w.memory s)
+  where
+    by : (o : Option Memory) → (stop_restart s up o w).clients ≡ w.clients
+    by None = refl
+    by (Some m) = refl
+quiet-clients (Restart s pick Ws Ts) w q = by (w.memory s)
+  where
+    by : (o : Option Memory) → (restart s pick Ws Ts o w).clients ≡ w.clients
+    by None = refl
+    by (Some m) = refl
+
 -- a client takes what is handed to it, and nothing else
 pub handed-still : (c : ClientNo) (k : ℕ) (room : Room) (stop : Option (Pick → ℕ)) (y : Sent) (w : World) → IsStill (w.clients c) ((handed k room stop (Some y) w).clients c)
 handed-still c k room stop (Client d, message) w = subst (λ f. IsStill (w.clients c) (f c)) (sym (took-clients d k (take_row (w.clients d) message).0 (take_row (w.clients d) message).1 w)) (by (client_tells d c))
@@ -104,7 +159,7 @@ handed-still c k room stop (Client d, message) w = subst (λ f. IsStill (w.clien
 handed-still c k room stop (Server s, message) w = subst (λ f. IsStill (w.clients c) (f c)) (sym (memory-clients s k room stop message (w.memory s) w)) (inl refl)
 
 -- what it takes
-handed-taken : (c : ClientNo) (k : ℕ) (room : Room) (stop : Option (Pick → ℕ)) (message : Message) (w : World) → (handed k room stop (Some (Client c, message)) w).clients c ≡ (take_row (w.clients c) message).0
+pub handed-taken : (c : ClientNo) (k : ℕ) (room : Room) (stop : Option (Pick → ℕ)) (message : Message) (w : World) → (handed k room stop (Some (Client c, message)) w).clients c ≡ (take_row (w.clients c) message).0
 handed-taken c k room stop message w = ap (λ f. f c) (took-clients c k (take_row (w.clients c) message).0 (take_row (w.clients c) message).1 w) ∙ ap (λ (b : Bool). if b then (take_row (w.clients c) message).0 else w.clients c) itself
   where
     itself : client_eq c c ≡ true
@@ -174,6 +229,26 @@ pub record Reply (c : ClientNo) (t : ClientTable) (sent : List Sent) : Type 0 wh
   pub has : Has (Client c, message) sent
   pub ends_it : IsEnd t message
 
+two-parties : (c : ClientNo) (s : ServerNo) (m r : Message) (x : Option Sent) → x ≡ Some (Client c, m) → x ≡ Some (Server s, r) → ⊥
+two-parties c s m r x e f = apart (ap to_of (sym e ∙ f))
+  where
+    to_of : Option Sent → Party
+    to_of None = Client c
+    to_of (Some y) = y.0
+
+    apart : Client c ≡ Server s → ⊥
+    apart q = cc
+
+-- a reply that waits already
+pub record Answering (c : ClientNo) (t : ClientTable) (d : Course) : Type 0 where
+  pub message : Message
+  pub waits : Waits d.world.sent d.waiting (Client c, message)
+  pub ends_it : IsEnd t message
+
+pub any-without : (j k : ℕ) (ks : List ℕ) → list_any (nat_eq k) ks ≡ true → nat_eq k j ≡ false → list_any (nat_eq k) (without_number j ks) ≡ true
+any-without j k [] h e = absurd (true≢false (sym h))
+any-without j k (i ∷ ks) h e = let again = any-without j k ks in grind (arith, nat_tests, h, e)
+
 pub data Way (c : ClientNo) (t : ClientTable) (x : Sent) (d : Course) : Type 0 where
   answered : (d.world.clients c).outstanding ≡ None → Way c t x d
   asks : d.world.clients c ≡ t → Waits d.world.sent d.waiting x → Way c t x d
@@ -186,7 +261,7 @@ none-still c t now (inr e) h = e
 
 module _ (n : ℕ) (at_most : n ≤ 8) (start : World) (c : ClientNo) (t : ClientTable) (s : ServerNo) (message : Message)
     (Good : Course → Type 0) (sound : (d : Course) → Good d → Sound n start d) (good : (d : Course) (step : Step) → Good d → IsStep step d.world → Good (go step d))
-    (replies : (d : Course) (m : Memory) (room : Room) → Good d → d.world.clients c ≡ t → d.world.memory s ≡ Some m → Reply c t (server_row m (stable (d.world.found s)) room message).messages) where
+    (replies : (d : Course) (m : Memory) (room : Room) → Good d → d.world.clients c ≡ t → d.world.memory s ≡ Some m → Reply c t (server_row m (stable (d.world.found s)) room message).messages ⊎ Answering c t d) where
   abbrev It : Course → Type 0
   It d = Way c t (Server s, message) d
 
@@ -205,9 +280,16 @@ module _ (n : ℕ) (at_most : n ≤ 8) (start : World) (c : ClientNo) (t : Clien
       by : (o : Option Memory) → d.world.memory s ≡ o → (stop : Option (Pick → ℕ)) → is_some ((go (handing k chance.room stop) d).world.memory s) ≡ true → (go (handing k chance.room stop) d).world.clients c ≡ t → It (go (handing k chance.room stop) d)
       by None e stop up still = absurd (true≢false (sym up ∙ ap (λ (w : World). is_some (w.memory s)) (world stop ∙ ap (λ o. at_memory s k chance.room stop message o d.world) e) ∙ ap is_some e))
       by (Some m) e (Some made) up still = absurd (true≢false (sym up ∙ ap (λ (w : World). is_some (w.memory s)) (world (Some made) ∙ ap (λ o. at_memory s k chance.room (Some made) message o d.world) e) ∙ ap (λ (b : Bool). is_some (if b then None else d.world.memory s)) itself))
-      by (Some m) e None up still = let reply = replies d m chance.room h same e in
-          answering still reply.message (now-waits n at_most start d (Deliver k chance.room) (server_row m (stable (d.world.found s)) chance.room message).messages (Client c, reply.message)
-          (ap (λ (w : World). w.sent) (world None ∙ ap (λ o. at_memory s k chance.room None message o d.world) e)) reply.has) reply.ends_it
+      by (Some m) e None up still = replied (replies d m chance.room h same e)
+        where
+          replied : Reply c t (server_row m (stable (d.world.found s)) chance.room message).messages ⊎ Answering c t d → It (go (handing k chance.room None) d)
+          replied (inl reply) = answering still reply.message (now-waits n at_most start d (Deliver k chance.room) (server_row m (stable (d.world.found s)) chance.room message).messages (Client c, reply.message)
+              (ap (λ (w : World). w.sent) (world None ∙ ap (λ o. at_memory s k chance.room None message o d.world) e)) reply.has) reply.ends_it
+          replied (inr reply) = answering still reply.message (still-waits n at_most start d (Deliver k chance.room) (Client c, reply.message) (sound d h) reply.waits (any-without k reply.waits.number d.waiting reply.waits.waits (another (nat_eq reply.waits.number k) refl))) reply.ends_it
+            where
+              another : (b : Bool) → nat_eq reply.waits.number k ≡ b → nat_eq reply.waits.number k ≡ false
+              another false q = q
+              another true q = absurd (two-parties c s reply.message message (slice_get d.world.sent k) (subst (λ (i : ℕ). slice_get d.world.sent i ≡ Some (Client c, reply.message)) (grind (arith, nat_tests, q)) reply.waits.is) is)
 
   -- a message is handed over
   handing-way : (chance : Chance) (d : Course) → Good d → (k : ℕ) (ks : List ℕ) → d.waiting ≡ k ∷ ks → is_some ((go (handing k chance.room chance.stop) d).world.memory s) ≡ true → It d → It (go (handing k chance.room chance.stop) d)
@@ -289,17 +371,9 @@ module _ (n : ℕ) (at_most : n ≤ 8) (start : World) (c : ClientNo) (t : Clien
   working-clients : (chance : Chance) (d : Course) (q : ServerNo) → (go (working q chance.room chance.stop) d).world.clients ≡ d.world.clients
   working-clients chance d q = by chance.stop
     where
-      at : (stop : Option (Pick → ℕ)) (o : Option Memory) → (work q chance.room stop o d.world).clients ≡ d.world.clients
-      at stop None = refl
-      at stop (Some m) = on (server_step m (stable (d.world.found q)) chance.room)
-        where
-          on : (o : Option (RowOutcome Memory)) → (works q stop o d.world).clients ≡ d.world.clients
-          on None = refl
-          on (Some row) = ends-clients q None stop row d.world
-
       by : (stop : Option (Pick → ℕ)) → (go (working q chance.room stop) d).world.clients ≡ d.world.clients
-      by None = at None (d.world.memory q)
-      by (Some made) = at (Some made) (d.world.memory q)
+      by None = quiet-clients (Work q chance.room) d.world refl
+      by (Some made) = quiet-clients (StopWork q chance.room made) d.world refl
 
   pub rest-answers : (j : ℕ) (chances : ℕ → Chance) (d : Course) → Good d → It d → is_some ((until_rest (servers_from 0 n) chances j d).world.memory s) ≡ true → (until_rest (servers_from 0 n) chances j d).waiting ≡ []
       → ((until_rest (servers_from 0 n) chances j d).world.clients c).outstanding ≡ None
@@ -332,20 +406,13 @@ module _ (n : ℕ) (at_most : n ≤ 8) (start : World) (c : ClientNo) (t : Clien
   ask-way d step h same waits (asks e w) = asks (ap (λ f. f c) same ∙ e) (still-waits n at_most start d step (Server s, message) (sound d h) w (subst (λ l. list_any (nat_eq w.number) l ≡ true) (sym waits) w.waits))
   ask-way d step h same waits (answering e r w end) = answering (ap (λ f. f c) same ∙ e) r (still-waits n at_most start d step (Client c, r) (sound d h) w (subst (λ l. list_any (nat_eq w.number) l ≡ true) (sym waits) w.waits)) end
 
-  nudge-clients : (d : Course) (q : ServerNo) → (go (Nudge q) d).world.clients ≡ d.world.clients
-  nudge-clients d q = by (d.world.memory q)
-    where
-      by : (o : Option Memory) → (nudge q o d.world).clients ≡ d.world.clients
-      by None = refl
-      by (Some m) = refl
-
   pub record OnTheWay (d : Course) : Type 0 where
     pub so_far : Good d
     pub way : It d
 
   nudges-way : (servers : List ServerNo) (d : Course) → OnTheWay d → OnTheWay (go_on (map (λ (q : ServerNo). Nudge q) servers) d)
   nudges-way [] d h = h
-  nudges-way (q ∷ servers) d h = nudges-way servers (go (Nudge q) d) (record { so_far = good d (Nudge q) h.so_far tt; way = ask-way d (Nudge q) h.so_far (nudge-clients d q) refl h.way })
+  nudges-way (q ∷ servers) d h = nudges-way servers (go (Nudge q) d) (record { so_far = good d (Nudge q) h.so_far tt; way = ask-way d (Nudge q) h.so_far (quiet-clients (Nudge q) d.world refl) refl h.way })
 
   agains-way : (clients : List ClientNo) (servers : List ServerNo) (d : Course) → OnTheWay d → OnTheWay (go_on (ask_again clients servers) d)
   agains-way [] servers d h = nudges-way servers d h

@@ -3,7 +3,7 @@ use Rattle.std.specs.Prelude.{◌≡◌, ◌≤◌, ℕ, Bool, true, false, Some
 use Rattle.jn_base.specs.declared.names.ServerNo.{ServerNo}
 use Rattle.jn_base.specs.declared.names.ClientNo.{ClientNo}
 use Rattle.jn_base.specs.declared.op.Command.{Command}
-use Rattle.jn_base.specs.declared.op.Command.TheVariants.{Open, Abort}
+use Rattle.jn_base.specs.declared.op.Command.TheVariants.{Begin, Open, Abort}
 use Rattle.jn_rows.specs.declared.client.Outstanding.{Outstanding}
 use Rattle.jn_protocol.specs.World.{World}
 use Rattle.jn_settling.specs.Course.{Course}
@@ -14,6 +14,7 @@ AreUp w = (s : ServerNo) → is_some (w.memory s) ≡ true
 
 -- what is answered in a settle whatever else waits
 abbrev pub is_answered : Command → Bool
+is_answered (Begin s) = true
 is_answered (Open s) = true
 is_answered Abort = true
 is_answered command = false
