@@ -27,8 +27,8 @@ abbrev pub clients_from : ℕ → ℕ → List ClientNo
 clients_from c zero = []
 clients_from c (suc n) = record { 0 = c } ∷ clients_from (c + 1) n
 
--- A server that is up has something to do where one of its works goes. The erasing of what an erased record has left behind
--- sends and tells nothing and changes nothing of what is stable, so it is no step here.
+-- A server that is up has something to do where one of its works goes. The erasing of a rubbish record sends and tells
+-- nothing and changes nothing of what is stable, so it is no step here.
 abbrev pub is_busy : StableState → Option Memory → Bool
 is_busy x None = false
 is_busy x (Some m) = is_some (going_work x m.worker)
