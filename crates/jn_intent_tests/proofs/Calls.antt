@@ -1,14 +1,13 @@
 -- What a test may call next, after a call or by what it was told.
-use Rattle.std.proofs.Common.{◌≡◌, ◌≢◌, ℕ, ◌≤◌, ◌<◌, Bool, true, false, true≢false, not, ◌||◌, if◌then◌else◌, List, [], ◌∷◌, Option, Some, None, Result, Ok, Err, length, refl, sym, ◌∙◌, subst, ap, arith}
+use Rattle.std.proofs.Common.{◌≡◌, ℕ, ◌≤◌, ◌<◌, Bool, true, false, true≢false, ◌||◌, if◌then◌else◌, List, [], ◌∷◌, Option, Some, None, Result, Ok, Err, length, refl, sym, ◌∙◌, subst, ap, arith}
 use Rattle.std.specs.Bool.{◌==◌}
 use Rattle.std.specs.Result.{result_eq}
-use Rattle.std.specs.Prelude.{is_some, is_ok, IfOk, map, All}
+use Rattle.std.specs.Prelude.{is_some, is_ok, map}
 use Rattle.jn_base.specs.declared.device.Stopped.{Stopped}
 use Rattle.jn_base.specs.declared.names.BlockNo.{BlockNo}
 use Rattle.jn_base.specs.declared.names.FileNo.{FileNo}
 use Rattle.jn_base.specs.declared.names.LockUnit.{LockUnit}
 use Rattle.jn_base.specs.declared.names.ServerNo.{ServerNo}
-use Rattle.jn_base.specs.declared.names.Tid.{Tid}
 use Rattle.jn_base.specs.declared.names.WorkId.{WorkId}
 use Rattle.jn_base.specs.Names.{work_eq, tid_eq}
 use Rattle.jn_base.proofs.Tells.{work_tells}
@@ -17,14 +16,13 @@ use Rattle.jn_records.specs.declared.flag.Flag.{Flag}
 use Rattle.jn_records.specs.declared.intention.Intention.{Intention}
 use Rattle.jn_records.specs.declared.work.WorkHead.{WorkHead}
 use Rattle.jn_records.specs.declared.work.WorkState.{WorkState}
-use Rattle.jn_rows.specs.Stable.{StableState, Prepared, Pick, Change, AddReady, MarkGoing, CarryOut, RemoveWork, AddFlag, DropFlag, made_by, Changed, Unchanged, FlagState, ready_work, is_ready, is_going}
+use Rattle.jn_rows.specs.Stable.{StableState, Prepared, Change, AddReady, MarkGoing, CarryOut, RemoveWork, AddFlag, DropFlag, made_by, Changed, Unchanged, FlagState, ready_work}
 use Rattle.jn_storage.specs.declared.faults.PrepareFault.{PrepareFault}
 use Rattle.jn_storage.specs.declared.faults.PromiseFault.{PromiseFault}
 use Rattle.jn_storage.specs.Listing.{IsListing}
 use Rattle.jn_storage.specs.Orderly.{IsPrepared, IsGiven}
 use Rattle.jn_storage.specs.Storage.{StorageView, IsServing}
-use Rattle.jn_storage.specs.Calls.{state, Called, BlockRead, tid_of, IsTold, TellsWorks, TellsFlags, WorkPrepared, reached, MarkedGoing, StepApplied, next_of, WorkRemoved, RecordErased, FlagPromised, with_promises, MayPutFlag, FlagPut, FlagDropped, MayPrepare, IsReady, IsGoing, IsCarriedOut, HasFlag}
-use Rattle.jn_storage.proofs.Laws.{carried-out}
+use Rattle.jn_storage.specs.Calls.{state, Called, BlockRead, tid_of, IsTold, TellsWorks, TellsFlags, WorkPrepared, reached, StepApplied, next_of, RecordErased, FlagPromised, MayPutFlag, MayPrepare, IsReady, IsGoing}
 use Rattle.jn_store.specs.Store.{StoreView}
 use Rattle.jn_records.specs.StablePages.{Counts}
 use Rattle.jn_intent.specs.declared.load.DownCause.{DownCause}

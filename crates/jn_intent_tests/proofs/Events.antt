@@ -1,18 +1,17 @@
 -- What befalls a device between its calls changes no bytes.
-use Rattle.std.proofs.Common.{◌≡◌, ℕ, ◌+◌, ◌/◌, Bool, true, false, ◌&&◌, nat_eq, if◌then◌else◌, Option, Some, List, inl, inr, refl, sym, ◌∙◌, ap, subst}
-use Rattle.jn_base.specs.declared.device.FaultKind.{FaultKind}
+use Rattle.std.proofs.Common.{◌≡◌, ℕ, ◌+◌, ◌/◌, Bool, true, false, ◌&&◌, nat_eq, if◌then◌else◌, Some, List, inl, inr, refl, sym, ◌∙◌, ap, subst}
 use Rattle.jn_base.specs.declared.device.FaultKind.TheVariants.{Decay, Revive}
 use Rattle.jn_base.specs.declared.device.Outside.{Outside}
 use Rattle.jn_base.specs.declared.names.ServerNo.{ServerNo}
 use Rattle.jn_device.specs.declared.Armed.{Armed}
 use Rattle.jn_device.specs.Device.{DeviceState, PageState, page_met, may_decay_at, decayed, revived}
-use Rattle.jn_device.specs.Events.{Becomes, PowersUp, Decays, Revives, Arms, rested, disarmed, cleared}
+use Rattle.jn_device.specs.Events.{PowersUp, Decays, Revives}
 use Rattle.jn_found.specs.Puts.{IsFewer}
 use Rattle.jn_found.specs.Recovery.{cleans}
 use Rattle.jn_found.proofs.RecoveryLaws.{recovered}
 use Rattle.jn_intent.specs.Memory.{Memory, view_of}
 use Rattle.jn_store.specs.Pairs.{pairs_view}
-use Rattle.jn_store.specs.Store.{StoreView, Candidate, Shrinks}
+use Rattle.jn_store.specs.Store.{StoreView, Candidate}
 use Rattle.jn_intent_tests.specs.Trial.{IsOn, MayBegin}
 
 -- pages with the same bytes

@@ -1,8 +1,8 @@
 -- From a store of zeros with a root a recovery may begin.
-use Rattle.std.proofs.Common.{◌≡◌, ℕ, zero, suc, ◌+◌, ◌*◌, ◌/◌, ◌<◌, ◌^◌, ◌||◌, nat_eq, Bool, true, false, true≢false, if◌then◌else◌, List, drop, replicate, length, refl, sym, ◌∙◌, ap, subst, arith}
+use Rattle.std.proofs.Common.{◌≡◌, ℕ, zero, suc, ◌+◌, ◌*◌, ◌/◌, ◌<◌, ◌||◌, nat_eq, Bool, true, false, true≢false, if◌then◌else◌, List, drop, replicate, refl, sym, ◌∙◌, ap, subst, arith}
 use Rattle.jn_base.specs.declared.names.ServerNo.{ServerNo}
 use Rattle.jn_device.specs.Device.{DeviceState, blank_page}
-use Rattle.jn_found.specs.Images.{CountsFit, IsStoreOf}
+use Rattle.jn_found.specs.Images.{CountsFit}
 use Rattle.jn_found.specs.Recoverable.{IsRecoverable}
 use Rattle.jn_found.proofs.SoundImages.{image_recoverable}
 use Rattle.jn_memdisk.specs.Disk.{IsNew, IsBlank as IsBlankDisk}
@@ -12,8 +12,8 @@ use Rattle.jn_records.specs.declared.root.Root.{Root}
 use Rattle.jn_records.specs.Heads.{head_page}
 use Rattle.jn_records.specs.Pages.{root_page}
 use Rattle.jn_records.specs.Records.{record_page}
-use Rattle.jn_records.specs.Sound.{Image, IsSound, Names, IsWhole}
-use Rattle.jn_records.specs.StablePages.{Counts, page_count, slot_place, head_place, data_place, is_used, file_in}
+use Rattle.jn_records.specs.Sound.{Image, IsSound}
+use Rattle.jn_records.specs.StablePages.{Counts, page_count, slot_place, head_place, data_place, is_used}
 use Rattle.jn_store.specs.Pairs.{pairs_view}
 use Rattle.jn_store.specs.Store.{StoreView, StorePut, IsBlank, IsOnly}
 

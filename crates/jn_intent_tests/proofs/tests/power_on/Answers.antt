@@ -1,4 +1,3 @@
-use Rattle.std.proofs.Common.{[]}
 use Rattle.jn_intent_tests.proofs.Events.{begins_up, begins_waiting}
 use Rattle.jn_intent_tests.proofs.tests.power_on.Goals as goal
 
