@@ -8,5 +8,7 @@ pub mod Votes
 pub mod Requests
 pub mod RequestSteps
 pub mod Begins
+pub mod Twins
+pub mod Operations
 pub mod Answers
 pub mod Settling

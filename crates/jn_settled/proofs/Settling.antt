@@ -11,6 +11,8 @@ use Rattle.jn_settling.specs.Settle.{Chance, servers_from, clients_from, until_r
 use Rattle.jn_settling.specs.Weights.{burden}
 use Rattle.jn_settling.proofs.Resting.{PartEnds, part-ends}
 use Rattle.jn_settling.proofs.Settling.{opening-sound}
+use Rattle.jn_settling.proofs.Courses.{Sound}
+use Rattle.jn_settled.proofs.Twins.{HasTwin, run-has-twin}
 use Rattle.jn_settled.specs.Settled.{AreUp, AreAnswered, Answers}
 use Rattle.jn_settled.proofs.Known.{opening-known}
 use Rattle.jn_settled.proofs.Owners.{all_owned, owner_in}
@@ -76,24 +78,31 @@ module _ (n : ℕ) (at_most : n ≤ 8) (files : AllFiles) (epochs : ServerNo →
   pub course-talking : (steps : List Step) → IsRun steps (opening n files epochs) → Good n at_most (opening n files epochs) files epochs (go_on steps (opening_course n files epochs))
   course-talking steps h = go-on-talking (opening n files epochs) steps (opening_course n files epochs) opening-good h
 
-  pub settle-answers : (start : World) (first second : ℕ → Chance) (c : Course) → Good n at_most start files epochs c → Answers n first second c
-  settle-answers start first second c h = record {
+  -- each course is a run
+  pub course-twin : (d : Course) → Sound n (opening n files epochs) d → HasTwin files epochs d.world
+  course-twin d h = subst (λ (z : World). HasTwin files epochs z) h.course.stands (run-has-twin n files epochs d.steps h.course.is_run)
+
+  pub settle-answers : (first second : ℕ → Chance) (c : Course) → Good n at_most (opening n files epochs) files epochs c → Answers n first second c
+  settle-answers first second c h = record {
     steps = one.steps + two.steps;
     each = λ j l. subst (λ (z : Course). AreUp z.world → AreAnswered z.world) (sym (whole j l)) (subst (λ (z : Course). AreUp z.world → AreAnswered z.world) (two.each two.steps (omega arith))
-        (settled-answers n at_most start files epochs one.last still two.steps second (ap (λ (z : Course). z.waiting) (two.each two.steps (omega arith)) ∙ (let r = two.rests in r.waits))));
+        (settled-answers n at_most start files epochs course-twin one.last still two.steps second (ap (λ (z : Course). z.waiting) (two.each two.steps (omega arith)) ∙ (let r = two.rests in r.waits))));
   }
     where
+      start : World
+      start = opening n files epochs
+
       one : PartEnds n first c
       one = part-ends n at_most start (suc (burden (servers_from 0 n) c)) first c h.talking.sound (omega arith)
 
       still : Good n at_most start files epochs one.last
-      still = subst (λ (z : Course). Good n at_most start files epochs z) (one.each one.steps (omega arith)) (rest-good n at_most start files epochs one.steps first c h)
+      still = subst (λ (z : Course). Good n at_most start files epochs z) (one.each one.steps (omega arith)) (rest-good n at_most start files epochs course-twin one.steps first c h)
 
       middle : Course
       middle = go_on (ask_again (clients_from 1 8) (servers_from 0 n)) one.last
 
       asked : Good n at_most start files epochs middle
-      asked = ask-good n at_most start files epochs (clients_from 1 8) (servers_from 0 n) one.last still
+      asked = ask-good n at_most start files epochs course-twin (clients_from 1 8) (servers_from 0 n) one.last still
 
       two : PartEnds n second middle
       two = part-ends n at_most start (suc (burden (servers_from 0 n) middle)) second middle asked.talking.sound (omega arith)

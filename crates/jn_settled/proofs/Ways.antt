@@ -63,7 +63,7 @@ new-waits xs (y ∷ ys) x h = by h (new-waits (xs ++ y ∷ []) ys x)
 
 module _ (n : ℕ) (at_most : n ≤ 8) (start : World) where
   -- one that waits still, or is new, after a step
-  still-waits : (d : Course) (step : Step) (x : Sent) → Sound n start d → (w : Waits d.world.sent d.waiting x) → list_any (nat_eq w.number) (still_waiting step d.waiting) ≡ true → Waits (go step d).world.sent (go step d).waiting x
+  pub still-waits : (d : Course) (step : Step) (x : Sent) → Sound n start d → (w : Waits d.world.sent d.waiting x) → list_any (nat_eq w.number) (still_waiting step d.waiting) ≡ true → Waits (go step d).world.sent (go step d).waiting x
   still-waits d step x h w still = by (grows d.world step)
     where
       by : Grows d.world (after step d.world) → Waits (go step d).world.sent (go step d).waiting x
@@ -73,7 +73,7 @@ module _ (n : ℕ) (at_most : n ≤ 8) (start : World) where
         is = subst (λ xs. slice_get xs w.number ≡ Some x) (sym g.sent) (get-more d.world.sent g.new w.number (below-any (length d.world.sent) w.number d.waiting h.below w.waits) ∙ w.is);
       }
 
-  now-waits : (d : Course) (step : Step) (new : List Sent) (x : Sent) → (after step d.world).sent ≡ d.world.sent ++ new → Has x new → Waits (go step d).world.sent (go step d).waiting x
+  pub now-waits : (d : Course) (step : Step) (new : List Sent) (x : Sent) → (after step d.world).sent ≡ d.world.sent ++ new → Has x new → Waits (go step d).world.sent (go step d).waiting x
   now-waits d step new x e h = let w = new-waits d.world.sent new x h in record {
     number = w.number;
     waits = subst (λ ks. list_any (nat_eq w.number) ks ≡ true) (sym (waiting-is n at_most start d step new e)) (any-right w.number (still_waiting step d.waiting) _ w.waits);
@@ -166,7 +166,7 @@ handed-taken c k room stop message w = ap (λ f. f c) (took-clients c k (take_ro
     itself = grind (arith, nat_tests)
 
 -- a server that is down stays down
-ends-down : (s q : ServerNo) (k : Option ℕ) (stop : Option (Pick → ℕ)) (row : RowOutcome Memory) (w : World) (m : Memory) → w.memory s ≡ Some m → w.memory q ≡ None → (ends s k stop row w).memory q ≡ None
+pub ends-down : (s q : ServerNo) (k : Option ℕ) (stop : Option (Pick → ℕ)) (row : RowOutcome Memory) (w : World) (m : Memory) → w.memory s ≡ Some m → w.memory q ≡ None → (ends s k stop row w).memory q ≡ None
 ends-down s q k stop row w m up down = by (server_tells s q) stop
   where
     clash : Some m ≡ None → ⊥
@@ -182,7 +182,7 @@ took-memory c k t taken.Ignored w = refl
 took-memory c k t (taken.Send to message) w = refl
 took-memory c k t (taken.Told line answer) w = refl
 
-handed-down : (q : ServerNo) (k : ℕ) (room : Room) (stop : Option (Pick → ℕ)) (o : Option Sent) (w : World) → w.memory q ≡ None → (handed k room stop o w).memory q ≡ None
+pub handed-down : (q : ServerNo) (k : ℕ) (room : Room) (stop : Option (Pick → ℕ)) (o : Option Sent) (w : World) → w.memory q ≡ None → (handed k room stop o w).memory q ≡ None
 handed-down q k room stop None w down = down
 handed-down q k room stop (Some (Client d, message)) w down = ap (λ f. f q) (took-memory d k (take_row (w.clients d) message).0 (take_row (w.clients d) message).1 w) ∙ down
 handed-down q k room stop (Some (Server s, message)) w down = by (w.memory s) refl
@@ -191,7 +191,7 @@ handed-down q k room stop (Some (Server s, message)) w down = by (w.memory s) re
     by None e = down
     by (Some m) e = ends-down s q (Some k) stop (server_row m (stable (w.found s)) room message) w m e down
 
-work-down : (q s : ServerNo) (room : Room) (stop : Option (Pick → ℕ)) (w : World) → w.memory q ≡ None → (work s room stop (w.memory s) w).memory q ≡ None
+pub work-down : (q s : ServerNo) (room : Room) (stop : Option (Pick → ℕ)) (w : World) → w.memory q ≡ None → (work s room stop (w.memory s) w).memory q ≡ None
 work-down q s room stop w down = by (w.memory s) refl
   where
     by : (o : Option Memory) → w.memory s ≡ o → (work s room stop o w).memory q ≡ None

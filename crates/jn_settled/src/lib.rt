@@ -10,8 +10,8 @@ ghost use Rattle.jn_settling.specs.Course.{opening_course, go_on};
 ghost use Rattle.jn_settling.specs.Settle.{Chance};
 ghost use Rattle.jn_settled.specs.Settled.{Answers};
 
-/// After a settle that ends with all servers up, no client waits for a Begin, an Open or an Abort, whatever ran before and
-/// whatever befalls its steps.
+/// After a settle that ends with all servers up, no client waits for anything but an End, whatever ran before and whatever
+/// befalls its steps.
 pub fn settling_answers()
     ensures { (servers : ℕ) (files : AllFiles) (epochs : ServerNo → ℕ) (steps : List Step) → servers ≤ 8 → IsRun steps (opening servers files epochs)
         → (first second : ℕ → Chance) → Answers servers first second (go_on steps (opening_course servers files epochs)) }

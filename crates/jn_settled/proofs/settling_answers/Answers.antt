@@ -5,4 +5,4 @@ use Rattle.jn_settled.proofs.settling_answers.Goals as goal
 
 pub returns : goal.returns
 returns c = λ servers files epochs steps few is first second.
-    settle-answers servers few files epochs (opening servers files epochs) first second (go_on steps (opening_course servers files epochs)) (course-talking servers few files epochs steps is)
+    settle-answers servers few files epochs first second (go_on steps (opening_course servers files epochs)) (course-talking servers few files epochs steps is)
