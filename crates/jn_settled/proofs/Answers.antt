@@ -49,7 +49,7 @@ module _ (n : ℕ) (at_most : n ≤ 8) (start : World) (files : AllFiles) (epoch
       t = d.world.clients c
 
       -- what it waits for in the end it waited for before
-      stays : (o : Outstanding) → (last.world.clients c).outstanding ≡ Some o → t.outstanding ≡ Some o
+      pub stays : (o : Outstanding) → (last.world.clients c).outstanding ≡ Some o → t.outstanding ≡ Some o
       stays o e = by (rest-on n at_most start files epochs c t j chances middle (ask-on n at_most start files epochs c t (clients_from 1 8) (servers_from 0 n) d (inl refl)))
         where
           by : IsStill t (last.world.clients c) → t.outstanding ≡ Some o

@@ -10,5 +10,11 @@ pub mod RequestSteps
 pub mod Begins
 pub mod Twins
 pub mod Operations
+pub mod Fates
+pub mod Memories
+pub mod Calm
+pub mod Standing
+pub mod Ends
 pub mod Answers
 pub mod Settling
+pub mod EndsWait

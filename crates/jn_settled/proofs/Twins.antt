@@ -322,3 +322,12 @@ run-has-twin servers files epochs steps i = let last = run-twin files epochs (co
   reached = opening-reached files epochs servers;
   stands = opening-stands (commands_in steps) files epochs servers;
 }) in record { events = commands_in steps; count = last.0; is = last.1 }
+
+-- what holds after every run
+module _ (files : AllFiles) (epochs : ServerNo → ℕ) where
+  reached-on : (steps : List Step) (r : World) → IsRun steps r → Reached files epochs r → Reached files epochs (run steps r)
+  reached-on [] r i h = h
+  reached-on (step ∷ steps) r i h = reached-on steps (after step r) i.1 (next-reached files epochs r step i.0 h)
+
+  pub run-reached : (servers : ℕ) (steps : List Step) → IsRun steps (opening servers files epochs) → Reached files epochs (run steps (opening servers files epochs))
+  run-reached servers steps i = reached-on steps (opening servers files epochs) i (opening-reached files epochs servers)

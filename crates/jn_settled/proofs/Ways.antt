@@ -17,7 +17,7 @@ use Rattle.jn_rows.specs.Outcomes.{RowOutcome, Sent}
 use Rattle.jn_rows.specs.Client.{ClientTable, take_row, again_row}
 use Rattle.jn_protocol.specs.World.{World, Memory, at_client}
 use Rattle.jn_protocol.specs.Servers.{Room, server_row, server_step}
-use Rattle.jn_protocol.specs.Steps.{Step, NextEvent, Tell, Again, Deliver, Work, Nudge, Timeout, StopDelivery, StopWork, Crash, Narrow, StopRestart, Restart, IsStep, after, ends, at_memory, handed, work, works, nudge, timeout, crash, narrow, stop_restart, restart, took, sent_now}
+use Rattle.jn_protocol.specs.Steps.{Step, NextEvent, Tell, Again, Deliver, Work, Nudge, Timeout, StopDelivery, StopWork, Crash, Narrow, StopRestart, Restart, IsStep, after, ends, at_memory, handed, work, works, nudge, timeout, crash, narrow, stop_restart, restart, took, taken_by, sent_now}
 use Rattle.jn_settling.specs.Course.{Course, numbered, still_waiting, without_number, go, go_on}
 use Rattle.jn_settling.specs.Settle.{Chance, servers_from, first_busy, handing, working, next_step, onward, until_rest, ask_again}
 use Rattle.jn_settling.proofs.Burdens.{are_below, get-more, get-next}
@@ -150,20 +150,26 @@ quiet-clients (Restart s pick Ws Ts) w q = by (w.memory s)
     by (Some m) = refl
 
 -- a client takes what is handed to it, and nothing else
-pub handed-still : (c : ClientNo) (k : ℕ) (room : Room) (stop : Option (Pick → ℕ)) (y : Sent) (w : World) → IsStill (w.clients c) ((handed k room stop (Some y) w).clients c)
-handed-still c k room stop (Client d, message) w = subst (λ f. IsStill (w.clients c) (f c)) (sym (took-clients d k (take_row (w.clients d) message).0 (take_row (w.clients d) message).1 w)) (by (client_tells d c))
+pub taken-still : (c d : ClientNo) (k : ℕ) (message : Message) (w : World) → IsStill (w.clients c) ((taken_by d k (take_row (w.clients d) message) w).clients c)
+taken-still c d k message w = subst (λ f. IsStill (w.clients c) (f c)) (sym (took-clients d k (take_row (w.clients d) message).0 (take_row (w.clients d) message).1 w)) (by (client_tells d c))
   where
     by : ((client_eq d c ≡ true) × (d ≡ c)) ⊎ ((client_eq d c ≡ false) × (d ≢ c)) → IsStill (w.clients c) (at_client w.clients d (take_row (w.clients d) message).0 c)
     by (inl e) = subst (λ (b : Bool). IsStill (w.clients c) (if b then (take_row (w.clients d) message).0 else w.clients c)) (sym e.0) (subst (λ (z : ClientNo). IsStill (w.clients z) (take_row (w.clients d) message).0) e.1 (take-still (w.clients d) message))
     by (inr e) = subst (λ (b : Bool). IsStill (w.clients c) (if b then (take_row (w.clients d) message).0 else w.clients c)) (sym e.0) (inl refl)
+
+pub handed-still : (c : ClientNo) (k : ℕ) (room : Room) (stop : Option (Pick → ℕ)) (y : Sent) (w : World) → IsStill (w.clients c) ((handed k room stop (Some y) w).clients c)
+handed-still c k room stop (Client d, message) w = taken-still c d k message w
 handed-still c k room stop (Server s, message) w = subst (λ f. IsStill (w.clients c) (f c)) (sym (memory-clients s k room stop message (w.memory s) w)) (inl refl)
 
 -- what it takes
-pub handed-taken : (c : ClientNo) (k : ℕ) (room : Room) (stop : Option (Pick → ℕ)) (message : Message) (w : World) → (handed k room stop (Some (Client c, message)) w).clients c ≡ (take_row (w.clients c) message).0
-handed-taken c k room stop message w = ap (λ f. f c) (took-clients c k (take_row (w.clients c) message).0 (take_row (w.clients c) message).1 w) ∙ ap (λ (b : Bool). if b then (take_row (w.clients c) message).0 else w.clients c) itself
+pub taken-taken : (c : ClientNo) (k : ℕ) (message : Message) (w : World) → (taken_by c k (take_row (w.clients c) message) w).clients c ≡ (take_row (w.clients c) message).0
+taken-taken c k message w = ap (λ f. f c) (took-clients c k (take_row (w.clients c) message).0 (take_row (w.clients c) message).1 w) ∙ ap (λ (b : Bool). if b then (take_row (w.clients c) message).0 else w.clients c) itself
   where
     itself : client_eq c c ≡ true
     itself = grind (arith, nat_tests)
+
+pub handed-taken : (c : ClientNo) (k : ℕ) (room : Room) (stop : Option (Pick → ℕ)) (message : Message) (w : World) → (handed k room stop (Some (Client c, message)) w).clients c ≡ (take_row (w.clients c) message).0
+handed-taken c k room stop message w = taken-taken c k message w
 
 -- a server that is down stays down
 pub ends-down : (s q : ServerNo) (k : Option ℕ) (stop : Option (Pick → ℕ)) (row : RowOutcome Memory) (w : World) (m : Memory) → w.memory s ≡ Some m → w.memory q ≡ None → (ends s k stop row w).memory q ≡ None
@@ -177,7 +183,7 @@ ends-down s q k stop row w m up down = by (server_tells s q) stop
     by (inr e) None = ap (λ (b : Bool). if b then Some row.table else w.memory q) e.0 ∙ down
     by (inr e) (Some made) = ap (λ (b : Bool). if b then None else w.memory q) e.0 ∙ down
 
-took-memory : (c : ClientNo) (k : ℕ) (t : ClientTable) (r : Taken) (w : World) → (took c k t r w).memory ≡ w.memory
+pub took-memory : (c : ClientNo) (k : ℕ) (t : ClientTable) (r : Taken) (w : World) → (took c k t r w).memory ≡ w.memory
 took-memory c k t taken.Ignored w = refl
 took-memory c k t (taken.Send to message) w = refl
 took-memory c k t (taken.Told line answer) w = refl
