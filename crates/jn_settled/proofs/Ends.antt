@@ -59,7 +59,7 @@ use Rattle.jn_settled.proofs.Ways.{Has, Waits, IsEnd, none-still, taken-still, t
 use Rattle.jn_settled.proofs.Answered.{ends_outcome, its-client, outcome-ends}
 use Rattle.jn_settled.proofs.Begins.{Good}
 use Rattle.jn_settled.proofs.Fates.{is_undecided, is_unfinished, has-after, has-before, Move, starts, notes_one, commits_now, aborts_now, finishes, Fate, stays, moves, forgets, closes, row-fate}
-use Rattle.jn_settled.proofs.Memories.{all_unfinished, Unfinished}
+use Rattle.jn_settled.proofs.Memories.{found-unfinished, Unfinished}
 use Rattle.jn_settled.proofs.Calm.{Comes, carried}
 use Rattle.jn_settled.proofs.Standing.{machine, not-next, no-later, not-going}
 
@@ -151,7 +151,7 @@ has-prepare T c W (V ∷ Vs) h = by (work_tells V W) (has-prepare T c W Vs)
     by (inr p) again = inr (again (sym (ap (λ (b : Bool). b || is_work W Vs) p.0) ∙ h))
 
 -- one that isn't noted is asked
-in-left : (W : WorkId) (Vs Ws : List WorkId) → is_work W Vs ≡ true → is_work W Ws ≡ false → is_work W (besides Vs Ws) ≡ true
+pub in-left : (W : WorkId) (Vs Ws : List WorkId) → is_work W Vs ≡ true → is_work W Ws ≡ false → is_work W (besides Vs Ws) ≡ true
 in-left W [] Ws h k = h
 in-left W (V ∷ Vs) Ws h k = by (work_tells V W) (in-left W Vs Ws)
   where
@@ -225,6 +225,11 @@ vote-heard t k T x b V vote found stage work = subst (λ o. Heard T x b V t (vot
     by (votes.Lost m n) = aborts _ (besides b.works (V ∷ []))
     by (votes.Broken u held) = aborts _ b.works
     by (votes.Full m free need) = aborts _ b.works
+
+-- each is in the other list
+pub all-ready : (Ws Vs : List WorkId) → ((W : WorkId) → is_work W Ws ≡ true → is_work W Vs ≡ true) → all_in Ws Vs ≡ true
+all-ready [] Vs h = refl
+all-ready (W ∷ Ws) Vs h = let first = h W (grind (arith, work_tells W W)) in let again = all-ready Ws Vs (λ V k. h V (grind (arith, k))) in grind (arith, first, again)
 
 -- ---- on its way
 
@@ -457,7 +462,7 @@ module _ (n : ℕ) (at_most : n ≤ 8) (files : AllFiles) (epochs : ServerNo →
           → Fate T v.entry m.coordinator message (coordinator_row m.coordinator room.free.records m.tickets message) → EndWay now
       by-fate r other (stays f) = votes-at v row.table v.entry v.ballot (here-now e) (ap (λ (z : RowOutcome Memory). transaction_at T z.table.coordinator.transactions) r ∙ f) v.stage v.client (pendings v other) same
       by-fate r other (forgets f u) = absurd (true≢false (sym (ap is_undecided v.stage) ∙ u))
-      by-fate r other (closes q f l u) = absurd (no-later files epochs d.world (reached d g) T m v.entry up-here found-here q s (subst (λ z. In (Server s, z) d.world.sent) f (get-in d.world.sent k (Server s, message) is))
+      by-fate r other (closes q f l u none) = absurd (no-later files epochs d.world (reached d g) T m v.entry up-here found-here q s (subst (λ z. In (Server s, z) d.world.sent) f (get-in d.world.sent k (Server s, message) is))
           (ap (λ (z : ClientNo). (d.world.clients z).transaction) v.client ∙ ap (λ (z : ClientTable). z.transaction) same ∙ current) l)
       by-fate r other (moves stage f move) = on stage f move
         where
@@ -697,22 +702,14 @@ module _ (n : ℕ) (at_most : n ≤ 8) (files : AllFiles) (epochs : ServerNo →
   nothing-waits : (d : Course) (x : Sent) → d.waiting ≡ [] → Waits d.world.sent d.waiting x → ⊥
   nothing-waits d x e w = true≢false (sym w.waits ∙ ap (λ l. list_any (nat_eq w.number) l) e)
 
-  all-ready : (Ws Vs : List WorkId) → ((W : WorkId) → is_work W Ws ≡ true → is_work W Vs ≡ true) → all_in Ws Vs ≡ true
-  all-ready [] Vs h = refl
-  all-ready (W ∷ Ws) Vs h = let first = h W (grind (arith, work_tells W W)) in let again = all-ready Ws Vs (λ V k. h V (grind (arith, k))) in grind (arith, first, again)
-
   pub rest-way : (unfinished : (d : Course) → Good n at_most start files epochs d → Unfinished d.world) (d : Course) → Good n at_most start files epochs d → d.waiting ≡ [] → EndWay d → ((d.world.clients c).outstanding ≡ None) ⊎ IsTold d.world
   rest-way unfinished d g e (over q) = inl q
   rest-way unfinished d g e (told_so q) = inr q
   rest-way unfinished d g e (asks same w) = absurd (nothing-waits d _ e w)
   rest-way unfinished d g e (answering same r w z) = absurd (nothing-waits d _ e w)
   rest-way unfinished d g e (telling same s u held w) = absurd (nothing-waits d _ e w)
-  rest-way unfinished d g e (voting same v) = absurd (no (each-unfinished v.memory.coordinator.transactions v.entry (unfinished d g T.server v.memory v.up) v.found))
+  rest-way unfinished d g e (voting same v) = absurd (no (found-unfinished T v.memory.coordinator.transactions v.entry (unfinished d g T.server v.memory v.up) v.found))
     where
-      each-unfinished : (xs : List Transaction) (y : Transaction) → all_unfinished xs ≡ true → transaction_at T xs ≡ Some y → is_unfinished y.stage ≡ true
-      each-unfinished [] y h q = absurd (cc q)
-      each-unfinished (x ∷ xs) y h q = let again = each-unfinished xs y in grind (arith, h, q)
-
       done-each : (W : WorkId) → (is_work W v.ballot.ready ≡ true) ⊎ Pending d W → is_work W v.ballot.ready ≡ true
       done-each W (inl k) = k
       done-each W (inr (to_prepare w)) = absurd (nothing-waits d _ e w)

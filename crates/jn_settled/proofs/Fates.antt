@@ -22,11 +22,12 @@ use Rattle.jn_rows.specs.declared.coordinator.Stage.{Stage}
 use Rattle.jn_rows.specs.declared.coordinator.Stage.TheVariants.{Open, Voting, Committed, Aborted}
 use Rattle.jn_rows.specs.declared.coordinator.Voting.{Voting as Ballot}
 use Rattle.jn_rows.specs.declared.coordinator.Committed.{Committed as Commitment}
-use Rattle.jn_rows.specs.Outcomes.{RowOutcome, Sent, ignored}
-use Rattle.jn_rows.specs.Coordinator.{CoordinatorTable, transaction_at, with_stage, without, all_in, is_work, besides, drops, commits, prepares, committed_to, aborted_to, commit_row, abort_row, forget_row, closed, after_closing, changes_of_closing, seen_now, begin_new, begin_again, begun_by, begin_row, name_from, end_promised, end_stage, end_row, abort_stage, abort_request, told_stage, inquire_row, noted, with_work, counted_vote, vote_stage, vote_row, done_stage, done_row, thanks_stage, thanks_row, coordinator_row}
+use Rattle.jn_rows.specs.Stable.{DropFlag}
+use Rattle.jn_rows.specs.Outcomes.{RowOutcome, Sent, quiet, ignored}
+use Rattle.jn_rows.specs.Coordinator.{CoordinatorTable, staged, transaction_at, with_stage, without, all_in, is_work, besides, drops, commits, prepares, committed_to, aborted_to, commit_row, abort_row, forget_row, closed, after_closing, changes_of_closing, seen_now, begin_new, begin_again, begun_by, begin_row, name_from, end_promised, end_stage, end_row, abort_stage, abort_request, told_stage, inquire_row, noted, with_work, counted_vote, vote_stage, vote_row, done_stage, done_row, thanks_stage, thanks_row, coordinator_row}
 use Rattle.jn_machine.specs.World.{World as Machine}
 use Rattle.jn_moves.specs.Mirrors.{AreTransactions}
-use Rattle.jn_moves.proofs.Transactions.{in_stage, at-stage, at-less}
+use Rattle.jn_moves.proofs.Transactions.{in_stage, at-stage, none-staged, none-less, at-less}
 use Rattle.jn_settling.proofs.CoordinatorFits.{found-name}
 use Rattle.jn_reported.proofs.Lists.{In}
 use Rattle.jn_settled.proofs.Ways.{Has}
@@ -82,7 +83,7 @@ pub data Fate (T : Tid) (x : Transaction) (t : CoordinatorTable) (m : Message) (
   stays : transaction_at T row.table.transactions ≡ Some x → Fate T x t m row
   moves : (stage : Stage) → transaction_at T row.table.transactions ≡ Some (record x { stage = stage }) → Move x row.messages row.notes stage → Fate T x t m row
   forgets : transaction_at T row.table.transactions ≡ None → is_undecided x.stage ≡ false → Fate T x t m row
-  closes : (q : ℕ) → m ≡ messages.Begin x.client q → nat_lt (t.seen x.client) q ≡ true → is_undecided x.stage ≡ true → Fate T x t m row
+  closes : (q : ℕ) → m ≡ messages.Begin x.client q → nat_lt (t.seen x.client) q ≡ true → is_undecided x.stage ≡ true → transaction_at T row.table.transactions ≡ None → Fate T x t m row
 
 some-transaction : (x y : Transaction) → Some x ≡ Some y → x ≡ y
 some-transaction x y e = cc
@@ -170,6 +171,27 @@ module _ (t : CoordinatorTable) (k : Tickets) (U : Tid) (y : Transaction) (found
   thanks-its (Aborted cause) e = goes refl (ap is_undecided e)
   thanks-its (Committed d) e = either-its d.thanked _ _ (keeps refl) (forget-its d (record d { thanked = true }) e refl (λ W h. h) (λ h. refl))
 
+-- none stays none where a client's transactions are closed
+pub none-closed : (T : Tid) (c : ClientNo) (xs : List Transaction) → transaction_at T xs ≡ None → transaction_at T (after_closing c xs) ≡ None
+none-closed T c [] h = refl
+none-closed T c (y ∷ xs) h = by (client_eq y.client c) y.stage (tid_eq y.tid T) refl h (none-closed T c xs)
+  where
+    no : Some y ≡ None → ⊥
+    no q = cc
+
+    on : (b f : Bool) (d : Commitment) → f ≡ tid_eq y.tid T → f ≡ false → transaction_at T (after_closing c xs) ≡ None → transaction_at T ((if b then [] else record y { stage = Committed (record d { thanked = true }) } ∷ []) ++ after_closing c xs) ≡ None
+    on true f d e g again = again
+    on false f d e g again = ap (λ (z : Bool). if z then Some (record y { stage = Committed (record d { thanked = true }) }) else transaction_at T (after_closing c xs)) (sym e ∙ g) ∙ again
+
+    by : (b : Bool) (s : Stage) (f : Bool) → f ≡ tid_eq y.tid T → (if f then Some y else transaction_at T xs) ≡ None → (transaction_at T xs ≡ None → transaction_at T (after_closing c xs) ≡ None)
+        → transaction_at T (if b then closed s y ++ after_closing c xs else y ∷ after_closing c xs) ≡ None
+    by b s true e q again = absurd (no q)
+    by false s false e q again = ap (λ (z : Bool). if z then Some y else transaction_at T (after_closing c xs)) (sym e) ∙ again q
+    by true Open false e q again = again q
+    by true (Voting b) false e q again = again q
+    by true (Aborted cause) false e q again = again q
+    by true (Committed d) false e q again = on (all_in d.works d.done) false d e refl (again q)
+
 -- ---- every row
 
 module _ (w : Machine) (s : ServerNo) (t : CoordinatorTable) (free : ℕ) (k : Tickets) (all : AreTransactions w s t.transactions) (T : Tid) (x : Transaction) (found : transaction_at T t.transactions ≡ Some x) where
@@ -201,27 +223,7 @@ module _ (w : Machine) (s : ServerNo) (t : CoordinatorTable) (free : ℕ) (k : T
     other : transaction_at T now ≡ Some y → Left xs now c y
     thanked_now : (d : Commitment) → y.stage ≡ Committed d → transaction_at T now ≡ Some (record y { stage = Committed (record d { thanked = true }) }) → Left xs now c y
     gone : transaction_at T now ≡ None → is_undecided y.stage ≡ false → Left xs now c y
-    closed_now : y.client ≡ c → is_undecided y.stage ≡ true → Left xs now c y
-
-  none-closed : (c : ClientNo) (xs : List Transaction) → transaction_at T xs ≡ None → transaction_at T (after_closing c xs) ≡ None
-  none-closed c [] h = refl
-  none-closed c (y ∷ xs) h = by (client_eq y.client c) y.stage (tid_eq y.tid T) refl h (none-closed c xs)
-    where
-      no : Some y ≡ None → ⊥
-      no q = cc
-
-      on : (b f : Bool) (d : Commitment) → f ≡ tid_eq y.tid T → f ≡ false → transaction_at T (after_closing c xs) ≡ None → transaction_at T ((if b then [] else record y { stage = Committed (record d { thanked = true }) } ∷ []) ++ after_closing c xs) ≡ None
-      on true f d e g again = again
-      on false f d e g again = ap (λ (z : Bool). if z then Some (record y { stage = Committed (record d { thanked = true }) }) else transaction_at T (after_closing c xs)) (sym e ∙ g) ∙ again
-
-      by : (b : Bool) (s : Stage) (f : Bool) → f ≡ tid_eq y.tid T → (if f then Some y else transaction_at T xs) ≡ None → (transaction_at T xs ≡ None → transaction_at T (after_closing c xs) ≡ None)
-          → transaction_at T (if b then closed s y ++ after_closing c xs else y ∷ after_closing c xs) ≡ None
-      by b s true e q again = absurd (no q)
-      by false s false e q again = ap (λ (z : Bool). if z then Some y else transaction_at T (after_closing c xs)) (sym e) ∙ again q
-      by true Open false e q again = again q
-      by true (Voting b) false e q again = again q
-      by true (Aborted cause) false e q again = again q
-      by true (Committed d) false e q again = on (all_in d.works d.done) false d e refl (again q)
+    closed_now : y.client ≡ c → is_undecided y.stage ≡ true → transaction_at T now ≡ None → Left xs now c y
 
   closing-leaves : (c : ClientNo) (xs : List Transaction) (y : Transaction) → AreTransactions w s xs → transaction_at T xs ≡ Some y → Left xs (after_closing c xs) c y
   closing-leaves c [] y are h = absurd (cc h)
@@ -235,13 +237,13 @@ module _ (w : Machine) (s : ServerNo) (t : CoordinatorTable) (free : ℕ) (k : T
 
       -- it is this one
       mine : tid_eq z.tid T ≡ true → transaction_at T xs ≡ None → (stage : Stage) → z.stage ≡ stage → Left (z ∷ xs) (closed stage z ++ after_closing c xs) z.client z
-      mine e none Open q = closed_now refl (ap is_undecided q)
-      mine e none (Voting b) q = closed_now refl (ap is_undecided q)
-      mine e none (Aborted cause) q = gone (none-closed c xs none) (ap is_undecided q)
+      mine e none Open q = closed_now refl (ap is_undecided q) (none-closed T c xs none)
+      mine e none (Voting b) q = closed_now refl (ap is_undecided q) (none-closed T c xs none)
+      mine e none (Aborted cause) q = gone (none-closed T c xs none) (ap is_undecided q)
       mine e none (Committed d) q = on (all_in d.works d.done)
         where
           on : (b : Bool) → Left (z ∷ xs) ((if b then [] else record z { stage = Committed (record d { thanked = true }) } ∷ []) ++ after_closing c xs) z.client z
-          on true = gone (none-closed c xs none) (ap is_undecided q)
+          on true = gone (none-closed T c xs none) (ap is_undecided q)
           on false = thanked_now d q (ap (λ (f : Bool). if f then Some (record z { stage = Committed (record d { thanked = true }) }) else transaction_at T (after_closing c xs)) e)
 
       -- what stands before it is another one
@@ -260,7 +262,7 @@ module _ (w : Machine) (s : ServerNo) (t : CoordinatorTable) (free : ℕ) (k : T
       further l e (other h) = other (e ∙ h)
       further l e (thanked_now d q h) = thanked_now d q (e ∙ h)
       further l e (gone h u) = gone (e ∙ h) u
-      further l e (closed_now q u) = closed_now q u
+      further l e (closed_now q u h) = closed_now q u (e ∙ h)
 
       by : ((tid_eq z.tid T ≡ true) × (z.tid ≡ T)) ⊎ ((tid_eq z.tid T ≡ false) × (z.tid ≢ T)) → Is-client → (if tid_eq z.tid T then Some z else transaction_at T xs) ≡ Some y
           → (transaction_at T xs ≡ Some y → Left xs (after_closing c xs) c y) → Left (z ∷ xs) (there (client_eq z.client c) z.stage) c y
@@ -287,7 +289,7 @@ module _ (w : Machine) (s : ServerNo) (t : CoordinatorTable) (free : ℕ) (k : T
         left row e l (other h) = stays (e ∙ h)
         left row e l (thanked_now d f h) = moves (Committed (record d { thanked = true })) (e ∙ h) (finishes d (record d { thanked = true }) f refl (λ W g. g) (λ g. refl))
         left row e l (gone h u) = forgets (e ∙ h) u
-        left row e l (closed_now f u) = closes q (ap (λ (z : ClientNo). messages.Begin z q) (sym f)) (ap (λ (z : ClientNo). nat_lt (t.seen z) q) f ∙ l) u
+        left row e l (closed_now f u h) = closes q (ap (λ (z : ClientNo). messages.Begin z q) (sym f)) (ap (λ (z : ClientNo). nat_lt (t.seen z) q) f ∙ l) u (e ∙ h)
 
         new : nat_lt (t.seen c) q ≡ true → (b : Bool) → Fate T x t (messages.Begin c q) (if b
             then record { table = record { transactions = after_closing c t.transactions ++ (record { tid = name_from k; client = c; begun = Some q; stage = Open }) ∷ []; seen = seen_now t.seen c q }; changes = changes_of_closing c t.transactions; messages = (Client c, messages.Begun c q (Some (name_from k))) ∷ []; notes = []; tickets = record k { next = k.next + 1 } }
@@ -338,3 +340,109 @@ module _ (w : Machine) (s : ServerNo) (t : CoordinatorTable) (free : ℕ) (k : T
         by None e = unmoved _ _ refl
         by (Some y) e = from-kind U y _ _ e (told-its t k U y e U W y.stage)
     row-fate m = unmoved _ _ refl
+
+-- ---- a transaction that isn't there
+
+module _ (t : CoordinatorTable) (free : ℕ) (k : Tickets) (T : Tid) (none : transaction_at T t.transactions ≡ None) where
+  -- it isn't there then, or has just begun
+  record IsNew (row : RowOutcome CoordinatorTable) : Type 0 where
+    is : (y : Transaction) → transaction_at T row.table.transactions ≡ Some y → y.stage ≡ Open
+
+  no-one : (row : RowOutcome CoordinatorTable) → transaction_at T row.table.transactions ≡ None → IsNew row
+  no-one row e = record { is = λ y f. absurd (clash y (sym e ∙ f)) }
+    where
+      clash : (y : Transaction) → None ≡ Some y → ⊥
+      clash y q = cc
+
+  kind-new : (U : Tid) (y : Transaction) (row : RowOutcome CoordinatorTable) → Kind U y t row → IsNew row
+  kind-new U y row (keeps e) = no-one row (ap (transaction_at T) e ∙ none)
+  kind-new U y row (comes stage e unfinished move) = no-one row (ap (transaction_at T) e ∙ none-staged T U stage t.transactions none)
+  kind-new U y row (goes e u) = no-one row (ap (transaction_at T) e ∙ none-less T U t.transactions none)
+
+  on-one : (U : Tid) (f : Option Transaction → RowOutcome CoordinatorTable) → (f None).table.transactions ≡ t.transactions → ((y : Transaction) → transaction_at U t.transactions ≡ Some y → Kind U y t (f (Some y))) → IsNew (f (transaction_at U t.transactions))
+  on-one U f same some = by (transaction_at U t.transactions) refl
+    where
+      by : (o : Option Transaction) → transaction_at U t.transactions ≡ o → IsNew (f o)
+      by None e = no-one (f None) (ap (transaction_at T) same ∙ none)
+      by (Some y) e = kind-new U y (f (Some y)) (some y e)
+
+  last-is : (l : List Transaction) (z y : Transaction) → transaction_at T l ≡ None → transaction_at T (l ++ z ∷ []) ≡ Some y → z ≡ y
+  last-is [] z y h e = by (tid_eq z.tid T) e
+    where
+      by : (b : Bool) → (if b then Some z else None) ≡ Some y → z ≡ y
+      by true q = some-transaction z y q
+      by false q = absurd (cc q)
+  last-is (x ∷ l) z y h e = by (tid_eq x.tid T) h e (last-is l z y)
+    where
+      clash : Some x ≡ None → ⊥
+      clash q = cc
+
+      by : (b : Bool) → (if b then Some x else transaction_at T l) ≡ None → (if b then Some x else transaction_at T (l ++ z ∷ [])) ≡ Some y → (transaction_at T l ≡ None → transaction_at T (l ++ z ∷ []) ≡ Some y → z ≡ y) → z ≡ y
+      by true q r again = absurd (clash q)
+      by false q r again = again q r
+
+  choose-new : (b : Bool) (p q : RowOutcome CoordinatorTable) → IsNew p → IsNew q → IsNew (if b then p else q)
+  choose-new true p q h l = h
+  choose-new false p q h l = l
+
+  pub row-new : (m : Message) (y : Transaction) → transaction_at T (coordinator_row t free k m).table.transactions ≡ Some y → y.stage ≡ Open
+  row-new m = (by m).is
+    where
+      by : (m : Message) → IsNew (coordinator_row t free k m)
+      by (messages.Begin c q) = choose-new (nat_lt (t.seen c) q) _ _
+          (choose-new (nat_lt (length (after_closing c t.transactions)) 64) _ _ (record { is = λ y e. ap (λ (z : Transaction). z.stage) (sym (last-is (after_closing c t.transactions) _ y (none-closed T c t.transactions none) e)) }) (no-one _ (none-closed T c t.transactions none)))
+          (choose-new (nat_eq (t.seen c) q) _ _ (again (begun_by c q t.transactions)) (no-one _ none))
+        where
+          again : (o : Option Transaction) → IsNew (begin_again t k c q o)
+          again None = no-one _ none
+          again (Some y) = no-one _ none
+      by (messages.End c q U Ws) = on-one U (end_row t free k c q U Ws) refl (λ y e. end-its t k U y e free q Ws y.stage refl)
+      by (messages.Abort c q U Ws) = on-one U (abort_request t k c U Ws) refl (λ y e. abort-stage-its t k U y e Ws y.stage refl)
+      by (messages.Thanks c U) = on-one U (thanks_row t k U) refl (λ y e. thanks-its t k U y e y.stage refl)
+      by (messages.Vote U W vote) = on-one U (vote_row t k U W vote) refl (λ y e. vote-its t k U y e W vote y.stage refl)
+      by (messages.Done U W) = on-one U (done_row t k U W) refl (λ y e. done-its t k U y e W y.stage refl)
+      by (messages.Inquire U W) = on-one U (inquire_row t k U W) refl (λ y e. told-its t k U y e U W y.stage)
+      by m = no-one _ none
+
+-- ---- a Done and a Thanks of one that has committed
+
+module _ (w : Machine) (s : ServerNo) (t : CoordinatorTable) (k : Tickets) (all : AreTransactions w s t.transactions) (T : Tid) (x : Transaction) (d : Commitment) (found : transaction_at T t.transactions ≡ Some x) (stage : x.stage ≡ Committed d) where
+  itself : tid_eq T T ≡ true
+  itself = grind (arith, tid_tells T T)
+
+  same-commit : (a b : Commitment) → Committed a ≡ Committed b → a ≡ b
+  same-commit a b e = cc
+
+  -- of what is left of it
+  abbrev Leaves : (Commitment → Bool) → RowOutcome CoordinatorTable → Type 0
+  Leaves P row = (y : Transaction) (now : Commitment) → transaction_at T row.table.transactions ≡ Some y → y.stage ≡ Committed now → P now ≡ true
+
+  forgotten : (P : Commitment → Bool) (now : Commitment) → P now ≡ true → Leaves P (forget_row t k T now)
+  forgotten P now h = by (now.thanked && all_in now.works now.done)
+    where
+      clash : (y : Transaction) → None ≡ Some y → ⊥
+      clash y q = cc
+
+      by : (b : Bool) → Leaves P (if b then record (quiet (record t { transactions = without T t.transactions }) k) { changes = DropFlag T ∷ [] } else quiet (staged t T (Committed now)) k)
+      by true y a e f = absurd (clash y (sym (at-less w s T T t.transactions all ∙ ap (λ (b : Bool). if b then None else transaction_at T t.transactions) itself) ∙ e))
+      by false y a e f = subst (λ (z : Commitment). P z ≡ true) (same-commit now a (ap (λ (z : Transaction). z.stage) (some-transaction (record x { stage = Committed now }) y
+          (sym (at-stage T T (Committed now) t.transactions ∙ ap (λ (b : Bool). if b then in_stage (Committed now) (transaction_at T t.transactions) else transaction_at T t.transactions) itself ∙ ap (in_stage (Committed now)) found) ∙ e)) ∙ f)) h
+
+  unchanged : (P : Commitment → Bool) → P d ≡ true → Leaves P (ignored t k)
+  unchanged P h y a e f = subst (λ (z : Commitment). P z ≡ true) (same-commit d a (sym stage ∙ ap (λ (z : Transaction). z.stage) (some-transaction x y (sym found ∙ e)) ∙ f)) h
+
+  choose-left : (P : Commitment → Bool) (b : Bool) (p q : RowOutcome CoordinatorTable) → (b ≡ true → Leaves P p) → (b ≡ false → Leaves P q) → Leaves P (if b then p else q)
+  choose-left P true p q h l = h refl
+  choose-left P false p q h l = l refl
+
+  pub done-leaves : (W : WorkId) → is_work W d.works ≡ true → Leaves (λ now. is_work W now.done) (done_row t k T W (transaction_at T t.transactions))
+  done-leaves W work = subst (λ o. Leaves (λ now. is_work W now.done) (done_row t k T W o)) (sym found) (subst (λ (z : Stage). Leaves (λ now. is_work W now.done) (done_stage t k T W z)) (sym stage)
+      (choose-left (λ now. is_work W now.done) (is_work W d.works && not (is_work W d.done)) _ _ (λ e. forgotten (λ now. is_work W now.done) (record d { done = d.done ++ W ∷ [] }) (last d.done)) (λ e. unchanged (λ now. is_work W now.done) (grind (arith, work, e)))))
+    where
+      last : (Vs : List WorkId) → is_work W (Vs ++ W ∷ []) ≡ true
+      last [] = grind (arith, work_tells W W)
+      last (V ∷ Vs) = let again = last Vs in grind arith
+
+  pub thanks-leaves : (c : ClientNo) → Leaves (λ now. now.thanked) (thanks_row t k T (transaction_at T t.transactions))
+  thanks-leaves c = subst (λ o. Leaves (λ now. now.thanked) (thanks_row t k T o)) (sym found) (subst (λ (z : Stage). Leaves (λ now. now.thanked) (thanks_stage t k T z)) (sym stage)
+      (choose-left (λ now. now.thanked) d.thanked _ _ (λ e. unchanged (λ now. now.thanked) e) (λ e. forgotten (λ now. now.thanked) (record d { thanked = true }) refl)))

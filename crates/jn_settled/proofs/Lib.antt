@@ -12,9 +12,13 @@ pub mod Twins
 pub mod Operations
 pub mod Fates
 pub mod Memories
+pub mod Broken
 pub mod Calm
 pub mod Standing
+pub mod Carrying
 pub mod Ends
+pub mod Flags
 pub mod Answers
 pub mod Settling
 pub mod EndsWait
+pub mod Forgotten

@@ -22,37 +22,37 @@ use Rattle.jn_rows.specs.Outcomes.{RowOutcome, Sent, ignored}
 use Rattle.jn_rows.specs.Client.{ClientTable, Commanded, Refuses, Sends, command_row, take_row}
 use Rattle.jn_rows.specs.Coordinator.{CoordinatorTable, transaction_at, with_stage, without, all_in, closed, after_closing, changes_of_closing, seen_now, begin_new, begin_again, begun_by, begin_row, name_from, end_row, abort_request, inquire_row, vote_row, done_row, thanks_row, coordinator_row, restored_transaction, restored_transactions}
 use Rattle.jn_protocol.specs.World.{World, Memory, at_server, opening, new_memory}
-use Rattle.jn_protocol.specs.Servers.{Room, server_row, server_step, server_timeout, storage_of, of_timeout, of_step, of_worker, of_coordinator, is_for_worker, restored}
+use Rattle.jn_protocol.specs.Servers.{Room, server_row, server_step, server_timeout, storage_of, of_timeout, of_step, of_worker, of_coordinator, is_for_worker, restored, lines_of}
 use Rattle.jn_rows.specs.Worker.{WorkerTable, worker_row, worker_step, timeout_row}
-use Rattle.jn_protocol.specs.Steps.{Step, NextEvent, Tell, Again, Deliver, Work, Nudge, Timeout, StopDelivery, StopWork, Crash, Narrow, StopRestart, Restart, IsStep, IsRun, after, run, commanded, took, ends, at_memory, handed, work, works, nudge, timeout, crash, narrow, stop_restart, restart}
+use Rattle.jn_protocol.specs.Steps.{Step, NextEvent, Tell, Again, Deliver, Work, Nudge, Timeout, StopDelivery, StopWork, Crash, Narrow, StopRestart, Restart, IsStep, IsRun, after, run, commanded, took, done, stopped, ends, at_memory, handed, work, works, nudge, timeout, crash, narrow, stop_restart, restart}
 use Rattle.jn_settled.proofs.Ways.{Has}
 use Rattle.jn_settled.proofs.RequestSteps.{has-at}
 use Rattle.jn_settled.proofs.Fates.{is_unfinished, Kind, keeps, comes, goes, Move, end-its, abort-stage-its, told-its, vote-its, done-its, thanks-its}
 
 -- what a server remembers after a step
-pub data Remembers (w : World) (s : ServerNo) : Option Memory → Type 0 where
-  as_before : Remembers w s (w.memory s)
-  down : Remembers w s None
-  by_message : (m : Memory) (room : Room) (message : Message) → w.memory s ≡ Some m → Has (Server s, message) w.sent → Remembers w s (Some (server_row m (stable (w.found s)) room message).table)
-  by_step : (m : Memory) (room : Room) (row : RowOutcome Memory) → w.memory s ≡ Some m → server_step m (stable (w.found s)) room ≡ Some row → Remembers w s (Some row.table)
-  by_timeout : (m : Memory) (T : Tid) → w.memory s ≡ Some m → Remembers w s (Some (server_timeout m T))
-  by_restart : (x : StableState) (Ws : List WorkId) (Ts : List Tid) → Remembers w s (Some (restored s x Ws Ts))
+pub data Remembers (w now : World) (s : ServerNo) : Option Memory → Type 0 where
+  as_before : Remembers w now s (w.memory s)
+  down : Remembers w now s None
+  by_message : (m : Memory) (room : Room) (message : Message) → w.memory s ≡ Some m → Has (Server s, message) w.sent → (k : ℕ) → now.lines ≡ w.lines ++ lines_of s (Some k) (server_row m (stable (w.found s)) room message).notes → Remembers w now s (Some (server_row m (stable (w.found s)) room message).table)
+  by_step : (m : Memory) (room : Room) (row : RowOutcome Memory) → w.memory s ≡ Some m → server_step m (stable (w.found s)) room ≡ Some row → Remembers w now s (Some row.table)
+  by_timeout : (m : Memory) (T : Tid) → w.memory s ≡ Some m → Remembers w now s (Some (server_timeout m T))
+  by_restart : (x : StableState) (Ws : List WorkId) (Ts : List Tid) → Remembers w now s (Some (restored s x Ws Ts))
 
 module _ (w : World) (q : ServerNo) where
   abbrev So : World → Type 0
-  So now = Remembers w q (now.memory q)
+  So now = Remembers w now q (now.memory q)
 
   -- one server's memory changes
-  one-server : (s : ServerNo) (o : Option Memory) → Remembers w s o → Remembers w q (at_server w.memory s o q)
-  one-server s o h = by (server_tells s q)
+  one-server : (now : World) (s : ServerNo) (o : Option Memory) → Remembers w now s o → Remembers w now q (at_server w.memory s o q)
+  one-server now s o h = by (server_tells s q)
     where
-      by : ((server_eq s q ≡ true) × (s ≡ q)) ⊎ ((server_eq s q ≡ false) × (s ≢ q)) → Remembers w q (if server_eq s q then o else w.memory q)
-      by (inl p) = subst (λ (b : Bool). Remembers w q (if b then o else w.memory q)) (sym p.0) (subst (λ (z : ServerNo). Remembers w z o) p.1 h)
-      by (inr p) = subst (λ (b : Bool). Remembers w q (if b then o else w.memory q)) (sym p.0) as_before
+      by : ((server_eq s q ≡ true) × (s ≡ q)) ⊎ ((server_eq s q ≡ false) × (s ≢ q)) → Remembers w now q (if server_eq s q then o else w.memory q)
+      by (inl p) = subst (λ (b : Bool). Remembers w now q (if b then o else w.memory q)) (sym p.0) (subst (λ (z : ServerNo). Remembers w now z o) p.1 h)
+      by (inr p) = subst (λ (b : Bool). Remembers w now q (if b then o else w.memory q)) (sym p.0) as_before
 
-  ends-so : (s : ServerNo) (k : Option ℕ) (stop : Option (Pick → ℕ)) (row : RowOutcome Memory) → Remembers w s (Some row.table) → So (ends s k stop row w)
-  ends-so s k None row h = one-server s (Some row.table) h
-  ends-so s k (Some made) row h = one-server s None down
+  ends-so : (s : ServerNo) (k : Option ℕ) (stop : Option (Pick → ℕ)) (row : RowOutcome Memory) → Remembers w (done s k row w) s (Some row.table) → So (ends s k stop row w)
+  ends-so s k None row h = one-server (done s k row w) s (Some row.table) h
+  ends-so s k (Some made) row h = one-server (stopped s made row w) s None down
 
   took-so : (c : ClientNo) (k : ℕ) (row : ClientTable × Taken) → So (took c k row.0 row.1 w)
   took-so c k (t, taken.Ignored) = as_before
@@ -66,7 +66,7 @@ module _ (w : World) (q : ServerNo) where
     where
       by : (o : Option Memory) → w.memory s ≡ o → So (at_memory s k room stop message o w)
       by None f = as_before
-      by (Some m) f = ends-so s (Some k) stop (server_row m (stable (w.found s)) room message) (by_message m room message f (has-at w.sent k (Server s, message) e))
+      by (Some m) f = ends-so s (Some k) stop (server_row m (stable (w.found s)) room message) (by_message m room message f (has-at w.sent k (Server s, message) e) k refl)
 
   work-so : (s : ServerNo) (room : Room) (stop : Option (Pick → ℕ)) (o : Option Memory) → w.memory s ≡ o → So (work s room stop o w)
   work-so s room stop None e = as_before
@@ -76,7 +76,7 @@ module _ (w : World) (q : ServerNo) where
       by None f = as_before
       by (Some row) f = ends-so s None stop row (by_step m room row e f)
 
-  pub step-memory : (step : Step) → Remembers w q ((after step w).memory q)
+  pub step-memory : (step : Step) → Remembers w (after step w) q ((after step w).memory q)
   step-memory NextEvent = as_before
   step-memory (Tell c command) = by (command_row (w.clients c) w.event command)
     where
@@ -95,14 +95,14 @@ module _ (w : World) (q : ServerNo) where
     where
       by : (o : Option Memory) → w.memory s ≡ o → So (timeout s T o w)
       by None e = as_before
-      by (Some m) e = one-server s (Some (server_timeout m T)) (by_timeout m T e)
+      by (Some m) e = one-server (timeout s T (Some m) w) s (Some (server_timeout m T)) (by_timeout m T e)
   step-memory (StopDelivery k room made) = handed-so k room (Some made) (slice_get w.sent k) refl
   step-memory (StopWork s room made) = work-so s room (Some made) (w.memory s) refl
   step-memory (Crash s) = by (w.memory s)
     where
       by : (o : Option Memory) → So (crash s o w)
       by None = as_before
-      by (Some m) = one-server s None down
+      by (Some m) = one-server (crash s (Some m) w) s None down
   step-memory (Narrow s g) = by (w.memory s)
     where
       by : (o : Option Memory) → So (narrow s g o w)
@@ -116,7 +116,7 @@ module _ (w : World) (q : ServerNo) where
   step-memory (Restart s pick Ws Ts) = by (w.memory s)
     where
       by : (o : Option Memory) → So (restart s pick Ws Ts o w)
-      by None = one-server s (Some (restored s (w.found s pick) Ws Ts)) (by_restart (w.found s pick) Ws Ts)
+      by None = one-server (restart s pick Ws Ts None w) s (Some (restored s (w.found s pick) Ws Ts)) (by_restart (w.found s pick) Ws Ts)
       by (Some m) = as_before
 
 -- ---- no vote or commit is complete
@@ -124,6 +124,10 @@ module _ (w : World) (q : ServerNo) where
 abbrev pub all_unfinished : List Transaction → Bool
 all_unfinished [] = true
 all_unfinished (x ∷ xs) = is_unfinished x.stage && all_unfinished xs
+
+pub found-unfinished : (T : Tid) (xs : List Transaction) (y : Transaction) → all_unfinished xs ≡ true → transaction_at T xs ≡ Some y → is_unfinished y.stage ≡ true
+found-unfinished T [] y h q = absurd (cc q)
+found-unfinished T (x ∷ xs) y h q = let again = found-unfinished T xs y in grind (arith, h, q)
 
 abbrev AreUnfinished : RowOutcome CoordinatorTable → Type 0
 AreUnfinished row = all_unfinished row.table.transactions ≡ true
@@ -229,10 +233,10 @@ step-unfinished step w h s n e = by ((after step w).memory s) e (step-memory w s
     of-late m None k = k
     of-late m (Some t) k = k
 
-    by : (o : Option Memory) → o ≡ Some n → Remembers w s o → all_unfinished n.coordinator.transactions ≡ true
+    by : (o : Option Memory) → o ≡ Some n → Remembers w (after step w) s o → all_unfinished n.coordinator.transactions ≡ true
     by o q as_before = h s n q
     by o q down = absurd (cc q)
-    by o q (by_message m room message f has) = its _ q (for m room message (is_for_worker message) (h s m f))
+    by o q (by_message m room message f has k l) = its _ q (for m room message (is_for_worker message) (h s m f))
     by o q (by_step m room row f g) = its row.table q (of-step m room row g (h s m f))
     by o q (by_timeout m T f) = its (server_timeout m T) q (of-late m (timeout_row m.worker T) (h s m f))
     by o q (by_restart x Ws Ts) = its (restored s x Ws Ts) q (restored-unfinished x Ts)

@@ -1,13 +1,15 @@
 -- What a settle leaves behind where every server is up.
-use Rattle.std.specs.Prelude.{◌≡◌, ◌≤◌, ℕ, Bool, true, false, nat_eq, ◌&&◌, List, drop, length, Some, is_some}
+use Rattle.std.specs.Prelude.{◌≡◌, ◌≤◌, ◌<◌, ℕ, Bool, true, false, nat_eq, ◌&&◌, List, drop, length, Some, None, is_some}
 use Rattle.std.specs.List.{list_any}
 use Rattle.jn_base.specs.declared.names.ServerNo.{ServerNo}
 use Rattle.jn_base.specs.declared.names.ClientNo.{ClientNo}
+use Rattle.jn_base.specs.declared.names.Tid.{Tid}
 use Rattle.jn_base.specs.declared.op.Command.TheVariants.{End}
 use Rattle.jn_base.specs.Names.{client_eq}
 use Rattle.jn_report.specs.declared.line.Text.{Text}
 use Rattle.jn_report.specs.declared.line.Text.TheVariants as says
 use Rattle.jn_rows.specs.declared.client.Outstanding.{Outstanding}
+use Rattle.jn_rows.specs.Stable.{Pick}
 use Rattle.jn_protocol.specs.World.{World}
 use Rattle.jn_settling.specs.Course.{Course}
 use Rattle.jn_settling.specs.Settle.{Chance, settled}
@@ -32,6 +34,10 @@ told_since before now = drop (length before.lines) now.lines
 abbrev pub EndsWait : World → World → Type 0
 EndsWait before now = (c : ClientNo) (o : Outstanding) → 1 ≤ c.0 → c.0 ≤ 8 → (now.clients c).outstanding ≡ Some o → list_any (tells_waiting c o.event) (told_since before now) ≡ true
 
+-- no flag is found at any of so many servers
+abbrev pub AreForgotten : ℕ → World → Type 0
+AreForgotten servers w = (s : ServerNo) (c : Pick) (T : Tid) → s.0 < servers → (w.found s c).flags T ≡ None
+
 -- from some number of steps on, where all servers are up then
 pub record Answers (servers : ℕ) (first second : ℕ → Chance) (c : Course) : Type 0 where
   pub steps : ℕ
@@ -43,3 +49,9 @@ pub record Waits (servers : ℕ) (first second : ℕ → Chance) (c : Course) : 
   pub steps : ℕ
   pub each : (n : ℕ) → steps ≤ n → AreUp (settled servers (record { first = first; second = second; steps = n }) c).world
       → EndsWait c.world (settled servers (record { first = first; second = second; steps = n }) c).world
+
+-- and of flags
+pub record Forgets (servers : ℕ) (first second : ℕ → Chance) (c : Course) : Type 0 where
+  pub steps : ℕ
+  pub each : (n : ℕ) → steps ≤ n → AreUp (settled servers (record { first = first; second = second; steps = n }) c).world
+      → AreForgotten servers (settled servers (record { first = first; second = second; steps = n }) c).world
