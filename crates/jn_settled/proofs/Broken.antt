@@ -1,5 +1,5 @@
 -- Each broken work has its line.
-use Rattle.std.proofs.Common.{◌≡◌, ◌≢◌, ◌⊎◌, inl, inr, ℕ, ◌+◌, Bool, true, false, List, [], ◌∷◌, ◌++◌, length, Option, Some, None, true≢false, refl, sym, ◌∙◌, ap, subst, arith}
+use Rattle.std.proofs.Common.{◌≡◌, ◌≢◌, ◌⊎◌, inl, inr, ℕ, ◌+◌, Bool, true, false, List, [], ◌∷◌, ◌++◌, length, Option, Some, None, refl, sym, ◌∙◌, ap, subst}
 use Rattle.std.specs.Prelude.{map, if◌then◌else◌, nat_lt, nat_eq, slice_get}
 use Rattle.jn_base.specs.declared.names.ServerNo.{ServerNo}
 use Rattle.jn_base.specs.declared.names.ClientNo.{ClientNo}
@@ -28,13 +28,13 @@ use Rattle.jn_rows.specs.declared.worker.Phase.TheVariants.{Active, Broken, Prep
 use Rattle.jn_rows.specs.declared.worker.ActiveWork.{ActiveWork}
 use Rattle.jn_rows.specs.declared.worker.PreparedWork.{PreparedWork}
 use Rattle.jn_rows.specs.Stable.{StableState, Prepared, stable, is_going}
-use Rattle.jn_rows.specs.Outcomes.{RowOutcome, quiet, ignored}
-use Rattle.jn_rows.specs.Worker.{WorkerTable, WorkStorage, Wanted, work_at, work_of, with_phase, without, new_work, name_from, open_row, break_notes, breaks_at, broken_by, note_of, after_grant, granted_row, repeated, performed, by_number, op_phase, op_row, refusal_of, wants_of, is_fit, commit_wants, conflict, vote_of, shortage, need_in, prepared_row, prepare_phase, prepare_row, commit_phase, commit_row, drop_phase, drop_row, worker_row, worker_step, going_work, going_row, carried_row, intentions_of, timed_out, timeout_row, vulnerable, written_unit, restored_work, restored_worker}
+use Rattle.jn_rows.specs.Outcomes.{RowOutcome, quiet}
+use Rattle.jn_rows.specs.Worker.{WorkerTable, WorkStorage, Wanted, work_at, work_of, with_phase, without, new_work, name_from, open_row, break_notes, breaks_at, broken_by, note_of, after_grant, granted_row, repeated, op_phase, op_row, refusal_of, wants_of, is_fit, commit_wants, conflict, vote_of, shortage, need_in, prepared_row, prepare_phase, prepare_row, commit_phase, commit_row, drop_phase, drop_row, worker_row, worker_step, going_work, going_row, carried_row, intentions_of, timed_out, timeout_row, vulnerable, written_unit, restored_work, restored_worker}
 use Rattle.jn_lock_rows.specs.Matching.{are_rising, is_after}
 use Rattle.jn_lock_rows.proofs.Works.{in_phase, at-phase, at-grant, once_granted, at-less, at-more}
-use Rattle.jn_protocol.specs.World.{World, Memory, opening, new_memory}
+use Rattle.jn_protocol.specs.World.{World, Memory}
 use Rattle.jn_protocol.specs.Servers.{Room, storage_of, of_worker, of_coordinator, of_step, of_timeout, server_step, server_timeout, is_for_worker, restored, line_of, lines_of}
-use Rattle.jn_protocol.specs.Steps.{Step, IsStep, IsRun, after, run}
+use Rattle.jn_protocol.specs.Steps.{Step, IsRun, after, run}
 use Rattle.jn_protocol.specs.LockFacts.{UpFact, ServerFact}
 use Rattle.jn_protocol.proofs.Tables.{of-found}
 use Rattle.jn_rows.specs.Coordinator.{coordinator_row}

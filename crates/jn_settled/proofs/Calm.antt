@@ -1,6 +1,6 @@
 -- A part of a settle at whose end all servers are up: no step of it was stopped, so that it keeps what each message handed over
 -- and each step of a server keeps.
-use Rattle.std.proofs.Common.{◌≡◌, ◌≢◌, ◌⊎◌, inl, inr, ◌≤◌, ◌<◌, ℕ, zero, suc, ◌+◌, Bool, true, false, List, [], ◌∷◌, ◌++◌, length, append-nil, Option, Some, None, is_some, true≢false, refl, sym, ◌∙◌, ap, subst, arith}
+use Rattle.std.proofs.Common.{◌≡◌, ◌≢◌, ◌⊎◌, inl, inr, ◌≤◌, ℕ, zero, suc, ◌+◌, Bool, true, false, List, [], ◌∷◌, ◌++◌, length, append-nil, Option, Some, None, is_some, true≢false, refl, sym, ◌∙◌, ap, subst, arith}
 use Rattle.std.specs.Prelude.{if◌then◌else◌, slice_get, nat_eq, map}
 use Rattle.std.specs.List.{list_any}
 use Rattle.std.proofs.lemmas.Bool.Decides.{nat_tests}
@@ -13,12 +13,12 @@ use Rattle.jn_msgs.specs.declared.message.Message.{Message}
 use Rattle.jn_rows.specs.declared.worker.Work.{Work as WorkEntry}
 use Rattle.jn_rows.specs.Stable.{Pick, stable}
 use Rattle.jn_rows.specs.Outcomes.{RowOutcome, Sent}
-use Rattle.jn_rows.specs.Worker.{WorkerTable, going_work, going_row, carried_row, intentions_of}
-use Rattle.jn_rows.specs.Client.{ClientTable, take_row, again_row}
+use Rattle.jn_rows.specs.Worker.{going_work, going_row, carried_row, intentions_of}
+use Rattle.jn_rows.specs.Client.{take_row, again_row}
 use Rattle.jn_protocol.specs.World.{World, Memory}
-use Rattle.jn_protocol.specs.Servers.{Room, storage_of, of_worker, of_step, server_row, server_step, server_again}
-use Rattle.jn_protocol.specs.Steps.{Step, Again, Deliver, Work, Nudge, StopDelivery, StopWork, IsStep, after, sent_now, taken_by, done, stopped, at_memory, handed, work, works, nudge}
-use Rattle.jn_settling.specs.Course.{Course, numbered, still_waiting, without_number, go, go_on}
+use Rattle.jn_protocol.specs.Servers.{Room, storage_of, of_worker, of_step, server_row, server_again}
+use Rattle.jn_protocol.specs.Steps.{Step, Again, Deliver, Work, Nudge, StopDelivery, StopWork, IsStep, after, sent_now, taken_by, done, at_memory, handed, work, works, nudge}
+use Rattle.jn_settling.specs.Course.{Course, still_waiting, without_number, go, go_on}
 use Rattle.jn_settling.specs.Settle.{Chance, servers_from, is_busy, first_busy, handing, working, next_step, onward, until_rest, ask_again}
 use Rattle.jn_settling.proofs.Burdens.{are_below, busy-is}
 use Rattle.jn_settling.proofs.Courses.{Sound}

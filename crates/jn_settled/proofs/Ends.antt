@@ -1,6 +1,6 @@
 -- An End that a client waits for when a settle asks again is answered, or the client is told that it waits: each work that has no
 -- vote noted has a Prepare or a vote on its way.
-use Rattle.std.proofs.Common.{◌≡◌, ◌≢◌, ◌⊎◌, inl, inr, ◌≤◌, ℕ, zero, suc, ◌+◌, Bool, true, false, List, [], ◌∷◌, ◌++◌, length, length-append, append-nil, drop, Option, Some, None, true≢false, refl, sym, ◌∙◌, ap, subst, arith}
+use Rattle.std.proofs.Common.{◌≡◌, ◌≢◌, ◌⊎◌, inl, inr, ◌≤◌, ℕ, zero, suc, Bool, true, false, List, [], ◌∷◌, ◌++◌, length, length-append, append-nil, drop, Option, Some, None, true≢false, refl, sym, ◌∙◌, ap, subst, arith}
 use Rattle.std.specs.Prelude.{◌&&◌, ◌||◌, not, if◌then◌else◌, nat_eq, nat_lt, slice_get}
 use Rattle.std.specs.List.{list_any}
 use Rattle.std.proofs.lemmas.Bool.Decides.{nat_tests}
@@ -21,7 +21,6 @@ use Rattle.jn_msgs.specs.declared.message.Message.{Message}
 use Rattle.jn_msgs.specs.declared.message.Message.TheVariants as messages
 use Rattle.jn_msgs.specs.declared.message.Outcome.{Outcome}
 use Rattle.jn_msgs.specs.declared.message.Outcome.TheVariants as outcomes
-use Rattle.jn_msgs.specs.declared.message.Note.{Note}
 use Rattle.jn_msgs.specs.declared.message.Vote.{Vote}
 use Rattle.jn_msgs.specs.declared.message.Vote.TheVariants as votes
 use Rattle.jn_report.specs.declared.line.Text.{Text}
@@ -38,16 +37,16 @@ use Rattle.jn_rows.specs.declared.coordinator.Stage.{Stage}
 use Rattle.jn_rows.specs.declared.coordinator.Stage.TheVariants.{Open, Voting, Committed, Aborted}
 use Rattle.jn_rows.specs.declared.coordinator.Voting.{Voting as Ballot}
 use Rattle.jn_rows.specs.declared.coordinator.Committed.{Committed as Commitment}
-use Rattle.jn_rows.specs.Stable.{StableState, stable, is_going}
+use Rattle.jn_rows.specs.Stable.{stable, is_going}
 use Rattle.jn_rows.specs.Outcomes.{RowOutcome, Sent, quiet, ignored, sends}
 use Rattle.jn_rows.specs.Worker.{WorkerTable, WorkStorage, worker_row, work_at, prepare_phase, prepare_row, prepared_row, conflict, commit_wants, vote_of, shortage, need_in, voted as voted_row}
 use Rattle.jn_rows.specs.Coordinator.{CoordinatorTable, commit_row, abort_row, staged, transaction_at, all_in, is_work, with_work, besides, prepares, drops, commits, committed_to, aborted_to, end_stage, end_promised, end_row, counted_vote, vote_stage, vote_row, coordinator_row}
 use Rattle.jn_rows.specs.Client.{ClientTable, take_row, outcome_row, is_current, is_tid, is_end, is_end_or_abort, if_waits, told, names_of}
 use Rattle.jn_lock_rows.proofs.Works.{found-name}
 use Rattle.jn_machine.specs.World.{World as Machine}
-use Rattle.jn_protocol.specs.World.{World, Memory, at_server, opening}
+use Rattle.jn_protocol.specs.World.{World, Memory, opening}
 use Rattle.jn_protocol.specs.Servers.{Room, storage_of, server_row, of_worker, of_coordinator, is_for_worker, lines_of}
-use Rattle.jn_protocol.specs.Steps.{took, taken_by, sent_now, done}
+use Rattle.jn_protocol.specs.Steps.{took, taken_by, done}
 use Rattle.jn_moves.proofs.Transactions.{in_stage, at-stage}
 use Rattle.jn_settling.specs.Course.{Course}
 use Rattle.jn_settling.proofs.CoordinatorFits.{found-name as tid-name}
@@ -58,7 +57,7 @@ use Rattle.jn_settled.proofs.Talk.{IsStill}
 use Rattle.jn_settled.proofs.Ways.{Has, Waits, IsEnd, none-still, taken-still, taken-taken, took-memory}
 use Rattle.jn_settled.proofs.Answered.{ends_outcome, its-client, outcome-ends}
 use Rattle.jn_settled.proofs.Begins.{Good}
-use Rattle.jn_settled.proofs.Fates.{is_undecided, is_unfinished, has-after, has-before, Move, starts, notes_one, commits_now, aborts_now, finishes, Fate, stays, moves, forgets, closes, row-fate}
+use Rattle.jn_settled.proofs.Fates.{is_undecided, is_unfinished, has-after, Move, starts, notes_one, commits_now, aborts_now, finishes, Fate, stays, moves, forgets, closes, row-fate}
 use Rattle.jn_settled.proofs.Memories.{found-unfinished, Unfinished}
 use Rattle.jn_settled.proofs.Calm.{Comes, carried}
 use Rattle.jn_settled.proofs.Standing.{machine, not-next, no-later, not-going}

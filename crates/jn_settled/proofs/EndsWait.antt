@@ -1,18 +1,15 @@
 -- Each end that a settle with all servers up leaves was told to wait.
-use Rattle.std.proofs.Common.{◌≡◌, ◌⊎◌, inl, inr, ◌≤◌, ℕ, true, List, length, length-append, Option, Some, None, is_some, true≢false, refl, sym, ◌∙◌, ap, subst, arith}
+use Rattle.std.proofs.Common.{◌≡◌, ◌⊎◌, inl, inr, ◌≤◌, ℕ, true, length, length-append, Option, Some, None, is_some, true≢false, refl, sym, ◌∙◌, ap, subst, arith}
 use Rattle.std.specs.List.{list_any}
 use Rattle.jn_base.specs.declared.names.ServerNo.{ServerNo}
-use Rattle.jn_base.specs.declared.names.ClientNo.{ClientNo}
 use Rattle.jn_base.specs.declared.names.Tid.{Tid}
 use Rattle.jn_base.specs.declared.names.Party.TheVariants.{Server}
 use Rattle.jn_base.specs.declared.op.Command.{Command}
 use Rattle.jn_base.specs.declared.op.Command.TheVariants.{End}
 use Rattle.jn_order.specs.Files.{AllFiles}
-use Rattle.jn_msgs.specs.declared.message.Message.TheVariants as messages
-use Rattle.jn_rows.specs.declared.client.Outstanding.{Outstanding}
 use Rattle.jn_rows.specs.Stable.{stable}
 use Rattle.jn_rows.specs.Outcomes.{Sent}
-use Rattle.jn_rows.specs.Client.{ClientTable, names_of, sent_again, again_row, take_row}
+use Rattle.jn_rows.specs.Client.{ClientTable, sent_again, take_row}
 use Rattle.jn_protocol.specs.World.{World, Memory, opening, new_memory}
 use Rattle.jn_protocol.specs.Servers.{server_row, lines_of}
 use Rattle.jn_settling.specs.Course.{Course}
@@ -28,7 +25,7 @@ use Rattle.jn_settled.proofs.Begins.{Good, good-go}
 use Rattle.jn_settled.proofs.Answers.{rest-good, ask-good, stays}
 use Rattle.jn_settled.proofs.Twins.{run-reached}
 use Rattle.jn_settled.proofs.Memories.{Unfinished, all_unfinished, run-unfinished}
-use Rattle.jn_settled.proofs.Calm.{Comes, carried, Asked, ask-asks, rest-calm}
+use Rattle.jn_settled.proofs.Calm.{carried, Asked, ask-asks, rest-calm}
 use Rattle.jn_settled.proofs.Ends.{Longer, took-longer, OnWay, asks, client-way, server-way, work-way, rest-way}
 use Rattle.jn_settled.proofs.Settling.{course-twin, first_part, asked_again, second_part, settles, all-answered}
 

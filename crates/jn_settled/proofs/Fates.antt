@@ -24,7 +24,7 @@ use Rattle.jn_rows.specs.declared.coordinator.Voting.{Voting as Ballot}
 use Rattle.jn_rows.specs.declared.coordinator.Committed.{Committed as Commitment}
 use Rattle.jn_rows.specs.Stable.{DropFlag}
 use Rattle.jn_rows.specs.Outcomes.{RowOutcome, Sent, quiet, ignored}
-use Rattle.jn_rows.specs.Coordinator.{CoordinatorTable, staged, transaction_at, with_stage, without, all_in, is_work, besides, drops, commits, prepares, committed_to, aborted_to, commit_row, abort_row, forget_row, closed, after_closing, changes_of_closing, seen_now, begin_new, begin_again, begun_by, begin_row, name_from, end_promised, end_stage, end_row, abort_stage, abort_request, told_stage, inquire_row, noted, with_work, counted_vote, vote_stage, vote_row, done_stage, done_row, thanks_stage, thanks_row, coordinator_row}
+use Rattle.jn_rows.specs.Coordinator.{CoordinatorTable, staged, transaction_at, with_stage, without, all_in, is_work, besides, drops, commits, committed_to, aborted_to, commit_row, abort_row, forget_row, closed, after_closing, changes_of_closing, seen_now, begin_new, begin_again, begun_by, begin_row, name_from, end_promised, end_stage, end_row, abort_stage, abort_request, told_stage, inquire_row, with_work, counted_vote, vote_stage, vote_row, done_stage, done_row, thanks_stage, thanks_row, coordinator_row}
 use Rattle.jn_machine.specs.World.{World as Machine}
 use Rattle.jn_moves.specs.Mirrors.{AreTransactions}
 use Rattle.jn_moves.proofs.Transactions.{in_stage, at-stage, none-staged, none-less, at-less}

@@ -1,6 +1,6 @@
 -- A transaction that has committed is forgotten in a settle: each of its works is carried out, and its client thanks.
-use Rattle.std.proofs.Common.{◌≡◌, ◌≢◌, ◌⊎◌, inl, inr, ◌≤◌, ◌<◌, ℕ, zero, suc, ◌+◌, Bool, true, false, List, [], ◌∷◌, ◌++◌, append-nil, Option, Some, None, is_some, true≢false, refl, sym, ◌∙◌, ap, subst, arith}
-use Rattle.std.specs.Prelude.{◌&&◌, ◌||◌, not, if◌then◌else◌, nat_eq, nat_lt, slice_get}
+use Rattle.std.proofs.Common.{◌≡◌, ◌≢◌, ◌⊎◌, inl, inr, ◌≤◌, ℕ, Bool, true, false, List, [], ◌∷◌, ◌++◌, append-nil, Option, Some, None, true≢false, refl, sym, ◌∙◌, ap, subst, arith}
+use Rattle.std.specs.Prelude.{if◌then◌else◌, nat_eq, slice_get}
 use Rattle.std.specs.List.{list_any}
 use Rattle.std.proofs.lemmas.Bool.Decides.{nat_tests}
 use Rattle.jn_base.specs.declared.names.ServerNo.{ServerNo}
@@ -27,12 +27,11 @@ use Rattle.jn_rows.specs.declared.coordinator.Stage.{Stage}
 use Rattle.jn_rows.specs.declared.coordinator.Stage.TheVariants.{Open, Voting, Committed, Aborted}
 use Rattle.jn_rows.specs.declared.coordinator.Voting.{Voting as Ballot}
 use Rattle.jn_rows.specs.declared.coordinator.Committed.{Committed as Commitment}
-use Rattle.jn_rows.specs.Stable.{StableState, RemoveWork, CarryOut, at_work, stable, is_going, made_all}
+use Rattle.jn_rows.specs.Stable.{stable, is_going, made_all}
 use Rattle.jn_rows.specs.Outcomes.{RowOutcome, Sent}
-use Rattle.jn_rows.specs.Worker.{WorkerTable, work_at, worker_row, carried_row, intentions_of, going_work, worker_again}
-use Rattle.jn_rows.specs.Coordinator.{CoordinatorTable, transaction_at, is_work, besides, commits, committed_to, told_again, coordinator_again, coordinator_row, done_row, thanks_row}
-use Rattle.jn_rows.specs.Client.{ClientTable, take_row, outcome_row, decided_row, is_current, is_tid, is_end_or_abort, if_waits, over}
-use Rattle.jn_lock_rows.proofs.Works.{found-name}
+use Rattle.jn_rows.specs.Worker.{work_at, worker_row, carried_row, intentions_of, going_work, worker_again}
+use Rattle.jn_rows.specs.Coordinator.{CoordinatorTable, transaction_at, is_work, besides, commits, committed_to, told_again, coordinator_again, coordinator_row}
+use Rattle.jn_rows.specs.Client.{ClientTable, take_row, outcome_row, is_current, is_tid, is_end_or_abort, if_waits, over}
 use Rattle.jn_machine.specs.World.{World as Machine}
 use Rattle.jn_machine.specs.Transactions.{Knows}
 use Rattle.jn_machine.proofs.Updates.{not_both}
@@ -47,7 +46,7 @@ use Rattle.jn_settling.proofs.CoordinatorFits.{found-name as tid-name}
 use Rattle.jn_reported.proofs.Reached.{Reached}
 use Rattle.jn_settled.proofs.Ways.{Has, Waits, took-memory}
 use Rattle.jn_settled.proofs.Begins.{Good}
-use Rattle.jn_settled.proofs.Fates.{is_undecided, has-after, has-before, has-commit, Move, starts, notes_one, commits_now, aborts_now, finishes, Fate, stays, moves, forgets, closes, row-fate, row-new, done-leaves, thanks-leaves}
+use Rattle.jn_settled.proofs.Fates.{has-after, has-before, has-commit, Move, starts, notes_one, commits_now, aborts_now, finishes, Fate, stays, moves, forgets, closes, row-fate, row-new, done-leaves, thanks-leaves}
 use Rattle.jn_settled.proofs.Calm.{Comes, carried, Asked}
 use Rattle.jn_settled.proofs.Standing.{machine, its-stage, is-known, not-next, inv}
 use Rattle.jn_settled.proofs.Broken.{BrokenTold}

@@ -14,13 +14,12 @@ use Rattle.jn_rows.specs.declared.coordinator.Transaction.{Transaction}
 use Rattle.jn_rows.specs.declared.coordinator.Stage.{Stage}
 use Rattle.jn_rows.specs.declared.coordinator.Stage.TheVariants.{Committed}
 use Rattle.jn_rows.specs.declared.coordinator.Committed.{Committed as Commitment}
-use Rattle.jn_rows.specs.Stable.{StableState, FlagState, Pick, stable, is_going}
+use Rattle.jn_rows.specs.Stable.{StableState, FlagState, stable, is_going}
 use Rattle.jn_rows.specs.Outcomes.{Sent}
 use Rattle.jn_rows.specs.Worker.{WorkerTable, work_at, going_work}
 use Rattle.jn_rows.specs.Coordinator.{transaction_at, is_work, all_in}
-use Rattle.jn_lock_rows.specs.Matching.{are_rising}
 use Rattle.jn_protocol.specs.World.{World, Memory, opening, new_memory}
-use Rattle.jn_settling.specs.Course.{Course, go_on}
+use Rattle.jn_settling.specs.Course.{Course}
 use Rattle.jn_settling.specs.Settle.{Chance, servers_from, clients_from, until_rest}
 use Rattle.jn_settling.specs.Sizes.{is_few, are_near, is_small_stage, are_small_stages, is_committed, committed_at, TableSizes, ServerSizes}
 use Rattle.jn_settling.specs.Bounds.{IsAtRest, NothingGoes}
@@ -31,7 +30,6 @@ use Rattle.jn_settling.proofs.Settling.{nothing-goes}
 use Rattle.jn_protocol.proofs.WorkerRows.{going-is}
 use Rattle.jn_settled.proofs.Begins.{Good, good-go}
 use Rattle.jn_settled.proofs.Answers.{rest-good}
-use Rattle.jn_settled.proofs.Twins.{run-reached}
 use Rattle.jn_settled.proofs.Fates.{is_unfinished}
 use Rattle.jn_settled.proofs.Memories.{found-unfinished}
 use Rattle.jn_settled.proofs.Broken.{BrokenTold, run-told}
@@ -39,7 +37,7 @@ use Rattle.jn_settled.proofs.Calm.{rest-calm}
 use Rattle.jn_settled.proofs.Standing.{inv, up-at}
 use Rattle.jn_settled.proofs.Flags.{Carries, to_commit, goes_on, to_finish, Thanking, to_client, to_server, Progress, FlagWay, client-flags, server-flags, work-flags, ask-flags}
 use Rattle.jn_settled.proofs.Settling.{course-twin, first_part, asked_again, second_part, settles}
-use Rattle.jn_settled.proofs.EndsWait.{reached, unfinished, good, good-middle, asked, up-first}
+use Rattle.jn_settled.proofs.EndsWait.{reached, unfinished, good, good-middle, asked}
 use Rattle.jn_reported.proofs.Reached.{opening-reached}
 
 -- ---- tables

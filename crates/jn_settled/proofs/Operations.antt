@@ -5,7 +5,6 @@ use Rattle.std.proofs.lemmas.Bool.Decides.{nat_tests}
 use Rattle.jn_base.specs.declared.names.ServerNo.{ServerNo}
 use Rattle.jn_base.specs.declared.names.ClientNo.{ClientNo}
 use Rattle.jn_base.specs.declared.names.WorkId.{WorkId}
-use Rattle.jn_base.specs.declared.names.Tid.{Tid}
 use Rattle.jn_base.specs.declared.names.Party.TheVariants.{Client}
 use Rattle.jn_base.specs.declared.op.Op.{Op}
 use Rattle.jn_base.specs.declared.op.Answer.{Answer}
@@ -29,18 +28,18 @@ use Rattle.jn_rows.specs.declared.client.Taken.TheVariants.{Ignored}
 use Rattle.jn_rows.specs.Stable.{stable}
 use Rattle.jn_rows.specs.Outcomes.{RowOutcome, ignored}
 use Rattle.jn_rows.specs.Worker.{WorkerTable, Wanted, work_at, granted_row, performed, repeated, by_number, op_phase, op_row, refusal_of, wants_of, is_fit}
-use Rattle.jn_rows.specs.Client.{ClientTable, work_at as open_at, take_row, is_operation, is_end_or_abort, if_waits, told, idle, answer_line}
+use Rattle.jn_rows.specs.Client.{ClientTable, work_at as open_at, is_operation, is_end_or_abort, if_waits, told, idle, answer_line}
 use Rattle.jn_machine.specs.World.{World as Machine}
 use Rattle.jn_machine.specs.Steps.{run as run_atoms, opening_world}
 use Rattle.jn_protocol.specs.World.{World, Memory}
 use Rattle.jn_protocol.specs.Servers.{Room, server_row}
-use Rattle.jn_moves.specs.Mirrors.{IsCurrent, AreOpen}
+use Rattle.jn_moves.specs.Mirrors.{IsCurrent}
 use Rattle.jn_moves.proofs.ClientRows.{found-open}
 use Rattle.jn_runs.proofs.Facts.{is_closing}
-use Rattle.jn_talk.proofs.Acting.{acting, acting_at, acting_of, acting_in}
+use Rattle.jn_talk.proofs.Acting.{acting_at, acting_of, acting_in}
 use Rattle.jn_talk.proofs.Facts.{said, op_in, op_asked, IsOperation, IsAsking, Hears, IsRunningAt}
 use Rattle.jn_settled.proofs.Ways.{Has, Reply, IsEnd}
-use Rattle.jn_settled.proofs.Twins.{numberless, plain, plain_client, HasTwin}
+use Rattle.jn_settled.proofs.Twins.{numberless, plain_client, HasTwin}
 
 -- what a client waits for, but for the number of its event
 record SameWaits (o p : Outstanding) : Type 0 where

@@ -1,6 +1,6 @@
 -- A run has a twin in which each command comes in an event of its own: it differs in the numbers of events and in its lines
 -- alone, so that what holds of every run with a schedule holds of every run.
-use Rattle.std.proofs.Common.{◌≡◌, ◌≢◌, ◌⊎◌, inl, inr, ℕ, suc, ◌+◌, Bool, true, false, List, [], ◌∷◌, ◌++◌, length, append_assoc, Option, Some, None, refl, sym, ◌∙◌, ap, subst, arith}
+use Rattle.std.proofs.Common.{◌≡◌, ℕ, ◌+◌, Bool, true, false, List, [], ◌∷◌, ◌++◌, length, append_assoc, Option, Some, None, refl, sym, ◌∙◌, ap, subst, arith}
 use Rattle.std.specs.Prelude.{if◌then◌else◌, nat_lt, slice_get}
 use Rattle.std.proofs.Math.Path.{fun_ext}
 use Rattle.jn_base.specs.declared.names.ClientNo.{ClientNo}
@@ -17,7 +17,6 @@ use Rattle.jn_msgs.specs.declared.message.Message.TheVariants as messages
 use Rattle.jn_msgs.specs.declared.message.Outcome.{Outcome}
 use Rattle.jn_msgs.specs.declared.message.Outcome.TheVariants as outcomes
 use Rattle.jn_order.specs.Files.{AllFiles}
-use Rattle.jn_report.specs.declared.line.Text.{Text}
 use Rattle.jn_report.specs.declared.line.Refusal.TheVariants as refusals
 use Rattle.jn_schedule.specs.declared.Event.{Event}
 use Rattle.jn_schedule.specs.declared.Event.TheVariants.{Command as CommandOf}
@@ -29,10 +28,10 @@ use Rattle.jn_rows.specs.declared.client.Taken.{Taken}
 use Rattle.jn_rows.specs.declared.client.Taken.TheVariants as taken
 use Rattle.jn_rows.specs.Stable.{StableState, Pick, stable}
 use Rattle.jn_rows.specs.Outcomes.{RowOutcome, Sent}
-use Rattle.jn_rows.specs.Client.{ClientTable, Commanded, Refuses, Sends, command_row, take_row, sent_again, if_waits, if_idle, if_transaction, if_no_transaction, if_open, if_not_open, sends, work_at, with_operation, names_of, is_current, begun_row, opened_row, decided_row, outcome_row}
+use Rattle.jn_rows.specs.Client.{ClientTable, Commanded, Refuses, Sends, command_row, take_row, sent_again, if_waits, if_idle, if_transaction, if_no_transaction, if_open, if_not_open, work_at, is_current, begun_row, opened_row, outcome_row}
 use Rattle.jn_protocol.specs.World.{World, Memory, at_client, opening}
 use Rattle.jn_protocol.specs.Servers.{Room, server_row, server_step}
-use Rattle.jn_protocol.specs.Steps.{Step, NextEvent, Tell, Again, Deliver, Work, Nudge, Timeout, StopDelivery, StopWork, Crash, Narrow, StopRestart, Restart, AreNames, tid_before, IsStep, IsRun, after, run, commanded, sent_now, took, taken_by, ends, at_memory, handed, work, works, nudge, timeout, crash, narrow, stop_restart, restart}
+use Rattle.jn_protocol.specs.Steps.{Step, NextEvent, Tell, Again, Deliver, Work, Nudge, Timeout, StopDelivery, StopWork, Crash, Narrow, StopRestart, Restart, AreNames, tid_before, IsStep, IsRun, after, run, commanded, sent_now, took, ends, at_memory, handed, work, works, nudge, timeout, crash, narrow, stop_restart, restart}
 use Rattle.jn_reported.proofs.Hearing.{IsQuiet, step-hears}
 use Rattle.jn_reported.proofs.Reached.{Reached, next-reached, opening-reached}
 use Rattle.jn_talk.proofs.Runs.{TellsAs}

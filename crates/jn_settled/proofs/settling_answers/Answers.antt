@@ -1,4 +1,3 @@
-use Rattle.jn_protocol.specs.World.{opening}
 use Rattle.jn_settling.specs.Course.{opening_course, go_on}
 use Rattle.jn_settled.proofs.Settling.{course-talking, settle-answers}
 use Rattle.jn_settled.proofs.settling_answers.Goals as goal
