@@ -42,7 +42,7 @@ use Rattle.jn_reported.specs.Reported.{Does, told_by}
 use Rattle.jn_reported.proofs.Lists.{In, in-first, in-second}
 use Rattle.jn_reported.proofs.Naming.{adds}
 use Rattle.jn_reported.proofs.Reached.{Reached, next-reached}
-use Rattle.jn_settled.proofs.Memories.{Remembers, as_before, down, by_message, by_step, by_timeout, by_restart, step-memory}
+use Rattle.jn_settled.proofs.Memories.{Remembers, as_before, down, by_message, by_step, by_timeout, by_closing, by_restart, step-memory}
 
 -- where a broken work of a new table comes from: it was broken before, or breaks with its note
 record WasBroken (t : WorkerTable) (W : WorkId) (v : Work) (u : LockUnit) (by : Tid) : Type 0 where
@@ -342,6 +342,7 @@ module _ (files : AllFiles) (epochs : ServerNo → ℕ) where
       on o q (by_message m room message up has k l) = by-row m room message k (is_for_worker message) up (at-n _ q) l
       on o q (by_step m room row up g) = by-own m room row up g q
       on o q (by_timeout m T up) = by-late m T up q
+      on o q (by_closing m up) = old m up (record { work = v; found = at-n _ q; phase = p; tid = refl })
       on o q (by_restart x Ws Ts) = absurd (restored-whole x Ws W v u by (at-n (restored s x Ws Ts) q) p)
 
   pub run-told : (steps : List Step) (r : World) → IsRun steps r → Reached files epochs r → BrokenTold r → BrokenTold (run steps r)

@@ -19,11 +19,11 @@ use Rattle.jn_rows.specs.declared.coordinator.Stage.TheVariants.{Open, Voting, C
 use Rattle.jn_rows.specs.Stable.{StableState, FlagState, Pick, stable}
 use Rattle.jn_rows.specs.Outcomes.{RowOutcome, Sent}
 use Rattle.jn_rows.specs.Client.{ClientTable, Commanded, Refuses, Sends, command_row, take_row}
-use Rattle.jn_rows.specs.Coordinator.{CoordinatorTable, transaction_at, with_stage, without, all_in, closed, after_closing, begin_again, begun_by, end_row, abort_request, inquire_row, vote_row, done_row, thanks_row, coordinator_row, restored_transaction, restored_transactions}
+use Rattle.jn_rows.specs.Coordinator.{all_thanked, thanked, close_clients_row, CoordinatorTable, transaction_at, with_stage, without, all_in, closed, after_closing, begin_again, begun_by, end_row, abort_request, inquire_row, vote_row, done_row, thanks_row, coordinator_row, restored_transaction, restored_transactions}
 use Rattle.jn_protocol.specs.World.{World, Memory, at_server}
 use Rattle.jn_protocol.specs.Servers.{Room, server_row, server_step, server_timeout, storage_of, of_timeout, of_step, of_worker, of_coordinator, is_for_worker, restored, lines_of}
 use Rattle.jn_rows.specs.Worker.{WorkerTable, worker_row, worker_step, timeout_row}
-use Rattle.jn_protocol.specs.Steps.{Step, NextEvent, Tell, Again, Deliver, Work, Nudge, Timeout, StopDelivery, StopWork, Crash, Narrow, StopRestart, Restart, after, run, commanded, took, done, stopped, ends, at_memory, handed, work, works, nudge, timeout, crash, narrow, stop_restart, restart}
+use Rattle.jn_protocol.specs.Steps.{Step, NextEvent, Tell, Again, Deliver, Work, Nudge, Timeout, StopDelivery, StopWork, Crash, Narrow, StopRestart, Restart, Dismiss, CloseClients, after, run, commanded, took, done, stopped, ends, at_memory, handed, work, works, nudge, timeout, crash, narrow, stop_restart, restart, close_clients}
 use Rattle.jn_settled.proofs.Ways.{Has}
 use Rattle.jn_settled.proofs.RequestSteps.{has-at}
 use Rattle.jn_settled.proofs.Fates.{is_unfinished, Kind, keeps, comes, goes, end-its, abort-stage-its, told-its, vote-its, done-its, thanks-its}
@@ -35,6 +35,7 @@ pub data Remembers (w now : World) (s : ServerNo) : Option Memory → Type 0 whe
   by_message : (m : Memory) (room : Room) (message : Message) → w.memory s ≡ Some m → Has (Server s, message) w.sent → (k : ℕ) → now.lines ≡ w.lines ++ lines_of s (Some k) (server_row m (stable (w.found s)) room message).notes → Remembers w now s (Some (server_row m (stable (w.found s)) room message).table)
   by_step : (m : Memory) (room : Room) (row : RowOutcome Memory) → w.memory s ≡ Some m → server_step m (stable (w.found s)) room ≡ Some row → Remembers w now s (Some row.table)
   by_timeout : (m : Memory) (T : Tid) → w.memory s ≡ Some m → Remembers w now s (Some (server_timeout m T))
+  by_closing : (m : Memory) → w.memory s ≡ Some m → Remembers w now s (Some (of_coordinator m (close_clients_row m.coordinator m.tickets)).table)
   by_restart : (x : StableState) (Ws : List WorkId) (Ts : List Tid) → Remembers w now s (Some (restored s x Ws Ts))
 
 module _ (w : World) (q : ServerNo) where
@@ -117,6 +118,12 @@ module _ (w : World) (q : ServerNo) where
       by : (o : Option Memory) → So (restart s pick Ws Ts o w)
       by None = one-server (restart s pick Ws Ts None w) s (Some (restored s (w.found s pick) Ws Ts)) (by_restart (w.found s pick) Ws Ts)
       by (Some m) = as_before
+  step-memory Dismiss = as_before
+  step-memory (CloseClients s) = by (w.memory s) refl
+    where
+      by : (o : Option Memory) → w.memory s ≡ o → So (close_clients s o w)
+      by None e = as_before
+      by (Some m) e = ends-so s None None (of_coordinator m (close_clients_row m.coordinator m.tickets)) (by_closing m e)
 
 -- ---- no vote or commit is complete
 
@@ -160,6 +167,24 @@ closing-unfinished c (x ∷ xs) h = by (client_eq x.client c) (closing-unfinishe
     by : (b : Bool) → all_unfinished (after_closing c xs) ≡ true → all_unfinished (if b then closed x.stage x ++ after_closing c xs else x ∷ after_closing c xs) ≡ true
     by true again = both-unfinished (closed x.stage x) (after_closing c xs) (one x.stage) again
     by false again = grind (arith, h)
+
+-- those that are thanked all at once
+thanked-unfinished : (xs : List Transaction) → all_unfinished xs ≡ true → all_unfinished (all_thanked xs) ≡ true
+thanked-unfinished [] h = refl
+thanked-unfinished (x ∷ xs) h = both-unfinished (thanked x.stage x) (all_thanked xs) (one x.stage refl) (thanked-unfinished xs (grind (arith, h)))
+  where
+    its : is_unfinished x.stage ≡ true
+    its = grind (arith, h)
+
+    one : (s : Stage) → x.stage ≡ s → all_unfinished (thanked s x) ≡ true
+    one Open e = ap (λ (z : Stage). is_unfinished z && true) e
+    one (Voting b) e = ap (λ (b : Bool). b && true) its
+    one (Aborted cause) e = refl
+    one (Committed d) e = on (all_in d.works d.done) refl
+      where
+        on : (b : Bool) → all_in d.works d.done ≡ b → all_unfinished (if b then [] else record x { stage = Committed (record d { thanked = true }) } ∷ []) ≡ true
+        on true e = refl
+        on false e = ap (λ z. not z && true) e
 
 module _ (t : CoordinatorTable) (free : ℕ) (k : Tickets) (h : all_unfinished t.transactions ≡ true) where
   by-kind : (U : Tid) (y : Transaction) (row : RowOutcome CoordinatorTable) → Kind U y t row → AreUnfinished row
@@ -238,6 +263,7 @@ step-unfinished step w h s n e = by ((after step w).memory s) e (step-memory w s
     by o q (by_message m room message f has k l) = its _ q (for m room message (is_for_worker message) (h s m f))
     by o q (by_step m room row f g) = its row.table q (of-step m room row g (h s m f))
     by o q (by_timeout m T f) = its (server_timeout m T) q (of-late m (timeout_row m.worker T) (h s m f))
+    by o q (by_closing m f) = its _ q (thanked-unfinished m.coordinator.transactions (h s m f))
     by o q (by_restart x Ws Ts) = its (restored s x Ws Ts) q (restored-unfinished x Ts)
 
 pub run-unfinished : (steps : List Step) (w : World) → Unfinished w → Unfinished (run steps w)

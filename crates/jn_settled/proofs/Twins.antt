@@ -28,10 +28,11 @@ use Rattle.jn_rows.specs.declared.client.Taken.{Taken}
 use Rattle.jn_rows.specs.declared.client.Taken.TheVariants as taken
 use Rattle.jn_rows.specs.Stable.{StableState, Pick, stable}
 use Rattle.jn_rows.specs.Outcomes.{RowOutcome, Sent}
+use Rattle.jn_rows.specs.Coordinator.{close_clients_row}
 use Rattle.jn_rows.specs.Client.{ClientTable, Commanded, Refuses, Sends, command_row, take_row, sent_again, if_waits, if_idle, if_transaction, if_no_transaction, if_open, if_not_open, work_at, is_current, begun_row, opened_row, outcome_row}
 use Rattle.jn_protocol.specs.World.{World, Memory, at_client, opening}
-use Rattle.jn_protocol.specs.Servers.{Room, server_row, server_step}
-use Rattle.jn_protocol.specs.Steps.{Step, NextEvent, Tell, Again, Deliver, Work, Nudge, Timeout, StopDelivery, StopWork, Crash, Narrow, StopRestart, Restart, AreNames, tid_before, IsStep, IsRun, after, run, commanded, sent_now, took, ends, at_memory, handed, work, works, nudge, timeout, crash, narrow, stop_restart, restart}
+use Rattle.jn_protocol.specs.Servers.{Room, of_coordinator, server_row, server_step}
+use Rattle.jn_protocol.specs.Steps.{Step, NextEvent, Tell, Again, Deliver, Work, Nudge, Timeout, StopDelivery, StopWork, Crash, Narrow, StopRestart, Restart, Dismiss, CloseClients, IsIdle, AreNames, tid_before, IsStep, IsRun, after, run, commanded, sent_now, took, ends, at_memory, handed, work, works, nudge, timeout, crash, narrow, stop_restart, restart, close_clients}
 use Rattle.jn_reported.proofs.Hearing.{IsQuiet, step-hears}
 use Rattle.jn_reported.proofs.Reached.{Reached, next-reached, opening-reached}
 use Rattle.jn_talk.proofs.Runs.{TellsAs}
@@ -229,6 +230,9 @@ module _ (w : World) where
   after-alike (StopRestart s raised) = up-or-down (λ o v. stop_restart s raised o v) (w.memory s) (record { memory = refl; found = refl; sent = refl; clients = λ d. twice (w.clients d) }) (λ m. same-alike)
   after-alike (Restart s pick Ws Ts) = up-or-down (λ o v. restart s pick Ws Ts o v) (w.memory s) (record { memory = refl; found = refl; sent = refl; clients = λ d. twice (w.clients d) }) (λ m. same-alike)
 
+  after-alike Dismiss = record { memory = refl; found = refl; sent = refl; clients = λ d. refl }
+  after-alike (CloseClients s) = up-or-down (λ o v. close_clients s o v) (w.memory s) same-alike (λ m. ends-alike s None None (of_coordinator m (close_clients_row m.coordinator m.tickets)))
+
   pub after-plain : (step : Step) → plain (after step w) ≡ plain (after step (plain w))
   after-plain step = alike-plain (after step w) (after step (plain w)) (after-alike step)
 
@@ -251,6 +255,14 @@ module _ (files : AllFiles) (epochs : ServerNo → ℕ) (events : List Event) wh
   -- the twin may do the same
   twin-step : (step : Step) (r q : World) → plain r ≡ plain q → IsStep step r → IsStep step q
   twin-step (Restart s pick Ws Ts) r q e i = subst (λ (f : ServerNo → Pick → StableState). AreNames work_eq work_before (f s pick).works Ws × AreNames tid_eq tid_before (f s pick).flags Ts) (ap (λ (z : World). z.found) e) i
+  twin-step (CloseClients s) r q e i = λ c. (ap (λ (z : World). (z.clients c).transaction) (sym e) ∙ (i c).0, idle (q.clients c).outstanding (ap (λ (z : World). (z.clients c).outstanding) (sym e) ∙ ap numberless (i c).1))
+    where
+      clash : (o : Outstanding) → Some o ≡ None → ⊥
+      clash o k = cc
+
+      idle : (o : Option Outstanding) → numberless o ≡ None → o ≡ None
+      idle None k = refl
+      idle (Some o) k = absurd (clash (record o { event = 0 }) k)
   twin-step step r q e i = tt
 
   onward : (step : Step) (r q : World) → plain r ≡ plain q → plain (after step r) ≡ plain (after step q)
@@ -283,6 +295,16 @@ module _ (files : AllFiles) (epochs : ServerNo → ℕ) (events : List Event) wh
       by (Refuses refusal) = refl
       by (Sends t to m) = refl
 
+  -- the clients are dismissed there too
+  dismissed-twin : (n : ℕ) (r : World) → Twin n r → Twin n (after Dismiss r)
+  dismissed-twin n r h = record {
+    twin = after Dismiss h.twin;
+    alike = onward Dismiss r h.twin h.alike;
+    number = h.number;
+    reached = next-reached files epochs h.twin Dismiss tt h.reached;
+    stands = step-stands events files epochs (λ T. false) [] Dismiss h.twin tt tt h.stands;
+  }
+
   run-twin : (steps : List Step) (r : World) (es : List Event) → events ≡ es ++ commands_in steps → IsRun steps r → Twin (length es) r → (n : ℕ) × Twin n (run steps r)
   run-twin [] r es e i h = (length es, h)
   run-twin (Tell c command ∷ steps) r es e i h = run-twin steps (after (Tell c command) r) (es ++ CommandOf c command ∷ []) (e ∙ sym (append_assoc es (CommandOf c command ∷ []) (commands_in steps))) i.1
@@ -306,6 +328,8 @@ module _ (files : AllFiles) (epochs : ServerNo → ℕ) (events : List Event) wh
   run-twin (Narrow s g ∷ steps) r es e i h = run-twin steps _ es e i.1 (quiet-twin (Narrow s g) (length es) r tt i.0 h)
   run-twin (StopRestart s raised ∷ steps) r es e i h = run-twin steps _ es e i.1 (quiet-twin (StopRestart s raised) (length es) r tt i.0 h)
   run-twin (Restart s pick Ws Ts ∷ steps) r es e i h = run-twin steps _ es e i.1 (quiet-twin (Restart s pick Ws Ts) (length es) r tt i.0 h)
+  run-twin (Dismiss ∷ steps) r es e i h = run-twin steps _ es e i.1 (dismissed-twin (length es) r h)
+  run-twin (CloseClients s ∷ steps) r es e i h = run-twin steps _ es e i.1 (quiet-twin (CloseClients s) (length es) r tt i.0 h)
 
 -- after every run
 pub record HasTwin (files : AllFiles) (epochs : ServerNo → ℕ) (r : World) : Type 0 where
