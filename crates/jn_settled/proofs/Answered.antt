@@ -42,7 +42,7 @@ use Rattle.jn_rows.specs.declared.coordinator.Stage.TheVariants.{Open, Voting, C
 use Rattle.jn_rows.specs.Coordinator.{transaction_at, abort_stage, abort_request, drops, besides, aborted_to}
 use Rattle.jn_runs.proofs.Openings.{Opening, openings, Has as HasOpening}
 use Rattle.jn_settling.proofs.CoordinatorFits.{found-name}
-use Rattle.jn_settled.proofs.Known.{IsKnown, known-step}
+use Rattle.jn_reported.proofs.Reached.{Reached, next-reached}
 use Rattle.jn_settled.proofs.Owners.{owner_in, owned-found}
 use Rattle.jn_settled.proofs.OwnerSteps.{AreOwned, step-keeps-owned}
 use Rattle.jn_settled.proofs.Talk.{IsStill, IsFitting, still-fits, command-fits, take-still}
@@ -94,14 +94,14 @@ module _ (n : ℕ) (at_most : n ≤ 8) (start : World) (files : AllFiles) (epoch
   pub record Talking (d : Course) : Type 0 where
     pub sound : Sound n start d
     pub talks : (c : ClientNo) → Talks c (d.world.clients c)
-    pub known : IsKnown files epochs d.world
+    pub known : Reached files epochs d.world
     pub owned : AreOwned d.world
 
   pub go-talking : (d : Course) (step : Step) → Talking d → IsStep step d.world → Talking (go step d)
   go-talking d step h i = record {
     sound = go-sound n at_most start d step h.sound i;
     talks = λ c. by step c;
-    known = known-step files epochs d.world h.known h.sound.locks step i;
+    known = next-reached files epochs d.world step i h.known;
     owned = step-keeps-owned n at_most d.world h.sound.sizes h.sound.locks h.owned step i;
   }
     where

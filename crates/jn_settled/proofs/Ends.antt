@@ -54,7 +54,7 @@ use Rattle.jn_reported.proofs.Lists.{In, get-in}
 use Rattle.jn_reported.proofs.Reached.{Reached}
 use Rattle.jn_settled.specs.Settled.{tells_waiting}
 use Rattle.jn_settled.proofs.Talk.{IsStill}
-use Rattle.jn_settled.proofs.Ways.{Has, Waits, IsEnd, none-still, taken-still, taken-taken, took-memory}
+use Rattle.jn_settled.proofs.Ways.{any-left, any-right, Has, Waits, IsEnd, none-still, taken-still, taken-taken, took-memory}
 use Rattle.jn_settled.proofs.Answered.{ends_outcome, its-client, outcome-ends}
 use Rattle.jn_settled.proofs.Begins.{Good}
 use Rattle.jn_settled.proofs.Fates.{is_undecided, is_unfinished, has-after, Move, starts, notes_one, commits_now, aborts_now, finishes, Fate, stays, moves, forgets, closes, row-fate}
@@ -98,22 +98,14 @@ took-longer c k t taken.Ignored w = record { more = says.Ignored k ∷ []; is = 
 took-longer c k t (taken.Send to message) w = record { more = []; is = sym (append-nil w.lines) }
 took-longer c k t (taken.Told line answer) w = record { more = line ∷ []; is = refl }
 
-any-first : (f : Text → Bool) (a b : List Text) → list_any f a ≡ true → list_any f (a ++ b) ≡ true
-any-first f [] b h = absurd (true≢false (sym h))
-any-first f (x ∷ a) b h = let again = any-first f a b in grind (arith, h)
-
-any-second : (f : Text → Bool) (a b : List Text) → list_any f b ≡ true → list_any f (a ++ b) ≡ true
-any-second f [] b h = h
-any-second f (x ∷ a) b h = let again = any-second f a b h in grind arith
-
 -- what was told after so many lines stays told, and what is new is told after them
 pub any-drop-more : (f : Text → Bool) (k : ℕ) (a b : List Text) → list_any f (drop k a) ≡ true → list_any f (drop k (a ++ b)) ≡ true
-any-drop-more f zero a b h = any-first f a b h
+any-drop-more f zero a b h = any-left f a b h
 any-drop-more f (suc k) [] b h = absurd (true≢false (sym h))
 any-drop-more f (suc k) (x ∷ a) b h = any-drop-more f k a b h
 
 pub any-drop-new : (f : Text → Bool) (k : ℕ) (a b : List Text) → k ≤ length a → list_any f b ≡ true → list_any f (drop k (a ++ b)) ≡ true
-any-drop-new f zero a b l h = any-second f a b h
+any-drop-new f zero a b l h = any-right f a b h
 any-drop-new f (suc k) [] b l h = absurd (omega (arith, l))
 any-drop-new f (suc k) (x ∷ a) b l h = any-drop-new f k a b (omega (arith, l)) h
 

@@ -23,7 +23,6 @@ use Rattle.jn_settled.proofs.Ways.{Waits, rest-down}
 use Rattle.jn_settled.proofs.Answered.{Talks, among-clients}
 use Rattle.jn_settled.proofs.Begins.{Good, good-go}
 use Rattle.jn_settled.proofs.Answers.{rest-good, ask-good, stays}
-use Rattle.jn_settled.proofs.Twins.{run-reached}
 use Rattle.jn_settled.proofs.Memories.{Unfinished, all_unfinished, run-unfinished}
 use Rattle.jn_settled.proofs.Calm.{carried, Asked, ask-asks, rest-calm}
 use Rattle.jn_settled.proofs.Ends.{Longer, took-longer, OnWay, asks, client-way, server-way, work-way, rest-way}
@@ -37,7 +36,7 @@ module _ (n : ℕ) (at_most : n ≤ 8) (files : AllFiles) (epochs : ServerNo →
   IsGood d = Good n at_most start files epochs d
 
   pub reached : (d : Course) → IsGood d → Reached files epochs d.world
-  reached d h = let c = h.talking.sound.course in subst (λ (z : World). Reached files epochs z) c.stands (run-reached files epochs n d.steps c.is_run)
+  reached d h = h.talking.known
 
   pub unfinished : (d : Course) → IsGood d → Unfinished d.world
   unfinished d h = let c = h.talking.sound.course in subst (λ (z : World). Unfinished z) c.stands (run-unfinished d.steps start none)

@@ -15,7 +15,7 @@ use Rattle.jn_settling.proofs.Settling.{opening-sound}
 use Rattle.jn_settling.proofs.Courses.{Sound}
 use Rattle.jn_settled.proofs.Twins.{HasTwin, run-has-twin}
 use Rattle.jn_settled.specs.Settled.{AreUp, AreAnswered, Answers}
-use Rattle.jn_settled.proofs.Known.{opening-known}
+use Rattle.jn_reported.proofs.Reached.{opening-reached}
 use Rattle.jn_settled.proofs.Owners.{all_owned, owner_in}
 use Rattle.jn_settled.proofs.Answered.{Talking}
 use Rattle.jn_settled.proofs.Votes.{Votings}
@@ -32,7 +32,7 @@ module _ (n : ℕ) (at_most : n ≤ 8) (files : AllFiles) (epochs : ServerNo →
   opening-talking = record {
     sound = opening-sound n files epochs;
     talks = λ c. record { name = refl; fits = λ o e. absurd (none o e) };
-    known = opening-known n files epochs;
+    known = opening-reached files epochs n;
     owned = λ s. record { table = λ m e. subst (λ (z : Memory). all_owned (owner_in []) z.coordinator.transactions ≡ true) (some-memory (new_memory s (epochs s)) m e) refl; flags = λ c T f e. absurd (no-flag f e) };
   }
     where

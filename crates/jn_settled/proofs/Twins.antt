@@ -32,7 +32,7 @@ use Rattle.jn_rows.specs.Coordinator.{close_clients_row}
 use Rattle.jn_rows.specs.Client.{ClientTable, Commanded, Refuses, Sends, command_row, take_row, sent_again, if_waits, if_idle, if_transaction, if_no_transaction, if_open, if_not_open, work_at, is_current, begun_row, opened_row, outcome_row}
 use Rattle.jn_protocol.specs.World.{World, Memory, at_client, opening}
 use Rattle.jn_protocol.specs.Servers.{Room, of_coordinator, server_row, server_step}
-use Rattle.jn_protocol.specs.Steps.{Step, NextEvent, Tell, Again, Deliver, Work, Nudge, Timeout, StopDelivery, StopWork, Crash, Narrow, StopRestart, Restart, Dismiss, CloseClients, IsIdle, AreNames, tid_before, IsStep, IsRun, after, run, commanded, sent_now, took, ends, at_memory, handed, work, works, nudge, timeout, crash, narrow, stop_restart, restart, close_clients}
+use Rattle.jn_protocol.specs.Steps.{Step, NextEvent, Tell, Again, Deliver, Work, Nudge, Timeout, StopDelivery, StopWork, Crash, Narrow, StopRestart, Restart, Dismiss, CloseClients, AreNames, tid_before, IsStep, IsRun, after, run, commanded, sent_now, took, ends, at_memory, handed, work, works, nudge, timeout, crash, narrow, stop_restart, restart, close_clients}
 use Rattle.jn_reported.proofs.Hearing.{IsQuiet, step-hears}
 use Rattle.jn_reported.proofs.Reached.{Reached, next-reached, opening-reached}
 use Rattle.jn_talk.proofs.Runs.{TellsAs}
@@ -229,7 +229,6 @@ module _ (w : World) where
   after-alike (Narrow s g) = up-or-down (λ o v. narrow s g o v) (w.memory s) (record { memory = refl; found = refl; sent = refl; clients = λ d. twice (w.clients d) }) (λ m. same-alike)
   after-alike (StopRestart s raised) = up-or-down (λ o v. stop_restart s raised o v) (w.memory s) (record { memory = refl; found = refl; sent = refl; clients = λ d. twice (w.clients d) }) (λ m. same-alike)
   after-alike (Restart s pick Ws Ts) = up-or-down (λ o v. restart s pick Ws Ts o v) (w.memory s) (record { memory = refl; found = refl; sent = refl; clients = λ d. twice (w.clients d) }) (λ m. same-alike)
-
   after-alike Dismiss = record { memory = refl; found = refl; sent = refl; clients = λ d. refl }
   after-alike (CloseClients s) = up-or-down (λ o v. close_clients s o v) (w.memory s) same-alike (λ m. ends-alike s None None (of_coordinator m (close_clients_row m.coordinator m.tickets)))
 
@@ -345,12 +344,3 @@ run-has-twin servers files epochs steps i = let last = run-twin files epochs (co
   reached = opening-reached files epochs servers;
   stands = opening-stands (commands_in steps) files epochs servers;
 }) in record { events = commands_in steps; count = last.0; is = last.1 }
-
--- what holds after every run
-module _ (files : AllFiles) (epochs : ServerNo → ℕ) where
-  reached-on : (steps : List Step) (r : World) → IsRun steps r → Reached files epochs r → Reached files epochs (run steps r)
-  reached-on [] r i h = h
-  reached-on (step ∷ steps) r i h = reached-on steps (after step r) i.1 (next-reached files epochs r step i.0 h)
-
-  pub run-reached : (servers : ℕ) (steps : List Step) → IsRun steps (opening servers files epochs) → Reached files epochs (run steps (opening servers files epochs))
-  run-reached servers steps i = reached-on steps (opening servers files epochs) i (opening-reached files epochs servers)

@@ -37,13 +37,13 @@ pub record Waits (sent : List Sent) (waiting : List ℕ) (x : Sent) : Type 0 whe
   pub waits : list_any (nat_eq number) waiting ≡ true
   pub is : slice_get sent number ≡ Some x
 
-any-left : (k : ℕ) (a b : List ℕ) → list_any (nat_eq k) a ≡ true → list_any (nat_eq k) (a ++ b) ≡ true
-any-left k [] b h = absurd (true≢false (sym h))
-any-left k (j ∷ a) b h = let again = any-left k a b in grind (arith, h)
+pub any-left : {A : Type 0} → (f : A → Bool) (a b : List A) → list_any f a ≡ true → list_any f (a ++ b) ≡ true
+any-left f [] b h = absurd (true≢false (sym h))
+any-left f (x ∷ a) b h = let again = any-left f a b in grind (arith, h)
 
-any-right : (k : ℕ) (a b : List ℕ) → list_any (nat_eq k) b ≡ true → list_any (nat_eq k) (a ++ b) ≡ true
-any-right k [] b h = h
-any-right k (j ∷ a) b h = let again = any-right k a b h in grind arith
+pub any-right : {A : Type 0} → (f : A → Bool) (a b : List A) → list_any f b ≡ true → list_any f (a ++ b) ≡ true
+any-right f [] b h = h
+any-right f (x ∷ a) b h = let again = any-right f a b h in grind arith
 
 below-any : (n k : ℕ) (ks : List ℕ) → are_below n ks ≡ true → list_any (nat_eq k) ks ≡ true → k < n
 below-any n k [] h e = absurd (true≢false (sym e))
@@ -69,14 +69,14 @@ module _ (n : ℕ) (at_most : n ≤ 8) (start : World) where
       by : Grows d.world (after step d.world) → Waits (go step d).world.sent (go step d).waiting x
       by g = record {
         number = w.number;
-        waits = subst (λ ks. list_any (nat_eq w.number) ks ≡ true) (sym (waiting-is n at_most start d step g.new g.sent)) (any-left w.number (still_waiting step d.waiting) _ still);
+        waits = subst (λ ks. list_any (nat_eq w.number) ks ≡ true) (sym (waiting-is n at_most start d step g.new g.sent)) (any-left (nat_eq w.number) (still_waiting step d.waiting) _ still);
         is = subst (λ xs. slice_get xs w.number ≡ Some x) (sym g.sent) (get-more d.world.sent g.new w.number (below-any (length d.world.sent) w.number d.waiting h.below w.waits) ∙ w.is);
       }
 
   pub now-waits : (d : Course) (step : Step) (new : List Sent) (x : Sent) → (after step d.world).sent ≡ d.world.sent ++ new → Has x new → Waits (go step d).world.sent (go step d).waiting x
   now-waits d step new x e h = let w = new-waits d.world.sent new x h in record {
     number = w.number;
-    waits = subst (λ ks. list_any (nat_eq w.number) ks ≡ true) (sym (waiting-is n at_most start d step new e)) (any-right w.number (still_waiting step d.waiting) _ w.waits);
+    waits = subst (λ ks. list_any (nat_eq w.number) ks ≡ true) (sym (waiting-is n at_most start d step new e)) (any-right (nat_eq w.number) (still_waiting step d.waiting) _ w.waits);
     is = subst (λ xs. slice_get xs w.number ≡ Some x) (sym e) w.is;
   }
 

@@ -1,4 +1,5 @@
--- What a settle leaves behind where every server is up.
+-- What a settle leaves behind where every server is up. That no message waits and no work goes is in the bounds of a settle.
+-- Rubbish records are no part of these states, so nothing is said of them.
 use Rattle.std.specs.Prelude.{◌≡◌, ◌≤◌, ◌<◌, ℕ, Bool, true, false, nat_eq, ◌&&◌, List, drop, length, Some, None, is_some}
 use Rattle.std.specs.List.{list_any}
 use Rattle.jn_base.specs.declared.names.ServerNo.{ServerNo}
