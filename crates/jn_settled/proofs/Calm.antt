@@ -1,7 +1,7 @@
 -- A part of a settle at whose end all servers are up: no step of it was stopped, so that it keeps what each message handed over
 -- and each step of a server keeps.
-use Rattle.std.proofs.Common.{◌≡◌, ◌≢◌, ◌⊎◌, inl, inr, ◌≤◌, ℕ, zero, suc, ◌+◌, Bool, true, false, List, [], ◌∷◌, ◌++◌, length, append-nil, Option, Some, None, is_some, true≢false, refl, sym, ◌∙◌, ap, subst, arith}
-use Rattle.std.specs.Prelude.{if◌then◌else◌, slice_get, nat_eq, map}
+use Rattle.std.proofs.Common.{length, length-append, append_assoc, ◌≡◌, ◌≢◌, ◌⊎◌, inl, inr, ◌≤◌, ℕ, zero, suc, ◌+◌, Bool, true, false, List, [], ◌∷◌, ◌++◌, append-nil, Option, Some, None, is_some, true≢false, refl, sym, ◌∙◌, ap, subst, arith}
+use Rattle.std.specs.Prelude.{◌||◌, if◌then◌else◌, slice_get, nat_eq, map}
 use Rattle.std.specs.List.{list_any}
 use Rattle.std.proofs.lemmas.Bool.Decides.{nat_tests}
 use Rattle.jn_base.specs.declared.names.ServerNo.{ServerNo}
@@ -17,20 +17,22 @@ use Rattle.jn_rows.specs.Worker.{going_work, going_row, carried_row, intentions_
 use Rattle.jn_rows.specs.Client.{take_row, again_row}
 use Rattle.jn_protocol.specs.World.{World, Memory}
 use Rattle.jn_protocol.specs.Servers.{Room, storage_of, of_worker, of_step, server_row, server_again}
-use Rattle.jn_protocol.specs.Steps.{Step, Again, Deliver, Work, Nudge, StopDelivery, StopWork, IsStep, after, sent_now, taken_by, done, at_memory, handed, work, works, nudge}
-use Rattle.jn_settling.specs.Course.{Course, still_waiting, without_number, go, go_on}
+use Rattle.jn_protocol.specs.Steps.{Step, NextEvent, Tell, Timeout, Crash, Narrow, StopRestart, Restart, Dismiss, CloseClients, Again, Deliver, Work, Nudge, StopDelivery, StopWork, IsStep, after, sent_now, taken_by, done, at_memory, handed, work, works, nudge}
+use Rattle.jn_settling.specs.Course.{Course, numbered, still_waiting, without_number, go, go_on}
 use Rattle.jn_settling.specs.Settle.{Chance, servers_from, is_busy, first_busy, handing, working, next_step, onward, until_rest, ask_again}
-use Rattle.jn_settling.proofs.Burdens.{are_below, busy-is}
-use Rattle.jn_settling.proofs.Courses.{Sound}
+use Rattle.jn_settling.proofs.Burdens.{are_below, busy-is, get-more, get-next}
+use Rattle.jn_settling.proofs.Courses.{Sound, waiting-is}
 use Rattle.jn_settling.proofs.Parts.{get-some}
 use Rattle.jn_settled.specs.Settled.{AreUp}
-use Rattle.jn_settled.proofs.Ways.{Has, Waits, any-without, still-waits, now-waits, rest-down}
+use Rattle.jn_settled.proofs.Ways.{Has, Waits, any-without, still-waits, now-waits, below-any, rest-down}
 
 -- From one course to the next: this is the world then, what waited and wasn't taken waits on, and what is new waits.
 pub record Comes (d now : Course) (taken : Option Sent) (w : World) : Type 0 where
   pub world : now.world ≡ w
   pub waits : (x : Sent) → Waits d.world.sent d.waiting x → (taken ≡ Some x) ⊎ Waits now.world.sent now.waiting x
   pub new : (more : List Sent) → w.sent ≡ d.world.sent ++ more → (x : Sent) → Has x more → Waits now.world.sent now.waiting x
+  -- what waits then waited or is new
+  pub back : (more : List Sent) → w.sent ≡ d.world.sent ++ more → (x : Sent) → Waits now.world.sent now.waiting x → Waits d.world.sent d.waiting x ⊎ Has x more
 
 -- what a server does by its work that goes
 abbrev pub carried : Memory → World → ServerNo → WorkEntry → RowOutcome Memory
@@ -46,6 +48,49 @@ pub record Asked (clients : List ClientNo) (servers : List ServerNo) (d now : Co
   pub from_client : (c : ClientNo) → list_any (λ e. client_eq e c) clients ≡ true → (x : Sent) → again_row (d.world.clients c) ≡ Some x → Waits now.world.sent now.waiting x
   pub from_server : (s : ServerNo) (m : Memory) → list_any (λ q. server_eq q s) servers ≡ true → d.world.memory s ≡ Some m → (x : Sent) → Has x (server_again m (stable (d.world.found s))) → Waits now.world.sent now.waiting x
 
+any-either : (f : ℕ → Bool) (a b : List ℕ) → list_any f (a ++ b) ≡ true → (list_any f a ≡ true) ⊎ (list_any f b ≡ true)
+any-either f [] b h = inr h
+any-either f (k ∷ a) b h = by (f k) h (any-either f a b)
+  where
+    by : (c : Bool) → (c || list_any f (a ++ b)) ≡ true → (list_any f (a ++ b) ≡ true → (list_any f a ≡ true) ⊎ (list_any f b ≡ true)) → ((c || list_any f a) ≡ true) ⊎ (list_any f b ≡ true)
+    by true q again = inl refl
+    by false q again = again q
+
+-- what still waits has waited
+less-old : (j k : ℕ) (ks : List ℕ) → list_any (nat_eq j) (without_number k ks) ≡ true → list_any (nat_eq j) ks ≡ true
+less-old j k [] h = h
+less-old j k (i ∷ ks) h = let again = less-old j k ks in grind (arith, h)
+
+still-old : (j : ℕ) (step : Step) (ks : List ℕ) → list_any (nat_eq j) (still_waiting step ks) ≡ true → list_any (nat_eq j) ks ≡ true
+still-old j (Deliver k room) ks h = less-old j k ks h
+still-old j (StopDelivery k room made) ks h = less-old j k ks h
+still-old j NextEvent ks h = h
+still-old j (Tell c command) ks h = h
+still-old j (Again c) ks h = h
+still-old j (Work s room) ks h = h
+still-old j (Nudge s) ks h = h
+still-old j (Timeout s T) ks h = h
+still-old j (StopWork s room made) ks h = h
+still-old j (Crash s) ks h = h
+still-old j (Narrow s g) ks h = h
+still-old j (StopRestart s up) ks h = h
+still-old j (Restart s pick Ws Ts) ks h = h
+still-old j Dismiss ks h = h
+still-old j (CloseClients s) ks h = h
+
+-- a new number is that of a new message
+new-has : (xs ys : List Sent) (k : ℕ) (x : Sent) → list_any (nat_eq k) (numbered (length xs) ys) ≡ true → slice_get (xs ++ ys) k ≡ Some x → Has x ys
+new-has xs [] k x h e = absurd (true≢false (sym h))
+new-has xs (y ∷ ys) k x h e = by (nat_eq k (length xs)) refl h (new-has (xs ++ y ∷ []) ys k x)
+  where
+    same : Some y ≡ Some x → y ≡ x
+    same q = cc
+
+    by : (b : Bool) → nat_eq k (length xs) ≡ b → (b || list_any (nat_eq k) (numbered (length xs + 1) ys)) ≡ true
+        → (list_any (nat_eq k) (numbered (length (xs ++ y ∷ [])) ys) ≡ true → slice_get ((xs ++ y ∷ []) ++ ys) k ≡ Some x → Has x ys) → Has x (y ∷ ys)
+    by true q z again = inl (same (sym (get-next xs y ys) ∙ ap (slice_get (xs ++ y ∷ ys)) (grind (arith, nat_tests, q)) ∙ e))
+    by false q z again = inr (again (subst (λ m. list_any (nat_eq k) (numbered m ys) ≡ true) (sym (length-append xs (y ∷ []))) z) (ap (λ l. slice_get l k) (append_assoc xs (y ∷ []) ys) ∙ e))
+
 module _ (n : ℕ) (at_most : n ≤ 8) (start : World) where
   step-comes : (d : Course) (step : Step) (taken : Option Sent) (w : World) → Sound n start d → after step d.world ≡ w
       → ((x : Sent) (h : Waits d.world.sent d.waiting x) → (taken ≡ Some x) ⊎ (list_any (nat_eq h.number) (still_waiting step d.waiting) ≡ true)) → Comes d (go step d) taken w
@@ -53,8 +98,16 @@ module _ (n : ℕ) (at_most : n ≤ 8) (start : World) where
     world = e;
     waits = λ x h. by x h (on x h);
     new = λ more f x h. now-waits n at_most start d step more x (ap (λ (z : World). z.sent) e ∙ f) h;
+    back = λ more f x h. from more (ap (λ (z : World). z.sent) e ∙ f) x h (any-either (nat_eq h.number) (still_waiting step d.waiting) (numbered (length d.world.sent) more)
+        (subst (λ ks. list_any (nat_eq h.number) ks ≡ true) (waiting-is n at_most start d step more (ap (λ (z : World). z.sent) e ∙ f)) h.waits));
   }
     where
+      from : (more : List Sent) → (after step d.world).sent ≡ d.world.sent ++ more → (x : Sent) (h : Waits (go step d).world.sent (go step d).waiting x)
+          → (list_any (nat_eq h.number) (still_waiting step d.waiting) ≡ true) ⊎ (list_any (nat_eq h.number) (numbered (length d.world.sent) more) ≡ true) → Waits d.world.sent d.waiting x ⊎ Has x more
+      from more f x h (inl k) = let old = still-old h.number step d.waiting k in
+          inl (record { number = h.number; waits = old; is = sym (get-more d.world.sent more h.number (below-any (length d.world.sent) h.number d.waiting sound.below old)) ∙ ap (λ l. slice_get l h.number) (sym f) ∙ h.is })
+      from more f x h (inr k) = inr (new-has d.world.sent more h.number x k (ap (λ l. slice_get l h.number) (sym f) ∙ h.is))
+
       by : (x : Sent) (h : Waits d.world.sent d.waiting x) → (taken ≡ Some x) ⊎ (list_any (nat_eq h.number) (still_waiting step d.waiting) ≡ true) → (taken ≡ Some x) ⊎ Waits (go step d).world.sent (go step d).waiting x
       by x h (inl t) = inl t
       by x h (inr l) = inr (still-waits n at_most start d step x sound h l)

@@ -15,6 +15,7 @@ pub mod Broken
 pub mod Calm
 pub mod Standing
 pub mod Carrying
+pub mod Living
 pub mod Ends
 pub mod Flags
 pub mod Answers

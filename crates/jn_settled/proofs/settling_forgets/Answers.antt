@@ -1,3 +1,4 @@
+use Rattle.jn_settled.proofs.Living.{drop-leads}
 use Rattle.jn_settling.specs.Course.{opening_course, go_on}
 use Rattle.jn_settled.proofs.Settling.{course-talking}
 use Rattle.jn_settled.proofs.Forgotten.{settle-forgets}
