@@ -11,6 +11,8 @@ pub mod Twins
 pub mod Operations
 pub mod Fates
 pub mod Memories
+pub mod Seen
+pub mod About
 pub mod Broken
 pub mod Calm
 pub mod Standing

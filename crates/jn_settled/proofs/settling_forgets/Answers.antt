@@ -1,3 +1,5 @@
+use Rattle.jn_settled.proofs.About.{coordinator-off}
+use Rattle.jn_settled.proofs.Seen.{run-newest}
 use Rattle.jn_settled.proofs.Living.{drop-leads}
 use Rattle.jn_settling.specs.Course.{opening_course, go_on}
 use Rattle.jn_settled.proofs.Settling.{course-talking}
