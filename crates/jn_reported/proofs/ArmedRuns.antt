@@ -19,7 +19,7 @@ use Rattle.jn_serial.specs.Caused.{count_events, count_lines, is_stop, refuses_e
 use Rattle.jn_serial.proofs.Growth.{AreWithin, lines_at-newest, AreWithin-append, AreWithin-wider}
 use Rattle.jn_protocol.specs.World.{World, opening}
 use Rattle.jn_protocol.specs.Steps.{Step, NextEvent, Tell, Again, Deliver, Work, Nudge, Timeout, StopDelivery, StopWork, Crash, Narrow, StopRestart, Restart, after, IsRun}
-use Rattle.jn_reported.specs.Reported.{Act, Does, Refuses, Tells, Item, events_of, steps_in, steps_of, told_in, told_under, after_item, at_event, lines_of, may_do, may_act, IsUnder, AreUnder, Waiting, none_wait, one_more, armed, with_event, strike_all, AreStruck, FaultsWait, IsReported}
+use Rattle.jn_reported.specs.Reported.{Act, Does, Refuses, Tells, Shows, Item, events_of, steps_in, steps_of, told_in, told_under, after_item, at_event, lines_of, may_do, may_act, IsUnder, AreUnder, Waiting, none_wait, one_more, armed, with_event, strike_all, AreStruck, FaultsWait, IsReported}
 use Rattle.jn_reported.specs.Armed.{ArmedFrom, AreArmed}
 use Rattle.jn_reported.proofs.Lists.{Each}
 use Rattle.jn_reported.proofs.Reached.{Reached, next-reached, opening-reached}
@@ -62,10 +62,14 @@ arm-texts s n kind (Tells t fault ∷ acts) r h = absurd (no (list_all (may_act 
   where
     no : (b : Bool) → (false && b) ≡ true → ⊥
     no b k = grind arith
+arm-texts s n kind (Shows t prints ∷ acts) r h = absurd (no (list_all (may_act (events.Arm s n kind)) acts) h)
+  where
+    no : (b : Bool) → (false && b) ≡ true → ⊥
+    no b k = grind arith
 
 -- ---- what an event may give
 
-said : (test : Text → Bool) (n : ℕ) (texts : List Text) → says test (at_event n texts) ≡ list_any test texts
+pub said : (test : Text → Bool) (n : ℕ) (texts : List Text) → says test (at_event n texts) ≡ list_any test texts
 said test n [] = refl
 said test n (x ∷ texts) = ap (λ (b : Bool). test x || b) (said test n texts)
 

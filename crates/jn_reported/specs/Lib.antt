@@ -1,3 +1,4 @@
+pub mod Printing
 pub mod Reported
 pub mod Armed
 pub mod Example

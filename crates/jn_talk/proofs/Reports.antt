@@ -1,5 +1,6 @@
 -- What the lines of a run with its schedule tell of a transaction is what the world's lines tell.
 use Rattle.std.proofs.Common.{Bool, true, false, ◌≡◌, ℕ, suc, ◌+◌, List, [], ◌∷◌, ◌++◌, append-nil, append_assoc, length, Option, Some, None, refl, sym, ◌∙◌, ap, subst, arith}
+use Rattle.std.specs.Prelude.{map}
 use Rattle.jn_base.specs.declared.names.ServerNo.{ServerNo}
 use Rattle.jn_base.specs.declared.names.ClientNo.{ClientNo}
 use Rattle.jn_base.specs.declared.names.Tid.{Tid}
@@ -18,7 +19,8 @@ use Rattle.jn_machine.specs.Steps.{run as run_atoms, opening_world}
 use Rattle.jn_moves.proofs.Mirrored.{commits-more}
 use Rattle.jn_protocol.specs.World.{World, opening, committed_in, commits_in}
 use Rattle.jn_protocol.specs.Steps.{Step, NextEvent, Tell, IsStep, IsRun, after, run, commanded}
-use Rattle.jn_reported.specs.Reported.{Act, Does, Refuses as Refused, Tells, Item, events_of, steps_in, steps_of, world_of, told_by, told_in, told_under, after_item, at_event, lines_of, IsUnder, AreUnder, IsReported}
+use Rattle.jn_reported.specs.Printing.{Printed, FileThere, PageStored, UnitLocked, text_printed}
+use Rattle.jn_reported.specs.Reported.{Act, Does, Refuses as Refused, Tells, Shows, Item, events_of, steps_in, steps_of, world_of, told_by, told_in, told_under, after_item, at_event, lines_of, IsUnder, AreUnder, IsReported}
 use Rattle.jn_reported.proofs.Lists.{Each}
 use Rattle.jn_reported.proofs.Hearing.{IsQuiet, step-hears}
 use Rattle.jn_reported.proofs.Following.{IsQuietAct, under-quiet, run-split}
@@ -68,9 +70,15 @@ tell-then events a b c d h k = record {
   commits = commits-more a c ∙ ap (λ z. z ++ commits_in c) h.commits ∙ ap (λ z. commits_in b ++ z) k.commits ∙ sym (commits-more b d);
 }
 
-steps-append : (a b : List Step) (r : World) → run (a ++ b) r ≡ run b (run a r)
+pub steps-append : (a b : List Step) (r : World) → run (a ++ b) r ≡ run b (run a r)
 steps-append [] b r = refl
 steps-append (step ∷ a) b r = steps-append a b (after step r)
+
+prints-dumb : (s : ServerNo) (prints : List Printed) → AreDumb (map (text_printed s) prints) × (commits_in (map (text_printed s) prints) ≡ [])
+prints-dumb s [] = (tt, refl)
+prints-dumb s (FileThere f ∷ prints) = let on = prints-dumb s prints in ((tt, on.0), on.1)
+prints-dumb s (PageStored f p bytes ∷ prints) = let on = prints-dumb s prints in ((tt, on.0), on.1)
+prints-dumb s (UnitLocked u T ∷ prints) = let on = prints-dumb s prints in ((tt, on.0), on.1)
 
 -- ---- acts
 
@@ -111,12 +119,16 @@ module _ (events : List Event) (files : AllFiles) (epochs : ServerNo → ℕ) (e
   quiet-tells (Tell c command) r h = absurd h
   quiet-tells _ r h = tt
 
+  told-prints : (r : World) (s : ServerNo) (prints : List Printed) → Reached files epochs r → Stands events files epochs ended before r → Told r r (map (text_printed s) prints)
+  told-prints r s prints h k = let q = prints-dumb s prints in told-nothing r (map (text_printed s) prints) h k q.0 q.1
+
   quiet-acts : (acts : List Act) (r : World) → Reached files epochs r → Stands events files epochs ended before r → IsRun (steps_in acts) r → Each IsQuietAct acts → Told r (run (steps_in acts) r) (told_in acts r)
   quiet-acts [] r h k i q = told-nothing r [] h k tt refl
   quiet-acts (Does step ∷ acts) r h k i q = let first = told-step r step h k i.0 (quiet-tells step r q.0) (step-hears r _ h.facts h.talk step q.0).same_event in
       told-then r (after step r) (run (steps_in acts) (after step r)) (told_by (Does step) r) (told_in acts (after step r)) first (quiet-acts acts (after step r) first.reached first.stands i.1 q.1)
   quiet-acts (Refused refusal ∷ acts) r h k i q = told-then r r (run (steps_in acts) r) (says.RefusedEvent refusal ∷ []) (told_in acts r) (told-nothing r (says.RefusedEvent refusal ∷ []) h k (tt, tt) refl) (quiet-acts acts r h k i q.1)
   quiet-acts (Tells s fault ∷ acts) r h k i q = told-then r r (run (steps_in acts) r) (says.Outside s fault ∷ []) (told_in acts r) (told-nothing r (says.Outside s fault ∷ []) h k (tt, tt) refl) (quiet-acts acts r h k i q.1)
+  quiet-acts (Shows s prints ∷ acts) r h k i q = told-then r r (run (steps_in acts) r) (map (text_printed s) prints) (told_in acts r) (told-prints r s prints h k) (quiet-acts acts r h k i q.1)
 
   command-event : (c : ClientNo) (row : Commanded) (r : World) → (commanded c row r).event ≡ r.event
   command-event c (Refuses refusal) r = refl
@@ -129,7 +141,7 @@ module _ (events : List Event) (files : AllFiles) (epochs : ServerNo → ℕ) (e
 
   event-acts : (event : Event) (acts : List Act) (r : World) → Reached files epochs r → Stands events files epochs ended before r → IsRun (steps_in acts) r → IsUnder event acts → event_at events r.event ≡ Some event → Told r (run (steps_in acts) r) (told_in acts r)
   event-acts (kinds.Command c command) acts r h k i under e = subst (λ l. Told r (run (steps_in l) r) (told_in l r)) (sym under) (command-acts c command r h k e)
-  event-acts (kinds.Show s) acts r h k i under e = absurd under
+  event-acts (kinds.Show s) acts r h k i under e = quiet-acts acts r h k i (under-quiet (kinds.Show s) acts tt under)
   event-acts (kinds.Again c) acts r h k i under e = quiet-acts acts r h k i (under-quiet (kinds.Again c) acts tt under)
   event-acts (kinds.Deliver n) acts r h k i under e = quiet-acts acts r h k i (under-quiet (kinds.Deliver n) acts tt under)
   event-acts kinds.Settle acts r h k i under e = quiet-acts acts r h k i (under-quiet kinds.Settle acts tt under)
@@ -193,7 +205,7 @@ module _ (events : List Event) (files : AllFiles) (epochs : ServerNo → ℕ) (e
 
 -- ---- a run and its beginning
 
-steps-more : (items more : List Item) → steps_of (items ++ more) ≡ steps_of items ++ steps_of more
+pub steps-more : (items more : List Item) → steps_of (items ++ more) ≡ steps_of items ++ steps_of more
 steps-more [] more = refl
 steps-more (item ∷ items) more = ap (λ l. NextEvent ∷ steps_in item.acts ++ l) (steps-more items more) ∙ ap (λ l. NextEvent ∷ l) (sym (append_assoc (steps_in item.acts) (steps_of items) (steps_of more)))
 
@@ -201,11 +213,11 @@ events-more : (items more : List Item) → events_of (items ++ more) ≡ events_
 events-more [] more = refl
 events-more (item ∷ items) more = ap (λ l. item.event ∷ l) (events-more items more)
 
-under-split : (items more : List Item) → AreUnder (items ++ more) → AreUnder items × AreUnder more
+pub under-split : (items more : List Item) → AreUnder (items ++ more) → AreUnder items × AreUnder more
 under-split [] more h = (tt, h)
 under-split (item ∷ items) more h = let k = under-split items more h.1 in ((h.0, k.0), k.1)
 
-lines-more : (items more : List Item) (r : World) → lines_of (items ++ more) r ≡ lines_of items r ++ lines_of more (world_of items r)
+pub lines-more : (items more : List Item) (r : World) → lines_of (items ++ more) r ≡ lines_of items r ++ lines_of more (world_of items r)
 lines-more [] more r = refl
 lines-more (item ∷ items) more r = ap (λ l. at_event (r.event + 1) (told_under item r) ++ l)
     (lines-more items more (after_item item r) ∙ ap (λ (z : World). lines_of items (after_item item r) ++ lines_of more z) (sym (steps-append (steps_in item.acts) (steps_of items) (after NextEvent r))))
