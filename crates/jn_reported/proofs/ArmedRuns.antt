@@ -71,7 +71,7 @@ arm-texts s n kind (Shows t prints ∷ acts) r h = absurd (no (list_all (may_act
 
 -- ---- what an event may give
 
-pub said : (test : Text → Bool) (n : ℕ) (texts : List Text) → says test (at_event n texts) ≡ list_any test texts
+said : (test : Text → Bool) (n : ℕ) (texts : List Text) → says test (at_event n texts) ≡ list_any test texts
 said test n [] = refl
 said test n (x ∷ texts) = ap (λ (b : Bool). test x || b) (said test n texts)
 

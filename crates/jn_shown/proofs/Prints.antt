@@ -11,15 +11,17 @@ use Rattle.jn_base.specs.declared.names.LockUnit.TheVariants.{File, Block}
 use Rattle.jn_base.specs.Names.{server_eq, file_eq, block_eq}
 use Rattle.jn_base.proofs.Tells.{server_tells, file_tells, block_tells}
 use Rattle.jn_order.specs.Files.{Files, AllFiles}
+use Rattle.jn_report.specs.declared.line.When.{When}
 use Rattle.jn_report.specs.declared.line.Text.{Text}
+use Rattle.jn_report.specs.declared.line.Line.{Line}
+use Rattle.jn_rows.specs.Stable.{stable}
+use Rattle.jn_rows.specs.Worker.{commit_holder}
 use Rattle.jn_serial.specs.Lines.{says}
 use Rattle.jn_serial.specs.Shown.{IsAsIn, AllAsIn, prints_file, accounts_file, accounts_block, ShowsFiles}
 use Rattle.jn_machine.specs.Held.{file_unit}
-use Rattle.jn_protocol.specs.Steps.{AreNames}
-use Rattle.jn_reported.specs.Printing.{Printed, FileThere, PageStored, UnitLocked, text_printed, print_unit, print_one, print_blocks, print_file, print_files, file_before, block_before}
-use Rattle.jn_reported.specs.Reported.{at_event}
+use Rattle.jn_protocol.specs.World.{World, Memory}
+use Rattle.jn_reported.specs.Printing.{Printed, FileThere, PageStored, UnitLocked, text_printed, print_unit, prints_of, print_one, print_blocks, print_file, print_files, IsPrinted}
 use Rattle.jn_reported.proofs.Lists.{In, in-first, in-second, in-either}
-use Rattle.jn_reported.proofs.ArmedRuns.{said}
 
 some : {A : Type 0} {a b : A} → Some a ≡ Some b → a ≡ b
 some e = cc
@@ -46,32 +48,52 @@ same-file a b h = grind (arith, file_tells a b)
 same-block : (a b : BlockNo) → block_eq a b ≡ true → a ≡ b
 same-block a b h = grind (arith, block_tells a b)
 
--- a printed text that passes a test
-record Says (test : Text → Bool) (s : ServerNo) (prints : List Printed) : Type 0 where
-  print : Printed
-  is_in : In print prints
-  passes : test (text_printed s print) ≡ true
+-- lines of these texts, all at one place
+abbrev pub stand : When → List Text → List Line
+stand when texts = map (λ (text : Text). record { when = when; text = text }) texts
 
-module _ (n : ℕ) (s : ServerNo) (test : Text → Bool) where
-  says-it : (prints : List Printed) (x : Printed) → In x prints → test (text_printed s x) ≡ true → list_any test (map (text_printed s) prints) ≡ true
-  says-it (y ∷ prints) x (inl e) h = ap (λ (b : Bool). b || list_any test (map (text_printed s) prints)) (ap (λ (z : Printed). test (text_printed s z)) e ∙ h)
-  says-it (y ∷ prints) x (inr k) h = ap (λ (b : Bool). test (text_printed s y) || b) (says-it prints x k h) ∙ any (test (text_printed s y))
+module _ (when : When) (test : Text → Bool) where
+  -- a text that passes a test
+  pub record Passes (texts : List Text) : Type 0 where
+    pub text : Text
+    pub is_in : In text texts
+    pub passes : test text ≡ true
+
+  pub says-it : (texts : List Text) (y : Text) → In y texts → test y ≡ true → says test (stand when texts) ≡ true
+  says-it (x ∷ texts) y (inl e) h = ap (λ (b : Bool). b || says test (stand when texts)) (ap test e ∙ h)
+  says-it (x ∷ texts) y (inr k) h = ap (λ (b : Bool). test x || b) (says-it texts y k h) ∙ any (test x)
     where
       any : (b : Bool) → (b || true) ≡ true
       any b = grind arith
-  says-it [] x k h = absurd k
+  says-it [] y k h = absurd k
 
-  said-it : (prints : List Printed) → list_any test (map (text_printed s) prints) ≡ true → Says test s prints
+  pub said-it : (texts : List Text) → says test (stand when texts) ≡ true → Passes texts
   said-it [] h = absurd (not-both true refl (sym h))
-  said-it (y ∷ prints) h = by (test (text_printed s y)) refl h (said-it prints)
+  said-it (x ∷ texts) h = by (test x) refl h (said-it texts)
     where
-      by : (b : Bool) → test (text_printed s y) ≡ b → (b || list_any test (map (text_printed s) prints)) ≡ true → (list_any test (map (text_printed s) prints) ≡ true → Says test s prints) → Says test s (y ∷ prints)
-      by true e k on = record { print = y; is_in = inl refl; passes = e }
-      by false e k on = let q = on k in record { print = q.print; is_in = inr q.is_in; passes = q.passes }
+      by : (b : Bool) → test x ≡ b → (b || says test (stand when texts)) ≡ true → (says test (stand when texts) ≡ true → Passes texts) → Passes (x ∷ texts)
+      by true e k on = record { text = x; is_in = inl refl; passes = e }
+      by false e k on = let q = on k in record { text = q.text; is_in = inr q.is_in; passes = q.passes }
 
-  -- what no line says isn't printed
-  unsaid : (prints : List Printed) (x : Printed) → says test (at_event n (map (text_printed s) prints)) ≡ false → In x prints → test (text_printed s x) ≡ true → ⊥
-  unsaid prints x silent k h = not-both _ (says-it prints x k h) (sym (said test n (map (text_printed s) prints)) ∙ silent)
+pub all-as : (files : AllFiles) (when : When) (texts : List Text) → ((y : Text) → In y texts → IsAsIn files y) → AllAsIn files (stand when texts)
+all-as files when [] h = tt
+all-as files when (x ∷ texts) h = (h x (inl refl), all-as files when texts (λ y k. h y (inr k)))
+
+-- a print, by its text
+pub record PrintOf (s : ServerNo) (prints : List Printed) (y : Text) : Type 0 where
+  pub print : Printed
+  pub is_in : In print prints
+  pub text : text_printed s print ≡ y
+
+pub in-texts : (s : ServerNo) (prints : List Printed) (x : Printed) → In x prints → In (text_printed s x) (map (text_printed s) prints)
+in-texts s (y ∷ prints) x (inl e) = inl (ap (text_printed s) e)
+in-texts s (y ∷ prints) x (inr k) = inr (in-texts s prints x k)
+in-texts s [] x k = absurd k
+
+pub from-texts : (s : ServerNo) (prints : List Printed) (y : Text) → In y (map (text_printed s) prints) → PrintOf s prints y
+from-texts s [] y k = absurd k
+from-texts s (x ∷ prints) y (inl e) = record { print = x; is_in = inl refl; text = e }
+from-texts s (x ∷ prints) y (inr k) = let q = from-texts s prints y k in record { print = q.print; is_in = inr q.is_in; text = q.text }
 
 -- ---- what is printed of a unit
 
@@ -188,65 +210,77 @@ module _ (prints : LockUnit → Option Printed) where
 
 -- ---- what is printed, and the files
 
-module _ (n : ℕ) (files : AllFiles) (s : ServerNo) (held : LockUnit → Option Tid) (found : Files) (same : (u : LockUnit) → held u ≡ None → held (file_unit u) ≡ None → found u ≡ files s u)
-    (fs : List FileNo) (blocks : FileNo → List BlockNo) where
-  abbrev at : LockUnit → Option Printed
-  at u = print_unit u (held u) (found u)
+-- a server whose files are as found, but for what is locked
+abbrev pub AreSame : AllFiles → ServerNo → World → Type 0
+AreSame files s w = (m : Memory) (u : LockUnit) → w.memory s ≡ Some m → commit_holder u m.worker ≡ None → commit_holder (file_unit u) m.worker ≡ None → (stable (w.found s)).files u ≡ files s u
 
-  abbrev all : List Printed
-  all = print_files at blocks fs
+module _ (files : AllFiles) (s : ServerNo) (w : World) (same : AreSame files s w) (prints : List Printed) (h : IsPrinted s w prints) where
+  abbrev held : LockUnit → Option Tid
+  held u = commit_holder u h.memory.worker
+
+  abbrev found : Files
+  found = (stable (w.found s)).files
+
+  abbrev at : LockUnit → Option Printed
+  at = prints_of s w h.memory
+
+  is-same : (u : LockUnit) → held u ≡ None → held (file_unit u) ≡ None → found u ≡ files s u
+  is-same u = same h.memory u h.up
+
+  source : (x : Printed) → In x prints → Source at h.blocks x
+  source x k = from-print at h.blocks h.files x (subst (λ (l : List Printed). In x l) h.printed k)
 
   file-free : (f g : FileNo) → at (File f) ≡ Some (FileThere g) → held (File f) ≡ None
   file-free f g e = (print-so (File f) (held (File f)) (found (File f)) (FileThere g) e).1.0
 
   -- what is printed is there
-  as-in : (x : Printed) → Source at blocks x → IsAsIn files (text_printed s x)
-  as-in (FileThere f) src = let k = print-so src.unit (held src.unit) (found src.unit) (FileThere f) src.is in let free = ap held (sym k.0) ∙ k.1.0 in
-      ap is_some (sym (same (File f) free free) ∙ ap found (sym k.0)) ∙ k.1.1
-  as-in (PageStored f p bytes) src = let k = print-so src.unit (held src.unit) (found src.unit) (PageStored f p bytes) src.is in let file = subst (λ (u : LockUnit). HasFile at blocks u) k.0 src.file in
-      sym (same (Block f p) (ap held (sym k.0) ∙ k.1.0) (file-free f file.0 file.1)) ∙ ap found (sym k.0) ∙ k.1.1
-  as-in (UnitLocked u T) src = tt
+  so-there : (x : Printed) → Source at h.blocks x → IsAsIn files (text_printed s x)
+  so-there (FileThere f) src = let k = print-so src.unit (held src.unit) (found src.unit) (FileThere f) src.is in let free = ap held (sym k.0) ∙ k.1.0 in
+      ap is_some (sym (is-same (File f) free free) ∙ ap found (sym k.0)) ∙ k.1.1
+  so-there (PageStored f p bytes) src = let k = print-so src.unit (held src.unit) (found src.unit) (PageStored f p bytes) src.is in let file = subst (λ (u : LockUnit). HasFile at h.blocks u) k.0 src.file in
+      sym (is-same (Block f p) (ap held (sym k.0) ∙ k.1.0) (file-free f file.0 file.1)) ∙ ap found (sym k.0) ∙ k.1.1
+  so-there (UnitLocked u T) src = tt
 
-  all-as : (xs : List Printed) → ((x : Printed) → In x xs → IsAsIn files (text_printed s x)) → AllAsIn files (at_event n (map (text_printed s) xs))
-  all-as [] h = tt
-  all-as (x ∷ xs) h = (h x (inl refl), all-as xs (λ y k. h y (inr k)))
+  pub is-there : (x : Printed) → In x prints → IsAsIn files (text_printed s x)
+  is-there x k = so-there x (source x k)
 
-  module _ (are_files : AreNames file_eq file_before (λ (f : FileNo). at (File f)) fs) where
-    file-named : (f : FileNo) (x : Printed) → at (File f) ≡ Some x → In f fs
-    file-named f x e = in-names file_eq same-file fs f (are_files.each f ∙ ap is_some e)
+  -- a file whose line is printed is there
+  file-there : (f : FileNo) (x : Printed) → Source at h.blocks x → prints_file s f (text_printed s x) ≡ true → at (File f) ≡ Some (FileThere f)
+  file-there f (FileThere g) src e = let k = print-so src.unit (held src.unit) (found src.unit) (FileThere g) src.is in
+      subst (λ (j : FileNo). at (File j) ≡ Some (FileThere j)) (same-file g f (second (server_eq s s) (file_eq g f) e)) (ap at (sym k.0) ∙ src.is)
+    where
+      second : (a b : Bool) → (a && b) ≡ true → b ≡ true
+      second a b k = grind arith
+  file-there f (PageStored g p bytes) src e = absurd (not-both true refl (sym e))
+  file-there f (UnitLocked u T) src e = absurd (not-both true refl (sym e))
 
-    no-file : (f : FileNo) → says (accounts_file s f) (at_event n (map (text_printed s) all)) ≡ false → files s (File f) ≡ None
+  -- lines that say all that is printed, and print no other file of this server
+  module _ (lines : List Line) (as-in : AllAsIn files lines) (heard : (test : Text → Bool) (x : Printed) → In x prints → test (text_printed s x) ≡ true → says test lines ≡ true)
+      (only : (f : FileNo) → says (prints_file s f) lines ≡ true → (x : Printed) × (In x prints × (prints_file s f (text_printed s x) ≡ true))) where
+    file-named : (f : FileNo) (x : Printed) → at (File f) ≡ Some x → In f h.files
+    file-named f x e = in-names file_eq same-file h.files f (h.are_files.each f ∙ ap is_some e)
+
+    is-printed : (x : Printed) → In x (print_files at h.blocks h.files) → In x prints
+    is-printed x k = subst (λ (l : List Printed). In x l) (sym h.printed) k
+
+    no-file : (f : FileNo) → says (accounts_file s f) lines ≡ false → files s (File f) ≡ None
     no-file f silent = by (at (File f)) refl
       where
         by : (o : Option Printed) → at (File f) ≡ o → files s (File f) ≡ None
-        by (Some x) e = absurd (unsaid n s (accounts_file s f) all x silent (in-print at blocks fs f x (file-named f x e) e) (accounts-file s f (held (File f)) (found (File f)) x e))
-        by None e = let k = no-print (File f) (held (File f)) (found (File f)) e in sym (same (File f) k.0 k.0) ∙ k.1
+        by (Some x) e = absurd (not-both _ (heard (accounts_file s f) x (is-printed x (in-print at h.blocks h.files f x (file-named f x e) e)) (accounts-file s f (held (File f)) (found (File f)) x e)) silent)
+        by None e = let k = no-print (File f) (held (File f)) (found (File f)) e in sym (is-same (File f) k.0 k.0) ∙ k.1
 
-    -- a file whose line is printed is there
-    file-there : (f : FileNo) (x : Printed) → Source at blocks x → prints_file s f (text_printed s x) ≡ true → at (File f) ≡ Some (FileThere f)
-    file-there f (FileThere g) src h = let k = print-so src.unit (held src.unit) (found src.unit) (FileThere g) src.is in
-        subst (λ (j : FileNo). at (File j) ≡ Some (FileThere j)) (same-file g f (second (server_eq s s) (file_eq g f) h)) (ap at (sym k.0) ∙ src.is)
+    no-block : (f : FileNo) (p : BlockNo) → says (prints_file s f) lines ≡ true → says (accounts_block s f p) lines ≡ false → files s (Block f p) ≡ None
+    no-block f p told silent = by (at (Block f p)) refl
       where
-        second : (a b : Bool) → (a && b) ≡ true → b ≡ true
-        second a b k = grind arith
-    file-there f (PageStored g p bytes) src h = absurd (not-both true refl (sym h))
-    file-there f (UnitLocked u T) src h = absurd (not-both true refl (sym h))
+        there : at (File f) ≡ Some (FileThere f)
+        there = let x = only f told in file-there f x.0 (source x.0 x.1.0) x.1.1
 
-    module _ (are_blocks : (f : FileNo) → at (File f) ≡ Some (FileThere f) → AreNames block_eq block_before (λ (p : BlockNo). at (Block f p)) (blocks f)) where
-      no-block : (f : FileNo) (p : BlockNo) → says (prints_file s f) (at_event n (map (text_printed s) all)) ≡ true → says (accounts_block s f p) (at_event n (map (text_printed s) all)) ≡ false → files s (Block f p) ≡ None
-      no-block f p told silent = by (at (Block f p)) refl
-        where
-          it : Says (prints_file s f) s all
-          it = said-it n s (prints_file s f) all (sym (said (prints_file s f) n (map (text_printed s) all)) ∙ told)
+        by : (o : Option Printed) → at (Block f p) ≡ o → files s (Block f p) ≡ None
+        by (Some x) e = absurd (not-both _ (heard (accounts_block s f p) x
+            (is-printed x (in-print-block at h.blocks h.files f x (file-named f (FileThere f) there) there (in-blocks at f (h.blocks f) p x (in-names block_eq same-block (h.blocks f) p ((h.are_blocks f there).each p ∙ ap is_some e)) e)))
+            (accounts-block s f p (held (Block f p)) (found (Block f p)) x e)) silent)
+        by None e = let k = no-print (Block f p) (held (Block f p)) (found (Block f p)) e in sym (is-same (Block f p) k.0 (file-free f f there)) ∙ k.1
 
-          is_there : at (File f) ≡ Some (FileThere f)
-          is_there = file-there f it.print (from-print at blocks fs it.print it.is_in) it.passes
-
-          by : (o : Option Printed) → at (Block f p) ≡ o → files s (Block f p) ≡ None
-          by (Some x) e = absurd (unsaid n s (accounts_block s f p) all x silent
-              (in-print-block at blocks fs f x (file-named f (FileThere f) is_there) is_there (in-blocks at f (blocks f) p x (in-names block_eq same-block (blocks f) p ((are_blocks f is_there).each p ∙ ap is_some e)) e))
-              (accounts-block s f p (held (Block f p)) (found (Block f p)) x e))
-          by None e = let k = no-print (Block f p) (held (Block f p)) (found (Block f p)) e in sym (same (Block f p) k.0 (file-free f f is_there)) ∙ k.1
-
-      pub prints-shown : ShowsFiles files s (at_event n (map (text_printed s) all))
-      prints-shown = record { printed = all-as all (λ x k. as-in x (from-print at blocks fs x k)); no_other_file = no-file; no_other_block = no-block }
+    pub shows-files : ShowsFiles files s lines
+    shows-files = record { printed = as-in; no_other_file = no-file; no_other_block = no-block }

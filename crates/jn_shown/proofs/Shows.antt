@@ -3,7 +3,7 @@ use Rattle.std.proofs.Common.{◌≡◌, ℕ, zero, suc, ◌+◌, ◌≤◌, Boo
 use Rattle.std.specs.Prelude.{◌&&◌, map}
 use Rattle.std.specs.List.{list_all}
 use Rattle.jn_base.specs.declared.names.ServerNo.{ServerNo}
-use Rattle.jn_base.specs.declared.names.LockUnit.{LockUnit}
+use Rattle.jn_base.specs.declared.names.FileNo.{FileNo}
 use Rattle.jn_base.specs.Names.{server_eq}
 use Rattle.jn_base.proofs.Tells.{server_tells}
 use Rattle.jn_order.specs.Files.{AllFiles}
@@ -17,7 +17,7 @@ use Rattle.jn_rows.specs.Worker.{commit_holder}
 use Rattle.jn_machine.specs.Held.{file_unit}
 use Rattle.jn_serial.specs.Lines.{lines_at, lines_before, says as says_it, event_at, history_of}
 use Rattle.jn_serial.specs.Order.{replay}
-use Rattle.jn_serial.specs.Shown.{is_no_show, ShowsFiles, ShownSoFar}
+use Rattle.jn_serial.specs.Shown.{IsAsIn, prints_file, is_no_show, ShowsFiles, ShownSoFar}
 use Rattle.jn_serial.specs.Follows.{nothing_asked}
 use Rattle.jn_serial.proofs.Growth.{AreWithin, AreWithin-wider}
 use Rattle.jn_serial.proofs.Orders.{lines_before-append}
@@ -31,20 +31,30 @@ use Rattle.jn_reported.proofs.Fitting.{asked_of}
 use Rattle.jn_reported.proofs.Following.{event-follows, items-follow, lines-here, run-split, texts-within}
 use Rattle.jn_talk.specs.Agreement.{AreAsTold}
 use Rattle.jn_talk.proofs.Reports.{steps-append, steps-more, under-split, lines-more, beginning-as-told}
-use Rattle.jn_shown.proofs.Prints.{prints-shown}
+use Rattle.jn_reported.proofs.Lists.{In}
+use Rattle.jn_shown.proofs.Prints.{AreSame, says-it, said-it, all-as, in-texts, from-texts, is-there, shows-files}
 
 not-both : (b : Bool) → b ≡ true → b ≡ false → ⊥
 not-both b e f = grind arith
 
 -- ---- the acts of a show
 
-module _ (n : ℕ) (files : AllFiles) (s : ServerNo) (w : World) (same : (m : Memory) (u : LockUnit) → w.memory s ≡ Some m → commit_holder u m.worker ≡ None → commit_holder (file_unit u) m.worker ≡ None → (stable (w.found s)).files u ≡ files s u) where
+module _ (n : ℕ) (files : AllFiles) (s : ServerNo) (w : World) (same : AreSame files s w) where
   abbrev Shown : List Text → Type 0
   Shown texts = ShowsFiles files s (at_event n texts)
 
-  print-shown : (prints : List Printed) → IsPrinted s w prints → Shown (map (text_printed s) prints)
-  print-shown prints h = subst (λ (l : List Printed). Shown (map (text_printed s) l)) (sym h.printed)
-      (prints-shown n files s (λ u. commit_holder u h.memory.worker) ((stable (w.found s)).files) (λ u. same h.memory u h.up) h.files h.blocks h.are_files h.are_blocks)
+  module _ (prints : List Printed) (h : IsPrinted s w prints) where
+    abbrev texts : List Text
+    texts = map (text_printed s) prints
+
+    there : (y : Text) → In y texts → IsAsIn files y
+    there y k = let x = from-texts s prints y k in subst (IsAsIn files) x.text (is-there files s w same prints h x.print x.is_in)
+
+    only : (f : FileNo) → says_it (prints_file s f) (at_event n texts) ≡ true → (x : Printed) × (In x prints × (prints_file s f (text_printed s x) ≡ true))
+    only f e = let y = said-it (AtEvent n) (prints_file s f) texts e in let x = from-texts s prints y.text y.is_in in (x.print, (x.is_in, ap (prints_file s f) x.text ∙ y.passes))
+
+    print-shown : Shown (map (text_printed s) prints)
+    print-shown = shows-files files s w same prints h (at_event n texts) (all-as files (AtEvent n) texts there) (λ test x k e. says-it (AtEvent n) test texts (text_printed s x) (in-texts s prints x k) e) only
 
   first-of : (a b : Bool) → (a && b) ≡ true → a ≡ true
   first-of a b k = grind arith

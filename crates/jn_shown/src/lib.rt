@@ -1,18 +1,20 @@
 //! What the shows of each run of the whole system print is what the commits before them leave.
 #![tactic(auto)]
 
-ghost use Rattle.std.specs.Prelude.{◌≡◌, ℕ, List, [], ◌∷◌, None};
+ghost use Rattle.std.specs.Prelude.{◌≡◌, ◌<◌, ℕ, List, [], ◌∷◌, None};
 ghost use Rattle.jn_base.specs.declared.names.ServerNo.{ServerNo};
 ghost use Rattle.jn_base.specs.declared.names.LockUnit.TheVariants.{File};
 ghost use Rattle.jn_order.specs.Files.{AllFiles, no_files};
-ghost use Rattle.jn_report.specs.declared.line.When.TheVariants.{Event as AtEvent};
+ghost use Rattle.jn_report.specs.declared.line.When.TheVariants.{Event as AtEvent, End as AtEnd};
 ghost use Rattle.jn_report.specs.declared.line.Text.TheVariants as says;
 ghost use Rattle.jn_rows.specs.Stable.{stable};
-ghost use Rattle.jn_serial.specs.Lines.{lines_at};
-ghost use Rattle.jn_serial.specs.Shown.{ShownSoFar};
+ghost use Rattle.jn_serial.specs.Lines.{lines_at, history_of};
+ghost use Rattle.jn_serial.specs.Order.{replay, Agrees};
+ghost use Rattle.jn_serial.specs.Shown.{ShowsFiles, ShownSoFar};
 ghost use Rattle.jn_protocol.specs.World.{opening};
 ghost use Rattle.jn_protocol.specs.Example.{the_server, the_file, the_transaction, start};
 ghost use Rattle.jn_reported.specs.Reported.{Item, events_of, lines_of, world_of, IsReported};
+ghost use Rattle.jn_reported.specs.Ending.{Ending, IsEnding, lines_to_end};
 ghost use Rattle.jn_shown.specs.Example.{a_commit_is_named, a_file_is_shown, locks_are_passed};
 
 /// Whatever is done under the events of a schedule, stops and restarts among it: each show that isn't refused or stopped
@@ -21,6 +23,16 @@ ghost use Rattle.jn_shown.specs.Example.{a_commit_is_named, a_file_is_shown, loc
 pub fn shows_are_of_commits()
     ensures { (servers : ℕ) (files : AllFiles) (epochs : ServerNo → ℕ) (items : List Item) → IsReported items (opening servers files epochs)
         → ShownSoFar files (events_of items) (lines_of items (opening servers files epochs)) }
+{}
+
+/// The end of such a run prints of each server the files and blocks that all commits leave, but for those that it names as
+/// locked; and with its lines too each committed transaction is answered what those before it left.
+pub fn the_end_is_of_commits()
+    ensures shown { (servers : ℕ) (files : AllFiles) (epochs : ServerNo → ℕ) (items : List Item) (e : Ending) → IsReported items (opening servers files epochs) → IsEnding servers e (world_of items (opening servers files epochs))
+        → (s : ServerNo) → s.0 < servers
+        → ShowsFiles (replay files (events_of items) (lines_to_end servers items e (opening servers files epochs)) (history_of (lines_to_end servers items e (opening servers files epochs)))) s (lines_at AtEnd (lines_to_end servers items e (opening servers files epochs))) }
+    ensures agrees { (servers : ℕ) (files : AllFiles) (epochs : ServerNo → ℕ) (items : List Item) (e : Ending) → IsReported items (opening servers files epochs) → IsEnding servers e (world_of items (opening servers files epochs))
+        → Agrees files (events_of items) (lines_to_end servers items e (opening servers files epochs)) }
 {}
 
 /// There are such runs: here a client makes a file and its transaction is named; a show before it is carried out prints the
