@@ -1,3 +1,4 @@
 pub mod Prints
 pub mod Shows
 pub mod Ends
+pub mod Examples

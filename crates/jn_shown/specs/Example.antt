@@ -1,13 +1,14 @@
--- A run in which a server shows its files while one of them is locked, and once it is there.
-use Rattle.std.specs.Prelude.{List, [], ◌∷◌, ◌++◌}
+-- Runs in which a server shows its files while one of them is locked and once it is there, and in which it does so at the end.
+use Rattle.std.specs.Prelude.{true, List, [], ◌∷◌, ◌++◌}
 use Rattle.jn_base.specs.declared.op.Op.TheVariants as ops
 use Rattle.jn_base.specs.declared.op.Command.TheVariants.{Begin, Open, Do, End}
 use Rattle.jn_base.specs.declared.names.LockUnit.TheVariants.{File}
 use Rattle.jn_schedule.specs.declared.Event.TheVariants as events
-use Rattle.jn_protocol.specs.Steps.{Work}
-use Rattle.jn_protocol.specs.Example.{the_server, the_file, the_transaction, much, delivered}
+use Rattle.jn_protocol.specs.Steps.{Work, Nudge}
+use Rattle.jn_protocol.specs.Example.{the_server, the_file, the_transaction, the_work, much, delivered}
 use Rattle.jn_reported.specs.Printing.{Printed, FileThere, UnitLocked}
 use Rattle.jn_reported.specs.Reported.{Does, Shows, Item}
+use Rattle.jn_reported.specs.Ending.{Ending}
 use Rattle.jn_talk.specs.Example.{commanded, handed}
 
 abbrev pub shown : List Printed → Item
@@ -31,3 +32,11 @@ a_file_is_shown = a_commit_is_named ++ shown (UnitLocked (File the_file) the_tra
 -- a show that looks at no locks prints what is found there, which is nothing yet
 abbrev pub locks_are_passed : List Item
 locks_are_passed = a_commit_is_named ++ shown [] ∷ []
+
+-- the restart finds the commit, which is carried out while the world settles
+abbrev pub an_end : Ending
+an_end = record {
+  comebacks = record { pick = λ n. true; works = the_work ∷ []; tids = the_transaction ∷ [] } ∷ [];
+  settling = Nudge the_server ∷ delivered 12 ∷ Work the_server much ∷ Work the_server much ∷ delivered 13 ∷ [];
+  prints = (FileThere the_file ∷ []) ∷ [];
+}

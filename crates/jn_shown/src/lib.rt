@@ -15,7 +15,7 @@ ghost use Rattle.jn_protocol.specs.World.{opening};
 ghost use Rattle.jn_protocol.specs.Example.{the_server, the_file, the_transaction, start};
 ghost use Rattle.jn_reported.specs.Reported.{Item, events_of, lines_of, world_of, IsReported};
 ghost use Rattle.jn_reported.specs.Ending.{Ending, IsEnding, lines_to_end};
-ghost use Rattle.jn_shown.specs.Example.{a_commit_is_named, a_file_is_shown, locks_are_passed};
+ghost use Rattle.jn_shown.specs.Example.{a_commit_is_named, a_file_is_shown, locks_are_passed, an_end};
 
 /// Whatever is done under the events of a schedule, stops and restarts among it: each show that isn't refused or stopped
 /// prints of its server the files and blocks that the commits before it leave, run one after another from the opening files,
@@ -41,6 +41,14 @@ pub fn a_file_is_shown_after_it_is_locked()
     ensures run { IsReported a_file_is_shown start }
     ensures locked { lines_at (AtEvent 14) (lines_of a_file_is_shown start) ≡ record { when = AtEvent 14; text = says.Locked the_server (File the_file) the_transaction } ∷ [] }
     ensures there { lines_at (AtEvent 16) (lines_of a_file_is_shown start) ≡ record { when = AtEvent 16; text = says.File the_server the_file } ∷ [] }
+{}
+
+/// There are such ends: here the client never hears of its commit, and the file is printed once it is made.
+pub fn a_run_ends()
+    ensures run { IsReported a_commit_is_named start }
+    ensures ending { IsEnding 1 an_end (world_of a_commit_is_named start) }
+    ensures lines { lines_at AtEnd (lines_to_end 1 a_commit_is_named an_end start)
+        ≡ record { when = AtEnd; text = says.Down the_server } ∷ record { when = AtEnd; text = says.Up the_server 1 } ∷ record { when = AtEnd; text = says.File the_server the_file } ∷ record { when = AtEnd; text = says.Commits 1 } ∷ [] }
 {}
 
 /// A show that looks at no locks is wrong: what is found at the server isn't what the commits leave, while one of them is

@@ -11,18 +11,8 @@ use Rattle.jn_protocol.specs.Example.{the_server, the_file, the_transaction, sta
 use Rattle.jn_reported.specs.Printing.{FileThere, UnitLocked, print_unit, IsPrinted}
 use Rattle.jn_reported.specs.Reported.{world_of, after_item}
 use Rattle.jn_shown.specs.Example.{a_commit_is_named, carried_out, shown}
+use Rattle.jn_shown.proofs.Examples.{memory_in, is-up, once_there, no_block}
 use Rattle.jn_shown.proofs.a_file_is_shown_after_it_is_locked.Goals as goal
-
-abbrev memory_in : Option Memory → Memory
-memory_in None = new_memory the_server 0
-memory_in (Some m) = m
-
-is-up : (o : Option Memory) → is_some o ≡ true → o ≡ Some (memory_in o)
-is-up None h = absurd (not_both h)
-  where
-    not_both : false ≡ true → ⊥
-    not_both e = grind arith
-is-up (Some m) h = refl
 
 abbrev named : World
 named = after NextEvent (world_of a_commit_is_named start)
@@ -33,14 +23,6 @@ over = after NextEvent (after_item carried_out (after_item (shown (UnitLocked (F
 while_locked : (f : FileNo) (b : Bool) → (b || false) ≡ is_some (print_unit (File f) (if b || false then Some the_transaction else None) None)
 while_locked f true = refl
 while_locked f false = refl
-
-once_there : (f : FileNo) (b : Bool) → (b || false) ≡ is_some (print_unit (File f) None (or_else (if b then Some (Some there) else None) None))
-once_there f true = refl
-once_there f false = refl
-
-no_block : (f : FileNo) (p : BlockNo) (b : Bool) → false ≡ is_some (print_unit (Block f p) None (or_else (if b then Some None else None) None))
-no_block f p true = refl
-no_block f p false = refl
 
 first : IsPrinted the_server named (UnitLocked (File the_file) the_transaction ∷ [])
 first = record {
