@@ -1,9 +1,12 @@
 -- The end of a run prints what all commits leave.
 use Rattle.std.proofs.Common.{◌≡◌, ◌⊎◌, inl, inr, ℕ, zero, suc, ◌+◌, ◌≤◌, ◌<◌, Bool, true, false, List, [], ◌∷◌, ◌++◌, append-nil, append_assoc, length, Option, Some, None, refl, sym, ◌∙◌, ap, subst, arith}
-use Rattle.std.specs.Prelude.{◌&&◌, map}
+use Rattle.std.specs.Prelude.{◌&&◌, map, nat_lt}
+use Rattle.std.proofs.lemmas.Bool.Decides.{nat_tests}
 use Rattle.std.specs.List.{list_all}
 use Rattle.jn_base.specs.declared.names.ServerNo.{ServerNo}
 use Rattle.jn_base.specs.declared.names.FileNo.{FileNo}
+use Rattle.jn_base.specs.declared.names.LockUnit.{LockUnit}
+use Rattle.jn_base.specs.declared.names.LockUnit.TheVariants.{File, Block}
 use Rattle.jn_base.specs.Names.{server_eq, file_eq}
 use Rattle.jn_base.proofs.Tells.{server_tells}
 use Rattle.jn_order.specs.Files.{AllFiles}
@@ -22,15 +25,16 @@ use Rattle.jn_moves.proofs.Mirrored.{commits-more}
 use Rattle.jn_protocol.specs.World.{World, opening, commits_in}
 use Rattle.jn_protocol.specs.Steps.{Step, NextEvent, Tell, Dismiss, Crash, Restart, CloseClients, Deliver, Work, Nudge, Again, after, run, IsRun}
 use Rattle.jn_reported.specs.Printing.{Printed, FileThere, PageStored, UnitLocked, text_printed, IsPrinted}
-use Rattle.jn_reported.specs.Reported.{Does, Item, events_of, told_by, told_under, world_of, after_item, at_event, lines_of, IsReported}
+use Rattle.jn_reported.specs.Reported.{Does, Item, events_of, steps_of, told_by, told_under, world_of, after_item, at_event, lines_of, IsReported}
 use Rattle.jn_reported.specs.Ending.{Comeback, Ending, servers_from, restarts_from, steps_at_end, world_at_end, settles, ArePrinted, IsEnding, told_by_steps, texts_from, at_end, counted, lines_to_end}
 use Rattle.jn_reported.proofs.Lists.{In, Each, in-first, in-second, in-either, each-in, each-append}
-use Rattle.jn_reported.proofs.Reached.{Reached, LineFact, next-reached}
+use Rattle.jn_reported.proofs.Reached.{Reached, LineFact, next-reached, opening-reached}
 use Rattle.jn_reported.proofs.Naming.{adds}
 use Rattle.jn_talk.specs.Agreement.{AreAsTold}
 use Rattle.jn_talk.proofs.Tellings.{texts_of}
 use Rattle.jn_talk.proofs.Quiet.{AreDumb}
-use Rattle.jn_talk.proofs.Reports.{IsCalm, prints-dumb, texts-more, begin-reached, end-reached, end-as-told}
+use Rattle.jn_talk.proofs.Reports.{IsCalm, prints-dumb, texts-more, begin-reached, end-reached, end-ops, end-as-told}
+use Rattle.jn_shown.proofs.Within.{AllTell, Within, IsAt, run-within, items-tell, calm-tell, opening-within, ops-at, replay-same}
 use Rattle.jn_shown.proofs.Prints.{AreSame, stand, says-it, said-it, all-as, in-texts, from-texts, is-there, shows-files}
 
 not-both : (b : Bool) → b ≡ true → b ≡ false → ⊥
@@ -341,3 +345,35 @@ module _ (servers : ℕ) (files : AllFiles) (epochs : ServerNo → ℕ) (items :
 
   pub end-agrees : AreAsTold files (events_of items) lines lines (world_at_end servers e w)
   end-agrees = as-told
+
+  -- a server that there isn't has no files
+  beyond : ((s : ServerNo) (u : LockUnit) → servers ≤ s.0 → files s u ≡ None) → (s : ServerNo) → servers ≤ s.0 → (u : LockUnit) → replay files (events_of items) lines (history_of lines) s u ≡ None
+  beyond few s out u = ap (λ f. f u) (replay-same servers (events_of items) lines (history_of lines) files s out
+      (λ T. subst (λ l. Each (IsAt servers (events_of items)) l) (sym (end-ops servers files epochs items h steps k.steps calm (printed ++ count) silent.0 silent.1 lines same-texts T)) (ops-at servers (events_of items) T None (world_at_end servers e w).lines within.lines))) ∙ few s u out
+    where
+      then-tell : AllTell servers (events_of items) files epochs (steps_of items) start
+      then-tell = items-tell servers (events_of items) files epochs items start [] [] (sym (append-nil (events_of items))) refl (opening-reached files epochs servers) h.steps h.under
+
+      before : Within servers (events_of items) (world_of items start)
+      before = run-within servers (events_of items) files epochs (steps_of items) start (opening-reached files epochs servers) h.steps then-tell (opening-within servers (events_of items) files epochs)
+
+      within : Within servers (events_of items) (world_at_end servers e (world_of items start))
+      within = run-within servers (events_of items) files epochs (steps_at_end servers e) (world_of items start) (begin-reached servers files epochs items h steps k.steps calm (printed ++ count) silent.0 silent.1) k.steps
+          (calm-tell servers (events_of items) files epochs (steps_at_end servers e) (world_of items start) calm) before
+
+  pub end-all : ((s : ServerNo) (u : LockUnit) → servers ≤ s.0 → files s u ≡ None) → (s : ServerNo) → ShowsFiles (replay files (events_of items) lines (history_of lines)) s (lines_at AtEnd lines)
+  end-all few s = by (nat_lt s.0 servers) refl
+    where
+      below : nat_lt s.0 servers ≡ true → s.0 < servers
+      below q = grind (arith, nat_tests)
+
+      not-below : nat_lt s.0 servers ≡ false → servers ≤ s.0
+      not-below q = grind (arith, nat_tests)
+
+      by : (b : Bool) → nat_lt s.0 servers ≡ b → ShowsFiles (replay files (events_of items) lines (history_of lines)) s (lines_at AtEnd lines)
+      by true q = end-shown s (below q)
+      by false q = record {
+        printed = subst (λ l. AllAsIn (replay files (events_of items) lines (history_of lines)) l) (sym lines-then-end) (all-files (replay files (events_of items) lines (history_of lines)) (world_at_end servers e w) (λ t. as-told.unlocked t) told_then of-steps e.prints k.prints _);
+        no_other_file = λ f z. beyond few s (not-below q) (File f);
+        no_other_block = λ f p y z. beyond few s (not-below q) (Block f p);
+      }

@@ -1,8 +1,9 @@
 //! What the shows of each run of the whole system print is what the commits before them leave.
 #![tactic(auto)]
 
-ghost use Rattle.std.specs.Prelude.{◌≡◌, ◌<◌, ℕ, List, [], ◌∷◌, None};
+ghost use Rattle.std.specs.Prelude.{◌≡◌, ◌<◌, ◌≤◌, ℕ, List, [], ◌∷◌, None};
 ghost use Rattle.jn_base.specs.declared.names.ServerNo.{ServerNo};
+ghost use Rattle.jn_base.specs.declared.names.LockUnit.{LockUnit};
 ghost use Rattle.jn_base.specs.declared.names.LockUnit.TheVariants.{File};
 ghost use Rattle.jn_order.specs.Files.{AllFiles, no_files};
 ghost use Rattle.jn_report.specs.declared.line.When.TheVariants.{Event as AtEvent, End as AtEnd};
@@ -30,6 +31,9 @@ pub fn shows_are_of_commits()
 pub fn the_end_is_of_commits()
     ensures shown { (servers : ℕ) (files : AllFiles) (epochs : ServerNo → ℕ) (items : List Item) (e : Ending) → IsReported items (opening servers files epochs) → IsEnding servers e (world_of items (opening servers files epochs))
         → (s : ServerNo) → s.0 < servers
+        → ShowsFiles (replay files (events_of items) (lines_to_end servers items e (opening servers files epochs)) (history_of (lines_to_end servers items e (opening servers files epochs)))) s (lines_at AtEnd (lines_to_end servers items e (opening servers files epochs))) }
+    ensures all { (servers : ℕ) (files : AllFiles) (epochs : ServerNo → ℕ) (items : List Item) (e : Ending) → IsReported items (opening servers files epochs) → IsEnding servers e (world_of items (opening servers files epochs))
+        → ((s : ServerNo) (u : LockUnit) → servers ≤ s.0 → files s u ≡ None) → (s : ServerNo)
         → ShowsFiles (replay files (events_of items) (lines_to_end servers items e (opening servers files epochs)) (history_of (lines_to_end servers items e (opening servers files epochs)))) s (lines_at AtEnd (lines_to_end servers items e (opening servers files epochs))) }
     ensures agrees { (servers : ℕ) (files : AllFiles) (epochs : ServerNo → ℕ) (items : List Item) (e : Ending) → IsReported items (opening servers files epochs) → IsEnding servers e (world_of items (opening servers files epochs))
         → Agrees files (events_of items) (lines_to_end servers items e (opening servers files epochs)) }

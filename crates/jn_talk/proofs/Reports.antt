@@ -323,8 +323,11 @@ module _ (servers : ℕ) (files : AllFiles) (epochs : ServerNo → ℕ) (items :
   pub end-reached : Reached files epochs (run steps (world_of items begun))
   end-reached = last-part.reached
 
+  pub end-ops : (lines : List Line) → texts_of lines ≡ texts_of (lines_of items begun) ++ (told_by_steps steps (world_of items begun) ++ more) → (T : Tid) → ops_of its_events lines T ≡ ops_in its_events T None (run steps (world_of items begun)).lines
+  end-ops lines is T = ops-of-texts its_events T None lines ∙ ap (λ l. ops_in its_events T None l) is ∙ both-parts.ops T None ∙ ap (λ l. ops_in its_events T None l) (sym the-lines)
+
   pub end-as-told : (lines : List Line) → texts_of lines ≡ texts_of (lines_of items begun) ++ (told_by_steps steps (world_of items begun) ++ more) → AreAsTold files its_events lines lines (run steps (world_of items begun))
   end-as-told lines is = stands-told its_events files epochs (λ T. false) [] ended_with lines lines last-part.stands (record {
-    ops = λ T e. ops-of-texts its_events T None lines ∙ ap (λ l. ops_in its_events T None l) is ∙ both-parts.ops T None ∙ ap (λ l. ops_in its_events T None l) (sym the-lines);
+    ops = λ T e. end-ops lines is T;
     commits = history-texts lines ∙ ap commits_in is ∙ both-parts.commits ∙ ap commits_in (sym the-lines);
   })
