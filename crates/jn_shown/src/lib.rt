@@ -1,7 +1,7 @@
 //! What the shows of each run of the whole system print is what the commits before them leave.
 #![tactic(auto)]
 
-ghost use Rattle.std.specs.Prelude.{◌≡◌, ◌<◌, ◌≤◌, ℕ, List, [], ◌∷◌, None};
+ghost use Rattle.std.specs.Prelude.{◌≡◌, ◌<◌, ◌≤◌, ℕ, false, List, [], ◌∷◌, None};
 ghost use Rattle.jn_base.specs.declared.names.ServerNo.{ServerNo};
 ghost use Rattle.jn_base.specs.declared.names.LockUnit.{LockUnit};
 ghost use Rattle.jn_base.specs.declared.names.LockUnit.TheVariants.{File};
@@ -9,9 +9,9 @@ ghost use Rattle.jn_order.specs.Files.{AllFiles, no_files};
 ghost use Rattle.jn_report.specs.declared.line.When.TheVariants.{Event as AtEvent, End as AtEnd};
 ghost use Rattle.jn_report.specs.declared.line.Text.TheVariants as says;
 ghost use Rattle.jn_rows.specs.Stable.{stable};
-ghost use Rattle.jn_serial.specs.Lines.{lines_at, history_of};
+ghost use Rattle.jn_serial.specs.Lines.{lines_at, says as says_it, history_of};
 ghost use Rattle.jn_serial.specs.Order.{replay, Agrees};
-ghost use Rattle.jn_serial.specs.Shown.{ShowsFiles, ShownSoFar};
+ghost use Rattle.jn_serial.specs.Shown.{is_locked, ShowsFiles, ShownSoFar, Shown};
 ghost use Rattle.jn_protocol.specs.World.{opening};
 ghost use Rattle.jn_protocol.specs.Example.{the_server, the_file, the_transaction, start};
 ghost use Rattle.jn_reported.specs.Reported.{Item, events_of, lines_of, world_of, IsReported};
@@ -35,6 +35,11 @@ pub fn the_end_is_of_commits()
     ensures all { (servers : ℕ) (files : AllFiles) (epochs : ServerNo → ℕ) (items : List Item) (e : Ending) → IsReported items (opening servers files epochs) → IsEnding servers e (world_of items (opening servers files epochs))
         → ((s : ServerNo) (u : LockUnit) → servers ≤ s.0 → files s u ≡ None) → (s : ServerNo)
         → ShowsFiles (replay files (events_of items) (lines_to_end servers items e (opening servers files epochs)) (history_of (lines_to_end servers items e (opening servers files epochs)))) s (lines_at AtEnd (lines_to_end servers items e (opening servers files epochs))) }
+    ensures shows { (servers : ℕ) (files : AllFiles) (epochs : ServerNo → ℕ) (items : List Item) (e : Ending) → IsReported items (opening servers files epochs) → IsEnding servers e (world_of items (opening servers files epochs))
+        → ShownSoFar files (events_of items) (lines_to_end servers items e (opening servers files epochs)) }
+    ensures whole { (servers : ℕ) (files : AllFiles) (epochs : ServerNo → ℕ) (items : List Item) (e : Ending) → IsReported items (opening servers files epochs) → IsEnding servers e (world_of items (opening servers files epochs))
+        → ((s : ServerNo) (u : LockUnit) → servers ≤ s.0 → files s u ≡ None) → says_it is_locked (lines_at AtEnd (lines_to_end servers items e (opening servers files epochs))) ≡ false
+        → Shown files (events_of items) (lines_to_end servers items e (opening servers files epochs)) }
     ensures agrees { (servers : ℕ) (files : AllFiles) (epochs : ServerNo → ℕ) (items : List Item) (e : Ending) → IsReported items (opening servers files epochs) → IsEnding servers e (world_of items (opening servers files epochs))
         → Agrees files (events_of items) (lines_to_end servers items e (opening servers files epochs)) }
 {}

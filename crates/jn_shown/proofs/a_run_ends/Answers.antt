@@ -1,17 +1,12 @@
-use Rattle.std.proofs.Common.{◌≡◌, Bool, true, false, [], ◌∷◌, Option, Some, None, is_some, refl, arith}
-use Rattle.std.specs.Prelude.{if◌then◌else◌, ◌||◌}
-use Rattle.jn_base.specs.declared.names.FileNo.{FileNo}
-use Rattle.jn_base.specs.declared.names.BlockNo.{BlockNo}
-use Rattle.jn_base.specs.declared.names.LockUnit.TheVariants.{File, Block}
+use Rattle.std.proofs.Common.{[], ◌∷◌, Some, None, refl, arith}
 use Rattle.jn_base.specs.Names.{tid_eq, work_eq, file_eq}
 use Rattle.jn_base.proofs.Tells.{work_tells, tid_tells}
 use Rattle.jn_locks.specs.Locks.{work_before}
-use Rattle.jn_order.specs.Files.{there, or_else}
 use Rattle.jn_rows.specs.Stable.{Prepared, FlagState, at_work, at_tid}
-use Rattle.jn_protocol.specs.World.{World, Memory, new_memory}
+use Rattle.jn_protocol.specs.World.{World}
 use Rattle.jn_protocol.specs.Steps.{AreNames, tid_before}
 use Rattle.jn_protocol.specs.Example.{the_server, the_file, the_transaction, the_work, start}
-use Rattle.jn_reported.specs.Printing.{FileThere, print_unit, IsPrinted}
+use Rattle.jn_reported.specs.Printing.{FileThere, IsPrinted}
 use Rattle.jn_reported.specs.Reported.{world_of}
 use Rattle.jn_reported.specs.Ending.{world_at_end}
 use Rattle.jn_shown.specs.Example.{a_commit_is_named, an_end}

@@ -1,4 +1,4 @@
-use Rattle.jn_shown.proofs.Ends.{end-shown, end-all, end-agrees}
+use Rattle.jn_shown.proofs.Ends.{end-shown, end-all, so-far, end-whole, end-agrees}
 use Rattle.jn_shown.proofs.the_end_is_of_commits.Goals as goal
 
 pub returns-clause-shown : goal.returns-clause-shown
@@ -9,3 +9,9 @@ returns-clause-agrees c = λ servers files epochs items e h k. (end-agrees serve
 
 pub returns-clause-all : goal.returns-clause-all
 returns-clause-all c = end-all
+
+pub returns-clause-shows : goal.returns-clause-shows
+returns-clause-shows c = so-far
+
+pub returns-clause-whole : goal.returns-clause-whole
+returns-clause-whole c = end-whole
