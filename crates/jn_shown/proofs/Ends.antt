@@ -24,7 +24,7 @@ use Rattle.jn_protocol.specs.World.{World, opening, commits_in}
 use Rattle.jn_protocol.specs.Steps.{Step, NextEvent, Tell, Crash, CloseClients, after, run, IsRun}
 use Rattle.jn_reported.specs.Printing.{Printed, FileThere, PageStored, UnitLocked, text_printed, IsPrinted}
 use Rattle.jn_reported.specs.Reported.{Does, Item, events_of, steps_of, told_by, told_under, world_of, after_item, at_event, lines_of, IsReported}
-use Rattle.jn_reported.specs.Ending.{Comeback, Ending, servers_from, restarts_from, steps_at_end, world_at_end, settles, ArePrinted, IsEnding, told_by_steps, texts_from, at_end, lines_to_end}
+use Rattle.jn_reported.specs.Ending.{Comeback, Ending, AreFilesOf, servers_from, restarts_from, steps_at_end, world_at_end, settles, ArePrinted, IsEnding, told_by_steps, texts_from, at_end, lines_to_end}
 use Rattle.jn_reported.proofs.Lists.{In, Each, in-first, in-second, in-either, each-in, each-append}
 use Rattle.jn_reported.proofs.Reached.{Reached, LineFact, next-reached, opening-reached}
 use Rattle.jn_reported.proofs.Naming.{adds}
@@ -346,7 +346,7 @@ module _ (servers : ℕ) (files : AllFiles) (epochs : ServerNo → ℕ) (items :
   end-agrees = as-told
 
   -- a server that there isn't has no files
-  beyond : ((s : ServerNo) (u : LockUnit) → servers ≤ s.0 → files s u ≡ None) → (s : ServerNo) → servers ≤ s.0 → (u : LockUnit) → replay files (events_of items) lines (history_of lines) s u ≡ None
+  beyond : AreFilesOf servers files → (s : ServerNo) → servers ≤ s.0 → (u : LockUnit) → replay files (events_of items) lines (history_of lines) s u ≡ None
   beyond few s out u = ap (λ f. f u) (replay-same servers (events_of items) lines (history_of lines) files s out
       (λ T. subst (λ l. Each (IsAt servers (events_of items)) l) (sym (end-ops servers files epochs [] items h steps k.steps calm (printed ++ count) silent.0 silent.1 lines same-texts T)) (ops-at servers (events_of items) T None (world_at_end servers e w).lines within.lines))) ∙ few s u out
     where
@@ -360,7 +360,7 @@ module _ (servers : ℕ) (files : AllFiles) (epochs : ServerNo → ℕ) (items :
       within = run-within servers (events_of items) files epochs (steps_at_end servers e) (world_of items start) (last-reached servers files epochs [] items h steps k.steps calm (printed ++ count) silent.0 silent.1) k.steps
           (calm-tell servers (events_of items) files epochs (steps_at_end servers e) (world_of items start) calm) before
 
-  pub end-all : ((s : ServerNo) (u : LockUnit) → servers ≤ s.0 → files s u ≡ None) → (s : ServerNo) → ShowsFiles (replay files (events_of items) lines (history_of lines)) s (lines_at AtEnd lines)
+  pub end-all : AreFilesOf servers files → (s : ServerNo) → ShowsFiles (replay files (events_of items) lines (history_of lines)) s (lines_at AtEnd lines)
   end-all few s = by (nat_lt s.0 servers) refl
     where
       below : nat_lt s.0 servers ≡ true → s.0 < servers
@@ -383,5 +383,5 @@ module _ (servers : ℕ) (files : AllFiles) (epochs : ServerNo → ℕ) (items :
       (λ before later q. subst (λ l. (g : IsReported l start) (j : IsRun steps (world_of l start)) → texts_of lines ≡ texts_of (lines_of l start) ++ (told_by_steps steps (world_of l start) ++ (printed ++ count)) → AreAsTold files (events_of l) lines (lines_of before start) (world_of before start)) (sym q)
       (λ g j x. beginning-told servers files epochs before later g steps j calm (printed ++ count) silent.0 silent.1 lines x) h k.steps same-texts)
 
-  pub end-whole : ((s : ServerNo) (u : LockUnit) → servers ≤ s.0 → files s u ≡ None) → says_it is_locked (lines_at AtEnd (lines_to_end servers items e start)) ≡ false → Shown files (events_of items) (lines_to_end servers items e start)
+  pub end-whole : AreFilesOf servers files → says_it is_locked (lines_at AtEnd (lines_to_end servers items e start)) ≡ false → Shown files (events_of items) (lines_to_end servers items e start)
   end-whole few free = record { so_far = so-far; at_end = record { all = end-all few; unlocked = free } }
