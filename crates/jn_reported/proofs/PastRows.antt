@@ -403,7 +403,7 @@ module _ (os : List Opening) (clients : ClientNo → ClientTable) (w : Machine) 
       is-later = grind (arith, nat_tests)
 
       -- what its client began before is past
-      begin-past : (y : Transaction) → Entry y → y.client ≡ c → Past os clients w Caused c y.tid
+      pub begin-past : (y : Transaction) → Entry y → y.client ≡ c → Past os clients w Caused c y.tid
       begin-past y h e = record {
         request = h.request;
         has = has;
