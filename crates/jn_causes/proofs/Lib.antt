@@ -1,0 +1,4 @@
+pub mod Evidence
+pub mod WorkerKeeps
+pub mod CoordinatorKeeps
+pub mod Facts
