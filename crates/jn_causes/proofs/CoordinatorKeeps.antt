@@ -31,7 +31,7 @@ use Rattle.jn_moves.specs.Mirrors.{IsTrue}
 use Rattle.jn_runs.proofs.Openings.{Opening, Has}
 use Rattle.jn_reported.proofs.Lists.{In, in-second, Each, each-append}
 use Rattle.jn_reported.proofs.Past.{BeganBy, Past, SaysPast, StageFact, EntryFact}
-use Rattle.jn_reported.proofs.PastRows.{NoFlag, IsThere, each-found, there-staged, there-less, begin-past}
+use Rattle.jn_reported.proofs.PastRows.{IsThere, each-found, there-staged, there-less, begin-past}
 
 -- ---- tables
 
@@ -73,6 +73,13 @@ begun-there P c q (y ∷ ys) x h k = by (client_eq y.client c && is_begun y.begu
     by true e on = (subst P (some e) h.0, subst (λ (z : Transaction). IsThere z.tid (y ∷ ys)) (some e) (there-first y ys))
     by false e on = let p = on e in (p.0, there-later x.tid (y ∷ []) ys p.1)
 
+-- a stable state that says nothing
+abbrev no-state : StableState
+no-state = record { epoch = 0; files = λ u. None; works = λ W. None; flags = λ T. None }
+
+no-true : {B : Type 0} → false ≡ true → B
+no-true e = absurd (grind arith)
+
 -- it won't commit, or has
 abbrev pub Spent : Machine → Tid → Type 0
 Spent w T = (w.named T ≡ true) ⊎ (w.aborted T ≡ true)
@@ -83,11 +90,11 @@ module _ (os : List Opening) (clients : ClientNo → ClientTable) (w v : Machine
   abbrev pub NotPast : Tid → Type 0
   NotPast T = (c : ClientNo) → Past os clients w Caused c T → ⊥
 
-  module _ (t : CoordinatorTable) (k : Tickets) (x : StableState) (all-entries : Each (EntryFact os clients w Caused t.seen) t.transactions) (no-flag : NoFlag x.flags t.transactions) (all-held : (T : Tid) → is_some (x.flags T) ≡ true → IsThere T t.transactions)
+  module _ (t : CoordinatorTable) (k : Tickets) (all-entries : Each (EntryFact os clients w Caused t.seen) t.transactions)
       (place : Each (λ (y : Transaction). y.tid.server ≡ k.server) t.transactions)
       (last : (c : ClientNo) (o : Outstanding) → (clients c).outstanding ≡ Some o → (clients c).next ≡ o.request + 1)
-      (committed : (T : Tid) (y : Transaction) (d : Commitment) → transaction_at T t.transactions ≡ Some y → y.stage ≡ Committed d → v.named T ≡ true)
-      (aborted : (T : Tid) (y : Transaction) (cause : Cause) → transaction_at T t.transactions ≡ Some y → y.stage ≡ Aborted cause → v.aborted T ≡ true) where
+      (committed : (T : Tid) (y : Transaction) (d : Commitment) → transaction_at T t.transactions ≡ Some y → y.stage ≡ Committed d → Spent v T)
+      (aborted : (T : Tid) (y : Transaction) (cause : Cause) → transaction_at T t.transactions ≡ Some y → y.stage ≡ Aborted cause → Spent v T) where
     abbrev Entry : Transaction → Type 0
     Entry y = EntryFact os clients w Caused t.seen y
 
@@ -175,8 +182,8 @@ module _ (os : List Opening) (clients : ClientNo → ClientTable) (w v : Machine
         stops Ws (Aborted cause) = stays _ _ (λ h. (tt, tt))
 
         told : (W : WorkId) (stage : Stage) → y.stage ≡ stage → Holds (told_stage t k T W stage)
-        told W (Committed d) e = either (is_work W d.works && not (is_work W d.done)) _ _ (stays _ _ (λ h. (tt, tt))) (stays _ _ (λ h. (inl (committed T y d found e), tt)))
-        told W (Aborted cause) e = stays _ _ (λ h. (inr (aborted T y cause found e), tt))
+        told W (Committed d) e = either (is_work W d.works && not (is_work W d.done)) _ _ (stays _ _ (λ h. (tt, tt))) (stays _ _ (λ h. (committed T y d found e, tt)))
+        told W (Aborted cause) e = stays _ _ (λ h. (aborted T y cause found e, tt))
         told W Open e = stays _ _ (λ h. tt)
         told W (Voting b) e = stays _ _ (λ h. tt)
 
@@ -217,7 +224,7 @@ module _ (os : List Opening) (clients : ClientNo → ClientTable) (w v : Machine
 
             by : ((tid_eq y.tid U ≡ true) × (y.tid ≡ U)) ⊎ ((tid_eq y.tid U ≡ false) × (y.tid ≢ U)) → ((client_eq y.client c ≡ true) × (y.client ≡ c)) ⊎ ((client_eq y.client c ≡ false) × (y.client ≢ c))
                 → (IsThere U ys → IsThere U (after_closing c ys)) → IsThere U (if client_eq y.client c then closed y.stage y ++ after_closing c ys else y ∷ after_closing c ys)
-            by (inl e) (inl p) on = absurd (past c (subst (λ (V : Tid). Past os clients w Caused c V) e.1 (begin-past os clients w Caused unique full t k x all-entries no-flag all-held c q began (last c) later y h.0 p.1)))
+            by (inl e) (inl p) on = absurd (past c (subst (λ (V : Tid). Past os clients w Caused c V) e.1 (begin-past os clients w Caused unique full t k no-state all-entries (λ T z e f. refl) (λ T e. no-true e) c q began (last c) later y h.0 p.1)))
             by (inr e) (inl p) on = subst (λ (b : Bool). IsThere U (if b then closed y.stage y ++ after_closing c ys else y ∷ after_closing c ys)) (sym p.0) (there-later U (closed y.stage y) (after_closing c ys) (on (rest e.0)))
             by (inl e) (inr p) on = subst (λ (b : Bool). IsThere U (if b then closed y.stage y ++ after_closing c ys else y ∷ after_closing c ys)) (sym p.0) (subst (λ (V : Tid). IsThere V (y ∷ after_closing c ys)) e.1 (there-first y (after_closing c ys)))
             by (inr e) (inr p) on = subst (λ (b : Bool). IsThere U (if b then closed y.stage y ++ after_closing c ys else y ∷ after_closing c ys)) (sym p.0) (there-later U (y ∷ []) (after_closing c ys) (on (rest e.0)))

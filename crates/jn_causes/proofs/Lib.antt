@@ -2,3 +2,4 @@ pub mod Evidence
 pub mod WorkerKeeps
 pub mod CoordinatorKeeps
 pub mod Facts
+pub mod ServerSteps
