@@ -176,7 +176,7 @@ module _ (r : World) (w : Machine) (atoms : List Atom) (may : MayRun atoms w) (m
       by message k = (worker-talks r.sent talk.once m.worker m.tickets (talk.works s m is) (storage_of m (stable (r.found s)) room) message tt).0
 
   pub past-next : PastFacts (after step r).sent (after step r).clients (after step r).memory (after step r).found (run_atoms atoms w) Free
-  past-next = step-past r w (run_atoms atoms w) Free Free past (λ c T cause h. tt) grown.aborted grown.named named (λ c T s n free need h. tt) mirrors inv locks facts talk workers (λ s m is c T at none had. inr tt) (λ c T e. tt) step i later
+  past-next = step-past r w (run_atoms atoms w) Free Free past (λ c T cause h. tt) grown.aborted grown.named named (λ c T s n free need h. tt) mirrors inv locks facts talk workers (λ s m is c T at none had. inr tt) step (i, λ c e T f. tt) later
 
   pub ends-next : EndsAsked (after step r).sent (run_atoms atoms w)
   ends-next a h T of e = by (ended T e)
