@@ -113,7 +113,7 @@ pub record CauseFacts (es : List Event) (ls : List Line) (sent : List Sent) (cli
 
 -- ---- growth
 
-begun_then-append : (c : ClientNo) (now : Option Tid) (xs ys : List Line) → begun_then c now (xs ++ ys) ≡ begun_then c (begun_then c now xs) ys
+pub begun_then-append : (c : ClientNo) (now : Option Tid) (xs ys : List Line) → begun_then c now (xs ++ ys) ≡ begun_then c (begun_then c now xs) ys
 begun_then-append c now [] ys = refl
 begun_then-append c now (x ∷ xs) ys = begun_then-append c (begun_after c now x.text) xs ys
 

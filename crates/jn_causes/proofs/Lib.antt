@@ -3,3 +3,4 @@ pub mod WorkerKeeps
 pub mod CoordinatorKeeps
 pub mod Facts
 pub mod ServerSteps
+pub mod ClientSteps
