@@ -45,13 +45,13 @@ use Rattle.jn_serial.specs.Caused.{begun_after, begun_then, last_begun, begins, 
 use Rattle.jn_serial.proofs.Growth.{AreWithin}
 use Rattle.jn_serial.proofs.CausedGrowth.{lines_before-whole}
 use Rattle.jn_reported.specs.Reported.{at_event}
-use Rattle.jn_reported.proofs.Lists.{In, Each}
+use Rattle.jn_reported.proofs.Lists.{In, Each, each-of}
 use Rattle.jn_reported.proofs.ClientTalk.{TableGoes}
 use Rattle.jn_reported.proofs.PastRows.{IsThere}
-use Rattle.jn_causes.proofs.Evidence.{Stands, stands-more, stands-last, Came, DownAfter, down-more, any-last}
+use Rattle.jn_causes.proofs.Evidence.{Stands, Came, DownAfter, down-more, any-last, in-here}
 use Rattle.jn_causes.proofs.WorkerKeeps.{all-told}
 use Rattle.jn_causes.proofs.CoordinatorKeeps.{Spent}
-use Rattle.jn_causes.proofs.Facts.{HasTransaction, CameBy, WasOpened, MessageFact, BegunFor, BeganAt, ClientFact, CauseFacts, IsMute, begun_then-append, opened-more, client-on, messages-on, told-on, Now}
+use Rattle.jn_causes.proofs.Facts.{HasTransaction, CameBy, WasOpened, MessageFact, BegunFor, BeganAt, ClientFact, CauseFacts, IsMute, begun_then-append, opened-more, client-on, one-on, messages-on, told-on}
 
 -- ---- works
 
@@ -135,10 +135,6 @@ module _ (es es' : List Event) (on : (j : ℕ) (e : Event) → Stands 1 es j e �
       each d = at-own (λ (x : ClientTable). ClientFact es' (ls ++ at_event (1 + length es) new) (r.sent ++ more) r.memory d x) d (λ e. subst (λ (z : ClientNo). ClientFact es' (ls ++ at_event (1 + length es) new) (r.sent ++ more) r.memory z u) e h.own) (λ e. kept new more d (h.others d e))
 
   -- ---- a message
-
-  abbrev pub Thanks : Sent → Type 0
-  Thanks (to, messages.Thanks d T) = Unit {0}
-  Thanks (to, message) = ⊥
 
   abbrev pub texts_of : ℕ → Taken → List Text
   texts_of k taken.Ignored = texts.Ignored k ∷ []
@@ -335,3 +331,128 @@ module _ (es es' : List Event) (on : (j : ℕ) (e : Event) → Stands 1 es j e �
     take-keeps (messages.Answer d q answer) i h = waits-take t.outstanding _ _ refl (λ x e f. idles _ (answer-mutes x.event answer))
     take-keeps (messages.Outcome d T outcome) i h = either (client_eq d t.client) _ _ (λ e. outcome-take T outcome) ignores
     take-keeps _ i h = ignores
+
+  -- ---- a command of this event
+
+  module _ (within : AreWithin 0 r.event ls) where
+    abbrev pub CommandCauses : Commanded → Type 0
+    CommandCauses (Refuses refusal) = Unit {0}
+    CommandCauses (Sends u to message) = ClientKeeps u [] ((to, message) ∷ [])
+
+    abbrev sent-table : Command → List OpenWork → Party → Message → ClientTable
+    sent-table command works to message = record t { works = works; next = t.next + 1; outstanding = Some (record { event = r.event; request = t.next; command = command; to = to; message = message }) }
+
+    abbrev Said : ClientTable → Party → Message → Type 0
+    Said u to message = MessageFact es' (ls ++ []) (openings (r.sent ++ (to, message) ∷ [])) (at_client r.clients c u) r.memory v (to, message)
+
+    sends-it : (command : Command) → Stands 1 es' r.event (events.Command c command) → (works : List OpenWork) (to : Party) (message : Message) → names_of works ≡ names_of t.works → ((s : ServerNo) → command ≡ Begin s → to ≡ Server s) → Said (sent-table command works to message) to message → ClientKeeps (sent-table command works to message) [] ((to, message) ∷ [])
+    sends-it command stands works to message same at h = let old = kept [] ((to, message) ∷ []) c (λ n now. refl) in record {
+      own = record {
+        asked = λ o e. subst (λ (z : Outstanding). Stands 1 es' z.event (events.Command c z.command)) (some-out _ o e) stands;
+        to = λ o s e. subst (λ (z : Outstanding). z.command ≡ Begin s → z.to ≡ Server s) (some-out _ o e) (at s);
+        current = old.current;
+        works = λ T e W i. old.works T e W (subst (λ l. is_work W l ≡ true) same i);
+        begun = old.begun;
+      };
+      others = λ d ne n now. refl;
+      news = (h, tt);
+    }
+
+    own-table : (u : ClientTable) → at_client r.clients c u t.client ≡ u
+    own-table u = by (client_tells c t.client)
+      where
+        by : ((client_eq c t.client ≡ true) × (c ≡ t.client)) ⊎ ((client_eq c t.client ≡ false) × (c ≢ t.client)) → (if client_eq c t.client then u else r.clients t.client) ≡ u
+        by (inl p) = ap (λ (b : Bool). if b then u else r.clients t.client) p.0
+        by (inr p) = absurd (p.1 (sym (facts.clients c).name))
+
+    below : (n : ℕ) → n < n + 1
+    below n = omega arith
+
+    begin-said : (command : Command) (works : List OpenWork) (to : Party) → Said (sent-table command works to (messages.Begin t.client t.next)) to (messages.Begin t.client t.next)
+    begin-said command works to = let u = sent-table command works to (messages.Begin t.client t.next) in
+        subst (λ (z : ClientTable). (t.next < z.next) × ((o : Outstanding) → z.outstanding ≡ Some o → o.request ≡ t.next → o.to ≡ to)) (sym (own-table u)) (below t.next, λ o e f. ap (λ (z : Outstanding). z.to) (sym (some-out _ o e)))
+
+    -- the client comes to the server by this event
+    comes : (s : ServerNo) (T : Tid) (x : Sent) → Stands 1 es' r.event (events.Command c (Open s)) → t.transaction ≡ Some T → CameBy es' (ls ++ []) (openings (r.sent ++ x ∷ [])) c T s
+    comes s T x stands f = let b = (facts.clients c).current T f in record {
+      number = r.event;
+      came = record { event = events.Command c (Open s); stands = stands; is = all (client_eq c c) (server_eq s s) _ (self c) (same s) (in-here r.event ls [] c T within ((cause.each c).begun T f)) };
+      request = b.request;
+      has = subst (λ l. Has (opening c b.request T) l) (sym (openings-more r.sent (x ∷ []))) (has-first _ (openings r.sent) (openings (x ∷ [])) b.has);
+    }
+      where
+        self : (d : ClientNo) → client_eq d d ≡ true
+        self d = grind (arith, client_tells d d)
+
+        same : (q : ServerNo) → server_eq q q ≡ true
+        same q = grind (arith, server_tells q q)
+
+        all : (a b d : Bool) → a ≡ true → b ≡ true → d ≡ true → (a && (b && d)) ≡ true
+        all a b d f g h = grind arith
+
+    at-server : (s : ServerNo) (row : Commanded) → CommandCauses row → CommandCauses (if_server t s row)
+    at-server s row h = by (nat_lt s.0 t.servers)
+      where
+        by : (b : Bool) → CommandCauses (if b then row else Refuses refusals.NoSuchServer)
+        by true = h
+        by false = tt
+
+    where-idle : (o : Option Outstanding) (row : Commanded) → CommandCauses row → CommandCauses (if_idle o row)
+    where-idle None row h = h
+    where-idle (Some o) row h = tt
+
+    without-one : (o : Option Tid) (row : Commanded) → CommandCauses row → CommandCauses (if_no_transaction o row)
+    without-one None row h = h
+    without-one (Some T) row h = tt
+
+    with-one : (o : Option Tid) (row : Tid → Commanded) → t.transaction ≡ o → ((T : Tid) → t.transaction ≡ Some T → CommandCauses (row T)) → CommandCauses (if_transaction o row)
+    with-one None row e h = tt
+    with-one (Some T) row e h = h T e
+
+    where-none : (o : Option OpenWork) (row : Commanded) → CommandCauses row → CommandCauses (if_not_open o row)
+    where-none None row h = h
+    where-none (Some x) row h = tt
+
+    where-open : (o : Option OpenWork) (row : OpenWork → Commanded) → ((x : OpenWork) → CommandCauses (row x)) → CommandCauses (if_open o row)
+    where-open None row h = tt
+    where-open (Some x) row h = h x
+
+    pub command-keeps : (command : Command) → Stands 1 es' r.event (events.Command c command) → CommandCauses (command_row t r.event command)
+    command-keeps (Begin s) stands = at-server s _ (where-idle t.outstanding _ (without-one t.transaction _ (sends-it (Begin s) stands t.works (Server s) _ refl (λ q e. ap (λ (z : ServerNo). Server z) (same-begin s q e)) (begin-said (Begin s) t.works (Server s)))))
+      where
+        same-begin : (p q : ServerNo) → Begin p ≡ Begin q → p ≡ q
+        same-begin p q e = cc
+    command-keeps (Open s) stands = at-server s _ (where-idle t.outstanding _ (with-one t.transaction _ refl (λ T e. where-none (work_at s t.works) _ (sends-it (Open s) stands t.works (Server s) _ refl (λ q f. absurd (no q f)) (opens T e)))))
+      where
+        no : (q : ServerNo) → Open s ≡ Begin q → ⊥
+        no q e = cc
+
+        opens : (T : Tid) → t.transaction ≡ Some T → (q : ServerNo) → Server s ≡ Server q → CameBy es' (ls ++ []) (openings (r.sent ++ (Server s, messages.Open t.client t.next T) ∷ [])) t.client T q
+        opens T e q f = subst (λ (z : ServerNo). CameBy es' (ls ++ []) (openings (r.sent ++ (Server s, messages.Open t.client t.next T) ∷ [])) t.client T z) (same-server s q f)
+            (subst (λ (d : ClientNo). CameBy es' (ls ++ []) (openings (r.sent ++ (Server s, messages.Open t.client t.next T) ∷ [])) d T s) (sym (facts.clients c).name) (comes s T (Server s, messages.Open t.client t.next T) stands e))
+    command-keeps (Do s op) stands = at-server s _ (where-idle t.outstanding _ (with-one t.transaction _ refl (λ T e. where-open (work_at s t.works) _ (λ x. sends-it (Do s op) stands (with_operation s t.works) (Server s) _ (same-names s t.works) (λ q f. absurd (no q f)) tt))))
+      where
+        no : (q : ServerNo) → Do s op ≡ Begin q → ⊥
+        no q e = cc
+    command-keeps End stands = where-idle t.outstanding _ (with-one t.transaction _ refl (λ T e. sends-it End stands t.works (Server T.server) _ refl (λ q f. absurd (no q f)) tt))
+      where
+        no : (q : ServerNo) → End ≡ Begin q → ⊥
+        no q e = cc
+    command-keeps Abort stands = with-one t.transaction _ refl (λ T e. sends-it Abort stands t.works (Server T.server) _ refl (λ q f. absurd (no q f)) tt)
+      where
+        no : (q : ServerNo) → Abort ≡ Begin q → ⊥
+        no q e = cc
+
+-- ---- no client changes
+
+module _ (es es' : List Event) (on : (j : ℕ) (e : Event) → Stands 1 es j e → Stands 1 es' j e) (ls : List Line) (r : World) (w v : Machine) (cause : CauseFacts es ls r.sent r.clients r.memory r.lines w)
+    (mirrors : Mirrors r w) (facts : Facts r w) (spent : (T : Tid) → Spent w T → Spent v T) (new : List Text) (more : List Sent) (mute : (d : ClientNo) → IsMute d new) (old : (x : Sent) → In x more → In x r.sent) where
+  -- some messages are sent once more
+  pub again-facts : CauseFacts es' (ls ++ at_event (1 + length es) new) (r.sent ++ more) r.clients r.memory (r.lines ++ new) v
+  again-facts = record {
+    messages = messages-on es es' on ls new r.sent more r.clients r.clients r.memory r.memory r.lines w v cause mirrors.says facts.unique (λ e T k. (facts.clients e).current T k) spent (λ e q l. l) (λ e o k. inl k) (λ T not h. inl h) (λ W h. inl h)
+        (each-of _ more (λ x i. one-on es es' on ls new r.sent more r.clients r.clients r.memory r.memory r.lines w v cause mirrors.says facts.unique (λ e T k. (facts.clients e).current T k) spent (λ e q l. l) (λ e o k. inl k) (λ T not h. inl h) (λ W h. inl h) x (old x i)));
+    each = λ d. client-on es es' on ls new r.sent more r.clients r.clients r.memory r.memory r.lines w v cause mirrors.says facts.unique (λ e T k. (facts.clients e).current T k) spent (λ e q l. l) (λ e o k. inl k) (λ T not h. inl h) (λ W h. inl h) d (mute d);
+    broken = λ s m e. all-told s r.lines new m.worker (cause.broken s m e);
+    told = told-on es es' on ls new r.lines cause.told;
+  }

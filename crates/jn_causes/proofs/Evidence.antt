@@ -1,5 +1,5 @@
 -- What stands before an abort: events with their numbers, and lines.
-use Rattle.std.proofs.Common.{◌≡◌, ◌⊎◌, inl, inr, ◌<◌, ◌≤◌, ℕ, suc, ◌+◌, Bool, true, false, List, [], ◌∷◌, ◌++◌, append-nil, length, refl, sym, ◌∙◌, ap, subst, arith}
+use Rattle.std.proofs.Common.{◌≡◌, ◌⊎◌, inl, inr, ◌<◌, ◌≤◌, ℕ, suc, ◌+◌, Bool, true, false, List, [], ◌∷◌, ◌++◌, Some, append-nil, length, refl, sym, ◌∙◌, ap, subst, arith}
 use Rattle.std.specs.Prelude.{◌||◌, ◌&&◌, if◌then◌else◌, nat_lt}
 use Rattle.std.specs.List.{list_any}
 use Rattle.std.proofs.lemmas.Bool.Decides.{nat_tests}
@@ -9,7 +9,8 @@ use Rattle.jn_base.specs.declared.names.Tid.{Tid}
 use Rattle.jn_base.specs.declared.names.Cause.{Cause}
 use Rattle.jn_base.specs.declared.names.Cause.TheVariants.{Requested, Broken as BrokenAt, Lost as LostAt, Full as FullAt}
 use Rattle.jn_base.specs.declared.op.Command.TheVariants as commands
-use Rattle.jn_base.specs.Names.{client_eq, server_eq}
+use Rattle.jn_base.specs.Names.{client_eq, server_eq, tid_eq}
+use Rattle.jn_base.proofs.Tells.{tid_tells}
 use Rattle.jn_schedule.specs.declared.Event.{Event}
 use Rattle.jn_schedule.specs.declared.Event.TheVariants as events
 use Rattle.jn_report.specs.declared.line.When.TheVariants.{Event as AtEvent}
@@ -18,9 +19,10 @@ use Rattle.jn_report.specs.declared.line.Line.{Line}
 use Rattle.jn_serial.specs.Lines.{is_before, lines_before, says}
 use Rattle.jn_serial.specs.Caused.{any_event, lines_after, last_begun, is_tid, is_in, aborts, asks, begins, joins, goes_down, loses, breaks, is_caused_by}
 use Rattle.jn_serial.proofs.Growth.{AreWithin}
-use Rattle.jn_serial.proofs.CausedGrowth.{lines_before-later}
+use Rattle.jn_serial.proofs.CausedGrowth.{lines_before-later, lines_before-whole}
 use Rattle.jn_serial.proofs.Orders.{lines_before-append}
 use Rattle.jn_reported.specs.Reported.{at_event}
+use Rattle.jn_reported.proofs.Following.{texts-within}
 
 -- ---- an event of this number, among these from a number on
 
@@ -168,6 +170,19 @@ down-now s n j (x ∷ ls) texts l h = by (is_before (AtEvent j) x.when) (down-no
     by : (b : Bool) → DownAfter (ls ++ at_event n texts) s j → says (goes_down s) (if b then x ∷ lines_after (AtEvent j) (ls ++ at_event n texts) else lines_after (AtEvent j) (ls ++ at_event n texts)) ≡ true
     by true on = any-second (goes_down s x.text) _ on
     by false on = on
+
+-- ---- a command of the next event
+
+-- it is given in what its client began last
+pub in-here : (n : ℕ) (ls : List Line) (new : List Text) (c : ClientNo) (T : Tid) → AreWithin 0 n ls → last_begun c ls ≡ Some T → is_in c T n (ls ++ at_event n new) ≡ true
+in-here n ls new c T within last = ap (λ m. is_tid (last_begun c m) T) (lines_before-append (AtEvent n) ls (at_event n new) ∙ ap (λ m. lines_before (AtEvent n) ls ++ m) (lines_before-later n (n + 1) n (at_event n new) (texts-within n new) (self n)) ∙ append-nil (lines_before (AtEvent n) ls) ∙ lines_before-whole 0 n ls within)
+    ∙ ap (λ o. is_tid o T) last ∙ same T
+  where
+    self : (n : ℕ) → n ≤ n
+    self n = omega arith
+
+    same : (T : Tid) → tid_eq T T ≡ true
+    same T = grind (arith, tid_tells T T)
 
 -- ---- more events, with lines of the next one on
 

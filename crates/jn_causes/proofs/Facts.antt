@@ -239,9 +239,11 @@ module _ (es es' : List Event) (on : (j : ℕ) (e : Event) → Stands 1 es j e �
         each [] a = tt
         each (y ∷ l) a = (All-head P y l a, each l (All-tail P y l a))
 
+    pub one-on : (x : Sent) → In x sent → Now x
+    one-on x i = message-on x (all-of (IsTrue w) sent x says i) (all-of (λ (y : Sent). (a : Opening) → Has a (opening_in y) → Has a (openings sent)) sent x (all-have-theirs sent) i) (each-in (MessageFact es ls (openings sent) clients memory w) sent x facts.messages i)
+
     pub messages-on : Each Now more → Each Now (sent ++ more)
-    messages-on h = each-append Now sent more (each-of Now sent (λ x i. message-on x (all-of (IsTrue w) sent x says i) (all-of (λ (y : Sent). (a : Opening) → Has a (opening_in y) → Has a (openings sent)) sent x (all-have-theirs sent) i)
-        (each-in (MessageFact es ls (openings sent) clients memory w) sent x facts.messages i))) h
+    messages-on h = each-append Now sent more (each-of Now sent one-on) h
 
     begun-on : (c : ClientNo) → IsMute c new → (T : Tid) → last_begun c ls ≡ Some T → last_begun c (ls ++ at_event (1 + length es) new) ≡ Some T
     begun-on c mute T h = begun_then-append c None ls (at_event (1 + length es) new) ∙ mute (1 + length es) (last_begun c ls) ∙ h
