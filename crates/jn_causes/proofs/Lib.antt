@@ -4,3 +4,4 @@ pub mod CoordinatorKeeps
 pub mod Facts
 pub mod ServerSteps
 pub mod ClientSteps
+pub mod Steps
