@@ -5,3 +5,4 @@ pub mod Facts
 pub mod ServerSteps
 pub mod ClientSteps
 pub mod Steps
+pub mod Runs

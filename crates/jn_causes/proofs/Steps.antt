@@ -211,11 +211,11 @@ module _ (es es' : List Event) (on : (j : ℕ) (e : Event) → Stands 1 es j e �
   up-at : (s : ServerNo) (m : Memory) → r.memory s ≡ Some m → UpFact s m (r.found s)
   up-at s m is = subst (λ o. ServerFact s o (r.found s)) is (locks s)
 
-  votes-say : (s : ServerNo) (m : Memory) → r.memory s ≡ Some m → (room : Room) (message : Message) → In (Server s, message) r.sent → Each (SaysPast (openings r.sent) r.clients w Caused) (worker_row m.worker (storage_of m (stable (r.found s)) room) m.tickets message).messages
+  pub votes-say : (s : ServerNo) (m : Memory) → r.memory s ≡ Some m → (room : Room) (message : Message) → In (Server s, message) r.sent → Each (SaysPast (openings r.sent) r.clients w Caused) (worker_row m.worker (storage_of m (stable (r.found s)) room) m.tickets message).messages
   votes-say s m is room message i = (worker-row es ls r w v past cause parts mirrors inv locks facts spent s m is (up-at s m is) None room message i).says
 
   -- a current transaction that its coordinator doesn't have was lost
-  lost-there : (s : ServerNo) (m : Memory) → r.memory s ≡ Some m → (c : ClientNo) (T : Tid) → T.server ≡ s → transaction_at T m.coordinator.transactions ≡ None → Had (openings r.sent) r.clients w Caused c T → Past (openings r.sent) r.clients w Caused c T ⊎ Caused c T (LostAt s)
+  pub lost-there : (s : ServerNo) (m : Memory) → r.memory s ≡ Some m → (c : ClientNo) (T : Tid) → T.server ≡ s → transaction_at T m.coordinator.transactions ≡ None → Had (openings r.sent) r.clients w Caused c T → Past (openings r.sent) r.clients w Caused c T ⊎ Caused c T (LostAt s)
   lost-there s m is c T at none had = by (r.clients c).transaction refl
     where
       over : (r.clients c).transaction ≢ Some T → Past (openings r.sent) r.clients w Caused c T
@@ -248,7 +248,7 @@ module _ (es es' : List Event) (on : (j : ℕ) (e : Event) → Stands 1 es j e �
           same (inl p) = inr (lost (e ∙ ap (λ (z : Tid). Some z) p.1))
           same (inr p) = inl (over (λ f. p.1 (some-tid U (sym e ∙ f))))
 
-  any-full : (c : ClientNo) (T : Tid) (s : ServerNo) (n free need : ℕ) → nat_lt free need ≡ true → Caused c T (FullAt s n free need)
+  pub any-full : (c : ClientNo) (T : Tid) (s : ServerNo) (n free need : ℕ) → nat_lt free need ≡ true → Caused c T (FullAt s n free need)
   any-full c T s n free need h = inr h
 
   -- a client's own abort
