@@ -6,3 +6,4 @@ pub mod ServerSteps
 pub mod ClientSteps
 pub mod Steps
 pub mod Runs
+pub mod Causing

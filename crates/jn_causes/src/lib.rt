@@ -1,13 +1,17 @@
-//! Each abort that is reported has its cause, in each run of the whole system with its schedule.
+//! Each line of each run of the whole system that needs a cause has it before it.
 #![tactic(auto)]
 
 ghost use Rattle.std.specs.Prelude.{◌≡◌, ℕ, List};
 ghost use Rattle.jn_base.specs.declared.names.ServerNo.{ServerNo};
 ghost use Rattle.jn_order.specs.Files.{AllFiles};
+ghost use Rattle.jn_serial.specs.Caused.{Caused};
 ghost use Rattle.jn_protocol.specs.World.{opening};
 ghost use Rattle.jn_reported.specs.Reported.{Item, events_of, lines_of, IsReported};
 
-/// probe
+/// Whatever is done under the events of a schedule, stops and restarts among it: each abort that a client is told of has its
+/// cause before it, which is the client's own abort, a work that was broken, a server that went down after the transaction
+/// came to it, or want of room; and each stop and each fault that is refused has an event of its own that can have given it.
 pub fn events_cause_lines()
-    ensures { (n : ℕ) → n ≡ n }
+    ensures { (servers : ℕ) (files : AllFiles) (epochs : ServerNo → ℕ) (items : List Item) → IsReported items (opening servers files epochs)
+        → Caused (events_of items) (lines_of items (opening servers files epochs)) }
 {}
