@@ -26,7 +26,7 @@ use Rattle.jn_serial.proofs.Growth.{AreWithin, AreWithin-wider, AreWithin-append
 use Rattle.jn_reported.specs.Armed.{is_fault, ArmedFrom}
 use Rattle.jn_reported.specs.Reported.{Act, Does, Refuses as Refused, Tells, Item, events_of, steps_in, steps_of, told_by, told_in, told_under, after_item, at_event, lines_of, IsUnder, AreUnder, IsReported}
 use Rattle.jn_reported.proofs.Lists.{Each}
-use Rattle.jn_reported.proofs.ArmedRuns.{run-armed}
+use Rattle.jn_reported.proofs.ArmedRuns.{run-armed, length-more}
 use Rattle.jn_reported.proofs.Following.{IsQuietAct, IsPlain, under-quiet, run-split, texts-within}
 use Rattle.jn_reported.proofs.Hearing.{IsQuiet, step-hears, told-is}
 use Rattle.jn_reported.proofs.Past.{EntryFact}
@@ -65,9 +65,6 @@ with-arms es before (l ∷ ls) h k = (one (before ++ l ∷ []) l.when l.text h.0
 
 self : (n : ℕ) → n ≤ n
 self n = omega arith
-
-up : (n : ℕ) → n ≤ n + 1
-up n = omega arith
 
 -- the lines of a step, some of whose event stand before
 step-aborts : (es fs : List Event) (ls more : List Line) → AreWithin (1 + length es) (1 + length es + 1) more → (new : List Text) → Each (AbortStands es ls) new → AbortsFrom (es ++ fs) (ls ++ more) (at_event (1 + length es) new)
@@ -178,13 +175,6 @@ module _ (files : AllFiles) (epochs : ServerNo → ℕ) where
     event-stays (events.Show s) acts now within i under = absurd under
 
   -- ---- all events
-
-  length-more : (es : List Event) (e : Event) → length (es ++ e ∷ []) ≡ length es + 1
-  length-more [] e = refl
-  length-more (d ∷ es) e = ap suc (length-more es e) ∙ shift (length es)
-    where
-      shift : (n : ℕ) → suc (n + 1) ≡ suc n + 1
-      shift n = omega arith
 
   next-event : (es : List Event) (ls : List Line) (r : World) → Stays files epochs es ls r → Stays files epochs es ls (after NextEvent r)
   next-event es ls r h = let s = next-stays files epochs es es (λ j e k. k) ls r NextEvent tt (λ c command e. absurd (no c command e)) h in

@@ -31,7 +31,7 @@ use Rattle.jn_moves.specs.Mirrors.{IsTrue}
 use Rattle.jn_runs.proofs.Openings.{Opening, Has}
 use Rattle.jn_reported.proofs.Lists.{In, in-second, Each, each-append}
 use Rattle.jn_reported.proofs.Past.{BeganBy, Past, SaysPast, StageFact, EntryFact}
-use Rattle.jn_reported.proofs.PastRows.{IsThere, each-found, there-staged, there-less, begin-past}
+use Rattle.jn_reported.proofs.PastRows.{IsThere, each-found, there-staged, there-less, there-more, begin-past}
 
 -- ---- tables
 
@@ -49,14 +49,6 @@ there-first x xs = by (tid_tells x.tid x.tid)
     by : ((tid_eq x.tid x.tid ≡ true) × (x.tid ≡ x.tid)) ⊎ ((tid_eq x.tid x.tid ≡ false) × (x.tid ≢ x.tid)) → is_some (if tid_eq x.tid x.tid then Some x else transaction_at x.tid xs) ≡ true
     by (inl p) = ap (λ (b : Bool). is_some (if b then Some x else transaction_at x.tid xs)) p.0
     by (inr p) = absurd (p.1 refl)
-
-there-before : (U : Tid) (xs ys : List Transaction) → IsThere U xs → IsThere U (xs ++ ys)
-there-before U [] ys h = absurd (grind arith)
-there-before U (x ∷ xs) ys h = by (tid_eq x.tid U) h (there-before U xs ys)
-  where
-    by : (b : Bool) → is_some (if b then Some x else transaction_at U xs) ≡ true → (IsThere U xs → IsThere U (xs ++ ys)) → is_some (if b then Some x else transaction_at U (xs ++ ys)) ≡ true
-    by true k on = refl
-    by false k on = on k
 
 -- the transaction that a request began is in the table
 begun-there : (P : Transaction → Type 0) (c : ClientNo) (q : ℕ) (xs : List Transaction) (x : Transaction) → Each P xs → begun_by c q xs ≡ Some x → P x × IsThere x.tid xs
@@ -232,7 +224,7 @@ module _ (os : List Opening) (clients : ClientNo → ClientTable) (w v : Machine
         begins-new : Holds (begin_new (record { transactions = after_closing c t.transactions; seen = seen_now t.seen c q }) (changes_of_closing c t.transactions) k c q)
         begins-new = either (nat_lt (length (after_closing c t.transactions)) 64) _ _
             (record {
-              held = λ T past l. there-before T (after_closing c t.transactions) _ (closing-holds T past t.transactions all-entries l);
+              held = λ T past l. there-more T (after_closing c t.transactions) _ (closing-holds T past t.transactions all-entries l);
               news = λ h. ((there-later (name_from k) (after_closing c t.transactions) _ (there-first (record { tid = name_from k; client = c; begun = Some q; stage = Open }) []), refl, asks), tt);
             })
             (record { held = λ T past l. closing-holds T past t.transactions all-entries l; news = λ h. (tt, tt) })

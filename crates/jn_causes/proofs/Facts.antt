@@ -1,7 +1,6 @@
 -- What each message and each client says of the events that gave it, and of a server that went down after them.
 use Rattle.std.proofs.Common.{◌≡◌, ◌≢◌, ◌⊎◌, inl, inr, ◌<◌, ◌≤◌, ℕ, ◌+◌, Bool, true, false, List, [], ◌∷◌, ◌++◌, length, Option, Some, None, refl, sym, ◌∙◌, ap, subst, arith}
 use Rattle.std.specs.Prelude.{All, ◌||◌}
-use Rattle.std.proofs.lemmas.List.Elements.{All-head, All-tail}
 use Rattle.std.specs.List.{list_any}
 use Rattle.jn_base.specs.declared.names.ServerNo.{ServerNo}
 use Rattle.jn_base.specs.declared.names.ClientNo.{ClientNo}
@@ -36,6 +35,7 @@ use Rattle.jn_reported.proofs.Following.{texts-within}
 use Rattle.jn_reported.proofs.Lists.{In, in-first, Each, each-in, each-of, each-append}
 use Rattle.jn_reported.proofs.Known.{IsPast}
 use Rattle.jn_reported.proofs.PastRows.{IsThere}
+use Rattle.jn_reported.proofs.Reached.{in-all}
 use Rattle.jn_causes.proofs.Evidence.{Stands, stands-below, Came, DownAfter, Stood, came-more, stood-more, down-more, down-now, any-more, any-last, any-line}
 use Rattle.jn_causes.proofs.WorkerKeeps.{IsLive, WorkTold}
 use Rattle.jn_causes.proofs.CoordinatorKeeps.{Spent}
@@ -232,15 +232,8 @@ module _ (es es' : List Event) (on : (j : ℕ) (e : Event) → Stands 1 es j e �
     message-on (to, messages.Drop T W) said its h = spent T h
     message-on (to, _) said its h = tt
 
-    all-of : (P : Sent → Type 0) (xs : List Sent) (x : Sent) → All P xs → In x xs → P x
-    all-of P xs x all i = each-in P xs x (each xs all) i
-      where
-        each : (l : List Sent) → All P l → Each P l
-        each [] a = tt
-        each (y ∷ l) a = (All-head P y l a, each l (All-tail P y l a))
-
     pub one-on : (x : Sent) → In x sent → Now x
-    one-on x i = message-on x (all-of (IsTrue w) sent x says i) (all-of (λ (y : Sent). (a : Opening) → Has a (opening_in y) → Has a (openings sent)) sent x (all-have-theirs sent) i) (each-in (MessageFact es ls (openings sent) clients memory w) sent x facts.messages i)
+    one-on x i = message-on x (in-all (IsTrue w) sent x says i) (in-all (λ (y : Sent). (a : Opening) → Has a (opening_in y) → Has a (openings sent)) sent x (all-have-theirs sent) i) (each-in (MessageFact es ls (openings sent) clients memory w) sent x facts.messages i)
 
     pub messages-on : Each Now more → Each Now (sent ++ more)
     messages-on h = each-append Now sent more (each-of Now sent one-on) h

@@ -55,6 +55,7 @@ use Rattle.jn_reported.proofs.Hearing.{IsQuiet, step-hears, told-is}
 use Rattle.jn_reported.proofs.Past.{EntryFact}
 use Rattle.jn_reported.proofs.PastSteps.{PastFacts}
 use Rattle.jn_reported.proofs.PastWorld.{Later, same-past}
+use Rattle.jn_reported.proofs.Reached.{in-all}
 use Rattle.jn_reported.proofs.StepLines.{AddsLines}
 use Rattle.jn_reported.proofs.Talk.{Talk, step-talk, opening-talk}
 use Rattle.jn_causes.proofs.Evidence.{Stands, stands-more, stands-last, Stood, stood-causes, stood-more, any-more}
@@ -75,11 +76,6 @@ pub record Stays (files : AllFiles) (epochs : ServerNo → ℕ) (es : List Event
   pub past : PastFacts r.sent r.clients r.memory r.found (run_atoms atoms (opening_world files epochs)) (HasCause (openings r.sent) es ls)
   pub causes : CauseFacts es ls r.sent r.clients r.memory r.lines (run_atoms atoms (opening_world files epochs))
   pub parts : (T : Tid) (W : WorkId) → (run_atoms atoms (opening_world files epochs)).ended T ≡ true → (run_atoms atoms (opening_world files epochs)).part T W.server ≡ Some W → WasOpened r.sent T W
-
-all-in : (P : Sent → Type 0) (sent : List Sent) (x : Sent) → All P sent → In x sent → P x
-all-in P [] x all i = absurd i
-all-in P (y ∷ sent) x all (inl e) = subst P e (All-head P y sent all)
-all-in P (y ∷ sent) x all (inr i) = all-in P sent x (All-tail P y sent all) i
 
 module _ (files : AllFiles) (epochs : ServerNo → ℕ) where
   invariant : (es : List Event) (ls : List Line) (r : World) (h : Stays files epochs es ls r) → Invariant (run_atoms h.atoms (opening_world files epochs))
@@ -126,7 +122,7 @@ module _ (files : AllFiles) (epochs : ServerNo → ℕ) where
 
     causes : NextCauses es es' on ls r w (run_atoms next.atoms (run_atoms h.atoms (opening_world files epochs))) h.past h.causes h.parts h.mirrors inv h.locks h.facts h.talk (named-is es ls r h) grown (after step r)
     causes = step-causes es es' on ls r w (run_atoms next.atoms w) h.past h.causes h.parts h.mirrors inv h.locks h.facts h.talk (named-is es ls r h) grown step told
-        (λ x k. all-in (IsTrue (run_atoms next.atoms (run_atoms h.atoms (opening_world files epochs)))) (after step r).sent x next.mirrors.says k)
+        (λ x k. in-all (IsTrue (run_atoms next.atoms (run_atoms h.atoms (opening_world files epochs)))) (after step r).sent x next.mirrors.says k)
 
     lines : AddsLines (AbortStands es ls) r (after step r)
     lines = lines-stand es es' on ls r w (run_atoms next.atoms w) h.past h.causes h.parts h.mirrors inv h.locks h.facts h.talk (named-is es ls r h) grown step

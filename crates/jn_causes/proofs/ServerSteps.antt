@@ -46,7 +46,7 @@ use Rattle.jn_protocol.specs.Servers.{Room, storage_of, of_worker, of_coordinato
 use Rattle.jn_protocol.specs.Steps.{done, stopped, ends, at_memory, works, work, nudge, timeout, crash, narrow, stop_restart, restart}
 use Rattle.jn_protocol.specs.LockFacts.{LockFacts, UpFact, ServerFact}
 use Rattle.jn_moves.specs.Mirrors.{Mirrors, AreTransactions, IsTrue, IsAddressed, knowledge_of, knowledge_in, IsStage}
-use Rattle.jn_moves.proofs.Closing.{still-says}
+use Rattle.jn_moves.proofs.Closing.{same-server, still-says}
 use Rattle.jn_moves.proofs.StageMoves.{knows, stage-is, stage-known}
 use Rattle.jn_moves.proofs.Transactions.{found-is}
 use Rattle.jn_runs.proofs.Openings.{Opening, openings, Has}
@@ -59,6 +59,7 @@ use Rattle.jn_reported.proofs.Known.{IsPast}
 use Rattle.jn_reported.proofs.Past.{Had, Past, VoteFact, SaysPast}
 use Rattle.jn_reported.proofs.PastRows.{IsThere}
 use Rattle.jn_reported.proofs.PastSteps.{PastFacts}
+use Rattle.jn_reported.proofs.Reached.{in-all}
 use Rattle.jn_causes.proofs.Evidence.{Stood, DownAfter}
 use Rattle.jn_reported.proofs.WorkerTalk.{each-work}
 use Rattle.jn_causes.proofs.WorkerKeeps.{IsLive, PhaseTold, WorkTold, all-told, RowKeeps, worker-keeps, step-keeps, Votes, Dropped, Asked, OpensFact, timeout-keeps, restored-told}
@@ -221,24 +222,16 @@ module _ (es : List Event) (ls : List Line) (r : World) (w v : Machine) (past : 
 
   -- ---- rows
 
-  -- what holds of every message that was sent
-  said : (P : Sent → Type 0) → All P r.sent → (x : Sent) → In x r.sent → P x
-  said P all x i = each-in P r.sent x (each r.sent all) i
-    where
-      each : (l : List Sent) → All P l → Each P l
-      each [] a = tt
-      each (y ∷ l) a = (All-head P y l a, each l (All-tail P y l a))
-
   module _ (s : ServerNo) (m : Memory) (is : r.memory s ≡ Some m) (up : UpFact s m (r.found s)) where
     -- a work of an end that isn't here was lost with a server that went down
     lost-work : (T : Tid) (c : ClientNo) (W : WorkId) → In (Server s, messages.Prepare T c W) r.sent → work_at W m.worker ≡ None → VoteFact (openings r.sent) r.clients w Caused T W (votes.Lost W.epoch m.tickets.epoch)
     lost-work T c W i none = by h.stands
       where
         part : Says w (messages.Prepare T c W)
-        part = said (IsTrue w) mirrors.says (Server s, messages.Prepare T c W) i
+        part = in-all (IsTrue w) r.sent (Server s, messages.Prepare T c W) mirrors.says i
 
         here : W.server ≡ s
-        here = said IsAddressed mirrors.addressed (Server s, messages.Prepare T c W) i
+        here = in-all IsAddressed r.sent (Server s, messages.Prepare T c W) mirrors.addressed i
 
         opened : WasOpened r.sent T W
         opened = parts T W part.0 part.1
@@ -260,10 +253,10 @@ module _ (es : List Event) (ls : List Line) (r : World) (w v : Machine) (past : 
     broken-work T c W x u by i found phase = λ d. inr (subst (λ (z : ServerNo). says (breaks z T u by) ls ≡ true) (sym (ap (λ (V : WorkId). V.server) (found-name W m.worker x found) ∙ here)) (subst (λ (U : Tid). says (breaks s U u by) ls ≡ true) same told))
       where
         part : Says w (messages.Prepare T c W)
-        part = said (IsTrue w) mirrors.says (Server s, messages.Prepare T c W) i
+        part = in-all (IsTrue w) r.sent (Server s, messages.Prepare T c W) mirrors.says i
 
         here : W.server ≡ s
-        here = said IsAddressed mirrors.addressed (Server s, messages.Prepare T c W) i
+        here = in-all IsAddressed r.sent (Server s, messages.Prepare T c W) mirrors.addressed i
 
         same : x.tid ≡ T
         same = sym (mirrors.owner s m W x is found).1 ∙ (inv.core.parts T W.server W part.1).owner
@@ -310,15 +303,12 @@ module _ (es : List Event) (ls : List Line) (r : World) (w v : Machine) (past : 
         news (to, _) p = absurd p
 
     worker-ends : (k : ℕ) (stop : Option (Pick → ℕ)) (room : Room) (message : Message) → In (Server s, message) r.sent → ServerKeeps (ends s (Some k) stop (of_worker m (worker_row m.worker (storage_of m (stable (r.found s)) room) m.tickets message)) r)
-    worker-ends k (Some made) room message i = down-keeps s (texts.Stopped s) tt (self s) _ refl refl refl refl
-      where
-        self : (z : ServerNo) → server_eq z z ≡ true
-        self z = grind (arith, server_tells z z)
+    worker-ends k (Some made) room message i = down-keeps s (texts.Stopped s) tt (same-server s) _ refl refl refl refl
     worker-ends k None room message i = worker-done (Some k) _ _ _ (worker-row (Some k) room message i) (λ c q T e. subst (λ z. In (Server s, z) r.sent) e i) (λ W at g. spent (w.owner W) (drops W g))
       where
         drops : (W : WorkId) → (T : Tid) × (message ≡ messages.Drop T W) → Spent w (w.owner W)
         drops W g = let j = subst (λ z. In (Server s, z) r.sent) g.1 i in
-            subst (λ (U : Tid). Spent w U) (sym (said (IsTrue w) mirrors.says (Server s, messages.Drop g.0 W) j).0.1) (each-in (MessageFact es ls (openings r.sent) r.clients r.memory w) r.sent (Server s, messages.Drop g.0 W) cause.messages j)
+            subst (λ (U : Tid). Spent w U) (sym (in-all (IsTrue w) r.sent (Server s, messages.Drop g.0 W) mirrors.says j).0.1) (each-in (MessageFact es ls (openings r.sent) r.clients r.memory w) r.sent (Server s, messages.Drop g.0 W) cause.messages j)
 
     -- a work that goes on was of a transaction that has committed
     going-named : (W : WorkId) → is_going ((stable (r.found s)).works W) ≡ true → w.named (w.owner W) ≡ true
@@ -329,10 +319,7 @@ module _ (es : List Event) (ls : List Line) (r : World) (w v : Machine) (past : 
         by (Some p) e k = ((inv.core.states s (λ n. false)).prepared W p e).going k
 
     pub step-ends : (stop : Option (Pick → ℕ)) (room : Room) (row : RowOutcome WorkerTable) → worker_step m.worker (storage_of m (stable (r.found s)) room) m.tickets ≡ Some row → ServerKeeps (ends s None stop (of_worker m row) r)
-    step-ends (Some made) room row h = down-keeps s (texts.Stopped s) tt (self s) _ refl refl refl refl
-      where
-        self : (z : ServerNo) → server_eq z z ≡ true
-        self z = grind (arith, server_tells z z)
+    step-ends (Some made) room row h = down-keeps s (texts.Stopped s) tt (same-server s) _ refl refl refl refl
     step-ends None room row h = worker-done None row (λ c q T. ⊥) (λ W. is_going ((stable (r.found s)).works W) ≡ true)
         (step-keeps (openings r.sent) r.clients w Caused full s None r.lines m.worker m.tickets up.table.rising up.table.place (cause.broken s m is) (storage_of m (stable (r.found s)) room) row h) (λ c q T k. absurd k) (λ W at g. spent (w.owner W) (inl (going-named W g)))
 
@@ -366,18 +353,15 @@ module _ (es : List Event) (ls : List Line) (r : World) (w v : Machine) (past : 
         → Comes (openings r.sent) r.clients w v Caused facts.unique full m.coordinator m.tickets (past.entries s m is) places past.last named-here aborted-here (λ c q. message ≡ messages.Begin c q) message
     comes (messages.Begin c q) i = (refl, each-in (SaysPast (openings r.sent) r.clients w Caused) r.sent (Server s, messages.Begin c q) past.says i)
     comes (messages.Thanks c T) i = each-in (SaysPast (openings r.sent) r.clients w Caused) r.sent (Server s, messages.Thanks c T) past.says i
-    comes (messages.End c q T Ws) i = known T (said IsAddressed mirrors.addressed (Server s, messages.End c q T Ws) i) (said (IsTrue w) mirrors.says (Server s, messages.End c q T Ws) i).0
-    comes (messages.Abort c q T Ws) i = known T (said IsAddressed mirrors.addressed (Server s, messages.Abort c q T Ws) i) (said (IsTrue w) mirrors.says (Server s, messages.Abort c q T Ws) i).0
-    comes (messages.Vote T W vote) i = known T (said IsAddressed mirrors.addressed (Server s, messages.Vote T W vote) i) (facts.begun T (said (IsTrue w) mirrors.says (Server s, messages.Vote T W vote) i).1.0)
-    comes (messages.Inquire T W) i = let of = said (IsTrue w) mirrors.says (Server s, messages.Inquire T W) i in known T (said IsAddressed mirrors.addressed (Server s, messages.Inquire T W) i) (subst (λ (U : Tid). w.begun U ≡ true) of.1 (inv.core.rest.of_begun W of.0))
+    comes (messages.End c q T Ws) i = known T (in-all IsAddressed r.sent (Server s, messages.End c q T Ws) mirrors.addressed i) (in-all (IsTrue w) r.sent (Server s, messages.End c q T Ws) mirrors.says i).0
+    comes (messages.Abort c q T Ws) i = known T (in-all IsAddressed r.sent (Server s, messages.Abort c q T Ws) mirrors.addressed i) (in-all (IsTrue w) r.sent (Server s, messages.Abort c q T Ws) mirrors.says i).0
+    comes (messages.Vote T W vote) i = known T (in-all IsAddressed r.sent (Server s, messages.Vote T W vote) mirrors.addressed i) (facts.begun T (in-all (IsTrue w) r.sent (Server s, messages.Vote T W vote) mirrors.says i).1.0)
+    comes (messages.Inquire T W) i = let of = in-all (IsTrue w) r.sent (Server s, messages.Inquire T W) mirrors.says i in known T (in-all IsAddressed r.sent (Server s, messages.Inquire T W) mirrors.addressed i) (subst (λ (U : Tid). w.begun U ≡ true) of.1 (inv.core.rest.of_begun W of.0))
     comes _ i = tt
 
     coordinator-ends : (k : ℕ) (stop : Option (Pick → ℕ)) (free : ℕ) (message : Message) → In (Server s, message) r.sent → ((x : Sent) → In x (ends s (Some k) stop (of_coordinator m (coordinator_row m.coordinator free m.tickets message)) r).sent → IsTrue v x)
         → ServerKeeps (ends s (Some k) stop (of_coordinator m (coordinator_row m.coordinator free m.tickets message)) r)
-    coordinator-ends k (Some made) free message i true' = down-keeps s (texts.Stopped s) tt (self s) _ refl refl refl refl
-      where
-        self : (z : ServerNo) → server_eq z z ≡ true
-        self z = grind (arith, server_tells z z)
+    coordinator-ends k (Some made) free message i true' = down-keeps s (texts.Stopped s) tt (same-server s) _ refl refl refl refl
     coordinator-ends k None free message i true' = record {
       new = lines_of s (Some k) row.notes;
       adds = refl;
@@ -487,9 +471,6 @@ module _ (es : List Event) (ls : List Line) (r : World) (w v : Machine) (past : 
   up-at : (s : ServerNo) (m : Memory) → r.memory s ≡ Some m → UpFact s m (r.found s)
   up-at s m is = subst (λ o. ServerFact s o (r.found s)) is (locks s)
 
-  self : (z : ServerNo) → server_eq z z ≡ true
-  self z = grind (arith, server_tells z z)
-
   pub memory-keeps : (s : ServerNo) (k : ℕ) (room : Room) (stop : Option (Pick → ℕ)) (message : Message) (o : Option Memory) → r.memory s ≡ o → In (Server s, message) r.sent → ((x : Sent) → In x (at_memory s k room stop message o r).sent → IsTrue v x) → ServerKeeps (at_memory s k room stop message o r)
   memory-keeps s k room stop message None is i true' = quiet-keeps _ (texts.Lost k) refl refl refl refl tt
   memory-keeps s k room stop message (Some m) is i true' = delivered s m is (up-at s m is) k room stop message i true'
@@ -512,7 +493,7 @@ module _ (es : List Event) (ls : List Line) (r : World) (w v : Machine) (past : 
 
   pub crash-keeps : (s : ServerNo) (o : Option Memory) → ServerKeeps (crash s o r)
   crash-keeps s None = nothing-keeps
-  crash-keeps s (Some m) = down-keeps s (texts.Down s) tt (self s) _ refl refl refl refl
+  crash-keeps s (Some m) = down-keeps s (texts.Down s) tt (same-server s) _ refl refl refl refl
 
   pub narrow-keeps : (s : ServerNo) (g : Pick → Pick) (o : Option Memory) → ServerKeeps (narrow s g o r)
   narrow-keeps s g None = still-keeps _ [] [] (sym (append-nil r.lines)) (sym (append-nil r.sent)) refl refl tt tt

@@ -67,6 +67,7 @@ use Rattle.jn_reported.proofs.PastSteps.{PastFacts}
 use Rattle.jn_reported.proofs.PastWorld.{Later, coordinator-quiet}
 use Rattle.jn_reported.proofs.PastAll.{step-past}
 use Rattle.jn_reported.proofs.Outcomes.{IsTrueAbort}
+use Rattle.jn_reported.proofs.Reached.{in-all}
 use Rattle.jn_reported.proofs.StepLines.{IsPlainText, AddsLines, step-lines}
 use Rattle.jn_causes.proofs.Evidence.{Stands, Stood, DownAfter, in-here}
 use Rattle.jn_causes.proofs.WorkerKeeps.{IsLive, WorkTold}
@@ -85,12 +86,6 @@ pub record IsTold (es es' : List Event) (ls : List Line) (r : World) (c : Client
   pub stands : Stands 1 es' r.event (events.Command c command)
   pub within : AreWithin 0 r.event ls
   pub now : r.event ≡ 1 + length es
-
--- what holds of every message holds of this one
-in-all : (P : Sent → Type 0) (sent : List Sent) (x : Sent) → All P sent → In x sent → P x
-in-all P [] x all i = absurd i
-in-all P (y ∷ sent) x all (inl e) = subst P e (All-head P y sent all)
-in-all P (y ∷ sent) x all (inr i) = in-all P sent x (All-tail P y sent all) i
 
 -- ---- one step
 

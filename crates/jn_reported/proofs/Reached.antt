@@ -139,7 +139,7 @@ plain-fact sent w (says.Broke s T u by) h = absurd h
 plain-fact sent w _ h = tt
 
 -- what holds of every message holds of this one
-in-all : (P : Sent → Type 0) (sent : List Sent) (x : Sent) → All P sent → In x sent → P x
+pub in-all : (P : Sent → Type 0) (sent : List Sent) (x : Sent) → All P sent → In x sent → P x
 in-all P [] x all i = absurd i
 in-all P (y ∷ sent) x all (inl e) = subst P e (All-head P y sent all)
 in-all P (y ∷ sent) x all (inr i) = in-all P sent x (All-tail P y sent all) i
