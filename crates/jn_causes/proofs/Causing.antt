@@ -1,6 +1,5 @@
 -- The lines of a run have their causes, event by event.
-use Rattle.std.proofs.Common.{◌≡◌, ◌≤◌, ◌<◌, ℕ, suc, ◌+◌, Bool, true, false, List, [], ◌∷◌, ◌++◌, append-nil, append_assoc, length, Some, None, refl, sym, ◌∙◌, ap, subst, arith}
-use Rattle.std.specs.Prelude.{map}
+use Rattle.std.proofs.Common.{◌≡◌, ◌≤◌, ℕ, ◌+◌, true, false, List, [], ◌∷◌, ◌++◌, append-nil, append_assoc, length, Some, None, refl, sym, ◌∙◌, ap, subst, arith}
 use Rattle.jn_base.specs.declared.names.ServerNo.{ServerNo}
 use Rattle.jn_base.specs.declared.names.ClientNo.{ClientNo}
 use Rattle.jn_base.specs.declared.names.Tid.{Tid}
@@ -148,8 +147,11 @@ module _ (files : AllFiles) (epochs : ServerNo → ℕ) where
         same d k q = cc
 
         told : (d : ClientNo) (k : Command) → Tell c command ≡ Tell d k → IsTold es (es ++ events.Command c command ∷ []) ls r d k
-        told d k q = record { stands = subst (λ (z : Event). Stands 1 (es ++ events.Command c command ∷ []) r.event z) (same d k q) (subst (λ n. Stands 1 (es ++ events.Command c command ∷ []) n (events.Command c command)) (sym now) (stands-last 1 es (events.Command c command)));
-            within = subst (λ n. AreWithin 0 n ls) (sym now) within; now = now }
+        told d k q = record {
+          stands = subst (λ (z : Event). Stands 1 (es ++ events.Command c command ∷ []) r.event z) (same d k q) (subst (λ n. Stands 1 (es ++ events.Command c command ∷ []) n (events.Command c command)) (sym now) (stands-last 1 es (events.Command c command)));
+          within = subst (λ n. AreWithin 0 n ls) (sym now) within;
+          now = now;
+        }
 
         s : StepStays files epochs es (es ++ events.Command c command ∷ []) ls r (Tell c command)
         s = next-stays files epochs es (es ++ events.Command c command ∷ []) (λ j d k. stands-more 1 es (events.Command c command ∷ []) j d k) ls r (Tell c command) i.0 told h

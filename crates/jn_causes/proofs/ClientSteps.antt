@@ -1,7 +1,6 @@
 -- A client's step: what it is told to do is its event, and what it takes was asked for by one.
-use Rattle.std.proofs.Common.{◌≡◌, ◌≢◌, ◌⊎◌, inl, inr, ◌<◌, ◌≤◌, ℕ, ◌+◌, Bool, true, false, List, [], ◌∷◌, ◌++◌, append-nil, length, Option, Some, None, refl, sym, ◌∙◌, ap, subst, arith}
+use Rattle.std.proofs.Common.{◌≡◌, ◌≢◌, ◌⊎◌, inl, inr, ◌<◌, ◌≤◌, ℕ, ◌+◌, Bool, true, false, List, [], ◌∷◌, ◌++◌, length, Option, Some, None, refl, sym, ◌∙◌, ap, subst, arith}
 use Rattle.std.specs.Prelude.{◌&&◌, ◌||◌, if◌then◌else◌, nat_eq, nat_lt}
-use Rattle.std.specs.List.{list_any}
 use Rattle.std.proofs.lemmas.Bool.Decides.{nat_tests}
 use Rattle.jn_base.specs.declared.names.ServerNo.{ServerNo}
 use Rattle.jn_base.specs.declared.names.ClientNo.{ClientNo}
@@ -21,7 +20,6 @@ use Rattle.jn_msgs.specs.declared.message.Outcome.{Outcome}
 use Rattle.jn_msgs.specs.declared.message.Outcome.TheVariants as outcomes
 use Rattle.jn_schedule.specs.declared.Event.{Event}
 use Rattle.jn_schedule.specs.declared.Event.TheVariants as events
-use Rattle.jn_report.specs.declared.line.When.TheVariants.{Event as AtEvent}
 use Rattle.jn_report.specs.declared.line.Refusal.TheVariants as refusals
 use Rattle.jn_report.specs.declared.line.Text.{Text}
 use Rattle.jn_report.specs.declared.line.Text.TheVariants as texts
@@ -38,16 +36,14 @@ use Rattle.jn_machine.proofs.Updates.{not_both}
 use Rattle.jn_protocol.specs.World.{World, at_client}
 use Rattle.jn_protocol.specs.Steps.{sent_now}
 use Rattle.jn_moves.specs.Mirrors.{Mirrors}
-use Rattle.jn_runs.proofs.Openings.{Opening, openings, openings-more, Has, has-first}
+use Rattle.jn_runs.proofs.Openings.{openings, openings-more, Has, has-first}
 use Rattle.jn_runs.proofs.Facts.{opening, Facts}
-use Rattle.jn_serial.specs.Lines.{lines_before, says}
-use Rattle.jn_serial.specs.Caused.{begun_after, begun_then, last_begun, begins, joins, is_tid as is_last, is_in}
+use Rattle.jn_serial.specs.Lines.{says}
+use Rattle.jn_serial.specs.Caused.{last_begun, begins}
 use Rattle.jn_serial.proofs.Growth.{AreWithin}
-use Rattle.jn_serial.proofs.CausedGrowth.{lines_before-whole}
 use Rattle.jn_reported.specs.Reported.{at_event}
 use Rattle.jn_reported.proofs.Lists.{In, Each, each-of}
 use Rattle.jn_reported.proofs.ClientTalk.{TableGoes}
-use Rattle.jn_reported.proofs.PastRows.{IsThere}
 use Rattle.jn_causes.proofs.Evidence.{Stands, Came, DownAfter, down-more, any-last, in-here}
 use Rattle.jn_causes.proofs.WorkerKeeps.{all-told}
 use Rattle.jn_causes.proofs.CoordinatorKeeps.{Spent}

@@ -1,5 +1,5 @@
 -- A coordinator's row: a transaction that isn't past stays in its table, and what is dropped has its outcome.
-use Rattle.std.proofs.Common.{◌≡◌, ◌≢◌, ◌⊎◌, inl, inr, ℕ, ◌+◌, Bool, true, false, List, [], ◌∷◌, ◌++◌, Option, Some, None, is_some, refl, sym, ◌∙◌, ap, subst, arith}
+use Rattle.std.proofs.Common.{◌≡◌, ◌≢◌, ◌⊎◌, inl, inr, ℕ, ◌+◌, Bool, true, false, List, [], ◌∷◌, ◌++◌, Option, Some, None, is_some, refl, sym, ap, subst, arith}
 use Rattle.std.specs.Prelude.{◌&&◌, not, if◌then◌else◌, nat_lt, nat_eq, length}
 use Rattle.jn_base.specs.declared.names.ServerNo.{ServerNo}
 use Rattle.jn_base.specs.declared.names.ClientNo.{ClientNo}
@@ -12,7 +12,6 @@ use Rattle.jn_base.specs.Names.{client_eq, tid_eq}
 use Rattle.jn_base.proofs.Tells.{client_tells, tid_tells}
 use Rattle.jn_msgs.specs.declared.message.Message.{Message}
 use Rattle.jn_msgs.specs.declared.message.Message.TheVariants as messages
-use Rattle.jn_msgs.specs.declared.message.Outcome.TheVariants as outcomes
 use Rattle.jn_msgs.specs.declared.message.Note.{Note}
 use Rattle.jn_msgs.specs.declared.message.Vote.{Vote}
 use Rattle.jn_msgs.specs.declared.message.Vote.TheVariants as votes
@@ -25,12 +24,12 @@ use Rattle.jn_rows.specs.declared.coordinator.Committed.{Committed as Commitment
 use Rattle.jn_rows.specs.Stable.{StableState, Change, DropFlag}
 use Rattle.jn_rows.specs.Outcomes.{RowOutcome, Sent}
 use Rattle.jn_rows.specs.Client.{ClientTable}
-use Rattle.jn_rows.specs.Coordinator.{CoordinatorTable, transaction_at, with_stage, without, with_work, is_work, all_in, besides, drops, commits, prepares, aborted_to, committed_to, commit_row, abort_row, forget_row, begin_new, begin_again, begun_by, is_begun, name_from, closed, after_closing, changes_of_closing, seen_now, not_known, end_promised, end_open, end_stage, end_row, abort_stage, abort_request, told_stage, inquire_row, counted_vote, vote_stage, vote_row, done_stage, done_row, thanks_stage, thanks_row, coordinator_row, told_again, coordinator_again}
+use Rattle.jn_rows.specs.Coordinator.{CoordinatorTable, transaction_at, with_stage, without, with_work, is_work, all_in, besides, drops, commits, prepares, aborted_to, committed_to, commit_row, abort_row, forget_row, begin_new, begin_again, begun_by, is_begun, name_from, closed, after_closing, changes_of_closing, seen_now, end_promised, end_stage, end_row, abort_stage, abort_request, told_stage, inquire_row, counted_vote, vote_stage, vote_row, done_stage, done_row, thanks_stage, thanks_row, coordinator_row}
 use Rattle.jn_machine.specs.World.{World as Machine}
 use Rattle.jn_moves.specs.Mirrors.{IsTrue}
 use Rattle.jn_runs.proofs.Openings.{Opening, Has}
 use Rattle.jn_reported.proofs.Lists.{In, in-second, Each, each-append}
-use Rattle.jn_reported.proofs.Past.{BeganBy, Past, SaysPast, StageFact, EntryFact}
+use Rattle.jn_reported.proofs.Past.{BeganBy, Past, StageFact, EntryFact}
 use Rattle.jn_reported.proofs.PastRows.{IsThere, each-found, there-staged, there-less, there-more, begin-past}
 
 -- ---- tables
@@ -99,9 +98,6 @@ module _ (os : List Opening) (clients : ClientNo → ClientTable) (w v : Machine
     NewsFact Asks now (to, messages.Commit T W) = Unit {0}
     NewsFact Asks now (to, messages.Drop T W) = Spent v T
     NewsFact Asks now (to, message) = ⊥
-
-    abbrev AllTrue : List Sent → Type 0
-    AllTrue sent = (m : Sent) → In m sent → IsTrue v m
 
     pub record RowHolds (Asks : ClientNo → ℕ → Type 0) (row : RowOutcome CoordinatorTable) : Type 0 where
       pub held : (T : Tid) → NotPast T → IsThere T t.transactions → IsThere T row.table.transactions

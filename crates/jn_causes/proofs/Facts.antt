@@ -8,13 +8,12 @@ use Rattle.jn_base.specs.declared.names.Tid.{Tid}
 use Rattle.jn_base.specs.declared.names.WorkId.{WorkId}
 use Rattle.jn_base.specs.declared.names.Cause.{Cause}
 use Rattle.jn_base.specs.declared.names.Party.{Party}
-use Rattle.jn_base.specs.declared.names.Party.TheVariants.{Client, Server}
+use Rattle.jn_base.specs.declared.names.Party.TheVariants.{Server}
 use Rattle.jn_base.specs.declared.op.Command.TheVariants as commands
 use Rattle.jn_msgs.specs.declared.message.Message.TheVariants as messages
 use Rattle.jn_schedule.specs.declared.Event.{Event}
 use Rattle.jn_schedule.specs.declared.Event.TheVariants as events
 use Rattle.jn_report.specs.declared.line.Text.{Text}
-use Rattle.jn_report.specs.declared.line.Text.TheVariants as texts
 use Rattle.jn_report.specs.declared.line.Line.{Line}
 use Rattle.jn_rows.specs.declared.client.Outstanding.{Outstanding}
 use Rattle.jn_rows.specs.Outcomes.{Sent}
@@ -29,7 +28,6 @@ use Rattle.jn_runs.proofs.Openings.{Opening, opening_in, openings, openings-more
 use Rattle.jn_runs.proofs.Facts.{opening, Began}
 use Rattle.jn_serial.specs.Lines.{says}
 use Rattle.jn_serial.specs.Caused.{begun_after, begun_then, last_begun, goes_down}
-use Rattle.jn_serial.proofs.Growth.{AreWithin}
 use Rattle.jn_reported.specs.Reported.{at_event}
 use Rattle.jn_reported.proofs.Following.{texts-within}
 use Rattle.jn_reported.proofs.Lists.{In, in-first, Each, each-in, each-of, each-append}
@@ -125,9 +123,6 @@ pub opened-more : (sent more : List Sent) (T : Tid) (W : WorkId) → WasOpened s
 opened-more sent more T W h = record { to = h.to; client = h.client; request = h.request; is = in-first _ sent more h.is }
 
 module _ (es es' : List Event) (on : (j : ℕ) (e : Event) → Stands 1 es j e → Stands 1 es' j e) (ls : List Line) (new : List Text) where
-  abbrev pub now : List Line
-  now = ls ++ at_event (1 + length es) new
-
   pub cause-more : (os os' : List Opening) → ((a : Opening) → Has a os → Has a os') → (c : ClientNo) (T : Tid) (cause : Cause) → HasCause os es ls c T cause → HasCause os' es' (ls ++ at_event (1 + length es) new) c T cause
   cause-more os os' more c T cause (inl h) = inl (record { client = h.client; request = h.request; has = more _ h.has; other = h.other })
   cause-more os os' more c T cause (inr h) = inr (stood-more es es' on ls (at_event (1 + length es) new) (1 + length es + 1) (texts-within (1 + length es) new) c T cause h)
@@ -166,12 +161,6 @@ module _ (es es' : List Event) (on : (j : ℕ) (e : Event) → Stands 1 es j e �
       (spent : (T : Tid) → Spent w T → Spent v T) (next : (c : ClientNo) (q : ℕ) → q < (clients c).next → q < (clients' c).next) (waits : (c : ClientNo) (o : Outstanding) → (clients' c).outstanding ≡ Some o → ((clients c).outstanding ≡ Some o) ⊎ ((clients c).next ≤ o.request))
       (holds : (T : Tid) → ((c : ClientNo) → IsPast (openings sent) c (clients c) T → ⊥) → HasTransaction memory T → HasTransaction memory' T ⊎ GoesDown T.server)
       (has : (W : WorkId) → HasWork memory W → HasWork memory' W ⊎ (GoesDown W.server ⊎ Spent v (w.owner W))) where
-    abbrev os : List Opening
-    os = openings sent
-
-    abbrev os' : List Opening
-    os' = openings (sent ++ more)
-
     pub forth : (a : Opening) → Has a (openings sent) → Has a (openings (sent ++ more))
     forth a h = subst (λ l. Has a l) (sym (openings-more sent more)) (has-first a (openings sent) (openings more) h)
 

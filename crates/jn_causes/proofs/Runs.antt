@@ -1,29 +1,19 @@
 -- What holds after any steps, with the events that they stand under.
-use Rattle.std.proofs.Common.{◌≡◌, ◌⊎◌, inl, inr, ◌<◌, ◌≤◌, ℕ, suc, ◌+◌, Bool, true, false, List, [], ◌∷◌, ◌++◌, append-nil, append_assoc, length, drop, Option, Some, None, is_some, refl, sym, ◌∙◌, ap, subst, arith}
-use Rattle.std.specs.Prelude.{◌||◌, All}
+use Rattle.std.proofs.Common.{◌≡◌, inr, ℕ, ◌+◌, true, List, [], ◌++◌, append-nil, length, Some, is_some, sym, ◌∙◌, ap, subst}
 use Rattle.std.specs.List.{list_any}
-use Rattle.std.proofs.Math.Seq.{drop-append_seam}
-use Rattle.std.proofs.lemmas.List.Elements.{All-head, All-tail}
 use Rattle.jn_base.specs.declared.names.ServerNo.{ServerNo}
 use Rattle.jn_base.specs.declared.names.ClientNo.{ClientNo}
 use Rattle.jn_base.specs.declared.names.Tid.{Tid}
 use Rattle.jn_base.specs.declared.names.WorkId.{WorkId}
-use Rattle.jn_base.specs.declared.names.Cause.{Cause}
 use Rattle.jn_base.specs.declared.op.Command.{Command}
 use Rattle.jn_base.specs.Names.{tid_eq}
 use Rattle.jn_order.specs.Files.{AllFiles}
 use Rattle.jn_msgs.specs.declared.message.Message.TheVariants as messages
 use Rattle.jn_schedule.specs.declared.Event.{Event}
-use Rattle.jn_schedule.specs.declared.Event.TheVariants as events
-use Rattle.jn_report.specs.declared.line.When.{When}
-use Rattle.jn_report.specs.declared.line.When.TheVariants.{Event as AtEvent}
 use Rattle.jn_report.specs.declared.line.Text.{Text}
-use Rattle.jn_report.specs.declared.line.Text.TheVariants as texts
 use Rattle.jn_report.specs.declared.line.Line.{Line}
-use Rattle.jn_rows.specs.declared.client.Outstanding.{Outstanding}
 use Rattle.jn_rows.specs.Stable.{Pick}
 use Rattle.jn_rows.specs.Outcomes.{Sent}
-use Rattle.jn_rows.specs.Client.{Commanded, Refuses, Sends, command_row}
 use Rattle.jn_machine.specs.World.{World as Machine}
 use Rattle.jn_machine.specs.Invariant.{Invariant}
 use Rattle.jn_machine.specs.Steps.{Atom, run as run_atoms, opening_world}
@@ -32,37 +22,30 @@ use Rattle.jn_machine.proofs.History.{run_told, opening_told}
 use Rattle.jn_machine.proofs.MessageLemmas.{Grows, run_grows}
 use Rattle.jn_machine.proofs.Runs.{run_kept, opening_kept}
 use Rattle.jn_machine.proofs.Updates.{some_of}
-use Rattle.jn_protocol.specs.World.{World, Memory, opening, new_memory, has_line}
-use Rattle.jn_protocol.specs.Steps.{Step, NextEvent, Tell, IsStep, after, run, IsRun, commanded}
+use Rattle.jn_protocol.specs.World.{World, has_line}
+use Rattle.jn_protocol.specs.Steps.{Step, Tell, IsStep, after}
 use Rattle.jn_protocol.specs.LockFacts.{LockFacts}
-use Rattle.jn_protocol.proofs.Steps.{locks-keep, opening-keeps}
+use Rattle.jn_protocol.proofs.Steps.{locks-keep}
 use Rattle.jn_moves.specs.Mirrors.{Mirrors, IsTrue}
 use Rattle.jn_moves.proofs.Closing.{still-says}
 use Rattle.jn_moves.proofs.Losing.{run-append, may-append}
-use Rattle.jn_moves.proofs.StepMoves.{opening-mirrors, committed-any}
+use Rattle.jn_moves.proofs.StepMoves.{committed-any}
 use Rattle.jn_runs.proofs.Openings.{openings}
 use Rattle.jn_runs.proofs.Facts.{Facts}
 use Rattle.jn_runs.proofs.ClientSteps.{Next}
-use Rattle.jn_runs.proofs.Runs.{step-next, opening-facts}
-use Rattle.jn_serial.specs.Caused.{is_caused_by, is_caused, CausedFrom, Caused}
-use Rattle.jn_serial.proofs.Growth.{AreWithin, AreWithin-wider, AreWithin-append}
-use Rattle.jn_reported.specs.Armed.{ArmedFrom}
-use Rattle.jn_reported.specs.Reported.{Act, Does, Refuses as Refused, Tells, Item, events_of, steps_in, steps_of, told_by, told_in, told_under, after_item, at_event, lines_of, IsUnder, AreUnder, IsReported}
-use Rattle.jn_reported.proofs.Lists.{In, Each, each-append}
-use Rattle.jn_reported.proofs.ArmedRuns.{run-armed}
-use Rattle.jn_reported.proofs.Following.{IsQuietAct, IsPlain, under-quiet, run-split, texts-within}
-use Rattle.jn_reported.proofs.Hearing.{IsQuiet, step-hears, told-is}
-use Rattle.jn_reported.proofs.Past.{EntryFact}
+use Rattle.jn_runs.proofs.Runs.{step-next}
+use Rattle.jn_reported.specs.Reported.{Does, told_by, at_event}
+use Rattle.jn_reported.proofs.Lists.{Each}
+use Rattle.jn_reported.proofs.Hearing.{told-is}
 use Rattle.jn_reported.proofs.PastSteps.{PastFacts}
 use Rattle.jn_reported.proofs.PastWorld.{Later, same-past}
 use Rattle.jn_reported.proofs.Reached.{in-all}
 use Rattle.jn_reported.proofs.StepLines.{AddsLines}
-use Rattle.jn_reported.proofs.Talk.{Talk, step-talk, opening-talk}
-use Rattle.jn_causes.proofs.Evidence.{Stands, stands-more, stands-last, Stood, stood-causes, stood-more, any-more}
-use Rattle.jn_causes.proofs.WorkerKeeps.{WorkTold}
+use Rattle.jn_reported.proofs.Talk.{Talk, step-talk}
+use Rattle.jn_causes.proofs.Evidence.{Stands, any-more}
 use Rattle.jn_causes.proofs.Facts.{WasOpened, HasCause, MessageFact, ClientFact, CauseFacts, IsMute, cause-more}
 use Rattle.jn_causes.proofs.ClientSteps.{again-facts}
-use Rattle.jn_causes.proofs.Steps.{AbortStands, IsTold, NextCauses, step-causes, past-next, parts-next, lines-stand, votes-say, lost-there, any-full}
+use Rattle.jn_causes.proofs.Steps.{AbortStands, IsTold, NextCauses, step-causes, past-next, parts-next, lines-stand, votes-say, lost-there}
 
 -- ---- what holds after any steps
 
@@ -78,9 +61,6 @@ pub record Stays (files : AllFiles) (epochs : ServerNo → ℕ) (es : List Event
   pub parts : (T : Tid) (W : WorkId) → (run_atoms atoms (opening_world files epochs)).ended T ≡ true → (run_atoms atoms (opening_world files epochs)).part T W.server ≡ Some W → WasOpened r.sent T W
 
 module _ (files : AllFiles) (epochs : ServerNo → ℕ) where
-  invariant : (es : List Event) (ls : List Line) (r : World) (h : Stays files epochs es ls r) → Invariant (run_atoms h.atoms (opening_world files epochs))
-  invariant es ls r h = run_kept h.atoms (opening_world files epochs) h.may (opening_kept files epochs)
-
   named-is : (es : List Event) (ls : List Line) (r : World) (h : Stays files epochs es ls r) (T : Tid) → (run_atoms h.atoms (opening_world files epochs)).named T ≡ has_line T r.lines
   named-is es ls r h T = (run_told files h.atoms (opening_world files epochs) h.may (opening_kept files epochs) (opening_told files epochs)).1.named T ∙ committed-any T (run_atoms h.atoms (opening_world files epochs)).history
       ∙ ap (λ l. list_any (λ (V : Tid). tid_eq V T) l) h.mirrors.commits

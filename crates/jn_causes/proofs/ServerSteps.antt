@@ -1,18 +1,17 @@
 -- A server's step: what it has it has after it, or went down, or knows the outcome of.
 use Rattle.std.proofs.Common.{◌≡◌, ◌≢◌, ◌⊎◌, inl, inr, ℕ, ◌+◌, Bool, true, false, List, [], ◌∷◌, ◌++◌, append-nil, Option, Some, None, is_some, refl, sym, ◌∙◌, ap, subst, arith}
-use Rattle.std.specs.Prelude.{if◌then◌else◌, All, nat_lt, slice_get}
+use Rattle.std.specs.Prelude.{if◌then◌else◌, nat_lt}
 use Rattle.std.specs.List.{list_any}
-use Rattle.std.proofs.lemmas.List.Elements.{All-head, All-tail}
 use Rattle.jn_base.specs.declared.names.ServerNo.{ServerNo}
 use Rattle.jn_base.specs.declared.names.ClientNo.{ClientNo}
 use Rattle.jn_base.specs.declared.names.LockUnit.{LockUnit}
 use Rattle.jn_base.specs.declared.names.Tid.{Tid}
 use Rattle.jn_base.specs.declared.names.WorkId.{WorkId}
 use Rattle.jn_base.specs.declared.names.Cause.{Cause}
-use Rattle.jn_base.specs.declared.names.Cause.TheVariants.{Broken as BrokenAt, Lost as LostAt, Full as FullAt}
-use Rattle.jn_base.specs.declared.names.Party.TheVariants.{Client, Server}
-use Rattle.jn_base.specs.Names.{server_eq, client_eq, tid_eq}
-use Rattle.jn_base.proofs.Tells.{server_tells, client_tells, tid_tells}
+use Rattle.jn_base.specs.declared.names.Cause.TheVariants.{Lost as LostAt, Full as FullAt}
+use Rattle.jn_base.specs.declared.names.Party.TheVariants.{Server}
+use Rattle.jn_base.specs.Names.{server_eq, client_eq}
+use Rattle.jn_base.proofs.Tells.{server_tells, client_tells}
 use Rattle.jn_msgs.specs.declared.message.Message.{Message}
 use Rattle.jn_msgs.specs.declared.message.Message.TheVariants as messages
 use Rattle.jn_msgs.specs.declared.message.Note.{Note}
@@ -24,7 +23,7 @@ use Rattle.jn_report.specs.declared.line.Text.TheVariants as texts
 use Rattle.jn_report.specs.declared.line.Line.{Line}
 use Rattle.jn_rows.specs.declared.worker.Work.{Work}
 use Rattle.jn_rows.specs.declared.worker.Phase.{Phase}
-use Rattle.jn_rows.specs.declared.worker.Phase.TheVariants.{Active, Broken, Prepared as Stored}
+use Rattle.jn_rows.specs.declared.worker.Phase.TheVariants.{Broken}
 use Rattle.jn_rows.specs.declared.coordinator.Transaction.{Transaction}
 use Rattle.jn_rows.specs.declared.coordinator.Stage.{Stage}
 use Rattle.jn_rows.specs.declared.coordinator.Stage.TheVariants.{Open, Voting, Committed, Aborted}
@@ -34,37 +33,36 @@ use Rattle.jn_rows.specs.Outcomes.{RowOutcome, Sent}
 use Rattle.jn_rows.specs.Worker.{WorkerTable, work_at, worker_row, worker_step, worker_again, timeout_row}
 use Rattle.jn_rows.specs.Coordinator.{CoordinatorTable, transaction_at, coordinator_row, coordinator_again, commits, besides, told_again, committed_to}
 use Rattle.jn_lock_rows.proofs.Works.{found-name}
-use Rattle.jn_machine.specs.World.{World as Machine, Knowledge, Unknown}
+use Rattle.jn_machine.specs.World.{World as Machine, Unknown}
 use Rattle.jn_machine.specs.Invariant.{Invariant}
 use Rattle.jn_machine.specs.Transactions.{Knows}
 use Rattle.jn_machine.specs.Steps.{Atom, run as run_atoms}
 use Rattle.jn_machine.specs.Premises.{MayRun}
-use Rattle.jn_machine.specs.Messages.{Says, IsWorkOf}
+use Rattle.jn_machine.specs.Messages.{Says}
 use Rattle.jn_machine.proofs.Updates.{not_both}
 use Rattle.jn_protocol.specs.World.{World, Memory, at_server, has_line}
 use Rattle.jn_protocol.specs.Servers.{Room, storage_of, of_worker, of_coordinator, of_step, server_row, server_again, of_timeout, restored, line_of, lines_of, named_now}
-use Rattle.jn_protocol.specs.Steps.{done, stopped, ends, at_memory, works, work, nudge, timeout, crash, narrow, stop_restart, restart}
+use Rattle.jn_protocol.specs.Steps.{done, ends, at_memory, works, work, nudge, timeout, crash, narrow, stop_restart, restart}
 use Rattle.jn_protocol.specs.LockFacts.{LockFacts, UpFact, ServerFact}
 use Rattle.jn_moves.specs.Mirrors.{Mirrors, AreTransactions, IsTrue, IsAddressed, knowledge_of, knowledge_in, IsStage}
 use Rattle.jn_moves.proofs.Closing.{same-server, still-says}
 use Rattle.jn_moves.proofs.StageMoves.{knows, stage-is, stage-known}
-use Rattle.jn_moves.proofs.Transactions.{found-is}
-use Rattle.jn_runs.proofs.Openings.{Opening, openings, Has}
-use Rattle.jn_runs.proofs.Facts.{opening, Facts}
+use Rattle.jn_runs.proofs.Openings.{openings}
+use Rattle.jn_runs.proofs.Facts.{Facts}
 use Rattle.jn_serial.specs.Caused.{begun_then, goes_down, breaks}
 use Rattle.jn_serial.specs.Lines.{says}
 use Rattle.jn_reported.specs.Reported.{at_event}
-use Rattle.jn_reported.proofs.Lists.{In, in-second, Each, each-in, each-of, each-append, each-more}
+use Rattle.jn_reported.proofs.Lists.{In, in-second, Each, each-in, each-append, each-more}
 use Rattle.jn_reported.proofs.Known.{IsPast}
-use Rattle.jn_reported.proofs.Past.{Had, Past, VoteFact, SaysPast}
+use Rattle.jn_reported.proofs.Past.{VoteFact, SaysPast}
 use Rattle.jn_reported.proofs.PastRows.{IsThere}
 use Rattle.jn_reported.proofs.PastSteps.{PastFacts}
 use Rattle.jn_reported.proofs.Reached.{in-all}
 use Rattle.jn_causes.proofs.Evidence.{Stood, DownAfter}
 use Rattle.jn_reported.proofs.WorkerTalk.{each-work}
-use Rattle.jn_causes.proofs.WorkerKeeps.{IsLive, PhaseTold, WorkTold, all-told, RowKeeps, worker-keeps, step-keeps, Votes, Dropped, Asked, OpensFact, timeout-keeps, restored-told}
-use Rattle.jn_causes.proofs.CoordinatorKeeps.{Spent, RowHolds, NewsFact, IsKnown, Comes, row-holds}
-use Rattle.jn_causes.proofs.Facts.{HasTransaction, HasWork, CameBy, WasOpened, OpenedBy, HasCause, MessageFact, BeganAt, CauseFacts, IsMute}
+use Rattle.jn_causes.proofs.WorkerKeeps.{IsLive, PhaseTold, WorkTold, all-told, RowKeeps, worker-keeps, step-keeps, OpensFact, timeout-keeps, restored-told}
+use Rattle.jn_causes.proofs.CoordinatorKeeps.{Spent, RowHolds, NewsFact, Comes, row-holds}
+use Rattle.jn_causes.proofs.Facts.{HasTransaction, HasWork, WasOpened, OpenedBy, HasCause, MessageFact, CauseFacts, IsMute}
 
 -- ---- lines of servers
 

@@ -1,11 +1,9 @@
 -- After any steps, with the events that they stand under: each abort that is told has its cause.
 use Rattle.std.proofs.Common.{◌≡◌, ◌≢◌, ◌⊎◌, inl, inr, ℕ, ◌+◌, Bool, true, false, List, [], ◌∷◌, ◌++◌, append-nil, length, Option, Some, None, is_some, refl, sym, ◌∙◌, ap, subst, arith}
-use Rattle.std.specs.Prelude.{◌&&◌, All, slice_get, nat_lt}
+use Rattle.std.specs.Prelude.{◌&&◌, slice_get, nat_lt}
 use Rattle.std.specs.List.{list_any}
-use Rattle.std.proofs.lemmas.List.Elements.{All-head, All-tail}
 use Rattle.jn_base.specs.declared.names.ServerNo.{ServerNo}
 use Rattle.jn_base.specs.declared.names.ClientNo.{ClientNo}
-use Rattle.jn_base.specs.declared.names.LockUnit.{LockUnit}
 use Rattle.jn_base.specs.declared.names.Tid.{Tid}
 use Rattle.jn_base.specs.declared.names.WorkId.{WorkId}
 use Rattle.jn_base.specs.declared.names.Cause.{Cause}
@@ -15,10 +13,8 @@ use Rattle.jn_base.specs.declared.op.Command.{Command}
 use Rattle.jn_base.specs.declared.op.Command.TheVariants.{Abort}
 use Rattle.jn_base.specs.Names.{client_eq, tid_eq}
 use Rattle.jn_base.proofs.Tells.{client_tells, tid_tells}
-use Rattle.jn_order.specs.Files.{AllFiles}
 use Rattle.jn_msgs.specs.declared.message.Message.{Message}
 use Rattle.jn_msgs.specs.declared.message.Message.TheVariants as messages
-use Rattle.jn_msgs.specs.declared.message.Note.TheVariants as notes
 use Rattle.jn_schedule.specs.declared.Event.{Event}
 use Rattle.jn_schedule.specs.declared.Event.TheVariants as events
 use Rattle.jn_report.specs.declared.line.Text.{Text}
@@ -30,38 +26,29 @@ use Rattle.jn_rows.specs.declared.client.Taken.TheVariants as taken
 use Rattle.jn_rows.specs.Stable.{Pick, stable}
 use Rattle.jn_rows.specs.Outcomes.{Sent}
 use Rattle.jn_rows.specs.Worker.{worker_row}
-use Rattle.jn_rows.specs.Coordinator.{is_work, transaction_at, coordinator_row}
-use Rattle.jn_rows.specs.Client.{ClientTable, Commanded, Refuses, Sends, command_row, take_row, sent_again, names_of}
+use Rattle.jn_rows.specs.Coordinator.{transaction_at, coordinator_row}
+use Rattle.jn_rows.specs.Client.{ClientTable, Commanded, Refuses, Sends, command_row, take_row, sent_again}
 use Rattle.jn_machine.specs.World.{World as Machine}
 use Rattle.jn_machine.specs.Invariant.{Invariant}
-use Rattle.jn_machine.specs.Messages.{IsWorkOf}
-use Rattle.jn_machine.specs.Steps.{Atom, run as run_atoms, opening_world}
-use Rattle.jn_machine.specs.Premises.{MayRun}
-use Rattle.jn_machine.proofs.History.{run_told, opening_told}
-use Rattle.jn_machine.proofs.MessageLemmas.{Grows, run_grows}
-use Rattle.jn_machine.proofs.Runs.{run_kept, opening_kept}
-use Rattle.jn_machine.proofs.Updates.{not_both, some_of}
-use Rattle.jn_protocol.specs.World.{World, Memory, opening, new_memory, at_client, has_line}
+use Rattle.jn_machine.proofs.MessageLemmas.{Grows}
+use Rattle.jn_machine.proofs.Updates.{not_both}
+use Rattle.jn_protocol.specs.World.{World, Memory, has_line}
 use Rattle.jn_protocol.specs.Servers.{Room, storage_of}
-use Rattle.jn_protocol.specs.Steps.{Step, NextEvent, Tell, Again, Deliver, Work, Nudge, Timeout, StopDelivery, StopWork, Crash, Narrow, StopRestart, Restart, IsStep, after, commanded, sent_now, took, handed, done}
+use Rattle.jn_protocol.specs.Steps.{Step, NextEvent, Tell, Again, Deliver, Work, Nudge, Timeout, StopDelivery, StopWork, Crash, Narrow, StopRestart, Restart, IsStep, after, commanded, sent_now, took, handed}
 use Rattle.jn_protocol.specs.LockFacts.{LockFacts, UpFact, ServerFact}
-use Rattle.jn_protocol.proofs.Steps.{locks-keep, opening-keeps}
 use Rattle.jn_moves.specs.Mirrors.{Mirrors, AreOpen, IsCurrent, IsTrue, IsAddressed}
-use Rattle.jn_moves.proofs.Closing.{still-says}
-use Rattle.jn_moves.proofs.Losing.{run-append, may-append}
-use Rattle.jn_moves.proofs.StepMoves.{opening-mirrors, committed-any, holds-of}
+use Rattle.jn_moves.proofs.StepMoves.{holds-of}
 use Rattle.jn_runs.proofs.Openings.{Opening, opening_in, openings, openings-more, Has, has-first}
 use Rattle.jn_runs.proofs.Facts.{opening as began_by, Began, Facts}
 use Rattle.jn_runs.proofs.ClientFacts.{all-have-theirs}
-use Rattle.jn_runs.proofs.ClientSteps.{Next, EndsNow}
-use Rattle.jn_runs.proofs.Runs.{step-next, opening-facts}
+use Rattle.jn_runs.proofs.ClientSteps.{EndsNow}
 use Rattle.jn_serial.specs.Caused.{is_in}
 use Rattle.jn_serial.proofs.Growth.{AreWithin}
 use Rattle.jn_reported.specs.Reported.{at_event}
 use Rattle.jn_reported.proofs.Lists.{In, Each, each-in, get-in}
-use Rattle.jn_reported.proofs.ClientTalk.{TableGoes, CommandTalks, command-talks, TakeTalks, take-talks}
-use Rattle.jn_reported.proofs.Talk.{Talk, step-talk, opening-talk}
-use Rattle.jn_reported.proofs.Past.{Had, Past, SaysPast, EntryFact}
+use Rattle.jn_reported.proofs.ClientTalk.{TableGoes, CommandTalks, command-talks, take-talks}
+use Rattle.jn_reported.proofs.Talk.{Talk}
+use Rattle.jn_reported.proofs.Past.{Had, Past, SaysPast}
 use Rattle.jn_reported.proofs.PastRows.{is_broke}
 use Rattle.jn_reported.proofs.PastSteps.{PastFacts}
 use Rattle.jn_reported.proofs.PastWorld.{Later, coordinator-quiet}
@@ -70,11 +57,10 @@ use Rattle.jn_reported.proofs.Outcomes.{IsTrueAbort}
 use Rattle.jn_reported.proofs.Reached.{in-all}
 use Rattle.jn_reported.proofs.StepLines.{IsPlainText, AddsLines, step-lines}
 use Rattle.jn_causes.proofs.Evidence.{Stands, Stood, DownAfter, in-here}
-use Rattle.jn_causes.proofs.WorkerKeeps.{IsLive, WorkTold}
 use Rattle.jn_causes.proofs.CoordinatorKeeps.{Spent}
-use Rattle.jn_causes.proofs.Facts.{HasTransaction, HasWork, WasOpened, HasCause, MessageFact, BegunFor, ClientFact, CauseFacts, BeganAt, cause-more, opened-more, came-by, one-on, messages-on, client-on, told-on}
-use Rattle.jn_causes.proofs.ServerSteps.{IsServers, servers-mute, News, ServerKeeps, full, worker-row, nothing-keeps, memory-keeps, work-keeps, nudge-keeps, timing-keeps, crash-keeps, narrow-keeps, raise-keeps, restart-keeps}
-use Rattle.jn_causes.proofs.ClientSteps.{ClientKeeps, client-facts, again-facts, TakesCause, take-keeps, CommandCauses, command-keeps}
+use Rattle.jn_causes.proofs.Facts.{HasTransaction, WasOpened, HasCause, MessageFact, CauseFacts, BeganAt, cause-more, opened-more, came-by, messages-on, client-on, told-on}
+use Rattle.jn_causes.proofs.ServerSteps.{servers-mute, News, ServerKeeps, worker-row, nothing-keeps, memory-keeps, work-keeps, nudge-keeps, timing-keeps, crash-keeps, narrow-keeps, raise-keeps, restart-keeps}
+use Rattle.jn_causes.proofs.ClientSteps.{client-facts, again-facts, TakesCause, take-keeps, CommandCauses, command-keeps}
 
 -- an abort has its cause
 abbrev pub AbortStands : List Event → List Line → Text → Type 0

@@ -10,10 +10,9 @@ use Rattle.jn_base.specs.declared.names.WorkId.{WorkId}
 use Rattle.jn_base.specs.declared.names.Tickets.{Tickets}
 use Rattle.jn_base.specs.declared.names.Cause.{Cause}
 use Rattle.jn_base.specs.declared.names.Cause.TheVariants.{Full as FullAt}
-use Rattle.jn_base.specs.declared.names.Party.TheVariants.{Server}
 use Rattle.jn_base.specs.declared.op.Op.{Op}
 use Rattle.jn_base.specs.declared.op.Answer.{Answer}
-use Rattle.jn_base.specs.Names.{server_eq, tid_eq, work_eq}
+use Rattle.jn_base.specs.Names.{work_eq}
 use Rattle.jn_base.proofs.Tells.{server_tells, tid_tells, work_tells}
 use Rattle.jn_order.specs.Files.{Files, change, answer_to}
 use Rattle.jn_records.specs.declared.intention.Intention.{Intention}
@@ -36,14 +35,14 @@ use Rattle.jn_rows.specs.Outcomes.{RowOutcome, Sent}
 use Rattle.jn_rows.specs.Worker.{WorkerTable, WorkStorage, Wanted, Held, work_at, work_of, with_phase, without, after_grant, breaks_at, broken_by, note_of, break_notes, name_from, new_work, open_row, wants_of, is_fit, refusal_of, granted_row, repeated, op_phase, op_row, conflict, commit_wants, shortage, vote_of, need_in, prepared_row, prepare_phase, prepare_row, commit_phase, commit_row, drop_phase, drop_row, worker_row, going_work, going_row, carried_row, intentions_of, worker_step, vulnerable, timed_out, timeout_row, restored_work, restored_worker}
 use Rattle.jn_rows.specs.Client.{ClientTable}
 use Rattle.jn_lock_rows.specs.Matching.{are_rising}
-use Rattle.jn_lock_rows.proofs.Works.{work_same, work_is, found-name, at-less, at-phase, in_phase, at-grant, once_granted}
+use Rattle.jn_lock_rows.proofs.Works.{work_same, at-less, at-phase, in_phase, at-grant, once_granted}
 use Rattle.jn_protocol.proofs.Tables.{of-found}
 use Rattle.jn_machine.specs.World.{World as Machine}
 use Rattle.jn_protocol.specs.Servers.{line_of, lines_of}
 use Rattle.jn_runs.proofs.Openings.{Opening}
 use Rattle.jn_serial.specs.Caused.{unit_eq, breaks}
 use Rattle.jn_reported.proofs.Lists.{In, in-second, Each, each-append, each-more}
-use Rattle.jn_reported.proofs.WorkerTalk.{each-phase, each-less, each-work, each-owned}
+use Rattle.jn_reported.proofs.WorkerTalk.{each-phase, each-less}
 use Rattle.jn_reported.proofs.Past.{VoteFact, SaysPast}
 use Rattle.jn_causes.proofs.Evidence.{any-more, any-last}
 

@@ -6,7 +6,9 @@ ghost use Rattle.jn_base.specs.declared.names.ServerNo.{ServerNo};
 ghost use Rattle.jn_order.specs.Files.{AllFiles};
 ghost use Rattle.jn_serial.specs.Caused.{Caused};
 ghost use Rattle.jn_protocol.specs.World.{opening};
+ghost use Rattle.jn_protocol.specs.Example.{start};
 ghost use Rattle.jn_reported.specs.Reported.{Item, events_of, lines_of, IsReported};
+ghost use Rattle.jn_causes.specs.Example.{a_loss, its_lines, without_a_cause};
 
 /// Whatever is done under the events of a schedule, stops and restarts among it: each abort that a client is told of has its
 /// cause before it, which is the client's own abort, a work that was broken, a server that went down after the transaction
@@ -14,4 +16,12 @@ ghost use Rattle.jn_reported.specs.Reported.{Item, events_of, lines_of, IsReport
 pub fn events_cause_lines()
     ensures { (servers : ℕ) (files : AllFiles) (epochs : ServerNo → ℕ) (items : List Item) → IsReported items (opening servers files epochs)
         → Caused (events_of items) (lines_of items (opening servers files epochs)) }
+{}
+
+/// A client begins; its server goes down and comes up, and tells at the client's end that the transaction was lost. Had the
+/// server not gone down, these lines would be without a cause.
+pub fn a_lost_transaction_is_reported()
+    ensures reported { IsReported a_loss start }
+    ensures lines { lines_of a_loss start ≡ its_lines }
+    ensures needs { Caused (events_of a_loss) without_a_cause → ⊥ }
 {}
