@@ -452,3 +452,13 @@ module _ (es es' : List Event) (on : (j : ℕ) (e : Event) → Stands 1 es j e �
     broken = λ s m e. all-told s r.lines new m.worker (cause.broken s m e);
     told = told-on es es' on ls new r.lines cause.told;
   }
+
+  -- all clients are dismissed
+  pub dismissed-facts : CauseFacts es' (ls ++ at_event (1 + length es) new) (r.sent ++ more) (λ c. over (r.clients c)) r.memory (r.lines ++ new) v
+  dismissed-facts = record {
+    messages = messages-on es es' on ls new r.sent more r.clients (λ c. over (r.clients c)) r.memory r.memory r.lines w v cause mirrors.says facts.unique (λ e T k. (facts.clients e).current T k) spent (λ e q l. l) (λ e o k. absurd (none-out o k)) (λ T not h. inl h) (λ W h. inl h)
+        (each-of _ more (λ x i. one-on es es' on ls new r.sent more r.clients (λ c. over (r.clients c)) r.memory r.memory r.lines w v cause mirrors.says facts.unique (λ e T k. (facts.clients e).current T k) spent (λ e q l. l) (λ e o k. absurd (none-out o k)) (λ T not h. inl h) (λ W h. inl h) x (old x i)));
+    each = λ d. record { asked = λ o e. absurd (none-out o e); to = λ o s e. absurd (none-out o e); current = λ T e. absurd (none-tid T e); works = λ T e. absurd (none-tid T e); begun = λ T e. absurd (none-tid T e) };
+    broken = λ s m e. all-told s r.lines new m.worker (cause.broken s m e);
+    told = told-on es es' on ls new r.lines cause.told;
+  }

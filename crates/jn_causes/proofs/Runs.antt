@@ -101,7 +101,7 @@ module _ (files : AllFiles) (epochs : ServerNo → ℕ) where
         placed s c T e = let f = some_of (((after step r).found s c).flags T) e in ((inv'.core.states s c).flag T f.0 (ap (λ x. x.flags T) (next.mirrors.found s c) ∙ f.1)).place
 
     causes : NextCauses es es' on ls r w (run_atoms next.atoms (run_atoms h.atoms (opening_world files epochs))) h.past h.causes h.parts h.mirrors inv h.locks h.facts h.talk (named-is es ls r h) grown (after step r)
-    causes = step-causes es es' on ls r w (run_atoms next.atoms w) h.past h.causes h.parts h.mirrors inv h.locks h.facts h.talk (named-is es ls r h) grown step told
+    causes = step-causes es es' on ls r w (run_atoms next.atoms w) h.past h.causes h.parts h.mirrors inv h.locks h.facts h.talk (named-is es ls r h) grown step i told
         (λ x k. in-all (IsTrue (run_atoms next.atoms (run_atoms h.atoms (opening_world files epochs)))) (after step r).sent x next.mirrors.says k)
 
     lines : AddsLines (AbortStands es ls) r (after step r)

@@ -28,10 +28,11 @@ use Rattle.jn_rows.specs.declared.coordinator.Transaction.{Transaction}
 use Rattle.jn_rows.specs.declared.coordinator.Stage.{Stage}
 use Rattle.jn_rows.specs.declared.coordinator.Stage.TheVariants.{Open, Voting, Committed, Aborted}
 use Rattle.jn_rows.specs.declared.coordinator.Committed.{Committed as Commitment}
+use Rattle.jn_rows.specs.declared.client.Outstanding.{Outstanding}
 use Rattle.jn_rows.specs.Stable.{Pick, Prepared, StableState, stable, is_going}
 use Rattle.jn_rows.specs.Outcomes.{RowOutcome, Sent}
 use Rattle.jn_rows.specs.Worker.{WorkerTable, work_at, worker_row, worker_step, worker_again, timeout_row}
-use Rattle.jn_rows.specs.Coordinator.{CoordinatorTable, transaction_at, coordinator_row, coordinator_again, commits, besides, told_again, committed_to}
+use Rattle.jn_rows.specs.Coordinator.{CoordinatorTable, transaction_at, coordinator_row, coordinator_again, commits, besides, told_again, committed_to, close_clients_row}
 use Rattle.jn_lock_rows.proofs.Works.{found-name}
 use Rattle.jn_machine.specs.World.{World as Machine, Unknown}
 use Rattle.jn_machine.specs.Invariant.{Invariant}
@@ -39,24 +40,24 @@ use Rattle.jn_machine.specs.Transactions.{Knows}
 use Rattle.jn_machine.specs.Steps.{Atom, run as run_atoms}
 use Rattle.jn_machine.specs.Premises.{MayRun}
 use Rattle.jn_machine.specs.Messages.{Says}
-use Rattle.jn_machine.proofs.Updates.{not_both}
+use Rattle.jn_machine.proofs.Updates.{not_both, some_of}
 use Rattle.jn_protocol.specs.World.{World, Memory, at_server, has_line}
 use Rattle.jn_protocol.specs.Servers.{Room, storage_of, of_worker, of_coordinator, of_step, server_row, server_again, of_timeout, restored, line_of, lines_of, named_now}
-use Rattle.jn_protocol.specs.Steps.{done, ends, at_memory, works, work, nudge, timeout, crash, narrow, stop_restart, restart}
+use Rattle.jn_protocol.specs.Steps.{done, ends, at_memory, works, work, nudge, timeout, crash, narrow, stop_restart, restart, close_clients, IsIdle}
 use Rattle.jn_protocol.specs.LockFacts.{LockFacts, UpFact, ServerFact}
 use Rattle.jn_moves.specs.Mirrors.{Mirrors, AreTransactions, IsTrue, IsAddressed, knowledge_of, knowledge_in, IsStage}
 use Rattle.jn_moves.proofs.Closing.{same-server, still-says}
 use Rattle.jn_moves.proofs.StageMoves.{knows, stage-is, stage-known}
 use Rattle.jn_runs.proofs.Openings.{openings}
-use Rattle.jn_runs.proofs.Facts.{Facts}
+use Rattle.jn_runs.proofs.Facts.{opening, Facts}
 use Rattle.jn_serial.specs.Caused.{begun_then, goes_down, breaks}
 use Rattle.jn_serial.specs.Lines.{says}
 use Rattle.jn_reported.specs.Reported.{at_event}
 use Rattle.jn_reported.proofs.Lists.{In, in-second, Each, each-in, each-append, each-more}
 use Rattle.jn_reported.proofs.Known.{IsPast}
-use Rattle.jn_reported.proofs.Past.{VoteFact, SaysPast}
-use Rattle.jn_reported.proofs.PastRows.{IsThere}
-use Rattle.jn_reported.proofs.PastSteps.{PastFacts}
+use Rattle.jn_reported.proofs.Past.{VoteFact, SaysPast, EntryFact}
+use Rattle.jn_reported.proofs.PastRows.{IsThere, each-found}
+use Rattle.jn_reported.proofs.PastSteps.{PastFacts, all-drawn}
 use Rattle.jn_reported.proofs.Reached.{in-all}
 use Rattle.jn_causes.proofs.Evidence.{Stood, DownAfter}
 use Rattle.jn_reported.proofs.WorkerTalk.{each-work}
@@ -521,3 +522,35 @@ module _ (es : List Event) (ls : List Line) (r : World) (w v : Machine) (past : 
 
       memory : Memory
       memory = restored s (r.found s pick) Ws Ts
+
+  -- where every client is idle, each transaction is past
+  pub close-keeps : (s : ServerNo) (o : Option Memory) → r.memory s ≡ o → ((c : ClientNo) → IsIdle (r.clients c)) → ServerKeeps (close_clients s o r)
+  close-keeps s None is idle = nothing-keeps
+  close-keeps s (Some m) is idle = record {
+    new = [];
+    adds = refl;
+    more = [];
+    sends = refl;
+    same = refl;
+    quiet = tt;
+    holds = λ T not h. absurd (is-past T h not);
+    has = λ W h. one-has s [] m (of_coordinator m (close_clients_row m.coordinator m.tickets)).table is W (λ e t. inl t) h;
+    broken = all-broken s [] (Some (of_coordinator m (close_clients_row m.coordinator m.tickets)).table) (λ n e. subst (λ (z : Memory). Each (WorkTold s (r.lines ++ [])) z.worker) (some-memory (of_coordinator m (close_clients_row m.coordinator m.tickets)).table n e) (old-told s m [] is));
+    news = tt;
+  }
+    where
+      none-tid : (T : Tid) → None ≡ Some T → ⊥
+      none-tid T e = cc
+
+      none-out : (x : Outstanding) → None ≡ Some x → ⊥
+      none-out x e = cc
+
+      is-past : (T : Tid) → HasTransaction r.memory T → ((c : ClientNo) → IsPast (openings r.sent) c (r.clients c) T → ⊥) → ⊥
+      is-past T h not = let f = some_of (transaction_at T h.0.coordinator.transactions) h.2 in let y = each-found (EntryFact (openings r.sent) r.clients w Caused h.0.coordinator.seen) T h.0.coordinator.transactions f.0 (past.entries T.server h.0 h.1) f.1 in
+          not f.0.client (subst (λ (U : Tid). IsPast (openings r.sent) f.0.client (r.clients f.0.client) U) y.1 (record {
+            request = y.0.request;
+            has = y.0.has;
+            drawn = all-drawn (openings r.sent) r.clients w Caused r.sent past.says (opening f.0.client y.0.request f.0.tid) y.0.has;
+            over = λ e. none-tid f.0.tid (sym (idle f.0.client).0 ∙ e);
+            answered = λ o e. absurd (none-out o (sym (idle f.0.client).1 ∙ e));
+          }))

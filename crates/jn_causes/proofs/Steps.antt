@@ -34,7 +34,7 @@ use Rattle.jn_machine.proofs.MessageLemmas.{Grows}
 use Rattle.jn_machine.proofs.Updates.{not_both}
 use Rattle.jn_protocol.specs.World.{World, Memory, has_line}
 use Rattle.jn_protocol.specs.Servers.{Room, storage_of}
-use Rattle.jn_protocol.specs.Steps.{Step, NextEvent, Tell, Again, Deliver, Work, Nudge, Timeout, StopDelivery, StopWork, Crash, Narrow, StopRestart, Restart, IsStep, after, commanded, sent_now, took, handed}
+use Rattle.jn_protocol.specs.Steps.{Step, NextEvent, Tell, Again, Deliver, Work, Nudge, Timeout, StopDelivery, StopWork, Crash, Narrow, StopRestart, Restart, Dismiss, CloseClients, IsStep, after, commanded, sent_now, took, handed}
 use Rattle.jn_protocol.specs.LockFacts.{LockFacts, UpFact, ServerFact}
 use Rattle.jn_moves.specs.Mirrors.{Mirrors, AreOpen, IsCurrent, IsTrue, IsAddressed}
 use Rattle.jn_moves.proofs.StepMoves.{holds-of}
@@ -59,8 +59,8 @@ use Rattle.jn_reported.proofs.StepLines.{IsPlainText, AddsLines, step-lines}
 use Rattle.jn_causes.proofs.Evidence.{Stands, Stood, DownAfter, in-here}
 use Rattle.jn_causes.proofs.CoordinatorKeeps.{Spent}
 use Rattle.jn_causes.proofs.Facts.{HasTransaction, WasOpened, HasCause, MessageFact, CauseFacts, BeganAt, cause-more, opened-more, came-by, messages-on, client-on, told-on}
-use Rattle.jn_causes.proofs.ServerSteps.{servers-mute, News, ServerKeeps, worker-row, nothing-keeps, memory-keeps, work-keeps, nudge-keeps, timing-keeps, crash-keeps, narrow-keeps, raise-keeps, restart-keeps}
-use Rattle.jn_causes.proofs.ClientSteps.{client-facts, again-facts, TakesCause, take-keeps, CommandCauses, command-keeps}
+use Rattle.jn_causes.proofs.ServerSteps.{servers-mute, News, ServerKeeps, worker-row, nothing-keeps, memory-keeps, work-keeps, nudge-keeps, timing-keeps, crash-keeps, narrow-keeps, raise-keeps, restart-keeps, close-keeps}
+use Rattle.jn_causes.proofs.ClientSteps.{client-facts, again-facts, dismissed-facts, TakesCause, take-keeps, CommandCauses, command-keeps}
 
 -- an abort has its cause
 abbrev pub AbortStands : List Event → List Line → Text → Type 0
@@ -171,21 +171,23 @@ module _ (es es' : List Event) (on : (j : ℕ) (e : Event) → Stands 1 es j e �
 
   -- ---- every step
 
-  pub step-causes : (step : Step) → ((c : ClientNo) (command : Command) → step ≡ Tell c command → IsTold es es' ls r c command) → ((x : Sent) → In x (after step r).sent → IsTrue v x) → NextCauses (after step r)
-  step-causes NextEvent told said = of-facts _ [] [] (sym (append-nil r.lines)) (sym (append-nil r.sent)) (again-facts es es' on ls r w v cause mirrors facts spent [] [] (λ d n now. refl) (λ x i. absurd i))
-  step-causes (Tell c command) told said = let it = told c command refl in commanded-next c it.within (command_row (r.clients c) r.event command) (command-talks (openings r.sent) w w.ended r.sent c (r.clients c) (facts.clients c) facts.unique (talk.waits c) (current c) r.event command)
+  pub step-causes : (step : Step) → IsStep step r → ((c : ClientNo) (command : Command) → step ≡ Tell c command → IsTold es es' ls r c command) → ((x : Sent) → In x (after step r).sent → IsTrue v x) → NextCauses (after step r)
+  step-causes NextEvent i told said = of-facts _ [] [] (sym (append-nil r.lines)) (sym (append-nil r.sent)) (again-facts es es' on ls r w v cause mirrors facts spent [] [] (λ d n now. refl) (λ x i. absurd i))
+  step-causes (Tell c command) i told said = let it = told c command refl in commanded-next c it.within (command_row (r.clients c) r.event command) (command-talks (openings r.sent) w w.ended r.sent c (r.clients c) (facts.clients c) facts.unique (talk.waits c) (current c) r.event command)
       (command-keeps es es' on ls r w v cause mirrors facts spent c it.within command it.stands)
-  step-causes (Again c) told said = again-next c (r.clients c).outstanding refl
-  step-causes (Deliver k room) told said = handed-next k room None (slice_get r.sent k) refl said
-  step-causes (Work s room) told said = server-next _ (work-keeps es ls r w v past cause parts mirrors inv locks facts spent s room None (r.memory s) refl)
-  step-causes (Nudge s) told said = server-next _ (nudge-keeps es ls r w v past cause parts mirrors inv locks facts spent s (r.memory s) refl)
-  step-causes (Timeout s T) told said = server-next _ (timing-keeps es ls r w v past cause parts mirrors inv locks facts spent s T (r.memory s) refl)
-  step-causes (StopDelivery k room made) told said = handed-next k room (Some made) (slice_get r.sent k) refl said
-  step-causes (StopWork s room made) told said = server-next _ (work-keeps es ls r w v past cause parts mirrors inv locks facts spent s room (Some made) (r.memory s) refl)
-  step-causes (Crash s) told said = server-next _ (crash-keeps es ls r w v past cause parts mirrors inv locks facts spent s (r.memory s))
-  step-causes (Narrow s g) told said = server-next _ (narrow-keeps es ls r w v past cause parts mirrors inv locks facts spent s g (r.memory s))
-  step-causes (StopRestart s raised) told said = server-next _ (raise-keeps es ls r w v past cause parts mirrors inv locks facts spent s raised (r.memory s))
-  step-causes (Restart s pick Ws Ts) told said = server-next _ (restart-keeps es ls r w v past cause parts mirrors inv locks facts spent s pick Ws Ts (r.memory s) refl)
+  step-causes (Again c) i told said = again-next c (r.clients c).outstanding refl
+  step-causes (Deliver k room) i told said = handed-next k room None (slice_get r.sent k) refl said
+  step-causes (Work s room) i told said = server-next _ (work-keeps es ls r w v past cause parts mirrors inv locks facts spent s room None (r.memory s) refl)
+  step-causes (Nudge s) i told said = server-next _ (nudge-keeps es ls r w v past cause parts mirrors inv locks facts spent s (r.memory s) refl)
+  step-causes (Timeout s T) i told said = server-next _ (timing-keeps es ls r w v past cause parts mirrors inv locks facts spent s T (r.memory s) refl)
+  step-causes (StopDelivery k room made) i told said = handed-next k room (Some made) (slice_get r.sent k) refl said
+  step-causes (StopWork s room made) i told said = server-next _ (work-keeps es ls r w v past cause parts mirrors inv locks facts spent s room (Some made) (r.memory s) refl)
+  step-causes (Crash s) i told said = server-next _ (crash-keeps es ls r w v past cause parts mirrors inv locks facts spent s (r.memory s))
+  step-causes (Narrow s g) i told said = server-next _ (narrow-keeps es ls r w v past cause parts mirrors inv locks facts spent s g (r.memory s))
+  step-causes (StopRestart s raised) i told said = server-next _ (raise-keeps es ls r w v past cause parts mirrors inv locks facts spent s raised (r.memory s))
+  step-causes (Restart s pick Ws Ts) i told said = server-next _ (restart-keeps es ls r w v past cause parts mirrors inv locks facts spent s pick Ws Ts (r.memory s) refl)
+  step-causes Dismiss i told said = of-facts _ [] [] (sym (append-nil r.lines)) (sym (append-nil r.sent)) (dismissed-facts es es' on ls r w v cause mirrors facts spent [] [] (λ d n now. refl) (λ x j. absurd j))
+  step-causes (CloseClients s) i told said = server-next _ (close-keeps es ls r w v past cause parts mirrors inv locks facts spent s (r.memory s) refl i)
 
   -- ---- what aborts have as their causes
 
