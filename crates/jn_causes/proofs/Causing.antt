@@ -23,16 +23,20 @@ use Rattle.jn_runs.proofs.Runs.{opening-facts}
 use Rattle.jn_serial.specs.Caused.{is_caused_by, is_caused, CausedFrom, Caused}
 use Rattle.jn_serial.proofs.Growth.{AreWithin, AreWithin-wider, AreWithin-append}
 use Rattle.jn_reported.specs.Armed.{is_fault, ArmedFrom}
-use Rattle.jn_reported.specs.Reported.{Act, Does, Refuses as Refused, Tells, Item, events_of, steps_in, steps_of, told_by, told_in, told_under, after_item, at_event, lines_of, IsUnder, AreUnder, IsReported}
+use Rattle.std.specs.Prelude.{map}
+use Rattle.jn_reported.specs.Printing.{Printed, FileThere, PageStored, UnitLocked, text_printed}
+use Rattle.jn_reported.specs.Reported.{Act, Does, Refuses as Refused, Tells, Shows, Item, events_of, steps_in, steps_of, told_by, told_in, told_under, after_item, at_event, lines_of, IsUnder, AreUnder, IsReported}
 use Rattle.jn_reported.proofs.Lists.{Each}
 use Rattle.jn_reported.proofs.ArmedRuns.{run-armed, length-more}
 use Rattle.jn_reported.proofs.Following.{IsQuietAct, IsPlain, under-quiet, run-split, texts-within}
+use Rattle.jn_reported.proofs.Prints.{each-print}
 use Rattle.jn_reported.proofs.Hearing.{IsQuiet, step-hears, told-is}
 use Rattle.jn_reported.proofs.Past.{EntryFact}
 use Rattle.jn_reported.proofs.Talk.{opening-talk}
 use Rattle.jn_causes.proofs.Evidence.{Stands, stands-more, stands-last, stood-causes, stood-more}
 use Rattle.jn_causes.proofs.WorkerKeeps.{WorkTold}
 use Rattle.jn_causes.proofs.Facts.{HasCause}
+use Rattle.jn_causes.proofs.ServerSteps.{IsServers, servers-mute}
 use Rattle.jn_causes.proofs.Steps.{AbortStands, IsTold}
 use Rattle.jn_causes.proofs.Runs.{Stays, StepStays, next-stays, still-stays}
 
@@ -87,6 +91,17 @@ at-more : (n : ℕ) (a b : List Text) → at_event n (a ++ b) ≡ at_event n a +
 at-more n [] b = refl
 at-more n (x ∷ a) b = ap (λ (l : List Line). (record { when = AtEvent n; text = x }) ∷ l) (at-more n a b)
 
+-- a print tells of no client
+print-servers : (s : ServerNo) (x : Printed) → IsServers (text_printed s x)
+print-servers s (FileThere f) = tt
+print-servers s (PageStored f p bytes) = tt
+print-servers s (UnitLocked u T) = tt
+
+print-stands : (es : List Event) (ls : List Line) (s : ServerNo) (x : Printed) → AbortStands es ls (text_printed s x)
+print-stands es ls s (FileThere f) = tt
+print-stands es ls s (PageStored f p bytes) = tt
+print-stands es ls s (UnitLocked u T) = tt
+
 module _ (files : AllFiles) (epochs : ServerNo → ℕ) where
   -- ---- the acts of an event
 
@@ -114,6 +129,9 @@ module _ (files : AllFiles) (epochs : ServerNo → ℕ) where
       let both = then-acts es ls (says.RefusedEvent refusal ∷ []) acts r (tt, tt) rest in record { stays = both.0; aborts = both.1; same_event = rest.same_event }
   acts-stay (Tells s fault ∷ acts) es ls r h i quiet = let rest = acts-stay acts es (ls ++ at_event (1 + length es) (says.Outside s fault ∷ [])) r (still-stays files epochs es es (λ j e k. k) ls (says.Outside s fault ∷ []) (λ c n now. refl) r h) i quiet.1 in
       let both = then-acts es ls (says.Outside s fault ∷ []) acts r (tt, tt) rest in record { stays = both.0; aborts = both.1; same_event = rest.same_event }
+  acts-stay (Shows s prints ∷ acts) es ls r h i quiet = let new = map (text_printed s) prints in
+      let rest = acts-stay acts es (ls ++ at_event (1 + length es) new) r (still-stays files epochs es es (λ j e k. k) ls new (servers-mute new (each-print IsServers s (print-servers s) prints)) r h) i quiet.1 in
+      let both = then-acts es ls new acts r (each-print (AbortStands es ls) s (print-stands es ls s) prints) rest in record { stays = both.0; aborts = both.1; same_event = rest.same_event }
 
   -- ---- an event
 
@@ -174,7 +192,7 @@ module _ (files : AllFiles) (epochs : ServerNo → ℕ) where
     event-stays (events.Arm s n kind) acts now within i under = plain-stays (events.Arm s n kind) acts i tt under
     event-stays (events.Crash s) acts now within i under = plain-stays (events.Crash s) acts i tt under
     event-stays (events.Restart s) acts now within i under = plain-stays (events.Restart s) acts i tt under
-    event-stays (events.Show s) acts now within i under = absurd under
+    event-stays (events.Show s) acts now within i under = plain-stays (events.Show s) acts i tt under
 
   -- ---- all events
 

@@ -5,6 +5,7 @@ pub returns-clause-reported : goal.returns-clause-reported
 returns-clause-reported c = record {
   under = (refl, (refl, (refl, (refl, (refl, (refl, (refl, tt)))))));
   steps = (tt, (tt, (tt, (tt, (tt, (tt, (tt, (tt, ((record { each = λ a. refl; rising = refl }, record { each = λ a. refl; rising = refl }), (tt, (tt, (tt, (tt, (tt, (tt, tt)))))))))))))));
+  shows = (tt, (tt, (tt, (tt, (tt, (tt, (tt, tt)))))));
   faults = (tt, ((tt, tt), ((tt, tt), ((tt, tt), (tt, (tt, ((tt, tt), tt)))))));
 }
 
