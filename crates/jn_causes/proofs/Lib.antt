@@ -7,3 +7,4 @@ pub mod ClientSteps
 pub mod Steps
 pub mod Runs
 pub mod Causing
+pub mod Ends
