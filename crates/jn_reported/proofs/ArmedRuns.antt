@@ -247,7 +247,7 @@ armed-more : (es : List Event) (before xs ys : List Line) → ArmedFrom es befor
 armed-more es before [] ys h k = subst (λ l. ArmedFrom es l ys) (append-nil before) k
 armed-more es before (l ∷ xs) ys h k = (h.0, armed-more es (before ++ l ∷ []) xs ys h.1 (subst (λ z. ArmedFrom es z ys) (sym (append_assoc before (l ∷ []) xs)) k))
 
-length-more : (es : List Event) (e : Event) → length (es ++ e ∷ []) ≡ length es + 1
+pub length-more : (es : List Event) (e : Event) → length (es ++ e ∷ []) ≡ length es + 1
 length-more [] e = refl
 length-more (d ∷ es) e = ap suc (length-more es e) ∙ shift (length es)
   where

@@ -145,7 +145,7 @@ plain-fact sent w (says.Locked s u T) h = absurd h
 plain-fact sent w _ h = tt
 
 -- what holds of every message holds of this one
-in-all : (P : Sent → Type 0) (sent : List Sent) (x : Sent) → All P sent → In x sent → P x
+pub in-all : (P : Sent → Type 0) (sent : List Sent) (x : Sent) → All P sent → In x sent → P x
 in-all P [] x all i = absurd i
 in-all P (y ∷ sent) x all (inl e) = subst P e (All-head P y sent all)
 in-all P (y ∷ sent) x all (inr i) = in-all P sent x (All-tail P y sent all) i
@@ -182,7 +182,7 @@ module _ (r : World) (w : Machine) (atoms : List Atom) (may : MayRun atoms w) (m
       by message k = (worker-talks r.sent talk.once m.worker m.tickets (talk.works s m is) (storage_of m (stable (r.found s)) room) message tt).0
 
   pub past-next : PastFacts (after step r).sent (after step r).clients (after step r).memory (after step r).found (run_atoms atoms w) Free
-  past-next = step-past r w (run_atoms atoms w) Free Free past (λ c T cause h. tt) grown.aborted grown.named named (λ c T s n free need h. tt) mirrors inv locks facts talk workers (λ s m is c T at none had. inr tt) (λ c T e. tt) step i later
+  past-next = step-past r w (run_atoms atoms w) Free Free past (λ c T cause h. tt) grown.aborted grown.named named (λ c T s n free need h. tt) mirrors inv locks facts talk workers (λ s m is c T at none had. inr tt) step (i, λ c e T f. tt) later
 
   pub ends-next : EndsAsked (after step r).sent (run_atoms atoms w)
   ends-next a h T of e = by (ended T e)
