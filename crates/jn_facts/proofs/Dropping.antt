@@ -11,20 +11,21 @@ use Rattle.jn_rows.specs.declared.worker.Work.{Work}
 use Rattle.jn_rows.specs.declared.worker.Phase.{Phase}
 use Rattle.jn_rows.specs.declared.worker.Phase.TheVariants.{Active, Broken, Prepared as Stored}
 use Rattle.jn_rows.specs.Stable.{StableState, Prepared, Pick, stable}
+use Rattle.jn_rows.specs.Coordinator.{is_work}
 use Rattle.jn_rows.specs.Worker.{work_at}
 use Rattle.jn_machine.specs.World.{World as Machine}
 use Rattle.jn_machine.specs.Steps.{run as run_atoms, opening_world}
-use Rattle.jn_machine.proofs.Updates.{not_both, clash, none_some, some_is}
+use Rattle.jn_machine.proofs.Updates.{not_both, false_unless, clash, none_some, some_is}
 use Rattle.jn_protocol.specs.World.{World, Memory}
 use Rattle.jn_protocol.specs.LockFacts.{IsSoundWork}
 use Rattle.jn_moves.specs.Mirrors.{working_in}
 use Rattle.jn_facts.specs.Sent.{WasSent, IsNamed}
-use Rattle.jn_facts.specs.Parts.{IsPart}
+use Rattle.jn_facts.specs.Parts.{IsNoPart}
 use Rattle.jn_facts.specs.Drops.{IsOver}
 use Rattle.jn_facts.proofs.Breaking.{is_broken, is_stored}
 use Rattle.jn_facts.proofs.Broken.{NeverReady, goes-on}
 use Rattle.jn_facts.proofs.Standing.{Standing}
-use Rattle.jn_facts.proofs.Laws.{inv, named, said, up-fact, not-aborted, its-part}
+use Rattle.jn_facts.proofs.Laws.{inv, named, said, up-fact, not-aborted, its-part, was-ended}
 
 module _ (files : AllFiles) (epochs : ServerNo → ℕ) (r : World) (h : Standing files epochs r) (T : Tid) (W : WorkId) (is-named : IsNamed r T) (sent : WasSent r (messages.Drop T W)) where
   abbrev w : Machine
@@ -63,24 +64,25 @@ module _ (files : AllFiles) (epochs : ServerNo → ℕ) (r : World) (h : Standin
         by None e = refl
         by (Some x) e = absurd (phase x e x.phase refl)
 
-  none-of-its-own : ((run_atoms h.atoms (opening_world files epochs)).part T W.server ≡ Some W → ⊥) → IsOver r W ⊎ (IsPart r T W → ⊥)
-  none-of-its-own none = inr (λ p. none (its-part files epochs r h T W p))
+  -- its end doesn't have the work
+  none-of-its-own : (w.part T W.server ≡ Some W → ⊥) → IsNoPart r T W
+  none-of-its-own none = let end = was-ended files epochs r h T is-named in (end, false_unless (is_work W end.works) (λ e. none (its-part files epochs r h T W (end, e))))
 
-  pub dropped : IsOver r W ⊎ (IsPart r T W → ⊥)
+  pub dropped : IsOver r W ⊎ IsNoPart r T W
   dropped = by (w.part T W.server) refl
     where
-      of-part : w.part T W.server ≡ Some W → IsOver r W ⊎ (IsPart r T W → ⊥)
+      of-part : w.part T W.server ≡ Some W → IsOver r W ⊎ IsNoPart r T W
       of-part part = why (said files epochs r h (messages.Drop T W) sent).1
         where
-          why : (w.aborted T ≡ true) ⊎ ((w.over W ≡ true) ⊎ ((w.ended T ≡ true) × (w.part T W.server ≢ Some W))) → IsOver r W ⊎ (IsPart r T W → ⊥)
+          why : (w.aborted T ≡ true) ⊎ ((w.over W ≡ true) ⊎ ((w.ended T ≡ true) × (w.part T W.server ≢ Some W))) → IsOver r W ⊎ IsNoPart r T W
           why (inl a) = absurd (not_both (w.aborted T) a clear)
           why (inr (inl over)) = inl (record { found = nowhere part over; table = no-table part over })
           why (inr (inr n)) = absurd (n.1 part)
 
-      by : (o : Option WorkId) → w.part T W.server ≡ o → IsOver r W ⊎ (IsPart r T W → ⊥)
-      by None e = none-of-its-own (λ k. none_some W (sym e ∙ k))
+      by : (o : Option WorkId) → w.part T W.server ≡ o → IsOver r W ⊎ IsNoPart r T W
+      by None e = inr (none-of-its-own (λ k. none_some W (sym e ∙ k)))
       by (Some V) e = at (work_tells V W)
         where
-          at : ((work_eq V W ≡ true) × (V ≡ W)) ⊎ ((work_eq V W ≡ false) × (V ≢ W)) → IsOver r W ⊎ (IsPart r T W → ⊥)
+          at : ((work_eq V W ≡ true) × (V ≡ W)) ⊎ ((work_eq V W ≡ false) × (V ≢ W)) → IsOver r W ⊎ IsNoPart r T W
           at (inl k) = of-part (e ∙ ap (λ (U : WorkId). Some U) k.1)
-          at (inr k) = none-of-its-own (λ f. k.1 (some_is V W (sym e ∙ f)))
+          at (inr k) = inr (none-of-its-own (λ f. k.1 (some_is V W (sym e ∙ f))))

@@ -33,7 +33,7 @@ use Rattle.jn_facts.specs.Sent.{WasSent, IsNamed}
 use Rattle.jn_facts.specs.Names.{WasMade, AreMadeOnce}
 use Rattle.jn_facts.specs.Doubt.{IsDownInDoubt}
 use Rattle.jn_facts.specs.Commits.{AreToldAfter}
-use Rattle.jn_facts.specs.Parts.{IsPart}
+use Rattle.jn_facts.specs.Parts.{WasEnded, IsPart}
 use Rattle.jn_facts.specs.Works.{IsFlagged, IsPrepared, IsCarriedOut, DoWorksStay, AreAsPrepared}
 use Rattle.jn_facts.specs.Answers.{IsActive, DoAnswersStand}
 use Rattle.jn_facts.proofs.Standing.{Standing, Later, named-is, invariant}
@@ -168,11 +168,18 @@ module _ (files : AllFiles) (epochs : ServerNo → ℕ) (r : World) (h : Standin
           (subst (λ (U : Tid). w.aborted U ≡ false) (sym owner) clear) (subst (λ (U : Tid). w.named U ≡ false) (sym owner) n))
 
   pub its-part : (T : Tid) (W : WorkId) → IsPart r T W → w.part T W.server ≡ Some W
-  its-part T W p = (said (messages.End p.client p.request T p.works) p.sent).2.each W p.is
+  its-part T W p = (said (messages.End p.0.client p.0.request T p.0.works) p.0.sent).2.each W p.1
+
+  -- a named transaction was ended
+  pub was-ended : (T : Tid) → IsNamed r T → WasEnded r T
+  was-ended T n = h.ended T (inv.core.named T (named T ∙ n)).ended
 
   pub works-stay : DoWorksStay r
-  works-stay T W (inl k) = flagged-stays T W k (w.named T) refl
-  works-stay T W (inr k) = named-stays T W (named T ∙ k.0) (its-part T W k.1)
+  works-stay = record { ended = was-ended; stay = λ T W k. by T W k }
+    where
+      by : (T : Tid) (W : WorkId) → IsFlagged r T W ⊎ (IsNamed r T × IsPart r T W) → IsPrepared r W ⊎ (IsNamed r T × IsCarriedOut r W)
+      by T W (inl k) = flagged-stays T W k (w.named T) refl
+      by T W (inr k) = named-stays T W (named T ∙ k.0) (its-part T W k.1)
 
 -- what a pick finds of a work, each pick finds later too
 pub as-prepared : (files : AllFiles) (epochs : ServerNo → ℕ) (r q : World) (h : Standing files epochs r) → Later files epochs r h q → AreAsPrepared r q

@@ -1,4 +1,5 @@
 pub mod Staying
+pub mod Ending
 pub mod Breaking
 pub mod Broken
 pub mod Standing

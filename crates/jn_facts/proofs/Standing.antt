@@ -1,5 +1,5 @@
 -- After any steps from an opening the machine stands where the whole system does.
-use Rattle.std.proofs.Common.{◌≡◌, ℕ, List, [], ◌∷◌, ◌++◌, refl, sym, ◌∙◌, ap, subst}
+use Rattle.std.proofs.Common.{◌≡◌, ◌⊎◌, inl, inr, ℕ, true, List, [], ◌∷◌, ◌++◌, refl, sym, ◌∙◌, ap, subst}
 use Rattle.std.specs.List.{list_any}
 use Rattle.jn_base.specs.declared.names.ServerNo.{ServerNo}
 use Rattle.jn_base.specs.declared.names.Tid.{Tid}
@@ -12,7 +12,7 @@ use Rattle.jn_machine.specs.Steps.{Atom, run as run_atoms, opening_world}
 use Rattle.jn_machine.specs.Premises.{MayRun}
 use Rattle.jn_machine.proofs.Runs.{run_kept, opening_kept}
 use Rattle.jn_machine.proofs.History.{run_told, opening_told}
-use Rattle.jn_machine.proofs.Updates.{some_is, none_some}
+use Rattle.jn_machine.proofs.Updates.{not_both, some_is, none_some}
 use Rattle.jn_protocol.specs.World.{World, Memory, opening, has_line, new_memory}
 use Rattle.jn_protocol.specs.Steps.{Step, IsStep, IsRun, after, run}
 use Rattle.jn_protocol.specs.LockFacts.{LockFacts}
@@ -21,8 +21,9 @@ use Rattle.jn_moves.specs.Mirrors.{Mirrors}
 use Rattle.jn_moves.proofs.Losing.{run-append, may-append}
 use Rattle.jn_moves.proofs.StepMoves.{opening-mirrors, committed-any}
 use Rattle.jn_runs.proofs.Facts.{Facts}
-use Rattle.jn_runs.proofs.ClientSteps.{Next}
-use Rattle.jn_runs.proofs.Runs.{step-next, opening-facts}
+use Rattle.jn_runs.proofs.Runs.{opening-facts}
+use Rattle.jn_facts.specs.Parts.{WasEnded}
+use Rattle.jn_facts.proofs.Ending.{NextEnds, next-ends, step-sends, ended-still}
 use Rattle.jn_facts.proofs.Breaking.{step-breaks}
 use Rattle.jn_facts.proofs.Broken.{BrokenFact, broken-on}
 
@@ -33,6 +34,8 @@ pub record Standing (files : AllFiles) (epochs : ServerNo → ℕ) (r : World) :
   pub mirrors : Mirrors r (run_atoms atoms (opening_world files epochs))
   pub facts : Facts r (run_atoms atoms (opening_world files epochs))
   pub broken : BrokenFact r (run_atoms atoms (opening_world files epochs))
+  -- what has ended was ended by a message
+  pub ended : (T : Tid) → (run_atoms atoms (opening_world files epochs)).ended T ≡ true → WasEnded r T
 
 module _ (files : AllFiles) (epochs : ServerNo → ℕ) where
   named-by : (r : World) (atoms : List Atom) → MayRun atoms (opening_world files epochs) → Mirrors r (run_atoms atoms (opening_world files epochs)) → (T : Tid) → (run_atoms atoms (opening_world files epochs)).named T ≡ has_line T r.lines
@@ -61,6 +64,7 @@ module _ (files : AllFiles) (epochs : ServerNo → ℕ) where
       locks = locks;
       mirrors = mirrors;
       facts = subst (λ (z : Machine). Facts (after step r) z) (sym same) next.facts;
+      ended = λ T e. now T (next.ends T (subst (λ (z : Machine). z.ended T ≡ true) same e));
       broken = subst (λ (z : Machine). BrokenFact (after step r) z) (sym same) (broken-on r w next.atoms next.may (invariant r h) h.mirrors h.locks (named-is r h) h.broken (after step r) (step-breaks r h.locks step) next.mirrors locks
           (λ T. ap (λ (z : Machine). z.named T) (sym same) ∙ named-by (after step r) (h.atoms ++ next.atoms) may mirrors T));
     };
@@ -72,11 +76,15 @@ module _ (files : AllFiles) (epochs : ServerNo → ℕ) where
       w : Machine
       w = run_atoms h.atoms (opening_world files epochs)
 
-      next : Next (after step r) (run_atoms h.atoms (opening_world files epochs))
-      next = step-next files epochs h.atoms h.may r h.mirrors h.facts h.locks step i
+      next : NextEnds (after step r) (run_atoms h.atoms (opening_world files epochs))
+      next = next-ends files epochs h.atoms h.may r h.mirrors h.facts h.locks step i
 
       same : run_atoms (h.atoms ++ next.atoms) (opening_world files epochs) ≡ run_atoms next.atoms (run_atoms h.atoms (opening_world files epochs))
       same = run-append h.atoms next.atoms (opening_world files epochs)
+
+      now : (T : Tid) → (w.ended T ≡ true) ⊎ WasEnded (after step r) T → WasEnded (after step r) T
+      now T (inl e) = ended-still r (after step r) (step-sends r step) T (h.ended T e)
+      now T (inr e) = e
 
       may : MayRun (h.atoms ++ next.atoms) (opening_world files epochs)
       may = may-append h.atoms next.atoms (opening_world files epochs) h.may next.may
@@ -103,6 +111,7 @@ module _ (files : AllFiles) (epochs : ServerNo → ℕ) where
     locks = opening-keeps servers files epochs;
     mirrors = opening-mirrors servers files epochs;
     facts = opening-facts servers files epochs;
+    ended = λ T e. absurd (not_both true refl (sym e));
     broken = λ s m W x is found broken. absurd (none_some x (ap (λ (z : Memory). work_at W z.worker) (some_is (new_memory s (epochs s)) m is) ∙ found));
   }
 

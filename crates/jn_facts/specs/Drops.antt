@@ -11,7 +11,7 @@ use Rattle.jn_rows.specs.Stable.{Pick}
 use Rattle.jn_rows.specs.Worker.{work_at}
 use Rattle.jn_protocol.specs.World.{World, Memory}
 use Rattle.jn_facts.specs.Sent.{WasSent, IsNamed}
-use Rattle.jn_facts.specs.Parts.{IsPart}
+use Rattle.jn_facts.specs.Parts.{IsNoPart}
 
 -- no pick finds the work, and its server, where it is up, doesn't have it in its table
 pub record IsOver (r : World) (W : WorkId) : Type 0 where
@@ -30,5 +30,5 @@ pub record IsPast (r : World) (c : ClientNo) (T : Tid) : Type 0 where
 -- A Drop goes only to a work that is over, or that isn't in the transaction's end, and a client that is past it alone is
 -- told that it isn't known. As messages stay sent, the work is over for good.
 pub record AreOfThePast (r : World) : Type 0 where
-  pub drops : (T : Tid) (W : WorkId) → IsNamed r T → WasSent r (Drop T W) → IsOver r W ⊎ (IsPart r T W → ⊥)
+  pub drops : (T : Tid) (W : WorkId) → IsNamed r T → WasSent r (Drop T W) → IsOver r W ⊎ IsNoPart r T W
   pub unknown : (c : ClientNo) (T : Tid) (s : ServerNo) (epoch : ℕ) → IsNamed r T → WasSent r (Outcome c T (NotKnown s epoch)) → IsPast r c T

@@ -1,5 +1,5 @@
 -- The works of a transaction's end.
-use Rattle.std.specs.Prelude.{◌≡◌, ℕ, true, List}
+use Rattle.std.specs.Prelude.{◌≡◌, ℕ, true, false, List}
 use Rattle.jn_base.specs.declared.names.ClientNo.{ClientNo}
 use Rattle.jn_base.specs.declared.names.Tid.{Tid}
 use Rattle.jn_base.specs.declared.names.WorkId.{WorkId}
@@ -8,10 +8,17 @@ use Rattle.jn_rows.specs.Coordinator.{is_work}
 use Rattle.jn_protocol.specs.World.{World}
 use Rattle.jn_facts.specs.Sent.{WasSent}
 
--- its client has ended it with these works, this one among them
-pub record IsPart (r : World) (T : Tid) (W : WorkId) : Type 0 where
+-- a client has ended it with these works
+pub record WasEnded (r : World) (T : Tid) : Type 0 where
   pub client : ClientNo
   pub request : ℕ
   pub works : List WorkId
   pub sent : WasSent r (End client request T works)
-  pub is : is_work W works ≡ true
+
+-- the work is of the transaction's end
+abbrev pub IsPart : World → Tid → WorkId → Type 0
+IsPart r T W = (end : WasEnded r T) × (is_work W end.works ≡ true)
+
+-- the transaction has an end without the work
+abbrev pub IsNoPart : World → Tid → WorkId → Type 0
+IsNoPart r T W = (end : WasEnded r T) × (is_work W end.works ≡ false)

@@ -10,7 +10,7 @@ use Rattle.jn_rows.specs.Stable.{Prepared, FlagState, Pick}
 use Rattle.jn_rows.specs.Coordinator.{is_work}
 use Rattle.jn_protocol.specs.World.{World}
 use Rattle.jn_facts.specs.Sent.{IsNamed}
-use Rattle.jn_facts.specs.Parts.{IsPart}
+use Rattle.jn_facts.specs.Parts.{WasEnded, IsPart}
 
 -- some pick finds its flag, with this work
 pub record IsFlagged (r : World) (T : Tid) (W : WorkId) : Type 0 where
@@ -31,10 +31,12 @@ AreCarriedOut list files = (u : LockUnit) (v : Option (List ℕ)) → list_chang
 abbrev pub IsCarriedOut : World → WorkId → Type 0
 IsCarriedOut r W = (c : Pick) (p : Prepared) → (r.found W.server c).works W ≡ Some p → AreCarriedOut p.list (r.found W.server c).files
 
--- It is in the transaction's flag, or in the end of one that is named. Then every pick finds it prepared, or the transaction is
--- named and it is carried out.
-abbrev pub DoWorksStay : World → Type 0
-DoWorksStay r = (T : Tid) (W : WorkId) → IsFlagged r T W ⊎ (IsNamed r T × IsPart r T W) → IsPrepared r W ⊎ (IsNamed r T × IsCarriedOut r W)
+pub record DoWorksStay (r : World) : Type 0 where
+  -- a named transaction was ended
+  pub ended : (T : Tid) → IsNamed r T → WasEnded r T
+  -- Each work of a flag, and of a named transaction's end, is found prepared by every pick, or the transaction is named and the work
+  -- is carried out.
+  pub stay : (T : Tid) (W : WorkId) → IsFlagged r T W ⊎ (IsNamed r T × IsPart r T W) → IsPrepared r W ⊎ (IsNamed r T × IsCarriedOut r W)
 
 -- A prepared work keeps its list and its read units: whatever pick finds it, then and later, finds it with these.
 abbrev pub AreAsPrepared : World → World → Type 0
