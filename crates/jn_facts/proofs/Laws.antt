@@ -13,13 +13,14 @@ use Rattle.jn_msgs.specs.declared.message.Outcome.TheVariants as outcomes
 use Rattle.jn_rows.specs.declared.worker.ActiveWork.{ActiveWork}
 use Rattle.jn_rows.specs.Stable.{StableState, Pick}
 use Rattle.jn_rows.specs.Outcomes.{Sent}
-use Rattle.jn_machine.specs.World.{World as Machine, replay}
+use Rattle.jn_machine.specs.World.{World as Machine, Working, replay}
+use Rattle.jn_machine.specs.Held.{HasRead}
 use Rattle.jn_machine.specs.Invariant.{Invariant}
 use Rattle.jn_machine.specs.Steps.{run as run_atoms, opening_world}
 use Rattle.jn_machine.specs.FoundStates as states
 use Rattle.jn_machine.specs.NameFacts.{IsGiven}
 use Rattle.jn_machine.specs.Messages.{Says}
-use Rattle.jn_machine.proofs.Updates.{not_both, false_unless, clash}
+use Rattle.jn_machine.proofs.Updates.{not_both, some_is, false_unless, clash}
 use Rattle.jn_machine.proofs.History.{run_told, opening_told, IsTold}
 use Rattle.jn_machine.proofs.Runs.{opening_kept}
 use Rattle.jn_protocol.specs.World.{World, Memory, has_line}
@@ -34,10 +35,10 @@ use Rattle.jn_facts.specs.Names.{WasMade, AreMadeOnce}
 use Rattle.jn_facts.specs.Doubt.{IsDownInDoubt}
 use Rattle.jn_facts.specs.Commits.{AreToldAfter}
 use Rattle.jn_facts.specs.Parts.{WasEnded, IsPart}
-use Rattle.jn_facts.specs.Works.{IsFlagged, IsPrepared, IsCarriedOut, DoWorksStay, AreAsPrepared}
-use Rattle.jn_facts.specs.Answers.{IsActive, DoAnswersStand}
+use Rattle.jn_facts.specs.Works.{IsFlagged, IsPrepared, IsCarriedOut, DoWorksStay, IsActive, AreAsPrepared, AreReadsKept}
+use Rattle.jn_facts.specs.Answers.{DoAnswersStand}
 use Rattle.jn_facts.proofs.Standing.{Standing, Later, named-is, invariant}
-use Rattle.jn_facts.proofs.Staying.{IsThere, IsDone, Stays, StayFact, run-stays, StoredAs, IsSo, SoFact, so-still, run-so}
+use Rattle.jn_facts.proofs.Staying.{IsThere, IsDone, Stays, StayFact, run-stays, HasReadAll, StoredAs, IsSo, SoFact, so-still, run-so, reads-still}
 
 module _ (files : AllFiles) (epochs : ServerNo → ℕ) (r : World) (h : Standing files epochs r) where
   abbrev pub w : Machine
@@ -200,3 +201,22 @@ as-prepared files epochs r q h later W c d p y e f = by (run-so h.atoms (opening
         let then-so = subst (λ (z : Machine). IsSo z W so.0 so.1) (sym later.same) (so-still later.more v W so.0 so.1 later.further (invariant files epochs r h) (record { opened = fact.opened; none = fact.not_active }) so.2) in
         let after = subst (λ o. StoredAs so.0 so.1 o) (ap (λ (x : StableState). x.works W) (later.stands.mirrors.found W.server d) ∙ f) (then-so d) in
         (after.0 ∙ sym now.0, after.1 ∙ sym now.1)
+
+-- what an active work has read it has read later
+pub reads-kept : (files : AllFiles) (epochs : ServerNo → ℕ) (r q : World) (h : Standing files epochs r) → Later files epochs r h q → AreReadsKept r q
+reads-kept files epochs r q h later W a u k read = (
+  λ b l. now.0 (record { list = b.list; reads = b.reads }) (active-is files epochs q later.stands W b l),
+  λ c p e. now.1 c p (ap (λ (x : StableState). x.works W) (later.stands.mirrors.found W.server c) ∙ e),
+)
+  where
+    v : Machine
+    v = run_atoms h.atoms (opening_world files epochs)
+
+    active : v.active W ≡ Some (record { list = a.list; reads = a.reads })
+    active = active-is files epochs r h W a k
+
+    now : HasReadAll (run_atoms later.stands.atoms (opening_world files epochs)) W u
+    now = subst (λ (z : Machine). HasReadAll z W u) (sym later.same) (reads-still later.more v W u later.further (invariant files epochs r h) ((invariant files epochs r h).core.active W (record { list = a.list; reads = a.reads }) active).opened (
+      λ b e. subst (λ (z : Working). HasRead z.reads u) (some_is (record { list = a.list; reads = a.reads }) b (sym active ∙ e)) read,
+      λ c p e. absurd (clash (v.active W) (record { list = a.list; reads = a.reads }) active (((invariant files epochs r h).core.states W.server c).prepared W p e).not_active),
+    ))

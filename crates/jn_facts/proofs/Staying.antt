@@ -11,14 +11,16 @@ use Rattle.jn_base.proofs.Tells.{server_tells, work_tells}
 use Rattle.jn_order.specs.Files.{Files, or_else, change}
 use Rattle.jn_records.specs.declared.intention.Intention.{Intention}
 use Rattle.jn_records.specs.NetLists.{intention_change, list_change}
-use Rattle.jn_rows.specs.Stable.{StableState, Prepared, Pick, Change, AddReady, MarkGoing, CarryOut, RemoveWork, AddFlag, DropFlag, gone_on, ready_work, made_by}
+use Rattle.jn_rows.specs.Stable.{StableState, Prepared, Pick, Change, AddReady, MarkGoing, CarryOut, RemoveWork, AddFlag, DropFlag, at_work, gone_on, ready_work, made_by}
 use Rattle.jn_machine.specs.World.{World, Working}
-use Rattle.jn_machine.specs.Held.{Writes}
+use Rattle.jn_machine.specs.Held.{HasRead, Writes}
+use Rattle.jn_machine.specs.NameFacts.{NamesFact}
 use Rattle.jn_machine.specs.Invariant.{Invariant}
-use Rattle.jn_machine.specs.Steps.{Atom, Prepare, NoteReady, Make, Decide, Narrow, RaiseEpoch, Restart, changed, server_of, with_epoch, after, run}
+use Rattle.jn_machine.specs.Steps.{Atom, Open, Perform, Lose, Crash, new_work, Prepare, NoteReady, Make, Decide, Narrow, RaiseEpoch, Restart, changed, server_of, with_epoch, after, run}
 use Rattle.jn_machine.specs.Premises.{MayCarryOut, MayRemove, MayMake, May, MayRun}
 use Rattle.jn_machine.proofs.HeldLemmas.{writes_apart}
 use Rattle.jn_machine.proofs.MessageLemmas.{grows}
+use Rattle.jn_machine.proofs.NameLemmas.{fresh_work}
 use Rattle.jn_machine.proofs.Runs.{step_kept}
 use Rattle.jn_machine.proofs.Updates.{not_both, false_unless, at_work_cases, some_is, none_some, clash}
 use Rattle.jn_talk.proofs.Atoms.{IsStill, still}
@@ -325,3 +327,71 @@ run-so (a ∷ atoms) w m inv fact = run-so atoms (after a w) m.1 (step_kept a w 
         nowhere : (c : Pick) (p : Option Prepared) → (w.found W.server c).works W ≡ p → StoredAs A.list A.reads p
         nowhere c None k = tt
         nowhere c (Some p) k = absurd (clash (w.active W) A e ((inv.core.states W.server c).prepared W p k).not_active)
+
+-- ---- what a work has read
+
+-- wherever it goes on or is found, it has read the unit
+abbrev pub HasReadAll : World → WorkId → LockUnit → Type 0
+HasReadAll w W u = ((a : Working) → w.active W ≡ Some a → HasRead a.reads u) × ((c : Pick) (p : Prepared) → (w.found W.server c).works W ≡ Some p → HasRead p.reads u)
+
+module _ (w : World) (W : WorkId) (u : LockUnit) (opened : w.opened W ≡ true) (h : HasReadAll w W u) where
+  abbrev Reads : StableState → Type 0
+  Reads x = (p : Prepared) → x.works W ≡ Some p → HasRead p.reads u
+
+  made-reads : (step : Change) (x : StableState) → MayMake w x step → Reads x → Reads (made_by step x)
+  made-reads (AddReady head list reads) x m k = absurd m
+  made-reads (MarkGoing V) x m k = λ p e. by p (at_work_cases x.works V (gone_on (x.works V)) W (Some p) e)
+    where
+      by : (p : Prepared) → ((V ≡ W) × (gone_on (x.works V) ≡ Some p)) ⊎ ((V ≢ W) × (x.works W ≡ Some p)) → HasRead p.reads u
+      by p (inl q) = let g = was-going (x.works V) p q.1 in subst (λ us. HasRead us u) g.3 (k g.0 (subst (λ (U : WorkId). x.works U ≡ Some g.0) q.0 g.1))
+      by p (inr q) = k p q.1
+  made-reads (CarryOut V i) x m k = k
+  made-reads (RemoveWork V) x m k = λ p e. by p (at_work_cases x.works V None W (Some p) e)
+    where
+      by : (p : Prepared) → ((V ≡ W) × (None ≡ Some p)) ⊎ ((V ≢ W) × (x.works W ≡ Some p)) → HasRead p.reads u
+      by p (inl q) = absurd (none_some p q.1)
+      by p (inr q) = k p q.1
+  made-reads (AddFlag flag) x m k = k
+  made-reads (DropFlag T) x m k = k
+
+  keeps-reads : (a : Atom) → May a w → Keeps w W Reads a
+  keeps-reads (Make done step) m = λ c e k. made-reads step (w.found (server_of step) c) (m c) k
+  keeps-reads (Prepare done head list reads) m = λ c e k p q. by c k p (at_work_cases (w.found head.work.server c).works head.work (Some (ready_work head list reads)) W (Some p) q)
+    where
+      by : (c : Pick) → Reads (w.found head.work.server c) → (p : Prepared) → ((head.work ≡ W) × (Some (ready_work head list reads) ≡ Some p)) ⊎ ((head.work ≢ W) × ((w.found head.work.server c).works W ≡ Some p)) → HasRead p.reads u
+      by c k p (inl q) = subst (λ (z : Prepared). HasRead z.reads u) (some_is (ready_work head list reads) p q.1) (h.0 (record { list = list; reads = reads }) (subst (λ (U : WorkId). w.active U ≡ Some (record { list = list; reads = reads })) q.0 (m c).active))
+      by c k p (inr q) = k p q.1
+  keeps-reads _ m = tt
+
+  -- a work is lost, or goes on so
+  lost-reads : (V : WorkId) (a : Working) → at_work w.active V None W ≡ Some a → HasRead a.reads u
+  lost-reads V a e = by (at_work_cases w.active V None W (Some a) e)
+    where
+      by : ((V ≡ W) × (None ≡ Some a)) ⊎ ((V ≢ W) × (w.active W ≡ Some a)) → HasRead a.reads u
+      by (inl q) = absurd (none_some a q.1)
+      by (inr q) = h.0 a q.1
+
+  active-reads : (x : Atom) → May x w → NamesFact w → (a : Working) → (after x w).active W ≡ Some a → HasRead a.reads u
+  active-reads (Open V T) m n a e = by (at_work_cases w.active V (Some new_work) W (Some a) e)
+    where
+      by : ((V ≡ W) × (Some new_work ≡ Some a)) ⊎ ((V ≢ W) × (w.active W ≡ Some a)) → HasRead a.reads u
+      by (inl q) = absurd (not_both (w.opened W) opened (subst (λ (U : WorkId). w.opened U ≡ false) q.0 (fresh_work w V T n m)))
+      by (inr q) = h.0 a q.1
+  active-reads (Perform V answered b) m n a e = by (at_work_cases w.active V (Some b) W (Some a) e)
+    where
+      by : ((V ≡ W) × (Some b ≡ Some a)) ⊎ ((V ≢ W) × (w.active W ≡ Some a)) → HasRead a.reads u
+      by (inl q) = subst (λ (z : Working). HasRead z.reads u) (some_is b a q.1) (m.kept u (h.0 m.before (subst (λ (U : WorkId). w.active U ≡ Some m.before) q.0 m.is)))
+      by (inr q) = h.0 a q.1
+  active-reads (Lose V) m n a e = lost-reads V a e
+  active-reads (Prepare done head list reads) m n a e = lost-reads head.work a e
+  active-reads (Crash s) m n a e = by (server_eq s W.server) e
+    where
+      by : (b : Bool) → (if b then None else w.active W) ≡ Some a → HasRead a.reads u
+      by true k = absurd (none_some a k)
+      by false k = h.0 a k
+  active-reads _ m n a e = h.0 a e
+
+pub reads-still : (atoms : List Atom) (w : World) (W : WorkId) (u : LockUnit) → MayRun atoms w → Invariant w → w.opened W ≡ true → HasReadAll w W u → HasReadAll (run atoms w) W u
+reads-still [] w W u m inv opened h = h
+reads-still (a ∷ atoms) w W u m inv opened h = reads-still atoms (after a w) W u m.1 (step_kept a w m.0 inv) ((grows a w m.0 inv.names).opened W opened)
+    (active-reads w W u opened h a m.0 inv.names, atom-all w W (Reads w W u opened h) (λ x n k. k) (λ x f k. k) a (keeps-reads w W u opened h a m.0) h.1)

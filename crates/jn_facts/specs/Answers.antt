@@ -5,17 +5,15 @@ use Rattle.jn_base.specs.declared.names.WorkId.{WorkId}
 use Rattle.jn_order.specs.Files.{Files, AllFiles}
 use Rattle.jn_records.specs.declared.intention.Intention.{Intention}
 use Rattle.jn_records.specs.NetLists.{list_change}
-use Rattle.jn_rows.specs.declared.worker.Work.{Work}
 use Rattle.jn_rows.specs.declared.worker.ActiveWork.{ActiveWork}
-use Rattle.jn_rows.specs.declared.worker.Phase.TheVariants.{Active}
 use Rattle.jn_rows.specs.Stable.{Prepared, Pick}
-use Rattle.jn_rows.specs.Worker.{work_at}
 use Rattle.jn_machine.specs.Traces.{Answered, asked, effects, Agrees}
 use Rattle.jn_machine.specs.Held.{HasRead}
 use Rattle.jn_machine.specs.World.{Commit, IsSerial, replay}
-use Rattle.jn_protocol.specs.World.{World, Memory, commits_in}
+use Rattle.jn_protocol.specs.World.{World, commits_in}
 use Rattle.jn_moves.specs.Mirrors.{commits_of}
 use Rattle.jn_facts.specs.Sent.{IsNamed}
+use Rattle.jn_facts.specs.Works.{IsActive}
 
 -- These files give its operations the answers that it gave. Its intentions do what these operations do, and it has read each
 -- register that an answer depends on.
@@ -23,14 +21,6 @@ pub record Stands (files : Files) (did : List Answered) (list : List Intention) 
   pub agrees : Agrees files did
   pub effects : (u : LockUnit) → list_change list u ≡ effects did u
   pub reads : (u : LockUnit) → asked did u ≡ true → HasRead units u
-
--- a work of a server that is up, while it takes operations
-pub record IsActive (r : World) (W : WorkId) (a : ActiveWork) : Type 0 where
-  pub memory : Memory
-  pub up : r.memory W.server ≡ Some memory
-  pub work : Work
-  pub is : work_at W memory.worker ≡ Some work
-  pub active : work.phase ≡ Active a
 
 -- The commits so far have a history, in which each is answered what those before it left. What each work did stands in the
 -- files that they leave, while it is active, and while a pick finds it prepared and its transaction has no commit line.

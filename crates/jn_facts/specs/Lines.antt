@@ -17,7 +17,7 @@ use Rattle.jn_machine.specs.Traces.{Agrees}
 use Rattle.jn_protocol.specs.World.{World}
 use Rattle.jn_talk.specs.Told.{at_place}
 use Rattle.jn_facts.specs.Sent.{WasSent, IsNamed}
-use Rattle.jn_facts.specs.Answers.{IsActive}
+use Rattle.jn_facts.specs.Works.{IsActive}
 
 -- some operation was sent to the work
 pub record WasAsked (r : World) (W : WorkId) : Type 0 where

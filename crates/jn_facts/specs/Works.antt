@@ -6,9 +6,14 @@ use Rattle.jn_base.specs.declared.names.WorkId.{WorkId}
 use Rattle.jn_order.specs.Files.{Files}
 use Rattle.jn_records.specs.declared.intention.Intention.{Intention}
 use Rattle.jn_records.specs.NetLists.{list_change}
+use Rattle.jn_rows.specs.declared.worker.Work.{Work}
+use Rattle.jn_rows.specs.declared.worker.ActiveWork.{ActiveWork}
+use Rattle.jn_rows.specs.declared.worker.Phase.TheVariants.{Active}
 use Rattle.jn_rows.specs.Stable.{Prepared, FlagState, Pick}
+use Rattle.jn_rows.specs.Worker.{work_at}
 use Rattle.jn_rows.specs.Coordinator.{is_work}
-use Rattle.jn_protocol.specs.World.{World}
+use Rattle.jn_machine.specs.Held.{HasRead}
+use Rattle.jn_protocol.specs.World.{World, Memory}
 use Rattle.jn_facts.specs.Sent.{IsNamed}
 use Rattle.jn_facts.specs.Parts.{WasEnded, IsPart}
 
@@ -38,6 +43,19 @@ pub record DoWorksStay (r : World) : Type 0 where
   -- is carried out.
   pub stay : (T : Tid) (W : WorkId) → IsFlagged r T W ⊎ (IsNamed r T × IsPart r T W) → IsPrepared r W ⊎ (IsNamed r T × IsCarriedOut r W)
 
+-- a work of a server that is up, while it takes operations
+pub record IsActive (r : World) (W : WorkId) (a : ActiveWork) : Type 0 where
+  pub memory : Memory
+  pub up : r.memory W.server ≡ Some memory
+  pub work : Work
+  pub is : work_at W memory.worker ≡ Some work
+  pub active : work.phase ≡ Active a
+
 -- A prepared work keeps its list and its read units: whatever pick finds it, then and later, finds it with these.
 abbrev pub AreAsPrepared : World → World → Type 0
 AreAsPrepared r later = (W : WorkId) (c d : Pick) (p q : Prepared) → (r.found W.server c).works W ≡ Some p → (later.found W.server d).works W ≡ Some q → (q.list ≡ p.list) × (q.reads ≡ p.reads)
+
+-- What an active work has read it has read later too, as long as it is active, and wherever it is found.
+abbrev pub AreReadsKept : World → World → Type 0
+AreReadsKept r later = (W : WorkId) (a : ActiveWork) (u : LockUnit) → IsActive r W a → HasRead a.reads u
+    → ((b : ActiveWork) → IsActive later W b → HasRead b.reads u) × ((c : Pick) (p : Prepared) → (later.found W.server c).works W ≡ Some p → HasRead p.reads u)

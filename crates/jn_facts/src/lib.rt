@@ -9,7 +9,7 @@ ghost use Rattle.jn_protocol.specs.Steps.{Step, run, IsRun};
 ghost use Rattle.jn_reported.specs.Reported.{Item, events_of, lines_of, world_of, IsReported};
 ghost use Rattle.jn_facts.specs.Names.{AreMadeOnce};
 ghost use Rattle.jn_facts.specs.Doubt.{IsDownInDoubt};
-ghost use Rattle.jn_facts.specs.Works.{DoWorksStay, AreAsPrepared};
+ghost use Rattle.jn_facts.specs.Works.{DoWorksStay, AreAsPrepared, AreReadsKept};
 ghost use Rattle.jn_facts.specs.Commits.{AreToldAfter};
 ghost use Rattle.jn_facts.specs.Drops.{AreOfThePast};
 ghost use Rattle.jn_facts.specs.Answers.{DoAnswersStand};
@@ -30,12 +30,15 @@ pub fn doubt_is_of_servers_that_are_down()
 {}
 
 /// Whatever steps come one after another: each work of a flag that may be found, and of a named transaction's end, is prepared
-/// in whatever is found at its server, or is carried out wherever it is still found. What is found of it never changes.
+/// in whatever is found at its server, or is carried out wherever it is still found. What is found of a prepared work never
+/// changes, and what an active one has read it has read for good.
 pub fn works_of_commits_stay()
     ensures stay { (servers : ℕ) (files : AllFiles) (epochs : ServerNo → ℕ) (steps : List Step) → IsRun steps (opening servers files epochs)
         → DoWorksStay (run steps (opening servers files epochs)) }
     ensures as_prepared { (servers : ℕ) (files : AllFiles) (epochs : ServerNo → ℕ) (steps more : List Step) → IsRun steps (opening servers files epochs)
         → IsRun more (run steps (opening servers files epochs)) → AreAsPrepared (run steps (opening servers files epochs)) (run more (run steps (opening servers files epochs))) }
+    ensures reads { (servers : ℕ) (files : AllFiles) (epochs : ServerNo → ℕ) (steps more : List Step) → IsRun steps (opening servers files epochs)
+        → IsRun more (run steps (opening servers files epochs)) → AreReadsKept (run steps (opening servers files epochs)) (run more (run steps (opening servers files epochs))) }
 {}
 
 /// Whatever steps come one after another: no work and no client is told of a commit that has no line.
