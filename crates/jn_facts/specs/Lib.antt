@@ -7,3 +7,4 @@ pub mod Commits
 pub mod Drops
 pub mod Answers
 pub mod Lines
+pub mod Example

@@ -6,14 +6,16 @@ ghost use Rattle.jn_base.specs.declared.names.ServerNo.{ServerNo};
 ghost use Rattle.jn_order.specs.Files.{AllFiles};
 ghost use Rattle.jn_protocol.specs.World.{opening};
 ghost use Rattle.jn_protocol.specs.Steps.{Step, run, IsRun};
+ghost use Rattle.jn_protocol.specs.Example.{the_transaction, the_work, start};
 ghost use Rattle.jn_reported.specs.Reported.{Item, events_of, lines_of, world_of, IsReported};
 ghost use Rattle.jn_facts.specs.Names.{AreMadeOnce};
-ghost use Rattle.jn_facts.specs.Doubt.{IsDownInDoubt};
-ghost use Rattle.jn_facts.specs.Works.{DoWorksStay, AreAsPrepared, AreReadsKept};
+ghost use Rattle.jn_facts.specs.Doubt.{IsInDoubt, IsDownInDoubt};
+ghost use Rattle.jn_facts.specs.Works.{IsFlagged, DoWorksStay, AreAsPrepared, AreReadsKept};
 ghost use Rattle.jn_facts.specs.Commits.{AreToldAfter};
 ghost use Rattle.jn_facts.specs.Drops.{AreOfThePast};
 ghost use Rattle.jn_facts.specs.Answers.{DoAnswersStand};
 ghost use Rattle.jn_facts.specs.Lines.{DoLinesStand};
+ghost use Rattle.jn_facts.specs.Example.{to_the_stop};
 
 /// Whatever steps come one after another, stops and restarts among them: no name of a transaction or of a work is made twice,
 /// and none that was made will be made again.
@@ -62,4 +64,11 @@ pub fn answers_stand_until_the_commit()
         → DoAnswersStand files (run steps (opening servers files epochs)) }
     ensures lines { (servers : ℕ) (files : AllFiles) (epochs : ServerNo → ℕ) (items : List Item) → IsReported items (opening servers files epochs)
         → DoLinesStand files (events_of items) (lines_of items (opening servers files epochs)) (world_of items (opening servers files epochs)) }
+{}
+
+/// There are such transactions: here a server stops while it puts a flag, and some of what may be found there has it.
+pub fn a_transaction_may_be_in_doubt()
+    ensures run { IsRun to_the_stop start }
+    ensures doubt { IsInDoubt (run to_the_stop start) the_transaction }
+    ensures work { IsFlagged (run to_the_stop start) the_transaction the_work }
 {}
