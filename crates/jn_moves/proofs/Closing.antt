@@ -1,5 +1,5 @@
--- A Begin closes the transactions of its client that a coordinator still has, one after another, as steps of the machine.
-use Rattle.std.proofs.Common.{◌≡◌, ◌≢◌, ◌⊎◌, inl, inr, ℕ, zero, suc, Bool, true, false, List, [], ◌∷◌, ◌++◌, Option, Some, None, refl, sym, ◌∙◌, ap, subst}
+-- A coordinator closes a transaction, as steps of the machine.
+use Rattle.std.proofs.Common.{◌≡◌, ◌≢◌, ◌⊎◌, inl, inr, ℕ, Bool, true, false, List, [], ◌∷◌, ◌++◌, Option, Some, None, true≢false, refl, sym, ◌∙◌, ap, subst}
 use Rattle.std.specs.Prelude.{if◌then◌else◌, take}
 use Rattle.jn_base.specs.declared.names.ServerNo.{ServerNo}
 use Rattle.jn_base.specs.declared.names.Tid.{Tid}
@@ -11,7 +11,7 @@ use Rattle.jn_rows.specs.declared.coordinator.Stage.{Stage}
 use Rattle.jn_rows.specs.declared.coordinator.Stage.TheVariants.{Open, Voting, Committed, Aborted}
 use Rattle.jn_rows.specs.declared.coordinator.Committed.{Committed as Commitment}
 use Rattle.jn_rows.specs.Stable.{StableState, Change, Pick, DropFlag, made_by, made_all, at_tid}
-use Rattle.jn_rows.specs.Coordinator.{all_in, closed, thanked_changes}
+use Rattle.jn_rows.specs.Coordinator.{all_in}
 use Rattle.jn_machine.specs.World.{World as Machine, Knowledge, Unknown}
 use Rattle.jn_machine.specs.FoundStates.{AllOver}
 use Rattle.jn_machine.specs.Transactions.{Knows}
@@ -21,6 +21,7 @@ use Rattle.jn_machine.specs.Premises.{MayRun}
 use Rattle.jn_machine.specs.Messages.{Says}
 use Rattle.jn_machine.proofs.MessageLemmas.{run_grows, says_still}
 use Rattle.jn_machine.proofs.Updates.{at_tid_here}
+use Rattle.jn_protocol.proofs.Closes.{is_committed}
 use Rattle.jn_moves.specs.Mirrors.{IsStage, IsTransaction, knowledge_in, knowledge_of}
 use Rattle.jn_moves.proofs.Mirrored.{some_made, made-one}
 use Rattle.jn_moves.proofs.Transactions.{in-all}
@@ -61,18 +62,14 @@ same-server s = by (server_tells s s)
     by (inl p) = p.0
     by (inr p) = absurd (p.1 refl)
 
-none-made : (n : ℕ) (x : StableState) → x ≡ made_all (take n []) x
-none-made zero x = refl
-none-made (suc n) x = refl
-
-found-still : (s q : ServerNo) (w : Machine) (p : Pick) → w.found q p ≡ (if server_eq s q then w.found s p else w.found q p)
+pub found-still : (s q : ServerNo) (w : Machine) (p : Pick) → w.found q p ≡ (if server_eq s q then w.found s p else w.found q p)
 found-still s q w p = by (server_tells s q)
   where
     by : IsServer s q → w.found q p ≡ (if server_eq s q then w.found s p else w.found q p)
     by (inl e) = ap (λ (z : ServerNo). w.found z p) (sym e.1) ∙ sym (ap (λ (b : Bool). if b then w.found s p else w.found q p) e.0)
     by (inr e) = sym (ap (λ (b : Bool). if b then w.found s p else w.found q p) e.0)
 
-at-same : (f : Tid → Knowledge) (T U : Tid) (k : Knowledge) → f T ≡ k → f U ≡ at_tid f T k U
+pub at-same : (f : Tid → Knowledge) (T U : Tid) (k : Knowledge) → f T ≡ k → f U ≡ at_tid f T k U
 at-same f T U k e = by (tid_tells T U)
   where
     by : IsTid T U → f U ≡ (if tid_eq T U then k else f U)
@@ -85,27 +82,24 @@ abbrev pub listed : Option Transaction → List Transaction
 listed None = []
 listed (Some x) = x ∷ []
 
-abbrev pub changes-of : Bool → Transaction → List Change
-changes-of b x = if b then thanked_changes x.stage x else []
-
-pub record OneCloses (s : ServerNo) (b : Bool) (x : Transaction) (w : Machine) : Type 0 where
+-- this is left of it in the table, and these changes are made
+pub record OneCloses (s : ServerNo) (x : Transaction) (kept : Option Transaction) (cs : List Change) (w : Machine) : Type 0 where
   pub atoms : List Atom
   pub may : MayRun atoms w
   pub keeps : Keeps w (run atoms w)
-  pub found : (q : ServerNo) (p : Pick) → (run atoms w).found q p ≡ (if server_eq s q then made_all (changes-of b x) (w.found s p) else w.found q p)
-  -- what is left of it in the table
-  pub kept : Option Transaction
-  pub list : (if b then closed x.stage x else x ∷ []) ≡ listed kept
+  pub found : (q : ServerNo) (p : Pick) → (run atoms w).found q p ≡ (if server_eq s q then made_all cs (w.found s p) else w.found q p)
   pub same : (y : Transaction) → kept ≡ Some y → (y.tid ≡ x.tid) × IsTransaction (run atoms w) s y
   pub knowledge : (U : Tid) → (run atoms w).knowledge U ≡ at_tid w.knowledge x.tid (knowledge_of kept) U
 
--- where its server stops
-pub record OneStops (s : ServerNo) (b : Bool) (x : Transaction) (made : Pick → ℕ) (w : Machine) : Type 0 where
+-- a server stops while it makes these changes
+pub record Stops (s : ServerNo) (cs : List Change) (made : Pick → ℕ) (w : Machine) : Type 0 where
   pub atoms : List Atom
+  pub now : Machine
+  pub ran : run atoms w ≡ now
   pub may : MayRun atoms w
-  pub keeps : Keeps w (run atoms w)
-  pub known : (run atoms w).knowledge ≡ w.knowledge
-  pub found : (q : ServerNo) (p : Pick) → (run atoms w).found q p ≡ (if server_eq s q then made_all (take (made p) (changes-of b x)) (w.found s p) else w.found q p)
+  pub keeps : Keeps w now
+  pub known : now.knowledge ≡ w.knowledge
+  pub found : (q : ServerNo) (p : Pick) → now.found q p ≡ (if server_eq s q then made_all (take (made p) cs) (w.found s p) else w.found q p)
 
 module _ (s : ServerNo) (x : Transaction) (w : Machine) (inv : Invariant w) (up : w.up s ≡ true) (h : IsTransaction w s x) (known : w.knowledge x.tid ≡ knowledge_in x.stage) where
   is-up : w.up x.tid.server ≡ true
@@ -123,78 +117,51 @@ module _ (s : ServerNo) (x : Transaction) (w : Machine) (inv : Invariant w) (up 
   none-transaction : (y : Transaction) → None ≡ Some y → ⊥
   none-transaction y e = cc
 
-  -- another client's
-  stays-one : OneCloses s false x w
+  pub stays-one : OneCloses s x (Some x) [] w
   stays-one = record {
     atoms = [];
     may = tt;
     keeps = keeps-same w;
     found = λ q p. found-still s q w p;
-    kept = Some x;
-    list = refl;
     same = λ y e. let f = some-transaction x y e in (ap (λ (z : Transaction). z.tid) (sym f), subst (λ (z : Transaction). IsTransaction w s z) f h);
     knowledge = λ U. at-same w.knowledge x.tid U (knowledge_in x.stage) known;
   }
 
-  -- it is aborted
-  aborts-one : w.named x.tid ≡ false → closed x.stage x ≡ [] → thanked_changes x.stage x ≡ [] → OneCloses s true x w
-  aborts-one not-named empty none = record {
+  aborts-one : w.named x.tid ≡ false → OneCloses s x None [] w
+  aborts-one not-named = record {
     atoms = Abort x.tid ∷ [];
     may = (record { up = is-up; begun = h.begun; not_named = not-named }, tt);
     keeps = record { up = refl; active = refl; next = refl; ticket = refl; history = refl; ended = refl };
-    found = λ q p. found-still s q w p ∙ ap (λ cs. if server_eq s q then made_all cs (w.found s p) else w.found q p) (sym none);
-    kept = None;
-    list = empty;
+    found = λ q p. found-still s q w p;
     same = λ y e. absurd (none-transaction y e);
     knowledge = λ U. refl;
   }
 
-  -- its client knows that it was aborted
-  leaves-one : knowledge_in x.stage ≡ Unknown → closed x.stage x ≡ [] → thanked_changes x.stage x ≡ [] → OneCloses s true x w
-  leaves-one e empty none = record {
+  -- an undecided one is aborted; of an aborted one its client knows
+  pub goes-one : (stage : Stage) → x.stage ≡ stage → is_committed stage ≡ false → OneCloses s x None [] w
+  goes-one Open e f = aborts-one (knows Open e).0
+  goes-one (Voting b) e f = aborts-one (knows (Voting b) e).0
+  goes-one (Committed d) e f = absurd (true≢false f)
+  goes-one (Aborted cause) e f = record {
     atoms = [];
     may = tt;
     keeps = keeps-same w;
-    found = λ q p. found-still s q w p ∙ ap (λ cs. if server_eq s q then made_all cs (w.found s p) else w.found q p) (sym none);
-    kept = None;
-    list = empty;
+    found = λ q p. found-still s q w p;
     same = λ y q. absurd (none-transaction y q);
-    knowledge = λ U. at-same w.knowledge x.tid U Unknown (known ∙ e);
+    knowledge = λ U. at-same w.knowledge x.tid U Unknown (known ∙ ap knowledge_in e);
   }
 
   module _ (d : Commitment) (e : x.stage ≡ Committed d) where
-    all-over : all_in d.works d.done ≡ true → AllOver (run (Close x.tid ∷ []) w) x.tid
-    all-over g = (λ q W k. (knows (Committed d) e).2 W (in-all W d.works d.done g ((stands (Committed d) e).1.all q W k)), at_tid_here w.closed x.tid true)
-
-    -- all its works are done, and it goes
-    abbrev forget-atoms : List Atom
-    forget-atoms = Close x.tid ∷ Make always (DropFlag x.tid) ∷ Learn x.tid Unknown ∷ []
-
-    forgets-one : all_in d.works d.done ≡ true → closed x.stage x ≡ [] → thanked_changes x.stage x ≡ DropFlag x.tid ∷ [] → OneCloses s true x w
-    forgets-one g empty drops = record {
-      atoms = forget-atoms;
-      may = (tt, (λ c. all-over g, (record { up = is-up; begun = h.begun; not_aborted = (knows (Committed d) e).1; knows = inr ((knows (Committed d) e).0, all-over g) }, tt)));
-      keeps = record { up = refl; active = refl; next = refl; ticket = refl; history = refl; ended = refl };
-      found = λ q p. ap (λ (z : ServerNo). if server_eq z q then made_by (DropFlag x.tid) (w.found z p) else w.found q p) h.place
-          ∙ ap (λ cs. if server_eq s q then made_all cs (w.found s p) else w.found q p) (sym drops);
-      kept = None;
-      list = empty;
-      same = λ y q. absurd (none-transaction y q);
-      knowledge = λ U. refl;
-    }
-
     abbrev now-thanked : Transaction
     now-thanked = record x { stage = Committed (record d { thanked = true }) }
 
-    -- it stays until they are
-    waits-one : closed x.stage x ≡ now-thanked ∷ [] → thanked_changes x.stage x ≡ [] → OneCloses s true x w
-    waits-one list none = record {
+    -- it stays until all its works are done
+    pub waits-one : OneCloses s x (Some now-thanked) [] w
+    waits-one = record {
       atoms = Close x.tid ∷ [];
       may = (tt, tt);
       keeps = record { up = refl; active = refl; next = refl; ticket = refl; history = refl; ended = refl };
-      found = λ q p. found-still s q w p ∙ ap (λ cs. if server_eq s q then made_all cs (w.found s p) else w.found q p) (sym none);
-      kept = Some now-thanked;
-      list = list;
+      found = λ q p. found-still s q w p;
       same = λ y q. let f = some-transaction now-thanked y q in (ap (λ (z : Transaction). z.tid) (sym f), subst (λ (z : Transaction). IsTransaction (run (Close x.tid ∷ []) w) s z) f its);
       knowledge = λ U. at-same w.knowledge x.tid U (knowledge_in (Committed d)) (known ∙ ap knowledge_in e);
     }
@@ -202,55 +169,29 @@ module _ (s : ServerNo) (x : Transaction) (w : Machine) (inv : Invariant w) (up 
         its : IsTransaction (run (Close x.tid ∷ []) w) s now-thanked
         its = record { place = h.place; begun = h.begun; is = ((stands (Committed d) e).0, (stands (Committed d) e).1, λ q. at_tid_here w.closed x.tid true) }
 
-    closed-is : (c : Bool) → all_in d.works d.done ≡ c → closed x.stage x ≡ (if c then [] else now-thanked ∷ [])
-    closed-is c g = ap (λ (z : Stage). closed z x) e ∙ ap (λ (b : Bool). if b then [] else now-thanked ∷ []) g
+    module _ (g : all_in d.works d.done ≡ true) where
+      all-over : AllOver (run (Close x.tid ∷ []) w) x.tid
+      all-over = (λ q W k. (knows (Committed d) e).2 W (in-all W d.works d.done g ((stands (Committed d) e).1.all q W k)), at_tid_here w.closed x.tid true)
 
-    changes-is : (c : Bool) → all_in d.works d.done ≡ c → thanked_changes x.stage x ≡ (if c then DropFlag x.tid ∷ [] else [])
-    changes-is c g = ap (λ (z : Stage). thanked_changes z x) e ∙ ap (λ (b : Bool). if b then DropFlag x.tid ∷ [] else []) g
+      -- and then it goes
+      pub forgets-one : OneCloses s x None (DropFlag x.tid ∷ []) w
+      forgets-one = record {
+        atoms = Close x.tid ∷ Make always (DropFlag x.tid) ∷ Learn x.tid Unknown ∷ [];
+        may = (tt, (λ c. all-over, (record { up = is-up; begun = h.begun; not_aborted = (knows (Committed d) e).1; knows = inr ((knows (Committed d) e).0, all-over) }, tt)));
+        keeps = record { up = refl; active = refl; next = refl; ticket = refl; history = refl; ended = refl };
+        found = λ q p. ap (λ (z : ServerNo). if server_eq z q then made_by (DropFlag x.tid) (w.found z p) else w.found q p) h.place;
+        same = λ y q. absurd (none-transaction y q);
+        knowledge = λ U. refl;
+      }
 
-    committed-one : (c : Bool) → all_in d.works d.done ≡ c → OneCloses s true x w
-    committed-one true g = forgets-one g (closed-is true g) (changes-is true g)
-    committed-one false g = waits-one (closed-is false g) (changes-is false g)
-
-  closes-stage : (stage : Stage) → x.stage ≡ stage → OneCloses s true x w
-  closes-stage Open e = aborts-one (knows Open e).0 (ap (λ (z : Stage). closed z x) e) (ap (λ (z : Stage). thanked_changes z x) e)
-  closes-stage (Voting b) e = aborts-one (knows (Voting b) e).0 (ap (λ (z : Stage). closed z x) e) (ap (λ (z : Stage). thanked_changes z x) e)
-  closes-stage (Aborted cause) e = leaves-one (ap knowledge_in e) (ap (λ (z : Stage). closed z x) e) (ap (λ (z : Stage). thanked_changes z x) e)
-  closes-stage (Committed d) e = committed-one d e (all_in d.works d.done) refl
-
-  pub closes-one : (b : Bool) → OneCloses s b x w
-  closes-one true = closes-stage x.stage refl
-  closes-one false = stays-one
-
-  -- ---- and stopped
-
-  still-one : (b : Bool) (made : Pick → ℕ) → changes-of b x ≡ [] → OneStops s b x made w
-  still-one b made none = record {
-    atoms = [];
-    may = tt;
-    keeps = keeps-same w;
-    known = refl;
-    found = λ q p. found-still s q w p ∙ ap (λ z. if server_eq s q then z else w.found q p) (none-made (made p) (w.found s p) ∙ ap (λ cs. made_all (take (made p) cs) (w.found s p)) (sym none));
-  }
-
-  stops-committed : (d : Commitment) (made : Pick → ℕ) (c : Bool) → x.stage ≡ Committed d → all_in d.works d.done ≡ c → OneStops s true x made w
-  stops-committed d made false e g = still-one true made (changes-is d e false g)
-  stops-committed d made true e g = record {
-    atoms = Close x.tid ∷ Make (λ p. some_made (made p)) (DropFlag x.tid) ∷ [];
-    may = (tt, (λ c. all-over d e g, tt));
-    keeps = record { up = refl; active = refl; next = refl; ticket = refl; history = refl; ended = refl };
-    known = refl;
-    found = λ q p. ap (λ (z : ServerNo). if server_eq z q then (if some_made (made p) then made_by (DropFlag x.tid) (w.found z p) else w.found z p) else w.found q p) h.place
-        ∙ ap (λ z. if server_eq s q then z else w.found q p) (made-one (DropFlag x.tid) (made p) (w.found s p))
-        ∙ ap (λ cs. if server_eq s q then made_all (take (made p) cs) (w.found s p) else w.found q p) (sym (changes-is d e true g));
-  }
-
-  stops-stage : (made : Pick → ℕ) (stage : Stage) → x.stage ≡ stage → OneStops s true x made w
-  stops-stage made Open e = still-one true made (ap (λ (z : Stage). thanked_changes z x) e)
-  stops-stage made (Voting b) e = still-one true made (ap (λ (z : Stage). thanked_changes z x) e)
-  stops-stage made (Aborted cause) e = still-one true made (ap (λ (z : Stage). thanked_changes z x) e)
-  stops-stage made (Committed d) e = stops-committed d made (all_in d.works d.done) e refl
-
-  pub stops-one : (b : Bool) (made : Pick → ℕ) → OneStops s b x made w
-  stops-one true made = stops-stage made x.stage refl
-  stops-one false made = still-one false made refl
+      pub forgets-stops : (made : Pick → ℕ) → Stops s (DropFlag x.tid ∷ []) made w
+      forgets-stops made = record {
+        atoms = Close x.tid ∷ Make (λ p. some_made (made p)) (DropFlag x.tid) ∷ [];
+        now = run (Close x.tid ∷ Make (λ p. some_made (made p)) (DropFlag x.tid) ∷ []) w;
+        ran = refl;
+        may = (tt, (λ c. all-over, tt));
+        keeps = record { up = refl; active = refl; next = refl; ticket = refl; history = refl; ended = refl };
+        known = refl;
+        found = λ q p. ap (λ (z : ServerNo). if server_eq z q then (if some_made (made p) then made_by (DropFlag x.tid) (w.found z p) else w.found z p) else w.found q p) h.place
+            ∙ ap (λ z. if server_eq s q then z else w.found q p) (made-one (DropFlag x.tid) (made p) (w.found s p));
+      }

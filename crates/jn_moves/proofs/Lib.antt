@@ -17,6 +17,7 @@ pub mod StageMoves
 pub mod CoordinatorMoves
 pub mod NudgeMoves
 pub mod Closing
+pub mod ClosingMoves
 pub mod BeginMoves
 pub mod ClientRows
 pub mod ClientMoves

@@ -21,7 +21,7 @@ use Rattle.jn_rows.specs.declared.client.Outstanding.{Outstanding}
 use Rattle.jn_rows.specs.Stable.{Pick, stable}
 use Rattle.jn_rows.specs.Outcomes.{RowOutcome, Sent}
 use Rattle.jn_rows.specs.Coordinator.{transaction_at}
-use Rattle.jn_rows.specs.Client.{is_end}
+use Rattle.jn_rows.specs.Client.{is_end, over}
 use Rattle.jn_rows.specs.Worker.{worker_row, worker_step, WorkerTable, work_at, work_of, timed_out, vulnerable}
 use Rattle.jn_report.specs.declared.line.Text.{Text}
 use Rattle.jn_report.specs.declared.line.Text.TheVariants as says
@@ -37,7 +37,7 @@ use Rattle.jn_machine.proofs.History.{run_told, opening_told}
 use Rattle.jn_machine.proofs.MessageLemmas.{still_true, grows, says_still}
 use Rattle.jn_protocol.specs.World.{World, Memory, at_server, opening, new_memory, commits_in}
 use Rattle.jn_protocol.specs.Servers.{storage_of, of_step, Room, of_worker, server_row, of_timeout}
-use Rattle.jn_protocol.specs.Steps.{works, work, Step, NextEvent, Tell, Again, Deliver, Work as Works, Nudge, Timeout, StopDelivery, StopWork, Crash, Narrow, StopRestart, Restart, after, done, stopped, ends, at_memory, handed, nudge, timeout, crash, narrow, stop_restart, restart, IsStep}
+use Rattle.jn_protocol.specs.Steps.{works, work, Step, NextEvent, Tell, Again, Deliver, Work as Works, Nudge, Timeout, StopDelivery, StopWork, Crash, Narrow, StopRestart, Restart, Dismiss, CloseClients, after, done, stopped, ends, at_memory, handed, nudge, timeout, crash, narrow, stop_restart, restart, dismiss, close_clients, IsStep}
 use Rattle.jn_protocol.specs.LockFacts.{LockFacts, ServerFact, UpFact}
 use Rattle.jn_moves.specs.Mirrors.{Mirrors, AreTransactions, IsClient, commits_of, MovesTo, IsTrue, IsAddressed, is_shown, active_in, next_in, known_in, working_in}
 use Rattle.jn_protocol.proofs.Tables.{of-found}
@@ -49,8 +49,9 @@ use Rattle.jn_moves.proofs.CarryMoves.{step-move}
 use Rattle.jn_moves.proofs.CommitMoves.{commits-move}
 use Rattle.jn_moves.proofs.DropMoves.{drops-move}
 use Rattle.jn_moves.proofs.CoordinatorMoves.{ignores, inquires-move, vote-row-moves, done-row-moves, thanks-row-moves, end-row-moves, abort-row-moves}
+use Rattle.jn_moves.proofs.ClosingMoves.{close-moves}
 use Rattle.jn_moves.proofs.BeginMoves.{begin-moves}
-use Rattle.jn_moves.proofs.ClientMoves.{quiet-line, tell-moves, again-moves, taken-moves}
+use Rattle.jn_moves.proofs.ClientMoves.{quiet-line, stays-with, tell-moves, again-moves, taken-moves}
 use Rattle.jn_moves.proofs.NudgeMoves.{nudged}
 use Rattle.jn_moves.proofs.RestartMoves.{restart-moves}
 use Rattle.jn_moves.proofs.WorkerMoves.{opens, ops-move, prepares-move}
@@ -329,6 +330,18 @@ module _ (w : Machine) (grow : (atoms : List Atom) → MayRun atoms w → (messa
     restarts s pick Ws Ts (Some m) is names = stays r h
     restarts s pick Ws Ts None is names = restart-moves r w h s is grow (sound [] tt) (λ T. told T ∙ committed-any T w.history ∙ ap (λ l. list_any (λ (V : Tid). tid_eq V T) l) h.commits) pick Ws Ts names.1
 
+    -- ---- the end
+
+    dismisses : MovesTo (dismiss r) w
+    dismisses = stays-with r w h grow (λ c. over (r.clients c)) (λ c. record { current = tt; waits = tt; opening = λ o s e. absurd (none o e) }) r.sent h.says h.addressed r.lines refl
+      where
+        none : (o : Outstanding) → None ≡ Some o → ⊥
+        none o e = cc
+
+    closes : (s : ServerNo) (o : Option Memory) → r.memory s ≡ o → ServerFact s o (r.found s) → MovesTo (close_clients s o r) w
+    closes s None is fact = stays r h
+    closes s (Some m) is up = of-row s m None _ is (close-moves r w s m h is up grow (sound [] tt))
+
     -- ---- every step that is shown
 
     pub moves : (step : Step) → IsStep step r → LockFacts r → is_shown step ≡ true → MovesTo (after step r) w
@@ -345,6 +358,8 @@ module _ (w : Machine) (grow : (atoms : List Atom) → MayRun atoms w → (messa
     moves (StopDelivery k room made) i locks shown = handed-over k room (Some made) (slice_get r.sent k) locks refl
     moves (StopWork s room made) i locks shown = work-moves s room (Some made) (r.memory s) refl (locks s)
     moves (Restart s pick Ws Ts) i locks shown = restarts s pick Ws Ts (r.memory s) refl i
+    moves Dismiss i locks shown = dismisses
+    moves (CloseClients s) i locks shown = closes s (r.memory s) refl (locks s)
 
 pub step-moves : (files : AllFiles) (epochs : ServerNo → ℕ) (before : List Atom) (r : World) → MayRun before (opening_world files epochs) → Mirrors r (run before (opening_world files epochs)) → LockFacts r
     → (step : Step) → IsStep step r → is_shown step ≡ true → MovesTo (after step r) (run before (opening_world files epochs))

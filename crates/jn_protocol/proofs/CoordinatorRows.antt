@@ -5,7 +5,6 @@ use Rattle.jn_base.specs.declared.names.ClientNo.{ClientNo}
 use Rattle.jn_base.specs.declared.names.Tid.{Tid}
 use Rattle.jn_base.specs.declared.names.WorkId.{WorkId}
 use Rattle.jn_base.specs.declared.names.Tickets.{Tickets}
-use Rattle.jn_base.specs.Names.{client_eq}
 use Rattle.jn_msgs.specs.declared.message.Message.{Message}
 use Rattle.jn_msgs.specs.declared.message.Message.TheVariants as messages
 use Rattle.jn_msgs.specs.declared.message.Vote.{Vote}
@@ -18,7 +17,8 @@ use Rattle.jn_rows.specs.declared.coordinator.Voting.{Voting as Ballot}
 use Rattle.jn_rows.specs.declared.coordinator.Committed.{Committed as Commitment}
 use Rattle.jn_rows.specs.Stable.{StableState, Change, AddReady, MarkGoing, CarryOut, RemoveWork, AddFlag, DropFlag, made_all}
 use Rattle.jn_rows.specs.Outcomes.{RowOutcome, Sent}
-use Rattle.jn_rows.specs.Coordinator.{CoordinatorTable, all_in, is_work, commit_row, forget_row, thanked_changes, changes_of_closing, begin_new, begin_again, begun_by, begin_row, end_promised, end_stage, end_row, abort_stage, abort_request, told_stage, inquire_row, noted, counted_vote, vote_stage, vote_row, done_stage, done_row, thanks_stage, thanks_row, coordinator_row, transaction_at, with_work, after_closing, seen_now}
+use Rattle.jn_protocol.proofs.Closes.{Closes, Empty, Stays, Goes, Waits, Forgets, client-closes, outcomes-close}
+use Rattle.jn_rows.specs.Coordinator.{CoordinatorTable, all_in, is_work, commit_row, forget_row, changes_of_closing, close_clients_row, begin_new, begin_again, begun_by, begin_row, end_promised, end_stage, end_row, abort_stage, abort_request, told_stage, inquire_row, noted, counted_vote, vote_stage, vote_row, done_stage, done_row, thanks_stage, thanks_row, coordinator_row, transaction_at, with_work, after_closing, seen_now}
 
 abbrev pub is_of_flag : Change → Bool
 is_of_flag (AddFlag flag) = true
@@ -86,30 +86,12 @@ either : (k : Tickets) (b : Bool) (r q : RowOutcome CoordinatorTable) → Aside 
 either k true r q h l = h
 either k false r q h l = l
 
-flags-append : (a b : List Change) → are_of_flags a ≡ true → are_of_flags b ≡ true → are_of_flags (a ++ b) ≡ true
-flags-append [] b h l = l
-flags-append (c ∷ a) b h l = both (is_of_flag c) (are_of_flags (a ++ b)) (first-of (is_of_flag c) (are_of_flags a) h) (flags-append a b (second-of (is_of_flag c) (are_of_flags a) h) l)
-  where
-    both : (p q : Bool) → p ≡ true → q ≡ true → (p && q) ≡ true
-    both p q e f = grind arith
-
-thanked-flags : (s : Stage) (x : Transaction) → are_of_flags (thanked_changes s x) ≡ true
-thanked-flags (Committed d) x = by (all_in d.works d.done)
-  where
-    by : (b : Bool) → are_of_flags (if b then DropFlag x.tid ∷ [] else []) ≡ true
-    by true = refl
-    by false = refl
-thanked-flags Open x = refl
-thanked-flags (Voting b) x = refl
-thanked-flags (Aborted cause) x = refl
-
-closing-flags : (c : ClientNo) (xs : List Transaction) → are_of_flags (changes_of_closing c xs) ≡ true
-closing-flags c [] = refl
-closing-flags c (x ∷ xs) = by (client_eq x.client c) (closing-flags c xs)
-  where
-    by : (b : Bool) → are_of_flags (changes_of_closing c xs) ≡ true → are_of_flags (if b then thanked_changes x.stage x ++ changes_of_closing c xs else changes_of_closing c xs) ≡ true
-    by true h = flags-append (thanked_changes x.stage x) (changes_of_closing c xs) (thanked-flags x.stage x) h
-    by false h = h
+pub closes-flags : {P : Transaction → Type 0} {xs ys : List Transaction} {cs : List Change} → Closes P xs ys cs → are_of_flags cs ≡ true
+closes-flags Empty = refl
+closes-flags (Stays x h) = closes-flags h
+closes-flags (Goes x p e h) = closes-flags h
+closes-flags (Waits x d p e h) = closes-flags h
+closes-flags (Forgets x d p e g h) = closes-flags h
 
 again-aside : (t : CoordinatorTable) (k : Tickets) (c : ClientNo) (request : ℕ) (o : Option Transaction) → Aside k (begin_again t k c request o)
 again-aside t k c request (Some x) = still k t _ _
@@ -120,7 +102,7 @@ new-aside t changes k c request h = either k (nat_lt (length t.transactions) 64)
 
 begin-aside : (t : CoordinatorTable) (k : Tickets) (c : ClientNo) (request : ℕ) → Aside k (begin_row t k c request)
 begin-aside t k c request = either k (nat_lt (t.seen c) request) _ _
-    (new-aside (record { transactions = after_closing c t.transactions; seen = seen_now t.seen c request }) (changes_of_closing c t.transactions) k c request (closing-flags c t.transactions))
+    (new-aside (record { transactions = after_closing c t.transactions; seen = seen_now t.seen c request }) (changes_of_closing c t.transactions) k c request (closes-flags (client-closes c t.transactions)))
     (either k (nat_eq (t.seen c) request) _ _ (again-aside t k c request (begun_by c request t.transactions)) (still k t _ _))
 
 commit-aside : (t : CoordinatorTable) (k : Tickets) (x : Transaction) (request : ℕ) (works : List WorkId) → Aside k (commit_row t k x request works)
@@ -223,3 +205,7 @@ coordinator-aside t free k (messages.Outcome c T outcome) = still k _ _ _
 coordinator-aside t free k (messages.Prepare T c W) = still k _ _ _
 coordinator-aside t free k (messages.Commit T W) = still k _ _ _
 coordinator-aside t free k (messages.Drop T W) = still k _ _ _
+
+-- each outcome is thanked
+pub close-aside : (t : CoordinatorTable) (k : Tickets) → Aside k (close_clients_row t k)
+close-aside t k = record { flags = closes-flags (outcomes-close t.transactions); tickets = inl refl }

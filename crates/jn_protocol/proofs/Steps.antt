@@ -16,17 +16,17 @@ use Rattle.jn_rows.specs.declared.client.Taken.TheVariants as taken
 use Rattle.jn_rows.specs.Stable.{StableState, Pick, Change, stable, made_all, is_going}
 use Rattle.jn_rows.specs.Outcomes.{RowOutcome, Sent}
 use Rattle.jn_rows.specs.Worker.{WorkerTable, worker_row, worker_step, timeout_row}
-use Rattle.jn_rows.specs.Coordinator.{CoordinatorTable, coordinator_row}
+use Rattle.jn_rows.specs.Coordinator.{CoordinatorTable, coordinator_row, close_clients_row}
 use Rattle.jn_rows.specs.Client.{Commanded, Refuses, Sends, ClientTable, command_row, take_row}
 use Rattle.jn_machine.specs.Steps.{with_epoch}
 use Rattle.jn_protocol.specs.World.{World, Memory, opening, at_server}
 use Rattle.jn_protocol.specs.Servers.{Room, server_row, server_step, of_worker, of_coordinator, of_step, storage_of, is_for_worker, server_timeout, of_timeout}
-use Rattle.jn_protocol.specs.Steps.{Step, NextEvent, Tell, Again, Deliver, Work, Nudge, Timeout, StopDelivery, StopWork, Crash, Narrow, StopRestart, Restart, IsStep, IsRun, after, run, ends, done, stopped, at_memory, handed, work, works, nudge, timeout, crash, narrow, stop_restart, restart, commanded, took}
+use Rattle.jn_protocol.specs.Steps.{Step, NextEvent, Tell, Again, Deliver, Work, Nudge, Timeout, StopDelivery, StopWork, Crash, Narrow, StopRestart, Restart, Dismiss, CloseClients, IsStep, IsRun, after, run, ends, done, stopped, at_memory, handed, work, works, nudge, timeout, crash, narrow, stop_restart, restart, close_clients, commanded, took}
 use Rattle.jn_protocol.specs.LockFacts.{TableFact, StoredFact, UpFact, ServerFact, LockFacts}
 use Rattle.jn_protocol.proofs.Rows.{RowKeeps}
 use Rattle.jn_protocol.proofs.Tables.{drawn-keeps}
 use Rattle.jn_protocol.proofs.WorkerRows.{worker-keeps, step-keeps, timeout-keeps}
-use Rattle.jn_protocol.proofs.CoordinatorRows.{Aside, coordinator-aside, flags-keep, flags-all, epoch-kept, epoch-all}
+use Rattle.jn_protocol.proofs.CoordinatorRows.{Aside, coordinator-aside, close-aside, flags-keep, flags-all, epoch-kept, epoch-all}
 use Rattle.jn_protocol.proofs.Restored.{stored-fact, restart-keeps}
 
 -- ---- a server's row
@@ -241,6 +241,11 @@ restart-step s pick Ws Ts None w h e names = changed-at s w _ (λ c. with_epoch 
 })
 restart-step s pick Ws Ts (Some m) w h e names = h
 
+close-step : (s : ServerNo) (o : Option Memory) (w : World) → LockFacts w → w.memory s ≡ o → LockFacts (close_clients s o w)
+close-step s None w h e = h
+close-step s (Some m) w h e = let up = is-up s w m h e in let row = close_clients_row m.coordinator m.tickets in
+    done-keeps s w m h up (of_coordinator m row) (of-coordinator s m (stable (w.found s)) up.table up.server up.epoch up.idle row (close-aside m.coordinator m.tickets)) None
+
 -- ---- every step
 
 pub locks-keep : (step : Step) (w : World) → IsStep step w → LockFacts w → LockFacts (after step w)
@@ -257,6 +262,8 @@ locks-keep (Crash s) w i h = crash-keeps s (w.memory s) w h refl
 locks-keep (Narrow s g) w i h = narrow-keeps s g (w.memory s) w h refl
 locks-keep (StopRestart s up) w i h = stop-restart-keeps s up (w.memory s) w h refl
 locks-keep (Restart s pick Ws Ts) w i h = restart-step s pick Ws Ts (w.memory s) w h refl i
+locks-keep Dismiss w i h = h
+locks-keep (CloseClients s) w i h = close-step s (w.memory s) w h refl
 
 pub run-keeps : (steps : List Step) (w : World) → IsRun steps w → LockFacts w → LockFacts (run steps w)
 run-keeps [] w i h = h

@@ -10,7 +10,7 @@ use Rattle.jn_base.specs.declared.op.Command.TheVariants.{Begin, Open, Do, End}
 use Rattle.jn_order.specs.Files.{no_files}
 use Rattle.jn_protocol.specs.World.{World, opening}
 use Rattle.jn_protocol.specs.Servers.{Room}
-use Rattle.jn_protocol.specs.Steps.{Step, NextEvent, Tell, Deliver, Work, StopDelivery, Crash, Restart, Nudge}
+use Rattle.jn_protocol.specs.Steps.{Step, NextEvent, Tell, Deliver, Work, StopDelivery, Crash, Restart, Nudge, Dismiss, CloseClients}
 
 abbrev pub the_server : ServerNo
 the_server = record { 0 = 0 }
@@ -70,3 +70,7 @@ with_a_stop =
     ∷ Work the_server much
     ∷ Work the_server much
     ∷ []
+
+-- the client is dismissed while it still waits to hear of its commit, and the works that are done are told
+abbrev pub the_end : List Step
+the_end = Dismiss ∷ CloseClients the_server ∷ delivered 12 ∷ []

@@ -1,4 +1,5 @@
--- The steps of the whole system. Each is what one client or one server does by its row, or a stop, a crash or a restart.
+-- The steps of the whole system. Each is what one client or one server does by its row, a stop, a crash or a restart, or that
+-- all clients are dismissed.
 use Rattle.std.specs.Prelude.{◌≡◌, ℕ, ◌+◌, Bool, true, nat_eq, nat_lt, ◌&&◌, ◌||◌, if◌then◌else◌, List, [], ◌∷◌, ◌++◌, take, slice_get, Option, Some, None, is_some}
 use Rattle.std.specs.List.{list_any, list_all}
 use Rattle.jn_base.specs.declared.names.ServerNo.{ServerNo}
@@ -15,10 +16,11 @@ use Rattle.jn_rows.specs.declared.client.Taken.{Taken}
 use Rattle.jn_rows.specs.declared.client.Taken.TheVariants as taken
 use Rattle.jn_rows.specs.Stable.{StableState, Pick, made_all, stable}
 use Rattle.jn_rows.specs.Outcomes.{RowOutcome, Sent}
-use Rattle.jn_rows.specs.Client.{ClientTable, Commanded, Refuses, Sends, command_row, take_row, again_row}
+use Rattle.jn_rows.specs.Client.{ClientTable, Commanded, Refuses, Sends, command_row, take_row, again_row, over}
+use Rattle.jn_rows.specs.Coordinator.{close_clients_row}
 use Rattle.jn_machine.specs.Steps.{changed, with_epoch}
 use Rattle.jn_protocol.specs.World.{World, Memory, at_server, at_client}
-use Rattle.jn_protocol.specs.Servers.{Room, server_row, server_step, server_again, server_timeout, restored, lines_of, named_now}
+use Rattle.jn_protocol.specs.Servers.{Room, server_row, server_step, server_again, server_timeout, restored, of_coordinator, lines_of, named_now}
 
 pub data Step : Type 0 where
   -- the next event begins
@@ -45,6 +47,10 @@ pub data Step : Type 0 where
   StopRestart : ServerNo → (Pick → Bool) → Step
   -- a server comes up with what this pick finds, which has the works and flags of these names
   Restart : ServerNo → Pick → List WorkId → List Tid → Step
+  -- the clients are dismissed: none has a transaction or waits for an answer any more
+  Dismiss : Step
+  -- a server counts each outcome as thanked, once the clients are dismissed
+  CloseClients : ServerNo → Step
 
 -- ---- clients
 
@@ -150,6 +156,15 @@ abbrev pub restart : ServerNo → Pick → List WorkId → List Tid → Option M
 restart s pick works tids None w = restart_with s (w.found s pick) works tids w
 restart s pick works tids (Some m) w = w
 
+-- ---- the end
+
+abbrev pub dismiss : World → World
+dismiss w = record w { clients = λ c. over (w.clients c) }
+
+abbrev pub close_clients : ServerNo → Option Memory → World → World
+close_clients s None w = w
+close_clients s (Some m) w = done s None (of_coordinator m (close_clients_row m.coordinator m.tickets)) w
+
 -- ---- every step
 
 abbrev pub after : Step → World → World
@@ -166,6 +181,8 @@ after (Crash s) w = crash s (w.memory s) w
 after (Narrow s g) w = narrow s g (w.memory s) w
 after (StopRestart s raised) w = stop_restart s raised (w.memory s) w
 after (Restart s pick works tids) w = restart s pick works tids (w.memory s) w
+after Dismiss w = dismiss w
+after (CloseClients s) w = close_clients s (w.memory s) w
 
 -- ---- what a restart reads
 
@@ -182,9 +199,17 @@ pub record AreNames {A B : Type 0} (eq before : A → A → Bool) (there : A →
   pub each : (a : A) → list_any (λ b. eq b a) names ≡ is_some (there a)
   pub rising : are_rising before names ≡ true
 
--- A restart reads the names of the works and flags from the pages. No other step asks for anything.
+-- ---- which steps may come
+
+-- the client has no transaction and waits for no answer
+abbrev pub IsIdle : ClientTable → Type 0
+IsIdle t = (t.transaction ≡ None) × (t.outstanding ≡ None)
+
+-- A restart reads the names of the works and flags from the pages, and outcomes are thanked where every client is idle. No
+-- other step asks for anything.
 abbrev pub IsStep : Step → World → Type 0
 IsStep (Restart s pick works tids) w = AreNames work_eq work_before (w.found s pick).works works × AreNames tid_eq tid_before (w.found s pick).flags tids
+IsStep (CloseClients s) w = (c : ClientNo) → IsIdle (w.clients c)
 IsStep step w = Unit {0}
 
 abbrev pub run : List Step → World → World

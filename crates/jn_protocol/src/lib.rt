@@ -12,7 +12,7 @@ ghost use Rattle.jn_rows.specs.Stable.{Pick};
 ghost use Rattle.jn_protocol.specs.World.{opening};
 ghost use Rattle.jn_protocol.specs.Steps.{Step, run, IsRun};
 ghost use Rattle.jn_protocol.specs.LockFacts.{LockFacts};
-ghost use Rattle.jn_protocol.specs.Example.{the_server, the_client, the_file, the_transaction, the_work, start, to_the_vote, to_the_end, with_a_stop};
+ghost use Rattle.jn_protocol.specs.Example.{the_server, the_client, the_file, the_transaction, the_work, start, to_the_vote, to_the_end, with_a_stop, the_end};
 
 pub use wrong::{wrong_rows_lose_a_commit, wrong_rows_mix_the_order};
 
@@ -34,6 +34,13 @@ pub fn a_commit_is_found_again()
         ∷ says.Stopped the_server ∷ says.Up the_server 1 ∷ says.Commit the_transaction ∷ says.Down the_server ∷ says.Up the_server 2 ∷ [] }
     ensures file { (c : Pick) → ((run (to_the_vote ++ with_a_stop) start).found the_server c).files (File the_file) ≡ Some there }
     ensures work { (c : Pick) → ((run (to_the_vote ++ with_a_stop) start).found the_server c).works the_work ≡ None }
+{}
+
+/// That run ends: its client never heard of the commit, and nothing of the transaction is left.
+pub fn an_end_forgets()
+    ensures steps { IsRun the_end (run (to_the_vote ++ with_a_stop) start) }
+    ensures file { (c : Pick) → ((run (to_the_vote ++ with_a_stop ++ the_end) start).found the_server c).files (File the_file) ≡ Some there }
+    ensures flag { (c : Pick) → ((run (to_the_vote ++ with_a_stop ++ the_end) start).found the_server c).flags the_transaction ≡ None }
 {}
 
 /// Whatever steps come one after another, stops and restarts among them: at each server each work's name stands once, no

@@ -18,7 +18,7 @@ use Rattle.jn_serial.specs.Lines.{lines_at, says}
 use Rattle.jn_serial.specs.Caused.{count_events, count_lines, is_stop, refuses_event, stops, arms_stop, refuses_fault, gives_fault}
 use Rattle.jn_serial.proofs.Growth.{AreWithin, lines_at-newest, AreWithin-append, AreWithin-wider}
 use Rattle.jn_protocol.specs.World.{World, opening}
-use Rattle.jn_protocol.specs.Steps.{Step, NextEvent, Tell, Again, Deliver, Work, Nudge, Timeout, StopDelivery, StopWork, Crash, Narrow, StopRestart, Restart, after, IsRun}
+use Rattle.jn_protocol.specs.Steps.{Step, NextEvent, Tell, Again, Deliver, Work, Nudge, Timeout, StopDelivery, StopWork, Crash, Narrow, StopRestart, Restart, Dismiss, CloseClients, after, IsRun}
 use Rattle.jn_reported.specs.Reported.{Act, Does, Refuses, Tells, Item, events_of, steps_in, steps_of, told_in, told_under, after_item, at_event, lines_of, may_do, may_act, IsUnder, AreUnder, Waiting, none_wait, one_more, armed, with_event, strike_all, AreStruck, FaultsWait, IsReported}
 use Rattle.jn_reported.specs.Armed.{ArmedFrom, AreArmed}
 use Rattle.jn_reported.proofs.Lists.{Each}
@@ -47,6 +47,8 @@ arm-does-none s n kind (Crash t) = refl
 arm-does-none s n kind (Narrow t g) = refl
 arm-does-none s n kind (StopRestart t raised) = refl
 arm-does-none s n kind (Restart t pick Ws Ts) = refl
+arm-does-none s n kind Dismiss = refl
+arm-does-none s n kind (CloseClients t) = refl
 
 arm-texts : (s : ServerNo) (n : ℕ) (kind : FaultKind) (acts : List Act) (r : World) → list_all (may_act (events.Arm s n kind)) acts ≡ true → Each IsRefusal (told_in acts r)
 arm-texts s n kind [] r h = tt

@@ -26,7 +26,7 @@ use Rattle.jn_serial.specs.Lines.{lines_at}
 use Rattle.jn_serial.specs.Follows.{Outstanding as Waited, nothing_asked, with_asked, is_own, answer_in, AllFit, after_answers, after_answer, after_event, own_in_place, is_command_of, AllOwnInPlace, FollowsEvent, after_one, FollowsFrom, IsOfEvent, AllOfEvents, Follows, fits, addressed}
 use Rattle.jn_serial.proofs.Growth.{IsWithin, AreWithin, lines_at-earlier, lines_at-newest, AreWithin-wider, AreWithin-append}
 use Rattle.jn_protocol.specs.World.{World, opening}
-use Rattle.jn_protocol.specs.Steps.{Step, NextEvent, Tell, after, run, IsRun, commanded}
+use Rattle.jn_protocol.specs.Steps.{Step, NextEvent, Tell, Dismiss, after, run, IsRun, commanded}
 use Rattle.jn_reported.specs.Reported.{Act, Does, Refuses as Refused, Tells, Item, events_of, steps_in, steps_of, told_in, told_under, after_item, at_event, lines_of, may_do, may_act, IsUnder, AreUnder, IsReported}
 use Rattle.jn_reported.proofs.Lists.{Each}
 use Rattle.jn_reported.proofs.Reached.{Reached, next-reached, opening-reached}
@@ -51,21 +51,21 @@ tell-is-none (events.Crash s) c command = refl
 tell-is-none (events.Restart s) c command = refl
 tell-is-none (events.Show s) c command = refl
 
-next-is-none : (e : Event) → may_do e NextEvent ≡ false
-next-is-none (events.Command d other) = refl
-next-is-none (events.Again d) = refl
-next-is-none (events.Deliver k) = refl
-next-is-none events.Settle = refl
-next-is-none (events.Step s) = refl
-next-is-none (events.Nudge s) = refl
-next-is-none (events.Timeout s T) = refl
-next-is-none (events.Scrub s) = refl
-next-is-none (events.Decay s p) = refl
-next-is-none (events.Revive s p) = refl
-next-is-none (events.Arm s n kind) = refl
-next-is-none (events.Crash s) = refl
-next-is-none (events.Restart s) = refl
-next-is-none (events.Show s) = refl
+none-may : (e : Event) → (may_do e NextEvent ≡ false) × (may_do e Dismiss ≡ false)
+none-may (events.Command d other) = (refl, refl)
+none-may (events.Again d) = (refl, refl)
+none-may (events.Deliver k) = (refl, refl)
+none-may events.Settle = (refl, refl)
+none-may (events.Step s) = (refl, refl)
+none-may (events.Nudge s) = (refl, refl)
+none-may (events.Timeout s T) = (refl, refl)
+none-may (events.Scrub s) = (refl, refl)
+none-may (events.Decay s p) = (refl, refl)
+none-may (events.Revive s p) = (refl, refl)
+none-may (events.Arm s n kind) = (refl, refl)
+none-may (events.Crash s) = (refl, refl)
+none-may (events.Restart s) = (refl, refl)
+none-may (events.Show s) = (refl, refl)
 
 not-both : (b : Bool) → b ≡ false → b ≡ true → ⊥
 not-both b e f = grind arith
@@ -76,7 +76,8 @@ IsQuietAct act = Unit {0}
 
 step-quiet : (e : Event) (step : Step) → may_do e step ≡ true → IsQuiet step
 step-quiet e (Tell c command) h = absurd (not-both _ (tell-is-none e c command) h)
-step-quiet e NextEvent h = absurd (not-both _ (next-is-none e) h)
+step-quiet e NextEvent h = absurd (not-both _ (none-may e).0 h)
+step-quiet e Dismiss h = absurd (not-both _ (none-may e).1 h)
 step-quiet e _ h = tt
 
 act-quiet : (e : Event) (act : Act) → may_act e act ≡ true → IsQuietAct act

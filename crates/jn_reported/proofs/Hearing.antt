@@ -25,12 +25,13 @@ use Rattle.jn_rows.specs.declared.client.Taken.{Taken}
 use Rattle.jn_rows.specs.declared.client.Taken.TheVariants as taken
 use Rattle.jn_rows.specs.Stable.{Pick, stable}
 use Rattle.jn_rows.specs.Outcomes.{RowOutcome, Sent}
+use Rattle.jn_rows.specs.Coordinator.{close_clients_row}
 use Rattle.jn_rows.specs.Client.{ClientTable, Commanded, Refuses, Sends, work_at, if_server, if_idle, if_transaction, if_no_transaction, if_open, if_not_open, command_row, take_row}
 use Rattle.jn_serial.specs.declared.following.Asked.{Asked}
 use Rattle.jn_serial.specs.Follows.{Outstanding as Waited, with_asked, is_own, addressed, answer_in, is_last, fits_asked, fits, after_answer}
 use Rattle.jn_protocol.specs.World.{World, Memory, at_client}
-use Rattle.jn_protocol.specs.Servers.{Room, server_row, server_step, lines_of, named_now}
-use Rattle.jn_protocol.specs.Steps.{Step, NextEvent, Tell, Again, Deliver, Work, Nudge, Timeout, StopDelivery, StopWork, Crash, Narrow, StopRestart, Restart, after, took, ends, at_memory, handed, works, work, nudge, timeout, crash, narrow, stop_restart, restart}
+use Rattle.jn_protocol.specs.Servers.{Room, server_row, server_step, of_coordinator, lines_of, named_now}
+use Rattle.jn_protocol.specs.Steps.{Step, NextEvent, Tell, Again, Deliver, Work, Nudge, Timeout, StopDelivery, StopWork, Crash, Narrow, StopRestart, Restart, Dismiss, CloseClients, after, took, ends, at_memory, handed, works, work, nudge, timeout, crash, narrow, stop_restart, restart, close_clients}
 use Rattle.jn_machine.specs.World.{World as Machine}
 use Rattle.jn_machine.proofs.Updates.{not_both}
 use Rattle.jn_runs.proofs.Facts.{Facts}
@@ -42,10 +43,11 @@ use Rattle.jn_reported.proofs.ClientTalk.{IsHeard}
 use Rattle.jn_reported.proofs.Talk.{Talk}
 use Rattle.jn_reported.proofs.Fitting.{asked_of, Waits, Heard, IsMute, mute-heard, lines-mute, now-mute, TellsIt, TakeFits, AnswerFits, take-fits}
 
--- neither a command nor the beginning of an event
+-- neither a command nor the beginning of an event, nor do clients give up what they wait for
 abbrev pub IsQuiet : Step → Type 0
 IsQuiet (Tell c command) = ⊥
 IsQuiet NextEvent = ⊥
+IsQuiet Dismiss = ⊥
 IsQuiet step = Unit {0}
 
 pub record StepHeard (lines : List Text) (clients : ClientNo → ClientTable) (event : ℕ) (r : World) : Type 0 where
@@ -178,9 +180,14 @@ module _ (r : World) (w : Machine) (facts : Facts r w) (talk : Talk r w) where
   restart-hears s pick Ws Ts None = mutely _ (says.Up s ((r.found s pick).epoch + 1) ∷ named_now Ts r.lines) refl refl refl ((refl, tt), now-mute Ts r.lines)
   restart-hears s pick Ws Ts (Some m) = silent _ refl refl refl
 
+  close-hears : (s : ServerNo) (o : Option Memory) → Hears (close_clients s o r)
+  close-hears s None = silent _ refl refl refl
+  close-hears s (Some m) = ends-hears s None None (of_coordinator m (close_clients_row m.coordinator m.tickets))
+
   pub step-hears : (step : Step) → IsQuiet step → Hears (after step r)
   step-hears (Tell c command) q = absurd q
   step-hears NextEvent q = absurd q
+  step-hears Dismiss q = absurd q
   step-hears (Again c) q = silent _ refl refl refl
   step-hears (Deliver k room) q = handed-hears k room None (slice_get r.sent k) refl
   step-hears (Work s room) q = work-hears s room None (r.memory s)
@@ -192,6 +199,7 @@ module _ (r : World) (w : Machine) (facts : Facts r w) (talk : Talk r w) where
   step-hears (Narrow s g) q = narrow-hears s g (r.memory s)
   step-hears (StopRestart s raised) q = raise-hears s raised (r.memory s)
   step-hears (Restart s pick Ws Ts) q = restart-hears s pick Ws Ts (r.memory s)
+  step-hears (CloseClients s) q = close-hears s (r.memory s)
 
 -- ---- a command
 

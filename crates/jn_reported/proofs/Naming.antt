@@ -20,7 +20,7 @@ use Rattle.jn_moves.specs.Mirrors.{commits_of}
 use Rattle.jn_moves.proofs.Mirrored.{commits-more}
 use Rattle.jn_moves.proofs.StepMoves.{committed-any}
 use Rattle.jn_protocol.specs.World.{World, opening, committed_in, commits_in}
-use Rattle.jn_protocol.specs.Steps.{Step, NextEvent, Tell, after, run, IsStep, IsRun, commanded}
+use Rattle.jn_protocol.specs.Steps.{Step, NextEvent, Tell, Dismiss, after, run, IsStep, IsRun, commanded}
 use Rattle.jn_runs.specs.Runs.{IsNamed, AreNamed}
 use Rattle.jn_reported.specs.Reported.{Act, Does, Refuses as Refused, Tells, Item, steps_in, steps_of, told_by, told_in, told_under, after_item, at_event, lines_of, world_of}
 use Rattle.jn_reported.proofs.Reached.{Reached, next-reached}
@@ -40,6 +40,7 @@ module _ (files : AllFiles) (epochs : ServerNo → ℕ) where
   pub adds : (r : World) → Reached files epochs r → (step : Step) → (after step r).lines ≡ r.lines ++ told_by (Does step) r
   adds r h (Tell c command) = command-adds c r (command_row (r.clients c) r.event command)
   adds r h NextEvent = sym (append-nil r.lines) ∙ ap (λ l. r.lines ++ l) (sym (drop-append_seam r.lines [])) ∙ ap (λ l. r.lines ++ drop (length r.lines) l) (append-nil r.lines)
+  adds r h Dismiss = sym (append-nil r.lines) ∙ ap (λ l. r.lines ++ l) (sym (drop-append_seam r.lines [])) ∙ ap (λ l. r.lines ++ drop (length r.lines) l) (append-nil r.lines)
   adds r h step = quiet-adds r h step tt
 
 -- ---- each commit once

@@ -23,7 +23,7 @@ use Rattle.jn_machine.specs.World.{World as Machine}
 use Rattle.jn_machine.specs.Invariant.{Invariant}
 use Rattle.jn_protocol.specs.World.{World, Memory, at_client, commits_in, committed_in, has_line}
 use Rattle.jn_protocol.specs.Servers.{Room, storage_of}
-use Rattle.jn_protocol.specs.Steps.{Step, NextEvent, Tell, Again, Deliver, Work, Nudge, Timeout, StopDelivery, StopWork, Crash, Narrow, StopRestart, Restart, IsStep, after, commanded, sent_now, took, handed}
+use Rattle.jn_protocol.specs.Steps.{Step, NextEvent, Tell, Again, Deliver, Work, Nudge, Timeout, StopDelivery, StopWork, Crash, Narrow, StopRestart, Restart, Dismiss, CloseClients, IsStep, after, commanded, sent_now, took, handed}
 use Rattle.jn_protocol.specs.LockFacts.{LockFacts}
 use Rattle.jn_moves.specs.Mirrors.{Mirrors, IsTrue, IsAddressed, IsCurrent, AreOpen}
 use Rattle.jn_moves.proofs.ClientRows.{IsThanks, Takes, takes}
@@ -36,8 +36,8 @@ use Rattle.jn_reported.proofs.ClientTalk.{TableGoes, CommandTalks, command-talks
 use Rattle.jn_reported.proofs.Talk.{Talk}
 use Rattle.jn_reported.proofs.Past.{Had, Past, SaysPast}
 use Rattle.jn_reported.proofs.PastSteps.{PastFacts, server-past}
-use Rattle.jn_reported.proofs.PastWorld.{Later, quiet-past, same-past, same-names, old-entries, memory-past, work-past, nudge-past, timeout-past, crash-past, narrow-past, raise-past, restart-past}
-use Rattle.jn_reported.proofs.PastClients.{client-past, CommandSays, command-says, TakenSays, take-says}
+use Rattle.jn_reported.proofs.PastWorld.{Later, quiet-past, same-past, same-names, old-entries, memory-past, work-past, nudge-past, timeout-past, crash-past, narrow-past, raise-past, restart-past, close-past}
+use Rattle.jn_reported.proofs.PastClients.{client-past, dismiss-past, CommandSays, command-says, TakenSays, take-says}
 
 no-more : (sent : List Sent) (x : Sent) → opening_in x ≡ [] → openings (sent ++ x ∷ []) ≡ openings sent
 no-more sent x e = openings-more sent (x ∷ []) ∙ ap (λ l. openings sent ++ (l ++ [])) e ∙ append-nil (openings sent)
@@ -151,3 +151,5 @@ module _ (r : World) (w v : Machine) (Caused Caused' : ClientNo → Tid → Caus
   step-past (Narrow s g) i l = narrow-past r w v Caused Caused' past caused aborted grown runs named facts.unique full mirrors inv locks votes lost s g (r.memory s) refl l
   step-past (StopRestart s raised) i l = raise-past r w v Caused Caused' past caused aborted grown runs named facts.unique full mirrors inv locks votes lost s raised (r.memory s) l
   step-past (Restart s pick Ws Ts) i l = restart-past r w v Caused Caused' past caused aborted grown runs named facts.unique full mirrors inv locks votes lost s pick Ws Ts (r.memory s) refl i.1 l
+  step-past Dismiss i l = dismiss-past r.sent r.clients r.memory r.found w v Caused Caused' past caused aborted grown (none-same l.named)
+  step-past (CloseClients s) i l = close-past r w v Caused Caused' past caused aborted grown runs named facts.unique full mirrors inv locks votes lost s (r.memory s) refl (locks s) i l

@@ -1,5 +1,5 @@
 -- A client's steps keep what is past for it, and what it sends says what is past.
-use Rattle.std.proofs.Common.{◌≡◌, ◌≢◌, ◌⊎◌, inl, inr, ◌<◌, ◌≤◌, ℕ, ◌+◌, Bool, true, false, List, ◌++◌, Option, Some, None, is_some, refl, sym, ◌∙◌, ap, subst, arith}
+use Rattle.std.proofs.Common.{◌≡◌, ◌≢◌, ◌⊎◌, inl, inr, ◌<◌, ◌≤◌, ℕ, ◌+◌, Bool, true, false, List, [], ◌++◌, append-nil, Option, Some, None, is_some, refl, sym, ◌∙◌, ap, subst, arith}
 use Rattle.std.specs.Prelude.{if◌then◌else◌, nat_lt}
 use Rattle.jn_base.specs.declared.names.ServerNo.{ServerNo}
 use Rattle.jn_base.specs.declared.names.ClientNo.{ClientNo}
@@ -81,42 +81,62 @@ module _ (os : List Opening) (c : ClientNo) (t u : ClientTable) (g : TableGoes o
 module _ (sent : List Sent) (clients : ClientNo → ClientTable) (memory : ServerNo → Option Memory) (found : ServerNo → Pick → StableState) (w v : Machine) (Caused Caused' : ClientNo → Tid → Cause → Type 0) (past : PastFacts sent clients memory found w Caused)
     (caused : (c : ClientNo) (T : Tid) (cause : Cause) → Caused c T cause → Caused' c T cause) (aborted : (T : Tid) → w.aborted T ≡ true → v.aborted T ≡ true) (grown : (T : Tid) → w.named T ≡ true → v.named T ≡ true)
     (named : (T : Tid) → v.named T ≡ true → w.named T ≡ true) where
-  module _ (c : ClientNo) (u : ClientTable) (g : TableGoes (openings sent) c (clients c) u) where
-    at-own : (P : ClientNo → ClientTable → Type 0) → (P c (clients c) → P c u) → (d : ClientNo) → P d (clients d) → P d (at_client clients c u d)
-    at-own P own d h = by (client_tells c d)
-      where
-        by : ((client_eq c d ≡ true) × (c ≡ d)) ⊎ ((client_eq c d ≡ false) × (c ≢ d)) → P d (if client_eq c d then u else clients d)
-        by (inl p) = subst (λ (b : Bool). P d (if b then u else clients d)) (sym p.0) (subst (λ (z : ClientNo). P z u) p.1 (own (subst (λ (z : ClientNo). P z (clients z)) (sym p.1) h)))
-        by (inr p) = subst (λ (b : Bool). P d (if b then u else clients d)) (sym p.0) h
-
-    goes : Goes (openings sent) (openings sent) clients (at_client clients c u) w v Caused Caused'
+  module _ (clients' : ClientNo → ClientTable) (g : (c : ClientNo) → TableGoes (openings sent) c (clients c) (clients' c)) where
+    goes : Goes (openings sent) (openings sent) clients clients' w v Caused Caused'
     goes = record {
       opened = λ a h. h;
-      next = λ d n h. at-own (λ e (t : ClientTable). n < t.next) (drawn-on (openings sent) c (clients c) u g n) d h;
-      had = λ d T n h. at-own (λ e (t : ClientTable). EndedBy (openings sent) e t T n) (ended-on (openings sent) c (clients c) u g T n) d h;
-      past = λ d T h. at-own (λ e (t : ClientTable). IsPast (openings sent) e t T) (past-on (openings sent) c (clients c) u g T) d h;
-      began = λ d n h. at-own (λ e (t : ClientTable). BeganBy (openings sent) e t n) (began-on (openings sent) c (clients c) u g (past.last c) n) d h;
+      next = λ d n h. drawn-on (openings sent) d (clients d) (clients' d) (g d) n h;
+      had = λ d T n h. ended-on (openings sent) d (clients d) (clients' d) (g d) T n h;
+      past = λ d T h. past-on (openings sent) d (clients d) (clients' d) (g d) T h;
+      began = λ d n h. began-on (openings sent) d (clients d) (clients' d) (g d) (past.last d) n h;
       caused = caused;
       aborted = aborted;
       named = grown;
     }
 
-    pub client-past : (more : List Sent) → openings (sent ++ more) ≡ openings sent → ((o : Outstanding) → u.outstanding ≡ Some o → u.next ≡ o.request + 1) → Each (SaysPast (openings sent) (at_client clients c u) v Caused') more
-        → PastFacts (sent ++ more) (at_client clients c u) memory found v Caused'
-    client-past more same last says = record {
-      last = λ d. at-own (λ e (t : ClientTable). (o : Outstanding) → t.outstanding ≡ Some o → t.next ≡ o.request + 1) (λ h. last) d (past.last d);
-      says = subst (λ l. Each (SaysPast l (at_client clients c u) v Caused') (sent ++ more)) (sym same) (each-append (SaysPast (openings sent) (at_client clients c u) v Caused') sent more
-          (each-more (SaysPast (openings sent) clients w Caused) (SaysPast (openings sent) (at_client clients c u) v Caused') sent (says-goes _ _ _ _ _ _ _ _ goes) past.says) says);
-      entries = λ s m e. subst (λ l. Each (EntryFact l (at_client clients c u) v Caused' m.coordinator.seen) m.coordinator.transactions) (sym same)
-          (each-more (EntryFact (openings sent) clients w Caused m.coordinator.seen) (EntryFact (openings sent) (at_client clients c u) v Caused' m.coordinator.seen) m.coordinator.transactions (entry-goes _ _ _ _ _ _ _ _ goes m.coordinator.seen) (past.entries s m e));
-      flags = λ s p T. subst (λ l. FlagPast l (at_client clients c u) v Caused' T ((found s p).flags T)) (sym same) (flag-goes _ _ _ _ _ _ _ _ goes T ((found s p).flags T) (past.flags s p T));
+    clients-past : (more : List Sent) → openings (sent ++ more) ≡ openings sent → ((c : ClientNo) (o : Outstanding) → (clients' c).outstanding ≡ Some o → (clients' c).next ≡ o.request + 1) → Each (SaysPast (openings sent) clients' v Caused') more
+        → PastFacts (sent ++ more) clients' memory found v Caused'
+    clients-past more same last says = record {
+      last = last;
+      says = subst (λ l. Each (SaysPast l clients' v Caused') (sent ++ more)) (sym same) (each-append (SaysPast (openings sent) clients' v Caused') sent more
+          (each-more (SaysPast (openings sent) clients w Caused) (SaysPast (openings sent) clients' v Caused') sent (says-goes _ _ _ _ _ _ _ _ goes) past.says) says);
+      entries = λ s m e. subst (λ l. Each (EntryFact l clients' v Caused' m.coordinator.seen) m.coordinator.transactions) (sym same)
+          (each-more (EntryFact (openings sent) clients w Caused m.coordinator.seen) (EntryFact (openings sent) clients' v Caused' m.coordinator.seen) m.coordinator.transactions (entry-goes _ _ _ _ _ _ _ _ goes m.coordinator.seen) (past.entries s m e));
+      flags = λ s p T. subst (λ l. FlagPast l clients' v Caused' T ((found s p).flags T)) (sym same) (flag-goes _ _ _ _ _ _ _ _ goes T ((found s p).flags T) (past.flags s p T));
       held = past.held;
       named = λ T p e. by T p (past.named T p (named T e));
     }
       where
-        by : (T : Tid) (p : Pick) → (is_some ((found T.server p).flags T) ≡ true) ⊎ ((d : ClientNo) × Past (openings sent) clients w Caused d T) → (is_some ((found T.server p).flags T) ≡ true) ⊎ ((d : ClientNo) × Past (openings (sent ++ more)) (at_client clients c u) v Caused' d T)
+        by : (T : Tid) (p : Pick) → (is_some ((found T.server p).flags T) ≡ true) ⊎ ((d : ClientNo) × Past (openings sent) clients w Caused d T) → (is_some ((found T.server p).flags T) ≡ true) ⊎ ((d : ClientNo) × Past (openings (sent ++ more)) clients' v Caused' d T)
         by T p (inl k) = inl k
-        by T p (inr k) = inr (k.0, subst (λ l. IsPast l k.0 (at_client clients c u k.0) T) (sym same) (goes.past k.0 T k.1))
+        by T p (inr k) = inr (k.0, subst (λ l. IsPast l k.0 (clients' k.0) T) (sym same) (goes.past k.0 T k.1))
+
+  no-fall : (n : ℕ) → n ≤ n
+  no-fall n = omega arith
+
+  module _ (c : ClientNo) (u : ClientTable) (g : TableGoes (openings sent) c (clients c) u) where
+    at-own : (P : ClientNo → ClientTable → Type 0) → P c u → ((d : ClientNo) → P d (clients d)) → (d : ClientNo) → P d (at_client clients c u d)
+    at-own P own other d = by (client_tells c d)
+      where
+        by : ((client_eq c d ≡ true) × (c ≡ d)) ⊎ ((client_eq c d ≡ false) × (c ≢ d)) → P d (if client_eq c d then u else clients d)
+        by (inl p) = subst (λ (b : Bool). P d (if b then u else clients d)) (sym p.0) (subst (λ (z : ClientNo). P z u) p.1 own)
+        by (inr p) = subst (λ (b : Bool). P d (if b then u else clients d)) (sym p.0) (other d)
+
+    pub client-past : (more : List Sent) → openings (sent ++ more) ≡ openings sent → ((o : Outstanding) → u.outstanding ≡ Some o → u.next ≡ o.request + 1) → Each (SaysPast (openings sent) (at_client clients c u) v Caused') more
+        → PastFacts (sent ++ more) (at_client clients c u) memory found v Caused'
+    client-past more same last says = clients-past (at_client clients c u)
+        (at-own (λ d (t : ClientTable). TableGoes (openings sent) d (clients d) t) g (λ d. record { next = no-fall (clients d).next; fresh = λ o e. inl e; has = λ T e. inl e }))
+        more same (at-own (λ d (t : ClientTable). (o : Outstanding) → t.outstanding ≡ Some o → t.next ≡ o.request + 1) last past.last) says
+
+  pub dismiss-past : PastFacts sent (λ c. over (clients c)) memory found v Caused'
+  dismiss-past = subst (λ l. PastFacts l (λ c. over (clients c)) memory found v Caused') (append-nil sent) (clients-past (λ c. over (clients c))
+      (λ c. record { next = no-fall (clients c).next; fresh = λ o e. absurd (none-out o e); has = λ T e. absurd (none-tid T e) }) [] (ap openings (append-nil sent)) (λ c o e. absurd (none-out o e)) tt)
+    where
+      none-out : (o : Outstanding) → None ≡ Some o → ⊥
+      none-out o e = cc
+
+      none-tid : (T : Tid) → None ≡ Some T → ⊥
+      none-tid T e = cc
 
 -- ---- what a client sends
 

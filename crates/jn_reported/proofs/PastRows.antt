@@ -26,11 +26,13 @@ use Rattle.jn_rows.specs.declared.coordinator.Stage.{Stage}
 use Rattle.jn_rows.specs.declared.coordinator.Stage.TheVariants.{Open, Voting, Committed, Aborted}
 use Rattle.jn_rows.specs.declared.coordinator.Voting.{Voting as Ballot}
 use Rattle.jn_rows.specs.declared.coordinator.Committed.{Committed as Commitment}
-use Rattle.jn_rows.specs.Stable.{StableState, FlagState, DropFlag, at_tid, made_by, made_all}
+use Rattle.jn_rows.specs.Stable.{StableState, FlagState, Change, DropFlag, at_tid, made_by, made_all}
 use Rattle.jn_rows.specs.Outcomes.{RowOutcome, Sent}
 use Rattle.jn_rows.specs.Client.{ClientTable}
-use Rattle.jn_rows.specs.Coordinator.{CoordinatorTable, transaction_at, with_stage, without, with_work, is_work, all_in, besides, drops, commits, prepares, commit_row, abort_row, forget_row, begin_new, begin_again, begun_by, name_from, closed, thanked_changes, after_closing, changes_of_closing, seen_now, seen_in_flag, seen_in_flags, restored_transaction, restored_transactions, not_known, end_promised, end_stage, end_row, abort_stage, abort_request, told_stage, inquire_row, counted_vote, vote_stage, vote_row, done_stage, done_row, thanks_stage, thanks_row, coordinator_row, told_again, coordinator_again, committed_to}
+use Rattle.jn_rows.specs.Coordinator.{CoordinatorTable, transaction_at, with_stage, without, with_work, is_work, all_in, besides, drops, commits, prepares, commit_row, abort_row, forget_row, begin_new, begin_again, begun_by, name_from, after_closing, changes_of_closing, all_thanked, close_clients_row, seen_now, seen_in_flag, seen_in_flags, restored_transaction, restored_transactions, not_known, end_promised, end_stage, end_row, abort_stage, abort_request, told_stage, inquire_row, counted_vote, vote_stage, vote_row, done_stage, done_row, thanks_stage, thanks_row, coordinator_row, told_again, coordinator_again, committed_to}
 use Rattle.jn_machine.specs.World.{World as Machine}
+use Rattle.jn_protocol.specs.Steps.{IsIdle}
+use Rattle.jn_protocol.proofs.Closes.{is_committed, Closes, Empty, Stays, Goes, Waits, Forgets, client-closes, outcomes-close}
 use Rattle.jn_moves.proofs.Mirrored.{named_by}
 use Rattle.jn_runs.proofs.Openings.{Opening, Has, openings, has-first, has-second}
 use Rattle.jn_runs.proofs.Facts.{opening}
@@ -115,91 +117,51 @@ dropped-none flags T U h = by (tid_tells T U) h
     by (inl p) k = no-true (subst (λ (b : Bool). is_some (if b then None else flags U) ≡ true) p.0 k)
     by (inr p) k = (p.1, subst (λ (b : Bool). is_some (if b then None else flags U) ≡ true) p.0 k)
 
--- a flag that is found once these were dropped was found before
-closing-flags : (c : ClientNo) (xs : List Transaction) (x : StableState) (U : Tid) → is_some ((made_all (changes_of_closing c xs) x).flags U) ≡ true → is_some (x.flags U) ≡ true
-closing-flags c [] x U h = h
-closing-flags c (y ∷ ys) x U h = by (client_eq y.client c) y.stage h (closing-flags c ys)
-  where
-    drop : (d : Commitment) (b : Bool) → is_some ((made_all ((if b then DropFlag y.tid ∷ [] else []) ++ changes_of_closing c ys) x).flags U) ≡ true
-        → ((x : StableState) (U : Tid) → is_some ((made_all (changes_of_closing c ys) x).flags U) ≡ true → is_some (x.flags U) ≡ true) → is_some (x.flags U) ≡ true
-    drop d true k on = (dropped-none x.flags y.tid U (on (made_by (DropFlag y.tid) x) U k)).1
-    drop d false k on = on x U k
-
-    by : (b : Bool) (stage : Stage) → is_some ((made_all (if b then thanked_changes stage y ++ changes_of_closing c ys else changes_of_closing c ys) x).flags U) ≡ true
-        → ((x : StableState) (U : Tid) → is_some ((made_all (changes_of_closing c ys) x).flags U) ≡ true → is_some (x.flags U) ≡ true) → is_some (x.flags U) ≡ true
-    by false stage k on = on x U k
-    by true (Committed d) k on = drop d (all_in d.works d.done) k on
-    by true Open k on = on x U k
-    by true (Voting b) k on = on x U k
-    by true (Aborted cause) k on = on x U k
-
-abbrev pub is_committed : Stage → Bool
-is_committed (Committed d) = true
-is_committed stage = false
-
 -- none but a committed transaction of the table has a flag
 abbrev pub NoFlag : (Tid → Option FlagState) → List Transaction → Type 0
 NoFlag flags xs = (T : Tid) (y : Transaction) → transaction_at T xs ≡ Some y → is_committed y.stage ≡ false → flags T ≡ None
 
+-- a flag that is found once these were dropped was found before
+closes-flags : {P : Transaction → Type 0} {xs ys : List Transaction} {cs : List Change} → Closes P xs ys cs → (x : StableState) (U : Tid) → is_some ((made_all cs x).flags U) ≡ true → is_some (x.flags U) ≡ true
+closes-flags Empty x U h = h
+closes-flags (Stays y c) x U h = closes-flags c x U h
+closes-flags (Goes y p e c) x U h = closes-flags c x U h
+closes-flags (Waits y d p e c) x U h = closes-flags c x U h
+closes-flags (Forgets y d p e g c) x U h = (dropped-none x.flags y.tid U (closes-flags c (made_by (DropFlag y.tid) x) U h)).1
+
+abbrev HasNone : (Tid → Option FlagState) → Tid → List Transaction → Type 0
+HasNone flags U xs = (y : Transaction) → transaction_at U xs ≡ Some y → is_committed y.stage ≡ false → flags U ≡ None
+
+module _ (y : Transaction) (xs : List Transaction) (flags : Tid → Option FlagState) (U : Tid) (none : HasNone flags U (y ∷ xs)) (there : IsThere U (y ∷ xs)) (ys : List Transaction) (on : HasNone flags U xs → IsThere U xs → IsThere U ys) where
+  -- one of its name is left
+  kept-there : (z : Transaction) → is_some (if tid_eq y.tid U then Some z else transaction_at U ys) ≡ true
+  kept-there z = by (tid_eq y.tid U) none there
+    where
+      by : (b : Bool) → ((v : Transaction) → (if b then Some y else transaction_at U xs) ≡ Some v → is_committed v.stage ≡ false → flags U ≡ None) → is_some (if b then Some y else transaction_at U xs) ≡ true → is_some (if b then Some z else transaction_at U ys) ≡ true
+      by true n i = refl
+      by false n i = on n i
+
+  -- it goes
+  gone-there : (tid_eq y.tid U ≡ true → ⊥) → IsThere U ys
+  gone-there other = by (tid_eq y.tid U) other none there
+    where
+      by : (b : Bool) → (b ≡ true → ⊥) → ((v : Transaction) → (if b then Some y else transaction_at U xs) ≡ Some v → is_committed v.stage ≡ false → flags U ≡ None) → is_some (if b then Some y else transaction_at U xs) ≡ true → IsThere U ys
+      by true o n i = absurd (o refl)
+      by false o n i = on n i
+
 -- what is closed goes with its flag
-closing-there : (c : ClientNo) (xs : List Transaction) (x : StableState) (U : Tid) → ((y : Transaction) → transaction_at U xs ≡ Some y → is_committed y.stage ≡ false → x.flags U ≡ None)
-    → is_some ((made_all (changes_of_closing c xs) x).flags U) ≡ true → IsThere U xs → IsThere U (after_closing c xs)
-closing-there c [] x U none h k = k
-closing-there c (y ∷ ys) x U none h k = at (tid_tells y.tid U) (client_eq y.client c) y.stage refl h k (closing-there c ys)
+closes-there : {P : Transaction → Type 0} {xs ys : List Transaction} {cs : List Change} → Closes P xs ys cs → (x : StableState) (U : Tid) → HasNone x.flags U xs → is_some ((made_all cs x).flags U) ≡ true → IsThere U xs → IsThere U ys
+closes-there Empty x U none h k = k
+closes-there (Stays {xs = xs} {ys = ys} y c) x U none h k = kept-there y xs x.flags U none k ys (λ n i. closes-there c x U n h i) y
+closes-there (Goes {xs = xs} {ys = ys} y p e c) x U none h k = gone-there y xs x.flags U none k ys (λ n i. closes-there c x U n h i)
+    (λ t. no-true (sym (ap is_some (none y (ap (λ (b : Bool). if b then Some y else transaction_at U xs) t) e)) ∙ closes-flags c x U h))
+closes-there (Waits {xs = xs} {ys = ys} y d p e c) x U none h k = kept-there y xs x.flags U none k ys (λ n i. closes-there c x U n h i) (record y { stage = Committed (record d { thanked = true }) })
+closes-there (Forgets {xs = xs} {ys = ys} y d p e g c) x U none h k = gone-there y xs x.flags U none k ys (λ n i. closes-there c (made_by (DropFlag y.tid) x) U (λ z f q. still-none (tid_eq y.tid U) (n z f q)) h i)
+    (λ t. no-true (subst (λ (b : Bool). is_some (if b then None else x.flags U) ≡ true) t (closes-flags c (made_by (DropFlag y.tid) x) U h)))
   where
-    found : (z : Transaction) (zs : List Transaction) → tid_eq z.tid U ≡ true → IsThere U (z ∷ zs)
-    found z zs e = ap (λ (b : Bool). is_some (if b then Some z else transaction_at U zs)) e
-
-    skips : (z : Transaction) (zs : List Transaction) → tid_eq z.tid U ≡ false → IsThere U zs → IsThere U (z ∷ zs)
-    skips z zs e j = ap (λ (b : Bool). is_some (if b then Some z else transaction_at U zs)) e ∙ j
-
-    clash : (o : Option FlagState) → o ≡ None → is_some o ≡ true → ⊥
-    clash o e j = no-true (sym (ap is_some e) ∙ j)
-
-    its : tid_eq y.tid U ≡ true → transaction_at U (y ∷ ys) ≡ Some y
-    its e = ap (λ (b : Bool). if b then Some y else transaction_at U ys) e
-
-    other : tid_eq y.tid U ≡ false → (z : Transaction) → transaction_at U ys ≡ Some z → is_committed z.stage ≡ false → x.flags U ≡ None
-    other e z f g = none z (ap (λ (b : Bool). if b then Some y else transaction_at U ys) e ∙ f) g
-
     still-none : (b : Bool) → x.flags U ≡ None → (if b then None else x.flags U) ≡ None
-    still-none true e = refl
-    still-none false e = e
-
-    -- one that has no flag, and goes
-    unflagged : (stage : Stage) → y.stage ≡ stage → is_committed stage ≡ false → tid_eq y.tid U ≡ true → is_some ((made_all (changes_of_closing c ys) x).flags U) ≡ true → ⊥
-    unflagged stage e g t j = clash (x.flags U) (none y (its t) (ap is_committed e ∙ g)) (closing-flags c ys x U j)
-
-    On : Type 0
-    On = (x : StableState) (U : Tid) → ((z : Transaction) → transaction_at U ys ≡ Some z → is_committed z.stage ≡ false → x.flags U ≡ None) → is_some ((made_all (changes_of_closing c ys) x).flags U) ≡ true → IsThere U ys → IsThere U (after_closing c ys)
-
-    committed : (d : Commitment) (b : Bool) → ((tid_eq y.tid U ≡ true) × (y.tid ≡ U)) ⊎ ((tid_eq y.tid U ≡ false) × (y.tid ≢ U)) → is_some ((made_all ((if b then DropFlag y.tid ∷ [] else []) ++ changes_of_closing c ys) x).flags U) ≡ true
-        → (tid_eq y.tid U ≡ false → IsThere U ys) → ((x : StableState) (U : Tid) → ((z : Transaction) → transaction_at U ys ≡ Some z → is_committed z.stage ≡ false → x.flags U ≡ None) → is_some ((made_all (changes_of_closing c ys) x).flags U) ≡ true → IsThere U ys → IsThere U (after_closing c ys))
-        → IsThere U ((if b then [] else record y { stage = Committed (record d { thanked = true }) } ∷ []) ++ after_closing c ys)
-    committed d true (inl p) j i on = absurd ((dropped-none x.flags y.tid U (closing-flags c ys (made_by (DropFlag y.tid) x) U j)).0 p.1)
-    committed d true (inr p) j i on = on (made_by (DropFlag y.tid) x) U (λ z f g. still-none (tid_eq y.tid U) (other p.0 z f g)) j (i p.0)
-    committed d false (inl p) j i on = found (record y { stage = Committed (record d { thanked = true }) }) (after_closing c ys) p.0
-    committed d false (inr p) j i on = skips (record y { stage = Committed (record d { thanked = true }) }) (after_closing c ys) p.0 (on x U (other p.0) j (i p.0))
-
-    past : tid_eq y.tid U ≡ false → is_some (if tid_eq y.tid U then Some y else transaction_at U ys) ≡ true → IsThere U ys
-    past e i = subst (λ (b : Bool). is_some (if b then Some y else transaction_at U ys) ≡ true) e i
-
-    gone : (stage : Stage) → y.stage ≡ stage → is_committed stage ≡ false → ((tid_eq y.tid U ≡ true) × (y.tid ≡ U)) ⊎ ((tid_eq y.tid U ≡ false) × (y.tid ≢ U)) → is_some ((made_all (changes_of_closing c ys) x).flags U) ≡ true
-        → (tid_eq y.tid U ≡ false → IsThere U ys) → ((x : StableState) (U : Tid) → ((z : Transaction) → transaction_at U ys ≡ Some z → is_committed z.stage ≡ false → x.flags U ≡ None) → is_some ((made_all (changes_of_closing c ys) x).flags U) ≡ true → IsThere U ys → IsThere U (after_closing c ys))
-        → IsThere U (after_closing c ys)
-    gone stage e g (inl p) j i on = absurd (unflagged stage e g p.0 j)
-    gone stage e g (inr p) j i on = on x U (other p.0) j (i p.0)
-
-    at : ((tid_eq y.tid U ≡ true) × (y.tid ≡ U)) ⊎ ((tid_eq y.tid U ≡ false) × (y.tid ≢ U)) → (b : Bool) (stage : Stage) → y.stage ≡ stage
-        → is_some ((made_all (if b then thanked_changes stage y ++ changes_of_closing c ys else changes_of_closing c ys) x).flags U) ≡ true → is_some (if tid_eq y.tid U then Some y else transaction_at U ys) ≡ true
-        → ((x : StableState) (U : Tid) → ((z : Transaction) → transaction_at U ys ≡ Some z → is_committed z.stage ≡ false → x.flags U ≡ None) → is_some ((made_all (changes_of_closing c ys) x).flags U) ≡ true → IsThere U ys → IsThere U (after_closing c ys))
-        → IsThere U (if b then closed stage y ++ after_closing c ys else y ∷ after_closing c ys)
-    at (inl p) false stage e j i on = found y (after_closing c ys) p.0
-    at (inr p) false stage e j i on = skips y (after_closing c ys) p.0 (on x U (other p.0) j (past p.0 i))
-    at p true (Committed d) e j i on = committed d (all_in d.works d.done) p j (λ f. past f i) on
-    at p true Open e j i on = gone Open e refl p j (λ f. past f i) on
-    at p true (Voting b) e j i on = gone (Voting b) e refl p j (λ f. past f i) on
-    at p true (Aborted cause) e j i on = gone (Aborted cause) e refl p j (λ f. past f i) on
+    still-none true q = refl
+    still-none false q = q
 
 -- ---- rows
 
@@ -230,6 +192,32 @@ module _ (os : List Opening) (clients : ClientNo → ClientTable) (w : Machine) 
       stage (Voting b) h = record { had = had y.client h.had; later = h.later }
       stage (Committed d) h = (had y.client h.0, λ e. let p = h.1 e in record { request = p.request; has = has-first _ os os' p.has; drawn = p.drawn; over = p.over; answered = p.answered })
       stage (Aborted cause) h = (had y.client h.0, h.1)
+
+  -- what is closed is past
+  module _ (seen : ClientNo → ℕ) {P : Transaction → Type 0} (past : (y : Transaction) (d : Commitment) → P y → y.stage ≡ Committed d → EntryFact os clients w Caused seen y → Past os clients w Caused y.client y.tid) where
+    closes-changes : {xs ys : List Transaction} {cs : List Change} → Closes P xs ys cs → Each (EntryFact os clients w Caused seen) xs → Each (ChangeFact os clients w Caused) cs
+    closes-changes Empty h = tt
+    closes-changes (Stays y c) h = closes-changes c h.1
+    closes-changes (Goes y p e c) h = closes-changes c h.1
+    closes-changes (Waits y d p e c) h = closes-changes c h.1
+    closes-changes (Forgets y d p e g c) h = ((y.client, past y d p e h.0), closes-changes c h.1)
+
+  module _ (seen seen' : ClientNo → ℕ) {P : Transaction → Type 0} (past : (y : Transaction) (d : Commitment) → P y → y.stage ≡ Committed d → EntryFact os clients w Caused seen y → Past os clients w Caused y.client y.tid)
+      (later : (y : Transaction) → EntryFact os clients w Caused seen y → EntryFact os clients w Caused seen' y) where
+    closes-entries : {xs ys : List Transaction} {cs : List Change} → Closes P xs ys cs → Each (EntryFact os clients w Caused seen) xs → Each (EntryFact os clients w Caused seen') ys
+    closes-entries Empty h = tt
+    closes-entries (Stays y c) h = (later y h.0, closes-entries c h.1)
+    closes-entries (Goes y p e c) h = closes-entries c h.1
+    closes-entries (Waits y d p e c) h = (
+      record {
+        request = (later y h.0).request;
+        has = (later y h.0).has;
+        seen_it = (later y h.0).seen_it;
+        stage = ((subst (λ (z : Stage). StageFact os clients w Caused y.client y.tid z) e h.0.stage).0, λ f. past y d p e h.0);
+      },
+      closes-entries c h.1,
+    )
+    closes-entries (Forgets y d p e g c) h = closes-entries c h.1
 
   module _ (t : CoordinatorTable) (k : Tickets) (x : StableState) (all-entries : Each (EntryFact os clients w Caused t.seen) t.transactions)
       (no-flag : NoFlag x.flags t.transactions) (all-held : (T : Tid) → is_some (x.flags T) ≡ true → IsThere T t.transactions) where
@@ -443,48 +431,20 @@ module _ (os : List Opening) (clients : ClientNo → ClientTable) (w : Machine) 
       entry-later : (y : Transaction) → Entry y → EntryFact os clients w Caused (seen_now t.seen c q) y
       entry-later y h = record { request = h.request; has = h.has; seen_it = seen-more y h.request h.seen_it; stage = h.stage }
 
-      closed-entries : (y : Transaction) (stage : Stage) → Entry y → y.client ≡ c → StageFact os clients w Caused y.client y.tid stage → Each (EntryFact os clients w Caused (seen_now t.seen c q)) (closed stage y)
-      closed-entries y Open h e s = tt
-      closed-entries y (Voting b) h e s = tt
-      closed-entries y (Aborted cause) h e s = tt
-      closed-entries y (Committed d) h e s = by (all_in d.works d.done)
-        where
-          by : (b : Bool) → Each (EntryFact os clients w Caused (seen_now t.seen c q)) (if b then [] else record y { stage = Committed (record d { thanked = true }) } ∷ [])
-          by true = tt
-          by false = (record { request = h.request; has = h.has; seen_it = seen-more y h.request h.seen_it; stage = (s.0, λ f. subst (λ (d : ClientNo). Past os clients w Caused d y.tid) (sym e) (begin-past y h e)) }, tt)
+      closing : Closes (λ (y : Transaction). y.client ≡ c) t.transactions (after_closing c t.transactions) (changes_of_closing c t.transactions)
+      closing = client-closes c t.transactions
 
-      closed-changes : (y : Transaction) (stage : Stage) → Entry y → y.client ≡ c → Each (ChangeFact os clients w Caused) (thanked_changes stage y)
-      closed-changes y Open h e = tt
-      closed-changes y (Voting b) h e = tt
-      closed-changes y (Aborted cause) h e = tt
-      closed-changes y (Committed d) h e = by (all_in d.works d.done)
-        where
-          by : (b : Bool) → Each (ChangeFact os clients w Caused) (if b then DropFlag y.tid ∷ [] else [])
-          by true = ((c, begin-past y h e), tt)
-          by false = tt
+      its-past : (y : Transaction) (d : Commitment) → y.client ≡ c → y.stage ≡ Committed d → Entry y → Past os clients w Caused y.client y.tid
+      its-past y d e f h = subst (λ (z : ClientNo). Past os clients w Caused z y.tid) (sym e) (begin-past y h e)
 
-      after-entries : (xs : List Transaction) → Each Entry xs → Each (EntryFact os clients w Caused (seen_now t.seen c q)) (after_closing c xs)
-      after-entries [] h = tt
-      after-entries (y ∷ ys) h = by (client_tells y.client c) (after-entries ys h.1)
-        where
-          by : ((client_eq y.client c ≡ true) × (y.client ≡ c)) ⊎ ((client_eq y.client c ≡ false) × (y.client ≢ c)) → Each (EntryFact os clients w Caused (seen_now t.seen c q)) (after_closing c ys)
-              → Each (EntryFact os clients w Caused (seen_now t.seen c q)) (if client_eq y.client c then closed y.stage y ++ after_closing c ys else y ∷ after_closing c ys)
-          by (inl p) on = subst (λ (b : Bool). Each (EntryFact os clients w Caused (seen_now t.seen c q)) (if b then closed y.stage y ++ after_closing c ys else y ∷ after_closing c ys)) (sym p.0)
-              (each-append (EntryFact os clients w Caused (seen_now t.seen c q)) (closed y.stage y) (after_closing c ys) (closed-entries y y.stage h.0 p.1 h.0.stage) on)
-          by (inr p) on = subst (λ (b : Bool). Each (EntryFact os clients w Caused (seen_now t.seen c q)) (if b then closed y.stage y ++ after_closing c ys else y ∷ after_closing c ys)) (sym p.0) (entry-later y h.0, on)
+      after-entries : Each (EntryFact os clients w Caused (seen_now t.seen c q)) (after_closing c t.transactions)
+      after-entries = closes-entries t.seen (seen_now t.seen c q) its-past entry-later closing all-entries
 
-      after-changes : (xs : List Transaction) → Each Entry xs → Each (ChangeFact os clients w Caused) (changes_of_closing c xs)
-      after-changes [] h = tt
-      after-changes (y ∷ ys) h = by (client_tells y.client c) (after-changes ys h.1)
-        where
-          by : ((client_eq y.client c ≡ true) × (y.client ≡ c)) ⊎ ((client_eq y.client c ≡ false) × (y.client ≢ c)) → Each (ChangeFact os clients w Caused) (changes_of_closing c ys)
-              → Each (ChangeFact os clients w Caused) (if client_eq y.client c then thanked_changes y.stage y ++ changes_of_closing c ys else changes_of_closing c ys)
-          by (inl p) on = subst (λ (b : Bool). Each (ChangeFact os clients w Caused) (if b then thanked_changes y.stage y ++ changes_of_closing c ys else changes_of_closing c ys)) (sym p.0)
-              (each-append (ChangeFact os clients w Caused) (thanked_changes y.stage y) (changes_of_closing c ys) (closed-changes y y.stage h.0 p.1) on)
-          by (inr p) on = subst (λ (b : Bool). Each (ChangeFact os clients w Caused) (if b then thanked_changes y.stage y ++ changes_of_closing c ys else changes_of_closing c ys)) (sym p.0) on
+      after-changes : Each (ChangeFact os clients w Caused) (changes_of_closing c t.transactions)
+      after-changes = closes-changes t.seen its-past closing all-entries
 
       after-held : (T : Tid) → is_some ((made_all (changes_of_closing c t.transactions) x).flags T) ≡ true → IsThere T (after_closing c t.transactions)
-      after-held T h = closing-there c t.transactions x T (no-flag T) h (all-held T (closing-flags c t.transactions x T h))
+      after-held T h = closes-there closing x T (no-flag T) h (all-held T (closes-flags closing x T h))
 
       begins-new : RowPast (begin_new (record { transactions = after_closing c t.transactions; seen = seen_now t.seen c q }) (changes_of_closing c t.transactions) k c q)
       begins-new = either (nat_lt (length (after_closing c t.transactions)) 64) _ _
@@ -492,17 +452,17 @@ module _ (os : List Opening) (clients : ClientNo → ClientTable) (w : Machine) 
             quiet = refl;
             sends = (began.drawn, tt);
             entries = each-append (EntryFact (os ++ opening c q (name_from k) ∷ []) clients w Caused (seen_now t.seen c q)) (after_closing c t.transactions) _
-                (more (seen_now t.seen c q) (opening c q (name_from k) ∷ []) (after_closing c t.transactions) (after-entries t.transactions all-entries))
+                (more (seen_now t.seen c q) (opening c q (name_from k) ∷ []) (after_closing c t.transactions) after-entries)
                 (record { request = q; has = has-second _ os (opening c q (name_from k) ∷ []) (inl refl); seen_it = seen-own (client_tells c c); stage = tt }, tt);
-            changes = after-changes t.transactions all-entries;
+            changes = after-changes;
             held = λ T h. there-more T (after_closing c t.transactions) _ (after-held T h);
             names = λ T i. absurd i;
           })
           (record {
             quiet = refl;
             sends = (began.drawn, tt);
-            entries = more (seen_now t.seen c q) [] (after_closing c t.transactions) (after-entries t.transactions all-entries);
-            changes = after-changes t.transactions all-entries;
+            entries = more (seen_now t.seen c q) [] (after_closing c t.transactions) after-entries;
+            changes = after-changes;
             held = after-held;
             names = λ T i. absurd i;
           })
@@ -513,6 +473,24 @@ module _ (os : List Opening) (clients : ClientNo → ClientTable) (w : Machine) 
           seen-own : ((client_eq c c ≡ true) × (c ≡ c)) ⊎ ((client_eq c c ≡ false) × (c ≢ c)) → q ≤ (if client_eq c c then q else t.seen c)
           seen-own (inl p) = subst (λ (b : Bool). q ≤ (if b then q else t.seen c)) (sym p.0) (self q)
           seen-own (inr p) = absurd (p.1 refl)
+
+    -- every outcome is thanked, once every client is idle
+    pub close-past : ((c : ClientNo) → IsIdle (clients c)) → RowPast (close_clients_row t k)
+    close-past idle = let its = outcomes-close t.transactions in record {
+      quiet = refl;
+      sends = tt;
+      entries = more t.seen [] (all_thanked t.transactions) (closes-entries t.seen t.seen idle-past (λ y h. h) its all-entries);
+      changes = closes-changes t.seen idle-past its all-entries;
+      held = λ T h. closes-there its x T (no-flag T) h (all-held T (closes-flags its x T h));
+      names = λ T i. absurd i;
+    }
+      where
+        none-tid : (T : Tid) → None ≡ Some T → ⊥
+        none-tid T e = cc
+
+        idle-past : (y : Transaction) (d : Commitment) → Unit {0} → y.stage ≡ Committed d → Entry y → Past os clients w Caused y.client y.tid
+        idle-past y d p e h = let had = (subst (λ (z : Stage). StageFact os clients w Caused y.client y.tid z) e h.stage).0 in
+            record { request = had.request; has = had.has; drawn = had.drawn; over = λ f. none-tid y.tid (sym (idle y.client).0 ∙ f); answered = had.answered }
 
     begins-again : (c : ClientNo) (q : ℕ) (o : Option Transaction) → q < (clients c).next → RowPast (begin_again t k c q o)
     begins-again c q (Some y) h = tells _ [] refl refl (h, tt)

@@ -27,7 +27,7 @@ use Rattle.jn_records.specs.declared.intention.Intention.{Intention}
 use Rattle.jn_rows.specs.declared.worker.Work.{Work}
 use Rattle.jn_rows.specs.Worker.{WorkerTable, WorkStorage, going_work, carried_row, intentions_of, going_row, worker_row, worker_step, worker_again, timeout_row}
 use Rattle.jn_rows.specs.Client.{ClientTable}
-use Rattle.jn_rows.specs.Coordinator.{CoordinatorTable, transaction_at, coordinator_row, coordinator_again, seen_in_flags, restored_transaction, restored_transactions}
+use Rattle.jn_rows.specs.Coordinator.{CoordinatorTable, transaction_at, coordinator_row, close_clients_row, coordinator_again, seen_in_flags, restored_transaction, restored_transactions}
 use Rattle.jn_machine.specs.World.{World as Machine, Unknown}
 use Rattle.jn_machine.specs.Invariant.{Invariant}
 use Rattle.jn_machine.specs.Transactions.{Knows}
@@ -37,8 +37,9 @@ use Rattle.jn_machine.specs.Messages.{Says}
 use Rattle.jn_machine.proofs.Updates.{none_of, false_unless, not_both}
 use Rattle.jn_protocol.specs.World.{World, Memory, at_server, commits_in, has_line}
 use Rattle.jn_protocol.specs.Servers.{Room, storage_of, of_worker, of_coordinator, of_step, server_row, server_again, of_timeout, restored, lines_of, named_now}
-use Rattle.jn_protocol.specs.Steps.{AreNames, tid_before, done, stopped, ends, at_memory, works, work, nudge, timeout, crash, narrow, stop_restart, restart}
+use Rattle.jn_protocol.specs.Steps.{AreNames, tid_before, done, stopped, ends, at_memory, works, work, nudge, timeout, crash, narrow, stop_restart, restart, close_clients, IsIdle}
 use Rattle.jn_protocol.specs.LockFacts.{LockFacts, ServerFact, UpFact}
+use Rattle.jn_protocol.proofs.Closes.{is_committed}
 use Rattle.jn_moves.specs.Mirrors.{Mirrors, IsAddressed, IsStage, knowledge_in, knowledge_of}
 use Rattle.jn_moves.proofs.StageMoves.{knows, stage-is, stage-known}
 use Rattle.jn_moves.proofs.Mirrored.{commits-more, lines-commit, named_by}
@@ -48,7 +49,7 @@ use Rattle.jn_runs.proofs.Openings.{Opening, openings, Has}
 use Rattle.jn_runs.proofs.Facts.{opening, Began, openings-begun}
 use Rattle.jn_reported.proofs.Lists.{In, Each, each-append, each-more}
 use Rattle.jn_reported.proofs.Past.{Had, Past, OutcomeFact, SaysPast, EntryFact, ChangeFact, FlagPast}
-use Rattle.jn_reported.proofs.PastRows.{IsThere, NoFlag, entry-opened, is_committed, is_broke, ComesHere, row-past, again-says, restored-past}
+use Rattle.jn_reported.proofs.PastRows.{IsThere, NoFlag, entry-opened, is_broke, ComesHere, row-past, close-past as row-closes, again-says, restored-past}
 use Rattle.jn_reported.proofs.PastSteps.{PastFacts, each-take, all-flags, StaysOrPast, all-stay, ServerPast, server-past}
 use Rattle.jn_reported.proofs.WorkerChanges.{IsOfWorks, worker-works, step-works}
 
@@ -433,6 +434,12 @@ module _ (r : World) (w v : Machine) (Caused Caused' : ClientNo → Tid → Caus
         hold q n U h b (inl p) e = subst (λ (t : CoordinatorTable). IsThere U t.transactions) (sym (same (timeout_row m.worker T)) ∙ ap (λ (z : Memory). z.coordinator) (some-memory (of_timeout m (timeout_row m.worker T)) n (subst (λ (b : Bool). (if b then Some (of_timeout m (timeout_row m.worker T)) else r.memory q) ≡ Some n) p.0 e)))
             (past.held s m is U (subst (λ (z : ServerNo). is_some ((stable (r.found z)).flags U) ≡ true) (sym p.1) h))
         hold q n U h b (inr p) e = past.held q n (subst (λ (b : Bool). (if b then Some (of_timeout m (timeout_row m.worker T)) else r.memory q) ≡ Some n) p.0 e) U h
+
+    -- a server that closes its clients
+    pub close-past : (s : ServerNo) (o : Option Memory) → r.memory s ≡ o → ServerFact s o (r.found s) → ((c : ClientNo) → IsIdle (r.clients c)) → Later (close_clients s o r) v → Now (close_clients s o r)
+    close-past s None is fact idle l = same-past l.named
+    close-past s (Some m) is fact idle l = let p = row-closes (openings r.sent) r.clients w Caused once full m.coordinator m.tickets (stable (r.found s)) (past.entries s m is) (no-flag s m is fact) (past.held s m is) idle in
+        ends-past s m is fact.same None None (of_coordinator m (close_clients_row m.coordinator m.tickets)) p.sends p.entries p.changes p.held p.names l
 
     -- a server that goes down
     gone-held : (s : ServerNo) (q : ServerNo) (n : Memory) → at_server r.memory s None q ≡ Some n → (T : Tid) → is_some ((stable (r.found q)).flags T) ≡ true → IsThere T n.coordinator.transactions

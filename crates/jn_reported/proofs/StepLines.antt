@@ -23,12 +23,12 @@ use Rattle.jn_rows.specs.declared.client.Taken.TheVariants as taken
 use Rattle.jn_rows.specs.Stable.{Pick, stable}
 use Rattle.jn_rows.specs.Outcomes.{RowOutcome, Sent}
 use Rattle.jn_rows.specs.Worker.{WorkerTable, WorkStorage, worker_row, worker_step, going_work, carried_row, intentions_of, going_row}
-use Rattle.jn_rows.specs.Coordinator.{coordinator_row}
+use Rattle.jn_rows.specs.Coordinator.{coordinator_row, close_clients_row}
 use Rattle.jn_rows.specs.Client.{ClientTable, Commanded, Refuses, Sends, command_row, take_row}
 use Rattle.jn_machine.specs.World.{World as Machine}
 use Rattle.jn_protocol.specs.World.{World, Memory, has_line}
-use Rattle.jn_protocol.specs.Servers.{Room, storage_of, of_worker, of_step, server_row, line_of, lines_of, named_now}
-use Rattle.jn_protocol.specs.Steps.{Step, NextEvent, Tell, Again, Deliver, Work as Works, Nudge, Timeout, StopDelivery, StopWork, Crash, Narrow, StopRestart, Restart, after, commanded, took, ends, at_memory, handed, works, work, nudge, timeout, crash, narrow, stop_restart, restart, done}
+use Rattle.jn_protocol.specs.Servers.{Room, storage_of, of_worker, of_coordinator, of_step, server_row, line_of, lines_of, named_now}
+use Rattle.jn_protocol.specs.Steps.{Step, NextEvent, Tell, Again, Deliver, Work as Works, Nudge, Timeout, StopDelivery, StopWork, Crash, Narrow, StopRestart, Restart, Dismiss, CloseClients, after, commanded, took, ends, at_memory, handed, works, work, nudge, timeout, crash, narrow, stop_restart, restart, close_clients, done}
 use Rattle.jn_moves.specs.Mirrors.{Mirrors, IsTrue}
 use Rattle.jn_moves.proofs.StepMoves.{holds-of}
 use Rattle.jn_runs.proofs.Openings.{openings}
@@ -193,6 +193,10 @@ module _ (P : Text → Type 0) (plain : (text : Text) → IsPlainText text → P
     restart-lines s pick Ws Ts None = record { texts = says.Up s ((r.found s pick).epoch + 1) ∷ named_now Ts r.lines; adds = refl; each = (plain (says.Up s ((r.found s pick).epoch + 1)) tt, now-lines Ts r.lines) }
     restart-lines s pick Ws Ts (Some m) = none _ refl
 
+    close-lines : (s : ServerNo) (o : Option Memory) → AddsLines P r (close_clients s o r)
+    close-lines s None = none _ refl
+    close-lines s (Some m) = quiet-lines s None None (of_coordinator m (close_clients_row m.coordinator m.tickets)) refl
+
     pub step-lines : (step : Step) → After (after step r) → AddsLines P r (after step r)
     step-lines NextEvent l = none _ refl
     step-lines (Tell c command) l = commanded-lines c (command_row (r.clients c) r.event command)
@@ -207,3 +211,5 @@ module _ (P : Text → Type 0) (plain : (text : Text) → IsPlainText text → P
     step-lines (Narrow s g) l = narrow-lines s g (r.memory s)
     step-lines (StopRestart s raised) l = raise-lines s raised (r.memory s)
     step-lines (Restart s pick Ws Ts) l = restart-lines s pick Ws Ts (r.memory s)
+    step-lines Dismiss l = none _ refl
+    step-lines (CloseClients s) l = close-lines s (r.memory s)

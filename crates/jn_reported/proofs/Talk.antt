@@ -18,14 +18,14 @@ use Rattle.jn_rows.specs.declared.client.Taken.TheVariants as taken
 use Rattle.jn_rows.specs.Stable.{StableState, Pick, stable}
 use Rattle.jn_rows.specs.Outcomes.{RowOutcome, Sent}
 use Rattle.jn_rows.specs.Worker.{WorkerTable, worker_row, worker_step, worker_again, timeout_row}
-use Rattle.jn_rows.specs.Coordinator.{coordinator_row, coordinator_again}
-use Rattle.jn_rows.specs.Client.{ClientTable, Commanded, Refuses, Sends, command_row, take_row, sent_again, work_at}
+use Rattle.jn_rows.specs.Coordinator.{coordinator_row, coordinator_again, close_clients_row}
+use Rattle.jn_rows.specs.Client.{ClientTable, Commanded, Refuses, Sends, command_row, take_row, sent_again, work_at, over}
 use Rattle.jn_machine.specs.World.{World as Machine}
 use Rattle.jn_machine.specs.Messages.{IsWorkOf}
 use Rattle.jn_protocol.specs.World.{World, Memory, at_server, at_client, new_memory, opening as opening_world}
 use Rattle.jn_order.specs.Files.{AllFiles}
 use Rattle.jn_protocol.specs.Servers.{Room, storage_of, of_worker, of_coordinator, of_step, server_row, of_timeout, restored}
-use Rattle.jn_protocol.specs.Steps.{Step, NextEvent, Tell, Again, Deliver, Work, Nudge, Timeout, StopDelivery, StopWork, Crash, Narrow, StopRestart, Restart, after, commanded, sent_now, took, ends, at_memory, handed, works, work, nudge, timeout, crash, narrow, stop_restart, restart}
+use Rattle.jn_protocol.specs.Steps.{Step, NextEvent, Tell, Again, Deliver, Work, Nudge, Timeout, StopDelivery, StopWork, Crash, Narrow, StopRestart, Restart, Dismiss, CloseClients, after, commanded, sent_now, took, ends, at_memory, handed, works, work, nudge, timeout, crash, narrow, stop_restart, restart, dismiss, close_clients}
 use Rattle.jn_moves.specs.Mirrors.{Mirrors, IsCurrent, AreOpen}
 use Rattle.jn_moves.proofs.ClientRows.{found-open}
 use Rattle.jn_runs.proofs.Openings.{Opening, opening_in, openings, openings-more, Has, has-first}
@@ -36,7 +36,7 @@ use Rattle.jn_reported.proofs.Lists.{In, in-first, in-second, in-either, Each, e
 use Rattle.jn_reported.proofs.Asking.{asked-more, Asking, IsAsked, IsReply, IsWorkers, workers-reply, KeepsWork, keeps-more, reply-more}
 use Rattle.jn_reported.proofs.WorkerTalk.{Talks, WasSent, worker-talks, step-talks, timeout-talks, restored-talks, again-talks}
 use Rattle.jn_reported.proofs.CoordinatorTalk.{coordinator-silent, again-silent-all}
-use Rattle.jn_reported.proofs.Known.{IsPast, IsOpen, IsKnown, AskedFact, known-grows, goes-on}
+use Rattle.jn_reported.proofs.Known.{IsPast, IsOpen, IsKnown, AskedFact, known-grows, goes-on, ends as ends-known}
 use Rattle.jn_reported.proofs.ClientTalk.{WaitFact, asking_in, asked-alone, IsHeard, IsNext, CommandTalks, command-talks, TakeTalks, take-talks}
 
 pub record TalkFacts (sent : List Sent) (clients : ClientNo → ClientTable) (memory : ServerNo → Option Memory) (w : Machine) : Type 0 where
@@ -339,6 +339,26 @@ module _ (r : World) (w v : Machine) (mirrors : Mirrors r w) (facts : Facts r w)
   restart-talk s pick Ws Ts None = table-talk s (restored s (r.found s pick) Ws Ts) (restored-talks r.sent (r.found s pick) Ws)
   restart-talk s pick Ws Ts (Some m) = same-talk
 
+  dismiss-talk : Talk (dismiss r) v
+  dismiss-talk = record {
+    once = talk.once;
+    asked = λ a h. known-grows (openings r.sent) (openings r.sent) w v (over (r.clients a.client)) a (λ o k. k) grow
+        (ends-known (openings r.sent) w (r.clients a.client) (over (r.clients a.client)) a (talk.asked a h) (no-fall (r.clients a.client).next) refl refl (λ T e. (facts.clients a.client).current T e));
+    waits = λ c o e. absurd (none-out o e);
+    works = talk.works;
+    heard = talk.heard;
+  }
+    where
+      no-fall : (n : ℕ) → n ≤ n
+      no-fall n = omega arith
+
+      none-out : (o : Outstanding) → None ≡ Some o → ⊥
+      none-out o e = cc
+
+  close-talk : (s : ServerNo) (o : Option Memory) → r.memory s ≡ o → Talk (close_clients s o r) v
+  close-talk s None is = same-talk
+  close-talk s (Some m) is = ends-talk s None None (of_coordinator m (close_clients_row m.coordinator m.tickets)) (tt, talk.works s m is)
+
   pub step-talk : (step : Step) → Talk (after step r) v
   step-talk NextEvent = same-talk
   step-talk (Tell c command) = commanded-talk c (command_row (r.clients c) r.event command) (command-talks (openings r.sent) w w.ended r.sent c (r.clients c) (facts.clients c) facts.unique (talk.waits c) (current c) r.event command)
@@ -353,6 +373,8 @@ module _ (r : World) (w v : Machine) (mirrors : Mirrors r w) (facts : Facts r w)
   step-talk (Narrow s g) = narrow-talk s g (r.memory s)
   step-talk (StopRestart s raised) = raise-talk s raised (r.memory s)
   step-talk (Restart s pick Ws Ts) = restart-talk s pick Ws Ts (r.memory s)
+  step-talk Dismiss = dismiss-talk
+  step-talk (CloseClients s) = close-talk s (r.memory s) refl
 
 -- ---- what is asked
 
@@ -463,6 +485,10 @@ module _ (r : World) (w : Machine) (mirrors : Mirrors r w) (facts : Facts r w) (
   restart-asks s pick Ws Ts None = same-asks
   restart-asks s pick Ws Ts (Some m) = same-asks
 
+  close-asks : (s : ServerNo) (o : Option Memory) → Asks r w (close_clients s o r).sent
+  close-asks s None = same-asks
+  close-asks s (Some m) = nothing-asks
+
   pub step-asks : (step : Step) → Asks r w (after step r).sent
   step-asks NextEvent = same-asks
   step-asks (Tell c command) = commanded-asks c (command_row (r.clients c) r.event command) (command-talks (openings r.sent) w w.ended r.sent c (r.clients c) (facts.clients c) facts.unique (talk.waits c) (current r w w mirrors facts talk same-grow c) r.event command)
@@ -477,6 +503,8 @@ module _ (r : World) (w : Machine) (mirrors : Mirrors r w) (facts : Facts r w) (
   step-asks (Narrow s g) = narrow-asks s g (r.memory s)
   step-asks (StopRestart s raised) = raise-asks s raised (r.memory s)
   step-asks (Restart s pick Ws Ts) = restart-asks s pick Ws Ts (r.memory s)
+  step-asks Dismiss = same-asks
+  step-asks (CloseClients s) = close-asks s (r.memory s)
 
 pub opening-talk : (servers : ℕ) (files : AllFiles) (epochs : ServerNo → ℕ) (w : Machine) → Talk (opening_world servers files epochs) w
 opening-talk servers files epochs w = record {

@@ -30,7 +30,7 @@ use Rattle.jn_machine.specs.Premises.{MayRun, MayEnd}
 use Rattle.jn_machine.specs.Messages.{Says, IsWorkOf}
 use Rattle.jn_machine.proofs.Updates.{at_tid_here, at_tid_other, at_tid_cases}
 use Rattle.jn_protocol.specs.World.{World, at_client}
-use Rattle.jn_protocol.specs.Steps.{commanded, tell, again, sent_now, took, taken_by}
+use Rattle.jn_protocol.specs.Steps.{commanded, tell, again, sent_now, took, taken_by, dismiss}
 use Rattle.jn_moves.specs.Mirrors.{Mirrors, IsTrue, IsAddressed, AreOpen, IsCurrent, IsClient}
 use Rattle.jn_moves.proofs.Mirrored.{All-grows, client-still}
 use Rattle.jn_moves.proofs.ClientRows.{found-open, Tells, sends-it}
@@ -119,6 +119,21 @@ module _ (r : World) (w v : Machine) (mirrors : Mirrors r w) (facts : Facts r w)
   taken-facts c k message e = let row = take_row (r.clients c) message in
       took-facts c k row.0 row.1 (take-facts (openings r.sent) w.ended c (r.clients c) (facts.clients c) (own-drawn c) message
       (holds-of (λ (x : Sent). (a : Opening) → Has a (opening_in x) → Has a (openings r.sent)) r.sent k (Client c, message) (all-have-theirs r.sent) e))
+
+  pub dismiss-facts : Facts (dismiss r) v
+  dismiss-facts = record {
+    unique = facts.unique;
+    tables = facts.tables;
+    drawn = λ a h e. facts.drawn a h (subst (λ f. f a.tid ≡ true) ended e);
+    clients = λ c. record { name = (facts.clients c).name; current = λ T e. absurd (none-tid T e); fresh = λ T e k. absurd (none-tid T e); waits = λ o e. absurd (none-out o e) };
+    begun = λ T e. grow T (facts.begun T (subst (λ f. f T ≡ true) ended e));
+  }
+    where
+      none-tid : (T : Tid) → None ≡ Some T → ⊥
+      none-tid T e = cc
+
+      none-out : (o : Outstanding) → None ≡ Some o → ⊥
+      none-out o e = cc
 
 -- ---- an End
 

@@ -27,7 +27,7 @@ use Rattle.jn_machine.specs.World.{World as Machine}
 use Rattle.jn_machine.specs.Messages.{Says, OutcomeSays}
 use Rattle.jn_protocol.specs.World.{World, Memory, has_line}
 use Rattle.jn_protocol.specs.Servers.{Room, server_row, server_step, line_of, lines_of, named_now}
-use Rattle.jn_protocol.specs.Steps.{Step, NextEvent, Tell, Again, Deliver, Work, Nudge, Timeout, StopDelivery, StopWork, Crash, Narrow, StopRestart, Restart, after, commanded, took, ends, at_memory, handed, works, work, nudge, timeout, crash, narrow, stop_restart, restart}
+use Rattle.jn_protocol.specs.Steps.{Step, NextEvent, Tell, Again, Deliver, Work, Nudge, Timeout, StopDelivery, StopWork, Crash, Narrow, StopRestart, Restart, Dismiss, CloseClients, after, commanded, took, ends, at_memory, handed, works, work, nudge, timeout, crash, narrow, stop_restart, restart, close_clients}
 use Rattle.jn_moves.specs.Mirrors.{Mirrors, IsTrue}
 use Rattle.jn_moves.proofs.StepMoves.{holds-of}
 use Rattle.jn_runs.specs.Runs.{IsNamed, AreNamed}
@@ -199,6 +199,10 @@ module _ (r : World) (w : Machine) (mirrors : Mirrors r w) (named : (T : Tid) â†
   restart-names s pick Ws Ts None = plainly (says.Up s ((r.found s pick).epoch + 1) âˆ· named_now Ts r.lines) (tt, now-plain Ts r.lines)
   restart-names s pick Ws Ts (Some m) = names
 
+  close-names : (s : ServerNo) (o : Option Memory) â†’ AreNamed [] (close_clients s o r).lines
+  close-names s None = names
+  close-names s (Some m) = plainly [] tt
+
   pub step-names : (step : Step) â†’ AreNamed [] (after step r).lines
   step-names NextEvent = names
   step-names (Tell c command) = commanded-names c (command_row (r.clients c) r.event command)
@@ -213,3 +217,5 @@ module _ (r : World) (w : Machine) (mirrors : Mirrors r w) (named : (T : Tid) â†
   step-names (Narrow s g) = narrow-names s g (r.memory s)
   step-names (StopRestart s raised) = raise-names s raised (r.memory s)
   step-names (Restart s pick Ws Ts) = restart-names s pick Ws Ts (r.memory s)
+  step-names Dismiss = names
+  step-names (CloseClients s) = close-names s (r.memory s)

@@ -9,7 +9,7 @@ use Rattle.jn_base.specs.declared.names.Cause.{Cause}
 use Rattle.jn_base.specs.declared.names.Party.TheVariants.{Server}
 use Rattle.jn_base.specs.declared.op.Op.{Op}
 use Rattle.jn_base.specs.declared.op.Answer.{Answer}
-use Rattle.jn_base.specs.Names.{tid_eq, client_eq}
+use Rattle.jn_base.specs.Names.{tid_eq}
 use Rattle.jn_order.specs.Files.{Files, change, answer_to}
 use Rattle.jn_records.specs.NetLists.{list_change}
 use Rattle.jn_records.specs.declared.intention.Intention.{Intention}
@@ -26,11 +26,12 @@ use Rattle.jn_rows.specs.declared.coordinator.Stage.{Stage}
 use Rattle.jn_rows.specs.declared.coordinator.Stage.TheVariants.{Open, Voting, Committed, Aborted}
 use Rattle.jn_rows.specs.declared.coordinator.Voting.{Voting as Ballot}
 use Rattle.jn_rows.specs.declared.coordinator.Committed.{Committed as Commitment}
-use Rattle.jn_rows.specs.Stable.{StableState, FlagState, is_going}
+use Rattle.jn_rows.specs.Stable.{StableState, FlagState, Change, is_going}
 use Rattle.jn_rows.specs.Outcomes.{RowOutcome, Sent}
 use Rattle.jn_rows.specs.Worker.{WorkerTable, WorkStorage, Wanted, work_at, work_of, open_row, wants_of, is_fit, refusal_of, granted_row, repeated, op_phase, op_row, conflict, commit_wants, vote_of, shortage, need_in, prepared_row, prepare_phase, prepare_row, commit_phase, commit_row as work_commit_row, drop_phase, drop_row, worker_row, going_work, intentions_of, carried_row, going_row, worker_step, worker_again}
-use Rattle.jn_rows.specs.Coordinator.{CoordinatorTable, with_stage, without, all_in, is_work, besides, drops, commits, prepares, commit_row, abort_row, forget_row, end_promised, end_stage, end_row, abort_stage, abort_request, told_stage, inquire_row, counted_vote, vote_stage, vote_row, done_stage, done_row, thanks_stage, thanks_row, closed, after_closing, with_work, told_again, coordinator_again, restored_transaction, restored_transactions, committed_to, aborted_to}
-use Rattle.jn_runs.proofs.Openings.{Opening, opening_in, openings, openings-more, HasOpening, HaveOpenings}
+use Rattle.jn_rows.specs.Coordinator.{CoordinatorTable, with_stage, without, all_in, is_work, besides, drops, commits, prepares, commit_row, abort_row, forget_row, end_promised, end_stage, end_row, abort_stage, abort_request, told_stage, inquire_row, counted_vote, vote_stage, vote_row, done_stage, done_row, thanks_stage, thanks_row, with_work, told_again, coordinator_again, restored_transaction, restored_transactions, committed_to, aborted_to}
+use Rattle.jn_protocol.proofs.Closes.{Closes, Empty, Stays, Goes, Waits, Forgets}
+use Rattle.jn_runs.proofs.Openings.{Opening, opening_in, openings, openings-more, HaveOpenings}
 
 -- ---- a worker's
 
@@ -170,27 +171,12 @@ less-have os T (x ∷ xs) h = by (tid_eq x.tid T) (less-have os T xs h.1)
     by true on = h.1
     by false on = (h.0, on)
 
-append-have : (os : List Opening) (xs ys : List Transaction) → HaveOpenings os xs → HaveOpenings os ys → HaveOpenings os (xs ++ ys)
-append-have os [] ys h k = k
-append-have os (x ∷ xs) ys h k = (h.0, append-have os xs ys h.1 k)
-
-closed-have : (os : List Opening) (stage : Stage) (x : Transaction) → HasOpening os x → HaveOpenings os (closed stage x)
-closed-have os Open x h = tt
-closed-have os (Voting b) x h = tt
-closed-have os (Aborted cause) x h = tt
-closed-have os (Committed d) x h = by (all_in d.works d.done)
-  where
-    by : (b : Bool) → HaveOpenings os (if b then [] else record x { stage = Committed (record d { thanked = true }) } ∷ [])
-    by true = tt
-    by false = (h, tt)
-
-pub closing-have : (os : List Opening) (c : ClientNo) (xs : List Transaction) → HaveOpenings os xs → HaveOpenings os (after_closing c xs)
-closing-have os c [] h = tt
-closing-have os c (x ∷ xs) h = by (client_eq x.client c) (closing-have os c xs h.1)
-  where
-    by : (b : Bool) → HaveOpenings os (after_closing c xs) → HaveOpenings os (if b then closed x.stage x ++ after_closing c xs else x ∷ after_closing c xs)
-    by true on = append-have os (closed x.stage x) (after_closing c xs) (closed-have os x.stage x h.0) on
-    by false on = (h.0, on)
+pub closes-have : (os : List Opening) {P : Transaction → Type 0} {xs ys : List Transaction} {cs : List Change} → Closes P xs ys cs → HaveOpenings os xs → HaveOpenings os ys
+closes-have os Empty h = tt
+closes-have os (Stays x c) h = (h.0, closes-have os c h.1)
+closes-have os (Goes x p e c) h = closes-have os c h.1
+closes-have os (Waits x d p e c) h = (h.0, closes-have os c h.1)
+closes-have os (Forgets x d p e g c) h = closes-have os c h.1
 
 module _ (t : CoordinatorTable) (k : Tickets) where
   quiet-either : (b : Bool) (p q : RowOutcome CoordinatorTable) → Quiet t p → Quiet t q → Quiet t (if b then p else q)

@@ -24,7 +24,7 @@ use Rattle.jn_machine.proofs.MessageLemmas.{run_grows, says_still}
 use Rattle.jn_machine.proofs.History.{in_order, run_told, opening_told}
 use Rattle.jn_protocol.specs.World.{World, Memory, opening, new_memory}
 use Rattle.jn_protocol.specs.Servers.{Room}
-use Rattle.jn_protocol.specs.Steps.{Step, NextEvent, Tell, Again, Deliver, Work, Nudge, Timeout, StopDelivery, StopWork, Crash, Narrow, StopRestart, Restart, IsStep, IsRun, after, run, handed}
+use Rattle.jn_protocol.specs.Steps.{Step, NextEvent, Tell, Again, Deliver, Work, Nudge, Timeout, StopDelivery, StopWork, Crash, Narrow, StopRestart, Restart, Dismiss, CloseClients, IsStep, IsRun, after, run, handed}
 use Rattle.jn_protocol.specs.LockFacts.{LockFacts, ServerFact}
 use Rattle.jn_moves.specs.Mirrors.{Mirrors, is_shown}
 use Rattle.jn_moves.proofs.Losing.{run-append, may-append}
@@ -35,8 +35,8 @@ use Rattle.jn_runs.proofs.Named.{step-names}
 use Rattle.jn_runs.proofs.Unlocked.{writes-nothing}
 use Rattle.jn_runs.proofs.Openings.{HaveOpenings}
 use Rattle.jn_runs.proofs.Facts.{Facts}
-use Rattle.jn_runs.proofs.ServerFacts.{still-facts, message-facts, work-facts, nudge-facts, timeout-facts, crash-facts, narrow-facts, raise-facts, restart-facts}
-use Rattle.jn_runs.proofs.ClientSteps.{Next, tell-facts, again-facts, taken-facts, end-next}
+use Rattle.jn_runs.proofs.ServerFacts.{still-facts, message-facts, work-facts, nudge-facts, timeout-facts, crash-facts, narrow-facts, raise-facts, restart-facts, close-facts}
+use Rattle.jn_runs.proofs.ClientSteps.{Next, tell-facts, again-facts, taken-facts, dismiss-facts, end-next}
 
 -- ---- one step
 
@@ -60,6 +60,8 @@ module _ (r : World) (w v : Machine) (mirrors : Mirrors r w) (facts : Facts r w)
   step-facts (Narrow s g) = narrow-facts r w v mirrors facts inv ended grow s g (r.memory s)
   step-facts (StopRestart s raised) = raise-facts r w v mirrors facts inv ended grow s raised (r.memory s)
   step-facts (Restart s pick Ws Ts) = restart-facts r w v mirrors facts inv ended grow s pick Ws Ts (r.memory s)
+  step-facts Dismiss = dismiss-facts r w v mirrors facts ended grow inv
+  step-facts (CloseClients s) = close-facts r w v mirrors facts inv ended grow s (r.memory s) refl
 
 module _ (files : AllFiles) (epochs : ServerNo → ℕ) (before : List Atom) (may : MayRun before (opening_world files epochs)) where
   abbrev w : Machine
@@ -100,6 +102,8 @@ module _ (files : AllFiles) (epochs : ServerNo → ℕ) (before : List Atom) (ma
     step-next (Narrow s g) i = shown-next (Narrow s g) i refl
     step-next (StopRestart s raised) i = shown-next (StopRestart s raised) i refl
     step-next (Restart s pick Ws Ts) i = shown-next (Restart s pick Ws Ts) i refl
+    step-next Dismiss i = shown-next Dismiss i refl
+    step-next (CloseClients s) i = shown-next (CloseClients s) i refl
 
 -- ---- every run
 

@@ -16,18 +16,19 @@ use Rattle.jn_rows.specs.declared.coordinator.Stage.TheVariants.{Open}
 use Rattle.jn_rows.specs.Stable.{StableState, Pick, stable}
 use Rattle.jn_rows.specs.Outcomes.{RowOutcome}
 use Rattle.jn_rows.specs.Worker.{WorkerTable, worker_step, worker_again, timeout_row}
-use Rattle.jn_rows.specs.Coordinator.{CoordinatorTable, transaction_at, coordinator_again, name_from, after_closing, changes_of_closing, seen_now, begin_again, begun_by, begin_row, is_begun}
+use Rattle.jn_rows.specs.Coordinator.{CoordinatorTable, transaction_at, coordinator_again, name_from, after_closing, changes_of_closing, seen_now, begin_again, begun_by, begin_row, is_begun, close_clients_row}
 use Rattle.jn_machine.specs.World.{World as Machine}
 use Rattle.jn_machine.specs.Invariant.{Invariant}
 use Rattle.jn_machine.proofs.NameLemmas.{fresh_tid}
 use Rattle.jn_protocol.specs.World.{World, Memory, at_server}
 use Rattle.jn_protocol.specs.Servers.{Room, storage_of, of_worker, of_coordinator, of_step, server_row, server_again, of_timeout, restored}
-use Rattle.jn_protocol.specs.Steps.{done, stopped, ends, at_memory, works, work, nudge, timeout, crash, narrow, stop_restart, restart}
+use Rattle.jn_protocol.specs.Steps.{done, stopped, ends, at_memory, works, work, nudge, timeout, crash, narrow, stop_restart, restart, close_clients}
 use Rattle.jn_protocol.specs.LockFacts.{ServerFact, UpFact}
+use Rattle.jn_protocol.proofs.Closes.{client-closes, outcomes-close}
 use Rattle.jn_moves.specs.Mirrors.{Mirrors}
 use Rattle.jn_moves.proofs.GrantMoves.{found-here}
 use Rattle.jn_runs.proofs.Openings.{Opening, openings, openings-more, Has, has-first, has-second, has-either, HasOpening, HaveOpenings, more-openings}
-use Rattle.jn_runs.proofs.RowOpenings.{worker-none, step-none, again-none, Quiet, closing-have, ends-quiet, aborts-quiet, inquires-quiet, votes-quiet, dones-quiet, thanks-quiet, coordinator-again-quiet, restored-have}
+use Rattle.jn_runs.proofs.RowOpenings.{worker-none, step-none, again-none, Quiet, closes-have, ends-quiet, aborts-quiet, inquires-quiet, votes-quiet, dones-quiet, thanks-quiet, coordinator-again-quiet, restored-have}
 use Rattle.jn_runs.proofs.Facts.{opening, Facts, facts-keep}
 
 -- what a row's messages and table have
@@ -72,7 +73,7 @@ module _ (os : List Opening) (w : Machine) (m : Memory) (have : HaveOpenings os 
     ys = after_closing c m.coordinator.transactions
 
     ys-have : HaveOpenings os ys
-    ys-have = closing-have os c m.coordinator.transactions have
+    ys-have = closes-have os (client-closes c m.coordinator.transactions) have
 
     abbrev table : CoordinatorTable
     table = record { transactions = ys; seen = seen_now m.coordinator.seen c request }
@@ -278,3 +279,7 @@ module _ (r : World) (w v : Machine) (mirrors : Mirrors r w) (facts : Facts r w)
   restart-facts s pick Ws Ts (Some m) = same-facts
   restart-facts s pick Ws Ts None = still-facts _ refl refl (λ q n e. back-nil n.coordinator.transactions (at-tables s (Some (restored s (r.found s pick) Ws Ts)) [] (λ x f. more-openings os [] x.coordinator.transactions
       (subst (λ (z : Memory). HaveOpenings os z.coordinator.transactions) (some-memory (restored s (r.found s pick) Ws Ts) x f) (restored-have os (r.found s pick) Ts))) q n e))
+
+  pub close-facts : (s : ServerNo) (o : Option Memory) → r.memory s ≡ o → Facts (close_clients s o r) v
+  close-facts s None is = same-facts
+  close-facts s (Some m) is = let row = of_coordinator m (close_clients_row m.coordinator m.tickets) in done-facts s None row (plain os w m (facts.tables s m is) row refl (closes-have os (outcomes-close m.coordinator.transactions) (facts.tables s m is)))

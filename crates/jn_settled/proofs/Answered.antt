@@ -21,11 +21,11 @@ use Rattle.jn_rows.specs.declared.client.Outstanding.{Outstanding}
 use Rattle.jn_rows.specs.Stable.{Pick, stable}
 use Rattle.jn_rows.specs.Outcomes.{Sent, sends as sends_row}
 use Rattle.jn_rows.specs.Worker.{work_of, name_from, new_work, open_row}
-use Rattle.jn_rows.specs.Client.{ClientTable, Commanded, Refuses, Sends, command_row, take_row, is_current, is_tid, opens, opened_row, if_waits, outcome_row, is_end_or_abort}
+use Rattle.jn_rows.specs.Client.{ClientTable, Commanded, Refuses, Sends, command_row, take_row, is_current, is_tid, opens, opened_row, if_waits, outcome_row, is_end_or_abort, over}
 use Rattle.jn_rows.specs.ClientLaws.{after_command}
 use Rattle.jn_protocol.specs.World.{World, Memory, at_client}
 use Rattle.jn_protocol.specs.Servers.{Room, server_row}
-use Rattle.jn_protocol.specs.Steps.{Step, Tell, Again, Deliver, Work, Nudge, StopDelivery, StopWork, IsStep, after, handed, commanded, works}
+use Rattle.jn_protocol.specs.Steps.{Step, Tell, Again, Deliver, Work, Nudge, StopDelivery, StopWork, Dismiss, IsStep, after, handed, commanded, works}
 use Rattle.jn_protocol.specs.LockFacts.{UpFact, ServerFact}
 use Rattle.jn_protocol.proofs.Tables.{of-found}
 use Rattle.jn_settling.specs.Course.{Course, go, go_on}
@@ -118,6 +118,7 @@ module _ (n : ℕ) (at_most : n ≤ 8) (start : World) (files : AllFiles) (epoch
       by (Tell e command) c = commanded-talks e c (command_row (d.world.clients e) d.world.event command) d.world (told e command) (h.talks c)
       by (Deliver k room) c = handed-talks c k room None (slice_get d.world.sent k) d.world h.talks
       by (StopDelivery k room made) c = handed-talks c k room (Some made) (slice_get d.world.sent k) d.world h.talks
+      by Dismiss c = let t = h.talks c in record { name = t.name; fits = still-fits (d.world.clients c) (over (d.world.clients c)) (inr refl) t.fits }
       by step c = quiet step (quiet-clients step d.world refl) c
 
   -- ---- an Open is answered

@@ -19,10 +19,10 @@ use Rattle.jn_rows.specs.declared.coordinator.Stage.TheVariants.{Open}
 use Rattle.jn_rows.specs.Stable.{Pick, stable}
 use Rattle.jn_rows.specs.Outcomes.{RowOutcome, Sent, ignored as ignored_row}
 use Rattle.jn_rows.specs.Coordinator.{CoordinatorTable, after_closing, changes_of_closing, begin_new, begin_again, begun_by, seen_now, name_from}
-use Rattle.jn_rows.specs.Client.{ClientTable, Commanded, Refuses, Sends, command_row, take_row, is_begin, if_waits, begun_row}
+use Rattle.jn_rows.specs.Client.{ClientTable, Commanded, Refuses, Sends, command_row, take_row, is_begin, if_waits, begun_row, over}
 use Rattle.jn_protocol.specs.World.{World, Memory}
 use Rattle.jn_protocol.specs.Servers.{Room, server_row}
-use Rattle.jn_protocol.specs.Steps.{Step, NextEvent, Tell, Again, Deliver, Work, Nudge, Timeout, StopDelivery, StopWork, Crash, Narrow, StopRestart, Restart, IsStep, after, handed, commanded}
+use Rattle.jn_protocol.specs.Steps.{Step, NextEvent, Tell, Again, Deliver, Work, Nudge, Timeout, StopDelivery, StopWork, Crash, Narrow, StopRestart, Restart, Dismiss, CloseClients, IsStep, after, handed, commanded}
 use Rattle.jn_settling.specs.Course.{Course, numbered, without_number, still_waiting, go}
 use Rattle.jn_settling.proofs.Burdens.{get-more}
 use Rattle.jn_settling.proofs.Courses.{Grows, grows, waiting-is}
@@ -145,6 +145,7 @@ module _ (n : ℕ) (at_most : n ≤ 8) (start : World) (files : AllFiles) (epoch
         by (Sends t to m) shape = one-client (λ e z. GoesOn (w.clients e) z) w.clients c t (waits_anew (let l = shape.next in omega (arith, l)) shape.waits shape.outstanding shape.request) (stays w.clients) e
     goes-on (Deliver k room) e = handed-on k room None (slice_get w.sent k) e
     goes-on (StopDelivery k room made) e = handed-on k room (Some made) (slice_get w.sent k) e
+    goes-on Dismiss e = still-on (w.clients e) (over (w.clients e)) refl (inr refl)
     goes-on step e = quiet step (quiet-clients step d.world refl) e
 
     not-waited-on : (t now : ClientTable) (q : ℕ) → GoesOn t now → q < t.next → NotWaited t q → NotWaited now q
@@ -202,6 +203,8 @@ module _ (n : ℕ) (at_most : n ≤ 8) (start : World) (files : AllFiles) (epoch
         onward (Narrow s g) k c q a e waits = inl waits
         onward (StopRestart s up) k c q a e waits = inl waits
         onward (Restart s pick Ws Ts) k c q a e waits = inl waits
+        onward Dismiss k c q a e waits = inl waits
+        onward (CloseClients s) k c q a e waits = inl waits
 
         by : (k : ℕ) (c : ClientNo) (q : ℕ) (a : Option Tid) → slice_get (after step w).sent k ≡ Some (Client c, messages.Begun c q a) → (g : Grows w (after step w)) → (b : Bool) → nat_lt k (length w.sent) ≡ b
             → (list_any (nat_eq k) (go step d).waiting ≡ true) ⊎ NotWaited ((after step w).clients c) q

@@ -14,18 +14,19 @@ use Rattle.jn_rows.specs.Client.{Commanded, Refuses, Sends, command_row, take_ro
 use Rattle.jn_rows.specs.Stable.{StableState, Pick, Change, AddReady, MarkGoing, CarryOut, RemoveWork, AddFlag, DropFlag, stable, made_all}
 use Rattle.jn_rows.specs.Outcomes.{RowOutcome, Sent}
 use Rattle.jn_rows.specs.Worker.{WorkerTable, worker_row, worker_step, work_of, timed_out}
-use Rattle.jn_rows.specs.Coordinator.{coordinator_row}
+use Rattle.jn_rows.specs.Coordinator.{coordinator_row, close_clients_row}
 use Rattle.jn_machine.specs.Steps.{with_epoch}
 use Rattle.jn_protocol.specs.World.{World, Memory, at_server}
 use Rattle.jn_protocol.specs.Servers.{Room, storage_of, server_row, server_step, of_worker, of_coordinator, of_step, of_timeout, server_timeout, is_for_worker, restored}
-use Rattle.jn_protocol.specs.Steps.{Step, NextEvent, Tell, Again, Deliver, Work, Nudge, Timeout, StopDelivery, StopWork, Crash, Narrow, StopRestart, Restart, IsStep, after, ends, done, at_memory, handed, work, works, nudge, timeout, crash, narrow, stop_restart, restart, took, commanded}
+use Rattle.jn_protocol.specs.Steps.{Step, NextEvent, Tell, Again, Deliver, Work, Nudge, Timeout, StopDelivery, StopWork, Crash, Narrow, StopRestart, Restart, Dismiss, CloseClients, IsStep, after, ends, done, at_memory, handed, work, works, nudge, timeout, crash, narrow, stop_restart, restart, close_clients, took, commanded}
 use Rattle.jn_protocol.specs.LockFacts.{UpFact, ServerFact, LockFacts}
 use Rattle.jn_runs.proofs.Openings.{Opening, openings, openings-more}
 use Rattle.jn_settling.specs.Sizes.{Sizes}
 use Rattle.jn_settling.proofs.WorkerFits.{keep_flags, worker-fits, step-fits}
 use Rattle.jn_settling.proofs.Courses.{Grows, grows}
 use Rattle.jn_settling.proofs.WorldSizes.{up-sizes}
-use Rattle.jn_settled.proofs.Owners.{Owner, owner_in, owner-more, all_owned, FlagsOwned, flags_owned, grown, coordinator-owned, coordinator-flags, prefix-owned, all-changed-owned, restored-owned}
+use Rattle.jn_protocol.proofs.Closes.{outcomes-close}
+use Rattle.jn_settled.proofs.Owners.{Owner, owner_in, owner-more, all_owned, FlagsOwned, flags_owned, grown, coordinator-owned, coordinator-flags, prefix-owned, all-changed-owned, restored-owned, closes-owned, closes-flags-owned}
 
 -- of one server
 pub record ServerOwned (P : Owner) (o : Option Memory) (found : Pick → StableState) : Type 0 where
@@ -182,6 +183,13 @@ module _ (n : ℕ) (at_most : n ≤ 8) (w : World) (sizes : Sizes n w) (locks : 
       (λ a k. subst (λ (z : Memory). all_owned (owner_in os) z.coordinator.transactions ≡ true) (some-memory (restored s (w.found s pick) Ws Ts) a k) (restored-owned (owner_in os) (w.found s pick) Ts ((owned s).flags pick))) (λ c. (owned s).flags pick) q (server_eq s q) (server_eq s q)
   restart-owned s pick Ws Ts (Some m) = owned
 
+  close-owned : (s : ServerNo) (o : Option Memory) → w.memory s ≡ o → AreOwned (close_clients s o w)
+  close-owned s None e = owned
+  close-owned s (Some m) e = let its = outcomes-close m.coordinator.transactions in ends-owned s m e (of_coordinator m (close_clients_row m.coordinator m.tickets)) (record {
+    table = closes-owned (owner_in (os ++ [])) its (grown (owner_in os) (owner_in (os ++ [])) (owner-more os []) m.coordinator.transactions ((owned s).table m e));
+    flags = closes-flags-owned (owner_in os) its;
+  }) None None
+
   tell-owned : (c : ClientNo) (r : Commanded) → Grows w (commanded c r w) → AreOwned (commanded c r w)
   tell-owned c (Refuses refusal) g = owned
   tell-owned c (Sends t to message) g = sent-owned (commanded c (Sends t to message) w) refl refl g
@@ -200,3 +208,5 @@ module _ (n : ℕ) (at_most : n ≤ 8) (w : World) (sizes : Sizes n w) (locks : 
   step-keeps-owned (Narrow s g) i = narrow-owned s g (w.memory s) refl
   step-keeps-owned (StopRestart s up) i = raise-owned s up (w.memory s)
   step-keeps-owned (Restart s pick Ws Ts) i = restart-owned s pick Ws Ts (w.memory s)
+  step-keeps-owned Dismiss i = owned
+  step-keeps-owned (CloseClients s) i = close-owned s (w.memory s) refl

@@ -22,7 +22,8 @@ use Rattle.jn_rows.specs.declared.coordinator.Voting.{Voting as Ballot}
 use Rattle.jn_rows.specs.declared.coordinator.Committed.{Committed as Commitment}
 use Rattle.jn_rows.specs.Stable.{StableState, FlagState, Change, AddReady, MarkGoing, CarryOut, RemoveWork, AddFlag, DropFlag, made_by, made_all}
 use Rattle.jn_rows.specs.Outcomes.{RowOutcome}
-use Rattle.jn_rows.specs.Coordinator.{CoordinatorTable, transaction_at, with_stage, without, all_in, is_work, commit_row, abort_row, forget_row, thanked_changes, closed, after_closing, changes_of_closing, begin_again, begun_by, begin_row, seen_now, name_from, end_promised, end_stage, end_row, abort_stage, abort_request, told_stage, inquire_row, counted_vote, vote_stage, vote_row, done_stage, done_row, thanks_stage, thanks_row, with_work, coordinator_row, restored_transaction, restored_transactions}
+use Rattle.jn_protocol.proofs.Closes.{Closes, Empty, Stays, Goes, Waits, Forgets, client-closes}
+use Rattle.jn_rows.specs.Coordinator.{CoordinatorTable, transaction_at, with_stage, without, all_in, is_work, commit_row, abort_row, forget_row, after_closing, changes_of_closing, begin_again, begun_by, begin_row, seen_now, name_from, end_promised, end_stage, end_row, abort_stage, abort_request, told_stage, inquire_row, counted_vote, vote_stage, vote_row, done_stage, done_row, thanks_stage, thanks_row, with_work, coordinator_row, restored_transaction, restored_transactions}
 use Rattle.jn_runs.proofs.Openings.{Opening, openings}
 
 -- who began it, as the messages say
@@ -78,38 +79,19 @@ owned-both : (P : Owner) (xs ys : List Transaction) → all_owned P xs ≡ true 
 owned-both P [] ys h k = k
 owned-both P (x ∷ xs) ys h k = let again = owned-both P xs ys in grind (arith, h, k)
 
-owned-closed : (P : Owner) (s : Stage) (x : Transaction) → P x.client x.tid ≡ true → all_owned P (closed s x) ≡ true
-owned-closed P Open x h = refl
-owned-closed P (Voting b) x h = refl
-owned-closed P (Aborted cause) x h = refl
-owned-closed P (Committed d) x h = by (all_in d.works d.done)
-  where
-    by : (b : Bool) → all_owned P (if b then [] else record x { stage = Committed (record d { thanked = true }) } ∷ []) ≡ true
-    by true = refl
-    by false = rw h refl
+pub closes-owned : (P : Owner) {Q : Transaction → Type 0} {xs ys : List Transaction} {cs : List Change} → Closes Q xs ys cs → all_owned P xs ≡ true → all_owned P ys ≡ true
+closes-owned P Empty h = refl
+closes-owned P (Stays y c) h = let again = closes-owned P c in grind (arith, h)
+closes-owned P (Goes y p e c) h = closes-owned P c (grind (arith, h))
+closes-owned P (Waits y d p e c) h = let again = closes-owned P c in grind (arith, h)
+closes-owned P (Forgets y d p e g c) h = closes-owned P c (grind (arith, h))
 
-owned-closing : (P : Owner) (c : ClientNo) (xs : List Transaction) → all_owned P xs ≡ true → all_owned P (after_closing c xs) ≡ true
-owned-closing P c [] h = refl
-owned-closing P c (y ∷ ys) h = by (client_eq y.client c) (owned-closing P c ys (grind (arith, h)))
-  where
-    by : (b : Bool) → all_owned P (after_closing c ys) ≡ true → all_owned P (if b then closed y.stage y ++ after_closing c ys else y ∷ after_closing c ys) ≡ true
-    by true again = owned-both P (closed y.stage y) (after_closing c ys) (owned-closed P y.stage y (grind (arith, h))) again
-    by false again = grind (arith, h)
-
-closing-owned : (P : Owner) (c : ClientNo) (xs : List Transaction) → flags_owned P (changes_of_closing c xs) ≡ true
-closing-owned P c [] = refl
-closing-owned P c (y ∷ ys) = by (client_eq y.client c) y.stage (closing-owned P c ys)
-  where
-    one : (b : Bool) → flags_owned P (changes_of_closing c ys) ≡ true → flags_owned P ((if b then DropFlag y.tid ∷ [] else []) ++ changes_of_closing c ys) ≡ true
-    one true h = h
-    one false h = h
-
-    by : (b : Bool) (s : Stage) → flags_owned P (changes_of_closing c ys) ≡ true → flags_owned P (if b then thanked_changes s y ++ changes_of_closing c ys else changes_of_closing c ys) ≡ true
-    by false s h = h
-    by true Open h = h
-    by true (Voting b) h = h
-    by true (Aborted cause) h = h
-    by true (Committed d) h = one (all_in d.works d.done) h
+pub closes-flags-owned : (P : Owner) {Q : Transaction → Type 0} {xs ys : List Transaction} {cs : List Change} → Closes Q xs ys cs → flags_owned P cs ≡ true
+closes-flags-owned P Empty = refl
+closes-flags-owned P (Stays y c) = closes-flags-owned P c
+closes-flags-owned P (Goes y p e c) = closes-flags-owned P c
+closes-flags-owned P (Waits y d p e c) = closes-flags-owned P c
+closes-flags-owned P (Forgets y d p e g c) = closes-flags-owned P c
 
 -- ---- rows
 
@@ -233,7 +215,7 @@ module _ (os : List Opening) (t : CoordinatorTable) (k : Tickets) (h : all_owned
   ys = after_closing c t.transactions
 
   left : (more : List Opening) → all_owned (owner_in (os ++ more)) ys ≡ true
-  left more = owned-closing (owner_in (os ++ more)) c t.transactions (grown (owner_in os) (owner_in (os ++ more)) (owner-more os more) t.transactions h)
+  left more = closes-owned (owner_in (os ++ more)) (client-closes c t.transactions) (grown (owner_in os) (owner_in (os ++ more)) (owner-more os more) t.transactions h)
 
   new-owned : (b : Bool) → Now (if b
       then record { table = record { transactions = ys ++ (record { tid = name_from k; client = c; begun = Some request; stage = Open }) ∷ []; seen = seen_now t.seen c request }; changes = changes_of_closing c t.transactions; messages = (Client c, messages.Begun c request (Some (name_from k))) ∷ []; notes = []; tickets = record k { next = k.next + 1 } }
@@ -241,9 +223,9 @@ module _ (os : List Opening) (t : CoordinatorTable) (k : Tickets) (h : all_owned
   new-owned true = record {
     table = owned-both (owner_in (os ++ (record { client = c; request = request; tid = name_from k }) ∷ [])) ys _ (left _)
         (let now = owner-last os ((record { client = c; request = request; tid = name_from k }) ∷ []) c (name_from k) (grind (arith, nat_tests)) in grind (arith, now));
-    flags = closing-owned (owner_in (os ++ (record { client = c; request = request; tid = name_from k }) ∷ [])) c t.transactions;
+    flags = closes-flags-owned (owner_in (os ++ (record { client = c; request = request; tid = name_from k }) ∷ [])) (client-closes c t.transactions);
   }
-  new-owned false = record { table = left []; flags = closing-owned (owner_in (os ++ [])) c t.transactions }
+  new-owned false = record { table = left []; flags = closes-flags-owned (owner_in (os ++ [])) (client-closes c t.transactions) }
 
   pub begin-owned : Now (begin_row t k c request)
   begin-owned = choose (nat_lt (t.seen c) request) _ _ (new-owned (nat_lt (length ys) 64)) (choose (nat_eq (t.seen c) request) _ _ (again-owned (begun_by c request t.transactions)) (old _ refl refl))
@@ -283,8 +265,8 @@ coordinator-flags P t free k (messages.Begin c request) h = by (nat_lt (t.seen c
         then record { table = record { transactions = after_closing c t.transactions ++ (record { tid = name_from k; client = c; begun = Some request; stage = Open }) ∷ []; seen = seen_now t.seen c request }; changes = changes_of_closing c t.transactions; messages = (Client c, messages.Begun c request (Some (name_from k))) ∷ []; notes = []; tickets = record k { next = k.next + 1 } }
         else record { table = record { transactions = after_closing c t.transactions; seen = seen_now t.seen c request }; changes = changes_of_closing c t.transactions; messages = (Client c, messages.Begun c request None) ∷ []; notes = []; tickets = k })
         else (if d then begin_again t k c request o else record { table = t; changes = []; messages = []; notes = Ignored ∷ []; tickets = k })).changes ≡ true
-    by true true d o = closing-owned P c t.transactions
-    by true false d o = closing-owned P c t.transactions
+    by true true d o = closes-flags-owned P (client-closes c t.transactions)
+    by true false d o = closes-flags-owned P (client-closes c t.transactions)
     by false b true o = again o
     by false b false o = refl
 coordinator-flags P t free k (messages.End c request T works) h = let o = ends-owned P t k h free c request T works (transaction_at T t.transactions) refl in o.flags

@@ -24,12 +24,12 @@ use Rattle.jn_rows.specs.declared.coordinator.Transaction.{Transaction}
 use Rattle.jn_rows.specs.Stable.{StableState, FlagState, Pick, stable, made_all}
 use Rattle.jn_rows.specs.Outcomes.{RowOutcome, Sent}
 use Rattle.jn_rows.specs.Worker.{WorkerTable, worker_row, worker_step, work_of, timed_out}
-use Rattle.jn_rows.specs.Coordinator.{transaction_at, coordinator_row, seen_in_flags, seen_in_flag}
-use Rattle.jn_rows.specs.Client.{ClientTable, if_server, if_idle, if_transaction, if_no_transaction, if_open, if_not_open, work_at, with_operation, names_of, sends as sends_command, Commanded, Refuses, Sends, command_row, take_row, again_row, sent_again, is_begin}
+use Rattle.jn_rows.specs.Coordinator.{transaction_at, coordinator_row, close_clients_row, seen_in_flags, seen_in_flag}
+use Rattle.jn_rows.specs.Client.{ClientTable, if_server, if_idle, if_transaction, if_no_transaction, if_open, if_not_open, work_at, with_operation, names_of, sends as sends_command, Commanded, Refuses, Sends, command_row, take_row, again_row, sent_again, is_begin, over}
 use Rattle.jn_machine.specs.Steps.{with_epoch}
 use Rattle.jn_protocol.specs.World.{World, Memory, at_server, at_client}
 use Rattle.jn_protocol.specs.Servers.{Room, storage_of, server_row, server_step, server_again, of_worker, of_coordinator, of_step, of_timeout, server_timeout, is_for_worker, restored}
-use Rattle.jn_protocol.specs.Steps.{Step, NextEvent, Tell, Again, Deliver, Work, Nudge, Timeout, StopDelivery, StopWork, Crash, Narrow, StopRestart, Restart, after, ends, at_memory, handed, work, works, nudge, timeout, crash, narrow, stop_restart, restart, took, commanded, sent_now}
+use Rattle.jn_protocol.specs.Steps.{Step, NextEvent, Tell, Again, Deliver, Work, Nudge, Timeout, StopDelivery, StopWork, Crash, Narrow, StopRestart, Restart, Dismiss, CloseClients, after, ends, at_memory, handed, work, works, nudge, timeout, crash, narrow, stop_restart, restart, dismiss, close_clients, took, commanded, sent_now}
 use Rattle.jn_protocol.specs.LockFacts.{UpFact, ServerFact}
 use Rattle.jn_runs.proofs.Openings.{Opening, openings, openings-more, Has as HasOpening}
 use Rattle.jn_settling.specs.Course.{Course, go}
@@ -40,7 +40,7 @@ use Rattle.jn_settling.proofs.WorldSizes.{up-sizes}
 use Rattle.jn_settled.proofs.Talk.{IsStill, FitsCommand, take-still}
 use Rattle.jn_settled.proofs.Ways.{Has}
 use Rattle.jn_settled.proofs.Owners.{owner_in, owned-found}
-use Rattle.jn_settled.proofs.Votes.{are_plain, Votings, StoredOf, votings-grown, prefix-of, all-changes-of, restored-votings, worker-plain, step-plain, again-plain, coordinator-votes, EndOf, is_begin_message}
+use Rattle.jn_settled.proofs.Votes.{are_plain, Votings, StoredOf, votings-grown, prefix-of, all-changes-of, restored-votings, worker-plain, step-plain, again-plain, coordinator-votes, close-votes, EndOf, is_begin_message}
 use Rattle.jn_settled.proofs.Requests.{Clients, Past, MessageFits, SeenFits, GoesOn, waits_on, waits_not, waits_anew, past-on, has-in, message-on, seen-on, stays, plain-fits, RowRequests, worker-requests, other-requests, begin-requests}
 use Rattle.jn_settled.proofs.Answered.{Talks, Talking, go-talking, owner-has}
 
@@ -475,6 +475,15 @@ module _ (n : ℕ) (at_most : n ≤ 8) (start : World) (files : AllFiles) (epoch
     }
     restart-requests s pick Ws Ts (Some m) = r
 
+    close-requests : (s : ServerNo) (o : Option Memory) → w.memory s ≡ o → Requests (close_clients s o w)
+    close-requests s None e = r
+    close-requests s (Some m) e = let mine = (r.servers s).votings m e in let row = close_clients_row m.coordinator m.tickets in
+        ends-requests s m e (of_coordinator m row) (other-requests w.clients w.sent m mine ((r.servers s).seen m e) row (close-votes (Past false w.clients) m.coordinator m.tickets mine)) None None
+
+    dismiss-requests : Requests (dismiss w)
+    dismiss-requests = clients-step w r (λ c. over (w.clients c)) (λ c. still-on (w.clients c) (over (w.clients c)) refl (inr refl)) (dismiss w) refl refl refl [] (sym (append-nil w.sent))
+        (λ c. still-draws (w.clients c) (over (w.clients c)) refl (inr refl) (r.draws c)) (λ x q. absurd q)
+
     pub requests-go : (step : Step) → Requests (after step w)
     requests-go NextEvent = same (after NextEvent w) refl refl refl refl
     requests-go (Tell c command) = tell-requests c command
@@ -489,3 +498,5 @@ module _ (n : ℕ) (at_most : n ≤ 8) (start : World) (files : AllFiles) (epoch
     requests-go (Narrow s g) = narrow-requests s g (w.memory s)
     requests-go (StopRestart s up) = raise-requests s up (w.memory s)
     requests-go (Restart s pick Ws Ts) = restart-requests s pick Ws Ts (w.memory s)
+    requests-go Dismiss = dismiss-requests
+    requests-go (CloseClients s) = close-requests s (w.memory s) refl

@@ -15,6 +15,7 @@ use Rattle.jn_rows.specs.declared.coordinator.Stage.TheVariants.{Open}
 use Rattle.jn_rows.specs.Stable.{Change, AddReady, MarkGoing, CarryOut, RemoveWork, AddFlag, DropFlag}
 use Rattle.jn_rows.specs.Outcomes.{RowOutcome, Sent}
 use Rattle.jn_rows.specs.Worker.{WorkerTable}
+use Rattle.jn_protocol.proofs.Closes.{client-closes}
 use Rattle.jn_rows.specs.Coordinator.{CoordinatorTable, after_closing, changes_of_closing, begin_again, begun_by, begin_row, seen_now, name_from}
 use Rattle.jn_rows.specs.Client.{ClientTable, is_begin}
 use Rattle.jn_protocol.specs.World.{Memory}
@@ -23,7 +24,7 @@ use Rattle.jn_runs.proofs.Openings.{Opening}
 use Rattle.jn_settling.proofs.WorkerFits.{keep_flags}
 use Rattle.jn_settled.proofs.Ways.{Has}
 use Rattle.jn_settled.proofs.Owners.{owner_in, owner-more}
-use Rattle.jn_settled.proofs.Votes.{is_plain, are_plain, Votings, FlagsOf, both-votings, closing-votings, closing-flags-of, RowVotes}
+use Rattle.jn_settled.proofs.Votes.{is_plain, are_plain, Votings, FlagsOf, both-votings, closes-votings, closes-flags-of, RowVotes}
 
 abbrev pub Clients : Type 0
 Clients = ClientNo → ClientTable
@@ -203,13 +204,13 @@ module _ (f : Clients) (sent : List Sent) (m : Memory) (votings : Votings (Past 
     ys = after_closing c m.coordinator.transactions
 
     left : Votings (Past false f) ys
-    left = closing-votings (Past false f) c m.coordinator.transactions votings
+    left = closes-votings (Past false f) (client-closes c m.coordinator.transactions) votings
 
     new-requests : (k : Tickets) (b : Bool) → Is (if b
         then record { table = record { transactions = ys ++ (record { tid = name_from k; client = c; begun = Some q; stage = Open }) ∷ []; seen = seen_now m.coordinator.seen c q }; changes = changes_of_closing c m.coordinator.transactions; messages = (Client c, messages.Begun c q (Some (name_from k))) ∷ []; notes = []; tickets = record k { next = k.next + 1 } }
         else record { table = record { transactions = ys; seen = seen_now m.coordinator.seen c q }; changes = changes_of_closing c m.coordinator.transactions; messages = (Client c, messages.Begun c q None) ∷ []; notes = []; tickets = k })
-    new-requests k true = record { table = both-votings (Past false f) ys _ left (tt, tt); seen = now-seen (Some (name_from k)); flags = closing-flags-of (Past false f) c m.coordinator.transactions; fits = begun-fits (Some (name_from k)) }
-    new-requests k false = record { table = left; seen = now-seen None; flags = closing-flags-of (Past false f) c m.coordinator.transactions; fits = begun-fits None }
+    new-requests k true = record { table = both-votings (Past false f) ys _ left (tt, tt); seen = now-seen (Some (name_from k)); flags = closes-flags-of (Past false f) (client-closes c m.coordinator.transactions); fits = begun-fits (Some (name_from k)) }
+    new-requests k false = record { table = left; seen = now-seen None; flags = closes-flags-of (Past false f) (client-closes c m.coordinator.transactions); fits = begun-fits None }
 
     again-requests : (k : Tickets) (o : Option Transaction) → Is (begin_again m.coordinator k c q o)
     again-requests k (Some y) = record { table = votings; seen = old-seen _; flags = tt; fits = begun-fits (Some y.tid) }

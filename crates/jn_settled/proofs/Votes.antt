@@ -8,7 +8,7 @@ use Rattle.jn_base.specs.declared.names.Tickets.{Tickets}
 use Rattle.jn_base.specs.declared.names.Cause.{Cause}
 use Rattle.jn_base.specs.declared.op.Op.{Op}
 use Rattle.jn_base.specs.declared.op.Answer.{Answer}
-use Rattle.jn_base.specs.Names.{tid_eq, client_eq}
+use Rattle.jn_base.specs.Names.{tid_eq}
 use Rattle.jn_base.proofs.Tells.{tid_tells}
 use Rattle.jn_order.specs.Files.{change, answer_to}
 use Rattle.jn_records.specs.NetLists.{list_change}
@@ -30,7 +30,8 @@ use Rattle.jn_rows.specs.Stable.{StableState, FlagState, Change, AddReady, MarkG
 use Rattle.jn_rows.specs.Outcomes.{RowOutcome, Sent}
 use Rattle.jn_rows.specs.Worker.{WorkerTable, WorkStorage, Wanted, work_at, work_of, open_row, wants_of, is_fit, refusal_of, granted_row, repeated, op_phase, op_row, conflict, commit_wants, vote_of, shortage, need_in, prepared_row, prepare_phase, prepare_row, commit_phase, commit_row as work_commit_row, drop_phase, drop_row, worker_row, going_work, going_row, carried_row, intentions_of, worker_step, worker_again}
 use Rattle.jn_settling.proofs.CoordinatorFits.{found-name}
-use Rattle.jn_rows.specs.Coordinator.{CoordinatorTable, transaction_at, with_stage, without, all_in, is_work, besides, drops, commits, prepares, commit_row, abort_row, forget_row, thanked_changes, closed, after_closing, changes_of_closing, end_promised, end_stage, end_row, abort_stage, abort_request, told_stage, inquire_row, counted_vote, vote_stage, vote_row, done_stage, done_row, thanks_stage, thanks_row, with_work, coordinator_row, committed_to, aborted_to, told_again, coordinator_again, restored_transaction, restored_transactions}
+use Rattle.jn_protocol.proofs.Closes.{Closes, Empty, Stays, Goes, Waits, Forgets, outcomes-close}
+use Rattle.jn_rows.specs.Coordinator.{close_clients_row, CoordinatorTable, transaction_at, with_stage, without, all_in, is_work, besides, drops, commits, prepares, commit_row, abort_row, forget_row, end_promised, end_stage, end_row, abort_stage, abort_request, told_stage, inquire_row, counted_vote, vote_stage, vote_row, done_stage, done_row, thanks_stage, thanks_row, with_work, coordinator_row, committed_to, aborted_to, told_again, coordinator_again, restored_transaction, restored_transactions}
 
 -- ---- messages that speak of no request that begins or ends
 
@@ -242,38 +243,19 @@ pub both-votings : (P : Asker) (xs ys : List Transaction) → Votings P xs → V
 both-votings P [] ys h k = k
 both-votings P (x ∷ xs) ys h k = (h.0, both-votings P xs ys h.1 k)
 
-pub closing-votings : (P : Asker) (c : ClientNo) (xs : List Transaction) → Votings P xs → Votings P (after_closing c xs)
-closing-votings P c [] h = tt
-closing-votings P c (x ∷ xs) h = by (client_eq x.client c) (closing-votings P c xs h.1)
-  where
-    one : (s : Stage) → Votings P (closed s x)
-    one Open = tt
-    one (Voting b) = tt
-    one (Aborted cause) = tt
-    one (Committed d) = on (all_in d.works d.done)
-      where
-        on : (b : Bool) → Votings P (if b then [] else record x { stage = Committed (record d { thanked = true }) } ∷ [])
-        on true = tt
-        on false = (tt, tt)
+pub closes-votings : (P : Asker) {Q : Transaction → Type 0} {xs ys : List Transaction} {cs : List Change} → Closes Q xs ys cs → Votings P xs → Votings P ys
+closes-votings P Empty h = tt
+closes-votings P (Stays x c) h = (h.0, closes-votings P c h.1)
+closes-votings P (Goes x p e c) h = closes-votings P c h.1
+closes-votings P (Waits x d p e c) h = (tt, closes-votings P c h.1)
+closes-votings P (Forgets x d p e g c) h = closes-votings P c h.1
 
-    by : (b : Bool) → Votings P (after_closing c xs) → Votings P (if b then closed x.stage x ++ after_closing c xs else x ∷ after_closing c xs)
-    by true again = both-votings P (closed x.stage x) (after_closing c xs) (one x.stage) again
-    by false again = (h.0, again)
-
-pub closing-flags-of : (P : Asker) (c : ClientNo) (xs : List Transaction) → FlagsOf P (changes_of_closing c xs)
-closing-flags-of P c [] = tt
-closing-flags-of P c (x ∷ xs) = by (client_eq x.client c) x.stage (closing-flags-of P c xs)
-  where
-    one : (b : Bool) → FlagsOf P (changes_of_closing c xs) → FlagsOf P ((if b then DropFlag x.tid ∷ [] else []) ++ changes_of_closing c xs)
-    one true h = (tt, h)
-    one false h = h
-
-    by : (b : Bool) (s : Stage) → FlagsOf P (changes_of_closing c xs) → FlagsOf P (if b then thanked_changes s x ++ changes_of_closing c xs else changes_of_closing c xs)
-    by false s h = h
-    by true Open h = h
-    by true (Voting b) h = h
-    by true (Aborted cause) h = h
-    by true (Committed d) h = one (all_in d.works d.done) h
+pub closes-flags-of : (P : Asker) {Q : Transaction → Type 0} {xs ys : List Transaction} {cs : List Change} → Closes Q xs ys cs → FlagsOf P cs
+closes-flags-of P Empty = tt
+closes-flags-of P (Stays x c) = closes-flags-of P c
+closes-flags-of P (Goes x p e c) = closes-flags-of P c
+closes-flags-of P (Waits x d p e c) = closes-flags-of P c
+closes-flags-of P (Forgets x d p e g c) = (tt, closes-flags-of P c)
 
 -- ---- a coordinator's rows
 
@@ -303,6 +285,9 @@ module _ (P : Asker) (t : CoordinatorTable) (k : Tickets) (h : Votings P t.trans
 
   forget-votes : (T : Tid) (d : Commitment) → RowVotes P t (forget_row t k T d)
   forget-votes T d = either (d.thanked && all_in d.works d.done) _ _ (record { table = without-votings P T t.transactions h; seen = refl; flags = (tt, tt); plain = refl }) (staged T (Committed d) [] (λ z e. tt) refl)
+
+  pub close-votes : RowVotes P t (close_clients_row t k)
+  close-votes = record { table = closes-votings P (outcomes-close t.transactions) h; seen = refl; flags = closes-flags-of P (outcomes-close t.transactions); plain = refl }
 
   told-votes : (T : Tid) (W : WorkId) (s : Stage) → RowVotes P t (told_stage t k T W s)
   told-votes T W (Committed d) = either (is_work W d.works && not (is_work W d.done)) _ _ (still _ refl refl refl) (still _ refl refl refl)

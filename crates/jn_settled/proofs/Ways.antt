@@ -17,7 +17,7 @@ use Rattle.jn_rows.specs.Outcomes.{RowOutcome, Sent}
 use Rattle.jn_rows.specs.Client.{ClientTable, take_row, again_row}
 use Rattle.jn_protocol.specs.World.{World, Memory, at_client}
 use Rattle.jn_protocol.specs.Servers.{Room, server_row, server_step}
-use Rattle.jn_protocol.specs.Steps.{Step, NextEvent, Tell, Again, Deliver, Work, Nudge, Timeout, StopDelivery, StopWork, Crash, Narrow, StopRestart, Restart, IsStep, after, ends, at_memory, handed, work, works, nudge, timeout, crash, narrow, stop_restart, restart, took, sent_now}
+use Rattle.jn_protocol.specs.Steps.{Step, NextEvent, Tell, Again, Deliver, Work, Nudge, Timeout, StopDelivery, StopWork, Crash, Narrow, StopRestart, Restart, Dismiss, CloseClients, IsStep, after, ends, at_memory, handed, work, works, nudge, timeout, crash, narrow, stop_restart, restart, close_clients, took, sent_now}
 use Rattle.jn_settling.specs.Course.{Course, numbered, still_waiting, without_number, go, go_on}
 use Rattle.jn_settling.specs.Settle.{Chance, servers_from, first_busy, handing, working, next_step, onward, until_rest, ask_again}
 use Rattle.jn_settling.proofs.Burdens.{are_below, get-more, get-next}
@@ -100,6 +100,7 @@ abbrev pub is_quiet : Step → Bool
 is_quiet (Tell c command) = false
 is_quiet (Deliver k room) = false
 is_quiet (StopDelivery k room made) = false
+is_quiet Dismiss = false
 is_quiet step = true
 
 work-clients : (s : ServerNo) (room : Room) (stop : Option (Pick → ℕ)) (o : Option Memory) (w : World) → (work s room stop o w).clients ≡ w.clients
@@ -114,6 +115,12 @@ pub quiet-clients : (step : Step) (w : World) → is_quiet step ≡ true → (af
 quiet-clients (Tell c command) w q = absurd (true≢false (sym q))
 quiet-clients (Deliver k room) w q = absurd (true≢false (sym q))
 quiet-clients (StopDelivery k room made) w q = absurd (true≢false (sym q))
+quiet-clients Dismiss w q = absurd (true≢false (sym q))
+quiet-clients (CloseClients s) w q = by (w.memory s)
+  where
+    by : (o : Option Memory) → (close_clients s o w).clients ≡ w.clients
+    by None = refl
+    by (Some m) = refl
 quiet-clients NextEvent w q = refl
 quiet-clients (Again c) w q = refl
 quiet-clients (Work s room) w q = work-clients s room None (w.memory s) w

@@ -1,5 +1,5 @@
 -- What a coordinator's row sends weighs less than the message, and its table stays small.
-use Rattle.std.proofs.Common.{◌≡◌, ◌≤◌, ℕ, suc, ◌+◌, ◌*◌, Bool, true, false, List, [], ◌∷◌, ◌++◌, length, length-append, Option, Some, None, true≢false, refl, sym, subst, arith}
+use Rattle.std.proofs.Common.{◌≡◌, ◌≤◌, ℕ, ◌+◌, ◌*◌, Bool, true, false, List, [], ◌∷◌, ◌++◌, length, length-append, Option, Some, None, true≢false, refl, sym, subst, arith}
 use Rattle.std.specs.Prelude.{◌&&◌, not, if◌then◌else◌, nat_lt, nat_eq, is_some}
 use Rattle.std.proofs.lemmas.Bool.Decides.{nat_tests}
 use Rattle.jn_base.specs.declared.names.ClientNo.{ClientNo}
@@ -8,7 +8,7 @@ use Rattle.jn_base.specs.declared.names.WorkId.{WorkId}
 use Rattle.jn_base.specs.declared.names.Tickets.{Tickets}
 use Rattle.jn_base.specs.declared.names.Cause.{Cause}
 use Rattle.jn_base.specs.declared.names.Party.TheVariants.{Client}
-use Rattle.jn_base.specs.Names.{tid_eq, client_eq}
+use Rattle.jn_base.specs.Names.{tid_eq}
 use Rattle.jn_base.proofs.Tells.{tid_tells}
 use Rattle.jn_msgs.specs.declared.message.Message.{Message}
 use Rattle.jn_msgs.specs.declared.message.Message.TheVariants as messages
@@ -22,7 +22,8 @@ use Rattle.jn_rows.specs.declared.coordinator.Voting.{Voting as Ballot}
 use Rattle.jn_rows.specs.declared.coordinator.Committed.{Committed as Commitment}
 use Rattle.jn_rows.specs.Stable.{StableState, Change, AddFlag, DropFlag, made_by, made_all}
 use Rattle.jn_rows.specs.Outcomes.{RowOutcome, Sent}
-use Rattle.jn_rows.specs.Coordinator.{CoordinatorTable, transaction_at, with_stage, without, all_in, is_work, besides, drops, commits, prepares, commit_row, abort_row, forget_row, thanked_changes, closed, after_closing, changes_of_closing, begin_new, begin_again, begun_by, begin_row, seen_now, name_from, end_promised, end_stage, end_row, abort_stage, abort_request, told_stage, inquire_row, counted_vote, vote_stage, vote_row, done_stage, done_row, thanks_stage, thanks_row, with_work, coordinator_row, committed_to, aborted_to}
+use Rattle.jn_rows.specs.Coordinator.{CoordinatorTable, transaction_at, with_stage, without, all_in, is_work, besides, drops, commits, prepares, commit_row, abort_row, forget_row, after_closing, changes_of_closing, begin_new, begin_again, begun_by, begin_row, seen_now, name_from, end_promised, end_stage, end_row, abort_stage, abort_request, told_stage, inquire_row, counted_vote, vote_stage, vote_row, done_stage, done_row, thanks_stage, thanks_row, with_work, coordinator_row, close_clients_row, committed_to, aborted_to}
+use Rattle.jn_protocol.proofs.Closes.{Closes, Empty, Stays, Goes, Waits, Forgets, client-closes, outcomes-close}
 use Rattle.jn_settling.specs.Weights.{weight, weigh_all}
 use Rattle.jn_settling.specs.Sizes.{is_few, is_small, is_small_stage, are_small_stages, is_committed, committed_at, AreFlagsOf}
 
@@ -121,97 +122,43 @@ pub record CoordinatorFits (n : ℕ) (x : StableState) (t : CoordinatorTable) (w
   pub fits : flags_fit n t.transactions row.changes ≡ true
   pub sent : weigh_all row.messages + 1 ≤ weight_of
 
--- ---- the transactions of a client are closed
+-- ---- transactions are closed
 
-dropped-only : (c : ClientNo) (xs : List Transaction) (x : StableState) (T : Tid) → is_some ((made_all (changes_of_closing c xs) x).flags T) ≡ true → is_some (x.flags T) ≡ true
-dropped-only c [] x T h = h
-dropped-only c (y ∷ ys) x T h = by (client_eq y.client c) y.stage h (dropped-only c ys)
-  where
-    one : (b : Bool) → is_some ((made_all ((if b then DropFlag y.tid ∷ [] else []) ++ changes_of_closing c ys) x).flags T) ≡ true
-        → ((x : StableState) (T : Tid) → is_some ((made_all (changes_of_closing c ys) x).flags T) ≡ true → is_some (x.flags T) ≡ true) → is_some (x.flags T) ≡ true
-    one true h again = let old = again (made_by (DropFlag y.tid) x) T h in grind (arith, old)
-    one false h again = again x T h
-
-    by : (b : Bool) (s : Stage) → is_some ((made_all (if b then thanked_changes s y ++ changes_of_closing c ys else changes_of_closing c ys) x).flags T) ≡ true
-        → ((x : StableState) (T : Tid) → is_some ((made_all (changes_of_closing c ys) x).flags T) ≡ true → is_some (x.flags T) ≡ true) → is_some (x.flags T) ≡ true
-    by false s h again = again x T h
-    by true Open h again = again x T h
-    by true (Voting b) h again = again x T h
-    by true (Aborted cause) h again = again x T h
-    by true (Committed d) h again = one (all_in d.works d.done) h again
+dropped-only : {P : Transaction → Type 0} {xs ys : List Transaction} {cs : List Change} → Closes P xs ys cs → (x : StableState) (T : Tid) → is_some ((made_all cs x).flags T) ≡ true → is_some (x.flags T) ≡ true
+dropped-only Empty x T h = h
+dropped-only (Stays y c) x T h = dropped-only c x T h
+dropped-only (Goes y p e c) x T h = dropped-only c x T h
+dropped-only (Waits y d p e c) x T h = dropped-only c x T h
+dropped-only (Forgets y d p e g c) x T h = let old = dropped-only c (made_by (DropFlag y.tid) x) T h in grind (arith, old)
 
 -- a flag that stays is of a transaction that stays
-abbrev Closes : ClientNo → List Transaction → Type 0
-Closes c ys = (x : StableState) (T : Tid) → is_some ((made_all (changes_of_closing c ys) x).flags T) ≡ true → committed_at T ys ≡ true → committed_at T (after_closing c ys) ≡ true
+closed-flags : {P : Transaction → Type 0} {xs ys : List Transaction} {cs : List Change} → Closes P xs ys cs → (x : StableState) (T : Tid) → is_some ((made_all cs x).flags T) ≡ true → committed_at T xs ≡ true → committed_at T ys ≡ true
+closed-flags Empty x T h k = k
+closed-flags (Stays y c) x T h k = let on = closed-flags c x T h in grind (arith, k)
+closed-flags (Goes y p e c) x T h k = let on = closed-flags c x T h in grind (arith, e, k)
+closed-flags (Waits y d p e c) x T h k = let on = closed-flags c x T h in grind (arith, k)
+closed-flags (Forgets y d p e g c) x T h k = let on = closed-flags c (made_by (DropFlag y.tid) x) T h in let old = dropped-only c (made_by (DropFlag y.tid) x) T h in grind (arith, k)
 
-closing-flags : (c : ClientNo) (xs : List Transaction) → Closes c xs
-closing-flags c [] x T h k = k
-closing-flags c (y ∷ ys) x T h k = by (client_eq y.client c) y.stage h k (closing-flags c ys)
-  where
-    undecided : is_some ((made_all (changes_of_closing c ys) x).flags T) ≡ true → (if tid_eq y.tid T then false else committed_at T ys) ≡ true → Closes c ys → committed_at T (after_closing c ys) ≡ true
-    undecided h k again = let on = again x T h in grind (arith, k)
+closed-few : {P : Transaction → Type 0} {xs ys : List Transaction} {cs : List Change} → Closes P xs ys cs → length ys ≤ length xs
+closed-few Empty = omega arith
+closed-few (Stays y c) = let h = closed-few c in omega (arith, h)
+closed-few (Goes y p e c) = let h = closed-few c in omega (arith, h)
+closed-few (Waits y d p e c) = let h = closed-few c in omega (arith, h)
+closed-few (Forgets y d p e g c) = let h = closed-few c in omega (arith, h)
 
-    one : (d : Commitment) (b : Bool) → is_some ((made_all ((if b then DropFlag y.tid ∷ [] else []) ++ changes_of_closing c ys) x).flags T) ≡ true
-        → (if tid_eq y.tid T then true else committed_at T ys) ≡ true → Closes c ys
-        → committed_at T ((if b then [] else record y { stage = Committed (record d { thanked = true }) } ∷ []) ++ after_closing c ys) ≡ true
-    one d true h k again = let on = again (made_by (DropFlag y.tid) x) T h in let old = dropped-only c ys (made_by (DropFlag y.tid) x) T h in grind (arith, k)
-    one d false h k again = let on = again x T h in grind (arith, k)
+closed-small : (n : ℕ) {P : Transaction → Type 0} {xs ys : List Transaction} {cs : List Change} → Closes P xs ys cs → are_small_stages n xs ≡ true → are_small_stages n ys ≡ true
+closed-small n Empty h = h
+closed-small n (Stays y c) h = let again = closed-small n c in grind (arith, h)
+closed-small n (Goes y p e c) h = closed-small n c (grind (arith, h))
+closed-small n (Waits {xs = xs} y d p e c) h = let again = closed-small n c in let k = subst (λ (s : Stage). (is_small_stage n s && are_small_stages n xs) ≡ true) e h in grind (arith, k)
+closed-small n (Forgets y d p e g c) h = closed-small n c (grind (arith, h))
 
-    by : (b : Bool) (s : Stage) → is_some ((made_all (if b then thanked_changes s y ++ changes_of_closing c ys else changes_of_closing c ys) x).flags T) ≡ true
-        → (if tid_eq y.tid T then is_committed s else committed_at T ys) ≡ true → Closes c ys
-        → committed_at T (if b then closed s y ++ after_closing c ys else record y { stage = s } ∷ after_closing c ys) ≡ true
-    by false s h k again = let on = again x T h in grind (arith, k)
-    by true Open h k again = undecided h k again
-    by true (Voting b) h k again = undecided h k again
-    by true (Aborted cause) h k again = undecided h k again
-    by true (Committed d) h k again = one d (all_in d.works d.done) h k again
-
-closing-few : (c : ClientNo) (xs : List Transaction) → length (after_closing c xs) ≤ length xs
-closing-few c [] = omega arith
-closing-few c (y ∷ ys) = by (client_eq y.client c) y.stage (closing-few c ys)
-  where
-    one : (d : Commitment) (b : Bool) → length (after_closing c ys) ≤ length ys → length ((if b then [] else record y { stage = Committed (record d { thanked = true }) } ∷ []) ++ after_closing c ys) ≤ suc (length ys)
-    one d true h = omega (arith, h)
-    one d false h = omega (arith, h)
-
-    by : (b : Bool) (s : Stage) → length (after_closing c ys) ≤ length ys → length (if b then closed s y ++ after_closing c ys else y ∷ after_closing c ys) ≤ suc (length ys)
-    by false s h = omega (arith, h)
-    by true Open h = omega (arith, h)
-    by true (Voting b) h = omega (arith, h)
-    by true (Aborted cause) h = omega (arith, h)
-    by true (Committed d) h = one d (all_in d.works d.done) h
-
-closing-small : (n : ℕ) (c : ClientNo) (xs : List Transaction) → are_small_stages n xs ≡ true → are_small_stages n (after_closing c xs) ≡ true
-closing-small n c [] h = h
-closing-small n c (y ∷ ys) h = by (client_eq y.client c) y.stage h (closing-small n c ys)
-  where
-    one : (d : Commitment) (b : Bool) → (is_few n d.works && are_small_stages n ys) ≡ true → (are_small_stages n ys ≡ true → are_small_stages n (after_closing c ys) ≡ true)
-        → are_small_stages n ((if b then [] else record y { stage = Committed (record d { thanked = true }) } ∷ []) ++ after_closing c ys) ≡ true
-    one d true h again = grind (arith, h)
-    one d false h again = grind (arith, h)
-
-    by : (b : Bool) (s : Stage) → (is_small_stage n s && are_small_stages n ys) ≡ true → (are_small_stages n ys ≡ true → are_small_stages n (after_closing c ys) ≡ true)
-        → are_small_stages n (if b then closed s y ++ after_closing c ys else record y { stage = s } ∷ after_closing c ys) ≡ true
-    by false s h again = grind (arith, h)
-    by true Open h again = again h
-    by true (Voting b) h again = again (grind (arith, h))
-    by true (Aborted cause) h again = again h
-    by true (Committed d) h again = one d (all_in d.works d.done) h again
-
-closing-fits : (n : ℕ) (zs : List Transaction) (c : ClientNo) (xs : List Transaction) → flags_fit n zs (changes_of_closing c xs) ≡ true
-closing-fits n zs c [] = refl
-closing-fits n zs c (y ∷ ys) = by (client_eq y.client c) y.stage (closing-fits n zs c ys)
-  where
-    one : (b : Bool) → flags_fit n zs (changes_of_closing c ys) ≡ true → flags_fit n zs ((if b then DropFlag y.tid ∷ [] else []) ++ changes_of_closing c ys) ≡ true
-    one true h = h
-    one false h = h
-
-    by : (b : Bool) (s : Stage) → flags_fit n zs (changes_of_closing c ys) ≡ true → flags_fit n zs (if b then thanked_changes s y ++ changes_of_closing c ys else changes_of_closing c ys) ≡ true
-    by false s h = h
-    by true Open h = h
-    by true (Voting b) h = h
-    by true (Aborted cause) h = h
-    by true (Committed d) h = one (all_in d.works d.done) h
+closed-fit : (n : ℕ) (zs : List Transaction) {P : Transaction → Type 0} {xs ys : List Transaction} {cs : List Change} → Closes P xs ys cs → flags_fit n zs cs ≡ true
+closed-fit n zs Empty = refl
+closed-fit n zs (Stays y c) = closed-fit n zs c
+closed-fit n zs (Goes y p e c) = closed-fit n zs c
+closed-fit n zs (Waits y d p e c) = closed-fit n zs c
+closed-fit n zs (Forgets y d p e g c) = closed-fit n zs c
 
 committed-more : (U : Tid) (xs : List Transaction) (y : Transaction) → committed_at U xs ≡ true → committed_at U (xs ++ y ∷ []) ≡ true
 committed-more U [] y h = absurd (true≢false (sym h))
@@ -285,7 +232,7 @@ module _ (n : ℕ) (at_most : n ≤ 8) (x : StableState) (t : CoordinatorTable) 
     new = record { tid = name_from k; client = c; begun = Some request; stage = Open }
 
     left : AreFlagsOf ys (made_all (changes_of_closing c t.transactions) x).flags
-    left U h = closing-flags c t.transactions x U h (flags U (dropped-only c t.transactions x U h))
+    left U h = closed-flags (client-closes c t.transactions) x U h (flags U (dropped-only (client-closes c t.transactions) x U h))
 
     begin-new-fits : CoordinatorFits n x t 2 (begin_new (record { transactions = ys; seen = seen_now t.seen c request }) (changes_of_closing c t.transactions) k c request)
     begin-new-fits = by (nat_lt (length ys) 64) refl
@@ -295,16 +242,16 @@ module _ (n : ℕ) (at_most : n ≤ 8) (x : StableState) (t : CoordinatorTable) 
             else record { table = record { transactions = ys; seen = seen_now t.seen c request }; changes = changes_of_closing c t.transactions; messages = (Client c, messages.Begun c request None) ∷ []; notes = []; tickets = k })
         by true e = record {
           few = let more = length-append ys (new ∷ []) in grind (arith, nat_tests, e);
-          small = small-more n ys new (closing-small n c t.transactions small) refl;
+          small = small-more n ys new (closed-small n (client-closes c t.transactions) small) refl;
           flags = λ U h. committed-more U ys new (left U h);
-          fits = closing-fits n t.transactions c t.transactions;
+          fits = closed-fit n t.transactions (client-closes c t.transactions);
           sent = omega arith;
         }
         by false e = record {
-          few = let l = closing-few c t.transactions in omega (arith, l, few);
-          small = closing-small n c t.transactions small;
+          few = let l = closed-few (client-closes c t.transactions) in omega (arith, l, few);
+          small = closed-small n (client-closes c t.transactions) small;
           flags = left;
-          fits = closing-fits n t.transactions c t.transactions;
+          fits = closed-fit n t.transactions (client-closes c t.transactions);
           sent = omega arith;
         }
 
@@ -315,6 +262,16 @@ module _ (n : ℕ) (at_most : n ≤ 8) (x : StableState) (t : CoordinatorTable) 
   begin-fits : (c : ClientNo) (request : ℕ) → CoordinatorFits n x t 2 (begin_row t k c request)
   begin-fits c request = either (nat_lt (t.seen c) request) _ _ (begin-new-fits c request)
       (either (nat_eq (t.seen c) request) _ _ (again-fits c request (begun_by c request t.transactions)) (still 2 _ refl refl (omega arith)))
+
+  -- every outcome is thanked
+  pub close-fits : CoordinatorFits n x t 1 (close_clients_row t k)
+  close-fits = let its = outcomes-close t.transactions in record {
+    few = let l = closed-few its in omega (arith, l, few);
+    small = closed-small n its small;
+    flags = λ U h. closed-flags its x U h (flags U (dropped-only its x U h));
+    fits = closed-fit n t.transactions its;
+    sent = omega arith;
+  }
 
   -- ---- End and Abort
 

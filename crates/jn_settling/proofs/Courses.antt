@@ -13,7 +13,7 @@ use Rattle.jn_rows.specs.Outcomes.{RowOutcome, Sent}
 use Rattle.jn_rows.specs.Client.{ClientTable, Commanded, Refuses, Sends, command_row, take_row, again_row}
 use Rattle.jn_protocol.specs.World.{World, Memory}
 use Rattle.jn_protocol.specs.Servers.{Room, server_step, server_row, server_again}
-use Rattle.jn_protocol.specs.Steps.{Step, NextEvent, Tell, Again, Deliver, Work, Nudge, Timeout, StopDelivery, StopWork, Crash, Narrow, StopRestart, Restart, IsStep, IsRun, after, run, ends, at_memory, handed, work, works, nudge, timeout, crash, narrow, stop_restart, restart, commanded, took, sent_now}
+use Rattle.jn_protocol.specs.Steps.{Step, NextEvent, Tell, Again, Deliver, Work, Nudge, Timeout, StopDelivery, StopWork, Crash, Narrow, StopRestart, Restart, Dismiss, CloseClients, IsStep, IsRun, after, run, ends, at_memory, handed, work, works, nudge, timeout, crash, narrow, stop_restart, restart, close_clients, commanded, took, sent_now}
 use Rattle.jn_protocol.specs.LockFacts.{LockFacts}
 use Rattle.jn_protocol.proofs.Steps.{locks-keep}
 use Rattle.jn_settling.specs.Course.{Course, numbered, without_number, still_waiting, go, go_on}
@@ -102,6 +102,12 @@ module _ (w : World) where
       by : (o : Option Memory) → Grows w (restart s pick Ws Ts o w)
       by None = same (restart s pick Ws Ts None w) refl
       by (Some m) = same w refl
+  grows Dismiss = same (after Dismiss w) refl
+  grows (CloseClients s) = by (w.memory s)
+    where
+      by : (o : Option Memory) → Grows w (close_clients s o w)
+      by None = same w refl
+      by (Some m) = record { new = []; sent = refl }
 
 -- ---- runs
 
@@ -146,6 +152,8 @@ below-still n (Crash s) ks h = h
 below-still n (Narrow s g) ks h = h
 below-still n (StopRestart s up) ks h = h
 below-still n (Restart s pick Ws Ts) ks h = h
+below-still n Dismiss ks h = h
+below-still n (CloseClients s) ks h = h
 
 module _ (n : ℕ) (at_most : n ≤ 8) (start : World) where
   -- what is new waits behind what is still waiting

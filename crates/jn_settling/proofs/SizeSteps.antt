@@ -17,7 +17,7 @@ use Rattle.jn_rows.specs.declared.coordinator.Transaction.{Transaction}
 use Rattle.jn_rows.specs.Stable.{StableState, Prepared, FlagState, Change, AddReady, MarkGoing, CarryOut, RemoveWork, AddFlag, DropFlag, made_by, made_all, at_tid}
 use Rattle.jn_rows.specs.Outcomes.{RowOutcome}
 use Rattle.jn_rows.specs.Worker.{WorkerTable, work_at, worker_row, worker_step, restored_work, restored_worker}
-use Rattle.jn_rows.specs.Coordinator.{CoordinatorTable, coordinator_row, restored_transaction, restored_transactions}
+use Rattle.jn_rows.specs.Coordinator.{CoordinatorTable, coordinator_row, close_clients_row, restored_transaction, restored_transactions}
 use Rattle.jn_lock_rows.proofs.Works.{not-before}
 use Rattle.jn_protocol.specs.World.{Memory}
 use Rattle.jn_protocol.specs.Servers.{Room, storage_of, of_worker, of_coordinator, of_step, server_row, server_step, is_for_worker, restored}
@@ -25,11 +25,11 @@ use Rattle.jn_protocol.specs.Steps.{AreNames, are_rising, tid_before}
 use Rattle.jn_protocol.specs.LockFacts.{TableFact}
 use Rattle.jn_protocol.proofs.Rows.{RowKeeps}
 use Rattle.jn_protocol.proofs.WorkerRows.{worker-keeps, step-keeps}
-use Rattle.jn_protocol.proofs.CoordinatorRows.{coordinator-aside, are_of_flags, flags-keep, flags-all}
+use Rattle.jn_protocol.proofs.CoordinatorRows.{coordinator-aside, close-aside, are_of_flags, flags-keep, flags-all}
 use Rattle.jn_settling.specs.Weights.{weight, weigh_all, goings, goings_at}
 use Rattle.jn_settling.specs.Sizes.{is_few, is_small, are_small_stages, committed_at, AreFlagsOf, AreSmallFlags, AreAtMost64, StoredSizes, TableSizes}
 use Rattle.jn_settling.proofs.WorkerFits.{keep_flags, worker-fits, step-fits}
-use Rattle.jn_settling.proofs.CoordinatorFits.{CoordinatorFits, named_at, committed-named, flags_fit, coordinator-fits}
+use Rattle.jn_settling.proofs.CoordinatorFits.{CoordinatorFits, named_at, committed-named, flags_fit, coordinator-fits, close-fits}
 
 -- ---- names in a list
 
@@ -206,6 +206,9 @@ module _ (n : ℕ) (at_most : n ≤ 8) (m : Memory) (x : StableState) (sizes : T
           of-worker (weight message) 1 (weight message) (worker_row m.worker (storage_of m x room) m.tickets message) (worker-keeps (storage_of m x room) m.tickets m.worker table message) fits.few fits.flags fits.sent fits.goes
       by false = of-coordinator (weight message) (coordinator_row m.coordinator room.free.records m.tickets message) (coordinator-aside m.coordinator room.free.records m.tickets message).flags
           (coordinator-fits n at_most x m.coordinator m.tickets sizes.transactions sizes.stages sizes.flags room.free.records message small)
+
+  pub close-sizes : RowSizes n m x 1 1 1 (of_coordinator m (close_clients_row m.coordinator m.tickets))
+  close-sizes = of-coordinator 1 (close_clients_row m.coordinator m.tickets) (close-aside m.coordinator m.tickets).flags (close-fits n at_most x m.coordinator m.tickets sizes.transactions sizes.stages sizes.flags)
 
   pub step-sizes : (room : Room) (row : RowOutcome Memory) → server_step m x room ≡ Some row → RowSizes n m x 2 0 0 row
   step-sizes room row h = by (worker_step m.worker (storage_of m x room) m.tickets) refl h

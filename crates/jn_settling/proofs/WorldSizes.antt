@@ -28,11 +28,11 @@ use Rattle.jn_rows.specs.Client.{ClientTable, Commanded, Refuses, Sends, command
 use Rattle.jn_machine.specs.Steps.{with_epoch}
 use Rattle.jn_protocol.specs.World.{World, Memory, opening, at_server, at_client}
 use Rattle.jn_protocol.specs.Servers.{Room, server_row, server_step, server_again, server_timeout, of_timeout}
-use Rattle.jn_protocol.specs.Steps.{Step, NextEvent, Tell, Again, Deliver, Work, Nudge, Timeout, StopDelivery, StopWork, Crash, Narrow, StopRestart, Restart, IsStep, after, ends, done, stopped, at_memory, handed, work, works, nudge, timeout, crash, narrow, stop_restart, restart, commanded, took, sent_now}
+use Rattle.jn_protocol.specs.Steps.{Step, NextEvent, Tell, Again, Deliver, Work, Nudge, Timeout, StopDelivery, StopWork, Crash, Narrow, StopRestart, Restart, Dismiss, CloseClients, IsStep, after, ends, done, stopped, at_memory, handed, work, works, nudge, timeout, crash, narrow, stop_restart, restart, close_clients, commanded, took, sent_now}
 use Rattle.jn_protocol.specs.LockFacts.{UpFact, ServerFact, LockFacts}
 use Rattle.jn_settling.specs.Weights.{weight, weigh_all}
 use Rattle.jn_settling.specs.Sizes.{IsSmall, ClientSizes, StoredSizes, TableSizes, ServerSizes, Sizes, is_small, sends_small}
-use Rattle.jn_settling.proofs.SizeSteps.{RowSizes, row-sizes, step-sizes, restart-sizes, up-stored}
+use Rattle.jn_settling.proofs.SizeSteps.{RowSizes, row-sizes, step-sizes, close-sizes, restart-sizes, up-stored}
 use Rattle.jn_settling.proofs.ClientFits.{CommandedSizes, command-sizes, sent_with, take-light, take-sizes}
 use Rattle.jn_settling.proofs.WorkerFits.{length-phase}
 
@@ -275,6 +275,10 @@ module _ (n : ℕ) (at_most : n ≤ 8) (w : World) (sizes : Sizes n w) (locks : 
   }
   restart-step s pick Ws Ts (Some m) e names = sizes
 
+  close-step : (s : ServerNo) (o : Option Memory) → w.memory s ≡ o → Sizes n (close_clients s o w)
+  close-step s None e = sizes
+  close-step s (Some m) e = done-sizes s m e 1 1 1 _ (omega arith) (close-sizes n at_most m (stable (w.found s)) (up-sizes s m e) (up-locks s m e).table) None
+
   -- ---- every step
 
   pub sizes-keep : (step : Step) → IsStep step w → Sizes n (after step w)
@@ -291,6 +295,8 @@ module _ (n : ℕ) (at_most : n ≤ 8) (w : World) (sizes : Sizes n w) (locks : 
   sizes-keep (Narrow s g) i = narrow-sizes s g (w.memory s) refl
   sizes-keep (StopRestart s up) i = stop-restart-sizes s up (w.memory s) refl
   sizes-keep (Restart s pick Ws Ts) i = restart-step s pick Ws Ts (w.memory s) refl i
+  sizes-keep Dismiss i = record { sent = sizes.sent; clients = λ c. record { client = record { works = refl; waits = refl }; servers_are = (sizes.clients c).servers_are; again = refl }; tables = sizes.tables }
+  sizes-keep (CloseClients s) i = close-step s (w.memory s) refl
 
 pub opening-sizes : (n : ℕ) (files : AllFiles) (epochs : ServerNo → ℕ) → Sizes n (opening n files epochs)
 opening-sizes n files epochs = record {

@@ -20,6 +20,7 @@ use Rattle.jn_rows.specs.Client.{ClientTable, is_begin, work_at as open_at}
 use Rattle.jn_machine.specs.World.{World as Machine}
 use Rattle.jn_machine.proofs.Updates.{some_is, none_some}
 use Rattle.jn_protocol.specs.World.{World, at_client}
+use Rattle.jn_protocol.specs.Steps.{dismiss}
 use Rattle.jn_runs.proofs.Openings.{openings, openings-more, Has, has-first}
 use Rattle.jn_runs.proofs.Facts.{opening, is_closing}
 use Rattle.jn_talk.specs.Told.{owner_in, is_begun}
@@ -227,3 +228,20 @@ module _ (events : List Event) (r : World) (v : Machine) (c : ClientNo) (more : 
       same : (d : ClientNo) → IsOther c d → at_client r.clients c (r.clients c) d ≡ r.clients d
       same d (inl p) = ap (λ (b : Bool). if b then r.clients c else r.clients d) p.0 ∙ ap r.clients p.1
       same d (inr p) = ap (λ (b : Bool). if b then r.clients c else r.clients d) p.0
+
+-- no client waits for anything or has a transaction any more
+pub dismiss-talks : (events : List Event) (r : World) (v : Machine) → Talk events r v → Talk events (dismiss r) v
+dismiss-talks events r v talk = record {
+  clients = λ c. record { asking = λ o e. absurd (none_some o e); owner = λ T e. absurd (none_some T e); running = λ T e. absurd (none_some T e) };
+  ended = talk.ended;
+  owners = λ T c e. inl refl;
+  drawn = map-all (IsDrawn r) (IsDrawn (dismiss r)) r.sent still talk.drawn;
+  known = λ W e. let k = talk.known W e in record { opened = k.opened; begun = k.begun; its = λ c f. absurd (none_some (v.owner W) f) };
+  unasked = talk.unasked;
+  started = λ T e. let k = talk.started T e in record { client = k.client; request = k.request; has = k.has; drawn = k.drawn; before = λ o f. absurd (none_some o f) };
+}
+  where
+    still : (x : Sent) → IsDrawn r x → IsDrawn (dismiss r) x
+    still (to, messages.Op d request W number op) h = (h.0, λ o e. absurd (none_some o e))
+    still (to, messages.Answer d request answer) h = (h.0, λ o e. absurd (none_some o e))
+    still (to, _) h = tt

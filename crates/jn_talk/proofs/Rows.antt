@@ -6,7 +6,6 @@ use Rattle.jn_base.specs.declared.names.Tid.{Tid}
 use Rattle.jn_base.specs.declared.names.WorkId.{WorkId}
 use Rattle.jn_base.specs.declared.names.Tickets.{Tickets}
 use Rattle.jn_base.specs.declared.names.Cause.{Cause}
-use Rattle.jn_base.specs.Names.{client_eq}
 use Rattle.jn_msgs.specs.declared.message.Message.{Message}
 use Rattle.jn_msgs.specs.declared.message.Message.TheVariants as messages
 use Rattle.jn_msgs.specs.declared.message.Vote.{Vote}
@@ -16,13 +15,14 @@ use Rattle.jn_rows.specs.declared.coordinator.Stage.{Stage}
 use Rattle.jn_rows.specs.declared.coordinator.Stage.TheVariants.{Open, Voting, Committed, Aborted}
 use Rattle.jn_rows.specs.declared.coordinator.Voting.{Voting as Ballot}
 use Rattle.jn_rows.specs.declared.coordinator.Committed.{Committed as Commitment}
-use Rattle.jn_rows.specs.Stable.{StableState, Change, DropFlag}
+use Rattle.jn_rows.specs.Stable.{StableState, Change}
 use Rattle.jn_rows.specs.Outcomes.{RowOutcome, Sent}
 use Rattle.jn_rows.specs.Worker.{WorkerTable, work_at, work_of}
-use Rattle.jn_rows.specs.Coordinator.{CoordinatorTable, all_in, is_work, besides, drops, commits, prepares, committed_to, commit_row, abort_row, forget_row, thanked_changes, changes_of_closing, after_closing, begin_again, begun_by, begin_row, end_promised, end_stage, end_row, abort_stage, abort_request, not_known, told_stage, inquire_row, noted, counted_vote, vote_stage, vote_row, done_stage, done_row, thanks_stage, thanks_row, told_again, coordinator_again, transaction_at, with_work}
+use Rattle.jn_rows.specs.Coordinator.{CoordinatorTable, all_in, is_work, besides, drops, commits, prepares, committed_to, commit_row, abort_row, forget_row, after_closing, close_clients_row, begin_again, begun_by, begin_row, end_promised, end_stage, end_row, abort_stage, abort_request, not_known, told_stage, inquire_row, noted, counted_vote, vote_stage, vote_row, done_stage, done_row, thanks_stage, thanks_row, told_again, coordinator_again, transaction_at, with_work}
 use Rattle.jn_protocol.specs.World.{Memory}
 use Rattle.jn_protocol.specs.Servers.{storage_of, Room, of_worker, of_coordinator, server_row, server_again}
 use Rattle.jn_protocol.specs.LockFacts.{TableFact}
+use Rattle.jn_protocol.proofs.Closes.{Closes, Empty, Stays as Remains, Goes, Waits, Forgets, client-closes, outcomes-close}
 use Rattle.jn_moves.proofs.Mirrored.{named_by}
 use Rattle.jn_moves.proofs.WorkerNotes.{worker-none}
 use Rattle.jn_talk.proofs.Acting.{TableGoes, table-same, Adds, AreSilent, silent-more, Stays, open-stays, prepare-stays, commit-stays, drop-stays, works-again}
@@ -72,23 +72,12 @@ module _ (t : WorkerTable) where
   then-one : (sent : List Sent) (last : Sent) → AreSilent sent → AreSilent (last ∷ []) → AreSilent (sent ++ last ∷ [])
   then-one sent last h l = silent-more sent (last ∷ []) h l
 
-  closing-adds : (c : ClientNo) (xs : List Transaction) → Adds t (changes_of_closing c xs)
-  closing-adds c [] = tt
-  closing-adds c (x ∷ xs) = by (client_eq x.client c) (closing-adds c xs)
-    where
-      if-done : (b : Bool) (rest : List Change) → Adds t rest → Adds t ((if b then DropFlag x.tid ∷ [] else []) ++ rest)
-      if-done true rest h = (tt, h)
-      if-done false rest h = h
-
-      of-stage : (stage : Stage) (rest : List Change) → Adds t rest → Adds t (thanked_changes stage x ++ rest)
-      of-stage (Committed d) rest h = if-done (all_in d.works d.done) rest h
-      of-stage Open rest h = h
-      of-stage (Voting b) rest h = h
-      of-stage (Aborted cause) rest h = h
-
-      by : (b : Bool) → Adds t (changes_of_closing c xs) → Adds t (if b then thanked_changes x.stage x ++ changes_of_closing c xs else changes_of_closing c xs)
-      by true h = of-stage x.stage (changes_of_closing c xs) h
-      by false h = h
+  closes-add : {P : Transaction → Type 0} {xs ys : List Transaction} {cs : List Change} → Closes P xs ys cs → Adds t cs
+  closes-add Empty = tt
+  closes-add (Remains x c) = closes-add c
+  closes-add (Goes x p e c) = closes-add c
+  closes-add (Waits x d p e c) = closes-add c
+  closes-add (Forgets x d p e g c) = (tt, closes-add c)
 
   module _ (k : Tickets) where
     commit-plain : (ct : CoordinatorTable) (x : Transaction) (request : ℕ) (works : List WorkId) → IsPlain (commit_row ct k x request works)
@@ -101,7 +90,7 @@ module _ (t : WorkerTable) where
     forget-plain ct T d = either (d.thanked && all_in d.works d.done) _ _ (tt, (tt, tt)) (tt, tt)
 
     begin-plain : (ct : CoordinatorTable) (c : ClientNo) (request : ℕ) → IsPlain (begin_row ct k c request)
-    begin-plain ct c request = either (nat_lt (ct.seen c) request) _ _ (either (nat_lt (length (after_closing c ct.transactions)) 64) _ _ ((tt, tt), closing-adds c ct.transactions) ((tt, tt), closing-adds c ct.transactions)) (either (nat_eq (ct.seen c) request) _ _ (again (begun_by c request ct.transactions)) (tt, tt))
+    begin-plain ct c request = either (nat_lt (ct.seen c) request) _ _ (either (nat_lt (length (after_closing c ct.transactions)) 64) _ _ ((tt, tt), closes-add (client-closes c ct.transactions)) ((tt, tt), closes-add (client-closes c ct.transactions))) (either (nat_eq (ct.seen c) request) _ _ (again (begun_by c request ct.transactions)) (tt, tt))
       where
         again : (o : Option Transaction) → IsPlain (begin_again ct k c request o)
         again (Some x) = ((tt, tt), tt)
@@ -174,6 +163,9 @@ module _ (t : WorkerTable) where
         by (Voting b) = (tt, tt)
         by (Aborted cause) = (tt, tt)
 
+    close-plain : (ct : CoordinatorTable) → IsPlain (close_clients_row ct k)
+    close-plain ct = (tt, closes-add (outcomes-close ct.transactions))
+
     thanks-plain : (ct : CoordinatorTable) (T : Tid) (o : Option Transaction) → IsPlain (thanks_row ct k T o)
     thanks-plain ct T None = (tt, tt)
     thanks-plain ct T (Some x) = by x.stage
@@ -221,3 +213,6 @@ row-stays m x room (messages.Begun c request T) fact other = of-plain m _ (tt, t
 row-stays m x room (messages.Opened c request T W) fact other = of-plain m _ (tt, tt)
 row-stays m x room (messages.Answer c request answer) fact other = of-plain m _ (tt, tt)
 row-stays m x room (messages.Outcome c T outcome) fact other = of-plain m _ (tt, tt)
+
+pub close-stays : (m : Memory) → ServerStays m (of_coordinator m (close_clients_row m.coordinator m.tickets))
+close-stays m = of-plain m _ (close-plain m.worker m.tickets m.coordinator)

@@ -34,7 +34,7 @@ use Rattle.jn_machine.proofs.MessageLemmas.{run_grows, says_still}
 use Rattle.jn_machine.proofs.History.{run_told, opening_told}
 use Rattle.jn_protocol.specs.World.{World, commits_in}
 use Rattle.jn_protocol.specs.Servers.{Room}
-use Rattle.jn_protocol.specs.Steps.{Step, NextEvent, Tell, Again, Deliver, Work, Nudge, Timeout, StopDelivery, StopWork, Crash, Narrow, StopRestart, Restart, IsStep, after, handed, at_memory, commanded, tell, again, took}
+use Rattle.jn_protocol.specs.Steps.{Step, NextEvent, Tell, Again, Deliver, Work, Nudge, Timeout, StopDelivery, StopWork, Crash, Narrow, StopRestart, Restart, Dismiss, CloseClients, IsStep, after, handed, at_memory, commanded, tell, again, took, dismiss}
 use Rattle.jn_protocol.specs.LockFacts.{LockFacts}
 use Rattle.jn_moves.specs.Mirrors.{Mirrors, MovesTo, IsAddressed, IsTrue, is_shown, active_in, next_in, known_in}
 use Rattle.jn_moves.proofs.Mirrored.{All-grows, client-still}
@@ -42,17 +42,17 @@ use Rattle.jn_moves.proofs.ClientRows.{Takes, takes}
 use Rattle.jn_moves.proofs.ClientMoves.{quiet-line, stays-with}
 use Rattle.jn_moves.proofs.StepMoves.{step-moves, holds-of}
 use Rattle.jn_runs.proofs.Facts.{Facts}
-use Rattle.jn_runs.proofs.ServerFacts.{still-facts, message-facts, work-facts, nudge-facts, timeout-facts, crash-facts, narrow-facts, raise-facts, restart-facts}
-use Rattle.jn_runs.proofs.ClientSteps.{tell-facts, again-facts, taken-facts}
+use Rattle.jn_runs.proofs.ServerFacts.{still-facts, message-facts, work-facts, nudge-facts, timeout-facts, crash-facts, narrow-facts, raise-facts, restart-facts, close-facts}
+use Rattle.jn_runs.proofs.ClientSteps.{tell-facts, again-facts, taken-facts, dismiss-facts}
 use Rattle.jn_serial.specs.Follows.{is_own}
 use Rattle.jn_machine.proofs.Updates.{not_both}
 use Rattle.jn_reported.proofs.Hearing.{Commands, commands}
 use Rattle.jn_talk.specs.Told.{ops_in}
 use Rattle.jn_talk.proofs.Facts.{IsDrawn, Talk}
 use Rattle.jn_talk.proofs.Quiet.{same-told, IsDumb, Moved, IsQuiet, told-same, of-quiet, serving-talks}
-use Rattle.jn_talk.proofs.ServerSteps.{nothing-quiet, at-memory-quiet, work-quiet, nudge-quiet, timeout-quiet, crash-quiet, narrow-quiet, raise-quiet, up-quiet}
+use Rattle.jn_talk.proofs.ServerSteps.{nothing-quiet, at-memory-quiet, work-quiet, nudge-quiet, timeout-quiet, crash-quiet, narrow-quiet, raise-quiet, up-quiet, close-quiet}
 use Rattle.jn_talk.proofs.OpSteps.{Serves, still-serves, moved-by, op-steps}
-use Rattle.jn_talk.proofs.Clients.{no-client-talks}
+use Rattle.jn_talk.proofs.Clients.{no-client-talks, dismiss-talks}
 use Rattle.jn_talk.proofs.ClientTells.{tell-talks, again-talks}
 use Rattle.jn_talk.proofs.ClientTakes.{take-talks}
 use Rattle.jn_talk.proofs.Ends.{parts_of, end-may, end-mirrors, end-facts, end-talks}
@@ -219,6 +219,9 @@ module _ (events : List Event) (files : AllFiles) (epochs : ServerNo → ℕ) (b
     again-same : (c : ClientNo) → SameServers r (again c r)
     again-same c = record { memory = refl; found = refl; commits = refl }
 
+    dismiss-same : SameServers r (dismiss r)
+    dismiss-same = record { memory = refl; found = refl; commits = refl }
+
     moves-of : (step : Step) → IsStep step r → is_shown step ≡ true → MovesTo (after step r) w
     moves-of step i shown = step-moves files epochs before r may mirrors locks step i shown
 
@@ -240,3 +243,5 @@ module _ (events : List Event) (files : AllFiles) (epochs : ServerNo → ℕ) (b
     goes-on (Narrow s f) i e = quiet-on _ (moves-of (Narrow s f) i refl) (narrow-quiet r locks s f (r.memory s) refl) (λ v ended g. narrow-facts r w v mirrors facts inv ended g s f (r.memory s))
     goes-on (StopRestart s raised) i e = quiet-on _ (moves-of (StopRestart s raised) i refl) (raise-quiet r locks s raised (r.memory s) refl) (λ v ended g. raise-facts r w v mirrors facts inv ended g s raised (r.memory s))
     goes-on (Restart s pick Ws Ts) i e = quiet-on _ (moves-of (Restart s pick Ws Ts) i refl) (up-quiet r locks s pick Ws Ts (r.memory s) refl) (λ v ended g. restart-facts r w v mirrors facts inv ended g s pick Ws Ts (r.memory s))
+    goes-on Dismiss i e = client-on _ (moves-of Dismiss i refl) dismiss-same (λ v ended g. dismiss-facts r w v mirrors facts ended g inv) (λ v h f i t. (dismiss-talks events r v t, λ T g. refl))
+    goes-on (CloseClients s) i e = quiet-on _ (moves-of (CloseClients s) i refl) (close-quiet r locks s (r.memory s) refl) (λ v ended g. close-facts r w v mirrors facts inv ended g s (r.memory s) refl)

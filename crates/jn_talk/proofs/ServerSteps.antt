@@ -21,14 +21,14 @@ use Rattle.jn_machine.specs.Steps.{with_epoch}
 use Rattle.jn_machine.proofs.Updates.{some_is, none_some}
 use Rattle.jn_protocol.specs.World.{World, Memory, at_server, commits_in, has_line}
 use Rattle.jn_protocol.specs.Servers.{storage_of, Room, of_worker, of_step, of_timeout, server_row, server_again, line_of, lines_of, named_now, restored}
-use Rattle.jn_protocol.specs.Steps.{done, stopped, ends, at_memory, works, work, nudge, timeout, crash, narrow, stop_restart, restart}
+use Rattle.jn_protocol.specs.Steps.{done, stopped, ends, at_memory, works, work, nudge, timeout, crash, narrow, stop_restart, restart, close_clients}
 use Rattle.jn_protocol.specs.LockFacts.{LockFacts, ServerFact, UpFact, IsSoundWork}
 use Rattle.jn_protocol.proofs.Restored.{restored-is}
 use Rattle.jn_moves.proofs.Mirrored.{named_by, commits-more, lines-commit}
 use Rattle.jn_moves.proofs.WorkerNotes.{step-none}
 use Rattle.jn_moves.proofs.ClientMoves.{quiet-line}
 use Rattle.jn_talk.proofs.Acting.{acting, acting_at, acting_of, its-work, DidTheSame, same-did, none-new, Adds, FoundBack, all-back, adds-take, step-stays, timeout-stays}
-use Rattle.jn_talk.proofs.Rows.{ServerStays, is_op, row-stays, of-worker, server-again}
+use Rattle.jn_talk.proofs.Rows.{ServerStays, is_op, row-stays, close-stays, of-worker, server-again}
 use Rattle.jn_talk.proofs.Quiet.{AreDumb, same-told, told-same, IsQuiet}
 
 -- ---- lines
@@ -322,3 +322,7 @@ module _ (r : World) (locks : LockFacts r) where
   pub up-quiet : (s : ServerNo) (pick : Pick) (Ws : List WorkId) (Ts : List Tid) (o : Option Memory) → r.memory s ≡ o → IsQuiet r (restart s pick Ws Ts o r)
   up-quiet s pick Ws Ts None is = restart-quiet s is pick Ws Ts
   up-quiet s pick Ws Ts (Some m) is = nothing-quiet
+
+  pub close-quiet : (s : ServerNo) (o : Option Memory) → r.memory s ≡ o → IsQuiet r (close_clients s o r)
+  close-quiet s None is = nothing-quiet
+  close-quiet s (Some m) is = done-quiet s m is None _ (close-stays m)
