@@ -28,13 +28,13 @@ use Rattle.jn_rows.specs.Stable.{Pick, is_going, stable}
 use Rattle.jn_rows.specs.Outcomes.{RowOutcome, Sent}
 use Rattle.jn_rows.specs.Client.{ClientTable, Commanded, Refuses, Sends, command_row, take_row}
 use Rattle.jn_rows.specs.Worker.{WorkerTable, WorkStorage, Wanted, Held, gives_way, work_at, work_of, without, new_work, name_from, open_row, conflict, commit_wants, wants_of, is_fit, past_limit, units_for, with_units, refusal_of, counted, done as performed-work, granted_row, performed, repeated, op_phase, op_row, vote_of, shortage, need_in, prepared_row, prepare_phase, prepare_row, commit_phase, commit_row, drop_phase, drop_row, worker_row, going_work, intentions_of, carried_row, going_row, worker_step, vulnerable, timed_out, timeout_row}
-use Rattle.jn_rows.specs.Coordinator.{coordinator_row}
+use Rattle.jn_rows.specs.Coordinator.{coordinator_row, close_clients_row}
 use Rattle.jn_lock_rows.specs.Matching.{are_rising, is_after}
 use Rattle.jn_lock_rows.proofs.Works.{at-more, at-less}
 use Rattle.jn_machine.proofs.Updates.{some_is, none_some, not_both}
 use Rattle.jn_protocol.specs.World.{World, Memory, at_server, commits_in}
 use Rattle.jn_protocol.specs.Servers.{Room, storage_of, is_for_worker, server_row, of_step, of_worker, of_coordinator, of_timeout, lines_of, restored}
-use Rattle.jn_protocol.specs.Steps.{Step, NextEvent, Tell, Again, Deliver, Work as Works, Nudge, Timeout, StopDelivery, StopWork, Crash, Narrow, StopRestart, Restart, after, commanded, took, ends, at_memory, handed, works, work, nudge, timeout, crash, narrow, stop_restart, restart}
+use Rattle.jn_protocol.specs.Steps.{Step, NextEvent, Tell, Again, Deliver, Work as Works, Nudge, Timeout, StopDelivery, StopWork, Crash, Narrow, StopRestart, Restart, Dismiss, CloseClients, after, commanded, took, ends, at_memory, handed, works, work, nudge, timeout, crash, narrow, stop_restart, restart, close_clients}
 use Rattle.jn_protocol.specs.LockFacts.{LockFacts, ServerFact, UpFact}
 use Rattle.jn_protocol.proofs.Granted.{Regrants, Origin, Mine, Kept, Broke, granted, phase_changed}
 use Rattle.jn_protocol.proofs.Restored.{restored-is}
@@ -327,6 +327,10 @@ module _ (r : World) (locks : LockFacts r) where
   restarts s pick Ws Ts None = one-none _ s (Some (restored s (r.found s pick) Ws Ts)) refl (λ W x e b. let f = restored-is (r.found s pick) Ws W x e in absurd (not_both (is_broken x.phase) b (ap (λ (z : Work). is_broken z.phase) f.1.1)))
   restarts s pick Ws Ts (Some m) = still _ refl
 
+  closes : (s : ServerNo) (o : Option Memory) → r.memory s ≡ o → Breaks r (close_clients s o r)
+  closes s None e = still r refl
+  closes s (Some m) e = coordinator-ends s m e None None (close_clients_row m.coordinator m.tickets)
+
   pub step-breaks : (step : Step) → Breaks r (after step r)
   step-breaks NextEvent = still _ refl
   step-breaks (Tell c command) = commands c (command_row (r.clients c) r.event command)
@@ -341,3 +345,5 @@ module _ (r : World) (locks : LockFacts r) where
   step-breaks (Narrow s g) = narrows s g (r.memory s)
   step-breaks (StopRestart s raised) = raises s raised (r.memory s)
   step-breaks (Restart s pick Ws Ts) = restarts s pick Ws Ts (r.memory s)
+  step-breaks Dismiss = still _ refl
+  step-breaks (CloseClients s) = closes s (r.memory s) refl

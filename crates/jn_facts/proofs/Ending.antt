@@ -17,6 +17,7 @@ use Rattle.jn_rows.specs.declared.client.Taken.{Taken}
 use Rattle.jn_rows.specs.declared.client.Taken.TheVariants as taken
 use Rattle.jn_rows.specs.Stable.{Pick, stable}
 use Rattle.jn_rows.specs.Outcomes.{RowOutcome, Sent}
+use Rattle.jn_rows.specs.Coordinator.{close_clients_row}
 use Rattle.jn_rows.specs.Client.{ClientTable, Commanded, Refuses, Sends, names_of, if_idle, if_transaction, sends, command_row, take_row, again_row}
 use Rattle.jn_machine.specs.World.{World as Machine}
 use Rattle.jn_machine.specs.Invariant.{Invariant}
@@ -27,8 +28,8 @@ use Rattle.jn_machine.proofs.MessageLemmas.{run_grows, says_still}
 use Rattle.jn_machine.proofs.Runs.{run_kept, opening_kept}
 use Rattle.jn_machine.proofs.Updates.{at_tid_cases}
 use Rattle.jn_protocol.specs.World.{World, Memory}
-use Rattle.jn_protocol.specs.Servers.{Room, server_row, server_step, server_again}
-use Rattle.jn_protocol.specs.Steps.{Step, NextEvent, Tell, Again, Deliver, Work as Works, Nudge, Timeout, StopDelivery, StopWork, Crash, Narrow, StopRestart, Restart, IsStep, after, commanded, sent_now, took, ends, at_memory, handed, works, work, nudge, timeout, crash, narrow, stop_restart, restart}
+use Rattle.jn_protocol.specs.Servers.{Room, server_row, server_step, server_again, of_coordinator}
+use Rattle.jn_protocol.specs.Steps.{Step, NextEvent, Tell, Again, Deliver, Work as Works, Nudge, Timeout, StopDelivery, StopWork, Crash, Narrow, StopRestart, Restart, Dismiss, CloseClients, IsStep, after, commanded, sent_now, took, ends, at_memory, handed, works, work, nudge, timeout, crash, narrow, stop_restart, restart, close_clients}
 use Rattle.jn_protocol.specs.LockFacts.{LockFacts}
 use Rattle.jn_moves.specs.Mirrors.{Mirrors, MovesTo, is_shown}
 use Rattle.jn_moves.proofs.ClientMoves.{quiet-line, stays-with}
@@ -99,6 +100,8 @@ module _ (r : World) where
   step-sends (Narrow s g) = by-memory (λ o. narrow s g o r) same (λ m. same) (r.memory s)
   step-sends (StopRestart s raised) = by-memory (λ o. stop_restart s raised o r) same (λ m. same) (r.memory s)
   step-sends (Restart s pick Ws Ts) = by-memory (λ o. restart s pick Ws Ts o r) same (λ m. same) (r.memory s)
+  step-sends Dismiss = same
+  step-sends (CloseClients s) = by-memory (λ o. close_clients s o r) same (λ m. row-ends s None None (of_coordinator m (close_clients_row m.coordinator m.tickets))) (r.memory s)
 
 get-more : (xs ys : List Sent) (k : ℕ) (x : Sent) → slice_get xs k ≡ Some x → slice_get (xs ++ ys) k ≡ Some x
 get-more [] ys k x e = absurd (none x e)

@@ -44,7 +44,7 @@ use Rattle.jn_machine.specs.World.{World as Machine}
 use Rattle.jn_machine.proofs.Updates.{not_both}
 use Rattle.jn_protocol.specs.World.{World, Memory, at_client}
 use Rattle.jn_protocol.specs.Servers.{Room, lines_of}
-use Rattle.jn_protocol.specs.Steps.{Step, NextEvent, Tell, Again, Deliver, Work as Works, Nudge, Timeout, StopDelivery, StopWork, Crash, Narrow, StopRestart, Restart, after, commanded, sent_now, took, at_memory, handed}
+use Rattle.jn_protocol.specs.Steps.{Step, NextEvent, Tell, Again, Deliver, Work as Works, Nudge, Timeout, StopDelivery, StopWork, Crash, Narrow, StopRestart, Restart, Dismiss, CloseClients, after, commanded, sent_now, took, at_memory, handed}
 use Rattle.jn_protocol.specs.LockFacts.{LockFacts}
 use Rattle.jn_moves.specs.Mirrors.{Mirrors, IsTrue, IsCurrent}
 use Rattle.jn_moves.proofs.ClientRows.{found-open, IsThanks, Takes, takes}
@@ -57,7 +57,7 @@ use Rattle.jn_talk.proofs.Tellings.{ops-more}
 use Rattle.jn_talk.proofs.Acting.{IsSilent}
 use Rattle.jn_talk.proofs.Facts.{is_op_of, op_sent, IsAsking, Talk}
 use Rattle.jn_talk.proofs.Quiet.{HasNoOp, HaveNoOp, silent-nos, op_sent-more, same-sent, same-told, IsQuiet}
-use Rattle.jn_talk.proofs.ServerSteps.{lines-dumb, lines-quiet, nothing-quiet, at-memory-quiet, work-quiet, nudge-quiet, timeout-quiet, crash-quiet, narrow-quiet, raise-quiet, up-quiet}
+use Rattle.jn_talk.proofs.ServerSteps.{lines-dumb, lines-quiet, nothing-quiet, at-memory-quiet, work-quiet, nudge-quiet, timeout-quiet, crash-quiet, narrow-quiet, raise-quiet, up-quiet, close-quiet}
 
 -- a client has the transaction, and goes on in it
 abbrev pub GoesOn : World → Tid → Type 0
@@ -374,3 +374,5 @@ module _ (events : List Event) (r : World) (w : Machine) (mirrors : Mirrors r w)
   step-tells (Narrow s f) = of-quiet _ (narrow-quiet r locks s f (r.memory s) refl)
   step-tells (StopRestart s raised) = of-quiet _ (raise-quiet r locks s raised (r.memory s) refl)
   step-tells (Restart s pick Ws Ts) = of-quiet _ (up-quiet r locks s pick Ws Ts (r.memory s) refl)
+  step-tells Dismiss = record { ops = λ T. inl refl; asked = λ W e. inl e }
+  step-tells (CloseClients s) = of-quiet _ (close-quiet r locks s (r.memory s) refl)
