@@ -12,6 +12,7 @@ use Rattle.jn_msgs.specs.declared.message.Message.TheVariants as messages
 use Rattle.jn_msgs.specs.declared.message.Outcome.TheVariants as outcomes
 use Rattle.jn_rows.specs.declared.worker.ActiveWork.{ActiveWork}
 use Rattle.jn_rows.specs.Stable.{StableState, Pick}
+use Rattle.jn_rows.specs.Coordinator.{is_work}
 use Rattle.jn_rows.specs.Outcomes.{Sent}
 use Rattle.jn_machine.specs.World.{World as Machine, Working, replay}
 use Rattle.jn_machine.specs.Held.{HasRead}
@@ -175,8 +176,16 @@ module _ (files : AllFiles) (epochs : ServerNo → ℕ) (r : World) (h : Standin
   pub was-ended : (T : Tid) → IsNamed r T → WasEnded r T
   was-ended T n = h.ended T (inv.core.named T (named T ∙ n)).ended
 
+  of-both : (T : Tid) (e f : WasEnded r T) (W : WorkId) → is_work W e.works ≡ true → is_work W f.works ≡ true
+  of-both T e f W k = (said (messages.End f.client f.request T f.works) f.sent).2.all W.server W (its-part T W (e, k))
+
+  same-works : (T : Tid) (e f : WasEnded r T) (W : WorkId) (a b : Bool) → is_work W e.works ≡ a → is_work W f.works ≡ b → a ≡ b
+  same-works T e f W true b k l = sym (of-both T e f W k) ∙ l
+  same-works T e f W false true k l = sym k ∙ of-both T f e W l
+  same-works T e f W false false k l = refl
+
   pub works-stay : DoWorksStay r
-  works-stay = record { ended = was-ended; stay = λ T W k. by T W k }
+  works-stay = record { ended = was-ended; same = λ T e f W. same-works T e f W (is_work W e.works) (is_work W f.works) refl refl; stay = λ T W k. by T W k }
     where
       by : (T : Tid) (W : WorkId) → IsFlagged r T W ⊎ (IsNamed r T × IsPart r T W) → IsPrepared r W ⊎ (IsNamed r T × IsCarriedOut r W)
       by T W (inl k) = flagged-stays T W k (w.named T) refl

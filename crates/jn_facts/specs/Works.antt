@@ -39,6 +39,8 @@ IsCarriedOut r W = (c : Pick) (p : Prepared) → (r.found W.server c).works W �
 pub record DoWorksStay (r : World) : Type 0 where
   -- a named transaction was ended
   pub ended : (T : Tid) → IsNamed r T → WasEnded r T
+  -- all ends of a transaction have the same works
+  pub same : (T : Tid) (e f : WasEnded r T) (W : WorkId) → is_work W e.works ≡ is_work W f.works
   -- Each work of a flag, and of a named transaction's end, is found prepared by every pick, or the transaction is named and the work
   -- is carried out.
   pub stay : (T : Tid) (W : WorkId) → IsFlagged r T W ⊎ (IsNamed r T × IsPart r T W) → IsPrepared r W ⊎ (IsNamed r T × IsCarriedOut r W)
