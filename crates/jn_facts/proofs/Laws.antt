@@ -12,6 +12,8 @@ use Rattle.jn_msgs.specs.declared.message.Message.TheVariants as messages
 use Rattle.jn_msgs.specs.declared.message.Outcome.TheVariants as outcomes
 use Rattle.jn_rows.specs.declared.worker.ActiveWork.{ActiveWork}
 use Rattle.jn_rows.specs.Stable.{StableState, Pick}
+use Rattle.jn_rows.specs.declared.client.OpenWork.{OpenWork}
+use Rattle.jn_rows.specs.Client.{work_at}
 use Rattle.jn_rows.specs.Coordinator.{is_work}
 use Rattle.jn_rows.specs.Outcomes.{Sent}
 use Rattle.jn_machine.specs.World.{World as Machine, Working, replay}
@@ -26,7 +28,8 @@ use Rattle.jn_machine.proofs.History.{run_told, opening_told, IsTold}
 use Rattle.jn_machine.proofs.Runs.{opening_kept}
 use Rattle.jn_protocol.specs.World.{World, Memory, has_line}
 use Rattle.jn_protocol.specs.LockFacts.{ServerFact, UpFact}
-use Rattle.jn_moves.specs.Mirrors.{IsTrue, active_in, working_in, working_of}
+use Rattle.jn_moves.proofs.ClientRows.{found-open}
+use Rattle.jn_moves.specs.Mirrors.{IsTrue, IsCurrent, active_in, working_in, working_of}
 use Rattle.jn_moves.proofs.StepMoves.{holds-of}
 use Rattle.jn_runs.proofs.Openings.{Opening, opening_in, openings, Has}
 use Rattle.jn_runs.proofs.Facts.{opening}
@@ -72,10 +75,18 @@ module _ (files : AllFiles) (epochs : ServerNo → ℕ) (r : World) (h : Standin
         (e ∙ (up-fact s m is).epoch ∙ ap (λ (x : StableState). x.epoch) (sym (h.mirrors.found s (λ n. false)))));
   }
 
+  one-client : (c d : ClientNo) (T : Tid) → (r.clients c).transaction ≡ Some T → (r.clients d).transaction ≡ Some T → c ≡ d
+  one-client c d T e f = let a = (h.facts.clients c).current T e in let b = (h.facts.clients d).current T f in ap (λ (o : Opening). o.client) (h.facts.unique (opening c a.request T) (opening d b.request T) a.has b.has refl)
+
+  its-work : (c : ClientNo) (T : Tid) (s : ServerNo) (v : OpenWork) → (r.clients c).transaction ≡ Some T → work_at s (r.clients c).works ≡ Some v → w.owner v.work ≡ T
+  its-work c T s v e k = (found-open w T s (r.clients c).works v ((subst (λ o. IsCurrent w o (r.clients c).works) e (h.mirrors.clients c).current).1) k).0.1
+
   pub made-once : AreMadeOnce r
   made-once = record {
     transactions = λ c d m n T a b. let e = h.facts.unique (opening c m T) (opening d n T) (has c m T a) (has d n T b) refl in (ap (λ (o : Opening). o.client) e, ap (λ (o : Opening). o.request) e);
     works = λ c d m n T U W a b. sym (said (messages.Opened c m T (Some W)) a).1 ∙ (said (messages.Opened d n U (Some W)) b).1;
+    clients = one-client;
+    openers = λ c d T U s q v x e f k l same. one-client c d T e (f ∙ ap (λ (Z : Tid). Some Z) (sym (its-work d U q x f l) ∙ ap w.owner (sym same) ∙ its-work c T s v e k));
     before = λ c n T s. made T.server T.epoch T.ticket (λ k. inv.names.tids T k (said (messages.Begun c n (Some T)) s));
     works_before = λ c n T W s. made W.server W.epoch W.ticket (λ k. inv.names.works W k (said (messages.Opened c n T (Some W)) s).0);
   }
