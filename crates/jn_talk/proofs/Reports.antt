@@ -183,9 +183,9 @@ module _ (events : List Event) (files : AllFiles) (epochs : ServerNo → ℕ) (e
     reached : Reached files epochs (world_of items r)
     event : (world_of items r).event ≡ r.event + length items
     stands : Stands events files epochs ended before (world_of items r)
-    new : List Text
-    lines : (world_of items r).lines ≡ r.lines ++ new
-    same : TellSame events (texts_of (lines_of items r)) new
+    pub new : List Text
+    pub lines : (world_of items r).lines ≡ r.lines ++ new
+    pub same : TellSame events (texts_of (lines_of items r)) new
 
   one-item : (item : Item) (items : List Item) (r : World) → Told (after NextEvent r) (after_item item r) (told_under item r) → ItemsTold items (after_item item r) → ItemsTold (item ∷ items) r
   one-item item items r h k = record {
