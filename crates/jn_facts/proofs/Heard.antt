@@ -29,7 +29,7 @@ use Rattle.jn_moves.proofs.Losing.{run-append, may-append}
 use Rattle.jn_moves.proofs.StepMoves.{opening-mirrors}
 use Rattle.jn_runs.proofs.Facts.{Facts}
 use Rattle.jn_runs.proofs.Runs.{opening-facts}
-use Rattle.jn_reported.specs.Reported.{Act, Does, Refuses as Refused, Tells as Faults, Item, events_of, steps_in, steps_of, after_item, IsUnder, AreUnder}
+use Rattle.jn_reported.specs.Reported.{Act, Does, Refuses as Refused, Tells as Faults, Shows, Item, events_of, steps_in, steps_of, after_item, IsUnder, AreUnder}
 use Rattle.jn_reported.proofs.Lists.{Each}
 use Rattle.jn_reported.proofs.Following.{IsQuietAct, under-quiet, run-split}
 use Rattle.jn_reported.proofs.Hearing.{IsQuiet, step-hears}
@@ -171,6 +171,7 @@ module _ (events : List Event) (files : AllFiles) (epochs : ServerNo → ℕ) wh
       record { told = (quiet-tells step r q.0, rest.told); event = rest.event ∙ (step-hears r _ h.facts h.talk step q.0).same_event; reached = rest.reached }
   quiet-under (Refused refusal ∷ acts) r h i q = quiet-under acts r h i q.1
   quiet-under (Faults s fault ∷ acts) r h i q = quiet-under acts r h i q.1
+  quiet-under (Shows s prints ∷ acts) r h i q = quiet-under acts r h i q.1
 
   event-under : (event : Event) (acts : List Act) (r : World) → Reached files epochs r → IsRun (steps_in acts) r → IsUnder event acts → event_at events r.event ≡ Some event → Under (steps_in acts) r
   event-under (kinds.Command c command) acts r h i under e = subst (λ l. Under (steps_in l) r) (sym under) record { told = (e, tt); event = same; reached = next-reached files epochs r (Tell c command) tt h }
@@ -181,7 +182,6 @@ module _ (events : List Event) (files : AllFiles) (epochs : ServerNo → ℕ) wh
           by : (row : Commanded) → (commanded c row r).event ≡ r.event
           by (Refuses refusal) = refl
           by (Sends t to message) = refl
-  event-under (kinds.Show s) acts r h i under e = absurd under
   event-under event acts r h i under e = quiet-under acts r h i (under-quiet event acts tt under)
 
   pub steps-told : (items : List Item) (r : World) (es later : List Event) → events ≡ es ++ (events_of items ++ later) → length es ≡ r.event → Reached files epochs r → IsRun (steps_of items) r → AreUnder items → AreTold events (steps_of items) r
