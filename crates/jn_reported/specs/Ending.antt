@@ -1,19 +1,21 @@
 -- The end of a run: the servers come up once more, the world settles, and each server's files are printed.
-use Rattle.std.specs.Prelude.{◌≡◌, ℕ, zero, suc, ◌+◌, Bool, true, false, List, [], ◌∷◌, ◌++◌, length, map}
+use Rattle.std.specs.Prelude.{◌≡◌, ◌≤◌, ℕ, zero, suc, ◌+◌, Bool, true, false, List, [], ◌∷◌, ◌++◌, length, map, None}
 use Rattle.std.specs.List.{list_all}
 use Rattle.jn_base.specs.declared.names.ServerNo.{ServerNo}
 use Rattle.jn_base.specs.declared.names.Tid.{Tid}
 use Rattle.jn_base.specs.declared.names.WorkId.{WorkId}
+use Rattle.jn_base.specs.declared.names.LockUnit.{LockUnit}
+use Rattle.jn_order.specs.Files.{AllFiles}
 use Rattle.jn_report.specs.declared.line.When.TheVariants.{End}
 use Rattle.jn_report.specs.declared.line.Text.{Text}
 use Rattle.jn_report.specs.declared.line.Text.TheVariants.{Commits}
 use Rattle.jn_report.specs.declared.line.Line.{Line}
 use Rattle.jn_serial.specs.Lines.{history_of}
 use Rattle.jn_rows.specs.Stable.{Pick}
-use Rattle.jn_protocol.specs.World.{World}
+use Rattle.jn_protocol.specs.World.{World, opening}
 use Rattle.jn_protocol.specs.Steps.{Step, Dismiss, Crash, Restart, CloseClients, Deliver, Work, Nudge, Again, after, run, IsRun}
 use Rattle.jn_reported.specs.Printing.{Printed, text_printed, IsPrinted}
-use Rattle.jn_reported.specs.Reported.{Does, Item, told_by, world_of, lines_of}
+use Rattle.jn_reported.specs.Reported.{Does, Item, told_by, world_of, lines_of, IsReported}
 
 -- what a restart finds, and the names of the works and flags in it
 pub record Comeback : Type 0 where
@@ -85,3 +87,17 @@ counted lines = lines ++ at_end (Commits (length (history_of lines)) ∷ [])
 -- the lines of a run with its end
 abbrev pub lines_to_end : ℕ → List Item → Ending → World → List Line
 lines_to_end servers items e w = counted (lines_of items w ++ at_end (told_by_steps (steps_at_end servers e) (world_of items w) ++ texts_from 0 e.prints))
+
+-- ---- a whole run
+
+-- from its opening to its end
+pub record IsWholeRun (servers : ℕ) (files : AllFiles) (epochs : ServerNo → ℕ) (items : List Item) (e : Ending) : Type 0 where
+  pub reported : IsReported items (opening servers files epochs)
+  pub ending : IsEnding servers e (world_of items (opening servers files epochs))
+
+abbrev pub all_lines : ℕ → AllFiles → (ServerNo → ℕ) → List Item → Ending → List Line
+all_lines servers files epochs items e = lines_to_end servers items e (opening servers files epochs)
+
+-- the files are of so many servers
+abbrev pub AreFilesOf : ℕ → AllFiles → Type 0
+AreFilesOf servers files = (s : ServerNo) (u : LockUnit) → servers ≤ s.0 → files s u ≡ None

@@ -1,5 +1,5 @@
 -- The end of a run prints what all commits leave.
-use Rattle.std.proofs.Common.{◌≡◌, ◌⊎◌, inl, inr, ℕ, zero, suc, ◌+◌, ◌≤◌, ◌<◌, Bool, true, false, List, [], ◌∷◌, ◌++◌, append-nil, append_assoc, length, Option, Some, None, refl, sym, ◌∙◌, ap, subst, arith}
+use Rattle.std.proofs.Common.{◌≡◌, ◌⊎◌, inl, inr, ℕ, suc, ◌+◌, ◌≤◌, ◌<◌, Bool, true, false, List, [], ◌∷◌, ◌++◌, append-nil, append_assoc, length, None, refl, sym, ◌∙◌, ap, subst, arith}
 use Rattle.std.specs.Prelude.{◌&&◌, map, nat_lt}
 use Rattle.std.proofs.lemmas.Bool.Decides.{nat_tests}
 use Rattle.std.specs.List.{list_all}
@@ -10,32 +10,31 @@ use Rattle.jn_base.specs.declared.names.LockUnit.TheVariants.{File, Block}
 use Rattle.jn_base.specs.Names.{server_eq, file_eq}
 use Rattle.jn_base.proofs.Tells.{server_tells}
 use Rattle.jn_order.specs.Files.{AllFiles}
-use Rattle.jn_schedule.specs.declared.Event.{Event}
-use Rattle.jn_report.specs.declared.line.When.{When}
-use Rattle.jn_report.specs.declared.line.When.TheVariants.{Event as AtEvent, End as AtEnd}
+use Rattle.jn_report.specs.declared.line.When.TheVariants.{End as AtEnd}
 use Rattle.jn_report.specs.declared.line.Text.{Text}
 use Rattle.jn_report.specs.declared.line.Text.TheVariants as says
 use Rattle.jn_report.specs.declared.line.Line.{Line}
 use Rattle.jn_serial.specs.Lines.{lines_at, says as says_it, history_of}
 use Rattle.jn_serial.specs.Order.{replay}
-use Rattle.jn_serial.specs.Shown.{IsAsIn, AllAsIn, prints_file, ShowsFiles}
+use Rattle.jn_serial.specs.Shown.{IsAsIn, AllAsIn, prints_file, is_locked, ShowsFiles, ShownSoFar, Shown}
 use Rattle.jn_serial.proofs.Orders.{lines_at-append}
 use Rattle.jn_machine.specs.Steps.{run as run_atoms, opening_world}
 use Rattle.jn_moves.proofs.Mirrored.{commits-more}
 use Rattle.jn_protocol.specs.World.{World, opening, commits_in}
-use Rattle.jn_protocol.specs.Steps.{Step, NextEvent, Tell, Dismiss, Crash, Restart, CloseClients, Deliver, Work, Nudge, Again, after, run, IsRun}
+use Rattle.jn_protocol.specs.Steps.{Step, NextEvent, Tell, Crash, CloseClients, after, run, IsRun}
 use Rattle.jn_reported.specs.Printing.{Printed, FileThere, PageStored, UnitLocked, text_printed, IsPrinted}
 use Rattle.jn_reported.specs.Reported.{Does, Item, events_of, steps_of, told_by, told_under, world_of, after_item, at_event, lines_of, IsReported}
-use Rattle.jn_reported.specs.Ending.{Comeback, Ending, servers_from, restarts_from, steps_at_end, world_at_end, settles, ArePrinted, IsEnding, told_by_steps, texts_from, at_end, counted, lines_to_end}
+use Rattle.jn_reported.specs.Ending.{Comeback, Ending, AreFilesOf, servers_from, restarts_from, steps_at_end, world_at_end, settles, ArePrinted, IsEnding, told_by_steps, texts_from, at_end, lines_to_end}
 use Rattle.jn_reported.proofs.Lists.{In, Each, in-first, in-second, in-either, each-in, each-append}
 use Rattle.jn_reported.proofs.Reached.{Reached, LineFact, next-reached, opening-reached}
 use Rattle.jn_reported.proofs.Naming.{adds}
 use Rattle.jn_talk.specs.Agreement.{AreAsTold}
 use Rattle.jn_talk.proofs.Tellings.{texts_of}
 use Rattle.jn_talk.proofs.Quiet.{AreDumb}
-use Rattle.jn_talk.proofs.Reports.{IsCalm, prints-dumb, texts-more, begin-reached, end-reached, end-ops, end-as-told}
+use Rattle.jn_talk.proofs.Reports.{IsCalm, prints-dumb, texts-more, last-reached, end-reached, end-ops, end-as-told, beginning-told}
 use Rattle.jn_shown.proofs.Within.{AllTell, Within, IsAt, run-within, items-tell, calm-tell, opening-within, ops-at, replay-same}
-use Rattle.jn_shown.proofs.Prints.{AreSame, stand, says-it, said-it, all-as, in-texts, from-texts, is-there, shows-files}
+use Rattle.jn_shown.proofs.Shows.{shown-with}
+use Rattle.jn_shown.proofs.Prints.{AreSame, says-it, said-it, all-as, in-texts, from-texts, is-there, shows-files}
 
 not-both : (b : Bool) → b ≡ true → b ≡ false → ⊥
 not-both b e f = grind arith
@@ -330,14 +329,14 @@ module _ (servers : ℕ) (files : AllFiles) (epochs : ServerNo → ℕ) (items :
       ∙ sym (at-end-more (told_then ++ printed) count) ∙ ap at_end (append_assoc told_then printed count)
 
   reached : Reached files epochs (world_at_end servers e w)
-  reached = end-reached servers files epochs items h steps k.steps calm (printed ++ count) silent.0 silent.1
+  reached = end-reached servers files epochs [] items h steps k.steps calm (printed ++ count) silent.0 silent.1
 
   as-told : AreAsTold files (events_of items) lines lines (world_at_end servers e w)
-  as-told = end-as-told servers files epochs items h steps k.steps calm (printed ++ count) silent.0 silent.1 lines same-texts
+  as-told = end-as-told servers files epochs [] items h steps k.steps calm (printed ++ count) silent.0 silent.1 lines same-texts
 
   of-steps : (y : Text) → In y told_then → IsOfStep y
   of-steps y j = told-of-step files epochs (world_at_end servers e w) reached y
-      (subst (λ l. In y l) (sym (lines-then files epochs steps w (begin-reached servers files epochs items h steps k.steps calm (printed ++ count) silent.0 silent.1) k.steps)) (in-second y w.lines told_then j))
+      (subst (λ l. In y l) (sym (lines-then files epochs steps w (last-reached servers files epochs [] items h steps k.steps calm (printed ++ count) silent.0 silent.1) k.steps)) (in-second y w.lines told_then j))
 
   pub end-shown : (s : ServerNo) → s.0 < servers → ShowsFiles (replay files (events_of items) lines (history_of lines)) s (lines_at AtEnd lines)
   end-shown s up = subst (λ l. ShowsFiles (replay files (events_of items) lines (history_of lines)) s l) (sym lines-then-end)
@@ -347,9 +346,9 @@ module _ (servers : ℕ) (files : AllFiles) (epochs : ServerNo → ℕ) (items :
   end-agrees = as-told
 
   -- a server that there isn't has no files
-  beyond : ((s : ServerNo) (u : LockUnit) → servers ≤ s.0 → files s u ≡ None) → (s : ServerNo) → servers ≤ s.0 → (u : LockUnit) → replay files (events_of items) lines (history_of lines) s u ≡ None
+  beyond : AreFilesOf servers files → (s : ServerNo) → servers ≤ s.0 → (u : LockUnit) → replay files (events_of items) lines (history_of lines) s u ≡ None
   beyond few s out u = ap (λ f. f u) (replay-same servers (events_of items) lines (history_of lines) files s out
-      (λ T. subst (λ l. Each (IsAt servers (events_of items)) l) (sym (end-ops servers files epochs items h steps k.steps calm (printed ++ count) silent.0 silent.1 lines same-texts T)) (ops-at servers (events_of items) T None (world_at_end servers e w).lines within.lines))) ∙ few s u out
+      (λ T. subst (λ l. Each (IsAt servers (events_of items)) l) (sym (end-ops servers files epochs [] items h steps k.steps calm (printed ++ count) silent.0 silent.1 lines same-texts T)) (ops-at servers (events_of items) T None (world_at_end servers e w).lines within.lines))) ∙ few s u out
     where
       then-tell : AllTell servers (events_of items) files epochs (steps_of items) start
       then-tell = items-tell servers (events_of items) files epochs items start [] [] (sym (append-nil (events_of items))) refl (opening-reached files epochs servers) h.steps h.under
@@ -358,10 +357,10 @@ module _ (servers : ℕ) (files : AllFiles) (epochs : ServerNo → ℕ) (items :
       before = run-within servers (events_of items) files epochs (steps_of items) start (opening-reached files epochs servers) h.steps then-tell (opening-within servers (events_of items) files epochs)
 
       within : Within servers (events_of items) (world_at_end servers e (world_of items start))
-      within = run-within servers (events_of items) files epochs (steps_at_end servers e) (world_of items start) (begin-reached servers files epochs items h steps k.steps calm (printed ++ count) silent.0 silent.1) k.steps
+      within = run-within servers (events_of items) files epochs (steps_at_end servers e) (world_of items start) (last-reached servers files epochs [] items h steps k.steps calm (printed ++ count) silent.0 silent.1) k.steps
           (calm-tell servers (events_of items) files epochs (steps_at_end servers e) (world_of items start) calm) before
 
-  pub end-all : ((s : ServerNo) (u : LockUnit) → servers ≤ s.0 → files s u ≡ None) → (s : ServerNo) → ShowsFiles (replay files (events_of items) lines (history_of lines)) s (lines_at AtEnd lines)
+  pub end-all : AreFilesOf servers files → (s : ServerNo) → ShowsFiles (replay files (events_of items) lines (history_of lines)) s (lines_at AtEnd lines)
   end-all few s = by (nat_lt s.0 servers) refl
     where
       below : nat_lt s.0 servers ≡ true → s.0 < servers
@@ -377,3 +376,12 @@ module _ (servers : ℕ) (files : AllFiles) (epochs : ServerNo → ℕ) (items :
         no_other_file = λ f z. beyond few s (not-below q) (File f);
         no_other_block = λ f p y z. beyond few s (not-below q) (Block f p);
       }
+
+  -- the shows before it, by all lines
+  pub so-far : ShownSoFar files (events_of items) (lines_to_end servers items e start)
+  so-far = shown-with files epochs servers items h lines (told_then ++ printed ++ count) (append_assoc (lines_of items start) (at_end (told_then ++ printed)) (at_end count) ∙ ap (λ l. lines_of items start ++ l) (sym (at-end-more (told_then ++ printed) count)))
+      (λ before later q. subst (λ l. (g : IsReported l start) (j : IsRun steps (world_of l start)) → texts_of lines ≡ texts_of (lines_of l start) ++ (told_by_steps steps (world_of l start) ++ (printed ++ count)) → AreAsTold files (events_of l) lines (lines_of before start) (world_of before start)) (sym q)
+      (λ g j x. beginning-told servers files epochs before later g steps j calm (printed ++ count) silent.0 silent.1 lines x) h k.steps same-texts)
+
+  pub end-whole : AreFilesOf servers files → says_it is_locked (lines_at AtEnd (lines_to_end servers items e start)) ≡ false → Shown files (events_of items) (lines_to_end servers items e start)
+  end-whole few free = record { so_far = so-far; at_end = record { all = end-all few; unlocked = free } }

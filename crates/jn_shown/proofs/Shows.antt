@@ -12,20 +12,18 @@ use Rattle.jn_schedule.specs.declared.Event.TheVariants.{Show}
 use Rattle.jn_report.specs.declared.line.When.TheVariants.{Event as AtEvent}
 use Rattle.jn_report.specs.declared.line.Text.{Text}
 use Rattle.jn_report.specs.declared.line.Line.{Line}
-use Rattle.jn_rows.specs.Stable.{stable}
-use Rattle.jn_rows.specs.Worker.{commit_holder}
-use Rattle.jn_machine.specs.Held.{file_unit}
 use Rattle.jn_serial.specs.Lines.{lines_at, lines_before, says as says_it, event_at, history_of}
 use Rattle.jn_serial.specs.Order.{replay}
 use Rattle.jn_serial.specs.Shown.{IsAsIn, prints_file, is_no_show, ShowsFiles, ShownSoFar}
 use Rattle.jn_serial.specs.Follows.{nothing_asked}
 use Rattle.jn_serial.proofs.Growth.{AreWithin, AreWithin-wider}
-use Rattle.jn_serial.proofs.Orders.{lines_before-append}
+use Rattle.jn_serial.proofs.Orders.{lines_at-append, lines_before-append}
 use Rattle.jn_serial.proofs.CausedGrowth.{lines_before-later, lines_before-whole}
-use Rattle.jn_protocol.specs.World.{World, Memory, opening}
+use Rattle.jn_protocol.specs.World.{World, opening}
 use Rattle.jn_protocol.specs.Steps.{NextEvent, after, IsRun}
 use Rattle.jn_reported.specs.Printing.{Printed, text_printed, IsPrinted}
 use Rattle.jn_reported.specs.Reported.{Act, Does, Refuses, Tells, Shows, Item, events_of, steps_in, steps_of, world_of, told_in, told_under, after_item, at_event, lines_of, may_act, IsUnder, AreUnder, GoesOver, IsShow, IsShown, AreShown, IsReported}
+use Rattle.jn_reported.specs.Ending.{at_end}
 use Rattle.jn_reported.proofs.Reached.{Reached, next-reached, opening-reached}
 use Rattle.jn_reported.proofs.Fitting.{asked_of}
 use Rattle.jn_reported.proofs.Following.{event-follows, items-follow, lines-here, run-split, texts-within}
@@ -116,6 +114,18 @@ shown-split : (before : List Item) (item : Item) (rest : List Item) (w : World) 
 shown-split [] item rest w h = h.0
 shown-split (x ∷ before) item rest w h = subst (λ (z : World). IsShown item.event (after NextEvent z) item.acts) (sym (steps-append (steps_in x.acts) (steps_of before) (after NextEvent w))) (shown-split before item rest (after_item x w) h.1)
 
+-- a show under this event prints what the commits before it leave
+abbrev ShowsAt : AllFiles → List Event → List Line → ℕ → ServerNo → Type 0
+ShowsAt files events lines i s = says_it is_no_show (lines_at (AtEvent i) lines) ≡ false → ShowsFiles (replay files events lines (history_of (lines_before (AtEvent i) lines))) s (lines_at (AtEvent i) lines)
+
+no-end-at : (n : ℕ) (texts : List Text) → lines_at (AtEvent n) (at_end texts) ≡ []
+no-end-at n [] = refl
+no-end-at n (x ∷ texts) = no-end-at n texts
+
+no-end-before : (n : ℕ) (texts : List Text) → lines_before (AtEvent n) (at_end texts) ≡ []
+no-end-before n [] = refl
+no-end-before n (x ∷ texts) = no-end-before n texts
+
 module _ (files : AllFiles) (epochs : ServerNo → ℕ) where
   -- after these items
   record Then (items : List Item) (r : World) : Type 0 where
@@ -135,15 +145,14 @@ module _ (files : AllFiles) (epochs : ServerNo → ℕ) where
       up : (n m : ℕ) → n + 1 + m ≡ n + suc m
       up n m = omega arith
 
-  module _ (servers : ℕ) (before : List Item) (item : Item) (rest : List Item) (h : IsReported (before ++ item ∷ rest) (opening servers files epochs)) (s : ServerNo) (show : item.event ≡ Show s) where
+  module _ (servers : ℕ) (before : List Item) (item : Item) (rest : List Item) (h : IsReported (before ++ item ∷ rest) (opening servers files epochs)) (s : ServerNo) (show : item.event ≡ Show s)
+      (lines : List Line) (tail : List Text) (is : lines ≡ lines_of (before ++ item ∷ rest) (opening servers files epochs) ++ at_end tail)
+      (as-told : AreAsTold files (events_of (before ++ item ∷ rest)) lines (lines_of before (opening servers files epochs)) (world_of before (opening servers files epochs))) where
     abbrev start : World
     start = opening servers files epochs
 
     abbrev r : World
     r = world_of before start
-
-    abbrev lines : List Line
-    lines = lines_of (before ++ item ∷ rest) start
 
     abbrev events : List Event
     events = events_of (before ++ item ∷ rest)
@@ -180,19 +189,20 @@ module _ (files : AllFiles) (epochs : ServerNo → ℕ) where
         (items-follow files epochs rest (after_item item r) next.reached parts.1 under.1.1 (λ c. asked_of ((after_item item r).clients c).outstanding) (λ c. refl)).within
 
     is-here : lines_at (AtEvent (r.event + 1)) lines ≡ here
-    is-here = ap (λ l. lines_at (AtEvent (r.event + 1)) l) (lines-more before (item ∷ rest) start)
+    is-here = ap (λ l. lines_at (AtEvent (r.event + 1)) l) is ∙ lines_at-append (AtEvent (r.event + 1)) (lines_of (before ++ item ∷ rest) start) (at_end tail)
+        ∙ ap (λ l. lines_at (AtEvent (r.event + 1)) (lines_of (before ++ item ∷ rest) start) ++ l) (no-end-at (r.event + 1) tail) ∙ append-nil (lines_at (AtEvent (r.event + 1)) (lines_of (before ++ item ∷ rest) start))
+        ∙ ap (λ l. lines_at (AtEvent (r.event + 1)) l) (lines-more before (item ∷ rest) start)
         ∙ lines-here (r.event + 1) (r.event + 1 + 1 + length rest) (lines_of before start) here (lines_of rest (after_item item r)) old (texts-within (r.event + 1) (told_under item r)) latest
 
     is-before : lines_before (AtEvent (r.event + 1)) lines ≡ lines_of before start
-    is-before = ap (λ l. lines_before (AtEvent (r.event + 1)) l) (lines-more before (item ∷ rest) start) ∙ lines_before-append (AtEvent (r.event + 1)) (lines_of before start) (lines_of (item ∷ rest) r)
+    is-before = ap (λ l. lines_before (AtEvent (r.event + 1)) l) is ∙ lines_before-append (AtEvent (r.event + 1)) (lines_of (before ++ item ∷ rest) start) (at_end tail)
+        ∙ ap (λ l. lines_before (AtEvent (r.event + 1)) (lines_of (before ++ item ∷ rest) start) ++ l) (no-end-before (r.event + 1) tail) ∙ append-nil (lines_before (AtEvent (r.event + 1)) (lines_of (before ++ item ∷ rest) start))
+        ∙ ap (λ l. lines_before (AtEvent (r.event + 1)) l) (lines-more before (item ∷ rest) start) ∙ lines_before-append (AtEvent (r.event + 1)) (lines_of before start) (lines_of (item ∷ rest) r)
         ∙ ap (λ l. lines_before (AtEvent (r.event + 1)) (lines_of before start) ++ l) (lines_before-later (r.event + 1) (r.event + 1 + length (item ∷ rest)) (r.event + 1) (lines_of (item ∷ rest) r) later (self (r.event + 1)))
         ∙ append-nil (lines_before (AtEvent (r.event + 1)) (lines_of before start)) ∙ lines_before-whole 0 (r.event + 1) (lines_of before start) old
       where
         self : (n : ℕ) → n ≤ n
         self n = omega arith
-
-    as-told : AreAsTold files events lines (lines_of before start) r
-    as-told = beginning-as-told servers files epochs before (item ∷ rest) h
 
     shown-here : says_it is_no_show here ≡ false → ShowsFiles (replay files events lines (history_of (lines_of before start))) s here
     shown-here silent = by item.event show under.1.0 (shown-split before item rest start h.shows)
@@ -200,19 +210,27 @@ module _ (files : AllFiles) (epochs : ServerNo → ℕ) where
         by : (e : Event) → e ≡ Show s → IsUnder e item.acts → IsShown e (after NextEvent r) item.acts → ShowsFiles (replay files events lines (history_of (lines_of before start))) s here
         by e is u k = show-shown (r.event + 1) (replay files events lines (history_of (lines_of before start))) s (after NextEvent r) (as-told.unlocked s) item.acts (subst (λ (d : Event). IsUnder d item.acts) is u) (subst (λ (d : Event). IsShown d (after NextEvent r) item.acts) is k) silent
 
-    pub shown-at : (i : ℕ) → i ≡ length before + 1 → says_it is_no_show (lines_at (AtEvent i) lines) ≡ false → ShowsFiles (replay files events lines (history_of (lines_before (AtEvent i) lines))) s (lines_at (AtEvent i) lines)
-    shown-at i e = subst (λ j. says_it is_no_show (lines_at (AtEvent j) lines) ≡ false → ShowsFiles (replay files events lines (history_of (lines_before (AtEvent j) lines))) s (lines_at (AtEvent j) lines)) (ap (λ n. n + 1) reached.event ∙ nothing (length before) ∙ sym e)
+    shown-at : (i : ℕ) → i ≡ length before + 1 → ShowsAt files events lines i s
+    shown-at i e = subst (λ j. ShowsAt files events lines j s) (ap (λ n. n + 1) reached.event ∙ nothing (length before) ∙ sym e)
         (λ silent. subst (λ l. ShowsFiles (replay files events lines (history_of l)) s (lines_at (AtEvent (r.event + 1)) lines)) (sym is-before)
         (subst (λ l. ShowsFiles (replay files events lines (history_of (lines_of before start))) s l) (sym is-here) (shown-here (subst (λ l. says_it is_no_show l ≡ false) is-here silent))))
       where
         nothing : (n : ℕ) → 0 + n + 1 ≡ n + 1
         nothing n = omega arith
 
+  -- the shows of a run, by its lines with some that stand at its end
+  pub shown-with : (servers : ℕ) (items : List Item) (h : IsReported items (opening servers files epochs)) (lines : List Line) (tail : List Text) → lines ≡ lines_of items (opening servers files epochs) ++ at_end tail
+      → ((before later : List Item) → items ≡ before ++ later → AreAsTold files (events_of items) lines (lines_of before (opening servers files epochs)) (world_of before (opening servers files epochs))) → ShownSoFar files (events_of items) lines
+  shown-with servers items h lines tail is told i s e = let f = find items i (Show s) e in
+      subst (λ l. IsReported l start → lines ≡ lines_of l start ++ at_end tail → AreAsTold files (events_of l) lines (lines_of f.before start) (world_of f.before start) → ShowsAt files (events_of l) lines i s) (sym f.is)
+      (λ k q a. shown-at servers f.before f.item f.rest k s f.event lines tail q a i f.place) h is (told f.before (f.item ∷ f.rest) f.is)
+    where
+      start : World
+      start = opening servers files epochs
+
 pub run-shown : (servers : ℕ) (files : AllFiles) (epochs : ServerNo → ℕ) (items : List Item) → IsReported items (opening servers files epochs) → ShownSoFar files (events_of items) (lines_of items (opening servers files epochs))
-run-shown servers files epochs items h i s e = let f = find items i (Show s) e in
-    subst (λ l. IsReported l start → says_it is_no_show (lines_at (AtEvent i) (lines_of l start)) ≡ false
-    → ShowsFiles (replay files (events_of l) (lines_of l start) (history_of (lines_before (AtEvent i) (lines_of l start)))) s (lines_at (AtEvent i) (lines_of l start))) (sym f.is)
-    (λ k. shown-at files epochs servers f.before f.item f.rest k s f.event i f.place) h
+run-shown servers files epochs items h = shown-with files epochs servers items h (lines_of items start) [] (sym (append-nil (lines_of items start)))
+    (λ before later e. subst (λ l. IsReported l start → AreAsTold files (events_of l) (lines_of l start) (lines_of before start) (world_of before start)) (sym e) (beginning-as-told servers files epochs before later) h)
   where
     start : World
     start = opening servers files epochs

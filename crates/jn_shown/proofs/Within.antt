@@ -1,5 +1,5 @@
 -- No operation is told at a server that there isn't.
-use Rattle.std.proofs.Common.{◌≡◌, ◌≢◌, ◌⊎◌, inl, inr, ℕ, suc, ◌+◌, ◌≤◌, ◌<◌, Bool, true, false, List, [], ◌∷◌, ◌++◌, append-nil, append_assoc, length, Option, Some, None, refl, sym, ◌∙◌, ap, subst, arith}
+use Rattle.std.proofs.Common.{◌≡◌, ◌≢◌, ◌⊎◌, inl, inr, ℕ, suc, ◌+◌, ◌≤◌, ◌<◌, Bool, true, false, List, [], ◌∷◌, ◌++◌, append_assoc, length, Option, Some, None, refl, sym, ◌∙◌, ap, subst, arith}
 use Rattle.std.specs.Prelude.{◌&&◌, if◌then◌else◌, nat_eq, nat_lt, slice_get}
 use Rattle.std.proofs.lemmas.Bool.Decides.{nat_tests}
 use Rattle.jn_base.specs.declared.names.ServerNo.{ServerNo}
@@ -12,7 +12,7 @@ use Rattle.jn_base.specs.declared.op.Answer.{Answer}
 use Rattle.jn_base.specs.declared.op.Command.{Command}
 use Rattle.jn_base.specs.declared.op.Command.TheVariants.{Begin, Open, Do, End, Abort}
 use Rattle.jn_base.specs.Names.{server_eq, client_eq}
-use Rattle.jn_base.proofs.Tells.{server_tells, client_tells}
+use Rattle.jn_base.proofs.Tells.{server_tells}
 use Rattle.jn_order.specs.Files.{AllFiles, files_after, all_files_after}
 use Rattle.jn_msgs.specs.declared.message.Message.{Message}
 use Rattle.jn_msgs.specs.declared.message.Message.TheVariants as messages
@@ -20,7 +20,6 @@ use Rattle.jn_msgs.specs.declared.message.Outcome.{Outcome}
 use Rattle.jn_msgs.specs.declared.message.Outcome.TheVariants as outcomes
 use Rattle.jn_schedule.specs.declared.Event.{Event}
 use Rattle.jn_schedule.specs.declared.Event.TheVariants.{Command as CommandOf}
-use Rattle.jn_report.specs.declared.line.Refusal.{Refusal}
 use Rattle.jn_report.specs.declared.line.Refusal.TheVariants as refusals
 use Rattle.jn_report.specs.declared.line.Text.{Text}
 use Rattle.jn_report.specs.declared.line.Text.TheVariants as says
@@ -31,11 +30,11 @@ use Rattle.jn_rows.specs.declared.client.Taken.{Taken}
 use Rattle.jn_rows.specs.declared.client.Taken.TheVariants as taken
 use Rattle.jn_rows.specs.Stable.{Pick, stable}
 use Rattle.jn_rows.specs.Outcomes.{RowOutcome, Sent}
-use Rattle.jn_rows.specs.Client.{ClientTable, Commanded, Refuses, Sends, work_at, with_operation, if_server, if_idle, if_transaction, if_no_transaction, if_open, if_not_open, command_row, sends, is_current, is_begin, is_operation, is_end, is_end_or_abort, opens, if_waits, idle, over, told, begun_row, opened_row, answer_line, decided_row, outcome_row, take_row}
+use Rattle.jn_rows.specs.Client.{ClientTable, Commanded, Refuses, Sends, work_at, if_server, if_idle, if_transaction, if_no_transaction, if_open, if_not_open, command_row, is_current, is_end, is_end_or_abort, if_waits, begun_row, opened_row, decided_row, outcome_row, take_row}
 use Rattle.jn_serial.specs.declared.files.Performed.{Performed}
 use Rattle.jn_serial.specs.declared.following.Asked.{Asked}
 use Rattle.jn_serial.specs.declared.following.Addressed.{Addressed}
-use Rattle.jn_serial.specs.Follows.{Outstanding as Waited, with_asked, is_own, answer_in, is_last, fits, fits_asked, answers_command, after_answer}
+use Rattle.jn_serial.specs.Follows.{Outstanding as Waited, with_asked, answer_in, is_last, fits, fits_asked, answers_command, after_answer}
 use Rattle.jn_serial.specs.Lines.{event_at}
 use Rattle.jn_serial.specs.Order.{ops_of, performed_in, answered, answered_by, owner_after, files_then, replay}
 use Rattle.jn_serial.proofs.Growth.{event_at-next}
@@ -47,7 +46,7 @@ use Rattle.jn_reported.proofs.Lists.{Each, each-append}
 use Rattle.jn_reported.proofs.Reached.{Reached, next-reached}
 use Rattle.jn_reported.proofs.Fitting.{asked_of, Fit, left}
 use Rattle.jn_reported.proofs.Hearing.{IsQuiet, step-hears, Commands, commands}
-use Rattle.jn_reported.proofs.Following.{IsQuietAct, IsPlain, under-quiet, event-follows, run-split}
+use Rattle.jn_reported.proofs.Following.{IsQuietAct, under-quiet, event-follows, run-split}
 use Rattle.jn_talk.specs.Told.{ops_in}
 use Rattle.jn_talk.proofs.Runs.{TellsAs}
 use Rattle.jn_talk.proofs.Reports.{IsCalm}

@@ -1,5 +1,5 @@
 -- What the lines of a run with its schedule tell of a transaction is what the world's lines tell.
-use Rattle.std.proofs.Common.{Bool, true, false, ◌≡◌, ℕ, suc, ◌+◌, List, [], ◌∷◌, ◌++◌, append-nil, append_assoc, length, Option, Some, None, refl, sym, ◌∙◌, ap, subst, arith}
+use Rattle.std.proofs.Common.{Bool, false, ◌≡◌, ℕ, suc, ◌+◌, List, [], ◌∷◌, ◌++◌, append-nil, append_assoc, length, Option, Some, None, refl, sym, ◌∙◌, ap, subst, arith}
 use Rattle.std.specs.Prelude.{map}
 use Rattle.jn_base.specs.declared.names.ServerNo.{ServerNo}
 use Rattle.jn_base.specs.declared.names.ClientNo.{ClientNo}
@@ -252,82 +252,83 @@ length-events (item ∷ items) = ap (λ n. suc n) (length-events items)
 none-more : (n : ℕ) → n ≡ 0 + n
 none-more n = omega arith
 
-module _ (servers : ℕ) (files : AllFiles) (epochs : ServerNo → ℕ) (items more : List Item) (h : IsReported (items ++ more) (opening servers files epochs)) where
+-- and steps after it that are under no event, with lines that tell of no transaction
+module _ (servers : ℕ) (files : AllFiles) (epochs : ServerNo → ℕ) (items later : List Item) (h : IsReported (items ++ later) (opening servers files epochs))
+    (steps : List Step) (i : IsRun steps (world_of (items ++ later) (opening servers files epochs))) (calm : Each IsCalm steps) (more : List Text) (dumb : AreDumb more) (none : commits_in more ≡ []) where
   abbrev start : World
   start = opening servers files epochs
 
   abbrev all : List Event
-  all = events_of (items ++ more)
+  all = events_of (items ++ later)
 
-  split : IsRun (steps_of items) start × IsRun (steps_of more) (world_of items start)
-  split = run-split (steps_of items) (steps_of more) start (subst (λ l. IsRun l start) (steps-more items more) h.steps)
+  -- after the beginning, after the last event, and at the end
+  abbrev between : World
+  between = world_of items start
+
+  abbrev last : World
+  last = world_of (items ++ later) start
+
+  abbrev final : World
+  final = run steps last
+
+  split : IsRun (steps_of items) start × IsRun (steps_of later) between
+  split = run-split (steps_of items) (steps_of later) start (subst (λ l. IsRun l start) (steps-more items later) h.steps)
+
+  together : last ≡ world_of later between
+  together = ap (λ l. run l start) (steps-more items later) ∙ steps-append (steps_of items) (steps_of later) start
 
   -- the beginning
   first : ItemsTold all files epochs (λ T. false) [] items start
-  first = items-told all files epochs (λ T. false) [] items start [] (events_of more) (events-more items more) refl (opening-reached files epochs servers) (opening-stands all files epochs servers) split.0 (under-split items more h.under).0
+  first = items-told all files epochs (λ T. false) [] items start [] (events_of later) (events-more items later) refl (opening-reached files epochs servers) (opening-stands all files epochs servers) split.0 (under-split items later h.under).0
 
   abbrev ended : Tid → Bool
   ended = (run_atoms first.stands.atoms (opening_world files epochs)).ended
 
-  -- and the rest
-  rest : ItemsTold all files epochs ended (world_of items start).lines more (world_of items start)
-  rest = items-told all files epochs ended (world_of items start).lines more (world_of items start) (events_of items) [] (events-more items more ∙ ap (λ l. events_of items ++ l) (sym (append-nil (events_of more)))) (length-events items ∙ none-more (length items) ∙ sym first.event) first.reached
-      (stands-from all files epochs (λ T. false) [] (world_of items start) first.stands) split.1 (under-split items more h.under).1
+  -- the other events
+  rest : ItemsTold all files epochs ended between.lines later between
+  rest = items-told all files epochs ended between.lines later between (events_of items) [] (events-more items later ∙ ap (λ l. events_of items ++ l) (sym (append-nil (events_of later)))) (length-events items ∙ none-more (length items) ∙ sym first.event) first.reached
+      (stands-from all files epochs (λ T. false) [] between first.stands) split.1 (under-split items later h.under).1
 
-  its-ops : (T : Tid) → ended T ≡ true → ops_of all (lines_of (items ++ more) start) T ≡ ops_in all T None (world_of items start).lines
-  its-ops T e = ops-of-texts all T None (lines_of (items ++ more) start) ∙ ap (λ l. ops_in all T None l) (ap texts_of (lines-more items more start) ∙ texts-more (lines_of items start) (lines_of more (world_of items start)))
-      ∙ (tell-then all (texts_of (lines_of items start)) first.new (texts_of (lines_of more (world_of items start))) rest.new first.same rest.same).ops T None
-      ∙ ap (λ l. ops_in all T None (l ++ rest.new)) (sym first.lines) ∙ ap (λ l. ops_in all T None l) (sym rest.lines) ∙ rest.stands.kept T e
+  pub last-reached : Reached files epochs (world_of (items ++ later) start)
+  last-reached = subst (λ (z : World). Reached files epochs z) (sym together) rest.reached
 
-  pub beginning-as-told : AreAsTold files all (lines_of (items ++ more) start) (lines_of items start) (world_of items start)
-  beginning-as-told = stands-told all files epochs (λ T. false) [] (world_of items start) (lines_of (items ++ more) start) (lines_of items start) first.stands (record {
-    ops = its-ops;
-    commits = history-texts (lines_of items start) ∙ first.same.commits ∙ ap commits_in (sym first.lines);
-  })
+  -- and what is under none
+  after-all : Told all files epochs ended between.lines last final (told_by_steps steps last)
+  after-all = calm-steps all files epochs ended between.lines steps last last-reached (subst (λ (z : World). Stands all files epochs ended between.lines z) (sym together) rest.stands) i calm
 
--- ---- the whole run
+  pub end-reached : Reached files epochs (run steps (world_of (items ++ later) start))
+  end-reached = after-all.reached
 
-pub run-as-told : (servers : ℕ) (files : AllFiles) (epochs : ServerNo → ℕ) (items : List Item) → IsReported items (opening servers files epochs)
-    → AreAsTold files (events_of items) (lines_of items (opening servers files epochs)) (lines_of items (opening servers files epochs)) (world_of items (opening servers files epochs))
-run-as-told servers files epochs items = let start = opening servers files epochs in
-    subst (λ l. IsReported l start → AreAsTold files (events_of l) (lines_of l start) (lines_of items start) (world_of items start)) (append-nil items) (beginning-as-told servers files epochs items [])
+  its-lines : final.lines ≡ (first.new ++ rest.new) ++ (after-all.new ++ [])
+  its-lines = after-all.lines ∙ ap (λ z. z ++ after-all.new) (ap (λ (z : World). z.lines) together ∙ rest.lines ∙ ap (λ z. z ++ rest.new) first.lines) ∙ ap (λ z. (first.new ++ rest.new) ++ z) (sym (append-nil after-all.new))
 
--- and then steps that are under no event, with lines of theirs that tell of no transaction
-module _ (servers : ℕ) (files : AllFiles) (epochs : ServerNo → ℕ) (items : List Item) (h : IsReported items (opening servers files epochs)) (steps : List Step) (i : IsRun steps (world_of items (opening servers files epochs))) (calm : Each IsCalm steps)
-    (more : List Text) (dumb : AreDumb more) (none : commits_in more ≡ []) where
-  abbrev begun : World
-  begun = opening servers files epochs
+  same : TellSame all (texts_of (lines_of (items ++ later) start) ++ (told_by_steps steps last ++ more)) ((first.new ++ rest.new) ++ (after-all.new ++ []))
+  same = tell-then all (texts_of (lines_of (items ++ later) start)) (first.new ++ rest.new) (told_by_steps steps last ++ more) (after-all.new ++ [])
+      (subst (λ l. TellSame all l (first.new ++ rest.new)) (sym (ap texts_of (lines-more items later start) ∙ texts-more (lines_of items start) (lines_of later between)))
+      (tell-then all (texts_of (lines_of items start)) first.new (texts_of (lines_of later between)) rest.new first.same rest.same))
+      (tell-then all (told_by_steps steps last) after-all.new more [] after-all.same (tell-none all more dumb none))
 
-  abbrev ended_with : World
-  ended_with = run steps (world_of items begun)
+  module _ (lines : List Line) (is : texts_of lines ≡ texts_of (lines_of (items ++ later) start) ++ (told_by_steps steps last ++ more)) where
+    pub end-ops : (T : Tid) → ops_of all lines T ≡ ops_in all T None final.lines
+    end-ops T = ops-of-texts all T None lines ∙ ap (λ l. ops_in all T None l) is ∙ same.ops T None ∙ ap (λ l. ops_in all T None l) (sym its-lines)
 
-  abbrev its_events : List Event
-  its_events = events_of items
+    pub end-as-told : AreAsTold files all lines lines (run steps (world_of (items ++ later) start))
+    end-as-told = stands-told all files epochs ended between.lines final lines lines after-all.stands (record { ops = λ T e. end-ops T; commits = history-texts lines ∙ ap commits_in is ∙ same.commits ∙ ap commits_in (sym its-lines) })
 
-  first-part : ItemsTold its_events files epochs (λ T. false) [] items begun
-  first-part = items-told its_events files epochs (λ T. false) [] items begun [] [] (sym (append-nil its_events)) refl (opening-reached files epochs servers) (opening-stands its_events files epochs servers) h.steps h.under
+    -- of the commits of the beginning the later lines tell nothing more
+    pub beginning-told : AreAsTold files all lines (lines_of items start) (world_of items start)
+    beginning-told = stands-told all files epochs (λ T. false) [] between lines (lines_of items start) first.stands (record {
+      ops = λ T e. end-ops T ∙ after-all.stands.kept T e;
+      commits = history-texts (lines_of items start) ∙ first.same.commits ∙ ap commits_in (sym first.lines);
+    })
 
-  last-part : Told its_events files epochs (λ T. false) [] (world_of items begun) ended_with (told_by_steps steps (world_of items begun))
-  last-part = calm-steps its_events files epochs (λ T. false) [] steps (world_of items begun) first-part.reached first-part.stands i calm
+-- ---- a run with nothing after it
 
-  both-parts : TellSame its_events (texts_of (lines_of items begun) ++ (told_by_steps steps (world_of items begun) ++ more)) (first-part.new ++ (last-part.new ++ []))
-  both-parts = tell-then its_events (texts_of (lines_of items begun)) first-part.new (told_by_steps steps (world_of items begun) ++ more) (last-part.new ++ []) first-part.same
-      (tell-then its_events (told_by_steps steps (world_of items begun)) last-part.new more [] last-part.same (tell-none its_events more dumb none))
+module _ (servers : ℕ) (files : AllFiles) (epochs : ServerNo → ℕ) where
+  pub beginning-as-told : (items more : List Item) → IsReported (items ++ more) (opening servers files epochs)
+      → AreAsTold files (events_of (items ++ more)) (lines_of (items ++ more) (opening servers files epochs)) (lines_of items (opening servers files epochs)) (world_of items (opening servers files epochs))
+  beginning-as-told items more h = beginning-told servers files epochs items more h [] tt tt [] tt refl (lines_of (items ++ more) (opening servers files epochs)) (sym (append-nil (texts_of (lines_of (items ++ more) (opening servers files epochs)))))
 
-  the-lines : (run steps (world_of items begun)).lines ≡ first-part.new ++ (last-part.new ++ [])
-  the-lines = last-part.lines ∙ ap (λ z. z ++ last-part.new) first-part.lines ∙ ap (λ z. first-part.new ++ z) (sym (append-nil last-part.new))
-
-  pub begin-reached : Reached files epochs (world_of items begun)
-  begin-reached = first-part.reached
-
-  pub end-reached : Reached files epochs (run steps (world_of items begun))
-  end-reached = last-part.reached
-
-  pub end-ops : (lines : List Line) → texts_of lines ≡ texts_of (lines_of items begun) ++ (told_by_steps steps (world_of items begun) ++ more) → (T : Tid) → ops_of its_events lines T ≡ ops_in its_events T None (run steps (world_of items begun)).lines
-  end-ops lines is T = ops-of-texts its_events T None lines ∙ ap (λ l. ops_in its_events T None l) is ∙ both-parts.ops T None ∙ ap (λ l. ops_in its_events T None l) (sym the-lines)
-
-  pub end-as-told : (lines : List Line) → texts_of lines ≡ texts_of (lines_of items begun) ++ (told_by_steps steps (world_of items begun) ++ more) → AreAsTold files its_events lines lines (run steps (world_of items begun))
-  end-as-told lines is = stands-told its_events files epochs (λ T. false) [] ended_with lines lines last-part.stands (record {
-    ops = λ T e. end-ops lines is T;
-    commits = history-texts lines ∙ ap commits_in is ∙ both-parts.commits ∙ ap commits_in (sym the-lines);
-  })
+  pub run-as-told : (items : List Item) → IsReported items (opening servers files epochs)
+      → AreAsTold files (events_of items) (lines_of items (opening servers files epochs)) (lines_of items (opening servers files epochs)) (world_of items (opening servers files epochs))
+  run-as-told items h = end-as-told servers files epochs [] items h [] tt tt [] tt refl (lines_of items (opening servers files epochs)) (sym (append-nil (texts_of (lines_of items (opening servers files epochs)))))

@@ -1,11 +1,9 @@
-use Rattle.std.proofs.Common.{◌≡◌, Bool, true, false, [], ◌∷◌, Option, Some, None, is_some, refl, arith}
+use Rattle.std.proofs.Common.{◌≡◌, Bool, true, false, [], ◌∷◌, Some, None, is_some, refl}
 use Rattle.std.specs.Prelude.{if◌then◌else◌, ◌||◌}
 use Rattle.jn_base.specs.declared.names.FileNo.{FileNo}
-use Rattle.jn_base.specs.declared.names.BlockNo.{BlockNo}
-use Rattle.jn_base.specs.declared.names.LockUnit.TheVariants.{File, Block}
+use Rattle.jn_base.specs.declared.names.LockUnit.TheVariants.{File}
 use Rattle.jn_base.specs.Names.{file_eq}
-use Rattle.jn_order.specs.Files.{there, or_else}
-use Rattle.jn_protocol.specs.World.{World, Memory, new_memory}
+use Rattle.jn_protocol.specs.World.{World}
 use Rattle.jn_protocol.specs.Steps.{NextEvent, after}
 use Rattle.jn_protocol.specs.Example.{the_server, the_file, the_transaction, start}
 use Rattle.jn_reported.specs.Printing.{FileThere, UnitLocked, print_unit, IsPrinted}

@@ -1,19 +1,14 @@
-use Rattle.std.proofs.Common.{◌≡◌, Bool, true, false, [], ◌∷◌, Option, Some, None, is_some, refl, arith}
-use Rattle.std.specs.Prelude.{if◌then◌else◌, ◌||◌}
-use Rattle.jn_base.specs.declared.names.FileNo.{FileNo}
-use Rattle.jn_base.specs.declared.names.BlockNo.{BlockNo}
-use Rattle.jn_base.specs.declared.names.LockUnit.TheVariants.{File, Block}
+use Rattle.std.proofs.Common.{[], ◌∷◌, Some, None, refl, arith}
 use Rattle.jn_base.specs.Names.{tid_eq, work_eq, file_eq}
 use Rattle.jn_base.proofs.Tells.{work_tells, tid_tells}
 use Rattle.jn_locks.specs.Locks.{work_before}
-use Rattle.jn_order.specs.Files.{there, or_else}
 use Rattle.jn_rows.specs.Stable.{Prepared, FlagState, at_work, at_tid}
-use Rattle.jn_protocol.specs.World.{World, Memory, new_memory}
+use Rattle.jn_protocol.specs.World.{World}
 use Rattle.jn_protocol.specs.Steps.{AreNames, tid_before}
 use Rattle.jn_protocol.specs.Example.{the_server, the_file, the_transaction, the_work, start}
-use Rattle.jn_reported.specs.Printing.{FileThere, print_unit, IsPrinted}
-use Rattle.jn_reported.specs.Reported.{world_of}
-use Rattle.jn_reported.specs.Ending.{world_at_end}
+use Rattle.jn_reported.specs.Printing.{FileThere, IsPrinted}
+use Rattle.jn_reported.specs.Reported.{world_of, IsReported}
+use Rattle.jn_reported.specs.Ending.{world_at_end, IsEnding}
 use Rattle.jn_shown.specs.Example.{a_commit_is_named, an_end}
 use Rattle.jn_shown.proofs.Examples.{memory_in, is-up, once_there, no_block}
 use Rattle.jn_shown.proofs.a_run_ends.Goals as goal
@@ -38,19 +33,22 @@ one_work p = record { each = λ a. grind (arith, work_tells); rising = refl }
 one_flag : (p : FlagState) → AreNames tid_eq tid_before (at_tid (λ V. None) the_transaction (Some p)) (the_transaction ∷ [])
 one_flag p = record { each = λ a. grind (arith, tid_tells); rising = refl }
 
-pub returns-clause-run : goal.returns-clause-run
-returns-clause-run c = record {
+reported : IsReported a_commit_is_named start
+reported = record {
   under = (refl, (refl, (refl, (refl, (refl, (refl, (refl, (refl, (refl, (refl, (refl, (refl, (refl, tt)))))))))))));
   steps = (tt, (tt, (tt, (tt, (tt, (tt, (tt, (tt, (tt, (tt, (tt, (tt, (tt, (tt, (tt, (tt, (tt, (tt, (tt, (tt, (tt, (tt, (tt, (tt, (tt, (tt, tt))))))))))))))))))))))))));
   shows = (tt, (tt, (tt, (tt, (tt, (tt, (tt, (tt, (tt, (tt, (tt, (tt, (tt, tt)))))))))))));
   faults = (tt, (tt, ((tt, tt), (tt, (tt, ((tt, tt), (tt, (tt, ((tt, tt), (tt, (tt, (tt, ((tt, tt), tt)))))))))))));
 }
 
-pub returns-clause-ending : goal.returns-clause-ending
-returns-clause-ending c = record {
+ending : IsEnding 1 an_end (world_of a_commit_is_named start)
+ending = record {
   steps = (tt, (tt, ((one_work _, one_flag _), (λ d. (refl, refl), (tt, (tt, (tt, (tt, (tt, tt)))))))));
   all_up = refl;
   settling = refl;
   all_print = refl;
   prints = (printed, tt);
 }
+
+pub returns-clause-run : goal.returns-clause-run
+returns-clause-run c = record { reported = reported; ending = ending }
