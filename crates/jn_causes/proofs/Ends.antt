@@ -1,4 +1,4 @@
--- The end of a run tells nothing that needs a cause, as no client waits for anything.
+-- The end of a run tells nothing that needs a cause or answers a client, as no client waits for anything.
 use Rattle.std.proofs.Common.{◌≡◌, ℕ, ◌+◌, Bool, true, false, List, [], ◌∷◌, ◌++◌, append-nil, length, Option, Some, None, refl, sym, ◌∙◌, subst, arith}
 use Rattle.std.specs.Prelude.{◌&&◌, if◌then◌else◌, map, slice_get}
 use Rattle.std.specs.List.{list_all}
@@ -29,6 +29,7 @@ use Rattle.jn_protocol.specs.World.{World, Memory, at_client, has_line, opening}
 use Rattle.jn_protocol.specs.Servers.{Room, server_row, server_step, line_of, lines_of, named_now}
 use Rattle.jn_protocol.specs.Steps.{Step, NextEvent, Tell, Again, Deliver, Work, Nudge, Timeout, StopDelivery, StopWork, Crash, Narrow, StopRestart, Restart, Dismiss, CloseClients, IsIdle, after, took, at_memory, handed, works, work, nudge, timeout, crash, narrow, restart, close_clients}
 use Rattle.jn_serial.specs.Lines.{history_of}
+use Rattle.jn_serial.specs.Follows.{is_answer}
 use Rattle.jn_serial.specs.Caused.{Caused}
 use Rattle.jn_serial.proofs.CausedGrowth.{Caused-lines, needs_cause, NeedNoCause, CausedFrom-plain}
 use Rattle.jn_reported.specs.Printing.{Printed, FileThere, PageStored, UnitLocked, text_printed}
@@ -39,8 +40,9 @@ use Rattle.jn_reported.proofs.Hearing.{told-is}
 use Rattle.jn_reported.proofs.Prints.{each-print}
 use Rattle.jn_causes.proofs.Causing.{run-causes}
 
-abbrev NeedsNone : Text → Type 0
-NeedsNone text = needs_cause text ≡ false
+-- neither an abort, a stop, a refused fault nor an answer
+abbrev pub IsOfEnd : Text → Type 0
+IsOfEnd text = (needs_cause text ≡ false) × (is_answer text ≡ false)
 
 -- ---- steps by which no client is told to do anything, and no server is stopped
 
@@ -88,26 +90,26 @@ end-final servers e h = let ss = servers_from 0 servers in let rs = restarts_fro
 pub record TellsPlainly (w q : World) : Type 0 where
   pub new : List Text
   pub adds : q.lines ≡ w.lines ++ new
-  pub each : Each NeedsNone new
+  pub each : Each IsOfEnd new
   pub idle : (c : ClientNo) → IsIdle (q.clients c)
 
-lines-plain : (s : ServerNo) (k : Option ℕ) (told : List Note) → Each NeedsNone (lines_of s k told)
+lines-plain : (s : ServerNo) (k : Option ℕ) (told : List Note) → Each IsOfEnd (lines_of s k told)
 lines-plain s k [] = tt
-lines-plain s k (note ∷ told) = each-append NeedsNone (line_of s k note) (lines_of s k told) (one k note) (lines-plain s k told)
+lines-plain s k (note ∷ told) = each-append IsOfEnd (line_of s k note) (lines_of s k told) (one k note) (lines-plain s k told)
   where
-    one : (k : Option ℕ) (note : Note) → Each NeedsNone (line_of s k note)
-    one k (notes.Commit T) = (refl, tt)
-    one k (notes.Broke T u by) = (refl, tt)
-    one (Some j) notes.Ignored = (refl, tt)
+    one : (k : Option ℕ) (note : Note) → Each IsOfEnd (line_of s k note)
+    one k (notes.Commit T) = ((refl, refl), tt)
+    one k (notes.Broke T u by) = ((refl, refl), tt)
+    one (Some j) notes.Ignored = ((refl, refl), tt)
     one None notes.Ignored = tt
 
-now-plain : (Ts : List Tid) (lines : List Text) → Each NeedsNone (named_now Ts lines)
+now-plain : (Ts : List Tid) (lines : List Text) → Each IsOfEnd (named_now Ts lines)
 now-plain [] lines = tt
 now-plain (T ∷ Ts) lines = by (has_line T lines) (now-plain Ts lines)
   where
-    by : (b : Bool) → Each NeedsNone (named_now Ts lines) → Each NeedsNone (if b then named_now Ts lines else says.Commit T ∷ named_now Ts lines)
+    by : (b : Bool) → Each IsOfEnd (named_now Ts lines) → Each IsOfEnd (if b then named_now Ts lines else says.Commit T ∷ named_now Ts lines)
     by true h = h
-    by false h = (refl, h)
+    by false h = ((refl, refl), h)
 
 -- ---- an idle client
 
@@ -144,7 +146,7 @@ module _ (t : ClientTable) (idle : IsIdle t) where
   take-idle _ = idle
 
 module _ (w : World) (idle : (c : ClientNo) → IsIdle (w.clients c)) where
-  tells : (q : World) (new : List Text) → q.lines ≡ w.lines ++ new → q.clients ≡ w.clients → Each NeedsNone new → TellsPlainly w q
+  tells : (q : World) (new : List Text) → q.lines ≡ w.lines ++ new → q.clients ≡ w.clients → Each IsOfEnd new → TellsPlainly w q
   tells q new adds same h = record { new = new; adds = adds; each = h; idle = λ c. subst (λ f. IsIdle (f c)) (sym same) (idle c) }
 
   silent : (q : World) → q.lines ≡ w.lines → q.clients ≡ w.clients → TellsPlainly w q
@@ -158,7 +160,7 @@ module _ (w : World) (idle : (c : ClientNo) → IsIdle (w.clients c)) where
       by false = idle d
 
   took-plain : (c : ClientNo) (k : ℕ) (u : ClientTable) (what : Taken) → StaysIdle (u, what) → TellsPlainly w (took c k u what w)
-  took-plain c k u taken.Ignored h = record { new = says.Ignored k ∷ []; adds = refl; each = (refl, tt); idle = at-own c u h }
+  took-plain c k u taken.Ignored h = record { new = says.Ignored k ∷ []; adds = refl; each = ((refl, refl), tt); idle = at-own c u h }
   took-plain c k u (taken.Send to message) h = record { new = []; adds = sym (append-nil w.lines); each = tt; idle = at-own c u h }
   took-plain c k u (taken.Told line answer) h = absurd h
 
@@ -168,7 +170,7 @@ module _ (w : World) (idle : (c : ClientNo) → IsIdle (w.clients c)) where
   handed-plain k room (Some (Server s, message)) = by (w.memory s)
     where
       by : (o : Option Memory) → TellsPlainly w (at_memory s k room None message o w)
-      by None = tells _ (says.Lost k ∷ []) refl refl (refl, tt)
+      by None = tells _ (says.Lost k ∷ []) refl refl ((refl, refl), tt)
       by (Some m) = tells _ (lines_of s (Some k) (server_row m (stable (w.found s)) room message).notes) refl refl (lines-plain s (Some k) _)
 
   work-plain : (s : ServerNo) (room : Room) (o : Option Memory) → TellsPlainly w (work s room None o w)
@@ -189,14 +191,14 @@ module _ (w : World) (idle : (c : ClientNo) → IsIdle (w.clients c)) where
 
   crash-plain : (s : ServerNo) (o : Option Memory) → TellsPlainly w (crash s o w)
   crash-plain s None = silent w refl refl
-  crash-plain s (Some m) = tells _ (says.Down s ∷ []) refl refl (refl, tt)
+  crash-plain s (Some m) = tells _ (says.Down s ∷ []) refl refl ((refl, refl), tt)
 
   narrow-plain : (s : ServerNo) (g : Pick → Pick) (o : Option Memory) → TellsPlainly w (narrow s g o w)
   narrow-plain s g None = silent _ refl refl
   narrow-plain s g (Some m) = silent w refl refl
 
   restart-plain : (s : ServerNo) (pick : Pick) (Ws : List WorkId) (Ts : List Tid) (o : Option Memory) → TellsPlainly w (restart s pick Ws Ts o w)
-  restart-plain s pick Ws Ts None = tells _ (says.Up s ((w.found s pick).epoch + 1) ∷ named_now Ts w.lines) refl refl (refl, now-plain Ts w.lines)
+  restart-plain s pick Ws Ts None = tells _ (says.Up s ((w.found s pick).epoch + 1) ∷ named_now Ts w.lines) refl refl ((refl, refl), now-plain Ts w.lines)
   restart-plain s pick Ws Ts (Some m) = silent w refl refl
 
   close-plain : (s : ServerNo) (o : Option Memory) → TellsPlainly w (close_clients s o w)
@@ -220,39 +222,34 @@ module _ (w : World) (idle : (c : ClientNo) → IsIdle (w.clients c)) where
   step-plain Dismiss h = record { new = []; adds = sym (append-nil w.lines); each = tt; idle = λ c. (refl, refl) }
   step-plain (CloseClients s) h = close-plain s (w.memory s)
 
-steps-plain : (steps : List Step) (w : World) → ((c : ClientNo) → IsIdle (w.clients c)) → Each IsFinal steps → Each NeedsNone (told_by_steps steps w)
+steps-plain : (steps : List Step) (w : World) → ((c : ClientNo) → IsIdle (w.clients c)) → Each IsFinal steps → Each IsOfEnd (told_by_steps steps w)
 steps-plain [] w idle h = tt
 steps-plain (step ∷ steps) w idle h = let p = step-plain w idle step h.0 in
-    each-append NeedsNone (told_by (Does step) w) (told_by_steps steps (after step w)) (subst (λ l. Each NeedsNone l) (sym (told-is w step p.new p.adds)) p.each) (steps-plain steps (after step w) p.idle h.1)
+    each-append IsOfEnd (told_by (Does step) w) (told_by_steps steps (after step w)) (subst (λ l. Each IsOfEnd l) (sym (told-is w step p.new p.adds)) p.each) (steps-plain steps (after step w) p.idle h.1)
 
 -- ---- the end
 
-print-plain : (s : ServerNo) (x : Printed) → NeedsNone (text_printed s x)
-print-plain s (FileThere f) = refl
-print-plain s (PageStored f p bytes) = refl
-print-plain s (UnitLocked u T) = refl
+print-plain : (s : ServerNo) (x : Printed) → IsOfEnd (text_printed s x)
+print-plain s (FileThere f) = (refl, refl)
+print-plain s (PageStored f p bytes) = (refl, refl)
+print-plain s (UnitLocked u T) = (refl, refl)
 
-prints-plain : (first : ℕ) (prints : List (List Printed)) → Each NeedsNone (texts_from first prints)
+prints-plain : (first : ℕ) (prints : List (List Printed)) → Each IsOfEnd (texts_from first prints)
 prints-plain first [] = tt
-prints-plain first (x ∷ prints) = each-append NeedsNone (map (text_printed (record { 0 = first })) x) (texts_from (first + 1) prints) (each-print NeedsNone (record { 0 = first }) (print-plain (record { 0 = first })) x) (prints-plain (first + 1) prints)
+prints-plain first (x ∷ prints) = each-append IsOfEnd (map (text_printed (record { 0 = first })) x) (texts_from (first + 1) prints) (each-print IsOfEnd (record { 0 = first }) (print-plain (record { 0 = first })) x) (prints-plain (first + 1) prints)
 
-end-plain : (texts : List Text) → Each NeedsNone texts → NeedNoCause (at_end texts)
+end-plain : (texts : List Text) → Each IsOfEnd texts → NeedNoCause (at_end texts)
 end-plain [] h = tt
-end-plain (x ∷ texts) h = (h.0, end-plain texts h.1)
+end-plain (x ∷ texts) h = (h.0.0, end-plain texts h.1)
 
 counted-causes : (es : List Event) (lines : List Line) → Caused es lines → Caused es (counted lines)
 counted-causes es lines h = Caused-lines es lines (at_end (says.Commits (length (history_of lines)) ∷ [])) h (CausedFrom-plain es lines (at_end (says.Commits (length (history_of lines)) ∷ [])) (refl, tt))
 
+-- what is told and printed at the end
+pub end-told : (servers : ℕ) (e : Ending) (w : World) → list_all settles e.settling ≡ true → Each IsOfEnd (told_by_steps (steps_at_end servers e) w ++ texts_from 0 e.prints)
+end-told servers e w h = each-append IsOfEnd (told_by_steps (steps_at_end servers e) w) (texts_from 0 e.prints)
+    (each-append IsOfEnd (told_by (Does Dismiss) w) _ (subst (λ l. Each IsOfEnd l) (sym (told-is w Dismiss [] (sym (append-nil w.lines)))) tt) (steps-plain _ (after Dismiss w) (λ c. (refl, refl)) (end-final servers e h).1)) (prints-plain 0 e.prints)
+
 pub end-causes : (files : AllFiles) (epochs : ServerNo → ℕ) (servers : ℕ) (items : List Item) (e : Ending) → IsReported items (opening servers files epochs) → IsEnding servers e (world_of items (opening servers files epochs)) → Caused (events_of items) (lines_to_end servers items e (opening servers files epochs))
-end-causes files epochs servers items e h k = counted-causes (events_of items) _ (Caused-lines (events_of items) (lines_of_items items start) _ (run-causes files epochs servers items h) (CausedFrom-plain (events_of items) (lines_of_items items start) _ (end-plain _ all)))
-  where
-    start : World
-    start = opening servers files epochs
-
-    final : Each IsFinal (steps_at_end servers e)
-    final = end-final servers e k.settling
-
-    all : Each NeedsNone (told_by_steps (steps_at_end servers e) (world_of items (opening servers files epochs)) ++ texts_from 0 e.prints)
-    all = each-append NeedsNone (told_by_steps (steps_at_end servers e) (world_of items (opening servers files epochs))) (texts_from 0 e.prints)
-        (each-append NeedsNone (told_by (Does Dismiss) (world_of items (opening servers files epochs))) _ (subst (λ l. Each NeedsNone l) (sym (told-is (world_of items (opening servers files epochs)) Dismiss [] (sym (append-nil (world_of items (opening servers files epochs)).lines)))) tt)
-        (steps-plain _ (after Dismiss (world_of items (opening servers files epochs))) (λ c. (refl, refl)) final.1)) (prints-plain 0 e.prints)
+end-causes files epochs servers items e h k = let start = opening servers files epochs in counted-causes (events_of items) _ (Caused-lines (events_of items) (lines_of_items items start) _ (run-causes files epochs servers items h)
+    (CausedFrom-plain (events_of items) (lines_of_items items start) _ (end-plain _ (end-told servers e (world_of items start) k.settling))))
