@@ -132,7 +132,7 @@ gone-some : (o : Option Prepared) → is_some (gone_on o) ≡ is_some o
 gone-some None = refl
 gone-some (Some p) = refl
 
-going-there : (x : StableState) (t : WorkerTable) (w : Work) → going_work x t ≡ Some w → work_at w.name t ≡ Some w
+pub going-there : (x : StableState) (t : WorkerTable) (w : Work) → going_work x t ≡ Some w → work_at w.name t ≡ Some w
 going-there x [] w h = absurd (cc h)
 going-there x (y ∷ ys) w h = by (is_going (x.works y.name)) refl h (going-there x ys w) (work_tells y.name w.name)
   where
@@ -258,21 +258,10 @@ module _ (m : Memory) (x : StableState) (Needs : Tid → WorkId → Type 0) wher
           by (Active a) h = absurd (true≢false (sym h))
           by (Broken u held) h = absurd (true≢false (sym h))
 
-      -- a background step
-      pub step-tends : ((W : WorkId) (w : Work) (T : Tid) → work_at W m.worker ≡ Some w → Needs T W → T ≡ w.tid) → (row : RowOutcome Memory) → server_step m x room ≡ Some row → RowTends row
-      step-tends same row h = by (going_work x m.worker) refl h
-        where
-          carried : (w : Work) (o : Option Intention) → work_at w.name m.worker ≡ Some w → RowTends (of_worker m (carried_row m.worker m.tickets w o))
-          carried w (Some i) e = quiet-tends _ refl refl refl refl
-          carried w None e = removed-tends w.name _ refl (λ T need h. inl (ap (λ (U : Tid). (Server U.server, messages.Done U w.name)) (sym (same w.name w T e need))))
-
-          rest : (b : Bool) → of_step m (if b then Some (record { table = m.worker; changes = []; messages = []; notes = []; tickets = m.tickets }) else None) ≡ Some row → RowTends row
-          rest true q = subst (λ (z : RowOutcome Memory). RowTends z) (some_is _ row q) (quiet-tends _ refl refl refl refl)
-          rest false q = absurd (cc q)
-
-          by : (o : Option Work) → going_work x m.worker ≡ o → of_step m (going_row m.worker st m.tickets o) ≡ Some row → RowTends row
-          by None g q = rest room.rubbish q
-          by (Some w) g q = subst (λ (z : RowOutcome Memory). RowTends z) (some_is _ row q) (carried w (slice_get (intentions_of (x.works w.name)) (m.next w.name)) (going-there x m.worker w g))
+      -- a background step of a going work
+      pub carried-tends : ((W : WorkId) (w : Work) (T : Tid) → work_at W m.worker ≡ Some w → Needs T W → T ≡ w.tid) → (w : Work) → work_at w.name m.worker ≡ Some w → (o : Option Intention) → RowTends (of_worker m (carried_row m.worker m.tickets w o))
+      carried-tends same w e (Some i) = quiet-tends _ refl refl refl refl
+      carried-tends same w e None = removed-tends w.name _ refl (λ T need h. inl (ap (λ (U : Tid). (Server U.server, messages.Done U w.name)) (sym (same w.name w T e need))))
 
     -- ---- the coordinator
 

@@ -33,7 +33,7 @@ use Rattle.jn_protocol.specs.World.{World, Memory, at_server}
 use Rattle.jn_protocol.specs.Servers.{Room, server_row}
 use Rattle.jn_protocol.specs.Steps.{Step, Deliver, IsStep, after, done}
 use Rattle.jn_protocol.specs.LockFacts.{UpFact, ServerFact}
-use Rattle.jn_moves.specs.Mirrors.{IsTrue, IsAddressed, IsStage, knowledge_of, known_in}
+use Rattle.jn_moves.specs.Mirrors.{IsTrue, IsAddressed, IsTransaction, IsStage, knowledge_of, known_in}
 use Rattle.jn_moves.proofs.Transactions.{found-is}
 use Rattle.jn_settling.specs.Course.{Course, numbered, still_waiting, go}
 use Rattle.jn_settling.proofs.Burdens.{are_below, get-more, get-next}
@@ -41,7 +41,7 @@ use Rattle.jn_settling.proofs.Courses.{Sound, go-sound, waiting-is, below-still}
 use Rattle.jn_settling.proofs.WorldSizes.{holds-of}
 use Rattle.jn_settled.proofs.Known.{IsKnown, known-step}
 use Rattle.jn_settled.proofs.Ways.{Has, Waits, still-waits, now-waits}
-use Rattle.jn_closed.proofs.Rows.{Kept, is_thanked, is_ours, are_ours, needs, needs_of, needs_in, RowTends, Own, Takes, commit-takes, drop-takes, inquire-answers, done-answers, step-tends}
+use Rattle.jn_closed.proofs.Rows.{Kept, is_thanked, is_ours, are_ours, needs, needs_of, needs_in, RowTends, Own, Takes, commit-takes, drop-takes, inquire-answers, done-answers}
 
 -- ---- the messages that wait
 
@@ -53,15 +53,15 @@ abbrev pub waiting_ours : List Sent → List ℕ → Bool
 waiting_ours sent [] = true
 waiting_ours sent (k ∷ ks) = ours_at (slice_get sent k) && waiting_ours sent ks
 
-ours-more : (xs ys : List Sent) (ks : List ℕ) → are_below (length xs) ks ≡ true → waiting_ours xs ks ≡ true → waiting_ours (xs ++ ys) ks ≡ true
+pub ours-more : (xs ys : List Sent) (ks : List ℕ) → are_below (length xs) ks ≡ true → waiting_ours xs ks ≡ true → waiting_ours (xs ++ ys) ks ≡ true
 ours-more xs ys [] h k = refl
 ours-more xs ys (j ∷ ks) h k = let again = ours-more xs ys ks in let here = get-more xs ys j (grind (arith, nat_tests, h)) in grind (arith, h, k, here)
 
-ours-both : (xs : List Sent) (a b : List ℕ) → waiting_ours xs a ≡ true → waiting_ours xs b ≡ true → waiting_ours xs (a ++ b) ≡ true
+pub ours-both : (xs : List Sent) (a b : List ℕ) → waiting_ours xs a ≡ true → waiting_ours xs b ≡ true → waiting_ours xs (a ++ b) ≡ true
 ours-both xs [] b h k = k
 ours-both xs (j ∷ a) b h k = let again = ours-both xs a b in grind (arith, h, k)
 
-ours-new : (xs ys : List Sent) → are_ours ys ≡ true → waiting_ours (xs ++ ys) (numbered (length xs) ys) ≡ true
+pub ours-new : (xs ys : List Sent) → are_ours ys ≡ true → waiting_ours (xs ++ ys) (numbered (length xs) ys) ≡ true
 ours-new xs [] h = refl
 ours-new xs (y ∷ ys) h = let here = get-next xs y ys in let again = ours-new (xs ++ y ∷ []) ys (grind (arith, h)) in let l = length-append xs (y ∷ []) in
     let rest : waiting_ours (xs ++ y ∷ ys) (numbered (length xs + 1) ys) ≡ true = subst (λ zs. waiting_ours zs (numbered (length xs + 1) ys) ≡ true) (append_assoc xs (y ∷ []) ys) (subst (λ j. waiting_ours ((xs ++ y ∷ []) ++ ys) (numbered j ys) ≡ true) l again) in grind (arith, h, here, rest)
@@ -136,6 +136,7 @@ module _ (n : ℕ) (at_most : n ≤ 8) (start : World) (files : AllFiles) (epoch
         by None e is = absurd (true≢false (sym is))
         by (Some x) e is = on x.stage refl is (let f = found.0 in f.is)
           where
+            found : IsTransaction v T.server x × (x.tid ≡ T)
             found = found-is v T.server T need.memory.coordinator.transactions x (h.known.mirrors.transactions T.server need.memory need.up) e
 
             known : (stage : Stage) → x.stage ≡ stage → Knows v T (knowledge_of (Some (record x { stage = stage })))
@@ -166,6 +167,7 @@ module _ (n : ℕ) (at_most : n ≤ 8) (start : World) (files : AllFiles) (epoch
         same : U ≡ T
         same = sym p.owner ∙ says.0.1
 
+        there : (a : Prepared) × (stored w W ≡ Some a)
         there = some_of (stored w W) is
 
         by : (v.aborted T ≡ true) ⊎ ((v.over W ≡ true) ⊎ ((v.ended T ≡ true) × (v.part T W.server ≢ Some W))) → ⊥
@@ -173,7 +175,7 @@ module _ (n : ℕ) (at_most : n ≤ 8) (start : World) (files : AllFiles) (epoch
         by (inr (inl o)) = not_both (v.over W) o (let f = (state W.server (λ j. false)).prepared W there.0 there.1 in f.not_over)
         by (inr (inr o)) = o.1 (subst (λ (X : Tid). v.part X W.server ≡ Some W) same p.part)
 
-    same-owner : (s : ServerNo) (m : Memory) → w.memory s ≡ Some m → (W : WorkId) (u : Work) (T : Tid) → work_at W m.worker ≡ Some u → Needed w T W → T ≡ u.tid
+    pub same-owner : (s : ServerNo) (m : Memory) → w.memory s ≡ Some m → (W : WorkId) (u : Work) (T : Tid) → work_at W m.worker ≡ Some u → Needed w T W → T ≡ u.tid
     same-owner s m up W u T e need = let p = needed-part T W need in sym p.owner ∙ (h.known.mirrors.owner s m W u up e).1
 
     -- ---- rows
