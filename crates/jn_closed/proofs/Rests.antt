@@ -1,5 +1,5 @@
 -- A settle after the end, where all servers are up in the end: its steps keep what holds, and none is stopped.
-use Rattle.std.proofs.Common.{◌≡◌, ◌≢◌, ◌⊎◌, inl, inr, ◌≤◌, ◌<◌, ℕ, zero, suc, ◌+◌, Bool, true, false, List, [], ◌∷◌, ◌++◌, length, append-nil, Option, Some, None, is_some, true≢false, refl, sym, ◌∙◌, ap, subst, arith}
+use Rattle.std.proofs.Common.{◌≡◌, ◌≢◌, ◌⊎◌, inl, inr, ◌≤◌, ◌<◌, ℕ, zero, suc, ◌+◌, Bool, true, false, List, [], ◌∷◌, ◌++◌, length, Option, Some, None, is_some, true≢false, refl, sym, ◌∙◌, ap, subst, arith}
 use Rattle.std.specs.Prelude.{if◌then◌else◌, slice_get, ◌&&◌, not, map, nat_eq}
 use Rattle.std.specs.List.{list_any}
 use Rattle.std.proofs.lemmas.Bool.Decides.{nat_tests}
@@ -18,29 +18,29 @@ use Rattle.jn_rows.specs.declared.worker.Work.{Work}
 use Rattle.jn_rows.specs.declared.coordinator.Transaction.{Transaction}
 use Rattle.jn_rows.specs.declared.coordinator.Stage.{Stage}
 use Rattle.jn_rows.specs.declared.coordinator.Stage.TheVariants.{Open, Voting, Committed, Aborted}
-use Rattle.jn_rows.specs.Stable.{StableState, Prepared, Pick, stable, made_all, is_ready, is_going}
+use Rattle.jn_rows.specs.Stable.{StableState, Prepared, Pick, stable, is_ready, is_going}
 use Rattle.jn_rows.specs.Outcomes.{RowOutcome, Sent}
-use Rattle.jn_rows.specs.Client.{again_row, sent_again}
-use Rattle.jn_rows.specs.Worker.{WorkerTable, work_at, going_work, worker_again}
-use Rattle.jn_rows.specs.Coordinator.{CoordinatorTable, transaction_at, is_work, besides, commits as commits_of, all_in, told_again, coordinator_again, committed_to}
+use Rattle.jn_rows.specs.Client.{sent_again}
+use Rattle.jn_rows.specs.Worker.{WorkerTable, work_at, worker_again}
+use Rattle.jn_rows.specs.Coordinator.{transaction_at, is_work, besides, commits as commits_of, told_again, coordinator_again, committed_to}
 use Rattle.jn_machine.specs.Steps.{run as run_atoms, opening_world}
 use Rattle.jn_protocol.specs.World.{World, Memory}
-use Rattle.jn_protocol.specs.Servers.{Room, server_row, server_step, server_again}
-use Rattle.jn_protocol.specs.Steps.{Step, Again, Deliver, Work as WorkStep, Nudge, StopDelivery, StopWork, IsStep, after, at_memory, handed, work, works, ends, done, nudge, sent_now}
+use Rattle.jn_protocol.specs.Servers.{Room, server_row, server_again}
+use Rattle.jn_protocol.specs.Steps.{Step, Again, Deliver, Work as WorkStep, Nudge, StopDelivery, StopWork, IsStep, after, at_memory, handed, done, nudge, sent_now}
 use Rattle.jn_moves.specs.Mirrors.{IsTrue, IsAddressed}
 use Rattle.jn_settling.specs.Course.{Course, numbered, still_waiting, without_number, go, go_on}
-use Rattle.jn_settling.specs.Settle.{Chance, servers_from, first_busy, handing, working, next_step, onward, until_rest, ask_again}
+use Rattle.jn_settling.specs.Settle.{Chance, servers_from, first_busy, next_step, onward, until_rest, ask_again}
 use Rattle.jn_settling.proofs.Burdens.{are_below, busy-is}
-use Rattle.jn_settling.proofs.Courses.{Sound, go-sound, waiting-is}
+use Rattle.jn_settling.proofs.Courses.{go-sound, waiting-is}
 use Rattle.jn_settling.proofs.Parts.{Busy, busy-has, get-some, next_intention, row_of, works-as}
 use Rattle.jn_settling.proofs.WorldSizes.{holds-of}
 use Rattle.jn_settled.specs.Settled.{AreUp}
-use Rattle.jn_settled.proofs.Known.{IsKnown, known-step}
+use Rattle.jn_settled.proofs.Known.{known-step}
 use Rattle.jn_settled.proofs.Ways.{Has, Waits, still-waits, now-waits, rest-down, any-without}
-use Rattle.jn_closed.proofs.Rows.{Kept, is_thanked, are_all, is_ours, are_ours, needs, needs_of, needs_in, RowTends, Own, Takes, carried-tends, going-there}
-use Rattle.jn_closed.proofs.Tends.{waiting_ours, ours_at, ours-more, ours-both, ours-new, stored, Needed, Asked, inquires, commits, drops, Stays, lives, told, carried, Ways, Tends, inv, up-fact, takes, same-owner, row-tends, row-ways}
+use Rattle.jn_closed.proofs.Rows.{is_thanked, are_all, is_ours, are_ours, needs, needs_of, needs_in, RowTends, Takes, carried-tends, going-there}
+use Rattle.jn_closed.proofs.Tends.{waiting_ours, ours_at, ours-more, ours-both, ours-new, stored, Needed, Asked, inquires, commits, drops, Stays, lives, told, carried, Ways, Tends, up-fact, takes, same-owner, row-tends, row-ways}
 
-some-up : (o : Option Memory) → is_some o ≡ true → (m : Memory) × (o ≡ Some m)
+pub some-up : (o : Option Memory) → is_some o ≡ true → (m : Memory) × (o ≡ Some m)
 some-up None h = absurd (true≢false (sym h))
 some-up (Some m) h = (m, refl)
 
@@ -156,6 +156,7 @@ module _ (n : ℕ) (at_most : n ≤ 8) (start : World) (files : AllFiles) (epoch
         tends : RowTends has.memory (stable (d.world.found s)) (Needed d.world) row
         tends = carried-tends has.memory (stable (d.world.found s)) (Needed d.world) (t.kept s has.memory has.up) room (let f = up-fact n at_most start files epochs d t s has.memory has.up in f.table)
             (same-owner n at_most start files epochs d t s has.memory has.up) has.entry (going-there (stable (d.world.found s)) has.memory.worker has.entry has.goes) _
+
   -- ---- a part of a settle
 
   pub rest-goes : (b : Bool) (j : ℕ) (chances : ℕ → Chance) (d : Course) → Goes b d → AreUp (until_rest (servers_from 0 n) chances j d).world → Goes b (until_rest (servers_from 0 n) chances j d)

@@ -1,16 +1,14 @@
 -- What a server has once its outcomes are thanked, and what its rows do then.
-use Rattle.std.proofs.Common.{◌≡◌, ◌≢◌, ◌⊎◌, inl, inr, ℕ, Bool, true, false, List, [], ◌∷◌, ◌++◌, Option, Some, None, is_some, true≢false, refl, sym, ◌∙◌, ap, subst, arith}
-use Rattle.std.specs.Prelude.{if◌then◌else◌, not, ◌&&◌, slice_get}
+use Rattle.std.proofs.Common.{◌≡◌, ◌≢◌, ◌⊎◌, inl, inr, Bool, true, false, List, [], ◌∷◌, ◌++◌, Option, Some, None, is_some, true≢false, refl, sym, ◌∙◌, ap, subst, arith}
+use Rattle.std.specs.Prelude.{if◌then◌else◌, not, ◌&&◌}
 use Rattle.std.proofs.lemmas.Bool.Decides.{nat_tests}
 use Rattle.jn_base.specs.declared.names.ServerNo.{ServerNo}
 use Rattle.jn_base.specs.declared.names.Tid.{Tid}
 use Rattle.jn_base.specs.declared.names.WorkId.{WorkId}
-use Rattle.jn_base.specs.declared.names.Tickets.{Tickets}
-use Rattle.jn_base.specs.declared.names.Party.TheVariants.{Client, Server}
+use Rattle.jn_base.specs.declared.names.Party.TheVariants.{Server}
 use Rattle.jn_base.specs.Names.{tid_eq, work_eq}
 use Rattle.jn_base.proofs.Tells.{tid_tells, work_tells}
 use Rattle.jn_records.specs.declared.intention.Intention.{Intention}
-use Rattle.jn_msgs.specs.declared.message.Message.{Message}
 use Rattle.jn_msgs.specs.declared.message.Message.TheVariants as messages
 use Rattle.jn_msgs.specs.declared.message.Note.{Note}
 use Rattle.jn_msgs.specs.declared.message.Note.TheVariants as notes
@@ -21,14 +19,14 @@ use Rattle.jn_rows.specs.declared.coordinator.Transaction.{Transaction}
 use Rattle.jn_rows.specs.declared.coordinator.Stage.{Stage}
 use Rattle.jn_rows.specs.declared.coordinator.Stage.TheVariants.{Open, Voting, Committed, Aborted}
 use Rattle.jn_rows.specs.declared.coordinator.Committed.{Committed as Commitment}
-use Rattle.jn_rows.specs.Stable.{StableState, Prepared, Pick, MarkGoing, CarryOut, RemoveWork, DropFlag, made_all, at_work, gone_on, is_ready, is_going}
+use Rattle.jn_rows.specs.Stable.{StableState, Prepared, MarkGoing, RemoveWork, DropFlag, made_all, at_work, gone_on, is_ready, is_going}
 use Rattle.jn_rows.specs.Outcomes.{RowOutcome, Sent}
-use Rattle.jn_rows.specs.Worker.{WorkerTable, WorkStorage, work_at, without, commit_row, commit_phase, drop_row, drop_phase, carried_row, going_work, going_row, intentions_of, worker_step}
+use Rattle.jn_rows.specs.Worker.{WorkerTable, WorkStorage, work_at, without, commit_row, commit_phase, drop_row, drop_phase, carried_row, going_work}
 use Rattle.jn_rows.specs.Coordinator.{CoordinatorTable, transaction_at, with_stage, without as without_tid, is_work, all_in, told_stage, inquire_row, done_row, done_stage, forget_row}
 use Rattle.jn_machine.specs.World.{World as Machine}
-use Rattle.jn_machine.proofs.Updates.{at_work_here, at_work_other, some_is, none_of, false_unless}
-use Rattle.jn_protocol.specs.World.{World, Memory}
-use Rattle.jn_protocol.specs.Servers.{Room, storage_of, of_worker, of_coordinator, of_step, server_step}
+use Rattle.jn_machine.proofs.Updates.{at_work_here, some_is, none_of, false_unless}
+use Rattle.jn_protocol.specs.World.{Memory}
+use Rattle.jn_protocol.specs.Servers.{Room, storage_of, of_worker, of_coordinator}
 use Rattle.jn_protocol.specs.LockFacts.{TableFact, IsSoundWork}
 use Rattle.jn_moves.specs.Mirrors.{AreTransactions}
 use Rattle.jn_moves.proofs.Transactions.{at-stage, at-less, in_stage}
@@ -181,10 +179,10 @@ module _ (m : Memory) (x : StableState) (Needs : Tid → WorkId → Type 0) wher
       abbrev st : WorkStorage
       st = storage_of m x room
 
-      none-stored : (W : WorkId) → work_at W m.worker ≡ None → x.works W ≡ None
+      pub none-stored : (W : WorkId) → work_at W m.worker ≡ None → x.works W ≡ None
       none-stored W e = none_of (x.works W) (false_unless (is_some (x.works W)) (λ h. true≢false (sym (fact.live W h) ∙ ap is_some e)))
 
-      some-stored : (W : WorkId) (w : Work) → work_at W m.worker ≡ Some w → is_some (x.works W) ≡ true
+      pub some-stored : (W : WorkId) (w : Work) → work_at W m.worker ≡ Some w → is_some (x.works W) ≡ true
       some-stored W w e = by w.phase (prepared-at m.worker W w kept.works e) (fact.sound W w e)
         where
           by : (p : Phase) → is_prepared p ≡ true → IsSoundWork (x.works W) w.tid p → is_some (x.works W) ≡ true

@@ -1,13 +1,12 @@
 -- What holds of a course after the end, and on what each work and each transaction waits.
-use Rattle.std.proofs.Common.{◌≡◌, ◌≢◌, ◌⊎◌, inl, inr, ◌≤◌, ◌<◌, ℕ, zero, suc, ◌+◌, Bool, true, false, List, [], ◌∷◌, ◌++◌, length, length-append, append_assoc, Option, Some, None, is_some, true≢false, refl, sym, ◌∙◌, ap, subst, arith}
+use Rattle.std.proofs.Common.{◌≡◌, ◌≢◌, ◌⊎◌, inl, inr, ◌≤◌, ℕ, ◌+◌, Bool, true, false, List, [], ◌∷◌, ◌++◌, length, length-append, append_assoc, Option, Some, None, is_some, true≢false, refl, sym, ◌∙◌, ap, subst, arith}
 use Rattle.std.specs.Prelude.{if◌then◌else◌, slice_get, ◌&&◌}
 use Rattle.std.proofs.lemmas.Bool.Decides.{nat_tests}
 use Rattle.jn_base.specs.declared.names.ServerNo.{ServerNo}
 use Rattle.jn_base.specs.declared.names.ClientNo.{ClientNo}
 use Rattle.jn_base.specs.declared.names.Tid.{Tid}
 use Rattle.jn_base.specs.declared.names.WorkId.{WorkId}
-use Rattle.jn_base.specs.declared.names.Party.{Party}
-use Rattle.jn_base.specs.declared.names.Party.TheVariants.{Client, Server}
+use Rattle.jn_base.specs.declared.names.Party.TheVariants.{Server}
 use Rattle.jn_base.specs.Names.{server_eq}
 use Rattle.jn_base.proofs.Tells.{server_tells}
 use Rattle.jn_order.specs.Files.{AllFiles}
@@ -29,19 +28,18 @@ use Rattle.jn_machine.specs.Messages.{Says}
 use Rattle.jn_machine.specs.Steps.{run as run_atoms, opening_world}
 use Rattle.jn_machine.proofs.Runs.{run_kept, opening_kept}
 use Rattle.jn_machine.proofs.Updates.{some_is, some_of, not_both}
-use Rattle.jn_protocol.specs.World.{World, Memory, at_server}
+use Rattle.jn_protocol.specs.World.{World, Memory}
 use Rattle.jn_protocol.specs.Servers.{Room, server_row}
-use Rattle.jn_protocol.specs.Steps.{Step, Deliver, IsStep, after, done}
+use Rattle.jn_protocol.specs.Steps.{Step, IsStep, after, done}
 use Rattle.jn_protocol.specs.LockFacts.{UpFact, ServerFact}
-use Rattle.jn_moves.specs.Mirrors.{IsTrue, IsAddressed, IsTransaction, IsStage, knowledge_of, known_in}
+use Rattle.jn_moves.specs.Mirrors.{IsAddressed, IsTransaction, IsStage, knowledge_of, known_in}
 use Rattle.jn_moves.proofs.Transactions.{found-is}
 use Rattle.jn_settling.specs.Course.{Course, numbered, still_waiting, go}
 use Rattle.jn_settling.proofs.Burdens.{are_below, get-more, get-next}
 use Rattle.jn_settling.proofs.Courses.{Sound, go-sound, waiting-is, below-still}
-use Rattle.jn_settling.proofs.WorldSizes.{holds-of}
 use Rattle.jn_settled.proofs.Known.{IsKnown, known-step}
-use Rattle.jn_settled.proofs.Ways.{Has, Waits, still-waits, now-waits}
-use Rattle.jn_closed.proofs.Rows.{Kept, is_thanked, is_ours, are_ours, needs, needs_of, needs_in, RowTends, Own, Takes, commit-takes, drop-takes, inquire-answers, done-answers}
+use Rattle.jn_settled.proofs.Ways.{Has, Waits, now-waits}
+use Rattle.jn_closed.proofs.Rows.{Kept, is_ours, are_ours, needs, needs_of, needs_in, RowTends, Own, Takes, commit-takes, drop-takes, inquire-answers, done-answers}
 
 -- ---- the messages that wait
 
@@ -262,8 +260,12 @@ module _ (n : ℕ) (at_most : n ≤ 8) (start : World) (files : AllFiles) (epoch
           was-needed T W need = by (server_tells q T.server) (sym (ap (λ (z : World). z.memory T.server) is) ∙ need.up)
             where
               by : ((server_eq q T.server ≡ true) × (q ≡ T.server)) ⊎ ((server_eq q T.server ≡ false) × (q ≢ T.server)) → (if server_eq q T.server then Some row.table else w.memory T.server) ≡ Some need.memory → Needed w T W
-              by (inl e) g = record { memory = m; up = ap w.memory (sym e.1) ∙ up; is = tends.needed T W (subst (λ (z : Memory). needs z.coordinator.transactions T W ≡ true)
-                  (sym (some_is row.table need.memory (sym (ap (λ (b : Bool). if b then Some row.table else w.memory T.server) e.0) ∙ g))) need.is) }
+              by (inl e) g = record {
+                memory = m;
+                up = ap w.memory (sym e.1) ∙ up;
+                is = tends.needed T W (subst (λ (z : Memory). needs z.coordinator.transactions T W ≡ true)
+                    (sym (some_is row.table need.memory (sym (ap (λ (b : Bool). if b then Some row.table else w.memory T.server) e.0) ∙ g))) need.is);
+              }
               by (inr e) g = record { memory = need.memory; up = sym (ap (λ (b : Bool). if b then Some row.table else w.memory T.server) e.0) ∙ g; is = need.is }
 
           -- what the row's table needs

@@ -4,7 +4,7 @@ use Rattle.jn_base.specs.declared.names.ServerNo.{ServerNo}
 use Rattle.jn_base.specs.declared.names.Tid.{Tid}
 use Rattle.jn_base.specs.declared.names.WorkId.{WorkId}
 use Rattle.jn_rows.specs.Stable.{StableState, Pick}
-use Rattle.jn_protocol.specs.World.{World, Memory}
+use Rattle.jn_protocol.specs.World.{Memory}
 use Rattle.jn_protocol.specs.Steps.{Step, Crash, Narrow, Restart, Dismiss, CloseClients}
 use Rattle.jn_settling.specs.Course.{Course, go_on}
 use Rattle.jn_settling.specs.Settle.{Chance, servers_from, settled}
@@ -25,7 +25,7 @@ restarts starts (s ∷ servers) = Narrow s (starts s).narrowed ∷ Restart s (st
 
 -- The clients are dismissed. Each server goes down, each comes up, and each counts its outcomes as thanked.
 abbrev pub end_steps : (ServerNo → Start) → List ServerNo → List Step
-end_steps starts servers = Dismiss ∷ map (λ (s : ServerNo). Crash s) servers ++ restarts starts servers ++ map (λ (s : ServerNo). CloseClients s) servers
+end_steps starts servers = Dismiss ∷ map (λ (s : ServerNo). Crash s) servers ++ (restarts starts servers ++ map (λ (s : ServerNo). CloseClients s) servers)
 
 -- what waits is dropped
 abbrev pub without_messages : Course → Course
