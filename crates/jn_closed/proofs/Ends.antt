@@ -20,24 +20,26 @@ use Rattle.jn_rows.specs.Worker.{WorkerTable, work_at, restored_work, restored_w
 use Rattle.jn_rows.specs.Coordinator.{is_work, all_in, thanked, all_thanked, restored_transaction, restored_transactions, close_clients_row}
 use Rattle.jn_machine.specs.Steps.{run as run_atoms, opening_world}
 use Rattle.jn_moves.specs.Mirrors.{AreTransactions}
-use Rattle.jn_machine.proofs.Updates.{none_unless, none_of, false_unless}
+use Rattle.jn_machine.proofs.Updates.{none_unless, none_of, false_unless, clash}
 use Rattle.jn_protocol.specs.World.{World, Memory, opening}
 use Rattle.jn_protocol.specs.Servers.{restored, of_coordinator}
-use Rattle.jn_protocol.specs.Steps.{Step, Again, Nudge, Crash, Narrow, Restart, Dismiss, CloseClients, IsStep, IsRun, after, nudge, crash, narrow, restart, close_clients}
+use Rattle.jn_protocol.specs.Steps.{Step, Again, Nudge, Crash, Narrow, Restart, Dismiss, CloseClients, IsStep, IsRun, run, after, nudge, crash, narrow, restart, close_clients}
 use Rattle.jn_protocol.specs.LockFacts.{UpFact}
 use Rattle.jn_protocol.proofs.Closes.{is_committed}
+use Rattle.jn_runs.specs.Runs.{IsInOrder}
+use Rattle.jn_runs.proofs.Runs.{moves-in-order}
 use Rattle.jn_settling.specs.Course.{Course, still_waiting, opening_course, go, go_on}
 use Rattle.jn_settling.specs.Settle.{Chance, servers_from, clients_from, until_rest, ask_again, settled}
 use Rattle.jn_settling.specs.Sizes.{committed_at}
 use Rattle.jn_settling.specs.Bounds.{NothingGoes, Ends}
 use Rattle.jn_settling.proofs.Courses.{Sound, go-sound, waiting-is}
-use Rattle.jn_settling.proofs.Settling.{opening-sound, settle-ends}
+use Rattle.jn_settling.proofs.Settling.{opening-sound, on-world, settle-ends}
 use Rattle.jn_settling.proofs.WorldSizes.{up-sizes}
 use Rattle.jn_settled.specs.Settled.{AreUp}
 use Rattle.jn_settled.proofs.Known.{IsKnown, known-step, opening-known}
 use Rattle.jn_settled.proofs.Ways.{Waits, quiet-clients, rest-down}
 use Rattle.jn_settled.proofs.Answered.{rest-keeps, ask-keeps}
-use Rattle.jn_closed.specs.Ending.{Start, restarts, end_steps, without_messages, ended, IsEmpty, IsClosed, LeavesNothing}
+use Rattle.jn_closed.specs.Ending.{Start, restarts, end_steps, without_messages, ended, IsEmpty, IsClosed, IsAsCommitted, Leaves}
 use Rattle.jn_closed.proofs.Rows.{are_prepared, is_thanked, are_all, Kept, needs, needs_in, some-stored}
 use Rattle.jn_closed.proofs.Tends.{stored, waiting_ours, Needed, Asked, inquires, commits, drops, Stays, lives, told, carried, Ways, Tends, up-fact}
 use Rattle.jn_closed.proofs.Rests.{Goes, WaysAt, rest-goes, ask-goes, some-up}
@@ -428,7 +430,10 @@ module _ (n : ℕ) (at_most : n ≤ 8) (start : World) (files : AllFiles) (epoch
     needed = λ T W at need. absurd (true≢false (sym need.is ∙ ap (λ xs. needs xs T W) (h.beyond.memory s l need.memory (ap (λ f. f s) (sym memory) ∙ ap e.world.memory (sym at) ∙ need.up)).1));
   }
 
-  pub leaves-nothing : (first second : ℕ → Chance) (d : Course) → Ended d → LeavesNothing n first second d
+  settled-traced : (first second : ℕ → Chance) (j : ℕ) (d : Course) → Traced d → Traced (settled n (record { first = first; second = second; steps = j }) d)
+  settled-traced first second j d t = rest-keeps n at_most start files epochs Traced traced-go j second _ (ask-keeps n at_most start files epochs Traced traced-go (clients_from 1 8) servers _ (rest-keeps n at_most start files epochs Traced traced-go j first d t))
+
+  pub leaves-nothing : (first second : ℕ → Chance) (d : Course) → Ended d → Leaves IsClosed n first second d
   leaves-nothing first second d h = record { steps = ends.steps; each = each }
     where
       t : Traced d
@@ -440,7 +445,7 @@ module _ (n : ℕ) (at_most : n ≤ 8) (start : World) (files : AllFiles) (epoch
       each : (j : ℕ) → ends.steps ≤ j → AreUp (settled n (record { first = first; second = second; steps = j }) d).world → IsClosed (settled n (record { first = first; second = second; steps = j }) d)
       each j l up = record {
         waits = ap (λ (z : Course). z.waiting) (ends.each j l) ∙ (let r = ends.rests in r.waits);
-        servers = λ s m is. is-empty last g3.tends (rest-keeps n at_most start files epochs Traced traced-go j second middle (ask-keeps n at_most start files epochs Traced traced-go (clients_from 1 8) servers part t1)) (g3.ways refl)
+        servers = λ s m is. is-empty last g3.tends (settled-traced first second j d t) (g3.ways refl)
             (ap (λ (z : Course). z.waiting) (ends.each j l) ∙ (let r = ends.rests in r.waits)) (subst (λ (z : Course). NothingGoes n z.world) (sym (ends.each j l)) ends.quiet) up s m is;
       }
         where
@@ -478,13 +483,42 @@ module _ (n : ℕ) (at_most : n ≤ 8) (start : World) (files : AllFiles) (epoch
           g3 : Goes n at_most start files epochs true last
           g3 = rest-goes n at_most start files epochs true j second middle g2 up
 
-pub end-leaves-nothing : (n : ℕ) → n ≤ 8 → (files : AllFiles) (epochs : ServerNo → ℕ) (steps : List Step) → IsRun steps (opening n files epochs) → (starts : ServerNo → Start)
-    → IsRun (end_steps starts (servers_from 0 n)) (go_on steps (opening_course n files epochs)).world → (first second : ℕ → Chance) → LeavesNothing n first second (ended n starts (go_on steps (opening_course n files epochs)))
-end-leaves-nothing n at_most files epochs steps i starts j first second = leaves-nothing n at_most (opening n files epochs) files epochs first second (ended n starts c)
-    (end-closes n at_most (opening n files epochs) files epochs starts (without_messages c) (record { sound = record { course = record { is_run = t.sound.course.is_run; stands = t.sound.course.stands }; locks = t.sound.locks; sizes = t.sound.sizes; below = refl }; known = t.known; beyond = t.beyond }) refl j)
-  where
-    c : Course
-    c = go_on steps (opening_course n files epochs)
+  -- what is found is what was committed
+  as-committed : (d : Course) → Traced d → AreUp d.world → IsClosed d → IsAsCommitted files d.world
+  as-committed d h up closed = record {
+    history = order.history;
+    told = order.told;
+    once = order.once;
+    serial = order.serial;
+    shown = λ s c u. let m = some-up (d.world.memory s) (up s) in let empty = closed.servers s m.0 m.1 in order.shown s c u (λ W p e. absurd (clash ((d.world.found s c).works W) p e (empty.stored c W)));
+  }
+    where
+      order : IsInOrder files d.world
+      order = moves-in-order files epochs d.world h.sound.locks (record { atoms = h.known.atoms; may = h.known.may; mirrors = h.known.mirrors })
 
-    t : Traced n at_most (opening n files epochs) files epochs c
-    t = traced-on n at_most (opening n files epochs) files epochs steps (opening_course n files epochs) (record { sound = opening-sound n files epochs; known = opening-known n files epochs; beyond = opening-beyond n files epochs }) i
+  pub leaves-committed : (first second : ℕ → Chance) (d : Course) → Ended d → Leaves (λ c. IsAsCommitted files c.world) n first second d
+  leaves-committed first second d h = record {
+    steps = nothing.steps;
+    each = λ j l up. as-committed _ (settled-traced first second j d (let e = h.ending in e.traced)) up (nothing.each j l up);
+  }
+    where
+      nothing : Leaves IsClosed n first second d
+      nothing = leaves-nothing first second d h
+
+module _ (n : ℕ) (at_most : n ≤ 8) (files : AllFiles) (epochs : ServerNo → ℕ) (steps : List Step) (is : IsRun steps (opening n files epochs)) (starts : ServerNo → Start)
+    (comes : IsRun (end_steps starts (servers_from 0 n)) (run steps (opening n files epochs))) where
+  abbrev c : Course
+  c = go_on steps (opening_course n files epochs)
+
+  t : Traced n at_most (opening n files epochs) files epochs c
+  t = traced-on n at_most (opening n files epochs) files epochs steps (opening_course n files epochs) (record { sound = opening-sound n files epochs; known = opening-known n files epochs; beyond = opening-beyond n files epochs }) is
+
+  it-ended : Ended n at_most (opening n files epochs) files epochs (ended n starts c)
+  it-ended = end-closes n at_most (opening n files epochs) files epochs starts (without_messages c)
+      (record { sound = record { course = record { is_run = t.sound.course.is_run; stands = t.sound.course.stands }; locks = t.sound.locks; sizes = t.sound.sizes; below = refl }; known = t.known; beyond = t.beyond }) refl (subst (λ (w : World). IsRun (end_steps starts (servers_from 0 n)) w) (sym (on-world steps (opening_course n files epochs))) comes)
+
+  pub end-leaves-nothing : (first second : ℕ → Chance) → Leaves IsClosed n first second (ended n starts c)
+  end-leaves-nothing first second = leaves-nothing n at_most (opening n files epochs) files epochs first second (ended n starts c) it-ended
+
+  pub end-leaves-committed : (first second : ℕ → Chance) → Leaves (λ z. IsAsCommitted files z.world) n first second (ended n starts c)
+  end-leaves-committed first second = leaves-committed n at_most (opening n files epochs) files epochs first second (ended n starts c) it-ended

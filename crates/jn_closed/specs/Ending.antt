@@ -3,9 +3,14 @@ use Rattle.std.specs.Prelude.{◌≡◌, ◌≤◌, ℕ, List, [], ◌∷◌, �
 use Rattle.jn_base.specs.declared.names.ServerNo.{ServerNo}
 use Rattle.jn_base.specs.declared.names.Tid.{Tid}
 use Rattle.jn_base.specs.declared.names.WorkId.{WorkId}
+use Rattle.jn_base.specs.declared.names.LockUnit.{LockUnit}
+use Rattle.jn_order.specs.Files.{AllFiles}
 use Rattle.jn_rows.specs.Stable.{StableState, Pick}
-use Rattle.jn_protocol.specs.World.{Memory}
+use Rattle.jn_machine.specs.World.{Commit, IsSerial, replay}
+use Rattle.jn_machine.specs.Order.{CommitsOnce}
+use Rattle.jn_protocol.specs.World.{World, Memory, commits_in}
 use Rattle.jn_protocol.specs.Steps.{Step, Crash, Narrow, Restart, Dismiss, CloseClients}
+use Rattle.jn_moves.specs.Mirrors.{commits_of}
 use Rattle.jn_settling.specs.Course.{Course, go_on}
 use Rattle.jn_settling.specs.Settle.{Chance, servers_from, settled}
 use Rattle.jn_settled.specs.Settled.{AreUp}
@@ -48,8 +53,17 @@ pub record IsClosed (c : Course) : Type 0 where
   pub waits : c.waiting ≡ []
   pub servers : (s : ServerNo) (m : Memory) → c.world.memory s ≡ Some m → IsEmpty m (c.world.found s)
 
--- a settle after it, from some number of steps on, where all servers are up then
-pub record LeavesNothing (servers : ℕ) (first second : ℕ → Chance) (c : Course) : Type 0 where
+-- The commits of the lines have a history: what each transaction is answered in it is what those before it left, and each
+-- register of each state that may be found is as they all leave it.
+pub record IsAsCommitted (files : AllFiles) (w : World) : Type 0 where
+  pub history : List Commit
+  pub told : commits_of history ≡ commits_in w.lines
+  pub once : CommitsOnce history
+  pub serial : IsSerial files history
+  pub shown : (s : ServerNo) (c : Pick) (u : LockUnit) → (w.found s c).files u ≡ replay files history s u
+
+-- what is so after a settle, from some number of steps on, where all servers are up then
+pub record Leaves (IsSo : Course → Type 0) (servers : ℕ) (first second : ℕ → Chance) (c : Course) : Type 0 where
   pub steps : ℕ
   pub each : (n : ℕ) → steps ≤ n → AreUp (settled servers (record { first = first; second = second; steps = n }) c).world
-      → IsClosed (settled servers (record { first = first; second = second; steps = n }) c)
+      → IsSo (settled servers (record { first = first; second = second; steps = n }) c)
