@@ -63,7 +63,7 @@ new-waits xs (y ∷ ys) x h = by h (new-waits (xs ++ y ∷ []) ys x)
 
 module _ (n : ℕ) (at_most : n ≤ 8) (start : World) where
   -- one that waits still, or is new, after a step
-  still-waits : (d : Course) (step : Step) (x : Sent) → Sound n start d → (w : Waits d.world.sent d.waiting x) → list_any (nat_eq w.number) (still_waiting step d.waiting) ≡ true → Waits (go step d).world.sent (go step d).waiting x
+  pub still-waits : (d : Course) (step : Step) (x : Sent) → Sound n start d → (w : Waits d.world.sent d.waiting x) → list_any (nat_eq w.number) (still_waiting step d.waiting) ≡ true → Waits (go step d).world.sent (go step d).waiting x
   still-waits d step x h w still = by (grows d.world step)
     where
       by : Grows d.world (after step d.world) → Waits (go step d).world.sent (go step d).waiting x
@@ -73,7 +73,7 @@ module _ (n : ℕ) (at_most : n ≤ 8) (start : World) where
         is = subst (λ xs. slice_get xs w.number ≡ Some x) (sym g.sent) (get-more d.world.sent g.new w.number (below-any (length d.world.sent) w.number d.waiting h.below w.waits) ∙ w.is);
       }
 
-  now-waits : (d : Course) (step : Step) (new : List Sent) (x : Sent) → (after step d.world).sent ≡ d.world.sent ++ new → Has x new → Waits (go step d).world.sent (go step d).waiting x
+  pub now-waits : (d : Course) (step : Step) (new : List Sent) (x : Sent) → (after step d.world).sent ≡ d.world.sent ++ new → Has x new → Waits (go step d).world.sent (go step d).waiting x
   now-waits d step new x e h = let w = new-waits d.world.sent new x h in record {
     number = w.number;
     waits = subst (λ ks. list_any (nat_eq w.number) ks ≡ true) (sym (waiting-is n at_most start d step new e)) (any-right w.number (still_waiting step d.waiting) _ w.waits);
