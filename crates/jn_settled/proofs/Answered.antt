@@ -42,14 +42,14 @@ use Rattle.jn_rows.specs.declared.coordinator.Stage.TheVariants.{Open, Voting, C
 use Rattle.jn_rows.specs.Coordinator.{transaction_at, abort_stage, abort_request, drops, besides, aborted_to}
 use Rattle.jn_runs.proofs.Openings.{Opening, openings, Has as HasOpening}
 use Rattle.jn_settling.proofs.CoordinatorFits.{found-name}
-use Rattle.jn_settled.proofs.Known.{IsKnown, known-step}
+use Rattle.jn_reported.proofs.Reached.{Reached, next-reached}
 use Rattle.jn_settled.proofs.Owners.{owner_in, owned-found}
 use Rattle.jn_settled.proofs.OwnerSteps.{AreOwned, step-keeps-owned}
 use Rattle.jn_settled.proofs.Talk.{IsStill, IsFitting, still-fits, command-fits, take-still}
 use Rattle.jn_settled.proofs.Ways.{Has, Reply, IsEnd, none-still, handed-still, took-clients, memory-clients, quiet-clients}
 
 -- an outcome after which its client waits for nothing
-abbrev ends_outcome : Outcome → Bool
+abbrev pub ends_outcome : Outcome → Bool
 ends_outcome (outcomes.Waiting s u by) = false
 ends_outcome outcome = true
 
@@ -94,14 +94,14 @@ module _ (n : ℕ) (at_most : n ≤ 8) (start : World) (files : AllFiles) (epoch
   pub record Talking (d : Course) : Type 0 where
     pub sound : Sound n start d
     pub talks : (c : ClientNo) → Talks c (d.world.clients c)
-    pub known : IsKnown files epochs d.world
+    pub known : Reached files epochs d.world
     pub owned : AreOwned d.world
 
   pub go-talking : (d : Course) (step : Step) → Talking d → IsStep step d.world → Talking (go step d)
   go-talking d step h i = record {
     sound = go-sound n at_most start d step h.sound i;
     talks = λ c. by step c;
-    known = known-step files epochs d.world h.known h.sound.locks step i;
+    known = next-reached files epochs d.world step i h.known;
     owned = step-keeps-owned n at_most d.world h.sound.sizes h.sound.locks h.owned step i;
   }
     where
@@ -188,12 +188,12 @@ module _ (n : ℕ) (at_most : n ≤ 8) (start : World) (files : AllFiles) (epoch
       by false e q f k again = let x = again k in (x.0, inr x.1, x.2, x.3)
 
   -- the client of a transaction is the one whose it is
-  its-client : (d : Course) (c : ClientNo) (T : Tid) (m : Memory) (y : Transaction) → Talking d → (d.world.clients c).transaction ≡ Some T → d.world.memory T.server ≡ Some m → transaction_at T m.coordinator.transactions ≡ Some y → y.client ≡ c
+  pub its-client : (d : Course) (c : ClientNo) (T : Tid) (m : Memory) (y : Transaction) → Talking d → (d.world.clients c).transaction ≡ Some T → d.world.memory T.server ≡ Some m → transaction_at T m.coordinator.transactions ≡ Some y → y.client ≡ c
   its-client d c T m y h current up found = let own = owner-has (openings d.world.sent) y.client y.tid (owned-found (owner_in (openings d.world.sent)) T m.coordinator.transactions y ((h.owned T.server).table m up) found) in
       let facts = h.known.facts in let began = (facts.clients c).current T current in
       let same = facts.unique own.0 (record { client = c; request = began.request; tid = T }) own.1 began.has (own.3 ∙ found-name T m.coordinator.transactions y found) in sym own.2 ∙ ap (λ (a : Opening). a.client) same
 
-  outcome-ends : (t : ClientTable) (o : Outstanding) (T : Tid) → t.outstanding ≡ Some o → t.transaction ≡ Some T → is_end_or_abort o.command ≡ true → (outcome : Outcome) → ends_outcome outcome ≡ true → IsEnd t (messages.Outcome t.client T outcome)
+  pub outcome-ends : (t : ClientTable) (o : Outstanding) (T : Tid) → t.outstanding ≡ Some o → t.transaction ≡ Some T → is_end_or_abort o.command ≡ true → (outcome : Outcome) → ends_outcome outcome ≡ true → IsEnd t (messages.Outcome t.client T outcome)
   outcome-ends t o T e current waits outcome k = ap (λ (b : Bool). (if◌then◌else◌ {A = ClientTable × Taken} b (outcome_row t T outcome) (t, Ignored)).0.outstanding) itself ∙ by outcome k
     where
       itself : client_eq t.client t.client ≡ true

@@ -1,8 +1,9 @@
 -- What a settle with all servers up answers.
-use Rattle.std.proofs.Common.{◌≡◌, ◌⊎◌, inl, inr, ◌≤◌, ℕ, false, List, [], Some, None, refl, sym, ◌∙◌, ap, subst, arith}
+use Rattle.std.proofs.Common.{◌≡◌, ◌⊎◌, inl, inr, ◌≤◌, ℕ, List, [], Some, None, refl, sym, ◌∙◌, ap, subst, arith}
 use Rattle.jn_base.specs.declared.names.ServerNo.{ServerNo}
 use Rattle.jn_base.specs.declared.names.ClientNo.{ClientNo}
 use Rattle.jn_base.specs.declared.names.Party.TheVariants.{Server}
+use Rattle.jn_base.specs.declared.op.Op.{Op}
 use Rattle.jn_base.specs.declared.op.Command.{Command}
 use Rattle.jn_base.specs.declared.op.Command.TheVariants as commands
 use Rattle.jn_order.specs.Files.{AllFiles}
@@ -15,13 +16,16 @@ use Rattle.jn_protocol.specs.World.{World, Memory}
 use Rattle.jn_protocol.specs.Servers.{Room, server_row}
 use Rattle.jn_settling.specs.Course.{Course, go_on}
 use Rattle.jn_settling.specs.Settle.{Chance, servers_from, clients_from, until_rest, ask_again}
-use Rattle.jn_settled.specs.Settled.{AreUp, AreAnswered, is_answered}
+use Rattle.jn_settled.specs.Settled.{AreUp, AreAnswered}
 use Rattle.jn_settled.proofs.Talk.{IsStill, FitsCommand}
 use Rattle.jn_settled.proofs.Ways.{Reply, Answering, OnTheWay, rest-answers, ask-on-the-way}
 use Rattle.jn_settled.proofs.Answered.{open-reply, abort-reply, rest-keeps, ask-keeps, rest-on, ask-on, among-clients}
+use Rattle.jn_settling.proofs.Courses.{Sound}
+use Rattle.jn_settled.proofs.Twins.{HasTwin}
+use Rattle.jn_settled.proofs.Operations.{op-reply}
 use Rattle.jn_settled.proofs.Begins.{Good, good-go, begin-reply}
 
-module _ (n : ℕ) (at_most : n ≤ 8) (start : World) (files : AllFiles) (epochs : ServerNo → ℕ) where
+module _ (n : ℕ) (at_most : n ≤ 8) (start : World) (files : AllFiles) (epochs : ServerNo → ℕ) (twins : (d : Course) → Sound n start d → HasTwin files epochs d.world) where
   abbrev IsGood : Course → Type 0
   IsGood d = Good n at_most start files epochs d
 
@@ -45,7 +49,7 @@ module _ (n : ℕ) (at_most : n ≤ 8) (start : World) (files : AllFiles) (epoch
       t = d.world.clients c
 
       -- what it waits for in the end it waited for before
-      stays : (o : Outstanding) → (last.world.clients c).outstanding ≡ Some o → t.outstanding ≡ Some o
+      pub stays : (o : Outstanding) → (last.world.clients c).outstanding ≡ Some o → t.outstanding ≡ Some o
       stays o e = by (rest-on n at_most start files epochs c t j chances middle (ask-on n at_most start files epochs c t (clients_from 1 8) (servers_from 0 n) d (inl refl)))
         where
           by : IsStill t (last.world.clients c) → t.outstanding ≡ Some o
@@ -81,6 +85,11 @@ module _ (n : ℕ) (at_most : n ≤ 8) (start : World) (files : AllFiles) (epoch
           (λ d' m room k same is_up. subst (λ (z : ClientTable). Reply c z (server_row m (stable (d'.world.found s)) room (messages.Begin z.client o.request)).messages ⊎ Answering c z d') same
           (begin-reply n at_most start files epochs d' c o s m room k (ap (λ (z : ClientTable). z.outstanding) same ∙ e) (ap is_begin is) is_up))
 
+      do-answered : (o : Outstanding) (s : ServerNo) (op : Op) → t.outstanding ≡ Some o → o.command ≡ commands.Do s op → (last.world.clients c).outstanding ≡ None
+      do-answered o s op e is = let fits = subst (λ z. FitsCommand t o z) is ((h.talking.talks c).fits o e) in
+          command-answered o s o.message e fits.3 refl (λ d' m room k same is_up. inl (subst (λ (z : ClientTable). Reply c z (server_row m (stable (d'.world.found s)) room o.message).messages) same
+          (op-reply files epochs d'.world (twins d' k.talking.sound) c o s op m room (k.talking.talks c).name (ap (λ (z : ClientTable). z.outstanding) same ∙ e) is is_up)))
+
       none-some : (o : Outstanding) → None ≡ Some o → ⊥
       none-some o q = cc
 
@@ -90,9 +99,9 @@ module _ (n : ℕ) (at_most : n ≤ 8) (start : World) (files : AllFiles) (epoch
         was : (d.world.clients c).outstanding ≡ Some o
         was = stays c first most rests up o e
 
-        by : (command : Command) → o.command ≡ command → is_answered command ≡ false
+        by : (command : Command) → o.command ≡ command → o.command ≡ commands.End
         by (commands.Open s) is = absurd (none-some c first most rests up o (sym (open-answered c first most rests up o s was is) ∙ e))
         by commands.Abort is = absurd (none-some c first most rests up o (sym (abort-answered c first most rests up o was is) ∙ e))
         by (commands.Begin s) is = absurd (none-some c first most rests up o (sym (begin-answered c first most rests up o s was is) ∙ e))
-        by (commands.Do s op) is = refl
-        by commands.End is = refl
+        by (commands.Do s op) is = absurd (none-some c first most rests up o (sym (do-answered c first most rests up o s op was is) ∙ e))
+        by commands.End is = is

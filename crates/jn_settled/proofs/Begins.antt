@@ -27,7 +27,7 @@ use Rattle.jn_settling.specs.Course.{Course, numbered, without_number, still_wai
 use Rattle.jn_settling.proofs.Burdens.{get-more}
 use Rattle.jn_settling.proofs.Courses.{Grows, grows, waiting-is}
 use Rattle.jn_settled.proofs.Talk.{IsStill, take-still}
-use Rattle.jn_settled.proofs.Ways.{Has, IsEnd, Reply, Answering, any-without, handed-taken, took-clients, memory-clients, quiet-clients}
+use Rattle.jn_settled.proofs.Ways.{any-left, any-right, Has, IsEnd, Reply, Answering, any-without, handed-taken, took-clients, memory-clients, quiet-clients}
 use Rattle.jn_settled.proofs.Requests.{Past, SeenFits, GoesOn, waits_on, waits_not, waits_anew, stays}
 use Rattle.jn_settled.proofs.RequestSteps.{Requests, CommandsAs, commands-as, one-client, still-on, take-next, requests-go, has-at}
 use Rattle.jn_settled.proofs.Answered.{Talking, go-talking}
@@ -47,14 +47,6 @@ in-numbered n (y ∷ ys) k l h = by (nat_eq k n) refl (in-numbered (n + 1) ys k)
     by : (b : Bool) → nat_eq k n ≡ b → (n + 1 ≤ k → k < n + 1 + length ys → list_any (nat_eq k) (numbered (n + 1) ys) ≡ true) → list_any (nat_eq k) (n ∷ numbered (n + 1) ys) ≡ true
     by true e again = grind (arith, e)
     by false e again = let on = again (grind (arith, nat_tests, e, l)) (omega (arith, h)) in grind (arith, on)
-
-any-first : (k : ℕ) (a b : List ℕ) → list_any (nat_eq k) a ≡ true → list_any (nat_eq k) (a ++ b) ≡ true
-any-first k [] b h = absurd (true≢false (sym h))
-any-first k (j ∷ a) b h = let again = any-first k a b in grind (arith, h)
-
-any-second : (k : ℕ) (a b : List ℕ) → list_any (nat_eq k) b ≡ true → list_any (nat_eq k) (a ++ b) ≡ true
-any-second k [] b h = h
-any-second k (j ∷ a) b h = let again = any-second k a b h in grind arith
 
 -- what a client takes as the reply to the Begin that it waits for
 begun-taken : (t : ClientTable) (q : ℕ) (a : Option Tid) → ((o : Outstanding) → t.outstanding ≡ Some o → o.request ≡ q → is_begin o.command ≡ true) → NotWaited (take_row t (messages.Begun t.client q a)).0 q
@@ -177,7 +169,7 @@ module _ (n : ℕ) (at_most : n ≤ 8) (start : World) (files : AllFiles) (epoch
         above k e = grind (arith, nat_tests, e)
 
         left : (k : ℕ) → list_any (nat_eq k) (still_waiting step d.waiting) ≡ true → list_any (nat_eq k) (go step d).waiting ≡ true
-        left k e = subst (λ ks. list_any (nat_eq k) ks ≡ true) (sym (waiting-is n at_most start d step (grows w step).new (grows w step).sent)) (any-first k (still_waiting step d.waiting) _ e)
+        left k e = subst (λ ks. list_any (nat_eq k) ks ≡ true) (sym (waiting-is n at_most start d step (grows w step).new (grows w step).sent)) (any-left (nat_eq k) (still_waiting step d.waiting) _ e)
 
         -- one that waited waits on, or is handed over now
         onward : (step : Step) (k : ℕ) (c : ClientNo) (q : ℕ) (a : Option Tid) → slice_get w.sent k ≡ Some (Client c, messages.Begun c q a) → list_any (nat_eq k) d.waiting ≡ true
@@ -223,7 +215,7 @@ module _ (n : ℕ) (at_most : n ≤ 8) (start : World) (files : AllFiles) (epoch
                 on : (list_any (nat_eq k) (still_waiting step d.waiting) ≡ true) ⊎ NotWaited ((after step w).clients c) q → (list_any (nat_eq k) (go step d).waiting ≡ true) ⊎ NotWaited ((after step w).clients c) q
                 on (inl x) = inl (left k x)
                 on (inr x) = inr x
-        by k c q a e g false l = inl (subst (λ ks. list_any (nat_eq k) ks ≡ true) (sym (waiting-is n at_most start d step g.new g.sent)) (any-second k (still_waiting step d.waiting) (numbered (length w.sent) g.new) (in-numbered (length w.sent) g.new k (above k l) within)))
+        by k c q a e g false l = inl (subst (λ ks. list_any (nat_eq k) ks ≡ true) (sym (waiting-is n at_most start d step g.new g.sent)) (any-right (nat_eq k) (still_waiting step d.waiting) (numbered (length w.sent) g.new) (in-numbered (length w.sent) g.new k (above k l) within)))
           where
             within : k < length w.sent + length g.new
             within = let inside = slice_get_within (after step w).sent k _ e in let long = ap length g.sent ∙ length-append w.sent g.new in omega (arith, inside, long)

@@ -1,6 +1,5 @@
 pub mod Talk
 pub mod Ways
-pub mod Known
 pub mod Owners
 pub mod OwnerSteps
 pub mod Answered
@@ -8,5 +7,17 @@ pub mod Votes
 pub mod Requests
 pub mod RequestSteps
 pub mod Begins
+pub mod Twins
+pub mod Operations
+pub mod Fates
+pub mod Memories
+pub mod Broken
+pub mod Calm
+pub mod Standing
+pub mod Carrying
+pub mod Ends
+pub mod Flags
 pub mod Answers
 pub mod Settling
+pub mod EndsWait
+pub mod Forgotten

@@ -9,10 +9,13 @@ use Rattle.jn_protocol.specs.Steps.{Step, IsRun}
 use Rattle.jn_settling.specs.Course.{Course, opening_course, go, go_on}
 use Rattle.jn_settling.specs.Settle.{Chance, servers_from, clients_from, until_rest, ask_again, settled}
 use Rattle.jn_settling.specs.Weights.{burden}
+use Rattle.jn_settling.specs.Bounds.{IsAtRest}
 use Rattle.jn_settling.proofs.Resting.{PartEnds, part-ends}
 use Rattle.jn_settling.proofs.Settling.{opening-sound}
+use Rattle.jn_settling.proofs.Courses.{Sound}
+use Rattle.jn_settled.proofs.Twins.{HasTwin, run-has-twin}
 use Rattle.jn_settled.specs.Settled.{AreUp, AreAnswered, Answers}
-use Rattle.jn_settled.proofs.Known.{opening-known}
+use Rattle.jn_reported.proofs.Reached.{opening-reached}
 use Rattle.jn_settled.proofs.Owners.{all_owned, owner_in}
 use Rattle.jn_settled.proofs.Answered.{Talking}
 use Rattle.jn_settled.proofs.Votes.{Votings}
@@ -29,7 +32,7 @@ module _ (n : ℕ) (at_most : n ≤ 8) (files : AllFiles) (epochs : ServerNo →
   opening-talking = record {
     sound = opening-sound n files epochs;
     talks = λ c. record { name = refl; fits = λ o e. absurd (none o e) };
-    known = opening-known n files epochs;
+    known = opening-reached files epochs n;
     owned = λ s. record { table = λ m e. subst (λ (z : Memory). all_owned (owner_in []) z.coordinator.transactions ≡ true) (some-memory (new_memory s (epochs s)) m e) refl; flags = λ c T f e. absurd (no-flag f e) };
   }
     where
@@ -76,27 +79,62 @@ module _ (n : ℕ) (at_most : n ≤ 8) (files : AllFiles) (epochs : ServerNo →
   pub course-talking : (steps : List Step) → IsRun steps (opening n files epochs) → Good n at_most (opening n files epochs) files epochs (go_on steps (opening_course n files epochs))
   course-talking steps h = go-on-talking (opening n files epochs) steps (opening_course n files epochs) opening-good h
 
-  pub settle-answers : (start : World) (first second : ℕ → Chance) (c : Course) → Good n at_most start files epochs c → Answers n first second c
-  settle-answers start first second c h = record {
+  -- each course is a run
+  pub course-twin : (d : Course) → Sound n (opening n files epochs) d → HasTwin files epochs d.world
+  course-twin d h = subst (λ (z : World). HasTwin files epochs z) h.course.stands (run-has-twin n files epochs d.steps h.course.is_run)
+
+  -- ---- what holds at the end
+
+  abbrev start : World
+  start = opening n files epochs
+
+  abbrev IsGood : Course → Type 0
+  IsGood d = Good n at_most start files epochs d
+
+  abbrev pub first_part : (ℕ → Chance) → ℕ → Course → Course
+  first_part first i c = until_rest (servers_from 0 n) first i c
+
+  abbrev pub asked_again : Course → Course
+  asked_again d = go_on (ask_again (clients_from 1 8) (servers_from 0 n)) d
+
+  abbrev pub second_part : (ℕ → Chance) → ℕ → Course → Course
+  second_part second k d = until_rest (servers_from 0 n) second k (asked_again d)
+
+  -- from some number of steps on, where all servers are up then
+  pub record Settles (first second : ℕ → Chance) (c : Course) (Q : Course → Type 0) : Type 0 where
+    pub steps : ℕ
+    pub each : (j : ℕ) → steps ≤ j → AreUp (settled n (record { first = first; second = second; steps = j }) c).world → Q (settled n (record { first = first; second = second; steps = j }) c)
+
+  -- what holds where both parts come to rest
+  pub settles : (first second : ℕ → Chance) (c : Course) (Q : Course → Type 0) → IsGood c
+      → ((i k : ℕ) → IsAtRest n (first_part first i c) → IsAtRest n (second_part second k (first_part first i c)) → AreUp (second_part second k (first_part first i c)).world → Q (second_part second k (first_part first i c)))
+      → Settles first second c Q
+  settles first second c Q h at_rest = record {
     steps = one.steps + two.steps;
-    each = λ j l. subst (λ (z : Course). AreUp z.world → AreAnswered z.world) (sym (whole j l)) (subst (λ (z : Course). AreUp z.world → AreAnswered z.world) (two.each two.steps (omega arith))
-        (settled-answers n at_most start files epochs one.last still two.steps second (ap (λ (z : Course). z.waiting) (two.each two.steps (omega arith)) ∙ (let r = two.rests in r.waits))));
+    each = λ j l. subst (λ (z : Course). AreUp z.world → Q z) (sym (whole j l)) (at_rest one.steps two.steps (subst (λ (z : Course). IsAtRest n z) (sym first-ends) one.rests) (subst (λ (z : Course). IsAtRest n z) (sym (two.each two.steps (omega arith))) two.rests));
   }
     where
       one : PartEnds n first c
       one = part-ends n at_most start (suc (burden (servers_from 0 n) c)) first c h.talking.sound (omega arith)
 
-      still : Good n at_most start files epochs one.last
-      still = subst (λ (z : Course). Good n at_most start files epochs z) (one.each one.steps (omega arith)) (rest-good n at_most start files epochs one.steps first c h)
+      first-ends : until_rest (servers_from 0 n) first one.steps c ≡ one.last
+      first-ends = one.each one.steps (omega arith)
 
       middle : Course
-      middle = go_on (ask_again (clients_from 1 8) (servers_from 0 n)) one.last
+      middle = go_on (ask_again (clients_from 1 8) (servers_from 0 n)) (until_rest (servers_from 0 n) first one.steps c)
 
       asked : Good n at_most start files epochs middle
-      asked = ask-good n at_most start files epochs (clients_from 1 8) (servers_from 0 n) one.last still
+      asked = ask-good n at_most start files epochs course-twin (clients_from 1 8) (servers_from 0 n) (until_rest (servers_from 0 n) first one.steps c) (rest-good n at_most start files epochs course-twin one.steps first c h)
 
       two : PartEnds n second middle
       two = part-ends n at_most start (suc (burden (servers_from 0 n) middle)) second middle asked.talking.sound (omega arith)
 
-      whole : (j : ℕ) → one.steps + two.steps ≤ j → settled n (record { first = first; second = second; steps = j }) c ≡ two.last
-      whole j l = ap (λ (z : Course). until_rest (servers_from 0 n) second j (go_on (ask_again (clients_from 1 8) (servers_from 0 n)) z)) (one.each j (omega (arith, l))) ∙ two.each j (omega (arith, l))
+      whole : (j : ℕ) → one.steps + two.steps ≤ j → settled n (record { first = first; second = second; steps = j }) c ≡ until_rest (servers_from 0 n) second two.steps middle
+      whole j l = ap (λ (z : Course). until_rest (servers_from 0 n) second j (go_on (ask_again (clients_from 1 8) (servers_from 0 n)) z)) (one.each j (omega (arith, l)) ∙ sym first-ends) ∙ two.each j (omega (arith, l)) ∙ sym (two.each two.steps (omega arith))
+
+  -- every client's command but an End is answered
+  pub all-answered : (first second : ℕ → Chance) (c : Course) (i k : ℕ) → IsGood c → IsAtRest n (second_part second k (first_part first i c)) → AreUp (second_part second k (first_part first i c)).world → AreAnswered (second_part second k (first_part first i c)).world
+  all-answered first second c i k h rests up = settled-answers n at_most start files epochs course-twin (until_rest (servers_from 0 n) first i c) (rest-good n at_most start files epochs course-twin i first c h) k second rests.waits up
+
+  pub settle-answers : (first second : ℕ → Chance) (c : Course) → IsGood c → Answers n first second c
+  settle-answers first second c h = let end = settles first second c (λ z. AreAnswered z.world) h (λ i k one two up. all-answered first second c i k h two up) in record { steps = end.steps; each = end.each }

@@ -71,7 +71,7 @@ take-still t m = inl refl
 abbrev pub FitsCommand : ClientTable → Outstanding → Command → Type 0
 FitsCommand t o (Begin s) = (o.to ≡ Server s) × (o.message ≡ messages.Begin t.client o.request) × (nat_lt s.0 t.servers ≡ true)
 FitsCommand t o (Open s) = (T : Tid) × (t.transaction ≡ Some T) × (o.to ≡ Server s) × (o.message ≡ messages.Open t.client o.request T) × (nat_lt s.0 t.servers ≡ true)
-FitsCommand t o (Do s op) = (W : WorkId) × (number : ℕ) × (o.message ≡ messages.Op t.client o.request W number op)
+FitsCommand t o (Do s op) = (W : WorkId) × (number : ℕ) × (o.message ≡ messages.Op t.client o.request W number op) × (o.to ≡ Server s)
 FitsCommand t o End = (T : Tid) × (t.transaction ≡ Some T) × (o.to ≡ Server T.server) × (o.message ≡ messages.End t.client o.request T (names_of t.works))
 FitsCommand t o Abort = (T : Tid) × (t.transaction ≡ Some T) × (o.to ≡ Server T.server) × (o.message ≡ messages.Abort t.client o.request T (names_of t.works))
 
@@ -119,7 +119,7 @@ command-fits t j (Do s op) h = by (nat_lt s.0 t.servers) t.outstanding t.transac
   where
     by : (b : Bool) (o : Option Outstanding) (T : Option Tid) (w : Option OpenWork)
         → IsFitting (after_command (if b then if_idle o (if_transaction T (λ U. if_open w (λ v. sends (record t { works = with_operation s t.works }) j (Do s op) (Server s) (messages.Op t.client t.next v.work (v.last + 1) op)))) else Refuses refusals.NoSuchServer) t)
-    by true None (Some T) (Some w) = sent-fits (sending (record t { works = with_operation s t.works }) j (Do s op) (Server s) (messages.Op t.client t.next w.work (w.last + 1) op)) (waiting_for t j (Do s op) (Server s) (messages.Op t.client t.next w.work (w.last + 1) op)) refl (w.work, w.last + 1, refl)
+    by true None (Some T) (Some w) = sent-fits (sending (record t { works = with_operation s t.works }) j (Do s op) (Server s) (messages.Op t.client t.next w.work (w.last + 1) op)) (waiting_for t j (Do s op) (Server s) (messages.Op t.client t.next w.work (w.last + 1) op)) refl (w.work, w.last + 1, refl, refl)
     by true None (Some T) None = h
     by true None None w = h
     by true (Some o) T w = h

@@ -17,7 +17,7 @@ use Rattle.jn_rows.specs.Outcomes.{RowOutcome, Sent}
 use Rattle.jn_rows.specs.Client.{ClientTable, take_row, again_row}
 use Rattle.jn_protocol.specs.World.{World, Memory, at_client}
 use Rattle.jn_protocol.specs.Servers.{Room, server_row, server_step}
-use Rattle.jn_protocol.specs.Steps.{Step, NextEvent, Tell, Again, Deliver, Work, Nudge, Timeout, StopDelivery, StopWork, Crash, Narrow, StopRestart, Restart, Dismiss, CloseClients, IsStep, after, ends, at_memory, handed, work, works, nudge, timeout, crash, narrow, stop_restart, restart, close_clients, took, sent_now}
+use Rattle.jn_protocol.specs.Steps.{Step, NextEvent, Tell, Again, Deliver, Work, Nudge, Timeout, StopDelivery, StopWork, Crash, Narrow, StopRestart, Restart, Dismiss, CloseClients, IsStep, after, ends, at_memory, handed, work, works, nudge, timeout, crash, narrow, stop_restart, restart, close_clients, took, taken_by, sent_now}
 use Rattle.jn_settling.specs.Course.{Course, numbered, still_waiting, without_number, go, go_on}
 use Rattle.jn_settling.specs.Settle.{Chance, servers_from, first_busy, handing, working, next_step, onward, until_rest, ask_again}
 use Rattle.jn_settling.proofs.Burdens.{are_below, get-more, get-next}
@@ -37,13 +37,13 @@ pub record Waits (sent : List Sent) (waiting : List ℕ) (x : Sent) : Type 0 whe
   pub waits : list_any (nat_eq number) waiting ≡ true
   pub is : slice_get sent number ≡ Some x
 
-any-left : (k : ℕ) (a b : List ℕ) → list_any (nat_eq k) a ≡ true → list_any (nat_eq k) (a ++ b) ≡ true
-any-left k [] b h = absurd (true≢false (sym h))
-any-left k (j ∷ a) b h = let again = any-left k a b in grind (arith, h)
+pub any-left : {A : Type 0} → (f : A → Bool) (a b : List A) → list_any f a ≡ true → list_any f (a ++ b) ≡ true
+any-left f [] b h = absurd (true≢false (sym h))
+any-left f (x ∷ a) b h = let again = any-left f a b in grind (arith, h)
 
-any-right : (k : ℕ) (a b : List ℕ) → list_any (nat_eq k) b ≡ true → list_any (nat_eq k) (a ++ b) ≡ true
-any-right k [] b h = h
-any-right k (j ∷ a) b h = let again = any-right k a b h in grind arith
+pub any-right : {A : Type 0} → (f : A → Bool) (a b : List A) → list_any f b ≡ true → list_any f (a ++ b) ≡ true
+any-right f [] b h = h
+any-right f (x ∷ a) b h = let again = any-right f a b h in grind arith
 
 below-any : (n k : ℕ) (ks : List ℕ) → are_below n ks ≡ true → list_any (nat_eq k) ks ≡ true → k < n
 below-any n k [] h e = absurd (true≢false (sym e))
@@ -69,14 +69,14 @@ module _ (n : ℕ) (at_most : n ≤ 8) (start : World) where
       by : Grows d.world (after step d.world) → Waits (go step d).world.sent (go step d).waiting x
       by g = record {
         number = w.number;
-        waits = subst (λ ks. list_any (nat_eq w.number) ks ≡ true) (sym (waiting-is n at_most start d step g.new g.sent)) (any-left w.number (still_waiting step d.waiting) _ still);
+        waits = subst (λ ks. list_any (nat_eq w.number) ks ≡ true) (sym (waiting-is n at_most start d step g.new g.sent)) (any-left (nat_eq w.number) (still_waiting step d.waiting) _ still);
         is = subst (λ xs. slice_get xs w.number ≡ Some x) (sym g.sent) (get-more d.world.sent g.new w.number (below-any (length d.world.sent) w.number d.waiting h.below w.waits) ∙ w.is);
       }
 
   pub now-waits : (d : Course) (step : Step) (new : List Sent) (x : Sent) → (after step d.world).sent ≡ d.world.sent ++ new → Has x new → Waits (go step d).world.sent (go step d).waiting x
   now-waits d step new x e h = let w = new-waits d.world.sent new x h in record {
     number = w.number;
-    waits = subst (λ ks. list_any (nat_eq w.number) ks ≡ true) (sym (waiting-is n at_most start d step new e)) (any-right w.number (still_waiting step d.waiting) _ w.waits);
+    waits = subst (λ ks. list_any (nat_eq w.number) ks ≡ true) (sym (waiting-is n at_most start d step new e)) (any-right (nat_eq w.number) (still_waiting step d.waiting) _ w.waits);
     is = subst (λ xs. slice_get xs w.number ≡ Some x) (sym e) w.is;
   }
 
@@ -157,23 +157,29 @@ quiet-clients (Restart s pick Ws Ts) w q = by (w.memory s)
     by (Some m) = refl
 
 -- a client takes what is handed to it, and nothing else
-pub handed-still : (c : ClientNo) (k : ℕ) (room : Room) (stop : Option (Pick → ℕ)) (y : Sent) (w : World) → IsStill (w.clients c) ((handed k room stop (Some y) w).clients c)
-handed-still c k room stop (Client d, message) w = subst (λ f. IsStill (w.clients c) (f c)) (sym (took-clients d k (take_row (w.clients d) message).0 (take_row (w.clients d) message).1 w)) (by (client_tells d c))
+pub taken-still : (c d : ClientNo) (k : ℕ) (message : Message) (w : World) → IsStill (w.clients c) ((taken_by d k (take_row (w.clients d) message) w).clients c)
+taken-still c d k message w = subst (λ f. IsStill (w.clients c) (f c)) (sym (took-clients d k (take_row (w.clients d) message).0 (take_row (w.clients d) message).1 w)) (by (client_tells d c))
   where
     by : ((client_eq d c ≡ true) × (d ≡ c)) ⊎ ((client_eq d c ≡ false) × (d ≢ c)) → IsStill (w.clients c) (at_client w.clients d (take_row (w.clients d) message).0 c)
     by (inl e) = subst (λ (b : Bool). IsStill (w.clients c) (if b then (take_row (w.clients d) message).0 else w.clients c)) (sym e.0) (subst (λ (z : ClientNo). IsStill (w.clients z) (take_row (w.clients d) message).0) e.1 (take-still (w.clients d) message))
     by (inr e) = subst (λ (b : Bool). IsStill (w.clients c) (if b then (take_row (w.clients d) message).0 else w.clients c)) (sym e.0) (inl refl)
+
+pub handed-still : (c : ClientNo) (k : ℕ) (room : Room) (stop : Option (Pick → ℕ)) (y : Sent) (w : World) → IsStill (w.clients c) ((handed k room stop (Some y) w).clients c)
+handed-still c k room stop (Client d, message) w = taken-still c d k message w
 handed-still c k room stop (Server s, message) w = subst (λ f. IsStill (w.clients c) (f c)) (sym (memory-clients s k room stop message (w.memory s) w)) (inl refl)
 
 -- what it takes
-pub handed-taken : (c : ClientNo) (k : ℕ) (room : Room) (stop : Option (Pick → ℕ)) (message : Message) (w : World) → (handed k room stop (Some (Client c, message)) w).clients c ≡ (take_row (w.clients c) message).0
-handed-taken c k room stop message w = ap (λ f. f c) (took-clients c k (take_row (w.clients c) message).0 (take_row (w.clients c) message).1 w) ∙ ap (λ (b : Bool). if b then (take_row (w.clients c) message).0 else w.clients c) itself
+pub taken-taken : (c : ClientNo) (k : ℕ) (message : Message) (w : World) → (taken_by c k (take_row (w.clients c) message) w).clients c ≡ (take_row (w.clients c) message).0
+taken-taken c k message w = ap (λ f. f c) (took-clients c k (take_row (w.clients c) message).0 (take_row (w.clients c) message).1 w) ∙ ap (λ (b : Bool). if b then (take_row (w.clients c) message).0 else w.clients c) itself
   where
     itself : client_eq c c ≡ true
     itself = grind (arith, nat_tests)
 
+pub handed-taken : (c : ClientNo) (k : ℕ) (room : Room) (stop : Option (Pick → ℕ)) (message : Message) (w : World) → (handed k room stop (Some (Client c, message)) w).clients c ≡ (take_row (w.clients c) message).0
+handed-taken c k room stop message w = taken-taken c k message w
+
 -- a server that is down stays down
-ends-down : (s q : ServerNo) (k : Option ℕ) (stop : Option (Pick → ℕ)) (row : RowOutcome Memory) (w : World) (m : Memory) → w.memory s ≡ Some m → w.memory q ≡ None → (ends s k stop row w).memory q ≡ None
+pub ends-down : (s q : ServerNo) (k : Option ℕ) (stop : Option (Pick → ℕ)) (row : RowOutcome Memory) (w : World) (m : Memory) → w.memory s ≡ Some m → w.memory q ≡ None → (ends s k stop row w).memory q ≡ None
 ends-down s q k stop row w m up down = by (server_tells s q) stop
   where
     clash : Some m ≡ None → ⊥
@@ -184,12 +190,12 @@ ends-down s q k stop row w m up down = by (server_tells s q) stop
     by (inr e) None = ap (λ (b : Bool). if b then Some row.table else w.memory q) e.0 ∙ down
     by (inr e) (Some made) = ap (λ (b : Bool). if b then None else w.memory q) e.0 ∙ down
 
-took-memory : (c : ClientNo) (k : ℕ) (t : ClientTable) (r : Taken) (w : World) → (took c k t r w).memory ≡ w.memory
+pub took-memory : (c : ClientNo) (k : ℕ) (t : ClientTable) (r : Taken) (w : World) → (took c k t r w).memory ≡ w.memory
 took-memory c k t taken.Ignored w = refl
 took-memory c k t (taken.Send to message) w = refl
 took-memory c k t (taken.Told line answer) w = refl
 
-handed-down : (q : ServerNo) (k : ℕ) (room : Room) (stop : Option (Pick → ℕ)) (o : Option Sent) (w : World) → w.memory q ≡ None → (handed k room stop o w).memory q ≡ None
+pub handed-down : (q : ServerNo) (k : ℕ) (room : Room) (stop : Option (Pick → ℕ)) (o : Option Sent) (w : World) → w.memory q ≡ None → (handed k room stop o w).memory q ≡ None
 handed-down q k room stop None w down = down
 handed-down q k room stop (Some (Client d, message)) w down = ap (λ f. f q) (took-memory d k (take_row (w.clients d) message).0 (take_row (w.clients d) message).1 w) ∙ down
 handed-down q k room stop (Some (Server s, message)) w down = by (w.memory s) refl
@@ -198,7 +204,7 @@ handed-down q k room stop (Some (Server s, message)) w down = by (w.memory s) re
     by None e = down
     by (Some m) e = ends-down s q (Some k) stop (server_row m (stable (w.found s)) room message) w m e down
 
-work-down : (q s : ServerNo) (room : Room) (stop : Option (Pick → ℕ)) (w : World) → w.memory q ≡ None → (work s room stop (w.memory s) w).memory q ≡ None
+pub work-down : (q s : ServerNo) (room : Room) (stop : Option (Pick → ℕ)) (w : World) → w.memory q ≡ None → (work s room stop (w.memory s) w).memory q ≡ None
 work-down q s room stop w down = by (w.memory s) refl
   where
     by : (o : Option Memory) → w.memory s ≡ o → (work s room stop o w).memory q ≡ None

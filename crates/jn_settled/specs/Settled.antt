@@ -1,10 +1,16 @@
--- What a settle leaves behind where every server is up.
-use Rattle.std.specs.Prelude.{◌≡◌, ◌≤◌, ℕ, Bool, true, false, Some, is_some}
+-- What a settle leaves behind where every server is up. That no message waits and no work goes is in the bounds of a settle.
+-- Rubbish records are no part of these states, so nothing is said of them.
+use Rattle.std.specs.Prelude.{◌≡◌, ◌≤◌, ◌<◌, ℕ, Bool, true, false, nat_eq, ◌&&◌, List, drop, length, Some, None, is_some}
+use Rattle.std.specs.List.{list_any}
 use Rattle.jn_base.specs.declared.names.ServerNo.{ServerNo}
 use Rattle.jn_base.specs.declared.names.ClientNo.{ClientNo}
-use Rattle.jn_base.specs.declared.op.Command.{Command}
-use Rattle.jn_base.specs.declared.op.Command.TheVariants.{Begin, Open, Abort}
+use Rattle.jn_base.specs.declared.names.Tid.{Tid}
+use Rattle.jn_base.specs.declared.op.Command.TheVariants.{End}
+use Rattle.jn_base.specs.Names.{client_eq}
+use Rattle.jn_report.specs.declared.line.Text.{Text}
+use Rattle.jn_report.specs.declared.line.Text.TheVariants as says
 use Rattle.jn_rows.specs.declared.client.Outstanding.{Outstanding}
+use Rattle.jn_rows.specs.Stable.{Pick}
 use Rattle.jn_protocol.specs.World.{World}
 use Rattle.jn_settling.specs.Course.{Course}
 use Rattle.jn_settling.specs.Settle.{Chance, settled}
@@ -12,19 +18,41 @@ use Rattle.jn_settling.specs.Settle.{Chance, settled}
 abbrev pub AreUp : World → Type 0
 AreUp w = (s : ServerNo) → is_some (w.memory s) ≡ true
 
--- what is answered in a settle whatever else waits
-abbrev pub is_answered : Command → Bool
-is_answered (Begin s) = true
-is_answered (Open s) = true
-is_answered Abort = true
-is_answered command = false
-
--- no client waits for such a command
+-- a client waits for nothing but an end
 abbrev pub AreAnswered : World → Type 0
-AreAnswered w = (c : ClientNo) (o : Outstanding) → 1 ≤ c.0 → c.0 ≤ 8 → (w.clients c).outstanding ≡ Some o → is_answered o.command ≡ false
+AreAnswered w = (c : ClientNo) (o : Outstanding) → 1 ≤ c.0 → c.0 ≤ 8 → (w.clients c).outstanding ≡ Some o → o.command ≡ End
+
+-- the client is told that its end of this event waits
+abbrev pub tells_waiting : ClientNo → ℕ → Text → Bool
+tells_waiting c j (says.Waiting d i s u by) = client_eq c d && nat_eq j i
+tells_waiting c j text = false
+
+-- what was told from one world to a later one
+abbrev pub told_since : World → World → List Text
+told_since before now = drop (length before.lines) now.lines
+
+-- each end that a client waits for was told to wait
+abbrev pub EndsWait : World → World → Type 0
+EndsWait before now = (c : ClientNo) (o : Outstanding) → 1 ≤ c.0 → c.0 ≤ 8 → (now.clients c).outstanding ≡ Some o → list_any (tells_waiting c o.event) (told_since before now) ≡ true
+
+-- no flag is found at any of so many servers
+abbrev pub AreForgotten : ℕ → World → Type 0
+AreForgotten servers w = (s : ServerNo) (c : Pick) (T : Tid) → s.0 < servers → (w.found s c).flags T ≡ None
 
 -- from some number of steps on, where all servers are up then
 pub record Answers (servers : ℕ) (first second : ℕ → Chance) (c : Course) : Type 0 where
   pub steps : ℕ
   pub each : (n : ℕ) → steps ≤ n → AreUp (settled servers (record { first = first; second = second; steps = n }) c).world
       → AreAnswered (settled servers (record { first = first; second = second; steps = n }) c).world
+
+-- and of the ends that are left, from where the settle began
+pub record Waits (servers : ℕ) (first second : ℕ → Chance) (c : Course) : Type 0 where
+  pub steps : ℕ
+  pub each : (n : ℕ) → steps ≤ n → AreUp (settled servers (record { first = first; second = second; steps = n }) c).world
+      → EndsWait c.world (settled servers (record { first = first; second = second; steps = n }) c).world
+
+-- and of flags
+pub record Forgets (servers : ℕ) (first second : ℕ → Chance) (c : Course) : Type 0 where
+  pub steps : ℕ
+  pub each : (n : ℕ) → steps ≤ n → AreUp (settled servers (record { first = first; second = second; steps = n }) c).world
+      → AreForgotten servers (settled servers (record { first = first; second = second; steps = n }) c).world

@@ -1,20 +1,21 @@
 -- What a client's rows send is small, and weighs less than the message that it takes.
-use Rattle.std.proofs.Common.{◌≡◌, ◌≤◌, ℕ, ◌+◌, Bool, true, List, [], ◌∷◌, refl, ◌∙◌, arith}
+use Rattle.std.proofs.Common.{◌≡◌, ◌≤◌, ℕ, ◌+◌, Bool, true, List, [], ◌∷◌, refl, ◌∙◌, subst, arith}
 use Rattle.std.specs.Prelude.{◌&&◌}
 use Rattle.std.proofs.lemmas.Bool.Decides.{nat_tests}
 use Rattle.jn_base.specs.declared.op.Command.{Command}
 use Rattle.jn_base.specs.declared.op.Command.TheVariants.{Begin, Open, Do, End, Abort}
 use Rattle.jn_msgs.specs.declared.message.Message.{Message}
 use Rattle.jn_msgs.specs.declared.message.Message.TheVariants as messages
+use Rattle.jn_rows.specs.declared.client.OpenWork.{OpenWork}
 use Rattle.jn_rows.specs.declared.client.Taken.{Taken}
 use Rattle.jn_rows.specs.declared.client.Taken.TheVariants as taken
 use Rattle.jn_rows.specs.Outcomes.{Sent}
-use Rattle.jn_rows.specs.Client.{ClientTable, Commanded, Refuses, Sends, command_row, take_row}
-use Rattle.jn_rows.specs.ClientLaws.{IsClient, after_command}
+use Rattle.jn_rows.specs.Client.{ClientTable, Commanded, Refuses, Sends, command_row, take_row, names_of}
+use Rattle.jn_rows.specs.ClientLaws.{are_apart, IsClient, after_command}
 use Rattle.jn_rows.proofs.ClientKeeps.{command_keeps, take_keeps, names_are_few}
 use Rattle.jn_protocol.specs.Steps.{sent_now}
 use Rattle.jn_settling.specs.Weights.{weight, weigh_all}
-use Rattle.jn_settling.specs.Sizes.{is_small, sends_small, ClientSizes}
+use Rattle.jn_settling.specs.Sizes.{are_near, is_few, is_small, sends_small, ClientSizes}
 
 -- ---- commands
 
@@ -22,12 +23,20 @@ abbrev small_commanded : ℕ → Commanded → Bool
 small_commanded n (Refuses refusal) = true
 small_commanded n (Sends t to message) = is_small n message && sends_small n t.outstanding
 
+names-near : (n : ℕ) (ws : List OpenWork) → are_apart n ws ≡ true → are_near n (names_of ws) ≡ true
+names-near n [] h = refl
+names-near n (w ∷ ws) h = let again = names-near n ws in grind (arith, h)
+
+-- what a client names in an end
+its-names : (n : ℕ) (t : ClientTable) → ClientSizes n t → is_few n (names_of t.works) ≡ true
+its-names n t h = let few = names_are_few t h.client in let same = h.servers_are in let near = subst (λ k. are_near k (names_of t.works) ≡ true) same (names-near t.servers t.works h.client.works) in grind (arith, nat_tests, near)
+
 command-small : (n : ℕ) (t : ClientTable) (j : ℕ) (c : Command) → ClientSizes n t → small_commanded n (command_row t j c) ≡ true
 command-small n t j (Begin s) h = grind arith
 command-small n t j (Open s) h = grind arith
 command-small n t j (Do s op) h = grind arith
-command-small n t j End h = let few = names_are_few t h.client in let same = h.servers_are in grind (arith, nat_tests)
-command-small n t j Abort h = let few = names_are_few t h.client in let same = h.servers_are in grind (arith, nat_tests)
+command-small n t j End h = let few = its-names n t h in grind arith
+command-small n t j Abort h = let few = its-names n t h in grind arith
 
 same-servers : (t : ClientTable) (j : ℕ) (c : Command) → (after_command (command_row t j c) t).servers ≡ t.servers
 same-servers t j (Begin s) = grind arith

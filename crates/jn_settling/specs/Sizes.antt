@@ -18,9 +18,14 @@ use Rattle.jn_rows.specs.Outcomes.{Sent}
 use Rattle.jn_rows.specs.Stable.{StableState, FlagState, Pick, stable}
 use Rattle.jn_protocol.specs.World.{World, Memory}
 
--- no more works than there are servers
+-- each at one of so many servers
+abbrev pub are_near : ℕ → List WorkId → Bool
+are_near servers [] = true
+are_near servers (W ∷ works) = nat_lt W.server.0 servers && are_near servers works
+
+-- no more works than there are servers, at these
 abbrev pub is_few : ℕ → List WorkId → Bool
-is_few servers works = not (nat_lt servers (length works))
+is_few servers works = not (nat_lt servers (length works)) && are_near servers works
 
 -- ---- messages and clients
 
@@ -94,7 +99,7 @@ abbrev pub ServerSizes : ℕ → Option Memory → (Pick → StableState) → Ty
 ServerSizes servers None found = (c : Pick) → StoredSizes servers (found c)
 ServerSizes servers (Some m) found = TableSizes servers m (stable found)
 
--- Each End and Abort names no more works than there are servers, and each server has at most 64 works and 64 transactions.
+-- Each End and Abort names no more works than there are servers, all at these, and each server has at most 64 works and 64 transactions.
 pub record Sizes (servers : ℕ) (w : World) : Type 0 where
   pub sent : All (IsSmall servers) w.sent
   pub clients : (c : ClientNo) → ClientSizes servers (w.clients c)

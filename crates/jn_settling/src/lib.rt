@@ -23,7 +23,7 @@ pub use rows::{
 };
 
 /// Whatever steps come one after another, stops and restarts among them: each End and Abort names no more works than there
-/// are servers, and each server has at most 64 works and 64 transactions.
+/// are servers, at these, and each server has at most 64 works and 64 transactions.
 pub fn tables_stay_small()
     ensures { (servers : ℕ) (files : AllFiles) (epochs : ServerNo → ℕ) (steps : List Step) → servers ≤ 8 → IsRun steps (opening servers files epochs)
         → Sizes servers (run steps (opening servers files epochs)) }
