@@ -1,5 +1,5 @@
 -- A server is stopped while it commits, and the run ends there.
-use Rattle.std.specs.Prelude.{ℕ, true, if◌then◌else◌, List, [], ◌∷◌, ◌++◌}
+use Rattle.std.specs.Prelude.{true, if◌then◌else◌, List, [], ◌∷◌, ◌++◌}
 use Rattle.jn_base.specs.declared.names.ServerNo.{ServerNo}
 use Rattle.jn_order.specs.Files.{no_files}
 use Rattle.jn_protocol.specs.Steps.{Step, StopDelivery}
