@@ -20,7 +20,7 @@ use Rattle.jn_rows.specs.Worker.{WorkerTable, work_at, restored_work, restored_w
 use Rattle.jn_rows.specs.Coordinator.{is_work, all_in, thanked, all_thanked, restored_transaction, restored_transactions, close_clients_row}
 use Rattle.jn_machine.specs.Steps.{run as run_atoms, opening_world}
 use Rattle.jn_moves.specs.Mirrors.{AreTransactions}
-use Rattle.jn_machine.proofs.Updates.{none_unless, none_of, false_unless, clash}
+use Rattle.jn_machine.proofs.Updates.{none_unless, none_of, false_unless, some_of, clash}
 use Rattle.jn_protocol.specs.World.{World, Memory, opening}
 use Rattle.jn_protocol.specs.Servers.{restored, of_coordinator}
 use Rattle.jn_protocol.specs.Steps.{Step, Again, Nudge, Crash, Narrow, Restart, Dismiss, CloseClients, IsStep, IsRun, run, after, nudge, crash, narrow, restart, close_clients}
@@ -42,7 +42,7 @@ use Rattle.jn_settled.proofs.Answered.{rest-keeps, ask-keeps}
 use Rattle.jn_closed.specs.Ending.{Start, restarts, end_steps, without_messages, ended, IsEmpty, IsClosed, IsAsCommitted, Leaves}
 use Rattle.jn_closed.proofs.Rows.{are_prepared, is_thanked, are_all, Kept, needs, needs_in, some-stored}
 use Rattle.jn_closed.proofs.Tends.{stored, waiting_ours, Needed, Asked, inquires, commits, drops, Stays, lives, told, carried, Ways, Tends, up-fact}
-use Rattle.jn_closed.proofs.Rests.{Goes, WaysAt, rest-goes, ask-goes, some-up}
+use Rattle.jn_closed.proofs.Rests.{Goes, WaysAt, rest-goes, ask-goes}
 use Rattle.jn_closed.proofs.Beyond.{Beyond, beyond-step, opening-beyond}
 
 -- ---- after a restart, and after the outcomes are thanked
@@ -364,7 +364,7 @@ module _ (n : ℕ) (at_most : n ≤ 8) (start : World) (files : AllFiles) (epoch
     none-stored-at W = by (nat_lt W.server.0 n) refl
       where
         by : (b : Bool) → nat_lt W.server.0 n ≡ b → stored d.world W ≡ None
-        by true l = none_unless (stored d.world W) (λ p e. let m = some-up (d.world.memory W.server) (up W.server) in
+        by true l = none_unless (stored d.world W) (λ p e. let m = some_of (d.world.memory W.server) (up W.server) in
             not-ready W (one-of (stored d.world W) p e (quiet W.server m.0 (λ k. false) W (grind (arith, nat_tests, l)) m.1)))
         by false l = (traced.beyond.found W.server (grind (arith, nat_tests, l)) (λ k. false)).0 W
 
@@ -490,7 +490,7 @@ module _ (n : ℕ) (at_most : n ≤ 8) (start : World) (files : AllFiles) (epoch
     told = order.told;
     once = order.once;
     serial = order.serial;
-    shown = λ s c u. let m = some-up (d.world.memory s) (up s) in let empty = closed.servers s m.0 m.1 in order.shown s c u (λ W p e. absurd (clash ((d.world.found s c).works W) p e (empty.stored c W)));
+    shown = λ s c u. let m = some_of (d.world.memory s) (up s) in let empty = closed.servers s m.0 m.1 in order.shown s c u (λ W p e. absurd (clash ((d.world.found s c).works W) p e (empty.stored c W)));
   }
     where
       order : IsInOrder files d.world

@@ -24,6 +24,7 @@ use Rattle.jn_rows.specs.Client.{sent_again}
 use Rattle.jn_rows.specs.Worker.{WorkerTable, work_at, worker_again}
 use Rattle.jn_rows.specs.Coordinator.{transaction_at, is_work, besides, commits as commits_of, told_again, coordinator_again, committed_to}
 use Rattle.jn_machine.specs.Steps.{run as run_atoms, opening_world}
+use Rattle.jn_machine.proofs.Updates.{some_of}
 use Rattle.jn_protocol.specs.World.{World, Memory}
 use Rattle.jn_protocol.specs.Servers.{Room, server_row, server_again}
 use Rattle.jn_protocol.specs.Steps.{Step, Again, Deliver, Work as WorkStep, Nudge, StopDelivery, StopWork, IsStep, after, at_memory, handed, done, nudge, sent_now}
@@ -36,13 +37,10 @@ use Rattle.jn_settling.proofs.Parts.{Busy, busy-has, get-some, next_intention, r
 use Rattle.jn_settling.proofs.WorldSizes.{holds-of}
 use Rattle.jn_settled.specs.Settled.{AreUp}
 use Rattle.jn_reported.proofs.Reached.{next-reached}
+use Rattle.jn_settled.proofs.Requests.{has-new}
 use Rattle.jn_settled.proofs.Ways.{Has, Waits, still-waits, now-waits, rest-down, any-without}
 use Rattle.jn_closed.proofs.Rows.{is_thanked, are_all, is_ours, are_ours, needs, needs_of, needs_in, RowTends, Takes, carried-tends, going-there}
 use Rattle.jn_closed.proofs.Tends.{waiting_ours, ours_at, ours-more, ours-both, ours-new, stored, Needed, Asked, inquires, commits, drops, Stays, lives, told, carried, Ways, Tends, up-fact, takes, same-owner, row-tends, row-ways}
-
-pub some-up : (o : Option Memory) → is_some o ≡ true → (m : Memory) × (o ≡ Some m)
-some-up None h = absurd (true≢false (sym h))
-some-up (Some m) h = (m, refl)
 
 module _ (n : ℕ) (at_most : n ≤ 8) (start : World) (files : AllFiles) (epochs : ServerNo → ℕ) where
   abbrev It : Course → Type 0
@@ -184,8 +182,8 @@ module _ (n : ℕ) (at_most : n ≤ 8) (start : World) (files : AllFiles) (epoch
           → AreUp (onward (next_step (record { room = (chances 0).room; stop = stop }) waiting o) d (until_rest (servers_from 0 n) later j)).world
           → ((e : Course) → Goes b e → AreUp (until_rest (servers_from 0 n) later j e).world → Goes b (until_rest (servers_from 0 n) later j e))
           → Goes b (onward (next_step (record { room = (chances 0).room; stop = stop }) waiting o) d (until_rest (servers_from 0 n) later j))
-      by (k ∷ ks) e o f None up again = let x = hands d k ks h.tends e in let m = some-up (d.world.memory x.server) (was-up x.server) in again _ (handed-goes b d h k ks (chances 0).room e x m.0 m.1) up
-      by (k ∷ ks) e o f (Some made) up again = let x = hands d k ks h.tends e in let m = some-up (d.world.memory x.server) (was-up x.server) in
+      by (k ∷ ks) e o f None up again = let x = hands d k ks h.tends e in let m = some_of (d.world.memory x.server) (was-up x.server) in again _ (handed-goes b d h k ks (chances 0).room e x m.0 m.1) up
+      by (k ∷ ks) e o f (Some made) up again = let x = hands d k ks h.tends e in let m = some_of (d.world.memory x.server) (was-up x.server) in
           absurd (no-stop x.server (go (StopDelivery k (chances 0).room made) d) (ap (λ (z : World). z.memory x.server) (ap (λ o. handed k (chances 0).room (Some made) o d.world) x.is ∙ ap (λ o. at_memory x.server k (chances 0).room (Some made) x.message o d.world) m.1)
           ∙ ap (λ (b : Bool). if b then None else d.world.memory x.server) (itself x.server)) up)
       by [] e (Some s) f None up again = again _ (work-goes b d h s (chances 0).room f) up
@@ -256,10 +254,6 @@ module _ (n : ℕ) (at_most : n ≤ 8) (start : World) (files : AllFiles) (epoch
   has-left x (y ∷ a) b (inl e) = inl e
   has-left x (y ∷ a) b (inr k) = inr (has-left x a b k)
 
-  has-right : (x : Sent) (a b : List Sent) → Has x b → Has x (a ++ b)
-  has-right x [] b h = h
-  has-right x (y ∷ a) b h = inr (has-right x a b h)
-
   inquired : (x : StableState) (t : WorkerTable) (W : WorkId) (v : Work) → work_at W t ≡ Some v → is_going (x.works W) ≡ false → Has (Server v.tid.server, messages.Inquire v.tid W) (worker_again x t)
   inquired x [] W v e g = absurd (cc e)
   inquired x (u ∷ us) W v e g = by (work_tells u.name W) e (is_going (x.works u.name)) refl (inquired x us W v)
@@ -298,13 +292,13 @@ module _ (n : ℕ) (at_most : n ≤ 8) (start : World) (files : AllFiles) (epoch
 
       by : ((tid_eq x.tid T ≡ true) × (x.tid ≡ T)) ⊎ ((tid_eq x.tid T ≡ false) × (x.tid ≢ T)) → (needs xs T W ≡ true → Has (Server W.server, messages.Commit T W) (coordinator_again xs)) → Has (Server W.server, messages.Commit T W) (told_again x x.stage ++ coordinator_again xs)
       by (inl q) again = has-left _ (told_again x x.stage) _ (subst (λ (U : Tid). Has (Server W.server, messages.Commit U W) (told_again x x.stage)) q.1 (on x.stage (sym (ap (λ (b : Bool). needs_of W (if b then Some x else transaction_at T xs)) q.0) ∙ h)))
-      by (inr q) again = has-right _ (told_again x x.stage) _ (again (sym (ap (λ (b : Bool). needs_of W (if b then Some x else transaction_at T xs)) q.0) ∙ h))
+      by (inr q) again = has-new _ (told_again x x.stage) _ (again (sym (ap (λ (b : Bool). needs_of W (if b then Some x else transaction_at T xs)) q.0) ∙ h))
 
   -- a server asks for its own
   nudge-asks : (d : Course) (s : ServerNo) (m : Memory) → d.world.memory s ≡ Some m → It d → WaysAt (go (Nudge s) d) s
   nudge-asks d s m up h = record {
     ready = λ W e r. ready W e (sym (ap (λ (z : World). is_ready (stored z W)) (nudge-now d s m up)) ∙ r);
-    needed = λ T W e need. told (now-waits n at_most start d (Nudge s) _ _ sent (has-right _ (worker_again (stable (d.world.found s)) m.worker) _ (told-has T W m.coordinator.transactions
+    needed = λ T W e need. told (now-waits n at_most start d (Nudge s) _ _ sent (has-new _ (worker_again (stable (d.world.found s)) m.worker) _ (told-has T W m.coordinator.transactions
         (subst (λ (z : Memory). needs z.coordinator.transactions T W ≡ true) (same need.memory (sym (ap (λ (z : World). z.memory T.server) (nudge-now d s m up) ∙ ap d.world.memory e ∙ up) ∙ need.up)) need.is))));
   }
     where
@@ -318,13 +312,9 @@ module _ (n : ℕ) (at_most : n ≤ 8) (start : World) (files : AllFiles) (epoch
       ready-some None r = absurd (true≢false (sym r))
       ready-some (Some p) r = (refl, grind (arith, r))
 
-      work-up : (o : Option Work) → is_some o ≡ true → (v : Work) × (o ≡ Some v)
-      work-up None e = absurd (true≢false (sym e))
-      work-up (Some v) e = (v, refl)
-
       ready : (W : WorkId) → W.server ≡ s → is_ready (stored d.world W) ≡ true → Asked (go (Nudge s) d) W
       ready W e r = let f = up-fact n at_most start files epochs d h s m up in let here = ready-some ((stable (d.world.found s)).works W) (subst (λ (q : ServerNo). is_ready ((stable (d.world.found q)).works W) ≡ true) e r) in
-          let v = work-up (work_at W m.worker) (f.table.live W here.0) in
+          let v = some_of (work_at W m.worker) (f.table.live W here.0) in
           inquires v.0.tid (now-waits n at_most start d (Nudge s) _ _ sent (has-left _ (worker_again (stable (d.world.found s)) m.worker) _ (inquired (stable (d.world.found s)) m.worker W v.0 v.1 here.1)))
 
   -- and another one's are kept
@@ -353,7 +343,7 @@ module _ (n : ℕ) (at_most : n ≤ 8) (start : World) (files : AllFiles) (epoch
       mine : (s : ServerNo) → WaysAt d s ⊎ (false ≡ true) → WaysAt d s
       mine s (inl a) = a
       mine s (inr e) = absurd (true≢false (sym e))
-  nudges (q ∷ servers) d h up ways = let m = some-up (d.world.memory q) (up q) in nudges servers (go (Nudge q) d) (nudge-tends d q m.0 m.1 h) (λ s. ap (λ (z : World). is_some (z.memory s)) (nudge-now d q m.0 m.1) ∙ up s) (λ s. by s m.0 m.1 (server_tells s q) (ways s))
+  nudges (q ∷ servers) d h up ways = let m = some_of (d.world.memory q) (up q) in nudges servers (go (Nudge q) d) (nudge-tends d q m.0 m.1 h) (λ s. ap (λ (z : World). is_some (z.memory s)) (nudge-now d q m.0 m.1) ∙ up s) (λ s. by s m.0 m.1 (server_tells s q) (ways s))
     where
       by : (s : ServerNo) (m : Memory) → d.world.memory q ≡ Some m → ((server_eq s q ≡ true) × (s ≡ q)) ⊎ ((server_eq s q ≡ false) × (s ≢ q)) → WaysAt d s ⊎ (list_any (server_eq s) (q ∷ servers) ≡ true) → WaysAt (go (Nudge q) d) s ⊎ (list_any (server_eq s) servers ≡ true)
       by s m e (inl t) w = inl (subst (λ (z : ServerNo). WaysAt (go (Nudge q) d) z) (sym t.1) (nudge-asks d q m e h))
