@@ -17,7 +17,7 @@ use Rattle.jn_settling.specs.Settle.{Chance, servers_from, clients_from, until_r
 use Rattle.jn_settling.specs.Bounds.{IsAtRest}
 use Rattle.jn_settling.proofs.Courses.{Sound}
 use Rattle.jn_reported.proofs.Reached.{Reached}
-use Rattle.jn_settled.specs.Settled.{AreUp, tells_waiting, told_since, EndsWait, Waits as EndsWaitLater}
+use Rattle.jn_settled.specs.Settled.{AreUp, tells_waiting, told_since, EndsWait, Leaves}
 use Rattle.jn_settled.proofs.Talk.{FitsCommand}
 use Rattle.jn_settled.proofs.Ways.{Waits, rest-down}
 use Rattle.jn_settled.proofs.Answered.{Talks, among-clients}
@@ -143,5 +143,5 @@ module _ (n : ℕ) (at_most : n ≤ 8) (files : AllFiles) (epochs : ServerNo →
             none z = cc
         by (inr q) = q
 
-  pub settle-waits : (first second : ℕ → Chance) (c : Course) → IsGood c → EndsWaitLater n first second c
-  settle-waits first second c h = let end = settles n at_most files epochs first second c (λ z. EndsWait c.world z.world) h (λ i k one two up. ends-wait first second c i k h two up) in record { steps = end.steps; each = end.each }
+  pub settle-waits : (first second : ℕ → Chance) (c : Course) → IsGood c → Leaves n first second c EndsWait
+  settle-waits first second c h = settles n at_most files epochs first second c EndsWait h (λ i k one two up. ends-wait first second c i k h two up)

@@ -23,7 +23,7 @@ use Rattle.jn_settling.specs.Course.{Course}
 use Rattle.jn_settling.specs.Settle.{Chance, servers_from, clients_from, until_rest}
 use Rattle.jn_settling.specs.Sizes.{is_few, are_near, is_small_stage, are_small_stages, is_committed, committed_at, TableSizes, ServerSizes}
 use Rattle.jn_settling.specs.Bounds.{IsAtRest, NothingGoes}
-use Rattle.jn_settled.specs.Settled.{AreUp, AreForgotten, Forgets}
+use Rattle.jn_settled.specs.Settled.{AreUp, AreForgotten, Leaves}
 use Rattle.jn_settled.proofs.Ways.{Waits}
 use Rattle.jn_settled.proofs.Ends.{all-ready}
 use Rattle.jn_settling.proofs.Settling.{nothing-goes}
@@ -199,5 +199,5 @@ module _ (n : ℕ) (at_most : n ≤ 8) (files : AllFiles) (epochs : ServerNo →
         by None e = e
         by (Some f) e = absurd (none f e)
 
-  pub settle-forgets : (first second : ℕ → Chance) (c : Course) → IsGood c → Forgets n first second c
-  settle-forgets first second c h = let end = settles n at_most files epochs first second c (λ z. AreForgotten n z.world) h (λ i k one two up. no-flags first second c i k h two up) in record { steps = end.steps; each = end.each }
+  pub settle-forgets : (first second : ℕ → Chance) (c : Course) → IsGood c → Leaves n first second c (λ before now. AreForgotten n now)
+  settle-forgets first second c h = settles n at_most files epochs first second c (λ before now. AreForgotten n now) h (λ i k one two up. no-flags first second c i k h two up)

@@ -14,7 +14,7 @@ use Rattle.jn_settling.proofs.Resting.{PartEnds, part-ends}
 use Rattle.jn_settling.proofs.Settling.{opening-sound}
 use Rattle.jn_settling.proofs.Courses.{Sound}
 use Rattle.jn_settled.proofs.Twins.{HasTwin, run-has-twin}
-use Rattle.jn_settled.specs.Settled.{AreUp, AreAnswered, Answers}
+use Rattle.jn_settled.specs.Settled.{AreUp, AreAnswered, Leaves}
 use Rattle.jn_reported.proofs.Reached.{opening-reached}
 use Rattle.jn_settled.proofs.Owners.{all_owned, owner_in}
 use Rattle.jn_settled.proofs.Answered.{Talking}
@@ -100,18 +100,13 @@ module _ (n : ℕ) (at_most : n ≤ 8) (files : AllFiles) (epochs : ServerNo →
   abbrev pub second_part : (ℕ → Chance) → ℕ → Course → Course
   second_part second k d = until_rest (servers_from 0 n) second k (asked_again d)
 
-  -- from some number of steps on, where all servers are up then
-  pub record Settles (first second : ℕ → Chance) (c : Course) (Q : Course → Type 0) : Type 0 where
-    pub steps : ℕ
-    pub each : (j : ℕ) → steps ≤ j → AreUp (settled n (record { first = first; second = second; steps = j }) c).world → Q (settled n (record { first = first; second = second; steps = j }) c)
-
   -- what holds where both parts come to rest
-  pub settles : (first second : ℕ → Chance) (c : Course) (Q : Course → Type 0) → IsGood c
-      → ((i k : ℕ) → IsAtRest n (first_part first i c) → IsAtRest n (second_part second k (first_part first i c)) → AreUp (second_part second k (first_part first i c)).world → Q (second_part second k (first_part first i c)))
-      → Settles first second c Q
+  pub settles : (first second : ℕ → Chance) (c : Course) (Q : World → World → Type 0) → IsGood c
+      → ((i k : ℕ) → IsAtRest n (first_part first i c) → IsAtRest n (second_part second k (first_part first i c)) → AreUp (second_part second k (first_part first i c)).world → Q c.world (second_part second k (first_part first i c)).world)
+      → Leaves n first second c Q
   settles first second c Q h at_rest = record {
     steps = one.steps + two.steps;
-    each = λ j l. subst (λ (z : Course). AreUp z.world → Q z) (sym (whole j l)) (at_rest one.steps two.steps (subst (λ (z : Course). IsAtRest n z) (sym first-ends) one.rests) (subst (λ (z : Course). IsAtRest n z) (sym (two.each two.steps (omega arith))) two.rests));
+    each = λ j l. subst (λ (z : Course). AreUp z.world → Q c.world z.world) (sym (whole j l)) (at_rest one.steps two.steps (subst (λ (z : Course). IsAtRest n z) (sym first-ends) one.rests) (subst (λ (z : Course). IsAtRest n z) (sym (two.each two.steps (omega arith))) two.rests));
   }
     where
       one : PartEnds n first c
@@ -136,5 +131,5 @@ module _ (n : ℕ) (at_most : n ≤ 8) (files : AllFiles) (epochs : ServerNo →
   pub all-answered : (first second : ℕ → Chance) (c : Course) (i k : ℕ) → IsGood c → IsAtRest n (second_part second k (first_part first i c)) → AreUp (second_part second k (first_part first i c)).world → AreAnswered (second_part second k (first_part first i c)).world
   all-answered first second c i k h rests up = settled-answers n at_most start files epochs course-twin (until_rest (servers_from 0 n) first i c) (rest-good n at_most start files epochs course-twin i first c h) k second rests.waits up
 
-  pub settle-answers : (first second : ℕ → Chance) (c : Course) → IsGood c → Answers n first second c
-  settle-answers first second c h = let end = settles first second c (λ z. AreAnswered z.world) h (λ i k one two up. all-answered first second c i k h two up) in record { steps = end.steps; each = end.each }
+  pub settle-answers : (first second : ℕ → Chance) (c : Course) → IsGood c → Leaves n first second c (λ before now. AreAnswered now)
+  settle-answers first second c h = settles first second c (λ before now. AreAnswered now) h (λ i k one two up. all-answered first second c i k h two up)

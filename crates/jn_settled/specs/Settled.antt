@@ -39,20 +39,8 @@ EndsWait before now = (c : ClientNo) (o : Outstanding) → 1 ≤ c.0 → c.0 ≤
 abbrev pub AreForgotten : ℕ → World → Type 0
 AreForgotten servers w = (s : ServerNo) (c : Pick) (T : Tid) → s.0 < servers → (w.found s c).flags T ≡ None
 
--- from some number of steps on, where all servers are up then
-pub record Answers (servers : ℕ) (first second : ℕ → Chance) (c : Course) : Type 0 where
+-- From some number of steps on, where all servers are up then, this holds of the world before the settle and of the one after it.
+pub record Leaves (servers : ℕ) (first second : ℕ → Chance) (c : Course) (what : World → World → Type 0) : Type 0 where
   pub steps : ℕ
   pub each : (n : ℕ) → steps ≤ n → AreUp (settled servers (record { first = first; second = second; steps = n }) c).world
-      → AreAnswered (settled servers (record { first = first; second = second; steps = n }) c).world
-
--- and of the ends that are left, from where the settle began
-pub record Waits (servers : ℕ) (first second : ℕ → Chance) (c : Course) : Type 0 where
-  pub steps : ℕ
-  pub each : (n : ℕ) → steps ≤ n → AreUp (settled servers (record { first = first; second = second; steps = n }) c).world
-      → EndsWait c.world (settled servers (record { first = first; second = second; steps = n }) c).world
-
--- and of flags
-pub record Forgets (servers : ℕ) (first second : ℕ → Chance) (c : Course) : Type 0 where
-  pub steps : ℕ
-  pub each : (n : ℕ) → steps ≤ n → AreUp (settled servers (record { first = first; second = second; steps = n }) c).world
-      → AreForgotten servers (settled servers (record { first = first; second = second; steps = n }) c).world
+      → what c.world (settled servers (record { first = first; second = second; steps = n }) c).world

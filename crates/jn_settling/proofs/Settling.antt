@@ -72,7 +72,7 @@ unless-there : (o : Option Prepared) → (is_some o ≡ true → is_going o ≡ 
 unless-there None h = refl
 unless-there (Some p) h = h refl
 
-nothing-goes : (n : ℕ) (start : World) (c : Course) → Sound n start c → first_busy c.world (servers_from 0 n) ≡ None → NothingGoes n c.world
+pub nothing-goes : (n : ℕ) (start : World) (c : Course) → Sound n start c → first_busy c.world (servers_from 0 n) ≡ None → NothingGoes n c.world
 nothing-goes n start c h idle s m k W l up = let fact : UpFact s m (c.world.found s) = subst (λ o. ServerFact s o (c.world.found s)) up (h.locks s) in
     let calm : is_some (going_work (stable (c.world.found s)) m.worker) ≡ false = subst (λ o. is_busy (stable (c.world.found s)) o ≡ false) up (not-busy c.world n 0 s idle (omega arith) (omega (arith, l))) in
     subst (λ (x : StableState). is_going (x.works W) ≡ false) (sym (fact.same k)) (unless-there ((stable (c.world.found s)).works W) (λ is. none-going (stable (c.world.found s)) m.worker W calm (fact.table.live W is)))
