@@ -25,8 +25,9 @@ use Rattle.jn_rows.specs.Coordinator.{CoordinatorTable, transaction_at, with_sta
 use Rattle.jn_storage.specs.Listing.{is_in}
 use Rattle.jn_storage.specs.Storage.{StorageView}
 use Rattle.jn_storage.specs.Calls.{state}
-use Rattle.jn_coord.specs.Remembered.{Remembered, table_of, name_below}
-use Rattle.jn_coord.specs.declared.faults.CoordFault.{CoordFault}
+use Rattle.jn_transactions.specs.Listed.{name_below}
+use Rattle.jn_coord.specs.Remembered.{Remembered, table_of}
+use Rattle.jn_transactions.specs.declared.faults.CoordFault.{CoordFault}
 use Rattle.jn_coord.specs.Calls.{IsDone}
 use Rattle.jn_coord.specs.Closing.{ClosesClient}
 use Rattle.jn_coord.specs.Beginning.{are_before, TicketsFit}
