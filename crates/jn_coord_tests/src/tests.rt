@@ -149,17 +149,25 @@ fn letter_of_work(w: WorkId, to: Party) -> char {
 /// An outcome in a letter: committed, waiting, not known, requested, broken, lost, full at the coordinator's server or
 /// at a work's.
 fn letter_of(outcome: Outcome) -> char {
-    match outcome {
-        Outcome::Committed => 'c',
-        Outcome::Waiting(ServerNo(0), UNIT, HOLDER) => 'w',
-        Outcome::NotKnown(ServerNo(1), 2) => 'n',
-        Outcome::Aborted(Cause::Requested) => 'r',
-        Outcome::Aborted(Cause::Broken(ServerNo(0), UNIT, HOLDER)) => 'b',
-        Outcome::Aborted(Cause::Lost(ServerNo(0))) => 'l',
-        Outcome::Aborted(Cause::Full(ServerNo(1), 31, 0, 1)) => 'f',
-        Outcome::Aborted(Cause::Full(ServerNo(0), 33, 2, 5)) => 'F',
-        _ => '?',
+    let letters = [
+        (Outcome::Committed, 'c'),
+        (Outcome::Waiting(ServerNo(0), UNIT, HOLDER), 'w'),
+        (Outcome::NotKnown(ServerNo(1), 2), 'n'),
+        (Outcome::Aborted(Cause::Requested), 'r'),
+        (
+            Outcome::Aborted(Cause::Broken(ServerNo(0), UNIT, HOLDER)),
+            'b',
+        ),
+        (Outcome::Aborted(Cause::Lost(ServerNo(0))), 'l'),
+        (Outcome::Aborted(Cause::Full(ServerNo(1), 31, 0, 1)), 'f'),
+        (Outcome::Aborted(Cause::Full(ServerNo(0), 33, 2, 5)), 'F'),
+    ];
+    for (other, letter) in letters {
+        if other == outcome {
+            return letter;
+        }
     }
+    '?'
 }
 
 /// A message in a word.

@@ -1,7 +1,7 @@
 use Rattle.std.proofs.Common.{ℕ, sym, ap}
 use Rattle.jn_base.specs.declared.names.ServerNo.{ServerNo}
 use Rattle.jn_memory_storage.specs.Memory.{view_of}
-use Rattle.jn_coord.proofs.Onwards.{restart-tickets}
+use Rattle.jn_coord_tests.proofs.Restarted.{restart-tickets}
 use Rattle.jn_coord_tests.proofs.tests.Trial.restored.Goals as goal
 
 abbrev server : ℕ → ServerNo
