@@ -12,6 +12,7 @@ use jn_memory_storage::MemoryStorage;
 use jn_msgs::{Message, Note, Out, Vote};
 use jn_worker::Worker;
 use std::alloc::{AllocError, Global};
+use std::process::Abort;
 use std::test::Fail;
 
 /// The server's number is 0, and its epoch 2. From 100 on it is a work of its last epoch.
@@ -252,6 +253,17 @@ impl Bench {
         Ok(None)
     }
 
+    /// Does these moves, and finds that of each comes what is expected.
+    fn plays(&mut self, rt: &impl Abort, moves: &[(Move, Came)]) -> Result<(), Fail>
+        requires fits { Fits self.old.worker (view_of self.old.store) }
+        requires tickets { TicketsFit self.old.worker.table (view_of self.old.store) self.old.tickets }
+        ensures fits { IfOk result (λ _. Fits self.new.worker (view_of self.new.store)) }
+        ensures tickets { IfOk result (λ _. TicketsFit self.new.worker.table (view_of self.new.store) self.new.tickets) }
+    {
+        assert_eq!(rt; self.play(moves)?, None);
+        Ok(())
+    }
+
     /// Opens transactions, or does a work's operations, until there are so many; the last one's outcome.
     fn fill(&mut self, count: u32, many: Many) -> Result<Came, AllocError>
         requires fits { Fits self.old.worker (view_of self.old.store) }
@@ -304,7 +316,7 @@ fn an_empty_storage_has_nothing_to_do(rt: HostRuntime) -> Result<(), Fail> {
     assert!(rt; bench.worker.again(&mut bench.out).is_ok());
     assert!(rt; bench.out.messages().is_empty() && bench.out.notes().is_empty());
     let idle = [(Move::Step, Came::Idle), (Move::Expire(3), Came::Idle)];
-    assert_eq!(rt; bench.play(&idle)?, None);
+    bench.plays(&rt, &idle)?;
     Ok(())
 }
 
@@ -356,9 +368,9 @@ fn each_message_is_done_as_its_work_stands(rt: HostRuntime) -> Result<(), Fail> 
     ];
     for (moves, message, came) in cells {
         let mut bench = Bench::new(rt.alloc(), 9, 2, 4)?;
-        assert_eq!(rt; bench.play(&active)?, None);
-        assert_eq!(rt; bench.play(moves)?, None);
-        assert_eq!(rt; bench.play(&[(message, came)])?, None);
+        bench.plays(&rt, &active)?;
+        bench.plays(&rt, moves)?;
+        bench.plays(&rt, &[(message, came)])?;
     }
     Ok(())
 }
@@ -392,13 +404,10 @@ fn refusals_come_in_their_order(rt: HostRuntime) -> Result<(), Fail> {
     ];
     for (count, many, last, moves) in cases {
         let mut bench = Bench::new(rt.alloc(), 9, 2, 4)?;
-        assert_eq!(rt;
-            bench.play(&[(Move::Open(1), Came::Opened(Some(0)))])?,
-            None
-        );
+        bench.plays(&rt, &[(Move::Open(1), Came::Opened(Some(0)))])?;
         assert_eq!(rt; bench.fill(count, many)?, last);
-        assert_eq!(rt; bench.play(&writer)?, None);
-        assert_eq!(rt; bench.play(moves)?, None);
+        bench.plays(&rt, &writer)?;
+        bench.plays(&rt, moves)?;
     }
     Ok(())
 }
@@ -424,12 +433,9 @@ fn a_prepare_waits_or_is_told_what_is_short(rt: HostRuntime) -> Result<(), Fail>
     ];
     for (pool, heads, leaves, others, vote) in cases {
         let mut bench = Bench::new(rt.alloc(), pool, heads, leaves)?;
-        assert_eq!(rt; bench.play(&writer)?, None);
-        assert_eq!(rt; bench.play(others)?, None);
-        assert_eq!(rt;
-            bench.play(&[(Move::Prepare(1, 0), Came::Vote(vote))])?,
-            None
-        );
+        bench.plays(&rt, &writer)?;
+        bench.plays(&rt, others)?;
+        bench.plays(&rt, &[(Move::Prepare(1, 0), Came::Vote(vote))])?;
     }
     Ok(())
 }
@@ -466,13 +472,10 @@ fn a_prepare_breaks_the_works_in_its_way_or_none(rt: HostRuntime) -> Result<(), 
     ];
     for (pool, vote, notes, after) in cases {
         let mut bench = Bench::new(rt.alloc(), pool, 2, 0)?;
-        assert_eq!(rt; bench.play(&moves)?, None);
-        assert_eq!(rt;
-            bench.play(&[(Move::Prepare(3, 2), Came::Vote(vote))])?,
-            None
-        );
+        bench.plays(&rt, &moves)?;
+        bench.plays(&rt, &[(Move::Prepare(3, 2), Came::Vote(vote))])?;
         assert!(rt; bench.out.notes() == notes);
-        assert_eq!(rt; bench.play(after)?, None);
+        bench.plays(&rt, after)?;
     }
     Ok(())
 }
@@ -500,7 +503,7 @@ fn a_committed_work_is_carried_out(rt: HostRuntime) -> Result<(), Fail> {
         (Move::Step, Came::Idle),
     ];
     let mut bench = Bench::new(rt.alloc(), 3, 1, 1)?;
-    assert_eq!(rt; bench.play(&moves)?, None);
+    bench.plays(&rt, &moves)?;
     Ok(())
 }
 
@@ -520,7 +523,7 @@ fn what_a_dropped_work_held_is_free(rt: HostRuntime) -> Result<(), Fail> {
         (Move::Prepare(3, 2), Came::Vote(Vote::Ready)),
     ];
     let mut bench = Bench::new(rt.alloc(), 5, 1, 0)?;
-    assert_eq!(rt; bench.play(&moves)?, None);
+    bench.plays(&rt, &moves)?;
     assert!(rt; bench.worker.view(file(7)) == Some(tid(3)));
     Ok(())
 }
@@ -535,6 +538,6 @@ fn there_are_at_most_64_works(rt: HostRuntime) -> Result<(), Fail> {
         (Move::Drop(0, 0), Came::Nothing),
         (Move::Open(64), Came::Opened(Some(64))),
     ];
-    assert_eq!(rt; bench.play(&moves)?, None);
+    bench.plays(&rt, &moves)?;
     Ok(())
 }
