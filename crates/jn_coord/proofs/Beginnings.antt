@@ -21,21 +21,18 @@ use Rattle.jn_rows.specs.Coordinator.{CoordinatorTable, transaction_at, is_votin
 use Rattle.jn_storage.specs.Orderly.{IsGiven}
 use Rattle.jn_storage.specs.Storage.{StorageView}
 use Rattle.jn_storage.specs.Calls.{state}
-use Rattle.jn_coord.specs.Remembered.{Remembered, table_of, seen_by, name_below, are_above, rises}
-use Rattle.jn_coord.specs.Calls.{committed_as, committed_at, ballot_fits, ballots_fit, Fits, added, IsDone}
-use Rattle.jn_coord.specs.declared.faults.CoordFault.{CoordFault}
-use Rattle.jn_coord.specs.Closing.{goes, ClientClosed, ClosesClient}
-use Rattle.jn_coord.specs.Beginning.{are_before, TicketsFit, left_of, count_left, new_transaction, with_request, with_begun}
+use Rattle.jn_transactions.specs.Listed.{name_below}
+use Rattle.jn_coord.specs.Remembered.{Remembered, table_of, seen_by, are_above, rises}
+use Rattle.jn_transactions.specs.Telling.{added}
+use Rattle.jn_coord.specs.Calls.{committed_as, committed_at, ballot_fits, ballots_fit, Fits, IsDone}
+use Rattle.jn_transactions.specs.declared.faults.CoordFault.{CoordFault}
+use Rattle.jn_transactions.specs.Stages.{goes}
+use Rattle.jn_coord.specs.Closing.{ClientClosed, ClosesClient}
+use Rattle.jn_transactions.specs.Closing.{count_left}
+use Rattle.jn_coord.specs.Beginning.{are_before, TicketsFit, new_transaction, with_request, with_begun}
 use Rattle.jn_coord.proofs.Restart.{both-of, seen-set}
 
 -- ---- how many are left
-
-pub left_one : (c : ClientNo) (x : Transaction) → left_of c x ≤ 1
-left_one c x = by (client_eq x.client c && goes x.stage)
-  where
-    by : (b : Bool) → (if b then 0 else 1) ≤ 1
-    by true = omega arith
-    by false = omega arith
 
 closed-length : (x : Transaction) (s : Stage) → length (closed s x) ≡ (if goes s then 0 else 1)
 closed-length x Open = refl

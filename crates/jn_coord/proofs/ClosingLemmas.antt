@@ -1,5 +1,5 @@
 -- A client's transactions are closed one by one.
-use Rattle.std.proofs.Common.{◌≡◌, ⊎_elim, ℕ, suc, Bool, true, false, ◌+◌, ◌≤◌, ◌&&◌, if◌then◌else◌, List, [], ◌∷◌, ◌++◌, Option, Some, None, Result, Ok, Err, length, take, refl, sym, ◌∙◌, ap, subst, arith, length-append, append_assoc, ◌<◌, zero, drop, slice_set, slice_index_or}
+use Rattle.std.proofs.Common.{◌≡◌, ⊎_elim, ℕ, suc, Bool, true, false, ◌+◌, ◌≤◌, ◌&&◌, if◌then◌else◌, List, [], ◌∷◌, ◌++◌, Option, Some, None, Result, Ok, Err, length, take, refl, sym, ◌∙◌, ap, subst, arith, length-append, append_assoc}
 use Rattle.jn_base.specs.declared.names.ClientNo.{ClientNo}
 use Rattle.jn_base.specs.declared.names.Tid.{Tid}
 use Rattle.jn_base.specs.Names.{tid_eq}
@@ -15,10 +15,12 @@ use Rattle.jn_store.proofs.Laws.{stop_since}
 use Rattle.jn_storage.proofs.Laws.{storage_refl, storage_trans}
 use Rattle.jn_coord.specs.Remembered.{Remembered, are_above, rises}
 use Rattle.std.specs.Prelude.{is_ok}
-use Rattle.jn_coord.specs.declared.faults.CoordFault.{CoordFault}
-use Rattle.jn_coord.specs.declared.faults.CoordFault.TheVariants.{Memory, Stopped}
+use Rattle.jn_transactions.specs.declared.faults.CoordFault.{CoordFault}
+use Rattle.jn_transactions.specs.declared.faults.CoordFault.TheVariants.{Memory, Stopped}
 use Rattle.jn_coord.specs.Calls.{flag_told, committed_as, Fits, Releases}
-use Rattle.jn_coord.specs.Closing.{goes, is_committed, is_decided, takes_part, left_by, changes_by, next_closing, tid_in, going_in, LetsGo, GoneFrom, StaysOrGoes, ClosesOn, ClosesNext, ClosingStopped, known, knowing, ClosesAll}
+use Rattle.jn_transactions.specs.Stages.{goes, is_committed, is_decided}
+use Rattle.jn_transactions.specs.Closing.{takes_part, next_closing, tid_in}
+use Rattle.jn_coord.specs.Closing.{left_by, changes_by, going_in, LetsGo, GoneFrom, StaysOrGoes, ClosesOn, ClosesNext, ClosingStopped, ClosesAll}
 use Rattle.jn_coord.proofs.Tables.{at-named, for-found}
 use Rattle.jn_coord.proofs.Fitting.{below-not, flags-without, no-votes, promise_held, fits-without}
 use Rattle.jn_coord.proofs.Rows.{released-reaches, told-but}
@@ -287,20 +289,6 @@ step-ends c r s t u v w a b f g e stop = let h = subst (λ d. ClosesNext c s v (
 pub step-stopped : (c : Option ClientNo) (r s t : Remembered) (u v w : StorageView) (a : Result Bool CoordFault) (fault : CoordFault) → ClosesOn c r u s v → ClosesNext c s v a t w → a ≡ Err fault → ClosingStopped c r u w
 step-stopped c r s t u v w a Memory f g e = absurd (subst (λ d. ClosesNext c s v d t w) e g)
 step-stopped c r s t u v w a Stopped f g e = stopped-after c r s u v w f (subst (λ d. ClosesNext c s v d t w) e g)
-
--- ---- what is left
-
-pub known_at : (c : Option ClientNo) (d : Transaction) (xs : List Transaction) (i : ℕ) → i < length xs
-    → take (i + 1) (slice_set xs i (known c (slice_index_or xs i d))) ++ knowing c (drop (i + 1) (slice_set xs i (known c (slice_index_or xs i d)))) ≡ take i xs ++ knowing c (drop i xs)
-known_at c d [] i h = grind arith
-known_at c d (x ∷ xs) zero h = grind arith
-known_at c d (x ∷ xs) (suc i) h = let rest = known_at c d xs i (omega arith) in grind (arith, rest)
-
-pub known_end : (c : Option ClientNo) (xs : List Transaction) (i : ℕ) → length xs ≤ i → take i xs ++ knowing c (drop i xs) ≡ xs
-known_end c [] zero h = refl
-known_end c [] (suc i) h = refl
-known_end c (x ∷ xs) zero h = grind arith
-known_end c (x ∷ xs) (suc i) h = let rest = known_end c xs i (omega arith) in grind (arith, rest)
 
 pub all-stopped : (c : Option ClientNo) (r s : Remembered) (v w : StorageView) (a : Result (Unit {0}) CoordFault) → ClosesAll c r v a s w → is_ok a ≡ false → ClosingStopped c r v w
 all-stopped c r s v w (Ok x) h e = absurd (cc e)

@@ -12,10 +12,11 @@ use Rattle.jn_rows.specs.Outcomes.{RowOutcome}
 use Rattle.jn_rows.specs.Coordinator.{CoordinatorTable, transaction_at, with_stage, prepares, end_promised}
 use Rattle.jn_storage.specs.Storage.{StorageView}
 use Rattle.jn_storage.specs.Calls.{with_promises}
-use Rattle.jn_coord.specs.declared.faults.CoordFault.{CoordFault}
-use Rattle.jn_coord.specs.declared.faults.CoordFault.TheVariants.{Memory, Stopped}
+use Rattle.jn_transactions.specs.declared.faults.CoordFault.{CoordFault}
+use Rattle.jn_transactions.specs.declared.faults.CoordFault.TheVariants.{Memory, Stopped}
 use Rattle.jn_coord.specs.Remembered.{Remembered, table_of}
-use Rattle.jn_coord.specs.Calls.{FitsWith, stage_in, committed_at, added, Releases, Reaches, IsDone, IsStopped, Does, IsPromised, is_memory, ballot_row}
+use Rattle.jn_transactions.specs.Telling.{added}
+use Rattle.jn_coord.specs.Calls.{FitsWith, stage_in, committed_at, Releases, Reaches, IsDone, IsStopped, Does, IsPromised, is_memory, ballot_row}
 use Rattle.jn_coord.proofs.Tables.{at-named, for-found}
 use Rattle.jn_coord.proofs.Fitting.{fits-staged, same-flags, committed-found}
 use Rattle.jn_coord.proofs.Rows.{stays}

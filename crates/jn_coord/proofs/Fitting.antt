@@ -11,7 +11,8 @@ use Rattle.jn_rows.specs.Coordinator.{transaction_at, with_stage, without, is_vo
 use Rattle.jn_storage.specs.Orderly.{IsGiven}
 use Rattle.jn_storage.specs.Storage.{StorageView, IsServing}
 use Rattle.jn_storage.specs.Calls.{state}
-use Rattle.jn_coord.specs.Remembered.{Remembered, name_below, are_above, rises}
+use Rattle.jn_transactions.specs.Listed.{name_below}
+use Rattle.jn_coord.specs.Remembered.{Remembered, are_above, rises}
 use Rattle.jn_coord.specs.Calls.{flag_told, committed_as, committed_at, ballot_fits, ballots_fit, spare_of, FitsWith}
 
 -- the promises of a stage

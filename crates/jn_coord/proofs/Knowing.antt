@@ -11,13 +11,16 @@ use Rattle.jn_rows.specs.declared.coordinator.Stage.{Stage}
 use Rattle.jn_rows.specs.declared.coordinator.Stage.TheVariants.{Open, Voting, Committed, Aborted}
 use Rattle.jn_rows.specs.Coordinator.{transaction_at, is_voting, promised, all_in, closed, thanked, close_clients_row}
 use Rattle.jn_storage.specs.Storage.{StorageView}
-use Rattle.jn_coord.specs.declared.faults.CoordFault.{CoordFault}
-use Rattle.jn_coord.specs.declared.faults.CoordFault.TheVariants.{Memory, Stopped}
+use Rattle.jn_transactions.specs.declared.faults.CoordFault.{CoordFault}
+use Rattle.jn_transactions.specs.declared.faults.CoordFault.TheVariants.{Memory, Stopped}
 use Rattle.jn_coord.specs.Remembered.{Remembered, table_of, are_above, rises}
-use Rattle.jn_coord.specs.Calls.{committed_as, committed_at, ballot_fits, ballots_fit, Fits, Longer, IsStopped}
-use Rattle.jn_coord.specs.Closing.{goes, is_decided, is_of, left_by, changes_by, next_closing, known_stage, known, knowing, ClosesOn, ClientClosed, ClosesClient}
+use Rattle.jn_transactions.specs.Telling.{Longer}
+use Rattle.jn_coord.specs.Calls.{committed_as, committed_at, ballot_fits, ballots_fit, Fits, IsStopped}
+use Rattle.jn_transactions.specs.Stages.{goes, is_decided}
+use Rattle.jn_transactions.specs.Closing.{is_of, next_closing, known_stage, known, knowing}
+use Rattle.jn_coord.specs.Closing.{left_by, changes_by, ClosesOn, ClientClosed, ClosesClient}
 use Rattle.jn_coord.proofs.ClosingLemmas.{changes-none}
-use Rattle.jn_coord.proofs.Sends.{longer_same}
+use Rattle.jn_transactions.proofs.Sends.{longer_same}
 
 -- what is the same of a transaction that is known of
 record AreAlike (x y : Transaction) : Type 0 where

@@ -1,5 +1,4 @@
 pub mod Tables
-pub mod Sends
 pub mod Fitting
 pub mod Rows
 pub mod Room

@@ -1,14 +1,12 @@
 -- The next name comes after all that are live, row by row.
-use Rattle.std.proofs.Common.{◌≡◌, ℕ, Bool, true, false, not, nat_eq, nat_lt, ◌+◌, ◌&&◌, if◌then◌else◌, List, [], ◌∷◌, ◌++◌, Option, Some, None, Result, Ok, Err, length, refl, sym, ◌∙◌, ap, arith, subst, ◌<◌}
-use Rattle.std.specs.Prelude.{is_ok, is_some}
+use Rattle.std.proofs.Common.{◌≡◌, ℕ, Bool, true, false, not, nat_eq, nat_lt, ◌+◌, ◌&&◌, if◌then◌else◌, List, [], ◌∷◌, ◌++◌, Option, Some, None, Result, Ok, Err, length, refl, sym, ◌∙◌, ap, arith}
+use Rattle.std.specs.Prelude.{is_ok}
 use Rattle.std.proofs.lemmas.Bool.Decides.{nat_tests}
 use Rattle.jn_base.specs.declared.names.ClientNo.{ClientNo}
-use Rattle.jn_base.specs.declared.names.ServerNo.{ServerNo}
 use Rattle.jn_base.specs.declared.names.Tid.{Tid}
 use Rattle.jn_base.specs.declared.names.WorkId.{WorkId}
 use Rattle.jn_base.specs.declared.names.Tickets.{Tickets}
 use Rattle.jn_base.specs.Names.{tid_eq}
-use Rattle.jn_base.proofs.Tells.{tid_tells}
 use Rattle.jn_msgs.specs.Collected.{Collected}
 use Rattle.jn_msgs.specs.declared.message.Message.{Message}
 use Rattle.jn_msgs.specs.declared.message.Message.TheVariants as messages
@@ -19,18 +17,17 @@ use Rattle.jn_rows.specs.declared.coordinator.Stage.{Stage}
 use Rattle.jn_rows.specs.declared.coordinator.Stage.TheVariants.{Open, Voting, Committed, Aborted}
 use Rattle.jn_rows.specs.declared.coordinator.Committed.{Committed as Commitment}
 use Rattle.jn_rows.specs.declared.coordinator.Voting.{Voting as Ballot}
-use Rattle.jn_rows.specs.Stable.{Change, AddReady, MarkGoing, CarryOut, RemoveWork, AddFlag, DropFlag, StableState, FlagState, made_by, made_all}
+use Rattle.jn_rows.specs.Stable.{Change, AddReady, MarkGoing, CarryOut, RemoveWork, AddFlag, DropFlag, StableState, made_by, made_all}
 use Rattle.jn_rows.specs.Outcomes.{RowOutcome}
-use Rattle.jn_rows.specs.Coordinator.{CoordinatorTable, transaction_at, with_stage, without, is_work, with_work, all_in, changes_of_closing, name_from, begun_by, begin_new, begin_again, begin_row, end_promised, end_stage, end_row, abort_stage, abort_request, forget_row, thanks_stage, thanks_row, told_stage, inquire_row, counted_vote, vote_stage, vote_row, done_stage, done_row, coordinator_row, thanked, all_thanked, flags_of_thanked, restored_transaction, restored_transactions}
-use Rattle.jn_storage.specs.Listing.{is_in}
+use Rattle.jn_rows.specs.Coordinator.{CoordinatorTable, transaction_at, with_stage, without, is_work, with_work, all_in, changes_of_closing, name_from, begun_by, begin_new, begin_again, begin_row, end_promised, end_stage, end_row, abort_stage, abort_request, forget_row, thanks_stage, thanks_row, told_stage, inquire_row, counted_vote, vote_stage, vote_row, done_stage, done_row, coordinator_row, thanked, all_thanked, flags_of_thanked}
 use Rattle.jn_storage.specs.Storage.{StorageView}
 use Rattle.jn_storage.specs.Calls.{state}
-use Rattle.jn_coord.specs.Remembered.{Remembered, table_of, name_below}
-use Rattle.jn_coord.specs.declared.faults.CoordFault.{CoordFault}
+use Rattle.jn_transactions.specs.Listed.{name_below}
+use Rattle.jn_coord.specs.Remembered.{Remembered, table_of}
+use Rattle.jn_transactions.specs.declared.faults.CoordFault.{CoordFault}
 use Rattle.jn_coord.specs.Calls.{IsDone}
 use Rattle.jn_coord.specs.Closing.{ClosesClient}
 use Rattle.jn_coord.specs.Beginning.{are_before, TicketsFit}
-use Rattle.jn_coord.specs.Restoring.{Restored}
 use Rattle.jn_coord.proofs.Restart.{both-of}
 use Rattle.jn_coord.proofs.Beginnings.{before-closing}
 
@@ -214,32 +211,3 @@ clients-kept r r' v w (Ok x) f e k fit = record {
   after = rw f.table (before-thanked (name_from k) r.transactions fit.after);
 }
 clients-kept r r' v w (Err g) f e k fit = absurd (cc e)
-
--- ---- after a restart
-
-in-more : (T V : Tid) (Ts : List Tid) → is_in tid_eq V Ts ≡ true → is_in tid_eq V (T ∷ Ts) ≡ true
-in-more T V Ts i = grind (arith, i)
-
-below-epoch : (T : Tid) (k : Tickets) → T.server ≡ k.server → T.epoch < k.epoch → name_below T (name_from k) ≡ true
-below-epoch T k own less = let same = ap (λ (z : ServerNo). z.0) own in grind (arith, nat_tests, same, less)
-
-before-restored : (x : StableState) (U : Tid) (Ts : List Tid) → ((T : Tid) → is_in tid_eq T Ts ≡ true → name_below T U ≡ true) → are_before (restored_transactions x Ts) U ≡ true
-before-restored x U [] h = refl
-before-restored x U (T ∷ Ts) h = by (x.flags T) (h T (let t = tid_tells T T in grind arith)) (before-restored x U Ts (λ V i. h V (in-more T V Ts i)))
-  where
-    by : (o : Option FlagState) → name_below T U ≡ true → are_before (restored_transactions x Ts) U ≡ true → are_before (restored_transaction T o ++ restored_transactions x Ts) U ≡ true
-    by None b again = again
-    by (Some f) b again = rw (b, again) refl
-
--- In an epoch that is greater than those of all flags, any next name comes after all that are live.
-pub restart-tickets : (v : StorageView) (r : Remembered) (k : Tickets) → Restored v r → k.server ≡ v.accounts.server → k.epoch ≡ (state v).epoch
-    → ((T : Tid) → is_some ((state v).flags T) ≡ true → T.epoch < k.epoch) → TicketsFit r v k
-restart-tickets v r k restored server epoch past = record {
-  server = server;
-  epoch = epoch;
-  after = subst (λ xs. are_before xs (name_from k) ≡ true) (sym (ap (λ (t : CoordinatorTable). t.transactions) restored.table))
-      (before-restored (state v) (name_from k) restored.names (λ T i. below T (sym (restored.listing.all T) ∙ i)));
-}
-  where
-    below : (T : Tid) → is_some ((state v).flags T) ≡ true → name_below T (name_from k) ≡ true
-    below T h = let own = (restored.fits.serving.orderly.flags_given T h).own in let less = past T h in below-epoch T k (own ∙ sym server) less

@@ -2,7 +2,6 @@
 use Rattle.std.proofs.Common.{◌≡◌, ⊎_elim, ℕ, zero, suc, Bool, true, false, ◌⊎◌, ◌≢◌, nat_eq, ◌+◌, ◌≤◌, ◌<◌, ◌&&◌, ◌||◌, nat_lt, if◌then◌else◌, List, [], ◌∷◌, ◌++◌, Option, Some, None, length, map, replicate, slice_set, slice_index_or, refl, sym, true≢false, ◌∙◌, ap, subst, arith}
 use Rattle.std.proofs.Math.Path.{fun_ext}
 use Rattle.std.specs.Prelude.{is_some}
-use Rattle.std.specs.List.{insert}
 use Rattle.std.proofs.lemmas.Bool.Decides.{nat_tests}
 use Rattle.std.proofs.lemmas.List.{length-set}
 use Rattle.std.proofs.lemmas.List.Elements.{recursion_from_All}
@@ -20,17 +19,10 @@ use Rattle.jn_storage.specs.Listing.{is_in, are_different}
 use Rattle.jn_storage.specs.Storage.{StorageView, IsServing}
 use Rattle.jn_storage.specs.Calls.{state, tid_of, TellsFlags}
 use Rattle.jn_storage.proofs.Listings.{but, is_in-but, length-but}
-use Rattle.jn_coord.specs.Remembered.{seen_by, name_below, are_above, rises}
+use Rattle.jn_transactions.specs.Listed.{name_below, restored_from, inserted, with_flags}
+use Rattle.jn_coord.specs.Remembered.{seen_by, are_above, rises}
 use Rattle.jn_coord.specs.Calls.{flag_told, committed_at, ballots_fit}
-use Rattle.jn_coord.specs.Restoring.{restored_from, place_among, inserted, with_flags, with_seen, with_requests, clients_fit, Restored}
-
-pub inserted_at : (y : Transaction) (xs : List Transaction) → insert xs (place_among y.tid xs) y ≡ inserted y xs
-inserted_at y [] = refl
-inserted_at y (x ∷ xs) = by (name_below y.tid x.tid) (inserted_at y xs)
-  where
-    by : (b : Bool) → insert xs (place_among y.tid xs) y ≡ inserted y xs → insert (x ∷ xs) (if b then 0 else suc (place_among y.tid xs)) y ≡ (if b then y ∷ x ∷ xs else x ∷ inserted y xs)
-    by true again = refl
-    by false again = ap (λ zs. x ∷ zs) again
+use Rattle.jn_coord.specs.Restoring.{with_seen, with_requests, clients_fit, Restored}
 
 -- ---- names in their order
 

@@ -16,7 +16,7 @@ use Rattle.jn_storage.specs.Storage.{StorageView}
 use Rattle.jn_storage.specs.Calls.{state, MayPutFlag, HasFlag}
 use Rattle.jn_coord.specs.Remembered.{Remembered, rises}
 use Rattle.jn_coord.specs.Calls.{flag_told, committed_as, committed_at, works_in, spare_of, FitsWith}
-use Rattle.jn_coord.specs.Closing.{is_committed}
+use Rattle.jn_transactions.specs.Stages.{is_committed}
 use Rattle.jn_coord.proofs.Fitting.{above-none, has-promise, committed-found}
 
 -- the names of the committed transactions

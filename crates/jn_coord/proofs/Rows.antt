@@ -26,11 +26,13 @@ use Rattle.jn_rows.specs.Coordinator.{CoordinatorTable, transaction_at, with_sta
 use Rattle.jn_storage.specs.Storage.{StorageView}
 use Rattle.jn_storage.specs.Calls.{state, PromiseReleased, Called, FlagPut, FlagDropped}
 use Rattle.jn_storage.proofs.Laws.{storage_refl}
-use Rattle.jn_coord.specs.Remembered.{Remembered, table_of, is_aborted}
-use Rattle.jn_coord.specs.declared.faults.CoordFault.{CoordFault}
-use Rattle.jn_coord.specs.declared.faults.CoordFault.TheVariants.{Memory, Stopped}
-use Rattle.jn_coord.specs.Calls.{flag_told, committed_as, committed_at, works_in, voting_in, spare_of, Fits, FitsWith, added, Adds, Longer, ballot_in, ballot_of, ballot_fits, ballots_fit, waiting_row, Releases, Reaches, IsDone, IsStopped, Does}
-use Rattle.jn_coord.proofs.Sends.{added_none, longer_same}
+use Rattle.jn_transactions.specs.Stages.{is_aborted}
+use Rattle.jn_coord.specs.Remembered.{Remembered, table_of}
+use Rattle.jn_transactions.specs.declared.faults.CoordFault.{CoordFault}
+use Rattle.jn_transactions.specs.declared.faults.CoordFault.TheVariants.{Memory, Stopped}
+use Rattle.jn_transactions.specs.Telling.{added, Adds, Longer}
+use Rattle.jn_coord.specs.Calls.{flag_told, committed_as, committed_at, works_in, voting_in, spare_of, Fits, FitsWith, ballot_in, ballot_of, ballot_fits, ballots_fit, waiting_row, Releases, Reaches, IsDone, IsStopped, Does}
+use Rattle.jn_transactions.proofs.Sends.{added_none, longer_same}
 use Rattle.jn_coord.proofs.Tables.{at-named, for-found}
 use Rattle.jn_coord.proofs.Fitting.{votes, fits-staged, fits-without, same-flags, committed-found, flags-without, promise_held, spare-one, has-promise, no-votes}
 

@@ -1,16 +1,15 @@
 -- What a new transaction of a client does.
-use Rattle.std.specs.Prelude.{◌≡◌, ◌+◌, ℕ, Bool, true, ◌&&◌, if◌then◌else◌, List, [], ◌∷◌, ◌++◌, Some, slice_set}
+use Rattle.std.specs.Prelude.{◌≡◌, ℕ, Bool, true, ◌&&◌, List, [], ◌∷◌, ◌++◌, Some, slice_set}
 use Rattle.jn_base.specs.declared.names.ClientNo.{ClientNo}
 use Rattle.jn_base.specs.declared.names.Tid.{Tid}
 use Rattle.jn_base.specs.declared.names.Tickets.{Tickets}
-use Rattle.jn_base.specs.Names.{client_eq}
 use Rattle.jn_rows.specs.declared.coordinator.Transaction.{Transaction}
 use Rattle.jn_rows.specs.declared.coordinator.Stage.TheVariants.{Open}
 use Rattle.jn_rows.specs.Coordinator.{name_from}
 use Rattle.jn_storage.specs.Storage.{StorageView}
 use Rattle.jn_storage.specs.Calls.{state}
-use Rattle.jn_coord.specs.Remembered.{Remembered, name_below}
-use Rattle.jn_coord.specs.Closing.{goes}
+use Rattle.jn_transactions.specs.Listed.{name_below}
+use Rattle.jn_coord.specs.Remembered.{Remembered}
 
 -- each name comes before this one
 abbrev pub are_before : List Transaction → Tid → Bool
@@ -22,14 +21,6 @@ pub record TicketsFit (r : Remembered) (v : StorageView) (k : Tickets) : Type 0 
   pub server : k.server ≡ v.accounts.server
   pub epoch : k.epoch ≡ (state v).epoch
   pub after : are_before r.transactions (name_from k) ≡ true
-
--- how many are left once a client's transactions are closed
-abbrev pub left_of : ClientNo → Transaction → ℕ
-left_of c x = if client_eq x.client c && goes x.stage then 0 else 1
-
-abbrev pub count_left : ClientNo → List Transaction → ℕ
-count_left c [] = 0
-count_left c (x ∷ xs) = left_of c x + count_left c xs
 
 abbrev pub new_transaction : ClientNo → ℕ → Tid → Transaction
 new_transaction c request T = record { tid = T; client = c; begun = Some request; stage = Open }

@@ -1,5 +1,5 @@
 -- What the calls of a coordinator do.
-use Rattle.std.specs.Prelude.{◌≡◌, ◌≤◌, ◌+◌, ◌-◌, ◌*◌, ℕ, Bool, true, false, not, nat_lt, ◌&&◌, if◌then◌else◌, List, [], ◌∷◌, ◌++◌, length, Option, Some, None, is_some, Result, Ok, Err}
+use Rattle.std.specs.Prelude.{◌≡◌, ◌≤◌, ◌+◌, ◌-◌, ◌*◌, ℕ, Bool, true, false, not, nat_lt, ◌&&◌, if◌then◌else◌, List, [], ◌∷◌, length, Option, Some, None, is_some, Result, Ok, Err}
 use Rattle.jn_base.specs.declared.names.ClientNo.{ClientNo}
 use Rattle.jn_base.specs.declared.names.Tid.{Tid}
 use Rattle.jn_base.specs.declared.names.WorkId.{WorkId}
@@ -9,20 +9,20 @@ use Rattle.jn_msgs.specs.Collected.{Collected}
 use Rattle.jn_base.specs.declared.names.Party.TheVariants.{Client}
 use Rattle.jn_msgs.specs.declared.message.Message.TheVariants as messages
 use Rattle.jn_msgs.specs.declared.message.Outcome.{Outcome}
-use Rattle.jn_msgs.specs.declared.message.Note.{Note}
 use Rattle.jn_store.specs.Store.{IsStop}
 use Rattle.jn_rows.specs.declared.coordinator.Transaction.{Transaction}
 use Rattle.jn_rows.specs.declared.coordinator.Stage.{Stage}
 use Rattle.jn_rows.specs.declared.coordinator.Voting.{Voting as Ballot}
 use Rattle.jn_rows.specs.declared.coordinator.Stage.TheVariants.{Voting, Committed}
 use Rattle.jn_rows.specs.Stable.{FlagState, Pick, IsStopState, made_all}
-use Rattle.jn_rows.specs.Outcomes.{Sent, RowOutcome, ignored, sends}
+use Rattle.jn_rows.specs.Outcomes.{RowOutcome, ignored, sends}
 use Rattle.jn_rows.specs.Coordinator.{CoordinatorTable, transaction_at, is_work, is_voting, promised, staged, prepares}
 use Rattle.jn_storage.specs.Orderly.{IsGiven}
 use Rattle.jn_storage.specs.Storage.{StorageView, StorageLater, IsLoadable, IsServing}
 use Rattle.jn_storage.specs.Calls.{state, PromiseReleased, with_promises}
-use Rattle.jn_coord.specs.declared.faults.CoordFault.{CoordFault}
-use Rattle.jn_coord.specs.declared.faults.CoordFault.TheVariants.{Stopped, Memory}
+use Rattle.jn_transactions.specs.declared.faults.CoordFault.{CoordFault}
+use Rattle.jn_transactions.specs.declared.faults.CoordFault.TheVariants.{Stopped, Memory}
+use Rattle.jn_transactions.specs.Telling.{added, Longer}
 use Rattle.jn_coord.specs.Remembered.{Remembered, table_of, rises}
 
 -- ---- a coordinator and a storage that fit
@@ -89,22 +89,6 @@ abbrev pub works_in : Option (ClientNo × List WorkId) → Option (List WorkId)
 works_in None = None
 works_in (Some told) = Some told.1
 
--- ---- what is sent and noted
-
-abbrev pub added : Collected → List Sent → List Note → Collected
-added before messages notes = record { messages = before.messages ++ messages; notes = before.notes ++ notes }
-
-pub record Longer (before after : Collected) : Type 0 where
-  pub more_messages : List Sent
-  pub more_notes : List Note
-  pub is : after ≡ added before more_messages more_notes
-
--- Messages and notes are added; some of them where there is no memory.
-abbrev pub Adds : {A : Type 0} → List Sent → List Note → Collected → Result A CoordFault → Collected → Type 0
-Adds messages notes before (Ok x) after = after ≡ added before messages notes
-Adds messages notes before (Err Memory) after = Longer before after
-Adds messages notes before (Err Stopped) after = ⊥
-
 -- a promise is given back, where there is one
 abbrev pub Releases : Bool → StorageView → StorageView → Type 0
 Releases true v w = PromiseReleased v w
@@ -141,11 +125,6 @@ Does row r v before (Err Stopped) r' w after = IsStopped row v w × Longer befor
 -- the client is told this, unless the work is ready
 abbrev pub waiting_row : CoordinatorTable → Tickets → Transaction → Ballot → WorkId → Outcome → RowOutcome CoordinatorTable
 waiting_row t k x b W outcome = if is_work W b.ready then ignored t k else sends t k ((Client x.client, messages.Outcome x.client x.tid outcome) ∷ [])
-
--- whether a work of a ballot is ready
-abbrev pub ready_in : Stage → WorkId → Bool
-ready_in (Voting b) W = is_work W b.ready
-ready_in stage W = false
 
 -- the works of a ballot are to be prepared
 abbrev pub ballot_row : CoordinatorTable → Tickets → Transaction → Ballot → RowOutcome CoordinatorTable

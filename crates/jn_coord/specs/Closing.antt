@@ -1,39 +1,20 @@
 -- What a closing of transactions does, one by one.
-use Rattle.std.specs.Prelude.{◌≡◌, ◌≤◌, ◌+◌, ◌*◌, Bool, true, false, ◌&&◌, if◌then◌else◌, List, [], ◌∷◌, ◌++◌, length, Option, Some, None, Result, Ok, Err}
+use Rattle.std.specs.Prelude.{◌≡◌, ◌≤◌, ◌+◌, ◌*◌, Bool, true, false, if◌then◌else◌, List, [], ◌∷◌, ◌++◌, length, Option, Some, None, Result, Ok, Err}
 use Rattle.jn_base.specs.declared.names.ClientNo.{ClientNo}
 use Rattle.jn_base.specs.declared.names.Tid.{Tid}
-use Rattle.jn_base.specs.Names.{client_eq, tid_eq}
+use Rattle.jn_base.specs.Names.{tid_eq}
 use Rattle.jn_rows.specs.declared.coordinator.Transaction.{Transaction}
-use Rattle.jn_rows.specs.declared.coordinator.Stage.{Stage}
-use Rattle.jn_rows.specs.declared.coordinator.Stage.TheVariants.{Committed, Aborted}
 use Rattle.jn_rows.specs.Stable.{Change, DropFlag, Pick, IsStopState, made_all}
-use Rattle.jn_rows.specs.Coordinator.{all_in, is_voting, thanked_changes, after_closing, changes_of_closing, all_thanked, flags_of_thanked}
+use Rattle.jn_rows.specs.Coordinator.{is_voting, thanked_changes, after_closing, changes_of_closing, all_thanked, flags_of_thanked}
 use Rattle.jn_storage.specs.Storage.{StorageView, StorageLater, IsLoadable, IsServing}
 use Rattle.jn_storage.specs.Calls.{state, FlagDropped}
 use Rattle.jn_store.specs.Store.{IsStop}
-use Rattle.jn_coord.specs.declared.faults.CoordFault.{CoordFault}
-use Rattle.jn_coord.specs.declared.faults.CoordFault.TheVariants.{Stopped, Memory}
+use Rattle.jn_transactions.specs.declared.faults.CoordFault.{CoordFault}
+use Rattle.jn_transactions.specs.declared.faults.CoordFault.TheVariants.{Stopped, Memory}
+use Rattle.jn_transactions.specs.Stages.{goes}
+use Rattle.jn_transactions.specs.Closing.{next_closing}
 use Rattle.jn_coord.specs.Remembered.{Remembered}
 use Rattle.jn_coord.specs.Calls.{Fits, flag_told}
-
--- all but a committed transaction that waits for a work
-abbrev pub goes : Stage → Bool
-goes (Committed d) = all_in d.works d.done
-goes stage = true
-
-abbrev pub is_committed : Stage → Bool
-is_committed (Committed d) = true
-is_committed stage = false
-
-abbrev pub is_decided : Stage → Bool
-is_decided (Committed d) = true
-is_decided (Aborted cause) = true
-is_decided stage = false
-
--- One client goes on, which drops what is undecided; or, with none named, every client knows its outcomes.
-abbrev pub takes_part : Option ClientNo → Transaction → Bool
-takes_part (Some c) x = client_eq x.client c && goes x.stage
-takes_part None x = is_decided x.stage && goes x.stage
 
 abbrev pub left_by : Option ClientNo → List Transaction → List Transaction
 left_by (Some c) xs = after_closing c xs
@@ -42,15 +23,6 @@ left_by None xs = all_thanked xs
 abbrev pub changes_by : Option ClientNo → List Transaction → List Change
 changes_by (Some c) xs = changes_of_closing c xs
 changes_by None xs = flags_of_thanked xs
-
--- the first transaction that goes
-abbrev pub next_closing : Option ClientNo → List Transaction → Option Transaction
-next_closing who [] = None
-next_closing who (x ∷ xs) = if takes_part who x then Some x else next_closing who xs
-
-abbrev pub tid_in : Option Transaction → Option Tid
-tid_in None = None
-tid_in (Some x) = Some x.tid
 
 -- its flag is dropped where it has one, and a promise is given back
 pub record GoneFrom (x : Transaction) (v w : StorageView) : Type 0 where
@@ -112,22 +84,6 @@ ClosesAll who r v (Err Stopped) r' w = ClosingStopped who r v w
 ClosesAll who r v (Err Memory) r' w = ⊥
 
 -- ---- what is left
-
-abbrev pub known_stage : Stage → Stage
-known_stage (Committed d) = Committed (record d { thanked = true })
-known_stage stage = stage
-
-abbrev pub is_of : Option ClientNo → ClientNo → Bool
-is_of (Some c) d = client_eq d c
-is_of None d = true
-
--- its client knows of it, where it is one that does
-abbrev pub known : Option ClientNo → Transaction → Transaction
-known who x = if is_of who x.client then record x { stage = known_stage x.stage } else x
-
-abbrev pub knowing : Option ClientNo → List Transaction → List Transaction
-knowing who [] = []
-knowing who (x ∷ xs) = known who x ∷ knowing who xs
 
 -- the transactions of a client are closed, as its next Begin asks, or all that are decided are thanked
 pub record ClientClosed (who : Option ClientNo) (r : Remembered) (v : StorageView) (r' : Remembered) (w : StorageView) : Type 0 where

@@ -7,8 +7,8 @@ use Rattle.jn_msgs.specs.declared.message.Message.TheVariants.{Begin, End}
 use Rattle.jn_rows.specs.Coordinator.{CoordinatorTable}
 use Rattle.jn_rows.specs.Outcomes.{RowOutcome}
 use Rattle.jn_storage.specs.Storage.{StorageView}
-use Rattle.jn_coord.specs.declared.faults.CoordFault.{CoordFault}
-use Rattle.jn_coord.specs.declared.faults.CoordFault.TheVariants.{Stopped, Memory}
+use Rattle.jn_transactions.specs.declared.faults.CoordFault.{CoordFault}
+use Rattle.jn_transactions.specs.declared.faults.CoordFault.TheVariants.{Stopped, Memory}
 use Rattle.jn_coord.specs.Remembered.{Remembered}
 use Rattle.jn_coord.specs.Calls.{IsDone, IsStopped}
 

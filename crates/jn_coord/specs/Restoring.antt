@@ -1,34 +1,15 @@
 -- What a coordinator remembers after a restart.
-use Rattle.std.specs.Prelude.{◌≡◌, ℕ, suc, Bool, true, false, nat_lt, ◌&&◌, if◌then◌else◌, List, [], ◌∷◌, None, is_some, slice_set}
+use Rattle.std.specs.Prelude.{◌≡◌, ℕ, Bool, true, nat_lt, ◌&&◌, if◌then◌else◌, List, [], ◌∷◌, is_some, slice_set}
 use Rattle.jn_base.specs.declared.names.ClientNo.{ClientNo}
 use Rattle.jn_base.specs.declared.names.Tid.{Tid}
 use Rattle.jn_base.specs.Names.{tid_eq}
 use Rattle.jn_records.specs.declared.flag.Flag.{Flag}
-use Rattle.jn_rows.specs.declared.coordinator.Transaction.{Transaction}
-use Rattle.jn_rows.specs.declared.coordinator.Stage.TheVariants.{Committed}
 use Rattle.jn_rows.specs.Coordinator.{restored_coordinator}
 use Rattle.jn_storage.specs.Listing.{IsListing}
 use Rattle.jn_storage.specs.Storage.{StorageView}
 use Rattle.jn_storage.specs.Calls.{state}
-use Rattle.jn_coord.specs.Remembered.{Remembered, seen_by, table_of, name_below}
+use Rattle.jn_coord.specs.Remembered.{Remembered, seen_by, table_of}
 use Rattle.jn_coord.specs.Calls.{Fits}
-
-abbrev pub restored_from : Flag → Transaction
-restored_from flag = record { tid = flag.tid; client = flag.client; begun = None; stage = Committed (record { works = flag.works; done = []; thanked = false }) }
-
--- how many of the first transactions aren't above a name
-abbrev pub place_among : Tid → List Transaction → ℕ
-place_among T [] = 0
-place_among T (x ∷ xs) = if name_below T x.tid then 0 else suc (place_among T xs)
-
-abbrev pub inserted : Transaction → List Transaction → List Transaction
-inserted y [] = y ∷ []
-inserted y (x ∷ xs) = if name_below y.tid x.tid then y ∷ x ∷ xs else x ∷ inserted y xs
-
--- the transactions of flags too, each in its place
-abbrev pub with_flags : List Transaction → List Flag → List Transaction
-with_flags xs [] = xs
-with_flags xs (flag ∷ flags) = with_flags (inserted (restored_from flag) xs) flags
 
 -- a client's request is seen
 abbrev pub with_seen : List ℕ → ClientNo → ℕ → List ℕ

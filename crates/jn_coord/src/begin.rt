@@ -7,17 +7,17 @@ ghost use Rattle.jn_msgs.specs.declared.message.Message.TheVariants as messages;
 ghost use Rattle.jn_rows.specs.Coordinator as rows;
 ghost use Rattle.jn_rows.specs.Coordinator.{CoordinatorTable};
 ghost use Rattle.jn_coord.specs.Remembered.{table_of, seen_by};
-ghost use Rattle.jn_coord.specs.Calls.{Fits, Does, Adds};
-ghost use Rattle.jn_coord.specs.Beginning.{TicketsFit, left_of, count_left, new_transaction, with_request, with_begun};
+ghost use Rattle.jn_transactions.specs.Telling.{Adds};
+ghost use Rattle.jn_coord.specs.Calls.{Fits, Does};
+ghost use Rattle.jn_transactions.specs.Closing.{count_left};
+ghost use Rattle.jn_coord.specs.Beginning.{TicketsFit, new_transaction, with_request, with_begun};
 
-use crate::closing::{begin_again, goes};
 use crate::coordinator::Coordinator;
-use crate::faults::CoordFault;
-use crate::sending::{note, send};
 use jn_base::{ClientNo, Party, Tickets, Tid};
 use jn_msgs::{Message, Note, Out};
 use jn_rows::{Stage, Transaction};
 use jn_storage::FlagStore;
+use jn_transactions::{CoordFault, begin_again, count_left, note, send};
 
 fn name_from(tickets: &Tickets) -> Tid
     ensures { result ≡ rows.name_from tickets.now }
@@ -27,28 +27,6 @@ fn name_from(tickets: &Tickets) -> Tid
         epoch: tickets.epoch,
         ticket: tickets.next,
     }
-}
-
-/// 1 for a transaction that is left once a client's transactions are closed.
-fn left_of(x: &Transaction, client: ClientNo) -> usize
-    ensures { result ≡ left_of client x.now }
-{
-    if x.client == client && goes(&x.stage) {
-        return 0;
-    }
-    1
-}
-
-/// How many transactions are left once a client's are closed.
-#[tactic(auto, using(crate::proofs::Beginnings::left_one))]
-fn count_left(transactions: &[Transaction], client: ClientNo) -> usize
-    ensures { result ≡ count_left client transactions.now }
-{
-    let mut left = 0;
-    for x in transactions {
-        left += left_of(x, client);
-    }
-    left
 }
 
 impl Coordinator {

@@ -16,27 +16,25 @@ ghost use Rattle.jn_rows.specs.Coordinator.{CoordinatorTable};
 ghost use Rattle.jn_rows.specs.Outcomes as outcomes;
 ghost use Rattle.jn_storage.specs.Storage.{StorageView, IsServing};
 ghost use Rattle.jn_storage.specs.Calls.{state};
-ghost use Rattle.jn_coord.specs.declared.faults.CoordFault.TheVariants.{Stopped};
+ghost use Rattle.jn_transactions.specs.declared.faults.CoordFault.TheVariants.{Stopped};
 ghost use Rattle.jn_coord.specs.Remembered.{table_of};
 ghost use Rattle.jn_coord.specs.Beginning.{TicketsFit};
-ghost use Rattle.jn_coord.specs.Closing.{going_in, tid_in, next_closing, LetsGo, ClosesNext, ClosesAll, ClosesClient, knowing};
-ghost use Rattle.jn_coord.specs.Calls.{Fits, FitsWith, Does, Adds, added, Releases, committed_as, committed_at, spare_of, voting_in, works_in, ballot_in, stage_in, free_of, is_memory, IsPromised, ballot_row, waiting_row};
+ghost use Rattle.jn_transactions.specs.Closing.{tid_in, next_closing, knowing};
+ghost use Rattle.jn_coord.specs.Closing.{going_in, LetsGo, ClosesNext, ClosesAll, ClosesClient};
+ghost use Rattle.jn_transactions.specs.Telling.{Adds, added};
+ghost use Rattle.jn_coord.specs.Calls.{Fits, FitsWith, Does, Releases, committed_as, committed_at, spare_of, voting_in, works_in, ballot_in, stage_in, free_of, is_memory, IsPromised, ballot_row, waiting_row};
 
-use crate::closing::{is_committed, know_all, next_closing};
-use crate::faults::CoordFault;
-use crate::sending::{
-    note, send_drops, send_outcome, send_prepares, tell_abort, tell_all_again, tell_commit,
-    tell_not_known, tell_work,
-};
-use crate::table::{
-    all_in, besides, copy_of, find, is_aborted, is_over, is_ready, is_voting, is_work, known_of,
-    new_ballot, one_more_done, one_more_ready, remove, set_stage, union,
-};
 use jn_base::{Cause, ClientNo, Party, Tickets, Tid, WorkId};
 use jn_msgs::{Message, Note, Out, Outcome, Vote, Works};
 use jn_records::{Flag, ListOf};
 use jn_rows::{Committed, Stage, Transaction, Voting};
 use jn_storage::{FlagStore, PromiseFault};
+use jn_transactions::{
+    CoordFault, all_in, besides, copy_of, find, is_aborted, is_committed, is_over, is_ready,
+    is_voting, is_work, know_all, known_of, new_ballot, next_closing, note, one_more_done,
+    one_more_ready, remove, send_drops, send_outcome, send_prepares, set_stage, tell_abort,
+    tell_all_again, tell_commit, tell_not_known, tell_work, union,
+};
 use std::alloc::{AllocError, Global};
 use std::marker::Model;
 
@@ -682,7 +680,7 @@ impl Coordinator {
     }
 
     /// Tells once more what the decided transactions have told, in rising order of their names.
-    #[tactic(auto, using(crate::proofs::Sends::cut_back))]
+    #[tactic(auto, using(jn_transactions::proofs::Sends::cut_back))]
     pub fn again(&self, out: &mut Out) -> Result<(), AllocError>
         ensures ok { OnOk result (out.new ≡ added out.old (rows.coordinator_again self.now.transactions) []) }
         ensures memory { OnErr result (out.new ≡ out.old) }

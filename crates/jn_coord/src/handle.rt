@@ -9,11 +9,10 @@ ghost use Rattle.jn_coord.specs.Beginning.{TicketsFit};
 ghost use Rattle.jn_coord.specs.Handling.{FewWorks, Handles, is_begin};
 
 use crate::coordinator::Coordinator;
-use crate::faults::CoordFault;
-use crate::sending::note;
 use jn_base::Tickets;
 use jn_msgs::{Message, Note, Out};
 use jn_storage::FlagStore;
+use jn_transactions::{CoordFault, note};
 
 impl Coordinator {
     /// Takes a message that draws no name.

@@ -1,16 +1,11 @@
 //! A coordinator: its transactions from their Begin until they are forgotten, over any store of commit flags.
+//! What it does with the list of them alone stands in `jn_transactions`.
 #![tactic(auto)]
 
 mod begin;
-mod closing;
 mod coordinator;
-mod faults;
 mod handle;
 mod restoring;
-mod sending;
-mod table;
-#[cfg(test)]
-mod tests;
 
 pub use coordinator::Coordinator;
-pub use faults::CoordFault;
+pub use jn_transactions::CoordFault;

@@ -11,7 +11,6 @@ use Rattle.jn_base.specs.declared.names.ServerNo.{ServerNo}
 use Rattle.jn_base.specs.declared.names.WorkId.{WorkId}
 use Rattle.jn_base.specs.Names.{work_eq, tid_eq}
 use Rattle.jn_base.proofs.Tells.{work_tells}
-use Rattle.jn_order.specs.Files.{Files}
 use Rattle.jn_records.specs.declared.flag.Flag.{Flag}
 use Rattle.jn_records.specs.declared.intention.Intention.{Intention}
 use Rattle.jn_records.specs.declared.work.WorkHead.{WorkHead}
@@ -133,7 +132,7 @@ module _ (server : ServerNo) (v : StorageView) (on : IsOn server v) (head : Work
       at false t f = absurd (cc f)
 
   -- the first work may be prepared
-  pub may_prepare : v.accounts.rubbish ≡ [] → IsGiven server 1 head.work.server head.work.epoch → ((files : Files) → IsPrepared files list reads) → MayPrepare v head list reads
+  pub may_prepare : v.accounts.rubbish ≡ [] → IsGiven server 1 head.work.server head.work.epoch → IsPrepared (state v).files list reads → MayPrepare v head list reads
   may_prepare clean given prepared = record {
     new = no_works head.work;
     no_rubbish = rw clean refl;
@@ -142,7 +141,7 @@ module _ (server : ServerNo) (v : StorageView) (on : IsOn server v) (head : Work
       flags_few = on.serving.orderly.flags_few;
       works_given = λ u h. subst (λ n. IsGiven v.accounts.server (state v).epoch n.server n.epoch) (named u (work_eq head.work u) refl (sym (ap is_some (first_at u)) ∙ h)) (record { own = given.own ∙ sym on.server_is; past = omega (arith, given.past, on.epoch) });
       flags_given = on.serving.orderly.flags_given;
-      prepared = λ u p e. subst (λ q. IsPrepared (state v).files q.list q.reads) (first_only u p e).1 (prepared (state v).files);
+      prepared = λ u p e. subst (λ q. IsPrepared (state v).files q.list q.reads) (first_only u p e).1 prepared;
       apart = λ u n p q ne e f. absurd (ne (sym (first_only u p e).0 ∙ (first_only n q f).0));
     };
   }

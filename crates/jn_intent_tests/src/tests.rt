@@ -114,6 +114,10 @@ const STORIES: [Story; 3] = [
 /// How many device calls a stable put makes without faults: a put and a get of each half.
 const PUT: u32 = 4;
 
+/// How many a recovery makes that erases nothing: two for each page, the root, the records, the heads, and the put of the
+/// next epoch.
+const RECOVERY: u64 = 2 * 12 + 1 + 6 + 2 + 4;
+
 /// Whether the new state is found where the n-th device call is stopped in this way: the last put decides, from its first
 /// half on.
 fn is_new(puts: u32, n: u32, way: u32) -> bool
@@ -587,10 +591,9 @@ fn calls_after(rt: &impl Abort, alloc: Global, story: &Story, at: usize) -> Resu
 
 #[test]
 fn a_call_makes_so_many_device_calls(rt: HostRuntime) -> Result<(), Fail> {
-    // the put of the root, two for each page, the root, the records, the heads, and the put of the next epoch
-    let loaded = u64::from(PUT) + 2 * 12 + 1 + 6 + 2 + u64::from(PUT);
+    let first = u64::from(PUT) + RECOVERY;
     for story in &STORIES {
-        assert_eq!(rt; calls_after(&rt, rt.alloc(), story, 0)?, loaded);
+        assert_eq!(rt; calls_after(&rt, rt.alloc(), story, 0)?, first);
         for (at, (call, pages)) in story.calls.iter().enumerate() {
             let before = calls_after(&rt, rt.alloc(), story, at)?;
             let after = calls_after(&rt, rt.alloc(), story, at + 1)?;
@@ -598,6 +601,24 @@ fn a_call_makes_so_many_device_calls(rt: HostRuntime) -> Result<(), Fail> {
             let puts = 4 * pages.len() as u64;
             assert_eq!(rt; after.checked_sub(before), Some(puts), "{call:?}");
         }
+    }
+    Ok(())
+}
+
+#[test]
+fn a_recovery_erases_what_a_stopped_preparation_left(rt: HostRuntime) -> Result<(), Fail> {
+    let alloc = rt.alloc();
+    // after so many puts so many records of intentions stand there
+    for (put, records) in [(0, 0), (1, 1), (2, 1), (3, 2)] {
+        let store = stopped(&rt, alloc, &STORIES[0], 0, PUT * put + 1, 0)?;
+        let before = store.into_inner().calls();
+        let store = stopped(&rt, alloc, &STORIES[0], 0, PUT * put + 1, 0)?;
+        let after = started(&rt, alloc, store)?
+            .into_store()
+            .into_inner()
+            .calls();
+        let wanted = RECOVERY + u64::from(PUT) * records;
+        assert_eq!(rt; after.checked_sub(before), Some(wanted));
     }
     Ok(())
 }

@@ -19,7 +19,7 @@ use Rattle.jn_serial.specs.Caused.{count_events, count_lines, is_stop, refuses_e
 use Rattle.jn_serial.proofs.Growth.{AreWithin, lines_at-newest, AreWithin-append, AreWithin-wider}
 use Rattle.jn_protocol.specs.World.{World, opening}
 use Rattle.jn_protocol.specs.Steps.{Step, NextEvent, Tell, Again, Deliver, Work, Nudge, Timeout, StopDelivery, StopWork, Crash, Narrow, StopRestart, Restart, Dismiss, CloseClients, after, IsRun}
-use Rattle.jn_reported.specs.Reported.{Act, Does, Refuses, Tells, Item, events_of, steps_in, steps_of, told_in, told_under, after_item, at_event, lines_of, may_do, may_act, IsUnder, AreUnder, Waiting, none_wait, one_more, armed, with_event, strike_all, AreStruck, FaultsWait, IsReported}
+use Rattle.jn_reported.specs.Reported.{Act, Does, Refuses, Tells, Shows, Item, events_of, steps_in, steps_of, told_in, told_under, after_item, at_event, lines_of, may_do, may_act, IsUnder, AreUnder, Waiting, none_wait, one_more, armed, with_event, strike_all, AreStruck, FaultsWait, IsReported}
 use Rattle.jn_reported.specs.Armed.{ArmedFrom, AreArmed}
 use Rattle.jn_reported.proofs.Lists.{Each}
 use Rattle.jn_reported.proofs.Reached.{Reached, next-reached, opening-reached}
@@ -61,6 +61,10 @@ arm-texts s n kind (Refuses refusal ∷ acts) r h = (tt, arm-texts s n kind acts
     second : (a b : Bool) → (a && b) ≡ true → b ≡ true
     second a b k = grind arith
 arm-texts s n kind (Tells t fault ∷ acts) r h = absurd (no (list_all (may_act (events.Arm s n kind)) acts) h)
+  where
+    no : (b : Bool) → (false && b) ≡ true → ⊥
+    no b k = grind arith
+arm-texts s n kind (Shows t prints ∷ acts) r h = absurd (no (list_all (may_act (events.Arm s n kind)) acts) h)
   where
     no : (b : Bool) → (false && b) ≡ true → ⊥
     no b k = grind arith
@@ -243,7 +247,7 @@ armed-more : (es : List Event) (before xs ys : List Line) → ArmedFrom es befor
 armed-more es before [] ys h k = subst (λ l. ArmedFrom es l ys) (append-nil before) k
 armed-more es before (l ∷ xs) ys h k = (h.0, armed-more es (before ++ l ∷ []) xs ys h.1 (subst (λ z. ArmedFrom es z ys) (sym (append_assoc before (l ∷ []) xs)) k))
 
-length-more : (es : List Event) (e : Event) → length (es ++ e ∷ []) ≡ length es + 1
+pub length-more : (es : List Event) (e : Event) → length (es ++ e ∷ []) ≡ length es + 1
 length-more [] e = refl
 length-more (d ∷ es) e = ap suc (length-more es e) ∙ shift (length es)
   where

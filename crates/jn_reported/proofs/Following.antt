@@ -1,6 +1,6 @@
 -- The lines of a run answer what its clients were told to do.
 use Rattle.std.proofs.Common.{◌≡◌, ℕ, suc, ◌+◌, ◌≤◌, ◌<◌, Bool, true, false, List, [], ◌∷◌, ◌++◌, append-nil, append_assoc, length, drop, Some, None, refl, sym, ◌∙◌, ap, subst, arith}
-use Rattle.std.specs.Prelude.{◌&&◌, ◌||◌, not, nat_eq, if◌then◌else◌}
+use Rattle.std.specs.Prelude.{◌&&◌, ◌||◌, not, nat_eq, if◌then◌else◌, map}
 use Rattle.std.specs.List.{list_all}
 use Rattle.std.proofs.lemmas.Bool.Decides.{nat_tests}
 use Rattle.std.proofs.Math.Seq.{drop-append_seam}
@@ -27,10 +27,12 @@ use Rattle.jn_serial.specs.Follows.{Outstanding as Waited, nothing_asked, with_a
 use Rattle.jn_serial.proofs.Growth.{IsWithin, AreWithin, lines_at-earlier, lines_at-newest, AreWithin-wider, AreWithin-append}
 use Rattle.jn_protocol.specs.World.{World, opening}
 use Rattle.jn_protocol.specs.Steps.{Step, NextEvent, Tell, Dismiss, after, run, IsRun, commanded}
-use Rattle.jn_reported.specs.Reported.{Act, Does, Refuses as Refused, Tells, Item, events_of, steps_in, steps_of, told_in, told_under, after_item, at_event, lines_of, may_do, may_act, IsUnder, AreUnder, IsReported}
+use Rattle.jn_reported.specs.Printing.{Printed, FileThere, PageStored, UnitLocked, text_printed}
+use Rattle.jn_reported.specs.Reported.{Act, Does, Refuses as Refused, Tells, Shows, Item, events_of, steps_in, steps_of, told_in, told_under, after_item, at_event, lines_of, may_do, may_act, IsUnder, AreUnder, IsReported}
 use Rattle.jn_reported.proofs.Lists.{Each}
+use Rattle.jn_reported.proofs.Prints.{each-print}
 use Rattle.jn_reported.proofs.Reached.{Reached, next-reached, opening-reached}
-use Rattle.jn_reported.proofs.Fitting.{asked_of, Waits, Fit, left, IsOther, Heard, heard-then, mute-heard}
+use Rattle.jn_reported.proofs.Fitting.{asked_of, Waits, Fit, left, IsOther, IsMute, Heard, heard-then, mute-heard}
 use Rattle.jn_reported.proofs.Hearing.{IsQuiet, StepHeard, told-is, step-hears, new-waits, Commands, commands}
 
 -- ---- the acts of an event
@@ -101,7 +103,7 @@ IsPlain e = Unit {0}
 
 pub under-quiet : (e : Event) (acts : List Act) → IsPlain e → IsUnder e acts → Each IsQuietAct acts
 under-quiet (events.Command c command) acts p h = absurd p
-under-quiet (events.Show s) acts p h = absurd h
+under-quiet (events.Show s) acts p h = all-quiet (events.Show s) acts h
 under-quiet (events.Again d) acts p h = all-quiet (events.Again d) acts h
 under-quiet (events.Deliver k) acts p h = all-quiet (events.Deliver k) acts h
 under-quiet events.Settle acts p h = all-quiet events.Settle acts h
@@ -114,6 +116,11 @@ under-quiet (events.Revive s g) acts p h = all-quiet (events.Revive s g) acts h
 under-quiet (events.Arm s n kind) acts p h = all-quiet (events.Arm s n kind) acts h
 under-quiet (events.Crash s) acts p h = all-quiet (events.Crash s) acts h
 under-quiet (events.Restart s) acts p h = all-quiet (events.Restart s) acts h
+
+print-mute : (s : ServerNo) (x : Printed) → IsMute (text_printed s x)
+print-mute s (FileThere f) = (refl, tt)
+print-mute s (PageStored f p bytes) = (refl, tt)
+print-mute s (UnitLocked u T) = (refl, tt)
 
 pub run-split : (a b : List Step) (r : World) → IsRun (a ++ b) r → IsRun a r × IsRun b (run a r)
 run-split [] b r h = (tt, h)
@@ -151,6 +158,9 @@ module _ (files : AllFiles) (epochs : ServerNo → ℕ) where
     same_event = rest.same_event;
     heard = heard-then out (says.Outside s fault ∷ []) (told_in acts r) r.clients (run (steps_in acts) r).clients (mute-heard out (says.Outside s fault ∷ []) r.clients waits ((refl, tt), tt)) rest.heard;
   }
+  acts-heard (Shows s prints ∷ acts) r reached i quiet out waits = let first = mute-heard out (map (text_printed s) prints) r.clients waits (each-print IsMute s (print-mute s) prints) in
+      let rest = acts-heard acts r reached i quiet.1 (left out (map (text_printed s) prints)) first.now in
+      record { reached = rest.reached; same_event = rest.same_event; heard = heard-then out (map (text_printed s) prints) (told_in acts r) r.clients (run (steps_in acts) r).clients first rest.heard }
 
   -- ---- an event
 
@@ -250,7 +260,7 @@ module _ (files : AllFiles) (epochs : ServerNo → ℕ) where
   event-follows out (events.Arm s n kind) acts r reached i waits under = plain-follows out (events.Arm s n kind) acts r reached i waits tt under
   event-follows out (events.Crash s) acts r reached i waits under = plain-follows out (events.Crash s) acts r reached i waits tt under
   event-follows out (events.Restart s) acts r reached i waits under = plain-follows out (events.Restart s) acts r reached i waits tt under
-  event-follows out (events.Show s) acts r reached i waits under = absurd under
+  event-follows out (events.Show s) acts r reached i waits under = plain-follows out (events.Show s) acts r reached i waits tt under
 
 -- ---- all events
 

@@ -1,4 +1,5 @@
 pub mod Lists
+pub mod Prints
 pub mod Asking
 pub mod WorkerTalk
 pub mod CoordinatorTalk

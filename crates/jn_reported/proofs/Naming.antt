@@ -1,6 +1,7 @@
 -- The commits of a run's lines are those of its world's, each named once and before it is acknowledged.
 use Rattle.std.proofs.Common.{◌≡◌, ℕ, ◌+◌, List, [], ◌∷◌, ◌++◌, append-nil, append_assoc, length, drop, refl, sym, ◌∙◌, ap, subst}
 use Rattle.std.proofs.Math.Seq.{drop-append_seam}
+use Rattle.std.specs.Prelude.{map}
 use Rattle.jn_base.specs.declared.names.ServerNo.{ServerNo}
 use Rattle.jn_base.specs.declared.names.ClientNo.{ClientNo}
 use Rattle.jn_base.specs.declared.names.Tid.{Tid}
@@ -22,7 +23,8 @@ use Rattle.jn_moves.proofs.StepMoves.{committed-any}
 use Rattle.jn_protocol.specs.World.{World, opening, committed_in, commits_in}
 use Rattle.jn_protocol.specs.Steps.{Step, NextEvent, Tell, Dismiss, after, run, IsStep, IsRun, commanded}
 use Rattle.jn_runs.specs.Runs.{IsNamed, AreNamed}
-use Rattle.jn_reported.specs.Reported.{Act, Does, Refuses as Refused, Tells, Item, steps_in, steps_of, told_by, told_in, told_under, after_item, at_event, lines_of, world_of}
+use Rattle.jn_reported.specs.Printing.{Printed, FileThere, PageStored, UnitLocked, text_printed}
+use Rattle.jn_reported.specs.Reported.{Act, Does, Refuses as Refused, Tells, Shows, Item, steps_in, steps_of, told_by, told_in, told_under, after_item, at_event, lines_of, world_of}
 use Rattle.jn_reported.proofs.Reached.{Reached, next-reached}
 use Rattle.jn_reported.proofs.Hearing.{IsQuiet, step-hears, told-is}
 use Rattle.jn_reported.proofs.Following.{run-split}
@@ -108,6 +110,15 @@ module _ (files : AllFiles) (epochs : ServerNo → ℕ) where
   told-plain : (r : World) → Reached files epochs r → (text : Text) → committed_in text ≡ [] → IsNamedWhere (commits_in r.lines) text → Told r (text ∷ []) r
   told-plain r h text e k = record { reached = h; commits = sym (ap (λ l. commits_in r.lines ++ (l ++ [])) e ∙ append-nil (commits_in r.lines)); before = λ number. (k, tt) }
 
+  told-print : (r : World) → Reached files epochs r → (s : ServerNo) (x : Printed) → Told r (text_printed s x ∷ []) r
+  told-print r h s (FileThere f) = told-plain r h (says.File s f) refl tt
+  told-print r h s (PageStored f p bytes) = told-plain r h (says.Page s f p bytes) refl tt
+  told-print r h s (UnitLocked u T) = told-plain r h (says.Locked s u T) refl tt
+
+  told-prints : (r : World) → Reached files epochs r → (s : ServerNo) (prints : List Printed) → Told r (map (text_printed s) prints) r
+  told-prints r h s [] = record { reached = h; commits = sym (append-nil (commits_in r.lines)); before = λ number. tt }
+  told-prints r h s (x ∷ prints) = told-then r r r (text_printed s x ∷ []) (map (text_printed s) prints) (told-print r h s x) (told-prints r h s prints)
+
   told-step : (r : World) → Reached files epochs r → (step : Step) → IsStep step r → Told r (told_by (Does step) r) (after step r)
   told-step r h step i = record {
     reached = next;
@@ -126,6 +137,7 @@ module _ (files : AllFiles) (epochs : ServerNo → ℕ) where
   acts-told (Does step ∷ acts) r h i = let first = told-step r h step i.0 in told-then r (after step r) (run (steps_in acts) (after step r)) (told_by (Does step) r) (told_in acts (after step r)) first (acts-told acts (after step r) first.reached i.1)
   acts-told (Refused refusal ∷ acts) r h i = told-then r r (run (steps_in acts) r) (says.RefusedEvent refusal ∷ []) (told_in acts r) (told-plain r h (says.RefusedEvent refusal) refl tt) (acts-told acts r h i)
   acts-told (Tells s fault ∷ acts) r h i = told-then r r (run (steps_in acts) r) (says.Outside s fault ∷ []) (told_in acts r) (told-plain r h (says.Outside s fault) refl tt) (acts-told acts r h i)
+  acts-told (Shows s prints ∷ acts) r h i = told-then r r (run (steps_in acts) r) (map (text_printed s) prints) (told_in acts r) (told-prints r h s prints) (acts-told acts r h i)
 
   pub record RunTold (items : List Item) (r : World) : Type 0 where
     pub reached : Reached files epochs (world_of items r)

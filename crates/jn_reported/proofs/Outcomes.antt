@@ -56,6 +56,9 @@ module _ (os : List Opening) (clients : ClientNo → ClientTable) (w : Machine) 
   abbrev pub IsTrueAbort : Text → Type 0
   IsTrueAbort (says.Aborted d j T cause) = (d ≡ c) × (t.transaction ≡ Some T) × (w.aborted T ≡ true) × Caused c T cause
   IsTrueAbort (says.Broke s T u by) = ⊥
+  IsTrueAbort (says.File s f) = ⊥
+  IsTrueAbort (says.Page s f p bytes) = ⊥
+  IsTrueAbort (says.Locked s u T) = ⊥
   IsTrueAbort text = Unit {0}
 
   abbrev pub AbortsTruly : ClientTable × Taken → Type 0

@@ -6,6 +6,8 @@ use Rattle.jn_base.specs.declared.names.ClientNo.{ClientNo}
 use Rattle.jn_base.specs.declared.names.Tid.{Tid}
 use Rattle.jn_base.specs.declared.names.Cause.{Cause}
 use Rattle.jn_base.specs.declared.names.Cause.TheVariants.{Requested, Lost as LostAt, Full as FullAt}
+use Rattle.jn_base.specs.declared.op.Command.{Command}
+use Rattle.jn_base.specs.declared.op.Command.TheVariants.{Abort}
 use Rattle.jn_base.specs.declared.names.Party.TheVariants.{Client, Server}
 use Rattle.jn_msgs.specs.declared.message.Message.{Message}
 use Rattle.jn_msgs.specs.declared.message.Message.TheVariants as messages
@@ -53,8 +55,7 @@ module _ (r : World) (w v : Machine) (Caused Caused' : ClientNo → Tid → Caus
     (named : (T : Tid) → w.named T ≡ has_line T r.lines) (full : (c : ClientNo) (T : Tid) (s : ServerNo) (n free need : ℕ) → nat_lt free need ≡ true → Caused c T (FullAt s n free need))
     (mirrors : Mirrors r w) (inv : Invariant w) (locks : LockFacts r) (facts : Facts r w) (talk : Talk r w)
     (votes : (s : ServerNo) (m : Memory) → r.memory s ≡ Some m → (room : Room) (message : Message) → In (Server s, message) r.sent → Each (SaysPast (openings r.sent) r.clients w Caused) (worker_row m.worker (storage_of m (stable (r.found s)) room) m.tickets message).messages)
-    (lost : (s : ServerNo) (m : Memory) → r.memory s ≡ Some m → (c : ClientNo) (T : Tid) → T.server ≡ s → transaction_at T m.coordinator.transactions ≡ None → Had (openings r.sent) r.clients w Caused c T → Past (openings r.sent) r.clients w Caused c T ⊎ Caused c T (LostAt s))
-    (requested : (c : ClientNo) (T : Tid) → (r.clients c).transaction ≡ Some T → Caused' c T Requested) where
+    (lost : (s : ServerNo) (m : Memory) → r.memory s ≡ Some m → (c : ClientNo) (T : Tid) → T.server ≡ s → transaction_at T m.coordinator.transactions ≡ None → Had (openings r.sent) r.clients w Caused c T → Past (openings r.sent) r.clients w Caused c T ⊎ Caused c T (LostAt s)) where
   runs : (c : ClientNo) (T : Tid) → (r.clients c).transaction ≡ Some T → Began (openings r.sent) c (r.clients c).next T
   runs c T e = (facts.clients c).current T e
 
@@ -136,10 +137,11 @@ module _ (r : World) (w v : Machine) (Caused Caused' : ClientNo → Tid → Caus
 
   -- ---- every step
 
-  pub step-past : (step : Step) → IsStep step r → Later (after step r) v → Now (after step r)
+  -- a client's abort is a cause for its transaction
+  pub step-past : (step : Step) → IsStep step r × ((c : ClientNo) → step ≡ Tell c Abort → (T : Tid) → (r.clients c).transaction ≡ Some T → Caused' c T Requested) → Later (after step r) v → Now (after step r)
   step-past NextEvent i l = same l.named
   step-past (Tell c command) i l = commanded-past c (command_row (r.clients c) r.event command) (command-talks (openings r.sent) w w.ended r.sent c (r.clients c) (facts.clients c) facts.unique (talk.waits c) (current c) r.event command)
-      (command-facts (openings r.sent) w.ended c (r.clients c) (facts.clients c) (λ T q h e. facts.drawn (opening c q T) h e) r.event command) (command-says (openings r.sent) r.clients w v Caused Caused' c (facts.clients c).name (runs c) (requested c) r.event command) l
+      (command-facts (openings r.sent) w.ended c (r.clients c) (facts.clients c) (λ T q h e. facts.drawn (opening c q T) h e) r.event command) (command-says (openings r.sent) r.clients w v Caused Caused' c (facts.clients c).name (runs c) r.event command (λ e. i.1 c (ap (λ (z : Command). Tell c z) e))) l
   step-past (Again c) i l = again-past c (r.clients c).outstanding refl l
   step-past (Deliver k room) i l = handed-past k room None (slice_get r.sent k) refl l
   step-past (Work s room) i l = work-past r w v Caused Caused' past caused aborted grown runs named facts.unique full mirrors inv locks votes lost s room None (r.memory s) refl (locks s) l
@@ -150,6 +152,6 @@ module _ (r : World) (w v : Machine) (Caused Caused' : ClientNo → Tid → Caus
   step-past (Crash s) i l = crash-past r w v Caused Caused' past caused aborted grown runs named facts.unique full mirrors inv locks votes lost s (r.memory s) l
   step-past (Narrow s g) i l = narrow-past r w v Caused Caused' past caused aborted grown runs named facts.unique full mirrors inv locks votes lost s g (r.memory s) refl l
   step-past (StopRestart s raised) i l = raise-past r w v Caused Caused' past caused aborted grown runs named facts.unique full mirrors inv locks votes lost s raised (r.memory s) l
-  step-past (Restart s pick Ws Ts) i l = restart-past r w v Caused Caused' past caused aborted grown runs named facts.unique full mirrors inv locks votes lost s pick Ws Ts (r.memory s) refl i.1 l
+  step-past (Restart s pick Ws Ts) i l = restart-past r w v Caused Caused' past caused aborted grown runs named facts.unique full mirrors inv locks votes lost s pick Ws Ts (r.memory s) refl i.0.1 l
   step-past Dismiss i l = dismiss-past r.sent r.clients r.memory r.found w v Caused Caused' past caused aborted grown (none-same l.named)
-  step-past (CloseClients s) i l = close-past r w v Caused Caused' past caused aborted grown runs named facts.unique full mirrors inv locks votes lost s (r.memory s) refl (locks s) i l
+  step-past (CloseClients s) i l = close-past r w v Caused Caused' past caused aborted grown runs named facts.unique full mirrors inv locks votes lost s (r.memory s) refl (locks s) i.0 l

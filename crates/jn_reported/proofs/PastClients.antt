@@ -210,18 +210,18 @@ module _ (os : List Opening) (clients : ClientNo → ClientTable) (w v : Machine
   had-now : (j : ℕ) (command : Command) (to : Party) (message : Message) (T : Tid) (b : Began os c t.next T) → WasHad os c (waiting j command to message) T
   had-now j command to message T b = record { request = b.request; has = b.has; drawn = on b.request t.next b.drawn; answered = λ o e. subst (λ (z : Outstanding). z.request ≢ b.request) (some-out _ o e) (not-it b.request t.next b.drawn) }
 
-  pub command-says : (requested : (T : Tid) → t.transaction ≡ Some T → Caused' c T Requested) (j : ℕ) (command : Command) → CommandSays (command_row t j command)
-  command-says requested j (Begin s) = at-server s _ (where-idle t.outstanding _ (without-one t.transaction _ refl (λ e. here (λ d (x : ClientTable). BeganBy os d x t.next) (waiting j (Begin s) (Server s) (messages.Begin t.client t.next))
+  pub command-says : (j : ℕ) (command : Command) (requested : command ≡ Abort → (T : Tid) → t.transaction ≡ Some T → Caused' c T Requested) → CommandSays (command_row t j command)
+  command-says j (Begin s) requested = at-server s _ (where-idle t.outstanding _ (without-one t.transaction _ refl (λ e. here (λ d (x : ClientTable). BeganBy os d x t.next) (waiting j (Begin s) (Server s) (messages.Begin t.client t.next))
       (record { drawn = below t.next; now = λ T q f k. absurd (none-tid T (sym e ∙ f)) }))))
-  command-says requested j (Open s) = at-server s _ (where-idle t.outstanding _ (with-one t.transaction _ refl (λ T e. where-none (work_at s t.works) _ tt)))
-  command-says requested j (Do s op) = at-server s _ (where-idle t.outstanding _ (with-one t.transaction _ refl (λ T e. where-open (work_at s t.works) _ (λ x. tt))))
-  command-says requested j End = where-idle t.outstanding _ (with-one t.transaction _ refl (λ T e. let to = Server T.server in let message = messages.End t.client t.next T (names_of t.works) in
+  command-says j (Open s) requested = at-server s _ (where-idle t.outstanding _ (with-one t.transaction _ refl (λ T e. where-none (work_at s t.works) _ tt)))
+  command-says j (Do s op) requested = at-server s _ (where-idle t.outstanding _ (with-one t.transaction _ refl (λ T e. where-open (work_at s t.works) _ (λ x. tt))))
+  command-says j End requested = where-idle t.outstanding _ (with-one t.transaction _ refl (λ T e. let to = Server T.server in let message = messages.End t.client t.next T (names_of t.works) in
       here (λ d (x : ClientTable). EndedBy os d x T t.next) (waiting j End to message) (ended j T (began T e))))
     where
       ended : (j : ℕ) (T : Tid) (b : Began os c t.next T) → EndedBy os c (waiting j End (Server T.server) (messages.End t.client t.next T (names_of t.works))) T t.next
       ended j T b = record { had = record { request = b.request; has = b.has; drawn = on b.request t.next b.drawn; answered = λ o e. subst (λ (z : Outstanding). z.request ≢ b.request) (some-out _ o e) (not-it b.request t.next b.drawn) }; later = b.drawn }
-  command-says requested j Abort = with-one t.transaction _ refl (λ T e. let to = Server T.server in let message = messages.Abort t.client t.next T (names_of t.works) in
-      (here (λ d (x : ClientTable). WasHad os d x T) (waiting j Abort to message) (had-now j Abort to message T (began T e)), subst (λ (d : ClientNo). Caused' d T Requested) (sym name) (requested T e)))
+  command-says j Abort requested = with-one t.transaction _ refl (λ T e. let to = Server T.server in let message = messages.Abort t.client t.next T (names_of t.works) in
+      (here (λ d (x : ClientTable). WasHad os d x T) (waiting j Abort to message) (had-now j Abort to message T (began T e)), subst (λ (d : ClientNo). Caused' d T Requested) (sym name) (requested refl T e)))
 
   -- ---- a message
 

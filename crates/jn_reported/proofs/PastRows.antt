@@ -75,7 +75,7 @@ each-found P T (y ∷ ys) x h k = by (tid_tells y.tid T) k (each-found P T ys x 
 abbrev pub IsThere : Tid → List Transaction → Type 0
 IsThere T xs = is_some (transaction_at T xs) ≡ true
 
-there-staged : (U T : Tid) (stage : Stage) (xs : List Transaction) → IsThere U xs → IsThere U (with_stage T stage xs)
+pub there-staged : (U T : Tid) (stage : Stage) (xs : List Transaction) → IsThere U xs → IsThere U (with_stage T stage xs)
 there-staged U T stage [] h = h
 there-staged U T stage (x ∷ xs) h = by (tid_eq x.tid T) (tid_eq x.tid U) refl h (there-staged U T stage xs)
   where
@@ -85,7 +85,7 @@ there-staged U T stage (x ∷ xs) h = by (tid_eq x.tid T) (tid_eq x.tid U) refl 
     by false true e k on = ap (λ (c : Bool). is_some (if c then Some x else transaction_at U (with_stage T stage xs))) e
     by false false e k on = ap (λ (c : Bool). is_some (if c then Some x else transaction_at U (with_stage T stage xs))) e ∙ on k
 
-there-less : (U T : Tid) (xs : List Transaction) → T ≢ U → IsThere U xs → IsThere U (without T xs)
+pub there-less : (U T : Tid) (xs : List Transaction) → T ≢ U → IsThere U xs → IsThere U (without T xs)
 there-less U T [] ne h = h
 there-less U T (x ∷ xs) ne h = by (tid_tells x.tid T) (tid_tells x.tid U) h (there-less U T xs ne)
   where
@@ -97,7 +97,7 @@ there-less U T (x ∷ xs) ne h = by (tid_tells x.tid T) (tid_tells x.tid U) h (t
     by (inr p) (inr q) k on = subst (λ (b : Bool). IsThere U (if b then xs else x ∷ without T xs)) (sym p.0)
         (ap (λ (c : Bool). is_some (if c then Some x else transaction_at U (without T xs))) q.0 ∙ on (subst (λ (c : Bool). is_some (if c then Some x else transaction_at U xs) ≡ true) q.0 k))
 
-there-more : (U : Tid) (xs ys : List Transaction) → IsThere U xs → IsThere U (xs ++ ys)
+pub there-more : (U : Tid) (xs ys : List Transaction) → IsThere U xs → IsThere U (xs ++ ys)
 there-more U [] ys h = absurd (grind arith)
 there-more U (x ∷ xs) ys h = by (tid_eq x.tid U) h (there-more U xs ys)
   where
@@ -391,7 +391,7 @@ module _ (os : List Opening) (clients : ClientNo → ClientTable) (w : Machine) 
       is-later = grind (arith, nat_tests)
 
       -- what its client began before is past
-      begin-past : (y : Transaction) → Entry y → y.client ≡ c → Past os clients w Caused c y.tid
+      pub begin-past : (y : Transaction) → Entry y → y.client ≡ c → Past os clients w Caused c y.tid
       begin-past y h e = record {
         request = h.request;
         has = has;

@@ -79,10 +79,13 @@ use Rattle.jn_reported.proofs.StepLines.{IsPlainText, step-lines}
 abbrev pub Free : ClientNo → Tid → Cause → Type 0
 Free c T cause = Unit {0}
 
--- what is told aborted or broken is never named
+-- what is told aborted or broken is never named, and no step prints files
 abbrev pub LineFact : List Sent → Machine → Text → Type 0
 LineFact sent w (says.Aborted c j T cause) = w.aborted T ≡ true
 LineFact sent w (says.Broke s T u by) = NeverNamed sent w T
+LineFact sent w (says.File s f) = ⊥
+LineFact sent w (says.Page s f p bytes) = ⊥
+LineFact sent w (says.Locked s u T) = ⊥
 LineFact sent w text = Unit {0}
 
 pub record Reached (files : AllFiles) (epochs : ServerNo → ℕ) (r : World) : Type 0 where
@@ -136,10 +139,13 @@ workers-free os clients w sent (to, _) h = absurd h
 plain-fact : (sent : List Sent) (w : Machine) (text : Text) → IsPlainText text → LineFact sent w text
 plain-fact sent w (says.Aborted c j T cause) h = absurd h
 plain-fact sent w (says.Broke s T u by) h = absurd h
+plain-fact sent w (says.File s f) h = absurd h
+plain-fact sent w (says.Page s f p bytes) h = absurd h
+plain-fact sent w (says.Locked s u T) h = absurd h
 plain-fact sent w _ h = tt
 
 -- what holds of every message holds of this one
-in-all : (P : Sent → Type 0) (sent : List Sent) (x : Sent) → All P sent → In x sent → P x
+pub in-all : (P : Sent → Type 0) (sent : List Sent) (x : Sent) → All P sent → In x sent → P x
 in-all P [] x all i = absurd i
 in-all P (y ∷ sent) x all (inl e) = subst P e (All-head P y sent all)
 in-all P (y ∷ sent) x all (inr i) = in-all P sent x (All-tail P y sent all) i
@@ -176,7 +182,7 @@ module _ (r : World) (w : Machine) (atoms : List Atom) (may : MayRun atoms w) (m
       by message k = (worker-talks r.sent talk.once m.worker m.tickets (talk.works s m is) (storage_of m (stable (r.found s)) room) message tt).0
 
   pub past-next : PastFacts (after step r).sent (after step r).clients (after step r).memory (after step r).found (run_atoms atoms w) Free
-  past-next = step-past r w (run_atoms atoms w) Free Free past (λ c T cause h. tt) grown.aborted grown.named named (λ c T s n free need h. tt) mirrors inv locks facts talk workers (λ s m is c T at none had. inr tt) (λ c T e. tt) step i later
+  past-next = step-past r w (run_atoms atoms w) Free Free past (λ c T cause h. tt) grown.aborted grown.named named (λ c T s n free need h. tt) mirrors inv locks facts talk workers (λ s m is c T at none had. inr tt) step (i, λ c e T f. tt) later
 
   pub ends-next : EndsAsked (after step r).sent (run_atoms atoms w)
   ends-next a h T of e = by (ended T e)
@@ -216,11 +222,17 @@ module _ (r : World) (w : Machine) (atoms : List Atom) (may : MayRun atoms w) (m
   line-grows : (text : Text) → LineFact r.sent w text → LineFact (after step r).sent (run_atoms atoms w) text
   line-grows (says.Aborted c j T cause) h = grown.aborted T h
   line-grows (says.Broke s T u by) h = never-grows T h
+  line-grows (says.File s f) h = absurd h
+  line-grows (says.Page s f p bytes) h = absurd h
+  line-grows (says.Locked s u T) h = absurd h
   line-grows _ h = tt
 
   told : (c : ClientNo) (text : Text) → IsTrueAbort (openings r.sent) r.clients w Free c (facts.clients c).name text → LineFact (after step r).sent (run_atoms atoms w) text
   told c (says.Aborted d j T cause) h = grown.aborted T h.2
   told c (says.Broke s T u by) h = absurd h
+  told c (says.File s f) h = absurd h
+  told c (says.Page s f p bytes) h = absurd h
+  told c (says.Locked s u T) h = absurd h
   told c text h = tt
 
   -- where the machine stands

@@ -39,10 +39,13 @@ use Rattle.jn_reported.proofs.PastRows.{is_broke}
 use Rattle.jn_reported.proofs.PastSteps.{PastFacts}
 use Rattle.jn_reported.proofs.Outcomes.{IsTrueAbort, AbortsTruly, take-aborts}
 
--- lines that tell of neither
+-- lines that tell of neither, nor of a server's files
 abbrev pub IsPlainText : Text → Type 0
 IsPlainText (says.Aborted c j T cause) = ⊥
 IsPlainText (says.Broke s T u by) = ⊥
+IsPlainText (says.File s f) = ⊥
+IsPlainText (says.Page s f p bytes) = ⊥
+IsPlainText (says.Locked s u T) = ⊥
 IsPlainText text = Unit {0}
 
 pub record AddsLines (P : Text → Type 0) (r q : World) : Type 0 where

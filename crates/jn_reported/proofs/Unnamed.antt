@@ -1,5 +1,6 @@
 -- No transaction that a run's lines tell as aborted or broken is named in them.
 use Rattle.std.proofs.Common.{◌≡◌, ◌⊎◌, inl, inr, ℕ, ◌+◌, false, List, [], ◌∷◌, ◌++◌, refl, sym, ◌∙◌, ap, subst}
+use Rattle.std.specs.Prelude.{map}
 use Rattle.std.specs.List.{list_any}
 use Rattle.jn_base.specs.declared.names.ServerNo.{ServerNo}
 use Rattle.jn_base.specs.declared.names.Tid.{Tid}
@@ -13,8 +14,10 @@ use Rattle.jn_serial.specs.Told.{IsNotNamedWhere, NamesNone, Told}
 use Rattle.jn_machine.specs.Steps.{run as run_atoms, opening_world}
 use Rattle.jn_protocol.specs.World.{World, opening}
 use Rattle.jn_protocol.specs.Steps.{Step, NextEvent, after, run, IsRun}
-use Rattle.jn_reported.specs.Reported.{Act, Does, Refuses, Tells, Item, steps_in, steps_of, told_by, told_in, told_under, after_item, at_event, lines_of, world_of, IsReported}
+use Rattle.jn_reported.specs.Printing.{Printed, FileThere, PageStored, UnitLocked, text_printed}
+use Rattle.jn_reported.specs.Reported.{Act, Does, Refuses, Tells, Shows, Item, steps_in, steps_of, told_by, told_in, told_under, after_item, at_event, lines_of, world_of, IsReported}
 use Rattle.jn_reported.proofs.Lists.{In, in-first, in-second, in-either, each-in}
+use Rattle.jn_reported.proofs.Prints.{each-print}
 use Rattle.jn_reported.proofs.Reached.{Reached, LineFact, named-is, invariant, next-reached, opening-reached}
 use Rattle.jn_reported.proofs.Outcomes.{NeverNamed, not-named}
 use Rattle.jn_reported.proofs.Following.{run-split}
@@ -24,7 +27,15 @@ use Rattle.jn_reported.proofs.Naming.{RunTold, adds, run-told, named-once}
 abbrev pub IsApart : Text → Type 0
 IsApart (says.RefusedEvent refusal) = Unit {0}
 IsApart (says.Outside s fault) = Unit {0}
+IsApart (says.File s f) = Unit {0}
+IsApart (says.Page s f p bytes) = Unit {0}
+IsApart (says.Locked s u T) = Unit {0}
 IsApart text = ⊥
+
+print-apart : (s : ServerNo) (x : Printed) → IsApart (text_printed s x)
+print-apart s (FileThere f) = tt
+print-apart s (PageStored f p bytes) = tt
+print-apart s (UnitLocked u T) = tt
 
 module _ (files : AllFiles) (epochs : ServerNo → ℕ) where
   run-reached : (steps : List Step) (r : World) → Reached files epochs r → IsRun steps r → Reached files epochs (run steps r)
@@ -46,6 +57,11 @@ module _ (files : AllFiles) (epochs : ServerNo → ℕ) where
   acts-in (Refuses refusal ∷ acts) r h i x (inr k) = acts-in acts r h i x k
   acts-in (Tells s fault ∷ acts) r h i x (inl e) = inl (subst IsApart e tt)
   acts-in (Tells s fault ∷ acts) r h i x (inr k) = acts-in acts r h i x k
+  acts-in (Shows s prints ∷ acts) r h i x k = by (in-either x (map (text_printed s) prints) (told_in acts r) k) (acts-in acts r h i x)
+    where
+      by : In x (map (text_printed s) prints) ⊎ In x (told_in acts r) → (In x (told_in acts r) → IsApart x ⊎ In x (run (steps_in acts) r).lines) → IsApart x ⊎ In x (run (steps_in acts) r).lines
+      by (inl j) on = inl (each-in IsApart (map (text_printed s) prints) x (each-print IsApart s (print-apart s) prints) j)
+      by (inr j) on = on j
 
   -- the text of a line
   text-in : (number : ℕ) (texts : List Text) (l : Line) → In l (at_event number texts) → In l.text texts

@@ -16,12 +16,15 @@ use Rattle.jn_report.specs.declared.line.Line.{Line}
 use Rattle.jn_serial.specs.Caused.{is_stop, refuses_event, refuses_fault}
 use Rattle.jn_protocol.specs.World.{World, at_server}
 use Rattle.jn_protocol.specs.Steps.{Step, NextEvent, Tell, Again, Deliver, Work, Nudge, Timeout, StopDelivery, StopWork, Crash, Narrow, StopRestart, Restart, after, run, IsRun}
+use Rattle.jn_reported.specs.Printing.{Printed, text_printed, IsPrinted}
 
--- what is done under an event: a step of the whole system, a refusal of the event, or a server's fault that is refused
+-- what is done under an event: a step of the whole system, a refusal of the event, a server's fault that is refused, or a
+-- server's printing of its files
 pub data Act : Type 0 where
   Does : Step → Act
   Refuses : EventRefusal → Act
   Tells : ServerNo → Outside → Act
+  Shows : ServerNo → List Printed → Act
 
 pub record Item : Type 0 where
   pub event : Event
@@ -52,6 +55,7 @@ abbrev pub told_by : Act → World → List Text
 told_by (Does step) w = drop (length w.lines) (after step w).lines
 told_by (Refuses refusal) w = says.RefusedEvent refusal ∷ []
 told_by (Tells s fault) w = says.Outside s fault ∷ []
+told_by (Shows s prints) w = map (text_printed s) prints
 
 abbrev pub told_in : List Act → World → List Text
 told_in [] w = []
@@ -74,7 +78,7 @@ lines_of (item ∷ items) w = at_event (w.event + 1) (told_under item w) ++ line
 
 -- ---- what each event may have under it
 
--- Which steps an event may have, but for a command. A stop within a scrub is that of a step which changes nothing.
+-- Which steps an event may have, but for a command. A stop within a scrub or a show is that of a step which changes nothing.
 abbrev pub may_do : Event → Step → Bool
 may_do (events.Again c) (Again d) = client_eq c d
 may_do (events.Deliver k) (Deliver j room) = nat_eq k j
@@ -90,6 +94,7 @@ may_do (events.Step s) (StopWork t room made) = server_eq s t
 may_do (events.Nudge s) (Nudge t) = server_eq s t
 may_do (events.Timeout s T) (Timeout t U) = server_eq s t && tid_eq T U
 may_do (events.Scrub s) (StopWork t room made) = server_eq s t
+may_do (events.Show s) (StopWork t room made) = server_eq s t
 may_do (events.Decay s page) (Narrow t g) = server_eq s t
 may_do (events.Revive s page) (Narrow t g) = server_eq s t
 may_do (events.Crash s) (Crash t) = server_eq s t
@@ -109,6 +114,7 @@ is_at_server (events.Revive s page) = true
 is_at_server (events.Arm s n kind) = true
 is_at_server (events.Crash s) = true
 is_at_server (events.Restart s) = true
+is_at_server (events.Show s) = true
 is_at_server event = false
 
 abbrev pub needs_up : Event → Bool
@@ -117,6 +123,7 @@ needs_up (events.Nudge s) = true
 needs_up (events.Timeout s T) = true
 needs_up (events.Scrub s) = true
 needs_up (events.Crash s) = true
+needs_up (events.Show s) = true
 needs_up event = false
 
 abbrev pub may_refuse : EventRefusal → Event → Bool
@@ -140,22 +147,49 @@ may_tell (events.Step s) t = server_eq s t
 may_tell (events.Scrub s) t = server_eq s t
 may_tell (events.Decay s page) t = server_eq s t
 may_tell (events.Restart s) t = server_eq s t
+may_tell (events.Show s) t = server_eq s t
 may_tell event t = false
+
+abbrev pub may_show : Event → ServerNo → Bool
+may_show (events.Show s) t = server_eq s t
+may_show event t = false
 
 abbrev pub may_act : Event → Act → Bool
 may_act event (Does step) = may_do event step
 may_act event (Refuses refusal) = may_refuse refusal event
 may_act event (Tells t fault) = may_tell event t
+may_act event (Shows t prints) = may_show event t
 
--- a command is the one step that tells its client; each other event has any of what it may have
+-- a command is the one step that tells its client; each other event has any of what it may have, but for what shows ask besides
 abbrev pub IsUnder : Event → List Act → Type 0
 IsUnder (events.Command c command) acts = acts ≡ Does (Tell c command) ∷ []
-IsUnder (events.Show s) acts = ⊥
 IsUnder event acts = list_all (may_act event) acts ≡ true
 
 abbrev pub AreUnder : List Item → Type 0
 AreUnder [] = Unit {0}
 AreUnder (item ∷ items) = IsUnder item.event item.acts × AreUnder items
+
+-- ---- shows
+
+-- perhaps faults that are refused, and then the printing of what is there, or a stop of the server
+abbrev pub GoesOver : ServerNo → World → List Act → Type 0
+GoesOver s w (Tells t fault ∷ acts) = GoesOver s w acts
+GoesOver s w (Shows t prints ∷ []) = IsPrinted s w prints
+GoesOver s w (Does step ∷ []) = told_by (Does step) w ≡ says.Stopped s ∷ []
+GoesOver s w acts = ⊥
+
+-- a show is refused, or goes over the server's files
+abbrev pub IsShow : ServerNo → World → List Act → Type 0
+IsShow s w (Refuses refusal ∷ []) = Unit {0}
+IsShow s w acts = GoesOver s w acts
+
+abbrev pub IsShown : Event → World → List Act → Type 0
+IsShown (events.Show s) w acts = IsShow s w acts
+IsShown event w acts = Unit {0}
+
+abbrev pub AreShown : List Item → World → Type 0
+AreShown [] w = Unit {0}
+AreShown (item ∷ items) w = IsShown item.event (after NextEvent w) item.acts × AreShown items (after_item item w)
 
 -- ---- faults that wait
 
@@ -212,8 +246,9 @@ FaultsWait x (item ∷ items) w = AreStruck (waiting_in x item w) (told_under it
 
 -- ---- runs
 
--- under each event is what it may have, each restart reads what it finds, and each fault has waited
+-- under each event is what it may have, each restart reads what it finds, each show prints what is there, and each fault has waited
 pub record IsReported (items : List Item) (w : World) : Type 0 where
   pub under : AreUnder items
   pub steps : IsRun (steps_of items) w
+  pub shows : AreShown items w
   pub faults : FaultsWait none_wait items w

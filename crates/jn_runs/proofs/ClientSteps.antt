@@ -49,6 +49,7 @@ pub record EndsNow (r : World) (v : Machine) (T : Tid) : Type 0 where
   pub client : ClientNo
   pub current : (r.clients client).transaction ≡ Some T
   pub parts : (W : WorkId) → is_work W (names_of (r.clients client).works) ≡ true → v.part T W.server ≡ Some W
+  pub all : (s : ServerNo) (W : WorkId) → v.part T s ≡ Some W → is_work W (names_of (r.clients client).works) ≡ true
 
 -- the machine's steps for one step of the whole system, after which all holds again
 pub record Next (r : World) (w : Machine) : Type 0 where
@@ -337,6 +338,7 @@ module _ (r : World) (w : Machine) (mirrors : Mirrors r w) (facts : Facts r w) (
       client = c;
       current = ap (λ (z : ClientTable). z.transaction) (own-table (client_tells c c)) ∙ its;
       parts = λ W h. end-says.2.each W (subst (λ (z : ClientTable). is_work W (names_of z.works) ≡ true) (own-table (client_tells c c)) h);
+      all = λ q W h. subst (λ (z : ClientTable). is_work W (names_of z.works) ≡ true) (sym (own-table (client_tells c c))) (end-says.2.all q W h);
     }
 
     ends-now : (U : Tid) → ((T ≡ U) × (true ≡ true)) ⊎ ((T ≢ U) × (w.ended U ≡ true)) → (w.ended U ≡ true) ⊎ EndsNow (commanded c (Sends u (Server T.server) message) r) v U

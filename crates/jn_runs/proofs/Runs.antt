@@ -46,7 +46,7 @@ module _ (r : World) (w v : Machine) (mirrors : Mirrors r w) (facts : Facts r w)
   handed-facts k room stop (Some (Client c, message)) e = taken-facts r w v mirrors facts ended grow inv c k message e
   handed-facts k room stop (Some (Server s, message)) e = message-facts r w v mirrors facts inv ended grow s k room stop message (r.memory s) refl (locks s)
 
-  step-facts : (step : Step) → Facts (after step r) v
+  pub step-facts : (step : Step) → Facts (after step r) v
   step-facts NextEvent = still-facts r w v mirrors facts inv ended grow _ refl refl facts.tables
   step-facts (Tell c command) = tell-facts r w v mirrors facts ended grow inv c command
   step-facts (Again c) = again-facts r w v mirrors facts ended grow inv c

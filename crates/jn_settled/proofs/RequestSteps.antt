@@ -106,7 +106,7 @@ take-next t (messages.Answer c request answer) = grind arith
 take-next t (messages.Outcome c T outcome) = grind arith
 take-next t m = refl
 
-take-plain : (t : ClientTable) (m : Message) → are_plain (sent_with (take_row t m).1) ≡ true
+pub take-plain : (t : ClientTable) (m : Message) → are_plain (sent_with (take_row t m).1) ≡ true
 take-plain t (messages.Begun c request answer) = grind arith
 take-plain t (messages.Opened c request T answer) = grind arith
 take-plain t (messages.Answer c request answer) = grind arith

@@ -33,11 +33,12 @@ use Rattle.jn_settling.proofs.CoordinatorFits.{found-name}
 use Rattle.jn_protocol.proofs.Closes.{Closes, Empty, Stays, Goes, Waits, Forgets, outcomes-close}
 use Rattle.jn_rows.specs.Coordinator.{close_clients_row, CoordinatorTable, transaction_at, with_stage, without, all_in, is_work, besides, drops, commits, prepares, commit_row, abort_row, forget_row, end_promised, end_stage, end_row, abort_stage, abort_request, told_stage, inquire_row, counted_vote, vote_stage, vote_row, done_stage, done_row, thanks_stage, thanks_row, with_work, coordinator_row, committed_to, aborted_to, told_again, coordinator_again, restored_transaction, restored_transactions}
 
--- ---- messages that speak of no request that begins or ends
+-- ---- messages that speak of no request that begins, opens or ends
 
 abbrev pub is_plain : Message → Bool
 is_plain (messages.Begin c q) = false
 is_plain (messages.Begun c q a) = false
+is_plain (messages.Open c q T) = false
 is_plain (messages.End c q T works) = false
 is_plain m = true
 

@@ -138,7 +138,7 @@ below-less : (n k : ℕ) (ks : List ℕ) → are_below n ks ≡ true → are_bel
 below-less n k [] h = refl
 below-less n k (j ∷ js) h = let again = below-less n k js in grind (arith, h)
 
-below-still : (n : ℕ) (step : Step) (ks : List ℕ) → are_below n ks ≡ true → are_below n (still_waiting step ks) ≡ true
+pub below-still : (n : ℕ) (step : Step) (ks : List ℕ) → are_below n ks ≡ true → are_below n (still_waiting step ks) ≡ true
 below-still n (Deliver k room) ks h = below-less n k ks h
 below-still n (StopDelivery k room made) ks h = below-less n k ks h
 below-still n NextEvent ks h = h

@@ -123,7 +123,7 @@ module _ (events : List Event) (r : World) (w : Machine) (inv : Invariant w) (ta
       by None e h = subst (λ z. SaysAs z []) (sym h) (as-itself [])
       by (Some W) e h = h.0 (inr (inr ((inv.core.named T named).ready s W e)))
 
-  commits-told : (told : Tid → ServerNo → List Answered) → ((T : Tid) → w.named T ≡ true → (s : ServerNo) → told T s ≡ said events T s r.lines) → (history : List Commit) → ((T : Tid) → has_committed T history ≡ true → w.named T ≡ true)
+  pub commits-told : (told : Tid → ServerNo → List Answered) → ((T : Tid) → w.named T ≡ true → (s : ServerNo) → told T s ≡ said events T s r.lines) → (history : List Commit) → ((T : Tid) → has_committed T history ≡ true → w.named T ≡ true)
       → HasTraces w.trace w.part history → AreTold told history
   commits-told told same [] named h = tt
   commits-told told same (c ∷ history) named h = (

@@ -1,5 +1,6 @@
 -- What the lines of a run with its schedule tell of a transaction is what the world's lines tell.
-use Rattle.std.proofs.Common.{Bool, true, false, ◌≡◌, ℕ, suc, ◌+◌, List, [], ◌∷◌, ◌++◌, append-nil, append_assoc, length, Option, Some, None, refl, sym, ◌∙◌, ap, subst, arith}
+use Rattle.std.proofs.Common.{Bool, false, ◌≡◌, ℕ, suc, ◌+◌, List, [], ◌∷◌, ◌++◌, append-nil, append_assoc, length, Option, Some, None, refl, sym, ◌∙◌, ap, subst, arith}
+use Rattle.std.specs.Prelude.{map}
 use Rattle.jn_base.specs.declared.names.ServerNo.{ServerNo}
 use Rattle.jn_base.specs.declared.names.ClientNo.{ClientNo}
 use Rattle.jn_base.specs.declared.names.Tid.{Tid}
@@ -17,8 +18,10 @@ use Rattle.jn_serial.specs.Order.{ops_of}
 use Rattle.jn_machine.specs.Steps.{run as run_atoms, opening_world}
 use Rattle.jn_moves.proofs.Mirrored.{commits-more}
 use Rattle.jn_protocol.specs.World.{World, opening, committed_in, commits_in}
-use Rattle.jn_protocol.specs.Steps.{Step, NextEvent, Tell, IsStep, IsRun, after, run, commanded}
-use Rattle.jn_reported.specs.Reported.{Act, Does, Refuses as Refused, Tells, Item, events_of, steps_in, steps_of, world_of, told_by, told_in, told_under, after_item, at_event, lines_of, IsUnder, AreUnder, IsReported}
+use Rattle.jn_protocol.specs.Steps.{Step, NextEvent, Tell, Dismiss, IsStep, IsRun, after, run, commanded}
+use Rattle.jn_reported.specs.Printing.{Printed, FileThere, PageStored, UnitLocked, text_printed}
+use Rattle.jn_reported.specs.Reported.{Act, Does, Refuses as Refused, Tells, Shows, Item, events_of, steps_in, steps_of, world_of, told_by, told_in, told_under, after_item, at_event, lines_of, IsUnder, AreUnder, IsReported}
+use Rattle.jn_reported.specs.Ending.{told_by_steps}
 use Rattle.jn_reported.proofs.Lists.{Each}
 use Rattle.jn_reported.proofs.Hearing.{IsQuiet, step-hears}
 use Rattle.jn_reported.proofs.Following.{IsQuietAct, under-quiet, run-split}
@@ -33,7 +36,7 @@ use Rattle.jn_talk.proofs.Agreeing.{stands-from, Stands, step-stands, opening-st
 
 -- ---- lines
 
-texts-more : (xs ys : List Line) → texts_of (xs ++ ys) ≡ texts_of xs ++ texts_of ys
+pub texts-more : (xs ys : List Line) → texts_of (xs ++ ys) ≡ texts_of xs ++ texts_of ys
 texts-more [] ys = refl
 texts-more (x ∷ xs) ys = ap (λ z. x.text ∷ z) (texts-more xs ys)
 
@@ -68,9 +71,21 @@ tell-then events a b c d h k = record {
   commits = commits-more a c ∙ ap (λ z. z ++ commits_in c) h.commits ∙ ap (λ z. commits_in b ++ z) k.commits ∙ sym (commits-more b d);
 }
 
-steps-append : (a b : List Step) (r : World) → run (a ++ b) r ≡ run b (run a r)
+pub steps-append : (a b : List Step) (r : World) → run (a ++ b) r ≡ run b (run a r)
 steps-append [] b r = refl
 steps-append (step ∷ a) b r = steps-append a b (after step r)
+
+pub prints-dumb : (s : ServerNo) (prints : List Printed) → AreDumb (map (text_printed s) prints) × (commits_in (map (text_printed s) prints) ≡ [])
+prints-dumb s [] = (tt, refl)
+prints-dumb s (FileThere f ∷ prints) = let on = prints-dumb s prints in ((tt, on.0), on.1)
+prints-dumb s (PageStored f p bytes ∷ prints) = let on = prints-dumb s prints in ((tt, on.0), on.1)
+prints-dumb s (UnitLocked u T ∷ prints) = let on = prints-dumb s prints in ((tt, on.0), on.1)
+
+-- neither a command nor the beginning of an event
+abbrev pub IsCalm : Step → Type 0
+IsCalm (Tell c command) = ⊥
+IsCalm NextEvent = ⊥
+IsCalm step = Unit {0}
 
 -- ---- acts
 
@@ -111,12 +126,31 @@ module _ (events : List Event) (files : AllFiles) (epochs : ServerNo → ℕ) (e
   quiet-tells (Tell c command) r h = absurd h
   quiet-tells _ r h = tt
 
+  told-prints : (r : World) (s : ServerNo) (prints : List Printed) → Reached files epochs r → Stands events files epochs ended before r → Told r r (map (text_printed s) prints)
+  told-prints r s prints h k = let q = prints-dumb s prints in told-nothing r (map (text_printed s) prints) h k q.0 q.1
+
   quiet-acts : (acts : List Act) (r : World) → Reached files epochs r → Stands events files epochs ended before r → IsRun (steps_in acts) r → Each IsQuietAct acts → Told r (run (steps_in acts) r) (told_in acts r)
   quiet-acts [] r h k i q = told-nothing r [] h k tt refl
   quiet-acts (Does step ∷ acts) r h k i q = let first = told-step r step h k i.0 (quiet-tells step r q.0) (step-hears r _ h.facts h.talk step q.0).same_event in
       told-then r (after step r) (run (steps_in acts) (after step r)) (told_by (Does step) r) (told_in acts (after step r)) first (quiet-acts acts (after step r) first.reached first.stands i.1 q.1)
   quiet-acts (Refused refusal ∷ acts) r h k i q = told-then r r (run (steps_in acts) r) (says.RefusedEvent refusal ∷ []) (told_in acts r) (told-nothing r (says.RefusedEvent refusal ∷ []) h k (tt, tt) refl) (quiet-acts acts r h k i q.1)
   quiet-acts (Tells s fault ∷ acts) r h k i q = told-then r r (run (steps_in acts) r) (says.Outside s fault ∷ []) (told_in acts r) (told-nothing r (says.Outside s fault ∷ []) h k (tt, tt) refl) (quiet-acts acts r h k i q.1)
+  quiet-acts (Shows s prints ∷ acts) r h k i q = told-then r r (run (steps_in acts) r) (map (text_printed s) prints) (told_in acts r) (told-prints r s prints h k) (quiet-acts acts r h k i q.1)
+
+  calm-tells : (step : Step) (r : World) → IsCalm step → TellsAs events step r
+  calm-tells (Tell c command) r h = absurd h
+  calm-tells _ r h = tt
+
+  calm-event : (step : Step) (r : World) → Reached files epochs r → IsCalm step → (after step r).event ≡ r.event
+  calm-event (Tell c command) r h q = absurd q
+  calm-event NextEvent r h q = absurd q
+  calm-event Dismiss r h q = refl
+  calm-event step r h q = (step-hears r _ h.facts h.talk step tt).same_event
+
+  calm-steps : (steps : List Step) (r : World) → Reached files epochs r → Stands events files epochs ended before r → IsRun steps r → Each IsCalm steps → Told r (run steps r) (told_by_steps steps r)
+  calm-steps [] r h k i q = told-nothing r [] h k tt refl
+  calm-steps (step ∷ steps) r h k i q = let first = told-step r step h k i.0 (calm-tells step r q.0) (calm-event step r h q.0) in
+      told-then r (after step r) (run steps (after step r)) (told_by (Does step) r) (told_by_steps steps (after step r)) first (calm-steps steps (after step r) first.reached first.stands i.1 q.1)
 
   command-event : (c : ClientNo) (row : Commanded) (r : World) → (commanded c row r).event ≡ r.event
   command-event c (Refuses refusal) r = refl
@@ -129,7 +163,7 @@ module _ (events : List Event) (files : AllFiles) (epochs : ServerNo → ℕ) (e
 
   event-acts : (event : Event) (acts : List Act) (r : World) → Reached files epochs r → Stands events files epochs ended before r → IsRun (steps_in acts) r → IsUnder event acts → event_at events r.event ≡ Some event → Told r (run (steps_in acts) r) (told_in acts r)
   event-acts (kinds.Command c command) acts r h k i under e = subst (λ l. Told r (run (steps_in l) r) (told_in l r)) (sym under) (command-acts c command r h k e)
-  event-acts (kinds.Show s) acts r h k i under e = absurd under
+  event-acts (kinds.Show s) acts r h k i under e = quiet-acts acts r h k i (under-quiet (kinds.Show s) acts tt under)
   event-acts (kinds.Again c) acts r h k i under e = quiet-acts acts r h k i (under-quiet (kinds.Again c) acts tt under)
   event-acts (kinds.Deliver n) acts r h k i under e = quiet-acts acts r h k i (under-quiet (kinds.Deliver n) acts tt under)
   event-acts kinds.Settle acts r h k i under e = quiet-acts acts r h k i (under-quiet kinds.Settle acts tt under)
@@ -149,9 +183,9 @@ module _ (events : List Event) (files : AllFiles) (epochs : ServerNo → ℕ) (e
     reached : Reached files epochs (world_of items r)
     event : (world_of items r).event ≡ r.event + length items
     stands : Stands events files epochs ended before (world_of items r)
-    new : List Text
-    lines : (world_of items r).lines ≡ r.lines ++ new
-    same : TellSame events (texts_of (lines_of items r)) new
+    pub new : List Text
+    pub lines : (world_of items r).lines ≡ r.lines ++ new
+    pub same : TellSame events (texts_of (lines_of items r)) new
 
   one-item : (item : Item) (items : List Item) (r : World) → Told (after NextEvent r) (after_item item r) (told_under item r) → ItemsTold items (after_item item r) → ItemsTold (item ∷ items) r
   one-item item items r h k = record {
@@ -193,7 +227,7 @@ module _ (events : List Event) (files : AllFiles) (epochs : ServerNo → ℕ) (e
 
 -- ---- a run and its beginning
 
-steps-more : (items more : List Item) → steps_of (items ++ more) ≡ steps_of items ++ steps_of more
+pub steps-more : (items more : List Item) → steps_of (items ++ more) ≡ steps_of items ++ steps_of more
 steps-more [] more = refl
 steps-more (item ∷ items) more = ap (λ l. NextEvent ∷ steps_in item.acts ++ l) (steps-more items more) ∙ ap (λ l. NextEvent ∷ l) (sym (append_assoc (steps_in item.acts) (steps_of items) (steps_of more)))
 
@@ -201,11 +235,11 @@ events-more : (items more : List Item) → events_of (items ++ more) ≡ events_
 events-more [] more = refl
 events-more (item ∷ items) more = ap (λ l. item.event ∷ l) (events-more items more)
 
-under-split : (items more : List Item) → AreUnder (items ++ more) → AreUnder items × AreUnder more
+pub under-split : (items more : List Item) → AreUnder (items ++ more) → AreUnder items × AreUnder more
 under-split [] more h = (tt, h)
 under-split (item ∷ items) more h = let k = under-split items more h.1 in ((h.0, k.0), k.1)
 
-lines-more : (items more : List Item) (r : World) → lines_of (items ++ more) r ≡ lines_of items r ++ lines_of more (world_of items r)
+pub lines-more : (items more : List Item) (r : World) → lines_of (items ++ more) r ≡ lines_of items r ++ lines_of more (world_of items r)
 lines-more [] more r = refl
 lines-more (item ∷ items) more r = ap (λ l. at_event (r.event + 1) (told_under item r) ++ l)
     (lines-more items more (after_item item r) ∙ ap (λ (z : World). lines_of items (after_item item r) ++ lines_of more z) (sym (steps-append (steps_in item.acts) (steps_of items) (after NextEvent r))))
@@ -218,42 +252,83 @@ length-events (item ∷ items) = ap (λ n. suc n) (length-events items)
 none-more : (n : ℕ) → n ≡ 0 + n
 none-more n = omega arith
 
-module _ (servers : ℕ) (files : AllFiles) (epochs : ServerNo → ℕ) (items more : List Item) (h : IsReported (items ++ more) (opening servers files epochs)) where
+-- and steps after it that are under no event, with lines that tell of no transaction
+module _ (servers : ℕ) (files : AllFiles) (epochs : ServerNo → ℕ) (items later : List Item) (h : IsReported (items ++ later) (opening servers files epochs))
+    (steps : List Step) (i : IsRun steps (world_of (items ++ later) (opening servers files epochs))) (calm : Each IsCalm steps) (more : List Text) (dumb : AreDumb more) (none : commits_in more ≡ []) where
   abbrev start : World
   start = opening servers files epochs
 
   abbrev all : List Event
-  all = events_of (items ++ more)
+  all = events_of (items ++ later)
 
-  split : IsRun (steps_of items) start × IsRun (steps_of more) (world_of items start)
-  split = run-split (steps_of items) (steps_of more) start (subst (λ l. IsRun l start) (steps-more items more) h.steps)
+  -- after the beginning, after the last event, and at the end
+  abbrev between : World
+  between = world_of items start
+
+  abbrev last : World
+  last = world_of (items ++ later) start
+
+  abbrev final : World
+  final = run steps last
+
+  split : IsRun (steps_of items) start × IsRun (steps_of later) between
+  split = run-split (steps_of items) (steps_of later) start (subst (λ l. IsRun l start) (steps-more items later) h.steps)
+
+  together : last ≡ world_of later between
+  together = ap (λ l. run l start) (steps-more items later) ∙ steps-append (steps_of items) (steps_of later) start
 
   -- the beginning
   first : ItemsTold all files epochs (λ T. false) [] items start
-  first = items-told all files epochs (λ T. false) [] items start [] (events_of more) (events-more items more) refl (opening-reached files epochs servers) (opening-stands all files epochs servers) split.0 (under-split items more h.under).0
+  first = items-told all files epochs (λ T. false) [] items start [] (events_of later) (events-more items later) refl (opening-reached files epochs servers) (opening-stands all files epochs servers) split.0 (under-split items later h.under).0
 
   abbrev ended : Tid → Bool
   ended = (run_atoms first.stands.atoms (opening_world files epochs)).ended
 
-  -- and the rest
-  rest : ItemsTold all files epochs ended (world_of items start).lines more (world_of items start)
-  rest = items-told all files epochs ended (world_of items start).lines more (world_of items start) (events_of items) [] (events-more items more ∙ ap (λ l. events_of items ++ l) (sym (append-nil (events_of more)))) (length-events items ∙ none-more (length items) ∙ sym first.event) first.reached
-      (stands-from all files epochs (λ T. false) [] (world_of items start) first.stands) split.1 (under-split items more h.under).1
+  -- the other events
+  rest : ItemsTold all files epochs ended between.lines later between
+  rest = items-told all files epochs ended between.lines later between (events_of items) [] (events-more items later ∙ ap (λ l. events_of items ++ l) (sym (append-nil (events_of later)))) (length-events items ∙ none-more (length items) ∙ sym first.event) first.reached
+      (stands-from all files epochs (λ T. false) [] between first.stands) split.1 (under-split items later h.under).1
 
-  its-ops : (T : Tid) → ended T ≡ true → ops_of all (lines_of (items ++ more) start) T ≡ ops_in all T None (world_of items start).lines
-  its-ops T e = ops-of-texts all T None (lines_of (items ++ more) start) ∙ ap (λ l. ops_in all T None l) (ap texts_of (lines-more items more start) ∙ texts-more (lines_of items start) (lines_of more (world_of items start)))
-      ∙ (tell-then all (texts_of (lines_of items start)) first.new (texts_of (lines_of more (world_of items start))) rest.new first.same rest.same).ops T None
-      ∙ ap (λ l. ops_in all T None (l ++ rest.new)) (sym first.lines) ∙ ap (λ l. ops_in all T None l) (sym rest.lines) ∙ rest.stands.kept T e
+  pub last-reached : Reached files epochs (world_of (items ++ later) start)
+  last-reached = subst (λ (z : World). Reached files epochs z) (sym together) rest.reached
 
-  pub beginning-as-told : AreAsTold files all (lines_of (items ++ more) start) (lines_of items start) (world_of items start)
-  beginning-as-told = stands-told all files epochs (λ T. false) [] (world_of items start) (lines_of (items ++ more) start) (lines_of items start) first.stands (record {
-    ops = its-ops;
-    commits = history-texts (lines_of items start) ∙ first.same.commits ∙ ap commits_in (sym first.lines);
-  })
+  -- and what is under none
+  after-all : Told all files epochs ended between.lines last final (told_by_steps steps last)
+  after-all = calm-steps all files epochs ended between.lines steps last last-reached (subst (λ (z : World). Stands all files epochs ended between.lines z) (sym together) rest.stands) i calm
 
--- ---- the whole run
+  pub end-reached : Reached files epochs (run steps (world_of (items ++ later) start))
+  end-reached = after-all.reached
 
-pub run-as-told : (servers : ℕ) (files : AllFiles) (epochs : ServerNo → ℕ) (items : List Item) → IsReported items (opening servers files epochs)
-    → AreAsTold files (events_of items) (lines_of items (opening servers files epochs)) (lines_of items (opening servers files epochs)) (world_of items (opening servers files epochs))
-run-as-told servers files epochs items = let start = opening servers files epochs in
-    subst (λ l. IsReported l start → AreAsTold files (events_of l) (lines_of l start) (lines_of items start) (world_of items start)) (append-nil items) (beginning-as-told servers files epochs items [])
+  its-lines : final.lines ≡ (first.new ++ rest.new) ++ (after-all.new ++ [])
+  its-lines = after-all.lines ∙ ap (λ z. z ++ after-all.new) (ap (λ (z : World). z.lines) together ∙ rest.lines ∙ ap (λ z. z ++ rest.new) first.lines) ∙ ap (λ z. (first.new ++ rest.new) ++ z) (sym (append-nil after-all.new))
+
+  same : TellSame all (texts_of (lines_of (items ++ later) start) ++ (told_by_steps steps last ++ more)) ((first.new ++ rest.new) ++ (after-all.new ++ []))
+  same = tell-then all (texts_of (lines_of (items ++ later) start)) (first.new ++ rest.new) (told_by_steps steps last ++ more) (after-all.new ++ [])
+      (subst (λ l. TellSame all l (first.new ++ rest.new)) (sym (ap texts_of (lines-more items later start) ∙ texts-more (lines_of items start) (lines_of later between)))
+      (tell-then all (texts_of (lines_of items start)) first.new (texts_of (lines_of later between)) rest.new first.same rest.same))
+      (tell-then all (told_by_steps steps last) after-all.new more [] after-all.same (tell-none all more dumb none))
+
+  module _ (lines : List Line) (is : texts_of lines ≡ texts_of (lines_of (items ++ later) start) ++ (told_by_steps steps last ++ more)) where
+    pub end-ops : (T : Tid) → ops_of all lines T ≡ ops_in all T None final.lines
+    end-ops T = ops-of-texts all T None lines ∙ ap (λ l. ops_in all T None l) is ∙ same.ops T None ∙ ap (λ l. ops_in all T None l) (sym its-lines)
+
+    pub end-as-told : AreAsTold files all lines lines (run steps (world_of (items ++ later) start))
+    end-as-told = stands-told all files epochs ended between.lines final lines lines after-all.stands (record { ops = λ T e. end-ops T; commits = history-texts lines ∙ ap commits_in is ∙ same.commits ∙ ap commits_in (sym its-lines) })
+
+    -- of the commits of the beginning the later lines tell nothing more
+    pub beginning-told : AreAsTold files all lines (lines_of items start) (world_of items start)
+    beginning-told = stands-told all files epochs (λ T. false) [] between lines (lines_of items start) first.stands (record {
+      ops = λ T e. end-ops T ∙ after-all.stands.kept T e;
+      commits = history-texts (lines_of items start) ∙ first.same.commits ∙ ap commits_in (sym first.lines);
+    })
+
+-- ---- a run with nothing after it
+
+module _ (servers : ℕ) (files : AllFiles) (epochs : ServerNo → ℕ) where
+  pub beginning-as-told : (items more : List Item) → IsReported (items ++ more) (opening servers files epochs)
+      → AreAsTold files (events_of (items ++ more)) (lines_of (items ++ more) (opening servers files epochs)) (lines_of items (opening servers files epochs)) (world_of items (opening servers files epochs))
+  beginning-as-told items more h = beginning-told servers files epochs items more h [] tt tt [] tt refl (lines_of (items ++ more) (opening servers files epochs)) (sym (append-nil (texts_of (lines_of (items ++ more) (opening servers files epochs)))))
+
+  pub run-as-told : (items : List Item) → IsReported items (opening servers files epochs)
+      → AreAsTold files (events_of items) (lines_of items (opening servers files epochs)) (lines_of items (opening servers files epochs)) (world_of items (opening servers files epochs))
+  run-as-told items h = end-as-told servers files epochs [] items h [] tt tt [] tt refl (lines_of items (opening servers files epochs)) (sym (append-nil (texts_of (lines_of items (opening servers files epochs)))))

@@ -34,7 +34,8 @@ use Rattle.jn_storage.specs.Viewing.{Viewed, reads_stored}
 use Rattle.jn_worker.specs.declared.words.WorkerFault.{WorkerFault}
 use Rattle.jn_worker.specs.declared.words.WorkerFault.TheVariants.{Stopped as Stops, Memory}
 use Rattle.jn_worker.specs.Fitting.{WorkerView, Fits}
-use Rattle.jn_worker.specs.Calls.{Takes, Settles, tallied, has_stopped}
+use Rattle.jn_works.specs.Changing.{tallied}
+use Rattle.jn_worker.specs.Calls.{Takes, Settles, has_stopped}
 use Rattle.jn_worker.specs.Reading.{ReadSettles, OnlyReads, answer_now, asks_now, asks_in, asks_for, is_unknown}
 use Rattle.jn_lock_rows.proofs.Edits.{rephased-is}
 use Rattle.jn_worker.proofs.Exits.{none-made, called-within}

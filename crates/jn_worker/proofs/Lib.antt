@@ -23,4 +23,3 @@ pub mod Operated
 pub mod Settled
 pub mod Does
 pub mod Fetched
-pub mod Playing

@@ -26,7 +26,8 @@ use Rattle.jn_lock_rows.specs.Calls.{IsActive, Becomes, Grants, IsRefused, note_
 use Rattle.jn_lock_rows.proofs.Works.{at-phase, in_phase, work_same}
 use Rattle.jn_worker.specs.declared.words.WorkerFault.{WorkerFault}
 use Rattle.jn_worker.specs.Fitting.{WorkerView}
-use Rattle.jn_worker.specs.Calls.{Granted, relisted, tallied, list_of, locked_by}
+use Rattle.jn_works.specs.Changing.{relisted, tallied, list_of}
+use Rattle.jn_worker.specs.Calls.{Granted, locked_by}
 use Rattle.jn_lock_rows.proofs.Edits.{rephased-is}
 use Rattle.jn_worker.proofs.Performed.{conflict_own, grant_own, notes_own, phase_twice}
 use Rattle.jn_worker.proofs.Granted.{granted_itself}

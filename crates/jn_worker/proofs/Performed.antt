@@ -16,7 +16,7 @@ use Rattle.jn_rows.specs.declared.worker.Phase.TheVariants.{Active, Broken, Prep
 use Rattle.jn_rows.specs.Worker.{Wanted, work_at, with_phase, holds, conflict, held_by, holder_at, collides_at, gives_way, collision, breaks_at, broken_by, note_of, after_grant, break_notes}
 use Rattle.jn_lock_rows.specs.Matching.{LocksMatch, held_in, standing_in, standing_of, is_ordered, are_ordered, is_before, are_rising}
 use Rattle.jn_lock_rows.specs.Calls.{rephased}
-use Rattle.jn_worker.specs.Calls.{relisted, tallied}
+use Rattle.jn_works.specs.Changing.{relisted, tallied}
 
 -- ---- the locks don't see a change of a phase that keeps what it holds
 

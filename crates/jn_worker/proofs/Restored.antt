@@ -31,7 +31,8 @@ use Rattle.jn_storage.specs.Storage.{StorageView, IsServing, IsRecovered}
 use Rattle.jn_storage.specs.Calls.{state, name_of, outline, outline_of, IsTold, TellsWorks}
 use Rattle.jn_storage.proofs.Listings.{but, is_in-but, length-but}
 use Rattle.jn_worker.specs.Fitting.{WorkerView, Fits, WorkFits, WorkListFits, are_written}
-use Rattle.jn_worker.specs.Restoring.{IsFor, RestoredTo, Restores, state_of, sorted}
+use Rattle.jn_works.specs.Sorting.{state_of, sorted}
+use Rattle.jn_worker.specs.Restoring.{IsFor, RestoredTo, Restores}
 use Rattle.jn_worker.proofs.Sorting.{after-front, rise-different, sorted-rise, sorted-in}
 
 -- ---- the units of a listed work

@@ -15,7 +15,8 @@ use Rattle.jn_rows.specs.declared.worker.Phase.TheVariants.{Active}
 use Rattle.jn_rows.specs.Worker.{work_at, with_phase, conflict, locked, wants_of, with_units, units_for, is_fit, past_limit, first_of_two}
 use Rattle.jn_lock_rows.specs.Calls.{IsActive, rephased}
 use Rattle.jn_worker.specs.Fitting.{WorkerView}
-use Rattle.jn_worker.specs.Calls.{Granted, Settles, tallied}
+use Rattle.jn_works.specs.Changing.{tallied}
+use Rattle.jn_worker.specs.Calls.{Granted, Settles}
 use Rattle.jn_lock_rows.proofs.Edits.{rephased-is}
 
 is_work : (x y : Work) → Some x ≡ Some y → x ≡ y

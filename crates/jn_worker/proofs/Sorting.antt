@@ -1,7 +1,6 @@
 -- Names in rising order.
-use Rattle.std.proofs.Common.{◌≡◌, ◌<◌, ℕ, zero, suc, Bool, true, false, List, [], ◌∷◌, ◌++◌, length, take, drop, slice_index_or, if◌then◌else◌, refl, ◌∙◌, ap, arith}
+use Rattle.std.proofs.Common.{◌≡◌, ◌<◌, ℕ, zero, suc, Bool, true, false, List, [], ◌∷◌, length, take, slice_index_or, if◌then◌else◌, refl, ◌∙◌, arith}
 use Rattle.std.specs.Prelude.{◌||◌}
-use Rattle.std.specs.List.{insert}
 use Rattle.jn_base.specs.declared.names.WorkId.{WorkId}
 use Rattle.jn_base.specs.Names.{work_eq}
 use Rattle.jn_base.proofs.Tells.{work_tells}
@@ -9,15 +8,8 @@ use Rattle.jn_locks.specs.Locks.{work_before}
 use Rattle.jn_locks.proofs.Orders.{work_before-irreflexive, work_before-transitive, work_before-total}
 use Rattle.jn_lock_rows.specs.Matching.{is_name_after}
 use Rattle.jn_storage.specs.Listing.{is_in, are_different}
-use Rattle.jn_worker.specs.Restoring.{front_of, placed, sorted_into, sorted, comes_before, names_rise}
-
-pub placed_is : (W : WorkId) (Vs : List WorkId) → insert Vs (front_of W Vs) W ≡ placed W Vs
-placed_is W [] = refl
-placed_is W (V ∷ Vs) = by (work_before V W) (placed_is W Vs)
-  where
-    by : (b : Bool) → insert Vs (front_of W Vs) W ≡ placed W Vs → (take (if b then suc (front_of W Vs) else zero) (V ∷ Vs) ++ W ∷ drop (if b then suc (front_of W Vs) else zero) (V ∷ Vs)) ≡ (if b then V ∷ placed W Vs else W ∷ V ∷ Vs)
-    by true e = ap (λ (l : List WorkId). V ∷ l) e
-    by false e = refl
+use Rattle.jn_works.specs.Sorting.{placed, sorted_into, sorted}
+use Rattle.jn_worker.specs.Restoring.{comes_before, names_rise}
 
 in-placed : (W U : WorkId) (Vs : List WorkId) → is_in work_eq U (placed W Vs) ≡ (work_eq W U || is_in work_eq U Vs)
 in-placed W U [] = refl

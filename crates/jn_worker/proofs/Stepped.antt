@@ -19,7 +19,8 @@ use Rattle.jn_storage.specs.Calls.{state, next_of, Called, RecordErased, CountsE
 use Rattle.jn_worker.specs.declared.words.WorkerFault.{WorkerFault}
 use Rattle.jn_worker.specs.declared.words.WorkerFault.TheVariants.{Stopped as Stops, Memory}
 use Rattle.jn_worker.specs.Fitting.{WorkerView, Fits, TicketsFit, WorkFits, WorkListFits, seen, is_none}
-use Rattle.jn_worker.specs.Calls.{Takes, Steps, going_in, has_stopped}
+use Rattle.jn_works.specs.Changing.{going_in}
+use Rattle.jn_worker.specs.Calls.{Takes, Steps, has_stopped}
 use Rattle.jn_worker.proofs.Edits.{going_by_name}
 use Rattle.jn_worker.proofs.Exits.{called-within}
 use Rattle.jn_worker.proofs.Fit.{name-later}

@@ -1,5 +1,5 @@
 -- What the calls of a worker do.
-use Rattle.std.specs.Prelude.{◌≡◌, ℕ, Bool, true, false, not, if◌then◌else◌, List, [], ◌∷◌, ◌++◌, Option, Some, None, Result, Ok, Err, is_ok}
+use Rattle.std.specs.Prelude.{◌≡◌, Bool, true, false, not, if◌then◌else◌, List, [], ◌∷◌, ◌++◌, Option, Some, None, Result, Ok, Err, is_ok}
 use Rattle.jn_base.specs.declared.names.Tickets.{Tickets}
 use Rattle.jn_base.specs.declared.names.Party.TheVariants.{Server}
 use Rattle.jn_base.specs.declared.names.ClientNo.{ClientNo}
@@ -14,14 +14,12 @@ use Rattle.jn_msgs.specs.declared.message.Message.TheVariants as messages
 use Rattle.jn_msgs.specs.declared.message.Note.{Note}
 use Rattle.jn_msgs.specs.declared.message.Vote.{Vote}
 use Rattle.jn_msgs.specs.declared.message.Vote.TheVariants as votes
-use Rattle.jn_rows.specs.declared.worker.Work.{Work}
 use Rattle.jn_rows.specs.declared.worker.Phase.{Phase}
 use Rattle.jn_rows.specs.declared.worker.Phase.TheVariants.{Active, Broken}
 use Rattle.jn_rows.specs.declared.worker.ActiveWork.{ActiveWork}
 use Rattle.jn_lock_rows.specs.declared.grants.Refused.{Refused}
 use Rattle.jn_lock_rows.specs.declared.grants.Refused.TheVariants.{Held, Memory as NotGranted}
 use Rattle.jn_lock_rows.specs.Calls.{stored}
-use Rattle.jn_records.specs.declared.intention.Intention.{Intention}
 use Rattle.jn_records.specs.declared.work.WorkHead.{WorkHead}
 use Rattle.jn_storage.specs.declared.faults.PrepareFault.{PrepareFault}
 use Rattle.jn_storage.specs.declared.faults.PrepareFault.TheVariants.{Records, Pages, Heads, Stopped as NotServed, Memory as NoMemory}
@@ -58,11 +56,6 @@ pub record AsksAgain (t : WorkerView) (before : Collected) (ok : Bool) (after : 
   pub notes : after.notes ≡ before.notes
   pub messages : ok ≡ true → after.messages ≡ before.messages ++ asked_again t.going t.table
   pub is_row : (v : StorageView) → Fits t v → asked_again t.going t.table ≡ worker_again (state v) t.table
-
--- the first work that a list of names has
-abbrev pub going_in : List WorkId → WorkerTable → Option Work
-going_in going [] = None
-going_in going (w ∷ ws) = if is_in work_eq w.name going then Some w else going_in going ws
 
 -- a step whose row this is: it is answered true, and false where there is none and nothing is done
 abbrev pub Steps : Option (RowOutcome WorkerTable) → WorkerView → StorageView → Collected → Tickets → Result Bool WorkerFault → WorkerView → StorageView → Collected → Tickets → Type 0
@@ -102,24 +95,6 @@ pub record Stores (t : WorkerView) (T : Tid) (W : WorkId) (a : ActiveWork) (S : 
   pub works : u ≡ record t { table = with_phase W (stored (Active a)) (after_grant T W (commit_wants a.writes) t.table) }
   pub sent : after.messages ≡ before.messages ++ (Server S.server, messages.Vote S W votes.Ready) ∷ []
   pub noted : after.notes ≡ before.notes ++ break_notes T W (commit_wants a.writes) t.table
-
--- an active work has another list
-abbrev pub relisted : List Intention → Phase → Phase
-relisted list (Active a) = Active (record a { list = list })
-relisted list phase = phase
-
-abbrev pub list_in : List Intention → Phase → List Intention
-list_in other (Active a) = a.list
-list_in other phase = other
-
-abbrev pub list_of : List Intention → Option Work → List Intention
-list_of other None = other
-list_of other (Some w) = list_in other w.phase
-
--- an active work's operation of this number has this answer
-abbrev pub tallied : ℕ → Answer → Phase → Phase
-tallied number answer (Active a) = Active (record a { last = number; kept = Some answer })
-tallied number answer phase = phase
 
 -- what an operation is answered whose wants aren't granted
 abbrev pub locked_by : Refused → Result Answer WorkerFault

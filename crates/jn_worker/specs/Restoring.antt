@@ -1,31 +1,14 @@
 -- How a worker's table is made from the works of a storage.
-use Rattle.std.specs.Prelude.{◌≡◌, ℕ, suc, Bool, true, ◌&&◌, if◌then◌else◌, List, [], ◌∷◌, Option, Some, None, is_some}
+use Rattle.std.specs.Prelude.{◌≡◌, Bool, true, ◌&&◌, List, [], ◌∷◌, is_some}
 use Rattle.jn_base.specs.declared.names.WorkId.{WorkId}
 use Rattle.jn_base.specs.Names.{work_eq}
 use Rattle.jn_locks.specs.Locks.{work_before}
-use Rattle.jn_records.specs.declared.work.WorkState.{WorkState}
 use Rattle.jn_rows.specs.Stable.{is_going}
 use Rattle.jn_rows.specs.Worker.{restored_worker}
 use Rattle.jn_storage.specs.Listing.{is_in, IsListing}
 use Rattle.jn_storage.specs.Storage.{StorageView}
-use Rattle.jn_storage.specs.Calls.{state, name_of}
+use Rattle.jn_storage.specs.Calls.{state}
 use Rattle.jn_worker.specs.Fitting.{WorkerView, Fits}
-
-abbrev pub front_of : WorkId → List WorkId → ℕ
-front_of W [] = 0
-front_of W (V ∷ Vs) = if work_before V W then suc (front_of W Vs) else 0
-
-abbrev pub placed : WorkId → List WorkId → List WorkId
-placed W [] = W ∷ []
-placed W (V ∷ Vs) = if work_before V W then V ∷ placed W Vs else W ∷ V ∷ Vs
-
--- each name in its place, the first one first
-abbrev pub sorted_into : List WorkId → List WorkId → List WorkId
-sorted_into names [] = names
-sorted_into names (W ∷ Ws) = sorted_into (placed W names) Ws
-
-abbrev pub sorted : List WorkId → List WorkId
-sorted Ws = sorted_into [] Ws
 
 -- whether each name comes before the next
 abbrev pub comes_before : WorkId → List WorkId → Bool
@@ -40,11 +23,6 @@ names_rise (W ∷ Ws) = comes_before W Ws && names_rise Ws
 pub record IsFor (v : StorageView) (names : List WorkId) : Type 0 where
   pub all : IsListing work_eq (λ W. is_some ((state v).works W)) names
   pub rising : names_rise names ≡ true
-
--- the state of the work of this name
-abbrev pub state_of : WorkId → List WorkState → Option WorkState
-state_of W [] = None
-state_of W (s ∷ ss) = if work_eq (name_of s) W then Some s else state_of W ss
 
 -- these works are restored
 pub record RestoredTo (v : StorageView) (names : List WorkId) (t : WorkerView) : Type 0 where

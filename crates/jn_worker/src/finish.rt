@@ -7,12 +7,12 @@ ghost use Rattle.jn_worker.specs.Fitting.{Fits, seen, is_stored};
 
 use crate::words::WorkerFault;
 use crate::worker::Worker;
-use crate::works::{is_in, remove};
 use jn_base::{Party, Tid, WorkId};
 use jn_lock_rows::work_at;
 use jn_msgs::{Message, Note, Out};
 use jn_rows::Phase;
 use jn_storage::WorkStore;
+use jn_works::{is_in, remove};
 
 /// Whether a work is prepared.
 pub(crate) fn is_prepared(phase: &Phase) -> bool

@@ -1,9 +1,9 @@
 //! The worker of a server: its live works, over any storage of works.
+//! What it does with the list of them alone stands in `jn_works`.
 #![tactic(auto)]
 
 mod finish;
 mod handle;
-mod lists;
 mod open;
 mod operate;
 mod prepare;
@@ -11,11 +11,8 @@ mod reading;
 mod refuse;
 mod restore;
 mod step;
-#[cfg(test)]
-mod tests;
 mod words;
 mod worker;
-mod works;
 
 pub use words::WorkerFault;
 pub use worker::Worker;

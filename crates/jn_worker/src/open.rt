@@ -8,10 +8,10 @@ ghost use Rattle.jn_worker.specs.Fitting.{Fits, TicketsFit};
 
 use crate::words::WorkerFault;
 use crate::worker::Worker;
-use crate::works::work_of;
 use jn_base::{ClientNo, Party, Tickets, Tid, WorkId};
 use jn_lock_rows::open_work;
 use jn_msgs::{Message, Out};
+use jn_works::work_of;
 
 fn name_from(tickets: &Tickets) -> WorkId
     ensures { result ≡ rows.name_from tickets.now }

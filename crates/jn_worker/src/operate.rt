@@ -17,7 +17,6 @@ ghost use Rattle.jn_worker.specs.Calls.{Takes, Granted, Settles, locked_by, told
 ghost use Rattle.jn_worker.specs.declared.words.WorkerFault.TheVariants.{Memory};
 ghost use Rattle.jn_worker.specs.Fitting.{Fits, seen, is_active};
 
-use crate::lists::{swap_list, tally};
 use crate::words::WorkerFault;
 use crate::worker::Worker;
 use jn_base::{Answer, ClientNo, LockUnit, Op, Party, Tid, WorkId};
@@ -26,6 +25,7 @@ use jn_locks::Mode;
 use jn_msgs::{Message, Note, Out};
 use jn_records::{ListOf, NetList};
 use jn_rows::{ActiveWork, Phase};
+use jn_works::{swap_list, tally};
 use std::alloc::{AllocError, Global};
 
 /// At the 41st read unit, or the 25th intention.

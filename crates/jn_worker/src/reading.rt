@@ -10,11 +10,11 @@ ghost use Rattle.jn_lock_rows.specs.Calls.{IsActive, rephased};
 ghost use Rattle.jn_storage.specs.Calls.{state};
 ghost use Rattle.jn_storage.specs.Storage.{IsServing};
 ghost use Rattle.jn_storage.specs.Viewing.{BlockInRange, Viewed};
-ghost use Rattle.jn_worker.specs.Calls.{Takes, tallied, has_stopped};
+ghost use Rattle.jn_worker.specs.Calls.{Takes, has_stopped};
+ghost use Rattle.jn_works.specs.Changing.{tallied};
 ghost use Rattle.jn_worker.specs.Reading.{ReadSettles, OnlyReads, asks_now, asks_for, is_unknown};
 ghost use Rattle.jn_worker.specs.Fitting.{Fits, is_active};
 
-use crate::lists::tally;
 use crate::words::WorkerFault;
 use crate::worker::Worker;
 use jn_base::{Answer, ClientNo, FileNo, Op, Party, Stopped, Tickets, WorkId};
@@ -22,6 +22,7 @@ use jn_lock_rows::work_at;
 use jn_msgs::{Message, Out};
 use jn_rows::Phase;
 use jn_storage::{StoredFiles, WorkStore, view};
+use jn_works::tally;
 
 fn file_of(op: &Op) -> FileNo
     ensures { result ≡ file_of op.now }

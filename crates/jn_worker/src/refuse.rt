@@ -10,11 +10,11 @@ ghost use Rattle.jn_worker.specs.Fitting.{Fits, seen, is_active};
 
 use crate::words::WorkerFault;
 use crate::worker::Worker;
-use crate::works::is_in;
 use jn_base::{Answer, ClientNo, Party, Tickets, Tid, WorkId};
 use jn_lock_rows::work_at;
 use jn_msgs::{Message, Note, Out, Vote};
 use jn_rows::Phase;
+use jn_works::is_in;
 
 /// What is voted for a work that isn't active, while its transaction isn't known to have committed.
 fn vote_of(phase: &Phase) -> Vote

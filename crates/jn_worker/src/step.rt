@@ -1,31 +1,17 @@
 // What a worker does without a message.
 ghost use Rattle.std.specs.Prelude.{◌≡◌, true, is_some};
 ghost use Rattle.jn_base.specs.declared.names.Tickets.{Tickets};
-ghost use Rattle.jn_records.specs.Reading.{Gives};
 ghost use Rattle.jn_rows.specs.Worker as rows;
 ghost use Rattle.jn_storage.specs.Calls.{IsGoing, next_of};
-ghost use Rattle.jn_worker.specs.Calls.{Takes, Steps, going_in};
+ghost use Rattle.jn_worker.specs.Calls.{Takes, Steps};
 ghost use Rattle.jn_worker.specs.Fitting.{Fits, seen};
 
 use crate::words::WorkerFault;
 use crate::worker::Worker;
-use crate::works::{forget_name, is_in, remove};
 use jn_base::{Party, Tid, WorkId};
 use jn_msgs::{Message, Out};
-use jn_rows::Work;
 use jn_storage::WorkStore;
-
-/// The first going work.
-fn going_work<'a>(works: &'a [Work], going: &[WorkId]) -> Option<&'a Work>
-    ensures { Gives (λ w. w.now) result (going_in going.now works.now) }
-{
-    for work in works {
-        if is_in(going, work.name) {
-            return Some(work);
-        }
-    }
-    None
-}
+use jn_works::{forget_name, going_work, remove};
 
 impl Worker {
     /// Carries out the next intention of the going work of least name, or where none is left, forgets that work and

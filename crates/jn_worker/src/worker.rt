@@ -3,11 +3,11 @@ ghost use Rattle.std.specs.Prelude.{◌≡◌, is_ok};
 ghost use Rattle.jn_rows.specs.Worker as rows;
 ghost use Rattle.jn_worker.specs.Calls.{AsksAgain, TimesOut};
 
-use crate::works::{commit_holder, expose, is_in, work_of};
 use jn_base::{LockUnit, Party, Tid, WorkId};
 use jn_locks::LockTable;
 use jn_msgs::{Message, Out};
 use jn_rows::Work;
+use jn_works::{commit_holder, expose, is_in, work_of};
 use std::alloc::{AllocError, Global};
 use std::marker::Model;
 

@@ -20,5 +20,6 @@ pub returns-clause-reported : goal.returns-clause-reported
 returns-clause-reported c = record {
   under = (refl, (refl, (refl, (refl, (refl, (refl, (refl, (refl, (refl, (refl, (refl, (refl, tt))))))))))));
   steps = (tt, (tt, (tt, (tt, (tt, (tt, (tt, (tt, (tt, (tt, (tt, (tt, (tt, (tt, (tt, (tt, (tt, (tt, (tt, (tt, (tt, (tt, (tt, ((one_work _, one_flag _), (tt, (tt, (tt, (tt, tt))))))))))))))))))))))))))));
+  shows = (tt, (tt, (tt, (tt, (tt, (tt, (tt, (tt, (tt, (tt, (tt, (tt, tt))))))))))));
   faults = (tt, ((tt, tt), (tt, ((tt, tt), (tt, ((tt, tt), (tt, (tt, ((one_waits, tt), ((tt, (tt, tt)), (tt, ((tt, tt), tt))))))))))));
 }

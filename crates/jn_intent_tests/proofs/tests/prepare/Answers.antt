@@ -11,7 +11,7 @@ prepare-requires-clause-may g c =
     let is = answer_is _ refl _ _ (sym c.eq.ensures ∙ said) in
     let on = (after_erased _ _ _ c.requires _ erased).on (ap is_ok is) in
     let empty : c.is_empty.result ≡ true = search in
-    may_prepare SERVER _ on _ _ _ _ c.works.ensures (sym c.is_empty.ensures ∙ empty) (no_rubbish _ _ _ erased is) (record { own = refl; past = omega arith }) c.list.ensures
+    may_prepare SERVER _ on _ _ _ _ c.works.ensures (sym c.is_empty.ensures ∙ empty) (no_rubbish _ _ _ erased is) (record { own = refl; past = omega arith }) (c.list.ensures _)
 
 pub returns : goal.returns
 returns g c =

@@ -1,5 +1,5 @@
 use Rattle.std.proofs.Common.{rules, subst}
-use Rattle.jn_coord.specs.Calls.{Adds}
+use Rattle.jn_transactions.specs.Telling.{Adds}
 use Rattle.jn_rows.specs.Coordinator.{begin_again, begun_by}
 use Rattle.jn_coord.specs.Remembered.{table_of}
 use Rattle.jn_coord.proofs.Beginnings.{begun-again}

@@ -4,7 +4,7 @@ use Rattle.std.proofs.lemmas.List.{with_items_is}
 use Rattle.jn_locks.specs.LockTables.{table}
 use Rattle.jn_lock_rows.specs.Matching.{LocksMatch}
 use Rattle.jn_lock_rows.specs.Calls.{rephased}
-use Rattle.jn_worker.specs.Calls.{relisted, tallied}
+use Rattle.jn_works.specs.Changing.{relisted, tallied}
 use Rattle.jn_worker.proofs.Performed.{match_rephased, relisted_keeps, tallied_keeps}
 use Rattle.jn_worker.proofs.Operated.{grant_becomes, grant_refused, grant_done}
 use Rattle.jn_records.specs.NetEdits.{intention_for, list_after}

@@ -1,7 +1,7 @@
 use Rattle.std.proofs.Common.{subst, sym}
 use Rattle.jn_locks.specs.LockTables.{table}
 use Rattle.jn_lock_rows.specs.Matching.{LocksMatch}
-use Rattle.jn_worker.specs.Calls.{tallied}
+use Rattle.jn_works.specs.Changing.{tallied}
 use Rattle.jn_worker.proofs.Performed.{match_rephased, tallied_keeps}
 use Rattle.jn_worker.proofs.worker.Worker.read_granted.Goals as goal
 

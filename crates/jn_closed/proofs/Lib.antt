@@ -1,0 +1,5 @@
+pub mod Rows
+pub mod Tends
+pub mod Rests
+pub mod Beyond
+pub mod Ends

@@ -1,6 +1,0 @@
-use Rattle.std.proofs.Common.{◌≡◌, drop}
-use Rattle.jn_coord.specs.Closing.{next_closing}
-use Rattle.jn_coord.proofs.closing.next_closing.Given as goal
-
-abbrev pub invariant-loop-x : goal.invariant-loop-x
-invariant-loop-x l = next_closing l.who (drop l.x-index l.transactions) ≡ next_closing l.who l.transactions

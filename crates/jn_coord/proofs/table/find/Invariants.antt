@@ -1,6 +1,0 @@
-use Rattle.std.proofs.Common.{◌≡◌, drop}
-use Rattle.jn_rows.specs.Coordinator.{transaction_at}
-use Rattle.jn_coord.proofs.table.find.Given as goal
-
-abbrev pub invariant-loop-transaction : goal.invariant-loop-transaction
-invariant-loop-transaction l = transaction_at l.tid (drop l.transaction-index l.transactions) ≡ transaction_at l.tid l.transactions

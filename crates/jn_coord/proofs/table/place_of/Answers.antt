@@ -1,5 +1,0 @@
-use Rattle.jn_coord.proofs.Tables.{from-zero}
-use Rattle.jn_coord.proofs.table.place_of.Goals as goal
-
-pub loop-i-init : goal.loop-i-init
-loop-i-init c = from-zero c.args.tid c.args.transactions.now

@@ -1,0 +1,24 @@
+//! What the lines of each run of the whole system say of its schedule holds of the lines of its end too.
+#![tactic(auto)]
+
+ghost use Rattle.std.specs.Prelude.{ℕ, List};
+ghost use Rattle.jn_base.specs.declared.names.ServerNo.{ServerNo};
+ghost use Rattle.jn_order.specs.Files.{AllFiles};
+ghost use Rattle.jn_serial.specs.Told.{Told};
+ghost use Rattle.jn_serial.specs.Follows.{Follows};
+ghost use Rattle.jn_serial.specs.Caused.{Caused};
+ghost use Rattle.jn_reported.specs.Reported.{Item, events_of};
+ghost use Rattle.jn_reported.specs.Ending.{Ending, IsWholeRun, all_lines};
+
+/// Whatever is done under the events of a schedule and at its end, stops and restarts among it: no commit is named twice, each
+/// that a client is told of is named before, and no transaction is named that a client is told is aborted, or that a broken work
+/// was of; each answer to a client answers its outstanding command, and none is given at the end; each abort, stop and refused
+/// fault has its cause before it.
+pub fn reports_are_true_to_the_end()
+    ensures told { (servers : ℕ) (files : AllFiles) (epochs : ServerNo → ℕ) (items : List Item) (e : Ending) → IsWholeRun servers files epochs items e
+        → Told (all_lines servers files epochs items e) }
+    ensures follows { (servers : ℕ) (files : AllFiles) (epochs : ServerNo → ℕ) (items : List Item) (e : Ending) → IsWholeRun servers files epochs items e
+        → Follows (events_of items) (all_lines servers files epochs items e) }
+    ensures caused { (servers : ℕ) (files : AllFiles) (epochs : ServerNo → ℕ) (items : List Item) (e : Ending) → IsWholeRun servers files epochs items e
+        → Caused (events_of items) (all_lines servers files epochs items e) }
+{}

@@ -1,0 +1,5 @@
+pub mod Prints
+pub mod Shows
+pub mod Within
+pub mod Ends
+pub mod Examples

@@ -1,0 +1,7 @@
+use Rattle.std.proofs.Common.{◌≡◌, [], take}
+use Rattle.jn_rows.specs.Coordinator.{drops}
+use Rattle.jn_transactions.specs.Telling.{added}
+use Rattle.jn_transactions.proofs.sending.send_drops.Given as goal
+
+abbrev pub invariant-loop-work : goal.invariant-loop-work
+invariant-loop-work l = l.out ≡ added l.fn.out (drops l.tid (take l.work-index l.works)) []

@@ -1,0 +1,4 @@
+pub mod Listed
+pub mod Stages
+pub mod Telling
+pub mod Closing

@@ -1,7 +1,0 @@
-use Rattle.std.proofs.Common.{◌≡◌, ◌++◌, take, drop}
-use Rattle.jn_lock_rows.specs.Calls.{rephased}
-use Rattle.jn_worker.specs.Calls.{tallied}
-use Rattle.jn_worker.proofs.lists.tally.Given as goal
-
-abbrev pub invariant-loop-i : goal.invariant-loop-i
-invariant-loop-i l = take l.i l.works.items ++ rephased l.name (tallied l.number l.answer) (drop l.i l.works.items) ≡ rephased l.name (tallied l.number l.answer) l.fn.works.items

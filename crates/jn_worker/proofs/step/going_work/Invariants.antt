@@ -1,6 +1,0 @@
-use Rattle.std.proofs.Common.{◌≡◌, drop}
-use Rattle.jn_worker.specs.Calls.{going_in}
-use Rattle.jn_worker.proofs.step.going_work.Given as goal
-
-abbrev pub invariant-loop-work : goal.invariant-loop-work
-invariant-loop-work l = going_in l.going (drop l.work-index l.works) ≡ going_in l.going l.works
