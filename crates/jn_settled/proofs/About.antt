@@ -45,7 +45,7 @@ abbrev pub are_off : Tid → List Sent → Bool
 are_off T [] = true
 are_off T (x ∷ xs) = not (is_about T x.1) && are_off T xs
 
-off-both : (T : Tid) (a b : List Sent) → are_off T a ≡ true → are_off T b ≡ true → are_off T (a ++ b) ≡ true
+pub off-both : (T : Tid) (a b : List Sent) → are_off T a ≡ true → are_off T b ≡ true → are_off T (a ++ b) ≡ true
 off-both T [] b h k = k
 off-both T (x ∷ a) b h k = let again = off-both T a b in grind (arith, h, k)
 
@@ -53,7 +53,7 @@ off-drops : (T U : Tid) (Ws : List WorkId) → are_off T (drops U Ws) ≡ true
 off-drops T U [] = refl
 off-drops T U (W ∷ Ws) = off-drops T U Ws
 
-off-commits : (T U : Tid) (Ws : List WorkId) → are_off T (commits U Ws) ≡ true
+pub off-commits : (T U : Tid) (Ws : List WorkId) → are_off T (commits U Ws) ≡ true
 off-commits T U [] = refl
 off-commits T U (W ∷ Ws) = off-commits T U Ws
 

@@ -30,12 +30,8 @@ use Rattle.jn_moves.specs.Mirrors.{AreTransactions}
 use Rattle.jn_moves.proofs.Transactions.{in_stage, at-stage, none-staged, none-less, at-less}
 use Rattle.jn_settling.proofs.CoordinatorFits.{found-name}
 use Rattle.jn_reported.proofs.Lists.{In}
+use Rattle.jn_settled.specs.Settled.{is_undecided}
 use Rattle.jn_settled.proofs.Ways.{Has}
-
-abbrev pub is_undecided : Stage → Bool
-is_undecided Open = true
-is_undecided (Voting b) = true
-is_undecided stage = false
 
 -- a vote or a commit that is complete goes no further in its stage
 abbrev pub is_unfinished : Stage → Bool

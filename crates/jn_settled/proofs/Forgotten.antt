@@ -126,8 +126,8 @@ module _ (n : ℕ) (at_most : n ≤ 8) (files : AllFiles) (epochs : ServerNo →
 
     pub last-flags : (T : Tid) → T.server.0 < n → FlagWay n at_most files epochs (reached n at_most files epochs) broken T last
     last-flags T near = rest-calm n at_most start IsGood (λ d h. h.talking.sound) (good-go n at_most start files epochs) (FlagWay n at_most files epochs (reached n at_most files epochs) broken T)
-        (client-flags n at_most files epochs (reached n at_most files epochs) broken T)
-        (λ d now k room s message m g is up comes h. server-flags n at_most files epochs (reached n at_most files epochs) broken T d now k room s message m g is up comes h)
+        (λ d now k e message g is comes first h. client-flags n at_most files epochs (reached n at_most files epochs) broken T d now k e message g is comes h)
+        (λ d now k room s message m g is up comes first h. server-flags n at_most files epochs (reached n at_most files epochs) broken T d now k room s message m g is up comes h)
         (λ d now s m v g e up goes comes h. work-flags n at_most files epochs (reached n at_most files epochs) broken T d now s m v g e up goes (going-found (stable (d.world.found s)) m.worker v goes) comes h)
         k second middle (good-middle n at_most files epochs first second c i k h rests up) up
         (ask-flags n at_most files epochs (reached n at_most files epochs) broken T (clients_from 1 8) (servers_from 0 n) (until_rest (servers_from 0 n) first i c) middle (good n at_most files epochs first second c i k h rests up)

@@ -18,6 +18,7 @@ pub mod Calm
 pub mod Standing
 pub mod Carrying
 pub mod Living
+pub mod Order
 pub mod Ends
 pub mod Flags
 pub mod Answers

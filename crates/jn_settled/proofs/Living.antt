@@ -1,5 +1,5 @@
 -- A work that isn't live stays so, and a Drop or a Commit of a live one ends it or makes it go.
-use Rattle.std.proofs.Common.{◌≡◌, ◌≢◌, ◌⊎◌, inl, inr, ◌<◌, ℕ, ◌+◌, Bool, true, false, List, [], ◌∷◌, ◌++◌, length, Option, Some, None, true≢false, refl, sym, ◌∙◌, ap, subst, arith}
+use Rattle.std.proofs.Common.{◌≡◌, ◌≢◌, ◌⊎◌, inl, inr, ◌<◌, ℕ, ◌+◌, Bool, true, false, List, [], ◌∷◌, ◌++◌, length, Option, Some, None, is_some, true≢false, refl, sym, ◌∙◌, ap, subst, arith}
 use Rattle.std.specs.Prelude.{if◌then◌else◌, nat_lt, nat_eq, slice_get}
 use Rattle.jn_base.specs.declared.names.ServerNo.{ServerNo}
 use Rattle.jn_base.specs.declared.names.ClientNo.{ClientNo}
@@ -33,7 +33,7 @@ use Rattle.jn_protocol.specs.Servers.{Room, storage_of, server_row, of_worker, o
 use Rattle.jn_protocol.specs.LockFacts.{UpFact}
 use Rattle.jn_protocol.proofs.CoordinatorRows.{coordinator-aside}
 use Rattle.jn_reported.proofs.Reached.{Reached}
-use Rattle.jn_settled.proofs.Standing.{up-at}
+use Rattle.jn_settled.proofs.Standing.{inv, up-at}
 use Rattle.jn_settled.proofs.Carrying.{goes_in}
 
 -- the name was given before
@@ -42,10 +42,10 @@ IsOld W k = W.epoch ≡ k.epoch → W.ticket < k.next
 
 -- ---- a worker's rows
 
-module _ (t : WorkerTable) (k : Tickets) (rising : are_rising t ≡ true) (next : is_after (name_from k) t ≡ true) (W : WorkId) (none : work_at W t ≡ None) (old : IsOld W k) where
-  -- it stays so, and its name is given
+module _ (t : WorkerTable) (k : Tickets) (rising : are_rising t ≡ true) (next : is_after (name_from k) t ≡ true) (W : WorkId) (old : IsOld W k) where
+  -- if it isn't there it stays so, and its name is given
   pub record Row (row : RowOutcome WorkerTable) : Type 0 where
-    pub gone : work_at W row.table ≡ None
+    pub gone : work_at W t ≡ None → work_at W row.table ≡ None
     pub given : IsOld W row.tickets
 
   abbrev none-work : Option Work
@@ -56,20 +56,20 @@ module _ (t : WorkerTable) (k : Tickets) (rising : are_rising t ≡ true) (next 
   none-both false = refl
 
   same : (row : RowOutcome WorkerTable) → row.table ≡ t → row.tickets ≡ k → Row row
-  same row e f = record { gone = ap (λ z. work_at W z) e ∙ none; given = subst (λ (z : Tickets). IsOld W z) (sym f) old }
+  same row e f = record { gone = λ none. ap (λ z. work_at W z) e ∙ none; given = subst (λ (z : Tickets). IsOld W z) (sym f) old }
 
   less : (N : WorkId) (row : RowOutcome WorkerTable) → row.table ≡ without N t → row.tickets ≡ k → Row row
-  less N row e f = record { gone = ap (λ z. work_at W z) e ∙ at-less W N t rising ∙ ap (λ o. if work_eq N W then None else o) none ∙ none-both (work_eq N W); given = subst (λ (z : Tickets). IsOld W z) (sym f) old }
+  less N row e f = record { gone = λ none. ap (λ z. work_at W z) e ∙ at-less W N t rising ∙ ap (λ o. if work_eq N W then None else o) none ∙ none-both (work_eq N W); given = subst (λ (z : Tickets). IsOld W z) (sym f) old }
 
   phased : (N : WorkId) (p : Phase) (now : WorkerTable) → work_at W now ≡ None → work_at W (with_phase N p now) ≡ None
   phased N p now h = at-phase W N p now ∙ ap (λ o. if work_eq N W then in_phase p o else o) h ∙ none-both (work_eq N W)
 
-  granted : (T : Tid) (N : WorkId) (wants : List Wanted) → work_at W (after_grant T N wants t) ≡ None
-  granted T N wants = at-grant T N wants W t ∙ ap (λ o. once_granted T N wants o) none
+  granted : (T : Tid) (N : WorkId) (wants : List Wanted) → work_at W t ≡ None → work_at W (after_grant T N wants t) ≡ None
+  granted T N wants none = at-grant T N wants W t ∙ ap (λ o. once_granted T N wants o) none
 
   -- a new work has another name
-  opened : (T : Tid) → work_at W (t ++ new_work (name_from k) T ∷ []) ≡ None
-  opened T = at-more W t (new_work (name_from k) T) next ∙ by (work_tells (name_from k) W)
+  opened : (T : Tid) → work_at W t ≡ None → work_at W (t ++ new_work (name_from k) T ∷ []) ≡ None
+  opened T none = at-more W t (new_work (name_from k) T) next ∙ by (work_tells (name_from k) W)
     where
       by : ((work_eq (name_from k) W ≡ true) × (name_from k ≡ W)) ⊎ ((work_eq (name_from k) W ≡ false) × (name_from k ≢ W)) → (if work_eq (name_from k) W then Some (new_work (name_from k) T) else work_at W t) ≡ None
       by (inl p) = absurd (too-far (ap (λ (V : WorkId). V.ticket) (sym p.1)) (old (ap (λ (V : WorkId). V.epoch) (sym p.1))))
@@ -88,8 +88,8 @@ module _ (t : WorkerTable) (k : Tickets) (rising : are_rising t ≡ true) (next 
       (choose (nat_eq number a.last) _ _ (repeats a.kept) (same _ refl refl))
     where
       grants : (answer : Answer) (wants : List Wanted) (o : Option Answer) → Row (granted_row t k c request w a op answer wants o)
-      grants answer wants (Some refusal) = record { gone = phased w.name _ t none; given = old }
-      grants answer wants None = record { gone = phased w.name _ (after_grant w.tid w.name wants t) (granted w.tid w.name wants); given = old }
+      grants answer wants (Some refusal) = record { gone = phased w.name _ t; given = old }
+      grants answer wants None = record { gone = λ none. phased w.name _ (after_grant w.tid w.name wants t) (granted w.tid w.name wants none); given = old }
 
       repeats : (o : Option Answer) → Row (repeated t k c request o)
       repeats (Some answer) = same _ refl refl
@@ -98,7 +98,7 @@ module _ (t : WorkerTable) (k : Tickets) (rising : are_rising t ≡ true) (next 
   op-none x c request w number op (Stored p) = same _ refl refl
 
   prepared-none : (T : Tid) (c : ClientNo) (w : Work) (a : ActiveWork) (vote : Vote) → Row (prepared_row t k T c w a vote)
-  prepared-none T c w a votes.Ready = record { gone = phased w.name _ (after_grant w.tid w.name (commit_wants a.writes) t) (granted w.tid w.name (commit_wants a.writes)); given = old }
+  prepared-none T c w a votes.Ready = record { gone = λ none. phased w.name _ (after_grant w.tid w.name (commit_wants a.writes) t) (granted w.tid w.name (commit_wants a.writes) none); given = old }
   prepared-none T c w a (votes.Waiting u held) = same _ refl refl
   prepared-none T c w a (votes.Lost m n) = same _ refl refl
   prepared-none T c w a (votes.Broken u held) = same _ refl refl
@@ -163,31 +163,37 @@ pub record NotLive (r : World) (W : WorkId) : Type 0 where
   pub none : work_at W memory.worker ≡ None
   pub old : IsOld W memory.tickets
 
-module _ (files : AllFiles) (epochs : ServerNo → ℕ) (r : World) (R : Reached files epochs r) (W : WorkId) (h : NotLive r W) (room : Room) (message : Message) where
-  pub row-none : work_at W (server_row h.memory (stable (r.found W.server)) room message).table.worker ≡ None
-  row-none = by (is_for_worker message)
+module _ (files : AllFiles) (epochs : ServerNo → ℕ) (r : World) (R : Reached files epochs r) (W : WorkId) (m : Memory) (up : r.memory W.server ≡ Some m) (old : IsOld W m.tickets) (room : Room) (message : Message) where
+  fact : UpFact W.server m (r.found W.server)
+  fact = up-at files epochs r R W.server m up
+
+  worker's : Row m.worker m.tickets fact.table.rising fact.table.before W old (worker_row m.worker (storage_of m (stable (r.found W.server)) room) m.tickets message)
+  worker's = worker-none m.worker m.tickets fact.table.rising fact.table.before W old (storage_of m (stable (r.found W.server)) room) message
+
+  pub row-none : work_at W m.worker ≡ None → work_at W (server_row m (stable (r.found W.server)) room message).table.worker ≡ None
+  row-none none = by (is_for_worker message)
     where
-      fact : UpFact W.server h.memory (r.found W.server)
-      fact = up-at files epochs r R W.server h.memory h.up
+      by : (b : Bool) → work_at W (if b then of_worker m (worker_row m.worker (storage_of m (stable (r.found W.server)) room) m.tickets message) else of_coordinator m (coordinator_row m.coordinator room.free.records m.tickets message)).table.worker ≡ None
+      by true = worker's.gone none
+      by false = none
 
-      by : (b : Bool) → work_at W (if b then of_worker h.memory (worker_row h.memory.worker (storage_of h.memory (stable (r.found W.server)) room) h.memory.tickets message) else of_coordinator h.memory (coordinator_row h.memory.coordinator room.free.records h.memory.tickets message)).table.worker ≡ None
-      by true = (worker-none h.memory.worker h.memory.tickets fact.table.rising fact.table.before W h.none h.old (storage_of h.memory (stable (r.found W.server)) room) message).gone
-      by false = h.none
-
-  pub row-old : IsOld W (server_row h.memory (stable (r.found W.server)) room message).table.tickets
+  pub row-old : IsOld W (server_row m (stable (r.found W.server)) room message).table.tickets
   row-old = by (is_for_worker message)
     where
-      fact : UpFact W.server h.memory (r.found W.server)
-      fact = up-at files epochs r R W.server h.memory h.up
+      aside : ((coordinator_row m.coordinator room.free.records m.tickets message).tickets ≡ m.tickets) ⊎ ((coordinator_row m.coordinator room.free.records m.tickets message).tickets ≡ record m.tickets { next = m.tickets.next + 1 })
+          → IsOld W (coordinator_row m.coordinator room.free.records m.tickets message).tickets
+      aside (inl e) = subst (λ (z : Tickets). IsOld W z) (sym e) old
+      aside (inr e) = subst (λ (z : Tickets). IsOld W z) (sym e) (λ f. let l = old f in omega (arith, l))
 
-      aside : ((coordinator_row h.memory.coordinator room.free.records h.memory.tickets message).tickets ≡ h.memory.tickets) ⊎ ((coordinator_row h.memory.coordinator room.free.records h.memory.tickets message).tickets ≡ record h.memory.tickets { next = h.memory.tickets.next + 1 })
-          → IsOld W (coordinator_row h.memory.coordinator room.free.records h.memory.tickets message).tickets
-      aside (inl e) = subst (λ (z : Tickets). IsOld W z) (sym e) h.old
-      aside (inr e) = subst (λ (z : Tickets). IsOld W z) (sym e) (λ f. let l = h.old f in omega (arith, l))
+      by : (b : Bool) → IsOld W (if b then of_worker m (worker_row m.worker (storage_of m (stable (r.found W.server)) room) m.tickets message) else of_coordinator m (coordinator_row m.coordinator room.free.records m.tickets message)).table.tickets
+      by true = worker's.given
+      by false = aside (coordinator-aside m.coordinator room.free.records m.tickets message).tickets
 
-      by : (b : Bool) → IsOld W (if b then of_worker h.memory (worker_row h.memory.worker (storage_of h.memory (stable (r.found W.server)) room) h.memory.tickets message) else of_coordinator h.memory (coordinator_row h.memory.coordinator room.free.records h.memory.tickets message)).table.tickets
-      by true = (worker-none h.memory.worker h.memory.tickets fact.table.rising fact.table.before W h.none h.old (storage_of h.memory (stable (r.found W.server)) room) message).given
-      by false = aside (coordinator-aside h.memory.coordinator room.free.records h.memory.tickets message).tickets
+-- who is live has an old name
+module _ (files : AllFiles) (epochs : ServerNo → ℕ) (r : World) (R : Reached files epochs r) (W : WorkId) (m : Memory) (v : Work) (up : r.memory W.server ≡ Some m) (live : work_at W m.worker ≡ Some v) where
+  pub live-old : IsOld W m.tickets
+  live-old e = subst (λ (t : ℕ). W.ticket < t) (R.mirrors.ticket W.server m up)
+      (((inv files epochs r R).names.works W (λ n. false) (R.mirrors.owner W.server m W v up live).0).1 (R.mirrors.up W.server ∙ ap is_some up) (e ∙ (up-at files epochs r R W.server m up).epoch ∙ sym (ap (λ x. x.epoch) (R.mirrors.found W.server (λ n. false)))))
 
 -- a Drop ends what doesn't go
 module _ (files : AllFiles) (epochs : ServerNo → ℕ) (r : World) (R : Reached files epochs r) (T : Tid) (W : WorkId) (m : Memory) (room : Room) (up : r.memory W.server ≡ Some m) where

@@ -23,7 +23,8 @@ use Rattle.jn_protocol.specs.World.{World, Memory, opening, new_memory}
 use Rattle.jn_protocol.specs.Servers.{Room, server_step, server_timeout, storage_of, of_timeout, of_step, of_worker, of_coordinator, is_for_worker, restored}
 use Rattle.jn_protocol.specs.Steps.{Step, after, run}
 use Rattle.jn_settled.proofs.Votes.{VoteOf, EndOf, Votings, coordinator-votes, is_begin_message}
-use Rattle.jn_settled.proofs.Fates.{is_undecided, Kind, keeps, comes, goes, Move, starts, notes_one, commits_now, aborts_now, finishes, end-its, abort-stage-its, told-its, vote-its, done-its, thanks-its}
+use Rattle.jn_settled.specs.Settled.{is_undecided}
+use Rattle.jn_settled.proofs.Fates.{Kind, keeps, comes, goes, Move, starts, notes_one, commits_now, aborts_now, finishes, end-its, abort-stage-its, told-its, vote-its, done-its, thanks-its}
 use Rattle.jn_settled.proofs.Memories.{Remembers, as_before, down, by_message, by_step, by_timeout, by_closing, by_restart, step-memory}
 
 abbrev pub is_newest : (ClientNo → ℕ) → Transaction → Bool
