@@ -19,6 +19,7 @@ pub mod Standing
 pub mod Carrying
 pub mod Living
 pub mod Order
+pub mod Taking
 pub mod Ends
 pub mod Flags
 pub mod Answers

@@ -22,7 +22,7 @@ use Rattle.jn_rows.specs.Coordinator.{CoordinatorTable, is_begun, transaction_at
 use Rattle.jn_protocol.specs.World.{World, Memory, opening, new_memory}
 use Rattle.jn_protocol.specs.Servers.{Room, server_step, server_timeout, storage_of, of_timeout, of_step, of_worker, of_coordinator, is_for_worker, restored}
 use Rattle.jn_protocol.specs.Steps.{Step, after, run}
-use Rattle.jn_settled.proofs.Votes.{VoteOf, EndOf, Votings, coordinator-votes, is_begin_message}
+use Rattle.jn_settled.proofs.Votes.{VoteOf, EndOf, Votings, coordinator-votes, is_begin_message, RowVotes}
 use Rattle.jn_settled.specs.Settled.{is_undecided}
 use Rattle.jn_settled.proofs.Fates.{Kind, keeps, comes, goes, Move, starts, notes_one, commits_now, aborts_now, finishes, end-its, abort-stage-its, told-its, vote-its, done-its, thanks-its}
 use Rattle.jn_settled.proofs.Memories.{Remembers, as_before, down, by_message, by_step, by_timeout, by_closing, by_restart, step-memory}
@@ -112,6 +112,24 @@ was-undecided y sent told s (commits_now d x a b c) u = x
 was-undecided y sent told s (aborts_now cause x a) u = x
 was-undecided y sent told s (finishes d now e a b c) u = absurd (true≢false (sym u))
 
+-- what holds of a row that begins nothing, whatever was asked
+pub plain-row : (t : CoordinatorTable) (free : ℕ) (k : Tickets) (m : Message) → is_begin_message m ≡ false → RowVotes (λ c q. Unit {0}) t (coordinator_row t free k m)
+plain-row t free k m b = coordinator-votes (λ c q. Unit {0}) t free k m (trivial t.transactions) (any-end m) b
+  where
+    vote : (c : ClientNo) (s : Stage) → VoteOf (λ c q. Unit {0}) c s
+    vote c Open = tt
+    vote c (Voting b) = tt
+    vote c (Committed d) = tt
+    vote c (Aborted cause) = tt
+
+    trivial : (xs : List Transaction) → Votings (λ c q. Unit {0}) xs
+    trivial [] = tt
+    trivial (x ∷ xs) = (vote x.client x.stage, trivial xs)
+
+    any-end : (m : Message) → EndOf (λ c q. Unit {0}) t m
+    any-end (messages.End c q T Ws) = λ y e. tt
+    any-end m = tt
+
 module _ (t : CoordinatorTable) (free : ℕ) (k : Tickets) (h : IsNewest t) where
   by-kind : (U : Tid) (y : Transaction) (row : RowOutcome CoordinatorTable) → transaction_at U t.transactions ≡ Some y → Kind U y t row → all_newest t.seen row.table.transactions ≡ true
   by-kind U y row found (keeps e) = ap (all_newest t.seen) e ∙ h
@@ -143,21 +161,7 @@ module _ (t : CoordinatorTable) (free : ℕ) (k : Tickets) (h : IsNewest t) wher
   choose false p q a b = b
 
   same-seen : (m : Message) → is_begin_message m ≡ false → (coordinator_row t free k m).table.seen ≡ t.seen
-  same-seen m b = (coordinator-votes (λ c q. Unit {0}) t free k m (trivial t.transactions) (any-end m) b).seen
-    where
-      vote : (c : ClientNo) (s : Stage) → VoteOf (λ c q. Unit {0}) c s
-      vote c Open = tt
-      vote c (Voting b) = tt
-      vote c (Committed d) = tt
-      vote c (Aborted cause) = tt
-
-      trivial : (xs : List Transaction) → Votings (λ c q. Unit {0}) xs
-      trivial [] = tt
-      trivial (x ∷ xs) = (vote x.client x.stage, trivial xs)
-
-      any-end : (m : Message) → EndOf (λ c q. Unit {0}) t m
-      any-end (messages.End c q T Ws) = λ y e. tt
-      any-end m = tt
+  same-seen m b = (plain-row t free k m b).seen
 
   begins : (c : ClientNo) (q : ℕ) → IsNewest (begin_row t k c q).table
   begins c q = choose (nat_lt (t.seen c) q) _ _
