@@ -25,4 +25,5 @@ pub mod Flags
 pub mod Answers
 pub mod Settling
 pub mod EndsWait
+pub mod Deciding
 pub mod Forgotten

@@ -1,0 +1,265 @@
+-- What becomes in a settle of a work that asks for its outcome: it goes, or its transaction stays undecided or is told.
+use Rattle.std.proofs.Common.{length, length-append, append_assoc, ◌≡◌, ◌≢◌, ◌⊎◌, inl, inr, ◌≤◌, ◌<◌, ℕ, ◌+◌, Bool, true, false, List, [], ◌∷◌, ◌++◌, Option, Some, None, is_some, true≢false, refl, sym, ◌∙◌, ap, subst, arith}
+use Rattle.std.specs.Prelude.{◌&&◌, ◌||◌, not, if◌then◌else◌, slice_get, nat_eq, nat_lt, drop}
+use Rattle.std.specs.List.{list_any}
+use Rattle.std.proofs.lemmas.Bool.Decides.{nat_tests}
+use Rattle.jn_base.specs.declared.names.ServerNo.{ServerNo}
+use Rattle.jn_base.specs.declared.names.ClientNo.{ClientNo}
+use Rattle.jn_base.specs.declared.names.Tid.{Tid}
+use Rattle.jn_base.specs.declared.names.WorkId.{WorkId}
+use Rattle.jn_base.specs.declared.names.Cause.{Cause}
+use Rattle.jn_base.specs.declared.names.Tickets.{Tickets}
+use Rattle.jn_base.specs.declared.names.Party.TheVariants.{Client, Server}
+use Rattle.jn_base.specs.Names.{client_eq, server_eq, tid_eq, work_eq}
+use Rattle.jn_base.proofs.Tells.{client_tells, server_tells, tid_tells, work_tells}
+use Rattle.jn_order.specs.Files.{AllFiles}
+use Rattle.jn_records.specs.declared.intention.Intention.{Intention}
+use Rattle.jn_msgs.specs.declared.message.Message.{Message}
+use Rattle.jn_msgs.specs.declared.message.Message.TheVariants as messages
+use Rattle.jn_msgs.specs.declared.message.Note.{Note}
+use Rattle.jn_msgs.specs.declared.message.Note.TheVariants as notes
+use Rattle.jn_msgs.specs.declared.message.Outcome.{Outcome}
+use Rattle.jn_msgs.specs.declared.message.Outcome.TheVariants as outcomes
+use Rattle.jn_report.specs.declared.line.Text.{Text}
+use Rattle.jn_report.specs.declared.line.Text.TheVariants as says
+use Rattle.jn_rows.specs.declared.client.Taken.{Taken}
+use Rattle.jn_rows.specs.declared.client.Taken.TheVariants as taken
+use Rattle.jn_rows.specs.declared.worker.Work.{Work}
+use Rattle.jn_rows.specs.declared.coordinator.Transaction.{Transaction}
+use Rattle.jn_rows.specs.declared.coordinator.Stage.{Stage}
+use Rattle.jn_rows.specs.declared.coordinator.Stage.TheVariants.{Open, Voting, Committed, Aborted}
+use Rattle.jn_rows.specs.Stable.{StableState, stable, is_going, made_all}
+use Rattle.jn_rows.specs.Outcomes.{RowOutcome, Sent}
+use Rattle.jn_rows.specs.Worker.{WorkerTable, work_at, worker_row, carried_row, intentions_of, going_work}
+use Rattle.jn_rows.specs.Coordinator.{CoordinatorTable, transaction_at, is_work, coordinator_row, inquire_row, told_stage, commits, dropped}
+use Rattle.jn_rows.specs.Client.{ClientTable, take_row}
+use Rattle.jn_machine.specs.World.{World as Machine}
+use Rattle.jn_machine.specs.Messages.{Says, IsWorkOf}
+use Rattle.jn_machine.specs.Transactions.{Knows}
+use Rattle.jn_machine.proofs.Updates.{not_both}
+use Rattle.jn_protocol.specs.World.{World, Memory, opening, has_line, commits_in, at_client}
+use Rattle.jn_protocol.specs.Servers.{Room, storage_of, server_row, of_worker, of_coordinator, is_for_worker, line_of, lines_of}
+use Rattle.jn_protocol.specs.Steps.{took, taken_by, done}
+use Rattle.jn_moves.specs.Mirrors.{IsTrue, knowledge_in}
+use Rattle.jn_moves.proofs.Mirrored.{commits-more}
+use Rattle.jn_settling.specs.Course.{Course, numbered}
+use Rattle.jn_settling.proofs.Burdens.{are_below}
+use Rattle.jn_settling.proofs.ClientFits.{sent_with}
+use Rattle.jn_settling.proofs.CoordinatorFits.{found-name as tid-name}
+use Rattle.jn_reported.proofs.Lists.{In, in-first, get-in}
+use Rattle.jn_reported.proofs.Reached.{Reached, named-is, in-all}
+use Rattle.jn_settled.specs.Settled.{is_undecided, is_held, holds_undecided, tells_outcome}
+use Rattle.jn_settled.proofs.Ways.{Has, Waits, any-left, took-memory, took-clients}
+use Rattle.jn_settled.proofs.Votes.{is_begin_message}
+use Rattle.jn_settled.proofs.Answered.{its-client}
+use Rattle.jn_settled.proofs.Begins.{Good}
+use Rattle.jn_settled.proofs.Fates.{Move, starts, notes_one, commits_now, aborts_now, finishes, Fate, stays, moves, forgets, closes, row-fate, row-kept}
+use Rattle.jn_settled.proofs.Calm.{Comes, carried}
+use Rattle.jn_settled.proofs.Standing.{machine, is-known, not-next, inv, up-at}
+use Rattle.jn_settled.proofs.Broken.{BrokenTold}
+use Rattle.jn_settled.proofs.Carrying.{goes_in, message-on, Led, over_now, goes_now, commit-leads}
+use Rattle.jn_settled.proofs.About.{is_about}
+use Rattle.jn_settled.proofs.Living.{NotLive, IsOld, row-none, row-old, drop-leads, Row, carried-none}
+use Rattle.jn_settled.proofs.Order.{NoBegin, NoneBegins, Before, IsOff, first-before, before-more, off-on, off-has}
+use Rattle.jn_settled.proofs.Taking.{is_thanks, are_thanks, take-thanks, thanks-has, thanks-off, thanks-begins, row-begins, row-off, IsIn, TookIn, same_table, told_abort, told_commit, take-in}
+use Rattle.jn_settled.proofs.Flags.{took-sent, took-found}
+use Rattle.jn_settled.proofs.Ends.{IsIt, same-client, same-server, other-party, Longer, took-longer, any-drop-more, any-drop-new}
+
+-- ---- lines
+
+pub line-more : (T : Tid) (a b : List Text) → has_line T a ≡ true → has_line T (a ++ b) ≡ true
+line-more T a b h = ap (list_any (λ U. tid_eq U T)) (commits-more a b) ∙ any-left (λ U. tid_eq U T) (commits_in a) (commits_in b) h
+
+note-told : (s : ServerNo) (k : Option ℕ) (T : Tid) (told : List Note) → In (notes.Commit T) told → list_any (tells_outcome T) (lines_of s k told) ≡ true
+note-told s k T [] i = absurd i
+note-told s k T (note ∷ told) (inl e) = subst (λ (z : Note). list_any (tells_outcome T) (line_of s k z ++ lines_of s k told) ≡ true) (sym e) (grind (arith, tid_tells T T))
+note-told s k T (note ∷ told) (inr i) = right (line_of s k note) (note-told s k T told i)
+  where
+    right : (a : List Text) → list_any (tells_outcome T) (lines_of s k told) ≡ true → list_any (tells_outcome T) (a ++ lines_of s k told) ≡ true
+    right [] h = h
+    right (x ∷ a) h = let again = right a h in grind arith
+
+module _ (n : ℕ) (at_most : n ≤ 8) (files : AllFiles) (epochs : ServerNo → ℕ) (reached : (d : Course) → Good n at_most (opening n files epochs) files epochs d → Reached files epochs d.world)
+    (broken : (d : Course) → Good n at_most (opening n files epochs) files epochs d → BrokenTold d.world) (W : WorkId) where
+  abbrev IsGood : Course → Type 0
+  IsGood d = Good n at_most (opening n files epochs) files epochs d
+
+  -- ---- whether it is live
+
+  abbrev pub HasOld : Course → Type 0
+  HasOld d = (m : Memory) → d.world.memory W.server ≡ Some m → IsOld W m.tickets
+
+  same-memory : (a b : Memory) → Some a ≡ Some b → a ≡ b
+  same-memory a b e = cc
+
+  itself : (p q : ServerNo) → p ≡ q → server_eq p q ≡ true
+  itself p q e = grind (arith, nat_tests, e)
+
+  module _ (d now : Course) (same : now.world.memory ≡ d.world.memory) where
+    pub still-old : HasOld d → HasOld now
+    still-old h m up = h m (ap (λ f. f W.server) (sym same) ∙ up)
+
+    pub still-gone : NotLive d.world W → NotLive now.world W
+    still-gone h = record { memory = h.memory; up = ap (λ f. f W.server) same ∙ h.up; none = h.none; old = h.old }
+
+  -- a server does something by which an old name stays old
+  module _ (d now : Course) (s : ServerNo) (m after : Memory) (up : d.world.memory s ≡ Some m) (is : now.world.memory W.server ≡ (if server_eq s W.server then Some after else d.world.memory W.server)) where
+    at-it : s ≡ W.server → now.world.memory W.server ≡ Some after
+    at-it e = is ∙ ap (λ (b : Bool). if b then Some after else d.world.memory W.server) (itself s W.server e)
+
+    elsewhere : server_eq s W.server ≡ false → now.world.memory W.server ≡ d.world.memory W.server
+    elsewhere e = is ∙ ap (λ (b : Bool). if b then Some after else d.world.memory W.server) e
+
+    pub moved-old : (s ≡ W.server → IsOld W m.tickets → IsOld W after.tickets) → HasOld d → HasOld now
+    moved-old on h k up' = by (server_tells s W.server)
+      where
+        by : ((server_eq s W.server ≡ true) × (s ≡ W.server)) ⊎ ((server_eq s W.server ≡ false) × (s ≢ W.server)) → IsOld W k.tickets
+        by (inl p) = subst (λ (z : Memory). IsOld W z.tickets) (same-memory after k (sym (at-it p.1) ∙ up')) (on p.1 (h m (ap d.world.memory (sym p.1) ∙ up)))
+        by (inr p) = h k (sym (elsewhere p.0) ∙ up')
+
+    pub moved-gone : (s ≡ W.server → IsOld W m.tickets → IsOld W after.tickets) → (s ≡ W.server → IsOld W m.tickets → work_at W m.worker ≡ None → work_at W after.worker ≡ None) → NotLive d.world W → NotLive now.world W
+    moved-gone on none h = by (server_tells s W.server)
+      where
+        here : s ≡ W.server → h.memory ≡ m
+        here e = same-memory h.memory m (sym h.up ∙ ap d.world.memory (sym e) ∙ up)
+
+        by : ((server_eq s W.server ≡ true) × (s ≡ W.server)) ⊎ ((server_eq s W.server ≡ false) × (s ≢ W.server)) → NotLive now.world W
+        by (inl p) = let old = subst (λ (z : Memory). IsOld W z.tickets) (here p.1) h.old in record { memory = after; up = at-it p.1; none = none p.1 old (subst (λ (z : Memory). work_at W z.worker ≡ None) (here p.1) h.none); old = on p.1 old }
+        by (inr p) = record { memory = h.memory; up = elsewhere p.0 ∙ h.up; none = h.none; old = h.old }
+
+  took-same : (d now : Course) (k : ℕ) (e : ClientNo) (message : Message) → Comes d now (Some (Client e, message)) (taken_by e k (take_row (d.world.clients e) message) d.world) → now.world.memory ≡ d.world.memory
+  took-same d now k e message comes = ap (λ (z : World). z.memory) comes.world ∙ took-memory e k (take_row (d.world.clients e) message).0 (take_row (d.world.clients e) message).1 d.world
+
+  module _ (d now : Course) (k : ℕ) (room : Room) (s : ServerNo) (message : Message) (m : Memory) (g : IsGood d) (up : d.world.memory s ≡ Some m)
+      (comes : Comes d now (Some (Server s, message)) (done s (Some k) (server_row m (stable (d.world.found s)) room message) d.world)) where
+    row-memory : (q : ServerNo) → now.world.memory q ≡ (if server_eq s q then Some (server_row m (stable (d.world.found s)) room message).table else d.world.memory q)
+    row-memory q = ap (λ (z : World). z.memory q) comes.world
+
+    old-row : s ≡ W.server → IsOld W m.tickets → IsOld W (server_row m (stable (d.world.found s)) room message).table.tickets
+    old-row e old = subst (λ (z : ServerNo). IsOld W (server_row m (stable (d.world.found z)) room message).table.tickets) (sym e) (row-old files epochs d.world (reached d g) W m (sym (ap d.world.memory e) ∙ up) old room message)
+
+    none-row : s ≡ W.server → IsOld W m.tickets → work_at W m.worker ≡ None → work_at W (server_row m (stable (d.world.found s)) room message).table.worker ≡ None
+    none-row e old none = subst (λ (z : ServerNo). work_at W (server_row m (stable (d.world.found z)) room message).table.worker ≡ None) (sym e) (row-none files epochs d.world (reached d g) W m (sym (ap d.world.memory e) ∙ up) old room message none)
+
+    pub server-old : HasOld d → HasOld now
+    server-old = moved-old d now s m (server_row m (stable (d.world.found s)) room message).table up (row-memory W.server) old-row
+
+    pub server-gone : NotLive d.world W → NotLive now.world W
+    server-gone = moved-gone d now s m (server_row m (stable (d.world.found s)) room message).table up (row-memory W.server) old-row none-row
+
+  module _ (d now : Course) (s : ServerNo) (m : Memory) (v : Work) (g : IsGood d) (up : d.world.memory s ≡ Some m) (comes : Comes d now None (done s None (carried m d.world s v) d.world)) where
+    work-memory : (q : ServerNo) → now.world.memory q ≡ (if server_eq s q then Some (carried m d.world s v).table else d.world.memory q)
+    work-memory q = ap (λ (z : World). z.memory q) comes.world
+
+    the-row : (e : s ≡ W.server) (old : IsOld W m.tickets) → Row m.worker m.tickets (up-at files epochs d.world (reached d g) s m up).table.rising (up-at files epochs d.world (reached d g) s m up).table.before W old
+        (carried_row m.worker m.tickets v (slice_get (intentions_of ((stable (d.world.found s)).works v.name)) (m.next v.name)))
+    the-row e old = carried-none m.worker m.tickets (up-at files epochs d.world (reached d g) s m up).table.rising (up-at files epochs d.world (reached d g) s m up).table.before W old v _
+
+    pub work-old : HasOld d → HasOld now
+    work-old = moved-old d now s m (carried m d.world s v).table up (work-memory W.server) (λ e old. (the-row e old).given)
+
+    pub work-gone : NotLive d.world W → NotLive now.world W
+    work-gone = moved-gone d now s m (carried m d.world s v).table up (work-memory W.server) (λ e old. (the-row e old).given) (λ e old none. (the-row e old).gone none)
+
+  -- ---- its way
+
+  module _ (T : Tid) (before : ℕ) where
+    abbrev pub asking : Sent
+    asking = (Server T.server, messages.Inquire T W)
+
+    abbrev pub IsTold : World → Type 0
+    IsTold w = list_any (tells_outcome T) (drop before w.lines) ≡ true
+
+    pub data Way (d : Course) : Type 0 where
+      asks : Before d.world.sent d.waiting asking → Way d
+      drops_it : Waits d.world.sent d.waiting (Server W.server, messages.Drop T W) → Way d
+      commits_it : Waits d.world.sent d.waiting (Server W.server, messages.Commit T W) → Way d
+      goes_on : goes_in (stable (d.world.found W.server)) W ≡ true → Way d
+      over : NotLive d.world W → Way d
+      -- the transaction is undecided, and no Begin waits that might end it
+      held : holds_undecided (d.world.memory T.server) T ≡ true → NoBegin d.world.sent d.waiting → Way d
+      tells : (c : ClientNo) (cause : Cause) → IsIn T (d.world.clients c) → Waits d.world.sent d.waiting (Client c, messages.Outcome c T (outcomes.Aborted cause)) → Way d
+
+    -- who may still have it decided
+    pub data Voice (d : Course) : Type 0 where
+      nobody : IsOff T d → Voice d
+      its_client : (c : ClientNo) → IsIn T (d.world.clients c) → Voice d
+      named : has_line T d.world.lines ≡ true → Voice d
+
+    pub record OnWay (d : Course) : Type 0 where
+      pub long : before ≤ length d.world.lines
+      pub asked : In asking d.world.sent
+      pub state : IsTold d.world ⊎ (Way d × Voice d)
+
+    both : (d : Course) → IsTold d.world ⊎ Way d → IsTold d.world ⊎ Voice d → IsTold d.world ⊎ (Way d × Voice d)
+    both d (inl h) v = inl h
+    both d (inr w) (inl h) = inl h
+    both d (inr w) (inr v) = inr (w, v)
+
+    -- ---- what is known
+
+    module _ (d : Course) (g : IsGood d) where
+      abbrev R : Reached files epochs d.world
+      R = reached d g
+
+      named-line : (machine files epochs d.world (reached d g)).named T ≡ has_line T d.world.lines
+      named-line = named-is files epochs d.world (reached d g) T
+
+      says-true : (x : Sent) → In x d.world.sent → Says (machine files epochs d.world (reached d g)) x.1
+      says-true x i = in-all (IsTrue (machine files epochs d.world (reached d g))) d.world.sent x (let R = reached d g in R.mirrors.says) i
+
+      pub its-work : In asking d.world.sent → IsWorkOf (machine files epochs d.world (reached d g)) T W
+      its-work i = says-true asking i
+
+      its-old : In asking d.world.sent → HasOld d
+      its-old i m up e = let R = reached d g in subst (λ (t : ℕ). W.ticket < t) (R.mirrors.ticket W.server m up)
+          (((inv files epochs d.world R).names.works W (λ n. false) (its-work i).0).1 (R.mirrors.up W.server ∙ ap is_some up) (e ∙ (up-at files epochs d.world R W.server m up).epoch ∙ sym (ap (λ x. x.epoch) (R.mirrors.found W.server (λ n. false)))))
+
+      undecided-new : (m : Memory) (x : Transaction) → d.world.memory T.server ≡ Some m → transaction_at T m.coordinator.transactions ≡ Some x → is_undecided x.stage ≡ true → has_line T d.world.lines ≡ true → ⊥
+      undecided-new m x up found u h = by x.stage u (is-known files epochs d.world (reached d g) T m x up found)
+        where
+          is-named : (machine files epochs d.world (reached d g)).named T ≡ true
+          is-named = named-line ∙ h
+
+          by : (s : Stage) → is_undecided s ≡ true → Knows (machine files epochs d.world (reached d g)) T (knowledge_in s) → ⊥
+          by Open u k = not_both _ is-named k.0
+          by (Voting b) u k = not_both _ is-named k.0
+          by s u k = true≢false (sym u)
+
+      -- not both outcomes
+      not-both-told : (c e : ClientNo) (cause : Cause) → In (Client c, messages.Outcome c T (outcomes.Aborted cause)) d.world.sent → In (Client e, messages.Outcome e T outcomes.Committed) d.world.sent → ⊥
+      not-both-told c e cause a b = not_both _ (says-true _ b) (((inv files epochs d.world (reached d g)).core.aborted T (says-true _ a)).not_named)
+
+    told-on : (w now : World) → Longer w now → IsTold w → IsTold now
+    told-on w now l h = subst (λ z. list_any (tells_outcome T) (drop before z) ≡ true) (sym l.is) (any-drop-more (tells_outcome T) before w.lines l.more h)
+
+    told-new : (w now : World) (l : Longer w now) → before ≤ length w.lines → list_any (tells_outcome T) l.more ≡ true → IsTold now
+    told-new w now l long h = subst (λ z. list_any (tells_outcome T) (drop before z) ≡ true) (sym l.is) (any-drop-new (tells_outcome T) before w.lines l.more long h)
+
+    line-on : (w now : World) → Longer w now → has_line T w.lines ≡ true → has_line T now.lines ≡ true
+    line-on w now l h = ap (has_line T) l.is ∙ line-more T w.lines l.more h
+
+    long-on : (w now : World) → Longer w now → before ≤ length w.lines → before ≤ length now.lines
+    long-on w now l h = let e = ap length l.is ∙ length-append w.lines l.more in omega (arith, e, h)
+
+    asked-on : (d now : Course) (taken : Option Sent) (w : World) (more : List Sent) → Comes d now taken w → w.sent ≡ d.world.sent ++ more → In asking d.world.sent → In asking now.world.sent
+    asked-on d now taken w more comes e i = subst (λ l. In asking l) (sym (ap (λ (z : World). z.sent) comes.world ∙ e)) (in-first asking d.world.sent more i)
+
+    begins-on : (d now : Course) (taken : Option Sent) (w : World) (more : List Sent) → Comes d now taken w → w.sent ≡ d.world.sent ++ more → NoneBegins more → NoBegin d.world.sent d.waiting → NoBegin now.world.sent now.waiting
+    begins-on d now taken w more comes e new h y q = by (comes.back more e y q)
+      where
+        by : Waits d.world.sent d.waiting y ⊎ Has y more → is_begin_message y.1 ≡ false
+        by (inl k) = h y k
+        by (inr k) = new y k
+
+    -- it is handed over, or asks on
+    before-on : (d now : Course) (k : ℕ) (taken : Option Sent) (w : World) (more : List Sent) → IsGood d → (comes : Comes d now taken w) → d.waiting ≡ k ∷ comes.still → w.sent ≡ d.world.sent ++ more → NoneBegins more → Before d.world.sent d.waiting asking
+        → ((slice_get d.world.sent k ≡ Some asking) × NoBegin d.world.sent d.waiting) ⊎ Before now.world.sent now.waiting asking
+    before-on d now k taken w more g comes first e new b = by (first-before d.world.sent k comes.still asking refl (subst (λ l. Before d.world.sent l asking) first b))
+      where
+        below : are_below (length d.world.sent) comes.still ≡ true
+        below = let all = subst (λ l. are_below (length d.world.sent) l ≡ true) first g.talking.sound.below in grind (arith, all)
+
+        by : ((slice_get d.world.sent k ≡ Some asking) × NoBegin d.world.sent (k ∷ comes.still)) ⊎ Before d.world.sent comes.still asking → ((slice_get d.world.sent k ≡ Some asking) × NoBegin d.world.sent d.waiting) ⊎ Before now.world.sent now.waiting asking
+        by (inl p) = inl (p.0, subst (λ l. NoBegin d.world.sent l) (sym first) p.1)
+        by (inr q) = inr (subst (λ l. Before l now.waiting asking) (sym (ap (λ (z : World). z.sent) comes.world ∙ e)) (subst (λ l. Before (d.world.sent ++ more) l asking) (sym (comes.numbers more e)) (before-more d.world.sent more comes.still asking below q new)))
