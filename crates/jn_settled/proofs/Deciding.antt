@@ -61,7 +61,7 @@ use Rattle.jn_settled.proofs.Carrying.{goes_in, message-on, Led, over_now, goes_
 use Rattle.jn_settled.proofs.About.{is_about}
 use Rattle.jn_settled.proofs.Living.{NotLive, IsOld, row-none, row-old, drop-leads, Row, carried-none}
 use Rattle.jn_settled.proofs.Order.{NoBegin, NoneBegins, Before, IsOff, first-before, before-more, off-on, off-has}
-use Rattle.jn_settled.proofs.Taking.{is_thanks, are_thanks, take-thanks, thanks-has, thanks-off, thanks-begins, row-begins, row-off, IsIn, TookIn, same_table, told_abort, told_commit, take-in}
+use Rattle.jn_settled.proofs.Taking.{is_thanks, are_thanks, take-thanks, thanks-has, thanks-off, thanks-begins, row-begins, row-off, IsIn, TookIn, same_table, told_abort, told_commit, take-in, take-aborts}
 use Rattle.jn_settled.proofs.Flags.{took-sent, took-found}
 use Rattle.jn_settled.proofs.Ends.{IsIt, same-client, same-server, other-party, Longer, took-longer, any-drop-more, any-drop-new}
 
@@ -263,3 +263,108 @@ module _ (n : ℕ) (at_most : n ≤ 8) (files : AllFiles) (epochs : ServerNo →
         by : ((slice_get d.world.sent k ≡ Some asking) × NoBegin d.world.sent (k ∷ comes.still)) ⊎ Before d.world.sent comes.still asking → ((slice_get d.world.sent k ≡ Some asking) × NoBegin d.world.sent d.waiting) ⊎ Before now.world.sent now.waiting asking
         by (inl p) = inl (p.0, subst (λ l. NoBegin d.world.sent l) (sym first) p.1)
         by (inr q) = inr (subst (λ l. Before l now.waiting asking) (sym (ap (λ (z : World). z.sent) comes.world ∙ e)) (subst (λ l. Before (d.world.sent ++ more) l asking) (sym (comes.numbers more e)) (before-more d.world.sent more comes.still asking below q new)))
+
+    -- ---- a client takes a message
+
+    module _ (d now : Course) (k : ℕ) (e : ClientNo) (message : Message) (g : IsGood d) (is : slice_get d.world.sent k ≡ Some (Client e, message))
+        (comes : Comes d now (Some (Client e, message)) (taken_by e k (take_row (d.world.clients e) message) d.world)) (first : d.waiting ≡ k ∷ comes.still) where
+      abbrev more : List Sent
+      more = sent_with (take_row (d.world.clients e) message).1
+
+      sent-more : (taken_by e k (take_row (d.world.clients e) message) d.world).sent ≡ d.world.sent ++ more
+      sent-more = took-sent e k (take_row (d.world.clients e) message).0 (take_row (d.world.clients e) message).1 d.world
+
+      is-thanks : (y : Sent) → Has y more → is_thanks y.1 ≡ true
+      is-thanks y h = thanks-has more y (take-thanks (d.world.clients e) message) h
+
+      same : now.world.memory ≡ d.world.memory
+      same = took-same d now k e message comes
+
+      same-found : now.world.found ≡ d.world.found
+      same-found = ap (λ (z : World). z.found) comes.world ∙ took-found e k (take_row (d.world.clients e) message).0 (take_row (d.world.clients e) message).1 d.world
+
+      longer : Longer d.world now.world
+      longer = subst (λ (z : World). Longer d.world z) (sym comes.world) (took-longer e k (take_row (d.world.clients e) message).0 (take_row (d.world.clients e) message).1 d.world)
+
+      server-waits : (s : ServerNo) (r : Message) → Waits d.world.sent d.waiting (Server s, r) → Waits now.world.sent now.waiting (Server s, r)
+      server-waits s r w = by (comes.waits (Server s, r) w)
+        where
+          by : IsIt (Client e, message) (Server s, r) ⊎ Waits now.world.sent now.waiting (Server s, r) → Waits now.world.sent now.waiting (Server s, r)
+          by (inl q) = absurd (other-party e s message r q)
+          by (inr w) = w
+
+      clients-are : now.world.clients ≡ at_client d.world.clients e (take_row (d.world.clients e) message).0
+      clients-are = ap (λ (z : World). z.clients) comes.world ∙ took-clients e k (take_row (d.world.clients e) message).0 (take_row (d.world.clients e) message).1 d.world
+
+      -- the line that it tells
+      told-line : (long : before ≤ length d.world.lines) (line : Text) (answer : Option Sent) → (take_row (d.world.clients e) message).1 ≡ taken.Told line answer → tells_outcome T line ≡ true → IsTold now.world
+      told-line long line answer q h = subst (λ l. list_any (tells_outcome T) (drop before l) ≡ true) (sym (ap (λ (z : World). z.lines) comes.world ∙ ap (λ (z : Taken). (took e k (take_row (d.world.clients e) message).0 z d.world).lines) q))
+          (any-drop-new (tells_outcome T) before d.world.lines (line ∷ []) long (grind (arith, h)))
+
+      -- a client in the transaction stays in it, or it is told, or has committed
+      in-on : before ≤ length d.world.lines → (c : ClientNo) → IsIn T (d.world.clients c) → IsTold now.world ⊎ (IsIn T (now.world.clients c) ⊎ ((c ≡ e) × (message ≡ messages.Outcome e T outcomes.Committed)))
+      in-on long c i = by (client_tells e c)
+        where
+          stays-so : now.world.clients c ≡ d.world.clients c → IsIn T (now.world.clients c)
+          stays-so q = subst (λ (z : ClientTable). IsIn T z) (sym q) i
+
+          mine : (p : e ≡ c) → TookIn T (d.world.clients e) message → IsTold now.world ⊎ (IsIn T (now.world.clients c) ⊎ ((c ≡ e) × (message ≡ messages.Outcome e T outcomes.Committed)))
+          mine p (same_table q) = inr (inl (stays-so (ap (λ f. f c) clients-are ∙ ap (λ (b : Bool). if b then (take_row (d.world.clients e) message).0 else d.world.clients c) own ∙ q ∙ ap d.world.clients p)))
+            where
+              own : client_eq e c ≡ true
+              own = grind (arith, nat_tests, p)
+          mine p (told_abort line answer q h) = inl (told-line long line answer q h)
+          mine p (told_commit q) = inr (inr (sym p, q ∙ ap (λ (z : ClientNo). messages.Outcome z T outcomes.Committed) (g.talking.talks e).name))
+
+          by : ((client_eq e c ≡ true) × (e ≡ c)) ⊎ ((client_eq e c ≡ false) × (e ≢ c)) → IsTold now.world ⊎ (IsIn T (now.world.clients c) ⊎ ((c ≡ e) × (message ≡ messages.Outcome e T outcomes.Committed)))
+          by (inl p) = mine p.1 (take-in T (d.world.clients e) (subst (λ (z : ClientNo). IsIn T (d.world.clients z)) (sym p.1) i) message)
+          by (inr p) = inr (inl (stays-so (ap (λ f. f c) clients-are ∙ ap (λ (b : Bool). if b then (take_row (d.world.clients e) message).0 else d.world.clients c) p.0)))
+
+      committed-said : message ≡ messages.Outcome e T outcomes.Committed → In (Client e, messages.Outcome e T outcomes.Committed) d.world.sent
+      committed-said q = subst (λ (z : Message). In (Client e, z) d.world.sent) q (get-in d.world.sent k (Client e, message) is)
+
+      client-voice : before ≤ length d.world.lines → Voice d → IsTold now.world ⊎ Voice now
+      client-voice long (nobody off) = inr (nobody (off-on T d now (Some (Client e, message)) _ more comes sent-more (λ y h. thanks-off T y.1 (is-thanks y h)) off))
+      client-voice long (named h) = inr (named (line-on d.world now.world longer h))
+      client-voice long (its_client c i) = by (in-on long c i)
+        where
+          by : IsTold now.world ⊎ (IsIn T (now.world.clients c) ⊎ ((c ≡ e) × (message ≡ messages.Outcome e T outcomes.Committed))) → IsTold now.world ⊎ Voice now
+          by (inl h) = inl h
+          by (inr (inl j)) = inr (its_client c j)
+          by (inr (inr q)) = inr (named (line-on d.world now.world longer (sym (named-line d g) ∙ says-true d g _ (committed-said q.1))))
+
+      client-moves : before ≤ length d.world.lines → Way d → IsTold now.world ⊎ Way now
+      client-moves long (asks b) = by (before-on d now k (Some (Client e, message)) _ more g comes first sent-more (λ y h. thanks-begins y.1 (is-thanks y h)) b)
+        where
+          by : ((slice_get d.world.sent k ≡ Some asking) × NoBegin d.world.sent d.waiting) ⊎ Before now.world.sent now.waiting asking → IsTold now.world ⊎ Way now
+          by (inl p) = absurd (other-party e T.server message (messages.Inquire T W) (sym is ∙ p.0))
+          by (inr b) = inr (asks b)
+      client-moves long (drops_it w) = inr (drops_it (server-waits W.server (messages.Drop T W) w))
+      client-moves long (commits_it w) = inr (commits_it (server-waits W.server (messages.Commit T W) w))
+      client-moves long (goes_on h) = inr (goes_on (ap (λ f. goes_in (stable (f W.server)) W) same-found ∙ h))
+      client-moves long (over h) = inr (over (still-gone d now same h))
+      client-moves long (held h none) = inr (held (ap (λ f. holds_undecided (f T.server) T) same ∙ h) (begins-on d now (Some (Client e, message)) _ more comes sent-more (λ y h. thanks-begins y.1 (is-thanks y h)) none))
+      client-moves long (tells c cause i w) = by (comes.waits (Client c, messages.Outcome c T (outcomes.Aborted cause)) w) (in-on long c i)
+        where
+          said : In (Client c, messages.Outcome c T (outcomes.Aborted cause)) d.world.sent
+          said = get-in d.world.sent w.number _ w.is
+
+          by : IsIt (Client e, message) (Client c, messages.Outcome c T (outcomes.Aborted cause)) ⊎ Waits now.world.sent now.waiting (Client c, messages.Outcome c T (outcomes.Aborted cause))
+              → IsTold now.world ⊎ (IsIn T (now.world.clients c) ⊎ ((c ≡ e) × (message ≡ messages.Outcome e T outcomes.Committed))) → IsTold now.world ⊎ Way now
+          by z (inl h) = inl h
+          by z (inr (inr q)) = absurd (not-both-told d g c e cause said (committed-said q.1))
+          by (inr w) (inr (inl j)) = inr (tells c cause j w)
+          by (inl z) (inr (inl j)) = mine (same-client e c message _ z)
+            where
+              mine : (e ≡ c) × (message ≡ messages.Outcome c T (outcomes.Aborted cause)) → IsTold now.world ⊎ Way now
+              mine p = inl (on (take-aborts T (d.world.clients c) i c cause (g.talking.talks c).name))
+                where
+                  on : (line : Text) × (answer : Option Sent) × ((take_row (d.world.clients c) (messages.Outcome c T (outcomes.Aborted cause))).1 ≡ taken.Told line answer) × (tells_outcome T line ≡ true) → IsTold now.world
+                  on a = told-line long a.0 a.1 (ap (λ (z : ClientNo). (take_row (d.world.clients z) message).1) p.0 ∙ ap (λ (z : Message). (take_row (d.world.clients c) z).1) p.1 ∙ a.2) a.3
+
+      pub client-decides : OnWay d → OnWay now
+      client-decides h = record { long = long-on d.world now.world longer h.long; asked = asked-on d now (Some (Client e, message)) _ more comes sent-more h.asked; state = by h.state }
+        where
+          by : IsTold d.world ⊎ (Way d × Voice d) → IsTold now.world ⊎ (Way now × Voice now)
+          by (inl q) = inl (told-on d.world now.world longer q)
+          by (inr p) = both now (client-moves h.long p.0) (client-voice h.long p.1)

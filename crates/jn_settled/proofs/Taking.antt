@@ -1,4 +1,5 @@
 -- A client that waits for the outcome of its transaction is told of it, or goes on waiting.
+use Rattle.std.proofs.lemmas.Bool.Decides.{nat_tests}
 use Rattle.std.proofs.Common.{◌≡◌, ◌≢◌, ◌⊎◌, inl, inr, ℕ, Bool, true, false, List, [], ◌∷◌, ◌++◌, length, Option, Some, None, true≢false, refl, sym, ◌∙◌, ap, subst, arith}
 use Rattle.std.specs.Prelude.{◌&&◌, ◌||◌, if◌then◌else◌, nat_eq, nat_lt}
 use Rattle.jn_base.specs.declared.names.ServerNo.{ServerNo}
@@ -6,6 +7,8 @@ use Rattle.jn_base.specs.declared.names.ClientNo.{ClientNo}
 use Rattle.jn_base.specs.declared.names.Tid.{Tid}
 use Rattle.jn_base.specs.declared.names.WorkId.{WorkId}
 use Rattle.jn_base.specs.declared.names.Tickets.{Tickets}
+use Rattle.jn_base.specs.declared.names.Cause.{Cause}
+use Rattle.jn_base.specs.declared.names.Party.TheVariants.{Server}
 use Rattle.jn_base.specs.declared.op.Command.{Command}
 use Rattle.jn_base.specs.declared.op.Command.TheVariants.{Begin, Open as OpenAt, Do, End, Abort}
 use Rattle.jn_base.specs.Names.{client_eq, tid_eq}
@@ -24,7 +27,7 @@ use Rattle.jn_rows.specs.Stable.{StableState}
 use Rattle.jn_rows.specs.Outcomes.{RowOutcome, Sent}
 use Rattle.jn_rows.specs.Worker.{worker_row, carried_row}
 use Rattle.jn_rows.specs.Coordinator.{CoordinatorTable, after_closing, begun_by, begin_again, begin_row, coordinator_row}
-use Rattle.jn_rows.specs.Client.{ClientTable, is_begin, is_operation, is_end, is_end_or_abort, told, opens, is_tid, is_current, if_waits, outcome_row, take_row}
+use Rattle.jn_rows.specs.Client.{ClientTable, is_begin, is_operation, is_end, is_end_or_abort, told, over, opens, is_tid, is_current, if_waits, outcome_row, take_row}
 use Rattle.jn_protocol.specs.World.{Memory}
 use Rattle.jn_protocol.specs.Servers.{Room, storage_of, server_row, of_worker, of_coordinator, is_for_worker}
 use Rattle.jn_settling.proofs.ClientFits.{sent_with}
@@ -197,3 +200,18 @@ module _ (T : Tid) (t : ClientTable) (i : IsIn T t) where
       by (inl p) = subst (λ (z : ClientNo). TookIn T t (messages.Outcome z U outcome)) (sym p.1) (outcome-takes U outcome (ap (λ (b : Bool). if◌then◌else◌ {A = ClientTable × Taken} b (outcome_row t U outcome) (t, taken.Ignored)) own) (tid_eq U T) refl (tell (tid_tells U T)))
       by (inr p) = same_table (ap (λ (b : Bool). (if◌then◌else◌ {A = ClientTable × Taken} b (outcome_row t U outcome) (t, taken.Ignored)).0) p.0)
   take-in m = same_table refl
+
+  -- its abort is told
+  pub take-aborts : (c : ClientNo) (cause : Cause) → t.client ≡ c → (line : Text) × (answer : Option Sent) × ((take_row t (messages.Outcome c T (outcomes.Aborted cause))).1 ≡ taken.Told line answer) × (tells_outcome T line ≡ true)
+  take-aborts c cause name = (_, _, ap (λ (b : Bool). (if◌then◌else◌ {A = ClientTable × Taken} b (outcome_row t T (outcomes.Aborted cause)) (t, taken.Ignored)).1) own
+      ∙ ap (λ (b : Bool). (if◌then◌else◌ {A = ClientTable × Taken} b (if_waits t t.outstanding (λ p. is_end_or_abort p.command) line) (t, taken.Send (Server T.server) (messages.Thanks t.client T))).1) (current-is T ∙ itself)
+      ∙ ap (λ z. (if_waits t z (λ p. is_end_or_abort p.command) line).1) i.waits ∙ ap (λ (b : Bool). (if◌then◌else◌ {A = ClientTable × Taken} b (line i.command.event) (t, taken.Ignored)).1) i.closing, itself)
+    where
+      itself : tid_eq T T ≡ true
+      itself = grind (arith, tid_tells T T)
+
+      own : client_eq c t.client ≡ true
+      own = grind (arith, nat_tests, name)
+
+      line : ℕ → ClientTable × Taken
+      line j = (over t, taken.Told (says.Aborted t.client j T cause) (Some (Server T.server, messages.Thanks t.client T)))
