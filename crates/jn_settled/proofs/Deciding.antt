@@ -30,10 +30,10 @@ use Rattle.jn_rows.specs.declared.coordinator.Stage.{Stage}
 use Rattle.jn_rows.specs.declared.coordinator.Stage.TheVariants.{Open, Voting, Committed, Aborted}
 use Rattle.jn_rows.specs.Stable.{StableState, stable, is_going, made_all}
 use Rattle.jn_rows.specs.Outcomes.{RowOutcome, Sent}
-use Rattle.jn_rows.specs.Worker.{WorkerTable, work_at, worker_row, carried_row, intentions_of, going_work}
+use Rattle.jn_rows.specs.Worker.{WorkerTable, work_at, without, worker_row, carried_row, intentions_of, going_work}
 use Rattle.jn_rows.specs.Coordinator.{CoordinatorTable, transaction_at, is_work, coordinator_row, inquire_row, told_stage, commits, dropped}
 use Rattle.jn_rows.specs.Client.{ClientTable, take_row}
-use Rattle.jn_machine.specs.World.{World as Machine}
+use Rattle.jn_lock_rows.proofs.Works.{at-less}
 use Rattle.jn_machine.specs.Messages.{Says, IsWorkOf}
 use Rattle.jn_machine.specs.Transactions.{Knows}
 use Rattle.jn_machine.proofs.Updates.{not_both}
@@ -368,3 +368,289 @@ module _ (n : ℕ) (at_most : n ≤ 8) (files : AllFiles) (epochs : ServerNo →
           by : IsTold d.world ⊎ (Way d × Voice d) → IsTold now.world ⊎ (Way now × Voice now)
           by (inl q) = inl (told-on d.world now.world longer q)
           by (inr p) = both now (client-moves h.long p.0) (client-voice h.long p.1)
+
+    -- ---- a server takes one
+
+    module _ (d now : Course) (k : ℕ) (room : Room) (s : ServerNo) (message : Message) (m : Memory) (g : IsGood d) (is : slice_get d.world.sent k ≡ Some (Server s, message)) (up : d.world.memory s ≡ Some m)
+        (comes : Comes d now (Some (Server s, message)) (done s (Some k) (server_row m (stable (d.world.found s)) room message) d.world)) (first : d.waiting ≡ k ∷ comes.still) where
+      abbrev row : RowOutcome Memory
+      row = server_row m (stable (d.world.found s)) room message
+
+      abbrev Meets : ServerNo → Message → Type 0
+      Meets q r = (s ≡ q) × (message ≡ r)
+
+      new-waits : (x : Sent) → Has x row.messages → Waits now.world.sent now.waiting x
+      new-waits x h = comes.new row.messages refl x h
+
+      still-or : (q : ServerNo) (r : Message) → Waits d.world.sent d.waiting (Server q, r) → Meets q r ⊎ Waits now.world.sent now.waiting (Server q, r)
+      still-or q r w = by (comes.waits (Server q, r) w)
+        where
+          by : IsIt (Server s, message) (Server q, r) ⊎ Waits now.world.sent now.waiting (Server q, r) → Meets q r ⊎ Waits now.world.sent now.waiting (Server q, r)
+          by (inl e) = inl (same-server s q message r e)
+          by (inr w) = inr w
+
+      here-now : (q : ServerNo) → s ≡ q → now.world.memory q ≡ Some row.table
+      here-now q e = ap (λ (z : World). z.memory q) comes.world ∙ ap (λ (b : Bool). if b then Some row.table else d.world.memory q) (itself s q e)
+
+      clients-same : now.world.clients ≡ d.world.clients
+      clients-same = ap (λ (z : World). z.clients) comes.world
+
+      longer-now : Longer d.world now.world
+      longer-now = record { more = lines_of s (Some k) row.notes; is = ap (λ (z : World). z.lines) comes.world }
+
+      found-now : goes_in (stable (now.world.found W.server)) W ≡ goes_in (if server_eq s W.server then made_all row.changes (stable (d.world.found s)) else stable (d.world.found W.server)) W
+      found-now = ap (λ (z : World). goes_in (stable (z.found W.server)) W) comes.world ∙ by (server_eq s W.server)
+        where
+          by : (b : Bool) → is_going ((if b then made_all row.changes (d.world.found s (λ n. false)) else d.world.found W.server (λ n. false)).works W) ≡ goes_in (if b then made_all row.changes (stable (d.world.found s)) else stable (d.world.found W.server)) W
+          by true = refl
+          by false = refl
+
+      goes-still : goes_in (stable (d.world.found W.server)) W ≡ true → goes_in (stable (now.world.found W.server)) W ≡ true
+      goes-still q = found-now ∙ by (server_tells s W.server)
+        where
+          by : ((server_eq s W.server ≡ true) × (s ≡ W.server)) ⊎ ((server_eq s W.server ≡ false) × (s ≢ W.server)) → goes_in (if server_eq s W.server then made_all row.changes (stable (d.world.found s)) else stable (d.world.found W.server)) W ≡ true
+          by (inl p) = ap (λ (b : Bool). goes_in (if b then made_all row.changes (stable (d.world.found s)) else stable (d.world.found W.server)) W) p.0
+              ∙ message-on files epochs d.world (reached d g) s m room message W up (ap (λ (z : ServerNo). goes_in (stable (d.world.found z)) W) p.1 ∙ q)
+          by (inr p) = ap (λ (b : Bool). goes_in (if b then made_all row.changes (stable (d.world.found s)) else stable (d.world.found W.server)) W) p.0 ∙ q
+
+      -- it isn't live any more
+      gone-now : In asking d.world.sent → s ≡ W.server → work_at W row.table.worker ≡ None → NotLive now.world W
+      gone-now asked e none = record { memory = row.table; up = here-now W.server e; none = none; old = old-row d now k room s message m g up comes e (its-old d g asked m (ap d.world.memory (sym e) ∙ up)) }
+
+      drop-comes : In asking d.world.sent → Meets W.server (messages.Drop T W) → Way now
+      drop-comes asked i = by (drop-leads files epochs d.world (reached d g) T W m room (ap d.world.memory (sym i.0) ∙ up))
+        where
+          by : (work_at W (server_row m (stable (d.world.found W.server)) room (messages.Drop T W)).table.worker ≡ None) ⊎ (goes_in (stable (d.world.found W.server)) W ≡ true) → Way now
+          by (inl none) = over (gone-now asked i.0 (ap (λ (z : ServerNo). work_at W (server_row m (stable (d.world.found z)) room message).table.worker) i.0 ∙ ap (λ z. work_at W (server_row m (stable (d.world.found W.server)) room z).table.worker) i.1 ∙ none))
+          by (inr q) = goes_on (goes-still q)
+
+      commit-comes : In asking d.world.sent → Meets W.server (messages.Commit T W) → Way now
+      commit-comes asked i = by (commit-leads files epochs d.world (reached d g) (broken d g) s m room T W (sym i.0) up said.0 said.1.1)
+        where
+          said : Says (machine files epochs d.world (reached d g)) (messages.Commit T W)
+          said = says-true d g (Server s, messages.Commit T W) (subst (λ (z : Message). In (Server s, z) d.world.sent) i.1 (get-in d.world.sent k (Server s, message) is))
+
+          by : Led files epochs d.world (reached d g) s m room T W → Way now
+          by (over_now none has) = over (gone-now asked i.0 (none-row d now k room s message m g up comes i.0 (its-old d g asked m (ap d.world.memory (sym i.0) ∙ up)) none))
+          by (goes_now q) = goes_on (found-now ∙ ap (λ (b : Bool). goes_in (if b then made_all row.changes (stable (d.world.found s)) else stable (d.world.found W.server)) W) (itself s W.server i.0)
+              ∙ ap (λ z. goes_in (made_all (server_row m (stable (d.world.found s)) room z).changes (stable (d.world.found s))) W) i.1 ∙ q)
+
+      -- its coordinator is asked
+      inquire-comes : NoBegin d.world.sent d.waiting → Meets T.server (messages.Inquire T W) → Way now
+      inquire-comes none i = by (transaction_at T m.coordinator.transactions) refl
+        where
+          row-is : row ≡ of_coordinator m (inquire_row m.coordinator m.tickets T W (transaction_at T m.coordinator.transactions))
+          row-is = ap (λ z. server_row m (stable (d.world.found s)) room z) i.1
+
+          dropping : row ≡ of_coordinator m (dropped m.coordinator m.tickets T W) → Way now
+          dropping e = drops_it (new-waits _ (subst (λ (z : RowOutcome Memory). Has (Server W.server, messages.Drop T W) z.messages) (sym e) (inl refl)))
+
+          waiting : (x : Transaction) → transaction_at T m.coordinator.transactions ≡ Some x → is_undecided x.stage ≡ true → row.table.coordinator ≡ m.coordinator → Way now
+          waiting x found u e = held (ap (λ o. holds_undecided o T) (here-now T.server i.0) ∙ ap (λ (z : CoordinatorTable). is_held (transaction_at T z.transactions)) e ∙ ap is_held found ∙ u)
+              (begins-on d now (Some (Server s, message)) _ row.messages comes refl (row-begins m (stable (d.world.found s)) room message) none)
+
+          stage : (x : Transaction) → transaction_at T m.coordinator.transactions ≡ Some x → (z : Stage) → x.stage ≡ z → row ≡ of_coordinator m (told_stage m.coordinator m.tickets T W z) → Way now
+          stage x found Open q e = waiting x found (ap is_undecided q) (ap (λ (z : RowOutcome Memory). z.table.coordinator) e)
+          stage x found (Voting b) q e = waiting x found (ap is_undecided q) (ap (λ (z : RowOutcome Memory). z.table.coordinator) e)
+          stage x found (Aborted cause) q e = dropping e
+          stage x found (Committed c) q e = on (is_work W c.works && not (is_work W c.done)) e
+            where
+              on : (b : Bool) → row ≡ of_coordinator m (if b then record { table = m.coordinator; changes = []; messages = commits T (W ∷ []); notes = []; tickets = m.tickets } else dropped m.coordinator m.tickets T W) → Way now
+              on true e = commits_it (new-waits _ (subst (λ (z : RowOutcome Memory). Has (Server W.server, messages.Commit T W) z.messages) (sym e) (inl refl)))
+              on false e = dropping e
+
+          by : (o : Option Transaction) → transaction_at T m.coordinator.transactions ≡ o → Way now
+          by None e = dropping (row-is ∙ ap (λ o. of_coordinator m (inquire_row m.coordinator m.tickets T W o)) e)
+          by (Some x) e = stage x e x.stage refl (row-is ∙ ap (λ o. of_coordinator m (inquire_row m.coordinator m.tickets T W o)) e)
+
+      -- it waits here
+      here-waits : Waits d.world.sent d.waiting (Server s, message)
+      here-waits = record { number = k; waits = ap (list_any (nat_eq k)) first ∙ own k (list_any (nat_eq k) comes.still); is = is }
+        where
+          own : (k : ℕ) (b : Bool) → (nat_eq k k || b) ≡ true
+          own k b = grind (arith, nat_tests)
+
+      -- the undecided transaction stays so, or is decided
+      module _ (long : before ≤ length d.world.lines) (none : NoBegin d.world.sent d.waiting) (voice : Voice d) where
+        held-so : holds_undecided (now.world.memory T.server) T ≡ true → IsTold now.world ⊎ Way now
+        held-so h = inr (held h (begins-on d now (Some (Server s, message)) _ row.messages comes refl (row-begins m (stable (d.world.found s)) room message) none))
+
+        module _ (e : s ≡ T.server) (x : Transaction) (found : transaction_at T m.coordinator.transactions ≡ Some x) (u : is_undecided x.stage ≡ true) where
+          up-here : d.world.memory T.server ≡ Some m
+          up-here = sym (ap d.world.memory e) ∙ up
+
+          abbrev R' : Reached files epochs d.world
+          R' = reached d g
+
+          held-by : (y : Transaction) → transaction_at T row.table.coordinator.transactions ≡ Some y → is_undecided y.stage ≡ true → IsTold now.world ⊎ Way now
+          held-by y q v = held-so (ap (λ o. holds_undecided o T) (here-now T.server e) ∙ ap is_held q ∙ v)
+
+          moved : (r : RowOutcome CoordinatorTable) → row ≡ of_coordinator m r → (c : ClientNo) → IsIn T (d.world.clients c) → (stage : Stage) → transaction_at T r.table.transactions ≡ Some (record x { stage = stage }) → Move x r.messages r.notes stage → IsTold now.world ⊎ Way now
+          unfolding longer-now
+          moved r q c i stage f (starts b z) = held-by _ (ap (λ (z : RowOutcome Memory). transaction_at T z.table.coordinator.transactions) q ∙ f) refl
+          moved r q c i stage f (notes_one b V z) = held-by _ (ap (λ (z : RowOutcome Memory). transaction_at T z.table.coordinator.transactions) q ∙ f) refl
+          moved r q c i stage f (commits_now z v told has works) = inl (told-new d.world now.world longer-now long (note-told s (Some k) T row.notes (subst (λ (z : RowOutcome Memory). In (notes.Commit T) z.notes) (sym q) (subst (λ (U : Tid). In (notes.Commit U) r.notes) (tid-name T m.coordinator.transactions x found) told))))
+          moved r q c i stage f (aborts_now cause v has) = inr (tells c cause (subst (λ g. IsIn T (g c)) (sym clients-same) i) (new-waits _ (subst (λ (z : RowOutcome Memory). Has (Client c, messages.Outcome c T (outcomes.Aborted cause)) z.messages) (sym q)
+              (subst (λ (z : ClientNo). Has (Client z, messages.Outcome z T (outcomes.Aborted cause)) r.messages) (its-client n at_most (opening n files epochs) files epochs d c T m x g.talking i.current up-here found)
+              (subst (λ (U : Tid). Has (Client x.client, messages.Outcome x.client U (outcomes.Aborted cause)) r.messages) (tid-name T m.coordinator.transactions x found) has)))))
+          moved r q c i stage f (finishes z later w a b v) = absurd (true≢false (sym u ∙ ap is_undecided w))
+
+          by-fate : (r : RowOutcome CoordinatorTable) → row ≡ of_coordinator m r → (c : ClientNo) → IsIn T (d.world.clients c) → Fate T x m.coordinator message r → IsTold now.world ⊎ Way now
+          by-fate r q c i (stays f) = held-by x (ap (λ (z : RowOutcome Memory). transaction_at T z.table.coordinator.transactions) q ∙ f) u
+          by-fate r q c i (moves stage f move) = moved r q c i stage f move
+          by-fate r q c i (forgets f v) = absurd (true≢false (sym u ∙ v))
+          by-fate r q c i (closes z f l v w) = absurd (true≢false (sym (ap is_begin_message f) ∙ none (Server s, message) here-waits))
+
+          at-coordinator : row ≡ of_coordinator m (coordinator_row m.coordinator room.free.records m.tickets message) → Voice d → IsTold now.world ⊎ Way now
+          at-coordinator q (nobody off) = held-by x (ap (λ (z : RowOutcome Memory). transaction_at T z.table.coordinator.transactions) q
+              ∙ row-kept (machine files epochs d.world (reached d g)) T.server m.coordinator room.free.records m.tickets (let R = reached d g in R.mirrors.transactions T.server m up-here) T x found message (off (Server s, message) here-waits) (none (Server s, message) here-waits) u) u
+          at-coordinator q (its_client c i) = by-fate _ q c i (row-fate (machine files epochs d.world (reached d g)) T.server m.coordinator room.free.records m.tickets (let R = reached d g in R.mirrors.transactions T.server m up-here) T x found (not-next files epochs d.world (reached d g) T m x up-here found) message)
+          at-coordinator q (named h) = absurd (undecided-new d g m x up-here found u h)
+
+          at-server : IsTold now.world ⊎ Way now
+          at-server = by (is_for_worker message) refl
+            where
+              by : (b : Bool) → is_for_worker message ≡ b → IsTold now.world ⊎ Way now
+              by true q = held-by x (ap (λ (b : Bool). transaction_at T (if b then of_worker m (worker_row m.worker (storage_of m (stable (d.world.found s)) room) m.tickets message) else of_coordinator m (coordinator_row m.coordinator room.free.records m.tickets message)).table.coordinator.transactions) q ∙ found) u
+              by false q = at-coordinator (ap (λ (b : Bool). if b then of_worker m (worker_row m.worker (storage_of m (stable (d.world.found s)) room) m.tickets message) else of_coordinator m (coordinator_row m.coordinator room.free.records m.tickets message)) q) voice
+
+        held-on : holds_undecided (d.world.memory T.server) T ≡ true → IsTold now.world ⊎ Way now
+        held-on h = by (server_tells s T.server)
+          where
+            at : (o : Option Transaction) → transaction_at T m.coordinator.transactions ≡ o → is_held o ≡ true → s ≡ T.server → IsTold now.world ⊎ Way now
+            at None q v e = absurd (true≢false (sym v))
+            at (Some x) q v e = at-server e x q v
+
+            by : ((server_eq s T.server ≡ true) × (s ≡ T.server)) ⊎ ((server_eq s T.server ≡ false) × (s ≢ T.server)) → IsTold now.world ⊎ Way now
+            by (inl p) = at (transaction_at T m.coordinator.transactions) refl (ap (λ o. holds_undecided o T) (sym up ∙ ap d.world.memory p.1) ∙ h) p.1
+            by (inr p) = held-so (ap (λ o. holds_undecided o T) (ap (λ (z : World). z.memory T.server) comes.world ∙ ap (λ (b : Bool). if b then Some row.table else d.world.memory T.server) p.0) ∙ h)
+
+      server-voice : Voice d → Voice now
+      server-voice (nobody off) = nobody (off-on T d now (Some (Server s, message)) _ row.messages comes refl (off-has T row.messages (row-off T m (stable (d.world.found s)) room message (off (Server s, message) here-waits))) off)
+      server-voice (its_client c i) = its_client c (subst (λ f. IsIn T (f c)) (sym clients-same) i)
+      server-voice (named h) = named (line-on d.world now.world longer-now h)
+
+      server-moves : before ≤ length d.world.lines → In asking d.world.sent → Voice d → Way d → IsTold now.world ⊎ Way now
+      server-moves long asked voice (asks b) = by (before-on d now k (Some (Server s, message)) _ row.messages g comes first refl (row-begins m (stable (d.world.found s)) room message) b)
+        where
+          by : ((slice_get d.world.sent k ≡ Some asking) × NoBegin d.world.sent d.waiting) ⊎ Before now.world.sent now.waiting asking → IsTold now.world ⊎ Way now
+          by (inl p) = inr (inquire-comes p.1 (same-server s T.server message (messages.Inquire T W) (sym is ∙ p.0)))
+          by (inr b) = inr (asks b)
+      server-moves long asked voice (drops_it w) = by (still-or W.server (messages.Drop T W) w)
+        where
+          by : Meets W.server (messages.Drop T W) ⊎ Waits now.world.sent now.waiting (Server W.server, messages.Drop T W) → IsTold now.world ⊎ Way now
+          by (inl i) = inr (drop-comes asked i)
+          by (inr w) = inr (drops_it w)
+      server-moves long asked voice (commits_it w) = by (still-or W.server (messages.Commit T W) w)
+        where
+          by : Meets W.server (messages.Commit T W) ⊎ Waits now.world.sent now.waiting (Server W.server, messages.Commit T W) → IsTold now.world ⊎ Way now
+          by (inl i) = inr (commit-comes asked i)
+          by (inr w) = inr (commits_it w)
+      server-moves long asked voice (goes_on q) = inr (goes_on (goes-still q))
+      server-moves long asked voice (over q) = inr (over (server-gone d now k room s message m g up comes q))
+      server-moves long asked voice (held h none) = held-on long none voice h
+      server-moves long asked voice (tells c cause i w) = by (comes.waits (Client c, messages.Outcome c T (outcomes.Aborted cause)) w)
+        where
+          by : IsIt (Server s, message) (Client c, messages.Outcome c T (outcomes.Aborted cause)) ⊎ Waits now.world.sent now.waiting (Client c, messages.Outcome c T (outcomes.Aborted cause)) → IsTold now.world ⊎ Way now
+          by (inl q) = absurd (other-party c s _ message (sym q))
+          by (inr w) = inr (tells c cause (subst (λ f. IsIn T (f c)) (sym clients-same) i) w)
+
+      pub server-decides : OnWay d → OnWay now
+      server-decides h = record { long = long-on d.world now.world longer-now h.long; asked = asked-on d now (Some (Server s, message)) _ row.messages comes refl h.asked; state = by h.state }
+        where
+          by : IsTold d.world ⊎ (Way d × Voice d) → IsTold now.world ⊎ (Way now × Voice now)
+          by (inl q) = inl (told-on d.world now.world longer-now q)
+          by (inr p) = both now (server-moves h.long h.asked p.1 p.0) (inr (server-voice p.1))
+
+    -- ---- a server works, where nothing waits
+
+    nothing-waits : (d : Course) (x : Sent) → d.waiting ≡ [] → Waits d.world.sent d.waiting x → ⊥
+    nothing-waits d x e w = true≢false (sym w.waits ∙ ap (λ l. list_any (nat_eq w.number) l) e)
+
+    nothing-before : (d : Course) (x : Sent) → d.waiting ≡ [] → Before d.world.sent d.waiting x → ⊥
+    nothing-before d x e b = no b.ahead (sym e ∙ b.split)
+      where
+        no : (a : List ℕ) → [] ≡ a ++ b.number ∷ b.behind → ⊥
+        no [] q = cc
+        no (k ∷ a) q = cc
+
+    module _ (d now : Course) (s : ServerNo) (m : Memory) (v : Work) (g : IsGood d) (e : d.waiting ≡ []) (up : d.world.memory s ≡ Some m) (there : work_at v.name m.worker ≡ Some v) (comes : Comes d now None (done s None (carried m d.world s v) d.world)) where
+      abbrev its-row : Option Intention → RowOutcome WorkerTable
+      its-row o = carried_row m.worker m.tickets v o
+
+      abbrev intention : Option Intention
+      intention = slice_get (intentions_of ((stable (d.world.found s)).works v.name)) (m.next v.name)
+
+      one-done : (o : Option Intention) (y : Sent) → Has y (its-row o).messages → (is_about T y.1 ≡ false) × (is_begin_message y.1 ≡ false)
+      one-done (Some i) y k = absurd k
+      one-done None y (inl q) = subst (λ (z : Sent). (is_about T z.1 ≡ false) × (is_begin_message z.1 ≡ false)) q (refl, refl)
+      one-done None y (inr k) = absurd k
+
+      longer-work : Longer d.world now.world
+      longer-work = record { more = lines_of s None (carried m d.world s v).notes; is = ap (λ (z : World). z.lines) comes.world }
+
+      coordinator-same : (o : Option Intention) → (of_worker m (its-row o)).table.coordinator ≡ m.coordinator
+      coordinator-same None = refl
+      coordinator-same (Some i) = refl
+
+      found-then : goes_in (stable (now.world.found W.server)) W ≡ goes_in (if server_eq s W.server then made_all (its-row intention).changes (stable (d.world.found s)) else stable (d.world.found W.server)) W
+      found-then = ap (λ (z : World). goes_in (stable (z.found W.server)) W) comes.world ∙ by (server_eq s W.server)
+        where
+          by : (b : Bool) → is_going ((if b then made_all (its-row intention).changes (d.world.found s (λ n. false)) else d.world.found W.server (λ n. false)).works W) ≡ goes_in (if b then made_all (its-row intention).changes (stable (d.world.found s)) else stable (d.world.found W.server)) W
+          by true = refl
+          by false = refl
+
+      goes-then : In asking d.world.sent → goes_in (stable (d.world.found W.server)) W ≡ true → Way now
+      goes-then asked q = by (server_tells s W.server)
+        where
+          there-then : s ≡ W.server → (x : StableState) → goes_in (if server_eq s W.server then x else stable (d.world.found W.server)) W ≡ goes_in x W
+          there-then p x = ap (λ (b : Bool). goes_in (if b then x else stable (d.world.found W.server)) W) (itself s W.server p)
+
+          carries : s ≡ W.server → goes_in (stable (d.world.found s)) W ≡ true → (o : Option Intention) → intention ≡ o → Way now
+          carries p h (Some i) f = goes_on (found-then ∙ there-then p (made_all (its-row intention).changes (stable (d.world.found s))) ∙ ap (λ z. goes_in (made_all (its-row z).changes (stable (d.world.found s))) W) f ∙ h)
+          carries p h None f = on (work_tells v.name W)
+            where
+              on : ((work_eq v.name W ≡ true) × (v.name ≡ W)) ⊎ ((work_eq v.name W ≡ false) × (v.name ≢ W)) → Way now
+              on (inr z) = goes_on (found-then ∙ there-then p (made_all (its-row intention).changes (stable (d.world.found s))) ∙ ap (λ z. goes_in (made_all (its-row z).changes (stable (d.world.found s))) W) f
+                  ∙ ap (λ (b : Bool). is_going (if b then None else (stable (d.world.found s)).works W)) z.0 ∙ h)
+              on (inl z) = over (record { memory = (carried m d.world s v).table; up = work-memory d now s m v g up comes W.server ∙ ap (λ (b : Bool). if b then Some (carried m d.world s v).table else d.world.memory W.server) (itself s W.server p);
+                  none = ap (λ o. work_at W (its-row o).table) f ∙ less; old = (the-row d now s m v g up comes p old).given })
+                where
+                  old : IsOld W m.tickets
+                  old = its-old d g asked m (ap d.world.memory (sym p) ∙ up)
+
+                  own : work_eq v.name W ≡ true
+                  own = z.0
+
+                  less : work_at W (without v.name m.worker) ≡ None
+                  less = at-less W v.name m.worker (up-at files epochs d.world (reached d g) s m up).table.rising ∙ ap (λ (b : Bool). if b then None else work_at W m.worker) own
+
+          by : ((server_eq s W.server ≡ true) × (s ≡ W.server)) ⊎ ((server_eq s W.server ≡ false) × (s ≢ W.server)) → Way now
+          by (inl p) = carries p.1 (ap (λ (z : ServerNo). goes_in (stable (d.world.found z)) W) p.1 ∙ q) intention refl
+          by (inr p) = goes_on (found-then ∙ ap (λ (b : Bool). goes_in (if b then made_all (its-row intention).changes (stable (d.world.found s)) else stable (d.world.found W.server)) W) p.0 ∙ q)
+
+      work-voice : Voice d → Voice now
+      work-voice (nobody off) = nobody (off-on T d now None _ (its-row intention).messages comes refl (λ y k. (one-done intention y k).0) off)
+      work-voice (its_client c i) = its_client c (subst (λ f. IsIn T (f c)) (sym (ap (λ (z : World). z.clients) comes.world)) i)
+      work-voice (named h) = named (line-on d.world now.world longer-work h)
+
+      work-moves : In asking d.world.sent → Way d → Way now
+      work-moves asked (asks b) = absurd (nothing-before d asking e b)
+      work-moves asked (drops_it w) = absurd (nothing-waits d _ e w)
+      work-moves asked (commits_it w) = absurd (nothing-waits d _ e w)
+      work-moves asked (tells c cause i w) = absurd (nothing-waits d _ e w)
+      work-moves asked (over h) = over (work-gone d now s m v g up comes h)
+      work-moves asked (goes_on q) = goes-then asked q
+      work-moves asked (held h none) = held (by (server_tells s T.server)) (begins-on d now None _ (its-row intention).messages comes refl (λ y k. (one-done intention y k).1) none)
+        where
+          by : ((server_eq s T.server ≡ true) × (s ≡ T.server)) ⊎ ((server_eq s T.server ≡ false) × (s ≢ T.server)) → holds_undecided (now.world.memory T.server) T ≡ true
+          by (inl p) = ap (λ o. holds_undecided o T) (work-memory d now s m v g up comes T.server ∙ ap (λ (b : Bool). if b then Some (carried m d.world s v).table else d.world.memory T.server) (itself s T.server p.1))
+              ∙ ap (λ (z : CoordinatorTable). is_held (transaction_at T z.transactions)) (coordinator-same intention) ∙ ap (λ o. holds_undecided o T) (sym up ∙ ap d.world.memory p.1) ∙ h
+          by (inr p) = ap (λ o. holds_undecided o T) (work-memory d now s m v g up comes T.server ∙ ap (λ (b : Bool). if b then Some (carried m d.world s v).table else d.world.memory T.server) p.0) ∙ h
+
+      pub work-decides : OnWay d → OnWay now
+      work-decides h = record { long = long-on d.world now.world longer-work h.long; asked = asked-on d now None _ (its-row intention).messages comes refl h.asked; state = by h.state }
+        where
+          by : IsTold d.world ⊎ (Way d × Voice d) → IsTold now.world ⊎ (Way now × Voice now)
+          by (inl q) = inl (told-on d.world now.world longer-work q)
+          by (inr p) = inr (work-moves h.asked p.0, work-voice p.1)
