@@ -127,7 +127,7 @@ module _ (n : ℕ) (at_most : n ≤ 8) (files : AllFiles) (epochs : ServerNo →
         by (inl p) = let old = subst (λ (z : Memory). IsOld W z.tickets) (here p.1) h.old in record { memory = after; up = at-it p.1; none = none p.1 old (subst (λ (z : Memory). work_at W z.worker ≡ None) (here p.1) h.none); old = on p.1 old }
         by (inr p) = record { memory = h.memory; up = elsewhere p.0 ∙ h.up; none = h.none; old = h.old }
 
-  took-same : (d now : Course) (k : ℕ) (e : ClientNo) (message : Message) → Comes d now (Some (Client e, message)) (taken_by e k (take_row (d.world.clients e) message) d.world) → now.world.memory ≡ d.world.memory
+  pub took-same : (d now : Course) (k : ℕ) (e : ClientNo) (message : Message) → Comes d now (Some (Client e, message)) (taken_by e k (take_row (d.world.clients e) message) d.world) → now.world.memory ≡ d.world.memory
   took-same d now k e message comes = ap (λ (z : World). z.memory) comes.world ∙ took-memory e k (take_row (d.world.clients e) message).0 (take_row (d.world.clients e) message).1 d.world
 
   module _ (d now : Course) (k : ℕ) (room : Room) (s : ServerNo) (message : Message) (m : Memory) (g : IsGood d) (up : d.world.memory s ≡ Some m)
@@ -564,10 +564,10 @@ module _ (n : ℕ) (at_most : n ≤ 8) (files : AllFiles) (epochs : ServerNo →
 
     -- ---- a server works, where nothing waits
 
-    nothing-waits : (d : Course) (x : Sent) → d.waiting ≡ [] → Waits d.world.sent d.waiting x → ⊥
+    pub nothing-waits : (d : Course) (x : Sent) → d.waiting ≡ [] → Waits d.world.sent d.waiting x → ⊥
     nothing-waits d x e w = true≢false (sym w.waits ∙ ap (λ l. list_any (nat_eq w.number) l) e)
 
-    nothing-before : (d : Course) (x : Sent) → d.waiting ≡ [] → Before d.world.sent d.waiting x → ⊥
+    pub nothing-before : (d : Course) (x : Sent) → d.waiting ≡ [] → Before d.world.sent d.waiting x → ⊥
     nothing-before d x e b = no b.ahead (sym e ∙ b.split)
       where
         no : (a : List ℕ) → [] ≡ a ++ b.number ∷ b.behind → ⊥

@@ -27,3 +27,4 @@ pub mod Settling
 pub mod EndsWait
 pub mod Deciding
 pub mod Forgotten
+pub mod Decided

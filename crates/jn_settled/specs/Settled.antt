@@ -75,10 +75,10 @@ tells_outcome T (says.Commit U) = tid_eq U T
 tells_outcome T (says.Aborted c j U cause) = tid_eq U T
 tells_outcome T text = false
 
--- Each live work belongs to a transaction that its coordinator holds undecided, or whose commit or abort was told since, or it
--- wasn't live before.
-abbrev pub AreDecided : World → World → Type 0
-AreDecided before now = (W : WorkId) (w : Work) → live_at now W ≡ Some w
+-- Each live work at any of so many servers belongs to a transaction that its coordinator holds undecided, or whose commit or
+-- abort was told since, or it wasn't live before.
+abbrev pub AreDecided : ℕ → World → World → Type 0
+AreDecided servers before now = (W : WorkId) (w : Work) → W.server.0 < servers → live_at now W ≡ Some w
     → (holds_undecided (now.memory w.tid.server) w.tid ≡ true) ⊎ ((list_any (tells_outcome w.tid) (told_since before now) ≡ true) ⊎ (live_at before W ≡ None))
 
 -- From some number of steps on, where all servers are up then, this holds of the world before the settle and of the one after it.

@@ -1,3 +1,4 @@
+use Rattle.jn_settled.proofs.Decided.{settle-decides}
 use Rattle.jn_settled.proofs.Deciding.{line-more}
 use Rattle.jn_settled.proofs.Taking.{take-in, row-begins, row-off}
 use Rattle.jn_settled.proofs.Order.{ask-off, ask-before, first-before}
