@@ -1,4 +1,5 @@
--- A settle with all servers up leaves a live work only of a transaction that is undecided or was told, or that it opened.
+-- A settle with all servers up leaves a live work only of a transaction that is undecided or was told, or that it opened; and so
+-- it settles.
 use Rattle.std.proofs.Common.{◌≡◌, ◌≢◌, ◌⊎◌, inl, inr, ◌≤◌, ◌<◌, ℕ, ◌+◌, Bool, true, false, List, [], ◌∷◌, length, Option, Some, None, is_some, true≢false, refl, sym, ◌∙◌, ap, subst, arith}
 use Rattle.std.specs.Prelude.{◌&&◌, ◌||◌, if◌then◌else◌, nat_eq}
 use Rattle.std.specs.List.{list_any}
@@ -30,7 +31,7 @@ use Rattle.jn_settling.specs.Settle.{Chance, servers_from, clients_from, until_r
 use Rattle.jn_settling.specs.Bounds.{IsAtRest, NothingGoes}
 use Rattle.jn_settling.proofs.Settling.{nothing-goes}
 use Rattle.jn_reported.proofs.Lists.{In, get-in}
-use Rattle.jn_settled.specs.Settled.{AreUp, entry_in, live_at, holds_undecided, tells_outcome, told_since, AreDecided, Leaves}
+use Rattle.jn_settled.specs.Settled.{AreUp, entry_in, live_at, holds_undecided, tells_outcome, told_since, AreDecided, IsSettled, Leaves}
 use Rattle.jn_settled.proofs.Ways.{Has, Waits}
 use Rattle.jn_settled.proofs.Talk.{FitsCommand}
 use Rattle.jn_settled.proofs.Begins.{Good, good-go}
@@ -43,9 +44,9 @@ use Rattle.jn_settled.proofs.Living.{NotLive, IsOld, live-old}
 use Rattle.jn_settled.proofs.Order.{Before, IsOff, ask-before, ask-off}
 use Rattle.jn_settled.proofs.Taking.{IsIn}
 use Rattle.jn_settled.proofs.Deciding.{HasOld, still-old, still-gone, took-same, server-old, server-gone, work-old, work-gone, Way, asks, drops_it, commits_it, goes_on, over, held, tells, Voice, nobody, its_client, OnWay, its-work, nothing-waits, nothing-before, client-decides, server-decides, work-decides}
-use Rattle.jn_settled.proofs.Settling.{course-twin, first_part, asked_again, second_part, settles}
-use Rattle.jn_settled.proofs.EndsWait.{reached, good, good-middle, asked, up-first, long}
-use Rattle.jn_settled.proofs.Forgotten.{broken, going-found, among-servers, good-last, last-idle}
+use Rattle.jn_settled.proofs.Settling.{course-twin, first_part, asked_again, second_part, settles, all-answered}
+use Rattle.jn_settled.proofs.EndsWait.{reached, good, good-middle, asked, up-first, long, ends-wait}
+use Rattle.jn_settled.proofs.Forgotten.{broken, going-found, among-servers, good-last, last-idle, no-flags}
 
 -- a work that doesn't go asks
 inquire-has : (x : StableState) (t : WorkerTable) (W : WorkId) (v : Work) → work_at W t ≡ Some v → is_going (x.works W) ≡ false → Has (Server v.tid.server, messages.Inquire v.tid W) (worker_again x t)
@@ -292,5 +293,12 @@ module _ (n : ℕ) (at_most : n ≤ 8) (files : AllFiles) (epochs : ServerNo →
         by None e = inr (inr e)
         by (Some v) e = then-live v e (work_at W memory-d.0.worker) refl
 
-  pub settle-decides : (first second : ℕ → Chance) (c : Course) → IsGood c → Leaves n first second c (AreDecided n)
-  settle-decides first second c h = settles n at_most files epochs first second c (AreDecided n) h (λ i k one two up. are-decided first second c i k h one two up)
+  pub settle-settles : (first second : ℕ → Chance) (c : Course) → IsGood c → Leaves n first second c (IsSettled n)
+  settle-settles first second c h = settles n at_most files epochs first second c (IsSettled n) h (λ i k one two up. record {
+    waits = two.waits;
+    goes = last-idle n at_most files epochs first second c i k h two up;
+    answers = all-answered n at_most files epochs first second c i k h two up;
+    ends = ends-wait n at_most files epochs first second c i k h two up;
+    flags = no-flags n at_most files epochs first second c i k h two up;
+    works = are-decided first second c i k h one two up;
+  })

@@ -142,6 +142,3 @@ module _ (n : ℕ) (at_most : n ≤ 8) (files : AllFiles) (epochs : ServerNo →
             none : None ≡ Some o → ⊥
             none z = cc
         by (inr q) = q
-
-  pub settle-waits : (first second : ℕ → Chance) (c : Course) → IsGood c → Leaves n first second c EndsWait
-  settle-waits first second c h = settles n at_most files epochs first second c EndsWait h (λ i k one two up. ends-wait first second c i k h two up)

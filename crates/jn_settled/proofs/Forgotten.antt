@@ -198,6 +198,3 @@ module _ (n : ℕ) (at_most : n ≤ 8) (files : AllFiles) (epochs : ServerNo →
         by : (o : Option FlagState) → (last.world.found s pick).flags T ≡ o → (last.world.found s pick).flags T ≡ None
         by None e = e
         by (Some f) e = absurd (none f e)
-
-  pub settle-forgets : (first second : ℕ → Chance) (c : Course) → IsGood c → Leaves n first second c (λ before now. AreForgotten n now)
-  settle-forgets first second c h = settles n at_most files epochs first second c (λ before now. AreForgotten n now) h (λ i k one two up. no-flags first second c i k h two up)

@@ -1,6 +1,6 @@
--- What a settle leaves behind where every server is up. That no message waits and no work goes is in the bounds of a settle.
+-- What a settle leaves behind where every server is up.
 -- Rubbish records are no part of these states, so nothing is said of them.
-use Rattle.std.specs.Prelude.{◌⊎◌, Option, ◌≡◌, ◌≤◌, ◌<◌, ℕ, Bool, true, false, nat_eq, ◌&&◌, List, drop, length, Some, None, is_some}
+use Rattle.std.specs.Prelude.{◌⊎◌, Option, ◌≡◌, ◌≤◌, ◌<◌, ℕ, Bool, true, false, nat_eq, ◌&&◌, List, [], drop, length, Some, None, is_some}
 use Rattle.std.specs.List.{list_any}
 use Rattle.jn_base.specs.declared.names.ServerNo.{ServerNo}
 use Rattle.jn_base.specs.declared.names.ClientNo.{ClientNo}
@@ -21,6 +21,7 @@ use Rattle.jn_rows.specs.Coordinator.{transaction_at}
 use Rattle.jn_protocol.specs.World.{World, Memory}
 use Rattle.jn_settling.specs.Course.{Course}
 use Rattle.jn_settling.specs.Settle.{Chance, settled}
+use Rattle.jn_settling.specs.Bounds.{NothingGoes}
 
 abbrev pub AreUp : World → Type 0
 AreUp w = (s : ServerNo) → is_some (w.memory s) ≡ true
@@ -81,8 +82,20 @@ abbrev pub AreDecided : ℕ → World → World → Type 0
 AreDecided servers before now = (W : WorkId) (w : Work) → W.server.0 < servers → live_at now W ≡ Some w
     → (holds_undecided (now.memory w.tid.server) w.tid ≡ true) ⊎ ((list_any (tells_outcome w.tid) (told_since before now) ≡ true) ⊎ (live_at before W ≡ None))
 
--- From some number of steps on, where all servers are up then, this holds of the world before the settle and of the one after it.
-pub record Leaves (servers : ℕ) (first second : ℕ → Chance) (c : Course) (what : World → World → Type 0) : Type 0 where
+-- ---- the whole
+
+pub record IsSettled (servers : ℕ) (before now : Course) : Type 0 where
+  -- no message waits and no work goes
+  pub waits : now.waiting ≡ []
+  pub goes : NothingGoes servers now.world
+  -- a client waits at most for an end that it was told waits
+  pub answers : AreAnswered now.world
+  pub ends : EndsWait before.world now.world
+  pub flags : AreForgotten servers now.world
+  pub works : AreDecided servers before.world now.world
+
+-- from some number of steps on, where all servers are up then, this holds of the course before the settle and after it
+pub record Leaves (servers : ℕ) (first second : ℕ → Chance) (c : Course) (what : Course → Course → Type 0) : Type 0 where
   pub steps : ℕ
   pub each : (n : ℕ) → steps ≤ n → AreUp (settled servers (record { first = first; second = second; steps = n }) c).world
-      → what c.world (settled servers (record { first = first; second = second; steps = n }) c).world
+      → what c (settled servers (record { first = first; second = second; steps = n }) c)
