@@ -1,6 +1,6 @@
 -- What is sent about the vote of a transaction is sent for a message about it.
-use Rattle.std.proofs.Common.{◌≡◌, ◌⊎◌, inl, inr, ℕ, Bool, true, false, List, [], ◌∷◌, ◌++◌, length, Option, Some, None, true≢false, refl, sym, ◌∙◌, ap, subst, arith}
-use Rattle.std.specs.Prelude.{◌&&◌, ◌||◌, not, if◌then◌else◌, nat_lt, nat_eq, ◌+◌}
+use Rattle.std.proofs.Common.{◌≡◌, ℕ, Bool, true, false, List, [], ◌∷◌, ◌++◌, length, Option, Some, None, refl, ◌∙◌, ap, arith}
+use Rattle.std.specs.Prelude.{◌&&◌, not, if◌then◌else◌, nat_lt, nat_eq, ◌+◌}
 use Rattle.jn_base.specs.declared.names.ClientNo.{ClientNo}
 use Rattle.jn_base.specs.declared.names.Tid.{Tid}
 use Rattle.jn_base.specs.declared.names.WorkId.{WorkId}
@@ -11,7 +11,6 @@ use Rattle.jn_base.specs.declared.op.Answer.{Answer}
 use Rattle.jn_base.specs.Names.{tid_eq}
 use Rattle.jn_order.specs.Files.{change, answer_to}
 use Rattle.jn_records.specs.NetLists.{list_change}
-use Rattle.jn_records.specs.declared.intention.Intention.{Intention}
 use Rattle.jn_msgs.specs.declared.message.Message.{Message}
 use Rattle.jn_msgs.specs.declared.message.Message.TheVariants as messages
 use Rattle.jn_msgs.specs.declared.message.Vote.{Vote}
@@ -23,13 +22,11 @@ use Rattle.jn_rows.specs.declared.worker.ActiveWork.{ActiveWork}
 use Rattle.jn_rows.specs.declared.coordinator.Transaction.{Transaction}
 use Rattle.jn_rows.specs.declared.coordinator.Stage.{Stage}
 use Rattle.jn_rows.specs.declared.coordinator.Stage.TheVariants.{Open, Voting, Committed, Aborted}
-use Rattle.jn_rows.specs.declared.coordinator.Voting.{Voting as Ballot}
-use Rattle.jn_rows.specs.declared.coordinator.Committed.{Committed as Commitment}
-use Rattle.jn_rows.specs.Stable.{StableState, stable, is_going}
+use Rattle.jn_rows.specs.Stable.{is_going}
 use Rattle.jn_rows.specs.Outcomes.{RowOutcome, Sent}
 use Rattle.jn_rows.specs.Worker.{WorkerTable, WorkStorage, Wanted, work_at, work_of, open_row, granted_row, repeated, op_phase, op_row, refusal_of, wants_of, is_fit, commit_wants, conflict, vote_of, shortage, need_in, prepared_row, prepare_phase, prepare_row, commit_phase, drop_phase, worker_row, carried_row}
 use Rattle.jn_rows.specs.Worker as worker
-use Rattle.jn_rows.specs.Coordinator.{CoordinatorTable, transaction_at, is_work, all_in, besides, drops, commits, prepares, end_promised, end_stage, end_row, abort_stage, abort_request, told_stage, inquire_row, with_work, counted_vote, vote_stage, vote_row, done_stage, done_row, thanks_stage, thanks_row, begin_again, begun_by, after_closing, coordinator_row, commit_row, abort_row, forget_row}
+use Rattle.jn_rows.specs.Coordinator.{CoordinatorTable, transaction_at, is_work, all_in, besides, drops, commits, prepares, end_promised, end_stage, end_row, abort_stage, abort_request, told_stage, inquire_row, with_work, counted_vote, vote_stage, vote_row, done_stage, done_row, thanks_stage, thanks_row, begin_again, begun_by, after_closing, coordinator_row, commit_row, abort_row}
 use Rattle.jn_settling.proofs.CoordinatorFits.{found-name}
 
 -- an End, an Abort, a Prepare or a Vote of it

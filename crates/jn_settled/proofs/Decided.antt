@@ -1,9 +1,8 @@
 -- A settle with all servers up leaves a live work only of a transaction that is undecided or was told, or that it opened; and so
 -- it settles.
-use Rattle.std.proofs.Common.{◌≡◌, ◌≢◌, ◌⊎◌, inl, inr, ◌≤◌, ◌<◌, ℕ, ◌+◌, Bool, true, false, List, [], ◌∷◌, length, Option, Some, None, is_some, true≢false, refl, sym, ◌∙◌, ap, subst, arith}
+use Rattle.std.proofs.Common.{◌≡◌, ◌≢◌, ◌⊎◌, inl, inr, ◌≤◌, ◌<◌, ℕ, Bool, true, false, List, [], ◌∷◌, length, Option, Some, None, is_some, true≢false, refl, sym, ◌∙◌, ap, subst, arith}
 use Rattle.std.specs.Prelude.{◌&&◌, ◌||◌, if◌then◌else◌, nat_eq}
 use Rattle.std.specs.List.{list_any}
-use Rattle.std.proofs.lemmas.Bool.Decides.{nat_tests}
 use Rattle.jn_base.specs.declared.names.ServerNo.{ServerNo}
 use Rattle.jn_base.specs.declared.names.ClientNo.{ClientNo}
 use Rattle.jn_base.specs.declared.names.Tid.{Tid}
@@ -11,10 +10,9 @@ use Rattle.jn_base.specs.declared.names.WorkId.{WorkId}
 use Rattle.jn_base.specs.declared.names.Party.TheVariants.{Server}
 use Rattle.jn_base.specs.declared.op.Command.{Command}
 use Rattle.jn_base.specs.declared.op.Command.TheVariants.{Begin, Open as OpenAt, Do, End, Abort}
-use Rattle.jn_base.specs.Names.{client_eq, server_eq, tid_eq, work_eq}
+use Rattle.jn_base.specs.Names.{client_eq, tid_eq, work_eq}
 use Rattle.jn_base.proofs.Tells.{client_tells, tid_tells, work_tells}
 use Rattle.jn_order.specs.Files.{AllFiles}
-use Rattle.jn_msgs.specs.declared.message.Message.{Message}
 use Rattle.jn_msgs.specs.declared.message.Message.TheVariants as messages
 use Rattle.jn_rows.specs.declared.client.Outstanding.{Outstanding}
 use Rattle.jn_rows.specs.declared.worker.Work.{Work}
@@ -22,29 +20,27 @@ use Rattle.jn_rows.specs.Stable.{StableState, stable, is_going}
 use Rattle.jn_rows.specs.Outcomes.{Sent}
 use Rattle.jn_rows.specs.Worker.{WorkerTable, work_at, worker_again}
 use Rattle.jn_rows.specs.Coordinator.{coordinator_again}
-use Rattle.jn_rows.specs.Client.{ClientTable, is_tid, is_current, is_end_or_abort, sent_again, again_row, names_of}
+use Rattle.jn_rows.specs.Client.{ClientTable, is_tid, is_current, is_end_or_abort, sent_again, again_row}
 use Rattle.jn_protocol.specs.World.{World, Memory, opening}
 use Rattle.jn_protocol.specs.Steps.{sent_now}
 use Rattle.jn_runs.proofs.Facts.{is_closing}
 use Rattle.jn_settling.specs.Course.{Course}
 use Rattle.jn_settling.specs.Settle.{Chance, servers_from, clients_from, until_rest}
-use Rattle.jn_settling.specs.Bounds.{IsAtRest, NothingGoes}
+use Rattle.jn_settling.specs.Bounds.{IsAtRest}
 use Rattle.jn_settling.proofs.Settling.{nothing-goes}
-use Rattle.jn_reported.proofs.Lists.{In, get-in}
+use Rattle.jn_reported.proofs.Lists.{get-in}
 use Rattle.jn_settled.specs.Settled.{AreUp, entry_in, live_at, holds_undecided, tells_outcome, told_since, AreDecided, IsSettled, Leaves}
-use Rattle.jn_settled.proofs.Ways.{Has, Waits}
+use Rattle.jn_settled.proofs.Ways.{Has}
 use Rattle.jn_settled.proofs.Talk.{FitsCommand}
 use Rattle.jn_settled.proofs.Begins.{Good, good-go}
-use Rattle.jn_settled.proofs.Answers.{rest-good}
 use Rattle.jn_settled.proofs.Fates.{has-before}
 use Rattle.jn_settled.proofs.Calm.{Asked, more_at, rest-calm}
-use Rattle.jn_settled.proofs.Standing.{machine}
 use Rattle.jn_settled.proofs.About.{is_about}
 use Rattle.jn_settled.proofs.Living.{NotLive, IsOld, live-old}
 use Rattle.jn_settled.proofs.Order.{Before, IsOff, ask-before, ask-off}
 use Rattle.jn_settled.proofs.Taking.{IsIn}
 use Rattle.jn_settled.proofs.Deciding.{HasOld, still-old, still-gone, took-same, server-old, server-gone, work-old, work-gone, Way, asks, drops_it, commits_it, goes_on, over, held, tells, Voice, nobody, its_client, OnWay, its-work, nothing-waits, nothing-before, client-decides, server-decides, work-decides}
-use Rattle.jn_settled.proofs.Settling.{course-twin, first_part, asked_again, second_part, settles, all-answered}
+use Rattle.jn_settled.proofs.Settling.{first_part, asked_again, second_part, settles, all-answered}
 use Rattle.jn_settled.proofs.EndsWait.{reached, good, good-middle, asked, up-first, long, ends-wait}
 use Rattle.jn_settled.proofs.Forgotten.{broken, going-found, among-servers, good-last, last-idle, no-flags}
 

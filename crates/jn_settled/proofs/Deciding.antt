@@ -1,6 +1,6 @@
 -- What becomes in a settle of a work that asks for its outcome: it goes, or its transaction stays undecided or is told.
-use Rattle.std.proofs.Common.{length, length-append, append_assoc, ◌≡◌, ◌≢◌, ◌⊎◌, inl, inr, ◌≤◌, ◌<◌, ℕ, ◌+◌, Bool, true, false, List, [], ◌∷◌, ◌++◌, Option, Some, None, is_some, true≢false, refl, sym, ◌∙◌, ap, subst, arith}
-use Rattle.std.specs.Prelude.{◌&&◌, ◌||◌, not, if◌then◌else◌, slice_get, nat_eq, nat_lt, drop}
+use Rattle.std.proofs.Common.{length, length-append, ◌≡◌, ◌≢◌, ◌⊎◌, inl, inr, ◌≤◌, ◌<◌, ℕ, Bool, true, false, List, [], ◌∷◌, ◌++◌, Option, Some, None, is_some, true≢false, refl, sym, ◌∙◌, ap, subst, arith}
+use Rattle.std.specs.Prelude.{◌&&◌, ◌||◌, not, if◌then◌else◌, slice_get, nat_eq, drop}
 use Rattle.std.specs.List.{list_any}
 use Rattle.std.proofs.lemmas.Bool.Decides.{nat_tests}
 use Rattle.jn_base.specs.declared.names.ServerNo.{ServerNo}
@@ -8,7 +8,6 @@ use Rattle.jn_base.specs.declared.names.ClientNo.{ClientNo}
 use Rattle.jn_base.specs.declared.names.Tid.{Tid}
 use Rattle.jn_base.specs.declared.names.WorkId.{WorkId}
 use Rattle.jn_base.specs.declared.names.Cause.{Cause}
-use Rattle.jn_base.specs.declared.names.Tickets.{Tickets}
 use Rattle.jn_base.specs.declared.names.Party.TheVariants.{Client, Server}
 use Rattle.jn_base.specs.Names.{client_eq, server_eq, tid_eq, work_eq}
 use Rattle.jn_base.proofs.Tells.{client_tells, server_tells, tid_tells, work_tells}
@@ -18,10 +17,8 @@ use Rattle.jn_msgs.specs.declared.message.Message.{Message}
 use Rattle.jn_msgs.specs.declared.message.Message.TheVariants as messages
 use Rattle.jn_msgs.specs.declared.message.Note.{Note}
 use Rattle.jn_msgs.specs.declared.message.Note.TheVariants as notes
-use Rattle.jn_msgs.specs.declared.message.Outcome.{Outcome}
 use Rattle.jn_msgs.specs.declared.message.Outcome.TheVariants as outcomes
 use Rattle.jn_report.specs.declared.line.Text.{Text}
-use Rattle.jn_report.specs.declared.line.Text.TheVariants as says
 use Rattle.jn_rows.specs.declared.client.Taken.{Taken}
 use Rattle.jn_rows.specs.declared.client.Taken.TheVariants as taken
 use Rattle.jn_rows.specs.declared.worker.Work.{Work}
@@ -30,7 +27,7 @@ use Rattle.jn_rows.specs.declared.coordinator.Stage.{Stage}
 use Rattle.jn_rows.specs.declared.coordinator.Stage.TheVariants.{Open, Voting, Committed, Aborted}
 use Rattle.jn_rows.specs.Stable.{StableState, stable, is_going, made_all}
 use Rattle.jn_rows.specs.Outcomes.{RowOutcome, Sent}
-use Rattle.jn_rows.specs.Worker.{WorkerTable, work_at, without, worker_row, carried_row, intentions_of, going_work}
+use Rattle.jn_rows.specs.Worker.{WorkerTable, work_at, without, worker_row, carried_row, intentions_of}
 use Rattle.jn_rows.specs.Coordinator.{CoordinatorTable, transaction_at, is_work, coordinator_row, inquire_row, told_stage, commits, dropped}
 use Rattle.jn_rows.specs.Client.{ClientTable, take_row}
 use Rattle.jn_lock_rows.proofs.Works.{at-less}
@@ -42,7 +39,7 @@ use Rattle.jn_protocol.specs.Servers.{Room, storage_of, server_row, of_worker, o
 use Rattle.jn_protocol.specs.Steps.{took, taken_by, done}
 use Rattle.jn_moves.specs.Mirrors.{IsTrue, knowledge_in}
 use Rattle.jn_moves.proofs.Mirrored.{commits-more}
-use Rattle.jn_settling.specs.Course.{Course, numbered}
+use Rattle.jn_settling.specs.Course.{Course}
 use Rattle.jn_settling.proofs.Burdens.{are_below}
 use Rattle.jn_settling.proofs.ClientFits.{sent_with}
 use Rattle.jn_settling.proofs.CoordinatorFits.{found-name as tid-name}
@@ -61,7 +58,7 @@ use Rattle.jn_settled.proofs.Carrying.{goes_in, message-on, Led, over_now, goes_
 use Rattle.jn_settled.proofs.About.{is_about}
 use Rattle.jn_settled.proofs.Living.{NotLive, IsOld, row-none, row-old, drop-leads, Row, carried-none}
 use Rattle.jn_settled.proofs.Order.{NoBegin, NoneBegins, Before, IsOff, first-before, before-more, off-on, off-has}
-use Rattle.jn_settled.proofs.Taking.{is_thanks, are_thanks, take-thanks, thanks-has, thanks-off, thanks-begins, row-begins, row-off, IsIn, TookIn, same_table, told_abort, told_commit, take-in, take-aborts}
+use Rattle.jn_settled.proofs.Taking.{is_thanks, take-thanks, thanks-has, thanks-off, thanks-begins, row-begins, row-off, IsIn, TookIn, same_table, told_abort, told_commit, take-in, take-aborts}
 use Rattle.jn_settled.proofs.Flags.{took-sent, took-found}
 use Rattle.jn_settled.proofs.Ends.{IsIt, same-client, same-server, other-party, Longer, took-longer, any-drop-more, any-drop-new}
 
@@ -199,9 +196,6 @@ module _ (n : ℕ) (at_most : n ≤ 8) (files : AllFiles) (epochs : ServerNo →
     -- ---- what is known
 
     module _ (d : Course) (g : IsGood d) where
-      abbrev R : Reached files epochs d.world
-      R = reached d g
-
       named-line : (machine files epochs d.world (reached d g)).named T ≡ has_line T d.world.lines
       named-line = named-is files epochs d.world (reached d g) T
 
@@ -479,9 +473,6 @@ module _ (n : ℕ) (at_most : n ≤ 8) (files : AllFiles) (epochs : ServerNo →
           up-here : d.world.memory T.server ≡ Some m
           up-here = sym (ap d.world.memory e) ∙ up
 
-          abbrev R' : Reached files epochs d.world
-          R' = reached d g
-
           held-by : (y : Transaction) → transaction_at T row.table.coordinator.transactions ≡ Some y → is_undecided y.stage ≡ true → IsTold now.world ⊎ Way now
           held-by y q v = held-so (ap (λ o. holds_undecided o T) (here-now T.server e) ∙ ap is_held q ∙ v)
 
@@ -613,8 +604,12 @@ module _ (n : ℕ) (at_most : n ≤ 8) (files : AllFiles) (epochs : ServerNo →
               on : ((work_eq v.name W ≡ true) × (v.name ≡ W)) ⊎ ((work_eq v.name W ≡ false) × (v.name ≢ W)) → Way now
               on (inr z) = goes_on (found-then ∙ there-then p (made_all (its-row intention).changes (stable (d.world.found s))) ∙ ap (λ z. goes_in (made_all (its-row z).changes (stable (d.world.found s))) W) f
                   ∙ ap (λ (b : Bool). is_going (if b then None else (stable (d.world.found s)).works W)) z.0 ∙ h)
-              on (inl z) = over (record { memory = (carried m d.world s v).table; up = work-memory d now s m v g up comes W.server ∙ ap (λ (b : Bool). if b then Some (carried m d.world s v).table else d.world.memory W.server) (itself s W.server p);
-                  none = ap (λ o. work_at W (its-row o).table) f ∙ less; old = (the-row d now s m v g up comes p old).given })
+              on (inl z) = over (record {
+                memory = (carried m d.world s v).table;
+                up = work-memory d now s m v g up comes W.server ∙ ap (λ (b : Bool). if b then Some (carried m d.world s v).table else d.world.memory W.server) (itself s W.server p);
+                none = ap (λ o. work_at W (its-row o).table) f ∙ less;
+                old = (the-row d now s m v g up comes p old).given;
+              })
                 where
                   old : IsOld W m.tickets
                   old = its-old d g asked m (ap d.world.memory (sym p) ∙ up)

@@ -17,7 +17,7 @@ use Rattle.jn_settling.specs.Settle.{Chance, servers_from, clients_from, until_r
 use Rattle.jn_settling.specs.Bounds.{IsAtRest}
 use Rattle.jn_settling.proofs.Courses.{Sound}
 use Rattle.jn_reported.proofs.Reached.{Reached}
-use Rattle.jn_settled.specs.Settled.{AreUp, tells_waiting, told_since, EndsWait, Leaves}
+use Rattle.jn_settled.specs.Settled.{AreUp, tells_waiting, told_since, EndsWait}
 use Rattle.jn_settled.proofs.Talk.{FitsCommand}
 use Rattle.jn_settled.proofs.Ways.{Waits, rest-down}
 use Rattle.jn_settled.proofs.Answered.{Talks, among-clients}
@@ -26,7 +26,7 @@ use Rattle.jn_settled.proofs.Answers.{rest-good, ask-good, stays}
 use Rattle.jn_settled.proofs.Memories.{Unfinished, all_unfinished, run-unfinished}
 use Rattle.jn_settled.proofs.Calm.{carried, Asked, ask-asks, rest-calm}
 use Rattle.jn_settled.proofs.Ends.{Longer, took-longer, OnWay, asks, client-way, server-way, work-way, rest-way}
-use Rattle.jn_settled.proofs.Settling.{course-twin, first_part, asked_again, second_part, settles, all-answered}
+use Rattle.jn_settled.proofs.Settling.{course-twin, first_part, asked_again, second_part, all-answered}
 
 module _ (n : ℕ) (at_most : n ≤ 8) (files : AllFiles) (epochs : ServerNo → ℕ) where
   abbrev start : World

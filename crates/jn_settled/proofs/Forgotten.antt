@@ -23,7 +23,7 @@ use Rattle.jn_settling.specs.Course.{Course}
 use Rattle.jn_settling.specs.Settle.{Chance, servers_from, clients_from, until_rest}
 use Rattle.jn_settling.specs.Sizes.{is_few, are_near, is_small_stage, are_small_stages, is_committed, committed_at, TableSizes, ServerSizes}
 use Rattle.jn_settling.specs.Bounds.{IsAtRest, NothingGoes}
-use Rattle.jn_settled.specs.Settled.{AreUp, AreForgotten, Leaves}
+use Rattle.jn_settled.specs.Settled.{AreUp, AreForgotten}
 use Rattle.jn_settled.proofs.Ways.{Waits}
 use Rattle.jn_settled.proofs.Ends.{all-ready}
 use Rattle.jn_settling.proofs.Settling.{nothing-goes}
@@ -36,7 +36,7 @@ use Rattle.jn_settled.proofs.Broken.{BrokenTold, run-told}
 use Rattle.jn_settled.proofs.Calm.{rest-calm}
 use Rattle.jn_settled.proofs.Standing.{inv, up-at}
 use Rattle.jn_settled.proofs.Flags.{Carries, to_commit, goes_on, to_finish, Thanking, to_client, to_server, Progress, FlagWay, client-flags, server-flags, work-flags, ask-flags}
-use Rattle.jn_settled.proofs.Settling.{course-twin, first_part, asked_again, second_part, settles}
+use Rattle.jn_settled.proofs.Settling.{course-twin, first_part, asked_again, second_part}
 use Rattle.jn_settled.proofs.EndsWait.{reached, unfinished, good, good-middle, asked}
 use Rattle.jn_reported.proofs.Reached.{opening-reached}
 

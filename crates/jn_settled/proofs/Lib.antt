@@ -11,7 +11,6 @@ pub mod Twins
 pub mod Operations
 pub mod Fates
 pub mod Memories
-pub mod Seen
 pub mod About
 pub mod Broken
 pub mod Calm

@@ -7,13 +7,13 @@ use Rattle.std.proofs.lemmas.Bool.Decides.{nat_tests}
 use Rattle.jn_base.specs.declared.names.ServerNo.{ServerNo}
 use Rattle.jn_base.specs.declared.names.ClientNo.{ClientNo}
 use Rattle.jn_base.specs.declared.names.Tid.{Tid}
-use Rattle.jn_base.specs.Names.{client_eq, server_eq, tid_eq}
-use Rattle.jn_base.proofs.Tells.{client_tells, server_tells}
+use Rattle.jn_base.specs.Names.{client_eq, server_eq}
+use Rattle.jn_base.proofs.Tells.{server_tells}
 use Rattle.jn_msgs.specs.declared.message.Message.{Message}
 use Rattle.jn_rows.specs.declared.coordinator.Transaction.{Transaction}
 use Rattle.jn_rows.specs.declared.coordinator.Stage.{Stage}
 use Rattle.jn_rows.specs.declared.coordinator.Stage.TheVariants.{Open, Voting, Committed, Aborted}
-use Rattle.jn_rows.specs.Stable.{StableState, Pick, stable, is_going}
+use Rattle.jn_rows.specs.Stable.{StableState, Pick, stable}
 use Rattle.jn_rows.specs.Outcomes.{Sent}
 use Rattle.jn_rows.specs.Worker.{WorkerTable, worker_again}
 use Rattle.jn_rows.specs.Coordinator.{besides, commits, committed_to, told_again, coordinator_again}
@@ -101,11 +101,23 @@ new-before sent (y ∷ more) x h none = by h (new-before (sent ++ y ∷ []) more
     longer = length-append sent (y ∷ [])
 
     by : (y ≡ x) ⊎ Has x more → (Has x more → NoneBegins more → Before ((sent ++ y ∷ []) ++ more) (numbered (length (sent ++ y ∷ [])) more) x) → Before (sent ++ y ∷ more) (numbered (length sent) (y ∷ more)) x
-    by (inl e) again = record { ahead = []; number = length sent; behind = numbered (length sent + 1) more; split = refl; is = get-next sent y more ∙ ap (λ z. Some z) e;
-        none = λ z w. none z (inr (new-has (sent ++ y ∷ []) more w.number z (subst (λ n. list_any (nat_eq w.number) (numbered n more) ≡ true) (sym longer) w.waits) (ap (λ l. slice_get l w.number) (append_assoc sent (y ∷ []) more) ∙ w.is))) }
+    by (inl e) again = record {
+      ahead = [];
+      number = length sent;
+      behind = numbered (length sent + 1) more;
+      split = refl;
+      is = get-next sent y more ∙ ap (λ z. Some z) e;
+      none = λ z w. none z (inr (new-has (sent ++ y ∷ []) more w.number z (subst (λ n. list_any (nat_eq w.number) (numbered n more) ≡ true) (sym longer) w.waits) (ap (λ l. slice_get l w.number) (append_assoc sent (y ∷ []) more) ∙ w.is)));
+    }
     by (inr k) again = let b = subst (λ n. Before ((sent ++ y ∷ []) ++ more) (numbered n more) x) longer (again k (λ z q. none z (inr q))) in
-        record { ahead = length sent ∷ b.ahead; number = b.number; behind = b.behind; split = ap (λ l. length sent ∷ l) b.split; is = ap (λ l. slice_get l b.number) (sym (append_assoc sent (y ∷ []) more)) ∙ b.is;
-        none = λ z w. b.none z (record { number = w.number; waits = w.waits; is = ap (λ l. slice_get l w.number) (append_assoc sent (y ∷ []) more) ∙ w.is }) }
+        record {
+          ahead = length sent ∷ b.ahead;
+          number = b.number;
+          behind = b.behind;
+          split = ap (λ l. length sent ∷ l) b.split;
+          is = ap (λ l. slice_get l b.number) (sym (append_assoc sent (y ∷ []) more)) ∙ b.is;
+          none = λ z w. b.none z (record { number = w.number; waits = w.waits; is = ap (λ l. slice_get l w.number) (append_assoc sent (y ∷ []) more) ∙ w.is });
+        }
 
 after-others : (sent : List Sent) (ks js : List ℕ) (x : Sent) → Before sent js x → Before sent (ks ++ js) x
 after-others sent ks js x h = record { ahead = ks ++ h.ahead; number = h.number; behind = h.behind; split = ap (λ l. ks ++ l) h.split ∙ sym (append_assoc ks h.ahead (h.number ∷ h.behind)); is = h.is; none = h.none }

@@ -1,8 +1,7 @@
 -- A client that waits for the outcome of its transaction is told of it, or goes on waiting.
 use Rattle.std.proofs.lemmas.Bool.Decides.{nat_tests}
-use Rattle.std.proofs.Common.{◌≡◌, ◌≢◌, ◌⊎◌, inl, inr, ℕ, Bool, true, false, List, [], ◌∷◌, ◌++◌, length, Option, Some, None, true≢false, refl, sym, ◌∙◌, ap, subst, arith}
-use Rattle.std.specs.Prelude.{◌&&◌, ◌||◌, if◌then◌else◌, nat_eq, nat_lt}
-use Rattle.jn_base.specs.declared.names.ServerNo.{ServerNo}
+use Rattle.std.proofs.Common.{◌≡◌, ◌≢◌, ◌⊎◌, inl, inr, ℕ, Bool, true, false, List, [], ◌∷◌, length, Option, Some, None, true≢false, refl, sym, ◌∙◌, ap, subst, arith}
+use Rattle.std.specs.Prelude.{◌&&◌, if◌then◌else◌, nat_eq, nat_lt}
 use Rattle.jn_base.specs.declared.names.ClientNo.{ClientNo}
 use Rattle.jn_base.specs.declared.names.Tid.{Tid}
 use Rattle.jn_base.specs.declared.names.WorkId.{WorkId}
@@ -10,7 +9,7 @@ use Rattle.jn_base.specs.declared.names.Tickets.{Tickets}
 use Rattle.jn_base.specs.declared.names.Cause.{Cause}
 use Rattle.jn_base.specs.declared.names.Party.TheVariants.{Server}
 use Rattle.jn_base.specs.declared.op.Command.{Command}
-use Rattle.jn_base.specs.declared.op.Command.TheVariants.{Begin, Open as OpenAt, Do, End, Abort}
+use Rattle.jn_base.specs.declared.op.Command.TheVariants.{End, Abort}
 use Rattle.jn_base.specs.Names.{client_eq, tid_eq}
 use Rattle.jn_base.proofs.Tells.{client_tells, tid_tells}
 use Rattle.jn_msgs.specs.declared.message.Message.{Message}
@@ -23,18 +22,19 @@ use Rattle.jn_rows.specs.declared.client.Outstanding.{Outstanding}
 use Rattle.jn_rows.specs.declared.client.Taken.{Taken}
 use Rattle.jn_rows.specs.declared.client.Taken.TheVariants as taken
 use Rattle.jn_rows.specs.declared.coordinator.Transaction.{Transaction}
+use Rattle.jn_rows.specs.declared.coordinator.Stage.{Stage}
+use Rattle.jn_rows.specs.declared.coordinator.Stage.TheVariants.{Open, Voting, Committed, Aborted}
 use Rattle.jn_rows.specs.Stable.{StableState}
 use Rattle.jn_rows.specs.Outcomes.{RowOutcome, Sent}
-use Rattle.jn_rows.specs.Worker.{worker_row, carried_row}
-use Rattle.jn_rows.specs.Coordinator.{CoordinatorTable, after_closing, begun_by, begin_again, begin_row, coordinator_row}
+use Rattle.jn_rows.specs.Worker.{worker_row}
+use Rattle.jn_rows.specs.Coordinator.{CoordinatorTable, after_closing, begun_by, begin_again, coordinator_row}
 use Rattle.jn_rows.specs.Client.{ClientTable, is_begin, is_operation, is_end, is_end_or_abort, told, over, opens, is_tid, is_current, if_waits, outcome_row, take_row}
 use Rattle.jn_protocol.specs.World.{Memory}
 use Rattle.jn_protocol.specs.Servers.{Room, storage_of, server_row, of_worker, of_coordinator, is_for_worker}
 use Rattle.jn_settling.proofs.ClientFits.{sent_with}
 use Rattle.jn_settled.specs.Settled.{tells_outcome}
 use Rattle.jn_settled.proofs.Ways.{Has}
-use Rattle.jn_settled.proofs.Votes.{is_begin_message, worker-plain}
-use Rattle.jn_settled.proofs.Seen.{plain-row}
+use Rattle.jn_settled.proofs.Votes.{VoteOf, EndOf, Votings, RowVotes, coordinator-votes, is_begin_message, worker-plain}
 use Rattle.jn_settled.proofs.About.{is_about, are_off, worker-off, coordinator-off}
 use Rattle.jn_settled.proofs.Order.{NoneBegins, plain-begins}
 
@@ -65,6 +65,24 @@ thanks-off T m h = grind arith
 
 pub thanks-begins : (m : Message) → is_thanks m ≡ true → is_begin_message m ≡ false
 thanks-begins m h = grind arith
+
+-- what holds of a row that begins nothing, whatever was asked
+plain-row : (t : CoordinatorTable) (free : ℕ) (k : Tickets) (m : Message) → is_begin_message m ≡ false → RowVotes (λ c q. Unit {0}) t (coordinator_row t free k m)
+plain-row t free k m b = coordinator-votes (λ c q. Unit {0}) t free k m (trivial t.transactions) (any-end m) b
+  where
+    vote : (c : ClientNo) (s : Stage) → VoteOf (λ c q. Unit {0}) c s
+    vote c Open = tt
+    vote c (Voting b) = tt
+    vote c (Committed d) = tt
+    vote c (Aborted cause) = tt
+
+    trivial : (xs : List Transaction) → Votings (λ c q. Unit {0}) xs
+    trivial [] = tt
+    trivial (x ∷ xs) = (vote x.client x.stage, trivial xs)
+
+    any-end : (m : Message) → EndOf (λ c q. Unit {0}) t m
+    any-end (messages.End c q T Ws) = λ y e. tt
+    any-end m = tt
 
 choose : (b : Bool) (p q : RowOutcome CoordinatorTable) → NoneBegins p.messages → NoneBegins q.messages → NoneBegins (if b then p else q).messages
 choose true p q h l = h
@@ -120,9 +138,6 @@ pub data TookIn (T : Tid) (t : ClientTable) (m : Message) : Type 0 where
   told_commit : m ≡ messages.Outcome t.client T outcomes.Committed → TookIn T t m
 
 module _ (T : Tid) (t : ClientTable) (i : IsIn T t) where
-  o : Outstanding
-  o = i.command
-
   fits-not : (test : Outstanding → Bool) (row : ℕ → ClientTable × Taken) → test i.command ≡ false → (if_waits t t.outstanding test row).0 ≡ t
   fits-not test row h = ap (λ z. (if_waits t z test row).0) i.waits ∙ ap (λ (b : Bool). (if◌then◌else◌ {A = ClientTable × Taken} b (row i.command.event) (t, taken.Ignored)).0) h
 
@@ -203,9 +218,14 @@ module _ (T : Tid) (t : ClientTable) (i : IsIn T t) where
 
   -- its abort is told
   pub take-aborts : (c : ClientNo) (cause : Cause) → t.client ≡ c → (line : Text) × (answer : Option Sent) × ((take_row t (messages.Outcome c T (outcomes.Aborted cause))).1 ≡ taken.Told line answer) × (tells_outcome T line ≡ true)
-  take-aborts c cause name = (_, _, ap (λ (b : Bool). (if◌then◌else◌ {A = ClientTable × Taken} b (outcome_row t T (outcomes.Aborted cause)) (t, taken.Ignored)).1) own
-      ∙ ap (λ (b : Bool). (if◌then◌else◌ {A = ClientTable × Taken} b (if_waits t t.outstanding (λ p. is_end_or_abort p.command) line) (t, taken.Send (Server T.server) (messages.Thanks t.client T))).1) (current-is T ∙ itself)
-      ∙ ap (λ z. (if_waits t z (λ p. is_end_or_abort p.command) line).1) i.waits ∙ ap (λ (b : Bool). (if◌then◌else◌ {A = ClientTable × Taken} b (line i.command.event) (t, taken.Ignored)).1) i.closing, itself)
+  take-aborts c cause name = (
+    _,
+    _,
+    ap (λ (b : Bool). (if◌then◌else◌ {A = ClientTable × Taken} b (outcome_row t T (outcomes.Aborted cause)) (t, taken.Ignored)).1) own
+        ∙ ap (λ (b : Bool). (if◌then◌else◌ {A = ClientTable × Taken} b (if_waits t t.outstanding (λ p. is_end_or_abort p.command) line) (t, taken.Send (Server T.server) (messages.Thanks t.client T))).1) (current-is T ∙ itself)
+        ∙ ap (λ z. (if_waits t z (λ p. is_end_or_abort p.command) line).1) i.waits ∙ ap (λ (b : Bool). (if◌then◌else◌ {A = ClientTable × Taken} b (line i.command.event) (t, taken.Ignored)).1) i.closing,
+    itself,
+  )
     where
       itself : tid_eq T T ≡ true
       itself = grind (arith, tid_tells T T)
