@@ -36,7 +36,7 @@ use Rattle.jn_settling.proofs.Courses.{Sound, go-sound, waiting-is}
 use Rattle.jn_settling.proofs.Settling.{opening-sound, on-world, settle-ends}
 use Rattle.jn_settling.proofs.WorldSizes.{up-sizes}
 use Rattle.jn_settled.specs.Settled.{AreUp}
-use Rattle.jn_settled.proofs.Known.{IsKnown, known-step, opening-known}
+use Rattle.jn_reported.proofs.Reached.{Reached, next-reached, opening-reached}
 use Rattle.jn_settled.proofs.Ways.{Waits, quiet-clients, rest-down}
 use Rattle.jn_settled.proofs.Answered.{rest-keeps, ask-keeps}
 use Rattle.jn_closed.specs.Ending.{Start, restarts, end_steps, without_messages, ended, IsEmpty, IsClosed, IsAsCommitted, Leaves}
@@ -243,13 +243,13 @@ module _ (n : ℕ) (at_most : n ≤ 8) (start : World) (files : AllFiles) (epoch
   -- what every step keeps
   pub record Traced (d : Course) : Type 0 where
     pub sound : Sound n start d
-    pub known : IsKnown files epochs d.world
+    pub known : Reached files epochs d.world
     pub beyond : Beyond n d.world
 
   pub traced-go : (d : Course) (step : Step) → Traced d → IsStep step d.world → Traced (go step d)
   traced-go d step h i = record {
     sound = go-sound n at_most start d step h.sound i;
-    known = known-step files epochs d.world h.known h.sound.locks step i;
+    known = next-reached files epochs d.world step i h.known;
     beyond = beyond-step n d.world h.beyond h.sound.sizes step i;
   }
 
@@ -511,7 +511,7 @@ module _ (n : ℕ) (at_most : n ≤ 8) (files : AllFiles) (epochs : ServerNo →
   c = go_on steps (opening_course n files epochs)
 
   t : Traced n at_most (opening n files epochs) files epochs c
-  t = traced-on n at_most (opening n files epochs) files epochs steps (opening_course n files epochs) (record { sound = opening-sound n files epochs; known = opening-known n files epochs; beyond = opening-beyond n files epochs }) is
+  t = traced-on n at_most (opening n files epochs) files epochs steps (opening_course n files epochs) (record { sound = opening-sound n files epochs; known = opening-reached files epochs n; beyond = opening-beyond n files epochs }) is
 
   it-ended : Ended n at_most (opening n files epochs) files epochs (ended n starts c)
   it-ended = end-closes n at_most (opening n files epochs) files epochs starts (without_messages c)

@@ -35,7 +35,7 @@ use Rattle.jn_settling.proofs.Courses.{go-sound, waiting-is}
 use Rattle.jn_settling.proofs.Parts.{Busy, busy-has, get-some, next_intention, row_of, works-as}
 use Rattle.jn_settling.proofs.WorldSizes.{holds-of}
 use Rattle.jn_settled.specs.Settled.{AreUp}
-use Rattle.jn_settled.proofs.Known.{known-step}
+use Rattle.jn_reported.proofs.Reached.{next-reached}
 use Rattle.jn_settled.proofs.Ways.{Has, Waits, still-waits, now-waits, rest-down, any-without}
 use Rattle.jn_closed.proofs.Rows.{is_thanked, are_all, is_ours, are_ours, needs, needs_of, needs_in, RowTends, Takes, carried-tends, going-there}
 use Rattle.jn_closed.proofs.Tends.{waiting_ours, ours_at, ours-more, ours-both, ours-new, stored, Needed, Asked, inquires, commits, drops, Stays, lives, told, carried, Ways, Tends, up-fact, takes, same-owner, row-tends, row-ways}
@@ -203,7 +203,7 @@ module _ (n : ℕ) (at_most : n ≤ 8) (start : World) (files : AllFiles) (epoch
       → are_ours new ≡ true → still_waiting step d.waiting ≡ d.waiting → It (go step d)
   sends-tends d step new h i memory clients sent ours waits = record {
     sound = go-sound n at_most start d step h.sound i;
-    known = known-step files epochs d.world h.known h.sound.locks step i;
+    known = next-reached files epochs d.world step i h.known;
     kept = λ s m e. h.kept s m (sym (ap (λ f. f s) memory) ∙ e);
     idle = λ c. ap (λ f. (f c).outstanding) clients ∙ h.idle c;
     ours = subst (λ xs. waiting_ours xs (go step d).waiting ≡ true) (sym sent) (subst (λ ks. waiting_ours (d.world.sent ++ new) ks ≡ true) (sym (waiting-is n at_most start d step new sent))

@@ -37,7 +37,7 @@ use Rattle.jn_moves.proofs.Transactions.{found-is}
 use Rattle.jn_settling.specs.Course.{Course, numbered, still_waiting, go}
 use Rattle.jn_settling.proofs.Burdens.{are_below, get-more, get-next}
 use Rattle.jn_settling.proofs.Courses.{Sound, go-sound, waiting-is, below-still}
-use Rattle.jn_settled.proofs.Known.{IsKnown, known-step}
+use Rattle.jn_reported.proofs.Reached.{Reached, next-reached}
 use Rattle.jn_settled.proofs.Ways.{Has, Waits, now-waits}
 use Rattle.jn_closed.proofs.Rows.{Kept, is_ours, are_ours, needs, needs_of, needs_in, RowTends, Own, Takes, commit-takes, drop-takes, inquire-answers, done-answers}
 
@@ -101,7 +101,7 @@ stored-now q k row w W = by (server_eq q W.server)
 module _ (n : ℕ) (at_most : n ≤ 8) (start : World) (files : AllFiles) (epochs : ServerNo → ℕ) where
   pub record Tends (d : Course) : Type 0 where
     pub sound : Sound n start d
-    pub known : IsKnown files epochs d.world
+    pub known : Reached files epochs d.world
     pub kept : (s : ServerNo) (m : Memory) → d.world.memory s ≡ Some m → Kept m
     pub idle : (c : ClientNo) → (d.world.clients c).outstanding ≡ None
     pub ours : waiting_ours d.world.sent d.waiting ≡ true
@@ -198,7 +198,7 @@ module _ (n : ℕ) (at_most : n ≤ 8) (start : World) (files : AllFiles) (epoch
       pub row-tends : waiting_ours w.sent (still_waiting step d.waiting) ≡ true → Tends (go step d)
       row-tends left = record {
         sound = go-sound n at_most start d step h.sound i;
-        known = known-step files epochs w h.known h.sound.locks step i;
+        known = next-reached files epochs w step i h.known;
         kept = λ s a e. kept s a (server_eq q s) (sym (ap (λ (z : World). z.memory s) is) ∙ e);
         idle = λ c. ap (λ (z : World). (z.clients c).outstanding) is ∙ h.idle c;
         ours = subst (λ xs. waiting_ours xs (go step d).waiting ≡ true) (sym its-sent) (subst (λ ks. waiting_ours (w.sent ++ row.messages) ks ≡ true) (sym (waiting-is n at_most start d step row.messages its-sent))
