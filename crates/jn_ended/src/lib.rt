@@ -3,13 +3,16 @@
 
 ghost use Rattle.std.specs.Prelude.{◌≤◌, ℕ, List};
 ghost use Rattle.jn_base.specs.declared.names.ServerNo.{ServerNo};
-ghost use Rattle.jn_order.specs.Files.{AllFiles};
+ghost use Rattle.jn_order.specs.Files.{AllFiles, no_files};
 ghost use Rattle.jn_serial.specs.Told.{Told};
 ghost use Rattle.jn_serial.specs.Follows.{Follows};
 ghost use Rattle.jn_serial.specs.Caused.{Caused};
 ghost use Rattle.jn_protocol.specs.World.{opening};
 ghost use Rattle.jn_reported.specs.Reported.{Item, events_of, world_of};
 ghost use Rattle.jn_reported.specs.Ending.{Ending, IsWholeRun, AreFilesOf, all_lines};
+ghost use Rattle.jn_protocol.specs.Example.{start};
+ghost use Rattle.jn_shown.specs.Example.{a_commit_is_named};
+ghost use Rattle.jn_ended.specs.Example.{an_end_that_settles};
 ghost use Rattle.jn_ended.specs.Whole.{IsSettledEnd, IsOfItsCommits};
 
 /// Whatever is done under the events of a schedule and at its end, stops and restarts among it: no commit is named twice, each
@@ -31,4 +34,10 @@ pub fn reports_are_true_to_the_end()
 pub fn reports_are_of_their_commits()
     ensures { (servers : ℕ) (files : AllFiles) (epochs : ServerNo → ℕ) (items : List Item) (e : Ending) → servers ≤ 8 → AreFilesOf servers files
         → IsWholeRun servers files epochs items e → IsSettledEnd servers e (world_of items (opening servers files epochs)) → IsOfItsCommits files (events_of items) (all_lines servers files epochs items e) }
+{}
+
+/// There are such runs: here the commit that the restart finds is carried out while the world settles.
+pub fn an_end_settles()
+    ensures run { IsWholeRun 1 no_files (λ s. 0) a_commit_is_named an_end_that_settles }
+    ensures settles { IsSettledEnd 1 an_end_that_settles (world_of a_commit_is_named start) }
 {}
