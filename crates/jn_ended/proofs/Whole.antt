@@ -4,7 +4,6 @@ use Rattle.std.proofs.Math.Path.{fun_ext}
 use Rattle.std.specs.Prelude.{if◌then◌else◌, map, nat_lt}
 use Rattle.std.proofs.lemmas.Bool.Decides.{nat_tests}
 use Rattle.jn_base.specs.declared.names.ServerNo.{ServerNo}
-use Rattle.jn_base.specs.declared.names.ClientNo.{ClientNo}
 use Rattle.jn_base.specs.declared.names.LockUnit.{LockUnit}
 use Rattle.jn_base.specs.Names.{server_eq}
 use Rattle.jn_base.proofs.Tells.{server_tells}
@@ -24,7 +23,7 @@ use Rattle.jn_talk.proofs.Reports.{steps-append}
 use Rattle.jn_settling.proofs.Settling.{on-world}
 use Rattle.jn_settled.proofs.Answered.{rest-keeps, ask-keeps}
 use Rattle.jn_settled.specs.Settled.{AreUp}
-use Rattle.jn_closed.specs.Ending.{Start, restarts, end_steps, without_messages, ended, IsEmpty, IsClosed, Leaves}
+use Rattle.jn_closed.specs.Ending.{Start, restarts, end_steps, without_messages, ended, IsClosed, Leaves}
 use Rattle.jn_closed.proofs.Ends.{end-leaves-nothing}
 use Rattle.jn_ended.specs.Whole.{course_at_end, IsSettledEnd}
 

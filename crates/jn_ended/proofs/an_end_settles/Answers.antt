@@ -12,7 +12,7 @@ use Rattle.jn_reported.specs.Printing.{FileThere, IsPrinted}
 use Rattle.jn_reported.specs.Reported.{world_of, IsReported}
 use Rattle.jn_reported.specs.Ending.{steps_at_end, world_at_end, IsEnding}
 use Rattle.jn_shown.specs.Example.{a_commit_is_named}
-use Rattle.jn_ended.specs.Whole.{course_at_end, IsSettledEnd}
+use Rattle.jn_ended.specs.Whole.{course_at_end}
 use Rattle.jn_ended.specs.Example.{an_end_that_settles}
 use Rattle.jn_settling.specs.Settle.{Chance, settled}
 use Rattle.jn_base.specs.declared.names.ServerNo.{ServerNo}
