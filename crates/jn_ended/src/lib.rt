@@ -1,4 +1,4 @@
-//! What the lines of each run of the whole system say of its schedule holds of the lines of its end too.
+//! The report of every run of the whole system, from its opening to its end, is that of its commits.
 #![tactic(auto)]
 
 ghost use Rattle.std.specs.Prelude.{◌≤◌, ℕ, List};
