@@ -1,5 +1,5 @@
 -- The end of a run prints what all commits leave.
-use Rattle.std.proofs.Common.{◌≡◌, ◌⊎◌, inl, inr, ℕ, suc, ◌+◌, ◌≤◌, ◌<◌, Bool, true, false, List, [], ◌∷◌, ◌++◌, append-nil, append_assoc, length, None, refl, sym, ◌∙◌, ap, subst, arith}
+use Rattle.std.proofs.Common.{◌≡◌, ◌⊎◌, inl, inr, ℕ, suc, ◌+◌, ◌≤◌, ◌<◌, Bool, true, false, List, [], ◌∷◌, ◌++◌, append-nil, append_assoc, length, Some, None, refl, sym, ◌∙◌, ap, subst, arith}
 use Rattle.std.specs.Prelude.{◌&&◌, map, nat_lt}
 use Rattle.std.proofs.lemmas.Bool.Decides.{nat_tests}
 use Rattle.std.specs.List.{list_all}
@@ -20,7 +20,8 @@ use Rattle.jn_serial.specs.Shown.{IsAsIn, AllAsIn, prints_file, is_locked, Shows
 use Rattle.jn_serial.proofs.Orders.{lines_at-append}
 use Rattle.jn_machine.specs.Steps.{run as run_atoms, opening_world}
 use Rattle.jn_moves.proofs.Mirrored.{commits-more}
-use Rattle.jn_protocol.specs.World.{World, opening, commits_in}
+use Rattle.jn_rows.specs.Worker.{commit_holder}
+use Rattle.jn_protocol.specs.World.{World, Memory, opening, commits_in}
 use Rattle.jn_protocol.specs.Steps.{Step, NextEvent, Tell, Crash, CloseClients, after, run, IsRun}
 use Rattle.jn_reported.specs.Printing.{Printed, FileThere, PageStored, UnitLocked, text_printed, IsPrinted}
 use Rattle.jn_reported.specs.Reported.{Does, Item, events_of, steps_of, told_by, told_under, world_of, after_item, at_event, lines_of, IsReported}
@@ -34,7 +35,7 @@ use Rattle.jn_talk.proofs.Quiet.{AreDumb}
 use Rattle.jn_talk.proofs.Reports.{IsCalm, prints-dumb, texts-more, last-reached, end-reached, end-ops, end-as-told, beginning-told}
 use Rattle.jn_shown.proofs.Within.{AllTell, Within, IsAt, run-within, items-tell, calm-tell, opening-within, ops-at, replay-same}
 use Rattle.jn_shown.proofs.Shows.{shown-with}
-use Rattle.jn_shown.proofs.Prints.{AreSame, says-it, said-it, all-as, in-texts, from-texts, is-there, shows-files}
+use Rattle.jn_shown.proofs.Prints.{AreSame, says-it, said-it, all-as, in-texts, from-texts, is-there, none-locked, shows-files}
 
 not-both : (b : Bool) → b ≡ true → b ≡ false → ⊥
 not-both b e f = grind arith
@@ -86,6 +87,10 @@ step-as-in : (files : AllFiles) (y : Text) → IsOfStep y → IsAsIn files y
 step-as-in files (says.File s f) h = absurd h
 step-as-in files (says.Page s f p bytes) h = absurd h
 step-as-in files _ h = tt
+
+step-free : (y : Text) → IsOfStep y → is_locked y ≡ false
+step-free (says.Locked s u T) h = absurd h
+step-free _ h = refl
 
 step-no-file : (s : ServerNo) (f : FileNo) (y : Text) → IsOfStep y → prints_file s f y ≡ true → ⊥
 step-no-file s f (says.File t g) h e = h
@@ -385,3 +390,17 @@ module _ (servers : ℕ) (files : AllFiles) (epochs : ServerNo → ℕ) (items :
 
   pub end-whole : AreFilesOf servers files → says_it is_locked (lines_at AtEnd (lines_to_end servers items e start)) ≡ false → Shown files (events_of items) (lines_to_end servers items e start)
   end-whole few free = record { so_far = so-far; at_end = record { all = end-all few; unlocked = free } }
+
+  -- where nothing is held for commit, nothing is locked
+  pub end-free : ((s : ServerNo) (m : Memory) (u : LockUnit) → (world_at_end servers e (world_of items (opening servers files epochs))).memory s ≡ Some m → commit_holder u m.worker ≡ None) → says_it is_locked (lines_at AtEnd (lines_to_end servers items e start)) ≡ false
+  end-free free = ap (says_it is_locked) lines-then-end ∙ by (says_it is_locked (at_end (told_then ++ (printed ++ count)))) refl
+    where
+      one : (y : Text) → IsOfStep y ⊎ FromPrint 0 e.prints y → is_locked y ≡ false
+      one y (inl j) = step-free y j
+      one y (inr q) = let x = from-texts q.server q.prints y q.is_in in let p = printed-of 0 (world_at_end servers e w) e.prints q.server q.prints k.prints q.is in
+          subst (λ (z : Text). is_locked z ≡ false) x.text (none-locked (replay files (events_of items) lines (history_of lines)) q.server (world_at_end servers e w) (as-told.unlocked q.server) q.prints p (λ u. free q.server p.memory u p.up) x.print x.is_in)
+
+      by : (b : Bool) → says_it is_locked (at_end (told_then ++ (printed ++ count))) ≡ b → b ≡ false
+      by false q = refl
+      by true q = let y = said-it AtEnd is_locked (told_then ++ (printed ++ count)) q in
+          absurd (not-both (is_locked y.text) y.passes (one y.text (origin (replay files (events_of items) lines (history_of lines)) (world_at_end servers e w) (λ t. as-told.unlocked t) told_then of-steps e.prints k.prints _ y.text y.is_in)))

@@ -17,7 +17,7 @@ use Rattle.jn_report.specs.declared.line.Line.{Line}
 use Rattle.jn_rows.specs.Stable.{stable}
 use Rattle.jn_rows.specs.Worker.{commit_holder}
 use Rattle.jn_serial.specs.Lines.{says}
-use Rattle.jn_serial.specs.Shown.{IsAsIn, AllAsIn, prints_file, accounts_file, accounts_block, ShowsFiles}
+use Rattle.jn_serial.specs.Shown.{IsAsIn, AllAsIn, prints_file, accounts_file, accounts_block, is_locked, ShowsFiles}
 use Rattle.jn_machine.specs.Held.{file_unit}
 use Rattle.jn_protocol.specs.World.{World, Memory}
 use Rattle.jn_reported.specs.Printing.{Printed, FileThere, PageStored, UnitLocked, text_printed, print_unit, prints_of, print_one, print_blocks, print_file, print_files, IsPrinted}
@@ -114,6 +114,12 @@ no-print u (Some T) b e = absurd (none (sym e))
 no-print u None None e = (refl, refl)
 no-print (File f) None (Some content) e = absurd (none (sym e))
 no-print (Block f p) None (Some bytes) e = absurd (none (sym e))
+
+print-free : (s : ServerNo) (u : LockUnit) (b : Option (List ℕ)) (x : Printed) → print_unit u None b ≡ Some x → is_locked (text_printed s x) ≡ false
+print-free s (File f) (Some content) x e = subst (λ (y : Printed). is_locked (text_printed s y) ≡ false) (some e) refl
+print-free s (Block f p) (Some bytes) x e = subst (λ (y : Printed). is_locked (text_printed s y) ≡ false) (some e) refl
+print-free s (File f) None x e = absurd (none e)
+print-free s (Block f p) None x e = absurd (none e)
 
 file-itself : (s : ServerNo) (f : FileNo) → (server_eq s s && file_eq f f) ≡ true
 file-itself s f = grind (arith, server_tells s s, file_tells f f)
@@ -243,6 +249,10 @@ module _ (files : AllFiles) (s : ServerNo) (w : World) (same : AreSame files s w
 
   pub is-there : (x : Printed) → In x prints → IsAsIn files (text_printed s x)
   is-there x k = so-there x (source x k)
+
+  -- where nothing is held for commit, nothing is printed as locked
+  pub none-locked : ((u : LockUnit) → held u ≡ None) → (x : Printed) → In x prints → is_locked (text_printed s x) ≡ false
+  none-locked free x k = let src = source x k in print-free s src.unit (found src.unit) x (ap (λ (o : Option Tid). print_unit src.unit o (found src.unit)) (sym (free src.unit)) ∙ src.is)
 
   -- a file whose line is printed is there
   file-there : (f : FileNo) (x : Printed) → Source at h.blocks x → prints_file s f (text_printed s x) ≡ true → at (File f) ≡ Some (FileThere f)

@@ -1,0 +1,86 @@
+use Rattle.std.proofs.Common.{◌≡◌, ◌≤◌, ℕ, zero, suc, false, true, is_some, Bool, Option, true≢false, [], ◌∷◌, Some, None, refl, arith}
+use Rattle.std.specs.Prelude.{if◌then◌else◌}
+use Rattle.std.proofs.lemmas.Bool.Decides.{nat_tests}
+use Rattle.jn_base.specs.Names.{server_eq, tid_eq, work_eq, file_eq}
+use Rattle.jn_base.proofs.Tells.{work_tells, tid_tells}
+use Rattle.jn_locks.specs.Locks.{work_before}
+use Rattle.jn_rows.specs.Stable.{Prepared, FlagState, at_work, at_tid}
+use Rattle.jn_protocol.specs.World.{World, Memory}
+use Rattle.jn_protocol.specs.Steps.{AreNames, tid_before}
+use Rattle.jn_protocol.specs.Example.{the_server, the_file, the_transaction, the_work, much, start}
+use Rattle.jn_reported.specs.Printing.{FileThere, IsPrinted}
+use Rattle.jn_reported.specs.Reported.{world_of, IsReported}
+use Rattle.jn_reported.specs.Ending.{steps_at_end, world_at_end, IsEnding}
+use Rattle.jn_shown.specs.Example.{a_commit_is_named}
+use Rattle.jn_ended.specs.Whole.{course_at_end}
+use Rattle.jn_ended.specs.Example.{an_end_that_settles}
+use Rattle.jn_settling.specs.Settle.{Chance, settled}
+use Rattle.jn_base.specs.declared.names.ServerNo.{ServerNo}
+use Rattle.jn_shown.proofs.Examples.{memory_in, is-up, once_there, no_block}
+use Rattle.jn_ended.proofs.an_end_settles.Goals as goal
+
+abbrev over : World
+over = world_at_end 1 an_end_that_settles (world_of a_commit_is_named start)
+
+printed : IsPrinted the_server over (FileThere the_file ∷ [])
+printed = record {
+  memory = memory_in (over.memory the_server);
+  up = is-up (over.memory the_server) refl;
+  files = the_file ∷ [];
+  blocks = λ f. [];
+  are_files = record { each = λ f. once_there f (file_eq the_file f); rising = refl };
+  are_blocks = λ f h. record { each = λ p. no_block f p (file_eq the_file f); rising = refl };
+  printed = refl;
+}
+
+one_work : (p : Prepared) → AreNames work_eq work_before (at_work (λ V. None) the_work (Some p)) (the_work ∷ [])
+one_work p = record { each = λ a. grind (arith, work_tells); rising = refl }
+
+one_flag : (p : FlagState) → AreNames tid_eq tid_before (at_tid (λ V. None) the_transaction (Some p)) (the_transaction ∷ [])
+one_flag p = record { each = λ a. grind (arith, tid_tells); rising = refl }
+
+reported : IsReported a_commit_is_named start
+reported = record {
+  under = (refl, (refl, (refl, (refl, (refl, (refl, (refl, (refl, (refl, (refl, (refl, (refl, (refl, tt)))))))))))));
+  steps = (tt, (tt, (tt, (tt, (tt, (tt, (tt, (tt, (tt, (tt, (tt, (tt, (tt, (tt, (tt, (tt, (tt, (tt, (tt, (tt, (tt, (tt, (tt, (tt, (tt, (tt, tt))))))))))))))))))))))))));
+  shows = (tt, (tt, (tt, (tt, (tt, (tt, (tt, (tt, (tt, (tt, (tt, (tt, (tt, tt)))))))))))));
+  faults = (tt, (tt, ((tt, tt), (tt, (tt, ((tt, tt), (tt, (tt, ((tt, tt), (tt, (tt, (tt, ((tt, tt), tt)))))))))))));
+}
+
+ending : IsEnding 1 an_end_that_settles (world_of a_commit_is_named start)
+ending = record {
+  steps = (tt, (tt, ((one_work _, one_flag _), (λ d. (refl, refl), (tt, (tt, (tt, (tt, (tt, (tt, (tt, (tt, (tt, (tt, (tt, (tt, (tt, (tt, (tt, tt)))))))))))))))))));
+  all_up = refl;
+  settling = refl;
+  all_print = refl;
+  prints = (printed, tt);
+}
+
+pub returns-clause-run : goal.returns-clause-run
+returns-clause-run c = record { reported = reported; ending = ending }
+
+out : (b : Bool) → b ≡ false → (x y : Option Memory) → is_some y ≡ true → is_some (if b then x else y) ≡ true
+out false e x y h = h
+out true e x y h = absurd (true≢false e)
+
+others : (s : ServerNo) → 1 ≤ s.0 → is_some (over.memory s) ≡ true
+others s l = let b = server_eq the_server s in let e = far s l in out b e _ _ (out b e _ _ (out b e _ _ (out b e _ _ (out b e _ _ (out b e _ _ (out b e _ _ (out b e _ _ (out b e _ _ (out b e _ _ (out b e _ _ (out b e _ _ (out b e _ _ (out b e _ _ (out b e _ _ (refl)))))))))))))))
+  where
+    far : (s : ServerNo) → 1 ≤ s.0 → server_eq the_server s ≡ false
+    far s l = grind (arith, nat_tests, l)
+
+abbrev chances : ℕ → Chance
+chances n = record { room = much; stop = None }
+
+each : (n : ℕ) → 6 ≤ n → (settled 1 (record { first = chances; second = chances; steps = n }) (course_at_end 1 an_end_that_settles (world_of a_commit_is_named start))).steps ≡ steps_at_end 1 an_end_that_settles
+each zero l = absurd (omega (arith, l))
+each (suc zero) l = absurd (omega (arith, l))
+each (suc (suc zero)) l = absurd (omega (arith, l))
+each (suc (suc (suc zero))) l = absurd (omega (arith, l))
+each (suc (suc (suc (suc zero)))) l = absurd (omega (arith, l))
+each (suc (suc (suc (suc (suc zero))))) l = absurd (omega (arith, l))
+each (suc (suc (suc (suc (suc (suc zero)))))) l = refl
+each (suc (suc (suc (suc (suc (suc (suc n))))))) l = refl
+
+pub returns-clause-settles : goal.returns-clause-settles
+returns-clause-settles c = record { first = chances; second = chances; enough = 6; each = each; others_up = others }
