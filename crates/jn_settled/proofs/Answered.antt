@@ -270,12 +270,6 @@ module _ (n : ℕ) (at_most : n ≤ 8) (start : World) (files : AllFiles) (epoch
     ask-keeps [] servers d h = nudges-keep servers d h
     ask-keeps (c ∷ clients) servers d h = ask-keeps clients servers (go (Again c) d) (good d (Again c) h tt)
 
-  pub rest-talking : (j : ℕ) (chances : ℕ → Chance) (d : Course) → Talking d → Talking (until_rest (servers_from 0 n) chances j d)
-  rest-talking = rest-keeps Talking go-talking
-
-  pub ask-talking : (clients : List ClientNo) (servers : List ServerNo) (d : Course) → Talking d → Talking (go_on (ask_again clients servers) d)
-  ask-talking = ask-keeps Talking go-talking
-
   -- what a client waits for stays or is answered, as long as no client is told anything
   module _ (c : ClientNo) (t : ClientTable) where
     abbrev On : Course → Type 0

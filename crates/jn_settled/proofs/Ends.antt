@@ -57,7 +57,8 @@ use Rattle.jn_settled.proofs.Talk.{IsStill}
 use Rattle.jn_settled.proofs.Ways.{any-left, any-right, Has, Waits, IsEnd, none-still, taken-still, taken-taken, took-memory}
 use Rattle.jn_settled.proofs.Answered.{ends_outcome, its-client, outcome-ends}
 use Rattle.jn_settled.proofs.Begins.{Good}
-use Rattle.jn_settled.proofs.Fates.{is_undecided, is_unfinished, has-after, Move, starts, notes_one, commits_now, aborts_now, finishes, Fate, stays, moves, forgets, closes, row-fate}
+use Rattle.jn_settled.specs.Settled.{is_undecided}
+use Rattle.jn_settled.proofs.Fates.{is_unfinished, has-after, Move, starts, notes_one, commits_now, aborts_now, finishes, Fate, stays, moves, forgets, closes, row-fate}
 use Rattle.jn_settled.proofs.Memories.{found-unfinished, Unfinished}
 use Rattle.jn_settled.proofs.Calm.{Comes, carried}
 use Rattle.jn_settled.proofs.Standing.{machine, not-next, no-later, not-going}

@@ -17,7 +17,7 @@ use Rattle.jn_settling.specs.Settle.{Chance, servers_from, clients_from, until_r
 use Rattle.jn_settling.specs.Bounds.{IsAtRest}
 use Rattle.jn_settling.proofs.Courses.{Sound}
 use Rattle.jn_reported.proofs.Reached.{Reached}
-use Rattle.jn_settled.specs.Settled.{AreUp, tells_waiting, told_since, EndsWait, Leaves}
+use Rattle.jn_settled.specs.Settled.{AreUp, tells_waiting, told_since, EndsWait}
 use Rattle.jn_settled.proofs.Talk.{FitsCommand}
 use Rattle.jn_settled.proofs.Ways.{Waits, rest-down}
 use Rattle.jn_settled.proofs.Answered.{Talks, among-clients}
@@ -26,7 +26,7 @@ use Rattle.jn_settled.proofs.Answers.{rest-good, ask-good, stays}
 use Rattle.jn_settled.proofs.Memories.{Unfinished, all_unfinished, run-unfinished}
 use Rattle.jn_settled.proofs.Calm.{carried, Asked, ask-asks, rest-calm}
 use Rattle.jn_settled.proofs.Ends.{Longer, took-longer, OnWay, asks, client-way, server-way, work-way, rest-way}
-use Rattle.jn_settled.proofs.Settling.{course-twin, first_part, asked_again, second_part, settles, all-answered}
+use Rattle.jn_settled.proofs.Settling.{course-twin, first_part, asked_again, second_part, all-answered}
 
 module _ (n : ℕ) (at_most : n ≤ 8) (files : AllFiles) (epochs : ServerNo → ℕ) where
   abbrev start : World
@@ -61,8 +61,8 @@ module _ (n : ℕ) (at_most : n ≤ 8) (files : AllFiles) (epochs : ServerNo →
   -- lines grow in a part
   pub rest-long : (before j : ℕ) (chances : ℕ → Chance) (d : Course) → IsGood d → AreUp (until_rest (servers_from 0 n) chances j d).world → before ≤ length d.world.lines → before ≤ length (until_rest (servers_from 0 n) chances j d).world.lines
   rest-long before = rest-calm n at_most start IsGood sound (good-go n at_most start files epochs) (λ d. before ≤ length d.world.lines)
-      (λ d now k c message g is comes l. longer d now _ comes.world (took-longer c k (take_row (d.world.clients c) message).0 (take_row (d.world.clients c) message).1 d.world) l)
-      (λ d now k room s message m g is up comes l. longer d now _ comes.world (record { more = lines_of s (Some k) (server_row m (stable (d.world.found s)) room message).notes; is = refl }) l)
+      (λ d now k c message g is comes first l. longer d now _ comes.world (took-longer c k (take_row (d.world.clients c) message).0 (take_row (d.world.clients c) message).1 d.world) l)
+      (λ d now k room s message m g is up comes first l. longer d now _ comes.world (record { more = lines_of s (Some k) (server_row m (stable (d.world.found s)) room message).notes; is = refl }) l)
       (λ d now s m v g e up goes comes l. longer d now _ comes.world (record { more = lines_of s None (carried m d.world s v).notes; is = refl }) l)
     where
       longer : (d now : Course) (w : World) → now.world ≡ w → Longer d.world w → before ≤ length d.world.lines → before ≤ length now.world.lines
@@ -126,8 +126,8 @@ module _ (n : ℕ) (at_most : n ≤ 8) (files : AllFiles) (epochs : ServerNo →
 
         on-way : OnWay n at_most files epochs reached e t o T (length c.world.lines) talks.name waits ends fits.1 last
         on-way = rest-calm n at_most start IsGood sound (good-go n at_most start files epochs) (OnWay n at_most files epochs reached e t o T (length c.world.lines) talks.name waits ends fits.1)
-            (client-way n at_most files epochs reached e t o T (length c.world.lines) talks.name waits ends fits.1)
-            (λ d now k room s message m g is up comes. server-way n at_most files epochs reached e t o T (length c.world.lines) talks.name waits ends fits.1 d now k room s message m g is up comes)
+            (λ d now k f message g is comes first. client-way n at_most files epochs reached e t o T (length c.world.lines) talks.name waits ends fits.1 d now k f message g is comes)
+            (λ d now k room s message m g is up comes first. server-way n at_most files epochs reached e t o T (length c.world.lines) talks.name waits ends fits.1 d now k room s message m g is up comes)
             (λ d now s m v g e' up goes comes. work-way n at_most files epochs reached e t o T (length c.world.lines) talks.name waits ends fits.1 unfinished d now s m v g e' comes)
             k second middle good-middle up (record {
               long = long;
@@ -142,6 +142,3 @@ module _ (n : ℕ) (at_most : n ≤ 8) (files : AllFiles) (epochs : ServerNo →
             none : None ≡ Some o → ⊥
             none z = cc
         by (inr q) = q
-
-  pub settle-waits : (first second : ℕ → Chance) (c : Course) → IsGood c → Leaves n first second c EndsWait
-  settle-waits first second c h = settles n at_most files epochs first second c EndsWait h (λ i k one two up. ends-wait first second c i k h two up)

@@ -30,12 +30,10 @@ use Rattle.jn_moves.specs.Mirrors.{AreTransactions}
 use Rattle.jn_moves.proofs.Transactions.{in_stage, at-stage, none-staged, none-less, at-less}
 use Rattle.jn_settling.proofs.CoordinatorFits.{found-name}
 use Rattle.jn_reported.proofs.Lists.{In}
+use Rattle.jn_settled.specs.Settled.{is_undecided}
 use Rattle.jn_settled.proofs.Ways.{Has}
-
-abbrev pub is_undecided : Stage → Bool
-is_undecided Open = true
-is_undecided (Voting b) = true
-is_undecided stage = false
+use Rattle.jn_settled.proofs.Votes.{is_begin_message}
+use Rattle.jn_settled.proofs.About.{is_about}
 
 -- a vote or a commit that is complete goes no further in its stage
 abbrev pub is_unfinished : Stage → Bool
@@ -214,6 +212,54 @@ module _ (w : Machine) (s : ServerNo) (t : CoordinatorTable) (free : ℕ) (k : T
       by (inl p) = let one = some-transaction y x (sym e ∙ ap (λ (V : Tid). transaction_at V t.transactions) p.1 ∙ found) in
           forgets (ap (transaction_at T) now ∙ at-less w s T U t.transactions all ∙ ap (λ (b : Bool). if b then None else transaction_at T t.transactions) p.0) (subst (λ (z : Transaction). is_undecided z.stage ≡ false) one decided)
       by (inr p) = stays (ap (transaction_at T) now ∙ at-less w s T U t.transactions all ∙ ap (λ (b : Bool). if b then None else transaction_at T t.transactions) p.0 ∙ found)
+
+  -- a row on another one
+  other-kind : (U : Tid) (y : Transaction) (row : RowOutcome CoordinatorTable) → tid_eq U T ≡ false → Kind U y t row → transaction_at T row.table.transactions ≡ Some x
+  other-kind U y row ne (keeps now) = ap (transaction_at T) now ∙ found
+  other-kind U y row ne (comes stage now unfinished move) = ap (transaction_at T) now ∙ at-stage T U stage t.transactions ∙ ap (λ (b : Bool). if b then in_stage stage (transaction_at T t.transactions) else transaction_at T t.transactions) ne ∙ found
+  other-kind U y row ne (goes now decided) = ap (transaction_at T) now ∙ at-less w s T U t.transactions all ∙ ap (λ (b : Bool). if b then None else transaction_at T t.transactions) ne ∙ found
+
+  other-one : (U : Tid) (f : Option Transaction → RowOutcome CoordinatorTable) → tid_eq U T ≡ false → (f None).table.transactions ≡ t.transactions → ((y : Transaction) → transaction_at U t.transactions ≡ Some y → Kind U y t (f (Some y)))
+      → transaction_at T (f (transaction_at U t.transactions)).table.transactions ≡ Some x
+  other-one U f ne none some = by (transaction_at U t.transactions) refl
+    where
+      by : (o : Option Transaction) → transaction_at U t.transactions ≡ o → transaction_at T (f o).table.transactions ≡ Some x
+      by None e = ap (transaction_at T) none ∙ found
+      by (Some y) e = other-kind U y (f (Some y)) ne (some y e)
+
+  mine : (U : Tid) (f : Option Transaction → RowOutcome CoordinatorTable) → (f None).table.transactions ≡ t.transactions → ((y : Transaction) → transaction_at U t.transactions ≡ Some y → Kind U y t (f (Some y)))
+      → transaction_at T (f (Some x)).table.transactions ≡ Some x → transaction_at T (f (transaction_at U t.transactions)).table.transactions ≡ Some x
+  mine U f none some own = by (tid_tells U T)
+    where
+      by : ((tid_eq U T ≡ true) × (U ≡ T)) ⊎ ((tid_eq U T ≡ false) × (U ≢ T)) → transaction_at T (f (transaction_at U t.transactions)).table.transactions ≡ Some x
+      by (inl p) = ap (λ o. transaction_at T (f o).table.transactions) (ap (λ (V : Tid). transaction_at V t.transactions) p.1 ∙ found) ∙ own
+      by (inr p) = other-one U f p.0 none some
+
+  -- an undecided one stays as it is where the message isn't about it and begins nothing
+  pub row-kept : (m : Message) → is_about T m ≡ false → is_begin_message m ≡ false → is_undecided x.stage ≡ true → transaction_at T (coordinator_row t free k m).table.transactions ≡ Some x
+  row-kept (messages.Begin c q) h b u = absurd (true≢false b)
+  row-kept (messages.End c q U Ws) h b u = other-one U (end_row t free k c q U Ws) h refl (λ y e. end-its t k U y e free q Ws y.stage refl)
+  row-kept (messages.Abort c q U Ws) h b u = other-one U (abort_request t k c U Ws) h refl (λ y e. abort-stage-its t k U y e Ws y.stage refl)
+  row-kept (messages.Vote U W vote) h b u = other-one U (vote_row t k U W vote) h refl (λ y e. vote-its t k U y e W vote y.stage refl)
+  row-kept (messages.Thanks c U) h b u = mine U (thanks_row t k U) refl (λ y e. thanks-its t k U y e y.stage refl) (ap (transaction_at T) (still x.stage u) ∙ found)
+    where
+      still : (s : Stage) → is_undecided s ≡ true → (thanks_stage t k U s).table.transactions ≡ t.transactions
+      still Open u = refl
+      still (Voting b) u = refl
+      still s u = absurd (true≢false (sym u))
+  row-kept (messages.Done U W) h b u = mine U (done_row t k U W) refl (λ y e. done-its t k U y e W y.stage refl) (ap (transaction_at T) (still x.stage u) ∙ found)
+    where
+      still : (s : Stage) → is_undecided s ≡ true → (done_stage t k U W s).table.transactions ≡ t.transactions
+      still Open u = refl
+      still (Voting b) u = refl
+      still s u = absurd (true≢false (sym u))
+  row-kept (messages.Inquire U W) h b u = mine U (inquire_row t k U W) refl (λ y e. told-its t k U y e U W y.stage) (ap (transaction_at T) (still x.stage u) ∙ found)
+    where
+      still : (s : Stage) → is_undecided s ≡ true → (told_stage t k U W s).table.transactions ≡ t.transactions
+      still Open u = refl
+      still (Voting b) u = refl
+      still s u = absurd (true≢false (sym u))
+  row-kept m h b u = found
 
   unmoved : (m : Message) (row : RowOutcome CoordinatorTable) → row.table.transactions ≡ t.transactions → Fate T x t m row
   unmoved m row e = stays (ap (transaction_at T) e ∙ found)

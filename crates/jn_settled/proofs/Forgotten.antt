@@ -23,7 +23,7 @@ use Rattle.jn_settling.specs.Course.{Course}
 use Rattle.jn_settling.specs.Settle.{Chance, servers_from, clients_from, until_rest}
 use Rattle.jn_settling.specs.Sizes.{is_few, are_near, is_small_stage, are_small_stages, is_committed, committed_at, TableSizes, ServerSizes}
 use Rattle.jn_settling.specs.Bounds.{IsAtRest, NothingGoes}
-use Rattle.jn_settled.specs.Settled.{AreUp, AreForgotten, Leaves}
+use Rattle.jn_settled.specs.Settled.{AreUp, AreForgotten}
 use Rattle.jn_settled.proofs.Ways.{Waits}
 use Rattle.jn_settled.proofs.Ends.{all-ready}
 use Rattle.jn_settling.proofs.Settling.{nothing-goes}
@@ -36,7 +36,7 @@ use Rattle.jn_settled.proofs.Broken.{BrokenTold, run-told}
 use Rattle.jn_settled.proofs.Calm.{rest-calm}
 use Rattle.jn_settled.proofs.Standing.{inv, up-at}
 use Rattle.jn_settled.proofs.Flags.{Carries, to_commit, goes_on, to_finish, Thanking, to_client, to_server, Progress, FlagWay, client-flags, server-flags, work-flags, ask-flags}
-use Rattle.jn_settled.proofs.Settling.{course-twin, first_part, asked_again, second_part, settles}
+use Rattle.jn_settled.proofs.Settling.{course-twin, first_part, asked_again, second_part}
 use Rattle.jn_settled.proofs.EndsWait.{reached, unfinished, good, good-middle, asked}
 use Rattle.jn_reported.proofs.Reached.{opening-reached}
 
@@ -126,8 +126,8 @@ module _ (n : ℕ) (at_most : n ≤ 8) (files : AllFiles) (epochs : ServerNo →
 
     pub last-flags : (T : Tid) → T.server.0 < n → FlagWay n at_most files epochs (reached n at_most files epochs) broken T last
     last-flags T near = rest-calm n at_most start IsGood (λ d h. h.talking.sound) (good-go n at_most start files epochs) (FlagWay n at_most files epochs (reached n at_most files epochs) broken T)
-        (client-flags n at_most files epochs (reached n at_most files epochs) broken T)
-        (λ d now k room s message m g is up comes h. server-flags n at_most files epochs (reached n at_most files epochs) broken T d now k room s message m g is up comes h)
+        (λ d now k e message g is comes first h. client-flags n at_most files epochs (reached n at_most files epochs) broken T d now k e message g is comes h)
+        (λ d now k room s message m g is up comes first h. server-flags n at_most files epochs (reached n at_most files epochs) broken T d now k room s message m g is up comes h)
         (λ d now s m v g e up goes comes h. work-flags n at_most files epochs (reached n at_most files epochs) broken T d now s m v g e up goes (going-found (stable (d.world.found s)) m.worker v goes) comes h)
         k second middle (good-middle n at_most files epochs first second c i k h rests up) up
         (ask-flags n at_most files epochs (reached n at_most files epochs) broken T (clients_from 1 8) (servers_from 0 n) (until_rest (servers_from 0 n) first i c) middle (good n at_most files epochs first second c i k h rests up)
@@ -198,6 +198,3 @@ module _ (n : ℕ) (at_most : n ≤ 8) (files : AllFiles) (epochs : ServerNo →
         by : (o : Option FlagState) → (last.world.found s pick).flags T ≡ o → (last.world.found s pick).flags T ≡ None
         by None e = e
         by (Some f) e = absurd (none f e)
-
-  pub settle-forgets : (first second : ℕ → Chance) (c : Course) → IsGood c → Leaves n first second c (λ before now. AreForgotten n now)
-  settle-forgets first second c h = settles n at_most files epochs first second c (λ before now. AreForgotten n now) h (λ i k one two up. no-flags first second c i k h two up)

@@ -101,12 +101,12 @@ module _ (n : ℕ) (at_most : n ≤ 8) (files : AllFiles) (epochs : ServerNo →
   second_part second k d = until_rest (servers_from 0 n) second k (asked_again d)
 
   -- what holds where both parts come to rest
-  pub settles : (first second : ℕ → Chance) (c : Course) (Q : World → World → Type 0) → IsGood c
-      → ((i k : ℕ) → IsAtRest n (first_part first i c) → IsAtRest n (second_part second k (first_part first i c)) → AreUp (second_part second k (first_part first i c)).world → Q c.world (second_part second k (first_part first i c)).world)
+  pub settles : (first second : ℕ → Chance) (c : Course) (Q : Course → Course → Type 0) → IsGood c
+      → ((i k : ℕ) → IsAtRest n (first_part first i c) → IsAtRest n (second_part second k (first_part first i c)) → AreUp (second_part second k (first_part first i c)).world → Q c (second_part second k (first_part first i c)))
       → Leaves n first second c Q
   settles first second c Q h at_rest = record {
     steps = one.steps + two.steps;
-    each = λ j l. subst (λ (z : Course). AreUp z.world → Q c.world z.world) (sym (whole j l)) (at_rest one.steps two.steps (subst (λ (z : Course). IsAtRest n z) (sym first-ends) one.rests) (subst (λ (z : Course). IsAtRest n z) (sym (two.each two.steps (omega arith))) two.rests));
+    each = λ j l. subst (λ (z : Course). AreUp z.world → Q c z) (sym (whole j l)) (at_rest one.steps two.steps (subst (λ (z : Course). IsAtRest n z) (sym first-ends) one.rests) (subst (λ (z : Course). IsAtRest n z) (sym (two.each two.steps (omega arith))) two.rests));
   }
     where
       one : PartEnds n first c
@@ -130,6 +130,3 @@ module _ (n : ℕ) (at_most : n ≤ 8) (files : AllFiles) (epochs : ServerNo →
   -- every client's command but an End is answered
   pub all-answered : (first second : ℕ → Chance) (c : Course) (i k : ℕ) → IsGood c → IsAtRest n (second_part second k (first_part first i c)) → AreUp (second_part second k (first_part first i c)).world → AreAnswered (second_part second k (first_part first i c)).world
   all-answered first second c i k h rests up = settled-answers n at_most start files epochs course-twin (until_rest (servers_from 0 n) first i c) (rest-good n at_most start files epochs course-twin i first c h) k second rests.waits up
-
-  pub settle-answers : (first second : ℕ → Chance) (c : Course) → IsGood c → Leaves n first second c (λ before now. AreAnswered now)
-  settle-answers first second c h = settles first second c (λ before now. AreAnswered now) h (λ i k one two up. all-answered first second c i k h two up)

@@ -45,7 +45,7 @@ pub any-right : {A : Type 0} → (f : A → Bool) (a b : List A) → list_any f 
 any-right f [] b h = h
 any-right f (x ∷ a) b h = let again = any-right f a b h in grind arith
 
-below-any : (n k : ℕ) (ks : List ℕ) → are_below n ks ≡ true → list_any (nat_eq k) ks ≡ true → k < n
+pub below-any : (n k : ℕ) (ks : List ℕ) → are_below n ks ≡ true → list_any (nat_eq k) ks ≡ true → k < n
 below-any n k [] h e = absurd (true≢false (sym e))
 below-any n k (j ∷ js) h e = let again = below-any n k js in grind (arith, nat_tests, h, e)
 

@@ -8,23 +8,13 @@ ghost use Rattle.jn_protocol.specs.World.{opening};
 ghost use Rattle.jn_protocol.specs.Steps.{Step, IsRun};
 ghost use Rattle.jn_settling.specs.Course.{opening_course, go_on};
 ghost use Rattle.jn_settling.specs.Settle.{Chance};
-ghost use Rattle.jn_settled.specs.Settled.{AreAnswered, EndsWait, AreForgotten, Leaves};
+ghost use Rattle.jn_settled.specs.Settled.{IsSettled, Leaves};
 
-/// After a settle that ends with all servers up, no client waits for anything but an End, whatever ran before and whatever
-/// befalls its steps.
-pub fn settling_answers()
+/// A settle that ends with all servers up settles, whatever ran before and whatever befalls its steps: no message waits and no
+/// work goes; no client waits for anything but an End, which it was told waits; no flag is left at any server, so each transaction
+/// that has committed is carried out and forgotten; and a work that is live then and was before is of a transaction that is
+/// undecided, or whose commit or abort was told in this settle.
+pub fn a_settle_settles()
     ensures { (servers : ℕ) (files : AllFiles) (epochs : ServerNo → ℕ) (steps : List Step) → servers ≤ 8 → IsRun steps (opening servers files epochs)
-        → (first second : ℕ → Chance) → Leaves servers first second (go_on steps (opening_course servers files epochs)) (λ before now. AreAnswered now) }
-{}
-
-/// And each End that a client still waits for then was told in that settle to wait.
-pub fn settling_waits()
-    ensures { (servers : ℕ) (files : AllFiles) (epochs : ServerNo → ℕ) (steps : List Step) → servers ≤ 8 → IsRun steps (opening servers files epochs)
-        → (first second : ℕ → Chance) → Leaves servers first second (go_on steps (opening_course servers files epochs)) EndsWait }
-{}
-
-/// And no flag is left at any server: each transaction that has committed is carried out and forgotten.
-pub fn settling_forgets()
-    ensures { (servers : ℕ) (files : AllFiles) (epochs : ServerNo → ℕ) (steps : List Step) → servers ≤ 8 → IsRun steps (opening servers files epochs)
-        → (first second : ℕ → Chance) → Leaves servers first second (go_on steps (opening_course servers files epochs)) (λ before now. AreForgotten servers now) }
+        → (first second : ℕ → Chance) → Leaves servers first second (go_on steps (opening_course servers files epochs)) (IsSettled servers) }
 {}
