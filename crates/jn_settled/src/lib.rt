@@ -8,7 +8,8 @@ ghost use Rattle.jn_protocol.specs.World.{opening};
 ghost use Rattle.jn_protocol.specs.Steps.{Step, IsRun};
 ghost use Rattle.jn_settling.specs.Course.{opening_course, go_on};
 ghost use Rattle.jn_settling.specs.Settle.{Chance};
-ghost use Rattle.jn_settled.specs.Settled.{IsSettled, Leaves};
+ghost use Rattle.jn_settled.specs.Settled.{AreDecided, IsSettled, Leaves};
+ghost use Rattle.jn_settled.specs.Example.{forgotten_work};
 
 /// A settle that ends with all servers up settles, whatever ran before and whatever befalls its steps: no message waits and no
 /// work goes; no client waits for anything but an End, which it was told waits; no flag is left at any server, so each transaction
@@ -17,4 +18,9 @@ ghost use Rattle.jn_settled.specs.Settled.{IsSettled, Leaves};
 pub fn a_settle_settles()
     ensures { (servers : ℕ) (files : AllFiles) (epochs : ServerNo → ℕ) (steps : List Step) → servers ≤ 8 → IsRun steps (opening servers files epochs)
         → (first second : ℕ → Chance) → Leaves servers first second (go_on steps (opening_course servers files epochs)) (IsSettled servers) }
+{}
+
+/// A work of a transaction that no one holds or tells of isn't left by it.
+pub fn a_forgotten_work_is_not_settled()
+    ensures { (files : AllFiles) (epochs : ServerNo → ℕ) → AreDecided 1 (forgotten_work files epochs) (forgotten_work files epochs) → ⊥ }
 {}
