@@ -17,6 +17,3 @@ mod table;
 pub use fault::LoadFault;
 pub use laws::pages_hold_the_files_of_heads;
 pub use table::FileTable;
-
-#[cfg(test)]
-mod tests;

@@ -11,8 +11,6 @@ mod modes;
 mod order;
 mod search;
 mod table;
-#[cfg(test)]
-mod tests;
 mod units;
 mod wants;
 mod words;

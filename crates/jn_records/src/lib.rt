@@ -47,8 +47,3 @@ pub use net_list::{Need, NetList, Seen, needs_head, puts_in};
 pub use record::{READS, Record, WORKS};
 pub use root::Root;
 pub use work::{WorkHead, WorkState};
-
-#[cfg(test)]
-mod net_tests;
-#[cfg(test)]
-mod tests;

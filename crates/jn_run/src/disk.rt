@@ -516,6 +516,3 @@ fn print_line(text: Text) -> Line
         text,
     }
 }
-
-#[cfg(test)]
-mod tests;

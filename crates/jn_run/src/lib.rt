@@ -14,8 +14,6 @@ mod events;
 mod head;
 mod outside;
 mod status;
-#[cfg(test)]
-mod tests;
 mod traffic;
 mod words;
 mod world;

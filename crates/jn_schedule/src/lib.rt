@@ -5,8 +5,6 @@ mod fault;
 mod place;
 mod reading;
 mod schedule;
-#[cfg(test)]
-mod tests;
 mod word;
 mod words;
 

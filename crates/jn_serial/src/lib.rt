@@ -21,8 +21,3 @@ pub use outcomes::told;
 pub use perform::do_op;
 pub use showing::shown;
 pub use transactions::ops_of;
-
-#[cfg(test)]
-mod rows;
-#[cfg(test)]
-mod tests;

@@ -15,6 +15,3 @@ mod sets;
 pub use fault::{LoadFault, SetFault};
 pub use numbers::record_fits;
 pub use sets::Sets;
-
-#[cfg(test)]
-mod tests;
