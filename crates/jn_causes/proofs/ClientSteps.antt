@@ -41,13 +41,14 @@ use Rattle.jn_runs.proofs.Facts.{opening, Facts}
 use Rattle.jn_serial.specs.Lines.{says}
 use Rattle.jn_serial.specs.Caused.{last_begun, begins}
 use Rattle.jn_serial.proofs.Growth.{AreWithin}
+use Rattle.jn_serial.proofs.CausedGrowth.{begun_then-append}
 use Rattle.jn_reported.specs.Reported.{at_event}
 use Rattle.jn_reported.proofs.Lists.{In, Each, each-of}
 use Rattle.jn_reported.proofs.ClientTalk.{TableGoes}
 use Rattle.jn_causes.proofs.Evidence.{Stands, Came, DownAfter, down-more, any-last, in-here}
 use Rattle.jn_causes.proofs.WorkerKeeps.{all-told}
 use Rattle.jn_causes.proofs.CoordinatorKeeps.{Spent}
-use Rattle.jn_causes.proofs.Facts.{HasTransaction, CameBy, WasOpened, MessageFact, BegunFor, BeganAt, ClientFact, CauseFacts, IsMute, begun_then-append, opened-more, client-on, one-on, messages-on, told-on}
+use Rattle.jn_causes.proofs.Facts.{HasTransaction, CameBy, WasOpened, MessageFact, BegunFor, BeganAt, ClientFact, CauseFacts, IsMute, opened-more, client-on, one-on, messages-on, told-on}
 
 -- ---- works
 

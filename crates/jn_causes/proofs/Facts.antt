@@ -28,6 +28,7 @@ use Rattle.jn_runs.proofs.Openings.{Opening, opening_in, openings, openings-more
 use Rattle.jn_runs.proofs.Facts.{opening, Began}
 use Rattle.jn_serial.specs.Lines.{says}
 use Rattle.jn_serial.specs.Caused.{begun_after, begun_then, last_begun, goes_down}
+use Rattle.jn_serial.proofs.CausedGrowth.{begun_then-append}
 use Rattle.jn_reported.specs.Reported.{at_event}
 use Rattle.jn_reported.proofs.Following.{texts-within}
 use Rattle.jn_reported.proofs.Lists.{In, in-first, Each, each-in, each-of, each-append}
@@ -110,10 +111,6 @@ pub record CauseFacts (es : List Event) (ls : List Line) (sent : List Sent) (cli
   pub told : (test : Text → Bool) → list_any test lines ≡ true → says test ls ≡ true
 
 -- ---- growth
-
-pub begun_then-append : (c : ClientNo) (now : Option Tid) (xs ys : List Line) → begun_then c now (xs ++ ys) ≡ begun_then c (begun_then c now xs) ys
-begun_then-append c now [] ys = refl
-begun_then-append c now (x ∷ xs) ys = begun_then-append c (begun_after c now x.text) xs ys
 
 -- lines after which the client has begun what it had
 abbrev pub IsMute : ClientNo → List Text → Type 0

@@ -7,6 +7,7 @@ use Rattle.jn_report.specs.declared.line.Text.TheVariants.{Commits}
 use Rattle.jn_report.specs.declared.line.Line.{Line}
 use Rattle.jn_serial.specs.Lines.{lines_at, history_of}
 use Rattle.jn_serial.specs.Follows.{Outstanding, FollowsEvent, after_one, FollowsFrom, is_answer, AllOfEvents, Follows}
+use Rattle.jn_serial.proofs.Growth.{follows-same}
 use Rattle.jn_serial.proofs.Orders.{lines_at-append}
 use Rattle.jn_reported.specs.Ending.{at_end, counted}
 use Rattle.jn_reported.proofs.Lists.{Each}
@@ -15,10 +16,6 @@ use Rattle.jn_causes.proofs.Ends.{IsOfEnd}
 none-at : (n : ℕ) (texts : List Text) → lines_at (AtEvent n) (at_end texts) ≡ []
 none-at n [] = refl
 none-at n (x ∷ texts) = none-at n texts
-
-follows-same : (out : Outstanding) (n : ℕ) (es : List Event) (ls ms : List Line) → ((i : ℕ) → lines_at (AtEvent i) ms ≡ lines_at (AtEvent i) ls) → FollowsFrom out n es ls → FollowsFrom out n es ms
-follows-same out n [] ls ms same h = tt
-follows-same out n (e ∷ es) ls ms same h = subst (λ l. FollowsEvent out n e l × FollowsFrom (after_one out n e l) (n + 1) es ms) (sym (same n)) (h.0, follows-same (after_one out n e (lines_at (AtEvent n) ls)) (n + 1) es ls ms same h.1)
 
 answers-more : (count : ℕ) (ls : List Line) (texts : List Text) → Each IsOfEnd texts → AllOfEvents count ls → AllOfEvents count (ls ++ at_end texts)
 answers-more count [] [] h k = tt

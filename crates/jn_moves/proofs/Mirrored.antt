@@ -23,7 +23,7 @@ use Rattle.jn_rows.specs.declared.worker.Work.{Work}
 use Rattle.jn_rows.specs.declared.client.OpenWork.{OpenWork}
 use Rattle.jn_rows.specs.declared.client.Outstanding.{Outstanding}
 use Rattle.jn_rows.specs.Client.{ClientTable}
-use Rattle.jn_rows.specs.Stable.{StableState, Change, Pick, made_by, made_all}
+use Rattle.jn_rows.specs.Stable.{StableState, Change, Pick, made_by, made_all, next_after}
 use Rattle.jn_rows.specs.Outcomes.{RowOutcome, Sent}
 use Rattle.jn_rows.specs.Worker.{WorkerTable, work_at}
 use Rattle.jn_machine.specs.World.{World as Machine, Unknown}
@@ -31,7 +31,7 @@ use Rattle.jn_machine.specs.Steps.{crash}
 use Rattle.jn_machine.specs.FoundStates.{AreParts}
 use Rattle.jn_machine.specs.Messages.{Says}
 use Rattle.jn_protocol.specs.World.{World, Memory, at_server, commits_in, committed_in}
-use Rattle.jn_protocol.specs.Servers.{of_worker, counted_all, line_of, lines_of}
+use Rattle.jn_protocol.specs.Servers.{of_worker, line_of, lines_of}
 use Rattle.jn_protocol.specs.Steps.{done, stopped}
 use Rattle.jn_moves.specs.Mirrors.{Mirrors, IsTrue, IsAddressed, AreOpen, IsCurrent, IsOutstanding, IsClient, IsStage, IsTransaction, AreTransactions, commits_of, working_of, active_in, next_in, knowledge_of, known_in}
 
@@ -41,7 +41,7 @@ pub record DoesRow (s : ServerNo) (m : Memory) (row : RowOutcome WorkerTable) (w
   pub found : (q : ServerNo) (c : Pick) → v.found q c ≡ (if server_eq s q then made_all row.changes (w.found s c) else w.found q c)
   pub here : (W : WorkId) → W.server ≡ s → v.active W ≡ working_of (work_at W row.table)
   pub elsewhere : (W : WorkId) → s ≢ W.server → v.active W ≡ w.active W
-  pub next_here : (W : WorkId) → W.server ≡ s → v.next W ≡ counted_all row.changes m.next W
+  pub next_here : (W : WorkId) → W.server ≡ s → v.next W ≡ next_after row.changes m.next W
   pub next_elsewhere : (W : WorkId) → s ≢ W.server → v.next W ≡ w.next W
   pub ticket_here : v.ticket s ≡ row.tickets.next
   pub ticket_elsewhere : (q : ServerNo) → s ≢ q → v.ticket q ≡ w.ticket q

@@ -17,8 +17,7 @@ use Rattle.jn_rows.specs.declared.worker.Work.{Work}
 use Rattle.jn_rows.specs.declared.worker.Phase.{Phase}
 use Rattle.jn_rows.specs.declared.worker.Phase.TheVariants.{Active, Prepared as Stored}
 use Rattle.jn_rows.specs.declared.worker.ActiveWork.{ActiveWork}
-use Rattle.jn_rows.specs.Stable.{StableState, Prepared, Change, made_all, is_going}
-use Rattle.jn_protocol.specs.Servers.{counted_all}
+use Rattle.jn_rows.specs.Stable.{StableState, Prepared, Change, made_all, is_going, next_after}
 use Rattle.jn_rows.specs.Outcomes.{RowOutcome}
 use Rattle.jn_rows.specs.Worker.{WorkerTable, Wanted, units_for, with_units, wants_of, commit_wants, holds, work_at, with_phase, after_grant, conflict, done, list_with, is_fit, written_unit}
 use Rattle.jn_machine.specs.Held.{HoldsForCommit, HasRead, file_unit}
@@ -36,7 +35,7 @@ pub record RowKeeps (x : StableState) (k : Tickets) (row : RowOutcome WorkerTabl
   pub same_epoch : (made_all row.changes x).epoch ≡ x.epoch
   pub few : (n : ℕ) → (take n row.changes ≡ []) ⊎ (take n row.changes ≡ row.changes)
   -- nothing counts as carried out of a work that isn't going
-  pub idle : (next : WorkId → ℕ) → ((V : WorkId) → is_going (x.works V) ≡ false → next V ≡ 0) → (V : WorkId) → is_going ((made_all row.changes x).works V) ≡ false → counted_all row.changes next V ≡ 0
+  pub idle : (next : WorkId → ℕ) → ((V : WorkId) → is_going (x.works V) ≡ false → next V ≡ 0) → (V : WorkId) → is_going ((made_all row.changes x).works V) ≡ false → next_after row.changes next V ≡ 0
 
 pub none-of : (changes : List Change) (n : ℕ) → changes ≡ [] → (take n changes ≡ []) ⊎ (take n changes ≡ changes)
 none-of [] zero e = inl refl

@@ -10,7 +10,7 @@ use Rattle.jn_msgs.specs.declared.message.Note.{Note}
 use Rattle.jn_msgs.specs.declared.message.Note.TheVariants as notes
 use Rattle.jn_report.specs.declared.line.Text.{Text}
 use Rattle.jn_report.specs.declared.line.Text.TheVariants as says
-use Rattle.jn_rows.specs.Stable.{StableState, Change, CarryOut, RemoveWork, at_work}
+use Rattle.jn_rows.specs.Stable.{StableState, next_after}
 use Rattle.jn_rows.specs.Outcomes.{RowOutcome, Sent}
 use Rattle.jn_rows.specs.Worker.{WorkerTable, WorkStorage, worker_row, worker_step, worker_again, timeout_row, restored_worker}
 use Rattle.jn_rows.specs.Coordinator.{CoordinatorTable, coordinator_row, coordinator_again, restored_coordinator}
@@ -27,19 +27,9 @@ storage_of m x room = record { state = x; free = room.free; next = m.next; rubbi
 
 -- ---- the rows of one table as rows of both
 
--- one more intention is carried out, or a work is gone
-abbrev pub counted : Change → (WorkId → ℕ) → WorkId → ℕ
-counted (CarryOut W i) next = at_work next W (next W + 1)
-counted (RemoveWork W) next = at_work next W 0
-counted change next = next
-
-abbrev pub counted_all : List Change → (WorkId → ℕ) → WorkId → ℕ
-counted_all [] next = next
-counted_all (change ∷ changes) next = counted_all changes (counted change next)
-
 abbrev pub of_worker : Memory → RowOutcome WorkerTable → RowOutcome Memory
 of_worker m row = record {
-  table = record m { worker = row.table; tickets = row.tickets; next = counted_all row.changes m.next };
+  table = record m { worker = row.table; tickets = row.tickets; next = next_after row.changes m.next };
   changes = row.changes;
   messages = row.messages;
   notes = row.notes;

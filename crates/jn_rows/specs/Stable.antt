@@ -1,5 +1,5 @@
 -- What is stable at one server, how it changes, and what may be found of it after a stop.
-use Rattle.std.specs.Prelude.{◌≡◌, ◌⊎◌, ℕ, Bool, true, false, List, [], ◌∷◌, take, Option, Some, None, if◌then◌else◌}
+use Rattle.std.specs.Prelude.{◌≡◌, ◌⊎◌, ℕ, ◌+◌, Bool, true, false, List, [], ◌∷◌, take, Option, Some, None, if◌then◌else◌}
 use Rattle.jn_base.specs.declared.names.ClientNo.{ClientNo}
 use Rattle.jn_base.specs.declared.names.LockUnit.{LockUnit}
 use Rattle.jn_base.specs.declared.names.Tid.{Tid}
@@ -84,6 +84,16 @@ made_by (DropFlag t) x = record x { flags = at_tid x.flags t None }
 abbrev pub made_all : List Change → StableState → StableState
 made_all [] x = x
 made_all (c ∷ cs) x = made_all cs (made_by c x)
+
+-- how many intentions of each work a server has carried out, where it had carried out so many
+abbrev pub next_by : Change → (WorkId → ℕ) → WorkId → ℕ
+next_by (CarryOut w i) next = at_work next w (next w + 1)
+next_by (RemoveWork w) next = at_work next w 0
+next_by step next = next
+
+abbrev pub next_after : List Change → (WorkId → ℕ) → WorkId → ℕ
+next_after [] next = next
+next_after (c ∷ cs) next = next_after cs (next_by c next)
 
 -- what a stop may leave: the state after some of the changes, from the first on, none in part
 pub record IsStopState (x : StableState) (changes : List Change) (y : StableState) : Type 0 where

@@ -18,7 +18,7 @@ use Rattle.jn_report.specs.declared.line.Line.{Line}
 use Rattle.jn_serial.specs.Caused.{begun_after, begun_then, last_begun, CausedFrom, Caused}
 use Rattle.jn_serial.specs.declared.following.Asked.{Asked}
 use Rattle.jn_serial.proofs.Growth.{AreWithin}
-use Rattle.jn_serial.proofs.CausedGrowth.{Caused-events, Caused-lines, needs_cause, CausedFrom-plain, AbortStands, AbortStands-here, AbortStands-more, CausedFrom-requested, CausedFrom-full}
+use Rattle.jn_serial.proofs.CausedGrowth.{begun_then-append, Caused-events, Caused-lines, needs_cause, CausedFrom-plain, AbortStands, AbortStands-here, AbortStands-more, CausedFrom-requested, CausedFrom-full}
 use Rattle.jn_run.specs.Names.{client_1, name_of, line_at, start_line}
 use Rattle.jn_run.specs.Moves.{Fate, Undecided, Committed, AbortedBy, View, asked_for, answer_text, CanCause, Leads, stays, joined, ignores, draws, begins, opens, performs, commits, aborts, tells_commit, tells_abort}
 use Rattle.jn_run.proofs.OneClient.{next_number, length-more}
@@ -75,10 +75,6 @@ causes-event es ls e a c f s = record {
     later : (t : Tid) → AbortStands es ls client_1 t (next_number es) → AbortStands (es ++ e ∷ []) ls client_1 t (next_number es)
     later t b = subst (λ (m : List Line). AbortStands (es ++ e ∷ []) m client_1 t (next_number es)) (append-nil ls)
         (AbortStands-more es (e ∷ []) ls [] client_1 t (next_number es) (next_number es) (next_number es) (next_number es) b (within (length es)) tt (above (next_number es)) (same (next_number es)))
-
-begun_then-append : (c : ClientNo) (now : Option Tid) (xs ys : List Line) → begun_then c now (xs ++ ys) ≡ begun_then c (begun_then c now xs) ys
-begun_then-append c now [] ys = refl
-begun_then-append c now (x ∷ xs) ys = begun_then-append c (begun_after c now x.text) xs ys
 
 -- a line of this event that begins nothing
 causes-line : (n : ℕ) (es : List Event) (ls : List Line) (text : Text) (a : Option Asked) (c : Option Tid) (f : Fate) → n ≤ length es + 1 → CausedFrom es ls (line_at n text ∷ []) → ((o : Option Tid) → begun_after client_1 o text ≡ o)

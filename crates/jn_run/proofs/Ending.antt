@@ -17,7 +17,7 @@ use Rattle.jn_serial.specs.Told.{NamesBefore, NamesOnce, NamesNone}
 use Rattle.jn_serial.specs.Shown.{is_locked, ShowsFiles}
 use Rattle.jn_serial.specs.Follows.{Outstanding, nothing_asked, FollowsEvent, FollowsFrom, after_one, AllOfEvents, is_answer, Follows}
 use Rattle.jn_serial.specs.Caused.{Caused}
-use Rattle.jn_serial.proofs.Growth.{AreWithin}
+use Rattle.jn_serial.proofs.Growth.{AreWithin, follows-same}
 use Rattle.jn_serial.proofs.CausedGrowth.{Caused-lines, needs_cause, NeedNoCause, CausedFrom-plain}
 use Rattle.jn_serial.proofs.Ops.{replay-by_ops, AgreesFrom-by_ops}
 use Rattle.jn_serial.proofs.Orders.{ops_of-append, owner_then, history_of-append, lines_at-append, NamesBefore-append, NamesNone-append}
@@ -189,13 +189,6 @@ no-end high (l ∷ ls) h = ap (λ (b : Bool). cond b (l ∷ lines_at End ls) (li
     within : (w : When) → Rattle.jn_serial.proofs.Growth.IsWithin 0 high w → when_eq w End ≡ false
     within (AtEvent i) h = refl
     within End h = absurd h
-
-follows-same : (out : Rattle.jn_serial.specs.Follows.Outstanding) (n : ℕ) (es : List Event) (xs ys : List Line) → ((i : ℕ) → lines_at (AtEvent i) ys ≡ lines_at (AtEvent i) xs) → FollowsFrom out n es xs → FollowsFrom out n es ys
-follows-same out n [] xs ys same h = tt
-follows-same out n (e ∷ es) xs ys same h = (
-  subst (λ (m : List Line). FollowsEvent out n e m) (sym (same n)) h.0,
-  follows-same (after_one out n e (lines_at (AtEvent n) ys)) (n + 1) es xs ys same (subst (λ (m : List Line). FollowsFrom (after_one out n e m) (n + 1) es xs) (sym (same n)) h.1),
-)
 
 AllOfEvents-append : (n : ℕ) (xs ys : List Line) → AllOfEvents n xs → AllOfEvents n ys → AllOfEvents n (xs ++ ys)
 AllOfEvents-append n [] ys a b = b

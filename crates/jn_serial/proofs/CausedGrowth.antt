@@ -18,7 +18,7 @@ use Rattle.jn_report.specs.declared.line.Text.{Text}
 use Rattle.jn_report.specs.declared.line.Text.TheVariants as says
 use Rattle.jn_report.specs.declared.line.Line.{Line}
 use Rattle.jn_serial.specs.Lines.{is_before, lines_before, event_at}
-use Rattle.jn_serial.specs.Caused.{any_event, count_events, last_begun, is_tid, is_in, aborts, is_caused_by, is_caused, CausedFrom, Caused}
+use Rattle.jn_serial.specs.Caused.{any_event, count_events, begun_after, begun_then, last_begun, is_tid, is_in, aborts, is_caused_by, is_caused, CausedFrom, Caused}
 use Rattle.jn_serial.proofs.Growth.{IsWithin, AreWithin, event_at-front, event_at-next}
 use Rattle.jn_serial.proofs.Orders.{lines_before-append}
 
@@ -62,6 +62,11 @@ is_caused-more es fs lines w (says.Page s f p bytes) h = refl
 is_caused-more es fs lines w (says.Locked s u t) h = refl
 is_caused-more es fs lines w (says.Commits k) h = refl
 is_caused-more es fs lines w (says.Message k a b kind) h = refl
+
+-- what a client has begun by more lines
+pub begun_then-append : (c : ClientNo) (now : Option Tid) (xs ys : List Line) → begun_then c now (xs ++ ys) ≡ begun_then c (begun_then c now xs) ys
+begun_then-append c now [] ys = refl
+begun_then-append c now (x ∷ xs) ys = begun_then-append c (begun_after c now x.text) xs ys
 
 -- more events
 pub CausedFrom-events : (es fs : List Event) (before ls : List Line) → CausedFrom es before ls → CausedFrom (es ++ fs) before ls

@@ -110,6 +110,12 @@ outstanding-more out number (d ∷ es) e ls = outstanding-more (after_one out nu
     shift : (a b : ℕ) → (a + 1) + b ≡ a + suc b
     shift a b = omega arith
 
+-- only the lines at events are seen
+pub follows-same : (out : Outstanding) (number : ℕ) (es : List Event) (ls ms : List Line) → ((i : ℕ) → lines_at (AtEvent i) ms ≡ lines_at (AtEvent i) ls) → FollowsFrom out number es ls → FollowsFrom out number es ms
+follows-same out number [] ls ms same h = tt
+follows-same out number (e ∷ es) ls ms same h =
+    subst (λ l. FollowsEvent out number e l × FollowsFrom (after_one out number e l) (number + 1) es ms) (sym (same number)) (h.0, follows-same (after_one out number e (lines_at (AtEvent number) ls)) (number + 1) es ls ms same h.1)
+
 -- later lines are not seen
 pub follows-earlier : (out : Outstanding) (number : ℕ) (es : List Event) (ls ms : List Line) (high : ℕ)
     → AreWithin (number + length es) high ms → FollowsFrom out number es ls → FollowsFrom out number es (ls ++ ms)
