@@ -153,7 +153,7 @@ pub record MarkedGoing (v : StorageView) (work : WorkId) (ok : Bool) (w : Storag
 abbrev pub next_of : StorageView → WorkId → Option Intention
 next_of v work = slice_get (list_of (state v) work) (v.accounts.next work)
 
--- what carrying out an intention keeps; what is free of heads and pages follows from the files
+-- what carrying out an intention keeps; the heads that are free follow from the files, the pages from the files and what is held
 pub record CountsOn (a : Accounts) (work : WorkId) (b : Accounts) : Type 0 where
   pub next : b.next ≡ at_work a.next work (a.next work + 1)
   pub free_records : b.free_records ≡ a.free_records
