@@ -54,7 +54,7 @@ use Rattle.jn_settling.proofs.ClientFits.{sent_with}
 use Rattle.jn_settling.proofs.WorldSizes.{holds-of, up-sizes, up-locks}
 use Rattle.jn_runs.proofs.Openings.{openings}
 use Rattle.jn_settled.proofs.Owners.{Owner, owner_in, all_owned, grown, owned-found}
-use Rattle.jn_settled.proofs.OwnerSteps.{AreOwned, step-keeps-owned}
+use Rattle.jn_settled.proofs.OwnerSteps.{AreOwned, some-memory, none-memory, step-keeps-owned}
 
 -- ---- messages
 
@@ -217,10 +217,7 @@ module _ (n : ℕ) (t : CoordinatorTable) (free : ℕ) (k : Tickets) where
   either false p q h l = l
 
   told-inside : (T : Tid) (W : WorkId) (s : Stage) → near n T ≡ true → work_near n W ≡ true → Inside (told_stage t k T W s)
-  told-inside T W Open h l = refl
-  told-inside T W (Voting b) h l = refl
-  told-inside T W (Committed d) h l = either (is_work W d.works && not (is_work W d.done)) _ _ (grind (arith, h, l)) (grind (arith, l))
-  told-inside T W (Aborted cause) h l = grind (arith, l)
+  told-inside T W s h l = grind (arith, h, l)
 
   module _ (y : Transaction) (h : near n y.tid ≡ true) where
     commit-inside : (request : ℕ) (works : List WorkId) → are_near n works ≡ true → Inside (commit_row t k y request works)
@@ -280,16 +277,8 @@ module _ (n : ℕ) (t : CoordinatorTable) (free : ℕ) (k : Tickets) where
     coordinator-inside (messages.Abort c q T works) h l = on-one T (abort_request t k c T works) (let d = drops-inside n T works (few-near n works l) in grind (arith, h, d)) (λ y near stage. abort-stage-inside y near works y.stage (few-near n works l) stage)
     coordinator-inside (messages.Vote T W vote) h l = on-one T (vote_row t k T W vote) (grind (arith, h)) (λ y near stage. vote-inside y near W vote y.stage (second-of _ _ h) stage)
     coordinator-inside (messages.Inquire T W) h l = on-one T (inquire_row t k T W) (grind (arith, h)) (λ y near stage. told-inside T W y.stage (first-of _ _ h) (second-of _ _ h))
-    coordinator-inside (messages.Thanks c T) h l = on-one T (thanks_row t k T) refl (λ y near stage. by y.stage)
-      where
-        by : (s : Stage) → Inside (thanks_stage t k T s)
-        by (Committed d) = either d.thanked _ _ refl (either (true && all_in d.works d.done) _ _ refl refl)
-        by s = refl
-    coordinator-inside (messages.Done T W) h l = on-one T (done_row t k T W) refl (λ y near stage. by y.stage)
-      where
-        by : (s : Stage) → Inside (done_stage t k T W s)
-        by (Committed d) = either (is_work W d.works && not (is_work W d.done)) _ _ (either (d.thanked && all_in d.works (d.done ++ W ∷ [])) _ _ refl refl) refl
-        by s = refl
+    coordinator-inside (messages.Thanks c T) h l = grind arith
+    coordinator-inside (messages.Done T W) h l = grind arith
     coordinator-inside m h l = refl
 
 told-again-inside : (n : ℕ) (x : Transaction) (s : Stage) → near n x.tid ≡ true → is_small_stage n s ≡ true → are_inside n (told_again x s) ≡ true
@@ -387,10 +376,7 @@ module _ (n : ℕ) (t : WorkerTable) (s : WorkStorage) (k : Tickets) (h : table_
     where
       voted : (a : ActiveWork) (vote : Vote) → RowNear n (prepared_row t k T c w a vote)
       voted a votes.Ready = record { table = phase-near n w.name _ _ (grant-near n w.tid w.name (commit_wants a.writes) t h); changes_are = grind (arith, e); sent_are = grind (arith, l, e) }
-      voted a (votes.Waiting u held) = still _ (grind (arith, l, e))
-      voted a (votes.Lost i j) = still _ (grind (arith, l, e))
-      voted a (votes.Broken u held) = still _ (grind (arith, l, e))
-      voted a (votes.Full i j need) = still _ (grind (arith, l, e))
+      voted a _ = still _ (grind (arith, l, e))
 
       by : (p : Phase) → RowNear n (prepare_phase t s k T c w p)
       by (phases.Active a) = voted a (vote_of (conflict w.name (commit_wants a.writes) t) (shortage s.free (need_in s.state.files a.list)))
@@ -473,9 +459,7 @@ changed-near n (MarkGoing V) x h old W p e = by (x.works V) refl (work_tells V W
         (old W u (ap x.works (sym t.1) ∙ q))
     by o q (inr t) e = old W p (sym (ap (λ (b : Bool). if b then gone_on o else x.works W) t.0) ∙ e)
 changed-near n (RemoveWork V) x h old W p e = let before = old W p in grind (arith, e)
-changed-near n (CarryOut V i) x h old W p e = old W p e
-changed-near n (AddFlag flag) x h old W p e = old W p e
-changed-near n (DropFlag T) x h old W p e = old W p e
+changed-near n c x h old W p e = old W p e
 
 all-near : (n : ℕ) (cs : List Change) (x : StableState) → changes_near n cs ≡ true → StoredNear n x → StoredNear n (made_all cs x)
 all-near n [] x h old = old
@@ -522,12 +506,6 @@ owner-near n [] c T h k = absurd (true≢false (sym k))
 owner-near n ((to, messages.Begun d q (Some U)) ∷ xs) c T h k = let again = owner-near n xs c T in let tells = tid_tells U T in grind (arith, h, k)
 owner-near n ((to, messages.Begun d q None) ∷ xs) c T h k = owner-near n xs c T (second-of _ _ h) k
 owner-near n ((to, _) ∷ xs) c T h k = owner-near n xs c T (second-of _ _ h) k
-
-some-memory : (a b : Memory) → Some a ≡ Some b → a ≡ b
-some-memory a b e = cc
-
-none-memory : (a : Memory) → None ≡ Some a → ⊥
-none-memory a e = cc
 
 module _ (n : ℕ) (at_most : n ≤ 8) (w : World) (sizes : Sizes n w) (locks : LockFacts w) (within : Within n w) where
   h : AreNear n w
