@@ -155,20 +155,10 @@ take-near n t (messages.Opened c request T answer) h k = by t.outstanding
     by None = grind (arith, h)
     by (Some o) = on o (client_eq c t.client && (nat_eq o.request request && (is_current t T && opens answer o.command)))
 take-near n t (messages.Answer c request answer) h k = grind (arith, h, k)
-take-near n t (messages.Outcome c T outcome) h k = by (client_eq c t.client)
-  where
-    decided : (line : ℕ → Text) → taken_near n (decided_row t T line) ≡ true
-    decided line = grind (arith, h, k)
-
-    on : (outcome : Outcome) → taken_near n (outcome_row t T outcome) ≡ true
-    on outcomes.Committed = decided _
-    on (outcomes.Aborted cause) = decided _
-    on (outcomes.Waiting s u held) = grind (arith, h)
-    on (outcomes.NotKnown s epoch) = grind (arith, h)
-
-    by : (b : Bool) → taken_near n (if b then outcome_row t T outcome else (t, taken.Ignored)) ≡ true
-    by true = on outcome
-    by false = grind (arith, h)
+take-near n t (messages.Outcome c T outcomes.Committed) h k = grind (arith, h, k)
+take-near n t (messages.Outcome c T (outcomes.Aborted cause)) h k = grind (arith, h, k)
+take-near n t (messages.Outcome c T (outcomes.Waiting s u held)) h k = grind (arith, h)
+take-near n t (messages.Outcome c T (outcomes.NotKnown s epoch)) h k = grind (arith, h)
 take-near n t m h k = grind (arith, h)
 
 -- ---- a coordinator's rows
@@ -282,11 +272,7 @@ module _ (n : ℕ) (t : CoordinatorTable) (free : ℕ) (k : Tickets) where
     coordinator-inside m h l = refl
 
 told-again-inside : (n : ℕ) (x : Transaction) (s : Stage) → near n x.tid ≡ true → is_small_stage n s ≡ true → are_inside n (told_again x s) ≡ true
-told-again-inside n x (Committed d) h l = inside-both n (commits x.tid (besides d.works d.done)) _ (commits-inside n x.tid (besides d.works d.done) h (near-besides n d.works d.done (few-near n d.works l))) (by d.thanked)
-  where
-    by : (b : Bool) → are_inside n (if b then [] else committed_to x ∷ []) ≡ true
-    by true = refl
-    by false = grind (arith, h)
+told-again-inside n x (Committed d) h l = inside-both n (commits x.tid (besides d.works d.done)) _ (commits-inside n x.tid (besides d.works d.done) h (near-besides n d.works d.done (few-near n d.works l))) (grind (arith, h))
 told-again-inside n x (Aborted cause) h l = grind (arith, h)
 told-again-inside n x Open h l = refl
 told-again-inside n x (Voting b) h l = refl
@@ -330,11 +316,7 @@ more-near n (v ∷ a) b h k = let again = more-near n a b in grind (arith, h, k)
 
 grant-near : (n : ℕ) (T : Tid) (W : WorkId) (wants : List Wanted) (t : WorkerTable) → table_near n t ≡ true → table_near n (after_grant T W wants t) ≡ true
 grant-near n T W wants [] h = refl
-grant-near n T W wants (v ∷ vs) h = by (breaks_at W wants v) (grant-near n T W wants vs (second-of _ _ h))
-  where
-    by : (o : Option LockUnit) → table_near n (after_grant T W wants vs) ≡ true → table_near n (broken_by T o v ∷ after_grant T W wants vs) ≡ true
-    by None again = grind (arith, h, again)
-    by (Some u) again = grind (arith, h, again)
+grant-near n T W wants (v ∷ vs) h = let again = grant-near n T W wants vs in grind (arith, h)
 
 again-inside : (n : ℕ) (x : StableState) (t : WorkerTable) → table_near n t ≡ true → are_inside n (worker_again x t) ≡ true
 again-inside n x [] h = refl
@@ -383,18 +365,11 @@ module _ (n : ℕ) (t : WorkerTable) (s : WorkStorage) (k : Tickets) (h : table_
       by (phases.Broken u held) = still _ (grind (arith, l, e))
       by (phases.Prepared p) = choose (is_going (s.state.works w.name)) _ _ (still _ refl) (still _ (grind (arith, l, e)))
 
-  gone-near : (W : WorkId) (changes : List Change) → changes_near n changes ≡ true → IsNear n (without W t) changes []
-  gone-near W changes l = record { table = less-near n W t h; changes_are = l; sent_are = refl }
-
   drop-near : (W : WorkId) (p : Phase) → RowNear n (drop_phase t s k W p)
-  drop-near W (phases.Active a) = gone-near W [] refl
-  drop-near W (phases.Broken u by) = gone-near W [] refl
-  drop-near W (phases.Prepared p) = choose (is_going (s.state.works W)) _ _ (still _ refl) (gone-near W (RemoveWork W ∷ []) refl)
+  drop-near W p = let less = less-near n W t h in grind (arith, h, less)
 
   commit-near : (W : WorkId) (p : Phase) → RowNear n (commit_phase t s k W p)
-  commit-near W (phases.Active a) = still _ refl
-  commit-near W (phases.Broken u by) = still _ refl
-  commit-near W (phases.Prepared p) = choose (is_going (s.state.works W)) _ _ (still _ refl) (record { table = h; changes_are = refl; sent_are = refl })
+  commit-near W p = grind (arith, h)
 
   -- a row on a work, if it is there
   on-work : (W : WorkId) (f : Option WorkEntry → RowOutcome WorkerTable) → RowNear n (f None) → ((w : WorkEntry) → entry_near n w ≡ true → RowNear n (f (Some w))) → RowNear n (f (work_at W t))
@@ -427,8 +402,7 @@ module _ (n : ℕ) (t : WorkerTable) (s : WorkStorage) (k : Tickets) (h : table_
       going x (v ∷ vs) w h e = let again = going x vs w in grind (arith, h, e)
 
       carried : (w : WorkEntry) (o : Option Intention) → entry_near n w ≡ true → RowNear n (carried_row t k w o)
-      carried w (Some i) l = record { table = h; changes_are = refl; sent_are = refl }
-      carried w None l = record { table = less-near n w.name t h; changes_are = refl; sent_are = grind (arith, l) }
+      carried w o l = let less = less-near n w.name t h in grind (arith, h, l, less)
 
       rest : (b : Bool) → (if b then Some (record { table = t; changes = []; messages = []; notes = []; tickets = k }) else None) ≡ Some row → RowNear n row
       rest true q = subst (λ (z : RowOutcome WorkerTable). RowNear n z) (some _ row q) (still [] refl)
@@ -473,12 +447,7 @@ front-near n (suc j) (c ∷ cs) x h old = front-near n j cs (made_by c x) (secon
 
 flags-near : (n : ℕ) (cs : List Change) → are_of_flags cs ≡ true → changes_near n cs ≡ true
 flags-near n [] h = refl
-flags-near n (c ∷ cs) h = by c (first-of _ _ h) (flags-near n cs (second-of _ _ h))
-  where
-    by : (c : Change) → is_of_flag c ≡ true → changes_near n cs ≡ true → changes_near n (c ∷ cs) ≡ true
-    by (AddFlag flag) l again = again
-    by (DropFlag T) l again = again
-    by c l again = absurd (true≢false (sym l))
+flags-near n (c ∷ cs) h = let again = flags-near n cs in grind (arith, h)
 
 restored-near : (n : ℕ) (x : StableState) (Ws : List WorkId) → StoredNear n x → table_near n (restored_worker x Ws) ≡ true
 restored-near n x [] h = refl
@@ -504,7 +473,6 @@ pub record Within (n : ℕ) (w : World) : Type 0 where
 owner-near : (n : ℕ) (sent : List Sent) (c : ClientNo) (T : Tid) → are_inside n sent ≡ true → owner_in (openings sent) c T ≡ true → near n T ≡ true
 owner-near n [] c T h k = absurd (true≢false (sym k))
 owner-near n ((to, messages.Begun d q (Some U)) ∷ xs) c T h k = let again = owner-near n xs c T in let tells = tid_tells U T in grind (arith, h, k)
-owner-near n ((to, messages.Begun d q None) ∷ xs) c T h k = owner-near n xs c T (second-of _ _ h) k
 owner-near n ((to, _) ∷ xs) c T h k = owner-near n xs c T (second-of _ _ h) k
 
 module _ (n : ℕ) (at_most : n ≤ 8) (w : World) (sizes : Sizes n w) (locks : LockFacts w) (within : Within n w) where
