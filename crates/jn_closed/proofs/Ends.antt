@@ -34,16 +34,17 @@ use Rattle.jn_settling.specs.Sizes.{committed_at}
 use Rattle.jn_settling.specs.Bounds.{NothingGoes, Ends}
 use Rattle.jn_settling.proofs.Courses.{Sound, go-sound, waiting-is}
 use Rattle.jn_settling.proofs.Settling.{opening-sound, on-world, settle-ends}
-use Rattle.jn_settling.proofs.WorldSizes.{up-sizes}
+use Rattle.jn_settling.proofs.WorldSizes.{up-sizes, up-locks}
 use Rattle.jn_settled.specs.Settled.{AreUp}
-use Rattle.jn_reported.proofs.Reached.{Reached, next-reached, opening-reached}
+use Rattle.jn_reported.proofs.Reached.{Reached, next-reached, opening-reached, invariant}
+use Rattle.jn_settled.proofs.Owners.{all_owned}
+use Rattle.jn_settled.proofs.Within.{near_owner, table_near, Within, within-step, opening-within, tids-near}
 use Rattle.jn_settled.proofs.Ways.{Waits, quiet-clients, rest-down}
 use Rattle.jn_settled.proofs.Answered.{rest-keeps, ask-keeps}
 use Rattle.jn_closed.specs.Ending.{Start, restarts, end_steps, without_messages, ended, IsEmpty, IsClosed, IsAsCommitted, Leaves}
 use Rattle.jn_closed.proofs.Rows.{are_prepared, is_thanked, are_all, Kept, needs, needs_in, some-stored}
 use Rattle.jn_closed.proofs.Tends.{stored, waiting_ours, Needed, Asked, inquires, commits, drops, Stays, lives, told, carried, Ways, Tends, up-fact}
 use Rattle.jn_closed.proofs.Rests.{Goes, WaysAt, rest-goes, ask-goes}
-use Rattle.jn_closed.proofs.Beyond.{Beyond, beyond-step, opening-beyond}
 
 -- ---- after a restart, and after the outcomes are thanked
 
@@ -122,6 +123,14 @@ among-servers (suc m) c s l k = by (server_tells s (record { 0 = c })) (among-se
     by : ((server_eq s (record { 0 = c }) ≡ true) × (s ≡ record { 0 = c })) ⊎ ((server_eq s (record { 0 = c }) ≡ false) × (s ≢ record { 0 = c })) → (c + 1 ≤ s.0 → s.0 < c + 1 + m → list_any (server_eq s) (servers_from (c + 1) m) ≡ true) → list_any (server_eq s) (servers_from c (suc m)) ≡ true
     by (inl e) again = let q = e.0 in grind (arith, q)
     by (inr e) again = let q = e.0 in let on = again (grind (arith, nat_tests, l, q)) (omega (arith, k)) in grind (arith, on)
+
+among-below : (m c : ℕ) (s : ServerNo) → list_any (server_eq s) (servers_from c m) ≡ true → s.0 < c + m
+among-below zero c s h = absurd (true≢false (sym h))
+among-below (suc m) c s h = by (server_tells s (record { 0 = c })) h (among-below m (c + 1) s)
+  where
+    by : ((server_eq s (record { 0 = c }) ≡ true) × (s ≡ record { 0 = c })) ⊎ ((server_eq s (record { 0 = c }) ≡ false) × (s ≢ record { 0 = c })) → list_any (server_eq s) (servers_from c (suc m)) ≡ true → (list_any (server_eq s) (servers_from (c + 1) m) ≡ true → s.0 < c + 1 + m) → s.0 < c + suc m
+    by (inl e) h again = let q = ap (λ (z : ServerNo). z.0) e.1 in omega (arith, q)
+    by (inr e) h again = let k = again (let q = e.0 in grind (arith, h, q)) in omega (arith, k)
 
 pub not-among : (n : ℕ) (s : ServerNo) → list_any (server_eq s) (servers_from 0 n) ≡ false → n ≤ s.0
 not-among n s h = by (nat_lt s.0 n) refl
@@ -244,18 +253,37 @@ module _ (n : ℕ) (at_most : n ≤ 8) (start : World) (files : AllFiles) (epoch
   pub record Traced (d : Course) : Type 0 where
     pub sound : Sound n start d
     pub known : Reached files epochs d.world
-    pub beyond : Beyond n d.world
+    pub within : Within n d.world
 
   pub traced-go : (d : Course) (step : Step) → Traced d → IsStep step d.world → Traced (go step d)
   traced-go d step h i = record {
     sound = go-sound n at_most start d step h.sound i;
     known = next-reached files epochs d.world step i h.known;
-    beyond = beyond-step n d.world h.beyond h.sound.sizes step i;
+    within = within-step n at_most d.world h.sound.sizes h.sound.locks h.within step i;
   }
 
   pub traced-on : (steps : List Step) (d : Course) → Traced d → IsRun steps d.world → Traced (go_on steps d)
   traced-on [] d h i = h
   traced-on (step ∷ steps) d h i = traced-on steps (go step d) (traced-go d step h i.0) i.1
+
+  -- a server of a greater number has nothing
+  blank : (d : Course) → Traced d → (s : ServerNo) (m : Memory) → n ≤ s.0 → d.world.memory s ≡ Some m → (m.worker ≡ []) × (m.coordinator.transactions ≡ [])
+  blank d h s m l up = (works m.worker refl (h.within.near_all.works s m up), transactions m.coordinator.transactions (tids-near n at_most d.world h.sound.sizes h.sound.locks h.within s m up) (h.known.mirrors.transactions s m up))
+    where
+      fact : UpFact s m (d.world.found s)
+      fact = up-locks n at_most d.world h.sound.sizes h.sound.locks s m up
+
+      works : (t : WorkerTable) → m.worker ≡ t → table_near n t ≡ true → t ≡ []
+      works [] e k = refl
+      works (v ∷ vs) e k = absurd (let place = fact.table.place v.name v (ap (work_at v.name) e ∙ grind (arith, nat_tests)) ∙ fact.server in grind (arith, nat_tests, k, l, place))
+
+      transactions : (xs : List Transaction) → all_owned (near_owner n) xs ≡ true → AreTransactions (run_atoms h.known.atoms (opening_world files epochs)) s xs → xs ≡ []
+      transactions [] k a = refl
+      transactions (x ∷ xs) k a = absurd (let first = a.0 in let place = first.place in grind (arith, nat_tests, k, l, place))
+
+  far : (d : Course) → Traced d → (s : ServerNo) (c : Pick) (W : WorkId) (p : Prepared) → (d.world.found s c).works W ≡ Some p → n ≤ s.0 → ⊥
+  far d h s c W p e l = let inv = invariant files epochs d.world h.known in let is = (inv.core.states s c).prepared W p (ap (λ x. x.works W) (h.known.mirrors.found s c) ∙ e) in
+      let place = is.place in let near = h.within.near_all.stored s c W p e in grind (arith, nat_tests, near, l, place)
 
   abbrev servers : List ServerNo
   servers = servers_from 0 n
@@ -327,11 +355,11 @@ module _ (n : ℕ) (at_most : n ≤ 8) (start : World) (files : AllFiles) (epoch
 
       fresh : (s : ServerNo) (b : Bool) → list_any (server_eq s) servers ≡ b → (b ≡ true) ⊎ IfUp Fresh ((go Dismiss d).world.memory s)
       fresh s true e = inl refl
-      fresh s false e = inr (λ m up. blank-fresh m (h.beyond.memory s (not-among n s e) m up))
+      fresh s false e = inr (λ m up. blank-fresh m (blank d h s m (not-among n s e) up))
 
       closing : (f : Course) → Ending f → ((s : ServerNo) → IfUp Fresh (f.world.memory s)) → (s : ServerNo) (b : Bool) → list_any (server_eq s) servers ≡ b → IfUp Kept (f.world.memory s) ⊎ (IfUp Fresh (f.world.memory s) × (b ≡ true))
       closing f ending fresh s true e = inr (fresh s, refl)
-      closing f ending fresh s false e = inl (λ m up. let t = ending.traced in blank-kept m (t.beyond.memory s (not-among n s e) m up))
+      closing f ending fresh s false e = inl (λ m up. blank-kept m (blank f ending.traced s m (not-among n s e) up))
 
   -- ---- at rest
 
@@ -344,7 +372,7 @@ module _ (n : ℕ) (at_most : n ≤ 8) (start : World) (files : AllFiles) (epoch
       by (Some m) = refl
   ask-memory (c ∷ cs) ss d = ask-memory cs ss (go (Again c) d)
 
-  module _ (d : Course) (h : Tends n at_most start files epochs d) (traced : Traced d) (ways : Ways d) (waits : d.waiting ≡ []) (quiet : NothingGoes n d.world) (up : AreUp d.world) where
+  module _ (d : Course) (h : Tends n at_most start files epochs d) (traced : Traced d) (ways : Ways d) (waits : d.waiting ≡ []) (quiet : NothingGoes n d.world) (up : AreUp n d.world) where
     none-waits : (x : Sent) → Waits d.world.sent d.waiting x → ⊥
     none-waits x a = true≢false (sym a.waits ∙ ap (λ l. list_any (nat_eq a.number) l) waits)
 
@@ -364,9 +392,9 @@ module _ (n : ℕ) (at_most : n ≤ 8) (start : World) (files : AllFiles) (epoch
     none-stored-at W = by (nat_lt W.server.0 n) refl
       where
         by : (b : Bool) → nat_lt W.server.0 n ≡ b → stored d.world W ≡ None
-        by true l = none_unless (stored d.world W) (λ p e. let m = some_of (d.world.memory W.server) (up W.server) in
+        by true l = none_unless (stored d.world W) (λ p e. let m = some_of (d.world.memory W.server) (up W.server (grind (arith, nat_tests, l))) in
             not-ready W (one-of (stored d.world W) p e (quiet W.server m.0 (λ k. false) W (grind (arith, nat_tests, l)) m.1)))
-        by false l = (traced.beyond.found W.server (grind (arith, nat_tests, l)) (λ k. false)).0 W
+        by false l = none_unless (stored d.world W) (λ p e. far d traced W.server (λ k. false) W p e (grind (arith, nat_tests, l)))
 
     not-needed : (T : Tid) (W : WorkId) → Needed d.world T W → ⊥
     not-needed T W need = by (ways.needed T W need)
@@ -426,8 +454,8 @@ module _ (n : ℕ) (at_most : n ≤ 8) (start : World) (files : AllFiles) (epoch
 
   blank-ways : (d e : Course) (s : ServerNo) → Traced d → n ≤ s.0 → e.world.memory ≡ d.world.memory → e.world.found ≡ d.world.found → WaysAt n at_most start files epochs e s
   blank-ways d e s h l memory found = record {
-    ready = λ W at r. absurd (true≢false (sym r ∙ ap is_ready (ap (λ (q : ServerNo). (stable (e.world.found q)).works W) at ∙ ap (λ f. (stable (f s)).works W) found ∙ (h.beyond.found s l (λ k. false)).0 W)));
-    needed = λ T W at need. absurd (true≢false (sym need.is ∙ ap (λ xs. needs xs T W) (h.beyond.memory s l need.memory (ap (λ f. f s) (sym memory) ∙ ap e.world.memory (sym at) ∙ need.up)).1));
+    ready = λ W at r. absurd (true≢false (sym r ∙ ap is_ready (ap (λ (q : ServerNo). (stable (e.world.found q)).works W) at ∙ ap (λ f. (stable (f s)).works W) found ∙ none_unless ((stable (d.world.found s)).works W) (λ p e. far d h s (λ k. false) W p e l))));
+    needed = λ T W at need. absurd (true≢false (sym need.is ∙ ap (λ xs. needs xs T W) (blank d h s need.memory l (ap (λ f. f s) (sym memory) ∙ ap e.world.memory (sym at) ∙ need.up)).1));
   }
 
   settled-traced : (first second : ℕ → Chance) (j : ℕ) (d : Course) → Traced d → Traced (settled n (record { first = first; second = second; steps = j }) d)
@@ -442,7 +470,7 @@ module _ (n : ℕ) (at_most : n ≤ 8) (start : World) (files : AllFiles) (epoch
       ends : Ends n first second d
       ends = settle-ends n at_most start first second d t.sound
 
-      each : (j : ℕ) → ends.steps ≤ j → AreUp (settled n (record { first = first; second = second; steps = j }) d).world → IsClosed (settled n (record { first = first; second = second; steps = j }) d)
+      each : (j : ℕ) → ends.steps ≤ j → AreUp n (settled n (record { first = first; second = second; steps = j }) d).world → IsClosed (settled n (record { first = first; second = second; steps = j }) d)
       each j l up = record {
         waits = ap (λ (z : Course). z.waiting) (ends.each j l) ∙ (let r = ends.rests in r.waits);
         servers = λ s m is. is-empty last g3.tends (settled-traced first second j d t) (g3.ways refl)
@@ -461,38 +489,42 @@ module _ (n : ℕ) (at_most : n ≤ 8) (start : World) (files : AllFiles) (epoch
           same : middle.world.memory ≡ part.world.memory
           same = ask-memory (clients_from 1 8) servers part
 
-          up1 : AreUp part.world
-          up1 s = by (part.world.memory s) refl
+          up1 : AreUp n part.world
+          up1 s near = by (part.world.memory s) refl
             where
               by : (o : Option Memory) → part.world.memory s ≡ o → is_some o ≡ true
               by (Some m) e = refl
-              by None e = absurd (true≢false (sym (up s) ∙ ap is_some (rest-down n s j second middle (ap (λ f. f s) same ∙ e))))
+              by None e = absurd (true≢false (sym (up s near) ∙ ap is_some (rest-down n s j second middle (ap (λ f. f s) same ∙ e))))
 
           t1 : Traced part
           t1 = rest-keeps n at_most start files epochs Traced traced-go j first d t
 
           tends : Tends n at_most start files epochs d
-          tends = let e = h.ending in record { sound = t.sound; known = t.known; kept = h.kept; idle = e.idle; ours = ap (waiting_ours d.world.sent) e.waits }
+          tends = let e = h.ending in record { sound = t.sound; known = t.known; within = t.within; kept = h.kept; idle = e.idle; ours = ap (waiting_ours d.world.sent) e.waits }
 
           g1 : Goes n at_most start files epochs false part
           g1 = rest-goes n at_most start files epochs false j first d (record { tends = tends; ways = λ e. absurd (true≢false (sym e)) }) up1
 
           g2 : Goes n at_most start files epochs true middle
-          g2 = ask-goes n at_most start files epochs (clients_from 1 8) servers part g1.tends up1 (λ s out e memory found. blank-ways part e s t1 (not-among n s out) memory found)
+          g2 = ask-goes n at_most start files epochs (clients_from 1 8) servers part g1.tends (λ s among. up1 s (let k = among-below n 0 s among in omega (arith, k))) (λ s out e memory found. blank-ways part e s t1 (not-among n s out) memory found)
 
           g3 : Goes n at_most start files epochs true last
           g3 = rest-goes n at_most start files epochs true j second middle g2 up
 
   -- what is found is what was committed
-  as-committed : (d : Course) → Traced d → AreUp d.world → IsClosed d → IsAsCommitted files d.world
+  as-committed : (d : Course) → Traced d → AreUp n d.world → IsClosed d → IsAsCommitted files d.world
   as-committed d h up closed = record {
     history = order.history;
     told = order.told;
     once = order.once;
     serial = order.serial;
-    shown = λ s c u. let m = some_of (d.world.memory s) (up s) in let empty = closed.servers s m.0 m.1 in order.shown s c u (λ W p e. absurd (clash ((d.world.found s c).works W) p e (empty.stored c W)));
+    shown = λ s c u. order.shown s c u (λ W p e. absurd (clash ((d.world.found s c).works W) p e (none s c W (nat_lt s.0 n) refl)));
   }
     where
+      none : (s : ServerNo) (c : Pick) (W : WorkId) (b : Bool) → nat_lt s.0 n ≡ b → (d.world.found s c).works W ≡ None
+      none s c W true l = let m = some_of (d.world.memory s) (up s (grind (arith, nat_tests, l))) in let empty = closed.servers s m.0 m.1 in empty.stored c W
+      none s c W false l = none_unless ((d.world.found s c).works W) (λ p e. far d h s c W p e (grind (arith, nat_tests, l)))
+
       order : IsInOrder files d.world
       order = moves-in-order files epochs d.world h.sound.locks (record { atoms = h.known.atoms; may = h.known.may; mirrors = h.known.mirrors })
 
@@ -511,11 +543,11 @@ module _ (n : ℕ) (at_most : n ≤ 8) (files : AllFiles) (epochs : ServerNo →
   c = go_on steps (opening_course n files epochs)
 
   t : Traced n at_most (opening n files epochs) files epochs c
-  t = traced-on n at_most (opening n files epochs) files epochs steps (opening_course n files epochs) (record { sound = opening-sound n files epochs; known = opening-reached files epochs n; beyond = opening-beyond n files epochs }) is
+  t = traced-on n at_most (opening n files epochs) files epochs steps (opening_course n files epochs) (record { sound = opening-sound n files epochs; known = opening-reached files epochs n; within = opening-within n files epochs }) is
 
   it-ended : Ended n at_most (opening n files epochs) files epochs (ended n starts c)
   it-ended = end-closes n at_most (opening n files epochs) files epochs starts (without_messages c)
-      (record { sound = record { course = record { is_run = t.sound.course.is_run; stands = t.sound.course.stands }; locks = t.sound.locks; sizes = t.sound.sizes; below = refl }; known = t.known; beyond = t.beyond }) refl (subst (λ (w : World). IsRun (end_steps starts (servers_from 0 n)) w) (sym (on-world steps (opening_course n files epochs))) comes)
+      (record { sound = record { course = record { is_run = t.sound.course.is_run; stands = t.sound.course.stands }; locks = t.sound.locks; sizes = t.sound.sizes; below = refl }; known = t.known; within = t.within }) refl (subst (λ (w : World). IsRun (end_steps starts (servers_from 0 n)) w) (sym (on-world steps (opening_course n files epochs))) comes)
 
   pub end-leaves-nothing : (first second : ℕ → Chance) → Leaves IsClosed n first second (ended n starts c)
   end-leaves-nothing first second = leaves-nothing n at_most (opening n files epochs) files epochs first second (ended n starts c) it-ended

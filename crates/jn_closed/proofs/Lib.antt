@@ -1,5 +1,4 @@
 pub mod Rows
 pub mod Tends
 pub mod Rests
-pub mod Beyond
 pub mod Ends

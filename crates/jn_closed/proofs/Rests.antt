@@ -1,4 +1,4 @@
--- A settle after the end, where all servers are up in the end: its steps keep what holds, and none is stopped.
+-- A settle after the end, where all of so many servers are up in the end: its steps keep what holds, and none is stopped.
 use Rattle.std.proofs.Common.{◌≡◌, ◌≢◌, ◌⊎◌, inl, inr, ◌≤◌, ◌<◌, ℕ, zero, suc, ◌+◌, Bool, true, false, List, [], ◌∷◌, ◌++◌, length, Option, Some, None, is_some, true≢false, refl, sym, ◌∙◌, ap, subst, arith}
 use Rattle.std.specs.Prelude.{if◌then◌else◌, slice_get, ◌&&◌, not, map, nat_eq}
 use Rattle.std.specs.List.{list_any}
@@ -31,12 +31,13 @@ use Rattle.jn_protocol.specs.Steps.{Step, Again, Deliver, Work as WorkStep, Nudg
 use Rattle.jn_moves.specs.Mirrors.{IsTrue, IsAddressed}
 use Rattle.jn_settling.specs.Course.{Course, numbered, still_waiting, without_number, go, go_on}
 use Rattle.jn_settling.specs.Settle.{Chance, servers_from, first_busy, next_step, onward, until_rest, ask_again}
-use Rattle.jn_settling.proofs.Burdens.{are_below, busy-is}
+use Rattle.jn_settling.proofs.Burdens.{are_below, busy-within, busy-is}
 use Rattle.jn_settling.proofs.Courses.{go-sound, waiting-is}
 use Rattle.jn_settling.proofs.Parts.{Busy, busy-has, get-some, next_intention, row_of, works-as}
 use Rattle.jn_settling.proofs.WorldSizes.{holds-of}
 use Rattle.jn_settled.specs.Settled.{AreUp}
 use Rattle.jn_reported.proofs.Reached.{next-reached}
+use Rattle.jn_settled.proofs.Within.{to-near, within-step}
 use Rattle.jn_settled.proofs.Requests.{has-new}
 use Rattle.jn_settled.proofs.Ways.{Has, Waits, still-waits, now-waits, rest-down, any-without}
 use Rattle.jn_closed.proofs.Rows.{is_thanked, are_all, is_ours, are_ours, needs, needs_of, needs_in, RowTends, Takes, carried-tends, going-there}
@@ -157,37 +158,40 @@ module _ (n : ℕ) (at_most : n ≤ 8) (start : World) (files : AllFiles) (epoch
 
   -- ---- a part of a settle
 
-  pub rest-goes : (b : Bool) (j : ℕ) (chances : ℕ → Chance) (d : Course) → Goes b d → AreUp (until_rest (servers_from 0 n) chances j d).world → Goes b (until_rest (servers_from 0 n) chances j d)
+  pub rest-goes : (b : Bool) (j : ℕ) (chances : ℕ → Chance) (d : Course) → Goes b d → AreUp n (until_rest (servers_from 0 n) chances j d).world → Goes b (until_rest (servers_from 0 n) chances j d)
   rest-goes b zero chances d h up = h
   rest-goes b (suc j) chances d h up = by d.waiting refl (first_busy d.world (servers_from 0 n)) refl (chances 0).stop up (rest-goes b j (λ i. chances (i + 1)))
     where
       later : ℕ → Chance
       later i = chances (i + 1)
 
-      was-up : (s : ServerNo) → is_some (d.world.memory s) ≡ true
-      was-up s = on (d.world.memory s) refl
+      was-up : AreUp n d.world
+      was-up s near = on (d.world.memory s) refl
         where
           on : (o : Option Memory) → d.world.memory s ≡ o → is_some o ≡ true
           on (Some m) e = refl
-          on None e = absurd (true≢false (sym (up s) ∙ ap is_some (rest-down n s (suc j) chances d e)))
+          on None e = absurd (true≢false (sym (up s near) ∙ ap is_some (rest-down n s (suc j) chances d e)))
 
       -- a stop would leave a server down
-      no-stop : (s : ServerNo) (e : Course) → e.world.memory s ≡ None → AreUp (until_rest (servers_from 0 n) later j e).world → ⊥
-      no-stop s e down last = true≢false (sym (last s) ∙ ap is_some (rest-down n s j later e down))
+      no-stop : (s : ServerNo) → s.0 < n → (e : Course) → e.world.memory s ≡ None → AreUp n (until_rest (servers_from 0 n) later j e).world → ⊥
+      no-stop s near e down last = true≢false (sym (last s near) ∙ ap is_some (rest-down n s j later e down))
 
       itself : (s : ServerNo) → server_eq s s ≡ true
       itself s = grind (arith, nat_tests)
 
+      its-near : (k : ℕ) (x : Hands d k) → x.server.0 < n
+      its-near k x = let t = h.tends in to-near n at_most d.world t.sound.sizes t.sound.locks t.within k x.server x.message x.is
+
       by : (waiting : List ℕ) → d.waiting ≡ waiting → (o : Option ServerNo) → first_busy d.world (servers_from 0 n) ≡ o → (stop : Option (Pick → ℕ))
-          → AreUp (onward (next_step (record { room = (chances 0).room; stop = stop }) waiting o) d (until_rest (servers_from 0 n) later j)).world
-          → ((e : Course) → Goes b e → AreUp (until_rest (servers_from 0 n) later j e).world → Goes b (until_rest (servers_from 0 n) later j e))
+          → AreUp n (onward (next_step (record { room = (chances 0).room; stop = stop }) waiting o) d (until_rest (servers_from 0 n) later j)).world
+          → ((e : Course) → Goes b e → AreUp n (until_rest (servers_from 0 n) later j e).world → Goes b (until_rest (servers_from 0 n) later j e))
           → Goes b (onward (next_step (record { room = (chances 0).room; stop = stop }) waiting o) d (until_rest (servers_from 0 n) later j))
-      by (k ∷ ks) e o f None up again = let x = hands d k ks h.tends e in let m = some_of (d.world.memory x.server) (was-up x.server) in again _ (handed-goes b d h k ks (chances 0).room e x m.0 m.1) up
-      by (k ∷ ks) e o f (Some made) up again = let x = hands d k ks h.tends e in let m = some_of (d.world.memory x.server) (was-up x.server) in
-          absurd (no-stop x.server (go (StopDelivery k (chances 0).room made) d) (ap (λ (z : World). z.memory x.server) (ap (λ o. handed k (chances 0).room (Some made) o d.world) x.is ∙ ap (λ o. at_memory x.server k (chances 0).room (Some made) x.message o d.world) m.1)
+      by (k ∷ ks) e o f None up again = let x = hands d k ks h.tends e in let m = some_of (d.world.memory x.server) (was-up x.server (its-near k x)) in again _ (handed-goes b d h k ks (chances 0).room e x m.0 m.1) up
+      by (k ∷ ks) e o f (Some made) up again = let x = hands d k ks h.tends e in let m = some_of (d.world.memory x.server) (was-up x.server (its-near k x)) in
+          absurd (no-stop x.server (its-near k x) (go (StopDelivery k (chances 0).room made) d) (ap (λ (z : World). z.memory x.server) (ap (λ o. handed k (chances 0).room (Some made) o d.world) x.is ∙ ap (λ o. at_memory x.server k (chances 0).room (Some made) x.message o d.world) m.1)
           ∙ ap (λ (b : Bool). if b then None else d.world.memory x.server) (itself x.server)) up)
       by [] e (Some s) f None up again = again _ (work-goes b d h s (chances 0).room f) up
-      by [] e (Some s) f (Some made) up again = absurd (no-stop s (go (StopWork s (chances 0).room made) d) (down made) up)
+      by [] e (Some s) f (Some made) up again = absurd (no-stop s (let near = busy-within d.world n 0 s f in omega (arith, near)) (go (StopWork s (chances 0).room made) d) (down made) up)
         where
           down : (made : Pick → ℕ) → (go (StopWork s (chances 0).room made) d).world.memory s ≡ None
           down made = let has = busy-has n at_most start (stable (d.world.found s)) (d.world.memory s) (busy-is d.world n 0 s f) in
@@ -202,6 +206,7 @@ module _ (n : ℕ) (at_most : n ≤ 8) (start : World) (files : AllFiles) (epoch
   sends-tends d step new h i memory clients sent ours waits = record {
     sound = go-sound n at_most start d step h.sound i;
     known = next-reached files epochs d.world step i h.known;
+    within = within-step n at_most d.world h.sound.sizes h.sound.locks h.within step i;
     kept = λ s m e. h.kept s m (sym (ap (λ f. f s) memory) ∙ e);
     idle = λ c. ap (λ f. (f c).outstanding) clients ∙ h.idle c;
     ours = subst (λ xs. waiting_ours xs (go step d).waiting ≡ true) (sym sent) (subst (λ ks. waiting_ours (d.world.sent ++ new) ks ≡ true) (sym (waiting-is n at_most start d step new sent))
@@ -337,13 +342,13 @@ module _ (n : ℕ) (at_most : n ≤ 8) (start : World) (files : AllFiles) (epoch
       needed T W (told a) = told (on _ a)
       needed T W (carried a) = carried (on _ a)
 
-  nudges : (servers : List ServerNo) (d : Course) → It d → AreUp d.world → ((s : ServerNo) → WaysAt d s ⊎ (list_any (server_eq s) servers ≡ true)) → Goes true (go_on (map (λ (s : ServerNo). Nudge s) servers) d)
+  nudges : (servers : List ServerNo) (d : Course) → It d → ((s : ServerNo) → list_any (server_eq s) servers ≡ true → is_some (d.world.memory s) ≡ true) → ((s : ServerNo) → WaysAt d s ⊎ (list_any (server_eq s) servers ≡ true)) → Goes true (go_on (map (λ (s : ServerNo). Nudge s) servers) d)
   nudges [] d h up ways = record { tends = h; ways = λ e. record { ready = λ W r. let at = mine W.server (ways W.server) in at.ready W refl r; needed = λ T W need. let at = mine T.server (ways T.server) in at.needed T W refl need } }
     where
       mine : (s : ServerNo) → WaysAt d s ⊎ (false ≡ true) → WaysAt d s
       mine s (inl a) = a
       mine s (inr e) = absurd (true≢false (sym e))
-  nudges (q ∷ servers) d h up ways = let m = some_of (d.world.memory q) (up q) in nudges servers (go (Nudge q) d) (nudge-tends d q m.0 m.1 h) (λ s. ap (λ (z : World). is_some (z.memory s)) (nudge-now d q m.0 m.1) ∙ up s) (λ s. by s m.0 m.1 (server_tells s q) (ways s))
+  nudges (q ∷ servers) d h up ways = let m = some_of (d.world.memory q) (up q (grind (arith, nat_tests))) in nudges servers (go (Nudge q) d) (nudge-tends d q m.0 m.1 h) (λ s among. ap (λ (z : World). is_some (z.memory s)) (nudge-now d q m.0 m.1) ∙ up s (grind (arith, among))) (λ s. by s m.0 m.1 (server_tells s q) (ways s))
     where
       by : (s : ServerNo) (m : Memory) → d.world.memory q ≡ Some m → ((server_eq s q ≡ true) × (s ≡ q)) ⊎ ((server_eq s q ≡ false) × (s ≢ q)) → WaysAt d s ⊎ (list_any (server_eq s) (q ∷ servers) ≡ true) → WaysAt (go (Nudge q) d) s ⊎ (list_any (server_eq s) servers ≡ true)
       by s m e (inl t) w = inl (subst (λ (z : ServerNo). WaysAt (go (Nudge q) d) z) (sym t.1) (nudge-asks d q m e h))
@@ -351,7 +356,7 @@ module _ (n : ℕ) (at_most : n ≤ 8) (start : World) (files : AllFiles) (epoch
       by s m e (inr t) (inr a) = inr (let z = t.0 in grind (arith, a, z))
 
   -- what was asked for after all have asked
-  pub ask-goes : (clients : List ClientNo) (servers : List ServerNo) (d : Course) → It d → AreUp d.world → ((s : ServerNo) → list_any (server_eq s) servers ≡ false → (e : Course) → e.world.memory ≡ d.world.memory → e.world.found ≡ d.world.found → WaysAt e s)
+  pub ask-goes : (clients : List ClientNo) (servers : List ServerNo) (d : Course) → It d → ((s : ServerNo) → list_any (server_eq s) servers ≡ true → is_some (d.world.memory s) ≡ true) → ((s : ServerNo) → list_any (server_eq s) servers ≡ false → (e : Course) → e.world.memory ≡ d.world.memory → e.world.found ≡ d.world.found → WaysAt e s)
       → Goes true (go_on (ask_again clients servers) d)
   ask-goes [] servers d h up beyond = nudges servers d h up (λ s. by s (list_any (server_eq s) servers) refl)
     where

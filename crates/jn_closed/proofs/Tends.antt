@@ -38,6 +38,7 @@ use Rattle.jn_settling.specs.Course.{Course, numbered, still_waiting, go}
 use Rattle.jn_settling.proofs.Burdens.{are_below, get-more, get-next}
 use Rattle.jn_settling.proofs.Courses.{Sound, go-sound, waiting-is, below-still}
 use Rattle.jn_reported.proofs.Reached.{Reached, next-reached}
+use Rattle.jn_settled.proofs.Within.{Within, within-step}
 use Rattle.jn_settled.proofs.Ways.{Has, Waits, now-waits}
 use Rattle.jn_closed.proofs.Rows.{Kept, is_ours, are_ours, needs, needs_of, needs_in, RowTends, Own, Takes, commit-takes, drop-takes, inquire-answers, done-answers}
 
@@ -102,6 +103,7 @@ module _ (n : ℕ) (at_most : n ≤ 8) (start : World) (files : AllFiles) (epoch
   pub record Tends (d : Course) : Type 0 where
     pub sound : Sound n start d
     pub known : Reached files epochs d.world
+    pub within : Within n d.world
     pub kept : (s : ServerNo) (m : Memory) → d.world.memory s ≡ Some m → Kept m
     pub idle : (c : ClientNo) → (d.world.clients c).outstanding ≡ None
     pub ours : waiting_ours d.world.sent d.waiting ≡ true
@@ -199,6 +201,7 @@ module _ (n : ℕ) (at_most : n ≤ 8) (start : World) (files : AllFiles) (epoch
       row-tends left = record {
         sound = go-sound n at_most start d step h.sound i;
         known = next-reached files epochs w step i h.known;
+        within = within-step n at_most w h.sound.sizes h.sound.locks h.within step i;
         kept = λ s a e. kept s a (server_eq q s) (sym (ap (λ (z : World). z.memory s) is) ∙ e);
         idle = λ c. ap (λ (z : World). (z.clients c).outstanding) is ∙ h.idle c;
         ours = subst (λ xs. waiting_ours xs (go step d).waiting ≡ true) (sym its-sent) (subst (λ ks. waiting_ours (w.sent ++ row.messages) ks ≡ true) (sym (waiting-is n at_most start d step row.messages its-sent))

@@ -62,8 +62,8 @@ pub record IsAsCommitted (files : AllFiles) (w : World) : Type 0 where
   pub serial : IsSerial files history
   pub shown : (s : ServerNo) (c : Pick) (u : LockUnit) → (w.found s c).files u ≡ replay files history s u
 
--- what is so after a settle, from some number of steps on, where all servers are up then
+-- what is so after a settle, from some number of steps on, where all of so many servers are up then
 pub record Leaves (IsSo : Course → Type 0) (servers : ℕ) (first second : ℕ → Chance) (c : Course) : Type 0 where
   pub steps : ℕ
-  pub each : (n : ℕ) → steps ≤ n → AreUp (settled servers (record { first = first; second = second; steps = n }) c).world
+  pub each : (n : ℕ) → steps ≤ n → AreUp servers (settled servers (record { first = first; second = second; steps = n }) c).world
       → IsSo (settled servers (record { first = first; second = second; steps = n }) c)

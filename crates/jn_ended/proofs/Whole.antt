@@ -1,7 +1,7 @@
 -- After an end that settles until nothing is left to do, nothing is held for commit.
 use Rattle.std.proofs.Common.{◌≡◌, ◌≢◌, ◌⊎◌, inl, inr, ◌≤◌, ◌<◌, ℕ, zero, suc, ◌+◌, Bool, true, false, List, [], ◌∷◌, ◌++◌, append-nil, append_assoc, length, Option, Some, None, is_some, refl, sym, ◌∙◌, ap, subst, arith}
 use Rattle.std.proofs.Math.Path.{fun_ext}
-use Rattle.std.specs.Prelude.{if◌then◌else◌, map, nat_lt}
+use Rattle.std.specs.Prelude.{if◌then◌else◌, map}
 use Rattle.std.proofs.lemmas.Bool.Decides.{nat_tests}
 use Rattle.jn_base.specs.declared.names.ServerNo.{ServerNo}
 use Rattle.jn_base.specs.declared.names.LockUnit.{LockUnit}
@@ -217,12 +217,8 @@ module _ (servers : ℕ) (few : servers ≤ 8) (files : AllFiles) (epochs : Serv
   leads : (settled servers chances (ended servers (starts servers few e) before)).world ≡ world_at_end servers e w
   leads = ap (λ (z : Course). z.world) (settled-same servers chances _ _ same) ∙ stands
 
-  up : AreUp (world_at_end servers e w)
-  up s = by (nat_lt s.0 servers) refl
-    where
-      by : (b : Bool) → nat_lt s.0 servers ≡ b → is_some ((world_at_end servers e w).memory s) ≡ true
-      by true l = printed-up 0 (world_at_end servers e w) e.prints k.prints s (omega arith) (let long = k.all_print in grind (arith, nat_tests, l, long))
-      by false l = rest.others_up s (grind (arith, nat_tests, l))
+  up : AreUp servers (world_at_end servers e w)
+  up s l = printed-up 0 (world_at_end servers e w) e.prints k.prints s (omega arith) (let long = k.all_print in grind (arith, nat_tests, l, long))
 
   pub end-holds : (s : ServerNo) (m : Memory) (u : LockUnit) → (world_at_end servers e (world_of items (opening servers files epochs))).memory s ≡ Some m → commit_holder u m.worker ≡ None
   end-holds s m u is = ap (commit_holder u) (let empty = closed.servers s m (ap (λ (z : World). z.memory s) leads ∙ is) in empty.works)
@@ -231,4 +227,4 @@ module _ (servers : ℕ) (few : servers ≤ 8) (files : AllFiles) (epochs : Serv
       more a b = omega arith
 
       closed : IsClosed (settled servers chances (ended servers (starts servers few e) before))
-      closed = leaves.each (rest.enough + leaves.steps) (more rest.enough leaves.steps) (subst AreUp (sym leads) up)
+      closed = leaves.each (rest.enough + leaves.steps) (more rest.enough leaves.steps) (subst (AreUp servers) (sym leads) up)

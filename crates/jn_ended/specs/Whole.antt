@@ -1,6 +1,5 @@
 -- The report of a whole run is that of its commits.
-use Rattle.std.specs.Prelude.{◌≡◌, ◌≤◌, ℕ, true, List, [], is_some}
-use Rattle.jn_base.specs.declared.names.ServerNo.{ServerNo}
+use Rattle.std.specs.Prelude.{◌≡◌, ◌≤◌, ℕ, List, []}
 use Rattle.jn_order.specs.Files.{AllFiles}
 use Rattle.jn_schedule.specs.declared.Event.{Event}
 use Rattle.jn_report.specs.declared.line.Line.{Line}
@@ -12,7 +11,7 @@ use Rattle.jn_serial.specs.Follows.{Follows}
 use Rattle.jn_protocol.specs.World.{World}
 use Rattle.jn_settling.specs.Course.{Course, go_on}
 use Rattle.jn_settling.specs.Settle.{Chance, settled}
-use Rattle.jn_reported.specs.Ending.{Ending, steps_at_end, world_at_end}
+use Rattle.jn_reported.specs.Ending.{Ending, steps_at_end}
 
 -- ---- an end that settles until nothing is left to do
 
@@ -20,14 +19,12 @@ use Rattle.jn_reported.specs.Ending.{Ending, steps_at_end, world_at_end}
 abbrev pub course_at_end : ℕ → Ending → World → Course
 course_at_end servers e w = go_on (steps_at_end servers (record e { settling = [] })) (record { world = w; waiting = []; steps = [] })
 
--- Its steps are those of a settle, whatever befalls it, however many more it might take. Servers that there aren't have a memory
--- in this world too, which is empty; they never go down.
+-- Its steps are those of a settle, whatever befalls it, however many more it might take.
 pub record IsSettledEnd (servers : ℕ) (e : Ending) (w : World) : Type 0 where
   pub first : ℕ → Chance
   pub second : ℕ → Chance
   pub enough : ℕ
   pub each : (n : ℕ) → enough ≤ n → (settled servers (record { first = first; second = second; steps = n }) (course_at_end servers e w)).steps ≡ steps_at_end servers e
-  pub others_up : (s : ServerNo) → servers ≤ s.0 → is_some ((world_at_end servers e w).memory s) ≡ true
 
 -- ---- a report
 

@@ -44,7 +44,7 @@ use Rattle.jn_runs.proofs.Openings.{Opening, openings, Has as HasOpening}
 use Rattle.jn_settling.proofs.CoordinatorFits.{found-name}
 use Rattle.jn_reported.proofs.Reached.{Reached, next-reached}
 use Rattle.jn_settled.proofs.Owners.{owner_in, owned-found}
-use Rattle.jn_settled.proofs.OwnerSteps.{AreOwned, step-keeps-owned}
+use Rattle.jn_settled.proofs.Within.{Within, within-step}
 use Rattle.jn_settled.proofs.Talk.{IsStill, IsFitting, still-fits, command-fits, take-still}
 use Rattle.jn_settled.proofs.Ways.{Has, Reply, IsEnd, none-still, handed-still, took-clients, memory-clients, quiet-clients}
 
@@ -95,14 +95,14 @@ module _ (n : ℕ) (at_most : n ≤ 8) (start : World) (files : AllFiles) (epoch
     pub sound : Sound n start d
     pub talks : (c : ClientNo) → Talks c (d.world.clients c)
     pub known : Reached files epochs d.world
-    pub owned : AreOwned d.world
+    pub within : Within n d.world
 
   pub go-talking : (d : Course) (step : Step) → Talking d → IsStep step d.world → Talking (go step d)
   go-talking d step h i = record {
     sound = go-sound n at_most start d step h.sound i;
     talks = λ c. by step c;
     known = next-reached files epochs d.world step i h.known;
-    owned = step-keeps-owned n at_most d.world h.sound.sizes h.sound.locks h.owned step i;
+    within = within-step n at_most d.world h.sound.sizes h.sound.locks h.within step i;
   }
     where
       w : World
@@ -189,7 +189,7 @@ module _ (n : ℕ) (at_most : n ≤ 8) (start : World) (files : AllFiles) (epoch
 
   -- the client of a transaction is the one whose it is
   pub its-client : (d : Course) (c : ClientNo) (T : Tid) (m : Memory) (y : Transaction) → Talking d → (d.world.clients c).transaction ≡ Some T → d.world.memory T.server ≡ Some m → transaction_at T m.coordinator.transactions ≡ Some y → y.client ≡ c
-  its-client d c T m y h current up found = let own = owner-has (openings d.world.sent) y.client y.tid (owned-found (owner_in (openings d.world.sent)) T m.coordinator.transactions y ((h.owned T.server).table m up) found) in
+  its-client d c T m y h current up found = let own = owner-has (openings d.world.sent) y.client y.tid (owned-found (owner_in (openings d.world.sent)) T m.coordinator.transactions y ((h.within.owned T.server).table m up) found) in
       let facts = h.known.facts in let began = (facts.clients c).current T current in
       let same = facts.unique own.0 (record { client = c; request = began.request; tid = T }) own.1 began.has (own.3 ∙ found-name T m.coordinator.transactions y found) in sym own.2 ∙ ap (λ (a : Opening). a.client) same
 

@@ -1,4 +1,4 @@
--- What a settle with all servers up answers.
+-- What a settle with these servers up answers.
 use Rattle.std.proofs.Common.{◌≡◌, ◌⊎◌, inl, inr, ◌≤◌, ℕ, List, [], Some, None, refl, sym, ◌∙◌, ap, subst, arith}
 use Rattle.jn_base.specs.declared.names.ServerNo.{ServerNo}
 use Rattle.jn_base.specs.declared.names.ClientNo.{ClientNo}
@@ -23,6 +23,7 @@ use Rattle.jn_settled.proofs.Answered.{open-reply, abort-reply, rest-keeps, ask-
 use Rattle.jn_settling.proofs.Courses.{Sound}
 use Rattle.jn_settled.proofs.Twins.{HasTwin}
 use Rattle.jn_settled.proofs.Operations.{op-reply}
+use Rattle.jn_settled.proofs.Within.{waits-near}
 use Rattle.jn_settled.proofs.Begins.{Good, good-go, begin-reply}
 
 module _ (n : ℕ) (at_most : n ≤ 8) (start : World) (files : AllFiles) (epochs : ServerNo → ℕ) (twins : (d : Course) → Sound n start d → HasTwin files epochs d.world) where
@@ -44,7 +45,7 @@ module _ (n : ℕ) (at_most : n ≤ 8) (start : World) (files : AllFiles) (epoch
     abbrev last : Course
     last = until_rest (servers_from 0 n) chances j middle
 
-    module _ (c : ClientNo) (first : 1 ≤ c.0) (most : c.0 ≤ 8) (rests : last.waiting ≡ []) (up : AreUp last.world) where
+    module _ (c : ClientNo) (first : 1 ≤ c.0) (most : c.0 ≤ 8) (rests : last.waiting ≡ []) (up : AreUp n last.world) where
       abbrev t : ClientTable
       t = d.world.clients c
 
@@ -63,7 +64,7 @@ module _ (n : ℕ) (at_most : n ≤ 8) (start : World) (files : AllFiles) (epoch
       command-answered : (o : Outstanding) (s : ServerNo) (message : Message) → t.outstanding ≡ Some o → o.to ≡ Server s → o.message ≡ message
           → ((e : Course) (m : Memory) (room : Room) → IsGood e → e.world.clients c ≡ t → e.world.memory s ≡ Some m → Reply c t (server_row m (stable (e.world.found s)) room message).messages ⊎ Answering c t e)
           → (last.world.clients c).outstanding ≡ None
-      command-answered o s message e to is replies = rest-answers n at_most start c t s message IsGood (λ d h. h.talking.sound) (good-go n at_most start files epochs) replies j chances middle on.so_far on.way (up s) rests
+      command-answered o s message e to is replies = rest-answers n at_most start c t s message IsGood (λ d h. h.talking.sound) (good-go n at_most start files epochs) replies j chances middle on.so_far on.way (up s (let g = h.talking in waits-near n at_most d.world g.sound.sizes g.sound.locks g.within c o s e to)) rests
         where
           on : OnTheWay n at_most start c t s message IsGood (λ d h. h.talking.sound) (good-go n at_most start files epochs) replies middle
           on = ask-on-the-way n at_most start c t s message IsGood (λ d h. h.talking.sound) (good-go n at_most start files epochs) replies (clients_from 1 8) (servers_from 0 n) d h refl
@@ -93,7 +94,7 @@ module _ (n : ℕ) (at_most : n ≤ 8) (start : World) (files : AllFiles) (epoch
       none-some : (o : Outstanding) → None ≡ Some o → ⊥
       none-some o q = cc
 
-    pub settled-answers : last.waiting ≡ [] → AreUp last.world → AreAnswered last.world
+    pub settled-answers : last.waiting ≡ [] → AreUp n last.world → AreAnswered last.world
     settled-answers rests up c o first most e = by o.command refl
       where
         was : (d.world.clients c).outstanding ≡ Some o

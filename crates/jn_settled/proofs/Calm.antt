@@ -1,6 +1,6 @@
--- A part of a settle at whose end all servers are up: no step of it was stopped, so that it keeps what each message handed over
+-- A part of a settle at whose end all of so many servers are up: no step of it was stopped, so that it keeps what each message handed over
 -- and each step of a server keeps.
-use Rattle.std.proofs.Common.{length, length-append, append_assoc, ◌≡◌, ◌≢◌, ◌⊎◌, inl, inr, ◌≤◌, ℕ, zero, suc, ◌+◌, Bool, true, false, List, [], ◌∷◌, ◌++◌, append-nil, Option, Some, None, is_some, true≢false, refl, sym, ◌∙◌, ap, subst, arith}
+use Rattle.std.proofs.Common.{length, length-append, append_assoc, ◌≡◌, ◌≢◌, ◌⊎◌, inl, inr, ◌≤◌, ◌<◌, ℕ, zero, suc, ◌+◌, Bool, true, false, List, [], ◌∷◌, ◌++◌, append-nil, Option, Some, None, is_some, true≢false, refl, sym, ◌∙◌, ap, subst, arith}
 use Rattle.std.specs.Prelude.{◌||◌, if◌then◌else◌, slice_get, nat_eq, map}
 use Rattle.std.specs.List.{list_any}
 use Rattle.std.proofs.lemmas.Bool.Decides.{nat_tests}
@@ -20,10 +20,11 @@ use Rattle.jn_protocol.specs.Servers.{Room, storage_of, of_worker, of_step, serv
 use Rattle.jn_protocol.specs.Steps.{Step, NextEvent, Tell, Timeout, Crash, Narrow, StopRestart, Restart, Dismiss, CloseClients, Again, Deliver, Work, Nudge, StopDelivery, StopWork, IsStep, after, sent_now, taken_by, done, at_memory, handed, work, works, nudge}
 use Rattle.jn_settling.specs.Course.{Course, numbered, still_waiting, without_number, go, go_on}
 use Rattle.jn_settling.specs.Settle.{Chance, servers_from, is_busy, first_busy, handing, working, next_step, onward, until_rest, ask_again}
-use Rattle.jn_settling.proofs.Burdens.{are_below, busy-is, get-more, get-next}
+use Rattle.jn_settling.proofs.Burdens.{are_below, busy-within, busy-is, get-more, get-next}
 use Rattle.jn_settling.proofs.Courses.{Sound, waiting-is}
 use Rattle.jn_settling.proofs.Parts.{get-some}
 use Rattle.jn_settled.specs.Settled.{AreUp}
+use Rattle.jn_settled.proofs.Within.{Within, to-near}
 use Rattle.jn_settled.proofs.Ways.{Has, Waits, any-without, still-waits, now-waits, below-any, rest-down}
 
 -- From one course to the next: this is the world then, what waited and wasn't taken waits on, and what is new waits.
@@ -209,7 +210,7 @@ module _ (n : ℕ) (at_most : n ≤ 8) (start : World) where
 
     -- ---- to rest
 
-    module _ (P : Course → Type 0)
+    module _ (inside : (d : Course) → Good d → Within n d.world) (P : Course → Type 0)
         (to_client : (d now : Course) (k : ℕ) (c : ClientNo) (message : Message) → Good d → slice_get d.world.sent k ≡ Some (Client c, message)
         → (comes : Comes d now (Some (Client c, message)) (taken_by c k (take_row (d.world.clients c) message) d.world)) → d.waiting ≡ k ∷ comes.still → P d → P now)
         (to_server : (d now : Course) (k : ℕ) (room : Room) (s : ServerNo) (message : Message) (m : Memory) → Good d → slice_get d.world.sent k ≡ Some (Server s, message) → d.world.memory s ≡ Some m
@@ -217,13 +218,13 @@ module _ (n : ℕ) (at_most : n ≤ 8) (start : World) where
         (by_work : (d now : Course) (s : ServerNo) (m : Memory) (v : WorkEntry) → Good d → d.waiting ≡ [] → d.world.memory s ≡ Some m → going_work (stable (d.world.found s)) m.worker ≡ Some v
         → Comes d now None (done s None (carried m d.world s v) d.world) → P d → P now) where
       -- a server that is up at the end was never down
-      never-down : (j : ℕ) (chances : ℕ → Chance) (d : Course) → AreUp (until_rest (servers_from 0 n) chances j d).world → (s : ServerNo) → d.world.memory s ≡ None → ⊥
-      never-down j chances d up s e = true≢false (sym (up s) ∙ ap is_some (rest-down n s j chances d e))
+      never-down : (j : ℕ) (chances : ℕ → Chance) (d : Course) → AreUp n (until_rest (servers_from 0 n) chances j d).world → (s : ServerNo) → s.0 < n → d.world.memory s ≡ None → ⊥
+      never-down j chances d up s near e = true≢false (sym (up s near) ∙ ap is_some (rest-down n s j chances d e))
 
       itself : (s : ServerNo) → server_eq s s ≡ true
       itself s = grind (arith, nat_tests)
 
-      pub rest-calm : (j : ℕ) (chances : ℕ → Chance) (d : Course) → Good d → AreUp (until_rest (servers_from 0 n) chances j d).world → P d → P (until_rest (servers_from 0 n) chances j d)
+      pub rest-calm : (j : ℕ) (chances : ℕ → Chance) (d : Course) → Good d → AreUp n (until_rest (servers_from 0 n) chances j d).world → P d → P (until_rest (servers_from 0 n) chances j d)
       unfolding hand-comes step-comes
       rest-calm zero chances d h up p = p
       rest-calm (suc j) chances d h up p = by d.waiting refl (first_busy d.world (servers_from 0 n)) refl up (rest-calm j later)
@@ -258,39 +259,42 @@ module _ (n : ℕ) (at_most : n ≤ 8) (start : World) where
               itself' : (k : ℕ) → nat_eq k k ≡ true
               itself' k = grind (arith, nat_tests)
 
-          to-server : (k : ℕ) (ks : List ℕ) (s : ServerNo) (message : Message) → d.waiting ≡ k ∷ ks → slice_get d.world.sent k ≡ Some (Server s, message) → (stop : Option (Pick → ℕ)) → AreUp (until_rest (servers_from 0 n) (λ i. chances (i + 1)) j (go (handing k (chances 0).room stop) d)).world
+          to-server : (k : ℕ) (ks : List ℕ) (s : ServerNo) (message : Message) → d.waiting ≡ k ∷ ks → slice_get d.world.sent k ≡ Some (Server s, message) → (stop : Option (Pick → ℕ)) → AreUp n (until_rest (servers_from 0 n) (λ i. chances (i + 1)) j (go (handing k (chances 0).room stop) d)).world
               → P (go (handing k (chances 0).room stop) d)
           to-server k ks s message first is stop up = on (d.world.memory s) refl stop up
             where
+              near : s.0 < n
+              near = let g = sound d h in to-near n at_most d.world g.sizes g.locks (inside d h) k s message is
+
               leads : (stop : Option (Pick → ℕ)) (o : Option Memory) → d.world.memory s ≡ o → after (handing k (chances 0).room stop) d.world ≡ at_memory s k (chances 0).room stop message o d.world
               leads stop o e = handing-world k stop ∙ ap (λ z. handed k (chances 0).room stop z d.world) is ∙ ap (λ z. at_memory s k (chances 0).room stop message z d.world) e
 
-              on : (o : Option Memory) → d.world.memory s ≡ o → (stop : Option (Pick → ℕ)) → AreUp (until_rest (servers_from 0 n) (λ i. chances (i + 1)) j (go (handing k (chances 0).room stop) d)).world → P (go (handing k (chances 0).room stop) d)
-              on None e stop up = absurd (never-down j (λ i. chances (i + 1)) (go (handing k (chances 0).room stop) d) up s (ap (λ (z : World). z.memory s) (leads stop None e) ∙ e))
-              on (Some m) e (Some made) up = absurd (never-down j (λ i. chances (i + 1)) (go (handing k (chances 0).room (Some made)) d) up s (ap (λ (z : World). z.memory s) (leads (Some made) (Some m) e) ∙ ap (λ (b : Bool). if b then None else d.world.memory s) (itself s)))
+              on : (o : Option Memory) → d.world.memory s ≡ o → (stop : Option (Pick → ℕ)) → AreUp n (until_rest (servers_from 0 n) (λ i. chances (i + 1)) j (go (handing k (chances 0).room stop) d)).world → P (go (handing k (chances 0).room stop) d)
+              on None e stop up = absurd (never-down j (λ i. chances (i + 1)) (go (handing k (chances 0).room stop) d) up s near (ap (λ (z : World). z.memory s) (leads stop None e) ∙ e))
+              on (Some m) e (Some made) up = absurd (never-down j (λ i. chances (i + 1)) (go (handing k (chances 0).room (Some made)) d) up s near (ap (λ (z : World). z.memory s) (leads (Some made) (Some m) e) ∙ ap (λ (b : Bool). if b then None else d.world.memory s) (itself s)))
               on (Some m) e None up = to_server d _ k (chances 0).room s message m h is e (hand-comes d (Deliver k (chances 0).room) k (Server s, message) _ (sound d h) refl is (leads None (Some m) e)) (rest-waits k ks first None) p
 
-          hand : (k : ℕ) (ks : List ℕ) (x : Sent) → d.waiting ≡ k ∷ ks → slice_get d.world.sent k ≡ Some x → (stop : Option (Pick → ℕ)) → AreUp (until_rest (servers_from 0 n) (λ i. chances (i + 1)) j (go (handing k (chances 0).room stop) d)).world → P (go (handing k (chances 0).room stop) d)
+          hand : (k : ℕ) (ks : List ℕ) (x : Sent) → d.waiting ≡ k ∷ ks → slice_get d.world.sent k ≡ Some x → (stop : Option (Pick → ℕ)) → AreUp n (until_rest (servers_from 0 n) (λ i. chances (i + 1)) j (go (handing k (chances 0).room stop) d)).world → P (go (handing k (chances 0).room stop) d)
           hand k ks (Client c, message) first is stop up = to_client d _ k c message h is (hand-comes d (handing k (chances 0).room stop) k (Client c, message) _ (sound d h) (handing-still k stop) is
               (handing-world k stop ∙ ap (λ z. handed k (chances 0).room stop z d.world) is)) (rest-waits k ks first stop) p
           hand k ks (Server s, message) first is stop up = to-server k ks s message first is stop up
 
-          work-on : (s : ServerNo) → first_busy d.world (servers_from 0 n) ≡ Some s → d.waiting ≡ [] → (stop : Option (Pick → ℕ)) → AreUp (until_rest (servers_from 0 n) (λ i. chances (i + 1)) j (go (working s (chances 0).room stop) d)).world → P (go (working s (chances 0).room stop) d)
+          work-on : (s : ServerNo) → first_busy d.world (servers_from 0 n) ≡ Some s → d.waiting ≡ [] → (stop : Option (Pick → ℕ)) → AreUp n (until_rest (servers_from 0 n) (λ i. chances (i + 1)) j (go (working s (chances 0).room stop) d)).world → P (go (working s (chances 0).room stop) d)
           work-on s busy none stop up = on (d.world.memory s) refl (busy-is d.world n 0 s busy)
             where
               on : (o : Option Memory) → d.world.memory s ≡ o → is_busy (stable (d.world.found s)) o ≡ true → P (go (working s (chances 0).room stop) d)
               on None e b = absurd (true≢false (sym b))
               on (Some m) e b = entry (going_work (stable (d.world.found s)) m.worker) refl b stop up
                 where
-                  entry : (o : Option WorkEntry) → going_work (stable (d.world.found s)) m.worker ≡ o → is_some o ≡ true → (stop : Option (Pick → ℕ)) → AreUp (until_rest (servers_from 0 n) (λ i. chances (i + 1)) j (go (working s (chances 0).room stop) d)).world → P (go (working s (chances 0).room stop) d)
+                  entry : (o : Option WorkEntry) → going_work (stable (d.world.found s)) m.worker ≡ o → is_some o ≡ true → (stop : Option (Pick → ℕ)) → AreUp n (until_rest (servers_from 0 n) (λ i. chances (i + 1)) j (go (working s (chances 0).room stop) d)).world → P (go (working s (chances 0).room stop) d)
                   entry None f c stop up = absurd (true≢false (sym c))
-                  entry (Some v) f c (Some made) up = absurd (never-down j (λ i. chances (i + 1)) (go (working s (chances 0).room (Some made)) d) up s
+                  entry (Some v) f c (Some made) up = absurd (never-down j (λ i. chances (i + 1)) (go (working s (chances 0).room (Some made)) d) up s (let near = busy-within d.world n 0 s busy in omega (arith, near))
                       (ap (λ (z : World). z.memory s) (ap (λ z. work s (chances 0).room (Some made) z d.world) e ∙ ap (λ z. works s (Some made) (of_step m (going_row m.worker (storage_of m (stable (d.world.found s)) (chances 0).room) m.tickets z)) d.world) f) ∙ ap (λ (b : Bool). if b then None else d.world.memory s) (itself s)))
                   entry (Some v) f c None up = by_work d _ s m v h none e f (sends-on d (Work s (chances 0).room) _ (sound d h) refl
                       (ap (λ z. work s (chances 0).room None z d.world) e ∙ ap (λ z. works s None (of_step m (going_row m.worker (storage_of m (stable (d.world.found s)) (chances 0).room) m.tickets z)) d.world) f)) p
 
-          by : (waiting : List ℕ) → d.waiting ≡ waiting → (o : Option ServerNo) → first_busy d.world (servers_from 0 n) ≡ o → AreUp (onward (next_step (chances 0) waiting o) d (until_rest (servers_from 0 n) (λ i. chances (i + 1)) j)).world
-              → ((e : Course) → Good e → AreUp (until_rest (servers_from 0 n) (λ i. chances (i + 1)) j e).world → P e → P (until_rest (servers_from 0 n) (λ i. chances (i + 1)) j e))
+          by : (waiting : List ℕ) → d.waiting ≡ waiting → (o : Option ServerNo) → first_busy d.world (servers_from 0 n) ≡ o → AreUp n (onward (next_step (chances 0) waiting o) d (until_rest (servers_from 0 n) (λ i. chances (i + 1)) j)).world
+              → ((e : Course) → Good e → AreUp n (until_rest (servers_from 0 n) (λ i. chances (i + 1)) j e).world → P e → P (until_rest (servers_from 0 n) (λ i. chances (i + 1)) j e))
               → P (onward (next_step (chances 0) waiting o) d (until_rest (servers_from 0 n) (λ i. chances (i + 1)) j))
           by (k ∷ ks) e o f up again = again _ (good-hand k (chances 0).stop) up (here (get-some d.world.sent k (let below = subst (λ l. are_below (length d.world.sent) l ≡ true) e (sound d h).below in grind (arith, nat_tests, below))))
             where

@@ -1,4 +1,4 @@
--- A settle with all servers up leaves a live work only of a transaction that is undecided or was told, or that it opened; and so
+-- A settle with these servers up leaves a live work only of a transaction that is undecided or was told, or that it opened; and so
 -- it settles.
 use Rattle.std.proofs.Common.{◌≡◌, ◌≢◌, ◌⊎◌, inl, inr, ◌≤◌, ◌<◌, ℕ, Bool, true, false, List, [], ◌∷◌, length, Option, Some, None, is_some, true≢false, refl, sym, ◌∙◌, ap, subst, arith}
 use Rattle.std.specs.Prelude.{◌&&◌, ◌||◌, if◌then◌else◌, nat_eq}
@@ -41,7 +41,7 @@ use Rattle.jn_settled.proofs.Order.{Before, IsOff, ask-before, ask-off}
 use Rattle.jn_settled.proofs.Taking.{IsIn}
 use Rattle.jn_settled.proofs.Deciding.{HasOld, still-old, still-gone, took-same, server-old, server-gone, work-old, work-gone, Way, asks, drops_it, commits_it, goes_on, over, held, tells, Voice, nobody, its_client, OnWay, its-work, nothing-waits, nothing-before, client-decides, server-decides, work-decides}
 use Rattle.jn_settled.proofs.Settling.{first_part, asked_again, second_part, settles, all-answered}
-use Rattle.jn_settled.proofs.EndsWait.{reached, good, good-middle, asked, up-first, long, ends-wait}
+use Rattle.jn_settled.proofs.EndsWait.{inside, reached, good, good-middle, asked, up-first, long, ends-wait}
 use Rattle.jn_settled.proofs.Forgotten.{broken, going-found, among-servers, good-last, last-idle, no-flags}
 
 -- a work that doesn't go asks
@@ -147,20 +147,20 @@ module _ (n : ℕ) (at_most : n ≤ 8) (files : AllFiles) (epochs : ServerNo →
     abbrev Old : Course → Type 0
     Old d = HasOld n at_most files epochs (reached n at_most files epochs) (broken n at_most files epochs) W d
 
-    rest-old : (j : ℕ) (chances : ℕ → Chance) (d : Course) → IsGood d → AreUp (until_rest (servers_from 0 n) chances j d).world → Old d → Old (until_rest (servers_from 0 n) chances j d)
-    rest-old = rest-calm n at_most start IsGood (λ d h. h.talking.sound) (good-go n at_most start files epochs) Old
+    rest-old : (j : ℕ) (chances : ℕ → Chance) (d : Course) → IsGood d → AreUp n (until_rest (servers_from 0 n) chances j d).world → Old d → Old (until_rest (servers_from 0 n) chances j d)
+    rest-old = rest-calm n at_most start IsGood (λ d h. h.talking.sound) (good-go n at_most start files epochs) (inside n at_most files epochs) Old
         (λ d now k c message g is comes first h. still-old n at_most files epochs (reached n at_most files epochs) (broken n at_most files epochs) W d now (took-same n at_most files epochs (reached n at_most files epochs) (broken n at_most files epochs) W d now k c message comes) h)
         (λ d now k room s message m g is up comes first h. server-old n at_most files epochs (reached n at_most files epochs) (broken n at_most files epochs) W d now k room s message m g up comes h)
         (λ d now s m v g e up goes comes h. work-old n at_most files epochs (reached n at_most files epochs) (broken n at_most files epochs) W d now s m v g up comes h)
 
-    rest-gone : (j : ℕ) (chances : ℕ → Chance) (d : Course) → IsGood d → AreUp (until_rest (servers_from 0 n) chances j d).world → NotLive d.world W → NotLive (until_rest (servers_from 0 n) chances j d).world W
-    rest-gone = rest-calm n at_most start IsGood (λ d h. h.talking.sound) (good-go n at_most start files epochs) (λ d. NotLive d.world W)
+    rest-gone : (j : ℕ) (chances : ℕ → Chance) (d : Course) → IsGood d → AreUp n (until_rest (servers_from 0 n) chances j d).world → NotLive d.world W → NotLive (until_rest (servers_from 0 n) chances j d).world W
+    rest-gone = rest-calm n at_most start IsGood (λ d h. h.talking.sound) (good-go n at_most start files epochs) (inside n at_most files epochs) (λ d. NotLive d.world W)
         (λ d now k c message g is comes first h. still-gone n at_most files epochs (reached n at_most files epochs) (broken n at_most files epochs) W d now (took-same n at_most files epochs (reached n at_most files epochs) (broken n at_most files epochs) W d now k c message comes) h)
         (λ d now k room s message m g is up comes first h. server-gone n at_most files epochs (reached n at_most files epochs) (broken n at_most files epochs) W d now k room s message m g up comes h)
         (λ d now s m v g e up goes comes h. work-gone n at_most files epochs (reached n at_most files epochs) (broken n at_most files epochs) W d now s m v g up comes h)
 
   module _ (first second : ℕ → Chance) (c : Course) (i k : ℕ) (h : IsGood c) (rests-first : IsAtRest n (first_part n at_most files epochs first i c)) (rests : IsAtRest n (second_part n at_most files epochs second k (first_part n at_most files epochs first i c)))
-      (up : AreUp (second_part n at_most files epochs second k (first_part n at_most files epochs first i c)).world) where
+      (up : AreUp n (second_part n at_most files epochs second k (first_part n at_most files epochs first i c)).world) where
     abbrev d : Course
     d = until_rest (servers_from 0 n) first i c
 
@@ -182,7 +182,7 @@ module _ (n : ℕ) (at_most : n ≤ 8) (files : AllFiles) (epochs : ServerNo →
     asked-so : Asked (clients_from 1 8) (servers_from 0 n) d middle
     asked-so = asked n at_most files epochs first second c i k h rests up
 
-    up-d : AreUp d.world
+    up-d : AreUp n d.world
     up-d = up-first n at_most files epochs first second c i k h rests up
 
     entry-of : (w : World) (W : WorkId) (v : Work) → live_at w W ≡ Some v → (m : Memory) × (w.memory W.server ≡ Some m) × (work_at W m.worker ≡ Some v)
@@ -226,7 +226,7 @@ module _ (n : ℕ) (at_most : n ≤ 8) (files : AllFiles) (epochs : ServerNo →
               (λ e among y has. quiet-client T (d.world.clients e) (good-d.talking.talks e).fits (none-of (λ e. asks_of T (d.world.clients e)) (clients_from 1 8) e q among) y has) nothing-yet)
 
       on-way : OnWay n at_most files epochs (reached n at_most files epochs) (broken n at_most files epochs) W T (length c.world.lines) last
-      on-way = rest-calm n at_most start IsGood (λ d h. h.talking.sound) (good-go n at_most start files epochs) (OnWay n at_most files epochs (reached n at_most files epochs) (broken n at_most files epochs) W T (length c.world.lines))
+      on-way = rest-calm n at_most start IsGood (λ d h. h.talking.sound) (good-go n at_most start files epochs) (inside n at_most files epochs) (OnWay n at_most files epochs (reached n at_most files epochs) (broken n at_most files epochs) W T (length c.world.lines))
           (λ d now k e message g is comes first h. client-decides n at_most files epochs (reached n at_most files epochs) (broken n at_most files epochs) W T (length c.world.lines) d now k e message g is comes first h)
           (λ d now k room s message m g is up comes first h. server-decides n at_most files epochs (reached n at_most files epochs) (broken n at_most files epochs) W T (length c.world.lines) d now k room s message m g is up comes first h)
           (λ d now s m v g e up goes comes h. work-decides n at_most files epochs (reached n at_most files epochs) (broken n at_most files epochs) W T (length c.world.lines) d now s m v g e up (going-found (stable (d.world.found s)) m.worker v goes) comes h)
@@ -272,7 +272,7 @@ module _ (n : ℕ) (at_most : n ≤ 8) (files : AllFiles) (epochs : ServerNo →
           where
             by : (o : Option Memory) → d.world.memory W.server ≡ o → (m : Memory) × (d.world.memory W.server ≡ Some m)
             by (Some m) e = (m, e)
-            by None e = absurd (true≢false (sym (up-d W.server) ∙ ap is_some e))
+            by None e = absurd (true≢false (sym (up-d W.server near) ∙ ap is_some e))
 
         then-live : (v : Work) → live_at c.world W ≡ Some v → (o : Option Work) → work_at W memory-d.0.worker ≡ o → Decides W z
         then-live v e None q = absurd (not-there last.world W z there (rest-gone W k second middle middle-good up (record { memory = memory-d.0; up = ap (λ f. f W.server) asked-so.memory ∙ memory-d.1; none = q; old = old-then v e memory-d.0 memory-d.1 })))

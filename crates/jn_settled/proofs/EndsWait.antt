@@ -1,4 +1,4 @@
--- Each end that a settle with all servers up leaves was told to wait.
+-- Each end that a settle with these servers up leaves was told to wait.
 use Rattle.std.proofs.Common.{◌≡◌, ◌⊎◌, inl, inr, ◌≤◌, ℕ, true, length, length-append, Option, Some, None, is_some, true≢false, refl, sym, ◌∙◌, ap, subst, arith}
 use Rattle.std.specs.List.{list_any}
 use Rattle.jn_base.specs.declared.names.ServerNo.{ServerNo}
@@ -19,6 +19,7 @@ use Rattle.jn_settling.proofs.Courses.{Sound}
 use Rattle.jn_reported.proofs.Reached.{Reached}
 use Rattle.jn_settled.specs.Settled.{AreUp, tells_waiting, told_since, EndsWait}
 use Rattle.jn_settled.proofs.Talk.{FitsCommand}
+use Rattle.jn_settled.proofs.Within.{Within}
 use Rattle.jn_settled.proofs.Ways.{Waits, rest-down}
 use Rattle.jn_settled.proofs.Answered.{Talks, among-clients}
 use Rattle.jn_settled.proofs.Begins.{Good, good-go}
@@ -50,17 +51,20 @@ module _ (n : ℕ) (at_most : n ≤ 8) (files : AllFiles) (epochs : ServerNo →
   sound : (d : Course) → IsGood d → Sound n start d
   sound d h = h.talking.sound
 
+  pub inside : (d : Course) → IsGood d → Within n d.world
+  inside d h = h.talking.within
+
   -- who is up at the end was up
-  pub was-up : (j : ℕ) (chances : ℕ → Chance) (d : Course) → AreUp (until_rest (servers_from 0 n) chances j d).world → AreUp d.world
-  was-up j chances d up s = by (d.world.memory s) refl
+  pub was-up : (j : ℕ) (chances : ℕ → Chance) (d : Course) → AreUp n (until_rest (servers_from 0 n) chances j d).world → AreUp n d.world
+  was-up j chances d up s near = by (d.world.memory s) refl
     where
       by : (o : Option Memory) → d.world.memory s ≡ o → is_some o ≡ true
       by (Some m) e = refl
-      by None e = absurd (true≢false (sym (up s) ∙ ap is_some (rest-down n s j chances d e)))
+      by None e = absurd (true≢false (sym (up s near) ∙ ap is_some (rest-down n s j chances d e)))
 
   -- lines grow in a part
-  pub rest-long : (before j : ℕ) (chances : ℕ → Chance) (d : Course) → IsGood d → AreUp (until_rest (servers_from 0 n) chances j d).world → before ≤ length d.world.lines → before ≤ length (until_rest (servers_from 0 n) chances j d).world.lines
-  rest-long before = rest-calm n at_most start IsGood sound (good-go n at_most start files epochs) (λ d. before ≤ length d.world.lines)
+  pub rest-long : (before j : ℕ) (chances : ℕ → Chance) (d : Course) → IsGood d → AreUp n (until_rest (servers_from 0 n) chances j d).world → before ≤ length d.world.lines → before ≤ length (until_rest (servers_from 0 n) chances j d).world.lines
+  rest-long before = rest-calm n at_most start IsGood sound (good-go n at_most start files epochs) inside (λ d. before ≤ length d.world.lines)
       (λ d now k c message g is comes first l. longer d now _ comes.world (took-longer c k (take_row (d.world.clients c) message).0 (take_row (d.world.clients c) message).1 d.world) l)
       (λ d now k room s message m g is up comes first l. longer d now _ comes.world (record { more = lines_of s (Some k) (server_row m (stable (d.world.found s)) room message).notes; is = refl }) l)
       (λ d now s m v g e up goes comes l. longer d now _ comes.world (record { more = lines_of s None (carried m d.world s v).notes; is = refl }) l)
@@ -72,7 +76,7 @@ module _ (n : ℕ) (at_most : n ≤ 8) (files : AllFiles) (epochs : ServerNo →
           grown a b l h = let e = ap length l.is ∙ length-append a.lines l.more in omega (arith, e, h)
 
   module _ (first second : ℕ → Chance) (c : Course) (i k : ℕ) (h : IsGood c) (rests : IsAtRest n (second_part n at_most files epochs second k (first_part n at_most files epochs first i c)))
-      (up : AreUp (second_part n at_most files epochs second k (first_part n at_most files epochs first i c)).world) where
+      (up : AreUp n (second_part n at_most files epochs second k (first_part n at_most files epochs first i c)).world) where
     abbrev d : Course
     d = until_rest (servers_from 0 n) first i c
 
@@ -91,11 +95,11 @@ module _ (n : ℕ) (at_most : n ≤ 8) (files : AllFiles) (epochs : ServerNo →
     pub asked : Asked (clients_from 1 8) (servers_from 0 n) d middle
     asked = ask-asks n at_most start IsGood sound (good-go n at_most start files epochs) (clients_from 1 8) (servers_from 0 n) d good
 
-    pub up-middle : AreUp middle.world
+    pub up-middle : AreUp n middle.world
     up-middle = was-up k second middle up
 
-    pub up-first : AreUp d.world
-    up-first s = ap is_some (ap (λ f. f s) (sym asked.memory)) ∙ up-middle s
+    pub up-first : AreUp n d.world
+    up-first s near = ap is_some (ap (λ f. f s) (sym asked.memory)) ∙ up-middle s near
 
     pub long : length c.world.lines ≤ length middle.world.lines
     long = subst (λ l. length c.world.lines ≤ length l) (sym asked.lines) (rest-long (length c.world.lines) i first c h up-first (omega arith))
@@ -125,7 +129,7 @@ module _ (n : ℕ) (at_most : n ≤ 8) (files : AllFiles) (epochs : ServerNo →
         good-last = rest-good n at_most start files epochs (course-twin n at_most files epochs) k second middle good-middle
 
         on-way : OnWay n at_most files epochs reached e t o T (length c.world.lines) talks.name waits ends fits.1 last
-        on-way = rest-calm n at_most start IsGood sound (good-go n at_most start files epochs) (OnWay n at_most files epochs reached e t o T (length c.world.lines) talks.name waits ends fits.1)
+        on-way = rest-calm n at_most start IsGood sound (good-go n at_most start files epochs) inside (OnWay n at_most files epochs reached e t o T (length c.world.lines) talks.name waits ends fits.1)
             (λ d now k f message g is comes first. client-way n at_most files epochs reached e t o T (length c.world.lines) talks.name waits ends fits.1 d now k f message g is comes)
             (λ d now k room s message m g is up comes first. server-way n at_most files epochs reached e t o T (length c.world.lines) talks.name waits ends fits.1 d now k room s message m g is up comes)
             (λ d now s m v g e' up goes comes. work-way n at_most files epochs reached e t o T (length c.world.lines) talks.name waits ends fits.1 unfinished d now s m v g e' comes)

@@ -1,6 +1,6 @@
--- A settle with all servers up leaves no flag.
+-- A settle with these servers up leaves no flag.
 use Rattle.std.proofs.Common.{◌≡◌, ◌≢◌, ◌⊎◌, inl, inr, ◌≤◌, ◌<◌, ℕ, zero, suc, ◌+◌, Bool, true, false, List, [], ◌∷◌, Option, Some, None, is_some, true≢false, refl, sym, ◌∙◌, ap, subst, arith}
-use Rattle.std.specs.Prelude.{◌&&◌, ◌||◌, not, if◌then◌else◌, nat_lt, nat_eq, length}
+use Rattle.std.specs.Prelude.{◌&&◌, not, if◌then◌else◌, nat_lt, nat_eq, length}
 use Rattle.std.specs.List.{list_any}
 use Rattle.std.proofs.lemmas.Bool.Decides.{nat_tests}
 use Rattle.jn_base.specs.declared.names.ServerNo.{ServerNo}
@@ -21,9 +21,10 @@ use Rattle.jn_rows.specs.Coordinator.{transaction_at, is_work, all_in}
 use Rattle.jn_protocol.specs.World.{World, Memory, opening, new_memory}
 use Rattle.jn_settling.specs.Course.{Course}
 use Rattle.jn_settling.specs.Settle.{Chance, servers_from, clients_from, until_rest}
-use Rattle.jn_settling.specs.Sizes.{is_few, are_near, is_small_stage, are_small_stages, is_committed, committed_at, TableSizes, ServerSizes}
+use Rattle.jn_settling.specs.Sizes.{is_few, are_near, is_small_stage, is_committed, committed_at, TableSizes, ServerSizes}
 use Rattle.jn_settling.specs.Bounds.{IsAtRest, NothingGoes}
 use Rattle.jn_settled.specs.Settled.{AreUp, AreForgotten}
+use Rattle.jn_settled.proofs.Within.{found-small, near-one}
 use Rattle.jn_settled.proofs.Ways.{Waits}
 use Rattle.jn_settled.proofs.Ends.{all-ready}
 use Rattle.jn_settling.proofs.Settling.{nothing-goes}
@@ -37,7 +38,7 @@ use Rattle.jn_settled.proofs.Calm.{rest-calm}
 use Rattle.jn_settled.proofs.Standing.{inv, up-at}
 use Rattle.jn_settled.proofs.Flags.{Carries, to_commit, goes_on, to_finish, Thanking, to_client, to_server, Progress, FlagWay, client-flags, server-flags, work-flags, ask-flags}
 use Rattle.jn_settled.proofs.Settling.{course-twin, first_part, asked_again, second_part}
-use Rattle.jn_settled.proofs.EndsWait.{reached, unfinished, good, good-middle, asked}
+use Rattle.jn_settled.proofs.EndsWait.{inside, reached, unfinished, good, good-middle, asked}
 use Rattle.jn_reported.proofs.Reached.{opening-reached}
 
 -- ---- tables
@@ -57,18 +58,6 @@ going-found x (y ∷ ys) v e = by (is_going (x.works y.name)) refl e (going-foun
     by true g q again p = subst (λ (z : Work). (if work_eq y.name z.name then Some y else work_at z.name ys) ≡ Some z) (some q) (ap (λ (b : Bool). if b then Some y else work_at y.name ys) own)
     by false g q again (inl p) = absurd (true≢false (sym (going-is x ys v q) ∙ ap (λ (V : WorkId). is_going (x.works V)) (sym p.1) ∙ g))
     by false g q again (inr p) = ap (λ (b : Bool). if b then Some y else work_at v.name ys) p.0 ∙ again q
-
-found-small : (n : ℕ) (T : Tid) (xs : List Transaction) (y : Transaction) → are_small_stages n xs ≡ true → transaction_at T xs ≡ Some y → is_small_stage n y.stage ≡ true
-found-small n T [] y h q = absurd (cc q)
-found-small n T (x ∷ xs) y h q = let again = found-small n T xs y in grind (arith, h, q)
-
-near-of : (n : ℕ) (Ws : List WorkId) (W : WorkId) → are_near n Ws ≡ true → is_work W Ws ≡ true → nat_lt W.server.0 n ≡ true
-near-of n [] W h k = absurd (true≢false (sym k))
-near-of n (V ∷ Vs) W h k = by (work_tells V W) (near-of n Vs W)
-  where
-    by : ((work_eq V W ≡ true) × (V ≡ W)) ⊎ ((work_eq V W ≡ false) × (V ≢ W)) → (are_near n Vs ≡ true → is_work W Vs ≡ true → nat_lt W.server.0 n ≡ true) → nat_lt W.server.0 n ≡ true
-    by (inl p) again = subst (λ (U : WorkId). nat_lt U.server.0 n ≡ true) p.1 (grind (arith, h))
-    by (inr p) again = again (grind (arith, h)) (sym (ap (λ (b : Bool). b || is_work W Vs) p.0) ∙ k)
 
 committed-there : (T : Tid) (xs : List Transaction) → committed_at T xs ≡ true → (x : Transaction) × (cm : Commitment) × (transaction_at T xs ≡ Some x) × (x.stage ≡ Committed cm)
 committed-there T [] h = absurd (true≢false (sym h))
@@ -111,7 +100,7 @@ module _ (n : ℕ) (at_most : n ≤ 8) (files : AllFiles) (epochs : ServerNo →
           no q = cc
 
   module _ (first second : ℕ → Chance) (c : Course) (i k : ℕ) (h : IsGood c) (rests : IsAtRest n (second_part n at_most files epochs second k (first_part n at_most files epochs first i c)))
-      (up : AreUp (second_part n at_most files epochs second k (first_part n at_most files epochs first i c)).world) where
+      (up : AreUp n (second_part n at_most files epochs second k (first_part n at_most files epochs first i c)).world) where
     abbrev middle : Course
     middle = asked_again n at_most files epochs (until_rest (servers_from 0 n) first i c)
 
@@ -125,7 +114,7 @@ module _ (n : ℕ) (at_most : n ≤ 8) (files : AllFiles) (epochs : ServerNo →
     last-idle = nothing-goes n start last good-last.talking.sound rests.idle
 
     pub last-flags : (T : Tid) → T.server.0 < n → FlagWay n at_most files epochs (reached n at_most files epochs) broken T last
-    last-flags T near = rest-calm n at_most start IsGood (λ d h. h.talking.sound) (good-go n at_most start files epochs) (FlagWay n at_most files epochs (reached n at_most files epochs) broken T)
+    last-flags T near = rest-calm n at_most start IsGood (λ d h. h.talking.sound) (good-go n at_most start files epochs) (inside n at_most files epochs) (FlagWay n at_most files epochs (reached n at_most files epochs) broken T)
         (λ d now k e message g is comes first h. client-flags n at_most files epochs (reached n at_most files epochs) broken T d now k e message g is comes h)
         (λ d now k room s message m g is up comes first h. server-flags n at_most files epochs (reached n at_most files epochs) broken T d now k room s message m g is up comes h)
         (λ d now s m v g e up goes comes h. work-flags n at_most files epochs (reached n at_most files epochs) broken T d now s m v g e up goes (going-found (stable (d.world.found s)) m.worker v goes) comes h)
@@ -133,12 +122,12 @@ module _ (n : ℕ) (at_most : n ≤ 8) (files : AllFiles) (epochs : ServerNo →
         (ask-flags n at_most files epochs (reached n at_most files epochs) broken T (clients_from 1 8) (servers_from 0 n) (until_rest (servers_from 0 n) first i c) middle (good n at_most files epochs first second c i k h rests up)
         (asked n at_most files epochs first second c i k h rests up) (among-servers n 0 T.server (omega arith) (omega (arith, near))))
 
-    memory-at : (s : ServerNo) → (m : Memory) × (last.world.memory s ≡ Some m)
-    memory-at s = by (last.world.memory s) refl
+    memory-at : (s : ServerNo) → s.0 < n → (m : Memory) × (last.world.memory s ≡ Some m)
+    memory-at s near = by (last.world.memory s) refl
       where
         by : (o : Option Memory) → last.world.memory s ≡ o → (m : Memory) × (last.world.memory s ≡ Some m)
         by (Some m) e = (m, e)
-        by None e = absurd (true≢false (sym (up s) ∙ ap is_some e))
+        by None e = absurd (true≢false (sym (up s near) ∙ ap is_some e))
 
     sizes-at : (s : ServerNo) (m : Memory) → last.world.memory s ≡ Some m → TableSizes n m (stable (last.world.found s))
     sizes-at s m e = subst (λ o. ServerSizes n o (last.world.found s)) e (good-last.talking.sound.sizes.tables s)
@@ -157,7 +146,7 @@ module _ (n : ℕ) (at_most : n ≤ 8) (files : AllFiles) (epochs : ServerNo →
         few = subst (λ (z : Stage). is_small_stage n z ≡ true) stage (found-small n T m.coordinator.transactions x (sizes-at T.server m is).stages found)
 
         its-near : (W : WorkId) → is_work W cm.works ≡ true → W.server.0 < n
-        its-near W work = let at = near-of n cm.works W (second-of (not (nat_lt n (length cm.works))) (are_near n cm.works) few) work in grind (arith, nat_tests, at)
+        its-near W work = let at = near-one n W cm.works (second-of (not (nat_lt n (length cm.works))) (are_near n cm.works) few) work in grind (arith, nat_tests, at)
           where
             second-of : (a b : Bool) → (a && b) ≡ true → b ≡ true
             second-of a b h = grind arith
@@ -166,7 +155,7 @@ module _ (n : ℕ) (at_most : n ≤ 8) (files : AllFiles) (epochs : ServerNo →
         done-each W work (inl q) = q
         done-each W work (inr (to_commit w)) = absurd (nothing-waits _ w)
         done-each W work (inr (to_finish w)) = absurd (nothing-waits _ w)
-        done-each W work (inr (goes_on q)) = let at = memory-at W.server in absurd (true≢false (sym q ∙ last-idle W.server at.0 (λ n. false) W (its-near W work) at.1))
+        done-each W work (inr (goes_on q)) = let at = memory-at W.server (its-near W work) in absurd (true≢false (sym q ∙ last-idle W.server at.0 (λ n. false) W (its-near W work) at.1))
 
         all : all_in cm.works cm.done ≡ true
         all = all-ready cm.works cm.done (λ W work. done-each W work (p.works W work))
@@ -183,7 +172,7 @@ module _ (n : ℕ) (at_most : n ≤ 8) (files : AllFiles) (epochs : ServerNo →
     no-flags s pick T near = by ((last.world.found s pick).flags T) refl
       where
         at : (m : Memory) × (last.world.memory s ≡ Some m)
-        at = memory-at s
+        at = memory-at s near
 
         flagged : is_some ((last.world.found s pick).flags T) ≡ true → committed_at T at.0.coordinator.transactions ≡ true
         flagged e = (sizes-at s at.0 at.1).flags T (ap (λ (x : StableState). is_some (x.flags T)) (sym ((up-at files epochs last.world (reached n at_most files epochs last good-last) s at.0 at.1).same pick)) ∙ e)

@@ -2,6 +2,7 @@ pub mod Talk
 pub mod Ways
 pub mod Owners
 pub mod OwnerSteps
+pub mod Within
 pub mod Answered
 pub mod Votes
 pub mod Requests

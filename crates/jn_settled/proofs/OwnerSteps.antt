@@ -43,10 +43,10 @@ more-owned os more o found h = record {
   flags = λ c T f e. owner-more os more f.client T (h.flags c T f e);
 }
 
-some-memory : (a b : Memory) → Some a ≡ Some b → a ≡ b
+pub some-memory : (a b : Memory) → Some a ≡ Some b → a ≡ b
 some-memory a b e = cc
 
-none-memory : (a : Memory) → None ≡ Some a → ⊥
+pub none-memory : (a : Memory) → None ≡ Some a → ⊥
 none-memory a e = cc
 
 -- flags that no change of a worker touches

@@ -237,7 +237,7 @@ module _ (n : ℕ) (at_most : n ≤ 8) (start : World) (files : AllFiles) (epoch
           where
             same : (y : Transaction) → transaction_at T m.coordinator.transactions ≡ Some y → c ≡ y.client
             same y found = let a = owner-has n at_most start files epochs (openings w.sent) c T fits.1 in
-                let own = owner-has n at_most start files epochs (openings w.sent) y.client y.tid (owned-found (owner_in (openings w.sent)) T m.coordinator.transactions y ((h.owned s).table m up) found) in
+                let own = owner-has n at_most start files epochs (openings w.sent) y.client y.tid (owned-found (owner_in (openings w.sent)) T m.coordinator.transactions y ((h.within.owned s).table m up) found) in
                 let facts = h.known.facts in let one = facts.unique a.0 own.0 a.1 own.1 (a.3 ∙ sym (found-name T m.coordinator.transactions y found) ∙ sym own.3) in sym a.2 ∙ ap (λ (z : Opening). z.client) one ∙ own.2
         end-of (messages.Begin c q) fits = tt
         end-of (messages.Open c q T) fits = tt

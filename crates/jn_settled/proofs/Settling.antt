@@ -1,5 +1,5 @@
 -- Every settle after every run answers.
-use Rattle.std.proofs.Common.{◌≡◌, ◌≤◌, ℕ, suc, ◌+◌, true, List, [], ◌∷◌, Some, None, refl, sym, ◌∙◌, ap, subst, arith, false, inl}
+use Rattle.std.proofs.Common.{◌≡◌, ◌≤◌, ℕ, suc, ◌+◌, List, [], ◌∷◌, Some, None, refl, sym, ◌∙◌, ap, subst, arith, false, inl}
 use Rattle.jn_base.specs.declared.names.ServerNo.{ServerNo}
 use Rattle.jn_order.specs.Files.{AllFiles}
 use Rattle.jn_rows.specs.declared.client.Outstanding.{Outstanding}
@@ -16,7 +16,7 @@ use Rattle.jn_settling.proofs.Courses.{Sound}
 use Rattle.jn_settled.proofs.Twins.{HasTwin, run-has-twin}
 use Rattle.jn_settled.specs.Settled.{AreUp, AreAnswered, Leaves}
 use Rattle.jn_reported.proofs.Reached.{opening-reached}
-use Rattle.jn_settled.proofs.Owners.{all_owned, owner_in}
+use Rattle.jn_settled.proofs.Within.{opening-within}
 use Rattle.jn_settled.proofs.Answered.{Talking}
 use Rattle.jn_settled.proofs.Votes.{Votings}
 use Rattle.jn_settled.proofs.Requests.{Past, SeenFits}
@@ -33,17 +33,11 @@ module _ (n : ℕ) (at_most : n ≤ 8) (files : AllFiles) (epochs : ServerNo →
     sound = opening-sound n files epochs;
     talks = λ c. record { name = refl; fits = λ o e. absurd (none o e) };
     known = opening-reached files epochs n;
-    owned = λ s. record { table = λ m e. subst (λ (z : Memory). all_owned (owner_in []) z.coordinator.transactions ≡ true) (some-memory (new_memory s (epochs s)) m e) refl; flags = λ c T f e. absurd (no-flag f e) };
+    within = opening-within n files epochs;
   }
     where
       none : (o : Outstanding) → None ≡ Some o → ⊥
       none o e = cc
-
-      no-flag : (f : FlagState) → None ≡ Some f → ⊥
-      no-flag f e = cc
-
-      some-memory : (a b : Memory) → Some a ≡ Some b → a ≡ b
-      some-memory a b e = cc
 
   opening-good : Good n at_most (opening n files epochs) files epochs (opening_course n files epochs)
   opening-good = record {
@@ -102,11 +96,11 @@ module _ (n : ℕ) (at_most : n ≤ 8) (files : AllFiles) (epochs : ServerNo →
 
   -- what holds where both parts come to rest
   pub settles : (first second : ℕ → Chance) (c : Course) (Q : Course → Course → Type 0) → IsGood c
-      → ((i k : ℕ) → IsAtRest n (first_part first i c) → IsAtRest n (second_part second k (first_part first i c)) → AreUp (second_part second k (first_part first i c)).world → Q c (second_part second k (first_part first i c)))
+      → ((i k : ℕ) → IsAtRest n (first_part first i c) → IsAtRest n (second_part second k (first_part first i c)) → AreUp n (second_part second k (first_part first i c)).world → Q c (second_part second k (first_part first i c)))
       → Leaves n first second c Q
   settles first second c Q h at_rest = record {
     steps = one.steps + two.steps;
-    each = λ j l. subst (λ (z : Course). AreUp z.world → Q c z) (sym (whole j l)) (at_rest one.steps two.steps (subst (λ (z : Course). IsAtRest n z) (sym first-ends) one.rests) (subst (λ (z : Course). IsAtRest n z) (sym (two.each two.steps (omega arith))) two.rests));
+    each = λ j l. subst (λ (z : Course). AreUp n z.world → Q c z) (sym (whole j l)) (at_rest one.steps two.steps (subst (λ (z : Course). IsAtRest n z) (sym first-ends) one.rests) (subst (λ (z : Course). IsAtRest n z) (sym (two.each two.steps (omega arith))) two.rests));
   }
     where
       one : PartEnds n first c
@@ -128,5 +122,5 @@ module _ (n : ℕ) (at_most : n ≤ 8) (files : AllFiles) (epochs : ServerNo →
       whole j l = ap (λ (z : Course). until_rest (servers_from 0 n) second j (go_on (ask_again (clients_from 1 8) (servers_from 0 n)) z)) (one.each j (omega (arith, l)) ∙ sym first-ends) ∙ two.each j (omega (arith, l)) ∙ sym (two.each two.steps (omega arith))
 
   -- every client's command but an End is answered
-  pub all-answered : (first second : ℕ → Chance) (c : Course) (i k : ℕ) → IsGood c → IsAtRest n (second_part second k (first_part first i c)) → AreUp (second_part second k (first_part first i c)).world → AreAnswered (second_part second k (first_part first i c)).world
+  pub all-answered : (first second : ℕ → Chance) (c : Course) (i k : ℕ) → IsGood c → IsAtRest n (second_part second k (first_part first i c)) → AreUp n (second_part second k (first_part first i c)).world → AreAnswered (second_part second k (first_part first i c)).world
   all-answered first second c i k h rests up = settled-answers n at_most start files epochs course-twin (until_rest (servers_from 0 n) first i c) (rest-good n at_most start files epochs course-twin i first c h) k second rests.waits up

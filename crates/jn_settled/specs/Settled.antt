@@ -1,4 +1,4 @@
--- What a settle leaves behind where every server is up.
+-- What a settle leaves behind where all of so many servers are up.
 -- Rubbish records are no part of these states, so nothing is said of them.
 use Rattle.std.specs.Prelude.{◌⊎◌, Option, ◌≡◌, ◌≤◌, ◌<◌, ℕ, Bool, true, false, nat_eq, ◌&&◌, List, [], drop, length, Some, None, is_some}
 use Rattle.std.specs.List.{list_any}
@@ -23,8 +23,8 @@ use Rattle.jn_settling.specs.Course.{Course}
 use Rattle.jn_settling.specs.Settle.{Chance, settled}
 use Rattle.jn_settling.specs.Bounds.{NothingGoes}
 
-abbrev pub AreUp : World → Type 0
-AreUp w = (s : ServerNo) → is_some (w.memory s) ≡ true
+abbrev pub AreUp : ℕ → World → Type 0
+AreUp servers w = (s : ServerNo) → s.0 < servers → is_some (w.memory s) ≡ true
 
 -- a client waits for nothing but an end
 abbrev pub AreAnswered : World → Type 0
@@ -94,8 +94,8 @@ pub record IsSettled (servers : ℕ) (before now : Course) : Type 0 where
   pub flags : AreForgotten servers now.world
   pub works : AreDecided servers before.world now.world
 
--- from some number of steps on, where all servers are up then, this holds of the course before the settle and after it
+-- from some number of steps on, where all of so many servers are up then, this holds of the course before the settle and after it
 pub record Leaves (servers : ℕ) (first second : ℕ → Chance) (c : Course) (what : Course → Course → Type 0) : Type 0 where
   pub steps : ℕ
-  pub each : (n : ℕ) → steps ≤ n → AreUp (settled servers (record { first = first; second = second; steps = n }) c).world
+  pub each : (n : ℕ) → steps ≤ n → AreUp servers (settled servers (record { first = first; second = second; steps = n }) c).world
       → what c (settled servers (record { first = first; second = second; steps = n }) c)

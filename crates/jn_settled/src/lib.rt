@@ -1,4 +1,4 @@
-//! What a settle leaves behind where every server is up.
+//! What a settle leaves behind where all of so many servers are up.
 #![tactic(auto)]
 
 ghost use Rattle.std.specs.Prelude.{◌≤◌, ℕ, List};

@@ -1,11 +1,9 @@
-use Rattle.std.proofs.Common.{◌≡◌, ◌≤◌, ℕ, zero, suc, false, true, is_some, Bool, Option, true≢false, [], ◌∷◌, Some, None, refl, arith}
-use Rattle.std.specs.Prelude.{if◌then◌else◌}
-use Rattle.std.proofs.lemmas.Bool.Decides.{nat_tests}
-use Rattle.jn_base.specs.Names.{server_eq, tid_eq, work_eq, file_eq}
+use Rattle.std.proofs.Common.{◌≡◌, ◌≤◌, ℕ, zero, suc, [], ◌∷◌, Some, None, refl, arith}
+use Rattle.jn_base.specs.Names.{tid_eq, work_eq, file_eq}
 use Rattle.jn_base.proofs.Tells.{work_tells, tid_tells}
 use Rattle.jn_locks.specs.Locks.{work_before}
 use Rattle.jn_rows.specs.Stable.{Prepared, FlagState, at_work, at_tid}
-use Rattle.jn_protocol.specs.World.{World, Memory}
+use Rattle.jn_protocol.specs.World.{World}
 use Rattle.jn_protocol.specs.Steps.{AreNames, tid_before}
 use Rattle.jn_protocol.specs.Example.{the_server, the_file, the_transaction, the_work, much, start}
 use Rattle.jn_reported.specs.Printing.{FileThere, IsPrinted}
@@ -15,7 +13,6 @@ use Rattle.jn_shown.specs.Example.{a_commit_is_named}
 use Rattle.jn_ended.specs.Whole.{course_at_end}
 use Rattle.jn_ended.specs.Example.{an_end_that_settles}
 use Rattle.jn_settling.specs.Settle.{Chance, settled}
-use Rattle.jn_base.specs.declared.names.ServerNo.{ServerNo}
 use Rattle.jn_shown.proofs.Examples.{memory_in, is-up, once_there, no_block}
 use Rattle.jn_ended.proofs.an_end_settles.Goals as goal
 
@@ -59,16 +56,6 @@ ending = record {
 pub returns-clause-run : goal.returns-clause-run
 returns-clause-run c = record { reported = reported; ending = ending }
 
-out : (b : Bool) → b ≡ false → (x y : Option Memory) → is_some y ≡ true → is_some (if b then x else y) ≡ true
-out false e x y h = h
-out true e x y h = absurd (true≢false e)
-
-others : (s : ServerNo) → 1 ≤ s.0 → is_some (over.memory s) ≡ true
-others s l = let b = server_eq the_server s in let e = far s l in out b e _ _ (out b e _ _ (out b e _ _ (out b e _ _ (out b e _ _ (out b e _ _ (out b e _ _ (out b e _ _ (out b e _ _ (out b e _ _ (out b e _ _ (out b e _ _ (out b e _ _ (out b e _ _ (out b e _ _ (refl)))))))))))))))
-  where
-    far : (s : ServerNo) → 1 ≤ s.0 → server_eq the_server s ≡ false
-    far s l = grind (arith, nat_tests, l)
-
 abbrev chances : ℕ → Chance
 chances n = record { room = much; stop = None }
 
@@ -83,4 +70,4 @@ each (suc (suc (suc (suc (suc (suc zero)))))) l = refl
 each (suc (suc (suc (suc (suc (suc (suc n))))))) l = refl
 
 pub returns-clause-settles : goal.returns-clause-settles
-returns-clause-settles c = record { first = chances; second = chances; enough = 6; each = each; others_up = others }
+returns-clause-settles c = record { first = chances; second = chances; enough = 6; each = each }
