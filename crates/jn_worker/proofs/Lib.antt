@@ -1,5 +1,6 @@
 pub mod Edits
 pub mod Again
+pub mod Counts
 pub mod Exits
 pub mod Fit
 pub mod Decided
