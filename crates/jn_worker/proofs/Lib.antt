@@ -24,3 +24,4 @@ pub mod Operated
 pub mod Settled
 pub mod Does
 pub mod Fetched
+pub mod RowLaws
