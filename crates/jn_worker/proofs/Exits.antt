@@ -1,6 +1,6 @@
 -- The exits of a call that does one message.
 use Rattle.std.proofs.Common.{◌≡◌, ◌≤◌, ℕ, Bool, true, false, List, [], ◌∷◌, ◌++◌, refl, sym, ◌∙◌, ap, subst, arith, inl, inr}
-use Rattle.std.specs.Prelude.{Result, Ok, Err}
+use Rattle.std.specs.Prelude.{Result, Ok, Err, not}
 use Rattle.std.specs.Result.{IsErr, IsErrAnd}
 use Rattle.std.proofs.lemmas.Result.{err_from_is_err_and}
 use Rattle.jn_base.specs.declared.names.Tickets.{Tickets}
@@ -14,7 +14,7 @@ use Rattle.jn_storage.proofs.Laws.{called_not}
 use Rattle.jn_worker.specs.declared.words.WorkerFault.{WorkerFault}
 use Rattle.jn_worker.specs.declared.words.WorkerFault.TheVariants.{Stopped, Memory}
 use Rattle.jn_worker.specs.Fitting.{WorkerView, Fits, TicketsFit}
-use Rattle.jn_worker.specs.Calls.{Takes, CountsBy}
+use Rattle.jn_worker.specs.Calls.{Takes, CountsBy, has_stopped}
 use Rattle.jn_worker.proofs.Counts.{counts_kept}
 
 pub none-made : (x : StableState) (changes : List Change) (found : Pick → StableState) → ((c : Pick) → found c ≡ x) → ChangedAll x changes false found
@@ -51,6 +51,10 @@ without_change {most = most} x row t u v before after k l none table messages no
 
 pub called-within : {most : ℕ} (v w : StorageView) (n : ℕ) (ok : Bool) → n ≤ most → Called v n ok w → Called v most ok w
 called-within v w n ok le c = record { later = c.later; calls = omega (arith, le, c.calls); loadable = c.loadable; no_stop = c.no_stop; serving = c.serving; stop = c.stop }
+
+-- a bound of device calls may be raised
+pub raised : {A : Type 0} (row : RowOutcome WorkerTable) (t u : WorkerView) (v w : StorageView) (before after : Collected) (k l : Tickets) (answer : Result A WorkerFault) → Takes 16 row t v before k answer u w after l → Takes 784 row t v before k answer u w after l
+raised row t u v w before after k l answer h = record { performs = h.performs; called = called-within v w 16 (not (has_stopped answer)) (omega arith) h.called; silent = h.silent; fits = h.fits; tickets_fit = h.tickets_fit; counts = h.counts }
 
 -- stopped within the row's one change
 pub one_stopped : {A : Type 0} {most : ℕ} (row : RowOutcome WorkerTable) (t u : WorkerView) (v w : StorageView) (before after : Collected) (k l : Tickets) (change : Change) (n : ℕ) → row.changes ≡ change ∷ [] → n ≤ most

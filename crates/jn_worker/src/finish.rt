@@ -31,7 +31,7 @@ impl Worker {
         out: &mut Out,
     ) -> Result<(), WorkerFault>
         requires fits { Fits self.old (W.view store.old) }
-        ensures takes { (k : Tickets) → Takes 784 (rows.commit_row self.old.table (seen (W.view store.old)) k tid name (rows.work_at name self.old.table)) self.old (W.view store.old) out.old k result self.new (W.view store.new) out.new k }
+        ensures takes { (k : Tickets) → Takes 16 (rows.commit_row self.old.table (seen (W.view store.old)) k tid name (rows.work_at name self.old.table)) self.old (W.view store.old) out.old k result self.new (W.view store.new) out.new k }
         ensures kept { (k : Tickets) → (rows.commit_row self.old.table (seen (W.view store.old)) k tid name (rows.work_at name self.old.table)).changes ≡ [] → W.view store.new ≡ W.view store.old }
     {
         let Some(work) = work_at(&self.works, name) else {
@@ -54,7 +54,7 @@ impl Worker {
         out: &mut Out,
     ) -> Result<(), WorkerFault>
         requires fits { Fits self.old (W.view store.old) }
-        ensures takes { (k : Tickets) → Takes 784 (rows.drop_row self.old.table (seen (W.view store.old)) k name (rows.work_at name self.old.table)) self.old (W.view store.old) out.old k result self.new (W.view store.new) out.new k }
+        ensures takes { (k : Tickets) → Takes 16 (rows.drop_row self.old.table (seen (W.view store.old)) k name (rows.work_at name self.old.table)) self.old (W.view store.old) out.old k result self.new (W.view store.new) out.new k }
         ensures kept { (k : Tickets) → (rows.drop_row self.old.table (seen (W.view store.old)) k name (rows.work_at name self.old.table)).changes ≡ [] → W.view store.new ≡ W.view store.old }
     {
         let Some(work) = work_at(&self.works, name) else {
