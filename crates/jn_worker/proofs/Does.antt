@@ -92,10 +92,10 @@ module _ (t : WorkerView) (v : StorageView) (k : Tickets) (c : ClientNo) (reques
       ∙ ap (λ n. granted_row t.table k c request i.work a op answer (wants_of op (is_fit answer)) (refusal_of t.table n a op answer (wants_of op (is_fit answer)))) (found-name W t.table i.work i.found))))
 
   pub perform_told : (u : WorkerView) (before mid last : Collected) (number : ℕ) (refusal : Option Answer) (told : Answer) → Fits t v → (block_of op).0 < 120 → number ≡ a.last + 1 → nat_eq number (a.last + 1) ≡ true → answer ≡ answer_to op (change (list_change a.list) (state v).files) → Settles t S W a op answer refusal before u mid
-      → told ≡ told_of answer refusal → last ≡ record { messages = mid.messages ++ (Client c, messages.Answer c request told) ∷ []; notes = mid.notes } → Takes (op_row t.table (state v).files k c request W number op (work_at W t.table)) t v before k (Ok (tt {0})) u v last k
-  perform_told u before mid last number refusal told h range count test is s told_is sent = subst (λ row. Takes row t v before k (Ok (tt {0})) u v last k)
+      → told ≡ told_of answer refusal → last ≡ record { messages = mid.messages ++ (Client c, messages.Answer c request told) ∷ []; notes = mid.notes } → Takes 784 (op_row t.table (state v).files k c request W number op (work_at W t.table)) t v before k (Ok (tt {0})) u v last k
+  perform_told u before mid last number refusal told h range count test is s told_is sent = subst (λ row. Takes 784 row t v before k (Ok (tt {0})) u v last k)
       (sym (next-row number count test is ∙ ap (λ o. granted_row t.table k c request i.work a op answer (wants_of op (is_fit answer)) o) (sym s.refused)))
-      (subst (λ (u : WorkerView). Takes (granted_row t.table k c request i.work a op answer (wants_of op (is_fit answer)) refusal) t v before k (Ok (tt {0})) u v last k) (sym s.works)
+      (subst (λ (u : WorkerView). Takes 784 (granted_row t.table k c request i.work a op answer (wants_of op (is_fit answer)) refusal) t v before k (Ok (tt {0})) u v last k) (sym s.works)
       (without_change (tt {0}) (granted_row t.table k c request i.work a op answer (wants_of op (is_fit answer)) refusal) t (record t { table = settled t.table S W a op answer refusal }) v before last k k (row-changes refusal) (sym (row-table refusal))
       (ap (λ (o : Collected). o.messages) sent ∙ (ap (λ m. m ++ (Client c, messages.Answer c request told) ∷ []) s.sent ∙ (ap (λ x. before.messages ++ (Client c, messages.Answer c request x) ∷ []) told_is ∙ ap (λ l. before.messages ++ l) (sym (row-messages refusal)))))
       (ap (λ (o : Collected). o.notes) sent ∙ (s.noted ∙ ap (λ l. before.notes ++ l) (sym (row-notes refusal)))) (sym (row-tickets refusal)) (fits_settled refusal h range is s.refused) (tickets_settled refusal)))

@@ -1,6 +1,6 @@
 -- The exits of a call that does one message.
 use Rattle.std.proofs.Common.{◌≡◌, ◌≤◌, ℕ, Bool, true, false, List, [], ◌∷◌, ◌++◌, refl, sym, ◌∙◌, ap, subst, arith, inl, inr}
-use Rattle.std.specs.Prelude.{Result, Ok, Err}
+use Rattle.std.specs.Prelude.{Result, Ok, Err, not}
 use Rattle.std.specs.Result.{IsErr, IsErrAnd}
 use Rattle.std.proofs.lemmas.Result.{err_from_is_err_and}
 use Rattle.jn_base.specs.declared.names.Tickets.{Tickets}
@@ -14,25 +14,27 @@ use Rattle.jn_storage.proofs.Laws.{called_not}
 use Rattle.jn_worker.specs.declared.words.WorkerFault.{WorkerFault}
 use Rattle.jn_worker.specs.declared.words.WorkerFault.TheVariants.{Stopped, Memory}
 use Rattle.jn_worker.specs.Fitting.{WorkerView, Fits, TicketsFit}
-use Rattle.jn_worker.specs.Calls.{Takes}
+use Rattle.jn_worker.specs.Calls.{Takes, CountsBy, has_stopped}
+use Rattle.jn_worker.proofs.Counts.{counts_kept}
 
 pub none-made : (x : StableState) (changes : List Change) (found : Pick → StableState) → ((c : Pick) → found c ≡ x) → ChangedAll x changes false found
 none-made x changes found h = record { done = λ e. absurd (cc e); stop = λ _ c. record { made = 0; is_after = h c } }
 
 -- without memory, where nothing has been done
-pub without_memory : {A : Type 0} (row : RowOutcome WorkerTable) (t u : WorkerView) (v : StorageView) (before after : Collected) (k l : Tickets) → IsServing v → Takes {A = A} row t v before k (Err Memory) u v after l
-without_memory row t u v before after k l serving = record {
+pub without_memory : {A : Type 0} {most : ℕ} (row : RowOutcome WorkerTable) (t u : WorkerView) (v : StorageView) (before after : Collected) (k l : Tickets) → IsServing v → Takes {A = A} most row t v before k (Err Memory) u v after l
+without_memory {most = most} row t u v before after k l serving = record {
   performs = record { changes = none-made (state v) row.changes v.found serving.up; becomes = λ e. absurd (cc e); sent = λ e. absurd (cc e); noted = λ e. absurd (cc e); drawn = λ e. absurd (cc e) };
-  called = called_not v 784 serving;
+  called = called_not v most serving;
   silent = λ e. absurd (cc e);
   fits = λ e. absurd (cc e);
   tickets_fit = λ e. absurd (cc e);
+  counts = λ e. absurd (cc e);
 }
 
 -- done, without a change of what is stable
-pub without_change : {A : Type 0} (x : A) (row : RowOutcome WorkerTable) (t u : WorkerView) (v : StorageView) (before after : Collected) (k l : Tickets) → row.changes ≡ [] → u.table ≡ row.table → after.messages ≡ before.messages ++ row.messages
-    → after.notes ≡ before.notes ++ row.notes → l ≡ row.tickets → Fits u v → (TicketsFit t.table v k → TicketsFit u.table v l) → Takes row t v before k (Ok x) u v after l
-without_change x row t u v before after k l none table messages notes tickets fits still = record {
+pub without_change : {A : Type 0} {most : ℕ} (x : A) (row : RowOutcome WorkerTable) (t u : WorkerView) (v : StorageView) (before after : Collected) (k l : Tickets) → row.changes ≡ [] → u.table ≡ row.table → after.messages ≡ before.messages ++ row.messages
+    → after.notes ≡ before.notes ++ row.notes → l ≡ row.tickets → Fits u v → (TicketsFit t.table v k → TicketsFit u.table v l) → Takes most row t v before k (Ok x) u v after l
+without_change {most = most} x row t u v before after k l none table messages notes tickets fits still = record {
   performs = record {
     changes = subst (λ changes. ChangedAll (state v) changes true v.found) (sym none) (record { done = λ _. fits.serving.up; stop = λ e. absurd (cc e) });
     becomes = λ _. table;
@@ -40,19 +42,24 @@ without_change x row t u v before after k l none table messages notes tickets fi
     noted = λ _. notes;
     drawn = λ _. tickets;
   };
-  called = called_not v 784 fits.serving;
+  called = called_not v most fits.serving;
   silent = λ e. absurd (cc e);
   fits = λ _. fits;
   tickets_fit = λ _. still;
+  counts = λ _. counts_kept row.changes v.accounts none;
 }
 
-pub called-within : (v w : StorageView) (most : ℕ) (ok : Bool) → most ≤ 784 → Called v most ok w → Called v 784 ok w
-called-within v w most ok le c = record { later = c.later; calls = omega (arith, le, c.calls); loadable = c.loadable; no_stop = c.no_stop; serving = c.serving; stop = c.stop }
+pub called-within : {most : ℕ} (v w : StorageView) (n : ℕ) (ok : Bool) → n ≤ most → Called v n ok w → Called v most ok w
+called-within v w n ok le c = record { later = c.later; calls = omega (arith, le, c.calls); loadable = c.loadable; no_stop = c.no_stop; serving = c.serving; stop = c.stop }
+
+-- a bound of device calls may be raised
+pub raised : {A : Type 0} (row : RowOutcome WorkerTable) (t u : WorkerView) (v w : StorageView) (before after : Collected) (k l : Tickets) (answer : Result A WorkerFault) → Takes 16 row t v before k answer u w after l → Takes 784 row t v before k answer u w after l
+raised row t u v w before after k l answer h = record { performs = h.performs; called = called-within v w 16 (not (has_stopped answer)) (omega arith) h.called; silent = h.silent; fits = h.fits; tickets_fit = h.tickets_fit; counts = h.counts }
 
 -- stopped within the row's one change
-pub one_stopped : {A : Type 0} (row : RowOutcome WorkerTable) (t u : WorkerView) (v w : StorageView) (before after : Collected) (k l : Tickets) (change : Change) (most : ℕ) → row.changes ≡ change ∷ [] → most ≤ 784
-    → Called v most false w → Changed (state v) change false w.found → after ≡ before → Takes {A = A} row t v before k (Err Stopped) u w after l
-one_stopped row t u v w before after k l change most one le called changed same = record {
+pub one_stopped : {A : Type 0} {most : ℕ} (row : RowOutcome WorkerTable) (t u : WorkerView) (v w : StorageView) (before after : Collected) (k l : Tickets) (change : Change) (n : ℕ) → row.changes ≡ change ∷ [] → n ≤ most
+    → Called v n false w → Changed (state v) change false w.found → after ≡ before → Takes {A = A} most row t v before k (Err Stopped) u w after l
+one_stopped row t u v w before after k l change n one le called changed same = record {
   performs = record {
     changes = subst (λ changes. ChangedAll (state v) changes false w.found) (sym one) (record { done = λ e. absurd (cc e); stop = λ _ c. elim (changed.stop refl c) [ inl p ↦ record { made = 0; is_after = p } | inr p ↦ record { made = 1; is_after = p } ] });
     becomes = λ e. absurd (cc e);
@@ -60,16 +67,17 @@ one_stopped row t u v w before after k l change most one le called changed same 
     noted = λ e. absurd (cc e);
     drawn = λ e. absurd (cc e);
   };
-  called = called-within v w most false le called;
+  called = called-within v w n false le called;
   silent = λ _. same;
   fits = λ e. absurd (cc e);
   tickets_fit = λ e. absurd (cc e);
+  counts = λ e. absurd (cc e);
 }
 
 -- the row's one change is made, but there is no memory for what is sent
-pub one_untold : {A : Type 0} (row : RowOutcome WorkerTable) (t u : WorkerView) (v w : StorageView) (before after : Collected) (k l : Tickets) (change : Change) (most : ℕ) → row.changes ≡ change ∷ [] → most ≤ 784
-    → Called v most true w → Changed (state v) change true w.found → Takes {A = A} row t v before k (Err Memory) u w after l
-one_untold row t u v w before after k l change most one le called changed = record {
+pub one_untold : {A : Type 0} {most : ℕ} (row : RowOutcome WorkerTable) (t u : WorkerView) (v w : StorageView) (before after : Collected) (k l : Tickets) (change : Change) (n : ℕ) → row.changes ≡ change ∷ [] → n ≤ most
+    → Called v n true w → Changed (state v) change true w.found → Takes {A = A} most row t v before k (Err Memory) u w after l
+one_untold row t u v w before after k l change n one le called changed = record {
   performs = record {
     changes = subst (λ changes. ChangedAll (state v) changes false w.found) (sym one) (record { done = λ e. absurd (cc e); stop = λ _ c. record { made = 1; is_after = changed.done refl c } });
     becomes = λ e. absurd (cc e);
@@ -77,17 +85,18 @@ one_untold row t u v w before after k l change most one le called changed = reco
     noted = λ e. absurd (cc e);
     drawn = λ e. absurd (cc e);
   };
-  called = called-within v w most true le called;
+  called = called-within v w n true le called;
   silent = λ e. absurd (cc e);
   fits = λ e. absurd (cc e);
   tickets_fit = λ e. absurd (cc e);
+  counts = λ e. absurd (cc e);
 }
 
 -- the row's one change is made
-pub one_made : {A : Type 0} (x : A) (row : RowOutcome WorkerTable) (t u : WorkerView) (v w : StorageView) (before after : Collected) (k l : Tickets) (change : Change) (most : ℕ) → row.changes ≡ change ∷ [] → most ≤ 784
-    → Called v most true w → Changed (state v) change true w.found → u.table ≡ row.table → after.messages ≡ before.messages ++ row.messages → after.notes ≡ before.notes ++ row.notes → l ≡ row.tickets
-    → Fits u w → (TicketsFit t.table v k → TicketsFit u.table w l) → Takes row t v before k (Ok x) u w after l
-one_made x row t u v w before after k l change most one le called changed table messages notes tickets fits still = record {
+pub one_made : {A : Type 0} {most : ℕ} (x : A) (row : RowOutcome WorkerTable) (t u : WorkerView) (v w : StorageView) (before after : Collected) (k l : Tickets) (change : Change) (n : ℕ) → row.changes ≡ change ∷ [] → n ≤ most
+    → Called v n true w → Changed (state v) change true w.found → u.table ≡ row.table → after.messages ≡ before.messages ++ row.messages → after.notes ≡ before.notes ++ row.notes → l ≡ row.tickets
+    → Fits u w → (TicketsFit t.table v k → TicketsFit u.table w l) → CountsBy (change ∷ []) v.accounts w.accounts → Takes most row t v before k (Ok x) u w after l
+one_made x row t u v w before after k l change n one le called changed table messages notes tickets fits still counts = record {
   performs = record {
     changes = subst (λ changes. ChangedAll (state v) changes true w.found) (sym one) (record { done = λ _ c. changed.done refl c; stop = λ e. absurd (cc e) });
     becomes = λ _. table;
@@ -95,10 +104,11 @@ one_made x row t u v w before after k l change most one le called changed table 
     noted = λ _. notes;
     drawn = λ _. tickets;
   };
-  called = called-within v w most true le called;
+  called = called-within v w n true le called;
   silent = λ e. absurd (cc e);
   fits = λ _. fits;
   tickets_fit = λ _. still;
+  counts = λ _. subst (λ changes. CountsBy changes v.accounts w.accounts) (sym one) counts;
 }
 
 -- the fault that a call hands on

@@ -35,7 +35,7 @@ use Rattle.jn_worker.specs.declared.words.WorkerFault.{WorkerFault}
 use Rattle.jn_worker.specs.declared.words.WorkerFault.TheVariants.{Stopped as Stops, Memory}
 use Rattle.jn_worker.specs.Fitting.{WorkerView, Fits}
 use Rattle.jn_works.specs.Changing.{tallied}
-use Rattle.jn_worker.specs.Calls.{Takes, Settles, has_stopped}
+use Rattle.jn_worker.specs.Calls.{Takes, CountsBy, Settles, has_stopped}
 use Rattle.jn_worker.specs.Reading.{ReadSettles, OnlyReads, answer_now, asks_now, asks_in, asks_for, is_unknown}
 use Rattle.jn_lock_rows.proofs.Edits.{rephased-is}
 use Rattle.jn_worker.proofs.Exits.{none-made, called-within}
@@ -163,7 +163,7 @@ same-state : (v w : StorageView) (asks : Bool) (h : OnlyReads asks v true w) (W 
 same-state v w asks h W e = ap (λ a. is_in work_eq W a.rubbish) (sym (h.same refl)) ∙ e
 
 -- a row that changes nothing stable goes on where the storage was only read
-pub read_on : {A : Type 0} (x : A) (row : RowOutcome WorkerTable) (t u : WorkerView) (v w : StorageView) (before after : Collected) (k l : Tickets) (asks : Bool) → IsServing v → Takes row t v before k (Ok x) u v after l → OnlyReads asks v true w → Takes row t v before k (Ok x) u w after l
+pub read_on : {A : Type 0} (x : A) (row : RowOutcome WorkerTable) (t u : WorkerView) (v w : StorageView) (before after : Collected) (k l : Tickets) (asks : Bool) → IsServing v → Takes 784 row t v before k (Ok x) u v after l → OnlyReads asks v true w → Takes 784 row t v before k (Ok x) u w after l
 read_on x row t u v w before after k l asks serving h o = record {
   performs = record {
     changes = record { done = λ _ c. o.unchanged c ∙ (sym (serving.up c) ∙ h.performs.changes.done refl c); stop = λ e. absurd (cc e) };
@@ -176,19 +176,21 @@ read_on x row t u v w before after k l asks serving h o = record {
   silent = λ e. absurd (cc e);
   fits = λ e. fits_erased u v w (h.fits e) o.called (o.unchanged (λ n. false)) (same-state v w asks o);
   tickets_fit = λ e f. tickets_erased u.table v w l o.called (o.unchanged (λ n. false)) (same-state v w asks o) (h.tickets_fit e f);
+  counts = λ e. subst (λ b. CountsBy row.changes v.accounts b) (sym (o.same refl)) (h.counts e);
 }
 
 pub read_failed : (A : Type 0) {B : Type 0} (answer : Result B WorkerFault) (f : WorkerFault) (row : RowOutcome WorkerTable) (t u : WorkerView) (v w : StorageView) (before after : Collected) (k l : Tickets) (asks : Bool) → answer ≡ Err f → OnlyReads asks v (not (has_stopped {A = A} (Err f))) w → (has_stopped {A = A} (Err f) ≡ true → after ≡ before)
-    → Takes row t v before k answer u w after l
-read_failed A {B} answer f row t u v w before after k l asks is o silent = subst (λ r. Takes row t v before k r u w after l) (sym is) (by f o silent)
+    → Takes 784 row t v before k answer u w after l
+read_failed A {B} answer f row t u v w before after k l asks is o silent = subst (λ r. Takes 784 row t v before k r u w after l) (sym is) (by f o silent)
   where
-    by : (f : WorkerFault) → OnlyReads asks v (not (has_stopped {A = A} (Err f))) w → (has_stopped {A = A} (Err f) ≡ true → after ≡ before) → Takes {A = B} row t v before k (Err f) u w after l
+    by : (f : WorkerFault) → OnlyReads asks v (not (has_stopped {A = A} (Err f))) w → (has_stopped {A = A} (Err f) ≡ true → after ≡ before) → Takes {A = B} 784 row t v before k (Err f) u w after l
     by Stops o silent = record {
       performs = record { changes = none-made (state v) row.changes w.found o.unchanged; becomes = λ e. absurd (cc e); sent = λ e. absurd (cc e); noted = λ e. absurd (cc e); drawn = λ e. absurd (cc e) };
       called = called-within v w 24 false (omega arith) o.called;
       silent = λ _. silent refl;
       fits = λ e. absurd (cc e);
       tickets_fit = λ e. absurd (cc e);
+      counts = λ e. absurd (cc e);
     }
     by Memory o silent = record {
       performs = record { changes = none-made (state v) row.changes w.found o.unchanged; becomes = λ e. absurd (cc e); sent = λ e. absurd (cc e); noted = λ e. absurd (cc e); drawn = λ e. absurd (cc e) };
@@ -196,11 +198,12 @@ read_failed A {B} answer f row t u v w before after k l asks is o silent = subst
       silent = λ e. absurd (cc e);
       fits = λ e. absurd (cc e);
       tickets_fit = λ e. absurd (cc e);
+      counts = λ e. absurd (cc e);
     }
 
 -- the client is answered
 pub read_told : (t u : WorkerView) (v w : StorageView) (k : Tickets) (c : ClientNo) (request : ℕ) (T : Tid) (W : WorkId) (a : ActiveWork) (number : ℕ) (op : Op) (told : Answer) (before mid last : Collected) (asks : Bool) → IsActive t.table T W a → Fits t v → (block_of op).0 < 120 → number ≡ a.last + 1
-    → ReadSettles t v T W a op told before u mid → OnlyReads asks v true w → last ≡ record { messages = mid.messages ++ (Client c, messages.Answer c request told) ∷ []; notes = mid.notes } → Takes (op_row t.table (state v).files k c request W number op (work_at W t.table)) t v before k (Ok (tt {0})) u w last k
+    → ReadSettles t v T W a op told before u mid → OnlyReads asks v true w → last ≡ record { messages = mid.messages ++ (Client c, messages.Answer c request told) ∷ []; notes = mid.notes } → Takes 784 (op_row t.table (state v).files k c request W number op (work_at W t.table)) t v before k (Ok (tt {0})) u w last k
 read_told t u v w k c request T W a number op told before mid last asks i h range count r o sent = read_on (tt {0}) (op_row t.table (state v).files k c request W number op (work_at W t.table)) t u v w before last k k asks h.serving
     (perform_told t v k c request W op (answer_now a op v) T a i u before mid last number r.refusal told h range count (nat_same number (a.last + 1) count) refl r.settles r.answer sent) o
 

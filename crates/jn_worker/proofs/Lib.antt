@@ -1,5 +1,6 @@
 pub mod Edits
 pub mod Again
+pub mod Counts
 pub mod Exits
 pub mod Fit
 pub mod Decided
@@ -23,3 +24,4 @@ pub mod Operated
 pub mod Settled
 pub mod Does
 pub mod Fetched
+pub mod RowLaws

@@ -116,17 +116,17 @@ opens t k c request T room = ap (λ b. if b then sends (t ++ new_work (name_from
 
 open_made : (t u : WorkerView) (v : StorageView) (before after : Collected) (k : Tickets) (c : ClientNo) (request : ℕ) (T : Tid) → Fits t v → TicketsFit t.table v k → work_of T t.table ≡ None → length t.table < 64
     → u ≡ record t { table = t.table ++ new_work (name_from k) T ∷ [] } → after.notes ≡ before.notes → after.messages ≡ before.messages ++ (Client c, messages.Opened c request T (Some (name_from k))) ∷ []
-    → Takes (open_row t.table k c request T (work_of T t.table)) t v before k (Ok (tt {0})) u v after (record k { next = k.next + 1 })
-open_made t u v before after k c request T h f none room is notes sent = subst (λ o. Takes (open_row t.table k c request T o) t v before k (Ok (tt {0})) u v after (record k { next = k.next + 1 })) (sym none)
-    (subst (λ (u : WorkerView). Takes (open_row t.table k c request T None) t v before k (Ok (tt {0})) u v after (record k { next = k.next + 1 })) (sym is)
-    (subst (λ row. Takes row t v before k (Ok (tt {0})) (record t { table = t.table ++ new_work (name_from k) T ∷ [] }) v after (record k { next = k.next + 1 })) (sym (opens t.table k c request T room))
+    → Takes 784 (open_row t.table k c request T (work_of T t.table)) t v before k (Ok (tt {0})) u v after (record k { next = k.next + 1 })
+open_made t u v before after k c request T h f none room is notes sent = subst (λ o. Takes 784 (open_row t.table k c request T o) t v before k (Ok (tt {0})) u v after (record k { next = k.next + 1 })) (sym none)
+    (subst (λ (u : WorkerView). Takes 784 (open_row t.table k c request T None) t v before k (Ok (tt {0})) u v after (record k { next = k.next + 1 })) (sym is)
+    (subst (λ row. Takes 784 row t v before k (Ok (tt {0})) (record t { table = t.table ++ new_work (name_from k) T ∷ [] }) v after (record k { next = k.next + 1 })) (sym (opens t.table k c request T room))
     (without_change (tt {0}) _ t _ v before after k (record k { next = k.next + 1 }) refl refl sent (notes ∙ sym (append-nil before.notes)) refl (fits_opened t v k T h f room) (tickets_opened t.table v k T))))
 
 -- ---- as the code has it
 
 pub open_here : (t : WorkerView) (ws found opened : List Work) (gs : List WorkId) (v : StorageView) (before after : Collected) (k : Tickets) (c : ClientNo) (request : ℕ) (T : Tid) (N : WorkId) (n : ℕ) → record { table = ws; going = gs } ≡ t → found ≡ ws → work_of T found ≡ None
     → n ≡ length ws → n < 64 → N ≡ name_from k → opened ≡ ws ++ new_work N T ∷ [] → after ≡ record { messages = before.messages ++ (Client c, messages.Opened c request T (Some N)) ∷ []; notes = before.notes }
-    → Fits t v → TicketsFit t.table v k → Takes (open_row t.table k c request T (work_of T t.table)) t v before k (Ok (tt {0})) (record { table = opened; going = gs }) v after (record k { next = k.next + 1 })
+    → Fits t v → TicketsFit t.table v k → Takes 784 (open_row t.table k c request T (work_of T t.table)) t v before k (Ok (tt {0})) (record { table = opened; going = gs }) v after (record k { next = k.next + 1 })
 open_here t ws found opened gs v before after k c request T N n e same none count short name is sent h f = open_made t (record { table = opened; going = gs }) v before after k c request T h f
     (ap (λ (t : WorkerView). work_of T t.table) (sym e) ∙ (ap (λ ws. work_of T ws) (sym same) ∙ none))
     (subst (λ (t : WorkerView). length t.table < 64) e (subst (λ n. n < 64) count short))

@@ -41,9 +41,9 @@ votes-again t s k T c w (Active a) i g = absurd (cc i)
 votes-again t s k T c w (Broken u S) i g = refl
 
 pub vote_ignored : (t : WorkerView) (ws found : List Work) (gs names : List WorkId) (v : StorageView) (before after : Collected) (k : Tickets) (T : Tid) (c : ClientNo) (W : WorkId) (w : Work) → Fits t v → record { table = ws; going = gs } ≡ t → found ≡ ws → names ≡ gs → work_at W found ≡ Some w → is_in work_eq W names ≡ true
-    → after ≡ record { messages = before.messages; notes = before.notes ++ Ignored ∷ [] } → Takes (prepare_row t.table (seen v) k T c W (work_at W t.table)) t v before k (Ok (tt {0})) t v after k
+    → after ≡ record { messages = before.messages; notes = before.notes ++ Ignored ∷ [] } → Takes 784 (prepare_row t.table (seen v) k T c W (work_at W t.table)) t v before k (Ok (tt {0})) t v after k
 vote_ignored t ws found gs names v before after k T c W w h view same same_names look inside is =
-    subst (λ row. Takes row t v before k (Ok (tt {0})) t v after k) (sym row)
+    subst (λ row. Takes 784 row t v before k (Ok (tt {0})) t v after k) (sym row)
     (without_change (tt {0}) (ignored t.table k) t t v before after k k refl refl (ap (λ (o : Collected). o.messages) is ∙ sym (append-nil before.messages)) (ap (λ (o : Collected). o.notes) is) refl h (λ f. f))
   where
     at : work_at W t.table ≡ Some w
@@ -59,9 +59,9 @@ vote_ignored t ws found gs names v before after k T c W w h view same same_names
     row = ap (λ o. prepare_row t.table (seen v) k T c W o) at ∙ going-ignored t.table (seen v) k T c w w.phase ((state v).works W) (ap (λ n. (state v).works n) named) (subst (λ o. WorkFits o ((state v).works W)) at (h.stored W)) (sym (h.going W) ∙ going)
 
 pub vote_told : (t : WorkerView) (ws found : List Work) (gs names : List WorkId) (v : StorageView) (before after : Collected) (k : Tickets) (T : Tid) (c : ClientNo) (W : WorkId) (w : Work) (vote : Vote) → Fits t v → is_active (work_at W t.table) ≡ false → record { table = ws; going = gs } ≡ t → found ≡ ws → names ≡ gs → work_at W found ≡ Some w → is_in work_eq W names ≡ false → vote ≡ vote_inactive w.phase
-    → after ≡ record { messages = before.messages ++ (Server T.server, messages.Vote T W vote) ∷ []; notes = before.notes } → Takes (prepare_row t.table (seen v) k T c W (work_at W t.table)) t v before k (Ok (tt {0})) t v after k
+    → after ≡ record { messages = before.messages ++ (Server T.server, messages.Vote T W vote) ∷ []; notes = before.notes } → Takes 784 (prepare_row t.table (seen v) k T c W (work_at W t.table)) t v before k (Ok (tt {0})) t v after k
 vote_told t ws found gs names v before after k T c W w vote h inactive view same same_names look inside which is =
-    subst (λ row. Takes row t v before k (Ok (tt {0})) t v after k) (sym row)
+    subst (λ row. Takes 784 row t v before k (Ok (tt {0})) t v after k) (sym row)
     (without_change (tt {0}) (voted t.table k T W (vote_inactive w.phase)) t t v before after k k refl refl (ap (λ (o : Collected). o.messages) is ∙ ap (λ vote. before.messages ++ (Server T.server, messages.Vote T W vote) ∷ []) which) (ap (λ (o : Collected). o.notes) is ∙ sym (append-nil before.notes)) refl h (λ f. f))
   where
     at : work_at W t.table ≡ Some w

@@ -38,11 +38,11 @@ module _ (t : WorkerView) (v : StorageView) (before after : Collected) (k : Tick
       by false x = refl
 
   pub repeat_told : (answer : Answer) → kept ≡ Some answer → after ≡ record { messages = before.messages ++ (Client c, messages.Answer c request answer) ∷ []; notes = before.notes }
-      → Takes (op_row t.table (state v).files k c request W number op (work_at W t.table)) t v before k (Ok (tt {0})) t v after k
-  repeat_told answer is sent = subst (λ row. Takes row t v before k (Ok (tt {0})) t v after k) (sym (row ∙ ap (λ x. repeated t.table k c request x) is))
+      → Takes 784 (op_row t.table (state v).files k c request W number op (work_at W t.table)) t v before k (Ok (tt {0})) t v after k
+  repeat_told answer is sent = subst (λ row. Takes 784 row t v before k (Ok (tt {0})) t v after k) (sym (row ∙ ap (λ x. repeated t.table k c request x) is))
       (without_change (tt {0}) (replies t.table k c request answer) t t v before after k k refl refl (ap (λ (o : Collected). o.messages) sent) (ap (λ (o : Collected). o.notes) sent ∙ sym (append-nil before.notes)) refl h (λ x. x))
 
   pub repeat_ignored : kept ≡ None → after ≡ record { messages = before.messages; notes = before.notes ++ Ignored ∷ [] }
-      → Takes (op_row t.table (state v).files k c request W number op (work_at W t.table)) t v before k (Ok (tt {0})) t v after k
-  repeat_ignored is sent = subst (λ row. Takes row t v before k (Ok (tt {0})) t v after k) (sym (row ∙ ap (λ x. repeated t.table k c request x) is))
+      → Takes 784 (op_row t.table (state v).files k c request W number op (work_at W t.table)) t v before k (Ok (tt {0})) t v after k
+  repeat_ignored is sent = subst (λ row. Takes 784 row t v before k (Ok (tt {0})) t v after k) (sym (row ∙ ap (λ x. repeated t.table k c request x) is))
       (without_change (tt {0}) (ignored t.table k) t t v before after k k refl refl (ap (λ (o : Collected). o.messages) sent ∙ sym (append-nil before.messages)) (ap (λ (o : Collected). o.notes) sent) refl h (λ x. x))

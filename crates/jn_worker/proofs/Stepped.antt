@@ -22,6 +22,7 @@ use Rattle.jn_worker.specs.Fitting.{WorkerView, Fits, TicketsFit, WorkFits, Work
 use Rattle.jn_works.specs.Changing.{going_in}
 use Rattle.jn_worker.specs.Calls.{Takes, Steps, has_stopped}
 use Rattle.jn_worker.proofs.Edits.{going_by_name}
+use Rattle.jn_worker.proofs.Counts.{counts_erased}
 use Rattle.jn_worker.proofs.Exits.{called-within}
 use Rattle.jn_worker.proofs.Fit.{name-later}
 
@@ -52,8 +53,10 @@ erase_stopped t v w before k answer e is h none r = subst (λ row. Steps row t v
         silent = λ _. refl;
         fits = λ e. absurd (cc e);
         tickets_fit = λ e. absurd (cc e);
+        counts = λ e. absurd (cc e);
       },
       λ e. absurd (cc e),
+      λ _ e. absurd (cc e),
     )
 
 -- the works fit as before, where nothing but rubbish is less
@@ -97,8 +100,10 @@ erase_made t v w before k answer b is h none r = subst (λ row. Steps row t v be
         silent = λ e. absurd (cc e);
         fits = λ _. fits_erased t v w h r.called (r.unchanged (λ n. false)) erased.1.rubbish_names;
         tickets_fit = λ _. tickets_erased t.table v w k r.called (r.unchanged (λ n. false)) erased.1.rubbish_names;
+        counts = λ _. counts_erased v.accounts w.accounts erased.1;
       },
       λ _. ap new_answer (ap told erased.0),
+      λ _ _. erased.1,
     )
       where
         erased : (old_answer b ≡ old_answer true) × CountsErased v.accounts w.accounts
@@ -128,23 +133,28 @@ one-going t v k w h found = ap (λ o. going_row t.table (seen v) k o) (sym (goin
     ∙ ap (λ r. Some r) (carried-same t.table k w _ ∙ ap (λ l. carried_row t.table k (new_work w.name w.tid) (slice_get l (v.accounts.next w.name))) (same-list ((state v).works w.name)))
 
 retold : {A B : Type 0} (row : RowOutcome WorkerTable) (t u : WorkerView) (v w : StorageView) (before after : Collected) (k l : Tickets) (a : Result A WorkerFault) (b : Result B WorkerFault) → is_ok a ≡ is_ok b → has_stopped a ≡ has_stopped b
-    → Takes row t v before k a u w after l → Takes row t v before k b u w after l
+    → Takes 40 row t v before k a u w after l → Takes 40 row t v before k b u w after l
 retold row t u v w before after k l a b ok stopped h = record {
   performs = subst (λ ok. Performs row (state v) before ok u.table w.found after l) ok h.performs;
-  called = subst (λ s. Called v 784 (not s) w) stopped h.called;
+  called = subst (λ s. Called v 40 (not s) w) stopped h.called;
   silent = λ e. h.silent (stopped ∙ e);
   fits = λ e. h.fits (ok ∙ e);
   tickets_fit = λ e. h.tickets_fit (ok ∙ e);
+  counts = λ e. h.counts (ok ∙ e);
 }
 
-pub going_made : (t u : WorkerView) (v w : StorageView) (before after : Collected) (k : Tickets) (g : Work) → Fits t v → going_in t.going t.table ≡ Some g → Takes (carried_row t.table k (new_work g.name g.tid) (next_of v g.name)) t v before k (Ok (tt {0})) u w after k
+some-change : (t : WorkerTable) (k : Tickets) (w : Work) (o : Option Intention) → (carried_row t k w o).changes ≡ [] → ⊥
+some-change t k w None e = cc e
+some-change t k w (Some i) e = cc e
+
+pub going_made : (t u : WorkerView) (v w : StorageView) (before after : Collected) (k : Tickets) (g : Work) → Fits t v → going_in t.going t.table ≡ Some g → Takes 40 (carried_row t.table k (new_work g.name g.tid) (next_of v g.name)) t v before k (Ok (tt {0})) u w after k
     → Steps (worker_step t.table (seen v) k) t v before k (Ok true) u w after k
-going_made t u v w before after k g h found takes = subst (λ row. Steps row t v before k (Ok true) u w after k) (sym (one-going t v k g h found)) (retold _ t u v w before after k k _ _ refl refl takes, λ _. refl)
+going_made t u v w before after k g h found takes = subst (λ row. Steps row t v before k (Ok true) u w after k) (sym (one-going t v k g h found)) (retold _ t u v w before after k k _ _ refl refl takes, λ _. refl, λ e _. absurd (some-change t.table k (new_work g.name g.tid) (next_of v g.name) e))
 
 pub going_failed : (t u : WorkerView) (v w : StorageView) (before after : Collected) (k : Tickets) (g : Work) (answer : Result Bool WorkerFault) (f : WorkerFault) → answer ≡ Err f → Fits t v → going_in t.going t.table ≡ Some g
-    → Takes {A = Unit {0}} (carried_row t.table k (new_work g.name g.tid) (next_of v g.name)) t v before k (Err f) u w after k → Steps (worker_step t.table (seen v) k) t v before k answer u w after k
-going_failed t u v w before after k g answer f is h found takes = subst (λ row. Steps row t v before k answer u w after k) (sym (one-going t v k g h found)) (subst (λ answer. Takes (carried_row t.table k (new_work g.name g.tid) (next_of v g.name)) t v before k answer u w after k × (is_ok answer ≡ true → answer ≡ Ok true)) (sym is)
-    (retold _ t u v w before after k k _ (Err f) refl (same f) takes, λ e. absurd (cc e)))
+    → Takes {A = Unit {0}} 40 (carried_row t.table k (new_work g.name g.tid) (next_of v g.name)) t v before k (Err f) u w after k → Steps (worker_step t.table (seen v) k) t v before k answer u w after k
+going_failed t u v w before after k g answer f is h found takes = subst (λ row. Steps row t v before k answer u w after k) (sym (one-going t v k g h found)) (subst (λ answer. Steps (Some (carried_row t.table k (new_work g.name g.tid) (next_of v g.name))) t v before k answer u w after k) (sym is)
+    (retold _ t u v w before after k k _ (Err f) refl (same f) takes, λ e. absurd (cc e), λ _ e. absurd (cc e)))
   where
     same : (f : WorkerFault) → has_stopped {A = Unit {0}} (Err f) ≡ has_stopped {A = Bool} (Err f)
     same Stops = refl

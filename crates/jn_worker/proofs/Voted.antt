@@ -25,11 +25,12 @@ use Rattle.jn_lock_rows.proofs.Works.{found-name}
 use Rattle.jn_storage.specs.declared.faults.PrepareFault.{PrepareFault}
 use Rattle.jn_storage.specs.declared.faults.PrepareFault.TheVariants.{Records, Pages, Heads, Stopped as NotServed, Memory as NoMemory}
 use Rattle.jn_storage.specs.Storage.{StorageView, needed}
-use Rattle.jn_storage.specs.Calls.{state, WorkPrepared, first_short, shortage as storage_shortage}
+use Rattle.jn_storage.specs.Calls.{state, WorkPrepared, reached, first_short, shortage as storage_shortage}
 use Rattle.jn_worker.specs.declared.words.WorkerFault.{WorkerFault}
 use Rattle.jn_worker.specs.declared.words.WorkerFault.TheVariants.{Stopped, Memory}
 use Rattle.jn_worker.specs.Fitting.{WorkerView, Fits, seen, is_active}
 use Rattle.jn_worker.specs.Calls.{Takes, Stores, head_of, refusal_of}
+use Rattle.jn_worker.proofs.Counts.{counts_ready, none_carried, filled}
 use Rattle.jn_worker.proofs.Exits.{without_memory, without_change, one_stopped, one_untold, one_made}
 use Rattle.jn_worker.proofs.Granted.{fits_broken, tickets_broken, granted_itself}
 use Rattle.jn_worker.proofs.Storing.{here, fits_stored, tickets_stored}
@@ -126,14 +127,29 @@ refusal_ok vote = Ok vote
 abbrev refusal_err : WorkerFault → Result Vote WorkerFault
 refusal_err fault = Err fault
 
+-- where nothing changes, the storage was left alone
+pub prepare_kept : (t : WorkerView) (v w : StorageView) (k : Tickets) (T : Tid) (c : ClientNo) (W : WorkId) (answer : Result (Unit {0}) PrepareFault) → is_active (work_at W t.table) ≡ true → ((S : Tid) (a : ActiveWork) → IsActive t.table S W a → conflict W (commit_wants a.writes) t.table ≡ None)
+    → ((S : Tid) (a : ActiveWork) → IsActive t.table S W a → WorkPrepared {A = Unit {0}} v (head_of W S c) a.list a.reads answer w) → (prepare_row t.table (seen v) k T c W (work_at W t.table)).changes ≡ [] → w ≡ v
+prepare_kept t v w k T c W answer active free prepared none = by (reached answer) refl
+  where
+    f : (T : Tid) × (a : ActiveWork) × IsActive t.table T W a
+    f = found_active t.table W active
+
+    p : WorkPrepared {A = Unit {0}} v (head_of W f.0 c) f.1.list f.1.reads answer w
+    p = prepared f.0 f.1 f.2
+
+    by : (b : Bool) → reached answer ≡ b → w ≡ v
+    by false r = p.kept r
+    by true r = absurd (filled (sym (ap (λ (row : RowOutcome WorkerTable). row.changes) (ready-as t v k T f.0 c W f.1 f.2 (free f.0 f.1 f.2) (short-here v f.1 None (p.enough r)))) ∙ none))
+
 -- ---- the exits
 
 -- another work stands in the way
 pub waiting_sent : (t : WorkerView) (ws found : List Work) (gs : List WorkId) (v : StorageView) (before after : Collected) (k : Tickets) (T : Tid) (c : ClientNo) (W : WorkId) (held : Held) (test : Option Held) → Fits t v → is_active (work_at W t.table) ≡ true → record { table = ws; going = gs } ≡ t → found ≡ ws
     → ((S : Tid) (a : ActiveWork) → IsActive found S W a → test ≡ conflict W (commit_wants a.writes) found) → test ≡ Some held → after ≡ record { messages = before.messages ++ (Server T.server, messages.Vote T W (votes.Waiting held.0 held.1)) ∷ []; notes = before.notes }
-    → Takes (prepare_row t.table (seen v) k T c W (work_at W t.table)) t v before k (Ok (tt {0})) t v after k
+    → Takes 784 (prepare_row t.table (seen v) k T c W (work_at W t.table)) t v before k (Ok (tt {0})) t v after k
 waiting_sent t ws found gs v before after k T c W held test h active view same tests is sent = let f = found_active t.table W active in let i = f.2 in
-    subst (λ row. Takes row t v before k (Ok (tt {0})) t v after k)
+    subst (λ row. Takes 784 row t v before k (Ok (tt {0})) t v after k)
     (sym (prepared-as t v k T f.0 c W f.1 i (Some held) _ (sym (subst (λ l. (S : Tid) (a : ActiveWork) → IsActive l S W a → test ≡ conflict W (commit_wants a.writes) l) (same ∙ ap (λ (t : WorkerView). t.table) view) tests f.0 f.1 i) ∙ is) refl
     ∙ ap (λ n. voted t.table k T n (votes.Waiting held.0 held.1)) (found-name W t.table i.work i.found)))
     (without_change (tt {0}) (voted t.table k T W (votes.Waiting held.0 held.1)) t t v before after k k refl refl (ap (λ (o : Collected). o.messages) sent) (ap (λ (o : Collected). o.notes) sent ∙ sym (append-nil before.notes)) refl h (λ x. x))
@@ -146,7 +162,7 @@ is_free t ws found gs W test view same tests is S a i = sym (subst (λ l. (S : T
 -- something is short
 pub full_sent : (t : WorkerView) (v w : StorageView) (before after : Collected) (k : Tickets) (T : Tid) (c : ClientNo) (W : WorkId) (fault : PrepareFault) (vote : Vote) → Fits t v → is_active (work_at W t.table) ≡ true → ((S : Tid) (a : ActiveWork) → IsActive t.table S W a → conflict W (commit_wants a.writes) t.table ≡ None)
     → ((S : Tid) (a : ActiveWork) → IsActive t.table S W a → WorkPrepared {A = Unit {0}} v (head_of W S c) a.list a.reads (Err fault) w) → refusal_of fault ≡ Ok vote → after ≡ record { messages = before.messages ++ (Server T.server, messages.Vote T W vote) ∷ []; notes = before.notes }
-    → Takes (prepare_row t.table (seen v) k T c W (work_at W t.table)) t v before k (Ok (tt {0})) t w after k
+    → Takes 784 (prepare_row t.table (seen v) k T c W (work_at W t.table)) t v before k (Ok (tt {0})) t w after k
 full_sent t v w before after k T c W fault vote h active free prepared told sent = by fault (prepared f.0 f.1 i) told
   where
     f : (T : Tid) × (a : ActiveWork) × IsActive t.table T W a
@@ -155,9 +171,9 @@ full_sent t v w before after k T c W fault vote h active free prepared told sent
     i : IsActive t.table f.0 W f.1
     i = f.2
 
-    short : (o : PrepareFault) → storage_shortage v.accounts (needed (state v) f.1.list) ≡ Some o → short_vote (Some o) ≡ Some vote → w ≡ v → Takes (prepare_row t.table (seen v) k T c W (work_at W t.table)) t v before k (Ok (tt {0})) t w after k
-    short o e s kept = subst (λ w. Takes (prepare_row t.table (seen v) k T c W (work_at W t.table)) t v before k (Ok (tt {0})) t w after k) (sym kept)
-        (subst (λ row. Takes row t v before k (Ok (tt {0})) t v after k)
+    short : (o : PrepareFault) → storage_shortage v.accounts (needed (state v) f.1.list) ≡ Some o → short_vote (Some o) ≡ Some vote → w ≡ v → Takes 784 (prepare_row t.table (seen v) k T c W (work_at W t.table)) t v before k (Ok (tt {0})) t w after k
+    short o e s kept = subst (λ w. Takes 784 (prepare_row t.table (seen v) k T c W (work_at W t.table)) t v before k (Ok (tt {0})) t w after k) (sym kept)
+        (subst (λ row. Takes 784 row t v before k (Ok (tt {0})) t v after k)
         (sym (prepared-as t v k T f.0 c W f.1 i None (Some vote) (free f.0 f.1 i) (short-here v f.1 (Some o) e ∙ s) ∙ (not_ready vote o s ∙ ap (λ n. voted t.table k T n vote) (found-name W t.table i.work i.found))))
         (without_change (tt {0}) (voted t.table k T W vote) t t v before after k k refl refl (ap (λ (o : Collected). o.messages) sent) (ap (λ (o : Collected). o.notes) sent ∙ sym (append-nil before.notes)) refl h (λ x. x)))
       where
@@ -175,7 +191,7 @@ full_sent t v w before after k T c W fault vote h active free prepared told sent
     is_vote : (x y : Vote) → refusal_ok x ≡ refusal_ok y → Some x ≡ Some y
     is_vote x y e = cc e
 
-    by : (fault : PrepareFault) → WorkPrepared {A = Unit {0}} v (head_of W f.0 c) f.1.list f.1.reads (Err fault) w → refusal_of fault ≡ Ok vote → Takes (prepare_row t.table (seen v) k T c W (work_at W t.table)) t v before k (Ok (tt {0})) t w after k
+    by : (fault : PrepareFault) → WorkPrepared {A = Unit {0}} v (head_of W f.0 c) f.1.list f.1.reads (Err fault) w → refusal_of fault ≡ Ok vote → Takes 784 (prepare_row t.table (seen v) k T c W (work_at W t.table)) t v before k (Ok (tt {0})) t w after k
     by (Records s) p e = short (Records s) (p.refused (Records s) refl refl) (is_vote _ vote e) (p.kept refl)
     by (Pages s) p e = short (Pages s) (p.refused (Pages s) refl refl) (is_vote _ vote e) (p.kept refl)
     by (Heads s) p e = short (Heads s) (p.refused (Heads s) refl refl) (is_vote _ vote e) (p.kept refl)
@@ -184,9 +200,9 @@ full_sent t v w before after k T c W fault vote h active free prepared told sent
 
 -- without memory for the vote
 pub full_untold : (t u : WorkerView) (row : RowOutcome WorkerTable) (v w : StorageView) (before after : Collected) (k : Tickets) (c : ClientNo) (W : WorkId) (fault : PrepareFault) (vote : Vote) (answer : Result (Unit {0}) WorkerFault) → Fits t v → is_active (work_at W t.table) ≡ true
-    → ((S : Tid) (a : ActiveWork) → IsActive t.table S W a → WorkPrepared {A = Unit {0}} v (head_of W S c) a.list a.reads (Err fault) w) → refusal_of fault ≡ Ok vote → answer ≡ Err Memory → Takes row t v before k answer u w after k
-full_untold t u row v w before after k c W fault vote answer h active prepared told same = subst (λ answer. Takes row t v before k answer u w after k) (sym same)
-    (subst (λ w. Takes {A = Unit {0}} row t v before k (Err Memory) u w after k) (sym (by fault (prepared f.0 f.1 f.2) told)) (without_memory row t u v before after k k h.serving))
+    → ((S : Tid) (a : ActiveWork) → IsActive t.table S W a → WorkPrepared {A = Unit {0}} v (head_of W S c) a.list a.reads (Err fault) w) → refusal_of fault ≡ Ok vote → answer ≡ Err Memory → Takes 784 row t v before k answer u w after k
+full_untold t u row v w before after k c W fault vote answer h active prepared told same = subst (λ answer. Takes 784 row t v before k answer u w after k) (sym same)
+    (subst (λ w. Takes {A = Unit {0}} 784 row t v before k (Err Memory) u w after k) (sym (by fault (prepared f.0 f.1 f.2) told)) (without_memory row t u v before after k k h.serving))
   where
     f : (T : Tid) × (a : ActiveWork) × IsActive t.table T W a
     f = found_active t.table W active
@@ -201,8 +217,8 @@ full_untold t u row v w before after k c W fault vote answer h active prepared t
 -- stopped, or without memory, before anything else happens
 pub not_stored : (t : WorkerView) (v w : StorageView) (before : Collected) (k : Tickets) (T : Tid) (c : ClientNo) (W : WorkId) (fault : PrepareFault) (told : WorkerFault) (answer : Result (Unit {0}) WorkerFault) → Fits t v → is_active (work_at W t.table) ≡ true → ((S : Tid) (a : ActiveWork) → IsActive t.table S W a → conflict W (commit_wants a.writes) t.table ≡ None)
     → ((S : Tid) (a : ActiveWork) → IsActive t.table S W a → WorkPrepared {A = Unit {0}} v (head_of W S c) a.list a.reads (Err fault) w) → refusal_of fault ≡ Err told → answer ≡ Err told
-    → Takes (prepare_row t.table (seen v) k T c W (work_at W t.table)) t v before k answer t w before k
-not_stored t v w before k T c W fault told answer h active free prepared is same = subst (λ answer. Takes (prepare_row t.table (seen v) k T c W (work_at W t.table)) t v before k answer t w before k) (sym same) (by fault (prepared f.0 f.1 i) is)
+    → Takes 784 (prepare_row t.table (seen v) k T c W (work_at W t.table)) t v before k answer t w before k
+not_stored t v w before k T c W fault told answer h active free prepared is same = subst (λ answer. Takes 784 (prepare_row t.table (seen v) k T c W (work_at W t.table)) t v before k answer t w before k) (sym same) (by fault (prepared f.0 f.1 i) is)
   where
     f : (T : Tid) × (a : ActiveWork) × IsActive t.table T W a
     f = found_active t.table W active
@@ -213,33 +229,34 @@ not_stored t v w before k T c W fault told answer h active free prepared is same
     is_fault : (x y : WorkerFault) → refusal_err x ≡ refusal_err y → x ≡ y
     is_fault x y e = cc e
 
-    by : (fault : PrepareFault) → WorkPrepared {A = Unit {0}} v (head_of W f.0 c) f.1.list f.1.reads (Err fault) w → refusal_of fault ≡ Err told → Takes {A = Unit {0}} (prepare_row t.table (seen v) k T c W (work_at W t.table)) t v before k (Err told) t w before k
+    by : (fault : PrepareFault) → WorkPrepared {A = Unit {0}} v (head_of W f.0 c) f.1.list f.1.reads (Err fault) w → refusal_of fault ≡ Err told → Takes {A = Unit {0}} 784 (prepare_row t.table (seen v) k T c W (work_at W t.table)) t v before k (Err told) t w before k
     by (Records s) p e = absurd (cc e)
     by (Pages s) p e = absurd (cc e)
     by (Heads s) p e = absurd (cc e)
-    by NotServed p e = subst (λ told. Takes {A = Unit {0}} (prepare_row t.table (seen v) k T c W (work_at W t.table)) t v before k (Err told) t w before k) (is_fault Stopped told e)
-        (subst (λ row. Takes {A = Unit {0}} row t v before k (Err Stopped) t w before k) (sym (ready-as t v k T f.0 c W f.1 i (free f.0 f.1 i) (short-here v f.1 None (p.enough refl))))
+    by NotServed p e = subst (λ told. Takes {A = Unit {0}} 784 (prepare_row t.table (seen v) k T c W (work_at W t.table)) t v before k (Err told) t w before k) (is_fault Stopped told e)
+        (subst (λ row. Takes {A = Unit {0}} 784 row t v before k (Err Stopped) t w before k) (sym (ready-as t v k T f.0 c W f.1 i (free f.0 f.1 i) (short-here v f.1 None (p.enough refl))))
         (one_stopped (ready_row t.table k T c W f.0 f.1) t t v w before before k k (AddReady (head_of W f.0 c) f.1.list f.1.reads) 784 refl (omega arith) (p.called refl) (p.change refl) refl))
-    by NoMemory p e = subst (λ told. Takes {A = Unit {0}} (prepare_row t.table (seen v) k T c W (work_at W t.table)) t v before k (Err told) t w before k) (is_fault Memory told e)
-        (subst (λ w. Takes {A = Unit {0}} (prepare_row t.table (seen v) k T c W (work_at W t.table)) t v before k (Err Memory) t w before k) (sym (p.kept refl)) (without_memory _ t t v before before k k h.serving))
+    by NoMemory p e = subst (λ told. Takes {A = Unit {0}} 784 (prepare_row t.table (seen v) k T c W (work_at W t.table)) t v before k (Err told) t w before k) (is_fault Memory told e)
+        (subst (λ w. Takes {A = Unit {0}} 784 (prepare_row t.table (seen v) k T c W (work_at W t.table)) t v before k (Err Memory) t w before k) (sym (p.kept refl)) (without_memory _ t t v before before k k h.serving))
 
 -- stored, but without memory for the rest
 pub ready_untold : (t u : WorkerView) (v w : StorageView) (before after : Collected) (k : Tickets) (T : Tid) (c : ClientNo) (W : WorkId) (answer : Result (Unit {0}) WorkerFault) → is_active (work_at W t.table) ≡ true → ((S : Tid) (a : ActiveWork) → IsActive t.table S W a → conflict W (commit_wants a.writes) t.table ≡ None)
-    → ((S : Tid) (a : ActiveWork) → IsActive t.table S W a → WorkPrepared {A = Unit {0}} v (head_of W S c) a.list a.reads (Ok (tt {0})) w) → answer ≡ Err Memory → Takes (prepare_row t.table (seen v) k T c W (work_at W t.table)) t v before k answer u w after k
+    → ((S : Tid) (a : ActiveWork) → IsActive t.table S W a → WorkPrepared {A = Unit {0}} v (head_of W S c) a.list a.reads (Ok (tt {0})) w) → answer ≡ Err Memory → Takes 784 (prepare_row t.table (seen v) k T c W (work_at W t.table)) t v before k answer u w after k
 ready_untold t u v w before after k T c W answer active free prepared same = let f = found_active t.table W active in let i = f.2 in let p = prepared f.0 f.1 i in
-    subst (λ answer. Takes (prepare_row t.table (seen v) k T c W (work_at W t.table)) t v before k answer u w after k) (sym same)
-    (subst (λ row. Takes {A = Unit {0}} row t v before k (Err Memory) u w after k) (sym (ready-as t v k T f.0 c W f.1 i (free f.0 f.1 i) (short-here v f.1 None (p.enough refl))))
+    subst (λ answer. Takes 784 (prepare_row t.table (seen v) k T c W (work_at W t.table)) t v before k answer u w after k) (sym same)
+    (subst (λ row. Takes {A = Unit {0}} 784 row t v before k (Err Memory) u w after k) (sym (ready-as t v k T f.0 c W f.1 i (free f.0 f.1 i) (short-here v f.1 None (p.enough refl))))
     (one_untold (ready_row t.table k T c W f.0 f.1) t u v w before after k k (AddReady (head_of W f.0 c) f.1.list f.1.reads) 784 refl (omega arith) (p.called refl) (p.change refl)))
 
 -- it is prepared
 pub ready_told : (t u : WorkerView) (v w : StorageView) (before after : Collected) (k : Tickets) (T : Tid) (c : ClientNo) (W : WorkId) → Fits t v → is_active (work_at W t.table) ≡ true → ((S : Tid) (a : ActiveWork) → IsActive t.table S W a → conflict W (commit_wants a.writes) t.table ≡ None)
     → ((S : Tid) (a : ActiveWork) → IsActive t.table S W a → WorkPrepared {A = Unit {0}} v (head_of W S c) a.list a.reads (Ok (tt {0})) w) → ((S : Tid) (a : ActiveWork) → IsActive t.table S W a → Stores t S W a T before u after)
-    → Takes (prepare_row t.table (seen v) k T c W (work_at W t.table)) t v before k (Ok (tt {0})) u w after k
-ready_told t u v w before after k T c W h active free prepared stores = subst (λ row. Takes row t v before k (Ok (tt {0})) u w after k) (sym (ready-as t v k T f.0 c W f.1 i (free f.0 f.1 i) (short-here v f.1 None (p.enough refl))))
-    (subst (λ (u : WorkerView). Takes (ready_row t.table k T c W f.0 f.1) t v before k (Ok (tt {0})) u w after k) (sym s.works)
+    → Takes 784 (prepare_row t.table (seen v) k T c W (work_at W t.table)) t v before k (Ok (tt {0})) u w after k
+ready_told t u v w before after k T c W h active free prepared stores = subst (λ row. Takes 784 row t v before k (Ok (tt {0})) u w after k) (sym (ready-as t v k T f.0 c W f.1 i (free f.0 f.1 i) (short-here v f.1 None (p.enough refl))))
+    (subst (λ (u : WorkerView). Takes 784 (ready_row t.table k T c W f.0 f.1) t v before k (Ok (tt {0})) u w after k) (sym s.works)
     (one_made (tt {0}) (ready_row t.table k T c W f.0 f.1) t _ v w before after k k (AddReady (head_of W f.0 c) f.1.list f.1.reads) 784 refl (omega arith) (p.called refl) (p.change refl) refl s.sent s.noted refl
     (fits_stored (record { table = after_grant f.0 W (commit_wants f.1.writes) t.table; going = t.going }) v w W i.work f.1 f.0 c (fits_broken t v f.0 W (commit_wants f.1.writes) h) (granted_itself f.0 W (commit_wants f.1.writes) t.table i.work i.found) i.tid i.phase p)
-    (λ x. tickets_stored (after_grant f.0 W (commit_wants f.1.writes) t.table) v w W f.1 (head_of W f.0 c) k p (tickets_broken t.table v f.0 W (commit_wants f.1.writes) k x))))
+    (λ x. tickets_stored (after_grant f.0 W (commit_wants f.1.writes) t.table) v w W f.1 (head_of W f.0 c) k p (tickets_broken t.table v f.0 W (commit_wants f.1.writes) k x))
+    (counts_ready (head_of W f.0 c) f.1.list f.1.reads _ v.accounts w.accounts (none_carried t v f.0 W f.1 h i) (p.accounts refl))))
   where
     f : (T : Tid) × (a : ActiveWork) × IsActive t.table T W a
     f = found_active t.table W active

@@ -1,5 +1,5 @@
 -- What the calls of a worker do.
-use Rattle.std.specs.Prelude.{◌≡◌, Bool, true, false, not, if◌then◌else◌, List, [], ◌∷◌, ◌++◌, Option, Some, None, Result, Ok, Err, is_ok}
+use Rattle.std.specs.Prelude.{◌≡◌, ◌⊎◌, ℕ, Bool, true, false, not, ◌||◌, if◌then◌else◌, List, [], ◌∷◌, ◌++◌, Option, Some, None, Result, Ok, Err, is_ok}
 use Rattle.jn_base.specs.declared.names.Tickets.{Tickets}
 use Rattle.jn_base.specs.declared.names.Party.TheVariants.{Server}
 use Rattle.jn_base.specs.declared.names.ClientNo.{ClientNo}
@@ -24,10 +24,11 @@ use Rattle.jn_records.specs.declared.work.WorkHead.{WorkHead}
 use Rattle.jn_storage.specs.declared.faults.PrepareFault.{PrepareFault}
 use Rattle.jn_storage.specs.declared.faults.PrepareFault.TheVariants.{Records, Pages, Heads, Stopped as NotServed, Memory as NoMemory}
 use Rattle.jn_rows.specs.Outcomes.{RowOutcome, Sent, Performs}
+use Rattle.jn_rows.specs.Stable.{Change, RemoveWork, next_after}
 use Rattle.jn_rows.specs.Worker.{WorkerTable, worker_again, timeout_row, with_phase, after_grant, break_notes, commit_wants, conflict, locked, counted, done, wants_of, is_fit, refusal_of as refusal_of_row}
 use Rattle.jn_storage.specs.Listing.{is_in}
-use Rattle.jn_storage.specs.Storage.{StorageView}
-use Rattle.jn_storage.specs.Calls.{state, Called}
+use Rattle.jn_storage.specs.Storage.{Accounts, StorageView}
+use Rattle.jn_storage.specs.Calls.{state, Called, CountsErased}
 use Rattle.jn_worker.specs.declared.words.WorkerFault.{WorkerFault}
 use Rattle.jn_worker.specs.declared.words.WorkerFault.TheVariants.{Stopped, Memory}
 use Rattle.jn_worker.specs.Fitting.{WorkerView, Fits, TicketsFit}
@@ -36,15 +37,29 @@ abbrev pub has_stopped : {A : Type 0} → Result A WorkerFault → Bool
 has_stopped (Err Stopped) = true
 has_stopped _ = false
 
--- A call whose row this is. One that is stopped adds nothing to what its step sends and tells; one that has no memory
--- has made some of the row's changes, from the first one on. While no call was stopped or without memory, worker and
--- storage fit, and so do the tickets.
-pub record Takes {A : Type 0} (row : RowOutcome WorkerTable) (t : WorkerView) (v : StorageView) (before : Collected) (k : Tickets) (answer : Result A WorkerFault) (u : WorkerView) (w : StorageView) (after : Collected) (l : Tickets) : Type 0 where
+-- whether one of the changes removes this work
+abbrev pub is_removed : WorkId → List Change → Bool
+is_removed n [] = false
+is_removed n (RemoveWork W ∷ changes) = work_eq W n || is_removed n changes
+is_removed n (c ∷ changes) = is_removed n changes
+
+-- what a row's changes leave of the accounts: the promises for flags stand, it is counted which intentions are carried
+-- out, and only a work that is removed leaves rubbish
+pub record CountsBy (changes : List Change) (a b : Accounts) : Type 0 where
+  pub promised_records : b.promised_records ≡ a.promised_records
+  pub next : b.next ≡ next_after changes a.next
+  pub rubbish : (n : WorkId) → is_in work_eq n b.rubbish ≡ true → (is_in work_eq n a.rubbish ≡ true) ⊎ (is_removed n changes ≡ true)
+
+-- A call whose row this is, with so many device calls at most. One that is stopped adds nothing to what its step sends
+-- and tells; one that has no memory has made some of the row's changes, from the first one on. While no call was stopped
+-- or without memory, worker and storage fit, and so do the tickets, and the accounts have counted the row's changes.
+pub record Takes {A : Type 0} (most : ℕ) (row : RowOutcome WorkerTable) (t : WorkerView) (v : StorageView) (before : Collected) (k : Tickets) (answer : Result A WorkerFault) (u : WorkerView) (w : StorageView) (after : Collected) (l : Tickets) : Type 0 where
   pub performs : Performs row (state v) before (is_ok answer) u.table w.found after l
-  pub called : Called v 784 (not (has_stopped answer)) w
+  pub called : Called v most (not (has_stopped answer)) w
   pub silent : has_stopped answer ≡ true → after ≡ before
   pub fits : is_ok answer ≡ true → Fits u w
   pub tickets_fit : is_ok answer ≡ true → TicketsFit t.table v k → TicketsFit u.table w l
+  pub counts : is_ok answer ≡ true → CountsBy row.changes v.accounts w.accounts
 
 -- the asking again of the works that aren't going, as a list of names has them
 abbrev pub asked_again : List WorkId → WorkerTable → List Sent
@@ -57,10 +72,11 @@ pub record AsksAgain (t : WorkerView) (before : Collected) (ok : Bool) (after : 
   pub messages : ok ≡ true → after.messages ≡ before.messages ++ asked_again t.going t.table
   pub is_row : (v : StorageView) → Fits t v → asked_again t.going t.table ≡ worker_again (state v) t.table
 
--- a step whose row this is: it is answered true, and false where there is none and nothing is done
+-- A step whose row this is: it is answered true, and false where there is none and nothing is done. A row without
+-- changes is the erasing of one rubbish record.
 abbrev pub Steps : Option (RowOutcome WorkerTable) → WorkerView → StorageView → Collected → Tickets → Result Bool WorkerFault → WorkerView → StorageView → Collected → Tickets → Type 0
 Steps None t v before k answer u w after l = (answer ≡ Ok false) × (u ≡ t) × (w ≡ v) × (after ≡ before)
-Steps (Some row) t v before k answer u w after l = Takes row t v before k answer u w after l × (is_ok answer ≡ true → answer ≡ Ok true)
+Steps (Some row) t v before k answer u w after l = Takes 40 row t v before k answer u w after l × (is_ok answer ≡ true → answer ≡ Ok true) × (row.changes ≡ [] → is_ok answer ≡ true → CountsErased v.accounts w.accounts)
 
 -- a timeout of a transaction: true where a work of it is live
 pub record TimesOut (T : Tid) (t : WorkerView) (answer : Bool) (u : WorkerView) : Type 0 where

@@ -3,3 +3,4 @@ pub mod Calls
 pub mod Reading
 pub mod Handling
 pub mod Restoring
+pub mod Laws

@@ -1,5 +1,5 @@
 // What ends a work: its transaction's outcome.
-ghost use Rattle.std.specs.Prelude.{◌≡◌, true};
+ghost use Rattle.std.specs.Prelude.{◌≡◌, true, []};
 ghost use Rattle.jn_base.specs.declared.names.Tickets.{Tickets};
 ghost use Rattle.jn_rows.specs.Worker as rows;
 ghost use Rattle.jn_worker.specs.Calls.{Takes};
@@ -31,7 +31,8 @@ impl Worker {
         out: &mut Out,
     ) -> Result<(), WorkerFault>
         requires fits { Fits self.old (W.view store.old) }
-        ensures takes { (k : Tickets) → Takes (rows.commit_row self.old.table (seen (W.view store.old)) k tid name (rows.work_at name self.old.table)) self.old (W.view store.old) out.old k result self.new (W.view store.new) out.new k }
+        ensures takes { (k : Tickets) → Takes 16 (rows.commit_row self.old.table (seen (W.view store.old)) k tid name (rows.work_at name self.old.table)) self.old (W.view store.old) out.old k result self.new (W.view store.new) out.new k }
+        ensures kept { (k : Tickets) → (rows.commit_row self.old.table (seen (W.view store.old)) k tid name (rows.work_at name self.old.table)).changes ≡ [] → W.view store.new ≡ W.view store.old }
     {
         let Some(work) = work_at(&self.works, name) else {
             return Ok(out.send(Party::Server(tid.server), Message::Done(tid, name))?);
@@ -53,7 +54,8 @@ impl Worker {
         out: &mut Out,
     ) -> Result<(), WorkerFault>
         requires fits { Fits self.old (W.view store.old) }
-        ensures takes { (k : Tickets) → Takes (rows.drop_row self.old.table (seen (W.view store.old)) k name (rows.work_at name self.old.table)) self.old (W.view store.old) out.old k result self.new (W.view store.new) out.new k }
+        ensures takes { (k : Tickets) → Takes 16 (rows.drop_row self.old.table (seen (W.view store.old)) k name (rows.work_at name self.old.table)) self.old (W.view store.old) out.old k result self.new (W.view store.new) out.new k }
+        ensures kept { (k : Tickets) → (rows.drop_row self.old.table (seen (W.view store.old)) k name (rows.work_at name self.old.table)).changes ≡ [] → W.view store.new ≡ W.view store.old }
     {
         let Some(work) = work_at(&self.works, name) else {
             return Ok(out.note(Note::Ignored)?);

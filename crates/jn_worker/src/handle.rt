@@ -1,5 +1,5 @@
 // What a worker does with a message.
-ghost use Rattle.std.specs.Prelude.{◌≡◌, ◌+◌, ◌<◌, ◌^◌, false};
+ghost use Rattle.std.specs.Prelude.{◌≡◌, ◌+◌, ◌<◌, ◌^◌, true, false, [], is_ok};
 ghost use Rattle.jn_rows.specs.Worker as rows;
 ghost use Rattle.jn_worker.specs.Calls.{Takes};
 ghost use Rattle.jn_worker.specs.Handling.{InRange, asks_device};
@@ -12,6 +12,7 @@ use jn_msgs::{Message, Note, Out};
 use jn_storage::WorkStore;
 
 impl Worker {
+    #[tactic(auto, using(crate::proofs::Counts::no_changes, crate::proofs::Exits::raised))]
     /// Does what a message asks of a worker; one that no worker takes is ignored. A worker that is stopped sends nothing,
     /// and is of no more use.
     pub fn handle<W: WorkStore>(
@@ -25,8 +26,9 @@ impl Worker {
         requires tickets { TicketsFit self.old.table (W.view store.old) tickets.old }
         requires next { tickets.old.next + 1 < 2 ^ 32 }
         requires range { InRange message.now }
-        ensures takes { Takes (rows.worker_row self.old.table (seen (W.view store.old)) tickets.old message.now) self.old (W.view store.old) out.old tickets.old result self.new (W.view store.new) out.new tickets.new }
-        ensures asks { asks_device self.old.table (W.view store.old) message.now ≡ false → W.view store.new ≡ W.view store.old }
+        ensures takes { Takes 784 (rows.worker_row self.old.table (seen (W.view store.old)) tickets.old message.now) self.old (W.view store.old) out.old tickets.old result self.new (W.view store.new) out.new tickets.new }
+        ensures asks { asks_device self.old.table (W.view store.old) tickets.old message.now ≡ false → W.view store.new ≡ W.view store.old }
+        ensures same { (rows.worker_row self.old.table (seen (W.view store.old)) tickets.old message.now).changes ≡ [] → is_ok result ≡ true → (W.view store.new).accounts ≡ (W.view store.old).accounts }
     {
         match message {
             Message::Open(client, request, tid) => {

@@ -4,6 +4,7 @@
 
 mod finish;
 mod handle;
+mod laws;
 mod open;
 mod operate;
 mod prepare;
@@ -14,5 +15,6 @@ mod step;
 mod words;
 mod worker;
 
+pub use laws::{a_prepared_work_is_never_broken, an_old_operation_performs_nothing};
 pub use words::WorkerFault;
 pub use worker::Worker;

@@ -35,7 +35,7 @@ impl Worker {
     ) -> Result<(), WorkerFault>
         requires room { tickets.old.next + 1 < 2 ^ 32 }
         requires after { is_after (rows.name_from tickets.old) self.old.table ≡ true }
-        ensures takes { (v : StorageView) → Fits self.old v → TicketsFit self.old.table v tickets.old → Takes (rows.open_row self.old.table tickets.old client request tid (rows.work_of tid self.old.table)) self.old v out.old tickets.old result self.new v out.new tickets.new }
+        ensures takes { (v : StorageView) → Fits self.old v → TicketsFit self.old.table v tickets.old → Takes 784 (rows.open_row self.old.table tickets.old client request tid (rows.work_of tid self.old.table)) self.old v out.old tickets.old result self.new v out.new tickets.new }
     {
         if let Some(work) = work_of(&self.works, tid) {
             let opened = Message::Opened(client, request, tid, Some(work.name));

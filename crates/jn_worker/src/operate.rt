@@ -198,7 +198,7 @@ impl Worker {
     ) -> Result<(), WorkerFault>
         requires active { is_active (rows.work_at name self.old.table) ≡ true }
         requires next { (T : Tid) (a : ActiveWork) → IsActive self.old.table T name a → number ≡ a.last + 1 }
-        ensures takes { (v : StorageView) (k : Tickets) → Fits self.old v → BlockInRange op.now → ((T : Tid) (a : ActiveWork) → IsActive self.old.table T name a → answer ≡ answer_to op.now (change (list_change a.list) (state v).files)) → Takes (rows.op_row self.old.table (state v).files k client request name number op.now (rows.work_at name self.old.table)) self.old v out.old k result self.new v out.new k }
+        ensures takes { (v : StorageView) (k : Tickets) → Fits self.old v → BlockInRange op.now → ((T : Tid) (a : ActiveWork) → IsActive self.old.table T name a → answer ≡ answer_to op.now (change (list_change a.list) (state v).files)) → Takes 784 (rows.op_row self.old.table (state v).files k client request name number op.now (rows.work_at name self.old.table)) self.old v out.old k result self.new v out.new k }
     {
         let refusal = self.settle(name, number, op, answer, out)?;
         let told = told(refusal, answer);
@@ -217,7 +217,7 @@ impl Worker {
     ) -> Result<(), WorkerFault>
         requires active { is_active (rows.work_at name self.now.table) ≡ true }
         requires other { (T : Tid) (a : ActiveWork) → IsActive self.now.table T name a → nat_eq number (a.last + 1) ≡ false }
-        ensures takes { (v : StorageView) (k : Tickets) (op : AnyOp) → Fits self.now v → Takes (rows.op_row self.now.table (state v).files k client request name number op (rows.work_at name self.now.table)) self.now v out.old k result self.now v out.new k }
+        ensures takes { (v : StorageView) (k : Tickets) (op : AnyOp) → Fits self.now v → Takes 784 (rows.op_row self.now.table (state v).files k client request name number op (rows.work_at name self.now.table)) self.now v out.old k result self.now v out.new k }
     {
         if let Some(answer) = self.kept_answer(name, number) {
             let message = Message::Answer(client, request, answer);

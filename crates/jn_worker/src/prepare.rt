@@ -1,5 +1,5 @@
 // An active work is prepared.
-ghost use Rattle.std.specs.Prelude.{◌≡◌, true, None, OnOk, IfErr, is_ok};
+ghost use Rattle.std.specs.Prelude.{◌≡◌, true, [], None, OnOk, IfErr, is_ok};
 ghost use Rattle.jn_base.specs.declared.names.Tickets.{Tickets};
 ghost use Rattle.jn_base.specs.declared.names.Tid.{Tid};
 ghost use Rattle.jn_rows.specs.declared.worker.ActiveWork.{ActiveWork};
@@ -99,7 +99,8 @@ impl Worker {
     ) -> Result<(), WorkerFault>
         requires fits { Fits self.old (W.view store.old) }
         requires active { is_active (rows.work_at name self.old.table) ≡ true }
-        ensures takes { (k : Tickets) → Takes (rows.prepare_row self.old.table (seen (W.view store.old)) k tid client name (rows.work_at name self.old.table)) self.old (W.view store.old) out.old k result self.new (W.view store.new) out.new k }
+        ensures takes { (k : Tickets) → Takes 784 (rows.prepare_row self.old.table (seen (W.view store.old)) k tid client name (rows.work_at name self.old.table)) self.old (W.view store.old) out.old k result self.new (W.view store.new) out.new k }
+        ensures kept { (k : Tickets) → (rows.prepare_row self.old.table (seen (W.view store.old)) k tid client name (rows.work_at name self.old.table)).changes ≡ [] → W.view store.new ≡ W.view store.old }
     {
         let _locks = &self.locks;
         if let Some((unit, by)) = test_storing(&self.locks, &self.works, name) {
@@ -135,7 +136,8 @@ impl Worker {
         out: &mut Out,
     ) -> Result<(), WorkerFault>
         requires fits { Fits self.old (W.view store.old) }
-        ensures takes { Takes (rows.prepare_row self.old.table (seen (W.view store.old)) tickets.now tid client name (rows.work_at name self.old.table)) self.old (W.view store.old) out.old tickets.now result self.new (W.view store.new) out.new tickets.now }
+        ensures takes { Takes 784 (rows.prepare_row self.old.table (seen (W.view store.old)) tickets.now tid client name (rows.work_at name self.old.table)) self.old (W.view store.old) out.old tickets.now result self.new (W.view store.new) out.new tickets.now }
+        ensures kept { (rows.prepare_row self.old.table (seen (W.view store.old)) tickets.now tid client name (rows.work_at name self.old.table)).changes ≡ [] → W.view store.new ≡ W.view store.old }
     {
         if self.is_active(name) {
             self.prepare_active(store, tid, client, name, out)

@@ -132,8 +132,9 @@ impl Worker {
         requires active { is_active (rows.work_at name self.old.table) ≡ true }
         requires next { (T : Tid) (a : ActiveWork) → IsActive self.old.table T name a → number ≡ a.last + 1 }
         requires unknown { (T : Tid) (a : ActiveWork) → IsActive self.old.table T name a → is_unknown a op.now (W.view store.old) }
-        ensures takes { (k : Tickets) → Takes (rows.op_row self.old.table (state (W.view store.old)).files k client request name number op.now (rows.work_at name self.old.table)) self.old (W.view store.old) out.old k result self.new (W.view store.new) out.new k }
+        ensures takes { (k : Tickets) → Takes 784 (rows.op_row self.old.table (state (W.view store.old)).files k client request name number op.now (rows.work_at name self.old.table)) self.old (W.view store.old) out.old k result self.new (W.view store.new) out.new k }
         ensures asks { asks_for self.old.table (W.view store.old) name number op.now (rows.work_at name self.old.table) ≡ false → W.view store.new ≡ W.view store.old }
+        ensures same { is_ok result ≡ true → (W.view store.new).accounts ≡ (W.view store.old).accounts }
     {
         let answer = self.settle_read(store, name, number, op, out)?;
         let message = Message::Answer(client, request, answer);
@@ -154,8 +155,9 @@ impl Worker {
     ) -> Result<(), WorkerFault>
         requires fits { Fits self.old (W.view store.old) }
         requires range { BlockInRange op.now }
-        ensures takes { Takes (rows.op_row self.old.table (state (W.view store.old)).files tickets.now client request name number op.now (rows.work_at name self.old.table)) self.old (W.view store.old) out.old tickets.now result self.new (W.view store.new) out.new tickets.now }
+        ensures takes { Takes 784 (rows.op_row self.old.table (state (W.view store.old)).files tickets.now client request name number op.now (rows.work_at name self.old.table)) self.old (W.view store.old) out.old tickets.now result self.new (W.view store.new) out.new tickets.now }
         ensures asks { asks_for self.old.table (W.view store.old) name number op.now (rows.work_at name self.old.table) ≡ false → W.view store.new ≡ W.view store.old }
+        ensures same { is_ok result ≡ true → (W.view store.new).accounts ≡ (W.view store.old).accounts }
     {
         if !self.is_active(name) {
             return self.refuse_operation(client, request, name, tickets, out);

@@ -46,7 +46,7 @@ impl Worker {
         out: &mut Out,
     ) -> Result<(), WorkerFault>
         requires inactive { is_active (rows.work_at name self.now.table) ≡ false }
-        ensures takes { (v : StorageView) (c : ClientNo) → Fits self.now v → Takes (rows.prepare_row self.now.table (seen v) tickets.now tid c name (rows.work_at name self.now.table)) self.now v out.old tickets.now result self.now v out.new tickets.now }
+        ensures takes { (v : StorageView) (c : ClientNo) → Fits self.now v → Takes 784 (rows.prepare_row self.now.table (seen v) tickets.now tid c name (rows.work_at name self.now.table)) self.now v out.old tickets.now result self.now v out.new tickets.now }
     {
         let Some(work) = work_at(&self.works, name) else {
             let lost = Vote::Lost(name.epoch, tickets.epoch);
@@ -69,7 +69,7 @@ impl Worker {
         out: &mut Out,
     ) -> Result<(), WorkerFault>
         requires inactive { is_active (rows.work_at name self.now.table) ≡ false }
-        ensures takes { (v : StorageView) (number : ℕ) (op : Op) → Fits self.now v → Takes (rows.op_row self.now.table (state v).files tickets.now client request name number op (rows.work_at name self.now.table)) self.now v out.old tickets.now result self.now v out.new tickets.now }
+        ensures takes { (v : StorageView) (number : ℕ) (op : Op) → Fits self.now v → Takes 784 (rows.op_row self.now.table (state v).files tickets.now client request name number op (rows.work_at name self.now.table)) self.now v out.old tickets.now result self.now v out.new tickets.now }
     {
         let answer = match work_at(&self.works, name) {
             None => Answer::Lost(name.epoch, tickets.epoch),

@@ -39,7 +39,7 @@ impl Worker {
         requires fits { Fits self.old (W.view store.old) }
         requires live { is_some (rows.work_at name self.old.table) ≡ true }
         requires going { IsGoing (W.view store.old) name }
-        ensures takes { (k : Tickets) → Takes (rows.carried_row self.old.table k (rows.new_work name tid) (next_of (W.view store.old) name)) self.old (W.view store.old) out.old k result self.new (W.view store.new) out.new k }
+        ensures takes { (k : Tickets) → Takes 40 (rows.carried_row self.old.table k (rows.new_work name tid) (next_of (W.view store.old) name)) self.old (W.view store.old) out.old k result self.new (W.view store.new) out.new k }
     {
         let _locks = &self.locks;
         if store.apply_step(name)? {

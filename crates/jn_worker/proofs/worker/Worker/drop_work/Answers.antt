@@ -7,7 +7,7 @@ use Rattle.jn_locks.specs.LockTables.{table}
 use Rattle.jn_storage.specs.Listing.{is_in}
 use Rattle.jn_storage.specs.Calls.{WorkRemoved}
 use Rattle.jn_worker.specs.Fitting.{is_stored}
-use Rattle.jn_worker.proofs.Decided.{drop_made}
+use Rattle.jn_worker.proofs.Decided.{drop_made, drop_kept}
 use Rattle.jn_worker.proofs.worker.Worker.drop_work.Goals.{then-is_prepared+in_ok-drop_ready, else-is_prepared}
 use Rattle.jn_worker.proofs.worker.Worker.drop_work.Goals as goal
 
@@ -22,4 +22,7 @@ returns g c =
       | then-is_prepared+in_ok-drop_ready w ↦ inl (sym c.is_prepared.ensures ∙ w.if-is_prepared.true, subst (λ s. WorkRemoved (g.W.Storage.view c.args.store.now) c.args.name true (g.W.Storage.view s)) (sym w.store-is) w.in_ok-drop_ready.ensures.removed)
       | else-is_prepared w ↦ inr (sym c.is_prepared.ensures ∙ w.if-is_prepared.false, ap (λ s. g.W.Storage.view s) w.store-is)
     ] in
-    record { takes = λ k. drop_made _ _ _ c.self.inside.going.items _ _ _ k _ _ c.self.view_is c.requires.fits c.self.invariant.rising at out how c.remove.ensures }
+    record {
+      kept = λ k. drop_kept _ _ c.self.inside.going.items (g.W.Storage.view c.args.store.now) (g.W.Storage.view c.if-is_prepared.store) k _ _ c.self.view_is c.requires.fits at out (elim how [ inl p ↦ inl p.0 | inr p ↦ inr p.1 ]);
+      takes = λ k. drop_made _ _ _ c.self.inside.going.items _ _ _ k _ _ c.self.view_is c.requires.fits c.self.invariant.rising at out how c.remove.ensures;
+    }

@@ -1,0 +1,68 @@
+-- What a row's changes leave of the accounts.
+use Rattle.std.proofs.Common.{◌≡◌, ℕ, Bool, true, false, List, [], ◌∷◌, length, Option, Some, None, if◌then◌else◌, refl, sym, ◌∙◌, ap, subst, arith, inl, inr}
+use Rattle.std.specs.Prelude.{not, ◌⊎◌, ◌||◌}
+use Rattle.std.proofs.Math.Path.{fun_ext}
+use Rattle.jn_base.specs.declared.names.LockUnit.{LockUnit}
+use Rattle.jn_base.specs.declared.names.Tid.{Tid}
+use Rattle.jn_base.specs.declared.names.WorkId.{WorkId}
+use Rattle.jn_base.specs.Names.{work_eq}
+use Rattle.jn_lock_rows.proofs.Works.{work_is}
+use Rattle.jn_records.specs.declared.intention.Intention.{Intention}
+use Rattle.jn_records.specs.declared.net_list.Need.{Need}
+use Rattle.jn_records.specs.declared.work.WorkHead.{WorkHead}
+use Rattle.jn_rows.specs.declared.worker.ActiveWork.{ActiveWork}
+use Rattle.jn_rows.specs.declared.worker.Phase.TheVariants.{Active}
+use Rattle.jn_rows.specs.Stable.{Change, Prepared, AddReady, CarryOut, RemoveWork, next_after}
+use Rattle.jn_lock_rows.specs.Calls.{IsActive}
+use Rattle.jn_storage.specs.Listing.{is_in}
+use Rattle.jn_storage.specs.Storage.{Accounts, StorageView, intentions}
+use Rattle.jn_storage.specs.Calls.{state, with_work, CountsOn, CountsOff, CountsErased}
+use Rattle.jn_worker.specs.Fitting.{is_none, WorkerView, Fits, WorkFits, PhaseFits}
+use Rattle.jn_worker.specs.Calls.{CountsBy}
+
+pub filled : {c : Change} {cs : List Change} → c ∷ cs ≡ [] → ⊥
+filled e = cc e
+
+pub no_changes : (changes : List Change) → not (is_none changes) ≡ false → changes ≡ []
+no_changes [] e = refl
+no_changes (c ∷ changes) e = cc e
+
+-- the accounts are as they were, and no intention is counted
+pub counts_same : (changes : List Change) (a b : Accounts) → b ≡ a → next_after changes a.next ≡ a.next → CountsBy changes a b
+counts_same changes a b is next = record { promised_records = ap (λ (x : Accounts). x.promised_records) is; next = ap (λ (x : Accounts). x.next) is ∙ sym next; rubbish = λ n h. inl (ap (λ (x : Accounts). is_in work_eq n x.rubbish) (sym is) ∙ h) }
+
+pub counts_kept : (changes : List Change) (a : Accounts) → changes ≡ [] → CountsBy changes a a
+counts_kept changes a none = counts_same changes a a refl (ap (λ cs. next_after cs a.next) none)
+
+pub counts_ready : (head : WorkHead) (list : List Intention) (reads : List LockUnit) (need : Need) (a b : Accounts) → a.next head.work ≡ 0 → b ≡ with_work a head.work need → CountsBy (AddReady head list reads ∷ []) a b
+counts_ready head list reads need a b zero is = record {
+  promised_records = ap (λ (x : Accounts). x.promised_records) is;
+  next = ap (λ (x : Accounts). x.next) is ∙ fun_ext (λ V. by V (work_eq head.work V) refl);
+  rubbish = λ n h. inl (ap (λ (x : Accounts). is_in work_eq n x.rubbish) (sym is) ∙ h);
+}
+  where
+    by : (V : WorkId) (b : Bool) → work_eq head.work V ≡ b → (if b then 0 else a.next V) ≡ a.next V
+    by V true e = sym zero ∙ ap a.next (work_is head.work V e)
+    by V false e = refl
+
+-- none of an active work's intentions has been carried out
+pub none_carried : (t : WorkerView) (v : StorageView) (T : Tid) (W : WorkId) (a : ActiveWork) → Fits t v → IsActive t.table T W a → v.accounts.next W ≡ 0
+none_carried t v T W a h i = let few = h.serving.next_fits W in
+    omega (arith, few, none ((state v).works W) (subst (λ phase. PhaseFits phase i.work.tid ((state v).works W)) i.phase (subst (λ o. WorkFits o ((state v).works W)) i.found (h.stored W))))
+  where
+    none : (p : Option Prepared) → PhaseFits (Active a) i.work.tid p → length (intentions p) ≡ 0
+    none None f = refl
+    none (Some p) f = absurd f
+
+pub counts_on : (W : WorkId) (i : Intention) (a b : Accounts) → CountsOn a W b → CountsBy (CarryOut W i ∷ []) a b
+counts_on W i a b c = record { promised_records = c.promised_records; next = c.next; rubbish = λ n h. inl (ap (λ r. is_in work_eq n r) (sym c.rubbish) ∙ h) }
+
+pub counts_off : (W : WorkId) (a b : Accounts) {n : ℕ} → CountsOff a W n b → CountsBy (RemoveWork W ∷ []) a b
+counts_off W a b c = record { promised_records = c.promised_records; next = c.next; rubbish = λ n h. by (work_eq W n) (is_in work_eq n a.rubbish) (c.rubbish_names n h) }
+  where
+    by : (x y : Bool) → (x || y) ≡ true → (y ≡ true) ⊎ ((x || false) ≡ true)
+    by true y h = inr refl
+    by false y h = inl h
+
+pub counts_erased : (a b : Accounts) → CountsErased a b → CountsBy [] a b
+counts_erased a b c = record { promised_records = ap (λ (x : Accounts). x.promised_records) c.others; next = ap (λ (x : Accounts). x.next) c.others; rubbish = λ n h. inl (c.rubbish_names n h) }
