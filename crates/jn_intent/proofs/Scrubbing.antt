@@ -4,7 +4,7 @@ use Rattle.std.proofs.lemmas.Bool.{cases_eq}
 use Rattle.std.specs.Prelude.{is_ok, OnOk, OnErr}
 use Rattle.jn_base.specs.declared.device.Stopped.{Stopped}
 use Rattle.jn_device.specs.Device.{DeviceState, PageState}
-use Rattle.jn_device.specs.Events.{Decays}
+use Rattle.jn_device.specs.Events.{Decays, Revives}
 use Rattle.jn_found.specs.Pages.{found_on}
 use Rattle.jn_found.specs.Puts.{IsFewer}
 use Rattle.jn_found.specs.Recoverable.{IsRecoverable}
@@ -16,7 +16,7 @@ use Rattle.jn_storage.specs.Storage.{IsServing}
 use Rattle.jn_storage.specs.Calls.{state}
 use Rattle.jn_store.specs.Pairs.{pairs_view}
 use Rattle.jn_store.specs.Store.{StoreView, StoreLater, StoreCleaned, IsSamePage, IsCalm, IsClean, IsWhole, IsStop}
-use Rattle.jn_store.proofs.Events.{decays_same}
+use Rattle.jn_store.proofs.Events.{decays_same, revives_same}
 use Rattle.jn_store.proofs.Laws.{later_refl, later_trans, stop_since, shrinks_only}
 use Rattle.jn_intent.specs.Memory.{Memory, view_of}
 use Rattle.jn_intent.specs.Matches.{Matches, IsKept}
@@ -133,6 +133,9 @@ same_kept m v w safe count power same = (
 
 pub decayed_kept : (m : Memory) (s t : DeviceState) (p : ℕ) (answer : Bool) → Decays s p answer t → IsSafe m (pairs_view s) → IsSafe m (pairs_view t)
 decayed_kept m s t p answer decays kept = same_kept m (pairs_view s) (pairs_view t) kept (ap (λ n. n / 2) decays.becomes.count) decays.becomes.power_is (decays_same s t p answer decays)
+
+pub revived_kept : (m : Memory) (s t : DeviceState) (p : ℕ) → Revives s p t → IsSafe m (pairs_view s) → IsSafe m (pairs_view t)
+revived_kept m s t p revives kept = same_kept m (pairs_view s) (pairs_view t) kept (ap (λ n. n / 2) revives.count) revives.power_is (revives_same s t p revives)
 
 -- what waits and what was told is no matter
 pub waits_kept : (m : Memory) (s t : DeviceState) → t.count ≡ s.count → t.power ≡ s.power → t.pages ≡ s.pages → IsSafe m (pairs_view s) → IsSafe m (pairs_view t)

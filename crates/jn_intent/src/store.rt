@@ -1,10 +1,11 @@
 //! The store below a storage.
 ghost use Rattle.std.specs.Prelude.{◌≡◌, ◌≤◌, ◌<◌, ◌+◌, ◌*◌, [], true, is_ok, OnErr, OnOk};
-ghost use Rattle.jn_device.specs.Events.{Decays, Arms, is_within, disarmed, cleared};
+ghost use Rattle.jn_device.specs.Events.{Decays, Revives, Arms, is_within, disarmed, cleared};
 ghost use Rattle.jn_found.specs.Puts.{IsFewer};
 ghost use Rattle.jn_found.specs.Recoverable.{IsRecoverable};
 ghost use Rattle.jn_storage.specs.Storage.{IsServing};
 ghost use Rattle.jn_store.specs.Store.{IsCalm, IsStop, StoreLater};
+ghost use Rattle.jn_intent.specs.Matches.{IsKept};
 ghost use Rattle.jn_intent.specs.Scrubbing.{CleansTo, Scrubbed};
 
 use crate::Intents;
@@ -13,6 +14,13 @@ use jn_storage::Storage;
 use jn_store::{Powered, StableStore};
 
 impl<S: StableStore> Intents<S> {
+    /// Does nothing: its contract says what holds of every storage.
+    pub fn is_kept(&self)
+        ensures { IsKept self.now.1 (S.view self.now.0) }
+    {
+        let _store = &self.store;
+    }
+
     /// The store, which alone outlives a stop. A recovery may begin from it, whatever call was stopped.
     pub fn into_store(self) -> S
         ensures same { result ≡ self.0 }
@@ -38,6 +46,15 @@ impl<S: Powered> Intents<S> {
         ensures memory { self.new.1 ≡ self.old.1 }
     {
         self.store.decay(p)
+    }
+
+    /// A page of the device is good again, with the bytes that it keeps.
+    pub fn revive(&mut self, p: u32)
+        requires { p < (S.device self.old.0).count }
+        ensures revives { Revives (S.device self.old.0) p (S.device self.new.0) }
+        ensures memory { self.new.1 ≡ self.old.1 }
+    {
+        self.store.revive(p);
     }
 
     /// A fault strikes at the n-th call from now. False exactly where sixteen wait, or one for that call, and then
