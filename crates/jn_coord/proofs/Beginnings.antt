@@ -164,6 +164,7 @@ begun r s r' v w k c q before after fits tickets new room few closed is sent = r
   sent = sent;
   made = λ p. closed.fits.serving.up p ∙ closed.made;
   fits = rw is (fits-more s w c q (name_from k) closed.fits small above named);
+  accounts = closed.accounts;
   reaches = record { later = closed.later; calls = closed.calls };
   no_stop = closed.no_stop;
 })
@@ -224,6 +225,7 @@ not-begun r s r' v w k c q before after fits new full few closed is sent = rw (f
     ballots = closed.fits.ballots;
     given = closed.fits.given;
   });
+  accounts = closed.accounts;
   reaches = record { later = closed.later; calls = closed.calls };
   no_stop = closed.no_stop;
 })

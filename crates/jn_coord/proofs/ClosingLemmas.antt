@@ -21,7 +21,7 @@ use Rattle.jn_coord.specs.Calls.{flag_told, committed_as, Fits, Releases}
 use Rattle.jn_transactions.specs.Stages.{goes, is_committed, is_decided}
 use Rattle.jn_transactions.specs.Closing.{takes_part, next_closing, tid_in}
 use Rattle.jn_coord.specs.Closing.{left_by, changes_by, going_in, LetsGo, GoneFrom, StaysOrGoes, ClosesOn, ClosesNext, ClosingStopped, ClosesAll}
-use Rattle.jn_coord.proofs.Tables.{at-named, for-found}
+use Rattle.jn_coord.proofs.Tables.{at-named, for-found, counted, counted-then}
 use Rattle.jn_coord.proofs.Fitting.{below-not, flags-without, no-votes, promise_held, fits-without}
 use Rattle.jn_coord.proofs.Rows.{released-reaches, told-but}
 
@@ -101,6 +101,7 @@ went-released r v w T y x fits found at undecided p = for-found T r.transactions
       epoch = refl;
       flags = flags;
       promises = no-votes v _ y.stage still refl;
+      accounts = refl;
       made = rw (none y.stage undecided).1 refl;
       calls = omega arith;
       later = storage_refl v;
@@ -111,6 +112,7 @@ went-released r v w T y x fits found at undecided p = for-found T r.transactions
       epoch = ap (λ u. (state u).epoch) p.released;
       flags = λ U. ap (λ u. flag_told ((state u).flags U)) p.released ∙ flags U;
       promises = rw voting (let less = ap (λ u. u.accounts.promised_records) p.released in let held = promise_held T r.transactions y found voting in omega (arith, less, held, fits.promises));
+      accounts = counted v.accounts w.accounts _ _ (ap (λ u. u.accounts) p.released);
       made = rw (none y.stage undecided).1 (ap (λ u. state u) p.released);
       calls = let same = ap (λ u. u.store.calls) p.released in omega (arith, same);
       later = (released-reaches v w p).later;
@@ -136,6 +138,7 @@ went-dropped r v w T y x ok found at committed going put went = for-found T r.tr
   epoch = ap (λ x. x.epoch) is;
   flags = λ U. ap (λ x. flag_told (x.flags U)) is ∙ told-but (tid_eq y.tid U) ((state v).flags U) None;
   promises = no-votes v _ y.stage (quiet-committed y.stage committed) (ap (λ a. a.promised_records) (p.accounts refl));
+  accounts = counted v.accounts w.accounts _ _ (p.accounts refl);
   made = rw changes is;
   calls = rw changes p.called.calls;
   later = p.called.later;
@@ -173,6 +176,7 @@ closes-next c r r' v w x fits next gone ts = subst (λ q. ClosesOn c r v q w × 
     made = gone.made;
     calls = gone.calls;
     fits = fits-without r v w x.tid x fits at gone.serving gone.later.server gone.epoch gone.flags gone.promises;
+    accounts = gone.accounts;
     later = gone.later;
     no_stop = gone.no_stop;
   },
@@ -240,7 +244,7 @@ next-stopped c r v w T a fits e goes fell = let n = next-named (next_closing c r
 -- ---- one after another
 
 pub closes-none : (c : Option ClientNo) (r : Remembered) (v : StorageView) → Fits r v → ClosesOn c r v r v
-closes-none c r v fits = record { requests = refl; left = refl; first = []; split = refl; made = refl; calls = omega arith; fits = fits; later = storage_refl v; no_stop = refl }
+closes-none c r v fits = record { requests = refl; left = refl; first = []; split = refl; made = refl; calls = omega arith; fits = fits; accounts = refl; later = storage_refl v; no_stop = refl }
 
 pub closes-more : (c : Option ClientNo) (r s t : Remembered) (u v w : StorageView) → ClosesOn c r u s v → ClosesOn c s v t w → ClosesOn c r u t w
 closes-more c r s t u v w f g = record {
@@ -251,6 +255,7 @@ closes-more c r s t u v w f g = record {
   made = g.made ∙ ap (made_all g.first) f.made ∙ sym (made-then f.first g.first (state u));
   calls = let more = length-append f.first g.first in let calls = f.calls in let again = g.calls in omega (arith, more, calls, again);
   fits = g.fits;
+  accounts = counted-then u.accounts v.accounts w.accounts f.accounts g.accounts;
   later = storage_trans u v w f.later g.later;
   no_stop = g.no_stop ∙ f.no_stop;
 }

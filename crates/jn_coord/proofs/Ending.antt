@@ -51,6 +51,7 @@ ballot-opened r r' v T k y x b before after fits found at open' few sent ts = fo
       sent = sent;
       made = fits.serving.up;
       fits = fits-staged 1 0 r v v T (Voting b) y fits found fits.serving refl refl (same-flags 1 r v T (Voting b) y fits found (rw is refl)) (rw is refl) ballot;
+      accounts = refl;
       reaches = stays v;
       no_stop = refl;
     }))) x at
@@ -86,7 +87,7 @@ pub with-promise : (row : RowOutcome CoordinatorTable) (r : Remembered) (v u : S
 with-promise row r v u before (Ok x) r' w w' after p d e = subst (λ z. IsDone row v before r' z after) (sym e) (by (subst (λ z. IsDone row z before r' w after) p d))
   where
     by : IsDone row (promising v) before r' w after → IsDone row v before r' w after
-    by d = record { table = d.table; sent = d.sent; made = d.made; fits = d.fits; reaches = reaches-promised v w (length row.changes) d.reaches; no_stop = d.no_stop }
+    by d = record { table = d.table; sent = d.sent; made = d.made; fits = d.fits; accounts = d.accounts; reaches = reaches-promised v w (length row.changes) d.reaches; no_stop = d.no_stop }
 with-promise row r v u before (Err Memory) r' w w' after p d e = (d.0, e.released ∙ ap (λ (z : StorageView). record z { accounts = with_promises z.accounts (z.accounts.promised_records - 1) }) (d.1 ∙ p) ∙ back, d.2)
   where
     back : record (promising v) { accounts = with_promises (promising v).accounts ((promising v).accounts.promised_records - 1) } ≡ v

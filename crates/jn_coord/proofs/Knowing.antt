@@ -111,6 +111,7 @@ client-closed c r s t v w f none ts = subst (λ q. ClientClosed c r v q w) (sym 
   made = rw all f.made;
   calls = rw all f.calls;
   fits = fits-known c s w f.fits;
+  accounts = f.accounts;
   later = f.later;
   no_stop = f.no_stop;
 })

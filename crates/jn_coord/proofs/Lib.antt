@@ -8,3 +8,4 @@ pub mod Knowing
 pub mod Restart
 pub mod Beginnings
 pub mod Onwards
+pub mod AfterFlag

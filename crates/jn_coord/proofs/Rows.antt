@@ -33,7 +33,7 @@ use Rattle.jn_transactions.specs.declared.faults.CoordFault.TheVariants.{Memory,
 use Rattle.jn_transactions.specs.Telling.{added, Adds, Longer}
 use Rattle.jn_coord.specs.Calls.{flag_told, committed_as, committed_at, works_in, voting_in, spare_of, Fits, FitsWith, ballot_in, ballot_of, ballot_fits, ballots_fit, waiting_row, Releases, Reaches, IsDone, IsStopped, Does}
 use Rattle.jn_transactions.proofs.Sends.{added_none, longer_same}
-use Rattle.jn_coord.proofs.Tables.{at-named, for-found}
+use Rattle.jn_coord.proofs.Tables.{at-named, for-found, counted}
 use Rattle.jn_coord.proofs.Fitting.{votes, fits-staged, fits-without, same-flags, committed-found, flags-without, promise_held, spare-one, has-promise, no-votes}
 
 pub stays : (v : StorageView) → Reaches v 0 v
@@ -55,6 +55,7 @@ aborted r r' v w T k x cause works before after fits at undecided p sent ts = su
       sent = sent;
       made = fits.serving.up;
       fits = fits-staged 0 0 r v v T (stages.Aborted cause) x fits at fits.serving refl refl (same-flags 0 r v T (stages.Aborted cause) x fits at (sym undecided)) (rw still refl) refl;
+      accounts = refl;
       reaches = stays v;
       no_stop = refl;
     })
@@ -65,6 +66,7 @@ aborted r r' v w T k x cause works before after fits at undecided p sent ts = su
       fits = fits-staged 0 0 r v w T (stages.Aborted cause) x fits at p.serving (ap (λ u. u.accounts.server) p.released) (ap (λ u. (state u).epoch) p.released)
           (λ U. ap (λ u. flag_told ((state u).flags U)) p.released ∙ same-flags 0 r v T (stages.Aborted cause) x fits at (sym undecided) U)
           (rw voting (let less = ap (λ u. u.accounts.promised_records) p.released in let held = promise_held T r.transactions x at voting in omega (arith, less, held, fits.promises))) refl;
+      accounts = counted v.accounts w.accounts _ _ (ap (λ u. u.accounts) p.released);
       reaches = released-reaches v w p;
       no_stop = ap (λ u. u.store.stops) p.released;
     }
@@ -125,6 +127,7 @@ settled r r' v T k d before fits same waits ts = let s = stands T r.transactions
   sent = added_none before;
   made = fits.serving.up;
   fits = fits-staged 0 0 r v v T (stages.Committed d) s.one fits s.at fits.serving refl refl (same-flags 0 r v T (stages.Committed d) s.one fits s.at (sym s.told)) (rw s.quiet refl) refl;
+  accounts = refl;
   reaches = stays v;
   no_stop = refl;
 }))
@@ -144,6 +147,7 @@ forgotten r r' v w T k d before ok fits same over put went ts = let s = stands T
       made = p.change.done refl;
       fits = fits-without r v w T s.one fits s.at (p.called.serving refl) p.called.later.server (ap (λ x. x.epoch) at)
           (λ U. ap (λ x. flag_told (x.flags U)) at ∙ told-but (tid_eq T U) ((state v).flags U) None) (no-votes v _ s.one.stage s.quiet (ap (λ a. a.promised_records) (p.accounts refl)));
+      accounts = counted v.accounts w.accounts _ _ (p.accounts refl);
       reaches = record { later = p.called.later; calls = p.called.calls };
       no_stop = p.called.no_stop refl;
     }))
@@ -190,6 +194,7 @@ committed r r' v w T k y x request works before after ok fits found at put went 
       made = p.change.done refl;
       fits = fits-staged (spare_of (transaction_at T r.transactions)) 0 r v w T new y fits found (p.called.serving refl) p.called.later.server (ap (λ x. x.epoch) is)
           (λ U. ap (λ x. flag_told (x.flags U)) is ∙ told-but (tid_eq T U) ((state v).flags U) _) (let held = has-promise T r v y fits found in omega (arith, used, spare, held)) refl;
+      accounts = counted v.accounts w.accounts _ _ (p.accounts refl);
       reaches = record { later = p.called.later; calls = p.called.calls };
       no_stop = p.called.no_stop refl;
     })
@@ -237,6 +242,7 @@ counted-on r r' v T k x b before fits voting at few waits ts = subst (λ q. IsDo
   sent = added_none before;
   made = fits.serving.up;
   fits = fits-staged 0 0 r v v T (stages.Voting b) x fits at fits.serving refl refl (same-flags 0 r v T (stages.Voting b) x fits at (sym (sym (committed-found T r.transactions x at) ∙ voting-undecided T r.transactions voting))) (rw is refl) ballot;
+  accounts = refl;
   reaches = stays v;
   no_stop = refl;
 }))
@@ -269,6 +275,7 @@ aborted-gone r r' v T k y before fits at is ts = subst (λ q. IsDone (thanks_row
       sent = added_none before;
       made = fits.serving.up;
       fits = fits-without r v v T y fits at fits.serving refl refl (flags-without r v T y fits at (gone y.stage is).0) (no-votes v _ y.stage (gone y.stage is).1 refl);
+      accounts = refl;
       reaches = stays v;
       no_stop = refl;
     }
@@ -285,6 +292,7 @@ tells row r v before after (Ok x) table changes fits sent = record {
   sent = sent;
   made = λ c. rw changes (fits.serving.up c);
   fits = fits;
+  accounts = refl;
   reaches = rw changes (stays v);
   no_stop = refl;
 }

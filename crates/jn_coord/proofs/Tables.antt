@@ -1,9 +1,11 @@
 -- What stands at a name.
-use Rattle.std.proofs.Common.{◌≡◌, List, [], ◌∷◌, Option, Some, None, sym, ◌∙◌, ap, subst, arith}
+use Rattle.std.proofs.Common.{◌≡◌, ℕ, List, [], ◌∷◌, Option, Some, None, refl, sym, ◌∙◌, ap, subst, arith}
 use Rattle.jn_base.specs.declared.names.Tid.{Tid}
 use Rattle.jn_base.proofs.Tells.{tid_tells}
 use Rattle.jn_rows.specs.declared.coordinator.Transaction.{Transaction}
 use Rattle.jn_rows.specs.Coordinator.{transaction_at}
+use Rattle.jn_storage.specs.Storage.{Accounts}
+use Rattle.jn_coord.specs.Calls.{CountsRecords}
 
 pub at-named : (T : Tid) (xs : List Transaction) (x : Transaction) → transaction_at T xs ≡ Some x → x.tid ≡ T
 at-named T [] x e = absurd (cc e)
@@ -16,3 +18,11 @@ for-found T xs P y found p x at = subst P (ap some-or (sym found ∙ at)) p
     some-or : Option Transaction → Transaction
     some-or None = y
     some-or (Some z) = z
+
+-- ---- what is counted
+
+pub counted : (a b : Accounts) (free promised : ℕ) → b ≡ record a { free_records = free; promised_records = promised } → CountsRecords a b
+counted a b free promised e = subst (CountsRecords a) (sym e) refl
+
+pub counted-then : (a b c : Accounts) → CountsRecords a b → CountsRecords b c → CountsRecords a c
+counted-then a b c e f = f ∙ ap (λ (z : Accounts). record z { free_records = c.free_records; promised_records = c.promised_records }) e

@@ -18,7 +18,7 @@ use Rattle.jn_rows.specs.Stable.{FlagState, Pick, IsStopState, made_all}
 use Rattle.jn_rows.specs.Outcomes.{RowOutcome, ignored, sends}
 use Rattle.jn_rows.specs.Coordinator.{CoordinatorTable, transaction_at, is_work, is_voting, promised, staged, prepares}
 use Rattle.jn_storage.specs.Orderly.{IsGiven}
-use Rattle.jn_storage.specs.Storage.{StorageView, StorageLater, IsLoadable, IsServing}
+use Rattle.jn_storage.specs.Storage.{Accounts, StorageView, StorageLater, IsLoadable, IsServing}
 use Rattle.jn_storage.specs.Calls.{state, PromiseReleased, with_promises}
 use Rattle.jn_transactions.specs.declared.faults.CoordFault.{CoordFault}
 use Rattle.jn_transactions.specs.declared.faults.CoordFault.TheVariants.{Stopped, Memory}
@@ -101,11 +101,16 @@ pub record Reaches (v : StorageView) (changes : ℕ) (w : StorageView) : Type 0 
   pub later : StorageLater v w
   pub calls : w.store.calls ≤ v.store.calls + 16 * changes
 
+-- of what is counted, only the free records and those that are promised change
+abbrev pub CountsRecords : Accounts → Accounts → Type 0
+CountsRecords a b = b ≡ record a { free_records = b.free_records; promised_records = b.promised_records }
+
 pub record IsDone (row : RowOutcome CoordinatorTable) (v : StorageView) (before : Collected) (r : Remembered) (w : StorageView) (after : Collected) : Type 0 where
   pub table : table_of r ≡ row.table
   pub sent : after ≡ added before row.messages row.notes
   pub made : (c : Pick) → w.found c ≡ made_all row.changes (state v)
   pub fits : Fits r w
+  pub accounts : CountsRecords v.accounts w.accounts
   pub reaches : Reaches v (length row.changes) w
   pub no_stop : w.store.stops ≡ v.store.stops
 

@@ -14,7 +14,7 @@ use Rattle.jn_transactions.specs.declared.faults.CoordFault.TheVariants.{Stopped
 use Rattle.jn_transactions.specs.Stages.{goes}
 use Rattle.jn_transactions.specs.Closing.{next_closing}
 use Rattle.jn_coord.specs.Remembered.{Remembered}
-use Rattle.jn_coord.specs.Calls.{Fits, flag_told}
+use Rattle.jn_coord.specs.Calls.{CountsRecords, Fits, flag_told}
 
 abbrev pub left_by : Option ClientNo → List Transaction → List Transaction
 left_by (Some c) xs = after_closing c xs
@@ -30,6 +30,7 @@ pub record GoneFrom (x : Transaction) (v w : StorageView) : Type 0 where
   pub epoch : (state w).epoch ≡ (state v).epoch
   pub flags : (T : Tid) → flag_told ((state w).flags T) ≡ (if tid_eq x.tid T then None else flag_told ((state v).flags T))
   pub promises : w.accounts.promised_records + (if is_voting x.stage then 1 else 0) ≡ v.accounts.promised_records
+  pub accounts : CountsRecords v.accounts w.accounts
   pub made : state w ≡ made_all (thanked_changes x.stage x) (state v)
   pub calls : w.store.calls ≤ v.store.calls + 16 * length (thanked_changes x.stage x)
   pub later : StorageLater v w
@@ -59,6 +60,7 @@ pub record ClosesOn (who : Option ClientNo) (r : Remembered) (v : StorageView) (
   pub made : state w ≡ made_all first (state v)
   pub calls : w.store.calls ≤ v.store.calls + 16 * length first
   pub fits : Fits r' w
+  pub accounts : CountsRecords v.accounts w.accounts
   pub later : StorageLater v w
   pub no_stop : w.store.stops ≡ v.store.stops
 
@@ -91,6 +93,7 @@ pub record ClientClosed (who : Option ClientNo) (r : Remembered) (v : StorageVie
   pub made : state w ≡ made_all (changes_by who r.transactions) (state v)
   pub calls : w.store.calls ≤ v.store.calls + 16 * length (changes_by who r.transactions)
   pub fits : Fits r' w
+  pub accounts : CountsRecords v.accounts w.accounts
   pub later : StorageLater v w
   pub no_stop : w.store.stops ≡ v.store.stops
 

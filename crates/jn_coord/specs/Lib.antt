@@ -4,3 +4,4 @@ pub mod Closing
 pub mod Restoring
 pub mod Beginning
 pub mod Handling
+pub mod AfterFlag

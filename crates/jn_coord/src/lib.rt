@@ -5,7 +5,9 @@
 mod begin;
 mod coordinator;
 mod handle;
+mod laws;
 mod restoring;
 
 pub use coordinator::Coordinator;
 pub use jn_transactions::CoordFault;
+pub use laws::outcomes_are_sent_after_the_flag;
