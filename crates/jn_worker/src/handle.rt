@@ -12,9 +12,9 @@ use jn_msgs::{Message, Note, Out};
 use jn_storage::WorkStore;
 
 impl Worker {
-    #[tactic(auto, using(crate::proofs::Counts::no_changes, crate::proofs::Exits::raised))]
     /// Does what a message asks of a worker; one that no worker takes is ignored. A worker that is stopped sends nothing,
     /// and is of no more use.
+    #[tactic(auto, using(crate::proofs::Counts::no_changes, crate::proofs::Exits::raised))]
     pub fn handle<W: WorkStore>(
         &mut self,
         store: &mut W,
