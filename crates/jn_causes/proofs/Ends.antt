@@ -25,7 +25,7 @@ use Rattle.jn_rows.specs.declared.client.Taken.TheVariants as taken
 use Rattle.jn_rows.specs.Stable.{Pick, stable}
 use Rattle.jn_rows.specs.Outcomes.{RowOutcome, Sent}
 use Rattle.jn_rows.specs.Client.{ClientTable, is_current, if_waits, decided_row, outcome_row, take_row}
-use Rattle.jn_protocol.specs.World.{World, Memory, at_client, has_line, opening}
+use Rattle.jn_protocol.specs.World.{World, Memory, at_client, has_line, opening, servers_from}
 use Rattle.jn_protocol.specs.Servers.{Room, server_row, server_step, line_of, lines_of, named_now}
 use Rattle.jn_protocol.specs.Steps.{Step, NextEvent, Tell, Again, Deliver, Work, Nudge, Timeout, StopDelivery, StopWork, Crash, Narrow, StopRestart, Restart, Dismiss, CloseClients, IsIdle, after, took, at_memory, handed, works, work, nudge, timeout, crash, narrow, restart, close_clients}
 use Rattle.jn_serial.specs.Lines.{history_of}
@@ -34,7 +34,7 @@ use Rattle.jn_serial.specs.Caused.{Caused}
 use Rattle.jn_serial.proofs.CausedGrowth.{Caused-lines, needs_cause, NeedNoCause, CausedFrom-plain}
 use Rattle.jn_reported.specs.Printing.{Printed, FileThere, PageStored, UnitLocked, text_printed}
 use Rattle.jn_reported.specs.Reported.{Does, Item, events_of, told_by, lines_of as lines_of_items, world_of, IsReported}
-use Rattle.jn_reported.specs.Ending.{Comeback, Ending, servers_from, restarts_from, steps_at_end, settles, IsEnding, told_by_steps, texts_from, at_end, counted, lines_to_end}
+use Rattle.jn_reported.specs.Ending.{Comeback, Ending, restarts_from, steps_at_end, settles, IsEnding, told_by_steps, texts_from, at_end, counted, lines_to_end}
 use Rattle.jn_reported.proofs.Lists.{Each, each-append}
 use Rattle.jn_reported.proofs.Hearing.{told-is}
 use Rattle.jn_reported.proofs.Prints.{each-print}

@@ -21,7 +21,7 @@ use Rattle.jn_rows.specs.Coordinator.{is_work, all_in, thanked, all_thanked, res
 use Rattle.jn_machine.specs.Steps.{run as run_atoms, opening_world}
 use Rattle.jn_moves.specs.Mirrors.{AreTransactions}
 use Rattle.jn_machine.proofs.Updates.{none_unless, none_of, false_unless, some_of, clash}
-use Rattle.jn_protocol.specs.World.{World, Memory, opening}
+use Rattle.jn_protocol.specs.World.{World, Memory, opening, servers_from}
 use Rattle.jn_protocol.specs.Servers.{restored, of_coordinator}
 use Rattle.jn_protocol.specs.Steps.{Step, Again, Nudge, Crash, Narrow, Restart, Dismiss, CloseClients, IsStep, IsRun, run, after, nudge, crash, narrow, restart, close_clients}
 use Rattle.jn_protocol.specs.LockFacts.{UpFact}
@@ -29,7 +29,7 @@ use Rattle.jn_protocol.proofs.Closes.{is_committed}
 use Rattle.jn_runs.specs.Runs.{IsInOrder}
 use Rattle.jn_runs.proofs.Runs.{moves-in-order}
 use Rattle.jn_settling.specs.Course.{Course, still_waiting, opening_course, go, go_on}
-use Rattle.jn_settling.specs.Settle.{Chance, servers_from, clients_from, until_rest, ask_again, settled}
+use Rattle.jn_settling.specs.Settle.{Chance, clients_from, until_rest, ask_again, settled}
 use Rattle.jn_settling.specs.Sizes.{committed_at}
 use Rattle.jn_settling.specs.Bounds.{NothingGoes, Ends}
 use Rattle.jn_settling.proofs.Courses.{Sound, go-sound, waiting-is}

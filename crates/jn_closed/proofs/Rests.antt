@@ -25,12 +25,12 @@ use Rattle.jn_rows.specs.Worker.{WorkerTable, work_at, worker_again}
 use Rattle.jn_rows.specs.Coordinator.{transaction_at, is_work, besides, commits as commits_of, told_again, coordinator_again, committed_to}
 use Rattle.jn_machine.specs.Steps.{run as run_atoms, opening_world}
 use Rattle.jn_machine.proofs.Updates.{some_of}
-use Rattle.jn_protocol.specs.World.{World, Memory}
+use Rattle.jn_protocol.specs.World.{World, Memory, servers_from}
 use Rattle.jn_protocol.specs.Servers.{Room, server_row, server_again}
 use Rattle.jn_protocol.specs.Steps.{Step, Again, Deliver, Work as WorkStep, Nudge, StopDelivery, StopWork, IsStep, after, at_memory, handed, done, nudge, sent_now}
 use Rattle.jn_moves.specs.Mirrors.{IsTrue, IsAddressed}
 use Rattle.jn_settling.specs.Course.{Course, numbered, still_waiting, without_number, go, go_on}
-use Rattle.jn_settling.specs.Settle.{Chance, servers_from, first_busy, next_step, onward, until_rest, ask_again}
+use Rattle.jn_settling.specs.Settle.{Chance, first_busy, next_step, onward, until_rest, ask_again}
 use Rattle.jn_settling.proofs.Burdens.{are_below, busy-within, busy-is}
 use Rattle.jn_settling.proofs.Courses.{go-sound, waiting-is}
 use Rattle.jn_settling.proofs.Parts.{Busy, busy-has, get-some, next_intention, row_of, works-as}

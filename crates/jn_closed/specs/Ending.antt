@@ -8,11 +8,11 @@ use Rattle.jn_order.specs.Files.{AllFiles}
 use Rattle.jn_rows.specs.Stable.{StableState, Pick}
 use Rattle.jn_machine.specs.World.{Commit, IsSerial, replay}
 use Rattle.jn_machine.specs.Order.{CommitsOnce}
-use Rattle.jn_protocol.specs.World.{World, Memory, commits_in}
+use Rattle.jn_protocol.specs.World.{World, Memory, commits_in, servers_from}
 use Rattle.jn_protocol.specs.Steps.{Step, Crash, Narrow, Restart, Dismiss, CloseClients}
 use Rattle.jn_moves.specs.Mirrors.{commits_of}
 use Rattle.jn_settling.specs.Course.{Course, go_on}
-use Rattle.jn_settling.specs.Settle.{Chance, servers_from, settled}
+use Rattle.jn_settling.specs.Settle.{Chance, settled}
 use Rattle.jn_settled.specs.Settled.{AreUp}
 
 -- ---- the end

@@ -7,11 +7,11 @@ ghost use Rattle.jn_base.specs.declared.names.ServerNo.{ServerNo};
 ghost use Rattle.jn_base.specs.declared.names.LockUnit.TheVariants.{File};
 ghost use Rattle.jn_order.specs.Files.{AllFiles, there};
 ghost use Rattle.jn_rows.specs.Stable.{Pick};
-ghost use Rattle.jn_protocol.specs.World.{opening};
+ghost use Rattle.jn_protocol.specs.World.{opening, servers_from};
 ghost use Rattle.jn_protocol.specs.Steps.{Step, run, IsRun};
 ghost use Rattle.jn_protocol.specs.Example.{the_server, the_file, start};
 ghost use Rattle.jn_settling.specs.Course.{Course, opening_course, go_on};
-ghost use Rattle.jn_settling.specs.Settle.{Chance, servers_from};
+ghost use Rattle.jn_settling.specs.Settle.{Chance};
 ghost use Rattle.jn_closed.specs.Example.{with_a_flag, finds_both, the_last};
 ghost use Rattle.jn_closed.specs.Ending.{Start, end_steps, ended, IsClosed, IsAsCommitted, Leaves};
 

@@ -10,14 +10,13 @@ use Rattle.jn_base.proofs.Tells.{server_tells}
 use Rattle.jn_order.specs.Files.{AllFiles}
 use Rattle.jn_rows.specs.Stable.{StableState, Pick}
 use Rattle.jn_rows.specs.Worker.{commit_holder}
-use Rattle.jn_protocol.specs.World.{World, Memory, opening}
+use Rattle.jn_protocol.specs.World.{World, Memory, opening, servers_from}
 use Rattle.jn_protocol.specs.Steps.{Step, Dismiss, Crash, Narrow, Restart, CloseClients, IsStep, after, narrow, run, IsRun}
 use Rattle.jn_reported.specs.Printing.{Printed}
 use Rattle.jn_reported.specs.Reported.{Item, steps_of, world_of, IsReported}
 use Rattle.jn_reported.specs.Ending.{Comeback, Ending, restarts_from, steps_at_end, world_at_end, ArePrinted, IsEnding}
-use Rattle.jn_reported.specs.Ending as ending
 use Rattle.jn_settling.specs.Course.{Course, opening_course, go, go_on}
-use Rattle.jn_settling.specs.Settle.{Chance, Chances, servers_from, clients_from, first_busy, next_step, onward, until_rest, ask_again, settled}
+use Rattle.jn_settling.specs.Settle.{Chance, Chances, clients_from, first_busy, next_step, onward, until_rest, ask_again, settled}
 use Rattle.jn_settling.proofs.Courses.{waiting-is}
 use Rattle.jn_talk.proofs.Reports.{steps-append}
 use Rattle.jn_settling.proofs.Settling.{on-world}
@@ -97,10 +96,6 @@ they-come all (x ∷ xs) first h = (ap (λ k. start_at k all) (no-more first) �
     later : (a b : ℕ) → a + 1 + b ≡ a + suc b
     later a b = omega arith
 
-servers-same : (first n : ℕ) → ending.servers_from first n ≡ servers_from first n
-servers-same first zero = refl
-servers-same first (suc n) = ap (λ l. record { 0 = first } ∷ l) (servers-same (first + 1) n)
-
 module _ (n : ℕ) (at_most : n ≤ 8) where
   -- the first steps may come where the last ones may, and lead where the second ones lead
   abbrev Do : List Step → List Step → List Step → Type 0
@@ -137,8 +132,7 @@ module _ (n : ℕ) (at_most : n ≤ 8) where
   come e settling = restarts_from 0 e.comebacks ++ (closes ++ settling)
 
   steps-are : (e : Ending) → steps_at_end n e ≡ Dismiss ∷ (crashes ++ come e e.settling)
-  steps-are e = ap (λ (l : List ServerNo). Dismiss ∷ (map Crash l ++ restarts_from 0 e.comebacks ++ map CloseClients l ++ e.settling)) (servers-same 0 n)
-      ∙ ap (λ l. Dismiss ∷ l) (append_assoc (crashes ++ restarts_from 0 e.comebacks) closes e.settling ∙ append_assoc crashes (restarts_from 0 e.comebacks) (closes ++ e.settling))
+  steps-are e = ap (λ l. Dismiss ∷ l) (append_assoc (crashes ++ restarts_from 0 e.comebacks) closes e.settling ∙ append_assoc crashes (restarts_from 0 e.comebacks) (closes ++ e.settling))
 
   do-end : (e : Ending) → length e.comebacks ≡ n → Do (end_steps (starts e) (servers_from 0 n)) (steps_at_end n (record e { settling = [] })) (steps_at_end n e)
   do-end e long = subst (λ l. Do (end_steps (starts e) (servers_from 0 n)) l (steps_at_end n e)) (sym (steps-are (record e { settling = [] }))) (subst (λ l. Do (end_steps (starts e) (servers_from 0 n)) (Dismiss ∷ (crashes ++ come e [])) l) (sym (steps-are e))

@@ -1,8 +1,9 @@
 -- A run that ends by a whole settle: the commit that the restart finds is carried out.
 use Rattle.std.specs.Prelude.{[], ◌∷◌, ◌++◌}
+use Rattle.jn_protocol.specs.World.{servers_from}
 use Rattle.jn_protocol.specs.Steps.{Work}
 use Rattle.jn_protocol.specs.Example.{the_server, much, delivered}
-use Rattle.jn_settling.specs.Settle.{servers_from, clients_from, ask_again}
+use Rattle.jn_settling.specs.Settle.{clients_from, ask_again}
 use Rattle.jn_reported.specs.Ending.{Ending}
 use Rattle.jn_shown.specs.Example.{an_end}
 

@@ -1,6 +1,6 @@
 -- The whole system between two steps: what each server and client remembers, what is stable at each server, every message
 -- that was sent, and every line that was told.
-use Rattle.std.specs.Prelude.{ℕ, Bool, if◌then◌else◌, List, [], ◌∷◌, ◌++◌, Option, Some, None}
+use Rattle.std.specs.Prelude.{ℕ, zero, suc, ◌+◌, Bool, if◌then◌else◌, List, [], ◌∷◌, ◌++◌, Option, Some, None}
 use Rattle.std.specs.List.{list_any}
 use Rattle.jn_base.specs.declared.names.ServerNo.{ServerNo}
 use Rattle.jn_base.specs.declared.names.ClientNo.{ClientNo}
@@ -43,6 +43,11 @@ at_server f s x q = if server_eq s q then x else f q
 
 abbrev pub at_client : {A : Type 0} → (ClientNo → A) → ClientNo → A → ClientNo → A
 at_client f c x d = if client_eq c d then x else f d
+
+-- so many servers from this number on
+abbrev pub servers_from : ℕ → ℕ → List ServerNo
+servers_from first zero = []
+servers_from first (suc count) = record { 0 = first } ∷ servers_from (first + 1) count
 
 -- ---- what the lines say
 

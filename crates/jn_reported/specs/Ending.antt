@@ -12,7 +12,7 @@ use Rattle.jn_report.specs.declared.line.Text.TheVariants.{Commits}
 use Rattle.jn_report.specs.declared.line.Line.{Line}
 use Rattle.jn_serial.specs.Lines.{history_of}
 use Rattle.jn_rows.specs.Stable.{Pick}
-use Rattle.jn_protocol.specs.World.{World, opening}
+use Rattle.jn_protocol.specs.World.{World, opening, servers_from}
 use Rattle.jn_protocol.specs.Steps.{Step, Dismiss, Crash, Restart, CloseClients, Deliver, Work, Nudge, Again, after, run, IsRun}
 use Rattle.jn_reported.specs.Printing.{Printed, text_printed, IsPrinted}
 use Rattle.jn_reported.specs.Reported.{Does, Item, told_by, world_of, lines_of, IsReported}
@@ -30,11 +30,6 @@ pub record Ending : Type 0 where
   pub prints : List (List Printed)
 
 -- ---- its steps
-
--- so many servers from this number on
-abbrev pub servers_from : ℕ → ℕ → List ServerNo
-servers_from first zero = []
-servers_from first (suc count) = record { 0 = first } ∷ servers_from (first + 1) count
 
 abbrev pub restarts_from : ℕ → List Comeback → List Step
 restarts_from first [] = []

@@ -23,13 +23,13 @@ use Rattle.jn_rows.specs.Outcomes.{Sent, sends as sends_row}
 use Rattle.jn_rows.specs.Worker.{work_of, name_from, new_work, open_row}
 use Rattle.jn_rows.specs.Client.{ClientTable, Commanded, Refuses, Sends, command_row, take_row, is_current, is_tid, opens, opened_row, if_waits, outcome_row, is_end_or_abort, over}
 use Rattle.jn_rows.specs.ClientLaws.{after_command}
-use Rattle.jn_protocol.specs.World.{World, Memory, at_client}
+use Rattle.jn_protocol.specs.World.{World, Memory, at_client, servers_from}
 use Rattle.jn_protocol.specs.Servers.{Room, server_row}
 use Rattle.jn_protocol.specs.Steps.{Step, Tell, Again, Deliver, Work, Nudge, StopDelivery, StopWork, Dismiss, IsStep, after, handed, commanded, works}
 use Rattle.jn_protocol.specs.LockFacts.{UpFact, ServerFact}
 use Rattle.jn_protocol.proofs.Tables.{of-found}
 use Rattle.jn_settling.specs.Course.{Course, go, go_on}
-use Rattle.jn_settling.specs.Settle.{Chance, servers_from, clients_from, first_busy, handing, working, next_step, onward, until_rest, ask_again}
+use Rattle.jn_settling.specs.Settle.{Chance, clients_from, first_busy, handing, working, next_step, onward, until_rest, ask_again}
 use Rattle.jn_settling.proofs.Courses.{Sound, go-sound}
 use Rattle.jn_order.specs.Files.{AllFiles}
 use Rattle.jn_base.specs.declared.names.Cause.TheVariants.{Requested}

@@ -12,10 +12,10 @@ use Rattle.jn_msgs.specs.declared.message.Message.TheVariants as messages
 use Rattle.jn_rows.specs.declared.client.Outstanding.{Outstanding}
 use Rattle.jn_rows.specs.Stable.{stable}
 use Rattle.jn_rows.specs.Client.{ClientTable, sent_again, is_begin, is_end_or_abort, names_of}
-use Rattle.jn_protocol.specs.World.{World, Memory}
+use Rattle.jn_protocol.specs.World.{World, Memory, servers_from}
 use Rattle.jn_protocol.specs.Servers.{Room, server_row}
 use Rattle.jn_settling.specs.Course.{Course, go_on}
-use Rattle.jn_settling.specs.Settle.{Chance, servers_from, clients_from, until_rest, ask_again}
+use Rattle.jn_settling.specs.Settle.{Chance, clients_from, until_rest, ask_again}
 use Rattle.jn_settled.specs.Settled.{AreUp, AreAnswered}
 use Rattle.jn_settled.proofs.Talk.{IsStill, FitsCommand}
 use Rattle.jn_settled.proofs.Ways.{Reply, Answering, OnTheWay, rest-answers, ask-on-the-way}

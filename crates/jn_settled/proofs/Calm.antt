@@ -15,11 +15,11 @@ use Rattle.jn_rows.specs.Stable.{StableState, Pick, stable}
 use Rattle.jn_rows.specs.Outcomes.{RowOutcome, Sent}
 use Rattle.jn_rows.specs.Worker.{going_work, going_row, carried_row, intentions_of}
 use Rattle.jn_rows.specs.Client.{take_row, again_row}
-use Rattle.jn_protocol.specs.World.{World, Memory}
+use Rattle.jn_protocol.specs.World.{World, Memory, servers_from}
 use Rattle.jn_protocol.specs.Servers.{Room, storage_of, of_worker, of_step, server_row, server_again}
 use Rattle.jn_protocol.specs.Steps.{Step, NextEvent, Tell, Timeout, Crash, Narrow, StopRestart, Restart, Dismiss, CloseClients, Again, Deliver, Work, Nudge, StopDelivery, StopWork, IsStep, after, sent_now, taken_by, done, at_memory, handed, work, works, nudge}
 use Rattle.jn_settling.specs.Course.{Course, numbered, still_waiting, without_number, go, go_on}
-use Rattle.jn_settling.specs.Settle.{Chance, servers_from, is_busy, first_busy, handing, working, next_step, onward, until_rest, ask_again}
+use Rattle.jn_settling.specs.Settle.{Chance, is_busy, first_busy, handing, working, next_step, onward, until_rest, ask_again}
 use Rattle.jn_settling.proofs.Burdens.{are_below, busy-within, busy-is, get-more, get-next}
 use Rattle.jn_settling.proofs.Courses.{Sound, waiting-is}
 use Rattle.jn_settling.proofs.Parts.{get-some}

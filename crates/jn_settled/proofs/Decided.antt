@@ -21,11 +21,11 @@ use Rattle.jn_rows.specs.Outcomes.{Sent}
 use Rattle.jn_rows.specs.Worker.{WorkerTable, work_at, worker_again}
 use Rattle.jn_rows.specs.Coordinator.{coordinator_again}
 use Rattle.jn_rows.specs.Client.{ClientTable, is_tid, is_current, is_end_or_abort, sent_again, again_row}
-use Rattle.jn_protocol.specs.World.{World, Memory, opening}
+use Rattle.jn_protocol.specs.World.{World, Memory, opening, servers_from}
 use Rattle.jn_protocol.specs.Steps.{sent_now}
 use Rattle.jn_runs.proofs.Facts.{is_closing}
 use Rattle.jn_settling.specs.Course.{Course}
-use Rattle.jn_settling.specs.Settle.{Chance, servers_from, clients_from, until_rest}
+use Rattle.jn_settling.specs.Settle.{Chance, clients_from, until_rest}
 use Rattle.jn_settling.specs.Bounds.{IsAtRest}
 use Rattle.jn_settling.proofs.Settling.{nothing-goes}
 use Rattle.jn_reported.proofs.Lists.{get-in}

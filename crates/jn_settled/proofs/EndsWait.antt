@@ -10,10 +10,10 @@ use Rattle.jn_order.specs.Files.{AllFiles}
 use Rattle.jn_rows.specs.Stable.{stable}
 use Rattle.jn_rows.specs.Outcomes.{Sent}
 use Rattle.jn_rows.specs.Client.{ClientTable, sent_again, take_row}
-use Rattle.jn_protocol.specs.World.{World, Memory, opening, new_memory}
+use Rattle.jn_protocol.specs.World.{World, Memory, opening, new_memory, servers_from}
 use Rattle.jn_protocol.specs.Servers.{server_row, lines_of}
 use Rattle.jn_settling.specs.Course.{Course}
-use Rattle.jn_settling.specs.Settle.{Chance, servers_from, clients_from, until_rest}
+use Rattle.jn_settling.specs.Settle.{Chance, clients_from, until_rest}
 use Rattle.jn_settling.specs.Bounds.{IsAtRest}
 use Rattle.jn_settling.proofs.Courses.{Sound}
 use Rattle.jn_reported.proofs.Reached.{Reached}

@@ -18,9 +18,9 @@ use Rattle.jn_rows.specs.Stable.{StableState, FlagState, stable, is_going}
 use Rattle.jn_rows.specs.Outcomes.{Sent}
 use Rattle.jn_rows.specs.Worker.{WorkerTable, work_at, going_work}
 use Rattle.jn_rows.specs.Coordinator.{transaction_at, is_work, all_in}
-use Rattle.jn_protocol.specs.World.{World, Memory, opening, new_memory}
+use Rattle.jn_protocol.specs.World.{World, Memory, opening, new_memory, servers_from}
 use Rattle.jn_settling.specs.Course.{Course}
-use Rattle.jn_settling.specs.Settle.{Chance, servers_from, clients_from, until_rest}
+use Rattle.jn_settling.specs.Settle.{Chance, clients_from, until_rest}
 use Rattle.jn_settling.specs.Sizes.{is_few, are_near, is_small_stage, is_committed, committed_at, TableSizes, ServerSizes}
 use Rattle.jn_settling.specs.Bounds.{IsAtRest, NothingGoes}
 use Rattle.jn_settled.specs.Settled.{AreUp, AreForgotten}

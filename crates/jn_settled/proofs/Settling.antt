@@ -4,10 +4,10 @@ use Rattle.jn_base.specs.declared.names.ServerNo.{ServerNo}
 use Rattle.jn_order.specs.Files.{AllFiles}
 use Rattle.jn_rows.specs.declared.client.Outstanding.{Outstanding}
 use Rattle.jn_rows.specs.Stable.{FlagState}
-use Rattle.jn_protocol.specs.World.{World, Memory, opening, new_memory}
+use Rattle.jn_protocol.specs.World.{World, Memory, opening, new_memory, servers_from}
 use Rattle.jn_protocol.specs.Steps.{Step, IsRun}
 use Rattle.jn_settling.specs.Course.{Course, opening_course, go, go_on}
-use Rattle.jn_settling.specs.Settle.{Chance, servers_from, clients_from, until_rest, ask_again, settled}
+use Rattle.jn_settling.specs.Settle.{Chance, clients_from, until_rest, ask_again, settled}
 use Rattle.jn_settling.specs.Weights.{burden}
 use Rattle.jn_settling.specs.Bounds.{IsAtRest}
 use Rattle.jn_settling.proofs.Resting.{PartEnds, part-ends}

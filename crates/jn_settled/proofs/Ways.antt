@@ -15,11 +15,11 @@ use Rattle.jn_rows.specs.declared.client.Taken.TheVariants as taken
 use Rattle.jn_rows.specs.Stable.{Pick, stable}
 use Rattle.jn_rows.specs.Outcomes.{RowOutcome, Sent}
 use Rattle.jn_rows.specs.Client.{ClientTable, take_row, again_row}
-use Rattle.jn_protocol.specs.World.{World, Memory, at_client}
+use Rattle.jn_protocol.specs.World.{World, Memory, at_client, servers_from}
 use Rattle.jn_protocol.specs.Servers.{Room, server_row, server_step}
 use Rattle.jn_protocol.specs.Steps.{Step, NextEvent, Tell, Again, Deliver, Work, Nudge, Timeout, StopDelivery, StopWork, Crash, Narrow, StopRestart, Restart, Dismiss, CloseClients, IsStep, after, ends, at_memory, handed, work, works, nudge, timeout, crash, narrow, stop_restart, restart, close_clients, took, taken_by, sent_now}
 use Rattle.jn_settling.specs.Course.{Course, numbered, still_waiting, without_number, go, go_on}
-use Rattle.jn_settling.specs.Settle.{Chance, servers_from, first_busy, handing, working, next_step, onward, until_rest, ask_again}
+use Rattle.jn_settling.specs.Settle.{Chance, first_busy, handing, working, next_step, onward, until_rest, ask_again}
 use Rattle.jn_settling.proofs.Burdens.{are_below, get-more, get-next}
 use Rattle.jn_settling.proofs.Courses.{Grows, Sound, grows, waiting-is}
 use Rattle.jn_settling.proofs.Parts.{get-some}

@@ -1,5 +1,5 @@
 -- Whatever is named is at one of so many servers, and each message to a server is for one of these.
-use Rattle.std.proofs.Common.{◌≡◌, ◌≢◌, ◌⊎◌, inl, inr, ◌≤◌, ◌<◌, ℕ, zero, suc, ◌+◌, Bool, true, false, List, [], ◌∷◌, ◌++◌, take, Option, Some, None, true≢false, refl, sym, ◌∙◌, ap, subst, arith}
+use Rattle.std.proofs.Common.{◌≡◌, ◌≤◌, ◌<◌, ℕ, zero, suc, ◌+◌, Bool, true, false, List, [], ◌∷◌, ◌++◌, take, Option, Some, None, true≢false, refl, sym, ◌∙◌, ap, subst, arith}
 use Rattle.std.specs.Prelude.{if◌then◌else◌, slice_get, ◌&&◌, not, nat_lt, nat_eq, length}
 use Rattle.std.proofs.lemmas.Bool.Decides.{nat_tests}
 use Rattle.jn_base.specs.declared.names.ServerNo.{ServerNo}
@@ -7,7 +7,6 @@ use Rattle.jn_base.specs.declared.names.ClientNo.{ClientNo}
 use Rattle.jn_base.specs.declared.names.Tid.{Tid}
 use Rattle.jn_base.specs.declared.names.WorkId.{WorkId}
 use Rattle.jn_base.specs.declared.names.Tickets.{Tickets}
-use Rattle.jn_base.specs.declared.names.LockUnit.{LockUnit}
 use Rattle.jn_base.specs.declared.names.Cause.{Cause}
 use Rattle.jn_base.specs.declared.names.Party.{Party}
 use Rattle.jn_base.specs.declared.names.Party.TheVariants.{Client, Server}
@@ -15,7 +14,7 @@ use Rattle.jn_base.specs.declared.op.Op.{Op}
 use Rattle.jn_base.specs.declared.op.Answer.{Answer}
 use Rattle.jn_base.specs.declared.op.Command.{Command}
 use Rattle.jn_base.specs.declared.op.Command.TheVariants as commands
-use Rattle.jn_base.specs.Names.{server_eq, client_eq, work_eq}
+use Rattle.jn_base.specs.Names.{server_eq, client_eq}
 use Rattle.jn_base.proofs.Tells.{tid_tells, work_tells}
 use Rattle.jn_order.specs.Files.{AllFiles, change, answer_to}
 use Rattle.jn_records.specs.NetLists.{list_change}
@@ -24,31 +23,28 @@ use Rattle.jn_msgs.specs.declared.message.Message.{Message}
 use Rattle.jn_msgs.specs.declared.message.Message.TheVariants as messages
 use Rattle.jn_msgs.specs.declared.message.Vote.{Vote}
 use Rattle.jn_msgs.specs.declared.message.Vote.TheVariants as votes
-use Rattle.jn_msgs.specs.declared.message.Outcome.{Outcome}
 use Rattle.jn_msgs.specs.declared.message.Outcome.TheVariants as outcomes
-use Rattle.jn_report.specs.declared.line.Text.{Text}
 use Rattle.jn_rows.specs.declared.client.Outstanding.{Outstanding}
 use Rattle.jn_rows.specs.declared.client.Taken.{Taken}
 use Rattle.jn_rows.specs.declared.client.Taken.TheVariants as taken
 use Rattle.jn_rows.specs.declared.worker.Work.{Work as WorkEntry}
 use Rattle.jn_rows.specs.declared.worker.Phase.{Phase}
 use Rattle.jn_rows.specs.declared.worker.Phase.TheVariants as phases
-use Rattle.jn_rows.specs.declared.worker.ActiveWork.{ActiveWork}
 use Rattle.jn_rows.specs.declared.coordinator.Transaction.{Transaction}
 use Rattle.jn_rows.specs.declared.coordinator.Stage.{Stage}
 use Rattle.jn_rows.specs.declared.coordinator.Stage.TheVariants.{Open, Voting, Committed, Aborted}
-use Rattle.jn_rows.specs.Stable.{StableState, Prepared, FlagState, Pick, Change, AddReady, MarkGoing, CarryOut, RemoveWork, AddFlag, DropFlag, made_by, made_all, stable, gone_on, is_going}
+use Rattle.jn_rows.specs.Stable.{StableState, Prepared, FlagState, Pick, Change, AddReady, MarkGoing, RemoveWork, made_by, made_all, stable}
 use Rattle.jn_rows.specs.Outcomes.{RowOutcome, Sent}
-use Rattle.jn_rows.specs.Client.{ClientTable, Commanded, Refuses, Sends, command_row, take_row, if_waits, is_current, opens, opened_row, decided_row, outcome_row, sent_again}
+use Rattle.jn_rows.specs.Client.{ClientTable, Commanded, Refuses, Sends, command_row, take_row, if_waits, is_current, opens, opened_row, sent_again}
 use Rattle.jn_rows.specs.Worker.{WorkerTable, WorkStorage, Wanted, work_at, work_of, with_phase, without, after_grant, breaks_at, broken_by, open_row, wants_of, is_fit, refusal_of, granted_row, repeated, op_phase, op_row, conflict, commit_wants, vote_of, shortage, need_in, prepared_row, prepare_phase, prepare_row, commit_phase, drop_phase, drop_row, worker_row, going_work, going_row, carried_row, intentions_of, worker_step, worker_again, timed_out, restored_work, restored_worker}
 use Rattle.jn_rows.specs.Worker as worker
-use Rattle.jn_rows.specs.Coordinator.{CoordinatorTable, transaction_at, is_work, all_in, besides, drops, commits, prepares, committed_to, end_promised, end_stage, end_row, abort_stage, abort_request, told_stage, inquire_row, with_work, counted_vote, vote_stage, vote_row, done_stage, done_row, thanks_stage, thanks_row, begin_again, begun_by, after_closing, coordinator_row, commit_row, abort_row, told_again, coordinator_again, close_clients_row}
+use Rattle.jn_rows.specs.Coordinator.{CoordinatorTable, transaction_at, is_work, all_in, besides, drops, commits, prepares, end_stage, end_row, abort_stage, abort_request, told_stage, inquire_row, with_work, counted_vote, vote_stage, vote_row, begin_again, begun_by, after_closing, coordinator_row, commit_row, abort_row, told_again, coordinator_again, close_clients_row}
 use Rattle.jn_machine.specs.Steps.{with_epoch}
 use Rattle.jn_protocol.specs.World.{World, Memory, at_server, new_memory, opening}
 use Rattle.jn_protocol.specs.Servers.{Room, storage_of, server_row, server_step, of_worker, of_coordinator, of_step, of_timeout, server_timeout, is_for_worker, restored}
 use Rattle.jn_protocol.specs.Steps.{Step, NextEvent, Tell, Again, Deliver, Work, Nudge, Timeout, StopDelivery, StopWork, Crash, Narrow, StopRestart, Restart, Dismiss, CloseClients, IsStep, after, ends, at_memory, handed, work, works, nudge, timeout, crash, narrow, stop_restart, restart, close_clients, took, commanded, sent_now}
 use Rattle.jn_protocol.specs.LockFacts.{LockFacts}
-use Rattle.jn_protocol.proofs.CoordinatorRows.{is_of_flag, are_of_flags, coordinator-aside, close-aside}
+use Rattle.jn_protocol.proofs.CoordinatorRows.{are_of_flags, coordinator-aside, close-aside}
 use Rattle.jn_settling.specs.Sizes.{are_near, is_few, IsSmall, is_small, is_small_stage, are_small_stages, Sizes}
 use Rattle.jn_settling.proofs.ClientFits.{sent_with}
 use Rattle.jn_settling.proofs.WorldSizes.{holds-of, up-sizes, up-locks}
@@ -98,10 +94,7 @@ inside-both n (x ∷ a) b h k = let again = inside-both n a b in grind (arith, h
 
 inside-at : (n : ℕ) (xs : List Sent) (k : ℕ) (x : Sent) → are_inside n xs ≡ true → slice_get xs k ≡ Some x → is_inside n x ≡ true
 inside-at n [] k x h e = absurd (cc e)
-inside-at n (y ∷ ys) zero x h e = subst (λ (z : Sent). is_inside n z ≡ true) (some e) (grind (arith, h))
-  where
-    some : Some y ≡ Some x → y ≡ x
-    some q = cc
+inside-at n (y ∷ ys) zero x h e = grind (arith, h, e)
 inside-at n (y ∷ ys) (suc k) x h e = inside-at n ys k x (grind (arith, h)) e
 
 first-of : (a b : Bool) → (a && b) ≡ true → a ≡ true
@@ -217,25 +210,12 @@ module _ (n : ℕ) (t : CoordinatorTable) (free : ℕ) (k : Tickets) where
     abort-inside cause works l = inside-both n (drops y.tid works) _ (drops-inside n y.tid works l) (grind (arith, h))
 
     end-inside : (request : ℕ) (works : List WorkId) (s : Stage) → are_near n works ≡ true → is_small_stage n s ≡ true → Inside (end_stage t free k y request works s)
-    end-inside request works Open l m = either (nat_lt free 1) _ _ (abort-inside _ works l) (by works l)
-      where
-        by : (works : List WorkId) → are_near n works ≡ true → Inside (end_promised t k y request works)
-        by [] l = commit-inside request [] l
-        by (W ∷ Ws) l = prepares-inside n y.tid y.client (W ∷ Ws) h l
-    end-inside request works (Voting b) l m = prepares-inside n y.tid y.client (besides b.works b.ready) h (near-besides n b.works b.ready (few-near n b.works m))
-    end-inside request works (Committed d) l m = grind (arith, h)
-    end-inside request works (Aborted cause) l m = grind (arith, h)
+    end-inside request works s l m = grind (arith, commit-inside request, abort-inside, prepares-inside n y.tid y.client, near-besides n, h, l, m)
 
     abort-stage-inside : (works : List WorkId) (s : Stage) → are_near n works ≡ true → is_small_stage n s ≡ true → Inside (abort_stage t k y works s)
-    abort-stage-inside works Open l m = abort-inside _ works l
-    abort-stage-inside works (Voting b) l m = abort-inside _ _ (near-both n b.works (besides works b.works) (few-near n b.works m) (near-besides n works b.works l))
-    abort-stage-inside works (Committed d) l m = grind (arith, h)
-    abort-stage-inside works (Aborted cause) l m = grind (arith, h)
+    abort-stage-inside works s l m = grind (arith, abort-inside, near-both n, near-besides n, h, l, m)
 
     vote-inside : (W : WorkId) (vote : Vote) (s : Stage) → work_near n W ≡ true → is_small_stage n s ≡ true → Inside (vote_stage t k y W vote s)
-    vote-inside W vote Open l m = refl
-    vote-inside W vote (Committed d) l m = told-inside y.tid W (Committed d) h l
-    vote-inside W vote (Aborted cause) l m = told-inside y.tid W (Aborted cause) h l
     vote-inside W vote (Voting b) l m = either (is_work W b.works) _ _ (by vote) refl
       where
         works : are_near n b.works ≡ true
@@ -243,10 +223,11 @@ module _ (n : ℕ) (t : CoordinatorTable) (free : ℕ) (k : Tickets) where
 
         by : (vote : Vote) → Inside (counted_vote t k y b W vote)
         by votes.Ready = either (all_in b.works (with_work W b.ready)) _ _ (commit-inside b.request b.works works) refl
-        by (votes.Waiting u held) = either (is_work W b.ready) _ _ refl (grind (arith, h))
+        by (votes.Waiting u held) = grind (arith, h)
         by (votes.Lost i j) = abort-inside _ (besides b.works (W ∷ [])) (near-besides n b.works (W ∷ []) works)
         by (votes.Broken u held) = abort-inside _ b.works works
         by (votes.Full i j need) = abort-inside _ b.works works
+    vote-inside W vote s l m = grind (arith, h, l)
 
   module _ (mine : nat_lt k.server.0 n ≡ true) (tids : all_owned (near_owner n) t.transactions ≡ true) (small : are_small_stages n t.transactions ≡ true) where
     -- a row on a transaction, if it is there
@@ -344,26 +325,14 @@ module _ (n : ℕ) (t : WorkerTable) (s : WorkStorage) (k : Tickets) (h : table_
       choose (nat_eq number (a.last + 1)) _ _ (grants answer (wants_of op (is_fit answer)) (refusal_of t w.name a op answer (wants_of op (is_fit answer)))) (choose (nat_eq number a.last) _ _ (repeats a.kept) (still _ refl))
     where
       grants : (answer : Answer) (wants : List Wanted) (o : Option Answer) → RowNear n (granted_row t k c request w a op answer wants o)
-      grants answer wants (Some refusal) = record { table = phase-near n w.name _ t h; changes_are = refl; sent_are = refl }
-      grants answer wants None = record { table = phase-near n w.name _ _ (grant-near n w.tid w.name wants t h); changes_are = refl; sent_are = refl }
+      grants answer wants o = grind (arith, phase-near n, grant-near n, h)
 
       repeats : (o : Option Answer) → RowNear n (repeated t k c request o)
-      repeats (Some answer) = still _ refl
-      repeats None = still _ refl
-  op-near c request w number op (phases.Broken u by) = still _ refl
-  op-near c request w number op (phases.Prepared p) = still _ refl
+      repeats o = grind (arith, h)
+  op-near c request w number op _ = still _ refl
 
   prepare-near : (T : Tid) (c : ClientNo) (w : WorkEntry) (p : Phase) → near n T ≡ true → entry_near n w ≡ true → RowNear n (prepare_phase t s k T c w p)
-  prepare-near T c w p l e = by p
-    where
-      voted : (a : ActiveWork) (vote : Vote) → RowNear n (prepared_row t k T c w a vote)
-      voted a votes.Ready = record { table = phase-near n w.name _ _ (grant-near n w.tid w.name (commit_wants a.writes) t h); changes_are = grind (arith, e); sent_are = grind (arith, l, e) }
-      voted a _ = still _ (grind (arith, l, e))
-
-      by : (p : Phase) → RowNear n (prepare_phase t s k T c w p)
-      by (phases.Active a) = voted a (vote_of (conflict w.name (commit_wants a.writes) t) (shortage s.free (need_in s.state.files a.list)))
-      by (phases.Broken u held) = still _ (grind (arith, l, e))
-      by (phases.Prepared p) = choose (is_going (s.state.works w.name)) _ _ (still _ refl) (still _ (grind (arith, l, e)))
+  prepare-near T c w p l e = grind (arith, phase-near n, grant-near n, h, l, e)
 
   drop-near : (W : WorkId) (p : Phase) → RowNear n (drop_phase t s k W p)
   drop-near W p = let less = less-near n W t h in grind (arith, h, less)
@@ -380,11 +349,7 @@ module _ (n : ℕ) (t : WorkerTable) (s : WorkStorage) (k : Tickets) (h : table_
       by (Some w) e = some w (found-entry n W t w h e)
 
   worker-near : (m : Message) → nat_lt k.server.0 n ≡ true → is_named n m ≡ true → RowNear n (worker_row t s k m)
-  worker-near (messages.Open c request T) mine l = by (work_of T t)
-    where
-      by : (o : Option WorkEntry) → RowNear n (open_row t k c request T o)
-      by (Some w) = still _ refl
-      by None = choose (nat_lt (length t) 64) _ _ (record { table = more-near n t _ h (grind (arith, mine, l)); changes_are = refl; sent_are = refl }) (still _ refl)
+  worker-near (messages.Open c request T) mine l = grind (arith, more-near n t, h, mine, l)
   worker-near (messages.Op c request W number op) mine l = on-work W (op_row t s.state.files k c request W number op) (still _ refl) (λ w e. op-near c request w number op w.phase)
   worker-near (messages.Prepare T c W) mine l = on-work W (prepare_row t s k T c W) (still _ (grind (arith, l))) (λ w e. prepare-near T c w w.phase (first-of _ _ l) e)
   worker-near (messages.Commit T W) mine l = on-work W (worker.commit_row t s k T W) (still _ (grind (arith, l))) (λ w e. commit-near W w.phase)
@@ -417,21 +382,12 @@ module _ (n : ℕ) (t : WorkerTable) (s : WorkStorage) (k : Tickets) (h : table_
 abbrev pub StoredNear : ℕ → StableState → Type 0
 StoredNear n x = (W : WorkId) (p : Prepared) → x.works W ≡ Some p → (work_near n W && near n p.tid) ≡ true
 
-some-prepared : (a b : Prepared) → Some a ≡ Some b → a ≡ b
-some-prepared a b e = cc
-
 none-prepared : (a : Prepared) → None ≡ Some a → ⊥
 none-prepared a e = cc
 
 changed-near : (n : ℕ) (c : Change) (x : StableState) → change_near n c ≡ true → StoredNear n x → StoredNear n (made_by c x)
 changed-near n (AddReady head list reads) x h old W p e = let tells = work_tells head.work W in let before = old W p in grind (arith, h, e)
-changed-near n (MarkGoing V) x h old W p e = by (x.works V) refl (work_tells V W) e
-  where
-    by : (o : Option Prepared) → x.works V ≡ o → ((work_eq V W ≡ true) × (V ≡ W)) ⊎ ((work_eq V W ≡ false) × (V ≢ W)) → (if work_eq V W then gone_on o else x.works W) ≡ Some p → (work_near n W && near n p.tid) ≡ true
-    by None q (inl t) e = absurd (none-prepared p (sym (ap (λ (b : Bool). if b then None else x.works W) t.0) ∙ e))
-    by (Some u) q (inl t) e = subst (λ (T : Tid). (work_near n W && near n T) ≡ true) (ap (λ (a : Prepared). a.tid) (some-prepared (record u { going = true }) p (sym (ap (λ (b : Bool). if b then Some (record u { going = true }) else x.works W) t.0) ∙ e)))
-        (old W u (ap x.works (sym t.1) ∙ q))
-    by o q (inr t) e = old W p (sym (ap (λ (b : Bool). if b then gone_on o else x.works W) t.0) ∙ e)
+changed-near n (MarkGoing V) x h old W p e = let tells = work_tells V W in let before = old V in let other = old W p in grind (arith, e)
 changed-near n (RemoveWork V) x h old W p e = let before = old W p in grind (arith, e)
 changed-near n c x h old W p e = old W p e
 
@@ -451,11 +407,7 @@ flags-near n (c ∷ cs) h = let again = flags-near n cs in grind (arith, h)
 
 restored-near : (n : ℕ) (x : StableState) (Ws : List WorkId) → StoredNear n x → table_near n (restored_worker x Ws) ≡ true
 restored-near n x [] h = refl
-restored-near n x (W ∷ Ws) h = by (x.works W) refl (restored-near n x Ws h)
-  where
-    by : (o : Option Prepared) → x.works W ≡ o → table_near n (restored_worker x Ws) ≡ true → table_near n (restored_work W o ++ restored_worker x Ws) ≡ true
-    by None e again = again
-    by (Some p) e again = let own = h W p e in grind (arith, again)
+restored-near n x (W ∷ Ws) h = let again = restored-near n x Ws h in let own = h W in grind (arith, again)
 
 -- ---- the world
 
@@ -522,28 +474,16 @@ module _ (n : ℕ) (at_most : n ≤ 8) (w : World) (sizes : Sizes n w) (locks : 
   -- ---- one of them changes
 
   works-one : (s : ServerNo) (o : Option Memory) → ((m : Memory) → o ≡ Some m → table_near n m.worker ≡ true) → (q : ServerNo) (m : Memory) → at_server w.memory s o q ≡ Some m → table_near n m.worker ≡ true
-  works-one s o new q = by (server_eq s q)
-    where
-      by : (b : Bool) (m : Memory) → (if b then o else w.memory q) ≡ Some m → table_near n m.worker ≡ true
-      by true = new
-      by false = h.works q
+  works-one s o new q m e = let now = new m in let old = h.works q m in grind (arith, e)
 
   works-of : (a : Memory) → table_near n a.worker ≡ true → (m : Memory) → Some a ≡ Some m → table_near n m.worker ≡ true
   works-of a l m e = subst (λ (z : Memory). table_near n z.worker ≡ true) (some-memory a m e) l
 
   stored-one : (s : ServerNo) (f : Pick → StableState) → ((c : Pick) → StoredNear n (f c)) → (q : ServerNo) (c : Pick) → StoredNear n (if server_eq s q then f c else w.found q c)
-  stored-one s f new q c = by (server_eq s q)
-    where
-      by : (b : Bool) → StoredNear n (if b then f c else w.found q c)
-      by true = new c
-      by false = h.stored q c
+  stored-one s f new q c W p e = let now = new c W p in let old = h.stored q c W p in grind (arith, e)
 
   clients-one : (c : ClientNo) (t : ClientTable) → client_near n t ≡ true → (d : ClientNo) → client_near n (if client_eq c d then t else w.clients d) ≡ true
-  clients-one c t l d = by (client_eq c d)
-    where
-      by : (b : Bool) → client_near n (if b then t else w.clients d) ≡ true
-      by true = l
-      by false = h.clients d
+  clients-one c t l d = let old = h.clients d in grind (arith, l)
 
   ends-near : (s : ServerNo) (k : Option ℕ) (stop : Option (Pick → ℕ)) (row : RowOutcome Memory) → MemoryNear row → AreNear n (ends s k stop row w)
   ends-near s k None row r = record {
@@ -589,8 +529,7 @@ module _ (n : ℕ) (at_most : n ≤ 8) (w : World) (sizes : Sizes n w) (locks : 
   tell-near c (Sends t to message) l = record { sent = inside-both n w.sent ((to, message) ∷ []) h.sent (grind (arith, l)); clients = clients-one c t (second-of _ _ l); works = h.works; stored = h.stored }
 
   again-near : (o : Option Outstanding) → is_inside_again n o ≡ true → are_inside n (sent_now (sent_again o)) ≡ true
-  again-near None l = refl
-  again-near (Some o) l = grind (arith, l)
+  again-near o l = grind (arith, l)
 
   step-near-all : (step : Step) → AreNear n (after step w)
   step-near-all NextEvent = record { sent = h.sent; clients = h.clients; works = h.works; stored = h.stored }
@@ -608,8 +547,7 @@ module _ (n : ℕ) (at_most : n ≤ 8) (w : World) (sizes : Sizes n w) (locks : 
   step-near-all (Timeout s T) = by (w.memory s) refl
     where
       timed : (m : Memory) → table_near n m.worker ≡ true → (o : Option WorkEntry) → table_near n (of_timeout m (timed_out m.worker o)).worker ≡ true
-      timed m l None = l
-      timed m l (Some v) = phase-near n v.name _ m.worker l
+      timed m l o = grind (arith, phase-near n, l)
 
       by : (o : Option Memory) → w.memory s ≡ o → AreNear n (timeout s T o w)
       by None e = h
@@ -626,12 +564,8 @@ module _ (n : ℕ) (at_most : n ≤ 8) (w : World) (sizes : Sizes n w) (locks : 
       by (Some m) = h
   step-near-all (StopRestart s raised) = by (w.memory s)
     where
-      state : (c : Pick) (b : Bool) → StoredNear n (if b then with_epoch (w.found s c) else w.found s c)
-      state c true = h.stored s c
-      state c false = h.stored s c
-
       by : (o : Option Memory) → AreNear n (stop_restart s raised o w)
-      by None = record { sent = h.sent; clients = h.clients; works = h.works; stored = stored-one s (λ c. if raised c then with_epoch (w.found s c) else w.found s c) (λ c. state c (raised c)) }
+      by None = record { sent = h.sent; clients = h.clients; works = h.works; stored = stored-one s (λ c. if raised c then with_epoch (w.found s c) else w.found s c) (λ c W p e. let old = h.stored s c W p in grind (arith, e)) }
       by (Some m) = h
   step-near-all (Restart s pick Ws Ts) = by (w.memory s)
     where

@@ -15,11 +15,11 @@ use Rattle.jn_rows.specs.Outcomes.{Sent}
 use Rattle.jn_rows.specs.Worker.{WorkerTable, worker_again}
 use Rattle.jn_rows.specs.Coordinator.{commits, besides, told_again, coordinator_again, committed_to}
 use Rattle.jn_rows.specs.Client.{again_row, sent_again}
-use Rattle.jn_protocol.specs.World.{World, Memory}
+use Rattle.jn_protocol.specs.World.{World, Memory, servers_from}
 use Rattle.jn_protocol.specs.Servers.{server_again}
 use Rattle.jn_protocol.specs.Steps.{Again, Nudge, after, nudge, sent_now}
 use Rattle.jn_settling.specs.Course.{Course, go, go_on}
-use Rattle.jn_settling.specs.Settle.{Chances, servers_from, clients_from, until_rest, ask_again, settled}
+use Rattle.jn_settling.specs.Settle.{Chances, clients_from, until_rest, ask_again, settled}
 use Rattle.jn_settling.specs.Weights.{weight_at, weigh_all, weigh, burden}
 use Rattle.jn_settling.specs.Sizes.{are_small_stages, is_small_stage}
 use Rattle.jn_settling.specs.Bounds.{deliveries, IsSettle}

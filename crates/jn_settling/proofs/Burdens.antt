@@ -14,11 +14,11 @@ use Rattle.jn_rows.specs.declared.client.Taken.TheVariants as taken
 use Rattle.jn_rows.specs.Stable.{Pick, stable, made_all}
 use Rattle.jn_rows.specs.Outcomes.{RowOutcome, Sent}
 use Rattle.jn_rows.specs.Client.{ClientTable, take_row}
-use Rattle.jn_protocol.specs.World.{World, Memory}
+use Rattle.jn_protocol.specs.World.{World, Memory, servers_from}
 use Rattle.jn_protocol.specs.Servers.{Room, server_row, server_step}
 use Rattle.jn_protocol.specs.Steps.{ends, done, stopped, at_memory, handed, works, took, sent_now}
 use Rattle.jn_protocol.specs.LockFacts.{LockFacts}
-use Rattle.jn_settling.specs.Settle.{servers_from, is_busy, first_busy}
+use Rattle.jn_settling.specs.Settle.{is_busy, first_busy}
 use Rattle.jn_settling.specs.Weights.{weight, weight_at, weigh_all, weigh, goings_at, sum_over, going_works}
 use Rattle.jn_settling.specs.Course.{numbered}
 use Rattle.jn_settling.specs.Sizes.{Sizes, IsSmall}

@@ -11,13 +11,12 @@ use Rattle.jn_rows.specs.declared.client.Taken.TheVariants as taken
 use Rattle.jn_rows.specs.Stable.{Pick, stable}
 use Rattle.jn_rows.specs.Outcomes.{RowOutcome, Sent}
 use Rattle.jn_rows.specs.Client.{ClientTable, Commanded, Refuses, Sends, command_row, take_row, again_row}
-use Rattle.jn_protocol.specs.World.{World, Memory}
+use Rattle.jn_protocol.specs.World.{World, Memory, servers_from}
 use Rattle.jn_protocol.specs.Servers.{Room, server_step, server_row, server_again}
 use Rattle.jn_protocol.specs.Steps.{Step, NextEvent, Tell, Again, Deliver, Work, Nudge, Timeout, StopDelivery, StopWork, Crash, Narrow, StopRestart, Restart, Dismiss, CloseClients, IsStep, IsRun, after, run, ends, at_memory, handed, work, works, nudge, timeout, crash, narrow, stop_restart, restart, close_clients, commanded, took, sent_now}
 use Rattle.jn_protocol.specs.LockFacts.{LockFacts}
 use Rattle.jn_protocol.proofs.Steps.{locks-keep}
 use Rattle.jn_settling.specs.Course.{Course, numbered, without_number, still_waiting, go, go_on}
-use Rattle.jn_settling.specs.Settle.{servers_from}
 use Rattle.jn_settling.specs.Weights.{weigh, going_works, burden}
 use Rattle.jn_settling.specs.Sizes.{Sizes}
 use Rattle.jn_settling.specs.Bounds.{one_if_delivery, deliveries, IsCourse}

@@ -8,11 +8,11 @@ use Rattle.jn_rows.specs.declared.worker.Work.{Work as WorkEntry}
 use Rattle.jn_rows.specs.Stable.{StableState, Pick, stable}
 use Rattle.jn_rows.specs.Outcomes.{RowOutcome, Sent}
 use Rattle.jn_rows.specs.Worker.{WorkerTable, going_work, going_row, carried_row, intentions_of}
-use Rattle.jn_protocol.specs.World.{World, Memory}
+use Rattle.jn_protocol.specs.World.{World, Memory, servers_from}
 use Rattle.jn_protocol.specs.Servers.{server_step, of_worker, of_step, storage_of}
 use Rattle.jn_protocol.specs.Steps.{Step, after, ends, handed, work, works}
 use Rattle.jn_settling.specs.Course.{Course, still_waiting, go}
-use Rattle.jn_settling.specs.Settle.{Chance, servers_from, is_busy, first_busy, handing, working, next_step, onward, until_rest}
+use Rattle.jn_settling.specs.Settle.{Chance, is_busy, first_busy, handing, working, next_step, onward, until_rest}
 use Rattle.jn_settling.specs.Weights.{weight, weight_at, weigh, goings, goings_at, burden}
 use Rattle.jn_settling.specs.Bounds.{one_if_delivery, deliveries}
 use Rattle.jn_settling.proofs.Burdens.{are_below, Leads, handed-leads, work-leads, halt-leads, busy-within, busy-is}

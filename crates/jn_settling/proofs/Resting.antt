@@ -14,10 +14,10 @@ use Rattle.jn_records.specs.declared.intention.Intention.{Intention}
 use Rattle.jn_rows.specs.declared.worker.Work.{Work as WorkEntry}
 use Rattle.jn_rows.specs.Stable.{StableState, Pick, CarryOut, made_all, stable, at_work}
 use Rattle.jn_rows.specs.Worker.{WorkerTable, going_work, intentions_of}
-use Rattle.jn_protocol.specs.World.{World, Memory}
+use Rattle.jn_protocol.specs.World.{World, Memory, servers_from}
 use Rattle.jn_protocol.specs.Steps.{Step, after, ends, done}
 use Rattle.jn_settling.specs.Course.{Course, numbered, still_waiting, go}
-use Rattle.jn_settling.specs.Settle.{Chance, servers_from, is_busy, first_busy, working, next_step, onward, until_rest}
+use Rattle.jn_settling.specs.Settle.{Chance, is_busy, first_busy, working, next_step, onward, until_rest}
 use Rattle.jn_settling.specs.Weights.{burden}
 use Rattle.jn_settling.specs.Bounds.{IsAtRest}
 use Rattle.jn_settling.proofs.Burdens.{busy-is}

@@ -9,12 +9,12 @@ use Rattle.jn_base.proofs.Tells.{server_tells, work_tells}
 use Rattle.jn_order.specs.Files.{AllFiles}
 use Rattle.jn_rows.specs.Stable.{StableState, Prepared, stable, is_going}
 use Rattle.jn_rows.specs.Worker.{WorkerTable, going_work, work_at}
-use Rattle.jn_protocol.specs.World.{World, opening}
+use Rattle.jn_protocol.specs.World.{World, opening, servers_from}
 use Rattle.jn_protocol.specs.Steps.{Step, NextEvent, IsRun, run}
 use Rattle.jn_protocol.specs.LockFacts.{UpFact, ServerFact}
 use Rattle.jn_protocol.proofs.Steps.{opening-keeps}
 use Rattle.jn_settling.specs.Course.{Course, opening_course, go, go_on}
-use Rattle.jn_settling.specs.Settle.{Chance, Chances, is_busy, first_busy, servers_from, clients_from, until_rest, ask_again, settled}
+use Rattle.jn_settling.specs.Settle.{Chance, Chances, is_busy, first_busy, clients_from, until_rest, ask_again, settled}
 use Rattle.jn_settling.specs.Events.{Event, Does, Settles, Told, after_events, AreSteps}
 use Rattle.jn_settling.specs.Weights.{burden}
 use Rattle.jn_settling.specs.Sizes.{Sizes}

@@ -1,9 +1,9 @@
 -- That a settle ends, and how many messages it hands over.
 use Rattle.std.specs.Prelude.{◌≡◌, ◌≤◌, ◌<◌, ℕ, ◌+◌, ◌*◌, false, List, [], ◌∷◌, length, Some, None}
-use Rattle.jn_protocol.specs.World.{World, Memory}
+use Rattle.jn_protocol.specs.World.{World, Memory, servers_from}
 use Rattle.jn_protocol.specs.Steps.{Step, Deliver, StopDelivery, run, IsRun}
 use Rattle.jn_settling.specs.Course.{Course}
-use Rattle.jn_settling.specs.Settle.{Chance, Chances, servers_from, first_busy, settled}
+use Rattle.jn_settling.specs.Settle.{Chance, Chances, first_busy, settled}
 use Rattle.jn_settling.specs.Weights.{going_works}
 use Rattle.jn_base.specs.declared.names.ServerNo.{ServerNo}
 use Rattle.jn_rows.specs.Stable.{Pick, is_going}

@@ -5,7 +5,7 @@ use Rattle.jn_base.specs.declared.names.ServerNo.{ServerNo}
 use Rattle.jn_base.specs.declared.names.ClientNo.{ClientNo}
 use Rattle.jn_rows.specs.Stable.{StableState, Pick, stable}
 use Rattle.jn_rows.specs.Worker.{going_work}
-use Rattle.jn_protocol.specs.World.{World, Memory}
+use Rattle.jn_protocol.specs.World.{World, Memory, servers_from}
 use Rattle.jn_protocol.specs.Servers.{Room}
 use Rattle.jn_protocol.specs.Steps.{Step, Again, Deliver, Work, Nudge, StopDelivery, StopWork}
 use Rattle.jn_settling.specs.Course.{Course, go, go_on}
@@ -18,11 +18,7 @@ pub record Chance : Type 0 where
 
 -- ---- what comes next
 
--- The servers from 0 on and the clients from 1 on.
-abbrev pub servers_from : ℕ → ℕ → List ServerNo
-servers_from s zero = []
-servers_from s (suc n) = record { 0 = s } ∷ servers_from (s + 1) n
-
+-- so many clients from this number on
 abbrev pub clients_from : ℕ → ℕ → List ClientNo
 clients_from c zero = []
 clients_from c (suc n) = record { 0 = c } ∷ clients_from (c + 1) n
