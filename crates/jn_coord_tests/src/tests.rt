@@ -4,7 +4,7 @@
 //! to commit and to drop. `3+9=1` tells client 3 that its request 9 began transaction 1, `3+9=-` that there is no
 //! room, and `3:1c` the outcome of transaction 1, as a letter. Then come the notes: `!1` where transaction 1
 //! committed, and `.` where the message is ignored.
-ghost use Rattle.std.specs.Prelude.{◌≡◌, ◌<◌, true, is_some, IfOk, IfSome};
+ghost use Rattle.std.specs.Prelude.{◌≡◌, ◌<◌, ◌+◌, true, is_some, IfOk, IfSome};
 ghost use Rattle.jn_base.specs.declared.names.Tid.{Tid};
 ghost use Rattle.jn_base.specs.declared.names.Tickets.{Tickets};
 ghost use Rattle.jn_storage.specs.Storage.{IsServing};
@@ -13,6 +13,7 @@ ghost use Rattle.jn_coord.specs.Calls.{Fits};
 ghost use Rattle.jn_coord.specs.Beginning.{TicketsFit};
 ghost use Rattle.jn_coord.specs.Handling.{FewWorks};
 ghost use Rattle.jn_memory_storage.specs.Memory.{view_of};
+ghost use Rattle.jn_coord_tests.specs.Before.{HasOld};
 
 use jn_base::{BlockNo, Cause, ClientNo, FileNo, LockUnit, Party, ServerNo, Tickets, Tid, WorkId};
 use jn_coord::Coordinator;
@@ -68,17 +69,26 @@ const LOST: Vote = Vote::Lost(3, 4);
 
 const FULL: Vote = Vote::Full(33, 2, 5);
 
-/// A transaction of the epoch before.
+/// Two transactions of the epoch before.
 const OLD: Tid = Tid {
     server: ServerNo(1),
     epoch: 1,
     ticket: 0,
 };
 
-/// A transaction of server 1; 0 is the one of the epoch before.
+const OLD_TOO: Tid = Tid {
+    server: ServerNo(1),
+    epoch: 1,
+    ticket: 90,
+};
+
+/// A transaction of server 1; 0 and 90 are those of the epoch before.
 fn tid(number: u32) -> Tid {
     if number == 0 {
         return OLD;
+    }
+    if number == 90 {
+        return OLD_TOO;
     }
     Tid {
         server: ServerNo(1),
@@ -508,31 +518,8 @@ fn a_flag_takes_a_record(rt: HostRuntime) -> Result<(), Fail> {
     Ok(())
 }
 
-#[test]
-fn a_begin_that_was_seen_changes_nothing(rt: HostRuntime) -> Result<(), Fail> {
-    // The state; what is told again, and at an End of transaction 1.
-    for (state, again, end) in [
-        (1, "", "p1b p1a"),
-        (2, "", "p1b p1a"),
-        (3, "c1b c1a 3:1c", "3:1c"),
-        (4, "3:1r", "3:1r"),
-    ] {
-        let trial = in_state(&rt, rt.alloc(), state)?;
-        let story = [
-            (Begin(3, 4), "."),
-            (Begin(3, 5), "3+5=1"),
-            (Again, again),
-            (End(1), end),
-        ];
-        trial.hears(&rt, &story)?;
-    }
-    let trial = in_state(&rt, rt.alloc(), 4)?;
-    trial.hears(&rt, &[(Thanks(1), ""), (Begin(3, 5), ".")])?;
-    Ok(())
-}
-
-/// What comes of transaction 1, in this state, where its client begins another one and so many others are live.
-fn close_by_begin(
+/// What comes of transaction 1, in this state, where so many others are live.
+fn beside_others(
     rt: &impl Abort,
     alloc: Global,
     state: usize,
@@ -545,6 +532,30 @@ fn close_by_begin(
         trial = next;
     }
     trial.hears(rt, story)?;
+    Ok(())
+}
+
+#[test]
+fn a_begin_that_was_seen_changes_nothing(rt: HostRuntime) -> Result<(), Fail> {
+    // The state; what is told again, and at an End of transaction 1.
+    for (state, again, end) in [
+        (1, "", "p1b p1a"),
+        (2, "", "p1b p1a"),
+        (3, "c1b c1a 3:1c", "3:1c"),
+        (4, "3:1r", "3:1r"),
+    ] {
+        for others in [0, 63] {
+            let story = [
+                (Begin(3, 4), "."),
+                (Begin(3, 5), "3+5=1"),
+                (Again, again),
+                (End(1), end),
+            ];
+            beside_others(&rt, rt.alloc(), state, others, &story)?;
+        }
+    }
+    let trial = in_state(&rt, rt.alloc(), 4)?;
+    trial.hears(&rt, &[(Thanks(1), ""), (Begin(3, 5), ".")])?;
     Ok(())
 }
 
@@ -566,7 +577,7 @@ fn a_greater_begin_closes_those_before(rt: HostRuntime) -> Result<(), Fail> {
                 (End(1), end),
                 (EndEmpty(2), "255:2c !2"),
             ];
-            close_by_begin(&rt, rt.alloc(), state, others, &story)?;
+            beside_others(&rt, rt.alloc(), state, others, &story)?;
         }
     }
     // A Begin without room is seen all the same, and a commit that is forgotten makes room.
@@ -577,7 +588,32 @@ fn a_greater_begin_closes_those_before(rt: HostRuntime) -> Result<(), Fail> {
         (Done(1, 'a'), ""),
         (Begin(3, 10), "3+10=65"),
     ];
-    close_by_begin(&rt, rt.alloc(), 3, 63, &story)
+    beside_others(&rt, rt.alloc(), 3, 63, &story)
+}
+
+#[test]
+fn a_greater_begin_drops_the_flag_of_what_is_done(rt: HostRuntime) -> Result<(), Fail> {
+    let trial = Trial::new(rt.alloc(), 1)?;
+    trial.hears(
+        &rt,
+        &[
+            (Begin(3, 1), "3+1=1"),
+            (End(1), "p1b p1a"),
+            (Voted(1, 'b', READY), ""),
+            (Voted(1, 'a', READY), "c1b c1a 3:1c !1"),
+            (Done(1, 'a'), ""),
+            (Done(1, 'b'), ""),
+            // The record is the flag's, as client 3 hasn't thanked.
+            (Begin(4, 1), "4+1=2"),
+            (EndEmpty(2), "4:2f"),
+            (Begin(3, 2), "3+2=3"),
+            (End(1), "3:1n d1b d1a"),
+            (Again, "4:2f"),
+            // It is free again.
+            (EndEmpty(3), "3:3c !3"),
+        ],
+    )?;
+    Ok(())
 }
 
 #[test]
@@ -606,37 +642,79 @@ fn closed_clients_know_their_outcomes(rt: HostRuntime) -> Result<(), Fail> {
     Ok(())
 }
 
-/// A restart finds the flag of transaction 0: of client 3, its request 8, and the works b and a.
-fn with_flag(alloc: Global) -> Result<Trial, Fail> {
-    let mut store = MemoryStorage::new(alloc, ServerNo(1), 2, 4, 1, 1)?;
+/// A storage has one more flag: of client 3, its request 8, and the works b and a.
+fn add_flag(alloc: Global, store: &mut MemoryStorage, tid: Tid) -> Result<(), Fail>
+    requires old { HasOld tid.ticket (view_of store.old) }
+    requires server { tid.server.0 ≡ 1 }
+    requires epoch { tid.epoch ≡ 1 }
+    ensures { IfOk result (λ _. HasOld (tid.ticket + 1) (view_of store.new)) }
+{
     let flag = Flag {
-        tid: OLD,
+        tid,
         client: ClientNo(3),
         request: 8,
         works: ListOf::from_vec(Vec::from_array(alloc, [work('b'), work('a')])?),
     };
     store.promise(alloc)?;
     store.put_flag(&flag)?;
+    Ok(())
+}
+
+/// A restart finds the flags of the transactions 0 and 90, which take all records.
+fn with_flags(alloc: Global) -> Result<Trial, Fail> {
+    let mut store = MemoryStorage::new(alloc, ServerNo(1), 2, 2, 1, 1)?;
+    add_flag(alloc, &mut store, OLD)?;
+    add_flag(alloc, &mut store, OLD_TOO)?;
     Ok(Trial::restored(alloc, store)?)
 }
 
 #[test]
 fn a_restart_finds_what_committed(rt: HostRuntime) -> Result<(), Fail> {
-    let trial = with_flag(rt.alloc())?;
+    let trial = with_flags(rt.alloc())?;
     trial.hears(
         &rt,
         &[
-            (Again, "c0b c0a 3:0c"),
+            (Again, "c0b c0a 3:0c c90b c90a 3:90c"),
             (Begin(3, 8), "."),
             (Begin(3, 7), "."),
             (Voted(0, 'b', READY), "c0b"),
             (Done(0, 'b'), ""),
             // A greater request counts as its thanks.
             (Begin(3, 9), "3+9=1"),
-            (Again, "c0a"),
+            (Again, "c0a c90b c90a"),
             (Done(0, 'a'), ""),
             (End(0), "3:0n d0b d0a"),
         ],
     )?;
+    Ok(())
+}
+
+#[test]
+fn a_greater_begin_closes_two_that_committed(rt: HostRuntime) -> Result<(), Fail> {
+    // Whether transaction 90 is done too; what is told again, at its End, and at an End where one record is free.
+    for (both, again, end, second) in [
+        (false, "c90b c90a 4:1f", "3:90c", "5:3f"),
+        (true, "4:1f", "3:90n d90b d90a", "5:3c !3"),
+    ] {
+        let mut trial = with_flags(rt.alloc())?;
+        if both {
+            trial = trial.hears(&rt, &[(Done(90, 'a'), ""), (Done(90, 'b'), "")])?;
+        }
+        let story = [
+            (Done(0, 'b'), ""),
+            (Done(0, 'a'), ""),
+            (Begin(4, 1), "4+1=1"),
+            (EndEmpty(1), "4:1f"),
+            (Begin(3, 9), "3+9=2"),
+            (Again, again),
+            (End(0), "3:0n d0b d0a"),
+            (End(90), end),
+            // The records of the flags that are dropped are free again.
+            (EndEmpty(2), "3:2c !2"),
+            (Begin(5, 1), "5+1=3"),
+            (EndEmpty(3), second),
+        ];
+        trial.hears(&rt, &story)?;
+    }
     Ok(())
 }
