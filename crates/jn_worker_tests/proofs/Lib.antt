@@ -1,1 +1,3 @@
 pub mod Playing
+pub mod Restarted
+pub mod Prepared

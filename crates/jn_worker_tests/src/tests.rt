@@ -1,9 +1,14 @@
 //! A worker over a storage in memory, row by row.
-ghost use Rattle.std.specs.Prelude.{◌≡◌, true, IfOk};
+ghost use Rattle.std.specs.Prelude.{◌≡◌, ◌<◌, true, is_some, IfOk};
+ghost use Rattle.jn_base.specs.declared.names.WorkId.{WorkId};
 ghost use Rattle.jn_memory_storage.specs.Memory.{view_of};
+ghost use Rattle.jn_storage.specs.Storage.{IsRecovered};
+ghost use Rattle.jn_storage.specs.Calls.{state};
 ghost use Rattle.jn_worker.specs.Fitting.{Fits, TicketsFit};
 ghost use Rattle.jn_storage.specs.Viewing.{BlockInRange};
 ghost use Rattle.jn_worker.specs.Handling.{InRange};
+
+mod restored;
 
 use jn_base::{
     Answer, BlockNo, ClientNo, FileNo, LockUnit, Op, Party, ServerNo, Tickets, Tid, WorkId,
@@ -51,23 +56,32 @@ enum Move {
     Open(u32),
     /// A work's operation of this number.
     Do(u32, u32, Op),
-    /// A transaction and its work, as in the next two.
+    /// A transaction and its work, as in the next three.
     Prepare(u32, u32),
     Commit(u32, u32),
     Drop(u32, u32),
+    /// A message that no worker takes.
+    Stray(u32, u32),
     /// The transaction's work gives way from now on.
     Expire(u32),
     Step,
+    /// Outcomes are asked for.
+    Again,
+    /// Who holds the unit for commit.
+    View(LockUnit),
 }
 
-/// What came of it: what the one message says that was sent, or else what was noted.
+/// What came of it: what the one message says that was sent, or else what was noted. Where a transaction and its work
+/// are named, they come first, by their numbers.
 #[derive(Clone, Copy, Debug, PartialEq, Eq)]
 enum Came {
     Nothing,
-    Noted,
-    /// The work's number, or none where no more can be live.
-    Opened(Option<u32>),
+    Ignored,
+    /// No work where no more can be live.
+    Opened(u32, Option<u32>),
     Did,
+    /// An operation was done, or a work is ready, and so many works broke; the first note of that.
+    Breaking(Note, usize),
     /// The block's first byte.
     Read(u8),
     NoFile,
@@ -78,8 +92,11 @@ enum Came {
     Broken(LockUnit, Tid),
     Lost(u32, u32),
     Closing,
-    Vote(Vote),
-    Done,
+    Vote(u32, u32, Vote),
+    Done(u32, u32),
+    Inquire(u32, u32),
+    /// The transaction that holds the unit, if one does.
+    Held(Option<Tid>),
     /// Nothing was to be done.
     Idle,
     Another,
@@ -100,17 +117,49 @@ fn came_of_answer(answer: &Answer) -> Came {
     }
 }
 
-fn came_of(out: &Out) -> Came {
-    match out.messages().first() {
-        Some((Party::Client(ClientNo(3)), Message::Opened(_, 9, _, work))) => {
-            Came::Opened(work.map(|work| work.ticket))
+/// A transaction's number, or 999 where it has another name.
+fn number_of(t: Tid) -> u32 {
+    if t == tid(t.ticket) { t.ticket } else { 999 }
+}
+
+/// And a work's.
+fn number_of_work(w: WorkId) -> u32 {
+    if w == work(w.ticket) { w.ticket } else { 999 }
+}
+
+/// What a message says to client 3 of its request 9, or to server 1.
+fn came_of_message(to: Party, message: &Message) -> Came {
+    let (client, server) = (ClientNo(3), Party::Server(ServerNo(1)));
+    match message {
+        Message::Opened(c, 9, t, w) if *c == client && to == Party::Client(client) => {
+            Came::Opened(number_of(*t), w.map(number_of_work))
         }
-        Some((Party::Client(ClientNo(3)), Message::Answer(_, 9, answer))) => came_of_answer(answer),
-        Some((Party::Server(ServerNo(1)), Message::Vote(_, _, vote))) => Came::Vote(*vote),
-        Some((Party::Server(ServerNo(1)), Message::Done(_, _))) => Came::Done,
-        Some(_) => Came::Another,
-        None if out.notes().is_empty() => Came::Nothing,
-        None => Came::Noted,
+        Message::Answer(c, 9, answer) if *c == client && to == Party::Client(client) => {
+            came_of_answer(answer)
+        }
+        Message::Vote(t, w, vote) if to == server => {
+            Came::Vote(number_of(*t), number_of_work(*w), *vote)
+        }
+        Message::Done(t, w) if to == server => Came::Done(number_of(*t), number_of_work(*w)),
+        Message::Inquire(t, w) if to == server => Came::Inquire(number_of(*t), number_of_work(*w)),
+        _ => Came::Another,
+    }
+}
+
+fn came_of(out: &Out) -> Came {
+    let notes = out.notes();
+    let came = match out.messages().first() {
+        None if notes.is_empty() => Came::Nothing,
+        None if notes == [Note::Ignored].as_slice() => Came::Ignored,
+        Some((to, message)) if out.messages().len() == 1 => came_of_message(*to, message),
+        _ => Came::Another,
+    };
+    match (came, notes.first()) {
+        (Came::Did | Came::Vote(_, _, Vote::Ready), Some(note)) => {
+            Came::Breaking(*note, notes.len())
+        }
+        (Came::Ignored, _) | (_, None) => came,
+        _ => Came::Another,
     }
 }
 
@@ -139,7 +188,21 @@ impl Bench {
         ensures fits { IfOk result (λ b. Fits b.worker (view_of b.store)) }
         ensures tickets { IfOk result (λ b. TicketsFit b.worker.table (view_of b.store) b.tickets) }
     {
-        let store = MemoryStorage::new(alloc, ServerNo(0), 2, pool, heads, leaves)?;
+        Bench::restored(
+            alloc,
+            MemoryStorage::new(alloc, ServerNo(0), 2, pool, heads, leaves)?,
+        )
+    }
+
+    /// The storage has just restarted: its works are of epochs before.
+    fn restored(alloc: Global, store: MemoryStorage) -> Result<Bench, AllocError>
+        requires recovered { IsRecovered (view_of store) }
+        requires server { store.server.0 ≡ 0 }
+        requires epoch { store.epoch ≡ 2 }
+        requires before { (W : WorkId) → is_some ((state (view_of store)).works W) ≡ true → W.epoch < 2 }
+        ensures fits { IfOk result (λ b. Fits b.worker (view_of b.store)) }
+        ensures tickets { IfOk result (λ b. TicketsFit b.worker.table (view_of b.store) b.tickets) }
+    {
         let worker = Worker::restore(alloc, &store)?;
         let tickets = Tickets {
             server: ServerNo(0),
@@ -219,6 +282,17 @@ impl Bench {
         }
     }
 
+    fn again(&mut self) -> Result<Came, AllocError>
+        requires fits { Fits self.old.worker (view_of self.old.store) }
+        requires tickets { TicketsFit self.old.worker.table (view_of self.old.store) self.old.tickets }
+        ensures fits { IfOk result (λ _. Fits self.new.worker (view_of self.new.store)) }
+        ensures tickets { IfOk result (λ _. TicketsFit self.new.worker.table (view_of self.new.store) self.new.tickets) }
+    {
+        self.out = Out::new(self.alloc);
+        self.worker.again(&mut self.out)?;
+        Ok(came_of(&self.out))
+    }
+
     /// Does a move.
     fn advance(&mut self, step: Move) -> Result<Came, AllocError>
         requires fits { Fits self.old.worker (view_of self.old.store) }
@@ -232,8 +306,11 @@ impl Bench {
             Move::Prepare(t, w) => self.tell(Message::Prepare(tid(t), ClientNo(3), work(w))),
             Move::Commit(t, w) => self.tell(Message::Commit(tid(t), work(w))),
             Move::Drop(t, w) => self.tell(Message::Drop(tid(t), work(w))),
+            Move::Stray(t, w) => self.tell(Message::Done(tid(t), work(w))),
             Move::Expire(t) => self.expire(tid(t)),
             Move::Step => self.step(),
+            Move::Again => self.again(),
+            Move::View(unit) => Ok(Came::Held(self.worker.view(unit))),
         }
     }
 
@@ -285,6 +362,10 @@ enum Many {
     /// Of work 0, each on a file of its own from number 100 on.
     Reads,
     Creates,
+    /// 24 creates, then reads.
+    Both,
+    /// File 100 is created, then its blocks from 1 on are written.
+    Writes,
 }
 
 fn nth(many: Many, n: u32) -> Move {
@@ -294,11 +375,24 @@ fn nth(many: Many, n: u32) -> Move {
         Many::Opens => Move::Open(n),
         Many::Reads => Move::Do(0, number, Op::Read(of, BlockNo(0))),
         Many::Creates => Move::Do(0, number, Op::Create(of)),
+        Many::Both if n < 24 => Move::Do(0, number, Op::Create(of)),
+        Many::Both => Move::Do(0, number, Op::Read(of, BlockNo(0))),
+        Many::Writes if n == 0 => Move::Do(0, number, Op::Create(of)),
+        Many::Writes => nines(0, number, 100, (n % 120) as u16),
     }
+}
+
+/// Transaction 3's work 2 waits for the file, which the transaction holds.
+fn waiting(f: u32, t: u32) -> Came {
+    Came::Vote(3, 2, Vote::Waiting(file(f), tid(t)))
 }
 
 fn create(w: u32, number: u32, f: u32) -> Move {
     Move::Do(w, number, Op::Create(FileNo(f)))
+}
+
+fn remove(w: u32, number: u32, f: u32) -> Move {
+    Move::Do(w, number, Op::Remove(FileNo(f)))
 }
 
 fn read(w: u32, number: u32, f: u32, p: u16) -> Move {
@@ -312,10 +406,12 @@ fn nines(w: u32, number: u32, f: u32, p: u16) -> Move {
 #[test]
 fn an_empty_storage_has_nothing_to_do(rt: HostRuntime) -> Result<(), Fail> {
     let mut bench = Bench::new(rt.alloc(), 9, 2, 4)?;
-    assert!(rt; bench.worker.view(file(7)).is_none());
-    assert!(rt; bench.worker.again(&mut bench.out).is_ok());
-    assert!(rt; bench.out.messages().is_empty() && bench.out.notes().is_empty());
-    let idle = [(Move::Step, Came::Idle), (Move::Expire(3), Came::Idle)];
+    let idle = [
+        (Move::View(file(7)), Came::Held(None)),
+        (Move::Again, Came::Nothing),
+        (Move::Step, Came::Idle),
+        (Move::Expire(3), Came::Idle),
+    ];
     bench.plays(&rt, &idle)?;
     Ok(())
 }
@@ -323,48 +419,62 @@ fn an_empty_storage_has_nothing_to_do(rt: HostRuntime) -> Result<(), Fail> {
 #[test]
 fn each_message_is_done_as_its_work_stands(rt: HostRuntime) -> Result<(), Fail> {
     let active = [
-        (Move::Open(1), Came::Opened(Some(0))),
+        (Move::Open(1), Came::Opened(1, Some(0))),
         (create(0, 1, 7), Came::Did),
     ];
     let broken = [
         (Move::Expire(1), Came::Nothing),
-        (Move::Open(2), Came::Opened(Some(1))),
-        (create(1, 1, 7), Came::Did),
+        (Move::Open(2), Came::Opened(2, Some(1))),
+        (
+            create(1, 1, 7),
+            Came::Breaking(Note::Broke(tid(1), file(7), tid(2)), 1),
+        ),
     ];
-    let ready = [(Move::Prepare(1, 0), Came::Vote(Vote::Ready))];
+    let ready = [(Move::Prepare(1, 0), Came::Vote(1, 0, Vote::Ready))];
     let going = [ready[0], (Move::Commit(1, 0), Came::Nothing)];
     let lost = Vote::Lost(1, 2);
     let by = tid(2);
     let is_broken = Came::Broken(file(7), by);
-    let cells: [(&[(Move, Came)], Move, Came); 24] = [
+    let cells: [(&[(Move, Came)], Move, Came); 35] = [
         (&[], create(109, 1, 7), Came::Lost(1, 2)),
-        (&[], Move::Prepare(1, 109), Came::Vote(lost)),
-        (&[], Move::Commit(1, 109), Came::Done),
-        (&[], Move::Drop(1, 109), Came::Noted),
+        (&[], Move::Prepare(1, 109), Came::Vote(1, 109, lost)),
+        (&[], Move::Commit(1, 109), Came::Done(1, 109)),
+        (&[], Move::Drop(1, 109), Came::Ignored),
+        (&[], Move::Stray(1, 109), Came::Ignored),
         (&[], create(0, 2, 7), Came::Exists),
         (&[], create(0, 1, 7), Came::Did),
-        (&[], create(0, 0, 7), Came::Noted),
-        (&[], create(0, 3, 7), Came::Noted),
-        (&[], Move::Prepare(1, 0), Came::Vote(Vote::Ready)),
-        (&[], Move::Commit(1, 0), Came::Noted),
+        (&[], create(0, 0, 7), Came::Ignored),
+        (&[], create(0, 3, 7), Came::Ignored),
+        (&[], Move::Prepare(1, 0), Came::Vote(1, 0, Vote::Ready)),
+        (&[], Move::Commit(1, 0), Came::Ignored),
         (&[], Move::Drop(1, 0), Came::Nothing),
-        (&[], Move::Open(1), Came::Opened(Some(0))),
+        (&[], Move::Stray(1, 0), Came::Ignored),
+        (&[], Move::Open(1), Came::Opened(1, Some(0))),
+        (&[], Move::Again, Came::Inquire(1, 0)),
         (&broken, create(0, 9, 7), is_broken),
         (
             &broken,
             Move::Prepare(1, 0),
-            Came::Vote(Vote::Broken(file(7), by)),
+            Came::Vote(1, 0, Vote::Broken(file(7), by)),
         ),
-        (&broken, Move::Commit(1, 0), Came::Noted),
+        (&broken, Move::Commit(1, 0), Came::Ignored),
         (&broken, Move::Drop(1, 0), Came::Nothing),
+        (&broken, Move::Stray(1, 0), Came::Ignored),
+        (&broken, Move::Open(1), Came::Opened(1, Some(0))),
         (&ready, create(0, 9, 7), Came::Closing),
-        (&ready, Move::Prepare(1, 0), Came::Vote(Vote::Ready)),
+        (&ready, Move::Prepare(1, 0), Came::Vote(1, 0, Vote::Ready)),
         (&ready, Move::Commit(1, 0), Came::Nothing),
         (&ready, Move::Drop(1, 0), Came::Nothing),
+        (&ready, Move::Stray(1, 0), Came::Ignored),
+        (&ready, Move::Open(1), Came::Opened(1, Some(0))),
+        (&ready, Move::Again, Came::Inquire(1, 0)),
         (&going, create(0, 1, 7), Came::Closing),
-        (&going, Move::Prepare(1, 0), Came::Noted),
-        (&going, Move::Commit(1, 0), Came::Noted),
-        (&going, Move::Drop(1, 0), Came::Noted),
+        (&going, Move::Prepare(1, 0), Came::Ignored),
+        (&going, Move::Commit(1, 0), Came::Ignored),
+        (&going, Move::Drop(1, 0), Came::Ignored),
+        (&going, Move::Stray(1, 0), Came::Ignored),
+        (&going, Move::Open(1), Came::Opened(1, Some(0))),
+        (&going, Move::Again, Came::Nothing),
     ];
     for (moves, message, came) in cells {
         let mut bench = Bench::new(rt.alloc(), 9, 2, 4)?;
@@ -379,9 +489,9 @@ fn each_message_is_done_as_its_work_stands(rt: HostRuntime) -> Result<(), Fail> 
 fn refusals_come_in_their_order(rt: HostRuntime) -> Result<(), Fail> {
     // Work 1 is to write file 7, and nobody may read it.
     let writer = [
-        (Move::Open(2), Came::Opened(Some(1))),
+        (Move::Open(2), Came::Opened(2, Some(1))),
         (create(1, 1, 7), Came::Did),
-        (Move::Prepare(2, 1), Came::Vote(Vote::Ready)),
+        (Move::Prepare(2, 1), Came::Vote(2, 1, Vote::Ready)),
     ];
     let held = Came::Locked(file(7), tid(2));
     // With 40 read units, and with 24 intentions.
@@ -391,20 +501,42 @@ fn refusals_come_in_their_order(rt: HostRuntime) -> Result<(), Fail> {
         (read(0, 43, 100, 0), Came::NoFile),
     ];
     let after_creates = [
-        (create(0, 9, 7), Came::Noted),
+        (create(0, 9, 7), Came::Ignored),
         (create(0, 25, 7), Came::TooManyWrites),
         (create(0, 26, 100), Came::Exists),
         (read(0, 27, 7, 0), held),
-        (read(0, 26, 7, 0), Came::Noted),
+        (read(0, 26, 7, 0), Came::Ignored),
         (read(0, 27, 100, 0), held),
+        // Each replaces what stands of its file.
+        (remove(0, 28, 100), Came::Did),
+        (create(0, 29, 100), Came::Did),
+        (nines(0, 30, 100, 0), Came::TooManyWrites),
     ];
-    let cases: [(u32, Many, Came, &[(Move, Came)]); 2] = [
+    // With both.
+    let after_both = [
+        (create(0, 41, 7), Came::TooManyReads),
+        (nines(0, 42, 100, 3), Came::TooManyWrites),
+        (remove(0, 43, 100), Came::Did),
+    ];
+    // With 24 intentions of file 100, which an operation drops or replaces.
+    let after_writes = [
+        (nines(0, 25, 100, 0), Came::TooManyWrites),
+        (create(0, 26, 7), Came::TooManyWrites),
+        (nines(0, 27, 100, 23), Came::Did),
+        (remove(0, 28, 100), Came::Did),
+        (create(0, 29, 100), Came::Did),
+        (read(0, 30, 100, 23), Came::Read(0)),
+        (create(0, 31, 7), held),
+    ];
+    let cases: [(u32, Many, Came, &[(Move, Came)]); 4] = [
         (40, Many::Reads, Came::NoFile, &after_reads),
         (24, Many::Creates, Came::Did, &after_creates),
+        (40, Many::Both, Came::NoFile, &after_both),
+        (24, Many::Writes, Came::Did, &after_writes),
     ];
     for (count, many, last, moves) in cases {
         let mut bench = Bench::new(rt.alloc(), 9, 2, 4)?;
-        bench.plays(&rt, &[(Move::Open(1), Came::Opened(Some(0)))])?;
+        bench.plays(&rt, &[(Move::Open(1), Came::Opened(1, Some(0)))])?;
         assert_eq!(rt; bench.fill(count, many)?, last);
         bench.plays(&rt, &writer)?;
         bench.plays(&rt, moves)?;
@@ -415,27 +547,35 @@ fn refusals_come_in_their_order(rt: HostRuntime) -> Result<(), Fail> {
 #[test]
 fn a_prepare_waits_or_is_told_what_is_short(rt: HostRuntime) -> Result<(), Fail> {
     let writer = [
-        (Move::Open(1), Came::Opened(Some(0))),
+        (Move::Open(1), Came::Opened(1, Some(0))),
         (create(0, 1, 7), Came::Did),
         (nines(0, 2, 7, 3), Came::Did),
     ];
     let reader = [
-        (Move::Open(2), Came::Opened(Some(1))),
+        (Move::Open(2), Came::Opened(2, Some(1))),
         (read(1, 1, 7, 0), Came::NoFile),
     ];
-    let cases: [(u16, u16, u16, &[(Move, Came)], Vote); 6] = [
+    // One that is ready doesn't give way.
+    let ready_reader = [
+        reader[0],
+        reader[1],
+        (Move::Prepare(2, 1), Came::Vote(2, 1, Vote::Ready)),
+        (Move::Expire(2), Came::Nothing),
+    ];
+    let cases: [(u16, u16, u16, &[(Move, Came)], Vote); 7] = [
         (0, 0, 0, &reader, Vote::Waiting(file(7), tid(2))),
         (2, 0, 0, &[], Vote::Full(31, 2, 3)),
         (3, 0, 0, &[], Vote::Full(32, 0, 1)),
         (3, 0, 1, &[], Vote::Full(33, 0, 1)),
         (3, 1, 1, &[], Vote::Ready),
         (3, 1, 1, &reader, Vote::Waiting(file(7), tid(2))),
+        (4, 1, 1, &ready_reader, Vote::Waiting(file(7), tid(2))),
     ];
     for (pool, heads, leaves, others, vote) in cases {
         let mut bench = Bench::new(rt.alloc(), pool, heads, leaves)?;
         bench.plays(&rt, &writer)?;
         bench.plays(&rt, others)?;
-        bench.plays(&rt, &[(Move::Prepare(1, 0), Came::Vote(vote))])?;
+        bench.plays(&rt, &[(Move::Prepare(1, 0), Came::Vote(1, 0, vote))])?;
     }
     Ok(())
 }
@@ -443,37 +583,45 @@ fn a_prepare_waits_or_is_told_what_is_short(rt: HostRuntime) -> Result<(), Fail>
 #[test]
 fn a_prepare_breaks_the_works_in_its_way_or_none(rt: HostRuntime) -> Result<(), Fail> {
     let moves = [
-        (Move::Open(1), Came::Opened(Some(0))),
-        (Move::Open(2), Came::Opened(Some(1))),
-        (Move::Open(3), Came::Opened(Some(2))),
+        (Move::Open(1), Came::Opened(1, Some(0))),
+        (Move::Open(2), Came::Opened(2, Some(1))),
+        (Move::Open(3), Came::Opened(3, Some(2))),
         (read(0, 1, 9, 0), Came::NoFile),
         (read(0, 2, 8, 0), Came::NoFile),
         (read(1, 1, 9, 0), Came::NoFile),
         (create(2, 1, 9), Came::Did),
+        // Works 0 and 2 hold the unit; one that reads it isn't in the way.
+        (create(1, 2, 9), Came::Locked(file(9), tid(3))),
+        // Works 0 and 1 hold it.
+        (Move::Prepare(3, 2), waiting(9, 1)),
         (create(2, 2, 8), Came::Did),
-        (Move::Expire(2), Came::Nothing),
+        (Move::Prepare(3, 2), waiting(8, 1)),
         (Move::Expire(1), Came::Nothing),
+        (Move::Prepare(3, 2), waiting(9, 2)),
+        (Move::Expire(2), Came::Nothing),
     ];
     let broken = [
         Note::Broke(tid(1), file(8), tid(3)),
         Note::Broke(tid(2), file(9), tid(3)),
     ];
     let enough = [
+        (Move::Expire(1), Came::Nothing),
         (read(0, 3, 8, 0), Came::Broken(file(8), tid(3))),
-        (read(1, 2, 8, 0), Came::Broken(file(9), tid(3))),
+        (read(1, 3, 8, 0), Came::Broken(file(9), tid(3))),
     ];
     let short = [
         (read(0, 3, 8, 0), Came::NoFile),
-        (read(1, 2, 8, 0), Came::NoFile),
+        (read(1, 3, 8, 0), Came::NoFile),
     ];
-    let cases: [(u16, Vote, &[Note], &[(Move, Came)]); 2] = [
-        (3, Vote::Ready, &broken, &enough),
-        (2, Vote::Full(31, 2, 3), &[], &short),
+    let full = Came::Vote(3, 2, Vote::Full(31, 2, 3));
+    let cases: [(u16, Came, &[Note], &[(Move, Came)]); 2] = [
+        (3, Came::Breaking(broken[0], 2), &broken, &enough),
+        (2, full, &[], &short),
     ];
-    for (pool, vote, notes, after) in cases {
+    for (pool, came, notes, after) in cases {
         let mut bench = Bench::new(rt.alloc(), pool, 2, 0)?;
         bench.plays(&rt, &moves)?;
-        bench.plays(&rt, &[(Move::Prepare(3, 2), Came::Vote(vote))])?;
+        bench.plays(&rt, &[(Move::Prepare(3, 2), came)])?;
         assert!(rt; bench.out.notes() == notes);
         bench.plays(&rt, after)?;
     }
@@ -483,18 +631,18 @@ fn a_prepare_breaks_the_works_in_its_way_or_none(rt: HostRuntime) -> Result<(), 
 #[test]
 fn a_committed_work_is_carried_out(rt: HostRuntime) -> Result<(), Fail> {
     let moves = [
-        (Move::Open(1), Came::Opened(Some(0))),
+        (Move::Open(1), Came::Opened(1, Some(0))),
         (create(0, 1, 7), Came::Did),
         (nines(0, 2, 7, 3), Came::Did),
         (read(0, 3, 7, 3), Came::Read(9)),
-        (Move::Prepare(1, 0), Came::Vote(Vote::Ready)),
+        (Move::Prepare(1, 0), Came::Vote(1, 0, Vote::Ready)),
         (Move::Expire(1), Came::Nothing),
         (Move::Commit(1, 0), Came::Nothing),
         (Move::Step, Came::Nothing),
         (Move::Step, Came::Nothing),
-        (Move::Step, Came::Done),
-        (Move::Commit(1, 0), Came::Done),
-        (Move::Open(2), Came::Opened(Some(1))),
+        (Move::Step, Came::Done(1, 0)),
+        (Move::Commit(1, 0), Came::Done(1, 0)),
+        (Move::Open(2), Came::Opened(2, Some(1))),
         (read(1, 1, 7, 3), Came::Read(9)),
         (read(1, 2, 7, 4), Came::Read(0)),
         (create(1, 3, 7), Came::Exists),
@@ -508,35 +656,64 @@ fn a_committed_work_is_carried_out(rt: HostRuntime) -> Result<(), Fail> {
 }
 
 #[test]
+fn the_going_work_of_least_name_comes_first(rt: HostRuntime) -> Result<(), Fail> {
+    let moves = [
+        (Move::Open(1), Came::Opened(1, Some(0))),
+        (Move::Open(2), Came::Opened(2, Some(1))),
+        (create(0, 1, 7), Came::Did),
+        (create(1, 1, 8), Came::Did),
+        (nines(1, 2, 8, 3), Came::Did),
+        (Move::Prepare(1, 0), Came::Vote(1, 0, Vote::Ready)),
+        (Move::Prepare(2, 1), Came::Vote(2, 1, Vote::Ready)),
+        (Move::Commit(2, 1), Came::Nothing),
+        (Move::Step, Came::Nothing),
+        (Move::Commit(1, 0), Came::Nothing),
+        (Move::Step, Came::Nothing),
+        (Move::Step, Came::Done(1, 0)),
+        // The record of the work that is done waits for the other work.
+        (Move::Step, Came::Nothing),
+        (Move::Step, Came::Done(2, 1)),
+        (Move::Step, Came::Nothing),
+        (Move::Step, Came::Nothing),
+        (Move::Step, Came::Nothing),
+        (Move::Step, Came::Idle),
+    ];
+    let mut bench = Bench::new(rt.alloc(), 5, 2, 1)?;
+    bench.plays(&rt, &moves)?;
+    Ok(())
+}
+
+#[test]
 fn what_a_dropped_work_held_is_free(rt: HostRuntime) -> Result<(), Fail> {
     let moves = [
-        (Move::Open(1), Came::Opened(Some(0))),
+        (Move::Open(1), Came::Opened(1, Some(0))),
         (create(0, 1, 7), Came::Did),
-        (Move::Prepare(1, 0), Came::Vote(Vote::Ready)),
-        (Move::Open(2), Came::Opened(Some(1))),
+        (Move::Prepare(1, 0), Came::Vote(1, 0, Vote::Ready)),
+        (Move::Open(2), Came::Opened(2, Some(1))),
+        (Move::Expire(1), Came::Nothing),
         (create(1, 1, 7), Came::Locked(file(7), tid(1))),
         (Move::Drop(1, 0), Came::Nothing),
         (create(1, 2, 7), Came::Did),
         (Move::Drop(2, 1), Came::Nothing),
-        (Move::Open(3), Came::Opened(Some(2))),
+        (Move::Open(3), Came::Opened(3, Some(2))),
         (create(2, 1, 7), Came::Did),
-        (Move::Prepare(3, 2), Came::Vote(Vote::Ready)),
+        (Move::Prepare(3, 2), Came::Vote(3, 2, Vote::Ready)),
+        (Move::View(file(7)), Came::Held(Some(tid(3)))),
     ];
     let mut bench = Bench::new(rt.alloc(), 5, 1, 0)?;
     bench.plays(&rt, &moves)?;
-    assert!(rt; bench.worker.view(file(7)) == Some(tid(3)));
     Ok(())
 }
 
 #[test]
 fn there_are_at_most_64_works(rt: HostRuntime) -> Result<(), Fail> {
     let mut bench = Bench::new(rt.alloc(), 3, 1, 1)?;
-    assert_eq!(rt; bench.fill(64, Many::Opens)?, Came::Opened(Some(63)));
+    assert_eq!(rt; bench.fill(64, Many::Opens)?, Came::Opened(63, Some(63)));
     let moves = [
-        (Move::Open(64), Came::Opened(None)),
-        (Move::Open(63), Came::Opened(Some(63))),
+        (Move::Open(64), Came::Opened(64, None)),
+        (Move::Open(63), Came::Opened(63, Some(63))),
         (Move::Drop(0, 0), Came::Nothing),
-        (Move::Open(64), Came::Opened(Some(64))),
+        (Move::Open(64), Came::Opened(64, Some(64))),
     ];
     bench.plays(&rt, &moves)?;
     Ok(())
