@@ -21,7 +21,7 @@ use Rattle.jn_storage.specs.declared.faults.PromiseFault.{PromiseFault}
 use Rattle.jn_storage.specs.Listing.{IsListing}
 use Rattle.jn_storage.specs.Orderly.{IsPrepared, IsGiven}
 use Rattle.jn_storage.specs.Storage.{StorageView, IsServing}
-use Rattle.jn_storage.specs.Calls.{state, Called, BlockRead, tid_of, IsTold, TellsWorks, TellsFlags, WorkPrepared, reached, StepApplied, next_of, RecordErased, FlagPromised, MayPutFlag, MayPrepare, IsReady, IsGoing}
+use Rattle.jn_storage.specs.Calls.{state, Called, BlockRead, tid_of, TellsWorks, TellsFlags, WorkPrepared, reached, StepApplied, next_of, RecordErased, FlagPromised, MayPutFlag, MayPrepare}
 use Rattle.jn_store.specs.Store.{StoreView}
 use Rattle.jn_records.specs.StablePages.{Counts}
 use Rattle.jn_intent.specs.declared.load.DownCause.{DownCause}
@@ -154,13 +154,6 @@ module _ (server : ServerNo) (v : StorageView) (on : IsOn server v) (head : Work
       named u true t h = let n = work_tells head.work u in grind (arith, t)
       named u false t h = absurd (cc h)
 
--- a work that is listed is ready or going
-pub told_ready : (v : StorageView) (s : WorkState) → IsTold v s → s.going ≡ false → IsReady v s.head.work
-told_ready v s told e = rw (told.stands, sym told.going ∙ e) refl
-
-pub told_going : (v : StorageView) (s : WorkState) → IsTold v s → s.going ≡ true → IsGoing v s.head.work
-told_going v s told e = rw told.stands (sym told.going ∙ e)
-
 -- the first flag may be put, once a record was promised
 pub may_put : {A : Type 0} (server : ServerNo) (v w : StorageView) (answer : Result A PromiseFault) (flags : List Flag) (flag : Flag) → IsOn server v → FlagPromised v answer w → is_ok answer ≡ true → TellsFlags w flags → (length flags == 0) ≡ true → flag.works ≡ [] → IsGiven server 1 flag.tid.server flag.tid.epoch → MayPutFlag w flag
 may_put server v w answer flags flag on promise done told none empty given = record {
@@ -180,3 +173,16 @@ may_put server v w answer flags flag on promise done told none empty given = rec
     by : (o : Option FlagState) → (state w).flags flag.tid ≡ o → (state w).flags flag.tid ≡ None
     by None e = e
     by (Some f) e = absurd (true≢false (sym (listing.all flag.tid ∙ ap is_some e)))
+
+-- ---- promises
+
+pub one_promised : {A : Type 0} (v w : StorageView) (answer : Result A PromiseFault) → FlagPromised v answer w → is_ok answer ≡ true → 0 < w.accounts.promised_records
+one_promised v w answer p done = subst (λ (x : StorageView). 0 < x.accounts.promised_records) (sym (p.promised done)) (omega arith)
+
+-- another promise takes none away
+pub still_promised : {A : Type 0} (v w : StorageView) (answer : Result A PromiseFault) → FlagPromised v answer w → 0 < v.accounts.promised_records → 0 < w.accounts.promised_records
+still_promised v w answer p before = by (is_ok answer) refl
+  where
+    by : (b : Bool) → is_ok answer ≡ b → 0 < w.accounts.promised_records
+    by true e = one_promised v w answer p e
+    by false e = subst (λ (x : StorageView). 0 < x.accounts.promised_records) (sym (p.kept e)) before
