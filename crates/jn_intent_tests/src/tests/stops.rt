@@ -41,9 +41,15 @@ struct Place {
     event: usize,
 }
 
-/// The stops that leave different halves: before the first half is put, within and after it, and the same of the second
-/// half, before which it is as after the first.
-const DIFFERENT: [(usize, usize); 5] = [(0, 0), (0, 1), (0, 2), (2, 1), (2, 2)];
+/// The n-th place of a put: each device call, way and event in turn.
+fn nth_place(put: usize, n: usize) -> Place {
+    Place {
+        put,
+        call: n / 15,
+        way: n / 5 % 3,
+        event: n % 5,
+    }
+}
 
 /// The state that is found: the new one only where the last put is stopped, which alone decides.
 fn left(rt: &impl Abort, story: &Story, at: usize, place: Place) -> [u8; 4] {
@@ -150,17 +156,12 @@ fn check_recoveries(
     Err("no end".into())
 }
 
-/// Stops each call of a story at each device call in each way, and recovers after each event.
+/// Stops each call of a story at each place, and recovers.
 fn check_stops(rt: &impl Abort, alloc: Global, story: &Story) -> Result<(), Fail> {
     for (at, pages) in story.pages.iter().enumerate() {
         for put in 0..pages.len() {
-            for n in 0..60usize {
-                let place = Place {
-                    put,
-                    call: n / 15,
-                    way: n / 5 % 3,
-                    event: n % 5,
-                };
+            for n in 0..60 {
+                let place = nth_place(put, n);
                 let store = stopped_at(rt, alloc, story, at, place)?;
                 check_one(rt, alloc, store, left(rt, story, at, place), place)?;
             }
@@ -169,20 +170,12 @@ fn check_stops(rt: &impl Abort, alloc: Global, story: &Story) -> Result<(), Fail
     Ok(())
 }
 
-/// Stops each call of a story where different halves are left, and each recovery after each event in this way.
+/// Stops each call of a story at each place, and each recovery after it in this way.
 fn check_story(rt: &impl Abort, alloc: Global, story: &Story, way: usize) -> Result<(), Fail> {
     for (at, pages) in story.pages.iter().enumerate() {
         for put in 0..pages.len() {
-            for (call, stop) in &DIFFERENT {
-                for event in 0..5 {
-                    let place = Place {
-                        put,
-                        call: *call,
-                        way: *stop,
-                        event,
-                    };
-                    check_recoveries(rt, alloc, story, at, place, way)?;
-                }
+            for n in 0..60 {
+                check_recoveries(rt, alloc, story, at, nth_place(put, n), way)?;
             }
         }
     }

@@ -8,9 +8,9 @@ pub prepare-requires-clause-may : goal.prepare-requires-clause-may
 prepare-requires-clause-may g c =
     let erased = c.erase_step-erased.ensures.erased in
     let said : c.eq.result ≡ true = search in
+    let empty : c.is_empty.result ≡ true = search in
     let is = answer_is _ refl _ _ (sym c.eq.ensures ∙ said) in
     let on = (after_erased _ _ _ c.requires.on _ erased).on (ap is_ok is) in
-    let empty : c.is_empty.result ≡ true = search in
     may_prepare SERVER _ on _ _ _ _ c.works.ensures (sym c.is_empty.ensures ∙ empty) (no_rubbish _ _ _ erased is) (record { own = refl; past = omega arith }) (c.requires.list _ (search rules))
 
 pub returns : goal.returns
