@@ -173,16 +173,3 @@ may_put server v w answer flags flag on promise done told none empty given = rec
     by : (o : Option FlagState) → (state w).flags flag.tid ≡ o → (state w).flags flag.tid ≡ None
     by None e = e
     by (Some f) e = absurd (true≢false (sym (listing.all flag.tid ∙ ap is_some e)))
-
--- ---- promises
-
-pub one_promised : {A : Type 0} (v w : StorageView) (answer : Result A PromiseFault) → FlagPromised v answer w → is_ok answer ≡ true → 0 < w.accounts.promised_records
-one_promised v w answer p done = subst (λ (x : StorageView). 0 < x.accounts.promised_records) (sym (p.promised done)) (omega arith)
-
--- another promise takes none away
-pub still_promised : {A : Type 0} (v w : StorageView) (answer : Result A PromiseFault) → FlagPromised v answer w → 0 < v.accounts.promised_records → 0 < w.accounts.promised_records
-still_promised v w answer p before = by (is_ok answer) refl
-  where
-    by : (b : Bool) → is_ok answer ≡ b → 0 < w.accounts.promised_records
-    by true e = one_promised v w answer p e
-    by false e = subst (λ (x : StorageView). 0 < x.accounts.promised_records) (sym (p.kept e)) before

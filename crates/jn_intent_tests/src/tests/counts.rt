@@ -16,9 +16,9 @@ const FEW: (u16, u16, u16) = (6, 2, 3);
 /// Those of the default geometry, which has 177 pages.
 const DEFAULT: (u16, u16, u16) = (32, 16, 128);
 
-/// Calls one after another, each with how many device calls it makes: a preparation 4 for each record of an intention, for
-/// its own record and for each block; every other change 4, which is one put; a carried out intention none where its file
-/// is gone already; and a scrub two for each of twelve pages.
+/// Calls one after another, each with how many device calls it makes. A put of a page is 4: a preparation puts a record for
+/// each intention and one for the work, and a page for each block; every other change puts one page, but that a file which is
+/// gone already isn't removed again. A stored block is read by one, and a scrub reads both halves of twelve pages.
 const COUNTS: [(Call, u64); 36] = [
     (Call::Prepare(Plan::Nothing), 4),
     (Call::MarkGoing, 4),
