@@ -21,7 +21,7 @@ use Rattle.jn_storage.specs.declared.faults.PromiseFault.{PromiseFault}
 use Rattle.jn_storage.specs.Listing.{IsListing}
 use Rattle.jn_storage.specs.Orderly.{IsPrepared, IsGiven}
 use Rattle.jn_storage.specs.Storage.{StorageView, IsServing}
-use Rattle.jn_storage.specs.Calls.{state, Called, BlockRead, tid_of, IsTold, TellsWorks, TellsFlags, WorkPrepared, reached, StepApplied, next_of, RecordErased, FlagPromised, MayPutFlag, MayPrepare, IsReady, IsGoing}
+use Rattle.jn_storage.specs.Calls.{state, Called, BlockRead, tid_of, TellsWorks, TellsFlags, WorkPrepared, reached, StepApplied, next_of, RecordErased, FlagPromised, MayPutFlag, MayPrepare}
 use Rattle.jn_store.specs.Store.{StoreView}
 use Rattle.jn_records.specs.StablePages.{Counts}
 use Rattle.jn_intent.specs.declared.load.DownCause.{DownCause}
@@ -153,13 +153,6 @@ module _ (server : ServerNo) (v : StorageView) (on : IsOn server v) (head : Work
       named : (u : WorkId) (b : Bool) → work_eq head.work u ≡ b → is_some (if b then Some (ready_work head list reads) else None) ≡ true → head.work ≡ u
       named u true t h = let n = work_tells head.work u in grind (arith, t)
       named u false t h = absurd (cc h)
-
--- a work that is listed is ready or going
-pub told_ready : (v : StorageView) (s : WorkState) → IsTold v s → s.going ≡ false → IsReady v s.head.work
-told_ready v s told e = rw (told.stands, sym told.going ∙ e) refl
-
-pub told_going : (v : StorageView) (s : WorkState) → IsTold v s → s.going ≡ true → IsGoing v s.head.work
-told_going v s told e = rw told.stands (sym told.going ∙ e)
 
 -- the first flag may be put, once a record was promised
 pub may_put : {A : Type 0} (server : ServerNo) (v w : StorageView) (answer : Result A PromiseFault) (flags : List Flag) (flag : Flag) → IsOn server v → FlagPromised v answer w → is_ok answer ≡ true → TellsFlags w flags → (length flags == 0) ≡ true → flag.works ≡ [] → IsGiven server 1 flag.tid.server flag.tid.epoch → MayPutFlag w flag

@@ -1,5 +1,5 @@
 -- From a store of zeros with a root a recovery may begin.
-use Rattle.std.proofs.Common.{◌≡◌, ℕ, zero, suc, ◌+◌, ◌*◌, ◌/◌, ◌<◌, ◌||◌, nat_eq, Bool, true, false, true≢false, if◌then◌else◌, List, drop, replicate, refl, sym, ◌∙◌, ap, subst, arith}
+use Rattle.std.proofs.Common.{◌≡◌, ℕ, zero, suc, ◌+◌, ◌*◌, ◌/◌, ◌<◌, ◌^◌, ◌||◌, nat_eq, Bool, true, false, true≢false, if◌then◌else◌, List, drop, replicate, refl, sym, ◌∙◌, ap, subst, arith}
 use Rattle.jn_base.specs.declared.names.ServerNo.{ServerNo}
 use Rattle.jn_device.specs.Device.{DeviceState, blank_page}
 use Rattle.jn_found.specs.Images.{CountsFit}
@@ -62,9 +62,9 @@ blank_tail = refl
 
 -- ---- the image
 
-module _ (server : ServerNo) (g : Counts) where
+module _ (server : ServerNo) (g : Counts) (epoch : ℕ) (epoch_fits : epoch < 2 ^ 32) where
   abbrev pub root : Root
-  root = record { server = server; pool = g.pool; heads = g.heads; leaves = g.leaves; epoch = 0 }
+  root = record { server = server; pool = g.pool; heads = g.heads; leaves = g.leaves; epoch = epoch }
 
   abbrev is_root : ℕ → Bool
   is_root p = nat_eq p 0 || nat_eq p (page_count g)
@@ -93,7 +93,7 @@ module _ (server : ServerNo) (g : Counts) where
   sound : IsSound server image
   sound = record {
     server = refl;
-    root = (0, omega arith, refl);
+    root = (epoch, epoch_fits, refl);
     good = λ p lt. refl;
     pairs = halves;
     pool = λ i lt. behind (slot_place g i) (omega arith) (omega (arith, lt)) ∙ blank_record;

@@ -1,9 +1,14 @@
 -- What the tests know of a storage and of its store.
-use Rattle.std.specs.Prelude.{◌≡◌, ◌≤◌, Bool, true}
+use Rattle.std.specs.Prelude.{◌≡◌, ◌≤◌, Bool, true, List}
+use Rattle.jn_base.specs.declared.names.FileNo.{FileNo}
+use Rattle.jn_base.specs.declared.names.LockUnit.{LockUnit}
 use Rattle.jn_base.specs.declared.names.ServerNo.{ServerNo}
 use Rattle.jn_found.specs.Recoverable.{IsRecoverable}
+use Rattle.jn_order.specs.Files.{Files}
+use Rattle.jn_records.specs.declared.intention.Intention.{Intention}
 use Rattle.jn_records.specs.StablePages.{Counts}
-use Rattle.jn_storage.specs.Storage.{StorageView, IsServing}
+use Rattle.jn_storage.specs.Orderly.{IsPrepared}
+use Rattle.jn_storage.specs.Storage.{StorageView, IsServing, file_there}
 use Rattle.jn_storage.specs.Calls.{state}
 use Rattle.jn_store.specs.Store.{StoreView}
 
@@ -21,3 +26,7 @@ pub record IsAfter (server : ServerNo) (done : Bool) (v : StorageView) : Type 0 
 -- a store from which a recovery of the server may begin
 abbrev pub MayBegin : ServerNo → StoreView → Type 0
 MayBegin server v = (g : Counts) × IsRecoverable server g v
+
+-- a list that may be prepared wherever the file is there, or wherever it isn't
+abbrev pub IsListWhere : FileNo → List LockUnit → Bool → List Intention → Type 0
+IsListWhere f reads there list = (files : Files) → file_there files f ≡ there → IsPrepared files list reads

@@ -12,9 +12,8 @@ use jn_stable::Pairs;
 use jn_store::StableStore;
 use std::alloc::{AllocError, Global};
 
-/// A new disk of a server that has never started: zeros behind its root.
+/// A new disk of a server: zeros behind its root.
 pub fn new_disk(alloc: Global, root: Root) -> Result<Pairs<MemDisk>, AllocError>
-    requires { root.epoch ≡ 0 }
     ensures { IfOk result (λ store. MayBegin root.server (⟦<Pairs<MemDisk> as StableStore>⟧.view store)) }
 {
     let pages = 1 + u32::from(root.pool) + u32::from(root.heads) + u32::from(root.leaves);
@@ -25,8 +24,7 @@ pub fn new_disk(alloc: Global, root: Root) -> Result<Pairs<MemDisk>, AllocError>
 
 /// Puts the root to a store of zeros.
 fn put_root<S: StableStore>(store: &mut S, root: Root)
-    requires blank { IsBlank (1 + root.pool + root.heads + root.leaves) (S.view store.old) }
-    requires epoch { root.epoch ≡ 0 }
+    requires { IsBlank (1 + root.pool + root.heads + root.leaves) (S.view store.old) }
     ensures { MayBegin root.server (S.view store.new) }
 {
     let Ok(()) = store.put(0, &root.encode()) else {

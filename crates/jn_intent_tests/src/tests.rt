@@ -1,23 +1,22 @@
-// Each call of a storage, stopped at each of its device calls in each way; then a half goes bad or is good again; then a
-// recovery, itself stopped at each of its device calls: it finds the state before the call or after it, and its works are
-// carried out to the same files.
+// The calls of a storage as tests make them, and stories of them with what is found after each.
 
 ghost use Rattle.std.specs.Prelude.{◌≡◌, ◌<◌, ℕ, Bool, true, false, IfOk, IfErr, is_ok, Ok, []};
 ghost use Rattle.jn_device.specs.Events.{is_within};
-ghost use Rattle.jn_order.specs.Files.{Files};
-ghost use Rattle.jn_storage.specs.Orderly.{IsPrepared};
 ghost use Rattle.jn_storage.specs.Storage.{IsServing};
 ghost use Rattle.jn_storage.specs.Calls.{IsReady, IsGoing, IsCarriedOut, HasFlag};
-ghost use Rattle.jn_intent_tests.specs.Trial.{IsOn, IsAfter, MayBegin};
+ghost use Rattle.jn_intent_tests.specs.Trial.{IsOn, IsAfter, IsListWhere, MayBegin};
 
-use crate::new_disk;
+mod counts;
+mod each_call;
+mod epochs;
+mod stops;
+mod used_up;
+
 use jn_base::{
-    Block, BlockNo, ClientNo, FaultKind, FileNo, LockUnit, ServerNo, Short, Stopped, Tid, WorkId,
+    Block, BlockNo, ClientNo, FaultKind, FileNo, LockUnit, ServerNo, Stopped, Tid, WorkId,
 };
 use jn_intent::{DownCause, Intents};
-use jn_memdisk::MemDisk;
 use jn_records::{Flag, Intention, ListOf, Root, What, WorkHead};
-use jn_stable::Pairs;
 use jn_storage::{FlagStore, PrepareFault, Storage, StoredFiles, WorkStore};
 use jn_store::{Powered, StableStore};
 use std::alloc::Global;
@@ -57,13 +56,43 @@ const HEAD: WorkHead = WorkHead {
 
 const FILE: FileNo = FileNo(7);
 
-const READS: [LockUnit; 1] = [LockUnit::File(FILE)];
+/// A file that no story makes.
+const OTHER: FileNo = FileNo(8);
+
+const READS: [LockUnit; 2] = [LockUnit::File(FILE), LockUnit::File(OTHER)];
 
 const BLOCK: BlockNo = BlockNo(3);
 
+const NEXT_BLOCK: BlockNo = BlockNo(4);
+
+/// What a work will do.
+#[derive(Clone, Copy, Debug)]
+enum Plan {
+    /// Nothing, where the file isn't there.
+    Nothing,
+    /// The file is made where it isn't there.
+    Make,
+    /// The same, with a block.
+    MakeWithBlock,
+    /// The file is made empty, and has two blocks.
+    MakeWithTwo,
+    /// The next block is put.
+    PutNext,
+    /// The blocks from this one on are cut.
+    Cut,
+    /// The file is removed.
+    Remove,
+    /// The file is removed, which isn't there.
+    RemoveAbsent,
+    /// Another file is made.
+    MakeOther,
+    /// The same, with a block.
+    MakeOtherWithBlock,
+}
+
 #[derive(Clone, Copy, Debug)]
 enum Call {
-    Prepare,
+    Prepare(Plan),
     MarkGoing,
     Apply,
     Forget,
@@ -71,64 +100,55 @@ enum Call {
     PutFlag,
     DropFlag,
     Erase,
+    Read,
+    Scrub,
 }
 
-/// Calls one after another, each with the stable pages that it puts, and what is found before the first one and after
+/// Calls one after another; the stable pages that each of them puts; and what is found before the first one and after
 /// each: a ready or going work, a flag, the file, its block, each a letter or a dot.
 #[derive(Clone, Copy)]
 struct Story {
-    calls: &'static [(Call, &'static [u32])],
+    calls: &'static [Call],
+    pages: &'static [&'static [u32]],
     found: &'static [[u8; 4]],
 }
 
+/// The pool's pages are 1 to 6, the heads 7 and 8, the data pages 9 to 11. Each record, head and block goes to the first
+/// that is free.
 const STORIES: [Story; 3] = [
     Story {
         calls: &[
-            (Call::Prepare, &[1, 9, 2, 3]),
-            (Call::MarkGoing, &[3]),
-            (Call::Apply, &[7]),
-            (Call::Apply, &[7]),
-            (Call::Forget, &[3]),
-            (Call::Erase, &[1]),
-            (Call::Erase, &[2]),
+            Call::Prepare(Plan::MakeWithBlock),
+            Call::MarkGoing,
+            Call::Apply,
+            Call::Apply,
+            Call::Forget,
+            Call::Erase,
+            Call::Erase,
         ],
+        pages: &[&[1, 9, 2, 3], &[3], &[7], &[7], &[3], &[1], &[2]],
         found: &[
             *b"....", *b"r...", *b"g...", *b"g.e.", *b"g.eb", *b"..eb", *b"..eb", *b"..eb",
         ],
     },
     Story {
         calls: &[
-            (Call::Prepare, &[1, 9, 2, 3]),
-            (Call::DropReady, &[3]),
-            (Call::Erase, &[1]),
-            (Call::Erase, &[2]),
+            Call::Prepare(Plan::MakeWithBlock),
+            Call::DropReady,
+            Call::Erase,
+            Call::Erase,
         ],
+        pages: &[&[1, 9, 2, 3], &[3], &[1], &[2]],
         found: &[*b"....", *b"r...", *b"....", *b"....", *b"...."],
     },
     Story {
-        calls: &[(Call::PutFlag, &[1]), (Call::DropFlag, &[1])],
+        calls: &[Call::PutFlag, Call::DropFlag],
+        pages: &[&[1], &[1]],
         found: &[*b"....", *b".f..", *b"...."],
     },
 ];
 
-/// How many device calls a stable put makes without faults: a put and a get of each half.
-const PUT: u32 = 4;
-
-/// How many a recovery makes that erases nothing: two for each page, the root, the records, the heads, and the put of the
-/// next epoch.
-const RECOVERY: u64 = 2 * 12 + 1 + 6 + 2 + 4;
-
-/// Whether the new state is found where the n-th device call is stopped in this way: the last put decides, from its first
-/// half on.
-fn is_new(puts: u32, n: u32, way: u32) -> bool
-    requires few { puts < 9 }
-    requires some { 0 < puts }
-{
-    let first = PUT * puts - 3;
-    n > first || n == first && way == 2
-}
-
-fn stop(way: u32) -> FaultKind
+fn stop(way: usize) -> FaultKind
     ensures { (count : ℕ) → is_within count result ≡ true }
 {
     match way {
@@ -138,22 +158,84 @@ fn stop(way: u32) -> FaultKind
     }
 }
 
-fn list() -> [Intention; 2]
-    ensures { (files : Files) → IsPrepared files result READS }
+macro_rules! intention {
+    ($what:ident, $file:expr, $block:expr, $byte:expr) => {
+        Intention {
+            what: What::$what,
+            file: $file,
+            block: $block,
+            bytes: [$byte; 448],
+        }
+    };
+}
+
+fn nothing() -> [Intention; 0]
+    ensures { IsListWhere FILE READS false result }
+{
+    []
+}
+
+fn make() -> [Intention; 1]
+    ensures { IsListWhere FILE READS false result }
+{
+    [intention!(Fresh, FILE, BlockNo(0), 0)]
+}
+
+fn make_with_block() -> [Intention; 2]
+    ensures { IsListWhere FILE READS false result }
 {
     [
-        Intention {
-            what: What::Fresh,
-            file: FILE,
-            block: BlockNo(0),
-            bytes: [0; 448],
-        },
-        Intention {
-            what: What::Put,
-            file: FILE,
-            block: BLOCK,
-            bytes: [9; 448],
-        },
+        intention!(Fresh, FILE, BlockNo(0), 0),
+        intention!(Put, FILE, BLOCK, 9),
+    ]
+}
+
+fn make_with_two() -> [Intention; 3]
+    ensures { IsListWhere FILE READS true result }
+{
+    [
+        intention!(Fresh, FILE, BlockNo(0), 0),
+        intention!(Put, FILE, BLOCK, 9),
+        intention!(Put, FILE, NEXT_BLOCK, 9),
+    ]
+}
+
+fn put_next() -> [Intention; 1]
+    ensures { IsListWhere FILE READS true result }
+{
+    [intention!(Put, FILE, NEXT_BLOCK, 9)]
+}
+
+fn cut() -> [Intention; 1]
+    ensures { IsListWhere FILE READS true result }
+{
+    [intention!(Cut, FILE, BLOCK, 0)]
+}
+
+fn remove() -> [Intention; 1]
+    ensures { IsListWhere FILE READS true result }
+{
+    [intention!(Gone, FILE, BlockNo(0), 0)]
+}
+
+fn remove_absent() -> [Intention; 1]
+    ensures { IsListWhere FILE READS false result }
+{
+    [intention!(Gone, FILE, BlockNo(0), 0)]
+}
+
+fn make_other() -> [Intention; 1]
+    ensures { IsListWhere FILE READS true result }
+{
+    [intention!(Fresh, OTHER, BlockNo(0), 0)]
+}
+
+fn make_other_with_block() -> [Intention; 2]
+    ensures { IsListWhere FILE READS true result }
+{
+    [
+        intention!(Fresh, OTHER, BlockNo(0), 0),
+        intention!(Put, OTHER, BLOCK, 9),
     ]
 }
 
@@ -202,18 +284,19 @@ fn taken_down<S: StableStore>(storage: Intents<S>) -> S
     storage.into_store()
 }
 
-/// The n-th device call of a storage from now is stopped in this way.
-fn arm_storage<S: Powered>(rt: &impl Abort, storage: &mut Intents<S>, n: u32, way: u32)
+/// A fault strikes at the n-th device call of a storage from now.
+fn arm_storage<S: Powered>(rt: &impl Abort, storage: &mut Intents<S>, n: u32, kind: FaultKind)
     requires on { IsOn SERVER (⟦<Intents<S> as Storage>⟧.view storage.old) }
     requires from_one { 0 < n }
+    requires within { (count : ℕ) → is_within count kind ≡ true }
     ensures { IsOn SERVER (⟦<Intents<S> as Storage>⟧.view storage.new) }
 {
     storage.clear_outside();
-    assert!(rt; storage.arm(n, stop(way)));
+    assert!(rt; storage.arm(n, kind));
 }
 
 /// The n-th device call of a store from now is stopped in this way.
-fn arm_store<S: Powered>(rt: &impl Abort, store: &mut S, n: u32, way: u32)
+fn arm_store<S: Powered>(rt: &impl Abort, store: &mut S, n: u32, way: usize)
     requires begin { MayBegin SERVER (S.view store.old) }
     requires from_one { 0 < n }
     ensures { MayBegin SERVER (S.view store.new) }
@@ -263,19 +346,52 @@ fn is_flagged<F: FlagStore>(storage: &F) -> bool
     }
 }
 
-/// Prepares the list, which is the first work.
-fn prepare<W: WorkStore>(
+/// Prepares a list, as the only work.
+fn prepare_list<W: WorkStore>(
     rt: &impl Abort,
     alloc: Global,
     storage: &mut W,
+    there: bool,
+    list: &[Intention],
 ) -> Result<(), PrepareFault>
-    requires { IsOn SERVER (W.view storage.old) }
+    requires on { IsOn SERVER (W.view storage.old) }
+    requires list { IsListWhere FILE READS there list.now }
     ensures { IsAfter SERVER (is_ok result) (W.view storage.new) }
 {
     let erased = storage.erase_step();
     assert!(rt; erased == Ok(false));
     assert!(rt; storage.works().is_empty());
-    storage.prepare(alloc, &HEAD, &list(), &READS)
+    assert!(rt; storage.file_there(FILE) == there);
+    storage.prepare(alloc, &HEAD, list, &READS)
+}
+
+fn prepare<W: WorkStore>(
+    rt: &impl Abort,
+    alloc: Global,
+    storage: &mut W,
+    plan: Plan,
+) -> Result<(), PrepareFault>
+    requires { IsOn SERVER (W.view storage.old) }
+    ensures { IsAfter SERVER (is_ok result) (W.view storage.new) }
+{
+    match plan {
+        Plan::Nothing => prepare_list(rt, alloc, storage, false, &nothing()),
+        Plan::Make => prepare_list(rt, alloc, storage, false, &make()),
+        Plan::MakeWithBlock => prepare_list(rt, alloc, storage, false, &make_with_block()),
+        Plan::MakeWithTwo => prepare_list(rt, alloc, storage, true, &make_with_two()),
+        Plan::PutNext => prepare_list(rt, alloc, storage, true, &put_next()),
+        Plan::Cut => prepare_list(rt, alloc, storage, true, &cut()),
+        Plan::Remove => prepare_list(rt, alloc, storage, true, &remove()),
+        Plan::RemoveAbsent => prepare_list(rt, alloc, storage, false, &remove_absent()),
+        Plan::MakeOther => prepare_list(rt, alloc, storage, true, &make_other()),
+        Plan::MakeOtherWithBlock => prepare_list(
+            rt,
+            alloc,
+            storage,
+            true,
+            &make_other_with_block(),
+        ),
+    }
 }
 
 fn mark_going<W: WorkStore>(rt: &impl Abort, storage: &mut W) -> Result<(), Stopped>
@@ -313,6 +429,7 @@ fn drop_ready<W: WorkStore>(rt: &impl Abort, storage: &mut W) -> Result<(), Stop
     storage.drop_ready(WORK)
 }
 
+/// Erases a record; false where there is none.
 fn erase<W: WorkStore>(storage: &mut W) -> Result<bool, Stopped>
     requires { IsOn SERVER (W.view storage.old) }
     ensures { IsAfter SERVER (is_ok result) (W.view storage.new) }
@@ -355,7 +472,7 @@ fn do_call<S: StableStore>(
     ensures { IsAfter SERVER result (⟦<Intents<S> as Storage>⟧.view storage.new) }
 {
     match call {
-        Call::Prepare => prepare(rt, alloc, storage).is_ok(),
+        Call::Prepare(plan) => prepare(rt, alloc, storage, plan).is_ok(),
         Call::MarkGoing => mark_going(rt, storage).is_ok(),
         Call::Apply => {
             let applied = apply(rt, storage);
@@ -371,6 +488,8 @@ fn do_call<S: StableStore>(
             assert!(rt; erased != Ok(false));
             erased.is_ok()
         }
+        Call::Read => read(storage).is_ok(),
+        Call::Scrub => scrub(storage).is_ok(),
     }
 }
 
@@ -379,6 +498,13 @@ fn read<W: StoredFiles>(storage: &mut W) -> Result<Option<Block>, Stopped>
     ensures { IsAfter SERVER (is_ok result) (W.view storage.new) }
 {
     storage.read_block(FILE, BLOCK)
+}
+
+fn scrub<S: StableStore>(storage: &mut Intents<S>) -> Result<(), Stopped>
+    requires { IsOn SERVER (⟦<Intents<S> as Storage>⟧.view storage.old) }
+    ensures { IsAfter SERVER (is_ok result) (⟦<Intents<S> as Storage>⟧.view storage.new) }
+{
+    storage.scrub()
 }
 
 /// The block in a letter.
@@ -458,212 +584,19 @@ fn finish<S: StableStore>(rt: &impl Abort, storage: &mut Intents<S>)
     assert_eq!(rt; letters(rt, storage), *b"..eb");
 }
 
-/// The storage after the first calls of a story were done.
+/// The storage after these calls were done.
 fn told_to<S: Powered + Drop>(
     rt: &impl Abort,
     alloc: Global,
     store: S,
-    story: &Story,
-    at: usize,
+    calls: &[Call],
 ) -> Result<Intents<S>, Fail>
     requires { MayBegin SERVER (S.view store) }
     ensures { IfOk result (λ storage. IsOn SERVER (⟦<Intents<S> as Storage>⟧.view storage)) }
 {
     let mut storage = started(rt, alloc, store)?;
-    assert!(rt; at <= story.calls.len());
-    for k in 0..at {
-        assert!(rt; do_call(rt, alloc, &mut storage, story.calls[k].0));
+    for call in calls {
+        assert!(rt; do_call(rt, alloc, &mut storage, *call), "{call:?}");
     }
     Ok(storage)
-}
-
-/// The store after the first calls of a story were done, and the next was stopped at its n-th device call in this way.
-fn stopped(
-    rt: &impl Abort,
-    alloc: Global,
-    story: &Story,
-    at: usize,
-    n: u32,
-    way: u32,
-) -> Result<Pairs<MemDisk>, Fail>
-    requires { 0 < n }
-    ensures { IfOk result (λ store. MayBegin SERVER (⟦<Pairs<MemDisk> as StableStore>⟧.view store)) }
-{
-    let mut storage = told_to(rt, alloc, new_disk(alloc, ROOT)?, story, at)?;
-    arm_storage(rt, &mut storage, n, way);
-    assert!(rt; at < story.calls.len());
-    assert!(rt; !do_call(rt, alloc, &mut storage, story.calls[at].0));
-    let mut store = taken_down(storage);
-    power_on(&mut store);
-    Ok(store)
-}
-
-/// What a recovery finds on a store is one of these, and its work is carried out to the same files.
-fn check_one<S: Powered + Drop>(
-    rt: &impl Abort,
-    alloc: Global,
-    store: S,
-    allowed: &[[u8; 4]],
-    name: &str,
-) -> Result<(), Fail>
-    requires { MayBegin SERVER (S.view store) }
-{
-    let mut storage = started(rt, alloc, store)?;
-    let found = letters(rt, &mut storage);
-    assert!(rt; allowed.contains(&found), "{name}: {found:?}");
-    finish(rt, &mut storage);
-    Ok(())
-}
-
-/// Stops the next call of a story, and recovers; also where a half of the page that is put has gone bad, or is good again.
-fn check_stop(
-    rt: &impl Abort,
-    alloc: Global,
-    story: &Story,
-    at: usize,
-    n: u32,
-    way: u32,
-) -> Result<(), Fail>
-    requires { 0 < n }
-{
-    assert!(rt; at < story.calls.len() && at + 1 < story.found.len());
-    let (old, new) = (story.found[at], story.found[at + 1]);
-    let pages = story.calls[at].1;
-    let at_put = ((n - 1) / PUT) as usize;
-    assert!(rt; pages.len() < 9 && at_put < pages.len());
-    let left = [if is_new(pages.len() as u32, n, way) {
-        new
-    } else {
-        old
-    }];
-    check_one(
-        rt,
-        alloc,
-        stopped(rt, alloc, story, at, n, way)?,
-        &left,
-        "stopped",
-    )?;
-    let page = pages[at_put];
-    assert!(rt; page < PAGES);
-    for half in [page, page + PAGES] {
-        let mut store = stopped(rt, alloc, story, at, n, way)?;
-        decay(rt, &mut store, half);
-        check_one(rt, alloc, store, &[old, new], "a half goes bad")?;
-        let mut store = stopped(rt, alloc, story, at, n, way)?;
-        revive(rt, &mut store, half);
-        check_one(rt, alloc, store, &[old, new], "a half is good again")?;
-    }
-    Ok(())
-}
-
-/// Stops the next call of a story after the first half of a put, so that the halves differ, and stops a recovery at each of
-/// its device calls.
-fn check_recoveries(
-    rt: &impl Abort,
-    alloc: Global,
-    story: &Story,
-    at: usize,
-    put: u32,
-) -> Result<(), Fail> {
-    assert!(rt; at < story.calls.len() && at + 1 < story.found.len() && put < 9);
-    let last = put as usize + 1 == story.calls[at].1.len();
-    let left = if last {
-        story.found[at + 1]
-    } else {
-        story.found[at]
-    };
-    for k in 1..100u32 {
-        let mut store = stopped(rt, alloc, story, at, PUT * put + 1, 2)?;
-        arm_store(rt, &mut store, k, k % 3);
-        match recovered(rt, alloc, store) {
-            Ok(_) => return Ok(()),
-            Err(down) => check_one(rt, alloc, down, &[left], "a recovery is stopped")?,
-        }
-    }
-    Err("no end".into())
-}
-
-/// How many device calls were made once the first calls of a story were done, that of the new root among them.
-fn calls_after(rt: &impl Abort, alloc: Global, story: &Story, at: usize) -> Result<u64, Fail> {
-    let storage = told_to(rt, alloc, new_disk(alloc, ROOT)?, story, at)?;
-    Ok(storage.into_store().into_inner().calls())
-}
-
-#[test]
-fn a_call_makes_so_many_device_calls(rt: HostRuntime) -> Result<(), Fail> {
-    let first = u64::from(PUT) + RECOVERY;
-    for story in &STORIES {
-        assert_eq!(rt; calls_after(&rt, rt.alloc(), story, 0)?, first);
-        for (at, (call, pages)) in story.calls.iter().enumerate() {
-            let before = calls_after(&rt, rt.alloc(), story, at)?;
-            let after = calls_after(&rt, rt.alloc(), story, at + 1)?;
-            assert!(rt; pages.len() < 9);
-            let puts = 4 * pages.len() as u64;
-            assert_eq!(rt; after.checked_sub(before), Some(puts), "{call:?}");
-        }
-    }
-    Ok(())
-}
-
-#[test]
-fn a_recovery_erases_what_a_stopped_preparation_left(rt: HostRuntime) -> Result<(), Fail> {
-    let alloc = rt.alloc();
-    // after so many puts so many records of intentions stand there
-    for (put, records) in [(0, 0), (1, 1), (2, 1), (3, 2)] {
-        let store = stopped(&rt, alloc, &STORIES[0], 0, PUT * put + 1, 0)?;
-        let before = store.into_inner().calls();
-        let store = stopped(&rt, alloc, &STORIES[0], 0, PUT * put + 1, 0)?;
-        let after = started(&rt, alloc, store)?
-            .into_store()
-            .into_inner()
-            .calls();
-        let wanted = RECOVERY + u64::from(PUT) * records;
-        assert_eq!(rt; after.checked_sub(before), Some(wanted));
-    }
-    Ok(())
-}
-
-#[test]
-fn a_pool_of_one_has_room_for_a_flag(rt: HostRuntime) -> Result<(), Fail> {
-    let alloc = rt.alloc();
-    let root = Root {
-        server: SERVER,
-        pool: 1,
-        heads: 1,
-        leaves: 1,
-        epoch: 0,
-    };
-    let mut storage = started(&rt, alloc, new_disk(alloc, root)?)?;
-    let short = Short { free: 1, need: 3 };
-    let fault = Err(PrepareFault::Records(short));
-    assert_eq!(rt; prepare(&rt, alloc, &mut storage), fault);
-    let mut storage = started(&rt, alloc, new_disk(alloc, root)?)?;
-    assert!(rt; put_flag(&rt, alloc, &mut storage).is_ok());
-    Ok(())
-}
-
-#[test]
-fn a_recovery_stands_before_or_after_a_stopped_call(rt: HostRuntime) -> Result<(), Fail> {
-    for story in &STORIES {
-        for (at, (_call, pages)) in story.calls.iter().enumerate() {
-            assert!(rt; pages.len() < 9);
-            for k in 0..3 * PUT * pages.len() as u32 {
-                check_stop(&rt, rt.alloc(), story, at, k / 3 + 1, k % 3)?;
-            }
-        }
-    }
-    Ok(())
-}
-
-#[test]
-fn a_recovery_may_be_stopped_anywhere(rt: HostRuntime) -> Result<(), Fail> {
-    for story in &STORIES {
-        for (at, (_call, pages)) in story.calls.iter().enumerate() {
-            assert!(rt; pages.len() < 9);
-            for put in 0..pages.len() as u32 {
-                check_recoveries(&rt, rt.alloc(), story, at, put)?;
-            }
-        }
-    }
-    Ok(())
 }

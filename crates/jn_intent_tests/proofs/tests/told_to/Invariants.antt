@@ -3,5 +3,5 @@ use Rattle.jn_intent_tests.specs.declared.tests.TheConstants.{SERVER}
 use Rattle.jn_intent_tests.specs.Trial.{IsOn}
 use Rattle.jn_intent_tests.proofs.tests.told_to.Given as goal
 
-abbrev pub invariant-loop-k : goal.invariant-loop-k
-invariant-loop-k g l = IsOn SERVER (view_of l.storage.1 (g.S.StableStore.view l.storage.0))
+abbrev pub invariant-loop-call : goal.invariant-loop-call
+invariant-loop-call g l = IsOn SERVER (view_of l.storage.1 (g.S.StableStore.view l.storage.0))

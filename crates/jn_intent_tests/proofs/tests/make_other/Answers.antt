@@ -1,11 +1,11 @@
 use Rattle.std.proofs.Common.{refl, arith}
 use Rattle.jn_order.specs.Files.{zeros}
-use Rattle.jn_intent_tests.proofs.tests.list.Goals as goal
+use Rattle.jn_intent_tests.proofs.tests.make_other.Goals as goal
 
 pub returns : goal.returns
 unfolding zeros
-returns c files = record {
-  order = record { order = refl; plain = ((refl, refl), (tt, tt)) };
+returns c files there = record {
+  order = record { order = refl; plain = ((refl, refl), tt) };
   length_fits = omega arith;
   in_range = refl;
   reads_fit = omega arith;
