@@ -1,15 +1,17 @@
 //! The words that every crate shares: names, lock units, pages, operations, answers and faults.
 #![tactic(auto)]
 
+mod block;
 mod device;
 mod fields;
 mod names;
 mod op;
 
+pub use block::{Block, BlockContent};
 pub use device::{FaultKind, Outside, Page, Stopped};
 pub use fields::{PageWriter, numbers_are_read_back, take_bytes, take_u8, take_u16, take_u32};
 pub use names::{
     BlockNo, Cause, ClientNo, FileNo, LockUnit, MsgKind, Party, ServerNo, Short, Tickets, Tid,
     WorkId,
 };
-pub use op::{Answer, Block, Command, Op};
+pub use op::{Answer, Command, Op};

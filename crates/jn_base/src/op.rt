@@ -1,12 +1,12 @@
 //! What clients ask for.
+ghost use Rattle.std.specs.Prelude.{◌≡◌, IfOk};
 
+use crate::block::BlockContent;
 use crate::names::{BlockNo, FileNo, LockUnit, ServerNo, Tid};
-
-/// The bytes of a block.
-pub type Block = [u8; 448];
+use std::alloc::{AllocError, Global};
 
 /// An operation on the files of one server.
-#[derive(Clone, Copy)]
+#[derive(Drop)]
 pub enum Op {
     /// Makes an empty file.
     Create(FileNo),
@@ -14,14 +14,29 @@ pub enum Op {
     /// Takes away the blocks from this one on.
     Cut(FileNo, BlockNo),
     Read(FileNo, BlockNo),
-    Write(FileNo, BlockNo, Block),
+    Write(FileNo, BlockNo, BlockContent),
+}
+
+impl Op {
+    /// The same operation once more.
+    pub fn copy(&self, alloc: Global) -> Result<Op, AllocError>
+        ensures { IfOk result (λ op. op ≡ self.now) }
+    {
+        Ok(match self {
+            Op::Create(f) => Op::Create(*f),
+            Op::Remove(f) => Op::Remove(*f),
+            Op::Cut(f, n) => Op::Cut(*f, *n),
+            Op::Read(f, p) => Op::Read(*f, *p),
+            Op::Write(f, p, content) => Op::Write(*f, *p, content.copy(alloc)?),
+        })
+    }
 }
 
 /// What an operation is answered.
-#[derive(Clone, Copy)]
+#[derive(Drop)]
 pub enum Answer {
     Did,
-    Read(Block),
+    Read(BlockContent),
     NoFile,
     Exists,
     /// Another transaction holds the unit.
@@ -35,12 +50,47 @@ pub enum Answer {
     Closing,
 }
 
+impl Answer {
+    /// The same answer once more.
+    pub fn copy(&self, alloc: Global) -> Result<Answer, AllocError>
+        ensures { IfOk result (λ answer. answer ≡ self.now) }
+    {
+        Ok(match self {
+            Answer::Did => Answer::Did,
+            Answer::Read(content) => Answer::Read(content.copy(alloc)?),
+            Answer::NoFile => Answer::NoFile,
+            Answer::Exists => Answer::Exists,
+            Answer::Locked(unit, holder) => Answer::Locked(*unit, *holder),
+            Answer::TooManyReads => Answer::TooManyReads,
+            Answer::TooManyWrites => Answer::TooManyWrites,
+            Answer::Broken(unit, by) => Answer::Broken(*unit, *by),
+            Answer::Lost(then, now) => Answer::Lost(*then, *now),
+            Answer::Closing => Answer::Closing,
+        })
+    }
+}
+
 /// What a client is told to do.
-#[derive(Clone, Copy)]
+#[derive(Drop)]
 pub enum Command {
     Begin(ServerNo),
     Open(ServerNo),
     Do(ServerNo, Op),
     End,
     Abort,
+}
+
+impl Command {
+    /// The same command once more.
+    pub fn copy(&self, alloc: Global) -> Result<Command, AllocError>
+        ensures { IfOk result (λ command. command ≡ self.now) }
+    {
+        Ok(match self {
+            Command::Begin(server) => Command::Begin(*server),
+            Command::Open(server) => Command::Open(*server),
+            Command::Do(server, op) => Command::Do(*server, op.copy(alloc)?),
+            Command::End => Command::End,
+            Command::Abort => Command::Abort,
+        })
+    }
 }
