@@ -1,15 +1,19 @@
 //! Net lists: what a work's operations come to, as few intentions.
 ghost use Rattle.std.specs.Prelude.{◌≡◌, ◌≤◌, ◌&&◌, nat_eq, filter, IsOk, vec_len, vec_capacity, ◌<◌, ◌^◌, ◌+◌, ℕ, List, [], true, length, count_by, Option, is_some, IfOk, OnOk, OnErr};
+ghost use Rattle.jn_base.specs.declared.names.BlockNo.{BlockNo};
+ghost use Rattle.jn_base.specs.declared.names.FileNo.{FileNo};
 ghost use Rattle.jn_base.specs.declared.names.LockUnit.TheVariants.{File, Block};
+ghost use Rattle.jn_base.specs.declared.op.Answer.TheVariants.{Read as Found};
+ghost use Rattle.jn_base.specs.declared.op.Op.TheVariants.{Read};
 ghost use Rattle.jn_base.specs.Names.{file_eq};
-ghost use Rattle.jn_order.specs.Files.{Files, change, effect, answer_to, file_of, zeros};
+ghost use Rattle.jn_order.specs.Files.{Files, change, effect, answer_to, file_of, or_else, zeros};
 ghost use Rattle.jn_order.specs.Changes.{and_then};
 ghost use Rattle.jn_records.specs.Reading.{Gives};
 ghost use Rattle.jn_records.specs.NetLists.{InOrder, block_of, blocks_below, list_change, net_of, added, place_of, stands_before, as_first, as_put, entry, stays, length_with, seen_block, answered, is_put_intention, needs_a_head};
 ghost use Rattle.jn_records.specs.NetEdits.{there_by, unput_by, seen_by, plain, cut_again, intention_for, list_after, front, in_its_place};
 
 use crate::intention::{Intention, What};
-use jn_base::{Answer, Block, BlockNo, FileNo, Op};
+use jn_base::{Answer, Block, BlockContent, BlockNo, FileNo, Op};
 use std::alloc::{AllocError, Global};
 use std::marker::Model;
 
@@ -116,24 +120,21 @@ impl NetList {
     }
 
     /// The answer of the files seen through this list, where `stored` says whether the files stored have
-    /// the operation's file; `None` where it is the stored block, or zeros where none is stored.
-    pub fn answer(&self, op: &Op, stored: bool) -> Option<Answer>
-        ensures { (files : Files) → is_some (files (File (file_of op.now))) ≡ stored
-            → answer_to op.now (change (list_change self.now) files) ≡ answered result op.now files }
+    /// the operation's file; `None` where it is the stored block, or zeros where none is stored. Only the bytes
+    /// of a block that was read take memory.
+    pub fn answer(&self, alloc: Global, op: &Op, stored: bool) -> Result<Option<Answer>, AllocError>
+        ensures { IfOk result (λ answer. (files : Files) → is_some (files (File (file_of op.now))) ≡ stored
+            → answer_to op.now (change (list_change self.now) files) ≡ answered answer op.now files) }
     {
         let f = file_of(op);
         let there = self.there(f, stored);
-        match op {
+        Ok(match op {
             Op::Create(_) if there => Some(Answer::Exists),
             Op::Create(_) => Some(Answer::Did),
             _ if !there => Some(Answer::NoFile),
-            Op::Read(f, p) => match self.block(*f, *p) {
-                Seen::Put(bytes) => Some(Answer::Read(bytes)),
-                Seen::Zeros => Some(Answer::Read(zeros())),
-                Seen::Stored => None,
-            },
+            Op::Read(f, p) => answer_of(alloc, self.block(*f, *p))?,
             _ => Some(Answer::Did),
-        }
+        })
     }
 
     /// How many puts there are.
@@ -143,6 +144,18 @@ impl NetList {
     {
         puts_in(&self.items)
     }
+}
+
+/// The answer to a read, where the bytes are known.
+fn answer_of(alloc: Global, seen: Seen) -> Result<Option<Answer>, AllocError>
+    ensures { IfOk result (λ answer. (f : FileNo) → (p : BlockNo) → (files : Files) → Found (or_else (seen_block seen (files (Block f p))) zeros) ≡ answered answer (Read f p) files) }
+{
+    let bytes = match seen {
+        Seen::Put(bytes) => bytes,
+        Seen::Zeros => zeros(),
+        Seen::Stored => return Ok(None),
+    };
+    Ok(Some(Answer::Read(BlockContent::from_block(alloc, &bytes)?)))
 }
 
 /// How many puts a list has.
@@ -314,11 +327,11 @@ fn intention_for(list: &[Intention], op: &Op) -> Option<Intention>
         Op::Remove(f) => Some(plain(What::Gone, *f, BlockNo(0))),
         Op::Cut(f, n) => Some(cut_again(list, *f, *n)),
         Op::Read(..) => None,
-        Op::Write(file, block, bytes) => Some(Intention {
+        Op::Write(file, block, content) => Some(Intention {
             what: What::Put,
             file: *file,
             block: *block,
-            bytes: *bytes,
+            bytes: content.to_block(),
         }),
     }
 }
