@@ -88,6 +88,13 @@ fn committed_stage(alloc: Global, works: ListOf<WorkId>) -> Stage
 }
 
 impl Coordinator {
+    /// The live transactions, in rising order of their names.
+    pub fn transactions(&self) -> &[Transaction]
+        ensures { result.now ≡ self.now.transactions }
+    {
+        &self.transactions
+    }
+
     /// How many transactions are live.
     fn live(&self) -> usize
         ensures { result ≡ length self.now.transactions }
