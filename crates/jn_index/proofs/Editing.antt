@@ -1,15 +1,21 @@
 -- An entry is taken out, or put in.
-use Rattle.std.proofs.Common.{◌≡◌, ◌≢◌, inl, inr, ◌<◌, ◌≤◌, ◌+◌, ◌-◌, ℕ, Bool, true, false, List, length, Option, Some, None, refl, sym, ap, subst, ◌∙◌, arith}
+use Rattle.std.proofs.Common.{◌≡◌, ◌≢◌, inl, inr, ◌<◌, ◌≤◌, ◌+◌, ◌-◌, ℕ, Bool, true, false, List, length, Option, Some, None, refl, sym, ap, subst, ◌∙◌, arith, ◌^◌}
 use Rattle.std.proofs.lemmas.Bool.{cases_eq, cases_lt}
 use Rattle.std.proofs.lemmas.Bool.Decides.{nat_tests}
-use Rattle.std.proofs.lemmas.List.{get_or-set_same, get_or-set_other}
+use Rattle.std.proofs.lemmas.List.{get_or-set_same, get_or-set_other, get_or_past}
 use Rattle.std.proofs.lemmas.List.Edits.{get_or-insert_at, get_or-insert_below, get_or-insert_above, get_or-remove_below, get_or-remove_above}
 use Rattle.std.specs.List.{insert, remove}
 use Rattle.std.specs.Prelude.{slice_set, nat_lt, if◌then◌else◌}
 use Rattle.jn_index.specs.declared.Entry.{Entry}
-use Rattle.jn_index.specs.Numbers.{number_at, IsNumberFrom}
+use Rattle.jn_index.specs.Numbers.{number_at, is_above, IsNumberAbove}
 use Rattle.jn_index.specs.Entries.{entry, entry_at, is_before, AreEntries}
 use Rattle.jn_index.proofs.Order.{not_itself, before_or_same}
+
+pub has_slot : (numbers : List (Option ℕ)) (slot number : ℕ) → number_at numbers slot ≡ Some number → slot < length numbers
+has_slot numbers slot number some = elim (cases_lt slot (length numbers)) [
+  | inl lt ↦ lt
+  | inr le ↦ absurd (let none : number_at numbers slot ≡ None = get_or_past numbers slot None le in cc (none, some))
+]
 
 -- the places of a list with one more element, but that element's
 skip : ℕ → ℕ → ℕ
@@ -171,30 +177,30 @@ module _ (numbers : List (Option ℕ)) (list : List Entry) (are : AreEntries num
       let same : found.0 ≡ place = elim (cases_eq found.0 place) [ inl e ↦ e | inr ne ↦ absurd (elim (cases_lt found.0 place) [ inl lt ↦ not_below lt | inr le ↦ not_above (omega arith) ]) ] in
       (subst (λ (k : ℕ). k < length list) same found.1, ap (entry_at list) (sym same) ∙ found.2)
 
--- the least number from one on stands at the place of its first possible entry
-module _ (numbers : List (Option ℕ)) (list : List Entry) (are : AreEntries numbers list) (least place : ℕ) where
-  pub least_number : (e : Entry) → place < length list → entry_at list place ≡ e → ((k : ℕ) → k < place → is_before (entry_at list k) (entry least 0) ≡ true)
-      → ((k : ℕ) → place ≤ k → k < length list → is_before (entry_at list k) (entry least 0) ≡ false) → IsNumberFrom numbers least e.number
-  least_number e here is before after = record {
-    slot = e.slot;
-    here = subst (λ (x : Entry). number_at numbers x.slot ≡ Some x.number) is (are.right place here);
-    above = not_less e (ap (λ (x : Entry). is_before x (entry least 0)) (sym is) ∙ after place (omega arith) here);
-    lowest = λ k n has up. let found = are.all k n has in
-        let not_below : (lt : found.0 < place) → ⊥ = λ lt. less k n up (ap (λ (x : Entry). is_before x (entry least 0)) (sym found.2) ∙ before found.0 lt) in
-        elim (cases_eq place found.0) [
-          | inl same ↦ let at : e ≡ entry n k = sym is ∙ ap (entry_at list) same ∙ found.2 in let number : e.number ≡ n = ap (λ (x : Entry). x.number) at in omega arith
-          | inr ne ↦ elim (cases_lt found.0 place) [
-            | inl lt ↦ absurd (not_below lt)
-            | inr le ↦ in_order e (entry n k) (ap (λ (x : Entry). is_before x (entry n k)) (sym is) ∙ ap (is_before (entry_at list place)) (sym found.2) ∙ are.rising place found.0 (omega arith) found.1)
-          ]
-        ];
-  }
-    where
-      not_less : (e : Entry) → is_before e (entry least 0) ≡ false → least ≤ e.number
-      not_less e t = grind (arith, nat_tests, t)
+-- the least number above another stands at the place of the first that is
+module _ (numbers : List (Option ℕ)) (list : List Entry) (are : AreEntries numbers list) where
+  pub low_slots : length numbers < 2 ^ 16 → (i : ℕ) → i < length list → (entry_at list i).slot < 65535
+  low_slots few i here = let below = has_slot numbers (entry_at list i).slot (entry_at list i).number (are.right i here) in omega arith
 
-      less : (k n : ℕ) → least ≤ n → is_before (entry n k) (entry least 0) ≡ true → ⊥
-      less k n le t = grind (arith, nat_tests, t)
+  module _ (after : Option ℕ) (place : ℕ) (not_before : (i : ℕ) → i < place → is_above after (entry_at list i).number ≡ false) where
+    pub least_above : (e : Entry) → place < length list → entry_at list place ≡ e → ((i : ℕ) → place ≤ i → i < length list → is_above after (entry_at list i).number ≡ true)
+        → IsNumberAbove numbers after e.number
+    least_above e here is behind = record {
+      slot = e.slot;
+      here = subst (λ (x : Entry). number_at numbers x.slot ≡ Some x.number) is (are.right place here);
+      above = ap (λ (x : Entry). is_above after x.number) (sym is) ∙ behind place (omega arith) here;
+      least = λ k n has up. let found = are.all k n has in
+          elim (cases_eq place found.0) [
+            | inl same ↦ let at : e ≡ entry n k = sym is ∙ ap (entry_at list) same ∙ found.2 in let number : e.number ≡ n = ap (λ (x : Entry). x.number) at in omega arith
+            | inr ne ↦ elim (cases_lt found.0 place) [
+              | inl lt ↦ absurd (let low = not_before found.0 lt in let high : is_above after (entry_at list found.0).number ≡ true = ap (λ (x : Entry). is_above after x.number) found.2 ∙ up in cc (low, high))
+              | inr le ↦ in_order e (entry n k) (ap (λ (x : Entry). is_before x (entry n k)) (sym is) ∙ ap (is_before (entry_at list place)) (sym found.2) ∙ are.rising place found.0 (omega arith) found.1)
+            ]
+          ];
+    }
+      where
+        in_order : (a b : Entry) → is_before a b ≡ true → a.number ≤ b.number
+        in_order a b t = grind (arith, nat_tests, t)
 
-      in_order : (a b : Entry) → is_before a b ≡ true → a.number ≤ b.number
-      in_order a b t = grind (arith, nat_tests, t)
+    pub none_above : length list ≤ place → (slot n : ℕ) → number_at numbers slot ≡ Some n → is_above after n ≡ false
+    none_above end slot n has = let found = are.all slot n has in ap (λ (x : Entry). is_above after x.number) (sym found.2) ∙ not_before found.0 (let lt = found.1 in omega arith)

@@ -1,7 +1,6 @@
 -- An index in memory, as it is changed.
 use Rattle.std.proofs.Common.{◌≡◌, ◌<◌, ◌≤◌, ◌+◌, ℕ, true, false, List, length, Option, Some, None, refl, sym, ap, subst, ◌∙◌, arith, inl, inr}
-use Rattle.std.proofs.lemmas.Bool.{cases_lt}
-use Rattle.std.proofs.lemmas.List.{length-set, get_or_past}
+use Rattle.std.proofs.lemmas.List.{length-set}
 use Rattle.std.proofs.lemmas.List.Edits.{length-insert, length-remove}
 use Rattle.std.proofs.lemmas.List.Sums.{sum_by-set}
 use Rattle.std.specs.List.{insert, remove}
@@ -9,19 +8,13 @@ use Rattle.std.specs.Prelude.{slice_set, count_by, cond}
 use Rattle.jn_index.specs.declared.Entry.{Entry}
 use Rattle.jn_index.specs.Numbers.{number_at}
 use Rattle.jn_index.specs.Entries.{is_none, entry_at, is_before, IsIndex}
-use Rattle.jn_index.proofs.Editing.{cleared, filled}
+use Rattle.jn_index.proofs.Editing.{cleared, filled, has_slot}
 
 abbrev ones : Option ℕ → ℕ
 ones n = cond (is_none n) 1 0
 
 count_of_set : (numbers : List (Option ℕ)) (slot : ℕ) (y : Option ℕ) → slot < length numbers → count_by is_none (slice_set numbers slot y) + ones (number_at numbers slot) ≡ count_by is_none numbers + ones y
 count_of_set numbers slot y below = sum_by-set (λ n. cond (is_none n) 1 0) numbers slot y None below
-
-has_slot : (numbers : List (Option ℕ)) (slot number : ℕ) → number_at numbers slot ≡ Some number → slot < length numbers
-has_slot numbers slot number some = elim (cases_lt slot (length numbers)) [
-  | inl lt ↦ lt
-  | inr le ↦ absurd (let none : number_at numbers slot ≡ None = get_or_past numbers slot None le in cc (none, some))
-]
 
 module _ (numbers : List (Option ℕ)) (list : List Entry) (capacity : ℕ) (index : IsIndex numbers list capacity) where
   pub is_cleared : (old : Entry) (i : ℕ) (after : List Entry) (room : ℕ) → number_at numbers old.slot ≡ Some old.number → i < length list → entry_at list i ≡ old → after ≡ remove list i → capacity ≤ room

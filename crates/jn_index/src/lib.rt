@@ -5,7 +5,7 @@
 #![tactic(auto)]
 
 ghost use Rattle.std.specs.Prelude.{◌≡◌, ◌<◌, ◌≤◌, ◌+◌, ◌^◌, ℕ, true, false, length, List, slice_set, slice_index_or, count_by, Option, Some, None, is_some, IfOk, IfSome, IfNone, insert, remove};
-ghost use Rattle.jn_index.specs.Numbers.{number_at, IsSlotFrom, IsNumberFrom};
+ghost use Rattle.jn_index.specs.Numbers.{number_at, is_above, IsSlotFrom, IsNumberAbove};
 ghost use Rattle.jn_index.specs.Entries.{is_none, is_before, entry, entry_at, AreRising};
 
 use std::alloc::{AllocError, Global};
@@ -84,18 +84,12 @@ impl Index {
         None
     }
 
-    /// The least number from one on that a slot has.
-    pub fn number_from(&self, least: u32) -> Option<u32>
-        ensures found { IfSome result (λ number. IsNumberFrom self.now least number) }
-        ensures none { IfNone result ((slot n : ℕ) → number_at self.now slot ≡ Some n → n < least) }
+    /// The least number above another that a slot has, or the least of all.
+    pub fn number_above(&self, after: Option<u32>) -> Option<u32>
+        ensures found { IfSome result (λ number. IsNumberAbove self.now after number) }
+        ensures none { IfNone result ((slot n : ℕ) → number_at self.now slot ≡ Some n → is_above after n ≡ false) }
     {
-        let place = place_of(
-            &self.entries,
-            Entry {
-                number: least,
-                slot: 0,
-            },
-        );
+        let place = place_above(&self.entries, after);
         if place < self.entries.len() {
             return Some(self.entries[place].number);
         }
@@ -139,6 +133,26 @@ fn no_numbers(alloc: Global, slots: u16) -> Result<Vec<Option<u32>>, AllocError>
     Ok(numbers)
 }
 
+/// How many entries aren't above a number.
+fn place_above(entries: &[Entry], after: Option<u32>) -> usize
+    requires rising { AreRising entries.now }
+    requires slots { (i : ℕ) → i < length entries.now → (entry_at entries.now i).slot < 65535 }
+    ensures bound { result ≤ length entries.now }
+    ensures before { (i : ℕ) → i < result → is_above after (entry_at entries.now i).number ≡ false }
+    ensures after { (i : ℕ) → result ≤ i → i < length entries.now → is_above after (entry_at entries.now i).number ≡ true }
+{
+    match after {
+        None => 0,
+        Some(number) => place_of(
+            entries,
+            Entry {
+                number,
+                slot: u16::MAX,
+            },
+        ),
+    }
+}
+
 /// How many entries come before one.
 fn place_of(entries: &[Entry], sought: Entry) -> usize
     requires { AreRising entries.now }
@@ -163,4 +177,47 @@ fn comes_before(a: Entry, b: Entry) -> bool
     ensures { result ≡ is_before a b }
 {
     a.number < b.number || (a.number == b.number && a.slot < b.slot)
+}
+
+#[cfg(test)]
+mod tests {
+    use super::*;
+    use std::test::Fail;
+
+    #[test]
+    fn slots_are_found_by_their_numbers(rt: HostRuntime) -> Result<(), Fail> {
+        let mut index = Index::new(rt.alloc(), 4)?;
+        index.set(2, Some(7));
+        index.set(0, Some(9));
+        index.set(3, Some(7));
+        index.set(1, Some(4_000_000_000));
+        assert_eq!(rt; index.slots(), 4);
+        assert_eq!(rt;
+            (
+                index.slot_from(7, 0),
+                index.slot_from(7, 3),
+                index.slot_from(7, 4)
+            ),
+            (Some(2), Some(3), None)
+        );
+        assert_eq!(rt;
+            (
+                index.number_above(None),
+                index.number_above(Some(7)),
+                index.number_above(Some(u32::MAX))
+            ),
+            (Some(7), Some(9), None)
+        );
+        index.set(2, None);
+        index.set(0, Some(8));
+        assert_eq!(rt;
+            (
+                index.slot_from(7, 0),
+                index.slot_from(8, 0),
+                index.slot_from(9, 0)
+            ),
+            (Some(3), Some(0), None)
+        );
+        Ok(())
+    }
 }
