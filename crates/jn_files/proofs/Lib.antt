@@ -8,5 +8,6 @@ pub mod Putting
 pub mod Setting
 pub mod Leaves
 pub mod Loading
-pub mod Listing
+pub mod Finding
+pub mod Naming
 pub mod Blank

@@ -1,5 +1,5 @@
 -- The head of a file among the heads.
-use Rattle.std.proofs.Common.{◌≡◌, ℕ, zero, suc, Bool, true, false, List, [], ◌∷◌, Option, Some, None, refl, sym, ap, ◌∙◌, arith}
+use Rattle.std.proofs.Common.{◌≡◌, ◌≤◌, ℕ, zero, suc, Bool, true, false, List, [], ◌∷◌, Option, Some, None, refl, sym, ap, ◌∙◌, arith}
 use Rattle.std.proofs.lemmas.Bool.{false_from_ne_true}
 use Rattle.std.proofs.lemmas.Bool.Decides.{nat_tests}
 use Rattle.std.specs.Prelude.{is_some, slice_set, slice_index, if◌then◌else◌}
@@ -63,3 +63,11 @@ module _ (f : FileNo) where
       by rest false t =
           let later = rest (ap (λ (o : Option (List ℕ)). slice_index (or_nil o) p) (sym (when_false (is_of f h) (Some (addresses_of h)) (addresses f hs) t)) ∙ e) in
           (suc later.0, later.1)
+
+  -- it is the lowest of its heads that counts
+  pub addresses_lowest : (hs : List Head) (i : ℕ) → is_of f (head_in hs i) ≡ true → ((j : ℕ) → is_of f (head_in hs j) ≡ true → i ≤ j) → addresses f hs ≡ Some (addresses_of (head_in hs i))
+  addresses_lowest [] i here low = absurd (cc here)
+  addresses_lowest (h ∷ hs) zero here low = when_true (is_of f h) (Some (addresses_of h)) (addresses f hs) here
+  addresses_lowest (h ∷ hs) (suc i) here low =
+      when_false (is_of f h) (Some (addresses_of h)) (addresses f hs) (false_from_ne_true (is_of f h) (λ e. let le : suc i ≤ 0 = low zero e in let no_way : ⊥ = omega arith in no_way))
+      ∙ addresses_lowest hs i here (λ j e. let le : suc i ≤ suc j = low (suc j) e in omega arith)

@@ -2,7 +2,7 @@
 use Rattle.std.proofs.Common.{◌≡◌, ◌⊎◌, inl, inr, ⊎_elim, ◌<◌, ◌^◌, ℕ, zero, suc, Bool, true, false, List, [], ◌∷◌, length, replicate, refl, sym, ap, subst, ◌∙◌, arith}
 use Rattle.std.proofs.lemmas.Bool.{cases_eq, cases_lt, false_from_ne_true}
 use Rattle.std.proofs.lemmas.Bool.Decides.{nat_tests}
-use Rattle.std.proofs.lemmas.List.{get_or_past, get_or-set_same, get_or-set_other, length-set, get_or_read}
+use Rattle.std.proofs.lemmas.List.{get_or_past, get_or-set_same, get_or-set_other, length-set}
 use Rattle.std.specs.Prelude.{slice_set, slice_index, slice_index_or, take, nat_le}
 use Rattle.std.specs.List.{list_all}
 use Rattle.jn_alloc.specs.Free.{free_count, is_free as is_free_number, IsLeastFree}
@@ -227,12 +227,3 @@ sets_head t v is f slot place new_head c ok u w result h result_is head_is puts 
   puts = subst (λ (x : Head). PutsHead t v slot x c ok u w) (result_is ∙ sym head_is)
       (puts (subst (λ (x : Head). IsChange t.heads slot x c) (sym result_is) changes) (subst (λ (x : Head). AreLeaves t v x) (sym result_is) leaves));
 }
-
--- the slot that a search found in the list
-pub found_place : (t u : TableView) (items found : List Head) (f : FileNo) (slot : ℕ) → found ≡ items → u.heads ≡ items → u ≡ t → (slot < length found) × (is_of f (head_in found slot) ≡ true) → is_of f (head_in t.heads slot) ≡ true
-found_place t u items found f slot found_is view_is same own = ap (λ (x : TableView). is_of f (head_in x.heads slot)) (sym same) ∙ ap (λ (l : List Head). is_of f (head_in l slot)) (view_is ∙ sym found_is) ∙ own.1
-
--- and its head as it is read
-pub head_read : (t u : TableView) (items found : List Head) (slot : ℕ) (x : Head) → found ≡ items → u.heads ≡ items → u ≡ t → slot < length found → x ≡ slice_index_or items slot x → x ≡ head_in t.heads slot
-head_read t u items found slot x found_is view_is same lt e =
-    get_or_read items slot x (subst (λ (l : List Head). slot < length l) found_is lt) e Free ∙ ap (λ (l : List Head). head_in l slot) (sym view_is) ∙ ap (λ (y : TableView). head_in y.heads slot) same

@@ -1,7 +1,7 @@
 -- A head takes the place of a slot's, and the table stays one.
 use Rattle.std.proofs.Common.{◌≡◌, ◌≢◌, inl, inr, ⊎_elim, ℕ, suc, ◌<◌, Bool, true, false, List, length, refl, sym, ap, subst, ◌∙◌, arith}
 use Rattle.std.proofs.lemmas.Bool.{cases_eq, cases_Bool, false_from_ne_true}
-use Rattle.std.proofs.lemmas.List.{get_or-set_same, get_or-set_other, length-set, get_or_read}
+use Rattle.std.proofs.lemmas.List.{get_or-set_same, get_or-set_other, length-set}
 use Rattle.std.specs.Prelude.{slice_set, slice_index_or}
 use Rattle.jn_alloc.specs.Free.{FreeNumbers, is_free as is_free_number}
 use Rattle.jn_records.specs.declared.head.Head.{Head}
@@ -140,15 +140,16 @@ module _ (pool : ℕ) (heads : List Head) (held : List Bool) (fh fl : FreeNumber
       table = table_set;
     }
 
--- as the code has it, where an old and a new head are read from the list
-module _ (pool : ℕ) (heads : List Head) (held : List Bool) (fh fl fh2 fl2 : FreeNumbers) (slot : ℕ) (h old dest new : Head) (held2 : List Bool) (free : Bool)
-    (is : IsTable (view_of pool heads held fh fl)) (may : MayStand (view_of pool heads held fh fl) slot h) (old_read : old ≡ slice_index_or heads slot old) (dest_is : dest ≡ h)
-    (new_read : new ≡ slice_index_or (slice_set heads slot dest) slot new) (held_is : held2 ≡ held) where
-  old_is : old ≡ head_in heads slot
-  old_is = get_or_read heads slot old may.below old_read Free
+-- a head that is read where it was put
+pub read_is : (heads after : List Head) (slot : ℕ) (h new : Head) → slot < length heads → after ≡ slice_set heads slot h → new ≡ head_in after slot → new ≡ h
+read_is heads after slot h new below after_is new_read = new_read ∙ ap (λ (l : List Head). head_in l slot) after_is ∙ head_at_slot heads slot h slot below refl
 
+-- as the code has it, where an old and a new head are read from the list
+module _ (pool : ℕ) (heads : List Head) (held : List Bool) (fh fl fh2 fl2 : FreeNumbers) (slot : ℕ) (h old new : Head) (after : List Head) (held2 : List Bool) (free : Bool)
+    (is : IsTable (view_of pool heads held fh fl)) (may : MayStand (view_of pool heads held fh fl) slot h) (old_is : old ≡ head_in heads slot) (after_is : after ≡ slice_set heads slot h)
+    (new_read : new ≡ head_in after slot) (held_is : held2 ≡ held) where
   new_is : new ≡ h
-  new_is = get_or_read (slice_set heads slot dest) slot new (let same = length-set heads slot dest in let lt = may.below in omega arith) new_read Free ∙ head_at_slot heads slot dest slot may.below refl ∙ dest_is
+  new_is = read_is heads after slot h new may.below after_is new_read
 
   pub code_may_drop : MayDrop held2 old fl
   code_may_drop = subst (λ (l : List Bool). MayDrop l old fl) (sym held_is) (subst (λ (x : Head). MayDrop held x fl) (sym old_is) (may_drop pool heads held fh fl slot h is may))
@@ -161,8 +162,8 @@ module _ (pool : ℕ) (heads : List Head) (held : List Bool) (fh fl fh2 fl2 : Fr
     plain_drops = subst (λ (l : List Bool). Drops l (head_in heads slot) h 120 fl fl2) held_is
         (subst (λ (x : Head). Drops held2 x h 120 fl fl2) old_is (subst (λ (x : Head). Drops held2 old x 120 fl fl2) new_is drops))
 
-    pub code_table : IsTable (view_of pool (slice_set heads slot dest) held fh2 fl2)
-    code_table = subst (λ (x : Head). IsTable (view_of pool (slice_set heads slot x) held fh2 fl2)) (sym dest_is) (table_set pool heads held fh fl slot h is may fh2 fl2 plain_counts plain_drops)
+    pub code_table : IsTable (view_of pool after held fh2 fl2)
+    code_table = subst (λ (l : List Head). IsTable (view_of pool l held fh2 fl2)) (sym after_is) (table_set pool heads held fh fl slot h is may fh2 fl2 plain_counts plain_drops)
 
-    pub code_changed : IsChanged (view_of pool heads held fh fl) slot h (view_of pool (slice_set heads slot dest) held fh2 fl2)
-    code_changed = subst (λ (x : Head). IsChanged (view_of pool heads held fh fl) slot h (view_of pool (slice_set heads slot x) held fh2 fl2)) (sym dest_is) (is_changed pool heads held fh fl slot h is may fh2 fl2 plain_counts plain_drops)
+    pub code_changed : IsChanged (view_of pool heads held fh fl) slot h (view_of pool after held fh2 fl2)
+    code_changed = subst (λ (l : List Head). IsChanged (view_of pool heads held fh fl) slot h (view_of pool l held fh2 fl2)) (sym after_is) (is_changed pool heads held fh fl slot h is may fh2 fl2 plain_counts plain_drops)

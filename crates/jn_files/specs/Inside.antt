@@ -1,16 +1,17 @@
 -- How the table keeps its parts.
-use Rattle.std.specs.Prelude.{◌≡◌, ◌≢◌, ◌⊎◌, ℕ, suc, ◌-◌, ◌<◌, Bool, true, false, nat_eq, if◌then◌else◌, List, length, slice_set, slice_index_or, take, ◌↔◌, ◌≢◌, nat_lt, Some, None, Option, ◌≤◌, ◌&&◌}
+use Rattle.std.specs.Prelude.{◌≡◌, ◌≢◌, ◌⊎◌, ℕ, suc, ◌-◌, ◌^◌, ◌<◌, Bool, true, false, nat_eq, if◌then◌else◌, not, List, length, slice_set, slice_index_or, take, ◌↔◌, ◌≢◌, Some, None, Option}
 use Rattle.jn_alloc.specs.Free.{FreeNumbers, count_of, free_count, is_free as is_free_number, with_free, IsLeastFree}
 use Rattle.jn_base.specs.declared.names.FileNo.{FileNo}
+use Rattle.jn_index.specs.Numbers.{number_at}
 use Rattle.jn_order.specs.Files.{Change, change}
 use Rattle.jn_records.specs.declared.head.Head.{Head}
 use Rattle.jn_records.specs.declared.head.Head.TheVariants.{Free, Used}
 use Rattle.jn_records.specs.StablePages.{Counts as PageCounts, data_place}
 use Rattle.jn_records.specs.Heads.{head_page, has_page}
 use Rattle.jn_store.specs.Store.{StoreView, IsOnly}
-use Rattle.jn_files.specs.Table.{TableView, head_in, is_free, is_of, exists, address_of, files_of, IsHeadOf}
+use Rattle.jn_files.specs.Table.{TableView, IsTable, IsUnnamed, head_in, is_free, is_of, exists, address_of, files_of, IsHeadOf}
 use Rattle.jn_files.specs.Pages.{IsLeaf, Holds, IsLoadable}
-use Rattle.jn_files.specs.Calls.{is_above, StoreRead}
+use Rattle.jn_files.specs.Calls.{StoreRead}
 
 abbrev pub view_of : ℕ → List Head → List Bool → FreeNumbers → FreeNumbers → TableView
 view_of pool heads held free_heads free_leaves = record {
@@ -46,6 +47,36 @@ pub record IsNamed (heads : List Head) (a : ℕ) : Type 0 where
   pub slot : ℕ
   pub block : ℕ
   pub here : address_of (head_in heads slot) block ≡ suc a
+
+-- flags of data pages say which of them these heads name
+pub record AreNamed (heads : List Head) (named : List Bool) : Type 0 where
+  pub set : (a : ℕ) → a < length named → slice_index_or named a false ≡ true → IsNamed heads a
+  pub clear : (a : ℕ) → a < length named → slice_index_or named a false ≡ false → IsUnnamed heads a
+
+-- so do they of the first heads
+pub record NamedBefore (heads : List Head) (n : ℕ) (named : List Bool) : Type 0 where
+  pub set : (a : ℕ) → a < length named → slice_index_or named a false ≡ true → IsNamed heads a
+  pub clear : (a : ℕ) → a < length named → slice_index_or named a false ≡ false → (slot p : ℕ) → slot < n → address_of (head_in heads slot) p ≢ suc a
+
+pub record NamesAmong (h : Head) (n a : ℕ) : Type 0 where
+  pub block : ℕ
+  pub below : block < n
+  pub here : address_of h block ≡ suc a
+
+-- the flags of the data pages of a head's first blocks are set so, and no others change
+pub record Marks (h : Head) (is : Bool) (n : ℕ) (flags new : List Bool) : Type 0 where
+  pub count : length new ≡ length flags
+  pub to : (a : ℕ) → a < length flags → slice_index_or new a false ≡ is → (slice_index_or flags a false ≡ is) ⊎ NamesAmong h n a
+  pub from : (a : ℕ) → a < length flags → slice_index_or new a false ≡ not is → (slice_index_or flags a false ≡ not is) × ((p : ℕ) → p < n → address_of h p ≢ suc a)
+
+abbrev pub marked_one : ℕ → Bool → List Bool → List Bool
+marked_one address is flags = if nat_eq address 0 then flags else slice_set flags (address - 1) is
+
+-- what a table keeps in memory
+pub record IsKept (pool : ℕ) (heads : List Head) (held named : List Bool) (free_heads free_leaves : FreeNumbers) : Type 0 where
+  pub table : IsTable (view_of pool heads held free_heads free_leaves)
+  pub pages : length named ≡ length held
+  pub names : AreNamed heads named
 
 -- one number is free or isn't
 pub record Counts (v : FreeNumbers) (slot : ℕ) (is : Bool) (w : FreeNumbers) : Type 0 where
@@ -129,25 +160,19 @@ pub record ReadTo (g : PageCounts) (v : StoreView) (n : ℕ) (slots : List Head)
   pub power : 0 < n → w.power ≡ true
   pub stops : w.stops ≡ v.stops
 
--- ---- listing
+-- ---- finding
 
--- the least file among the first heads that is above another
-pub record NextAmong (heads : List Head) (n : ℕ) (after : Option FileNo) (f : FileNo) : Type 0 where
-  pub slot : ℕ
-  pub below : slot < n
-  pub here : is_of f (head_in heads slot) ≡ true
-  pub above : is_above after f ≡ true
-  pub least : (j : ℕ) (g : FileNo) → j < n → is_of g (head_in heads j) ≡ true → is_above after g ≡ true → f.0 ≤ g.0
+-- the number of the file that has a head
+abbrev pub number_of : Head → Option ℕ
+number_of Free = None
+number_of (Used f xs) = Some f.0
 
-abbrev pub IsNextAmong : List Head → ℕ → Option FileNo → Option FileNo → Type 0
-IsNextAmong heads n after (Some f) = NextAmong heads n after f
-IsNextAmong heads n after None = (j : ℕ) (g : FileNo) → j < n → is_of g (head_in heads j) ≡ true → is_above after g ≡ false
+-- an index of the heads has each file's number
+pub record AreIndexed (files : List (Option ℕ)) (heads : List Head) : Type 0 where
+  pub few : length heads < 2 ^ 16
+  pub slots : length files ≡ length heads
+  pub each : (slot : ℕ) → number_at files slot ≡ number_of (head_in heads slot)
 
-abbrev pub comes_before : FileNo → Option FileNo → Bool
-comes_before f None = true
-comes_before f (Some best) = nat_lt f.0 best.0
-
--- the head's file where it is above a last one and less than the best so far; else that one
-abbrev pub better : Head → Option FileNo → Option FileNo → Option FileNo
-better Free after best = best
-better (Used f xs) after best = if is_above after f && comes_before f best then Some f else best
+abbrev pub file_number : Option FileNo → Option ℕ
+file_number None = None
+file_number (Some f) = Some f.0

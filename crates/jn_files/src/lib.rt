@@ -10,6 +10,7 @@
 #![tactic(auto)]
 
 mod fault;
+mod heads;
 mod laws;
 mod slot;
 mod table;

@@ -3,7 +3,6 @@ ghost use Rattle.std.specs.Prelude.{◌≡◌, ◌^◌, ◌<◌, ◌≤◌, ◌�
 ghost use Rattle.jn_records.specs.declared.head.Head.TheVariants.{Free};
 ghost use Rattle.jn_records.specs.Heads.{head_page, has_page};
 ghost use Rattle.jn_files.specs.Table as table;
-ghost use Rattle.jn_files.specs.Calls as calls;
 ghost use Rattle.jn_files.specs.Inside as inside;
 
 use jn_base::{FileNo, Page, PageWriter};
@@ -84,13 +83,13 @@ impl Slot {
         self.file.is_none()
     }
 
-    /// Whether it is this file's head.
-    pub fn is_of(&self, f: FileNo) -> bool
-        ensures { result ≡ table.is_of f self.now }
+    /// The number of the file that has it, if one has.
+    pub fn number(&self) -> Option<u32>
+        ensures { result ≡ inside.number_of self.now }
     {
         match self.file {
-            None => false,
-            Some(file) => file.0 == f.0,
+            None => None,
+            Some(file) => Some(file.0),
         }
     }
 
@@ -102,31 +101,6 @@ impl Slot {
         match self.file {
             None => 0,
             Some(_) => self.addresses[p as usize],
-        }
-    }
-
-    /// Whether it names a data page.
-    pub fn names(&self, a: u16) -> bool
-        requires page { a < 65535 }
-        requires whole { has_page self.now ≡ true }
-        ensures named { result ≡ true → (p : ℕ) × (table.address_of self.now p ≡ suc a) }
-        ensures unnamed { result ≡ false → (p : ℕ) → table.address_of self.now p ≢ suc a }
-    {
-        for p in 0..BLOCKS {
-            if self.address(p) == a + 1 {
-                return true;
-            }
-        }
-        false
-    }
-
-    /// The head's file where it is above a last one and less than the best so far; else that one.
-    pub fn better(&self, after: Option<FileNo>, best: Option<FileNo>) -> Option<FileNo>
-        ensures { result ≡ inside.better self.now after best }
-    {
-        match self.file {
-            Some(file) if is_above(after, file) && comes_before(file, best) => Some(file),
-            _ => best,
         }
     }
 
@@ -172,23 +146,4 @@ fn cut_addresses(old: &Addresses, n: u16) -> Addresses
         addresses[block as usize] = 0;
     }
     addresses
-}
-
-fn is_above(after: Option<FileNo>, f: FileNo) -> bool
-    ensures { result ≡ calls.is_above after f }
-{
-    match after {
-        None => true,
-        Some(after) => after.0 < f.0,
-    }
-}
-
-/// Whether a file is less than the best so far, if there is one.
-fn comes_before(f: FileNo, best: Option<FileNo>) -> bool
-    ensures { result ≡ inside.comes_before f best }
-{
-    match best {
-        None => true,
-        Some(best) => f.0 < best.0,
-    }
 }

@@ -4,7 +4,6 @@ ghost use Rattle.jn_alloc.specs.Free.{free_count, is_free as is_free_number, cou
 ghost use Rattle.jn_order.specs.Files.{Change, created, removed, cut_from, written};
 ghost use Rattle.jn_records.specs.declared.head.Head.{Head as HeadOf};
 ghost use Rattle.jn_records.specs.declared.head.Head.TheVariants.{Free};
-ghost use Rattle.jn_records.specs.Heads.{has_page};
 ghost use Rattle.jn_records.specs.StablePages.{head_place, data_place, page_count};
 ghost use Rattle.jn_store.specs.Store.{IsCalm, IsServed, IsStop, StorePut};
 ghost use Rattle.jn_files.specs.declared.fault.LoadFault.TheVariants.{Stopped as LoadStopped};
@@ -14,6 +13,7 @@ ghost use Rattle.jn_files.specs.Calls as calls;
 ghost use Rattle.jn_files.specs.Inside as inside;
 
 use crate::fault::LoadFault;
+use crate::heads::Heads;
 use crate::slot::{BLOCKS, Slot};
 use jn_alloc::FreeList;
 use jn_base::{Block, BlockNo, FileNo, Page, PageWriter, Short, Stopped};
@@ -21,7 +21,6 @@ use jn_records::{Head, Root};
 use jn_store::StableStore;
 use std::alloc::{AllocError, Global};
 use std::marker::Model;
-use std::mem;
 
 /// The heads of a store, and which of its data pages are held.
 ///
@@ -29,22 +28,24 @@ use std::mem;
 #[derive(Drop)]
 pub struct FileTable {
     pool: u16,
-    slots: Vec<Slot>,
+    heads: Heads,
     held: Vec<bool>,
+    /// Of each data page, whether a head names it.
+    named: Vec<bool>,
     free_heads: FreeList,
     free_leaves: FreeList,
 }
 
 impl Model for FileTable {
     ghost use Rattle.std.specs.Prelude.{vec_len};
-    ghost use Rattle.jn_files.specs.Table.{TableView, IsTable};
-    ghost use Rattle.jn_files.specs.Inside.{view_of};
+    ghost use Rattle.jn_files.specs.Table.{TableView};
+    ghost use Rattle.jn_files.specs.Inside.{view_of, IsKept};
 
     ghost Value = { TableView };
 
-    ghost view = { λ t. view_of t.pool t.slots.items t.held.items t.free_heads t.free_leaves };
+    ghost view = { λ t. view_of t.pool t.heads t.held.items t.free_heads t.free_leaves };
 
-    ghost invariant = { λ t. IsTable (view_of t.pool t.slots.items t.held.items t.free_heads t.free_leaves) };
+    ghost invariant = { λ t. IsKept t.pool t.heads t.held.items t.named.items t.free_heads t.free_leaves };
 }
 
 impl FileTable {
@@ -68,11 +69,14 @@ impl FileTable {
         let slots = read_slots(alloc, store, root)?;
         let free_heads = free_heads(alloc, &slots)?;
         let free_leaves = free_leaves(alloc, root.leaves, &slots)?;
-        let held = none_held(alloc, root.leaves)?;
+        let held = none_set(alloc, root.leaves)?;
+        let named = named_pages(alloc, root.leaves, &slots)?;
+        let heads = Heads::new(alloc, slots)?;
         Ok(FileTable {
             pool: root.pool,
-            slots,
+            heads,
             held,
+            named,
             free_heads,
             free_leaves,
         })
@@ -82,21 +86,21 @@ impl FileTable {
     pub fn pages(&self) -> u32
         ensures { result ≡ page_count self.now.counts }
     {
-        1 + u32::from(self.pool) + self.slots.len() as u32 + self.held.len() as u32
+        1 + u32::from(self.pool) + self.heads.count() + self.held.len() as u32
     }
 
     /// Does nothing: its contract says what holds of every table.
     pub fn is_table(&self)
         ensures { table.IsTable self.now }
     {
-        let _heads = &self.slots;
+        let _heads = &self.heads;
     }
 
     /// Whether a file is there.
     pub fn exists(&self, f: FileNo) -> bool
         ensures { result ≡ table.exists self.now.heads f }
     {
-        slot_of(&self.slots, f).is_some()
+        self.heads.slot_of(f).is_some()
     }
 
     /// Whether a block is stored.
@@ -104,14 +108,14 @@ impl FileTable {
         requires { p.0 < 120 }
         ensures { result ≡ table.is_mapped self.now.heads f p.0 }
     {
-        address_for(&self.slots, f, p) > 0
+        self.heads.address_for(f, p) > 0
     }
 
     /// The least file above `after`, or the least of all.
     pub fn next(&self, after: Option<FileNo>) -> Option<FileNo>
         ensures { calls.NextFile self.now.heads after result }
     {
-        next_of(&self.slots, after)
+        self.heads.next(after)
     }
 
     /// The heads that are free and promised.
@@ -178,7 +182,7 @@ impl FileTable {
         requires room { table.exists self.old.heads f ≡ false → self.old.free_heads.promised < free_count self.old.free_heads }
         ensures { calls.SetsHead self.old (S.view store.old) f (λ h. table.fresh_head f) (λ leaves. created f) (is_ok result) self.new (S.view store.new) }
     {
-        let slot = place_of(&self.slots, &self.free_heads, f);
+        let slot = place_of(&self.heads, &self.free_heads, f);
         self.put_head(store, slot, Slot::fresh(f))
     }
 
@@ -188,7 +192,7 @@ impl FileTable {
         ensures there { table.exists self.old.heads f ≡ true → calls.SetsHead self.old (S.view store.old) f (λ h. Free) (λ leaves. removed f) (is_ok result) self.new (S.view store.new) }
         ensures absent { table.exists self.old.heads f ≡ false → (IsOk result) × (self.new ≡ self.old) × (S.view store.new ≡ S.view store.old) }
     {
-        let Some(slot) = slot_of(&self.slots, f) else {
+        let Some(slot) = self.heads.slot_of(f) else {
             return Ok(());
         };
         self.put_head(store, slot, Slot::free())
@@ -206,10 +210,10 @@ impl FileTable {
         requires range { n.0 < 120 }
         ensures { calls.SetsHead self.old (S.view store.old) f (table.cut_head n.0) (λ leaves. cut_from f n) (is_ok result) self.new (S.view store.new) }
     {
-        let Some(slot) = slot_of(&self.slots, f) else {
+        let Some(slot) = self.heads.slot_of(f) else {
             unreachable!()
         };
-        let head = self.slots[slot as usize].cut(n.0);
+        let head = self.heads.slot(slot).cut(n.0);
         self.put_head(store, slot, head)
     }
 
@@ -227,10 +231,10 @@ impl FileTable {
         requires leaf { calls.MayBecome self.old (S.view store.old) f p.0 a }
         ensures { calls.SetsHead self.old (S.view store.old) f (table.with_leaf p.0 a) (λ leaves. written f p (take 448 (leaves a))) (is_ok result) self.new (S.view store.new) }
     {
-        let Some(slot) = slot_of(&self.slots, f) else {
+        let Some(slot) = self.heads.slot_of(f) else {
             unreachable!()
         };
-        let head = self.slots[slot as usize].with_leaf(p.0, a);
+        let head = self.heads.slot(slot).with_leaf(p.0, a);
         self.put_head(store, slot, head)
     }
 
@@ -261,7 +265,7 @@ impl FileTable {
         ensures stop { is_ok result ≡ false → IsStop (S.view store.old) (S.view store.new) }
         ensures calm { IsCalm (S.view store.old) → IsOk result }
     {
-        let address = address_for(&self.slots, f, p);
+        let address = self.heads.address_for(f, p);
         if address == 0 {
             return Ok(None);
         }
@@ -302,10 +306,20 @@ impl FileTable {
         requires { table.is_held self.old a ≡ true }
         ensures { calls.LetsGo self.old a self.new }
     {
+        let named = self.is_named(a);
         self.held[a as usize] = false;
-        if !is_named(&self.slots, a) {
+        if !named {
             self.free_leaves.give(a);
         }
+    }
+
+    /// Whether a head names a data page.
+    fn is_named(&self, a: u16) -> bool
+        requires { a < self.now.counts.leaves }
+        ensures named { result ≡ true → inside.IsNamed self.now.heads a }
+        ensures unnamed { result ≡ false → table.IsUnnamed self.now.heads a }
+    {
+        self.named[a as usize]
     }
 
     /// Puts a head's page, and then the table has it.
@@ -320,7 +334,7 @@ impl FileTable {
         ensures { (c : (ℕ → List ℕ) → Change) → inside.IsChange self.old.heads slot head c → inside.AreLeaves self.old (S.view store.old) head
             → calls.PutsHead self.old (S.view store.old) slot head c (is_ok result) self.new (S.view store.new) }
     {
-        let _heads = &self.slots;
+        let _heads = &self.heads;
         store.put(self.head_page(slot), &head.page())?;
         self.set_head(slot, head);
         Ok(())
@@ -331,8 +345,10 @@ impl FileTable {
         requires { inside.MayStand self.old slot head }
         ensures { calls.IsChanged self.old slot head self.new }
     {
-        let old = mem::replace(&mut self.slots[slot as usize], head);
-        let new = &self.slots[slot as usize];
+        let old = self.heads.replace(slot, head);
+        let new = self.heads.slot(slot);
+        mark(&mut self.named, &old, false);
+        mark(&mut self.named, new, true);
         count_head(&mut self.free_heads, slot, old.is_free(), new.is_free());
         free_dropped(&mut self.free_leaves, &self.held, &old, new);
     }
@@ -348,7 +364,7 @@ impl FileTable {
     fn data_page(&self, a: u16) -> u32
         ensures { result ≡ data_place self.now.counts a }
     {
-        1 + u32::from(self.pool) + self.slots.len() as u32 + u32::from(a)
+        1 + u32::from(self.pool) + self.heads.count() + u32::from(a)
     }
 }
 
@@ -448,7 +464,7 @@ fn take_one(free: &mut FreeList, address: u16)
     }
 }
 
-fn none_held(alloc: Global, count: u16) -> Result<Vec<bool>, AllocError>
+fn none_set(alloc: Global, count: u16) -> Result<Vec<bool>, AllocError>
     ensures length { IfOk result (λ flags. length flags.items ≡ count) }
     ensures few { count < 2 ^ 16 }
     ensures none { IfOk result (λ flags. (a : ℕ) → slice_index_or flags.items a false ≡ false) }
@@ -460,27 +476,12 @@ fn none_held(alloc: Global, count: u16) -> Result<Vec<bool>, AllocError>
     Ok(flags)
 }
 
-/// The slot of a file's head.
-fn slot_of(slots: &[Slot], f: FileNo) -> Option<u16>
-    requires { length slots.now ≤ 65535 }
-    ensures found { IfSome result (λ slot. (slot < length slots.now) × (table.is_of f (table.head_in slots.now slot) ≡ true)) }
-    ensures there { is_some result ≡ table.exists slots.now f }
-{
-    for (slot, head) in slots.iter().enumerate() {
-        if head.is_of(f) {
-            return Some(slot as u16);
-        }
-    }
-    None
-}
-
 /// The slot of a file's head, or the lowest free one.
-fn place_of(slots: &[Slot], free_heads: &FreeList, f: FileNo) -> u16
-    requires few { length slots.now ≤ 65535 }
-    requires room { table.exists slots.now f ≡ false → 0 < free_count free_heads.now }
-    ensures { inside.IsPlace slots.now free_heads.now f result }
+fn place_of(heads: &Heads, free_heads: &FreeList, f: FileNo) -> u16
+    requires room { table.exists heads.now f ≡ false → 0 < free_count free_heads.now }
+    ensures { inside.IsPlace heads.now free_heads.now f result }
 {
-    if let Some(slot) = slot_of(slots, f) {
+    if let Some(slot) = heads.slot_of(f) {
         return slot;
     }
     let Some(slot) = free_heads.first() else {
@@ -489,43 +490,36 @@ fn place_of(slots: &[Slot], free_heads: &FreeList, f: FileNo) -> u16
     slot
 }
 
-/// A block's address in its file's head, 0 where there is none.
-fn address_for(slots: &[Slot], f: FileNo, p: BlockNo) -> u16
-    requires { p.0 < 120 }
-    ensures { result ≡ table.address_for slots.now f p.0 }
+/// Of each data page, whether one of these heads names it.
+fn named_pages(alloc: Global, leaves: u16, slots: &[Slot]) -> Result<Vec<bool>, AllocError>
+    requires { table.AreHeads leaves slots.now }
+    ensures length { IfOk result (λ named. length named.items ≡ leaves) }
+    ensures named { IfOk result (λ named. inside.AreNamed slots.now named.items) }
 {
+    let mut named = none_set(alloc, leaves)?;
     for head in slots {
-        if head.is_of(f) {
-            return head.address(p.0);
-        }
+        mark(&mut named, head, true);
     }
-    0
+    Ok(named)
 }
 
-/// The least file above another, or the least of all.
-fn next_of(slots: &[Slot], after: Option<FileNo>) -> Option<FileNo>
-    ensures { calls.NextFile slots.now after result }
+/// Sets the flags of the data pages that a head names.
+fn mark(flags: &mut Vec<bool>, head: &Slot, is: bool)
+    requires { (p a : ℕ) → table.address_of head.now p ≡ suc a → a < length flags.old.items }
+    ensures { inside.Marks head.now is 120 flags.old.items flags.new.items }
 {
-    let mut best = None;
-    for head in slots {
-        best = head.better(after, best);
+    for p in 0..BLOCKS {
+        mark_one(flags, head.address(p), is);
     }
-    best
 }
 
-/// Whether a head names a data page.
-fn is_named(slots: &[Slot], a: u16) -> bool
-    requires page { a < 65535 }
-    requires whole { (slot : ℕ) → has_page (table.head_in slots.now slot) ≡ true }
-    ensures named { result ≡ true → inside.IsNamed slots.now a }
-    ensures unnamed { result ≡ false → table.IsUnnamed slots.now a }
+fn mark_one(flags: &mut Vec<bool>, address: u16, is: bool)
+    requires { address ≤ length flags.old.items }
+    ensures { flags.new.items ≡ inside.marked_one address is flags.old.items }
 {
-    for head in slots {
-        if head.names(a) {
-            return true;
-        }
+    if address > 0 {
+        flags[address as usize - 1] = is;
     }
-    false
 }
 
 /// The free heads where one was free or wasn't, and is free or isn't.

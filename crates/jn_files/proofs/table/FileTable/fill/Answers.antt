@@ -7,7 +7,7 @@ use Rattle.jn_files.proofs.table.FileTable.fill.Goals as goal
 
 pub put-requires : goal.put-requires
 put-requires g c =
-    let is = subst (λ (x : TableView). IsTable x) c.self.view_is c.self.invariant in
+    let is = subst (λ (x : TableView). IsTable x) c.self.view_is c.self.invariant.table in
     let lt = set_below c.args.self.now.held c.args.a c.requires.held in
     let n = is.leaves in
     let place = c.data_page.ensures in
@@ -16,7 +16,7 @@ put-requires g c =
 
 pub returns : goal.returns
 returns g c =
-    let is = subst (λ (x : TableView). IsTable x) c.self.view_is c.self.invariant in
+    let is = subst (λ (x : TableView). IsTable x) c.self.view_is c.self.invariant.table in
     let lt = set_below c.args.self.now.held c.args.a c.requires.held in
     let below : c.args.a < c.args.self.now.counts.leaves = let n = is.leaves in omega arith in
     fills c.args.self.now (g.S.StableStore.view c.args.store.now) c.args.a c.args.block.now (is_ok c.put.result) (g.S.StableStore.view c.put.new.self) c.data_page.result c.leaf_page.result

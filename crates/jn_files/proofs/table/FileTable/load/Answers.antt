@@ -1,4 +1,6 @@
-use Rattle.std.proofs.Common.{◌≡◌, length, ap, ◌∙◌, arith}
+use Rattle.std.proofs.Common.{◌≡◌, List, length, sym, ap, subst, ◌∙◌, arith}
+use Rattle.jn_records.specs.declared.head.Head.{Head}
+use Rattle.jn_files.specs.Inside.{AreNamed}
 use Rattle.jn_files.proofs.Loading.{code_table, code_loaded}
 use Rattle.jn_files.proofs.table.FileTable.load.Goals as goal
 
@@ -9,11 +11,15 @@ free_heads-requires g c =
     omega arith
 
 pub invariant_of-result : goal.invariant_of-result
-invariant_of-result g c =
-    code_table c.args.root.now c.requires.loadable.0 c.in_ok-slots.slots.items c.deref.result.now c.deref-2.result.now c.in_ok-held.held.items c.in_ok-free_heads.free_heads c.in_ok-free_leaves.free_leaves (g.S.StableStore.view c.args.store.now) c.requires.loadable.1
-    (c.in_ok-slots.ensures.heads c.requires.loadable.0 c.requires.loadable.1) c.deref.ensures.value c.deref-2.ensures.value c.in_ok-held.ensures.length c.in_ok-slots.ensures.few c.in_ok-held.ensures.few c.in_ok-held.ensures.none c.in_ok-free_heads.ensures c.in_ok-free_leaves.ensures
+invariant_of-result g c = record {
+  table =
+      code_table c.args.root.now c.requires.loadable.0 c.in_ok-heads.heads c.deref.result.now c.deref-2.result.now c.in_ok-held.held.items c.in_ok-free_heads.free_heads c.in_ok-free_leaves.free_leaves (g.S.StableStore.view c.args.store.now) c.requires.loadable.1
+      (c.in_ok-heads.ensures ∙ c.in_ok-slots.ensures.heads c.requires.loadable.0 c.requires.loadable.1) (c.deref.ensures.value ∙ sym c.in_ok-heads.ensures) (c.deref-2.ensures.value ∙ sym c.in_ok-heads.ensures) c.in_ok-held.ensures.length c.in_ok-slots.ensures.few c.in_ok-held.ensures.few c.in_ok-held.ensures.none c.in_ok-free_heads.ensures c.in_ok-free_leaves.ensures;
+  pages = c.in_ok-named.ensures.length ∙ sym c.in_ok-held.ensures.length;
+  names = subst (λ (l : List Head). AreNamed l c.in_ok-named.named.items) (c.deref-3.ensures.value ∙ sym c.in_ok-heads.ensures) c.in_ok-named.ensures.named;
+}
 
 pub returns-clause-loaded : goal.returns-clause-loaded
 returns-clause-loaded g c =
-    code_loaded c.args.root.now c.requires.loadable.0 c.in_ok-slots.slots.items c.deref.result.now c.deref-2.result.now c.in_ok-held.held.items c.in_ok-free_heads.free_heads c.in_ok-free_leaves.free_leaves (g.S.StableStore.view c.args.store.now) c.requires.loadable.1
-    (c.in_ok-slots.ensures.heads c.requires.loadable.0 c.requires.loadable.1) c.deref.ensures.value c.deref-2.ensures.value c.in_ok-held.ensures.length c.in_ok-slots.ensures.few c.in_ok-held.ensures.few c.in_ok-held.ensures.none c.in_ok-free_heads.ensures c.in_ok-free_leaves.ensures
+    code_loaded c.args.root.now c.requires.loadable.0 c.in_ok-heads.heads c.deref.result.now c.deref-2.result.now c.in_ok-held.held.items c.in_ok-free_heads.free_heads c.in_ok-free_leaves.free_leaves (g.S.StableStore.view c.args.store.now) c.requires.loadable.1
+    (c.in_ok-heads.ensures ∙ c.in_ok-slots.ensures.heads c.requires.loadable.0 c.requires.loadable.1) (c.deref.ensures.value ∙ sym c.in_ok-heads.ensures) (c.deref-2.ensures.value ∙ sym c.in_ok-heads.ensures) c.in_ok-held.ensures.length c.in_ok-slots.ensures.few c.in_ok-held.ensures.few c.in_ok-held.ensures.none c.in_ok-free_heads.ensures c.in_ok-free_leaves.ensures

@@ -1,41 +1,39 @@
-use Rattle.std.proofs.Common.{◌≡◌, inl, true, suc, sym, subst, refl, ap, ◌∙◌}
+use Rattle.std.proofs.Common.{◌≡◌, inl, true, suc, sym, subst, ap, ◌∙◌}
 use Rattle.std.specs.Prelude.{is_ok, slice_set, take}
 use Rattle.jn_order.specs.Files.{written}
 use Rattle.jn_records.specs.declared.head.Head.{Head}
 use Rattle.jn_records.specs.declared.head.Head.TheVariants.{Used}
 use Rattle.jn_files.specs.Table.{TableView, IsTable, head_in, is_of, addresses_of, with_leaf}
 use Rattle.jn_files.specs.Calls.{IsPlaceOf}
-use Rattle.jn_files.specs.Inside.{MayStand, view_of}
+use Rattle.jn_files.specs.Inside.{MayStand}
 use Rattle.jn_files.proofs.Lookup.{of_used}
-use Rattle.jn_files.proofs.Setting.{leaf_stands, leaf_leaves, leaf_changes, sets_head, found_place, head_read}
+use Rattle.jn_files.proofs.Setting.{leaf_stands, leaf_leaves, leaf_changes, sets_head}
 use Rattle.jn_files.proofs.table.FileTable.set_address.Goals as goal
 
 pub put_head-requires-clause-may : goal.put_head-requires-clause-may
 put_head-requires-clause-may g c =
     let t = c.args.self.now in
     let v = g.S.StableStore.view c.args.store.now in
-    let is = subst (λ (x : TableView). IsTable x) c.self.view_is c.self.invariant in
-    let seen = view_of c.self.inside.pool c.self.inside.slots.items c.self.inside.held.items c.self.inside.free_heads c.self.inside.free_leaves in
+    let is = subst (λ (x : TableView). IsTable x) c.self.view_is c.self.invariant.table in
     let slot = c.in-Some.slot in
-    let own : is_of c.args.f (head_in c.args.self.now.heads c.in-Some.slot) ≡ true = found_place c.args.self.now seen c.self.inside.slots.items c.deref.result.now c.args.f c.in-Some.slot c.deref.ensures.value refl c.self.view_is c.in-Some.ensures.found in
+    let own : is_of c.args.f (head_in c.args.self.now.heads c.in-Some.slot) ≡ true = ap (λ (x : TableView). is_of c.args.f (head_in x.heads c.in-Some.slot)) (sym c.self.view_is) ∙ c.in-Some.ensures.found.1 in
     let place : IsPlaceOf c.args.self.now c.args.f c.in-Some.slot = inl own in
     let xs = addresses_of (head_in c.args.self.now.heads c.in-Some.slot) in
     let was = of_used c.args.f (head_in c.args.self.now.heads c.in-Some.slot) own in
-    let read = head_read c.args.self.now seen c.self.inside.slots.items c.deref.result.now c.in-Some.slot c.index.result.now c.deref.ensures.value refl c.self.view_is c.in-Some.ensures.found.0 c.index.ensures in
+    let read = c.slot.ensures ∙ ap (λ (x : TableView). head_in x.heads c.in-Some.slot) c.self.view_is in
     subst (λ (h : Head). MayStand t slot h) (sym (c.with_leaf-head.ensures ∙ ap (with_leaf c.args.p.0 c.args.a) (read ∙ was))) (leaf_stands t is c.args.f slot place xs was v c.args.p.0 c.args.a c.requires.range c.requires.leaf)
 
 pub returns : goal.returns
 returns g c =
     let t = c.args.self.now in
     let v = g.S.StableStore.view c.args.store.now in
-    let is = subst (λ (x : TableView). IsTable x) c.self.view_is c.self.invariant in
-    let seen = view_of c.self.inside.pool c.self.inside.slots.items c.self.inside.held.items c.self.inside.free_heads c.self.inside.free_leaves in
+    let is = subst (λ (x : TableView). IsTable x) c.self.view_is c.self.invariant.table in
     let slot = c.in-Some.slot in
-    let own : is_of c.args.f (head_in c.args.self.now.heads c.in-Some.slot) ≡ true = found_place c.args.self.now seen c.self.inside.slots.items c.deref.result.now c.args.f c.in-Some.slot c.deref.ensures.value refl c.self.view_is c.in-Some.ensures.found in
+    let own : is_of c.args.f (head_in c.args.self.now.heads c.in-Some.slot) ≡ true = ap (λ (x : TableView). is_of c.args.f (head_in x.heads c.in-Some.slot)) (sym c.self.view_is) ∙ c.in-Some.ensures.found.1 in
     let place : IsPlaceOf c.args.self.now c.args.f c.in-Some.slot = inl own in
     let xs = addresses_of (head_in c.args.self.now.heads c.in-Some.slot) in
     let was = of_used c.args.f (head_in c.args.self.now.heads c.in-Some.slot) own in
-    let read = head_read c.args.self.now seen c.self.inside.slots.items c.deref.result.now c.in-Some.slot c.index.result.now c.deref.ensures.value refl c.self.view_is c.in-Some.ensures.found.0 c.index.ensures in
+    let read = c.slot.ensures ∙ ap (λ (x : TableView). head_in x.heads c.in-Some.slot) c.self.view_is in
     sets_head t v is c.args.f slot place (with_leaf c.args.p.0 c.args.a) (λ leaves. written c.args.f c.args.p (take 448 (leaves c.args.a))) (is_ok c.put_head.result) c.put_head.new.self (g.S.StableStore.view c.put_head.new.store) c.with_leaf-head.result (Used c.args.f (slice_set xs c.args.p.0 (suc c.args.a)))
     (c.with_leaf-head.ensures ∙ ap (with_leaf c.args.p.0 c.args.a) (read ∙ was)) (ap (with_leaf c.args.p.0 c.args.a) was) (c.put_head.ensures (λ leaves. written c.args.f c.args.p (take 448 (leaves c.args.a))))
     (leaf_changes t is c.args.f slot place xs was c.args.p c.args.a c.requires.range) (leaf_leaves t is c.args.f slot place xs was v c.args.p.0 c.args.a c.requires.range c.requires.leaf)

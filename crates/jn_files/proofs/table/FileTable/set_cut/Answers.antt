@@ -1,41 +1,39 @@
-use Rattle.std.proofs.Common.{◌≡◌, inl, true, sym, subst, refl, ap, ◌∙◌}
+use Rattle.std.proofs.Common.{◌≡◌, inl, true, sym, subst, ap, ◌∙◌}
 use Rattle.std.specs.Prelude.{is_ok}
 use Rattle.jn_order.specs.Files.{cut_from}
 use Rattle.jn_records.specs.declared.head.Head.{Head}
 use Rattle.jn_records.specs.declared.head.Head.TheVariants.{Used}
 use Rattle.jn_files.specs.Table.{TableView, IsTable, head_in, is_of, addresses_of, cut_addresses, cut_head}
 use Rattle.jn_files.specs.Calls.{IsPlaceOf}
-use Rattle.jn_files.specs.Inside.{MayStand, view_of}
+use Rattle.jn_files.specs.Inside.{MayStand}
 use Rattle.jn_files.proofs.Lookup.{of_used}
-use Rattle.jn_files.proofs.Setting.{cut_stands, cut_leaves, cut_changes, sets_head, found_place, head_read}
+use Rattle.jn_files.proofs.Setting.{cut_stands, cut_leaves, cut_changes, sets_head}
 use Rattle.jn_files.proofs.table.FileTable.set_cut.Goals as goal
 
 pub put_head-requires-clause-may : goal.put_head-requires-clause-may
 put_head-requires-clause-may g c =
     let t = c.args.self.now in
     let v = g.S.StableStore.view c.args.store.now in
-    let is = subst (λ (x : TableView). IsTable x) c.self.view_is c.self.invariant in
-    let seen = view_of c.self.inside.pool c.self.inside.slots.items c.self.inside.held.items c.self.inside.free_heads c.self.inside.free_leaves in
+    let is = subst (λ (x : TableView). IsTable x) c.self.view_is c.self.invariant.table in
     let slot = c.in-Some.slot in
-    let own : is_of c.args.f (head_in c.args.self.now.heads c.in-Some.slot) ≡ true = found_place c.args.self.now seen c.self.inside.slots.items c.deref.result.now c.args.f c.in-Some.slot c.deref.ensures.value refl c.self.view_is c.in-Some.ensures.found in
+    let own : is_of c.args.f (head_in c.args.self.now.heads c.in-Some.slot) ≡ true = ap (λ (x : TableView). is_of c.args.f (head_in x.heads c.in-Some.slot)) (sym c.self.view_is) ∙ c.in-Some.ensures.found.1 in
     let place : IsPlaceOf c.args.self.now c.args.f c.in-Some.slot = inl own in
     let xs = addresses_of (head_in c.args.self.now.heads c.in-Some.slot) in
     let was = of_used c.args.f (head_in c.args.self.now.heads c.in-Some.slot) own in
-    let read = head_read c.args.self.now seen c.self.inside.slots.items c.deref.result.now c.in-Some.slot c.index.result.now c.deref.ensures.value refl c.self.view_is c.in-Some.ensures.found.0 c.index.ensures in
+    let read = c.slot.ensures ∙ ap (λ (x : TableView). head_in x.heads c.in-Some.slot) c.self.view_is in
     subst (λ (h : Head). MayStand t slot h) (sym (c.cut-head.ensures ∙ ap (cut_head c.args.n.0) (read ∙ was))) (cut_stands t is c.args.f slot place xs was c.args.n.0)
 
 pub returns : goal.returns
 returns g c =
     let t = c.args.self.now in
     let v = g.S.StableStore.view c.args.store.now in
-    let is = subst (λ (x : TableView). IsTable x) c.self.view_is c.self.invariant in
-    let seen = view_of c.self.inside.pool c.self.inside.slots.items c.self.inside.held.items c.self.inside.free_heads c.self.inside.free_leaves in
+    let is = subst (λ (x : TableView). IsTable x) c.self.view_is c.self.invariant.table in
     let slot = c.in-Some.slot in
-    let own : is_of c.args.f (head_in c.args.self.now.heads c.in-Some.slot) ≡ true = found_place c.args.self.now seen c.self.inside.slots.items c.deref.result.now c.args.f c.in-Some.slot c.deref.ensures.value refl c.self.view_is c.in-Some.ensures.found in
+    let own : is_of c.args.f (head_in c.args.self.now.heads c.in-Some.slot) ≡ true = ap (λ (x : TableView). is_of c.args.f (head_in x.heads c.in-Some.slot)) (sym c.self.view_is) ∙ c.in-Some.ensures.found.1 in
     let place : IsPlaceOf c.args.self.now c.args.f c.in-Some.slot = inl own in
     let xs = addresses_of (head_in c.args.self.now.heads c.in-Some.slot) in
     let was = of_used c.args.f (head_in c.args.self.now.heads c.in-Some.slot) own in
-    let read = head_read c.args.self.now seen c.self.inside.slots.items c.deref.result.now c.in-Some.slot c.index.result.now c.deref.ensures.value refl c.self.view_is c.in-Some.ensures.found.0 c.index.ensures in
+    let read = c.slot.ensures ∙ ap (λ (x : TableView). head_in x.heads c.in-Some.slot) c.self.view_is in
     sets_head t v is c.args.f slot place (cut_head c.args.n.0) (λ leaves. cut_from c.args.f c.args.n) (is_ok c.put_head.result) c.put_head.new.self (g.S.StableStore.view c.put_head.new.store) c.cut-head.result (Used c.args.f (cut_addresses c.args.n.0 xs))
     (c.cut-head.ensures ∙ ap (cut_head c.args.n.0) (read ∙ was)) (ap (cut_head c.args.n.0) was) (c.put_head.ensures (λ leaves. cut_from c.args.f c.args.n))
     (cut_changes t is c.args.f slot place xs was c.args.n) (cut_leaves t is c.args.f slot place xs was v c.args.n.0)

@@ -1,22 +1,21 @@
-use Rattle.std.proofs.Common.{◌≡◌, inl, true, sym, subst, refl}
+use Rattle.std.proofs.Common.{◌≡◌, inl, true, sym, subst, refl, ap, ◌∙◌}
 use Rattle.std.specs.Prelude.{is_ok}
 use Rattle.jn_order.specs.Files.{removed}
 use Rattle.jn_records.specs.declared.head.Head.{Head}
 use Rattle.jn_records.specs.declared.head.Head.TheVariants.{Free}
 use Rattle.jn_files.specs.Table.{TableView, IsTable, head_in, is_of}
 use Rattle.jn_files.specs.Calls.{IsPlaceOf}
-use Rattle.jn_files.specs.Inside.{MayStand, view_of}
-use Rattle.jn_files.proofs.Setting.{gone_stands, gone_leaves, gone_changes, sets_head, found_place}
+use Rattle.jn_files.specs.Inside.{MayStand}
+use Rattle.jn_files.proofs.Setting.{gone_stands, gone_leaves, gone_changes, sets_head}
 use Rattle.jn_files.proofs.table.FileTable.set_gone.Goals as goal
 
 pub put_head-requires-clause-may : goal.put_head-requires-clause-may
 put_head-requires-clause-may g c =
     let t = c.args.self.now in
     let v = g.S.StableStore.view c.args.store.now in
-    let is = subst (λ (x : TableView). IsTable x) c.self.view_is c.self.invariant in
-    let seen = view_of c.self.inside.pool c.self.inside.slots.items c.self.inside.held.items c.self.inside.free_heads c.self.inside.free_leaves in
+    let is = subst (λ (x : TableView). IsTable x) c.self.view_is c.self.invariant.table in
     let slot = c.in-Some.slot in
-    let own : is_of c.args.f (head_in c.args.self.now.heads c.in-Some.slot) ≡ true = found_place c.args.self.now seen c.self.inside.slots.items c.deref.result.now c.args.f c.in-Some.slot c.deref.ensures.value refl c.self.view_is c.in-Some.ensures.found in
+    let own : is_of c.args.f (head_in c.args.self.now.heads c.in-Some.slot) ≡ true = ap (λ (x : TableView). is_of c.args.f (head_in x.heads c.in-Some.slot)) (sym c.self.view_is) ∙ c.in-Some.ensures.found.1 in
     let place : IsPlaceOf c.args.self.now c.args.f c.in-Some.slot = inl own in
     subst (λ (h : Head). MayStand t slot h) (sym c.free.ensures) (gone_stands t is c.args.f slot place)
 
@@ -24,10 +23,9 @@ pub returns-clause-there : goal.returns-clause-there
 returns-clause-there g c exists =
     let t = c.args.self.now in
     let v = g.S.StableStore.view c.args.store.now in
-    let is = subst (λ (x : TableView). IsTable x) c.self.view_is c.self.invariant in
-    let seen = view_of c.self.inside.pool c.self.inside.slots.items c.self.inside.held.items c.self.inside.free_heads c.self.inside.free_leaves in
+    let is = subst (λ (x : TableView). IsTable x) c.self.view_is c.self.invariant.table in
     let slot = c.in-Some.slot in
-    let own : is_of c.args.f (head_in c.args.self.now.heads c.in-Some.slot) ≡ true = found_place c.args.self.now seen c.self.inside.slots.items c.deref.result.now c.args.f c.in-Some.slot c.deref.ensures.value refl c.self.view_is c.in-Some.ensures.found in
+    let own : is_of c.args.f (head_in c.args.self.now.heads c.in-Some.slot) ≡ true = ap (λ (x : TableView). is_of c.args.f (head_in x.heads c.in-Some.slot)) (sym c.self.view_is) ∙ c.in-Some.ensures.found.1 in
     let place : IsPlaceOf c.args.self.now c.args.f c.in-Some.slot = inl own in
     sets_head t v is c.args.f slot place (λ h. Free) (λ leaves. removed c.args.f) (is_ok c.put_head.result) c.put_head.new.self (g.S.StableStore.view c.put_head.new.store) c.free.result Free
     c.free.ensures refl (c.put_head.ensures (λ leaves. removed c.args.f)) (gone_changes t is c.args.f slot place) (gone_leaves t is c.args.f slot place v)

@@ -1,0 +1,90 @@
+-- A file's head by the index of the files' numbers.
+use Rattle.std.proofs.Common.{◌≡◌, ◌<◌, ◌≤◌, ℕ, suc, Bool, true, false, List, [], ◌∷◌, length, Option, Some, None, inl, inr, refl, sym, ap, ◌∙◌, arith}
+use Rattle.std.proofs.lemmas.Bool.{cases_lt}
+use Rattle.std.proofs.lemmas.Bool.Decides.{nat_tests}
+use Rattle.std.proofs.lemmas.List.{get_or_past}
+use Rattle.std.specs.Prelude.{is_some, slice_index, IfSome, IfNone}
+use Rattle.jn_base.specs.declared.names.FileNo.{FileNo}
+use Rattle.jn_index.specs.Numbers.{number_at, is_above as is_number_above, IsSlotFrom, IsNumberAbove}
+use Rattle.jn_records.specs.declared.head.Head.{Head}
+use Rattle.jn_records.specs.declared.head.Head.TheVariants.{Free, Used}
+use Rattle.jn_files.specs.Table.{head_in, is_of, exists, addresses, addresses_of, address_of, address_for, or_nil}
+use Rattle.jn_files.specs.Calls.{is_above, NextFile}
+use Rattle.jn_files.specs.Inside.{AreIndexed, number_of, file_number}
+use Rattle.jn_files.proofs.Lookup.{absent_none, when_false, addresses_lowest}
+
+-- a head that the file has
+pub has_head : (g : FileNo) (hs : List Head) → exists hs g ≡ true → (j : ℕ) × (j < length hs) × (is_of g (head_in hs j) ≡ true)
+has_head g [] e = absurd (cc e)
+has_head g (h ∷ hs) e = by (has_head g hs) (is_of g h) refl
+  where
+    by : (exists hs g ≡ true → (j : ℕ) × (j < length hs) × (is_of g (head_in hs j) ≡ true)) → (b : Bool) → is_of g h ≡ b → (j : ℕ) × (j < length (h ∷ hs)) × (is_of g (head_in (h ∷ hs) j) ≡ true)
+    by later true t = (0, omega arith, t)
+    by later false t =
+        let rest = later (ap (λ (o : Option (List ℕ)). is_some o) (sym (when_false (is_of g h) (Some (addresses_of h)) (addresses g hs) t)) ∙ e) in
+        (suc rest.0, (let lt = rest.1 in omega arith), rest.2)
+
+pub has_file : (g : FileNo) (hs : List Head) (j : ℕ) → is_of g (head_in hs j) ≡ true → exists hs g ≡ true
+has_file g hs j e = by (exists hs g) refl
+  where
+    by : (b : Bool) → exists hs g ≡ b → b ≡ true
+    by true t = refl
+    by false t = absurd (let none = absent_none g hs t j in cc (none, e))
+
+of_number : (f : FileNo) (h : Head) → number_of h ≡ Some f.0 → is_of f h ≡ true
+of_number f Free e = absurd (cc e)
+of_number f (Used g xs) e = let same : g.0 ≡ f.0 = cc e in grind (arith, nat_tests, same)
+
+its_number : (f : FileNo) (h : Head) → is_of f h ≡ true → number_of h ≡ Some f.0
+its_number f Free e = absurd (cc e)
+its_number f (Used g xs) e = ap (λ (n : ℕ). Some n) (let same : g.0 ≡ f.0 = grind (arith, nat_tests, e) in same)
+
+module _ (files : List (Option ℕ)) (heads : List Head) (are : AreIndexed files heads) where
+  pub slot_found : (f : FileNo) (slot : ℕ) → IsSlotFrom files f.0 0 slot → (slot < length heads) × (is_of f (head_in heads slot) ≡ true)
+  slot_found f slot found = (below, of_number f (head_in heads slot) (sym (are.each slot) ∙ found.here))
+    where
+      below : slot < length heads
+      below = elim (cases_lt slot (length heads)) [
+        | inl lt ↦ lt
+        | inr le ↦ absurd (let none : number_at files slot ≡ None = get_or_past files slot None (let same = are.slots in omega arith) in let some = found.here in cc (none, some))
+      ]
+
+  pub slot_lowest : (f : FileNo) (slot : ℕ) → IsSlotFrom files f.0 0 slot → (k : ℕ) → is_of f (head_in heads k) ≡ true → slot ≤ k
+  slot_lowest f slot found k e = found.lowest k (omega arith) (are.each k ∙ its_number f (head_in heads k) e)
+
+  pub slot_there : (f : FileNo) (slot : ℕ) → IsSlotFrom files f.0 0 slot → exists heads f ≡ true
+  slot_there f slot found = has_file f heads slot (slot_found f slot found).1
+
+  pub slot_absent : (f : FileNo) → ((slot : ℕ) → 0 ≤ slot → number_at files slot ≡ Some f.0 → ⊥) → exists heads f ≡ false
+  slot_absent f none = by (exists heads f) refl
+    where
+      by : (b : Bool) → exists heads f ≡ b → b ≡ false
+      by false t = refl
+      by true t = absurd (let at = has_head f heads t in none at.0 (omega arith) (are.each at.0 ∙ its_number f (head_in heads at.0) at.2))
+
+  above_too : (after : Option FileNo) (g : FileNo) (b : Bool) → is_above after g ≡ b → is_number_above (file_number after) g.0 ≡ b
+  above_too None g b e = e
+  above_too (Some f) g b e = e
+
+  and_back : (after : Option FileNo) (g : FileNo) (b : Bool) → is_number_above (file_number after) g.0 ≡ b → is_above after g ≡ b
+  and_back None g b e = e
+  and_back (Some f) g b e = e
+
+  pub next_found : (after : Option FileNo) (f : FileNo) → IsNumberAbove files (file_number after) f.0 → NextFile heads after (Some f)
+  next_found after f next = record {
+    stands = has_file f heads next.slot (of_number f (head_in heads next.slot) (sym (are.each next.slot) ∙ next.here));
+    above = and_back after f true next.above;
+    least = λ g e above. let at = has_head g heads e in next.least at.0 g.0 (are.each at.0 ∙ its_number g (head_in heads at.0) at.2) (above_too after g true above);
+  }
+
+  pub next_none : (after : Option FileNo) → ((slot n : ℕ) → number_at files slot ≡ Some n → is_number_above (file_number after) n ≡ false) → NextFile heads after None
+  next_none after none g e = let at = has_head g heads e in and_back after g false (none at.0 g.0 (are.each at.0 ∙ its_number g (head_in heads at.0) at.2))
+
+  -- as the answer of a search says it
+  pub there_by : (f : FileNo) (found : Option ℕ) → IfSome found (λ slot. IsSlotFrom files f.0 0 slot) → IfNone found ((slot : ℕ) → 0 ≤ slot → number_at files slot ≡ Some f.0 → ⊥) → is_some found ≡ exists heads f
+  there_by f None some none = sym (slot_absent f none)
+  there_by f (Some slot) some none = sym (slot_there f slot some)
+
+-- a file's address is that of the lowest head that it has
+pub address_there : (heads : List Head) (f : FileNo) (slot p : ℕ) → is_of f (head_in heads slot) ≡ true → ((k : ℕ) → is_of f (head_in heads k) ≡ true → slot ≤ k) → address_of (head_in heads slot) p ≡ address_for heads f p
+address_there heads f slot p here low = ap (λ (o : Option (List ℕ)). slice_index (or_nil o) p) (sym (addresses_lowest f heads slot here low))

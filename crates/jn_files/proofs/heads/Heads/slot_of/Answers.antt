@@ -1,0 +1,8 @@
+use Rattle.std.proofs.Common.{ap, ◌∙◌, List}
+use Rattle.jn_records.specs.declared.head.Head.{Head}
+use Rattle.jn_files.specs.Table.{exists}
+use Rattle.jn_files.proofs.Finding.{there_by}
+use Rattle.jn_files.proofs.heads.Heads.slot_of.Goals as goal
+
+pub returns-clause-there : goal.returns-clause-there
+returns-clause-there c = there_by c.self.inside.files c.self.inside.slots.items c.self.invariant c.args.f c.slot_from.result c.slot_from.ensures.found c.slot_from.ensures.none ∙ ap (λ (l : List Head). exists l c.args.f) c.self.view_is

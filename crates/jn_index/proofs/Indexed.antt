@@ -1,0 +1,60 @@
+-- An index in memory, as it is changed.
+use Rattle.std.proofs.Common.{◌≡◌, ◌<◌, ◌≤◌, ◌+◌, ℕ, true, false, List, length, Option, Some, None, refl, sym, ap, subst, ◌∙◌, arith, inl, inr}
+use Rattle.std.proofs.lemmas.List.{length-set}
+use Rattle.std.proofs.lemmas.List.Edits.{length-insert, length-remove}
+use Rattle.std.proofs.lemmas.List.Sums.{sum_by-set}
+use Rattle.std.specs.List.{insert, remove}
+use Rattle.std.specs.Prelude.{slice_set, count_by, cond}
+use Rattle.jn_index.specs.declared.Entry.{Entry}
+use Rattle.jn_index.specs.Numbers.{number_at}
+use Rattle.jn_index.specs.Entries.{is_none, entry_at, is_before, IsIndex}
+use Rattle.jn_index.proofs.Editing.{cleared, filled, has_slot}
+
+abbrev ones : Option ℕ → ℕ
+ones n = cond (is_none n) 1 0
+
+count_of_set : (numbers : List (Option ℕ)) (slot : ℕ) (y : Option ℕ) → slot < length numbers → count_by is_none (slice_set numbers slot y) + ones (number_at numbers slot) ≡ count_by is_none numbers + ones y
+count_of_set numbers slot y below = sum_by-set (λ n. cond (is_none n) 1 0) numbers slot y None below
+
+module _ (numbers : List (Option ℕ)) (list : List Entry) (capacity : ℕ) (index : IsIndex numbers list capacity) where
+  pub is_cleared : (old : Entry) (i : ℕ) (after : List Entry) (room : ℕ) → number_at numbers old.slot ≡ Some old.number → i < length list → entry_at list i ≡ old → after ≡ remove list i → capacity ≤ room
+      → IsIndex (slice_set numbers old.slot None) after room
+  is_cleared old i after room some here is same more =
+      let shorter = length-remove list i here in
+      let below = has_slot numbers old.slot old.number some in
+      subst (λ (l : List Entry). IsIndex (slice_set numbers old.slot None) l room) (sym same) (record {
+        few = simp length-set index.few;
+        entries = cleared numbers list index.entries i old below here is shorter;
+        room =
+            let count : count_by is_none (slice_set numbers old.slot None) + ones (number_at numbers old.slot) ≡ count_by is_none numbers + ones None = count_of_set numbers old.slot None below in
+            let was : ones (number_at numbers old.slot) ≡ 0 = ap ones some ∙ zero_of in
+            let is_one : ones None ≡ 1 = one_of in
+            omega arith;
+      })
+    where
+      zero_of : ones (Some old.number) ≡ 0
+      zero_of = refl
+
+      one_of : ones None ≡ 1
+      one_of = refl
+
+  pub is_filled : (new : Entry) (i : ℕ) (after : List Entry) (room : ℕ) → new.slot < length numbers → number_at numbers new.slot ≡ None → i ≤ length list
+      → ((k : ℕ) → k < i → is_before (entry_at list k) new ≡ true) → ((k : ℕ) → i ≤ k → k < length list → is_before (entry_at list k) new ≡ false)
+      → after ≡ insert list i new → capacity ≤ room → IsIndex (slice_set numbers new.slot (Some new.number)) after room
+  is_filled new i after room below none end before behind same more =
+      let longer = length-insert list i new end in
+      subst (λ (l : List Entry). IsIndex (slice_set numbers new.slot (Some new.number)) l room) (sym same) (record {
+        few = simp length-set index.few;
+        entries = filled numbers list index.entries new i end below none before behind longer;
+        room =
+            let count : count_by is_none (slice_set numbers new.slot (Some new.number)) + ones (number_at numbers new.slot) ≡ count_by is_none numbers + ones (Some new.number) = count_of_set numbers new.slot (Some new.number) below in
+            let was : ones (number_at numbers new.slot) ≡ 1 = ap ones none ∙ one_of in
+            let is_zero : ones (Some new.number) ≡ 0 = zero_of in
+            omega arith;
+      })
+    where
+      zero_of : ones (Some new.number) ≡ 0
+      zero_of = refl
+
+      one_of : ones None ≡ 1
+      one_of = refl

@@ -1,0 +1,223 @@
+//! Slots by number: which slots have a number, and which number comes next, without a look at every slot.
+//!
+//! A server finds a file's head, or a work's record, by a number. The numbers are kept in order beside the list of them by slot,
+//! so that a search halves them. Nothing but `new` takes memory.
+#![tactic(auto)]
+
+ghost use Rattle.std.specs.Prelude.{◌≡◌, ◌<◌, ◌≤◌, ◌+◌, ◌^◌, ℕ, true, false, length, List, slice_set, slice_index_or, count_by, Option, Some, None, is_some, IfOk, IfSome, IfNone, insert, remove};
+ghost use Rattle.jn_index.specs.Numbers.{number_at, is_above, IsSlotFrom, IsNumberAbove};
+ghost use Rattle.jn_index.specs.Entries.{is_none, is_before, entry, entry_at, AreRising};
+
+use std::alloc::{AllocError, Global};
+use std::marker::Model;
+
+/// A slot's number.
+#[derive(Clone, Copy)]
+struct Entry {
+    number: u32,
+    slot: u16,
+}
+
+/// The numbers of slots. Contracts see them as a list, by slot.
+#[derive(Drop)]
+pub struct Index {
+    numbers: Vec<Option<u32>>,
+    /// By number and then by slot, with room for one of each slot.
+    entries: Vec<Entry>,
+}
+
+impl Model for Index {
+    ghost use Rattle.std.specs.Prelude.{ℕ, List, Option, vec_capacity};
+    ghost use Rattle.jn_index.specs.Entries.{IsIndex};
+
+    ghost Value = { List (Option ℕ) };
+
+    ghost view = { λ x. x.numbers.items };
+
+    ghost invariant = { λ x. IsIndex x.numbers.items x.entries.items (vec_capacity x.entries) };
+}
+
+impl Index {
+    /// No slot has a number.
+    pub fn new(alloc: Global, slots: u16) -> Result<Self, AllocError>
+        ensures slots { IfOk result (λ index. length index ≡ slots) }
+        ensures none { IfOk result (λ index. (slot : ℕ) → number_at index slot ≡ None) }
+    {
+        let entries = Vec::with_capacity(alloc, slots as usize)?;
+        let numbers = no_numbers(alloc, slots)?;
+        Ok(Index { numbers, entries })
+    }
+
+    /// How many slots there are.
+    pub fn slots(&self) -> usize
+        ensures { result ≡ length self.now }
+    {
+        self.numbers.len()
+    }
+
+    /// Gives a slot another number, or none.
+    pub fn set(&mut self, slot: u16, number: Option<u32>)
+        requires { slot < length self.old }
+        ensures { self.new ≡ slice_set self.old slot number }
+    {
+        let old = self.numbers[slot as usize];
+        if old == number {
+            return;
+        }
+        if let Some(old) = old {
+            self.clear(Entry { number: old, slot });
+        }
+        if let Some(number) = number {
+            self.fill(Entry { number, slot });
+        }
+    }
+
+    /// The lowest slot with a number, from a slot on.
+    pub fn slot_from(&self, number: u32, from: u16) -> Option<u16>
+        ensures found { IfSome result (λ slot. IsSlotFrom self.now number from slot) }
+        ensures none { IfNone result ((slot : ℕ) → from ≤ slot → number_at self.now slot ≡ Some number → ⊥) }
+    {
+        let place = place_of(&self.entries, Entry { number, slot: from });
+        if place < self.entries.len() && self.entries[place].number == number {
+            return Some(self.entries[place].slot);
+        }
+        None
+    }
+
+    /// The least number above another that a slot has, or the least of all.
+    pub fn number_above(&self, after: Option<u32>) -> Option<u32>
+        ensures found { IfSome result (λ number. IsNumberAbove self.now after number) }
+        ensures none { IfNone result ((slot n : ℕ) → number_at self.now slot ≡ Some n → is_above after n ≡ false) }
+    {
+        let place = place_above(&self.entries, after);
+        if place < self.entries.len() {
+            return Some(self.entries[place].number);
+        }
+        None
+    }
+
+    /// Takes a slot's number away.
+    fn clear(&mut self, old: Entry)
+        requires { number_at self.old old.slot ≡ Some old.number }
+        ensures { self.new ≡ slice_set self.old old.slot None }
+    {
+        let place = place_of(&self.entries, old);
+        self.entries.remove(place);
+        self.numbers[old.slot as usize] = None;
+    }
+
+    /// Gives a slot without a number one.
+    fn fill(&mut self, new: Entry)
+        requires below { new.slot < length self.old }
+        requires none { number_at self.old new.slot ≡ None }
+        ensures { self.new ≡ slice_set self.old new.slot (Some new.number) }
+    {
+        let place = place_of(&self.entries, new);
+        let Ok(()) = self.entries.insert(place, new) else {
+            unreachable!()
+        };
+        self.numbers[new.slot as usize] = Some(new.number);
+    }
+}
+
+fn no_numbers(alloc: Global, slots: u16) -> Result<Vec<Option<u32>>, AllocError>
+    ensures slots { IfOk result (λ numbers. length numbers.items ≡ slots) }
+    ensures few { slots < 2 ^ 16 }
+    ensures none { IfOk result (λ numbers. (slot : ℕ) → number_at numbers.items slot ≡ None) }
+    ensures count { IfOk result (λ numbers. count_by is_none numbers.items ≡ slots) }
+{
+    let mut numbers = Vec::with_capacity(alloc, slots as usize)?;
+    for _ in 0..slots {
+        numbers.push(None)?;
+    }
+    Ok(numbers)
+}
+
+/// How many entries aren't above a number.
+fn place_above(entries: &[Entry], after: Option<u32>) -> usize
+    requires rising { AreRising entries.now }
+    requires slots { (i : ℕ) → i < length entries.now → (entry_at entries.now i).slot < 65535 }
+    ensures bound { result ≤ length entries.now }
+    ensures before { (i : ℕ) → i < result → is_above after (entry_at entries.now i).number ≡ false }
+    ensures after { (i : ℕ) → result ≤ i → i < length entries.now → is_above after (entry_at entries.now i).number ≡ true }
+{
+    match after {
+        None => 0,
+        Some(number) => place_of(
+            entries,
+            Entry {
+                number,
+                slot: u16::MAX,
+            },
+        ),
+    }
+}
+
+/// How many entries come before one.
+fn place_of(entries: &[Entry], sought: Entry) -> usize
+    requires { AreRising entries.now }
+    ensures bound { result ≤ length entries.now }
+    ensures before { (i : ℕ) → i < result → is_before (entry_at entries.now i) sought ≡ true }
+    ensures after { (i : ℕ) → result ≤ i → i < length entries.now → is_before (entry_at entries.now i) sought ≡ false }
+{
+    let mut low = 0;
+    let mut high = entries.len();
+    while low < high {
+        let middle = low + (high - low) / 2;
+        if comes_before(entries[middle], sought) {
+            low = middle + 1;
+        } else {
+            high = middle;
+        }
+    }
+    low
+}
+
+fn comes_before(a: Entry, b: Entry) -> bool
+    ensures { result ≡ is_before a b }
+{
+    a.number < b.number || (a.number == b.number && a.slot < b.slot)
+}
+
+#[cfg(test)]
+mod tests {
+    use super::*;
+    use std::test::Fail;
+
+    #[test]
+    fn slots_are_found_by_their_numbers(rt: HostRuntime) -> Result<(), Fail> {
+        let mut index = Index::new(rt.alloc(), 4)?;
+        index.set(2, Some(7));
+        index.set(0, Some(9));
+        index.set(3, Some(7));
+        index.set(1, Some(4_000_000_000));
+        assert_eq!(rt; index.slots(), 4);
+        assert_eq!(rt;
+            (
+                index.slot_from(7, 0),
+                index.slot_from(7, 3),
+                index.slot_from(7, 4)
+            ),
+            (Some(2), Some(3), None)
+        );
+        assert_eq!(rt;
+            (
+                index.number_above(None),
+                index.number_above(Some(7)),
+                index.number_above(Some(u32::MAX))
+            ),
+            (Some(7), Some(9), None)
+        );
+        index.set(2, None);
+        index.set(0, Some(8));
+        assert_eq!(rt;
+            (
+                index.slot_from(7, 0),
+                index.slot_from(8, 0),
+                index.slot_from(9, 0)
+            ),
+            (Some(3), Some(0), None)
+        );
+        Ok(())
+    }
+}
