@@ -121,5 +121,6 @@ module _ (server : ServerNo) (g : Counts) (v : StoreView) (epoch : ℕ) (records
   pub is_image : IsImage server g (standing_state g v).files v
   is_image = record {
     sound = sound;
+    fit = let fits = standing.held.root_fits in record { server_fits = fits.server; pool = fits.pool; heads = fits.heads; leaves = fits.leaves };
     same_files = sym (files_agree g (pages_by v (λ n. false)) m.bytes few (standing.recoverable.each (λ n. false)).of_format.heads (λ k lt. picked_is k lt));
   }

@@ -69,19 +69,19 @@ module _ (g : Counts) (one two : Pages) (few : g.leaves < 2 ^ 16) (format : (i :
       ∙ ap (λ l. files_in l (block_on g two)) heads_same
       ∙ sym (files_on_pages g two few (λ i lt. subst (IsHeadPage g.leaves) (same (head_place g i) (omega (arith, lt))) (format i lt)))
 
-module _ (s : ServerNo) (m : Image) (v : StoreView) (sound : IsSound s m) (fit : CountsFit s m.counts) (store : IsStoreOf m v) where
-  image_found : (c : Pick) → found_on m.counts v c ≡ only_files sound.root.0 (files_of_pages m.counts m.bytes)
+module _ (s : ServerNo) (m : Image) (v : StoreView) (sound : IsSound s m) (fit : CountsFit s m.counts) (store : IsStoreOf m v) (epoch : ℕ) (fits : epoch < 2 ^ 32) (root : m.bytes 0 ≡ root_page (root_of m epoch)) where
+  image_found : (c : Pick) → found_on m.counts v c ≡ only_files epoch (files_of_pages m.counts m.bytes)
   image_found c =
       let format = image_format s m sound fit v store c in
       state_on_pages m.counts (pages_by v c) fit.leaves format.heads
       ∙ ap (λ w. record (state_in (contents_of m.counts (pages_by v c))) { works = w }) (fun_ext (λ w. no_works (contents_of m.counts (pages_by v c)) (all_free s m sound fit v store c) w))
       ∙ ap (λ f. record (state_in (contents_of m.counts (pages_by v c))) { works = λ w. None; flags = f }) (fun_ext (λ t. no_flags (contents_of m.counts (pages_by v c)) (all_free s m sound fit v store c) t))
       ∙ ap (λ n. record { epoch = n; files = files_in (heads_on m.counts (pages_by v c)) (block_on m.counts (pages_by v c)); works = λ w. None; flags = λ t. None })
-      (ap epoch_by (root_is_read (pages_by v c 0) (root_by s m.counts sound.root.0)
-      (record { server = fit.server_fits; pool = fit.pool; heads = fit.heads; leaves = fit.leaves; epoch = sound.root.1 })
-      (page_at s m sound fit v store c 0 (omega arith) ∙ sound.root.2 ∙ ap (λ q. root_page (root_by q m.counts sound.root.0)) sound.server)))
-      ∙ ap (only_files sound.root.0) (sym (files_on_pages m.counts (pages_by v c) fit.leaves format.heads)
+      (ap epoch_by (root_is_read (pages_by v c 0) (root_by s m.counts epoch)
+      (record { server = fit.server_fits; pool = fit.pool; heads = fit.heads; leaves = fit.leaves; epoch = fits })
+      (page_at s m sound fit v store c 0 (omega arith) ∙ root ∙ ap (λ q. root_page (root_by q m.counts epoch)) sound.server)))
+      ∙ ap (only_files epoch) (sym (files_on_pages m.counts (pages_by v c) fit.leaves format.heads)
       ∙ files_agree m.counts (pages_by v c) m.bytes fit.leaves format.heads (λ k lt. page_at s m sound fit v store c k lt))
 
-  pub image_fresh : (epoch : ℕ) × (m.bytes 0 ≡ root_page (root_of m epoch)) × IsFresh s m.counts epoch (files_of_pages m.counts m.bytes) v
-  image_fresh = (sound.root.0, sound.root.2, record { recoverable = image_recoverable s m v sound fit store; found = image_found })
+  pub image_fresh : IsFresh s m.counts epoch (files_of_pages m.counts m.bytes) v
+  image_fresh = record { recoverable = image_recoverable s m v sound fit store; found = image_found }

@@ -45,4 +45,5 @@ image_on server g v = record {
 -- the pages are those of a sound image, which holds these files
 pub record IsImage (server : ServerNo) (g : Counts) (files : Files) (v : StoreView) : Type 0 where
   pub sound : IsSound server (image_on server g v)
+  pub fit : CountsFit server g
   pub same_files : files_of_pages g (image_on server g v).bytes ≡ files

@@ -1,5 +1,5 @@
 //! Where a server begins, and how it ends.
-ghost use Rattle.std.specs.Prelude.{◌≡◌, ◌<◌, ℕ, List};
+ghost use Rattle.std.specs.Prelude.{◌≡◌, ◌<◌, ◌^◌, ℕ, List};
 ghost use Rattle.jn_base.specs.declared.names.ServerNo.{ServerNo};
 ghost use Rattle.jn_records.specs.declared.head.Head.{Head};
 ghost use Rattle.jn_records.specs.declared.record.Record.{Record};
@@ -15,7 +15,7 @@ ghost use Rattle.jn_found.specs.Standing.{IsStanding, standing_state};
 /// From the pages of a sound image a recovery may begin. By each pick it finds the image's files, no work and no flag.
 pub fn a_sound_image_is_found()
     ensures { (server : ServerNo) (m : Image) (v : StoreView) → IsSound server m → CountsFit server m.counts → IsStoreOf m v
-        → (epoch : ℕ) × (m.bytes 0 ≡ root_page (root_of m epoch)) × IsFresh server m.counts epoch (files_of_pages m.counts m.bytes) v }
+        → (epoch : ℕ) → epoch < 2 ^ 32 → m.bytes 0 ≡ root_page (root_of m epoch) → IsFresh server m.counts epoch (files_of_pages m.counts m.bytes) v }
 {}
 
 /// Where no record stands and each page is good in both its halves, the pages are those of a sound image, with the files that are found.
