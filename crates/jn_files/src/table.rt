@@ -63,6 +63,7 @@ impl FileTable {
         ensures holds { IfOk result (λ t. pages.Holds t (S.view store.new)) }
         ensures read { calls.StoreRead (S.view store.old) root.now.heads (S.view store.new) }
         ensures served { IsOk result → 0 < root.now.heads → IsServed (S.view store.old) (S.view store.new) }
+        ensures stops { IsOk result → (S.view store.new).stops ≡ (S.view store.old).stops }
         ensures stop { result ≡ Err LoadStopped → IsStop (S.view store.old) (S.view store.new) }
         ensures calm { IsCalm (S.view store.old) → result ≢ Err LoadStopped }
     {
@@ -380,6 +381,7 @@ fn read_slots<S: StableStore>(
     ensures few { root.now.heads < 2 ^ 16 }
     ensures read { calls.StoreRead (S.view store.old) root.now.heads (S.view store.new) }
     ensures served { IsOk result → 0 < root.now.heads → IsServed (S.view store.old) (S.view store.new) }
+    ensures stops { IsOk result → (S.view store.new).stops ≡ (S.view store.old).stops }
     ensures stop { result ≡ Err LoadStopped → IsStop (S.view store.old) (S.view store.new) }
     ensures calm { IsCalm (S.view store.old) → result ≢ Err LoadStopped }
 {

@@ -38,7 +38,7 @@ module _ (g : Counts) (pages : Pages) (few : g.leaves < 2 ^ 16) where
       (cases_lt p.0 120)
 
   -- a head stands on its page
-  stands : (page : List ℕ) (h : Head) (is : IsHead g.leaves h) (fits : FileFits h) (e : page ≡ head_page h) (f : FileNo) → is_page_of f page ≡ is_head_of f h
+  pub stands : (page : List ℕ) (h : Head) (is : IsHead g.leaves h) (fits : FileFits h) (e : page ≡ head_page h) (f : FileNo) → is_page_of f page ≡ is_head_of f h
   stands page FreeHead is fits e f = grind (arith, free_unused g.leaves page few e)
   stands page (Used k xs) is fits e f = grind (arith, nat_tests, used_kind g.leaves page few k xs is fits e, used_file g.leaves page few k xs is fits e)
 

@@ -21,6 +21,8 @@ pub mod Behind
 pub mod Saying
 pub mod Images
 pub mod SoundImages
+pub mod ImageStates
+pub mod ImageEnds
 pub mod HeldLaws
 pub mod RecoveryLaws
 pub mod HeldAfter

@@ -7,9 +7,10 @@ use Rattle.std.proofs.lemmas.Bool.Decides.{nat_tests}
 use Rattle.jn_base.specs.declared.names.ServerNo.{ServerNo}
 use Rattle.jn_records.specs.StablePages.{Counts, page_count, data_place}
 use Rattle.jn_rows.specs.Stable.{StableState, Pick, Change, made_by, Changed, Unchanged}
-use Rattle.jn_store.specs.Store.{StoreView, Candidate, IsClean, StorePut}
+use Rattle.jn_store.specs.Store.{StoreView, Candidate, IsClean, HasSamePages, StorePut}
 use Rattle.jn_store.specs.Choices.{with_page}
 use Rattle.jn_store.proofs.Choices.{with_same, with_other}
+use Rattle.jn_store.proofs.Laws.{same_shrinks}
 use Rattle.jn_found.specs.Contents.{state_in}
 use Rattle.jn_found.specs.Pages.{half_of, pages_by, found_on, contents_of, state_of, IsOfFormat}
 use Rattle.jn_found.specs.Recoverable.{IsConsistent, IsFound, NamedAreClean, IsRecoverable, is_named}
@@ -239,3 +240,21 @@ module _ (v w : StoreView) (fewer : IsFewer v w) where
     clean = λ c d lt named. fewer_clean (data_place g d) (let e : page_count g ≡ v.count = before.count in omega (arith, lt, e))
         (before.clean (earlier c) d lt (sym (ap (λ x. is_named (contents_of g x) d) (earlier_pages c)) ∙ named));
   }
+
+-- where each page's candidates stay
+module _ (v w : StoreView) (same : HasSamePages v w) where
+  pub same_fewer : IsFewer v w
+  same_fewer = record { count = same.count; shrinks = λ j lt. same_shrinks v w j (same.pages j) }
+
+  pub same_found : (g : Counts) → found_on g w ≡ found_on g v
+  same_found g = fun_ext (λ c. ap (state_of g) (fun_ext (λ k. page c k)))
+    where
+      halves : (b : Bool) (k : ℕ) → (if b then w.second k else w.first k) ≡ (if b then v.second k else v.first k)
+      halves true k = (same.pages k).second
+      halves false k = (same.pages k).first
+
+      page : (c : Pick) (k : ℕ) → pages_by w c k ≡ pages_by v c k
+      page c k = ap (λ n. if nat_lt k n then (if c k then w.second k else w.first k) else []) same.count ∙ ap (λ x. if nat_lt k v.count then x else []) (halves (c k) k)
+
+  pub same_recoverable : (server : ServerNo) (g : Counts) → IsRecoverable server g v → IsRecoverable server g w
+  same_recoverable server g before = fewer_recoverable v w same_fewer server g before

@@ -34,7 +34,7 @@ use Rattle.jn_found.proofs.HeadKept.{one_file}
 use Rattle.jn_found.proofs.Images.{listed_files, files_listing}
 use Rattle.jn_found.proofs.PageChanges.{length-listed}
 
-listed_get : {A : Type 0} (d : A) (f : ℕ → A) (i n k : ℕ) → k < n → get_or (listed f i n) k d ≡ f (i + k)
+pub listed_get : {A : Type 0} (d : A) (f : ℕ → A) (i n k : ℕ) → k < n → get_or (listed f i n) k d ≡ f (i + k)
 listed_get d f i zero k below = absurd (omega (arith, below))
 listed_get d f i (suc n) zero below = ap f (start i)
   where
@@ -51,10 +51,10 @@ numbered k = record { 0 = k }
 -- ---- without records
 
 module _ (c : Contents) (free : (i : ℕ) → record_in c.pool i ≡ Free) where
-  no_works : (w : WorkId) → works_in c.pool c.blocks w ≡ None
+  pub no_works : (w : WorkId) → works_in c.pool c.blocks w ≡ None
   no_works w = ap (prepared_by c.pool c.blocks w) (none_found (is_prepared w) Free c.pool (λ j. ap (is_prepared w) (free j)))
 
-  no_flags : (t : Tid) → flags_in c.pool t ≡ None
+  pub no_flags : (t : Tid) → flags_in c.pool t ≡ None
   no_flags t = ap flag_by (none_found (is_flag t) Free c.pool (λ j. ap (is_flag t) (free j)))
 
   clash : {A : Type 0} (o : Option A) → o ≡ None → is_some o ≡ true → ⊥
@@ -97,7 +97,7 @@ module _ (s : ServerNo) (m : Image) (sound : IsSound s m) (fit : CountsFit s m.c
   one_half k true only = only.second
   one_half k false only = only.first
 
-  page_at : (k : ℕ) → k < page_count m.counts → pages_by v c k ≡ m.bytes k
+  pub page_at : (k : ℕ) → k < page_count m.counts → pages_by v c k ≡ m.bytes k
   page_at k lt = let e : page_count m.counts ≡ v.count = store.count in
       let t : nat_lt k v.count ≡ true = inside k v.count (omega (arith, lt, e)) in
       ap (λ b. if b then half_of v k c else []) t ∙ one_half k (c k) (store.pages k lt)
@@ -117,7 +117,7 @@ module _ (s : ServerNo) (m : Image) (sound : IsSound s m) (fit : CountsFit s m.c
     data_pages = λ d lt. ap (drop 448) (page_at (data_place m.counts d) (omega (arith, lt))) ∙ sound.tails d lt;
   }
 
-  all_free : (i : ℕ) → record_in (pool_on m.counts (pages_by v c)) i ≡ Free
+  pub all_free : (i : ℕ) → record_in (pool_on m.counts (pages_by v c)) i ≡ Free
   all_free i = ⊎_elim
       (λ lt. listed_get Free (record_on m.counts (pages_by v c)) 0 m.counts.pool i lt
       ∙ ap (λ k. record_on m.counts (pages_by v c) k) (start i)

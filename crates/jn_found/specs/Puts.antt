@@ -9,7 +9,7 @@ use Rattle.jn_records.specs.Records.{record_page}
 use Rattle.jn_records.specs.StablePages.{Counts, page_count, slot_place, head_place, data_place}
 use Rattle.jn_rows.specs.Stable.{Pick, StableState}
 use Rattle.jn_sets.specs.Pool.{IsRecord}
-use Rattle.jn_store.specs.Store.{StoreView, StorePut, IsClean, Shrinks}
+use Rattle.jn_store.specs.Store.{StoreView, StorePut, IsClean, IsWhole, Shrinks}
 use Rattle.jn_found.specs.Contents.{Contents, state_in}
 use Rattle.jn_found.specs.Changes.{with_record, with_head, with_block, with_epoch}
 use Rattle.jn_found.specs.Pages.{root_by, contents_of, pages_by, IsOfFormat}
@@ -93,6 +93,12 @@ pub record IsFrontClean (g : Counts) (v : StoreView) : Type 0 where
   pub root : IsClean v 0
   pub pool : (i : ℕ) → i < g.pool → IsClean v (slot_place g i)
   pub heads : (i : ℕ) → i < g.heads → IsClean v (head_place g i)
+
+-- and both halves of each of them are good
+pub record IsFrontWhole (g : Counts) (v : StoreView) : Type 0 where
+  pub root : IsWhole v 0
+  pub pool : (i : ℕ) → i < g.pool → IsWhole v (slot_place g i)
+  pub heads : (i : ℕ) → i < g.heads → IsWhole v (head_place g i)
 
 -- no page has a new candidate, as after a get, a cleanup or a decay
 pub record IsFewer (v w : StoreView) : Type 0 where

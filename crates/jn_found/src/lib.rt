@@ -35,9 +35,9 @@ pub use pool_laws::{
     an_intention_without_its_work_changes_nothing,
 };
 pub use recovery_laws::a_recovery_finds_what_was_there;
-pub use start_laws::a_sound_image_is_recoverable;
+pub use start_laws::{a_sound_image_is_found, whole_pages_are_a_sound_image};
 pub use stop_laws::{
     a_put_is_one_change, a_put_leaves_a_recovery, a_put_page_is_read_again,
     clean_pages_find_one_state, fewer_candidates_change_nothing, pages_say_their_records_and_heads,
-    the_state_is_what_the_pages_say,
+    same_pages_are_found_again, the_state_is_what_the_pages_say,
 };

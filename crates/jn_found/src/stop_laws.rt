@@ -7,7 +7,7 @@ ghost use Rattle.jn_records.specs.Heads.{head_page, IsHead, FileFits};
 ghost use Rattle.jn_records.specs.StablePages.{Counts, Pages, head_place};
 ghost use Rattle.jn_rows.specs.Stable.{StableState, Change, Pick, Changed, Unchanged, IsUp, made_by};
 ghost use Rattle.jn_sets.specs.Pool.{Says};
-ghost use Rattle.jn_store.specs.Store.{StoreView};
+ghost use Rattle.jn_store.specs.Store.{StoreView, HasSamePages};
 ghost use Rattle.jn_store.specs.Choices.{with_page};
 ghost use Rattle.jn_found.specs.Contents.{state_in, head_in};
 ghost use Rattle.jn_found.specs.Pages.{pool_on, heads_on, contents_of, state_of, found_on, IsOfFormat};
@@ -68,4 +68,10 @@ pub fn fewer_candidates_change_nothing()
     ensures unchanged { (g : Counts) (v w : StoreView) (x : StableState) → IsFewer v w → ((c : Pick) → found_on g v c ≡ x) → Unchanged x (found_on g w) }
     ensures picked { (g : Counts) (v w : StoreView) → IsFewer v w → (c : Pick) → (b : Pick) × (found_on g w c ≡ found_on g v b) }
     ensures recoverable { (server : ServerNo) (g : Counts) (v w : StoreView) → IsFewer v w → IsRecoverable server g v → IsRecoverable server g w }
+{}
+
+/// What befalls a store's device between its calls changes nothing that is found, and leaves a store from which a recovery may begin.
+pub fn same_pages_are_found_again()
+    ensures found { (g : Counts) (v w : StoreView) → HasSamePages v w → found_on g w ≡ found_on g v }
+    ensures recoverable { (server : ServerNo) (g : Counts) (v w : StoreView) → HasSamePages v w → IsRecoverable server g v → IsRecoverable server g w }
 {}

@@ -50,19 +50,19 @@ use Rattle.jn_storage.proofs.Intended.{made_there, there-after}
 use Rattle.jn_storage.proofs.Laws.{called_not}
 use Rattle.jn_store.specs.Store.{StoreView}
 use Rattle.jn_intent.specs.Carrying.{Carries, PutsOne, MayCarry, heads_taken, without_promise, is_gone, is_gone_already, counted_on}
-use Rattle.jn_intent.specs.Matches.{Matches, IsKept, IsMade, AreMade, stored_work}
-use Rattle.jn_intent.specs.Memory.{Memory, accounts_of, view_of, next_by, next_in, stored_by, holds_page}
-use Rattle.jn_intent.proofs.Bridge.{same_there, same_address}
+use Rattle.jn_recovery.specs.Matches.{Matches, IsKept, IsMade, AreMade, stored_work}
+use Rattle.jn_recovery.specs.Memory.{Memory, accounts_of, view_of, next_by, next_in, stored_by, holds_page}
+use Rattle.jn_recovery.proofs.Bridge.{same_there, same_address}
 use Rattle.jn_intent.proofs.CarryStates.{IsCountedOn, carried_loadable, serves_carried}
-use Rattle.jn_intent.proofs.Counting.{one, listed_length}
-use Rattle.jn_intent.proofs.FlagCalls.{none_any}
+use Rattle.jn_recovery.proofs.Counting.{one, listed_length}
+use Rattle.jn_recovery.proofs.FlagCalls.{none_any}
 use Rattle.jn_intent.proofs.NetOrder.{one_first, not_both}
 use Rattle.jn_intent.proofs.NextIntention.{its_work, its_stands, next_seen, at_full, its_slot, same_bytes, taken_is, may_carry}
 use Rattle.jn_intent.proofs.Numbers.{how_many, flags_count, more_pass}
 use Rattle.jn_intent.proofs.Removing.{found_work}
-use Rattle.jn_intent.proofs.Serving.{serves_of, serving_by, called_put}
-use Rattle.jn_intent.proofs.Standing.{finds, there_found, named_head}
-use Rattle.jn_intent.proofs.Telling.{prepared_of, stored_pages}
+use Rattle.jn_recovery.proofs.Serving.{serves_of, serving_by, called_put}
+use Rattle.jn_recovery.proofs.Standing.{finds, there_found, named_head}
+use Rattle.jn_recovery.proofs.Telling.{prepared_of, stored_pages}
 use Rattle.jn_intent.proofs.WorkPages.{first_blocks, its_list, work_told, census}
 
 -- ---- the listed works

@@ -21,7 +21,7 @@ use Rattle.jn_storage.proofs.Intended.{made_there, there-after, one_if}
 use Rattle.jn_storage.proofs.Kept.{makes_file, orderly-carried, promises-carried}
 use Rattle.jn_storage.proofs.Listings.{but, listing-less, listing-more, listing-same, length-but}
 use Rattle.jn_intent.proofs.Numbers.{listing_length}
-use Rattle.jn_intent.proofs.Serving.{Serves}
+use Rattle.jn_recovery.proofs.Serving.{Serves}
 
 -- the files after an intention, each once: one more at most, where it makes one
 record IsAfter (i : Intention) (files : Files) (most : ℕ) (keys : List FileNo) : Type 0 where

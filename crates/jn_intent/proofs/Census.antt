@@ -22,10 +22,10 @@ use Rattle.jn_locks.proofs.Orders.{unit_tells}
 use Rattle.jn_records.specs.declared.head.Head.{Head}
 use Rattle.jn_records.specs.declared.head.Head.TheVariants.{Free as FreeHead, Used}
 use Rattle.jn_storage.specs.Listing.{IsListing}
-use Rattle.jn_intent.proofs.Bridge.{same_test, same_address}
-use Rattle.jn_intent.proofs.Counting.{one}
+use Rattle.jn_recovery.proofs.Bridge.{same_test, same_address}
+use Rattle.jn_recovery.proofs.Counting.{one}
 use Rattle.jn_intent.proofs.Numbers.{how_many, flags_count, one_kind, numbered}
-use Rattle.jn_intent.proofs.Standing.{named_head}
+use Rattle.jn_recovery.proofs.Standing.{named_head}
 
 -- ---- files and heads
 

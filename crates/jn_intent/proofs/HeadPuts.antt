@@ -27,7 +27,7 @@ use Rattle.jn_records.specs.Intentions.{names_what_it_needs}
 use Rattle.jn_records.specs.NetLists.{is_fresh}
 use Rattle.jn_store.specs.Store.{StoreView}
 use Rattle.jn_intent.specs.Carrying.{MayCarry, PutsOne, Carries, without_promise, with_fresh_promise, is_gone, needs_file}
-use Rattle.jn_intent.proofs.Bridge.{same_test}
+use Rattle.jn_recovery.proofs.Bridge.{same_test}
 
 -- ---- the place of a head
 

@@ -10,13 +10,13 @@ use Rattle.jn_alloc.specs.Free.{count_of, is_free, free_count, with_free}
 use Rattle.jn_files.specs.Table.{TableView, IsTable, is_held, head_in}
 use Rattle.jn_files.specs.Calls.{LetsGo}
 use Rattle.jn_found.proofs.Naming.{named_addresses}
-use Rattle.jn_intent.proofs.Bridge.{same_address}
-use Rattle.jn_intent.proofs.Standing.{named_head}
+use Rattle.jn_recovery.proofs.Bridge.{same_address}
+use Rattle.jn_recovery.proofs.Standing.{named_head}
 use Rattle.jn_found.specs.Contents.{heads_name}
 use Rattle.jn_records.specs.declared.intention.StoredIntention.{StoredIntention}
-use Rattle.jn_intent.specs.Memory.{holds_page}
-use Rattle.jn_intent.proofs.Counting.{one}
-use Rattle.jn_intent.specs.Pages.{page_let_go, pages_let_go, IsHeldAt, MayLetGo, is_at, ArePagesApart}
+use Rattle.jn_recovery.specs.Memory.{holds_page}
+use Rattle.jn_recovery.proofs.Counting.{one}
+use Rattle.jn_recovery.specs.Pages.{page_let_go, pages_let_go, IsHeldAt, MayLetGo, is_at, ArePagesApart}
 
 -- what is held is there, and isn't free
 pub record HeldAreTaken (t : TableView) : Type 0 where

@@ -17,8 +17,8 @@ use Rattle.jn_records.specs.declared.intention.StoredIntention.{StoredIntention}
 use Rattle.jn_records.specs.declared.record.Record.{Record}
 use Rattle.jn_records.specs.declared.record.Record.TheVariants.{Free, Intention, Ready, Going, Flag as FlagRecord}
 use Rattle.jn_sets.specs.Pool.{record_in, is_prepared, is_intention}
-use Rattle.jn_intent.proofs.Counting.{found_at}
-use Rattle.jn_intent.specs.Pages.{is_at, ArePagesApart}
+use Rattle.jn_recovery.proofs.Counting.{found_at}
+use Rattle.jn_recovery.specs.Pages.{is_at, ArePagesApart}
 
 -- an intention of the work, from a place among them on, has the page
 pub record IsListed (pool : List Record) (work : WorkId) (a low : ℕ) : Type 0 where

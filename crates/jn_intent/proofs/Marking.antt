@@ -29,14 +29,14 @@ use Rattle.jn_storage.specs.Calls.{state, name_of, IsReady, MarkedGoing}
 use Rattle.jn_storage.specs.Finding.{find_by}
 use Rattle.jn_storage.proofs.Finds.{find-set, find-at, find-listed, keys-set}
 use Rattle.jn_store.specs.Store.{StoreView}
-use Rattle.jn_intent.specs.Memory.{Memory, accounts_of, view_of, next_by, next_in, held_in, holds_page, stored_by, rubbish_of, rubbish_in}
-use Rattle.jn_intent.specs.Matches.{Matches, IsKept, IsMade, WorksMatch, StoredWork, stored_work, work_by}
+use Rattle.jn_recovery.specs.Memory.{Memory, accounts_of, view_of, next_by, next_in, held_in, holds_page, stored_by, rubbish_of, rubbish_in}
+use Rattle.jn_recovery.specs.Matches.{Matches, IsKept, IsMade, WorksMatch, StoredWork, stored_work, work_by}
 use Rattle.jn_intent.specs.Works.{MarksWork, going_on}
-use Rattle.jn_intent.proofs.Pool.{position_at, none_position, step_of, free_same, names_kept, rubbish_kept, work_stays, flags_stay}
-use Rattle.jn_intent.proofs.Serving.{Serves, serves_of, serving_by, may_load, called_put}
-use Rattle.jn_intent.proofs.Standing.{consistent}
-use Rattle.jn_intent.proofs.Telling.{works_seen}
-use Rattle.jn_intent.proofs.WorkStates.{serves_marked}
+use Rattle.jn_recovery.proofs.Pool.{position_at, none_position, step_of, free_same, names_kept, rubbish_kept, work_stays, flags_stay}
+use Rattle.jn_recovery.proofs.Serving.{Serves, serves_of, serving_by, may_load, called_put}
+use Rattle.jn_recovery.proofs.Standing.{consistent}
+use Rattle.jn_recovery.proofs.Telling.{works_seen}
+use Rattle.jn_recovery.proofs.WorkStates.{serves_marked}
 
 -- ---- in memory
 

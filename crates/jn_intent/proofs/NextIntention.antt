@@ -35,14 +35,14 @@ use Rattle.jn_storage.specs.Storage.{IsServing, file_there, intentions}
 use Rattle.jn_storage.proofs.Intended.{one_if}
 use Rattle.jn_storage.proofs.Kept.{makes_file}
 use Rattle.jn_store.specs.Store.{StoreView, IsClean}
-use Rattle.jn_intent.specs.Memory.{Memory, accounts_of, view_of, next_by}
-use Rattle.jn_intent.specs.Matches.{Matches, IsMade, stored_work}
+use Rattle.jn_recovery.specs.Memory.{Memory, accounts_of, view_of, next_by}
+use Rattle.jn_recovery.specs.Matches.{Matches, IsMade, stored_work}
 use Rattle.jn_intent.specs.Carrying.{MayCarry, heads_taken}
 use Rattle.jn_intent.proofs.CarryStates.{promises}
 use Rattle.jn_intent.proofs.NetOrder.{all_at, file_needed}
-use Rattle.jn_intent.proofs.Serving.{serves_of}
-use Rattle.jn_intent.proofs.Standing.{there_found, consistent}
-use Rattle.jn_intent.proofs.Telling.{prepared_of}
+use Rattle.jn_recovery.proofs.Serving.{serves_of}
+use Rattle.jn_recovery.proofs.Standing.{there_found, consistent}
+use Rattle.jn_recovery.proofs.Telling.{prepared_of}
 use Rattle.jn_intent.proofs.WorkPages.{first_blocks, IsStored, its_list, work_told, stands_listed}
 
 module _ (m : Memory) (v : StoreView) (now : Matches m v) (serving : IsServing (view_of m v)) (work : WorkId) (s : WorkState) (here : find_by work_eq name_of m.works work ≡ Some s) where

@@ -5,8 +5,8 @@ use Rattle.std.proofs.lemmas.List.Sums.{sum_by-cons}
 use Rattle.std.specs.Prelude.{nat_lt, nat_le, count_by, slice_get, slice_index_or}
 use Rattle.jn_storage.specs.Listing.{is_in, are_different, IsListing, total}
 use Rattle.jn_storage.proofs.Listings.{Tells, but, listing-more, listing-same, listing-less}
-use Rattle.jn_intent.proofs.Counting.{one}
-use Rattle.jn_intent.proofs.FlagStates.{length-one}
+use Rattle.jn_recovery.proofs.Counting.{one}
+use Rattle.jn_recovery.proofs.FlagStates.{length-one}
 
 abbrev pub how_many : (ℕ → Bool) → ℕ → ℕ
 how_many p zero = 0

@@ -5,25 +5,21 @@ use Rattle.jn_base.specs.declared.device.Stopped.{Stopped}
 use Rattle.jn_base.specs.declared.names.BlockNo.{BlockNo}
 use Rattle.jn_base.specs.declared.names.FileNo.{FileNo}
 use Rattle.jn_base.specs.declared.names.LockUnit.TheVariants.{Block}
-use Rattle.jn_base.specs.declared.names.ServerNo.{ServerNo}
 use Rattle.jn_order.specs.Files.{Files}
 use Rattle.jn_files.specs.Table.{exists, is_mapped}
 use Rattle.jn_files.specs.Calls.{NextFile as NextHead, is_above as is_above_head, Fits, BlockGot}
 use Rattle.jn_files.specs.Pages.{Holds}
-use Rattle.jn_rows.specs.Stable.{Pick}
+use Rattle.jn_rows.specs.Stable.{Pick, StableState}
 use Rattle.jn_found.specs.Pages.{found_on}
-use Rattle.jn_found.specs.Recoverable.{IsRecoverable}
-use Rattle.jn_found.proofs.Picking.{fewer_recoverable}
+use Rattle.jn_found.proofs.Picking.{same_found}
 use Rattle.jn_records.specs.declared.head.Head.{Head}
-use Rattle.jn_records.specs.StablePages.{Counts}
 use Rattle.jn_storage.specs.Storage.{IsServing, file_there}
 use Rattle.jn_storage.specs.Calls.{state, NextFile, is_above, BlockRead}
-use Rattle.jn_store.specs.Store.{StoreView, StoreLater, IsSamePage, IsServed, IsStop}
-use Rattle.jn_store.proofs.Laws.{same_shrinks}
-use Rattle.jn_intent.specs.Memory.{Memory, view_of}
-use Rattle.jn_intent.specs.Matches.{IsKept, Matches}
-use Rattle.jn_intent.proofs.Serving.{serves_of, serving_by, loadable_found}
-use Rattle.jn_intent.proofs.Standing.{there_found, mapped_found, holds, files_are, up, found_same, standing_same}
+use Rattle.jn_store.specs.Store.{StoreView, HasSamePages, IsServed, IsStop}
+use Rattle.jn_recovery.specs.Memory.{Memory, view_of}
+use Rattle.jn_recovery.specs.Matches.{IsKept, Matches}
+use Rattle.jn_recovery.proofs.Serving.{serves_of, serving_by, loadable_found}
+use Rattle.jn_recovery.proofs.Standing.{there_found, mapped_found, holds, files_are, up, standing_same}
 
 -- what stands while it serves
 pub kept_now : (m : Memory) (v : StoreView) → IsKept m v → IsServing (view_of m v) → Matches m v
@@ -58,17 +54,13 @@ holds_seen m v kept serving = let now = kept_now m v kept serving in holds m.ser
 
 -- ---- a block is read
 
--- whether or not the store has power, no page has another candidate
-pub same_recoverable : (server : ServerNo) (g : Counts) (v w : StoreView) → IsRecoverable server g v → w.count ≡ v.count → ((j : ℕ) → IsSamePage v w j) → IsRecoverable server g w
-same_recoverable server g v w before count same = fewer_recoverable v w (record { count = count; shrinks = λ j lt. same_shrinks v w j (same j) }) server g before
-
-module _ (m : Memory) (v w : StoreView) (kept : IsKept m v) (serving : IsServing (view_of m v)) (later : StoreLater v w) (same : (j : ℕ) → IsSamePage v w j) where
+module _ (m : Memory) (v w : StoreView) (kept : IsKept m v) (serving : IsServing (view_of m v)) (same : HasSamePages v w) where
   now : Matches m v
   now = kept_now m v kept serving
 
   pub kept_same : IsKept m w
   kept_same power = record {
-    standing = standing_same m.server m.table.counts v m.epoch m.records m.table.heads now.standing w later.count same;
+    standing = standing_same m.server m.table.counts v m.epoch m.records m.table.heads now.standing w same;
     table = now.table;
     works = now.works;
     made = now.made;
@@ -77,7 +69,7 @@ module _ (m : Memory) (v w : StoreView) (kept : IsKept m v) (serving : IsServing
   }
 
   still : (c : Pick) → found_on m.table.counts w c ≡ state (view_of m v)
-  still c = found_same m.server m.table.counts v m.epoch m.records m.table.heads now.standing w later.count same c ∙ up m.server m.table.counts v m.epoch m.records m.table.heads now.standing c
+  still c = ap (λ (f : Pick → StableState). f c) (same_found v w same m.table.counts) ∙ up m.server m.table.counts v m.epoch m.records m.table.heads now.standing c
 
   pub read_seen : (f : FileNo) (p : BlockNo) (answer : Result (Option (List ℕ)) Stopped) → BlockGot m.table v f p answer w
       → (is_ok answer ≡ true → IsServed v w) → (is_ok answer ≡ false → IsStop v w) → BlockRead (view_of m v) f p answer (view_of m w)
@@ -85,7 +77,7 @@ module _ (m : Memory) (v w : StoreView) (kept : IsKept m v) (serving : IsServing
     called = record {
       later = record { server = refl; pool = refl; heads = refl; leaves = refl; store = got.read.later };
       calls = let n = got.read.calls in omega (arith, n);
-      loadable = λ c. loadable_found m.server m.table.counts w (standing_same m.server m.table.counts v m.epoch m.records m.table.heads now.standing w later.count same).recoverable c;
+      loadable = λ c. loadable_found m.server m.table.counts w (standing_same m.server m.table.counts v m.epoch m.records m.table.heads now.standing w same).recoverable c;
       no_stop = λ e. (served e).stops;
       serving = λ e. serving_by m w (state (view_of m v)) still (served e).power (serves_of m v serving);
       stop = stop;
@@ -99,7 +91,7 @@ module _ (m : Memory) (v w : StoreView) (kept : IsKept m v) (serving : IsServing
 pub read_now : (m : Memory) (v w : StoreView) → IsKept m v → IsServing (view_of m v) → (f : FileNo) (p : BlockNo) (answer : Result (Option (List ℕ)) Stopped) → BlockGot m.table v f p answer w
     → (is_mapped m.table.heads f p.0 ≡ false → (answer ≡ Ok None) × (w ≡ v)) → (is_mapped m.table.heads f p.0 ≡ true → IsOk answer → IsServed v w) → (is_ok answer ≡ false → IsStop v w)
     → BlockRead (view_of m v) f p answer (view_of m w)
-read_now m v w kept serving f p answer got unasked asked stop = read_seen m v w kept serving got.read.later got.read.same f p answer got (λ e. served (is_mapped m.table.heads f p.0) refl e) stop
+read_now m v w kept serving f p answer got unasked asked stop = read_seen m v w kept serving (record { count = got.read.later.count; pages = got.read.same }) f p answer got (λ e. served (is_mapped m.table.heads f p.0) refl e) stop
   where
     ok : (a : Result (Option (List ℕ)) Stopped) → is_ok a ≡ true → IsOk a
     ok (Ok x) e = refl

@@ -26,12 +26,12 @@ use Rattle.jn_storage.specs.Listing.{are_different}
 use Rattle.jn_storage.specs.Calls.{name_of}
 use Rattle.jn_storage.specs.Finding.{find_by}
 use Rattle.jn_storage.proofs.Finds.{find-add, find-listed, different-add, map-add}
-use Rattle.jn_intent.specs.Memory.{Memory, rubbish_of, rubbish_in}
-use Rattle.jn_intent.specs.Matches.{WorksMatch, FlagsMatch, stored_work, work_by}
-use Rattle.jn_intent.specs.Pages.{is_at, ArePagesApart}
+use Rattle.jn_recovery.specs.Memory.{Memory, rubbish_of, rubbish_in}
+use Rattle.jn_recovery.specs.Matches.{WorksMatch, FlagsMatch, stored_work, work_by}
+use Rattle.jn_recovery.specs.Pages.{is_at, ArePagesApart}
 use Rattle.jn_intent.specs.Preparing.{PoolPreparing}
 use Rattle.jn_intent.proofs.Listed.{listed_at, listed_back}
-use Rattle.jn_intent.proofs.Pool.{free_more, work_stays, flags_stay}
+use Rattle.jn_recovery.proofs.Pool.{free_more, work_stays, flags_stay}
 use Rattle.jn_intent.proofs.StoringPages.{or_first, or_rest}
 use Rattle.jn_intent.proofs.StoringPool.{is_other, same_work, others_past, free_there, stands_free}
 

@@ -14,7 +14,7 @@ use Rattle.jn_storage.specs.Orderly.{IsOrderly, IsPrepared}
 use Rattle.jn_storage.specs.Storage.{Accounts, intentions, list_of, needed}
 use Rattle.jn_storage.specs.Calls.{shortage, with_work}
 use Rattle.jn_storage.proofs.Listings.{listing-more, total-same}
-use Rattle.jn_intent.proofs.Serving.{Serves}
+use Rattle.jn_recovery.proofs.Serving.{Serves}
 use Rattle.jn_intent.proofs.StoringPool.{same_work}
 
 -- enough is free and not promised

@@ -47,18 +47,18 @@ use Rattle.jn_storage.specs.Calls.{state, name_of, Called, MayPrepare, WorkPrepa
 use Rattle.jn_storage.specs.Finding.{find_by}
 use Rattle.jn_store.specs.Store.{StoreView, StoreLater, IsStop}
 use Rattle.jn_store.proofs.Laws.{later_refl, later_trans, stop_since}
-use Rattle.jn_intent.specs.Memory.{Memory, accounts_of, view_of, next_by, next_in, held_in, holds_page, stored_by, rubbish_in}
-use Rattle.jn_intent.specs.Matches.{Matches, IsMade, IsKept}
-use Rattle.jn_intent.specs.Pages.{is_at}
+use Rattle.jn_recovery.specs.Memory.{Memory, accounts_of, view_of, next_by, next_in, held_in, holds_page, stored_by, rubbish_in}
+use Rattle.jn_recovery.specs.Matches.{Matches, IsMade, IsKept}
+use Rattle.jn_recovery.specs.Pages.{is_at}
 use Rattle.jn_intent.specs.Preparing.{IsPreparing, StopsUnchanged, Begins, ListStored}
-use Rattle.jn_intent.proofs.FlagCalls.{none_any}
-use Rattle.jn_intent.proofs.Pool.{step_of}
+use Rattle.jn_recovery.proofs.FlagCalls.{none_any}
+use Rattle.jn_recovery.proofs.Pool.{step_of}
 use Rattle.jn_intent.proofs.ReadyPool.{ready_state, are_fresh, listed_page, ready_flags, ready_free, ready_works, ready_rubbish, ready_names, work_found}
 use Rattle.jn_intent.proofs.ReadyStates.{HasRoom, has_room, its_work, serves_ready}
-use Rattle.jn_intent.proofs.Serving.{Serves, serves_of, serving_by, may_load, loadable_found}
+use Rattle.jn_recovery.proofs.Serving.{Serves, serves_of, serving_by, may_load, loadable_found}
 use Rattle.jn_intent.proofs.StoringPages.{or_first, or_rest}
 use Rattle.jn_intent.proofs.StoringPool.{same_work, pool_begins, free_there, stands_free}
-use Rattle.jn_intent.proofs.Telling.{works_seen, listed_pages}
+use Rattle.jn_recovery.proofs.Telling.{works_seen, listed_pages}
 
 -- ---- a list of puts and their pages
 

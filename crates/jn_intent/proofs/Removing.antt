@@ -1,17 +1,15 @@
 -- A prepared work is removed, by one put of its record.
-use Rattle.std.proofs.Common.{◌≡◌, ◌≢◌, ⊎_elim, ◌<◌, ◌≤◌, ◌+◌, ◌-◌, ◌^◌, ℕ, suc, Bool, true, false, not, ◌&&◌, if◌then◌else◌, List, [], ◌∷◌, length, map, Option, Some, None, refl, sym, ◌∙◌, ap, subst, true≢false, arith}
+use Rattle.std.proofs.Common.{◌≡◌, ◌≢◌, ⊎_elim, ◌<◌, ◌≤◌, ◌+◌, ◌-◌, ◌^◌, ℕ, suc, Bool, true, false, not, ◌&&◌, if◌then◌else◌, List, length, map, Option, Some, None, refl, sym, ◌∙◌, ap, subst, true≢false, arith}
 use Rattle.std.proofs.Math.Path.{fun_ext}
 use Rattle.std.proofs.lemmas.List.{length-map}
-use Rattle.std.proofs.lemmas.List.Sums.{sum_by-cons}
 use Rattle.std.specs.Prelude.{is_some, position, slice_set, slice_index_or, filter, count_by, option_map, option_and_then}
 use Rattle.std.specs.List.{find, list_any}
 use Rattle.jn_alloc.specs.Free.{FreeNumbers, free_count as free_numbers}
-use Rattle.jn_base.specs.declared.names.FileNo.{FileNo}
 use Rattle.jn_base.specs.declared.names.Tid.{Tid}
 use Rattle.jn_base.specs.declared.names.WorkId.{WorkId}
 use Rattle.jn_base.specs.Names.{work_eq}
 use Rattle.jn_base.proofs.Tells.{work_tells}
-use Rattle.jn_files.specs.Table.{TableView, IsTable, exists}
+use Rattle.jn_files.specs.Table.{TableView, IsTable}
 use Rattle.jn_files.specs.Calls.{with_promised_heads}
 use Rattle.jn_found.specs.Contents.{intended, stored_list, prepared_by, works_name}
 use Rattle.jn_found.specs.Held.{held_contents}
@@ -21,13 +19,11 @@ use Rattle.jn_found.specs.Recoverable.{IsRecoverable, IsConsistent, IsCompleteBy
 use Rattle.jn_found.specs.Standing.{IsStanding, Makes}
 use Rattle.jn_found.proofs.CallLaws.{removes}
 use Rattle.jn_found.proofs.Found.{found_any}
-use Rattle.jn_records.specs.declared.head.Head.{Head}
 use Rattle.jn_records.specs.declared.intention.Intention.{Intention as FullIntention}
 use Rattle.jn_records.specs.declared.intention.StoredIntention.{StoredIntention}
 use Rattle.jn_records.specs.declared.record.Record.{Record}
 use Rattle.jn_records.specs.declared.record.Record.TheVariants.{Free, Intention, Ready, Going, Flag as FlagRecord}
 use Rattle.jn_records.specs.declared.work.WorkState.{WorkState}
-use Rattle.jn_records.specs.NetLists.{is_fresh, needs_a_head}
 use Rattle.jn_records.specs.Records.{record_page, RecordFits}
 use Rattle.jn_records.specs.StablePages.{Counts}
 use Rattle.jn_rows.specs.Stable.{Changed, Prepared, RemoveWork, made_by, is_ready, is_going}
@@ -40,19 +36,20 @@ use Rattle.jn_storage.specs.Finding.{find_by}
 use Rattle.jn_storage.proofs.Finds.{find-at, find-kept, find-listed, keys-kept, different-kept}
 use Rattle.jn_storage.proofs.Listings.{total-but}
 use Rattle.jn_store.specs.Store.{StoreView}
-use Rattle.jn_intent.specs.Memory.{Memory, accounts_of, view_of, next_by, stored_by, holds_page, rubbish_in}
-use Rattle.jn_intent.specs.Matches.{Matches, IsKept, IsMade, WorksMatch, StoredWork, stored_work, work_by}
-use Rattle.jn_intent.specs.Pages.{pages_let_go, MayLetGo, heads_needed, is_at, ArePagesApart}
-use Rattle.jn_intent.proofs.Counting.{is_of_work, listed_length, gone_found, prepared_gone, removed_rubbish, removed_names}
-use Rattle.jn_intent.proofs.FlagCalls.{free_record}
+use Rattle.jn_recovery.specs.Memory.{Memory, accounts_of, view_of, next_by, stored_by, holds_page, rubbish_in}
+use Rattle.jn_recovery.specs.Matches.{Matches, IsKept, IsMade, WorksMatch, StoredWork, stored_work, work_by}
+use Rattle.jn_recovery.specs.Pages.{pages_let_go, MayLetGo, heads_needed, is_at, ArePagesApart}
+use Rattle.jn_recovery.proofs.Counting.{is_of_work, listed_length, gone_found, prepared_gone, removed_rubbish, removed_names}
+use Rattle.jn_recovery.proofs.FlagCalls.{free_record}
+use Rattle.jn_recovery.proofs.HeadsNeeded.{heads_are}
 use Rattle.jn_intent.proofs.LettingGo.{AreLetGo, let_go, table_taken}
 use Rattle.jn_intent.proofs.Listed.{listed_at, listed_named, pages_apart, names_after}
-use Rattle.jn_intent.proofs.Pool.{position_at, none_position, step_of, free_less, work_stays, flags_stay}
+use Rattle.jn_recovery.proofs.Pool.{position_at, none_position, step_of, free_less, work_stays, flags_stay}
 use Rattle.jn_intent.proofs.Reading.{there_seen}
-use Rattle.jn_intent.proofs.Serving.{Serves, serves_of, serving_by, may_load, called_put}
-use Rattle.jn_intent.proofs.Standing.{consistent}
-use Rattle.jn_intent.proofs.Telling.{works_seen, works_told, prepared_of}
-use Rattle.jn_intent.proofs.WorkStates.{IsRemoved, serves_removed}
+use Rattle.jn_recovery.proofs.Serving.{Serves, serves_of, serving_by, may_load, called_put}
+use Rattle.jn_recovery.proofs.Standing.{consistent}
+use Rattle.jn_recovery.proofs.Telling.{works_seen, works_told, prepared_of}
+use Rattle.jn_recovery.proofs.WorkStates.{IsRemoved, serves_removed}
 
 -- ---- the record of a prepared work
 
@@ -99,18 +96,6 @@ work_record pool work (Going head n reads) h complete fits = record {
   others = λ w ne. let t = work_tells head.work work in let t2 = work_tells head.work w in grind (arith, h);
   few = fits.intentions_fit;
 }
-
--- ---- the heads that a list needs
-
-pub heads_are : (blocks : ℕ → List ℕ) (heads : List Head) (there : FileNo → Bool) → ((f : FileNo) → exists heads f ≡ there f) → (list : List StoredIntention)
-    → count_by (λ (i : FullIntention). needs_a_head (there i.file) i) (map (intended blocks) list) ≡ heads_needed heads list
-heads_are blocks heads there same [] = refl
-heads_are blocks heads there same (i ∷ list) =
-    let again = heads_are blocks heads there same list in
-    let a = sum_by-cons (λ (i : FullIntention). if needs_a_head (there i.file) i then 1 else 0) (intended blocks i) (map (intended blocks) list) in
-    let b = sum_by-cons (λ (i : StoredIntention). if is_fresh i.what && not (exists heads i.file) then 1 else 0) i list in
-    let here : (is_fresh i.what && not (there i.file)) ≡ (is_fresh i.what && not (exists heads i.file)) = ap (λ b. is_fresh i.what && not b) (sym (same i.file)) in
-    grind (arith, again, a, b, here)
 
 pub is_ready_some : (o : Option Prepared) → is_ready o ≡ true → is_some o ≡ true
 is_ready_some None e = absurd (true≢false (sym e))

@@ -30,9 +30,9 @@ use Rattle.jn_sets.specs.Sets.{Puts}
 use Rattle.jn_storage.specs.Calls.{state}
 use Rattle.jn_store.specs.Store.{StoreView, StorePut}
 use Rattle.jn_store.proofs.Laws.{later_trans, stop_since}
-use Rattle.jn_intent.specs.Memory.{Memory, view_of}
+use Rattle.jn_recovery.specs.Memory.{Memory, view_of}
 use Rattle.jn_intent.specs.Preparing.{stored_as, BlockStored, RecordStored, IntentionStored, MayStore, PagesPreparing, StorePreparing, IsPreparing, StopsUnchanged, ListStored}
-use Rattle.jn_intent.proofs.Pool.{step_of}
+use Rattle.jn_recovery.proofs.Pool.{step_of}
 use Rattle.jn_intent.proofs.StoringPages.{pages_moved, pages_none, pages_put, not_yet, page_below, page_unnamed}
 use Rattle.jn_intent.proofs.StoringPool.{free_there, stored_idle, pool_goes_on}
 

@@ -24,11 +24,11 @@ use Rattle.jn_records.specs.NetLists.{Plain, is_put, is_put_intention}
 use Rattle.jn_records.specs.StablePages.{Counts, page_count, data_place}
 use Rattle.jn_rows.specs.Stable.{Pick}
 use Rattle.jn_store.specs.Store.{StoreView, StorePut, IsSamePage}
-use Rattle.jn_intent.specs.Memory.{Memory}
-use Rattle.jn_intent.specs.Pages.{is_at, ArePagesApart}
+use Rattle.jn_recovery.specs.Memory.{Memory}
+use Rattle.jn_recovery.specs.Pages.{is_at, ArePagesApart}
 use Rattle.jn_intent.specs.Preparing.{stored_as, IsOwnPage, PagesPreparing}
-use Rattle.jn_intent.proofs.Bridge.{same_address}
-use Rattle.jn_intent.proofs.Counting.{one}
+use Rattle.jn_recovery.proofs.Bridge.{same_address}
+use Rattle.jn_recovery.proofs.Counting.{one}
 
 -- ---- blocks
 

@@ -18,11 +18,11 @@ use Rattle.jn_records.specs.declared.record.Record.TheVariants.{Free, Intention,
 use Rattle.jn_sets.specs.Pool.{record_in, is_free, free_count, is_prepared, is_intention, is_flag, is_rubbish}
 use Rattle.jn_sets.proofs.Slots.{none_counted}
 use Rattle.jn_storage.specs.Listing.{is_in}
-use Rattle.jn_intent.specs.Memory.{Memory, rubbish_of, rubbish_in}
-use Rattle.jn_intent.specs.Matches.{WorksMatch, FlagsMatch}
+use Rattle.jn_recovery.specs.Memory.{Memory, rubbish_of, rubbish_in}
+use Rattle.jn_recovery.specs.Matches.{WorksMatch, FlagsMatch}
 use Rattle.jn_intent.specs.Preparing.{PoolPreparing}
-use Rattle.jn_intent.proofs.Erasing.{in_both}
-use Rattle.jn_intent.proofs.Pool.{idle_same, idle_works, position_at, free_is, free_more, flags_stay, names_kept, rubbish_moves}
+use Rattle.jn_recovery.proofs.Erasing.{in_both}
+use Rattle.jn_recovery.proofs.Pool.{idle_same, idle_works, position_at, free_is, free_more, flags_stay, names_kept, rubbish_moves}
 
 -- ---- rubbish of other works
 

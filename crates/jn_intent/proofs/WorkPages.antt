@@ -36,17 +36,17 @@ use Rattle.jn_storage.specs.Storage.{file_there, is_stored}
 use Rattle.jn_storage.specs.Listing.{is_in, are_different, IsListing, total}
 use Rattle.jn_storage.proofs.Listings.{Tells, but, is_in-but, total-but, total-same}
 use Rattle.jn_store.specs.Store.{StoreView}
-use Rattle.jn_intent.specs.Memory.{Memory, view_of, stored_by, holds_page, held_in}
-use Rattle.jn_intent.specs.Pages.{is_at, ArePagesApart}
-use Rattle.jn_intent.specs.Matches.{Matches, stored_work, work_by}
+use Rattle.jn_recovery.specs.Memory.{Memory, view_of, stored_by, holds_page, held_in}
+use Rattle.jn_recovery.specs.Pages.{is_at, ArePagesApart}
+use Rattle.jn_recovery.specs.Matches.{Matches, stored_work, work_by}
 use Rattle.jn_intent.proofs.Census.{files_counted, blocks_counted, pages_counted, page_of}
-use Rattle.jn_intent.proofs.Counting.{one, found_at, counts_plus}
-use Rattle.jn_intent.proofs.FlagCalls.{none_any}
+use Rattle.jn_recovery.proofs.Counting.{one, found_at, counts_plus}
+use Rattle.jn_recovery.proofs.FlagCalls.{none_any}
 use Rattle.jn_intent.proofs.Listed.{IsListed, listed_at, listed_back, listed_named, pages_apart}
 use Rattle.jn_intent.proofs.Numbers.{how_many, same_members, total_plus, total_none}
 use Rattle.jn_intent.proofs.Removing.{work_record}
-use Rattle.jn_intent.proofs.Standing.{finds, consistent, mapped_found}
-use Rattle.jn_intent.proofs.Telling.{prepared_of, works_by}
+use Rattle.jn_recovery.proofs.Standing.{finds, consistent, mapped_found}
+use Rattle.jn_recovery.proofs.Telling.{prepared_of, works_by}
 
 -- ---- an intention of a list stands in a record
 

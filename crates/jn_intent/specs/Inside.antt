@@ -4,8 +4,8 @@ use Rattle.std.specs.List.{AllByRecursion}
 use Rattle.jn_base.specs.declared.names.WorkId.{WorkId}
 use Rattle.jn_found.specs.Recoverable.{IsRecoverable}
 use Rattle.jn_store.specs.Store.{StoreView}
-use Rattle.jn_intent.specs.Memory.{Memory}
-use Rattle.jn_intent.specs.Matches.{IsKept}
+use Rattle.jn_recovery.specs.Memory.{Memory}
+use Rattle.jn_recovery.specs.Matches.{IsKept}
 use Rattle.jn_intent.specs.declared.intents.Room.{Room}
 use Rattle.jn_intent.specs.declared.intents.Intents.TheInside.{Inside}
 

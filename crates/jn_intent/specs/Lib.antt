@@ -1,13 +1,6 @@
-pub mod Memory
-pub mod Matches
 pub mod Inside
 pub mod Works
-pub mod Pages
 pub mod Scrubbing
+pub mod Events
 pub mod Carrying
 pub mod Preparing
-pub mod Gathering
-pub mod Loading
-pub mod Opening
-pub mod Causes
-pub mod Kept

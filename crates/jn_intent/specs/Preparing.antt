@@ -23,9 +23,9 @@ use Rattle.jn_sets.specs.Pool.{IsRecord, is_free, free_count, is_prepared}
 use Rattle.jn_sets.specs.Sets.{Puts}
 use Rattle.jn_storage.specs.Calls.{state}
 use Rattle.jn_store.specs.Store.{StoreView, StoreLater, IsClean, IsServed, IsStop}
-use Rattle.jn_intent.specs.Memory.{Memory, view_of, rubbish_in}
-use Rattle.jn_intent.specs.Matches.{Matches, WorksMatch, FlagsMatch}
-use Rattle.jn_intent.specs.Pages.{is_at, ArePagesApart}
+use Rattle.jn_recovery.specs.Memory.{Memory, view_of, rubbish_in}
+use Rattle.jn_recovery.specs.Matches.{Matches, WorksMatch, FlagsMatch}
+use Rattle.jn_recovery.specs.Pages.{is_at, ArePagesApart}
 
 -- ---- one intention is stored
 

@@ -1,5 +1,5 @@
 //! The storage, and what it keeps.
-ghost use Rattle.jn_intent.specs.Memory.{view_of};
+ghost use Rattle.jn_recovery.specs.Memory.{view_of};
 
 use jn_base::{ServerNo, WorkId};
 use jn_files::FileTable;
@@ -30,7 +30,7 @@ pub struct Intents<S: StableStore> {
 }
 
 impl<S: StableStore> Model for Intents<S> {
-    ghost use Rattle.jn_intent.specs.Memory.{Memory};
+    ghost use Rattle.jn_recovery.specs.Memory.{Memory};
     ghost use Rattle.jn_intent.specs.Inside.{memory_of, IsSound};
 
     ghost Value = { S × Memory };

@@ -1,35 +1,16 @@
-//! The recovery of a storage: what a server does with its store when it starts.
+//! How a server's storage comes up on its store.
 ghost use Rattle.std.specs.Prelude.{◌≡◌, IfOk, IfErr};
 ghost use Rattle.jn_base.specs.declared.names.ServerNo.{ServerNo};
 ghost use Rattle.jn_found.specs.Recoverable.{IsRecoverable};
-ghost use Rattle.jn_records.specs.StablePages.{Counts};
-ghost use Rattle.jn_intent.specs.Loading.{IsLoaded, IsDown};
-ghost use Rattle.jn_intent.specs.Matches.{Matches};
-ghost use Rattle.jn_intent.specs.Memory.{view_of};
-ghost use Rattle.jn_intent.specs.Kept.{memory_kept};
-ghost use Rattle.jn_intent.specs.declared.load.DownCause.TheVariants.{Stopped as DownStopped, Memory as DownMemory};
+ghost use Rattle.jn_recovery.specs.Kept.{memory_kept};
+ghost use Rattle.jn_recovery.specs.Loading.{counts_by, IsLoaded, IsDown, IsCleaned};
+ghost use Rattle.jn_recovery.specs.Matches.{Matches};
 
 use crate::Intents;
-use crate::gathering::{Kept, collect_flags, gather};
-use crate::opening::begin_epoch;
-use jn_base::Stopped;
-use jn_files::LoadFault as TableFault;
-use jn_records::{Flag, ListOf};
-use jn_sets::LoadFault as SetsFault;
+use jn_recovery::{DownCause, Found, Kept, PageCounts, recover};
 use jn_storage::Storage;
 use jn_store::StableStore;
-use std::alloc::{AllocError, Global};
-
-/// Why a server has no storage.
-#[derive(Clone, Copy, Debug, PartialEq, Eq, Drop)]
-pub enum DownCause {
-    /// The device has no power.
-    Stopped,
-    /// There is no memory for it.
-    Memory,
-    /// The root has the last epoch that there is room for.
-    EpochsUsedUp,
-}
+use std::alloc::Global;
 
 /// A store from which no storage came. The next recovery may begin from it.
 #[derive(Drop)]
@@ -38,80 +19,36 @@ pub struct Down<S> {
     pub cause: DownCause,
 }
 
-/// What a recovery has found beside the works, which the storage lists.
-#[derive(Drop)]
-pub struct Found {
-    /// The epoch that begins.
-    pub epoch: u32,
-    pub flags: ListOf<Flag>,
-}
-
 impl<S: StableStore> Intents<S> {
-    /// The storage that stands on a store, whatever was stopped there before. The store is cleaned, the restart is
-    /// counted in its root, and what an unfinished preparation or a removed work left is erased.
-    pub fn load(alloc: Global, store: S) -> Result<(Intents<S>, Found), Down<S>>
-        requires recoverable { (server : ServerNo) × (g : Counts) × IsRecoverable server g (S.view store) }
-        ensures loaded { (server : ServerNo) (g : Counts) → IsRecoverable server g (S.view store) → IfOk result (λ r. IsLoaded server g (S.view store) r.1 (⟦<Intents<S> as Storage>⟧.view r.0)) }
-        ensures down { (server : ServerNo) (g : Counts) → IsRecoverable server g (S.view store) → IfErr result (λ d. IsDown server g (S.view store) d.cause (S.view d.store)) }
+    /// The storage that stands on a store of so many pages, whatever was stopped there before. The store is cleaned, the
+    /// restart is counted in its root, and what an unfinished preparation or a removed work left is erased.
+    pub fn load(alloc: Global, store: S, counts: PageCounts) -> Result<(Intents<S>, Found), Down<S>>
+        requires recoverable { (server : ServerNo) × IsRecoverable server (counts_by counts) (S.view store) }
+        ensures loaded { (server : ServerNo) → IsRecoverable server (counts_by counts) (S.view store) → IfOk result (λ r. IsLoaded server (counts_by counts) (S.view store) r.1 (⟦<Intents<S> as Storage>⟧.view r.0)) }
+        ensures down { (server : ServerNo) → IsRecoverable server (counts_by counts) (S.view store) → IfErr result (λ d. IsDown server (counts_by counts) (S.view store) d.cause (S.view d.store)) }
+        ensures cleaned { IfOk result (λ r. IsCleaned (S.view store) (⟦<Intents<S> as Storage>⟧.view r.0).store) }
     {
         let mut store = store;
-        match recover(alloc, &mut store) {
-            Ok((kept, found)) => Ok((kept.on(alloc, store), found)),
+        match recover(alloc, &mut store, counts) {
+            Ok((kept, found)) => Ok((on_store(alloc, store, kept), found)),
             Err(cause) => Err(Down { store, cause }),
         }
     }
 }
 
-fn recover<S: StableStore>(alloc: Global, store: &mut S) -> Result<(Kept, Found), DownCause>
-    requires recoverable { (server : ServerNo) × (g : Counts) × IsRecoverable server g (S.view store.old) }
-    ensures matches { IfOk result (λ r. Matches (memory_kept r.0) (S.view store.new)) }
-    ensures loaded { (server : ServerNo) (g : Counts) → IsRecoverable server g (S.view store.old) → IfOk result (λ r. IsLoaded server g (S.view store.old) r.1 (view_of (memory_kept r.0) (S.view store.new))) }
-    ensures down { (server : ServerNo) (g : Counts) → IsRecoverable server g (S.view store.old) → IfErr result (λ cause. IsDown server g (S.view store.old) cause (S.view store.new)) }
+/// What was kept stands on its store. No flag was promised a record yet.
+fn on_store<S: StableStore>(alloc: Global, store: S, kept: Kept) -> Intents<S>
+    requires { Matches (memory_kept kept) (S.view store) }
+    ensures { result ≡ (store, memory_kept kept) }
 {
-    let (opened, epoch) = begin_epoch(alloc, store)?;
-    let kept = gather(alloc, opened, epoch)?;
-    let flags = ListOf::from_vec(collect_flags(alloc, &kept.sets)?);
-    Ok((kept, Found { epoch, flags }))
-}
-
-impl From<Stopped> for DownCause {
-    ghost from_gives = { λ _ e. e ≡ DownStopped };
-
-    fn from(_e: Stopped) -> DownCause {
-        DownCause::Stopped
-    }
-}
-
-impl From<AllocError> for DownCause {
-    ghost from_gives = { λ _ e. e ≡ DownMemory };
-
-    fn from(_e: AllocError) -> DownCause {
-        DownCause::Memory
-    }
-}
-
-impl From<SetsFault> for DownCause {
-    ghost use Rattle.jn_intent.specs.Causes.{of_sets};
-
-    ghost from_gives = { λ fault e. e ≡ of_sets fault };
-
-    fn from(e: SetsFault) -> DownCause {
-        match e {
-            SetsFault::Stopped => DownCause::Stopped,
-            SetsFault::Memory => DownCause::Memory,
-        }
-    }
-}
-
-impl From<TableFault> for DownCause {
-    ghost use Rattle.jn_intent.specs.Causes.{of_table};
-
-    ghost from_gives = { λ fault e. e ≡ of_table fault };
-
-    fn from(e: TableFault) -> DownCause {
-        match e {
-            TableFault::Stopped => DownCause::Stopped,
-            TableFault::Memory => DownCause::Memory,
-        }
+    Intents {
+        store,
+        server: kept.server,
+        epoch: kept.epoch,
+        sets: kept.sets,
+        table: kept.table,
+        works: kept.works,
+        flags: kept.flags,
+        rooms: Vec::new(alloc),
     }
 }

@@ -8,7 +8,7 @@ ghost use Rattle.jn_sets.specs.Pool.{free_count};
 ghost use Rattle.jn_storage.specs.Storage.{IsServing};
 ghost use Rattle.jn_storage.specs.Calls.{MayPrepare, WorkPrepared, shortage, short_of};
 ghost use Rattle.jn_store.specs.Store.{StoreView};
-ghost use Rattle.jn_intent.specs.Memory.{Memory, accounts_of};
+ghost use Rattle.jn_recovery.specs.Memory.{Memory, accounts_of};
 ghost use Rattle.jn_intent.specs.Preparing.{FillsPage, BlockStored, IntentionStored, Begins, ListStored};
 
 use crate::Intents;

@@ -1,24 +1,25 @@
 //! The store below a storage.
-ghost use Rattle.std.specs.Prelude.{◌≡◌, ◌≤◌, ◌<◌, ◌+◌, ◌*◌, [], true, is_ok, OnErr, OnOk};
+ghost use Rattle.std.specs.Prelude.{◌≡◌, ◌≤◌, ◌<◌, ◌+◌, ◌-◌, ◌*◌, [], true, is_ok, OnErr, OnOk};
 ghost use Rattle.jn_device.specs.Events.{Decays, Revives, Arms, is_within, disarmed, cleared};
 ghost use Rattle.jn_found.specs.Puts.{IsFewer};
 ghost use Rattle.jn_found.specs.Recoverable.{IsRecoverable};
 ghost use Rattle.jn_storage.specs.Storage.{IsServing};
 ghost use Rattle.jn_store.specs.Store.{IsCalm, IsStop, StoreLater};
-ghost use Rattle.jn_intent.specs.Matches.{IsKept};
-ghost use Rattle.jn_intent.specs.Scrubbing.{CleansTo, Scrubbed};
+ghost use Rattle.jn_intent.specs.Events.{Befalls};
+ghost use Rattle.jn_intent.specs.Scrubbing.{Scrubbed};
 
 use crate::Intents;
-use jn_base::{FaultKind, Outside, Stopped};
+use jn_base::{FaultKind, Outside, ServerNo, Stopped};
+use jn_recovery::clean_pages;
 use jn_storage::Storage;
 use jn_store::{Powered, StableStore};
 
 impl<S: StableStore> Intents<S> {
-    /// Does nothing: its contract says what holds of every storage.
-    pub fn is_kept(&self)
-        ensures { IsKept self.now.1 (S.view self.now.0) }
+    /// Whose storage it is.
+    pub fn server(&self) -> ServerNo
+        ensures { result ≡ (⟦<Intents<S> as Storage>⟧.view self.now).accounts.server }
     {
-        let _store = &self.store;
+        self.server
     }
 
     /// The store, which alone outlives a stop. A recovery may begin from it, whatever call was stopped.
@@ -34,7 +35,8 @@ impl<S: StableStore> Intents<S> {
         requires serving { IsServing (⟦<Intents<S> as Storage>⟧.view self.old) }
         ensures scrubbed { Scrubbed (⟦<Intents<S> as Storage>⟧.view self.old) (is_ok result) (⟦<Intents<S> as Storage>⟧.view self.new) }
     {
-        clean_all(&mut self.store)
+        let count = self.store.count();
+        clean_pages(&mut self.store, 0, count)
     }
 }
 
@@ -44,6 +46,7 @@ impl<S: Powered> Intents<S> {
         requires { p < (S.device self.old.0).count }
         ensures decays { Decays (S.device self.old.0) p result (S.device self.new.0) }
         ensures memory { self.new.1 ≡ self.old.1 }
+        ensures befalls { Befalls (⟦<Intents<S> as Storage>⟧.view self.old) (⟦<Intents<S> as Storage>⟧.view self.new) }
     {
         self.store.decay(p)
     }
@@ -53,6 +56,7 @@ impl<S: Powered> Intents<S> {
         requires { p < (S.device self.old.0).count }
         ensures revives { Revives (S.device self.old.0) p (S.device self.new.0) }
         ensures memory { self.new.1 ≡ self.old.1 }
+        ensures befalls { Befalls (⟦<Intents<S> as Storage>⟧.view self.old) (⟦<Intents<S> as Storage>⟧.view self.new) }
     {
         self.store.revive(p);
     }
@@ -65,6 +69,7 @@ impl<S: Powered> Intents<S> {
         requires none_told { (S.device self.old.0).told ≡ [] }
         ensures arms { Arms (S.device self.old.0) n kind result (S.device self.new.0) }
         ensures memory { self.new.1 ≡ self.old.1 }
+        ensures befalls { Befalls (⟦<Intents<S> as Storage>⟧.view self.old) (⟦<Intents<S> as Storage>⟧.view self.new) }
     {
         self.store.arm(n, kind)
     }
@@ -73,6 +78,7 @@ impl<S: Powered> Intents<S> {
     pub fn disarm(&mut self)
         ensures disarmed { S.device self.new.0 ≡ disarmed (S.device self.old.0) }
         ensures memory { self.new.1 ≡ self.old.1 }
+        ensures befalls { Befalls (⟦<Intents<S> as Storage>⟧.view self.old) (⟦<Intents<S> as Storage>⟧.view self.new) }
     {
         self.store.disarm();
     }
@@ -88,22 +94,8 @@ impl<S: Powered> Intents<S> {
     pub fn clear_outside(&mut self)
         ensures cleared { S.device self.new.0 ≡ cleared (S.device self.old.0) }
         ensures memory { self.new.1 ≡ self.old.1 }
+        ensures befalls { Befalls (⟦<Intents<S> as Storage>⟧.view self.old) (⟦<Intents<S> as Storage>⟧.view self.new) }
     {
         self.store.clear_outside();
     }
-}
-
-/// Cleans each page of a store, from the first on.
-pub(crate) fn clean_all<S: StableStore>(store: &mut S) -> Result<(), Stopped>
-    ensures fewer { IsFewer (S.view store.old) (S.view store.new) }
-    ensures later { StoreLater (S.view store.old) (S.view store.new) }
-    ensures calls { (S.view store.new).calls ≤ (S.view store.old).calls + 16 * (S.view store.old).count }
-    ensures cleaned { OnOk result (CleansTo (S.view store.old) (S.view store.old).count (S.view store.new)) }
-    ensures stop { OnErr result (IsStop (S.view store.old) (S.view store.new)) }
-    ensures calm { IsCalm (S.view store.old) → is_ok result ≡ true }
-{
-    for i in 0..store.count() {
-        store.cleanup(i)?;
-    }
-    Ok(())
 }

@@ -7,13 +7,14 @@ ghost use Rattle.jn_storage.specs.Storage.{IsServing};
 ghost use Rattle.jn_storage.specs.Calls.{state, WorkRemoved, name_of};
 ghost use Rattle.jn_files.specs.Table.{IsTable};
 ghost use Rattle.jn_files.specs.Calls.{with_promised_heads};
-ghost use Rattle.jn_intent.specs.Pages.{page_let_go, pages_let_go, IsHeldAt, MayLetGo, heads_needed};
+ghost use Rattle.jn_recovery.specs.Pages.{page_let_go, pages_let_go, IsHeldAt, MayLetGo, heads_needed};
 ghost use Rattle.jn_intent.specs.Works.{MarksWork, going_on};
 
 use crate::Intents;
 use jn_base::{LockUnit, Stopped, WorkId};
 use jn_files::FileTable;
-use jn_records::{Intention, StoredIntention, What, WorkHead, WorkState};
+use jn_records::{Intention, StoredIntention, WorkHead, WorkState};
+use jn_recovery::heads_needed;
 use jn_storage::{PrepareFault, Storage, WorkStore};
 use jn_store::StableStore;
 use std::alloc::Global;
@@ -109,20 +110,6 @@ fn let_page_go(table: &mut FileTable, address: u16)
     if address > 0 {
         table.let_go(address - 1);
     }
-}
-
-/// How many fresh files of a list have no head.
-pub(crate) fn heads_needed(table: &FileTable, list: &[StoredIntention]) -> u32
-    requires { length list.now < 2 ^ 32 }
-    ensures { result ≡ heads_needed table.now.heads list.now }
-{
-    let mut heads = 0;
-    for intention in list {
-        if intention.what == What::Fresh && !table.exists(intention.file) {
-            heads += 1;
-        }
-    }
-    heads
 }
 
 /// Takes away a work.

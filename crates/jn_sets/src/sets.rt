@@ -56,6 +56,7 @@ impl Sets {
         ensures holds { IfOk result (λ sets. pool.Holds sets (S.view store.new)) }
         ensures read { StoreRead (S.view store.old) root.now.pool (S.view store.new) }
         ensures served { IsOk result → 0 < root.now.pool → IsServed (S.view store.old) (S.view store.new) }
+        ensures stops { IsOk result → (S.view store.new).stops ≡ (S.view store.old).stops }
         ensures stop { result ≡ Err LoadStopped → IsStop (S.view store.old) (S.view store.new) }
         ensures calm { IsCalm (S.view store.old) → result ≢ Err LoadStopped }
     {

@@ -5,8 +5,8 @@ use Rattle.std.specs.Prelude.{◌&&◌}
 use Rattle.jn_base.specs.declared.device.FaultKind.{FaultKind}
 use Rattle.jn_base.specs.declared.device.FaultKind.TheVariants.{Decay, Revive}
 use Rattle.jn_device.specs.Device.{PageState, DeviceState, page_met}
-use Rattle.jn_device.specs.Events.{Becomes, PowersUp, Decays, Revives}
-use Rattle.jn_store.specs.Store.{IsSamePage, IsWhole}
+use Rattle.jn_device.specs.Events.{Becomes, PowersUp, Decays, Revives, Arms, powered_off, disarmed, cleared}
+use Rattle.jn_store.specs.Store.{IsSamePage, IsWhole, HasSamePages}
 use Rattle.jn_store.specs.Pairs.{pairs_view}
 
 met_bytes : (s : DeviceState) (k : Option FaultKind) (q : ℕ) → (page_met s k q).bytes ≡ (s.pages q).bytes
@@ -31,6 +31,37 @@ decays_same s t p answer decays i = becomes_same s t _ s.power decays.becomes (m
 
 pub revives_same : (s t : DeviceState) (p : ℕ) → Revives s p t → (i : ℕ) → IsSamePage (pairs_view s) (pairs_view t) i
 revives_same s t p revives i = becomes_same s t _ s.power revives (met_bytes s (Some (Revive p))) i
+
+pub powers_up_pages : (s t : DeviceState) → PowersUp s t → HasSamePages (pairs_view s) (pairs_view t)
+powers_up_pages s t up = record { count = becomes_count s t _ true up; pages = powers_up_same s t up }
+
+pub decays_pages : (s t : DeviceState) (p : ℕ) (answer : Bool) → Decays s p answer t → HasSamePages (pairs_view s) (pairs_view t)
+decays_pages s t p answer decays = record { count = becomes_count s t _ s.power decays.becomes; pages = decays_same s t p answer decays }
+
+pub revives_pages : (s t : DeviceState) (p : ℕ) → Revives s p t → HasSamePages (pairs_view s) (pairs_view t)
+revives_pages s t p revives = record { count = becomes_count s t _ s.power revives; pages = revives_same s t p revives }
+
+-- what has the same pages by its definition
+same_pages : (s : DeviceState) (t : DeviceState) → t.count ≡ s.count → t.pages ≡ s.pages → HasSamePages (pairs_view s) (pairs_view t)
+same_pages s t count pages = record {
+  count = ap (λ n. n / 2) count;
+  pages = λ i. record {
+    first = ap (λ (f : ℕ → PageState). (f i).bytes) pages;
+    second = ap (λ (f : ℕ → PageState). (f (i + t.count / 2)).bytes) pages ∙ ap (λ n. (s.pages (i + n / 2)).bytes) count;
+  };
+}
+
+pub off_pages : (s t : DeviceState) → t ≡ powered_off s → HasSamePages (pairs_view s) (pairs_view t)
+off_pages s t e = same_pages s t (ap (λ (d : DeviceState). d.count) e) (ap (λ (d : DeviceState). d.pages) e)
+
+pub arms_pages : (s t : DeviceState) (n : ℕ) (kind : FaultKind) (answer : Bool) → Arms s n kind answer t → HasSamePages (pairs_view s) (pairs_view t)
+arms_pages s t n kind answer arms = same_pages s t (ap (λ (d : DeviceState). d.count) arms.armed) (ap (λ (d : DeviceState). d.pages) arms.armed)
+
+pub disarmed_pages : (s t : DeviceState) → t ≡ disarmed s → HasSamePages (pairs_view s) (pairs_view t)
+disarmed_pages s t e = same_pages s t (ap (λ (d : DeviceState). d.count) e) (ap (λ (d : DeviceState). d.pages) e)
+
+pub cleared_pages : (s t : DeviceState) → t ≡ cleared s → HasSamePages (pairs_view s) (pairs_view t)
+cleared_pages s t e = same_pages s t (ap (λ (d : DeviceState). d.count) e) (ap (λ (d : DeviceState). d.pages) e)
 
 -- and the power's coming leaves each whole page whole
 pub powers_up_whole : (s t : DeviceState) → PowersUp s t → (i : ℕ) → IsWhole (pairs_view s) i → IsWhole (pairs_view t) i

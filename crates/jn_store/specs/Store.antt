@@ -54,6 +54,11 @@ pub record IsSamePage (v w : StoreView) (i : ℕ) : Type 0 where
   pub first : w.first i ≡ v.first i
   pub second : w.second i ≡ v.second i
 
+-- each page's candidates stay, as where something befalls the device between its calls
+pub record HasSamePages (v w : StoreView) : Type 0 where
+  pub count : w.count ≡ v.count
+  pub pages : (i : ℕ) → IsSamePage v w i
+
 -- what every call keeps, and so every run of calls
 pub record StoreLater (v w : StoreView) : Type 0 where
   pub count : w.count ≡ v.count

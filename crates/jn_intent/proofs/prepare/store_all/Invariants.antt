@@ -1,6 +1,6 @@
 use Rattle.std.proofs.Common.{◌≡◌, length, vec_capacity}
 use Rattle.jn_store.specs.Store.{StoreView}
-use Rattle.jn_intent.specs.Memory.{Memory}
+use Rattle.jn_recovery.specs.Memory.{Memory}
 use Rattle.jn_intent.specs.Preparing.{Begins, IsPreparing}
 use Rattle.jn_intent.proofs.prepare.store_all.Given as goal
 

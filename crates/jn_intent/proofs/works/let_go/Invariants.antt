@@ -1,5 +1,5 @@
 use Rattle.std.proofs.Common.{◌≡◌, drop}
-use Rattle.jn_intent.specs.Pages.{pages_let_go, MayLetGo}
+use Rattle.jn_recovery.specs.Pages.{pages_let_go, MayLetGo}
 use Rattle.jn_intent.proofs.works.let_go.Given as goal
 
 abbrev pub invariant-loop-intention : goal.invariant-loop-intention

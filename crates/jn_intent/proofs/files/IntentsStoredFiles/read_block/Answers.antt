@@ -1,9 +1,10 @@
 use Rattle.std.proofs.Common.{subst, sym}
 use Rattle.jn_storage.specs.Storage.{IsServing}
 use Rattle.jn_storage.specs.Calls.{BlockRead}
-use Rattle.jn_intent.specs.Memory.{view_of}
+use Rattle.jn_recovery.specs.Memory.{view_of}
 use Rattle.jn_intent.specs.Inside.{memory_of}
-use Rattle.jn_intent.proofs.Reading.{holds_seen, kept_same, same_recoverable, read_now}
+use Rattle.jn_found.proofs.Picking.{same_recoverable}
+use Rattle.jn_intent.proofs.Reading.{holds_seen, kept_same, read_now}
 use Rattle.jn_intent.proofs.files.IntentsStoredFiles.read_block.Goals as goal
 
 pub read_block-requires-clause-holds : goal.read_block-requires-clause-holds
@@ -11,8 +12,8 @@ read_block-requires-clause-holds g c = holds_seen _ _ c.self.invariant.kept (sub
 
 pub invariant_of-self : goal.invariant_of-self
 invariant_of-self g c = record {
-  kept = kept_same (memory_of c.self.inside) _ _ c.self.invariant.kept (subst (λ s. IsServing (view_of s.1 (g.S.StableStore.view s.0))) (sym c.self.view_is) c.requires.serving) c.read_block.ensures.got.read.later c.read_block.ensures.got.read.same;
-  recoverable = same_recoverable _ _ _ _ c.self.invariant.recoverable c.read_block.ensures.got.read.later.count c.read_block.ensures.got.read.same;
+  kept = kept_same (memory_of c.self.inside) _ _ c.self.invariant.kept (subst (λ s. IsServing (view_of s.1 (g.S.StableStore.view s.0))) (sym c.self.view_is) c.requires.serving) (record { count = c.read_block.ensures.got.read.later.count; pages = c.read_block.ensures.got.read.same });
+  recoverable = same_recoverable _ _ (record { count = c.read_block.ensures.got.read.later.count; pages = c.read_block.ensures.got.read.same }) _ _ c.self.invariant.recoverable;
   flags_room = c.self.invariant.flags_room;
   rooms = c.self.invariant.rooms;
 }

@@ -5,7 +5,7 @@ use Rattle.jn_base.specs.Names.{work_eq}
 use Rattle.jn_storage.specs.Listing.{is_in}
 use Rattle.jn_storage.specs.Storage.{IsServing}
 use Rattle.jn_storage.specs.Calls.{state, name_of, IsGoing, StepApplied}
-use Rattle.jn_intent.specs.Memory.{view_of}
+use Rattle.jn_recovery.specs.Memory.{view_of}
 use Rattle.jn_intent.specs.Inside.{memory_of}
 use Rattle.jn_intent.proofs.Applying.{apply_none, apply_may, apply_few, apply_stopped, apply_dark, apply_recovers, apply_done}
 use Rattle.jn_intent.proofs.Removing.{work_listed, is_going_some}

@@ -1,18 +1,24 @@
-use Rattle.std.proofs.Common.{sym, subst, ap}
+use Rattle.std.proofs.Common.{ap, subst}
 use Rattle.jn_device.specs.Device.{DeviceState}
+use Rattle.jn_intent.specs.Events.{Befalls}
 use Rattle.jn_intent.specs.Inside.{memory_of}
-use Rattle.jn_intent.proofs.Scrubbing.{IsSafe, waits_kept}
+use Rattle.jn_recovery.specs.Memory.{view_of}
+use Rattle.jn_intent.proofs.Scrubbing.{same_kept, same_power, befalls}
 use Rattle.jn_intent.proofs.intents.Intents.disarm.Goals as goal
 
 pub invariant_of-self : goal.invariant_of-self
 invariant_of-self g c =
-    let safe = subst (λ v. IsSafe (memory_of c.self.inside) v) (sym (g.met.S.Powered.seen c.disarm.new.self))
-    (waits_kept (memory_of c.self.inside) (g.S.Powered.device c.self.inside.store) (g.S.Powered.device c.disarm.new.self)
-    (ap (λ (d : DeviceState). d.count) c.disarm.ensures.disarmed) (ap (λ (d : DeviceState). d.power) c.disarm.ensures.disarmed) (ap (λ (d : DeviceState). d.pages) c.disarm.ensures.disarmed)
-    (subst (λ v. IsSafe (memory_of c.self.inside) v) (g.met.S.Powered.seen c.self.inside.store) (c.self.invariant.kept, c.self.invariant.recoverable))) in
+    let power = same_power _ _ (g.S.Powered.device c.self.inside.store) (g.S.Powered.device c.disarm.new.self) (g.met.S.Powered.seen c.self.inside.store) (g.met.S.Powered.seen c.disarm.new.self) (ap (λ (d : DeviceState). d.power) c.disarm.ensures.disarmed) in
+    let safe = same_kept (memory_of c.self.inside) _ _ c.disarm.ensures.pages power (c.self.invariant.kept, c.self.invariant.recoverable) in
     record {
       kept = safe.0;
       recoverable = safe.1;
       flags_room = c.self.invariant.flags_room;
       rooms = c.self.invariant.rooms;
     }
+
+pub returns-clause-befalls : goal.returns-clause-befalls
+returns-clause-befalls g c =
+    let power = same_power _ _ (g.S.Powered.device c.self.inside.store) (g.S.Powered.device c.disarm.new.self) (g.met.S.Powered.seen c.self.inside.store) (g.met.S.Powered.seen c.disarm.new.self) (ap (λ (d : DeviceState). d.power) c.disarm.ensures.disarmed) in
+    subst (λ s. Befalls (view_of s.1 (g.S.StableStore.view s.0)) (view_of (memory_of c.self.inside) (g.S.StableStore.view c.disarm.new.self))) c.self.view_is
+    (befalls (memory_of c.self.inside) _ _ c.disarm.ensures.pages power)

@@ -4,7 +4,7 @@ use Rattle.std.specs.Prelude.{Ok, Err}
 use Rattle.jn_found.specs.Recoverable.{IsRecoverable}
 use Rattle.jn_storage.specs.declared.faults.PrepareFault.TheVariants.{Stopped as Stops}
 use Rattle.jn_storage.specs.Calls.{WorkPrepared, shortage}
-use Rattle.jn_intent.specs.Memory.{view_of, accounts_of}
+use Rattle.jn_recovery.specs.Memory.{view_of, accounts_of}
 use Rattle.jn_intent.specs.Inside.{memory_of}
 use Rattle.jn_intent.proofs.Readying.{promising, given, begun, list_few, list_short, its_reads, stopped_list, insert_there, insert_left, prepare_stopped, prepare_recovers, prepare_kept, prepare_done, works_listed, refused_by}
 use Rattle.jn_intent.proofs.StoringPool.{free_slot}

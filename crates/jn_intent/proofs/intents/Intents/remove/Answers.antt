@@ -7,8 +7,8 @@ use Rattle.jn_storage.specs.Listing.{is_in}
 use Rattle.jn_storage.specs.Storage.{IsServing}
 use Rattle.jn_storage.specs.Calls.{state, name_of, WorkRemoved}
 use Rattle.jn_files.specs.Calls.{with_promised_heads}
-use Rattle.jn_intent.specs.Memory.{view_of}
-use Rattle.jn_intent.specs.Pages.{MayLetGo, heads_needed}
+use Rattle.jn_recovery.specs.Memory.{view_of}
+use Rattle.jn_recovery.specs.Pages.{MayLetGo, heads_needed}
 use Rattle.jn_intent.specs.Inside.{memory_of}
 use Rattle.jn_intent.proofs.Removing.{found_work, work_slotted, work_listed, work_used, list_few, heads_enough, may_let_go, given_back, stopped_there, remove_kept, remove_recovers, remove_made}
 use Rattle.jn_intent.proofs.intents.Intents.remove.Goals as goal

@@ -1,0 +1,158 @@
+-- The pages of a server that was closed, as a store, and a store's as those of a server that is closed.
+use Rattle.std.proofs.Common.{◌≡◌, ⊎_elim, ◌<◌, ◌≤◌, ◌+◌, ◌*◌, ◌/◌, ◌-◌, ◌^◌, ◌||◌, ◌&&◌, ℕ, Bool, true, false, if◌then◌else◌, List, [], length, sym, ◌∙◌, ap, subst, arith}
+use Rattle.std.proofs.lemmas.Bool.{cases_lt}
+use Rattle.std.proofs.lemmas.Bool.Decides.{nat_tests}
+use Rattle.std.proofs.lemmas.List.{get_or-take, length-take-le}
+use Rattle.std.specs.Prelude.{nat_lt, take, drop}
+use Rattle.jn_base.specs.declared.names.ServerNo.{ServerNo}
+use Rattle.jn_device.specs.declared.Half.{Half}
+use Rattle.jn_device.specs.Device.{DeviceState, IsSound as IsSoundDevice}
+use Rattle.jn_memdisk.specs.Disk.{Holds, IsNew}
+use Rattle.jn_memdisk.specs.Pages.{half_at}
+use Rattle.jn_order.specs.Files.{Files}
+use Rattle.jn_records.specs.Sound.{Image, IsSound, Names}
+use Rattle.jn_records.specs.StablePages.{Counts, Pages, page_count, slot_place, head_place, data_place, is_used, file_in, address_in}
+use Rattle.jn_store.specs.Pairs.{pairs_view}
+use Rattle.jn_found.specs.Images.{IsStoreOf, IsImage, image_on}
+use Rattle.jn_found.proofs.ImageStates.{files_agree, image_fresh}
+use Rattle.jn_disks.specs.Disks.{AreSound, image_of, files_in, IsStoreOfPages}
+
+-- an image with the same bytes, each page of which is good
+module _ (s server : ServerNo) (g : Counts) (good_one good_two : ℕ → Bool) (one two : Pages) (same : (p : ℕ) → p < 2 * page_count g → two p ≡ one p) (good : (p : ℕ) → p < 2 * page_count g → good_two p ≡ true) where
+  abbrev first : Image
+  first = record { server = server; counts = g; good = good_one; bytes = one }
+
+  abbrev second : Image
+  second = record { server = server; counts = g; good = good_two; bytes = two }
+
+  head_same : (i : ℕ) → i < g.heads → two (head_place g i) ≡ one (head_place g i)
+  head_same i lt = same (head_place g i) (omega (arith, lt))
+
+  names : (a i p : ℕ) → Names second a i p → Names first a i p
+  names a i p n = record {
+    head = n.head;
+    block = n.block;
+    used = ap is_used (sym (head_same i n.head)) ∙ n.used;
+    address = ap (λ b. address_in b p) (sym (head_same i n.head)) ∙ n.address;
+  }
+
+  pub same_sound : IsSound s first → IsSound s second
+  same_sound sound = record {
+    server = sound.server;
+    root = (sound.root.0, sound.root.1, same 0 (omega arith) ∙ sound.root.2);
+    good = good;
+    pairs = λ i lt. same i (omega (arith, lt)) ∙ sound.pairs i lt ∙ sym (same (i + page_count g) (omega (arith, lt)));
+    pool = λ i lt. same (slot_place g i) (omega (arith, lt)) ∙ sound.pool i lt;
+    files = λ f i j a b used is used' is'. sound.files f i j a b
+        (ap is_used (sym (head_same i a)) ∙ used) (ap file_in (sym (head_same i a)) ∙ is) (ap is_used (sym (head_same j b)) ∙ used') (ap file_in (sym (head_same j b)) ∙ is');
+    heads = λ i lt. let h = sound.heads i lt in (h.0, h.1, h.2, head_same i lt ∙ h.3);
+    addresses = λ a least i j p q x y. sound.addresses a least i j p q (names a i p x) (names a j q y);
+    tails = λ i lt. ap (drop 448) (same (data_place g i) (omega (arith, lt))) ∙ sound.tails i lt;
+  }
+
+-- ---- a disk of the pages
+
+module _ (server : ServerNo) (g : Counts) (halves : List Half) (are : AreSound server g halves) where
+  pub few : length halves < 2 ^ 32
+  few = let size = are.size in let pool = are.fit.pool in let heads = are.fit.heads in let leaves = are.fit.leaves in omega (arith, size, pool, heads, leaves)
+
+  pub even : 2 * (length halves / 2) ≡ length halves
+  even = let size = are.size in omega (arith, size)
+
+  module _ (s : DeviceState) (holds : Holds halves s) where
+    half : s.count / 2 ≡ page_count g
+    half = let size = are.size in let count = holds.count in omega (arith, size, count)
+
+    within : (p : ℕ) → p < 2 * page_count g → p < s.count
+    within p lt = let size = are.size in let count = holds.count in omega (arith, lt, size, count)
+
+    good : (p : ℕ) → p < 2 * page_count g → (s.pages p).good ≡ true
+    good p lt = holds.good p (within p lt) ∙ are.sound.good p lt
+
+    bytes : (p : ℕ) → p < 2 * page_count g → (s.pages p).bytes ≡ (half_at halves p).bytes
+    bytes p lt = holds.bytes p (within p lt)
+
+    other : (i : ℕ) → i < page_count g → i + s.count / 2 < 2 * page_count g
+    other i lt = omega (arith, lt, half)
+
+    pub even_device : 2 * (s.count / 2) ≡ s.count
+    even_device = let size = are.size in let count = holds.count in omega (arith, size, count)
+
+    pub sound_device : IsSoundDevice s
+    sound_device i lt = ap (λ b. b || (s.pages (i + s.count / 2)).good) (good i (omega (arith, lt, half)))
+
+    store_of : IsStoreOf (image_of server g halves) (pairs_view s)
+    store_of = record {
+      count = sym half;
+      pages = λ i lt. record {
+        first = bytes i (omega (arith, lt));
+        second = bytes (i + s.count / 2) (other i lt) ∙ ap (λ n. (half_at halves (i + n)).bytes) half ∙ sym (are.sound.pairs i lt);
+      };
+    }
+
+    module _ (new : IsNew s) where
+      pub is_store : IsStoreOfPages server g halves (pairs_view s)
+      is_store = record {
+        fresh = λ epoch fits root. image_fresh server (image_of server g halves) (pairs_view s) are.sound are.fit store_of epoch fits root;
+        untouched = record {
+          calm = record { quiet = new.waiting; power = new.power };
+          told = new.told;
+          whole = λ i lt. let at : i < page_count g = subst (λ n. i < n) half lt in record {
+            both = ap (λ b. b && (s.pages (i + s.count / 2)).good) (good i (omega (arith, at))) ∙ good (i + s.count / 2) (other i at);
+            clean = (store_of.pages i at).first ∙ sym (store_of.pages i at).second;
+          };
+        };
+      }
+
+-- ---- the pages of a disk
+
+both_are : (a b : Bool) → (a && b) ≡ true → (a ≡ true) × (b ≡ true)
+both_are a b h = grind arith
+
+below_is : (a b : ℕ) → a < b → nat_lt a b ≡ true
+below_is a b h = grind (arith, nat_tests)
+
+past_is : (a b : ℕ) → b ≤ a → nat_lt a b ≡ false
+past_is a b h = grind (arith, nat_tests)
+
+module _ (server : ServerNo) (g : Counts) (files : Files) (s : DeviceState) (image : IsImage server g files (pairs_view s)) (count : page_count g ≡ s.count / 2) (halves : List Half) (holds : Holds halves s) where
+  abbrev taken : List Half
+  taken = take (2 * (s.count / 2)) halves
+
+  taken_at : (p : ℕ) → p < 2 * page_count g → half_at (take (2 * (s.count / 2)) halves) p ≡ half_at halves p
+  taken_at p lt = get_or-take (2 * (s.count / 2)) halves p (record { good = false; bytes = [] }) (omega (arith, lt, count))
+
+  inside : (p : ℕ) → p < 2 * page_count g → p < s.count
+  inside p lt = omega (arith, lt, count)
+
+  stands : (p : ℕ) → p < 2 * page_count g → (image_on server g (pairs_view s)).bytes p ≡ (s.pages p).bytes
+  stands p lt = ⊎_elim
+      (λ low. ap (λ b. if b then (s.pages p).bytes else (s.pages (p - s.count / 2 + s.count / 2)).bytes) (below_is p (s.count / 2) low))
+      (λ past. ap (λ b. if b then (s.pages p).bytes else (s.pages (p - s.count / 2 + s.count / 2)).bytes) (past_is p (s.count / 2) past)
+      ∙ ap (λ n. (s.pages n).bytes) (let e : p - s.count / 2 + s.count / 2 ≡ p = omega (arith, past) in e))
+      (cases_lt p (s.count / 2))
+
+  abbrev both : ℕ → Bool
+  both i = (s.pages i).good && (s.pages (i + s.count / 2)).good
+
+  good_page : (p : ℕ) → p < 2 * page_count g → (s.pages p).good ≡ true
+  good_page p lt = ⊎_elim
+      (λ low. (both_are ((s.pages p).good) ((s.pages (p + s.count / 2)).good) (sym (ap (λ b. both (if b then p else p - s.count / 2)) (below_is p (s.count / 2) low)) ∙ image.sound.good p lt)).0)
+      (λ past. subst (λ n. (s.pages n).good ≡ true) (let e : p - s.count / 2 + s.count / 2 ≡ p = omega (arith, past) in e)
+      (both_are ((s.pages (p - s.count / 2)).good) ((s.pages (p - s.count / 2 + s.count / 2)).good) (sym (ap (λ b. both (if b then p else p - s.count / 2)) (past_is p (s.count / 2) past)) ∙ image.sound.good p lt)).1)
+      (cases_lt p (s.count / 2))
+
+  same_bytes : (p : ℕ) → p < 2 * page_count g → (half_at (take (2 * (s.count / 2)) halves) p).bytes ≡ (image_on server g (pairs_view s)).bytes p
+  same_bytes p lt = ap (λ (h : Half). h.bytes) (taken_at p lt) ∙ sym (holds.bytes p (inside p lt)) ∙ sym (stands p lt)
+
+  pub closed : AreSound server g (take (2 * (s.count / 2)) halves)
+  closed = record {
+    size = length-take-le (2 * (s.count / 2)) halves (let e = holds.count in omega (arith, e)) ∙ (let e : 2 * (s.count / 2) ≡ 2 * page_count g = omega (arith, count) in e);
+    fit = image.fit;
+    sound = same_sound server server g (image_on server g (pairs_view s)).good (λ p. (half_at (take (2 * (s.count / 2)) halves) p).good) (image_on server g (pairs_view s)).bytes (λ p. (half_at (take (2 * (s.count / 2)) halves) p).bytes)
+        same_bytes (λ p lt. ap (λ (h : Half). h.good) (taken_at p lt) ∙ sym (holds.good p (inside p lt)) ∙ good_page p lt) image.sound;
+  }
+
+  pub closed_files : files_in g (take (2 * (s.count / 2)) halves) ≡ files
+  closed_files = sym (files_agree g (image_on server g (pairs_view s)).bytes (λ p. (half_at (take (2 * (s.count / 2)) halves) p).bytes) image.fit.leaves image.sound.heads
+      (λ p lt. sym (same_bytes p (omega (arith, lt))))) ∙ image.same_files

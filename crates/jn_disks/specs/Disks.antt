@@ -1,0 +1,50 @@
+-- A server's store in memory: how it starts, and what its pages are in the end.
+use Rattle.std.specs.Prelude.{◌≡◌, ◌<◌, ◌*◌, ◌^◌, ℕ, List, [], length, None}
+use Rattle.jn_base.specs.declared.names.ServerNo.{ServerNo}
+use Rattle.jn_device.specs.declared.Half.{Half}
+use Rattle.jn_memdisk.specs.Pages.{half_at}
+use Rattle.jn_order.specs.Files.{Files}
+use Rattle.jn_records.specs.declared.root.Root.{Root}
+use Rattle.jn_records.specs.Pages.{root_page}
+use Rattle.jn_records.specs.Sound.{Image, IsSound, root_of}
+use Rattle.jn_records.specs.StablePages.{Counts, page_count, files_of_pages}
+use Rattle.jn_store.specs.Store.{StoreView, IsCalm, IsWhole}
+use Rattle.jn_found.specs.Images.{CountsFit, IsFresh}
+
+-- no fault waits, none was told, and both halves of each page are good and equal
+pub record IsUntouched (v : StoreView) : Type 0 where
+  pub calm : IsCalm v
+  pub told : v.told ≡ []
+  pub whole : (i : ℕ) → i < v.count → IsWhole v i
+
+-- ---- a new server
+
+abbrev pub counts_of : Root → Counts
+counts_of r = record { pool = r.pool; heads = r.heads; leaves = r.leaves }
+
+abbrev pub no_files : Files
+no_files u = None
+
+-- zeros behind the root: nothing is found but its epoch
+pub record IsNewStore (root : Root) (v : StoreView) : Type 0 where
+  pub fresh : IsFresh root.server (counts_of root) root.epoch no_files v
+  pub untouched : IsUntouched v
+
+-- ---- a server that was closed
+
+abbrev pub image_of : ServerNo → Counts → List Half → Image
+image_of server g halves = record { server = server; counts = g; good = λ p. (half_at halves p).good; bytes = λ p. (half_at halves p).bytes }
+
+-- these are the pages of a sound image
+pub record AreSound (server : ServerNo) (g : Counts) (halves : List Half) : Type 0 where
+  pub size : length halves ≡ 2 * page_count g
+  pub fit : CountsFit server g
+  pub sound : IsSound server (image_of server g halves)
+
+abbrev pub files_in : Counts → List Half → Files
+files_in g halves = files_of_pages g (λ p. (half_at halves p).bytes)
+
+-- a store of such pages, whose root has this epoch: the image's files are found, no work and no flag
+pub record IsStoreOfPages (server : ServerNo) (g : Counts) (halves : List Half) (v : StoreView) : Type 0 where
+  pub fresh : (epoch : ℕ) → epoch < 2 ^ 32 → (half_at halves 0).bytes ≡ root_page (root_of (image_of server g halves) epoch) → IsFresh server g epoch (files_in g halves) v
+  pub untouched : IsUntouched v

@@ -1,0 +1,56 @@
+//! A server's store in memory: a new one, one of the pages of a server that was closed, and the pages of a store.
+#![tactic(auto)]
+
+ghost use Rattle.std.specs.Prelude.{◌≡◌, ◌+◌, ℕ, IfOk};
+ghost use Rattle.jn_base.specs.declared.names.ServerNo.{ServerNo};
+ghost use Rattle.jn_disks.specs.Disks.{IsNewStore, AreSound, IsStoreOfPages, files_in};
+ghost use Rattle.jn_found.specs.Images.{IsImage};
+ghost use Rattle.jn_order.specs.Files.{Files};
+ghost use Rattle.jn_records.specs.StablePages.{Counts, page_count};
+ghost use Rattle.jn_store.specs.Store.{IsBlank};
+
+use jn_device::Half;
+use jn_memdisk::MemDisk;
+use jn_records::Root;
+use jn_stable::Pairs;
+use jn_store::StableStore;
+use std::alloc::{AllocError, Global};
+
+/// The store of a new server: zeros behind its root.
+pub fn new_store(alloc: Global, root: Root) -> Result<Pairs<MemDisk>, AllocError>
+    ensures { IfOk result (λ store. IsNewStore root (⟦<Pairs<MemDisk> as StableStore>⟧.view store)) }
+{
+    let pages = 1 + u32::from(root.pool) + u32::from(root.heads) + u32::from(root.leaves);
+    let mut store = Pairs::new(MemDisk::new(alloc, 2 * pages)?);
+    put_root(&mut store, root);
+    Ok(store)
+}
+
+/// Puts the root to a store of zeros.
+fn put_root<S: StableStore>(store: &mut S, root: Root)
+    requires { IsBlank (1 + root.pool + root.heads + root.leaves) (S.view store.old) }
+    ensures { IsNewStore root (S.view store.new) }
+{
+    let Ok(()) = store.put(0, &root.encode()) else {
+        unreachable!()
+    };
+}
+
+/// The store of a server that was closed, of its pages. Page p and page p + half of their number are halves of one.
+pub fn store_of_pages(alloc: Global, pages: Vec<Half>) -> Result<Pairs<MemDisk>, AllocError>
+    requires sound { (server : ServerNo) × (g : Counts) × AreSound server g pages.items }
+    ensures { (server : ServerNo) (g : Counts) → AreSound server g pages.items → IfOk result (λ store. IsStoreOfPages server g pages.items (⟦<Pairs<MemDisk> as StableStore>⟧.view store)) }
+{
+    Ok(Pairs::new(MemDisk::from_pages(alloc, pages)?))
+}
+
+/// The pages of a store, good or bad, with the bytes that they keep.
+pub fn pages_of_store(store: Pairs<MemDisk>) -> Vec<Half>
+    ensures { (server : ServerNo) (g : Counts) (files : Files) → IsImage server g files (⟦<Pairs<MemDisk> as StableStore>⟧.view store) → page_count g ≡ (⟦<Pairs<MemDisk> as StableStore>⟧.view store).count
+        → AreSound server g result.items × (files_in g result.items ≡ files) }
+{
+    let count = 2 * store.count();
+    let mut pages = store.into_inner().into_pages();
+    pages.truncate(count as usize);
+    pages
+}

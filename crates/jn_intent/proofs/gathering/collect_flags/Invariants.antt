@@ -1,7 +1,0 @@
-use Rattle.std.proofs.Common.{◌≡◌, ◌++◌, drop}
-use Rattle.jn_intent.specs.Gathering.{collected, flags_on}
-use Rattle.jn_intent.specs.Matches.{flag_on}
-use Rattle.jn_intent.proofs.gathering.collect_flags.Given as goal
-
-abbrev pub invariant-loop-slot : goal.invariant-loop-slot
-invariant-loop-slot l = l.flags.items ++ collected flag_on (drop l.slot l.sets) ≡ flags_on l.sets

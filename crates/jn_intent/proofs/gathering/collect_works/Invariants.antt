@@ -1,6 +1,0 @@
-use Rattle.std.proofs.Common.{◌≡◌, ◌++◌, drop}
-use Rattle.jn_intent.specs.Gathering.{collected, state_on, works_on}
-use Rattle.jn_intent.proofs.gathering.collect_works.Given as goal
-
-abbrev pub invariant-loop-slot : goal.invariant-loop-slot
-invariant-loop-slot l = l.works.items ++ collected (state_on l.sets) (drop l.slot l.sets) ≡ works_on l.sets

@@ -1,6 +1,0 @@
-use Rattle.std.specs.Prelude.{take}
-use Rattle.jn_intent.specs.Gathering.{HoldsNamed}
-use Rattle.jn_intent.proofs.gathering.hold_pages.Given as goal
-
-abbrev pub invariant-loop-slot : goal.invariant-loop-slot
-invariant-loop-slot l = HoldsNamed l.fn.table (take l.slot l.sets) l.table

@@ -1,6 +1,0 @@
-use Rattle.std.proofs.Common.{◌≡◌, ◌≤◌, take}
-use Rattle.jn_intent.specs.Pages.{heads_needed}
-use Rattle.jn_intent.proofs.works.heads_needed.Given as goal
-
-abbrev pub invariant-loop-intention : goal.invariant-loop-intention
-invariant-loop-intention l = (l.heads ≡ heads_needed l.table.heads (take l.intention-index l.list)) × (l.heads ≤ l.intention-index)

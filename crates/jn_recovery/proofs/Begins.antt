@@ -1,0 +1,125 @@
+-- A restart is counted in the root, and rubbish is erased.
+use Rattle.std.proofs.Common.{◌≡◌, ◌⊎◌, inl, inr, ⊎_elim, ◌<◌, ◌≤◌, ◌+◌, ◌*◌, ℕ, suc, Bool, true, false, List, [], refl, sym, ◌∙◌, ap, subst, true≢false, arith}
+use Rattle.std.proofs.lemmas.Bool.{cases_eq}
+use Rattle.jn_base.specs.declared.names.ServerNo.{ServerNo}
+use Rattle.jn_files.specs.Table.{TableView}
+use Rattle.jn_files.specs.Calls.{IsLoaded as IsTableLoaded}
+use Rattle.jn_found.specs.Pages.{found_on, root_by}
+use Rattle.jn_found.specs.Puts.{RootPut}
+use Rattle.jn_found.specs.Standing.{IsPutStep, MakesEpoch, standing_state}
+use Rattle.jn_found.proofs.CallLaws.{counts_on}
+use Rattle.jn_records.specs.declared.head.Head.{Head}
+use Rattle.jn_records.specs.declared.record.Record.{Record}
+use Rattle.jn_records.specs.declared.root.Root.{Root}
+use Rattle.jn_records.specs.Pages.{root_page}
+use Rattle.jn_records.specs.StablePages.{Counts}
+use Rattle.jn_rows.specs.Stable.{StableState}
+use Rattle.jn_store.specs.Store.{StoreView, StorePut, IsClean, IsWhole}
+use Rattle.jn_store.proofs.Laws.{later_trans, only_clean, stop_since, calm_on}
+use Rattle.jn_recovery.specs.Loading.{IsSameOrNext, IsDown, reading_calls, most_calls}
+use Rattle.jn_recovery.specs.Memory.{rubbish_in}
+use Rattle.jn_recovery.specs.Opening.{next_root, Stands, IsOpened, ErasesAll, EraseStopped, IsBegun}
+use Rattle.jn_recovery.specs.declared.load.DownCause.TheVariants.{Stopped}
+use Rattle.jn_recovery.specs.declared.opening.Opened.{Opened}
+use Rattle.jn_recovery.proofs.Downs.{recovering_by, stopped_down}
+
+pub same_or_next_at : (x y : StableState) (e : ℕ) → y ≡ record x { epoch = e } → (e ≡ x.epoch) ⊎ (e ≡ suc x.epoch) → IsSameOrNext x y
+same_or_next_at x y e is which = record {
+  same = is ∙ ap (λ k. record x { epoch = k }) (sym (ap (λ (z : StableState). z.epoch) is));
+  epoch = ⊎_elim (λ h. inl (ap (λ (z : StableState). z.epoch) is ∙ h)) (λ h. inr (ap (λ (z : StableState). z.epoch) is ∙ h)) which;
+}
+
+module _ (server : ServerNo) (g : Counts) (v : StoreView) (o : Opened) (u : StoreView) (at : IsOpened server g v o u) where
+  pub has_root : 0 < u.count
+  has_root = let e = at.stands.standing.held.count in omega (arith, e)
+
+  state_was : standing_state g u ≡ record (found_on g v at.stands.before) { epoch = o.root.epoch }
+  state_was = at.stands.found (λ n. false)
+
+  module _ (ok : Bool) (x : StoreView) (put : StorePut u 0 (root_page (next_root o.root)) ok x) where
+    next_is : next_root o.root ≡ root_by server g (o.root.epoch + 1)
+    next_is = ap next_root at.root
+
+    step : IsPutStep server g u (RootPut (o.root.epoch + 1)) ok x
+    step = record {
+      page = let fits = at.stands.standing.held.root_fits in record { server = fits.server; pool = fits.pool; heads = fits.heads; leaves = fits.leaves; epoch = let last = at.last in omega (arith, last) };
+      step = subst (λ (r : Root). StorePut u 0 (root_page r) ok x) next_is put;
+    }
+
+    makes : MakesEpoch server g u o.sets o.table.heads (o.root.epoch + 1) ok x
+    makes = counts_on server g u x o.root.epoch o.sets o.table.heads ok at.stands.standing (o.root.epoch + 1) step (omega arith)
+
+    pub put_down : ok ≡ false → IsDown server g v Stopped x
+    put_down bad = stopped_down server g v x
+        (recovering_by server g v x (later_trans v u x at.stands.later put.later) (let a = at.stands.calls in let b = put.calls in omega (arith, a, b)) makes.recoverable
+        (λ c. (
+          at.stands.before,
+          ⊎_elim
+              (λ e. same_or_next_at (found_on g v at.stands.before) (found_on g x c) o.root.epoch (e ∙ state_was) (inl (sym at.stands.old)))
+              (λ e. same_or_next_at (found_on g v at.stands.before) (found_on g x c) (o.root.epoch + 1) (e ∙ ap (λ (s : StableState). record s { epoch = o.root.epoch + 1 }) state_was) (inr (let old = at.stands.old in omega (arith, old))))
+              (makes.stop c),
+        )))
+        (stop_since v u x at.stands.later put.later (put.stop bad)) (λ quiet. true≢false (sym (put.calm (at.stands.later.calm quiet)).0 ∙ bad))
+
+    pub put_stands : ok ≡ true → Stands server g v (reading_calls g + 16) o.root.epoch (o.root.epoch + 1) o.sets o.table.heads x
+    put_stands done = record {
+      later = later_trans v u x at.stands.later put.later;
+      calls = let a = at.stands.calls in let b = put.calls in omega (arith, a, b);
+      stops = (put.served done).stops ∙ at.stands.stops;
+      standing = makes.standing done;
+      before = at.stands.before;
+      old = at.stands.old;
+      found = λ c. makes.done done c ∙ ap (λ (s : StableState). record s { epoch = o.root.epoch + 1 }) state_was;
+      clean = λ i lt. ⊎_elim
+          (λ e. subst (IsClean x) (sym e) (only_clean x 0 _ (put.done done)))
+          (λ ne. let same = put.others i (within i lt) ne in same.first ∙ at.stands.clean i lt ∙ sym same.second)
+          (cases_eq i 0);
+      whole = λ quiet i lt. ⊎_elim
+          (λ e. subst (IsWhole x) (sym e) (put.calm (at.stands.later.calm quiet)).1)
+          (λ ne. put.later.whole (at.stands.later.calm quiet) i (within i lt) (at.stands.whole quiet i lt))
+          (cases_eq i 0);
+    }
+      where
+        within : (i : ℕ) → i < v.count → i < u.count
+        within i lt = subst (λ n. i < n) (sym at.stands.later.count) lt
+
+-- ---- rubbish is erased
+
+module _ (server : ServerNo) (g : Counts) (v : StoreView) (most was : ℕ) (records : List Record) (heads : List Head) (x : StoreView) (at : Stands server g v most was (was + 1) records heads x) where
+  pub erase_down : most + 16 * g.pool ≤ most_calls g → (y : StoreView) → EraseStopped server g x g.pool y → IsDown server g v Stopped y
+  erase_down few y stopped = stopped_down server g v y
+      (recovering_by server g v y (later_trans v x y at.later stopped.later) (let a = at.calls in let b = stopped.calls in omega (arith, a, b, few)) stopped.recoverable
+      (λ c. (at.before, same_or_next_at (found_on g v at.before) (found_on g y c) (was + 1) (stopped.unchanged c ∙ at.found (λ n. false)) (inr (let old = at.old in omega (arith, old))))))
+      (stop_since v x y at.later stopped.later stopped.stop) (λ quiet. calm_on x y stopped.later stopped.stop (at.later.calm quiet))
+
+  erase_stands : (new : List Record) (y : StoreView) → ErasesAll server g x (was + 1) heads new y → Stands server g v (most + 16 * g.pool) was (was + 1) new heads y
+  erase_stands new y all = record {
+    later = later_trans v x y at.later all.erases.later;
+    calls = let a = at.calls in let b = all.erases.calls in omega (arith, a, b);
+    stops = all.erases.stops ∙ at.stops;
+    standing = all.erases.standing;
+    before = at.before;
+    old = at.old;
+    found = λ c. all.erases.unchanged c ∙ at.found (λ n. false);
+    clean = λ i lt. all.erases.clean i (within i lt) (at.clean i lt);
+    whole = λ quiet i lt. all.erases.later.whole (at.later.calm quiet) i (within i lt) (at.whole quiet i lt);
+  }
+    where
+      within : (i : ℕ) → i < v.count → i < x.count
+      within i lt = subst (λ n. i < n) (sym at.later.count) lt
+
+pub begun : (server : ServerNo) (g : Counts) (v : StoreView) (o : Opened) (u x : StoreView) (at : IsOpened server g v o u) → StorePut u 0 (root_page (next_root o.root)) true x
+    → (new : List Record) (y : StoreView) → ErasesAll server g x (o.root.epoch + 1) o.table.heads new y → (p : Opened) → p.root ≡ o.root → p.sets ≡ new → p.table ≡ o.table → IsBegun server g v p (o.root.epoch + 1) y
+begun server g v o u x at put new y all p a b c = record {
+  root = a ∙ at.root ∙ ap (λ (r : Root). root_by server g r.epoch) (sym a);
+  last = subst (λ (r : Root). r.epoch < 4294967295) (sym a) at.last;
+  next = ap (λ (r : Root). r.epoch + 1) (sym a);
+  table = subst (IsTableLoaded g) (sym c) at.table;
+  stands = subst (λ n. Stands server g v n p.root.epoch (o.root.epoch + 1) p.sets p.table.heads y) (let e : reading_calls g + 16 + 16 * g.pool ≡ most_calls g = omega arith in e)
+      (subst (λ (r : Root). Stands server g v (reading_calls g + 16 + 16 * g.pool) r.epoch (o.root.epoch + 1) p.sets p.table.heads y) (sym a)
+      (subst (λ l. Stands server g v (reading_calls g + 16 + 16 * g.pool) o.root.epoch (o.root.epoch + 1) l p.table.heads y) (sym b)
+      (subst (λ (t : TableView). Stands server g v (reading_calls g + 16 + 16 * g.pool) o.root.epoch (o.root.epoch + 1) new t.heads y) (sym c)
+      (erase_stands server g v (reading_calls g + 16) o.root.epoch o.sets o.table.heads x (put_stands server g v o u at true x put refl) new y all))));
+  power = all.erases.power (put.served refl).power;
+  none_left = subst (λ l. rubbish_in l l ≡ []) (sym b) all.none_left;
+}

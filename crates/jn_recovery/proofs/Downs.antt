@@ -1,0 +1,61 @@
+-- What a recovery leaves where it ends before there is a storage.
+use Rattle.std.proofs.Common.{◌≡◌, inl, ⊎_elim, ◌≤◌, ◌+◌, Result, Err, sym, ◌∙◌, ap, subst, arith}
+use Rattle.std.specs.Prelude.{IfErr}
+use Rattle.jn_base.specs.declared.names.ServerNo.{ServerNo}
+use Rattle.jn_found.specs.Pages.{found_on}
+use Rattle.jn_found.specs.Puts.{IsFewer}
+use Rattle.jn_found.specs.Recoverable.{IsRecoverable}
+use Rattle.jn_found.proofs.Picking.{fewer_picked, fewer_recoverable}
+use Rattle.jn_records.specs.StablePages.{Counts}
+use Rattle.jn_rows.specs.Stable.{StableState, Pick}
+use Rattle.jn_store.specs.Store.{StoreView, StoreLater, IsCalm, IsStop}
+use Rattle.jn_recovery.specs.Loading.{IsSameOrNext, most_calls, Recovering, IsDown, IsUsedUp, IsNotUsedUp}
+use Rattle.jn_recovery.specs.declared.load.DownCause.TheVariants.{Stopped, Memory, EpochsUsedUp}
+
+same_or_next : (x y : StableState) → y ≡ x → IsSameOrNext x y
+same_or_next x y e = record { same = e ∙ ap (λ k. record x { epoch = k }) (sym (ap (λ (z : StableState). z.epoch) e)); epoch = inl (ap (λ (z : StableState). z.epoch) e) }
+
+module _ (server : ServerNo) (g : Counts) (v w : StoreView) where
+  pub recovering_by : StoreLater v w → w.calls ≤ v.calls + most_calls g → IsRecoverable server g w → ((c : Pick) → (b : Pick) × IsSameOrNext (found_on g v b) (found_on g w c)) → Recovering server g v w
+  recovering_by later calls recoverable each = record {
+    later = later;
+    calls = calls;
+    recoverable = recoverable;
+    each = each;
+    finds = λ c. let h = each c in (h.0, record { same = h.1.same; later = ⊎_elim (λ e. omega (arith, e)) (λ e. omega (arith, e)) h.1.epoch });
+  }
+
+  pub recovering_fewer : IsRecoverable server g v → IsFewer v w → StoreLater v w → w.calls ≤ v.calls + most_calls g → Recovering server g v w
+  recovering_fewer recoverable fewer later calls = recovering_by later calls (fewer_recoverable v w fewer server g recoverable) (λ c. let h = fewer_picked v w fewer g c in (h.0, same_or_next (found_on g v h.0) (found_on g w c) h.1))
+
+  module _ (recovering : Recovering server g v w) where
+    pub stopped_down : IsStop v w → (IsCalm v → ⊥) → IsDown server g v Stopped w
+    stopped_down stop calm = record {
+      recovering = recovering;
+      stop = λ e. stop;
+      calm = λ quiet e. calm quiet;
+      used_up = λ e. absurd (cc e);
+      memory = λ e. absurd (cc e);
+    }
+
+    pub memory_down : IsNotUsedUp g v → IsDown server g v Memory w
+    memory_down left = record {
+      recovering = recovering;
+      stop = λ e. absurd (cc e);
+      calm = λ quiet e. absurd (cc e);
+      used_up = λ e. absurd (cc e);
+      memory = λ e. left;
+    }
+
+    pub used_down : IsUsedUp g v w → IsDown server g v EpochsUsedUp w
+    used_down used = record {
+      recovering = recovering;
+      stop = λ e. absurd (cc e);
+      calm = λ quiet e. absurd (cc e);
+      used_up = λ e. used;
+      memory = λ e. absurd (cc e);
+    }
+
+-- an answer that is an error, and which one
+pub if_err_is : {X E : Type 0} (r : Result X E) (P : E → Type 0) (e : E) → r ≡ Err e → P e → IfErr r P
+if_err_is r P e is h = subst (λ x. IfErr x P) (sym is) h

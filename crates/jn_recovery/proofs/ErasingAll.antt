@@ -1,0 +1,123 @@
+-- Rubbish is erased, record by record.
+use Rattle.std.proofs.Common.{◌≡◌, ⊎_elim, ◌<◌, ◌≤◌, ◌+◌, ℕ, Bool, true, false, List, [], ◌∷◌, length, Option, Some, None, Result, Ok, Err, refl, sym, ◌∙◌, ap, subst, true≢false, arith}
+use Rattle.std.proofs.lemmas.Bool.{cases_eq}
+use Rattle.std.proofs.lemmas.List.Sums.{count_by-le-length}
+use Rattle.std.specs.Prelude.{is_ok, IfOk, OnErr, position, slice_set}
+use Rattle.jn_base.specs.declared.device.Stopped.{Stopped}
+use Rattle.jn_base.specs.declared.names.ServerNo.{ServerNo}
+use Rattle.jn_base.specs.declared.names.WorkId.{WorkId}
+use Rattle.jn_found.specs.Puts.{RecordPut}
+use Rattle.jn_found.specs.Standing.{IsStanding, MakesNothing, standing_state}
+use Rattle.jn_found.proofs.CallLaws.{idles}
+use Rattle.jn_records.specs.declared.head.Head.{Head}
+use Rattle.jn_records.specs.declared.record.Record.{Record}
+use Rattle.jn_records.specs.declared.record.Record.TheVariants.{Free}
+use Rattle.jn_records.specs.StablePages.{Counts}
+use Rattle.jn_sets.specs.Pool.{page_of, is_rubbish}
+use Rattle.jn_sets.specs.Sets.{Puts}
+use Rattle.jn_store.specs.Store.{StoreView, IsClean}
+use Rattle.jn_store.proofs.Laws.{later_refl, later_trans, only_clean, stop_since}
+use Rattle.jn_recovery.specs.Memory.{rubbish_in}
+use Rattle.jn_recovery.specs.Opening.{Erases, EraseStopped, ErasesAll}
+use Rattle.jn_recovery.proofs.Erasing.{rubbish_length, no_rubbish, rubbish_there, rubbish_idle, rubbish_less}
+use Rattle.jn_recovery.proofs.FlagCalls.{none_any, free_record}
+use Rattle.jn_recovery.proofs.Pool.{none_position, step_of}
+use Rattle.jn_recovery.proofs.Standing.{up as stands_up}
+
+module _ (server : ServerNo) (g : Counts) (v : StoreView) (epoch : ℕ) (heads : List Head) where
+  pub erases_none : (records : List Record) → IsStanding server g v epoch records heads → Erases server g v epoch heads 0 records v
+  erases_none records standing = record {
+    later = later_refl v;
+    calls = omega arith;
+    stops = refl;
+    power = λ p. p;
+    standing = standing;
+    unchanged = stands_up server g v epoch records heads standing;
+    clean = λ i lt is. is;
+  }
+
+  pub erases_all : (n : ℕ) (records : List Record) (w : StoreView) → n ≤ length records → rubbish_in records records ≡ [] → Erases server g v epoch heads n records w → ErasesAll server g v epoch heads records w
+  erases_all n records w fits none e = record {
+    erases = record {
+      later = e.later;
+      calls = let c = e.calls in let size = e.standing.held.slots in omega (arith, c, fits, size);
+      stops = e.stops;
+      power = e.power;
+      standing = e.standing;
+      unchanged = e.unchanged;
+      clean = e.clean;
+    };
+    none_left = none;
+  }
+
+  module _ (n : ℕ) (pool : List Record) (u : StoreView) (before : Erases server g v epoch heads n pool u) (slot : ℕ) (at : position (is_rubbish pool) pool ≡ Some slot) (ok : Bool) (new : List Record) (w : StoreView) (puts : Puts pool u slot Free ok new w) where
+    makes : MakesNothing server g u epoch pool heads (RecordPut slot Free) ok w
+    makes = idles server g u w epoch pool heads ok before.standing slot Free
+        (step_of server g u slot Free ok w (subst (λ n. slot < n) before.standing.held.slots (rubbish_there pool slot at)) free_record puts.put) (rubbish_idle pool slot at)
+
+    same_state : standing_state g u ≡ standing_state g v
+    same_state = before.unchanged (λ n. false)
+
+    pub erases_more : ok ≡ true → Erases server g v epoch heads (n + 1) new w
+    erases_more done = record {
+      later = later_trans v u w before.later puts.put.later;
+      calls = let a = before.calls in let b = puts.put.calls in omega (arith, a, b);
+      stops = (puts.put.served done).stops ∙ before.stops;
+      power = λ p. (puts.put.served done).power;
+      standing = subst (λ r. IsStanding server g w epoch r heads) (sym (puts.done done)) (makes.standing done);
+      unchanged = λ c. makes.unchanged c ∙ same_state;
+      clean = λ i lt is. ⊎_elim
+          (λ e. subst (IsClean w) (sym e) (only_clean w (page_of slot) _ (puts.put.done done)))
+          (λ ne. let same = puts.put.others i (subst (λ k. i < k) (sym before.later.count) lt) ne in same.first ∙ before.clean i lt is ∙ sym same.second)
+          (cases_eq i (page_of slot));
+    }
+
+    pub erase_stopped : ok ≡ false → n < g.pool → EraseStopped server g v g.pool w
+    erase_stopped bad lt = record {
+      later = later_trans v u w before.later puts.put.later;
+      calls = let a = before.calls in let b = puts.put.calls in omega (arith, a, b, lt);
+      stop = stop_since v u w before.later puts.put.later (puts.put.stop bad);
+      recoverable = makes.recoverable;
+      unchanged = λ c. makes.unchanged c ∙ same_state;
+    }
+
+-- ---- by what the code answers
+
+module _ (pool : List Record) (u : StoreView) (answer : Result Bool Stopped) (new : List Record) (w : StoreView)
+    (none : position (is_rubbish pool) pool ≡ None → (answer ≡ Ok false) × (new ≡ pool) × (w ≡ u))
+    (erased : (slot : ℕ) → position (is_rubbish pool) pool ≡ Some slot → IfOk answer (λ b. b ≡ true) × Puts pool u slot Free (is_ok answer) new w) where
+  -- one was erased, or the erasure stopped
+  pub one_erased : (answer ≡ Ok false → ⊥) → (slot : ℕ) × (position (is_rubbish pool) pool ≡ Some slot) × Puts pool u slot Free (is_ok answer) new w
+  one_erased went = by (position (is_rubbish pool) pool) refl
+    where
+      by : (o : Option ℕ) → position (is_rubbish pool) pool ≡ o → (slot : ℕ) × (position (is_rubbish pool) pool ≡ Some slot) × Puts pool u slot Free (is_ok answer) new w
+      by None e = absurd (went (none e).0)
+      by (Some slot) e = (slot, e, (erased slot e).1)
+
+  pub fewer_left : (slot : ℕ) → position (is_rubbish pool) pool ≡ Some slot → new ≡ slice_set pool slot Free → length (rubbish_in new new) + 1 ≡ length (rubbish_in pool pool)
+  fewer_left slot at e = subst (λ r. length (rubbish_in r r) + 1 ≡ length (rubbish_in pool pool)) (sym e) (rubbish_less pool slot at)
+
+  pub none_left : answer ≡ Ok false → (rubbish_in new new ≡ []) × (new ≡ pool) × (w ≡ u)
+  none_left end = by (position (is_rubbish pool) pool) refl
+    where
+      by : (o : Option ℕ) → position (is_rubbish pool) pool ≡ o → (rubbish_in new new ≡ []) × (new ≡ pool) × (w ≡ u)
+      by None e = let at = none e in (subst (λ r. rubbish_in r r ≡ []) (sym at.1) (no_rubbish pool pool (none_any (is_rubbish pool) pool (none_position (is_rubbish pool) pool e))), at.1, at.2)
+      by (Some slot) e = absurd (true≢false (sym (is_true answer (erased slot e).0 end)))
+        where
+          is_true : (a : Result Bool Stopped) → IfOk a (λ b. b ≡ true) → a ≡ Ok false → false ≡ true
+          is_true (Ok b) h e = cc (e, h)
+          is_true (Err x) h e = absurd (cc e)
+
+pub nothing_left : (l : List WorkId) (n : ℕ) → length l + n ≤ n → l ≡ []
+nothing_left [] n h = refl
+nothing_left (x ∷ l) n h = absurd (omega (arith, h))
+
+pub few_rubbish : (pool : List Record) → length (rubbish_in pool pool) + 0 ≤ length pool
+few_rubbish pool = let e = rubbish_length pool pool in let h = count_by-le-length (is_rubbish pool) pool in omega (arith, e, h)
+
+pub on_err_all : {X E : Type 0} (r : Result X E) (P : Type 0) → P → OnErr r P
+on_err_all (Ok x) P h = tt
+on_err_all (Err x) P h = h
+
+pub not_ok_is : {A E : Type 0} (r : Result A E) (x : A) → is_ok r ≡ false → r ≡ Ok x → ⊥
+not_ok_is r x h e = cc (sym h ∙ ap is_ok e)

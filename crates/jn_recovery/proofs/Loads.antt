@@ -1,0 +1,211 @@
+-- What a recovery keeps in memory is what stands on the pages, and the storage serves.
+use Rattle.std.proofs.Common.{◌≡◌, inr, ◌<◌, ◌≤◌, ◌+◌, ℕ, suc, true, false, List, [], Option, Some, None, refl, sym, ◌∙◌, ap, subst, arith}
+use Rattle.std.proofs.lemmas.List.Sums.{count_by-le-length}
+use Rattle.std.specs.Prelude.{is_some}
+use Rattle.std.specs.List.{list_any}
+use Rattle.jn_base.specs.declared.names.ServerNo.{ServerNo}
+use Rattle.jn_base.specs.declared.names.Tid.{Tid}
+use Rattle.jn_base.specs.declared.names.WorkId.{WorkId}
+use Rattle.jn_base.specs.Names.{work_eq}
+use Rattle.jn_files.specs.Table.{TableView, IsTable, is_held}
+use Rattle.jn_found.specs.Contents.{state_in}
+use Rattle.jn_found.specs.Held.{held_contents}
+use Rattle.jn_found.specs.Pages.{found_on, pages_by, block_on}
+use Rattle.jn_found.specs.Recoverable.{IsConsistent, IsRecoverable}
+use Rattle.jn_records.specs.declared.head.Head.{Head}
+use Rattle.jn_records.specs.declared.record.Record.{Record}
+use Rattle.jn_records.specs.declared.root.Root.{Root}
+use Rattle.jn_records.specs.declared.work.WorkState.{WorkState}
+use Rattle.jn_records.specs.StablePages.{Counts, page_count, slot_place, head_place}
+use Rattle.jn_rows.specs.Stable.{StableState}
+use Rattle.jn_sets.specs.Pool.{record_in}
+use Rattle.jn_storage.specs.Storage.{IsServing, IsLoadable}
+use Rattle.jn_storage.specs.Calls.{state, TellsFlags, name_of}
+use Rattle.jn_storage.specs.Finding.{find_by}
+use Rattle.jn_store.specs.Store.{StoreView}
+use Rattle.jn_recovery.specs.Gathering.{works_on, flags_on, names_page, address_in, all_needed, MayHold, MayPromise, IsGathered}
+use Rattle.jn_recovery.specs.Kept.{memory_kept}
+use Rattle.jn_recovery.specs.Loading.{IsLoaded, IsDown, IsCleaned, Recovering, most_calls}
+use Rattle.jn_recovery.specs.Matches.{Matches, IsMade}
+use Rattle.jn_recovery.specs.Memory.{Memory, accounts_of, view_of, next_by, rubbish_in}
+use Rattle.jn_recovery.specs.Opening.{Stands, IsBegun}
+use Rattle.jn_recovery.specs.declared.gathering.Kept.{Kept as KeptParts}
+use Rattle.jn_recovery.specs.declared.load.DownCause.TheVariants.{Memory as NoMemory}
+use Rattle.jn_recovery.specs.declared.load.Found.{Found}
+use Rattle.jn_recovery.specs.declared.opening.Opened.{Opened}
+use Rattle.jn_recovery.proofs.Begins.{same_or_next_at}
+use Rattle.jn_recovery.proofs.Counted.{pages_fit, pages_once, lists_few, heads_fit, counted, none_next, holds_fit}
+use Rattle.jn_recovery.proofs.Downs.{recovering_by, memory_down}
+use Rattle.jn_recovery.proofs.FlagCalls.{tells_flags}
+use Rattle.jn_recovery.proofs.PoolCounted.{works_match, flags_match, works_name_is}
+use Rattle.jn_recovery.proofs.Serving.{Serves, serving_by, loadable_found}
+use Rattle.jn_recovery.proofs.Standing.{finds, up, consistent}
+
+-- what a recovery keeps in memory
+abbrev pub memory_at : ServerNo → ℕ → List Record → TableView → Memory
+memory_at server epoch pool u = record { server = server; epoch = epoch; records = pool; table = u; works = works_on pool; flags = flags_on pool; promised = 0 }
+
+nothing_made : (heads : List Head) (o : Option WorkState) → next_by o ≡ 0 → IsMade heads o
+nothing_made heads None e = tt
+nothing_made heads (Some s) e = λ k i lt at fresh. absurd (omega (arith, lt, e))
+
+module _ (server : ServerNo) (g : Counts) (v : StoreView) (most was : ℕ) (records : List Record) (heads : List Head) (w : StoreView) (stands : Stands server g v most was (was + 1) records heads w) (few : most ≤ most_calls g) where
+  recovering : Recovering server g v w
+  recovering = recovering_by server g v w stands.later (let c = stands.calls in omega (arith, c, few)) stands.standing.recoverable
+      (λ c. (stands.before, same_or_next_at (found_on g v stands.before) (found_on g w c) (was + 1) (stands.found c) (inr (let old = stands.old in omega (arith, old)))))
+
+  memory_gone : was < 4294967295 → IsDown server g v NoMemory w
+  memory_gone last = memory_down server g v w recovering (record { read = stands.before; before_last = subst (λ n. n < 4294967295) (sym stands.old) last })
+
+module _ (server : ServerNo) (v : StoreView) (most was : ℕ) (pool : List Record) (w : StoreView) (u : TableView) (stands : Stands server u.counts v most was (was + 1) pool u.heads w) (power : w.power ≡ true)
+    (none_left : rubbish_in pool pool ≡ []) (table : IsTable u) (held : (a : ℕ) → is_held u a ≡ list_any (names_page a) pool) (promised : u.free_heads.promised ≡ all_needed u.heads (works_on pool)) where
+  whole : IsConsistent server u.counts (held_contents u.counts w (was + 1) pool u.heads (λ n. false))
+  whole = consistent server u.counts w (was + 1) pool u.heads stands.standing
+
+  pub matches : Matches (memory_at server (was + 1) pool u) w
+  matches = record {
+    standing = stands.standing;
+    table = table;
+    works = works_match pool whole.distinct.works;
+    made = λ n. nothing_made u.heads (find_by work_eq name_of (works_on pool) n) (none_next server u.counts (was + 1) pool u (block_on u.counts (pages_by w (λ k. false))) table refl whole none_left n);
+    flags = flags_match pool whole.distinct.flags;
+    held = λ a. held a ∙ sym (works_name_is server u.counts (held_contents u.counts w (was + 1) pool u.heads (λ n. false)) whole none_left a);
+  }
+
+  serves : Serves (state_in (held_contents u.counts w (was + 1) pool u.heads (λ n. false))) (accounts_of (memory_at server (was + 1) pool u))
+  serves = record {
+    orderly = whole.loadable.orderly;
+    counted = counted server u.counts (was + 1) pool u (block_on u.counts (pages_by w (λ n. false))) table refl whole none_left stands.standing.held.slots held promised (memory_at server (was + 1) pool u) refl refl refl;
+    records_fit = omega arith;
+    heads_fit = let fit = heads_fit server u.counts (was + 1) pool u (block_on u.counts (pages_by w (λ n. false))) table refl whole none_left in omega (arith, fit, promised);
+    next_fits = λ n. let e = none_next server u.counts (was + 1) pool u (block_on u.counts (pages_by w (λ n. false))) table refl whole none_left n in omega (arith, e);
+    held_fits = holds_fit server u.counts (was + 1) pool u (block_on u.counts (pages_by w (λ n. false))) table refl whole none_left (λ slot lt. (stands.standing.held.pool slot lt).of_format.whole);
+  }
+
+  serving : IsServing (view_of (memory_at server (was + 1) pool u) w)
+  serving = serving_by (memory_at server (was + 1) pool u) w (state_in (held_contents u.counts w (was + 1) pool u.heads (λ n. false)))
+      (λ c. up server u.counts w (was + 1) pool u.heads stands.standing c ∙ finds server u.counts w (was + 1) pool u.heads stands.standing (λ n. false)) power serves
+
+  -- what some pick found before is of an epoch that has passed
+  module _ (first : IsRecoverable server u.counts v) where
+    was_given : IsLoadable server u.counts.heads (found_on u.counts v stands.before)
+    was_given = loadable_found server u.counts v first stands.before
+
+    works_before : (n : WorkId) → is_some ((state (view_of (memory_at server (was + 1) pool u) w)).works n) ≡ true → n.epoch < (state (view_of (memory_at server (was + 1) pool u) w)).epoch
+    works_before n there =
+        let given = was_given.orderly.works_given n (ap (λ (x : StableState). is_some (x.works n)) (sym (stands.found (λ k. false))) ∙ there) in
+        let past = given.past in
+        let old = stands.old in
+        subst (λ e. n.epoch < e) (sym (ap (λ (x : StableState). x.epoch) (stands.found (λ k. false)))) (omega (arith, past, old))
+
+    flags_before : (t : Tid) → is_some ((state (view_of (memory_at server (was + 1) pool u) w)).flags t) ≡ true → t.epoch < (state (view_of (memory_at server (was + 1) pool u) w)).epoch
+    flags_before t there =
+        let given = was_given.orderly.flags_given t (ap (λ (x : StableState). is_some (x.flags t)) (sym (stands.found (λ k. false))) ∙ there) in
+        let past = given.past in
+        let old = stands.old in
+        subst (λ e. t.epoch < e) (sym (ap (λ (x : StableState). x.epoch) (stands.found (λ k. false)))) (omega (arith, past, old))
+
+  within : (k : ℕ) → k < page_count u.counts → k < v.count
+  within k lt = let e = stands.standing.held.count in let f = stands.later.count in omega (arith, lt, e, f)
+
+  pub loaded : IsRecoverable server u.counts v → was < 4294967295 → most ≤ most_calls u.counts → (told : Found) → told.epoch ≡ was + 1 → told.flags ≡ flags_on pool → IsLoaded server u.counts v told (view_of (memory_at server (was + 1) pool u) w)
+  loaded first last few told epoch flags = record {
+    recovering = recovering server u.counts v most was pool u.heads w stands few;
+    server_is = refl;
+    pool = refl;
+    heads = refl;
+    leaves = refl;
+    recovered = record {
+      serving = serving;
+      promised = refl;
+      rubbish = none_left;
+      next = none_next server u.counts (was + 1) pool u (block_on u.counts (pages_by w (λ n. false))) table refl whole none_left;
+    };
+    before = stands.before;
+    found = λ c. stands.found c ∙ ap (λ k. record (found_on u.counts v stands.before) { epoch = k }) (let old = stands.old in let e : was + 1 ≡ suc (found_on u.counts v stands.before).epoch = omega (arith, old) in e);
+    epoch = epoch ∙ sym (ap (λ (x : StableState). x.epoch) (stands.found (λ n. false)));
+    flags = subst (TellsFlags (view_of (memory_at server (was + 1) pool u) w)) (sym flags) (tells_flags (memory_at server (was + 1) pool u) w matches serving);
+    epoch_fits = let fits : was + 1 < 4294967296 = omega (arith, last) in subst (λ n. n < 4294967296) (sym epoch) fits;
+    works_earlier = works_before first;
+    flags_earlier = flags_before first;
+    front = record {
+      root = stands.clean 0 (within 0 (omega arith));
+      pool = λ i lt. stands.clean (slot_place u.counts i) (within (slot_place u.counts i) (omega (arith, lt)));
+      heads = λ i lt. stands.clean (head_place u.counts i) (within (head_place u.counts i) (omega (arith, lt)));
+    };
+    front_whole = λ calm. record {
+      root = stands.whole calm 0 (within 0 (omega arith));
+      pool = λ i lt. stands.whole calm (slot_place u.counts i) (within (slot_place u.counts i) (omega (arith, lt)));
+      heads = λ i lt. stands.whole calm (head_place u.counts i) (within (head_place u.counts i) (omega (arith, lt)));
+    };
+    named = stands.standing.recoverable.clean;
+    no_stop = stands.stops;
+  }
+
+-- ---- of what the code has begun with
+
+module _ (server : ServerNo) (g : Counts) (v : StoreView) (p : Opened) (epoch : ℕ) (w : StoreView) (at : IsBegun server g v p epoch w) where
+  pub cleaned : IsCleaned v w
+  cleaned = record { clean = at.stands.clean; whole = at.stands.whole }
+
+  begins : Stands server g v (most_calls g) p.root.epoch (p.root.epoch + 1) p.sets p.table.heads w
+  begins = subst (λ n. Stands server g v (most_calls g) p.root.epoch n p.sets p.table.heads w) at.next at.stands
+
+  pub no_memory : IsDown server g v NoMemory w
+  no_memory = memory_gone server g v (most_calls g) p.root.epoch p.sets p.table.heads w begins (omega arith) at.last
+
+  all : IsConsistent server g (held_contents g w epoch p.sets p.table.heads (λ n. false))
+  all = consistent server g w epoch p.sets p.table.heads at.stands.standing
+
+  pub may_hold : MayHold p.table p.sets
+  may_hold = record {
+    loose = at.table.loose;
+    unpromised = at.table.promised_leaves;
+    size = at.table.table.leaves;
+    fit = λ i. subst (λ n. address_in (record_in p.sets i) ≤ n) (sym (ap (λ (k : Counts). k.leaves) at.table.counts)) (pages_fit server g (held_contents g w epoch p.sets p.table.heads (λ n. false)) all at.none_left i);
+    once = pages_once server g (held_contents g w epoch p.sets p.table.heads (λ n. false)) all at.none_left;
+  }
+
+  pub may_promise : MayPromise p.table (works_on p.sets)
+  may_promise =
+      let enough = heads_fit server g epoch p.sets p.table (block_on g (pages_by w (λ n. false))) at.table.table at.table.counts all at.none_left in record {
+        few = lists_few server g (held_contents g w epoch p.sets p.table.heads (λ n. false)) all at.none_left (λ slot lt. (at.stands.standing.held.pool slot lt).of_format.fits);
+        unpromised = at.table.promised_heads;
+        enough = enough;
+        fits = let le = count_by-le-length (λ free. free) p.table.free_heads.flags in let size = at.table.table.head_count in let small = at.table.table.few_heads in omega (arith, enough, le, size, small);
+      }
+
+  module _ (k : KeptParts) (server_is : k.server ≡ p.root.server) (epoch_is : k.epoch ≡ epoch) (sets : k.sets ≡ p.sets) (works : k.works.items ≡ works_on p.sets) (flags : k.flags.items ≡ flags_on p.sets)
+      (table : IsGathered p.table p.sets k.table) (is_table : IsTable k.table) where
+    memory_is : memory_kept k ≡ memory_at server (p.root.epoch + 1) p.sets k.table
+    memory_is =
+        ap (λ n. record (memory_kept k) { server = n }) (server_is ∙ ap (λ (r : Root). r.server) at.root)
+        ∙ ap (λ n. record (memory_kept k) { server = server; epoch = n }) (epoch_is ∙ at.next)
+        ∙ ap (λ l. record (memory_kept k) { server = server; epoch = p.root.epoch + 1; records = l }) sets
+        ∙ ap (λ l. record (memory_kept k) { server = server; epoch = p.root.epoch + 1; records = p.sets; works = l }) works
+        ∙ ap (λ l. record (memory_kept k) { server = server; epoch = p.root.epoch + 1; records = p.sets; works = works_on p.sets; flags = l }) flags
+
+    counts_are : k.table.counts ≡ g
+    counts_are = ap (λ (t : TableView). t.counts) table.promises ∙ table.holds.counts ∙ at.table.counts
+
+    heads_are : k.table.heads ≡ p.table.heads
+    heads_are = ap (λ (t : TableView). t.heads) table.promises ∙ table.holds.heads
+
+    held : (a : ℕ) → is_held k.table a ≡ list_any (names_page a) p.sets
+    held a = ap (λ t. is_held t a) table.promises ∙ table.holds.held a
+
+    promised : k.table.free_heads.promised ≡ all_needed k.table.heads (works_on p.sets)
+    promised = ap (λ (t : TableView). t.free_heads.promised) table.promises ∙ ap (λ l. all_needed l (works_on p.sets)) (sym heads_are)
+
+    stood : Stands server k.table.counts v (most_calls g) p.root.epoch (p.root.epoch + 1) p.sets k.table.heads w
+    stood = subst (λ c. Stands server c v (most_calls g) p.root.epoch (p.root.epoch + 1) p.sets k.table.heads w) (sym counts_are)
+        (subst (λ l. Stands server g v (most_calls g) p.root.epoch (p.root.epoch + 1) p.sets l w) (sym heads_are) begins)
+
+    pub kept_matches : Matches (memory_kept k) w
+    kept_matches = subst (λ m. Matches m w) (sym memory_is) (matches server v (most_calls g) p.root.epoch p.sets w k.table stood at.power at.none_left is_table held promised)
+
+    pub kept_loaded : IsRecoverable server g v → (told : Found) → told.epoch ≡ epoch → told.flags ≡ flags_on p.sets → IsLoaded server g v told (view_of (memory_kept k) w)
+    kept_loaded first told e f = subst (λ m. IsLoaded server g v told (view_of m w)) (sym memory_is)
+        (subst (λ c. IsLoaded server c v told (view_of (memory_at server (p.root.epoch + 1) p.sets k.table) w)) counts_are
+        (loaded server v (most_calls g) p.root.epoch p.sets w k.table stood at.power at.none_left is_table held promised
+        (subst (λ c. IsRecoverable server c v) (sym counts_are) first) at.last (subst (λ c. most_calls g ≤ most_calls c) (sym counts_are) (omega arith)) told (e ∙ at.next) f))

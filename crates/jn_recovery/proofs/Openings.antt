@@ -1,0 +1,193 @@
+-- A store is cleaned and read.
+use Rattle.std.proofs.Common.{◌≡◌, ◌≢◌, ◌<◌, ◌≤◌, ◌+◌, ◌*◌, ℕ, false, List, length, Result, Ok, Err, refl, sym, ◌∙◌, ap, subst, arith}
+use Rattle.jn_base.specs.declared.names.ServerNo.{ServerNo}
+use Rattle.jn_files.specs.declared.fault.LoadFault.{LoadFault as TableFault}
+use Rattle.jn_files.specs.declared.fault.LoadFault.TheVariants.{Stopped as TableStopped, Memory as TableMemory}
+use Rattle.jn_files.specs.Table.{TableView}
+use Rattle.jn_files.specs.Calls.{IsLoaded as IsTableLoaded, StoreRead as TableRead, counts_of}
+use Rattle.jn_files.specs.Pages.{IsLoadable}
+use Rattle.jn_files.proofs.Putting.{same_only}
+use Rattle.jn_records.specs.Pages.{root_page, IsRoot}
+use Rattle.jn_sets.specs.Pool.{IsReadable, Holds}
+use Rattle.jn_sets.specs.Sets.{StoreRead as SetsRead}
+use Rattle.jn_found.specs.Pages.{found_on, root_by, heads_on, pages_by}
+use Rattle.jn_found.specs.Puts.{IsFewer}
+use Rattle.jn_found.specs.Recoverable.{IsRecoverable}
+use Rattle.jn_found.specs.Standing.{IsStanding}
+use Rattle.jn_found.proofs.HeldLaws.{fewer_trans}
+use Rattle.jn_found.proofs.Picking.{fewer_picked, fewer_recoverable}
+use Rattle.jn_records.specs.declared.head.Head.{Head}
+use Rattle.jn_records.specs.declared.record.Record.{Record}
+use Rattle.jn_records.specs.declared.root.Root.{Root}
+use Rattle.jn_records.specs.StablePages.{Counts, page_count}
+use Rattle.jn_rows.specs.Stable.{StableState, Pick}
+use Rattle.jn_sets.specs.declared.fault.LoadFault.{LoadFault as SetsFault}
+use Rattle.jn_sets.specs.declared.fault.LoadFault.TheVariants.{Stopped as SetsStopped, Memory as SetsMemory}
+use Rattle.jn_store.specs.Store.{StoreView, StoreLater, IsSamePage, IsCalm, IsStop, IsServed, IsOnly}
+use Rattle.jn_store.proofs.Laws.{later_trans, same_shrinks, stop_since}
+use Rattle.jn_recovery.specs.Causes.{of_sets, of_table}
+use Rattle.jn_recovery.specs.Loading.{Recovering, IsDown, IsNotUsedUp, reading_calls, most_calls}
+use Rattle.jn_recovery.specs.Opening.{IsRead, Stands, RootRead, IsOpened}
+use Rattle.jn_recovery.specs.Cleaning.{CleansAll}
+use Rattle.jn_recovery.specs.declared.load.DownCause.{DownCause}
+use Rattle.jn_recovery.specs.declared.opening.Opened.{Opened}
+use Rattle.jn_recovery.specs.declared.load.DownCause.TheVariants.{Stopped, Memory, EpochsUsedUp}
+use Rattle.jn_recovery.proofs.CleanStore.{root_epoch, root_is, root_only, root_found, slots_readable, standing, loadable}
+use Rattle.jn_recovery.proofs.Downs.{recovering_fewer, stopped_down, memory_down, used_down}
+use Rattle.jn_recovery.proofs.Standing.{up, finds, standing_same}
+
+module _ (server : ServerNo) (g : Counts) (v : StoreView) where
+  pub reads_none : (u : StoreView) → IsRecoverable server g v → CleansAll v u → IsRead server g v (16 * page_count g) u
+  reads_none u before to = record {
+    later = to.later;
+    calls = let a = to.calls in let e = before.count in omega (arith, a, e);
+    fewer = to.fewer;
+    recoverable = fewer_recoverable v u to.fewer server g before;
+    clean = λ i lt. to.clean i (omega arith) (subst (λ n. i < n) to.later.count lt);
+    whole = λ calm i lt. to.whole calm i (omega arith) lt;
+  }
+
+  module _ (most : ℕ) (u : StoreView) (before : IsRead server g v most u) where
+    reads_more : (k : ℕ) (w : StoreView) → StoreLater u w → w.calls ≤ u.calls + k → ((j : ℕ) → IsSamePage u w j) → IsRead server g v (most + k) w
+    reads_more k w later calls same = record {
+      later = later_trans v u w before.later later;
+      calls = let a = before.calls in omega (arith, a, calls);
+      fewer = fewer_trans v u w before.fewer fewer;
+      recoverable = fewer_recoverable u w fewer server g before.recoverable;
+      clean = λ i lt. (same i).first ∙ before.clean i (subst (λ n. i < n) later.count lt) ∙ sym (same i).second;
+      whole = λ calm i lt. later.whole (before.later.calm calm) i (subst (λ n. i < n) (sym before.later.count) lt) (before.whole calm i lt);
+    }
+      where
+        fewer : IsFewer u w
+        fewer = record { count = later.count; shrinks = λ j lt. same_shrinks u w j (same j) }
+
+    -- the pick whose root is read
+    root_pick : (b : Pick) × ((found_on g v b).epoch ≡ root_epoch server g u before.recoverable before.clean)
+    root_pick = let h = fewer_picked v u before.fewer g (λ n. false) in (h.0, ap (λ (x : StableState). x.epoch) (sym h.1) ∙ root_found server g u before.recoverable before.clean)
+
+    not_used_up : root_epoch server g u before.recoverable before.clean < 4294967295 → IsNotUsedUp g v
+    not_used_up lt = record { read = root_pick.0; before_last = subst (λ n. n < 4294967295) (sym root_pick.1) lt }
+
+    module _ (k : ℕ) (w : StoreView) (later : StoreLater u w) (calls : w.calls ≤ u.calls + k) (same : (j : ℕ) → IsSamePage u w j) (few : most + k ≤ most_calls g) (first : IsRecoverable server g v) where
+      recovering : Recovering server g v w
+      recovering = let now = reads_more k w later calls same in recovering_fewer server g v w first now.fewer now.later (let c = now.calls in omega (arith, c, few))
+
+      stop_down : IsStop u w → (IsCalm u → ⊥) → IsDown server g v Stopped w
+      stop_down stop calm = stopped_down server g v w recovering (stop_since v u w before.later later stop) (λ quiet. calm (before.later.calm quiet))
+
+      root_down : (cause : DownCause) → RootRead (root_by server g (root_epoch server g u before.recoverable before.clean)) (Err cause) → (cause ≡ Stopped → IsStop u w) → (IsCalm u → cause ≡ Stopped → ⊥) → IsDown server g v cause w
+      root_down Stopped read stop calm = stop_down (stop refl) (λ quiet. calm quiet refl)
+      root_down Memory read stop calm = absurd read
+      root_down EpochsUsedUp read stop calm = used_down server g v w recovering (record { read = root_pick.0; last = root_pick.1 ∙ read; fewer = (reads_more k w later calls same).fewer })
+
+      sets_down : IsNotUsedUp g v → (fault : SetsFault) → (fault ≡ SetsStopped → IsStop u w) → (IsCalm u → fault ≡ SetsStopped → ⊥) → IsDown server g v (of_sets fault) w
+      sets_down left SetsStopped stop calm = stop_down (stop refl) (λ quiet. calm quiet refl)
+      sets_down left SetsMemory stop calm = memory_down server g v w recovering left
+
+      table_down : IsNotUsedUp g v → (fault : TableFault) → (fault ≡ TableStopped → IsStop u w) → (IsCalm u → fault ≡ TableStopped → ⊥) → IsDown server g v (of_table fault) w
+      table_down left TableStopped stop calm = stop_down (stop refl) (λ quiet. calm quiet refl)
+      table_down left TableMemory stop calm = memory_down server g v w recovering left
+
+    -- where root, records and heads are known
+    module _ (epoch : ℕ) (records : List Record) (heads : List Head) (standing : IsStanding server g u epoch records heads) where
+      opened_pick : (b : Pick) × ((c : Pick) → found_on g u c ≡ found_on g v b) × ((found_on g v b).epoch ≡ epoch)
+      opened_pick =
+          let h = fewer_picked v u before.fewer g (λ n. false) in
+          let all = up server g u epoch records heads standing in
+          (h.0, λ c. all c ∙ h.1, ap (λ (x : StableState). x.epoch) (sym h.1 ∙ finds server g u epoch records heads standing (λ n. false)))
+
+      pub stands : u.stops ≡ v.stops → Stands server g v most epoch epoch records heads u
+      stands stops = record {
+        later = before.later;
+        calls = before.calls;
+        stops = stops;
+        standing = standing;
+        before = opened_pick.0;
+        old = opened_pick.2;
+        found = λ c. opened_pick.1 c ∙ ap (λ k. record (found_on g v opened_pick.0) { epoch = k }) opened_pick.2;
+        clean = λ i lt. before.clean i (subst (λ n. i < n) (sym before.later.count) lt);
+        whole = before.whole;
+      }
+
+-- ---- what the code has read, step by step
+
+module _ (server : ServerNo) (g : Counts) (v : StoreView) (before : IsRecoverable server g v) (u : StoreView) (to : CleansAll v u)
+    (r : Result Root DownCause) (x : StoreView) (read : SetsRead u 1 x) (root : (root : Root) → IsRoot root → IsOnly u 0 (root_page root) → RootRead root r) where
+  abbrev cleaned : IsRead server g v (16 * page_count g) u
+  cleaned = reads_none server g v u before to
+
+  abbrev its_epoch : ℕ
+  its_epoch = root_epoch server g u cleaned.recoverable cleaned.clean
+
+  root_read : RootRead (root_by server g its_epoch) r
+  root_read = root (root_by server g its_epoch) (root_is server g u cleaned.recoverable cleaned.clean) (root_only server g u cleaned.recoverable cleaned.clean)
+
+  pub root_exit : (cause : DownCause) → r ≡ Err cause → (r ≡ Err Stopped → IsStop u x) → (IsCalm u → r ≢ Err Stopped) → IsDown server g v cause x
+  root_exit cause is stop calm = root_down server g v (16 * page_count g) u cleaned (8 * 1) x read.later read.calls read.same (omega arith) before cause (subst (RootRead (root_by server g its_epoch)) is root_read)
+      (λ e. stop (is ∙ ap (λ (k : DownCause). Err k) e)) (λ quiet e. calm quiet (is ∙ ap (λ (k : DownCause). Err k) e))
+
+  module _ (o : Root) (is : r ≡ Ok o) where
+    good : (o ≡ root_by server g its_epoch) × (its_epoch < 4294967295)
+    good = subst (RootRead (root_by server g its_epoch)) is root_read
+
+    left : IsNotUsedUp g v
+    left = not_used_up server g v (16 * page_count g) u cleaned good.1
+
+    with_root : IsRead server g v (16 * page_count g + 8 * 1) x
+    with_root = reads_more server g v (16 * page_count g) u cleaned (8 * 1) x read.later read.calls read.same
+
+    pool_is : o.pool ≡ g.pool
+    pool_is = ap (λ (k : Root). k.pool) good.0
+
+    pub heads_is : o.heads ≡ g.heads
+    heads_is = ap (λ (k : Root). k.heads) good.0
+
+    pub counts_fit : (y : StoreView) → y.count ≡ x.count → y.count ≡ 1 + o.pool + o.heads + o.leaves
+    counts_fit y e = e ∙ sym with_root.recoverable.count ∙ ap (λ (k : Root). 1 + k.pool + k.heads + k.leaves) (sym good.0)
+
+    pub readable : (slot : ℕ) → slot < o.pool → IsReadable x slot
+    readable slot lt = slots_readable server g x with_root.recoverable with_root.clean slot (subst (λ n. slot < n) pool_is lt)
+
+    module _ (y : StoreView) (more : SetsRead x o.pool y) where
+      pub sets_exit : (fault : SetsFault) → (fault ≡ SetsStopped → IsStop x y) → (IsCalm x → fault ≡ SetsStopped → ⊥) → IsDown server g v (of_sets fault) y
+      sets_exit fault stop calm = sets_down server g v (16 * page_count g + 8 * 1) x with_root (8 * o.pool) y more.later more.calls more.same (let e = pool_is in omega (arith, e)) before left fault stop calm
+
+      with_pool : IsRead server g v (16 * page_count g + 8 * 1 + 8 * o.pool) y
+      with_pool = reads_more server g v (16 * page_count g + 8 * 1) x with_root (8 * o.pool) y more.later more.calls more.same
+
+      root_here : IsOnly y 0 (root_page (root_by server g its_epoch))
+      root_here = same_only x y 0 _ (more.same 0) (same_only u x 0 _ (read.same 0) (root_only server g u cleaned.recoverable cleaned.clean))
+
+      module _ (records : List Record) (size : length records ≡ o.pool) (hold : Holds records y) where
+        stood : IsStanding server g y its_epoch records (heads_on g (pages_by y (λ n. false)))
+        stood = standing server g y with_pool.recoverable with_pool.clean its_epoch (root_is server g u cleaned.recoverable cleaned.clean) root_here records (size ∙ pool_is) hold
+
+        pub heads_loadable : IsLoadable (counts_of o) (heads_on g (pages_by y (λ n. false))) y
+        heads_loadable = subst (λ (k : Root). IsLoadable (counts_of k) (heads_on g (pages_by y (λ n. false))) y) (sym good.0)
+            (loadable server g y with_pool.recoverable with_pool.clean its_epoch (root_is server g u cleaned.recoverable cleaned.clean) root_here records (size ∙ pool_is) hold)
+
+        module _ (z : StoreView) (last : TableRead y o.heads z) where
+          few : 16 * page_count g + 8 * 1 + 8 * o.pool + 8 * o.heads ≤ most_calls g
+          few = let e = pool_is in let f = heads_is in omega (arith, e, f)
+
+          pub table_exit : (fault : TableFault) → (fault ≡ TableStopped → IsStop y z) → (IsCalm y → fault ≡ TableStopped → ⊥) → IsDown server g v (of_table fault) z
+          table_exit fault stop calm = table_down server g v (16 * page_count g + 8 * 1 + 8 * o.pool) y with_pool (8 * o.heads) z last.later last.calls last.same few before left fault stop calm
+
+          with_heads : IsRead server g v (reading_calls g) z
+          with_heads = subst (λ n. IsRead server g v n z) (let e = pool_is in let f = heads_is in omega (arith, e, f))
+              (reads_more server g v (16 * page_count g + 8 * 1 + 8 * o.pool) y with_pool (8 * o.heads) z last.later last.calls last.same)
+
+          pub opened : (t : TableView) → IsTableLoaded (counts_of o) t → ((l : List Head) → IsLoadable (counts_of o) l y → t.heads ≡ l) → IsServed u x → y.stops ≡ x.stops → z.stops ≡ y.stops → (w : Opened) → w.root ≡ o → w.sets ≡ records → w.table ≡ t → IsOpened server g v w z
+          opened t loaded heads one two three w a b c = record {
+            root = a ∙ good.0 ∙ ap (root_by server g) (sym (ap (λ (k : Root). k.epoch) (a ∙ good.0)));
+            last = subst (λ n. n < 4294967295) (sym (ap (λ (k : Root). k.epoch) (a ∙ good.0))) good.1;
+            table = subst (IsTableLoaded g) (sym c) (subst (λ (k : Root). IsTableLoaded (counts_of k) t) good.0 loaded);
+            stands = stands server g v (reading_calls g) z with_heads w.root.epoch w.sets w.table.heads now
+                (three ∙ two ∙ one.stops ∙ to.stops);
+          }
+            where
+              now : IsStanding server g z w.root.epoch w.sets w.table.heads
+              now = subst (λ n. IsStanding server g z n w.sets w.table.heads) (sym (ap (λ (k : Root). k.epoch) (a ∙ good.0)))
+                  (subst (λ l. IsStanding server g z its_epoch l w.table.heads) (sym b)
+                  (subst (λ l. IsStanding server g z its_epoch records l) (sym (ap (λ (k : TableView). k.heads) c ∙ heads (heads_on g (pages_by y (λ n. false))) heads_loadable))
+                  (standing_same server g y its_epoch records (heads_on g (pages_by y (λ n. false))) stood z (record { count = last.later.count; pages = last.same }))))

@@ -1,0 +1,21 @@
+-- What cleaning a store's pages does.
+use Rattle.std.specs.Prelude.{◌≡◌, ℕ, ◌+◌, ◌-◌, ◌*◌, ◌≤◌, ◌<◌, true}
+use Rattle.jn_found.specs.Puts.{IsFewer}
+use Rattle.jn_store.specs.Store.{StoreView, StoreLater, IsCalm, IsClean, IsWhole}
+
+-- so many pages of a store are cleaned, from one on
+pub record Cleans (v : StoreView) (from to : ℕ) (w : StoreView) : Type 0 where
+  pub order : from ≤ to
+  pub later : StoreLater v w
+  pub calls : w.calls ≤ v.calls + 16 * (to - from)
+  pub fewer : IsFewer v w
+  pub clean : (i : ℕ) → from ≤ i → i < to → IsClean w i
+  pub whole : IsCalm v → (i : ℕ) → from ≤ i → i < to → IsWhole w i
+  pub stops : w.stops ≡ v.stops
+  pub power : v.power ≡ true → w.power ≡ true
+  -- the first cleanup is done only under power
+  pub powered : from < to → w.power ≡ true
+
+-- all of them
+abbrev pub CleansAll : StoreView → StoreView → Type 0
+CleansAll v w = Cleans v 0 v.count w

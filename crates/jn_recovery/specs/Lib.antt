@@ -1,0 +1,9 @@
+pub mod Memory
+pub mod Matches
+pub mod Pages
+pub mod Cleaning
+pub mod Gathering
+pub mod Loading
+pub mod Opening
+pub mod Causes
+pub mod Kept

@@ -1,0 +1,91 @@
+-- What a recovery does, from its store before to the storage, or where there is none to the store that it gives back.
+use Rattle.std.specs.Prelude.{◌≡◌, ◌≢◌, ◌⊎◌, ◌≤◌, ◌<◌, ◌+◌, ◌*◌, ◌^◌, ℕ, suc, true, is_some}
+use Rattle.jn_base.specs.declared.names.ServerNo.{ServerNo}
+use Rattle.jn_base.specs.declared.names.Tid.{Tid}
+use Rattle.jn_base.specs.declared.names.WorkId.{WorkId}
+use Rattle.jn_found.specs.Pages.{found_on}
+use Rattle.jn_found.specs.Puts.{IsFewer, IsFrontClean, IsFrontWhole}
+use Rattle.jn_found.specs.Recoverable.{IsRecoverable, NamedAreClean}
+use Rattle.jn_found.specs.Recovery.{FindsSame}
+use Rattle.jn_records.specs.StablePages.{Counts, page_count}
+use Rattle.jn_rows.specs.Stable.{StableState, Pick}
+use Rattle.jn_storage.specs.Storage.{StorageView, IsRecovered}
+use Rattle.jn_storage.specs.Calls.{state, TellsFlags}
+use Rattle.jn_store.specs.Store.{StoreView, StoreLater, IsCalm, IsClean, IsWhole, IsStop}
+use Rattle.jn_recovery.specs.declared.load.DownCause.{DownCause}
+use Rattle.jn_recovery.specs.declared.load.DownCause.TheVariants.{Stopped, Memory, EpochsUsedUp}
+use Rattle.jn_recovery.specs.declared.load.Found.{Found}
+use Rattle.jn_recovery.specs.declared.counts.PageCounts.{PageCounts}
+
+-- the numbers that a server is given
+abbrev pub counts_by : PageCounts → Counts
+counts_by n = record { pool = n.pool; heads = n.heads; leaves = n.leaves }
+
+-- the same files, works and flags, in the same epoch or the next one
+pub record IsSameOrNext (x y : StableState) : Type 0 where
+  pub same : y ≡ record x { epoch = y.epoch }
+  pub epoch : (y.epoch ≡ x.epoch) ⊎ (y.epoch ≡ suc x.epoch)
+
+-- Each page is cleaned, and the root, the records and the heads are read.
+abbrev pub reading_calls : Counts → ℕ
+reading_calls g = 16 * page_count g + 8 * (1 + g.pool + g.heads)
+
+-- The root, and each record at most, are put.
+abbrev pub most_calls : Counts → ℕ
+most_calls g = reading_calls g + 16 * (1 + g.pool)
+
+-- What a recovery leaves, however it ended: the next one may begin there, and by each pick it finds what some pick found
+-- before, in the same epoch or the next.
+pub record Recovering (server : ServerNo) (g : Counts) (v w : StoreView) : Type 0 where
+  pub later : StoreLater v w
+  pub calls : w.calls ≤ v.calls + most_calls g
+  pub recoverable : IsRecoverable server g w
+  pub each : (c : Pick) → (b : Pick) × IsSameOrNext (found_on g v b) (found_on g w c)
+  pub finds : FindsSame g v w
+
+-- There is a storage, of what some pick found before, in the next epoch. Root, records and heads are clean, and so is each
+-- data page that a head or a prepared work names; of the others nothing is said.
+pub record IsLoaded (server : ServerNo) (g : Counts) (v : StoreView) (told : Found) (w : StorageView) : Type 0 where
+  pub recovering : Recovering server g v w.store
+  pub server_is : w.accounts.server ≡ server
+  pub pool : w.accounts.pool ≡ g.pool
+  pub heads : w.accounts.heads ≡ g.heads
+  pub leaves : w.accounts.leaves ≡ g.leaves
+  pub recovered : IsRecovered w
+  -- one state, whatever is picked now
+  pub before : Pick
+  pub found : (c : Pick) → w.found c ≡ record (found_on g v before) { epoch = suc (found_on g v before).epoch }
+  pub epoch : told.epoch ≡ (state w).epoch
+  pub epoch_fits : told.epoch < 2 ^ 32
+  pub flags : TellsFlags w told.flags
+  -- what is found is of earlier epochs
+  pub works_earlier : (work : WorkId) → is_some ((state w).works work) ≡ true → work.epoch < (state w).epoch
+  pub flags_earlier : (t : Tid) → is_some ((state w).flags t) ≡ true → t.epoch < (state w).epoch
+  pub front : IsFrontClean g w.store
+  pub front_whole : IsCalm v → IsFrontWhole g w.store
+  pub named : NamedAreClean g w.store
+  pub no_stop : w.store.stops ≡ v.stops
+
+-- each page was cleaned, also where nothing names it
+pub record IsCleaned (v w : StoreView) : Type 0 where
+  pub clean : (i : ℕ) → i < v.count → IsClean w i
+  pub whole : IsCalm v → (i : ℕ) → i < v.count → IsWhole w i
+
+-- the root that was read has the last epoch, and nothing was put but by cleanups
+pub record IsUsedUp (g : Counts) (v w : StoreView) : Type 0 where
+  pub read : Pick
+  pub last : (found_on g v read).epoch ≡ 4294967295
+  pub fewer : IsFewer v w
+
+-- the root that was read has an epoch before the last
+pub record IsNotUsedUp (g : Counts) (v : StoreView) : Type 0 where
+  pub read : Pick
+  pub before_last : (found_on g v read).epoch < 4294967295
+
+-- There is no storage.
+pub record IsDown (server : ServerNo) (g : Counts) (v : StoreView) (cause : DownCause) (w : StoreView) : Type 0 where
+  pub recovering : Recovering server g v w
+  pub stop : cause ≡ Stopped → IsStop v w
+  pub calm : IsCalm v → cause ≢ Stopped
+  pub used_up : cause ≡ EpochsUsedUp → IsUsedUp g v w
+  pub memory : cause ≡ Memory → IsNotUsedUp g v

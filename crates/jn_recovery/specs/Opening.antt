@@ -1,0 +1,98 @@
+-- What stands on the store while a recovery goes on: v is the store that it was given.
+use Rattle.std.specs.Prelude.{◌≡◌, ◌≤◌, ◌<◌, ◌+◌, ◌*◌, ℕ, true, List, [], Result, Ok, Err}
+use Rattle.jn_base.specs.declared.names.ServerNo.{ServerNo}
+use Rattle.jn_files.specs.Calls.{IsLoaded as IsTableLoaded}
+use Rattle.jn_found.specs.Pages.{found_on, root_by}
+use Rattle.jn_found.specs.Standing.{IsStanding, standing_state}
+use Rattle.jn_found.specs.Recoverable.{IsRecoverable}
+use Rattle.jn_found.specs.Puts.{IsFewer}
+use Rattle.jn_records.specs.declared.head.Head.{Head}
+use Rattle.jn_records.specs.declared.record.Record.{Record}
+use Rattle.jn_records.specs.declared.root.Root.{Root}
+use Rattle.jn_records.specs.StablePages.{Counts}
+use Rattle.jn_rows.specs.Stable.{Pick, Unchanged}
+use Rattle.jn_store.specs.Store.{StoreView, StoreLater, IsCalm, IsClean, IsWhole, IsStop}
+use Rattle.jn_recovery.specs.Loading.{reading_calls, most_calls}
+use Rattle.jn_recovery.specs.Memory.{rubbish_in}
+use Rattle.jn_recovery.specs.declared.load.DownCause.{DownCause}
+use Rattle.jn_recovery.specs.declared.load.DownCause.TheVariants.{Stopped, Memory, EpochsUsedUp}
+use Rattle.jn_recovery.specs.declared.opening.Opened.{Opened}
+
+-- ---- the root
+
+-- a root is read, unless its epoch is the last
+abbrev pub RootRead : Root → Result Root DownCause → Type 0
+RootRead root (Ok r) = (r ≡ root) × (root.epoch < 4294967295)
+RootRead root (Err Stopped) = Unit {0}
+RootRead root (Err EpochsUsedUp) = root.epoch ≡ 4294967295
+RootRead root (Err Memory) = ⊥
+
+abbrev pub next_root : Root → Root
+next_root r = record r { epoch = r.epoch + 1 }
+
+-- ---- the store
+
+-- each page was cleaned, and pages were read
+pub record IsRead (server : ServerNo) (g : Counts) (v : StoreView) (most : ℕ) (w : StoreView) : Type 0 where
+  pub later : StoreLater v w
+  pub calls : w.calls ≤ v.calls + most
+  pub fewer : IsFewer v w
+  pub recoverable : IsRecoverable server g w
+  pub clean : (i : ℕ) → i < w.count → IsClean w i
+  pub whole : IsCalm v → (i : ℕ) → i < v.count → IsWhole w i
+
+-- The store stands, and each pick finds what one pick found before, which had one epoch, with another.
+pub record Stands (server : ServerNo) (g : Counts) (v : StoreView) (most was epoch : ℕ) (records : List Record) (heads : List Head) (w : StoreView) : Type 0 where
+  pub later : StoreLater v w
+  pub calls : w.calls ≤ v.calls + most
+  pub stops : w.stops ≡ v.stops
+  pub standing : IsStanding server g w epoch records heads
+  pub before : Pick
+  pub old : (found_on g v before).epoch ≡ was
+  pub found : (c : Pick) → found_on g w c ≡ record (found_on g v before) { epoch = epoch }
+  pub clean : (i : ℕ) → i < v.count → IsClean w i
+  pub whole : IsCalm v → (i : ℕ) → i < v.count → IsWhole w i
+
+-- each page was cleaned, and the root, the records and the heads were read
+pub record IsOpened (server : ServerNo) (g : Counts) (v : StoreView) (o : Opened) (w : StoreView) : Type 0 where
+  pub root : o.root ≡ root_by server g o.root.epoch
+  pub last : o.root.epoch < 4294967295
+  pub table : IsTableLoaded g o.table
+  pub stands : Stands server g v (reading_calls g) o.root.epoch o.root.epoch o.sets o.table.heads w
+
+-- ---- rubbish
+
+-- so many records at most were erased, each by one put that changes nothing that is found
+pub record Erases (server : ServerNo) (g : Counts) (v : StoreView) (epoch : ℕ) (heads : List Head) (most : ℕ) (records : List Record) (w : StoreView) : Type 0 where
+  pub later : StoreLater v w
+  pub calls : w.calls ≤ v.calls + 16 * most
+  pub stops : w.stops ≡ v.stops
+  pub power : v.power ≡ true → w.power ≡ true
+  pub standing : IsStanding server g w epoch records heads
+  pub unchanged : Unchanged (standing_state g v) (found_on g w)
+  pub clean : (i : ℕ) → i < v.count → IsClean v i → IsClean w i
+
+-- one more was stopped
+pub record EraseStopped (server : ServerNo) (g : Counts) (v : StoreView) (most : ℕ) (w : StoreView) : Type 0 where
+  pub later : StoreLater v w
+  pub calls : w.calls ≤ v.calls + 16 * most
+  pub stop : IsStop v w
+  pub recoverable : IsRecoverable server g w
+  pub unchanged : Unchanged (standing_state g v) (found_on g w)
+
+-- no record is rubbish any more
+pub record ErasesAll (server : ServerNo) (g : Counts) (v : StoreView) (epoch : ℕ) (heads : List Head) (records : List Record) (w : StoreView) : Type 0 where
+  pub erases : Erases server g v epoch heads g.pool records w
+  pub none_left : rubbish_in records records ≡ []
+
+-- ---- a new epoch
+
+-- the root has the next epoch, and no record is rubbish
+pub record IsBegun (server : ServerNo) (g : Counts) (v : StoreView) (o : Opened) (epoch : ℕ) (w : StoreView) : Type 0 where
+  pub root : o.root ≡ root_by server g o.root.epoch
+  pub last : o.root.epoch < 4294967295
+  pub next : epoch ≡ o.root.epoch + 1
+  pub table : IsTableLoaded g o.table
+  pub stands : Stands server g v (most_calls g) o.root.epoch epoch o.sets o.table.heads w
+  pub power : w.power ≡ true
+  pub none_left : rubbish_in o.sets o.sets ≡ []
