@@ -1,6 +1,8 @@
 -- What is known where the answer is the stored block's.
-use Rattle.std.proofs.Common.{◌≡◌, ℕ, false, List, [], ◌∷◌, Option, Some, None, Result, Ok, Err, IsErr, refl, sym, ◌∙◌, ap, subst, arith}
+use Rattle.std.proofs.Common.{◌≡◌, ℕ, false, List, [], ◌∷◌, Option, Some, None, Result, Ok, Err, refl, sym, ◌∙◌, ap, subst, arith}
 use Rattle.std.specs.Prelude.{is_some, is_ok}
+use Rattle.std.specs.Result.{IsErrAnd}
+use Rattle.std.proofs.lemmas.Result.{err_from_is_err_and}
 use Rattle.jn_base.specs.declared.names.FileNo.{FileNo}
 use Rattle.jn_base.specs.declared.names.BlockNo.{BlockNo}
 use Rattle.jn_base.specs.declared.names.LockUnit.TheVariants.{File, Block}
@@ -14,7 +16,9 @@ use Rattle.jn_records.specs.declared.intention.Intention.{Intention}
 use Rattle.jn_records.specs.NetLists.{list_change, answered, block_of}
 use Rattle.jn_storage.specs.Storage.{StorageView}
 use Rattle.jn_storage.specs.Calls.{state, Called}
-use Rattle.jn_storage.specs.Viewing.{reads_stored, Viewed, ReadOrZeros}
+use Rattle.jn_storage.specs.declared.faults.ViewFault.{ViewFault}
+use Rattle.jn_storage.specs.declared.faults.ViewFault.TheVariants.{Stopped as Stops, Memory}
+use Rattle.jn_storage.specs.Viewing.{reads_stored, Viewed, ReadOrZeros, served}
 
 -- files with these bytes in every block
 abbrev pub filled : Files → List ℕ → Files
@@ -34,10 +38,10 @@ says-nothing list (Read f p) files h e = by (list_change list (Block f p)) refl
     by None q = grind (arith, e, q)
     by (Some y) q = absurd (let a = h (filled files []) refl in let b = h (filled files (1 ∷ [])) refl in grind (arith, q))
 
--- the answer that a block read gives
-pub viewed-block : (list : List Intention) (op : Op) (v w : StorageView) (r : Result (List ℕ) Stopped) (a : Result Answer Stopped) → ReadOrZeros v (file_of op) (block_of op) r w
+-- the answer that a block read gives, or there is no memory for it
+pub viewed-block : (list : List Intention) (op : Op) (v w : StorageView) (r : Result (List ℕ) Stopped) (a : Result Answer ViewFault) → ReadOrZeros v (file_of op) (block_of op) r w
     → ((other : Files) → is_some (other (File (file_of op))) ≡ is_some ((state v).files (File (file_of op))) → answer_to op (change (list_change list) other) ≡ answered None op other)
-    → is_ok a ≡ is_ok r → ((x : Answer) → a ≡ Ok x → (block : List ℕ) × (r ≡ Ok block) × (x ≡ Found block)) → Viewed list v op a w
+    → served a ≡ is_ok r → ((x : Answer) → a ≡ Ok x → (block : List ℕ) × (r ≡ Ok block) × (x ≡ Found block)) → Viewed list v op a w
 viewed-block list op v w r a read none same gives = record {
   answered = λ x e. let g = gives x e in g.2 ∙ ap Found (read.found g.0 g.1) ∙ sym (none (state v).files refl);
   called = subst (λ b. Called v 24 b w) (sym same) read.called;
@@ -46,25 +50,31 @@ viewed-block list op v w r a read none same gives = record {
   others = λ h. let o = read.others (says-nothing list op (state v).files none h) in (same ∙ o.0, o.1);
 }
 
-pub not_ok : {A E : Type 0} (r : Result A E) → IsErr r → is_ok r ≡ false
-not_ok (Ok x) h = absurd (cc h)
-not_ok (Err e) h = refl
+not_ok_is : {A E : Type 0} (a : Result A E) (e : E) (x : A) → a ≡ Err e → a ≡ Ok x → ⊥
+not_ok_is a e x h g = cc (sym h ∙ g)
 
-pub not_ok_is : {A E : Type 0} (r : Result A E) (x : A) → is_ok r ≡ false → r ≡ Ok x → ⊥
-not_ok_is r x h e = cc (sym h ∙ ap is_ok e)
+error-is : {A E : Type 0} (a : Result A E) (e : E) → IsErrAnd a (λ fault. fault ≡ e) → a ≡ Err e
+error-is a e h = let x = err_from_is_err_and a h in x.1 ∙ ap Err x.2
 
 ok_same : {A E : Type 0} (x y : A) (r : Result A E) → r ≡ Ok x → r ≡ Ok y → x ≡ y
 ok_same x y (Ok z) e f = grind (arith, e, f)
 ok_same x y (Err z) e f = absurd (cc e)
 
-pub viewed-stopped : (list : List Intention) (op : Op) (v w : StorageView) (f : FileNo) (p : BlockNo) (e : Stopped) (a : Result Answer Stopped) → f ≡ file_of op → p ≡ block_of op → ReadOrZeros v f p (Err e) w
-    → ((other : Files) → is_some (other (File (file_of op))) ≡ is_some ((state v).files (File (file_of op))) → answer_to op (change (list_change list) other) ≡ answered None op other)
-    → IsErr a → Viewed list v op a w
-viewed-stopped list op v w f p e a same_f same_p read none err = viewed-block list op v w (Err e) a (subst (λ q. ReadOrZeros v (file_of op) q (Err e) w) same_p (subst (λ g. ReadOrZeros v g p (Err e) w) same_f read)) none
-    (not_ok a err) (λ x g. absurd (not_ok_is a x (not_ok a err) g))
+read-as : (op : Op) (v w : StorageView) (f : FileNo) (p : BlockNo) (r : Result (List ℕ) Stopped) → f ≡ file_of op → p ≡ block_of op → ReadOrZeros v f p r w → ReadOrZeros v (file_of op) (block_of op) r w
+read-as op v w f p r same_f same_p read = subst (λ q. ReadOrZeros v (file_of op) q r w) same_p (subst (λ g. ReadOrZeros v g p r w) same_f read)
 
-pub viewed-found : (list : List Intention) (op : Op) (v w : StorageView) (f : FileNo) (p : BlockNo) (block : List ℕ) → f ≡ file_of op → p ≡ block_of op → ReadOrZeros v f p (Ok block) w
+pub viewed-stopped : (list : List Intention) (op : Op) (v w : StorageView) (f : FileNo) (p : BlockNo) (e : Stopped) (a : Result Answer ViewFault) → f ≡ file_of op → p ≡ block_of op → ReadOrZeros v f p (Err e) w
     → ((other : Files) → is_some (other (File (file_of op))) ≡ is_some ((state v).files (File (file_of op))) → answer_to op (change (list_change list) other) ≡ answered None op other)
-    → Viewed list v op (Ok (Found block)) w
-viewed-found list op v w f p block same_f same_p read none = viewed-block list op v w (Ok block) (Ok (Found block)) (subst (λ q. ReadOrZeros v (file_of op) q (Ok block) w) same_p (subst (λ g. ReadOrZeros v g p (Ok block) w) same_f read)) none
-    refl (λ x g. (block, refl, ok_same x (Found block) (Ok (Found block)) g refl))
+    → IsErrAnd a (λ fault. fault ≡ Stops) → Viewed list v op a w
+viewed-stopped list op v w f p e a same_f same_p read none err = viewed-block list op v w (Err e) a (read-as op v w f p (Err e) same_f same_p read) none (ap served (error-is a Stops err)) (λ x g. absurd (not_ok_is a Stops x (error-is a Stops err) g))
+
+pub viewed-without : (list : List Intention) (op : Op) (v w : StorageView) (f : FileNo) (p : BlockNo) (block : List ℕ) (a : Result Answer ViewFault) → f ≡ file_of op → p ≡ block_of op → ReadOrZeros v f p (Ok block) w
+    → ((other : Files) → is_some (other (File (file_of op))) ≡ is_some ((state v).files (File (file_of op))) → answer_to op (change (list_change list) other) ≡ answered None op other)
+    → IsErrAnd a (λ fault. fault ≡ Memory) → Viewed list v op a w
+viewed-without list op v w f p block a same_f same_p read none err = viewed-block list op v w (Ok block) a (read-as op v w f p (Ok block) same_f same_p read) none (ap served (error-is a Memory err)) (λ x g. absurd (not_ok_is a Memory x (error-is a Memory err) g))
+
+pub viewed-found : (list : List Intention) (op : Op) (v w : StorageView) (f : FileNo) (p : BlockNo) (block bytes : List ℕ) → f ≡ file_of op → p ≡ block_of op → ReadOrZeros v f p (Ok block) w
+    → ((other : Files) → is_some (other (File (file_of op))) ≡ is_some ((state v).files (File (file_of op))) → answer_to op (change (list_change list) other) ≡ answered None op other)
+    → bytes ≡ block → Viewed list v op (Ok (Found bytes)) w
+viewed-found list op v w f p block bytes same_f same_p read none kept = viewed-block list op v w (Ok block) (Ok (Found bytes)) (read-as op v w f p (Ok block) same_f same_p read) none
+    refl (λ x g. (block, refl, ok_same x (Found bytes) (Ok (Found bytes)) g refl ∙ ap Found kept))

@@ -1,8 +1,8 @@
-//! Why a work isn't prepared, or a flag not promised.
+//! Why a work isn't prepared, a flag not promised, or a file not seen.
 
 ghost use Rattle.std.specs.Prelude.{◌≡◌};
 
-use jn_base::Short;
+use jn_base::{Short, Stopped};
 use std::alloc::AllocError;
 
 /// Why a work isn't prepared. Only after `Stopped` may anything have changed.
@@ -29,6 +29,15 @@ pub enum PromiseFault {
     Memory,
 }
 
+/// Why a file isn't seen.
+#[derive(Clone, Copy, Debug, PartialEq, Eq, Drop)]
+pub enum ViewFault {
+    /// The device has no power.
+    Stopped,
+    /// There is no memory for the bytes of the block.
+    Memory,
+}
+
 impl From<AllocError> for PrepareFault {
     ghost use Rattle.jn_storage.specs.declared.faults.PrepareFault.TheVariants.{Memory};
 
@@ -46,5 +55,25 @@ impl From<AllocError> for PromiseFault {
 
     fn from(_e: AllocError) -> PromiseFault {
         PromiseFault::Memory
+    }
+}
+
+impl From<AllocError> for ViewFault {
+    ghost use Rattle.jn_storage.specs.declared.faults.ViewFault.TheVariants.{Memory};
+
+    ghost from_gives = { λ _ e. e ≡ Memory };
+
+    fn from(_e: AllocError) -> ViewFault {
+        ViewFault::Memory
+    }
+}
+
+impl From<Stopped> for ViewFault {
+    ghost use Rattle.jn_storage.specs.declared.faults.ViewFault.TheVariants.{Stopped as Stops};
+
+    ghost from_gives = { λ _ e. e ≡ Stops };
+
+    fn from(_e: Stopped) -> ViewFault {
+        ViewFault::Stopped
     }
 }

@@ -6,23 +6,29 @@ ghost use Rattle.jn_storage.specs.Storage.{IsServing, file_there, needed};
 ghost use Rattle.jn_storage.specs.Calls.{state};
 ghost use Rattle.jn_storage.specs.Viewing.{BlockInRange, Viewed, ReadOrZeros};
 
-use crate::StoredFiles;
-use jn_base::{Answer, Block, BlockNo, FileNo, Op, Stopped};
+use crate::{StoredFiles, ViewFault};
+use jn_base::{Answer, Block, BlockContent, BlockNo, FileNo, Op, Stopped};
 use jn_records::{Intention, Need, NetList, needs_head, puts_in};
+use std::alloc::Global;
 
 /// The answer to an operation on the files with the list's intentions carried out. The device is asked
-/// only for a stored block of which the list says nothing.
-pub fn view<W: StoredFiles>(net: &NetList, files: &mut W, op: &Op) -> Result<Answer, Stopped>
+/// only for a stored block of which the list says nothing, and only the bytes of a block take memory.
+pub fn view<W: StoredFiles>(
+    alloc: Global,
+    net: &NetList,
+    files: &mut W,
+    op: &Op,
+) -> Result<Answer, ViewFault>
     requires serving { IsServing (W.view files.old) }
     requires range { BlockInRange op.now }
     ensures viewed { Viewed net.now (W.view files.old) op.now result (W.view files.new) }
 {
     let stored = files.file_there(file_of(op));
-    if let Some(answer) = net.answer(op, stored) {
+    if let Some(answer) = net.answer(alloc, op, stored)? {
         return Ok(answer);
     }
     let block = read_or_zeros(files, file_of(op), block_of(op))?;
-    Ok(Answer::Read(block))
+    Ok(Answer::Read(BlockContent::from_block(alloc, &block)?))
 }
 
 /// What a list needs where it is prepared.

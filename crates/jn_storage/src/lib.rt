@@ -11,6 +11,6 @@ mod faults;
 mod files;
 mod storage;
 
-pub use faults::{PrepareFault, PromiseFault};
+pub use faults::{PrepareFault, PromiseFault, ViewFault};
 pub use files::{need, view};
 pub use storage::{FlagStore, Storage, StoredFiles, WorkStore};
