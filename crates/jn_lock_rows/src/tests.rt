@@ -1,7 +1,7 @@
 //! What operations want, and units put in their places.
 
 use super::*;
-use jn_base::{BlockNo, FileNo, LockUnit, Op};
+use jn_base::{BlockContent, BlockNo, FileNo, LockUnit, Op};
 use jn_locks::{Mode, Want};
 use std::test::Fail;
 
@@ -32,7 +32,7 @@ fn operations_want_their_file_and_what_they_touch(rt: HostRuntime) -> Result<(),
             want(block(7, 3), Mode::Read),
         ),
         (
-            Op::Write(FileNo(7), BlockNo(3), [0; 448]),
+            Op::Write(FileNo(7), BlockNo(3), BlockContent::new(rt.alloc(), &[])?),
             want(block(7, 3), Mode::IntentionWrite),
         ),
     ];
