@@ -10,7 +10,7 @@ use Rattle.jn_report.specs.declared.line.Refusal.TheVariants as refusals
 use Rattle.jn_report.specs.declared.line.Text.{Text}
 use Rattle.jn_report.specs.declared.line.Text.TheVariants as says
 use Rattle.jn_report.specs.declared.line.Line.{Line}
-use Rattle.jn_serial.specs.declared.files.Performed.{Performed}
+use Rattle.jn_replay.specs.declared.files.Performed.{Performed}
 use Rattle.jn_serial.specs.Lines.{event_at}
 use Rattle.jn_serial.specs.Order.{performed_in, answered, answered_by, owner_after, ops_from, ops_of, files_then, replay, GivesAnswers, AgreesFrom}
 use Rattle.jn_serial.proofs.Growth.{event_at-front}
@@ -105,12 +105,3 @@ AgreesFrom-more files es ls (u ∷ ts) t a g = (a.0, AgreesFrom-more (files_then
 pub replay-more : (files : AllFiles) (es : List Event) (ls : List Line) (ts : List Tid) (t : Tid) → replay files es ls (ts ++ t ∷ []) ≡ files_then (ops_of es ls t) (replay files es ls ts)
 replay-more files es ls [] t = refl
 replay-more files es ls (u ∷ ts) t = replay-more (files_then (ops_of es ls u) files) es ls ts t
-
--- one more operation
-pub GivesAnswers-more : (files : AllFiles) (ps : List Performed) (p : Performed) → GivesAnswers files ps → answer_to p.op (files_then ps files p.server) ≡ p.answer → GivesAnswers files (ps ++ p ∷ [])
-GivesAnswers-more files [] p g a = (a, tt)
-GivesAnswers-more files (q ∷ ps) p g a = (g.0, GivesAnswers-more (all_files_after q.server q.op files) ps p g.1 a)
-
-pub files_then-more : (files : AllFiles) (ps : List Performed) (p : Performed) → files_then (ps ++ p ∷ []) files ≡ all_files_after p.server p.op (files_then ps files)
-files_then-more files [] p = refl
-files_then-more files (q ∷ ps) p = files_then-more (all_files_after q.server q.op files) ps p

@@ -1,5 +1,5 @@
 use Rattle.std.proofs.Common.{◌∙◌}
-use Rattle.jn_serial.specs.Stored.{files_of}
+use Rattle.jn_replay.specs.Stored.{files_of}
 use Rattle.jn_serial.proofs.Orders.{AgreesFrom-step, ↔-trans}
 use Rattle.jn_serial.proofs.order.agrees.Goals as goal
 
