@@ -4,7 +4,8 @@ use Rattle.jn_base.specs.declared.names.ClientNo.{ClientNo}
 use Rattle.jn_base.specs.declared.names.Tid.{Tid}
 use Rattle.jn_base.specs.declared.op.Answer.{Answer}
 use Rattle.jn_base.specs.Names.{client_eq}
-use Rattle.jn_order.specs.Files.{AllFiles, answer_to, all_files_after}
+use Rattle.jn_order.specs.Files.{AllFiles}
+use Rattle.jn_replay.specs.Operations.{files_then, GivesAnswers}
 use Rattle.jn_schedule.specs.declared.Event.{Event}
 use Rattle.jn_report.specs.declared.line.Refusal.TheVariants as refusals
 use Rattle.jn_report.specs.declared.line.Text.{Text}
@@ -12,7 +13,8 @@ use Rattle.jn_report.specs.declared.line.Text.TheVariants as says
 use Rattle.jn_report.specs.declared.line.Line.{Line}
 use Rattle.jn_replay.specs.declared.files.Performed.{Performed}
 use Rattle.jn_serial.specs.Lines.{event_at}
-use Rattle.jn_serial.specs.Order.{performed_in, answered, answered_by, owner_after, ops_from, ops_of, files_then, replay, GivesAnswers, AgreesFrom}
+use Rattle.jn_serial.specs.Order.{ops_of, replay, AgreesFrom}
+use Rattle.jn_serial.specs.InTurn.{performed_in, answered, answered_by, owner_after, told_from}
 use Rattle.jn_serial.proofs.Growth.{event_at-front}
 
 -- the number of the command that a line answers from the files, if it does so, is at most n
@@ -74,11 +76,11 @@ answered_by-events : (es fs : List Event) (owner : Option ClientNo) (text : Text
 answered_by-events es fs None text h = refl
 answered_by-events es fs (Some c) text h = answered-events es fs c text h
 
-pub ops_from-events : (es fs : List Event) (t : Tid) (owner : Option ClientNo) (ls : List Line) → AllAnswerWithin (length es) ls → ops_from (es ++ fs) t owner ls ≡ ops_from es t owner ls
-ops_from-events es fs t owner [] h = refl
-ops_from-events es fs t owner (l ∷ ls) h =
-    ap (λ (ps : List Performed). ps ++ ops_from (es ++ fs) t (owner_after t owner l.text) ls) (answered_by-events es fs owner l.text h.0)
-    ∙ ap (λ (ps : List Performed). answered_by es owner l.text ++ ps) (ops_from-events es fs t (owner_after t owner l.text) ls h.1)
+pub told_from-events : (es fs : List Event) (t : Tid) (owner : Option ClientNo) (ls : List Line) → AllAnswerWithin (length es) ls → told_from (es ++ fs) t owner ls ≡ told_from es t owner ls
+told_from-events es fs t owner [] h = refl
+told_from-events es fs t owner (l ∷ ls) h =
+    ap (λ (ps : List Performed). ps ++ told_from (es ++ fs) t (owner_after t owner l.text) ls) (answered_by-events es fs owner l.text h.0)
+    ∙ ap (λ (ps : List Performed). answered_by es owner l.text ++ ps) (told_from-events es fs t (owner_after t owner l.text) ls h.1)
 
 -- the commits depend on what their transactions did alone
 abbrev pub DidTheSame : List Event → List Line → List Event → List Line → List Tid → Type 0

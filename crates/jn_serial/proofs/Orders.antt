@@ -6,17 +6,19 @@ use Rattle.std.proofs.lemmas.Bool.{cases_Bool}
 use Rattle.jn_base.specs.declared.names.ClientNo.{ClientNo}
 use Rattle.jn_base.specs.declared.names.Tid.{Tid}
 use Rattle.jn_base.specs.Names.{tid_eq}
-use Rattle.jn_base.specs.declared.op.Answer.{Answer}
-use Rattle.jn_order.specs.Files.{AllFiles, answer_to, all_files_after}
+use Rattle.jn_order.specs.Files.{AllFiles}
 use Rattle.jn_order.proofs.FilesLemmas.{same_files}
+use Rattle.jn_replay.specs.declared.files.Performed.{Performed}
+use Rattle.jn_replay.specs.Stored.{AreSame}
+use Rattle.jn_replay.specs.Operations.{files_then, GivesAnswers}
+use Rattle.jn_replay.proofs.Same.{AreSame-from_equal, drop_here}
 use Rattle.jn_schedule.specs.declared.Event.{Event}
 use Rattle.jn_report.specs.declared.line.When.{When}
 use Rattle.jn_report.specs.declared.line.Text.{Text}
 use Rattle.jn_report.specs.declared.line.Line.{Line}
-use Rattle.jn_replay.specs.declared.files.Performed.{Performed}
-use Rattle.jn_replay.specs.Stored.{AreSame}
 use Rattle.jn_serial.specs.Lines.{when_eq, is_before, lines_at, lines_before, says, has_tid, commit_in, history_of}
-use Rattle.jn_serial.specs.Order.{answered_by, owner_after, ops_from, ops_of, files_then, replay, GivesAnswers, AgreesFrom, Agrees}
+use Rattle.jn_serial.specs.Order.{ops_of, replay, AgreesFrom, Agrees}
+use Rattle.jn_serial.specs.InTurn.{answered_by, owner_after, told_from, ops_told}
 use Rattle.jn_serial.specs.Told.{NamesBefore, NamesNone}
 
 pub replay-same : (events : List Event) (lines : List Line) (ts : List Tid) (a b : AllFiles) → AreSame a b → AreSame (replay a events lines ts) (replay b events lines ts)
@@ -51,14 +53,14 @@ pub owner_then-append : (t : Tid) (owner : Option ClientNo) (xs ys : List Line) 
 owner_then-append t owner [] ys = refl
 owner_then-append t owner (l ∷ xs) ys = owner_then-append t (owner_after t owner l.text) xs ys
 
-pub ops_from-append : (events : List Event) (t : Tid) (owner : Option ClientNo) (xs ys : List Line) → ops_from events t owner (xs ++ ys) ≡ ops_from events t owner xs ++ ops_from events t (owner_then t owner xs) ys
-ops_from-append events t owner [] ys = refl
-ops_from-append events t owner (l ∷ xs) ys =
-    ap (λ (ps : List Performed). answered_by events owner l.text ++ ps) (ops_from-append events t (owner_after t owner l.text) xs ys)
-    ∙ sym (append_assoc (answered_by events owner l.text) (ops_from events t (owner_after t owner l.text) xs) (ops_from events t (owner_then t (owner_after t owner l.text) xs) ys))
+pub told_from-append : (events : List Event) (t : Tid) (owner : Option ClientNo) (xs ys : List Line) → told_from events t owner (xs ++ ys) ≡ told_from events t owner xs ++ told_from events t (owner_then t owner xs) ys
+told_from-append events t owner [] ys = refl
+told_from-append events t owner (l ∷ xs) ys =
+    ap (λ (ps : List Performed). answered_by events owner l.text ++ ps) (told_from-append events t (owner_after t owner l.text) xs ys)
+    ∙ sym (append_assoc (answered_by events owner l.text) (told_from events t (owner_after t owner l.text) xs) (told_from events t (owner_then t (owner_after t owner l.text) xs) ys))
 
-pub ops_of-append : (events : List Event) (t : Tid) (xs ys : List Line) → ops_of events (xs ++ ys) t ≡ ops_of events xs t ++ ops_from events t (owner_then t None xs) ys
-ops_of-append events t xs ys = ops_from-append events t None xs ys
+pub ops_told-append : (events : List Event) (t : Tid) (xs ys : List Line) → ops_told events (xs ++ ys) t ≡ ops_told events xs t ++ told_from events t (owner_then t None xs) ys
+ops_told-append events t xs ys = told_from-append events t None xs ys
 
 pub history_of-append : (xs ys : List Line) → history_of (xs ++ ys) ≡ history_of xs ++ history_of ys
 history_of-append [] ys = refl

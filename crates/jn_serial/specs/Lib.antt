@@ -8,3 +8,4 @@ pub mod Shown
 pub mod Accounts
 pub mod Follows
 pub mod Asked
+pub mod Example

@@ -4,6 +4,7 @@
 mod begun;
 mod causes;
 mod following;
+mod laws;
 mod lines;
 mod order;
 mod outcomes;
@@ -12,6 +13,7 @@ mod transactions;
 
 pub use causes::caused;
 pub use following::follows;
+pub use laws::{a_refused_opening_loses_nothing, an_operation_counts_once};
 pub use lines::history;
 pub use order::{agrees, replay};
 pub use outcomes::told;
