@@ -468,6 +468,14 @@ abbrev pub AreInTurn : ℕ → List Event → List Line → Type 0
 AreInTurn n [] ls = AreAtEnd ls
 AreInTurn n (e ∷ es) ls = (here : List Line) × ((later : List Line) × ((ls ≡ here ++ later) × (AreWithin n (n + 1) here × AreInTurn (n + 1) es later)))
 
+pub ends-append : (ls ms : List Line) → AreAtEnd ls → AreAtEnd ms → AreAtEnd (ls ++ ms)
+ends-append [] ms h k = k
+ends-append (l ∷ ls) ms h k = (h.0, ends-append ls ms h.1 k)
+
+pub turn-to-end : (n : ℕ) (es : List Event) (ls ends : List Line) → AreInTurn n es ls → AreAtEnd ends → AreInTurn n es (ls ++ ends)
+turn-to-end n [] ls ends h k = ends-append ls ends h k
+turn-to-end n (e ∷ es) ls ends (here, (later, (is, (within, rest)))) k = (here, (later ++ ends, (ap (λ m. m ++ ends) is ∙ append_assoc here later ends, (within, turn-to-end (n + 1) es later ends rest k))))
+
 end-elsewhere : (i : ℕ) (ls : List Line) → AreAtEnd ls → lines_at (AtEvent i) ls ≡ []
 end-elsewhere i [] h = refl
 end-elsewhere i (l ∷ ls) h = ap (λ (b : Bool). if b then l ∷ lines_at (AtEvent i) ls else lines_at (AtEvent i) ls) (ap (λ w. when_eq w (AtEvent i)) h.0) ∙ end-elsewhere i ls h.1

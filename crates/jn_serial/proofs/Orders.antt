@@ -76,7 +76,7 @@ lines_at-append w xs ys = filter-append (λ (l : Line). when_eq l.when w) xs ys
 pub lines_before-append : (w : When) (xs ys : List Line) → lines_before w (xs ++ ys) ≡ lines_before w xs ++ lines_before w ys
 lines_before-append w xs ys = filter-append (λ (l : Line). is_before l.when w) xs ys
 
-any-append : {X : Type 0} (p : X → Bool) (xs ys : List X) → list_any p (xs ++ ys) ≡ (list_any p xs || list_any p ys)
+pub any-append : {X : Type 0} (p : X → Bool) (xs ys : List X) → list_any p (xs ++ ys) ≡ (list_any p xs || list_any p ys)
 any-append p [] ys = refl
 any-append p (x ∷ xs) ys = elim (cases_Bool (p x)) [ inl e ↦ rw e | inr e ↦ rw e (any-append p xs ys) ]
 
