@@ -39,13 +39,14 @@ use Rattle.jn_moves.specs.Mirrors.{Mirrors}
 use Rattle.jn_runs.proofs.Openings.{openings, openings-more, Has, has-first}
 use Rattle.jn_runs.proofs.Facts.{opening, Facts}
 use Rattle.jn_serial.specs.Lines.{says}
-use Rattle.jn_serial.specs.Caused.{last_begun, begins}
+use Rattle.jn_serial.specs.Begun.{last_begun}
+use Rattle.jn_serial.specs.Caused.{begins}
 use Rattle.jn_serial.proofs.Growth.{AreWithin}
 use Rattle.jn_serial.proofs.CausedGrowth.{begun_then-append}
 use Rattle.jn_reported.specs.Reported.{at_event}
 use Rattle.jn_reported.proofs.Lists.{In, Each, each-of}
 use Rattle.jn_reported.proofs.ClientTalk.{TableGoes}
-use Rattle.jn_causes.proofs.Evidence.{Stands, Came, DownAfter, down-more, any-last, in-here}
+use Rattle.jn_causes.proofs.Evidence.{Stands, Came, DownAfter, down-more, any-last, in-here, none-here}
 use Rattle.jn_causes.proofs.WorkerKeeps.{all-told}
 use Rattle.jn_causes.proofs.CoordinatorKeeps.{Spent}
 use Rattle.jn_causes.proofs.Facts.{HasTransaction, CameBy, WasOpened, MessageFact, BegunFor, BeganAt, ClientFact, CauseFacts, IsMute, opened-more, client-on, one-on, messages-on, told-on}
@@ -373,7 +374,7 @@ module _ (es es' : List Event) (on : (j : ℕ) (e : Event) → Stands 1 es j e �
     comes : (s : ServerNo) (T : Tid) (x : Sent) → Stands 1 es' r.event (events.Command c (Open s)) → t.transaction ≡ Some T → CameBy es' (ls ++ []) (openings (r.sent ++ x ∷ [])) c T s
     comes s T x stands f = let b = (facts.clients c).current T f in record {
       number = r.event;
-      came = record { event = events.Command c (Open s); stands = stands; is = all (client_eq c c) (server_eq s s) _ (self c) (same s) (in-here r.event ls [] c T within ((cause.each c).begun T f)) };
+      came = record { event = events.Command c (Open s); stands = stands; is = all (client_eq c c) (server_eq s s) _ _ (self c) (same s) (in-here r.event ls [] c T within ((cause.each c).begun T f)) (none-here r.event ls c within) };
       request = b.request;
       has = subst (λ l. Has (opening c b.request T) l) (sym (openings-more r.sent (x ∷ []))) (has-first _ (openings r.sent) (openings (x ∷ [])) b.has);
     }
@@ -384,8 +385,8 @@ module _ (es es' : List Event) (on : (j : ℕ) (e : Event) → Stands 1 es j e �
         same : (q : ServerNo) → server_eq q q ≡ true
         same q = grind (arith, server_tells q q)
 
-        all : (a b d : Bool) → a ≡ true → b ≡ true → d ≡ true → (a && (b && d)) ≡ true
-        all a b d f g h = grind arith
+        all : (a b d e : Bool) → a ≡ true → b ≡ true → d ≡ true → e ≡ true → (a && (b && (d && e))) ≡ true
+        all a b d e f g h k = grind arith
 
     at-server : (s : ServerNo) (row : Commanded) → CommandCauses row → CommandCauses (if_server t s row)
     at-server s row h = by (nat_lt s.0 t.servers)

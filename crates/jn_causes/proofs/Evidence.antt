@@ -1,6 +1,6 @@
 -- What stands before an abort: events with their numbers, and lines.
 use Rattle.std.proofs.Common.{◌≡◌, ◌⊎◌, inl, inr, ◌<◌, ◌≤◌, ℕ, suc, ◌+◌, Bool, true, false, List, [], ◌∷◌, ◌++◌, Some, append-nil, length, refl, ◌∙◌, ap, subst, arith}
-use Rattle.std.specs.Prelude.{◌||◌, ◌&&◌, if◌then◌else◌, nat_lt}
+use Rattle.std.specs.Prelude.{◌||◌, ◌&&◌, not, if◌then◌else◌, nat_lt}
 use Rattle.std.specs.List.{list_any}
 use Rattle.std.proofs.lemmas.Bool.Decides.{nat_tests}
 use Rattle.jn_base.specs.declared.names.ServerNo.{ServerNo}
@@ -16,9 +16,11 @@ use Rattle.jn_schedule.specs.declared.Event.TheVariants as events
 use Rattle.jn_report.specs.declared.line.When.TheVariants.{Event as AtEvent}
 use Rattle.jn_report.specs.declared.line.Text.{Text}
 use Rattle.jn_report.specs.declared.line.Line.{Line}
-use Rattle.jn_serial.specs.Lines.{is_before, lines_before, says}
-use Rattle.jn_serial.specs.Caused.{any_event, lines_after, last_begun, is_tid, is_in, aborts, asks, begins, joins, goes_down, loses, breaks, is_caused_by}
-use Rattle.jn_serial.proofs.Growth.{AreWithin}
+use Rattle.jn_serial.specs.Lines.{is_before, lines_at, lines_before, says}
+use Rattle.jn_serial.specs.Begun.{last_begun, is_tid, is_in}
+use Rattle.jn_serial.specs.Caused.{any_event, lines_after, aborts, asks, begins, joins, goes_down, loses, breaks, is_caused_by}
+use Rattle.jn_serial.specs.Follows.{refuses_own}
+use Rattle.jn_serial.proofs.Growth.{AreWithin, lines_at-earlier, lines_at-outside}
 use Rattle.jn_serial.proofs.CausedGrowth.{lines_before-later, lines_before-whole}
 use Rattle.jn_serial.proofs.Orders.{lines_before-append}
 use Rattle.jn_reported.specs.Reported.{at_event}
@@ -184,6 +186,13 @@ in-here n ls new c T within last = ap (λ m. is_tid (last_begun c m) T) (lines_b
     same : (T : Tid) → tid_eq T T ≡ true
     same T = grind (arith, tid_tells T T)
 
+-- and nothing is told in its event
+pub none-here : (n : ℕ) (ls : List Line) (c : ClientNo) → AreWithin 0 n ls → not (says (refuses_own c n) (lines_at (AtEvent n) (ls ++ []))) ≡ true
+none-here n ls c within = ap (λ m. not (says (refuses_own c n) m)) (ap (λ m. lines_at (AtEvent n) m) (append-nil ls) ∙ lines_at-outside 0 n n ls within (inr (self n)))
+  where
+    self : (n : ℕ) → n ≤ n
+    self n = omega arith
+
 -- ---- more events, with lines of the next one on
 
 module _ (es es' : List Event) (on : (j : ℕ) (e : Event) → Stands 1 es j e → Stands 1 es' j e) (ls ms : List Line) (high : ℕ) (within : AreWithin (1 + length es) high ms) where
@@ -209,7 +218,8 @@ module _ (es es' : List Event) (on : (j : ℕ) (e : Event) → Stands 1 es j e �
       three true true false q f k = absurd (grind arith)
       three true false p q f k = absurd (grind arith)
       three false b p q f k = absurd (grind arith)
-  joins-more c T s j (events.Command d (commands.Open r)) l h = ap (λ (b : Bool). client_eq c d && (server_eq r s && b)) (same-in c T j l) ∙ h
+  joins-more c T s j (events.Command d (commands.Open r)) l h = ap (λ (b : Bool). client_eq c d && (server_eq r s && (b && not (says (refuses_own c j) (lines_at (AtEvent j) (ls ++ ms)))))) (same-in c T j l)
+      ∙ ap (λ m. client_eq c d && (server_eq r s && (is_in c T j ls && not (says (refuses_own c j) m)))) (lines_at-earlier (1 + length es) high j ls ms within l) ∙ h
   joins-more c T s j (events.Command d (commands.Do r op)) l h = h
   joins-more c T s j (events.Command d commands.End) l h = h
   joins-more c T s j (events.Command d commands.Abort) l h = h

@@ -27,7 +27,8 @@ use Rattle.jn_runs.proofs.ClientFacts.{all-have-theirs}
 use Rattle.jn_runs.proofs.Openings.{Opening, opening_in, openings, openings-more, Has, has-first}
 use Rattle.jn_runs.proofs.Facts.{opening, Began}
 use Rattle.jn_serial.specs.Lines.{says}
-use Rattle.jn_serial.specs.Caused.{begun_then, last_begun, goes_down}
+use Rattle.jn_serial.specs.Begun.{begun_then, last_begun}
+use Rattle.jn_serial.specs.Caused.{goes_down}
 use Rattle.jn_serial.proofs.CausedGrowth.{begun_then-append}
 use Rattle.jn_reported.specs.Reported.{at_event}
 use Rattle.jn_reported.proofs.Following.{texts-within}

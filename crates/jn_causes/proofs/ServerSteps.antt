@@ -50,7 +50,8 @@ use Rattle.jn_moves.proofs.Closing.{same-server, still-says}
 use Rattle.jn_moves.proofs.StageMoves.{knows, stage-is, stage-known}
 use Rattle.jn_runs.proofs.Openings.{openings}
 use Rattle.jn_runs.proofs.Facts.{opening, Facts}
-use Rattle.jn_serial.specs.Caused.{begun_then, goes_down, breaks}
+use Rattle.jn_serial.specs.Begun.{begun_then}
+use Rattle.jn_serial.specs.Caused.{goes_down, breaks}
 use Rattle.jn_serial.specs.Lines.{says}
 use Rattle.jn_reported.specs.Reported.{at_event}
 use Rattle.jn_reported.proofs.Lists.{In, in-second, Each, each-in, each-append, each-more}

@@ -42,7 +42,7 @@ use Rattle.jn_runs.proofs.Openings.{Opening, opening_in, openings, openings-more
 use Rattle.jn_runs.proofs.Facts.{opening as began_by, Began, Facts}
 use Rattle.jn_runs.proofs.ClientFacts.{all-have-theirs}
 use Rattle.jn_runs.proofs.ClientSteps.{EndsNow}
-use Rattle.jn_serial.specs.Caused.{is_in}
+use Rattle.jn_serial.specs.Begun.{is_in}
 use Rattle.jn_serial.proofs.Growth.{AreWithin}
 use Rattle.jn_reported.specs.Reported.{at_event}
 use Rattle.jn_reported.proofs.Lists.{In, Each, each-in, get-in}

@@ -29,12 +29,12 @@ use Rattle.jn_moves.proofs.StepMoves.{committed-any}
 use Rattle.jn_reported.specs.Reported.{Item, events_of, steps_of, world_of, lines_of, IsReported}
 use Rattle.jn_reported.proofs.Reached.{opening-reached}
 use Rattle.jn_talk.specs.Told.{ops_in, at_place}
-use Rattle.jn_talk.proofs.Tellings.{texts_of, ops-of-texts}
+use Rattle.jn_talk.proofs.Tellings.{texts_of}
 use Rattle.jn_talk.proofs.Quiet.{sent-op}
 use Rattle.jn_talk.proofs.Agreeing.{commits-told, told-agree, opening-stands}
 use Rattle.jn_talk.proofs.Facts.{said}
 use Rattle.jn_talk.proofs.Atoms.{IsPresent}
-use Rattle.jn_talk.proofs.Reports.{ItemsTold, items-told}
+use Rattle.jn_talk.proofs.Reports.{ItemsTold, items-told, run-ops}
 use Rattle.jn_facts.specs.Lines.{WasAsked, StandAt, DoLinesStand}
 use Rattle.jn_facts.proofs.Heard.{HearsAll, opening-hears, run-hears, steps-told}
 
@@ -87,7 +87,7 @@ module _ (events : List Event) (files : AllFiles) (epochs : ServerNo → ℕ) (r
 pub run-lines-stand : (servers : ℕ) (files : AllFiles) (epochs : ServerNo → ℕ) (items : List Item) → IsReported items (opening servers files epochs)
     → DoLinesStand files (events_of items) (lines_of items (opening servers files epochs)) (world_of items (opening servers files epochs))
 run-lines-stand servers files epochs items h = lines-stand (events_of items) files epochs (world_of items start) (lines_of items start) hears
-    (λ T. ops-of-texts (events_of items) T None (lines_of items start) ∙ its.same.ops T None ∙ ap (λ l. ops_in (events_of items) T None l) (sym its.lines))
+    (run-ops servers files epochs items h)
     (history-texts (lines_of items start) ∙ its.same.commits ∙ ap commits_in (sym its.lines))
   where
     start : World

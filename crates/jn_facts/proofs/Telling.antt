@@ -18,7 +18,7 @@ use Rattle.jn_order.specs.Files.{Files, change, answer_to}
 use Rattle.jn_records.specs.NetLists.{list_change}
 use Rattle.jn_schedule.specs.declared.Event.{Event}
 use Rattle.jn_serial.specs.Lines.{event_at}
-use Rattle.jn_serial.specs.Order.{performed_in, answered, answered_by}
+use Rattle.jn_serial.specs.InTurn.{performed_in, answered, answered_by}
 use Rattle.jn_serial.specs.Follows.{is_own}
 use Rattle.jn_msgs.specs.declared.message.Message.{Message}
 use Rattle.jn_msgs.specs.declared.message.Message.TheVariants as messages

@@ -45,7 +45,8 @@ pub data Atom : Type 0 where
   Name : Tid → Atom
   -- a flag is put and its transaction commits, where nothing stops
   Decide : Flag → Atom
-  -- fewer states may be found, as after a decay or a recovery: each pick finds what this other one found
+  -- fewer states may be found, as once a recovery has copied one half of a page over the other: each pick finds what this
+  -- other one found. A page that goes bad, or that reads again, is no step, since its bytes are kept
   Narrow : ServerNo → (Pick → Pick) → Atom
   RaiseEpoch : ServerNo → (Pick → Bool) → Atom
   Crash : ServerNo → Atom

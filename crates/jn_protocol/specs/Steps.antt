@@ -41,7 +41,8 @@ pub data Step : Type 0 where
   StopDelivery : ℕ → Room → (Pick → ℕ) → Step
   StopWork : ServerNo → Room → (Pick → ℕ) → Step
   Crash : ServerNo → Step
-  -- fewer states may be found, as after a decay or a cleaning: each pick finds what this other one found
+  -- fewer states may be found, as once a restart, perhaps one that is stopped, has cleaned pages: each pick finds what this
+  -- other one found. A decay and a revival are no step: what a bad half keeps may be found again
   Narrow : ServerNo → (Pick → Pick) → Step
   -- a restart that is stopped: some picks find the epoch raised
   StopRestart : ServerNo → (Pick → Bool) → Step

@@ -2,6 +2,7 @@ pub mod Fields
 pub mod Roots
 pub mod Lists
 pub mod Heads
+pub mod Malformed
 pub mod NamesAgain
 pub mod RecordsAgain
 pub mod NetLemmas

@@ -8,3 +8,4 @@ pub mod NetLists
 pub mod NetEdits
 pub mod StablePages
 pub mod Sound
+pub mod Malformed

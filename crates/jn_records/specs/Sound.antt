@@ -39,16 +39,16 @@ SlotIsFree m i = m.bytes (slot_place m.counts i) ≡ record_page Free
 abbrev pub head_bytes_of : Image → ℕ → List ℕ
 head_bytes_of m i = m.bytes (head_place m.counts i)
 
--- one head at most is used for file f
-abbrev pub HasOneHead : Image → ℕ → Type 0
-HasOneHead m f =
-    (i j : ℕ) → i < m.counts.heads → j < m.counts.heads
-    → is_used (head_bytes_of m i) ≡ true → file_in (head_bytes_of m i) ≡ f
-    → is_used (head_bytes_of m j) ≡ true → file_in (head_bytes_of m j) ≡ f → i ≡ j
-
 -- head i is the page of a head, with no address past the data pages
 abbrev pub IsWhole : Image → ℕ → Type 0
 IsWhole m i = (h : Head) × IsHead m.counts.leaves h × FileFits h × (head_bytes_of m i ≡ head_page h)
+
+-- one head at most is used for file f: a page that is no head counts for none
+abbrev pub HasOneHead : Image → ℕ → Type 0
+HasOneHead m f =
+    (i j : ℕ) → i < m.counts.heads → j < m.counts.heads → IsWhole m i → IsWhole m j
+    → is_used (head_bytes_of m i) ≡ true → file_in (head_bytes_of m i) ≡ f
+    → is_used (head_bytes_of m j) ≡ true → file_in (head_bytes_of m j) ≡ f → i ≡ j
 
 -- head i is used and has address a at block p
 pub record Names (m : Image) (a i p : ℕ) : Type 0 where

@@ -31,6 +31,7 @@ mod net_laws;
 mod net_list;
 mod record;
 mod root;
+mod sound_laws;
 mod work;
 
 pub use distinct::no_page_is_two_values;
@@ -46,4 +47,5 @@ pub use net_laws::{
 pub use net_list::{Need, NetList, Seen, needs_head, puts_in};
 pub use record::{READS, Record, WORKS};
 pub use root::Root;
+pub use sound_laws::a_malformed_page_is_no_second_head;
 pub use work::{WorkHead, WorkState};

@@ -24,6 +24,7 @@ use Rattle.jn_report.specs.declared.line.Line.{Line}
 use Rattle.jn_rows.specs.Client.{ClientTable, Commanded, Refuses, Sends, command_row}
 use Rattle.jn_serial.specs.Lines.{lines_at}
 use Rattle.jn_serial.specs.Follows.{Outstanding as Waited, nothing_asked, with_asked, is_own, answer_in, AllFit, after_answers, after_answer, after_event, own_in_place, is_command_of, AllOwnInPlace, FollowsEvent, after_one, FollowsFrom, IsOfEvent, AllOfEvents, Follows, fits, addressed}
+use Rattle.jn_serial.proofs.InTurn.{AreInTurn}
 use Rattle.jn_serial.proofs.Growth.{IsWithin, AreWithin, lines_at-earlier, lines_at-newest, AreWithin-wider, AreWithin-append}
 use Rattle.jn_protocol.specs.World.{World, opening}
 use Rattle.jn_protocol.specs.Steps.{Step, NextEvent, Tell, Dismiss, after, run, IsRun, commanded}
@@ -278,6 +279,7 @@ texts-within number (x ∷ texts) = ((≤-self number, <-self number), texts-wit
 pub record ItemsFollow (out : Waited) (items : List Item) (r : World) : Type 0 where
   pub within : AreWithin (r.event + 1) (r.event + 1 + length items) (lines_of items r)
   pub follows : (before : List Line) → AreWithin 0 (r.event + 1) before → FollowsFrom out (r.event + 1) (events_of items) (before ++ lines_of items r)
+  pub turn : AreInTurn (r.event + 1) (events_of items) (lines_of items r)
 
 -- more lines, then the lines of later events
 module _ (n high : ℕ) (before here later : List Line) (old : AreWithin 0 n before) (new : AreWithin n (n + 1) here) (after : AreWithin (n + 1) high later) where
@@ -318,6 +320,19 @@ module _ (out : Waited) (item : Item) (items : List Item) (r q : World) (event :
     within = AreWithin-append (r.event + 1) (r.event + 1 + length (item ∷ items)) here (lines_of items (after_item item r)) (AreWithin-wider (r.event + 1) (r.event + 1 + 1) (r.event + 1) (r.event + 1 + length (item ∷ items)) here (self (r.event + 1)) (high r.event (length items)) (texts-within (r.event + 1) (told_under item r)))
         (AreWithin-wider (r.event + 1 + 1) (r.event + 1 + length (item ∷ items)) (r.event + 1) (r.event + 1 + length (item ∷ items)) (lines_of items (after_item item r)) (up (r.event + 1)) (self (r.event + 1 + length (item ∷ items))) later-within);
     follows = by;
+    turn = (
+      here,
+      (
+        lines_of items (after_item item r),
+        (
+          refl,
+          (
+            texts-within (r.event + 1) (told_under item r),
+            subst (λ n. AreInTurn (n + 1) (events_of items) (lines_of items (after_item item r))) event (subst (λ (z : World). AreInTurn (q.event + 1) (events_of items) (lines_of items z)) is rest.turn),
+          ),
+        ),
+      ),
+    );
   }
     where
       self : (n : ℕ) → n ≤ n
@@ -348,7 +363,7 @@ module _ (out : Waited) (item : Item) (items : List Item) (r q : World) (event :
 
 module _ (files : AllFiles) (epochs : ServerNo → ℕ) where
   pub items-follow : (items : List Item) (r : World) → Reached files epochs r → IsRun (steps_of items) r → AreUnder items → (out : Waited) → Waits out r.clients → ItemsFollow out items r
-  items-follow [] r reached i under out waits = record { within = tt; follows = λ before k. tt }
+  items-follow [] r reached i under out waits = record { within = tt; follows = λ before k. tt; turn = tt }
   items-follow (item ∷ items) r reached i under out waits = let split = run-split (steps_in item.acts) (steps_of items) (after NextEvent r) i.1 in
       let h = event-follows files epochs out item.event item.acts (after NextEvent r) (next-reached files epochs r NextEvent tt reached) split.0 waits under.0 in
       then-follow out item items r (after_item item r) h.same_event refl h.follows (items-follow items (after_item item r) h.reached split.1 under.1 _ h.now)
@@ -363,6 +378,9 @@ module _ (files : AllFiles) (epochs : ServerNo → ℕ) where
           below : (i n : ℕ) → i < 1 + n → i ≤ n
           below i n g = omega (arith, g)
       by AtEnd k = absurd k
+
+  pub run-in-turn : (servers : ℕ) (items : List Item) → IsReported items (opening servers files epochs) → AreInTurn 1 (events_of items) (lines_of items (opening servers files epochs))
+  run-in-turn servers items h = (items-follow items (opening servers files epochs) (opening-reached files epochs servers) h.steps h.under nothing_asked (λ c. refl)).turn
 
   pub run-follows : (servers : ℕ) (items : List Item) → IsReported items (opening servers files epochs) → Follows (events_of items) (lines_of items (opening servers files epochs))
   run-follows servers items h = let f = items-follow items (opening servers files epochs) (opening-reached files epochs servers) h.steps h.under nothing_asked (λ c. refl) in record {

@@ -79,6 +79,7 @@ lines_of (item ∷ items) w = at_event (w.event + 1) (told_under item w) ++ line
 -- ---- what each event may have under it
 
 -- Which steps an event may have, but for a command. A stop within a scrub or a show is that of a step which changes nothing.
+-- A decay and a revival have none: what is kept on a page may be found again.
 abbrev pub may_do : Event → Step → Bool
 may_do (events.Again c) (Again d) = client_eq c d
 may_do (events.Deliver k) (Deliver j room) = nat_eq k j
@@ -95,8 +96,6 @@ may_do (events.Nudge s) (Nudge t) = server_eq s t
 may_do (events.Timeout s T) (Timeout t U) = server_eq s t && tid_eq T U
 may_do (events.Scrub s) (StopWork t room made) = server_eq s t
 may_do (events.Show s) (StopWork t room made) = server_eq s t
-may_do (events.Decay s page) (Narrow t g) = server_eq s t
-may_do (events.Revive s page) (Narrow t g) = server_eq s t
 may_do (events.Crash s) (Crash t) = server_eq s t
 may_do (events.Restart s) (Narrow t g) = server_eq s t
 may_do (events.Restart s) (StopRestart t raised) = server_eq s t

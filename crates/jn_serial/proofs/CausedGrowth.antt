@@ -18,7 +18,8 @@ use Rattle.jn_report.specs.declared.line.Text.{Text}
 use Rattle.jn_report.specs.declared.line.Text.TheVariants as says
 use Rattle.jn_report.specs.declared.line.Line.{Line}
 use Rattle.jn_serial.specs.Lines.{is_before, lines_before, event_at}
-use Rattle.jn_serial.specs.Caused.{any_event, count_events, begun_after, begun_then, last_begun, is_tid, is_in, aborts, is_caused_by, is_caused, CausedFrom, Caused}
+use Rattle.jn_serial.specs.Begun.{begun_after, begun_then, last_begun, is_tid, is_in}
+use Rattle.jn_serial.specs.Caused.{any_event, count_events, aborts, is_caused_by, is_caused, CausedFrom, Caused}
 use Rattle.jn_serial.proofs.Growth.{IsWithin, AreWithin, event_at-front, event_at-next}
 use Rattle.jn_serial.proofs.Orders.{lines_before-append}
 

@@ -1,10 +1,9 @@
 pub mod Growth
 pub mod Ops
+pub mod Beginners
+pub mod InTurn
 pub mod CausedGrowth
 pub mod Telling
-pub mod StoredLemmas
-pub mod DoesLemmas
 pub mod Orders
-pub mod LineLemmas
 pub mod Entries
 pub mod ShownLemmas

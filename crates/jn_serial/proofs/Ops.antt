@@ -4,15 +4,17 @@ use Rattle.jn_base.specs.declared.names.ClientNo.{ClientNo}
 use Rattle.jn_base.specs.declared.names.Tid.{Tid}
 use Rattle.jn_base.specs.declared.op.Answer.{Answer}
 use Rattle.jn_base.specs.Names.{client_eq}
-use Rattle.jn_order.specs.Files.{AllFiles, answer_to, all_files_after}
+use Rattle.jn_order.specs.Files.{AllFiles}
+use Rattle.jn_replay.specs.Operations.{files_then, GivesAnswers}
 use Rattle.jn_schedule.specs.declared.Event.{Event}
 use Rattle.jn_report.specs.declared.line.Refusal.TheVariants as refusals
 use Rattle.jn_report.specs.declared.line.Text.{Text}
 use Rattle.jn_report.specs.declared.line.Text.TheVariants as says
 use Rattle.jn_report.specs.declared.line.Line.{Line}
-use Rattle.jn_serial.specs.declared.files.Performed.{Performed}
+use Rattle.jn_replay.specs.declared.files.Performed.{Performed}
 use Rattle.jn_serial.specs.Lines.{event_at}
-use Rattle.jn_serial.specs.Order.{performed_in, answered, answered_by, owner_after, ops_from, ops_of, files_then, replay, GivesAnswers, AgreesFrom}
+use Rattle.jn_serial.specs.Order.{ops_of, replay, AgreesFrom}
+use Rattle.jn_serial.specs.InTurn.{performed_in, answered, answered_by, owner_after, told_from}
 use Rattle.jn_serial.proofs.Growth.{event_at-front}
 
 -- the number of the command that a line answers from the files, if it does so, is at most n
@@ -74,11 +76,11 @@ answered_by-events : (es fs : List Event) (owner : Option ClientNo) (text : Text
 answered_by-events es fs None text h = refl
 answered_by-events es fs (Some c) text h = answered-events es fs c text h
 
-pub ops_from-events : (es fs : List Event) (t : Tid) (owner : Option ClientNo) (ls : List Line) → AllAnswerWithin (length es) ls → ops_from (es ++ fs) t owner ls ≡ ops_from es t owner ls
-ops_from-events es fs t owner [] h = refl
-ops_from-events es fs t owner (l ∷ ls) h =
-    ap (λ (ps : List Performed). ps ++ ops_from (es ++ fs) t (owner_after t owner l.text) ls) (answered_by-events es fs owner l.text h.0)
-    ∙ ap (λ (ps : List Performed). answered_by es owner l.text ++ ps) (ops_from-events es fs t (owner_after t owner l.text) ls h.1)
+pub told_from-events : (es fs : List Event) (t : Tid) (owner : Option ClientNo) (ls : List Line) → AllAnswerWithin (length es) ls → told_from (es ++ fs) t owner ls ≡ told_from es t owner ls
+told_from-events es fs t owner [] h = refl
+told_from-events es fs t owner (l ∷ ls) h =
+    ap (λ (ps : List Performed). ps ++ told_from (es ++ fs) t (owner_after t owner l.text) ls) (answered_by-events es fs owner l.text h.0)
+    ∙ ap (λ (ps : List Performed). answered_by es owner l.text ++ ps) (told_from-events es fs t (owner_after t owner l.text) ls h.1)
 
 -- the commits depend on what their transactions did alone
 abbrev pub DidTheSame : List Event → List Line → List Event → List Line → List Tid → Type 0
@@ -105,12 +107,3 @@ AgreesFrom-more files es ls (u ∷ ts) t a g = (a.0, AgreesFrom-more (files_then
 pub replay-more : (files : AllFiles) (es : List Event) (ls : List Line) (ts : List Tid) (t : Tid) → replay files es ls (ts ++ t ∷ []) ≡ files_then (ops_of es ls t) (replay files es ls ts)
 replay-more files es ls [] t = refl
 replay-more files es ls (u ∷ ts) t = replay-more (files_then (ops_of es ls u) files) es ls ts t
-
--- one more operation
-pub GivesAnswers-more : (files : AllFiles) (ps : List Performed) (p : Performed) → GivesAnswers files ps → answer_to p.op (files_then ps files p.server) ≡ p.answer → GivesAnswers files (ps ++ p ∷ [])
-GivesAnswers-more files [] p g a = (a, tt)
-GivesAnswers-more files (q ∷ ps) p g a = (g.0, GivesAnswers-more (all_files_after q.server q.op files) ps p g.1 a)
-
-pub files_then-more : (files : AllFiles) (ps : List Performed) (p : Performed) → files_then (ps ++ p ∷ []) files ≡ all_files_after p.server p.op (files_then ps files)
-files_then-more files [] p = refl
-files_then-more files (q ∷ ps) p = files_then-more (all_files_after q.server q.op files) ps p

@@ -6,43 +6,23 @@ use Rattle.std.proofs.lemmas.Bool.{cases_Bool}
 use Rattle.jn_base.specs.declared.names.ClientNo.{ClientNo}
 use Rattle.jn_base.specs.declared.names.Tid.{Tid}
 use Rattle.jn_base.specs.Names.{tid_eq}
-use Rattle.jn_base.specs.declared.op.Answer.{Answer}
-use Rattle.jn_order.specs.Files.{AllFiles, answer_to, all_files_after}
+use Rattle.jn_order.specs.Files.{AllFiles}
 use Rattle.jn_order.proofs.FilesLemmas.{same_files}
+use Rattle.jn_replay.specs.declared.files.Performed.{Performed}
+use Rattle.jn_replay.specs.Stored.{AreSame}
+use Rattle.jn_replay.specs.Operations.{files_then, GivesAnswers}
+use Rattle.jn_replay.proofs.Same.{AreSame-from_equal, drop_here}
 use Rattle.jn_schedule.specs.declared.Event.{Event}
 use Rattle.jn_report.specs.declared.line.When.{When}
 use Rattle.jn_report.specs.declared.line.Text.{Text}
 use Rattle.jn_report.specs.declared.line.Line.{Line}
-use Rattle.jn_serial.specs.declared.files.Performed.{Performed}
-use Rattle.jn_serial.specs.Stored.{AreSame}
 use Rattle.jn_serial.specs.Lines.{when_eq, is_before, lines_at, lines_before, says, has_tid, commit_in, history_of}
-use Rattle.jn_serial.specs.Order.{answered_by, owner_after, ops_from, ops_of, files_then, replay, GivesAnswers, AgreesFrom, Agrees}
+use Rattle.jn_serial.specs.Order.{ops_of, replay, AgreesFrom, Agrees}
+use Rattle.jn_serial.specs.InTurn.{answered_by, owner_after, told_from, ops_told}
 use Rattle.jn_serial.specs.Told.{NamesBefore, NamesNone}
-
--- files that are the same at each register are equal
-pub AreSame-equal : (a b : AllFiles) → AreSame a b → a ≡ b
-AreSame-equal a b same = same_files a b same
-
-pub AreSame-refl : (a : AllFiles) → AreSame a a
-AreSame-refl a s u = refl
-
-pub AreSame-sym : (a b : AllFiles) → AreSame a b → AreSame b a
-AreSame-sym a b same s u = sym (same s u)
-
-pub AreSame-trans : (a b c : AllFiles) → AreSame a b → AreSame b c → AreSame a c
-AreSame-trans a b c ab bc s u = ab s u ∙ bc s u
-
-pub AreSame-from_equal : (a b : AllFiles) → a ≡ b → AreSame a b
-AreSame-from_equal a b e s u = ap (λ (f : AllFiles). f s u) e
-
-pub files_then-same : (ps : List Performed) (a b : AllFiles) → AreSame a b → AreSame (files_then ps a) (files_then ps b)
-files_then-same ps a b same = AreSame-from_equal (files_then ps a) (files_then ps b) (ap (files_then ps) (same_files a b same))
 
 pub replay-same : (events : List Event) (lines : List Line) (ts : List Tid) (a b : AllFiles) → AreSame a b → AreSame (replay a events lines ts) (replay b events lines ts)
 replay-same events lines ts a b same = AreSame-from_equal (replay a events lines ts) (replay b events lines ts) (ap (λ (f : AllFiles). replay f events lines ts) (same_files a b same))
-
-pub GivesAnswers-same : (ps : List Performed) (a b : AllFiles) → AreSame a b → GivesAnswers a ps → GivesAnswers b ps
-GivesAnswers-same ps a b same h = subst (λ (f : AllFiles). GivesAnswers f ps) (same_files a b same) h
 
 pub AgreesFrom-same : (events : List Event) (lines : List Line) (ts : List Tid) (a b : AllFiles) → AreSame a b → AgreesFrom a events lines ts → AgreesFrom b events lines ts
 AgreesFrom-same events lines ts a b same h = subst (λ (f : AllFiles). AgreesFrom f events lines ts) (same_files a b same) h
@@ -50,24 +30,9 @@ AgreesFrom-same events lines ts a b same h = subst (λ (f : AllFiles). AgreesFro
 pub Agrees-same : (events : List Event) (lines : List Line) (a b : AllFiles) → AreSame a b → Agrees a events lines → Agrees b events lines
 Agrees-same events lines a b same h = subst (λ (f : AllFiles). Agrees f events lines) (same_files a b same) h
 
-pub files_then-append : (ps qs : List Performed) (files : AllFiles) → files_then (ps ++ qs) files ≡ files_then qs (files_then ps files)
-files_then-append [] qs files = refl
-files_then-append (p ∷ ps) qs files = files_then-append ps qs (all_files_after p.server p.op files)
-
 pub replay-append : (events : List Event) (lines : List Line) (ts us : List Tid) (files : AllFiles) → replay files events lines (ts ++ us) ≡ replay (replay files events lines ts) events lines us
 replay-append events lines [] us files = refl
 replay-append events lines (t ∷ ts) us files = replay-append events lines ts us (files_then (ops_of events lines t) files)
-
--- answers in a row: those of the first part, and those of the second from the files then
-pub GivesAnswers-append : (ps qs : List Performed) (files : AllFiles) → GivesAnswers files ps → GivesAnswers (files_then ps files) qs → GivesAnswers files (ps ++ qs)
-GivesAnswers-append [] qs files h k = k
-GivesAnswers-append (p ∷ ps) qs files h k = (h.0, GivesAnswers-append ps qs (all_files_after p.server p.op files) h.1 k)
-
-pub GivesAnswers-parts : (ps qs : List Performed) (files : AllFiles) → GivesAnswers files (ps ++ qs) → GivesAnswers files ps × GivesAnswers (files_then ps files) qs
-GivesAnswers-parts [] qs files h = (tt, h)
-GivesAnswers-parts (p ∷ ps) qs files h =
-    let parts = GivesAnswers-parts ps qs (all_files_after p.server p.op files) h.1 in
-    ((h.0, parts.0), parts.1)
 
 pub AgreesFrom-append : (events : List Event) (lines : List Line) (ts us : List Tid) (files : AllFiles) → AgreesFrom files events lines ts → AgreesFrom (replay files events lines ts) events lines us → AgreesFrom files events lines (ts ++ us)
 AgreesFrom-append events lines [] us files h k = k
@@ -88,14 +53,14 @@ pub owner_then-append : (t : Tid) (owner : Option ClientNo) (xs ys : List Line) 
 owner_then-append t owner [] ys = refl
 owner_then-append t owner (l ∷ xs) ys = owner_then-append t (owner_after t owner l.text) xs ys
 
-pub ops_from-append : (events : List Event) (t : Tid) (owner : Option ClientNo) (xs ys : List Line) → ops_from events t owner (xs ++ ys) ≡ ops_from events t owner xs ++ ops_from events t (owner_then t owner xs) ys
-ops_from-append events t owner [] ys = refl
-ops_from-append events t owner (l ∷ xs) ys =
-    ap (λ (ps : List Performed). answered_by events owner l.text ++ ps) (ops_from-append events t (owner_after t owner l.text) xs ys)
-    ∙ sym (append_assoc (answered_by events owner l.text) (ops_from events t (owner_after t owner l.text) xs) (ops_from events t (owner_then t (owner_after t owner l.text) xs) ys))
+pub told_from-append : (events : List Event) (t : Tid) (owner : Option ClientNo) (xs ys : List Line) → told_from events t owner (xs ++ ys) ≡ told_from events t owner xs ++ told_from events t (owner_then t owner xs) ys
+told_from-append events t owner [] ys = refl
+told_from-append events t owner (l ∷ xs) ys =
+    ap (λ (ps : List Performed). answered_by events owner l.text ++ ps) (told_from-append events t (owner_after t owner l.text) xs ys)
+    ∙ sym (append_assoc (answered_by events owner l.text) (told_from events t (owner_after t owner l.text) xs) (told_from events t (owner_then t (owner_after t owner l.text) xs) ys))
 
-pub ops_of-append : (events : List Event) (t : Tid) (xs ys : List Line) → ops_of events (xs ++ ys) t ≡ ops_of events xs t ++ ops_from events t (owner_then t None xs) ys
-ops_of-append events t xs ys = ops_from-append events t None xs ys
+pub ops_told-append : (events : List Event) (t : Tid) (xs ys : List Line) → ops_told events (xs ++ ys) t ≡ ops_told events xs t ++ told_from events t (owner_then t None xs) ys
+ops_told-append events t xs ys = told_from-append events t None xs ys
 
 pub history_of-append : (xs ys : List Line) → history_of (xs ++ ys) ≡ history_of xs ++ history_of ys
 history_of-append [] ys = refl
@@ -111,7 +76,7 @@ lines_at-append w xs ys = filter-append (λ (l : Line). when_eq l.when w) xs ys
 pub lines_before-append : (w : When) (xs ys : List Line) → lines_before w (xs ++ ys) ≡ lines_before w xs ++ lines_before w ys
 lines_before-append w xs ys = filter-append (λ (l : Line). is_before l.when w) xs ys
 
-any-append : {X : Type 0} (p : X → Bool) (xs ys : List X) → list_any p (xs ++ ys) ≡ (list_any p xs || list_any p ys)
+pub any-append : {X : Type 0} (p : X → Bool) (xs ys : List X) → list_any p (xs ++ ys) ≡ (list_any p xs || list_any p ys)
 any-append p [] ys = refl
 any-append p (x ∷ xs) ys = elim (cases_Bool (p x)) [ inl e ↦ rw e | inr e ↦ rw e (any-append p xs ys) ]
 
@@ -139,22 +104,7 @@ pub NamesNone-parts : (named : List Tid) (xs ys : List Line) → NamesNone named
 NamesNone-parts named [] ys h = (tt, h)
 NamesNone-parts named (l ∷ xs) ys h = let parts = NamesNone-parts named xs ys h.1 in ((h.0, parts.0), parts.1)
 
-drop_here : {X : Type 0} (xs : List X) (i : ℕ) (d : X) → i < length xs → drop i xs ≡ get_or xs i d ∷ drop (i + 1) xs
-drop_here xs i d h = rw add-one (drop-cons xs i d h)
-
--- one step of a loop over operations
-pub files_then-step : (ops : List Performed) (i : ℕ) (d : Performed) (before after : AllFiles) → i < length ops → AreSame after (all_files_after (get_or ops i d).server (get_or ops i d).op before) → files_then (drop (i + 1) ops) after ≡ files_then (drop i ops) before
-files_then-step ops i d before after h same = rw (drop_here ops i d h, same_files after (all_files_after (get_or ops i d).server (get_or ops i d).op before) same)
-
--- one step of a loop that compares answers
-pub GivesAnswers-step : (ops : List Performed) (i : ℕ) (d : Performed) (before after : AllFiles) (answer : Answer) → i < length ops → AreSame after (all_files_after (get_or ops i d).server (get_or ops i d).op before) → answer ≡ answer_to (get_or ops i d).op (before (get_or ops i d).server) → answer ≡ (get_or ops i d).answer → GivesAnswers before (drop i ops) ↔ GivesAnswers after (drop (i + 1) ops)
-GivesAnswers-step ops i d before after answer h same gives told =
-    rw (drop_here ops i d h, same_files after (all_files_after (get_or ops i d).server (get_or ops i d).op before) same) (λ k. k.1, λ k. (sym gives ∙ told, k))
-
 -- one step of a loop over committed transactions
 pub AgreesFrom-step : (events : List Event) (lines : List Line) (ts : List Tid) (i : ℕ) (d : Tid) (ps : List Performed) (before after : AllFiles) → i < length ts → ps ≡ ops_of events lines (get_or ts i d) → GivesAnswers before ps → AreSame after (files_then ps before) → AgreesFrom before events lines (drop i ts) ↔ AgreesFrom after events lines (drop (i + 1) ts)
 AgreesFrom-step events lines ts i d ps before after h e gives same =
     rw (drop_here ts i d h, same_files after (files_then ps before) same, ← e) (λ k. k.1, λ k. (gives, k))
-
-pub ↔-trans : {P Q R : Type 0} → P ↔ Q → Q ↔ R → P ↔ R
-↔-trans pq qr = (λ p. qr.0 (pq.0 p), λ r. pq.1 (qr.1 r))

@@ -19,14 +19,14 @@ use Rattle.jn_schedule.specs.declared.Event.TheVariants as events
 use Rattle.jn_report.specs.declared.line.Text.{Text}
 use Rattle.jn_report.specs.declared.line.Text.TheVariants as says
 use Rattle.jn_report.specs.declared.line.Line.{Line}
-use Rattle.jn_serial.specs.declared.files.StoredBlock.{StoredBlock}
-use Rattle.jn_serial.specs.declared.files.StoredFile.{StoredFile}
-use Rattle.jn_serial.specs.Stored.{registers, AreSame, stored_file, stored_block}
-use Rattle.jn_serial.specs.Edits.{is_file}
+use Rattle.jn_replay.specs.declared.files.StoredBlock.{StoredBlock}
+use Rattle.jn_replay.specs.declared.files.StoredFile.{StoredFile}
+use Rattle.jn_replay.specs.Stored.{registers, AreSame, stored_file, stored_block}
+use Rattle.jn_replay.specs.Edits.{is_file}
 use Rattle.jn_serial.specs.Lines.{says, event_at, lines_at, lines_before, history_of}
 use Rattle.jn_serial.specs.Order.{replay}
 use Rattle.jn_serial.specs.Shown.{AllAsIn, prints_file, accounts_file, accounts_block, is_no_show, is_locked, ShowsFiles, ShownSoFar, ShownAtEnd, Shown}
-use Rattle.jn_serial.proofs.StoredLemmas.{some_file_place, no_file_place}
+use Rattle.jn_replay.proofs.StoredLemmas.{some_file_place, no_file_place}
 use Rattle.jn_serial.specs.Accounts.{file_accounted, block_accounted, blocks_accounted, line_accounted, is_accounted, ShowsServer, ShowsEvent, ShowsFrom}
 
 both : (a b : Bool) → (a && b) ≡ true → (a ≡ true) × (b ≡ true)

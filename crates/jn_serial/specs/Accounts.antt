@@ -11,9 +11,9 @@ use Rattle.jn_report.specs.declared.line.When.TheVariants.{Event as AtEvent}
 use Rattle.jn_report.specs.declared.line.Text.{Text}
 use Rattle.jn_report.specs.declared.line.Text.TheVariants as says
 use Rattle.jn_report.specs.declared.line.Line.{Line}
-use Rattle.jn_serial.specs.declared.files.StoredBlock.{StoredBlock}
-use Rattle.jn_serial.specs.declared.files.StoredFile.{StoredFile}
-use Rattle.jn_serial.specs.Stored.{stored_file}
+use Rattle.jn_replay.specs.declared.files.StoredBlock.{StoredBlock}
+use Rattle.jn_replay.specs.declared.files.StoredFile.{StoredFile}
+use Rattle.jn_replay.specs.Stored.{stored_file}
 use Rattle.jn_serial.specs.Lines.{lines_at, lines_before, says, history_of}
 use Rattle.jn_serial.specs.Order.{replay}
 use Rattle.jn_serial.specs.Shown.{accounts_file, accounts_block, is_no_show, ShowsFiles}

@@ -18,7 +18,9 @@ use Rattle.jn_report.specs.declared.line.When.TheVariants.{Event as AtEvent}
 use Rattle.jn_report.specs.declared.line.Text.{Text}
 use Rattle.jn_report.specs.declared.line.Text.TheVariants as says
 use Rattle.jn_report.specs.declared.line.Line.{Line}
-use Rattle.jn_serial.specs.Lines.{is_before, lines_at, lines_before, says}
+use Rattle.jn_serial.specs.Lines.{is_before, lines_at, says}
+use Rattle.jn_serial.specs.Begun.{is_in}
+use Rattle.jn_serial.specs.Follows.{refuses_own}
 
 -- whether some event, told with its number, passes a test
 abbrev pub any_event : (ℕ → Event → Bool) → ℕ → List Event → Bool
@@ -43,26 +45,6 @@ unit_eq (units.File f) (units.File g) = file_eq f g
 unit_eq (units.Block f p) (units.Block g q) = file_eq f g && block_eq p q
 unit_eq _ _ = false
 
--- the transaction that a client began last, by these lines
-abbrev pub begun_after : ClientNo → Option Tid → Text → Option Tid
-begun_after c now (says.Begun d j t) = if client_eq c d then Some t else now
-begun_after c now _ = now
-
-abbrev pub begun_then : ClientNo → Option Tid → List Line → Option Tid
-begun_then c now [] = now
-begun_then c now (l ∷ ls) = begun_then c (begun_after c now l.text) ls
-
-abbrev pub last_begun : ClientNo → List Line → Option Tid
-last_begun c lines = begun_then c None lines
-
-abbrev pub is_tid : Option Tid → Tid → Bool
-is_tid None t = false
-is_tid (Some u) t = tid_eq u t
-
--- a command of the client in this event is given in T: T is what the client began last, by the lines of earlier events
-abbrev pub is_in : ClientNo → Tid → ℕ → List Line → Bool
-is_in c t number lines = is_tid (last_begun c (lines_before (AtEvent number) lines)) t
-
 -- the event is an `abort` of the client, in T
 abbrev pub aborts : ClientNo → Tid → List Line → ℕ → Event → Bool
 aborts c t lines number (events.Command d commands.Abort) = client_eq c d && is_in c t number lines
@@ -76,10 +58,11 @@ begins c number t _ = false
 abbrev pub asks : ClientNo → Tid → List Line → When → ℕ → Event → Bool
 asks c t lines w number e = is_before (AtEvent number) w && aborts c t lines number e
 
--- the event is the command that began T, at this server, or opens the server in T
+-- the event is the command that began T, at this server, or one in T that opens the server and that its client didn't refuse
 abbrev pub joins : ClientNo → Tid → ServerNo → List Line → ℕ → Event → Bool
 joins c t s lines number (events.Command d (commands.Begin r)) = client_eq c d && (server_eq r s && says (begins c number t) lines)
-joins c t s lines number (events.Command d (commands.Open r)) = client_eq c d && (server_eq r s && is_in c t number lines)
+joins c t s lines number (events.Command d (commands.Open r)) =
+    client_eq c d && (server_eq r s && (is_in c t number lines && not (says (refuses_own c number) (lines_at (AtEvent number) lines))))
 joins c t s lines number _ = false
 
 abbrev pub goes_down : ServerNo → Text → Bool

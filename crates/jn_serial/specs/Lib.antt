@@ -1,10 +1,11 @@
-pub mod Stored
 pub mod Lines
+pub mod Begun
 pub mod Order
+pub mod InTurn
 pub mod Told
 pub mod Caused
 pub mod Shown
 pub mod Accounts
 pub mod Follows
 pub mod Asked
-pub mod Edits
+pub mod Example

@@ -1,69 +1,64 @@
 -- The order of commits: what a report's transactions did, one after another, and whether their answers are that order's.
-use Rattle.std.specs.Prelude.{◌≡◌, Bool, false, if◌then◌else◌, List, [], ◌∷◌, ◌++◌, Option, Some, None}
+use Rattle.std.specs.Prelude.{ℕ, ◌+◌, nat_eq, ◌&&◌, if◌then◌else◌, List, [], ◌∷◌, ◌++◌, Option, Some, None}
+use Rattle.jn_base.specs.declared.names.ServerNo.{ServerNo}
 use Rattle.jn_base.specs.declared.names.ClientNo.{ClientNo}
 use Rattle.jn_base.specs.declared.names.Tid.{Tid}
+use Rattle.jn_base.specs.declared.op.Op.{Op}
 use Rattle.jn_base.specs.declared.op.Answer.{Answer}
 use Rattle.jn_base.specs.declared.op.Answer.TheVariants as answers
 use Rattle.jn_base.specs.declared.op.Command.TheVariants.{Do}
-use Rattle.jn_base.specs.Names.{client_eq, tid_eq}
-use Rattle.jn_order.specs.Files.{AllFiles, answer_to, all_files_after}
+use Rattle.jn_base.specs.Names.{client_eq}
+use Rattle.jn_order.specs.Files.{AllFiles}
+use Rattle.jn_replay.specs.declared.files.Performed.{Performed}
+use Rattle.jn_replay.specs.Operations.{files_then, GivesAnswers}
 use Rattle.jn_schedule.specs.declared.Event.{Event}
 use Rattle.jn_schedule.specs.declared.Event.TheVariants.{Command}
 use Rattle.jn_report.specs.declared.line.Refusal.TheVariants as refusals
 use Rattle.jn_report.specs.declared.line.Text.{Text}
 use Rattle.jn_report.specs.declared.line.Text.TheVariants as says
 use Rattle.jn_report.specs.declared.line.Line.{Line}
-use Rattle.jn_serial.specs.declared.files.Performed.{Performed}
-use Rattle.jn_serial.specs.Lines.{event_at, history_of}
+use Rattle.jn_serial.specs.Lines.{history_of}
+use Rattle.jn_serial.specs.Begun.{is_in}
 
--- an operation that a client was told to do in an event, with the answer
-abbrev pub performed_in : ClientNo → Answer → Option Event → List Performed
-performed_in c a (Some (Command d (Do s op))) = if client_eq c d then (record { server = s; op = op; answer = a }) ∷ [] else []
-performed_in c a _ = []
+-- the answer from the files that a line gives to the client's command of event j, if it gives one
+abbrev pub answer_told : ClientNo → ℕ → Text → Option Answer
+answer_told c j (says.Did d k) = if client_eq c d && nat_eq j k then Some answers.Did else None
+answer_told c j (says.Read d k bytes) = if client_eq c d && nat_eq j k then Some (answers.Read bytes) else None
+answer_told c j (says.Refused d k refusals.NoFile) = if client_eq c d && nat_eq j k then Some answers.NoFile else None
+answer_told c j (says.Refused d k refusals.Exists) = if client_eq c d && nat_eq j k then Some answers.Exists else None
+answer_told c j _ = None
 
--- the operation of client c that a line answers from the files
-abbrev pub answered : List Event → ClientNo → Text → List Performed
-answered events c (says.Did d j) = if client_eq c d then performed_in c answers.Did (event_at events j) else []
-answered events c (says.Read d j bytes) = if client_eq c d then performed_in c (answers.Read bytes) (event_at events j) else []
-answered events c (says.Refused d j refusals.NoFile) = if client_eq c d then performed_in c answers.NoFile (event_at events j) else []
-answered events c (says.Refused d j refusals.Exists) = if client_eq c d then performed_in c answers.Exists (event_at events j) else []
-answered events c _ = []
+abbrev pub or_later : Option Answer → Option Answer → Option Answer
+or_later (Some a) later = Some a
+or_later None later = later
 
-abbrev pub answered_by : List Event → Option ClientNo → Text → List Performed
-answered_by events None text = []
-answered_by events (Some c) text = answered events c text
+-- the first line that gives one counts
+abbrev pub first_told : ClientNo → ℕ → List Line → Option Answer
+first_told c j [] = None
+first_told c j (l ∷ ls) = or_later (answer_told c j l.text) (first_told c j ls)
 
-abbrev pub is_client : Option ClientNo → ClientNo → Bool
-is_client None d = false
-is_client (Some c) d = client_eq c d
+abbrev pub performed : ServerNo → Op → Option Answer → List Performed
+performed s op None = []
+performed s op (Some a) = (record { server = s; op = op; answer = a }) ∷ []
 
--- whose transaction T is after a line, if it is anyone's: a client has it from its `begun` line to the client's next one
-abbrev pub owner_after : Tid → Option ClientNo → Text → Option ClientNo
-owner_after t owner (says.Begun c j u) = if tid_eq t u then Some c else (if is_client owner c then None else owner)
-owner_after t owner _ = owner
+-- what T did in event j: the operation of a client that is in T, where it was answered from the files
+abbrev pub op_in : Tid → List Line → ℕ → Event → List Performed
+op_in t lines j (Command c (Do s op)) = if is_in c t j lines then performed s op (first_told c j lines) else []
+op_in t lines j _ = []
 
--- what T did by these lines
-abbrev pub ops_from : List Event → Tid → Option ClientNo → List Line → List Performed
-ops_from events t owner [] = []
-ops_from events t owner (l ∷ ls) = answered_by events owner l.text ++ ops_from events t (owner_after t owner l.text) ls
+-- what T did in these events, numbered from j on
+abbrev pub ops_from : Tid → List Line → ℕ → List Event → List Performed
+ops_from t lines j [] = []
+ops_from t lines j (e ∷ es) = op_in t lines j e ++ ops_from t lines (j + 1) es
 
--- the operations of a transaction that the files answered, in order, each with its answer
+-- the operations of a transaction that the files answered, each once, in the order of their events, each with its answer
 abbrev pub ops_of : List Event → List Line → Tid → List Performed
-ops_of events lines t = ops_from events t None lines
-
-abbrev pub files_then : List Performed → AllFiles → AllFiles
-files_then [] files = files
-files_then (p ∷ ps) files = files_then ps (all_files_after p.server p.op files)
+ops_of events lines t = ops_from t lines 1 events
 
 -- the files after these transactions, one after another
 abbrev pub replay : AllFiles → List Event → List Line → List Tid → AllFiles
 replay files events lines [] = files
 replay files events lines (t ∷ ts) = replay (files_then (ops_of events lines t) files) events lines ts
-
--- the files give these answers, one operation after another
-abbrev pub GivesAnswers : AllFiles → List Performed → Type 0
-GivesAnswers files [] = Unit {0}
-GivesAnswers files (p ∷ ps) = (answer_to p.op (files p.server) ≡ p.answer) × GivesAnswers (all_files_after p.server p.op files) ps
 
 abbrev pub AgreesFrom : AllFiles → List Event → List Line → List Tid → Type 0
 AgreesFrom files events lines [] = Unit {0}

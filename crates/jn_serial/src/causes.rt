@@ -1,48 +1,19 @@
 //! What stands before an abort, a stop and a refused fault.
 
-ghost use Rattle.std.specs.Prelude.{◌≡◌, ◌↔◌, IsTrue};
+ghost use Rattle.std.specs.Prelude.{◌≡◌, ◌↔◌, ◌&&◌, not, IsTrue};
 ghost use Rattle.jn_base.specs.declared.names.Cause.TheVariants as reasons;
 ghost use Rattle.jn_report.specs.declared.line.When.TheVariants.{Event as AtEvent};
+ghost use Rattle.jn_serial.specs.Begun.{is_in as is_in_tid};
 ghost use Rattle.jn_serial.specs.Caused as caused;
-ghost use Rattle.jn_serial.specs.Lines.{lines_at, lines_before, says};
+ghost use Rattle.jn_serial.specs.Follows.{refuses_own};
+ghost use Rattle.jn_serial.specs.Lines.{lines_at, says};
 
-use crate::lines::{is_after_event, is_at, is_before_event};
+use crate::begun::is_in;
+use crate::following::refuses_own;
+use crate::lines::{is_after_event, is_at};
 use jn_base::{Cause, ClientNo, Command, FaultKind, LockUnit, ServerNo, Tid};
 use jn_report::{Line, Text, When};
 use jn_schedule::Event;
-
-/// The transaction that a client began last, after a line.
-fn begun_after(client: ClientNo, now: Option<Tid>, text: &Text) -> Option<Tid>
-    ensures { result ≡ caused.begun_after client now text.now }
-{
-    match text {
-        Text::Begun(by, _, t) if client == *by => Some(*t),
-        _ => now,
-    }
-}
-
-/// The transaction that a client began last, by the lines before an event.
-fn last_begun(client: ClientNo, number: usize, lines: &[Line]) -> Option<Tid>
-    ensures { result ≡ caused.last_begun client (lines_before (AtEvent number) lines.now) }
-{
-    let mut now = None;
-    for line in lines {
-        if is_before_event(line.when, number) {
-            now = begun_after(client, now, &line.text);
-        }
-    }
-    now
-}
-
-/// Whether a command of the client in this event is given in the transaction.
-fn is_in(client: ClientNo, t: Tid, number: usize, lines: &[Line]) -> bool
-    ensures { result ≡ caused.is_in client t number lines.now }
-{
-    match last_begun(client, number, lines) {
-        Some(begun) => begun == t,
-        None => false,
-    }
-}
 
 fn aborts(client: ClientNo, t: Tid, lines: &[Line], number: usize, event: &Event) -> bool
     ensures { result ≡ caused.aborts client t lines.now number event.now }
@@ -89,6 +60,24 @@ fn is_begun(client: ClientNo, number: usize, t: Tid, lines: &[Line]) -> bool
     lines.iter().any(|l| begins(client, number, t, &l.text))
 }
 
+/// Whether the client refused its own command of this event.
+fn refuses_it(client: ClientNo, number: usize, lines: &[Line]) -> bool
+    ensures { result ≡ says (refuses_own client number) (lines_at (AtEvent number) lines.now) }
+{
+    lines
+        .iter()
+        .filter(|l| is_at(l.when, number))
+        .any(|l| refuses_own(client, number, &l.text))
+}
+
+/// Whether a command of the client in this event is given in the transaction, and not refused by the client.
+fn is_taken_in(client: ClientNo, t: Tid, number: usize, lines: &[Line]) -> bool
+    ensures { result ≡ (is_in_tid client t number lines.now
+        && not (says (refuses_own client number) (lines_at (AtEvent number) lines.now))) }
+{
+    is_in(client, t, number, lines) && !refuses_it(client, number, lines)
+}
+
 /// Whether the event is a command by which the transaction came to the server.
 fn joins(
     client: ClientNo,
@@ -105,7 +94,7 @@ fn joins(
             client == *by && (*at == server && is_begun(client, number, t, lines))
         }
         Event::Command(by, Command::Open(at)) => {
-            client == *by && (*at == server && is_in(client, t, number, lines))
+            client == *by && (*at == server && is_taken_in(client, t, number, lines))
         }
         _ => false,
     }

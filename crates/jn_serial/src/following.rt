@@ -12,14 +12,14 @@ use jn_schedule::Event;
 use std::alloc::{AllocError, Global};
 
 /// A command with the number of its event.
-#[derive(Clone, Copy)]
+#[derive(Drop)]
 pub struct Asked {
     pub number: usize,
     pub command: Command,
 }
 
 /// A command that a client waits for from now on, or none.
-#[derive(Clone, Copy)]
+#[derive(Drop)]
 pub struct Entry {
     pub client: ClientNo,
     pub asked: Option<Asked>,
@@ -163,22 +163,8 @@ fn is_last(text: &Text) -> bool
     !matches!(text, Text::Waiting(_, _, _, _, _))
 }
 
-#[tactic(auto, using(crate::proofs::Entries::outstanding_then_at))]
-/// What a client waits for after all entries.
-fn asked_of(entries: &[Entry], client: ClientNo) -> Option<Asked>
-    ensures { result ≡ outstanding_of entries.now client }
-{
-    let mut asked = None;
-    for entry in entries {
-        if entry.client == client {
-            asked = entry.asked;
-        }
-    }
-    asked
-}
-
-fn fits_asked(asked: Option<Asked>, number: u32, text: &Text) -> bool
-    ensures { result ≡ follows.fits_asked asked number text.now }
+fn fits_asked(asked: &Option<Asked>, number: u32, text: &Text) -> bool
+    ensures { result ≡ follows.fits_asked asked.now number text.now }
 {
     match asked {
         Some(a) => a.number == number as usize && answers_command(&a.command, text),
@@ -186,12 +172,25 @@ fn fits_asked(asked: Option<Asked>, number: u32, text: &Text) -> bool
     }
 }
 
+/// Whether the text answers what the client waits for after all entries.
+fn fits_entries(entries: &[Entry], client: ClientNo, number: u32, text: &Text) -> bool
+    ensures { result ≡ follows.fits_asked (outstanding_of entries.now client) number text.now }
+{
+    let mut fits = false;
+    for entry in entries {
+        if entry.client == client {
+            fits = fits_asked(&entry.asked, number, text);
+        }
+    }
+    fits
+}
+
 /// Whether the text answers no client, or what the client waits for.
 fn fits(entries: &[Entry], text: &Text) -> bool
     ensures { result ≡ follows.fits (outstanding_of entries.now) (follows.answer_in text.now) text.now }
 {
     match answer_in(text) {
-        Some(to) => fits_asked(asked_of(entries, to.client), to.number, text),
+        Some(to) => fits_entries(entries, to.client, to.number, text),
         None => true,
     }
 }
@@ -229,7 +228,8 @@ fn all_fit(entries: &mut Vec<Entry>, here: &[Line]) -> Result<bool, AllocError>
     Ok(true)
 }
 
-fn refuses_own(client: ClientNo, number: usize, text: &Text) -> bool
+/// Whether the text says that the client itself refused its command of the event.
+pub(crate) fn refuses_own(client: ClientNo, number: usize, text: &Text) -> bool
     ensures { result ≡ follows.refuses_own client number text.now }
 {
     match text {
@@ -250,6 +250,7 @@ fn is_refused_own(client: ClientNo, number: usize, here: &[Line]) -> bool
 #[tactic(auto, using(crate::proofs::Entries::outstanding_of_more))]
 /// The event's command, unless the client refused it, replaces what was outstanding.
 fn take_command(
+    alloc: Global,
     entries: &mut Vec<Entry>,
     number: usize,
     event: &Event,
@@ -264,11 +265,12 @@ fn take_command(
     if is_refused_own(*client, number, here) {
         return Ok(());
     }
+    let command = command.copy(alloc)?;
     entries.push(Entry {
         client: *client,
         asked: Some(Asked {
             number,
-            command: *command,
+            command,
         }),
     })?;
     Ok(())
@@ -308,6 +310,7 @@ fn all_own_in_place(number: usize, event: &Event, here: &[Line]) -> bool
 
 /// Whether the lines of an event answer what is outstanding then.
 fn follows_event(
+    alloc: Global,
     entries: &mut Vec<Entry>,
     number: usize,
     event: &Event,
@@ -318,7 +321,7 @@ fn follows_event(
     ensures after { IfOk result (λ b. b ≡ true → outstanding_of entries.new.items
         ≡ follows.after_one (outstanding_of entries.old.items) number event.now here.now) }
 {
-    take_command(entries, number, event, here)?;
+    take_command(alloc, entries, number, event, here)?;
     Ok(all_fit(entries, here)? && all_own_in_place(number, event, here))
 }
 
@@ -330,7 +333,7 @@ fn follow_events(alloc: Global, events: &[Event], lines: &[Line]) -> Result<bool
     let mut entries = Vec::new(alloc);
     for (i, event) in events.iter().enumerate() {
         let here = lines_at_event(alloc, lines, i + 1)?;
-        if !follows_event(&mut entries, i + 1, event, &here)? {
+        if !follows_event(alloc, &mut entries, i + 1, event, &here)? {
             return Ok(false);
         }
     }

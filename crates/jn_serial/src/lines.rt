@@ -6,18 +6,7 @@ ghost use Rattle.jn_serial.specs.Lines as lines_of;
 
 use jn_base::Tid;
 use jn_report::{Line, Text, When};
-use jn_schedule::Event;
 use std::alloc::{AllocError, Global};
-
-/// The event of a number, from 1.
-pub(crate) fn event_at(events: &[Event], number: u32) -> Option<Event>
-    ensures { result ≡ lines_of.event_at events.now number }
-{
-    if number == 0 {
-        return None;
-    }
-    events.get(number as usize - 1).copied()
-}
 
 /// Whether a line stands at the event of a number.
 pub(crate) fn is_at(when: When, number: usize) -> bool

@@ -7,13 +7,12 @@ ghost use Rattle.jn_base.specs.declared.names.ServerNo.{ServerNo as AServer};
 ghost use Rattle.jn_serial.specs.Accounts as accounts;
 ghost use Rattle.jn_serial.specs.Lines.{says};
 ghost use Rattle.jn_serial.specs.Shown as shown;
-ghost use Rattle.jn_serial.specs.Stored as stored_of;
+ghost use Rattle.jn_replay.specs.Stored as stored_of;
 
-use crate::files::{Files, StoredBlock, StoredFile};
 use crate::lines::{history, lines_at_end, lines_at_event, lines_before_event};
 use crate::order::replay;
-use crate::perform::{place_of_block, place_of_file};
 use jn_base::{Block, BlockNo, FileNo, LockUnit, ServerNo};
+use jn_replay::{Files, StoredBlock, StoredFile, place_of_block, place_of_file};
 use jn_report::{Line, Text};
 use jn_schedule::Event;
 use std::alloc::{AllocError, Global};

@@ -1,116 +1,115 @@
-//! What a transaction did, by the lines of a report.
+//! What a transaction did, by the commands and lines of a report.
 
-ghost use Rattle.std.specs.Prelude.{◌≡◌, ◌++◌, [], IfOk, OnOk, if◌then◌else◌, option_to_list};
+ghost use Rattle.std.specs.Prelude.{◌≡◌, ◌++◌, ◌&&◌, nat_eq, IfOk, OnOk, if◌then◌else◌, Some, None, option_to_list};
 ghost use Rattle.jn_base.specs.Names.{client_eq};
-ghost use Rattle.jn_serial.specs.Lines as lines_of;
 ghost use Rattle.jn_serial.specs.Order as order;
 
-use crate::files::Performed;
-use crate::lines::event_at;
-use jn_base::{Answer, ClientNo, Command, Tid};
+use crate::begun::is_in;
+use jn_base::{Answer, BlockContent, ClientNo, Command, Tid};
+use jn_replay::Performed;
 use jn_report::{Line, Refusal, Text};
 use jn_schedule::Event;
 use std::alloc::{AllocError, Global};
 
-/// The operation that a client was told to do in an event, with the answer.
-fn performed_in(client: ClientNo, answer: Answer, event: Option<Event>) -> Option<Performed>
-    ensures { option_to_list result ≡ order.performed_in client answer event }
-{
-    match event {
-        Some(Event::Command(told, Command::Do(server, op))) if client == told => Some(Performed {
-            server,
-            op,
-            answer,
-        }),
-        _ => None,
-    }
-}
-
-/// The operation of event `number`, with its answer, if the answer is the client's.
-fn performed(
-    events: &[Event],
+/// The answer, if it is to the client's command of the event.
+fn if_asked(
     client: ClientNo,
+    number: usize,
     to: ClientNo,
-    number: u32,
+    event: u32,
     answer: Answer,
-) -> Option<Performed>
-    ensures { option_to_list result
-        ≡ (if client_eq client to
-        then order.performed_in client answer (lines_of.event_at events.now number) else []) }
+) -> Option<Answer>
+    ensures { result ≡ (if client_eq client to && nat_eq number event then Some answer else None) }
 {
-    if client == to {
-        performed_in(client, answer, event_at(events, number))
+    if client == to && number == event as usize {
+        Some(answer)
     } else {
         None
     }
 }
 
-/// The operation of a client that a line answers from the files.
-fn answered(events: &[Event], client: ClientNo, text: &Text) -> Option<Performed>
-    ensures { option_to_list result ≡ order.answered events.now client text.now }
-{
-    match text {
-        Text::Did(to, number) => performed(events, client, *to, *number, Answer::Did),
-        Text::Read(to, number, bytes) => {
-            performed(events, client, *to, *number, Answer::Read(*bytes))
-        }
-        Text::Refused(to, number, Refusal::NoFile) => {
-            performed(events, client, *to, *number, Answer::NoFile)
-        }
-        Text::Refused(to, number, Refusal::Exists) => {
-            performed(events, client, *to, *number, Answer::Exists)
-        }
-        _ => None,
-    }
-}
-
-fn is_client(owner: Option<ClientNo>, client: ClientNo) -> bool
-    ensures { result ≡ order.is_client owner client }
-{
-    match owner {
-        Some(c) => c == client,
-        None => false,
-    }
-}
-
-/// Whose transaction `t` is after a line.
-fn owner_after(t: Tid, owner: Option<ClientNo>, text: &Text) -> Option<ClientNo>
-    ensures { result ≡ order.owner_after t owner text.now }
-{
-    match text {
-        Text::Begun(client, _, begun) => {
-            if t == *begun {
-                Some(*client)
-            } else if is_client(owner, *client) {
-                None
-            } else {
-                owner
-            }
-        }
-        _ => owner,
-    }
-}
-
-fn push_answered(
-    performed: &mut Vec<Performed>,
-    events: &[Event],
-    owner: Option<ClientNo>,
+/// The answer from the files that a line gives to the client's command of an event.
+fn answer_told(
+    alloc: Global,
+    client: ClientNo,
+    number: usize,
     text: &Text,
-) -> Result<(), AllocError>
-    ensures { OnOk result (performed.new.items
-        ≡ performed.old.items ++ order.answered_by events.now owner text.now) }
+) -> Result<Option<Answer>, AllocError>
+    ensures { IfOk result (λ a. a ≡ order.answer_told client number text.now) }
 {
-    let Some(client) = owner else {
-        return Ok(());
+    match text {
+        Text::Did(to, event) => Ok(if_asked(client, number, *to, *event, Answer::Did)),
+        Text::Read(to, event, bytes) => {
+            let content = BlockContent::from_block(alloc, bytes)?;
+            Ok(if_asked(client, number, *to, *event, Answer::Read(content)))
+        }
+        Text::Refused(to, event, Refusal::NoFile) => {
+            Ok(if_asked(client, number, *to, *event, Answer::NoFile))
+        }
+        Text::Refused(to, event, Refusal::Exists) => {
+            Ok(if_asked(client, number, *to, *event, Answer::Exists))
+        }
+        _ => Ok(None),
+    }
+}
+
+/// The answer of the first line that gives one.
+fn first_told(
+    alloc: Global,
+    client: ClientNo,
+    number: usize,
+    lines: &[Line],
+) -> Result<Option<Answer>, AllocError>
+    ensures { IfOk result (λ a. a ≡ order.first_told client number lines.now) }
+{
+    for line in lines {
+        let answer = answer_told(alloc, client, number, &line.text)?;
+        if answer.is_some() {
+            return Ok(answer);
+        }
+    }
+    Ok(None)
+}
+
+/// What the transaction did in an event, if it did anything.
+fn op_in(
+    alloc: Global,
+    t: Tid,
+    lines: &[Line],
+    number: usize,
+    event: &Event,
+) -> Result<Option<Performed>, AllocError>
+    ensures { IfOk result (λ p. option_to_list p ≡ order.op_in t lines.now number event.now) }
+{
+    let Event::Command(client, Command::Do(server, op)) = event else {
+        return Ok(None);
     };
-    if let Some(one) = answered(events, client, text) {
+    if !is_in(*client, t, number, lines) {
+        return Ok(None);
+    }
+    let Some(answer) = first_told(alloc, *client, number, lines)? else {
+        return Ok(None);
+    };
+    let op = op.copy(alloc)?;
+    Ok(Some(Performed {
+        server: *server,
+        op,
+        answer,
+    }))
+}
+
+fn push_performed(performed: &mut Vec<Performed>, one: Option<Performed>) -> Result<(), AllocError>
+    ensures { OnOk result (performed.new.items ≡ performed.old.items ++ option_to_list one) }
+{
+    if let Some(one) = one {
         performed.push(one)?;
     }
     Ok(())
 }
 
-/// The operations of a transaction that the files answered, in order, each with its answer. A
-/// transaction is a client's from the line that says it begun to the client's next such line.
+/// The operations of a transaction that the files answered, each once, in the order of their
+/// events, each with the first answer told. They are those of a client between the line that says
+/// that it began the transaction and the client's next such line.
 pub fn ops_of(
     alloc: Global,
     events: &[Event],
@@ -120,10 +119,9 @@ pub fn ops_of(
     ensures { IfOk result (λ ps. ps.items ≡ order.ops_of events.now lines.now t) }
 {
     let mut performed = Vec::new(alloc);
-    let mut owner = None;
-    for line in lines {
-        push_answered(&mut performed, events, owner, &line.text)?;
-        owner = owner_after(t, owner, &line.text);
+    for (i, event) in events.iter().enumerate() {
+        let one = op_in(alloc, t, lines, i + 1, event)?;
+        push_performed(&mut performed, one)?;
     }
     Ok(performed)
 }

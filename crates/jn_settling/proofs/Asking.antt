@@ -113,7 +113,7 @@ module _ (n : ℕ) (at_most : n ≤ 8) where
 
 -- ---- a whole settle
 
-servers-length : (n j : ℕ) → length (servers_from j n) ≡ n
+pub servers-length : (n j : ℕ) → length (servers_from j n) ≡ n
 servers-length zero j = refl
 servers-length (suc n) j = let again = servers-length n (j + 1) in omega (arith, again)
 
@@ -121,12 +121,12 @@ at-light : (o : Option Sent) → weight_at o ≤ 161
 at-light None = omega arith
 at-light (Some x) = weighs x.1
 
-waiting-light : (sent : List Sent) (ks : List ℕ) → weigh sent ks ≤ 161 * length ks
+pub waiting-light : (sent : List Sent) (ks : List ℕ) → weigh sent ks ≤ 161 * length ks
 waiting-light sent [] = omega arith
 waiting-light sent (k ∷ ks) = let again = waiting-light sent ks in let one = at-light (slice_get sent k) in omega (arith, again, one)
 
 -- each that waits weighs something
-waiting-weighs : (sent : List Sent) (ks : List ℕ) → are_below (length sent) ks ≡ true → length ks ≤ weigh sent ks
+pub waiting-weighs : (sent : List Sent) (ks : List ℕ) → are_below (length sent) ks ≡ true → length ks ≤ weigh sent ks
 waiting-weighs sent [] h = omega arith
 waiting-weighs sent (k ∷ ks) h = let again = waiting-weighs sent ks (grind (arith, h)) in let here = get-some sent k (grind (arith, nat_tests, h)) in
     let one = weighs-some here.0.1 in let is = ap weight_at here.1 in omega (arith, again, one, is)

@@ -153,7 +153,7 @@ module _ (n : ℕ) (at_most : n ≤ 8) (w : World) (sizes : Sizes n w) (locks : 
           now = let here = ap (λ b. at b s) itself in let before = was in let goes = leaves.goes in omega (arith, here, before, goes)
 
     -- where it is stopped nothing goes there any more
-    stopped-leads : (made : Pick → ℕ) (row : RowOutcome Memory) (less : ℕ) → less ≤ goings_at (stable (w.found s)) (Some m) → (less ≡ 0) ⊎ ((0 ≤ s.0) × (s.0 < 0 + n)) → Leads n w (stopped s made row w) less 0
+    pub stopped-leads : (made : Pick → ℕ) (row : RowOutcome Memory) (less : ℕ) → less ≤ goings_at (stable (w.found s)) (Some m) → (less ≡ 0) ⊎ ((0 ≤ s.0) × (s.0 < 0 + n)) → Leads n w (stopped s made row w) less 0
     stopped-leads made row less some fit = record {
       new = [];
       sent = sym (append-nil w.sent);

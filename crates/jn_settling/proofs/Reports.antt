@@ -14,7 +14,7 @@ use Rattle.jn_base.specs.Names.{tid_eq, work_eq}
 use Rattle.jn_base.proofs.Tells.{work_tells, tid_tells}
 use Rattle.jn_locks.specs.Locks.{work_before}
 use Rattle.jn_settling.specs.Events.{line, AreSteps}
-use Rattle.jn_settling.specs.Rows.{s0, s1, c1, c2, tid, file, block, padded, start, told, report, without_stale, one_write, stopped_at_prepare, two_at_a_block, a_reader_breaks, two_wait, half_prepared, not_prepared, half_committed, not_committed, goes_on_beside, the_work}
+use Rattle.jn_settling.specs.Rows.{s0, s1, c1, c2, tid, file, block, padded, start, told, report, without_stale, one_write, stopped_at_prepare, two_at_a_block, a_reader_breaks, two_wait, half_prepared, not_prepared, revived_and_prepared, half_committed, not_committed, goes_on_beside, the_work}
 
 -- ---- what the restarts find
 
@@ -187,7 +187,28 @@ a_stopped_prepare_is_found_or_not_decayed = refl
 
 pub a_stopped_prepare_is_found_or_not_decayed_steps : AreSteps 2 not_prepared (start 2)
 unfolding locks.unit_before
-a_stopped_prepare_is_found_or_not_decayed_steps = ((tt, tt), ((tt, tt), ((tt, tt), (tt, ((tt, tt), ((tt, tt), (((no-works, no-flags), tt), tt)))))))
+a_stopped_prepare_is_found_or_not_decayed_steps = ((tt, tt), ((tt, tt), ((tt, tt), (tt, ((tt, tt), (tt, (((no-works, no-flags), tt), tt)))))))
+
+pub a_stopped_prepare_is_found_or_not_revived : report 2 revived_and_prepared
+    ≡ line 2 (says.Begun c1 1 (tid s1 0))
+    ∷ line 4 (says.Opened c1 3 s0)
+    ∷ line 6 (says.Did c1 5)
+    ∷ line 9 (says.Stopped s0)
+    ∷ line 9 (says.Lost 11)
+    ∷ line 12 (says.Up s0 2)
+    ∷ line 13 (says.Commit (tid s1 0))
+    ∷ line 13 (says.Committed c1 8 (tid s1 0))
+    ∷ []
+unfolding locks.unit_before
+a_stopped_prepare_is_found_or_not_revived = refl
+
+pub a_stopped_prepare_is_found_or_not_revived_steps : AreSteps 2 revived_and_prepared (start 2)
+unfolding locks.unit_before
+a_stopped_prepare_is_found_or_not_revived_steps = ((tt, tt), ((tt, tt), ((tt, tt), (tt, ((tt, tt), (tt, (tt, (((one-work _, no-flags), tt), tt))))))))
+
+pub a_stopped_prepare_is_found_or_not_revived_file : (c : Pick) → ((told 2 revived_and_prepared).course.world.found s0 c).files (File (file 7)) ≡ Some there
+unfolding locks.unit_before
+a_stopped_prepare_is_found_or_not_revived_file c = refl
 
 pub a_stopped_commit_is_found_or_not_found_file : (c : Pick) → ((told 2 half_committed).course.world.found s0 c).files (File (file 7)) ≡ Some there
 unfolding locks.unit_before
@@ -229,7 +250,7 @@ a_stopped_commit_is_found_or_not_decayed = refl
 
 pub a_stopped_commit_is_found_or_not_decayed_steps : AreSteps 2 not_committed (start 2)
 unfolding locks.unit_before
-a_stopped_commit_is_found_or_not_decayed_steps = ((tt, tt), ((tt, tt), ((tt, tt), (tt, ((tt, tt), ((tt, tt), (((no-works, no-flags), tt), tt)))))))
+a_stopped_commit_is_found_or_not_decayed_steps = ((tt, tt), ((tt, tt), ((tt, tt), (tt, ((tt, tt), (tt, (((no-works, no-flags), tt), tt)))))))
 
 pub a_commit_is_named_at_a_restart_first_file : (c : Pick) → ((told 2 goes_on_beside).course.world.found s0 c).files (File (file 7)) ≡ Some there
 unfolding locks.unit_before

@@ -15,7 +15,7 @@ use Rattle.jn_report.specs.declared.line.Text.{Text}
 use Rattle.jn_report.specs.declared.line.Text.TheVariants as says
 use Rattle.jn_rows.specs.Stable.{Pick}
 use Rattle.jn_protocol.specs.Servers.{Room}
-use Rattle.jn_protocol.specs.Steps.{Tell, Again, Restart, Timeout, Narrow}
+use Rattle.jn_protocol.specs.Steps.{Tell, Again, Restart, Timeout}
 use Rattle.jn_settling.specs.Course.{opening_course, Course}
 use Rattle.jn_settling.specs.Settle.{Chance}
 use Rattle.jn_settling.specs.Events.{Event, Does, Settles, Told, told_by}
@@ -73,13 +73,17 @@ tells c command = Does (Tell c command ∷ [])
 abbrev pub then_settle : ClientNo → Command → List Event → List Event
 then_settle c command events = tells c command ∷ settle ∷ events
 
--- a fault is to strike later, in a settle that says so
+-- an event that does nothing yet, as where a fault is to strike later, in a settle that says so
 abbrev pub no_event : Event
 no_event = Does []
 
--- a restart reads the second halves where these are the works and flags that it finds
+-- a restart reads what this pick does, where these are the works and flags that it finds
+abbrev pub restarts_by : Pick → ServerNo → List WorkId → List Tid → Event
+restarts_by pick s works tids = Does (Restart s pick works tids ∷ [])
+
+-- it reads the first halves
 abbrev pub restarts : ServerNo → List WorkId → List Tid → Event
-restarts s works tids = Does (Restart s (λ n. true) works tids ∷ [])
+restarts s works tids = restarts_by (λ n. true) s works tids
 
 -- what a run of these events on so many servers reports
 abbrev pub start : ℕ → Course
@@ -138,9 +142,9 @@ made_apart events =
 abbrev pub half_made : Pick → ℕ
 half_made c = if c 3 then 1 else 0
 
--- and none finds it once that half is bad
-abbrev pub decays : ServerNo → Event
-decays s = Does (Narrow s (λ c n. false) ∷ [])
+-- While that half is bad a restart reads the other one, and doesn't find it. A decay and a revival change nothing that is kept.
+abbrev pub restarts_without : ServerNo → List WorkId → List Tid → Event
+restarts_without s works tids = restarts_by (λ n. false) s works tids
 
 abbrev pub the_work : WorkId
 the_work = record { server = s0; epoch = 1; ticket = 0 }
@@ -149,13 +153,17 @@ abbrev pub half_prepared : List Event
 half_prepared = made_apart (settle_with_stop 1 half_made ∷ restarts s0 (the_work ∷ []) [] ∷ settle ∷ [])
 
 abbrev pub not_prepared : List Event
-not_prepared = made_apart (settle_with_stop 1 half_made ∷ decays s0 ∷ restarts s0 [] [] ∷ settle ∷ [])
+not_prepared = made_apart (settle_with_stop 1 half_made ∷ no_event ∷ restarts_without s0 [] [] ∷ settle ∷ [])
+
+-- the half goes bad, and is good again before the restart
+abbrev pub revived_and_prepared : List Event
+revived_and_prepared = made_apart (settle_with_stop 1 half_made ∷ no_event ∷ no_event ∷ restarts s0 (the_work ∷ []) [] ∷ settle ∷ [])
 
 abbrev pub half_committed : List Event
 half_committed = made_apart (settle_with_stop 2 half_made ∷ restarts s1 [] (tid s1 0 ∷ []) ∷ settle ∷ [])
 
 abbrev pub not_committed : List Event
-not_committed = made_apart (settle_with_stop 2 half_made ∷ decays s1 ∷ restarts s1 [] [] ∷ settle ∷ [])
+not_committed = made_apart (settle_with_stop 2 half_made ∷ no_event ∷ restarts_without s1 [] [] ∷ settle ∷ [])
 
 -- while the coordinator is down another client goes on at the other server
 abbrev pub goes_on_beside : List Event

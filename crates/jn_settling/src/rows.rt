@@ -8,7 +8,7 @@ ghost use Rattle.jn_rows.specs.Stable.{Pick};
 ghost use Rattle.jn_report.specs.declared.line.Refusal.TheVariants.{NoFile, Locked};
 ghost use Rattle.jn_report.specs.declared.line.Text.TheVariants as says;
 ghost use Rattle.jn_settling.specs.Events.{line, AreSteps};
-ghost use Rattle.jn_settling.specs.Rows.{s0, s1, c1, c2, tid, file, block, padded, start, told, report, without_stale, one_write, stopped_at_prepare, two_at_a_block, a_reader_breaks, two_wait, half_prepared, not_prepared, half_committed, not_committed, goes_on_beside};
+ghost use Rattle.jn_settling.specs.Rows.{s0, s1, c1, c2, tid, file, block, padded, start, told, report, without_stale, one_write, stopped_at_prepare, two_at_a_block, a_reader_breaks, two_wait, half_prepared, not_prepared, revived_and_prepared, half_committed, not_committed, goes_on_beside};
 
 /// A client makes a file, writes a block and ends, with a settle after each command.
 pub fn one_client_writes()
@@ -111,7 +111,8 @@ pub fn two_clients_wait()
     ensures file { (c : Pick) → ((told 2 two_wait).course.world.found s0 c).files (File (file 7)) ≡ Some there }
 {}
 
-/// A server is stopped halfway through the put that makes a work ready: a restart may find it, or not where that half has decayed.
+/// A server is stopped halfway through the put that makes a work ready: a restart may find it, or not while that half is
+/// bad. Where the half has decayed and is revived before the restart, the work is found as if it had never been bad.
 pub fn a_stopped_prepare_is_found_or_not()
     ensures found_steps { AreSteps 2 half_prepared (start 2) }
     ensures found { report 2 half_prepared
@@ -135,6 +136,18 @@ pub fn a_stopped_prepare_is_found_or_not()
         ∷ line 11 (says.Up s0 2)
         ∷ line 12 (says.Aborted c1 8 (tid s1 0) (Lost s0))
         ∷ [] }
+    ensures revived_steps { AreSteps 2 revived_and_prepared (start 2) }
+    ensures revived { report 2 revived_and_prepared
+        ≡ line 2 (says.Begun c1 1 (tid s1 0))
+        ∷ line 4 (says.Opened c1 3 s0)
+        ∷ line 6 (says.Did c1 5)
+        ∷ line 9 (says.Stopped s0)
+        ∷ line 9 (says.Lost 11)
+        ∷ line 12 (says.Up s0 2)
+        ∷ line 13 (says.Commit (tid s1 0))
+        ∷ line 13 (says.Committed c1 8 (tid s1 0))
+        ∷ [] }
+    ensures revived_file { (c : Pick) → ((told 2 revived_and_prepared).course.world.found s0 c).files (File (file 7)) ≡ Some there }
 {}
 
 /// A coordinator is stopped halfway through the put of a flag: a restart may find it and names the commit, or not.

@@ -17,7 +17,9 @@ use Rattle.jn_report.specs.declared.line.Line.{Line}
 use Rattle.jn_serial.specs.Lines.{lines_at, says as says_it, history_of}
 use Rattle.jn_serial.specs.Order.{replay}
 use Rattle.jn_serial.specs.Shown.{IsAsIn, AllAsIn, prints_file, is_locked, ShowsFiles, ShownSoFar, Shown}
+use Rattle.jn_serial.specs.Follows.{Follows}
 use Rattle.jn_serial.proofs.Orders.{lines_at-append}
+use Rattle.jn_serial.proofs.InTurn.{AreAtEnd, AreInTurn, turn-to-end}
 use Rattle.jn_machine.specs.Steps.{run as run_atoms, opening_world}
 use Rattle.jn_moves.proofs.Mirrored.{commits-more}
 use Rattle.jn_rows.specs.Worker.{commit_holder}
@@ -29,12 +31,15 @@ use Rattle.jn_reported.specs.Ending.{Comeback, Ending, AreFilesOf, restarts_from
 use Rattle.jn_reported.proofs.Lists.{In, Each, in-first, in-second, in-either, each-in, each-append}
 use Rattle.jn_reported.proofs.Reached.{Reached, LineFact, next-reached, opening-reached}
 use Rattle.jn_reported.proofs.Naming.{adds}
+use Rattle.jn_reported.proofs.Following.{run-in-turn, run-follows}
+use Rattle.jn_causes.proofs.Ends.{end-told}
 use Rattle.jn_talk.specs.Agreement.{AreAsTold}
 use Rattle.jn_talk.proofs.Tellings.{texts_of}
 use Rattle.jn_talk.proofs.Quiet.{AreDumb}
 use Rattle.jn_talk.proofs.Reports.{IsCalm, prints-dumb, texts-more, last-reached, end-reached, end-ops, end-as-told, beginning-told}
 use Rattle.jn_shown.proofs.Within.{AllTell, Within, IsAt, run-within, items-tell, calm-tell, opening-within, ops-at, replay-same}
 use Rattle.jn_shown.proofs.Shows.{shown-with}
+use Rattle.jn_shown.proofs.Follows.{follows-to-end, counted-follows}
 use Rattle.jn_shown.proofs.Prints.{AreSame, says-it, said-it, all-as, in-texts, from-texts, is-there, none-locked, shows-files}
 
 not-both : (b : Bool) → b ≡ true → b ≡ false → ⊥
@@ -274,6 +279,10 @@ texts-at-end : (a : List Text) → texts_of (at_end a) ≡ a
 texts-at-end [] = refl
 texts-at-end (x ∷ a) = ap (λ l. x ∷ l) (texts-at-end a)
 
+are-at-end : (a : List Text) → AreAtEnd (at_end a)
+are-at-end [] = tt
+are-at-end (x ∷ a) = (refl, are-at-end a)
+
 whole-at-end : (a : List Text) → lines_at AtEnd (at_end a) ≡ at_end a
 whole-at-end [] = refl
 whole-at-end (x ∷ a) = ap (λ l. (record { when = AtEnd; text = x }) ∷ l) (whole-at-end a)
@@ -333,11 +342,18 @@ module _ (servers : ℕ) (files : AllFiles) (epochs : ServerNo → ℕ) (items :
       ∙ ap (λ l. l ++ at_end count) (lines_at-append AtEnd (lines_of items start) (at_end (told_then ++ printed)) ∙ ap (λ l. l ++ lines_at AtEnd (at_end (told_then ++ printed))) (none-at-end items start) ∙ whole-at-end (told_then ++ printed))
       ∙ sym (at-end-more (told_then ++ printed) count) ∙ ap at_end (append_assoc told_then printed count)
 
+  turn : AreInTurn 1 (events_of items) lines
+  turn = turn-to-end 1 (events_of items) (lines_of items start ++ at_end (told_then ++ printed)) (at_end count)
+      (turn-to-end 1 (events_of items) (lines_of items start) (at_end (told_then ++ printed)) (run-in-turn files epochs servers items h) (are-at-end (told_then ++ printed))) (are-at-end count)
+
+  follows : Follows (events_of items) lines
+  follows = counted-follows (events_of items) (lines_of items start ++ at_end (told_then ++ printed)) (follows-to-end (events_of items) (lines_of items start) (told_then ++ printed) (end-told servers e w k.settling) (run-follows files epochs servers items h))
+
   reached : Reached files epochs (world_at_end servers e w)
   reached = end-reached servers files epochs [] items h steps k.steps calm (printed ++ count) silent.0 silent.1
 
   as-told : AreAsTold files (events_of items) lines lines (world_at_end servers e w)
-  as-told = end-as-told servers files epochs [] items h steps k.steps calm (printed ++ count) silent.0 silent.1 lines same-texts
+  as-told = end-as-told servers files epochs [] items h steps k.steps calm (printed ++ count) silent.0 silent.1 lines same-texts turn follows
 
   of-steps : (y : Text) → In y told_then → IsOfStep y
   of-steps y j = told-of-step files epochs (world_at_end servers e w) reached y
@@ -353,7 +369,7 @@ module _ (servers : ℕ) (files : AllFiles) (epochs : ServerNo → ℕ) (items :
   -- a server that there isn't has no files
   beyond : AreFilesOf servers files → (s : ServerNo) → servers ≤ s.0 → (u : LockUnit) → replay files (events_of items) lines (history_of lines) s u ≡ None
   beyond few s out u = ap (λ f. f u) (replay-same servers (events_of items) lines (history_of lines) files s out
-      (λ T. subst (λ l. Each (IsAt servers (events_of items)) l) (sym (end-ops servers files epochs [] items h steps k.steps calm (printed ++ count) silent.0 silent.1 lines same-texts T)) (ops-at servers (events_of items) T None (world_at_end servers e w).lines within.lines))) ∙ few s u out
+      (λ T. subst (λ l. Each (IsAt servers (events_of items)) l) (sym (end-ops servers files epochs [] items h steps k.steps calm (printed ++ count) silent.0 silent.1 lines same-texts turn follows T)) (ops-at servers (events_of items) T None (world_at_end servers e w).lines within.lines))) ∙ few s u out
     where
       then-tell : AllTell servers (events_of items) files epochs (steps_of items) start
       then-tell = items-tell servers (events_of items) files epochs items start [] [] (sym (append-nil (events_of items))) refl (opening-reached files epochs servers) h.steps h.under
@@ -385,8 +401,8 @@ module _ (servers : ℕ) (files : AllFiles) (epochs : ServerNo → ℕ) (items :
   -- the shows before it, by all lines
   pub so-far : ShownSoFar files (events_of items) (lines_to_end servers items e start)
   so-far = shown-with files epochs servers items h lines (told_then ++ printed ++ count) (append_assoc (lines_of items start) (at_end (told_then ++ printed)) (at_end count) ∙ ap (λ l. lines_of items start ++ l) (sym (at-end-more (told_then ++ printed) count)))
-      (λ before later q. subst (λ l. (g : IsReported l start) (j : IsRun steps (world_of l start)) → texts_of lines ≡ texts_of (lines_of l start) ++ (told_by_steps steps (world_of l start) ++ (printed ++ count)) → AreAsTold files (events_of l) lines (lines_of before start) (world_of before start)) (sym q)
-      (λ g j x. beginning-told servers files epochs before later g steps j calm (printed ++ count) silent.0 silent.1 lines x) h k.steps same-texts)
+      (λ before later q. subst (λ l. (g : IsReported l start) (j : IsRun steps (world_of l start)) → texts_of lines ≡ texts_of (lines_of l start) ++ (told_by_steps steps (world_of l start) ++ (printed ++ count)) → AreInTurn 1 (events_of l) lines → Follows (events_of l) lines → AreAsTold files (events_of l) lines (lines_of before start) (world_of before start)) (sym q)
+      (λ g j x t f. beginning-told servers files epochs before later g steps j calm (printed ++ count) silent.0 silent.1 lines x t f) h k.steps same-texts turn follows)
 
   pub end-whole : AreFilesOf servers files → says_it is_locked (lines_at AtEnd (lines_to_end servers items e start)) ≡ false → Shown files (events_of items) (lines_to_end servers items e start)
   end-whole few free = record { so_far = so-far; at_end = record { all = end-all few; unlocked = free } }

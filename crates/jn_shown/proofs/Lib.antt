@@ -1,3 +1,4 @@
+pub mod Follows
 pub mod Prints
 pub mod Shows
 pub mod Within

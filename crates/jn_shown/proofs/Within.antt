@@ -31,12 +31,14 @@ use Rattle.jn_rows.specs.declared.client.Taken.TheVariants as taken
 use Rattle.jn_rows.specs.Stable.{Pick, stable}
 use Rattle.jn_rows.specs.Outcomes.{RowOutcome, Sent}
 use Rattle.jn_rows.specs.Client.{ClientTable, Commanded, Refuses, Sends, work_at, if_server, if_idle, if_transaction, if_no_transaction, if_open, if_not_open, command_row, is_current, is_end, is_end_or_abort, if_waits, begun_row, opened_row, decided_row, outcome_row, take_row}
-use Rattle.jn_serial.specs.declared.files.Performed.{Performed}
+use Rattle.jn_replay.specs.declared.files.Performed.{Performed}
 use Rattle.jn_serial.specs.declared.following.Asked.{Asked}
 use Rattle.jn_serial.specs.declared.following.Addressed.{Addressed}
 use Rattle.jn_serial.specs.Follows.{Outstanding as Waited, with_asked, answer_in, is_last, fits, fits_asked, answers_command, after_answer}
 use Rattle.jn_serial.specs.Lines.{event_at}
-use Rattle.jn_serial.specs.Order.{ops_of, performed_in, answered, answered_by, owner_after, files_then, replay}
+use Rattle.jn_replay.specs.Operations.{files_then}
+use Rattle.jn_serial.specs.Order.{ops_of, replay}
+use Rattle.jn_serial.specs.InTurn.{performed_in, answered, answered_by, owner_after}
 use Rattle.jn_serial.proofs.Growth.{event_at-next}
 use Rattle.jn_protocol.specs.World.{World, Memory, at_client, opening}
 use Rattle.jn_protocol.specs.Servers.{Room, server_row, server_step}

@@ -15,8 +15,9 @@ use Rattle.jn_schedule.specs.declared.Event.{Event}
 use Rattle.jn_report.specs.declared.line.Line.{Line}
 use Rattle.jn_rows.specs.Stable.{Pick, stable}
 use Rattle.jn_serial.specs.Lines.{history_of}
-use Rattle.jn_serial.specs.declared.files.Performed.{Performed}
-use Rattle.jn_serial.specs.Order.{ops_of, files_then, replay as replay-lines, GivesAnswers, AgreesFrom}
+use Rattle.jn_replay.specs.declared.files.Performed.{Performed}
+use Rattle.jn_replay.specs.Operations.{files_then, GivesAnswers}
+use Rattle.jn_serial.specs.Order.{ops_of, replay as replay-lines, AgreesFrom}
 use Rattle.jn_machine.specs.Traces.{Answered, effects, Agrees}
 use Rattle.jn_machine.specs.World.{World as Machine, Commit, replay, IsSerial}
 use Rattle.jn_machine.specs.Steps.{Atom, trace_of, run as run_atoms, opening_world}

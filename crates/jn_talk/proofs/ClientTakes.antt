@@ -31,7 +31,7 @@ use Rattle.jn_rows.specs.declared.client.Taken.TheVariants as taken
 use Rattle.jn_rows.specs.Outcomes.{Sent}
 use Rattle.jn_rows.specs.Client.{ClientTable, work_at as open_at, is_begin, is_operation, is_end_or_abort, opens, is_current, is_tid, if_waits, idle, over, begun_row, opened_row, answer_line, decided_row, outcome_row, take_row}
 use Rattle.jn_serial.specs.Lines.{event_at}
-use Rattle.jn_serial.specs.Order.{performed_in, answered_by, owner_after, is_client}
+use Rattle.jn_serial.specs.InTurn.{performed_in, answered_by, owner_after, is_client}
 use Rattle.jn_lock_rows.proofs.Works.{work_same}
 use Rattle.jn_machine.specs.Traces.{Answered}
 use Rattle.jn_machine.specs.World.{World as Machine}
@@ -45,8 +45,10 @@ use Rattle.jn_moves.proofs.StepMoves.{holds-of}
 use Rattle.jn_runs.proofs.Openings.{Opening, opening_in, openings, Has}
 use Rattle.jn_runs.proofs.Facts.{opening, is_closing, Facts}
 use Rattle.jn_runs.proofs.ClientFacts.{all-have-theirs}
-use Rattle.jn_talk.specs.Told.{ops_in, owner_in, begins_it, is_begun, at_place}
-use Rattle.jn_talk.proofs.Tellings.{SaysAs, ops-more, owner-more, begun-more, place-more, none-told}
+use Rattle.jn_serial.proofs.Beginners.{begins_for}
+use Rattle.jn_serial.proofs.Orders.{any-append}
+use Rattle.jn_talk.specs.Told.{ops_in, owner_in, begins_it, is_begun, begun_by, at_place}
+use Rattle.jn_talk.proofs.Tellings.{SaysAs, ops-more, owner-more, begun-more, by-begun, place-more, none-told}
 use Rattle.jn_talk.proofs.Acting.{acting, AreSilent}
 use Rattle.jn_talk.proofs.Facts.{said, counts, op_in, op_asked, IsOperation, IsAsking, IsNumbered, Hears, IsRunningAt, IsTalking, IsKept, IsDrawn, is_op_of, op_sent, IsOpenAt, IsKnown, IsStarted, Talk}
 use Rattle.jn_talk.proofs.Quiet.{SameTold, IsDumb, same-told, map-all, none-of, silent-asks}
@@ -137,6 +139,18 @@ module _ (events : List Event) (c : ClientNo) (j : ℕ) (s : ServerNo) (op : Op)
   answer-owner T o (answers.Lost was is) = (refl, refl)
   answer-owner T o answers.Closing = (refl, refl)
 
+answer-by : (d : ClientNo) (T : Tid) (c : ClientNo) (j : ℕ) (answer : Answer) → begins_for d T (answer_line c j answer) ≡ false
+answer-by d T c j answers.Did = refl
+answer-by d T c j (answers.Read bytes) = refl
+answer-by d T c j answers.NoFile = refl
+answer-by d T c j answers.Exists = refl
+answer-by d T c j (answers.Locked u by) = refl
+answer-by d T c j answers.TooManyReads = refl
+answer-by d T c j answers.TooManyWrites = refl
+answer-by d T c j (answers.Broken u by) = refl
+answer-by d T c j (answers.Lost was is) = refl
+answer-by d T c j answers.Closing = refl
+
 or-false : (a b : Bool) → b ≡ false → (a || b) ≡ a
 or-false a b h = grind arith
 
@@ -193,6 +207,10 @@ module _ (events : List Event) (r : World) (w : Machine) (mirrors : Mirrors r w)
     begun-still : (T : Tid) → is_begun T (r.lines ++ answer_line c o.event answer ∷ []) ≡ is_begun T r.lines
     begun-still T = begun-more T r.lines (answer_line c o.event answer ∷ []) ∙ or-false (is_begun T r.lines) (begins_it T (answer_line c o.event answer) || false)
         (or-false (begins_it T (answer_line c o.event answer)) false refl ∙ (answer-owner events c o.event s op its.told T None answer).1)
+
+    by-still : (d : ClientNo) (T : Tid) → begun_by d T (r.lines ++ answer_line c o.event answer ∷ []) ≡ begun_by d T r.lines
+    by-still d T = any-append (begins_for d T) r.lines (answer_line c o.event answer ∷ []) ∙ or-false (begun_by d T r.lines) (begins_for d T (answer_line c o.event answer) || false)
+        (or-false (begins_for d T (answer_line c o.event answer)) false refl ∙ answer-by d T c o.event answer)
 
     said-own : (T : Tid) (q : ServerNo) → owner_in T None r.lines ≡ Some c → said events T q (r.lines ++ answer_line c o.event answer ∷ []) ≡ said events T q r.lines ++ (if server_eq s q then counts op answer else [])
     said-own T q e = said-more events T q r.lines (answer_line c o.event answer) ∙ ap (λ z. said events T q r.lines ++ at_place q (answered_by events z (answer_line c o.event answer))) e
@@ -276,7 +294,7 @@ module _ (events : List Event) (r : World) (w : Machine) (mirrors : Mirrors r w)
           opened = g.opened;
           begun = begun-still (w.owner W) ∙ g.begun;
           its = by-client (λ d z. z.transaction ≡ Some (w.owner W) → IsOpenAt W (open_at W.server z.works)) r.clients c (idle t) (g.its c) (λ d ne. g.its d);
-        }) (λ T e. table-started events r w c (idle t) [] (answer_line c o.event answer ∷ []) draws T (talk.started T (sym (begun-still T) ∙ e)))
+        }) (λ T e. table-started events r w c (idle t) [] (answer_line c o.event answer ∷ []) draws T (λ d f. sym (by-still d T) ∙ f) (talk.started T (sym (begun-still T) ∙ e)))
       where
         draws : (t.next ≤ (idle t).next) × ((p : Outstanding) → (idle t).outstanding ≡ Some p → (t.outstanding ≡ Some p) ⊎ (t.next ≤ p.request))
         draws = (le t.next, λ p e. absurd (none_some p e))
@@ -372,6 +390,18 @@ module _ (events : List Event) (r : World) (w : Machine) (mirrors : Mirrors r w)
     begun-started : (U : Tid) → is_begun U (r.lines ++ says.Begun c o.event T ∷ []) ≡ true → IsStarted begun-world U
     begun-started U e = by (is_begun U r.lines) refl (tid_tells U T)
       where
+        now-its : (d : ClientNo) (b : Bool) → begun_by d T r.lines ≡ b → (begun_by d T r.lines || ((client_eq d c && tid_eq T T) || false)) ≡ true → ((client_eq d c ≡ true) × (d ≡ c)) ⊎ ((client_eq d c ≡ false) × (d ≢ c)) → d ≡ c
+        now-its d true f k tells = absurd (not_both (is_begun T r.lines) (by-begun d T r.lines f) not-begun)
+        now-its d false f k (inl p) = p.1
+        now-its d false f k (inr p) = absurd (not_both true refl (sym (sym (ap (λ (b : Bool). b || ((client_eq d c && tid_eq T T) || false)) f ∙ ap (λ (b : Bool). (b && tid_eq T T) || false) p.0) ∙ k)))
+
+        before-it : (d : ClientNo) (U : Tid) → is_begun U r.lines ≡ true → begun_by d U (r.lines ++ says.Begun c o.event T ∷ []) ≡ (begun_by d U r.lines || ((client_eq d c && tid_eq U T) || false)) → IsTid U → begun_by d U (r.lines ++ says.Begun c o.event T ∷ []) ≡ true → begun_by d U r.lines ≡ true
+        before-it d U f is (inl p) k = absurd (not_both (is_begun U r.lines) f (subst (λ (z : Tid). is_begun z r.lines ≡ false) (sym p.1) not-begun))
+        before-it d U f is (inr p) k = sym (only (begun_by d U r.lines) (client_eq d c)) ∙ sym (ap (λ (b : Bool). begun_by d U r.lines || ((client_eq d c && b) || false)) p.0) ∙ sym is ∙ k
+          where
+            only : (a b : Bool) → (a || ((b && false) || false)) ≡ a
+            only a b = grind arith
+
         its : IsStarted begun-world T
         its = record {
           client = c;
@@ -379,10 +409,11 @@ module _ (events : List Event) (r : World) (w : Machine) (mirrors : Mirrors r w)
           has = subst (λ l. Has (opening c o.request T) (openings l)) (sym (append-nil r.sent)) has;
           drawn = subst (λ (z : ClientTable). o.request < z.next) (sym (at-own r.clients c in-it)) ((facts.clients c).waits o waits).drawn;
           before = λ p f g. absurd (none_some p (ap (λ (z : ClientTable). z.outstanding) (sym (at-own r.clients c in-it)) ∙ f));
+          its = λ d f. now-its d (begun_by d T r.lines) refl (sym (any-append (begins_for d T) r.lines (says.Begun c o.event T ∷ [])) ∙ f) (client_tells d c);
         }
 
         by : (b : Bool) → is_begun U r.lines ≡ b → IsTid U → IsStarted begun-world U
-        by true f p = table-started events r w c in-it [] (says.Begun c o.event T ∷ []) begun-draws U (talk.started U f)
+        by true f p = table-started events r w c in-it [] (says.Begun c o.event T ∷ []) begun-draws U (λ d k. before-it d U f (any-append (begins_for d U) r.lines (says.Begun c o.event T ∷ [])) p k) (talk.started U f)
         by false f (inl p) = subst (λ (z : Tid). IsStarted begun-world z) (sym p.1) its
         by false f (inr p) = absurd (not_both true refl (sym (sym (begun-now U ∙ ap (λ (b : Bool). b || (tid_eq U T || false)) f ∙ ap (λ (b : Bool). b || false) p.0) ∙ e)))
 
@@ -471,7 +502,7 @@ module _ (events : List Event) (r : World) (w : Machine) (mirrors : Mirrors r w)
           opened = g.opened;
           begun = told-same-so.begun (w.owner V) ∙ g.begun;
           its = by-client (λ d z. z.transaction ≡ Some (w.owner V) → IsOpenAt V (open_at V.server z.works)) r.clients c with-it (λ f. open-more V V.server (g.its c f)) (λ d ne. g.its d);
-        }) (λ U e. table-started events r w c with-it [] (says.Opened c o.event W.server ∷ []) opened-draws U (talk.started U (sym (told-same-so.begun U) ∙ e)))
+        }) (λ U e. table-started events r w c with-it [] (says.Opened c o.event W.server ∷ []) opened-draws U (λ d f. sym (told-same-so.by d U) ∙ f) (talk.started U (sym (told-same-so.begun U) ∙ e)))
 
   -- ---- lines that tell a transaction nothing
 

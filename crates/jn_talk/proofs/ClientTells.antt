@@ -169,6 +169,7 @@ module _ (events : List Event) (r : World) (w : Machine) (talk : Talk events r w
       has = subst (λ l. Has (opening h.client h.request T) l) (sym (openings-more r.sent (x ∷ []))) (has-first (opening h.client h.request T) (openings r.sent) (openings (x ∷ [])) h.has);
       drawn = h.drawn;
       before = h.before;
+      its = h.its;
     };
   }
     where
@@ -298,7 +299,7 @@ module _ (events : List Event) (r : World) (w : Machine) (mirrors : Mirrors r w)
           opened = k.opened;
           begun = same.begun (w.owner W) ∙ k.begun;
           its = by-client (λ d z. z.transaction ≡ Some (w.owner W) → IsOpenAt W (open_at W.server z.works)) r.clients c u (λ f. open-still W W.server (k.its c f)) (λ d ne. k.its d);
-        }) (λ U e. table-started events r w c u [] [] draws U (talk.started U (sym (same.begun U) ∙ e)))
+        }) (λ U e. table-started events r w c u [] [] draws U (λ d f. sym (same.by d U) ∙ f) (talk.started U (sym (same.begun U) ∙ e)))
 
     -- the table as it is, with the message
     does-talks : RowTalks (sends (record t { works = with_operation s t.works }) r.event (Do s op) (Server s) (messages.Op t.client t.next v.work (v.last + 1) op))

@@ -23,7 +23,7 @@ use Rattle.jn_protocol.specs.World.{World, at_client}
 use Rattle.jn_protocol.specs.Steps.{dismiss}
 use Rattle.jn_runs.proofs.Openings.{openings, openings-more, Has, has-first}
 use Rattle.jn_runs.proofs.Facts.{opening, is_closing}
-use Rattle.jn_talk.specs.Told.{owner_in, is_begun}
+use Rattle.jn_talk.specs.Told.{owner_in, is_begun, begun_by}
 use Rattle.jn_talk.proofs.Tellings.{SaysAs}
 use Rattle.jn_talk.proofs.Acting.{AreSilent}
 use Rattle.jn_talk.proofs.Facts.{said, op_asked, IsAsking, IsNumbered, Hears, IsRunningAt, IsTalking, IsEndedAt, IsKept, IsDrawn, op_sent, IsOpenAt, IsKnown, IsStarted, Talk}
@@ -102,14 +102,15 @@ module _ (events : List Event) (r : World) (v : Machine) (c : ClientNo) (u : Cli
       by k o f l (inr le) = absurd (omega (arith, k, le, f))
   table-drawn new (to, _) h = tt
 
-  pub table-started : DrawsNew → (T : Tid) → IsStarted r T → IsStarted now T
-  table-started new T k = record {
+  pub table-started : DrawsNew → (T : Tid) → ((d : ClientNo) → begun_by d T (r.lines ++ texts) ≡ true → begun_by d T r.lines ≡ true) → IsStarted r T → IsStarted now T
+  table-started new T told k = record {
     client = k.client;
     request = k.request;
     has = subst (λ l. Has (opening k.client k.request T) l) (sym (openings-more r.sent more)) (has-first (opening k.client k.request T) (openings r.sent) (openings more) k.has);
     drawn = by-client (λ e t. k.request < (r.clients e).next → k.request < t.next) r.clients c u (λ l. let le = new.0 in omega (arith, l, le)) (λ e ne l. l) k.client k.drawn;
     before = by-client (λ e t. k.request < (r.clients e).next → ((o : Outstanding) → (r.clients e).outstanding ≡ Some o → is_begin o.command ≡ true → k.request < o.request) → (o : Outstanding) → t.outstanding ≡ Some o → is_begin o.command ≡ true → k.request < o.request)
         r.clients c u (λ l m o e f. by l m o f (new.1 o e)) (λ e ne l m. m) k.client k.drawn k.before;
+    its = λ d e. k.its d (told d e);
   }
     where
       by : k.request < (r.clients c).next → ((o : Outstanding) → (r.clients c).outstanding ≡ Some o → is_begin o.command ≡ true → k.request < o.request) → (o : Outstanding) → is_begin o.command ≡ true
@@ -197,7 +198,7 @@ module _ (events : List Event) (r : World) (v : Machine) (c : ClientNo) (u : Cli
       pub quiet-client-talks : Talk events now v
       quiet-client-talks = client-talks talk (silent-nos more silent) own (λ T d ne e. (told.owner T ∙ e, told.said events T)) (λ T e. told.said events T)
           (λ T d e. by-client (λ d t. owner_in T None r.lines ≡ Some d → (t.transaction ≡ None) ⊎ (t.transaction ≡ Some T)) r.clients c u (keeps-owner T) (λ d ne. talk.owners T d) d (sym (told.owner T) ∙ e))
-          new (every (IsDrawn now) more silent (silent-drawn now)) (λ W e. keeps-known W) (λ T e. table-started new T (talk.started T (sym (told.begun T) ∙ e)))
+          new (every (IsDrawn now) more silent (silent-drawn now)) (λ W e. keeps-known W) (λ T e. table-started new T (λ d f. sym (told.by d T) ∙ f) (talk.started T (sym (told.begun T) ∙ e)))
 
     -- no operation is outstanding, before and now
     pub plain-talks : (stays : (T : Tid) → u.transaction ≡ Some T → ((r.clients c).transaction ≡ Some T) × (u.works ≡ (r.clients c).works)) → ((o : Outstanding) → u.outstanding ≡ Some o → IsAsking events c u o o.command)
@@ -238,7 +239,7 @@ dismiss-talks events r v talk = record {
   drawn = map-all (IsDrawn r) (IsDrawn (dismiss r)) r.sent still talk.drawn;
   known = λ W e. let k = talk.known W e in record { opened = k.opened; begun = k.begun; its = λ c f. absurd (none_some (v.owner W) f) };
   unasked = talk.unasked;
-  started = λ T e. let k = talk.started T e in record { client = k.client; request = k.request; has = k.has; drawn = k.drawn; before = λ o f. absurd (none_some o f) };
+  started = λ T e. let k = talk.started T e in record { client = k.client; request = k.request; has = k.has; drawn = k.drawn; before = λ o f. absurd (none_some o f); its = k.its };
 }
   where
     still : (x : Sent) → IsDrawn r x → IsDrawn (dismiss r) x

@@ -28,7 +28,7 @@ use Rattle.jn_machine.specs.World.{World as Machine}
 use Rattle.jn_protocol.specs.World.{World}
 use Rattle.jn_runs.proofs.Openings.{openings, Has}
 use Rattle.jn_runs.proofs.Facts.{opening, is_closing}
-use Rattle.jn_talk.specs.Told.{ops_in, owner_in, is_begun, at_place}
+use Rattle.jn_talk.specs.Told.{ops_in, owner_in, is_begun, begun_by, at_place}
 use Rattle.jn_talk.proofs.Tellings.{SaysAs}
 use Rattle.jn_talk.proofs.Atoms.{IsPresent}
 use Rattle.jn_talk.proofs.Acting.{acting, IsSilent}
@@ -141,6 +141,8 @@ pub record IsStarted (r : World) (T : Tid) : Type 0 where
   pub has : Has (opening client request T) (openings r.sent)
   pub drawn : request < (r.clients client).next
   pub before : (o : Outstanding) → (r.clients client).outstanding ≡ Some o → is_begin o.command ≡ true → request < o.request
+  -- no other client was told that it began
+  pub its : (c : ClientNo) → begun_by c T r.lines ≡ true → c ≡ client
 
 pub record Talk (events : List Event) (r : World) (w : Machine) : Type 0 where
   pub clients : (c : ClientNo) → IsTalking events r w c (r.clients c)

@@ -28,7 +28,7 @@ use Rattle.jn_rows.specs.declared.client.Outstanding.{Outstanding}
 use Rattle.jn_rows.specs.Stable.{Prepared, Pick}
 use Rattle.jn_rows.specs.Outcomes.{Sent}
 use Rattle.jn_rows.specs.Client.{is_end_or_abort, ClientTable, work_at as open_at}
-use Rattle.jn_serial.specs.Order.{answered_by, owner_after}
+use Rattle.jn_serial.specs.InTurn.{answered_by, owner_after}
 use Rattle.jn_machine.specs.Traces.{Answered, effects}
 use Rattle.jn_machine.specs.World.{World as Machine, Working}
 use Rattle.jn_machine.specs.Steps.{Atom, run as run_atoms}
@@ -46,7 +46,9 @@ use Rattle.jn_machine.specs.Messages.{Says}
 use Rattle.jn_machine.specs.Transactions.{IsPart}
 use Rattle.jn_runs.proofs.Openings.{openings, openings-more, Has, has-first}
 use Rattle.jn_runs.proofs.Facts.{opening, is_closing}
-use Rattle.jn_talk.specs.Told.{ops_in, owner_in, begins_it, is_begun, at_place}
+use Rattle.jn_serial.proofs.Beginners.{begins_for}
+use Rattle.jn_serial.proofs.Orders.{any-append}
+use Rattle.jn_talk.specs.Told.{ops_in, owner_in, begins_it, is_begun, at_place, begun_by}
 use Rattle.jn_talk.proofs.Tellings.{first-false, second-false, SaysAs, trace-more, ops-more, owner-more, begun-more}
 use Rattle.jn_talk.proofs.Atoms.{Extends, extends, IsStill, still, IsPresent, present-back}
 use Rattle.jn_talk.proofs.Acting.{acting, working, acting-of-active, active-of-acting, DidTheSame, IsSilent, AreSilent}
@@ -71,6 +73,7 @@ pub record SameTold (before now : List Text) : Type 0 where
   pub said : (events : List Event) (T : Tid) (s : ServerNo) → said events T s now ≡ said events T s before
   pub owner : (T : Tid) → owner_in T None now ≡ owner_in T None before
   pub begun : (T : Tid) → is_begun T now ≡ is_begun T before
+  pub by : (c : ClientNo) (T : Tid) → begun_by c T now ≡ begun_by c T before
 
 dumb-answers : (events : List Event) (c : ClientNo) (text : Text) → IsDumb text → answered_by events (Some c) text ≡ []
 dumb-answers events c (says.Did d j) h = absurd h
@@ -103,6 +106,14 @@ dumb-begins : (T : Tid) (texts : List Text) → AreDumb texts → is_begun T tex
 dumb-begins T [] h = refl
 dumb-begins T (x ∷ texts) h = ap (λ (b : Bool). b || is_begun T texts) (dumb-begun T x h.0) ∙ dumb-begins T texts h.1
 
+pub dumb-by : (c : ClientNo) (T : Tid) (texts : List Text) → AreDumb texts → begun_by c T texts ≡ false
+dumb-by c T [] h = refl
+dumb-by c T (x ∷ texts) h = ap (λ (b : Bool). b || begun_by c T texts) (one x h.0) ∙ dumb-by c T texts h.1
+  where
+    one : (x : Text) → IsDumb x → begins_for c T x ≡ false
+    one (says.Begun d j U) k = absurd k
+    one _ k = refl
+
 or-false : (b : Bool) → (b || false) ≡ b
 or-false b = grind arith
 
@@ -112,13 +123,14 @@ same-told before more h = record {
   said = λ events T s. ap (λ z. at_place s z) (same events T);
   owner = λ T. owner-more T None before more ∙ dumb-owners T (owner_in T None before) more h;
   begun = λ T. begun-more T before more ∙ ap (λ z. is_begun T before || z) (dumb-begins T more h) ∙ or-false (is_begun T before);
+  by = λ c T. any-append (begins_for c T) before more ∙ ap (λ z. begun_by c T before || z) (dumb-by c T more h) ∙ or-false (begun_by c T before);
 }
   where
     same : (events : List Event) (T : Tid) → ops_in events T None (before ++ more) ≡ ops_in events T None before
     same events T = ops-more events T None before more ∙ ap (λ z. ops_in events T None before ++ z) (dumb-ops events T (owner_in T None before) more h) ∙ append-nil (ops_in events T None before)
 
 pub told-same : (texts : List Text) → SameTold texts texts
-told-same texts = record { ops = λ events T. refl; said = λ events T s. refl; owner = λ T. refl; begun = λ T. refl }
+told-same texts = record { ops = λ events T. refl; said = λ events T s. refl; owner = λ T. refl; begun = λ T. refl; by = λ c T. refl }
 
 -- ---- what was sent
 
@@ -508,6 +520,7 @@ module _ (r r' : World) (w v : Machine) (m : Moved r r' w v) where
         has = subst (λ l. Has (opening k.client k.request T) (openings l)) (sym q.sent) (subst (λ l. Has (opening k.client k.request T) l) (sym (openings-more r.sent q.more)) (has-first (opening k.client k.request T) (openings r.sent) (openings q.more) k.has));
         drawn = subst (λ f. k.request < (f k.client).next) (sym q.clients) k.drawn;
         before = λ o e. k.before o (subst (λ f. (f k.client).outstanding ≡ Some o) q.clients e);
+        its = λ d e. k.its d (sym (q.told.by d T) ∙ e);
       }
 
       pub serving-talks : Talk events r' v

@@ -1,6 +1,6 @@
 -- What the lines of a run with its schedule tell of a transaction is what the world's lines tell.
-use Rattle.std.proofs.Common.{Bool, false, ◌≡◌, ℕ, suc, ◌+◌, List, [], ◌∷◌, ◌++◌, append-nil, append_assoc, length, Option, Some, None, refl, sym, ◌∙◌, ap, subst, arith}
-use Rattle.std.specs.Prelude.{map}
+use Rattle.std.proofs.Common.{Bool, true, false, ◌≡◌, ℕ, suc, ◌+◌, List, [], ◌∷◌, ◌++◌, append-nil, append_assoc, length, Option, Some, None, refl, sym, ◌∙◌, ap, subst, arith}
+use Rattle.std.specs.Prelude.{map, ◌||◌}
 use Rattle.jn_base.specs.declared.names.ServerNo.{ServerNo}
 use Rattle.jn_base.specs.declared.names.ClientNo.{ClientNo}
 use Rattle.jn_base.specs.declared.names.Tid.{Tid}
@@ -12,9 +12,13 @@ use Rattle.jn_report.specs.declared.line.Text.{Text}
 use Rattle.jn_report.specs.declared.line.Text.TheVariants as says
 use Rattle.jn_report.specs.declared.line.Line.{Line}
 use Rattle.jn_rows.specs.Client.{Commanded, Refuses, Sends, command_row}
-use Rattle.jn_serial.specs.Lines.{commit_in, history_of, event_at}
+use Rattle.jn_serial.specs.Lines.{commit_in, history_of, event_at, says as says_of}
+use Rattle.jn_serial.specs.Follows.{Follows}
 use Rattle.jn_serial.proofs.Growth.{event_at-next}
 use Rattle.jn_serial.specs.Order.{ops_of}
+use Rattle.jn_serial.proofs.Orders.{any-append}
+use Rattle.jn_serial.proofs.Beginners.{begins_for, HasOneClient}
+use Rattle.jn_serial.proofs.InTurn.{AreInTurn, ops-in-turn}
 use Rattle.jn_machine.specs.Steps.{run as run_atoms, opening_world}
 use Rattle.jn_moves.proofs.Mirrored.{commits-more}
 use Rattle.jn_protocol.specs.World.{World, opening, committed_in, commits_in}
@@ -24,13 +28,13 @@ use Rattle.jn_reported.specs.Reported.{Act, Does, Refuses as Refused, Tells, Sho
 use Rattle.jn_reported.specs.Ending.{told_by_steps}
 use Rattle.jn_reported.proofs.Lists.{Each}
 use Rattle.jn_reported.proofs.Hearing.{IsQuiet, step-hears}
-use Rattle.jn_reported.proofs.Following.{IsQuietAct, under-quiet, run-split}
+use Rattle.jn_reported.proofs.Following.{IsQuietAct, under-quiet, run-split, run-in-turn, run-follows}
 use Rattle.jn_reported.proofs.Reached.{Reached, next-reached, opening-reached}
 use Rattle.jn_reported.proofs.Naming.{adds}
-use Rattle.jn_talk.specs.Told.{ops_in, owner_in}
+use Rattle.jn_talk.specs.Told.{ops_in, owner_in, is_begun, begun_by}
 use Rattle.jn_talk.specs.Agreement.{AreAsTold}
-use Rattle.jn_talk.proofs.Tellings.{texts_of, ops-of-texts, ops-more, owner-more}
-use Rattle.jn_talk.proofs.Quiet.{AreDumb, dumb-ops, dumb-owners}
+use Rattle.jn_talk.proofs.Tellings.{texts_of, ops-of-texts, ops-more, owner-more, by-begun, by-texts}
+use Rattle.jn_talk.proofs.Quiet.{AreDumb, dumb-ops, dumb-owners, dumb-by}
 use Rattle.jn_talk.proofs.Runs.{TellsAs}
 use Rattle.jn_talk.proofs.Agreeing.{stands-from, Stands, step-stands, opening-stands, stands-told}
 
@@ -57,18 +61,20 @@ pub record TellSame (events : List Event) (xs ys : List Text) : Type 0 where
   pub ops : (T : Tid) (o : Option ClientNo) → ops_in events T o xs ≡ ops_in events T o ys
   pub owner : (T : Tid) (o : Option ClientNo) → owner_in T o xs ≡ owner_in T o ys
   pub commits : commits_in xs ≡ commits_in ys
+  pub by : (c : ClientNo) (T : Tid) → begun_by c T xs ≡ begun_by c T ys
 
 tell-same : (events : List Event) (xs : List Text) → TellSame events xs xs
-tell-same events xs = record { ops = λ T o. refl; owner = λ T o. refl; commits = refl }
+tell-same events xs = record { ops = λ T o. refl; owner = λ T o. refl; commits = refl; by = λ c T. refl }
 
 tell-none : (events : List Event) (xs : List Text) → AreDumb xs → commits_in xs ≡ [] → TellSame events xs []
-tell-none events xs h e = record { ops = λ T o. dumb-ops events T o xs h; owner = λ T o. dumb-owners T o xs h; commits = e }
+tell-none events xs h e = record { ops = λ T o. dumb-ops events T o xs h; owner = λ T o. dumb-owners T o xs h; commits = e; by = λ c T. dumb-by c T xs h }
 
 tell-then : (events : List Event) (a b c d : List Text) → TellSame events a b → TellSame events c d → TellSame events (a ++ c) (b ++ d)
 tell-then events a b c d h k = record {
   ops = λ T o. ops-more events T o a c ∙ ap (λ z. z ++ ops_in events T (owner_in T o a) c) (h.ops T o) ∙ ap (λ z. ops_in events T o b ++ ops_in events T z c) (h.owner T o) ∙ ap (λ z. ops_in events T o b ++ z) (k.ops T (owner_in T o b)) ∙ sym (ops-more events T o b d);
   owner = λ T o. owner-more T o a c ∙ ap (λ z. owner_in T z c) (h.owner T o) ∙ k.owner T (owner_in T o b) ∙ sym (owner-more T o b d);
   commits = commits-more a c ∙ ap (λ z. z ++ commits_in c) h.commits ∙ ap (λ z. commits_in b ++ z) k.commits ∙ sym (commits-more b d);
+  by = λ e T. any-append (begins_for e T) a c ∙ ap (λ z. z || begun_by e T c) (h.by e T) ∙ ap (λ z. begun_by e T b || z) (k.by e T) ∙ sym (any-append (begins_for e T) b d);
 }
 
 pub steps-append : (a b : List Step) (r : World) → run (a ++ b) r ≡ run b (run a r)
@@ -308,9 +314,19 @@ module _ (servers : ℕ) (files : AllFiles) (epochs : ServerNo → ℕ) (items l
       (tell-then all (texts_of (lines_of items start)) first.new (texts_of (lines_of later between)) rest.new first.same rest.same))
       (tell-then all (told_by_steps steps last) after-all.new more [] after-all.same (tell-none all more dumb none))
 
-  module _ (lines : List Line) (is : texts_of lines ≡ texts_of (lines_of (items ++ later) start) ++ (told_by_steps steps last ++ more)) where
+  -- the lines of the whole run, which stand at their events and answer what clients were told to do
+  module _ (lines : List Line) (is : texts_of lines ≡ texts_of (lines_of (items ++ later) start) ++ (told_by_steps steps last ++ more)) (turn : AreInTurn 1 all lines) (follows : Follows all lines) where
+    one-client : (T : Tid) → HasOneClient T lines
+    one-client T c d h k = started (by-begun c T final.lines (its c h))
+      where
+        its : (e : ClientNo) → says_of (begins_for e T) lines ≡ true → begun_by e T final.lines ≡ true
+        its e g = ap (λ l. begun_by e T l) its-lines ∙ sym (same.by e T) ∙ ap (λ l. begun_by e T l) (sym is) ∙ sym (by-texts e T lines) ∙ g
+
+        started : is_begun T final.lines ≡ true → c ≡ d
+        started g = let y = after-all.stands.talk.started T g in y.its c (its c h) ∙ sym (y.its d (its d k))
+
     pub end-ops : (T : Tid) → ops_of all lines T ≡ ops_in all T None final.lines
-    end-ops T = ops-of-texts all T None lines ∙ ap (λ l. ops_in all T None l) is ∙ same.ops T None ∙ ap (λ l. ops_in all T None l) (sym its-lines)
+    end-ops T = ops-in-turn all lines T turn follows (one-client T) ∙ ops-of-texts all T None lines ∙ ap (λ l. ops_in all T None l) is ∙ same.ops T None ∙ ap (λ l. ops_in all T None l) (sym its-lines)
 
     pub end-as-told : AreAsTold files all lines lines (run steps (world_of (items ++ later) start))
     end-as-told = stands-told all files epochs ended between.lines final lines lines after-all.stands (record { ops = λ T e. end-ops T; commits = history-texts lines ∙ ap commits_in is ∙ same.commits ∙ ap commits_in (sym its-lines) })
@@ -328,7 +344,14 @@ module _ (servers : ℕ) (files : AllFiles) (epochs : ServerNo → ℕ) where
   pub beginning-as-told : (items more : List Item) → IsReported (items ++ more) (opening servers files epochs)
       → AreAsTold files (events_of (items ++ more)) (lines_of (items ++ more) (opening servers files epochs)) (lines_of items (opening servers files epochs)) (world_of items (opening servers files epochs))
   beginning-as-told items more h = beginning-told servers files epochs items more h [] tt tt [] tt refl (lines_of (items ++ more) (opening servers files epochs)) (sym (append-nil (texts_of (lines_of (items ++ more) (opening servers files epochs)))))
+      (run-in-turn files epochs servers (items ++ more) h) (run-follows files epochs servers (items ++ more) h)
 
   pub run-as-told : (items : List Item) → IsReported items (opening servers files epochs)
       → AreAsTold files (events_of items) (lines_of items (opening servers files epochs)) (lines_of items (opening servers files epochs)) (world_of items (opening servers files epochs))
   run-as-told items h = end-as-told servers files epochs [] items h [] tt tt [] tt refl (lines_of items (opening servers files epochs)) (sym (append-nil (texts_of (lines_of items (opening servers files epochs)))))
+      (run-in-turn files epochs servers items h) (run-follows files epochs servers items h)
+
+  -- what a transaction did by its commands is what the world's lines tell of it
+  pub run-ops : (items : List Item) → IsReported items (opening servers files epochs) → (T : Tid) → ops_of (events_of items) (lines_of items (opening servers files epochs)) T ≡ ops_in (events_of items) T None (world_of items (opening servers files epochs)).lines
+  run-ops items h = end-ops servers files epochs [] items h [] tt tt [] tt refl (lines_of items (opening servers files epochs)) (sym (append-nil (texts_of (lines_of items (opening servers files epochs)))))
+      (run-in-turn files epochs servers items h) (run-follows files epochs servers items h)

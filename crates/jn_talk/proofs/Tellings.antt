@@ -1,10 +1,10 @@
 -- What the lines tell of a transaction, with more lines, and what its operations do at each server.
 use Rattle.std.proofs.Common.{◌≡◌, ◌≢◌, ◌⊎◌, inl, inr, Bool, true, false, List, [], ◌∷◌, ◌++◌, Option, Some, None, refl, sym, ◌∙◌, ap, subst, arith}
-use Rattle.std.specs.Prelude.{if◌then◌else◌, map, ◌||◌}
+use Rattle.std.specs.Prelude.{if◌then◌else◌, map, ◌||◌, ◌&&◌}
 use Rattle.jn_base.specs.declared.names.ServerNo.{ServerNo}
 use Rattle.jn_base.specs.declared.names.ClientNo.{ClientNo}
 use Rattle.jn_base.specs.declared.names.Tid.{Tid}
-use Rattle.jn_base.specs.Names.{server_eq}
+use Rattle.jn_base.specs.Names.{server_eq, client_eq, tid_eq}
 use Rattle.jn_base.proofs.Tells.{server_tells}
 use Rattle.jn_order.specs.Files.{Files, AllFiles, change, effect, answer_to, is_did, files_after, all_files_after, nothing}
 use Rattle.jn_order.specs.Changes.{and_then}
@@ -13,11 +13,14 @@ use Rattle.jn_schedule.specs.declared.Event.{Event}
 use Rattle.jn_report.specs.declared.line.Text.{Text}
 use Rattle.jn_report.specs.declared.line.Text.TheVariants as says
 use Rattle.jn_report.specs.declared.line.Line.{Line}
-use Rattle.jn_serial.specs.declared.files.Performed.{Performed}
-use Rattle.jn_serial.specs.Order.{answered_by, owner_after, ops_from, files_then, GivesAnswers}
+use Rattle.jn_replay.specs.declared.files.Performed.{Performed}
+use Rattle.jn_replay.specs.Operations.{files_then, GivesAnswers}
+use Rattle.jn_serial.specs.InTurn.{answered_by, owner_after, told_from}
 use Rattle.jn_machine.specs.Traces.{Answered, effect_of, effects, Agrees}
 use Rattle.jn_machine.proofs.TraceLemmas.{agrees_more}
-use Rattle.jn_talk.specs.Told.{ops_in, owner_in, begins_it, is_begun, at_place}
+use Rattle.jn_serial.specs.Lines.{says as says_of}
+use Rattle.jn_serial.proofs.Beginners.{begins_for}
+use Rattle.jn_talk.specs.Told.{ops_in, owner_in, begins_it, is_begun, begun_by, at_place}
 
 -- ---- lists
 
@@ -28,7 +31,7 @@ append-append (x ∷ a) b c = ap (λ z. x ∷ z) (append-append a b c)
 abbrev pub texts_of : List Line → List Text
 texts_of lines = map (λ (l : Line). l.text) lines
 
-pub ops-of-texts : (events : List Event) (T : Tid) (owner : Option ClientNo) (lines : List Line) → ops_from events T owner lines ≡ ops_in events T owner (texts_of lines)
+pub ops-of-texts : (events : List Event) (T : Tid) (owner : Option ClientNo) (lines : List Line) → told_from events T owner lines ≡ ops_in events T owner (texts_of lines)
 ops-of-texts events T owner [] = refl
 ops-of-texts events T owner (l ∷ lines) = ap (λ z. answered_by events owner l.text ++ z) (ops-of-texts events T (owner_after T owner l.text) lines)
 
@@ -47,6 +50,29 @@ begun-more T (x ∷ a) b = ap (λ z. begins_it T x || z) (begun-more T a b) ∙ 
   where
     assoc : (a b c : Bool) → (a || (b || c)) ≡ ((a || b) || c)
     assoc a b c = grind arith
+
+-- a client that was told so was told
+pub by-begun : (c : ClientNo) (T : Tid) (texts : List Text) → begun_by c T texts ≡ true → is_begun T texts ≡ true
+by-begun c T [] h = h
+by-begun c T (x ∷ texts) h = by x h (by-begun c T texts)
+  where
+    first : (a b : Bool) → (a && b) ≡ true → b ≡ true
+    first a b k = grind arith
+
+    by : (x : Text) → (begins_for c T x || begun_by c T texts) ≡ true → (begun_by c T texts ≡ true → is_begun T texts ≡ true) → (begins_it T x || is_begun T texts) ≡ true
+    by (says.Begun d j U) k on = at (client_eq c d && tid_eq T U) refl k
+      where
+        at : (b : Bool) → (client_eq c d && tid_eq T U) ≡ b → (b || begun_by c T texts) ≡ true → (tid_eq T U || is_begun T texts) ≡ true
+        at true e l = ap (λ (b : Bool). b || is_begun T texts) (first (client_eq c d) (tid_eq T U) e)
+        at false e l = ap (λ (b : Bool). tid_eq T U || b) (on l) ∙ or-true (tid_eq T U)
+          where
+            or-true : (b : Bool) → (b || true) ≡ true
+            or-true b = grind arith
+    by _ k on = on k
+
+pub by-texts : (c : ClientNo) (T : Tid) (lines : List Line) → says_of (begins_for c T) lines ≡ begun_by c T (texts_of lines)
+by-texts c T [] = refl
+by-texts c T (l ∷ lines) = ap (λ (b : Bool). begins_for c T l.text || b) (by-texts c T lines)
 
 pub place-more : (s : ServerNo) (a b : List Performed) → at_place s (a ++ b) ≡ at_place s a ++ at_place s b
 place-more s [] b = refl

@@ -1,5 +1,6 @@
 -- What the lines tell of a transaction: the operations that they answer, in order, and those of one server.
 use Rattle.std.specs.Prelude.{Bool, false, ◌||◌, if◌then◌else◌, List, [], ◌∷◌, ◌++◌, Option}
+use Rattle.std.specs.List.{list_any}
 use Rattle.jn_base.specs.declared.names.ServerNo.{ServerNo}
 use Rattle.jn_base.specs.declared.names.ClientNo.{ClientNo}
 use Rattle.jn_base.specs.declared.names.Tid.{Tid}
@@ -7,8 +8,9 @@ use Rattle.jn_base.specs.Names.{server_eq, tid_eq}
 use Rattle.jn_schedule.specs.declared.Event.{Event}
 use Rattle.jn_report.specs.declared.line.Text.{Text}
 use Rattle.jn_report.specs.declared.line.Text.TheVariants as says
-use Rattle.jn_serial.specs.declared.files.Performed.{Performed}
-use Rattle.jn_serial.specs.Order.{answered_by, owner_after}
+use Rattle.jn_replay.specs.declared.files.Performed.{Performed}
+use Rattle.jn_serial.specs.InTurn.{answered_by, owner_after}
+use Rattle.jn_serial.proofs.Beginners.{begins_for}
 use Rattle.jn_machine.specs.Traces.{Answered}
 
 -- what the transaction did by these lines, after which it is this client's, if it is anyone's
@@ -29,6 +31,10 @@ begins_it T text = false
 abbrev pub is_begun : Tid → List Text → Bool
 is_begun T [] = false
 is_begun T (text ∷ texts) = begins_it T text || is_begun T texts
+
+-- this client was told that it began
+abbrev pub begun_by : ClientNo → Tid → List Text → Bool
+begun_by c T texts = list_any (begins_for c T) texts
 
 -- the operations at one server
 abbrev pub at_place : ServerNo → List Performed → List Answered

@@ -2,7 +2,7 @@ use Rattle.jn_protocol.specs.World.{opening}
 use Rattle.jn_reported.specs.Reported.{world_of}
 use Rattle.jn_reported.proofs.Following.{run-follows}
 use Rattle.jn_causes.proofs.Ends.{end-causes, end-told}
-use Rattle.jn_ended.proofs.Follows.{follows-to-end, counted-follows}
+use Rattle.jn_shown.proofs.Follows.{follows-to-end, counted-follows}
 use Rattle.jn_ended.proofs.Outcomes.{told-to-end}
 use Rattle.jn_ended.proofs.reports_are_true_to_the_end.Goals as goal
 

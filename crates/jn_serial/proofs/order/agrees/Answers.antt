@@ -1,6 +1,7 @@
 use Rattle.std.proofs.Common.{◌∙◌}
-use Rattle.jn_serial.specs.Stored.{files_of}
-use Rattle.jn_serial.proofs.Orders.{AgreesFrom-step, ↔-trans}
+use Rattle.jn_replay.specs.Stored.{files_of}
+use Rattle.jn_replay.proofs.Same.{↔-trans}
+use Rattle.jn_serial.proofs.Orders.{AgreesFrom-step}
 use Rattle.jn_serial.proofs.order.agrees.Goals as goal
 
 pub loop-t-preserved : goal.loop-t-preserved

@@ -1,5 +1,5 @@
 use Rattle.std.proofs.Common.{◌↔◌, drop}
-use Rattle.jn_serial.specs.Stored.{registers}
+use Rattle.jn_replay.specs.Stored.{registers}
 use Rattle.jn_serial.specs.Shown.{AllAsIn}
 use Rattle.jn_serial.proofs.showing.all_as_in.Given as goal
 

@@ -1,6 +1,6 @@
 use Rattle.std.proofs.Common.{sym, ap, ◌∙◌}
 use Rattle.jn_serial.specs.Accounts.{blocks_accounted}
-use Rattle.jn_serial.proofs.StoredLemmas.{file_place, no_file_place}
+use Rattle.jn_replay.proofs.StoredLemmas.{file_place, no_file_place}
 use Rattle.jn_serial.proofs.showing.blocks_accounted.Goals as goal
 
 pub returns-in-Some : goal.returns-in-Some

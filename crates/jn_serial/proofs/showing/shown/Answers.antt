@@ -1,6 +1,6 @@
 use Rattle.std.proofs.Common.{sym, ◌∙◌}
 use Rattle.std.proofs.lemmas.Bool.{false≢true}
-use Rattle.jn_serial.specs.Stored.{files_of}
+use Rattle.jn_replay.specs.Stored.{files_of}
 use Rattle.jn_serial.proofs.ShownLemmas.{shown_where}
 use Rattle.jn_serial.proofs.showing.shown.Goals as goal
 

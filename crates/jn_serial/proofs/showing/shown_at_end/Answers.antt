@@ -1,6 +1,6 @@
 use Rattle.std.proofs.Common.{◌∙◌}
-use Rattle.jn_serial.specs.Stored.{files_of}
-use Rattle.jn_serial.proofs.Orders.{↔-trans}
+use Rattle.jn_replay.specs.Stored.{files_of}
+use Rattle.jn_replay.proofs.Same.{↔-trans}
 use Rattle.jn_serial.proofs.ShownLemmas.{end_where}
 use Rattle.jn_serial.proofs.showing.shown_at_end.Goals as goal
 

@@ -1,5 +1,5 @@
 use Rattle.std.proofs.Common.{◌↔◌, ◌+◌, drop}
-use Rattle.jn_serial.specs.Stored.{files_of}
+use Rattle.jn_replay.specs.Stored.{files_of}
 use Rattle.jn_serial.specs.Accounts.{ShowsFrom}
 use Rattle.jn_serial.proofs.showing.shown_so_far.Given as goal
 

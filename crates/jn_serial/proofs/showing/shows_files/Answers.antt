@@ -1,5 +1,5 @@
 use Rattle.std.proofs.Common.{sym, subst, IsTrue, ◌↔◌, Bool}
-use Rattle.jn_serial.specs.Stored.{registers}
+use Rattle.jn_replay.specs.Stored.{registers}
 use Rattle.jn_serial.specs.Shown.{ShowsFiles}
 use Rattle.jn_serial.proofs.ShownLemmas.{shows_where}
 use Rattle.jn_serial.proofs.showing.shows_files.Goals as goal

@@ -1,8 +1,8 @@
 use Rattle.std.proofs.Common.{sym, ap, ◌∙◌}
 use Rattle.jn_serial.specs.Lines.{says}
 use Rattle.jn_serial.specs.Shown.{is_no_show}
-use Rattle.jn_serial.specs.Stored.{files_of}
-use Rattle.jn_serial.proofs.Orders.{↔-trans}
+use Rattle.jn_replay.specs.Stored.{files_of}
+use Rattle.jn_replay.proofs.Same.{↔-trans}
 use Rattle.jn_serial.proofs.ShownLemmas.{server_where, no_show_where}
 use Rattle.jn_serial.proofs.showing.shows_server.Goals as goal
 

@@ -1,0 +1,3 @@
+pub mod StoredLemmas
+pub mod DoesLemmas
+pub mod Same

@@ -1,0 +1,7 @@
+use Rattle.std.proofs.Common.{◌≡◌, drop}
+use Rattle.jn_replay.specs.Stored.{files_of}
+use Rattle.jn_replay.specs.Operations.{files_then}
+use Rattle.jn_replay.proofs.operations.do_all.Given as goal
+
+abbrev pub invariant-loop-p : goal.invariant-loop-p
+invariant-loop-p l = files_then (drop l.p-index l.ops) (files_of l.files) ≡ files_then l.ops (files_of l.initial.files)

@@ -1,0 +1,8 @@
+use Rattle.std.proofs.Common.{◌≡◌, drop}
+use Rattle.jn_report.specs.declared.line.When.TheVariants.{Event as AtEvent}
+use Rattle.jn_serial.specs.Lines.{lines_before}
+use Rattle.jn_serial.specs.Begun.{begun_then, last_begun}
+use Rattle.jn_serial.proofs.begun.last_begun.Given as goal
+
+abbrev pub invariant-loop-line : goal.invariant-loop-line
+invariant-loop-line l = begun_then l.client l.now (lines_before (AtEvent l.number) (drop l.line-index l.lines)) ≡ last_begun l.client (lines_before (AtEvent l.number) l.lines)

@@ -1,9 +1,0 @@
-use Rattle.std.proofs.Common.{◌∙◌, ap, map}
-use Rattle.std.proofs.lemmas.List.{take_all}
-use Rattle.jn_serial.specs.Edits.{contents}
-use Rattle.jn_serial.proofs.StoredLemmas.{registers-contents}
-use Rattle.jn_serial.proofs.files.Files.copy.Goals as goal
-
-pub returns : goal.returns
-returns c = registers-contents c.loop-file.stored.items c.args.self.now.stored.items
-    (c.loop-file.invariant ∙ ap (map contents) (take_all _ _ c.loop-file-test.false ∙ c.deref-file-items.ensures.value))

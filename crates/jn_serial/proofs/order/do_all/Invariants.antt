@@ -1,7 +1,0 @@
-use Rattle.std.proofs.Common.{◌≡◌, drop}
-use Rattle.jn_serial.specs.Stored.{files_of}
-use Rattle.jn_serial.specs.Order.{files_then}
-use Rattle.jn_serial.proofs.order.do_all.Given as goal
-
-abbrev pub invariant-loop-p : goal.invariant-loop-p
-invariant-loop-p l = files_then (drop l.p-index l.ops) (files_of l.files) ≡ files_then l.ops (files_of l.initial.files)

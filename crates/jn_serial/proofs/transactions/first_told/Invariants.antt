@@ -1,0 +1,6 @@
+use Rattle.std.proofs.Common.{◌≡◌, drop}
+use Rattle.jn_serial.specs.Order.{first_told}
+use Rattle.jn_serial.proofs.transactions.first_told.Given as goal
+
+abbrev pub invariant-loop-line : goal.invariant-loop-line
+invariant-loop-line l = first_told l.client l.number (drop l.line-index l.lines) ≡ first_told l.client l.number l.lines
