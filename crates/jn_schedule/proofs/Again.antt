@@ -19,7 +19,7 @@ use Rattle.jn_schedule.specs.Grammar as grammar
 use Rattle.jn_schedule.specs.Grammar.{Part, Spells, SpellsBlock, SpellsClient, SpellsPart, SpellsParts, begins_comment, block_part, command_parts, file_part, is_passed, kind_parts, page_part, parts_of, server_part}
 use Rattle.jn_schedule.specs.Faults as places
 use Rattle.jn_schedule.specs.Faults.{FirstUnfilled, HasFault, Place, PlacesFault, command_places, is_client, places_of}
-use Rattle.jn_schedule.specs.Reading.{◌>>=◌, arm_of, by_client, client_event, client_of, command_of, event_of, fault_kind_of, has_count, kind_of, message_alone, no_client_event, nothing, one, opening_of, other_event, page_alone, server_alone, server_file, server_file_block, server_name, server_of, server_page, value_of, verb_of, written}
+use Rattle.jn_schedule.specs.Reading.{◌>>=◌, arm_of, by_client, client_event, client_of, command_of, event_of, fault_kind_of, has_count, kind_of, message_alone, no_client_event, nothing, one, opening_of, other_event, page_alone, server_alone, server_file, server_file_block, server_name, server_of, server_page, value_of, verb_of, write_of, written}
 use Rattle.jn_schedule.proofs.Values.{value_again, server_again, file_again, block_no_again, page_again, name_again, bytes_again}
 use Rattle.jn_schedule.proofs.Arguments.{place_of, none_unfilled}
 use Rattle.jn_schedule.proofs.Numbers.{all_of, is-le}
@@ -80,7 +80,7 @@ server_page_again (a ∷ b ∷ c ∷ ws) x spells = absurd spells.1.1
 
 pub written_again : (ws : List (List ℕ)) (s : ServerNo) (f : FileNo) (p : BlockNo) (stored : List ℕ)
     → SpellsParts (server_part s.0 ∷ file_part f.0 ∷ block_part p.0 ∷ grammar.Bytes stored ∷ []) ws → written ws ≡ Ok (commands.Do s (ops.Write f p stored))
-unfolding written
+unfolding written write_of
 written_again [] s f p stored spells = absurd spells
 written_again (a ∷ []) s f p stored spells = absurd spells.1
 written_again (a ∷ b ∷ []) s f p stored spells = absurd spells.1.1

@@ -14,7 +14,7 @@ use Rattle.jn_schedule.specs.Grammar as grammar
 use Rattle.jn_schedule.specs.Grammar.{Part, SpellsPart, SpellsParts, command_parts, block_part, file_part, page_part, server_part}
 use Rattle.jn_schedule.specs.Faults as places
 use Rattle.jn_schedule.specs.Faults.{Fills, FirstUnfilled, Place, PlacesFault, block_place, fault_at, file_place, page_place, server_place}
-use Rattle.jn_schedule.specs.Reading.{◌>>=◌, block_no_of, bytes_of, file_of, message_alone, name_of, nothing, page_alone, page_of, server_alone, server_file, server_file_block, server_name, server_of, server_page, value_of, written}
+use Rattle.jn_schedule.specs.Reading.{◌>>=◌, block_no_of, bytes_of, file_of, message_alone, name_of, nothing, page_alone, page_of, server_alone, server_file, server_file_block, server_name, server_of, server_page, value_of, write_of, written}
 use Rattle.jn_schedule.proofs.Values.{Told, number_told, server_told, file_told, block_no_told, page_told, name_told, bytes_told}
 
 -- what stands where a part does
@@ -143,14 +143,14 @@ abbrev pub ToldWritten : List (List ℕ) → Result Command LineFault → Type 0
 ToldWritten ws r = MatchResult r (λ x. SpellsParts (command_parts x) (codes "write" ∷ ws)) (λ f. PlacesFault (server_place ∷ file_place ∷ block_place ∷ places.Bytes ∷ []) ws f)
 
 pub written_told : (ws : List (List ℕ)) → ToldWritten ws (written ws)
-unfolding written
+unfolding written write_of
 written_told [] = refl
 written_told (a ∷ []) = refl
 written_told (a ∷ b ∷ []) = refl
 written_told (a ∷ b ∷ c ∷ []) = refl
 written_told (a ∷ b ∷ c ∷ d ∷ []) = go (server_of a) (server_told a) (file_of b) (file_told b) (block_no_of c) (block_no_told c) (bytes_of d) (bytes_told d)
   where
-    go : (r : Result ServerNo LineFault) → Told server_place (λ (s : ServerNo). server_part s.0) a r → (q : Result FileNo LineFault) → Told file_place (λ (f : FileNo). file_part f.0) b q → (t : Result BlockNo LineFault) → Told block_place (λ (p : BlockNo). block_part p.0) c t → (u : Result (List ℕ) LineFault) → Told places.Bytes (λ (b : List ℕ). grammar.Bytes b) d u → ToldWritten (a ∷ b ∷ c ∷ d ∷ []) (r >>= λ s. q >>= λ f. t >>= λ p. u >>= λ b. Ok (commands.Do s (ops.Write f p b)))
+    go : (r : Result ServerNo LineFault) → Told server_place (λ (s : ServerNo). server_part s.0) a r → (q : Result FileNo LineFault) → Told file_place (λ (f : FileNo). file_part f.0) b q → (t : Result BlockNo LineFault) → Told block_place (λ (p : BlockNo). block_part p.0) c t → (u : Result (List ℕ) LineFault) → Told places.Bytes (λ (b : List ℕ). grammar.Bytes b) d u → ToldWritten (a ∷ b ∷ c ∷ d ∷ []) (◌>>=◌ {A = ServerNo × FileNo × BlockNo × List ℕ} (r >>= λ s. q >>= λ f. t >>= λ p. u >>= λ b. Ok (s, f, p, b)) (λ x. Ok (commands.Do x.0 (ops.Write x.1 x.2 x.3))))
     go (Ok x) h (Ok y) k (Ok z) l (Ok v) m = (refl, (h, (k, (l, (m, tt)))))
     go (Ok x) h (Ok y) k (Ok z) l (Err f) m = inl (fills (server_part x.0) a h, inl (fills (file_part y.0) b k, inl (fills (block_part z.0) c l, inr m)))
     go (Ok x) h (Ok y) k (Err f) l u m = inl (fills (server_part x.0) a h, inl (fills (file_part y.0) b k, inr l))

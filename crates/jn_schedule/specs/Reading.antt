@@ -24,6 +24,8 @@ use Rattle.jn_schedule.specs.declared.reading.Kind.{Kind}
 use Rattle.jn_schedule.specs.declared.reading.Kind.TheVariants as armed
 use Rattle.jn_schedule.specs.declared.fault.LineFault.{LineFault}
 use Rattle.jn_schedule.specs.declared.fault.LineFault.TheVariants as faults
+use Rattle.jn_schedule.specs.declared.fault.ReadFault.{ReadFault}
+use Rattle.jn_schedule.specs.declared.fault.ReadFault.TheVariants as readings
 use Rattle.jn_schedule.specs.declared.fault.ParseFault.{ParseFault}
 use Rattle.jn_schedule.specs.declared.fault.ParseFault.TheVariants as parse
 use Rattle.std.specs.Global.{Vec}
@@ -130,9 +132,12 @@ unfoldable pub server_file_block : List (List ℕ) → Result (ServerNo × FileN
 server_file_block (s ∷ f ∷ p ∷ []) = server_of s >>= λ s. file_of f >>= λ f. block_no_of p >>= λ p. Ok (s, f, p)
 server_file_block _ = Err faults.Count
 
+unfoldable pub write_of : List (List ℕ) → Result (ServerNo × FileNo × BlockNo × List ℕ) LineFault
+write_of (s ∷ f ∷ p ∷ b ∷ []) = server_of s >>= λ s. file_of f >>= λ f. block_no_of p >>= λ p. bytes_of b >>= λ b. Ok (s, f, p, b)
+write_of _ = Err faults.Count
+
 unfoldable pub written : List (List ℕ) → Result Command LineFault
-written (s ∷ f ∷ p ∷ b ∷ []) = server_of s >>= λ s. file_of f >>= λ f. block_no_of p >>= λ p. bytes_of b >>= λ b. Ok (commands.Do s (ops.Write f p b))
-written _ = Err faults.Count
+written args = write_of args >>= λ x. Ok (commands.Do x.0 (ops.Write x.1 x.2 x.3))
 
 unfoldable pub server_name : List (List ℕ) → Result (ServerNo × Tid) LineFault
 server_name (s ∷ t ∷ []) = server_of s >>= λ s. name_of t >>= λ t. Ok (s, t)
@@ -248,6 +253,12 @@ read_lines number [] = Ok []
 read_lines number (ws ∷ lines) = then_lines number (read_line ws) (read_lines (number + 1) lines)
 
 -- ---- what the program answers
+
+-- what is read of a line, unless memory ran out
+abbrev pub Tells : {A : Type 0} → Result A ReadFault → Result A LineFault → Type 0
+Tells (Ok x) read = read ≡ Ok x
+Tells (Err readings.Memory) read = Unit {0}
+Tells (Err (readings.Line fault)) read = read ≡ Err fault
 
 -- what reading told, unless memory ran out
 abbrev pub Fails : ParseFault → Result (List Event) (ℕ × LineFault) → Type 0

@@ -32,6 +32,33 @@ impl LineFault {
     }
 }
 
+/// Why a line was not read.
+#[derive(Clone, Copy, Debug, PartialEq, Eq, Drop)]
+pub(crate) enum ReadFault {
+    Line(LineFault),
+    Memory,
+}
+
+impl From<LineFault> for ReadFault {
+    ghost use Rattle.jn_schedule.specs.declared.fault.ReadFault.TheVariants.{Line};
+
+    ghost from_gives = { λ fault e. e ≡ Line fault };
+
+    fn from(fault: LineFault) -> ReadFault {
+        ReadFault::Line(fault)
+    }
+}
+
+impl From<AllocError> for ReadFault {
+    ghost use Rattle.jn_schedule.specs.declared.fault.ReadFault.TheVariants as reads;
+
+    ghost from_gives = { λ _ e. e ≡ reads.Memory };
+
+    fn from(_e: AllocError) -> ReadFault {
+        ReadFault::Memory
+    }
+}
+
 /// Why a text was not read.
 #[derive(Clone, Copy, Debug, PartialEq, Eq, Drop)]
 pub enum ParseFault {

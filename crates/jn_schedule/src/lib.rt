@@ -17,7 +17,7 @@ pub use schedule::{
 };
 
 /// One event of a schedule, with its words as typed values.
-#[derive(Clone, Copy)]
+#[derive(Drop)]
 pub enum Event {
     /// A client is told to do something: `c1 begin S` and so on, each command of `Command`.
     Command(ClientNo, Command),

@@ -4,11 +4,12 @@ ghost use Rattle.jn_schedule.specs.Reading as reads;
 ghost use Rattle.jn_schedule.specs.Reading.{texts};
 
 use crate::Event;
-use crate::fault::LineFault;
+use crate::fault::{LineFault, ReadFault};
 use crate::word::{
     block_no_of, bytes_of, client_of, file_of, name_of, page_of, server_of, value_of,
 };
-use jn_base::{BlockNo, ClientNo, Command, FaultKind, FileNo, Op, ServerNo, Tid};
+use jn_base::{Block, BlockContent, BlockNo, ClientNo, Command, FaultKind, FileNo, Op, ServerNo, Tid};
+use std::alloc::Global;
 
 /// How many messages a schedule can name.
 const LAST_MESSAGE: u32 = 999_999;
@@ -55,17 +56,24 @@ enum Kind {
 }
 
 /// The event that the words of a line spell, or what is wrong with them.
-#[tactic(auto, unfolding(crate::specs::Reading::event_of, crate::specs::Reading::by_client, crate::specs::Reading::no_client_event))]
-pub fn event_of(words: &[&[u8]]) -> Result<Event, LineFault>
-    ensures { result ≡ reads.event_of (texts words.now) }
+#[tactic(auto, unfolding(crate::specs::Reading::event_of, crate::specs::Reading::by_client))]
+pub fn event_of(alloc: Global, words: &[&[u8]]) -> Result<Event, ReadFault>
+    ensures { reads.Tells result (reads.event_of (texts words.now)) }
 {
     let [first, args @ ..] = words else {
-        return Err(LineFault::Count);
+        return Err(ReadFault::Line(LineFault::Count));
     };
     if let Some(client) = client_of(first) {
-        return client_event(client, args);
+        return client_event(alloc, client, args);
     }
-    if *first == b"arm".as_slice() {
+    Ok(no_client_event(first, args)?)
+}
+
+#[tactic(auto, unfolding(crate::specs::Reading::no_client_event))]
+fn no_client_event(first: &[u8], args: &[&[u8]]) -> Result<Event, LineFault>
+    ensures { result ≡ reads.no_client_event first.now (texts args.now) }
+{
+    if first == b"arm".as_slice() {
         return arm_of(args);
     }
     let opening = opening_of(first).ok_or(LineFault::Keyword)?;
@@ -73,18 +81,22 @@ pub fn event_of(words: &[&[u8]]) -> Result<Event, LineFault>
 }
 
 #[tactic(auto, unfolding(crate::specs::Reading::client_event))]
-fn client_event(client: ClientNo, words: &[&[u8]]) -> Result<Event, LineFault>
-    ensures { result ≡ reads.client_event client (texts words.now) }
+fn client_event(
+    alloc: Global,
+    client: ClientNo,
+    words: &[&[u8]],
+) -> Result<Event, ReadFault>
+    ensures { reads.Tells result (reads.client_event client (texts words.now)) }
 {
     let [first, args @ ..] = words else {
-        return Err(LineFault::Count);
+        return Err(ReadFault::Line(LineFault::Count));
     };
     if *first == b"again".as_slice() {
         nothing(args)?;
         return Ok(Event::Again(client));
     }
     let verb = verb_of(first).ok_or(LineFault::Keyword)?;
-    let command = command_of(verb, args)?;
+    let command = command_of(alloc, verb, args)?;
     Ok(Event::Command(client, command))
 }
 
@@ -123,8 +135,8 @@ fn verb_of(word: &[u8]) -> Option<Verb>
 }
 
 #[tactic(auto, unfolding(crate::specs::Reading::command_of))]
-fn command_of(verb: Verb, args: &[&[u8]]) -> Result<Command, LineFault>
-    ensures { result ≡ reads.command_of verb (texts args.now) }
+fn command_of(alloc: Global, verb: Verb, args: &[&[u8]]) -> Result<Command, ReadFault>
+    ensures { reads.Tells result (reads.command_of verb (texts args.now)) }
 {
     match verb {
         Verb::Begin => Ok(Command::Begin(server_alone(args)?)),
@@ -145,7 +157,7 @@ fn command_of(verb: Verb, args: &[&[u8]]) -> Result<Command, LineFault>
             let (server, file, block) = server_file_block(args)?;
             Ok(Command::Do(server, Op::Read(file, block)))
         }
-        Verb::Write => written(args),
+        Verb::Write => written(alloc, args),
         Verb::End => {
             nothing(args)?;
             Ok(Command::End)
@@ -370,9 +382,9 @@ fn server_file_block(args: &[&[u8]]) -> Result<(ServerNo, FileNo, BlockNo), Line
     Ok((server_of(server)?, file_of(file)?, block_no_of(block)?))
 }
 
-#[tactic(auto, unfolding(crate::specs::Reading::written))]
-fn written(args: &[&[u8]]) -> Result<Command, LineFault>
-    ensures { result ≡ reads.written (texts args.now) }
+#[tactic(auto, unfolding(crate::specs::Reading::write_of))]
+fn write_of(args: &[&[u8]]) -> Result<(ServerNo, FileNo, BlockNo, Block), LineFault>
+    ensures { result ≡ reads.write_of (texts args.now) }
 {
     let [server, file, block, bytes] = args else {
         return Err(LineFault::Count);
@@ -380,7 +392,16 @@ fn written(args: &[&[u8]]) -> Result<Command, LineFault>
     let server = server_of(server)?;
     let file = file_of(file)?;
     let block = block_no_of(block)?;
-    Ok(Command::Do(server, Op::Write(file, block, bytes_of(bytes)?)))
+    Ok((server, file, block, bytes_of(bytes)?))
+}
+
+#[tactic(auto, unfolding(crate::specs::Reading::written))]
+fn written(alloc: Global, args: &[&[u8]]) -> Result<Command, ReadFault>
+    ensures { reads.Tells result (reads.written (texts args.now)) }
+{
+    let (server, file, block, bytes) = write_of(args)?;
+    let content = BlockContent::from_block(alloc, &bytes)?;
+    Ok(Command::Do(server, Op::Write(file, block, content)))
 }
 
 #[tactic(auto, unfolding(crate::specs::Reading::server_name))]

@@ -7,7 +7,7 @@ ghost use Rattle.jn_schedule.specs.Reading.{AddsLine, Gives, begins_event, read_
 ghost use Rattle.jn_schedule.specs.declared.fault.ParseFault.TheVariants.{Memory, Syntax};
 
 use crate::Event;
-use crate::fault::ParseFault;
+use crate::fault::{ParseFault, ReadFault};
 use crate::reading::event_of;
 use crate::words::{is_passed, words_of};
 use std::alloc::Global;
@@ -72,12 +72,13 @@ fn read_line(
     if is_passed(&words) {
         return Ok(());
     }
-    match event_of(&words) {
+    match event_of(alloc, &words) {
         Ok(event) => {
             events.push(event)?;
             Ok(())
         }
-        Err(fault) => Err(ParseFault::Syntax {
+        Err(ReadFault::Memory) => Err(ParseFault::Memory),
+        Err(ReadFault::Line(fault)) => Err(ParseFault::Syntax {
             line: number,
             number: fault.number(),
         }),
