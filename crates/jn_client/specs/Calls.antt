@@ -13,7 +13,6 @@ use Rattle.jn_rows.specs.declared.client.OpenWork.{OpenWork}
 use Rattle.jn_rows.specs.declared.client.Outstanding.{Outstanding}
 use Rattle.jn_rows.specs.Client.{ClientTable, Commanded, Refuses, Sends, with_operation}
 use Rattle.jn_client.specs.declared.words.CommandFault.{CommandFault}
-use Rattle.jn_client.specs.declared.words.Waiting.{Waiting}
 use Rattle.jn_client.specs.declared.words.CommandFault.TheVariants.{Refused, Memory}
 
 -- a command whose row this is: what it gives, and the table after it; without memory nothing changes
@@ -60,8 +59,3 @@ are_below n (w ∷ ws) = nat_lt w.last n && are_below n ws
 abbrev pub decision : Option Cause → Outcome
 decision None = Committed
 decision (Some cause) = Aborted cause
-
--- the command that a client waits for
-abbrev pub waiting_in : Option Outstanding → Option Waiting
-waiting_in None = None
-waiting_in (Some o) = Some (record { event = o.event; request = o.request; command = o.command })

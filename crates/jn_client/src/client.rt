@@ -1,15 +1,15 @@
 //! A client's table: what it does with commands and messages.
 
-ghost use Rattle.std.specs.Prelude.{◌≡◌, ◌+◌, ◌<◌, ◌^◌, ℕ, true, is_some, IfOk, IfErr, IfSome, MatchResult};
+ghost use Rattle.std.specs.Prelude.{◌≡◌, ◌+◌, ◌<◌, ◌^◌, ℕ, true, is_some, option_map, IfOk, IfErr, IfSome, MatchResult};
 ghost use Rattle.jn_base.specs.declared.op.Command.TheVariants.{Begin, Open, Do, End, Abort};
 ghost use Rattle.jn_client.specs.declared.words.CommandFault.TheVariants.{Memory};
-ghost use Rattle.jn_client.specs.Calls.{Gives, Asks, replied_to, event_where, are_below, waiting_in, works_after, decision};
+ghost use Rattle.jn_client.specs.Calls.{Gives, Asks, replied_to, event_where, are_below, works_after, decision};
 ghost use Rattle.jn_msgs.specs.declared.message.Message.TheVariants as messages;
 ghost use Rattle.jn_msgs.specs.declared.message.Outcome.TheVariants as outcomes;
 ghost use Rattle.jn_rows.specs.Client as rows;
 
 use crate::copies::{copy_of, names_of};
-use crate::words::{CommandFault, Waiting};
+use crate::words::CommandFault;
 use jn_base::{Answer, Cause, ClientNo, Command, Op, Party, ServerNo, Tid, WorkId};
 use jn_msgs::{Message, Outcome};
 use jn_report::{Refusal, Text};
@@ -22,8 +22,8 @@ use std::marker::Model;
 pub struct Client {
     client: ClientNo,
     servers: u8,
-    /// The number of the next request.
-    next: u32,
+    /// The number of the last request, 0 before the first.
+    last: u32,
     transaction: Option<Tid>,
     /// In the order in which they were opened. While a command is outstanding there is room for one more.
     works: Vec<OpenWork>,
@@ -41,15 +41,14 @@ impl Model for Client {
     ghost view = { λ c. record {
       client = c.client;
       servers = c.servers;
-      next = c.next;
+      next = c.last + 1;
       transaction = c.transaction;
       works = c.works.items;
       outstanding = c.outstanding;
     } };
 
     ghost invariant = { λ c.
-        (0 < c.next)
-        × (are_below c.next c.works.items ≡ true)
+        (are_below (c.last + 1) c.works.items ≡ true)
         × (is_some c.outstanding ≡ true → vec_len c.works < vec_capacity c.works) };
 }
 
@@ -86,19 +85,19 @@ fn count(works: &mut [OpenWork], command: &Command, limit: u32)
 }
 
 /// What a client reports of an answer.
-fn answer_line(client: ClientNo, event: u32, answer: Answer) -> Text
-    ensures { result ≡ rows.answer_line client event answer }
+fn answer_line(client: ClientNo, event: u32, answer: &Answer) -> Text
+    ensures { result ≡ rows.answer_line client event answer.now }
 {
     let refusal = match answer {
         Answer::Did => return Text::Did(client, event),
-        Answer::Read(bytes) => return Text::Read(client, event, bytes),
+        Answer::Read(content) => return Text::Read(client, event, content.to_block()),
         Answer::NoFile => Refusal::NoFile,
         Answer::Exists => Refusal::Exists,
-        Answer::Locked(unit, holder) => Refusal::Locked(unit, holder),
+        Answer::Locked(unit, holder) => Refusal::Locked(*unit, *holder),
         Answer::TooManyReads => Refusal::TooManyReads,
         Answer::TooManyWrites => Refusal::TooManyWrites,
-        Answer::Broken(unit, by) => Refusal::Broken(unit, by),
-        Answer::Lost(then, now) => Refusal::Lost(then, now),
+        Answer::Broken(unit, by) => Refusal::Broken(*unit, *by),
+        Answer::Lost(then, now) => Refusal::Lost(*then, *now),
         Answer::Closing => Refusal::Closing,
     };
     Text::Refused(client, event, refusal)
@@ -128,7 +127,7 @@ impl Client {
         Client {
             client,
             servers,
-            next: 1,
+            last: 0,
             transaction: None,
             works: Vec::new(alloc),
             outstanding: None,
@@ -136,23 +135,11 @@ impl Client {
         }
     }
 
-    /// The number of the next request.
-    pub fn next_request(&self) -> u32
-        ensures { result ≡ self.now.next }
-    {
-        self.next
-    }
-
     /// The command that the client waits for.
-    pub fn waits_for(&self) -> Option<Waiting>
-        ensures { result ≡ waiting_in self.now.outstanding }
+    pub fn waits_for(&self) -> Option<&Outstanding>
+        ensures { option_map (λ o. o.now) result ≡ self.now.outstanding }
     {
-        let o = self.outstanding.as_ref()?;
-        Some(Waiting {
-            event: o.event,
-            request: o.request,
-            command: o.command,
-        })
+        self.outstanding.as_ref()
     }
 
     /// The client's transaction.
@@ -176,21 +163,23 @@ impl Client {
         j: u32,
         command: &Command,
     ) -> Result<Option<(Party, Message)>, CommandFault>
-        requires { self.old.next + 1 < 2 ^ 32 }
+        requires { self.old.next < 2 ^ 32 }
         ensures { Gives (rows.command_row self.old j command.now) self.old result self.new }
     {
         let (to, message) = self.message_for(command)?;
         let kept = copy_of(self.alloc, &message)?;
+        let asked = command.copy(self.alloc)?;
         self.works.reserve(1)?;
-        count(&mut self.works, command, self.next);
+        let request = self.last + 1;
+        count(&mut self.works, command, request);
         self.outstanding = Some(Outstanding {
             event: j,
-            request: self.next,
-            command: *command,
+            request,
+            command: asked,
             to,
             message: kept,
         });
-        self.next += 1;
+        self.last = request;
         Ok(Some((to, message)))
     }
 
@@ -203,7 +192,7 @@ impl Client {
             Message::Opened(client, request, tid, answer) => {
                 self.opened(*client, *request, *tid, *answer)
             }
-            Message::Answer(client, request, answer) => self.answered(*client, *request, *answer),
+            Message::Answer(client, request, answer) => self.answered(*client, *request, answer),
             Message::Outcome(client, tid, outcome) => self.told(*client, *tid, *outcome),
             _ => Taken::Ignored,
         }
@@ -219,22 +208,30 @@ impl Client {
         }
     }
 
+    /// The client waits for nothing and has no transaction, as at the end of a run. It gives no number anew.
+    pub fn dismiss(&mut self)
+        ensures { self.new ≡ rows.over self.old }
+    {
+        self.finish();
+    }
+
     // The messages of commands.
 
     fn message_for(&self, command: &Command) -> Result<(Party, Message), CommandFault>
-        requires { self.now.next + 1 < 2 ^ 32 }
+        requires { self.now.next < 2 ^ 32 }
         ensures { Asks (λ j. rows.command_row self.now j command.now) self.now command.now result }
     {
         match command {
             Command::Begin(server) => self.begin_message(*server),
             Command::Open(server) => self.open_message(*server),
-            Command::Do(server, op) => self.operation_message(*server, *op),
+            Command::Do(server, op) => self.operation_message(*server, op),
             Command::End => self.end_message(),
             Command::Abort => self.abort_message(),
         }
     }
 
     fn begin_message(&self, server: ServerNo) -> Result<(Party, Message), CommandFault>
+        requires { self.now.next < 2 ^ 32 }
         ensures { Asks (λ j. rows.command_row self.now j (Begin server)) self.now (Begin server) result }
     {
         if server.0 >= self.servers {
@@ -248,11 +245,12 @@ impl Client {
         }
         Ok((
             Party::Server(server),
-            Message::Begin(self.client, self.next),
+            Message::Begin(self.client, self.last + 1),
         ))
     }
 
     fn open_message(&self, server: ServerNo) -> Result<(Party, Message), CommandFault>
+        requires { self.now.next < 2 ^ 32 }
         ensures { Asks (λ j. rows.command_row self.now j (Open server)) self.now (Open server) result }
     {
         if server.0 >= self.servers {
@@ -269,13 +267,13 @@ impl Client {
         }
         Ok((
             Party::Server(server),
-            Message::Open(self.client, self.next, tid),
+            Message::Open(self.client, self.last + 1, tid),
         ))
     }
 
-    fn operation_message(&self, server: ServerNo, op: Op) -> Result<(Party, Message), CommandFault>
-        requires { self.now.next + 1 < 2 ^ 32 }
-        ensures { Asks (λ j. rows.command_row self.now j (Do server op)) self.now (Do server op) result }
+    fn operation_message(&self, server: ServerNo, op: &Op) -> Result<(Party, Message), CommandFault>
+        requires { self.now.next < 2 ^ 32 }
+        ensures { Asks (λ j. rows.command_row self.now j (Do server op.now)) self.now (Do server op.now) result }
     {
         if server.0 >= self.servers {
             return Err(CommandFault::Refused(Refusal::NoSuchServer));
@@ -291,11 +289,12 @@ impl Client {
         };
         Ok((
             Party::Server(server),
-            Message::Op(self.client, self.next, at.work, at.last + 1, op),
+            Message::Op(self.client, self.last + 1, at.work, at.last + 1, op.copy(self.alloc)?),
         ))
     }
 
     fn end_message(&self) -> Result<(Party, Message), CommandFault>
+        requires { self.now.next < 2 ^ 32 }
         ensures { Asks (λ j. rows.command_row self.now j End) self.now End result }
     {
         if self.outstanding.is_some() {
@@ -307,11 +306,12 @@ impl Client {
         let works = names_of(self.alloc, &self.works)?;
         Ok((
             Party::Server(tid.server),
-            Message::End(self.client, self.next, tid, works),
+            Message::End(self.client, self.last + 1, tid, works),
         ))
     }
 
     fn abort_message(&self) -> Result<(Party, Message), CommandFault>
+        requires { self.now.next < 2 ^ 32 }
         ensures { Asks (λ j. rows.command_row self.now j Abort) self.now Abort result }
     {
         let Some(tid) = self.transaction else {
@@ -320,7 +320,7 @@ impl Client {
         let works = names_of(self.alloc, &self.works)?;
         Ok((
             Party::Server(tid.server),
-            Message::Abort(self.client, self.next, tid, works),
+            Message::Abort(self.client, self.last + 1, tid, works),
         ))
     }
 
@@ -362,6 +362,7 @@ impl Client {
         let Some((j, Command::Open(server))) = self.replied_to(client, request) else {
             return Taken::Ignored;
         };
+        let asked = *server;
         if !self.is_current(tid) {
             return Taken::Ignored;
         }
@@ -370,7 +371,7 @@ impl Client {
             let refused = Text::Refused(self.client, j, Refusal::TooManyWorks);
             return Taken::Told(refused, None);
         };
-        if work.server.0 != server.0 {
+        if work.server.0 != asked.0 {
             return Taken::Ignored;
         }
         self.outstanding = None;
@@ -378,8 +379,8 @@ impl Client {
         Taken::Told(Text::Opened(self.client, j, work.server), None)
     }
 
-    fn answered(&mut self, client: ClientNo, request: u32, answer: Answer) -> Taken
-        ensures { (self.new, result) ≡ rows.take_row self.old (messages.Answer client request answer) }
+    fn answered(&mut self, client: ClientNo, request: u32, answer: &Answer) -> Taken
+        ensures { (self.new, result) ≡ rows.take_row self.old (messages.Answer client request answer.now) }
     {
         let Some((j, Command::Do(_, _))) = self.replied_to(client, request) else {
             return Taken::Ignored;
@@ -468,15 +469,15 @@ impl Client {
     }
 
     /// The event and the command of the outstanding request, where the client's request is it.
-    fn replied_to(&self, client: ClientNo, request: u32) -> Option<(u32, Command)>
-        ensures reply { result ≡ replied_to self.now.client self.now.outstanding client request }
+    fn replied_to(&self, client: ClientNo, request: u32) -> Option<(u32, &Command)>
+        ensures reply { option_map (λ r. (r.0, r.1.now)) result ≡ replied_to self.now.client self.now.outstanding client request }
         ensures waits { IfSome result (λ _. is_some self.now.outstanding ≡ true) }
     {
         match &self.outstanding {
             None => None,
             Some(o) => {
                 if client.0 == self.client.0 && o.request == request {
-                    Some((o.event, o.command))
+                    Some((o.event, &o.command))
                 } else {
                     None
                 }

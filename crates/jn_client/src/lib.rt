@@ -8,5 +8,5 @@ mod tests;
 mod words;
 
 pub use client::Client;
-pub use jn_rows::Taken;
-pub use words::{CommandFault, Waiting};
+pub use jn_rows::{Outstanding, Taken};
+pub use words::CommandFault;

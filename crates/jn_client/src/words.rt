@@ -1,18 +1,7 @@
-//! What a client waits for, and why a command isn't carried out.
+//! Why a command isn't carried out.
 
-use jn_base::Command;
 use jn_report::Refusal;
 use std::alloc::AllocError;
-
-/// The command that a client waits for.
-#[derive(Clone, Copy, Drop)]
-pub struct Waiting {
-    /// The number of the event that gave it.
-    pub event: u32,
-    /// The number of its request.
-    pub request: u32,
-    pub command: Command,
-}
 
 /// Why a command sends nothing. After either the client is as it was.
 #[derive(Clone, Copy, Drop)]

@@ -17,13 +17,13 @@ use std::marker::Model;
 /// How many messages a network carries.
 pub const MESSAGE_LIMIT: u32 = 1_000_000;
 
-/// A message that was sent, and whether it was ever delivered.
+/// A message that was sent, and whether it was ever delivered. It takes 72 bytes beside what it carries.
 #[derive(Drop)]
 pub struct Sent {
     pub from: Party,
     pub to: Party,
-    pub message: Message,
     pub delivered: bool,
+    pub message: Message,
 }
 
 /// Why a message isn't sent.
@@ -112,8 +112,8 @@ impl Net {
         self.sent.push(Sent {
             from,
             to,
-            message,
             delivered: false,
+            message,
         })?;
         Ok(k as u32)
     }

@@ -3,6 +3,7 @@
 use super::*;
 use jn_base::{ClientNo, ServerNo};
 use jn_msgs::Message;
+use std::mem::size_of;
 use std::test::Fail;
 
 const CLIENT: Party = Party::Client(ClientNo(1));
@@ -37,5 +38,11 @@ fn the_least_that_waits(rt: HostRuntime) -> Result<(), Fail> {
     let kept = net.message(2).ok_or("kept")?;
     assert!(rt; matches!(kept.message, Message::Begin(_, 2)) && !kept.delivered);
     assert!(rt; net.message(5).is_none());
+    Ok(())
+}
+
+#[test]
+fn a_message_is_kept_small(rt: HostRuntime) -> Result<(), Fail> {
+    assert!(rt; size_of::<Sent>() <= 72);
     Ok(())
 }
