@@ -32,7 +32,7 @@ pub struct Client {
 }
 
 impl Model for Client {
-    ghost use Rattle.std.specs.Prelude.{◌≡◌, ◌<◌, true, is_some, vec_len, vec_capacity};
+    ghost use Rattle.std.specs.Prelude.{◌≡◌, ◌<◌, ◌+◌, true, is_some, vec_len, vec_capacity};
     ghost use Rattle.jn_rows.specs.Client.{ClientTable};
     ghost use Rattle.jn_client.specs.Calls.{are_below};
 

@@ -12,7 +12,7 @@ ghost use Rattle.jn_run.specs.Seen.{sees, IsShort};
 ghost use Rattle.jn_run.specs.Within.{op_within, puts_within};
 
 use crate::disk::Disk;
-use jn_base::{Answer, BlockNo, FileNo, LockUnit, Op};
+use jn_base::{Answer, BlockContent, BlockNo, FileNo, LockUnit, Op};
 use jn_records::{Intention, NetList, What};
 use std::alloc::{AllocError, Global};
 
@@ -49,7 +49,12 @@ impl Changes {
     }
 
     /// Performs an operation on the files as the transaction sees them.
-    pub fn perform(&mut self, disk: &Disk, op: &Op) -> Result<Answer, AllocError>
+    pub fn perform(
+        &mut self,
+        alloc: Global,
+        disk: &Disk,
+        op: &Op,
+    ) -> Result<Answer, AllocError>
         requires there { FilesThere self.old.list (files_on disk.now) }
         requires within { puts_within self.old.list ≡ true }
         requires block { op_within op.now ≡ true }
@@ -59,7 +64,7 @@ impl Changes {
         ensures within { puts_within self.new.list ≡ true }
         ensures few { length self.new.list ≤ 24 }
     {
-        let answer = self.answer(disk, op);
+        let answer = self.answer(alloc, disk, op)?;
         let first = LockUnit::File(file_of(op));
         let second = block_read(op, &answer);
         if self.reads_with(first, second) > MOST_READS {
@@ -93,13 +98,16 @@ impl Changes {
     }
 
     /// The answer of the files as the transaction sees them.
-    fn answer(&self, disk: &Disk, op: &Op) -> Answer
-        ensures { result ≡ answer_to op.now (sees self.now disk.now) }
+    fn answer(&self, alloc: Global, disk: &Disk, op: &Op) -> Result<Answer, AllocError>
+        ensures { IfOk result (λ a. a ≡ answer_to op.now (sees self.now disk.now)) }
     {
         let stored = disk.file_there(file_of(op));
-        match self.list.answer(op, stored) {
-            Some(answer) => answer,
-            None => Answer::Read(stored_block(disk, op)),
+        match self.list.answer(alloc, op, stored)? {
+            Some(answer) => Ok(answer),
+            None => {
+                let block = stored_block(disk, op);
+                Ok(Answer::Read(BlockContent::from_block(alloc, &block)?))
+            }
         }
     }
 

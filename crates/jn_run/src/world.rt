@@ -224,7 +224,7 @@ impl World {
         match kind {
             Kind::Begun(request) => self.take_begun(alloc, number, request, lines),
             Kind::Opened(request) => self.take_opened(number, request, lines),
-            Kind::Answer(request) => self.take_answer(number, request, lines),
+            Kind::Answer(request) => self.take_answer(alloc, number, request, lines),
             Kind::Outcome => self.take_outcome(number, lines),
             Kind::End => self.end(alloc, number, lines),
             Kind::Vote => self.vote(alloc, number, lines),
@@ -294,7 +294,7 @@ impl World {
         ensures { result ≡ begin_asked request self.now.client.outstanding }
     {
         match self.client.waits_for() {
-            Some(asked) if asked.request == request => matches!(asked.command, Command::Begin(_)),
+            Some(asked) if asked.request == request => matches!(&asked.command, Command::Begin(_)),
             _ => false,
         }
     }
@@ -334,31 +334,34 @@ impl World {
     /// An operation that the client waits for is performed here: nothing has happened since it was asked for.
     fn take_answer(
         &mut self,
+        alloc: Global,
         number: u32,
         request: u32,
         lines: &mut Vec<Line>,
     ) -> Result<bool, AllocError>
         ensures moved { IfOk result (λ taken. Leads number (view_of self.old) lines.old.items (view_of self.new) lines.new.items) }
     {
-        let Some(op) = self.asked_op(request) else {
+        let Some(op) = self.asked_op(alloc, request)? else {
             return Ok(false);
         };
         if self.client.transaction().is_none() || !self.is_undecided() {
             return Ok(false);
         }
-        let answer = self.changes.perform(&self.disk, &op)?;
+        let answer = self.changes.perform(alloc, &self.disk, &op)?;
         self.hand(number, &Message::Answer(CLIENT, request, answer), lines)
     }
 
     /// The operation of this request, where the client waits for it.
-    fn asked_op(&self, request: u32) -> Option<Op>
-        ensures asked { IfSome result (λ op. is_op_asked request op self.now.client.outstanding) }
-        ensures within { IfSome result (λ op. op_within op ≡ true) }
+    fn asked_op(&self, alloc: Global, request: u32) -> Result<Option<Op>, AllocError>
+        ensures asked { IfOk result (λ found. IfSome found (λ op. is_op_asked request op self.now.client.outstanding)) }
+        ensures within { IfOk result (λ found. IfSome found (λ op. op_within op ≡ true)) }
     {
-        let asked = self.client.waits_for()?;
-        match asked.command {
-            Command::Do(ServerNo(0), op) if asked.request == request => Some(op),
-            _ => None,
+        let Some(asked) = self.client.waits_for() else {
+            return Ok(None);
+        };
+        match &asked.command {
+            Command::Do(ServerNo(0), op) if asked.request == request => Ok(Some(op.copy(alloc)?)),
+            _ => Ok(None),
         }
     }
 
@@ -449,7 +452,7 @@ impl World {
         ensures { result ≡ abort_asked (view_of self.now).asked }
     {
         match self.client.waits_for() {
-            Some(asked) => matches!(asked.command, Command::Abort),
+            Some(asked) => matches!(&asked.command, Command::Abort),
             None => false,
         }
     }

@@ -9,3 +9,4 @@ mod Places
 mod TextParts
 mod Told
 mod Values
+pub mod Ranges

@@ -3,6 +3,8 @@ ghost use Rattle.std.specs.Prelude.{◌≡◌, ◌⊎◌, ℕ, List, Ok, Err, Re
 ghost use Rattle.jn_schedule.specs.declared.Event.{Event as AnEvent};
 ghost use Rattle.jn_schedule.specs.Faults.{IsFirstFault};
 ghost use Rattle.jn_schedule.specs.Grammar.{IsSchedule, lines_of, word_lines, words_of};
+ghost use Rattle.std.specs.List.{AllByRecursion};
+ghost use Rattle.jn_schedule.specs.Ranges.{EventInRange};
 ghost use Rattle.jn_schedule.specs.Reading.{AddsLine, Gives, begins_event, read_line, read_lines};
 ghost use Rattle.jn_schedule.specs.declared.fault.ParseFault.TheVariants.{Memory, Syntax};
 
@@ -43,6 +45,12 @@ pub fn a_text_with_a_fault_is_no_schedule()
 /// A text has one list of events.
 pub fn a_schedule_has_one_list_of_events()
     ensures { (text : List ℕ) (es others : List AnEvent) → IsSchedule text es → IsSchedule text others → es ≡ others }
+{}
+
+/// What the words of a schedule's events spell is in range.
+#[tactic(auto, using(crate::proofs::Ranges::lines_in_range))]
+pub fn words_are_in_range()
+    ensures { (text : List ℕ) (es : List AnEvent) → IsSchedule text es → AllByRecursion EventInRange es }
 {}
 
 fn read_text(alloc: Global, text: &[u8]) -> Result<Vec<Event>, ParseFault>

@@ -5,4 +5,4 @@ use Rattle.jn_client.proofs.client.Client.work_at.Given as goal
 
 abbrev pub invariant-loop-w : goal.invariant-loop-w
 invariant-loop-w l = (rows.work_at l.server (drop l.w-index l.self.works) ≡ rows.work_at l.server l.self.works)
-    × (are_below (l.self.last + 1) (drop l.w-index l.self.works) ≡ true)
+    × (are_below l.self.next (drop l.w-index l.self.works) ≡ true)
