@@ -10,3 +10,4 @@ mod TextParts
 mod Told
 mod Values
 pub mod Ranges
+mod Counting

@@ -1,5 +1,5 @@
 -- Reading lines one after the other: what is told, and that what is there is told.
-use Rattle.std.proofs.Common.{◌≡◌, ℕ, ◌+◌, ◌<◌, ◌≤◌, ◌++◌, ◌⊎◌, inl, inr, Bool, true, false, cond, List, [], ◌∷◌, length, map, drop, get_or, Result, Ok, Err, IfOk, MatchResult, refl, sym, ap, ◌∙◌, subst, append_assoc}
+use Rattle.std.proofs.Common.{◌≡◌, ℕ, ◌+◌, ◌<◌, ◌≤◌, ◌++◌, ◌⊎◌, inl, inr, Bool, true, false, cond, List, [], ◌∷◌, length, map, drop, get_or, Result, Ok, Err, IfOk, IfErr, MatchResult, refl, sym, ap, ◌∙◌, subst, append_assoc}
 use Rattle.std.proofs.lemmas.List.{append-nil, at_drop_all, at_drop_more}
 use Rattle.std.specs.Global.{Vec}
 use Rattle.jn_schedule.specs.declared.Event.{Event}
@@ -8,7 +8,7 @@ use Rattle.jn_schedule.specs.declared.fault.ParseFault.{ParseFault}
 use Rattle.jn_schedule.specs.declared.fault.ParseFault.TheVariants as parse
 use Rattle.jn_schedule.specs.Grammar.{AreLines, IsSchedule, Spells, is_passed, word_lines, words_of}
 use Rattle.jn_schedule.specs.Faults.{HasFault, IsFirstFault, LinesFault, number_of}
-use Rattle.jn_schedule.specs.Reading.{◌>>=◌, AddsLine, Fails, Gives, event_of, in_front, read_line, read_lines, then_lines}
+use Rattle.jn_schedule.specs.Reading.{◌>>=◌, AddsLine, Fails, Gives, Passes, event_of, in_front, read_line, read_lines, then_lines}
 use Rattle.jn_schedule.proofs.Again.{fault_one, spelled_no_fault, spelled_read}
 use Rattle.jn_schedule.proofs.Events.{event_told}
 
@@ -117,6 +117,11 @@ pub starts : (read : Result (List Event) (ℕ × LineFault)) → in_front [] rea
 starts (Ok es) = refl
 starts (Err e) = refl
 
+-- a line that isn't read adds no event to any others
+pub not_added : (e : ParseFault) (at : ℕ) (read : Result (List Event) LineFault) (before after others : List Event) → AddsLine (Err e) at read before after → AddsLine (Err e) at read others others
+not_added parse.Memory at read before after others adds = tt
+not_added (parse.Syntax line number) at read before after others adds = adds
+
 -- the exit at a line that isn't read
 pub exits : (front : List Event) (all : List (List ℕ)) (k at : ℕ) (line : List ℕ) (after : List Event) (total : Result (List Event) (ℕ × LineFault)) (e : ParseFault) → at ≡ k + 1
     → (k < length all) × (line ≡ get_or all k line) → AddsLine (Err e) at (read_line (words_of line)) front after
@@ -136,29 +141,43 @@ only text (Ok v) gives es are = let again = lines_again 1 (word_lines text) es a
 only text (Err parse.Memory) gives es are = refl
 only text (Err (parse.Syntax line number)) gives es are = let again = lines_again 1 (word_lines text) es are in absurd (cc (again, gives.2))
 
-pub fault : (text : List ℕ) (r : Result (Vec Event) ParseFault) → Gives r (read_lines 1 (word_lines text)) → (line number : ℕ) → r ≡ Err (parse.Syntax line number) → IsFirstFault text line number
-fault text (Ok v) gives line number is = absurd cc
-fault text (Err parse.Memory) gives line number is = absurd cc
-fault text (Err (parse.Syntax at n)) gives line number is =
-    let told : LinesFault 1 (word_lines text) at gives.0 = subst (λ (q : Result (List Event) (ℕ × LineFault)). MatchResult q (λ es. AreLines (word_lines text) es) (λ x. LinesFault 1 (word_lines text) x.0 x.1)) gives.2 (lines_told 1 (word_lines text)) in
+pub gives_passes : (r : Result (Vec Event) ParseFault) (read : Result (List Event) (ℕ × LineFault)) → Gives r read → Passes r read
+gives_passes (Ok v) read gives = (v.items, gives)
+gives_passes (Err e) read gives = gives
+
+pub passes_found : {A : Type 0} (text : List ℕ) (r : Result A ParseFault) → Passes r (read_lines 1 (word_lines text)) → IfOk r (λ _. (es : List Event) × IsSchedule text es)
+passes_found text (Ok x) passes =
+    (passes.0, subst (λ (q : Result (List Event) (ℕ × LineFault)). MatchResult q (λ es. AreLines (word_lines text) es) (λ x. LinesFault 1 (word_lines text) x.0 x.1)) passes.1 (lines_told 1 (word_lines text)))
+passes_found text (Err e) passes = tt
+
+pub passes_only : {A : Type 0} (text : List ℕ) (r : Result A ParseFault) → Passes r (read_lines 1 (word_lines text)) → (es : List Event) → IsSchedule text es → IfErr r (λ e. e ≡ parse.Memory)
+passes_only text (Ok x) passes es are = tt
+passes_only text (Err parse.Memory) passes es are = refl
+passes_only text (Err (parse.Syntax line number)) passes es are = let again = lines_again 1 (word_lines text) es are in absurd (cc (again, passes.2))
+
+pub fault : {A : Type 0} (text : List ℕ) (r : Result A ParseFault) → Passes r (read_lines 1 (word_lines text)) → (line number : ℕ) → r ≡ Err (parse.Syntax line number) → IsFirstFault text line number
+fault text (Ok v) passes line number is = absurd cc
+fault text (Err parse.Memory) passes line number is = absurd cc
+fault text (Err (parse.Syntax at n)) passes line number is =
+    let told : LinesFault 1 (word_lines text) at passes.0 = subst (λ (q : Result (List Event) (ℕ × LineFault)). MatchResult q (λ es. AreLines (word_lines text) es) (λ x. LinesFault 1 (word_lines text) x.0 x.1)) passes.2 (lines_told 1 (word_lines text)) in
     let same_line : at ≡ line = cc in
     let same_number : n ≡ number = cc in
-    (gives.0, sym same_number ∙ gives.1, subst (λ (l : ℕ). LinesFault 1 (word_lines text) l gives.0) same_line told)
+    (passes.0, sym same_number ∙ passes.1, subst (λ (l : ℕ). LinesFault 1 (word_lines text) l passes.0) same_line told)
 
 err_same : (x y : ℕ × LineFault) → ◌≡◌ {A = Result (List Event) (ℕ × LineFault)} (Err x) (Err y) → x ≡ y
 err_same x y e = cc
 
-pub first : (text : List ℕ) (r : Result (Vec Event) ParseFault) → Gives r (read_lines 1 (word_lines text)) → (line number : ℕ) → IsFirstFault text line number
+pub first : {A : Type 0} (text : List ℕ) (r : Result A ParseFault) → Passes r (read_lines 1 (word_lines text)) → (line number : ℕ) → IsFirstFault text line number
     → (r ≡ Err (parse.Syntax line number)) ⊎ (r ≡ Err parse.Memory)
-first text (Ok v) gives line number is = let again = fault_again 1 (word_lines text) line is.0 is.2 in absurd (cc (again, gives))
-first text (Err parse.Memory) gives line number is = inr refl
-first text (Err (parse.Syntax at n)) gives line number is =
+first text (Ok v) passes line number is = let again = fault_again 1 (word_lines text) line is.0 is.2 in absurd (cc (again, passes.1))
+first text (Err parse.Memory) passes line number is = inr refl
+first text (Err (parse.Syntax at n)) passes line number is =
     let again = fault_again 1 (word_lines text) line is.0 is.2 in
-    let pair : ◌≡◌ {A = Result (List Event) (ℕ × LineFault)} (Err (at, gives.0)) (Err (line, is.0)) = sym gives.2 ∙ again in
-    let same_pair = err_same (at, gives.0) (line, is.0) pair in
+    let pair : ◌≡◌ {A = Result (List Event) (ℕ × LineFault)} (Err (at, passes.0)) (Err (line, is.0)) = sym passes.2 ∙ again in
+    let same_pair = err_same (at, passes.0) (line, is.0) pair in
     let same_line : at ≡ line = ap (λ (p : ℕ × LineFault). p.0) same_pair in
-    let same_fault : gives.0 ≡ is.0 = ap (λ (p : ℕ × LineFault). p.1) same_pair in
-    let same_number : n ≡ number = gives.1 ∙ ap number_of same_fault ∙ sym is.1 in
+    let same_fault : passes.0 ≡ is.0 = ap (λ (p : ℕ × LineFault). p.1) same_pair in
+    let same_number : n ≡ number = passes.1 ∙ ap number_of same_fault ∙ sym is.1 in
     inl (rw (same_line, same_number) refl)
 
 pub no_schedule : (text : List ℕ) (es : List Event) (line number : ℕ) → IsSchedule text es → IsFirstFault text line number → ⊥
@@ -181,3 +200,4 @@ told text = go (read_lines 1 (word_lines text)) (lines_told 1 (word_lines text))
         → ((es : List Event) × IsSchedule text es) ⊎ ((line : ℕ) × (number : ℕ) × IsFirstFault text line number)
     go (Ok es) h = inl (es, h)
     go (Err x) h = inr (x.0, number_of x.1, (x.1, refl, h))
+

@@ -269,6 +269,11 @@ abbrev pub Gives : Result (Vec Event) ParseFault → Result (List Event) (ℕ ×
 Gives (Ok v) read = read ≡ Ok v.items
 Gives (Err e) read = Fails e read
 
+-- all is read, or its first fault is told, unless memory ran out
+abbrev pub Passes : {A : Type 0} → Result A ParseFault → Result (List Event) (ℕ × LineFault) → Type 0
+Passes (Ok x) read = (es : List Event) × (read ≡ Ok es)
+Passes (Err e) read = Fails e read
+
 -- the events of a line of this number are added, or its fault is told, unless memory ran out
 abbrev pub AddsLine : Result (Unit {0}) ParseFault → ℕ → Result (List Event) LineFault → List Event → List Event → Type 0
 AddsLine (Ok x) at read before after = (es : List Event) × (read ≡ Ok es) × (after ≡ before ++ es)

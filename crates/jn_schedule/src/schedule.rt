@@ -1,11 +1,11 @@
 //! The events of a whole text.
-ghost use Rattle.std.specs.Prelude.{◌≡◌, ◌⊎◌, ℕ, List, Ok, Err, Result, IfOk, MatchResult, count_by};
+ghost use Rattle.std.specs.Prelude.{◌≡◌, ◌⊎◌, ℕ, List, Ok, Err, Result, IfOk, IfErr, MatchResult, count_by, length};
 ghost use Rattle.jn_schedule.specs.declared.Event.{Event as AnEvent};
 ghost use Rattle.jn_schedule.specs.Faults.{IsFirstFault};
 ghost use Rattle.jn_schedule.specs.Grammar.{IsSchedule, lines_of, word_lines, words_of};
 ghost use Rattle.std.specs.List.{AllByRecursion};
 ghost use Rattle.jn_schedule.specs.Ranges.{EventInRange};
-ghost use Rattle.jn_schedule.specs.Reading.{AddsLine, Gives, begins_event, read_line, read_lines};
+ghost use Rattle.jn_schedule.specs.Reading.{AddsLine, Gives, Passes, begins_event, read_line, read_lines};
 ghost use Rattle.jn_schedule.specs.declared.fault.ParseFault.TheVariants.{Memory, Syntax};
 
 use crate::Event;
@@ -29,6 +29,16 @@ pub fn parse(alloc: Global, text: &[u8]) -> Result<Vec<Event>, ParseFault>
     ensures first { (line number : ℕ) → IsFirstFault text.now line number → (result ≡ Err (Syntax line number)) ⊎ (result ≡ Err Memory) }
 {
     read_text(alloc, text)
+}
+
+/// Whether a text is a schedule, as `parse` tells it, without its events: none of them is kept.
+pub fn check(alloc: Global, text: &[u8]) -> Result<(), ParseFault>
+    ensures found { IfOk result (λ _. (es : List AnEvent) × IsSchedule text.now es) }
+    ensures only { (es : List AnEvent) → IsSchedule text.now es → IfErr result (λ e. e ≡ Memory) }
+    ensures fault { (line number : ℕ) → result ≡ Err (Syntax line number) → IsFirstFault text.now line number }
+    ensures first { (line number : ℕ) → IsFirstFault text.now line number → (result ≡ Err (Syntax line number)) ⊎ (result ≡ Err Memory) }
+{
+    check_text(alloc, text)
 }
 
 /// A text is a schedule, or has a first fault.
@@ -66,6 +76,20 @@ fn read_text(alloc: Global, text: &[u8]) -> Result<Vec<Event>, ParseFault>
     Ok(events)
 }
 
+/// Reads each line and lets its event go.
+fn check_text(alloc: Global, text: &[u8]) -> Result<(), ParseFault>
+    ensures { Passes result (read_lines 1 (word_lines text.now)) }
+{
+    let mut events = Vec::new(alloc);
+    let mut number = 0;
+    for line in text.split(|b| *b == b'\n') {
+        number += 1;
+        events.clear();
+        read_line(alloc, line, number, &mut events)?;
+    }
+    Ok(())
+}
+
 /// Adds the event of a line, if it is one.
 #[tactic(auto, unfolding(crate::specs::Reading::read_line))]
 fn read_line(
@@ -94,8 +118,9 @@ fn read_line(
 }
 
 /// How many lines are events, if no line is at fault.
-fn count_events(text: &[u8]) -> usize
-    ensures { result ≡ count_by begins_event (lines_of text.now) }
+pub fn count_events(text: &[u8]) -> usize
+    ensures count { result ≡ count_by begins_event (lines_of text.now) }
+    ensures events { (es : List AnEvent) → IsSchedule text.now es → length es ≡ result }
 {
     text.split(|b| *b == b'\n')
         .filter(|line| begins_event(line))

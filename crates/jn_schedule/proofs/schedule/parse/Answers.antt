@@ -1,4 +1,4 @@
-use Rattle.jn_schedule.proofs.Lines.{found, only, fault, first}
+use Rattle.jn_schedule.proofs.Lines.{found, only, fault, first, gives_passes}
 use Rattle.jn_schedule.proofs.schedule.parse.Goals as goal
 
 pub returns-clause-found : goal.returns-clause-found
@@ -8,7 +8,7 @@ pub returns-clause-only : goal.returns-clause-only
 returns-clause-only c = only c.args.text.now c.read_text.result c.read_text.ensures
 
 pub returns-clause-fault : goal.returns-clause-fault
-returns-clause-fault c = fault c.args.text.now c.read_text.result c.read_text.ensures
+returns-clause-fault c = fault c.args.text.now c.read_text.result (gives_passes c.read_text.result _ c.read_text.ensures)
 
 pub returns-clause-first : goal.returns-clause-first
-returns-clause-first c = first c.args.text.now c.read_text.result c.read_text.ensures
+returns-clause-first c = first c.args.text.now c.read_text.result (gives_passes c.read_text.result _ c.read_text.ensures)
