@@ -135,6 +135,13 @@ impl Client {
         }
     }
 
+    /// The number of the last request, 0 before the first.
+    pub fn last_request(&self) -> u32
+        ensures { result + 1 ≡ self.now.next }
+    {
+        self.last
+    }
+
     /// The command that the client waits for.
     pub fn waits_for(&self) -> Option<&Outstanding>
         ensures { option_map (λ o. o.now) result ≡ self.now.outstanding }
@@ -289,7 +296,13 @@ impl Client {
         };
         Ok((
             Party::Server(server),
-            Message::Op(self.client, self.last + 1, at.work, at.last + 1, op.copy(self.alloc)?),
+            Message::Op(
+                self.client,
+                self.last + 1,
+                at.work,
+                at.last + 1,
+                op.copy(self.alloc)?,
+            ),
         ))
     }
 

@@ -48,7 +48,7 @@ fn command_of(letter: char, server: u8) -> Command {
 
 /// What a client gives at a command: the number of its refusal, 0 where a message is sent, 99 without memory.
 fn give(client: &mut Client, j: u32, command: Command) -> u8 {
-    if client.next_request() > 1000 {
+    if client.last_request() > 1000 {
         return 96;
     }
     match client.command(j, &command) {

@@ -200,4 +200,3 @@ told text = go (read_lines 1 (word_lines text)) (lines_told 1 (word_lines text))
         → ((es : List Event) × IsSchedule text es) ⊎ ((line : ℕ) × (number : ℕ) × IsFirstFault text line number)
     go (Ok es) h = inl (es, h)
     go (Err x) h = inr (x.0, number_of x.1, (x.1, refl, h))
-

@@ -8,7 +8,9 @@ use crate::fault::{LineFault, ReadFault};
 use crate::word::{
     block_no_of, bytes_of, client_of, file_of, name_of, page_of, server_of, value_of,
 };
-use jn_base::{Block, BlockContent, BlockNo, ClientNo, Command, FaultKind, FileNo, Op, ServerNo, Tid};
+use jn_base::{
+    Block, BlockContent, BlockNo, ClientNo, Command, FaultKind, FileNo, Op, ServerNo, Tid,
+};
 use std::alloc::Global;
 
 /// How many messages a schedule can name.
@@ -81,11 +83,7 @@ fn no_client_event(first: &[u8], args: &[&[u8]]) -> Result<Event, LineFault>
 }
 
 #[tactic(auto, unfolding(crate::specs::Reading::client_event))]
-fn client_event(
-    alloc: Global,
-    client: ClientNo,
-    words: &[&[u8]],
-) -> Result<Event, ReadFault>
+fn client_event(alloc: Global, client: ClientNo, words: &[&[u8]]) -> Result<Event, ReadFault>
     ensures { reads.Tells result (reads.client_event client (texts words.now)) }
 {
     let [first, args @ ..] = words else {

@@ -1,6 +1,7 @@
 use jn_base::{BlockNo, ClientNo, Command, FaultKind, FileNo, Op, ServerNo, Tid};
-use jn_schedule::{Event, ParseFault, line_of_event, parse};
+use jn_schedule::{Event, ParseFault, check, count_events, line_of_event, parse};
 use std::alloc::{AllocError, Global};
+use std::mem::size_of;
 use std::test::Fail;
 
 /// The first fault of a text: its line, and its number.
@@ -228,7 +229,7 @@ fn reads_each_command(rt: HostRuntime) -> Result<(), Fail> {
         )
     );
     assert!(rt;
-        matches!(&events[6], Event::Command(ClientNo(7), Command::Do(ServerNo(0), Op::Write(FileNo(11), BlockNo(12), block))) if *block == stored)
+        matches!(&events[6], Event::Command(ClientNo(7), Command::Do(ServerNo(0), Op::Write(FileNo(11), BlockNo(12), block))) if block.to_block() == stored)
     );
     assert!(rt; matches!(&events[7], Event::Command(ClientNo(8), Command::End)));
     assert!(rt; matches!(&events[8], Event::Command(ClientNo(1), Command::Abort)));
@@ -298,5 +299,21 @@ fn finds_the_line_of_each_event(rt: HostRuntime) -> Result<(), Fail> {
     assert_eq!(rt; line_of_event(alloc, text, 1)?, Some(5));
     assert_eq!(rt; line_of_event(alloc, text, 2)?, Some(6));
     assert_eq!(rt; line_of_event(alloc, text, 3)?, None);
+    Ok(())
+}
+
+#[test]
+fn an_event_is_kept_small(rt: HostRuntime) -> Result<(), Fail> {
+    assert!(rt; size_of::<Event>() <= 56);
+    Ok(())
+}
+
+#[test]
+fn a_text_is_told_without_its_events(rt: HostRuntime) -> Result<(), Fail> {
+    let text = b"settle\n\n # settle\nc1 begin 0\n  c1 write 0 7 0 6869";
+    assert_eq!(rt; count_events(text), 3);
+    assert_eq!(rt; check(rt.alloc(), text), Ok(()));
+    let fault = check(rt.alloc(), b"settle\n#\nc1 begin 8\nbegin");
+    assert_eq!(rt; fault, Err(ParseFault::Syntax { line: 3, number: 3 }));
     Ok(())
 }
