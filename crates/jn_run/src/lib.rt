@@ -1,7 +1,8 @@
 //! The top call: reads a schedule, runs it and writes the report.
 #![tactic(auto)]
 
-ghost use Rattle.std.specs.Prelude.{◌≡◌, true, Some, is_some, IfOk};
+ghost use Rattle.std.specs.Prelude.{◌≡◌, ◌<◌, ◌≤◌, true, List, length, Some, is_some, IfOk};
+ghost use Rattle.jn_schedule.specs.declared.Event.{Event as AnEvent};
 ghost use Rattle.jn_schedule.specs.Grammar.{IsSchedule, line_of_event};
 ghost use Rattle.jn_run.specs.Outcome.{IsCommand, OutcomeOf, OutcomeOn, Refuses, refused_line};
 
@@ -19,7 +20,7 @@ mod words;
 mod world;
 
 use events::{first_unknown, run_events};
-use jn_schedule::{Event, ParseFault, line_of_event, parse};
+use jn_schedule::{Event, ParseFault, check, count_events, line_of_event, parse};
 use jn_text::push_number;
 use outside::{ReadFault, RunFault, write_all};
 pub use status::Status;
@@ -75,6 +76,9 @@ pub fn run<S: Source, K: Sink, I: Keeper>(
 fn run_text<K: Sink>(alloc: Global, text: &[u8], sink: &mut K) -> Status
     ensures ran { OutcomeOn text.now (K.taken sink.old) (K.faults sink.old) result (K.taken sink.new) (K.faults sink.new) }
 {
+    if count_events(text) > MOST_EVENTS {
+        return refuse_long(alloc, text, sink);
+    }
     match parse(alloc, text) {
         Ok(events) => run_schedule(alloc, text, &events, sink),
         Err(ParseFault::Syntax { line, number }) => refuse(alloc, line, number, sink),
@@ -82,14 +86,24 @@ fn run_text<K: Sink>(alloc: Global, text: &[u8], sink: &mut K) -> Status
     }
 }
 
-/// Runs a schedule, if it isn't too long and this world can run its events.
-fn run_schedule<K: Sink>(alloc: Global, text: &[u8], events: &[Event], sink: &mut K) -> Status
-    requires schedule { IsSchedule text.now events.now }
+/// Refuses a text that has too many events if it is a schedule. None of its events is kept.
+fn refuse_long<K: Sink>(alloc: Global, text: &[u8], sink: &mut K) -> Status
+    requires long { (es : List AnEvent) → IsSchedule text.now es → 100000 < length es }
     ensures ran { OutcomeOn text.now (K.taken sink.old) (K.faults sink.old) result (K.taken sink.new) (K.faults sink.new) }
 {
-    if events.len() > MOST_EVENTS {
-        return Status::Limit;
+    match check(alloc, text) {
+        Ok(()) => Status::Limit,
+        Err(ParseFault::Syntax { line, number }) => refuse(alloc, line, number, sink),
+        Err(ParseFault::Memory) => Status::Memory,
     }
+}
+
+/// Runs a schedule, if this world can run its events.
+fn run_schedule<K: Sink>(alloc: Global, text: &[u8], events: &[Event], sink: &mut K) -> Status
+    requires schedule { IsSchedule text.now events.now }
+    requires few { length events.now ≤ 100000 }
+    ensures ran { OutcomeOn text.now (K.taken sink.old) (K.faults sink.old) result (K.taken sink.new) (K.faults sink.new) }
+{
     match first_unknown(events) {
         Some(index) => match line_of(alloc, text, index) {
             Ok(line) => refuse(alloc, line, 1, sink),

@@ -10,7 +10,7 @@ line_of-requires g c = record { there = first-has-line c.args.text.now c.args.ev
 
 pub returns-in-Ok : goal.returns-in-Ok
 returns-in-Ok g c =
-    let few : length c.args.events.now ≤ 100000 = omega (arith, c.if-events-gt-MOST_EVENTS.false) in
+    let few : length c.args.events.now ≤ 100000 = c.requires.few in
     let refused : IsRefused c.args.text.now c.in-Ok.line 1 = inr (
       refl,
       record {
@@ -32,18 +32,18 @@ run_events-requires-clause-within g c = schedule-within c.args.text.now c.args.e
 
 pub returns-in-Ok-run_events : goal.returns-in-Ok-run_events
 returns-in-Ok-run_events g c =
-    let few : length c.args.events.now ≤ 100000 = omega (arith, c.if-events-gt-MOST_EVENTS.false) in
+    let few : length c.args.events.now ≤ 100000 = c.requires.few in
     let known : IsRunnable c.args.text.now c.args.events.now = record { schedule = c.requires.schedule; few = few; known = all-are-run 0 c.args.events.now (sym c.first_unknown.ensures ∙ c.in-None.is) } in
     record { ran = done-outcome c.args.text.now c.args.events.now _ _ c.run_events.result c.in-Ok-run_events.field-0 _ _ known c.in-Ok-run_events.is c.run_events.ensures.ran }
 
 pub returns-in-Err-Write : goal.returns-in-Err-Write
 returns-in-Err-Write g c =
-    let few : length c.args.events.now ≤ 100000 = omega (arith, c.if-events-gt-MOST_EVENTS.false) in
+    let few : length c.args.events.now ≤ 100000 = c.requires.few in
     let known : IsRunnable c.args.text.now c.args.events.now = record { schedule = c.requires.schedule; few = few; known = all-are-run 0 c.args.events.now (sym c.first_unknown.ensures ∙ c.in-None.is) } in
     record { ran = write-outcome c.args.text.now c.args.events.now _ _ c.run_events.result _ _ known (c.in-Err-Write.is ∙ ap (λ e. Err e) c.in-Err-Write.field-0-is) c.run_events.ensures.ran }
 
 pub returns-in-Err-Memory : goal.returns-in-Err-Memory
 returns-in-Err-Memory g c =
-    let few : length c.args.events.now ≤ 100000 = omega (arith, c.if-events-gt-MOST_EVENTS.false) in
+    let few : length c.args.events.now ≤ 100000 = c.requires.few in
     let known : IsRunnable c.args.text.now c.args.events.now = record { schedule = c.requires.schedule; few = few; known = all-are-run 0 c.args.events.now (sym c.first_unknown.ensures ∙ c.in-None.is) } in
     record { ran = memory-outcome c.args.text.now c.args.events.now _ _ c.run_events.result _ _ known (c.in-Err-Memory.is ∙ ap (λ e. Err e) c.in-Err-Memory.field-0-is) c.run_events.ensures.ran }
