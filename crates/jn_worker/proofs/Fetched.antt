@@ -1,9 +1,12 @@
 -- An operation whose answer is a stored block.
 use Rattle.std.proofs.Common.{◌≡◌, ◌<◌, ◌+◌, ℕ, Bool, true, false, not, List, [], ◌∷◌, ◌++◌, length, take, Option, Some, None, Result, Ok, Err, if◌then◌else◌, refl, sym, ◌∙◌, ap, subst, arith, true≢false}
-use Rattle.std.specs.Prelude.{◌&&◌, is_some, is_ok}
+use Rattle.std.specs.Prelude.{◌&&◌, is_some}
+use Rattle.std.specs.Result.{IsErrAnd}
+use Rattle.std.proofs.lemmas.Result.{err_from_is_err_and}
 use Rattle.std.proofs.lemmas.List.{take_at}
 use Rattle.std.proofs.Math.Seq.{take-length}
-use Rattle.jn_base.specs.declared.device.Stopped.{Stopped}
+use Rattle.jn_storage.specs.declared.faults.ViewFault.{ViewFault}
+use Rattle.jn_storage.specs.declared.faults.ViewFault.TheVariants.{Stopped as NotSeen, Memory as NoBytes}
 use Rattle.jn_base.specs.declared.names.ClientNo.{ClientNo}
 use Rattle.jn_base.specs.declared.names.Party.TheVariants.{Client}
 use Rattle.jn_base.specs.declared.names.Tid.{Tid}
@@ -30,12 +33,12 @@ use Rattle.jn_lock_rows.specs.Calls.{IsActive, rephased}
 use Rattle.jn_storage.specs.Listing.{is_in}
 use Rattle.jn_storage.specs.Storage.{StorageView, IsServing}
 use Rattle.jn_storage.specs.Calls.{state}
-use Rattle.jn_storage.specs.Viewing.{Viewed, reads_stored}
+use Rattle.jn_storage.specs.Viewing.{Viewed, reads_stored, served}
 use Rattle.jn_worker.specs.declared.words.WorkerFault.{WorkerFault}
 use Rattle.jn_worker.specs.declared.words.WorkerFault.TheVariants.{Stopped as Stops, Memory}
 use Rattle.jn_worker.specs.Fitting.{WorkerView, Fits}
 use Rattle.jn_works.specs.Changing.{tallied}
-use Rattle.jn_worker.specs.Calls.{Takes, CountsBy, Settles, has_stopped}
+use Rattle.jn_worker.specs.Calls.{Takes, CountsBy, Settles, has_stopped, unseen}
 use Rattle.jn_worker.specs.Reading.{ReadSettles, OnlyReads, answer_now, asks_now, asks_in, asks_for, is_unknown}
 use Rattle.jn_lock_rows.proofs.Edits.{rephased-is}
 use Rattle.jn_worker.proofs.Exits.{none-made, called-within}
@@ -99,13 +102,13 @@ still-active t u T W a op before after i s = subst (λ (u : WorkerView). IsActiv
 -- ---- what was asked of the device
 
 -- the block of a granted read
-viewed-list : (t u : WorkerView) (v w : StorageView) (T : Tid) (W : WorkId) (a : ActiveWork) (op : Op) (r : Result Answer Stopped) (before after : Collected) → IsActive t.table T W a → is_unknown a op v → Settles t T W a op Did None before u after
+viewed-list : (t u : WorkerView) (v w : StorageView) (T : Tid) (W : WorkId) (a : ActiveWork) (op : Op) (r : Result Answer ViewFault) (before after : Collected) → IsActive t.table T W a → is_unknown a op v → Settles t T W a op Did None before u after
     → ((T : Tid) (a : ActiveWork) → IsActive u.table T W a → Viewed a.list v op r w) → Viewed a.list v op r w
 viewed-list t u v w T W a op r before after i unknown s viewed = subst (λ o. Viewed (list_with o op a.list) v op r w) (unknown-none a.list op (change (list_change a.list) (state v).files) (state v).files unknown)
     (viewed T (done a op Did (wants_of op true)) (still-active t u T W a op before after i s))
 
-pub granted_reads : (t u : WorkerView) (v w : StorageView) (T : Tid) (W : WorkId) (a : ActiveWork) (op : Op) (o : Option Answer) (r : Result Answer Stopped) (before after : Collected) → IsActive t.table T W a → is_unknown a op v → o ≡ None → Settles t T W a op Did o before u after
-    → ((T : Tid) (a : ActiveWork) → IsActive u.table T W a → Viewed a.list v op r w) → OnlyReads (asks_now t.table v W a op) v (is_ok r) w
+pub granted_reads : (t u : WorkerView) (v w : StorageView) (T : Tid) (W : WorkId) (a : ActiveWork) (op : Op) (o : Option Answer) (r : Result Answer ViewFault) (before after : Collected) → IsActive t.table T W a → is_unknown a op v → o ≡ None → Settles t T W a op Did o before u after
+    → ((T : Tid) (a : ActiveWork) → IsActive u.table T W a → Viewed a.list v op r w) → OnlyReads (asks_now t.table v W a op) v (served r) w
 granted_reads t u v w T W a op o r before after i unknown none settles viewed = record { called = h.called; unchanged = h.unchanged; same = h.same; quiet = λ e. (h.others (only (reads_stored a.list op (state v).files) e)).1 }
   where
     s : Settles t T W a op Did None before u after
@@ -120,6 +123,24 @@ granted_reads t u v w T W a op o r before after i unknown none settles viewed = 
     only : (b : Bool) → (b && not (is_some (refusal_of t.table W a op (answer_now a op v) (wants_of op (is_fit (answer_now a op v)))))) ≡ false → b ≡ false
     only false e = refl
     only true e = absurd (true≢false (ap (λ o. not (is_some o)) (s.refused ∙ refusal-same t u T W a op (answer_now a op v) before after fit) ∙ e))
+
+-- a call that isn't done since a file isn't seen
+pub unseen-stops : (f : ViewFault) → served {A = Answer} (Err f) ≡ not (has_stopped {A = Answer} (Err (unseen f)))
+unseen-stops NotSeen = refl
+unseen-stops NoBytes = refl
+
+-- there is no memory for what was seen
+pub viewed_lost : (list : List Intention) (op : Op) (v w : StorageView) (answer : Answer) (r : Result Answer ViewFault) → Viewed list v op (Ok answer) w → IsErrAnd r (λ fault. fault ≡ NoBytes) → Viewed list v op r w
+viewed_lost list op v w answer r h err = let x = err_from_is_err_and r err in subst (λ r. Viewed list v op r w) (sym (x.1 ∙ ap (λ f. error f) x.2)) (record {
+  answered = λ a e. absurd (cc e);
+  called = h.called;
+  unchanged = h.unchanged;
+  same = h.same;
+  others = h.others;
+})
+  where
+    error : ViewFault → Result Answer ViewFault
+    error f = Err f
 
 -- a read that is granted
 pub granted_settles : (t u now : WorkerView) (v w : StorageView) (T : Tid) (W : WorkId) (a : ActiveWork) (op : Op) (o : Option Answer) (answer : Answer) (number : ℕ) (before after : Collected) → IsActive t.table T W a → number ≡ a.last + 1 → is_unknown a op v → o ≡ None → Settles t T W a op Did o before u after

@@ -23,6 +23,8 @@ use Rattle.jn_lock_rows.specs.Calls.{stored}
 use Rattle.jn_records.specs.declared.work.WorkHead.{WorkHead}
 use Rattle.jn_storage.specs.declared.faults.PrepareFault.{PrepareFault}
 use Rattle.jn_storage.specs.declared.faults.PrepareFault.TheVariants.{Records, Pages, Heads, Stopped as NotServed, Memory as NoMemory}
+use Rattle.jn_storage.specs.declared.faults.ViewFault.{ViewFault}
+use Rattle.jn_storage.specs.declared.faults.ViewFault.TheVariants.{Stopped as NotSeen, Memory as NoBytes}
 use Rattle.jn_rows.specs.Outcomes.{RowOutcome, Sent, Performs}
 use Rattle.jn_rows.specs.Stable.{Change, RemoveWork, next_after}
 use Rattle.jn_rows.specs.Worker.{WorkerTable, worker_again, timeout_row, with_phase, after_grant, break_notes, commit_wants, conflict, locked, counted, done, wants_of, is_fit, refusal_of as refusal_of_row}
@@ -36,6 +38,11 @@ use Rattle.jn_worker.specs.Fitting.{WorkerView, Fits, TicketsFit}
 abbrev pub has_stopped : {A : Type 0} → Result A WorkerFault → Bool
 has_stopped (Err Stopped) = true
 has_stopped _ = false
+
+-- why an operation isn't answered whose file isn't seen
+abbrev pub unseen : ViewFault → WorkerFault
+unseen NotSeen = Stopped
+unseen NoBytes = Memory
 
 -- whether one of the changes removes this work
 abbrev pub is_removed : WorkId → List Change → Bool

@@ -10,6 +10,7 @@ ghost use Rattle.jn_storage.specs.Calls.{state};
 ghost use Rattle.jn_storage.specs.Viewing.{BlockInRange};
 ghost use Rattle.jn_locks.specs.declared.words.Mode.TheVariants as modes;
 ghost use Rattle.jn_records.specs.NetLists.{length_with};
+ghost use Rattle.jn_records.specs.Reading.{Gives};
 ghost use Rattle.jn_rows.specs.declared.worker.ActiveWork.{ActiveWork};
 ghost use Rattle.jn_rows.specs.Worker as rows;
 ghost use Rattle.jn_lock_rows.specs.Calls.{IsActive};
@@ -144,7 +145,8 @@ impl Worker {
             Err(refused) => {
                 let _none = swap_list(&mut self.works, name, list);
                 let refusal = locked(refused)?;
-                tally(&mut self.works, name, number, refusal);
+                let kept = refusal.copy(self.alloc)?;
+                tally(&mut self.works, name, number, kept);
                 return Ok(Some(refusal));
             }
         };
@@ -178,7 +180,8 @@ impl Worker {
         let fit = is_fit(&answer);
         let units = units_after(self.alloc, active, op, fit)?;
         if let Some(refusal) = past_limit(units.0.len(), intentions(active, op, fit)) {
-            tally(&mut self.works, name, number, refusal);
+            let kept = refusal.copy(self.alloc)?;
+            tally(&mut self.works, name, number, kept);
             return Ok(Some(refusal));
         }
         let refusal = self.grant(name, number, op, answer, units, out)?;
@@ -200,7 +203,8 @@ impl Worker {
         requires next { (T : Tid) (a : ActiveWork) → IsActive self.old.table T name a → number ≡ a.last + 1 }
         ensures takes { (v : StorageView) (k : Tickets) → Fits self.old v → BlockInRange op.now → ((T : Tid) (a : ActiveWork) → IsActive self.old.table T name a → answer ≡ answer_to op.now (change (list_change a.list) (state v).files)) → Takes 784 (rows.op_row self.old.table (state v).files k client request name number op.now (rows.work_at name self.old.table)) self.old v out.old k result self.new v out.new k }
     {
-        let refusal = self.settle(name, number, op, answer, out)?;
+        let kept = answer.copy(self.alloc)?;
+        let refusal = self.settle(name, number, op, kept, out)?;
         let told = told(refusal, answer);
         let message = Message::Answer(client, request, told);
         Ok(out.send(Party::Client(client), message)?)
@@ -220,15 +224,16 @@ impl Worker {
         ensures takes { (v : StorageView) (k : Tickets) (op : AnyOp) → Fits self.now v → Takes 784 (rows.op_row self.now.table (state v).files k client request name number op (rows.work_at name self.now.table)) self.now v out.old k result self.now v out.new k }
     {
         if let Some(answer) = self.kept_answer(name, number) {
-            let message = Message::Answer(client, request, answer);
+            let again = answer.copy(self.alloc)?;
+            let message = Message::Answer(client, request, again);
             return Ok(out.send(Party::Client(client), message)?);
         }
         Ok(out.note(Note::Ignored)?)
     }
 
     /// What the active work's operation of this number was answered, if it was its last one.
-    fn kept_answer(&self, name: WorkId, number: u32) -> Option<Answer>
-        ensures { (T : Tid) (a : ActiveWork) → IsActive self.now.table T name a → result ≡ (if nat_eq number a.last then a.kept else None) }
+    fn kept_answer(&self, name: WorkId, number: u32) -> Option<&Answer>
+        ensures { (T : Tid) (a : ActiveWork) → IsActive self.now.table T name a → Gives (λ answer. answer.now) result (if nat_eq number a.last then a.kept else None) }
     {
         let Some(work) = work_at(&self.works, name) else {
             return None;
@@ -237,7 +242,7 @@ impl Worker {
             return None;
         };
         if number == active.last {
-            active.kept
+            active.kept.as_ref()
         } else {
             None
         }

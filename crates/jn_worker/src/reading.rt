@@ -17,12 +17,13 @@ ghost use Rattle.jn_worker.specs.Fitting.{Fits, is_active};
 
 use crate::words::WorkerFault;
 use crate::worker::Worker;
-use jn_base::{Answer, ClientNo, FileNo, Op, Party, Stopped, Tickets, WorkId};
+use jn_base::{Answer, ClientNo, FileNo, Op, Party, Tickets, WorkId};
 use jn_lock_rows::work_at;
 use jn_msgs::{Message, Out};
 use jn_rows::Phase;
-use jn_storage::{StoredFiles, WorkStore, view};
+use jn_storage::{StoredFiles, ViewFault, WorkStore, view};
 use jn_works::tally;
+use std::alloc::AllocError;
 
 fn file_of(op: &Op) -> FileNo
     ensures { result ≡ file_of op.now }
@@ -47,17 +48,24 @@ impl Worker {
     }
 
     /// What an operation of the active work is answered; none where it is the stored block.
-    fn known_answer<W: StoredFiles>(&self, store: &W, name: WorkId, op: &Op) -> Option<Answer>
+    fn known_answer<W: StoredFiles>(
+        &self,
+        store: &W,
+        name: WorkId,
+        op: &Op,
+    ) -> Result<Option<Answer>, AllocError>
         requires serving { IsServing (W.view store.now) }
-        ensures { (T : Tid) (a : ActiveWork) → IsActive self.now.table T name a → answer_to op.now (change (list_change a.list) (state (W.view store.now)).files) ≡ answered result op.now (state (W.view store.now)).files }
+        ensures { IfOk result (λ known. (T : Tid) (a : ActiveWork) → IsActive self.now.table T name a → answer_to op.now (change (list_change a.list) (state (W.view store.now)).files) ≡ answered known op.now (state (W.view store.now)).files) }
     {
         let Some(work) = work_at(&self.works, name) else {
-            return None;
+            return Ok(None);
         };
         let Phase::Active(active) = &work.phase else {
-            return None;
+            return Ok(None);
         };
-        active.list.answer(op, store.file_there(file_of(op)))
+        active
+            .list
+            .answer(self.alloc, op, store.file_there(file_of(op)))
     }
 
     /// Reads the block of a read that was granted, and keeps it as the answer.
@@ -67,20 +75,21 @@ impl Worker {
         name: WorkId,
         number: u32,
         op: &Op,
-    ) -> Result<Answer, Stopped>
+    ) -> Result<Answer, ViewFault>
         requires serving { IsServing (W.view store.old) }
         requires range { BlockInRange op.now }
         ensures viewed { (T : Tid) (a : ActiveWork) → IsActive self.old.table T name a → Viewed a.list (W.view store.old) op.now result (W.view store.new) }
         ensures kept { IfOk result (λ answer. self.new ≡ record self.old { table = rephased name (tallied number answer) self.old.table }) }
     {
         let Some(work) = work_at(&self.works, name) else {
-            return Err(Stopped);
+            return Err(ViewFault::Stopped);
         };
         let Phase::Active(active) = &work.phase else {
-            return Err(Stopped);
+            return Err(ViewFault::Stopped);
         };
-        let answer = view(&active.list, store, op)?;
-        tally(&mut self.works, name, number, answer);
+        let answer = view(self.alloc, &active.list, store, op)?;
+        let kept = answer.copy(self.alloc)?;
+        tally(&mut self.works, name, number, kept);
         Ok(answer)
     }
 
@@ -109,9 +118,9 @@ impl Worker {
         }
         match self.read_granted(store, name, number, op) {
             Ok(answer) => Ok(answer),
-            Err(stopped) => {
+            Err(fault) => {
                 out.truncate(messages, notes);
-                Err(WorkerFault::from(stopped))
+                Err(WorkerFault::from(fault))
             }
         }
     }
@@ -165,7 +174,8 @@ impl Worker {
         if !self.is_next(name, number) {
             return self.repeat(client, request, name, number, out);
         }
-        match self.known_answer(store, name, op) {
+        let known = self.known_answer(store, name, op)?;
+        match known {
             Some(answer) => self.perform(client, request, name, number, op, answer, out),
             None => self.read(store, client, request, name, number, op, out),
         }

@@ -1,6 +1,7 @@
 //! Why a worker's call isn't done.
 
 use jn_base::Stopped;
+use jn_storage::ViewFault;
 use std::alloc::AllocError;
 
 /// Why a worker's call isn't done. After `Stopped` the worker is of no use any more.
@@ -31,5 +32,19 @@ impl From<Stopped> for WorkerFault {
 
     fn from(_e: Stopped) -> WorkerFault {
         WorkerFault::Stopped
+    }
+}
+
+impl From<ViewFault> for WorkerFault {
+    ghost use Rattle.std.specs.Prelude.{◌≡◌};
+    ghost use Rattle.jn_worker.specs.Calls.{unseen};
+
+    ghost from_gives = { λ fault e. e ≡ unseen fault };
+
+    fn from(fault: ViewFault) -> WorkerFault {
+        match fault {
+            ViewFault::Stopped => WorkerFault::Stopped,
+            ViewFault::Memory => WorkerFault::Memory,
+        }
     }
 }

@@ -5,4 +5,7 @@ pub repeat-requires-clause-other : goal.repeat-requires-clause-other
 repeat-requires-clause-other g c = λ T a i. sym (c.is_next.ensures T a i) ∙ c.if-not-is_next.true
 
 pub returns-in-Some-clause-takes : goal.returns-in-Some-clause-takes
-returns-in-Some-clause-takes g c = c.perform.ensures.takes (g.W.Storage.view c.args.store.now) c.args.tickets.now c.requires.fits c.requires.range (λ T a i. sym (c.in-Some.ensures T a i))
+returns-in-Some-clause-takes g c = c.perform.ensures.takes (g.W.Storage.view c.args.store.now) c.args.tickets.now c.requires.fits c.requires.range (λ T a i. sym ((rw c.in-Some.is at c.in_ok-known.ensures) T a i))
+
+pub read-requires-clause-unknown : goal.read-requires-clause-unknown
+read-requires-clause-unknown g c = λ T a i. (rw c.in-None.is at c.in_ok-known.ensures) T a i
