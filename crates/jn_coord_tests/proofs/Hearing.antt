@@ -1,5 +1,6 @@
 -- What a coordinator keeps by what it hears, for the tests.
-use Rattle.std.proofs.Common.{◌≡◌, true, Result, Ok, Err, ◌∙◌, ap}
+use Rattle.std.proofs.Common.{◌≡◌, true, Result, Ok, Err, IfOk, ◌∙◌, ap}
+use Rattle.std.specs.Prelude.{OnOk}
 use Rattle.jn_base.specs.declared.names.Tickets.{Tickets}
 use Rattle.jn_msgs.specs.Collected.{Collected}
 use Rattle.jn_rows.specs.Coordinator.{CoordinatorTable}
@@ -7,6 +8,7 @@ use Rattle.jn_rows.specs.Outcomes.{RowOutcome}
 use Rattle.jn_storage.specs.Storage.{StorageView}
 use Rattle.jn_transactions.specs.declared.faults.CoordFault.{CoordFault}
 use Rattle.jn_transactions.specs.declared.faults.CoordFault.TheVariants.{Stopped, Memory}
+use Rattle.jn_coord.specs.Beginning.{TicketsFit}
 use Rattle.jn_coord.specs.Calls.{Does}
 use Rattle.jn_coord.specs.Handling.{Handles}
 use Rattle.jn_coord.specs.Remembered.{Remembered}
@@ -22,3 +24,8 @@ module _ {A : Type 0} (row : RowOutcome CoordinatorTable) (r u : Remembered) (v 
   done_of (Ok x) h = h.reaches.later.server ∙ of
   done_of (Err Memory) h = ap (λ (z : StorageView). z.accounts.server) h.1 ∙ of
   done_of (Err Stopped) h = h.0.reaches.later.server ∙ of
+
+pub closed_on : {A : Type 0} (row : RowOutcome CoordinatorTable) (r u : Remembered) (v w : StorageView) (before after : Collected) (k : Tickets) (answer : Result A CoordFault) → IsOn r v k
+    → Does row r v before answer u w after → OnOk answer (TicketsFit u w k) → IfOk answer (λ x. IsOn u w k)
+closed_on row r u v w before after k (Ok x) on does fit = record { fits = does.fits; tickets = fit; of = does.reaches.later.server ∙ on.of }
+closed_on row r u v w before after k (Err fault) on does fit = tt

@@ -1,20 +1,23 @@
 //! The coordinator's table, row by row.
 
 mod restored;
+mod starting;
 mod stops;
 mod trial;
 
+use jn_intent::Intents;
 use jn_store::ArrayStore;
+use starting::new_trial;
 use std::alloc::Global;
 use std::process::Abort;
 use std::test::Fail;
 use trial::{
     Again, BROKEN, Begin, Close, Done, End, EndEmpty, FULL, Heard, Inquire, LOST, READY, Stray,
-    Thanks, Trial, Voted, WAITING, new_trial,
+    Thanks, Trial, Voted, WAITING,
 };
 
 /// Transaction 1 of client 3 is unknown, open, voting, committed or aborted. Its Begin was request 5.
-fn in_state(rt: &impl Abort, alloc: Global, state: usize) -> Result<Trial<ArrayStore>, Fail> {
+fn in_state(rt: &impl Abort, alloc: Global, state: usize) -> Result<Trial<Intents<ArrayStore>>, Fail> {
     let trial = new_trial(alloc, 4)?;
     if state == 0 {
         return Ok(trial);

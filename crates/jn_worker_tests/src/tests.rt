@@ -2,10 +2,12 @@
 
 mod bench;
 mod restored;
+mod starting;
 mod stops;
 
-use bench::{Came, Many, Move, create, file, new_bench, nines, read, remove, tid, waiting};
+use bench::{Came, Many, Move, create, file, nines, read, remove, tid, waiting};
 use jn_msgs::{Note, Vote};
+use starting::new_bench;
 use std::test::Fail;
 
 #[test]

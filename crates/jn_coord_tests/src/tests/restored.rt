@@ -1,15 +1,15 @@
 //! A coordinator that starts again over the flags that it has put.
 
-use super::trial::{
-    Again, Begin, Close, Done, End, EndEmpty, READY, Thanks, Trial, Voted, first_trial,
-};
+use super::starting::{first_trial, restarted};
+use super::trial::{Again, Begin, Close, Done, End, EndEmpty, READY, Thanks, Trial, Voted};
+use jn_intent::Intents;
 use jn_store::ArrayStore;
 use std::alloc::Global;
 use std::process::Abort;
 use std::test::Fail;
 
 /// A restart finds the flags of the transactions 90 and 91 of client 3, which take all records.
-fn with_flags(rt: &impl Abort, alloc: Global) -> Result<Trial<ArrayStore>, Fail> {
+fn with_flags(rt: &impl Abort, alloc: Global) -> Result<Trial<Intents<ArrayStore>>, Fail> {
     let trial = first_trial(alloc, 2)?;
     let story = [
         (Begin(3, 5), "3+5=90"),
@@ -21,7 +21,7 @@ fn with_flags(rt: &impl Abort, alloc: Global) -> Result<Trial<ArrayStore>, Fail>
         (Voted(91, 'a', READY), ""),
         (Voted(91, 'b', READY), "c91b c91a 3:91c !91"),
     ];
-    trial.hears(rt, &story)?.restarted()
+    restarted(trial.hears(rt, &story)?)
 }
 
 #[test]
@@ -54,7 +54,7 @@ fn a_restart_forgets_what_had_no_flag(rt: HostRuntime) -> Result<(), Fail> {
         (Voted(90, 'b', READY), ""),
         (Begin(4, 1), "4+1=91"),
     ];
-    let trial = trial.hears(&rt, &story)?.restarted()?;
+    let trial = restarted(trial.hears(&rt, &story)?)?;
     trial.hears(
         &rt,
         &[

@@ -3,10 +3,9 @@
 ghost use Rattle.std.specs.Prelude.{◌<◌};
 ghost use Rattle.jn_intent_tests.specs.Trial.{MayBegin};
 
-use super::trial::{
-    Again, Begin, Done, End, EndEmpty, Heard, READY, SERVER, Thanks, Trial, Voted,
-};
-use jn_intent_tests::{new_disk, power_on, stop_at};
+use super::starting::{begun, started};
+use super::trial::{Again, Begin, Done, End, EndEmpty, Heard, READY, SERVER, Thanks, Voted};
+use jn_intent_tests::{new_disk, power_on, stop_at, take_down};
 use jn_records::Root;
 use jn_store::Powered;
 use std::alloc::Global;
@@ -43,7 +42,7 @@ fn check_left<S: Powered + Drop>(rt: &impl Abort, alloc: Global, store: S) -> Re
 {
     let mut store = store;
     power_on(&mut store);
-    let (mut trial, said) = Trial::begun(alloc, store)?.say(rt, Again)?;
+    let (mut trial, said) = begun(alloc, store)?.say(rt, Again)?;
     if said.as_str() != "" {
         assert_eq!(rt; said.as_str().trim_end(), "c90b c90a 3:90c");
         trial = trial.hears(rt, &ALL_DONE)?;
@@ -57,14 +56,14 @@ fn is_stopped<S: Powered + Drop>(rt: &impl Abort, alloc: Global, store: S) -> Re
     requires { MayBegin SERVER (S.view store) }
 {
     // Where the server's start is stopped, the tests of its storage say what is found.
-    let Ok(trial) = Trial::started(alloc, store) else {
+    let Ok(trial) = started(alloc, store) else {
         return Ok(true);
     };
     match trial.hears_on(rt, &STORY)? {
         Ok(_) => Ok(false),
         Err((at, left)) => {
             assert!(rt; at == 3 || at == 6);
-            check_left(rt, alloc, left)?;
+            check_left(rt, alloc, take_down(left))?;
             Ok(true)
         }
     }

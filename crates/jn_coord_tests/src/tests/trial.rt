@@ -1,4 +1,4 @@
-//! A coordinator over the storage of a server that starts, as the tests drive it.
+//! A coordinator over a storage, as the tests drive it.
 //!
 //! What a coordinator says is written in words. `p1b` asks work b of transaction 1 to prepare, `c1b` and `d1b` tell it
 //! to commit and to drop. `3+9=1` tells client 3 that its request 9 began transaction 1, `3+9=-` that there is no
@@ -9,17 +9,11 @@ ghost use Rattle.jn_base.specs.declared.names.Tickets.{Tickets};
 ghost use Rattle.jn_coord.specs.Calls.{Fits};
 ghost use Rattle.jn_coord.specs.Handling.{FewWorks};
 ghost use Rattle.jn_coord_tests.specs.Hearing.{IsOf, IsOn};
-ghost use Rattle.jn_intent_tests.specs.Started.{IsStarted};
-ghost use Rattle.jn_intent_tests.specs.Trial.{MayBegin};
 
 use jn_base::{BlockNo, Cause, ClientNo, FileNo, LockUnit, Party, ServerNo, Tickets, Tid, WorkId};
 use jn_coord::Coordinator;
-use jn_intent::Intents;
-use jn_intent_tests::{new_array, start, take_down};
 use jn_msgs::{Message, Note, Out, Outcome, Vote, Works};
-use jn_records::Root;
-use jn_storage::Storage;
-use jn_store::{ArrayStore, StableStore};
+use jn_storage::FlagStore;
 use jn_transactions::CoordFault;
 use std::alloc::{AllocError, Global};
 use std::marker::Model;
@@ -201,15 +195,15 @@ fn words_of(alloc: Global, out: &Out) -> Result<String, AllocError> {
 }
 
 /// What a coordinator does without a message.
-fn tell<S: StableStore>(
+fn tell<F: FlagStore>(
     coordinator: &mut Coordinator,
-    store: &mut Intents<S>,
+    store: &mut F,
     heard: Heard,
     out: &mut Out,
 ) -> Result<(), CoordFault>
-    requires { Fits coordinator.old (⟦<Intents<S> as Storage>⟧.view store.old) }
-    ensures on { (k : Tickets) → IsOn coordinator.old (⟦<Intents<S> as Storage>⟧.view store.old) k → IfOk result (λ _. IsOn coordinator.new (⟦<Intents<S> as Storage>⟧.view store.new) k) }
-    ensures of { IsOf (⟦<Intents<S> as Storage>⟧.view store.old) → IsOf (⟦<Intents<S> as Storage>⟧.view store.new) }
+    requires { Fits coordinator.old (F.view store.old) }
+    ensures on { (k : Tickets) → IsOn coordinator.old (F.view store.old) k → IfOk result (λ _. IsOn coordinator.new (F.view store.new) k) }
+    ensures of { IsOf (F.view store.old) → IsOf (F.view store.new) }
 {
     if let Again = heard {
         return match coordinator.again(out) {
@@ -221,17 +215,17 @@ fn tell<S: StableStore>(
 }
 
 /// What a coordinator does when it hears this.
-fn answer<S: StableStore>(
+fn answer<F: FlagStore>(
     alloc: Global,
     coordinator: &mut Coordinator,
-    store: &mut Intents<S>,
+    store: &mut F,
     heard: Heard,
     tickets: &mut Tickets,
     out: &mut Out,
 ) -> Result<(), CoordFault>
-    requires { IsOn coordinator.old (⟦<Intents<S> as Storage>⟧.view store.old) tickets.old }
-    ensures on { IfOk result (λ _. IsOn coordinator.new (⟦<Intents<S> as Storage>⟧.view store.new) tickets.new) }
-    ensures of { IsOf (⟦<Intents<S> as Storage>⟧.view store.new) }
+    requires { IsOn coordinator.old (F.view store.old) tickets.old }
+    ensures on { IfOk result (λ _. IsOn coordinator.new (F.view store.new) tickets.new) }
+    ensures of { IsOf (F.view store.new) }
 {
     let Some(message) = message_of(alloc, heard)? else {
         return tell(coordinator, store, heard, out);
@@ -242,77 +236,30 @@ fn answer<S: StableStore>(
     coordinator.handle(store, &message, tickets, out)
 }
 
-/// The first name that is given in an epoch.
-fn first_name(epoch: u32) -> u32 {
-    if epoch < 2 { 90 } else { 1 }
-}
-
 /// The coordinator of server 1 and its storage.
 #[derive(Drop)]
-pub(crate) struct Trial<S: StableStore> {
-    alloc: Global,
-    store: Intents<S>,
-    coordinator: Coordinator,
-    tickets: Tickets,
+pub(crate) struct Trial<F: FlagStore> {
+    pub(crate) alloc: Global,
+    pub(crate) store: F,
+    pub(crate) coordinator: Coordinator,
+    pub(crate) tickets: Tickets,
 }
 
-impl<S: StableStore> Model for Trial<S> {
+impl<F: FlagStore> Model for Trial<F> {
     ghost use Rattle.jn_base.specs.declared.names.Tickets.{Tickets};
     ghost use Rattle.jn_coord_tests.specs.Hearing.{IsOn};
-    ghost use Rattle.jn_intent.specs.Memory.{view_of};
 
     ghost Value = { Tickets };
 
     ghost view = { λ t. t.tickets };
 
-    ghost invariant = { λ t. IsOn t.coordinator (view_of t.store.1 (S.view t.store.0)) t.tickets };
+    ghost invariant = { λ t. IsOn t.coordinator (F.view t.store) t.tickets };
 }
 
-impl<S: StableStore> Trial<S> {
-    /// The server of a store starts. In its first epoch names begin with 90.
-    pub(crate) fn started(alloc: Global, store: S) -> Result<Trial<S>, S>
-        requires { MayBegin SERVER (S.view store) }
-        ensures { IfErr result (λ left. MayBegin SERVER (S.view left)) }
-    {
-        match start(alloc, store) {
-            Ok(begun) => Trial::restored(alloc, begun.0, begun.1),
-            Err(left) => Err(left),
-        }
-    }
-
-    /// A storage has just been recovered.
-    fn restored(alloc: Global, store: Intents<S>, epoch: u32) -> Result<Trial<S>, S>
-        requires { IsStarted SERVER epoch (⟦<Intents<S> as Storage>⟧.view store) }
-        ensures { IfErr result (λ left. MayBegin SERVER (S.view left)) }
-    {
-        let Ok(coordinator) = Coordinator::restore(alloc, &store) else {
-            return Err(take_down(store));
-        };
-        let tickets = Tickets {
-            server: SERVER,
-            epoch,
-            next: first_name(epoch),
-        };
-        Ok(Trial {
-            alloc,
-            store,
-            coordinator,
-            tickets,
-        })
-    }
-
-    /// The store of a server that goes down.
-    fn taken_down(self) -> S
-        ensures { MayBegin SERVER (S.view result) }
-    {
-        take_down(self.store)
-    }
-}
-
-impl<S: StableStore + Drop> Trial<S> {
-    /// What it says when it hears this; or else the store, where it was stopped, and then it says nothing.
-    fn hear(self, rt: &impl Abort, heard: Heard) -> Result<Result<(Self, String), S>, Fail>
-        ensures { IfOk result (λ said. IfErr said (λ left. MayBegin SERVER (S.view left))) }
+impl<F: FlagStore + Drop> Trial<F> {
+    /// What it says when it hears this; or else its storage, where it was stopped, and then it says nothing.
+    fn hear(self, rt: &impl Abort, heard: Heard) -> Result<Result<(Self, String), F>, Fail>
+        ensures { IfOk result (λ said. IfErr said (λ left. IsOf (F.view left))) }
     {
         let Trial {
             alloc,
@@ -330,10 +277,10 @@ impl<S: StableStore + Drop> Trial<S> {
             &mut out,
         );
         let words = words_of(alloc, &out)?;
-        if answered.is_err() {
-            assert_eq!(rt; answered, Err(CoordFault::Stopped));
+        if let Err(fault) = answered {
+            assert_eq!(rt; fault, CoordFault::Stopped);
             assert_eq!(rt; words.as_str(), "");
-            return Ok(Err(take_down(store)));
+            return Ok(Err(store));
         }
         let trial = Trial {
             alloc,
@@ -344,13 +291,21 @@ impl<S: StableStore + Drop> Trial<S> {
         Ok(Ok((trial, words)))
     }
 
-    /// Hears each, and says the words beside it; or else the place of the one that was stopped, and the store.
+    /// What it says when it hears this, which isn't stopped.
+    pub(crate) fn say(self, rt: &impl Abort, heard: Heard) -> Result<(Self, String), Fail> {
+        match self.hear(rt, heard)? {
+            Ok(said) => Ok(said),
+            Err(_) => Err("stopped".into()),
+        }
+    }
+
+    /// Hears each, and says the words beside it; or else the place of the one that was stopped, and its storage.
     pub(crate) fn hears_on(
         self,
         rt: &impl Abort,
         story: &[(Heard, &str)],
-    ) -> Result<Result<Self, (usize, S)>, Fail>
-        ensures { IfOk result (λ heard. IfErr heard (λ left. MayBegin SERVER (S.view left.1))) }
+    ) -> Result<Result<Self, (usize, F)>, Fail>
+        ensures { IfOk result (λ heard. IfErr heard (λ left. IsOf (F.view left.1))) }
     {
         let mut trial = self;
         for (at, (heard, words)) in story.iter().enumerate() {
@@ -365,14 +320,6 @@ impl<S: StableStore + Drop> Trial<S> {
         Ok(Ok(trial))
     }
 
-    /// What it says when it hears this, which isn't stopped.
-    pub(crate) fn say(self, rt: &impl Abort, heard: Heard) -> Result<(Self, String), Fail> {
-        match self.hear(rt, heard)? {
-            Ok(said) => Ok(said),
-            Err(_) => Err("stopped".into()),
-        }
-    }
-
     /// Hears each, and says the words beside it.
     pub(crate) fn hears(self, rt: &impl Abort, story: &[(Heard, &str)]) -> Result<Self, Fail> {
         match self.hears_on(rt, story)? {
@@ -380,42 +327,4 @@ impl<S: StableStore + Drop> Trial<S> {
             Err(_) => Err("stopped".into()),
         }
     }
-
-    /// The server of a store starts, which nothing stops.
-    pub(crate) fn begun(alloc: Global, store: S) -> Result<Self, Fail>
-        requires { MayBegin SERVER (S.view store) }
-    {
-        match Trial::started(alloc, store) {
-            Ok(trial) => Ok(trial),
-            Err(_) => Err("down".into()),
-        }
-    }
-
-    /// The server stops and starts again.
-    pub(crate) fn restarted(self) -> Result<Self, Fail> {
-        let alloc = self.alloc;
-        Trial::begun(alloc, self.taken_down())
-    }
-}
-
-/// A new server with room for so many flags, which has begun so many epochs.
-fn new_in(alloc: Global, epoch: u32, flags: u16) -> Result<Trial<ArrayStore>, Fail> {
-    let root = Root {
-        server: SERVER,
-        pool: flags,
-        heads: 1,
-        leaves: 1,
-        epoch,
-    };
-    Trial::begun(alloc, new_array(alloc, root)?)
-}
-
-/// A new server in its second epoch.
-pub(crate) fn new_trial(alloc: Global, flags: u16) -> Result<Trial<ArrayStore>, Fail> {
-    new_in(alloc, 1, flags)
-}
-
-/// A new server in its first epoch.
-pub(crate) fn first_trial(alloc: Global, flags: u16) -> Result<Trial<ArrayStore>, Fail> {
-    new_in(alloc, 0, flags)
 }

@@ -1,7 +1,5 @@
-//! A worker over the storage of a server that starts, as the tests drive it.
-ghost use Rattle.std.specs.Prelude.{◌≡◌, true, IfOk, IfErr};
-ghost use Rattle.jn_intent_tests.specs.Started.{IsStarted};
-ghost use Rattle.jn_intent_tests.specs.Trial.{MayBegin};
+//! A worker over a storage, as the tests drive it.
+ghost use Rattle.std.specs.Prelude.{◌≡◌, true, IfOk};
 ghost use Rattle.jn_storage.specs.Viewing.{BlockInRange};
 ghost use Rattle.jn_worker.specs.Handling.{InRange};
 ghost use Rattle.jn_worker_tests.specs.Playing.{IsOf, IsOn};
@@ -10,12 +8,8 @@ use jn_base::{
     Answer, BlockContent, BlockNo, ClientNo, FileNo, LockUnit, Op, Party, ServerNo, Tickets, Tid,
     WorkId,
 };
-use jn_intent::Intents;
-use jn_intent_tests::{new_array, power_on, start, take_down};
 use jn_msgs::{Message, Note, Out, Vote};
-use jn_records::Root;
-use jn_storage::Storage;
-use jn_store::{ArrayStore, Powered, StableStore};
+use jn_storage::WorkStore;
 use jn_worker::{Worker, WorkerFault};
 use std::alloc::{AllocError, Global};
 use std::process::Abort;
@@ -188,71 +182,23 @@ fn op_of(alloc: Global, task: Task) -> Result<Op, AllocError> {
     })
 }
 
-/// The first name that is given in an epoch.
-fn first_name(epoch: u32) -> u32 {
-    if epoch < 2 { 100 } else { 0 }
-}
-
 /// A worker, its storage, the next name and what was sent and noted last.
 #[derive(Drop)]
-pub(crate) struct Bench<S: StableStore> {
-    store: Intents<S>,
-    worker: Worker,
-    tickets: Tickets,
+pub(crate) struct Bench<W: WorkStore> {
+    pub(crate) store: W,
+    pub(crate) worker: Worker,
+    pub(crate) tickets: Tickets,
     pub(crate) out: Out,
-    alloc: Global,
+    pub(crate) alloc: Global,
 }
 
-impl<S: StableStore> Bench<S> {
-    /// The server of a store starts. In its first epoch names begin with 100.
-    pub(crate) fn started(alloc: Global, store: S) -> Result<Bench<S>, S>
-        requires { MayBegin SERVER (S.view store) }
-        ensures on { IfOk result (λ b. IsOn b.worker (⟦<Intents<S> as Storage>⟧.view b.store) b.tickets) }
-        ensures begin { IfErr result (λ left. MayBegin SERVER (S.view left)) }
-    {
-        match start(alloc, store) {
-            Ok(begun) => Bench::restored(alloc, begun.0, begun.1),
-            Err(left) => Err(left),
-        }
-    }
-
-    /// A storage has just been recovered.
-    fn restored(alloc: Global, store: Intents<S>, epoch: u32) -> Result<Bench<S>, S>
-        requires { IsStarted SERVER epoch (⟦<Intents<S> as Storage>⟧.view store) }
-        ensures on { IfOk result (λ b. IsOn b.worker (⟦<Intents<S> as Storage>⟧.view b.store) b.tickets) }
-        ensures begin { IfErr result (λ left. MayBegin SERVER (S.view left)) }
-    {
-        let Ok(worker) = Worker::restore(alloc, &store) else {
-            return Err(take_down(store));
-        };
-        let tickets = Tickets {
-            server: SERVER,
-            epoch,
-            next: first_name(epoch),
-        };
-        Ok(Bench {
-            store,
-            worker,
-            tickets,
-            out: Out::new(alloc),
-            alloc,
-        })
-    }
-
-    /// The store, whatever was stopped.
-    fn taken_down(self) -> S
-        requires { IsOf (⟦<Intents<S> as Storage>⟧.view self.store) }
-        ensures { MayBegin SERVER (S.view result) }
-    {
-        take_down(self.store)
-    }
-
+impl<W: WorkStore> Bench<W> {
     /// Hands the worker a message.
     fn tell(&mut self, message: Message) -> Result<Came, WorkerFault>
-        requires on { IsOn self.old.worker (⟦<Intents<S> as Storage>⟧.view self.old.store) self.old.tickets }
+        requires on { IsOn self.old.worker (W.view self.old.store) self.old.tickets }
         requires range { InRange message }
-        ensures on { IfOk result (λ _. IsOn self.new.worker (⟦<Intents<S> as Storage>⟧.view self.new.store) self.new.tickets) }
-        ensures of { IsOf (⟦<Intents<S> as Storage>⟧.view self.new.store) }
+        ensures on { IfOk result (λ _. IsOn self.new.worker (W.view self.new.store) self.new.tickets) }
+        ensures of { IsOf (W.view self.new.store) }
     {
         self.out = Out::new(self.alloc);
         if self.tickets.next > 999 {
@@ -271,9 +217,9 @@ impl<S: StableStore> Bench<S> {
     }
 
     fn step(&mut self) -> Result<Came, WorkerFault>
-        requires { IsOn self.old.worker (⟦<Intents<S> as Storage>⟧.view self.old.store) self.old.tickets }
-        ensures on { IfOk result (λ _. IsOn self.new.worker (⟦<Intents<S> as Storage>⟧.view self.new.store) self.new.tickets) }
-        ensures of { IsOf (⟦<Intents<S> as Storage>⟧.view self.new.store) }
+        requires { IsOn self.old.worker (W.view self.old.store) self.old.tickets }
+        ensures on { IfOk result (λ _. IsOn self.new.worker (W.view self.new.store) self.new.tickets) }
+        ensures of { IsOf (W.view self.new.store) }
     {
         self.out = Out::new(self.alloc);
         match self.worker.step(&mut self.store, &mut self.out) {
@@ -285,9 +231,9 @@ impl<S: StableStore> Bench<S> {
 
     /// Hands the worker an operation, whose block is one of the 120.
     fn operate(&mut self, w: u32, number: u32, task: Task) -> Result<Came, WorkerFault>
-        requires { IsOn self.old.worker (⟦<Intents<S> as Storage>⟧.view self.old.store) self.old.tickets }
-        ensures on { IfOk result (λ _. IsOn self.new.worker (⟦<Intents<S> as Storage>⟧.view self.new.store) self.new.tickets) }
-        ensures of { IsOf (⟦<Intents<S> as Storage>⟧.view self.new.store) }
+        requires { IsOn self.old.worker (W.view self.old.store) self.old.tickets }
+        ensures on { IfOk result (λ _. IsOn self.new.worker (W.view self.new.store) self.new.tickets) }
+        ensures of { IsOf (W.view self.new.store) }
     {
         let op = op_of(self.alloc, task)?;
         if !in_range(&op) {
@@ -297,9 +243,9 @@ impl<S: StableStore> Bench<S> {
     }
 
     fn expire(&mut self, tid: Tid) -> Result<Came, WorkerFault>
-        requires { IsOn self.old.worker (⟦<Intents<S> as Storage>⟧.view self.old.store) self.old.tickets }
-        ensures on { IfOk result (λ _. IsOn self.new.worker (⟦<Intents<S> as Storage>⟧.view self.new.store) self.new.tickets) }
-        ensures of { IsOf (⟦<Intents<S> as Storage>⟧.view self.new.store) }
+        requires { IsOn self.old.worker (W.view self.old.store) self.old.tickets }
+        ensures on { IfOk result (λ _. IsOn self.new.worker (W.view self.new.store) self.new.tickets) }
+        ensures of { IsOf (W.view self.new.store) }
     {
         if self.worker.timeout(tid) {
             Ok(Came::Nothing)
@@ -309,9 +255,9 @@ impl<S: StableStore> Bench<S> {
     }
 
     fn again(&mut self) -> Result<Came, WorkerFault>
-        requires { IsOn self.old.worker (⟦<Intents<S> as Storage>⟧.view self.old.store) self.old.tickets }
-        ensures on { IfOk result (λ _. IsOn self.new.worker (⟦<Intents<S> as Storage>⟧.view self.new.store) self.new.tickets) }
-        ensures of { IsOf (⟦<Intents<S> as Storage>⟧.view self.new.store) }
+        requires { IsOn self.old.worker (W.view self.old.store) self.old.tickets }
+        ensures on { IfOk result (λ _. IsOn self.new.worker (W.view self.new.store) self.new.tickets) }
+        ensures of { IsOf (W.view self.new.store) }
     {
         self.out = Out::new(self.alloc);
         self.worker.again(&mut self.out)?;
@@ -320,9 +266,9 @@ impl<S: StableStore> Bench<S> {
 
     /// Does a move.
     pub(crate) fn advance(&mut self, step: Move) -> Result<Came, WorkerFault>
-        requires { IsOn self.old.worker (⟦<Intents<S> as Storage>⟧.view self.old.store) self.old.tickets }
-        ensures on { IfOk result (λ _. IsOn self.new.worker (⟦<Intents<S> as Storage>⟧.view self.new.store) self.new.tickets) }
-        ensures of { IsOf (⟦<Intents<S> as Storage>⟧.view self.new.store) }
+        requires { IsOn self.old.worker (W.view self.old.store) self.old.tickets }
+        ensures on { IfOk result (λ _. IsOn self.new.worker (W.view self.new.store) self.new.tickets) }
+        ensures of { IsOf (W.view self.new.store) }
     {
         match step {
             Move::Open(t) => self.tell(Message::Open(ClientNo(3), 9, tid(t))),
@@ -344,9 +290,9 @@ impl<S: StableStore> Bench<S> {
         &mut self,
         moves: &[(Move, Came)],
     ) -> Result<Option<(usize, Came)>, (usize, WorkerFault)>
-        requires { IsOn self.old.worker (⟦<Intents<S> as Storage>⟧.view self.old.store) self.old.tickets }
-        ensures on { IfOk result (λ _. IsOn self.new.worker (⟦<Intents<S> as Storage>⟧.view self.new.store) self.new.tickets) }
-        ensures of { IsOf (⟦<Intents<S> as Storage>⟧.view self.new.store) }
+        requires { IsOn self.old.worker (W.view self.old.store) self.old.tickets }
+        ensures on { IfOk result (λ _. IsOn self.new.worker (W.view self.new.store) self.new.tickets) }
+        ensures of { IsOf (W.view self.new.store) }
     {
         for at in 0..moves.len() {
             match self.advance(moves[at].0) {
@@ -363,9 +309,9 @@ impl<S: StableStore> Bench<S> {
 
     /// Does these moves, and finds that of each comes what is expected.
     pub(crate) fn plays(&mut self, rt: &impl Abort, moves: &[(Move, Came)]) -> Result<(), Fail>
-        requires { IsOn self.old.worker (⟦<Intents<S> as Storage>⟧.view self.old.store) self.old.tickets }
-        ensures on { IfOk result (λ _. IsOn self.new.worker (⟦<Intents<S> as Storage>⟧.view self.new.store) self.new.tickets) }
-        ensures of { IsOf (⟦<Intents<S> as Storage>⟧.view self.new.store) }
+        requires { IsOn self.old.worker (W.view self.old.store) self.old.tickets }
+        ensures on { IfOk result (λ _. IsOn self.new.worker (W.view self.new.store) self.new.tickets) }
+        ensures of { IsOf (W.view self.new.store) }
     {
         match self.play(moves) {
             Ok(other) => {
@@ -378,9 +324,9 @@ impl<S: StableStore> Bench<S> {
 
     /// Steps until nothing is to be done, and says how often; ten times at most.
     pub(crate) fn idle(&mut self) -> Result<u32, WorkerFault>
-        requires { IsOn self.old.worker (⟦<Intents<S> as Storage>⟧.view self.old.store) self.old.tickets }
-        ensures on { IfOk result (λ _. IsOn self.new.worker (⟦<Intents<S> as Storage>⟧.view self.new.store) self.new.tickets) }
-        ensures of { IsOf (⟦<Intents<S> as Storage>⟧.view self.new.store) }
+        requires { IsOn self.old.worker (W.view self.old.store) self.old.tickets }
+        ensures on { IfOk result (λ _. IsOn self.new.worker (W.view self.new.store) self.new.tickets) }
+        ensures of { IsOf (W.view self.new.store) }
     {
         for steps in 0..10 {
             if self.step()? == Came::Idle {
@@ -392,9 +338,9 @@ impl<S: StableStore> Bench<S> {
 
     /// Opens transactions, or does a work's operations, until there are so many; the last one's outcome.
     pub(crate) fn fill(&mut self, count: u32, many: Many) -> Result<Came, WorkerFault>
-        requires { IsOn self.old.worker (⟦<Intents<S> as Storage>⟧.view self.old.store) self.old.tickets }
-        ensures on { IfOk result (λ _. IsOn self.new.worker (⟦<Intents<S> as Storage>⟧.view self.new.store) self.new.tickets) }
-        ensures of { IsOf (⟦<Intents<S> as Storage>⟧.view self.new.store) }
+        requires { IsOn self.old.worker (W.view self.old.store) self.old.tickets }
+        ensures on { IfOk result (λ _. IsOn self.new.worker (W.view self.new.store) self.new.tickets) }
+        ensures of { IsOf (W.view self.new.store) }
     {
         let mut came = Came::Idle;
         for n in 0..count {
@@ -402,79 +348,6 @@ impl<S: StableStore> Bench<S> {
         }
         Ok(came)
     }
-}
-
-/// The server stops and starts again.
-pub(crate) fn restarted<S: StableStore + Drop>(bench: Bench<S>) -> Result<Bench<S>, Fail>
-    requires { IsOf (⟦<Intents<S> as Storage>⟧.view bench.store) }
-    ensures { IfOk result (λ b. IsOn b.worker (⟦<Intents<S> as Storage>⟧.view b.store) b.tickets) }
-{
-    let alloc = bench.alloc;
-    match Bench::started(alloc, bench.taken_down()) {
-        Ok(bench) => Ok(bench),
-        Err(_) => Err("down".into()),
-    }
-}
-
-/// The same, after it has lost power.
-pub(crate) fn powered<S: Powered + Drop>(bench: Bench<S>) -> Result<Bench<S>, Fail>
-    requires { IsOf (⟦<Intents<S> as Storage>⟧.view bench.store) }
-    ensures { IfOk result (λ b. IsOn b.worker (⟦<Intents<S> as Storage>⟧.view b.store) b.tickets) }
-{
-    let alloc = bench.alloc;
-    let mut store = bench.taken_down();
-    power_on(&mut store);
-    match Bench::started(alloc, store) {
-        Ok(bench) => Ok(bench),
-        Err(_) => Err("down".into()),
-    }
-}
-
-/// A new server, which has begun so many epochs: so many records, heads and data pages are free.
-fn new_in(
-    alloc: Global,
-    epoch: u32,
-    pool: u16,
-    heads: u16,
-    leaves: u16,
-) -> Result<Bench<ArrayStore>, Fail>
-    ensures { IfOk result (λ b. IsOn b.worker (⟦<Intents<ArrayStore> as Storage>⟧.view b.store) b.tickets) }
-{
-    let root = Root {
-        server: SERVER,
-        pool,
-        heads,
-        leaves,
-        epoch,
-    };
-    match Bench::started(alloc, new_array(alloc, root)?) {
-        Ok(bench) => Ok(bench),
-        Err(_) => Err("down".into()),
-    }
-}
-
-/// A new server in its second epoch.
-pub(crate) fn new_bench(
-    alloc: Global,
-    pool: u16,
-    heads: u16,
-    leaves: u16,
-) -> Result<Bench<ArrayStore>, Fail>
-    ensures { IfOk result (λ b. IsOn b.worker (⟦<Intents<ArrayStore> as Storage>⟧.view b.store) b.tickets) }
-{
-    new_in(alloc, 1, pool, heads, leaves)
-}
-
-/// A new server in its first epoch.
-pub(crate) fn first_bench(
-    alloc: Global,
-    pool: u16,
-    heads: u16,
-    leaves: u16,
-) -> Result<Bench<ArrayStore>, Fail>
-    ensures { IfOk result (λ b. IsOn b.worker (⟦<Intents<ArrayStore> as Storage>⟧.view b.store) b.tickets) }
-{
-    new_in(alloc, 0, pool, heads, leaves)
 }
 
 #[derive(Clone, Copy)]

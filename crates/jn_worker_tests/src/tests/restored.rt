@@ -1,6 +1,7 @@
 //! A worker that starts again over the works that it has prepared.
 
-use super::bench::{Came, Move, create, file, first_bench, nines, read, restarted, tid};
+use super::bench::{Came, Move, create, file, nines, read, tid};
+use super::starting::{first_bench, restarted};
 use jn_base::{BlockNo, FileNo, LockUnit};
 use jn_msgs::Vote;
 use std::test::Fail;

@@ -1,16 +1,16 @@
 //! A worker that is stopped at each device call, in each way, and started again: it tells nothing of what was stopped, and
 //! what it had voted it keeps.
-ghost use Rattle.std.specs.Prelude.{◌≡◌, is_ok};
+ghost use Rattle.std.specs.Prelude.{◌<◌};
 ghost use Rattle.jn_intent_tests.specs.Trial.{MayBegin};
 ghost use Rattle.jn_worker_tests.specs.Playing.{IsOn};
 
-use super::bench::{Bench, Came, Move, SERVER, Task, powered, read};
+use super::bench::{Bench, Came, Move, SERVER, Task, read};
+use super::starting::{powered, started};
 use jn_intent_tests::{new_disk, stop_at};
-use jn_intent::Intents;
 use jn_msgs::Vote;
 use jn_records::Root;
-use jn_storage::Storage;
-use jn_store::{Powered, StableStore};
+use jn_storage::WorkStore;
+use jn_store::Powered;
 use jn_worker::WorkerFault;
 use std::alloc::Global;
 use std::process::Abort;
@@ -52,12 +52,12 @@ fn may_come(at: usize, came: Came) -> bool {
 }
 
 /// The work is told to commit, and is carried out.
-fn finish<S: StableStore>(
+fn finish<W: WorkStore>(
     rt: &impl Abort,
-    bench: &mut Bench<S>,
+    bench: &mut Bench<W>,
     at: usize,
 ) -> Result<(), Fail>
-    requires { IsOn bench.old.worker (⟦<Intents<S> as Storage>⟧.view bench.old.store) bench.old.tickets }
+    requires { IsOn bench.old.worker (W.view bench.old.store) bench.old.tickets }
 {
     let came = bench.advance(Move::Commit(1, 100))?;
     assert!(rt; may_come(at, came), "{came:?} at {at}");
@@ -72,12 +72,12 @@ fn finish<S: StableStore>(
 }
 
 /// The move at this place was stopped: a work that hadn't voted may be lost, another one is carried out.
-fn go_on<S: StableStore>(
+fn go_on<W: WorkStore>(
     rt: &impl Abort,
-    bench: &mut Bench<S>,
+    bench: &mut Bench<W>,
     at: usize,
 ) -> Result<(), Fail>
-    requires { IsOn bench.old.worker (⟦<Intents<S> as Storage>⟧.view bench.old.store) bench.old.tickets }
+    requires { IsOn bench.old.worker (W.view bench.old.store) bench.old.tickets }
 {
     if at != PREPARE {
         return finish(rt, bench, at);
@@ -101,7 +101,7 @@ fn is_stopped<S: Powered + Drop>(rt: &impl Abort, alloc: Global, store: S) -> Re
     requires { MayBegin SERVER (S.view store) }
 {
     // Where the server's start is stopped, the tests of its storage say what is found.
-    let Ok(mut bench) = Bench::started(alloc, store) else {
+    let Ok(mut bench) = started(alloc, store) else {
         return Ok(true);
     };
     match bench.play(&STORY) {
