@@ -8,7 +8,7 @@ use Rattle.jn_rows.specs.Worker.{WorkerTable}
 use Rattle.jn_storage.specs.Storage.{StorageView}
 use Rattle.jn_worker.specs.declared.words.WorkerFault.{WorkerFault}
 use Rattle.jn_worker.specs.Fitting.{WorkerView}
-use Rattle.jn_worker.specs.Calls.{Takes, Steps, TimesOut}
+use Rattle.jn_worker.specs.Calls.{Takes, Steps}
 use Rattle.jn_worker_tests.specs.Playing.{IsOf, IsOn}
 
 module _ (t u : WorkerView) (v w : StorageView) (before after : Collected) (k : Tickets) (on : IsOn t v k) where
@@ -25,6 +25,3 @@ module _ (t u : WorkerView) (v w : StorageView) (before after : Collected) (k : 
   pub stepped_of : (row : Option (RowOutcome WorkerTable)) (answer : Result Bool WorkerFault) → Steps row t v before k answer u w after k → IsOf w
   stepped_of None answer s = subst (λ (v : StorageView). IsOf v) (sym s.2) on.of
   stepped_of (Some row) answer s = taken_of 40 row answer k s.0
-
-pub expired_on : (T : _) (t u : WorkerView) (v : StorageView) (k : Tickets) (answer : Bool) → TimesOut T t answer u → IsOn t v k → IsOn u v k
-expired_on T t u v k answer s on = record { fits = s.fits v on.fits; tickets = s.tickets_fit v k on.tickets; of = on.of }
