@@ -1,3 +1,4 @@
 pub mod Zeros
 pub mod Events
 pub mod Calls
+pub mod Started
