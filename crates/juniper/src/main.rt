@@ -8,10 +8,16 @@ use std::process::ExitCode;
 use std::rt::Env;
 use std::{env, io};
 
-/// The words that the program was called with, its name first.
+/// The words that the program was called with, its name first; none where one of them isn't text, so that they are
+/// refused as words.
 fn words_of(rt: &(impl Env + Alloc<A = Global>)) -> io::Result<Vec<String>> {
     let mut words = Vec::new(rt.alloc());
-    for word in env::args(rt)? {
+    let given = match env::args(rt) {
+        Ok(given) => given,
+        Err(e) if e.kind() == io::ErrorKind::InvalidData => return Ok(words),
+        Err(e) => return Err(e),
+    };
+    for word in given {
         words.push(word)?;
     }
     Ok(words)
