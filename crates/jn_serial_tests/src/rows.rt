@@ -1,12 +1,16 @@
 //! Whole reports by hand, and forged ones.
 
 use jn_base::{
-    Block, BlockContent, BlockNo, Cause, ClientNo, Command, FaultKind, FileNo, LockUnit, Op, ServerNo, Tid,
+    Block, BlockContent, BlockNo, Cause, ClientNo, Command, FaultKind, FileNo, LockUnit, Op,
+    ServerNo, Tid,
 };
+use jn_causing::caused;
+use jn_following::follows;
 use jn_replay::Files;
 use jn_report::{Line, Refusal, Text, When};
 use jn_schedule::Event;
-use jn_serial::{agrees, caused, follows, shown, told};
+use jn_serial::{agrees, told};
+use jn_showing::shown;
 use std::alloc::{AllocError, Global};
 use std::process::Abort;
 use std::test::Fail;
@@ -135,7 +139,7 @@ fn written(alloc: Global, bytes: Block) -> Result<Vec<Event>, AllocError> {
         told_to(C1, Command::Do(S0, Op::Write(SEVEN, BlockNo(0), content))),
         Event::Settle,
         told_to(C1, Command::End),
-        Event::Settle
+        Event::Settle,
     ]?;
     Ok(listed)
 }
@@ -255,7 +259,7 @@ fn broken_events(alloc: Global) -> Result<Vec<Event>, AllocError> {
         Event::Again(C1),
         Event::Settle,
         told_to(C2, Command::End),
-        Event::Settle
+        Event::Settle,
     ]?;
     for event in more {
         events.push(event)?;

@@ -67,7 +67,7 @@ fn operations(alloc: Global) -> Result<Vec<(Op, Answer)>, AllocError> {
         (Op::Read(SEVEN, BlockNo(0)), Answer::NoFile),
         (Op::Remove(SEVEN), Answer::NoFile),
         (Op::Create(SEVEN), Answer::Did),
-        (Op::Read(SEVEN, BlockNo(0)), found(alloc, 0, 0)?)
+        (Op::Read(SEVEN, BlockNo(0)), found(alloc, 0, 0)?),
     ]?;
     Ok(listed)
 }
@@ -97,7 +97,7 @@ fn schedule(alloc: Global) -> Result<Vec<Event>, AllocError> {
         Event::Command(CLIENT, Command::Do(FIRST, write)),
         Event::Settle,
         Event::Command(CLIENT, Command::End),
-        Event::Settle
+        Event::Settle,
     ]?;
     Ok(listed)
 }
@@ -168,6 +168,12 @@ fn a_report_replayed(rt: HostRuntime) -> Result<(), Fail> {
     let (mut after, ops) = replayed(rt.alloc())?;
     assert_eq!(rt; ops, 2);
     let hi = found(rt.alloc(), 0x68, 0x69)?;
-    expect(&rt, rt.alloc(), &mut after, &Op::Read(SEVEN, BlockNo(0)), &hi)?;
+    expect(
+        &rt,
+        rt.alloc(),
+        &mut after,
+        &Op::Read(SEVEN, BlockNo(0)),
+        &hi,
+    )?;
     Ok(())
 }
