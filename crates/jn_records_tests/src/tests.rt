@@ -2,9 +2,9 @@
 
 ghost use Rattle.std.specs.Prelude.{◌<◌};
 
-use jn_base::{Answer, BlockNo, FileNo, Op, ServerNo};
+use jn_base::{Answer, BlockContent, BlockNo, FileNo, Op, ServerNo};
 use jn_records::{Intention, NetList, What};
-use jn_serial::{Files, do_op};
+use jn_replay::{Files, do_op};
 use std::alloc::{AllocError, Global};
 use std::test::Fail;
 
@@ -30,15 +30,18 @@ impl Draws {
         (self.x % u64::from(n)) as u16
     }
 
-    fn op(&mut self) -> Op {
+    fn op(&mut self, alloc: Global) -> Result<Op, AllocError> {
         let file = FileNo(u32::from(self.below(FILES)));
         let block = BlockNo(self.below(BLOCKS));
         match self.below(8) {
-            0 | 1 => Op::Create(file),
-            2 => Op::Remove(file),
-            3 => Op::Cut(file, block),
-            4 => Op::Read(file, block),
-            _ => Op::Write(file, block, [self.below(250) as u8 + 1; 448]),
+            0 | 1 => Ok(Op::Create(file)),
+            2 => Ok(Op::Remove(file)),
+            3 => Ok(Op::Cut(file, block)),
+            4 => Ok(Op::Read(file, block)),
+            _ => {
+                let bytes = [self.below(250) as u8 + 1; 448];
+                Ok(Op::Write(file, block, BlockContent::from_block(alloc, &bytes)?))
+            }
         }
     }
 }
@@ -57,7 +60,8 @@ fn carry_out(alloc: Global, files: &mut Files, i: &Intention) -> Result<(), Allo
             do_op(alloc, files, SERVER, &Op::Cut(i.file, i.block))?;
         }
         What::Put => {
-            do_op(alloc, files, SERVER, &Op::Write(i.file, i.block, i.bytes))?;
+            let content = BlockContent::from_block(alloc, &i.bytes)?;
+            do_op(alloc, files, SERVER, &Op::Write(i.file, i.block, content))?;
         }
     }
     Ok(())
@@ -71,7 +75,7 @@ fn first_byte(alloc: Global, files: &mut Files, f: u16, p: u16) -> Result<Option
         SERVER,
         &Op::Read(FileNo(u32::from(f)), BlockNo(p)),
     )? {
-        Answer::Read(bytes) => Ok(Some(bytes[0])),
+        Answer::Read(content) => Ok(Some(content.to_block()[0])),
         _ => Ok(None),
     }
 }
@@ -95,7 +99,7 @@ fn is_carried_out(alloc: Global, seed: u64, count: u64) -> Result<bool, AllocErr
     for _ in 0..4 {
         let mut net = NetList::new(alloc);
         for _ in 0..count {
-            let op = draws.op();
+            let op = draws.op(alloc)?;
             if let Answer::Did = do_op(alloc, &mut done, SERVER, &op)? {
                 net.add(&op)?;
             }

@@ -311,8 +311,8 @@ told-adds es ls out l d x s op a h w asked command within its others told none =
       ops-one t (length es) ls l w d x.number s op a its others (o.untold x.number (omega arith)) (later t alone) 1 es stands (omega arith)
       ∙ ap (λ z. z ++ (if is_in d t x.number ls then performed s op (Some a) else [])) (h.same t alone)
       ∙ sym (ops_told-append es t ls (l ∷ []) ∙ ap (λ z. ops_told es ls t ++ z) (append-nil (answered_by es (owner_then t None ls) l.text) ∙ told (owner_then t None ls)
-          ∙ ap (λ (b : Bool). if b then performed_in d a (event_at es x.number) else []) (owner-is t d ls alone ∙ ap (λ m. is_tid m t) (sym o.begun))
-          ∙ ap (λ z. if is_in d t x.number ls then z else []) (ap (λ z. performed_in d a z) (stands-event es x.number (events.Command d (commands.Do s op)) stands) ∙ ap (λ (b : Bool). if b then (record { server = s; op = op; answer = a }) ∷ [] else []) (self-client d))));
+      ∙ ap (λ (b : Bool). if b then performed_in d a (event_at es x.number) else []) (owner-is t d ls alone ∙ ap (λ m. is_tid m t) (sym o.begun))
+      ∙ ap (λ z. if is_in d t x.number ls then z else []) (ap (λ z. performed_in d a z) (stands-event es x.number (events.Command d (commands.Do s op)) stands) ∙ ap (λ (b : Bool). if b then (record { server = s; op = op; answer = a }) ∷ [] else []) (self-client d))));
 }
   where
     o : IsOpen es ls d x
@@ -387,10 +387,10 @@ module _ (es : List Event) (ls : List Line) (out : Outstanding) (l : Line) (h : 
   from-files d j a x is fit p q r u within told does keeps =
       let y = asked-is (out d) j x fit in let o = op-is y.0.command x p q r u y.1.1.1 in
       told-adds es ls out l d y.0 o.0 o.1.0 a h w y.1.0 o.1.1 (subst (λ z. AnswersWithin y.0.number z) (sym is) (within y.0.number (let e = y.1.1.0 in omega (arith, e))))
-        (ap (λ z. answer_told d y.0.number z) is ∙ told d y.0.number ∙ ap (λ (b : Bool). if b then Some a else None) (both (client_eq d d) (nat_eq y.0.number j) (self-client d) (let e = y.1.1.0 in grind (arith, nat_tests, e))))
-        (λ c i ne. ap (λ z. answer_told c i z) is ∙ told c i ∙ ap (λ (b : Bool). if b then Some a else None) (other c i y.0.number y.1.1.0 ne))
-        (λ o. ap (λ z. answered_by es o z) is ∙ does-by o ∙ ap (λ i. if is_client o d then performed_in d a (event_at es i) else []) (sym y.1.1.0))
-        (λ c b. ap (λ z. begun_after c b z) is ∙ keeps c b)
+      (ap (λ z. answer_told d y.0.number z) is ∙ told d y.0.number ∙ ap (λ (b : Bool). if b then Some a else None) (both (client_eq d d) (nat_eq y.0.number j) (self-client d) (let e = y.1.1.0 in grind (arith, nat_tests, e))))
+      (λ c i ne. ap (λ z. answer_told c i z) is ∙ told c i ∙ ap (λ (b : Bool). if b then Some a else None) (other c i y.0.number y.1.1.0 ne))
+      (λ o. ap (λ z. answered_by es o z) is ∙ does-by o ∙ ap (λ i. if is_client o d then performed_in d a (event_at es i) else []) (sym y.1.1.0))
+      (λ c b. ap (λ z. begun_after c b z) is ∙ keeps c b)
     where
       both : (b c : Bool) → b ≡ true → c ≡ true → (b && c) ≡ true
       both b c e f = grind arith
@@ -457,7 +457,7 @@ lines-so-far es e ls [] out h within fit own = subst (λ m. InTurnSoFar es m out
 lines-so-far es e ls (l ∷ here) out h within fit own =
     subst (λ m. InTurnSoFar es m (after_answers (after_answer out (answer_in l.text) l.text) here)) (append_assoc ls (l ∷ []) here)
     (lines-so-far es e (ls ++ l ∷ []) here (after_answer out (answer_in l.text) l.text)
-        (line-so-far es ls out (after_answer out (answer_in l.text) l.text) l h (it-stands (length es) l.when within.0) (it-is-within (length es) l.when within.0) (line-adds es ls out l h (it-stands (length es) l.when within.0) e l.text refl fit.0 own.0)) within.1 fit.1 own.1)
+    (line-so-far es ls out (after_answer out (answer_in l.text) l.text) l h (it-stands (length es) l.when within.0) (it-is-within (length es) l.when within.0) (line-adds es ls out l h (it-stands (length es) l.when within.0) e l.text refl fit.0 own.0)) within.1 fit.1 own.1)
 
 abbrev pub AreAtEnd : List Line → Type 0
 AreAtEnd [] = Unit {0}
@@ -524,10 +524,10 @@ all-in-turn count t es (e ∷ rest) ls later out h (here, (after, (is, (within, 
     subst (λ m. ops_of m (ls ++ later) t ≡ ops_told m (ls ++ later) t) (append_assoc es (e ∷ []) rest)
     (subst (λ m. ops_of ((es ++ e ∷ []) ++ rest) m t ≡ ops_told ((es ++ e ∷ []) ++ rest) m t) lines
     (all-in-turn count t (es ++ e ∷ []) rest (ls ++ here) after (after_one out (length es + 1) e here) now
-        (subst (λ n. AreInTurn (n + 1) rest after) (sym (length-more es e)) turn)
-        (subst (λ m. FollowsFrom (after_one out (length es + 1) e here) (length (es ++ e ∷ []) + 1) rest m) (sym lines)
-            (subst (λ n. FollowsFrom (after_one out (length es + 1) e here) (n + 1) rest (ls ++ later)) (sym (length-more es e)) (subst (λ m. FollowsFrom (after_one out (length es + 1) e m) (length es + 1 + 1) rest (ls ++ later)) its follows.1)))
-        (of-later count here after (subst (λ m. AllOfEvents count m) is of)) (subst (λ m. HasOneClient t m) (sym lines) one)))
+    (subst (λ n. AreInTurn (n + 1) rest after) (sym (length-more es e)) turn)
+    (subst (λ m. FollowsFrom (after_one out (length es + 1) e here) (length (es ++ e ∷ []) + 1) rest m) (sym lines)
+    (subst (λ n. FollowsFrom (after_one out (length es + 1) e here) (n + 1) rest (ls ++ later)) (sym (length-more es e)) (subst (λ m. FollowsFrom (after_one out (length es + 1) e m) (length es + 1 + 1) rest (ls ++ later)) its follows.1)))
+    (of-later count here after (subst (λ m. AllOfEvents count m) is of)) (subst (λ m. HasOneClient t m) (sym lines) one)))
   where
     lines : (ls ++ here) ++ after ≡ ls ++ later
     lines = append_assoc ls here after ∙ ap (λ m. ls ++ m) (sym is)

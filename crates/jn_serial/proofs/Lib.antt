@@ -5,5 +5,3 @@ pub mod InTurn
 pub mod CausedGrowth
 pub mod Telling
 pub mod Orders
-pub mod Entries
-pub mod ShownLemmas

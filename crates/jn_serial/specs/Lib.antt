@@ -5,7 +5,5 @@ pub mod InTurn
 pub mod Told
 pub mod Caused
 pub mod Shown
-pub mod Accounts
 pub mod Follows
-pub mod Asked
 pub mod Example

@@ -33,7 +33,7 @@ fn last_begun(client: ClientNo, number: usize, lines: &[Line]) -> Option<Tid>
 }
 
 /// Whether a command of the client in this event is given in the transaction.
-pub(crate) fn is_in(client: ClientNo, t: Tid, number: usize, lines: &[Line]) -> bool
+pub fn is_in(client: ClientNo, t: Tid, number: usize, lines: &[Line]) -> bool
     ensures { result ≡ begun.is_in client t number lines.now }
 {
     match last_begun(client, number, lines) {

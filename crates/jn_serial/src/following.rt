@@ -1,28 +1,16 @@
-//! Whether each answer to a client answers its outstanding command.
+//! What a client waits for, whom a line answers, and which commands a client refuses itself.
 
-ghost use Rattle.std.specs.Prelude.{◌≡◌, ◌↔◌, true, IfOk, OnOk, IsTrue, length};
-ghost use Rattle.jn_serial.specs.Asked.{outstanding_of};
+ghost use Rattle.std.specs.Prelude.{◌≡◌};
 ghost use Rattle.jn_serial.specs.Follows as follows;
-ghost use Rattle.jn_serial.specs.Lines.{says};
 
-use crate::lines::lines_at_event;
-use jn_base::{ClientNo, Command, Op};
-use jn_report::{Line, Refusal, Text, When};
-use jn_schedule::Event;
-use std::alloc::{AllocError, Global};
+use jn_base::{ClientNo, Command};
+use jn_report::{Refusal, Text};
 
 /// A command with the number of its event.
 #[derive(Drop)]
 pub struct Asked {
     pub number: usize,
     pub command: Command,
-}
-
-/// A command that a client waits for from now on, or none.
-#[derive(Drop)]
-pub struct Entry {
-    pub client: ClientNo,
-    pub asked: Option<Asked>,
 }
 
 /// Whom a line answers, and the number of the command's event.
@@ -33,7 +21,7 @@ pub struct Addressed {
 }
 
 /// Whether the client itself refuses a command so.
-fn is_own(refusal: Refusal) -> bool
+pub fn is_own(refusal: Refusal) -> bool
     ensures { result ≡ follows.is_own refusal }
 {
     matches!(
@@ -47,189 +35,8 @@ fn is_own(refusal: Refusal) -> bool
     )
 }
 
-/// Whether the operation can be refused so.
-fn can_have(refusal: Refusal, op: &Op) -> bool
-    ensures { result ≡ follows.can_have refusal op.now }
-{
-    match refusal {
-        Refusal::NoFile => !matches!(op, Op::Create(_)),
-        Refusal::Exists => matches!(op, Op::Create(_)),
-        Refusal::TooManyWrites => !matches!(op, Op::Read(_, _)),
-        Refusal::Locked(_, _)
-        | Refusal::TooManyReads
-        | Refusal::Broken(_, _)
-        | Refusal::Lost(_, _)
-        | Refusal::Closing => true,
-        _ => false,
-    }
-}
-
-fn is_read(op: &Op) -> bool
-    ensures { result ≡ follows.is_read op.now }
-{
-    matches!(op, Op::Read(_, _))
-}
-
-fn answers_begin(text: &Text) -> bool
-    ensures { result ≡ follows.answers_begin text.now }
-{
-    matches!(
-        text,
-        Text::Begun(_, _, _) | Text::Refused(_, _, Refusal::TooManyTransactions)
-    )
-}
-
-fn answers_open(text: &Text) -> bool
-    ensures { result ≡ follows.answers_open text.now }
-{
-    matches!(
-        text,
-        Text::Opened(_, _, _) | Text::Refused(_, _, Refusal::TooManyWorks)
-    )
-}
-
-fn answers_op(op: &Op, text: &Text) -> bool
-    ensures { result ≡ follows.answers_op op.now text.now }
-{
-    match text {
-        Text::Did(_, _) => !is_read(op),
-        Text::Read(_, _, _) => is_read(op),
-        Text::Refused(_, _, refusal) => can_have(*refusal, op),
-        _ => false,
-    }
-}
-
-fn answers_end(text: &Text) -> bool
-    ensures { result ≡ follows.answers_end text.now }
-{
-    matches!(
-        text,
-        Text::Waiting(_, _, _, _, _) | Text::Committed(_, _, _) | Text::Aborted(_, _, _, _)
-    )
-}
-
-fn answers_abort(text: &Text) -> bool
-    ensures { result ≡ follows.answers_abort text.now }
-{
-    matches!(text, Text::Committed(_, _, _) | Text::Aborted(_, _, _, _))
-}
-
-/// Whether the text has a form that answers the command.
-fn answers_command(command: &Command, text: &Text) -> bool
-    ensures { result ≡ follows.answers_command command.now text.now }
-{
-    match command {
-        Command::Begin(_) => answers_begin(text),
-        Command::Open(_) => answers_open(text),
-        Command::Do(_, op) => answers_op(op, text),
-        Command::End => answers_end(text),
-        Command::Abort => answers_abort(text),
-    }
-}
-
-fn to_client(client: ClientNo, number: u32) -> Option<Addressed>
-    ensures { result ≡ follows.addressed client number }
-{
-    Some(Addressed { client, number })
-}
-
-/// Whom a line answers, if it answers a client.
-fn answer_in(text: &Text) -> Option<Addressed>
-    ensures { result ≡ follows.answer_in text.now }
-{
-    match text {
-        Text::Begun(client, number, _) => to_client(*client, *number),
-        Text::Opened(client, number, _) => to_client(*client, *number),
-        Text::Did(client, number) => to_client(*client, *number),
-        Text::Read(client, number, _) => to_client(*client, *number),
-        Text::Refused(client, number, refusal) => {
-            if is_own(*refusal) {
-                None
-            } else {
-                to_client(*client, *number)
-            }
-        }
-        Text::Waiting(client, number, _, _, _) => to_client(*client, *number),
-        Text::Committed(client, number, _) => to_client(*client, *number),
-        Text::Aborted(client, number, _, _) => to_client(*client, *number),
-        _ => None,
-    }
-}
-
-/// Whether it is the last answer to its command.
-fn is_last(text: &Text) -> bool
-    ensures { result ≡ follows.is_last text.now }
-{
-    !matches!(text, Text::Waiting(_, _, _, _, _))
-}
-
-fn fits_asked(asked: &Option<Asked>, number: u32, text: &Text) -> bool
-    ensures { result ≡ follows.fits_asked asked.now number text.now }
-{
-    match asked {
-        Some(a) => a.number == number as usize && answers_command(&a.command, text),
-        None => false,
-    }
-}
-
-/// Whether the text answers what the client waits for after all entries.
-fn fits_entries(entries: &[Entry], client: ClientNo, number: u32, text: &Text) -> bool
-    ensures { result ≡ follows.fits_asked (outstanding_of entries.now client) number text.now }
-{
-    let mut fits = false;
-    for entry in entries {
-        if entry.client == client {
-            fits = fits_asked(&entry.asked, number, text);
-        }
-    }
-    fits
-}
-
-/// Whether the text answers no client, or what the client waits for.
-fn fits(entries: &[Entry], text: &Text) -> bool
-    ensures { result ≡ follows.fits (outstanding_of entries.now) (follows.answer_in text.now) text.now }
-{
-    match answer_in(text) {
-        Some(to) => fits_entries(entries, to.client, to.number, text),
-        None => true,
-    }
-}
-
-#[tactic(auto, using(crate::proofs::Entries::outstanding_of_more))]
-/// After its last answer a client waits for nothing.
-fn take_answer(entries: &mut Vec<Entry>, text: &Text) -> Result<(), AllocError>
-    ensures { OnOk result (outstanding_of entries.new.items
-        ≡ follows.after_answer (outstanding_of entries.old.items) (follows.answer_in text.now) text.now) }
-{
-    let Some(to) = answer_in(text) else {
-        return Ok(());
-    };
-    if is_last(text) {
-        entries.push(Entry {
-            client: to.client,
-            asked: None,
-        })?;
-    }
-    Ok(())
-}
-
-/// Whether the answers of an event, one after another, answer what is outstanding.
-fn all_fit(entries: &mut Vec<Entry>, here: &[Line]) -> Result<bool, AllocError>
-    ensures fit { IfOk result (λ b. IsTrue b ↔ follows.AllFit (outstanding_of entries.old.items) here.now) }
-    ensures after { IfOk result (λ b. b ≡ true → outstanding_of entries.new.items
-        ≡ follows.after_answers (outstanding_of entries.old.items) here.now) }
-{
-    for line in here {
-        if !fits(entries, &line.text) {
-            return Ok(false);
-        }
-        take_answer(entries, &line.text)?;
-    }
-    Ok(true)
-}
-
 /// Whether the text says that the client itself refused its command of the event.
-pub(crate) fn refuses_own(client: ClientNo, number: usize, text: &Text) -> bool
+pub fn refuses_own(client: ClientNo, number: usize, text: &Text) -> bool
     ensures { result ≡ follows.refuses_own client number text.now }
 {
     match text {
@@ -238,150 +45,4 @@ pub(crate) fn refuses_own(client: ClientNo, number: usize, text: &Text) -> bool
         }
         _ => false,
     }
-}
-
-/// Whether the client itself refused its command.
-fn is_refused_own(client: ClientNo, number: usize, here: &[Line]) -> bool
-    ensures { result ≡ says (follows.refuses_own client number) here.now }
-{
-    here.iter().any(|l| refuses_own(client, number, &l.text))
-}
-
-#[tactic(auto, using(crate::proofs::Entries::outstanding_of_more))]
-/// The event's command, unless the client refused it, replaces what was outstanding.
-fn take_command(
-    alloc: Global,
-    entries: &mut Vec<Entry>,
-    number: usize,
-    event: &Event,
-    here: &[Line],
-) -> Result<(), AllocError>
-    ensures { OnOk result (outstanding_of entries.new.items
-        ≡ follows.after_event (outstanding_of entries.old.items) number event.now here.now) }
-{
-    let Event::Command(client, command) = event else {
-        return Ok(());
-    };
-    if is_refused_own(*client, number, here) {
-        return Ok(());
-    }
-    let command = command.copy(alloc)?;
-    entries.push(Entry {
-        client: *client,
-        asked: Some(Asked {
-            number,
-            command,
-        }),
-    })?;
-    Ok(())
-}
-
-fn is_command_of(event: &Event, client: ClientNo) -> bool
-    ensures { result ≡ follows.is_command_of event.now client }
-{
-    match event {
-        Event::Command(by, _) => *by == client,
-        _ => false,
-    }
-}
-
-/// Whether the text is no refusal by a client itself, or stands in its command's own event.
-fn own_in_place(number: usize, event: &Event, text: &Text) -> bool
-    ensures { result ≡ follows.own_in_place number event.now text.now }
-{
-    match text {
-        Text::Refused(client, command, refusal) => {
-            !is_own(*refusal) || (number == *command as usize && is_command_of(event, *client))
-        }
-        _ => true,
-    }
-}
-
-fn all_own_in_place(number: usize, event: &Event, here: &[Line]) -> bool
-    ensures { IsTrue result ↔ follows.AllOwnInPlace number event.now here.now }
-{
-    for line in here {
-        if !own_in_place(number, event, &line.text) {
-            return false;
-        }
-    }
-    true
-}
-
-/// Whether the lines of an event answer what is outstanding then.
-fn follows_event(
-    alloc: Global,
-    entries: &mut Vec<Entry>,
-    number: usize,
-    event: &Event,
-    here: &[Line],
-) -> Result<bool, AllocError>
-    ensures follows { IfOk result (λ b. IsTrue b
-        ↔ follows.FollowsEvent (outstanding_of entries.old.items) number event.now here.now) }
-    ensures after { IfOk result (λ b. b ≡ true → outstanding_of entries.new.items
-        ≡ follows.after_one (outstanding_of entries.old.items) number event.now here.now) }
-{
-    take_command(alloc, entries, number, event, here)?;
-    Ok(all_fit(entries, here)? && all_own_in_place(number, event, here))
-}
-
-/// Whether the answers of each event answer what is outstanding then.
-fn follow_events(alloc: Global, events: &[Event], lines: &[Line]) -> Result<bool, AllocError>
-    ensures { IfOk result (λ b. IsTrue b
-        ↔ follows.FollowsFrom follows.nothing_asked 1 events.now lines.now) }
-{
-    let mut entries = Vec::new(alloc);
-    for (i, event) in events.iter().enumerate() {
-        let here = lines_at_event(alloc, lines, i + 1)?;
-        if !follows_event(alloc, &mut entries, i + 1, event, &here)? {
-            return Ok(false);
-        }
-    }
-    Ok(true)
-}
-
-fn is_answer(text: &Text) -> bool
-    ensures { result ≡ follows.is_answer text.now }
-{
-    matches!(
-        text,
-        Text::Begun(_, _, _)
-            | Text::Opened(_, _, _)
-            | Text::Did(_, _)
-            | Text::Read(_, _, _)
-            | Text::Refused(_, _, _)
-            | Text::Waiting(_, _, _, _, _)
-            | Text::Committed(_, _, _)
-            | Text::Aborted(_, _, _, _)
-    )
-}
-
-fn is_of_event(count: usize, when: When) -> bool
-    ensures { IsTrue result ↔ follows.IsOfEvent count when }
-{
-    match when {
-        When::Event(number) => 1 <= number && number as usize <= count,
-        When::End => false,
-    }
-}
-
-/// Whether every answer stands at an event.
-fn all_of_events(count: usize, lines: &[Line]) -> bool
-    ensures { IsTrue result ↔ follows.AllOfEvents count lines.now }
-{
-    for line in lines {
-        if is_answer(&line.text) && !is_of_event(count, line.when) {
-            return false;
-        }
-    }
-    true
-}
-
-/// Whether each answer to a client in a report names its outstanding command and has a form of
-/// that command, the client's own refusals stand in the command's own event, and no command has two
-/// last answers or one after another command replaced it.
-pub fn follows(alloc: Global, events: &[Event], lines: &[Line]) -> Result<bool, AllocError>
-    ensures { IfOk result (λ b. IsTrue b ↔ follows.Follows events.now lines.now) }
-{
-    Ok(follow_events(alloc, events, lines)? && all_of_events(events.len(), lines))
 }

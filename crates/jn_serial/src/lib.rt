@@ -1,21 +1,19 @@
-//! What a report says of a schedule: the order of the commits, and whether the answers are that order's.
+//! What a report says of a schedule: the order of the commits, whether the answers are that order's, and what clients are
+//! told of outcomes. The definitions of what a report shows, causes and follows stand here too.
 #![tactic(auto)]
 
 mod begun;
-mod causes;
 mod following;
 mod laws;
 mod lines;
 mod order;
 mod outcomes;
-mod showing;
 mod transactions;
 
-pub use causes::caused;
-pub use following::follows;
+pub use begun::is_in;
+pub use following::{Addressed, Asked, is_own, refuses_own};
 pub use laws::{a_refused_opening_loses_nothing, an_operation_counts_once};
-pub use lines::history;
+pub use lines::{history, is_after_event, is_at, lines_at_end, lines_at_event, lines_before_event};
 pub use order::{agrees, replay};
 pub use outcomes::told;
-pub use showing::shown;
 pub use transactions::ops_of;

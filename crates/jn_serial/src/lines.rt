@@ -9,7 +9,7 @@ use jn_report::{Line, Text, When};
 use std::alloc::{AllocError, Global};
 
 /// Whether a line stands at the event of a number.
-pub(crate) fn is_at(when: When, number: usize) -> bool
+pub fn is_at(when: When, number: usize) -> bool
     ensures { result ≡ lines_of.when_eq when (AtEvent number) }
 {
     match when {
@@ -29,7 +29,7 @@ pub(crate) fn is_before_event(when: When, number: usize) -> bool
 }
 
 /// Whether a line stands after the event of a number.
-pub(crate) fn is_after_event(when: When, number: usize) -> bool
+pub fn is_after_event(when: When, number: usize) -> bool
     ensures { result ≡ lines_of.is_before (AtEvent number) when }
 {
     match when {
@@ -55,11 +55,7 @@ pub(crate) fn push_commit(named: &mut Vec<Tid>, text: &Text) -> Result<(), Alloc
 }
 
 /// The lines of an event.
-pub(crate) fn lines_at_event(
-    alloc: Global,
-    lines: &[Line],
-    number: usize,
-) -> Result<Vec<Line>, AllocError>
+pub fn lines_at_event(alloc: Global, lines: &[Line], number: usize) -> Result<Vec<Line>, AllocError>
     ensures { IfOk result (λ ls. ls.items ≡ lines_of.lines_at (AtEvent number) lines.now) }
 {
     let mut here = Vec::new(alloc);
@@ -72,7 +68,7 @@ pub(crate) fn lines_at_event(
 }
 
 /// The lines before an event.
-pub(crate) fn lines_before_event(
+pub fn lines_before_event(
     alloc: Global,
     lines: &[Line],
     number: usize,
@@ -89,7 +85,7 @@ pub(crate) fn lines_before_event(
 }
 
 /// The lines of the end.
-pub(crate) fn lines_at_end(alloc: Global, lines: &[Line]) -> Result<Vec<Line>, AllocError>
+pub fn lines_at_end(alloc: Global, lines: &[Line]) -> Result<Vec<Line>, AllocError>
     ensures { IfOk result (λ ls. ls.items ≡ lines_of.lines_at End lines.now) }
 {
     let mut here = Vec::new(alloc);

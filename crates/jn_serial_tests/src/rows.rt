@@ -1,11 +1,16 @@
 //! Whole reports by hand, and forged ones.
 
 use jn_base::{
-    Block, BlockNo, Cause, ClientNo, Command, FaultKind, FileNo, LockUnit, Op, ServerNo, Tid,
+    Block, BlockContent, BlockNo, Cause, ClientNo, Command, FaultKind, FileNo, LockUnit, Op,
+    ServerNo, Tid,
 };
+use jn_causing::caused;
+use jn_following::follows;
+use jn_replay::Files;
 use jn_report::{Line, Refusal, Text, When};
 use jn_schedule::Event;
-use jn_serial::{Files, agrees, caused, follows, shown, told};
+use jn_serial::{agrees, told};
+use jn_showing::shown;
 use std::alloc::{AllocError, Global};
 use std::process::Abort;
 use std::test::Fail;
@@ -122,19 +127,21 @@ fn told_to(client: ClientNo, command: Command) -> Event {
 }
 
 /// A transaction that creates file 7 and writes its first block.
-fn written(bytes: Block) -> [Event; 10] {
-    [
+fn written(alloc: Global, bytes: Block) -> Result<Vec<Event>, AllocError> {
+    let content = BlockContent::from_block(alloc, &bytes)?;
+    let listed = vec![in alloc;
         told_to(C1, Command::Begin(S0)),
         Event::Settle,
         told_to(C1, Command::Open(S0)),
         Event::Settle,
         told_to(C1, Command::Do(S0, Op::Create(SEVEN))),
         Event::Settle,
-        told_to(C1, Command::Do(S0, Op::Write(SEVEN, BlockNo(0), bytes))),
+        told_to(C1, Command::Do(S0, Op::Write(SEVEN, BlockNo(0), content))),
         Event::Settle,
         told_to(C1, Command::End),
         Event::Settle,
-    ]
+    ]?;
+    Ok(listed)
 }
 
 /// The lines of that transaction.
@@ -173,7 +180,7 @@ fn joined(alloc: Global, parts: &[&[Line]]) -> Result<Vec<Line>, AllocError> {
 fn a_commit(rt: HostRuntime) -> Result<(), Fail> {
     let alloc = rt.alloc();
     let bytes = block(0x68, 0x69);
-    let events = written(bytes);
+    let events = written(alloc, bytes)?;
     let lines = joined(alloc, &[&written_lines(), &end_lines(bytes, 1)])?;
     expect(&rt, alloc, &events, &lines, RIGHT)?;
 
@@ -218,14 +225,22 @@ fn a_commit(rt: HostRuntime) -> Result<(), Fail> {
         &forged(alloc, &lines, 4, refused)?,
         not_agreed,
     )?;
+
+    let twice = inserted(alloc, &lines, 5, at(8, Text::Did(C1, 7)))?;
+    let not_following = Verdict {
+        follows: false,
+        ..RIGHT
+    };
+    expect(&rt, alloc, &events, &twice, not_following)?;
     Ok(())
 }
 
 /// A commit, a second writer of the block, a reader that is made vulnerable, and the writer's end.
 fn broken_events(alloc: Global) -> Result<Vec<Event>, AllocError> {
-    let mut events = Vec::from_slice(alloc, &written(block(0x61, 0)))?;
-    let write = Op::Write(SEVEN, BlockNo(0), block(0x62, 0));
-    for event in [
+    let mut events = written(alloc, block(0x61, 0))?;
+    let content = BlockContent::from_block(alloc, &block(0x62, 0))?;
+    let write = Op::Write(SEVEN, BlockNo(0), content);
+    let more = vec![in alloc;
         told_to(C1, Command::Begin(S0)),
         Event::Settle,
         told_to(C1, Command::Open(S0)),
@@ -245,7 +260,8 @@ fn broken_events(alloc: Global) -> Result<Vec<Event>, AllocError> {
         Event::Settle,
         told_to(C2, Command::End),
         Event::Settle,
-    ] {
+    ]?;
+    for event in more {
         events.push(event)?;
     }
     Ok(events)
@@ -437,6 +453,16 @@ fn a_transaction_without_room(rt: HostRuntime) -> Result<(), Fail> {
     Ok(())
 }
 
+/// A client begins, and is told to do one thing more.
+fn begun_then(command: Command) -> [Event; 4] {
+    [
+        told_to(C1, Command::Begin(S0)),
+        Event::Settle,
+        told_to(C1, command),
+        Event::Settle,
+    ]
+}
+
 #[test]
 fn an_abort_that_was_asked_for(rt: HostRuntime) -> Result<(), Fail> {
     let alloc = rt.alloc();
@@ -445,18 +471,13 @@ fn an_abort_that_was_asked_for(rt: HostRuntime) -> Result<(), Fail> {
         at(2, Text::Begun(C1, 1, tid(0))),
         at(4, Text::Aborted(C1, 3, tid(0), Cause::Requested)),
     ];
-    let begin = told_to(C1, Command::Begin(S0));
-    let abort = told_to(C1, Command::Abort);
-    let end = told_to(C1, Command::End);
-    let asked = [begin, Event::Settle, abort, Event::Settle];
-    expect(&rt, alloc, &asked, &lines, RIGHT)?;
+    expect(&rt, alloc, &begun_then(Command::Abort), &lines, RIGHT)?;
 
     let not_caused = Verdict {
         caused: false,
         ..RIGHT
     };
-    let ended = [begin, Event::Settle, end, Event::Settle];
-    expect(&rt, alloc, &ended, &lines, not_caused)?;
+    expect(&rt, alloc, &begun_then(Command::End), &lines, not_caused)?;
     Ok(())
 }
 
@@ -464,7 +485,7 @@ fn an_abort_that_was_asked_for(rt: HostRuntime) -> Result<(), Fail> {
 fn shows(rt: HostRuntime) -> Result<(), Fail> {
     let alloc = rt.alloc();
     let bytes = block(0x68, 0x69);
-    let mut events = Vec::from_slice(alloc, &written(bytes))?;
+    let mut events = written(alloc, bytes)?;
     events.push(Event::Show(S0))?;
     let shown = [
         at(11, Text::File(S0, SEVEN)),

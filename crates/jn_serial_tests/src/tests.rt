@@ -1,9 +1,10 @@
 //! Operations and a report by hand.
 
-use jn_base::{Answer, Block, BlockNo, ClientNo, Command, FileNo, Op, ServerNo, Tid};
+use jn_base::{Answer, BlockContent, BlockNo, ClientNo, Command, FileNo, Op, ServerNo, Tid};
+use jn_replay::{Files, do_op, is_same_answer};
 use jn_report::{Line, Refusal, Text, When};
 use jn_schedule::Event;
-use jn_serial::{Files, agrees, do_op, history, ops_of, replay, told};
+use jn_serial::{agrees, history, ops_of, replay, told};
 use std::alloc::{AllocError, Global};
 use std::process::Abort;
 use std::test::Fail;
@@ -21,72 +22,72 @@ const BEGUN: Tid = Tid {
 };
 
 /// A block that begins with these two bytes.
-fn block(first: u8, second: u8) -> Block {
-    let mut bytes = [0; 448];
-    bytes[0] = first;
-    bytes[1] = second;
-    bytes
+fn block(alloc: Global, first: u8, second: u8) -> Result<BlockContent, AllocError> {
+    BlockContent::new(alloc, &[first, second])
 }
 
-/// Whether two answers from the files are the same.
-fn is_same_answer(a: &Answer, b: &Answer) -> bool {
-    match (a, b) {
-        (Answer::Did, Answer::Did)
-        | (Answer::NoFile, Answer::NoFile)
-        | (Answer::Exists, Answer::Exists) => true,
-        (Answer::Read(x), Answer::Read(y)) => x == y,
-        _ => false,
-    }
+fn write(alloc: Global, file: FileNo, block_no: u16, first: u8) -> Result<Op, AllocError> {
+    Ok(Op::Write(file, BlockNo(block_no), block(alloc, first, first)?))
+}
+
+fn found(alloc: Global, first: u8, second: u8) -> Result<Answer, AllocError> {
+    Ok(Answer::Read(block(alloc, first, second)?))
 }
 
 fn expect(
     rt: &impl Abort,
     alloc: Global,
     files: &mut Files,
-    op: Op,
-    want: Answer,
+    op: &Op,
+    want: &Answer,
 ) -> Result<(), AllocError> {
-    let answer = do_op(alloc, files, FIRST, &op)?;
-    assert!(rt; is_same_answer(&answer, &want));
+    let answer = do_op(alloc, files, FIRST, op)?;
+    assert!(rt; is_same_answer(&answer, want));
     Ok(())
+}
+
+/// Operations, each with the answer that the files give.
+fn operations(alloc: Global) -> Result<Vec<(Op, Answer)>, AllocError> {
+    let other = FileNo(8);
+    let listed = vec![in alloc;
+        (write(alloc, SEVEN, 0, 1)?, Answer::NoFile),
+        (Op::Create(SEVEN), Answer::Did),
+        (Op::Create(SEVEN), Answer::Exists),
+        (write(alloc, other, 0, 1)?, Answer::NoFile),
+        (Op::Read(SEVEN, BlockNo(0)), found(alloc, 0, 0)?),
+        (write(alloc, SEVEN, 0, 1)?, Answer::Did),
+        (write(alloc, SEVEN, 2, 2)?, Answer::Did),
+        (write(alloc, SEVEN, 0, 3)?, Answer::Did),
+        (Op::Read(SEVEN, BlockNo(0)), found(alloc, 3, 3)?),
+        (Op::Cut(SEVEN, BlockNo(2)), Answer::Did),
+        (Op::Read(SEVEN, BlockNo(2)), found(alloc, 0, 0)?),
+        (Op::Read(SEVEN, BlockNo(0)), found(alloc, 3, 3)?),
+        (Op::Cut(other, BlockNo(0)), Answer::NoFile),
+        (Op::Remove(SEVEN), Answer::Did),
+        (Op::Read(SEVEN, BlockNo(0)), Answer::NoFile),
+        (Op::Remove(SEVEN), Answer::NoFile),
+        (Op::Create(SEVEN), Answer::Did),
+        (Op::Read(SEVEN, BlockNo(0)), found(alloc, 0, 0)?),
+    ]?;
+    Ok(listed)
 }
 
 #[test]
 fn operations_in_a_row(rt: HostRuntime) -> Result<(), Fail> {
     let alloc = rt.alloc();
     let mut files = Files::new(alloc);
-    let other = FileNo(8);
-    for (op, want) in [
-        (Op::Write(SEVEN, BlockNo(0), block(1, 1)), Answer::NoFile),
-        (Op::Create(SEVEN), Answer::Did),
-        (Op::Create(SEVEN), Answer::Exists),
-        (Op::Write(other, BlockNo(0), block(1, 1)), Answer::NoFile),
-        (Op::Read(SEVEN, BlockNo(0)), Answer::Read(block(0, 0))),
-        (Op::Write(SEVEN, BlockNo(0), block(1, 1)), Answer::Did),
-        (Op::Write(SEVEN, BlockNo(2), block(2, 2)), Answer::Did),
-        (Op::Write(SEVEN, BlockNo(0), block(3, 3)), Answer::Did),
-        (Op::Read(SEVEN, BlockNo(0)), Answer::Read(block(3, 3))),
-        (Op::Cut(SEVEN, BlockNo(2)), Answer::Did),
-        (Op::Read(SEVEN, BlockNo(2)), Answer::Read(block(0, 0))),
-        (Op::Read(SEVEN, BlockNo(0)), Answer::Read(block(3, 3))),
-        (Op::Cut(other, BlockNo(0)), Answer::NoFile),
-        (Op::Remove(SEVEN), Answer::Did),
-        (Op::Read(SEVEN, BlockNo(0)), Answer::NoFile),
-        (Op::Remove(SEVEN), Answer::NoFile),
-        (Op::Create(SEVEN), Answer::Did),
-        (Op::Read(SEVEN, BlockNo(0)), Answer::Read(block(0, 0))),
-    ] {
-        expect(&rt, alloc, &mut files, op, want)?;
+    for case in &operations(alloc)? {
+        expect(&rt, alloc, &mut files, &case.0, &case.1)?;
     }
     let elsewhere = do_op(alloc, &mut files, ServerNo(1), &Op::Remove(SEVEN))?;
     assert!(rt; is_same_answer(&elsewhere, &Answer::NoFile));
     Ok(())
 }
 
-fn schedule() -> [Event; 10] {
+fn schedule(alloc: Global) -> Result<Vec<Event>, AllocError> {
     let create = Op::Create(SEVEN);
-    let write = Op::Write(SEVEN, BlockNo(0), block(0x68, 0x69));
-    [
+    let write = Op::Write(SEVEN, BlockNo(0), block(alloc, 0x68, 0x69)?);
+    let listed = vec![in alloc;
         Event::Command(CLIENT, Command::Begin(FIRST)),
         Event::Settle,
         Event::Command(CLIENT, Command::Open(FIRST)),
@@ -97,7 +98,8 @@ fn schedule() -> [Event; 10] {
         Event::Settle,
         Event::Command(CLIENT, Command::End),
         Event::Settle,
-    ]
+    ]?;
+    Ok(listed)
 }
 
 /// The report, with this answer to the write and so many lines that name the commit.
@@ -131,7 +133,7 @@ fn report(alloc: Global, write: Text, commits: u8) -> Result<Vec<Line>, AllocErr
 fn verdicts(alloc: Global, write: Text, commits: u8) -> Result<(bool, bool), AllocError> {
     let files = Files::new(alloc);
     let lines = report(alloc, write, commits)?;
-    let agrees_with = agrees(alloc, &files, &schedule(), &lines)?;
+    let agrees_with = agrees(alloc, &files, &schedule(alloc)?, &lines)?;
     Ok((agrees_with, told(alloc, &lines)?))
 }
 
@@ -153,7 +155,7 @@ fn reports(rt: HostRuntime) -> Result<(), Fail> {
 
 /// The files after the transactions that the report names, and how many operations its own did.
 fn replayed(alloc: Global) -> Result<(Files, usize), AllocError> {
-    let events = schedule();
+    let events = schedule(alloc)?;
     let lines = report(alloc, Text::Did(CLIENT, 7), 1)?;
     let named = history(alloc, &lines)?;
     let ops = ops_of(alloc, &events, &lines, BEGUN)?;
@@ -165,7 +167,13 @@ fn replayed(alloc: Global) -> Result<(Files, usize), AllocError> {
 fn a_report_replayed(rt: HostRuntime) -> Result<(), Fail> {
     let (mut after, ops) = replayed(rt.alloc())?;
     assert_eq!(rt; ops, 2);
-    let hi = Answer::Read(block(0x68, 0x69));
-    expect(&rt, rt.alloc(), &mut after, Op::Read(SEVEN, BlockNo(0)), hi)?;
+    let hi = found(rt.alloc(), 0x68, 0x69)?;
+    expect(
+        &rt,
+        rt.alloc(),
+        &mut after,
+        &Op::Read(SEVEN, BlockNo(0)),
+        &hi,
+    )?;
     Ok(())
 }

@@ -1,7 +1,0 @@
-use Rattle.std.proofs.Common.{◌∙◌, ap}
-use Rattle.std.specs.Prelude.{is_some}
-use Rattle.jn_serial.proofs.ShownLemmas.{file_there}
-use Rattle.jn_serial.proofs.showing.is_file_there.Goals as goal
-
-pub returns : goal.returns
-returns c = c.is_some.ensures ∙ ap is_some c.place_of_file.ensures ∙ file_there c.args.server c.args.file c.args.stored.now.items

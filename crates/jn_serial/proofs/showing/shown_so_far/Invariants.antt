@@ -1,7 +1,0 @@
-use Rattle.std.proofs.Common.{◌↔◌, ◌+◌, drop}
-use Rattle.jn_replay.specs.Stored.{files_of}
-use Rattle.jn_serial.specs.Accounts.{ShowsFrom}
-use Rattle.jn_serial.proofs.showing.shown_so_far.Given as goal
-
-abbrev pub invariant-loop-i : goal.invariant-loop-i
-invariant-loop-i l = ShowsFrom (files_of l.files) l.events l.lines 1 l.events ↔ ShowsFrom (files_of l.files) l.events l.lines (l.i + 1) (drop l.i l.events)

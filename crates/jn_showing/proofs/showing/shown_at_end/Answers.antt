@@ -1,0 +1,10 @@
+use Rattle.std.proofs.Common.{◌∙◌}
+use Rattle.jn_replay.specs.Stored.{files_of}
+use Rattle.jn_replay.proofs.Same.{↔-trans}
+use Rattle.jn_showing.proofs.ShownLemmas.{end_where}
+use Rattle.jn_showing.proofs.showing.shown_at_end.Goals as goal
+
+pub returns : goal.returns
+returns c =
+    ↔-trans c.shows_end.ensures
+    (end_where (files_of c.args.files.now) (files_of c.in_ok-after.after) c.args.events.now c.args.lines.now c.deref-2.result.now c.deref.result.now (c.deref-2.ensures.value ∙ c.in_ok-here.ensures) (c.deref.ensures.value ∙ c.in_ok-named.ensures) c.in_ok-after.ensures)
