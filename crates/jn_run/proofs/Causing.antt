@@ -15,7 +15,8 @@ use Rattle.jn_report.specs.declared.line.When.TheVariants.{Event as AtEvent}
 use Rattle.jn_report.specs.declared.line.Text.{Text}
 use Rattle.jn_report.specs.declared.line.Text.TheVariants as says
 use Rattle.jn_report.specs.declared.line.Line.{Line}
-use Rattle.jn_serial.specs.Caused.{begun_after, begun_then, last_begun, CausedFrom, Caused}
+use Rattle.jn_serial.specs.Begun.{begun_after, begun_then, last_begun}
+use Rattle.jn_serial.specs.Caused.{CausedFrom, Caused}
 use Rattle.jn_serial.specs.declared.following.Asked.{Asked}
 use Rattle.jn_serial.proofs.Growth.{AreWithin}
 use Rattle.jn_serial.proofs.CausedGrowth.{begun_then-append, Caused-events, Caused-lines, needs_cause, CausedFrom-plain, AbortStands, AbortStands-here, AbortStands-more, CausedFrom-requested, CausedFrom-full}

@@ -11,7 +11,7 @@ use Rattle.jn_report.specs.declared.line.Text.TheVariants as says
 use Rattle.jn_report.specs.declared.line.Line.{Line}
 use Rattle.jn_serial.specs.Shown.{ShowsFiles}
 use Rattle.jn_order.specs.Files.{AllFiles}
-use Rattle.jn_serial.proofs.Orders.{AreSame-equal}
+use Rattle.jn_replay.proofs.Same.{AreSame-equal}
 use Rattle.jn_run.specs.Pages.{Counts, Pages, server_0, only_server_0, files_of_pages, head_from, head_place, data_place, is_head_of, block_in, block_behind, address_in, IsFresh, PrintsFiles}
 use Rattle.jn_run.specs.Ending.{end_line, ArePrinted}
 

@@ -1,5 +1,5 @@
 -- The end of a run: the lines that print the files show what the commits give.
-use Rattle.std.proofs.Common.{append-nil, ◌≡◌, ℕ, zero, suc, ◌+◌, Bool, true, false, ◌||◌, cond, List, [], ◌∷◌, ◌++◌, length, Option, Some, None, refl, sym, ◌∙◌, ap, subst}
+use Rattle.std.proofs.Common.{append-nil, append_assoc, ◌≡◌, ℕ, zero, suc, ◌+◌, Bool, true, false, ◌||◌, cond, List, [], ◌∷◌, ◌++◌, length, Option, Some, None, refl, sym, ◌∙◌, ap, subst}
 use Rattle.jn_base.specs.declared.names.ServerNo.{ServerNo}
 use Rattle.jn_base.specs.declared.names.ClientNo.{ClientNo}
 use Rattle.jn_base.specs.declared.names.Tid.{Tid}
@@ -10,17 +10,19 @@ use Rattle.jn_report.specs.declared.line.When.TheVariants.{Event as AtEvent, End
 use Rattle.jn_report.specs.declared.line.Text.{Text}
 use Rattle.jn_report.specs.declared.line.Text.TheVariants as says
 use Rattle.jn_report.specs.declared.line.Line.{Line}
-use Rattle.jn_serial.specs.declared.files.Performed.{Performed}
+use Rattle.jn_replay.specs.declared.files.Performed.{Performed}
 use Rattle.jn_serial.specs.Lines.{when_eq, lines_at, says, event_at, history_of, commit_in}
-use Rattle.jn_serial.specs.Order.{answered_by, owner_after, ops_from, ops_of, replay, AgreesFrom}
+use Rattle.jn_serial.specs.InTurn.{answered_by, owner_after, told_from, ops_told}
 use Rattle.jn_serial.specs.Told.{NamesBefore, NamesOnce, NamesNone}
 use Rattle.jn_serial.specs.Shown.{is_locked, ShowsFiles}
 use Rattle.jn_serial.specs.Follows.{Outstanding, nothing_asked, FollowsEvent, FollowsFrom, after_one, AllOfEvents, is_answer, Follows}
 use Rattle.jn_serial.specs.Caused.{Caused}
 use Rattle.jn_serial.proofs.Growth.{AreWithin, follows-same}
 use Rattle.jn_serial.proofs.CausedGrowth.{Caused-lines, needs_cause, NeedNoCause, CausedFrom-plain}
-use Rattle.jn_serial.proofs.Ops.{replay-by_ops, AgreesFrom-by_ops}
-use Rattle.jn_serial.proofs.Orders.{ops_of-append, owner_then, history_of-append, lines_at-append, NamesBefore-append, NamesNone-append}
+use Rattle.jn_serial.proofs.Orders.{ops_told-append, owner_then, history_of-append, lines_at-append, NamesBefore-append, NamesNone-append}
+use Rattle.jn_serial.specs.Order.{ops_of}
+use Rattle.jn_serial.proofs.InTurn.{AreAtEnd}
+use Rattle.jn_run.proofs.ByLines.{replay, AgreesFrom, replay-by_ops, AgreesFrom-by_ops, BegunByOne, begun-quiet, ops-are-told, agrees-by_commands, replay-by_commands}
 use Rattle.jn_run.specs.Pages.{ArePrints, is_print}
 use Rattle.jn_run.specs.Ending.{end_line}
 use Rattle.jn_run.specs.Outcome.{Holds, IsRun}
@@ -49,10 +51,19 @@ pub record SoFar (es : List Event) (ls : List Line) (stage : Stage) : Type 0 whe
   pub ordered : Ordered es ls stage
   pub caused : Caused es ls
 
+-- what transactions did by their commands is what the lines tell
+same-ops : (es : List Event) (ls : List Line) (stage : Stage) → SoFar es ls stage → (t : Tid) → ops_of es ls t ≡ ops_told es ls t
+same-ops es ls stage s t =
+    subst (λ (z : List Line). ops_of es z t ≡ ops_told es z t) (append-nil ls)
+    (ops-are-told es ls [] t s.talk.turned tt
+        (subst (λ (z : List Line). FollowsFrom nothing_asked 1 es z) (sym (append-nil ls)) s.talk.answers)
+        (subst (λ (z : List Line). AllOfEvents (length es) z) (sym (append-nil ls)) s.talk.of_events)
+        (subst BegunByOne (sym (append-nil ls)) s.ordered.begun))
+
 -- what holds so far, as the outcome says it
 pub holds : (es : List Event) (ls : List Line) (stage : Stage) → SoFar es ls stage → Holds es ls
 holds es ls stage s = record {
-  agrees = s.ordered.agrees;
+  agrees = agrees-by_commands no_files es ls (history_of ls) (same-ops es ls stage s) s.ordered.agrees;
   shown = λ i q e printed. absurd (no-show es i q s.talk.no_shows e);
   told = s.ordered.told;
   follows = record { answers = s.talk.answers; of_events = s.talk.of_events };
@@ -135,7 +146,7 @@ pub record EndsQuietly (ends : List Line) : Type 0 where
   pub all : lines_at End ends ≡ ends
   pub owners : (t : Tid) (o : Option ClientNo) → owner_then t o ends ≡ o
   pub history : history_of ends ≡ []
-  pub ops : (es : List Event) (t : Tid) (o : Option ClientNo) → ops_from es t o ends ≡ []
+  pub ops : (es : List Event) (t : Tid) (o : Option ClientNo) → told_from es t o ends ≡ []
   pub answers : (n : ℕ) → AllOfEvents n ends
   pub told : (ts : List Tid) → NamesBefore ts ends
   pub not_lost : (ts : List Tid) → NamesNone ts ends
@@ -157,7 +168,7 @@ ends-quietly (l ∷ ls) h =
       all = ap (λ (b : Bool). cond b (l ∷ lines_at End ls) (lines_at End ls)) (when-end l.when h.0) ∙ ap (λ (m : List Line). l ∷ m) q.all;
       owners = λ t o. ap (λ (w : Option ClientNo). owner_then t w ls) (n.no_begin t o) ∙ q.owners t o;
       history = ap (λ (ts : List Tid). ts ++ history_of ls) n.no_commit ∙ q.history;
-      ops = λ es t o. ap (λ (ps : List Performed). ps ++ ops_from es t (owner_after t o l.text) ls) (n.no_op es o) ∙ q.ops es t (owner_after t o l.text);
+      ops = λ es t o. ap (λ (ps : List Performed). ps ++ told_from es t (owner_after t o l.text) ls) (n.no_op es o) ∙ q.ops es t (owner_after t o l.text);
       answers = λ k. (λ is. absurd (clash (is_answer l.text) is n.no_answer), q.answers k);
       told = λ ts. ((n.told ts).0, subst (λ (us : List Tid). NamesBefore us ls) (sym (ap (λ (us : List Tid). ts ++ us) n.no_commit ∙ append-nil ts)) (q.told ts));
       not_lost = λ ts. ((n.not_lost ts).0, q.not_lost ts);
@@ -194,20 +205,32 @@ AllOfEvents-append : (n : ℕ) (xs ys : List Line) → AllOfEvents n xs → AllO
 AllOfEvents-append n [] ys a b = b
 AllOfEvents-append n (x ∷ xs) ys a b = (a.0, AllOfEvents-append n xs ys a.1 b)
 
+at-end : (ends : List Line) → AreOfEnd ends → AreAtEnd ends
+at-end [] h = tt
+at-end (l ∷ ends) h = (h.0, at-end ends h.2)
+
+begun-ends : (ls ends : List Line) → AreOfEnd ends → BegunByOne ls → BegunByOne (ls ++ ends)
+begun-ends ls [] h begun = subst BegunByOne (sym (append-nil ls)) begun
+begun-ends ls (l ∷ ends) h begun = subst BegunByOne (append_assoc ls (l ∷ []) ends) (begun-ends (ls ++ l ∷ []) ends h.2 (begun-quiet ls l (let n = says-nothing l.text h.1 in n.no_begin) begun))
+
 -- the end of the run, where its lines show these files
 pub ends-run : (es : List Event) (ls ends : List Line) (stage : Stage) (files : AllFiles) → SoFar es ls stage → replay no_files es ls (history_of ls) ≡ files → AreOfEnd ends → ((s : ServerNo) → ShowsFiles files s ends) → IsRun es (ls ++ ends)
 ends-run es ls ends stage files s e of_end shows =
     let q = ends-quietly ends of_end in
     let history : history_of (ls ++ ends) ≡ history_of ls = history_of-append ls ends ∙ ap (λ (ts : List Tid). history_of ls ++ ts) q.history ∙ append-nil (history_of ls) in
-    let did : (t : Tid) → ops_of es (ls ++ ends) t ≡ ops_of es ls t = λ t. ops_of-append es t ls ends ∙ ap (λ (ps : List Performed). ops_of es ls t ++ ps) (q.ops es t (owner_then t None ls)) ∙ append-nil (ops_of es ls t) in
+    let did : (t : Tid) → ops_told es (ls ++ ends) t ≡ ops_told es ls t = λ t. ops_told-append es t ls ends ∙ ap (λ (ps : List Performed). ops_told es ls t ++ ps) (q.ops es t (owner_then t None ls)) ∙ append-nil (ops_told es ls t) in
     let each = DidTheSame-each es ls es (ls ++ ends) (history_of ls) (λ t k. did t) in
     let gives : replay no_files es (ls ++ ends) (history_of (ls ++ ends)) ≡ files =
     ap (λ (ts : List Tid). replay no_files es (ls ++ ends) ts) history ∙ replay-by_ops no_files es ls es (ls ++ ends) (history_of ls) each ∙ e in
     let all : lines_at End (ls ++ ends) ≡ ends = lines_at-append End ls ends ∙ ap (λ (m : List Line). m ++ lines_at End ends) (no-end (next_number es) ls s.talk.within) ∙ q.all in
     let events : (i : ℕ) → lines_at (AtEvent i) (ls ++ ends) ≡ lines_at (AtEvent i) ls = λ i. lines_at-append (AtEvent i) ls ends ∙ ap (λ (m : List Line). lines_at (AtEvent i) ls ++ m) (q.events i) ∙ append-nil (lines_at (AtEvent i) ls) in
+    let follows : FollowsFrom nothing_asked 1 es (ls ++ ends) = follows-same nothing_asked 1 es ls (ls ++ ends) events s.talk.answers in
+    let of : AllOfEvents (length es) (ls ++ ends) = AllOfEvents-append (length es) ls ends s.talk.of_events (q.answers (length es)) in
+    let same : (t : Tid) → ops_of es (ls ++ ends) t ≡ ops_told es (ls ++ ends) t = λ t. ops-are-told es ls ends t s.talk.turned (at-end ends of_end) follows of (begun-ends ls ends of_end s.ordered.begun) in
     record {
       holds = record {
-        agrees = subst (λ (ts : List Tid). AgreesFrom no_files es (ls ++ ends) ts) (sym history) (AgreesFrom-by_ops no_files es ls es (ls ++ ends) (history_of ls) each s.ordered.agrees);
+        agrees = agrees-by_commands no_files es (ls ++ ends) (history_of (ls ++ ends)) same
+            (subst (λ (ts : List Tid). AgreesFrom no_files es (ls ++ ends) ts) (sym history) (AgreesFrom-by_ops no_files es ls es (ls ++ ends) (history_of ls) each s.ordered.agrees));
         shown = λ i p h printed. absurd (no-show es i p s.talk.no_shows h);
         told = record {
           before = NamesBefore-append [] ls ends s.ordered.told.before (q.told (history_of ls));
@@ -215,13 +238,13 @@ ends-run es ls ends stage files s e of_end shows =
           not_lost = subst (λ (ts : List Tid). NamesNone ts (ls ++ ends)) (sym history) (NamesNone-append (history_of ls) ls ends s.ordered.told.not_lost (q.not_lost (history_of ls)));
         };
         follows = record {
-          answers = follows-same nothing_asked 1 es ls (ls ++ ends) events s.talk.answers;
-          of_events = AllOfEvents-append (length es) ls ends s.talk.of_events (q.answers (length es));
+          answers = follows;
+          of_events = of;
         };
         caused = Caused-lines es ls ends s.caused (CausedFrom-plain es ls ends (need-none ends of_end));
       };
       shown_at_end = record {
-        all = λ p. subst (λ (fs : AllFiles). ShowsFiles fs p (lines_at End (ls ++ ends))) (sym gives) (subst (λ (m : List Line). ShowsFiles files p m) (sym all) (shows p));
+        all = λ p. subst (λ (fs : AllFiles). ShowsFiles fs p (lines_at End (ls ++ ends))) (sym (replay-by_commands no_files es (ls ++ ends) (history_of (ls ++ ends)) same ∙ gives)) (subst (λ (m : List Line). ShowsFiles files p m) (sym all) (shows p));
         unlocked = ap (λ (m : List Line). says is_locked m) all ∙ q.unlocked;
       };
     }

@@ -15,7 +15,6 @@ use Rattle.jn_records.specs.declared.intention.Intention.{Intention}
 use Rattle.jn_schedule.specs.declared.Event.{Event}
 use Rattle.jn_schedule.specs.declared.Event.TheVariants as events
 use Rattle.jn_serial.specs.declared.following.Asked.{Asked}
-use Rattle.jn_client.specs.Calls.{waiting_in}
 use Rattle.jn_run.specs.declared.changes.Shortage.{Shortage}
 use Rattle.jn_run.specs.declared.world.World.{World}
 use Rattle.jn_run.specs.declared.world.Phase.{Phase}
@@ -37,7 +36,7 @@ if-ok P (Err e) p = tt
 
 -- the view of a world with this phase
 abbrev pub view_at : World → Phase → View
-view_at w p = record { asked = option_map asked_of (waiting_in w.client.outstanding); current = w.client.transaction; requests = w.client.next; fate = fate_of p; stored = files_on w.disk; sees = sees w.changes w.disk; next = w.next_ticket }
+view_at w p = record { asked = option_map asked_of w.client.outstanding; current = w.client.transaction; requests = w.client.next; fate = fate_of p; stored = files_on w.disk; sees = sees w.changes w.disk; next = w.next_ticket }
 
 pub voting-leads : (n : ℕ) (w : World) (ls : List Line) → w.phase ≡ phases.Open → Leads n (view_of w) ls (view_at w phases.Voting) ls
 voting-leads n w ls is = same-leads n (view_of w) (view_at w phases.Voting) ls (sym (ap (λ (p : Phase). view_at w p) is))

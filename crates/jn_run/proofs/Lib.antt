@@ -1,3 +1,4 @@
+pub mod ByLines
 pub mod OneClient
 pub mod Answering
 pub mod Named

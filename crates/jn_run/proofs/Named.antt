@@ -9,7 +9,7 @@ use Rattle.jn_report.specs.declared.line.Text.{Text}
 use Rattle.jn_report.specs.declared.line.Text.TheVariants as says
 use Rattle.jn_report.specs.declared.line.Line.{Line}
 use Rattle.jn_serial.specs.Lines.{history_of, has_tid, commit_in}
-use Rattle.jn_serial.specs.Order.{owner_after, ops_from}
+use Rattle.jn_serial.specs.InTurn.{owner_after, told_from}
 use Rattle.jn_serial.specs.Told.{IsNotNamedWhere, NamesNone}
 use Rattle.jn_run.proofs.OneClient.{IsUnused}
 
@@ -71,9 +71,9 @@ no-loss n (l ∷ ls) t h from = (each l.text h.0, no-loss n ls t h.1 from)
     each (says.Broke s u w by) b = ap (λ (x : Bool). x || false) (other-way n t u b from)
     each _ b = tt
 
-no-ops : (n : ℕ) (es : List Event) (ls : List Line) (t : Tid) → AllNameBelow n ls → n ≤ t.ticket → ops_from es t None ls ≡ []
+no-ops : (n : ℕ) (es : List Event) (ls : List Line) (t : Tid) → AllNameBelow n ls → n ≤ t.ticket → told_from es t None ls ≡ []
 no-ops n es [] t h from = refl
-no-ops n es (l ∷ ls) t h from = ap (λ (o : Option ClientNo). ops_from es t o ls) (each l.text h.0) ∙ no-ops n es ls t h.1 from
+no-ops n es (l ∷ ls) t h from = ap (λ (o : Option ClientNo). told_from es t o ls) (each l.text h.0) ∙ no-ops n es ls t h.1 from
   where
     each : (text : Text) → NamesBelow n text → owner_after t None text ≡ None
     each (says.Begun c j u) b = ap (λ (x : Bool). cond x (Some c) None) (other-way n t u b from)

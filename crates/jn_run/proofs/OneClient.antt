@@ -1,9 +1,9 @@
 -- One client at one server: what its talk and its transactions keep, event by event.
-use Rattle.std.proofs.Common.{◌≡◌, ◌⊎◌, inl, inr, ℕ, suc, ◌+◌, ◌≤◌, Bool, true, false, ◌||◌, cond, List, [], ◌∷◌, ◌++◌, length, Option, Some, None, refl, sym, ◌∙◌, ap, subst, arith, append-nil}
+use Rattle.std.proofs.Common.{◌≡◌, ◌⊎◌, inl, inr, ℕ, suc, ◌+◌, ◌≤◌, Bool, true, false, ◌&&◌, ◌||◌, cond, List, [], ◌∷◌, ◌++◌, length, Option, Some, None, refl, sym, ◌∙◌, ap, subst, arith, append-nil}
 use Rattle.jn_base.specs.declared.names.ClientNo.{ClientNo}
 use Rattle.jn_base.specs.declared.names.Tid.{Tid}
-use Rattle.jn_base.specs.Names.{tid_eq}
-use Rattle.jn_base.proofs.Tells.{tid_tells}
+use Rattle.jn_base.specs.Names.{client_eq, tid_eq}
+use Rattle.jn_base.proofs.Tells.{client_tells, tid_tells}
 use Rattle.jn_order.specs.Files.{AllFiles, no_files}
 use Rattle.jn_schedule.specs.declared.Event.{Event}
 use Rattle.jn_schedule.specs.declared.Event.TheVariants.{Show}
@@ -12,14 +12,17 @@ use Rattle.jn_report.specs.declared.line.When.TheVariants.{Event as AtEvent, End
 use Rattle.jn_report.specs.declared.line.Text.{Text}
 use Rattle.jn_report.specs.declared.line.Text.TheVariants as says
 use Rattle.jn_report.specs.declared.line.Line.{Line}
-use Rattle.jn_serial.specs.declared.files.Performed.{Performed}
+use Rattle.jn_replay.specs.declared.files.Performed.{Performed}
 use Rattle.jn_serial.specs.Lines.{lines_at, history_of, has_tid, commit_in}
-use Rattle.jn_serial.specs.Order.{answered, owner_after, is_client, ops_from, ops_of, files_then, replay, GivesAnswers, AgreesFrom, Agrees}
+use Rattle.jn_serial.specs.InTurn.{answered, owner_after, is_client, told_from, ops_told}
+use Rattle.jn_replay.specs.Operations.{files_then, GivesAnswers}
+use Rattle.jn_run.proofs.ByLines.{replay, AgreesFrom, Agrees, BegunByOne, begun-quiet, begun-more, IsTurned, turned-more}
 use Rattle.jn_serial.specs.Told.{IsNamedWhere, NamesOnce, IsNotNamedWhere, NamesNone, Told}
 use Rattle.jn_serial.specs.Follows.{Outstanding, nothing_asked, FollowsEvent, FollowsFrom, after_one, AllOfEvents, IsOfEvent}
 use Rattle.jn_serial.proofs.Growth.{AreWithin, AreWithin-wider, AreWithin-append, lines_at-newest, outstanding_after, follows-more, follows-earlier, outstanding-more, outstanding-earlier}
-use Rattle.jn_serial.proofs.Ops.{AllAnswerWithin, AllAnswerWithin-wider, AllAnswerWithin-append, ops_from-events, DidTheSame, replay-by_ops, AgreesFrom-by_ops, AgreesFrom-more, replay-more}
-use Rattle.jn_serial.proofs.Orders.{owner_then, owner_then-append, ops_from-append, history_of-append, has_tid-append, NamesBefore-append, NamesNone-append}
+use Rattle.jn_serial.proofs.Ops.{AllAnswerWithin, AllAnswerWithin-wider, AllAnswerWithin-append, told_from-events}
+use Rattle.jn_run.proofs.ByLines.{DidTheSame, replay-by_ops, AgreesFrom-by_ops, AgreesFrom-more, replay-more}
+use Rattle.jn_serial.proofs.Orders.{owner_then, owner_then-append, told_from-append, history_of-append, has_tid-append, NamesBefore-append, NamesNone-append}
 use Rattle.jn_serial.proofs.Telling.{NamesOnce-more}
 use Rattle.jn_run.specs.Names.{client_1}
 
@@ -43,6 +46,7 @@ pub record Talk (es : List Event) (ls : List Line) (out : Outstanding) : Type 0 
   pub answers : FollowsFrom nothing_asked 1 es ls
   pub of_events : AllOfEvents (length es) ls
   pub waits : outstanding_after nothing_asked 1 es ls ≡ out
+  pub turned : IsTurned es ls
 
 -- what the lines of one more event have to be
 pub record TalksOn (es : List Event) (out : Outstanding) (e : Event) (ms : List Line) : Type 0 where
@@ -90,6 +94,7 @@ talk-more es ls out e ms t n =
       waits = outstanding-more nothing_asked 1 es e (ls ++ ms)
           ∙ ap (λ (o : Outstanding). after_one o (next_number es) e (lines_at (AtEvent (next_number es)) (ls ++ ms))) kept
           ∙ ap (λ (m : List Line). after_one out (next_number es) e m) newest;
+      turned = turned-more es ls e ms t.turned n.within;
     }
 
 -- where a transaction of the client stands
@@ -103,7 +108,7 @@ pub record Runs (es : List Event) (ls : List Line) (t : Tid) (ps : List Performe
   pub others : (u : Tid) → has_tid (history_of ls) u ≡ true → owner_then u None ls ≡ None
   pub new : has_tid (history_of ls) t ≡ false
   pub unnamed : NamesNone (t ∷ []) ls
-  pub did : ops_of es ls t ≡ ps
+  pub did : ops_told es ls t ≡ ps
   pub gives : GivesAnswers (replay no_files es ls (history_of ls)) ps
 
 abbrev pub StandsAt : List Event → List Line → Stage → Type 0
@@ -115,10 +120,11 @@ pub record Ordered (es : List Event) (ls : List Line) (stage : Stage) : Type 0 w
   pub agrees : Agrees no_files es ls
   pub told : Told ls
   pub owners : (u : Tid) → (owner_then u None ls ≡ None) ⊎ (owner_then u None ls ≡ Some client_1)
+  pub begun : BegunByOne ls
   pub stands : StandsAt es ls stage
 
 pub DidTheSame-each : (es : List Event) (ls : List Line) (fs : List Event) (ms : List Line) (ts : List Tid)
-    → ((u : Tid) → has_tid ts u ≡ true → ops_of fs ms u ≡ ops_of es ls u) → DidTheSame es ls fs ms ts
+    → ((u : Tid) → has_tid ts u ≡ true → ops_told fs ms u ≡ ops_told es ls u) → DidTheSame es ls fs ms ts
 DidTheSame-each es ls fs ms [] h = tt
 DidTheSame-each es ls fs ms (t ∷ ts) h = (h t (first t (has_tid ts t)), DidTheSame-each es ls fs ms ts (λ u k. h u (later (tid_eq t u) (has_tid ts u) k)))
   where
@@ -132,11 +138,12 @@ DidTheSame-each es ls fs ms (t ∷ ts) h = (h t (first t (has_tid ts t)), DidThe
 -- an event without lines
 pub ordered-silent : (es : List Event) (ls : List Line) (stage : Stage) (e : Event) → AllAnswerWithin (length es) ls → Ordered es ls stage → Ordered (es ++ e ∷ []) ls stage
 ordered-silent es ls stage e below o =
-    let same = DidTheSame-each es ls (es ++ e ∷ []) ls (history_of ls) (λ u k. ops_from-events es (e ∷ []) u None ls below) in
+    let same = DidTheSame-each es ls (es ++ e ∷ []) ls (history_of ls) (λ u k. told_from-events es (e ∷ []) u None ls below) in
     record {
       agrees = AgreesFrom-by_ops no_files es ls (es ++ e ∷ []) ls (history_of ls) same o.agrees;
       told = o.told;
       owners = o.owners;
+      begun = o.begun;
       stands = at_stage stage o.stands same;
     }
   where
@@ -147,13 +154,13 @@ ordered-silent es ls stage e below o =
       others = s.others;
       new = s.new;
       unnamed = s.unnamed;
-      did = ops_from-events es (e ∷ []) t None ls below ∙ s.did;
+      did = told_from-events es (e ∷ []) t None ls below ∙ s.did;
       gives = subst (λ (fs : AllFiles). GivesAnswers fs ps) (sym (replay-by_ops no_files es ls (es ++ e ∷ []) ls (history_of ls) same)) s.gives;
     }
 
 -- the commits give the same after an event without lines
 pub replay-silent : (es : List Event) (ls : List Line) (e : Event) → AllAnswerWithin (length es) ls → replay no_files (es ++ e ∷ []) ls (history_of ls) ≡ replay no_files es ls (history_of ls)
-replay-silent es ls e below = replay-by_ops no_files es ls (es ++ e ∷ []) ls (history_of ls) (DidTheSame-each es ls (es ++ e ∷ []) ls (history_of ls) (λ u k. ops_from-events es (e ∷ []) u None ls below))
+replay-silent es ls e below = replay-by_ops no_files es ls (es ++ e ∷ []) ls (history_of ls) (DidTheSame-each es ls (es ++ e ∷ []) ls (history_of ls) (λ u k. told_from-events es (e ∷ []) u None ls below))
 
 -- a line that begins and commits nothing, where these are committed
 pub record IsQuiet (ts : List Tid) (text : Text) : Type 0 where
@@ -182,20 +189,20 @@ owner-quiet : (ls : List Line) (l : Line) (u : Tid) → ((t : Tid) (o : Option C
 owner-quiet ls l u same = owner_then-append u None ls (l ∷ []) ∙ same u (owner_then u None ls)
 
 -- a transaction whose owner is none did nothing more
-ops-unowned : (es : List Event) (ls : List Line) (l : Line) (u : Tid) → owner_then u None ls ≡ None → ops_of es (ls ++ l ∷ []) u ≡ ops_of es ls u
+ops-unowned : (es : List Event) (ls : List Line) (l : Line) (u : Tid) → owner_then u None ls ≡ None → ops_told es (ls ++ l ∷ []) u ≡ ops_told es ls u
 ops-unowned es ls l u h =
-    ops_from-append es u None ls (l ∷ [])
-    ∙ ap (λ (o : Option ClientNo). ops_of es ls u ++ ops_from es u o (l ∷ [])) h
-    ∙ append-nil (ops_of es ls u)
+    told_from-append es u None ls (l ∷ [])
+    ∙ ap (λ (o : Option ClientNo). ops_told es ls u ++ told_from es u o (l ∷ [])) h
+    ∙ append-nil (ops_told es ls u)
 
 -- nor did any, by a line that answers nothing from the files
-ops-unanswered : (es : List Event) (ls : List Line) (l : Line) (u : Tid) → answered es client_1 l.text ≡ [] → (owner_then u None ls ≡ None) ⊎ (owner_then u None ls ≡ Some client_1) → ops_of es (ls ++ l ∷ []) u ≡ ops_of es ls u
+ops-unanswered : (es : List Event) (ls : List Line) (l : Line) (u : Tid) → answered es client_1 l.text ≡ [] → (owner_then u None ls ≡ None) ⊎ (owner_then u None ls ≡ Some client_1) → ops_told es (ls ++ l ∷ []) u ≡ ops_told es ls u
 ops-unanswered es ls l u nothing (inl h) = ops-unowned es ls l u h
 ops-unanswered es ls l u nothing (inr h) =
-    ops_from-append es u None ls (l ∷ [])
-    ∙ ap (λ (w : Option ClientNo). ops_of es ls u ++ ops_from es u w (l ∷ [])) h
-    ∙ ap (λ (ps : List Performed). ops_of es ls u ++ (ps ++ [])) nothing
-    ∙ append-nil (ops_of es ls u)
+    told_from-append es u None ls (l ∷ [])
+    ∙ ap (λ (w : Option ClientNo). ops_told es ls u ++ told_from es u w (l ∷ [])) h
+    ∙ ap (λ (ps : List Performed). ops_told es ls u ++ (ps ++ [])) nothing
+    ∙ append-nil (ops_told es ls u)
 
 unanswered-same : (es : List Event) (ls : List Line) (l : Line) → ((u : Tid) → (owner_then u None ls ≡ None) ⊎ (owner_then u None ls ≡ Some client_1)) → answered es client_1 l.text ≡ [] → DidTheSame es ls es (ls ++ l ∷ []) (history_of ls)
 unanswered-same es ls l owners nothing = DidTheSame-each es ls es (ls ++ l ∷ []) (history_of ls) (λ u k. ops-unanswered es ls l u nothing (owners u))
@@ -208,6 +215,7 @@ ordered-quiet es ls l o quiet nothing =
           (AgreesFrom-by_ops no_files es ls es (ls ++ l ∷ []) (history_of ls) (unanswered-same es ls l o.owners nothing) o.agrees);
       told = told-quiet ls l quiet o.told;
       owners = λ u. subst (λ (w : Option ClientNo). (w ≡ None) ⊎ (w ≡ Some client_1)) (sym (owner-quiet ls l u quiet.no_begin)) (o.owners u);
+      begun = begun-quiet ls l quiet.no_begin o.begun;
       stands = tt;
     }
 
@@ -220,7 +228,7 @@ replay-quiet es ls stage l o none nothing =
 
 -- a transaction that is over
 pub ordered-over : (es : List Event) (ls : List Line) (t : Tid) (ps : List Performed) → Ordered es ls (Running t ps) → Ordered es ls Idle
-ordered-over es ls t ps o = record { agrees = o.agrees; told = o.told; owners = o.owners; stands = tt }
+ordered-over es ls t ps o = record { agrees = o.agrees; told = o.told; owners = o.owners; begun = o.begun; stands = tt }
 
 -- committed transactions do nothing more while another runs
 running-same : (es : List Event) (ls : List Line) (l : Line) (t : Tid) (ps : List Performed) → Runs es ls t ps → DidTheSame es ls es (ls ++ l ∷ []) (history_of ls)
@@ -239,14 +247,15 @@ ordered-answer es ls l t ps qs o plain answer gives =
           (AgreesFrom-by_ops no_files es ls es (ls ++ l ∷ []) (history_of ls) did o.agrees);
       told = told-quiet ls l quiet o.told;
       owners = λ u. subst (λ (w : Option ClientNo). (w ≡ None) ⊎ (w ≡ Some client_1)) (sym (owner-quiet ls l u quiet.no_begin)) (o.owners u);
+      begun = begun-quiet ls l quiet.no_begin o.begun;
       stands = record {
         owner = owner-quiet ls l t quiet.no_begin ∙ o.stands.owner;
         others = λ u k. owner-quiet ls l u quiet.no_begin ∙ o.stands.others u (ap (λ (ts : List Tid). has_tid ts u) (sym same) ∙ k);
         new = ap (λ (ts : List Tid). has_tid ts t) same ∙ o.stands.new;
         unnamed = NamesNone-append (t ∷ []) ls (l ∷ []) o.stands.unnamed ((plain.quiet (t ∷ [])).no_loss, tt);
-        did = ops_from-append es t None ls (l ∷ [])
-            ∙ ap (λ (w : Option ClientNo). ops_of es ls t ++ ops_from es t w (l ∷ [])) o.stands.owner
-            ∙ ap (λ (rs : List Performed). ops_of es ls t ++ (rs ++ [])) answer
+        did = told_from-append es t None ls (l ∷ [])
+            ∙ ap (λ (w : Option ClientNo). ops_told es ls t ++ told_from es t w (l ∷ [])) o.stands.owner
+            ∙ ap (λ (rs : List Performed). ops_told es ls t ++ (rs ++ [])) answer
             ∙ ap (λ (rs : List Performed). rs ++ (qs ++ [])) o.stands.did
             ∙ ap (λ (rs : List Performed). ps ++ rs) (append-nil qs);
         gives = subst (λ (fs : AllFiles). GivesAnswers fs (ps ++ qs))
@@ -264,7 +273,7 @@ replay-running es ls l t ps o none =
 pub record IsUnused (es : List Event) (ls : List Line) (t : Tid) : Type 0 where
   pub no_commit : has_tid (history_of ls) t ≡ false
   pub no_loss : NamesNone (t ∷ []) ls
-  pub no_ops : ops_of es ls t ≡ []
+  pub no_ops : ops_told es ls t ≡ []
 
 clash : (b : Bool) → b ≡ true → b ≡ false → ⊥
 clash true p q = cc
@@ -294,6 +303,7 @@ ordered-begun es ls i j t o unused =
         not_lost = subst (λ (ts : List Tid). NamesNone ts (ls ++ l ∷ [])) (sym same) (NamesNone-append (history_of ls) ls (l ∷ []) o.told.not_lost (tt, tt));
       };
       owners = λ u. subst (λ (w : Option ClientNo). (w ≡ None) ⊎ (w ≡ Some client_1)) (sym (owner_then-append u None ls (l ∷ []))) (owned u (tid_eq u t) (owner_then u None ls) (o.owners u));
+      begun = begun-more ls l (λ c v h. ours c (tid_eq v t) h) o.begun;
       stands = record {
         owner = owner_then-append t None ls (l ∷ []) ∙ ap (λ (b : Bool). cond b (Some client_1) (cond (is_client (owner_then t None ls) client_1) None (owner_then t None ls))) (self t);
         others = λ u k. owner_then-append u None ls (l ∷ []) ∙ passed u (other_tid (history_of ls) t u (ap (λ (ts : List Tid). has_tid ts u) (sym same) ∙ k) unused.no_commit) (owner_then u None ls) (o.owners u);
@@ -306,6 +316,9 @@ ordered-begun es ls i j t o unused =
   where
     self : (t : Tid) → tid_eq t t ≡ true
     self t = grind (arith, tid_tells t t)
+
+    ours : (c : ClientNo) (b : Bool) → (client_eq c client_1 && b) ≡ true → c ≡ client_1
+    ours c b h = grind (arith, client_tells c client_1, h)
 
     owned : (u : Tid) (b : Bool) (w : Option ClientNo) → (w ≡ None) ⊎ (w ≡ Some client_1) → (cond b (Some client_1) (cond (is_client w client_1) None w) ≡ None) ⊎ (cond b (Some client_1) (cond (is_client w client_1) None w) ≡ Some client_1)
     owned u true w h = inr refl
@@ -336,7 +349,7 @@ ordered-committed es ls i t ps o =
       agrees = subst (λ (ts : List Tid). AgreesFrom no_files es (ls ++ l ∷ []) ts) (sym history)
           (AgreesFrom-more no_files es (ls ++ l ∷ []) (history_of ls) t
           (AgreesFrom-by_ops no_files es ls es (ls ++ l ∷ []) (history_of ls) each o.agrees)
-          (subst (λ (fs : AllFiles). GivesAnswers fs (ops_of es (ls ++ l ∷ []) t)) (sym (replay-by_ops no_files es ls es (ls ++ l ∷ []) (history_of ls) each))
+          (subst (λ (fs : AllFiles). GivesAnswers fs (ops_told es (ls ++ l ∷ []) t)) (sym (replay-by_ops no_files es ls es (ls ++ l ∷ []) (history_of ls) each))
           (subst (λ (qs : List Performed). GivesAnswers (replay no_files es ls (history_of ls)) qs) (sym (ops-unanswered es ls l t refl (o.owners t) ∙ o.stands.did)) o.stands.gives)));
       told = record {
         before = NamesBefore-append [] ls (l ∷ []) o.told.before (tt, tt);
@@ -344,6 +357,7 @@ ordered-committed es ls i t ps o =
         not_lost = subst (λ (ts : List Tid). NamesNone ts (ls ++ l ∷ [])) (sym history) (NamesNone-append (history_of ls ++ t ∷ []) ls (l ∷ []) (both (history_of ls) t ls o.told.not_lost o.stands.unnamed) (tt, tt));
       };
       owners = λ u. subst (λ (w : Option ClientNo). (w ≡ None) ⊎ (w ≡ Some client_1)) (sym (owner_then-append u None ls (l ∷ []))) (o.owners u);
+      begun = begun-more ls l (λ c v h. absurd (cc h)) o.begun;
       stands = tt;
     }
   where
@@ -370,5 +384,5 @@ replay-committed es ls i t ps o =
     let l = commit_line i t in
     ap (λ (ts : List Tid). replay no_files es (ls ++ l ∷ []) ts) (history_of-append ls (l ∷ []))
     ∙ replay-more no_files es (ls ++ l ∷ []) (history_of ls) t
-    ∙ ap (λ (fs : AllFiles). files_then (ops_of es (ls ++ l ∷ []) t) fs) (replay-by_ops no_files es ls es (ls ++ l ∷ []) (history_of ls) (unanswered-same es ls l o.owners refl))
+    ∙ ap (λ (fs : AllFiles). files_then (ops_told es (ls ++ l ∷ []) t) fs) (replay-by_ops no_files es ls es (ls ++ l ∷ []) (history_of ls) (unanswered-same es ls l o.owners refl))
     ∙ ap (λ (qs : List Performed). files_then qs (replay no_files es ls (history_of ls))) (ops-unanswered es ls l t refl (o.owners t) ∙ o.stands.did)

@@ -31,7 +31,7 @@ use Rattle.jn_rows.specs.declared.client.Outstanding.{Outstanding}
 use Rattle.jn_rows.specs.declared.client.Taken.{Taken}
 use Rattle.jn_rows.specs.Client as rows
 use Rattle.jn_rows.specs.Client.{ClientTable, Commanded, Refuses, Sends, if_waits, take_row, command_row}
-use Rattle.jn_client.specs.Calls.{Gives, waiting_in}
+use Rattle.jn_client.specs.Calls.{Gives}
 use Rattle.jn_client.specs.declared.words.CommandFault.{CommandFault}
 use Rattle.jn_client.specs.declared.words.CommandFault.TheVariants.{Refused, Memory}
 use Rattle.jn_serial.specs.Follows.{is_own}
@@ -114,8 +114,8 @@ client-is t ours =
 abbrev pub HandsOn : ℕ → View → ClientTable → ClientTable × Taken → List Line → Type 0
 HandsOn n v t row ls = Leads n (with_client v t) ls (with_client v row.0) (with_line n row.1 ls)
 
-waits-for : (t : ClientTable) (o : Outstanding) (c : Command) → t.outstanding ≡ Some o → o.command ≡ c → option_map asked_of (waiting_in t.outstanding) ≡ asked_for o.event c
-waits-for t o c is command = ap (λ (x : Option Outstanding). option_map asked_of (waiting_in x)) is ∙ ap (λ (x : Command). asked_for o.event x) command
+waits-for : (t : ClientTable) (o : Outstanding) (c : Command) → t.outstanding ≡ Some o → o.command ≡ c → option_map asked_of t.outstanding ≡ asked_for o.event c
+waits-for t o c is command = ap (λ (x : Option Outstanding). option_map asked_of x) is ∙ ap (λ (x : Command). asked_for o.event x) command
 
 opens-is : (W : WorkId) (c : Command) → rows.opens (Some W) c ≡ true → (s : ServerNo) × (c ≡ Open s)
 opens-is W (Open s) h = (s, refl)
@@ -320,8 +320,8 @@ with-command false b c h k = cc
 sent-ours : (t : ClientTable) (command : Command) → is_ours t ≡ true → command_within command ≡ true → (client_eq t.client client_1 && command_within command) ≡ true
 sent-ours t command ours within = with-command (client_eq t.client client_1) (asked_within t.outstanding) (command_within command) ours within
 
-free : (t : ClientTable) → t.outstanding ≡ None → option_map asked_of (waiting_in t.outstanding) ≡ None
-free t idle = ap (λ (x : Option Outstanding). option_map asked_of (waiting_in x)) idle
+free : (t : ClientTable) → t.outstanding ≡ None → option_map asked_of t.outstanding ≡ None
+free t idle = ap (λ (x : Option Outstanding). option_map asked_of x) idle
 
 pub commanded : (v : View) (t : ClientTable) (j : ℕ) (command : Command) → IsCommanded v t j command (command_row t j command)
 commanded v t j (Begin s) =

@@ -12,7 +12,8 @@ use Rattle.jn_report.specs.declared.line.Refusal.TheVariants as refusals
 use Rattle.jn_report.specs.declared.line.Text.TheVariants as says
 use Rattle.jn_report.specs.declared.line.Line.{Line}
 use Rattle.jn_serial.specs.Lines.{event_at, says}
-use Rattle.jn_serial.specs.Order.{answered, replay}
+use Rattle.jn_serial.specs.InTurn.{answered}
+use Rattle.jn_run.proofs.ByLines.{replay}
 use Rattle.jn_serial.specs.declared.following.Asked.{Asked}
 use Rattle.jn_serial.specs.declared.following.Addressed.{Addressed}
 use Rattle.jn_serial.specs.Follows.{Outstanding, nothing_asked, with_asked, is_own, refuses_own, after_event, after_one, addressed, fits, after_answers}
@@ -42,7 +43,7 @@ running-silent : (es : List Event) (ls : List Line) (e : Event) (t : Tid) (sees 
 running-silent es ls e t sees below r = record {
   ps = r.ps;
   ordered = ordered-silent es ls _ e below r.ordered;
-  files = ap (λ (fs : AllFiles). Rattle.jn_serial.specs.Order.files_then r.ps fs) (replay-silent es ls e below) ∙ r.files;
+  files = ap (λ (fs : AllFiles). Rattle.jn_replay.specs.Operations.files_then r.ps fs) (replay-silent es ls e below) ∙ r.files;
 }
 
 stands-silent : (es : List Event) (ls : List Line) (e : Event) (sees : Files) (t : Option Tid) (fate : Fate) → AllAnswerWithin (length es) ls → StandsIn es ls sees t fate → StandsIn (es ++ e ∷ []) ls sees t fate
@@ -161,14 +162,14 @@ between-kept es ls number (settles v w ms leads) b =
 pub between-start : (v : View) → v.asked ≡ None → v.current ≡ None → no_files ≡ only_server_0 v.stored → Between [] (start_line ∷ []) v
 between-start v asked none stored = record {
   out = nothing_asked;
-  talk = record { within = ((omega arith, omega arith), tt); below = (tt, tt); no_shows = tt; answers = tt; of_events = (λ is. cc, tt); waits = refl };
+  talk = record { within = ((omega arith, omega arith), tt); below = (tt, tt); no_shows = tt; answers = tt; of_events = (λ is. cc, tt); waits = refl; turned = record { first = start_line; rest = []; lines = refl; starts = record { within = ((omega arith, omega arith), tt); below = (tt, tt); waits = λ c a k. absurd (cc k); same = λ t one. refl }; turns = refl } };
   asked = sym asked;
   order = record {
     names = (tt, tt);
     current = subst (λ (t : Option Tid). Rattle.std.specs.Prelude.IfSome t (λ u. u.ticket < v.next)) (sym none) tt;
     stored = stored;
     stands = subst (λ (t : Option Tid). StandsIn [] (start_line ∷ []) v.sees t v.fate) (sym none)
-        (record { agrees = tt; told = record { before = (tt, tt); once = tt; not_lost = (tt, tt) }; owners = λ u. inl refl; stands = tt });
+        (record { agrees = tt; told = record { before = (tt, tt); once = tt; not_lost = (tt, tt) }; owners = λ u. inl refl; begun = λ c t h. absurd (cc h); stands = tt });
     given = subst (λ (a : Option Asked). IsGiven [] a) (sym asked) tt;
   };
   causes = subst (λ (t : Option Tid). Causes 1 [] (start_line ∷ []) v.asked t v.fate) (sym none) (causes-start v.asked v.fate);

@@ -16,13 +16,15 @@ use Rattle.jn_schedule.specs.declared.Event.TheVariants as events
 use Rattle.jn_report.specs.declared.line.Text.{Text}
 use Rattle.jn_report.specs.declared.line.Text.TheVariants as says
 use Rattle.jn_report.specs.declared.line.Line.{Line}
-use Rattle.jn_serial.specs.declared.files.Performed.{Performed}
+use Rattle.jn_replay.specs.declared.files.Performed.{Performed}
 use Rattle.jn_serial.specs.Lines.{event_at, history_of, has_tid}
-use Rattle.jn_serial.specs.Order.{answered, performed_in, replay, files_then, GivesAnswers}
+use Rattle.jn_serial.specs.InTurn.{answered, performed_in}
+use Rattle.jn_run.proofs.ByLines.{replay}
+use Rattle.jn_replay.specs.Operations.{files_then, GivesAnswers}
 use Rattle.jn_serial.specs.declared.following.Asked.{Asked}
 use Rattle.jn_serial.specs.Follows.{Outstanding, with_asked, answers_command, answers_op, is_read}
-use Rattle.jn_serial.proofs.Ops.{GivesAnswers-more, files_then-more}
-use Rattle.jn_serial.proofs.Orders.{AreSame-equal}
+use Rattle.jn_replay.proofs.Same.{GivesAnswers-more, files_then-more}
+use Rattle.jn_replay.proofs.Same.{AreSame-equal}
 use Rattle.jn_run.specs.Pages.{server_0, only_server_0}
 use Rattle.jn_run.specs.Names.{client_1, name_of, line_at}
 use Rattle.jn_run.specs.Moves.{Fate, Undecided, Committed, AbortedBy, View, asked_for, is_ending, answer_text, IsPerformed, Performed as IsDone, ReadsOut, WritesOut, begun, answered_with, drawn, decided, over, Leads, stays, joined, ignores, draws, begins, opens, performs, commits, aborts, tells_commit, tells_abort}

@@ -7,7 +7,7 @@ use Rattle.jn_schedule.specs.declared.Event.{Event}
 use Rattle.jn_report.specs.declared.line.Line.{Line}
 use Rattle.jn_report.specs.Text.{report_text}
 use Rattle.jn_host.specs.Outside.{Rose}
-use Rattle.jn_serial.proofs.Orders.{AreSame-equal}
+use Rattle.jn_replay.proofs.Same.{AreSame-equal}
 use Rattle.jn_run.specs.declared.outside.RunFault.{RunFault}
 use Rattle.jn_run.specs.declared.outside.RunFault.TheVariants as runs
 use Rattle.jn_run.specs.Names.{start_line}

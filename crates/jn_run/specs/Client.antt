@@ -11,10 +11,8 @@ use Rattle.jn_rows.specs.declared.client.Outstanding.{Outstanding}
 use Rattle.jn_rows.specs.declared.client.Taken.{Taken}
 use Rattle.jn_rows.specs.declared.client.Taken.TheVariants.{Ignored, Send, Told}
 use Rattle.jn_rows.specs.Client.{ClientTable, is_begin}
-use Rattle.jn_client.specs.Calls.{waiting_in}
 use Rattle.jn_client.specs.declared.words.CommandFault.{CommandFault}
 use Rattle.jn_client.specs.declared.words.CommandFault.TheVariants.{Refused, Memory}
-use Rattle.jn_client.specs.declared.words.Waiting.{Waiting}
 use Rattle.jn_serial.specs.declared.following.Asked.{Asked}
 use Rattle.jn_run.specs.Names.{client_1, line_at}
 use Rattle.jn_run.specs.Pages.{server_0}
@@ -25,13 +23,13 @@ use Rattle.jn_run.specs.Moves.{View, Fate, Undecided, Committed, AbortedBy}
 abbrev pub is_ours : ClientTable → Bool
 is_ours t = client_eq t.client client_1 && asked_within t.outstanding
 
-abbrev pub asked_of : Waiting → Asked
+abbrev pub asked_of : Outstanding → Asked
 asked_of w = record { number = w.event; command = w.command }
 
 -- the view with this table of the client
 abbrev pub with_client : View → ClientTable → View
 with_client v t = record {
-  asked = option_map asked_of (waiting_in t.outstanding);
+  asked = option_map asked_of t.outstanding;
   current = t.transaction;
   requests = t.next;
   fate = v.fate;

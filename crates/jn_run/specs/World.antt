@@ -1,6 +1,5 @@
 -- What is seen of the world.
 use Rattle.std.specs.Prelude.{option_map}
-use Rattle.jn_client.specs.Calls.{waiting_in}
 use Rattle.jn_run.specs.declared.world.Phase.{Phase}
 use Rattle.jn_run.specs.declared.world.Phase.TheVariants as phases
 use Rattle.jn_run.specs.declared.world.World.{World}
@@ -17,7 +16,7 @@ fate_of (phases.Aborted cause) = AbortedBy cause
 
 abbrev pub view_of : World → View
 view_of w = record {
-  asked = option_map asked_of (waiting_in w.client.outstanding);
+  asked = option_map asked_of w.client.outstanding;
   current = w.client.transaction;
   requests = w.client.next;
   fate = fate_of w.phase;

@@ -206,16 +206,16 @@ module _ (t : Tid) (n : ℕ) (ls : List Line) (l : Line) (w : (i : ℕ) → i �
 -- ---- what holds after some events and their lines
 
 -- the command that a client waits for stands among the events, no line has answered it or a later one, and the client has begun nothing since
-record IsOpen (es : List Event) (ls : List Line) (c : ClientNo) (a : Asked) : Type 0 where
+pub record IsOpen (es : List Event) (ls : List Line) (c : ClientNo) (a : Asked) : Type 0 where
   stands : StandsAt 1 es a.number (events.Command c a.command)
   untold : (j : ℕ) → a.number ≤ j → first_told c j ls ≡ None
   begun : last_begun c (lines_before (AtEvent a.number) ls) ≡ last_begun c ls
 
-record InTurnSoFar (es : List Event) (ls : List Line) (out : Outstanding) : Type 0 where
-  within : AreWithin 0 (length es + 1) ls
-  below : AllAnswerWithin (length es) ls
-  waits : (c : ClientNo) (a : Asked) → out c ≡ Some a → IsOpen es ls c a
-  same : (t : Tid) → HasOneClient t ls → ops_of es ls t ≡ ops_told es ls t
+pub record InTurnSoFar (es : List Event) (ls : List Line) (out : Outstanding) : Type 0 where
+  pub within : AreWithin 0 (length es + 1) ls
+  pub below : AllAnswerWithin (length es) ls
+  pub waits : (c : ClientNo) (a : Asked) → out c ≡ Some a → IsOpen es ls c a
+  pub same : (t : Tid) → HasOneClient t ls → ops_of es ls t ≡ ops_told es ls t
 
 length-more : (es : List Event) (e : Event) → length (es ++ e ∷ []) ≡ length es + 1
 length-more es e = length-append es (e ∷ [])
@@ -517,7 +517,7 @@ of-later : (n : ℕ) (here later : List Line) → AllOfEvents n (here ++ later) 
 of-later n [] later h = h
 of-later n (l ∷ here) later h = of-later n here later h.1
 
-all-in-turn : (count : ℕ) (t : Tid) (es rest : List Event) (ls later : List Line) (out : Outstanding) → InTurnSoFar es ls out → AreInTurn (length es + 1) rest later → FollowsFrom out (length es + 1) rest (ls ++ later) → AllOfEvents count later → HasOneClient t (ls ++ later)
+pub all-in-turn : (count : ℕ) (t : Tid) (es rest : List Event) (ls later : List Line) (out : Outstanding) → InTurnSoFar es ls out → AreInTurn (length es + 1) rest later → FollowsFrom out (length es + 1) rest (ls ++ later) → AllOfEvents count later → HasOneClient t (ls ++ later)
     → ops_of (es ++ rest) (ls ++ later) t ≡ ops_told (es ++ rest) (ls ++ later) t
 all-in-turn count t es [] ls later out h turn follows of one = subst (λ m. ops_of m (ls ++ later) t ≡ ops_told m (ls ++ later) t) (sym (append-nil es)) (end-same es t count ls later turn of (h.same t (one-front t ls later one)))
 all-in-turn count t es (e ∷ rest) ls later out h (here, (after, (is, (within, turn)))) follows of one =
