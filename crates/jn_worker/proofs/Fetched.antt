@@ -36,7 +36,7 @@ use Rattle.jn_storage.specs.Calls.{state}
 use Rattle.jn_storage.specs.Viewing.{Viewed, reads_stored, served}
 use Rattle.jn_worker.specs.declared.words.WorkerFault.{WorkerFault}
 use Rattle.jn_worker.specs.declared.words.WorkerFault.TheVariants.{Stopped as Stops, Memory}
-use Rattle.jn_worker.specs.Fitting.{WorkerView, Fits}
+use Rattle.jn_worker.specs.Fitting.{WorkerView, Fits, is_active, is_active_phase}
 use Rattle.jn_works.specs.Changing.{tallied}
 use Rattle.jn_worker.specs.Calls.{Takes, CountsBy, Settles, has_stopped, unseen}
 use Rattle.jn_worker.specs.Reading.{ReadSettles, OnlyReads, answer_now, asks_now, asks_in, asks_for, is_unknown}
@@ -98,6 +98,12 @@ still-active t u T W a op before after i s = subst (λ (u : WorkerView). IsActiv
   tid = i.tid;
   phase = refl;
 })
+
+-- and so its operation may read
+pub granted_active : (t u : WorkerView) (T : Tid) (W : WorkId) (a : ActiveWork) (op : Op) (o : Option Answer) (before after : Collected) → IsActive t.table T W a → o ≡ None → Settles t T W a op Did o before u after → is_active (work_at W u.table) ≡ true
+granted_active t u T W a op o before after i none settles =
+    let j = still-active t u T W a op before after i (subst (λ o. Settles t T W a op Did o before u after) none settles) in
+    ap is_active j.found ∙ ap is_active_phase j.phase
 
 -- ---- what was asked of the device
 

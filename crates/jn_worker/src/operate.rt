@@ -115,10 +115,10 @@ impl Worker {
         ensures memory { IfErr result (λ fault. fault ≡ Memory) }
     {
         let Some(work) = work_at(&self.works, name) else {
-            return Err(WorkerFault::Memory);
+            unreachable!()
         };
         let Phase::Active(active) = &work.phase else {
-            return Err(WorkerFault::Memory);
+            unreachable!()
         };
         let (tid, vulnerable) = (work.tid, active.vulnerable);
         let fit = is_fit(&answer);
@@ -172,10 +172,10 @@ impl Worker {
         ensures memory { IfErr result (λ fault. fault ≡ Memory) }
     {
         let Some(work) = work_at(&self.works, name) else {
-            return Err(WorkerFault::Memory);
+            unreachable!()
         };
         let Phase::Active(active) = &work.phase else {
-            return Err(WorkerFault::Memory);
+            unreachable!()
         };
         let fit = is_fit(&answer);
         let units = units_after(self.alloc, active, op, fit)?;
@@ -233,13 +233,14 @@ impl Worker {
 
     /// What the active work's operation of this number was answered, if it was its last one.
     fn kept_answer(&self, name: WorkId, number: u32) -> Option<&Answer>
+        requires active { is_active (rows.work_at name self.now.table) ≡ true }
         ensures { (T : Tid) (a : ActiveWork) → IsActive self.now.table T name a → Gives (λ answer. answer.now) result (if nat_eq number a.last then a.kept else None) }
     {
         let Some(work) = work_at(&self.works, name) else {
-            return None;
+            unreachable!()
         };
         let Phase::Active(active) = &work.phase else {
-            return None;
+            unreachable!()
         };
         if number == active.last {
             active.kept.as_ref()

@@ -47,10 +47,10 @@ impl Worker {
     {
         let _locks = &self.locks;
         let Some(work) = work_at(&self.works, name) else {
-            return Err(PrepareFault::Memory);
+            unreachable!()
         };
         let Phase::Active(active) = &work.phase else {
-            return Err(PrepareFault::Memory);
+            unreachable!()
         };
         let head = WorkHead {
             work: name,
@@ -73,7 +73,7 @@ impl Worker {
         ensures memory { IfErr result (λ fault. fault ≡ Memory) }
     {
         let Some(work) = work_at(&self.works, name) else {
-            return Err(WorkerFault::Memory);
+            unreachable!()
         };
         let by = work.tid;
         let Ok(granted) = grant_storing(self.alloc, &mut self.locks, &mut self.works, by, name)

@@ -36,13 +36,14 @@ fn file_of(op: &Op) -> FileNo
 impl Worker {
     /// Whether the active work's next operation has this number.
     fn is_next(&self, name: WorkId, number: u32) -> bool
+        requires active { is_active (rows.work_at name self.now.table) ≡ true }
         ensures { (T : Tid) (a : ActiveWork) → IsActive self.now.table T name a → result ≡ nat_eq number (a.last + 1) }
     {
         let Some(work) = work_at(&self.works, name) else {
-            return false;
+            unreachable!()
         };
         let Phase::Active(active) = &work.phase else {
-            return false;
+            unreachable!()
         };
         active.last.checked_add(1) == Some(number)
     }
@@ -55,13 +56,14 @@ impl Worker {
         op: &Op,
     ) -> Result<Option<Answer>, AllocError>
         requires serving { IsServing (W.view store.now) }
+        requires active { is_active (rows.work_at name self.now.table) ≡ true }
         ensures { IfOk result (λ known. (T : Tid) (a : ActiveWork) → IsActive self.now.table T name a → answer_to op.now (change (list_change a.list) (state (W.view store.now)).files) ≡ answered known op.now (state (W.view store.now)).files) }
     {
         let Some(work) = work_at(&self.works, name) else {
-            return Ok(None);
+            unreachable!()
         };
         let Phase::Active(active) = &work.phase else {
-            return Ok(None);
+            unreachable!()
         };
         active
             .list
@@ -78,14 +80,15 @@ impl Worker {
     ) -> Result<Answer, ViewFault>
         requires serving { IsServing (W.view store.old) }
         requires range { BlockInRange op.now }
+        requires active { is_active (rows.work_at name self.old.table) ≡ true }
         ensures viewed { (T : Tid) (a : ActiveWork) → IsActive self.old.table T name a → Viewed a.list (W.view store.old) op.now result (W.view store.new) }
         ensures kept { IfOk result (λ answer. self.new ≡ record self.old { table = rephased name (tallied number answer) self.old.table }) }
     {
         let Some(work) = work_at(&self.works, name) else {
-            return Err(ViewFault::Stopped);
+            unreachable!()
         };
         let Phase::Active(active) = &work.phase else {
-            return Err(ViewFault::Stopped);
+            unreachable!()
         };
         let answer = view(self.alloc, &active.list, store, op)?;
         let kept = answer.copy(self.alloc)?;

@@ -1,13 +1,14 @@
 //! A worker's table: its live works and their locks.
 ghost use Rattle.std.specs.Prelude.{◌≡◌, is_ok};
 ghost use Rattle.jn_rows.specs.Worker as rows;
+ghost use Rattle.jn_works.specs.Locked.{next_locked};
 ghost use Rattle.jn_worker.specs.Calls.{AsksAgain, TimesOut};
 
-use jn_base::{LockUnit, Party, Tid, WorkId};
+use jn_base::{FileNo, LockUnit, Party, Tid, WorkId};
 use jn_locks::LockTable;
 use jn_msgs::{Message, Out};
 use jn_rows::Work;
-use jn_works::{commit_holder, expose, is_in, work_of};
+use jn_works::{commit_holder, expose, is_in, next_locked, work_of};
 use std::alloc::{AllocError, Global};
 use std::marker::Model;
 
@@ -40,6 +41,13 @@ impl Worker {
         ensures { result ≡ rows.commit_holder unit self.now.table }
     {
         commit_holder(&self.works, unit)
+    }
+
+    /// The least file above `after`, or the least of all, that a prepared work holds for commit as a file.
+    pub fn next_locked(&self, after: Option<FileNo>) -> Option<FileNo>
+        ensures { result ≡ next_locked after self.now.table }
+    {
+        next_locked(&self.works, after)
     }
 
     #[tactic(auto, using(crate::proofs::Again::again_row))]

@@ -2,9 +2,13 @@ use Rattle.std.proofs.Common.{subst, sym, ap, ◌∙◌, length, not, Ok, Err}
 use Rattle.jn_base.specs.declared.op.Answer.{Answer}
 use Rattle.jn_worker.specs.Calls.{has_stopped}
 use Rattle.jn_worker.specs.Reading.{OnlyReads, asks_now}
-use Rattle.jn_worker.proofs.Fetched.{refused_settles, granted_settles, granted_reads, unseen-stops, taken_back}
+use Rattle.jn_worker.proofs.Fetched.{granted_active, refused_settles, granted_settles, granted_reads, unseen-stops, taken_back}
 use Rattle.jn_worker.proofs.Voted.{found_active}
 use Rattle.jn_worker.proofs.worker.Worker.settle_read.Goals as goal
+
+pub read_granted-requires-clause-active : goal.read_granted-requires-clause-active
+read_granted-requires-clause-active g c = let f = found_active c.args.self.now.table c.args.name c.requires.active in
+    granted_active c.args.self.now c.settle.new.self f.0 c.args.name f.1 c.args.op.now c.in_ok-refusal.field-0 c.args.out.now c.settle.new.out f.2 c.in_default.is (c.in_ok-refusal.ensures.settled f.0 f.1 f.2 (c.requires.next f.0 f.1 f.2))
 
 pub returns-in-Some-clause-settled : goal.returns-in-Some-clause-settled
 returns-in-Some-clause-settled g c = λ T a i. refused_settles c.args.self.now c.settle.new.self (g.W.Storage.view c.args.store.now) T c.args.name a c.args.op.now c.in_ok-refusal.field-0 c.in-Some.refusal c.args.out.now c.settle.new.out (c.requires.unknown T a i) c.in-Some.is (c.in_ok-refusal.ensures.settled T a i (c.requires.next T a i))
