@@ -1,3 +1,4 @@
 pub mod Slots
 pub mod Stored
 pub mod Loading
+mod Numbering

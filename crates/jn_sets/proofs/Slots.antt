@@ -2,8 +2,8 @@
 use Rattle.std.proofs.Common.{◌≡◌, ◌⊎◌, inr, ⊎_elim, ◌≤◌, ◌<◌, ℕ, zero, suc, ◌+◌, Bool, true, false, List, [], ◌∷◌, ◌++◌, length, None, Some, refl, sym, ◌∙◌, ap, subst, arith}
 use Rattle.std.proofs.lemmas.Bool.Decides.{nat_tests}
 use Rattle.std.proofs.lemmas.List.Sums.{length-filter}
-use Rattle.std.specs.Prelude.{nat_eq, nat_lt, slice_set, position, filter, count_by}
-use Rattle.std.specs.List.{enumerate_from, position_or_len}
+use Rattle.std.specs.Prelude.{nat_eq, nat_lt, slice_set, position, filter, count_by, is_some, cond}
+use Rattle.std.specs.List.{enumerate_from, position_or_len, list_any}
 use Rattle.std.specs.Map.{values_of, lookup}
 use Rattle.indexmap.specs.IndexMap.{IndexMap, set_value_at, insert_entry}
 use Rattle.indexmap.proofs.CallerLemmas.{insert_entry-new}
@@ -52,3 +52,19 @@ absent_past (x ∷ xs) n k past =
 
 pub index_push : {X S : Type 0} (m : IndexMap ℕ X S) (n : ℕ) (x : X) → m.entries ≡ enumerate_from 0 (values_of m.entries) → length (values_of m.entries) ≡ n → insert_entry nat_eq m.entries n x ≡ m.entries ++ (n, x) ∷ []
 index_push m n x numbered long = insert_entry-new nat_eq m n x (ap (lookup (nat_eq n)) numbered ∙ absent_past (values_of m.entries) 0 n (omega (arith, long)))
+
+-- one is found exactly where any passes
+pub any_found : {X : Type 0} (test : X → Bool) (xs : List X) → is_some (position test xs) ≡ list_any test xs
+any_found test xs = some_where (nat_lt (position_or_len test xs) (length xs)) (position_or_len test xs) ∙ within test xs
+  where
+    some_where : (b : Bool) (i : ℕ) → is_some (cond b (Some i) None) ≡ b
+    some_where true i = refl
+    some_where false i = refl
+
+    within : {X : Type 0} (test : X → Bool) (xs : List X) → nat_lt (position_or_len test xs) (length xs) ≡ list_any test xs
+    within test [] = refl
+    within test (x ∷ xs) = by (test x) refl (within test xs)
+      where
+        by : (b : Bool) → test x ≡ b → nat_lt (position_or_len test xs) (length xs) ≡ list_any test xs → nat_lt (position_or_len test (x ∷ xs)) (length (x ∷ xs)) ≡ list_any test (x ∷ xs)
+        by true e rest = grind (arith, nat_tests)
+        by false e rest = grind (arith, nat_tests)

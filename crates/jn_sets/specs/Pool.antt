@@ -1,5 +1,5 @@
 -- The pool: a record for each of its slots, and the pages on which they stand.
-use Rattle.std.specs.Prelude.{◌≡◌, ℕ, ◌+◌, ◌<◌, List, length, slice_index_or, filter, count_by, not, ◌&&◌, nat_eq, Bool, true, false, Option, Some}
+use Rattle.std.specs.Prelude.{◌≡◌, ℕ, ◌+◌, ◌*◌, ◌%◌, ◌<◌, List, length, slice_index_or, filter, count_by, not, ◌&&◌, nat_eq, Bool, true, false, Option, Some}
 use Rattle.std.specs.List.{list_any, enumerate_from}
 use Rattle.jn_base.specs.declared.names.Tid.{Tid}
 use Rattle.jn_base.specs.declared.names.WorkId.{WorkId}
@@ -62,6 +62,24 @@ is_wanted WantedFree = is_free
 is_wanted (Prepared work) = is_prepared work
 is_wanted (WantedIntention work order) = is_intention work order
 is_wanted (WantedFlag tid) = is_flag tid
+
+-- ---- numbers by which records are found, of which several records may have one
+
+unfoldable pub spread : ℕ → ℕ → ℕ
+spread ticket kind = (ticket % 134217728) * 32 + kind % 32
+
+abbrev pub number_wanted : Wanted → ℕ
+number_wanted WantedFree = 4294967295
+number_wanted (Prepared work) = spread work.ticket 0
+number_wanted (WantedFlag tid) = spread tid.ticket 1
+number_wanted (WantedIntention work order) = spread work.ticket (order + 2)
+
+abbrev pub number_of : Record → ℕ
+number_of Free = 4294967295
+number_of (Intention work tid order i) = spread work.ticket (order + 2)
+number_of (Ready head intentions reads) = spread head.work.ticket 0
+number_of (Going head intentions reads) = spread head.work.ticket 0
+number_of (FlagRecord f) = spread f.tid.ticket 1
 
 -- an intention whose work has no ready or going record
 abbrev pub is_rubbish : List Record → Record → Bool

@@ -1,7 +1,8 @@
 //! What a slot's record is asked for.
-ghost use Rattle.std.specs.Prelude.{◌≡◌};
+ghost use Rattle.std.specs.Prelude.{◌≡◌, ◌<◌, ◌+◌, ◌^◌, true};
 ghost use Rattle.jn_base.specs.Names as names;
 ghost use Rattle.jn_sets.specs.Pool as pool;
+ghost use Rattle.jn_sets.specs.Sets.{ones};
 
 use jn_base::{Tid, WorkId};
 use jn_records::Record;
@@ -35,6 +36,50 @@ pub(crate) enum Wanted {
     Intention(WorkId, u8),
     /// The commit flag of a transaction.
     Flag(Tid),
+}
+
+/// A number by which what is wanted is found. Other records may have it too.
+pub(crate) fn number_wanted(wanted: Wanted) -> u32
+    ensures { result ≡ pool.number_wanted wanted }
+{
+    match wanted {
+        Wanted::Free => u32::MAX,
+        Wanted::Prepared(work) => spread(work.ticket, 0),
+        Wanted::Flag(tid) => spread(tid.ticket, 1),
+        Wanted::Intention(work, order) => spread(work.ticket, u32::from(order) + 2),
+    }
+}
+
+/// A record's number.
+pub(crate) fn number_of(value: &Record) -> u32
+    ensures { result ≡ pool.number_of value.now }
+{
+    match value {
+        Record::Free => u32::MAX,
+        Record::Intention { work, order, .. } => spread(work.ticket, u32::from(*order) + 2),
+        Record::Ready { head, .. } | Record::Going { head, .. } => spread(head.work.ticket, 0),
+        Record::Flag(flag) => spread(flag.tid.ticket, 1),
+    }
+}
+
+/// Tickets that follow one another, and the records of one work, have numbers of their own.
+#[tactic(auto, unfolding(crate::specs::Pool::spread))]
+fn spread(ticket: u32, kind: u32) -> u32
+    ensures { result ≡ pool.spread ticket kind }
+{
+    (ticket % 134_217_728) * 32 + kind % 32
+}
+
+/// A count where one record may be more or less.
+pub(crate) fn recount(count: u32, was: bool, is: bool) -> u32
+    requires some { was ≡ true → 0 < count }
+    requires few { count < 2 ^ 16 }
+    ensures { result + ones was ≡ count + ones is }
+{
+    if was == is {
+        return count;
+    }
+    if is { count + 1 } else { count - 1 }
 }
 
 pub(crate) fn is_wanted(wanted: Wanted, value: &Record) -> bool

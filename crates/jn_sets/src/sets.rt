@@ -10,10 +10,13 @@ ghost use Rattle.jn_sets.specs.Pool as pool;
 ghost use Rattle.jn_sets.specs.Sets.{StoreRead, Puts};
 
 use crate::fault::{LoadFault, SetFault};
-use crate::find::{Wanted, going_of, is_free, is_prepared, is_wanted, ready_of};
+use crate::find::{
+    Wanted, going_of, is_free, is_wanted, number_of, number_wanted, ready_of, recount,
+};
 use crate::numbers::record_fits;
 use indexmap::IndexMap;
 use jn_base::{Page, Stopped, Tid, WorkId};
+use jn_index::Index;
 use jn_records::{Record, Root};
 use jn_store::StableStore;
 use std::alloc::{AllocError, Global};
@@ -27,20 +30,23 @@ use std::mem;
 #[derive(Drop)]
 pub struct Sets {
     index: IndexMap<u16, Record>,
+    /// Of each slot the number by which its record is found.
+    numbers: Index,
+    /// How many slots hold no record.
+    free: u32,
 }
 
 impl Model for Sets {
     ghost use Rattle.std.specs.Prelude.{List};
     ghost use Rattle.indexmap.specs.IndexMap.{values};
     ghost use Rattle.jn_records.specs.declared.record.Record.{Record};
-    ghost use Rattle.jn_sets.specs.Sets.{IsIndex};
+    ghost use Rattle.jn_sets.specs.Sets.{IsKept};
 
     ghost Value = { List Record };
 
     ghost view = { λ s. values s.index };
 
-    // the index numbers its values, and each has a page
-    ghost invariant = { λ s. IsIndex s.index.entries };
+    ghost invariant = { λ s. IsKept s.index.entries s.numbers s.free };
 }
 
 impl Sets {
@@ -61,11 +67,19 @@ impl Sets {
         ensures calm { IsCalm (S.view store.old) → result ≢ Err LoadStopped }
     {
         let mut index = IndexMap::with_capacity(alloc, root.pool as usize)?;
+        let mut numbers = Index::new(alloc, root.pool)?;
+        let mut free = 0;
         for slot in 0..root.pool {
             let value = read_slot(alloc, store, slot)?;
+            numbers.set(slot, Some(number_of(&value)));
+            free = recount(free, false, is_free(&value));
             index.insert(slot, value)?;
         }
-        Ok(Sets { index })
+        Ok(Sets {
+            index,
+            numbers,
+            free,
+        })
     }
 
     /// How many slots there are.
@@ -79,7 +93,7 @@ impl Sets {
     pub fn free(&self) -> u32
         ensures { result ≡ pool.free_count self.now }
     {
-        self.index.values().filter(|value| is_free(*value)).count() as u32
+        self.free
     }
 
     /// The slot's record, `Free` where it holds none; `None` where there is no such slot.
@@ -218,19 +232,19 @@ impl Sets {
         Ok(true)
     }
 
+    /// The lowest slot with what is wanted, among those with its number.
     fn lowest(&self, wanted: Wanted) -> Option<u16>
         ensures { result ≡ position (pool.is_wanted wanted) self.now }
     {
-        Some(self.place(wanted)? as u16)
-    }
-
-    fn place(&self, wanted: Wanted) -> Option<usize>
-        ensures first { result ≡ position (pool.is_wanted wanted) self.now }
-        ensures few { IfSome result (λ i. i < 2 ^ 16) }
-    {
-        self.index
-            .values()
-            .position(|value| is_wanted(wanted, value))
+        let number = number_wanted(wanted);
+        let mut from = 0;
+        while let Some(slot) = self.numbers.slot_from(number, from) {
+            if is_wanted(wanted, &self.index[slot as usize]) {
+                return Some(slot);
+            }
+            from = slot + 1;
+        }
+        None
     }
 
     /// The lowest slot with an intention whose work has no ready or going record.
@@ -259,7 +273,7 @@ impl Sets {
     fn has_prepared(&self, work: WorkId) -> bool
         ensures { result ≡ list_any (pool.is_prepared work) self.now }
     {
-        self.index.values().any(|value| is_prepared(work, value))
+        self.lowest(Wanted::Prepared(work)).is_some()
     }
 
     /// Puts the slot's page, and then the index has its record.
@@ -287,7 +301,7 @@ impl Sets {
         ensures page { has_page result ≡ true }
         ensures left { self.new ≡ slice_set self.old slot Free }
     {
-        mem::replace(&mut self.index[slot as usize], Record::Free)
+        self.swap(slot, Record::Free)
     }
 
     fn set(&mut self, slot: u16, value: Record)
@@ -295,7 +309,22 @@ impl Sets {
         requires page { has_page value ≡ true }
         ensures { self.new ≡ slice_set self.old slot value }
     {
-        self.index[slot as usize] = value;
+        self.swap(slot, value);
+    }
+
+    /// Puts another record in place of the slot's in memory, and gives that back.
+    fn swap(&mut self, slot: u16, value: Record) -> Record
+        requires slot { slot < length self.old }
+        requires page { has_page value ≡ true }
+        ensures taken { result ≡ pool.record_in self.old slot }
+        ensures page { has_page result ≡ true }
+        ensures left { self.new ≡ slice_set self.old slot value }
+    {
+        let is = is_free(&value);
+        self.numbers.set(slot, Some(number_of(&value)));
+        let old = mem::replace(&mut self.index[slot as usize], value);
+        self.free = recount(self.free, is_free(&old), is);
+        old
     }
 }
 

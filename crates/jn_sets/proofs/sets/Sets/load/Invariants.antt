@@ -1,5 +1,12 @@
+use Rattle.std.proofs.Common.{◌≡◌, length}
+use Rattle.std.specs.Map.{values_of}
+use Rattle.jn_sets.specs.Sets.{AreCounted}
 use Rattle.jn_sets.proofs.Loading.{LoadedTo}
 use Rattle.jn_sets.proofs.sets.Sets.load.Given as goal
 
 abbrev pub invariant-loop-slot : goal.invariant-loop-slot
-invariant-loop-slot g l = LoadedTo (g.S.StableStore.view l.fn.store) l.slot l.index.entries (g.S.StableStore.view l.store)
+invariant-loop-slot g l = record {
+  loaded : LoadedTo (g.S.StableStore.view l.fn.store) l.slot l.index.entries (g.S.StableStore.view l.store);
+  numbers : length l.numbers ≡ l.root.pool;
+  counted : AreCounted l.numbers l.free (values_of l.index.entries);
+}

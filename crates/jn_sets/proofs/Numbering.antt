@@ -1,0 +1,148 @@
+-- Records are found by their numbers.
+use Rattle.std.proofs.Common.{◌≡◌, inl, inr, ⊎_elim, ℕ, ◌+◌, ◌≤◌, ◌<◌, Bool, true, false, List, [], ◌∷◌, ◌++◌, length, Option, Some, None, refl, sym, ◌∙◌, ap, subst, arith}
+use Rattle.std.proofs.Math.ListN.{get_or-append}
+use Rattle.std.proofs.Math.Seq.{get_or-append_seam}
+use Rattle.std.proofs.lemmas.Bool.{cases_eq, cases_lt, false_from_ne_true}
+use Rattle.std.proofs.lemmas.Bool.Decides.{nat_tests}
+use Rattle.std.proofs.lemmas.List.{get_or-set_same, get_or-set_other, get_or_past, length-set, length-append}
+use Rattle.std.proofs.lemmas.List.Sums.{position_or_len_is, sum_by-set, sum_by-append, sum_by-remove}
+use Rattle.std.specs.Prelude.{position, nat_eq, nat_lt, slice_set, cond, ◌&&◌}
+use Rattle.std.specs.Map.{values_of}
+use Rattle.std.specs.List.{position_or_len, sum_by, remove}
+use Rattle.jn_base.specs.declared.names.Tid.{Tid}
+use Rattle.jn_base.specs.declared.names.WorkId.{WorkId}
+use Rattle.jn_base.specs.Names.{tid_eq, work_eq}
+use Rattle.jn_base.proofs.Tells.{tid_tells, work_tells}
+use Rattle.jn_index.specs.Numbers.{number_at, IsSlotFrom}
+use Rattle.jn_records.specs.declared.record.Record.{Record}
+use Rattle.jn_records.specs.declared.record.Record.TheVariants.{Free, Intention, Ready, Going, Flag as FlagRecord}
+use Rattle.jn_sets.specs.declared.find.Wanted.{Wanted}
+use Rattle.jn_sets.specs.declared.find.Wanted.TheVariants.{Free as WantedFree, Prepared, Intention as WantedIntention, Flag as WantedFlag}
+use Rattle.jn_sets.specs.Pool.{record_in, is_free, free_count, is_wanted, number_of, number_wanted, spread}
+use Rattle.jn_sets.specs.Sets.{AreCounted, ones}
+use Rattle.jn_sets.proofs.Slots.{values_push}
+
+same_work : (a b : WorkId) (kind : ℕ) → work_eq a b ≡ true → spread a.ticket kind ≡ spread b.ticket kind
+same_work a b kind e = ⊎_elim (λ h. ap (λ (w : WorkId). spread w.ticket kind) h.1) (λ h. let no = h.0 in absurd (cc (no, e))) (work_tells a b)
+
+same_tid : (a b : Tid) (kind : ℕ) → tid_eq a b ≡ true → spread a.ticket kind ≡ spread b.ticket kind
+same_tid a b kind e = ⊎_elim (λ h. ap (λ (t : Tid). spread t.ticket kind) h.1) (λ h. let no = h.0 in absurd (cc (no, e))) (tid_tells a b)
+
+same_intention : (a b : WorkId) (o p : ℕ) (w n : Bool) → work_eq a b ≡ w → nat_eq o p ≡ n → w ≡ true → n ≡ true → spread a.ticket (o + 2) ≡ spread b.ticket (p + 2)
+same_intention a b o p w n ew en tw tn =
+    let same : o ≡ p = let t : nat_eq o p ≡ true = en ∙ tn in grind (arith, nat_tests, t) in
+    same_work a b (o + 2) (ew ∙ tw) ∙ ap (λ (k : ℕ). spread b.ticket (k + 2)) same
+
+pub has_number : (wanted : Wanted) (r : Record) → is_wanted wanted r ≡ true → number_of r ≡ number_wanted wanted
+has_number WantedFree Free e = refl
+has_number WantedFree (Intention w t o i) e = absurd (cc e)
+has_number WantedFree (Ready h n rs) e = absurd (cc e)
+has_number WantedFree (Going h n rs) e = absurd (cc e)
+has_number WantedFree (FlagRecord f) e = absurd (cc e)
+has_number (Prepared work) Free e = absurd (cc e)
+has_number (Prepared work) (Intention w t o i) e = absurd (cc e)
+has_number (Prepared work) (Ready h n rs) e = same_work h.work work 0 e
+has_number (Prepared work) (Going h n rs) e = same_work h.work work 0 e
+has_number (Prepared work) (FlagRecord f) e = absurd (cc e)
+has_number (WantedIntention work order) Free e = absurd (cc e)
+has_number (WantedIntention work order) (Intention w t o i) e = by (work_eq w work) (nat_eq o order) refl refl e
+  where
+    by : (a b : Bool) → work_eq w work ≡ a → nat_eq o order ≡ b → (a && b) ≡ true → spread w.ticket (o + 2) ≡ spread work.ticket (order + 2)
+    by true true ea eb t = same_intention w work o order true true ea eb refl refl
+    by true false ea eb t = absurd (cc t)
+    by false b ea eb t = absurd (cc t)
+has_number (WantedIntention work order) (Ready h n rs) e = absurd (cc e)
+has_number (WantedIntention work order) (Going h n rs) e = absurd (cc e)
+has_number (WantedIntention work order) (FlagRecord f) e = absurd (cc e)
+has_number (WantedFlag tid) Free e = absurd (cc e)
+has_number (WantedFlag tid) (Intention w t o i) e = absurd (cc e)
+has_number (WantedFlag tid) (Ready h n rs) e = absurd (cc e)
+has_number (WantedFlag tid) (Going h n rs) e = absurd (cc e)
+has_number (WantedFlag tid) (FlagRecord f) e = same_tid f.tid tid 1 e
+
+module _ (numbers : List (Option ℕ)) (free : ℕ) (records : List Record) (are : AreCounted numbers free records) (slots : length numbers ≡ length records) (wanted : Wanted) (from : ℕ)
+    (none_yet : (k : ℕ) → k < from → is_wanted wanted (record_in records k) ≡ false) where
+  pub slot_within : (slot : ℕ) → IsSlotFrom numbers (number_wanted wanted) from slot → slot < length records
+  slot_within slot found = elim (cases_lt slot (length records)) [
+    | inl lt ↦ lt
+    | inr le ↦ absurd (let none : number_at numbers slot ≡ None = get_or_past numbers slot None (omega arith) in let some = found.here in cc (none, some))
+  ]
+
+  none_below : (slot : ℕ) → IsSlotFrom numbers (number_wanted wanted) from slot → (k : ℕ) → k < slot → is_wanted wanted (record_in records k) ≡ false
+  none_below slot found k lt = elim (cases_lt k from) [
+    | inl low ↦ none_yet k low
+    | inr le ↦ false_from_ne_true (is_wanted wanted (record_in records k)) (λ e.
+        let within = slot_within slot found in
+        let up : slot ≤ k = found.lowest k le (are.each k (omega arith) ∙ ap (λ (n : ℕ). Some n) (has_number wanted (record_in records k) e)) in
+        let no_way : ⊥ = omega arith in no_way)
+  ]
+
+  pub found_first : (slot : ℕ) → IsSlotFrom numbers (number_wanted wanted) from slot → is_wanted wanted (record_in records slot) ≡ true → Some slot ≡ position (is_wanted wanted) records
+  found_first slot found here =
+      let within = slot_within slot found in
+      let at : position_or_len (is_wanted wanted) records ≡ slot = position_or_len_is (is_wanted wanted) records slot Free (omega arith) (none_below slot found) (λ lt. here) in
+      let t : nat_lt (position_or_len (is_wanted wanted) records) (length records) ≡ true = grind (arith, nat_tests, at, within) in
+      cc (t, at)
+
+  pub past_it : (slot : ℕ) → IsSlotFrom numbers (number_wanted wanted) from slot → is_wanted wanted (record_in records slot) ≡ false → (k : ℕ) → k < slot + 1 → is_wanted wanted (record_in records k) ≡ false
+  past_it slot found here k lt = elim (cases_eq k slot) [
+    | inl same ↦ ap (λ (i : ℕ). is_wanted wanted (record_in records i)) same ∙ here
+    | inr ne ↦ none_below slot found k (omega arith)
+  ]
+
+  pub none_found : ((slot : ℕ) → from ≤ slot → number_at numbers slot ≡ Some (number_wanted wanted) → ⊥) → None ≡ position (is_wanted wanted) records
+  none_found none =
+      let each : (k : ℕ) → k < length records → is_wanted wanted (record_in records k) ≡ false = λ k lt. elim (cases_lt k from) [
+        | inl low ↦ none_yet k low
+        | inr le ↦ false_from_ne_true (is_wanted wanted (record_in records k)) (λ e. none k le (are.each k lt ∙ ap (λ (n : ℕ). Some n) (has_number wanted (record_in records k) e)))
+      ] in
+      let at : position_or_len (is_wanted wanted) records ≡ length records = position_or_len_is (is_wanted wanted) records (length records) Free (omega arith) each (λ lt. let no_way : ⊥ = omega arith in absurd no_way) in
+      let t : nat_lt (position_or_len (is_wanted wanted) records) (length records) ≡ false = grind (arith, nat_tests, at) in
+      cc t
+
+pub some_free : (records : List Record) (slot : ℕ) → slot < length records → is_free (record_in records slot) ≡ true → 0 < free_count records
+some_free records slot below e =
+    let step : sum_by (λ (r : Record). cond (is_free r) 1 0) (remove records slot) + ones (is_free (record_in records slot)) ≡ free_count records = sum_by-remove (λ (r : Record). cond (is_free r) 1 0) records slot Free below in
+    let one : ones (is_free (record_in records slot)) ≡ 1 = ap ones e in
+    omega arith
+
+-- ---- a record takes a slot's place, or goes last
+
+module _ (numbers : List (Option ℕ)) (free : ℕ) (records : List Record) (are : AreCounted numbers free records) (value : Record) (count : ℕ) where
+  pub counted_set : (slot : ℕ) → slot < length records → length numbers ≡ length records → count + ones (is_free (record_in records slot)) ≡ free + ones (is_free value)
+      → AreCounted (slice_set numbers slot (Some (number_of value))) count (slice_set records slot value)
+  counted_set slot below slots sum = record {
+    each = λ k lt. elim (cases_eq k slot) [
+      | inl same ↦ subst (λ (i : ℕ). number_at (slice_set numbers slot (Some (number_of value))) i ≡ Some (number_of (record_in (slice_set records slot value) i))) (sym same)
+          (get_or-set_same numbers slot (Some (number_of value)) None (omega arith) ∙ ap (λ (r : Record). Some (number_of r)) (sym (get_or-set_same records slot value Free below)))
+      | inr ne ↦ get_or-set_other numbers slot k (Some (number_of value)) None ne ∙ are.each k (let same = length-set records slot value in omega arith)
+          ∙ ap (λ (r : Record). Some (number_of r)) (sym (get_or-set_other records slot k value Free ne))
+    ];
+    free_is = let step : free_count (slice_set records slot value) + ones (is_free (record_in records slot)) ≡ free_count records + ones (is_free value) = sum_by-set (λ (r : Record). cond (is_free r) 1 0) records slot value Free below in
+        let was = are.free_is in omega arith;
+  }
+
+  pub counted_last : length records < length numbers → count ≡ free + ones (is_free value) → AreCounted (slice_set numbers (length records) (Some (number_of value))) count (records ++ value ∷ [])
+  counted_last below sum = record {
+    each = λ k lt. elim (cases_eq k (length records)) [
+      | inl same ↦ subst (λ (i : ℕ). number_at (slice_set numbers (length records) (Some (number_of value))) i ≡ Some (number_of (record_in (records ++ value ∷ []) i))) (sym same)
+          (get_or-set_same numbers (length records) (Some (number_of value)) None below ∙ ap (λ (r : Record). Some (number_of r)) (sym (get_or-append_seam records value [] Free)))
+      | inr ne ↦ let low : k < length records = let long = length-append records (value ∷ []) in omega arith in
+          get_or-set_other numbers (length records) k (Some (number_of value)) None ne ∙ are.each k low ∙ ap (λ (r : Record). Some (number_of r)) (sym (get_or-append records (value ∷ []) Free k low))
+    ];
+    free_is = let step : free_count (records ++ value ∷ []) ≡ free_count records + (0 + ones (is_free value)) = sum_by-append (λ (r : Record). cond (is_free r) 1 0) records (value ∷ []) in
+        let was = are.free_is in omega arith;
+  }
+
+-- as the code has it, where the last record is put into the index
+pub counted_more : (numbers : List (Option ℕ)) (free : ℕ) (entries next : List (ℕ × Record)) (n : ℕ) (value : Record) (after : List (Option ℕ)) (number count : ℕ) (is : Bool)
+    → AreCounted numbers free (values_of entries) → length (values_of entries) ≡ n → n < length numbers → number ≡ number_of value → after ≡ slice_set numbers n (Some number)
+    → is ≡ is_free value → count + ones false ≡ free + ones is → next ≡ entries ++ (n, value) ∷ [] → AreCounted after count (values_of next)
+counted_more numbers free entries next n value after number count is are long below number_is after_is is_is sum e =
+    subst (λ (l : List Record). AreCounted after count l) (sym (ap values_of e ∙ values_push entries n value))
+    (subst (λ (l : List (Option ℕ)). AreCounted l count (values_of entries ++ value ∷ []))
+    (ap (λ (k : ℕ). slice_set numbers k (Some (number_of value))) long ∙ ap (λ (k : ℕ). slice_set numbers n (Some k)) (sym number_is) ∙ sym after_is)
+    (counted_last numbers free (values_of entries) are value count (omega arith) (let flag : ones is ≡ ones (is_free value) = ap ones is_is in let none : ones false ≡ 0 = refl in omega arith)))
+
+pub none_counted_yet : (numbers : List (Option ℕ)) → AreCounted numbers 0 []
+none_counted_yet numbers = record { each = λ slot lt. let no_way : ⊥ = omega arith in absurd no_way; free_is = refl }

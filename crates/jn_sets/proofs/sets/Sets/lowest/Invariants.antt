@@ -1,0 +1,13 @@
+use Rattle.std.proofs.Common.{◌≡◌, ◌<◌, ◌≤◌, ◌-◌, ℕ, false, length}
+use Rattle.std.specs.Map.{values_of}
+use Rattle.jn_sets.specs.Pool.{is_wanted, record_in}
+use Rattle.jn_sets.proofs.sets.Sets.lowest.Given as goal
+
+abbrev pub invariant-loop-slot : goal.invariant-loop-slot
+invariant-loop-slot l = record {
+  within : l.from ≤ length (values_of l.self-inside.index.entries);
+  none_yet : (k : ℕ) → k < l.from → is_wanted l.wanted (record_in (values_of l.self-inside.index.entries) k) ≡ false;
+}
+
+abbrev pub decreases-loop-slot : goal.decreases-loop-slot
+decreases-loop-slot l = length (values_of l.self-inside.index.entries) - l.from

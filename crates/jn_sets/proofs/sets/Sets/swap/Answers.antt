@@ -1,0 +1,53 @@
+use Rattle.std.proofs.Common.{◌≡◌, ◌<◌, ℕ, List, Option, Some, length, sym, ◌∙◌, ap, subst, arith}
+use Rattle.std.proofs.lemmas.List.{length-set}
+use Rattle.std.proofs.lemmas.Option.{get_or_from_slice_get}
+use Rattle.std.specs.Map.{values_of}
+use Rattle.std.specs.Prelude.{slice_set}
+use Rattle.jn_records.specs.declared.record.Record.{Record}
+use Rattle.jn_records.specs.declared.record.Record.TheVariants.{Free}
+use Rattle.jn_records.specs.Records.{has_page}
+use Rattle.jn_sets.specs.Pool.{record_in, number_of, is_free}
+use Rattle.jn_sets.specs.Sets.{AreCounted, ones}
+use Rattle.jn_sets.proofs.Slots.{values_set}
+use Rattle.jn_sets.proofs.Stored.{index_set}
+use Rattle.jn_sets.proofs.Numbering.{counted_set, some_free}
+use Rattle.jn_sets.proofs.sets.Sets.swap.Goals as goal
+
+pub recount-self-inside-requires-clause-some : goal.recount-self-inside-requires-clause-some
+recount-self-inside-requires-clause-some c free =
+    let records = values_of c.self.inside.index.entries in
+    let below : c.args.slot < length records = subst (λ (l : List Record). c.args.slot < length l) (sym c.self.view_is) c.requires.slot in
+    let taken : c.replace-old.result ≡ record_in records c.args.slot = c.replace-old.ensures.value ∙ sym (get_or_from_slice_get records c.args.slot c.index_mut.result.now Free c.index_mut.ensures.value) in
+    let some = some_free records c.args.slot below (ap is_free (sym taken) ∙ sym c.is_free.ensures ∙ free) in
+    let count = c.self.invariant.counted.free_is in
+    omega arith
+
+pub invariant_of-self : goal.invariant_of-self
+invariant_of-self c =
+    let records = values_of c.self.inside.index.entries in
+    let below : c.args.slot < length records = subst (λ (l : List Record). c.args.slot < length l) (sym c.self.view_is) c.requires.slot in
+    let taken : c.replace-old.result ≡ record_in records c.args.slot = c.replace-old.ensures.value ∙ sym (get_or_from_slice_get records c.args.slot c.index_mut.result.now Free c.index_mut.ensures.value) in
+    let value = c.replace-old.new.dest in
+    let is : value ≡ c.args.value = c.replace-old.ensures.after in
+    let numbers : c.set.new.self ≡ slice_set c.self.inside.numbers c.args.slot (Some (number_of value)) = c.set.ensures ∙ ap (λ (n : ℕ). slice_set c.self.inside.numbers c.args.slot (Some n)) (c.number_of.ensures ∙ ap number_of (sym is)) in
+    let was : ones c.is_free.result ≡ ones (is_free (record_in records c.args.slot)) = ap ones (c.is_free.ensures ∙ ap is_free taken) in
+    let now : ones c.is_free-is.result ≡ ones (is_free value) = ap ones (c.is_free-is.ensures ∙ ap is_free (sym is)) in
+    let count = c.recount-self-inside.ensures in
+    let values = values_set c.self.inside.index.entries c.args.slot value in
+    record {
+      index = index_set c.self.inside.index.entries c.args.slot value c.self.invariant.index below (ap has_page is ∙ c.requires.page);
+      slots = ap length numbers ∙ length-set c.self.inside.numbers c.args.slot (Some (number_of value)) ∙ c.self.invariant.slots ∙ sym (ap length values ∙ length-set records c.args.slot value);
+      counted = subst (λ (l : List Record). AreCounted c.set.new.self c.recount-self-inside.result l) (sym values)
+          (subst (λ (l : List (Option ℕ)). AreCounted l c.recount-self-inside.result (slice_set records c.args.slot value)) (sym numbers)
+          (counted_set c.self.inside.numbers c.self.inside.free records c.self.invariant.counted value c.recount-self-inside.result c.args.slot below c.self.invariant.slots (omega arith)));
+    }
+
+pub returns-clause-taken : goal.returns-clause-taken
+returns-clause-taken c = c.replace-old.ensures.value ∙ sym (get_or_from_slice_get _ c.args.slot _ Free c.index_mut.ensures.value) ∙ ap (λ (l : List Record). record_in l c.args.slot) c.self.view_is
+
+pub returns-clause-page : goal.returns-clause-page
+returns-clause-page c = ap has_page (c.replace-old.ensures.value ∙ sym (get_or_from_slice_get _ c.args.slot _ Free c.index_mut.ensures.value)) ∙ c.self.invariant.index.pages c.args.slot
+
+pub returns-clause-left : goal.returns-clause-left
+returns-clause-left c = values_set c.self.inside.index.entries c.args.slot c.replace-old.new.dest
+    ∙ ap (λ (l : List Record). slice_set l c.args.slot c.replace-old.new.dest) c.self.view_is ∙ ap (slice_set c.args.self.now c.args.slot) c.replace-old.ensures.after
