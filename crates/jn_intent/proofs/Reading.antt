@@ -100,3 +100,9 @@ read_now m v w kept serving f p answer got unasked asked stop = read_seen m v w 
     served : (b : Bool) → is_mapped m.table.heads f p.0 ≡ b → is_ok answer ≡ true → IsServed v w
     served true e is = asked e (ok answer is)
     served false e is = let at = (unasked e).1 in record { power = ap (λ (s : StoreView). s.power) at ∙ serving.power; stops = ap (λ (s : StoreView). s.stops) at }
+
+-- and the storage is as it was
+pub unasked_now : (m : Memory) (v w : StoreView) → IsKept m v → IsServing (view_of m v) → (f : FileNo) (p : BlockNo) (answer : Result (Option (List ℕ)) Stopped)
+    → (is_mapped m.table.heads f p.0 ≡ false → (answer ≡ Ok None) × (w ≡ v)) → (state (view_of m v)).files (Block f p) ≡ None → (answer ≡ Ok None) × (view_of m w ≡ view_of m v)
+unasked_now m v w kept serving f p answer unasked none =
+    let h = unasked (mapped_seen m v kept serving f p ∙ ap (λ o. is_some o) none) in (h.0, ap (view_of m) h.1)

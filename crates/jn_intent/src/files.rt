@@ -1,8 +1,12 @@
 //! The files of a storage.
+ghost use Rattle.std.specs.Prelude.{◌≡◌, ◌<◌, Ok, None};
+ghost use Rattle.jn_base.specs.declared.names.LockUnit.TheVariants.{Block as BlockUnit};
+ghost use Rattle.jn_storage.specs.Storage.{IsServing};
+ghost use Rattle.jn_storage.specs.Calls.{state, BlockRead};
 
 use crate::Intents;
 use jn_base::{Block, BlockNo, FileNo, Stopped};
-use jn_storage::StoredFiles;
+use jn_storage::{Storage, StoredFiles};
 use jn_store::StableStore;
 
 impl<S: StableStore> StoredFiles for Intents<S> {
@@ -18,7 +22,13 @@ impl<S: StableStore> StoredFiles for Intents<S> {
         self.table.mapped(f, p)
     }
 
-    fn read_block(&mut self, f: FileNo, p: BlockNo) -> Result<Option<Block>, Stopped> {
+    /// A block that isn't stored is told without a device call.
+    fn read_block(&mut self, f: FileNo, p: BlockNo) -> Result<Option<Block>, Stopped>
+        requires serving { IsServing (⟦<Intents<S> as Storage>⟧.view self.old) }
+        requires range { p.0 < 120 }
+        ensures read { BlockRead (⟦<Intents<S> as Storage>⟧.view self.old) f p result (⟦<Intents<S> as Storage>⟧.view self.new) }
+        ensures unasked { (state (⟦<Intents<S> as Storage>⟧.view self.old)).files (BlockUnit f p) ≡ None → (result ≡ Ok None) × (⟦<Intents<S> as Storage>⟧.view self.new ≡ ⟦<Intents<S> as Storage>⟧.view self.old) }
+    {
         self.table.read_block(&mut self.store, f, p)
     }
 }
