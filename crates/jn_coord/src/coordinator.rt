@@ -1,4 +1,5 @@
-//! A coordinator: what it does with each message.
+//! A coordinator: what it does with each message. A private call for a transaction that its caller has found does nothing
+//! where it isn't there, which never happens: its contract speaks of the transaction alone.
 
 ghost use Rattle.std.specs.Prelude.{◌≡◌, true, false, ◌≤◌, ◌<◌, ◌+◌, ◌-◌, ◌++◌, [], ◌∷◌, length, Option, Some, None, is_some, IfErr, OnOk, OnErr};
 ghost use Rattle.std.specs.Option.{option_copied};

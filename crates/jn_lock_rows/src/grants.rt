@@ -44,6 +44,7 @@ fn told_as(works: &[Work], fault: LockFault) -> Refused
     match fault {
         LockFault::Conflict(c) => match work_at(works, c.holder) {
             Some(work) => Refused::Held(c.unit, work.tid),
+            // Never: each holder that a lock table names is among the works.
             None => Refused::Memory,
         },
         LockFault::Memory => Refused::Memory,
@@ -115,6 +116,7 @@ pub fn test_storing(locks: &LockTable, works: &[Work], name: WorkId) -> Option<(
         Ok(()) => None,
         Err(fault) => match told_as(works, fault) {
             Refused::Held(unit, tid) => Some((unit, tid)),
+            // Never: the test wants no memory.
             Refused::Memory => None,
         },
     }

@@ -39,7 +39,8 @@ impl Granted {
 
 /// Which work holds which unit in which mode, and how each work stands that is known. No two works hold modes that don't go
 /// together. A work is known from its first granted request, which may want nothing, or its rebuild, until it is released
-/// or broken.
+/// or broken. One that isn't known can't be made vulnerable: it doesn't give way once it is known. So its users ask for
+/// nothing where a work begins.
 #[derive(Drop)]
 pub struct LockTable {
     held: Held,

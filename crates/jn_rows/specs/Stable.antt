@@ -22,7 +22,8 @@ pub record Prepared : Type 0 where
   -- whether its transaction is known to have committed
   pub going : Bool
 
--- a committed transaction whose works aren't all told: its client, the request that ended it, its works
+-- a committed transaction, until every work of it is done and its client knows the outcome: its client, the request that
+-- ended it, its works
 pub record FlagState : Type 0 where
   pub client : ClientNo
   pub request : ℕ

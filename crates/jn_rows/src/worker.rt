@@ -21,7 +21,8 @@ pub enum Phase {
     Prepared(PreparedWork),
 }
 
-/// A work that takes operations. It holds its read units for reading and its write units for intention-write.
+/// A work that takes operations. It holds its read units for reading and its write units for intention-write. Every
+/// operation reads its file, so the read units have the files that it writes to, too.
 #[derive(Drop)]
 pub struct ActiveWork {
     pub list: NetList,

@@ -110,7 +110,7 @@ pub trait FlagStore: Storage {
         requires may { MayPutFlag (Self.view self.old) flag.now }
         ensures put { FlagPut (Self.view self.old) flag.now (is_ok result) (Self.view self.new) };
 
-    /// Drops a flag: all works of its transaction have been told.
+    /// Drops a flag: every work of its transaction is done, and its client knows the outcome.
     fn drop_flag(&mut self, t: Tid) -> Result<(), Stopped>
         requires serving { IsServing (Self.view self.old) }
         requires live { HasFlag (Self.view self.old) t }

@@ -151,7 +151,7 @@ carry_made t v w before k W T l h locks compatible going s = by (next_of v W) re
     by : (o : Option Intention) → next_of v W ≡ o → Takes 40 (carried_row t.table k (new_work W T) o) t v before k (Ok (tt {0})) t w before k
     by None n = absurd (wrong (s.none_left n).0)
     by (Some i) n = one_made (tt {0}) _ t t v w before before k k (CarryOut W i) 40 refl (omega arith) s.called (s.carried i n) refl (sym (append-nil before.messages)) (sym (append-nil before.notes)) refl
-        (fits_carried t v w l W i h locks compatible going n s) (tickets_carried t.table v w W i k n s) (counts_on W i v.accounts w.accounts (s.done (ap is_some n) refl).1)
+        (fits_carried t v w l W i h locks compatible going n s) (tickets_carried t.table v w W i k n s) (counts_on (state v) W i v.accounts w.accounts (s.done (ap is_some n) refl).1)
 
 -- nothing is left, and nothing has happened
 pub nothing_left : (v w : StorageView) (W : WorkId) → StepApplied v W (Ok false) w → (next_of v W ≡ None) × (w ≡ v)
@@ -203,4 +203,4 @@ over_made t ws left gs others v x w before after k W T e h rising live s m less 
     by : WorkRemoved v W true w → Fits (record { table = ws; going = gs }) v → is_some (work_at W ws) ≡ true → Takes 40 (carried_row ws k (new_work W T) None) (record { table = ws; going = gs }) v before k (Ok (tt {0})) (record { table = left; going = others }) w after k
     by m h live = one_made (tt {0}) _ (record { table = ws; going = gs }) _ v w before after k k (RemoveWork W) 16 refl (omega arith) m.called m.change less sent (notes ∙ sym (append-nil before.notes)) refl
         (subst (λ l. Fits (record { table = l; going = others }) w) (sym less) (fits_removed (record { table = ws; going = gs }) v w W others h rising (λ V. ap (λ l. is_in work_eq V l) fewer ∙ in-less W V gs) m))
-        (λ f. subst (λ l. TicketsFit l w k) (sym less) (tickets_removed ws v w W k live m f)) (counts_off W v.accounts w.accounts (m.accounts refl))
+        (λ f. subst (λ l. TicketsFit l w k) (sym less) (tickets_removed ws v w W k live m f)) (counts_off (state v) W v.accounts w.accounts (m.accounts refl))

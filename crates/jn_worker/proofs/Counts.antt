@@ -1,6 +1,6 @@
 -- What a row's changes leave of the accounts.
 use Rattle.std.proofs.Common.{◌≡◌, ℕ, Bool, true, false, List, [], ◌∷◌, length, Option, Some, None, if◌then◌else◌, refl, sym, ◌∙◌, ap, subst, arith, inl, inr}
-use Rattle.std.specs.Prelude.{not, ◌⊎◌, ◌||◌}
+use Rattle.std.specs.Prelude.{not, ◌+◌, ◌⊎◌, ◌||◌}
 use Rattle.std.proofs.Math.Path.{fun_ext}
 use Rattle.jn_base.specs.declared.names.LockUnit.{LockUnit}
 use Rattle.jn_base.specs.declared.names.Tid.{Tid}
@@ -12,13 +12,13 @@ use Rattle.jn_records.specs.declared.net_list.Need.{Need}
 use Rattle.jn_records.specs.declared.work.WorkHead.{WorkHead}
 use Rattle.jn_rows.specs.declared.worker.ActiveWork.{ActiveWork}
 use Rattle.jn_rows.specs.declared.worker.Phase.TheVariants.{Active}
-use Rattle.jn_rows.specs.Stable.{Change, Prepared, AddReady, CarryOut, RemoveWork, next_after}
+use Rattle.jn_rows.specs.Stable.{Change, StableState, Prepared, AddReady, CarryOut, RemoveWork, next_after}
 use Rattle.jn_lock_rows.specs.Calls.{IsActive}
 use Rattle.jn_storage.specs.Listing.{is_in}
-use Rattle.jn_storage.specs.Storage.{Accounts, StorageView, intentions}
+use Rattle.jn_storage.specs.Storage.{Accounts, StorageView, intentions, list_of}
 use Rattle.jn_storage.specs.Calls.{state, with_work, CountsOn, CountsOff, CountsErased}
 use Rattle.jn_worker.specs.Fitting.{is_none, WorkerView, Fits, WorkFits, PhaseFits}
-use Rattle.jn_worker.specs.Calls.{CountsBy}
+use Rattle.jn_worker.specs.Calls.{CountsBy, left_by}
 
 pub filled : {c : Change} {cs : List Change} → c ∷ cs ≡ [] → ⊥
 filled e = cc e
@@ -27,15 +27,26 @@ pub no_changes : (changes : List Change) → not (is_none changes) ≡ false →
 no_changes [] e = refl
 no_changes (c ∷ changes) e = cc e
 
+first-same : (d c : Change) → d ∷ [] ≡ c ∷ [] → d ≡ c
+first-same d c e = cc e
+
+-- the only change
+pub left_only : (x : StableState) (d c : Change) → d ∷ [] ≡ c ∷ [] → left_by x c ≡ left_by x d
+left_only x d c e = ap (λ (y : Change). left_by x y) (sym (first-same d c e))
+
+none-left : (a b : List WorkId) (n : ℕ) → b ≡ a → n ≡ 0 → length b ≡ length a + n
+none-left a b n is zero = omega (arith, ap (λ (l : List WorkId). length l) is, zero)
+
 -- the accounts are as they were, and no intention is counted
-pub counts_same : (changes : List Change) (a b : Accounts) → b ≡ a → next_after changes a.next ≡ a.next → CountsBy changes a b
-counts_same changes a b is next = record { promised_records = ap (λ (x : Accounts). x.promised_records) is; next = ap (λ (x : Accounts). x.next) is ∙ sym next; rubbish = λ n h. inl (ap (λ (x : Accounts). is_in work_eq n x.rubbish) (sym is) ∙ h) }
+pub counts_same : (x : StableState) (changes : List Change) (a b : Accounts) → b ≡ a → next_after changes a.next ≡ a.next → ((c : Change) → changes ≡ c ∷ [] → left_by x c ≡ 0) → CountsBy x changes a b
+counts_same x changes a b is next left = record { rubbish_more = λ c e. none-left a.rubbish b.rubbish (left_by x c) (ap (λ (x : Accounts). x.rubbish) is) (left c e); promised_records = ap (λ (x : Accounts). x.promised_records) is; next = ap (λ (x : Accounts). x.next) is ∙ sym next; rubbish = λ n h. inl (ap (λ (x : Accounts). is_in work_eq n x.rubbish) (sym is) ∙ h) }
 
-pub counts_kept : (changes : List Change) (a : Accounts) → changes ≡ [] → CountsBy changes a a
-counts_kept changes a none = counts_same changes a a refl (ap (λ cs. next_after cs a.next) none)
+pub counts_kept : (x : StableState) (changes : List Change) (a : Accounts) → changes ≡ [] → CountsBy x changes a a
+counts_kept x changes a none = counts_same x changes a a refl (ap (λ cs. next_after cs a.next) none) (λ c e. absurd (filled (sym e ∙ none)))
 
-pub counts_ready : (head : WorkHead) (list : List Intention) (reads : List LockUnit) (need : Need) (a b : Accounts) → a.next head.work ≡ 0 → b ≡ with_work a head.work need → CountsBy (AddReady head list reads ∷ []) a b
-counts_ready head list reads need a b zero is = record {
+pub counts_ready : (x : StableState) (head : WorkHead) (list : List Intention) (reads : List LockUnit) (need : Need) (a b : Accounts) → a.next head.work ≡ 0 → b ≡ with_work a head.work need → CountsBy x (AddReady head list reads ∷ []) a b
+counts_ready x head list reads need a b zero is = record {
+  rubbish_more = λ c e. none-left a.rubbish b.rubbish (left_by x c) (ap (λ (x : Accounts). x.rubbish) is) (left_only x (AddReady head list reads) c e);
   promised_records = ap (λ (x : Accounts). x.promised_records) is;
   next = ap (λ (x : Accounts). x.next) is ∙ fun_ext (λ V. by V (work_eq head.work V) refl);
   rubbish = λ n h. inl (ap (λ (x : Accounts). is_in work_eq n x.rubbish) (sym is) ∙ h);
@@ -54,15 +65,15 @@ none_carried t v T W a h i = let few = h.serving.next_fits W in
     none None f = refl
     none (Some p) f = absurd f
 
-pub counts_on : (W : WorkId) (i : Intention) (a b : Accounts) → CountsOn a W b → CountsBy (CarryOut W i ∷ []) a b
-counts_on W i a b c = record { promised_records = c.promised_records; next = c.next; rubbish = λ n h. inl (ap (λ r. is_in work_eq n r) (sym c.rubbish) ∙ h) }
+pub counts_on : (x : StableState) (W : WorkId) (i : Intention) (a b : Accounts) → CountsOn a W b → CountsBy x (CarryOut W i ∷ []) a b
+counts_on x W i a b c = record { rubbish_more = λ d e. none-left a.rubbish b.rubbish (left_by x d) c.rubbish (left_only x (CarryOut W i) d e); promised_records = c.promised_records; next = c.next; rubbish = λ n h. inl (ap (λ r. is_in work_eq n r) (sym c.rubbish) ∙ h) }
 
-pub counts_off : (W : WorkId) (a b : Accounts) {n : ℕ} → CountsOff a W n b → CountsBy (RemoveWork W ∷ []) a b
-counts_off W a b c = record { promised_records = c.promised_records; next = c.next; rubbish = λ n h. by (work_eq W n) (is_in work_eq n a.rubbish) (c.rubbish_names n h) }
+pub counts_off : (x : StableState) (W : WorkId) (a b : Accounts) → CountsOff a W (length (list_of x W)) b → CountsBy x (RemoveWork W ∷ []) a b
+counts_off x W a b c = record { rubbish_more = λ d e. c.rubbish_more ∙ ap (λ n. length a.rubbish + n) (sym (left_only x (RemoveWork W) d e)); promised_records = c.promised_records; next = c.next; rubbish = λ n h. by (work_eq W n) (is_in work_eq n a.rubbish) (c.rubbish_names n h) }
   where
     by : (x y : Bool) → (x || y) ≡ true → (y ≡ true) ⊎ ((x || false) ≡ true)
     by true y h = inr refl
     by false y h = inl h
 
-pub counts_erased : (a b : Accounts) → CountsErased a b → CountsBy [] a b
-counts_erased a b c = record { promised_records = ap (λ (x : Accounts). x.promised_records) c.others; next = ap (λ (x : Accounts). x.next) c.others; rubbish = λ n h. inl (c.rubbish_names n h) }
+pub counts_erased : (x : StableState) (a b : Accounts) → CountsErased a b → CountsBy x [] a b
+counts_erased x a b c = record { rubbish_more = λ d e. absurd (filled (sym e)); promised_records = ap (λ (x : Accounts). x.promised_records) c.others; next = ap (λ (x : Accounts). x.next) c.others; rubbish = λ n h. inl (c.rubbish_names n h) }

@@ -16,11 +16,11 @@ use Rattle.jn_rows.specs.Stable.{MarkGoing, RemoveWork, is_going}
 use Rattle.jn_rows.specs.Worker.{WorkerTable, WorkStorage, work_at, commit_row, commit_phase, drop_row, drop_phase, without}
 use Rattle.jn_storage.specs.Listing.{is_in}
 use Rattle.jn_storage.specs.Storage.{StorageView}
-use Rattle.jn_storage.specs.Calls.{MarkedGoing, WorkRemoved}
+use Rattle.jn_storage.specs.Calls.{state, MarkedGoing, WorkRemoved}
 use Rattle.jn_worker.specs.Fitting.{WorkerView, Fits, is_stored, seen}
 use Rattle.jn_worker.specs.Calls.{Takes}
 use Rattle.jn_lock_rows.specs.Matching.{are_rising}
-use Rattle.jn_worker.proofs.Counts.{counts_same, counts_off, filled}
+use Rattle.jn_worker.proofs.Counts.{counts_same, counts_off, left_only, filled}
 use Rattle.jn_worker.proofs.Exits.{without_change, one_made}
 use Rattle.jn_worker.proofs.Fit.{ready_here, fits_marked, tickets_marked, fits_let_go, tickets_let_go, fits_removed, tickets_removed}
 
@@ -39,7 +39,7 @@ made_going : (t : WorkerView) (v w : StorageView) (before : Collected) (k : Tick
 made_going t v w before k T W work h at stored out m = subst (λ row. Takes 16 row t v before k (Ok (tt {0})) (record { table = t.table; going = t.going ++ W ∷ [] }) w before k)
     (sym (marks t.table (seen v) k T W (work_at W t.table) work at stored (sym (h.going W) ∙ out)))
     (one_made (tt {0}) _ t _ v w before before k k (MarkGoing W) 16 refl (omega arith) m.called m.change refl (sym (append-nil before.messages)) (sym (append-nil before.notes)) refl
-    (fits_marked t v w W h (ready_here t v W work h at stored out) m) (tickets_marked t.table v w W k m) (counts_same (MarkGoing W ∷ []) v.accounts w.accounts (m.accounts refl) refl))
+    (fits_marked t v w W h (ready_here t v W work h at stored out) m) (tickets_marked t.table v w W k m) (counts_same (state v) (MarkGoing W ∷ []) v.accounts w.accounts (m.accounts refl) refl (left_only (state v) (MarkGoing W))))
 
 pub commit_made : (t : WorkerView) (ws : List Work) (gs more : List WorkId) (v w : StorageView) (before : Collected) (k : Tickets) (T : Tid) (W : WorkId) (work : Work) → record { table = ws; going = gs } ≡ t → Fits t v → work_at W ws ≡ Some work
     → is_stored work.phase ≡ true → is_in work_eq W gs ≡ false → MarkedGoing v W true w → more ≡ gs ++ W ∷ [] → Takes 16 (commit_row t.table (seen v) k T W (work_at W t.table)) t v before k (Ok (tt {0})) (record { table = ws; going = more }) w before k
@@ -77,7 +77,7 @@ removes : (t : WorkerView) (v w : StorageView) (before : Collected) (k : Tickets
 removes t v w before k W work h rising at stored out m = subst (λ row. Takes 16 row t v before k (Ok (tt {0})) (record { table = without W t.table; going = t.going }) w before k)
     (sym (drops t.table (seen v) k W (work_at W t.table) work at stored (sym (h.going W) ∙ out)))
     (one_made (tt {0}) _ t _ v w before before k k (RemoveWork W) 16 refl (omega arith) m.called m.change refl (sym (append-nil before.messages)) (sym (append-nil before.notes)) refl
-    (fits_removed t v w W t.going h rising (λ V. others V (work_eq W V) refl) m) (tickets_removed t.table v w W k (ap is_some at) m) (counts_off W v.accounts w.accounts (m.accounts refl)))
+    (fits_removed t v w W t.going h rising (λ V. others V (work_eq W V) refl) m) (tickets_removed t.table v w W k (ap is_some at) m) (counts_off (state v) W v.accounts w.accounts (m.accounts refl)))
   where
     others : (V : WorkId) (b : Bool) → work_eq W V ≡ b → is_in work_eq V t.going ≡ (is_in work_eq V t.going && not b)
     others V true e = subst (λ U. is_in work_eq U t.going ≡ (is_in work_eq U t.going && false)) (same e) (grind (arith, out))

@@ -46,7 +46,7 @@ without_change {most = most} x row t u v before after k l none table messages no
   silent = λ e. absurd (cc e);
   fits = λ _. fits;
   tickets_fit = λ _. still;
-  counts = λ _. counts_kept row.changes v.accounts none;
+  counts = λ _. counts_kept (state v) row.changes v.accounts none;
 }
 
 pub called-within : {most : ℕ} (v w : StorageView) (n : ℕ) (ok : Bool) → n ≤ most → Called v n ok w → Called v most ok w
@@ -95,7 +95,7 @@ one_untold row t u v w before after k l change n one le called changed = record 
 -- the row's one change is made
 pub one_made : {A : Type 0} {most : ℕ} (x : A) (row : RowOutcome WorkerTable) (t u : WorkerView) (v w : StorageView) (before after : Collected) (k l : Tickets) (change : Change) (n : ℕ) → row.changes ≡ change ∷ [] → n ≤ most
     → Called v n true w → Changed (state v) change true w.found → u.table ≡ row.table → after.messages ≡ before.messages ++ row.messages → after.notes ≡ before.notes ++ row.notes → l ≡ row.tickets
-    → Fits u w → (TicketsFit t.table v k → TicketsFit u.table w l) → CountsBy (change ∷ []) v.accounts w.accounts → Takes most row t v before k (Ok x) u w after l
+    → Fits u w → (TicketsFit t.table v k → TicketsFit u.table w l) → CountsBy (state v) (change ∷ []) v.accounts w.accounts → Takes most row t v before k (Ok x) u w after l
 one_made x row t u v w before after k l change n one le called changed table messages notes tickets fits still counts = record {
   performs = record {
     changes = subst (λ changes. ChangedAll (state v) changes true w.found) (sym one) (record { done = λ _ c. changed.done refl c; stop = λ e. absurd (cc e) });
@@ -108,7 +108,7 @@ one_made x row t u v w before after k l change n one le called changed table mes
   silent = λ e. absurd (cc e);
   fits = λ _. fits;
   tickets_fit = λ _. still;
-  counts = λ _. subst (λ changes. CountsBy changes v.accounts w.accounts) (sym one) counts;
+  counts = λ _. subst (λ changes. CountsBy (state v) changes v.accounts w.accounts) (sym one) counts;
 }
 
 -- the fault that a call hands on

@@ -203,7 +203,7 @@ read_on x row t u v w before after k l asks serving h o = record {
   silent = λ e. absurd (cc e);
   fits = λ e. fits_erased u v w (h.fits e) o.called (o.unchanged (λ n. false)) (same-state v w asks o);
   tickets_fit = λ e f. tickets_erased u.table v w l o.called (o.unchanged (λ n. false)) (same-state v w asks o) (h.tickets_fit e f);
-  counts = λ e. subst (λ b. CountsBy row.changes v.accounts b) (sym (o.same refl)) (h.counts e);
+  counts = λ e. subst (λ b. CountsBy (state v) row.changes v.accounts b) (sym (o.same refl)) (h.counts e);
 }
 
 pub read_failed : (A : Type 0) {B : Type 0} (answer : Result B WorkerFault) (f : WorkerFault) (row : RowOutcome WorkerTable) (t u : WorkerView) (v w : StorageView) (before after : Collected) (k l : Tickets) (asks : Bool) → answer ≡ Err f → OnlyReads asks v (not (has_stopped {A = A} (Err f))) w → (has_stopped {A = A} (Err f) ≡ true → after ≡ before)

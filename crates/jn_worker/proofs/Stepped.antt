@@ -100,7 +100,7 @@ erase_made t v w before k answer b is h none r = subst (λ row. Steps row t v be
         silent = λ e. absurd (cc e);
         fits = λ _. fits_erased t v w h r.called (r.unchanged (λ n. false)) erased.1.rubbish_names;
         tickets_fit = λ _. tickets_erased t.table v w k r.called (r.unchanged (λ n. false)) erased.1.rubbish_names;
-        counts = λ _. counts_erased v.accounts w.accounts erased.1;
+        counts = λ _. counts_erased (state v) v.accounts w.accounts erased.1;
       },
       λ _. ap new_answer (ap told erased.0),
       λ _ _. erased.1,

@@ -1,5 +1,5 @@
 -- What the calls of a worker do.
-use Rattle.std.specs.Prelude.{◌≡◌, ◌⊎◌, ℕ, Bool, true, false, not, ◌||◌, if◌then◌else◌, List, [], ◌∷◌, ◌++◌, Option, Some, None, Result, Ok, Err, is_ok}
+use Rattle.std.specs.Prelude.{◌≡◌, ◌⊎◌, ◌+◌, length, ℕ, Bool, true, false, not, ◌||◌, if◌then◌else◌, List, [], ◌∷◌, ◌++◌, Option, Some, None, Result, Ok, Err, is_ok}
 use Rattle.jn_base.specs.declared.names.Tickets.{Tickets}
 use Rattle.jn_base.specs.declared.names.Party.TheVariants.{Server}
 use Rattle.jn_base.specs.declared.names.ClientNo.{ClientNo}
@@ -26,10 +26,10 @@ use Rattle.jn_storage.specs.declared.faults.PrepareFault.TheVariants.{Records, P
 use Rattle.jn_storage.specs.declared.faults.ViewFault.{ViewFault}
 use Rattle.jn_storage.specs.declared.faults.ViewFault.TheVariants.{Stopped as NotSeen, Memory as NoBytes}
 use Rattle.jn_rows.specs.Outcomes.{RowOutcome, Sent, Performs}
-use Rattle.jn_rows.specs.Stable.{Change, RemoveWork, next_after}
+use Rattle.jn_rows.specs.Stable.{Change, RemoveWork, StableState, next_after}
 use Rattle.jn_rows.specs.Worker.{WorkerTable, worker_again, timeout_row, with_phase, after_grant, break_notes, commit_wants, conflict, locked, counted, done, wants_of, is_fit, refusal_of as refusal_of_row}
 use Rattle.jn_storage.specs.Listing.{is_in}
-use Rattle.jn_storage.specs.Storage.{Accounts, StorageView}
+use Rattle.jn_storage.specs.Storage.{Accounts, StorageView, list_of}
 use Rattle.jn_storage.specs.Calls.{state, Called, CountsErased}
 use Rattle.jn_worker.specs.declared.words.WorkerFault.{WorkerFault}
 use Rattle.jn_worker.specs.declared.words.WorkerFault.TheVariants.{Stopped, Memory}
@@ -50,12 +50,19 @@ is_removed n [] = false
 is_removed n (RemoveWork W ∷ changes) = work_eq W n || is_removed n changes
 is_removed n (c ∷ changes) = is_removed n changes
 
--- what a row's changes leave of the accounts: the promises for flags stand, it is counted which intentions are carried
--- out, and only a work that is removed leaves rubbish
-pub record CountsBy (changes : List Change) (a b : Accounts) : Type 0 where
+-- how many records a change leaves as rubbish: those of a removed work's intentions
+abbrev pub left_by : StableState → Change → ℕ
+left_by x (RemoveWork W) = length (list_of x W)
+left_by x c = 0
+
+-- What a row's changes leave of the accounts: the promises for flags stand, it is counted which intentions are carried
+-- out, and only a work that is removed leaves rubbish. A row has one change at most; where it has none, the rubbish is as
+-- it was, or one record less after a step.
+pub record CountsBy (x : StableState) (changes : List Change) (a b : Accounts) : Type 0 where
   pub promised_records : b.promised_records ≡ a.promised_records
   pub next : b.next ≡ next_after changes a.next
   pub rubbish : (n : WorkId) → is_in work_eq n b.rubbish ≡ true → (is_in work_eq n a.rubbish ≡ true) ⊎ (is_removed n changes ≡ true)
+  pub rubbish_more : (c : Change) → changes ≡ c ∷ [] → length b.rubbish ≡ length a.rubbish + left_by x c
 
 -- A call whose row this is, with so many device calls at most. One that is stopped adds nothing to what its step sends
 -- and tells; one that has no memory has made some of the row's changes, from the first one on. While no call was stopped
@@ -66,7 +73,7 @@ pub record Takes {A : Type 0} (most : ℕ) (row : RowOutcome WorkerTable) (t : W
   pub silent : has_stopped answer ≡ true → after ≡ before
   pub fits : is_ok answer ≡ true → Fits u w
   pub tickets_fit : is_ok answer ≡ true → TicketsFit t.table v k → TicketsFit u.table w l
-  pub counts : is_ok answer ≡ true → CountsBy row.changes v.accounts w.accounts
+  pub counts : is_ok answer ≡ true → CountsBy (state v) row.changes v.accounts w.accounts
 
 -- the asking again of the works that aren't going, as a list of names has them
 abbrev pub asked_again : List WorkId → WorkerTable → List Sent

@@ -45,7 +45,6 @@ impl Worker {
         requires free { (T : Tid) (a : ActiveWork) → IsActive self.now.table T name a → rows.conflict name (rows.commit_wants a.writes) self.now.table ≡ None }
         ensures stored { (T : Tid) (a : ActiveWork) → IsActive self.now.table T name a → WorkPrepared (W.view store.old) (head_of name T client) a.list a.reads result (W.view store.new) }
     {
-        let _locks = &self.locks;
         let Some(work) = work_at(&self.works, name) else {
             unreachable!()
         };
@@ -102,7 +101,6 @@ impl Worker {
         ensures takes { (k : Tickets) → Takes 784 (rows.prepare_row self.old.table (seen (W.view store.old)) k tid client name (rows.work_at name self.old.table)) self.old (W.view store.old) out.old k result self.new (W.view store.new) out.new k }
         ensures kept { (k : Tickets) → (rows.prepare_row self.old.table (seen (W.view store.old)) k tid client name (rows.work_at name self.old.table)).changes ≡ [] → W.view store.new ≡ W.view store.old }
     {
-        let _locks = &self.locks;
         if let Some((unit, by)) = test_storing(&self.locks, &self.works, name) {
             let waiting = Vote::Waiting(unit, by);
             return Ok(out.send(Party::Server(tid.server), Message::Vote(tid, name, waiting))?);

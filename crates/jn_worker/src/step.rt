@@ -41,6 +41,7 @@ impl Worker {
         requires going { IsGoing (W.view store.old) name }
         ensures takes { (k : Tickets) → Takes 40 (rows.carried_row self.old.table k (rows.new_work name tid) (next_of (W.view store.old) name)) self.old (W.view store.old) out.old k result self.new (W.view store.new) out.new k }
     {
+        // For the proof alone: the worker's invariant is known from here on.
         let _locks = &self.locks;
         if store.apply_step(name)? {
             return Ok(());

@@ -2,8 +2,8 @@ use Rattle.jn_locks.specs.LockTables.{table}
 use Rattle.jn_worker.proofs.Restored.{zero_name, none_missing, rebuild_here, locks_here, restored_here}
 use Rattle.jn_worker.proofs.worker.Worker.add_restored.Goals as goal
 
-pub returns-in_default : goal.returns-in_default
-returns-in_default g c = absurd (none_missing _ _ _ c.args.i zero_name c.requires.names c.requires.within c.works.ensures c.in_default.ensures)
+pub unreachable-requires : goal.unreachable-requires
+unreachable-requires g c = absurd (none_missing _ _ _ c.args.i zero_name c.requires.names c.requires.within c.works.ensures c.in_default.ensures)
 
 pub rebuild-requires : goal.rebuild-requires
 rebuild-requires g c = rebuild_here _ c.args.names.now _ c.args.i _ _ c.self.inside.going.items (table c.self.inside.locks) _ c.in_ok-prepared.prepared _ _ c.requires.serving c.self.view_is c.requires.done c.self.invariant c.works.ensures c.in-Some.ensures
