@@ -495,18 +495,28 @@ impl World {
         requires open { (view_of self.old).fate ≡ Undecided }
         ensures moved { IfOk result (λ taken. Leads number (view_of self.old) lines.old.items (view_of self.new) lines.new.items) }
     {
-        match (self.client.waits_for(), self.client.transaction()) {
-            (Some(asked), Some(tid)) if is_ending(&asked.command) => {
-                match self.changes.shortage(&self.disk) {
-                    Some(short) => self.decide_abort(full(&short)),
-                    None => {
-                        self.commit(alloc, number, tid, lines)?;
-                        Ok(true)
-                    }
-                }
+        let Some(tid) = self.ending() else {
+            return Ok(false);
+        };
+        match self.changes.shortage(&self.disk) {
+            Some(short) => self.decide_abort(full(&short)),
+            None => {
+                self.commit(alloc, number, tid, lines)?;
+                Ok(true)
             }
-            _ => Ok(false),
         }
+    }
+
+    /// The client's transaction, where the client waits for its end or its abort.
+    fn ending(&self) -> Option<Tid>
+        ensures asked { IfSome result (λ tid. IsEnding (view_of self.now)) }
+        ensures current { IfSome result (λ tid. self.now.client.transaction ≡ Some tid) }
+    {
+        let asked = self.client.waits_for()?;
+        if !is_ending(&asked.command) {
+            return None;
+        }
+        self.client.transaction()
     }
 
     fn commit(
