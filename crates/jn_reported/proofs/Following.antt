@@ -320,8 +320,19 @@ module _ (out : Waited) (item : Item) (items : List Item) (r q : World) (event :
     within = AreWithin-append (r.event + 1) (r.event + 1 + length (item ∷ items)) here (lines_of items (after_item item r)) (AreWithin-wider (r.event + 1) (r.event + 1 + 1) (r.event + 1) (r.event + 1 + length (item ∷ items)) here (self (r.event + 1)) (high r.event (length items)) (texts-within (r.event + 1) (told_under item r)))
         (AreWithin-wider (r.event + 1 + 1) (r.event + 1 + length (item ∷ items)) (r.event + 1) (r.event + 1 + length (item ∷ items)) (lines_of items (after_item item r)) (up (r.event + 1)) (self (r.event + 1 + length (item ∷ items))) later-within);
     follows = by;
-    turn = (here, (lines_of items (after_item item r), (refl, (texts-within (r.event + 1) (told_under item r),
-        subst (λ n. AreInTurn (n + 1) (events_of items) (lines_of items (after_item item r))) event (subst (λ (z : World). AreInTurn (q.event + 1) (events_of items) (lines_of items z)) is rest.turn)))));
+    turn = (
+      here,
+      (
+        lines_of items (after_item item r),
+        (
+          refl,
+          (
+            texts-within (r.event + 1) (told_under item r),
+            subst (λ n. AreInTurn (n + 1) (events_of items) (lines_of items (after_item item r))) event (subst (λ (z : World). AreInTurn (q.event + 1) (events_of items) (lines_of items z)) is rest.turn),
+          ),
+        ),
+      ),
+    );
   }
     where
       self : (n : ℕ) → n ≤ n
