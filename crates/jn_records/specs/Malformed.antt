@@ -1,5 +1,5 @@
 -- An image with the head of a file and, beside it, a page that begins like a head of the same file and is none.
-use Rattle.std.specs.Prelude.{ℕ, true, nat_eq, if◌then◌else◌, List, [], ◌∷◌, ◌++◌, replicate}
+use Rattle.std.specs.Prelude.{ℕ, true, nat_eq, if◌then◌else◌, List, ◌∷◌, replicate}
 use Rattle.jn_records.specs.declared.head.Head.{Head}
 use Rattle.jn_records.specs.declared.head.Head.TheVariants.{Used}
 use Rattle.jn_records.specs.Heads.{head_page}

@@ -57,7 +57,7 @@ files_then-step ops i p before after h is same =
 pub GivesAnswers-step : (ops : List Performed) (i : ℕ) (p : Performed) (before after : AllFiles) (answer : Answer) → i < length ops → p ≡ get_or ops i p → AreSame after (all_files_after p.server p.op before) → answer ≡ answer_to p.op (before p.server) → answer ≡ p.answer → GivesAnswers before (drop i ops) ↔ GivesAnswers after (drop (i + 1) ops)
 GivesAnswers-step ops i p before after answer h is same gives told =
     subst (λ (qs : List Performed). GivesAnswers before qs ↔ GivesAnswers after (drop (i + 1) ops)) (ap (λ (q : Performed). q ∷ drop (i + 1) ops) is ∙ sym (drop_here ops i p h))
-        (rw (same_files after (all_files_after p.server p.op before) same) (λ k. k.1, λ k. (sym gives ∙ told, k)))
+    (rw (same_files after (all_files_after p.server p.op before) same) (λ k. k.1, λ k. (sym gives ∙ told, k)))
 
 pub ↔-trans : {P Q R : Type 0} → P ↔ Q → Q ↔ R → P ↔ R
 ↔-trans pq qr = (λ p. qr.0 (pq.0 p), λ r. pq.1 (qr.1 r))

@@ -12,11 +12,7 @@ use jn_base::{Answer, Block, BlockContent, BlockNo, FileNo, Op, ServerNo};
 use std::alloc::{AllocError, Global};
 
 /// The place of the first file of this name.
-pub fn place_of_file(
-    stored: &Vec<StoredFile>,
-    server: ServerNo,
-    file: FileNo,
-) -> Option<usize>
+pub fn place_of_file(stored: &Vec<StoredFile>, server: ServerNo, file: FileNo) -> Option<usize>
     ensures { result ≡ position (is_file server file) stored.now.items }
 {
     stored
