@@ -1,5 +1,5 @@
 -- The numbers below a count, of which some are free and some of the free ones are promised.
-use Rattle.std.specs.Prelude.{◌≡◌, ℕ, ◌≤◌, Bool, true, false, List, length, slice_index_or, slice_set, count_by, nat_eq}
+use Rattle.std.specs.Prelude.{◌≡◌, ℕ, ◌≤◌, ◌<◌, Bool, true, false, List, length, slice_index_or, slice_set, count_by, nat_eq}
 use Rattle.std.specs.List.{list_any}
 
 pub record FreeNumbers : Type 0 where
@@ -31,3 +31,8 @@ with_promised v n = record v { promised = n }
 
 abbrev pub is_used : List ℕ → ℕ → Bool
 is_used used a = list_any (nat_eq a) used
+
+-- no number below one is free
+pub record IsBelowAll (flags : List Bool) (lowest : ℕ) : Type 0 where
+  pub within : lowest ≤ length flags
+  pub none : (a : ℕ) → a < lowest → slice_index_or flags a false ≡ false

@@ -5,7 +5,7 @@
 #![tactic(auto)]
 
 ghost use Rattle.std.specs.Prelude.{◌≡◌, ◌⊎◌, ◌<◌, ◌≤◌, ◌+◌, ◌-◌, ◌^◌, ◌↔◌, ℕ, Bool, true, false, not, length, List, count_by, slice_index_or, slice_set, IsSome, IsOk, IfOk, IfSome, IfNone, OnOk, OnErr, IfErr};
-ghost use Rattle.jn_alloc.specs.Free.{count_of, is_free, free_count, IsLeastFree, with_free, with_promised, is_used};
+ghost use Rattle.jn_alloc.specs.Free.{IsBelowAll, count_of, is_free, free_count, IsLeastFree, with_free, with_promised, is_used};
 
 use jn_base::Short;
 use std::alloc::{AllocError, Global};
@@ -17,17 +17,19 @@ pub struct FreeList {
     is_free: Vec<bool>,
     free: u32,
     promised: u32,
+    /// No number below it is free.
+    lowest: u16,
 }
 
 impl Model for FreeList {
     ghost use Rattle.std.specs.Prelude.{◌≡◌, ◌≤◌, length, count_by};
-    ghost use Rattle.jn_alloc.specs.Free.{FreeNumbers};
+    ghost use Rattle.jn_alloc.specs.Free.{FreeNumbers, IsBelowAll};
 
     ghost Value = { FreeNumbers };
 
     ghost view = { λ f. record { flags = f.is_free.items; promised = f.promised } };
 
-    ghost invariant = { λ f. (length f.is_free.items ≤ 65535) × (f.free ≡ count_by (λ free. free) f.is_free.items) × (f.promised ≤ f.free) };
+    ghost invariant = { λ f. (length f.is_free.items ≤ 65535) × (f.free ≡ count_by (λ free. free) f.is_free.items) × (f.promised ≤ f.free) × IsBelowAll f.is_free.items f.lowest };
 }
 
 impl FreeList {
@@ -47,6 +49,7 @@ impl FreeList {
             is_free,
             free,
             promised: 0,
+            lowest: 0,
         })
     }
 
@@ -69,7 +72,11 @@ impl FreeList {
         ensures found { IsSome result ↔ (0 < free_count self.now) }
         ensures least { IfSome result (λ a. IsLeastFree self.now a) }
     {
-        first_set(&self.is_free)
+        let a = next_set(&self.is_free, self.lowest);
+        if (a as usize) < self.is_free.len() {
+            return Some(a);
+        }
+        None
     }
 
     /// Whether a number is free. One that isn't below the count is not.
@@ -89,6 +96,7 @@ impl FreeList {
     {
         self.is_free[a as usize] = false;
         self.free -= 1;
+        self.lowest = next_set(&self.is_free, self.lowest);
     }
 
     /// Gives a number back.
@@ -100,6 +108,7 @@ impl FreeList {
     {
         self.is_free[a as usize] = true;
         self.free += 1;
+        self.lowest = self.lowest.min(a);
     }
 
     /// Promises so many of the free numbers, where so many are free and not promised.
@@ -175,19 +184,19 @@ fn count_set(flags: &[bool]) -> u32
     count
 }
 
-/// The least index whose flag is set.
-fn first_set(flags: &[bool]) -> Option<u16>
-    requires { length flags.now ≤ 65535 }
-    ensures set { IfSome result (λ a. slice_index_or flags.now a false ≡ true) }
-    ensures least { IfSome result (λ a. (k : ℕ) → slice_index_or flags.now k false ≡ true → a ≤ k) }
-    ensures none { IfNone result (count_by (λ free. free) flags.now ≡ 0) }
+/// The least index from one on whose flag is set, or the length.
+fn next_set(flags: &[bool], from: u16) -> u16
+    requires few { length flags.now ≤ 65535 }
+    requires below { IsBelowAll flags.now from }
+    ensures below { IsBelowAll flags.now result }
+    ensures set { result < length flags.now → slice_index_or flags.now result false ≡ true }
 {
-    for (a, free) in flags.iter().enumerate() {
-        if *free {
-            return Some(a as u16);
+    for a in from..flags.len() as u16 {
+        if flags[a as usize] {
+            return a;
         }
     }
-    None
+    flags.len() as u16
 }
 
 #[cfg(test)]
