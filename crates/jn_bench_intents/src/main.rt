@@ -1,19 +1,23 @@
 //! Counts the device calls of commits at one server without faults. A commit prepares a work of puts to one file, makes
 //! it going, carries it out and forgets it, and erases the records that it leaves.
 //!
-//! Its arguments are how many commits are made, and of how many puts each, if not of 1 and of 24, which is the most;
-//! `bench/intents` times it.
+//! Its arguments are how many commits are made, of how many puts each, if not of 1 and of 24, which is the most, and
+//! `large` for a server of 10,001 pages in place of the default 177; `bench/intents` times it.
 #![tactic(auto)]
 
-ghost use Rattle.std.specs.Prelude.{◌≡◌, true, false, is_some, IfSome, Some, []};
+ghost use Rattle.std.specs.Prelude.{◌≡◌, ◌≢◌, true, false, is_some, IfOk, IfSome, Some, []};
 ghost use Rattle.jn_storage.specs.Calls.{IsReady, IsGoing, IsCarriedOut};
-ghost use Rattle.jn_intent_tests.specs.Trial.{IsOn, MayBegin};
+ghost use Rattle.jn_intent_tests.specs.Trial.{IsOn, Begins};
+ghost use Rattle.jn_recovery.specs.Loading.{counts_by};
+ghost use Rattle.jn_records.specs.StablePages.{page_count};
 ghost use Rattle.jn_bench_intents.specs.Lists.{IsListWhere};
 
 use jn_base::{BlockNo, ClientNo, FileNo, LockUnit, ServerNo, Tid, WorkId};
-use jn_intent::Intents;
-use jn_intent_tests::new_disk;
+use jn_disks::new_store;
+use jn_intent::{Intents, PageCounts};
+use jn_memdisk::MemDisk;
 use jn_records::{Intention, Root, What, WorkHead};
+use jn_stable::Pairs;
 use jn_storage::{Storage, StoredFiles, WorkStore};
 use jn_store::StableStore;
 use std::alloc::{AllocError, Global};
@@ -21,14 +25,12 @@ use std::{env, io};
 
 const SERVER: ServerNo = ServerNo(1);
 
-/// The root of a server of the default geometry.
-const ROOT: Root = Root {
-    server: SERVER,
-    pool: 32,
-    heads: 16,
-    leaves: 128,
-    epoch: 0,
-};
+/// How many pages a server has.
+#[derive(Clone, Copy)]
+enum Geometry {
+    Default,
+    Large,
+}
 
 const WORK: WorkId = WorkId {
     server: SERVER,
@@ -253,22 +255,62 @@ fn are_committed<W: WorkStore>(
 }
 
 /// The storage that a recovery finds on a store, where it isn't stopped.
-fn started<S: StableStore + Drop>(alloc: Global, store: S) -> Option<Intents<S>>
-    requires { MayBegin SERVER (S.view store) }
+fn started<S: StableStore + Drop>(alloc: Global, store: S, counts: PageCounts) -> Option<Intents<S>>
+    requires { Begins SERVER (counts_by counts) (S.view store) }
     ensures on { IfSome result (λ storage. IsOn SERVER (⟦<Intents<S> as Storage>⟧.view storage)) }
     ensures clean { IfSome result (λ storage. (⟦<Intents<S> as Storage>⟧.view storage).accounts.rubbish ≡ []) }
 {
-    match Intents::load(alloc, store) {
+    match Intents::load(alloc, store, counts) {
         Ok(loaded) => Some(loaded.0),
         Err(_) => None,
     }
 }
 
+/// How many pages there are of each kind. No geometry has the twelve pages of the tests.
+fn counts_of(geometry: Geometry) -> PageCounts
+    ensures { page_count (counts_by result) ≢ 12 }
+{
+    match geometry {
+        Geometry::Default => PageCounts {
+            pool: 32,
+            heads: 16,
+            leaves: 128,
+        },
+        Geometry::Large => PageCounts {
+            pool: 1000,
+            heads: 1000,
+            leaves: 8000,
+        },
+    }
+}
+
+/// The disk of a new server.
+fn new_disk(alloc: Global, counts: PageCounts) -> Result<Pairs<MemDisk>, AllocError>
+    requires { page_count (counts_by counts) ≢ 12 }
+    ensures { IfOk result (λ store. Begins SERVER (counts_by counts) (⟦<Pairs<MemDisk> as StableStore>⟧.view store)) }
+{
+    let root = Root {
+        server: SERVER,
+        pool: counts.pool,
+        heads: counts.heads,
+        leaves: counts.leaves,
+        epoch: 0,
+    };
+    let store = new_store(alloc, root)?;
+    Ok(store)
+}
+
 /// The device calls until the file is made and then so many commits, or `None` where one of them failed.
-fn device_calls(alloc: Global, list: &[Intention], times: u32) -> Result<Option<u64>, AllocError>
+fn device_calls(
+    alloc: Global,
+    geometry: Geometry,
+    list: &[Intention],
+    times: u32,
+) -> Result<Option<u64>, AllocError>
     requires { IsListWhere true list.now }
 {
-    let Some(mut storage) = started(alloc, new_disk(alloc, ROOT)?) else {
+    let counts = counts_of(geometry);
+    let Some(mut storage) = started(alloc, new_disk(alloc, counts)?, counts) else {
         return Ok(None);
     };
     if !are_committed(alloc, &mut storage, list, times) {
@@ -278,11 +320,16 @@ fn device_calls(alloc: Global, list: &[Intention], times: u32) -> Result<Option<
 }
 
 /// The device calls of so many commits alone.
-fn commit_calls(alloc: Global, list: &[Intention], times: u32) -> Result<Option<u64>, AllocError>
+fn commit_calls(
+    alloc: Global,
+    geometry: Geometry,
+    list: &[Intention],
+    times: u32,
+) -> Result<Option<u64>, AllocError>
     requires { IsListWhere true list.now }
 {
-    let before = device_calls(alloc, list, 0)?;
-    let after = device_calls(alloc, list, times)?;
+    let before = device_calls(alloc, geometry, list, 0)?;
+    let after = device_calls(alloc, geometry, list, times)?;
     match (before, after) {
         (Some(before), Some(after)) => Ok(after.checked_sub(before)),
         _ => Ok(None),
@@ -290,10 +337,15 @@ fn commit_calls(alloc: Global, list: &[Intention], times: u32) -> Result<Option<
 }
 
 /// The same by the size of the list.
-fn sized_calls(alloc: Global, size: Size, times: u32) -> Result<Option<u64>, AllocError> {
+fn sized_calls(
+    alloc: Global,
+    geometry: Geometry,
+    size: Size,
+    times: u32,
+) -> Result<Option<u64>, AllocError> {
     match size {
-        Size::OnePut => commit_calls(alloc, &one_put(), times),
-        Size::MostPuts => commit_calls(alloc, &most_puts(), times),
+        Size::OnePut => commit_calls(alloc, geometry, &one_put(), times),
+        Size::MostPuts => commit_calls(alloc, geometry, &most_puts(), times),
     }
 }
 
@@ -305,6 +357,10 @@ fn main(rt: HostRuntime) -> io::Result<()> {
         None => 100,
     };
     let only = words.next();
+    let geometry = match words.next() {
+        Some(word) if word.as_str() == "large" => Geometry::Large,
+        _ => Geometry::Default,
+    };
     // 4 for each stable put: a page, a record, a head and an erased record for each put of the list; and the work's record
     // is put, is made going and is removed
     for (name, size, each) in [
@@ -316,7 +372,7 @@ fn main(rt: HostRuntime) -> io::Result<()> {
         {
             continue;
         }
-        match sized_calls(rt.alloc(), size, times)? {
+        match sized_calls(rt.alloc(), geometry, size, times)? {
             Some(calls) => println!(rt; "{name} {times} {calls} {each}")?,
             None => println!(rt; "{name} failed")?,
         }

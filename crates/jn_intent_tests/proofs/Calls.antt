@@ -15,27 +15,55 @@ use Rattle.jn_records.specs.declared.flag.Flag.{Flag}
 use Rattle.jn_records.specs.declared.intention.Intention.{Intention}
 use Rattle.jn_records.specs.declared.work.WorkHead.{WorkHead}
 use Rattle.jn_records.specs.declared.work.WorkState.{WorkState}
-use Rattle.jn_rows.specs.Stable.{StableState, Prepared, Change, AddReady, MarkGoing, CarryOut, RemoveWork, AddFlag, DropFlag, made_by, Changed, Unchanged, FlagState, ready_work}
+use Rattle.jn_rows.specs.Stable.{StableState, Pick, Prepared, Change, AddReady, MarkGoing, CarryOut, RemoveWork, AddFlag, DropFlag, made_by, Changed, Unchanged, FlagState, ready_work}
 use Rattle.jn_storage.specs.declared.faults.PrepareFault.{PrepareFault}
 use Rattle.jn_storage.specs.declared.faults.PromiseFault.{PromiseFault}
 use Rattle.jn_storage.specs.Listing.{IsListing}
 use Rattle.jn_storage.specs.Orderly.{IsPrepared, IsGiven}
-use Rattle.jn_storage.specs.Storage.{StorageView, IsServing}
+use Rattle.jn_storage.specs.Storage.{Accounts, StorageView, IsServing}
 use Rattle.jn_storage.specs.Calls.{state, Called, BlockRead, tid_of, TellsWorks, TellsFlags, WorkPrepared, reached, StepApplied, next_of, RecordErased, FlagPromised, MayPutFlag, MayPrepare}
-use Rattle.jn_store.specs.Store.{StoreView}
+use Rattle.jn_store.specs.Store.{StoreView, HasSamePages}
 use Rattle.jn_records.specs.StablePages.{Counts}
-use Rattle.jn_intent.specs.declared.load.DownCause.{DownCause}
-use Rattle.jn_intent.specs.declared.load.Found.{Found}
-use Rattle.jn_intent.specs.Loading.{IsLoaded, IsDown}
-use Rattle.jn_intent_tests.specs.Trial.{IsOn, IsAfter, MayBegin}
+use Rattle.jn_recovery.specs.declared.load.DownCause.{DownCause}
+use Rattle.jn_recovery.specs.declared.load.Found.{Found}
+use Rattle.jn_recovery.specs.Loading.{IsLoaded, IsDown}
+use Rattle.jn_intent.specs.Events.{Befalls}
+use Rattle.jn_intent.specs.Scrubbing.{counts_in}
+use Rattle.jn_found.proofs.Picking.{same_recoverable}
+use Rattle.jn_intent_tests.specs.Trial.{IsOn, IsAfter, IsUsual, Begins}
+
+-- the numbers of pages that a storage tells
+same_counts : (a : Accounts) (g : Counts) → a.pool ≡ g.pool → a.heads ≡ g.heads → a.leaves ≡ g.leaves → counts_in a ≡ g
+same_counts a g pool heads leaves =
+    ap (λ n. record { pool = n; heads = a.heads; leaves = a.leaves }) pool
+    ∙ ap (λ n. record { pool = g.pool; heads = n; leaves = a.leaves }) heads
+    ∙ ap (λ n. record { pool = g.pool; heads = g.heads; leaves = n }) leaves
 
 -- ---- after a recovery
 
-pub loaded_on : (server : ServerNo) (g : Counts) (v : StoreView) (told : Found) (w : StorageView) → IsLoaded server g v told w → IsOn server w
-loaded_on server g v told w l = record { serving = l.recovered.serving; server_is = l.server_is; epoch = omega (arith, ap (λ (x : StableState). x.epoch) (l.found (λ n. false))) }
+pub loaded_on : (server : ServerNo) (g : Counts) (v : StoreView) (told : Found) (w : StorageView) → IsUsual v g → IsLoaded server g v told w → IsOn server w
+loaded_on server g v told w counts l = record {
+  serving = l.recovered.serving;
+  server_is = l.server_is;
+  epoch = omega (arith, ap (λ (x : StableState). x.epoch) (l.found (λ n. false)));
+  counts = λ e. same_counts w.accounts g l.pool l.heads l.leaves ∙ counts (sym l.recovering.later.count ∙ e);
+}
 
-pub down_begins : (server : ServerNo) (g : Counts) (v : StoreView) (cause : DownCause) (w : StoreView) → IsDown server g v cause w → MayBegin server w
-down_begins server g v cause w d = (g, d.recovering.recoverable)
+pub down_begins : (server : ServerNo) (g : Counts) (v : StoreView) (cause : DownCause) (w : StoreView) → IsUsual v g → IsDown server g v cause w → Begins server g w
+down_begins server g v cause w counts d = record { recoverable = d.recovering.recoverable; counts = λ e. counts (sym d.recovering.later.count ∙ e) }
+
+-- ---- what befalls a device
+
+pub begins_same : (server : ServerNo) (g : Counts) (v w : StoreView) → HasSamePages v w → Begins server g v → Begins server g w
+begins_same server g v w same b = record { recoverable = same_recoverable v w same server g b.recoverable; counts = λ e. b.counts (sym same.count ∙ e) }
+
+pub on_befallen : (server : ServerNo) (v w : StorageView) → Befalls v w → IsOn server v → IsOn server w
+on_befallen server v w b on = record {
+  serving = b.serving on.serving;
+  server_is = ap (λ (a : Accounts). a.server) b.same ∙ on.server_is;
+  epoch = subst (λ n. 1 ≤ n) (sym (ap (λ (f : Pick → StableState). (f (λ n. false)).epoch) b.found)) on.epoch;
+  counts = λ e. ap counts_in b.same ∙ on.counts (sym b.pages.count ∙ e);
+}
 
 -- ---- after a call
 
@@ -49,20 +77,25 @@ epoch_made (DropFlag t) x = refl
 
 module _ (server : ServerNo) (v w : StorageView) (on : IsOn server v) where
   module _ (most : ℕ) (ok : Bool) (called : Called v most ok w) where
+    counts_kept : IsUsual w.store (counts_in w.accounts)
+    counts_kept e = let later = called.later in same_counts w.accounts (counts_in v.accounts) later.pool later.heads later.leaves ∙ on.counts (sym later.store.count ∙ e)
+
     pub changed : (step : Change) → Changed (state v) step ok w.found → IsAfter server ok w
     changed step change = record {
       server_is = called.later.server ∙ on.server_is;
-      on = λ done. record { serving = called.serving done; server_is = called.later.server ∙ on.server_is; epoch = subst (λ n. 1 ≤ n) (sym (ap (λ (x : StableState). x.epoch) (change.done done (λ n. false)) ∙ epoch_made step (state v))) on.epoch };
+      counts = counts_kept;
+      on = λ done. record { serving = called.serving done; server_is = called.later.server ∙ on.server_is; counts = counts_kept; epoch = subst (λ n. 1 ≤ n) (sym (ap (λ (x : StableState). x.epoch) (change.done done (λ n. false)) ∙ epoch_made step (state v))) on.epoch };
     }
 
     pub unchanged : Unchanged (state v) w.found → IsAfter server ok w
     unchanged same = record {
       server_is = called.later.server ∙ on.server_is;
-      on = λ done. record { serving = called.serving done; server_is = called.later.server ∙ on.server_is; epoch = subst (λ n. 1 ≤ n) (sym (ap (λ (x : StableState). x.epoch) (same (λ n. false)))) on.epoch };
+      counts = counts_kept;
+      on = λ done. record { serving = called.serving done; server_is = called.later.server ∙ on.server_is; counts = counts_kept; epoch = subst (λ n. 1 ≤ n) (sym (ap (λ (x : StableState). x.epoch) (same (λ n. false)))) on.epoch };
     }
 
   pub after_same : (ok : Bool) → w ≡ v → IsAfter server ok w
-  after_same ok e = subst (IsAfter server ok) (sym e) (record { server_is = on.server_is; on = λ done. on })
+  after_same ok e = subst (IsAfter server ok) (sym e) (record { server_is = on.server_is; counts = on.counts; on = λ done. on })
 
   pub after_read : (f : FileNo) (p : BlockNo) (answer : Result (Option (List ℕ)) Stopped) → BlockRead v f p answer w → IsAfter server (is_ok answer) w
   after_read f p answer read = unchanged 24 (is_ok answer) read.called read.unchanged
@@ -85,7 +118,7 @@ module _ (server : ServerNo) (v w : StorageView) (on : IsOn server v) where
       by (Some i) e = changed 40 (is_ok answer) s.called (CarryOut work i) (s.carried i e)
 
   pub after_promised : {A : Type 0} (answer : Result A PromiseFault) → FlagPromised v answer w → is_ok answer ≡ true → IsOn server w
-  after_promised answer p done = subst (IsOn server) (sym (p.promised done)) (record { serving = subst IsServing (p.promised done) p.serving; server_is = on.server_is; epoch = on.epoch })
+  after_promised answer p done = subst (IsOn server) (sym (p.promised done)) (record { serving = subst IsServing (p.promised done) p.serving; server_is = on.server_is; epoch = on.epoch; counts = on.counts })
 
 -- ---- what is told
 

@@ -4,7 +4,10 @@ ghost use Rattle.std.specs.Prelude.{◌≡◌, ◌<◌, ℕ, Bool, true, false, 
 ghost use Rattle.jn_device.specs.Events.{is_within};
 ghost use Rattle.jn_storage.specs.Storage.{IsServing};
 ghost use Rattle.jn_storage.specs.Calls.{IsReady, IsGoing, IsCarriedOut, HasFlag};
-ghost use Rattle.jn_intent_tests.specs.Trial.{IsOn, IsAfter, IsListWhere, MayBegin};
+ghost use Rattle.jn_intent_tests.specs.Trial.{IsOn, IsAfter, IsUsual, IsListWhere, Begins, MayBegin, usual};
+ghost use Rattle.jn_intent.specs.Scrubbing.{counts_in};
+ghost use Rattle.jn_recovery.specs.Loading.{counts_by};
+ghost use Rattle.jn_records.specs.StablePages.{Counts, page_count};
 
 mod counts;
 mod each_call;
@@ -15,8 +18,11 @@ mod used_up;
 use jn_base::{
     Block, BlockNo, ClientNo, FaultKind, FileNo, LockUnit, ServerNo, Stopped, Tid, WorkId,
 };
-use jn_intent::{DownCause, Intents};
+use jn_disks::new_store;
+use jn_intent::{DownCause, Intents, PageCounts};
+use jn_memdisk::MemDisk;
 use jn_records::{Flag, Intention, ListOf, Root, What, WorkHead};
+use jn_stable::Pairs;
 use jn_storage::{FlagStore, PrepareFault, Storage, StoredFiles, WorkStore};
 use jn_store::{Powered, StableStore};
 use std::alloc::Global;
@@ -28,12 +34,10 @@ const PAGES: u32 = 12;
 
 const SERVER: ServerNo = ServerNo(1);
 
-const ROOT: Root = Root {
-    server: SERVER,
+const COUNTS: PageCounts = PageCounts {
     pool: 6,
     heads: 2,
     leaves: 3,
-    epoch: 0,
 };
 
 const WORK: WorkId = WorkId {
@@ -239,13 +243,50 @@ fn make_other_with_block() -> [Intention; 2]
     ]
 }
 
-/// The storage that a recovery finds, or the store where the recovery was stopped.
-fn recovered<S: StableStore>(rt: &impl Abort, alloc: Global, store: S) -> Result<Intents<S>, S>
-    requires { MayBegin SERVER (S.view store) }
-    ensures on { IfOk result (λ storage. IsOn SERVER (⟦<Intents<S> as Storage>⟧.view storage)) }
-    ensures begin { IfErr result (λ left. MayBegin SERVER (S.view left)) }
+/// The disk of a new server with so many pages.
+fn new_disk(rt: &impl Abort, alloc: Global, counts: PageCounts) -> Result<Pairs<MemDisk>, Fail>
+    ensures { IfOk result (λ store. Begins SERVER (counts_by counts) (⟦<Pairs<MemDisk> as StableStore>⟧.view store)) }
 {
-    match Intents::load(alloc, store) {
+    let store = new_store(alloc, root_of(counts, 0))?;
+    check_counts(rt, counts, store.count());
+    Ok(store)
+}
+
+/// The root with so many pages, in an epoch.
+fn root_of(counts: PageCounts, epoch: u32) -> Root
+    ensures { result ≡ record { server = SERVER; pool = counts.pool; heads = counts.heads; leaves = counts.leaves; epoch = epoch } }
+{
+    Root {
+        server: SERVER,
+        pool: counts.pool,
+        heads: counts.heads,
+        leaves: counts.leaves,
+        epoch,
+    }
+}
+
+/// Only the usual numbers of pages make twelve.
+fn check_counts(rt: &impl Abort, counts: PageCounts, pages: u32)
+    requires { pages ≡ page_count (counts_by counts) }
+    ensures { pages ≡ 12 → counts_by counts ≡ usual }
+{
+    if pages == PAGES {
+        assert!(rt; counts.pool == 6 && counts.heads == 2);
+    }
+}
+
+/// The storage that a recovery finds, or the store where the recovery was stopped.
+fn recovered<S: StableStore>(
+    rt: &impl Abort,
+    alloc: Global,
+    store: S,
+    counts: PageCounts,
+) -> Result<Intents<S>, S>
+    requires { Begins SERVER (counts_by counts) (S.view store) }
+    ensures on { IfOk result (λ storage. IsOn SERVER (⟦<Intents<S> as Storage>⟧.view storage)) }
+    ensures begin { IfErr result (λ left. Begins SERVER (counts_by counts) (S.view left)) }
+{
+    match Intents::load(alloc, store, counts) {
         Ok(loaded) => Ok(loaded.0),
         Err(down) => {
             assert_eq!(rt; down.cause, DownCause::Stopped);
@@ -256,32 +297,39 @@ fn recovered<S: StableStore>(rt: &impl Abort, alloc: Global, store: S) -> Result
 
 /// The power comes, and no fault waits.
 fn power_on<S: Powered>(store: &mut S)
-    requires { MayBegin SERVER (S.view store.old) }
-    ensures { MayBegin SERVER (S.view store.new) }
+    ensures { (g : Counts) → Begins SERVER g (S.view store.old) → Begins SERVER g (S.view store.new) }
 {
     store.power_up();
     store.disarm();
 }
 
 /// The storage that a recovery finds which isn't stopped.
-fn started<S: Powered + Drop>(rt: &impl Abort, alloc: Global, store: S) -> Result<Intents<S>, Fail>
-    requires { MayBegin SERVER (S.view store) }
+fn started<S: Powered + Drop>(
+    rt: &impl Abort,
+    alloc: Global,
+    store: S,
+    counts: PageCounts,
+) -> Result<Intents<S>, Fail>
+    requires { Begins SERVER (counts_by counts) (S.view store) }
     ensures { IfOk result (λ storage. IsOn SERVER (⟦<Intents<S> as Storage>⟧.view storage)) }
 {
     let mut store = store;
     power_on(&mut store);
-    match recovered(rt, alloc, store) {
+    match recovered(rt, alloc, store, counts) {
         Ok(storage) => Ok(storage),
         Err(_) => Err("stopped".into()),
     }
 }
 
-/// The store of a storage, whose last call may have been stopped.
-fn taken_down<S: StableStore>(storage: Intents<S>) -> S
-    requires { (⟦<Intents<S> as Storage>⟧.view storage).accounts.server ≡ SERVER }
+/// The store of a storage of twelve pages, whose last call may have been stopped.
+fn taken_down<S: StableStore>(rt: &impl Abort, storage: Intents<S>) -> S
+    requires server { (⟦<Intents<S> as Storage>⟧.view storage).accounts.server ≡ SERVER }
+    requires counts { IsUsual (⟦<Intents<S> as Storage>⟧.view storage).store (counts_in (⟦<Intents<S> as Storage>⟧.view storage).accounts) }
     ensures { MayBegin SERVER (S.view result) }
 {
-    storage.into_store()
+    let store = storage.into_store();
+    assert!(rt; store.count() == PAGES);
+    store
 }
 
 /// A fault strikes at the n-th device call of a storage from now.
@@ -589,12 +637,13 @@ fn told_to<S: Powered + Drop>(
     rt: &impl Abort,
     alloc: Global,
     store: S,
+    counts: PageCounts,
     calls: &[Call],
 ) -> Result<Intents<S>, Fail>
-    requires { MayBegin SERVER (S.view store) }
+    requires { Begins SERVER (counts_by counts) (S.view store) }
     ensures { IfOk result (λ storage. IsOn SERVER (⟦<Intents<S> as Storage>⟧.view storage)) }
 {
-    let mut storage = started(rt, alloc, store)?;
+    let mut storage = started(rt, alloc, store, counts)?;
     for call in calls {
         assert!(rt; do_call(rt, alloc, &mut storage, *call), "{call:?}");
     }

@@ -1,20 +1,20 @@
 // How many device calls each call of a storage makes without faults, and which pages it puts.
 ghost use Rattle.std.specs.Prelude.{◌<◌};
 
-use crate::new_disk;
 use crate::tests::stops::stopped;
-use crate::tests::{Call, PAGES, Plan, SERVER, STORIES, Story, started, told_to};
+use crate::tests::{COUNTS as FEW, Call, PAGES, Plan, STORIES, Story, new_disk, started, told_to};
+use jn_intent::PageCounts;
 use jn_memdisk::MemDisk;
-use jn_records::Root;
 use std::alloc::Global;
 use std::process::Abort;
 use std::test::Fail;
 
-/// The records, heads and data pages of a server of twelve pages.
-const FEW: (u16, u16, u16) = (6, 2, 3);
-
 /// Those of the default geometry, which has 177 pages.
-const DEFAULT: (u16, u16, u16) = (32, 16, 128);
+const DEFAULT: PageCounts = PageCounts {
+    pool: 32,
+    heads: 16,
+    leaves: 128,
+};
 
 /// Calls one after another, each with how many device calls it makes. A put of a page is 4: a preparation puts a record for
 /// each intention and one for the work, and a page for each block; every other change puts one page, but that a file which is
@@ -62,18 +62,11 @@ const COUNTS: [(Call, u64); 36] = [
 fn calls_of(
     rt: &impl Abort,
     alloc: Global,
-    counts: (u16, u16, u16),
+    counts: PageCounts,
     calls: &[Call],
 ) -> Result<u64, Fail> {
-    let (pool, heads, leaves) = counts;
-    let root = Root {
-        server: SERVER,
-        pool,
-        heads,
-        leaves,
-        epoch: 0,
-    };
-    let storage = told_to(rt, alloc, new_disk(alloc, root)?, calls)?;
+    let disk = new_disk(rt, alloc, counts)?;
+    let storage = told_to(rt, alloc, disk, counts, calls)?;
     let made = storage.into_store().into_inner().calls();
     // the first root is put before the load
     assert!(rt; made >= 4);
@@ -187,7 +180,7 @@ fn a_recovery_erases_what_a_stopped_preparation_left(rt: HostRuntime) -> Result<
     for (put, records) in [(0u32, 0u64), (1, 1), (2, 1), (3, 2)] {
         let before = disk_at(&rt, alloc, &STORIES[0], 0, 4 * put + 1, 0)?.calls();
         let store = stopped(&rt, alloc, &STORIES[0], 0, 4 * put + 1, 0)?;
-        let after = started(&rt, alloc, store)?
+        let after = started(&rt, alloc, store, FEW)?
             .into_store()
             .into_inner()
             .calls();

@@ -2,10 +2,10 @@
 ghost use Rattle.std.specs.Prelude.{◌≡◌, ◌<◌, ◌/◌, IfOk};
 ghost use Rattle.jn_intent_tests.specs.Trial.{IsOn, MayBegin};
 
-use crate::new_disk;
 use crate::tests::used_up::small;
 use crate::tests::{
-    BLOCK, FILE, NEXT_BLOCK, OTHER, ROOT, SERVER, STORIES, arm_storage, block_letter, told_to,
+    BLOCK, COUNTS, FILE, NEXT_BLOCK, OTHER, SERVER, STORIES, arm_storage, block_letter, new_disk,
+    told_to,
 };
 use jn_base::{FaultKind, FileNo, Outside, Short};
 use jn_intent::Intents;
@@ -21,7 +21,7 @@ use std::test::Fail;
 fn with_block(rt: &impl Abort, alloc: Global) -> Result<Intents<Pairs<MemDisk>>, Fail>
     ensures { IfOk result (λ storage. IsOn SERVER (⟦<Intents<Pairs<MemDisk>> as Storage>⟧.view storage)) }
 {
-    told_to(rt, alloc, new_disk(alloc, ROOT)?, STORIES[0].calls)
+    told_to(rt, alloc, new_disk(rt, alloc, COUNTS)?, COUNTS, STORIES[0].calls)
 }
 
 /// The file is the one that there is, and has the one block.
@@ -74,7 +74,7 @@ fn new_storage<S: StableStore + Drop>(
     ensures count { IfOk result (λ storage. (⟦<Intents<S> as Storage>⟧.view storage).store.count ≡ 12) }
 {
     assert!(rt; store.count() == 12);
-    match Intents::load(alloc, store) {
+    match Intents::load(alloc, store, COUNTS) {
         Ok(loaded) => Ok(loaded.0),
         Err(_) => Err("down".into()),
     }
@@ -141,7 +141,7 @@ fn files_and_blocks_are_listed(rt: HostRuntime) -> Result<(), Fail> {
 #[test]
 fn a_half_goes_bad_and_is_mended(rt: HostRuntime) -> Result<(), Fail> {
     let alloc = rt.alloc();
-    let mut storage = new_storage(&rt, alloc, new_disk(alloc, ROOT)?)?;
+    let mut storage = new_storage(&rt, alloc, new_disk(&rt, alloc, COUNTS)?)?;
     check_decays(&rt, &mut storage);
     Ok(())
 }

@@ -4,10 +4,9 @@
 ghost use Rattle.std.specs.Prelude.{◌≡◌, ◌<◌, ℕ, true, IfOk};
 ghost use Rattle.jn_intent_tests.specs.Trial.{MayBegin};
 
-use crate::new_disk;
 use crate::tests::{
-    PAGES, ROOT, SERVER, STORIES, Story, arm_storage, arm_store, decay, do_call, finish, letters,
-    power_on, recovered, revive, started, stop, taken_down, told_to,
+    COUNTS, PAGES, SERVER, STORIES, Story, arm_storage, arm_store, decay, do_call, finish, letters,
+    new_disk, power_on, recovered, revive, started, stop, taken_down, told_to,
 };
 use jn_memdisk::MemDisk;
 use jn_stable::Pairs;
@@ -91,10 +90,11 @@ pub(crate) fn stopped(
     ensures { IfOk result (λ store. MayBegin SERVER (⟦<Pairs<MemDisk> as StableStore>⟧.view store)) }
 {
     assert!(rt; at < story.calls.len());
-    let mut storage = told_to(rt, alloc, new_disk(alloc, ROOT)?, &story.calls[..at])?;
+    let disk = new_disk(rt, alloc, COUNTS)?;
+    let mut storage = told_to(rt, alloc, disk, COUNTS, &story.calls[..at])?;
     arm_storage(rt, &mut storage, n, stop(way));
     assert!(rt; !do_call(rt, alloc, &mut storage, story.calls[at]));
-    let mut store = taken_down(storage);
+    let mut store = taken_down(rt, storage);
     power_on(&mut store);
     Ok(store)
 }
@@ -127,7 +127,7 @@ fn check_one<S: Powered + Drop>(
 ) -> Result<(), Fail>
     requires { MayBegin SERVER (S.view store) }
 {
-    let mut storage = started(rt, alloc, store)?;
+    let mut storage = started(rt, alloc, store, COUNTS)?;
     assert_eq!(rt; letters(rt, &mut storage), left, "{place:?}");
     finish(rt, &mut storage);
     Ok(())
@@ -145,7 +145,7 @@ fn check_recoveries(
     for k in 1..100u32 {
         let mut store = stopped_at(rt, alloc, story, at, place)?;
         arm_store(rt, &mut store, k, way);
-        match recovered(rt, alloc, store) {
+        match recovered(rt, alloc, store, COUNTS) {
             Ok(_) => {
                 assert!(rt; k > RECOVERY);
                 return Ok(());

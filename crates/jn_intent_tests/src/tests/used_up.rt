@@ -2,12 +2,10 @@
 ghost use Rattle.std.specs.Prelude.{IfOk};
 ghost use Rattle.jn_intent_tests.specs.Trial.{IsOn};
 
-use crate::new_disk;
-use crate::tests::{Call, Plan, SERVER, STORIES, letters, prepare, put_flag, told_to};
+use crate::tests::{Call, Plan, SERVER, STORIES, letters, new_disk, prepare, put_flag, told_to};
 use jn_base::Short;
-use jn_intent::Intents;
+use jn_intent::{Intents, PageCounts};
 use jn_memdisk::MemDisk;
-use jn_records::Root;
 use jn_stable::Pairs;
 use jn_storage::{FlagStore, PrepareFault, PromiseFault, Storage};
 use std::alloc::Global;
@@ -25,14 +23,12 @@ pub(crate) fn small(
 ) -> Result<Intents<Pairs<MemDisk>>, Fail>
     ensures { IfOk result (λ storage. IsOn SERVER (⟦<Intents<Pairs<MemDisk>> as Storage>⟧.view storage)) }
 {
-    let root = Root {
-        server: SERVER,
+    let counts = PageCounts {
         pool,
         heads: 1,
         leaves: 1,
-        epoch: 0,
     };
-    told_to(rt, alloc, new_disk(alloc, root)?, calls)
+    told_to(rt, alloc, new_disk(rt, alloc, counts)?, counts, calls)
 }
 
 #[test]

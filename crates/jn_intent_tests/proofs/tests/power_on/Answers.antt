@@ -1,9 +1,5 @@
-use Rattle.jn_intent_tests.proofs.Events.{begins_up, begins_waiting}
+use Rattle.jn_intent_tests.proofs.Calls.{begins_same}
 use Rattle.jn_intent_tests.proofs.tests.power_on.Goals as goal
 
 pub returns : goal.returns
-returns g c =
-    let seen = g.met.S.Powered.seen in
-    let device = g.S.Powered.device in
-    let up = begins_up _ _ _ (device c.args.store.now) (device c.power_up.new.self) (seen c.args.store.now) (seen c.power_up.new.self) c.requires c.power_up.ensures.up in
-    begins_waiting _ _ _ (device c.power_up.new.self) (device c.disarm.new.self) (seen c.power_up.new.self) (seen c.disarm.new.self) up _ _ c.disarm.ensures.disarmed
+returns g c = λ counts begins. begins_same _ counts _ _ c.disarm.ensures.pages (begins_same _ counts _ _ c.power_up.ensures.pages begins)
