@@ -17,7 +17,11 @@ use trial::{
 };
 
 /// Transaction 1 of client 3 is unknown, open, voting, committed or aborted. Its Begin was request 5.
-fn in_state(rt: &impl Abort, alloc: Global, state: usize) -> Result<Trial<Intents<ArrayStore>>, Fail> {
+fn in_state(
+    rt: &impl Abort,
+    alloc: Global,
+    state: usize,
+) -> Result<Trial<Intents<ArrayStore>>, Fail> {
     let trial = new_trial(alloc, 4)?;
     if state == 0 {
         return Ok(trial);

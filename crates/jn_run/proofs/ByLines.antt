@@ -136,7 +136,7 @@ pub ops-are-told : (es : List Event) (ls ends : List Line) (t : Tid) → IsTurne
 ops-are-told es ls ends t h at follows of one =
     subst (λ (z : List Line). ops_of es z t ≡ ops_told es z t) (sym all)
     (all-in-turn (length es) t [] es (h.first ∷ []) (h.rest ++ ends) nothing_asked h.starts (turns-end 1 es h.rest ends h.turns at)
-        (subst (λ (z : List Line). FollowsFrom nothing_asked 1 es z) all follows) ((subst (λ (z : List Line). AllOfEvents (length es) z) all of).1) (has-one (h.first ∷ h.rest ++ ends) t (subst BegunByOne all one)))
+    (subst (λ (z : List Line). FollowsFrom nothing_asked 1 es z) all follows) ((subst (λ (z : List Line). AllOfEvents (length es) z) all of).1) (has-one (h.first ∷ h.rest ++ ends) t (subst BegunByOne all one)))
   where
     all : ls ++ ends ≡ h.first ∷ h.rest ++ ends
     all = ap (λ (z : List Line). z ++ ends) h.lines

@@ -56,9 +56,9 @@ same-ops : (es : List Event) (ls : List Line) (stage : Stage) → SoFar es ls st
 same-ops es ls stage s t =
     subst (λ (z : List Line). ops_of es z t ≡ ops_told es z t) (append-nil ls)
     (ops-are-told es ls [] t s.talk.turned tt
-        (subst (λ (z : List Line). FollowsFrom nothing_asked 1 es z) (sym (append-nil ls)) s.talk.answers)
-        (subst (λ (z : List Line). AllOfEvents (length es) z) (sym (append-nil ls)) s.talk.of_events)
-        (subst BegunByOne (sym (append-nil ls)) s.ordered.begun))
+    (subst (λ (z : List Line). FollowsFrom nothing_asked 1 es z) (sym (append-nil ls)) s.talk.answers)
+    (subst (λ (z : List Line). AllOfEvents (length es) z) (sym (append-nil ls)) s.talk.of_events)
+    (subst BegunByOne (sym (append-nil ls)) s.ordered.begun))
 
 -- what holds so far, as the outcome says it
 pub holds : (es : List Event) (ls : List Line) (stage : Stage) → SoFar es ls stage → Holds es ls

@@ -49,12 +49,7 @@ impl Changes {
     }
 
     /// Performs an operation on the files as the transaction sees them.
-    pub fn perform(
-        &mut self,
-        alloc: Global,
-        disk: &Disk,
-        op: &Op,
-    ) -> Result<Answer, AllocError>
+    pub fn perform(&mut self, alloc: Global, disk: &Disk, op: &Op) -> Result<Answer, AllocError>
         requires there { FilesThere self.old.list (files_on disk.now) }
         requires within { puts_within self.old.list ≡ true }
         requires block { op_within op.now ≡ true }

@@ -12,11 +12,7 @@ use std::alloc::Global;
 use std::process::Abort;
 use std::test::Fail;
 
-const ALL_DONE: [(Heard, &str); 3] = [
-    (Done(90, 'b'), ""),
-    (Done(90, 'a'), ""),
-    (Thanks(90), ""),
-];
+const ALL_DONE: [(Heard, &str); 3] = [(Done(90, 'b'), ""), (Done(90, 'a'), ""), (Thanks(90), "")];
 
 const STORY: [(Heard, &str); 7] = [
     (Begin(3, 5), "3+5=90"),

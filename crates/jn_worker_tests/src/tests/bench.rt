@@ -396,4 +396,3 @@ pub(crate) fn read(w: u32, number: u32, f: u32, p: u16) -> Move {
 pub(crate) fn nines(w: u32, number: u32, f: u32, p: u16) -> Move {
     Move::Do(w, number, Task::Nines(f, p))
 }
-

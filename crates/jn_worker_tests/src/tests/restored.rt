@@ -70,10 +70,7 @@ fn a_work_that_was_not_prepared_is_lost(rt: HostRuntime) -> Result<(), Fail> {
     let after = [
         (Move::Again, Came::Nothing),
         (create(100, 2, 8), Came::Lost(1, 2)),
-        (
-            Move::Prepare(1, 100),
-            Came::Vote(1, 100, Vote::Lost(1, 2)),
-        ),
+        (Move::Prepare(1, 100), Came::Vote(1, 100, Vote::Lost(1, 2))),
         (Move::Open(2), Came::Opened(2, Some(0))),
         (create(0, 1, 7), Came::Did),
     ];

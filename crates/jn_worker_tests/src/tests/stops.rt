@@ -37,7 +37,9 @@ const STORY: [(Move, Came); 11] = [
 
 /// The places of the moves that are told to a worker again where they were stopped.
 const PREPARE: usize = 3;
+
 const COMMIT: usize = 4;
+
 const FORGET: usize = 7;
 
 /// What may come of a Commit after a restart, where the move at this place was stopped: the work is still ready, or
@@ -52,11 +54,7 @@ fn may_come(at: usize, came: Came) -> bool {
 }
 
 /// The work is told to commit, and is carried out.
-fn finish<W: WorkStore>(
-    rt: &impl Abort,
-    bench: &mut Bench<W>,
-    at: usize,
-) -> Result<(), Fail>
+fn finish<W: WorkStore>(rt: &impl Abort, bench: &mut Bench<W>, at: usize) -> Result<(), Fail>
     requires { IsOn bench.old.worker (W.view bench.old.store) bench.old.tickets }
 {
     let came = bench.advance(Move::Commit(1, 100))?;
@@ -72,11 +70,7 @@ fn finish<W: WorkStore>(
 }
 
 /// The move at this place was stopped: a work that hadn't voted may be lost, another one is carried out.
-fn go_on<W: WorkStore>(
-    rt: &impl Abort,
-    bench: &mut Bench<W>,
-    at: usize,
-) -> Result<(), Fail>
+fn go_on<W: WorkStore>(rt: &impl Abort, bench: &mut Bench<W>, at: usize) -> Result<(), Fail>
     requires { IsOn bench.old.worker (W.view bench.old.store) bench.old.tickets }
 {
     if at != PREPARE {
