@@ -498,12 +498,25 @@ impl World {
         let Some(tid) = self.ending() else {
             return Ok(false);
         };
+        self.commit_or_abort(alloc, number, tid, lines)
+    }
+
+    /// Commits the transaction that the client ends, or aborts it where the disk has no room for it.
+    fn commit_or_abort(
+        &mut self,
+        alloc: Global,
+        number: u32,
+        tid: Tid,
+        lines: &mut Vec<Line>,
+    ) -> Result<bool, AllocError>
+        requires open { (view_of self.old).fate ≡ Undecided }
+        requires ending { IsEnding (view_of self.old) }
+        requires current { self.old.client.transaction ≡ Some tid }
+        ensures moved { IfOk result (λ taken. Leads number (view_of self.old) lines.old.items (view_of self.new) lines.new.items) }
+    {
         match self.changes.shortage(&self.disk) {
             Some(short) => self.decide_abort(full(&short)),
-            None => {
-                self.commit(alloc, number, tid, lines)?;
-                Ok(true)
-            }
+            None => self.commit(alloc, number, tid, lines),
         }
     }
 
@@ -525,7 +538,7 @@ impl World {
         number: u32,
         tid: Tid,
         lines: &mut Vec<Line>,
-    ) -> Result<(), AllocError>
+    ) -> Result<bool, AllocError>
         requires open { (view_of self.old).fate ≡ Undecided }
         requires ending { IsEnding (view_of self.old) }
         requires current { self.old.client.transaction ≡ Some tid }
@@ -534,18 +547,18 @@ impl World {
     {
         lines.push(line_at(number, Text::Commit(tid)))?;
         self.carry_out(alloc);
-        self.is_done = !self.client.is_open_at(SERVER);
         self.send_commit()
     }
 
     /// Sends the commit to the work, if there is one, and the outcome to the client.
-    fn send_commit(&mut self) -> Result<(), AllocError>
+    fn send_commit(&mut self) -> Result<bool, AllocError>
         ensures same { view_of self.new ≡ view_of self.old }
     {
         if self.client.is_open_at(SERVER) {
             self.traffic.send(Kind::Commit)?;
         }
-        self.traffic.send(Kind::Outcome)
+        self.traffic.send(Kind::Outcome)?;
+        Ok(true)
     }
 
     /// The transaction is committed, and its changes are the disk's.
@@ -556,6 +569,7 @@ impl World {
         self.disk.carry_out(self.changes.list());
         self.changes = Changes::new(alloc);
         self.phase = Phase::Committed;
+        self.is_done = !self.client.is_open_at(SERVER);
     }
 
     fn decide_abort(&mut self, cause: Cause) -> Result<bool, AllocError>

@@ -1,6 +1,10 @@
 use Rattle.std.proofs.Common.{◌≡◌, ◌+◌, ℕ, refl, sym, ◌∙◌, ap, subst, List, [], ◌∷◌, length, is_ok, arith}
 use Rattle.std.proofs.lemmas.Result.{err_from_is_err_and}
+use Rattle.jn_schedule.specs.declared.Event.{Event}
 use Rattle.jn_report.specs.declared.line.Line.{Line}
+use Rattle.jn_run.specs.Runnable.{is_run}
+use Rattle.jn_run.specs.Running.{RunsEvent}
+use Rattle.jn_run.specs.Within.{event_within}
 use Rattle.jn_run.specs.World.{view_of}
 use Rattle.jn_run.specs.Ending.{ArePrinted}
 use Rattle.jn_run.proofs.Running.{between-start}
@@ -35,10 +39,10 @@ loop-event-init g c =
     }
 
 pub run_event-requires-clause-known : goal.run_event-requires-clause-known
-run_event-requires-clause-known g c = one-is-run _ c.args.events.now c.loop-event.event-index c.loop-event-test.true c.requires.known
+run_event-requires-clause-known g c = ap is_run c.event-item.is ∙ one-is-run c.event-item.result c.args.events.now c.loop-event.event-index c.loop-event-test.true c.requires.known
 
 pub run_event-requires-clause-within : goal.run_event-requires-clause-within
-run_event-requires-clause-within g c = one-is-within _ c.args.events.now c.loop-event.event-index c.loop-event-test.true c.requires.within
+run_event-requires-clause-within g c = ap event_within c.event-item.is ∙ one-is-within c.event-item.result c.args.events.now c.loop-event.event-index c.loop-event-test.true c.requires.within
 
 pub run_event-requires-clause-few : goal.run_event-requires-clause-few
 run_event-requires-clause-few g c = omega (arith, c.loop-event.invariant.requests, c.loop-event-test.true, c.requires.few)
@@ -47,16 +51,16 @@ pub returns-in_err-commits : goal.returns-in_err-commits
 returns-in_err-commits g c =
     let p = err_from_is_err_and c.from_residual-in_err-commits.result c.from_residual-in_err-commits.ensures.1 in
     record {
-      ran = cut-at _ _ _ _ _ _ _ c.args.events.now c.loop-event.event-index (c.loop-event.number + 1) c.loop-event.commits (view_of c.loop-event.world) (view_of c.run_event.new.world) c.run_event.result c.from_residual-in_err-commits.result p.0 p.1
-          (c.in_err-commits.was ∙ ap (λ e. Rattle.std.specs.Prelude.Err e) (sym p.2)) c.loop-event-test.true (ap (λ (n : ℕ). n + 1) c.loop-event.invariant.number) c.loop-event.invariant.told c.run_event.ensures.ran;
+      ran = cut-at c.event-item.result _ _ _ _ _ _ c.args.events.now c.loop-event.event-index (c.loop-event.number + 1) c.loop-event.commits (view_of c.loop-event.world) (view_of c.run_event.new.world) c.run_event.result c.from_residual-in_err-commits.result p.0 p.1
+          (c.in_err-commits.was ∙ ap (λ e. Rattle.std.specs.Prelude.Err e) (sym p.2)) c.loop-event-test.true (ap (λ (n : ℕ). n + 1) c.loop-event.invariant.number) c.loop-event.invariant.told (subst (λ (e : Event). RunsEvent (g.K.Sink.taken c.loop-event.sink) (g.K.Sink.faults c.loop-event.sink) (c.loop-event.number + 1) c.loop-event.commits e (view_of c.loop-event.world) c.run_event.result (view_of c.run_event.new.world) (g.K.Sink.taken c.run_event.new.sink) (g.K.Sink.faults c.run_event.new.sink)) c.event-item.is c.run_event.ensures.ran);
     }
 
 pub loop-event-preserved : goal.loop-event-preserved
 loop-event-preserved g c = record {
   number = ap (λ (n : ℕ). n + 1) c.loop-event.invariant.number;
   requests = one-more-request _ _ _ _ _ _ _ _ _ _ _ c.loop-event.event-index (c.run_event.ensures.ran) c.in_ok-commits.was c.loop-event.invariant.requests;
-  told = told-more _ _ _ _ _ _ _ c.args.events.now c.loop-event.event-index (c.loop-event.number + 1) c.loop-event.commits _ (view_of c.loop-event.world) (view_of c.run_event.new.world) c.run_event.result
-      c.loop-event-test.true (ap (λ (n : ℕ). n + 1) c.loop-event.invariant.number) c.loop-event.invariant.told c.run_event.ensures.ran c.in_ok-commits.was;
+  told = told-more c.event-item.result _ _ _ _ _ _ c.args.events.now c.loop-event.event-index (c.loop-event.number + 1) c.loop-event.commits _ (view_of c.loop-event.world) (view_of c.run_event.new.world) c.run_event.result
+      c.loop-event-test.true (ap (λ (n : ℕ). n + 1) c.loop-event.invariant.number) c.loop-event.invariant.told (subst (λ (e : Event). RunsEvent (g.K.Sink.taken c.loop-event.sink) (g.K.Sink.faults c.loop-event.sink) (c.loop-event.number + 1) c.loop-event.commits e (view_of c.loop-event.world) c.run_event.result (view_of c.run_event.new.world) (g.K.Sink.taken c.run_event.new.sink) (g.K.Sink.faults c.run_event.new.sink)) c.event-item.is c.run_event.ensures.ran) c.in_ok-commits.was;
 }
 
 pub returns-in_err-lines : goal.returns-in_err-lines
