@@ -1,2 +1,2 @@
 pub mod Restarted
-pub mod Flagged
+pub mod Hearing

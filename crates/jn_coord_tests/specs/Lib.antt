@@ -1,1 +1,1 @@
-pub mod Before
+pub mod Hearing

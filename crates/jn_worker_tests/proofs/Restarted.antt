@@ -1,5 +1,5 @@
 -- The next name comes after all that a restart finds.
-use Rattle.std.proofs.Common.{◌≡◌, ◌<◌, true, ◌∷◌, [], ◌++◌, List, Option, Some, None, refl, sym, ◌∙◌, ap, subst, arith, true≢false}
+use Rattle.std.proofs.Common.{◌≡◌, ℕ, ◌<◌, true, ◌∷◌, [], ◌++◌, List, Option, Some, None, refl, sym, ◌∙◌, ap, subst, arith, true≢false}
 use Rattle.std.specs.Prelude.{is_some}
 use Rattle.std.proofs.lemmas.Bool.Decides.{nat_tests}
 use Rattle.jn_base.specs.declared.names.ServerNo.{ServerNo}
@@ -16,6 +16,9 @@ use Rattle.jn_storage.specs.Storage.{StorageView, IsRecovered}
 use Rattle.jn_storage.specs.Calls.{state}
 use Rattle.jn_worker.specs.Fitting.{WorkerView, TicketsFit}
 use Rattle.jn_worker.specs.Restoring.{Restores}
+use Rattle.jn_recovery.specs.declared.counts.PageCounts.{PageCounts}
+use Rattle.jn_restarts.specs.Restarts.{IsStarted}
+use Rattle.jn_worker_tests.specs.Playing.{server, IsOn}
 
 in-more : (W V : WorkId) (Ws : List WorkId) → is_in work_eq V Ws ≡ true → is_in work_eq V (W ∷ Ws) ≡ true
 in-more W V Ws i = grind (arith, i)
@@ -33,7 +36,7 @@ after-restored x U (W ∷ Ws) h = by (x.works W) (h W (let t = work_tells W W in
     by (Some p) b again = rw (b, again) refl
 
 -- In an epoch that is greater than those of all works, any next name comes after all that are live.
-pub restart-tickets : (v : StorageView) (t : WorkerView) (k : Tickets) → IsRecovered v → Restores v t → k.server ≡ v.accounts.server → k.epoch ≡ (state v).epoch
+restart-tickets : (v : StorageView) (t : WorkerView) (k : Tickets) → IsRecovered v → Restores v t → k.server ≡ v.accounts.server → k.epoch ≡ (state v).epoch
     → ((W : WorkId) → is_some ((state v).works W) ≡ true → W.epoch < k.epoch) → TicketsFit t.table v k
 restart-tickets v t k recovered restored server epoch past = record {
   server = server;
@@ -44,3 +47,10 @@ restart-tickets v t k recovered restored server epoch past = record {
   where
     below : (W : WorkId) → is_some ((state v).works W) ≡ true → work_before W (name_from k) ≡ true
     below W h = let own = (recovered.serving.orderly.works_given W h).own in let less = past W h in below-epoch W k (own ∙ sym server) less
+
+pub started-on : (n : PageCounts) (v : StorageView) (t : WorkerView) (k : Tickets) (epoch : ℕ) → IsStarted server n epoch v → Restores v t → k.server ≡ server → k.epoch ≡ epoch → IsOn n t v k
+started-on n v t k epoch s r own current = record {
+  fits = r.fits;
+  tickets = restart-tickets v t k s.recovered r (own ∙ sym s.of.server_is) (current ∙ sym s.epoch_is) (λ W h. subst (λ n. W.epoch < n) (sym current) (s.works_past W h));
+  own = s.of;
+}

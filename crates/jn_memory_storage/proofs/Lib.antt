@@ -1,9 +1,0 @@
-pub mod Serving
-pub mod FlagLemmas
-pub mod Reading
-pub mod WorkLemmas
-pub mod CarriedLemmas
-pub mod RemovedLemmas
-pub mod AddedLemmas
-pub mod Answering
-pub mod FirstWork

@@ -1,8 +1,0 @@
-use Rattle.std.proofs.Common.{◌≡◌, drop, map}
-use Rattle.jn_base.specs.Names.{work_eq}
-use Rattle.jn_storage.specs.Listing.{is_in}
-use Rattle.jn_storage.specs.Calls.{name_of}
-use Rattle.jn_memory_storage.proofs.search.index_of.Given as goal
-
-abbrev pub invariant-loop-i : goal.invariant-loop-i
-invariant-loop-i l = is_in work_eq l.work (map name_of (drop l.i l.works)) ≡ is_in work_eq l.work (map name_of l.works)

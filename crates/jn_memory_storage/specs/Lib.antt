@@ -1,4 +1,0 @@
-pub mod Find
-pub mod Memory
-pub mod Inside
-pub mod Carried
