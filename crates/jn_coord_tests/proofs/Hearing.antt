@@ -1,5 +1,5 @@
 -- What a coordinator keeps by what it hears, for the tests.
-use Rattle.std.proofs.Common.{◌≡◌, true, Result, Ok, Err, IfOk, ◌∙◌, ap}
+use Rattle.std.proofs.Common.{◌≡◌, true, Result, Ok, Err, IfOk, sym, subst}
 use Rattle.std.specs.Prelude.{OnOk}
 use Rattle.jn_base.specs.declared.names.Tickets.{Tickets}
 use Rattle.jn_msgs.specs.Collected.{Collected}
@@ -12,20 +12,22 @@ use Rattle.jn_coord.specs.Beginning.{TicketsFit}
 use Rattle.jn_coord.specs.Calls.{Does}
 use Rattle.jn_coord.specs.Handling.{Handles}
 use Rattle.jn_coord.specs.Remembered.{Remembered}
-use Rattle.jn_coord_tests.specs.Hearing.{IsOf, IsOn}
+use Rattle.jn_recovery.specs.declared.counts.PageCounts.{PageCounts}
+use Rattle.jn_restarts.proofs.Starts.{later_of}
+use Rattle.jn_coord_tests.specs.Hearing.{server, IsOwn, IsOn}
 
-module _ {A : Type 0} (row : RowOutcome CoordinatorTable) (r u : Remembered) (v w : StorageView) (before after : Collected) (of : IsOf v) where
-  pub handled_of : (k l : Tickets) (answer : Result A CoordFault) → Handles row r v before k answer u w after l → IsOf w
-  handled_of k l (Ok x) h = h.0.reaches.later.server ∙ of
-  handled_of k l (Err Memory) h = ap (λ (z : StorageView). z.accounts.server) h.1 ∙ of
-  handled_of k l (Err Stopped) h = h.0.reaches.later.server ∙ of
+module _ {A : Type 0} (row : RowOutcome CoordinatorTable) (r u : Remembered) (v w : StorageView) (before after : Collected) (n : PageCounts) (own : IsOwn n v) where
+  pub handled_of : (k l : Tickets) (answer : Result A CoordFault) → Handles row r v before k answer u w after l → IsOwn n w
+  handled_of k l (Ok x) h = later_of server n v w h.0.reaches.later own
+  handled_of k l (Err Memory) h = subst (λ (z : StorageView). IsOwn n z) (sym h.1) own
+  handled_of k l (Err Stopped) h = later_of server n v w h.0.reaches.later own
 
-  pub done_of : (answer : Result A CoordFault) → Does row r v before answer u w after → IsOf w
-  done_of (Ok x) h = h.reaches.later.server ∙ of
-  done_of (Err Memory) h = ap (λ (z : StorageView). z.accounts.server) h.1 ∙ of
-  done_of (Err Stopped) h = h.0.reaches.later.server ∙ of
+  pub done_of : (answer : Result A CoordFault) → Does row r v before answer u w after → IsOwn n w
+  done_of (Ok x) h = later_of server n v w h.reaches.later own
+  done_of (Err Memory) h = subst (λ (z : StorageView). IsOwn n z) (sym h.1) own
+  done_of (Err Stopped) h = later_of server n v w h.0.reaches.later own
 
-pub closed_on : {A : Type 0} (row : RowOutcome CoordinatorTable) (r u : Remembered) (v w : StorageView) (before after : Collected) (k : Tickets) (answer : Result A CoordFault) → IsOn r v k
-    → Does row r v before answer u w after → OnOk answer (TicketsFit u w k) → IfOk answer (λ x. IsOn u w k)
-closed_on row r u v w before after k (Ok x) on does fit = record { fits = does.fits; tickets = fit; of = does.reaches.later.server ∙ on.of }
-closed_on row r u v w before after k (Err fault) on does fit = tt
+pub closed_on : {A : Type 0} (row : RowOutcome CoordinatorTable) (r u : Remembered) (v w : StorageView) (before after : Collected) (n : PageCounts) (k : Tickets) (answer : Result A CoordFault) → IsOn n r v k
+    → Does row r v before answer u w after → OnOk answer (TicketsFit u w k) → IfOk answer (λ x. IsOn n u w k)
+closed_on row r u v w before after n k (Ok x) on does fit = record { fits = does.fits; tickets = fit; own = later_of server n v w does.reaches.later on.own }
+closed_on row r u v w before after n k (Err fault) on does fit = tt

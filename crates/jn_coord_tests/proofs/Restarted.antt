@@ -16,7 +16,8 @@ use Rattle.jn_transactions.specs.Listed.{name_below}
 use Rattle.jn_coord.specs.Remembered.{Remembered}
 use Rattle.jn_coord.specs.Beginning.{are_before, TicketsFit}
 use Rattle.jn_coord.specs.Restoring.{Restored}
-use Rattle.jn_intent_tests.specs.Started.{IsStarted}
+use Rattle.jn_recovery.specs.declared.counts.PageCounts.{PageCounts}
+use Rattle.jn_restarts.specs.Restarts.{IsStarted}
 use Rattle.jn_coord_tests.specs.Hearing.{server, IsOn}
 
 in-more : (T V : Tid) (Ts : List Tid) → is_in tid_eq V Ts ≡ true → is_in tid_eq V (T ∷ Ts) ≡ true
@@ -46,9 +47,9 @@ restart-tickets v r k restored server epoch past = record {
     below : (T : Tid) → is_some ((state v).flags T) ≡ true → name_below T (name_from k) ≡ true
     below T h = let own = (restored.fits.serving.orderly.flags_given T h).own in let less = past T h in below-epoch T k (own ∙ sym server) less
 
-pub started-on : (v : StorageView) (r : Remembered) (k : Tickets) (epoch : ℕ) → IsStarted server epoch v → Restored v r → k.server ≡ server → k.epoch ≡ epoch → IsOn r v k
-started-on v r k epoch s restored own current = record {
+pub started-on : (n : PageCounts) (v : StorageView) (r : Remembered) (k : Tickets) (epoch : ℕ) → IsStarted server n epoch v → Restored v r → k.server ≡ server → k.epoch ≡ epoch → IsOn n r v k
+started-on n v r k epoch s restored own current = record {
   fits = restored.fits;
-  tickets = restart-tickets v r k restored (own ∙ sym s.server_is) (current ∙ sym s.epoch_is) (λ T h. subst (λ n. T.epoch < n) (sym current) (s.flags_past T h));
-  of = s.server_is;
+  tickets = restart-tickets v r k restored (own ∙ sym s.of.server_is) (current ∙ sym s.epoch_is) (λ T h. subst (λ n. T.epoch < n) (sym current) (s.flags_past T h));
+  own = s.of;
 }

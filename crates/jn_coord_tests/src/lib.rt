@@ -1,4 +1,4 @@
-//! Tests of a coordinator over a storage in memory, row by row.
+//! Tests of a coordinator over the storage of a server: row by row, after restarts, and stopped at each device call.
 #![tactic(auto)]
 
 #[cfg(test)]

@@ -26,8 +26,8 @@ pub fn new_store(alloc: Global, root: Root) -> Result<Pairs<MemDisk>, AllocError
     Ok(store)
 }
 
-/// Puts the root to a store of zeros.
-fn put_root<S: StableStore>(store: &mut S, root: Root)
+/// Puts the root of a new server to a store of zeros.
+pub fn put_root<S: StableStore>(store: &mut S, root: Root)
     requires { IsBlank (1 + root.pool + root.heads + root.leaves) (S.view store.old) }
     ensures { IsNewStore root (S.view store.new) }
 {

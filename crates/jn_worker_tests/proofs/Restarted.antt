@@ -16,7 +16,8 @@ use Rattle.jn_storage.specs.Storage.{StorageView, IsRecovered}
 use Rattle.jn_storage.specs.Calls.{state}
 use Rattle.jn_worker.specs.Fitting.{WorkerView, TicketsFit}
 use Rattle.jn_worker.specs.Restoring.{Restores}
-use Rattle.jn_intent_tests.specs.Started.{IsStarted}
+use Rattle.jn_recovery.specs.declared.counts.PageCounts.{PageCounts}
+use Rattle.jn_restarts.specs.Restarts.{IsStarted}
 use Rattle.jn_worker_tests.specs.Playing.{server, IsOn}
 
 in-more : (W V : WorkId) (Ws : List WorkId) → is_in work_eq V Ws ≡ true → is_in work_eq V (W ∷ Ws) ≡ true
@@ -47,9 +48,9 @@ restart-tickets v t k recovered restored server epoch past = record {
     below : (W : WorkId) → is_some ((state v).works W) ≡ true → work_before W (name_from k) ≡ true
     below W h = let own = (recovered.serving.orderly.works_given W h).own in let less = past W h in below-epoch W k (own ∙ sym server) less
 
-pub started-on : (v : StorageView) (t : WorkerView) (k : Tickets) (epoch : ℕ) → IsStarted server epoch v → Restores v t → k.server ≡ server → k.epoch ≡ epoch → IsOn t v k
-started-on v t k epoch s r own current = record {
+pub started-on : (n : PageCounts) (v : StorageView) (t : WorkerView) (k : Tickets) (epoch : ℕ) → IsStarted server n epoch v → Restores v t → k.server ≡ server → k.epoch ≡ epoch → IsOn n t v k
+started-on n v t k epoch s r own current = record {
   fits = r.fits;
-  tickets = restart-tickets v t k s.recovered r (own ∙ sym s.server_is) (current ∙ sym s.epoch_is) (λ W h. subst (λ n. W.epoch < n) (sym current) (s.works_past W h));
-  of = s.server_is;
+  tickets = restart-tickets v t k s.recovered r (own ∙ sym s.of.server_is) (current ∙ sym s.epoch_is) (λ W h. subst (λ n. W.epoch < n) (sym current) (s.works_past W h));
+  own = s.of;
 }

@@ -1,14 +1,12 @@
 //! A coordinator over the storage of a server that starts.
 ghost use Rattle.std.specs.Prelude.{IfErr};
-ghost use Rattle.jn_intent_tests.specs.Started.{IsStarted};
-ghost use Rattle.jn_intent_tests.specs.Trial.{MayBegin};
+ghost use Rattle.jn_restarts.specs.Restarts.{MayBegin, IsStarted};
 
-use super::trial::{SERVER, Trial};
+use super::trial::{Desk, SERVER, Trial};
 use jn_base::Tickets;
 use jn_coord::Coordinator;
-use jn_intent::Intents;
-use jn_intent_tests::{new_array, start, take_down};
-use jn_records::Root;
+use jn_intent::{Intents, PageCounts};
+use jn_restarts::{new_array, start, take_down};
 use jn_storage::Storage;
 use jn_store::{ArrayStore, StableStore};
 use std::alloc::Global;
@@ -23,10 +21,11 @@ fn first_name(epoch: u32) -> u32 {
 fn restored<S: StableStore>(
     alloc: Global,
     store: Intents<S>,
+    counts: PageCounts,
     epoch: u32,
 ) -> Result<Trial<Intents<S>>, S>
-    requires { IsStarted SERVER epoch (⟦<Intents<S> as Storage>⟧.view store) }
-    ensures { IfErr result (λ left. MayBegin SERVER (S.view left)) }
+    requires { IsStarted SERVER counts epoch (⟦<Intents<S> as Storage>⟧.view store) }
+    ensures { IfErr result (λ left. MayBegin SERVER counts (S.view left)) }
 {
     let Ok(coordinator) = Coordinator::restore(alloc, &store) else {
         return Err(take_down(store));
@@ -36,21 +35,27 @@ fn restored<S: StableStore>(
         epoch,
         next: first_name(epoch),
     };
-    Ok(Trial {
+    let desk = Desk {
         alloc,
         store,
+        counts,
         coordinator,
         tickets,
-    })
+    };
+    Ok(Trial { desk })
 }
 
 /// The server of a store starts. In its first epoch names begin with 90.
-pub(crate) fn started<S: StableStore>(alloc: Global, store: S) -> Result<Trial<Intents<S>>, S>
-    requires { MayBegin SERVER (S.view store) }
-    ensures { IfErr result (λ left. MayBegin SERVER (S.view left)) }
+pub(crate) fn started<S: StableStore>(
+    alloc: Global,
+    store: S,
+    counts: PageCounts,
+) -> Result<Trial<Intents<S>>, S>
+    requires { MayBegin SERVER counts (S.view store) }
+    ensures { IfErr result (λ left. MayBegin SERVER counts (S.view left)) }
 {
-    match start(alloc, store) {
-        Ok(begun) => restored(alloc, begun.0, begun.1),
+    match start(alloc, store, counts) {
+        Ok(begun) => restored(alloc, begun.0, counts, begun.1),
         Err(left) => Err(left),
     }
 }
@@ -59,40 +64,33 @@ pub(crate) fn started<S: StableStore>(alloc: Global, store: S) -> Result<Trial<I
 pub(crate) fn begun<S: StableStore + Drop>(
     alloc: Global,
     store: S,
+    counts: PageCounts,
 ) -> Result<Trial<Intents<S>>, Fail>
-    requires { MayBegin SERVER (S.view store) }
+    requires { MayBegin SERVER counts (S.view store) }
 {
-    match started(alloc, store) {
+    match started(alloc, store, counts) {
         Ok(trial) => Ok(trial),
         Err(_) => Err("down".into()),
     }
-}
-
-/// The store of a server that goes down.
-fn taken_down<S: StableStore>(trial: Trial<Intents<S>>) -> S
-    ensures { MayBegin SERVER (S.view result) }
-{
-    take_down(trial.store)
 }
 
 /// The server stops and starts again.
 pub(crate) fn restarted<S: StableStore + Drop>(
     trial: Trial<Intents<S>>,
 ) -> Result<Trial<Intents<S>>, Fail> {
-    let alloc = trial.alloc;
-    begun(alloc, taken_down(trial))
+    let desk = trial.desk;
+    let (alloc, counts) = (desk.alloc, desk.counts);
+    begun(alloc, take_down(desk.store), counts)
 }
 
 /// A new server with room for so many flags, which has begun so many epochs.
-fn new_in(alloc: Global, epoch: u32, flags: u16) -> Result<Trial<Intents<ArrayStore>>, Fail> {
-    let root = Root {
-        server: SERVER,
+fn new_in(alloc: Global, epochs: u32, flags: u16) -> Result<Trial<Intents<ArrayStore>>, Fail> {
+    let counts = PageCounts {
         pool: flags,
         heads: 1,
         leaves: 1,
-        epoch,
     };
-    begun(alloc, new_array(alloc, root)?)
+    begun(alloc, new_array(alloc, SERVER, counts, epochs)?, counts)
 }
 
 /// A new server in its second epoch.

@@ -1,16 +1,23 @@
 //! A coordinator that is stopped at each device call, in each way, and started again: it says nothing of what was stopped,
 //! and a commit stands exactly where its flag does.
 ghost use Rattle.std.specs.Prelude.{◌<◌};
-ghost use Rattle.jn_intent_tests.specs.Trial.{MayBegin};
+ghost use Rattle.jn_restarts.specs.Restarts.{MayBegin};
 
 use super::starting::{begun, started};
 use super::trial::{Again, Begin, Done, End, EndEmpty, Heard, READY, SERVER, Thanks, Voted};
-use jn_intent_tests::{new_disk, power_on, stop_at, take_down};
-use jn_records::Root;
+use jn_intent::PageCounts;
+use jn_restarts::{new_pairs, power_on, stop_at, take_down};
 use jn_store::Powered;
 use std::alloc::Global;
 use std::process::Abort;
 use std::test::Fail;
+
+/// Room for one flag.
+const COUNTS: PageCounts = PageCounts {
+    pool: 1,
+    heads: 1,
+    leaves: 1,
+};
 
 const ALL_DONE: [(Heard, &str); 3] = [(Done(90, 'b'), ""), (Done(90, 'a'), ""), (Thanks(90), "")];
 
@@ -33,12 +40,17 @@ const FORGOTTEN: [(Heard, &str); 4] = [
 ];
 
 /// The store of a server that was stopped: its transaction has a flag or is forgotten.
-fn check_left<S: Powered + Drop>(rt: &impl Abort, alloc: Global, store: S) -> Result<(), Fail>
-    requires { MayBegin SERVER (S.view store) }
+fn check_left<S: Powered + Drop>(
+    rt: &impl Abort,
+    alloc: Global,
+    store: S,
+    counts: PageCounts,
+) -> Result<(), Fail>
+    requires { MayBegin SERVER counts (S.view store) }
 {
     let mut store = store;
     power_on(&mut store);
-    let (mut trial, said) = begun(alloc, store)?.say(rt, Again)?;
+    let (mut trial, said) = begun(alloc, store, counts)?.say(rt, Again)?;
     if said.as_str() != "" {
         assert_eq!(rt; said.as_str().trim_end(), "c90b c90a 3:90c");
         trial = trial.hears(rt, &ALL_DONE)?;
@@ -49,17 +61,18 @@ fn check_left<S: Powered + Drop>(rt: &impl Abort, alloc: Global, store: S) -> Re
 
 /// Whether a device call is stopped. Only the last vote and the thanks put a page.
 fn is_stopped<S: Powered + Drop>(rt: &impl Abort, alloc: Global, store: S) -> Result<bool, Fail>
-    requires { MayBegin SERVER (S.view store) }
+    requires { MayBegin SERVER COUNTS (S.view store) }
 {
     // Where the server's start is stopped, the tests of its storage say what is found.
-    let Ok(trial) = started(alloc, store) else {
+    let Ok(trial) = started(alloc, store, COUNTS) else {
         return Ok(true);
     };
     match trial.hears_on(rt, &STORY)? {
         Ok(_) => Ok(false),
         Err((at, left)) => {
             assert!(rt; at == 3 || at == 6);
-            check_left(rt, alloc, take_down(left))?;
+            let counts = left.counts;
+            check_left(rt, alloc, take_down(left.store), counts)?;
             Ok(true)
         }
     }
@@ -69,14 +82,7 @@ fn is_stopped<S: Powered + Drop>(rt: &impl Abort, alloc: Global, store: S) -> Re
 fn is_stopped_at(rt: &impl Abort, alloc: Global, n: u32, way: usize) -> Result<bool, Fail>
     requires { 0 < n }
 {
-    let root = Root {
-        server: SERVER,
-        pool: 1,
-        heads: 1,
-        leaves: 1,
-        epoch: 0,
-    };
-    let mut store = new_disk(alloc, root)?;
+    let mut store = new_pairs(alloc, SERVER, COUNTS, 0)?;
     assert!(rt; stop_at(&mut store, n, way));
     is_stopped(rt, alloc, store)
 }

@@ -5,13 +5,12 @@
 //! room, and `3:1c` the outcome of transaction 1, as a letter. Then come the notes: `!1` where transaction 1
 //! committed, and `.` where the message is ignored.
 ghost use Rattle.std.specs.Prelude.{◌≡◌, true, IfOk, IfErr, IfSome};
-ghost use Rattle.jn_base.specs.declared.names.Tickets.{Tickets};
-ghost use Rattle.jn_coord.specs.Calls.{Fits};
 ghost use Rattle.jn_coord.specs.Handling.{FewWorks};
-ghost use Rattle.jn_coord_tests.specs.Hearing.{IsOf, IsOn};
+ghost use Rattle.jn_coord_tests.specs.Hearing.{IsOwn, IsOn};
 
 use jn_base::{BlockNo, Cause, ClientNo, FileNo, LockUnit, Party, ServerNo, Tickets, Tid, WorkId};
 use jn_coord::Coordinator;
+use jn_intent::PageCounts;
 use jn_msgs::{Message, Note, Out, Outcome, Vote, Works};
 use jn_storage::FlagStore;
 use jn_transactions::CoordFault;
@@ -194,55 +193,53 @@ fn words_of(alloc: Global, out: &Out) -> Result<String, AllocError> {
     Ok(words)
 }
 
-/// What a coordinator does without a message.
-fn tell<F: FlagStore>(
-    coordinator: &mut Coordinator,
-    store: &mut F,
-    heard: Heard,
-    out: &mut Out,
-) -> Result<(), CoordFault>
-    requires { Fits coordinator.old (F.view store.old) }
-    ensures on { (k : Tickets) → IsOn coordinator.old (F.view store.old) k → IfOk result (λ _. IsOn coordinator.new (F.view store.new) k) }
-    ensures of { IsOf (F.view store.old) → IsOf (F.view store.new) }
-{
-    if let Again = heard {
-        return match coordinator.again(out) {
-            Ok(()) => Ok(()),
-            Err(_) => Err(CoordFault::Memory),
-        };
-    }
-    coordinator.close_clients(store)
-}
-
-/// What a coordinator does when it hears this.
-fn answer<F: FlagStore>(
-    alloc: Global,
-    coordinator: &mut Coordinator,
-    store: &mut F,
-    heard: Heard,
-    tickets: &mut Tickets,
-    out: &mut Out,
-) -> Result<(), CoordFault>
-    requires { IsOn coordinator.old (F.view store.old) tickets.old }
-    ensures on { IfOk result (λ _. IsOn coordinator.new (F.view store.new) tickets.new) }
-    ensures of { IsOf (F.view store.new) }
-{
-    let Some(message) = message_of(alloc, heard)? else {
-        return tell(coordinator, store, heard, out);
-    };
-    if tickets.next > 999 {
-        return Err(CoordFault::Memory);
-    }
-    coordinator.handle(store, &message, tickets, out)
-}
-
-/// The coordinator of server 1 and its storage.
+/// The coordinator of server 1, its storage of so many pages, and the next name.
 #[derive(Drop)]
-pub(crate) struct Trial<F: FlagStore> {
+pub(crate) struct Desk<F: FlagStore> {
     pub(crate) alloc: Global,
     pub(crate) store: F,
+    pub(crate) counts: PageCounts,
     pub(crate) coordinator: Coordinator,
     pub(crate) tickets: Tickets,
+}
+
+impl<F: FlagStore> Desk<F> {
+    /// What a coordinator does without a message.
+    fn tell(&mut self, heard: Heard, out: &mut Out) -> Result<(), CoordFault>
+        requires { IsOn self.old.counts self.old.coordinator (F.view self.old.store) self.old.tickets }
+        ensures on { IfOk result (λ _. IsOn self.new.counts self.new.coordinator (F.view self.new.store) self.new.tickets) }
+        ensures own { IsOwn self.new.counts (F.view self.new.store) }
+    {
+        if let Again = heard {
+            return match self.coordinator.again(out) {
+                Ok(()) => Ok(()),
+                Err(_) => Err(CoordFault::Memory),
+            };
+        }
+        self.coordinator.close_clients(&mut self.store)
+    }
+
+    /// What a coordinator does when it hears this.
+    fn answer(&mut self, heard: Heard, out: &mut Out) -> Result<(), CoordFault>
+        requires { IsOn self.old.counts self.old.coordinator (F.view self.old.store) self.old.tickets }
+        ensures on { IfOk result (λ _. IsOn self.new.counts self.new.coordinator (F.view self.new.store) self.new.tickets) }
+        ensures own { IsOwn self.new.counts (F.view self.new.store) }
+    {
+        let Some(message) = message_of(self.alloc, heard)? else {
+            return self.tell(heard, out);
+        };
+        if self.tickets.next > 999 {
+            return Err(CoordFault::Memory);
+        }
+        self.coordinator
+            .handle(&mut self.store, &message, &mut self.tickets, out)
+    }
+}
+
+/// The same, between two things that it hears.
+#[derive(Drop)]
+pub(crate) struct Trial<F: FlagStore> {
+    pub(crate) desk: Desk<F>,
 }
 
 impl<F: FlagStore> Model for Trial<F> {
@@ -251,44 +248,26 @@ impl<F: FlagStore> Model for Trial<F> {
 
     ghost Value = { Tickets };
 
-    ghost view = { λ t. t.tickets };
+    ghost view = { λ t. t.desk.tickets };
 
-    ghost invariant = { λ t. IsOn t.coordinator (F.view t.store) t.tickets };
+    ghost invariant = { λ t. IsOn t.desk.counts t.desk.coordinator (F.view t.desk.store) t.desk.tickets };
 }
 
 impl<F: FlagStore + Drop> Trial<F> {
-    /// What it says when it hears this; or else its storage, where it was stopped, and then it says nothing.
-    fn hear(self, rt: &impl Abort, heard: Heard) -> Result<Result<(Self, String), F>, Fail>
-        ensures { IfOk result (λ said. IfErr said (λ left. IsOf (F.view left))) }
+    /// What it says when it hears this; or else what is left where it was stopped, and then it says nothing.
+    fn hear(self, rt: &impl Abort, heard: Heard) -> Result<Result<(Self, String), Desk<F>>, Fail>
+        ensures { IfOk result (λ said. IfErr said (λ left. IsOwn left.counts (F.view left.store))) }
     {
-        let Trial {
-            alloc,
-            mut store,
-            mut coordinator,
-            mut tickets,
-        } = self;
-        let mut out = Out::new(alloc);
-        let answered = answer(
-            alloc,
-            &mut coordinator,
-            &mut store,
-            heard,
-            &mut tickets,
-            &mut out,
-        );
-        let words = words_of(alloc, &out)?;
+        let Trial { mut desk } = self;
+        let mut out = Out::new(desk.alloc);
+        let answered = desk.answer(heard, &mut out);
+        let words = words_of(desk.alloc, &out)?;
         if let Err(fault) = answered {
             assert_eq!(rt; fault, CoordFault::Stopped);
             assert_eq!(rt; words.as_str(), "");
-            return Ok(Err(store));
+            return Ok(Err(desk));
         }
-        let trial = Trial {
-            alloc,
-            store,
-            coordinator,
-            tickets,
-        };
-        Ok(Ok((trial, words)))
+        Ok(Ok((Trial { desk }, words)))
     }
 
     /// What it says when it hears this, which isn't stopped.
@@ -299,13 +278,13 @@ impl<F: FlagStore + Drop> Trial<F> {
         }
     }
 
-    /// Hears each, and says the words beside it; or else the place of the one that was stopped, and its storage.
+    /// Hears each, and says the words beside it; or else the place of the one that was stopped, and what is left.
     pub(crate) fn hears_on(
         self,
         rt: &impl Abort,
         story: &[(Heard, &str)],
-    ) -> Result<Result<Self, (usize, F)>, Fail>
-        ensures { IfOk result (λ heard. IfErr heard (λ left. IsOf (F.view left.1))) }
+    ) -> Result<Result<Self, (usize, Desk<F>)>, Fail>
+        ensures { IfOk result (λ heard. IfErr heard (λ left. IsOwn left.1.counts (F.view left.1.store))) }
     {
         let mut trial = self;
         for (at, (heard, words)) in story.iter().enumerate() {

@@ -2,12 +2,13 @@
 ghost use Rattle.std.specs.Prelude.{◌≡◌, true, IfOk};
 ghost use Rattle.jn_storage.specs.Viewing.{BlockInRange};
 ghost use Rattle.jn_worker.specs.Handling.{InRange};
-ghost use Rattle.jn_worker_tests.specs.Playing.{IsOf, IsOn};
+ghost use Rattle.jn_worker_tests.specs.Playing.{IsOwn, IsOn};
 
 use jn_base::{
     Answer, BlockContent, BlockNo, ClientNo, FileNo, LockUnit, Op, Party, ServerNo, Tickets, Tid,
     WorkId,
 };
+use jn_intent::PageCounts;
 use jn_msgs::{Message, Note, Out, Vote};
 use jn_storage::WorkStore;
 use jn_worker::{Worker, WorkerFault};
@@ -182,23 +183,24 @@ fn op_of(alloc: Global, task: Task) -> Result<Op, AllocError> {
     })
 }
 
-/// A worker, its storage, the next name and what was sent and noted last.
+/// A worker, its storage of so many pages, the next name and what was sent and noted last.
 #[derive(Drop)]
 pub(crate) struct Bench<W: WorkStore> {
     pub(crate) store: W,
     pub(crate) worker: Worker,
     pub(crate) tickets: Tickets,
     pub(crate) out: Out,
+    pub(crate) counts: PageCounts,
     pub(crate) alloc: Global,
 }
 
 impl<W: WorkStore> Bench<W> {
     /// Hands the worker a message.
     fn tell(&mut self, message: Message) -> Result<Came, WorkerFault>
-        requires on { IsOn self.old.worker (W.view self.old.store) self.old.tickets }
+        requires on { IsOn self.old.counts self.old.worker (W.view self.old.store) self.old.tickets }
         requires range { InRange message }
-        ensures on { IfOk result (λ _. IsOn self.new.worker (W.view self.new.store) self.new.tickets) }
-        ensures of { IsOf (W.view self.new.store) }
+        ensures on { IfOk result (λ _. IsOn self.new.counts self.new.worker (W.view self.new.store) self.new.tickets) }
+        ensures own { IsOwn self.new.counts (W.view self.new.store) }
     {
         self.out = Out::new(self.alloc);
         if self.tickets.next > 999 {
@@ -217,9 +219,9 @@ impl<W: WorkStore> Bench<W> {
     }
 
     fn step(&mut self) -> Result<Came, WorkerFault>
-        requires { IsOn self.old.worker (W.view self.old.store) self.old.tickets }
-        ensures on { IfOk result (λ _. IsOn self.new.worker (W.view self.new.store) self.new.tickets) }
-        ensures of { IsOf (W.view self.new.store) }
+        requires { IsOn self.old.counts self.old.worker (W.view self.old.store) self.old.tickets }
+        ensures on { IfOk result (λ _. IsOn self.new.counts self.new.worker (W.view self.new.store) self.new.tickets) }
+        ensures own { IsOwn self.new.counts (W.view self.new.store) }
     {
         self.out = Out::new(self.alloc);
         match self.worker.step(&mut self.store, &mut self.out) {
@@ -231,9 +233,9 @@ impl<W: WorkStore> Bench<W> {
 
     /// Hands the worker an operation, whose block is one of the 120.
     fn operate(&mut self, w: u32, number: u32, task: Task) -> Result<Came, WorkerFault>
-        requires { IsOn self.old.worker (W.view self.old.store) self.old.tickets }
-        ensures on { IfOk result (λ _. IsOn self.new.worker (W.view self.new.store) self.new.tickets) }
-        ensures of { IsOf (W.view self.new.store) }
+        requires { IsOn self.old.counts self.old.worker (W.view self.old.store) self.old.tickets }
+        ensures on { IfOk result (λ _. IsOn self.new.counts self.new.worker (W.view self.new.store) self.new.tickets) }
+        ensures own { IsOwn self.new.counts (W.view self.new.store) }
     {
         let op = op_of(self.alloc, task)?;
         if !in_range(&op) {
@@ -243,9 +245,9 @@ impl<W: WorkStore> Bench<W> {
     }
 
     fn expire(&mut self, tid: Tid) -> Result<Came, WorkerFault>
-        requires { IsOn self.old.worker (W.view self.old.store) self.old.tickets }
-        ensures on { IfOk result (λ _. IsOn self.new.worker (W.view self.new.store) self.new.tickets) }
-        ensures of { IsOf (W.view self.new.store) }
+        requires { IsOn self.old.counts self.old.worker (W.view self.old.store) self.old.tickets }
+        ensures on { IfOk result (λ _. IsOn self.new.counts self.new.worker (W.view self.new.store) self.new.tickets) }
+        ensures own { IsOwn self.new.counts (W.view self.new.store) }
     {
         if self.worker.timeout(tid) {
             Ok(Came::Nothing)
@@ -255,9 +257,9 @@ impl<W: WorkStore> Bench<W> {
     }
 
     fn again(&mut self) -> Result<Came, WorkerFault>
-        requires { IsOn self.old.worker (W.view self.old.store) self.old.tickets }
-        ensures on { IfOk result (λ _. IsOn self.new.worker (W.view self.new.store) self.new.tickets) }
-        ensures of { IsOf (W.view self.new.store) }
+        requires { IsOn self.old.counts self.old.worker (W.view self.old.store) self.old.tickets }
+        ensures on { IfOk result (λ _. IsOn self.new.counts self.new.worker (W.view self.new.store) self.new.tickets) }
+        ensures own { IsOwn self.new.counts (W.view self.new.store) }
     {
         self.out = Out::new(self.alloc);
         self.worker.again(&mut self.out)?;
@@ -266,9 +268,9 @@ impl<W: WorkStore> Bench<W> {
 
     /// Does a move.
     pub(crate) fn advance(&mut self, step: Move) -> Result<Came, WorkerFault>
-        requires { IsOn self.old.worker (W.view self.old.store) self.old.tickets }
-        ensures on { IfOk result (λ _. IsOn self.new.worker (W.view self.new.store) self.new.tickets) }
-        ensures of { IsOf (W.view self.new.store) }
+        requires { IsOn self.old.counts self.old.worker (W.view self.old.store) self.old.tickets }
+        ensures on { IfOk result (λ _. IsOn self.new.counts self.new.worker (W.view self.new.store) self.new.tickets) }
+        ensures own { IsOwn self.new.counts (W.view self.new.store) }
     {
         match step {
             Move::Open(t) => self.tell(Message::Open(ClientNo(3), 9, tid(t))),
@@ -290,9 +292,9 @@ impl<W: WorkStore> Bench<W> {
         &mut self,
         moves: &[(Move, Came)],
     ) -> Result<Option<(usize, Came)>, (usize, WorkerFault)>
-        requires { IsOn self.old.worker (W.view self.old.store) self.old.tickets }
-        ensures on { IfOk result (λ _. IsOn self.new.worker (W.view self.new.store) self.new.tickets) }
-        ensures of { IsOf (W.view self.new.store) }
+        requires { IsOn self.old.counts self.old.worker (W.view self.old.store) self.old.tickets }
+        ensures on { IfOk result (λ _. IsOn self.new.counts self.new.worker (W.view self.new.store) self.new.tickets) }
+        ensures own { IsOwn self.new.counts (W.view self.new.store) }
     {
         for at in 0..moves.len() {
             match self.advance(moves[at].0) {
@@ -309,9 +311,9 @@ impl<W: WorkStore> Bench<W> {
 
     /// Does these moves, and finds that of each comes what is expected.
     pub(crate) fn plays(&mut self, rt: &impl Abort, moves: &[(Move, Came)]) -> Result<(), Fail>
-        requires { IsOn self.old.worker (W.view self.old.store) self.old.tickets }
-        ensures on { IfOk result (λ _. IsOn self.new.worker (W.view self.new.store) self.new.tickets) }
-        ensures of { IsOf (W.view self.new.store) }
+        requires { IsOn self.old.counts self.old.worker (W.view self.old.store) self.old.tickets }
+        ensures on { IfOk result (λ _. IsOn self.new.counts self.new.worker (W.view self.new.store) self.new.tickets) }
+        ensures own { IsOwn self.new.counts (W.view self.new.store) }
     {
         match self.play(moves) {
             Ok(other) => {
@@ -324,9 +326,9 @@ impl<W: WorkStore> Bench<W> {
 
     /// Steps until nothing is to be done, and says how often; ten times at most.
     pub(crate) fn idle(&mut self) -> Result<u32, WorkerFault>
-        requires { IsOn self.old.worker (W.view self.old.store) self.old.tickets }
-        ensures on { IfOk result (λ _. IsOn self.new.worker (W.view self.new.store) self.new.tickets) }
-        ensures of { IsOf (W.view self.new.store) }
+        requires { IsOn self.old.counts self.old.worker (W.view self.old.store) self.old.tickets }
+        ensures on { IfOk result (λ _. IsOn self.new.counts self.new.worker (W.view self.new.store) self.new.tickets) }
+        ensures own { IsOwn self.new.counts (W.view self.new.store) }
     {
         for steps in 0..10 {
             if self.step()? == Came::Idle {
@@ -338,9 +340,9 @@ impl<W: WorkStore> Bench<W> {
 
     /// Opens transactions, or does a work's operations, until there are so many; the last one's outcome.
     pub(crate) fn fill(&mut self, count: u32, many: Many) -> Result<Came, WorkerFault>
-        requires { IsOn self.old.worker (W.view self.old.store) self.old.tickets }
-        ensures on { IfOk result (λ _. IsOn self.new.worker (W.view self.new.store) self.new.tickets) }
-        ensures of { IsOf (W.view self.new.store) }
+        requires { IsOn self.old.counts self.old.worker (W.view self.old.store) self.old.tickets }
+        ensures on { IfOk result (λ _. IsOn self.new.counts self.new.worker (W.view self.new.store) self.new.tickets) }
+        ensures own { IsOwn self.new.counts (W.view self.new.store) }
     {
         let mut came = Came::Idle;
         for n in 0..count {

@@ -1,15 +1,13 @@
 //! A worker over the storage of a server that starts.
 ghost use Rattle.std.specs.Prelude.{IfOk, IfErr};
-ghost use Rattle.jn_intent_tests.specs.Started.{IsStarted};
-ghost use Rattle.jn_intent_tests.specs.Trial.{MayBegin};
-ghost use Rattle.jn_worker_tests.specs.Playing.{IsOf, IsOn};
+ghost use Rattle.jn_restarts.specs.Restarts.{MayBegin, IsStarted};
+ghost use Rattle.jn_worker_tests.specs.Playing.{IsOwn, IsOn};
 
 use super::bench::{Bench, SERVER};
 use jn_base::Tickets;
-use jn_intent::Intents;
-use jn_intent_tests::{new_array, power_on, start, take_down};
+use jn_intent::{Intents, PageCounts};
 use jn_msgs::Out;
-use jn_records::Root;
+use jn_restarts::{new_array, power_on, start, take_down};
 use jn_storage::Storage;
 use jn_store::{ArrayStore, Powered, StableStore};
 use jn_worker::Worker;
@@ -25,11 +23,12 @@ fn first_name(epoch: u32) -> u32 {
 fn restored<S: StableStore>(
     alloc: Global,
     store: Intents<S>,
+    counts: PageCounts,
     epoch: u32,
 ) -> Result<Bench<Intents<S>>, S>
-    requires { IsStarted SERVER epoch (⟦<Intents<S> as Storage>⟧.view store) }
-    ensures on { IfOk result (λ b. IsOn b.worker (⟦<Intents<S> as Storage>⟧.view b.store) b.tickets) }
-    ensures begin { IfErr result (λ left. MayBegin SERVER (S.view left)) }
+    requires { IsStarted SERVER counts epoch (⟦<Intents<S> as Storage>⟧.view store) }
+    ensures on { IfOk result (λ b. IsOn b.counts b.worker (⟦<Intents<S> as Storage>⟧.view b.store) b.tickets) }
+    ensures begin { IfErr result (λ left. MayBegin SERVER counts (S.view left)) }
 {
     let Ok(worker) = Worker::restore(alloc, &store) else {
         return Err(take_down(store));
@@ -44,28 +43,37 @@ fn restored<S: StableStore>(
         worker,
         tickets,
         out: Out::new(alloc),
+        counts,
         alloc,
     })
 }
 
 /// The server of a store starts. In its first epoch names begin with 100.
-pub(crate) fn started<S: StableStore>(alloc: Global, store: S) -> Result<Bench<Intents<S>>, S>
-    requires { MayBegin SERVER (S.view store) }
-    ensures on { IfOk result (λ b. IsOn b.worker (⟦<Intents<S> as Storage>⟧.view b.store) b.tickets) }
-    ensures begin { IfErr result (λ left. MayBegin SERVER (S.view left)) }
+pub(crate) fn started<S: StableStore>(
+    alloc: Global,
+    store: S,
+    counts: PageCounts,
+) -> Result<Bench<Intents<S>>, S>
+    requires { MayBegin SERVER counts (S.view store) }
+    ensures on { IfOk result (λ b. IsOn b.counts b.worker (⟦<Intents<S> as Storage>⟧.view b.store) b.tickets) }
+    ensures begin { IfErr result (λ left. MayBegin SERVER counts (S.view left)) }
 {
-    match start(alloc, store) {
-        Ok(begun) => restored(alloc, begun.0, begun.1),
+    match start(alloc, store, counts) {
+        Ok(begun) => restored(alloc, begun.0, counts, begun.1),
         Err(left) => Err(left),
     }
 }
 
 /// The same, where nothing stops it.
-fn begun<S: StableStore + Drop>(alloc: Global, store: S) -> Result<Bench<Intents<S>>, Fail>
-    requires { MayBegin SERVER (S.view store) }
-    ensures { IfOk result (λ b. IsOn b.worker (⟦<Intents<S> as Storage>⟧.view b.store) b.tickets) }
+fn begun<S: StableStore + Drop>(
+    alloc: Global,
+    store: S,
+    counts: PageCounts,
+) -> Result<Bench<Intents<S>>, Fail>
+    requires { MayBegin SERVER counts (S.view store) }
+    ensures { IfOk result (λ b. IsOn b.counts b.worker (⟦<Intents<S> as Storage>⟧.view b.store) b.tickets) }
 {
-    match started(alloc, store) {
+    match started(alloc, store, counts) {
         Ok(bench) => Ok(bench),
         Err(_) => Err("down".into()),
     }
@@ -73,8 +81,8 @@ fn begun<S: StableStore + Drop>(alloc: Global, store: S) -> Result<Bench<Intents
 
 /// The store of a server that goes down, whatever was stopped.
 fn taken_down<S: StableStore>(bench: Bench<Intents<S>>) -> S
-    requires { IsOf (⟦<Intents<S> as Storage>⟧.view bench.store) }
-    ensures { MayBegin SERVER (S.view result) }
+    requires { IsOwn bench.counts (⟦<Intents<S> as Storage>⟧.view bench.store) }
+    ensures { MayBegin SERVER bench.counts (S.view result) }
 {
     take_down(bench.store)
 }
@@ -83,44 +91,42 @@ fn taken_down<S: StableStore>(bench: Bench<Intents<S>>) -> S
 pub(crate) fn restarted<S: StableStore + Drop>(
     bench: Bench<Intents<S>>,
 ) -> Result<Bench<Intents<S>>, Fail>
-    requires { IsOf (⟦<Intents<S> as Storage>⟧.view bench.store) }
-    ensures { IfOk result (λ b. IsOn b.worker (⟦<Intents<S> as Storage>⟧.view b.store) b.tickets) }
+    requires { IsOwn bench.counts (⟦<Intents<S> as Storage>⟧.view bench.store) }
+    ensures { IfOk result (λ b. IsOn b.counts b.worker (⟦<Intents<S> as Storage>⟧.view b.store) b.tickets) }
 {
-    let alloc = bench.alloc;
-    begun(alloc, taken_down(bench))
+    let (alloc, counts) = (bench.alloc, bench.counts);
+    begun(alloc, taken_down(bench), counts)
 }
 
 /// The same, after it has lost power.
 pub(crate) fn powered<S: Powered + Drop>(
     bench: Bench<Intents<S>>,
 ) -> Result<Bench<Intents<S>>, Fail>
-    requires { IsOf (⟦<Intents<S> as Storage>⟧.view bench.store) }
-    ensures { IfOk result (λ b. IsOn b.worker (⟦<Intents<S> as Storage>⟧.view b.store) b.tickets) }
+    requires { IsOwn bench.counts (⟦<Intents<S> as Storage>⟧.view bench.store) }
+    ensures { IfOk result (λ b. IsOn b.counts b.worker (⟦<Intents<S> as Storage>⟧.view b.store) b.tickets) }
 {
-    let alloc = bench.alloc;
+    let (alloc, counts) = (bench.alloc, bench.counts);
     let mut store = taken_down(bench);
     power_on(&mut store);
-    begun(alloc, store)
+    begun(alloc, store, counts)
 }
 
 /// A new server, which has begun so many epochs: so many records, heads and data pages are free.
 fn new_in(
     alloc: Global,
-    epoch: u32,
+    epochs: u32,
     pool: u16,
     heads: u16,
     leaves: u16,
 ) -> Result<Bench<Intents<ArrayStore>>, Fail>
-    ensures { IfOk result (λ b. IsOn b.worker (⟦<Intents<ArrayStore> as Storage>⟧.view b.store) b.tickets) }
+    ensures { IfOk result (λ b. IsOn b.counts b.worker (⟦<Intents<ArrayStore> as Storage>⟧.view b.store) b.tickets) }
 {
-    let root = Root {
-        server: SERVER,
+    let counts = PageCounts {
         pool,
         heads,
         leaves,
-        epoch,
     };
-    begun(alloc, new_array(alloc, root)?)
+    begun(alloc, new_array(alloc, SERVER, counts, epochs)?, counts)
 }
 
 /// A new server in its second epoch.
@@ -130,7 +136,7 @@ pub(crate) fn new_bench(
     heads: u16,
     leaves: u16,
 ) -> Result<Bench<Intents<ArrayStore>>, Fail>
-    ensures { IfOk result (λ b. IsOn b.worker (⟦<Intents<ArrayStore> as Storage>⟧.view b.store) b.tickets) }
+    ensures { IfOk result (λ b. IsOn b.counts b.worker (⟦<Intents<ArrayStore> as Storage>⟧.view b.store) b.tickets) }
 {
     new_in(alloc, 1, pool, heads, leaves)
 }
@@ -142,7 +148,7 @@ pub(crate) fn first_bench(
     heads: u16,
     leaves: u16,
 ) -> Result<Bench<Intents<ArrayStore>>, Fail>
-    ensures { IfOk result (λ b. IsOn b.worker (⟦<Intents<ArrayStore> as Storage>⟧.view b.store) b.tickets) }
+    ensures { IfOk result (λ b. IsOn b.counts b.worker (⟦<Intents<ArrayStore> as Storage>⟧.view b.store) b.tickets) }
 {
     new_in(alloc, 0, pool, heads, leaves)
 }

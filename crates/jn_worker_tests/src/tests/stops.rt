@@ -1,20 +1,27 @@
 //! A worker that is stopped at each device call, in each way, and started again: it tells nothing of what was stopped, and
 //! what it had voted it keeps.
 ghost use Rattle.std.specs.Prelude.{◌<◌};
-ghost use Rattle.jn_intent_tests.specs.Trial.{MayBegin};
+ghost use Rattle.jn_restarts.specs.Restarts.{MayBegin};
 ghost use Rattle.jn_worker_tests.specs.Playing.{IsOn};
 
 use super::bench::{Bench, Came, Move, SERVER, Task, read};
 use super::starting::{powered, started};
-use jn_intent_tests::{new_disk, stop_at};
+use jn_intent::PageCounts;
 use jn_msgs::Vote;
-use jn_records::Root;
+use jn_restarts::{new_pairs, stop_at};
 use jn_storage::WorkStore;
 use jn_store::Powered;
 use jn_worker::WorkerFault;
 use std::alloc::Global;
 use std::process::Abort;
 use std::test::Fail;
+
+/// What the one work needs.
+const COUNTS: PageCounts = PageCounts {
+    pool: 3,
+    heads: 1,
+    leaves: 1,
+};
 
 const READY: Came = Came::Vote(1, 100, Vote::Ready);
 
@@ -55,7 +62,7 @@ fn may_come(at: usize, came: Came) -> bool {
 
 /// The work is told to commit, and is carried out.
 fn finish<W: WorkStore>(rt: &impl Abort, bench: &mut Bench<W>, at: usize) -> Result<(), Fail>
-    requires { IsOn bench.old.worker (W.view bench.old.store) bench.old.tickets }
+    requires { IsOn bench.old.counts bench.old.worker (W.view bench.old.store) bench.old.tickets }
 {
     let came = bench.advance(Move::Commit(1, 100))?;
     assert!(rt; may_come(at, came), "{came:?} at {at}");
@@ -71,7 +78,7 @@ fn finish<W: WorkStore>(rt: &impl Abort, bench: &mut Bench<W>, at: usize) -> Res
 
 /// The move at this place was stopped: a work that hadn't voted may be lost, another one is carried out.
 fn go_on<W: WorkStore>(rt: &impl Abort, bench: &mut Bench<W>, at: usize) -> Result<(), Fail>
-    requires { IsOn bench.old.worker (W.view bench.old.store) bench.old.tickets }
+    requires { IsOn bench.old.counts bench.old.worker (W.view bench.old.store) bench.old.tickets }
 {
     if at != PREPARE {
         return finish(rt, bench, at);
@@ -92,10 +99,10 @@ fn go_on<W: WorkStore>(rt: &impl Abort, bench: &mut Bench<W>, at: usize) -> Resu
 
 /// Whether a device call is stopped.
 fn is_stopped<S: Powered + Drop>(rt: &impl Abort, alloc: Global, store: S) -> Result<bool, Fail>
-    requires { MayBegin SERVER (S.view store) }
+    requires { MayBegin SERVER COUNTS (S.view store) }
 {
     // Where the server's start is stopped, the tests of its storage say what is found.
-    let Ok(mut bench) = started(alloc, store) else {
+    let Ok(mut bench) = started(alloc, store, COUNTS) else {
         return Ok(true);
     };
     match bench.play(&STORY) {
@@ -117,14 +124,7 @@ fn is_stopped<S: Powered + Drop>(rt: &impl Abort, alloc: Global, store: S) -> Re
 fn is_stopped_at(rt: &impl Abort, alloc: Global, n: u32, way: usize) -> Result<bool, Fail>
     requires { 0 < n }
 {
-    let root = Root {
-        server: SERVER,
-        pool: 3,
-        heads: 1,
-        leaves: 1,
-        epoch: 0,
-    };
-    let mut store = new_disk(alloc, root)?;
+    let mut store = new_pairs(alloc, SERVER, COUNTS, 0)?;
     assert!(rt; stop_at(&mut store, n, way));
     is_stopped(rt, alloc, store)
 }
