@@ -1,12 +1,14 @@
 //! A coordinator that is stopped at each device call, in each way, and started again: it says nothing of what was stopped,
 //! and a commit stands exactly where its flag does.
 ghost use Rattle.std.specs.Prelude.{◌<◌};
+ghost use Rattle.jn_coord_tests.specs.Hearing.{IsOwn};
 ghost use Rattle.jn_restarts.specs.Restarts.{MayBegin};
 
 use super::starting::{begun, started};
-use super::trial::{Again, Begin, Done, End, EndEmpty, Heard, READY, SERVER, Thanks, Voted};
-use jn_intent::PageCounts;
+use super::trial::{Again, Begin, Desk, Done, End, EndEmpty, Heard, READY, SERVER, Thanks, Voted};
+use jn_intent::{Intents, PageCounts};
 use jn_restarts::{new_pairs, power_on, stop_at, take_down};
+use jn_storage::Storage;
 use jn_store::Powered;
 use std::alloc::Global;
 use std::process::Abort;
@@ -39,16 +41,16 @@ const FORGOTTEN: [(Heard, &str); 4] = [
     (EndEmpty(1), "3:1c !1"),
 ];
 
-/// The store of a server that was stopped: its transaction has a flag or is forgotten.
+/// What is left of a server that was stopped: its transaction has a flag or is forgotten.
 fn check_left<S: Powered + Drop>(
     rt: &impl Abort,
     alloc: Global,
-    store: S,
-    counts: PageCounts,
+    left: Desk<Intents<S>>,
 ) -> Result<(), Fail>
-    requires { MayBegin SERVER counts (S.view store) }
+    requires { IsOwn left.counts (⟦<Intents<S> as Storage>⟧.view left.store) }
 {
-    let mut store = store;
+    let counts = left.counts;
+    let mut store = take_down(left.store);
     power_on(&mut store);
     let (mut trial, said) = begun(alloc, store, counts)?.say(rt, Again)?;
     if said.as_str() != "" {
@@ -71,8 +73,7 @@ fn is_stopped<S: Powered + Drop>(rt: &impl Abort, alloc: Global, store: S) -> Re
         Ok(_) => Ok(false),
         Err((at, left)) => {
             assert!(rt; at == 3 || at == 6);
-            let counts = left.counts;
-            check_left(rt, alloc, take_down(left.store), counts)?;
+            check_left(rt, alloc, left)?;
             Ok(true)
         }
     }
@@ -87,14 +88,21 @@ fn is_stopped_at(rt: &impl Abort, alloc: Global, n: u32, way: usize) -> Result<b
     is_stopped(rt, alloc, store)
 }
 
+/// Stops the story at each device call in turn, until it is done before that call, and says which.
+fn calls_until_done(rt: &impl Abort, alloc: Global, way: usize) -> Result<u32, Fail> {
+    for n in 1..100u32 {
+        if !is_stopped_at(rt, alloc, n, way)? {
+            return Ok(n);
+        }
+    }
+    Err("no end".into())
+}
+
 #[test]
 fn a_stopped_coordinator_says_nothing_and_keeps_its_flags(rt: HostRuntime) -> Result<(), Fail> {
     for way in 0..3 {
-        let mut n = 1;
-        while n < 100 && is_stopped_at(&rt, rt.alloc(), n, way)? {
-            n += 1;
-        }
-        assert!(rt; n > 20 && n < 100);
+        let calls = calls_until_done(&rt, rt.alloc(), way)?;
+        assert!(rt; calls > 20);
     }
     Ok(())
 }
