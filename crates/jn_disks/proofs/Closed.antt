@@ -43,7 +43,7 @@ module _ (s server : ServerNo) (g : Counts) (good_one good_two : ℕ → Bool) (
     good = good;
     pairs = λ i lt. same i (omega (arith, lt)) ∙ sound.pairs i lt ∙ sym (same (i + page_count g) (omega (arith, lt)));
     pool = λ i lt. same (slot_place g i) (omega (arith, lt)) ∙ sound.pool i lt;
-    files = λ f i j a b used is used' is'. sound.files f i j a b
+    files = λ f i j a b x y used is used' is'. sound.files f i j a b (sound.heads i a) (sound.heads j b)
         (ap is_used (sym (head_same i a)) ∙ used) (ap file_in (sym (head_same i a)) ∙ is) (ap is_used (sym (head_same j b)) ∙ used') (ap file_in (sym (head_same j b)) ∙ is');
     heads = λ i lt. let h = sound.heads i lt in (h.0, h.1, h.2, head_same i lt ∙ h.3);
     addresses = λ a least i j p q x y. sound.addresses a least i j p q (names a i p x) (names a j q y);

@@ -112,7 +112,7 @@ module _ (server : ServerNo) (g : Counts) (v : StoreView) (epoch : ℕ) (records
     good = good;
     pairs = halves;
     pool = λ i lt. let at : slot_place g i ≡ page_of i = omega arith in page_is (slot_place g i) (omega (arith, lt)) ∙ ap v.first at ∙ (standing.held.pool i (let e = standing.held.slots in omega (arith, lt, e))).only.first ∙ ap record_page (free i);
-    files = one_head;
+    files = λ f i j a b x y. one_head f i j a b;
     heads = λ i lt. let at = standing.held.heads_stored i lt in (head_in heads i, at.whole, at.fits, head_page_is i lt);
     addresses = λ a least i j p q x y. addressed a i j p q least x y;
     tails = λ i lt. ap (drop 448) (sym (picked_is (data_place g i) (omega (arith, lt)))) ∙ (standing.recoverable.each (λ n. false)).of_format.data_pages i lt;

@@ -170,7 +170,7 @@ module _ (s : ServerNo) (m : Image) (sound : IsSound s m) (fit : CountsFit s m.c
       (cases_lt i m.counts.heads)
 
   files_once : (f : FileNo) → PassesOnce (λ i. is_head_of f (head_in (heads_on m.counts (pages_by v c)) i))
-  files_once f i j a b = let x = facts i f a in let y = facts j f b in sound.files f.0 i j x.0 y.0 x.1.used x.1.file y.1.used y.1.file
+  files_once f i j a b = let x = facts i f a in let y = facts j f b in sound.files f.0 i j x.0 y.0 (sound.heads i x.0) (sound.heads j y.0) x.1.used x.1.file y.1.used y.1.file
 
   names : (a i : ℕ) (f : FileNo) (p : BlockNo) → Addresses (heads_on m.counts (pages_by v c)) i f p (suc a) → Names m (suc a) i p.0
   names a i f p h = let x = facts i f h.head in let at = x.1.address p a h.address in record { head = x.0; block = at.0; used = x.1.used; address = at.1 }
