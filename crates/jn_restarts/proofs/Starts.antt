@@ -1,12 +1,12 @@
 -- What a recovery finds, and what stays of a store that is stopped.
-use Rattle.std.proofs.Common.{◌≡◌, ℕ, ◌<◌, true, sym, ◌∙◌, ap, subst}
+use Rattle.std.proofs.Common.{◌≡◌, ℕ, ◌<◌, sym, ◌∙◌, ap, subst}
 use Rattle.jn_base.specs.declared.names.ServerNo.{ServerNo}
 use Rattle.jn_found.specs.Recoverable.{IsRecoverable}
 use Rattle.jn_recovery.specs.declared.counts.PageCounts.{PageCounts}
 use Rattle.jn_recovery.specs.declared.load.Found.{Found}
 use Rattle.jn_recovery.specs.Loading.{counts_by, IsLoaded}
 use Rattle.jn_records.specs.StablePages.{Counts}
-use Rattle.jn_storage.specs.Storage.{Accounts, StorageView, StorageLater}
+use Rattle.jn_storage.specs.Storage.{StorageView, StorageLater}
 use Rattle.jn_store.specs.Store.{StoreView}
 use Rattle.jn_restarts.specs.Restarts.{MayBegin, IsOf, IsStarted}
 
