@@ -109,7 +109,7 @@ module _ (server : ServerNo) (g : Counts) (epoch : ℕ) (epoch_fits : epoch < 2 
     good = λ p lt. refl;
     pairs = halves;
     pool = λ i lt. behind (slot_place g i) (omega arith) (omega (arith, lt)) ∙ blank_record;
-    files = λ f i j lt less used e. absurd (unused i lt used);
+    files = λ f i j lt less here there used e. absurd (unused i lt used);
     heads = λ i lt. (FreeHead, record { whole = refl; within_leaves = refl }, tt, behind (head_place g i) (omega arith) (omega (arith, lt)) ∙ blank_head);
     addresses = λ a least i j p q at other. absurd (unused i at.head at.used);
     tails = λ i lt. ap (drop 448) (behind (data_place g i) (omega arith) (omega (arith, lt))) ∙ blank_tail;

@@ -1,4 +1,5 @@
-use Rattle.std.proofs.Common.{◌∙◌, ap, refl, rules}
+use Rattle.std.proofs.Common.{◌∙◌, Err, ap, refl, rules}
+use Rattle.std.proofs.lemmas.Result.{err_from_is_err_and}
 use Rattle.jn_recovery.specs.Gathering.{flags_on}
 use Rattle.jn_recovery.specs.Loading.{counts_by, IsDown}
 use Rattle.jn_recovery.specs.declared.load.DownCause.TheVariants.{Memory}
@@ -25,7 +26,8 @@ returns-in_err-kept-clause-down g c = λ server before. let counts = counts_by c
 
 pub returns-in_err-collect_flags-clause-down : goal.returns-in_err-collect_flags-clause-down
 returns-in_err-collect_flags-clause-down g c = λ server before. let counts = counts_by c.args.counts in
-    if_err_is c.from_residual-in_err-collect_flags.result (λ cause. IsDown server counts (g.S.StableStore.view c.args.store.now) cause (g.S.StableStore.view c.begin_epoch.new.store)) Memory (search rules)
+    let p = err_from_is_err_and c.from_residual-in_err-collect_flags.result c.from_residual-in_err-collect_flags.ensures.1 in
+    if_err_is c.from_residual-in_err-collect_flags.result (λ cause. IsDown server counts (g.S.StableStore.view c.args.store.now) cause (g.S.StableStore.view c.begin_epoch.new.store)) Memory (p.1 ∙ ap (λ e. Err e) p.2)
     (no_memory server counts (g.S.StableStore.view c.args.store.now) c.in_ok-opened.opened c.in_ok-opened.epoch (g.S.StableStore.view c.begin_epoch.new.store) (c.in_ok-opened.ensures.begun server before))
 
 pub returns-clause-matches : goal.returns-clause-matches
