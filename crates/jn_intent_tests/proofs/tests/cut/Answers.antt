@@ -1,0 +1,17 @@
+use Rattle.std.proofs.Common.{refl, arith}
+use Rattle.jn_order.specs.Files.{zeros}
+use Rattle.jn_intent_tests.proofs.tests.cut.Goals as goal
+
+pub returns : goal.returns
+unfolding zeros
+returns c files there = record {
+  order = record { order = refl; plain = (refl, tt) };
+  length_fits = omega arith;
+  in_range = refl;
+  reads_fit = omega arith;
+  reads_ascend = refl;
+  reads_in_range = refl;
+  reads_files = refl;
+  files_there = rw there refl;
+  no_lost_put = refl;
+}

@@ -1,0 +1,15 @@
+use Rattle.std.proofs.Common.{refl, arith}
+use Rattle.jn_intent_tests.proofs.tests.nothing.Goals as goal
+
+pub returns : goal.returns
+returns c files there = record {
+  order = record { order = refl; plain = tt };
+  length_fits = omega arith;
+  in_range = refl;
+  reads_fit = omega arith;
+  reads_ascend = refl;
+  reads_in_range = refl;
+  reads_files = refl;
+  files_there = refl;
+  no_lost_put = refl;
+}

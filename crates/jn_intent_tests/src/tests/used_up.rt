@@ -1,0 +1,69 @@
+// Small pools, heads and data pages, used up.
+ghost use Rattle.std.specs.Prelude.{IfOk};
+ghost use Rattle.jn_intent_tests.specs.Trial.{IsOn};
+
+use crate::tests::{Call, Plan, SERVER, STORIES, letters, new_disk, prepare, put_flag, told_to};
+use jn_base::Short;
+use jn_intent::{Intents, PageCounts};
+use jn_memdisk::MemDisk;
+use jn_stable::Pairs;
+use jn_storage::{FlagStore, PrepareFault, PromiseFault, Storage};
+use std::alloc::Global;
+use std::process::Abort;
+use std::test::Fail;
+
+const NONE_FREE: Short = Short { free: 0, need: 1 };
+
+/// A new server with a pool of so many pages, one head and one data page, after these calls.
+pub(crate) fn small(
+    rt: &impl Abort,
+    alloc: Global,
+    pool: u16,
+    calls: &[Call],
+) -> Result<Intents<Pairs<MemDisk>>, Fail>
+    ensures { IfOk result (λ storage. IsOn SERVER (⟦<Intents<Pairs<MemDisk>> as Storage>⟧.view storage)) }
+{
+    let counts = PageCounts {
+        pool,
+        heads: 1,
+        leaves: 1,
+    };
+    told_to(rt, alloc, new_disk(rt, alloc, counts)?, counts, calls)
+}
+
+#[test]
+fn a_pool_of_one_has_room_for_a_flag(rt: HostRuntime) -> Result<(), Fail> {
+    let alloc = rt.alloc();
+    let mut storage = small(&rt, alloc, 1, &[])?;
+    let short = Short { free: 1, need: 3 };
+    let fault = Err(PrepareFault::Records(short));
+    let answer = prepare(&rt, alloc, &mut storage, Plan::MakeWithBlock);
+    assert_eq!(rt; answer, fault);
+    let mut storage = small(&rt, alloc, 1, &[])?;
+    assert!(rt; put_flag(&rt, alloc, &mut storage).is_ok());
+    Ok(())
+}
+
+#[test]
+fn a_pool_of_one_has_room_for_an_empty_list(rt: HostRuntime) -> Result<(), Fail> {
+    let alloc = rt.alloc();
+    let mut storage = small(&rt, alloc, 1, &[Call::Prepare(Plan::Nothing)])?;
+    assert_eq!(rt; storage.promise(alloc), Err(PromiseFault::Short(NONE_FREE)));
+    Ok(())
+}
+
+#[test]
+fn a_head_and_a_data_page_are_used_up(rt: HostRuntime) -> Result<(), Fail> {
+    let alloc = rt.alloc();
+    for (plan, fault) in [
+        (Plan::PutNext, PrepareFault::Pages(NONE_FREE)),
+        (Plan::MakeOther, PrepareFault::Heads(NONE_FREE)),
+        (Plan::MakeOtherWithBlock, PrepareFault::Pages(NONE_FREE)),
+    ] {
+        let mut storage = small(&rt, alloc, 3, STORIES[0].calls)?;
+        assert_eq!(rt; letters(&rt, &mut storage), *b"..eb");
+        let answer = prepare(&rt, alloc, &mut storage, plan);
+        assert_eq!(rt; answer, Err(fault), "{plan:?}");
+    }
+    Ok(())
+}

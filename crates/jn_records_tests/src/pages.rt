@@ -1,0 +1,215 @@
+//! Pages of records written out by hand.
+
+use jn_base::{BlockNo, ClientNo, FileNo, LockUnit, Page, PageWriter, ServerNo, Tid, WorkId};
+use jn_records::{Flag, Head, ListOf, Record, Root, StoredIntention, What, WorkHead};
+use std::alloc::{AllocError, Global};
+use std::test::Fail;
+
+/// Intention 7 of work 1.2.3 of transaction 0.5.6: block 119 of file 9 is put, and stands in data page 127.
+const INTENTION: [u8; 29] = [
+    1, 1, 0, 0, 0, 2, 0, 0, 0, 3, 0, 0, 0, 0, 5, 0, 0, 0, 6, 7, 4, 0, 0, 0, 9, 0, 119, 0, 128,
+];
+
+/// That work is ready for client 8, with 3 intentions, and has read file 9 and its block 4.
+const READY: [u8; 34] = [
+    2, 1, 0, 0, 0, 2, 0, 0, 0, 3, 0, 0, 0, 0, 5, 0, 0, 0, 6, 8, 3, 2, 0, 0, 0, 9, 255, 255, 0, 0,
+    0, 9, 0, 4,
+];
+
+/// The work after its transaction has committed.
+const GOING: [u8; 34] = [
+    3, 1, 0, 0, 0, 2, 0, 0, 0, 3, 0, 0, 0, 0, 5, 0, 0, 0, 6, 8, 3, 2, 0, 0, 0, 9, 255, 255, 0, 0,
+    0, 9, 0, 4,
+];
+
+/// The flag of that transaction, which ended by request 256 of client 8 and has that work alone.
+const FLAG: [u8; 25] = [
+    4, 0, 0, 0, 0, 5, 0, 0, 0, 6, 8, 0, 0, 1, 0, 1, 1, 0, 0, 0, 2, 0, 0, 0, 3,
+];
+
+const WORK: WorkId = WorkId {
+    server: ServerNo(1),
+    epoch: 2,
+    ticket: 3,
+};
+
+const TID: Tid = Tid {
+    server: ServerNo(0),
+    epoch: 5,
+    ticket: 6,
+};
+
+fn page_of(begin: &[u8]) -> Page {
+    let mut page = PageWriter::new();
+    if begin.len() <= 512 {
+        page.put_bytes(begin);
+    }
+    page.finish()
+}
+
+fn changed(page: &Page, at: usize, byte: u8) -> Page {
+    let mut changed = *page;
+    if at < 512 {
+        changed[at] = byte;
+    }
+    changed
+}
+
+#[test]
+fn records_are_spelled_as_they_are_read(rt: HostRuntime) -> Result<(), Fail> {
+    for begin in [
+        INTENTION.as_slice(),
+        READY.as_slice(),
+        GOING.as_slice(),
+        FLAG.as_slice(),
+        [0].as_slice(),
+    ] {
+        let page = page_of(begin);
+        let value = Record::decode(rt.alloc(), &page)?.ok_or("no record")?;
+        assert!(rt; value.encode() == page);
+    }
+    Ok(())
+}
+
+fn is_the_intention(value: &Record) -> bool {
+    match value {
+        Record::Intention {
+            work,
+            tid,
+            order,
+            intention,
+        } => {
+            let put = StoredIntention {
+                what: What::Put,
+                file: FileNo(9),
+                block: BlockNo(119),
+                address: 128,
+            };
+            *work == WORK && *tid == TID && *order == 7 && *intention == put
+        }
+        _ => false,
+    }
+}
+
+fn is_the_ready_work(value: &Record) -> bool {
+    match value {
+        Record::Ready {
+            head,
+            intentions,
+            reads,
+        } => {
+            let expected = WorkHead {
+                work: WORK,
+                tid: TID,
+                client: ClientNo(8),
+            };
+            let units = [
+                LockUnit::File(FileNo(9)),
+                LockUnit::Block(FileNo(9), BlockNo(4)),
+            ];
+            *head == expected && *intentions == 3 && reads.as_slice() == units.as_slice()
+        }
+        _ => false,
+    }
+}
+
+fn is_the_flag(value: &Record) -> bool {
+    match value {
+        Record::Flag(flag) => {
+            let works = flag.works.as_slice();
+            flag.tid == TID
+                && flag.client == ClientNo(8)
+                && flag.request == 256
+                && works == [WORK].as_slice()
+        }
+        _ => false,
+    }
+}
+
+#[test]
+fn the_parts_of_records_are_read(rt: HostRuntime) -> Result<(), Fail> {
+    let value = Record::decode(rt.alloc(), &page_of(&INTENTION))?.ok_or("no record")?;
+    assert!(rt; is_the_intention(&value));
+    let value = Record::decode(rt.alloc(), &page_of(&READY))?.ok_or("no record")?;
+    assert!(rt; is_the_ready_work(&value));
+    let value = Record::decode(rt.alloc(), &page_of(&FLAG))?.ok_or("no record")?;
+    assert!(rt; is_the_flag(&value));
+    Ok(())
+}
+
+#[test]
+fn a_changed_intention_is_another_or_none(rt: HostRuntime) -> Result<(), Fail> {
+    let page = page_of(&INTENTION);
+    for (at, byte, same) in [
+        (19, 9, true),
+        (20, 3, false),
+        (20, 5, false),
+        (28, 0, false),
+        (29, 1, false),
+        (0, 5, false),
+    ] {
+        let decoded = Record::decode(rt.alloc(), &changed(&page, at, byte))?;
+        assert_eq!(rt; decoded.is_some(), same);
+    }
+    Ok(())
+}
+
+#[test]
+fn a_changed_ready_work_is_another_or_none(rt: HostRuntime) -> Result<(), Fail> {
+    let page = page_of(&READY);
+    for (at, byte, same) in [
+        (0, 3, true),
+        (0, 4, false),
+        (21, 1, false),
+        (21, 3, false),
+        (27, 254, false),
+        (33, 5, true),
+        (34, 1, false),
+    ] {
+        let decoded = Record::decode(rt.alloc(), &changed(&page, at, byte))?;
+        assert_eq!(rt; decoded.is_some(), same);
+    }
+    Ok(())
+}
+
+/// Whether a page is that of no record or of the one that it is read as.
+fn is_read_as_itself(alloc: Global, page: &Page) -> Result<bool, AllocError> {
+    let value = Record::decode(alloc, page)?;
+    Ok(match value {
+        Some(value) => value.encode() == *page,
+        None => true,
+    })
+}
+
+#[test]
+fn each_byte_of_a_record_tells(rt: HostRuntime) -> Result<(), Fail> {
+    for begin in [
+        INTENTION.as_slice(),
+        READY.as_slice(),
+        GOING.as_slice(),
+        FLAG.as_slice(),
+        [0].as_slice(),
+    ] {
+        let page = page_of(begin);
+        for at in 0..512 {
+            let other = changed(&page, at, page[at].wrapping_add(1));
+            assert!(rt; is_read_as_itself(rt.alloc(), &other)?);
+        }
+    }
+    Ok(())
+}
+
+#[test]
+fn each_byte_of_a_root_and_of_a_head_tells(rt: HostRuntime) -> Result<(), Fail> {
+    let root = page_of(&[74, 85, 78, 49, 1, 0, 0, 32, 0, 16, 0, 128, 0, 0, 0, 2]);
+    let head = page_of(&[1, 0, 0, 0, 7, 0, 1, 0, 128]);
+    for at in 0..512 {
+        let other = changed(&root, at, root[at].wrapping_add(1));
+        let value = Root::decode(&other);
+        assert!(rt; value.is_none_or(|root| root.encode() == other));
+        let other = changed(&head, at, head[at].wrapping_add(1));
+        let value = Head::decode(rt.alloc(), &other, 128)?;
+        assert!(rt; value.is_none_or(|head| head.encode() == other));
+    }
+    Ok(())
+}
