@@ -24,7 +24,8 @@ use Rattle.jn_serial.specs.Caused.{is_caused_by, is_caused, CausedFrom, Caused}
 use Rattle.jn_serial.proofs.Growth.{AreWithin, AreWithin-wider, AreWithin-append}
 use Rattle.jn_reported.specs.Armed.{is_fault, ArmedFrom}
 use Rattle.std.specs.Prelude.{map}
-use Rattle.jn_reported.specs.Printing.{Printed, FileThere, PageStored, UnitLocked, text_printed}
+use Rattle.jn_protocol.specs.Printing.{Printed, FileThere, PageStored, UnitLocked}
+use Rattle.jn_reported.specs.Printing.{text_printed}
 use Rattle.jn_reported.specs.Reported.{Act, Does, Refuses as Refused, Tells, Shows, Item, events_of, steps_in, steps_of, told_by, told_in, told_under, after_item, at_event, lines_of, IsUnder, AreUnder, IsReported}
 use Rattle.jn_reported.proofs.Lists.{Each}
 use Rattle.jn_reported.proofs.ArmedRuns.{run-armed, length-more}

@@ -32,7 +32,8 @@ use Rattle.jn_serial.specs.Lines.{history_of}
 use Rattle.jn_serial.specs.Follows.{is_answer}
 use Rattle.jn_serial.specs.Caused.{Caused}
 use Rattle.jn_serial.proofs.CausedGrowth.{Caused-lines, needs_cause, NeedNoCause, CausedFrom-plain}
-use Rattle.jn_reported.specs.Printing.{Printed, FileThere, PageStored, UnitLocked, text_printed}
+use Rattle.jn_protocol.specs.Printing.{Printed, FileThere, PageStored, UnitLocked}
+use Rattle.jn_reported.specs.Printing.{text_printed}
 use Rattle.jn_reported.specs.Reported.{Does, Item, events_of, told_by, lines_of as lines_of_items, world_of, IsReported}
 use Rattle.jn_reported.specs.Ending.{Comeback, Ending, restarts_from, steps_at_end, settles, IsEnding, told_by_steps, texts_from, at_end, counted, lines_to_end}
 use Rattle.jn_reported.proofs.Lists.{Each, each-append}

@@ -16,7 +16,8 @@ use Rattle.jn_machine.proofs.History.{in_order}
 use Rattle.jn_moves.proofs.Mirrored.{commits-more}
 use Rattle.jn_protocol.specs.World.{World, opening, committed_in, commits_in}
 use Rattle.jn_protocol.specs.Steps.{Step, after, run, IsRun}
-use Rattle.jn_reported.specs.Printing.{Printed, FileThere, PageStored, UnitLocked, text_printed}
+use Rattle.jn_protocol.specs.Printing.{Printed, FileThere, PageStored, UnitLocked}
+use Rattle.jn_reported.specs.Printing.{text_printed}
 use Rattle.jn_reported.specs.Reported.{Does, Item, told_by, at_event, lines_of, world_of, IsReported}
 use Rattle.jn_reported.specs.Ending.{Ending, IsEnding, steps_at_end, told_by_steps, texts_from, at_end, lines_to_end}
 use Rattle.jn_reported.proofs.Lists.{In, Each, in-first, in-second, in-either, each-in, each-append}

@@ -12,7 +12,7 @@ use Rattle.jn_rows.specs.Stable.{StableState, Pick}
 use Rattle.jn_rows.specs.Worker.{commit_holder}
 use Rattle.jn_protocol.specs.World.{World, Memory, opening, servers_from}
 use Rattle.jn_protocol.specs.Steps.{Step, Dismiss, Crash, Narrow, Restart, CloseClients, IsStep, after, narrow, run, IsRun}
-use Rattle.jn_reported.specs.Printing.{Printed}
+use Rattle.jn_protocol.specs.Printing.{Printed}
 use Rattle.jn_reported.specs.Reported.{Item, steps_of, world_of, IsReported}
 use Rattle.jn_reported.specs.Ending.{Comeback, Ending, restarts_from, steps_at_end, world_at_end, ArePrinted, IsEnding}
 use Rattle.jn_settling.specs.Course.{Course, opening_course, go, go_on}

@@ -5,6 +5,7 @@ pub mod Units
 pub mod Rows
 pub mod Tables
 pub mod WorkerRows
+pub mod WorkerChanges
 pub mod Closes
 pub mod CoordinatorRows
 pub mod Restored

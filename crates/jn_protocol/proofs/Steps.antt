@@ -1,6 +1,6 @@
 -- Each step of the whole system keeps what holds of the works and locks of each server.
 use Rattle.std.proofs.Common.{◌≡◌, ◌≢◌, ◌⊎◌, ◌≤◌, inl, inr, ℕ, ◌+◌, Bool, true, false, List, [], ◌∷◌, take, Option, Some, None, refl, sym, ◌∙◌, ap, subst, arith}
-use Rattle.std.specs.Prelude.{if◌then◌else◌, slice_get}
+use Rattle.std.specs.Prelude.{if◌then◌else◌, length, slice_get}
 use Rattle.jn_base.specs.declared.names.ServerNo.{ServerNo}
 use Rattle.jn_base.specs.declared.names.ClientNo.{ClientNo}
 use Rattle.jn_base.specs.declared.names.Tid.{Tid}
@@ -61,7 +61,7 @@ module _ (s : ServerNo) (m : Memory) (x : StableState) (table : TableFact m.work
       by n (inr e) = subst (λ (cs : List Change). StoredFact s (made_all cs x).epoch (made_all cs x).works) (sym e)
           (stored-fact s row.table row.tickets (made_all row.changes x).epoch (made_all row.changes x).works h.table (h.server ∙ server) now)
 
-  of-coordinator : (row : RowOutcome CoordinatorTable) → Aside m.tickets row → Leaves s x (of_coordinator m row)
+  of-coordinator : (row : RowOutcome CoordinatorTable) → Aside (length m.coordinator.transactions) m.tickets row → Leaves s x (of_coordinator m row)
   of-coordinator row h = record {
     table = subst (λ f. TableFact m.worker row.tickets f) (sym (flags-all row.changes x h.flags)) (drawn h.tickets);
     server = same h.tickets ∙ server;

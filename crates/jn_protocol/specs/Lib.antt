@@ -1,6 +1,7 @@
 pub mod World
 pub mod Servers
 pub mod Steps
+pub mod Printing
 pub mod LockFacts
 pub mod Example
 pub mod WrongRuns

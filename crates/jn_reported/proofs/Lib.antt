@@ -15,7 +15,6 @@ pub mod Following
 pub mod Naming
 pub mod Past
 pub mod PastRows
-pub mod WorkerChanges
 pub mod PastSteps
 pub mod PastWorld
 pub mod PastClients

@@ -1,14 +1,14 @@
 -- What stands in a list, and what holds of each of its elements.
 use Rattle.std.proofs.Common.{◌≡◌, ◌⊎◌, inl, inr, ℕ, zero, suc, List, [], ◌∷◌, ◌++◌, Some, None, refl, subst}
 use Rattle.std.specs.Prelude.{slice_get}
+use Rattle.std.specs.List.{AllByRecursion}
 
 abbrev pub In : {A : Type 0} → A → List A → Type 0
 In a [] = ⊥
 In a (x ∷ xs) = (x ≡ a) ⊎ In a xs
 
 abbrev pub Each : {A : Type 0} → (A → Type 0) → List A → Type 0
-Each P [] = Unit {0}
-Each P (x ∷ xs) = P x × Each P xs
+Each P xs = AllByRecursion P xs
 
 pub in-first : {A : Type 0} (a : A) (xs ys : List A) → In a xs → In a (xs ++ ys)
 in-first a [] ys h = absurd h

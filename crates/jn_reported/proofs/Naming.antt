@@ -23,7 +23,8 @@ use Rattle.jn_moves.proofs.StepMoves.{committed-any}
 use Rattle.jn_protocol.specs.World.{World, opening, committed_in, commits_in}
 use Rattle.jn_protocol.specs.Steps.{Step, NextEvent, Tell, Dismiss, after, run, IsStep, IsRun, commanded}
 use Rattle.jn_runs.specs.Runs.{IsNamed, AreNamed}
-use Rattle.jn_reported.specs.Printing.{Printed, FileThere, PageStored, UnitLocked, text_printed}
+use Rattle.jn_protocol.specs.Printing.{Printed, FileThere, PageStored, UnitLocked}
+use Rattle.jn_reported.specs.Printing.{text_printed}
 use Rattle.jn_reported.specs.Reported.{Act, Does, Refuses as Refused, Tells, Shows, Item, steps_in, steps_of, told_by, told_in, told_under, after_item, at_event, lines_of, world_of}
 use Rattle.jn_reported.proofs.Reached.{Reached, next-reached}
 use Rattle.jn_reported.proofs.Hearing.{IsQuiet, step-hears, told-is}

@@ -51,7 +51,7 @@ use Rattle.jn_reported.proofs.Lists.{In, Each, each-append, each-more}
 use Rattle.jn_reported.proofs.Past.{Had, Past, OutcomeFact, SaysPast, EntryFact, ChangeFact, FlagPast}
 use Rattle.jn_reported.proofs.PastRows.{IsThere, NoFlag, entry-opened, is_broke, ComesHere, row-past, close-past as row-closes, again-says, restored-past}
 use Rattle.jn_reported.proofs.PastSteps.{PastFacts, each-take, all-flags, StaysOrPast, all-stay, ServerPast, server-past}
-use Rattle.jn_reported.proofs.WorkerChanges.{IsOfWorks, worker-works, step-works}
+use Rattle.jn_protocol.proofs.WorkerChanges.{IsOfWorks, worker-aside, step-aside, works-flags}
 
 -- ---- which names are new
 
@@ -78,18 +78,6 @@ works-change : (os : List Opening) (clients : ClientNo → ClientTable) (w : Mac
 works-change os clients w Caused (AddFlag flag) h = absurd h
 works-change os clients w Caused (DropFlag T) h = absurd h
 works-change os clients w Caused _ h = tt
-
-works-flags : (changes : List Change) (x : StableState) → Each IsOfWorks changes → (made_all changes x).flags ≡ x.flags
-works-flags [] x h = refl
-works-flags (change ∷ changes) x h = works-flags changes (made_by change x) h.1 ∙ one change h.0
-  where
-    one : (change : Change) → IsOfWorks change → (made_by change x).flags ≡ x.flags
-    one (AddReady head list reads) k = refl
-    one (MarkGoing W) k = refl
-    one (CarryOut W i) k = refl
-    one (RemoveWork W) k = refl
-    one (AddFlag flag) k = absurd k
-    one (DropFlag T) k = absurd k
 
 -- a worker that works tells of no transaction
 step-says : (os : List Opening) (clients : ClientNo → ClientTable) (w : Machine) (Caused : ClientNo → Tid → Cause → Type 0) (t : WorkerTable) (s : WorkStorage) (k : Tickets) (row : RowOutcome WorkerTable) → worker_step t s k ≡ Some row → Each (SaysPast os clients w Caused) row.messages
@@ -350,7 +338,7 @@ module _ (r : World) (w v : Machine) (Caused Caused' : ClientNo → Tid → Caus
 
       by-message : (k : Option ℕ) (stop : Option (Pick → ℕ)) (room : Room) (message : Message) → In (Server s, message) r.sent → Later (ends s k stop (of_worker m (worker_row m.worker (storage_of m (stable (r.found s)) room) m.tickets message)) r) v
           → Now (ends s k stop (of_worker m (worker_row m.worker (storage_of m (stable (r.found s)) room) m.tickets message)) r)
-      by-message k stop room message i l = by-worker s m is up.same k stop _ (worker-works m.worker (storage_of m (stable (r.found s)) room) m.tickets message) (worker-none m.worker (storage_of m (stable (r.found s)) room) m.tickets message) (votes s m is room message i) l
+      by-message k stop room message i l = by-worker s m is up.same k stop _ (let a = worker-aside m.worker (storage_of m (stable (r.found s)) room) m.tickets message in a.works) (worker-none m.worker (storage_of m (stable (r.found s)) room) m.tickets message) (votes s m is room message i) l
 
       delivered : (k : Option ℕ) (stop : Option (Pick → ℕ)) (room : Room) (message : Message) → In (Server s, message) r.sent → IsAddressed (Server s, message) → SaysPast (openings r.sent) r.clients w Caused (Server s, message)
           → Later (ends s k stop (server_row m (stable (r.found s)) room message) r) v → Now (ends s k stop (server_row m (stable (r.found s)) room message) r)
@@ -395,7 +383,7 @@ module _ (r : World) (w v : Machine) (Caused Caused' : ClientNo → Tid → Caus
       where
         by : (o : Option (RowOutcome WorkerTable)) → worker_step m.worker (storage_of m (stable (r.found s)) room) m.tickets ≡ o → Later (works s stop (of_step m o) r) v → Now (works s stop (of_step m o) r)
         by None e l = same-past l.named
-        by (Some row) e l = by-worker s m is fact.same None stop row (step-works m.worker (storage_of m (stable (r.found s)) room) m.tickets row e) (step-none m.worker (storage_of m (stable (r.found s)) room) m.tickets row e) (step-says (openings r.sent) r.clients w Caused m.worker (storage_of m (stable (r.found s)) room) m.tickets row e) l
+        by (Some row) e l = by-worker s m is fact.same None stop row (let a = step-aside m.worker (storage_of m (stable (r.found s)) room) m.tickets row e in a.works) (step-none m.worker (storage_of m (stable (r.found s)) room) m.tickets row e) (step-says (openings r.sent) r.clients w Caused m.worker (storage_of m (stable (r.found s)) room) m.tickets row e) l
 
     pub nudge-past : (s : ServerNo) (o : Option Memory) → r.memory s ≡ o → Later (nudge s o r) v → Now (nudge s o r)
     nudge-past s None is l = same-past l.named

@@ -3,7 +3,8 @@ use Rattle.std.proofs.Common.{List, [], ◌∷◌}
 use Rattle.std.specs.Prelude.{map}
 use Rattle.jn_base.specs.declared.names.ServerNo.{ServerNo}
 use Rattle.jn_report.specs.declared.line.Text.{Text}
-use Rattle.jn_reported.specs.Printing.{Printed, text_printed}
+use Rattle.jn_protocol.specs.Printing.{Printed}
+use Rattle.jn_reported.specs.Printing.{text_printed}
 use Rattle.jn_reported.proofs.Lists.{Each}
 
 pub each-print : (P : Text → Type 0) (s : ServerNo) → ((x : Printed) → P (text_printed s x)) → (prints : List Printed) → Each P (map (text_printed s) prints)

@@ -14,7 +14,8 @@ use Rattle.jn_serial.specs.Told.{IsNotNamedWhere, NamesNone, Told}
 use Rattle.jn_machine.specs.Steps.{run as run_atoms, opening_world}
 use Rattle.jn_protocol.specs.World.{World, opening}
 use Rattle.jn_protocol.specs.Steps.{Step, NextEvent, after, run, IsRun}
-use Rattle.jn_reported.specs.Printing.{Printed, FileThere, PageStored, UnitLocked, text_printed}
+use Rattle.jn_protocol.specs.Printing.{Printed, FileThere, PageStored, UnitLocked}
+use Rattle.jn_reported.specs.Printing.{text_printed}
 use Rattle.jn_reported.specs.Reported.{Act, Does, Refuses, Tells, Shows, Item, steps_in, steps_of, told_by, told_in, told_under, after_item, at_event, lines_of, world_of, IsReported}
 use Rattle.jn_reported.proofs.Lists.{In, in-first, in-second, in-either, each-in}
 use Rattle.jn_reported.proofs.Prints.{each-print}

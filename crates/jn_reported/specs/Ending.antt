@@ -14,7 +14,8 @@ use Rattle.jn_serial.specs.Lines.{history_of}
 use Rattle.jn_rows.specs.Stable.{Pick}
 use Rattle.jn_protocol.specs.World.{World, opening, servers_from}
 use Rattle.jn_protocol.specs.Steps.{Step, Dismiss, Crash, Restart, CloseClients, Deliver, Work, Nudge, Again, after, run, IsRun}
-use Rattle.jn_reported.specs.Printing.{Printed, text_printed, IsPrinted}
+use Rattle.jn_protocol.specs.Printing.{Printed}
+use Rattle.jn_reported.specs.Printing.{text_printed, IsPrinted}
 use Rattle.jn_reported.specs.Reported.{Does, Item, told_by, world_of, lines_of, IsReported}
 
 -- what a restart finds, and the names of the works and flags in it

@@ -1,73 +1,24 @@
--- What a show prints of a server's files: each file, and after it each of its blocks, as it is there, or who holds it for commit.
-use Rattle.std.specs.Prelude.{◌≡◌, ℕ, Bool, nat_lt, List, [], ◌∷◌, ◌++◌, Option, Some, None}
+-- What a show of a server prints, and as which lines.
+use Rattle.std.specs.Prelude.{◌≡◌, List, Option, Some}
 use Rattle.jn_base.specs.declared.names.ServerNo.{ServerNo}
-use Rattle.jn_base.specs.declared.names.FileNo.{FileNo}
-use Rattle.jn_base.specs.declared.names.BlockNo.{BlockNo}
-use Rattle.jn_base.specs.declared.names.Tid.{Tid}
 use Rattle.jn_base.specs.declared.names.LockUnit.{LockUnit}
-use Rattle.jn_base.specs.declared.names.LockUnit.TheVariants.{File, Block}
-use Rattle.jn_base.specs.Names.{file_eq, block_eq}
 use Rattle.jn_report.specs.declared.line.Text.{Text}
 use Rattle.jn_report.specs.declared.line.Text.TheVariants as says
 use Rattle.jn_rows.specs.Stable.{stable}
-use Rattle.jn_rows.specs.Worker.{commit_holder}
 use Rattle.jn_protocol.specs.World.{World, Memory}
-use Rattle.jn_protocol.specs.Steps.{AreNames}
-
--- what is printed of one file or block
-pub data Printed : Type 0 where
-  FileThere : FileNo → Printed
-  PageStored : FileNo → BlockNo → List ℕ → Printed
-  UnitLocked : LockUnit → Tid → Printed
+use Rattle.jn_protocol.specs.Printing.{Printed, FileThere, PageStored, UnitLocked, prints_in, ArePrints}
 
 abbrev pub text_printed : ServerNo → Printed → Text
 text_printed s (FileThere f) = says.File s f
 text_printed s (PageStored f p bytes) = says.Page s f p bytes
 text_printed s (UnitLocked u T) = says.Locked s u T
 
--- the transaction that holds the unit for commit, or else what is there
-abbrev pub print_unit : LockUnit → Option Tid → Option (List ℕ) → Option Printed
-print_unit u (Some T) content = Some (UnitLocked u T)
-print_unit (File f) None (Some content) = Some (FileThere f)
-print_unit (Block f p) None (Some bytes) = Some (PageStored f p bytes)
-print_unit u None None = None
-
 -- what a server that remembers this has to print of each unit
 abbrev pub prints_of : ServerNo → World → Memory → LockUnit → Option Printed
-prints_of s w m u = print_unit u (commit_holder u m.worker) ((stable (w.found s)).files u)
+prints_of s w m = prints_in m.worker (stable (w.found s)).files
 
-abbrev pub print_one : Option Printed → List Printed
-print_one None = []
-print_one (Some x) = x ∷ []
-
--- the blocks of these numbers
-abbrev pub print_blocks : (LockUnit → Option Printed) → FileNo → List BlockNo → List Printed
-print_blocks prints f [] = []
-print_blocks prints f (p ∷ ps) = print_one (prints (Block f p)) ++ print_blocks prints f ps
-
--- a file that is there has its blocks after it, and one that is locked stands alone
-abbrev pub print_file : Option Printed → List Printed → List Printed
-print_file (Some (FileThere f)) blocks = FileThere f ∷ blocks
-print_file other blocks = print_one other
-
--- the files of these numbers
-abbrev pub print_files : (LockUnit → Option Printed) → (FileNo → List BlockNo) → List FileNo → List Printed
-print_files prints blocks [] = []
-print_files prints blocks (f ∷ fs) = print_file (prints (File f)) (print_blocks prints f (blocks f)) ++ print_files prints blocks fs
-
-abbrev pub file_before : FileNo → FileNo → Bool
-file_before f g = nat_lt f.0 g.0
-
-abbrev pub block_before : BlockNo → BlockNo → Bool
-block_before p q = nat_lt p.0 q.0
-
--- A server that is up prints the files of which there is something to print, each once and in rising order, and so the blocks
--- of each file that is there.
+-- A server that is up prints its files and blocks, and who holds them.
 pub record IsPrinted (s : ServerNo) (w : World) (prints : List Printed) : Type 0 where
   pub memory : Memory
   pub up : w.memory s ≡ Some memory
-  pub files : List FileNo
-  pub blocks : FileNo → List BlockNo
-  pub are_files : AreNames file_eq file_before (λ f. prints_of s w memory (File f)) files
-  pub are_blocks : (f : FileNo) → prints_of s w memory (File f) ≡ Some (FileThere f) → AreNames block_eq block_before (λ p. prints_of s w memory (Block f p)) (blocks f)
-  pub printed : prints ≡ print_files (prints_of s w memory) blocks files
+  pub prints_are : ArePrints (prints_of s w memory) prints

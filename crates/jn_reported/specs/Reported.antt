@@ -16,7 +16,8 @@ use Rattle.jn_report.specs.declared.line.Line.{Line}
 use Rattle.jn_serial.specs.Caused.{is_stop, refuses_event, refuses_fault}
 use Rattle.jn_protocol.specs.World.{World, at_server}
 use Rattle.jn_protocol.specs.Steps.{Step, NextEvent, Tell, Again, Deliver, Work, Nudge, Timeout, StopDelivery, StopWork, Crash, Narrow, StopRestart, Restart, after, run, IsRun}
-use Rattle.jn_reported.specs.Printing.{Printed, text_printed, IsPrinted}
+use Rattle.jn_protocol.specs.Printing.{Printed}
+use Rattle.jn_reported.specs.Printing.{text_printed, IsPrinted}
 
 -- what is done under an event: a step of the whole system, a refusal of the event, a server's fault that is refused, or a
 -- server's printing of its files

@@ -25,7 +25,8 @@ use Rattle.jn_moves.proofs.Mirrored.{commits-more}
 use Rattle.jn_rows.specs.Worker.{commit_holder}
 use Rattle.jn_protocol.specs.World.{World, Memory, opening, commits_in, servers_from}
 use Rattle.jn_protocol.specs.Steps.{Step, NextEvent, Tell, Crash, CloseClients, after, run, IsRun}
-use Rattle.jn_reported.specs.Printing.{Printed, FileThere, PageStored, UnitLocked, text_printed, IsPrinted}
+use Rattle.jn_protocol.specs.Printing.{Printed, FileThere, PageStored, UnitLocked}
+use Rattle.jn_reported.specs.Printing.{text_printed, IsPrinted}
 use Rattle.jn_reported.specs.Reported.{Does, Item, events_of, steps_of, told_by, told_under, world_of, after_item, at_event, lines_of, IsReported}
 use Rattle.jn_reported.specs.Ending.{Comeback, Ending, AreFilesOf, restarts_from, steps_at_end, world_at_end, settles, ArePrinted, IsEnding, told_by_steps, texts_from, at_end, lines_to_end}
 use Rattle.jn_reported.proofs.Lists.{In, Each, in-first, in-second, in-either, each-in, each-append}

@@ -7,7 +7,7 @@ use Rattle.jn_base.specs.declared.names.LockUnit.TheVariants.{File, Block}
 use Rattle.jn_order.specs.Files.{there, or_else}
 use Rattle.jn_protocol.specs.World.{Memory, new_memory}
 use Rattle.jn_protocol.specs.Example.{the_server}
-use Rattle.jn_reported.specs.Printing.{print_unit}
+use Rattle.jn_protocol.specs.Printing.{print_unit}
 
 abbrev pub memory_in : Option Memory → Memory
 memory_in None = new_memory the_server 0

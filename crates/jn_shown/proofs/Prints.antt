@@ -20,7 +20,8 @@ use Rattle.jn_serial.specs.Lines.{says}
 use Rattle.jn_serial.specs.Shown.{IsAsIn, AllAsIn, prints_file, accounts_file, accounts_block, is_locked, ShowsFiles}
 use Rattle.jn_machine.specs.Held.{file_unit}
 use Rattle.jn_protocol.specs.World.{World, Memory}
-use Rattle.jn_reported.specs.Printing.{Printed, FileThere, PageStored, UnitLocked, text_printed, print_unit, prints_of, print_one, print_blocks, print_file, print_files, IsPrinted}
+use Rattle.jn_protocol.specs.Printing.{Printed, FileThere, PageStored, UnitLocked, print_unit, print_one, print_blocks, print_file, print_files}
+use Rattle.jn_reported.specs.Printing.{text_printed, prints_of, IsPrinted}
 use Rattle.jn_reported.proofs.Lists.{In, in-first, in-second, in-either}
 
 some : {A : Type 0} {a b : A} → Some a ≡ Some b → a ≡ b
@@ -233,17 +234,17 @@ module _ (files : AllFiles) (s : ServerNo) (w : World) (same : AreSame files s w
   is-same : (u : LockUnit) → held u ≡ None → held (file_unit u) ≡ None → found u ≡ files s u
   is-same u = same h.memory u h.up
 
-  source : (x : Printed) → In x prints → Source at h.blocks x
-  source x k = from-print at h.blocks h.files x (subst (λ (l : List Printed). In x l) h.printed k)
+  source : (x : Printed) → In x prints → Source at h.prints_are.blocks x
+  source x k = from-print at h.prints_are.blocks h.prints_are.files x (subst (λ (l : List Printed). In x l) h.prints_are.printed k)
 
   file-free : (f g : FileNo) → at (File f) ≡ Some (FileThere g) → held (File f) ≡ None
   file-free f g e = (print-so (File f) (held (File f)) (found (File f)) (FileThere g) e).1.0
 
   -- what is printed is there
-  so-there : (x : Printed) → Source at h.blocks x → IsAsIn files (text_printed s x)
+  so-there : (x : Printed) → Source at h.prints_are.blocks x → IsAsIn files (text_printed s x)
   so-there (FileThere f) src = let k = print-so src.unit (held src.unit) (found src.unit) (FileThere f) src.is in let free = ap held (sym k.0) ∙ k.1.0 in
       ap is_some (sym (is-same (File f) free free) ∙ ap found (sym k.0)) ∙ k.1.1
-  so-there (PageStored f p bytes) src = let k = print-so src.unit (held src.unit) (found src.unit) (PageStored f p bytes) src.is in let file = subst (λ (u : LockUnit). HasFile at h.blocks u) k.0 src.file in
+  so-there (PageStored f p bytes) src = let k = print-so src.unit (held src.unit) (found src.unit) (PageStored f p bytes) src.is in let file = subst (λ (u : LockUnit). HasFile at h.prints_are.blocks u) k.0 src.file in
       sym (is-same (Block f p) (ap held (sym k.0) ∙ k.1.0) (file-free f file.0 file.1)) ∙ ap found (sym k.0) ∙ k.1.1
   so-there (UnitLocked u T) src = tt
 
@@ -255,7 +256,7 @@ module _ (files : AllFiles) (s : ServerNo) (w : World) (same : AreSame files s w
   none-locked free x k = let src = source x k in print-free s src.unit (found src.unit) x (ap (λ (o : Option Tid). print_unit src.unit o (found src.unit)) (sym (free src.unit)) ∙ src.is)
 
   -- a file whose line is printed is there
-  file-there : (f : FileNo) (x : Printed) → Source at h.blocks x → prints_file s f (text_printed s x) ≡ true → at (File f) ≡ Some (FileThere f)
+  file-there : (f : FileNo) (x : Printed) → Source at h.prints_are.blocks x → prints_file s f (text_printed s x) ≡ true → at (File f) ≡ Some (FileThere f)
   file-there f (FileThere g) src e = let k = print-so src.unit (held src.unit) (found src.unit) (FileThere g) src.is in
       subst (λ (j : FileNo). at (File j) ≡ Some (FileThere j)) (same-file g f (second (server_eq s s) (file_eq g f) e)) (ap at (sym k.0) ∙ src.is)
     where
@@ -267,17 +268,17 @@ module _ (files : AllFiles) (s : ServerNo) (w : World) (same : AreSame files s w
   -- lines that say all that is printed, and print no other file of this server
   module _ (lines : List Line) (as-in : AllAsIn files lines) (heard : (test : Text → Bool) (x : Printed) → In x prints → test (text_printed s x) ≡ true → says test lines ≡ true)
       (only : (f : FileNo) → says (prints_file s f) lines ≡ true → (x : Printed) × (In x prints × (prints_file s f (text_printed s x) ≡ true))) where
-    file-named : (f : FileNo) (x : Printed) → at (File f) ≡ Some x → In f h.files
-    file-named f x e = in-names file_eq same-file h.files f (h.are_files.each f ∙ ap is_some e)
+    file-named : (f : FileNo) (x : Printed) → at (File f) ≡ Some x → In f h.prints_are.files
+    file-named f x e = in-names file_eq same-file h.prints_are.files f (h.prints_are.are_files.each f ∙ ap is_some e)
 
-    is-printed : (x : Printed) → In x (print_files at h.blocks h.files) → In x prints
-    is-printed x k = subst (λ (l : List Printed). In x l) (sym h.printed) k
+    is-printed : (x : Printed) → In x (print_files at h.prints_are.blocks h.prints_are.files) → In x prints
+    is-printed x k = subst (λ (l : List Printed). In x l) (sym h.prints_are.printed) k
 
     no-file : (f : FileNo) → says (accounts_file s f) lines ≡ false → files s (File f) ≡ None
     no-file f silent = by (at (File f)) refl
       where
         by : (o : Option Printed) → at (File f) ≡ o → files s (File f) ≡ None
-        by (Some x) e = absurd (not-both _ (heard (accounts_file s f) x (is-printed x (in-print at h.blocks h.files f x (file-named f x e) e)) (accounts-file s f (held (File f)) (found (File f)) x e)) silent)
+        by (Some x) e = absurd (not-both _ (heard (accounts_file s f) x (is-printed x (in-print at h.prints_are.blocks h.prints_are.files f x (file-named f x e) e)) (accounts-file s f (held (File f)) (found (File f)) x e)) silent)
         by None e = let k = no-print (File f) (held (File f)) (found (File f)) e in sym (is-same (File f) k.0 k.0) ∙ k.1
 
     no-block : (f : FileNo) (p : BlockNo) → says (prints_file s f) lines ≡ true → says (accounts_block s f p) lines ≡ false → files s (Block f p) ≡ None
@@ -288,7 +289,7 @@ module _ (files : AllFiles) (s : ServerNo) (w : World) (same : AreSame files s w
 
         by : (o : Option Printed) → at (Block f p) ≡ o → files s (Block f p) ≡ None
         by (Some x) e = absurd (not-both _ (heard (accounts_block s f p) x
-            (is-printed x (in-print-block at h.blocks h.files f x (file-named f (FileThere f) there) there (in-blocks at f (h.blocks f) p x (in-names block_eq same-block (h.blocks f) p ((h.are_blocks f there).each p ∙ ap is_some e)) e)))
+            (is-printed x (in-print-block at h.prints_are.blocks h.prints_are.files f x (file-named f (FileThere f) there) there (in-blocks at f (h.prints_are.blocks f) p x (in-names block_eq same-block (h.prints_are.blocks f) p ((h.prints_are.are_blocks f there).each p ∙ ap is_some e)) e)))
             (accounts-block s f p (held (Block f p)) (found (Block f p)) x e)) silent)
         by None e = let k = no-print (Block f p) (held (Block f p)) (found (Block f p)) e in sym (is-same (Block f p) k.0 (file-free f f there)) ∙ k.1
 

@@ -21,7 +21,8 @@ use Rattle.jn_serial.proofs.Orders.{lines_at-append, lines_before-append}
 use Rattle.jn_serial.proofs.CausedGrowth.{lines_before-later, lines_before-whole}
 use Rattle.jn_protocol.specs.World.{World, opening}
 use Rattle.jn_protocol.specs.Steps.{NextEvent, after, IsRun}
-use Rattle.jn_reported.specs.Printing.{Printed, text_printed, IsPrinted}
+use Rattle.jn_protocol.specs.Printing.{Printed}
+use Rattle.jn_reported.specs.Printing.{text_printed, IsPrinted}
 use Rattle.jn_reported.specs.Reported.{Act, Does, Refuses, Tells, Shows, Item, events_of, steps_in, steps_of, world_of, told_in, told_under, after_item, at_event, lines_of, may_act, IsUnder, AreUnder, GoesOver, IsShow, IsShown, AreShown, IsReported}
 use Rattle.jn_reported.specs.Ending.{at_end}
 use Rattle.jn_reported.proofs.Reached.{Reached, next-reached, opening-reached}

@@ -6,7 +6,7 @@ use Rattle.jn_base.specs.declared.names.LockUnit.TheVariants.{File}
 use Rattle.jn_schedule.specs.declared.Event.TheVariants as events
 use Rattle.jn_protocol.specs.Steps.{Work, Nudge}
 use Rattle.jn_protocol.specs.Example.{the_server, the_file, the_transaction, the_work, much, delivered}
-use Rattle.jn_reported.specs.Printing.{Printed, FileThere, UnitLocked}
+use Rattle.jn_protocol.specs.Printing.{Printed, FileThere, UnitLocked}
 use Rattle.jn_reported.specs.Reported.{Does, Shows, Item}
 use Rattle.jn_reported.specs.Ending.{Ending}
 use Rattle.jn_talk.specs.Example.{commanded, handed}

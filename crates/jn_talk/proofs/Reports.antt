@@ -23,7 +23,8 @@ use Rattle.jn_machine.specs.Steps.{run as run_atoms, opening_world}
 use Rattle.jn_moves.proofs.Mirrored.{commits-more}
 use Rattle.jn_protocol.specs.World.{World, opening, committed_in, commits_in}
 use Rattle.jn_protocol.specs.Steps.{Step, NextEvent, Tell, Dismiss, IsStep, IsRun, after, run, commanded}
-use Rattle.jn_reported.specs.Printing.{Printed, FileThere, PageStored, UnitLocked, text_printed}
+use Rattle.jn_protocol.specs.Printing.{Printed, FileThere, PageStored, UnitLocked}
+use Rattle.jn_reported.specs.Printing.{text_printed}
 use Rattle.jn_reported.specs.Reported.{Act, Does, Refuses as Refused, Tells, Shows, Item, events_of, steps_in, steps_of, world_of, told_by, told_in, told_under, after_item, at_event, lines_of, IsUnder, AreUnder, IsReported}
 use Rattle.jn_reported.specs.Ending.{told_by_steps}
 use Rattle.jn_reported.proofs.Lists.{Each}

@@ -6,7 +6,8 @@ use Rattle.jn_base.specs.Names.{file_eq}
 use Rattle.jn_protocol.specs.World.{World}
 use Rattle.jn_protocol.specs.Steps.{NextEvent, after}
 use Rattle.jn_protocol.specs.Example.{the_server, the_file, the_transaction, start}
-use Rattle.jn_reported.specs.Printing.{FileThere, UnitLocked, print_unit, IsPrinted}
+use Rattle.jn_protocol.specs.Printing.{FileThere, UnitLocked, print_unit}
+use Rattle.jn_reported.specs.Printing.{IsPrinted}
 use Rattle.jn_reported.specs.Reported.{world_of, after_item}
 use Rattle.jn_shown.specs.Example.{a_commit_is_named, carried_out, shown}
 use Rattle.jn_shown.proofs.Examples.{memory_in, is-up, once_there, no_block}
@@ -26,22 +27,26 @@ first : IsPrinted the_server named (UnitLocked (File the_file) the_transaction �
 first = record {
   memory = memory_in (named.memory the_server);
   up = is-up (named.memory the_server) refl;
-  files = the_file ∷ [];
-  blocks = λ f. [];
-  are_files = record { each = λ f. while_locked f (file_eq the_file f); rising = refl };
-  are_blocks = λ f h. record { each = λ p. refl; rising = refl };
-  printed = refl;
+  prints_are = record {
+    files = the_file ∷ [];
+    blocks = λ f. [];
+    are_files = record { each = λ f. while_locked f (file_eq the_file f); rising = refl };
+    are_blocks = λ f h. record { each = λ p. refl; rising = refl };
+    printed = refl;
+  };
 }
 
 second : IsPrinted the_server over (FileThere the_file ∷ [])
 second = record {
   memory = memory_in (over.memory the_server);
   up = is-up (over.memory the_server) refl;
-  files = the_file ∷ [];
-  blocks = λ f. [];
-  are_files = record { each = λ f. once_there f (file_eq the_file f); rising = refl };
-  are_blocks = λ f h. record { each = λ p. no_block f p (file_eq the_file f); rising = refl };
-  printed = refl;
+  prints_are = record {
+    files = the_file ∷ [];
+    blocks = λ f. [];
+    are_files = record { each = λ f. once_there f (file_eq the_file f); rising = refl };
+    are_blocks = λ f h. record { each = λ p. no_block f p (file_eq the_file f); rising = refl };
+    printed = refl;
+  };
 }
 
 pub returns-clause-run : goal.returns-clause-run

@@ -6,7 +6,8 @@ use Rattle.jn_rows.specs.Stable.{Prepared, FlagState, at_work, at_tid}
 use Rattle.jn_protocol.specs.World.{World}
 use Rattle.jn_protocol.specs.Steps.{AreNames, tid_before}
 use Rattle.jn_protocol.specs.Example.{the_server, the_file, the_transaction, the_work, start}
-use Rattle.jn_reported.specs.Printing.{FileThere, IsPrinted}
+use Rattle.jn_protocol.specs.Printing.{FileThere}
+use Rattle.jn_reported.specs.Printing.{IsPrinted}
 use Rattle.jn_reported.specs.Reported.{world_of, IsReported}
 use Rattle.jn_reported.specs.Ending.{world_at_end, IsEnding}
 use Rattle.jn_shown.specs.Example.{a_commit_is_named, an_end}
@@ -20,11 +21,13 @@ printed : IsPrinted the_server over (FileThere the_file ∷ [])
 printed = record {
   memory = memory_in (over.memory the_server);
   up = is-up (over.memory the_server) refl;
-  files = the_file ∷ [];
-  blocks = λ f. [];
-  are_files = record { each = λ f. once_there f (file_eq the_file f); rising = refl };
-  are_blocks = λ f h. record { each = λ p. no_block f p (file_eq the_file f); rising = refl };
-  printed = refl;
+  prints_are = record {
+    files = the_file ∷ [];
+    blocks = λ f. [];
+    are_files = record { each = λ f. once_there f (file_eq the_file f); rising = refl };
+    are_blocks = λ f h. record { each = λ p. no_block f p (file_eq the_file f); rising = refl };
+    printed = refl;
+  };
 }
 
 one_work : (p : Prepared) → AreNames work_eq work_before (at_work (λ V. None) the_work (Some p)) (the_work ∷ [])
