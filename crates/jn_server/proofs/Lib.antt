@@ -1,0 +1,6 @@
+mod Ranges
+mod Working
+mod Coordinating
+mod Stepping
+mod Restarted
+mod Serving

@@ -1,0 +1,72 @@
+-- A background step of the worker, and what is sent again, as the whole server's.
+use Rattle.std.proofs.Common.{◌≡◌, Bool, true, false, [], ◌++◌, append_assoc, Option, Some, None, refl, ◌∙◌, ap, arith}
+use Rattle.std.specs.Prelude.{Result, Ok, Err, OnOk, is_ok}
+use Rattle.std.specs.Result.{IsErr, IsErrAnd}
+use Rattle.jn_msgs.specs.Collected.{Collected}
+use Rattle.jn_rows.specs.Outcomes.{RowOutcome}
+use Rattle.jn_rows.specs.Worker.{WorkerTable, worker_step, worker_again}
+use Rattle.jn_rows.specs.Coordinator.{coordinator_again}
+use Rattle.jn_storage.specs.Storage.{StorageView}
+use Rattle.jn_storage.specs.Calls.{state}
+use Rattle.jn_transactions.specs.Telling.{added}
+use Rattle.jn_worker.specs.declared.words.WorkerFault.{WorkerFault}
+use Rattle.jn_worker.specs.Calls.{Steps as WorkerSteps, AsksAgain}
+use Rattle.jn_worker.specs.Fitting.{WorkerView, seen}
+use Rattle.jn_protocol.specs.Servers.{of_step, server_again}
+use Rattle.jn_protocol.proofs.WorkerChanges.{step-aside}
+use Rattle.jn_server.specs.declared.fault.ServerFault.{ServerFault}
+use Rattle.jn_server.specs.Faults.{of_worker as fault_of}
+use Rattle.jn_server.specs.Handling.{Steps}
+use Rattle.jn_server.specs.Seen.{ServerView, memory_of, IsServer}
+use Rattle.jn_server.proofs.Ranges.{step-in-range}
+use Rattle.jn_server.proofs.Working.{worked, worker_failed}
+
+same-ok : {E : Type 0} (answer : Result Bool E) (a b : Bool) → answer ≡ Ok a → answer ≡ Ok b → a ≡ b
+same-ok answer a b d e = cc
+
+no-ok : {E : Type 0} (answer : Result Bool E) (fault : E) (a : Bool) → answer ≡ Err fault → answer ≡ Ok a → ⊥
+no-ok answer fault a d e = cc
+
+module _ (v : ServerView) (serves : IsServer v) (before : Collected) (u : WorkerView) (w : StorageView) (after : Collected) where
+  abbrev now : ServerView
+  now = record { storage = w; worker = u; coordinator = v.coordinator; tickets = v.tickets }
+
+  abbrev step : Option (RowOutcome WorkerTable)
+  step = worker_step v.worker.table (seen v.storage) v.tickets
+
+  stepped-by : (b : Bool) (o : Option (RowOutcome WorkerTable)) → step ≡ o → WorkerSteps o v.worker v.storage before v.tickets (Ok b) u w after v.tickets → Steps (of_step (memory_of v) o) v before (Ok b) now after
+  stepped-by b None e h = (ap Ok (same-ok (Ok b) b false refl h.0), ap (λ (x : WorkerView). record now { worker = x }) h.1 ∙ ap (λ (x : StorageView). record v { storage = x }) h.2, h.3)
+  stepped-by b (Some row) e h = (
+    worked 40 40 (omega arith) v serves row (step-aside v.worker.table (seen v.storage) v.tickets row e) (step-in-range v.worker.table serves.ranges (seen v.storage) v.tickets row e) before u w after v.tickets b h.0,
+    (λ ok. ap Ok (same-ok (Ok b) b true refl (h.1 refl))),
+    h.2,
+  )
+
+  pub stepped : (b : Bool) → WorkerSteps step v.worker v.storage before v.tickets (Ok b) u w after v.tickets → Steps (of_step (memory_of v) step) v before (Ok b) now after
+  stepped b h = stepped-by b step refl h
+
+  failed-by : (fault : WorkerFault) (answer : Result Bool ServerFault) → IsErr answer → IsErrAnd answer (λ e. e ≡ fault_of fault) → (o : Option (RowOutcome WorkerTable)) → step ≡ o
+      → WorkerSteps o v.worker v.storage before v.tickets (Err fault) u w after v.tickets → Steps (of_step (memory_of v) o) v before answer now after
+  failed-by fault answer is why None e h = absurd (no-ok (Err fault) fault false refl h.0)
+  failed-by fault answer is why (Some row) e h = (
+    worker_failed 40 40 (omega arith) v serves row (step-aside v.worker.table (seen v.storage) v.tickets row e) (step-in-range v.worker.table serves.ranges (seen v.storage) v.tickets row e) before u w after v.tickets _ fault answer is why h.0,
+    (λ ok. absurd (never answer is ok)),
+    (λ none ok. absurd (never answer is ok)),
+  )
+    where
+      never : (answer : Result Bool ServerFault) → IsErr answer → is_ok answer ≡ true → ⊥
+      never (Ok x) i ok = cc i
+      never (Err x) i ok = cc ok
+
+  pub step-failed : (fault : WorkerFault) (answer : Result Bool ServerFault) → IsErr answer → IsErrAnd answer (λ e. e ≡ fault_of fault)
+      → WorkerSteps step v.worker v.storage before v.tickets (Err fault) u w after v.tickets → Steps (of_step (memory_of v) step) v before answer now after
+  step-failed fault answer is why h = failed-by fault answer is why step refl h
+
+-- first the worker's questions, then what the coordinator has told
+pub sent-again : {E : Type 0} (answer : Result Unit E) (v : ServerView) (before middle after : Collected) → IsServer v → AsksAgain v.worker before true middle
+    → OnOk answer (after ≡ added middle (coordinator_again v.coordinator.transactions) []) → OnOk answer (after ≡ added before (server_again (memory_of v) (state v.storage)) [])
+sent-again (Err fault) v before middle after serves asks tells = tt
+sent-again (Ok x) v before middle after serves asks tells = tells
+    ∙ ap (λ m. record { messages = m ++ coordinator_again v.coordinator.transactions; notes = middle.notes ++ [] }) (asks.messages refl ∙ ap (λ m. before.messages ++ m) (asks.is_row v.storage serves.works))
+    ∙ ap (λ n. record { messages = (before.messages ++ worker_again (state v.storage) v.worker.table) ++ coordinator_again v.coordinator.transactions; notes = n ++ [] }) asks.notes
+    ∙ ap (λ m. record { messages = m; notes = before.notes ++ [] }) (append_assoc before.messages (worker_again (state v.storage) v.worker.table) (coordinator_again v.coordinator.transactions))

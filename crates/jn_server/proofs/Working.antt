@@ -1,0 +1,90 @@
+-- What the worker does by its row, the whole server does.
+use Rattle.std.proofs.Common.{◌≡◌, inl, inr, ℕ, ◌+◌, ◌≤◌, true, false, List, [], ◌∷◌, Result, Ok, Err, refl, sym, ◌∙◌, ap, subst, arith}
+use Rattle.std.specs.Result.{IsErr, IsErrAnd}
+use Rattle.std.proofs.lemmas.Bool.Decides.{nat_tests}
+use Rattle.jn_base.specs.declared.names.Tickets.{Tickets}
+use Rattle.jn_msgs.specs.Collected.{Collected}
+use Rattle.jn_rows.specs.Stable.{StableState}
+use Rattle.jn_rows.specs.Outcomes.{RowOutcome}
+use Rattle.jn_rows.specs.Worker.{WorkerTable}
+use Rattle.jn_rows.specs.Coordinator.{name_from}
+use Rattle.jn_rows.specs.declared.coordinator.Transaction.{Transaction}
+use Rattle.jn_storage.specs.Storage.{StorageView}
+use Rattle.jn_storage.specs.Calls.{state}
+use Rattle.jn_store.proofs.Laws.{calm_on}
+use Rattle.jn_worker.specs.declared.words.WorkerFault.{WorkerFault}
+use Rattle.jn_worker.specs.declared.words.WorkerFault.TheVariants as faults
+use Rattle.jn_worker.specs.Calls.{Takes}
+use Rattle.jn_worker.specs.Fitting.{WorkerView}
+use Rattle.jn_coord.specs.Calls.{flag_told}
+use Rattle.jn_coord.specs.Beginning.{are_before}
+use Rattle.jn_transactions.specs.Telling.{added}
+use Rattle.jn_protocol.specs.Servers.{of_worker}
+use Rattle.jn_protocol.proofs.CoordinatorRows.{epoch-all}
+use Rattle.jn_protocol.proofs.WorkerChanges.{Aside, DrawsOne, works-flags}
+use Rattle.jn_server.specs.declared.fault.ServerFault.{ServerFault}
+use Rattle.jn_server.specs.Faults.{of_worker as fault_of}
+use Rattle.jn_server.specs.Seen.{ServerView, memory_of, IsServer}
+use Rattle.jn_server.specs.Ranges.{AreInRange}
+use Rattle.jn_server.specs.Handling.{IsDone, IsStopped, Does}
+
+-- a later ticket comes after the same names
+pub later-name : (xs : List Transaction) (k l : Tickets) → DrawsOne k l → are_before xs (name_from k) ≡ true → are_before xs (name_from l) ≡ true
+later-name xs k l (inl e) h = subst (λ (z : Tickets). are_before xs (name_from z) ≡ true) (sym e) h
+later-name xs k l (inr e) h = subst (λ (z : Tickets). are_before xs (name_from z) ≡ true) (sym e) (by xs h)
+  where
+    by : (xs : List Transaction) → are_before xs (name_from k) ≡ true → are_before xs (name_from (record k { next = k.next + 1 })) ≡ true
+    by [] h = refl
+    by (x ∷ xs) h = let again = by xs in grind (arith, nat_tests, h)
+
+module _ (most bound : ℕ) (within : most ≤ bound) (v : ServerView) (serves : IsServer v) (row : RowOutcome WorkerTable) (aside : Aside v.tickets row) (ranges : AreInRange row.table) (before : Collected) where
+  module _ (u : WorkerView) (w : StorageView) (after : Collected) (l : Tickets) where
+    abbrev now : ServerView
+    now = record { storage = w; worker = u; coordinator = v.coordinator; tickets = l }
+
+    pub worked : {A : Type 0} (x : A) → Takes {A = A} most row v.worker v.storage before v.tickets (Ok x) u w after l → IsDone bound (of_worker (memory_of v) row) v before now after
+    worked x h = let counted = h.counts refl in let fits = h.fits refl in let before_works = h.tickets_fit refl serves.works_before in let made = h.performs.changes.done refl (λ n. false) in
+        let flags = ap (λ (x : StableState). x.flags) made ∙ works-flags row.changes (state v.storage) aside.works in
+        let epoch = ap (λ (x : StableState). x.epoch) made ∙ epoch-all row.changes (state v.storage) in record {
+          memory = ap (λ (t : WorkerTable). record (memory_of now) { worker = t }) (h.performs.becomes refl)
+              ∙ ap (λ (k : Tickets). record (memory_of now) { worker = row.table; tickets = k }) (h.performs.drawn refl)
+              ∙ ap (λ n. record (memory_of now) { worker = row.table; tickets = row.tickets; next = n }) (counted.next);
+          found = h.performs.changes.done refl;
+          sent = ap (λ m. record after { messages = m }) (h.performs.sent refl) ∙ ap (λ n. record (added before row.messages row.notes) { notes = n }) (h.performs.noted refl);
+          serves = record {
+            works = fits;
+            transactions = record {
+              serving = fits.serving;
+              clients = serves.transactions.clients;
+              few = serves.transactions.few;
+              rising = serves.transactions.rising;
+              flags = λ T. ap (λ f. flag_told (f T)) flags ∙ serves.transactions.flags T;
+              promises = counted.promised_records ∙ serves.transactions.promises;
+              ballots = serves.transactions.ballots;
+              given = λ T e. let g = serves.transactions.given T e in record { own = g.own ∙ sym h.called.later.server; past = let p = g.past in let same = epoch in omega (arith, p, same) };
+            };
+            works_before = before_works;
+            transactions_before = record { server = before_works.server; epoch = before_works.epoch; after = later-name v.coordinator.transactions v.tickets l (subst (DrawsOne v.tickets) (sym (h.performs.drawn refl)) aside.tickets) serves.transactions_before.after };
+            ranges = subst AreInRange (sym (h.performs.becomes refl)) ranges;
+          };
+          later = h.called.later;
+          calls = let c = h.called.calls in omega (arith, c, within);
+          no_stop = h.called.no_stop refl;
+        }
+
+    pub worker_stopped : {A : Type 0} → Takes {A = A} most row v.worker v.storage before v.tickets (Err faults.Stopped) u w after l → IsStopped bound (of_worker (memory_of v) row) v before now after
+    worker_stopped h = record {
+      some = h.performs.changes.stop refl;
+      silent = h.silent refl;
+      later = h.called.later;
+      calls = let c = h.called.calls in omega (arith, c, within);
+      stop = h.called.stop refl;
+      not_calm = λ calm. calm_on v.storage.store w.store h.called.later.store (h.called.stop refl) calm;
+    }
+
+    -- why it wasn't done
+    pub worker_failed : {A : Type 0} (B : Type 0) (fault : WorkerFault) (answer : Result A ServerFault) → IsErr answer → IsErrAnd answer (λ e. e ≡ fault_of fault)
+        → Takes {A = B} most row v.worker v.storage before v.tickets (Err fault) u w after l → Does bound (of_worker (memory_of v) row) v before answer now after
+    worker_failed B fault (Ok x) h is t = absurd (cc h)
+    worker_failed {A} B faults.Stopped (Err e) h is t = subst (λ (z : ServerFault). Does {A = A} bound (of_worker (memory_of v) row) v before (Err z) now after) (sym is) (worker_stopped t)
+    worker_failed {A} B faults.Memory (Err e) h is t = subst (λ (z : ServerFault). Does {A = A} bound (of_worker (memory_of v) row) v before (Err z) now after) (sym is) tt

@@ -1,0 +1,14 @@
+use Rattle.std.proofs.Common.{subst}
+use Rattle.jn_store.specs.Store.{StoreView}
+use Rattle.jn_recovery.specs.Memory.{view_of}
+use Rattle.jn_server.specs.Seen.{Parts, view_with}
+use Rattle.jn_server.specs.Befalling.{Befalls}
+use Rattle.jn_server.proofs.Serving.{befallen}
+use Rattle.jn_server.proofs.server.Server.disarm.Goals as goal
+
+pub returns-clause-befalls : goal.returns-clause-befalls
+returns-clause-befalls g c =
+    let look : g.row.S.Denot → StoreView = λ s. g.S.StableStore.view s in
+    let inside : Parts g.row.S.Denot = record { storage = c.self.inside.storage; worker = c.self.inside.worker; coordinator = c.self.inside.coordinator; tickets = c.self.inside.tickets } in
+    subst (λ (s : Parts g.row.S.Denot). Befalls (view_with look s) (view_with look (record { storage = c.disarm.new.self; worker = c.self.inside.worker; coordinator = c.self.inside.coordinator; tickets = c.self.inside.tickets }))) c.self.view_is
+    (befallen (view_with look inside) (view_of c.disarm.new.self.1 (look c.disarm.new.self.0)) c.disarm.ensures.befalls)

@@ -1,0 +1,57 @@
+-- What a call of a server does whose row this is.
+use Rattle.std.specs.Prelude.{◌≡◌, ◌≤◌, ◌+◌, ℕ, Bool, true, false, ⊤, [], Option, Some, None, is_some, Result, Ok, Err, is_ok}
+use Rattle.jn_base.specs.declared.names.Tid.{Tid}
+use Rattle.jn_msgs.specs.Collected.{Collected}
+use Rattle.jn_rows.specs.Outcomes.{RowOutcome}
+use Rattle.jn_rows.specs.Worker.{timeout_row}
+use Rattle.jn_rows.specs.Stable.{Pick, IsStopState, made_all}
+use Rattle.jn_storage.specs.Storage.{StorageLater}
+use Rattle.jn_storage.specs.Calls.{state, CountsErased}
+use Rattle.jn_store.specs.Store.{IsCalm, IsStop}
+use Rattle.jn_transactions.specs.Telling.{added}
+use Rattle.jn_protocol.specs.World.{Memory}
+use Rattle.jn_protocol.specs.Servers.{server_timeout}
+use Rattle.jn_server.specs.declared.fault.ServerFault.{ServerFault}
+use Rattle.jn_server.specs.declared.fault.ServerFault.TheVariants.{Stopped, Memory as NoMemory}
+use Rattle.jn_server.specs.Seen.{ServerView, memory_of, IsServer}
+
+-- It is done: all the row's changes are made, whichever halves are read, and its messages and notes are told.
+pub record IsDone (most : ℕ) (row : RowOutcome Memory) (v : ServerView) (before : Collected) (w : ServerView) (after : Collected) : Type 0 where
+  pub memory : memory_of w ≡ row.table
+  pub found : (c : Pick) → w.storage.found c ≡ made_all row.changes (state v.storage)
+  pub sent : after ≡ added before row.messages row.notes
+  pub serves : IsServer w
+  pub later : StorageLater v.storage w.storage
+  pub calls : w.storage.store.calls ≤ v.storage.store.calls + most
+  pub no_stop : w.storage.store.stops ≡ v.storage.store.stops
+
+-- It is stopped: by each pick some of the row's changes are made, from the first one on, and nothing is sent or told. While no
+-- fault waits that doesn't happen.
+pub record IsStopped (most : ℕ) (row : RowOutcome Memory) (v : ServerView) (before : Collected) (w : ServerView) (after : Collected) : Type 0 where
+  pub some : (c : Pick) → IsStopState (state v.storage) row.changes (w.storage.found c)
+  pub silent : after ≡ before
+  pub later : StorageLater v.storage w.storage
+  pub calls : w.storage.store.calls ≤ v.storage.store.calls + most
+  pub stop : IsStop v.storage.store w.storage.store
+  pub not_calm : IsCalm v.storage.store → ⊥
+
+-- without memory the server is of no use any more
+abbrev pub Does : {A : Type 0} → ℕ → RowOutcome Memory → ServerView → Collected → Result A ServerFault → ServerView → Collected → Type 0
+Does most row v before (Ok x) w after = IsDone most row v before w after
+Does most row v before (Err Stopped) w after = IsStopped most row v before w after
+Does most row v before (Err NoMemory) w after = ⊤
+
+-- A background step whose row this is: it is answered true, and false where there is none and nothing is done. A row without
+-- changes erases one rubbish record.
+abbrev pub Steps : Option (RowOutcome Memory) → ServerView → Collected → Result Bool ServerFault → ServerView → Collected → Type 0
+Steps None v before answer w after = (answer ≡ Ok false) × (w ≡ v) × (after ≡ before)
+Steps (Some row) v before answer w after =
+    Does 40 row v before answer w after × (is_ok answer ≡ true → answer ≡ Ok true) × (row.changes ≡ [] → is_ok answer ≡ true → CountsErased v.storage.accounts w.storage.accounts)
+
+-- A timeout of a transaction: true exactly where a work of it is live. Only the worker's table changes.
+pub record TimesOut (T : Tid) (v : ServerView) (answer : Bool) (w : ServerView) : Type 0 where
+  pub live : answer ≡ is_some (timeout_row v.worker.table T)
+  pub memory : memory_of w ≡ server_timeout (memory_of v) T
+  pub others : w ≡ record v { worker = w.worker }
+  pub same : answer ≡ false → w ≡ v
+  pub serves : IsServer w

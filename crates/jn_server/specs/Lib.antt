@@ -1,0 +1,6 @@
+pub mod Seen
+pub mod Ranges
+pub mod Handling
+pub mod Faults
+pub mod Restarting
+pub mod Befalling

@@ -1,0 +1,26 @@
+//! A server that is up.
+
+use jn_base::Tickets;
+use jn_coord::Coordinator;
+use jn_intent::Intents;
+use jn_store::StableStore;
+use jn_worker::Worker;
+use std::marker::Model;
+
+/// A server that is up: a worker and a coordinator over one storage, which draw their names from the same tickets.
+/// Contracts see these parts.
+#[derive(Drop)]
+pub struct Server<S: StableStore> {
+    pub(crate) storage: Intents<S>,
+    pub(crate) worker: Worker,
+    pub(crate) coordinator: Coordinator,
+    pub(crate) tickets: Tickets,
+}
+
+impl<S: StableStore> Model for Server<S> {
+    ghost use Rattle.jn_server.specs.Seen.{Parts};
+
+    ghost Value = { Parts S };
+
+    ghost view = { λ s. record { storage = s.storage; worker = s.worker; coordinator = s.coordinator; tickets = s.tickets } };
+}

@@ -1,0 +1,44 @@
+//! What a server does without a message.
+ghost use Rattle.std.specs.Prelude.{◌≡◌, [], OnOk};
+ghost use Rattle.jn_protocol.specs.Servers.{server_step, server_again};
+ghost use Rattle.jn_server.specs.Handling.{Steps, TimesOut};
+ghost use Rattle.jn_server.specs.Seen.{view_with, memory_of, room_of, IsServer};
+ghost use Rattle.jn_storage.specs.Calls.{state};
+ghost use Rattle.jn_transactions.specs.Telling.{added};
+
+use crate::fault::ServerFault;
+use crate::server::Server;
+use jn_base::Tid;
+use jn_msgs::Out;
+use jn_store::StableStore;
+use std::alloc::AllocError;
+
+impl<S: StableStore> Server<S> {
+    /// One background step: the next intention of a going work is carried out, or a work that is carried out is forgotten, or
+    /// a rubbish record is erased. False exactly where nothing is to do.
+    pub fn step(&mut self, out: &mut Out) -> Result<bool, ServerFault>
+        requires serves { IsServer (view_with (λ s. S.view s) self.old) }
+        ensures steps { let v = view_with (λ s. S.view s) self.old in Steps (server_step (memory_of v) (state v.storage) (room_of v.storage)) v out.old result (view_with (λ s. S.view s) self.new) out.new }
+    {
+        Ok(self.worker.step(&mut self.storage, out)?)
+    }
+
+    /// Sends once more what still waits for an answer: first the worker's questions, then what the coordinator has told. It makes
+    /// no device call.
+    pub fn again(&self, out: &mut Out) -> Result<(), AllocError>
+        requires serves { IsServer (view_with (λ s. S.view s) self.now) }
+        ensures sent { let v = view_with (λ s. S.view s) self.now in OnOk result (out.new ≡ added out.old (server_again (memory_of v) (state v.storage)) []) }
+    {
+        self.worker.again(out)?;
+        self.coordinator.again(out)
+    }
+
+    /// From now on the transaction's active work gives way to others. False exactly where the transaction has no live work
+    /// here. It makes no device call.
+    pub fn timeout(&mut self, tid: Tid) -> bool
+        requires serves { IsServer (view_with (λ s. S.view s) self.old) }
+        ensures times_out { TimesOut tid (view_with (λ s. S.view s) self.old) result (view_with (λ s. S.view s) self.new) }
+    {
+        self.worker.timeout(tid)
+    }
+}
