@@ -15,10 +15,10 @@ use Rattle.jn_replay.specs.Operations.{files_then, GivesAnswers}
 use Rattle.jn_serial.specs.Lines.{history_of, has_tid, says}
 use Rattle.jn_serial.specs.Order as order
 use Rattle.jn_serial.specs.Order.{ops_of}
-use Rattle.jn_serial.specs.InTurn.{ops_told, owner_after}
+use Rattle.jn_serial.specs.InTurn.{ops_told, begins_for, owner_after}
 use Rattle.jn_serial.specs.Follows.{nothing_asked, FollowsFrom, AllOfEvents}
 use Rattle.jn_serial.proofs.Growth.{AreWithin}
-use Rattle.jn_serial.proofs.Beginners.{HasOneClient, begins_for}
+use Rattle.jn_serial.proofs.Beginners.{HasOneClient}
 use Rattle.jn_serial.proofs.InTurn.{AreAtEnd, AreInTurn, InTurnSoFar, all-in-turn}
 use Rattle.jn_serial.proofs.Orders.{says-append}
 use Rattle.jn_run.specs.Names.{client_1}
