@@ -6,7 +6,7 @@ ghost use Rattle.jn_report.specs.declared.line.When.TheVariants.{Event as AtEven
 ghost use Rattle.jn_serial.specs.Begun.{is_in as is_in_tid};
 ghost use Rattle.jn_serial.specs.Caused as caused;
 ghost use Rattle.jn_serial.specs.Follows.{refuses_own};
-ghost use Rattle.jn_serial.specs.Lines.{lines_at, says};
+ghost use Rattle.jn_serial.specs.Lines.{count_lines, lines_at, says};
 
 use jn_base::{Cause, ClientNo, Command, FaultKind, LockUnit, ServerNo, Tid};
 use jn_report::{Line, Text, When};
@@ -279,13 +279,13 @@ fn count_faults(events: &[Event], lines: &[Line], when: When, server: ServerNo) 
 }
 
 fn count_stopped(lines: &[Line], server: ServerNo) -> usize
-    ensures { result ≡ caused.count_lines (caused.stops server) lines.now }
+    ensures { result ≡ count_lines (caused.stops server) lines.now }
 {
     lines.iter().filter(|l| stops(server, &l.text)).count()
 }
 
 fn count_refused(lines: &[Line], server: ServerNo) -> usize
-    ensures { result ≡ caused.count_lines (caused.refuses_fault server) lines.now }
+    ensures { result ≡ count_lines (caused.refuses_fault server) lines.now }
 {
     lines
         .iter()

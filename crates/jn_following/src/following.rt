@@ -264,6 +264,29 @@ fn all_own_in_place(number: usize, event: &Event, here: &[Line]) -> bool
     true
 }
 
+/// Whether a client itself refuses a command.
+fn is_own_refusal(text: &Text) -> bool
+    ensures { result ≡ follows.is_own_refusal text.now }
+{
+    match text {
+        Text::Refused(_, _, refusal) => is_own(*refusal),
+        _ => false,
+    }
+}
+
+/// How many refusals by clients themselves these lines are.
+fn own_refusals(here: &[Line]) -> usize
+    ensures { result ≡ follows.own_refusals here.now }
+{
+    let mut count = 0;
+    for line in here {
+        if is_own_refusal(&line.text) {
+            count += 1;
+        }
+    }
+    count
+}
+
 /// Whether the lines of an event answer what is outstanding then.
 fn follows_event(
     alloc: Global,
@@ -278,7 +301,7 @@ fn follows_event(
         ≡ follows.after_one (outstanding_of entries.old.items) number event.now here.now) }
 {
     take_command(alloc, entries, number, event, here)?;
-    Ok(all_fit(entries, here)? && all_own_in_place(number, event, here))
+    Ok(all_fit(entries, here)? && all_own_in_place(number, event, here) && own_refusals(here) <= 1)
 }
 
 /// Whether the answers of each event answer what is outstanding then.
@@ -335,7 +358,7 @@ fn all_of_events(count: usize, lines: &[Line]) -> bool
 
 /// Whether each answer to a client in a report names its outstanding command and has a form of
 /// that command, the client's own refusals stand in the command's own event, and no command has two
-/// last answers or one after another command replaced it.
+/// last answers, two such refusals, or an answer after another command replaced it.
 pub fn follows(alloc: Global, events: &[Event], lines: &[Line]) -> Result<bool, AllocError>
     ensures { IfOk result (λ b. IsTrue b ↔ follows.Follows events.now lines.now) }
 {

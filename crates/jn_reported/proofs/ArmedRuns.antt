@@ -14,8 +14,8 @@ use Rattle.jn_report.specs.declared.line.When.TheVariants.{Event as AtEvent}
 use Rattle.jn_report.specs.declared.line.Text.{Text}
 use Rattle.jn_report.specs.declared.line.Text.TheVariants as says
 use Rattle.jn_report.specs.declared.line.Line.{Line}
-use Rattle.jn_serial.specs.Lines.{lines_at, says}
-use Rattle.jn_serial.specs.Caused.{count_events, count_lines, is_stop, refuses_event, stops, arms_stop, refuses_fault, gives_fault}
+use Rattle.jn_serial.specs.Lines.{lines_at, says, count_lines}
+use Rattle.jn_serial.specs.Caused.{count_events, is_stop, refuses_event, stops, arms_stop, refuses_fault, gives_fault}
 use Rattle.jn_serial.proofs.Growth.{AreWithin, lines_at-newest, AreWithin-append, AreWithin-wider}
 use Rattle.jn_protocol.specs.World.{World, opening}
 use Rattle.jn_protocol.specs.Steps.{Step, NextEvent, Tell, Again, Deliver, Work, Nudge, Timeout, StopDelivery, StopWork, Crash, Narrow, StopRestart, Restart, Dismiss, CloseClients, after, IsRun}

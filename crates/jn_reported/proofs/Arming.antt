@@ -13,8 +13,8 @@ use Rattle.jn_report.specs.declared.line.When.TheVariants.{Event as AtEvent}
 use Rattle.jn_report.specs.declared.line.Text.{Text}
 use Rattle.jn_report.specs.declared.line.Text.TheVariants as says
 use Rattle.jn_report.specs.declared.line.Line.{Line}
-use Rattle.jn_serial.specs.Lines.{lines_at, says}
-use Rattle.jn_serial.specs.Caused.{count_events, count_lines, is_stop, refuses_event, is_accepted, stops, arms_stop, refuses_fault, gives_fault, is_caused}
+use Rattle.jn_serial.specs.Lines.{lines_at, says, count_lines}
+use Rattle.jn_serial.specs.Caused.{count_events, is_stop, refuses_event, is_accepted, stops, arms_stop, refuses_fault, gives_fault, is_caused}
 use Rattle.jn_serial.proofs.Growth.{AreWithin, lines_at-earlier}
 use Rattle.jn_reported.specs.Reported.{at_event, Waiting, strikes, strike_all, IsStruck, AreStruck}
 use Rattle.jn_reported.specs.Armed.{is_fault, ArmedFrom}

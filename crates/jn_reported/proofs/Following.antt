@@ -25,6 +25,7 @@ use Rattle.jn_rows.specs.Client.{ClientTable, Commanded, Refuses, Sends, command
 use Rattle.jn_serial.specs.Lines.{lines_at}
 use Rattle.jn_serial.specs.Follows.{Outstanding as Waited, nothing_asked, with_asked, is_own, answer_in, AllFit, after_answers, after_answer, after_event, own_in_place, is_command_of, AllOwnInPlace, FollowsEvent, after_one, FollowsFrom, IsOfEvent, AllOfEvents, Follows, fits, addressed}
 use Rattle.jn_serial.proofs.InTurn.{AreInTurn}
+use Rattle.jn_serial.proofs.Refused.{refused-nowhere, refused-once}
 use Rattle.jn_serial.proofs.Growth.{IsWithin, AreWithin, lines_at-earlier, lines_at-newest, AreWithin-wider, AreWithin-append}
 use Rattle.jn_protocol.specs.World.{World, opening}
 use Rattle.jn_protocol.specs.Steps.{Step, NextEvent, Tell, Dismiss, after, run, IsRun, commanded}
@@ -192,6 +193,10 @@ module _ (files : AllFiles) (epochs : ServerNo → ℕ) where
   all-own number e [] h = tt
   all-own number e (x ∷ texts) h = (one-own number e x h.0, all-own number e texts h.1)
 
+  no-command : (e : Event) → IsPlain e → (c : ClientNo) → is_command_of e c ≡ false
+  no-command (events.Command d command) p c = absurd p
+  no-command _ p c = refl
+
   plain-event : (out : Waited) (number : ℕ) (e : Event) (lines : List Line) → IsPlain e → after_event out number e lines ≡ out
   plain-event out number (events.Command c command) lines p = absurd p
   plain-event out number _ lines p = refl
@@ -200,7 +205,7 @@ module _ (files : AllFiles) (epochs : ServerNo → ℕ) where
   plain-follows out e acts r reached i waits plain under = record {
     reached = h.reached;
     same_event = h.same_event;
-    follows = record { fit = subst (λ (o : Waited). AllFit o lines) (sym same) (all-fit out r.event (told_in acts r) h.heard.fit); own = all-own r.event e (told_in acts r) h.heard.others };
+    follows = record { fit = subst (λ (o : Waited). AllFit o lines) (sym same) (all-fit out r.event (told_in acts r) h.heard.fit); own = own; once = refused-nowhere r.event e lines (no-command e plain) own };
     now = λ c. ap (λ (o : Waited). after_answers o lines c) same ∙ ap (λ (o : Waited). o c) (answers-left out r.event (told_in acts r)) ∙ h.heard.now c;
   }
     where
@@ -210,13 +215,16 @@ module _ (files : AllFiles) (epochs : ServerNo → ℕ) where
       lines : List Line
       lines = at_event r.event (told_in acts r)
 
+      own : AllOwnInPlace r.event e lines
+      own = all-own r.event e (told_in acts r) h.heard.others
+
       same : after_event out r.event e (at_event r.event (told_in acts r)) ≡ out
       same = plain-event out r.event e (at_event r.event (told_in acts r)) plain
 
   -- a command
   module _ (out : Waited) (c : ClientNo) (command : Command) (r : World) (waits : Waits out r.clients) where
     refused-follows : (refusal : Refusal) → is_own refusal ≡ true → Reached files epochs (commanded c (Refuses refusal) r) → EventFollows out r.event (events.Command c command) (says.Refused c r.event refusal ∷ []) (commanded c (Refuses refusal) r)
-    refused-follows refusal own reached = record { reached = reached; same_event = refl; follows = record { fit = (fit (is_own refusal) own, tt); own = (in-place (is_own refusal) own, tt) }; now = λ d. left-is (is_own refusal) own d ∙ waits d }
+    refused-follows refusal own reached = record { reached = reached; same_event = refl; follows = record { fit = (fit (is_own refusal) own, tt); own = (in-place (is_own refusal) own, tt); once = refused-once (record { when = AtEvent r.event; text = says.Refused c r.event refusal }) }; now = λ d. left-is (is_own refusal) own d ∙ waits d }
       where
         fit : (b : Bool) → b ≡ true → fits (after_event out r.event (events.Command c command) (at_event r.event (says.Refused c r.event refusal ∷ []))) (if b then None else addressed c r.event) (says.Refused c r.event refusal) ≡ true
         fit true k = refl
@@ -233,7 +241,7 @@ module _ (files : AllFiles) (epochs : ServerNo → ℕ) where
         left-is false k d = absurd (grind arith)
 
     sent-follows : (u : ClientTable) (to : Party) (message : Message) → asked_of u.outstanding ≡ Some (record { number = r.event; command = command }) → Reached files epochs (commanded c (Sends u to message) r) → EventFollows out r.event (events.Command c command) [] (commanded c (Sends u to message) r)
-    sent-follows u to message h reached = record { reached = reached; same_event = refl; follows = record { fit = tt; own = tt }; now = new-waits r.clients c u out waits _ h }
+    sent-follows u to message h reached = record { reached = reached; same_event = refl; follows = record { fit = tt; own = tt; once = omega arith }; now = new-waits r.clients c u out waits _ h }
 
     nothing-more : (l : List Text) → drop (length l) l ++ [] ≡ []
     nothing-more l = append-nil (drop (length l) l) ∙ ap (λ z. drop (length l) z) (sym (append-nil l)) ∙ drop-append_seam l []

@@ -10,6 +10,7 @@ use Rattle.jn_serial.specs.declared.following.Asked.{Asked}
 use Rattle.jn_serial.specs.declared.following.Addressed.{Addressed}
 use Rattle.jn_serial.specs.Follows.{Outstanding, with_asked, answer_in, answers_command, own_in_place, fits_asked, after_answer, after_answers, is_last, fits, AllFit, AllOwnInPlace, AllOfEvents}
 use Rattle.jn_serial.proofs.Growth.{AreWithin, AreWithin-append}
+use Rattle.jn_serial.proofs.Refused.{refused-nowhere}
 use Rattle.jn_serial.proofs.Ops.{AnswersWithin, AllAnswerWithin, AllAnswerWithin-append}
 use Rattle.jn_run.specs.Names.{client_1, line_at}
 use Rattle.jn_run.proofs.OneClient.{Talk, talk-more, next_number, AllOfEvents-append}
@@ -58,7 +59,7 @@ talk-settled es ls ms out out' talk t =
       within = t.within;
       below = subst (λ k. AllAnswerWithin k ms) (one_more (length es)) t.below;
       no_show = refl;
-      follows = record { fit = t.fit; own = t.own };
+      follows = record { fit = t.fit; own = t.own; once = refused-nowhere (next_number es) events.Settle ms (λ c. refl) t.own };
       of_events = subst (λ k. AllOfEvents k ms) (one_more (length es)) t.of_events;
     }))
   where
@@ -74,7 +75,7 @@ talk-given es ls out command t =
       within = tt;
       below = tt;
       no_show = refl;
-      follows = record { fit = tt; own = tt };
+      follows = record { fit = tt; own = tt; once = omega arith };
       of_events = tt;
     }))
 

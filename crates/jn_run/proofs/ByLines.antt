@@ -1,24 +1,23 @@
 -- The order of commits by what transactions did line by line, and that it is the order by their commands.
-use Rattle.std.proofs.Common.{◌≡◌, ◌⊎◌, inl, inr, ℕ, suc, ◌+◌, ◌≤◌, Bool, true, false, ◌||◌, List, [], ◌∷◌, ◌++◌, length, Option, Some, None, refl, sym, ◌∙◌, ap, subst, arith, append-nil, append_assoc, true≢false}
+use Rattle.std.proofs.Common.{◌≡◌, ℕ, suc, ◌+◌, Bool, true, false, ◌||◌, List, [], ◌∷◌, ◌++◌, length, Option, None, refl, sym, ◌∙◌, ap, subst, arith, append-nil, append_assoc}
 use Rattle.jn_base.specs.declared.names.ClientNo.{ClientNo}
 use Rattle.jn_base.specs.declared.names.Tid.{Tid}
-use Rattle.jn_base.specs.Names.{client_eq, tid_eq}
-use Rattle.jn_base.proofs.Tells.{client_tells, tid_tells}
+use Rattle.jn_base.specs.Names.{tid_eq}
+use Rattle.jn_base.proofs.Tells.{tid_tells}
 use Rattle.jn_order.specs.Files.{AllFiles}
 use Rattle.jn_schedule.specs.declared.Event.{Event}
-use Rattle.jn_report.specs.declared.line.When.TheVariants.{End}
 use Rattle.jn_report.specs.declared.line.Text.{Text}
 use Rattle.jn_report.specs.declared.line.Text.TheVariants as says
 use Rattle.jn_report.specs.declared.line.Line.{Line}
 use Rattle.jn_replay.specs.declared.files.Performed.{Performed}
 use Rattle.jn_replay.specs.Operations.{files_then, GivesAnswers}
-use Rattle.jn_serial.specs.Lines.{history_of, has_tid, says}
+use Rattle.jn_serial.specs.Lines.{history_of, says}
 use Rattle.jn_serial.specs.Order as order
 use Rattle.jn_serial.specs.Order.{ops_of}
-use Rattle.jn_serial.specs.InTurn.{ops_told, owner_after}
+use Rattle.jn_serial.specs.InTurn.{ops_told, begins_for, owner_after}
 use Rattle.jn_serial.specs.Follows.{nothing_asked, FollowsFrom, AllOfEvents}
 use Rattle.jn_serial.proofs.Growth.{AreWithin}
-use Rattle.jn_serial.proofs.Beginners.{HasOneClient, begins_for}
+use Rattle.jn_serial.proofs.Beginners.{HasOneClient}
 use Rattle.jn_serial.proofs.InTurn.{AreAtEnd, AreInTurn, InTurnSoFar, all-in-turn}
 use Rattle.jn_serial.proofs.Orders.{says-append}
 use Rattle.jn_run.specs.Names.{client_1}

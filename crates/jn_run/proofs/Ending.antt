@@ -1,5 +1,5 @@
 -- The end of a run: the lines that print the files show what the commits give.
-use Rattle.std.proofs.Common.{append-nil, append_assoc, ◌≡◌, ℕ, zero, suc, ◌+◌, Bool, true, false, ◌||◌, cond, List, [], ◌∷◌, ◌++◌, length, Option, Some, None, refl, sym, ◌∙◌, ap, subst}
+use Rattle.std.proofs.Common.{append-nil, append_assoc, ◌≡◌, ℕ, zero, suc, Bool, true, false, ◌||◌, cond, List, [], ◌∷◌, ◌++◌, length, Option, Some, None, refl, sym, ◌∙◌, ap, subst}
 use Rattle.jn_base.specs.declared.names.ServerNo.{ServerNo}
 use Rattle.jn_base.specs.declared.names.ClientNo.{ClientNo}
 use Rattle.jn_base.specs.declared.names.Tid.{Tid}
@@ -15,7 +15,7 @@ use Rattle.jn_serial.specs.Lines.{when_eq, lines_at, says, event_at, history_of,
 use Rattle.jn_serial.specs.InTurn.{answered_by, owner_after, told_from, ops_told}
 use Rattle.jn_serial.specs.Told.{NamesBefore, NamesOnce, NamesNone}
 use Rattle.jn_serial.specs.Shown.{is_locked, ShowsFiles}
-use Rattle.jn_serial.specs.Follows.{Outstanding, nothing_asked, FollowsEvent, FollowsFrom, after_one, AllOfEvents, is_answer, Follows}
+use Rattle.jn_serial.specs.Follows.{Outstanding, nothing_asked, FollowsFrom, AllOfEvents, is_answer}
 use Rattle.jn_serial.specs.Caused.{Caused}
 use Rattle.jn_serial.proofs.Growth.{AreWithin, follows-same}
 use Rattle.jn_serial.proofs.CausedGrowth.{Caused-lines, needs_cause, NeedNoCause, CausedFrom-plain}

@@ -13,12 +13,12 @@ use Rattle.jn_report.specs.declared.line.Text.TheVariants as says
 use Rattle.jn_report.specs.declared.line.Line.{Line}
 use Rattle.jn_serial.specs.Lines.{event_at, says}
 use Rattle.jn_serial.specs.InTurn.{answered}
-use Rattle.jn_run.proofs.ByLines.{replay}
 use Rattle.jn_serial.specs.declared.following.Asked.{Asked}
 use Rattle.jn_serial.specs.declared.following.Addressed.{Addressed}
 use Rattle.jn_serial.specs.Follows.{Outstanding, nothing_asked, with_asked, is_own, refuses_own, after_event, after_one, addressed, fits, after_answers}
 use Rattle.jn_serial.proofs.Growth.{event_at-front, event_at-next}
 use Rattle.jn_serial.proofs.Ops.{AllAnswerWithin}
+use Rattle.jn_serial.proofs.Refused.{refused-once}
 use Rattle.jn_run.specs.Pages.{only_server_0}
 use Rattle.jn_run.specs.Names.{client_1, line_at, start_line}
 use Rattle.jn_run.specs.Moves.{Fate, View, Undecided, Committed, AbortedBy, Leads, Runs, asks, refuses, sends_again, settles, waiting_for}
@@ -125,6 +125,7 @@ refused-between es ls v command r own b =
         follows = record {
           fit = (ap (λ (x : Option Addressed). fits (after_event b.out n e (l ∷ [])) x text) no_answer, tt);
           own = (grind (arith, nat_tests, own, client_tells client_1 client_1), tt);
+          once = refused-once l;
         };
         of_events = (λ is. (omega arith, omega arith), tt);
       }));
@@ -138,7 +139,7 @@ again-between : (es : List Event) (ls : List Line) (v : View) → Between es ls 
 again-between es ls v b = record {
   out = b.out;
   talk = subst (λ (m : List Line). Talk (es ++ events.Again client_1 ∷ []) m b.out) (append-nil ls)
-      (talk-more es ls b.out (events.Again client_1) [] b.talk (record { within = tt; below = tt; no_show = refl; follows = record { fit = tt; own = tt }; of_events = tt }));
+      (talk-more es ls b.out (events.Again client_1) [] b.talk (record { within = tt; below = tt; no_show = refl; follows = record { fit = tt; own = tt; once = omega arith }; of_events = tt }));
   asked = b.asked;
   order = order-silent es ls (events.Again client_1) v b.talk.below b.order;
   causes = causes-silent es ls (events.Again client_1) v.asked v.current v.fate b.causes;

@@ -13,14 +13,10 @@ use Rattle.jn_report.specs.declared.line.Text.TheVariants as says
 use Rattle.jn_report.specs.declared.line.Line.{Line}
 use Rattle.jn_serial.specs.Lines.{is_before, lines_before, says}
 use Rattle.jn_serial.specs.Begun.{begun_after, begun_then, last_begun, is_tid, is_in}
-use Rattle.jn_serial.specs.InTurn.{is_client, owner_after}
+use Rattle.jn_serial.specs.InTurn.{begins_for, is_client, owner_after}
 use Rattle.jn_serial.proofs.Orders.{owner_then, says-append}
 
 -- ---- whose a transaction is
-
-abbrev pub begins_for : ClientNo → Tid → Text → Bool
-begins_for c t (says.Begun d j u) = client_eq c d && tid_eq t u
-begins_for c t _ = false
 
 -- no two clients have one transaction
 abbrev pub HasOneClient : Tid → List Line → Type 0

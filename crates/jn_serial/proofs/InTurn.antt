@@ -1,6 +1,6 @@
 -- Where each answer follows its command, what a transaction did by its lines is what it did by its commands.
-use Rattle.std.proofs.Common.{◌≡◌, ◌≢◌, ◌⊎◌, inl, inr, ℕ, zero, suc, ◌+◌, ◌<◌, ◌≤◌, nat_eq, nat_lt, Bool, true, false, ◌&&◌, ◌||◌, if◌then◌else◌, List, [], ◌∷◌, ◌++◌, length, Option, Some, None, refl, sym, ◌∙◌, ap, subst, arith, append_assoc, append-nil, length-append}
-use Rattle.std.proofs.lemmas.Bool.{cases_Bool, true≢false}
+use Rattle.std.proofs.Common.{◌≡◌, ◌≢◌, ◌⊎◌, inl, inr, ℕ, zero, suc, ◌+◌, ◌<◌, ◌≤◌, nat_eq, nat_lt, Bool, true, false, ◌&&◌, if◌then◌else◌, List, [], ◌∷◌, ◌++◌, length, Option, Some, None, refl, sym, ◌∙◌, ap, subst, arith, append_assoc, append-nil, length-append}
+use Rattle.std.proofs.lemmas.Bool.{true≢false}
 use Rattle.std.proofs.lemmas.Bool.Decides.{nat_tests}
 use Rattle.jn_base.specs.declared.names.ServerNo.{ServerNo}
 use Rattle.jn_base.specs.declared.names.ClientNo.{ClientNo}
@@ -10,7 +10,7 @@ use Rattle.jn_base.specs.declared.op.Answer.{Answer}
 use Rattle.jn_base.specs.declared.op.Answer.TheVariants as answers
 use Rattle.jn_base.specs.declared.op.Command.{Command}
 use Rattle.jn_base.specs.declared.op.Command.TheVariants as commands
-use Rattle.jn_base.specs.Names.{client_eq, tid_eq}
+use Rattle.jn_base.specs.Names.{client_eq}
 use Rattle.jn_base.proofs.Tells.{client_tells}
 use Rattle.jn_replay.specs.declared.files.Performed.{Performed}
 use Rattle.jn_schedule.specs.declared.Event.{Event}
@@ -24,8 +24,8 @@ use Rattle.jn_report.specs.declared.line.Line.{Line}
 use Rattle.jn_serial.specs.Lines.{when_eq, is_before, lines_at, lines_before, says, event_at}
 use Rattle.jn_serial.specs.Begun.{begun_after, begun_then, last_begun, is_tid, is_in}
 use Rattle.jn_serial.specs.Order.{answer_told, or_later, first_told, performed, op_in, ops_from, ops_of}
-use Rattle.jn_serial.specs.InTurn.{performed_in, answered, answered_by, is_client, owner_after, told_from, ops_told}
-use Rattle.jn_serial.specs.Follows.{Outstanding, Asked, nothing_asked, with_asked, is_own, answers_command, answer_in, fits, fits_asked, after_answer, AllFit, after_answers, after_event, refuses_own, AllOwnInPlace, own_in_place, FollowsEvent, after_one, FollowsFrom, is_answer, IsOfEvent, AllOfEvents, Follows}
+use Rattle.jn_serial.specs.InTurn.{performed_in, answered, answered_by, is_client, ops_told}
+use Rattle.jn_serial.specs.Follows.{Outstanding, Asked, nothing_asked, with_asked, answers_command, answer_in, fits, fits_asked, after_answer, AllFit, after_answers, after_event, refuses_own, AllOwnInPlace, own_in_place, FollowsEvent, after_one, FollowsFrom, is_answer, IsOfEvent, AllOfEvents, Follows}
 use Rattle.jn_serial.proofs.Growth.{IsWithin, AreWithin, AreWithin-wider, AreWithin-append, lines_at-outside, lines_at-whole}
 use Rattle.jn_serial.proofs.Ops.{AnswersWithin, AllAnswerWithin, AllAnswerWithin-append, AllAnswerWithin-wider, told_from-events}
 use Rattle.jn_serial.proofs.Orders.{owner_then, ops_told-append, lines_at-append, lines_before-append}

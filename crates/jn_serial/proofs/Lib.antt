@@ -1,4 +1,5 @@
 pub mod Growth
+pub mod Refused
 pub mod Ops
 pub mod Beginners
 pub mod InTurn

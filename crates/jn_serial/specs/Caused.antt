@@ -1,5 +1,5 @@
 -- What stands before an abort, a stop and a refused fault.
-use Rattle.std.specs.Prelude.{◌≡◌, ℕ, ◌+◌, Bool, true, false, nat_eq, nat_lt, nat_le, ◌&&◌, ◌||◌, not, if◌then◌else◌, List, [], ◌∷◌, ◌++◌, Option, Some, None, filter, count_by}
+use Rattle.std.specs.Prelude.{◌≡◌, ℕ, ◌+◌, Bool, true, false, nat_eq, nat_lt, nat_le, ◌&&◌, ◌||◌, not, if◌then◌else◌, List, [], ◌∷◌, ◌++◌, filter}
 use Rattle.jn_base.specs.declared.names.ServerNo.{ServerNo}
 use Rattle.jn_base.specs.declared.names.ClientNo.{ClientNo}
 use Rattle.jn_base.specs.declared.names.LockUnit.{LockUnit}
@@ -18,7 +18,7 @@ use Rattle.jn_report.specs.declared.line.When.TheVariants.{Event as AtEvent}
 use Rattle.jn_report.specs.declared.line.Text.{Text}
 use Rattle.jn_report.specs.declared.line.Text.TheVariants as says
 use Rattle.jn_report.specs.declared.line.Line.{Line}
-use Rattle.jn_serial.specs.Lines.{is_before, lines_at, says}
+use Rattle.jn_serial.specs.Lines.{is_before, lines_at, says, count_lines}
 use Rattle.jn_serial.specs.Begun.{is_in}
 use Rattle.jn_serial.specs.Follows.{refuses_own}
 
@@ -31,10 +31,6 @@ any_event test number (e ∷ es) = test number e || any_event test (number + 1) 
 abbrev pub count_events : (ℕ → Event → Bool) → ℕ → List Event → ℕ
 count_events test number [] = 0
 count_events test number (e ∷ es) = (if test number e then 1 else 0) + count_events test (number + 1) es
-
--- how many lines say this
-abbrev pub count_lines : (Text → Bool) → List Line → ℕ
-count_lines test lines = count_by (λ (l : Line). test l.text) lines
 
 -- the lines of later events
 abbrev pub lines_after : When → List Line → List Line

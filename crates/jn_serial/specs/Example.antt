@@ -11,7 +11,6 @@ use Rattle.jn_base.specs.declared.op.Command.TheVariants as commands
 use Rattle.jn_replay.specs.declared.files.Performed.{Performed}
 use Rattle.jn_schedule.specs.declared.Event.{Event}
 use Rattle.jn_schedule.specs.declared.Event.TheVariants as events
-use Rattle.jn_report.specs.declared.line.Refusal.{Refusal}
 use Rattle.jn_report.specs.declared.line.Refusal.TheVariants as refusals
 use Rattle.jn_report.specs.declared.line.When.TheVariants.{Event as AtEvent}
 use Rattle.jn_report.specs.declared.line.Text.TheVariants as says
@@ -57,6 +56,10 @@ abbrev pub both_operations : List Performed
 both_operations =
     record { server = first_server; op = ops.Create file_7; answer = answers.Did }
     ∷ record { server = first_server; op = ops.Remove file_7; answer = answers.Did } ∷ []
+
+-- a client begins at a server and opens it again, which it refuses itself
+abbrev pub opened_again : List Event
+opened_again = events.Command one_client (commands.Begin first_server) ∷ events.Settle ∷ events.Command one_client (commands.Open first_server) ∷ []
 
 -- a client begins at one server and opens another, which goes down
 abbrev pub opened_and_down : List Event

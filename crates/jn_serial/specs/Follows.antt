@@ -1,4 +1,5 @@
--- Each answer to a client answers its outstanding command, in a form of that command.
+-- Each answer to a client answers its outstanding command, in a form of that command, and a command that its client refuses is
+-- refused once.
 use Rattle.std.specs.Prelude.{◌≡◌, ℕ, ◌+◌, ◌≤◌, Bool, true, false, nat_eq, ◌&&◌, ◌||◌, not, if◌then◌else◌, List, [], ◌∷◌, length, Option, Some, None}
 use Rattle.jn_base.specs.declared.names.ClientNo.{ClientNo}
 use Rattle.jn_base.specs.declared.op.Op.{Op}
@@ -17,7 +18,7 @@ use Rattle.jn_report.specs.declared.line.Text.TheVariants as says
 use Rattle.jn_report.specs.declared.line.Line.{Line}
 pub use Rattle.jn_serial.specs.declared.following.Asked.{Asked}
 pub use Rattle.jn_serial.specs.declared.following.Addressed.{Addressed}
-use Rattle.jn_serial.specs.Lines.{lines_at, says}
+use Rattle.jn_serial.specs.Lines.{lines_at, says, count_lines}
 
 -- what each client waits for
 abbrev pub Outstanding : Type 0
@@ -158,9 +159,19 @@ abbrev pub AllOwnInPlace : ℕ → Event → List Line → Type 0
 AllOwnInPlace number e [] = Unit {0}
 AllOwnInPlace number e (l ∷ ls) = (own_in_place number e l.text ≡ true) × AllOwnInPlace number e ls
 
+-- a refusal by a client itself
+abbrev pub is_own_refusal : Text → Bool
+is_own_refusal (says.Refused c j refusal) = is_own refusal
+is_own_refusal _ = false
+
+abbrev pub own_refusals : List Line → ℕ
+own_refusals lines = count_lines is_own_refusal lines
+
+-- a client's own refusals in an event are of this event's command, so it is refused once at most
 pub record FollowsEvent (out : Outstanding) (number : ℕ) (e : Event) (lines : List Line) : Type 0 where
   pub fit : AllFit (after_event out number e lines) lines
   pub own : AllOwnInPlace number e lines
+  pub once : own_refusals lines ≤ 1
 
 -- what is outstanding after an event and its lines
 abbrev pub after_one : Outstanding → ℕ → Event → List Line → Outstanding

@@ -1,6 +1,6 @@
 -- What a transaction did, read line by line. Where each answer follows its command, and no two clients have one transaction,
 -- that is what its commands did.
-use Rattle.std.specs.Prelude.{Bool, false, if◌then◌else◌, List, [], ◌∷◌, ◌++◌, Option, Some, None}
+use Rattle.std.specs.Prelude.{Bool, false, ◌&&◌, if◌then◌else◌, List, [], ◌∷◌, ◌++◌, Option, Some, None}
 use Rattle.jn_base.specs.declared.names.ClientNo.{ClientNo}
 use Rattle.jn_base.specs.declared.names.Tid.{Tid}
 use Rattle.jn_base.specs.declared.op.Answer.{Answer}
@@ -36,6 +36,11 @@ answered_by events (Some c) text = answered events c text
 abbrev pub is_client : Option ClientNo → ClientNo → Bool
 is_client None d = false
 is_client (Some c) d = client_eq c d
+
+-- the client was told that it began T
+abbrev pub begins_for : ClientNo → Tid → Text → Bool
+begins_for c t (says.Begun d j u) = client_eq c d && tid_eq t u
+begins_for c t _ = false
 
 -- whose transaction T is after a line, if it is anyone's: a client has it from its `begun` line to the client's next one
 abbrev pub owner_after : Tid → Option ClientNo → Text → Option ClientNo

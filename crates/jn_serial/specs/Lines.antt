@@ -1,5 +1,5 @@
 -- The lines of a report by the event that they stand at, and the events by their numbers.
-use Rattle.std.specs.Prelude.{ℕ, zero, suc, Bool, true, false, nat_eq, nat_lt, List, [], ◌∷◌, Option, Some, None, ◌++◌, filter}
+use Rattle.std.specs.Prelude.{ℕ, zero, suc, Bool, true, false, nat_eq, nat_lt, List, [], ◌∷◌, Option, Some, None, ◌++◌, filter, count_by}
 use Rattle.std.specs.List.{list_any}
 use Rattle.jn_base.specs.declared.names.Tid.{Tid}
 use Rattle.jn_base.specs.Names.{tid_eq}
@@ -31,6 +31,10 @@ lines_before w lines = filter (λ (l : Line). is_before l.when w) lines
 -- whether some line says this
 abbrev pub says : (Text → Bool) → List Line → Bool
 says test lines = list_any (λ (l : Line). test l.text) lines
+
+-- how many lines say this
+abbrev pub count_lines : (Text → Bool) → List Line → ℕ
+count_lines test lines = count_by (λ (l : Line). test l.text) lines
 
 -- the event of a number, from 1
 abbrev pub event_at : List Event → ℕ → Option Event

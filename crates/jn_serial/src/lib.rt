@@ -12,7 +12,9 @@ mod transactions;
 
 pub use begun::is_in;
 pub use following::{Addressed, Asked, is_own, refuses_own};
-pub use laws::{a_refused_opening_loses_nothing, an_operation_counts_once};
+pub use laws::{
+    a_command_is_refused_once, a_refused_opening_loses_nothing, an_operation_counts_once,
+};
 pub use lines::{history, is_after_event, is_at, lines_at_end, lines_at_event, lines_before_event};
 pub use order::{agrees, replay};
 pub use outcomes::told;

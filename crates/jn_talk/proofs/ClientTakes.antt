@@ -31,7 +31,7 @@ use Rattle.jn_rows.specs.declared.client.Taken.TheVariants as taken
 use Rattle.jn_rows.specs.Outcomes.{Sent}
 use Rattle.jn_rows.specs.Client.{ClientTable, work_at as open_at, is_begin, is_operation, is_end_or_abort, opens, is_current, is_tid, if_waits, idle, over, begun_row, opened_row, answer_line, decided_row, outcome_row, take_row}
 use Rattle.jn_serial.specs.Lines.{event_at}
-use Rattle.jn_serial.specs.InTurn.{performed_in, answered_by, owner_after, is_client}
+use Rattle.jn_serial.specs.InTurn.{performed_in, answered_by, begins_for, owner_after, is_client}
 use Rattle.jn_lock_rows.proofs.Works.{work_same}
 use Rattle.jn_machine.specs.Traces.{Answered}
 use Rattle.jn_machine.specs.World.{World as Machine}
@@ -45,7 +45,6 @@ use Rattle.jn_moves.proofs.StepMoves.{holds-of}
 use Rattle.jn_runs.proofs.Openings.{Opening, opening_in, openings, Has}
 use Rattle.jn_runs.proofs.Facts.{opening, is_closing, Facts}
 use Rattle.jn_runs.proofs.ClientFacts.{all-have-theirs}
-use Rattle.jn_serial.proofs.Beginners.{begins_for}
 use Rattle.jn_serial.proofs.Orders.{any-append}
 use Rattle.jn_talk.specs.Told.{ops_in, owner_in, begins_it, is_begun, begun_by, at_place}
 use Rattle.jn_talk.proofs.Tellings.{SaysAs, ops-more, owner-more, begun-more, by-begun, place-more, none-told}

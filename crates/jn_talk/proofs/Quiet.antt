@@ -28,7 +28,7 @@ use Rattle.jn_rows.specs.declared.client.Outstanding.{Outstanding}
 use Rattle.jn_rows.specs.Stable.{Prepared, Pick}
 use Rattle.jn_rows.specs.Outcomes.{Sent}
 use Rattle.jn_rows.specs.Client.{is_end_or_abort, ClientTable, work_at as open_at}
-use Rattle.jn_serial.specs.InTurn.{answered_by, owner_after}
+use Rattle.jn_serial.specs.InTurn.{answered_by, begins_for, owner_after}
 use Rattle.jn_machine.specs.Traces.{Answered, effects}
 use Rattle.jn_machine.specs.World.{World as Machine, Working}
 use Rattle.jn_machine.specs.Steps.{Atom, run as run_atoms}
@@ -46,7 +46,6 @@ use Rattle.jn_machine.specs.Messages.{Says}
 use Rattle.jn_machine.specs.Transactions.{IsPart}
 use Rattle.jn_runs.proofs.Openings.{openings, openings-more, Has, has-first}
 use Rattle.jn_runs.proofs.Facts.{opening, is_closing}
-use Rattle.jn_serial.proofs.Beginners.{begins_for}
 use Rattle.jn_serial.proofs.Orders.{any-append}
 use Rattle.jn_talk.specs.Told.{ops_in, owner_in, begins_it, is_begun, at_place, begun_by}
 use Rattle.jn_talk.proofs.Tellings.{first-false, second-false, SaysAs, trace-more, ops-more, owner-more, begun-more}

@@ -13,11 +13,12 @@ use Rattle.jn_report.specs.declared.line.Text.TheVariants as says
 use Rattle.jn_report.specs.declared.line.Line.{Line}
 use Rattle.jn_rows.specs.Client.{Commanded, Refuses, Sends, command_row}
 use Rattle.jn_serial.specs.Lines.{commit_in, history_of, event_at, says as says_of}
+use Rattle.jn_serial.specs.InTurn.{begins_for}
 use Rattle.jn_serial.specs.Follows.{Follows}
 use Rattle.jn_serial.proofs.Growth.{event_at-next}
 use Rattle.jn_serial.specs.Order.{ops_of}
 use Rattle.jn_serial.proofs.Orders.{any-append}
-use Rattle.jn_serial.proofs.Beginners.{begins_for, HasOneClient}
+use Rattle.jn_serial.proofs.Beginners.{HasOneClient}
 use Rattle.jn_serial.proofs.InTurn.{AreInTurn, ops-in-turn}
 use Rattle.jn_machine.specs.Steps.{run as run_atoms, opening_world}
 use Rattle.jn_moves.proofs.Mirrored.{commits-more}

@@ -15,11 +15,10 @@ use Rattle.jn_report.specs.declared.line.Text.TheVariants as says
 use Rattle.jn_report.specs.declared.line.Line.{Line}
 use Rattle.jn_replay.specs.declared.files.Performed.{Performed}
 use Rattle.jn_replay.specs.Operations.{files_then, GivesAnswers}
-use Rattle.jn_serial.specs.InTurn.{answered_by, owner_after, told_from}
+use Rattle.jn_serial.specs.InTurn.{answered_by, begins_for, owner_after, told_from}
 use Rattle.jn_machine.specs.Traces.{Answered, effect_of, effects, Agrees}
 use Rattle.jn_machine.proofs.TraceLemmas.{agrees_more}
 use Rattle.jn_serial.specs.Lines.{says as says_of}
-use Rattle.jn_serial.proofs.Beginners.{begins_for}
 use Rattle.jn_talk.specs.Told.{ops_in, owner_in, begins_it, is_begun, begun_by, at_place}
 
 -- ---- lists

@@ -9,8 +9,7 @@ use Rattle.jn_schedule.specs.declared.Event.{Event}
 use Rattle.jn_report.specs.declared.line.Text.{Text}
 use Rattle.jn_report.specs.declared.line.Text.TheVariants as says
 use Rattle.jn_replay.specs.declared.files.Performed.{Performed}
-use Rattle.jn_serial.specs.InTurn.{answered_by, owner_after}
-use Rattle.jn_serial.proofs.Beginners.{begins_for}
+use Rattle.jn_serial.specs.InTurn.{answered_by, begins_for, owner_after}
 use Rattle.jn_machine.specs.Traces.{Answered}
 
 -- what the transaction did by these lines, after which it is this client's, if it is anyone's

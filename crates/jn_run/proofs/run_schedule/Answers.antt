@@ -1,4 +1,4 @@
-use Rattle.std.proofs.Common.{inr, refl, sym, ◌∙◌, ap, arith, ◌≤◌, length, Err}
+use Rattle.std.proofs.Common.{inr, refl, sym, ◌∙◌, ap, ◌≤◌, length, Err}
 use Rattle.jn_run.specs.Outcome.{IsRefused, IsRunnable}
 use Rattle.jn_run.proofs.Schedules.{all-are-run, first-has-line}
 use Rattle.jn_run.proofs.Spelled.{schedule-within}
