@@ -1,5 +1,5 @@
--- No row of a worker puts or drops a flag, and each draws one name at most.
-use Rattle.std.proofs.Common.{◌≡◌, ◌⊎◌, inl, inr, ℕ, ◌+◌, Bool, true, false, List, [], ◌∷◌, Option, Some, None, refl, sym, ◌∙◌, subst}
+-- No row of a worker puts or drops a flag, and each makes one change and draws one name at most.
+use Rattle.std.proofs.Common.{◌≡◌, ◌⊎◌, inl, inr, ℕ, ◌+◌, Bool, true, false, List, [], ◌∷◌, Option, Some, None, refl, sym, ◌∙◌, subst, ◌≤◌, arith}
 use Rattle.std.specs.Prelude.{if◌then◌else◌, nat_lt, nat_eq, length, slice_get}
 use Rattle.std.specs.List.{AllByRecursion}
 use Rattle.jn_base.specs.declared.names.ClientNo.{ClientNo}
@@ -48,10 +48,11 @@ DrawsOne k l = (l ≡ k) ⊎ (l ≡ record k { next = k.next + 1 })
 
 pub record Aside (k : Tickets) (row : RowOutcome WorkerTable) : Type 0 where
   pub works : AllByRecursion IsOfWorks row.changes
+  pub few : length row.changes ≤ 1
   pub tickets : DrawsOne k row.tickets
 
 still : (k : Tickets) (row : RowOutcome WorkerTable) → row.changes ≡ [] → row.tickets ≡ k → Aside k row
-still k row none same = record { works = subst (AllByRecursion IsOfWorks) (sym none) tt; tickets = inl same }
+still k row none same = record { works = subst (AllByRecursion IsOfWorks) (sym none) tt; few = subst (λ (cs : List Change). length cs ≤ 1) (sym none) (omega arith); tickets = inl same }
 
 either : {k : Tickets} (b : Bool) (p q : RowOutcome WorkerTable) → Aside k p → Aside k q → Aside k (if b then p else q)
 either true p q h l = h
@@ -59,7 +60,7 @@ either false p q h l = l
 
 open-aside : (t : WorkerTable) (k : Tickets) (c : ClientNo) (request : ℕ) (T : Tid) (o : Option Work) → Aside k (open_row t k c request T o)
 open-aside t k c request T (Some w) = still k _ refl refl
-open-aside t k c request T None = either (nat_lt (length t) 64) _ _ (record { works = tt; tickets = inr refl }) (still k _ refl refl)
+open-aside t k c request T None = either (nat_lt (length t) 64) _ _ (record { works = tt; few = omega arith; tickets = inr refl }) (still k _ refl refl)
 
 granted-aside : (t : WorkerTable) (k : Tickets) (c : ClientNo) (request : ℕ) (w : Work) (a : ActiveWork) (op : Op) (answer : Answer) (wants : List Wanted) (o : Option Answer) → Aside k (granted_row t k c request w a op answer wants o)
 granted-aside t k c request w a op answer wants (Some refusal) = still k _ refl refl
@@ -81,7 +82,7 @@ ops-aside t files k c request W number op (Some w) = op-aside t files k c reques
 ops-aside t files k c request W number op None = still k _ refl refl
 
 prepared-aside : (t : WorkerTable) (k : Tickets) (T : Tid) (c : ClientNo) (w : Work) (a : ActiveWork) (vote : Vote) → Aside k (prepared_row t k T c w a vote)
-prepared-aside t k T c w a votes.Ready = record { works = (tt, tt); tickets = inl refl }
+prepared-aside t k T c w a votes.Ready = record { works = (tt, tt); few = omega arith; tickets = inl refl }
 prepared-aside t k T c w a _ = still k _ refl refl
 
 prepare-aside : (t : WorkerTable) (s : WorkStorage) (k : Tickets) (T : Tid) (c : ClientNo) (w : Work) (p : Phase) → Aside k (prepare_phase t s k T c w p)
@@ -96,7 +97,7 @@ prepares-aside t s k T c W None = still k _ refl refl
 commit-aside : (t : WorkerTable) (s : WorkStorage) (k : Tickets) (W : WorkId) (p : Phase) → Aside k (commit_phase t s k W p)
 commit-aside t s k W (Active a) = still k _ refl refl
 commit-aside t s k W (Broken u by) = still k _ refl refl
-commit-aside t s k W (Stored p) = either (is_going (s.state.works W)) _ _ (still k _ refl refl) (record { works = (tt, tt); tickets = inl refl })
+commit-aside t s k W (Stored p) = either (is_going (s.state.works W)) _ _ (still k _ refl refl) (record { works = (tt, tt); few = omega arith; tickets = inl refl })
 
 commits-aside : (t : WorkerTable) (s : WorkStorage) (k : Tickets) (T : Tid) (W : WorkId) (o : Option Work) → Aside k (work_commit_row t s k T W o)
 commits-aside t s k T W (Some w) = commit-aside t s k W w.phase
@@ -105,7 +106,7 @@ commits-aside t s k T W None = still k _ refl refl
 drop-aside : (t : WorkerTable) (s : WorkStorage) (k : Tickets) (W : WorkId) (p : Phase) → Aside k (drop_phase t s k W p)
 drop-aside t s k W (Active a) = still k _ refl refl
 drop-aside t s k W (Broken u by) = still k _ refl refl
-drop-aside t s k W (Stored p) = either (is_going (s.state.works W)) _ _ (still k _ refl refl) (record { works = (tt, tt); tickets = inl refl })
+drop-aside t s k W (Stored p) = either (is_going (s.state.works W)) _ _ (still k _ refl refl) (record { works = (tt, tt); few = omega arith; tickets = inl refl })
 
 drops-aside : (t : WorkerTable) (s : WorkStorage) (k : Tickets) (W : WorkId) (o : Option Work) → Aside k (drop_row t s k W o)
 drops-aside t s k W (Some w) = drop-aside t s k W w.phase
@@ -120,8 +121,8 @@ worker-aside t s k (messages.Drop T W) = drops-aside t s k W (work_at W t)
 worker-aside t s k _ = still k _ refl refl
 
 carried-aside : (t : WorkerTable) (k : Tickets) (w : Work) (o : Option Intention) → Aside k (carried_row t k w o)
-carried-aside t k w (Some i) = record { works = (tt, tt); tickets = inl refl }
-carried-aside t k w None = record { works = (tt, tt); tickets = inl refl }
+carried-aside t k w (Some i) = record { works = (tt, tt); few = omega arith; tickets = inl refl }
+carried-aside t k w None = record { works = (tt, tt); few = omega arith; tickets = inl refl }
 
 pub step-aside : (t : WorkerTable) (s : WorkStorage) (k : Tickets) (row : RowOutcome WorkerTable) → worker_step t s k ≡ Some row → Aside k row
 step-aside t s k row h = by (going_work s.state t) h

@@ -19,6 +19,7 @@ use Rattle.jn_storage.specs.Storage.{Accounts, StorageView}
 use Rattle.jn_storage.specs.Calls.{state}
 use Rattle.jn_storage.specs.Listing.{is_in}
 use Rattle.jn_store.proofs.Laws.{calm_on}
+use Rattle.jn_worker.specs.Calls.{left_by}
 use Rattle.jn_worker.specs.Fitting.{WorkFits, WorkListFits}
 use Rattle.jn_coord.specs.Remembered.{Remembered}
 use Rattle.jn_coord.specs.Calls.{IsDone as CoordinatorDone, IsStopped as CoordinatorStopped, Does as CoordinatorDoes}
@@ -32,7 +33,7 @@ use Rattle.jn_protocol.proofs.WorkerChanges.{DrawsOne}
 use Rattle.jn_server.specs.declared.fault.ServerFault.{ServerFault}
 use Rattle.jn_server.specs.Faults.{of_coordinator as fault_of}
 use Rattle.jn_server.specs.Seen.{ServerView, memory_of, IsServer}
-use Rattle.jn_server.specs.Handling.{IsDone, IsStopped, Does}
+use Rattle.jn_server.specs.Handling.{IsDone, IsStopped, Does, LeavesRubbish, left_over}
 
 -- changes of flags leave the files
 flags-files : (changes : List Change) (x : StableState) → are_of_flags changes ≡ true → (made_all changes x).files ≡ x.files
@@ -65,6 +66,19 @@ later-work (w ∷ ws) k l d h = both (before-later w.name k l d (first-of (work_
   where
     both : {a b : Bool} → a ≡ true → b ≡ true → (a && b) ≡ true
     both p q = grind (arith, p, q)
+
+-- changes of flags leave no rubbish
+flags-leave : (changes : List Change) (x : StableState) → are_of_flags changes ≡ true → left_over x changes ≡ 0
+flags-leave [] x h = refl
+flags-leave (c ∷ cs) x h = one c (first-of (is_of_flag c) (are_of_flags cs) h) (flags-leave cs x (second-of (is_of_flag c) (are_of_flags cs) h))
+  where
+    one : (c : Change) → is_of_flag c ≡ true → left_over x cs ≡ 0 → left_by x c + left_over x cs ≡ 0
+    one (AddFlag flag) k again = omega (arith, again)
+    one (DropFlag T) k again = omega (arith, again)
+    one (AddReady head list reads) k again = absurd (true≢false (sym k))
+    one (MarkGoing W) k again = absurd (true≢false (sym k))
+    one (CarryOut W i) k again = absurd (true≢false (sym k))
+    one (RemoveWork W) k again = absurd (true≢false (sym k))
 
 module _ (v : ServerView) (serves : IsServer v) (row : RowOutcome CoordinatorTable) (aside : Aside (length v.coordinator.transactions) v.tickets row) (before : Collected) where
   bounded : (a b : ℕ) → b ≤ a + 16 * length row.changes → b ≤ a + 1024
@@ -132,6 +146,9 @@ module _ (v : ServerView) (serves : IsServer v) (row : RowOutcome CoordinatorTab
 
         draws : DrawsOne v.tickets l
         draws = subst (DrawsOne v.tickets) (sym drawn) aside.tickets
+
+    pub flags-leave-none : w.accounts.rubbish ≡ v.storage.accounts.rubbish → LeavesRubbish v (of_coordinator (memory_of v) row) now
+    flags-leave-none same = let s = ap (λ (ws : List WorkId). length ws) same in let n = flags-leave row.changes (state v.storage) aside.flags in omega (arith, s, n)
 
     pub coordinator_stopped : CoordinatorStopped row v.storage w → after ≡ before → IsStopped 1024 (of_coordinator (memory_of v) row) v before now after
     coordinator_stopped h silent = record {

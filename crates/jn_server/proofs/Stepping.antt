@@ -19,7 +19,7 @@ use Rattle.jn_server.specs.Faults.{of_worker as fault_of}
 use Rattle.jn_server.specs.Handling.{Steps}
 use Rattle.jn_server.specs.Seen.{ServerView, memory_of, IsServer}
 use Rattle.jn_server.proofs.Ranges.{step-in-range}
-use Rattle.jn_server.proofs.Working.{worked, worker_failed}
+use Rattle.jn_server.proofs.Working.{worked, one-leaves, worker_failed}
 
 same-ok : {E : Type 0} (answer : Result Bool E) (a b : Bool) → answer ≡ Ok a → answer ≡ Ok b → a ≡ b
 same-ok answer a b d e = cc
@@ -39,7 +39,7 @@ module _ (v : ServerView) (serves : IsServer v) (before : Collected) (u : Worker
   stepped-by b (Some row) e h = (
     worked 40 40 (omega arith) v serves row (step-aside v.worker.table (seen v.storage) v.tickets row e) (step-in-range v.worker.table serves.ranges (seen v.storage) v.tickets row e) before u w after v.tickets b h.0,
     (λ ok. ap Ok (same-ok (Ok b) b true refl (h.1 refl))),
-    h.2,
+    (λ ok. ((λ none. h.2 none refl), one-leaves 40 40 (omega arith) v serves row (step-aside v.worker.table (seen v.storage) v.tickets row e) (step-in-range v.worker.table serves.ranges (seen v.storage) v.tickets row e) before u w after v.tickets (h.0.counts refl))),
   )
 
   pub stepped : (b : Bool) → WorkerSteps step v.worker v.storage before v.tickets (Ok b) u w after v.tickets → Steps (of_step (memory_of v) step) v before (Ok b) now after
@@ -51,7 +51,7 @@ module _ (v : ServerView) (serves : IsServer v) (before : Collected) (u : Worker
   failed-by fault answer is why (Some row) e h = (
     worker_failed 40 40 (omega arith) v serves row (step-aside v.worker.table (seen v.storage) v.tickets row e) (step-in-range v.worker.table serves.ranges (seen v.storage) v.tickets row e) before u w after v.tickets _ fault answer is why h.0,
     (λ ok. absurd (never answer is ok)),
-    (λ none ok. absurd (never answer is ok)),
+    (λ ok. absurd (never answer is ok)),
   )
     where
       never : (answer : Result Bool ServerFault) → IsErr answer → is_ok answer ≡ true → ⊥

@@ -1,20 +1,21 @@
 -- What the worker does by its row, the whole server does.
 use Rattle.std.proofs.Common.{◌≡◌, inl, inr, ℕ, ◌+◌, ◌≤◌, true, false, List, [], ◌∷◌, Result, Ok, Err, refl, sym, ◌∙◌, ap, subst, arith}
+use Rattle.std.specs.Prelude.{length}
 use Rattle.std.specs.Result.{IsErr, IsErrAnd}
 use Rattle.std.proofs.lemmas.Bool.Decides.{nat_tests}
 use Rattle.jn_base.specs.declared.names.Tickets.{Tickets}
 use Rattle.jn_msgs.specs.Collected.{Collected}
-use Rattle.jn_rows.specs.Stable.{StableState}
+use Rattle.jn_rows.specs.Stable.{StableState, Change}
 use Rattle.jn_rows.specs.Outcomes.{RowOutcome}
 use Rattle.jn_rows.specs.Worker.{WorkerTable}
 use Rattle.jn_rows.specs.Coordinator.{name_from}
 use Rattle.jn_rows.specs.declared.coordinator.Transaction.{Transaction}
-use Rattle.jn_storage.specs.Storage.{StorageView}
+use Rattle.jn_storage.specs.Storage.{Accounts, StorageView}
 use Rattle.jn_storage.specs.Calls.{state}
 use Rattle.jn_store.proofs.Laws.{calm_on}
 use Rattle.jn_worker.specs.declared.words.WorkerFault.{WorkerFault}
 use Rattle.jn_worker.specs.declared.words.WorkerFault.TheVariants as faults
-use Rattle.jn_worker.specs.Calls.{Takes}
+use Rattle.jn_worker.specs.Calls.{Takes, CountsBy}
 use Rattle.jn_worker.specs.Fitting.{WorkerView}
 use Rattle.jn_coord.specs.Calls.{flag_told}
 use Rattle.jn_coord.specs.Beginning.{are_before}
@@ -26,7 +27,7 @@ use Rattle.jn_server.specs.declared.fault.ServerFault.{ServerFault}
 use Rattle.jn_server.specs.Faults.{of_worker as fault_of}
 use Rattle.jn_server.specs.Seen.{ServerView, memory_of, IsServer}
 use Rattle.jn_server.specs.Ranges.{AreInRange}
-use Rattle.jn_server.specs.Handling.{IsDone, IsStopped, Does}
+use Rattle.jn_server.specs.Handling.{IsDone, IsStopped, Does, LeavesRubbish, left_over}
 
 -- a later ticket comes after the same names
 pub later-name : (xs : List Transaction) (k l : Tickets) → DrawsOne k l → are_before xs (name_from k) ≡ true → are_before xs (name_from l) ≡ true
@@ -71,6 +72,18 @@ module _ (most bound : ℕ) (within : most ≤ bound) (v : ServerView) (serves :
           calls = let c = h.called.calls in omega (arith, c, within);
           no_stop = h.called.no_stop refl;
         }
+
+    -- a row has one change or none
+    pub works-leave : CountsBy (state v.storage) row.changes v.storage.accounts w.accounts → (row.changes ≡ [] → w.accounts ≡ v.storage.accounts) → LeavesRubbish v (of_worker (memory_of v) row) now
+    works-leave counts same = by row.changes refl aside.few
+      where
+        by : (cs : List Change) → row.changes ≡ cs → length cs ≤ 1 → length w.accounts.rubbish ≡ length v.storage.accounts.rubbish + left_over (state v.storage) row.changes
+        by [] e few = let s = ap (λ (a : Accounts). length a.rubbish) (same e) in let n = ap (left_over (state v.storage)) e in omega (arith, s, n)
+        by (c ∷ []) e few = let m = counts.rubbish_more c e in let n = ap (left_over (state v.storage)) e in omega (arith, m, n)
+        by (c ∷ d ∷ cs) e few = absurd (omega (arith, few))
+
+    pub one-leaves : CountsBy (state v.storage) row.changes v.storage.accounts w.accounts → (c : Change) → row.changes ≡ c ∷ [] → LeavesRubbish v (of_worker (memory_of v) row) now
+    one-leaves counts c e = let m = counts.rubbish_more c e in let n = ap (left_over (state v.storage)) e in omega (arith, m, n)
 
     pub worker_stopped : {A : Type 0} → Takes {A = A} most row v.worker v.storage before v.tickets (Err faults.Stopped) u w after l → IsStopped bound (of_worker (memory_of v) row) v before now after
     worker_stopped h = record {

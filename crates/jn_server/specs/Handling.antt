@@ -1,19 +1,29 @@
 -- What a call of a server does whose row this is.
-use Rattle.std.specs.Prelude.{◌≡◌, ◌≤◌, ◌+◌, ℕ, Bool, true, false, ⊤, [], Option, Some, None, is_some, Result, Ok, Err, is_ok}
+use Rattle.std.specs.Prelude.{◌≡◌, ◌≤◌, ◌+◌, ℕ, Bool, true, false, ⊤, List, [], ◌∷◌, length, Option, Some, None, is_some, Result, Ok, Err, is_ok}
 use Rattle.jn_base.specs.declared.names.Tid.{Tid}
 use Rattle.jn_msgs.specs.Collected.{Collected}
 use Rattle.jn_rows.specs.Outcomes.{RowOutcome}
 use Rattle.jn_rows.specs.Worker.{timeout_row}
-use Rattle.jn_rows.specs.Stable.{Pick, IsStopState, made_all}
+use Rattle.jn_rows.specs.Stable.{StableState, Change, Pick, IsStopState, made_all}
 use Rattle.jn_storage.specs.Storage.{StorageLater}
 use Rattle.jn_storage.specs.Calls.{state, CountsErased}
 use Rattle.jn_store.specs.Store.{IsCalm, IsStop}
 use Rattle.jn_transactions.specs.Telling.{added}
+use Rattle.jn_worker.specs.Calls.{left_by}
 use Rattle.jn_protocol.specs.World.{Memory}
 use Rattle.jn_protocol.specs.Servers.{server_timeout}
 use Rattle.jn_server.specs.declared.fault.ServerFault.{ServerFault}
 use Rattle.jn_server.specs.declared.fault.ServerFault.TheVariants.{Stopped, Memory as NoMemory}
 use Rattle.jn_server.specs.Seen.{ServerView, memory_of, IsServer}
+
+-- how many records these changes leave as rubbish
+abbrev pub left_over : StableState → List Change → ℕ
+left_over x [] = 0
+left_over x (c ∷ cs) = left_by x c + left_over x cs
+
+-- nothing but a work that is removed leaves rubbish
+abbrev pub LeavesRubbish : ServerView → RowOutcome Memory → ServerView → Type 0
+LeavesRubbish v row w = length w.storage.accounts.rubbish ≡ length v.storage.accounts.rubbish + left_over (state v.storage) row.changes
 
 -- It is done: all the row's changes are made, whichever halves are read, and its messages and notes are told.
 pub record IsDone (most : ℕ) (row : RowOutcome Memory) (v : ServerView) (before : Collected) (w : ServerView) (after : Collected) : Type 0 where
@@ -41,12 +51,15 @@ Does most row v before (Ok x) w after = IsDone most row v before w after
 Does most row v before (Err Stopped) w after = IsStopped most row v before w after
 Does most row v before (Err NoMemory) w after = ⊤
 
--- A background step whose row this is: it is answered true, and false where there is none and nothing is done. A row without
--- changes erases one rubbish record.
+-- what a step's row leaves as rubbish: one without changes erases one rubbish record
+abbrev pub StepLeaves : ServerView → RowOutcome Memory → ServerView → Type 0
+StepLeaves v row w = (row.changes ≡ [] → CountsErased v.storage.accounts w.storage.accounts) × ((c : Change) → row.changes ≡ c ∷ [] → LeavesRubbish v row w)
+
+-- A background step whose row this is: it is answered true, and false where there is none and nothing is done.
 abbrev pub Steps : Option (RowOutcome Memory) → ServerView → Collected → Result Bool ServerFault → ServerView → Collected → Type 0
 Steps None v before answer w after = (answer ≡ Ok false) × (w ≡ v) × (after ≡ before)
 Steps (Some row) v before answer w after =
-    Does 40 row v before answer w after × (is_ok answer ≡ true → answer ≡ Ok true) × (row.changes ≡ [] → is_ok answer ≡ true → CountsErased v.storage.accounts w.storage.accounts)
+    Does 40 row v before answer w after × (is_ok answer ≡ true → answer ≡ Ok true) × (is_ok answer ≡ true → StepLeaves v row w)
 
 -- A timeout of a transaction: true exactly where a work of it is live. Only the worker's table changes.
 pub record TimesOut (T : Tid) (v : ServerView) (answer : Bool) (w : ServerView) : Type 0 where

@@ -18,6 +18,7 @@ impl<S: StableStore> Server<S> {
     pub fn close_clients(&mut self) -> Result<(), ServerFault>
         requires serves { IsServer (view_with (λ s. S.view s) self.old) }
         ensures does { (before : Collected) → let v = view_with (λ s. S.view s) self.old in Does 1024 (of_coordinator (memory_of v) (close_clients_row (table_of v.coordinator) v.tickets)) v before result (view_with (λ s. S.view s) self.new) before }
+        ensures rubbish { OnOk result ((view_with (λ s. S.view s) self.new).storage.accounts.rubbish ≡ (view_with (λ s. S.view s) self.old).storage.accounts.rubbish) }
     {
         self.coordinator.close_clients(&mut self.storage)?;
         Ok(())

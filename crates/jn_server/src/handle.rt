@@ -1,12 +1,12 @@
 //! What a server does with a message.
-ghost use Rattle.std.specs.Prelude.{◌≡◌, ◌<◌, ◌+◌, ◌^◌, true, false};
+ghost use Rattle.std.specs.Prelude.{◌≡◌, ◌<◌, ◌+◌, ◌^◌, true, false, OnOk};
 ghost use Rattle.jn_coord.specs.Calls.{free_of};
 ghost use Rattle.jn_coord.specs.Handling.{FewWorks};
 ghost use Rattle.jn_coord.specs.Remembered.{table_of};
 ghost use Rattle.jn_protocol.specs.Servers.{of_worker, of_coordinator, server_row, is_for_worker};
 ghost use Rattle.jn_rows.specs.Coordinator.{coordinator_row};
 ghost use Rattle.jn_rows.specs.Worker.{worker_row};
-ghost use Rattle.jn_server.specs.Handling.{Does};
+ghost use Rattle.jn_server.specs.Handling.{Does, LeavesRubbish};
 ghost use Rattle.jn_server.specs.Seen.{view_with, memory_of, room_of, IsServer};
 ghost use Rattle.jn_storage.specs.Calls.{state};
 ghost use Rattle.jn_worker.specs.Fitting.{seen};
@@ -24,6 +24,7 @@ impl<S: StableStore> Server<S> {
         requires next { self.old.tickets.next + 1 < 2 ^ 32 }
         requires range { InRange message.now }
         ensures does { let v = view_with (λ s. S.view s) self.old in Does 1024 (of_worker (memory_of v) (worker_row v.worker.table (seen v.storage) v.tickets message.now)) v out.old result (view_with (λ s. S.view s) self.new) out.new }
+        ensures rubbish { let v = view_with (λ s. S.view s) self.old in OnOk result (LeavesRubbish v (of_worker (memory_of v) (worker_row v.worker.table (seen v.storage) v.tickets message.now)) (view_with (λ s. S.view s) self.new)) }
     {
         self.worker
             .handle(&mut self.storage, message, &mut self.tickets, out)?;
@@ -36,6 +37,7 @@ impl<S: StableStore> Server<S> {
         requires next { self.old.tickets.next + 1 < 2 ^ 32 }
         requires few { FewWorks message.now }
         ensures does { let v = view_with (λ s. S.view s) self.old in Does 1024 (of_coordinator (memory_of v) (coordinator_row (table_of v.coordinator) (free_of v.storage) v.tickets message.now)) v out.old result (view_with (λ s. S.view s) self.new) out.new }
+        ensures rubbish { let v = view_with (λ s. S.view s) self.old in OnOk result (LeavesRubbish v (of_coordinator (memory_of v) (coordinator_row (table_of v.coordinator) (free_of v.storage) v.tickets message.now)) (view_with (λ s. S.view s) self.new)) }
     {
         self.coordinator
             .handle(&mut self.storage, message, &mut self.tickets, out)?;
@@ -50,6 +52,7 @@ impl<S: StableStore> Server<S> {
         requires range { InRange message.now }
         requires few { FewWorks message.now }
         ensures does { let v = view_with (λ s. S.view s) self.old in Does 1024 (server_row (memory_of v) (state v.storage) (room_of v.storage) message.now) v out.old result (view_with (λ s. S.view s) self.new) out.new }
+        ensures rubbish { let v = view_with (λ s. S.view s) self.old in OnOk result (LeavesRubbish v (server_row (memory_of v) (state v.storage) (room_of v.storage) message.now) (view_with (λ s. S.view s) self.new)) }
     {
         if is_for_worker(message) {
             return self.work_on(message, out);

@@ -1,6 +1,7 @@
-use Rattle.std.proofs.Common.{refl, subst, sym}
+use Rattle.std.proofs.Common.{◌≡◌, [], ap, refl, subst, sym}
 use Rattle.jn_store.specs.Store.{StoreView}
 use Rattle.jn_recovery.specs.Memory.{view_of}
+use Rattle.jn_storage.specs.Storage.{Accounts}
 use Rattle.jn_coord.specs.Remembered.{table_of}
 use Rattle.jn_rows.specs.Coordinator.{close_clients_row}
 use Rattle.jn_protocol.specs.Servers.{of_coordinator}
@@ -10,31 +11,34 @@ use Rattle.jn_server.specs.Seen.{Parts, view_with, memory_of, IsServer}
 use Rattle.jn_server.proofs.Coordinating.{coordinated, closing_failed}
 use Rattle.jn_server.proofs.server.Server.close_clients.Goals as goal
 
-pub returns : goal.returns
-returns g c =
+pub returns-clause-does : goal.returns-clause-does
+returns-clause-does g c =
     let look : g.row.S.Denot → StoreView = λ s. g.S.StableStore.view s in
     let inside : Parts g.row.S.Denot = record { storage = c.self.inside.storage; worker = c.self.inside.worker; coordinator = c.self.inside.coordinator; tickets = c.self.inside.tickets } in
     let v = view_with look inside in
     let serves : IsServer v = subst (λ (s : Parts g.row.S.Denot). IsServer (view_with look s)) (sym c.self.view_is) c.requires.serves in
     let h = c.in_ok-close_clients.ensures in
-    record {
-      does = λ before. subst (λ (s : Parts g.row.S.Denot). IsDone 1024 (of_coordinator (memory_of (view_with look s)) (close_clients_row (table_of s.coordinator) s.tickets)) (view_with look s) before
-          (view_with look (record { storage = c.close_clients.new.store; worker = c.self.inside.worker; coordinator = c.close_clients.new.self; tickets = c.self.inside.tickets })) before) c.self.view_is
-          (coordinated v serves (close_clients_row (table_of v.coordinator) v.tickets) (close-aside (table_of v.coordinator) v.tickets) before c.close_clients.new.self
-          (view_of c.close_clients.new.store.1 (look c.close_clients.new.store.0)) before v.tickets (h.does v.tickets before) refl (h.tickets v.tickets serves.transactions_before));
-    }
+    λ before. subst (λ (s : Parts g.row.S.Denot). IsDone 1024 (of_coordinator (memory_of (view_with look s)) (close_clients_row (table_of s.coordinator) s.tickets)) (view_with look s) before
+    (view_with look (record { storage = c.close_clients.new.store; worker = c.self.inside.worker; coordinator = c.close_clients.new.self; tickets = c.self.inside.tickets })) before) c.self.view_is
+    (coordinated v serves (close_clients_row (table_of v.coordinator) v.tickets) (close-aside (table_of v.coordinator) v.tickets) before c.close_clients.new.self
+    (view_of c.close_clients.new.store.1 (look c.close_clients.new.store.0)) before v.tickets (h.does v.tickets before) refl (h.tickets v.tickets serves.transactions_before))
 
-pub returns-in_err-close_clients : goal.returns-in_err-close_clients
-returns-in_err-close_clients g c =
+pub returns-in_err-close_clients-clause-does : goal.returns-in_err-close_clients-clause-does
+returns-in_err-close_clients-clause-does g c =
     let look : g.row.S.Denot → StoreView = λ s. g.S.StableStore.view s in
     let inside : Parts g.row.S.Denot = record { storage = c.self.inside.storage; worker = c.self.inside.worker; coordinator = c.self.inside.coordinator; tickets = c.self.inside.tickets } in
     let v = view_with look inside in
     let serves : IsServer v = subst (λ (s : Parts g.row.S.Denot). IsServer (view_with look s)) (sym c.self.view_is) c.requires.serves in
     let h = c.in_err-close_clients.ensures in
-    record {
-      does = λ before. subst (λ (s : Parts g.row.S.Denot). Does 1024 (of_coordinator (memory_of (view_with look s)) (close_clients_row (table_of s.coordinator) s.tickets)) (view_with look s) before c.from_residual.result
-          (view_with look (record { storage = c.close_clients.new.store; worker = c.self.inside.worker; coordinator = c.close_clients.new.self; tickets = c.self.inside.tickets })) before) c.self.view_is
-          (closing_failed v serves (close_clients_row (table_of v.coordinator) v.tickets) (close-aside (table_of v.coordinator) v.tickets) before c.close_clients.new.self
-          (view_of c.close_clients.new.store.1 (look c.close_clients.new.store.0)) before v.tickets (Unit {0}) c.in_err-close_clients.field-0.0 c.from_residual.result c.from_residual.ensures.0 c.from_residual.ensures.1
-          h.stopped refl (h.does v.tickets before));
-    }
+    λ before. subst (λ (s : Parts g.row.S.Denot). Does 1024 (of_coordinator (memory_of (view_with look s)) (close_clients_row (table_of s.coordinator) s.tickets)) (view_with look s) before c.from_residual.result
+    (view_with look (record { storage = c.close_clients.new.store; worker = c.self.inside.worker; coordinator = c.close_clients.new.self; tickets = c.self.inside.tickets })) before) c.self.view_is
+    (closing_failed v serves (close_clients_row (table_of v.coordinator) v.tickets) (close-aside (table_of v.coordinator) v.tickets) before c.close_clients.new.self
+    (view_of c.close_clients.new.store.1 (look c.close_clients.new.store.0)) before v.tickets (Unit {0}) c.in_err-close_clients.field-0.0 c.from_residual.result c.from_residual.ensures.0 c.from_residual.ensures.1
+    h.stopped refl (h.does v.tickets before))
+
+pub returns-clause-rubbish : goal.returns-clause-rubbish
+returns-clause-rubbish g c =
+    let look : g.row.S.Denot → StoreView = λ s. g.S.StableStore.view s in
+    let done = c.in_ok-close_clients.ensures.does c.self.inside.tickets (record { messages = []; notes = [] }) in
+    subst (λ (s : Parts g.row.S.Denot). (view_of c.close_clients.new.store.1 (look c.close_clients.new.store.0)).accounts.rubbish ≡ (view_with look s).storage.accounts.rubbish) c.self.view_is
+    (ap (λ (a : Accounts). a.rubbish) done.accounts)

@@ -1,41 +1,51 @@
-use Rattle.std.proofs.Common.{subst, sym}
+use Rattle.std.proofs.Common.{ap, subst, sym}
 use Rattle.jn_recovery.specs.Memory.{view_of}
+use Rattle.jn_storage.specs.Storage.{Accounts}
 use Rattle.jn_coord.specs.Calls.{free_of}
 use Rattle.jn_coord.specs.Remembered.{table_of}
 use Rattle.jn_rows.specs.Coordinator.{coordinator_row}
 use Rattle.jn_protocol.specs.Servers.{of_coordinator}
 use Rattle.jn_protocol.proofs.CoordinatorRows.{coordinator-aside}
 use Rattle.jn_server.specs.Seen.{Parts, view_with, memory_of, IsServer}
-use Rattle.jn_server.specs.Handling.{IsDone, Does}
-use Rattle.jn_server.proofs.Coordinating.{coordinated, coordinator_failed}
+use Rattle.jn_server.specs.Handling.{IsDone, Does, LeavesRubbish}
+use Rattle.jn_server.proofs.Coordinating.{coordinated, flags-leave-none, coordinator_failed}
 use Rattle.jn_server.proofs.server.Server.coordinate.Goals as goal
 
-pub returns : goal.returns
-returns g c =
+pub returns-clause-does : goal.returns-clause-does
+returns-clause-does g c =
     let look : g.row.S.Denot → _ = λ s. g.S.StableStore.view s in
     let inside : Parts g.row.S.Denot = record { storage = c.self.inside.storage; worker = c.self.inside.worker; coordinator = c.self.inside.coordinator; tickets = c.self.inside.tickets } in
     let v = view_with look inside in
     let serves : IsServer v = subst (λ (s : Parts g.row.S.Denot). IsServer (view_with look s)) (sym c.self.view_is) c.requires.serves in
     let message = c.args.message.now in
     let h = c.in_ok-handle.ensures in
-    record {
-      does = subst (λ (s : Parts g.row.S.Denot). IsDone 1024 (of_coordinator (memory_of (view_with look s)) (coordinator_row (table_of s.coordinator) (free_of (view_of s.storage.1 (look s.storage.0))) s.tickets message)) (view_with look s) c.args.out.now
-          (view_with look (record { storage = c.handle.new.store; worker = c.self.inside.worker; coordinator = c.handle.new.self; tickets = c.handle.new.tickets })) c.handle.new.out) c.self.view_is
-          (coordinated v serves (coordinator_row (table_of v.coordinator) (free_of v.storage) v.tickets message) (coordinator-aside (table_of v.coordinator) (free_of v.storage) v.tickets message)
-          _ _ _ _ _ h.handles.0 h.handles.1 h.tickets);
-    }
+    subst (λ (s : Parts g.row.S.Denot). IsDone 1024 (of_coordinator (memory_of (view_with look s)) (coordinator_row (table_of s.coordinator) (free_of (view_of s.storage.1 (look s.storage.0))) s.tickets message)) (view_with look s) c.args.out.now
+    (view_with look (record { storage = c.handle.new.store; worker = c.self.inside.worker; coordinator = c.handle.new.self; tickets = c.handle.new.tickets })) c.handle.new.out) c.self.view_is
+    (coordinated v serves (coordinator_row (table_of v.coordinator) (free_of v.storage) v.tickets message) (coordinator-aside (table_of v.coordinator) (free_of v.storage) v.tickets message)
+    _ _ _ _ _ h.handles.0 h.handles.1 h.tickets)
 
-pub returns-in_err-handle : goal.returns-in_err-handle
-returns-in_err-handle g c =
+pub returns-clause-rubbish : goal.returns-clause-rubbish
+returns-clause-rubbish g c =
+    let look : g.row.S.Denot → _ = λ s. g.S.StableStore.view s in
+    let inside : Parts g.row.S.Denot = record { storage = c.self.inside.storage; worker = c.self.inside.worker; coordinator = c.self.inside.coordinator; tickets = c.self.inside.tickets } in
+    let v = view_with look inside in
+    let serves : IsServer v = subst (λ (s : Parts g.row.S.Denot). IsServer (view_with look s)) (sym c.self.view_is) c.requires.serves in
+    let message = c.args.message.now in
+    let h = c.in_ok-handle.ensures in
+    subst (λ (s : Parts g.row.S.Denot). LeavesRubbish (view_with look s) (of_coordinator (memory_of (view_with look s)) (coordinator_row (table_of s.coordinator) (free_of (view_of s.storage.1 (look s.storage.0))) s.tickets message))
+    (view_with look (record { storage = c.handle.new.store; worker = c.self.inside.worker; coordinator = c.handle.new.self; tickets = c.handle.new.tickets }))) c.self.view_is
+    (flags-leave-none v serves (coordinator_row (table_of v.coordinator) (free_of v.storage) v.tickets message) (coordinator-aside (table_of v.coordinator) (free_of v.storage) v.tickets message)
+    c.args.out.now c.handle.new.self (view_of c.handle.new.store.1 (look c.handle.new.store.0)) c.handle.new.out c.handle.new.tickets (let done = h.handles.0 in ap (λ (a : Accounts). a.rubbish) done.accounts))
+
+pub returns-in_err-handle-clause-does : goal.returns-in_err-handle-clause-does
+returns-in_err-handle-clause-does g c =
     let look : g.row.S.Denot → _ = λ s. g.S.StableStore.view s in
     let inside : Parts g.row.S.Denot = record { storage = c.self.inside.storage; worker = c.self.inside.worker; coordinator = c.self.inside.coordinator; tickets = c.self.inside.tickets } in
     let v = view_with look inside in
     let serves : IsServer v = subst (λ (s : Parts g.row.S.Denot). IsServer (view_with look s)) (sym c.self.view_is) c.requires.serves in
     let message = c.args.message.now in
     let h = c.in_err-handle.ensures in
-    record {
-      does = subst (λ (s : Parts g.row.S.Denot). Does 1024 (of_coordinator (memory_of (view_with look s)) (coordinator_row (table_of s.coordinator) (free_of (view_of s.storage.1 (look s.storage.0))) s.tickets message)) (view_with look s) c.args.out.now
-          c.from_residual.result (view_with look (record { storage = c.handle.new.store; worker = c.self.inside.worker; coordinator = c.handle.new.self; tickets = c.handle.new.tickets })) c.handle.new.out) c.self.view_is
-          (coordinator_failed v serves (coordinator_row (table_of v.coordinator) (free_of v.storage) v.tickets message) (coordinator-aside (table_of v.coordinator) (free_of v.storage) v.tickets message)
-          _ _ _ _ _ (Unit {0}) c.in_err-handle.field-0.0 c.from_residual.result c.from_residual.ensures.0 c.from_residual.ensures.1 h.handles);
-    }
+    subst (λ (s : Parts g.row.S.Denot). Does 1024 (of_coordinator (memory_of (view_with look s)) (coordinator_row (table_of s.coordinator) (free_of (view_of s.storage.1 (look s.storage.0))) s.tickets message)) (view_with look s) c.args.out.now
+    c.from_residual.result (view_with look (record { storage = c.handle.new.store; worker = c.self.inside.worker; coordinator = c.handle.new.self; tickets = c.handle.new.tickets })) c.handle.new.out) c.self.view_is
+    (coordinator_failed v serves (coordinator_row (table_of v.coordinator) (free_of v.storage) v.tickets message) (coordinator-aside (table_of v.coordinator) (free_of v.storage) v.tickets message)
+    _ _ _ _ _ (Unit {0}) c.in_err-handle.field-0.0 c.from_residual.result c.from_residual.ensures.0 c.from_residual.ensures.1 h.handles)
