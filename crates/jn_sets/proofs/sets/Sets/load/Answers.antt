@@ -24,4 +24,5 @@ invariant_of-result g c = record {
   index = loaded_index _ _ _ _ c.loop-slot.invariant.loaded (omega arith);
   slots = c.loop-slot.invariant.numbers ∙ (let same = c.loop-slot.invariant.loaded.length_is in omega arith);
   counted = c.loop-slot.invariant.counted;
+  none_below = λ k lt. absurd (omega (arith, lt));
 }
