@@ -1,20 +1,19 @@
 -- What works hold, and what is free, once an intention is carried out by one put of one head.
-use Rattle.std.proofs.Common.{◌≡◌, ◌≢◌, ◌⊎◌, inl, inr, ⊎_elim, ◌<◌, ◌≤◌, ◌+◌, ℕ, zero, suc, Bool, true, false, not, ◌&&◌, ◌||◌, if◌then◌else◌, List, [], ◌∷◌, length, Option, Some, None, refl, sym, ◌∙◌, ap, subst, true≢false, arith}
-use Rattle.std.proofs.Math.Path.{fun_ext}
+use Rattle.std.proofs.Common.{◌≡◌, ◌≢◌, ◌⊎◌, inl, inr, ⊎_elim, ◌<◌, ◌+◌, ℕ, zero, suc, Bool, true, false, not, ◌&&◌, ◌||◌, if◌then◌else◌, List, [], ◌∷◌, length, Option, Some, None, refl, sym, ◌∙◌, ap, subst, true≢false, arith}
 use Rattle.std.proofs.lemmas.Bool.{cases_eq, false_from_ne_true}
 use Rattle.std.proofs.lemmas.Bool.Decides.{nat_tests}
 use Rattle.std.proofs.lemmas.Option.{slice_get-map}
 use Rattle.std.specs.Prelude.{nat_lt, nat_eq, is_some, count_by, slice_get, slice_set, slice_index_or, option_map, option_and_then}
-use Rattle.std.specs.List.{find, list_all, list_any}
+use Rattle.std.specs.List.{find, list_any}
 use Rattle.jn_alloc.specs.Free.{free_count as free_numbers}
 use Rattle.jn_base.specs.declared.names.BlockNo.{BlockNo}
 use Rattle.jn_base.specs.declared.names.FileNo.{FileNo}
 use Rattle.jn_base.specs.declared.names.LockUnit.TheVariants.{Block}
 use Rattle.jn_base.specs.declared.names.Tid.{Tid}
 use Rattle.jn_base.specs.declared.names.WorkId.{WorkId}
-use Rattle.jn_base.specs.Names.{work_eq, block_eq}
+use Rattle.jn_base.specs.Names.{work_eq}
 use Rattle.jn_base.proofs.Tells.{work_tells, block_tells}
-use Rattle.jn_files.specs.Table.{TableView, IsTable, is_held, address_of}
+use Rattle.jn_files.specs.Table.{TableView, IsTable, is_held}
 use Rattle.jn_files.proofs.Putting.{named_below}
 use Rattle.jn_found.specs.Changes.{IsHeadPut, address_after, is_head_after, serves_for}
 use Rattle.jn_found.specs.Contents.{Contents, intended, bytes_by, behind, block_in, heads_name, works_name, is_head_of, address_at, head_in}
@@ -37,11 +36,11 @@ use Rattle.jn_records.specs.Intentions.{intention_has_page, names_what_it_needs}
 use Rattle.jn_records.specs.NetLists.{is_put, in_order, place_by}
 use Rattle.jn_records.specs.Records.{has_page}
 use Rattle.jn_records.specs.StablePages.{Counts}
-use Rattle.jn_rows.specs.Stable.{StableState, Prepared}
+use Rattle.jn_rows.specs.Stable.{StableState}
 use Rattle.jn_sets.specs.Pool.{record_in, is_prepared}
 use Rattle.jn_storage.specs.Calls.{state, name_of}
 use Rattle.jn_storage.specs.Finding.{find_by}
-use Rattle.jn_storage.specs.Listing.{is_in, IsListing, total}
+use Rattle.jn_storage.specs.Listing.{is_in, IsListing}
 use Rattle.jn_storage.specs.Storage.{IsServing, is_stored}
 use Rattle.jn_storage.proofs.Listings.{but, is_in-but, total-but, total-same}
 use Rattle.jn_store.specs.Store.{StoreView}

@@ -70,17 +70,18 @@ impl Sets {
         ensures calm { IsCalm (S.view store.old) → result ≢ Err LoadStopped }
     {
         let mut index = IndexMap::with_capacity(alloc, root.pool as usize)?;
-        let mut numbers = Index::new(alloc, root.pool)?;
+        let mut numbers = Vec::with_capacity(alloc, root.pool as usize)?;
         let mut free = 0;
         for slot in 0..root.pool {
             let value = read_slot(alloc, store, slot)?;
-            numbers.set(slot, Some(number_of(&value)));
+            numbers.push(Some(number_of(&value)))?;
             free = recount(free, false, is_free(&value));
             index.insert(slot, value)?;
         }
+        let by_number = Index::of(alloc, &numbers)?;
         Ok(Sets {
             index,
-            numbers,
+            numbers: by_number,
             free,
             clean: 0,
         })
