@@ -96,11 +96,12 @@ fn index_of(alloc: Global, slots: &[Slot]) -> Result<Index, AllocError>
     requires { length slots.now ≤ 65535 }
     ensures { IfOk result (λ files. inside.AreIndexed files slots.now) }
 {
-    let mut files = Index::new(alloc, slots.len() as u16)?;
-    for (slot, head) in slots.iter().enumerate() {
-        files.set(slot as u16, head.number());
+    let mut files = Vec::with_capacity(alloc, slots.len())?;
+    for head in slots {
+        files.push(head.number())?;
     }
-    Ok(files)
+    let by_file = Index::of(alloc, &files)?;
+    Ok(by_file)
 }
 
 fn number_of(file: Option<FileNo>) -> Option<u32>

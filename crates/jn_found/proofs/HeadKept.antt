@@ -66,7 +66,7 @@ module _ (c : Contents) (i : StoredIntention) (place : ℕ) (new : Head) (put : 
       at_place f e j t = ⊎_elim (λ h. h.0) (λ h. put.only j (subst (λ g. is_head_of g (head_in c.heads j) ≡ true) (sym e) (ap (is_head_of f) (sym h.1) ∙ t))) (at_set FreeHead c.heads place new put.there j)
 
   -- an address of a head stood before, or is the intention's
-  split : (j : ℕ) (f : FileNo) (p : BlockNo) (a : ℕ) → Addresses (slice_set c.heads place new) j f p (suc a) → Addresses c.heads j f p (suc a) ⊎ ((i.address ≡ suc a) × (f ≡ i.file) × (p ≡ i.block))
+  pub split : (j : ℕ) (f : FileNo) (p : BlockNo) (a : ℕ) → Addresses (slice_set c.heads place new) j f p (suc a) → Addresses c.heads j f p (suc a) ⊎ ((i.address ≡ suc a) × (f ≡ i.file) × (p ≡ i.block))
   split j f p a h = ⊎_elim
       (λ e.
       let is_new : is_head_of f new ≡ true = ap (is_head_of f) (sym e.1) ∙ h.head in

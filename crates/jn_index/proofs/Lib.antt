@@ -1,3 +1,4 @@
 mod Order
 mod Editing
 mod Indexed
+mod Taking

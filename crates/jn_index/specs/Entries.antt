@@ -1,5 +1,6 @@
 -- The entries of an index: the numbers with their slots, in order.
-use Rattle.std.specs.Prelude.{◌≡◌, ℕ, ◌+◌, ◌^◌, ◌<◌, ◌≤◌, count_by, Bool, true, false, ◌&&◌, ◌||◌, nat_lt, nat_eq, List, length, slice_index_or, Option, Some, None}
+use Rattle.std.specs.Prelude.{◌≡◌, ℕ, ◌+◌, ◌^◌, ◌<◌, ◌≤◌, count_by, Bool, true, false, ◌&&◌, ◌||◌, nat_lt, nat_eq, List, length, slice_index_or, All, Option, Some, None}
+use Rattle.std.specs.List.{Contains}
 use Rattle.jn_index.specs.declared.Entry.{Entry}
 use Rattle.jn_index.specs.Numbers.{number_at}
 
@@ -31,3 +32,8 @@ pub record IsIndex (numbers : List (Option ℕ)) (list : List Entry) (capacity :
   pub few : length numbers < 2 ^ 16
   pub entries : AreEntries numbers list
   pub room : length list + count_by is_none numbers ≤ capacity
+
+-- each slot that has a number, with it
+pub record AreOf (numbers : List (Option ℕ)) (pairs : List (ℕ × ℕ)) : Type 0 where
+  pub right : All (λ (p : ℕ × ℕ). number_at numbers p.1 ≡ Some p.0) pairs
+  pub all : (slot number : ℕ) → number_at numbers slot ≡ Some number → Contains pairs (number, slot)

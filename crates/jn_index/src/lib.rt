@@ -1,12 +1,12 @@
 //! Slots by number: which slots have a number, and which number comes next, without a look at every slot.
 //!
 //! A server finds a file's head, or a work's record, by a number. The numbers are kept in order beside the list of them by slot,
-//! so that a search halves them. Nothing but `new` takes memory.
+//! so that a search halves them. Nothing but `new` and `of` takes memory.
 #![tactic(auto)]
 
 ghost use Rattle.std.specs.Prelude.{◌≡◌, ◌<◌, ◌≤◌, ◌+◌, ◌^◌, ℕ, true, false, length, List, slice_set, slice_index_or, count_by, Option, Some, None, is_some, IfOk, IfSome, IfNone, insert, remove};
 ghost use Rattle.jn_index.specs.Numbers.{number_at, is_above, IsSlotFrom, IsNumberAbove};
-ghost use Rattle.jn_index.specs.Entries.{is_none, is_before, entry, entry_at, AreRising};
+ghost use Rattle.jn_index.specs.Entries.{is_none, is_before, entry, entry_at, AreRising, AreOf};
 
 use std::alloc::{AllocError, Global};
 use std::marker::Model;
@@ -46,6 +46,20 @@ impl Index {
         let entries = Vec::with_capacity(alloc, slots as usize)?;
         let numbers = no_numbers(alloc, slots)?;
         Ok(Index { numbers, entries })
+    }
+
+    /// The index of these numbers, by slot. They are taken from the least on, so that none moves for another.
+    pub fn of(alloc: Global, numbers: &[Option<u32>]) -> Result<Self, AllocError>
+        requires { length numbers.now < 2 ^ 16 }
+        ensures { IfOk result (λ index. index ≡ numbers.now) }
+    {
+        let mut index = Index::new(alloc, numbers.len() as u16)?;
+        let order = in_order(alloc, numbers)?;
+        for i in 0..order.len() {
+            let (number, slot) = order[i];
+            index.set(slot, Some(number));
+        }
+        Ok(index)
     }
 
     /// How many slots there are.
@@ -118,6 +132,29 @@ impl Index {
         };
         self.numbers[new.slot as usize] = Some(new.number);
     }
+}
+
+/// Each slot that has a number, by its number.
+fn in_order(alloc: Global, numbers: &[Option<u32>]) -> Result<Vec<(u32, u16)>, AllocError>
+    requires { length numbers.now < 2 ^ 16 }
+    ensures { IfOk result (λ pairs. AreOf numbers.now pairs.items) }
+{
+    let mut pairs = pairs_of(alloc, numbers)?;
+    pairs.sort()?;
+    Ok(pairs)
+}
+
+fn pairs_of(alloc: Global, numbers: &[Option<u32>]) -> Result<Vec<(u32, u16)>, AllocError>
+    requires { length numbers.now < 2 ^ 16 }
+    ensures { IfOk result (λ pairs. AreOf numbers.now pairs.items) }
+{
+    let mut pairs = Vec::with_capacity(alloc, numbers.len())?;
+    for slot in 0..numbers.len() as u16 {
+        if let Some(number) = numbers[slot as usize] {
+            pairs.push((number, slot))?;
+        }
+    }
+    Ok(pairs)
 }
 
 fn no_numbers(alloc: Global, slots: u16) -> Result<Vec<Option<u32>>, AllocError>
@@ -207,6 +244,14 @@ mod tests {
                 index.number_above(Some(u32::MAX))
             ),
             (Some(7), Some(9), None)
+        );
+        let again = Index::of(
+            rt.alloc(),
+            &[Some(9), Some(4_000_000_000), Some(7), Some(7)],
+        )?;
+        assert_eq!(rt;
+            (again.slot_from(7, 0), again.number_above(None)),
+            (Some(2), Some(7))
         );
         index.set(2, None);
         index.set(0, Some(8));

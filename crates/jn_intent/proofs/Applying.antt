@@ -1,5 +1,5 @@
 -- A work's next intention is carried out, by one put of one head or by none.
-use Rattle.std.proofs.Common.{◌≡◌, ◌≢◌, ⊎_elim, ◌<◌, ◌≤◌, ◌+◌, ℕ, suc, Bool, true, false, not, ◌&&◌, ◌||◌, if◌then◌else◌, List, [], ◌∷◌, length, map, Option, Some, None, Result, Ok, refl, sym, ◌∙◌, ap, subst, true≢false, arith}
+use Rattle.std.proofs.Common.{◌≡◌, ◌≢◌, ◌⊎◌, inl, inr, ⊎_elim, ◌<◌, ◌≤◌, ◌+◌, ℕ, suc, Bool, true, false, not, ◌&&◌, ◌||◌, if◌then◌else◌, List, [], ◌∷◌, length, map, Option, Some, None, Result, Ok, refl, sym, ◌∙◌, ap, subst, true≢false, arith}
 use Rattle.std.proofs.Math.Path.{fun_ext}
 use Rattle.std.proofs.lemmas.Bool.{cases_eq}
 use Rattle.std.proofs.lemmas.Bool.Decides.{nat_tests}
@@ -11,6 +11,7 @@ use Rattle.std.specs.List.{find, list_all, list_any}
 use Rattle.jn_alloc.specs.Free.{free_count as free_numbers, is_free as is_free_number}
 use Rattle.jn_base.specs.declared.device.Stopped.{Stopped}
 use Rattle.jn_base.specs.declared.names.FileNo.{FileNo}
+use Rattle.jn_base.specs.declared.names.LockUnit.TheVariants.{Block}
 use Rattle.jn_base.specs.declared.names.WorkId.{WorkId}
 use Rattle.jn_base.specs.Names.{file_eq, work_eq}
 use Rattle.jn_base.proofs.Tells.{file_tells, work_tells}
@@ -41,7 +42,7 @@ use Rattle.jn_records.specs.StablePages.{Counts, head_place}
 use Rattle.jn_rows.specs.Stable.{StableState, Pick, Changed, CarryOut, made_by, at_work}
 use Rattle.jn_sets.specs.Pool.{is_prepared, record_in}
 use Rattle.jn_records.specs.Records.{has_page}
-use Rattle.jn_storage.specs.Calls.{state, name_of, next_of, Called, CountsOn, StepApplied}
+use Rattle.jn_storage.specs.Calls.{state, name_of, next_of, Called, CountsOn, PageTaken, PageStands, StepApplied}
 use Rattle.jn_storage.specs.Finding.{find_by}
 use Rattle.jn_storage.specs.Listing.{are_different, IsListing}
 use Rattle.jn_storage.specs.Storage.{IsServing, file_there, is_stored, intentions, list_of, needed}
@@ -51,11 +52,12 @@ use Rattle.jn_storage.proofs.Laws.{called_not}
 use Rattle.jn_store.specs.Store.{StoreView}
 use Rattle.jn_intent.specs.Carrying.{Carries, PutsOne, MayCarry, heads_taken, without_promise, is_gone, is_gone_already, counted_on}
 use Rattle.jn_recovery.specs.Matches.{Matches, IsKept, IsMade, AreMade, stored_work}
-use Rattle.jn_recovery.specs.Memory.{Memory, accounts_of, view_of, next_by, next_in, stored_by, holds_page}
+use Rattle.jn_recovery.specs.Memory.{Memory, accounts_of, view_of, next_by, next_in, stored_by, holds_page, held_in}
 use Rattle.jn_recovery.proofs.Bridge.{same_there, same_address}
 use Rattle.jn_intent.proofs.CarryStates.{IsCountedOn, carried_loadable, serves_carried}
 use Rattle.jn_recovery.proofs.Counting.{one, listed_length}
 use Rattle.jn_recovery.proofs.FlagCalls.{none_any}
+use Rattle.jn_intent.proofs.HeldPages.{PutCounts, page_of_put, other_holds, put_counted}
 use Rattle.jn_intent.proofs.NetOrder.{one_first, not_both}
 use Rattle.jn_intent.proofs.NextIntention.{its_work, its_stands, next_seen, at_full, its_slot, same_bytes, taken_is, may_carry}
 use Rattle.jn_intent.proofs.Numbers.{how_many, flags_count, more_pass}
@@ -112,6 +114,7 @@ module _ (m : Memory) (v : StoreView) (now : Matches m v) (serving : IsServing (
     none_left = λ e. (refl, refl);
     carried = λ i e. absurd (no_next i (sym seen ∙ e));
     done = λ e is. absurd (true≢false (sym e ∙ ap is_some seen));
+    put = λ i e put is. absurd (no_next i (sym seen ∙ e));
   }
     where
       seen : next_of (view_of m v) work ≡ None
@@ -146,6 +149,8 @@ module _ (m : Memory) (v : StoreView) (now : Matches m v) (serving : IsServing (
       pub promised : u.free_heads.promised + heads_taken m.table i ≡ m.table.free_heads.promised
       pub table : IsTable u
       pub free : free_numbers m.table.free_leaves ≤ free_numbers u.free_leaves
+      pub others_hold : (o : WorkId) → work ≢ o → count_by (holds_page u.heads) (stored_by (find_by work_eq name_of m.works o)) ≡ count_by (holds_page m.table.heads) (stored_by (find_by work_eq name_of m.works o))
+      pub put_counts : i.what ≡ Put → PutCounts m v s i u
       pub standing : IsStanding m.server u.counts w m.epoch m.records u.heads
       pub found : (c : Pick) → found_on u.counts w c ≡ made_by (CarryOut work full) before
       pub power : w.power ≡ true
@@ -194,6 +199,10 @@ module _ (m : Memory) (v : StoreView) (now : Matches m v) (serving : IsServing (
             let long = ap (how_many (λ a. is_free_number m.table.free_leaves a)) now.table.leaf_count in
             let also = ap (how_many (λ a. is_free_number u.free_leaves a)) (is.table.leaf_count ∙ ap (λ (g : Counts). g.leaves) is.counts) in
             let more = more_pass (λ a. is_free_number m.table.free_leaves a) (λ a. is_free_number u.free_leaves a) m.table.counts.leaves (still_free done) in omega (arith, old, new, long, also, more);
+        others_hold = λ o ne. subst (λ hs. count_by (holds_page hs) (stored_by (find_by work_eq name_of m.works o)) ≡ count_by (holds_page m.table.heads) (stored_by (find_by work_eq name_of m.works o))) (sym is.heads)
+            (other_holds m v now serving work s here i at puts.place puts.head puts.carries o ne);
+        put_counts = λ put. let named = page_of_put i.what i.block.0 i.address (may_carry m v now serving work s here i at).names put in
+            put_counted m v now serving work s here i at puts.place puts.head puts.carries put named.0 named.1 u is.table is.counts is.heads is.held;
         standing = subst (λ g. IsStanding m.server g w m.epoch m.records u.heads) (sym is.counts) (subst (λ hs. IsStanding m.server m.table.counts w m.epoch m.records hs) (sym is.heads) (makes.standing done));
         found = λ c. ap (λ g. found_on g w c) is.counts ∙ makes.change.done done c;
         power = (puts.put.served done).power;
@@ -232,11 +241,16 @@ module _ (m : Memory) (v : StoreView) (now : Matches m v) (serving : IsServing (
       promised = let none = takes_none i.what (exists m.table.heads i.file) gone in omega (arith, none);
       table = now.table;
       free = omega arith;
+      others_hold = λ o ne. refl;
+      put_counts = λ put. absurd (gone_not_put i.what (exists m.table.heads i.file) gone put);
       standing = now.standing;
       found = λ c. serving.up c ∙ gone_same gone;
       power = serving.power;
     }
       where
+        gone_not_put : (w : What) (b : Bool) → (is_gone w && not b) ≡ true → w ≡ Put → ⊥
+        gone_not_put w b e put = true≢false (sym (subst (λ w. (is_gone w && not b) ≡ true) put e))
+
         takes_none : (w : What) (b : Bool) → (is_gone w && not b) ≡ true → one (is_fresh w && not b) ≡ 0
         takes_none Gone b e = refl
         takes_none Fresh b e = absurd (true≢false (sym e))
@@ -409,7 +423,24 @@ module _ (m : Memory) (v : StoreView) (now : Matches m v) (serving : IsServing (
         promised_records = refl;
         rubbish = refl;
         free_pages = is.free;
+        others_hold = λ o ne. same_field (λ t. count_by (holds_page u.heads) (stored_by t)) refl o ∙ is.others_hold o (differs_by o ne);
       }
+        where
+          differs_by : (o : WorkId) → work_eq work o ≡ false → work ≢ o
+          differs_by o e = let t = work_tells work o in grind (arith, e)
+
+      own_held : held_in works u.heads work ≡ count_by (holds_page u.heads) s.list
+      own_held = same_field (λ t. count_by (holds_page u.heads) (stored_by t)) refl work ∙ ap (λ t. count_by (holds_page u.heads) (stored_by t)) here
+
+      held_before : held_in m.works m.table.heads work ≡ count_by (holds_page m.table.heads) s.list
+      held_before = ap (λ t. count_by (holds_page m.table.heads) (stored_by t)) here
+
+      puts_on : i.what ≡ Put → PageTaken (accounts_of m) work (is_stored before.files (Block i.file i.block)) (accounts_of (record m { table = u; works = works }))
+          ⊎ PageStands before full (accounts_of m) work (accounts_of (record m { table = u; works = works }))
+      puts_on put = ⊎_elim
+          (λ h. inl (record { held = (let e = h.0 in let a = own_held in let b = held_before in omega (arith, e, a, b)); free_pages = h.1 }))
+          (λ h. inr (record { stands = h.0; held = own_held ∙ h.1 ∙ sym held_before; free_pages = h.2 }))
+          (is.put_counts put)
 
       -- it is done
       stepped_done : Called (view_of m v) 40 true (view_of (record m { table = u; works = works }) w) → StepApplied (view_of m v) work (Ok true) (view_of (record m { table = u; works = works }) w)
@@ -418,8 +449,16 @@ module _ (m : Memory) (v : StoreView) (now : Matches m v) (serving : IsServing (
         none_left = λ e. absurd (true≢false (sym (ap is_some next_is) ∙ ap is_some e));
         carried = λ j e. subst (λ j. Changed before (CarryOut work j) true (found_on u.counts w)) (some_is (sym next_is ∙ e)) (record { done = λ d. is.found; stop = λ d. absurd (true≢false d) });
         done = λ e d. (refl, counts_on);
+        put = λ j e put d. subst (λ j. PageTaken (accounts_of m) work (is_stored before.files (Block j.file j.block)) (accounts_of (record m { table = u; works = works })) ⊎ PageStands before j (accounts_of m) work (accounts_of (record m { table = u; works = works })))
+            (some_is (sym next_is ∙ e)) (puts_on (is_put_so i.what (ap (λ (j : FullIntention). is_put j.what) (some_is (sym next_is ∙ e)) ∙ put)));
       }
         where
+          is_put_so : (w : What) → is_put w ≡ true → w ≡ Put
+          is_put_so Put e = refl
+          is_put_so Fresh e = absurd (true≢false (sym e))
+          is_put_so Gone e = absurd (true≢false (sym e))
+          is_put_so Cut e = absurd (true≢false (sym e))
+
           some_is : {A : Type 0} {a b : A} → Some a ≡ Some b → a ≡ b
           some_is e = cc e
 
@@ -484,6 +523,7 @@ module _ (m : Memory) (v : StoreView) (now : Matches m v) (serving : IsServing (
                 carried = λ j e. subst (λ j. Changed before (CarryOut work j) (is_ok answer) (found_on u.counts w)) (some_is (sym next_is ∙ e))
                     (subst (λ b. Changed before (CarryOut work full) b (found_on u.counts w)) (sym same) (subst (λ g. Changed before (CarryOut work full) ok (found_on g w)) (sym counts) (makes ok u w puts).change));
                 done = λ e d. absurd (true≢false (sym d ∙ same ∙ stopped));
+                put = λ j e put d. absurd (true≢false (sym d ∙ same ∙ stopped));
               }
 
       pub carried_dark : (ok : Bool) → ok ≡ false → Carries m.table v i ok u w → w.power ≡ false

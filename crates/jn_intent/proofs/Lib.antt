@@ -19,3 +19,4 @@ pub mod StoringPages
 pub mod ReadyPool
 pub mod ReadyStates
 pub mod Readying
+mod HeldPages

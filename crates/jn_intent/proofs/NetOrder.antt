@@ -3,10 +3,11 @@ use Rattle.std.proofs.Common.{◌≡◌, inr, ◌<◌, ℕ, zero, suc, Bool, tru
 use Rattle.std.proofs.lemmas.Bool.Decides.{nat_tests}
 use Rattle.std.specs.Prelude.{slice_get, nat_eq}
 use Rattle.std.specs.List.{list_all}
-use Rattle.jn_base.specs.declared.names.LockUnit.TheVariants.{File}
+use Rattle.jn_base.specs.declared.names.FileNo.{FileNo}
+use Rattle.jn_base.specs.declared.names.LockUnit.TheVariants.{File, Block}
 use Rattle.jn_base.specs.Names.{file_eq}
 use Rattle.jn_base.proofs.Tells.{file_tells}
-use Rattle.jn_locks.specs.declared.words.Mode.TheVariants.{Commit}
+use Rattle.jn_locks.specs.declared.words.Mode.TheVariants.{Read, Commit}
 use Rattle.jn_locks.specs.Locks.{is_unit}
 use Rattle.jn_order.specs.Files.{Files}
 use Rattle.jn_records.specs.declared.intention.Intention.{Intention}
@@ -113,3 +114,42 @@ file_needed files p k i is at made needs = by (entry p.list i.file zero) refl
         of Fresh d true t = let q = first_before p.list None k i j is.order.order at t e in subst (λ f. file_there files f ≡ true) q.3 (made q.0 j q.1 q.2 (ap is_fresh d))
         of Fresh d false t = absurd (true≢false (sym needs ∙ ap (λ (x : Intention). needs_file x.what) (own t) ∙ ap needs_file d))
         of Gone d false t = absurd (true≢false (sym needs ∙ ap (λ (x : Intention). needs_file x.what) (own t) ∙ ap needs_file d))
+
+-- ---- the intentions of one unit
+
+-- behind an intention of a file and a place there is no other
+no_other : (x : Intention) (xs : List Intention) (q : ℕ) (i j : Intention) → in_order (Some x) xs ≡ true → x ≡ i → slice_get xs q ≡ Some j → i.file ≡ j.file → place_of i ≡ place_of j → ⊥
+no_other x xs q i j tail same too file place =
+    let its = entry-of xs q j (Some x) tail too in
+    let none = no_entry x xs j.file (place_of j) tail (inr (ap (λ (f : FileNo). f.0) (sym file ∙ ap (λ (y : Intention). y.file) (sym same)), (let e = ap (λ (y : Intention). place_of y) same in omega (arith, e, place)))) in
+    clash (sym none ∙ its)
+  where
+    clash : {j : Intention} → None ≡ Some j → ⊥
+    clash e = cc e
+
+-- it stands at one index
+pub one_index : (list : List Intention) (last : Option Intention) (k q : ℕ) (i j : Intention) → in_order last list ≡ true → slice_get list k ≡ Some i → slice_get list q ≡ Some j → i.file ≡ j.file → place_of i ≡ place_of j → k ≡ q
+one_index [] last k q i j order at too file place = absurd (cc at)
+one_index (x ∷ xs) last zero zero i j order at too file place = refl
+one_index (x ∷ xs) last zero (suc q) i j order at too file place = absurd (no_other x xs q i j (grind (arith, order)) (some_is at) too file place)
+one_index (x ∷ xs) last (suc k) zero i j order at too file place = absurd (no_other x xs k j i (grind (arith, order)) (some_is too) at (sym file) (sym place))
+one_index (x ∷ xs) last (suc k) (suc q) i j order at too file place = ap suc (one_index xs (Some x) k q i j (grind (arith, order)) at too file place)
+
+-- two works that go together put no block both
+pub not_both_put : (p q : Prepared) (k l : ℕ) (i j : Intention) → GoTogether p q → slice_get p.list k ≡ Some i → slice_get q.list l ≡ Some j → i.what ≡ Put → j.what ≡ Put → i.file ≡ j.file → i.block ≡ j.block → ⊥
+not_both_put p q k l i j apart at too put also file block = true≢false (sym (apart (Block i.file i.block) Commit Commit (writes p k i put at)
+    (subst (λ b. is_unit (map unit_of q.list) (Block i.file b) ≡ true) (sym block) (subst (λ f. is_unit (map unit_of q.list) (Block f j.block) ≡ true) (sym file) (writes q l j also too)))))
+  where
+    writes : (p : Prepared) (k : ℕ) (i : Intention) → i.what ≡ Put → slice_get p.list k ≡ Some i → is_unit (map unit_of p.list) (Block i.file i.block) ≡ true
+    writes p k i put at = subst (λ u. is_unit (map unit_of p.list) u ≡ true) (ap (λ w. unit_by w i.file i.block) put) (unit-of p.list k i at)
+
+-- and one has no intention of a file that the other writes as a whole
+pub not_whole : (p q : Prepared) (k l : ℕ) (i j : Intention) → GoTogether p q → slice_get p.list k ≡ Some i → slice_get q.list l ≡ Some j → is_put i.what ≡ false → list_all (λ i. is_unit q.reads (File i.file)) q.list ≡ true → i.file ≡ j.file → ⊥
+not_whole p q k l i j apart at too un reads file = true≢false (sym (apart (File i.file) Commit Read (subst (λ u. is_unit (map unit_of p.list) u ≡ true) (by i.what un) (unit-of p.list k i at))
+    (subst (λ f. is_unit q.reads (File f) ≡ true) (sym file) (all_at (λ i. is_unit q.reads (File i.file)) q.list l j reads too))))
+  where
+    by : (w : What) → is_put w ≡ false → unit_by w i.file i.block ≡ File i.file
+    by Fresh un = refl
+    by Gone un = refl
+    by Cut un = refl
+    by Put un = absurd (true≢false un)

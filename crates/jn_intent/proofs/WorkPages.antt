@@ -186,7 +186,7 @@ module _ (m : Memory) (v : StoreView) (now : Matches m v) where
       same : {w u : WorkId} {t q : Tid} {j k : ℕ} {i s : StoredIntention} → Intention w t j i ≡ Intention u q k s → w ≡ u
       same e = cc e
 
-  its_work : (a : ℕ) → works_name m.records (suc a) ≡ true → (w : WorkId) × (list_any (is_at a) (list_kept w) ≡ true) × (is_some (find_by work_eq name_of m.works w) ≡ true)
+  pub its_work : (a : ℕ) → works_name m.records (suc a) ≡ true → (w : WorkId) × (list_any (is_at a) (list_kept w) ≡ true) × (is_some (find_by work_eq name_of m.works w) ≡ true)
   its_work a named =
       let at = named_intends (held_contents m.table.counts v m.epoch m.records m.table.heads (λ n. false)) (suc a) named in
       by at.2.work at.0 at.2.tid at.2.order at.1 at.2.stands at.3 at.2.prepared (find_by work_eq name_of m.works at.2.work) refl

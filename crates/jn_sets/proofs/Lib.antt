@@ -2,3 +2,4 @@ pub mod Slots
 pub mod Stored
 pub mod Loading
 mod Numbering
+mod Rubbish

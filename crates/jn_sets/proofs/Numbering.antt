@@ -122,13 +122,13 @@ module _ (numbers : List (Option ℕ)) (free : ℕ) (records : List Record) (are
         let was = are.free_is in omega arith;
   }
 
-  pub counted_last : length records < length numbers → count ≡ free + ones (is_free value) → AreCounted (slice_set numbers (length records) (Some (number_of value))) count (records ++ value ∷ [])
-  counted_last below sum = record {
+  pub counted_last : length numbers ≡ length records → count ≡ free + ones (is_free value) → AreCounted (numbers ++ Some (number_of value) ∷ []) count (records ++ value ∷ [])
+  counted_last slots sum = record {
     each = λ k lt. elim (cases_eq k (length records)) [
-      | inl same ↦ subst (λ (i : ℕ). number_at (slice_set numbers (length records) (Some (number_of value))) i ≡ Some (number_of (record_in (records ++ value ∷ []) i))) (sym same)
-          (get_or-set_same numbers (length records) (Some (number_of value)) None below ∙ ap (λ (r : Record). Some (number_of r)) (sym (get_or-append_seam records value [] Free)))
+      | inl same ↦ subst (λ (i : ℕ). number_at (numbers ++ Some (number_of value) ∷ []) i ≡ Some (number_of (record_in (records ++ value ∷ []) i))) (sym same)
+          (ap (number_at (numbers ++ Some (number_of value) ∷ [])) (sym slots) ∙ get_or-append_seam numbers (Some (number_of value)) [] None ∙ ap (λ (r : Record). Some (number_of r)) (sym (get_or-append_seam records value [] Free)))
       | inr ne ↦ let low : k < length records = let long = length-append records (value ∷ []) in omega arith in
-          get_or-set_other numbers (length records) k (Some (number_of value)) None ne ∙ are.each k low ∙ ap (λ (r : Record). Some (number_of r)) (sym (get_or-append records (value ∷ []) Free k low))
+          get_or-append numbers (Some (number_of value) ∷ []) None k (omega arith) ∙ are.each k low ∙ ap (λ (r : Record). Some (number_of r)) (sym (get_or-append records (value ∷ []) Free k low))
     ];
     free_is = let step : free_count (records ++ value ∷ []) ≡ free_count records + (0 + ones (is_free value)) = sum_by-append (λ (r : Record). cond (is_free r) 1 0) records (value ∷ []) in
         let was = are.free_is in omega arith;
@@ -136,13 +136,13 @@ module _ (numbers : List (Option ℕ)) (free : ℕ) (records : List Record) (are
 
 -- as the code has it, where the last record is put into the index
 pub counted_more : (numbers : List (Option ℕ)) (free : ℕ) (entries next : List (ℕ × Record)) (n : ℕ) (value : Record) (after : List (Option ℕ)) (number count : ℕ) (is : Bool)
-    → AreCounted numbers free (values_of entries) → length (values_of entries) ≡ n → n < length numbers → number ≡ number_of value → after ≡ slice_set numbers n (Some number)
+    → AreCounted numbers free (values_of entries) → length (values_of entries) ≡ n → length numbers ≡ n → number ≡ number_of value → after ≡ numbers ++ Some number ∷ []
     → is ≡ is_free value → count + ones false ≡ free + ones is → next ≡ entries ++ (n, value) ∷ [] → AreCounted after count (values_of next)
-counted_more numbers free entries next n value after number count is are long below number_is after_is is_is sum e =
+counted_more numbers free entries next n value after number count is are long slots number_is after_is is_is sum e =
     subst (λ (l : List Record). AreCounted after count l) (sym (ap values_of e ∙ values_push entries n value))
     (subst (λ (l : List (Option ℕ)). AreCounted l count (values_of entries ++ value ∷ []))
-    (ap (λ (k : ℕ). slice_set numbers k (Some (number_of value))) long ∙ ap (λ (k : ℕ). slice_set numbers n (Some k)) (sym number_is) ∙ sym after_is)
-    (counted_last numbers free (values_of entries) are value count (omega arith) (let flag : ones is ≡ ones (is_free value) = ap ones is_is in let none : ones false ≡ 0 = refl in omega arith)))
+    (ap (λ (k : ℕ). numbers ++ Some k ∷ []) (sym number_is) ∙ sym after_is)
+    (counted_last numbers free (values_of entries) are value count (slots ∙ sym long) (let flag : ones is ≡ ones (is_free value) = ap ones is_is in let none : ones false ≡ 0 = refl in omega arith)))
 
 pub none_counted_yet : (numbers : List (Option ℕ)) → AreCounted numbers 0 []
 none_counted_yet numbers = record { each = λ slot lt. let no_way : ⊥ = omega arith in absurd no_way; free_is = refl }

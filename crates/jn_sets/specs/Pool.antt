@@ -39,6 +39,17 @@ abbrev pub is_ready : Record → Bool
 is_ready (Ready head intentions reads) = true
 is_ready _ = false
 
+-- a record that makes its work a prepared one
+abbrev pub prepares : Record → Bool
+prepares (Ready head intentions reads) = true
+prepares (Going head intentions reads) = true
+prepares _ = false
+
+-- an intention, of whichever work
+abbrev pub intends : Record → Bool
+intends (Intention work tid order i) = true
+intends _ = false
+
 -- a ready record as a going one, and the other way round
 abbrev pub going_of : Record → Record
 going_of (Ready head intentions reads) = Going head intentions reads

@@ -1,5 +1,5 @@
 //! What a slot's record is asked for.
-ghost use Rattle.std.specs.Prelude.{◌≡◌, ◌<◌, ◌+◌, ◌^◌, true};
+ghost use Rattle.std.specs.Prelude.{◌≡◌, ◌<◌, ◌≤◌, ◌+◌, ◌^◌, true};
 ghost use Rattle.jn_base.specs.Names as names;
 ghost use Rattle.jn_sets.specs.Pool as pool;
 ghost use Rattle.jn_sets.specs.Sets.{ones};
@@ -80,6 +80,36 @@ pub(crate) fn recount(count: u32, was: bool, is: bool) -> u32
         return count;
     }
     if is { count + 1 } else { count - 1 }
+}
+
+/// Whether it makes its work a prepared one.
+fn prepares(value: &Record) -> bool
+    ensures { result ≡ pool.prepares value.now }
+{
+    matches!(value, Record::Ready { .. } | Record::Going { .. })
+}
+
+/// Whether it is an intention, of whichever work.
+pub(crate) fn intends(value: &Record) -> bool
+    ensures { result ≡ pool.intends value.now }
+{
+    matches!(value, Record::Intention { .. })
+}
+
+/// Below which slot no record is rubbish, where it was so below one and a slot has another record: where a prepared
+/// record went, any slot may have an intention that is rubbish now.
+pub(crate) fn clean_after(clean: u16, slot: u16, old: &Record, intends: bool) -> u16
+    ensures kept { result ≤ clean }
+    ensures prepared { pool.prepares old.now ≡ true → result ≡ 0 }
+    ensures intention { intends ≡ true → result ≤ slot }
+{
+    if prepares(old) {
+        return 0;
+    }
+    if intends && slot < clean {
+        return slot;
+    }
+    clean
 }
 
 pub(crate) fn is_wanted(wanted: Wanted, value: &Record) -> bool

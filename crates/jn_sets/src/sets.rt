@@ -1,5 +1,5 @@
 //! The set of records.
-ghost use Rattle.std.specs.Prelude.{◌≡◌, ◌≢◌, ◌↔◌, ◌<◌, ◌+◌, ℕ, true, false, not, List, length, position, slice_get, slice_set, map, option_map, Option, Some, None, Ok, Err, is_ok, IfOk, IfSome, IsOk, ◌^◌};
+ghost use Rattle.std.specs.Prelude.{◌≡◌, ◌≢◌, ◌↔◌, ◌<◌, ◌+◌, ℕ, true, false, not, List, length, position, slice_get, slice_set, map, option_map, Option, Some, None, Ok, Err, is_ok, IfOk, IfSome, IfNone, IsOk, ◌^◌};
 ghost use Rattle.std.specs.List.{list_any};
 ghost use Rattle.jn_records.specs.declared.record.Record.TheVariants.{Free};
 ghost use Rattle.jn_records.specs.Records.{has_page};
@@ -7,11 +7,12 @@ ghost use Rattle.jn_store.specs.Store.{IsCalm, IsServed, IsStop, StoreLater};
 ghost use Rattle.jn_sets.specs.declared.fault.LoadFault.TheVariants.{Stopped as LoadStopped};
 ghost use Rattle.jn_sets.specs.declared.fault.SetFault.TheVariants.{Full};
 ghost use Rattle.jn_sets.specs.Pool as pool;
-ghost use Rattle.jn_sets.specs.Sets.{StoreRead, Puts};
+ghost use Rattle.jn_sets.specs.Sets.{StoreRead, Puts, AreCleanTo};
 
 use crate::fault::{LoadFault, SetFault};
 use crate::find::{
-    Wanted, going_of, is_free, is_wanted, number_of, number_wanted, ready_of, recount,
+    Wanted, clean_after, going_of, intends, is_free, is_wanted, number_of, number_wanted, ready_of,
+    recount,
 };
 use crate::numbers::record_fits;
 use indexmap::IndexMap;
@@ -34,6 +35,8 @@ pub struct Sets {
     numbers: Index,
     /// How many slots hold no record.
     free: u32,
+    /// No slot below it has an intention whose work has no ready or going record.
+    clean: u16,
 }
 
 impl Model for Sets {
@@ -46,7 +49,7 @@ impl Model for Sets {
 
     ghost view = { λ s. values s.index };
 
-    ghost invariant = { λ s. IsKept s.index.entries s.numbers s.free };
+    ghost invariant = { λ s. IsKept s.index.entries s.numbers s.free s.clean };
 }
 
 impl Sets {
@@ -67,18 +70,20 @@ impl Sets {
         ensures calm { IsCalm (S.view store.old) → result ≢ Err LoadStopped }
     {
         let mut index = IndexMap::with_capacity(alloc, root.pool as usize)?;
-        let mut numbers = Index::new(alloc, root.pool)?;
+        let mut numbers = Vec::with_capacity(alloc, root.pool as usize)?;
         let mut free = 0;
         for slot in 0..root.pool {
             let value = read_slot(alloc, store, slot)?;
-            numbers.set(slot, Some(number_of(&value)));
+            numbers.push(Some(number_of(&value)))?;
             free = recount(free, false, is_free(&value));
             index.insert(slot, value)?;
         }
+        let by_number = Index::of(alloc, &numbers)?;
         Ok(Sets {
             index,
-            numbers,
+            numbers: by_number,
             free,
+            clean: 0,
         })
     }
 
@@ -225,7 +230,7 @@ impl Sets {
         ensures slots { length self.new ≡ length self.old }
         ensures later { StoreLater (S.view store.old) (S.view store.new) }
     {
-        let Some(rubbish) = self.rubbish_slot() else {
+        let Some(rubbish) = self.next_rubbish() else {
             return Ok(false);
         };
         self.put(store, rubbish, Record::Free)?;
@@ -247,18 +252,37 @@ impl Sets {
         None
     }
 
-    /// The lowest slot with an intention whose work has no ready or going record.
-    fn rubbish_slot(&self) -> Option<u16>
-        ensures { result ≡ position (pool.is_rubbish self.now) self.now }
+    /// The lowest slot with an intention whose work has no ready or going record. The slots below it aren't looked
+    /// at again while they stay as they are.
+    fn next_rubbish(&mut self) -> Option<u16>
+        ensures found { result ≡ position (pool.is_rubbish self.old) self.old }
+        ensures within { IfSome result (λ slot. slot < length self.old) }
+        ensures same { self.new ≡ self.old }
     {
-        Some(self.rubbish_place()? as u16)
+        match self.rubbish_slot() {
+            Some(slot) => {
+                self.clean = slot;
+                Some(slot)
+            }
+            None => {
+                self.clean = self.slots();
+                None
+            }
+        }
     }
 
-    fn rubbish_place(&self) -> Option<usize>
+    fn rubbish_slot(&self) -> Option<u16>
         ensures first { result ≡ position (pool.is_rubbish self.now) self.now }
-        ensures few { IfSome result (λ i. i < 2 ^ 16) }
+        ensures within { IfSome result (λ slot. slot < length self.now) }
+        ensures below { IfSome result (λ slot. AreCleanTo self.now slot) }
+        ensures none { IfNone result (AreCleanTo self.now (length self.now)) }
     {
-        self.index.values().position(|value| self.is_rubbish(value))
+        for slot in self.clean..self.slots() {
+            if self.is_rubbish(&self.index[slot as usize]) {
+                return Some(slot);
+            }
+        }
+        None
     }
 
     fn is_rubbish(&self, value: &Record) -> bool
@@ -321,9 +345,11 @@ impl Sets {
         ensures left { self.new ≡ slice_set self.old slot value }
     {
         let is = is_free(&value);
+        let intended = intends(&value);
         self.numbers.set(slot, Some(number_of(&value)));
         let old = mem::replace(&mut self.index[slot as usize], value);
         self.free = recount(self.free, is_free(&old), is);
+        self.clean = clean_after(self.clean, slot, &old, intended);
         old
     }
 }

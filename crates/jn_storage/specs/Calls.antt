@@ -1,5 +1,5 @@
 -- What each call of a server's storage does.
-use Rattle.std.specs.Prelude.{◌≡◌, ◌≢◌, ◌≤◌, ◌<◌, ◌+◌, ◌-◌, ℕ, Bool, true, false, nat_lt, if◌then◌else◌, List, [], ◌∷◌, map, All, slice_get, length, Option, Some, None, is_some, Result, Ok, Err, is_ok}
+use Rattle.std.specs.Prelude.{◌≡◌, ◌≢◌, ◌⊎◌, ◌≤◌, ◌<◌, ◌+◌, ◌-◌, ℕ, Bool, true, false, nat_lt, if◌then◌else◌, List, [], ◌∷◌, map, All, slice_get, length, Option, Some, None, is_some, Result, Ok, Err, is_ok}
 use Rattle.std.specs.List.{list_all}
 use Rattle.jn_base.specs.declared.device.Stopped.{Stopped}
 use Rattle.jn_base.specs.declared.names.FileNo.{FileNo}
@@ -19,6 +19,7 @@ use Rattle.jn_records.specs.declared.net_list.Need.{Need}
 use Rattle.jn_records.specs.declared.work.WorkHead.{WorkHead}
 use Rattle.jn_records.specs.declared.work.WorkState.{WorkState}
 use Rattle.jn_records.specs.Intentions.{intention_has_page}
+use Rattle.jn_records.specs.NetLists.{is_put}
 use Rattle.jn_store.specs.Store.{IsStop}
 use Rattle.jn_rows.specs.Stable.{StableState, Prepared, Pick, stable, AddReady, MarkGoing, CarryOut, RemoveWork, AddFlag, DropFlag, made_by, Changed, Unchanged, at_work, flag_state, is_ready, is_going}
 use Rattle.jn_storage.specs.declared.faults.PrepareFault.{PrepareFault}
@@ -27,7 +28,7 @@ use Rattle.jn_storage.specs.declared.faults.PromiseFault.{PromiseFault}
 use Rattle.jn_storage.specs.declared.faults.PromiseFault.TheVariants.{Short as Shortage}
 use Rattle.jn_storage.specs.Listing.{is_in, IsListing, AtMost}
 use Rattle.jn_storage.specs.Orderly.{IsOrderly, IsGiven}
-use Rattle.jn_storage.specs.Storage.{Accounts, StorageView, StorageLater, IsLoadable, IsServing, file_there, needed, list_of}
+use Rattle.jn_storage.specs.Storage.{Accounts, StorageView, StorageLater, IsLoadable, IsServing, file_there, is_stored, needed, list_of}
 
 -- the state, while no call has been stopped
 abbrev pub state : StorageView → StableState
@@ -161,6 +162,19 @@ pub record CountsOn (a : Accounts) (work : WorkId) (b : Accounts) : Type 0 where
   pub rubbish : b.rubbish ≡ a.rubbish
   -- no page is taken
   pub free_pages : a.free_pages ≤ b.free_pages
+  -- what another work holds stays held
+  pub others_hold : (w : WorkId) → work_eq work w ≡ false → b.held w ≡ a.held w
+
+-- A put's page is its block's from then on, and its work holds it no more. The page that it replaces is free.
+pub record PageTaken (a : Accounts) (work : WorkId) (replaces : Bool) (b : Accounts) : Type 0 where
+  pub held : b.held work + 1 ≡ a.held work
+  pub free_pages : b.free_pages ≡ a.free_pages + (if replaces then 1 else 0)
+
+-- a put that was carried out before a recovery: its page is its block's already
+pub record PageStands (x : StableState) (i : Intention) (a : Accounts) (work : WorkId) (b : Accounts) : Type 0 where
+  pub stands : x.files (Block i.file i.block) ≡ Some i.bytes
+  pub held : b.held work ≡ a.held work
+  pub free_pages : b.free_pages ≡ a.free_pages
 
 -- One intention is carried out. It is answered false, and nothing is done, exactly where none is left.
 pub record StepApplied (v : StorageView) (work : WorkId) (answer : Result Bool Stopped) (w : StorageView) : Type 0 where
@@ -168,6 +182,8 @@ pub record StepApplied (v : StorageView) (work : WorkId) (answer : Result Bool S
   pub none_left : next_of v work ≡ None → (answer ≡ Ok false) × (w ≡ v)
   pub carried : (i : Intention) → next_of v work ≡ Some i → Changed (state v) (CarryOut work i) (is_ok answer) w.found
   pub done : is_some (next_of v work) ≡ true → is_ok answer ≡ true → (answer ≡ Ok true) × CountsOn v.accounts work w.accounts
+  pub put : (i : Intention) → next_of v work ≡ Some i → is_put i.what ≡ true → is_ok answer ≡ true
+      → PageTaken v.accounts work (is_stored (state v).files (Block i.file i.block)) w.accounts ⊎ PageStands (state v) i v.accounts work w.accounts
 
 -- what is free once a work is removed: the records of its intentions are rubbish
 pub record CountsOff (a : Accounts) (work : WorkId) (intentions : ℕ) (b : Accounts) : Type 0 where

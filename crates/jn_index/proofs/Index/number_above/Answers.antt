@@ -1,4 +1,4 @@
-use Rattle.std.proofs.Common.{◌≡◌, ◌<◌, ◌≤◌, arith, rules, sym, ap, ◌∙◌, subst, ℕ, List, length, true, false, Option, Some}
+use Rattle.std.proofs.Common.{◌≡◌, ◌<◌, ◌≤◌, rules, sym, ◌∙◌, subst, ℕ, List, length, true, false, Option, Some}
 use Rattle.std.proofs.lemmas.List.{get_or_default}
 use Rattle.jn_index.specs.declared.Entry.{Entry}
 use Rattle.jn_index.specs.Numbers.{is_above, number_at}

@@ -7,6 +7,6 @@ use Rattle.jn_sets.proofs.sets.Sets.load.Given as goal
 abbrev pub invariant-loop-slot : goal.invariant-loop-slot
 invariant-loop-slot g l = record {
   loaded : LoadedTo (g.S.StableStore.view l.fn.store) l.slot l.index.entries (g.S.StableStore.view l.store);
-  numbers : length l.numbers ≡ l.root.pool;
-  counted : AreCounted l.numbers l.free (values_of l.index.entries);
+  numbers : length l.numbers.items ≡ l.slot;
+  counted : AreCounted l.numbers.items l.free (values_of l.index.entries);
 }
