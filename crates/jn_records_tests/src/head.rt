@@ -1,18 +1,20 @@
 //! Pages of heads, written out by hand.
 
-use jn_base::{FileNo, Page, PageWriter};
+use crate::pages::{changed, page_of};
+use jn_base::FileNo;
 use jn_records::{Head, ListOf};
 use std::test::Fail;
 
 /// File 0x01020304, whose block 0 is in data page 127 and block 2 in data page 4.
 const BEGIN: [u8; 11] = [1, 1, 2, 3, 4, 0, 128, 0, 0, 0, 5];
 
-fn changed(page: &Page, at: usize, byte: u8) -> Page {
-    let mut changed = *page;
-    if at < 512 {
-        changed[at] = byte;
+fn is_the_head(head: &Head) -> bool {
+    match head {
+        Head::Used { file, addresses } => {
+            *file == FileNo(0x0102_0304) && addresses.as_slice().starts_with(&[128, 0, 5, 0])
+        }
+        Head::Free => false,
     }
-    changed
 }
 
 #[test]
@@ -45,17 +47,11 @@ fn a_head_has_one_page(rt: HostRuntime) -> Result<(), Fail> {
 
 #[test]
 fn the_parts_of_a_head_are_read(rt: HostRuntime) -> Result<(), Fail> {
-    let mut page = PageWriter::new();
-    page.put_bytes(&BEGIN);
-    match Head::decode(rt.alloc(), &page.finish(), 200)? {
-        Some(Head::Used { file, addresses }) => {
-            assert_eq!(rt; file, FileNo(0x0102_0304));
-            let addresses = addresses.into_vec();
-            assert_eq!(rt; &addresses[..4], [128, 0, 5, 0].as_slice());
-        }
-        _ => assert!(rt; false),
-    }
-    let zeros = PageWriter::new().finish();
-    assert!(rt; matches!(Head::decode(rt.alloc(), &zeros, 0)?, Some(Head::Free)));
+    let page = page_of(&BEGIN);
+    let head = Head::decode(rt.alloc(), &page, 200)?.ok_or("no head")?;
+    assert!(rt; is_the_head(&head));
+    let zeros = page_of(&[]);
+    let free = Head::decode(rt.alloc(), &zeros, 0)?.ok_or("no head")?;
+    assert!(rt; matches!(free, Head::Free));
     Ok(())
 }

@@ -37,6 +37,15 @@ impl ShortOp {
     }
 }
 
+/// The net list of operations.
+fn netted(alloc: Global, ops: &[ShortOp]) -> Result<NetList, AllocError> {
+    let mut list = NetList::new(alloc);
+    for op in ops {
+        list.add(&op.whole(alloc)?)?;
+    }
+    Ok(list)
+}
+
 fn is_short(intention: &Intention, short: &Short) -> bool {
     let (what, file, block, byte) = *short;
     intention.what == what
@@ -47,6 +56,18 @@ fn is_short(intention: &Intention, short: &Short) -> bool {
 
 fn are_short(list: &[Intention], shorts: &[Short]) -> bool {
     list.len() == shorts.len() && list.iter().zip(shorts).all(|(i, s)| is_short(i, s))
+}
+
+/// Adds an operation; how long the list was to be with it, and is.
+fn lengths_with(
+    alloc: Global,
+    list: &mut NetList,
+    op: ShortOp,
+) -> Result<(usize, usize), AllocError> {
+    let op = op.whole(alloc)?;
+    let expected = list.length_with(&op);
+    list.add(&op)?;
+    Ok((expected, list.list().len()))
 }
 
 #[test]
@@ -62,10 +83,7 @@ fn operations_on_a_new_file_are_few(rt: HostRuntime) -> Result<(), Fail> {
         (ShortOp::Read(7, 2), 4),
         (ShortOp::Cut(7, 1), 3),
     ] {
-        let op = op.whole(alloc)?;
-        assert_eq!(rt; list.length_with(&op), length);
-        list.add(&op)?;
-        assert_eq!(rt; list.list().len(), length);
+        assert!(rt; lengths_with(alloc, &mut list, op)? == (length, length));
     }
     let expected = [
         (What::Put, 5, 3, 6),
@@ -74,7 +92,7 @@ fn operations_on_a_new_file_are_few(rt: HostRuntime) -> Result<(), Fail> {
     ];
     assert!(rt; are_short(list.list(), &expected));
     assert!(rt; list.list().len() < 24);
-    assert_eq!(rt; list.puts(), 2);
+    assert!(rt; list.puts() == 2);
     Ok(())
 }
 
@@ -108,9 +126,9 @@ fn the_least_cut_and_the_last_first_intention_stand(rt: HostRuntime) -> Result<(
 }
 
 /// What a block is seen as: the first byte of a put, or zeros, or as stored.
-fn byte_seen(seen: Seen) -> Option<u8> {
+fn byte_seen(seen: &Seen) -> Option<u8> {
     match seen {
-        Seen::Put(bytes) => Some(bytes[0]),
+        Seen::Put([first, ..]) => Some(*first),
         Seen::Zeros => Some(0),
         Seen::Stored => None,
     }
@@ -118,18 +136,15 @@ fn byte_seen(seen: Seen) -> Option<u8> {
 
 #[test]
 fn blocks_are_seen_through_the_list(rt: HostRuntime) -> Result<(), Fail> {
-    let alloc = rt.alloc();
-    let mut list = NetList::new(alloc);
-    for op in [
+    let ops = [
         ShortOp::Create(1),
         ShortOp::Write(1, 3, 9),
         ShortOp::Remove(2),
         ShortOp::Cut(3, 4),
         ShortOp::Write(3, 6, 8),
         ShortOp::Write(4, 0, 7),
-    ] {
-        list.add(&op.whole(alloc)?)?;
-    }
+    ];
+    let list = netted(rt.alloc(), &ops)?;
     for (f, stored, there) in [
         (1, false, true),
         (2, true, false),
@@ -151,13 +166,13 @@ fn blocks_are_seen_through_the_list(rt: HostRuntime) -> Result<(), Fail> {
         (4, 1, None),
         (5, 0, None),
     ] {
-        assert_eq!(rt; byte_seen(list.block(FileNo(f), BlockNo(p))), expected);
+        assert_eq!(rt; byte_seen(&list.block(FileNo(f), BlockNo(p))), expected);
     }
     Ok(())
 }
 
 /// An answer in short: its kind, with the first byte that was read.
-fn answer_byte(answer: Option<Answer>) -> Option<(char, u8)> {
+fn answer_byte(answer: &Option<Answer>) -> Option<(char, u8)> {
     match answer {
         Some(Answer::Did) => Some(('d', 0)),
         Some(Answer::Read(content)) => Some(('r', content.to_block()[0])),
@@ -168,18 +183,26 @@ fn answer_byte(answer: Option<Answer>) -> Option<(char, u8)> {
     }
 }
 
+fn byte_answered(
+    alloc: Global,
+    list: &NetList,
+    op: ShortOp,
+    stored: bool,
+) -> Result<Option<(char, u8)>, AllocError> {
+    let answer = list.answer(alloc, &op.whole(alloc)?, stored)?;
+    Ok(answer_byte(&answer))
+}
+
 #[test]
 fn answers_are_those_of_the_files_seen(rt: HostRuntime) -> Result<(), Fail> {
     let alloc = rt.alloc();
-    let mut list = NetList::new(alloc);
-    for op in [
+    let ops = [
         ShortOp::Create(1),
         ShortOp::Write(1, 3, 9),
         ShortOp::Remove(2),
         ShortOp::Cut(3, 4),
-    ] {
-        list.add(&op.whole(alloc)?)?;
-    }
+    ];
+    let list = netted(alloc, &ops)?;
     for (op, stored, expected) in [
         (ShortOp::Create(1), false, Some(('e', 0))),
         (ShortOp::Create(2), true, Some(('d', 0))),
@@ -193,25 +216,22 @@ fn answers_are_those_of_the_files_seen(rt: HostRuntime) -> Result<(), Fail> {
         (ShortOp::Read(3, 4), true, Some(('r', 0))),
         (ShortOp::Read(3, 3), true, None),
     ] {
-        let answer = list.answer(alloc, &op.whole(alloc)?, stored)?;
-        assert_eq!(rt; answer_byte(answer), expected);
+        assert!(rt; byte_answered(alloc, &list, op, stored)? == expected);
     }
     Ok(())
 }
 
 #[test]
 fn a_fresh_file_that_is_not_there_needs_a_head(rt: HostRuntime) -> Result<(), Fail> {
-    let alloc = rt.alloc();
-    let mut list = NetList::new(alloc);
-    for op in [
+    let ops = [
         ShortOp::Create(1),
         ShortOp::Remove(2),
         ShortOp::Write(3, 0, 1),
-    ] {
-        list.add(&op.whole(alloc)?)?;
-    }
-    for (intention, needed) in list.list().iter().zip([true, false, false]) {
-        assert_eq!(rt; needs_head(intention, false), needed);
+    ];
+    let list = netted(rt.alloc(), &ops)?;
+    assert!(rt; list.list().len() == 3);
+    for (i, intention) in list.list().iter().enumerate() {
+        assert!(rt; needs_head(intention, false) == (i == 0));
         assert!(rt; !needs_head(intention, true));
     }
     Ok(())

@@ -1,17 +1,12 @@
 //! The page of a root, written out by hand.
 
-use jn_base::{Page, PageWriter, ServerNo};
+use crate::pages::page_of;
+use jn_base::ServerNo;
 use jn_records::Root;
 
 const BEGIN: [u8; 16] = [
     b'J', b'U', b'N', b'1', 1, 0, 0, 32, 0, 16, 0, 128, 0, 0, 0, 2,
 ];
-
-fn page_of(begin: &[u8; 16]) -> Page {
-    let mut page = PageWriter::new();
-    page.put_bytes(begin);
-    page.finish()
-}
 
 #[test]
 fn a_root_has_one_page(rt: HostRuntime) {

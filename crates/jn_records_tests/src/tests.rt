@@ -46,25 +46,33 @@ impl Draws {
     }
 }
 
-/// Carries an intention out on plain files, by the operations that say what it does.
-fn carry_out(alloc: Global, files: &mut Files, i: &Intention) -> Result<(), AllocError> {
-    match i.what {
-        What::Fresh => {
+/// The operation that does what an intention says, where no such file was there before.
+fn op_of(alloc: Global, i: &Intention) -> Result<Op, AllocError> {
+    Ok(match i.what {
+        What::Fresh => Op::Create(i.file),
+        What::Gone => Op::Remove(i.file),
+        What::Cut => Op::Cut(i.file, i.block),
+        What::Put => Op::Write(i.file, i.block, BlockContent::from_block(alloc, &i.bytes)?),
+    })
+}
+
+/// Carries intentions out on plain files, by the operations that say what they do.
+fn carry_out(alloc: Global, files: &mut Files, list: &[Intention]) -> Result<(), AllocError> {
+    for i in list {
+        if i.what == What::Fresh {
             do_op(alloc, files, SERVER, &Op::Remove(i.file))?;
-            do_op(alloc, files, SERVER, &Op::Create(i.file))?;
         }
-        What::Gone => {
-            do_op(alloc, files, SERVER, &Op::Remove(i.file))?;
-        }
-        What::Cut => {
-            do_op(alloc, files, SERVER, &Op::Cut(i.file, i.block))?;
-        }
-        What::Put => {
-            let content = BlockContent::from_block(alloc, &i.bytes)?;
-            do_op(alloc, files, SERVER, &Op::Write(i.file, i.block, content))?;
-        }
+        do_op(alloc, files, SERVER, &op_of(alloc, i)?)?;
     }
     Ok(())
+}
+
+/// Carries out each front of a list and then all of it, each time from its start.
+fn carry_out_often(alloc: Global, files: &mut Files, list: &[Intention]) -> Result<(), AllocError> {
+    for stop in 0..list.len() {
+        carry_out(alloc, files, &list[..stop])?;
+    }
+    carry_out(alloc, files, list)
 }
 
 /// The first byte of a block, and none where its file isn't there.
@@ -91,28 +99,31 @@ fn are_same(alloc: Global, a: &mut Files, b: &mut Files) -> Result<bool, AllocEr
     Ok(true)
 }
 
-/// Does so many operations, and carries out their net list from its start after each front of it.
+/// Does so many operations; the net list of those that were done.
+fn net_of_drawn(
+    alloc: Global,
+    draws: &mut Draws,
+    done: &mut Files,
+    count: u64,
+) -> Result<NetList, AllocError> {
+    let mut net = NetList::new(alloc);
+    for _ in 0..count {
+        let op = draws.op(alloc)?;
+        if let Answer::Did = do_op(alloc, done, SERVER, &op)? {
+            net.add(&op)?;
+        }
+    }
+    Ok(net)
+}
+
+/// Whether what is carried out is what was done, four times so many operations.
 fn is_carried_out(alloc: Global, seed: u64, count: u64) -> Result<bool, AllocError> {
     let mut draws = Draws { x: seed };
     let mut done = Files::new(alloc);
     let mut carried = Files::new(alloc);
     for _ in 0..4 {
-        let mut net = NetList::new(alloc);
-        for _ in 0..count {
-            let op = draws.op(alloc)?;
-            if let Answer::Did = do_op(alloc, &mut done, SERVER, &op)? {
-                net.add(&op)?;
-            }
-        }
-        let list = net.list();
-        for stop in 0..list.len() {
-            for i in &list[..stop] {
-                carry_out(alloc, &mut carried, i)?;
-            }
-        }
-        for i in list {
-            carry_out(alloc, &mut carried, i)?;
-        }
+        let net = net_of_drawn(alloc, &mut draws, &mut done, count)?;
+        carry_out_often(alloc, &mut carried, net.list())?;
         if !are_same(alloc, &mut done, &mut carried)? {
             return Ok(false);
         }

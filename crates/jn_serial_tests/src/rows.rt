@@ -12,7 +12,6 @@ use jn_schedule::Event;
 use jn_serial::{agrees, told};
 use jn_showing::shown;
 use std::alloc::{AllocError, Global};
-use std::process::Abort;
 use std::test::Fail;
 
 const S0: ServerNo = ServerNo(0);
@@ -62,6 +61,31 @@ const RIGHT: Verdict = Verdict {
     agrees: true,
 };
 
+const NOT_TOLD: Verdict = Verdict {
+    told: false,
+    ..RIGHT
+};
+
+const NOT_CAUSED: Verdict = Verdict {
+    caused: false,
+    ..RIGHT
+};
+
+const NOT_FOLLOWING: Verdict = Verdict {
+    follows: false,
+    ..RIGHT
+};
+
+const NOT_SHOWN: Verdict = Verdict {
+    shown: false,
+    ..RIGHT
+};
+
+const NOT_AGREED: Verdict = Verdict {
+    agrees: false,
+    ..RIGHT
+};
+
 /// What they say of a report over no files.
 fn judged(alloc: Global, events: &[Event], lines: &[Line]) -> Result<Verdict, AllocError> {
     let none = Files::new(alloc);
@@ -74,37 +98,41 @@ fn judged(alloc: Global, events: &[Event], lines: &[Line]) -> Result<Verdict, Al
     })
 }
 
-fn expect(
-    rt: &impl Abort,
+/// What is forged in a report.
+#[derive(Clone, Copy)]
+enum Forgery {
+    Nothing,
+    /// The line at this place has another text.
+    Text(usize, Text),
+    /// One more line stands before the one at this place.
+    Inserted(usize, Line),
+}
+
+/// The report with what is forged in it.
+fn forged(alloc: Global, lines: &[Line], forgery: Forgery) -> Result<Vec<Line>, AllocError> {
+    let mut forged = Vec::from_slice(alloc, lines)?;
+    match forgery {
+        Forgery::Text(at, text) if at < forged.len() => forged[at].text = text,
+        Forgery::Inserted(at, line) if at < forged.len() => forged.insert(at, line)?,
+        _ => {}
+    }
+    Ok(forged)
+}
+
+/// The first forgery of which they say something else than is expected.
+fn first_misjudged(
     alloc: Global,
     events: &[Event],
     lines: &[Line],
-    want: Verdict,
-) -> Result<(), AllocError> {
-    let said = judged(alloc, events, lines)?;
-    assert!(rt; said == want);
-    Ok(())
-}
-
-/// The report with another text in a line.
-fn forged(alloc: Global, lines: &[Line], at: usize, text: Text) -> Result<Vec<Line>, AllocError> {
-    let mut changed = Vec::from_slice(alloc, lines)?;
-    if at < changed.len() {
-        changed[at].text = text;
-    }
-    Ok(changed)
-}
-
-/// The report with one more line.
-fn inserted(alloc: Global, lines: &[Line], at: usize, line: Line) -> Result<Vec<Line>, AllocError> {
-    let mut changed = Vec::new(alloc);
-    for (i, old) in lines.iter().enumerate() {
-        if i == at {
-            changed.push(line)?;
+    expected: &[(Forgery, Verdict)],
+) -> Result<Option<usize>, AllocError> {
+    for (i, (forgery, verdict)) in expected.iter().enumerate() {
+        let lines = forged(alloc, lines, *forgery)?;
+        if judged(alloc, events, &lines)? != *verdict {
+            return Ok(Some(i));
         }
-        changed.push(*old)?;
     }
-    Ok(changed)
+    Ok(None)
 }
 
 /// A line at an event.
@@ -182,56 +210,18 @@ fn a_commit(rt: HostRuntime) -> Result<(), Fail> {
     let bytes = block(0x68, 0x69);
     let events = written(alloc, bytes)?;
     let lines = joined(alloc, &[&written_lines(), &end_lines(bytes, 1)])?;
-    expect(&rt, alloc, &events, &lines, RIGHT)?;
-
-    let not_shown = Verdict {
-        shown: false,
-        ..RIGHT
-    };
     let other = Text::Page(S0, SEVEN, BlockNo(0), block(0x68, 0x68));
-    expect(
-        &rt,
-        alloc,
-        &events,
-        &forged(alloc, &lines, 10, other)?,
-        not_shown,
-    )?;
-    let missing = Text::Commits(1);
-    expect(
-        &rt,
-        alloc,
-        &events,
-        &forged(alloc, &lines, 10, missing)?,
-        not_shown,
-    )?;
     let locked = Text::Locked(S0, PAGE, tid(0));
-    expect(
-        &rt,
-        alloc,
-        &events,
-        &forged(alloc, &lines, 10, locked)?,
-        not_shown,
-    )?;
-
     let refused = Text::Refused(C1, 7, Refusal::NoFile);
-    let not_agreed = Verdict {
-        agrees: false,
-        ..RIGHT
-    };
-    expect(
-        &rt,
-        alloc,
-        &events,
-        &forged(alloc, &lines, 4, refused)?,
-        not_agreed,
-    )?;
-
-    let twice = inserted(alloc, &lines, 5, at(8, Text::Did(C1, 7)))?;
-    let not_following = Verdict {
-        follows: false,
-        ..RIGHT
-    };
-    expect(&rt, alloc, &events, &twice, not_following)?;
+    let expected = [
+        (Forgery::Nothing, RIGHT),
+        (Forgery::Text(10, other), NOT_SHOWN),
+        (Forgery::Text(10, Text::Commits(1)), NOT_SHOWN),
+        (Forgery::Text(10, locked), NOT_SHOWN),
+        (Forgery::Text(4, refused), NOT_AGREED),
+        (Forgery::Inserted(5, at(8, Text::Did(C1, 7))), NOT_FOLLOWING),
+    ];
+    assert_eq!(rt; first_misjudged(alloc, &events, &lines, &expected)?, None);
     Ok(())
 }
 
@@ -293,36 +283,19 @@ fn a_broken_transaction(rt: HostRuntime) -> Result<(), Fail> {
     let events = broken_events(alloc)?;
     let end = end_lines(block(0x62, 0), 2);
     let lines = joined(alloc, &[&written_lines(), &broken_lines(), &end])?;
-    expect(&rt, alloc, &events, &lines, RIGHT)?;
-
-    let not_told = Verdict {
-        told: false,
-        ..RIGHT
-    };
-    let named = inserted(alloc, &lines, 14, at(24, Text::Commit(tid(4))))?;
-    expect(&rt, alloc, &events, &named, not_told)?;
-
-    let not_caused = Verdict {
-        caused: false,
-        ..RIGHT
-    };
     let elsewhere = Cause::Broken(S0, LockUnit::File(SEVEN), tid(2));
-    let text = Text::Aborted(C2, 28, tid(4), elsewhere);
-    expect(
-        &rt,
-        alloc,
-        &events,
-        &forged(alloc, &lines, 18, text)?,
-        not_caused,
-    )?;
-    let text = Text::Aborted(C2, 28, tid(4), Cause::Requested);
-    expect(
-        &rt,
-        alloc,
-        &events,
-        &forged(alloc, &lines, 18, text)?,
-        not_caused,
-    )?;
+    let elsewhere = Text::Aborted(C2, 28, tid(4), elsewhere);
+    let requested = Text::Aborted(C2, 28, tid(4), Cause::Requested);
+    let expected = [
+        (Forgery::Nothing, RIGHT),
+        (
+            Forgery::Inserted(14, at(24, Text::Commit(tid(4)))),
+            NOT_TOLD,
+        ),
+        (Forgery::Text(18, elsewhere), NOT_CAUSED),
+        (Forgery::Text(18, requested), NOT_CAUSED),
+    ];
+    assert_eq!(rt; first_misjudged(alloc, &events, &lines, &expected)?, None);
     Ok(())
 }
 
@@ -363,25 +336,16 @@ fn lost_lines() -> [Line; 12] {
 #[test]
 fn a_lost_transaction(rt: HostRuntime) -> Result<(), Fail> {
     let alloc = rt.alloc();
-    let events = lost_events(FaultKind::StopTorn);
     let lines = lost_lines();
-    expect(&rt, alloc, &events, &lines, RIGHT)?;
-
-    let not_caused = Verdict {
-        caused: false,
-        ..RIGHT
-    };
-    expect(
-        &rt,
-        alloc,
-        &lost_events(FaultKind::Soft),
-        &lines,
-        not_caused,
-    )?;
-    let twice = inserted(alloc, &lines, 5, at(9, Text::Stopped(S0)))?;
-    expect(&rt, alloc, &events, &twice, not_caused)?;
-    let later = forged(alloc, &lines, 4, Text::Ignored(9))?;
-    expect(&rt, alloc, &events, &later, not_caused)?;
+    let events = lost_events(FaultKind::StopTorn);
+    let expected = [
+        (Forgery::Nothing, RIGHT),
+        (Forgery::Inserted(5, at(9, Text::Stopped(S0))), NOT_CAUSED),
+        (Forgery::Text(4, Text::Ignored(9)), NOT_CAUSED),
+    ];
+    assert_eq!(rt; first_misjudged(alloc, &events, &lines, &expected)?, None);
+    let events = lost_events(FaultKind::Soft);
+    assert!(rt; judged(alloc, &events, &lines)? == NOT_CAUSED);
     Ok(())
 }
 
@@ -429,27 +393,15 @@ fn a_transaction_without_room(rt: HostRuntime) -> Result<(), Fail> {
         ticket: 0,
     };
     let full = Text::Aborted(C1, 7, begun, Cause::Full(S0, 31, 1, 2));
-    expect(&rt, alloc, &full_events(), &full_lines(full), RIGHT)?;
-
-    let not_caused = Verdict {
-        caused: false,
-        ..RIGHT
-    };
     let enough = Text::Aborted(C1, 7, begun, Cause::Full(S0, 31, 2, 2));
-    expect(&rt, alloc, &full_events(), &full_lines(enough), not_caused)?;
-
-    let not_following = Verdict {
-        follows: false,
-        ..RIGHT
-    };
     let replaced = Text::Aborted(C1, 5, begun, Cause::Full(S0, 31, 1, 2));
-    expect(
-        &rt,
-        alloc,
-        &full_events(),
-        &full_lines(replaced),
-        not_following,
-    )?;
+    let expected = [
+        (Forgery::Nothing, RIGHT),
+        (Forgery::Text(5, enough), NOT_CAUSED),
+        (Forgery::Text(5, replaced), NOT_FOLLOWING),
+    ];
+    let misjudged = first_misjudged(alloc, &full_events(), &full_lines(full), &expected)?;
+    assert_eq!(rt; misjudged, None);
     Ok(())
 }
 
@@ -471,13 +423,10 @@ fn an_abort_that_was_asked_for(rt: HostRuntime) -> Result<(), Fail> {
         at(2, Text::Begun(C1, 1, tid(0))),
         at(4, Text::Aborted(C1, 3, tid(0), Cause::Requested)),
     ];
-    expect(&rt, alloc, &begun_then(Command::Abort), &lines, RIGHT)?;
-
-    let not_caused = Verdict {
-        caused: false,
-        ..RIGHT
-    };
-    expect(&rt, alloc, &begun_then(Command::End), &lines, not_caused)?;
+    let events = begun_then(Command::Abort);
+    assert!(rt; judged(alloc, &events, &lines)? == RIGHT);
+    let events = begun_then(Command::End);
+    assert!(rt; judged(alloc, &events, &lines)? == NOT_CAUSED);
     Ok(())
 }
 
@@ -492,35 +441,13 @@ fn shows(rt: HostRuntime) -> Result<(), Fail> {
         at(11, Text::Page(S0, SEVEN, BlockNo(0), bytes)),
     ];
     let lines = joined(alloc, &[&written_lines(), &shown, &end_lines(bytes, 1)])?;
-    expect(&rt, alloc, &events, &lines, RIGHT)?;
     let locked = Text::Locked(S0, PAGE, tid(0));
-    expect(
-        &rt,
-        alloc,
-        &events,
-        &forged(alloc, &lines, 8, locked)?,
-        RIGHT,
-    )?;
-
-    let not_shown = Verdict {
-        shown: false,
-        ..RIGHT
-    };
-    let elsewhere = Text::File(S1, SEVEN);
-    expect(
-        &rt,
-        alloc,
-        &events,
-        &forged(alloc, &lines, 7, elsewhere)?,
-        not_shown,
-    )?;
-    let missing = Text::Ignored(0);
-    expect(
-        &rt,
-        alloc,
-        &events,
-        &forged(alloc, &lines, 8, missing)?,
-        not_shown,
-    )?;
+    let expected = [
+        (Forgery::Nothing, RIGHT),
+        (Forgery::Text(8, locked), RIGHT),
+        (Forgery::Text(7, Text::File(S1, SEVEN)), NOT_SHOWN),
+        (Forgery::Text(8, Text::Ignored(0)), NOT_SHOWN),
+    ];
+    assert_eq!(rt; first_misjudged(alloc, &events, &lines, &expected)?, None);
     Ok(())
 }

@@ -1,4 +1,4 @@
-use Rattle.std.proofs.Common.{◌≡◌, ◌∙◌}
+use Rattle.std.proofs.Common.{◌∙◌}
 use Rattle.jn_bench_intents.proofs.new_disk.Goals as goal
 
 pub returns : goal.returns

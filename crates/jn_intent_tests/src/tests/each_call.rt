@@ -21,7 +21,13 @@ use std::test::Fail;
 fn with_block(rt: &impl Abort, alloc: Global) -> Result<Intents<Pairs<MemDisk>>, Fail>
     ensures { IfOk result (λ storage. IsOn SERVER (⟦<Intents<Pairs<MemDisk>> as Storage>⟧.view storage)) }
 {
-    told_to(rt, alloc, new_disk(rt, alloc, COUNTS)?, COUNTS, STORIES[0].calls)
+    told_to(
+        rt,
+        alloc,
+        new_disk(rt, alloc, COUNTS)?,
+        COUNTS,
+        STORIES[0].calls,
+    )
 }
 
 /// The file is the one that there is, and has the one block.

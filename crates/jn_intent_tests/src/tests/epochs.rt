@@ -20,11 +20,7 @@ fn store_in(alloc: Global, epoch: u32) -> Result<Pairs<MemDisk>, AllocError>
 }
 
 /// The store after a recovery, and the epoch that it begins, or why there is none.
-fn begun<S: StableStore>(
-    rt: &impl Abort,
-    alloc: Global,
-    store: S,
-) -> (S, Result<u32, DownCause>)
+fn begun<S: StableStore>(rt: &impl Abort, alloc: Global, store: S) -> (S, Result<u32, DownCause>)
     requires { MayBegin SERVER (S.view store) }
     ensures { MayBegin SERVER (S.view result.0) }
 {

@@ -1,5 +1,4 @@
 use Rattle.jn_intent_tests.specs.declared.tests.TheConstants.{SERVER}
-use Rattle.jn_recovery.specs.Loading.{counts_by}
 use Rattle.jn_intent_tests.proofs.Calls.{loaded_on, down_begins}
 use Rattle.jn_intent_tests.proofs.tests.recovered.Goals as goal
 

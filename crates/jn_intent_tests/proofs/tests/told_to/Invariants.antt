@@ -1,4 +1,4 @@
-use Rattle.jn_intent.specs.Memory.{view_of}
+use Rattle.jn_recovery.specs.Memory.{view_of}
 use Rattle.jn_intent_tests.specs.declared.tests.TheConstants.{SERVER}
 use Rattle.jn_intent_tests.specs.Trial.{IsOn}
 use Rattle.jn_intent_tests.proofs.tests.told_to.Given as goal
