@@ -1,6 +1,6 @@
 -- From one stage to the next, by the server's public clauses alone.
-use Rattle.std.proofs.Common.{◌≡◌, ℕ, ◌+◌, ◌≤◌, Bool, true, false, List, [], ◌∷◌, refl, sym, ◌∙◌, ap, subst, arith, true≢false}
-use Rattle.std.specs.Prelude.{length, nat_lt, if◌then◌else◌, Option, Some, None, Ok}
+use Rattle.std.proofs.Common.{◌≡◌, ℕ, Bool, false, List, [], ◌∷◌, refl, ◌∙◌, ap, subst, arith}
+use Rattle.std.specs.Prelude.{nat_lt, if◌then◌else◌, Option, Some, None, Ok}
 use Rattle.jn_locks.specs.Locks as locks
 use Rattle.jn_msgs.specs.Collected.{Collected}
 use Rattle.jn_msgs.specs.declared.message.Message.{Message}

@@ -1,5 +1,5 @@
 -- What is free at a server without works, flags and files: all that its pages have room for.
-use Rattle.std.proofs.Common.{◌≡◌, ℕ, ◌+◌, ◌-◌, ◌≤◌, Bool, true, false, List, [], ◌∷◌, Option, None, is_some, refl, sym, ◌∙◌, ap, arith, true≢false}
+use Rattle.std.proofs.Common.{◌≡◌, ℕ, ◌+◌, ◌-◌, ◌≤◌, Bool, true, false, List, [], ◌∷◌, None, is_some, refl, sym, ◌∙◌, ap, arith, true≢false}
 use Rattle.std.specs.Prelude.{length, nat_lt, ◌||◌}
 use Rattle.std.proofs.lemmas.Bool.Decides.{nat_tests}
 use Rattle.jn_base.specs.declared.names.FileNo.{FileNo}
@@ -19,7 +19,7 @@ use Rattle.jn_storage.specs.Storage.{IsCounted, file_there, is_stored, needed, l
 use Rattle.jn_storage.specs.Calls.{state}
 use Rattle.jn_protocol.specs.World.{Memory}
 use Rattle.jn_server.specs.Seen.{ServerView, room_of}
-use Rattle.jn_one_server.specs.Story.{Stage, StandsAt, IsEnough}
+use Rattle.jn_one_server.specs.Story.{Stage, StandsAt}
 
 empty : {A : Type 0} (eq : A → A → Bool) (holds : A → Bool) (xs : List A) → ((a : A) → eq a a ≡ true) → IsListing eq holds xs → ((a : A) → holds a ≡ false) → xs ≡ []
 empty eq holds [] own h none = refl

@@ -1,6 +1,5 @@
 -- Each stage of the story from the one before, and what a restart finds.
-use Rattle.std.proofs.Common.{◌≡◌, ℕ, suc, ◌+◌, Bool, true, false, List, [], ◌∷◌, Option, Some, None, is_some, refl, sym, ◌∙◌, ap, subst, arith, true≢false}
-use Rattle.std.proofs.Math.Path.{fun_ext}
+use Rattle.std.proofs.Common.{◌≡◌, ℕ, suc, Bool, true, false, List, [], ◌∷◌, Option, Some, None, is_some, refl, sym, ◌∙◌, ap, subst, arith, true≢false}
 use Rattle.std.specs.Prelude.{◌||◌, length, Result, Ok, Err, IfOk}
 use Rattle.std.specs.List.{list_any}
 use Rattle.jn_base.specs.declared.names.LockUnit.TheVariants.{Block}
@@ -13,17 +12,15 @@ use Rattle.jn_found.specs.Recoverable.{IsRecoverable}
 use Rattle.jn_intent.specs.Scrubbing.{counts_in}
 use Rattle.jn_locks.specs.Locks as locks
 use Rattle.jn_records.specs.StablePages.{Counts}
-use Rattle.jn_rows.specs.Outcomes.{RowOutcome}
-use Rattle.jn_rows.specs.Stable.{StableState, CarryOut}
-use Rattle.jn_protocol.specs.Servers.{server_row, server_step, restored}
-use Rattle.jn_protocol.specs.Steps.{AreNames, tid_before}
-use Rattle.jn_protocol.specs.World.{Memory}
+use Rattle.jn_rows.specs.Stable.{StableState}
+use Rattle.jn_protocol.specs.Servers.{restored}
+use Rattle.jn_protocol.specs.Steps.{AreNames}
 use Rattle.jn_recovery.specs.declared.load.Found.{Found}
 use Rattle.jn_server.specs.Restarting.{IsRestarted, IsLeft}
 use Rattle.jn_server.specs.Seen.{ServerView, room_of}
 use Rattle.jn_storage.specs.Calls.{state}
 use Rattle.jn_store.specs.Store.{StoreView}
-use Rattle.jn_one_server.specs.Story.{Stage, StandsAt, IsEnough, Took, Worked, IsNew, ComesUp, after_message, enough, the_server, the_file, the_block, begin_it, open_it, create_file, write_block, end_it, prepare_it, vote_for_it, commit_it, nothing_at, started, opened, written, voting, prepared, committed, stepped, carried_out}
+use Rattle.jn_one_server.specs.Story.{Stage, StandsAt, IsEnough, Took, Worked, IsNew, ComesUp, after_message, the_server, the_file, the_block, begin_it, open_it, create_file, write_block, end_it, prepare_it, vote_for_it, commit_it, nothing_at, started, opened, written, voting, prepared, committed, stepped, carried_out}
 use Rattle.jn_one_server.proofs.Going.{taken, stepped-on, begun, opens, creates, writes, ends, prepares, votes, commits}
 use Rattle.jn_one_server.proofs.Rooms.{records-left, pages-left, heads-left}
 
@@ -95,10 +92,10 @@ own-flag T = grind (arith, tid_tells T T)
 starts-by : (g : Counts) (v : StoreView) (w : ServerView) → IsNew g v → (told : Found) → IsRestarted the_server g v told w → StandsAt g started w
 starts-by g v w new told r = record {
   serves = r.serves;
-  remembers = r.remembers ∙ ap (λ (x : StableState). restored the_server x r.works r.tids) (new.empty r.loaded.before)
-      ∙ ap (λ Ws. restored the_server (nothing_at 0) Ws r.tids) (no-names work_eq _ _ r.works own-work r.work_names (λ W. ap (λ (x : StableState). x.works W) (new.empty r.loaded.before)))
-      ∙ ap (λ Ts. restored the_server (nothing_at 0) [] Ts) (no-names tid_eq _ _ r.tids own-flag r.flag_names (λ T. ap (λ (x : StableState). x.flags T) (new.empty r.loaded.before)));
-  finds = λ c. r.loaded.found c ∙ ap (λ (x : StableState). record x { epoch = suc x.epoch }) (new.empty r.loaded.before);
+  remembers = r.remembers ∙ ap (λ (x : StableState). restored the_server x r.works r.tids) (new.found r.loaded.before)
+      ∙ ap (λ Ws. restored the_server (nothing_at 0) Ws r.tids) (no-names work_eq _ _ r.works own-work r.work_names (λ W. ap (λ (x : StableState). x.works W) (new.found r.loaded.before)))
+      ∙ ap (λ Ts. restored the_server (nothing_at 0) [] Ts) (no-names tid_eq _ _ r.tids own-flag r.flag_names (λ T. ap (λ (x : StableState). x.flags T) (new.found r.loaded.before)));
+  finds = λ c. r.loaded.found c ∙ ap (λ (x : StableState). record x { epoch = suc x.epoch }) (new.found r.loaded.before);
   server = r.loaded.server_is;
   pool = r.loaded.pool;
   heads = r.loaded.heads;

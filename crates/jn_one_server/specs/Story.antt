@@ -1,5 +1,5 @@
 -- One transaction at one new server, message by message, each by its row.
-use Rattle.std.specs.Prelude.{◌≡◌, ◌≤◌, ℕ, Bool, true, false, List, [], ◌∷◌, length, Option, Some, None, Ok}
+use Rattle.std.specs.Prelude.{◌≡◌, ◌≤◌, ℕ, Bool, false, List, [], ◌∷◌, length, Option, Some, None, Ok}
 use Rattle.jn_base.specs.declared.names.ServerNo.{ServerNo}
 use Rattle.jn_base.specs.declared.names.ClientNo.{ClientNo}
 use Rattle.jn_base.specs.declared.names.FileNo.{FileNo}
@@ -12,8 +12,7 @@ use Rattle.jn_msgs.specs.declared.message.Message.{Message}
 use Rattle.jn_msgs.specs.declared.message.Message.TheVariants as messages
 use Rattle.jn_msgs.specs.declared.message.Vote.TheVariants as votes
 use Rattle.jn_records.specs.StablePages.{Counts}
-use Rattle.jn_found.specs.Pages.{found_on}
-use Rattle.jn_found.specs.Recoverable.{IsRecoverable}
+use Rattle.jn_found.specs.Images.{IsFresh}
 use Rattle.jn_store.specs.Store.{StoreView}
 use Rattle.jn_rows.specs.Outcomes.{RowOutcome}
 use Rattle.jn_rows.specs.Stable.{StableState, Pick, made_all}
@@ -154,10 +153,9 @@ pub record Worked (v w : ServerView) : Type 0 where
 
 -- ---- a new store
 
--- a recovery may begin there, and it finds nothing
-pub record IsNew (g : Counts) (v : StoreView) : Type 0 where
-  pub recoverable : IsRecoverable the_server g v
-  pub empty : (c : Pick) → found_on g v c ≡ nothing_at 0
+-- it finds no file there, in an epoch before the first
+abbrev pub IsNew : Counts → StoreView → Type 0
+IsNew g v = IsFresh the_server g 0 (λ u. None) v
 
 -- a server came up on this store
 pub record ComesUp (g : Counts) (v : StoreView) (w : ServerView) : Type 0 where
