@@ -649,3 +649,16 @@ fn told_to<S: Powered + Drop>(
     }
     Ok(storage)
 }
+
+/// The storage of a new server with so many pages, after these calls were done.
+fn new_told(
+    rt: &impl Abort,
+    alloc: Global,
+    counts: PageCounts,
+    calls: &[Call],
+) -> Result<Intents<Pairs<MemDisk>>, Fail>
+    ensures { IfOk result (λ storage. IsOn SERVER (⟦<Intents<Pairs<MemDisk>> as Storage>⟧.view storage)) }
+{
+    let disk = new_disk(rt, alloc, counts)?;
+    told_to(rt, alloc, disk, counts, calls)
+}

@@ -2,7 +2,7 @@
 ghost use Rattle.std.specs.Prelude.{◌<◌};
 
 use crate::tests::stops::stopped;
-use crate::tests::{COUNTS as FEW, Call, PAGES, Plan, STORIES, Story, new_disk, started, told_to};
+use crate::tests::{COUNTS as FEW, Call, PAGES, Plan, STORIES, Story, new_told, started};
 use jn_intent::PageCounts;
 use jn_memdisk::MemDisk;
 use std::alloc::Global;
@@ -65,8 +65,7 @@ fn calls_of(
     counts: PageCounts,
     calls: &[Call],
 ) -> Result<u64, Fail> {
-    let disk = new_disk(rt, alloc, counts)?;
-    let storage = told_to(rt, alloc, disk, counts, calls)?;
+    let storage = new_told(rt, alloc, counts, calls)?;
     let made = storage.into_store().into_inner().calls();
     // the first root is put before the load
     assert!(rt; made >= 4);

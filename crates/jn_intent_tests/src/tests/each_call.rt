@@ -5,7 +5,7 @@ ghost use Rattle.jn_intent_tests.specs.Trial.{IsOn, MayBegin};
 use crate::tests::used_up::small;
 use crate::tests::{
     BLOCK, COUNTS, FILE, NEXT_BLOCK, OTHER, SERVER, STORIES, arm_storage, block_letter, new_disk,
-    told_to,
+    new_told,
 };
 use jn_base::{FaultKind, FileNo, Outside, Short};
 use jn_intent::Intents;
@@ -21,13 +21,7 @@ use std::test::Fail;
 fn with_block(rt: &impl Abort, alloc: Global) -> Result<Intents<Pairs<MemDisk>>, Fail>
     ensures { IfOk result (λ storage. IsOn SERVER (⟦<Intents<Pairs<MemDisk>> as Storage>⟧.view storage)) }
 {
-    told_to(
-        rt,
-        alloc,
-        new_disk(rt, alloc, COUNTS)?,
-        COUNTS,
-        STORIES[0].calls,
-    )
+    new_told(rt, alloc, COUNTS, STORIES[0].calls)
 }
 
 /// The file is the one that there is, and has the one block.

@@ -6,7 +6,7 @@ ghost use Rattle.jn_intent_tests.specs.Trial.{MayBegin};
 
 use crate::tests::{
     COUNTS, PAGES, SERVER, STORIES, Story, arm_storage, arm_store, decay, do_call, finish, letters,
-    new_disk, power_on, recovered, revive, started, stop, taken_down, told_to,
+    new_told, power_on, recovered, revive, started, stop, taken_down,
 };
 use jn_memdisk::MemDisk;
 use jn_stable::Pairs;
@@ -90,8 +90,7 @@ pub(crate) fn stopped(
     ensures { IfOk result (λ store. MayBegin SERVER (⟦<Pairs<MemDisk> as StableStore>⟧.view store)) }
 {
     assert!(rt; at < story.calls.len());
-    let disk = new_disk(rt, alloc, COUNTS)?;
-    let mut storage = told_to(rt, alloc, disk, COUNTS, &story.calls[..at])?;
+    let mut storage = new_told(rt, alloc, COUNTS, &story.calls[..at])?;
     arm_storage(rt, &mut storage, n, stop(way));
     assert!(rt; !do_call(rt, alloc, &mut storage, story.calls[at]));
     let mut store = taken_down(rt, storage);

@@ -2,12 +2,13 @@
 ghost use Rattle.std.specs.Prelude.{IfOk};
 ghost use Rattle.jn_intent_tests.specs.Trial.{IsOn};
 
-use crate::tests::{Call, Plan, SERVER, STORIES, letters, new_disk, prepare, put_flag, told_to};
+use crate::tests::{Call, Plan, SERVER, STORIES, letters, new_told, prepare, put_flag};
 use jn_base::Short;
 use jn_intent::{Intents, PageCounts};
 use jn_memdisk::MemDisk;
 use jn_stable::Pairs;
-use jn_storage::{FlagStore, PrepareFault, PromiseFault, Storage};
+use jn_storage::{FlagStore, PrepareFault, PromiseFault, Storage, WorkStore};
+use jn_store::StableStore;
 use std::alloc::Global;
 use std::process::Abort;
 use std::test::Fail;
@@ -28,19 +29,60 @@ pub(crate) fn small(
         heads: 1,
         leaves: 1,
     };
-    told_to(rt, alloc, new_disk(rt, alloc, counts)?, counts, calls)
+    new_told(rt, alloc, counts, calls)
+}
+
+/// The plan can't be prepared, for this want.
+fn check_refused<W: WorkStore>(
+    rt: &impl Abort,
+    alloc: Global,
+    storage: &mut W,
+    plan: Plan,
+    fault: PrepareFault,
+)
+    requires { IsOn SERVER (W.view storage.old) }
+{
+    let answer = prepare(rt, alloc, storage, plan);
+    assert_eq!(rt; answer, Err(fault), "{plan:?}");
+}
+
+/// The same of a server whose file has its block.
+fn check_used_up<S: StableStore>(
+    rt: &impl Abort,
+    alloc: Global,
+    storage: &mut Intents<S>,
+    plan: Plan,
+    fault: PrepareFault,
+)
+    requires { IsOn SERVER (⟦<Intents<S> as Storage>⟧.view storage.old) }
+{
+    assert_eq!(rt; letters(rt, storage), *b"..eb");
+    check_refused(rt, alloc, storage, plan, fault);
+}
+
+/// A flag has its record.
+fn check_flag<F: FlagStore>(rt: &impl Abort, alloc: Global, storage: &mut F)
+    requires { IsOn SERVER (F.view storage.old) }
+{
+    let put = put_flag(rt, alloc, storage);
+    assert!(rt; put.is_ok());
+}
+
+#[test]
+fn a_pool_of_one_has_no_room_for_a_list(rt: HostRuntime) -> Result<(), Fail> {
+    let alloc = rt.alloc();
+    let mut storage = small(&rt, alloc, 1, &[])?;
+    let short = Short { free: 1, need: 3 };
+    let fault = PrepareFault::Records(short);
+    check_refused(&rt, alloc, &mut storage, Plan::MakeWithBlock, fault);
+    Ok(())
 }
 
 #[test]
 fn a_pool_of_one_has_room_for_a_flag(rt: HostRuntime) -> Result<(), Fail> {
     let alloc = rt.alloc();
     let mut storage = small(&rt, alloc, 1, &[])?;
-    let short = Short { free: 1, need: 3 };
-    let fault = Err(PrepareFault::Records(short));
-    let answer = prepare(&rt, alloc, &mut storage, Plan::MakeWithBlock);
-    assert_eq!(rt; answer, fault);
-    let mut storage = small(&rt, alloc, 1, &[])?;
-    assert!(rt; put_flag(&rt, alloc, &mut storage).is_ok());
+    check_flag(&rt, alloc, &mut storage);
     Ok(())
 }
 
@@ -61,9 +103,7 @@ fn a_head_and_a_data_page_are_used_up(rt: HostRuntime) -> Result<(), Fail> {
         (Plan::MakeOtherWithBlock, PrepareFault::Pages(NONE_FREE)),
     ] {
         let mut storage = small(&rt, alloc, 3, STORIES[0].calls)?;
-        assert_eq!(rt; letters(&rt, &mut storage), *b"..eb");
-        let answer = prepare(&rt, alloc, &mut storage, plan);
-        assert_eq!(rt; answer, Err(fault), "{plan:?}");
+        check_used_up(&rt, alloc, &mut storage, plan, fault);
     }
     Ok(())
 }
