@@ -4,3 +4,6 @@ mod Coordinating
 mod Stepping
 mod Restarted
 mod Serving
+mod Listed
+mod Pieces
+mod Shows

@@ -4,3 +4,5 @@ pub mod Handling
 pub mod Faults
 pub mod Restarting
 pub mod Befalling
+pub mod Showing
+pub mod Pieces

@@ -1,0 +1,267 @@
+-- Pieces of a show, one after another.
+use Rattle.std.proofs.Common.{◌≡◌, ◌≢◌, ◌⊎◌, inl, inr, ℕ, suc, ◌+◌, ◌*◌, ◌<◌, ◌≤◌, Bool, true, false, ◌&&◌, ◌||◌, List, [], ◌∷◌, ◌++◌, Option, Some, None, is_some, refl, sym, ◌∙◌, ap, subst, arith, true≢false, append_assoc}
+use Rattle.std.specs.Prelude.{nat_lt, length, map, Result, Ok, Err, is_ok, IfErr, OnOk}
+use Rattle.std.specs.Result.{IsErr, IsErrAnd}
+use Rattle.std.proofs.lemmas.Bool.Decides.{nat_tests}
+use Rattle.std.proofs.lemmas.List.{append-nil, map-append}
+use Rattle.jn_base.specs.declared.device.Stopped.{Stopped as Stop}
+use Rattle.jn_base.specs.declared.names.FileNo.{FileNo}
+use Rattle.jn_base.specs.declared.names.BlockNo.{BlockNo}
+use Rattle.jn_base.specs.declared.names.LockUnit.{LockUnit}
+use Rattle.jn_base.specs.declared.names.LockUnit.TheVariants.{File, Block}
+use Rattle.jn_base.specs.declared.names.Tid.{Tid}
+use Rattle.jn_base.specs.Names.{file_eq, block_eq}
+use Rattle.jn_base.proofs.Tells.{file_tells}
+use Rattle.jn_locks.specs.Locks.{unit_eq}
+use Rattle.jn_rows.specs.Stable.{StableState}
+use Rattle.jn_rows.specs.Worker.{commit_holder}
+use Rattle.jn_storage.specs.Listing.{IsListing, is_in}
+use Rattle.jn_storage.specs.Storage.{StorageView, is_stored}
+use Rattle.jn_storage.specs.Calls.{state, BlockRead}
+use Rattle.jn_storage.proofs.Laws.{storage_refl, storage_trans}
+use Rattle.jn_store.proofs.Laws.{stop_since}
+use Rattle.jn_protocol.specs.Printing.{Printed, print_unit, prints_in, print_one, print_blocks}
+use Rattle.jn_server.specs.declared.fault.ServerFault.{ServerFault}
+use Rattle.jn_server.specs.declared.fault.ServerFault.TheVariants.{Stopped, Memory as NoMemory}
+use Rattle.jn_server.specs.declared.show.Shown.{Shown}
+use Rattle.jn_server.specs.declared.show.Shown.TheVariants as shown
+use Rattle.jn_server.specs.Seen.{ServerView, IsServer}
+use Rattle.jn_server.specs.Showing.{print_of}
+use Rattle.jn_server.specs.Pieces.{one_if, count_of, is_at, is_of_first, is_of_lesser, to_print, name_if, block_at, blocks_below, prints_of_blocks, LooksOver, TellsPiece, CutsPiece}
+use Rattle.jn_server.proofs.Serving.{still-serves}
+
+-- ---- counts
+
+-- two tests of which one unit passes one at most
+abbrev pub Joins : (LockUnit → Bool) → (LockUnit → Bool) → (LockUnit → Bool) → Type 0
+Joins p q r = (u : LockUnit) → one_if (p u) + one_if (q u) ≤ one_if (r u)
+
+count-join : (p q r : LockUnit → Bool) → Joins p q r → (us : List LockUnit) → count_of p us + count_of q us ≤ count_of r us
+count-join p q r h [] = omega arith
+count-join p q r h (u ∷ us) = let a = h u in let b = count-join p q r h us in omega (arith, a, b)
+
+one-at-most : (b : Bool) → one_if b ≤ 1
+one-at-most true = omega arith
+one-at-most false = omega arith
+
+pub count-all : (p : LockUnit → Bool) (us : List LockUnit) → count_of p us ≤ length us
+count-all p [] = omega arith
+count-all p (u ∷ us) = let a = one-at-most (p u) in let b = count-all p us in omega (arith, a, b)
+
+count-in : (u : LockUnit) (us : List LockUnit) → is_in unit_eq u us ≡ true → 1 ≤ count_of (is_at u) us
+count-in u [] h = absurd (true≢false (sym h))
+count-in u (x ∷ us) h = by (unit_eq x u) h (count-in u us)
+  where
+    by : (b : Bool) → (b || is_in unit_eq u us) ≡ true → (is_in unit_eq u us ≡ true → 1 ≤ count_of (is_at u) us) → 1 ≤ one_if b + count_of (is_at u) us
+    by true e on = omega arith
+    by false e on = let k = on e in omega (arith, k)
+
+pub blocks-join : (f : FileNo) (n : ℕ) → Joins (is_of_first f n) (is_at (Block f (block_at n))) (is_of_first f (n + 1))
+blocks-join f n (File g) = omega arith
+blocks-join f n (Block g p) = by (file_eq g f)
+  where
+    one : (m : ℕ) → one_if (nat_lt m n) + one_if (block_eq (record { 0 = m }) (block_at n)) ≤ one_if (nat_lt m (n + 1))
+    one m = grind (arith, nat_tests)
+
+    by : (b : Bool) → one_if (b && nat_lt p.0 n) + one_if (b && block_eq p (block_at n)) ≤ one_if (b && nat_lt p.0 (n + 1))
+    by true = one p.0
+    by false = omega arith
+
+pub files-join : (n : ℕ) (f : FileNo) → n ≤ f.0 → Joins (is_of_lesser n) (is_of_first f 120) (is_of_lesser (f.0 + 1))
+files-join n f le (File g) = one g.0
+  where
+    one : (m : ℕ) → one_if (nat_lt m n) + 0 ≤ one_if (nat_lt m (f.0 + 1))
+    one m = grind (arith, nat_tests, le)
+files-join n f le (Block g p) = by (nat_lt p.0 120) (file_tells g f)
+  where
+    here : (b : Bool) → one_if (nat_lt f.0 n) + one_if (true && b) ≤ one_if (nat_lt f.0 (f.0 + 1))
+    here b = grind (arith, nat_tests, le, one-at-most b)
+
+    apart : (m : ℕ) (b : Bool) → one_if (nat_lt m n) + one_if (false && b) ≤ one_if (nat_lt m (f.0 + 1))
+    apart m b = grind (arith, nat_tests, le)
+
+    by : (b : Bool) → ((file_eq g f ≡ true) × (g ≡ f)) ⊎ ((file_eq g f ≡ false) × (g ≢ f)) → one_if (nat_lt g.0 n) + one_if (file_eq g f && b) ≤ one_if (nat_lt g.0 (f.0 + 1))
+    by b (inl t) = subst (λ (c : Bool). one_if (nat_lt g.0 n) + one_if (c && b) ≤ one_if (nat_lt g.0 (f.0 + 1))) (sym t.0)
+        (subst (λ (h : FileNo). one_if (nat_lt h.0 n) + one_if (true && b) ≤ one_if (nat_lt h.0 (f.0 + 1))) (sym t.1) (here b))
+    by b (inr t) = subst (λ (c : Bool). one_if (nat_lt g.0 n) + one_if (c && b) ≤ one_if (nat_lt g.0 (f.0 + 1))) (sym t.0) (apart g.0 b)
+
+-- ---- what pieces look at
+
+module _ (p : LockUnit → Bool) where
+  pub looks-same : (v : ServerView) → IsServer v → LooksOver p v v
+  looks-same v serves = record { found = serves.works.serving.up; later = storage_refl v.storage; calls = λ blocks h. omega arith; tables = refl }
+
+  pub same-state : (v w : ServerView) → LooksOver p v w → state w.storage ≡ state v.storage
+  same-state v w f = f.found (λ n. false)
+
+  pub same-prints : (v w : ServerView) → LooksOver p v w → to_print w ≡ to_print v
+  same-prints v w f = ap (λ (y : ServerView). prints_in y.worker.table (state w.storage).files) f.tables ∙ ap (λ (s : StableState). prints_in v.worker.table s.files) (same-state v w f)
+
+  -- a piece that reads nothing
+  pub tells-nothing : (v : ServerView) → IsServer v → (old : List Shown) → TellsPiece p v old [] v old
+  tells-nothing v serves old = record { looks = looks-same v serves; told = sym (append-nil (map print_of old)); accounts = refl; serves = serves; no_stop = refl }
+
+  pub tells-one : (v : ServerView) → IsServer v → (old : List Shown) (x : Shown) (new : List Shown) → new ≡ old ++ x ∷ [] → TellsPiece p v old (print_of x ∷ []) v new
+  tells-one v serves old x new e = record { looks = looks-same v serves; told = ap (map print_of) e ∙ map-append print_of old (x ∷ []); accounts = refl; serves = serves; no_stop = refl }
+
+module _ (p q r : LockUnit → Bool) (join : Joins p q r) where
+  pub looks-then : (v w x : ServerView) → LooksOver p v w → LooksOver q w x → LooksOver r v x
+  looks-then v w x f g = record {
+    found = λ c. g.found c ∙ same-state p v w f;
+    later = storage_trans v.storage w.storage x.storage f.later g.later;
+    calls = λ blocks h.
+        let a = f.calls blocks h in
+        let b = g.calls blocks (subst (λ (s : StableState). IsListing unit_eq (is_stored s.files) blocks) (sym (same-state p v w f)) h) in
+        let k = count-join p q r join blocks in
+        omega (arith, a, b, k);
+    tables = g.tables ∙ ap (λ (y : ServerView). record y { storage = x.storage }) f.tables;
+  }
+
+  pub tells-then : (v : ServerView) (old : List Shown) (a : List Printed) (w : ServerView) (mid : List Shown) (b : List Printed) (x : ServerView) (new : List Shown)
+      → TellsPiece p v old a w mid → TellsPiece q w mid b x new → TellsPiece r v old (a ++ b) x new
+  tells-then v old a w mid b x new f g = record {
+    looks = looks-then v w x f.looks g.looks;
+    told = g.told ∙ ap (λ (l : List Printed). l ++ b) f.told ∙ append_assoc (map print_of old) a b;
+    accounts = g.accounts ∙ f.accounts;
+    serves = g.serves;
+    no_stop = g.no_stop ∙ f.no_stop;
+  }
+
+  pub cut-then : (v : ServerView) (old : List Shown) (a : List Printed) (w : ServerView) (mid : List Shown) (x : ServerView)
+      → TellsPiece p v old a w mid → (fault : ServerFault) → CutsPiece fault q w x → CutsPiece fault r v x
+  cut-then v old a w mid x f Stopped g = record {
+    looks = looks-then v w x f.looks g.looks;
+    stop = stop_since v.storage.store w.storage.store x.storage.store f.looks.later.store g.looks.later.store g.stop;
+  }
+  cut-then v old a w mid x f NoMemory g = tt
+
+-- an error tells nothing
+pub no-show : {A E : Type 0} (P : Type 0) (answer : Result A E) → IsErr answer → OnOk answer P
+no-show P (Ok x) h = absurd (cc h)
+no-show P (Err e) h = tt
+
+pub on-ok : {A E : Type 0} (P Q : Type 0) (answer : Result A E) → OnOk answer P → (P → Q) → OnOk answer Q
+on-ok P Q (Ok x) h f = f h
+on-ok P Q (Err e) h f = tt
+
+pub ok-with : {A E : Type 0} (answer : Result A E) (x y : A) → answer ≡ Ok x → x ≡ y → answer ≡ Ok y
+ok-with answer x y h e = cc
+
+pub not-ok : {A E : Type 0} (answer : Result A E) (e : E) → answer ≡ Err e → is_ok answer ≡ false
+not-ok answer e h = ap is_ok h
+
+-- a fault that is handed on
+pub handed-on : {A : Type 0} (test : LockUnit → Bool) (v w : ServerView) (fault : ServerFault) (answer : Result A ServerFault) → IsErr answer → IsErrAnd answer (λ e. e ≡ fault) → CutsPiece fault test v w → IfErr answer (λ e. CutsPiece e test v w)
+handed-on test v w fault (Ok x) h is k = tt
+handed-on test v w fault (Err e) h is k = subst (λ (z : ServerFault). CutsPiece z test v w) (sym is) k
+
+-- without memory
+pub no-memory : {A : Type 0} (test : LockUnit → Bool) (v w : ServerView) (answer : Result A ServerFault) → IsErr answer → IsErrAnd answer (λ e. e ≡ NoMemory) → IfErr answer (λ fault. CutsPiece fault test v w)
+no-memory test v w (Ok x) h is = tt
+no-memory test v w (Err e) h is = subst (λ (z : ServerFault). CutsPiece z test v w) (sym is) tt
+
+-- ---- a block
+
+module _ (v w : ServerView) (serves : IsServer v) (f : FileNo) (p : BlockNo) (answer : Result (Option (List ℕ)) Stop) (h : BlockRead v.storage f p answer w.storage)
+    (unasked : (state v.storage).files (Block f p) ≡ None → w.storage ≡ v.storage) (tables : w ≡ record v { storage = w.storage }) where
+  read-looks : LooksOver (is_at (Block f p)) v w
+  read-looks = record {
+    found = h.unchanged;
+    later = h.called.later;
+    calls = λ blocks l. by blocks l ((state v.storage).files (Block f p)) refl;
+    tables = tables;
+  }
+    where
+      by : (blocks : List LockUnit) → IsListing unit_eq (is_stored (state v.storage).files) blocks → (o : Option (List ℕ)) → (state v.storage).files (Block f p) ≡ o
+          → w.storage.store.calls ≤ v.storage.store.calls + 24 * count_of (is_at (Block f p)) blocks
+      by blocks l None e = let same : w.storage.store.calls ≡ v.storage.store.calls = ap (λ (s : StorageView). s.store.calls) (unasked e) in omega (arith, same)
+      by blocks l (Some x) e = let k = count-in (Block f p) blocks (l.all (Block f p) ∙ ap is_some e) in let c = h.called.calls in omega (arith, k, c)
+
+  read-serves : is_ok answer ≡ true → IsServer w
+  read-serves e = subst IsServer (sym tables) (still-serves v w.storage (h.unchanged (λ n. false)) (h.same e) (h.called.serving e) serves)
+
+  -- the block is stored, or it isn't
+  pub tells-page : (bytes : List ℕ) → answer ≡ Ok (Some bytes) → commit_holder (Block f p) v.worker.table ≡ None → (old new : List Shown) → new ≡ old ++ shown.Page f p bytes ∷ []
+      → TellsPiece (is_at (Block f p)) v old (print_one (to_print v (Block f p))) w new
+  tells-page bytes is free old new e = record {
+    looks = read-looks;
+    told = ap (map print_of) e ∙ map-append print_of old (shown.Page f p bytes ∷ []) ∙ ap (λ (o : Option Printed). map print_of old ++ print_one o) (sym (ap (λ (o : Option Tid). print_unit (Block f p) o ((state v.storage).files (Block f p))) free ∙ ap (print_unit (Block f p) None) (sym (h.found (Some bytes) is))));
+    accounts = h.same (ap is_ok is);
+    serves = read-serves (ap is_ok is);
+    no_stop = h.called.no_stop (ap is_ok is);
+  }
+
+  pub tells-no-page : answer ≡ Ok None → commit_holder (Block f p) v.worker.table ≡ None → (old : List Shown)
+      → TellsPiece (is_at (Block f p)) v old (print_one (to_print v (Block f p))) w old
+  tells-no-page is free old = record {
+    looks = read-looks;
+    told = sym (append-nil (map print_of old)) ∙ ap (λ (o : Option Printed). map print_of old ++ print_one o) (sym (ap (λ (o : Option Tid). print_unit (Block f p) o ((state v.storage).files (Block f p))) free ∙ ap (print_unit (Block f p) None) (sym (h.found None is))));
+    accounts = h.same (ap is_ok is);
+    serves = read-serves (ap is_ok is);
+    no_stop = h.called.no_stop (ap is_ok is);
+  }
+
+  pub read-cut : {A : Type 0} (result : Result A ServerFault) → is_ok answer ≡ false → IsErr result → IsErrAnd result (λ e. e ≡ Stopped) → IfErr result (λ fault. CutsPiece fault (is_at (Block f p)) v w)
+  read-cut (Ok x) stops e is = tt
+  read-cut (Err z) stops e is = subst (λ (y : ServerFault). CutsPiece y (is_at (Block f p)) v w) (sym is) (record { looks = read-looks; stop = h.called.stop stops })
+
+-- a unit that is held for commit
+pub tells-locked : (test : LockUnit → Bool) (v : ServerView) → IsServer v → (u : LockUnit) (T : Tid) → commit_holder u v.worker.table ≡ Some T → (old new : List Shown) → new ≡ old ++ shown.Locked u T ∷ []
+    → TellsPiece test v old (print_one (to_print v u)) v new
+tells-locked test v serves u T held old new e = subst (λ (o : Option Tid). TellsPiece test v old (print_one (print_unit u o ((state v.storage).files u))) v new) (sym held) (tells-one test v serves old (shown.Locked u T) new e)
+
+-- ---- blocks
+
+print_blocks-append : (prints : LockUnit → Option Printed) (f : FileNo) (xs ys : List BlockNo) → print_blocks prints f (xs ++ ys) ≡ print_blocks prints f xs ++ print_blocks prints f ys
+print_blocks-append prints f [] ys = refl
+print_blocks-append prints f (x ∷ xs) ys = ap (λ (l : List Printed). print_one (prints (Block f x)) ++ l) (print_blocks-append prints f xs ys) ∙ sym (append_assoc (print_one (prints (Block f x))) (print_blocks prints f xs) (print_blocks prints f ys))
+
+named-print : (prints : LockUnit → Option Printed) (f : FileNo) (p : BlockNo) → print_blocks prints f (name_if p (prints (Block f p))) ≡ print_one (prints (Block f p))
+named-print prints f p = by (prints (Block f p)) refl
+  where
+    by : (o : Option Printed) → prints (Block f p) ≡ o → print_blocks prints f (name_if p o) ≡ print_one o
+    by None e = refl
+    by (Some x) e = append-nil (print_one (prints (Block f p))) ∙ ap print_one e
+
+no-blocks : (prints : LockUnit → Option Printed) (f : FileNo) → prints_of_blocks prints f 0 ≡ []
+unfolding blocks_below
+no-blocks prints f = refl
+
+more-blocks : (prints : LockUnit → Option Printed) (f : FileNo) (n : ℕ) → prints_of_blocks prints f (suc n) ≡ prints_of_blocks prints f n ++ print_one (prints (Block f (block_at n)))
+unfolding blocks_below
+more-blocks prints f n = print_blocks-append prints f (blocks_below (λ p. prints (Block f p)) n) (name_if (block_at n) (prints (Block f (block_at n)))) ∙ ap (λ (l : List Printed). prints_of_blocks prints f n ++ l) (named-print prints f (block_at n))
+
+pub next-number : (n : ℕ) → suc n ≡ n + 1
+next-number n = omega arith
+
+pub tells-no-blocks : (f : FileNo) (v : ServerView) → IsServer v → (old : List Shown) → TellsPiece (is_of_first f 0) v old (prints_of_blocks (to_print v) f 0) v old
+tells-no-blocks f v serves old = subst (λ (l : List Printed). TellsPiece (is_of_first f 0) v old l v old) (sym (no-blocks (to_print v) f)) (tells-nothing (is_of_first f 0) v serves old)
+
+pub tells-more-blocks : (f : FileNo) (n : ℕ) (v : ServerView) (old : List Shown) (w : ServerView) (mid : List Shown) (x : ServerView) (new : List Shown)
+    → TellsPiece (is_of_first f n) v old (prints_of_blocks (to_print v) f n) w mid
+    → TellsPiece (is_at (Block f (block_at n))) w mid (print_one (to_print w (Block f (block_at n)))) x new
+    → TellsPiece (is_of_first f (n + 1)) v old (prints_of_blocks (to_print v) f (n + 1)) x new
+tells-more-blocks f n v old w mid x new h k =
+    let here : LockUnit = Block f (block_at n) in
+    subst (λ (l : List Printed). TellsPiece (is_of_first f (n + 1)) v old l x new) (sym (more-blocks (to_print v) f n) ∙ ap (prints_of_blocks (to_print v) f) (next-number n))
+    (tells-then (is_of_first f n) (is_at here) (is_of_first f (n + 1)) (blocks-join f n) v old (prints_of_blocks (to_print v) f n) w mid (print_one (to_print v here)) x new h
+    (subst (λ (prints : LockUnit → Option Printed). TellsPiece (is_at here) w mid (print_one (prints here)) x new) (same-prints (is_of_first f n) v w h.looks) k))
+
+-- fewer blocks
+wider : (f : FileNo) (n m : ℕ) → n ≤ m → (u : LockUnit) → one_if (is_of_first f n u) ≤ one_if (is_of_first f m u)
+wider f n m le (File g) = omega arith
+wider f n m le (Block g p) = by (file_eq g f)
+  where
+    one : (k : ℕ) → one_if (nat_lt k n) ≤ one_if (nat_lt k m)
+    one k = grind (arith, nat_tests, le)
+
+    by : (b : Bool) → one_if (b && nat_lt p.0 n) ≤ one_if (b && nat_lt p.0 m)
+    by true = one p.0
+    by false = omega arith
+
+pub cut-blocks : (f : FileNo) (n : ℕ) → n < 120 → (v : ServerView) (old : List Shown) (a : List Printed) (w : ServerView) (mid : List Shown) (x : ServerView) (fault : ServerFault)
+    → TellsPiece (is_of_first f n) v old a w mid → CutsPiece fault (is_at (Block f (block_at n))) w x → CutsPiece fault (is_of_first f 120) v x
+cut-blocks f n below v old a w mid x fault h k = cut-then (is_of_first f n) (is_at (Block f (block_at n))) (is_of_first f 120) join v old a w mid x h fault k
+  where
+    join : Joins (is_of_first f n) (is_at (Block f (block_at n))) (is_of_first f 120)
+    join u = let b = blocks-join f n u in let c = wider f (n + 1) 120 (omega arith) u in omega (arith, b, c)

@@ -1,0 +1,26 @@
+use Rattle.std.proofs.Common.{sym, ◌∙◌}
+use Rattle.jn_store.specs.Store.{StoreView}
+use Rattle.jn_server.specs.Pieces.{is_of_first, to_print, prints_of_file, TellsPiece}
+use Rattle.jn_server.specs.Seen.{ServerView, view_with}
+use Rattle.jn_server.proofs.Pieces.{no-memory, no-show}
+use Rattle.jn_server.proofs.Shows.{tells-locked-file}
+use Rattle.jn_server.proofs.server.Server.show_file.Goals as goal
+
+pub returns-in-Some : goal.returns-in-Some
+returns-in-Some g c =
+    let look : g.row.S.Denot → StoreView = λ s. g.S.StableStore.view s in
+    let v : ServerView = view_with look c.args.self.now in
+    record {
+      shown = tells-locked-file v c.requires.serves c.args.file c.in-Some.tid (sym c.holder.ensures ∙ c.in-Some.is) c.args.list.now.items c.tell.new.list.items c.in_ok-tell.ensures;
+      cut = tt;
+    }
+
+pub returns-in_err-tell : goal.returns-in_err-tell
+returns-in_err-tell g c =
+    let look : g.row.S.Denot → StoreView = λ s. g.S.StableStore.view s in
+    let v : ServerView = view_with look c.args.self.now in
+    let f = c.args.file in
+    record {
+      shown = no-show (TellsPiece (is_of_first f 120) v c.args.list.now.items (prints_of_file (to_print v) f) v c.tell.new.list.items) c.from_residual.result c.from_residual.ensures.0;
+      cut = no-memory (is_of_first f 120) v v c.from_residual.result c.from_residual.ensures.0 c.from_residual.ensures.1;
+    }

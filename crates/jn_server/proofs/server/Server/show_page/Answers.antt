@@ -1,0 +1,48 @@
+use Rattle.std.proofs.Common.{Some, None}
+use Rattle.jn_base.specs.declared.names.LockUnit.TheVariants.{Block}
+use Rattle.jn_store.specs.Store.{StoreView}
+use Rattle.jn_server.specs.Pieces.{is_at, to_print, TellsPiece}
+use Rattle.jn_server.specs.Seen.{ServerView, view_with}
+use Rattle.jn_protocol.specs.Printing.{print_one}
+use Rattle.jn_server.proofs.Pieces.{ok-with, not-ok, tells-page, tells-no-page, read-cut, no-memory, no-show}
+use Rattle.jn_server.proofs.server.Server.show_page.Goals as goal
+
+pub returns : goal.returns
+returns g c =
+    let look : g.row.S.Denot → StoreView = λ s. g.S.StableStore.view s in
+    let v : ServerView = view_with look c.args.self.now in
+    let w : ServerView = view_with look c.read.new.self in
+    record {
+      shown = tells-page v w c.requires.serves c.args.file c.args.block c.read.result c.read.ensures.read c.read.ensures.unasked c.read.ensures.tables c.in-Some.bytes
+          (ok-with c.read.result c.in_ok-bytes.field-0 (Some c.in-Some.bytes) c.in_ok-bytes.was c.in-Some.is) c.requires.free c.args.list.now.items c.tell.new.list.items c.in_ok-tell.ensures;
+      cut = tt;
+    }
+
+pub returns-in_default : goal.returns-in_default
+returns-in_default g c =
+    let look : g.row.S.Denot → StoreView = λ s. g.S.StableStore.view s in
+    let v : ServerView = view_with look c.args.self.now in
+    let w : ServerView = view_with look c.read.new.self in
+    record {
+      shown = tells-no-page v w c.requires.serves c.args.file c.args.block c.read.result c.read.ensures.read c.read.ensures.unasked c.read.ensures.tables
+          (ok-with c.read.result c.in_ok-bytes.field-0 None c.in_ok-bytes.was c.in_default.is) c.requires.free c.args.list.now.items;
+      cut = tt;
+    }
+
+pub returns-in_err-tell : goal.returns-in_err-tell
+returns-in_err-tell g c =
+    let look : g.row.S.Denot → StoreView = λ s. g.S.StableStore.view s in
+    let v : ServerView = view_with look c.args.self.now in
+    let w : ServerView = view_with look c.read.new.self in
+    let here = Block c.args.file c.args.block in
+    record {
+      shown = no-show (TellsPiece (is_at here) v c.args.list.now.items (print_one (to_print v here)) w c.tell.new.list.items) c.from_residual-in_err-tell.result c.from_residual-in_err-tell.ensures.0;
+      cut = no-memory (is_at here) v w c.from_residual-in_err-tell.result c.from_residual-in_err-tell.ensures.0 c.from_residual-in_err-tell.ensures.1;
+    }
+
+pub returns-in_err-bytes-clause-cut : goal.returns-in_err-bytes-clause-cut
+returns-in_err-bytes-clause-cut g c =
+    let look : g.row.S.Denot → StoreView = λ s. g.S.StableStore.view s in
+    let v : ServerView = view_with look c.args.self.now in
+    let w : ServerView = view_with look c.read.new.self in
+    read-cut v w c.requires.serves c.args.file c.args.block c.read.result c.read.ensures.read c.read.ensures.unasked c.read.ensures.tables c.from_residual.result (not-ok c.read.result c.in_err-bytes.field-0.0 c.in_err-bytes.was) c.from_residual.ensures.0 c.from_residual.ensures.1

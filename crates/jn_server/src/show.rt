@@ -1,0 +1,172 @@
+//! What a server shows of its files.
+ghost use Rattle.std.specs.Prelude.{◌≡◌, ◌<◌, [], ◌∷◌, ◌++◌, is_some, true, None, Ok, OnOk, IfOk, IfErr};
+ghost use Rattle.jn_base.specs.declared.names.LockUnit.TheVariants.{File, Block as BlockUnit};
+ghost use Rattle.jn_protocol.specs.Printing.{print_one};
+ghost use Rattle.jn_recovery.specs.Memory.{view_of};
+ghost use Rattle.jn_rows.specs.Worker.{commit_holder};
+ghost use Rattle.jn_server.specs.Pieces.{is_at, is_of_first, to_print, prints_of_blocks, prints_of_file, number_after, NextShown, TellsPiece, CutsPiece};
+ghost use Rattle.jn_server.specs.Seen.{view_with, IsServer};
+ghost use Rattle.jn_server.specs.Showing.{IsShown, CutsShort};
+ghost use Rattle.jn_storage.specs.Calls.{state, BlockRead};
+ghost use Rattle.jn_works.specs.Locked.{lesser};
+
+use crate::fault::ServerFault;
+use crate::server::Server;
+use jn_base::{Block, BlockNo, FileNo, LockUnit, Stopped, Tid};
+use jn_storage::StoredFiles;
+use jn_store::StableStore;
+use std::alloc::{AllocError, Global};
+
+/// What is told of a file or a block.
+#[derive(Clone, Copy, Debug, PartialEq, Eq, Drop)]
+pub enum Shown {
+    /// The file is there.
+    File(FileNo),
+    /// A prepared work of the transaction holds the file or the block for commit.
+    Locked(LockUnit, Tid),
+    /// The block is stored, with these bytes.
+    Page(FileNo, BlockNo, Block),
+}
+
+impl<S: StableStore> Server<S> {
+    /// Tells of the files, in rising order: one that a prepared work holds for commit is told as locked, alone; any other that is
+    /// there with its blocks after it, each as locked or as it is stored. A show that is stopped tells nothing. Each stored block is
+    /// read once.
+    pub fn show(&mut self, alloc: Global) -> Result<Vec<Shown>, ServerFault>
+        requires serves { IsServer (view_with (λ s. S.view s) self.old) }
+        ensures shown { IfOk result (λ list. IsShown (view_with (λ s. S.view s) self.old) list.items (view_with (λ s. S.view s) self.new)) }
+        ensures cut_short { IfErr result (λ fault. CutsShort fault (view_with (λ s. S.view s) self.old) (view_with (λ s. S.view s) self.new)) }
+    {
+        let mut list = Vec::new(alloc);
+        let mut after = None;
+        while let Some(file) = self.next_shown(after) {
+            self.show_file(file, &mut list)?;
+            after = Some(file);
+        }
+        Ok(list)
+    }
+
+    /// The least file above `after` that is there or held for commit.
+    fn next_shown(&self, after: Option<FileNo>) -> Option<FileNo>
+        requires serves { IsServer (view_with (λ s. S.view s) self.now) }
+        ensures { NextShown (λ f. is_some (to_print (view_with (λ s. S.view s) self.now) (File f))) (number_after after) result }
+    {
+        let stored = self.storage.next_file(after);
+        let locked = self.worker.next_locked(after);
+        lesser(stored, locked)
+    }
+
+    /// The file is there or held for commit.
+    fn show_file(&mut self, file: FileNo, list: &mut Vec<Shown>) -> Result<(), ServerFault>
+        requires serves { IsServer (view_with (λ s. S.view s) self.old) }
+        requires there { is_some (to_print (view_with (λ s. S.view s) self.old) (File file)) ≡ true }
+        ensures shown { let v = view_with (λ s. S.view s) self.old in OnOk result (TellsPiece (is_of_first file 120) v list.old.items (prints_of_file (to_print v) file) (view_with (λ s. S.view s) self.new) list.new.items) }
+        ensures cut { IfErr result (λ fault. CutsPiece fault (is_of_first file 120) (view_with (λ s. S.view s) self.old) (view_with (λ s. S.view s) self.new)) }
+    {
+        let unit = LockUnit::File(file);
+        if let Some(tid) = self.holder(unit) {
+            tell(list, Shown::Locked(unit, tid))?;
+            return Ok(());
+        }
+        self.show_stored(file, list)
+    }
+
+    /// The file is there and isn't held for commit.
+    fn show_stored(&mut self, file: FileNo, list: &mut Vec<Shown>) -> Result<(), ServerFault>
+        requires serves { IsServer (view_with (λ s. S.view s) self.old) }
+        requires there { is_some (to_print (view_with (λ s. S.view s) self.old) (File file)) ≡ true }
+        requires free { commit_holder (File file) self.old.worker.table ≡ None }
+        ensures shown { let v = view_with (λ s. S.view s) self.old in OnOk result (TellsPiece (is_of_first file 120) v list.old.items (prints_of_file (to_print v) file) (view_with (λ s. S.view s) self.new) list.new.items) }
+        ensures cut { IfErr result (λ fault. CutsPiece fault (is_of_first file 120) (view_with (λ s. S.view s) self.old) (view_with (λ s. S.view s) self.new)) }
+    {
+        tell(list, Shown::File(file))?;
+        self.show_blocks(file, list)
+    }
+
+    fn show_blocks(&mut self, file: FileNo, list: &mut Vec<Shown>) -> Result<(), ServerFault>
+        requires serves { IsServer (view_with (λ s. S.view s) self.old) }
+        ensures shown { let v = view_with (λ s. S.view s) self.old in OnOk result (TellsPiece (is_of_first file 120) v list.old.items (prints_of_blocks (to_print v) file 120) (view_with (λ s. S.view s) self.new) list.new.items) }
+        ensures cut { IfErr result (λ fault. CutsPiece fault (is_of_first file 120) (view_with (λ s. S.view s) self.old) (view_with (λ s. S.view s) self.new)) }
+    {
+        for block in 0..120 {
+            self.show_block(file, BlockNo(block), list)?;
+        }
+        Ok(())
+    }
+
+    fn show_block(
+        &mut self,
+        file: FileNo,
+        block: BlockNo,
+        list: &mut Vec<Shown>,
+    ) -> Result<(), ServerFault>
+        requires serves { IsServer (view_with (λ s. S.view s) self.old) }
+        requires range { block.0 < 120 }
+        ensures shown { let v = view_with (λ s. S.view s) self.old in OnOk result (TellsPiece (is_at (BlockUnit file block)) v list.old.items (print_one (to_print v (BlockUnit file block))) (view_with (λ s. S.view s) self.new) list.new.items) }
+        ensures cut { IfErr result (λ fault. CutsPiece fault (is_at (BlockUnit file block)) (view_with (λ s. S.view s) self.old) (view_with (λ s. S.view s) self.new)) }
+    {
+        let unit = LockUnit::Block(file, block);
+        if let Some(tid) = self.holder(unit) {
+            tell(list, Shown::Locked(unit, tid))?;
+            return Ok(());
+        }
+        self.show_page(file, block, list)
+    }
+
+    /// The block isn't held for commit.
+    fn show_page(
+        &mut self,
+        file: FileNo,
+        block: BlockNo,
+        list: &mut Vec<Shown>,
+    ) -> Result<(), ServerFault>
+        requires serves { IsServer (view_with (λ s. S.view s) self.old) }
+        requires range { block.0 < 120 }
+        requires free { commit_holder (BlockUnit file block) self.old.worker.table ≡ None }
+        ensures shown { let v = view_with (λ s. S.view s) self.old in OnOk result (TellsPiece (is_at (BlockUnit file block)) v list.old.items (print_one (to_print v (BlockUnit file block))) (view_with (λ s. S.view s) self.new) list.new.items) }
+        ensures cut { IfErr result (λ fault. CutsPiece fault (is_at (BlockUnit file block)) (view_with (λ s. S.view s) self.old) (view_with (λ s. S.view s) self.new)) }
+    {
+        let Some(bytes) = self.read(file, block)? else {
+            return Ok(());
+        };
+        tell(list, Shown::Page(file, block, bytes))?;
+        Ok(())
+    }
+
+    /// The transaction that holds the unit for commit.
+    fn holder(&self, unit: LockUnit) -> Option<Tid>
+        ensures { result ≡ commit_holder unit self.now.worker.table }
+    {
+        self.worker.view(unit)
+    }
+
+    /// The block, where it is stored.
+    fn read(&mut self, file: FileNo, block: BlockNo) -> Result<Option<Block>, Stopped>
+        requires serves { IsServer (view_with (λ s. S.view s) self.old) }
+        requires range { block.0 < 120 }
+        ensures read { BlockRead (view_with (λ s. S.view s) self.old).storage file block result (view_with (λ s. S.view s) self.new).storage }
+        ensures unasked { (state (view_with (λ s. S.view s) self.old).storage).files (BlockUnit file block) ≡ None → (view_with (λ s. S.view s) self.new).storage ≡ (view_with (λ s. S.view s) self.old).storage }
+        ensures tables { view_with (λ s. S.view s) self.new ≡ record (view_with (λ s. S.view s) self.old) { storage = (view_with (λ s. S.view s) self.new).storage } }
+    {
+        self.storage.read_block(file, block)
+    }
+}
+
+/// The lesser of two files.
+fn lesser(a: Option<FileNo>, b: Option<FileNo>) -> Option<FileNo>
+    ensures { result ≡ lesser a b }
+{
+    match (a, b) {
+        (Some(f), Some(g)) => Some(if g.0 < f.0 { g } else { f }),
+        (Some(f), None) => Some(f),
+        (None, g) => g,
+    }
+}
+
+/// Adds one to the list.
+fn tell(list: &mut Vec<Shown>, shown: Shown) -> Result<(), AllocError>
+    ensures { OnOk result (list.new.items ≡ list.old.items ++ shown ∷ []) }
+{
+    list.push(shown)?;
+    Ok(())
+}
