@@ -3,8 +3,6 @@
 
 mod client;
 mod copies;
-#[cfg(test)]
-mod tests;
 mod words;
 
 pub use client::Client;

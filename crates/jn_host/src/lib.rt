@@ -16,8 +16,6 @@ mod memory_keeper;
 mod memory_sink;
 mod memory_source;
 mod standard;
-#[cfg(test)]
-mod tests;
 
 pub use file_keeper::{FileKeeper, MOST_LOADED};
 pub use memory_keeper::MemoryKeeper;

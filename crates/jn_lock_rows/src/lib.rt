@@ -9,8 +9,6 @@ mod breaks;
 mod finding;
 mod grants;
 mod laws;
-#[cfg(test)]
-mod tests;
 mod wants;
 
 pub use breaks::{break_works, note_breaks};

@@ -3,8 +3,6 @@
 
 mod message;
 mod out;
-#[cfg(test)]
-mod tests;
 mod works;
 
 pub use message::{Message, Note, Outcome, Vote};

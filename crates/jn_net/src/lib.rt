@@ -6,9 +6,6 @@ ghost use Rattle.std.specs.Option.{option_copied};
 ghost use Rattle.jn_net.specs.declared.SendFault.TheVariants.{Limit};
 ghost use Rattle.jn_net.specs.Cursor.{NoneWaits, waits_at};
 
-#[cfg(test)]
-mod tests;
-
 use jn_base::Party;
 use jn_msgs::Message;
 use std::alloc::{AllocFailed, Global};

@@ -1,5 +1,7 @@
-//! Tests of stable pages over a disk in memory: a put and a cleanup, stopped at each device call.
+//! Tests of pages: a plain list of pages, and stable pages over a disk in memory, stopped at each device call.
 #![tactic(auto)]
 
 #[cfg(test)]
-mod tests;
+mod plain;
+#[cfg(test)]
+mod stops;

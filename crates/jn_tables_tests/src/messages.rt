@@ -1,7 +1,7 @@
 //! The lists of a step, and a message's works.
 
-use super::*;
 use jn_base::{ClientNo, MsgKind, Party, ServerNo, Tid, WorkId};
+use jn_msgs::{Message, Note, Out, Outcome, Works};
 use std::test::Fail;
 
 const TID: Tid = Tid {

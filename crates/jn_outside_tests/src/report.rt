@@ -1,7 +1,9 @@
-use crate::{EventRefusal, Line, Refusal, Text, When, push_line};
+//! The lines of a report.
+
 use jn_base::{
     BlockNo, Cause, ClientNo, FaultKind, FileNo, LockUnit, MsgKind, Outside, Party, ServerNo, Tid,
 };
+use jn_report::{EventRefusal, Line, Refusal, Text, When, push_line};
 use std::test::Fail;
 
 const FIRST: Tid = Tid {

@@ -1,7 +1,7 @@
 //! What operations want, and units put in their places.
 
-use super::*;
 use jn_base::{BlockContent, BlockNo, FileNo, LockUnit, Op};
+use jn_lock_rows::{operation_wants, units_with};
 use jn_locks::{Mode, Want};
 use std::test::Fail;
 

@@ -1,4 +1,6 @@
-use crate::{push_hex, push_number, read_hex, read_number};
+//! Numbers and bytes as they are spelled.
+
+use jn_text::{push_hex, push_number, read_hex, read_number};
 use std::test::Fail;
 
 #[test]

@@ -1,8 +1,8 @@
 //! Messages that are sent, delivered in any order and forgotten.
 
-use super::*;
-use jn_base::{ClientNo, ServerNo};
+use jn_base::{ClientNo, Party, ServerNo};
 use jn_msgs::Message;
+use jn_net::{Net, Sent};
 use std::mem::size_of;
 use std::test::Fail;
 

@@ -1,3 +1,5 @@
+//! Schedules with their events, and the first fault of each text that is none.
+
 use jn_base::{BlockNo, ClientNo, Command, FaultKind, FileNo, Op, ServerNo, Tid};
 use jn_schedule::{Event, ParseFault, check, count_events, line_of_event, parse};
 use std::alloc::{AllocError, Global};

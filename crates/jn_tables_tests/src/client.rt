@@ -1,9 +1,9 @@
 //! The client's table row by row, and the order of its refusals.
 
-use super::*;
 use jn_base::{
     Answer, BlockNo, Cause, ClientNo, Command, FileNo, LockUnit, Op, Party, ServerNo, Tid, WorkId,
 };
+use jn_client::{Client, CommandFault, Taken};
 use jn_msgs::{Message, Outcome, Works};
 use jn_report::{Refusal, Text};
 use std::alloc::Global;

@@ -1,4 +1,9 @@
-use super::*;
+//! Sources, sinks and keepers: in memory, over readers and writers, over files.
+
+use jn_host::{
+    Failed, FileKeeper, KeepFailure, Keeper, MemoryKeeper, MemorySink, MemorySource, Sink, Source,
+    StandardInput, StandardOutput,
+};
 use std::io::{Cursor, ErrorKind};
 use std::test::Fail;
 use std::{fs, io};
