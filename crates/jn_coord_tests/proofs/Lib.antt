@@ -1,0 +1,2 @@
+pub mod Restarted
+pub mod Hearing
