@@ -1,0 +1,4 @@
+pub mod Loops
+pub mod Bounded
+pub mod Numbers
+pub mod BusyServers

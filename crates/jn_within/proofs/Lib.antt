@@ -1,0 +1,8 @@
+pub mod Taking
+pub mod Sending
+pub mod NamedByClients
+pub mod NamedByWorkers
+pub mod NamedByCoordinators
+pub mod ServerRows
+pub mod WorldSteps
+pub mod WorldNumbers

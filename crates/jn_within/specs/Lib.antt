@@ -1,0 +1,4 @@
+pub mod Taking
+pub mod Drawing
+pub mod Naming
+pub mod Within
