@@ -47,7 +47,7 @@ IsOfEnd text = (needs_cause text ≡ false) × (is_answer text ≡ false)
 
 -- ---- steps by which no client is told to do anything, and no server is stopped
 
-abbrev IsFinal : Step → Type 0
+abbrev pub IsFinal : Step → Type 0
 IsFinal (Tell c command) = ⊥
 IsFinal (StopDelivery k room made) = ⊥
 IsFinal (StopWork s room made) = ⊥
@@ -228,6 +228,10 @@ steps-plain [] w idle h = tt
 steps-plain (step ∷ steps) w idle h = let p = step-plain w idle step h.0 in
     each-append IsOfEnd (told_by (Does step) w) (told_by_steps steps (after step w)) (subst (λ l. Each IsOfEnd l) (sym (told-is w step p.new p.adds)) p.each) (steps-plain steps (after step w) p.idle h.1)
 
+-- once the clients are dismissed
+pub dismissed-told : (steps : List Step) (w : World) → Each IsFinal steps → Each IsOfEnd (told_by_steps (Dismiss ∷ steps) w)
+dismissed-told steps w h = each-append IsOfEnd (told_by (Does Dismiss) w) (told_by_steps steps (after Dismiss w)) (subst (λ l. Each IsOfEnd l) (sym (told-is w Dismiss [] (sym (append-nil w.lines)))) tt) (steps-plain steps (after Dismiss w) (λ c. (refl, refl)) h)
+
 -- ---- the end
 
 print-plain : (s : ServerNo) (x : Printed) → IsOfEnd (text_printed s x)
@@ -243,14 +247,17 @@ end-plain : (texts : List Text) → Each IsOfEnd texts → NeedNoCause (at_end t
 end-plain [] h = tt
 end-plain (x ∷ texts) h = (h.0.0, end-plain texts h.1)
 
+-- what needs no cause may follow a run
+pub with-end : (files : AllFiles) (epochs : ServerNo → ℕ) (servers : ℕ) (items : List Item) (texts : List Text) → IsReported items (opening servers files epochs) → Each IsOfEnd texts → Caused (events_of items) (lines_of_items items (opening servers files epochs) ++ at_end texts)
+with-end files epochs servers items texts h k = let start = opening servers files epochs in Caused-lines (events_of items) (lines_of_items items start) (at_end texts) (run-causes files epochs servers items h) (CausedFrom-plain (events_of items) (lines_of_items items start) (at_end texts) (end-plain texts k))
+
 counted-causes : (es : List Event) (lines : List Line) → Caused es lines → Caused es (counted lines)
 counted-causes es lines h = Caused-lines es lines (at_end (says.Commits (length (history_of lines)) ∷ [])) h (CausedFrom-plain es lines (at_end (says.Commits (length (history_of lines)) ∷ [])) (refl, tt))
 
 -- what is told and printed at the end
 pub end-told : (servers : ℕ) (e : Ending) (w : World) → list_all settles e.settling ≡ true → Each IsOfEnd (told_by_steps (steps_at_end servers e) w ++ texts_from 0 e.prints)
-end-told servers e w h = each-append IsOfEnd (told_by_steps (steps_at_end servers e) w) (texts_from 0 e.prints)
-    (each-append IsOfEnd (told_by (Does Dismiss) w) _ (subst (λ l. Each IsOfEnd l) (sym (told-is w Dismiss [] (sym (append-nil w.lines)))) tt) (steps-plain _ (after Dismiss w) (λ c. (refl, refl)) (end-final servers e h).1)) (prints-plain 0 e.prints)
+end-told servers e w h = let ss = servers_from 0 servers in each-append IsOfEnd (told_by_steps (steps_at_end servers e) w) (texts_from 0 e.prints)
+    (dismissed-told (map Crash ss ++ restarts_from 0 e.comebacks ++ map CloseClients ss ++ e.settling) w (end-final servers e h).1) (prints-plain 0 e.prints)
 
 pub end-causes : (files : AllFiles) (epochs : ServerNo → ℕ) (servers : ℕ) (items : List Item) (e : Ending) → IsReported items (opening servers files epochs) → IsEnding servers e (world_of items (opening servers files epochs)) → Caused (events_of items) (lines_to_end servers items e (opening servers files epochs))
-end-causes files epochs servers items e h k = let start = opening servers files epochs in counted-causes (events_of items) _ (Caused-lines (events_of items) (lines_of_items items start) _ (run-causes files epochs servers items h)
-    (CausedFrom-plain (events_of items) (lines_of_items items start) _ (end-plain _ (end-told servers e (world_of items start) k.settling))))
+end-causes files epochs servers items e h k = let start = opening servers files epochs in counted-causes (events_of items) _ (with-end files epochs servers items (told_by_steps (steps_at_end servers e) (world_of items start) ++ texts_from 0 e.prints) h (end-told servers e (world_of items start) k.settling))

@@ -9,6 +9,7 @@ use Rattle.jn_report.specs.declared.line.Text.TheVariants as says
 use Rattle.jn_report.specs.declared.line.Line.{Line}
 use Rattle.jn_serial.specs.Lines.{commit_in, has_tid, history_of}
 use Rattle.jn_serial.specs.Follows.{is_answer}
+use Rattle.jn_serial.proofs.Orders.{NamesNone-append}
 use Rattle.jn_serial.specs.Told.{IsNamedWhere, NamesBefore, NamesOnce, IsNotNamedWhere, NamesNone, Told}
 use Rattle.jn_machine.specs.World.{World as Machine}
 use Rattle.jn_machine.specs.Steps.{run as run_atoms, opening_world}
@@ -19,7 +20,7 @@ use Rattle.jn_protocol.specs.Steps.{Step, after, run, IsRun}
 use Rattle.jn_protocol.specs.Printing.{Printed, FileThere, PageStored, UnitLocked}
 use Rattle.jn_reported.specs.Printing.{text_printed}
 use Rattle.jn_reported.specs.Reported.{Does, Item, told_by, at_event, lines_of, world_of, IsReported}
-use Rattle.jn_reported.specs.Ending.{Ending, IsEnding, steps_at_end, told_by_steps, texts_from, at_end, lines_to_end}
+use Rattle.jn_reported.specs.Ending.{Ending, IsEnding, steps_at_end, told_by_steps, texts_from, at_end, counted, lines_to_end}
 use Rattle.jn_reported.proofs.Lists.{In, Each, in-first, in-second, in-either, each-in, each-append}
 use Rattle.jn_reported.proofs.Prints.{each-print}
 use Rattle.jn_reported.proofs.Reached.{Reached, LineFact, named-is, invariant, next-reached, opening-reached}
@@ -70,6 +71,21 @@ apart-names (x ∷ texts) h = ap (λ l. l ++ commits_in texts) (one x h.0) ∙ a
     one (says.Commit T) k = absurd k
     one _ k = refl
 
+-- ---- the count of commits
+
+counted-told : (ls : List Line) → Told ls → Told (counted ls)
+counted-told ls h = record {
+  before = before-more [] ls last h.before (tt, tt);
+  once = subst NamesOnce same h.once;
+  not_lost = subst (λ named. NamesNone named (ls ++ last)) same (NamesNone-append (history_of ls) ls last h.not_lost (tt, tt));
+}
+  where
+    last : List Line
+    last = at_end (says.Commits (length (history_of ls)) ∷ [])
+
+    same : history_of ls ≡ history_of (ls ++ last)
+    same = sym (history-more ls last ∙ append-nil (history_of ls))
+
 -- ---- the steps of the end
 
 module _ (files : AllFiles) (epochs : ServerNo → ℕ) where
@@ -84,7 +100,9 @@ module _ (files : AllFiles) (epochs : ServerNo → ℕ) where
     then_lines = k.then_lines ∙ ap (λ l. l ++ told_by_steps steps (after step r)) (adds files epochs r h step) ∙ append_assoc r.lines (told_by (Does step) r) (told_by_steps steps (after step r));
   }
 
-  module _ (servers : ℕ) (items : List Item) (e : Ending) (h : IsReported items (opening servers files epochs)) (k : IsEnding servers e (world_of items (opening servers files epochs))) where
+  -- the lines of a run, with those of steps after it and more that no step tells
+  module _ (servers : ℕ) (items : List Item) (h : IsReported items (opening servers files epochs)) (steps : List Step) (i : IsRun steps (world_of items (opening servers files epochs)))
+      (more : List Text) (apart : Each IsApart more) (ends : Each IsOfEnd (told_by_steps steps (world_of items (opening servers files epochs)) ++ more)) where
     abbrev start : World
     start = opening servers files epochs
 
@@ -92,36 +110,30 @@ module _ (files : AllFiles) (epochs : ServerNo → ℕ) where
     w = world_of items start
 
     abbrev q : World
-    q = run (steps_at_end servers e) w
+    q = run steps w
 
     abbrev told : List Text
-    told = told_by_steps (steps_at_end servers e) w
-
-    abbrev texts : List Text
-    texts = told ++ texts_from 0 e.prints
+    told = told_by_steps steps w
 
     abbrev ls : List Line
     ls = lines_of items start
 
-    abbrev last : List Line
-    last = at_end (says.Commits (length (history_of (ls ++ at_end texts))) ∷ [])
-
     abbrev named : List Tid
-    named = history_of (lines_to_end servers items e start)
+    named = history_of (ls ++ at_end (told ++ more))
 
     t : RunTold files epochs items start
     t = run-told files epochs items start (opening-reached files epochs servers) h.steps
 
-    z : RunsTo (steps_at_end servers e) w
-    z = runs-to (steps_at_end servers e) w t.reached k.steps
+    z : RunsTo steps w
+    z = runs-to steps w t.reached i
 
     abbrev machine : Machine
     machine = run_atoms z.reached.atoms (opening_world files epochs)
 
     -- the lines name what the last world's lines name
     history : named ≡ commits_in q.lines
-    history = history-more (ls ++ at_end texts) last ∙ append-nil (history_of (ls ++ at_end texts)) ∙ history-more ls (at_end texts)
-        ∙ ap (λ l. history_of ls ++ l) (history-at-end texts ∙ commits-more told (texts_from 0 e.prints) ∙ ap (λ l. commits_in told ++ l) (apart-names (texts_from 0 e.prints) (prints-apart 0 e.prints)) ∙ append-nil (commits_in told))
+    history = history-more ls (at_end (told ++ more))
+        ∙ ap (λ l. history_of ls ++ l) (history-at-end (told ++ more) ∙ commits-more told more ∙ ap (λ l. commits_in told ++ l) (apart-names more apart) ∙ append-nil (commits_in told))
         ∙ ap (λ l. l ++ commits_in told) (sym t.commits) ∙ sym (commits-more w.lines told) ∙ ap commits_in (sym z.then_lines)
 
     -- what is told aborted or broken isn't among them
@@ -129,13 +141,13 @@ module _ (files : AllFiles) (epochs : ServerNo → ℕ) where
     unnamed T n = ap (λ l. has_tid l T) history ∙ sym (named-is files epochs q z.reached T) ∙ not-named q.sent machine T (invariant files epochs q z.reached) z.reached.ends n
 
     not-among : (x : Text) → IsApart x ⊎ In x q.lines → IsNotNamedWhere named x
-    not-among x (inl p) = apart x p
+    not-among x (inl p) = printed x p
       where
-        apart : (x : Text) → IsApart x → IsNotNamedWhere named x
-        apart (says.Aborted c j T cause) p = absurd p
-        apart (says.Broke s T u by) p = absurd p
-        apart _ p = tt
-    not-among x (inr i) = fact x (each-in (LineFact q.sent machine) q.lines x z.reached.lines i)
+        printed : (x : Text) → IsApart x → IsNotNamedWhere named x
+        printed (says.Aborted c j T cause) p = absurd p
+        printed (says.Broke s T u by) p = absurd p
+        printed _ p = tt
+    not-among x (inr j) = fact x (each-in (LineFact q.sent machine) q.lines x z.reached.lines j)
       where
         fact : (x : Text) → LineFact q.sent machine x → IsNotNamedWhere named x
         fact (says.Aborted c j T cause) f = unnamed T (inl f)
@@ -143,33 +155,31 @@ module _ (files : AllFiles) (epochs : ServerNo → ℕ) where
         fact _ f = tt
 
     in-last : (x : Text) → In x w.lines ⊎ In x told → In x q.lines
-    in-last x (inl i) = subst (λ l. In x l) (sym z.then_lines) (in-first x w.lines told i)
-    in-last x (inr i) = subst (λ l. In x l) (sym z.then_lines) (in-second x w.lines told i)
+    in-last x (inl j) = subst (λ l. In x l) (sym z.then_lines) (in-first x w.lines told j)
+    in-last x (inr j) = subst (λ l. In x l) (sym z.then_lines) (in-second x w.lines told j)
 
     of-run : (x : Text) → IsApart x ⊎ In x w.lines → IsApart x ⊎ In x q.lines
     of-run x (inl p) = inl p
-    of-run x (inr i) = inr (in-last x (inl i))
+    of-run x (inr j) = inr (in-last x (inl j))
 
-    of-end : (x : Text) → In x told ⊎ In x (texts_from 0 e.prints) → IsApart x ⊎ In x q.lines
-    of-end x (inl i) = inr (in-last x (inr i))
-    of-end x (inr i) = inl (each-in IsApart (texts_from 0 e.prints) x (prints-apart 0 e.prints) i)
+    of-end : (x : Text) → In x told ⊎ In x more → IsApart x ⊎ In x q.lines
+    of-end x (inl j) = inr (in-last x (inr j))
+    of-end x (inr j) = inl (each-in IsApart more x apart j)
 
     names-none : (lines : List Line) → ((l : Line) → In l lines → IsNotNamedWhere named l.text) → NamesNone named lines
     names-none [] f = tt
-    names-none (l ∷ lines) f = (f l (inl refl), names-none lines (λ m i. f m (inr i)))
+    names-none (l ∷ lines) f = (f l (inl refl), names-none lines (λ m j. f m (inr j)))
 
-    among : (l : Line) → In l (ls ++ at_end texts) ⊎ In l last → IsNotNamedWhere named l.text
-    among l (inl i) = not-among l.text (by (in-either l ls (at_end texts) i))
-      where
-        by : In l ls ⊎ In l (at_end texts) → IsApart l.text ⊎ In l.text q.lines
-        by (inl j) = of-run l.text (lines-in files epochs items start (opening-reached files epochs servers) h.steps l j)
-        by (inr j) = of-end l.text (in-either l.text told (texts_from 0 e.prints) (text-in texts l j))
-    among l (inr (inl i)) = subst (λ (m : Line). IsNotNamedWhere named m.text) i tt
-    among l (inr (inr i)) = absurd i
+    among : (l : Line) → In l ls ⊎ In l (at_end (told ++ more)) → IsNotNamedWhere named l.text
+    among l (inl j) = not-among l.text (of-run l.text (lines-in files epochs items start (opening-reached files epochs servers) h.steps l j))
+    among l (inr j) = not-among l.text (of-end l.text (in-either l.text told more (text-in (told ++ more) l j)))
 
-    pub told-to-end : Told (lines_to_end servers items e (opening servers files epochs))
-    told-to-end = record {
-      before = before-more [] (ls ++ at_end texts) last (before-more [] ls (at_end texts) t.before (before-end (history_of ls) texts (end-told servers e w k.settling))) (tt, tt);
+    pub told-with : Told (lines_of items (opening servers files epochs) ++ at_end (told_by_steps steps (world_of items (opening servers files epochs)) ++ more))
+    told-with = record {
+      before = before-more [] ls (at_end (told ++ more)) t.before (before-end (history_of ls) (told ++ more) ends);
       once = subst NamesOnce (z.reached.mirrors.commits ∙ sym history) (once-more _ (in_order files epochs z.reached.atoms z.reached.may).once);
-      not_lost = names-none ((ls ++ at_end texts) ++ last) (λ l i. among l (in-either l (ls ++ at_end texts) last i));
+      not_lost = names-none (ls ++ at_end (told ++ more)) (λ l j. among l (in-either l ls (at_end (told ++ more)) j));
     }
+
+  pub told-to-end : (servers : ℕ) (items : List Item) (e : Ending) → IsReported items (opening servers files epochs) → IsEnding servers e (world_of items (opening servers files epochs)) → Told (lines_to_end servers items e (opening servers files epochs))
+  told-to-end servers items e h k = counted-told _ (told-with servers items h (steps_at_end servers e) k.steps (texts_from 0 e.prints) (prints-apart 0 e.prints) (end-told servers e (world_of items (opening servers files epochs)) k.settling))
