@@ -1,0 +1,12 @@
+pub mod Reports
+pub mod Computed
+pub mod Telling
+pub mod Ordered
+pub mod Texts
+pub mod Quiet
+pub mod Resting
+pub mod Refuted
+pub mod Struck
+pub mod Caused
+pub mod Coursed
+pub mod Named

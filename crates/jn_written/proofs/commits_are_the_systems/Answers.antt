@@ -1,0 +1,7 @@
+use Rattle.std.proofs.Common.{refl}
+use Rattle.jn_written.specs.Whole.{before}
+use Rattle.jn_written.proofs.Named.{names}
+use Rattle.jn_written.proofs.commits_are_the_systems.Goals as goal
+
+pub returns : goal.returns
+returns c x schedule files epochs t m = names x (before x schedule files epochs) t m refl

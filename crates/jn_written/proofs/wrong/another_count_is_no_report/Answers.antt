@@ -1,0 +1,10 @@
+use Rattle.std.proofs.Common.{refl}
+use Rattle.jn_written.specs.Wrong.{counted_twice, counted_none}
+use Rattle.jn_written.proofs.Refuted.{miscounted}
+use Rattle.jn_written.proofs.wrong.another_count_is_no_report.Goals as goal
+
+pub returns-clause-more : goal.returns-clause-more
+returns-clause-more c = miscounted counted_twice refl
+
+pub returns-clause-fewer : goal.returns-clause-fewer
+returns-clause-fewer c = miscounted counted_none refl

@@ -1,0 +1,130 @@
+-- What befalls a step is what its server's device does.
+use Rattle.std.specs.Prelude.{◌≡◌, ℕ, ◌+◌, ◌-◌, ◌<◌, Bool, true, false, not, ◌||◌, if◌then◌else◌, List, [], ◌∷◌, count_by, Some, None, is_some}
+use Rattle.std.specs.List.{list_any}
+use Rattle.jn_base.specs.declared.names.ServerNo.{ServerNo}
+use Rattle.jn_base.specs.declared.names.LockUnit.TheVariants.{File}
+use Rattle.jn_base.specs.Names.{server_eq, file_eq}
+use Rattle.jn_device.specs.Device.{DeviceState}
+use Rattle.jn_device.specs.Events.{PowersUp, powered_off, disarmed, cleared, Decays as PageDecays, Revives as PageRevives, Arms as FaultArmed}
+use Rattle.jn_records.specs.declared.head.Head.{Head}
+use Rattle.jn_records.specs.declared.head.Head.TheVariants.{Free as FreeHead, Used}
+use Rattle.jn_records.specs.declared.net_list.Need.{Need}
+use Rattle.jn_records.specs.declared.record.Record.{Record}
+use Rattle.jn_records.specs.StablePages.{Counts, Pages}
+use Rattle.jn_sets.specs.Pool.{free_count, is_rubbish}
+use Rattle.jn_store.specs.Pairs.{pairs_view}
+use Rattle.jn_store.specs.Store.{StoreLater}
+use Rattle.jn_found.specs.Contents.{heads_name, works_name}
+use Rattle.jn_found.specs.Pages.{pool_on, heads_on, listed, pages_by, found_on}
+use Rattle.jn_rows.specs.Stable.{StableState, Pick, stable}
+use Rattle.jn_rows.specs.Worker.{WorkerTable, intentions_of, need_in}
+use Rattle.jn_rows.specs.Coordinator.{promised}
+use Rattle.jn_protocol.specs.World.{World, Memory}
+use Rattle.jn_protocol.specs.Steps.{AreNames, run, IsRun}
+use Rattle.jn_protocol.specs.Printing.{file_before}
+use Rattle.jn_reported.specs.Printing.{prints_of}
+use Rattle.jn_written.specs.Chances.{Setup, Chance}
+use Rattle.jn_written.specs.Deeds.{Use, Nothing, Calls, Reads, Recovers, PowersOff, Decays, Revives, Arms, Disarms, Deed}
+
+abbrev pub Devices : Type 0
+Devices = ServerNo → DeviceState
+
+-- ---- calls
+
+-- The device is called, any number of times. A fault that it tells had waited, and so had a stop that takes its power.
+pub record IsCalled (h : Chance) (d e : DeviceState) : Type 0 where
+  pub last : DeviceState
+  pub calls : StoreLater (pairs_view d) (pairs_view last)
+  pub told : h.told ≡ last.told
+  pub stop : is_some h.stop ≡ not last.power
+  -- what was told is forgotten
+  pub after : e ≡ cleared last
+
+-- the power comes first, and goes where the server doesn't come up
+pub record IsRecovery (h : Chance) (up : Bool) (d e : DeviceState) : Type 0 where
+  pub powered : DeviceState
+  pub last : DeviceState
+  pub power : PowersUp d powered
+  pub called : IsCalled h powered last
+  pub after : e ≡ (if up then last else powered_off last)
+
+-- one server's device becomes another, and all others stay
+pub record Alone (q : ServerNo) (becomes : DeviceState → DeviceState → Type 0) (ds es : Devices) : Type 0 where
+  pub its : becomes (ds q) (es q)
+  pub others : (s : ServerNo) → server_eq q s ≡ false → es s ≡ ds s
+
+-- ---- what stands on the pages of a server that is up
+
+-- by one pick: all find the same records and heads
+abbrev pub pages_of : DeviceState → Pages
+pages_of d = pages_by (pairs_view d) (λ n. false)
+
+abbrev pub is_free_head : Head → Bool
+is_free_head FreeHead = true
+is_free_head (Used f addresses) = false
+
+-- no head and no prepared work has the data page
+abbrev pub is_free_page : Counts → Pages → ℕ → Bool
+is_free_page g pages d = not (heads_name (heads_on g pages) (d + 1) || works_name (pool_on g pages) (d + 1))
+
+-- the heads that are promised to prepared works
+abbrev pub promised_heads : StableState → WorkerTable → ℕ
+promised_heads x [] = 0
+promised_heads x (w ∷ ws) = (need_in x.files (intentions_of (x.works w.name))).heads + promised_heads x ws
+
+-- what is free and not promised; a prepared work has its data pages already
+abbrev pub free_on : Counts → Pages → StableState → Memory → Need
+free_on g pages x m = record {
+  records = free_count (pool_on g pages) - promised m.coordinator.transactions;
+  heads = count_by is_free_head (heads_on g pages) - promised_heads x m.worker;
+  pages = count_by (is_free_page g pages) (listed (λ d. d) 0 g.leaves);
+}
+
+abbrev pub has_rubbish : List Record → Bool
+has_rubbish pool = list_any (is_rubbish pool) pool
+
+abbrev pub rubbish_on : Setup → Devices → ServerNo → Bool
+rubbish_on x ds q = has_rubbish (pool_on (x.counts q) (pages_of (ds q)))
+
+-- ---- what a step does with the devices
+
+-- a server that is up has so much free, and its device is called
+pub record IsServed (g : Counts) (h : Chance) (w : World) (q : ServerNo) (d e : DeviceState) : Type 0 where
+  pub memory : Memory
+  pub up : w.memory q ≡ Some memory
+  pub free : h.free ≡ free_on g (pages_of d) (stable (w.found q)) memory
+  pub called : IsCalled h d e
+
+-- where it isn't stopped, these are the files of which a server that is up has something to print
+pub record IsLookedOver (h : Chance) (w : World) (q : ServerNo) (d e : DeviceState) : Type 0 where
+  pub memory : Memory
+  pub up : w.memory q ≡ Some memory
+  pub files : h.stop ≡ None → AreNames file_eq file_before (λ f. prints_of q w memory (File f)) h.files
+  pub called : IsCalled h d e
+
+-- in a step from one world to another
+abbrev pub IsUsed : Setup → Chance → Use → World → World → Devices → Devices → Type 0
+IsUsed x h Nothing w now ds es = (q : ServerNo) → es q ≡ ds q
+IsUsed x h (Calls q) w now ds es = Alone q (IsServed (x.counts q) h w q) ds es
+IsUsed x h (Reads q) w now ds es = Alone q (IsLookedOver h w q) ds es
+IsUsed x h (Recovers q) w now ds es = Alone q (IsRecovery h (is_some (now.memory q))) ds es
+IsUsed x h (PowersOff q) w now ds es = Alone q (λ d e. e ≡ powered_off d) ds es
+IsUsed x h (Decays q p) w now ds es = Alone q (λ d e. PageDecays d p h.allows e) ds es
+IsUsed x h (Revives q p) w now ds es = Alone q (λ d e. PageRevives d p e) ds es
+IsUsed x h (Arms q n kind) w now ds es = Alone q (λ d e. FaultArmed d n kind h.allows e) ds es
+IsUsed x h Disarms w now ds es = (q : ServerNo) → es q ≡ disarmed (ds q)
+
+-- ---- a step
+
+-- each pick of halves of each server's pages finds what it finds in the world
+abbrev pub AreFound : Setup → World → Devices → Type 0
+AreFound x w ds = (q : ServerNo) (c : Pick) → q.0 < x.servers → w.found q c ≡ found_on (x.counts q) (pairs_view (ds q)) c
+
+-- a deed leads from this world and these devices to others
+pub record Befalls (x : Setup) (h : Chance) (deed : Deed) (w : World) (ds es : Devices) : Type 0 where
+  -- which records are rubbish as it begins
+  pub rubbish : (q : ServerNo) → h.rubbish q ≡ rubbish_on x ds q
+  -- a restart names the works and flags that it finds
+  pub steps : IsRun deed.steps w
+  pub used : IsUsed x h deed.device w (run deed.steps w) ds es
+  pub found : AreFound x (run deed.steps w) es

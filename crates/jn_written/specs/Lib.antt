@@ -1,0 +1,12 @@
+pub mod Chances
+pub mod Tasks
+pub mod Deeds
+pub mod Refusals
+pub mod Events
+pub mod Steps
+pub mod Runs
+pub mod Devices
+pub mod Whole
+pub mod Examples
+pub mod Kinds
+pub mod Wrong
