@@ -1,0 +1,19 @@
+use Rattle.std.proofs.Common.{refl}
+use Rattle.std.specs.Fmt.{digits}
+use Rattle.clap.proofs.OnLiterals.{clap_on_literals}
+use Rattle.jn_options.specs.Command.{program_app, run_app}
+use Rattle.jn_options.proofs.laws.other_words_are_refused.Goals as goal
+
+pub returns : goal.returns
+unfolding clap_on_literals program_app run_app digits
+returns c = record {
+  no_words = refl;
+  no_command = refl;
+  other_command = refl;
+  more = refl;
+  help = refl;
+  twice = refl;
+  missing = refl;
+  too_large = refl;
+  zero_first = refl;
+}

@@ -1,0 +1,69 @@
+//! The command line, as `clap` is told of it.
+ghost use Rattle.std.specs.Prelude.{◌≡◌, ◌≢◌, [], IfOk, MatchOption, false, map, string_bytes};
+ghost use Rattle.clap.specs.Words.{app_of, fault_of, rule_of, subcommand_of, subcommand_rows_of};
+ghost use Rattle.clap.specs.declared.builder.command.Command.TheViews.{out-Command};
+ghost use Rattle.jn_options.specs.Command.{program_app, run_app, switch, valued};
+
+use clap::error::ErrorKind;
+use clap::{Arg, ArgAction, ArgMatches, Command};
+use std::alloc::{AllocError, Global};
+
+/// What `clap` finds in the words; `None` where it refuses them.
+pub fn matches_in<'a>(
+    alloc: Global,
+    words: &'a [String],
+) -> Result<Option<ArgMatches<'a>>, AllocError>
+    ensures { IfOk result (λ found. MatchOption found
+        (fault_of program_app (map string_bytes words.now) ≢ [])
+        (λ matches. (fault_of program_app (map string_bytes words.now) ≡ [])
+        × (subcommand_rows_of matches ≡ subcommand_of program_app (map string_bytes words.now)))) }
+{
+    let command = program(alloc)?;
+    match command.try_get_matches_from(words) {
+        Ok(matches) => Ok(Some(matches)),
+        Err(error) => match error.kind() {
+            ErrorKind::OutOfMemory => Err(AllocError),
+            _ => Ok(None),
+        },
+    }
+}
+
+/// The program, whose first word is a command. It offers no help: a report is all that it writes.
+fn program<'a>(alloc: Global) -> Result<Command<'a>, AllocError>
+    ensures { IfOk result (λ command. app_of command ≡ program_app) }
+{
+    let run = run_command(alloc)?;
+    Command::new(alloc, "juniper")
+        .disable_help_flag(true)
+        .disable_help_subcommand(true)
+        .subcommand(run)
+}
+
+/// The command `run`.
+fn run_command<'a>(alloc: Global) -> Result<Command<'a>, AllocError>
+    ensures app { IfOk result (λ command. app_of command ≡ run_app) }
+    ensures local { IfOk result (λ command. (out-Command command).has_globals ≡ false) }
+{
+    Command::new(alloc, "run")
+        .arg(valued_option(alloc, "servers"))?
+        .arg(valued_option(alloc, "pool"))?
+        .arg(valued_option(alloc, "heads"))?
+        .arg(valued_option(alloc, "data"))?
+        .arg(switch_option(alloc, "trace"))
+}
+
+/// An option with one value.
+fn valued_option<'a>(alloc: Global, name: &'a str) -> Arg<'a>
+    ensures rule { rule_of result ≡ valued name.entry.now }
+    ensures local { result.global ≡ false }
+{
+    Arg::new(alloc, name).long(name)
+}
+
+/// An option without a value.
+fn switch_option<'a>(alloc: Global, name: &'a str) -> Arg<'a>
+    ensures rule { rule_of result ≡ switch name.entry.now }
+    ensures local { result.global ≡ false }
+{
+    Arg::new(alloc, name).long(name).action(ArgAction::SetTrue)
+}
