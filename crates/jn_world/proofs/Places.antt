@@ -1,0 +1,374 @@
+-- The places of a list of servers, and the world whose places they are.
+use Rattle.std.proofs.Common.{◌≡◌, ◌≤◌, ◌<◌, ℕ, zero, suc, ◌+◌, true, false, length, length-append, append-nil, List, [], ◌∷◌, ◌++◌, get_or, vec_len, Option, Some, None, Ok, Err, true≢false, refl, sym, ◌∙◌, ap, subst, arith}
+use Rattle.std.proofs.Math.ListN.{set}
+use Rattle.std.proofs.lemmas.Bool.Decides.{nat_tests}
+use Rattle.std.proofs.lemmas.List.Elements.{All-append, All-map, All-nil, All-cons, All-set, All-weaker, All-get_or, All-from_recursion, recursion_from_All}
+use Rattle.std.proofs.lemmas.Option.{slice_get_within, get_or_from_slice_get}
+use Rattle.std.specs.List.{AllByRecursion as ByRecursion}
+use Rattle.std.specs.Prelude.{All, Result, OnOk, slice_get}
+use Rattle.std.specs.Vec.{with_item}
+use Rattle.jn_base.specs.declared.names.ClientNo.{ClientNo}
+use Rattle.jn_base.specs.declared.names.Party.{Party}
+use Rattle.jn_base.specs.declared.names.Party.TheVariants.{Server}
+use Rattle.jn_base.specs.declared.names.ServerNo.{ServerNo}
+use Rattle.jn_base.specs.declared.op.Command.{Command}
+use Rattle.jn_found.specs.Recoverable.{IsRecoverable}
+use Rattle.jn_msgs.specs.Collected.{Collected}
+use Rattle.jn_msgs.specs.declared.message.Message.{Message}
+use Rattle.jn_net.specs.Carried.{Carried, with_delivered}
+use Rattle.jn_net.specs.declared.Sent.{Sent as Posted}
+use Rattle.jn_protocol.specs.Steps.{sent_now}
+use Rattle.jn_records.specs.StablePages.{Counts}
+use Rattle.jn_recovery.specs.Loading.{counts_by}
+use Rattle.jn_recovery.specs.declared.counts.PageCounts.{PageCounts}
+use Rattle.jn_rows.specs.Client.{ClientTable, Sends, command_row, take_row, again_row, new_table}
+use Rattle.jn_rows.specs.declared.client.Taken.{Taken}
+use Rattle.jn_rows.specs.Outcomes.{Sent}
+use Rattle.jn_store.specs.Store.{StoreView}
+use Rattle.jn_within.proofs.Taking.{command-fits, command-draws, take-fits, take-number, new-fits}
+use Rattle.jn_within.specs.Drawing.{DrawsOne}
+use Rattle.jn_within.specs.Taking.{CanBeTaken, AllCanBeTaken, ClientFits, CommandInRange, CommandFits, sent_for}
+use Rattle.jn_world.specs.Calls.{Left}
+use Rattle.jn_world.specs.declared.place.Place.{Place}
+use Rattle.jn_world.specs.declared.place.Slot.{Slot}
+use Rattle.jn_world.specs.declared.place.Slot.TheVariants.{Up, Down, Gone}
+use Rattle.jn_world.specs.declared.world.World.{World}
+use Rattle.jn_world.specs.Places.{Stands, IsPlace, is_up}
+use Rattle.jn_world.specs.Standing.{ArePlaces, IsClientOf, ArePosted, IsWorld, posted_by, messages_in, is_up_at, is_client, AreStores, AreClosed}
+
+-- ---- one place
+
+pub stands-more : {S : Type 0} (look : S → StoreView) (server : ServerNo) (g : Counts) (a b : ℕ) (x : Slot S) → a ≤ b → Stands look server g a x → Stands look server g b x
+stands-more look server g a b (Up p) le h = record { its = h.its; counts = h.counts; size = h.size; serves = h.serves; names = λ e. let before = h.names e in omega arith }
+stands-more look server g a b (Down s) le h = h
+stands-more look server g a b Gone le h = h
+
+pub place-more : {S : Type 0} (look : S → StoreView) (server : ServerNo) (a b : ℕ) (p : Place S) → a ≤ b → IsPlace look server a p → IsPlace look server b p
+place-more look server a b p le h = record { stands = stands-more look server (counts_by p.counts) a b p.slot le h.stands; told = h.told }
+
+-- ---- all places
+
+pub places-more : {S : Type 0} (look : S → StoreView) (a b n : ℕ) (ps : List (Place S)) → a ≤ b → ArePlaces look a n ps → ArePlaces look b n ps
+places-more look a b n [] le h = tt
+places-more look a b n (p ∷ ps) le h = (place-more look (record { 0 = n }) a b p le h.0, places-more look a b (n + 1) ps le h.1)
+
+place-from : {S : Type 0} (look : S → StoreView) (most n : ℕ) (ps : List (Place S)) (i : ℕ) (d : Place S) → i < length ps → ArePlaces look most n ps → IsPlace look (record { 0 = n + i }) most (get_or ps i d)
+place-from look most n [] i d h all = absurd (omega arith)
+place-from look most n (p ∷ ps) zero d h all = let at : n ≡ n + 0 = omega arith in subst (λ (k : ℕ). IsPlace look (record { 0 = k }) most p) at all.0
+place-from look most n (p ∷ ps) (suc i) d h all =
+    let at : n + 1 + i ≡ n + suc i = omega arith in
+    subst (λ (k : ℕ). IsPlace look (record { 0 = k }) most (get_or ps i d)) at (place-from look most (n + 1) ps i d (omega arith) all.1)
+
+pub place-at : {S : Type 0} (look : S → StoreView) (most : ℕ) (ps : List (Place S)) (server : ServerNo) (d : Place S) → server.0 < length ps → ArePlaces look most 0 ps → IsPlace look server most (get_or ps server.0 d)
+place-at look most ps server d h all =
+    let at : 0 + server.0 ≡ server.0 = omega arith in
+    subst (λ (k : ℕ). IsPlace look (record { 0 = k }) most (get_or ps server.0 d)) at (place-from look most 0 ps server.0 d h all)
+
+set-from : {S : Type 0} (look : S → StoreView) (most n : ℕ) (ps : List (Place S)) (i : ℕ) (q : Place S) → IsPlace look (record { 0 = n + i }) most q → ArePlaces look most n ps → ArePlaces look most n (set ps i q)
+set-from look most n [] i q h all = tt
+set-from look most n (p ∷ ps) zero q h all = let at : n + 0 ≡ n = omega arith in (subst (λ (k : ℕ). IsPlace look (record { 0 = k }) most q) at h, all.1)
+set-from look most n (p ∷ ps) (suc i) q h all =
+    let at : n + suc i ≡ n + 1 + i = omega arith in
+    (all.0, set-from look most (n + 1) ps i q (subst (λ (k : ℕ). IsPlace look (record { 0 = k }) most q) at h) all.1)
+
+pub places-set : {S : Type 0} (look : S → StoreView) (most : ℕ) (ps : List (Place S)) (server : ServerNo) (q : Place S) → IsPlace look server most q → ArePlaces look most 0 ps → ArePlaces look most 0 (set ps server.0 q)
+places-set look most ps server q h all =
+    let at : server.0 ≡ 0 + server.0 = omega arith in
+    set-from look most 0 ps server.0 q (subst (λ (k : ℕ). IsPlace look (record { 0 = k }) most q) at h) all
+
+-- ---- the world
+
+-- a party has sent messages
+pub posted-more : (from : Party) (sent : List Posted) (messages : List Sent) → ArePosted sent → AllCanBeTaken messages → ArePosted (sent ++ posted_by from messages)
+posted-more from sent messages h can = All-append (λ (m : Posted). CanBeTaken m.message) sent (posted_by from messages) h (posted messages can)
+  where
+    posted : (messages : List Sent) → AllCanBeTaken messages → ArePosted (posted_by from messages)
+    posted messages can = All-map (λ (m : Posted). CanBeTaken m.message) (λ (m : Sent). record { from = from; to = m.0; message = m.1; delivered = false }) messages can
+
+pub as-many : (from : Party) (messages : List Sent) → length (posted_by from messages) ≡ length messages
+as-many from [] = refl
+as-many from (m ∷ ms) = ap suc (as-many from ms)
+
+more-sent : (a b : List Posted) (from : Party) (messages : List Sent) → b ≡ a ++ posted_by from messages → length b ≡ length a + length messages
+more-sent a b from messages e = ap length e ∙ length-append a (posted_by from messages) ∙ ap (λ (n : ℕ). length a + n) (as-many from messages)
+
+clients-more : (a b : ℕ) (ts : List ClientTable) → a ≤ b → All (IsClientOf a) ts → All (IsClientOf b) ts
+clients-more a b ts le h = All-weaker (IsClientOf a) (IsClientOf b) (λ t c. record { fits = c.fits; numbers = (let before = c.numbers in omega arith) }) ts h
+
+-- a server has made a step
+pub world-moved : {S : Type 0} (look : S → StoreView) (a b : World S) (server : ServerNo) (q : Place S) (from : Party) (messages : List Sent)
+    → IsWorld look a → IsPlace look server (length a.net.sent + length messages) q → AllCanBeTaken messages
+    → b.places.items ≡ set a.places.items server.0 q → vec_len b.places ≡ vec_len a.places → b.clients ≡ a.clients
+    → b.net.sent ≡ a.net.sent ++ posted_by from messages → length b.net.sent ≤ 1000000 → IsWorld look b
+world-moved {S} look a b server q from messages h place can items as_many clients sent limit =
+    let most = more-sent a.net.sent b.net.sent from messages sent in
+    let le : length a.net.sent ≤ length b.net.sent = omega arith in
+    record {
+      few = (let before = h.few in omega arith);
+      places = subst (λ (ps : List (Place S)). ArePlaces look (length b.net.sent) 0 ps) (sym items)
+          (places-set look (length b.net.sent) a.places.items server q (subst (λ (n : ℕ). IsPlace look server n q) (sym most) place)
+          (places-more look (length a.net.sent) (length b.net.sent) 0 a.places.items le h.places));
+      eight = subst (λ (cs : _). vec_len cs ≡ 8) (sym clients) h.eight;
+      clients = subst (λ (cs : _). All (IsClientOf (length b.net.sent)) cs.items) (sym clients) (clients-more (length a.net.sent) (length b.net.sent) a.clients.items le h.clients);
+      posted = subst ArePosted (sym sent) (posted-more from a.net.sent messages h.posted can);
+      limit = limit;
+    }
+
+-- a client has made a step
+pub world-told : {S : Type 0} (look : S → StoreView) (a b : World S) (i : ℕ) (t : ClientTable) (from : Party) (messages : List Sent)
+    → IsWorld look a → IsClientOf (length a.net.sent + length messages) t → AllCanBeTaken messages
+    → b.places ≡ a.places → b.clients.items ≡ set a.clients.items i t → vec_len b.clients ≡ vec_len a.clients
+    → b.net.sent ≡ a.net.sent ++ posted_by from messages → length b.net.sent ≤ 1000000 → IsWorld look b
+world-told {S} look a b i t from messages h client can places items as_many sent limit =
+    let most = more-sent a.net.sent b.net.sent from messages sent in
+    let le : length a.net.sent ≤ length b.net.sent = omega arith in
+    record {
+      few = subst (λ (ps : _). vec_len ps ≤ 8) (sym places) h.few;
+      places = subst (λ (ps : _). ArePlaces look (length b.net.sent) 0 ps.items) (sym places) (places-more look (length a.net.sent) (length b.net.sent) 0 a.places.items le h.places);
+      eight = as_many ∙ h.eight;
+      clients = subst (λ (cs : List ClientTable). All (IsClientOf (length b.net.sent)) cs) (sym items)
+          (All-set (IsClientOf (length b.net.sent)) a.clients.items i t (subst (λ (n : ℕ). IsClientOf n t) (sym most) client)
+          (clients-more (length a.net.sent) (length b.net.sent) a.clients.items le h.clients));
+      posted = subst ArePosted (sym sent) (posted-more from a.net.sent messages h.posted can);
+      limit = limit;
+    }
+
+-- messages alone were sent
+pub world-posted : {S : Type 0} (look : S → StoreView) (a b : World S) (from : Party) (messages : List Sent)
+    → IsWorld look a → AllCanBeTaken messages → b.places ≡ a.places → b.clients ≡ a.clients
+    → b.net.sent ≡ a.net.sent ++ posted_by from messages → length b.net.sent ≤ 1000000 → IsWorld look b
+world-posted {S} look a b from messages h can places clients sent limit =
+    let most = more-sent a.net.sent b.net.sent from messages sent in
+    let le : length a.net.sent ≤ length b.net.sent = omega arith in
+    record {
+      few = subst (λ (ps : _). vec_len ps ≤ 8) (sym places) h.few;
+      places = subst (λ (ps : _). ArePlaces look (length b.net.sent) 0 ps.items) (sym places) (places-more look (length a.net.sent) (length b.net.sent) 0 a.places.items le h.places);
+      eight = subst (λ (cs : _). vec_len cs ≡ 8) (sym clients) h.eight;
+      clients = subst (λ (cs : _). All (IsClientOf (length b.net.sent)) cs.items) (sym clients) (clients-more (length a.net.sent) (length b.net.sent) a.clients.items le h.clients);
+      posted = subst ArePosted (sym sent) (posted-more from a.net.sent messages h.posted can);
+      limit = limit;
+    }
+
+-- ---- a server's place in the world
+
+up-within : {S : Type 0} (ps : List (Place S)) (i : ℕ) → is_up_at i ps ≡ true → i < length ps
+up-within [] i e = absurd (true≢false (sym e))
+up-within (p ∷ ps) zero e = omega arith
+up-within (p ∷ ps) (suc i) e = let below = up-within ps i e in omega arith
+
+up-at : {S : Type 0} (ps : List (Place S)) (i : ℕ) (d : Place S) → is_up_at i ps ≡ true → is_up (get_or ps i d).slot ≡ true
+up-at [] i d e = absurd (true≢false (sym e))
+up-at (p ∷ ps) zero d e = e
+up-at (p ∷ ps) (suc i) d e = up-at ps i d e
+
+down-at-index : {S : Type 0} (ps : List (Place S)) (i : ℕ) (d : Place S) → i < length ps → is_up_at i ps ≡ false → is_up (get_or ps i d).slot ≡ false
+down-at-index [] i d h e = absurd (omega arith)
+down-at-index (p ∷ ps) zero d h e = e
+down-at-index (p ∷ ps) (suc i) d h e = down-at-index ps i d (omega arith) e
+
+-- the place that an index reads
+pub place-there : {S : Type 0} (look : S → StoreView) (w : World S) (server : ServerNo) (i : ℕ) (p : Place S) → i ≡ server.0 → server.0 < length w.places.items → p ≡ get_or w.places.items i p → IsWorld look w → IsPlace look server (length w.net.sent) p
+place-there {S} look w server i p at within read h =
+    subst (λ (q : Place S). IsPlace look server (length w.net.sent) q) (sym (read ∙ ap (λ (k : ℕ). get_or w.places.items k p) at)) (place-at look (length w.net.sent) w.places.items server p within h.places)
+
+pub place-here : {S : Type 0} (look : S → StoreView) (w : World S) (server : ServerNo) (i : ℕ) (p : Place S) → i ≡ server.0 → is_up_at server.0 w.places.items ≡ true → p ≡ get_or w.places.items i p → IsWorld look w → IsPlace look server (length w.net.sent) p
+place-here look w server i p at up read h = place-there look w server i p at (up-within w.places.items server.0 up) read h
+
+pub place-million : {S : Type 0} (look : S → StoreView) (w : World S) (server : ServerNo) (p : Place S) → IsWorld look w → IsPlace look server (length w.net.sent) p → IsPlace look server 1000000 p
+place-million look w server p h place = place-more look server (length w.net.sent) 1000000 p h.limit place
+
+pub up-here : {S : Type 0} (w : World S) (server : ServerNo) (i : ℕ) (p : Place S) → i ≡ server.0 → is_up_at server.0 w.places.items ≡ true → p ≡ get_or w.places.items i p → is_up p.slot ≡ true
+up-here {S} w server i p at up read = subst (λ (q : Place S). is_up q.slot ≡ true) (sym (read ∙ ap (λ (k : ℕ). get_or w.places.items k p) at)) (up-at w.places.items server.0 p up)
+
+pub down-here : {S : Type 0} (w : World S) (server : ServerNo) (i : ℕ) (p : Place S) → i ≡ server.0 → server.0 < length w.places.items → is_up_at server.0 w.places.items ≡ false → p ≡ get_or w.places.items i p → is_up p.slot ≡ false
+down-here {S} w server i p at within down read = subst (λ (q : Place S). is_up q.slot ≡ false) (sym (read ∙ ap (λ (k : ℕ). get_or w.places.items k p) at)) (down-at-index w.places.items server.0 p within down)
+
+-- a place is written, and nothing is sent
+pub moved-quiet : {S : Type 0} (look : S → StoreView) (a b : World S) (server : ServerNo) (i : ℕ) (q : Place S) → i ≡ server.0 → IsWorld look a → IsPlace look server (length a.net.sent) q
+    → b.places ≡ with_item a.places i q → b.clients ≡ a.clients → b.net ≡ a.net → IsWorld look b
+moved-quiet {S} look a b server i q at h place places clients net =
+    let none : length a.net.sent + 0 ≡ length a.net.sent = omega arith in
+    world-moved look a b server q (Server server) [] h (subst (λ (n : ℕ). IsPlace look server n q) (sym none) place) (All-nil (λ (x : Sent). CanBeTaken x.1))
+    (ap (λ (v : _). v.items) places ∙ ap (λ (k : ℕ). set a.places.items k q) at) (ap vec_len places) clients
+    (ap (λ (n : Carried). n.sent) net ∙ sym (append-nil a.net.sent)) (subst (λ (n : Carried). length n.sent ≤ 1000000) (sym net) h.limit)
+
+-- a place is written, and what its step sends is sent
+pub moved-sent : {S A E : Type 0} (look : S → StoreView) (a b : World S) (server : ServerNo) (i : ℕ) (q : Place S) (answer : Option Collected) (r : Result A E) → i ≡ server.0 → IsWorld look a → Left look server (length a.net.sent) q answer
+    → b.places ≡ with_item a.places i q → b.clients ≡ a.clients
+    → OnOk r (b.net.sent ≡ a.net.sent ++ posted_by (Server server) (messages_in answer)) → OnOk r (length b.net.sent ≤ 1000000) → OnOk r (IsWorld look b)
+moved-sent look a b server i q answer (Err e) at h left places clients sent limit = tt
+moved-sent {S} look a b server i q None (Ok x) at h left places clients sent limit =
+    let none : length a.net.sent + 0 ≡ length a.net.sent = omega arith in
+    world-moved look a b server q (Server server) [] h (subst (λ (n : ℕ). IsPlace look server n q) (sym none) left) (All-nil (λ (x : Sent). CanBeTaken x.1))
+    (ap (λ (v : _). v.items) places ∙ ap (λ (k : ℕ). set a.places.items k q) at) (ap vec_len places) clients sent limit
+moved-sent {S} look a b server i q (Some out) (Ok x) at h left places clients sent limit =
+    world-moved look a b server q (Server server) out.messages h left.0 left.1
+    (ap (λ (v : _). v.items) places ∙ ap (λ (k : ℕ). set a.places.items k q) at) (ap vec_len places) clients sent limit
+
+pub moved-posted : {S : Type 0} (look : S → StoreView) (a b : World S) (server : ServerNo) (i : ℕ) (q : Place S) (answer : Option Collected) → i ≡ server.0 → IsWorld look a → Left look server (length a.net.sent) q answer
+    → b.places ≡ with_item a.places i q → b.clients ≡ a.clients
+    → b.net.sent ≡ a.net.sent ++ posted_by (Server server) (messages_in answer) → length b.net.sent ≤ 1000000 → IsWorld look b
+moved-posted {S} look a b server i q answer at h left places clients sent limit = moved-sent {S = S} {A = ℕ} {E = ℕ} look a b server i q answer (Ok 0) at h left places clients sent limit
+
+-- messages are sent alone
+pub sent-world : {S A E : Type 0} (look : S → StoreView) (a b : World S) (from : Party) (messages : List Sent) (r : Result A E) → IsWorld look a → AllCanBeTaken messages → b.places ≡ a.places → b.clients ≡ a.clients
+    → OnOk r (b.net.sent ≡ a.net.sent ++ posted_by from messages) → OnOk r (length b.net.sent ≤ 1000000) → OnOk r (IsWorld look b)
+sent-world look a b from messages (Err e) h can places clients sent limit = tt
+sent-world look a b from messages (Ok x) h can places clients sent limit = world-posted look a b from messages h can places clients sent limit
+
+-- ---- a client in the world
+
+client-within : (n i : ℕ) → is_client n ≡ true → i + 1 ≡ n → i < 8
+client-within n i e at = grind (arith, nat_tests)
+
+-- the table that an index reads
+pub client-here : {S : Type 0} (look : S → StoreView) (w : World S) (n i : ℕ) (t : ClientTable) → IsWorld look w → is_client n ≡ true → i + 1 ≡ n → t ≡ get_or w.clients.items i t → IsClientOf (length w.net.sent) t
+client-here look w n i t h e at read =
+    let below = client-within n i e at in
+    subst (IsClientOf (length w.net.sent)) (sym read) (All-get_or (IsClientOf (length w.net.sent)) w.clients.items i t (let few = h.eight in omega (arith, w.clients.ok.0)) h.clients)
+
+pub one : (to : Party) (message : Message) → CanBeTaken message → AllCanBeTaken ((to, message) ∷ [])
+one to message can = All-cons (λ (x : Sent). CanBeTaken x.1) (to, message) [] can (All-nil (λ (x : Sent). CanBeTaken x.1))
+
+-- what a client sends once more can be taken
+pub again-can : (t : ClientTable) (to : Party) (message : Message) → ClientFits t → Some (to, message) ≡ again_row t → AllCanBeTaken ((to, message) ∷ [])
+again-can t to message fits e = subst (λ (x : Option Sent). AllCanBeTaken (sent_now x)) (sym e) fits.again
+
+commanded-by : (t : ClientTable) (j : ℕ) (command : Command) (now : ClientTable) (to : Party) (message : Message) (most : ℕ) → IsClientOf most t → CommandInRange command → command_row t j command ≡ Sends now to message → IsClientOf (most + 1) now × CanBeTaken message
+commanded-by t j command now to message most h range e =
+    let fits : CommandFits (Sends now to message) = subst CommandFits e (command-fits t j command h.fits range) in
+    let draws : DrawsOne t (Sends now to message) = subst (DrawsOne t) e (command-draws t j command) in
+    (record { fits = fits.0; numbers = (let before = h.numbers in omega arith) }, fits.1)
+
+pub commanded-world : {S A E : Type 0} (look : S → StoreView) (a b : World S) (from : Party) (n i j : ℕ) (t now : ClientTable) (command : Command) (to : Party) (message : Message) (r : Result A E)
+    → IsWorld look a → is_client n ≡ true → i + 1 ≡ n → t ≡ get_or a.clients.items i t → CommandInRange command → command_row t j command ≡ Sends now to message
+    → b.places ≡ a.places → b.clients ≡ with_item a.clients i now
+    → OnOk r (b.net.sent ≡ a.net.sent ++ posted_by from ((to, message) ∷ [])) → OnOk r (length b.net.sent ≤ 1000000) → OnOk r (IsWorld look b)
+commanded-world look a b from n i j t now command to message (Err e) h is at read range row places clients sent limit = tt
+commanded-world {S} look a b from n i j t now command to message (Ok x) h is at read range row places clients sent limit =
+    let made = commanded-by t j command now to message (length a.net.sent) (client-here look a n i t h is at read) range row in
+    world-told look a b i now from ((to, message) ∷ []) h made.0 (one to message made.1) places (ap (λ (v : _). v.items) clients) (ap vec_len clients) sent limit
+
+-- a message is taken by one of the clients
+pub taken-world : {S A E : Type 0} (look : S → StoreView) (a b : World S) (from : Party) (n i : ℕ) (t now : ClientTable) (message : Message) (taken : Taken) (r : Result A E)
+    → IsWorld look a → is_client n ≡ true → i + 1 ≡ n → t ≡ get_or a.clients.items i t → (now, taken) ≡ take_row t message
+    → b.places ≡ a.places → b.clients ≡ with_item a.clients i now
+    → OnOk r (b.net.sent ≡ a.net.sent ++ posted_by from (sent_for taken)) → OnOk r (length b.net.sent ≤ 1000000) → OnOk r (IsWorld look b)
+taken-world look a b from n i t now message taken (Err e) h is at read row places clients sent limit = tt
+taken-world {S} look a b from n i t now message taken (Ok x) h is at read row places clients sent limit =
+    let was = client-here look a n i t h is at read in
+    let fits : ClientFits now × AllCanBeTaken (sent_for taken) = subst (λ (z : ClientTable × Taken). ClientFits z.0 × AllCanBeTaken (sent_for z.1)) (sym row) (take-fits t message was.fits) in
+    let number : now.next ≡ t.next = ap (λ (z : ClientTable × Taken). z.0.next) row ∙ take-number t message in
+    world-told look a b i now from (sent_for taken) h (record { fits = fits.0; numbers = (let before = was.numbers in omega arith) }) fits.1 places (ap (λ (v : _). v.items) clients) (ap vec_len clients) sent limit
+
+-- or by one that is as new
+pub new-taken : (c : ClientNo) (servers : ℕ) (now : ClientTable) (message : Message) (taken : Taken) → servers ≤ 8 → (now, taken) ≡ take_row (new_table c servers) message → AllCanBeTaken (sent_for taken)
+new-taken c servers now message taken few row =
+    let fits : ClientFits now × AllCanBeTaken (sent_for taken) = subst (λ (z : ClientTable × Taken). ClientFits z.0 × AllCanBeTaken (sent_for z.1)) (sym row) (take-fits (new_table c servers) message (new-fits c servers few)) in fits.1
+
+pub new-client : (c : ClientNo) (servers : ℕ) → servers ≤ 8 → IsClientOf 0 (new_table c servers)
+new-client c servers few = record { fits = new-fits c servers few; numbers = omega arith }
+
+-- ---- the network
+
+-- other messages of the same kind wait
+pub world-net : {S : Type 0} (look : S → StoreView) (a : World S) (n : Carried) → IsWorld look a → n.sent ≡ a.net.sent → IsWorld look (record a { net = n })
+world-net look a n h same = record {
+  few = h.few;
+  places = subst (λ (k : ℕ). ArePlaces look k 0 a.places.items) (sym (ap length same)) h.places;
+  eight = h.eight;
+  clients = subst (λ (k : ℕ). All (IsClientOf k) a.clients.items) (sym (ap length same)) h.clients;
+  posted = subst ArePosted (sym same) h.posted;
+  limit = subst (λ (ms : List Posted). length ms ≤ 1000000) (sym same) h.limit;
+}
+
+delivered-length : (k : ℕ) (ms : List Posted) → length (with_delivered k ms) ≡ length ms
+delivered-length k [] = refl
+delivered-length zero (m ∷ ms) = refl
+delivered-length (suc k) (m ∷ ms) = ap suc (delivered-length k ms)
+
+delivered-by : (k : ℕ) (ms : List Posted) → ByRecursion (λ (m : Posted). CanBeTaken m.message) ms → ByRecursion (λ (m : Posted). CanBeTaken m.message) (with_delivered k ms)
+delivered-by k [] h = h
+delivered-by zero (m ∷ ms) h = h
+delivered-by (suc k) (m ∷ ms) h = (h.0, delivered-by k ms h.1)
+
+-- a message is handed over
+pub delivered-world : {S : Type 0} (look : S → StoreView) (a : World S) (k : ℕ) (n : Carried) → IsWorld look a → n ≡ record a.net { sent = with_delivered k a.net.sent } → IsWorld look (record a { net = n })
+delivered-world look a k n h e =
+    let P : Posted → Type 0 = λ (m : Posted). CanBeTaken m.message in
+    let sent : n.sent ≡ with_delivered k a.net.sent = ap (λ (x : Carried). x.sent) e in
+    let same : length n.sent ≡ length a.net.sent = ap length sent ∙ delivered-length k a.net.sent in
+    record {
+      few = h.few;
+      places = subst (λ (m : ℕ). ArePlaces look m 0 a.places.items) (sym same) h.places;
+      eight = h.eight;
+      clients = subst (λ (m : ℕ). All (IsClientOf m) a.clients.items) (sym same) h.clients;
+      posted = subst ArePosted (sym sent) (All-from_recursion P (with_delivered k a.net.sent) (delivered-by k a.net.sent (recursion_from_All P a.net.sent h.posted)));
+      limit = (let before = h.limit in omega arith);
+    }
+
+pub delivered-below : (a n : Carried) (k j : ℕ) → n ≡ record a { sent = with_delivered k a.sent } → j < length a.sent → j < length n.sent
+delivered-below a n k j e h = let same = ap (λ (x : Carried). length x.sent) e ∙ delivered-length k a.sent in omega arith
+
+-- the message of a number that was sent
+pub posted-at : (ms : List Posted) (k : ℕ) (m : Posted) → ArePosted ms → Some m ≡ slice_get ms k → CanBeTaken m.message
+posted-at ms k m h e =
+    let within = slice_get_within ms k m (sym e) in
+    subst (λ (x : Posted). CanBeTaken x.message) (get_or_from_slice_get ms k m m (sym e)) (All-get_or (λ (x : Posted). CanBeTaken x.message) ms k m within h)
+
+-- ---- the end
+
+closed-from : {S : Type 0} (look : S → StoreView) (n : ℕ) (ss : List S) (g : Counts) (s : S) → IsRecoverable (record { 0 = n + length ss }) g (look s) → AreClosed look n ss → AreClosed look n (ss ++ s ∷ [])
+closed-from look n [] g s h all = let at : n + 0 ≡ n = omega arith in ((g, subst (λ (k : ℕ). IsRecoverable (record { 0 = k }) g (look s)) at h), tt)
+closed-from look n (x ∷ xs) g s h all =
+    let at : n + length (x ∷ xs) ≡ n + 1 + length xs = omega arith in
+    (all.0, closed-from look (n + 1) xs g s (subst (λ (k : ℕ). IsRecoverable (record { 0 = k }) g (look s)) at h) all.1)
+
+-- one more store is given back
+pub closed-more : {S : Type 0} (look : S → StoreView) (ss : List S) (n : ℕ) (g : Counts) (s : S) → length ss ≡ n → IsRecoverable (record { 0 = n }) g (look s) → AreClosed look 0 ss → AreClosed look 0 (ss ++ s ∷ [])
+closed-more look ss n g s many h all =
+    let at : n ≡ 0 + length ss = omega arith in closed-from look 0 ss g s (subst (λ (k : ℕ). IsRecoverable (record { 0 = k }) g (look s)) at h) all
+
+-- ---- the start
+
+stores-from : {S : Type 0} (look : S → StoreView) (n : ℕ) (xs : List (S × PageCounts)) (i : ℕ) (d : S × PageCounts) → i < length xs → AreStores look n xs
+    → IsRecoverable (record { 0 = n + i }) (counts_by (get_or xs i d).1) (look (get_or xs i d).0) × ((look (get_or xs i d).0).told ≡ [])
+stores-from look n [] i d h all = absurd (omega arith)
+stores-from look n (x ∷ xs) zero d h all = let at : n ≡ n + 0 = omega arith in (subst (λ (k : ℕ). IsRecoverable (record { 0 = k }) (counts_by x.1) (look x.0)) at all.0, all.1)
+stores-from look n (x ∷ xs) (suc i) d h all =
+    let rest = stores-from look (n + 1) xs i d (omega arith) all.2 in
+    let at : n + 1 + i ≡ n + suc i = omega arith in
+    (subst (λ (k : ℕ). IsRecoverable (record { 0 = k }) (counts_by (get_or xs i d).1) (look (get_or xs i d).0)) at rest.0, rest.1)
+
+-- a server's place at the start
+pub store-place : {S : Type 0} (look : S → StoreView) (xs : List (S × PageCounts)) (i : ℕ) (s : S) (n : PageCounts) → i < length xs → (s, n) ≡ get_or xs i (s, n) → AreStores look 0 xs → IsPlace look (record { 0 = i }) 0 (record { counts = n; slot = Down s })
+store-place {S} look xs i s n h read all =
+    let found = stores-from look 0 xs i (s, n) h all in
+    let at : 0 + i ≡ i = omega arith in
+    let here : IsRecoverable (record { 0 = i }) (counts_by n) (look s) × ((look s).told ≡ []) =
+    subst (λ (x : S × PageCounts). IsRecoverable (record { 0 = i }) (counts_by x.1) (look x.0) × ((look x.0).told ≡ [])) (sym read)
+    (subst (λ (k : ℕ). IsRecoverable (record { 0 = k }) (counts_by (get_or xs i (s, n)).1) (look (get_or xs i (s, n)).0)) at found.0, found.1) in
+    record { stands = here.0; told = here.1 }
+
+push-from : {S : Type 0} (look : S → StoreView) (most n : ℕ) (ps : List (Place S)) (q : Place S) → IsPlace look (record { 0 = n + length ps }) most q → ArePlaces look most n ps → ArePlaces look most n (ps ++ q ∷ [])
+push-from look most n [] q h all = let at : n + 0 ≡ n = omega arith in (subst (λ (k : ℕ). IsPlace look (record { 0 = k }) most q) at h, tt)
+push-from look most n (p ∷ ps) q h all =
+    let at : n + length (p ∷ ps) ≡ n + 1 + length ps = omega arith in
+    (all.0, push-from look most (n + 1) ps q (subst (λ (k : ℕ). IsPlace look (record { 0 = k }) most q) at h) all.1)
+
+-- one more place
+pub places-push : {S : Type 0} (look : S → StoreView) (most n : ℕ) (ps : List (Place S)) (q : Place S) → length ps ≡ n → IsPlace look (record { 0 = n }) most q → ArePlaces look most 0 ps → ArePlaces look most 0 (ps ++ q ∷ [])
+places-push look most n ps q many h all =
+    let at : n ≡ 0 + length ps = omega arith in push-from look most 0 ps q (subst (λ (k : ℕ). IsPlace look (record { 0 = k }) most q) at h) all
+
+pub start-world : {S : Type 0} (look : S → StoreView) (w : World S) → vec_len w.places ≤ 8 → ArePlaces look 0 0 w.places.items → vec_len w.clients ≡ 8 → All (IsClientOf 0) w.clients.items → w.net.sent ≡ [] → IsWorld look w
+start-world look w few places eight clients none =
+    let same : length w.net.sent ≡ 0 = ap length none in
+    record {
+      few = few;
+      places = subst (λ (k : ℕ). ArePlaces look k 0 w.places.items) (sym same) places;
+      eight = eight;
+      clients = subst (λ (k : ℕ). All (IsClientOf k) w.clients.items) (sym same) clients;
+      posted = subst ArePosted (sym none) (All-nil (λ (m : Posted). CanBeTaken m.message));
+      limit = omega arith;
+    }

@@ -1,0 +1,25 @@
+-- The message that waits is one that was sent.
+use Rattle.std.proofs.Common.{◌≡◌, ◌≤◌, ◌<◌, ℕ, ◌+◌, Bool, true, false, cond, List, [], ◌∷◌, length, drop, length-drop, Some, is_some, true≢false, sym, ap, arith}
+use Rattle.std.specs.List.{position_from}
+use Rattle.std.specs.Prelude.{not}
+use Rattle.jn_net.specs.Carried.{Carried, waiting}
+use Rattle.jn_net.specs.declared.Sent.{Sent}
+
+some-same : (a b : ℕ) → Some a ≡ Some b → a ≡ b
+some-same a b e = cc
+
+position-within : {X : Type 0} (p : X → Bool) (n : ℕ) (xs : List X) (k : ℕ) → position_from p n xs ≡ Some k → (n ≤ k) × (k < n + length xs)
+position-within p n [] k e = absurd (true≢false (sym (ap is_some e)))
+position-within {X} p n (x ∷ xs) k e = by (p x) e (λ r. position-within p (n + 1) xs k r)
+  where
+    by : (b : Bool) → cond b (Some n) (position_from p (n + 1) xs) ≡ Some k → (position_from p (n + 1) xs ≡ Some k → (n + 1 ≤ k) × (k < n + 1 + length xs)) → (n ≤ k) × (k < n + length (x ∷ xs))
+    by true e again = let same = some-same n k e in (omega arith, omega arith)
+    by false e again = let rest = again e in let low = rest.0 in let high = rest.1 in (omega arith, omega arith)
+
+pub waiting-below : (c : Carried) (k : ℕ) → Some k ≡ waiting c → k < length c.sent
+waiting-below c k e =
+    let within = position-within (λ (m : Sent). not m.delivered) c.forgotten (drop c.forgotten c.sent) k (sym e) in
+    let low = within.0 in
+    let high = within.1 in
+    let rest = length-drop c.forgotten c.sent in
+    omega arith

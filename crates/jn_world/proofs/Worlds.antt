@@ -1,0 +1,20 @@
+-- Parts of the world that a call leaves.
+use Rattle.std.proofs.Common.{◌≡◌, ap, sym, subst}
+use Rattle.jn_store.specs.Store.{StoreView}
+use Rattle.jn_world.specs.declared.world.World.{World}
+use Rattle.jn_world.specs.Standing.{IsWorld}
+
+pub places-of : {S : Type 0} (a b : World S) → b ≡ record a { net = b.net; named = b.named } → b.places ≡ a.places
+places-of {S} a b e = ap (λ (w : World S). w.places) e
+
+pub clients-of : {S : Type 0} (a b : World S) → b ≡ record a { net = b.net; named = b.named } → b.clients ≡ a.clients
+clients-of {S} a b e = ap (λ (w : World S). w.clients) e
+
+pub net-places : {S : Type 0} (a b : World S) → b ≡ record a { net = b.net } → b.places ≡ a.places
+net-places {S} a b e = ap (λ (w : World S). w.places) e
+
+pub net-clients : {S : Type 0} (a b : World S) → b ≡ record a { net = b.net } → b.clients ≡ a.clients
+net-clients {S} a b e = ap (λ (w : World S). w.clients) e
+
+pub world-as : {S : Type 0} (look : S → StoreView) (a b : World S) → a ≡ b → IsWorld look b → IsWorld look a
+world-as {S} look a b e h = subst (λ (w : World S). IsWorld look w) (sym e) h

@@ -1,0 +1,46 @@
+use Rattle.std.proofs.Common.{ℕ, ◌+◌, length, List, sym, subst, ◌∙◌, ap, arith}
+use Rattle.std.proofs.lemmas.Iterator.Adapters.{YieldsList-from_vec}
+use Rattle.std.proofs.lemmas.Iterator.Consumers.{YieldsList-turn, YieldsList-end}
+use Rattle.std.proofs.lemmas.List.{length_push}
+use Rattle.jn_net.specs.Carried.{Carried}
+use Rattle.jn_store.specs.Store.{StoreView}
+use Rattle.jn_world.specs.declared.place.Place.{Place}
+use Rattle.jn_world.specs.declared.place.Slot.TheVariants.{Down}
+use Rattle.jn_world.specs.Standing.{ArePlaces}
+use Rattle.jn_world.proofs.Places.{store-place, places-push, start-world}
+use Rattle.jn_world.proofs.starting.down.Goals as goal
+
+pub loop-store-preserved : goal.loop-store-preserved
+loop-store-preserved g c =
+    let look : g.row.S.Denot → StoreView = λ s. g.S.StableStore.view s in
+    let xs = c.args.stores.items in
+    let gives = c.into_iter-store-iterator.ensures.into_iter_gives in
+    let long = c.args.stores.ok.0 in
+    let t = YieldsList-turn (YieldsList-from_vec {s = c.into_iter-store-iterator.result} xs (cc) (cc)) c.loop-store.yielded c.loop-store.store-iterator c.loop-store.yielded_by c.next.result c.next.new.self (c.in-Some.store, c.in-Some.counts) c.in-Some.is c.next.ensures.steps in
+    let n = length c.loop-store.yielded in
+    let ps = c.loop-store.places.items in
+    let q : Place g.row.S.Denot = record { counts = c.in-Some.counts; slot = Down c.in-Some.store } in
+    let pushed = c.in_ok-push.ensures in
+    let many = c.loop-store.invariant.many in
+    record {
+      places = subst (λ (xs : List (Place g.row.S.Denot)). ArePlaces look 0 0 xs) (sym pushed.items)
+          (places-push look 0 n ps q many (store-place look xs n c.in-Some.store c.in-Some.counts t.0 t.1 c.requires.stores) c.loop-store.invariant.places);
+      many = ap length pushed.items ∙ length_push ps q ∙ ap (λ (k : ℕ). k + 1) many ∙ sym (length_push c.loop-store.yielded (c.in-Some.store, c.in-Some.counts));
+    }
+
+pub returns : goal.returns
+returns g c =
+    let look : g.row.S.Denot → StoreView = λ s. g.S.StableStore.view s in
+    let xs = c.args.stores.items in
+    let gives = c.into_iter-store-iterator.ensures.into_iter_gives in
+    let long = c.args.stores.ok.0 in
+    let t = YieldsList-end (YieldsList-from_vec {s = c.into_iter-store-iterator.result} xs (cc) (cc)) c.loop-store.yielded c.loop-store.store-iterator c.loop-store.yielded_by c.next.result c.next.new.self c.in-None.is c.next.ensures.steps in
+    let all = t.1 in
+    let many = c.loop-store.invariant.many in
+    let few = c.requires.few in
+    let own = c.loop-store.places.ok.0 in
+    let clients = c.in_ok-new_clients.ensures in
+    record {
+      world = start-world look (record { places = c.loop-store.places; clients = c.in_ok-new_clients.field-0; net = c.new.result; named = c.new-2.result; trace = c.args.trace; alloc = c.args.alloc })
+          (omega arith) c.loop-store.invariant.places clients.0 clients.1 (ap (λ (n : Carried). n.sent) c.new.ensures);
+    }

@@ -1,0 +1,52 @@
+use Rattle.std.proofs.Common.{refl, length, arith}
+use Rattle.std.specs.Vec.{with_item}
+use Rattle.jn_store.specs.Store.{StoreView}
+use Rattle.jn_recovery.specs.Loading.{counts_by}
+use Rattle.jn_world.proofs.Places.{place-there, moved-quiet}
+use Rattle.jn_world.specs.Standing.{IsWorld}
+use Rattle.jn_world.proofs.Steps.{any-ok}
+use Rattle.jn_world.proofs.Slots.{has-pages}
+use Rattle.jn_world.proofs.world.World.arm.Goals as goal
+
+pub arm-requires-clause-pages : goal.arm-requires-clause-pages
+arm-requires-clause-pages g c =
+    let look : g.row.S.Denot → StoreView = λ s. g.S.StableStore.view s in
+    let w = c.args.self.now in
+    let server = c.args.server in
+    let i = c.from.result in
+    let p = c.index_mut-place.result.now in
+    let place = place-there look w server i p c.from.ensures (let few = c.requires.there in omega (arith, w.places.ok.0)) c.index_mut-place.ensures.value c.requires.world in
+    has-pages look server (counts_by p.counts) (length w.net.sent) p.slot place.stands
+
+pub arm-requires-clause-none_told : goal.arm-requires-clause-none_told
+arm-requires-clause-none_told g c =
+    let look : g.row.S.Denot → StoreView = λ s. g.S.StableStore.view s in
+    let w = c.args.self.now in
+    let server = c.args.server in
+    let i = c.from.result in
+    let p = c.index_mut-place.result.now in
+    let place = place-there look w server i p c.from.ensures (let few = c.requires.there in omega (arith, w.places.ok.0)) c.index_mut-place.ensures.value c.requires.world in
+    place.told
+
+pub returns-then-not-arm : goal.returns-then-not-arm
+returns-then-not-arm g c =
+    let look : g.row.S.Denot → StoreView = λ s. g.S.StableStore.view s in
+    let w = c.args.self.now in
+    let server = c.args.server in
+    let i = c.from.result in
+    let p = c.index_mut-place.result.now in
+    let place = place-there look w server i p c.from.ensures (let few = c.requires.there in omega (arith, w.places.ok.0)) c.index_mut-place.ensures.value c.requires.world in
+    let q = c.arm.new.self in
+    let b = record w { places = with_item w.places i q } in
+    record { world = any-ok (IsWorld look b) c.refuse-then-not-arm.result (moved-quiet look w b server i q c.from.ensures c.requires.world (c.arm.ensures.place server (length w.net.sent) place) refl refl refl) }
+
+pub returns : goal.returns
+returns g c =
+    let look : g.row.S.Denot → StoreView = λ s. g.S.StableStore.view s in
+    let w = c.args.self.now in
+    let server = c.args.server in
+    let i = c.from.result in
+    let p = c.index_mut-place.result.now in
+    let place = place-there look w server i p c.from.ensures (let few = c.requires.there in omega (arith, w.places.ok.0)) c.index_mut-place.ensures.value c.requires.world in
+    let q = c.arm.new.self in
+    record { world = moved-quiet look w (record w { places = with_item w.places i q }) server i q c.from.ensures c.requires.world (c.arm.ensures.place server (length w.net.sent) place) refl refl refl }

@@ -1,0 +1,44 @@
+use Rattle.std.proofs.Common.{◌<◌, length, ap, arith}
+use Rattle.jn_store.specs.Store.{StoreView}
+use Rattle.jn_world.specs.declared.world.World.{World}
+use Rattle.jn_world.specs.Standing.{IsWorld}
+use Rattle.jn_world.proofs.Steps.{any-ok}
+use Rattle.jn_world.proofs.Places.{place-there, place-million, down-here, moved-quiet}
+use Rattle.jn_world.proofs.world.World.bring_up.Goals as goal
+
+pub come_up-requires-clause-place : goal.come_up-requires-clause-place
+come_up-requires-clause-place g c =
+    let look : g.row.S.Denot → StoreView = λ s. g.S.StableStore.view s in
+    let w = c.args.self.now in
+    let server = c.args.server in
+    let i = c.from.result in
+    let p = c.index_mut-place.result.now in
+    let within : server.0 < length w.places.items = (let few = c.requires.there in omega (arith, w.places.ok.0)) in
+    let place = place-there look w server i p c.from.ensures within c.index_mut-place.ensures.value c.requires.world in
+    place-million look w server p c.requires.world place
+
+pub come_up-requires-clause-down : goal.come_up-requires-clause-down
+come_up-requires-clause-down g c =
+    let look : g.row.S.Denot → StoreView = λ s. g.S.StableStore.view s in
+    let w = c.args.self.now in
+    let server = c.args.server in
+    let i = c.from.result in
+    let p = c.index_mut-place.result.now in
+    let within : server.0 < length w.places.items = (let few = c.requires.there in omega (arith, w.places.ok.0)) in
+    let place = place-there look w server i p c.from.ensures within c.index_mut-place.ensures.value c.requires.world in
+    down-here w server i p c.from.ensures within c.requires.down c.index_mut-place.ensures.value
+
+pub returns-clause-world : goal.returns-clause-world
+returns-clause-world g c =
+    let look : g.row.S.Denot → StoreView = λ s. g.S.StableStore.view s in
+    let w = c.args.self.now in
+    let server = c.args.server in
+    let i = c.from.result in
+    let p = c.index_mut-place.result.now in
+    let within : server.0 < length w.places.items = (let few = c.requires.there in omega (arith, w.places.ok.0)) in
+    let place = place-there look w server i p c.from.ensures within c.index_mut-place.ensures.value c.requires.world in
+    let q = c.come_up.new.self in
+    let b = c.tell_restarted.new.self in
+    let step = c.in_ok-restarted.ensures in
+    any-ok (IsWorld look b) c.tell_restarted.result (moved-quiet look w b server i q c.from.ensures c.requires.world (step.place (length w.net.sent) place)
+    (ap (λ (x : World g.row.S.Denot). x.places) c.tell_restarted.ensures) (ap (λ (x : World g.row.S.Denot). x.clients) c.tell_restarted.ensures) (ap (λ (x : World g.row.S.Denot). x.net) c.tell_restarted.ensures))

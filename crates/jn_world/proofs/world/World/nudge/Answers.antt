@@ -1,0 +1,29 @@
+use Rattle.jn_store.specs.Store.{StoreView}
+use Rattle.jn_base.specs.declared.names.Party.TheVariants.{Server}
+use Rattle.jn_recovery.specs.Loading.{counts_by}
+use Rattle.jn_world.proofs.Places.{place-here, place-million, up-here, sent-world}
+use Rattle.jn_world.proofs.Slots.{serves-here}
+use Rattle.jn_world.proofs.Worlds.{places-of, clients-of}
+use Rattle.jn_world.proofs.world.World.nudge.Goals as goal
+
+pub again-requires : goal.again-requires
+again-requires g c =
+    let look : g.row.S.Denot → StoreView = λ s. g.S.StableStore.view s in
+    let w = c.args.self.now in
+    let server = c.args.server in
+    let i = c.from.result in
+    let p = c.index.result.now in
+    let place = place-here look w server i p c.from.ensures c.requires.up c.index.ensures c.requires.world in
+    let million = place-million look w server p c.requires.world place in
+    record { serves = serves-here look server (counts_by p.counts) 1000000 p.slot million.stands (up-here w server i p c.from.ensures c.requires.up c.index.ensures) }
+
+pub returns : goal.returns
+returns g c =
+    let look : g.row.S.Denot → StoreView = λ s. g.S.StableStore.view s in
+    let w = c.args.self.now in
+    let b = c.end_step.new.self in
+    let sent = c.in_ok-out.ensures in
+    record {
+      world = sent-world look w b (Server c.args.server) c.in_ok-out.out.messages c.end_step.result c.requires.world sent.sent
+          (places-of w b c.end_step.ensures.others) (clients-of w b c.end_step.ensures.others) c.end_step.ensures.sent c.end_step.ensures.limit;
+    }

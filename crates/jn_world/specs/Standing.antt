@@ -1,0 +1,76 @@
+-- When the world stands so that every event can be done.
+use Rattle.std.specs.Prelude.{◌≡◌, ◌≤◌, ◌+◌, ℕ, Bool, false, nat_lt, ◌&&◌, List, [], ◌∷◌, map, length, slice_get, All, vec_len, Option, Some, None}
+use Rattle.jn_base.specs.declared.names.Party.{Party}
+use Rattle.jn_found.specs.Recoverable.{IsRecoverable}
+use Rattle.jn_msgs.specs.Collected.{Collected}
+use Rattle.jn_net.specs.declared.Sent.{Sent as Posted}
+use Rattle.jn_records.specs.StablePages.{Counts}
+use Rattle.jn_recovery.specs.declared.counts.PageCounts.{PageCounts}
+use Rattle.jn_recovery.specs.Loading.{counts_by}
+use Rattle.jn_rows.specs.Client.{ClientTable}
+use Rattle.jn_rows.specs.Outcomes.{Sent}
+use Rattle.jn_store.specs.Store.{StoreView}
+use Rattle.jn_world.specs.declared.place.Place.{Place}
+use Rattle.jn_world.specs.declared.world.World.{World}
+use Rattle.jn_within.specs.Taking.{CanBeTaken, ClientFits}
+use Rattle.jn_world.specs.Places.{IsPlace, is_up}
+
+-- the places of the servers from this number on
+abbrev pub ArePlaces : {S : Type 0} → (S → StoreView) → ℕ → ℕ → List (Place S) → Type 0
+ArePlaces look most n [] = Unit {0}
+ArePlaces look most n (p ∷ ps) = IsPlace look (record { 0 = n }) most p × ArePlaces look most (n + 1) ps
+
+-- a client's table fits, and it has given no more numbers than this
+pub record IsClientOf (most : ℕ) (t : ClientTable) : Type 0 where
+  pub fits : ClientFits t
+  pub numbers : t.next ≤ most + 1
+
+-- each message that was sent can be taken
+abbrev pub ArePosted : List Posted → Type 0
+ArePosted sent = All (λ (m : Posted). CanBeTaken m.message) sent
+
+-- at most so many names were drawn at each server, and so many numbers by each client
+pub record IsWorldUpTo {S : Type 0} (look : S → StoreView) (most : ℕ) (w : World S) : Type 0 where
+  pub few : vec_len w.places ≤ 8
+  pub places : ArePlaces look most 0 w.places.items
+  pub eight : vec_len w.clients ≡ 8
+  pub clients : All (IsClientOf most) w.clients.items
+  pub posted : ArePosted w.net.sent
+  pub limit : length w.net.sent ≤ 1000000
+
+-- Between two steps. A name is drawn, and a number given, only with a message.
+abbrev pub IsWorld : {S : Type 0} → (S → StoreView) → World S → Type 0
+IsWorld look w = IsWorldUpTo look (length w.net.sent) w
+
+-- a party's messages as the network keeps them
+abbrev pub posted_by : Party → List Sent → List Posted
+posted_by from messages = map (λ (m : Sent). record { from = from; to = m.0; message = m.1; delivered = false }) messages
+
+-- what a step sends, which sends nothing where it is stopped
+abbrev pub messages_in : Option Collected → List Sent
+messages_in None = []
+messages_in (Some out) = out.messages
+
+-- whether the server of this number is there and up
+abbrev pub is_up_in : {S : Type 0} → Option (Place S) → Bool
+is_up_in None = false
+is_up_in (Some p) = is_up p.slot
+
+abbrev pub is_up_at : {S : Type 0} → ℕ → List (Place S) → Bool
+is_up_at n ps = is_up_in (slice_get ps n)
+
+-- whether a client is one of the eight
+abbrev pub is_client : ℕ → Bool
+is_client c = nat_lt 0 c && nat_lt c 9
+
+-- ---- the start and the end
+
+-- the stores of the servers from this number on: from each a restart may begin, and no fault that was outside is told
+abbrev pub AreStores : {S : Type 0} → (S → StoreView) → ℕ → List (S × PageCounts) → Type 0
+AreStores look n [] = Unit {0}
+AreStores look n (x ∷ xs) = IsRecoverable (record { 0 = n }) (counts_by x.1) (look x.0) × ((look x.0).told ≡ []) × AreStores look (n + 1) xs
+
+-- and so again at the end
+abbrev pub AreClosed : {S : Type 0} → (S → StoreView) → ℕ → List S → Type 0
+AreClosed look n [] = Unit {0}
+AreClosed look n (s ∷ ss) = ((g : Counts) × IsRecoverable (record { 0 = n }) g (look s)) × AreClosed look (n + 1) ss

@@ -1,0 +1,217 @@
+//! What clients do.
+ghost use Rattle.std.specs.Prelude.{◌≡◌, ◌<◌, ◌≤◌, ◌+◌, true, false, vec_len, length, nat_lt, OnOk, IfOk, All, [], ◌∷◌, ◌++◌};
+ghost use Rattle.jn_within.specs.Taking.{CanBeTaken, AllCanBeTaken, CommandInRange};
+ghost use Rattle.jn_world.specs.Standing.{IsWorld, IsWorldUpTo, is_up_at, posted_by};
+ghost use Rattle.jn_base.specs.declared.names.Party.TheVariants.{Client as AClient};
+ghost use Rattle.jn_within.specs.Taking.{sent_for};
+ghost use Rattle.jn_world.specs.Standing.{is_client, IsClientOf};
+
+use crate::ended::Ended;
+use crate::telling::tell;
+use crate::world::{CLIENTS, World, is_client};
+use jn_base::{ClientNo, Command, Party};
+use jn_client::{Client, CommandFault};
+use jn_msgs::Message;
+use jn_report::{Line, Text, When};
+use jn_rows::Taken;
+use jn_store::Powered;
+use std::alloc::{AllocError, Global};
+
+/// All clients, which have no transaction yet.
+pub(crate) fn new_clients(alloc: Global, servers: u8) -> Result<Vec<Client>, AllocError>
+    requires { servers ≤ 8 }
+    ensures { IfOk result (λ clients. (vec_len clients ≡ 8) × All (IsClientOf 0) clients.items) }
+{
+    let mut clients = Vec::new(alloc);
+    for c in 0..CLIENTS {
+        clients.push(Client::new(alloc, ClientNo(c + 1), servers))?;
+    }
+    Ok(clients)
+}
+
+/// Where a client stands among all clients.
+fn index_of(client: ClientNo) -> usize
+    requires { 0 < client.0 }
+    ensures { result + 1 ≡ client.0 }
+{
+    usize::from(client.0) - 1
+}
+
+/// What a client does with a message that has given no command yet.
+fn take_as_new(alloc: Global, client: ClientNo, servers: u8, message: &Message) -> Taken
+    requires { servers ≤ 8 }
+    ensures { AllCanBeTaken (sent_for result) }
+{
+    let mut new = Client::new(alloc, client, servers);
+    new.take(message)
+}
+
+impl<S: Powered + Drop> World<S> {
+    /// A client is told to do something by the event of this number.
+    pub(crate) fn command(
+        &mut self,
+        client: ClientNo,
+        number: u32,
+        command: &Command,
+        lines: &mut Vec<Line>,
+    ) -> Result<(), Ended>
+        requires world { IsWorld (λ s. S.view s) self.old }
+        requires client { is_client client.0 ≡ true }
+        requires range { CommandInRange command.now }
+        ensures world { OnOk result (IsWorld (λ s. S.view s) self.new) }
+    {
+        let when = When::Event(number);
+        match self.clients[index_of(client)].command(number, command) {
+            Ok(Some((to, message))) => self.send(client, to, message, when, lines),
+            Ok(None) => unreachable!(),
+            Err(CommandFault::Refused(refusal)) => {
+                tell(lines, when, Text::Refused(client, number, refusal))?;
+                Ok(())
+            }
+            Err(CommandFault::Memory) => Err(Ended::Memory),
+        }
+    }
+
+    /// A client sends a message.
+    fn send(
+        &mut self,
+        client: ClientNo,
+        to: Party,
+        message: Message,
+        when: When,
+        lines: &mut Vec<Line>,
+    ) -> Result<(), Ended>
+        requires few { length self.old.net.sent ≤ 1000000 }
+        ensures others { self.new ≡ record self.old { net = self.new.net } }
+        ensures sent { OnOk result (self.new.net.sent ≡ self.old.net.sent ++ posted_by (AClient client) ((to, message) ∷ [])) }
+        ensures limit { OnOk result (length self.new.net.sent ≤ 1000000) }
+    {
+        self.post(Party::Client(client), to, message, when, lines)
+    }
+
+    /// A client sends its outstanding message once more.
+    pub(crate) fn again(
+        &mut self,
+        client: ClientNo,
+        when: When,
+        lines: &mut Vec<Line>,
+    ) -> Result<(), Ended>
+        requires world { IsWorld (λ s. S.view s) self.old }
+        requires client { is_client client.0 ≡ true }
+        ensures world { OnOk result (IsWorld (λ s. S.view s) self.new) }
+    {
+        match self.clients[index_of(client)].again()? {
+            None => Ok(()),
+            Some((to, message)) => self.send(client, to, message, when, lines),
+        }
+    }
+
+    /// A client takes a message. One that isn't of the clients there are is as new, and stays so.
+    pub(crate) fn take_at_client(
+        &mut self,
+        client: ClientNo,
+        k: u32,
+        when: When,
+        lines: &mut Vec<Line>,
+    ) -> Result<(), Ended>
+        requires world { IsWorld (λ s. S.view s) self.old }
+        requires sent { k < length self.old.net.sent }
+        ensures world { OnOk result (IsWorld (λ s. S.view s) self.new) }
+    {
+        if is_client(client) {
+            return self.take_at_own(client, k, when, lines);
+        }
+        self.take_at_other(client, k, when, lines)
+    }
+
+    /// One of the clients there are takes a message.
+    fn take_at_own(
+        &mut self,
+        client: ClientNo,
+        k: u32,
+        when: When,
+        lines: &mut Vec<Line>,
+    ) -> Result<(), Ended>
+        requires world { IsWorld (λ s. S.view s) self.old }
+        requires sent { k < length self.old.net.sent }
+        requires client { is_client client.0 ≡ true }
+        ensures world { OnOk result (IsWorld (λ s. S.view s) self.new) }
+    {
+        let Some(sent) = self.net.message(k) else {
+            unreachable!()
+        };
+        let taken = self.clients[index_of(client)].take(&sent.message);
+        self.tell_taken(client, k, taken, when, lines)
+    }
+
+    /// A client that isn't there takes a message.
+    fn take_at_other(
+        &mut self,
+        client: ClientNo,
+        k: u32,
+        when: When,
+        lines: &mut Vec<Line>,
+    ) -> Result<(), Ended>
+        requires world { IsWorld (λ s. S.view s) self.old }
+        requires sent { k < length self.old.net.sent }
+        ensures world { OnOk result (IsWorld (λ s. S.view s) self.new) }
+    {
+        let servers = self.servers();
+        let Some(sent) = self.net.message(k) else {
+            unreachable!()
+        };
+        let taken = take_as_new(self.alloc, client, servers, &sent.message);
+        self.tell_taken(client, k, taken, when, lines)
+    }
+
+    fn tell_taken(
+        &mut self,
+        client: ClientNo,
+        k: u32,
+        taken: Taken,
+        when: When,
+        lines: &mut Vec<Line>,
+    ) -> Result<(), Ended>
+        requires few { length self.old.net.sent ≤ 1000000 }
+        ensures others { self.new ≡ record self.old { net = self.new.net } }
+        ensures sent { OnOk result (self.new.net.sent ≡ self.old.net.sent ++ posted_by (AClient client) (sent_for taken)) }
+        ensures limit { OnOk result (length self.new.net.sent ≤ 1000000) }
+    {
+        match taken {
+            Taken::Ignored => {
+                tell(lines, when, Text::Ignored(k))?;
+                Ok(())
+            }
+            Taken::Send(to, message) => self.send(client, to, message, when, lines),
+            Taken::Told(text, None) => {
+                tell(lines, when, text)?;
+                Ok(())
+            }
+            Taken::Told(text, Some((to, message))) => {
+                self.tell_and_send(client, text, to, message, when, lines)
+            }
+        }
+    }
+
+    /// A client's line, and the message that it sends. Where the message can't be sent there is no line.
+    fn tell_and_send(
+        &mut self,
+        client: ClientNo,
+        text: Text,
+        to: Party,
+        message: Message,
+        when: When,
+        lines: &mut Vec<Line>,
+    ) -> Result<(), Ended>
+        requires few { length self.old.net.sent ≤ 1000000 }
+        ensures others { self.new ≡ record self.old { net = self.new.net } }
+        ensures sent { OnOk result (self.new.net.sent ≡ self.old.net.sent ++ posted_by (AClient client) ((to, message) ∷ [])) }
+        ensures limit { OnOk result (length self.new.net.sent ≤ 1000000) }
+    {
+        let mut told = Vec::new(self.alloc);
+        tell(&mut told, when, text)?;
+        self.send(client, to, message, when, &mut told)?;
+        lines.extend_from_slice(&told)?;
+        Ok(())
+    }
+}

@@ -1,0 +1,120 @@
+//! What befalls a server's device.
+ghost use Rattle.std.specs.Prelude.{◌≡◌, ◌<◌, ◌≤◌, ◌+◌, true, false, vec_len, length, nat_lt, OnOk, IfOk};
+ghost use Rattle.jn_within.specs.Taking.{CanBeTaken, AllCanBeTaken, CommandInRange};
+ghost use Rattle.jn_world.specs.Standing.{IsWorld, IsWorldUpTo, is_up_at, posted_by};
+ghost use Rattle.jn_device.specs.Events.{is_within};
+ghost use Rattle.jn_schedule.specs.Ranges.{EventInRange};
+
+use crate::ended::Ended;
+use crate::telling::tell;
+use crate::world::{World, refuse};
+use jn_base::{FaultKind, Outside, ServerNo};
+use jn_report::{EventRefusal, Line, Text, When};
+use jn_schedule::Event;
+use jn_store::Powered;
+
+/// Whether a fault names a page that there is.
+fn is_within(pages: u32, kind: FaultKind) -> bool
+    ensures { result ≡ is_within pages kind }
+{
+    match kind {
+        FaultKind::Decay(p) | FaultKind::Revive(p) => p < pages,
+        _ => true,
+    }
+}
+
+impl<S: Powered + Drop> World<S> {
+    /// An event of the device of a server that must be there, up or down.
+    pub(crate) fn befall(
+        &mut self,
+        server: ServerNo,
+        event: &Event,
+        when: When,
+        lines: &mut Vec<Line>,
+    ) -> Result<(), Ended>
+        requires world { IsWorld (λ s. S.view s) self.old }
+        requires range { EventInRange event.now }
+        ensures world { OnOk result (IsWorld (λ s. S.view s) self.new) }
+    {
+        if !self.has(server) {
+            return refuse(lines, when, EventRefusal::NoSuchServer);
+        }
+        match event {
+            Event::Decay(_, p) => self.decay(server, *p, when, lines),
+            Event::Revive(_, p) => self.revive(server, *p, when, lines),
+            Event::Arm(_, n, kind) => self.arm(server, *n, *kind, when, lines),
+            _ => Ok(()),
+        }
+    }
+
+    /// A page goes bad, or that is told as outside of what is allowed.
+    fn decay(
+        &mut self,
+        server: ServerNo,
+        p: u32,
+        when: When,
+        lines: &mut Vec<Line>,
+    ) -> Result<(), Ended>
+        requires world { IsWorld (λ s. S.view s) self.old }
+        requires there { server.0 < vec_len self.old.places }
+        ensures world { OnOk result (IsWorld (λ s. S.view s) self.new) }
+    {
+        let place = &mut self.places[usize::from(server.0)];
+        if p >= place.pages() {
+            return refuse(lines, when, EventRefusal::NoSuchPage);
+        }
+        if !place.decay(p) {
+            let kind = FaultKind::Decay(p);
+            tell(
+                lines,
+                when,
+                Text::Outside(server, Outside { kind, page: p }),
+            )?;
+        }
+        Ok(())
+    }
+
+    /// A bad page is good again.
+    fn revive(
+        &mut self,
+        server: ServerNo,
+        p: u32,
+        when: When,
+        lines: &mut Vec<Line>,
+    ) -> Result<(), Ended>
+        requires world { IsWorld (λ s. S.view s) self.old }
+        requires there { server.0 < vec_len self.old.places }
+        ensures world { OnOk result (IsWorld (λ s. S.view s) self.new) }
+    {
+        let place = &mut self.places[usize::from(server.0)];
+        if p >= place.pages() {
+            return refuse(lines, when, EventRefusal::NoSuchPage);
+        }
+        place.revive(p);
+        Ok(())
+    }
+
+    /// A fault waits for the n-th device call from now.
+    fn arm(
+        &mut self,
+        server: ServerNo,
+        n: u32,
+        kind: FaultKind,
+        when: When,
+        lines: &mut Vec<Line>,
+    ) -> Result<(), Ended>
+        requires world { IsWorld (λ s. S.view s) self.old }
+        requires there { server.0 < vec_len self.old.places }
+        requires from_one { 0 < n }
+        ensures world { OnOk result (IsWorld (λ s. S.view s) self.new) }
+    {
+        let place = &mut self.places[usize::from(server.0)];
+        if !is_within(place.pages(), kind) {
+            return refuse(lines, when, EventRefusal::NoSuchPage);
+        }
+        if !place.arm(n, kind) {
+            return refuse(lines, when, EventRefusal::TooManyArmed);
+        }
+        Ok(())
+    }
+}

@@ -1,0 +1,138 @@
+//! What a step sends and tells.
+ghost use Rattle.std.specs.Prelude.{◌≡◌, ◌≤◌, ◌++◌, ◌∷◌, [], false, length, OnOk};
+ghost use Rattle.jn_base.specs.declared.names.Party.TheVariants.{Server};
+ghost use Rattle.jn_world.specs.Standing.{posted_by, messages_in};
+
+use crate::ended::Ended;
+use crate::telling::tell;
+use crate::world::World;
+use jn_base::{Party, ServerNo};
+use jn_msgs::{Message, Note, Out};
+use jn_report::{Line, Text, When};
+use jn_store::Powered;
+
+impl<S: Powered + Drop> World<S> {
+    /// A step of a server ends: unless it was stopped its notes are told and its messages sent. Its lines are added.
+    pub(crate) fn end_step(
+        &mut self,
+        server: ServerNo,
+        message: Option<u32>,
+        answer: Option<Out>,
+        when: When,
+        told: Vec<Line>,
+        lines: &mut Vec<Line>,
+    ) -> Result<(), Ended>
+        requires few { length self.old.net.sent ≤ 1000000 }
+        ensures others { self.new ≡ record self.old { net = self.new.net; named = self.new.named } }
+        ensures sent { OnOk result (self.new.net.sent ≡ self.old.net.sent ++ posted_by (Server server) (messages_in answer)) }
+        ensures limit { OnOk result (length self.new.net.sent ≤ 1000000) }
+    {
+        let mut told = told;
+        if let Some(out) = answer {
+            self.send_out(server, message, out, when, &mut told)?;
+        }
+        lines.extend_from_slice(&told)?;
+        Ok(())
+    }
+
+    /// The notes of a server's step are told, and its messages sent.
+    fn send_out(
+        &mut self,
+        server: ServerNo,
+        message: Option<u32>,
+        out: Out,
+        when: When,
+        told: &mut Vec<Line>,
+    ) -> Result<(), Ended>
+        requires few { length self.old.net.sent ≤ 1000000 }
+        ensures others { self.new ≡ record self.old { net = self.new.net; named = self.new.named } }
+        ensures sent { OnOk result (self.new.net.sent ≡ self.old.net.sent ++ posted_by (Server server) out.messages) }
+        ensures limit { OnOk result (length self.new.net.sent ≤ 1000000) }
+    {
+        let (messages, notes) = out.into_parts();
+        self.tell_notes(server, message, &notes, when, told)?;
+        self.post_all(Party::Server(server), messages, when, told)
+    }
+
+    /// Sends messages, the first one first.
+    fn post_all(
+        &mut self,
+        from: Party,
+        messages: Vec<(Party, Message)>,
+        when: When,
+        told: &mut Vec<Line>,
+    ) -> Result<(), Ended>
+        requires few { length self.old.net.sent ≤ 1000000 }
+        ensures others { self.new ≡ record self.old { net = self.new.net } }
+        ensures sent { OnOk result (self.new.net.sent ≡ self.old.net.sent ++ posted_by from messages.items) }
+        ensures limit { OnOk result (length self.new.net.sent ≤ 1000000) }
+    {
+        for (to, message) in messages {
+            self.post(from, to, message, when, told)?;
+        }
+        Ok(())
+    }
+
+    /// Sends a message, with a line where messages are traced.
+    pub(crate) fn post(
+        &mut self,
+        from: Party,
+        to: Party,
+        message: Message,
+        when: When,
+        told: &mut Vec<Line>,
+    ) -> Result<(), Ended>
+        ensures others { self.new ≡ record self.old { net = self.new.net } }
+        ensures sent { OnOk result (self.new.net.sent ≡ self.old.net.sent ++ posted_by from ((to, message) ∷ [])) }
+        ensures limit { OnOk result (length self.new.net.sent ≤ 1000000) }
+    {
+        let kind = message.kind();
+        let k = self.net.send(from, to, message)?;
+        if self.trace {
+            tell(told, when, Text::Message(k, from, to, kind))?;
+        }
+        Ok(())
+    }
+
+    /// Tells the notes of a server's step, in which this message was handed over.
+    fn tell_notes(
+        &mut self,
+        server: ServerNo,
+        message: Option<u32>,
+        notes: &[Note],
+        when: When,
+        told: &mut Vec<Line>,
+    ) -> Result<(), Ended>
+        ensures { self.new ≡ record self.old { named = self.new.named } }
+    {
+        for note in notes {
+            self.tell_note(server, message, *note, when, told)?;
+        }
+        Ok(())
+    }
+
+    fn tell_note(
+        &mut self,
+        server: ServerNo,
+        message: Option<u32>,
+        note: Note,
+        when: When,
+        told: &mut Vec<Line>,
+    ) -> Result<(), Ended>
+        ensures { self.new ≡ record self.old { named = self.new.named } }
+    {
+        match note {
+            Note::Commit(tid) => {
+                self.named.add(tid)?;
+                tell(told, when, Text::Commit(tid))?;
+            }
+            Note::Broke(tid, unit, by) => tell(told, when, Text::Broke(server, tid, unit, by))?,
+            Note::Ignored => {
+                if let Some(k) = message {
+                    tell(told, when, Text::Ignored(k))?;
+                }
+            }
+        }
+        Ok(())
+    }
+}
