@@ -1,25 +1,31 @@
--- What a run of events leaves.
-use Rattle.std.specs.Prelude.{◌≡◌, ◌≤◌, ◌⊎◌, ◌+◌, ℕ, true, false, List, length, Option, Result, Ok, Err, is_ok}
-use Rattle.jn_schedule.specs.declared.Event.{Event}
+-- What a sink took of a run in a world of servers.
+use Rattle.std.specs.Prelude.{◌≡◌, ◌≤◌, ℕ, true, false, List, [], Option, Result, Err, is_ok}
+use Rattle.jn_found.specs.Recoverable.{IsRecoverable}
+use Rattle.jn_recovery.specs.declared.counts.PageCounts.{PageCounts}
+use Rattle.jn_recovery.specs.Loading.{counts_by}
+use Rattle.jn_store.specs.Store.{StoreView}
 use Rattle.jn_report.specs.declared.line.Line.{Line}
 use Rattle.jn_report.specs.Text.{report_text}
-use Rattle.jn_serial.specs.Lines.{history_of}
 use Rattle.jn_host.specs.Outside.{Rose}
-use Rattle.jn_run.specs.declared.outside.RunFault.{RunFault}
-use Rattle.jn_run.specs.declared.outside.RunFault.TheVariants as runs
-use Rattle.jn_run.specs.Moves.{View, Runs}
-use Rattle.jn_run.specs.Outcome.{WholeRun, PartRun, Took, TookFront}
+use Rattle.jn_writing.specs.Writing.{Took, TookFront}
+use Rattle.jn_run.specs.declared.running.RunFault.{RunFault}
+use Rattle.jn_run.specs.declared.running.RunFault.TheVariants as runs
 
--- what the sink took of one event's lines, and how many commits were told by then
-pub record RunsEvent (taken : Option (List ℕ)) (faults n commits : ℕ) (e : Event) (v : View) (answer : Result ℕ RunFault) (w : View) (taken' : Option (List ℕ)) (faults' : ℕ) : Type 0 where
+-- the text of some lines was taken whole, or a front of it
+abbrev pub TookLines : Option (List ℕ) → Option (List ℕ) → Type 0
+TookLines taken taken' = (lines : List Line) × Took taken taken' (report_text lines)
+
+abbrev pub TookSome : Option (List ℕ) → Option (List ℕ) → Type 0
+TookSome taken taken' = (lines : List Line) × TookFront taken taken' (report_text lines)
+
+-- What was told of a call: all of its lines where it is done or reaches a limit.
+pub record Tells {A : Type 0} (taken : Option (List ℕ)) (faults : ℕ) (answer : Result A RunFault) (taken' : Option (List ℕ)) (faults' : ℕ) : Type 0 where
   pub count : faults ≤ faults'
-  pub whole : (all : ℕ) → answer ≡ Ok all → (ms : List Line) × Runs n e v w ms × Took taken taken' (report_text ms) × (all ≡ commits + length (history_of ms))
-  pub part : is_ok answer ≡ false → (taken' ≡ taken) ⊎ ((ms : List Line) × Runs n e v w ms × TookFront taken taken' (report_text ms))
+  pub whole : is_ok answer ≡ true → TookLines taken taken'
+  pub limit : answer ≡ Err runs.Limit → TookLines taken taken'
+  pub part : is_ok answer ≡ false → TookSome taken taken'
   pub rose : answer ≡ Err runs.Write → Rose faults faults'
 
--- what it took of all
-pub record Ran (taken : Option (List ℕ)) (faults : ℕ) (events : List Event) (answer : Result (Unit {0}) RunFault) (taken' : Option (List ℕ)) (faults' : ℕ) : Type 0 where
-  pub count : faults ≤ faults'
-  pub whole : is_ok answer ≡ true → WholeRun taken events taken'
-  pub part : is_ok answer ≡ false → PartRun taken events taken'
-  pub rose : answer ≡ Err runs.Write → Rose faults faults'
+-- a store of the server of this number, with its counts of pages: a restart may begin there, and no fault that was outside is told
+abbrev pub IsStore : {S : Type 0} → (S → StoreView) → ℕ → S × PageCounts → Type 0
+IsStore look n x = IsRecoverable (record { 0 = n }) (counts_by x.1) (look x.0) × ((look x.0).told ≡ [])

@@ -1,28 +1,26 @@
-//! The top call: reads a schedule, runs it and writes the report.
+//! The top call: reads the words and a schedule, runs it and writes the report.
 #![tactic(auto)]
 
-ghost use Rattle.std.specs.Prelude.{◌≡◌, ◌<◌, ◌≤◌, true, List, length, Some, is_some, IfOk};
+ghost use Rattle.std.specs.Prelude.{◌≡◌, ◌<◌, ◌≤◌, true, false, Some, List, length, IfOk};
+ghost use Rattle.jn_options.specs.Words.{options_of, AreWithinLimits};
 ghost use Rattle.jn_schedule.specs.declared.Event.{Event as AnEvent};
-ghost use Rattle.jn_schedule.specs.Grammar.{IsSchedule, line_of_event};
-ghost use Rattle.jn_run.specs.Outcome.{IsCommand, OutcomeOf, OutcomeOn, Refuses, refused_line};
+ghost use Rattle.jn_schedule.specs.Grammar.{IsSchedule};
+ghost use Rattle.jn_run.specs.Outcome.{OutcomeOf, OutcomeOn, Refuses, RefusesWords, refused_line, is_one_client, is_plain};
 
 use jn_host::{Failed, Keeper, Sink, Source};
 use std::alloc::Global;
 
-mod changes;
-mod disk;
-mod events;
-mod head;
-mod outside;
+mod reading;
+mod running;
 mod status;
-mod traffic;
-mod words;
-mod world;
 
-use events::{first_unknown, run_events};
-use jn_schedule::{Event, ParseFault, check, count_events, line_of_event, parse};
+use jn_one_client::{are_known, run_events};
+use jn_options::{Options, read_options};
+use jn_schedule::{Event, ParseFault, check, count_events, parse};
 use jn_text::push_number;
-use outside::{ReadFault, RunFault, write_all};
+use jn_writing::{ReportFault, write_all};
+use reading::{ReadFault, read_all};
+use running::{RunFault, run_servers};
 pub use status::Status;
 use std::alloc::AllocError;
 
@@ -31,13 +29,11 @@ const MOST_EVENTS: usize = 100_000;
 
 /// Does all that the program does: reads the words and the schedule, runs it and writes the report.
 ///
-/// The words are the program's name and `run`. The report names the commits and, at the end, prints the
-/// files from the server's pages. Each event's lines are written as the event ends. Other words are
-/// refused in one line of text, as are bytes that aren't a schedule, by the line and the number of the
-/// first fault, and a schedule with an event other than a command of client 1, its `again` and
-/// `settle`, by its line and number 1. A schedule of more than 4,194,304 bytes or 100,000 events, a
-/// source or a sink that fails and want of memory have a status of their own. The keeper of images isn't
-/// called.
+/// The words are the program's name, `run` and options. The report tells what each event of the schedule led to and, at the
+/// end, prints the files from the servers' pages. Each event's lines are written as the event ends. Other words are
+/// refused in one line of text, as are bytes that aren't a schedule, by the line and the number of the first fault. A
+/// schedule of more than 4,194,304 bytes or 100,000 events, a run that would send a message too many or has no epoch left, a
+/// source or a sink that fails and want of memory have a status of their own. The keeper of images isn't called.
 pub fn run<S: Source, K: Sink, I: Keeper>(
     alloc: Global,
     words: &[String],
@@ -45,7 +41,7 @@ pub fn run<S: Source, K: Sink, I: Keeper>(
     sink: &mut K,
     images: &mut I,
 ) -> Status
-    ensures outcome { OutcomeOf (IsCommand words.now) (record {
+    ensures outcome { OutcomeOf (options_of words.now) (record {
       left = S.left source.old;
       read_faults = S.faults source.old;
       read_faults' = S.faults source.new;
@@ -57,40 +53,74 @@ pub fn run<S: Source, K: Sink, I: Keeper>(
     ensures images { images.new ≡ images.old }
 {
     let _images = images;
-    if !words::is_command(words) {
-        return match outside::write_all(sink, b"refused: words\n") {
-            Ok(()) => Status::Words,
-            Err(Failed) => Status::Write,
-        };
+    let asked = match read_options(alloc, words) {
+        Ok(asked) => asked,
+        Err(_refused) => return Status::Memory,
+    };
+    let Some(options) = asked else {
+        return refuse_words(sink);
+    };
+    run_source(alloc, options, source, sink)
+}
+
+/// Says that the words are no command.
+fn refuse_words<K: Sink>(sink: &mut K) -> Status
+    ensures refused { RefusesWords (K.taken sink.old) (K.faults sink.old) result (K.taken sink.new) (K.faults sink.new) }
+{
+    match write_all(sink, b"refused: words\n") {
+        Ok(()) => Status::Words,
+        Err(Failed) => Status::Write,
     }
-    let text = match outside::read_all(alloc, source) {
+}
+
+/// Reads a schedule from the source and runs it.
+fn run_source<S: Source, K: Sink>(
+    alloc: Global,
+    options: Options,
+    source: &mut S,
+    sink: &mut K,
+) -> Status
+    requires limits { AreWithinLimits options }
+    ensures outcome { OutcomeOf (Some options) (record {
+      left = S.left source.old;
+      read_faults = S.faults source.old;
+      read_faults' = S.faults source.new;
+      taken = K.taken sink.old;
+      taken' = K.taken sink.new;
+      write_faults = K.faults sink.old;
+      write_faults' = K.faults sink.new;
+    }) result }
+{
+    let text = match read_all(alloc, source) {
         Ok(text) => text,
         Err(ReadFault::Failed) => return Status::Read,
         Err(ReadFault::TooLong) => return Status::Limit,
         Err(ReadFault::Memory) => return Status::Memory,
     };
-    run_text(alloc, &text, sink)
+    run_text(alloc, options, &text, sink)
 }
 
 /// Reads a schedule and runs it.
-fn run_text<K: Sink>(alloc: Global, text: &[u8], sink: &mut K) -> Status
-    ensures ran { OutcomeOn text.now (K.taken sink.old) (K.faults sink.old) result (K.taken sink.new) (K.faults sink.new) }
+fn run_text<K: Sink>(alloc: Global, options: Options, text: &[u8], sink: &mut K) -> Status
+    requires limits { AreWithinLimits options }
+    ensures ran { OutcomeOn options text.now (K.taken sink.old) (K.faults sink.old) result (K.taken sink.new) (K.faults sink.new) }
 {
     if count_events(text) > MOST_EVENTS {
-        return refuse_long(alloc, text, sink);
+        return refuse_long(alloc, options, text, sink);
     }
     match parse(alloc, text) {
-        Ok(events) => run_schedule(alloc, text, &events, sink),
+        Ok(events) => run_schedule(alloc, options, text, &events, sink),
         Err(ParseFault::Syntax { line, number }) => refuse(alloc, line, number, sink),
         Err(ParseFault::Memory) => Status::Memory,
     }
 }
 
 /// Refuses a text that has too many events if it is a schedule. None of its events is kept.
-fn refuse_long<K: Sink>(alloc: Global, text: &[u8], sink: &mut K) -> Status
+fn refuse_long<K: Sink>(alloc: Global, options: Options, text: &[u8], sink: &mut K) -> Status
     requires long { (es : List AnEvent) → IsSchedule text.now es → 100000 < length es }
-    ensures ran { OutcomeOn text.now (K.taken sink.old) (K.faults sink.old) result (K.taken sink.new) (K.faults sink.new) }
+    ensures ran { OutcomeOn options text.now (K.taken sink.old) (K.faults sink.old) result (K.taken sink.new) (K.faults sink.new) }
 {
+    let _options = options;
     match check(alloc, text) {
         Ok(()) => Status::Limit,
         Err(ParseFault::Syntax { line, number }) => refuse(alloc, line, number, sink),
@@ -98,31 +128,78 @@ fn refuse_long<K: Sink>(alloc: Global, text: &[u8], sink: &mut K) -> Status
     }
 }
 
-/// Runs a schedule, if this world can run its events.
-fn run_schedule<K: Sink>(alloc: Global, text: &[u8], events: &[Event], sink: &mut K) -> Status
+/// Runs a schedule: that of one client at one server over a plain list of pages, any other in a world of servers on disks.
+fn run_schedule<K: Sink>(
+    alloc: Global,
+    options: Options,
+    text: &[u8],
+    events: &[Event],
+    sink: &mut K,
+) -> Status
+    requires limits { AreWithinLimits options }
     requires schedule { IsSchedule text.now events.now }
     requires few { length events.now ≤ 100000 }
-    ensures ran { OutcomeOn text.now (K.taken sink.old) (K.faults sink.old) result (K.taken sink.new) (K.faults sink.new) }
+    ensures ran { OutcomeOn options text.now (K.taken sink.old) (K.faults sink.old) result (K.taken sink.new) (K.faults sink.new) }
 {
-    match first_unknown(events) {
-        Some(index) => match line_of(alloc, text, index) {
-            Ok(line) => refuse(alloc, line, 1, sink),
-            Err(_refused) => Status::Memory,
-        },
-        None => match run_events(alloc, events, sink) {
-            Ok(()) => Status::Done,
-            Err(RunFault::Write) => Status::Write,
-            Err(RunFault::Memory) => Status::Memory,
-        },
+    if is_plain(options) && are_known(events) {
+        return run_one_client(alloc, options, text, events, sink);
+    }
+    run_many(alloc, options, text, events, sink)
+}
+
+/// Whether the words ask for nothing but a run.
+fn is_plain(options: Options) -> bool
+    ensures { result ≡ is_plain options }
+{
+    options.servers == 1
+        && options.pool == 32
+        && options.heads == 16
+        && options.leaves == 128
+        && !options.trace
+}
+
+/// Runs a schedule of one client at one server.
+fn run_one_client<K: Sink>(
+    alloc: Global,
+    options: Options,
+    text: &[u8],
+    events: &[Event],
+    sink: &mut K,
+) -> Status
+    requires schedule { IsSchedule text.now events.now }
+    requires few { length events.now ≤ 100000 }
+    requires known { is_one_client options events.now ≡ true }
+    ensures ran { OutcomeOn options text.now (K.taken sink.old) (K.faults sink.old) result (K.taken sink.new) (K.faults sink.new) }
+{
+    let _text = text;
+    match run_events(alloc, events, sink) {
+        Ok(()) => Status::Done,
+        Err(ReportFault::Write) => Status::Write,
+        Err(ReportFault::Memory) => Status::Memory,
     }
 }
 
-/// The line at which the event of an index stands.
-fn line_of(alloc: Global, text: &[u8], index: usize) -> Result<usize, AllocError>
-    requires there { is_some (line_of_event text.now index) ≡ true }
-    ensures { IfOk result (λ line. line_of_event text.now index ≡ Some line) }
+/// Runs any schedule.
+fn run_many<K: Sink>(
+    alloc: Global,
+    options: Options,
+    text: &[u8],
+    events: &[Event],
+    sink: &mut K,
+) -> Status
+    requires limits { AreWithinLimits options }
+    requires schedule { IsSchedule text.now events.now }
+    requires few { length events.now ≤ 100000 }
+    requires others { is_one_client options events.now ≡ false }
+    ensures ran { OutcomeOn options text.now (K.taken sink.old) (K.faults sink.old) result (K.taken sink.new) (K.faults sink.new) }
 {
-    Ok(line_of_event(alloc, text, index)?.unwrap())
+    let _text = text;
+    match run_servers(alloc, options, events, sink) {
+        Ok(()) => Status::Done,
+        Err(RunFault::Write) => Status::Write,
+        Err(RunFault::Limit) => Status::Limit,
+        Err(RunFault::Memory) => Status::Memory,
+    }
 }
 
 /// Says which line is refused, and by which fault.

@@ -138,21 +138,57 @@ const RUNS: &[(&str, &str)] = &[
     ),
 ];
 
+/// Words that ask for a run, and for one in which servers have a data page less.
+const COMMANDS: [&[&str]; 2] = [&["juniper", "run"], &["juniper", "run", "--data", "127"]];
+
 #[test]
 fn runs_tell_their_reports(rt: HostRuntime) -> Result<(), Fail> {
     for (schedule, report) in RUNS {
-        let case = Case {
-            words: &["juniper", "run"],
-            schedule: schedule.as_bytes(),
-            failing_reads: &[],
-            failing_writes: &[],
-            status: Status::Done,
-            report,
-        };
+        for words in COMMANDS {
+            let case = Case {
+                words,
+                schedule: schedule.as_bytes(),
+                failing_reads: &[],
+                failing_writes: &[],
+                status: Status::Done,
+                report,
+            };
+            let (status, taken) = outcome(rt.alloc(), &case)?;
+            assert_eq!(rt; status, case.status);
+            let told = str::from_utf8(&taken).unwrap_or("?");
+            assert_eq!(rt; told, *report);
+        }
+    }
+    Ok(())
+}
+
+/// A worker stops at a call of its preparation, and its restart finds the work ready.
+const STOPPED: &str =
+    "c1 begin 1\nsettle\nc1 open 0\nsettle\nc1 create 0 7\nsettle\narm 0 7 stop-before\nc1 end\nsettle\nrestart 0\nsettle\n";
+
+const STOPPED_REPORT: &str =
+    "0: up s0 epoch 1\n0: up s1 epoch 1\n2: c1 begun 1 1.1.0\n4: c1 opened 3 s0\n6: c1 did 5\n9: stopped s0\n9: lost 11\n10: up s0 epoch 2\n11: commit 1.1.0\n11: c1 committed 8 1.1.0\nend: down s0\nend: down s1\nend: up s0 epoch 3\nend: up s1 epoch 2\nend: s0 file 7\nend: commits 1\n";
+
+#[test]
+fn servers_tell_their_reports(rt: HostRuntime) -> Result<(), Fail> {
+    let whole = Case {
+        words: &["juniper", "run", "--servers", "2"],
+        schedule: STOPPED.as_bytes(),
+        failing_reads: &[],
+        failing_writes: &[],
+        status: Status::Done,
+        report: STOPPED_REPORT,
+    };
+    let cut = Case {
+        failing_writes: &[3],
+        status: Status::Write,
+        report: "0: up s0 epoch 1\n0: up s1 epoch 1\n2: c1 begun 1 1.1.0\n",
+        ..whole
+    };
+    for case in [whole, cut] {
         let (status, taken) = outcome(rt.alloc(), &case)?;
         assert_eq!(rt; status, case.status);
-        let told = str::from_utf8(&taken).unwrap_or("?");
-        assert_eq!(rt; told, *report);
+        assert_eq!(rt; taken.as_slice(), case.report.as_bytes());
     }
     Ok(())
 }
@@ -274,10 +310,6 @@ fn schedules_are_refused(rt: HostRuntime) -> Result<(), Fail> {
         (
             "\n# c9\nc1 begin 0\nc9 end\n",
             "refused: schedule line 4 number 1\n",
-        ),
-        (
-            "\n# c2\nsettle\n\n c2 begin 0\nshow 0\n",
-            "refused: schedule line 5 number 1\n",
         ),
         (
             "settle\nshow 0\nc1 begin 8\n",
