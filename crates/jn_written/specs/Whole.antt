@@ -1,20 +1,21 @@
 -- The runs of a schedule: to their end, as far as messages and epochs go, or up to any step.
-use Rattle.std.specs.Prelude.{◌≡◌, ◌<◌, ℕ, List, [], None}
+use Rattle.std.specs.Prelude.{◌≡◌, ◌<◌, ℕ, nat_lt, if◌then◌else◌, List, [], Some, None}
 use Rattle.jn_base.specs.declared.names.ServerNo.{ServerNo}
 use Rattle.jn_order.specs.Files.{AllFiles}
 use Rattle.jn_device.specs.Device.{DeviceState}
 use Rattle.jn_schedule.specs.declared.Event.{Event}
 use Rattle.jn_report.specs.declared.line.Line.{Line}
-use Rattle.jn_protocol.specs.World.{World, opening}
+use Rattle.jn_protocol.specs.World.{World, new_memory, opening}
+use Rattle.jn_reported.specs.Ending.{AreFilesOf}
 use Rattle.jn_written.specs.Chances.{Setup, physical_pages}
 use Rattle.jn_written.specs.Tasks.{InSchedule, CutShort, AtEnd, State}
 use Rattle.jn_written.specs.Events.{tasks_of}
 use Rattle.jn_written.specs.Devices.{Devices, AreFound}
 use Rattle.jn_written.specs.Runs.{Moment, Leads}
 
--- every server is down, with these files and epochs
+-- every server that there is is down, with these files and epochs
 abbrev pub closed_world : ℕ → AllFiles → (ServerNo → ℕ) → World
-closed_world servers files epochs = record (opening servers files epochs) { memory = λ q. None }
+closed_world servers files epochs = record (opening servers files epochs) { memory = λ q. if nat_lt q.0 servers then None else Some (new_memory q (epochs q)) }
 
 abbrev pub before : Setup → List Event → AllFiles → (ServerNo → ℕ) → State
 before x schedule files epochs = record {
@@ -32,6 +33,8 @@ pub record IsFresh (pages : ℕ) (d : DeviceState) : Type 0 where
 
 -- no work and no flag stands on the pages of the images, and what files and epochs do
 pub record AreImages (x : Setup) (files : AllFiles) (epochs : ServerNo → ℕ) (images : Devices) : Type 0 where
+  -- there are no files of other servers
+  pub its : AreFilesOf x.servers files
   pub fresh : (q : ServerNo) → q.0 < x.servers → IsFresh (physical_pages x q) (images q)
   pub found : AreFound x (closed_world x.servers files epochs) images
 
