@@ -1,0 +1,15 @@
+pub mod Behind
+pub mod Texts
+pub mod Quiet
+pub mod Came
+pub mod Parts
+pub mod Tasks
+pub mod Busy
+pub mod Resting
+pub mod Printed
+pub mod Showing
+pub mod Through
+pub mod Ended
+pub mod Begins
+pub mod SoFar
+pub mod Headline
