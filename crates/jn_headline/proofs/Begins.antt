@@ -46,20 +46,21 @@ module _ (x : Setup) (files : AllFiles) (epochs : ServerNo → ℕ) (items : Lis
   near steps k q message e = sent-near x.servers (run steps start.world) (run-within x.servers (Dismiss ∷ steps) w (run-within x.servers (steps_of items) (opening x.servers files epochs) (opening-within x.servers files epochs))) k q message e
 
   -- nothing of the end was told
-  untold : (last now : Moment) → IsToldBy x files epochs items last → now.state.lines ≡ last.state.lines → (now.state.stage ≡ AtEnd → ⊥) → Part start before now
-  untold last now told same other = record {
+  untold : (last now : Moment) → IsToldBy x files epochs items last → now.state.lines ≡ last.state.lines → now.state.course.world.event ≡ last.state.course.world.event → (now.state.stage ≡ AtEnd → ⊥) → Part start before now
+  untold last now told same numbered other = record {
     steps = [];
     printed = [];
     is_run = tt;
     of_end = refl;
     prints = refl;
     lines = ap plain same ∙ told.lines ∙ ap plain (sym (append-nil before));
+    event = numbered ∙ ap (λ (v : World). v.event) told.world;
     unfinished = λ stage none. absurd (other stage);
   }
 
   pub begins : (last now : Moment) → Leads x last now → IsToldBy x files epochs items last → last.state.stage ≡ InSchedule → last.state.tasks ≡ ending x
       → Part (dismissed (world_of items (opening x.servers files epochs))) (lines_of items (opening x.servers files epochs)) now ⊎ Whole x.servers (dismissed (world_of items (opening x.servers files epochs))) (lines_of items (opening x.servers files epochs)) now
-  begins last now (none a) told stage tasks = inl (untold last last told refl (λ e. not-yet (sym stage ∙ e)))
+  begins last now (none a) told stage tasks = inl (untold last last told refl refl (λ e. not-yet (sym stage ∙ e)))
     where
       not-yet : InSchedule ≡ AtEnd → ⊥
       not-yet e = cc
@@ -108,7 +109,7 @@ module _ (x : Setup) (files : AllFiles) (epochs : ServerNo → ℕ) (items : Lis
           on q l (Some m) e up = told.well.power q m l e
 
       by : (b : Bool) → n.state ≡ (if b then cut_short (begun Dismisses last.state) else come_to x d.chance dismissing (go Dismiss ended.course) (begun Dismisses last.state)) → Part start before now ⊎ Whole x.servers start before now
-      by true e = inl (untold last now told (ap (λ (s : State). s.lines) is) (λ k. not-ended (sym (ap (λ (s : State). s.stage) is) ∙ k)))
+      by true e = inl (untold last now told (ap (λ (s : State). s.lines) is) (ap (λ (s : State). s.course.world.event) is) (λ k. not-ended (sym (ap (λ (s : State). s.stage) is) ∙ k)))
         where
           is : now.state ≡ cut_short (begun Dismisses last.state)
           is = ap (λ (z : Moment). z.state) (stuck x n now leads (ap (λ (s : State). s.stage) e)) ∙ e

@@ -1,5 +1,6 @@
 -- What a run comes to whose schedule is retold.
-use Rattle.std.proofs.Common.{◌≡◌, ◌⊎◌, inl, inr, ℕ, ◌≤◌, List, [], ◌∷◌, ◌++◌, append-nil, refl, sym, ◌∙◌, ap, subst}
+use Rattle.std.proofs.Common.{◌≡◌, ◌⊎◌, inl, inr, ℕ, ◌+◌, ◌≤◌, List, [], ◌∷◌, ◌++◌, append-nil, length, refl, sym, ◌∙◌, ap, subst, arith}
+use Rattle.std.proofs.lemmas.List.{length-map}
 use Rattle.jn_base.specs.declared.names.ServerNo.{ServerNo}
 use Rattle.jn_order.specs.Files.{AllFiles}
 use Rattle.jn_schedule.specs.declared.Event.{Event}
@@ -22,6 +23,7 @@ use Rattle.jn_written.specs.Tasks.{AtEnd}
 use Rattle.jn_written.specs.Runs.{Moment}
 use Rattle.jn_retold.specs.Retold.{IsRetold, IsRetoldInPart}
 use Rattle.jn_headline.specs.Headline.{IsTrueOfBegun}
+use Rattle.jn_headline.proofs.Numbered.{items-begin}
 use Rattle.jn_headline.proofs.Parts.{Part}
 use Rattle.jn_headline.proofs.Through.{Whole}
 use Rattle.jn_headline.proofs.Ended.{dismissed, dismissal-untold, ending, is-whole, is-settled, lines-are}
@@ -64,6 +66,26 @@ of-commits servers files epochs items e few of h rest = record {
   follows = counted-follows _ _ (follows-to-end _ _ _ (end-told servers e (world_of items (opening servers files epochs)) h.ending.settling) (run-follows files epochs servers items h.reported));
 }
 
+module _ (x : Setup) (schedule : List Event) (files : AllFiles) (now : Moment) (r : IsRetold x schedule files now) where
+  -- all its events have begun
+  all-begun : now.state.course.world.event ≡ (world_of r.items (opening x.servers files r.epochs)).event → length schedule ≡ now.state.course.world.event
+  all-begun e = sym (e ∙ items-begin r.items (opening x.servers files r.epochs) (let k = r.told.reported in k.under) ∙ none-before (length r.items) ∙ sym (length-map r.items (λ (item : Item). item.event)) ∙ ap length r.events)
+    where
+      none-before : (n : ℕ) → 0 + n ≡ n
+      none-before n = omega arith
+
+  cut-so-far : Part (dismissed (world_of r.items (opening x.servers files r.epochs))) (lines_of r.items (opening x.servers files r.epochs)) now → IsTrueOfBegun files schedule now.state.course.world.event now.state.lines
+  cut-so-far part = none-silent files schedule [] schedule now.state.course.world.event now.state.lines (append-nil schedule) (all-begun part.event)
+      (subst (λ (es : List Event). IsTrueSoFar files es now.state.lines) r.events (part-true x.servers files r.epochs r.items r.told.reported now part))
+
+  pub end-so-far : (now.state.stage ≡ AtEnd → now.state.tasks ≡ [] → ⊥) → IsTrueOfBegun files schedule now.state.course.world.event now.state.lines
+  end-so-far unfinished = by (comes-to x schedule files now r)
+    where
+      by : Part (dismissed (world_of r.items (opening x.servers files r.epochs))) (lines_of r.items (opening x.servers files r.epochs)) now ⊎ Whole x.servers (dismissed (world_of r.items (opening x.servers files r.epochs))) (lines_of r.items (opening x.servers files r.epochs)) now
+          → IsTrueOfBegun files schedule now.state.course.world.event now.state.lines
+      by (inl part) = cut-so-far part
+      by (inr whole) = absurd (unfinished whole.stage whole.tasks)
+
 module _ (x : Setup) (schedule : List Event) (files : AllFiles) (now : Moment) (few : x.servers ≤ 8) (of : AreFilesOf x.servers files) (r : IsRetold x schedule files now) where
   of-whole : Whole x.servers (dismissed (world_of r.items (opening x.servers files r.epochs))) (lines_of r.items (opening x.servers files r.epochs)) now → IsOfItsCommits files schedule now.state.lines
   of-whole whole = subst (λ (es : List Event). IsOfItsCommits files es now.state.lines) r.events (whole-aside files (events_of r.items) _ now.state.lines (sym (lines-are x.servers few files r.epochs r.items r.told.reported now whole))
@@ -76,15 +98,14 @@ module _ (x : Setup) (schedule : List Event) (files : AllFiles) (now : Moment) (
       by (inl part) = absurd (part.unfinished stage tasks)
       by (inr whole) = of-whole whole
 
-  pub run-so-far : IsTrueOfBegun files schedule now.state.lines
+  pub run-so-far : IsTrueOfBegun files schedule now.state.course.world.event now.state.lines
   run-so-far = by (comes-to x schedule files now r)
     where
-      all-begun : schedule ++ [] ≡ schedule
-      all-begun = append-nil schedule
+      by : Part (dismissed (world_of r.items (opening x.servers files r.epochs))) (lines_of r.items (opening x.servers files r.epochs)) now ⊎ Whole x.servers (dismissed (world_of r.items (opening x.servers files r.epochs))) (lines_of r.items (opening x.servers files r.epochs)) now
+          → IsTrueOfBegun files schedule now.state.course.world.event now.state.lines
+      by (inl part) = cut-so-far x schedule files now r part
+      by (inr whole) = let t = of-whole whole in none-silent files schedule [] schedule now.state.course.world.event now.state.lines (append-nil schedule) (all-begun x schedule files now r whole.event)
+          (record { agrees = t.agrees; shown = t.shown.so_far; told = t.told; caused = t.caused; follows = t.follows })
 
-      by : Part (dismissed (world_of r.items (opening x.servers files r.epochs))) (lines_of r.items (opening x.servers files r.epochs)) now ⊎ Whole x.servers (dismissed (world_of r.items (opening x.servers files r.epochs))) (lines_of r.items (opening x.servers files r.epochs)) now → IsTrueOfBegun files schedule now.state.lines
-      by (inl part) = none-silent files schedule [] schedule now.state.lines all-begun (subst (λ (es : List Event). IsTrueSoFar files es now.state.lines) r.events (part-true x.servers files r.epochs r.items r.told.reported now part))
-      by (inr whole) = let t = of-whole whole in none-silent files schedule [] schedule now.state.lines all-begun (record { agrees = t.agrees; shown = t.shown.so_far; told = t.told; caused = t.caused; follows = t.follows })
-
-pub part-so-far : (x : Setup) (schedule : List Event) (files : AllFiles) (now : Moment) → IsRetoldInPart x schedule files now → IsTrueOfBegun files schedule now.state.lines
-part-so-far x schedule files now r = begun-aside files schedule _ now.state.lines (sym r.lines) (schedule-true x.servers files r.epochs r.items r.reported r.begun r.rest schedule r.events r.one)
+pub part-so-far : (x : Setup) (schedule : List Event) (files : AllFiles) (now : Moment) → IsRetoldInPart x schedule files now → IsTrueOfBegun files schedule now.state.course.world.event now.state.lines
+part-so-far x schedule files now r = begun-aside files schedule now.state.course.world.event _ now.state.lines (sym r.lines) (schedule-true x.servers files r.epochs r.items r.reported r.begun r.rest schedule now.state.course.world.event r.events r.one r.event)

@@ -1,6 +1,7 @@
 pub mod Behind
 pub mod Texts
 pub mod Quiet
+pub mod Numbered
 pub mod Came
 pub mod Parts
 pub mod Tasks

@@ -5,14 +5,17 @@ use Rattle.std.specs.List.{list_all, AllByRecursion}
 use Rattle.jn_report.specs.declared.line.Text.{Text}
 use Rattle.jn_report.specs.declared.line.Line.{Line}
 use Rattle.jn_aside.specs.Aside.{plain}
+use Rattle.jn_protocol.specs.World.{World}
 use Rattle.jn_protocol.specs.Steps.{Step, IsRun}
 use Rattle.jn_settling.specs.Course.{Course}
+use Rattle.jn_settling.proofs.Settling.{on-world}
 use Rattle.jn_reported.specs.Ending.{told_by_steps, at_end}
 use Rattle.jn_cut.specs.Cut.{is_of_end, is_print}
 use Rattle.jn_written.specs.Chances.{Setup}
 use Rattle.jn_written.specs.Tasks.{Task, AtEnd, CutShort, Stage, State}
 use Rattle.jn_written.specs.Steps.{cut_short}
 use Rattle.jn_written.specs.Runs.{none, more, Moment, Leads}
+use Rattle.jn_headline.proofs.Numbered.{end-begins-none}
 use Rattle.jn_headline.proofs.Came.{Came, Makes, IsOrdinary, one-step, stuck}
 
 -- it told the lines of these steps and this printing and then was cut off
@@ -23,6 +26,8 @@ pub record Part (start : Course) (before : List Line) (now : Moment) : Type 0 wh
   pub of_end : list_all is_of_end steps ≡ true
   pub prints : list_all is_print printed ≡ true
   pub lines : plain now.state.lines ≡ plain (before ++ at_end (told_by_steps steps start.world ++ printed))
+  -- no event has begun since
+  pub event : now.state.course.world.event ≡ start.world.event
   pub unfinished : now.state.stage ≡ AtEnd → now.state.tasks ≡ [] → ⊥
 
 -- it comes to a moment with these steps done and these tasks left, and goes on from there
@@ -38,6 +43,9 @@ pub record Onward (x : Setup) (m now : Moment) (t : Task) (rest : List Task) : T
   pub makes : Makes x m n t rest
   pub leads : Leads x n now
 
+pub same-event : (x : Setup) (ups : List Text) (start : Course) (before : List Line) (m : Moment) (steps : List Step) (printed : List Text) → Came x ups start before m steps printed → m.state.course.world.event ≡ start.world.event
+same-event x ups start before m steps printed came = ap (λ (w : World). w.event) came.goes.world ∙ ap (λ (w : World). w.event) (on-world steps start) ∙ end-begins-none steps start.world came.of_end
+
 module _ (x : Setup) (ups : List Text) (start : Course) (before : List Line) where
   pub left : (m : Moment) (steps : List Step) (printed : List Text) → Came x ups start before m steps printed → (t : Task) (rest : List Task) → m.state.tasks ≡ t ∷ rest → Part start before m
   left m steps printed came t rest tasks = record {
@@ -47,6 +55,7 @@ module _ (x : Setup) (ups : List Text) (start : Course) (before : List Line) whe
     of_end = came.of_end;
     prints = came.prints;
     lines = came.lines;
+    event = same-event x ups start before m steps printed came;
     unfinished = λ stage none. absurd (some-left (sym tasks ∙ none));
   }
     where
@@ -61,6 +70,7 @@ module _ (x : Setup) (ups : List Text) (start : Course) (before : List Line) whe
     of_end = came.of_end;
     prints = came.prints;
     lines = ap (λ (s : State). plain s.lines) is ∙ came.lines;
+    event = ap (λ (s : State). s.course.world.event) is ∙ same-event x ups start before m steps printed came;
     unfinished = λ stage none. absurd (not-ended (sym (ap (λ (s : State). s.stage) is) ∙ stage));
   }
     where

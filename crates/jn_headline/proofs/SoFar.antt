@@ -8,7 +8,7 @@ use Rattle.jn_schedule.specs.declared.Event.{Event}
 use Rattle.jn_report.specs.declared.line.When.TheVariants.{Event as AtEvent}
 use Rattle.jn_report.specs.declared.line.Text.{Text}
 use Rattle.jn_report.specs.declared.line.Line.{Line}
-use Rattle.jn_serial.specs.Lines.{lines_at}
+use Rattle.jn_serial.specs.Lines.{when_eq, lines_at}
 use Rattle.jn_serial.specs.Order.{Agrees}
 use Rattle.jn_serial.specs.Shown.{ShownSoFar}
 use Rattle.jn_serial.specs.Caused.{Caused}
@@ -16,6 +16,7 @@ use Rattle.jn_serial.specs.Follows.{nothing_asked, Follows}
 use Rattle.jn_serial.proofs.CausedGrowth.{Caused-events}
 use Rattle.jn_serial.proofs.Growth.{lines_at-outside}
 use Rattle.jn_aside.specs.Aside.{plain, is_show}
+use Rattle.jn_aside.proofs.Plain.{filter-aside}
 use Rattle.jn_aside.proofs.Silent.{silent-agrees, silent-follows}
 use Rattle.jn_aside.proofs.Telling.{told-aside}
 use Rattle.jn_aside.proofs.Answering.{follows-aside}
@@ -57,19 +58,24 @@ module _ (files : AllFiles) (events : List Event) (a b : List Line) (same : plai
 
 -- ---- all that began is told
 
-pub none-silent : (files : AllFiles) (begun rest schedule : List Event) (lines : List Line) → begun ++ rest ≡ schedule → IsTrueSoFar files begun lines → IsTrueOfBegun files schedule lines
-none-silent files begun rest schedule lines e t = record {
+pub none-silent : (files : AllFiles) (begun rest schedule : List Event) (count : ℕ) (lines : List Line) → begun ++ rest ≡ schedule → length begun ≡ count → IsTrueSoFar files begun lines → IsTrueOfBegun files schedule count lines
+none-silent files begun rest schedule count lines e n t = record {
   told_of = begun;
   silent = [];
   rest = rest;
   events = ap (λ (es : List Event). es ++ rest) (append-nil begun) ∙ e;
   one = omega arith;
+  begun = omega (arith, n);
+  untold = λ z k. absurd (none-left z k);
   agrees = subst (λ (es : List Event). Agrees files es lines) (sym (append-nil begun)) t.agrees;
   shown = subst (λ (es : List Event). ShownSoFar files es lines) (sym (append-nil begun)) t.shown;
   told = t.told;
   caused = subst (λ (es : List Event). Caused es lines) (sym (append-nil begun)) t.caused;
   follows = subst (λ (es : List Event). Follows es lines) (sym (append-nil begun)) t.follows;
 }
+  where
+    none-left : (z : Event) → [] ≡ z ∷ [] → ⊥
+    none-left z k = cc
 
 -- ---- within its end
 
@@ -96,26 +102,39 @@ module _ (servers : ℕ) (files : AllFiles) (epochs : ServerNo → ℕ) (items :
       past : (n m : ℕ) → m ≡ n → 1 + n ≤ 1 + m
       past n m q = omega (arith, q)
 
+  last-number : (count : ℕ) → count ≡ length items + 1 → length (events_of items) + 1 ≡ count
+  last-number count n = let long = length-map items (λ (item : Item). item.event) in omega (arith, n, long)
+
+  at-last : (count : ℕ) → count ≡ length items + 1 → plain (lines_at (AtEvent count) (lines_of items (opening servers files epochs))) ≡ []
+  at-last count n = ap (λ (k : ℕ). plain (lines_at (AtEvent k) ls)) (sym (last-number count n) ∙ other-way (length (events_of items))) ∙ ap plain nothing-told
+    where
+      other-way : (a : ℕ) → a + 1 ≡ 1 + a
+      other-way a = omega arith
+
   -- of the last event nothing is told
-  last-silent : (e : Event) (rest schedule : List Event) → (events_of items ++ (e ∷ [])) ++ rest ≡ schedule → (b : Bool) → is_show e ≡ b → IsTrueOfBegun files schedule (lines_of items (opening servers files epochs))
-  last-silent e rest schedule is false other = let t = next-true servers files epochs items e reported other in record {
+  last-silent : (e : Event) (rest schedule : List Event) (count : ℕ) → (events_of items ++ (e ∷ [])) ++ rest ≡ schedule → count ≡ length items + 1 → (b : Bool) → is_show e ≡ b → IsTrueOfBegun files schedule count (lines_of items (opening servers files epochs))
+  last-silent e rest schedule count is n false other = let t = next-true servers files epochs items e reported other in record {
     told_of = events_of items;
     silent = e ∷ [];
     rest = rest;
     events = is;
     one = omega arith;
+    begun = last-number count n;
+    untold = λ z k. at-last count n;
     agrees = t.agrees;
     shown = subst (λ (b : Bool). ShownSoFar files (events_of items ++ (if not b then e ∷ [] else [])) ls) (sym other) t.shown;
     told = t.told;
     caused = t.caused;
     follows = t.follows;
   }
-  last-silent e rest schedule is true show = let t = run-true servers files epochs items reported in record {
+  last-silent e rest schedule count is n true show = let t = run-true servers files epochs items reported in record {
     told_of = events_of items;
     silent = e ∷ [];
     rest = rest;
     events = is;
     one = omega arith;
+    begun = last-number count n;
+    untold = λ z k. at-last count n;
     agrees = silent-agrees (events_of items) e ls t.follows files t.agrees;
     shown = subst (λ (b : Bool). ShownSoFar files (events_of items ++ (if not b then e ∷ [] else [])) ls) (sym show) (subst (λ (es : List Event). ShownSoFar files es ls) (sym (append-nil (events_of items))) t.shown);
     told = t.told;
@@ -123,21 +142,23 @@ module _ (servers : ℕ) (files : AllFiles) (epochs : ServerNo → ℕ) (items :
     follows = silent-follows (events_of items) e ls t.follows nothing-told;
   }
 
-  pub schedule-true : (begun rest schedule : List Event) → events_of items ++ begun ++ rest ≡ schedule → length begun < 2 → IsTrueOfBegun files schedule (lines_of items (opening servers files epochs))
-  schedule-true [] rest schedule is few = none-silent files (events_of items) rest schedule ls (ap (λ (es : List Event). es ++ rest) (sym (append-nil (events_of items))) ∙ is) (run-true servers files epochs items reported)
-  schedule-true (e ∷ []) rest schedule is few = last-silent e rest schedule is (is_show e) refl
-  schedule-true (e ∷ f ∷ begun) rest schedule is few = absurd (too-many (length begun) few)
+  pub schedule-true : (begun rest schedule : List Event) (count : ℕ) → events_of items ++ begun ++ rest ≡ schedule → length begun < 2 → count ≡ length items + length begun → IsTrueOfBegun files schedule count (lines_of items (opening servers files epochs))
+  schedule-true [] rest schedule count is few n = none-silent files (events_of items) rest schedule count ls (ap (λ (es : List Event). es ++ rest) (sym (append-nil (events_of items))) ∙ is) (let long = length-map items (λ (item : Item). item.event) in omega (arith, n, long)) (run-true servers files epochs items reported)
+  schedule-true (e ∷ []) rest schedule count is few n = last-silent e rest schedule count is n (is_show e) refl
+  schedule-true (e ∷ f ∷ begun) rest schedule count is few n = absurd (too-many (length begun) few)
     where
       too-many : (n : ℕ) → suc (suc n) < 2 → ⊥
       too-many n h = omega (arith, h)
 
-pub begun-aside : (files : AllFiles) (schedule : List Event) (a b : List Line) → plain a ≡ plain b → IsTrueOfBegun files schedule a → IsTrueOfBegun files schedule b
-begun-aside files schedule a b same t = record {
+pub begun-aside : (files : AllFiles) (schedule : List Event) (count : ℕ) (a b : List Line) → plain a ≡ plain b → IsTrueOfBegun files schedule count a → IsTrueOfBegun files schedule count b
+begun-aside files schedule count a b same t = record {
   told_of = t.told_of;
   silent = t.silent;
   rest = t.rest;
   events = t.events;
   one = t.one;
+  begun = t.begun;
+  untold = λ e k. sym (filter-aside (λ w. when_eq w (AtEvent count)) a b same) ∙ t.untold e k;
   agrees = agrees-aside (t.told_of ++ t.silent) a b same files t.agrees;
   shown = so-far-aside files (t.told_of ++ but_shows t.silent) a b same t.shown;
   told = told-aside a b same t.told;

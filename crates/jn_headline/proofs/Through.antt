@@ -29,7 +29,7 @@ use Rattle.jn_written.specs.Steps.{own_texts, come_to}
 use Rattle.jn_written.specs.Runs.{none, more, Moment, Leads}
 use Rattle.jn_headline.proofs.Texts.{at-end-append}
 use Rattle.jn_headline.proofs.Came.{Came, drop-all, lines-then, tasks-then}
-use Rattle.jn_headline.proofs.Parts.{Part, Past, Onward, drive, MakesOne, many}
+use Rattle.jn_headline.proofs.Parts.{Part, Past, Onward, same-event, drive, MakesOne, many}
 use Rattle.jn_headline.proofs.Tasks.{AllUp, goes-down, closes, asks-client, asks-server, come-up}
 use Rattle.jn_headline.proofs.Resting.{Rested, rests}
 use Rattle.jn_headline.proofs.Showing.{AllShow, AllLooked, joined, show-all, scrub-all}
@@ -65,6 +65,7 @@ pub record Whole (servers : ℕ) (start : Course) (before : List Line) (now : Mo
   pub looked : AllLooked (go_on (asked_steps servers backs one ++ two) start).world 0 texts
   pub stage : now.state.stage ≡ AtEnd
   pub tasks : now.state.tasks ≡ []
+  pub event : now.state.course.world.event ≡ start.world.event
   pub lines : plain now.state.lines ≡ plain (counted (before ++ at_end (told_by_steps (asked_steps servers backs one ++ two) start.world ++ joined texts)))
 
 -- ---- the tasks, one list after another
@@ -113,6 +114,7 @@ each-client P (c ∷ cs) h = (h c, each-client P cs h)
 pub record Counted (start : Course) (before : List Line) (now : Moment) (steps : List Step) (printed : List Text) : Type 0 where
   pub stage : now.state.stage ≡ AtEnd
   pub tasks : now.state.tasks ≡ []
+  pub event : now.state.course.world.event ≡ start.world.event
   pub lines : plain now.state.lines ≡ plain (counted (before ++ at_end (told_by_steps steps start.world ++ printed)))
 
 -- a run at its end that has nothing left to do
@@ -137,6 +139,7 @@ module _ (x : Setup) (ups : List Text) (are_up : list_all is_up ups ≡ true) (s
       at on = record {
         stage = ap (λ (z : Moment). z.state.stage) now-is ∙ stage;
         tasks = ap (λ (z : Moment). z.state.tasks) now-is ∙ none-left;
+        event = ap (λ (z : Moment). z.state.course.world.event) now-is ∙ ap (λ (s : State). s.course.world.event) on.makes.state_is ∙ same-event x ups start before m steps printed came;
         lines = ap (λ (z : Moment). plain z.state.lines) now-is
             ∙ lines-then x ups are_up start before m on.n on.makes.chance deed [] on.makes.state_is steps printed came (counting m.state.lines) refl (ap (λ (ts : List Text). ts ++ counting m.state.lines) (drop-all m.state.course.world.lines))
             ∙ ap plain (ap (λ (ls : List Line). before ++ ls) (at-end-append (told_by_steps steps start.world ++ printed) (counting m.state.lines)) ∙ sym (append_assoc before (at_end (told_by_steps steps start.world ++ printed)) (at_end (counting m.state.lines))))
@@ -185,6 +188,7 @@ module _ (x : Setup) (ups : List Text) (are_up : list_all is_up ups ≡ true) (s
           looked = shown.looked;
           stage = counted.stage;
           tasks = counted.tasks;
+          event = counted.event;
           lines = counted.lines;
         })))))))))))
       where

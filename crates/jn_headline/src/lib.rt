@@ -34,7 +34,9 @@ pub fn reports_of_whole_runs()
 
 /// Where a run is retold as far as it goes, its report is true of the events that it has begun.
 pub fn reports_of_runs_so_far()
-    ensures in_its_end { (x : Setup) (schedule : List Event) (files : AllFiles) (now : Moment) → x.servers ≤ 8 → AreFilesOf x.servers files → IsRetold x schedule files now
-        → IsTrueOfBegun files schedule now.state.lines }
-    ensures in_its_schedule { (x : Setup) (schedule : List Event) (files : AllFiles) (now : Moment) → IsRetoldInPart x schedule files now → IsTrueOfBegun files schedule now.state.lines }
+    ensures in_its_schedule { (x : Setup) (schedule : List Event) (files : AllFiles) (now : Moment) → IsRetoldInPart x schedule files now → IsTrueOfBegun files schedule now.state.course.world.event now.state.lines }
+    ensures in_its_end { (x : Setup) (schedule : List Event) (files : AllFiles) (now : Moment) → IsRetold x schedule files now → (now.state.stage ≡ AtEnd → now.state.tasks ≡ [] → ⊥)
+        → IsTrueOfBegun files schedule now.state.course.world.event now.state.lines }
+    ensures to_its_end { (x : Setup) (schedule : List Event) (files : AllFiles) (now : Moment) → x.servers ≤ 8 → AreFilesOf x.servers files → IsRetold x schedule files now
+        → IsTrueOfBegun files schedule now.state.course.world.event now.state.lines }
 {}
