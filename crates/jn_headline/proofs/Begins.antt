@@ -1,7 +1,6 @@
 -- The end of a run begins: what it comes to from there.
-use Rattle.std.proofs.Common.{◌≡◌, ◌⊎◌, inl, inr, ℕ, ◌+◌, ◌<◌, Bool, true, false, List, [], ◌∷◌, ◌++◌, append-nil, length, drop, Option, Some, None, is_some, refl, sym, ◌∙◌, ap, subst}
-use Rattle.std.specs.Prelude.{map, slice_get, if◌then◌else◌}
-use Rattle.std.specs.List.{list_all}
+use Rattle.std.proofs.Common.{◌≡◌, ◌⊎◌, inl, ℕ, ◌<◌, Bool, true, false, List, [], ◌∷◌, ◌++◌, append-nil, length, drop, Option, Some, None, is_some, refl, sym, ◌∙◌, ap, subst}
+use Rattle.std.specs.Prelude.{slice_get, if◌then◌else◌}
 use Rattle.jn_base.specs.declared.names.ServerNo.{ServerNo}
 use Rattle.jn_base.specs.declared.names.Party.TheVariants.{Server}
 use Rattle.jn_msgs.specs.declared.message.Message.{Message}
@@ -21,14 +20,14 @@ use Rattle.jn_written.specs.Tasks.{Task, Dismisses, InSchedule, AtEnd, CutShort,
 use Rattle.jn_written.specs.Devices.{Befalls}
 use Rattle.jn_written.specs.Events.{ending, deed_of, dismissing}
 use Rattle.jn_written.specs.Steps.{own_texts, is_too_much, come_to, cut_short, made, done}
-use Rattle.jn_written.specs.Runs.{none, more, Moment, DoesStep, Leads}
+use Rattle.jn_written.specs.Runs.{none, more, Moment, Leads}
 use Rattle.jn_retold.specs.Retold.{IsToldBy}
 use Rattle.jn_headline.proofs.Behind.{GoesWith, go-behind}
 use Rattle.jn_headline.proofs.Texts.{no-messages, lines-left, lines-more}
 use Rattle.jn_headline.proofs.Quiet.{IsQuiet}
 use Rattle.jn_headline.proofs.Came.{Came, drop-all, stuck}
 use Rattle.jn_headline.proofs.Parts.{Part}
-use Rattle.jn_headline.proofs.Through.{Whole, in_turn, ending-in-turn, through}
+use Rattle.jn_headline.proofs.Through.{Whole, ending-in-turn, through}
 use Rattle.jn_headline.proofs.Ended.{dismissed}
 
 module _ (x : Setup) (files : AllFiles) (epochs : ServerNo → ℕ) (items : List Item) where

@@ -1,5 +1,5 @@
 -- A run that has come so far within its end, step by step.
-use Rattle.std.proofs.Common.{◌≡◌, ◌⊎◌, inl, inr, ℕ, ◌+◌, Bool, true, false, List, [], ◌∷◌, ◌++◌, append_assoc, append-nil, length, drop, Option, Some, None, refl, sym, ◌∙◌, ap, subst, arith}
+use Rattle.std.proofs.Common.{◌≡◌, ◌⊎◌, inl, inr, ℕ, Bool, true, false, List, [], ◌∷◌, ◌++◌, append_assoc, append-nil, length, drop, Some, None, refl, sym, ◌∙◌, ap, subst, arith}
 use Rattle.std.proofs.Math.Seq.{drop-append_seam}
 use Rattle.std.specs.Prelude.{◌&&◌, if◌then◌else◌}
 use Rattle.std.specs.List.{list_all}
@@ -15,12 +15,12 @@ use Rattle.jn_reported.specs.Reported.{Does, told_by}
 use Rattle.jn_reported.specs.Ending.{told_by_steps, at_end}
 use Rattle.jn_cut.specs.Cut.{is_of_end, is_print}
 use Rattle.jn_written.specs.Chances.{Setup, Chance}
-use Rattle.jn_written.specs.Tasks.{Task, AtEnd, CutShort, Stage, State, when_of, when_at, next_at, begun}
+use Rattle.jn_written.specs.Tasks.{Task, AtEnd, CutShort, Stage, State, when_at, next_at, begun}
 use Rattle.jn_written.specs.Kinds.{is_up}
 use Rattle.jn_written.specs.Deeds.{Deed}
 use Rattle.jn_written.specs.Devices.{Befalls}
 use Rattle.jn_written.specs.Events.{deed_of}
-use Rattle.jn_written.specs.Steps.{outside_texts, own_texts, message_texts, traced, texts_of, lines_at, is_too_much, come_to, cut_short, made, done}
+use Rattle.jn_written.specs.Steps.{outside_texts, own_texts, texts_of, lines_at, is_too_much, come_to, cut_short, made, done}
 use Rattle.jn_written.specs.Runs.{none, more, Moment, DoesStep, Leads}
 use Rattle.jn_written.proofs.Telling.{both}
 use Rattle.jn_retold.specs.Retold.{behind}

@@ -1,5 +1,5 @@
 -- An end that was done whole is an ending of the whole system, which settles until nothing is left to do.
-use Rattle.std.proofs.Common.{◌≡◌, ℕ, zero, suc, ◌+◌, ◌<◌, ◌≤◌, Bool, true, false, List, [], ◌∷◌, ◌++◌, append_assoc, append-nil, length, Option, Some, None, is_some, refl, sym, ◌∙◌, ap, subst, arith}
+use Rattle.std.proofs.Common.{◌≡◌, ℕ, suc, ◌+◌, ◌<◌, ◌≤◌, Bool, true, false, List, [], ◌∷◌, ◌++◌, append_assoc, append-nil, length, Option, Some, None, is_some, refl, sym, ◌∙◌, ap, subst, arith}
 use Rattle.std.specs.Prelude.{map, nat_lt}
 use Rattle.std.specs.List.{list_all}
 use Rattle.std.proofs.lemmas.Bool.Decides.{nat_tests}
@@ -9,7 +9,7 @@ use Rattle.jn_base.specs.declared.names.FileNo.{FileNo}
 use Rattle.jn_base.specs.declared.names.BlockNo.{BlockNo}
 use Rattle.jn_base.specs.declared.names.Tid.{Tid}
 use Rattle.jn_base.specs.declared.names.LockUnit.{LockUnit}
-use Rattle.jn_base.specs.declared.names.LockUnit.TheVariants.{File, Block}
+use Rattle.jn_base.specs.declared.names.LockUnit.TheVariants.{Block}
 use Rattle.jn_order.specs.Files.{AllFiles}
 use Rattle.jn_report.specs.declared.line.Text.{Text}
 use Rattle.jn_report.specs.declared.line.Line.{Line}
@@ -18,17 +18,17 @@ use Rattle.jn_rows.specs.Worker.{commit_holder}
 use Rattle.jn_aside.specs.Aside.{plain}
 use Rattle.jn_protocol.specs.World.{World, Memory, opening, servers_from}
 use Rattle.jn_protocol.specs.Printing.{Printed, print_unit, prints_in, print_files}
-use Rattle.jn_protocol.specs.Steps.{Step, Again, Nudge, Crash, CloseClients, Dismiss, run, IsRun, after}
+use Rattle.jn_protocol.specs.Steps.{Step, Again, Nudge, Dismiss, run, IsRun}
 use Rattle.jn_settling.specs.Course.{Course, go, go_on}
-use Rattle.jn_settling.specs.Settle.{Chance, settled, until_rest, ask_again, clients_from}
+use Rattle.jn_settling.specs.Settle.{settled, until_rest, ask_again}
 use Rattle.jn_settling.proofs.Settling.{on-world}
 use Rattle.jn_settled.specs.Settled.{AreUp}
 use Rattle.jn_rests.specs.Rests.{ComeToRest, chances_of, asked}
 use Rattle.jn_rests.proofs.Loops.{reached}
-use Rattle.jn_reported.specs.Printing.{text_printed, prints_of, IsPrinted}
+use Rattle.jn_reported.specs.Printing.{IsPrinted}
 use Rattle.jn_reported.specs.Reported.{Item, Does, told_by, world_of, lines_of, IsReported}
-use Rattle.jn_reported.specs.Ending.{Comeback, Ending, restarts_from, steps_at_end, settles, world_at_end, ArePrinted, IsEnding, told_by_steps, texts_from, at_end, counted, IsWholeRun, all_lines}
-use Rattle.jn_ended.specs.Whole.{course_at_end, IsSettledEnd}
+use Rattle.jn_reported.specs.Ending.{Ending, settles, world_at_end, ArePrinted, told_by_steps, texts_from, at_end, counted, IsWholeRun, all_lines}
+use Rattle.jn_ended.specs.Whole.{IsSettledEnd}
 use Rattle.jn_ended.proofs.Whole.{holds-where-up}
 use Rattle.jn_written.specs.Deeds.{blocks_from}
 use Rattle.jn_written.specs.Runs.{Moment}

@@ -1,15 +1,13 @@
 -- What a run comes to whose schedule is retold.
-use Rattle.std.proofs.Common.{◌≡◌, ◌⊎◌, inl, inr, ℕ, ◌+◌, ◌≤◌, List, [], ◌∷◌, ◌++◌, append-nil, length, refl, sym, ◌∙◌, ap, subst, arith}
+use Rattle.std.proofs.Common.{◌≡◌, ◌⊎◌, inl, inr, ℕ, ◌+◌, ◌≤◌, List, [], append-nil, length, sym, ◌∙◌, ap, subst, arith}
 use Rattle.std.proofs.lemmas.List.{length-map}
 use Rattle.jn_base.specs.declared.names.ServerNo.{ServerNo}
 use Rattle.jn_order.specs.Files.{AllFiles}
 use Rattle.jn_schedule.specs.declared.Event.{Event}
-use Rattle.jn_report.specs.declared.line.Text.{Text}
-use Rattle.jn_report.specs.declared.line.Line.{Line}
 use Rattle.jn_aside.specs.Aside.{plain}
 use Rattle.jn_protocol.specs.World.{opening}
 use Rattle.jn_reported.specs.Reported.{Item, events_of, world_of, lines_of, IsReported}
-use Rattle.jn_reported.specs.Ending.{Ending, IsWholeRun, AreFilesOf, all_lines, told_by_steps, at_end}
+use Rattle.jn_reported.specs.Ending.{Ending, IsWholeRun, AreFilesOf, all_lines}
 use Rattle.jn_reported.proofs.Following.{run-follows}
 use Rattle.jn_causes.proofs.Ends.{end-causes, end-told}
 use Rattle.jn_shown.proofs.Ends.{end-agrees, end-whole, end-free}
@@ -26,9 +24,9 @@ use Rattle.jn_headline.specs.Headline.{IsTrueOfBegun}
 use Rattle.jn_headline.proofs.Numbered.{items-begin}
 use Rattle.jn_headline.proofs.Parts.{Part}
 use Rattle.jn_headline.proofs.Through.{Whole}
-use Rattle.jn_headline.proofs.Ended.{dismissed, dismissal-untold, ending, is-whole, is-settled, lines-are}
+use Rattle.jn_headline.proofs.Ended.{dismissed, ending, is-whole, is-settled, lines-are}
 use Rattle.jn_headline.proofs.Begins.{begins}
-use Rattle.jn_headline.proofs.SoFar.{whole-aside, true-aside, none-silent, part-is-cut, part-lines, part-true, schedule-true, begun-aside}
+use Rattle.jn_headline.proofs.SoFar.{whole-aside, none-silent, part-is-cut, part-lines, part-true, schedule-true, begun-aside}
 
 module _ (x : Setup) (schedule : List Event) (files : AllFiles) (now : Moment) (r : IsRetold x schedule files now) where
   abbrev reported : IsReported r.items (opening x.servers files r.epochs)

@@ -14,3 +14,4 @@ pub mod Ended
 pub mod Begins
 pub mod SoFar
 pub mod Headline
+pub mod Joined

@@ -1,5 +1,5 @@
 -- Where a run is cut off within its end, and where it goes on behind a task.
-use Rattle.std.proofs.Common.{◌≡◌, ◌⊎◌, inl, inr, ℕ, ◌+◌, ◌<◌, Bool, true, false, List, [], ◌∷◌, ◌++◌, append_assoc, append-nil, refl, sym, ◌∙◌, ap, subst}
+use Rattle.std.proofs.Common.{◌≡◌, ◌⊎◌, inl, inr, true, List, [], ◌∷◌, ◌++◌, append_assoc, append-nil, sym, ◌∙◌, ap, subst}
 use Rattle.std.specs.Prelude.{map}
 use Rattle.std.specs.List.{list_all, AllByRecursion}
 use Rattle.jn_report.specs.declared.line.Text.{Text}
@@ -12,7 +12,7 @@ use Rattle.jn_settling.proofs.Settling.{on-world}
 use Rattle.jn_reported.specs.Ending.{told_by_steps, at_end}
 use Rattle.jn_cut.specs.Cut.{is_of_end, is_print}
 use Rattle.jn_written.specs.Chances.{Setup}
-use Rattle.jn_written.specs.Tasks.{Task, AtEnd, CutShort, Stage, State}
+use Rattle.jn_written.specs.Tasks.{Task, AtEnd, CutShort, State}
 use Rattle.jn_written.specs.Steps.{cut_short}
 use Rattle.jn_written.specs.Runs.{none, more, Moment, Leads}
 use Rattle.jn_headline.proofs.Numbered.{end-begins-none}

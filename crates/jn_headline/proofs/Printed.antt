@@ -1,7 +1,7 @@
 -- What a show prints block by block, up to a number of blocks, is what there is to print where no greater block is there.
-use Rattle.std.proofs.Common.{◌≡◌, ◌≢◌, ◌⊎◌, inl, inr, ℕ, zero, suc, ◌+◌, ◌<◌, ◌≤◌, Bool, true, false, List, [], ◌∷◌, ◌++◌, filter, Option, Some, None, is_some, refl, sym, ◌∙◌, ap, subst, arith}
+use Rattle.std.proofs.Common.{◌≡◌, ◌≢◌, ◌⊎◌, inl, inr, ℕ, zero, suc, ◌+◌, ◌<◌, ◌≤◌, Bool, true, false, List, [], ◌∷◌, ◌++◌, filter, Option, Some, None, is_some, refl, sym, ◌∙◌, ap, arith}
 use Rattle.std.proofs.lemmas.Bool.Decides.{nat_tests}
-use Rattle.std.specs.Prelude.{◌&&◌, ◌||◌, if◌then◌else◌, nat_lt, map}
+use Rattle.std.specs.Prelude.{◌&&◌, ◌||◌, if◌then◌else◌, nat_lt}
 use Rattle.std.specs.List.{list_all, list_any}
 use Rattle.jn_base.specs.declared.names.FileNo.{FileNo}
 use Rattle.jn_base.specs.declared.names.BlockNo.{BlockNo}
@@ -9,7 +9,7 @@ use Rattle.jn_base.specs.declared.names.LockUnit.{LockUnit}
 use Rattle.jn_base.specs.declared.names.LockUnit.TheVariants.{File, Block}
 use Rattle.jn_base.specs.Names.{file_eq, block_eq}
 use Rattle.jn_base.proofs.Tells.{block_tells}
-use Rattle.jn_protocol.specs.Printing.{Printed, FileThere, print_one, print_blocks, print_file, print_files, file_before, block_before, ArePrints}
+use Rattle.jn_protocol.specs.Printing.{Printed, print_one, print_blocks, print_file, print_files, file_before, block_before, ArePrints}
 use Rattle.jn_protocol.specs.Steps.{AreNames, are_rising}
 use Rattle.jn_written.specs.Deeds.{blocks_from}
 

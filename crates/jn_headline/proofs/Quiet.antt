@@ -1,5 +1,5 @@
 -- Devices at which no fault waits strike nothing, and stay so.
-use Rattle.std.proofs.Common.{◌≡◌, ◌≢◌, ◌⊎◌, inl, inr, ℕ, ◌<◌, Bool, true, false, List, [], ◌∷◌, Option, Some, None, is_some, refl, sym, ◌∙◌, ap, subst}
+use Rattle.std.proofs.Common.{◌≡◌, ◌≢◌, ◌⊎◌, inl, inr, ℕ, ◌<◌, Bool, true, false, List, [], Option, Some, None, is_some, refl, sym, ◌∙◌, ap, subst}
 use Rattle.std.specs.Prelude.{not, if◌then◌else◌, slice_get}
 use Rattle.jn_base.specs.declared.names.ServerNo.{ServerNo}
 use Rattle.jn_base.specs.declared.names.ClientNo.{ClientNo}
@@ -10,8 +10,7 @@ use Rattle.jn_base.specs.Names.{server_eq}
 use Rattle.jn_base.proofs.Tells.{server_tells}
 use Rattle.jn_msgs.specs.declared.message.Message.{Message}
 use Rattle.jn_device.specs.Device.{DeviceState}
-use Rattle.jn_device.specs.Events.{powered_off, disarmed, cleared}
-use Rattle.jn_records.specs.StablePages.{Counts}
+use Rattle.jn_device.specs.Events.{powered_off}
 use Rattle.jn_rows.specs.declared.client.Taken.{Taken}
 use Rattle.jn_rows.specs.declared.client.Taken.TheVariants as taken
 use Rattle.jn_rows.specs.Client.{ClientTable, take_row}
@@ -20,9 +19,9 @@ use Rattle.jn_rows.specs.Outcomes.{RowOutcome, Sent}
 use Rattle.jn_rows.specs.Stable.{Pick, stable}
 use Rattle.jn_protocol.specs.World.{World, Memory, at_server}
 use Rattle.jn_protocol.specs.Servers.{Room, server_row, server_step, of_coordinator, restored}
-use Rattle.jn_protocol.specs.Steps.{Step, Again, Deliver, Work, Nudge, Crash, Restart, CloseClients, after, done, at_memory, handed, work, works, nudge, crash, close_clients, restart, took}
+use Rattle.jn_protocol.specs.Steps.{Deliver, Work, Nudge, Crash, Restart, CloseClients, after, at_memory, handed, work, works, nudge, crash, close_clients, restart, took}
 use Rattle.jn_written.specs.Chances.{Setup, Chance}
-use Rattle.jn_written.specs.Devices.{Devices, IsCalled, IsRecovery, Alone}
+use Rattle.jn_written.specs.Devices.{Devices, IsCalled, IsRecovery}
 use Rattle.jn_written.proofs.Struck.{nothing-strikes}
 
 -- each server that is up has power, and no device has told a fault or lets one wait

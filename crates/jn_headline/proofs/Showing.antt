@@ -6,7 +6,6 @@ use Rattle.std.proofs.lemmas.Bool.Decides.{nat_tests}
 use Rattle.jn_base.specs.declared.names.ServerNo.{ServerNo}
 use Rattle.jn_base.specs.declared.names.FileNo.{FileNo}
 use Rattle.jn_base.specs.declared.names.BlockNo.{BlockNo}
-use Rattle.jn_base.specs.declared.names.LockUnit.{LockUnit}
 use Rattle.jn_base.specs.declared.names.LockUnit.TheVariants.{File, Block}
 use Rattle.jn_base.specs.Names.{server_eq, file_eq}
 use Rattle.jn_schedule.specs.declared.Event.TheVariants as events
@@ -15,17 +14,17 @@ use Rattle.jn_report.specs.declared.line.Text.{Text}
 use Rattle.jn_report.specs.declared.line.Line.{Line}
 use Rattle.jn_rows.specs.Stable.{StableState, Pick, stable}
 use Rattle.jn_store.specs.Pairs.{pairs_view}
-use Rattle.jn_found.specs.Pages.{pages_by, found_on}
+use Rattle.jn_found.specs.Pages.{pages_by}
 use Rattle.jn_protocol.specs.World.{World, Memory, servers_from}
 use Rattle.jn_protocol.specs.Printing.{Printed, FileThere, PageStored, UnitLocked, prints_in, print_files, file_before}
-use Rattle.jn_protocol.specs.Steps.{Step, AreNames, run}
+use Rattle.jn_protocol.specs.Steps.{Step, AreNames}
 use Rattle.jn_settling.specs.Course.{Course, go_on}
 use Rattle.jn_reported.specs.Printing.{text_printed}
 use Rattle.jn_cut.specs.Cut.{is_print}
 use Rattle.jn_written.specs.Chances.{Setup, Chance}
-use Rattle.jn_written.specs.Tasks.{Task, Acts, State}
-use Rattle.jn_written.specs.Deeds.{Deed, Calls, Reads, served, stopped_idle, shown, showing, scrubbed, blocks_from}
-use Rattle.jn_written.specs.Devices.{Devices, Befalls, AreFound, IsServed, IsLookedOver, Alone}
+use Rattle.jn_written.specs.Tasks.{Task, Acts}
+use Rattle.jn_written.specs.Deeds.{Deed, Reads, served, stopped_idle, shown, showing, scrubbed, blocks_from}
+use Rattle.jn_written.specs.Devices.{Befalls, AreFound, IsServed, IsLookedOver, Alone}
 use Rattle.jn_written.specs.Kinds.{is_up}
 use Rattle.jn_written.specs.Steps.{come_to}
 use Rattle.jn_written.specs.Runs.{Moment, Leads}

@@ -1,6 +1,6 @@
 -- What each of an end's tasks does that makes a step.
-use Rattle.std.proofs.Common.{◌≡◌, ◌≢◌, ◌⊎◌, inl, inr, ℕ, zero, suc, ◌+◌, ◌<◌, ◌≤◌, Bool, true, false, List, [], ◌∷◌, ◌++◌, append_assoc, append-nil, length, Option, Some, None, is_some, true≢false, refl, sym, ◌∙◌, ap, subst, arith}
-use Rattle.std.specs.Prelude.{map, ◌||◌, nat_lt, if◌then◌else◌}
+use Rattle.std.proofs.Common.{◌≡◌, ◌≢◌, ◌⊎◌, inl, inr, ℕ, zero, suc, ◌+◌, ◌<◌, ◌≤◌, Bool, true, false, List, [], ◌∷◌, ◌++◌, append_assoc, append-nil, length, Option, Some, None, is_some, refl, sym, ◌∙◌, ap, subst, arith}
+use Rattle.std.specs.Prelude.{map, if◌then◌else◌}
 use Rattle.std.specs.List.{list_all}
 use Rattle.jn_base.specs.declared.names.ServerNo.{ServerNo}
 use Rattle.jn_base.specs.declared.names.ClientNo.{ClientNo}
@@ -14,19 +14,18 @@ use Rattle.jn_report.specs.declared.line.Text.{Text}
 use Rattle.jn_report.specs.declared.line.Text.TheVariants as says
 use Rattle.jn_report.specs.declared.line.Line.{Line}
 use Rattle.jn_rows.specs.Stable.{Pick}
-use Rattle.jn_protocol.specs.World.{World, Memory, at_server, servers_from}
-use Rattle.jn_protocol.specs.Steps.{Step, Again, Nudge, Crash, Restart, CloseClients, IsStep, after, run, IsRun, crash}
+use Rattle.jn_protocol.specs.World.{World, Memory, servers_from}
+use Rattle.jn_protocol.specs.Steps.{Step, Again, Nudge, Crash, Restart, CloseClients, after, run, crash}
 use Rattle.jn_settling.specs.Course.{Course, go_on}
 use Rattle.jn_reported.specs.Ending.{Comeback, restarts_from}
 use Rattle.jn_written.specs.Chances.{Setup, Chance}
-use Rattle.jn_written.specs.Tasks.{Task, Acts, ComesUp, GoesDown, ClosesClients, State}
-use Rattle.jn_written.specs.Deeds.{Use, Calls, Deed, plain, crashed_at, served, recovers, recovering, recovered, given_up, brought_up, is_used_up, pick_read}
-use Rattle.jn_written.specs.Devices.{Devices, Befalls, IsServed, IsRecovery, IsUsed, Alone}
-use Rattle.jn_written.specs.Events.{deed_of}
+use Rattle.jn_written.specs.Tasks.{Task, Acts, ComesUp, GoesDown, ClosesClients}
+use Rattle.jn_written.specs.Deeds.{Deed, plain, crashed_at, served, recovers, recovering, recovered, given_up, is_used_up, pick_read}
+use Rattle.jn_written.specs.Devices.{Befalls, IsServed, IsRecovery, Alone}
 use Rattle.jn_written.specs.Kinds.{is_up}
-use Rattle.jn_written.specs.Steps.{outside_texts, is_too_much, come_to}
+use Rattle.jn_written.specs.Steps.{is_too_much, come_to}
 use Rattle.jn_written.specs.Runs.{Moment, Leads}
-use Rattle.jn_headline.proofs.Quiet.{IsQuiet, Calm, Raised, called-calm, recovered-calm, quiet-same, quiet-alone, quiet-called, nudged-up, closed-up, crashed-up, restarted-up}
+use Rattle.jn_headline.proofs.Quiet.{called-calm, recovered-calm, quiet-same, quiet-alone, quiet-called, nudged-up, closed-up, crashed-up, restarted-up}
 use Rattle.jn_headline.proofs.Came.{Came, came-none, came-one, came-extra, tasks-then}
 use Rattle.jn_headline.proofs.Parts.{Part, Past, Onward, drive, MakesOne}
 

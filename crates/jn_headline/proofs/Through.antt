@@ -1,5 +1,5 @@
 -- An end from its beginning to its last line.
-use Rattle.std.proofs.Common.{◌≡◌, ◌⊎◌, inl, inr, ℕ, zero, suc, ◌+◌, ◌<◌, ◌≤◌, Bool, true, false, List, [], ◌∷◌, ◌++◌, append_assoc, append-nil, length, Option, Some, None, refl, sym, ◌∙◌, ap, subst, arith}
+use Rattle.std.proofs.Common.{◌≡◌, ◌⊎◌, inl, inr, ℕ, zero, suc, ◌+◌, ◌<◌, ◌≤◌, true, List, [], ◌∷◌, ◌++◌, append_assoc, length, Some, None, refl, sym, ◌∙◌, ap, arith}
 use Rattle.std.specs.Prelude.{map, slice_get}
 use Rattle.std.specs.List.{list_all, AllByRecursion}
 use Rattle.jn_base.specs.declared.names.ServerNo.{ServerNo}
@@ -14,25 +14,24 @@ use Rattle.jn_report.specs.declared.line.Line.{Line}
 use Rattle.jn_serial.specs.Lines.{history_of}
 use Rattle.jn_aside.specs.Aside.{plain}
 use Rattle.jn_aside.proofs.Plain.{history-plain, same-of}
-use Rattle.jn_protocol.specs.World.{World, servers_from}
+use Rattle.jn_protocol.specs.World.{servers_from}
 use Rattle.jn_protocol.specs.Steps.{Step, Again, Nudge, Crash, CloseClients, run, IsRun}
 use Rattle.jn_settling.specs.Course.{Course, go_on}
 use Rattle.jn_settling.specs.Settle.{clients_from}
 use Rattle.jn_rests.specs.Rests.{ComeToRest}
 use Rattle.jn_reported.specs.Ending.{Comeback, restarts_from, settles, told_by_steps, at_end, counted}
-use Rattle.jn_written.specs.Chances.{Setup, Chance}
-use Rattle.jn_written.specs.Tasks.{Task, Acts, Rests, ComesUp, GoesDown, ClosesClients, CountsCommits, AtEnd, Stage, State, next_at, when_at}
+use Rattle.jn_written.specs.Chances.{Setup}
+use Rattle.jn_written.specs.Tasks.{Task, Acts, Rests, ComesUp, GoesDown, ClosesClients, CountsCommits, AtEnd, Stage, State, next_at}
 use Rattle.jn_written.specs.Deeds.{Deed, tells}
-use Rattle.jn_written.specs.Events.{servers_of, asking, settling, coming_up, printing, counting}
+use Rattle.jn_written.specs.Events.{servers_of, settling, coming_up, printing, counting}
 use Rattle.jn_written.specs.Kinds.{is_up}
-use Rattle.jn_written.specs.Steps.{own_texts, come_to}
 use Rattle.jn_written.specs.Runs.{none, more, Moment, Leads}
 use Rattle.jn_headline.proofs.Texts.{at-end-append}
 use Rattle.jn_headline.proofs.Came.{Came, drop-all, lines-then, tasks-then}
-use Rattle.jn_headline.proofs.Parts.{Part, Past, Onward, same-event, drive, MakesOne, many}
-use Rattle.jn_headline.proofs.Tasks.{AllUp, goes-down, closes, asks-client, asks-server, come-up}
-use Rattle.jn_headline.proofs.Resting.{Rested, rests}
-use Rattle.jn_headline.proofs.Showing.{AllShow, AllLooked, joined, show-all, scrub-all}
+use Rattle.jn_headline.proofs.Parts.{Part, Onward, same-event, drive, MakesOne, many}
+use Rattle.jn_headline.proofs.Tasks.{goes-down, closes, asks-client, asks-server, come-up}
+use Rattle.jn_headline.proofs.Resting.{rests}
+use Rattle.jn_headline.proofs.Showing.{AllLooked, joined, show-all, scrub-all}
 
 pub then : {P A B : Type 0} → P ⊎ A → (A → P ⊎ B) → P ⊎ B
 then (inl p) f = inl p
