@@ -28,7 +28,7 @@ use Rattle.jn_headline.proofs.Quiet.{IsQuiet}
 use Rattle.jn_headline.proofs.Came.{Came, drop-all, stuck}
 use Rattle.jn_headline.proofs.Parts.{Part}
 use Rattle.jn_headline.proofs.Through.{Whole, ending-in-turn, through}
-use Rattle.jn_headline.proofs.Ended.{dismissed}
+use Rattle.jn_headline.proofs.Ended.{PartOf, WholeOf, dismissed}
 
 module _ (x : Setup) (files : AllFiles) (epochs : ServerNo → ℕ) (items : List Item) where
   abbrev w : World
@@ -58,7 +58,7 @@ module _ (x : Setup) (files : AllFiles) (epochs : ServerNo → ℕ) (items : Lis
   }
 
   pub begins : (last now : Moment) → Leads x last now → IsToldBy x files epochs items last → last.state.stage ≡ InSchedule → last.state.tasks ≡ ending x
-      → Part (dismissed (world_of items (opening x.servers files epochs))) (lines_of items (opening x.servers files epochs)) now ⊎ Whole x.servers (dismissed (world_of items (opening x.servers files epochs))) (lines_of items (opening x.servers files epochs)) now
+      → PartOf x.servers files epochs items now ⊎ WholeOf x.servers files epochs items now
   begins last now (none a) told stage tasks = inl (untold last last told refl refl (λ e. not-yet (sym stage ∙ e)))
     where
       not-yet : InSchedule ≡ AtEnd → ⊥

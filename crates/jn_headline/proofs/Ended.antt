@@ -33,6 +33,7 @@ use Rattle.jn_ended.proofs.Whole.{holds-where-up}
 use Rattle.jn_written.specs.Deeds.{blocks_from}
 use Rattle.jn_written.specs.Runs.{Moment}
 use Rattle.jn_headline.proofs.Came.{all-append, on-append, drop-all}
+use Rattle.jn_headline.proofs.Parts.{Part}
 use Rattle.jn_headline.proofs.Printed.{are-prints}
 use Rattle.jn_headline.proofs.Showing.{most, Looked, AllLooked, joined}
 use Rattle.jn_headline.proofs.Through.{clients, opening_steps, asked_steps, Whole}
@@ -105,6 +106,13 @@ all-printed w first (ts ∷ texts) h free = (one h.0, all-printed w (first + 1) 
 abbrev pub dismissed : World → Course
 dismissed w = go Dismiss (record { world = w; waiting = []; steps = [] })
 
+-- where the end that follows these items is cut off, and where it was done whole
+abbrev pub PartOf : ℕ → AllFiles → (ServerNo → ℕ) → List Item → Moment → Type 0
+PartOf servers files epochs items now = Part (dismissed (world_of items (opening servers files epochs))) (lines_of items (opening servers files epochs)) now
+
+abbrev pub WholeOf : ℕ → AllFiles → (ServerNo → ℕ) → List Item → Moment → Type 0
+WholeOf servers files epochs items now = Whole servers (dismissed (world_of items (opening servers files epochs))) (lines_of items (opening servers files epochs)) now
+
 pub dismissal-untold : (w : World) → told_by (Does Dismiss) w ≡ []
 dismissal-untold w = drop-all w.lines
 
@@ -118,7 +126,7 @@ module _ (servers : ℕ) (few : servers ≤ 8) (files : AllFiles) (epochs : Serv
   abbrev done_lines : List Line
   done_lines = lines_of items (opening servers files epochs)
 
-  module _ (now : Moment) (whole : Whole servers (dismissed (world_of items (opening servers files epochs))) (lines_of items (opening servers files epochs)) now) where
+  module _ (now : Moment) (whole : WholeOf servers files epochs items now) where
     abbrev opens : List Step
     opens = opening_steps servers whole.backs
 

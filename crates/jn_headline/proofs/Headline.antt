@@ -6,7 +6,7 @@ use Rattle.jn_order.specs.Files.{AllFiles}
 use Rattle.jn_schedule.specs.declared.Event.{Event}
 use Rattle.jn_aside.specs.Aside.{plain}
 use Rattle.jn_protocol.specs.World.{opening}
-use Rattle.jn_reported.specs.Reported.{Item, events_of, world_of, lines_of, IsReported}
+use Rattle.jn_reported.specs.Reported.{Item, events_of, world_of, IsReported}
 use Rattle.jn_reported.specs.Ending.{Ending, IsWholeRun, AreFilesOf, all_lines}
 use Rattle.jn_reported.proofs.Following.{run-follows}
 use Rattle.jn_causes.proofs.Ends.{end-causes, end-told}
@@ -22,9 +22,7 @@ use Rattle.jn_written.specs.Runs.{Moment}
 use Rattle.jn_retold.specs.Retold.{IsRetold, IsRetoldInPart}
 use Rattle.jn_headline.specs.Headline.{IsTrueOfBegun}
 use Rattle.jn_headline.proofs.Numbered.{items-begin}
-use Rattle.jn_headline.proofs.Parts.{Part}
-use Rattle.jn_headline.proofs.Through.{Whole}
-use Rattle.jn_headline.proofs.Ended.{dismissed, ending, is-whole, is-settled, lines-are}
+use Rattle.jn_headline.proofs.Ended.{PartOf, WholeOf, ending, is-whole, is-settled, lines-are}
 use Rattle.jn_headline.proofs.Begins.{begins}
 use Rattle.jn_headline.proofs.SoFar.{whole-aside, none-silent, part-is-cut, part-lines, part-true, schedule-true, begun-aside}
 
@@ -32,14 +30,14 @@ module _ (x : Setup) (schedule : List Event) (files : AllFiles) (now : Moment) (
   abbrev reported : IsReported r.items (opening x.servers files r.epochs)
   reported = r.told.reported
 
-  comes-to : Part (dismissed (world_of r.items (opening x.servers files r.epochs))) (lines_of r.items (opening x.servers files r.epochs)) now ⊎ Whole x.servers (dismissed (world_of r.items (opening x.servers files r.epochs))) (lines_of r.items (opening x.servers files r.epochs)) now
+  comes-to : PartOf x.servers files r.epochs r.items now ⊎ WholeOf x.servers files r.epochs r.items now
   comes-to = begins x files r.epochs r.items r.last now r.leads r.told r.stage r.tasks
 
   pub whole-end : x.servers ≤ 8 → now.state.stage ≡ AtEnd → now.state.tasks ≡ []
       → (e : Ending) × IsWholeRun x.servers files r.epochs r.items e × IsSettledEnd x.servers e (world_of r.items (opening x.servers files r.epochs)) × (plain now.state.lines ≡ plain (all_lines x.servers files r.epochs r.items e))
   whole-end few stage tasks = by comes-to
     where
-      by : Part (dismissed (world_of r.items (opening x.servers files r.epochs))) (lines_of r.items (opening x.servers files r.epochs)) now ⊎ Whole x.servers (dismissed (world_of r.items (opening x.servers files r.epochs))) (lines_of r.items (opening x.servers files r.epochs)) now
+      by : PartOf x.servers files r.epochs r.items now ⊎ WholeOf x.servers files r.epochs r.items now
           → (e : Ending) × IsWholeRun x.servers files r.epochs r.items e × IsSettledEnd x.servers e (world_of r.items (opening x.servers files r.epochs)) × (plain now.state.lines ≡ plain (all_lines x.servers files r.epochs r.items e))
       by (inl part) = absurd (part.unfinished stage tasks)
       by (inr whole) = (ending x.servers few files r.epochs r.items reported now whole, is-whole x.servers few files r.epochs r.items reported now whole, is-settled x.servers few files r.epochs r.items reported now whole, lines-are x.servers few files r.epochs r.items reported now whole)
@@ -47,7 +45,7 @@ module _ (x : Setup) (schedule : List Event) (files : AllFiles) (now : Moment) (
   pub cut-end : (now.state.stage ≡ AtEnd → now.state.tasks ≡ [] → ⊥) → (e : CutEnd) × IsCutEnd e (world_of r.items (opening x.servers files r.epochs)) × (plain now.state.lines ≡ plain (cut_lines r.items e (opening x.servers files r.epochs)))
   cut-end unfinished = by comes-to
     where
-      by : Part (dismissed (world_of r.items (opening x.servers files r.epochs))) (lines_of r.items (opening x.servers files r.epochs)) now ⊎ Whole x.servers (dismissed (world_of r.items (opening x.servers files r.epochs))) (lines_of r.items (opening x.servers files r.epochs)) now
+      by : PartOf x.servers files r.epochs r.items now ⊎ WholeOf x.servers files r.epochs r.items now
           → (e : CutEnd) × IsCutEnd e (world_of r.items (opening x.servers files r.epochs)) × (plain now.state.lines ≡ plain (cut_lines r.items e (opening x.servers files r.epochs)))
       by (inl part) = (record { steps = part.steps; printed = part.printed }, part-is-cut x.servers files r.epochs r.items now part, part-lines x.servers files r.epochs r.items now part)
       by (inr whole) = absurd (unfinished whole.stage whole.tasks)
@@ -72,34 +70,34 @@ module _ (x : Setup) (schedule : List Event) (files : AllFiles) (now : Moment) (
       none-before : (n : ℕ) → 0 + n ≡ n
       none-before n = omega arith
 
-  cut-so-far : Part (dismissed (world_of r.items (opening x.servers files r.epochs))) (lines_of r.items (opening x.servers files r.epochs)) now → IsTrueOfBegun files schedule now.state.course.world.event now.state.lines
+  cut-so-far : PartOf x.servers files r.epochs r.items now → IsTrueOfBegun files schedule now.state.course.world.event now.state.lines
   cut-so-far part = none-silent files schedule [] schedule now.state.course.world.event now.state.lines (append-nil schedule) (all-begun part.event)
       (subst (λ (es : List Event). IsTrueSoFar files es now.state.lines) r.events (part-true x.servers files r.epochs r.items r.told.reported now part))
 
   pub end-so-far : (now.state.stage ≡ AtEnd → now.state.tasks ≡ [] → ⊥) → IsTrueOfBegun files schedule now.state.course.world.event now.state.lines
   end-so-far unfinished = by (comes-to x schedule files now r)
     where
-      by : Part (dismissed (world_of r.items (opening x.servers files r.epochs))) (lines_of r.items (opening x.servers files r.epochs)) now ⊎ Whole x.servers (dismissed (world_of r.items (opening x.servers files r.epochs))) (lines_of r.items (opening x.servers files r.epochs)) now
+      by : PartOf x.servers files r.epochs r.items now ⊎ WholeOf x.servers files r.epochs r.items now
           → IsTrueOfBegun files schedule now.state.course.world.event now.state.lines
       by (inl part) = cut-so-far part
       by (inr whole) = absurd (unfinished whole.stage whole.tasks)
 
 module _ (x : Setup) (schedule : List Event) (files : AllFiles) (now : Moment) (few : x.servers ≤ 8) (of : AreFilesOf x.servers files) (r : IsRetold x schedule files now) where
-  of-whole : Whole x.servers (dismissed (world_of r.items (opening x.servers files r.epochs))) (lines_of r.items (opening x.servers files r.epochs)) now → IsOfItsCommits files schedule now.state.lines
+  of-whole : WholeOf x.servers files r.epochs r.items now → IsOfItsCommits files schedule now.state.lines
   of-whole whole = subst (λ (es : List Event). IsOfItsCommits files es now.state.lines) r.events (whole-aside files (events_of r.items) _ now.state.lines (sym (lines-are x.servers few files r.epochs r.items r.told.reported now whole))
       (of-commits x.servers files r.epochs r.items (ending x.servers few files r.epochs r.items r.told.reported now whole) few of (is-whole x.servers few files r.epochs r.items r.told.reported now whole) (is-settled x.servers few files r.epochs r.items r.told.reported now whole)))
 
   pub whole-run : now.state.stage ≡ AtEnd → now.state.tasks ≡ [] → IsOfItsCommits files schedule now.state.lines
   whole-run stage tasks = by (comes-to x schedule files now r)
     where
-      by : Part (dismissed (world_of r.items (opening x.servers files r.epochs))) (lines_of r.items (opening x.servers files r.epochs)) now ⊎ Whole x.servers (dismissed (world_of r.items (opening x.servers files r.epochs))) (lines_of r.items (opening x.servers files r.epochs)) now → IsOfItsCommits files schedule now.state.lines
+      by : PartOf x.servers files r.epochs r.items now ⊎ WholeOf x.servers files r.epochs r.items now → IsOfItsCommits files schedule now.state.lines
       by (inl part) = absurd (part.unfinished stage tasks)
       by (inr whole) = of-whole whole
 
   pub run-so-far : IsTrueOfBegun files schedule now.state.course.world.event now.state.lines
   run-so-far = by (comes-to x schedule files now r)
     where
-      by : Part (dismissed (world_of r.items (opening x.servers files r.epochs))) (lines_of r.items (opening x.servers files r.epochs)) now ⊎ Whole x.servers (dismissed (world_of r.items (opening x.servers files r.epochs))) (lines_of r.items (opening x.servers files r.epochs)) now
+      by : PartOf x.servers files r.epochs r.items now ⊎ WholeOf x.servers files r.epochs r.items now
           → IsTrueOfBegun files schedule now.state.course.world.event now.state.lines
       by (inl part) = cut-so-far x schedule files now r part
       by (inr whole) = let t = of-whole whole in none-silent files schedule [] schedule now.state.course.world.event now.state.lines (append-nil schedule) (all-begun x schedule files now r whole.event)

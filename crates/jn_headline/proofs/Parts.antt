@@ -32,16 +32,16 @@ pub record Part (start : Course) (before : List Line) (now : Moment) : Type 0 wh
 
 -- it comes to a moment with these steps done and these tasks left, and goes on from there
 pub record Past (x : Setup) (ups : List Text) (start : Course) (before : List Line) (now : Moment) (steps : List Step) (printed : List Text) (rest : List Task) : Type 0 where
-  pub n : Moment
-  pub came : Came x ups start before n steps printed
-  pub tasks : n.state.tasks ≡ rest
-  pub leads : Leads x n now
+  pub moment : Moment
+  pub came : Came x ups start before moment steps printed
+  pub tasks : moment.state.tasks ≡ rest
+  pub leads : Leads x moment now
 
 -- a task is done, and the run goes on
 pub record Onward (x : Setup) (m now : Moment) (t : Task) (rest : List Task) : Type 0 where
-  pub n : Moment
-  pub makes : Makes x m n t rest
-  pub leads : Leads x n now
+  pub moment : Moment
+  pub makes : Makes x m moment t rest
+  pub leads : Leads x moment now
 
 pub same-event : (x : Setup) (ups : List Text) (start : Course) (before : List Line) (m : Moment) (steps : List Step) (printed : List Text) → Came x ups start before m steps printed → m.state.course.world.event ≡ start.world.event
 same-event x ups start before m steps printed came = ap (λ (w : World). w.event) came.goes.world ∙ ap (λ (w : World). w.event) (on-world steps start) ∙ end-begins-none steps start.world came.of_end
@@ -87,7 +87,7 @@ module _ (x : Setup) (ups : List Text) (start : Course) (before : List Line) whe
     where
       by : (n.state ≡ cut_short (record m.state { tasks = rest })) ⊎ Makes x m n t rest → Part start before now ⊎ Onward x m now t rest
       by (inl e) = inl (cut-off m n now steps printed came rest e leads)
-      by (inr makes) = inr (record { n = n; makes = makes; leads = leads })
+      by (inr makes) = inr (record { moment = n; makes = makes; leads = leads })
 
   -- ---- many tasks, each of which makes one step
 
@@ -99,9 +99,9 @@ module _ (x : Setup) (ups : List Text) (start : Course) (before : List Line) whe
   pub many : {A : Type 0} (task : A → Task) (step : A → Step) (xs : List A) → AllByRecursion (λ a. MakesOne (task a) (step a)) xs
       → (m now : Moment) (steps : List Step) (rest : List Task) → Came x ups start before m steps [] → m.state.tasks ≡ map task xs ++ rest → Leads x m now
       → Part start before now ⊎ Past x ups start before now (steps ++ map step xs) [] rest
-  many task step [] each m now steps rest came tasks leads = inr (record { n = m; came = subst (λ (ss : List Step). Came x ups start before m ss []) (sym (append-nil steps)) came; tasks = tasks; leads = leads })
+  many task step [] each m now steps rest came tasks leads = inr (record { moment = m; came = subst (λ (ss : List Step). Came x ups start before m ss []) (sym (append-nil steps)) came; tasks = tasks; leads = leads })
   many task step (a ∷ xs) each m now steps rest came tasks leads = by (each.0 m now steps (map task xs ++ rest) came tasks leads)
-      (λ p. many task step xs each.1 p.n now (steps ++ step a ∷ []) rest p.came p.tasks p.leads)
+      (λ p. many task step xs each.1 p.moment now (steps ++ step a ∷ []) rest p.came p.tasks p.leads)
     where
       by : Part start before now ⊎ Past x ups start before now (steps ++ step a ∷ []) [] (map task xs ++ rest)
           → (Past x ups start before now (steps ++ step a ∷ []) [] (map task xs ++ rest) → Part start before now ⊎ Past x ups start before now ((steps ++ step a ∷ []) ++ map step xs) [] rest)

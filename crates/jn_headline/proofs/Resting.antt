@@ -169,7 +169,7 @@ module _ (x : Setup) (ups : List Text) (are_up : list_all is_up ups ≡ true) (s
         settle = settle;
         comes = record { next = next; rest = record { waits = sym waiting-is ∙ waits; idle = first-none here.world x.servers none-goes } };
         past = record {
-          n = n;
+          moment = n;
           came = came-none x ups are_up start before m n h nothing rest d.0 (steps ++ these) [] came refl refl refl (quiet-same x w w m.devices n.devices came.quiet (λ s z. z) (let b = d.1 in b.used));
           tasks = tasks-then x ups are_up start before m n h nothing rest d.0 (steps ++ these) [] came;
           leads = l;

@@ -119,7 +119,7 @@ module _ (x : Setup) (ups : List Text) (are_up : list_all is_up ups ≡ true) (s
         texts_are = shown-is h q was mm;
       });
       past = record {
-        n = n;
+        moment = n;
         came = came-none x ups are_up start before m n h (deed [] (shown h q was (Some mm) None)) rest d.0 steps printed came refl (all-print q (print_files (prints_in mm.worker (stable (was.found q)).files) (λ f. blocks_from 0 120) h.files)) (no-faults q h.told calm.told)
             (quiet-called x was was m.devices n.devices came.quiet h q (λ s z. z) others calm);
         tasks = tasks-then x ups are_up start before m n h (deed [] (shown h q was (Some mm) None)) rest d.0 steps printed came;
@@ -144,7 +144,7 @@ module _ (x : Setup) (ups : List Text) (are_up : list_all is_up ups ≡ true) (s
     where
       by : Part start before now ⊎ Onward x m now (Acts (events.Show q)) rest → Part start before now ⊎ Shows now printed q rest
       by (inl part) = inl part
-      by (inr on) = inr (looks q below m now printed rest came on.n on.leads on.makes.chance (on.makes.state_is, on.makes.befalls))
+      by (inr on) = inr (looks q below m now printed rest came on.moment on.leads on.makes.chance (on.makes.state_is, on.makes.befalls))
 
   -- all of them, one after another
   pub record AllShow (now : Moment) (printed : List Text) (first count : ℕ) (rest : List Task) : Type 0 where
@@ -155,9 +155,9 @@ module _ (x : Setup) (ups : List Text) (are_up : list_all is_up ups ≡ true) (s
 
   pub show-all : (count first : ℕ) → first + count ≤ x.servers → (m now : Moment) (printed : List Text) (rest : List Task) → Came x ups start before m steps printed
       → m.state.tasks ≡ map (λ (q : ServerNo). Acts (events.Show q)) (servers_from first count) ++ rest → Leads x m now → Part start before now ⊎ AllShow now printed first count rest
-  show-all zero first within m now printed rest came tasks leads = inr (record { texts = []; looked = tt; count_is = refl; past = record { n = m; came = subst (λ (ts : List Text). Came x ups start before m steps ts) (sym (append-nil printed)) came; tasks = tasks; leads = leads } })
+  show-all zero first within m now printed rest came tasks leads = inr (record { texts = []; looked = tt; count_is = refl; past = record { moment = m; came = subst (λ (ts : List Text). Came x ups start before m steps ts) (sym (append-nil printed)) came; tasks = tasks; leads = leads } })
   show-all (suc count) first within m now printed rest came tasks leads = by (shows (record { 0 = first }) (below first count x.servers within) m now printed (map (λ (q : ServerNo). Acts (events.Show q)) (servers_from (first + 1) count) ++ rest) came tasks leads)
-      (λ one. show-all count (first + 1) (shift first count x.servers within) one.past.n now (printed ++ one.texts) rest one.past.came one.past.tasks one.past.leads)
+      (λ one. show-all count (first + 1) (shift first count x.servers within) one.past.moment now (printed ++ one.texts) rest one.past.came one.past.tasks one.past.leads)
     where
       below : (a c n : ℕ) → a + suc c ≤ n → a < n
       below a c n h = omega (arith, h)
@@ -192,7 +192,7 @@ module _ (x : Setup) (ups : List Text) (are_up : list_all is_up ups ≡ true) (s
 
     idles : Calm h (n.devices q) → ((s : ServerNo) → server_eq q s ≡ false → n.devices s ≡ m.devices s) → ScrubsBy (served q []) → Past x ups start before now steps printed rest
     idles calm others d = record {
-      n = n;
+      moment = n;
       came = subst (λ (ts : List Text). Came x ups start before n steps ts) (append-nil printed) (came-none x ups are_up start before m n h (served q []) rest d steps printed came refl refl (no-faults q h.told calm.told)
           (quiet-called x m.state.course.world m.state.course.world m.devices n.devices came.quiet h q (λ s z. z) others calm));
       tasks = tasks-then x ups are_up start before m n h (served q []) rest d steps printed came;
@@ -209,13 +209,13 @@ module _ (x : Setup) (ups : List Text) (are_up : list_all is_up ups ≡ true) (s
     where
       by : Part start before now ⊎ Onward x m now (Acts (events.Scrub q)) rest → Part start before now ⊎ Past x ups start before now steps printed rest
       by (inl part) = inl part
-      by (inr on) = inr (calls q below m now printed rest came on.n on.leads on.makes.chance on.makes.state_is (let b = on.makes.befalls in b.used))
+      by (inr on) = inr (calls q below m now printed rest came on.moment on.leads on.makes.chance on.makes.state_is (let b = on.makes.befalls in b.used))
 
   pub scrub-all : (count first : ℕ) → first + count ≤ x.servers → (m now : Moment) (printed : List Text) (rest : List Task) → Came x ups start before m steps printed
       → m.state.tasks ≡ map (λ (q : ServerNo). Acts (events.Scrub q)) (servers_from first count) ++ rest → Leads x m now → Part start before now ⊎ Past x ups start before now steps printed rest
-  scrub-all zero first within m now printed rest came tasks leads = inr (record { n = m; came = came; tasks = tasks; leads = leads })
+  scrub-all zero first within m now printed rest came tasks leads = inr (record { moment = m; came = came; tasks = tasks; leads = leads })
   scrub-all (suc count) first within m now printed rest came tasks leads = by (scrubs (record { 0 = first }) (below first count x.servers within) m now printed (map (λ (q : ServerNo). Acts (events.Scrub q)) (servers_from (first + 1) count) ++ rest) came tasks leads)
-      (λ one. scrub-all count (first + 1) (shift first count x.servers within) one.n now printed rest one.came one.tasks one.leads)
+      (λ one. scrub-all count (first + 1) (shift first count x.servers within) one.moment now printed rest one.came one.tasks one.leads)
     where
       below : (a c n : ℕ) → a + suc c ≤ n → a < n
       below a c n h = omega (arith, h)

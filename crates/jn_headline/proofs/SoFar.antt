@@ -32,8 +32,7 @@ use Rattle.jn_cut.specs.Cut.{IsCutEnd, IsTrueSoFar, cut_lines}
 use Rattle.jn_cut.proofs.Cut.{cut-true, run-true, next-true}
 use Rattle.jn_written.specs.Runs.{Moment}
 use Rattle.jn_headline.specs.Headline.{IsTrueOfBegun, but_shows}
-use Rattle.jn_headline.proofs.Parts.{Part}
-use Rattle.jn_headline.proofs.Ended.{dismissed, dismissal-untold}
+use Rattle.jn_headline.proofs.Ended.{PartOf, dismissed, dismissal-untold}
 
 -- ---- lines that are one but for those aside
 
@@ -79,7 +78,7 @@ none-silent files begun rest schedule count lines e n t = record {
 
 -- ---- within its end
 
-module _ (servers : ℕ) (files : AllFiles) (epochs : ServerNo → ℕ) (items : List Item) (now : Moment) (part : Part (dismissed (world_of items (opening servers files epochs))) (lines_of items (opening servers files epochs)) now) where
+module _ (servers : ℕ) (files : AllFiles) (epochs : ServerNo → ℕ) (items : List Item) (now : Moment) (part : PartOf servers files epochs items now) where
   pub part-is-cut : IsCutEnd (record { steps = part.steps; printed = part.printed }) (world_of items (opening servers files epochs))
   part-is-cut = record { steps = (tt, part.is_run); of_end = part.of_end; printed = part.prints }
 
@@ -87,7 +86,7 @@ module _ (servers : ℕ) (files : AllFiles) (epochs : ServerNo → ℕ) (items :
   part-lines = part.lines ∙ ap (λ (ts : List Text). plain (lines_of items (opening servers files epochs) ++ at_end (ts ++ told_by_steps part.steps (dismissed (world_of items (opening servers files epochs))).world ++ part.printed))) (sym (dismissal-untold (world_of items (opening servers files epochs))))
 
 module _ (servers : ℕ) (files : AllFiles) (epochs : ServerNo → ℕ) (items : List Item) (reported : IsReported items (opening servers files epochs)) where
-  pub part-true : (now : Moment) → Part (dismissed (world_of items (opening servers files epochs))) (lines_of items (opening servers files epochs)) now → IsTrueSoFar files (events_of items) now.state.lines
+  pub part-true : (now : Moment) → PartOf servers files epochs items now → IsTrueSoFar files (events_of items) now.state.lines
   part-true now part = true-aside files (events_of items) _ now.state.lines (sym (part-lines servers files epochs items now part))
       (cut-true servers files epochs items (record { steps = part.steps; printed = part.printed }) reported (part-is-cut servers files epochs items now part))
 

@@ -50,7 +50,7 @@ module _ (x : Setup) (ups : List Text) (are_up : list_all is_up ups ≡ true) (s
     GoesDownBy o = n.state ≡ come_to x h (crashed_at q o) (go_on (crashed_at q o).steps m.state.course) (record m.state { tasks = rest })
 
     past-down : Came x ups start before n (steps ++ Crash q ∷ []) [] → n.state.tasks ≡ rest → After now (steps ++ Crash q ∷ []) rest
-    past-down c t = inr (record { n = n; came = c; tasks = t; leads = l })
+    past-down c t = inr (record { moment = n; came = c; tasks = t; leads = l })
 
     down-by : (o : Option Memory) → m.state.course.world.memory q ≡ o → GoesDownBy o → Befalls x h (crashed_at q o) m.state.course.world m.devices n.devices → After now (steps ++ Crash q ∷ []) rest
     down-by None down state b = past-down (came-extra x ups are_up start before n steps
@@ -73,7 +73,7 @@ module _ (x : Setup) (ups : List Text) (are_up : list_all is_up ups ≡ true) (s
     where
       by : Part start before now ⊎ Onward x m now (GoesDown q) rest → After now (steps ++ Crash q ∷ []) rest
       by (inl part) = inl part
-      by (inr on) = down-by q below m now steps rest came on.n on.leads on.makes.chance (m.state.course.world.memory q) refl on.makes.state_is on.makes.befalls
+      by (inr on) = down-by q below m now steps rest came on.moment on.leads on.makes.chance (m.state.course.world.memory q) refl on.makes.state_is on.makes.befalls
 
   -- ---- each outcome counts as thanked
 
@@ -90,12 +90,12 @@ module _ (x : Setup) (ups : List Text) (are_up : list_all is_up ups ≡ true) (s
           h : Chance
           h = on.makes.chance
 
-          goes : Alone q (IsServed (x.counts q) h w q) m.devices on.n.devices → After now (steps ++ CloseClients q ∷ []) rest
-          goes a = let calm = called-calm h (m.devices q) (on.n.devices q) a.its.called (came.quiet.power q below (ap is_some a.its.up)) (came.quiet.told q below) (came.quiet.waiting q below) in inr (record {
-            n = on.n;
-            came = came-one x ups are_up start before m on.n h (served q (CloseClients q ∷ [])) rest on.makes.state_is steps came (CloseClients q) refl refl (no-faults q h.told calm.told) (let b = on.makes.befalls in b.steps.0) refl
-                (quiet-called x w (after (CloseClients q) w) m.devices on.n.devices came.quiet h q (λ s. closed-up w s q) a.others calm);
-            tasks = tasks-then x ups are_up start before m on.n h (served q (CloseClients q ∷ [])) rest on.makes.state_is steps [] came;
+          goes : Alone q (IsServed (x.counts q) h w q) m.devices on.moment.devices → After now (steps ++ CloseClients q ∷ []) rest
+          goes a = let calm = called-calm h (m.devices q) (on.moment.devices q) a.its.called (came.quiet.power q below (ap is_some a.its.up)) (came.quiet.told q below) (came.quiet.waiting q below) in inr (record {
+            moment = on.moment;
+            came = came-one x ups are_up start before m on.moment h (served q (CloseClients q ∷ [])) rest on.makes.state_is steps came (CloseClients q) refl refl (no-faults q h.told calm.told) (let b = on.makes.befalls in b.steps.0) refl
+                (quiet-called x w (after (CloseClients q) w) m.devices on.moment.devices came.quiet h q (λ s. closed-up w s q) a.others calm);
+            tasks = tasks-then x ups are_up start before m on.moment h (served q (CloseClients q ∷ [])) rest on.makes.state_is steps [] came;
             leads = on.leads;
           })
 
@@ -107,10 +107,10 @@ module _ (x : Setup) (ups : List Text) (are_up : list_all is_up ups ≡ true) (s
       by : Part start before now ⊎ Onward x m now (Acts (events.Again c)) rest → After now (steps ++ Again c ∷ []) rest
       by (inl part) = inl part
       by (inr on) = inr (record {
-        n = on.n;
-        came = came-one x ups are_up start before m on.n on.makes.chance (plain (Client c) (Again c ∷ [])) rest on.makes.state_is steps came (Again c) refl refl refl tt refl
-            (quiet-same x m.state.course.world (after (Again c) m.state.course.world) m.devices on.n.devices came.quiet (λ s z. z) (let b = on.makes.befalls in b.used));
-        tasks = tasks-then x ups are_up start before m on.n on.makes.chance (plain (Client c) (Again c ∷ [])) rest on.makes.state_is steps [] came;
+        moment = on.moment;
+        came = came-one x ups are_up start before m on.moment on.makes.chance (plain (Client c) (Again c ∷ [])) rest on.makes.state_is steps came (Again c) refl refl refl tt refl
+            (quiet-same x m.state.course.world (after (Again c) m.state.course.world) m.devices on.moment.devices came.quiet (λ s z. z) (let b = on.makes.befalls in b.used));
+        tasks = tasks-then x ups are_up start before m on.moment on.makes.chance (plain (Client c) (Again c ∷ [])) rest on.makes.state_is steps [] came;
         leads = on.leads;
       })
 
@@ -120,10 +120,10 @@ module _ (x : Setup) (ups : List Text) (are_up : list_all is_up ups ≡ true) (s
       by : Part start before now ⊎ Onward x m now (Acts (events.Nudge q)) rest → After now (steps ++ Nudge q ∷ []) rest
       by (inl part) = inl part
       by (inr on) = inr (record {
-        n = on.n;
-        came = came-one x ups are_up start before m on.n on.makes.chance (plain (Server q) (Nudge q ∷ [])) rest on.makes.state_is steps came (Nudge q) refl refl refl tt refl
-            (quiet-same x m.state.course.world (after (Nudge q) m.state.course.world) m.devices on.n.devices came.quiet (λ s. nudged-up m.state.course.world s q) (let b = on.makes.befalls in b.used));
-        tasks = tasks-then x ups are_up start before m on.n on.makes.chance (plain (Server q) (Nudge q ∷ [])) rest on.makes.state_is steps [] came;
+        moment = on.moment;
+        came = came-one x ups are_up start before m on.moment on.makes.chance (plain (Server q) (Nudge q ∷ [])) rest on.makes.state_is steps came (Nudge q) refl refl refl tt refl
+            (quiet-same x m.state.course.world (after (Nudge q) m.state.course.world) m.devices on.moment.devices came.quiet (λ s. nudged-up m.state.course.world s q) (let b = on.makes.befalls in b.used));
+        tasks = tasks-then x ups are_up start before m on.moment on.makes.chance (plain (Server q) (Nudge q ∷ [])) rest on.makes.state_is steps [] came;
         leads = on.leads;
       })
 
@@ -147,7 +147,7 @@ module _ (x : Setup) (ups : List Text) (are_up : list_all is_up ups ≡ true) (s
         goes a = let r = recovered-calm h (is_some ((after raised was).memory q)) (m.devices q) (n.devices q) a.its (came.quiet.told q below) (came.quiet.waiting q below) in record {
           back = record { pick = pick_read h; works = h.works; tids = h.tids };
           past = record {
-            n = n;
+            moment = n;
             came = came-one x ups are_up start before m n h (recovers q (raised ∷ [])) rest state steps came raised refl refl (no-faults q h.told r.told) b.steps.0 refl
                 (quiet-alone x was (after raised was) m.devices n.devices came.quiet q (λ s e. restarted-up was s q (pick_read h) h.works h.tids e) a.others r.power r.nothing_told r.nothing_waits);
             tasks = tasks-then x ups are_up start before m n h (recovers q (raised ∷ [])) rest state steps [] came;
@@ -181,7 +181,7 @@ module _ (x : Setup) (ups : List Text) (are_up : list_all is_up ups ≡ true) (s
     where
       by : Part start before now ⊎ Onward x m now (ComesUp q) rest → Part start before now ⊎ CameUp now steps q rest
       by (inl part) = inl part
-      by (inr on) = inr (up-by q below m now steps rest came on.n on.leads on.makes.chance (is_used_up on.makes.chance q m.state.course.world) (on.makes.goes_on, on.makes.state_is, on.makes.befalls))
+      by (inr on) = inr (up-by q below m now steps rest came on.moment on.leads on.makes.chance (is_used_up on.makes.chance q m.state.course.world) (on.makes.goes_on, on.makes.state_is, on.makes.befalls))
 
   -- all of them, one after another
   pub record AllUp (now : Moment) (steps : List Step) (first count : ℕ) (rest : List Task) : Type 0 where
@@ -191,9 +191,9 @@ module _ (x : Setup) (ups : List Text) (are_up : list_all is_up ups ≡ true) (s
 
   pub come-up : (count first : ℕ) → first + count ≤ x.servers → (m now : Moment) (steps : List Step) (rest : List Task) → Came x ups start before m steps [] → m.state.tasks ≡ map ComesUp (servers_from first count) ++ rest → Leads x m now
       → Part start before now ⊎ AllUp now steps first count rest
-  come-up zero first within m now steps rest came tasks leads = inr (record { backs = []; count_is = refl; past = record { n = m; came = subst (λ (ss : List Step). Came x ups start before m ss []) (sym (append-nil steps)) came; tasks = tasks; leads = leads } })
+  come-up zero first within m now steps rest came tasks leads = inr (record { backs = []; count_is = refl; past = record { moment = m; came = subst (λ (ss : List Step). Came x ups start before m ss []) (sym (append-nil steps)) came; tasks = tasks; leads = leads } })
   come-up (suc count) first within m now steps rest came tasks leads = by (comes-up (record { 0 = first }) (below first count x.servers within) m now steps (map ComesUp (servers_from (first + 1) count) ++ rest) came tasks leads)
-      (λ one. come-up count (first + 1) (shift first count x.servers within) one.past.n now (steps ++ Restart (record { 0 = first }) one.back.pick one.back.works one.back.tids ∷ []) rest one.past.came one.past.tasks one.past.leads)
+      (λ one. come-up count (first + 1) (shift first count x.servers within) one.past.moment now (steps ++ Restart (record { 0 = first }) one.back.pick one.back.works one.back.tids ∷ []) rest one.past.came one.past.tasks one.past.leads)
     where
       below : (a c n : ℕ) → a + suc c ≤ n → a < n
       below a c n h = omega (arith, h)

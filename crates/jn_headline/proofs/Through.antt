@@ -140,19 +140,19 @@ module _ (x : Setup) (ups : List Text) (are_up : list_all is_up ups ≡ true) (s
         tasks = ap (λ (z : Moment). z.state.tasks) now-is ∙ none-left;
         event = ap (λ (z : Moment). z.state.course.world.event) now-is ∙ ap (λ (s : State). s.course.world.event) on.makes.state_is ∙ same-event x ups start before m steps printed came;
         lines = ap (λ (z : Moment). plain z.state.lines) now-is
-            ∙ lines-then x ups are_up start before m on.n on.makes.chance deed [] on.makes.state_is steps printed came (counting m.state.lines) refl (ap (λ (ts : List Text). ts ++ counting m.state.lines) (drop-all m.state.course.world.lines))
+            ∙ lines-then x ups are_up start before m on.moment on.makes.chance deed [] on.makes.state_is steps printed came (counting m.state.lines) refl (ap (λ (ts : List Text). ts ++ counting m.state.lines) (drop-all m.state.course.world.lines))
             ∙ ap plain (ap (λ (ls : List Line). before ++ ls) (at-end-append (told_by_steps steps start.world ++ printed) (counting m.state.lines)) ∙ sym (append_assoc before (at_end (told_by_steps steps start.world ++ printed)) (at_end (counting m.state.lines))))
             ∙ ap (λ (Ts : List Tid). plain (told ++ at_end (Commits (length Ts) ∷ []))) (same-of history_of history-plain m.state.lines told came.lines);
       }
         where
-          none-left : on.n.state.tasks ≡ []
-          none-left = tasks-then x ups are_up start before m on.n on.makes.chance deed [] on.makes.state_is steps printed came
+          none-left : on.moment.state.tasks ≡ []
+          none-left = tasks-then x ups are_up start before m on.moment on.makes.chance deed [] on.makes.state_is steps printed came
 
-          stage : on.n.state.stage ≡ AtEnd
+          stage : on.moment.state.stage ≡ AtEnd
           stage = ap (λ (s : State). s.stage) on.makes.state_is ∙ came.stage
 
-          now-is : now ≡ on.n
-          now-is = ended x on.n now on.leads none-left stage
+          now-is : now ≡ on.moment
+          now-is = ended x on.moment now on.leads none-left stage
 
   -- ---- from the beginning to the last line
 
@@ -163,15 +163,15 @@ module _ (x : Setup) (ups : List Text) (are_up : list_all is_up ups ≡ true) (s
     pub through : (m now : Moment) → Came x ups start before m [] [] → m.state.tasks ≡ in_turn x → Leads x m now → Part start before now ⊎ Whole x.servers start before now
     through m now came tasks leads =
         then (many x ups start before GoesDown (λ (s : ServerNo). Crash s) all (each-server (λ q. MakesOne x ups start before (GoesDown q) (Crash q)) x.servers x.servers 0 (all-of x.servers) (goes-down x ups are_up start before)) m now [] (map ComesUp all ++ (map ClosesClients all ++ settled x)) came tasks leads)
-        (λ down. then (come-up x ups are_up start before x.servers 0 (all-of x.servers) down.n now crashes (map ClosesClients all ++ settled x) down.came down.tasks down.leads)
-        (λ up. then (many x ups start before ClosesClients (λ (s : ServerNo). CloseClients s) all (each-server (λ q. MakesOne x ups start before (ClosesClients q) (CloseClients q)) x.servers x.servers 0 (all-of x.servers) (closes x ups are_up start before)) up.past.n now (crashes ++ restarts_from 0 up.backs) (settled x) up.past.came up.past.tasks up.past.leads)
-        (λ closed. then (rests x ups are_up start before near closed.n now closed.leads (opening_steps x.servers up.backs) closed.came (asks ++ (nudges ++ (Rests ∷ late x))) closed.tasks)
-        (λ first. then (many x ups start before (λ (c : ClientNo). Acts (events.Again c)) (λ (c : ClientNo). Again c) clients (each-client (λ c. MakesOne x ups start before (Acts (events.Again c)) (Again c)) clients (asks-client x ups are_up start before)) first.past.n now (opening_steps x.servers up.backs ++ first.these) (nudges ++ (Rests ∷ late x)) first.past.came first.past.tasks first.past.leads)
-        (λ again. then (many x ups start before (λ (q : ServerNo). Acts (events.Nudge q)) (λ (s : ServerNo). Nudge s) all (each-server (λ q. MakesOne x ups start before (Acts (events.Nudge q)) (Nudge q)) x.servers x.servers 0 (all-of x.servers) (λ q l. asks-server x ups are_up start before q)) again.n now (opening_steps x.servers up.backs ++ first.these ++ map (λ (c : ClientNo). Again c) clients) (Rests ∷ late x) again.came again.tasks again.leads)
-        (λ nudged. then (rests x ups are_up start before near nudged.n now nudged.leads (asked_steps x.servers up.backs first.these) nudged.came (late x) nudged.tasks)
-        (λ second. then (show-all x ups are_up start before (asked_steps x.servers up.backs first.these ++ second.these) x.servers 0 (all-of x.servers) second.past.n now [] (scrubs ++ (CountsCommits ∷ [])) second.past.came second.past.tasks second.past.leads)
-        (λ shown. then (scrub-all x ups are_up start before (asked_steps x.servers up.backs first.these ++ second.these) x.servers 0 (all-of x.servers) shown.past.n now (joined shown.texts) (CountsCommits ∷ []) shown.past.came shown.past.tasks shown.past.leads)
-        (λ scrubbed. then (counts scrubbed.n now (asked_steps x.servers up.backs first.these ++ second.these) (joined shown.texts) scrubbed.came scrubbed.tasks scrubbed.leads)
+        (λ down. then (come-up x ups are_up start before x.servers 0 (all-of x.servers) down.moment now crashes (map ClosesClients all ++ settled x) down.came down.tasks down.leads)
+        (λ up. then (many x ups start before ClosesClients (λ (s : ServerNo). CloseClients s) all (each-server (λ q. MakesOne x ups start before (ClosesClients q) (CloseClients q)) x.servers x.servers 0 (all-of x.servers) (closes x ups are_up start before)) up.past.moment now (crashes ++ restarts_from 0 up.backs) (settled x) up.past.came up.past.tasks up.past.leads)
+        (λ closed. then (rests x ups are_up start before near closed.moment now closed.leads (opening_steps x.servers up.backs) closed.came (asks ++ (nudges ++ (Rests ∷ late x))) closed.tasks)
+        (λ first. then (many x ups start before (λ (c : ClientNo). Acts (events.Again c)) (λ (c : ClientNo). Again c) clients (each-client (λ c. MakesOne x ups start before (Acts (events.Again c)) (Again c)) clients (asks-client x ups are_up start before)) first.past.moment now (opening_steps x.servers up.backs ++ first.these) (nudges ++ (Rests ∷ late x)) first.past.came first.past.tasks first.past.leads)
+        (λ again. then (many x ups start before (λ (q : ServerNo). Acts (events.Nudge q)) (λ (s : ServerNo). Nudge s) all (each-server (λ q. MakesOne x ups start before (Acts (events.Nudge q)) (Nudge q)) x.servers x.servers 0 (all-of x.servers) (λ q l. asks-server x ups are_up start before q)) again.moment now (opening_steps x.servers up.backs ++ first.these ++ map (λ (c : ClientNo). Again c) clients) (Rests ∷ late x) again.came again.tasks again.leads)
+        (λ nudged. then (rests x ups are_up start before near nudged.moment now nudged.leads (asked_steps x.servers up.backs first.these) nudged.came (late x) nudged.tasks)
+        (λ second. then (show-all x ups are_up start before (asked_steps x.servers up.backs first.these ++ second.these) x.servers 0 (all-of x.servers) second.past.moment now [] (scrubs ++ (CountsCommits ∷ [])) second.past.came second.past.tasks second.past.leads)
+        (λ shown. then (scrub-all x ups are_up start before (asked_steps x.servers up.backs first.these ++ second.these) x.servers 0 (all-of x.servers) shown.past.moment now (joined shown.texts) (CountsCommits ∷ []) shown.past.came shown.past.tasks shown.past.leads)
+        (λ scrubbed. then (counts scrubbed.moment now (asked_steps x.servers up.backs first.these ++ second.these) (joined shown.texts) scrubbed.came scrubbed.tasks scrubbed.leads)
         (λ counted. inr (record {
           backs = up.backs;
           back_count = up.count_is;
