@@ -1,0 +1,10 @@
+pub mod Behind
+pub mod Items
+pub mod Acts
+pub mod Seen
+pub mod Strikes
+pub mod Turns
+pub mod Standing
+pub mod Befalling
+pub mod Doing
+pub mod May

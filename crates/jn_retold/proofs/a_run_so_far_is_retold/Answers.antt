@@ -1,0 +1,4 @@
+use Rattle.jn_retold.proofs.a_run_so_far_is_retold.Goals as goal
+
+pub returns : goal.returns
+returns c = ?
