@@ -8,3 +8,8 @@ pub mod Standing
 pub mod Befalling
 pub mod Doing
 pub mod May
+pub mod Besides
+pub mod Showing
+pub mod Going
+pub mod Forms
+pub mod Beginning
