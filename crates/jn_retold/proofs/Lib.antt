@@ -13,3 +13,6 @@ pub mod Showing
 pub mod Going
 pub mod Forms
 pub mod Beginning
+pub mod Settles
+pub mod Partly
+pub mod Starting
