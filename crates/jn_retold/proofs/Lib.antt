@@ -16,3 +16,6 @@ pub mod Beginning
 pub mod Settles
 pub mod Partly
 pub mod Starting
+pub mod Coordinating
+pub mod Ranges
+pub mod Whole
