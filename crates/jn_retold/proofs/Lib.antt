@@ -16,6 +16,7 @@ pub mod Beginning
 pub mod Settles
 pub mod Partly
 pub mod Starting
+pub mod RowRanges
 pub mod Coordinating
 pub mod Ranges
 pub mod Whole
