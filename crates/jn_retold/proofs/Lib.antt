@@ -18,5 +18,6 @@ pub mod Partly
 pub mod Starting
 pub mod RowRanges
 pub mod Coordinating
+pub mod WorldRanges
 pub mod Ranges
 pub mod Whole
