@@ -24,7 +24,8 @@ use Rattle.jn_written.specs.Steps.{outside_texts, own_texts, texts_of, lines_at,
 use Rattle.jn_written.specs.Runs.{none, more, Moment, DoesStep, Leads}
 use Rattle.jn_written.proofs.Telling.{both}
 use Rattle.jn_retold.specs.Retold.{behind}
-use Rattle.jn_headline.proofs.Behind.{GoesWith, go-behind, step-behind, own-behind}
+use Rattle.jn_retold.proofs.Items.{is-run-both}
+use Rattle.jn_headline.proofs.Behind.{GoesWith, go-behind, may-behind, own-behind}
 use Rattle.jn_headline.proofs.Texts.{told-append, no-messages, lines-left, lines-more}
 use Rattle.jn_headline.proofs.Quiet.{IsQuiet}
 
@@ -41,10 +42,6 @@ all-append test (x ∷ xs) ys h k = both (test x) (list_all test (xs ++ ys)) (fi
 pub on-append : (a b : List Step) (c : Course) → go_on (a ++ b) c ≡ go_on b (go_on a c)
 on-append [] b c = refl
 on-append (step ∷ a) b c = on-append a b (go step c)
-
-pub run-append : (a b : List Step) (w : World) → IsRun a w → IsRun b (run a w) → IsRun (a ++ b) w
-run-append [] b w h k = k
-run-append (step ∷ a) b w h k = (h.0, run-append a b (after step w) h.1 k)
 
 pub drop-all : {A : Type 0} (xs : List A) → drop (length xs) xs ≡ []
 drop-all xs = subst (λ ys. drop (length xs) ys ≡ []) (append-nil xs) (drop-append_seam xs [])
@@ -186,7 +183,7 @@ module _ (x : Setup) (ups : List Text) (are_up : list_all is_up ups ≡ true) (s
     came-one one_step no_texts silent may ends quiet = record {
       stage = stage-then m n h deed rest state_is steps [] came;
       goes = subst (λ (c : Course). GoesWith ups c (go_on (steps ++ step ∷ []) start)) (sym now) (subst (λ (c : Course). GoesWith ups (go step m.state.course) c) (sym (on-append steps (step ∷ []) start)) (go-behind ups are_up step m.state.course here came.goes));
-      is_run = run-append steps (step ∷ []) start.world came.is_run (subst (λ (w : World). IsStep step w) here-is (step-behind ups are_up here.world step (subst (λ (w : World). IsStep step w) came.goes.world may)), tt);
+      is_run = is-run-both steps (step ∷ []) start.world came.is_run (subst (λ (w : World). IsStep step w) here-is (may-behind ups are_up here.world step (subst (λ (w : World). IsStep step w) came.goes.world may)), tt);
       of_end = all-append is_of_end steps (step ∷ []) came.of_end (both (is_of_end step) true ends refl);
       prints = refl;
       lines = lines-then m n h deed rest state_is steps [] came (told_by (Does step) here.world) silent own ∙ ap (λ (ts : List Text). plain (before ++ at_end ts)) texts;
@@ -210,7 +207,7 @@ module _ (x : Setup) (ups : List Text) (are_up : list_all is_up ups ≡ true) (s
   came-extra m steps came step may ends idle kept = record {
     stage = came.stage;
     goes = subst (λ (c : Course). GoesWith ups m.state.course c) (sym (on-append steps (step ∷ []) start)) (record { world = came.goes.world ∙ ap (behind ups) (sym idle); waiting = came.goes.waiting ∙ sym waiting });
-    is_run = run-append steps (step ∷ []) start.world came.is_run (subst (λ (w : World). IsStep step w) (on-world steps start) may, tt);
+    is_run = is-run-both steps (step ∷ []) start.world came.is_run (subst (λ (w : World). IsStep step w) (on-world steps start) may, tt);
     of_end = all-append is_of_end steps (step ∷ []) came.of_end (both (is_of_end step) true ends refl);
     prints = refl;
     lines = came.lines ∙ ap (λ (ts : List Text). plain (before ++ at_end (ts ++ []))) texts;

@@ -32,9 +32,9 @@ use Rattle.jn_ended.specs.Whole.{IsSettledEnd}
 use Rattle.jn_ended.proofs.Whole.{holds-where-up}
 use Rattle.jn_written.specs.Deeds.{blocks_from}
 use Rattle.jn_written.specs.Runs.{Moment}
+use Rattle.jn_retold.proofs.Showing.{all-printed}
 use Rattle.jn_headline.proofs.Came.{all-append, on-append, drop-all}
 use Rattle.jn_headline.proofs.Parts.{Part}
-use Rattle.jn_headline.proofs.Printed.{are-prints}
 use Rattle.jn_headline.proofs.Showing.{most, Looked, AllLooked, joined}
 use Rattle.jn_headline.proofs.Through.{clients, opening_steps, asked_steps, Whole}
 
@@ -79,25 +79,28 @@ looked-up w first (ts ∷ texts) h s low high = by (nat_lt first s.0) refl (look
     by true z again = again (next first s.0 z) (within first s.0 (length texts) high)
     by false z again = subst (λ (i : ℕ). is_some (w.memory (record { 0 = i })) ≡ true) (sym (equal first s.0 low z)) (let l = h.0 in ap is_some l.up)
 
--- where nothing is held, no block is printed but those that are stored
-stored-alone : (holder : Option Tid) (f : FileNo) (p : BlockNo) (content : Option (List ℕ)) → holder ≡ None → is_some (print_unit (Block f p) holder content) ≡ true → is_some content ≡ true
-stored-alone None f p None e h = h
-stored-alone None f p (Some bytes) e h = refl
-stored-alone (Some T) f p content e h = absurd (cc e)
+-- where nothing is held, there is nothing to print of a block that isn't stored
+not-there : (holder : Option Tid) (f : FileNo) (p : BlockNo) (content : Option (List ℕ)) → holder ≡ None → (is_some content ≡ true → ⊥) → print_unit (Block f p) holder content ≡ None
+not-there None f p None e h = refl
+not-there None f p (Some bytes) e h = absurd (h refl)
+not-there (Some T) f p content e h = absurd (cc e)
 
-all-printed : (w : World) (first : ℕ) (texts : List (List Text)) (h : AllLooked w first texts) → ((s : ServerNo) (m : Memory) (u : LockUnit) → w.memory s ≡ Some m → commit_holder u m.worker ≡ None) → ArePrinted first w (all_prints w first texts h)
-all-printed w first [] h free = tt
-all-printed w first (ts ∷ texts) h free = (one h.0, all-printed w (first + 1) texts h.1 free)
+all-prints-are : (w : World) (first : ℕ) (texts : List (List Text)) (h : AllLooked w first texts) → ((s : ServerNo) (m : Memory) (u : LockUnit) → w.memory s ≡ Some m → commit_holder u m.worker ≡ None) → ArePrinted first w (all_prints w first texts h)
+all-prints-are w first [] h free = tt
+all-prints-are w first (ts ∷ texts) h free = (one h.0, all-prints-are w (first + 1) texts h.1 free)
   where
     q : ServerNo
     q = record { 0 = first }
+
+    too-low : (n : ℕ) → most ≤ n → n < most → ⊥
+    too-low n h k = omega (arith, h, k)
 
     one : (l : Looked (w.memory (record { 0 = first })) (w.found (record { 0 = first })) (record { 0 = first }) ts) → IsPrinted (record { 0 = first }) w (prints_of_looked (w.memory (record { 0 = first })) (w.found (record { 0 = first })) (record { 0 = first }) ts l)
     one l = record {
       memory = l.memory;
       up = l.up;
-      prints_are = are-prints (prints_in l.memory.worker (stable (w.found q)).files) most l.files l.are_files
-          (λ f p i. l.within f p (stored-alone (commit_holder (Block f p) l.memory.worker) f p ((stable (w.found q)).files (Block f p)) (free q l.memory (Block f p) l.up) i));
+      prints_are = all-printed (prints_in l.memory.worker (stable (w.found q)).files) most
+          (λ f p past. not-there (commit_holder (Block f p) l.memory.worker) f p ((stable (w.found q)).files (Block f p)) (free q l.memory (Block f p) l.up) (λ i. too-low p.0 past (l.within f p i))) l.files l.are_files;
     }
 
 -- ---- the ending
@@ -219,7 +222,7 @@ module _ (servers : ℕ) (few : servers ≤ 8) (files : AllFiles) (epochs : Serv
         all_up = whole.back_count;
         settling = settling-settles;
         all_print = prints-count (go_on every begin).world 0 whole.texts whole.looked ∙ whole.text_count;
-        prints = subst (λ (w : World). ArePrinted 0 w prints) (sym (world-is prints)) (all-printed (go_on every begin).world 0 whole.texts whole.looked free);
+        prints = subst (λ (w : World). ArePrinted 0 w prints) (sym (world-is prints)) (all-prints-are (go_on every begin).world 0 whole.texts whole.looked free);
       };
     }
 

@@ -1,8 +1,10 @@
--- Runs that are retold have reports of their commits.
+-- Runs of the written machine have reports of their commits.
 use Rattle.std.proofs.Common.{◌≡◌, ◌⊎◌, inl, inr, ℕ, ◌≤◌, List, subst}
+use Rattle.std.specs.List.{AllByRecursion}
 use Rattle.jn_base.specs.declared.names.ServerNo.{ServerNo}
 use Rattle.jn_order.specs.Files.{AllFiles}
 use Rattle.jn_schedule.specs.declared.Event.{Event}
+use Rattle.jn_schedule.specs.Ranges.{EventInRange}
 use Rattle.jn_report.specs.declared.line.Line.{Line}
 use Rattle.jn_ended.specs.Whole.{IsOfItsCommits}
 use Rattle.jn_written.specs.Chances.{Setup}
@@ -10,19 +12,19 @@ use Rattle.jn_written.specs.Devices.{Devices}
 use Rattle.jn_written.specs.Runs.{Moment}
 use Rattle.jn_written.specs.Whole.{AreImages, IsWritten, IsWhole, IsLimited, IsPartOfRun}
 use Rattle.jn_retold.specs.Retold.{IsRetold, IsRetoldInPart}
+use Rattle.jn_retold.proofs.Whole.{run-retold, done-retold}
 use Rattle.jn_headline.specs.Headline.{IsTrueOfBegun}
-use Rattle.jn_headline.specs.Retelling.{AreRetold}
 use Rattle.jn_headline.proofs.Headline.{whole-run, run-so-far, part-so-far}
 
-module _ (x : Setup) (schedule : List Event) (images : Devices) (few : x.servers ≤ 8) (retold : AreRetold x schedule images) where
+module _ (x : Setup) (schedule : List Event) (images : Devices) (few : x.servers ≤ 8) (ranges : AllByRecursion EventInRange schedule) where
   pub whole-report : (closing : Devices) (lines : List Line) → IsWhole x schedule images closing lines → (files : AllFiles) × (epochs : ServerNo → ℕ) × AreImages x files epochs images × IsOfItsCommits files schedule lines
-  whole-report closing lines h = by (retold.done h.last h.written h.stage)
+  whole-report closing lines h = by (done-retold x schedule images h.last few ranges h.written h.stage)
     where
       by : (files : AllFiles) × (epochs : ServerNo → ℕ) × AreImages x files epochs images × IsRetold x schedule files h.last → (files : AllFiles) × (epochs : ServerNo → ℕ) × AreImages x files epochs images × IsOfItsCommits files schedule lines
       by (files, epochs, are_images, r) = (files, epochs, are_images, subst (λ (ls : List Line). IsOfItsCommits files schedule ls) h.lines_are (whole-run x schedule files h.last few are_images.its r h.stage h.tasks))
 
   moment-report : (now : Moment) → IsWritten x schedule images now → (files : AllFiles) × (epochs : ServerNo → ℕ) × AreImages x files epochs images × IsTrueOfBegun files schedule now.state.course.world.event now.state.lines
-  moment-report now written = by (retold.so_far now written)
+  moment-report now written = by (run-retold x schedule images now few ranges written)
     where
       either : (files : AllFiles) (epochs : ServerNo → ℕ) → AreImages x files epochs images → IsRetoldInPart x schedule files now ⊎ IsRetold x schedule files now → IsTrueOfBegun files schedule now.state.course.world.event now.state.lines
       either files epochs are_images (inl r) = part-so-far x schedule files now r

@@ -7,7 +7,6 @@ pub mod Parts
 pub mod Tasks
 pub mod Busy
 pub mod Resting
-pub mod Printed
 pub mod Showing
 pub mod Through
 pub mod Ended

@@ -3,9 +3,11 @@
 #![tactic(auto)]
 
 ghost use Rattle.std.specs.Prelude.{◌≡◌, ◌≤◌, ℕ, List, []};
+ghost use Rattle.std.specs.List.{AllByRecursion};
 ghost use Rattle.jn_base.specs.declared.names.ServerNo.{ServerNo};
 ghost use Rattle.jn_order.specs.Files.{AllFiles};
 ghost use Rattle.jn_schedule.specs.declared.Event.{Event};
+ghost use Rattle.jn_schedule.specs.Ranges.{EventInRange};
 ghost use Rattle.jn_report.specs.declared.line.Line.{Line};
 ghost use Rattle.jn_aside.specs.Aside.{plain};
 ghost use Rattle.jn_protocol.specs.World.{opening};
@@ -20,7 +22,6 @@ ghost use Rattle.jn_written.specs.Runs.{Moment};
 ghost use Rattle.jn_written.specs.Whole.{AreImages, IsWhole, IsLimited, IsPartOfRun};
 ghost use Rattle.jn_retold.specs.Retold.{IsRetold, IsRetoldInPart};
 ghost use Rattle.jn_headline.specs.Headline.{IsTrueOfBegun};
-ghost use Rattle.jn_headline.specs.Retelling.{AreRetold};
 
 /// Where the schedule of a run is retold, its end is: one that was done whole is an ending of the whole system that settles until nothing is
 /// left to do, and one that isn't is an end that is cut off. The lines are theirs, but for those of servers that came up and of messages.
@@ -46,13 +47,14 @@ pub fn reports_of_runs_so_far()
         → IsTrueOfBegun files schedule now.state.course.world.event now.state.lines }
 {}
 
-/// Where the runs of a schedule are retold, from images without works and flags: a whole run's report is that of its commits, from the files
-/// of the images; and so is, of the events that it has begun, that of a run so far, and of one for which messages or epochs are used up.
-pub fn reports_are_of_their_commits_where_runs_are_retold()
-    ensures whole { (x : Setup) (schedule : List Event) (images closing : Devices) (lines : List Line) → x.servers ≤ 8 → AreRetold x schedule images → IsWhole x schedule images closing lines
+/// The report of every whole run of the written machine is that of its commits, from the files of its images; and so is, of the events that
+/// it has begun, that of every run so far, and of every one for which messages or epochs are used up: whatever befalls its devices, for at
+/// most 8 servers, from images without works and flags, where what a schedule names is in range.
+pub fn reports_of_written_runs()
+    ensures whole { (x : Setup) (schedule : List Event) (images closing : Devices) (lines : List Line) → x.servers ≤ 8 → AllByRecursion EventInRange schedule → IsWhole x schedule images closing lines
         → (files : AllFiles) × (epochs : ServerNo → ℕ) × AreImages x files epochs images × IsOfItsCommits files schedule lines }
-    ensures so_far { (x : Setup) (schedule : List Event) (images : Devices) (lines : List Line) → x.servers ≤ 8 → AreRetold x schedule images → (h : IsPartOfRun x schedule images lines)
+    ensures so_far { (x : Setup) (schedule : List Event) (images : Devices) (lines : List Line) → x.servers ≤ 8 → AllByRecursion EventInRange schedule → (h : IsPartOfRun x schedule images lines)
         → (files : AllFiles) × (epochs : ServerNo → ℕ) × AreImages x files epochs images × IsTrueOfBegun files schedule h.now.state.course.world.event lines }
-    ensures limited { (x : Setup) (schedule : List Event) (images : Devices) (lines : List Line) → x.servers ≤ 8 → AreRetold x schedule images → (h : IsLimited x schedule images lines)
+    ensures limited { (x : Setup) (schedule : List Event) (images : Devices) (lines : List Line) → x.servers ≤ 8 → AllByRecursion EventInRange schedule → (h : IsLimited x schedule images lines)
         → (files : AllFiles) × (epochs : ServerNo → ℕ) × AreImages x files epochs images × IsTrueOfBegun files schedule h.last.state.course.world.event lines }
 {}
