@@ -1,5 +1,5 @@
 -- A run of the written machine, told as a run of the whole system under its schedule's events.
-use Rattle.std.specs.Prelude.{◌≡◌, ◌<◌, ℕ, Bool, true, not, List, [], ◌∷◌, ◌++◌, Some, length}
+use Rattle.std.specs.Prelude.{◌≡◌, ◌<◌, ℕ, ◌+◌, Bool, true, not, List, [], ◌∷◌, ◌++◌, Some, length}
 use Rattle.std.specs.List.{list_all}
 use Rattle.jn_base.specs.declared.names.ServerNo.{ServerNo}
 use Rattle.jn_order.specs.Files.{AllFiles}
@@ -55,3 +55,5 @@ pub record IsRetoldInPart (x : Setup) (schedule : List Event) (files : AllFiles)
   pub one : length begun < 2
   pub reported : IsReported items (opening x.servers files epochs)
   pub lines : plain now.state.lines ≡ plain (lines_of items (opening x.servers files epochs))
+  -- the events up to the last one that began
+  pub event : now.state.course.world.event ≡ length items + length begun
