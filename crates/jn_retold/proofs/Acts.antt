@@ -1,5 +1,5 @@
 -- What a deed does and tells, as acts under an event.
-use Rattle.std.proofs.Common.{◌≡◌, ℕ, ◌+◌, Bool, true, false, List, [], ◌∷◌, ◌++◌, append-nil, append_assoc, length, drop, map, Option, Some, None, refl, sym, ◌∙◌, ap, subst, arith}
+use Rattle.std.proofs.Common.{◌≡◌, ℕ, ◌+◌, Bool, true, false, List, [], ◌∷◌, ◌++◌, append-nil, append_assoc, length, drop, map, Option, Some, None, refl, sym, ◌∙◌, ap, subst}
 use Rattle.std.specs.Prelude.{if◌then◌else◌}
 use Rattle.std.specs.List.{list_all}
 use Rattle.std.proofs.Math.Seq.{drop-append_seam}
@@ -9,7 +9,6 @@ use Rattle.jn_base.specs.declared.device.FaultKind.TheVariants as faults
 use Rattle.jn_base.specs.declared.device.Outside.{Outside}
 use Rattle.jn_schedule.specs.declared.Event.{Event}
 use Rattle.jn_schedule.specs.declared.Event.TheVariants as events
-use Rattle.jn_report.specs.declared.line.EventRefusal.{EventRefusal}
 use Rattle.jn_report.specs.declared.line.EventRefusal.TheVariants.{TooManyArmed, EpochsUsedUp}
 use Rattle.jn_report.specs.declared.line.When.{When}
 use Rattle.jn_report.specs.declared.line.Text.{Text}
@@ -25,13 +24,13 @@ use Rattle.jn_reported.specs.Printing.{prints_of}
 use Rattle.jn_aside.specs.Aside.{is_aside, plain}
 use Rattle.jn_aside.proofs.Plain.{plain-append, plain-none}
 use Rattle.jn_written.specs.Chances.{Setup, Chance}
-use Rattle.jn_written.specs.Deeds.{Use, Calls, Reads, Recovers, Deed, blocks_from, shown, is_used_up}
-use Rattle.jn_written.specs.Events.{acted, met, told_unless}
+use Rattle.jn_written.specs.Deeds.{Use, Calls, Reads, Recovers, Deed, blocks_from, is_used_up}
+use Rattle.jn_written.specs.Events.{acted}
 use Rattle.jn_written.specs.Steps.{outside_texts, own_texts, message_texts, traced, texts_of, lines_at}
 use Rattle.jn_written.specs.Kinds.{may_tell}
 use Rattle.jn_written.proofs.Telling.{Adds, adds}
 use Rattle.jn_retold.specs.Retold.{behind}
-use Rattle.jn_retold.proofs.Items.{run-both, steps-join, told-join}
+use Rattle.jn_retold.proofs.Items.{steps-join, told-join}
 
 -- ---- acts
 
@@ -139,9 +138,9 @@ pub told-of-acts : (h : Chance) (deed : Deed) (more : List Act) → ((v : World)
 told-of-acts h deed more same w = told-join (outside_acts deed.device h.told ++ all_done deed.steps) more w
     ∙ ap (λ (ls : List Text). told_in (outside_acts deed.device h.told ++ all_done deed.steps) w ++ ls) (same _)
     ∙ ap (λ (ls : List Text). ls ++ deed.texts) (told-join (outside_acts deed.device h.told) (all_done deed.steps) w
-      ∙ ap (λ (ls : List Text). ls ++ told_in (all_done deed.steps) (run (steps_in (outside_acts deed.device h.told)) w)) (told-outside deed.device h.told w)
-      ∙ ap (λ (l : List Step). outside_texts deed.device h.told ++ told_in (all_done deed.steps) (run l w)) (steps-outside deed.device h.told)
-      ∙ ap (λ (ls : List Text). outside_texts deed.device h.told ++ ls) (told-done deed.steps w))
+    ∙ ap (λ (ls : List Text). ls ++ told_in (all_done deed.steps) (run (steps_in (outside_acts deed.device h.told)) w)) (told-outside deed.device h.told w)
+    ∙ ap (λ (l : List Step). outside_texts deed.device h.told ++ told_in (all_done deed.steps) (run l w)) (steps-outside deed.device h.told)
+    ∙ ap (λ (ls : List Text). outside_texts deed.device h.told ++ ls) (told-done deed.steps w))
 
 -- ---- what is told besides
 

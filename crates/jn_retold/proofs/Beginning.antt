@@ -1,54 +1,48 @@
 -- An event begins, and then it is refused or done.
-use Rattle.std.proofs.Common.{◌≡◌, ◌≢◌, ◌⊎◌, inl, inr, ◌≤◌, ◌<◌, ℕ, ◌+◌, Bool, true, false, List, [], ◌∷◌, ◌++◌, append-nil, append_assoc, length, map, drop, Option, Some, None, refl, sym, ◌∙◌, ap, subst, arith}
-use Rattle.std.specs.Prelude.{if◌then◌else◌, slice_get, is_some}
-use Rattle.std.specs.List.{list_all, AllByRecursion}
+use Rattle.std.proofs.Common.{◌≡◌, ◌⊎◌, inl, inr, ◌≤◌, ◌<◌, ℕ, List, [], ◌∷◌, ◌++◌, append-nil, drop, Option, Some, None, refl, sym, ◌∙◌, ap, subst}
+use Rattle.std.specs.Prelude.{slice_get, is_some}
 use Rattle.jn_base.specs.declared.names.ServerNo.{ServerNo}
 use Rattle.jn_base.specs.declared.names.FileNo.{FileNo}
 use Rattle.jn_base.specs.declared.names.BlockNo.{BlockNo}
 use Rattle.jn_base.specs.declared.names.LockUnit.TheVariants.{Block}
 use Rattle.jn_base.specs.declared.names.Party.TheVariants.{Server}
-use Rattle.jn_base.specs.declared.device.FaultKind.TheVariants as faults
 use Rattle.jn_msgs.specs.declared.message.Message.{Message}
 use Rattle.jn_order.specs.Files.{AllFiles}
 use Rattle.jn_schedule.specs.declared.Event.{Event}
 use Rattle.jn_schedule.specs.declared.Event.TheVariants as events
-use Rattle.jn_schedule.specs.Ranges.{EventInRange}
 use Rattle.jn_report.specs.declared.line.EventRefusal.{EventRefusal}
-use Rattle.jn_report.specs.declared.line.EventRefusal.TheVariants.{TooManyArmed, EpochsUsedUp}
 use Rattle.jn_report.specs.declared.line.Line.{Line}
 use Rattle.jn_report.specs.declared.line.Text.{Text}
 use Rattle.jn_report.specs.declared.line.Text.TheVariants as says
-use Rattle.jn_rows.specs.Stable.{Pick}
 use Rattle.jn_protocol.specs.World.{World, Memory, opening}
-use Rattle.jn_protocol.specs.Steps.{Step, NextEvent, IsRun, run, after}
-use Rattle.jn_reported.specs.Reported.{Item, Act, Does, Refuses, Tells, Waiting, IsUnder, IsShown, AreStruck, IsReported, events_of, steps_in, world_of, after_item, waiting_in, with_event, strike_all, told_in, told_under, at_event, lines_of, none_wait}
+use Rattle.jn_protocol.specs.Steps.{NextEvent, run, after}
+use Rattle.jn_reported.specs.Reported.{Item, Act, Does, Refuses, Waiting, IsUnder, IsShown, AreStruck, steps_in, world_of, with_event, strike_all, told_in, at_event, lines_of, none_wait}
 use Rattle.jn_reported.specs.Printing.{prints_of}
 use Rattle.jn_aside.specs.Aside.{plain}
 use Rattle.jn_aside.proofs.Plain.{plain-append}
-use Rattle.jn_within.specs.Within.{Within}
 use Rattle.jn_within.proofs.WorldSteps.{sent-near}
 use Rattle.jn_written.specs.Chances.{Setup, Chance}
 use Rattle.jn_written.specs.Tasks.{Task, Begins, Meets, Rests, State}
-use Rattle.jn_written.specs.Deeds.{Deed, Reads, nobody, plain as plain_deed, tells, delivered, delivered_at, is_busy, worked, shown, crashed_at, is_used_up, restarted}
+use Rattle.jn_written.specs.Deeds.{Deed, nobody, plain as plain_deed, tells}
 use Rattle.jn_written.specs.Refusals.{refusal_of}
-use Rattle.jn_written.specs.Events.{settling, told_unless, acted, met, deed_of}
+use Rattle.jn_written.specs.Events.{settling, acted, met}
 use Rattle.jn_settling.specs.Course.{go_on}
 use Rattle.jn_written.specs.Steps.{come_to, cut_short, made, own_texts}
-use Rattle.jn_written.specs.Devices.{Devices, Alone, IsUsed, Befalls, AreFound}
+use Rattle.jn_written.specs.Devices.{IsUsed, Befalls}
 use Rattle.jn_written.specs.Runs.{Moment, DoesStep}
 use Rattle.jn_retold.specs.Retold.{behind}
 use Rattle.jn_retold.proofs.Behind.{ups-name-none}
-use Rattle.jn_retold.proofs.Items.{waits_after, IsNext, one_more, lines-more}
-use Rattle.jn_retold.proofs.Acts.{shown_acts, besides, acts_by, acts_of, texts_by, grown-own, besides-steps, steps-of-acts, told-of-acts}
+use Rattle.jn_retold.proofs.Items.{waits_after, one_more, lines-more}
+use Rattle.jn_retold.proofs.Acts.{besides, acts_by, texts_by, grown-own, besides-steps, steps-of-acts, told-of-acts}
 use Rattle.jn_retold.proofs.Seen.{told-behind, shown-behind}
 use Rattle.jn_retold.proofs.Standing.{Stands}
 use Rattle.jn_retold.proofs.Befalling.{Befell, same-stands}
 use Rattle.jn_retold.proofs.Doing.{IsReady, acted-befell, refused-befell}
 use Rattle.jn_retold.proofs.May.{acts-under, is-ready, refusal-under}
 use Rattle.jn_retold.proofs.Showing.{shown-acts}
-use Rattle.jn_retold.proofs.Going.{At, Goes, Next, does-next, goes-or-cut, goes-on, comes, stands-behind}
-use Rattle.jn_retold.proofs.Besides.{is_settling, besides-told, acted-tasks, all-settling, refused-shown}
-use Rattle.jn_retold.proofs.Forms.{beginning, left, Between, Meeting, Amid, Held, between, meeting, settling as settling_now, cut, IsCut, closes, between-part, meeting-part}
+use Rattle.jn_retold.proofs.Going.{Goes, Next, does-next, goes-or-cut, goes-on, comes, stands-behind}
+use Rattle.jn_retold.proofs.Besides.{besides-told, acted-tasks, all-settling, refused-shown}
+use Rattle.jn_retold.proofs.Forms.{left, Between, Meeting, Amid, Held, between, meeting, settling as settling_now, cut, closes, between-part, meeting-part}
 
 -- the blocks of a file have numbers below 120
 abbrev pub Blocks : Setup → World → Type 0
@@ -190,5 +184,5 @@ module _ (x : Setup) (files : AllFiles) (epochs : ServerNo → ℕ) (schedule : 
     pub meet-step : DoesStep x a b → Held x files epochs schedule b
     meet-step d = let n = does-next x (Meets e) (left x files epochs schedule rest) a b d h.at.stage h.tasks in
         by-cause n.chance (refusal_of x v e) refl
-          (subst (λ (u : World). b.state ≡ made x n.chance (met x n.chance e u (refusal_of x u e)) before) h.at.world n.state_is)
-          (subst (λ (u : World). Befalls x n.chance (met x n.chance e u (refusal_of x u e)) u a.devices b.devices) h.at.world n.befalls)
+        (subst (λ (u : World). b.state ≡ made x n.chance (met x n.chance e u (refusal_of x u e)) before) h.at.world n.state_is)
+        (subst (λ (u : World). Befalls x n.chance (met x n.chance e u (refusal_of x u e)) u a.devices b.devices) h.at.world n.befalls)

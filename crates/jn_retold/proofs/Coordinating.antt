@@ -7,7 +7,6 @@ use Rattle.jn_base.specs.declared.names.ClientNo.{ClientNo}
 use Rattle.jn_base.specs.declared.names.Tid.{Tid}
 use Rattle.jn_base.specs.declared.names.WorkId.{WorkId}
 use Rattle.jn_base.specs.declared.names.Tickets.{Tickets}
-use Rattle.jn_base.specs.declared.names.Cause.{Cause}
 use Rattle.jn_base.specs.Names.{client_eq}
 use Rattle.jn_msgs.specs.declared.message.Message.{Message}
 use Rattle.jn_msgs.specs.declared.message.Message.TheVariants as messages
@@ -20,7 +19,7 @@ use Rattle.jn_rows.specs.declared.coordinator.Voting.{Voting as Ballot}
 use Rattle.jn_rows.specs.declared.coordinator.Committed.{Committed as Commitment}
 use Rattle.jn_rows.specs.Stable.{Change, AddFlag, DropFlag}
 use Rattle.jn_rows.specs.Outcomes.{RowOutcome}
-use Rattle.jn_rows.specs.Coordinator.{CoordinatorTable, transaction_at, is_work, all_in, commit_row, abort_row, forget_row, thanked_changes, after_closing, changes_of_closing, begin_new, begin_again, begun_by, begin_row, seen_now, end_promised, end_stage, end_row, abort_stage, abort_request, told_stage, inquire_row, counted_vote, vote_stage, vote_row, done_stage, done_row, thanks_stage, thanks_row, with_work, coordinator_row, flags_of_thanked}
+use Rattle.jn_rows.specs.Coordinator.{CoordinatorTable, transaction_at, is_work, all_in, forget_row, thanked_changes, after_closing, changes_of_closing, begin_new, begin_again, begun_by, begin_row, seen_now, end_promised, end_stage, end_row, abort_stage, abort_request, told_stage, inquire_row, counted_vote, vote_stage, vote_row, done_stage, done_row, thanks_stage, thanks_row, with_work, coordinator_row, flags_of_thanked}
 
 abbrev pub is_of_flag : Change → Bool
 is_of_flag (AddFlag flag) = true

@@ -1,5 +1,5 @@
 -- What befalls the devices in each event that is done.
-use Rattle.std.proofs.Common.{◌≡◌, ◌≢◌, ◌⊎◌, inl, inr, ◌≤◌, ◌<◌, ℕ, ◌+◌, Bool, true, false, List, [], ◌∷◌, ◌++◌, append-nil, map, Option, Some, None, refl, sym, ◌∙◌, ap, subst, arith}
+use Rattle.std.proofs.Common.{◌≡◌, ◌≢◌, ◌⊎◌, inl, inr, ◌<◌, ℕ, Bool, true, false, List, [], ◌∷◌, ◌++◌, append-nil, map, Option, Some, None, refl, sym, ◌∙◌, ap, subst, arith}
 use Rattle.std.specs.Prelude.{⊤, ◌&&◌, ◌||◌, if◌then◌else◌, nat_eq, slice_get, is_some}
 use Rattle.std.specs.List.{list_all}
 use Rattle.jn_base.specs.declared.names.ServerNo.{ServerNo}
@@ -22,17 +22,17 @@ use Rattle.jn_rows.specs.declared.client.Taken.TheVariants as taken
 use Rattle.jn_rows.specs.Stable.{Pick, stable}
 use Rattle.jn_rows.specs.Outcomes.{Sent}
 use Rattle.jn_rows.specs.Client.{ClientTable, Commanded, Refuses, Sends, command_row, take_row}
-use Rattle.jn_protocol.specs.World.{World, Memory, at_server}
+use Rattle.jn_protocol.specs.World.{World, Memory}
 use Rattle.jn_protocol.specs.Printing.{Printed, FileThere, PageStored, UnitLocked, print_files}
-use Rattle.jn_protocol.specs.Steps.{Step, Tell, Again, Deliver, Nudge, Timeout, Crash, after, run, commanded, took, at_memory, handed, nudge, timeout, crash}
+use Rattle.jn_protocol.specs.Steps.{Tell, Again, Deliver, Nudge, Timeout, Crash, after, run, commanded, took, at_memory, handed, nudge, timeout, crash}
 use Rattle.jn_settling.specs.Settle.{is_busy as has_going}
 use Rattle.jn_reported.specs.Printing.{text_printed, prints_of}
 use Rattle.jn_reported.specs.Reported.{Waiting, with_event, strike_all, AreStruck}
 use Rattle.jn_written.specs.Chances.{Setup, Chance}
-use Rattle.jn_written.specs.Deeds.{Deed, Nothing, room, no_room, plain, served, nothing, leaves, tells, delivered, delivered_at, is_busy, working_steps, worked, stopped_idle, scrubbed, blocks_from, shown, showing, crashed_at, pick_read, is_used_up, given_up, recovered, restarted}
-use Rattle.jn_written.specs.Events.{settling, told_unless, acted}
+use Rattle.jn_written.specs.Deeds.{Deed, room, no_room, served, nothing, tells, delivered, delivered_at, is_busy, working_steps, scrubbed, blocks_from, shown, showing, crashed_at, pick_read, is_used_up, given_up, recovered, restarted}
+use Rattle.jn_written.specs.Events.{told_unless, acted}
 use Rattle.jn_written.specs.Steps.{own_texts}
-use Rattle.jn_written.specs.Devices.{Devices, Alone, IsUsed}
+use Rattle.jn_written.specs.Devices.{Devices, IsUsed}
 use Rattle.jn_written.specs.Kinds.{is_answer, is_of_delivery}
 use Rattle.jn_written.proofs.Telling.{Adds, adds, weaker}
 use Rattle.jn_retold.proofs.Acts.{texts_by, grown-own}

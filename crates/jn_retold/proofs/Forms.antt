@@ -1,21 +1,19 @@
 -- Where a run under its schedule stands: between two events, with one that has begun, or within a settle.
-use Rattle.std.proofs.Common.{◌≡◌, ◌<◌, ℕ, ◌+◌, Bool, true, false, List, [], ◌∷◌, ◌++◌, append-nil, append_assoc, length, map, refl, sym, ◌∙◌, ap, subst, arith}
+use Rattle.std.proofs.Common.{◌≡◌, ◌<◌, ℕ, ◌+◌, true, List, [], ◌∷◌, ◌++◌, append-nil, append_assoc, length, map, refl, sym, ◌∙◌, ap, subst, arith}
 use Rattle.std.specs.List.{list_all}
 use Rattle.jn_base.specs.declared.names.ServerNo.{ServerNo}
 use Rattle.jn_order.specs.Files.{AllFiles}
 use Rattle.jn_schedule.specs.declared.Event.{Event}
 use Rattle.jn_schedule.specs.declared.Event.TheVariants as events
-use Rattle.jn_report.specs.declared.line.Line.{Line}
 use Rattle.jn_protocol.specs.World.{World, opening}
-use Rattle.jn_protocol.specs.Steps.{NextEvent, run, after}
-use Rattle.jn_reported.specs.Reported.{Item, Act, Waiting, IsReported, events_of, steps_in, world_of, after_item, waiting_in, strike_all, told_in, told_under, at_event, lines_of, none_wait}
+use Rattle.jn_protocol.specs.Steps.{NextEvent, after}
+use Rattle.jn_reported.specs.Reported.{Item, Act, Waiting, IsReported, events_of, world_of, after_item, waiting_in, strike_all, told_under, lines_of, none_wait}
 use Rattle.jn_aside.specs.Aside.{plain}
 use Rattle.jn_written.specs.Chances.{Setup}
-use Rattle.jn_written.specs.Tasks.{Task, Begins, Meets, Acts, Rests, CutShort, InSchedule, State}
+use Rattle.jn_written.specs.Tasks.{Task, Begins, Meets, CutShort}
 use Rattle.jn_written.specs.Events.{ending}
-use Rattle.jn_written.specs.Steps.{cut_short}
-use Rattle.jn_written.specs.Runs.{Moment, none}
-use Rattle.jn_retold.specs.Retold.{behind, IsWell, IsToldBy, IsRetold, IsRetoldInPart}
+use Rattle.jn_written.specs.Runs.{Moment}
+use Rattle.jn_retold.specs.Retold.{IsToldBy, IsRetold, IsRetoldInPart}
 use Rattle.jn_retold.proofs.Items.{waits_after, IsNext, one_more, reported-more, world-more, waits-more, events-more, length-more}
 use Rattle.jn_retold.proofs.Besides.{is_settling}
 use Rattle.jn_retold.proofs.Going.{At}

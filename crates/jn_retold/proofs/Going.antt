@@ -1,34 +1,28 @@
 -- Where a run under its schedule stands, and how a step of it goes on.
-use Rattle.std.proofs.Common.{◌≡◌, ◌⊎◌, inl, inr, ◌≤◌, ◌<◌, ℕ, ◌+◌, Bool, true, false, List, [], ◌∷◌, ◌++◌, append-nil, append_assoc, length, map, drop, Option, Some, None, refl, sym, ◌∙◌, ap, subst, arith}
+use Rattle.std.proofs.Common.{◌≡◌, ◌⊎◌, inl, inr, Bool, true, false, List, [], ◌∷◌, ◌++◌, Some, refl, sym, ◌∙◌, ap, subst}
 use Rattle.std.specs.Prelude.{if◌then◌else◌}
 use Rattle.std.specs.List.{list_all}
-use Rattle.jn_base.specs.declared.names.ServerNo.{ServerNo}
-use Rattle.jn_order.specs.Files.{AllFiles}
-use Rattle.jn_schedule.specs.declared.Event.{Event}
-use Rattle.jn_schedule.specs.declared.Event.TheVariants as events
-use Rattle.jn_report.specs.declared.line.When.{When}
 use Rattle.jn_report.specs.declared.line.When.TheVariants.{Event as AtEvent}
 use Rattle.jn_report.specs.declared.line.Line.{Line}
 use Rattle.jn_report.specs.declared.line.Text.{Text}
-use Rattle.jn_protocol.specs.World.{World, Memory, commits_in, opening}
-use Rattle.jn_protocol.specs.Steps.{Step, NextEvent, IsRun, run, after}
+use Rattle.jn_protocol.specs.World.{World, commits_in}
+use Rattle.jn_protocol.specs.Steps.{Step, IsRun, run}
 use Rattle.jn_settling.specs.Course.{Course, go, go_on}
-use Rattle.jn_reported.specs.Reported.{Item, Act, Waiting, IsReported, events_of, steps_in, world_of, after_item, waiting_in, strike_all, told_in, told_under, at_event, lines_of, none_wait}
+use Rattle.jn_reported.specs.Reported.{Act, Waiting, steps_in, told_in, at_event}
 use Rattle.jn_aside.specs.Aside.{plain}
 use Rattle.jn_aside.proofs.Plain.{plain-append}
 use Rattle.jn_within.specs.Within.{Within}
 use Rattle.jn_within.proofs.WorldSteps.{run-within}
 use Rattle.jn_written.specs.Chances.{Setup, Chance}
-use Rattle.jn_written.specs.Tasks.{Task, Begins, Meets, Stage, InSchedule, AtEnd, CutShort, State, when_at, when_of, next_at, next_task, begun}
+use Rattle.jn_written.specs.Tasks.{Task, Stage, InSchedule, State, when_at, when_of, next_at, begun}
 use Rattle.jn_written.specs.Deeds.{Deed}
-use Rattle.jn_written.specs.Events.{deed_of, ending}
+use Rattle.jn_written.specs.Events.{deed_of}
 use Rattle.jn_written.specs.Steps.{texts_of, lines_at, is_too_much, come_to, cut_short, made}
 use Rattle.jn_written.specs.Devices.{Devices, Befalls, AreFound}
 use Rattle.jn_written.specs.Kinds.{is_up}
 use Rattle.jn_written.specs.Runs.{Moment, DoesStep}
 use Rattle.jn_retold.specs.Retold.{behind}
 use Rattle.jn_retold.proofs.Behind.{ups-name-none, run-behind}
-use Rattle.jn_retold.proofs.Items.{waits_after, IsNext}
 use Rattle.jn_retold.proofs.Acts.{texts_by, plain-texts}
 use Rattle.jn_retold.proofs.Seen.{told-behind, may-run}
 use Rattle.jn_retold.proofs.Standing.{Stands}

@@ -41,8 +41,11 @@ shown-more (i ∷ items) item w h k = (h.0, shown-more items item (after_item i 
 faults-more : (x : Waiting) (items : List Item) (item : Item) (w : World) → FaultsWait x items w
     → AreStruck (waiting_in (waits_after x items w) item (world_of items w)) (told_under item (world_of items w)) → FaultsWait x (one_more items item) w
 faults-more x [] item w h k = (k, tt)
-faults-more x (i ∷ items) item w h k = (h.0, faults-more (strike_all (told_under i w) (waiting_in x i w)) items item (after_item i w) h.1
-    (subst (λ z. AreStruck (waiting_in (waits_after x (i ∷ items) w) item z) (told_under item z)) (world-next i items w) k))
+faults-more x (i ∷ items) item w h k = (
+  h.0,
+  faults-more (strike_all (told_under i w) (waiting_in x i w)) items item (after_item i w) h.1
+      (subst (λ z. AreStruck (waiting_in (waits_after x (i ∷ items) w) item z) (told_under item z)) (world-next i items w) k),
+)
 
 -- what is done under one more event, behind these items
 pub record IsNext (items : List Item) (item : Item) (w : World) : Type 0 where
@@ -106,4 +109,3 @@ strike-join (text ∷ a) b x = strike-join a b (strikes text x)
 pub struck-join : (a b : List Text) (x : Waiting) → AreStruck x a → AreStruck (strike_all a x) b → AreStruck x (a ++ b)
 struck-join [] b x h k = k
 struck-join (text ∷ a) b x h k = (h.0, struck-join a b (strikes text x) h.1 k)
-

@@ -1,6 +1,6 @@
 -- What is done under each event is what it may have, and what is known of an event that isn't refused.
-use Rattle.std.proofs.Common.{◌≡◌, ◌<◌, ℕ, Bool, true, false, List, [], ◌∷◌, ◌++◌, map, Option, Some, None, refl, sym, ◌∙◌, ap, subst, arith}
-use Rattle.std.specs.Prelude.{◌&&◌, if◌then◌else◌, nat_lt, nat_eq, slice_get, is_some}
+use Rattle.std.proofs.Common.{◌≡◌, ◌<◌, ℕ, Bool, true, false, List, [], ◌∷◌, ◌++◌, map, Option, Some, None, refl, ◌∙◌, arith}
+use Rattle.std.specs.Prelude.{◌&&◌, if◌then◌else◌, nat_eq, slice_get}
 use Rattle.std.specs.List.{list_all}
 use Rattle.std.proofs.lemmas.Bool.Decides.{nat_tests}
 use Rattle.std.proofs.lemmas.List.Folds.{list_all-append}
@@ -11,9 +11,7 @@ use Rattle.jn_base.specs.declared.names.WorkId.{WorkId}
 use Rattle.jn_base.specs.declared.names.Party.TheVariants.{Client, Server}
 use Rattle.jn_base.specs.declared.device.FaultKind.TheVariants as faults
 use Rattle.jn_base.specs.declared.device.Outside.{Outside}
-use Rattle.jn_base.specs.Names.{server_eq, client_eq, tid_eq}
-use Rattle.jn_base.proofs.Tells.{client_tells, tid_tells}
-use Rattle.jn_msgs.specs.declared.message.Message.{Message}
+use Rattle.jn_base.specs.Names.{client_eq, tid_eq}
 use Rattle.jn_report.specs.declared.line.EventRefusal.{EventRefusal}
 use Rattle.jn_report.specs.declared.line.EventRefusal.TheVariants.{EpochsUsedUp, TooManyArmed}
 use Rattle.jn_report.specs.declared.line.Text.TheVariants as says
@@ -24,15 +22,14 @@ use Rattle.jn_rows.specs.Outcomes.{Sent}
 use Rattle.jn_protocol.specs.World.{World, Memory}
 use Rattle.jn_protocol.specs.Printing.{Printed}
 use Rattle.jn_protocol.specs.Servers.{Room}
-use Rattle.jn_protocol.specs.Steps.{Step, Tell, Deliver, StopDelivery, Work, StopWork, Narrow, StopRestart, Restart}
+use Rattle.jn_protocol.specs.Steps.{Deliver, StopDelivery, Work, StopWork, Narrow, StopRestart, Restart}
 use Rattle.jn_settling.specs.Settle.{handing, working}
-use Rattle.jn_reported.specs.Reported.{Act, Does, Refuses, Tells, Shows, may_do, may_refuse, may_tell, may_act, IsUnder}
+use Rattle.jn_reported.specs.Reported.{Act, Does, Refuses, Tells, Shows, may_refuse, may_act, IsUnder}
 use Rattle.jn_written.specs.Chances.{Setup, Chance}
-use Rattle.jn_written.specs.Deeds.{Deed, Use, Calls, Reads, Recovers, plain, served, nothing, delivered, delivered_at, is_busy, no_room, working_steps, worked, stopped_idle, scrubbed, showing, given_up, recovering, recovered, restarted, crashed_at, is_used_up, room}
+use Rattle.jn_written.specs.Deeds.{Deed, served, nothing, delivered, delivered_at, is_busy, no_room, working_steps, stopped_idle, scrubbed, showing, given_up, recovering, recovered, crashed_at, is_used_up, room}
 use Rattle.jn_written.specs.Refusals.{refusal_of, if_down}
-use Rattle.jn_written.specs.Events.{acted}
 use Rattle.jn_retold.proofs.Strikes.{same-server}
-use Rattle.jn_retold.proofs.Acts.{outside_acts, all_done, shown_acts, besides, acts_of, acts_by}
+use Rattle.jn_retold.proofs.Acts.{outside_acts, all_done, shown_acts, acts_of, acts_by}
 use Rattle.jn_retold.proofs.Doing.{IsReady}
 
 both : (a b : Bool) → a ≡ true → b ≡ true → (a && b) ≡ true

@@ -1,12 +1,10 @@
 -- The system while its servers come up, one after another.
-use Rattle.std.proofs.Common.{◌≡◌, ◌≢◌, ◌⊎◌, inl, inr, ◌≤◌, ◌<◌, ℕ, ◌+◌, Bool, true, false, List, [], ◌∷◌, ◌++◌, append-nil, Option, Some, None, refl, sym, ◌∙◌, ap, subst, arith}
+use Rattle.std.proofs.Common.{◌≡◌, ◌≢◌, ◌⊎◌, inl, inr, ◌<◌, ℕ, ◌+◌, Bool, true, false, List, [], ◌∷◌, ◌++◌, append-nil, Option, Some, None, refl, sym, ◌∙◌, ap, arith}
 use Rattle.std.specs.Prelude.{not, ◌||◌, if◌then◌else◌, nat_lt, is_some}
-use Rattle.std.specs.List.{list_any}
 use Rattle.std.proofs.Math.Path.{fun_ext}
 use Rattle.std.proofs.lemmas.Bool.{cases_Bool}
 use Rattle.std.proofs.lemmas.Bool.Decides.{nat_tests}
 use Rattle.jn_base.specs.declared.names.ServerNo.{ServerNo}
-use Rattle.jn_base.specs.declared.names.ClientNo.{ClientNo}
 use Rattle.jn_base.specs.Names.{server_eq}
 use Rattle.jn_base.proofs.Tells.{server_tells}
 use Rattle.jn_order.specs.Files.{AllFiles}
@@ -16,7 +14,7 @@ use Rattle.jn_machine.specs.Steps.{with_epoch}
 use Rattle.jn_rows.specs.Stable.{StableState, Pick}
 use Rattle.jn_protocol.specs.World.{World, Memory, new_memory, opening, at_server}
 use Rattle.jn_protocol.specs.Servers.{restored}
-use Rattle.jn_protocol.specs.Steps.{Step, Restart, AreNames, after, restart}
+use Rattle.jn_protocol.specs.Steps.{Restart, AreNames, after, restart}
 use Rattle.jn_written.specs.Whole.{closed_world}
 use Rattle.jn_retold.specs.Retold.{behind}
 
@@ -121,7 +119,7 @@ module _ (n : ℕ) (files : AllFiles) (epochs : ServerNo → ℕ) where
     pub comes-up : (pick : Pick) (ups : List Text) → after (Restart one pick [] []) (partly k ups) ≡ partly (k + 1) (ups ++ says.Up one (raised k one + 1) ∷ [])
     comes-up pick ups = ap (λ (o : Option Memory). restart one pick [] [] o (partly k ups)) is-down
         ∙ with-both (at_server (memory_in k) one (Some (restored one (found_in k one pick) [] []))) (memory_in (k + 1)) (λ q c. if server_eq one q then with_epoch (found_in k one pick) else found_in k q c) (found_in (k + 1)) (ups ++ says.Up one (raised k one + 1) ∷ [])
-          (fun_ext (λ q. memory q (server_tells one q))) (fun_ext (λ q. fun_ext (λ c. found q c (server_tells one q))))
+        (fun_ext (λ q. memory q (server_tells one q))) (fun_ext (λ q. fun_ext (λ c. found q c (server_tells one q))))
       where
         memory : (q : ServerNo) → ((server_eq one q ≡ true) × (one ≡ q)) ⊎ ((server_eq one q ≡ false) × (one ≢ q)) → at_server (memory_in k) one (Some (restored one (found_in k one pick) [] [])) q ≡ memory_in (k + 1) q
         memory q (inl t) = ap (λ (b : Bool). if b then Some (restored one (found_in k one pick) [] []) else memory_in k q) t.0 ∙ memory-one ∙ ap (λ (p : ServerNo). memory_in (k + 1) p) t.1

@@ -18,7 +18,6 @@ use Rattle.jn_schedule.specs.Ranges.{EventInRange}
 use Rattle.jn_locks.specs.Locks.{is_unit}
 use Rattle.jn_locks.specs.declared.words.Mode.TheVariants.{Commit}
 use Rattle.jn_records.specs.StablePages.{Counts, Pages, files_of_pages, head_of, block_in, block_behind, address_in}
-use Rattle.jn_rows.specs.declared.worker.Work.{Work}
 use Rattle.jn_rows.specs.declared.worker.Phase.{Phase}
 use Rattle.jn_rows.specs.declared.worker.Phase.TheVariants.{Active, Broken, Prepared as Stored}
 use Rattle.jn_rows.specs.Stable.{StableState}
@@ -28,7 +27,7 @@ use Rattle.jn_store.specs.Pairs.{pairs_view}
 use Rattle.jn_storage.specs.Orderly.{unit_in_range}
 use Rattle.jn_protocol.specs.World.{World, opening}
 use Rattle.jn_protocol.specs.Printing.{print_unit}
-use Rattle.jn_protocol.specs.Steps.{Step, NextEvent, Tell, Again, Deliver, Work as WorkStep, Nudge, Timeout, StopDelivery, StopWork, Crash, Narrow, StopRestart, Restart, Dismiss, CloseClients, after}
+use Rattle.jn_protocol.specs.Steps.{Step, NextEvent, Tell, after}
 use Rattle.jn_reported.specs.Reported.{Item, Act, Does, Refuses, Tells, Shows, IsUnder, AreUnder, IsReported, may_do, may_act, events_of, steps_in, steps_of, world_of}
 use Rattle.jn_within.proofs.Taking.{scheduled-in-range}
 use Rattle.jn_written.specs.Chances.{Setup}

@@ -174,8 +174,11 @@ module _ (t : WorkerTable) (h : AreRanged t) (s : WorkStorage) (k : Tickets) whe
   grants : (c : ClientNo) (request : ℕ) (w : Work) (a : ActiveWork) (op : Op) (answer : Answer) → BlockInRange op → IsRanged (Active a) → (o : Option Answer)
       → Keeps (granted_row t k c request w a op answer (wants_of op (is_fit answer)) o)
   grants c request w a op answer r i (Some refusal) = (with-phase w.name _ t i h, refl)
-  grants c request w a op answer r i None = (with-phase w.name _ (after_grant w.tid w.name (wants_of op (is_fit answer)) t)
-      (fit-below (is_fit answer) op a.list r i.0, some-more (units_for IntentionWrite (wants_of op (is_fit answer))) a.writes (wants-in-range op (is_fit answer) r) i.1) (granted w.tid w.name (wants_of op (is_fit answer)) t h), refl)
+  grants c request w a op answer r i None = (
+    with-phase w.name _ (after_grant w.tid w.name (wants_of op (is_fit answer)) t)
+        (fit-below (is_fit answer) op a.list r i.0, some-more (units_for IntentionWrite (wants_of op (is_fit answer))) a.writes (wants-in-range op (is_fit answer) r) i.1) (granted w.tid w.name (wants_of op (is_fit answer)) t h),
+    refl,
+  )
 
   repeats : (c : ClientNo) (request : ℕ) (o : Option Answer) → Keeps (repeated t k c request o)
   repeats c request (Some answer) = (h, refl)

@@ -1,10 +1,9 @@
 -- A step of a settle.
-use Rattle.std.proofs.Common.{◌≡◌, ◌⊎◌, inl, inr, ◌≤◌, ◌<◌, ℕ, zero, suc, ◌+◌, Bool, true, false, List, [], ◌∷◌, ◌++◌, append-nil, append_assoc, length, map, drop, Option, Some, None, refl, sym, ◌∙◌, ap, subst, arith}
+use Rattle.std.proofs.Common.{◌≡◌, ◌⊎◌, inl, inr, ◌<◌, ℕ, zero, suc, ◌+◌, Bool, true, false, List, [], ◌∷◌, ◌++◌, append-nil, append_assoc, drop, Option, Some, None, refl, sym, ◌∙◌, ap, subst, arith}
 use Rattle.std.specs.Prelude.{◌&&◌, if◌then◌else◌, slice_get}
 use Rattle.std.specs.List.{list_all}
 use Rattle.std.proofs.lemmas.List.Folds.{list_all-append}
 use Rattle.jn_base.specs.declared.names.ServerNo.{ServerNo}
-use Rattle.jn_base.specs.declared.names.ClientNo.{ClientNo}
 use Rattle.jn_base.specs.declared.names.Party.TheVariants.{Server}
 use Rattle.jn_msgs.specs.declared.message.Message.{Message}
 use Rattle.jn_order.specs.Files.{AllFiles}
@@ -16,7 +15,7 @@ use Rattle.jn_report.specs.declared.line.Text.{Text}
 use Rattle.jn_protocol.specs.World.{World, opening, servers_from}
 use Rattle.jn_protocol.specs.Steps.{Step, NextEvent, IsRun, run, after}
 use Rattle.jn_settling.specs.Course.{go_on}
-use Rattle.jn_reported.specs.Reported.{Item, Act, Waiting, AreStruck, may_act, steps_in, world_of, after_item, strike_all, told_in, told_under, at_event, lines_of, none_wait}
+use Rattle.jn_reported.specs.Reported.{Item, Act, Waiting, AreStruck, may_act, steps_in, world_of, after_item, strike_all, told_in, at_event, lines_of, none_wait}
 use Rattle.jn_aside.specs.Aside.{plain}
 use Rattle.jn_aside.proofs.Plain.{plain-append}
 use Rattle.jn_within.proofs.WorldSteps.{sent-near}
@@ -33,9 +32,9 @@ use Rattle.jn_retold.proofs.Items.{waits_after, one_more, run-both, is-run-both,
 use Rattle.jn_retold.proofs.Acts.{acts_by, texts_by, grown-own, steps-of-acts, told-of-acts, plain-lines-join}
 use Rattle.jn_retold.proofs.Seen.{told-behind}
 use Rattle.jn_retold.proofs.Standing.{Stands}
-use Rattle.jn_retold.proofs.Befalling.{Befell, JustBefell}
+use Rattle.jn_retold.proofs.Befalling.{JustBefell}
 use Rattle.jn_retold.proofs.Doing.{acted-befell}
-use Rattle.jn_retold.proofs.May.{acts-under, settle-delivers, settle-works}
+use Rattle.jn_retold.proofs.May.{settle-delivers, settle-works}
 use Rattle.jn_retold.proofs.Besides.{is_settling, besides-told}
 use Rattle.jn_retold.proofs.Going.{At, Goes, does-next, goes-or-cut, goes-on, comes, stands-behind}
 use Rattle.jn_retold.proofs.Forms.{left, Amid, Held, between, settling, cut, closes, amid-part}
@@ -130,7 +129,7 @@ module _ (x : Setup) (files : AllFiles) (epochs : ServerNo → ℕ) (schedule : 
         steps = subst (λ (steps : List Step). IsRun steps w1) (sym (steps-join done acts)) (is-run-both (steps_in done) (steps_in acts) w1 h.next.steps g.may);
         shown = tt;
         struck = subst (λ (texts : List Text). AreStruck before-all texts) (sym (told-join done acts w1))
-          (struck-join (told_in done w1) (told_in acts w) before-all h.next.struck (subst (λ (texts : List Text). AreStruck z texts) same-told befell.struck));
+            (struck-join (told_in done w1) (told_in acts w) before-all h.next.struck (subst (λ (texts : List Text). AreStruck z texts) same-told befell.struck));
       };
       events = h.events;
       tasks = g.tasks_are ∙ ap (λ (ts : List Task). deed.tasks ++ drop 1 ts) h.tasks ∙ assoc3;

@@ -1,6 +1,6 @@
 -- What a show prints, block by block, is what there is to print.
 use Rattle.std.proofs.Common.{◌≡◌, ◌≤◌, ◌<◌, ◌⊎◌, inl, inr, ℕ, zero, suc, ◌+◌, Bool, true, false, List, [], ◌∷◌, ◌++◌, append_assoc, map, Option, Some, None, refl, sym, ◌∙◌, ap, subst, arith}
-use Rattle.std.specs.Prelude.{◌&&◌, ◌||◌, if◌then◌else◌, nat_lt, nat_le, is_some}
+use Rattle.std.specs.Prelude.{◌&&◌, nat_lt, nat_le, is_some}
 use Rattle.std.specs.List.{list_all, list_any}
 use Rattle.std.proofs.lemmas.Bool.{cases_Bool}
 use Rattle.std.proofs.lemmas.Bool.Decides.{nat_tests}
@@ -15,13 +15,13 @@ use Rattle.jn_base.proofs.Tells.{block_tells}
 use Rattle.jn_report.specs.declared.line.Text.TheVariants as says
 use Rattle.jn_rows.specs.Stable.{Pick}
 use Rattle.jn_protocol.specs.World.{World, Memory}
-use Rattle.jn_protocol.specs.Steps.{Step, StopWork, AreNames, are_rising, after}
-use Rattle.jn_protocol.specs.Printing.{Printed, FileThere, print_one, print_blocks, print_file, print_files, file_before, block_before, ArePrints}
+use Rattle.jn_protocol.specs.Steps.{StopWork, AreNames, are_rising, after}
+use Rattle.jn_protocol.specs.Printing.{Printed, print_one, print_blocks, print_file, print_files, file_before, block_before, ArePrints}
 use Rattle.jn_reported.specs.Reported.{Act, Does, Tells, Shows, told_by, GoesOver, IsShow}
 use Rattle.jn_reported.specs.Printing.{prints_of, IsPrinted}
 use Rattle.jn_written.specs.Chances.{Chance}
 use Rattle.jn_written.specs.Deeds.{no_room, stopped_idle, blocks_from, showing}
-use Rattle.jn_written.specs.Devices.{Alone, Devices, IsLookedOver}
+use Rattle.jn_written.specs.Devices.{IsLookedOver}
 use Rattle.jn_retold.proofs.Strikes.{same-server}
 use Rattle.jn_retold.proofs.Acts.{all_done, shown_acts, acts_of, grown-own}
 use Rattle.jn_retold.proofs.Turns.{idle-turns}

@@ -1,9 +1,8 @@
 -- What stands at each device between two steps, and how it stands after one with a server's device.
-use Rattle.std.proofs.Common.{◌≡◌, ◌≢◌, ◌⊎◌, inl, inr, ◌≤◌, ◌<◌, ℕ, ◌+◌, Bool, true, false, List, [], ◌∷◌, ◌++◌, Option, Some, None, refl, sym, ◌∙◌, ap, subst, arith}
+use Rattle.std.proofs.Common.{◌≡◌, ◌≢◌, ◌⊎◌, inl, inr, ◌≤◌, ◌<◌, ℕ, ◌+◌, Bool, true, false, List, [], ◌∷◌, ◌++◌, Option, Some, None, sym, ◌∙◌, ap, subst, arith}
 use Rattle.std.specs.Prelude.{not, if◌then◌else◌, is_some}
 use Rattle.std.specs.List.{list_all}
 use Rattle.jn_base.specs.declared.names.ServerNo.{ServerNo}
-use Rattle.jn_base.specs.declared.device.FaultKind.{FaultKind}
 use Rattle.jn_base.specs.Names.{server_eq}
 use Rattle.jn_base.proofs.Tells.{server_tells}
 use Rattle.jn_device.specs.Device.{DeviceState}
@@ -19,8 +18,8 @@ use Rattle.jn_written.specs.Steps.{own_texts}
 use Rattle.jn_written.specs.Devices.{Devices, IsCalled, IsRecovery}
 use Rattle.jn_written.proofs.Struck.{stop-had-waited, told-had-waited}
 use Rattle.jn_retold.proofs.Acts.{grown-own}
-use Rattle.jn_retold.proofs.Strikes.{any, is_harmless, told_texts, same-server, Strikes, calm-strikes, halt-strikes}
-use Rattle.jn_retold.proofs.Turns.{Goes, Halts, Turns}
+use Rattle.jn_retold.proofs.Strikes.{any, is_harmless, told_texts, Strikes, calm-strikes, halt-strikes}
+use Rattle.jn_retold.proofs.Turns.{Turns}
 
 -- So many servers: each that is up has power, no fault is told that isn't in a line yet, and no more stops and faults wait than are counted.
 pub record Stands (n : ℕ) (w : World) (ds : Devices) (x : Waiting) : Type 0 where

@@ -1,5 +1,5 @@
 -- Until every server has come up.
-use Rattle.std.proofs.Common.{◌≡◌, ◌⊎◌, inl, inr, ◌≤◌, ◌<◌, ℕ, zero, suc, ◌+◌, Bool, true, false, List, [], ◌∷◌, ◌++◌, append-nil, length, map, drop, Option, Some, None, refl, sym, ◌∙◌, ap, subst, arith}
+use Rattle.std.proofs.Common.{◌≡◌, ◌⊎◌, inl, inr, ◌≤◌, ◌<◌, ℕ, suc, ◌+◌, Bool, true, false, List, [], ◌∷◌, ◌++◌, append-nil, map, drop, Option, Some, None, refl, sym, ◌∙◌, ap, subst, arith}
 use Rattle.std.specs.Prelude.{not, ◌&&◌, ◌||◌, if◌then◌else◌, nat_lt, is_some}
 use Rattle.std.specs.List.{list_all}
 use Rattle.std.proofs.lemmas.List.Folds.{list_all-append}
@@ -17,7 +17,6 @@ use Rattle.jn_device.specs.Later.{count_kind, is_stop}
 use Rattle.jn_order.specs.Files.{AllFiles}
 use Rattle.jn_schedule.specs.declared.Event.{Event}
 use Rattle.jn_report.specs.declared.line.Line.{Line}
-use Rattle.jn_report.specs.declared.line.When.TheVariants.{Event as AtEvent}
 use Rattle.jn_report.specs.declared.line.Text.{Text}
 use Rattle.jn_report.specs.declared.line.Text.TheVariants as says
 use Rattle.jn_rows.specs.Stable.{Pick}
@@ -25,24 +24,24 @@ use Rattle.jn_locks.specs.Locks.{work_before}
 use Rattle.jn_protocol.specs.World.{World, new_memory, opening, servers_from}
 use Rattle.jn_protocol.specs.Steps.{Step, Restart, IsRun, run, after, tid_before}
 use Rattle.jn_settling.specs.Course.{go_on}
-use Rattle.jn_reported.specs.Reported.{IsReported, none_wait}
+use Rattle.jn_reported.specs.Reported.{IsReported}
 use Rattle.jn_aside.specs.Aside.{plain}
-use Rattle.jn_aside.proofs.Plain.{plain-append, plain-none}
+use Rattle.jn_aside.proofs.Plain.{plain-append}
 use Rattle.jn_within.proofs.WorldSteps.{opening-within}
 use Rattle.jn_written.specs.Chances.{Setup, Chance}
-use Rattle.jn_written.specs.Tasks.{Task, Begins, ComesUp, Stage, InSchedule, State, when_at}
-use Rattle.jn_written.specs.Deeds.{Deed, pick_read, is_used_up, given_up, recovering, recovered, brought_up}
+use Rattle.jn_written.specs.Tasks.{Task, Begins, ComesUp, InSchedule, State, when_at}
+use Rattle.jn_written.specs.Deeds.{pick_read, is_used_up, given_up, recovering, recovered, brought_up}
 use Rattle.jn_written.specs.Events.{ending}
-use Rattle.jn_written.specs.Steps.{own_texts, texts_of, lines_at, is_too_much, come_to, cut_short, made}
-use Rattle.jn_written.specs.Devices.{Devices, Alone, IsRecovery, Befalls, AreFound}
+use Rattle.jn_written.specs.Steps.{own_texts, texts_of, lines_at, come_to, cut_short, made}
+use Rattle.jn_written.specs.Devices.{IsRecovery, Befalls, AreFound}
 use Rattle.jn_written.specs.Kinds.{is_up}
 use Rattle.jn_written.specs.Runs.{Moment, DoesStep}
 use Rattle.jn_written.proofs.Struck.{nothing-strikes}
 use Rattle.jn_retold.specs.Retold.{IsRetoldInPart}
 use Rattle.jn_retold.proofs.Acts.{texts_by, grown-own, plain-texts}
 use Rattle.jn_retold.proofs.Going.{does-next, goes-or-cut, go-world}
-use Rattle.jn_retold.proofs.Forms.{left, Between, Held, cut, between}
-use Rattle.jn_retold.proofs.Partly.{none-named, raised, found_in, partly, none-up, all-up, one, is-down, comes-up}
+use Rattle.jn_retold.proofs.Forms.{Between, Held, cut}
+use Rattle.jn_retold.proofs.Partly.{none-named, raised, partly, all-up, one, comes-up}
 
 both : (a b : Bool) → a ≡ true → b ≡ true → (a && b) ≡ true
 both a b h k = grind arith
@@ -252,5 +251,5 @@ module _ (x : Setup) (files : AllFiles) (epochs : ServerNo → ℕ) (schedule : 
     pub start-step : DoesStep x a b → Here b ⊎ Starts (k + 1) r b
     start-step d = let n = does-next x (ComesUp q) (map ComesUp (servers_from (k + 1) r) ++ map Begins schedule ++ ending x) a b d s.stage s.tasks in
         by-epoch n.chance (is_used_up n.chance q v) refl
-          (subst (λ (u : World). b.state ≡ made x n.chance (brought_up n.chance q u) before) s.world n.state_is)
-          (subst (λ (u : World). Befalls x n.chance (brought_up n.chance q u) u a.devices b.devices) s.world n.befalls)
+        (subst (λ (u : World). b.state ≡ made x n.chance (brought_up n.chance q u) before) s.world n.state_is)
+        (subst (λ (u : World). Befalls x n.chance (brought_up n.chance q u) u a.devices b.devices) s.world n.befalls)

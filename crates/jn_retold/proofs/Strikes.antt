@@ -1,5 +1,5 @@
 -- What strikes a server, and what is left waiting.
-use Rattle.std.proofs.Common.{◌≡◌, ◌≤◌, ℕ, ◌+◌, ◌-◌, Bool, true, false, List, [], ◌∷◌, ◌++◌, map, inl, inr, refl, sym, ◌∙◌, ap, subst, arith}
+use Rattle.std.proofs.Common.{◌≡◌, ◌≤◌, ℕ, ◌+◌, ◌-◌, Bool, true, false, List, [], ◌∷◌, ◌++◌, map, refl, sym, ◌∙◌, ap, subst, arith}
 use Rattle.std.specs.Prelude.{◌&&◌, if◌then◌else◌}
 use Rattle.std.specs.List.{list_all}
 use Rattle.std.proofs.lemmas.Bool.Decides.{nat_tests}
@@ -123,16 +123,18 @@ told-strike q (fault ∷ told) x h = let one = fault-strikes q fault x (some _ _
 -- faults that are told, then perhaps that the server was stopped, then texts that strike nothing
 pub calm-strikes : (q : ServerNo) (told : List Outside) (own texts : List Text) (x : Waiting) → count_told any told ≤ x.faults q → list_all is_harmless own ≡ true → list_all is_harmless texts ≡ true
     → AreStruck x (told_texts q told ++ own ++ texts) × Strikes q (count_told any told) 0 x (strike_all (told_texts q told ++ own ++ texts) x)
-calm-strikes q told own texts x h k l = let one = told-strike q told x h in let y = strike_all (told_texts q told) x in
-    (struck-join (told_texts q told ++ own) texts x (struck-join (told_texts q told) own x one.0 (none-strike own y k)) (none-strike texts _ l),
-    subst (λ (z : Waiting). Strikes q (count_told any told) 0 x z) (sym (strike-join (told_texts q told ++ own) texts x ∙ unstruck texts _ l ∙ strike-join (told_texts q told) own x ∙ unstruck own y k)) one.1)
+calm-strikes q told own texts x h k l = let one = told-strike q told x h in let y = strike_all (told_texts q told) x in (
+  struck-join (told_texts q told ++ own) texts x (struck-join (told_texts q told) own x one.0 (none-strike own y k)) (none-strike texts _ l),
+  subst (λ (z : Waiting). Strikes q (count_told any told) 0 x z) (sym (strike-join (told_texts q told ++ own) texts x ∙ unstruck texts _ l ∙ strike-join (told_texts q told) own x ∙ unstruck own y k)) one.1,
+)
 
 pub halt-strikes : (q : ServerNo) (told : List Outside) (texts : List Text) (x : Waiting) → count_told any told ≤ x.faults q → 1 ≤ x.stops q → list_all is_harmless texts ≡ true
     → AreStruck x (told_texts q told ++ says.Stopped q ∷ [] ++ texts) × Strikes q (count_told any told) 1 x (strike_all (told_texts q told ++ says.Stopped q ∷ [] ++ texts) x)
-halt-strikes q told texts x h s l = let one = told-strike q told x h in let y = strike_all (told_texts q told) x in let enough = subst (λ n. 1 ≤ n) (sym (same-stops (y.stops q) (x.stops q) one.1.stops_are)) s in
-    (struck-join (told_texts q told ++ says.Stopped q ∷ []) texts x (struck-join (told_texts q told) (says.Stopped q ∷ []) x one.0 (enough, tt)) (none-strike texts _ l),
-    subst (λ (z : Waiting). Strikes q (count_told any told) 1 x z) (sym (strike-join (told_texts q told ++ says.Stopped q ∷ []) texts x ∙ unstruck texts _ l ∙ strike-join (told_texts q told) (says.Stopped q ∷ []) x))
-      (widen (both-strike q (count_told any told) 0 0 1 x y _ one.1 (stop-strikes q y enough))))
+halt-strikes q told texts x h s l = let one = told-strike q told x h in let y = strike_all (told_texts q told) x in let enough = subst (λ n. 1 ≤ n) (sym (same-stops (y.stops q) (x.stops q) one.1.stops_are)) s in (
+  struck-join (told_texts q told ++ says.Stopped q ∷ []) texts x (struck-join (told_texts q told) (says.Stopped q ∷ []) x one.0 (enough, tt)) (none-strike texts _ l),
+  subst (λ (z : Waiting). Strikes q (count_told any told) 1 x z) (sym (strike-join (told_texts q told ++ says.Stopped q ∷ []) texts x ∙ unstruck texts _ l ∙ strike-join (told_texts q told) (says.Stopped q ∷ []) x))
+      (widen (both-strike q (count_told any told) 0 0 1 x y _ one.1 (stop-strikes q y enough))),
+)
   where
     same-stops : (n m : ℕ) → n + 0 ≡ m → n ≡ m
     same-stops n m e = omega (arith, e)

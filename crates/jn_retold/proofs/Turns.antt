@@ -1,26 +1,23 @@
 -- How a step with a server's device turns out: the server goes on, or is stopped.
-use Rattle.std.proofs.Common.{◌≡◌, ℕ, ◌+◌, Bool, true, false, List, [], ◌∷◌, ◌++◌, append-nil, Option, Some, None, inl, inr, refl, sym, ◌∙◌, ap, subst, arith}
-use Rattle.std.specs.Prelude.{◌&&◌, ◌||◌, if◌then◌else◌, nat_lt, slice_get, is_some}
+use Rattle.std.proofs.Common.{◌≡◌, ℕ, Bool, true, false, List, [], ◌∷◌, ◌++◌, append-nil, Option, Some, None, refl, sym, ap, subst, arith}
+use Rattle.std.specs.Prelude.{◌||◌, if◌then◌else◌, nat_lt, slice_get, is_some}
 use Rattle.std.specs.List.{list_all}
-use Rattle.std.proofs.lemmas.Bool.{cases_Bool}
 use Rattle.jn_base.specs.declared.names.ServerNo.{ServerNo}
-use Rattle.jn_base.specs.declared.names.Tid.{Tid}
-use Rattle.jn_base.specs.declared.names.WorkId.{WorkId}
-use Rattle.jn_base.specs.declared.names.Party.TheVariants.{Client, Server}
+use Rattle.jn_base.specs.declared.names.Party.TheVariants.{Server}
 use Rattle.jn_base.specs.Names.{server_eq}
 use Rattle.jn_msgs.specs.declared.message.Message.{Message}
 use Rattle.jn_report.specs.declared.line.Text.{Text}
 use Rattle.jn_report.specs.declared.line.Text.TheVariants as says
-use Rattle.jn_rows.specs.Stable.{Pick, StableState, stable}
+use Rattle.jn_rows.specs.Stable.{Pick, stable}
 use Rattle.jn_rows.specs.Outcomes.{RowOutcome, Sent}
 use Rattle.jn_rows.specs.declared.worker.Work.{Work as WorkEntry}
-use Rattle.jn_rows.specs.Worker.{WorkerTable, going_work}
+use Rattle.jn_rows.specs.Worker.{going_work}
 use Rattle.jn_protocol.specs.World.{World, Memory, at_server}
-use Rattle.jn_protocol.specs.Servers.{Room, server_row, server_step, lines_of, named_now}
-use Rattle.jn_protocol.specs.Steps.{Step, NextEvent, Tell, Again, Deliver, Work, Nudge, Timeout, StopDelivery, StopWork, Crash, Narrow, StopRestart, Restart, after, run, ends, at_memory, handed, work, works, nudge, timeout, crash, narrow, stop_restart, restart}
+use Rattle.jn_protocol.specs.Servers.{Room, server_row, server_step}
+use Rattle.jn_protocol.specs.Steps.{Deliver, Work, Narrow, StopRestart, Restart, after, run, ends, at_memory, handed, work, works, narrow, stop_restart, restart}
 use Rattle.jn_settling.specs.Settle.{handing, working, is_busy as has_going}
 use Rattle.jn_written.specs.Chances.{Chance}
-use Rattle.jn_written.specs.Deeds.{room, no_room, is_busy, is_busy_with, working_steps, stopped_idle, pick_read, recovering}
+use Rattle.jn_written.specs.Deeds.{no_room, stopped_idle, pick_read, recovering}
 use Rattle.jn_written.specs.Kinds.{is_note, is_up, is_of_delivery}
 use Rattle.jn_written.proofs.Telling.{Adds, adds, weaker}
 use Rattle.jn_retold.proofs.Strikes.{is_harmless}
@@ -78,7 +75,7 @@ module _ (w : World) where
     pub delivery-turns : (k : ℕ) (message : Message) (r : Room) (stop : Option (Pick → ℕ)) → slice_get w.sent k ≡ Some (Server q, message) → Turns q w (after (handing k r stop) w) stop
     delivery-turns k message r None e = goes-by q is_of_delivery (after (Deliver k r) w) delivery-harmless (adds w (Deliver k r))
         (λ s o. subst (λ (sent : Option Sent). (handed k r None sent w).memory s ≡ w.memory s) (sym e)
-          (subst (λ (memory : Option Memory). (at_memory q k r None message memory w).memory s ≡ w.memory s) (sym up) (ends-others q (Some k) (server_row m (stable (w.found q)) r message) s o)))
+        (subst (λ (memory : Option Memory). (at_memory q k r None message memory w).memory s ≡ w.memory s) (sym up) (ends-others q (Some k) (server_row m (stable (w.found q)) r message) s o)))
     delivery-turns k message r (Some made) e = subst (λ (sent : Option Sent). Halts q w (handed k r (Some made) sent w)) (sym e)
         (subst (λ (memory : Option Memory). Halts q w (at_memory q k r (Some made) message memory w)) (sym up) (halts q (Some k) made (server_row m (stable (w.found q)) r message) self))
 
@@ -118,7 +115,7 @@ module _ (w : World) where
         (λ s o. subst (λ (memory : Option Memory). (restart q (pick_read h) h.works h.tids memory w).memory s ≡ w.memory s) (sym down) (at-other w.memory q _ s o))
     recovering-turns h (Some made) = subst (λ (v : World). Halts q w (after (StopRestart q (λ c. nat_lt 0 (made c))) v)) (sym narrowed)
         (subst (λ (memory : Option Memory). Halts q w (stop_restart q (λ c. nat_lt 0 (made c)) memory (narrow q h.finds None w))) (sym down)
-          (record { lines = refl; down = down; others = λ s o. refl; number = refl }))
+        (record { lines = refl; down = down; others = λ s o. refl; number = refl }))
       where
         narrowed : narrow q h.finds (w.memory q) w ≡ narrow q h.finds None w
         narrowed = ap (λ (memory : Option Memory). narrow q h.finds memory w) down

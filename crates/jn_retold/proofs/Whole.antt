@@ -1,24 +1,24 @@
 -- Every written run is retold.
-use Rattle.std.proofs.Common.{◌≡◌, ◌⊎◌, inl, inr, ◌≤◌, ◌<◌, ℕ, zero, suc, ◌+◌, Bool, true, false, List, [], ◌∷◌, ◌++◌, append-nil, Option, Some, None, refl, sym, ◌∙◌, ap, subst, arith}
+use Rattle.std.proofs.Common.{◌≡◌, ◌⊎◌, inl, inr, ◌≤◌, ◌<◌, ℕ, zero, suc, ◌+◌, List, [], ◌∷◌, ◌++◌, append-nil, Some, None, refl, sym, ◌∙◌, ap, subst, arith}
 use Rattle.std.specs.List.{AllByRecursion}
 use Rattle.jn_base.specs.declared.names.ServerNo.{ServerNo}
 use Rattle.jn_order.specs.Files.{AllFiles}
 use Rattle.jn_schedule.specs.declared.Event.{Event}
 use Rattle.jn_schedule.specs.Ranges.{EventInRange}
 use Rattle.jn_protocol.specs.World.{World}
-use Rattle.jn_reported.specs.Reported.{Item, IsReported, events_of, world_of}
+use Rattle.jn_reported.specs.Reported.{Item, events_of}
 use Rattle.jn_written.specs.Chances.{Setup}
 use Rattle.jn_written.specs.Tasks.{Task, InSchedule, AtEnd, CutShort, Stage, next_at}
 use Rattle.jn_written.specs.Devices.{Devices, AreFound}
 use Rattle.jn_written.specs.Runs.{none, more, Moment, DoesStep, Leads}
-use Rattle.jn_written.specs.Whole.{closed_world, before, AreImages, IsWritten}
+use Rattle.jn_written.specs.Whole.{before, AreImages, IsWritten}
 use Rattle.jn_written.proofs.Computed.{join}
 use Rattle.jn_retold.specs.Retold.{IsRetold, IsRetoldInPart}
-use Rattle.jn_retold.proofs.Forms.{beginning, Between, Held, between, meeting, settling, cut, ended, between-part, meeting-part, amid-part, told-by}
+use Rattle.jn_retold.proofs.Forms.{Between, Held, between, meeting, settling, cut, ended, between-part, meeting-part, amid-part, told-by}
 use Rattle.jn_retold.proofs.Beginning.{begin-step, meet-step}
 use Rattle.jn_retold.proofs.Settles.{settle-step}
-use Rattle.jn_retold.proofs.Partly.{raised, partly, none-up}
-use Rattle.jn_retold.proofs.Starting.{IsQuiet, Starts, all-started, start-step}
+use Rattle.jn_retold.proofs.Partly.{raised, none-up}
+use Rattle.jn_retold.proofs.Starting.{Starts, all-started, start-step}
 use Rattle.jn_retold.proofs.Ranges.{blocks-below}
 
 -- what holds of all events holds of the first ones

@@ -1,5 +1,5 @@
 -- Blocks stay below 120 in every run whose commands name only such.
-use Rattle.std.proofs.Common.{◌≡◌, ◌≢◌, ◌⊎◌, inl, inr, ◌≤◌, ℕ, zero, suc, ◌+◌, Bool, true, false, List, [], ◌∷◌, ◌++◌, take, Option, Some, None, refl, sym, ◌∙◌, ap, subst, arith}
+use Rattle.std.proofs.Common.{◌≡◌, ◌≤◌, ℕ, zero, suc, ◌+◌, Bool, true, false, List, [], ◌∷◌, ◌++◌, take, Option, Some, None, refl, subst, arith}
 use Rattle.std.specs.Prelude.{⊤, ◌&&◌, if◌then◌else◌, slice_get}
 use Rattle.std.specs.List.{list_all, AllByRecursion}
 use Rattle.std.proofs.lemmas.List.Elements.{All-nil, All-head, All-tail, All-append, All-cons}
@@ -26,7 +26,7 @@ use Rattle.jn_worker.specs.Handling.{InRange}
 use Rattle.jn_within.specs.Taking.{CanBeTaken, AllCanBeTaken, CommandInRange, ClientFits, CommandFits, sent_for}
 use Rattle.jn_within.proofs.Taking.{servers-taken, command-fits, take-fits, new-fits, over-fits}
 use Rattle.jn_within.proofs.ServerRows.{row-requests, step-requests, again-requests}
-use Rattle.jn_retold.proofs.RowRanges.{AreRanged, is_ranged, WorksRanged, Keeps, row-ranged, step-ranged, timeout-ranged, restored-ranged}
+use Rattle.jn_retold.proofs.RowRanges.{AreRanged, is_ranged, WorksRanged, row-ranged, step-ranged, timeout-ranged, restored-ranged}
 use Rattle.jn_retold.proofs.Coordinating.{is_of_flag, row-flags, all-thanked-flags}
 
 first-of : (a b : Bool) → (a && b) ≡ true → a ≡ true
