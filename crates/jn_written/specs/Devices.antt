@@ -1,5 +1,5 @@
 -- What befalls a step is what its server's device does.
-use Rattle.std.specs.Prelude.{◌≡◌, ◌<◌, Bool, true, false, not, if◌then◌else◌, Some, None, is_some}
+use Rattle.std.specs.Prelude.{◌≡◌, ◌<◌, Bool, false, not, if◌then◌else◌, Some, None, is_some}
 use Rattle.jn_base.specs.declared.names.ServerNo.{ServerNo}
 use Rattle.jn_base.specs.declared.names.LockUnit.TheVariants.{File}
 use Rattle.jn_base.specs.Names.{server_eq, file_eq}
