@@ -1,6 +1,6 @@
 pub mod Plain
-mod Telling
-mod Answering
-mod Showing
-mod Causing
+pub mod Telling
+pub mod Answering
+pub mod Showing
+pub mod Causing
 pub mod Silent

@@ -1,2 +1,2 @@
-mod Cut
+pub mod Cut
 mod Fronts

@@ -182,8 +182,8 @@ printed-up first w (x ∷ xs) h s low high = by (server_tells (record { 0 = firs
     by (inl t) again = ap (λ (q : ServerNo). is_some (w.memory q)) (sym t.1) ∙ (let p = h.0 in ap is_some p.up)
     by (inr t) again = again (next first s.0 low t.0)
 
-module _ (servers : ℕ) (few : servers ≤ 8) (files : AllFiles) (epochs : ServerNo → ℕ) (items : List Item) (e : Ending) (h : IsReported items (opening servers files epochs)) (k : IsEnding servers e (world_of items (opening servers files epochs)))
-    (rest : IsSettledEnd servers e (world_of items (opening servers files epochs))) where
+module _ (servers : ℕ) (few : servers ≤ 8) (files : AllFiles) (epochs : ServerNo → ℕ) (items : List Item) (e : Ending) (h : IsReported items (opening servers files epochs)) (may : IsRun (steps_at_end servers e) (world_of items (opening servers files epochs)))
+    (all_up : length e.comebacks ≡ servers) (rest : IsSettledEnd servers e (world_of items (opening servers files epochs))) (up : AreUp servers (world_at_end servers e (world_of items (opening servers files epochs)))) where
   abbrev w : World
   w = world_of items (opening servers files epochs)
 
@@ -194,10 +194,10 @@ module _ (servers : ℕ) (few : servers ≤ 8) (files : AllFiles) (epochs : Serv
   here = record { world = w; waiting = []; steps = [] }
 
   same : bare (ended servers (starts servers few e) before) ≡ bare (course_at_end servers e w)
-  same = (do-end servers few e k.all_up (without_messages before) here (ap (λ (z : World). record { world = z; waiting = []; steps = [] }) (on-world (steps_of items) (opening_course servers files epochs))) k.steps).1
+  same = (do-end servers few e all_up (without_messages before) here (ap (λ (z : World). record { world = z; waiting = []; steps = [] }) (on-world (steps_of items) (opening_course servers files epochs))) may).1
 
   leaves : Leaves IsClosed servers rest.first rest.second (ended servers (starts servers few e) before)
-  leaves = end-leaves-nothing servers few files epochs (steps_of items) h.steps (starts servers few e) (do-end servers few e k.all_up here here refl k.steps).0 rest.first rest.second
+  leaves = end-leaves-nothing servers few files epochs (steps_of items) h.steps (starts servers few e) (do-end servers few e all_up here here refl may).0 rest.first rest.second
 
   abbrev chances : Chances
   chances = record { first = rest.first; second = rest.second; steps = rest.enough + leaves.steps }
@@ -211,14 +211,16 @@ module _ (servers : ℕ) (few : servers ≤ 8) (files : AllFiles) (epochs : Serv
   leads : (settled servers chances (ended servers (starts servers few e) before)).world ≡ world_at_end servers e w
   leads = ap (λ (z : Course). z.world) (settled-same servers chances _ _ same) ∙ stands
 
-  up : AreUp servers (world_at_end servers e w)
-  up s l = printed-up 0 (world_at_end servers e w) e.prints k.prints s (omega arith) (let long = k.all_print in grind (arith, nat_tests, l, long))
-
-  pub end-holds : (s : ServerNo) (m : Memory) (u : LockUnit) → (world_at_end servers e (world_of items (opening servers files epochs))).memory s ≡ Some m → commit_holder u m.worker ≡ None
-  end-holds s m u is = ap (commit_holder u) (let empty = closed.servers s m (ap (λ (z : World). z.memory s) leads ∙ is) in empty.works)
+  pub holds-where-up : (s : ServerNo) (m : Memory) (u : LockUnit) → (world_at_end servers e (world_of items (opening servers files epochs))).memory s ≡ Some m → commit_holder u m.worker ≡ None
+  holds-where-up s m u is = ap (commit_holder u) (let empty = closed.servers s m (ap (λ (z : World). z.memory s) leads ∙ is) in empty.works)
     where
       more : (a b : ℕ) → b ≤ a + b
       more a b = omega arith
 
       closed : IsClosed (settled servers chances (ended servers (starts servers few e) before))
       closed = leaves.each (rest.enough + leaves.steps) (more rest.enough leaves.steps) (subst (AreUp servers) (sym leads) up)
+
+pub end-holds : (servers : ℕ) → servers ≤ 8 → (files : AllFiles) (epochs : ServerNo → ℕ) (items : List Item) (e : Ending) → IsReported items (opening servers files epochs) → IsEnding servers e (world_of items (opening servers files epochs))
+    → IsSettledEnd servers e (world_of items (opening servers files epochs)) → (s : ServerNo) (m : Memory) (u : LockUnit) → (world_at_end servers e (world_of items (opening servers files epochs))).memory s ≡ Some m → commit_holder u m.worker ≡ None
+end-holds servers few files epochs items e h k rest = holds-where-up servers few files epochs items e h k.steps k.all_up rest
+    (λ s l. printed-up 0 (world_at_end servers e (world_of items (opening servers files epochs))) e.prints k.prints s (omega arith) (let long = k.all_print in grind (arith, nat_tests, l, long)))

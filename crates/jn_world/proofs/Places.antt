@@ -28,12 +28,12 @@ use Rattle.jn_store.specs.Store.{StoreView}
 use Rattle.jn_within.proofs.Taking.{command-fits, command-draws, take-fits, take-number, new-fits}
 use Rattle.jn_within.specs.Drawing.{DrawsOne}
 use Rattle.jn_within.specs.Taking.{CanBeTaken, AllCanBeTaken, ClientFits, CommandInRange, CommandFits, sent_for}
-use Rattle.jn_world.specs.Calls.{Left}
-use Rattle.jn_world.specs.declared.place.Place.{Place}
-use Rattle.jn_world.specs.declared.place.Slot.{Slot}
-use Rattle.jn_world.specs.declared.place.Slot.TheVariants.{Up, Down, Gone}
+use Rattle.jn_place.specs.Calls.{Left}
+use Rattle.jn_place.specs.declared.place.Place.{Place}
+use Rattle.jn_place.specs.declared.place.Slot.{Slot}
+use Rattle.jn_place.specs.declared.place.Slot.TheVariants.{Up, Down, Gone}
 use Rattle.jn_world.specs.declared.world.World.{World}
-use Rattle.jn_world.specs.Places.{Stands, IsPlace, is_up}
+use Rattle.jn_place.specs.Places.{Stands, IsPlace, is_up}
 use Rattle.jn_world.specs.Standing.{ArePlaces, IsClientOf, ArePosted, IsWorld, posted_by, messages_in, is_up_at, is_client, AreStores, AreClosed}
 
 -- ---- one place

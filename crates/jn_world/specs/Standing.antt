@@ -10,10 +10,10 @@ use Rattle.jn_recovery.specs.Loading.{counts_by}
 use Rattle.jn_rows.specs.Client.{ClientTable}
 use Rattle.jn_rows.specs.Outcomes.{Sent}
 use Rattle.jn_store.specs.Store.{StoreView}
-use Rattle.jn_world.specs.declared.place.Place.{Place}
+use Rattle.jn_place.specs.declared.place.Place.{Place}
 use Rattle.jn_world.specs.declared.world.World.{World}
 use Rattle.jn_within.specs.Taking.{CanBeTaken, ClientFits}
-use Rattle.jn_world.specs.Places.{IsPlace, is_up}
+use Rattle.jn_place.specs.Places.{IsPlace, is_up}
 
 -- the places of the servers from this number on
 abbrev pub ArePlaces : {S : Type 0} → (S → StoreView) → ℕ → ℕ → List (Place S) → Type 0

@@ -7,7 +7,7 @@ ghost use Rattle.jn_within.specs.Taking.{sent_for};
 ghost use Rattle.jn_world.specs.Standing.{is_client, IsClientOf};
 
 use crate::ended::Ended;
-use crate::telling::tell;
+use jn_place::tell;
 use crate::world::{CLIENTS, World, is_client};
 use jn_base::{ClientNo, Command, Party};
 use jn_client::{Client, CommandFault};

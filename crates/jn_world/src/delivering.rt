@@ -4,7 +4,7 @@ ghost use Rattle.jn_within.specs.Taking.{CanBeTaken, AllCanBeTaken, CommandInRan
 ghost use Rattle.jn_world.specs.Standing.{IsWorld, IsWorldUpTo, is_up_at, posted_by};
 
 use crate::ended::Ended;
-use crate::telling::tell;
+use jn_place::tell;
 use crate::world::{World, refuse};
 use jn_base::{Party, ServerNo};
 use jn_report::{EventRefusal, Line, Text, When};

@@ -5,7 +5,7 @@ ghost use Rattle.jn_world.specs.Standing.{IsWorld, IsWorldUpTo, is_up_at, posted
 ghost use Rattle.jn_world.specs.Standing.{AreClosed};
 
 use crate::ended::Ended;
-use crate::telling::tell;
+use jn_place::tell;
 use crate::world::{CLIENTS, World};
 use jn_base::ServerNo;
 use jn_report::{Line, Text, When};

@@ -6,7 +6,7 @@ ghost use Rattle.jn_device.specs.Events.{is_within};
 ghost use Rattle.jn_schedule.specs.Ranges.{EventInRange};
 
 use crate::ended::Ended;
-use crate::telling::tell;
+use jn_place::tell;
 use crate::world::{World, refuse};
 use jn_base::{FaultKind, Outside, ServerNo};
 use jn_report::{EventRefusal, Line, Text, When};

@@ -4,7 +4,7 @@ ghost use Rattle.jn_base.specs.declared.names.Party.TheVariants.{Server};
 ghost use Rattle.jn_world.specs.Standing.{posted_by, messages_in};
 
 use crate::ended::Ended;
-use crate::telling::tell;
+use jn_place::tell;
 use crate::world::World;
 use jn_base::{Party, ServerNo};
 use jn_msgs::{Message, Note, Out};

@@ -4,8 +4,8 @@ ghost use Rattle.jn_within.specs.Taking.{CanBeTaken, AllCanBeTaken, CommandInRan
 ghost use Rattle.jn_world.specs.Standing.{IsWorld, IsWorldUpTo, is_up_at, posted_by};
 
 use crate::ended::Ended;
-use crate::place::Work;
-use crate::telling::tell;
+use jn_place::Work;
+use jn_place::tell;
 use crate::world::{World, refuse};
 use jn_base::{ServerNo, Tid};
 use jn_report::{EventRefusal, Line, Text, When};

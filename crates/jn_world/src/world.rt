@@ -7,8 +7,8 @@ ghost use Rattle.jn_world.specs.Standing.{is_client};
 
 use crate::ended::Ended;
 use crate::named::Named;
-use crate::place::Place;
-use crate::telling::tell;
+use jn_place::Place;
+use jn_place::tell;
 use jn_base::{ClientNo, ServerNo};
 use jn_client::Client;
 use jn_net::Net;

@@ -4,8 +4,8 @@ use Rattle.std.proofs.lemmas.Iterator.Consumers.{YieldsList-turn, YieldsList-end
 use Rattle.std.proofs.lemmas.List.{length_push}
 use Rattle.jn_net.specs.Carried.{Carried}
 use Rattle.jn_store.specs.Store.{StoreView}
-use Rattle.jn_world.specs.declared.place.Place.{Place}
-use Rattle.jn_world.specs.declared.place.Slot.TheVariants.{Down}
+use Rattle.jn_place.specs.declared.place.Place.{Place}
+use Rattle.jn_place.specs.declared.place.Slot.TheVariants.{Down}
 use Rattle.jn_world.specs.Standing.{ArePlaces}
 use Rattle.jn_world.proofs.Places.{store-place, places-push, start-world}
 use Rattle.jn_world.proofs.starting.down.Goals as goal

@@ -4,8 +4,8 @@ use Rattle.jn_store.specs.Store.{StoreView}
 use Rattle.jn_recovery.specs.Loading.{counts_by}
 use Rattle.jn_world.proofs.Places.{place-there, moved-quiet}
 use Rattle.jn_world.specs.Standing.{IsWorld}
-use Rattle.jn_world.proofs.Steps.{any-ok}
-use Rattle.jn_world.proofs.Slots.{has-pages}
+use Rattle.jn_place.proofs.Steps.{any-ok}
+use Rattle.jn_place.proofs.Slots.{has-pages}
 use Rattle.jn_world.proofs.world.World.arm.Goals as goal
 
 pub arm-requires-clause-pages : goal.arm-requires-clause-pages

@@ -2,7 +2,7 @@ use Rattle.std.proofs.Common.{◌<◌, length, ap, arith}
 use Rattle.jn_store.specs.Store.{StoreView}
 use Rattle.jn_world.specs.declared.world.World.{World}
 use Rattle.jn_world.specs.Standing.{IsWorld}
-use Rattle.jn_world.proofs.Steps.{any-ok}
+use Rattle.jn_place.proofs.Steps.{any-ok}
 use Rattle.jn_world.proofs.Places.{place-there, place-million, down-here, moved-quiet}
 use Rattle.jn_world.proofs.world.World.bring_up.Goals as goal
 

@@ -3,7 +3,7 @@ use Rattle.std.specs.Vec.{with_item}
 use Rattle.jn_store.specs.Store.{StoreView}
 use Rattle.jn_base.specs.declared.names.ServerNo.{ServerNo}
 use Rattle.jn_recovery.specs.Loading.{counts_by}
-use Rattle.jn_world.proofs.Slots.{stands-there}
+use Rattle.jn_place.proofs.Slots.{stands-there}
 use Rattle.jn_world.proofs.Places.{place-there, moved-quiet}
 use Rattle.jn_world.proofs.world.World.disarm_all.Goals as goal
 

@@ -2,7 +2,7 @@ use Rattle.jn_store.specs.Store.{StoreView}
 use Rattle.jn_base.specs.declared.names.Party.TheVariants.{Server}
 use Rattle.jn_recovery.specs.Loading.{counts_by}
 use Rattle.jn_world.proofs.Places.{place-here, place-million, up-here, sent-world}
-use Rattle.jn_world.proofs.Slots.{serves-here}
+use Rattle.jn_place.proofs.Slots.{serves-here}
 use Rattle.jn_world.proofs.Worlds.{places-of, clients-of}
 use Rattle.jn_world.proofs.world.World.nudge.Goals as goal
 

@@ -3,7 +3,7 @@ use Rattle.std.specs.Vec.{with_item}
 use Rattle.jn_store.specs.Store.{StoreView}
 use Rattle.jn_recovery.specs.Loading.{counts_by}
 use Rattle.jn_world.proofs.Places.{place-there, moved-quiet}
-use Rattle.jn_world.proofs.Slots.{has-pages}
+use Rattle.jn_place.proofs.Slots.{has-pages}
 use Rattle.jn_world.proofs.world.World.revive.Goals as goal
 
 pub revive-requires-clause-pages : goal.revive-requires-clause-pages

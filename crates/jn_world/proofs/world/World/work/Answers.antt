@@ -2,8 +2,8 @@ use Rattle.std.proofs.Common.{refl, length, subst, Some, None}
 use Rattle.std.specs.Vec.{with_item}
 use Rattle.jn_store.specs.Store.{StoreView}
 use Rattle.jn_world.proofs.Places.{place-here, place-million, up-here, moved-quiet, moved-posted}
-use Rattle.jn_world.specs.Calls.{LeftBy}
-use Rattle.jn_world.specs.declared.place.Work.{Work}
+use Rattle.jn_place.specs.Calls.{LeftBy}
+use Rattle.jn_place.specs.declared.place.Work.{Work}
 use Rattle.jn_world.proofs.Worlds.{places-of, clients-of}
 use Rattle.jn_world.proofs.world.World.work.Goals as goal
 

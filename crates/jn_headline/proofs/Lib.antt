@@ -1,0 +1,16 @@
+pub mod Behind
+pub mod Texts
+pub mod Quiet
+pub mod Numbered
+pub mod Came
+pub mod Parts
+pub mod Tasks
+pub mod Busy
+pub mod Resting
+pub mod Showing
+pub mod Through
+pub mod Ended
+pub mod Begins
+pub mod SoFar
+pub mod Headline
+pub mod Joined

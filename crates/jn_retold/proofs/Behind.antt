@@ -1,0 +1,135 @@
+-- With lines of servers that came up before its own, a world goes the same way.
+use Rattle.std.proofs.Common.{◌≡◌, ℕ, ◌+◌, Bool, true, List, [], ◌∷◌, ◌++◌, append_assoc, Option, Some, None, refl, sym, ◌∙◌, ap, arith}
+use Rattle.std.specs.Prelude.{◌&&◌, if◌then◌else◌, slice_get}
+use Rattle.std.specs.List.{list_all, list_any}
+use Rattle.jn_base.specs.declared.names.ServerNo.{ServerNo}
+use Rattle.jn_base.specs.declared.names.ClientNo.{ClientNo}
+use Rattle.jn_base.specs.declared.names.Tid.{Tid}
+use Rattle.jn_base.specs.declared.names.WorkId.{WorkId}
+use Rattle.jn_base.specs.declared.names.Party.TheVariants.{Client, Server}
+use Rattle.jn_base.specs.Names.{tid_eq}
+use Rattle.jn_msgs.specs.declared.message.Message.{Message}
+use Rattle.jn_report.specs.declared.line.Text.{Text}
+use Rattle.jn_report.specs.declared.line.Text.TheVariants as says
+use Rattle.jn_rows.specs.declared.client.Taken.{Taken}
+use Rattle.jn_rows.specs.declared.client.Taken.TheVariants as taken
+use Rattle.jn_rows.specs.Stable.{Pick, stable}
+use Rattle.jn_rows.specs.Outcomes.{RowOutcome, Sent}
+use Rattle.jn_rows.specs.Client.{ClientTable, Commanded, Refuses, Sends, command_row, take_row}
+use Rattle.jn_rows.specs.Coordinator.{close_clients_row}
+use Rattle.jn_protocol.specs.World.{World, Memory, committed_in, commits_in, has_line}
+use Rattle.jn_protocol.specs.Servers.{Room, server_row, server_step, of_coordinator, lines_of, named_now}
+use Rattle.jn_protocol.specs.Steps.{Step, NextEvent, Tell, Again, Deliver, Work, Nudge, Timeout, StopDelivery, StopWork, Crash, Narrow, StopRestart, Restart, Dismiss, CloseClients, after, run, ends, at_memory, handed, work, works, nudge, timeout, crash, narrow, stop_restart, restart, close_clients, commanded, took}
+use Rattle.jn_written.specs.Kinds.{is_up}
+use Rattle.jn_retold.specs.Retold.{behind}
+
+first-of : (a b : Bool) → (a && b) ≡ true → a ≡ true
+first-of a b h = grind arith
+
+second-of : (a b : Bool) → (a && b) ≡ true → b ≡ true
+second-of a b h = grind arith
+
+commits-append : (a b : List Text) → commits_in (a ++ b) ≡ commits_in a ++ commits_in b
+commits-append [] b = refl
+commits-append (text ∷ a) b = ap (λ (Ts : List Tid). committed_in text ++ Ts) (commits-append a b) ∙ sym (append_assoc (committed_in text) (commits_in a) (commits_in b))
+
+up-names-none : (text : Text) → is_up text ≡ true → committed_in text ≡ []
+up-names-none text h = grind arith
+
+pub ups-name-none : (ups : List Text) → list_all is_up ups ≡ true → commits_in ups ≡ []
+ups-name-none [] h = refl
+ups-name-none (text ∷ ups) h = ap (λ (Ts : List Tid). Ts ++ commits_in ups) (up-names-none text (first-of _ _ h)) ∙ ups-name-none ups (second-of _ _ h)
+
+module _ (ups : List Text) (mute : commits_in ups ≡ []) where
+  same-line : (T : Tid) (ls : List Text) → has_line T (ups ++ ls) ≡ has_line T ls
+  same-line T ls = ap (λ (Us : List Tid). list_any (λ U. tid_eq U T) Us) (commits-append ups ls ∙ ap (λ (Ts : List Tid). Ts ++ commits_in ls) mute)
+
+  same-named : (Ts : List Tid) (ls : List Text) → named_now Ts (ups ++ ls) ≡ named_now Ts ls
+  same-named [] ls = refl
+  same-named (T ∷ Ts) ls = ap (λ (b : Bool). if b then named_now Ts (ups ++ ls) else says.Commit T ∷ named_now Ts (ups ++ ls)) (same-line T ls)
+      ∙ ap (λ (rest : List Text). if has_line T ls then rest else says.Commit T ∷ rest) (same-named Ts ls)
+
+  -- this world with more lines
+  longer : (now : World) (ls texts : List Text) → record now { lines = (ups ++ ls) ++ texts } ≡ record now { lines = ups ++ (ls ++ texts) }
+  longer now ls texts = ap (λ (all : List Text). record now { lines = all }) (append_assoc ups ls texts)
+
+  module _ (w : World) where
+    commanded-behind : (c : ClientNo) (row : Commanded) → commanded c row (behind ups w) ≡ behind ups (commanded c row w)
+    commanded-behind c (Refuses refusal) = longer w w.lines (says.Refused c w.event refusal ∷ [])
+    commanded-behind c (Sends t to message) = refl
+
+    took-behind : (c : ClientNo) (k : ℕ) (t : ClientTable) (what : Taken) → took c k t what (behind ups w) ≡ behind ups (took c k t what w)
+    took-behind c k t taken.Ignored = longer (took c k t taken.Ignored w) w.lines (says.Ignored k ∷ [])
+    took-behind c k t (taken.Send to message) = refl
+    took-behind c k t (taken.Told line answer) = longer (took c k t (taken.Told line answer) w) w.lines (line ∷ [])
+
+    ends-behind : (s : ServerNo) (k : Option ℕ) (stop : Option (Pick → ℕ)) (row : RowOutcome Memory) → ends s k stop row (behind ups w) ≡ behind ups (ends s k stop row w)
+    ends-behind s k None row = longer (ends s k None row w) w.lines (lines_of s k row.notes)
+    ends-behind s k (Some made) row = longer (ends s k (Some made) row w) w.lines (says.Stopped s ∷ [])
+
+    memory-behind : (s : ServerNo) (k : ℕ) (room : Room) (stop : Option (Pick → ℕ)) (message : Message) (o : Option Memory) → at_memory s k room stop message o (behind ups w) ≡ behind ups (at_memory s k room stop message o w)
+    memory-behind s k room stop message None = longer w w.lines (says.Lost k ∷ [])
+    memory-behind s k room stop message (Some m) = ends-behind s (Some k) stop (server_row m (stable (w.found s)) room message)
+
+    handed-behind : (k : ℕ) (room : Room) (stop : Option (Pick → ℕ)) (o : Option Sent) → handed k room stop o (behind ups w) ≡ behind ups (handed k room stop o w)
+    handed-behind k room stop None = refl
+    handed-behind k room stop (Some (Client c, message)) = took-behind c k (take_row (w.clients c) message).0 (take_row (w.clients c) message).1
+    handed-behind k room stop (Some (Server s, message)) = memory-behind s k room stop message (w.memory s)
+
+    works-behind : (s : ServerNo) (stop : Option (Pick → ℕ)) (o : Option (RowOutcome Memory)) → works s stop o (behind ups w) ≡ behind ups (works s stop o w)
+    works-behind s stop None = refl
+    works-behind s stop (Some row) = ends-behind s None stop row
+
+    work-behind : (s : ServerNo) (room : Room) (stop : Option (Pick → ℕ)) (o : Option Memory) → work s room stop o (behind ups w) ≡ behind ups (work s room stop o w)
+    work-behind s room stop None = refl
+    work-behind s room stop (Some m) = works-behind s stop (server_step m (stable (w.found s)) room)
+
+    nudge-behind : (s : ServerNo) (o : Option Memory) → nudge s o (behind ups w) ≡ behind ups (nudge s o w)
+    nudge-behind s None = refl
+    nudge-behind s (Some m) = refl
+
+    timeout-behind : (s : ServerNo) (T : Tid) (o : Option Memory) → timeout s T o (behind ups w) ≡ behind ups (timeout s T o w)
+    timeout-behind s T None = refl
+    timeout-behind s T (Some m) = refl
+
+    crash-behind : (s : ServerNo) (o : Option Memory) → crash s o (behind ups w) ≡ behind ups (crash s o w)
+    crash-behind s None = refl
+    crash-behind s (Some m) = longer (crash s (Some m) w) w.lines (says.Down s ∷ [])
+
+    narrow-behind : (s : ServerNo) (g : Pick → Pick) (o : Option Memory) → narrow s g o (behind ups w) ≡ behind ups (narrow s g o w)
+    narrow-behind s g None = refl
+    narrow-behind s g (Some m) = refl
+
+    stop-restart-behind : (s : ServerNo) (raised : Pick → Bool) (o : Option Memory) → stop_restart s raised o (behind ups w) ≡ behind ups (stop_restart s raised o w)
+    stop-restart-behind s raised None = longer (stop_restart s raised None w) w.lines (says.Stopped s ∷ [])
+    stop-restart-behind s raised (Some m) = refl
+
+    restart-behind : (s : ServerNo) (pick : Pick) (Ws : List WorkId) (Ts : List Tid) (o : Option Memory) → restart s pick Ws Ts o (behind ups w) ≡ behind ups (restart s pick Ws Ts o w)
+    restart-behind s pick Ws Ts None = ap (λ (named : List Text). record (restart s pick Ws Ts None w) { lines = (ups ++ w.lines) ++ (says.Up s ((w.found s pick).epoch + 1) ∷ named) }) (same-named Ts w.lines)
+        ∙ longer (restart s pick Ws Ts None w) w.lines (says.Up s ((w.found s pick).epoch + 1) ∷ named_now Ts w.lines)
+    restart-behind s pick Ws Ts (Some m) = refl
+
+    close-behind : (s : ServerNo) (o : Option Memory) → close_clients s o (behind ups w) ≡ behind ups (close_clients s o w)
+    close-behind s None = refl
+    close-behind s (Some m) = ends-behind s None None (of_coordinator m (close_clients_row m.coordinator m.tickets))
+
+    pub step-behind : (step : Step) → after step (behind ups w) ≡ behind ups (after step w)
+    step-behind NextEvent = refl
+    step-behind (Tell c command) = commanded-behind c (command_row (w.clients c) w.event command)
+    step-behind (Again c) = refl
+    step-behind (Deliver k room) = handed-behind k room None (slice_get w.sent k)
+    step-behind (Work s room) = work-behind s room None (w.memory s)
+    step-behind (Nudge s) = nudge-behind s (w.memory s)
+    step-behind (Timeout s T) = timeout-behind s T (w.memory s)
+    step-behind (StopDelivery k room made) = handed-behind k room (Some made) (slice_get w.sent k)
+    step-behind (StopWork s room made) = work-behind s room (Some made) (w.memory s)
+    step-behind (Crash s) = crash-behind s (w.memory s)
+    step-behind (Narrow s g) = narrow-behind s g (w.memory s)
+    step-behind (StopRestart s raised) = stop-restart-behind s raised (w.memory s)
+    step-behind (Restart s pick Ws Ts) = restart-behind s pick Ws Ts (w.memory s)
+    step-behind Dismiss = refl
+    step-behind (CloseClients s) = close-behind s (w.memory s)
+
+  pub run-behind : (steps : List Step) (w : World) → run steps (behind ups w) ≡ behind ups (run steps w)
+  run-behind [] w = refl
+  run-behind (step ∷ steps) w = ap (λ (v : World). run steps v) (step-behind w step) ∙ run-behind steps (after step w)
