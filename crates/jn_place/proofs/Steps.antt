@@ -12,9 +12,7 @@ use Rattle.jn_place.specs.declared.place.Restarted.{Restarted}
 use Rattle.jn_place.specs.declared.place.Restarted.TheVariants as came
 use Rattle.jn_place.specs.declared.place.Slot.{Slot}
 use Rattle.jn_place.specs.declared.place.Slot.TheVariants.{Up, Down, Gone}
-use Rattle.jn_place.specs.declared.place.Work.{Work}
-use Rattle.jn_place.specs.declared.place.Work.TheVariants as works
-use Rattle.jn_place.specs.Calls.{Called, Answered, Worked, is_done, CameUp, Left, LeftBy}
+use Rattle.jn_place.specs.Calls.{Called, Answered, CameUp, Left}
 use Rattle.jn_place.specs.Places.{HoldsUp, Stands, IsPlace, IsDownAt, is_up, is_there}
 use Rattle.jn_place.proofs.Slots.{stepped-slot}
 
@@ -47,12 +45,6 @@ pub taken-left : {S : Type 0} (look : S → StoreView) (server : ServerNo) (most
 taken-left look server most p q r None h called same follows = quiet-left look server most false p q (λ m. IsPlace look server m r) h called same follows
 taken-left look server most p q r (Some out) h called same follows = (called-left look server most (length out.messages) true p q (λ m. IsPlace look server m r) h called.0 same follows, called.1)
 
--- a background step
-pub worked-left : {S : Type 0} (look : S → StoreView) (server : ServerNo) (most : ℕ) (p q r : Place S) (work : Work) → IsPlace look server most p → Worked look p.slot q.slot work → q.counts ≡ p.counts → Follows look server (is_done work) q (λ m. IsPlace look server m r) → LeftBy look server most r work
-worked-left look server most p q r works.Idle h worked same follows = quiet-left look server most true p q (λ m. IsPlace look server m r) h worked same follows
-worked-left look server most p q r (works.Done out) h worked same follows = (called-left look server most (length out.messages) true p q (λ m. IsPlace look server m r) h worked.0 same follows, worked.1)
-worked-left look server most p q r works.Stopped h worked same follows = quiet-left look server most false p q (λ m. IsPlace look server m r) h worked same follows
-
 -- ---- up and down
 
 pub held-stands : {S : Type 0} (look : S → StoreView) (server : ServerNo) (g : Counts) (most : ℕ) (done : Bool) (a : Slot S) → done ≡ true → HoldsUp look server g most done a → Stands look server g most a
@@ -80,7 +72,7 @@ down-stands look server g most Gone h = h
 
 -- after a restart
 pub came-there : {S : Type 0} (look : S → StoreView) (server : ServerNo) (g : Counts) (a : Slot S) (r : Restarted) → CameUp look server g a r → is_there a ≡ true
-came-there {S} look server g a (came.Up found) h = by a h
+came-there {S} look server g a (came.Up epoch tids) h = by a h
   where
     by : (a : Slot S) → HoldsUp look server g 0 true a → is_there a ≡ true
     by (Up p) k = refl
@@ -95,7 +87,7 @@ came-stands-by look server g most (Down s) h = absurd h
 came-stands-by look server g most Gone h = absurd h
 
 pub came-stands : {S : Type 0} (look : S → StoreView) (server : ServerNo) (g : Counts) (most : ℕ) (a : Slot S) (r : Restarted) → CameUp look server g a r → Stands look server g most a
-came-stands look server g most a (came.Up found) h = came-stands-by look server g most a h
+came-stands look server g most a (came.Up epoch tids) h = came-stands-by look server g most a h
 came-stands look server g most a came.Stopped h = down-stands look server g most a h
 came-stands look server g most a came.UsedUp h = down-stands look server g most a h
 

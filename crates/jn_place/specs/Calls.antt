@@ -11,8 +11,6 @@ use Rattle.jn_place.specs.declared.place.Restarted.{Restarted}
 use Rattle.jn_place.specs.declared.place.Restarted.TheVariants as came
 use Rattle.jn_place.specs.declared.place.Slot.{Slot}
 use Rattle.jn_place.specs.declared.place.Slot.TheVariants.{Up, Down, Gone}
-use Rattle.jn_place.specs.declared.place.Work.{Work}
-use Rattle.jn_place.specs.declared.place.Work.TheVariants as works
 use Rattle.jn_within.specs.Taking.{AllCanBeTaken}
 use Rattle.jn_place.specs.Places.{IsPlace, HoldsUp, IsDownAt}
 
@@ -42,19 +40,9 @@ abbrev pub LeavesStore : {S : Type 0} → Slot S → Slot S → Type 0
 LeavesStore (Up p) (Down s) = s ≡ p.storage.0
 LeavesStore a b = ⊥
 
--- a background step: nothing was to do, or it was done or stopped
-abbrev pub Worked : {S : Type 0} → (S → StoreView) → Slot S → Slot S → Work → Type 0
-Worked look before after works.Idle = Called look 0 true before after
-Worked look before after (works.Done out) = Answered look before after (Some out)
-Worked look before after works.Stopped = Answered look before after None
-
-abbrev pub is_done : Work → Bool
-is_done works.Stopped = false
-is_done work = true
-
 -- a restart: the server is up and has drawn no name yet, or it is down
 abbrev pub CameUp : {S : Type 0} → (S → StoreView) → ServerNo → Counts → Slot S → Restarted → Type 0
-CameUp look server g after (came.Up found) = HoldsUp look server g 0 true after
+CameUp look server g after (came.Up epoch tids) = HoldsUp look server g 0 true after
 CameUp look server g after came.Stopped = IsDownAt look server g after
 CameUp look server g after came.UsedUp = IsDownAt look server g after
 
@@ -62,9 +50,3 @@ CameUp look server g after came.UsedUp = IsDownAt look server g after
 abbrev pub Left : {S : Type 0} → (S → StoreView) → ServerNo → ℕ → Place S → Option Collected → Type 0
 Left look server most p (Some out) = IsPlace look server (most + length out.messages) p × AllCanBeTaken out.messages
 Left look server most p None = IsPlace look server most p
-
--- a background step
-abbrev pub LeftBy : {S : Type 0} → (S → StoreView) → ServerNo → ℕ → Place S → Work → Type 0
-LeftBy look server most p works.Idle = IsPlace look server most p
-LeftBy look server most p (works.Done out) = Left look server most p (Some out)
-LeftBy look server most p works.Stopped = IsPlace look server most p

@@ -1,5 +1,9 @@
 -- What each call of a place does, exactly: to the server, to its device, and in lines.
-use Rattle.std.specs.Prelude.{◌≡◌, ◌<◌, ◌+◌, ℕ, suc, Bool, true, false, ⊤, if◌then◌else◌, List, [], ◌∷◌, ◌++◌, map, Option, Some, None, is_some}
+use Rattle.std.specs.Prelude.{◌≡◌, ◌<◌, ◌+◌, ℕ, Bool, true, false, ⊤, if◌then◌else◌, List, [], ◌∷◌, ◌++◌, map, Option, Some, None, is_some}
+use Rattle.std.specs.Global.{Vec}
+use Rattle.jn_base.specs.declared.names.BlockNo.{BlockNo}
+use Rattle.jn_base.specs.declared.names.FileNo.{FileNo}
+use Rattle.jn_base.specs.declared.names.LockUnit.TheVariants.{Block}
 use Rattle.jn_base.specs.declared.names.ServerNo.{ServerNo}
 use Rattle.jn_base.specs.declared.names.Tid.{Tid}
 use Rattle.jn_base.specs.declared.names.WorkId.{WorkId}
@@ -24,18 +28,20 @@ use Rattle.jn_report.specs.declared.line.Line.{Line}
 use Rattle.jn_rows.specs.Coordinator.{close_clients_row}
 use Rattle.jn_rows.specs.Outcomes.{RowOutcome}
 use Rattle.jn_machine.specs.Steps.{with_epoch}
-use Rattle.jn_rows.specs.Stable.{StableState, Pick, IsStopState, made_all}
+use Rattle.jn_rows.specs.Stable.{Pick, IsStopState, made_all}
 use Rattle.jn_rows.specs.Worker.{timeout_row}
 use Rattle.jn_server.specs.declared.show.Shown.{Shown}
 use Rattle.jn_server.specs.Seen.{Parts, ServerView, view_with, memory_of, room_of}
 use Rattle.jn_server.specs.Showing.{print_of}
+use Rattle.jn_server.specs.Standing.{IsRoomOfPages}
 use Rattle.jn_storage.specs.Calls.{state}
 use Rattle.jn_store.specs.Pairs.{pairs_view}
-use Rattle.jn_store.specs.Store.{StoreView, StoreLater}
+use Rattle.jn_store.specs.Store.{StoreView, StoreLater, IsCalm}
 use Rattle.jn_place.specs.declared.place.Restarted.{Restarted}
 use Rattle.jn_place.specs.declared.place.Restarted.TheVariants as came
 use Rattle.jn_place.specs.declared.place.Slot.{Slot}
 use Rattle.jn_place.specs.declared.place.Slot.TheVariants.{Up, Down, Gone}
+use Rattle.jn_place.specs.Places.{is_up}
 
 -- ---- the device
 
@@ -108,6 +114,11 @@ has_work_at look (Up p) = is_some (work_of (view_with look p))
 has_work_at look (Down s) = false
 has_work_at look Gone = false
 
+-- what its rows read of the storage is what stands on its pages
+abbrev pub ReadsPages : {S : Type 0} → (S → StoreView) → Slot S → Type 0
+ReadsPages look (Up p) = IsRoomOfPages (view_with look p)
+ReadsPages look before = ⊥
+
 -- it made a background step
 pub record IsWorked {S : Type 0} (look : S → StoreView) (device : S → DeviceState) (q : ServerNo) (g : Counts) (when : When) (p : Parts S) (answer : Option Collected) (after : Slot S) (lines lines' : List Line) : Type 0 where
   pub row : RowOutcome Memory
@@ -124,10 +135,19 @@ abbrev pub ScrubbedBy : {S : Type 0} → (S → StoreView) → (S → DeviceStat
 ScrubbedBy look device q g when (Up p) done after lines lines' = IsStepOf look device q g when (idle_row (memory_of (view_with look p))) (Up p) done after lines lines'
 ScrubbedBy look device q g when before done after lines lines' = ⊥
 
--- what it told of its files; each block of which there is something to print is one of the 120
+-- each block of which there is something to print is one of the 120
+abbrev pub PrintsInRange : ServerView → Type 0
+PrintsInRange v = (f : FileNo) (b : BlockNo) → is_some (prints_in v.worker.table (state v.storage).files (Block f b)) ≡ true → b.0 < 120
+
+-- what it told of its files
 abbrev pub Prints : ServerView → Option (List Shown) → Type 0
 Prints v None = ⊤
-Prints v (Some list) = ArePrints (prints_in v.worker.table (state v.storage).files) (map print_of list)
+Prints v (Some list) = ArePrints (prints_in v.worker.table (state v.storage).files) (map print_of list) × PrintsInRange v
+
+-- the items of a list that was told
+abbrev pub items_of : Option (Vec Shown) → Option (List Shown)
+items_of None = None
+items_of (Some list) = Some list.items
 
 abbrev pub Showed : {S : Type 0} → (S → StoreView) → (S → DeviceState) → ServerNo → Counts → When → Slot S → Option (List Shown) → Slot S → List Line → List Line → Type 0
 Showed look device q g when (Up p) list after lines lines' =
@@ -224,3 +244,23 @@ abbrev pub Befell : {S : Type 0} → (S → StoreView) → (S → DeviceState) �
 Befell look device g becomes (Up p) (Up p') = IsSameAt look g (Up p) (Up p') × becomes (device p.storage.0) (device p'.storage.0)
 Befell look device g becomes (Down s) (Down s') = IsSameAt look g (Down s) (Down s') × becomes (device s) (device s')
 Befell look device g becomes before after = ⊥
+
+-- ---- while no fault waits
+
+-- none waits, and below a server that is up there is power
+abbrev pub IsCalmAt : {S : Type 0} → (S → StoreView) → Slot S → Type 0
+IsCalmAt look (Up p) = IsCalm (look p.storage.0)
+IsCalmAt look (Down s) = (look s).waiting ≡ []
+IsCalmAt look Gone = ⊥
+
+-- then a call is done, the server is up afterwards, and none waits
+abbrev pub StaysCalm : {S : Type 0} → (S → StoreView) → Slot S → Bool → Slot S → Type 0
+StaysCalm look before done after = IsCalmAt look before → (done ≡ true) × (is_up after ≡ true) × IsCalmAt look after
+
+-- and a restart isn't stopped
+abbrev pub is_stopped : Restarted → Bool
+is_stopped came.Stopped = true
+is_stopped restarted = false
+
+abbrev pub ComesCalm : {S : Type 0} → (S → StoreView) → Slot S → Restarted → Slot S → Type 0
+ComesCalm look before restarted after = IsCalmAt look before → (is_stopped restarted ≡ false) × IsCalmAt look after

@@ -7,5 +7,5 @@
 mod place;
 mod telling;
 
-pub use place::{Place, Restarted, Slot, Work};
+pub use place::{Place, Restarted, Slot};
 pub use telling::tell;

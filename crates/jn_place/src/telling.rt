@@ -1,5 +1,6 @@
 //! Lines of a step.
-ghost use Rattle.std.specs.Prelude.{◌≡◌, ◌++◌, ◌∷◌, [], OnOk};
+ghost use Rattle.std.specs.Prelude.{◌≡◌, ◌++◌, ◌∷◌, [], true, OnOk};
+ghost use Rattle.jn_place.specs.Exact.{lines_at, texts_of_step};
 
 use jn_base::{Outside, ServerNo};
 use jn_report::{Line, Text, When};
@@ -19,7 +20,9 @@ pub fn tell_faults(
     when: When,
     server: ServerNo,
     faults: &[Outside],
-) -> Result<(), AllocError> {
+) -> Result<(), AllocError>
+    ensures { OnOk result (lines.new.items ≡ lines.old.items ++ lines_at when (texts_of_step server faults.now true)) }
+{
     for fault in faults {
         tell(lines, when, Text::Outside(server, *fault))?;
     }

@@ -1,5 +1,5 @@
 -- A store is cleaned and read.
-use Rattle.std.proofs.Common.{◌≡◌, ◌≢◌, ◌<◌, ◌≤◌, ◌+◌, ◌*◌, ℕ, Bool, true, false, if◌then◌else◌, List, [], length, Result, Ok, Err, refl, sym, ◌∙◌, ap, subst, arith}
+use Rattle.std.proofs.Common.{◌≡◌, ◌≢◌, ◌<◌, ◌≤◌, ◌+◌, ◌*◌, ℕ, Bool, true, false, if◌then◌else◌, List, [], length, Result, Ok, Err, refl, sym, ◌∙◌, ap, subst, true≢false, arith}
 use Rattle.std.proofs.lemmas.Bool.Decides.{nat_tests}
 use Rattle.std.specs.Prelude.{nat_lt}
 use Rattle.jn_base.specs.declared.names.ServerNo.{ServerNo}
@@ -92,10 +92,10 @@ module _ (server : ServerNo) (g : Counts) (v : StoreView) where
       stop_down : IsStop u w → (IsCalm u → ⊥) → IsDown server g v Stopped w
       stop_down stop calm = stopped_down server g v w recovering (stop_since v u w before.later later stop) (λ quiet. calm (before.later.calm quiet))
 
-      root_down : (cause : DownCause) → RootRead (root_by server g (root_epoch server g u before.recoverable before.clean)) (Err cause) → (cause ≡ Stopped → IsStop u w) → (IsCalm u → cause ≡ Stopped → ⊥) → IsDown server g v cause w
-      root_down Stopped read stop calm = stop_down (stop refl) (λ quiet. calm quiet refl)
-      root_down Memory read stop calm = absurd read
-      root_down EpochsUsedUp read stop calm = used_down server g v w recovering (record { read = root_pick.0; last = root_pick.1 ∙ read; fewer = (reads_more k w later calls same).fewer; all = λ c. root_by_each w later same c ∙ read })
+      root_down : (cause : DownCause) → RootRead (root_by server g (root_epoch server g u before.recoverable before.clean)) (Err cause) → (cause ≡ Stopped → IsStop u w) → (IsCalm u → cause ≡ Stopped → ⊥) → (cause ≡ EpochsUsedUp → w.power ≡ true) → IsDown server g v cause w
+      root_down Stopped read stop calm served = stop_down (stop refl) (λ quiet. calm quiet refl)
+      root_down Memory read stop calm served = absurd read
+      root_down EpochsUsedUp read stop calm served = used_down server g v w recovering (record { read = root_pick.0; last = root_pick.1 ∙ read; fewer = (reads_more k w later calls same).fewer; all = λ c. root_by_each w later same c ∙ read; power = served refl })
 
       sets_down : IsNotUsedUp g v → (fault : SetsFault) → (fault ≡ SetsStopped → IsStop u w) → (IsCalm u → fault ≡ SetsStopped → ⊥) → IsDown server g v (of_sets fault) w
       sets_down left SetsStopped stop calm = stop_down (stop refl) (λ quiet. calm quiet refl)
@@ -139,9 +139,13 @@ module _ (server : ServerNo) (g : Counts) (v : StoreView) (before : IsRecoverabl
   root_read : RootRead (root_by server g its_epoch) r
   root_read = root (root_by server g its_epoch) (root_is server g u cleaned.recoverable cleaned.clean) (root_only server g u cleaned.recoverable cleaned.clean)
 
-  pub root_exit : (cause : DownCause) → r ≡ Err cause → (r ≡ Err Stopped → IsStop u x) → (IsCalm u → r ≢ Err Stopped) → IsDown server g v cause x
-  root_exit cause is stop calm = root_down server g v (16 * page_count g) u cleaned (8 * 1) x read.later read.calls read.same (omega arith) before cause (subst (RootRead (root_by server g its_epoch)) is root_read)
-      (λ e. stop (is ∙ ap (λ (k : DownCause). Err k) e)) (λ quiet e. calm quiet (is ∙ ap (λ (k : DownCause). Err k) e))
+  abbrev is_last : Result Root DownCause → Bool
+  is_last (Err EpochsUsedUp) = true
+  is_last _ = false
+
+  pub root_exit : (cause : DownCause) → r ≡ Err cause → (r ≡ Err Stopped → IsStop u x) → (IsCalm u → r ≢ Err Stopped) → (r ≢ Err Stopped → IsServed u x) → IsDown server g v cause x
+  root_exit cause is stop calm served = root_down server g v (16 * page_count g) u cleaned (8 * 1) x read.later read.calls read.same (omega arith) before cause (subst (RootRead (root_by server g its_epoch)) is root_read)
+      (λ e. stop (is ∙ ap (λ (k : DownCause). Err k) e)) (λ quiet e. calm quiet (is ∙ ap (λ (k : DownCause). Err k) e)) (λ e. (served (λ k. true≢false (sym (ap is_last (is ∙ ap (λ (k : DownCause). Err k) e)) ∙ ap is_last k))).power)
 
   module _ (o : Root) (is : r ≡ Ok o) where
     good : (o ≡ root_by server g its_epoch) × (its_epoch < 4294967295)
