@@ -1,5 +1,5 @@
 -- Where the code's clients, servers and network stand as the written machine does.
-use Rattle.std.specs.Prelude.{◌≡◌, ◌×◌, ℕ, suc, Bool, true, false, ⊥, ◌||◌, nat_lt, ◌&&◌, List, [], ◌∷◌, ◌++◌, map, length, slice_get, Option, Some, None}
+use Rattle.std.specs.Prelude.{◌≡◌, ℕ, suc, ◌+◌, Bool, true, false, ◌||◌, nat_lt, ◌&&◌, List, [], ◌∷◌, ◌++◌, map, length, slice_get, Option, Some, None}
 use Rattle.jn_base.specs.declared.names.ServerNo.{ServerNo}
 use Rattle.jn_base.specs.declared.names.ClientNo.{ClientNo}
 use Rattle.jn_base.specs.declared.names.Party.{Party}
