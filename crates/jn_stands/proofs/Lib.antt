@@ -1,0 +1,4 @@
+pub mod Placed
+pub mod Lines
+pub mod Made
+pub mod Core
