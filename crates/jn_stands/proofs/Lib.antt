@@ -2,3 +2,4 @@ pub mod Placed
 pub mod Lines
 pub mod Made
 pub mod Core
+pub mod Servers
