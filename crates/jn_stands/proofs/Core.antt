@@ -1,16 +1,19 @@
 -- From the next task to where the code stands once it is done.
-use Rattle.std.proofs.Common.{◌≡◌, ◌≤◌, ◌<◌, ℕ, suc, Bool, true, false, List, [], ◌∷◌, ◌++◌, length, slice_get, drop, append-nil, Some, refl, sym, ◌∙◌, ap, subst}
+use Rattle.std.proofs.Common.{◌≡◌, ◌≤◌, ◌<◌, ℕ, suc, Bool, true, false, List, [], ◌∷◌, ◌++◌, length, slice_get, drop, append-nil, Option, Some, refl, sym, ◌∙◌, ap, subst}
 use Rattle.jn_base.specs.declared.names.ServerNo.{ServerNo}
 use Rattle.jn_base.specs.declared.names.ClientNo.{ClientNo}
 use Rattle.jn_base.specs.declared.names.Tid.{Tid}
+use Rattle.jn_base.specs.declared.device.Outside.{Outside}
 use Rattle.jn_device.specs.Device.{DeviceState}
 use Rattle.jn_net.specs.Carried.{Carried}
 use Rattle.jn_place.specs.declared.place.Place.{Place}
 use Rattle.jn_protocol.specs.World.{World, commits_in, has_line}
 use Rattle.jn_protocol.specs.Steps.{Step, run, IsRun}
+use Rattle.jn_records.specs.declared.net_list.Need.{Need}
 use Rattle.jn_report.specs.declared.line.Line.{Line}
 use Rattle.jn_rests.specs.Waiting.{Carries}
 use Rattle.jn_rows.specs.Client.{ClientTable, new_table}
+use Rattle.jn_rows.specs.Stable.{Pick}
 use Rattle.jn_schedule.specs.declared.Event.{Event}
 use Rattle.jn_settling.specs.Course.{Course, go, go_on}
 use Rattle.jn_store.specs.Store.{StoreView}
@@ -28,6 +31,13 @@ use Rattle.jn_written.proofs.Named.{names}
 use Rattle.jn_stands.specs.Stands.{Standing, is_client, PlaceStands, Stands}
 use Rattle.jn_stands.specs.Going.{ActsNext, IsStepTo}
 use Rattle.jn_stands.proofs.Made.{Makes, made-leads, made-cuts, carried-length, not-too-much, too-much}
+
+-- a chance of a step that tells these faults, and perhaps is stopped
+abbrev pub chance-of : Setup → Devices → Need → List Outside → Option (Pick → ℕ) → Chance
+chance-of x ds free told stop = record { free = free; rubbish = rubbish_on x ds; stop = stop; told = told; allows = true; finds = λ c. c; works = []; tids = []; files = [] }
+
+abbrev pub no-need : Need
+no-need = record { records = 0; heads = 0; pages = 0 }
 
 pub run-is : (steps : List Step) (c : Course) → (go_on steps c).world ≡ run steps c.world
 run-is [] c = refl

@@ -3,3 +3,5 @@ pub mod Lines
 pub mod Made
 pub mod Core
 pub mod Servers
+pub mod Posted
+pub mod Served
