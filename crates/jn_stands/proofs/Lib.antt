@@ -5,3 +5,4 @@ pub mod Core
 pub mod Servers
 pub mod Posted
 pub mod Served
+pub mod ServedSteps

@@ -72,10 +72,10 @@ module _ {S : Type 0} (look : S → StoreView) (device : S → DeviceState) (see
     abbrev v-found : Pick → StableState
     v-found = (view_with look p).storage.found
 
-    here : StandsAt look device (counts_by place.counts) (Up p) (m.state.course.world.memory q) (m.state.course.world.found q) (m.devices q)
+    pub here : StandsAt look device (counts_by place.counts) (Up p) (m.state.course.world.memory q) (m.state.course.world.found q) (m.devices q)
     here = let there = stand.places q.0 place at in subst (λ (slot : Slot S). StandsAt look device (counts_by place.counts) slot (m.state.course.world.memory q) (m.state.course.world.found q) (m.devices q)) is there.stands
 
-    counts-are : x.counts q ≡ counts_by place.counts
+    pub counts-are : x.counts q ≡ counts_by place.counts
     counts-are = let there = stand.places q.0 place at in there.counts
 
     reads-here : ReadsPages look device (counts_by place.counts) (Up p)
@@ -102,7 +102,7 @@ module _ {S : Type 0} (look : S → StoreView) (device : S → DeviceState) (see
     devices-there : (slot : Slot S) (s : ServerNo) → server_eq q s ≡ false → devices-with slot s ≡ m.devices s
     devices-there slot s e = ap (λ (b : Bool). if b then device-at slot else m.devices s) e
 
-    called : (told : List Outside) (stop : Option (Pick → ℕ)) (power : Bool) (slot : Slot S) → is_some stop ≡ not power → IsSpent told power (device p.storage.0) (device-at slot)
+    pub called : (told : List Outside) (stop : Option (Pick → ℕ)) (power : Bool) (slot : Slot S) → is_some stop ≡ not power → IsSpent told power (device p.storage.0) (device-at slot)
         → Alone q (IsServed (x.counts q) (chance told stop) m.state.course.world q) m.devices (devices-with slot)
     called told stop power slot e spent = record {
       its = record {
@@ -123,7 +123,7 @@ module _ {S : Type 0} (look : S → StoreView) (device : S → DeviceState) (see
     -- ---- the server afterwards
 
     module _ (row : RowOutcome Memory) (k : Option ℕ) (told : List Outside) where
-      done-here : (last : Moment) (p' : Parts S) → IsDoneAt look device told row p p' → HasCounts (counts_by place.counts) (Up p')
+      pub done-here : (last : Moment) (p' : Parts S) → IsDoneAt look device told row p p' → HasCounts (counts_by place.counts) (Up p')
           → last.state.course.world ≡ done q k row m.state.course.world → last.devices ≡ devices-with (Up p') → IsAlone look device seen x w m stand last q (counts_by place.counts) (Up p')
       done-here last p' e counts world ds = record {
         memory = λ s o. ap (λ (u : World). u.memory s) world ∙ ap (λ (b : Bool). if b then Some row.table else m.state.course.world.memory s) o;
@@ -137,10 +137,10 @@ module _ {S : Type 0} (look : S → StoreView) (device : S → DeviceState) (see
         counts = counts;
       }
 
-      abbrev made-by : (s : S) → IsStoppedAt look device (counts_by place.counts) told row p s → Pick → ℕ
+      abbrev pub made-by : (s : S) → IsStoppedAt look device (counts_by place.counts) told row p s → Pick → ℕ
       made-by s e c = let some = e.some c in some.made
 
-      stopped-here : (last : Moment) (s : S) (e : IsStoppedAt look device (counts_by place.counts) told row p s)
+      pub stopped-here : (last : Moment) (s : S) (e : IsStoppedAt look device (counts_by place.counts) told row p s)
           → last.state.course.world ≡ stopped q (made-by s e) row m.state.course.world → last.devices ≡ devices-with (Down s) → IsAlone look device seen x w m stand last q (counts_by place.counts) (Down s)
       stopped-here last s e world ds = record {
         memory = λ r o. ap (λ (u : World). u.memory r) world ∙ ap (λ (b : Bool). if b then None else m.state.course.world.memory r) o;
