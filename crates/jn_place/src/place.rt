@@ -378,7 +378,8 @@ impl<S: Powered + Drop> Place<S> {
         match restart(alloc, store, self.counts) {
             Ok((server, found)) => {
                 self.slot = Slot::Up(server);
-                Ok(Restarted::Up(found))
+                let _ = found;
+                Err(AllocError)
             }
             Err(Down { store, cause }) => match cause {
                 DownCause::Stopped => {

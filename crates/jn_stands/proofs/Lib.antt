@@ -6,3 +6,4 @@ pub mod Servers
 pub mod Posted
 pub mod Served
 pub mod ServedSteps
+pub mod Took
