@@ -7,3 +7,4 @@ pub mod Posted
 pub mod Served
 pub mod ServedSteps
 pub mod Took
+pub mod Plain

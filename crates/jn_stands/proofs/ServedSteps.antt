@@ -37,17 +37,13 @@ use Rattle.jn_stands.specs.Stands.{Standing, Stands, posted_by, texts_sent, with
 use Rattle.jn_stands.specs.Pages.{HasCounts, ReadsPages}
 use Rattle.jn_stands.specs.Going.{ActsNext, IsStepTo}
 use Rattle.jn_stands.proofs.Made.{carried-length}
-use Rattle.jn_stands.proofs.Posted.{sent-posted, new-posted, texts-are, lines-in-two}
+use Rattle.jn_stands.proofs.Posted.{sent-posted, new-posted, none-traced, texts-are, lines-in-two}
 use Rattle.jn_stands.proofs.Core.{NetStands, PartsStand, last-of, step-made}
 use Rattle.jn_stands.proofs.Servers.{server-moved, clients-same, net-moved}
 use Rattle.jn_stands.proofs.Served.{chance, devices-with, called, made-by, done-here, stopped-here}
 
 in-order : (faults own sent more : List Text) → sent ≡ more → faults ++ own ++ [] ++ sent ≡ faults ++ [] ++ (own ++ more)
 in-order faults own sent more e = ap (λ (ts : List Text). ts ++ sent) (append-nil (faults ++ own)) ∙ ap (λ (ts : List Text). faults ++ own ++ ts) e ∙ append_assoc faults own more ∙ ap (λ (ts : List Text). ts ++ (own ++ more)) (sym (append-nil faults))
-
-none-traced : (trace : Bool) → traced trace [] ≡ []
-none-traced true = refl
-none-traced false = refl
 
 module _ {S : Type 0} (look : S → StoreView) (device : S → DeviceState) (seen : (s : S) → look s ≡ pairs_view (device s)) (x : Setup) (w : Standing S) (m : Moment) (stand : Stands look device x w m)
   (q : ServerNo) (place : Place S) (at : slice_get w.places q.0 ≡ Some place) (p : Parts S) (is : place.slot ≡ Up p) (reads : ReadsPages look device (counts_by place.counts) place.slot)

@@ -1,3 +1,4 @@
 pub mod Stands
 pub mod Going
 pub mod Pages
+pub mod Clients
