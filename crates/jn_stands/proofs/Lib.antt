@@ -8,3 +8,5 @@ pub mod Served
 pub mod ServedSteps
 pub mod Took
 pub mod Plain
+pub mod Clients
+pub mod ClientSteps
