@@ -10,3 +10,8 @@ pub mod Took
 pub mod Plain
 pub mod Clients
 pub mod ClientSteps
+pub mod Commands
+pub mod Losing
+pub mod Nudging
+pub mod Working
+pub mod RestNext

@@ -51,7 +51,7 @@ use Rattle.jn_stands.proofs.Posted.{sent-posted, new-posted, texts-are, lines-in
 use Rattle.jn_stands.proofs.Core.{chance-of, last-of, step-made}
 use Rattle.jn_stands.proofs.Servers.{IsAlone, server-moved, clients-same, net-moved}
 
-same-server : (q : ServerNo) → server_eq q q ≡ true
+pub same-server : (q : ServerNo) → server_eq q q ≡ true
 same-server q = grind (arith, nat_tests)
 
 -- ---- what is given
