@@ -4,36 +4,32 @@ use Rattle.std.specs.Prelude.{if◌then◌else◌}
 use Rattle.std.proofs.lemmas.Bool.Decides.{nat_tests}
 use Rattle.std.proofs.Common.{arith}
 use Rattle.jn_base.specs.declared.names.ClientNo.{ClientNo}
-use Rattle.jn_base.specs.declared.names.Party.{Party}
 use Rattle.jn_base.specs.declared.names.Party.TheVariants.{Client}
-use Rattle.jn_base.specs.declared.op.Command.{Command}
 use Rattle.jn_base.specs.Names.{client_eq}
 use Rattle.jn_device.specs.Device.{DeviceState}
-use Rattle.jn_msgs.specs.declared.message.Message.{Message}
 use Rattle.jn_net.specs.declared.Sent.{Sent as Posted}
 use Rattle.jn_net.specs.Carried.{with_delivered}
-use Rattle.jn_protocol.specs.Steps.{Step, Tell, Again, Deliver, after, commanded, sent_now, took, taken_by, handed}
-use Rattle.jn_protocol.specs.World.{World, at_client, commits_in}
-use Rattle.jn_report.specs.declared.line.Text.{Text}
+use Rattle.jn_protocol.specs.Steps.{Deliver, after, took, taken_by, handed}
+use Rattle.jn_protocol.specs.World.{World, at_client}
 use Rattle.jn_report.specs.declared.line.Line.{Line}
 use Rattle.jn_rows.specs.declared.client.Taken.{Taken}
 use Rattle.jn_rows.specs.declared.client.Taken.TheVariants as taken
-use Rattle.jn_rows.specs.Client.{ClientTable, new_table, Commanded, Refuses, Sends, command_row, take_row, again_row}
+use Rattle.jn_rows.specs.Client.{ClientTable, new_table, take_row}
 use Rattle.jn_rows.specs.Outcomes.{Sent}
 use Rattle.jn_schedule.specs.declared.Event.TheVariants as events
 use Rattle.jn_store.specs.Pairs.{pairs_view}
 use Rattle.jn_store.specs.Store.{StoreView}
 use Rattle.jn_within.specs.Taking.{sent_for}
-use Rattle.jn_written.specs.Chances.{Setup, Chance}
-use Rattle.jn_written.specs.Deeds.{Deed, plain, delivered, no_room}
+use Rattle.jn_written.specs.Chances.{Setup}
+use Rattle.jn_written.specs.Deeds.{plain, delivered, no_room}
 use Rattle.jn_written.specs.Runs.{Moment}
 use Rattle.jn_written.specs.Steps.{message_texts, traced, lines_at}
 use Rattle.jn_written.specs.Tasks.{Task, when_of}
 use Rattle.jn_stands.specs.Stands.{Standing, is_client, Stands, posted_by, with_sent}
-use Rattle.jn_stands.specs.Clients.{with_client, texts_taken, texts_commanded, sent_commanded, table_commanded}
+use Rattle.jn_stands.specs.Clients.{with_client, texts_taken}
 use Rattle.jn_stands.specs.Going.{ActsNext, IsStepTo}
-use Rattle.jn_stands.proofs.Core.{ServersStand, ClientsStand}
-use Rattle.jn_stands.proofs.Servers.{servers-same, clients-same}
+use Rattle.jn_stands.proofs.Core.{ClientsStand}
+use Rattle.jn_stands.proofs.Servers.{servers-same}
 use Rattle.jn_stands.proofs.Clients.{one-of, client-moved, other-stays, taken-none, new-stays}
 use Rattle.jn_stands.proofs.Plain.{no-chance, plain-step}
 use Rattle.jn_stands.proofs.Took.{is-sent}
@@ -64,8 +60,7 @@ module _ {S : Type 0} (look : S → StoreView) (device : S → DeviceState) (see
   -- ---- messages
 
   module _ (k : ℕ) (one : Posted) (posted : slice_get w.net.sent k ≡ Some one) (c : ClientNo) (to : one.to ≡ Client c) (more : List Task) (next : ActsNext x m (events.Deliver k) more)
-    (t : ClientTable) (here : v.clients c ≡ t) where
-
+      (t : ClientTable) (here : v.clients c ≡ t) where
     abbrev what : Taken
     what = (take_row t one.message).1
 
@@ -86,7 +81,7 @@ module _ {S : Type 0} (look : S → StoreView) (device : S → DeviceState) (see
 
     takes : (ts : List ClientTable) → ClientsStand x ts (after (Deliver k no_room) v) → (lines : List Line)
         → IsStepTo look device x m (more ++ drop 1 m.state.tasks) (with_sent (posted_by (Client c) (sent_for what)) (record w { clients = ts; net = record w.net { sent = with_delivered k w.net.sent } }))
-            lines (lines ++ lines_at (when_of m.state) (texts_taken k what ++ traced w.trace (message_texts (Client c) (length w.net.sent) (sent_for what))))
+        lines (lines ++ lines_at (when_of m.state) (texts_taken k what ++ traced w.trace (message_texts (Client c) (length w.net.sent) (sent_for what))))
     takes ts clients lines = plain-step look device seen x w m stand (events.Deliver k) more next (Client c) (Deliver k no_room) acts tt (sent_for what) (texts_taken k what) (taken-none k t one.message) so.sent so.lines
         w.places (servers-same look device seen x w m stand _ (record { memory = λ q. ap (λ f. f q) so.memory; found = λ q. ap (λ f. f q) so.found; devices = λ q. refl })) ts clients (with_delivered k w.net.sent) refl lines
 
@@ -97,16 +92,16 @@ module _ {S : Type 0} (look : S → StoreView) (device : S → DeviceState) (see
   pub client-took-step : (k : ℕ) (one : Posted) → slice_get w.net.sent k ≡ Some one → (c : ClientNo) → one.to ≡ Client c → is_client c.0 ≡ true → (t : ClientTable) → slice_get w.clients (c.0 - 1) ≡ Some t
       → (more : List Task) → ActsNext x m (events.Deliver k) more → (lines : List Line)
       → IsStepTo look device x m (more ++ drop 1 m.state.tasks)
-          (with_sent (posted_by (Client c) (sent_for (take_row t one.message).1)) (with_client c (take_row t one.message).0 (record w { net = record w.net { sent = with_delivered k w.net.sent } })))
-          lines (lines ++ lines_at (when_of m.state) (texts_taken k (take_row t one.message).1 ++ traced w.trace (message_texts (Client c) (length w.net.sent) (sent_for (take_row t one.message).1))))
+      (with_sent (posted_by (Client c) (sent_for (take_row t one.message).1)) (with_client c (take_row t one.message).0 (record w { net = record w.net { sent = with_delivered k w.net.sent } })))
+      lines (lines ++ lines_at (when_of m.state) (texts_taken k (take_row t one.message).1 ++ traced w.trace (message_texts (Client c) (length w.net.sent) (sent_for (take_row t one.message).1))))
   client-took-step k one posted c to is t at more next lines = takes k one posted c to more next t (here-of c is t at) _
       (client-moved look device seen x w m stand c is (take_row t one.message).0 (after (Deliver k no_room) v) (table-here k one posted c to more next t (here-of c is t at)) (table-there k one posted c to more next t (here-of c is t at))) lines
 
   -- another one is as new, and stays so
   pub other-took-step : (k : ℕ) (one : Posted) → slice_get w.net.sent k ≡ Some one → (c : ClientNo) → one.to ≡ Client c → is_client c.0 ≡ false → (more : List Task) → ActsNext x m (events.Deliver k) more → (lines : List Line)
       → IsStepTo look device x m (more ++ drop 1 m.state.tasks)
-          (with_sent (posted_by (Client c) (sent_for (take_row (new_table c x.servers) one.message).1)) (record w { net = record w.net { sent = with_delivered k w.net.sent } }))
-          lines (lines ++ lines_at (when_of m.state) (texts_taken k (take_row (new_table c x.servers) one.message).1 ++ traced w.trace (message_texts (Client c) (length w.net.sent) (sent_for (take_row (new_table c x.servers) one.message).1))))
+      (with_sent (posted_by (Client c) (sent_for (take_row (new_table c x.servers) one.message).1)) (record w { net = record w.net { sent = with_delivered k w.net.sent } }))
+      lines (lines ++ lines_at (when_of m.state) (texts_taken k (take_row (new_table c x.servers) one.message).1 ++ traced w.trace (message_texts (Client c) (length w.net.sent) (sent_for (take_row (new_table c x.servers) one.message).1))))
   other-took-step k one posted c to is more next lines = takes k one posted c to more next (new_table c x.servers) (stand.other_clients c is) w.clients
       (other-stays look device seen x w m stand c is (after (Deliver k no_room) v) (table-here k one posted c to more next (new_table c x.servers) (stand.other_clients c is) ∙ new-stays c x.servers one.message)
-          (table-there k one posted c to more next (new_table c x.servers) (stand.other_clients c is))) lines
+      (table-there k one posted c to more next (new_table c x.servers) (stand.other_clients c is))) lines

@@ -1,6 +1,6 @@
 -- Where clients stand, and what they tell.
-use Rattle.std.proofs.Common.{◌≡◌, ◌⊎◌, inl, inr, ◌≢◌, ◌<◌, ◌-◌, ℕ, suc, Bool, true, false, List, [], ◌∷◌, length, slice_get, slice_set, Option, Some, None, refl, sym, ◌∙◌, ap, subst, arith}
-use Rattle.std.specs.Prelude.{◌&&◌, nat_lt, nat_eq, if◌then◌else◌}
+use Rattle.std.proofs.Common.{◌≡◌, ◌⊎◌, inl, inr, ◌≢◌, ◌-◌, ℕ, suc, Bool, true, false, [], ◌∷◌, slice_get, slice_set, Option, Some, None, refl, sym, ◌∙◌, ap, subst, arith}
+use Rattle.std.specs.Prelude.{◌&&◌, nat_lt, if◌then◌else◌}
 use Rattle.std.proofs.lemmas.List.{length-set}
 use Rattle.std.proofs.lemmas.Bool.Decides.{nat_tests}
 use Rattle.jn_base.specs.declared.names.ClientNo.{ClientNo}
@@ -15,7 +15,7 @@ use Rattle.jn_msgs.specs.declared.message.Message.{Message}
 use Rattle.jn_msgs.specs.declared.message.Message.TheVariants as messages
 use Rattle.jn_msgs.specs.declared.message.Outcome.{Outcome}
 use Rattle.jn_msgs.specs.declared.message.Outcome.TheVariants.{Committed, Aborted, Waiting, NotKnown}
-use Rattle.jn_protocol.specs.World.{World, commits_in, committed_in}
+use Rattle.jn_protocol.specs.World.{World, commits_in}
 use Rattle.jn_report.specs.declared.line.Text.{Text}
 use Rattle.jn_rows.specs.declared.client.Outstanding.{Outstanding}
 use Rattle.jn_rows.specs.declared.client.Taken.{Taken}

@@ -1,5 +1,5 @@
 -- Steps of clients without a message: each is told a command, or sends once more.
-use Rattle.std.proofs.Common.{◌≡◌, ◌-◌, ℕ, Bool, true, false, List, [], ◌∷◌, ◌++◌, append-nil, length, slice_get, drop, Option, Some, None, refl, sym, ◌∙◌, ap, subst, arith}
+use Rattle.std.proofs.Common.{◌≡◌, ◌-◌, ℕ, Bool, true, false, List, [], ◌++◌, append-nil, length, slice_get, drop, Some, refl, sym, ◌∙◌, ap, subst, arith}
 use Rattle.std.specs.Prelude.{if◌then◌else◌}
 use Rattle.std.proofs.lemmas.Bool.Decides.{nat_tests}
 use Rattle.jn_base.specs.declared.names.ClientNo.{ClientNo}
@@ -7,12 +7,10 @@ use Rattle.jn_base.specs.declared.names.Party.TheVariants.{Client}
 use Rattle.jn_base.specs.declared.op.Command.{Command}
 use Rattle.jn_base.specs.Names.{client_eq}
 use Rattle.jn_device.specs.Device.{DeviceState}
-use Rattle.jn_place.specs.declared.place.Place.{Place}
-use Rattle.jn_protocol.specs.Steps.{Step, Tell, Again, after, commanded, sent_now}
-use Rattle.jn_protocol.specs.World.{World, at_client, commits_in}
+use Rattle.jn_protocol.specs.Steps.{Tell, Again, after, commanded, sent_now}
+use Rattle.jn_protocol.specs.World.{World, commits_in}
 use Rattle.jn_report.specs.declared.line.Line.{Line}
 use Rattle.jn_rows.specs.Client.{ClientTable, Commanded, Refuses, Sends, command_row, again_row}
-use Rattle.jn_rows.specs.Outcomes.{Sent}
 use Rattle.jn_schedule.specs.declared.Event.TheVariants as events
 use Rattle.jn_store.specs.Pairs.{pairs_view}
 use Rattle.jn_store.specs.Store.{StoreView}
@@ -55,7 +53,7 @@ names-none c event (Refuses refusal) = refl
 names-none c event (Sends t to message) = refl
 
 module _ {S : Type 0} (look : S → StoreView) (device : S → DeviceState) (seen : (s : S) → look s ≡ pairs_view (device s)) (x : Setup) (w : Standing S) (m : Moment) (stand : Stands look device x w m)
-  (c : ClientNo) (is : is_client c.0 ≡ true) (t : ClientTable) (at : slice_get w.clients (c.0 - 1) ≡ Some t) (more : List Task) where
+    (c : ClientNo) (is : is_client c.0 ≡ true) (t : ClientTable) (at : slice_get w.clients (c.0 - 1) ≡ Some t) (more : List Task) where
   abbrev v : World
   v = m.state.course.world
 
@@ -65,7 +63,7 @@ module _ {S : Type 0} (look : S → StoreView) (device : S → DeviceState) (see
   -- A client is told a command: it is refused with its line, or its message is sent.
   pub told-step : (command : Command) → ActsNext x m (events.Command c command) more → (row : Commanded) → command_row t v.event command ≡ row → (lines : List Line)
       → IsStepTo look device x m (more ++ drop 1 m.state.tasks) (with_sent (posted_by (Client c) (sent_commanded row)) (with_client c (table_commanded t row) w))
-          lines (lines ++ lines_at (when_of m.state) (texts_commanded c v.event row ++ traced w.trace (message_texts (Client c) (length w.net.sent) (sent_commanded row))))
+      lines (lines ++ lines_at (when_of m.state) (texts_commanded c v.event row ++ traced w.trace (message_texts (Client c) (length w.net.sent) (sent_commanded row))))
   told-step command next row row-is lines = plain-step look device seen x w m stand (events.Command c command) more next (Client c) (Tell c command) refl tt (sent_commanded row) (texts_commanded c v.event row) (names-none c v.event row) so.sent so.lines
       w.places (servers-same look device seen x w m stand _ (record { memory = λ q. ap (λ f. f q) so.memory; found = λ q. ap (λ f. f q) so.found; devices = λ q. refl }))
       _ (client-moved look device seen x w m stand c is (table_commanded t row) (after (Tell c command) v) so.here so.others) w.net.sent refl lines
@@ -76,7 +74,7 @@ module _ {S : Type 0} (look : S → StoreView) (device : S → DeviceState) (see
   -- A client sends its outstanding message once more.
   pub asked-step : ActsNext x m (events.Again c) more → (lines : List Line)
       → IsStepTo look device x m (more ++ drop 1 m.state.tasks) (with_sent (posted_by (Client c) (sent_now (again_row t))) w)
-          lines (lines ++ lines_at (when_of m.state) (traced w.trace (message_texts (Client c) (length w.net.sent) (sent_now (again_row t)))))
+      lines (lines ++ lines_at (when_of m.state) (traced w.trace (message_texts (Client c) (length w.net.sent) (sent_now (again_row t)))))
   asked-step next lines = plain-step look device seen x w m stand (events.Again c) more next (Client c) (Again c) refl tt (sent_now (again_row t)) [] refl
       (ap (λ (a : ClientTable). v.sent ++ sent_now (again_row a)) here-is) (sym (append-nil v.lines))
       w.places (servers-same look device seen x w m stand _ (record { memory = λ q. refl; found = λ q. refl; devices = λ q. refl }))

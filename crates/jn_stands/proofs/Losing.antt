@@ -1,5 +1,5 @@
 -- A message for a server that is down, or that isn't there.
-use Rattle.std.proofs.Common.{◌≡◌, ◌<◌, ℕ, List, [], ◌∷◌, ◌++◌, append-nil, length, slice_get, drop, Option, Some, None, refl, sym, ◌∙◌, ap, subst}
+use Rattle.std.proofs.Common.{◌≡◌, ◌<◌, ℕ, List, [], ◌∷◌, ◌++◌, length, slice_get, drop, Option, Some, None, refl, sym, ◌∙◌, ap, subst}
 use Rattle.jn_base.specs.declared.names.ServerNo.{ServerNo}
 use Rattle.jn_base.specs.declared.names.Party.TheVariants.{Server}
 use Rattle.jn_device.specs.Device.{DeviceState}
@@ -7,7 +7,7 @@ use Rattle.jn_net.specs.declared.Sent.{Sent as Posted}
 use Rattle.jn_net.specs.Carried.{with_delivered}
 use Rattle.jn_place.specs.declared.place.Place.{Place}
 use Rattle.jn_place.specs.declared.place.Slot.{Slot}
-use Rattle.jn_place.specs.declared.place.Slot.TheVariants.{Up, Down, Gone}
+use Rattle.jn_place.specs.declared.place.Slot.TheVariants.{Down}
 use Rattle.jn_protocol.specs.Steps.{Deliver, after, at_memory, handed}
 use Rattle.jn_protocol.specs.World.{World, Memory}
 use Rattle.jn_recovery.specs.Loading.{counts_by}
@@ -19,7 +19,7 @@ use Rattle.jn_store.specs.Pairs.{pairs_view}
 use Rattle.jn_store.specs.Store.{StoreView}
 use Rattle.jn_within.proofs.WorldSteps.{sent-near}
 use Rattle.jn_written.specs.Chances.{Setup}
-use Rattle.jn_written.specs.Deeds.{plain, room, delivered, delivered_at}
+use Rattle.jn_written.specs.Deeds.{room, delivered, delivered_at}
 use Rattle.jn_written.specs.Runs.{Moment}
 use Rattle.jn_written.specs.Steps.{lines_at}
 use Rattle.jn_written.specs.Tasks.{Task, when_of}

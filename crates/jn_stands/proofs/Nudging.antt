@@ -1,10 +1,9 @@
 -- A server sends again what waits for an answer, or a work of its may be broken from now on.
-use Rattle.std.proofs.Common.{◌≡◌, ℕ, ◌+◌, Bool, true, false, List, [], ◌∷◌, ◌++◌, append-nil, length, slice_get, slice_set, drop, Option, Some, None, refl, sym, ◌∙◌, ap, subst, arith}
+use Rattle.std.proofs.Common.{◌≡◌, ℕ, ◌+◌, Bool, List, [], ◌++◌, append-nil, length, slice_get, slice_set, drop, Option, Some, None, refl, sym, ◌∙◌, ap, subst, arith}
 use Rattle.std.specs.Prelude.{if◌then◌else◌}
 use Rattle.jn_base.specs.declared.names.ServerNo.{ServerNo}
 use Rattle.jn_base.specs.declared.names.Tid.{Tid}
 use Rattle.jn_base.specs.declared.names.Party.TheVariants.{Server}
-use Rattle.jn_base.specs.Names.{server_eq}
 use Rattle.jn_device.specs.Device.{DeviceState}
 use Rattle.jn_msgs.specs.Collected.{Collected}
 use Rattle.jn_place.specs.declared.place.Place.{Place}
@@ -24,20 +23,19 @@ use Rattle.jn_storage.specs.Calls.{state}
 use Rattle.jn_store.specs.Pairs.{pairs_view}
 use Rattle.jn_store.specs.Store.{StoreView}
 use Rattle.jn_written.specs.Chances.{Setup}
-use Rattle.jn_written.specs.Deeds.{plain}
 use Rattle.jn_written.specs.Runs.{Moment}
 use Rattle.jn_written.specs.Steps.{lines_at}
 use Rattle.jn_written.specs.Tasks.{Task, when_of}
 use Rattle.jn_stands.specs.Stands.{Standing, StandsAt, Stands, texts_sent, with_answer}
 use Rattle.jn_stands.specs.Pages.{HasCounts}
 use Rattle.jn_stands.specs.Going.{ActsNext, IsStepTo}
-use Rattle.jn_stands.proofs.Servers.{IsAlone, servers-same, server-moved, clients-same}
+use Rattle.jn_stands.proofs.Servers.{servers-same, server-moved, clients-same}
 use Rattle.jn_stands.proofs.Served.{same-server}
-use Rattle.jn_stands.proofs.Plain.{last, plain-step, silent-step}
+use Rattle.jn_stands.proofs.Plain.{plain-step, silent-step}
 use Rattle.jn_stands.proofs.Losing.{down-is}
 
 module _ {S : Type 0} (look : S → StoreView) (device : S → DeviceState) (seen : (s : S) → look s ≡ pairs_view (device s)) (x : Setup) (w : Standing S) (m : Moment) (stand : Stands look device x w m)
-  (q : ServerNo) (place : Place S) (at : slice_get w.places q.0 ≡ Some place) where
+    (q : ServerNo) (place : Place S) (at : slice_get w.places q.0 ≡ Some place) where
   abbrev v : World
   v = m.state.course.world
 
@@ -97,10 +95,12 @@ module _ {S : Type 0} (look : S → StoreView) (device : S → DeviceState) (see
             memory = λ r o. ap (λ (u : World). u.memory r) after-is ∙ ap (λ (b : Bool). if b then Some (server_timeout (memory_of (view_with look p)) T) else v.memory r) o;
             found = λ r o. ap (λ (u : World). u.found r) after-is;
             devices = λ r o. refl;
-            here = (ap (λ (u : World). u.memory q) after-is ∙ ap (λ (b : Bool). if b then Some (server_timeout (memory_of (view_with look p)) T) else v.memory q) (same-server q) ∙ ap (λ (a : Memory). Some a) (sym t.memory),
-                ap (λ (u : World). u.found q) after-is ∙ h.1 ∙ sym found-is,
-                h.2 ∙ ap (λ (z : S × Kept). device z.0) (sym t.storage),
-                subst (λ (f : Pick → StableState). IsUp f) (sym found-is) h.3);
+            here = (
+              ap (λ (u : World). u.memory q) after-is ∙ ap (λ (b : Bool). if b then Some (server_timeout (memory_of (view_with look p)) T) else v.memory q) (same-server q) ∙ ap (λ (a : Memory). Some a) (sym t.memory),
+              ap (λ (u : World). u.found q) after-is ∙ h.1 ∙ sym found-is,
+              h.2 ∙ ap (λ (z : S × Kept). device z.0) (sym t.storage),
+              subst (λ (f : Pick → StableState). IsUp f) (sym found-is) h.3,
+            );
             counts = counts';
           }))
           w.clients (clients-same look device seen x w m stand _ (ap (λ (u : World). u.clients) after-is)) w.net.sent refl lines)

@@ -1,5 +1,5 @@
 -- A list of which one element is another now.
-use Rattle.std.proofs.Common.{◌≡◌, ◌<◌, ℕ, zero, suc, List, [], ◌∷◌, length, slice_get, slice_set, Option, Some, None, refl, subst, arith}
+use Rattle.std.proofs.Common.{◌≡◌, ◌<◌, ℕ, zero, suc, List, [], ◌∷◌, length, slice_get, slice_set, Some, refl, subst, arith}
 
 some-of : {X : Type 0} (a b : X) → Some a ≡ Some b → a ≡ b
 some-of a b e = cc

@@ -2,7 +2,6 @@
 use Rattle.std.proofs.Common.{◌≡◌, ◌<◌, ◌≤◌, ℕ, zero, suc, ◌+◌, Bool, true, false, List, [], ◌∷◌, length, slice_get, drop, Option, Some, None, refl, sym, ◌∙◌, ap, subst, arith}
 use Rattle.std.specs.Prelude.{if◌then◌else◌}
 use Rattle.std.proofs.Math.Path.{fun_ext}
-use Rattle.std.proofs.lemmas.Bool.Decides.{nat_tests}
 use Rattle.jn_base.specs.declared.names.ServerNo.{ServerNo}
 use Rattle.jn_device.specs.Device.{DeviceState}
 use Rattle.jn_net.specs.Carried.{waiting}
@@ -11,18 +10,18 @@ use Rattle.jn_place.specs.Exact.{has_work_at}
 use Rattle.jn_protocol.specs.World.{World, servers_from}
 use Rattle.jn_recovery.specs.Loading.{counts_by}
 use Rattle.jn_report.specs.declared.line.Line.{Line}
-use Rattle.jn_rests.specs.Waiting.{waiting_numbers, Carries}
+use Rattle.jn_rests.specs.Waiting.{waiting_numbers}
 use Rattle.jn_rests.proofs.Numbers.{least-waits, none-waits}
 use Rattle.jn_schedule.specs.declared.Event.{Event}
 use Rattle.jn_schedule.specs.declared.Event.TheVariants as events
 use Rattle.jn_store.specs.Pairs.{pairs_view}
 use Rattle.jn_store.specs.Store.{StoreView}
-use Rattle.jn_written.specs.Chances.{Setup, Chance}
-use Rattle.jn_written.specs.Deeds.{Deed, is_busy, nothing}
+use Rattle.jn_written.specs.Chances.{Setup}
+use Rattle.jn_written.specs.Deeds.{is_busy}
 use Rattle.jn_written.specs.Devices.{rubbish_on}
-use Rattle.jn_written.specs.Events.{servers_of, first_busy, next_event, next_in, resting, deed_of}
+use Rattle.jn_written.specs.Events.{servers_of, first_busy, next_event, next_in, resting}
 use Rattle.jn_written.specs.Runs.{Moment}
-use Rattle.jn_written.specs.Tasks.{Task, Rests, next_task}
+use Rattle.jn_written.specs.Tasks.{Rests, next_task}
 use Rattle.jn_stands.specs.Stands.{Standing, Stands}
 use Rattle.jn_stands.specs.Pages.{ReadsPages}
 use Rattle.jn_stands.specs.Going.{ActsNext, IsStepTo}
@@ -42,8 +41,8 @@ first-from rubbish w (suc n) j zero l is before = subst (λ (k : ℕ). first_bus
     same = omega arith
 first-from rubbish w (suc n) j (suc i) l is before = ap (λ (b : Bool). if b then Some (record { 0 = j }) else first_busy rubbish w (servers_from (j + 1) n)) (subst (λ (k : ℕ). is_busy rubbish w (record { 0 = k }) ≡ false) none (before zero (omega arith)))
     ∙ subst (λ (k : ℕ). first_busy rubbish w (servers_from (j + 1) n) ≡ Some (record { 0 = k })) (one-on i)
-        (first-from rubbish w n (j + 1) i (omega (arith, l)) (subst (λ (k : ℕ). is_busy rubbish w (record { 0 = k }) ≡ true) (sym (one-on i)) is)
-            (λ k less. subst (λ (a : ℕ). is_busy rubbish w (record { 0 = a }) ≡ false) (sym (one-on k)) (before (suc k) (omega (arith, less)))))
+    (first-from rubbish w n (j + 1) i (omega (arith, l)) (subst (λ (k : ℕ). is_busy rubbish w (record { 0 = k }) ≡ true) (sym (one-on i)) is)
+    (λ k less. subst (λ (a : ℕ). is_busy rubbish w (record { 0 = a }) ≡ false) (sym (one-on k)) (before (suc k) (omega (arith, less)))))
   where
     none : j + zero ≡ j
     none = omega arith
@@ -66,7 +65,7 @@ pub first-is : (rubbish : ServerNo → Bool) (w : World) (servers n : ℕ) → n
     → first_busy rubbish w (servers_from 0 servers) ≡ Some (record { 0 = n })
 first-is rubbish w servers n l is before = subst (λ (k : ℕ). first_busy rubbish w (servers_from 0 servers) ≡ Some (record { 0 = k })) (sym (from-none n))
     (first-from rubbish w servers 0 n (omega (arith, l)) (subst (λ (k : ℕ). is_busy rubbish w (record { 0 = k }) ≡ true) (from-none n) is)
-        (λ k less. subst (λ (a : ℕ). is_busy rubbish w (record { 0 = a }) ≡ false) (from-none k) (before k less)))
+    (λ k less. subst (λ (a : ℕ). is_busy rubbish w (record { 0 = a }) ≡ false) (from-none k) (before k less)))
   where
     from-none : (k : ℕ) → k ≡ 0 + k
     from-none k = omega arith

@@ -1,6 +1,6 @@
 -- Background steps of servers that are up.
 use Rattle.std.proofs.Common.{◌≡◌, ℕ, Bool, true, false, List, [], ◌∷◌, ◌++◌, length, slice_get, slice_set, drop, Option, Some, None, is_some, refl, sym, ◌∙◌, ap, subst}
-use Rattle.std.specs.Prelude.{◌||◌, ◌&&◌, if◌then◌else◌}
+use Rattle.std.specs.Prelude.{◌||◌, if◌then◌else◌}
 use Rattle.jn_base.specs.declared.names.ServerNo.{ServerNo}
 use Rattle.jn_base.specs.declared.device.Outside.{Outside}
 use Rattle.jn_device.specs.Device.{DeviceState}
@@ -8,9 +8,9 @@ use Rattle.jn_msgs.specs.Collected.{Collected}
 use Rattle.jn_place.specs.declared.place.Place.{Place}
 use Rattle.jn_place.specs.declared.place.Slot.{Slot}
 use Rattle.jn_place.specs.declared.place.Slot.TheVariants.{Up, Down, Gone}
-use Rattle.jn_place.specs.Exact.{has_work_at, work_of, IsWorked, WorkedBy}
+use Rattle.jn_place.specs.Exact.{has_work_at, work_of, WorkedBy}
 use Rattle.jn_protocol.specs.Servers.{Room, server_step}
-use Rattle.jn_protocol.specs.Steps.{Step, IsStep, after, ends, work, works}
+use Rattle.jn_protocol.specs.Steps.{IsStep, after, ends, work, works}
 use Rattle.jn_protocol.specs.World.{World, Memory}
 use Rattle.jn_recovery.specs.Loading.{counts_by}
 use Rattle.jn_report.specs.declared.line.Line.{Line}
@@ -24,8 +24,8 @@ use Rattle.jn_settling.specs.Settle.{working, is_busy as has_going}
 use Rattle.jn_storage.specs.Calls.{state}
 use Rattle.jn_store.specs.Pairs.{pairs_view}
 use Rattle.jn_store.specs.Store.{StoreView}
-use Rattle.jn_written.specs.Chances.{Setup, Chance}
-use Rattle.jn_written.specs.Deeds.{Deed, served, nothing, room, is_busy, is_busy_with, working_steps, worked}
+use Rattle.jn_written.specs.Chances.{Setup}
+use Rattle.jn_written.specs.Deeds.{served, nothing, is_busy, is_busy_with, working_steps, worked}
 use Rattle.jn_written.specs.Devices.{rubbish_on}
 use Rattle.jn_written.specs.Runs.{Moment}
 use Rattle.jn_written.specs.Steps.{lines_at}
@@ -51,7 +51,7 @@ busy-is a y its = by (server_step a y its) refl
     by None e = let both = none-to-do a y its e in ap (λ (b : Bool). false || b) (sym both.1) ∙ ap (λ (b : Bool). b || its.rubbish) (sym both.0)
 
 module _ {S : Type 0} (look : S → StoreView) (device : S → DeviceState) (seen : (s : S) → look s ≡ pairs_view (device s)) (x : Setup) (w : Standing S) (m : Moment) (stand : Stands look device x w m)
-  (q : ServerNo) (place : Place S) (at : slice_get w.places q.0 ≡ Some place) (reads : ReadsPages look device (counts_by place.counts) place.slot) where
+    (q : ServerNo) (place : Place S) (at : slice_get w.places q.0 ≡ Some place) (reads : ReadsPages look device (counts_by place.counts) place.slot) where
   abbrev v : World
   v = m.state.course.world
 
@@ -116,12 +116,12 @@ module _ {S : Type 0} (look : S → StoreView) (device : S → DeviceState) (see
   pub worked-step : (more : List Task) → ActsNext x m (events.Step q) more → (answer : Option Collected) (slot : Slot S) (told : List Line) → WorkedBy look device q (counts_by place.counts) (when_of m.state) place.slot answer slot [] told
       → HasCounts (counts_by place.counts) slot → (lines : List Line)
       → IsStepTo look device x m (more ++ drop 1 m.state.tasks) (with_answer q None answer (record w { places = slice_set w.places q.0 (record place { slot = slot }) }))
-          lines (lines ++ told ++ lines_at (when_of m.state) (texts_sent q None w.trace (length w.net.sent) answer))
+      lines (lines ++ told ++ lines_at (when_of m.state) (texts_sent q None w.trace (length w.net.sent) answer))
   worked-step more next answer slot told worked-by counts lines = by place.slot refl worked-by
     where
       by : (before : Slot S) → place.slot ≡ before → WorkedBy look device q (counts_by place.counts) (when_of m.state) before answer slot [] told
           → IsStepTo look device x m (more ++ drop 1 m.state.tasks) (with_answer q None answer (record w { places = slice_set w.places q.0 (record place { slot = slot }) }))
-              lines (lines ++ told ++ lines_at (when_of m.state) (texts_sent q None w.trace (length w.net.sent) answer))
+          lines (lines ++ told ++ lines_at (when_of m.state) (texts_sent q None w.trace (length w.net.sent) answer))
       by (Up p) is b = row-step look device seen x w m stand q place at p is reads b.row None (events.Step q) (working q (room_of (view_with look p).storage)) w.net.sent (work-step p is b.row b.row_is) more next lines answer slot told b.step b.sends counts
       by (Down s) is b = absurd b
       by Gone is b = absurd b
