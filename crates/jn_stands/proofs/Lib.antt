@@ -15,3 +15,4 @@ pub mod Losing
 pub mod Nudging
 pub mod Working
 pub mod RestNext
+pub mod Held

@@ -19,12 +19,13 @@ use Rattle.jn_recovery.specs.Loading.{counts_by}
 use Rattle.jn_rows.specs.Outcomes.{RowOutcome}
 use Rattle.jn_rows.specs.Stable.{StableState, Pick, stable, made_all}
 use Rattle.jn_server.specs.Seen.{Parts, view_with, memory_of, room_of}
+use Rattle.jn_server.specs.Standing.{free_on, has_rubbish}
 use Rattle.jn_storage.specs.Calls.{state}
 use Rattle.jn_store.specs.Pairs.{pairs_view}
 use Rattle.jn_store.specs.Store.{StoreView}
 use Rattle.jn_written.specs.Chances.{Setup, Chance}
 use Rattle.jn_written.specs.Deeds.{room}
-use Rattle.jn_written.specs.Devices.{Devices, Alone, IsCalled, IsServed, pages_of, free_on, has_rubbish, rubbish_on}
+use Rattle.jn_written.specs.Devices.{Devices, Alone, IsCalled, IsServed, pages_of, rubbish_on}
 use Rattle.jn_written.specs.Runs.{Moment}
 use Rattle.jn_stands.specs.Stands.{Standing, StandsAt, Stands}
 use Rattle.jn_stands.specs.Pages.{HasCounts, ReadsPages}

@@ -6,9 +6,10 @@ use Rattle.jn_place.specs.declared.place.Slot.{Slot}
 use Rattle.jn_place.specs.declared.place.Slot.TheVariants.{Up}
 use Rattle.jn_records.specs.StablePages.{Counts}
 use Rattle.jn_server.specs.Seen.{view_with, memory_of, room_of}
+use Rattle.jn_server.specs.Standing.{free_on, has_rubbish}
 use Rattle.jn_storage.specs.Calls.{state}
 use Rattle.jn_store.specs.Store.{StoreView}
-use Rattle.jn_written.specs.Devices.{pages_of, free_on, has_rubbish}
+use Rattle.jn_written.specs.Devices.{pages_of}
 
 -- its storage has so many pages
 abbrev pub HasCounts : {S : Type 0} → Counts → Slot S → Type 0
