@@ -3,8 +3,7 @@ use Rattle.std.proofs.Common.{◌≡◌, ◌∙◌, ap}
 use Rattle.jn_device.specs.Device.{DeviceState}
 use Rattle.jn_found.specs.Pages.{pool_on}
 use Rattle.jn_intent.specs.Scrubbing.{counts_in}
-use Rattle.jn_place.specs.declared.place.Slot.{Slot}
-use Rattle.jn_place.specs.declared.place.Slot.TheVariants.{Up, Down, Gone}
+use Rattle.jn_place.specs.declared.place.Slot.TheVariants.{Up}
 use Rattle.jn_records.specs.StablePages.{Counts}
 use Rattle.jn_server.specs.Seen.{Parts, view_with, memory_of}
 use Rattle.jn_server.specs.Standing.{standing_pages, free_on, has_rubbish, IsRoomOfPages}
