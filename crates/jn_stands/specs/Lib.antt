@@ -1,2 +1,6 @@
 pub mod Stands
 pub mod Going
+pub mod Naming
+pub mod Meeting
+pub mod Starting
+pub mod Ending

@@ -1,0 +1,39 @@
+//! Which event the next task does, and tasks in which no server and no client does anything.
+
+ghost use Rattle.std.specs.Prelude.{◌≡◌, ◌∷◌, ◌++◌, [], false, List, Some, None, drop};
+ghost use Rattle.jn_base.specs.declared.names.ServerNo.{ServerNo};
+ghost use Rattle.jn_report.specs.declared.line.EventRefusal.{EventRefusal};
+ghost use Rattle.jn_report.specs.declared.line.Line.{Line};
+ghost use Rattle.jn_report.specs.declared.line.Text.TheVariants as says;
+ghost use Rattle.jn_schedule.specs.declared.Event.{Event};
+ghost use Rattle.jn_schedule.specs.declared.Event.TheVariants as events;
+ghost use Rattle.jn_written.specs.Chances.{Setup};
+ghost use Rattle.jn_written.specs.Events.{settling};
+ghost use Rattle.jn_written.specs.Refusals.{refusal_of};
+ghost use Rattle.jn_written.specs.Runs.{Moment};
+ghost use Rattle.jn_written.specs.Tasks.{Begins, Meets, Acts, GoesDown, CountsCommits, when_of, next_task};
+ghost use Rattle.jn_stands.specs.Going.{ActsNext, IsStepTo};
+ghost use Rattle.jn_stands.specs.Meeting.{is_settle};
+ghost use Rattle.jn_stands.specs.Stands.{Standing, Stands};
+
+use jn_store::Powered;
+
+/// An event of the schedule that isn't refused is done next, and so is one of a settle or of the end; there a server goes down as by a crash.
+pub fn an_event_is_what_comes_next()
+    ensures meets { (x : Setup) (m : Moment) (event : Event) → next_task m.state ≡ Some (Meets event) → is_settle event ≡ false → refusal_of x m.state.course.world event ≡ None → ActsNext x m event [] }
+    ensures acts { (x : Setup) (m : Moment) (event : Event) → next_task m.state ≡ Some (Acts event) → is_settle event ≡ false → ActsNext x m event [] }
+    ensures down { (x : Setup) (m : Moment) (q : ServerNo) → next_task m.state ≡ Some (GoesDown q) → ActsNext x m (events.Crash q) [] }
+{}
+
+/// An event begins, is refused, or settles; and commits are counted.
+pub fn steps_without_servers<S: Powered>()
+    ensures begins { (x : Setup) (w : Standing S) (m : Moment) (event : Event) (lines : List Line) → Stands (λ s. S.view s) (λ s. S.device s) x w m → next_task m.state ≡ Some (Begins event)
+        → IsStepTo (λ s. S.view s) (λ s. S.device s) x m (Meets event ∷ drop 1 m.state.tasks) w lines lines }
+    ensures refused { (x : Setup) (w : Standing S) (m : Moment) (event : Event) (refusal : EventRefusal) (lines : List Line) → Stands (λ s. S.view s) (λ s. S.device s) x w m
+        → next_task m.state ≡ Some (Meets event) → refusal_of x m.state.course.world event ≡ Some refusal
+        → IsStepTo (λ s. S.view s) (λ s. S.device s) x m (drop 1 m.state.tasks) w lines (lines ++ record { when = when_of m.state; text = says.RefusedEvent refusal } ∷ []) }
+    ensures settles { (x : Setup) (w : Standing S) (m : Moment) (lines : List Line) → Stands (λ s. S.view s) (λ s. S.device s) x w m → next_task m.state ≡ Some (Meets events.Settle)
+        → IsStepTo (λ s. S.view s) (λ s. S.device s) x m (settling x ++ drop 1 m.state.tasks) w lines lines }
+    ensures counts { (x : Setup) (w : Standing S) (m : Moment) (lines : List Line) → Stands (λ s. S.view s) (λ s. S.device s) x w m → next_task m.state ≡ Some CountsCommits
+        → IsStepTo (λ s. S.view s) (λ s. S.device s) x m (drop 1 m.state.tasks) w lines (lines ++ record { when = when_of m.state; text = says.Commits w.commits } ∷ []) }
+{}
