@@ -6,3 +6,6 @@ pub mod Meeting
 pub mod Still
 pub mod Starting
 pub mod Dismissing
+pub mod Placed
+pub mod Core
+pub mod Servers

@@ -4,3 +4,4 @@ pub mod Naming
 pub mod Meeting
 pub mod Starting
 pub mod Ending
+pub mod Pages
