@@ -20,7 +20,7 @@ use Rattle.jn_report.specs.declared.line.Text.{Text}
 use Rattle.jn_rests.specs.Waiting.{Carries}
 use Rattle.jn_rests.proofs.Numbers.{carries-step, carries-forgotten}
 use Rattle.jn_rows.specs.Client.{ClientTable, over}
-use Rattle.jn_rows.specs.Stable.{StableState, Pick}
+use Rattle.jn_rows.specs.Stable.{StableState, Pick, IsUp}
 use Rattle.jn_settling.specs.Course.{Course, go}
 use Rattle.jn_store.specs.Store.{StoreView}
 use Rattle.jn_within.proofs.WorldSteps.{run-within}
@@ -51,7 +51,7 @@ pub still-there : {S : Type 0} (look : S → StoreView) (device : S → DeviceSt
 still-there look device g becomes (Up p) (Up q) memory found d h s = record {
   now = device q.storage.0;
   becomes_it = subst (λ (c : DeviceState). becomes c (device q.storage.0)) (sym s.2) h.1;
-  stands = (s.0 ∙ ap Some (sym h.0.0), s.1 ∙ sym h.0.1, refl);
+  stands = (s.0 ∙ ap Some (sym h.0.0), s.1 ∙ sym h.0.1, refl, subst (λ (f : Pick → StableState). IsUp f) (sym h.0.1) s.3);
 }
 still-there look device g becomes (Down s') (Down t) memory found d h s = record {
   now = device t;

@@ -9,3 +9,5 @@ pub mod Dismissing
 pub mod Placed
 pub mod Core
 pub mod Servers
+pub mod Posted
+pub mod Moving

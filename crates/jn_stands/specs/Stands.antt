@@ -21,7 +21,7 @@ use Rattle.jn_report.specs.declared.line.Text.{Text}
 use Rattle.jn_rests.specs.Waiting.{Carries}
 use Rattle.jn_rows.specs.Client.{ClientTable, new_table}
 use Rattle.jn_rows.specs.Outcomes.{Sent}
-use Rattle.jn_rows.specs.Stable.{StableState, Pick}
+use Rattle.jn_rows.specs.Stable.{StableState, Pick, IsUp}
 use Rattle.jn_serial.specs.Lines.{history_of}
 use Rattle.jn_server.specs.Seen.{view_with, memory_of}
 use Rattle.jn_store.specs.Store.{StoreView}
@@ -44,10 +44,10 @@ pub record Standing (S : Type 0) : Type 0 where
 abbrev pub is_client : ℕ → Bool
 is_client c = nat_lt 0 c && nat_lt c 9
 
--- a server with its memory, what is found of it, and its device
+-- a server with its memory, what is found of it, which is one state while it is up, and its device
 abbrev pub StandsAt : {S : Type 0} → (S → StoreView) → (S → DeviceState) → Counts → Slot S → Option Memory → (Pick → StableState) → DeviceState → Type 0
 StandsAt look device g (Up p) memory found d =
-    (memory ≡ Some (memory_of (view_with look p))) × (found ≡ (view_with look p).storage.found) × (d ≡ device p.storage.0)
+    (memory ≡ Some (memory_of (view_with look p))) × (found ≡ (view_with look p).storage.found) × (d ≡ device p.storage.0) × IsUp (view_with look p).storage.found
 StandsAt look device g (Down s) memory found d = (memory ≡ None) × (found ≡ found_on g (look s)) × (d ≡ device s)
 StandsAt look device g Gone memory found d = ⊥
 
