@@ -11,3 +11,6 @@ pub mod Core
 pub mod Servers
 pub mod Posted
 pub mod Moving
+pub mod Befalling
+pub mod Crashing
+pub mod Restarting
