@@ -14,3 +14,4 @@ pub mod Moving
 pub mod Befalling
 pub mod Crashing
 pub mod Restarting
+pub mod Stopping

@@ -56,22 +56,6 @@ recovery h up told power d e f told-is stop tried f-is = record {
   after = f-is;
 }
 
--- a device that has lost its power is as without
-dark : (told : List Outside) (d e : DeviceState) → IsTried told false d e → e ≡ powered_off e
-dark told d e tried = tried.spent.after ∙ ap (λ (b : Bool). record (cleared tried.spent.last) { power = b }) tried.spent.power_is ∙ sym (ap powered_off tried.spent.after)
-
--- whether the epoch was raised
-abbrev is-raised : {a b c : ℕ} → (c ≡ a) ⊎ (c ≡ b) → Bool
-is-raised (inl e) = false
-is-raised (inr e) = true
-
-raised-is : (x y : StableState) (same : y ≡ record x { epoch = y.epoch }) (either : (y.epoch ≡ x.epoch) ⊎ (y.epoch ≡ suc x.epoch)) → (if is-raised either then with_epoch x else x) ≡ y
-raised-is x y same (inl e) = sym (same ∙ ap (λ (n : ℕ). record x { epoch = n }) e)
-raised-is x y same (inr e) = sym (same ∙ ap (λ (n : ℕ). record x { epoch = n }) (e ∙ next x.epoch))
-  where
-    next : (n : ℕ) → suc n ≡ n + 1
-    next n = omega arith
-
 module _ {S : Type 0} (look : S → StoreView) (device : S → DeviceState) (seen : (s : S) → look s ≡ pairs_view (device s)) (x : Setup) (w : Standing S) (m : Moment) (stand : Stands look device x w m)
   (q : ServerNo) (place : Place S) (at : slice_get w.places q.0 ≡ Some place) (s : S) (is : place.slot ≡ Down s) (told : List Outside) where
 
