@@ -15,3 +15,4 @@ pub mod Befalling
 pub mod Crashing
 pub mod Restarting
 pub mod Stopping
+pub mod Restarts

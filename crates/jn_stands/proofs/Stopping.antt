@@ -27,14 +27,16 @@ use Rattle.jn_store.specs.Pairs.{pairs_view}
 use Rattle.jn_store.specs.Store.{StoreView}
 use Rattle.jn_written.specs.Chances.{Setup, Chance}
 use Rattle.jn_written.specs.Deeds.{Deed, recovered, given_up, last_epoch, is_used_up}
-use Rattle.jn_written.specs.Devices.{IsRecovery}
+use Rattle.jn_written.specs.Devices.{Devices, Alone, IsRecovery, AreFound}
 use Rattle.jn_written.specs.Runs.{Moment}
-use Rattle.jn_written.specs.Steps.{lines_at}
+use Rattle.jn_written.specs.Steps.{lines_at, cut_short}
 use Rattle.jn_written.specs.Tasks.{Task, when_of}
 use Rattle.jn_stands.specs.Stands.{Standing, StandsAt, Stands}
-use Rattle.jn_stands.specs.Going.{IsStepTo}
+use Rattle.jn_stands.specs.Going.{WasCut, IsStepTo}
+use Rattle.jn_stands.proofs.Made.{made-cuts}
+use Rattle.jn_stands.proofs.Servers.{IsAlone, server-moved}
 use Rattle.jn_stands.proofs.Posted.{lines-in-two}
-use Rattle.jn_stands.proofs.Moving.{same-server, carries-on, Does, net-quiet, devices-now, device-here, device-there, moved-step}
+use Rattle.jn_stands.proofs.Moving.{same-server, carries-on, Does, led-to, net-quiet, devices-now, device-here, device-there, moved-step}
 use Rattle.jn_stands.proofs.Restarting.{recovery, here, trying}
 
 -- a device that has lost its power is as without
@@ -154,27 +156,54 @@ module _ {S : Type 0} (look : S → StoreView) (device : S → DeviceState) (see
     used-up = ap (λ (f : Pick → StableState). nat_eq (f (reads (λ n. false))).epoch last_epoch) there.1
         ∙ ap (λ (y : StableState). nat_eq y.epoch last_epoch) (let each = used.each (λ n. false) in sym each.1) ∙ ap (λ (n : ℕ). nat_eq n last_epoch) last
 
+    used-alone : (now : Moment) → now.state.course.world ≡ after (Narrow q reads) world → now.devices ≡ devices-now look device x w m stand seen q place at (device t) → IsAlone look device seen x w m stand now q (counts_by place.counts) (Down t)
+    used-alone now e ds = record {
+      memory = λ r o. ap (λ (u : World). u.memory r) (e ∙ after-narrow reads);
+      found = λ r o. ap (λ (u : World). u.found r) (e ∙ after-narrow reads) ∙ fun_ext (λ c. narrowed-there reads r c o);
+      devices = λ r o. ap (λ (f : Devices). f r) ds ∙ device-there look device x w m stand seen q place at (device t) r o;
+      here = (ap (λ (u : World). u.memory q) (e ∙ after-narrow reads) ∙ there.0, ap (λ (u : World). u.found q) (e ∙ after-narrow reads) ∙ fun_ext used-found,
+          ap (λ (f : Devices). f q) ds ∙ device-here look device x w m stand seen q place at (device t));
+      counts = tt;
+    }
+
+    used-device : Alone q (IsRecovery used-chance (is_some ((after (Narrow q reads) world).memory q))) m.devices (devices-now look device x w m stand seen q place at (device t))
+    used-device = record {
+      its = subst (λ (o : Option Memory). IsRecovery used-chance (is_some o) (m.devices q) (devices-now look device x w m stand seen q place at (device t) q)) (sym (ap (λ (u : World). u.memory q) (after-narrow reads) ∙ there.0))
+          (recovery used-chance false told true (m.devices q) used.called (devices-now look device x w m stand seen q place at (device t) q) refl refl
+            (subst (λ (d : DeviceState). IsTried told true d used.called) (sym there.2) used.tried) (device-here look device x w m stand seen q place at (device t) ∙ used.device_is));
+      others = λ r o. device-there look device x w m stand seen q place at (device t) r o;
+    }
+
     pub used-up-step : (deed : Deed) → deed ≡ record (given_up used-chance q) { texts = says.RefusedEvent EpochsUsedUp ∷ []; tasks = deed.tasks } → Does x m used-chance deed
         → (lines lines' : List Line) → lines' ≡ lines ++ lines_at (when_of m.state) (texts_of_step q told true) ++ lines_at (when_of m.state) (says.RefusedEvent EpochsUsedUp ∷ [])
         → IsStepTo look device x m (deed.tasks ++ drop 1 m.state.tasks) left-down lines lines'
     used-up-step deed deed-is does lines lines' lines-are =
         moved-step look device x w m stand seen q place at used-chance (λ s. refl) (record (given_up used-chance q) { texts = says.RefusedEvent EpochsUsedUp ∷ []; tasks = deed.tasks }) (subst (λ (d : Deed). Does x m used-chance d) deed-is does) refl
           (Down t) (device t) [] w.named w.commits
-          (record {
-            memory = λ r o. ap (λ (u : World). u.memory r) (after-narrow reads);
-            found = λ r o. ap (λ (u : World). u.found r) (after-narrow reads) ∙ fun_ext (λ c. narrowed-there reads r c o);
-            devices = λ r o. device-there look device x w m stand seen q place at (device t) r o;
-            here = (ap (λ (u : World). u.memory q) (after-narrow reads) ∙ there.0, ap (λ (u : World). u.found q) (after-narrow reads) ∙ fun_ext used-found, device-here look device x w m stand seen q place at (device t));
-            counts = tt;
-          })
+          (used-alone (led-to x m used-chance (record (given_up used-chance q) { texts = says.RefusedEvent EpochsUsedUp ∷ []; tasks = deed.tasks }) (devices-now look device x w m stand seen q place at (device t))) refl refl)
           (ap (λ (u : World). u.clients) (after-narrow reads))
           (net-quiet look device x w m stand (go_on (Narrow q reads ∷ []) m.state.course) [] (carries-on w.net m.state.course (Narrow q reads) refl (ap (λ (u : World). u.sent) (after-narrow reads)) stand.net)
             (ap (λ (u : World). u.lines) (after-narrow reads) ∙ sym (append-nil world.lines)) refl)
-          (ap (λ (u : World). u.lines) (after-narrow reads) ∙ sym (append-nil world.lines)) (ap (λ (u : World). u.sent) (after-narrow reads)) (tt, tt)
-          (record {
-            its = subst (λ (o : Option Memory). IsRecovery used-chance (is_some o) (m.devices q) (devices-now look device x w m stand seen q place at (device t) q)) (sym (ap (λ (u : World). u.memory q) (after-narrow reads) ∙ there.0))
-                (recovery used-chance false told true (m.devices q) used.called (devices-now look device x w m stand seen q place at (device t) q) refl refl
-                  (subst (λ (d : DeviceState). IsTried told true d used.called) (sym there.2) used.tried) (device-here look device x w m stand seen q place at (device t) ∙ used.device_is));
-            others = λ r o. device-there look device x w m stand seen q place at (device t) r o;
-          })
+          (ap (λ (u : World). u.lines) (after-narrow reads) ∙ sym (append-nil world.lines)) (ap (λ (u : World). u.sent) (after-narrow reads)) (tt, tt) used-device
           lines lines' (lines-are ∙ lines-in-two (when_of m.state) lines (texts_of_step q told true) (says.RefusedEvent EpochsUsedUp ∷ []))
+
+    -- at the start or the end the run can't go on
+    pub used-cut : Does x m used-chance (record (given_up used-chance q) { cuts = true }) → (lines : List Line) → WasCut x m lines lines
+    used-cut does lines = record {
+      last = record { state = cut_short (record m.state { tasks = drop 1 m.state.tasks }); devices = devices-now look device x w m stand seen q place at (device t) };
+      leads = made-cuts x m used-chance (record (given_up used-chance q) { cuts = true }) (record m.state { tasks = drop 1 m.state.tasks }) (go_on (Narrow q reads ∷ []) m.state.course) (devices-now look device x w m stand seen q place at (device t))
+          (record {
+            task = does.task;
+            next = does.next;
+            deed_is = does.deed_is;
+            begun_is = does.begun_is;
+            course = refl;
+            befalls = record { rubbish = λ r. refl; steps = (tt, tt); used = used-device; found = found-after };
+          }) refl;
+      stage = refl;
+      told = record { new = []; here = sym (append-nil lines); there = sym (append-nil m.state.lines) };
+    }
+      where
+        found-after : AreFound x (after (Narrow q reads) world) (devices-now look device x w m stand seen q place at (device t))
+        found-after = let servers = server-moved look device seen x w m stand (led-to x m used-chance (record (given_up used-chance q) { cuts = true }) (devices-now look device x w m stand seen q place at (device t))) q place (Down t) at
+            (used-alone (led-to x m used-chance (record (given_up used-chance q) { cuts = true }) (devices-now look device x w m stand seen q place at (device t))) refl refl) in servers.found

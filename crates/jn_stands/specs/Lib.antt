@@ -5,3 +5,4 @@ pub mod Meeting
 pub mod Starting
 pub mod Ending
 pub mod Pages
+pub mod Restarting
