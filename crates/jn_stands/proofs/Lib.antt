@@ -16,3 +16,7 @@ pub mod Crashing
 pub mod Restarting
 pub mod Stopping
 pub mod Restarts
+pub mod Served
+pub mod ServedSteps
+pub mod Took
+pub mod Plain

@@ -32,9 +32,8 @@ use Rattle.jn_written.specs.Tasks.{Task, when_of, next_task, begun}
 use Rattle.jn_stands.specs.Stands.{Standing, Stands}
 use Rattle.jn_stands.specs.Going.{ActsNext, IsStepTo}
 use Rattle.jn_stands.proofs.Lines.{line-append, count-append}
-use Rattle.jn_stands.proofs.Made.{Makes, made-leads, made-cuts, carried-length, not-too-much, too-much}
-use Rattle.jn_stands.proofs.Posted.{texts-are}
-use Rattle.jn_stands.proofs.Core.{PartsStand, NetStands, run-is, parts-after, left}
+use Rattle.jn_stands.proofs.Posted.{none-traced, texts-are}
+use Rattle.jn_stands.proofs.Core.{PartsStand, NetStands, deed-made as task-made}
 use Rattle.jn_stands.proofs.Servers.{IsAlone, server-moved, clients-same}
 
 pub same-server : (q : ServerNo) → server_eq q q ≡ true
@@ -71,35 +70,8 @@ module _ {S : Type 0} (look : S → StoreView) (device : S → DeviceState) (x :
       → (w' : Standing S) → PartsStand look device x w' (led-to x m h deed es)
       → (lines lines' : List Line) → lines' ≡ lines ++ lines_at (when_of m.state) (texts_of x h deed m.state.course.world (go_on deed.steps m.state.course).world)
       → IsStepTo look device x m (deed.tasks ++ drop 1 m.state.tasks) w' lines lines'
-  deed-made h rubbish deed does cuts es steps used w' parts lines lines' told = record {
-    done = λ few. record {
-      last = led-to x m h deed es;
-      leads = leads few;
-      stands = parts-after look device x w m stand (led-to x m h deed es) w' deed.steps (leads few) refl parts;
-      tasks = refl;
-      stage = refl;
-      told = record { new = lines_at (when_of m.state) (texts_of x h deed m.state.course.world (go_on deed.steps m.state.course).world); here = told; there = refl };
-    };
-    cut = λ many. record {
-      last = record { state = cut_short (record m.state { tasks = drop 1 m.state.tasks }); devices = es };
-      leads = made-cuts x m h deed (record m.state { tasks = drop 1 m.state.tasks }) (go_on deed.steps m.state.course) es makes (too-much deed (go_on deed.steps m.state.course) (length w'.net.sent) cuts (carried-length w'.net.sent (go_on deed.steps m.state.course) parts.net.net.sent) many);
-      stage = refl;
-      told = record { new = []; here = sym (append-nil lines); there = sym (append-nil m.state.lines) };
-    };
-  }
-    where
-      makes : Makes x m h deed (record m.state { tasks = drop 1 m.state.tasks }) (go_on deed.steps m.state.course) es
-      makes = record {
-        task = does.task;
-        next = does.next;
-        deed_is = does.deed_is;
-        begun_is = does.begun_is;
-        course = refl;
-        befalls = record { rubbish = rubbish; steps = steps; used = used; found = subst (λ (v : World). AreFound x v es) (run-is deed.steps m.state.course) parts.servers.found };
-      }
-
-      leads : length w'.net.sent ≤ 1000000 → Leads x m (led-to x m h deed es)
-      leads few = made-leads x m h deed (record m.state { tasks = drop 1 m.state.tasks }) (go_on deed.steps m.state.course) es makes (not-too-much deed (go_on deed.steps m.state.course) (length w'.net.sent) cuts (carried-length w'.net.sent (go_on deed.steps m.state.course) parts.net.net.sent) few)
+  deed-made h rubbish deed does cuts es steps used w' parts lines lines' told =
+      task-made look device x w m stand does.task does.next does.begun_is h rubbish deed does.deed_is cuts es steps used w' parts lines lines' told
 
   -- ---- what was named
 
@@ -153,10 +125,6 @@ module _ {S : Type 0} (look : S → StoreView) (device : S → DeviceState) (x :
           })
           lines lines' (told ∙ ap (λ (ts : List Text). lines ++ lines_at (when_of m.state) ts) (sym texts))
       where
-        none-traced : (trace : Bool) → traced trace [] ≡ []
-        none-traced true = refl
-        none-traced false = refl
-
         texts : texts_of x h deed m.state.course.world (go_on deed.steps m.state.course).world ≡ outside_texts deed.device h.told ++ own ++ deed.texts
         texts = texts-are x h deed m.state.course.world (go_on deed.steps m.state.course).world own [] lines-are (sent-are ∙ sym (append-nil m.state.course.world.sent))
             ∙ ap (λ (ts : List Text). outside_texts deed.device h.told ++ own ++ deed.texts ++ ts) (none-traced x.trace) ∙ append-nil (outside_texts deed.device h.told ++ own ++ deed.texts)

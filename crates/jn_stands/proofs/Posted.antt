@@ -1,5 +1,5 @@
 -- What a step tells and sends, as the machine and the code have it.
-use Rattle.std.proofs.Common.{◌≡◌, ℕ, Bool, true, List, [], ◌∷◌, ◌++◌, append-nil, append_assoc, length, drop, map, refl, sym, ◌∙◌, ap}
+use Rattle.std.proofs.Common.{◌≡◌, ℕ, Bool, true, false, List, [], ◌∷◌, ◌++◌, append-nil, append_assoc, length, drop, map, refl, sym, ◌∙◌, ap}
 use Rattle.std.proofs.Math.Seq.{drop-append_seam}
 use Rattle.std.proofs.lemmas.List.{map-append}
 use Rattle.jn_base.specs.declared.names.Party.{Party}
@@ -22,6 +22,10 @@ sent-posted from (m ∷ messages) = ap (λ (ms : List Sent). m ∷ ms) (sent-pos
 pub new-posted : (from : Party) (messages : List Sent) → are_new (posted_by from messages) ≡ true
 new-posted from [] = refl
 new-posted from (m ∷ messages) = new-posted from messages
+
+pub none-traced : (trace : Bool) → traced trace [] ≡ []
+none-traced true = refl
+none-traced false = refl
 
 -- the texts of a step, where what the system told and sent in it is known
 pub texts-are : (x : Setup) (h : Chance) (deed : Deed) (before now : World) (own : List Text) (sent : List Sent) → now.lines ≡ before.lines ++ own → now.sent ≡ before.sent ++ sent

@@ -6,3 +6,4 @@ pub mod Starting
 pub mod Ending
 pub mod Pages
 pub mod Restarting
+pub mod Clients
