@@ -20,3 +20,5 @@ pub mod Served
 pub mod ServedSteps
 pub mod Took
 pub mod Plain
+pub mod Idle
+pub mod Looking

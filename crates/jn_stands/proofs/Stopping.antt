@@ -142,7 +142,7 @@ module _ {S : Type 0} (look : S → StoreView) (device : S → DeviceState) (see
 
   -- ---- it found the last epoch
 
-  module _ (used : IsUsedUpAt look device (counts_by place.counts) told s t) (last : (found_on (counts_by place.counts) (look t) (λ n. false)).epoch ≡ 4294967295) where
+  module _ (used : IsUsedUpAt look device (counts_by place.counts) told s t) where
     abbrev reads : Pick → Pick
     reads c = let each = used.each c in each.0
 
@@ -154,7 +154,7 @@ module _ {S : Type 0} (look : S → StoreView) (device : S → DeviceState) (see
 
     pub used-up : is_used_up used-chance q world ≡ true
     used-up = ap (λ (f : Pick → StableState). nat_eq (f (reads (λ n. false))).epoch last_epoch) there.1
-        ∙ ap (λ (y : StableState). nat_eq y.epoch last_epoch) (let each = used.each (λ n. false) in sym each.1) ∙ ap (λ (n : ℕ). nat_eq n last_epoch) last
+        ∙ ap (λ (y : StableState). nat_eq y.epoch last_epoch) (let each = used.each (λ n. false) in sym each.1) ∙ ap (λ (n : ℕ). nat_eq n last_epoch) (used.last (λ n. false))
 
     used-alone : (now : Moment) → now.state.course.world ≡ after (Narrow q reads) world → now.devices ≡ devices-now look device x w m stand seen q place at (device t) → IsAlone look device seen x w m stand now q (counts_by place.counts) (Down t)
     used-alone now e ds = record {

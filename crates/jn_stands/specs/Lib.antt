@@ -7,3 +7,4 @@ pub mod Ending
 pub mod Pages
 pub mod Restarting
 pub mod Clients
+pub mod Showing

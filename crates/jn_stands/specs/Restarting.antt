@@ -1,14 +1,10 @@
 -- What the code tells of a restart behind the faults of its device.
-use Rattle.std.specs.Prelude.{◌≡◌, Bool, false, ⊤, List, [], ◌∷◌, drop}
+use Rattle.std.specs.Prelude.{Bool, List, [], ◌∷◌, drop}
 use Rattle.jn_base.specs.declared.names.ServerNo.{ServerNo}
 use Rattle.jn_base.specs.declared.names.Tid.{Tid}
 use Rattle.jn_device.specs.Device.{DeviceState}
-use Rattle.jn_found.specs.Pages.{found_on}
 use Rattle.jn_place.specs.declared.place.Restarted.{Restarted}
 use Rattle.jn_place.specs.declared.place.Restarted.TheVariants as came
-use Rattle.jn_place.specs.declared.place.Slot.{Slot}
-use Rattle.jn_place.specs.declared.place.Slot.TheVariants.{Up, Down, Gone}
-use Rattle.jn_records.specs.StablePages.{Counts}
 use Rattle.jn_report.specs.declared.line.EventRefusal.TheVariants.{EpochsUsedUp}
 use Rattle.jn_report.specs.declared.line.Text.{Text}
 use Rattle.jn_report.specs.declared.line.Text.TheVariants as says
@@ -25,11 +21,6 @@ abbrev pub texts_restarted : ServerNo → (Tid → Bool) → Restarted → List 
 texts_restarted q named (came.Up epoch tids) = says.Up q epoch ∷ names_told tids.items named
 texts_restarted q named came.Stopped = says.Stopped q ∷ []
 texts_restarted q named came.UsedUp = says.RefusedEvent EpochsUsedUp ∷ []
-
--- where epochs are used up, the last one is found afterwards
-abbrev pub FoundLast : {S : Type 0} → (S → StoreView) → Counts → Restarted → Slot S → Type 0
-FoundLast look g came.UsedUp (Down s) = (found_on g (look s) (λ n. false)).epoch ≡ 4294967295
-FoundLast look g restarted slot = ⊤
 
 -- At the start and the end: the server came up or was stopped, or its epochs are used up and the run is cut short. The lines of that
 -- restart aren't told then.
