@@ -22,3 +22,4 @@ pub mod Took
 pub mod Plain
 pub mod Idle
 pub mod Looking
+pub mod Closing
