@@ -23,3 +23,4 @@ pub mod Plain
 pub mod Idle
 pub mod Looking
 pub mod Closing
+pub mod Numbered
