@@ -3,9 +3,15 @@
 #![tactic(auto)]
 
 mod ends;
+mod faults;
+mod looks;
 mod names;
+mod power;
 mod tasks;
 
 pub use ends::{a_run_starts_and_ends_on_its_stores, the_end_begins};
+pub use faults::faults_that_befall_are_steps;
+pub use looks::{a_closing_is_a_step, a_look_is_a_step};
 pub use names::{a_loop_names_what_a_restart_names, a_show_is_printed_block_by_block};
-pub use tasks::{an_event_is_what_comes_next, steps_without_servers};
+pub use power::{a_crash_is_a_step, a_restart_is_a_step};
+pub use tasks::{an_event_is_what_comes_next, steps_without_servers, the_event_under_way_stays};

@@ -1,6 +1,6 @@
 //! Which event the next task does, and tasks in which no server and no client does anything.
 
-ghost use Rattle.std.specs.Prelude.{◌≡◌, ◌∷◌, ◌++◌, [], false, List, Some, None, drop};
+ghost use Rattle.std.specs.Prelude.{◌≡◌, ◌∷◌, ◌++◌, ◌+◌, [], false, List, Some, None, drop};
 ghost use Rattle.jn_base.specs.declared.names.ServerNo.{ServerNo};
 ghost use Rattle.jn_report.specs.declared.line.EventRefusal.{EventRefusal};
 ghost use Rattle.jn_report.specs.declared.line.Line.{Line};
@@ -11,9 +11,9 @@ ghost use Rattle.jn_written.specs.Chances.{Setup};
 ghost use Rattle.jn_written.specs.Events.{settling};
 ghost use Rattle.jn_written.specs.Refusals.{refusal_of};
 ghost use Rattle.jn_written.specs.Runs.{Moment};
-ghost use Rattle.jn_written.specs.Tasks.{Begins, Meets, Acts, GoesDown, CountsCommits, when_of, next_task};
-ghost use Rattle.jn_stands.specs.Going.{ActsNext, IsStepTo};
-ghost use Rattle.jn_stands.specs.Meeting.{is_settle};
+ghost use Rattle.jn_written.specs.Tasks.{Task, Begins, Meets, Acts, GoesDown, CountsCommits, when_of, next_task};
+ghost use Rattle.jn_stands.specs.Going.{ActsNext, WentOn, IsStepTo};
+ghost use Rattle.jn_stands.specs.Meeting.{is_settle, begun_by, begins_in};
 ghost use Rattle.jn_stands.specs.Stands.{Standing, Stands};
 
 use jn_store::Powered;
@@ -36,4 +36,12 @@ pub fn steps_without_servers<S: Powered>()
         → IsStepTo (λ s. S.view s) (λ s. S.device s) x m (settling x ++ drop 1 m.state.tasks) w lines lines }
     ensures counts { (x : Setup) (w : Standing S) (m : Moment) (lines : List Line) → Stands (λ s. S.view s) (λ s. S.device s) x w m → next_task m.state ≡ Some CountsCommits
         → IsStepTo (λ s. S.view s) (λ s. S.device s) x m (drop 1 m.state.tasks) w lines (lines ++ record { when = when_of m.state; text = says.Commits w.commits } ∷ []) }
+{}
+
+/// Where the machine went on, lines stand at the event at which they stood, unless the next one begins.
+pub fn the_event_under_way_stays<S: Powered>()
+    ensures same { (x : Setup) (m : Moment) (w : Standing S) (lines lines' : List Line) (task : Task) → next_task m.state ≡ Some task → (tasks : List Task)
+        (went : WentOn (λ s. S.view s) (λ s. S.device s) x m (tasks ++ drop 1 m.state.tasks) w lines lines') → begun_by task ≡ 0 → begins_in tasks ≡ 0 → when_of went.last.state ≡ when_of m.state }
+    ensures next { (x : Setup) (m : Moment) (w : Standing S) (lines lines' : List Line) (event : Event) → next_task m.state ≡ Some (Begins event)
+        → (went : WentOn (λ s. S.view s) (λ s. S.device s) x m (Meets event ∷ drop 1 m.state.tasks) w lines lines') → went.last.state.course.world.event ≡ m.state.course.world.event + 1 }
 {}
