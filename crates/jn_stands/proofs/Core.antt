@@ -1,5 +1,5 @@
 -- From the next task to where the code stands once it is done.
-use Rattle.std.proofs.Common.{◌≡◌, ◌≤◌, ◌<◌, ℕ, suc, Bool, true, false, List, [], ◌∷◌, ◌++◌, length, slice_get, drop, append-nil, Option, Some, refl, sym, ◌∙◌, ap, subst}
+use Rattle.std.proofs.Common.{◌≡◌, ◌≤◌, ℕ, suc, Bool, true, false, List, [], ◌∷◌, ◌++◌, length, slice_get, drop, append-nil, Option, Some, refl, sym, ◌∙◌, ap, subst}
 use Rattle.jn_base.specs.declared.names.ServerNo.{ServerNo}
 use Rattle.jn_base.specs.declared.names.ClientNo.{ClientNo}
 use Rattle.jn_base.specs.declared.names.Tid.{Tid}
@@ -24,7 +24,7 @@ use Rattle.jn_written.specs.Deeds.{Deed}
 use Rattle.jn_written.specs.Devices.{Devices, IsUsed, AreFound, rubbish_on}
 use Rattle.jn_written.specs.Events.{acted, deed_of}
 use Rattle.jn_written.specs.Runs.{Moment, Leads}
-use Rattle.jn_written.specs.Steps.{texts_of, lines_at, is_too_much, come_to, cut_short}
+use Rattle.jn_written.specs.Steps.{texts_of, lines_at, come_to, cut_short}
 use Rattle.jn_written.specs.Tasks.{Task, State, when_of, next_task, begun}
 use Rattle.jn_written.proofs.Computed.{may-lead}
 use Rattle.jn_written.proofs.Named.{names}

@@ -24,3 +24,10 @@ pub mod Idle
 pub mod Looking
 pub mod Closing
 pub mod Numbered
+pub mod Clients
+pub mod ClientSteps
+pub mod Commands
+pub mod Losing
+pub mod Nudging
+pub mod Working
+pub mod RestNext

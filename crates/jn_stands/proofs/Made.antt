@@ -1,11 +1,9 @@
 -- A step that is made, or that cuts the run short.
-use Rattle.std.proofs.Common.{◌≡◌, ◌≤◌, ◌<◌, ℕ, Bool, true, false, List, [], ◌∷◌, ◌++◌, length, append-nil, drop, Some, None, refl, sym, ◌∙◌, ap, subst, arith}
+use Rattle.std.proofs.Common.{◌≡◌, ◌≤◌, ◌<◌, ℕ, Bool, true, false, List, [], ◌++◌, length, append-nil, drop, Some, None, refl, sym, ◌∙◌, ap, subst, arith}
 use Rattle.std.specs.Prelude.{◌||◌, nat_lt, if◌then◌else◌}
 use Rattle.std.proofs.Math.Seq.{drop-length}
 use Rattle.std.proofs.lemmas.List.{length-map}
 use Rattle.std.proofs.lemmas.Bool.Decides.{nat_tests}
-use Rattle.jn_base.specs.declared.names.ServerNo.{ServerNo}
-use Rattle.jn_base.specs.declared.names.Party.{Party}
 use Rattle.jn_device.specs.Device.{DeviceState}
 use Rattle.jn_net.specs.declared.Sent.{Sent as Posted}
 use Rattle.jn_report.specs.declared.line.Line.{Line}
@@ -13,17 +11,17 @@ use Rattle.jn_report.specs.declared.line.Text.{Text}
 use Rattle.jn_store.specs.Store.{StoreView}
 use Rattle.jn_protocol.specs.World.{World}
 use Rattle.jn_settling.specs.Course.{Course, go_on}
-use Rattle.jn_rests.specs.Waiting.{sent_of, Carries}
+use Rattle.jn_rests.specs.Waiting.{sent_of}
 use Rattle.jn_written.specs.Chances.{Setup, Chance}
 use Rattle.jn_written.specs.Tasks.{Task, State, when_of, next_task, begun}
 use Rattle.jn_rows.specs.Outcomes.{Sent}
 use Rattle.jn_written.specs.Deeds.{Nothing, Deed}
 use Rattle.jn_written.specs.Events.{deed_of}
-use Rattle.jn_written.specs.Steps.{message_texts, traced, texts_of, lines_at, is_too_much, come_to, cut_short, made_to, done}
+use Rattle.jn_written.specs.Steps.{message_texts, traced, texts_of, lines_at, is_too_much, come_to, cut_short, made_to}
 use Rattle.jn_written.specs.Devices.{Devices, Befalls, rubbish_on}
-use Rattle.jn_written.specs.Runs.{Moment, DoesStep, Leads, none, more}
+use Rattle.jn_written.specs.Runs.{Moment, Leads, none, more}
 use Rattle.jn_stands.specs.Stands.{Standing, Stands}
-use Rattle.jn_stands.specs.Going.{WentOn, WasCut, IsStepTo}
+use Rattle.jn_stands.specs.Going.{IsStepTo}
 
 -- a chance of which no step asks anything more
 abbrev pub quiet_chance : Setup → Devices → Chance
@@ -52,13 +50,13 @@ pub record Makes (x : Setup) (m : Moment) (h : Chance) (deed : Deed) (s : State)
 
 pub one-step : (x : Setup) (m : Moment) (h : Chance) (deed : Deed) (s : State) (c : Course) (es : Devices) → Makes x m h deed s c es → Leads x m (record { state = made_to x h deed c s; devices = es })
 one-step x m h deed s c es k = more m (record { state = made_to x h deed c s; devices = es }) (record { state = made_to x h deed c s; devices = es }) (record {
-    chance = h;
-    task = k.task;
-    task_is = k.next;
-    state_is = sym (ap (λ (d : Deed). made_to x h d (go_on d.steps (begun k.task m.state).course) (begun k.task m.state)) k.deed_is
-        ∙ ap (λ (t : State). made_to x h deed (go_on deed.steps t.course) t) k.begun_is ∙ ap (λ (d : Course). made_to x h deed d s) k.course);
-    befalls = subst (λ (d : Deed). Befalls x h d m.state.course.world m.devices es) (sym k.deed_is) k.befalls;
-  }) (none (record { state = made_to x h deed c s; devices = es }))
+  chance = h;
+  task = k.task;
+  task_is = k.next;
+  state_is = sym (ap (λ (d : Deed). made_to x h d (go_on d.steps (begun k.task m.state).course) (begun k.task m.state)) k.deed_is
+      ∙ ap (λ (t : State). made_to x h deed (go_on deed.steps t.course) t) k.begun_is ∙ ap (λ (d : Course). made_to x h deed d s) k.course);
+  befalls = subst (λ (d : Deed). Befalls x h d m.state.course.world m.devices es) (sym k.deed_is) k.befalls;
+}) (none (record { state = made_to x h deed c s; devices = es }))
 
 pub made-leads : (x : Setup) (m : Moment) (h : Chance) (deed : Deed) (s : State) (c : Course) (es : Devices) → Makes x m h deed s c es → is_too_much deed c ≡ false → Leads x m (record { state = come_to x h deed c s; devices = es })
 made-leads x m h deed s c es k e = subst (λ (b : Bool). Leads x m (record { state = if b then cut_short s else come_to x h deed c s; devices = es })) e (one-step x m h deed s c es k)

@@ -1,5 +1,5 @@
 -- A list of which one element is another now.
-use Rattle.std.proofs.Common.{◌≡◌, ◌<◌, ℕ, zero, suc, List, [], ◌∷◌, length, slice_get, slice_set, Option, Some, None, subst, arith}
+use Rattle.std.proofs.Common.{◌≡◌, ◌<◌, ℕ, zero, suc, List, [], ◌∷◌, length, slice_get, slice_set, Some, refl, subst, arith}
 
 some-of : {X : Type 0} (a b : X) → Some a ≡ Some b → a ≡ b
 some-of a b e = cc
@@ -8,6 +8,11 @@ pub get-below : {X : Type 0} (xs : List X) (i : ℕ) (x : X) → slice_get xs i 
 get-below [] i x e = absurd (cc e)
 get-below (z ∷ xs) zero x e = omega arith
 get-below (z ∷ xs) (suc i) x e = let below = get-below xs i x e in omega (arith, below)
+
+pub get-there : {X : Type 0} (xs : List X) (i : ℕ) → i < length xs → (x : X) × (slice_get xs i ≡ Some x)
+get-there [] i l = absurd (omega (arith, l))
+get-there (z ∷ xs) zero l = (z, refl)
+get-there (z ∷ xs) (suc i) l = get-there xs i (omega (arith, l))
 
 -- what holds of the one, and of all others before, holds of each
 pub each-set : {X : Type 0} (P : ℕ → X → Type 0) (xs : List X) (i : ℕ) (y : X) → P i y → ((n : ℕ) (x : X) → (i ≡ n → ⊥) → slice_get xs n ≡ Some x → P n x)

@@ -1,5 +1,5 @@
 -- A step of the system for which no device is called.
-use Rattle.std.proofs.Common.{◌≡◌, ℕ, ◌+◌, Bool, true, false, List, [], ◌∷◌, ◌++◌, append-nil, length, drop, Option, Some, None, refl, sym, ◌∙◌, ap, subst, arith}
+use Rattle.std.proofs.Common.{◌≡◌, ℕ, ◌+◌, Bool, List, [], ◌∷◌, ◌++◌, append-nil, length, drop, Some, None, refl, sym, ◌∙◌, ap, subst, arith}
 use Rattle.std.specs.Prelude.{◌||◌}
 use Rattle.std.specs.List.{list_any}
 use Rattle.jn_base.specs.declared.names.ServerNo.{ServerNo}
@@ -17,20 +17,20 @@ use Rattle.jn_rests.specs.Waiting.{Carries, delivered_by}
 use Rattle.jn_rows.specs.Client.{ClientTable}
 use Rattle.jn_rows.specs.Outcomes.{Sent}
 use Rattle.jn_schedule.specs.declared.Event.{Event}
-use Rattle.jn_settling.specs.Course.{Course, go}
+use Rattle.jn_settling.specs.Course.{go}
 use Rattle.jn_store.specs.Pairs.{pairs_view}
 use Rattle.jn_store.specs.Store.{StoreView}
 use Rattle.jn_written.specs.Chances.{Setup, Chance}
-use Rattle.jn_written.specs.Deeds.{Deed, plain, nothing}
+use Rattle.jn_written.specs.Deeds.{plain, nothing}
 use Rattle.jn_written.specs.Events.{acted, deed_of}
 use Rattle.jn_written.specs.Runs.{Moment}
-use Rattle.jn_written.specs.Steps.{message_texts, traced, texts_of, lines_at}
+use Rattle.jn_written.specs.Steps.{message_texts, traced, lines_at}
 use Rattle.jn_written.specs.Tasks.{Task, when_of, next_task, begun}
 use Rattle.jn_stands.specs.Stands.{Standing, Stands, posted_by, with_sent}
 use Rattle.jn_stands.specs.Going.{ActsNext, IsStepTo}
 use Rattle.jn_stands.proofs.Made.{carried-length, quiet-texts}
 use Rattle.jn_stands.proofs.Posted.{sent-posted, new-posted, none-traced, texts-are}
-use Rattle.jn_stands.proofs.Core.{ServersStand, ClientsStand, NetStands, PartsStand, chance-of, no-need, last-by, last-of, deed-made, step-made}
+use Rattle.jn_stands.proofs.Core.{ServersStand, ClientsStand, NetStands, chance-of, no-need, last-by, last-of, deed-made, step-made}
 use Rattle.jn_stands.proofs.Servers.{AreSame, servers-same, clients-same, net-moved, net-same}
 
 module _ {S : Type 0} (look : S → StoreView) (device : S → DeviceState) (seen : (s : S) → look s ≡ pairs_view (device s)) (x : Setup) (w : Standing S) (m : Moment) (stand : Stands look device x w m) where
@@ -60,8 +60,7 @@ module _ {S : Type 0} (look : S → StoreView) (device : S → DeviceState) (see
   -- ---- one step
 
   module _ (event : Event) (more : List Task) (next : ActsNext x m event more) (actor : Party) (step : Step) (acts : acted x no-chance event v ≡ plain actor (step ∷ [])) (may : IsStep step v)
-    (messages : List Sent) (texts : List Text) (none : commits_in texts ≡ []) (sent : (after step v).sent ≡ v.sent ++ messages) (told : (after step v).lines ≡ v.lines ++ texts) where
-
+      (messages : List Sent) (texts : List Text) (none : commits_in texts ≡ []) (sent : (after step v).sent ≡ v.sent ++ messages) (told : (after step v).lines ≡ v.lines ++ texts) where
     abbrev pub last : Moment
     last = last-of look device x w m stand no-chance (plain actor (step ∷ [])) more m.devices
 
@@ -82,24 +81,23 @@ module _ {S : Type 0} (look : S → StoreView) (device : S → DeviceState) (see
     -- its lines, and then those of its messages
     pub plain-step : (ps : List (Place S)) → ServersStand look device x ps last → (ts : List ClientTable) → ClientsStand x ts (after step v) → (ms : List Posted) → delivered_by step w.net.sent ≡ ms → (lines : List Line)
         → IsStepTo look device x m (more ++ drop 1 m.state.tasks) (with_sent (posted_by actor messages) (record w { places = ps; clients = ts; net = record w.net { sent = ms } }))
-            lines (lines ++ lines_at (when_of m.state) (texts ++ traced w.trace (message_texts actor (length w.net.sent) messages)))
+        lines (lines ++ lines_at (when_of m.state) (texts ++ traced w.trace (message_texts actor (length w.net.sent) messages)))
     plain-step ps servers ts clients ms e lines = step-made look device x w m stand event more next no-chance (λ q. refl) (plain actor (step ∷ [])) acts refl m.devices (may, tt) (λ q. refl)
         (with_sent (posted_by actor messages) (record w { places = ps; clients = ts; net = record w.net { sent = ms } }))
         (record { trace = stand.trace; servers = servers; clients = clients; net = net-then ms e })
         lines _ (ap (λ (ns : List Text). lines ++ lines_at (when_of m.state) ns) (sym (
-            texts-are x no-chance (plain actor (step ∷ [])) v (after step v) texts messages told sent
-            ∙ ap (λ (b : Bool). texts ++ [] ++ traced b (message_texts actor (length v.sent) messages)) (sym stand.trace)
-            ∙ ap (λ (n : ℕ). texts ++ [] ++ traced w.trace (message_texts actor n messages)) (let net = stand.net in carried-length w.net.sent m.state.course net.sent)
-            ∙ ap (λ (ns : List Text). ns ++ traced w.trace (message_texts actor (length w.net.sent) messages)) (append-nil texts))))
+        texts-are x no-chance (plain actor (step ∷ [])) v (after step v) texts messages told sent
+        ∙ ap (λ (b : Bool). texts ++ [] ++ traced b (message_texts actor (length v.sent) messages)) (sym stand.trace)
+        ∙ ap (λ (n : ℕ). texts ++ [] ++ traced w.trace (message_texts actor n messages)) (let net = stand.net in carried-length w.net.sent m.state.course net.sent)
+        ∙ ap (λ (ns : List Text). ns ++ traced w.trace (message_texts actor (length w.net.sent) messages)) (append-nil texts))))
 
   -- a step of the system that sends nothing
   module _ (event : Event) (more : List Task) (next : ActsNext x m event more) (actor : Party) (step : Step) (acts : acted x no-chance event v ≡ plain actor (step ∷ [])) (may : IsStep step v)
-    (texts : List Text) (none : commits_in texts ≡ []) (sent : (after step v).sent ≡ v.sent) (told : (after step v).lines ≡ v.lines ++ texts) where
-
+      (texts : List Text) (none : commits_in texts ≡ []) (sent : (after step v).sent ≡ v.sent) (told : (after step v).lines ≡ v.lines ++ texts) where
     pub silent-step : (ps : List (Place S)) → ServersStand look device x ps (last-of look device x w m stand no-chance (plain actor (step ∷ [])) more m.devices) → (ts : List ClientTable) → ClientsStand x ts (after step v)
         → (ms : List Posted) → delivered_by step w.net.sent ≡ ms → (lines : List Line)
         → IsStepTo look device x m (more ++ drop 1 m.state.tasks) (record w { places = ps; clients = ts; net = record w.net { sent = ms } }) lines (lines ++ lines_at (when_of m.state) texts)
     silent-step ps servers ts clients ms e lines = subst (λ (ns : List Posted). IsStepTo look device x m (more ++ drop 1 m.state.tasks) (record w { places = ps; clients = ts; net = record w.net { sent = ns } }) lines (lines ++ lines_at (when_of m.state) texts)) (append-nil ms)
         (subst (λ (ns : List Text). IsStepTo look device x m (more ++ drop 1 m.state.tasks) (record w { places = ps; clients = ts; net = record w.net { sent = ms ++ [] } }) lines (lines ++ lines_at (when_of m.state) ns))
-            (ap (λ (ns : List Text). texts ++ ns) (none-traced w.trace) ∙ append-nil texts)
-            (plain-step event more next actor step acts may [] texts none (sent ∙ sym (append-nil v.sent)) told ps servers ts clients ms e lines))
+        (ap (λ (ns : List Text). texts ++ ns) (none-traced w.trace) ∙ append-nil texts)
+        (plain-step event more next actor step acts may [] texts none (sent ∙ sym (append-nil v.sent)) told ps servers ts clients ms e lines))

@@ -1,9 +1,8 @@
 -- What a step tells and sends, as the machine and the code have it.
-use Rattle.std.proofs.Common.{◌≡◌, ℕ, Bool, true, false, List, [], ◌∷◌, ◌++◌, append-nil, append_assoc, length, drop, map, refl, sym, ◌∙◌, ap}
+use Rattle.std.proofs.Common.{◌≡◌, Bool, true, false, List, [], ◌∷◌, ◌++◌, append_assoc, length, drop, refl, sym, ◌∙◌, ap}
 use Rattle.std.proofs.Math.Seq.{drop-append_seam}
 use Rattle.std.proofs.lemmas.List.{map-append}
 use Rattle.jn_base.specs.declared.names.Party.{Party}
-use Rattle.jn_net.specs.declared.Sent.{Sent as Posted}
 use Rattle.jn_protocol.specs.World.{World}
 use Rattle.jn_report.specs.declared.line.When.{When}
 use Rattle.jn_report.specs.declared.line.Text.{Text}
@@ -32,9 +31,9 @@ pub texts-are : (x : Setup) (h : Chance) (deed : Deed) (before now : World) (own
     → texts_of x h deed before now ≡ outside_texts deed.device h.told ++ own ++ deed.texts ++ traced x.trace (message_texts deed.actor (length before.sent) sent)
 texts-are x h deed before now own sent lines-are sent-are =
     ap (λ (texts : List Text). outside_texts deed.device h.told ++ texts ++ deed.texts ++ traced x.trace (message_texts deed.actor (length before.sent) (drop (length before.sent) now.sent)))
-        (ap (λ (ls : List Text). drop (length before.lines) ls) lines-are ∙ drop-append_seam before.lines own)
+    (ap (λ (ls : List Text). drop (length before.lines) ls) lines-are ∙ drop-append_seam before.lines own)
     ∙ ap (λ (ms : List Sent). outside_texts deed.device h.told ++ own ++ deed.texts ++ traced x.trace (message_texts deed.actor (length before.sent) ms))
-        (ap (λ (ms : List Sent). drop (length before.sent) ms) sent-are ∙ drop-append_seam before.sent sent)
+    (ap (λ (ms : List Sent). drop (length before.sent) ms) sent-are ∙ drop-append_seam before.sent sent)
 
 pub lines-append : (when : When) (a b : List Text) → lines_at when (a ++ b) ≡ lines_at when a ++ lines_at when b
 lines-append when a b = map-append (λ (text : Text). record { when = when; text = text }) a b

@@ -1,64 +1,43 @@
 -- A step of a server that is up, by a row, done or stopped.
-use Rattle.std.proofs.Common.{◌≡◌, ◌⊎◌, inl, inr, ◌≢◌, ℕ, ◌+◌, Bool, true, false, not, List, [], ◌∷◌, ◌++◌, append-nil, append_assoc, length, slice_get, slice_set, take, map, Option, Some, None, is_some, refl, sym, ◌∙◌, ap, subst, arith}
-use Rattle.std.specs.Prelude.{◌||◌, if◌then◌else◌}
+use Rattle.std.proofs.Common.{◌≡◌, ℕ, Bool, true, false, not, List, slice_get, take, Option, Some, None, is_some, sym, ◌∙◌, ap, subst, arith}
+use Rattle.std.specs.Prelude.{if◌then◌else◌}
 use Rattle.std.proofs.Math.Path.{fun_ext}
 use Rattle.std.proofs.lemmas.Bool.Decides.{nat_tests}
 use Rattle.jn_base.specs.declared.names.ServerNo.{ServerNo}
-use Rattle.jn_base.specs.declared.names.Tid.{Tid}
-use Rattle.jn_base.specs.declared.names.Party.TheVariants.{Server}
 use Rattle.jn_base.specs.declared.device.Outside.{Outside}
 use Rattle.jn_base.specs.Names.{server_eq}
-use Rattle.jn_base.proofs.Tells.{server_tells}
 use Rattle.jn_device.specs.Device.{DeviceState}
-use Rattle.jn_found.specs.Pages.{found_on, pool_on}
-use Rattle.jn_machine.specs.Steps.{changed}
-use Rattle.jn_msgs.specs.Collected.{Collected}
-use Rattle.jn_net.specs.declared.Sent.{Sent as Posted}
+use Rattle.jn_found.specs.Pages.{pool_on}
 use Rattle.jn_place.specs.declared.place.Place.{Place}
 use Rattle.jn_place.specs.declared.place.Slot.{Slot}
 use Rattle.jn_place.specs.declared.place.Slot.TheVariants.{Up, Down, Gone}
-use Rattle.jn_place.specs.Exact.{IsSpent, texts_of_step, IsDoneAt, IsStoppedAt, Ends, IsStepOf, Sends}
-use Rattle.jn_protocol.specs.Servers.{Room, lines_of}
-use Rattle.jn_protocol.specs.Steps.{Step, IsStep, after, done, stopped, ends}
-use Rattle.jn_protocol.specs.World.{World, Memory, at_server, commits_in, has_line}
-use Rattle.jn_records.specs.declared.net_list.Need.{Need}
+use Rattle.jn_place.specs.Exact.{IsSpent, IsDoneAt, IsStoppedAt}
+use Rattle.jn_protocol.specs.Steps.{done, stopped}
+use Rattle.jn_protocol.specs.World.{World, Memory, at_server}
 use Rattle.jn_records.specs.StablePages.{Counts}
 use Rattle.jn_recovery.specs.Loading.{counts_by}
-use Rattle.jn_report.specs.declared.line.Text.{Text}
-use Rattle.jn_report.specs.declared.line.Text.TheVariants as says
-use Rattle.jn_report.specs.declared.line.Line.{Line}
-use Rattle.jn_rests.specs.Waiting.{sent_of, delivered_by}
-use Rattle.jn_rows.specs.Outcomes.{RowOutcome, Sent}
-use Rattle.jn_rows.specs.Stable.{StableState, Pick, IsUp, stable, made_all}
-use Rattle.jn_schedule.specs.declared.Event.{Event}
+use Rattle.jn_rows.specs.Outcomes.{RowOutcome}
+use Rattle.jn_rows.specs.Stable.{StableState, Pick, stable, made_all}
 use Rattle.jn_server.specs.Seen.{Parts, view_with, memory_of, room_of}
-use Rattle.jn_settling.specs.Course.{Course, go}
 use Rattle.jn_storage.specs.Calls.{state}
 use Rattle.jn_store.specs.Pairs.{pairs_view}
 use Rattle.jn_store.specs.Store.{StoreView}
 use Rattle.jn_written.specs.Chances.{Setup, Chance}
-use Rattle.jn_written.specs.Deeds.{Deed, served, room}
+use Rattle.jn_written.specs.Deeds.{room}
 use Rattle.jn_written.specs.Devices.{Devices, Alone, IsCalled, IsServed, pages_of, free_on, has_rubbish, rubbish_on}
-use Rattle.jn_written.specs.Events.{acted}
 use Rattle.jn_written.specs.Runs.{Moment}
-use Rattle.jn_written.specs.Steps.{outside_texts, message_texts, traced, texts_of, lines_at}
-use Rattle.jn_written.specs.Tasks.{Task, when_of}
-use Rattle.jn_stands.specs.Stands.{Standing, StandsAt, Stands, posted_in, noted_in, texts_sent, with_answer}
+use Rattle.jn_stands.specs.Stands.{Standing, StandsAt, Stands}
 use Rattle.jn_stands.specs.Pages.{HasCounts, ReadsPages}
-use Rattle.jn_stands.specs.Going.{ActsNext, IsStepTo}
-use Rattle.jn_stands.proofs.Made.{carried-length}
-use Rattle.jn_stands.proofs.Posted.{sent-posted, new-posted, texts-are, lines-in-two}
-use Rattle.jn_stands.proofs.Core.{chance-of, last-of, step-made}
-use Rattle.jn_stands.proofs.Servers.{IsAlone, server-moved, clients-same, net-moved}
+use Rattle.jn_stands.proofs.Core.{chance-of}
+use Rattle.jn_stands.proofs.Servers.{IsAlone}
 
-same-server : (q : ServerNo) → server_eq q q ≡ true
+pub same-server : (q : ServerNo) → server_eq q q ≡ true
 same-server q = grind (arith, nat_tests)
 
 -- ---- what is given
 
 module _ {S : Type 0} (look : S → StoreView) (device : S → DeviceState) (seen : (s : S) → look s ≡ pairs_view (device s)) (x : Setup) (w : Standing S) (m : Moment) (stand : Stands look device x w m)
-  (q : ServerNo) (place : Place S) (at : slice_get w.places q.0 ≡ Some place) where
-
+    (q : ServerNo) (place : Place S) (at : slice_get w.places q.0 ≡ Some place) where
   -- the device that stands at a slot
   abbrev device-at : Slot S → DeviceState
   device-at (Up p) = device p.storage.0
@@ -129,11 +108,13 @@ module _ {S : Type 0} (look : S → StoreView) (device : S → DeviceState) (see
         memory = λ s o. ap (λ (u : World). u.memory s) world ∙ ap (λ (b : Bool). if b then Some row.table else m.state.course.world.memory s) o;
         found = λ s o. ap (λ (u : World). u.found s) world ∙ fun_ext (λ c. ap (λ (b : Bool). if b then made_all row.changes (m.state.course.world.found q c) else m.state.course.world.found s c) o);
         devices = λ s o. ap (λ (f : Devices). f s) ds ∙ devices-there (Up p') s o;
-        here = (ap (λ (u : World). u.memory q) world ∙ ap (λ (b : Bool). if b then Some row.table else m.state.course.world.memory q) (same-server q) ∙ ap (λ (t : Memory). Some t) (sym e.memory),
-            ap (λ (u : World). u.found q) world ∙ fun_ext (λ c. ap (λ (b : Bool). if b then made_all row.changes (m.state.course.world.found q c) else m.state.course.world.found q c) (same-server q)
-                ∙ ap (made_all row.changes) (ap (λ (f : Pick → StableState). f c) here.1 ∙ here.3 c) ∙ sym (e.found c)),
-            ap (λ (f : Devices). f q) ds ∙ devices-here (Up p'),
-            λ c. e.found c ∙ sym (e.found (λ n. false)));
+        here = (
+          ap (λ (u : World). u.memory q) world ∙ ap (λ (b : Bool). if b then Some row.table else m.state.course.world.memory q) (same-server q) ∙ ap (λ (t : Memory). Some t) (sym e.memory),
+          ap (λ (u : World). u.found q) world ∙ fun_ext (λ c. ap (λ (b : Bool). if b then made_all row.changes (m.state.course.world.found q c) else m.state.course.world.found q c) (same-server q)
+              ∙ ap (made_all row.changes) (ap (λ (f : Pick → StableState). f c) here.1 ∙ here.3 c) ∙ sym (e.found c)),
+          ap (λ (f : Devices). f q) ds ∙ devices-here (Up p'),
+          λ c. e.found c ∙ sym (e.found (λ n. false)),
+        );
         counts = counts;
       }
 
@@ -146,9 +127,11 @@ module _ {S : Type 0} (look : S → StoreView) (device : S → DeviceState) (see
         memory = λ r o. ap (λ (u : World). u.memory r) world ∙ ap (λ (b : Bool). if b then None else m.state.course.world.memory r) o;
         found = λ r o. ap (λ (u : World). u.found r) world ∙ fun_ext (λ c. ap (λ (b : Bool). if b then made_all (take (made-by s e c) row.changes) (m.state.course.world.found q c) else m.state.course.world.found r c) o);
         devices = λ r o. ap (λ (f : Devices). f r) ds ∙ devices-there (Down s) r o;
-        here = (ap (λ (u : World). u.memory q) world ∙ ap (λ (b : Bool). if b then None else m.state.course.world.memory q) (same-server q),
-            ap (λ (u : World). u.found q) world ∙ fun_ext (λ c. ap (λ (b : Bool). if b then made_all (take (made-by s e c) row.changes) (m.state.course.world.found q c) else m.state.course.world.found q c) (same-server q)
-                ∙ ap (made_all (take (made-by s e c) row.changes)) (ap (λ (f : Pick → StableState). f c) here.1 ∙ here.3 c) ∙ sym (let some = e.some c in some.is_after)),
-            ap (λ (f : Devices). f q) ds ∙ devices-here (Down s));
+        here = (
+          ap (λ (u : World). u.memory q) world ∙ ap (λ (b : Bool). if b then None else m.state.course.world.memory q) (same-server q),
+          ap (λ (u : World). u.found q) world ∙ fun_ext (λ c. ap (λ (b : Bool). if b then made_all (take (made-by s e c) row.changes) (m.state.course.world.found q c) else m.state.course.world.found q c) (same-server q)
+              ∙ ap (made_all (take (made-by s e c) row.changes)) (ap (λ (f : Pick → StableState). f c) here.1 ∙ here.3 c) ∙ sym (let some = e.some c in some.is_after)),
+          ap (λ (f : Devices). f q) ds ∙ devices-here (Down s),
+        );
         counts = tt;
       }

@@ -2,7 +2,6 @@
 use Rattle.std.proofs.Common.{◌≡◌, ℕ, ◌+◌, Bool, true, false, List, [], ◌∷◌, ◌++◌, append-nil, append_assoc, length, slice_get, slice_set, drop, Option, Some, None, is_some, refl, sym, ◌∙◌, ap, subst}
 use Rattle.std.specs.Prelude.{◌||◌}
 use Rattle.jn_base.specs.declared.names.ServerNo.{ServerNo}
-use Rattle.jn_base.specs.declared.names.Tid.{Tid}
 use Rattle.jn_base.specs.declared.names.Party.TheVariants.{Server}
 use Rattle.jn_base.specs.declared.device.Outside.{Outside}
 use Rattle.jn_device.specs.Device.{DeviceState}
@@ -46,9 +45,8 @@ in-order : (faults own sent more : List Text) → sent ≡ more → faults ++ ow
 in-order faults own sent more e = ap (λ (ts : List Text). ts ++ sent) (append-nil (faults ++ own)) ∙ ap (λ (ts : List Text). faults ++ own ++ ts) e ∙ append_assoc faults own more ∙ ap (λ (ts : List Text). ts ++ (own ++ more)) (sym (append-nil faults))
 
 module _ {S : Type 0} (look : S → StoreView) (device : S → DeviceState) (seen : (s : S) → look s ≡ pairs_view (device s)) (x : Setup) (w : Standing S) (m : Moment) (stand : Stands look device x w m)
-  (q : ServerNo) (place : Place S) (at : slice_get w.places q.0 ≡ Some place) (p : Parts S) (is : place.slot ≡ Up p) (reads : ReadsPages look device (counts_by place.counts) place.slot)
-  (row : RowOutcome Memory) (k : Option ℕ) (event : Event) (step : Option (Pick → ℕ) → Step) (sent : List Posted) where
-
+    (q : ServerNo) (place : Place S) (at : slice_get w.places q.0 ≡ Some place) (p : Parts S) (is : place.slot ≡ Up p) (reads : ReadsPages look device (counts_by place.counts) place.slot)
+    (row : RowOutcome Memory) (k : Option ℕ) (event : Event) (step : Option (Pick → ℕ) → Step) (sent : List Posted) where
   abbrev v : World
   v = m.state.course.world
 
@@ -72,7 +70,7 @@ module _ {S : Type 0} (look : S → StoreView) (device : S → DeviceState) (see
 
     done-step : (told : List Outside) (p' : Parts S) → IsDoneAt look device told row p p' → HasCounts (counts_by place.counts) (Up p')
         → IsStepTo look device x m (more ++ drop 1 m.state.tasks) (answered (Up p') of-row) lines
-            (lines ++ lines_at (when_of m.state) (texts_of_step q told true) ++ lines_at (when_of m.state) (texts_sent q k w.trace (length w.net.sent) of-row))
+        (lines ++ lines_at (when_of m.state) (texts_of_step q told true) ++ lines_at (when_of m.state) (texts_sent q k w.trace (length w.net.sent) of-row))
     done-step told p' e counts = step-made look device x w m stand event more next h (λ s. refl) (served q (step None ∷ [])) (acts.acts told None) refl
         (devices-with look device seen x w m stand q place at (Up p')) (acts.may None, tt) (called look device seen x w m stand q place at p is reads told None true (Up p') refl e.spent)
         (answered (Up p') of-row) parts lines _ told-are
@@ -100,13 +98,13 @@ module _ {S : Type 0} (look : S → StoreView) (device : S → DeviceState) (see
             ≡ lines ++ lines_at (when_of m.state) (texts_of x h (served q (step None ∷ [])) v (after (step None) v))
         told-are = lines-in-two (when_of m.state) lines (texts_of_step q told true) (texts_sent q k w.trace (length w.net.sent) of-row)
             ∙ ap (λ (ts : List Text). lines ++ lines_at (when_of m.state) ts) (sym (
-                texts-are x h (served q (step None ∷ [])) v (after (step None) v) (lines_of q k row.notes) row.messages (ap (λ (u : World). u.lines) (acts.does None)) (ap (λ (u : World). u.sent) (acts.does None))
-                ∙ in-order (outside_texts (Calls q) told) (lines_of q k row.notes) (traced x.trace (message_texts (Server q) (length v.sent) row.messages)) (traced w.trace (message_texts (Server q) (length w.net.sent) row.messages))
-                    (ap (λ (b : Bool). traced b (message_texts (Server q) (length v.sent) row.messages)) (sym stand.trace) ∙ ap (λ (n : ℕ). traced w.trace (message_texts (Server q) n row.messages)) length-is)))
+            texts-are x h (served q (step None ∷ [])) v (after (step None) v) (lines_of q k row.notes) row.messages (ap (λ (u : World). u.lines) (acts.does None)) (ap (λ (u : World). u.sent) (acts.does None))
+            ∙ in-order (outside_texts (Calls q) told) (lines_of q k row.notes) (traced x.trace (message_texts (Server q) (length v.sent) row.messages)) (traced w.trace (message_texts (Server q) (length w.net.sent) row.messages))
+            (ap (λ (b : Bool). traced b (message_texts (Server q) (length v.sent) row.messages)) (sym stand.trace) ∙ ap (λ (n : ℕ). traced w.trace (message_texts (Server q) n row.messages)) length-is)))
 
     stopped-step : (told : List Outside) (s : S) → IsStoppedAt look device (counts_by place.counts) told row p s
         → IsStepTo look device x m (more ++ drop 1 m.state.tasks) (answered (Down s) None) lines
-            (lines ++ lines_at (when_of m.state) (texts_of_step q told false) ++ lines_at (when_of m.state) (texts_sent q k w.trace (length w.net.sent) None))
+        (lines ++ lines_at (when_of m.state) (texts_of_step q told false) ++ lines_at (when_of m.state) (texts_sent q k w.trace (length w.net.sent) None))
     stopped-step told s e = step-made look device x w m stand event more next h (λ r. refl) (served q (step stop ∷ [])) (acts.acts told stop) refl
         (devices-with look device seen x w m stand q place at (Down s)) (acts.may stop, tt) (called look device seen x w m stand q place at p is reads told stop false (Down s) refl e.spent)
         (answered (Down s) None) parts lines _ told-are
@@ -137,16 +135,16 @@ module _ {S : Type 0} (look : S → StoreView) (device : S → DeviceState) (see
             ≡ lines ++ lines_at (when_of m.state) (texts_of x h (served q (step stop ∷ [])) v (after (step stop) v))
         told-are = lines-in-two (when_of m.state) lines (texts_of_step q told false) []
             ∙ ap (λ (ts : List Text). lines ++ lines_at (when_of m.state) ts) (sym (
-                texts-are x h (served q (step stop ∷ [])) v (after (step stop) v) (says.Stopped q ∷ []) [] (ap (λ (u : World). u.lines) (acts.does stop)) (ap (λ (u : World). u.sent) (acts.does stop) ∙ sym (append-nil v.sent))
-                ∙ ap (λ (ts : List Text). outside_texts (Calls q) told ++ says.Stopped q ∷ [] ++ [] ++ ts) (none-traced x.trace)
-                ∙ ap (λ (ts : List Text). ts ++ []) (append-nil (outside_texts (Calls q) told ++ says.Stopped q ∷ []))))
+            texts-are x h (served q (step stop ∷ [])) v (after (step stop) v) (says.Stopped q ∷ []) [] (ap (λ (u : World). u.lines) (acts.does stop)) (ap (λ (u : World). u.sent) (acts.does stop) ∙ sym (append-nil v.sent))
+            ∙ ap (λ (ts : List Text). outside_texts (Calls q) told ++ says.Stopped q ∷ [] ++ [] ++ ts) (none-traced x.trace)
+            ∙ ap (λ (ts : List Text). ts ++ []) (append-nil (outside_texts (Calls q) told ++ says.Stopped q ∷ []))))
 
     -- done or stopped
     pub row-step : (answer : Option Collected) (slot : Slot S) (told : List Line) → IsStepOf look device q (counts_by place.counts) (when_of m.state) row (Up p) (is_some answer) slot [] told → Sends row answer → HasCounts (counts_by place.counts) slot
         → IsStepTo look device x m (more ++ drop 1 m.state.tasks) (answered slot answer) lines (lines ++ told ++ lines_at (when_of m.state) (texts_sent q k w.trace (length w.net.sent) answer))
     row-step (Some out) (Up p') told s sends counts = subst (λ (ls : List Line). IsStepTo look device x m (more ++ drop 1 m.state.tasks) (answered (Up p') (Some out)) lines (lines ++ ls ++ lines_at (when_of m.state) (texts_sent q k w.trace (length w.net.sent) (Some out)))) (sym s.lines_are)
         (subst (λ (o : Option Collected). IsStepTo look device x m (more ++ drop 1 m.state.tasks) (answered (Up p') o) lines (lines ++ lines_at (when_of m.state) (texts_of_step q s.told true) ++ lines_at (when_of m.state) (texts_sent q k w.trace (length w.net.sent) o)))
-            (ap (λ (c : Collected). Some c) (sym sends)) (done-step s.told p' s.ends counts))
+        (ap (λ (c : Collected). Some c) (sym sends)) (done-step s.told p' s.ends counts))
     row-step (Some out) (Down s') told s sends counts = absurd s.ends
     row-step (Some out) Gone told s sends counts = absurd s.ends
     row-step None (Up p') told s sends counts = absurd s.ends

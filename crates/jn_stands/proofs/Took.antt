@@ -1,11 +1,10 @@
 -- A server that is up takes a message.
-use Rattle.std.proofs.Common.{◌≡◌, ℕ, zero, suc, List, [], ◌∷◌, ◌++◌, length, slice_get, slice_set, drop, Option, Some, None, is_some, refl, sym, ◌∙◌, ap, subst}
+use Rattle.std.proofs.Common.{◌≡◌, ℕ, zero, suc, List, [], ◌∷◌, ◌++◌, length, slice_get, slice_set, drop, Option, Some, None, refl, ◌∙◌, ap}
 use Rattle.jn_base.specs.declared.names.ServerNo.{ServerNo}
 use Rattle.jn_base.specs.declared.names.Party.{Party}
 use Rattle.jn_base.specs.declared.names.Party.TheVariants.{Server}
 use Rattle.jn_base.specs.declared.device.Outside.{Outside}
 use Rattle.jn_device.specs.Device.{DeviceState}
-use Rattle.jn_msgs.specs.declared.message.Message.{Message}
 use Rattle.jn_msgs.specs.Collected.{Collected}
 use Rattle.jn_net.specs.declared.Sent.{Sent as Posted}
 use Rattle.jn_net.specs.Carried.{with_delivered}
@@ -14,12 +13,12 @@ use Rattle.jn_place.specs.declared.place.Slot.{Slot}
 use Rattle.jn_place.specs.declared.place.Slot.TheVariants.{Up, Down, Gone}
 use Rattle.jn_place.specs.Exact.{Took}
 use Rattle.jn_protocol.specs.Servers.{Room, server_row}
-use Rattle.jn_protocol.specs.Steps.{Step, IsStep, after, ends, at_memory, handed}
-use Rattle.jn_protocol.specs.World.{World, Memory}
+use Rattle.jn_protocol.specs.Steps.{IsStep, after, ends, at_memory, handed}
+use Rattle.jn_protocol.specs.World.{Memory}
 use Rattle.jn_recovery.specs.Loading.{counts_by}
 use Rattle.jn_report.specs.declared.line.Line.{Line}
 use Rattle.jn_rests.specs.Waiting.{sent_of, delivered_by}
-use Rattle.jn_rows.specs.Outcomes.{RowOutcome, Sent}
+use Rattle.jn_rows.specs.Outcomes.{Sent}
 use Rattle.jn_rows.specs.Stable.{StableState, Pick, stable}
 use Rattle.jn_schedule.specs.declared.Event.TheVariants as events
 use Rattle.jn_server.specs.Seen.{Parts, view_with, memory_of, room_of}
@@ -28,7 +27,7 @@ use Rattle.jn_storage.specs.Calls.{state}
 use Rattle.jn_store.specs.Pairs.{pairs_view}
 use Rattle.jn_store.specs.Store.{StoreView}
 use Rattle.jn_written.specs.Chances.{Setup}
-use Rattle.jn_written.specs.Deeds.{Deed, served, delivered, delivered_at}
+use Rattle.jn_written.specs.Deeds.{served, delivered, delivered_at}
 use Rattle.jn_written.specs.Runs.{Moment}
 use Rattle.jn_written.specs.Steps.{lines_at}
 use Rattle.jn_written.specs.Tasks.{Task, when_of}
@@ -47,8 +46,7 @@ sent-there (m ∷ ms) zero one e = ap (λ (a : Posted). Some (a.to, a.message)) 
 sent-there (m ∷ ms) (suc k) one e = sent-there ms k one e
 
 module _ {S : Type 0} (look : S → StoreView) (device : S → DeviceState) (seen : (s : S) → look s ≡ pairs_view (device s)) (x : Setup) (w : Standing S) (m : Moment) (stand : Stands look device x w m)
-  (k : ℕ) (one : Posted) (posted : slice_get w.net.sent k ≡ Some one) where
-
+    (k : ℕ) (one : Posted) (posted : slice_get w.net.sent k ≡ Some one) where
   -- the message as the machine has it
   pub is-sent : (to : Party) → one.to ≡ to → slice_get m.state.course.world.sent k ≡ Some (to, one.message)
   is-sent to e = ap (λ (ms : List Sent). slice_get ms k) (let net = stand.net in net.sent) ∙ sent-there w.net.sent k one posted ∙ ap (λ (p : Party). Some (p, one.message)) e
@@ -56,7 +54,7 @@ module _ {S : Type 0} (look : S → StoreView) (device : S → DeviceState) (see
   module _ (q : ServerNo) (to : one.to ≡ Server q) (place : Place S) (at : slice_get w.places q.0 ≡ Some place) (reads : ReadsPages look device (counts_by place.counts) place.slot) where
     up-step : (p : Parts S) (is : place.slot ≡ Up p)
         → IsRowStep look device seen x w m stand q place at p is reads (server_row (memory_of (view_with look p)) (state (view_with look p).storage) (room_of (view_with look p).storage) one.message)
-            (Some k) (events.Deliver k) (handing k (room_of (view_with look p).storage)) (with_delivered k w.net.sent)
+        (Some k) (events.Deliver k) (handing k (room_of (view_with look p).storage)) (with_delivered k w.net.sent)
     up-step p is = record { acts = acts; does = does; may = may; delivers = delivers }
       where
         its : Room
@@ -91,14 +89,14 @@ module _ {S : Type 0} (look : S → StoreView) (device : S → DeviceState) (see
     pub took-step : (more : List Task) → ActsNext x m (events.Deliver k) more → (answer : Option Collected) (slot : Slot S) (told : List Line) → Took look device q (counts_by place.counts) (when_of m.state) one.message place.slot answer slot [] told
         → HasCounts (counts_by place.counts) slot → (lines : List Line)
         → IsStepTo look device x m (more ++ drop 1 m.state.tasks)
-            (with_answer q (Some k) answer (record w { places = slice_set w.places q.0 (record place { slot = slot }); net = record w.net { sent = with_delivered k w.net.sent } }))
-            lines (lines ++ told ++ lines_at (when_of m.state) (texts_sent q (Some k) w.trace (length w.net.sent) answer))
+        (with_answer q (Some k) answer (record w { places = slice_set w.places q.0 (record place { slot = slot }); net = record w.net { sent = with_delivered k w.net.sent } }))
+        lines (lines ++ told ++ lines_at (when_of m.state) (texts_sent q (Some k) w.trace (length w.net.sent) answer))
     took-step more next answer slot told took counts lines = by place.slot refl took
       where
         by : (before : Slot S) → place.slot ≡ before → Took look device q (counts_by place.counts) (when_of m.state) one.message before answer slot [] told
             → IsStepTo look device x m (more ++ drop 1 m.state.tasks)
-                (with_answer q (Some k) answer (record w { places = slice_set w.places q.0 (record place { slot = slot }); net = record w.net { sent = with_delivered k w.net.sent } }))
-                lines (lines ++ told ++ lines_at (when_of m.state) (texts_sent q (Some k) w.trace (length w.net.sent) answer))
+            (with_answer q (Some k) answer (record w { places = slice_set w.places q.0 (record place { slot = slot }); net = record w.net { sent = with_delivered k w.net.sent } }))
+            lines (lines ++ told ++ lines_at (when_of m.state) (texts_sent q (Some k) w.trace (length w.net.sent) answer))
         by (Up p) is t = row-step look device seen x w m stand q place at p is reads (server_row (memory_of (view_with look p)) (state (view_with look p).storage) (room_of (view_with look p).storage) one.message)
             (Some k) (events.Deliver k) (handing k (room_of (view_with look p).storage)) (with_delivered k w.net.sent) (up-step p is) more next lines answer slot told t.0 t.1 counts
         by (Down s) is t = absurd t

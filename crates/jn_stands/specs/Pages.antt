@@ -3,7 +3,7 @@ use Rattle.std.specs.Prelude.{◌≡◌, ⊤}
 use Rattle.jn_device.specs.Device.{DeviceState}
 use Rattle.jn_found.specs.Pages.{pool_on}
 use Rattle.jn_place.specs.declared.place.Slot.{Slot}
-use Rattle.jn_place.specs.declared.place.Slot.TheVariants.{Up, Down, Gone}
+use Rattle.jn_place.specs.declared.place.Slot.TheVariants.{Up}
 use Rattle.jn_records.specs.StablePages.{Counts}
 use Rattle.jn_server.specs.Seen.{view_with, memory_of, room_of}
 use Rattle.jn_storage.specs.Calls.{state}
