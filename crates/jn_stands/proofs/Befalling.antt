@@ -1,10 +1,8 @@
 -- What befalls a server's device by an event: a page goes bad or good, or a fault is to wait.
-use Rattle.std.proofs.Common.{◌≡◌, ◌≢◌, ◌⊎◌, inl, inr, ℕ, Bool, true, false, List, [], ◌∷◌, ◌++◌, append-nil, drop, length, slice_get, slice_set, Option, Some, refl, sym, ◌∙◌, ap, subst, arith}
-use Rattle.std.specs.Prelude.{if◌then◌else◌}
+use Rattle.std.proofs.Common.{◌≡◌, ℕ, Bool, true, false, List, [], ◌++◌, append-nil, drop, slice_get, slice_set, Some, refl, sym, ap, subst}
 use Rattle.jn_base.specs.declared.names.ServerNo.{ServerNo}
 use Rattle.jn_base.specs.declared.device.FaultKind.{FaultKind}
 use Rattle.jn_base.specs.declared.device.FaultKind.TheVariants as faults
-use Rattle.jn_base.specs.Names.{server_eq}
 use Rattle.jn_device.specs.Device.{DeviceState}
 use Rattle.jn_device.specs.Events.{Decays as PageDecays, Revives as PageRevives, Arms as FaultArmed}
 use Rattle.jn_place.specs.declared.place.Place.{Place}
@@ -21,7 +19,7 @@ use Rattle.jn_schedule.specs.declared.Event.TheVariants as events
 use Rattle.jn_store.specs.Pairs.{pairs_view}
 use Rattle.jn_store.specs.Store.{StoreView}
 use Rattle.jn_written.specs.Chances.{Setup, Chance}
-use Rattle.jn_written.specs.Deeds.{Use, Decays, Revives, Arms, Deed, uses}
+use Rattle.jn_written.specs.Deeds.{Use, Decays, Revives, Arms, uses}
 use Rattle.jn_written.specs.Devices.{Devices, Alone, IsUsed}
 use Rattle.jn_written.specs.Events.{told_unless, acted}
 use Rattle.jn_written.specs.Runs.{Moment}
@@ -32,11 +30,10 @@ use Rattle.jn_stands.specs.Pages.{HasCounts}
 use Rattle.jn_stands.specs.Going.{ActsNext, IsStepTo}
 use Rattle.jn_stands.proofs.Made.{quiet_chance}
 use Rattle.jn_stands.proofs.Dismissing.{StandsStill, still-there}
-use Rattle.jn_stands.proofs.Moving.{does-next, net-quiet, devices-now, device-here, device-there, moved-step}
+use Rattle.jn_stands.proofs.Moving.{does-next, devices-now, device-here, device-there, moved-step}
 
 module _ {S : Type 0} (look : S → StoreView) (device : S → DeviceState) (seen : (s : S) → look s ≡ pairs_view (device s)) (x : Setup) (w : Standing S) (m : Moment) (stand : Stands look device x w m)
-  (q : ServerNo) (place : Place S) (at : slice_get w.places q.0 ≡ Some place) (slot : Slot S) (counts : HasCounts (counts_by place.counts) slot) (lines : List Line) (more : List Task) where
-
+    (q : ServerNo) (place : Place S) (at : slice_get w.places q.0 ≡ Some place) (slot : Slot S) (counts : HasCounts (counts_by place.counts) slot) (lines : List Line) (more : List Task) where
   abbrev allowing : Bool → Chance
   allowing answer = record (quiet_chance x m.devices) { allows = answer }
 

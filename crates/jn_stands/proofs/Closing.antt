@@ -1,24 +1,23 @@
 -- Each outcome at a server counts as thanked, once the clients are dismissed.
-use Rattle.std.proofs.Common.{◌≡◌, ◌<◌, ℕ, zero, suc, Bool, true, false, List, [], ◌∷◌, ◌++◌, append-nil, drop, length, slice_get, slice_set, Option, Some, None, refl, sym, ◌∙◌, ap, subst, arith}
-use Rattle.std.specs.Prelude.{◌&&◌, if◌then◌else◌, nat_lt}
+use Rattle.std.proofs.Common.{◌≡◌, ◌<◌, ℕ, zero, suc, Bool, true, false, List, [], ◌∷◌, ◌++◌, append-nil, drop, slice_get, slice_set, Option, Some, None, refl, sym, ◌∙◌, ap, subst, arith}
+use Rattle.std.specs.Prelude.{if◌then◌else◌, nat_lt}
 use Rattle.std.proofs.Math.Path.{fun_ext}
 use Rattle.std.proofs.lemmas.Bool.Decides.{nat_tests}
 use Rattle.jn_base.specs.declared.names.ServerNo.{ServerNo}
 use Rattle.jn_base.specs.declared.names.ClientNo.{ClientNo}
 use Rattle.jn_base.specs.declared.device.Outside.{Outside}
-use Rattle.jn_base.specs.Names.{server_eq}
 use Rattle.jn_device.specs.Device.{DeviceState}
 use Rattle.jn_place.specs.declared.place.Place.{Place}
 use Rattle.jn_place.specs.declared.place.Slot.{Slot}
 use Rattle.jn_place.specs.declared.place.Slot.TheVariants.{Up, Down, Gone}
-use Rattle.jn_place.specs.Exact.{IsSpent, IsDoneAt, IsStepOf, Closed, texts_of_step}
-use Rattle.jn_protocol.specs.World.{World, Memory, at_server}
+use Rattle.jn_place.specs.Exact.{IsDoneAt, Closed, texts_of_step}
+use Rattle.jn_protocol.specs.World.{World, Memory}
 use Rattle.jn_protocol.specs.Servers.{of_coordinator}
-use Rattle.jn_protocol.specs.Steps.{Step, CloseClients, IsIdle, after, done, close_clients}
+use Rattle.jn_protocol.specs.Steps.{CloseClients, IsIdle, after, done, close_clients}
 use Rattle.jn_recovery.specs.Loading.{counts_by}
 use Rattle.jn_report.specs.declared.line.Line.{Line}
 use Rattle.jn_report.specs.declared.line.Text.{Text}
-use Rattle.jn_rows.specs.Client.{ClientTable, new_table}
+use Rattle.jn_rows.specs.Client.{ClientTable}
 use Rattle.jn_rows.specs.Coordinator.{close_clients_row}
 use Rattle.jn_rows.specs.Outcomes.{RowOutcome}
 use Rattle.jn_rows.specs.Stable.{StableState, Pick, made_all}
@@ -28,16 +27,15 @@ use Rattle.jn_storage.specs.Calls.{state}
 use Rattle.jn_store.specs.Pairs.{pairs_view}
 use Rattle.jn_store.specs.Store.{StoreView}
 use Rattle.jn_written.specs.Chances.{Setup, Chance}
-use Rattle.jn_written.specs.Deeds.{Deed, served}
-use Rattle.jn_written.specs.Devices.{Alone, IsServed}
+use Rattle.jn_written.specs.Deeds.{served}
 use Rattle.jn_written.specs.Runs.{Moment}
 use Rattle.jn_written.specs.Steps.{lines_at}
-use Rattle.jn_written.specs.Tasks.{Task, ClosesClients, when_of, next_task}
+use Rattle.jn_written.specs.Tasks.{ClosesClients, when_of, next_task}
 use Rattle.jn_stands.specs.Stands.{Standing, is_client, Stands}
 use Rattle.jn_stands.specs.Pages.{HasCounts}
 use Rattle.jn_stands.specs.Going.{IsStepTo}
 use Rattle.jn_stands.proofs.Dismissing.{there-is}
-use Rattle.jn_stands.proofs.Moving.{same-server, carries-on, net-quiet, devices-now, device-here, device-there, moved-step}
+use Rattle.jn_stands.proofs.Moving.{same-server, carries-on, net-quiet, device-here, device-there, moved-step}
 use Rattle.jn_stands.proofs.Idle.{here, idling, calling}
 
 module _ {S : Type 0} (look : S → StoreView) (device : S → DeviceState) (seen : (s : S) → look s ≡ pairs_view (device s)) (x : Setup) (w : Standing S) (m : Moment) (stand : Stands look device x w m) where
@@ -79,11 +77,13 @@ module _ {S : Type 0} (look : S → StoreView) (device : S → DeviceState) (see
           memory = λ r o. ap (λ (u : World). u.memory r) after-is ∙ ap (λ (b : Bool). if b then Some row.table else world.memory r) o;
           found = λ r o. ap (λ (u : World). u.found r) after-is ∙ fun_ext (λ c. ap (λ (b : Bool). if b then made_all row.changes (world.found q c) else world.found r c) o);
           devices = λ r o. device-there look device x w m stand seen q place at (device p'.storage.0) r o;
-          here = (ap (λ (u : World). u.memory q) after-is ∙ ap (λ (b : Bool). if b then Some row.table else world.memory q) (same-server q) ∙ ap (λ (k : Memory). Some k) (sym e.memory),
-              ap (λ (u : World). u.found q) after-is ∙ fun_ext (λ c. ap (λ (b : Bool). if b then made_all row.changes (world.found q c) else world.found q c) (same-server q)
-                  ∙ ap (made_all row.changes) (ap (λ (f : Pick → StableState). f c) found-is ∙ one-state c) ∙ sym (e.found c)),
-              device-here look device x w m stand seen q place at (device p'.storage.0),
-              λ c. e.found c ∙ sym (e.found (λ n. false)));
+          here = (
+            ap (λ (u : World). u.memory q) after-is ∙ ap (λ (b : Bool). if b then Some row.table else world.memory q) (same-server q) ∙ ap (λ (k : Memory). Some k) (sym e.memory),
+            ap (λ (u : World). u.found q) after-is ∙ fun_ext (λ c. ap (λ (b : Bool). if b then made_all row.changes (world.found q c) else world.found q c) (same-server q)
+                ∙ ap (made_all row.changes) (ap (λ (f : Pick → StableState). f c) found-is ∙ one-state c) ∙ sym (e.found c)),
+            device-here look device x w m stand seen q place at (device p'.storage.0),
+            λ c. e.found c ∙ sym (e.found (λ n. false)),
+          );
           counts = counts;
         })
         (ap (λ (u : World). u.clients) after-is)

@@ -1,15 +1,14 @@
 -- A server goes down.
-use Rattle.std.proofs.Common.{◌≡◌, ◌≢◌, ◌⊎◌, inl, inr, ℕ, Bool, true, false, List, [], ◌∷◌, ◌++◌, append-nil, drop, length, slice_get, slice_set, Option, Some, None, refl, sym, ◌∙◌, ap, subst}
+use Rattle.std.proofs.Common.{◌≡◌, Bool, List, [], ◌∷◌, ◌++◌, append-nil, drop, slice_get, slice_set, Option, Some, None, refl, sym, ◌∙◌, ap, subst}
 use Rattle.std.specs.Prelude.{if◌then◌else◌}
 use Rattle.std.proofs.Math.Path.{fun_ext}
 use Rattle.jn_base.specs.declared.names.ServerNo.{ServerNo}
 use Rattle.jn_base.specs.declared.names.Party.TheVariants.{Server}
-use Rattle.jn_base.specs.Names.{server_eq}
 use Rattle.jn_device.specs.Device.{DeviceState}
 use Rattle.jn_device.specs.Events.{powered_off}
 use Rattle.jn_place.specs.declared.place.Place.{Place}
 use Rattle.jn_place.specs.declared.place.Slot.{Slot}
-use Rattle.jn_place.specs.declared.place.Slot.TheVariants.{Up, Down, Gone}
+use Rattle.jn_place.specs.declared.place.Slot.TheVariants.{Up, Down}
 use Rattle.jn_place.specs.Exact.{Crashed}
 use Rattle.jn_protocol.specs.World.{World, Memory, at_server}
 use Rattle.jn_protocol.specs.Steps.{Crash, crash}
@@ -17,16 +16,13 @@ use Rattle.jn_recovery.specs.Loading.{counts_by}
 use Rattle.jn_report.specs.declared.line.Line.{Line}
 use Rattle.jn_report.specs.declared.line.Text.{Text}
 use Rattle.jn_report.specs.declared.line.Text.TheVariants as says
-use Rattle.jn_rows.specs.Stable.{Pick}
-use Rattle.jn_schedule.specs.declared.Event.{Event}
 use Rattle.jn_schedule.specs.declared.Event.TheVariants as events
-use Rattle.jn_server.specs.Seen.{Parts, view_with, memory_of}
+use Rattle.jn_server.specs.Seen.{Parts}
 use Rattle.jn_settling.specs.Course.{go_on}
 use Rattle.jn_store.specs.Pairs.{pairs_view}
 use Rattle.jn_store.specs.Store.{StoreView}
-use Rattle.jn_written.specs.Chances.{Setup, Chance}
+use Rattle.jn_written.specs.Chances.{Setup}
 use Rattle.jn_written.specs.Deeds.{PowersOff, Deed, plain, nothing, crashed_at}
-use Rattle.jn_written.specs.Devices.{Devices}
 use Rattle.jn_written.specs.Runs.{Moment}
 use Rattle.jn_written.specs.Steps.{lines_at}
 use Rattle.jn_written.specs.Tasks.{Task, when_of}
@@ -38,8 +34,7 @@ use Rattle.jn_stands.proofs.Servers.{servers-same, clients-same, net-same}
 use Rattle.jn_stands.proofs.Moving.{same-server, carries-on, does-next, led-to, net-quiet, device-here, device-there, moved-step}
 
 module _ {S : Type 0} (look : S → StoreView) (device : S → DeviceState) (seen : (s : S) → look s ≡ pairs_view (device s)) (x : Setup) (w : Standing S) (m : Moment) (stand : Stands look device x w m)
-  (q : ServerNo) (place : Place S) (at : slice_get w.places q.0 ≡ Some place) (lines : List Line) (more : List Task) where
-
+    (q : ServerNo) (place : Place S) (at : slice_get w.places q.0 ≡ Some place) (lines : List Line) (more : List Task) where
   abbrev world : World
   world = m.state.course.world
 
@@ -55,9 +50,11 @@ module _ {S : Type 0} (look : S → StoreView) (device : S → DeviceState) (see
         memory = λ r o. ap (λ (u : World). u.memory r) after-is ∙ ap (λ (b : Bool). if b then None else world.memory r) o;
         found = λ r o. ap (λ (u : World). u.found r) after-is;
         devices = λ r o. device-there look device x w m stand seen q place at (device s) r o;
-        here = (ap (λ (u : World). u.memory q) after-is ∙ ap (λ (b : Bool). if b then None else world.memory q) (same-server q),
-            ap (λ (u : World). u.found q) after-is ∙ here.1 ∙ fun_ext (λ c. sym (crashed.found c)),
-            device-here look device x w m stand seen q place at (device s));
+        here = (
+          ap (λ (u : World). u.memory q) after-is ∙ ap (λ (b : Bool). if b then None else world.memory q) (same-server q),
+          ap (λ (u : World). u.found q) after-is ∙ here.1 ∙ fun_ext (λ c. sym (crashed.found c)),
+          device-here look device x w m stand seen q place at (device s),
+        );
         counts = tt;
       })
       (ap (λ (u : World). u.clients) after-is)

@@ -1,24 +1,21 @@
 -- A server cleans its pages, or shows its files, and nothing else changes.
-use Rattle.std.proofs.Common.{◌≡◌, ℕ, zero, suc, Bool, true, false, not, List, [], ◌∷◌, ◌++◌, append-nil, drop, map, slice_get, slice_set, take, Option, Some, None, is_some, refl, sym, ◌∙◌, ap, subst}
+use Rattle.std.proofs.Common.{◌≡◌, ℕ, zero, suc, Bool, true, false, not, List, [], ◌∷◌, ◌++◌, slice_get, take, Option, Some, None, is_some, refl, sym, ◌∙◌, ap, subst}
 use Rattle.std.specs.Prelude.{if◌then◌else◌}
 use Rattle.std.proofs.Math.Path.{fun_ext}
 use Rattle.jn_base.specs.declared.names.ServerNo.{ServerNo}
 use Rattle.jn_base.specs.declared.names.FileNo.{FileNo}
-use Rattle.jn_base.specs.declared.names.LockUnit.TheVariants.{File}
 use Rattle.jn_base.specs.declared.device.Outside.{Outside}
 use Rattle.jn_base.specs.Names.{server_eq}
 use Rattle.jn_device.specs.Device.{DeviceState}
 use Rattle.jn_found.specs.Pages.{found_on}
 use Rattle.jn_place.specs.declared.place.Place.{Place}
 use Rattle.jn_place.specs.declared.place.Slot.{Slot}
-use Rattle.jn_place.specs.declared.place.Slot.TheVariants.{Up, Down, Gone}
+use Rattle.jn_place.specs.declared.place.Slot.TheVariants.{Up, Down}
 use Rattle.jn_place.specs.Exact.{IsSpent, IsDoneAt, IsStoppedAt, idle_row}
 use Rattle.jn_protocol.specs.World.{World, Memory, at_server}
 use Rattle.jn_protocol.specs.Servers.{Room, server_step, of_step}
 use Rattle.jn_protocol.specs.Steps.{Step, StopWork, after, work, works}
-use Rattle.jn_records.specs.declared.net_list.Need.{Need}
 use Rattle.jn_recovery.specs.Loading.{counts_by}
-use Rattle.jn_report.specs.declared.line.Text.{Text}
 use Rattle.jn_report.specs.declared.line.Text.TheVariants as says
 use Rattle.jn_rests.specs.Waiting.{Carries}
 use Rattle.jn_rows.specs.declared.worker.Work.{Work}
@@ -32,7 +29,7 @@ use Rattle.jn_store.specs.Pairs.{pairs_view}
 use Rattle.jn_store.specs.Store.{StoreView}
 use Rattle.jn_written.specs.Chances.{Setup, Chance}
 use Rattle.jn_written.specs.Deeds.{no_room}
-use Rattle.jn_written.specs.Devices.{Devices, Alone, IsCalled, rubbish_on, pages_of, free_on}
+use Rattle.jn_written.specs.Devices.{Devices, IsCalled, rubbish_on, pages_of, free_on}
 use Rattle.jn_written.specs.Runs.{Moment}
 use Rattle.jn_stands.specs.Pages.{HasCounts}
 use Rattle.jn_stands.specs.Stands.{Standing, StandsAt, Stands}
@@ -68,8 +65,7 @@ stopped-works q v (Some row) e = ap (λ (f : Pick → StableState). record v { m
     (fun_ext (λ c. none-taken row.changes (v.found q c)))
 
 module _ {S : Type 0} (look : S → StoreView) (device : S → DeviceState) (seen : (s : S) → look s ≡ pairs_view (device s)) (x : Setup) (w : Standing S) (m : Moment) (stand : Stands look device x w m)
-  (q : ServerNo) (place : Place S) (at : slice_get w.places q.0 ≡ Some place) (p : Parts S) (is : place.slot ≡ Up p) (told : List Outside) where
-
+    (q : ServerNo) (place : Place S) (at : slice_get w.places q.0 ≡ Some place) (p : Parts S) (is : place.slot ≡ Up p) (told : List Outside) where
   abbrev world : World
   world = m.state.course.world
 
@@ -96,10 +92,12 @@ module _ {S : Type 0} (look : S → StoreView) (device : S → DeviceState) (see
     memory = λ r o. ap (λ (u : World). u.memory r) same;
     found = λ r o. ap (λ (u : World). u.found r) same;
     devices = λ r o. ap (λ (f : Devices). f r) ds ∙ device-there look device x w m stand seen q place at (device p'.storage.0) r o;
-    here = (ap (λ (u : World). u.memory q) same ∙ here.0 ∙ ap (λ (k : Memory). Some k) (sym e.memory),
-        ap (λ (u : World). u.found q) same ∙ here.1 ∙ fun_ext (λ c. here.3 c ∙ sym (e.found c)),
-        ap (λ (f : Devices). f q) ds ∙ device-here look device x w m stand seen q place at (device p'.storage.0),
-        λ c. e.found c ∙ sym (e.found (λ n. false)));
+    here = (
+      ap (λ (u : World). u.memory q) same ∙ here.0 ∙ ap (λ (k : Memory). Some k) (sym e.memory),
+      ap (λ (u : World). u.found q) same ∙ here.1 ∙ fun_ext (λ c. here.3 c ∙ sym (e.found c)),
+      ap (λ (f : Devices). f q) ds ∙ device-here look device x w m stand seen q place at (device p'.storage.0),
+      λ c. e.found c ∙ sym (e.found (λ n. false)),
+    );
     counts = counts;
   }
 
@@ -117,10 +115,12 @@ module _ {S : Type 0} (look : S → StoreView) (device : S → DeviceState) (see
     memory = λ r o. ap (λ (u : World). u.memory r) (same ∙ after-stop) ∙ ap (λ (b : Bool). if b then None else world.memory r) o;
     found = λ r o. ap (λ (u : World). u.found r) (same ∙ after-stop) ∙ fun_ext (λ c. ap (λ (b : Bool). if b then world.found q c else world.found r c) o);
     devices = λ r o. ap (λ (f : Devices). f r) ds ∙ device-there look device x w m stand seen q place at (device s) r o;
-    here = (ap (λ (u : World). u.memory q) (same ∙ after-stop) ∙ ap (λ (b : Bool). if b then None else world.memory q) (same-server q),
-        ap (λ (u : World). u.found q) (same ∙ after-stop) ∙ fun_ext (λ c. ap (λ (b : Bool). if b then world.found q c else world.found q c) (same-server q)
-            ∙ ap (λ (f : Pick → StableState). f c) here.1 ∙ here.3 c ∙ sym (found-there c)),
-        ap (λ (f : Devices). f q) ds ∙ device-here look device x w m stand seen q place at (device s));
+    here = (
+      ap (λ (u : World). u.memory q) (same ∙ after-stop) ∙ ap (λ (b : Bool). if b then None else world.memory q) (same-server q),
+      ap (λ (u : World). u.found q) (same ∙ after-stop) ∙ fun_ext (λ c. ap (λ (b : Bool). if b then world.found q c else world.found q c) (same-server q)
+          ∙ ap (λ (f : Pick → StableState). f c) here.1 ∙ here.3 c ∙ sym (found-there c)),
+      ap (λ (f : Devices). f q) ds ∙ device-here look device x w m stand seen q place at (device s),
+    );
     counts = tt;
   }
     where

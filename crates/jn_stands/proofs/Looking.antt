@@ -1,5 +1,5 @@
 -- A scrub and a show.
-use Rattle.std.proofs.Common.{◌≡◌, ◌<◌, ℕ, Bool, true, false, List, [], ◌∷◌, ◌++◌, append-nil, drop, map, slice_get, slice_set, Option, Some, None, is_some, not, refl, sym, ◌∙◌, ap, subst}
+use Rattle.std.proofs.Common.{◌≡◌, ℕ, Bool, true, false, List, [], ◌∷◌, ◌++◌, append-nil, drop, map, slice_get, slice_set, Option, Some, None, is_some, not, refl, sym, ◌∙◌, ap, subst}
 use Rattle.jn_base.specs.declared.names.ServerNo.{ServerNo}
 use Rattle.jn_base.specs.declared.names.FileNo.{FileNo}
 use Rattle.jn_base.specs.declared.names.LockUnit.TheVariants.{File}
@@ -9,17 +9,16 @@ use Rattle.jn_device.specs.Device.{DeviceState}
 use Rattle.jn_place.specs.declared.place.Place.{Place}
 use Rattle.jn_place.specs.declared.place.Slot.{Slot}
 use Rattle.jn_place.specs.declared.place.Slot.TheVariants.{Up, Down, Gone}
-use Rattle.jn_place.specs.Exact.{IsSpent, PrintsInRange, IsDoneAt, IsStoppedAt, Ends, IsStepOf, idle_row, ScrubbedBy, Prints, Showed, texts_of_step}
+use Rattle.jn_place.specs.Exact.{IsSpent, PrintsInRange, IsDoneAt, IsStoppedAt, IsStepOf, idle_row, ScrubbedBy, Prints, Showed, texts_of_step}
 use Rattle.jn_protocol.specs.World.{World, Memory}
 use Rattle.jn_protocol.specs.Steps.{AreNames}
-use Rattle.jn_protocol.specs.Printing.{Printed, prints_in, print_files, file_before, ArePrints}
+use Rattle.jn_protocol.specs.Printing.{prints_in, print_files, file_before, ArePrints}
 use Rattle.jn_recovery.specs.Loading.{counts_by}
 use Rattle.jn_report.specs.declared.line.Line.{Line}
 use Rattle.jn_report.specs.declared.line.Text.{Text}
 use Rattle.jn_report.specs.declared.line.Text.TheVariants as says
 use Rattle.jn_reported.specs.Printing.{text_printed}
 use Rattle.jn_rows.specs.Stable.{StableState, Pick, stable}
-use Rattle.jn_schedule.specs.declared.Event.{Event}
 use Rattle.jn_schedule.specs.declared.Event.TheVariants as events
 use Rattle.jn_server.specs.declared.show.Shown.{Shown}
 use Rattle.jn_server.specs.Seen.{Parts, view_with, memory_of}
@@ -29,10 +28,10 @@ use Rattle.jn_storage.specs.Calls.{state}
 use Rattle.jn_store.specs.Pairs.{pairs_view}
 use Rattle.jn_store.specs.Store.{StoreView}
 use Rattle.jn_written.specs.Chances.{Setup, Chance}
-use Rattle.jn_written.specs.Deeds.{Calls, Reads, Deed, served, blocks_from, shown}
+use Rattle.jn_written.specs.Deeds.{Reads, Deed, served, blocks_from, shown}
 use Rattle.jn_written.specs.Devices.{Alone, IsServed, IsLookedOver}
 use Rattle.jn_written.specs.Runs.{Moment}
-use Rattle.jn_written.specs.Steps.{outside_texts, lines_at}
+use Rattle.jn_written.specs.Steps.{lines_at}
 use Rattle.jn_written.specs.Tasks.{Task, when_of}
 use Rattle.jn_stands.specs.Showing.{text_shown, texts_shown}
 use Rattle.jn_stands.specs.Stands.{Standing, Stands}
@@ -48,8 +47,7 @@ shown-texts q [] = refl
 shown-texts q (one ∷ list) = ap (λ (texts : List Text). text_shown q one ∷ texts) (shown-texts q list)
 
 module _ {S : Type 0} (look : S → StoreView) (device : S → DeviceState) (seen : (s : S) → look s ≡ pairs_view (device s)) (x : Setup) (w : Standing S) (m : Moment) (stand : Stands look device x w m)
-  (q : ServerNo) (place : Place S) (at : slice_get w.places q.0 ≡ Some place) (more : List Task) (lines : List Line) where
-
+    (q : ServerNo) (place : Place S) (at : slice_get w.places q.0 ≡ Some place) (more : List Task) (lines : List Line) where
   abbrev world : World
   world = m.state.course.world
 
@@ -86,10 +84,10 @@ module _ {S : Type 0} (look : S → StoreView) (device : S → DeviceState) (see
         (does-next x m (events.Scrub q) more next (idling look device seen x w m stand q place at p is told (Some (λ c. 0)) []) (λ r. refl) (served q (stopping look device seen x w m stand q place at p is told ∷ [])) refl) refl
         (Down s) (device s) (says.Stopped q ∷ []) w.named w.commits
         (stopped-alone look device seen x w m stand q place at p is told s e
-          (led-to x m (idling look device seen x w m stand q place at p is told (Some (λ c. 0)) []) (record (served q (stopping look device seen x w m stand q place at p is told ∷ [])) { tasks = more }) (devices-now look device x w m stand seen q place at (device s))) refl refl)
+        (led-to x m (idling look device seen x w m stand q place at p is told (Some (λ c. 0)) []) (record (served q (stopping look device seen x w m stand q place at p is told ∷ [])) { tasks = more }) (devices-now look device x w m stand seen q place at (device s))) refl refl)
         (ap (λ (u : World). u.clients) (after-stop look device seen x w m stand q place at p is told))
         (net-quiet look device x w m stand (go_on (stopping look device seen x w m stand q place at p is told ∷ []) m.state.course) (says.Stopped q ∷ []) (stop-carries look device seen x w m stand q place at p is told)
-          (ap (λ (u : World). u.lines) (after-stop look device seen x w m stand q place at p is told)) refl)
+        (ap (λ (u : World). u.lines) (after-stop look device seen x w m stand q place at p is told)) refl)
         (ap (λ (u : World). u.lines) (after-stop look device seen x w m stand q place at p is told)) (ap (λ (u : World). u.sent) (after-stop look device seen x w m stand q place at p is told)) (tt, tt)
         (called told (Some (λ c. 0)) false (device s) refl e.spent)
         lines (lines ++ lines_at (when_of m.state) (texts_of_step q told false)) (ap (λ (ts : List Text). lines ++ lines_at (when_of m.state) ts) (sym (append-nil (texts_of_step q told false))))
@@ -113,7 +111,7 @@ module _ {S : Type 0} (look : S → StoreView) (device : S → DeviceState) (see
         (done-alone look device seen x w m stand q place at p is told p' e counts (led-to x m h (record deed { tasks = more }) (devices-now look device x w m stand seen q place at (device p'.storage.0))) refl refl)
         refl (record { net = stand.net; named = stand.named; commits = stand.commits }) (sym (append-nil world.lines)) refl tt
         (reading told None prints.files true (device p'.storage.0) refl e.spent
-          (λ z. subst (λ (f : Pick → StableState). AreNames file_eq file_before (λ g. prints_in mem.worker (stable f).files (File g)) prints.files) (sym found-is) prints.are_files))
+        (λ z. subst (λ (f : Pick → StableState). AreNames file_eq file_before (λ g. prints_in mem.worker (stable f).files (File g)) prints.files) (sym found-is) prints.are_files))
         lines (lines ++ lines_at (when_of m.state) (texts_of_step q told true) ++ lines_at (when_of m.state) (map (text_shown q) list)) (lines-in-two (when_of m.state) lines (texts_of_step q told true) (map (text_shown q) list))
       where
         h : Chance
@@ -142,7 +140,7 @@ module _ {S : Type 0} (look : S → StoreView) (device : S → DeviceState) (see
         (stopped-alone look device seen x w m stand q place at p is told s e (led-to x m h (record deed { tasks = more }) (devices-now look device x w m stand seen q place at (device s))) refl refl)
         (ap (λ (u : World). u.clients) (after-stop look device seen x w m stand q place at p is told))
         (net-quiet look device x w m stand (go_on (stopping look device seen x w m stand q place at p is told ∷ []) m.state.course) (says.Stopped q ∷ []) (stop-carries look device seen x w m stand q place at p is told)
-          (ap (λ (u : World). u.lines) (after-stop look device seen x w m stand q place at p is told)) refl)
+        (ap (λ (u : World). u.lines) (after-stop look device seen x w m stand q place at p is told)) refl)
         (ap (λ (u : World). u.lines) (after-stop look device seen x w m stand q place at p is told)) (ap (λ (u : World). u.sent) (after-stop look device seen x w m stand q place at p is told)) (tt, tt)
         (reading told (Some (λ c. 0)) [] false (device s) refl e.spent (λ z. absurd (cc z)))
         lines (lines ++ lines_at (when_of m.state) (texts_of_step q told false)) (ap (λ (ts : List Text). lines ++ lines_at (when_of m.state) ts) (sym (append-nil (texts_of_step q told false))))

@@ -1,5 +1,5 @@
 -- A task at one server, in which nothing is sent.
-use Rattle.std.proofs.Common.{◌≡◌, ◌≤◌, ℕ, ◌+◌, Bool, true, false, ◌<◌, List, [], ◌∷◌, ◌++◌, append-nil, drop, length, slice_get, slice_set, Some, refl, sym, ◌∙◌, ap, subst, arith}
+use Rattle.std.proofs.Common.{◌≡◌, ℕ, ◌+◌, Bool, true, false, List, [], ◌++◌, append-nil, drop, length, slice_get, slice_set, Some, refl, sym, ◌∙◌, ap, subst, arith}
 use Rattle.std.specs.Prelude.{◌||◌, if◌then◌else◌}
 use Rattle.std.specs.List.{list_any}
 use Rattle.std.proofs.lemmas.Bool.Decides.{nat_tests}
@@ -11,7 +11,7 @@ use Rattle.jn_net.specs.declared.Sent.{Sent as Posted}
 use Rattle.jn_net.specs.Carried.{Carried}
 use Rattle.jn_place.specs.declared.place.Place.{Place}
 use Rattle.jn_place.specs.declared.place.Slot.{Slot}
-use Rattle.jn_protocol.specs.World.{World, at_server, commits_in, has_line}
+use Rattle.jn_protocol.specs.World.{at_server, commits_in, has_line}
 use Rattle.jn_protocol.specs.Steps.{Step, after, run, IsRun}
 use Rattle.jn_recovery.specs.Loading.{counts_by}
 use Rattle.jn_report.specs.declared.line.Line.{Line}
@@ -24,10 +24,10 @@ use Rattle.jn_store.specs.Pairs.{pairs_view}
 use Rattle.jn_store.specs.Store.{StoreView}
 use Rattle.jn_written.specs.Chances.{Setup, Chance}
 use Rattle.jn_written.specs.Deeds.{Deed}
-use Rattle.jn_written.specs.Devices.{Devices, IsUsed, AreFound, rubbish_on}
+use Rattle.jn_written.specs.Devices.{Devices, IsUsed, rubbish_on}
 use Rattle.jn_written.specs.Events.{acted, deed_of}
-use Rattle.jn_written.specs.Runs.{Moment, Leads}
-use Rattle.jn_written.specs.Steps.{outside_texts, message_texts, traced, texts_of, lines_at, come_to, cut_short}
+use Rattle.jn_written.specs.Runs.{Moment}
+use Rattle.jn_written.specs.Steps.{outside_texts, texts_of, lines_at, come_to}
 use Rattle.jn_written.specs.Tasks.{Task, when_of, next_task, begun}
 use Rattle.jn_stands.specs.Stands.{Standing, Stands}
 use Rattle.jn_stands.specs.Going.{ActsNext, IsStepTo}
@@ -117,13 +117,13 @@ module _ {S : Type 0} (look : S → StoreView) (device : S → DeviceState) (x :
         → IsStepTo look device x m (deed.tasks ++ drop 1 m.state.tasks) (record w { places = slice_set w.places q.0 (record place { slot = slot }); named = names; commits = commits }) lines lines'
     moved-step h rubbish deed does cuts slot e own names commits alone clients net lines-are sent-are steps used lines lines' told =
         deed-made h rubbish deed does cuts (devices-now e) steps used (record w { places = slice_set w.places q.0 (record place { slot = slot }); named = names; commits = commits })
-          (record {
-            trace = stand.trace;
-            servers = server-moved look device seen x w m stand (led-to x m h deed (devices-now e)) q place slot at alone;
-            clients = clients-same look device seen x w m stand (go_on deed.steps m.state.course).world clients;
-            net = net;
-          })
-          lines lines' (told ∙ ap (λ (ts : List Text). lines ++ lines_at (when_of m.state) ts) (sym texts))
+        (record {
+          trace = stand.trace;
+          servers = server-moved look device seen x w m stand (led-to x m h deed (devices-now e)) q place slot at alone;
+          clients = clients-same look device seen x w m stand (go_on deed.steps m.state.course).world clients;
+          net = net;
+        })
+        lines lines' (told ∙ ap (λ (ts : List Text). lines ++ lines_at (when_of m.state) ts) (sym texts))
       where
         texts : texts_of x h deed m.state.course.world (go_on deed.steps m.state.course).world ≡ outside_texts deed.device h.told ++ own ++ deed.texts
         texts = texts-are x h deed m.state.course.world (go_on deed.steps m.state.course).world own [] lines-are (sent-are ∙ sym (append-nil m.state.course.world.sent))

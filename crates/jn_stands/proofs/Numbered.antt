@@ -1,5 +1,5 @@
 -- The number of the event under way rises where an event begins, and nowhere else.
-use Rattle.std.proofs.Common.{◌≡◌, ℕ, ◌+◌, Bool, true, false, List, [], ◌∷◌, ◌++◌, drop, map, Option, Some, None, refl, sym, ◌∙◌, ap, subst, arith}
+use Rattle.std.proofs.Common.{◌≡◌, ℕ, ◌+◌, Bool, true, false, List, [], ◌∷◌, ◌++◌, drop, map, Option, Some, None, refl, sym, ◌∙◌, ap, arith}
 use Rattle.std.specs.Prelude.{◌&&◌, if◌then◌else◌, slice_get}
 use Rattle.std.specs.List.{list_all}
 use Rattle.jn_base.specs.declared.names.ServerNo.{ServerNo}
@@ -9,7 +9,6 @@ use Rattle.jn_device.specs.Device.{DeviceState}
 use Rattle.jn_report.specs.declared.line.EventRefusal.{EventRefusal}
 use Rattle.jn_report.specs.declared.line.EventRefusal.TheVariants.{EpochsUsedUp}
 use Rattle.jn_report.specs.declared.line.Line.{Line}
-use Rattle.jn_report.specs.declared.line.When.{When}
 use Rattle.jn_report.specs.declared.line.Text.TheVariants as says
 use Rattle.jn_rows.specs.Outcomes.{Sent}
 use Rattle.jn_rows.specs.Stable.{Pick}
@@ -22,13 +21,13 @@ use Rattle.jn_protocol.specs.Steps.{Step, NextEvent}
 use Rattle.jn_settling.specs.Course.{Course, go, go_on}
 use Rattle.jn_settling.specs.Settle.{handing, working, clients_from}
 use Rattle.jn_written.specs.Chances.{Setup, Chance}
-use Rattle.jn_written.specs.Tasks.{Task, Begins, Meets, Acts, Rests, ComesUp, Dismisses, GoesDown, ClosesClients, CountsCommits, Stage, InSchedule, CutShort, AtEnd, State, when_at, when_of, first_of_tasks, next_at, next_task, begun}
-use Rattle.jn_written.specs.Deeds.{Deed, plain, served, nothing, delivered_at, delivered, is_busy, working_steps, worked, stopped_idle, crashed_at, recovering, is_used_up, given_up, recovered, restarted, brought_up}
+use Rattle.jn_written.specs.Tasks.{Task, Begins, Meets, Acts, Rests, ComesUp, Dismisses, GoesDown, ClosesClients, CountsCommits, Stage, InSchedule, CutShort, AtEnd, State, when_at, when_of, next_at, next_task, begun}
+use Rattle.jn_written.specs.Deeds.{Deed, served, nothing, delivered_at, delivered, is_busy, working_steps, worked, stopped_idle, crashed_at, recovering, is_used_up, given_up, recovered, restarted, brought_up}
 use Rattle.jn_written.specs.Events.{servers_of, asking, settling, next_in, acted, met, resting, deed_of}
 use Rattle.jn_written.specs.Kinds.{event_after}
 use Rattle.jn_written.specs.Refusals.{refusal_of}
 use Rattle.jn_written.specs.Runs.{Moment, DoesStep, Leads, none, more}
-use Rattle.jn_written.specs.Steps.{is_too_much, come_to, cut_short, made_to}
+use Rattle.jn_written.specs.Steps.{is_too_much, come_to, cut_short}
 use Rattle.jn_written.proofs.Telling.{adds}
 use Rattle.jn_stands.specs.Stands.{Standing}
 use Rattle.jn_stands.specs.Going.{WentOn}
@@ -253,7 +252,7 @@ module _ {S : Type 0} (look : S → StoreView) (device : S → DeviceState) (x :
   pub same-when : (tasks : List Task) (went : WentOn look device x m (tasks ++ drop 1 m.state.tasks) w' lines lines') → begun_by task ≡ 0 → begins_in tasks ≡ 0 → when_of went.last.state ≡ when_of m.state
   same-when tasks went e f = ap (λ (stage : Stage). when_at stage went.last.state.course.world.event) went.stage ∙ ap (when_at m.state.stage)
       (count went.last.state.course.world.event m.state.course.world.event (begins_in tasks) (begins_in (drop 1 m.state.tasks)) (begun_by task) e f
-        (ap (λ (n : ℕ). went.last.state.course.world.event + n) (sym (begins-append tasks (drop 1 m.state.tasks))) ∙ went-total (tasks ++ drop 1 m.state.tasks) went))
+      (ap (λ (n : ℕ). went.last.state.course.world.event + n) (sym (begins-append tasks (drop 1 m.state.tasks))) ∙ went-total (tasks ++ drop 1 m.state.tasks) went))
     where
       count : (a b t r k : ℕ) → k ≡ 0 → t ≡ 0 → a + (t + r) ≡ b + (k + r) → a ≡ b
       count a b t r k e f h = omega (arith, e, f, h)

@@ -1,5 +1,5 @@
 -- A server that is stopped while it comes up, and one whose epochs are used up.
-use Rattle.std.proofs.Common.{◌≡◌, ◌⊎◌, inl, inr, ℕ, suc, ◌+◌, Bool, true, false, not, List, [], ◌∷◌, ◌++◌, append-nil, drop, length, map, slice_get, slice_set, Option, Some, None, is_some, refl, sym, ◌∙◌, ap, subst, arith}
+use Rattle.std.proofs.Common.{◌≡◌, ◌⊎◌, inl, inr, ℕ, suc, ◌+◌, Bool, true, false, List, [], ◌∷◌, ◌++◌, append-nil, drop, map, slice_get, slice_set, Option, Some, None, is_some, refl, sym, ◌∙◌, ap, subst, arith}
 use Rattle.std.specs.Prelude.{if◌then◌else◌, nat_eq, nat_lt}
 use Rattle.std.proofs.Math.Path.{fun_ext}
 use Rattle.jn_base.specs.declared.names.ServerNo.{ServerNo}
@@ -10,11 +10,10 @@ use Rattle.jn_device.specs.Events.{powered_off, cleared}
 use Rattle.jn_found.specs.Pages.{found_on}
 use Rattle.jn_machine.specs.Steps.{changed, with_epoch}
 use Rattle.jn_place.specs.declared.place.Place.{Place}
-use Rattle.jn_place.specs.declared.place.Slot.{Slot}
-use Rattle.jn_place.specs.declared.place.Slot.TheVariants.{Up, Down, Gone}
+use Rattle.jn_place.specs.declared.place.Slot.TheVariants.{Down}
 use Rattle.jn_place.specs.Exact.{IsTried, IsStoppedUp, IsUsedUpAt, texts_of_step}
 use Rattle.jn_protocol.specs.World.{World, Memory}
-use Rattle.jn_protocol.specs.Steps.{Step, Narrow, StopRestart, after, narrow, stop_restart}
+use Rattle.jn_protocol.specs.Steps.{Narrow, StopRestart, after, narrow, stop_restart}
 use Rattle.jn_recovery.specs.Loading.{counts_by}
 use Rattle.jn_report.specs.declared.line.EventRefusal.TheVariants.{EpochsUsedUp}
 use Rattle.jn_report.specs.declared.line.Line.{Line}
@@ -22,7 +21,7 @@ use Rattle.jn_report.specs.declared.line.Text.{Text}
 use Rattle.jn_report.specs.declared.line.Text.TheVariants as says
 use Rattle.jn_rests.specs.Waiting.{Carries}
 use Rattle.jn_rows.specs.Stable.{StableState, Pick}
-use Rattle.jn_settling.specs.Course.{Course, go, go_on}
+use Rattle.jn_settling.specs.Course.{go, go_on}
 use Rattle.jn_store.specs.Pairs.{pairs_view}
 use Rattle.jn_store.specs.Store.{StoreView}
 use Rattle.jn_written.specs.Chances.{Setup, Chance}
@@ -30,7 +29,7 @@ use Rattle.jn_written.specs.Deeds.{Deed, recovered, given_up, last_epoch, is_use
 use Rattle.jn_written.specs.Devices.{Devices, Alone, IsRecovery, AreFound}
 use Rattle.jn_written.specs.Runs.{Moment}
 use Rattle.jn_written.specs.Steps.{lines_at, cut_short}
-use Rattle.jn_written.specs.Tasks.{Task, when_of}
+use Rattle.jn_written.specs.Tasks.{when_of}
 use Rattle.jn_stands.specs.Stands.{Standing, StandsAt, Stands}
 use Rattle.jn_stands.specs.Going.{WasCut, IsStepTo}
 use Rattle.jn_stands.proofs.Made.{made-cuts}
@@ -56,8 +55,7 @@ raised-is x y same (inr e) = sym (same ∙ ap (λ (n : ℕ). record x { epoch = 
     next n = omega arith
 
 module _ {S : Type 0} (look : S → StoreView) (device : S → DeviceState) (seen : (s : S) → look s ≡ pairs_view (device s)) (x : Setup) (w : Standing S) (m : Moment) (stand : Stands look device x w m)
-  (q : ServerNo) (place : Place S) (at : slice_get w.places q.0 ≡ Some place) (s : S) (is : place.slot ≡ Down s) (told : List Outside) (t : S) where
-
+    (q : ServerNo) (place : Place S) (at : slice_get w.places q.0 ≡ Some place) (s : S) (is : place.slot ≡ Down s) (told : List Outside) (t : S) where
   abbrev world : World
   world = m.state.course.world
 
@@ -119,26 +117,26 @@ module _ {S : Type 0} (look : S → StoreView) (device : S → DeviceState) (see
         → IsStepTo look device x m (deed.tasks ++ drop 1 m.state.tasks) left-down lines lines'
     stopped-step deed deed-is does lines lines' lines-are =
         moved-step look device x w m stand seen q place at stopped-chance (λ s. refl) (record (recovered stopped-chance q) { tasks = deed.tasks }) (subst (λ (d : Deed). Does x m stopped-chance d) deed-is does) refl
-          (Down t) (device t) (says.Stopped q ∷ []) w.named w.commits
-          (record {
-            memory = λ r o. ap (λ (u : World). u.memory r) stop-is;
-            found = λ r o. ap (λ (u : World). u.found r) stop-is ∙ fun_ext (λ c. ap (λ (b : Bool). if b then (if raised c then with_epoch ((narrowed finds).found q c) else (narrowed finds).found q c) else (narrowed finds).found r c) o ∙ narrowed-there finds r c o);
-            devices = λ r o. device-there look device x w m stand seen q place at (device t) r o;
-            here = (ap (λ (u : World). u.memory q) stop-is ∙ there.0, ap (λ (u : World). u.found q) stop-is ∙ fun_ext stop-found, device-here look device x w m stand seen q place at (device t));
-            counts = tt;
-          })
-          (ap (λ (u : World). u.clients) stop-is)
-          (net-quiet look device x w m stand (go_on (Narrow q finds ∷ StopRestart q raised ∷ []) m.state.course) (says.Stopped q ∷ []) stop-carries (ap (λ (u : World). u.lines) stop-is) refl)
-          (ap (λ (u : World). u.lines) stop-is) (ap (λ (u : World). u.sent) stop-is) (tt, (tt, tt))
-          (record {
-            its = subst (λ (o : Option Memory). IsRecovery stopped-chance (is_some o) (m.devices q) (devices-now look device x w m stand seen q place at (device t) q)) (sym (ap (λ (u : World). u.memory q) stop-is ∙ there.0))
-                (recovery stopped-chance false told false (m.devices q) (device t) (devices-now look device x w m stand seen q place at (device t) q) refl refl
-                  (subst (λ (d : DeviceState). IsTried told false d (device t)) (sym there.2) stopped.tried) (device-here look device x w m stand seen q place at (device t) ∙ dark told (device s) (device t) stopped.tried));
-            others = λ r o. device-there look device x w m stand seen q place at (device t) r o;
-          })
-          lines lines' (lines-are ∙ lines-in-two (when_of m.state) lines (texts_of_step q told true) (says.Stopped q ∷ [])
-            ∙ ap (λ (ts : List Text). lines ++ lines_at (when_of m.state) (ts ++ says.Stopped q ∷ [])) (append-nil (map (λ (fault : Outside). says.Outside q fault) told))
-            ∙ ap (λ (ts : List Text). lines ++ lines_at (when_of m.state) ts) (sym (append-nil (map (λ (fault : Outside). says.Outside q fault) told ++ says.Stopped q ∷ []))))
+        (Down t) (device t) (says.Stopped q ∷ []) w.named w.commits
+        (record {
+          memory = λ r o. ap (λ (u : World). u.memory r) stop-is;
+          found = λ r o. ap (λ (u : World). u.found r) stop-is ∙ fun_ext (λ c. ap (λ (b : Bool). if b then (if raised c then with_epoch ((narrowed finds).found q c) else (narrowed finds).found q c) else (narrowed finds).found r c) o ∙ narrowed-there finds r c o);
+          devices = λ r o. device-there look device x w m stand seen q place at (device t) r o;
+          here = (ap (λ (u : World). u.memory q) stop-is ∙ there.0, ap (λ (u : World). u.found q) stop-is ∙ fun_ext stop-found, device-here look device x w m stand seen q place at (device t));
+          counts = tt;
+        })
+        (ap (λ (u : World). u.clients) stop-is)
+        (net-quiet look device x w m stand (go_on (Narrow q finds ∷ StopRestart q raised ∷ []) m.state.course) (says.Stopped q ∷ []) stop-carries (ap (λ (u : World). u.lines) stop-is) refl)
+        (ap (λ (u : World). u.lines) stop-is) (ap (λ (u : World). u.sent) stop-is) (tt, (tt, tt))
+        (record {
+          its = subst (λ (o : Option Memory). IsRecovery stopped-chance (is_some o) (m.devices q) (devices-now look device x w m stand seen q place at (device t) q)) (sym (ap (λ (u : World). u.memory q) stop-is ∙ there.0))
+              (recovery stopped-chance false told false (m.devices q) (device t) (devices-now look device x w m stand seen q place at (device t) q) refl refl
+              (subst (λ (d : DeviceState). IsTried told false d (device t)) (sym there.2) stopped.tried) (device-here look device x w m stand seen q place at (device t) ∙ dark told (device s) (device t) stopped.tried));
+          others = λ r o. device-there look device x w m stand seen q place at (device t) r o;
+        })
+        lines lines' (lines-are ∙ lines-in-two (when_of m.state) lines (texts_of_step q told true) (says.Stopped q ∷ [])
+        ∙ ap (λ (ts : List Text). lines ++ lines_at (when_of m.state) (ts ++ says.Stopped q ∷ [])) (append-nil (map (λ (fault : Outside). says.Outside q fault) told))
+        ∙ ap (λ (ts : List Text). lines ++ lines_at (when_of m.state) ts) (sym (append-nil (map (λ (fault : Outside). says.Outside q fault) told ++ says.Stopped q ∷ []))))
 
   -- ---- it found the last epoch
 
@@ -161,8 +159,11 @@ module _ {S : Type 0} (look : S → StoreView) (device : S → DeviceState) (see
       memory = λ r o. ap (λ (u : World). u.memory r) (e ∙ after-narrow reads);
       found = λ r o. ap (λ (u : World). u.found r) (e ∙ after-narrow reads) ∙ fun_ext (λ c. narrowed-there reads r c o);
       devices = λ r o. ap (λ (f : Devices). f r) ds ∙ device-there look device x w m stand seen q place at (device t) r o;
-      here = (ap (λ (u : World). u.memory q) (e ∙ after-narrow reads) ∙ there.0, ap (λ (u : World). u.found q) (e ∙ after-narrow reads) ∙ fun_ext used-found,
-          ap (λ (f : Devices). f q) ds ∙ device-here look device x w m stand seen q place at (device t));
+      here = (
+        ap (λ (u : World). u.memory q) (e ∙ after-narrow reads) ∙ there.0,
+        ap (λ (u : World). u.found q) (e ∙ after-narrow reads) ∙ fun_ext used-found,
+        ap (λ (f : Devices). f q) ds ∙ device-here look device x w m stand seen q place at (device t),
+      );
       counts = tt;
     }
 
@@ -170,7 +171,7 @@ module _ {S : Type 0} (look : S → StoreView) (device : S → DeviceState) (see
     used-device = record {
       its = subst (λ (o : Option Memory). IsRecovery used-chance (is_some o) (m.devices q) (devices-now look device x w m stand seen q place at (device t) q)) (sym (ap (λ (u : World). u.memory q) (after-narrow reads) ∙ there.0))
           (recovery used-chance false told true (m.devices q) used.called (devices-now look device x w m stand seen q place at (device t) q) refl refl
-            (subst (λ (d : DeviceState). IsTried told true d used.called) (sym there.2) used.tried) (device-here look device x w m stand seen q place at (device t) ∙ used.device_is));
+          (subst (λ (d : DeviceState). IsTried told true d used.called) (sym there.2) used.tried) (device-here look device x w m stand seen q place at (device t) ∙ used.device_is));
       others = λ r o. device-there look device x w m stand seen q place at (device t) r o;
     }
 
@@ -179,13 +180,13 @@ module _ {S : Type 0} (look : S → StoreView) (device : S → DeviceState) (see
         → IsStepTo look device x m (deed.tasks ++ drop 1 m.state.tasks) left-down lines lines'
     used-up-step deed deed-is does lines lines' lines-are =
         moved-step look device x w m stand seen q place at used-chance (λ s. refl) (record (given_up used-chance q) { texts = says.RefusedEvent EpochsUsedUp ∷ []; tasks = deed.tasks }) (subst (λ (d : Deed). Does x m used-chance d) deed-is does) refl
-          (Down t) (device t) [] w.named w.commits
-          (used-alone (led-to x m used-chance (record (given_up used-chance q) { texts = says.RefusedEvent EpochsUsedUp ∷ []; tasks = deed.tasks }) (devices-now look device x w m stand seen q place at (device t))) refl refl)
-          (ap (λ (u : World). u.clients) (after-narrow reads))
-          (net-quiet look device x w m stand (go_on (Narrow q reads ∷ []) m.state.course) [] (carries-on w.net m.state.course (Narrow q reads) refl (ap (λ (u : World). u.sent) (after-narrow reads)) stand.net)
-            (ap (λ (u : World). u.lines) (after-narrow reads) ∙ sym (append-nil world.lines)) refl)
-          (ap (λ (u : World). u.lines) (after-narrow reads) ∙ sym (append-nil world.lines)) (ap (λ (u : World). u.sent) (after-narrow reads)) (tt, tt) used-device
-          lines lines' (lines-are ∙ lines-in-two (when_of m.state) lines (texts_of_step q told true) (says.RefusedEvent EpochsUsedUp ∷ []))
+        (Down t) (device t) [] w.named w.commits
+        (used-alone (led-to x m used-chance (record (given_up used-chance q) { texts = says.RefusedEvent EpochsUsedUp ∷ []; tasks = deed.tasks }) (devices-now look device x w m stand seen q place at (device t))) refl refl)
+        (ap (λ (u : World). u.clients) (after-narrow reads))
+        (net-quiet look device x w m stand (go_on (Narrow q reads ∷ []) m.state.course) [] (carries-on w.net m.state.course (Narrow q reads) refl (ap (λ (u : World). u.sent) (after-narrow reads)) stand.net)
+        (ap (λ (u : World). u.lines) (after-narrow reads) ∙ sym (append-nil world.lines)) refl)
+        (ap (λ (u : World). u.lines) (after-narrow reads) ∙ sym (append-nil world.lines)) (ap (λ (u : World). u.sent) (after-narrow reads)) (tt, tt) used-device
+        lines lines' (lines-are ∙ lines-in-two (when_of m.state) lines (texts_of_step q told true) (says.RefusedEvent EpochsUsedUp ∷ []))
 
     -- at the start or the end the run can't go on
     pub used-cut : Does x m used-chance (record (given_up used-chance q) { cuts = true }) → (lines : List Line) → WasCut x m lines lines

@@ -32,7 +32,7 @@ pub fn a_look_is_a_step<S: Powered>()
         → (more : List Task) (lines lines' : List Line) (list : Option (List Shown)) (slot : Slot S) → Showed (λ s. S.view s) (λ s. S.device s) q (counts_by place.counts) (when_of m.state) place.slot list slot lines lines'
         → HasCounts (counts_by place.counts) slot → ActsNext x m (events.Show q) more
         → IsStepTo (λ s. S.view s) (λ s. S.device s) x m (more ++ drop 1 m.state.tasks) (record w { places = slice_set w.places q.0 (record place { slot = slot }) }) lines
-            (lines' ++ lines_at (when_of m.state) (texts_shown q list)) }
+        (lines' ++ lines_at (when_of m.state) (texts_shown q list)) }
 {}
 
 /// Each outcome at a server counts as thanked, where no client has a transaction or waits.
