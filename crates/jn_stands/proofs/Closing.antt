@@ -1,5 +1,5 @@
 -- Each outcome at a server counts as thanked, once the clients are dismissed.
-use Rattle.std.proofs.Common.{◌≡◌, ◌<◌, ℕ, zero, suc, Bool, true, false, List, [], ◌∷◌, ◌++◌, append-nil, drop, slice_get, slice_set, Option, Some, None, refl, sym, ◌∙◌, ap, subst, arith}
+use Rattle.std.proofs.Common.{◌≡◌, ◌<◌, ℕ, zero, suc, Bool, true, false, List, [], ◌∷◌, ◌++◌, append-nil, drop, slice_get, slice_set, Option, Some, None, refl, sym, ◌∙◌, ap, subst, arith, true≢false}
 use Rattle.std.specs.Prelude.{if◌then◌else◌, nat_lt}
 use Rattle.std.proofs.Math.Path.{fun_ext}
 use Rattle.std.proofs.lemmas.Bool.Decides.{nat_tests}
@@ -11,6 +11,7 @@ use Rattle.jn_place.specs.declared.place.Place.{Place}
 use Rattle.jn_place.specs.declared.place.Slot.{Slot}
 use Rattle.jn_place.specs.declared.place.Slot.TheVariants.{Up, Down, Gone}
 use Rattle.jn_place.specs.Exact.{IsDoneAt, Closed, texts_of_step}
+use Rattle.jn_place.specs.Places.{is_up}
 use Rattle.jn_protocol.specs.World.{World, Memory}
 use Rattle.jn_protocol.specs.Servers.{of_coordinator}
 use Rattle.jn_protocol.specs.Steps.{CloseClients, IsIdle, after, done, close_clients}
@@ -127,3 +128,16 @@ module _ {S : Type 0} (look : S → StoreView) (device : S → DeviceState) (see
         by (Up p) Gone is s k = absurd s.ends
         by (Down t) b is s k = absurd s
         by Gone b is s k = absurd s
+
+    -- where the server is up afterwards, as while no fault waits
+    pub closed-up-step : (done : Bool) (slot : Slot S) (lines' : List Line) → Closed look device q (counts_by place.counts) (when_of m.state) place.slot done slot lines lines' → is_up slot ≡ true → HasCounts (counts_by place.counts) slot
+        → IsStepTo look device x m (drop 1 m.state.tasks) (record w { places = slice_set w.places q.0 (record place { slot = slot }) }) lines lines'
+    closed-up-step true slot lines' closed up counts = closed-step slot lines' closed counts
+    closed-up-step false slot lines' closed up counts = absurd (by place.slot slot closed up)
+      where
+        by : (before after : Slot S) → Closed look device q (counts_by place.counts) (when_of m.state) before false after lines lines' → is_up after ≡ true → ⊥
+        by (Up p) (Up p') s e = s.ends
+        by (Up p) (Down t) s e = true≢false (sym e)
+        by (Up p) Gone s e = s.ends
+        by (Down t) b s e = s
+        by Gone b s e = s

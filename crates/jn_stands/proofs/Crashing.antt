@@ -1,5 +1,5 @@
 -- A server goes down.
-use Rattle.std.proofs.Common.{◌≡◌, Bool, List, [], ◌∷◌, ◌++◌, append-nil, drop, slice_get, slice_set, Option, Some, None, refl, sym, ◌∙◌, ap, subst}
+use Rattle.std.proofs.Common.{◌≡◌, Bool, true, false, List, [], ◌∷◌, ◌++◌, append-nil, drop, slice_get, slice_set, Option, Some, None, refl, sym, ◌∙◌, ap, subst, true≢false}
 use Rattle.std.specs.Prelude.{if◌then◌else◌}
 use Rattle.std.proofs.Math.Path.{fun_ext}
 use Rattle.jn_base.specs.declared.names.ServerNo.{ServerNo}
@@ -8,8 +8,9 @@ use Rattle.jn_device.specs.Device.{DeviceState}
 use Rattle.jn_device.specs.Events.{powered_off}
 use Rattle.jn_place.specs.declared.place.Place.{Place}
 use Rattle.jn_place.specs.declared.place.Slot.{Slot}
-use Rattle.jn_place.specs.declared.place.Slot.TheVariants.{Up, Down}
+use Rattle.jn_place.specs.declared.place.Slot.TheVariants.{Up, Down, Gone}
 use Rattle.jn_place.specs.Exact.{Crashed}
+use Rattle.jn_place.specs.Places.{is_up}
 use Rattle.jn_protocol.specs.World.{World, Memory, at_server}
 use Rattle.jn_protocol.specs.Steps.{Crash, crash}
 use Rattle.jn_recovery.specs.Loading.{counts_by}
@@ -93,3 +94,11 @@ module _ {S : Type 0} (look : S → StoreView) (device : S → DeviceState) (see
     where
       here : StandsAt look device (counts_by place.counts) (Down s) (world.memory q) (world.found q) (m.devices q)
       here = let there = stand.places q.0 place at in subst (λ (slot : Slot S). StandsAt look device (counts_by place.counts) slot (world.memory q) (world.found q) (m.devices q)) is there.stands
+
+  pub not-up-step : is_up place.slot ≡ false → ActsNext x m (events.Crash q) more → IsStepTo look device x m (more ++ drop 1 m.state.tasks) w lines lines
+  not-up-step e next = by place.slot refl e (let there = stand.places q.0 place at in there.stands)
+    where
+      by : (a : Slot S) → place.slot ≡ a → is_up a ≡ false → StandsAt look device (counts_by place.counts) a (world.memory q) (world.found q) (m.devices q) → IsStepTo look device x m (more ++ drop 1 m.state.tasks) w lines lines
+      by (Up p) is f h = absurd (true≢false f)
+      by (Down s) is f h = down-already-step s is next
+      by Gone is f h = absurd h

@@ -31,3 +31,4 @@ pub mod Losing
 pub mod Nudging
 pub mod Working
 pub mod RestNext
+pub mod Joined

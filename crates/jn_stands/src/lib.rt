@@ -14,4 +14,7 @@ pub use faults::faults_that_befall_are_steps;
 pub use looks::{a_closing_is_a_step, a_look_is_a_step};
 pub use names::{a_loop_names_what_a_restart_names, a_show_is_printed_block_by_block};
 pub use power::{a_crash_is_a_step, a_restart_is_a_step};
-pub use tasks::{an_event_is_what_comes_next, steps_without_servers, the_event_under_way_stays};
+pub use tasks::{
+    an_event_is_what_comes_next, calls_go_on_one_after_another, steps_without_servers,
+    the_event_under_way_stays,
+};

@@ -5,6 +5,7 @@ ghost use Rattle.jn_base.specs.declared.names.ServerNo.{ServerNo};
 ghost use Rattle.jn_place.specs.declared.place.Place.{Place};
 ghost use Rattle.jn_place.specs.declared.place.Slot.{Slot};
 ghost use Rattle.jn_place.specs.Exact.{ScrubbedBy, Showed, Closed};
+ghost use Rattle.jn_place.specs.Places.{is_up};
 ghost use Rattle.jn_protocol.specs.Steps.{IsIdle};
 ghost use Rattle.jn_recovery.specs.Loading.{counts_by};
 ghost use Rattle.jn_report.specs.declared.line.Line.{Line};
@@ -35,10 +36,10 @@ pub fn a_look_is_a_step<S: Powered>()
         (lines' ++ lines_at (when_of m.state) (texts_shown q list)) }
 {}
 
-/// Each outcome at a server counts as thanked, where no client has a transaction or waits.
+/// Each outcome at a server counts as thanked, where no client has a transaction or waits, and the server isn't stopped.
 pub fn a_closing_is_a_step<S: Powered>()
     ensures { (x : Setup) (w : Standing S) (m : Moment) → Stands (λ s. S.view s) (λ s. S.device s) x w m → (q : ServerNo) (place : Place S) → slice_get w.places q.0 ≡ Some place
         → (lines : List Line) → ((n : ℕ) (t : ClientTable) → slice_get w.clients n ≡ Some t → IsIdle t) → next_task m.state ≡ Some (ClosesClients q)
-        → (slot : Slot S) (lines' : List Line) → Closed (λ s. S.view s) (λ s. S.device s) q (counts_by place.counts) (when_of m.state) place.slot true slot lines lines' → HasCounts (counts_by place.counts) slot
+        → (done : Bool) (slot : Slot S) (lines' : List Line) → Closed (λ s. S.view s) (λ s. S.device s) q (counts_by place.counts) (when_of m.state) place.slot done slot lines lines' → is_up slot ≡ true → HasCounts (counts_by place.counts) slot
         → IsStepTo (λ s. S.view s) (λ s. S.device s) x m (drop 1 m.state.tasks) (record w { places = slice_set w.places q.0 (record place { slot = slot }) }) lines lines' }
 {}

@@ -1,12 +1,12 @@
 //! A server goes down, and comes up again.
 
-ghost use Rattle.std.specs.Prelude.{◌≡◌, ◌++◌, ◌∷◌, [], List, Some, drop, slice_get, slice_set};
+ghost use Rattle.std.specs.Prelude.{◌≡◌, ◌++◌, ◌∷◌, [], false, List, Some, drop, slice_get, slice_set};
 ghost use Rattle.jn_base.specs.declared.names.ServerNo.{ServerNo};
 ghost use Rattle.jn_place.specs.declared.place.Place.{Place};
 ghost use Rattle.jn_place.specs.declared.place.Restarted.{Restarted};
 ghost use Rattle.jn_place.specs.declared.place.Slot.{Slot};
-ghost use Rattle.jn_place.specs.declared.place.Slot.TheVariants.{Down};
 ghost use Rattle.jn_place.specs.Exact.{Crashed, IsRestart};
+ghost use Rattle.jn_place.specs.Places.{is_up};
 ghost use Rattle.jn_recovery.specs.Loading.{counts_by};
 ghost use Rattle.jn_report.specs.declared.line.Line.{Line};
 ghost use Rattle.jn_report.specs.declared.line.Text.TheVariants as says;
@@ -29,7 +29,7 @@ pub fn a_crash_is_a_step<S: Powered>()
         → IsStepTo (λ s. S.view s) (λ s. S.device s) x m (more ++ drop 1 m.state.tasks) (record w { places = slice_set w.places q.0 (record place { slot = slot }) }) lines
         (lines ++ record { when = when_of m.state; text = says.Down q } ∷ []) }
     ensures down { (x : Setup) (w : Standing S) (m : Moment) → Stands (λ s. S.view s) (λ s. S.device s) x w m → (q : ServerNo) (place : Place S) → slice_get w.places q.0 ≡ Some place
-        → (lines : List Line) (more : List Task) (s : S) → place.slot ≡ Down s → ActsNext x m (events.Crash q) more
+        → (lines : List Line) (more : List Task) → is_up place.slot ≡ false → ActsNext x m (events.Crash q) more
         → IsStepTo (λ s. S.view s) (λ s. S.device s) x m (more ++ drop 1 m.state.tasks) w lines lines }
 {}
 

@@ -12,7 +12,7 @@ ghost use Rattle.jn_written.specs.Events.{settling};
 ghost use Rattle.jn_written.specs.Refusals.{refusal_of};
 ghost use Rattle.jn_written.specs.Runs.{Moment};
 ghost use Rattle.jn_written.specs.Tasks.{Task, Begins, Meets, Acts, GoesDown, CountsCommits, when_of, next_task};
-ghost use Rattle.jn_stands.specs.Going.{ActsNext, WentOn, IsStepTo};
+ghost use Rattle.jn_stands.specs.Going.{ActsNext, WentOn, WasCut, IsStepTo};
 ghost use Rattle.jn_stands.specs.Meeting.{is_settle, begun_by, begins_in};
 ghost use Rattle.jn_stands.specs.Stands.{Standing, Stands};
 
@@ -44,4 +44,12 @@ pub fn the_event_under_way_stays<S: Powered>()
         (went : WentOn (λ s. S.view s) (λ s. S.device s) x m (tasks ++ drop 1 m.state.tasks) w lines lines') → begun_by task ≡ 0 → begins_in tasks ≡ 0 → when_of went.last.state ≡ when_of m.state }
     ensures next { (x : Setup) (m : Moment) (w : Standing S) (lines lines' : List Line) (event : Event) → next_task m.state ≡ Some (Begins event)
         → (went : WentOn (λ s. S.view s) (λ s. S.device s) x m (Meets event ∷ drop 1 m.state.tasks) w lines lines') → went.last.state.course.world.event ≡ m.state.course.world.event + 1 }
+{}
+
+/// Calls of the code one after another: the machine goes on, or the run is cut short.
+pub fn calls_go_on_one_after_another<S: Powered>()
+    ensures nowhere { (x : Setup) (m : Moment) (w : Standing S) → Stands (λ s. S.view s) (λ s. S.device s) x w m → (lines : List Line) → WentOn (λ s. S.view s) (λ s. S.device s) x m m.state.tasks w lines lines }
+    ensures further { (x : Setup) (m : Moment) (rest : List Task) (w : Standing S) (a b c : List Line) (first : WentOn (λ s. S.view s) (λ s. S.device s) x m rest w a b) (less : List Task) (w' : Standing S)
+        → WentOn (λ s. S.view s) (λ s. S.device s) x first.last less w' b c → WentOn (λ s. S.view s) (λ s. S.device s) x m less w' a c }
+    ensures cut { (x : Setup) (m : Moment) (rest : List Task) (w : Standing S) (a b c : List Line) (first : WentOn (λ s. S.view s) (λ s. S.device s) x m rest w a b) → WasCut x first.last b c → WasCut x m a c }
 {}
