@@ -23,7 +23,7 @@ use Rattle.jn_written.specs.Events.{servers_of, first_busy, next_event, next_in,
 use Rattle.jn_written.specs.Runs.{Moment}
 use Rattle.jn_written.specs.Tasks.{Rests, next_task}
 use Rattle.jn_stands.specs.Stands.{Standing, Stands}
-use Rattle.jn_stands.specs.Pages.{ReadsPages}
+use Rattle.jn_stands.specs.Pages.{ReadsPages, IsIdleAt}
 use Rattle.jn_stands.specs.Going.{ActsNext, IsStepTo}
 use Rattle.jn_stands.proofs.Placed.{get-below, get-there}
 use Rattle.jn_stands.proofs.Working.{busy-here}
@@ -84,11 +84,6 @@ head-is (j ∷ ks) k busy e = ap (λ (i : ℕ). Some (events.Deliver i)) (some-o
   where
     some-of : (a b : ℕ) → Some a ≡ Some b → a ≡ b
     some-of a b e = cc
-
--- a place with nothing to do, of which it is told rightly
-pub record IsIdleAt {S : Type 0} (look : S → StoreView) (device : S → DeviceState) (p : Place S) : Type 0 where
-  pub reads : ReadsPages look device (counts_by p.counts) p.slot
-  pub idle : has_work_at look p.slot ≡ false
 
 module _ {S : Type 0} (look : S → StoreView) (device : S → DeviceState) (seen : (s : S) → look s ≡ pairs_view (device s)) (x : Setup) (w : Standing S) (m : Moment) (stand : Stands look device x w m) where
   abbrev v : World
