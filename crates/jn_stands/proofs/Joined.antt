@@ -1,5 +1,5 @@
 -- Calls of the code one after another.
-use Rattle.std.proofs.Common.{◌≡◌, List, [], ◌++◌, append-nil, append_assoc, refl, sym, ◌∙◌, ap}
+use Rattle.std.proofs.Common.{List, [], ◌++◌, append-nil, append_assoc, refl, sym, ◌∙◌, ap}
 use Rattle.jn_device.specs.Device.{DeviceState}
 use Rattle.jn_report.specs.declared.line.Line.{Line}
 use Rattle.jn_store.specs.Store.{StoreView}
