@@ -1,5 +1,8 @@
 -- What each call of a place does, exactly: to the server, to its device, and in lines.
 use Rattle.std.specs.Prelude.{◌≡◌, ◌<◌, ◌+◌, ℕ, suc, Bool, true, false, ⊤, if◌then◌else◌, List, [], ◌∷◌, ◌++◌, map, Option, Some, None, is_some}
+use Rattle.jn_base.specs.declared.names.BlockNo.{BlockNo}
+use Rattle.jn_base.specs.declared.names.FileNo.{FileNo}
+use Rattle.jn_base.specs.declared.names.LockUnit.TheVariants.{Block}
 use Rattle.jn_base.specs.declared.names.ServerNo.{ServerNo}
 use Rattle.jn_base.specs.declared.names.Tid.{Tid}
 use Rattle.jn_base.specs.declared.names.WorkId.{WorkId}
@@ -124,10 +127,14 @@ abbrev pub ScrubbedBy : {S : Type 0} → (S → StoreView) → (S → DeviceStat
 ScrubbedBy look device q g when (Up p) done after lines lines' = IsStepOf look device q g when (idle_row (memory_of (view_with look p))) (Up p) done after lines lines'
 ScrubbedBy look device q g when before done after lines lines' = ⊥
 
--- what it told of its files; each block of which there is something to print is one of the 120
+-- each block of which there is something to print is one of the 120
+abbrev pub PrintsInRange : ServerView → Type 0
+PrintsInRange v = (f : FileNo) (b : BlockNo) → is_some (prints_in v.worker.table (state v.storage).files (Block f b)) ≡ true → b.0 < 120
+
+-- what it told of its files
 abbrev pub Prints : ServerView → Option (List Shown) → Type 0
 Prints v None = ⊤
-Prints v (Some list) = ArePrints (prints_in v.worker.table (state v.storage).files) (map print_of list)
+Prints v (Some list) = ArePrints (prints_in v.worker.table (state v.storage).files) (map print_of list) × PrintsInRange v
 
 abbrev pub Showed : {S : Type 0} → (S → StoreView) → (S → DeviceState) → ServerNo → Counts → When → Slot S → Option (List Shown) → Slot S → List Line → List Line → Type 0
 Showed look device q g when (Up p) list after lines lines' =

@@ -68,7 +68,7 @@ pub record PartsStand {S : Type 0} (look : S → StoreView) (device : S → Devi
   pub net : NetStands w.net w.named w.commits m.state.course
 
 module _ {S : Type 0} (look : S → StoreView) (device : S → DeviceState) (x : Setup) (w : Standing S) (m : Moment) (stand : Stands look device x w m) where
-  parts-after : (last : Moment) (w' : Standing S) (steps : List Step) → Leads x m last → last.state.course ≡ go_on steps m.state.course → PartsStand look device x w' last → Stands look device x w' last
+  pub parts-after : (last : Moment) (w' : Standing S) (steps : List Step) → Leads x m last → last.state.course ≡ go_on steps m.state.course → PartsStand look device x w' last → Stands look device x w' last
   parts-after last w' steps leads course parts = record {
     servers = parts.servers.servers;
     trace = parts.trace;
@@ -84,7 +84,7 @@ module _ {S : Type 0} (look : S → StoreView) (device : S → DeviceState) (x :
     found = parts.servers.found;
   }
 
-  abbrev left : State
+  abbrev pub left : State
   left = record m.state { tasks = drop 1 m.state.tasks }
 
   -- where a deed leads to

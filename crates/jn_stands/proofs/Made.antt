@@ -24,7 +24,7 @@ use Rattle.jn_stands.specs.Stands.{Standing, Stands}
 use Rattle.jn_stands.specs.Going.{IsStepTo}
 
 -- a chance of which no step asks anything more
-pub quiet_chance : Setup → Devices → Chance
+abbrev pub quiet_chance : Setup → Devices → Chance
 quiet_chance x ds = record {
   free = record { records = 0; heads = 0; pages = 0 };
   rubbish = rubbish_on x ds;
