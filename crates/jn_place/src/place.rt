@@ -378,8 +378,7 @@ impl<S: Powered + Drop> Place<S> {
         match restart(alloc, store, self.counts) {
             Ok((server, found)) => {
                 self.slot = Slot::Up(server);
-                let _ = found;
-                Err(AllocError)
+                Ok(Restarted::Up(found))
             }
             Err(Down { store, cause }) => match cause {
                 DownCause::Stopped => {
