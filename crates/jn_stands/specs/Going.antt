@@ -1,17 +1,15 @@
 -- How a call of the code goes on from where the machine stands: it does the next tasks, with their lines, or the run is cut short there.
-use Rattle.std.specs.Prelude.{◌≡◌, ◌≤◌, ◌<◌, ◌+◌, ⊤, ℕ, Bool, true, false, List, [], ◌∷◌, ◌++◌, length, drop, Option, Some, None, Result, Ok, Err}
+use Rattle.std.specs.Prelude.{◌≡◌, ◌≤◌, ◌<◌, List, ◌++◌, length, drop, Some}
 use Rattle.jn_base.specs.declared.names.ServerNo.{ServerNo}
 use Rattle.jn_device.specs.Device.{DeviceState}
-use Rattle.jn_report.specs.declared.line.When.{When}
 use Rattle.jn_report.specs.declared.line.Line.{Line}
 use Rattle.jn_schedule.specs.declared.Event.{Event}
 use Rattle.jn_store.specs.Store.{StoreView}
 use Rattle.jn_written.specs.Chances.{Setup, Chance}
-use Rattle.jn_written.specs.Deeds.{Deed}
 use Rattle.jn_written.specs.Devices.{rubbish_on}
 use Rattle.jn_written.specs.Events.{acted, deed_of}
 use Rattle.jn_written.specs.Runs.{Moment, Leads}
-use Rattle.jn_written.specs.Tasks.{Task, Stage, CutShort, when_of, next_task, begun}
+use Rattle.jn_written.specs.Tasks.{Task, CutShort, next_task, begun}
 use Rattle.jn_stands.specs.Stands.{Standing, Stands}
 
 -- these lines were added, here and in the machine

@@ -1,5 +1,5 @@
 -- Where the code's clients, servers and network stand as the written machine does.
-use Rattle.std.specs.Prelude.{◌≡◌, ◌×◌, ℕ, suc, Bool, true, false, ⊥, ◌||◌, nat_lt, ◌&&◌, List, [], ◌∷◌, ◌++◌, map, length, slice_get, Option, Some, None}
+use Rattle.std.specs.Prelude.{◌≡◌, ℕ, suc, ◌+◌, Bool, false, ◌||◌, nat_lt, ◌&&◌, List, [], ◌++◌, map, length, slice_get, Option, Some, None}
 use Rattle.jn_base.specs.declared.names.ServerNo.{ServerNo}
 use Rattle.jn_base.specs.declared.names.ClientNo.{ClientNo}
 use Rattle.jn_base.specs.declared.names.Party.{Party}
@@ -14,14 +14,14 @@ use Rattle.jn_place.specs.declared.place.Place.{Place}
 use Rattle.jn_place.specs.declared.place.Slot.{Slot}
 use Rattle.jn_place.specs.declared.place.Slot.TheVariants.{Up, Down, Gone}
 use Rattle.jn_protocol.specs.Servers.{lines_of}
-use Rattle.jn_protocol.specs.World.{World, Memory, commits_in, has_line}
+use Rattle.jn_protocol.specs.World.{Memory, commits_in, has_line}
 use Rattle.jn_records.specs.StablePages.{Counts}
 use Rattle.jn_recovery.specs.Loading.{counts_by}
 use Rattle.jn_report.specs.declared.line.Text.{Text}
 use Rattle.jn_rests.specs.Waiting.{Carries}
 use Rattle.jn_rows.specs.Client.{ClientTable, new_table}
 use Rattle.jn_rows.specs.Outcomes.{Sent}
-use Rattle.jn_rows.specs.Stable.{StableState, Pick}
+use Rattle.jn_rows.specs.Stable.{StableState, Pick, IsUp}
 use Rattle.jn_serial.specs.Lines.{history_of}
 use Rattle.jn_server.specs.Seen.{view_with, memory_of}
 use Rattle.jn_store.specs.Store.{StoreView}
@@ -44,10 +44,10 @@ pub record Standing (S : Type 0) : Type 0 where
 abbrev pub is_client : ℕ → Bool
 is_client c = nat_lt 0 c && nat_lt c 9
 
--- a server with its memory, what is found of it, and its device
+-- a server with its memory, what is found of it, which is one state while it is up, and its device
 abbrev pub StandsAt : {S : Type 0} → (S → StoreView) → (S → DeviceState) → Counts → Slot S → Option Memory → (Pick → StableState) → DeviceState → Type 0
 StandsAt look device g (Up p) memory found d =
-    (memory ≡ Some (memory_of (view_with look p))) × (found ≡ (view_with look p).storage.found) × (d ≡ device p.storage.0)
+    (memory ≡ Some (memory_of (view_with look p))) × (found ≡ (view_with look p).storage.found) × (d ≡ device p.storage.0) × IsUp (view_with look p).storage.found
 StandsAt look device g (Down s) memory found d = (memory ≡ None) × (found ≡ found_on g (look s)) × (d ≡ device s)
 StandsAt look device g Gone memory found d = ⊥
 
