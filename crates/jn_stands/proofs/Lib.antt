@@ -32,3 +32,4 @@ pub mod Nudging
 pub mod Working
 pub mod RestNext
 pub mod Joined
+pub mod Reported
