@@ -33,3 +33,4 @@ pub mod Working
 pub mod RestNext
 pub mod Joined
 pub mod Held
+pub mod Reported

@@ -8,3 +8,4 @@ pub mod Pages
 pub mod Restarting
 pub mod Clients
 pub mod Showing
+pub mod Written
