@@ -1,1 +1,9 @@
 pub mod Standing
+pub mod Naming
+pub mod Faults
+pub mod Written
+pub mod Settling
+pub mod Bringing
+pub mod Closing
+pub mod Meeting
+pub mod Opening

@@ -1,13 +1,15 @@
 //! What servers that are up do without a message.
-ghost use Rattle.std.specs.Prelude.{◌≡◌, ◌<◌, ◌≤◌, ◌+◌, true, false, vec_len, length, nat_lt, OnOk, IfOk};
-ghost use Rattle.jn_within.specs.Taking.{CanBeTaken, AllCanBeTaken, CommandInRange};
-ghost use Rattle.jn_world.specs.Standing.{IsWorld, IsWorldUpTo, is_up_at, posted_by};
+ghost use Rattle.std.specs.Prelude.{◌≡◌, ◌∷◌, [], true, vec_len, OnOk};
+ghost use Rattle.jn_schedule.specs.declared.Event.TheVariants as events;
+ghost use Rattle.jn_world.specs.Closing.{AreIdle};
+ghost use Rattle.jn_world.specs.Standing.{IsWorld, is_up_at};
+ghost use Rattle.jn_world.specs.Written.{DoesEvent, DoesTasks, standing_of};
+ghost use Rattle.jn_written.specs.Tasks.{ClosesClients, Meets};
 
 use crate::ended::Ended;
-use jn_place::Work;
-use jn_place::tell;
 use crate::world::{World, refuse};
 use jn_base::{ServerNo, Tid};
+use jn_place::tell;
 use jn_report::{EventRefusal, Line, Text, When};
 use jn_server::Shown;
 use jn_store::Powered;
@@ -36,30 +38,40 @@ fn tell_shown(
 }
 
 impl<S: Powered + Drop> World<S> {
-    /// One background step. False exactly where nothing is to do.
+    /// One background step, if there is something to do.
     pub(crate) fn work(
         &mut self,
         server: ServerNo,
         when: When,
         lines: &mut Vec<Line>,
-    ) -> Result<bool, Ended>
+    ) -> Result<(), Ended>
         requires world { IsWorld (λ s. S.view s) self.old }
         requires up { is_up_at server.0 self.old.places.items ≡ true }
         ensures world { OnOk result (IsWorld (λ s. S.view s) self.new) }
+        ensures does { DoesEvent (λ s. S.view s) (λ s. S.device s) (events.Step server) when (standing_of self.old) result (standing_of self.new) lines.old.items lines.new.items }
+    {
+        if !self.places[usize::from(server.0)].has_work() {
+            return Ok(());
+        }
+        self.make_step(server, when, lines)
+    }
+
+    /// A server that has something to do makes one background step.
+    fn make_step(
+        &mut self,
+        server: ServerNo,
+        when: When,
+        lines: &mut Vec<Line>,
+    ) -> Result<(), Ended>
+        requires world { IsWorld (λ s. S.view s) self.old }
+        requires up { is_up_at server.0 self.old.places.items ≡ true }
+        ensures world { OnOk result (IsWorld (λ s. S.view s) self.new) }
+        ensures does { DoesEvent (λ s. S.view s) (λ s. S.device s) (events.Step server) when (standing_of self.old) result (standing_of self.new) lines.old.items lines.new.items }
     {
         let mut told = Vec::new(self.alloc);
         let place = &mut self.places[usize::from(server.0)];
-        match place.step(self.alloc, server, when, &mut told)? {
-            Work::Idle => Ok(false),
-            Work::Done(out) => {
-                self.end_step(server, None, Some(out), when, told, lines)?;
-                Ok(true)
-            }
-            Work::Stopped => {
-                self.end_step(server, None, None, when, told, lines)?;
-                Ok(true)
-            }
-        }
+        let answer = place.step(self.alloc, server, when, &mut told)?;
+        self.end_step(server, None, answer, when, told, lines)
     }
 
     /// A server sends again what waits for an answer.
@@ -72,6 +84,8 @@ impl<S: Powered + Drop> World<S> {
         requires world { IsWorld (λ s. S.view s) self.old }
         requires up { is_up_at server.0 self.old.places.items ≡ true }
         ensures world { OnOk result (IsWorld (λ s. S.view s) self.new) }
+        ensures does { DoesEvent (λ s. S.view s) (λ s. S.device s) (events.Nudge server) when (standing_of self.old) result (standing_of self.new) lines.old.items lines.new.items }
+        ensures as_many { OnOk result (vec_len self.new.places ≡ vec_len self.old.places) }
     {
         let told = Vec::new(self.alloc);
         let out = self.places[usize::from(server.0)].again(self.alloc)?;
@@ -89,6 +103,7 @@ impl<S: Powered + Drop> World<S> {
         requires world { IsWorld (λ s. S.view s) self.old }
         requires up { is_up_at server.0 self.old.places.items ≡ true }
         ensures world { OnOk result (IsWorld (λ s. S.view s) self.new) }
+        ensures does { DoesTasks (λ s. S.view s) (λ s. S.device s) (λ x. Meets (events.Timeout server tid) ∷ []) when (standing_of self.old) result (standing_of self.new) lines.old.items lines.new.items }
     {
         if !self.places[usize::from(server.0)].timeout(tid) {
             return refuse(lines, when, EventRefusal::NoSuchWork);
@@ -106,6 +121,7 @@ impl<S: Powered + Drop> World<S> {
         requires world { IsWorld (λ s. S.view s) self.old }
         requires up { is_up_at server.0 self.old.places.items ≡ true }
         ensures world { OnOk result (IsWorld (λ s. S.view s) self.new) }
+        ensures does { DoesEvent (λ s. S.view s) (λ s. S.device s) (events.Scrub server) when (standing_of self.old) result (standing_of self.new) lines.old.items lines.new.items }
     {
         self.places[usize::from(server.0)].scrub(server, when, lines)?;
         Ok(())
@@ -121,6 +137,7 @@ impl<S: Powered + Drop> World<S> {
         requires world { IsWorld (λ s. S.view s) self.old }
         requires up { is_up_at server.0 self.old.places.items ≡ true }
         ensures world { OnOk result (IsWorld (λ s. S.view s) self.new) }
+        ensures does { DoesEvent (λ s. S.view s) (λ s. S.device s) (events.Show server) when (standing_of self.old) result (standing_of self.new) lines.old.items lines.new.items }
     {
         let place = &mut self.places[usize::from(server.0)];
         if let Some(list) = place.show(self.alloc, server, when, lines)? {
@@ -138,9 +155,16 @@ impl<S: Powered + Drop> World<S> {
     ) -> Result<(), Ended>
         requires world { IsWorld (λ s. S.view s) self.old }
         requires up { is_up_at server.0 self.old.places.items ≡ true }
+        requires idle { AreIdle self.old.clients.items }
         ensures world { OnOk result (IsWorld (λ s. S.view s) self.new) }
+        ensures clients { OnOk result (self.new.clients ≡ self.old.clients) }
+        ensures does { DoesTasks (λ s. S.view s) (λ s. S.device s) (λ x. ClosesClients server ∷ []) when (standing_of self.old) result (standing_of self.new) lines.old.items lines.new.items }
     {
         self.places[usize::from(server.0)].close_clients(server, when, lines)?;
+        if !self.is_up(server) {
+            // It always is: no fault waits that might have stopped it.
+            return Err(Ended::Memory);
+        }
         Ok(())
     }
 
@@ -154,6 +178,9 @@ impl<S: Powered + Drop> World<S> {
         requires world { IsWorld (λ s. S.view s) self.old }
         requires up { is_up_at server.0 self.old.places.items ≡ true }
         ensures world { OnOk result (IsWorld (λ s. S.view s) self.new) }
+        ensures others { self.new ≡ record self.old { places = self.new.places } }
+        ensures as_many { vec_len self.new.places ≡ vec_len self.old.places }
+        ensures does { DoesEvent (λ s. S.view s) (λ s. S.device s) (events.Crash server) when (standing_of self.old) result (standing_of self.new) lines.old.items lines.new.items }
     {
         self.places[usize::from(server.0)].crash();
         tell(lines, when, Text::Down(server))?;

@@ -1,7 +1,11 @@
 //! A settle: until nothing is left to do.
-ghost use Rattle.std.specs.Prelude.{◌≡◌, ◌<◌, ◌≤◌, ◌+◌, true, false, vec_len, length, nat_lt, OnOk, IfOk};
-ghost use Rattle.jn_within.specs.Taking.{CanBeTaken, AllCanBeTaken, CommandInRange};
-ghost use Rattle.jn_world.specs.Standing.{IsWorld, IsWorldUpTo, is_up_at, posted_by};
+ghost use Rattle.std.specs.Prelude.{◌≡◌, ◌≤◌, ◌<◌, ◌+◌, ◌∷◌, [], true, vec_len, OnOk, IfSome};
+ghost use Rattle.jn_schedule.specs.declared.Event.TheVariants.{Again, Nudge};
+ghost use Rattle.jn_world.specs.Settling.{asking_clients, asking_servers};
+ghost use Rattle.jn_world.specs.Standing.{IsWorld, is_up_at, is_client};
+ghost use Rattle.jn_world.specs.Written.{DoesEvent, DoesTasks, TakesTurn, standing_of};
+ghost use Rattle.jn_written.specs.Events.{asking, settling};
+ghost use Rattle.jn_written.specs.Tasks.{Acts, Rests};
 
 use crate::ended::Ended;
 use crate::world::{CLIENTS, World};
@@ -15,6 +19,7 @@ impl<S: Powered + Drop> World<S> {
     pub(crate) fn settle_at(&mut self, when: When, lines: &mut Vec<Line>) -> Result<(), Ended>
         requires world { IsWorld (λ s. S.view s) self.old }
         ensures world { OnOk result (IsWorld (λ s. S.view s) self.new) }
+        ensures does { DoesTasks (λ s. S.view s) (λ s. S.device s) settling when (standing_of self.old) result (standing_of self.new) lines.old.items lines.new.items }
     {
         self.come_to_rest(when, lines)?;
         self.ask_again(when, lines)?;
@@ -25,14 +30,15 @@ impl<S: Powered + Drop> World<S> {
     fn come_to_rest(&mut self, when: When, lines: &mut Vec<Line>) -> Result<(), Ended>
         requires world { IsWorld (λ s. S.view s) self.old }
         ensures world { OnOk result (IsWorld (λ s. S.view s) self.new) }
+        ensures does { DoesTasks (λ s. S.view s) (λ s. S.device s) (λ x. Rests ∷ []) when (standing_of self.old) result (standing_of self.new) lines.old.items lines.new.items }
     {
-        // No settle has so many steps: each hands over a message, carries an intention out or erases a record.
         for _ in 0..u64::MAX {
             if !self.goes_on(when, lines)? {
                 return Ok(());
             }
         }
-        Ok(())
+        // No settle has so many steps: each hands over a message, carries an intention out or erases a record.
+        Err(Ended::Memory)
     }
 
     /// The least message that waits is handed over; where none waits, the first server that has something to do makes a
@@ -40,45 +46,80 @@ impl<S: Powered + Drop> World<S> {
     fn goes_on(&mut self, when: When, lines: &mut Vec<Line>) -> Result<bool, Ended>
         requires world { IsWorld (λ s. S.view s) self.old }
         ensures world { OnOk result (IsWorld (λ s. S.view s) self.new) }
+        ensures turn { TakesTurn (λ s. S.view s) (λ s. S.device s) when (standing_of self.old) result (standing_of self.new) lines.old.items lines.new.items }
     {
         if let Some(k) = self.net.waiting() {
             self.hand_over(k, when, lines)?;
             return Ok(true);
         }
-        for s in 0..self.servers() {
-            let server = ServerNo(s);
-            if self.works(server, when, lines)? {
-                return Ok(true);
-            }
-        }
-        Ok(false)
+        let Some(server) = self.first_busy() else {
+            return Ok(false);
+        };
+        self.work(server, when, lines)?;
+        Ok(true)
     }
 
-    /// A server makes a step, if it is up and has something to do. False exactly where not.
-    fn works(&mut self, server: ServerNo, when: When, lines: &mut Vec<Line>) -> Result<bool, Ended>
-        requires world { IsWorld (λ s. S.view s) self.old }
-        ensures world { OnOk result (IsWorld (λ s. S.view s) self.new) }
+    /// The first server that is up and has something to do.
+    fn first_busy(&self) -> Option<ServerNo>
+        requires few { vec_len self.now.places ≤ 8 }
+        ensures up { IfSome result (λ server. is_up_at server.0 self.now.places.items ≡ true) }
     {
-        if !self.is_up(server) {
-            return Ok(false);
+        for s in 0..self.servers() {
+            if self.is_up(ServerNo(s)) && self.places[usize::from(s)].has_work() {
+                return Some(ServerNo(s));
+            }
         }
-        self.work(server, when, lines)
+        None
     }
 
     /// Each client, and then each server that is up, sends once more what waits for an answer.
     fn ask_again(&mut self, when: When, lines: &mut Vec<Line>) -> Result<(), Ended>
         requires world { IsWorld (λ s. S.view s) self.old }
         ensures world { OnOk result (IsWorld (λ s. S.view s) self.new) }
+        ensures does { DoesTasks (λ s. S.view s) (λ s. S.device s) asking when (standing_of self.old) result (standing_of self.new) lines.old.items lines.new.items }
+    {
+        self.ask_clients(when, lines)?;
+        self.ask_servers(when, lines)
+    }
+
+    fn ask_clients(&mut self, when: When, lines: &mut Vec<Line>) -> Result<(), Ended>
+        requires world { IsWorld (λ s. S.view s) self.old }
+        ensures world { OnOk result (IsWorld (λ s. S.view s) self.new) }
+        ensures does { DoesTasks (λ s. S.view s) (λ s. S.device s) asking_clients when (standing_of self.old) result (standing_of self.new) lines.old.items lines.new.items }
     {
         for c in 0..CLIENTS {
             self.again(ClientNo(c + 1), when, lines)?;
         }
+        Ok(())
+    }
+
+    fn ask_servers(&mut self, when: When, lines: &mut Vec<Line>) -> Result<(), Ended>
+        requires world { IsWorld (λ s. S.view s) self.old }
+        ensures world { OnOk result (IsWorld (λ s. S.view s) self.new) }
+        ensures does { DoesTasks (λ s. S.view s) (λ s. S.device s) asking_servers when (standing_of self.old) result (standing_of self.new) lines.old.items lines.new.items }
+    {
         for s in 0..self.servers() {
-            let server = ServerNo(s);
-            if self.is_up(server) {
-                self.nudge(server, when, lines)?;
-            }
+            self.ask_server(ServerNo(s), when, lines)?;
         }
         Ok(())
+    }
+
+    /// A server sends again what waits for an answer, if it is up.
+    fn ask_server(
+        &mut self,
+        server: ServerNo,
+        when: When,
+        lines: &mut Vec<Line>,
+    ) -> Result<(), Ended>
+        requires world { IsWorld (λ s. S.view s) self.old }
+        requires there { server.0 < vec_len self.old.places }
+        ensures world { OnOk result (IsWorld (λ s. S.view s) self.new) }
+        ensures as_many { OnOk result (vec_len self.new.places ≡ vec_len self.old.places) }
+        ensures does { DoesEvent (λ s. S.view s) (λ s. S.device s) (Nudge server) when (standing_of self.old) result (standing_of self.new) lines.old.items lines.new.items }
+    {
+        if !self.is_up(server) {
+            return Ok(());
+        }
+        self.nudge(server, when, lines)
     }
 }

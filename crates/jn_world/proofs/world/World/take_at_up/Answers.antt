@@ -1,7 +1,8 @@
-use Rattle.std.proofs.Common.{length}
+use Rattle.std.proofs.Common.{ℕ, length, subst, sym}
 use Rattle.std.specs.Vec.{with_item}
+use Rattle.jn_place.specs.Calls.{Left}
 use Rattle.jn_store.specs.Store.{StoreView}
-use Rattle.jn_world.proofs.Places.{place-here, place-million, up-here, moved-sent, posted-at}
+use Rattle.jn_world.proofs.Places.{delivered-world, delivered-many, place-here, place-million, up-here, moved-sent, posted-at}
 use Rattle.jn_world.proofs.Worlds.{places-of, clients-of}
 use Rattle.jn_world.proofs.world.World.take_at_up.Goals as goal
 
@@ -21,6 +22,13 @@ take-requires-clause-up g c = up-here c.args.self.now c.args.server c.from.resul
 pub take-requires-clause-message : goal.take-requires-clause-message
 take-requires-clause-message g c = posted-at c.args.self.now.net.sent c.args.k c.in-Some.sent.now c.requires.world.posted c.in-Some.ensures
 
+pub end_step-requires : goal.end_step-requires
+end_step-requires g c =
+    let look : g.row.S.Denot → StoreView = λ s. g.S.StableStore.view s in
+    let w = c.args.self.now in
+    let has = delivered-world look w c.args.k c.delivered.new.self c.requires.world c.delivered.ensures in
+    record { few = has.limit }
+
 pub returns : goal.returns
 returns g c =
     let look : g.row.S.Denot → StoreView = λ s. g.S.StableStore.view s in
@@ -31,9 +39,12 @@ returns g c =
     let place = place-here look w server i p c.from.ensures c.requires.up c.index_mut-place.ensures.value c.requires.world in
     let q = c.take.new.self in
     let step = c.in_ok-answer.ensures in
-    let a = record w { places = with_item w.places i q } in
+    let n = c.delivered.new.self in
+    let a = record w { places = with_item w.places i q; net = n } in
     let b = c.end_step.new.self in
     record {
-      world = moved-sent look w b server i q c.in_ok-answer.answer c.end_step.result c.from.ensures c.requires.world (step.left (length w.net.sent) place)
+      world = moved-sent look (record w { net = n }) b server i q c.in_ok-answer.answer c.end_step.result c.from.ensures
+          (delivered-world look w c.args.k n c.requires.world c.delivered.ensures)
+          (subst (λ (k : ℕ). Left look server k q c.in_ok-answer.answer) (sym (delivered-many w.net n c.args.k c.delivered.ensures)) (step.left (length w.net.sent) place))
           (places-of a b c.end_step.ensures.others) (clients-of a b c.end_step.ensures.others) c.end_step.ensures.sent c.end_step.ensures.limit;
     }
