@@ -1,1 +1,4 @@
 pub mod Refuted
+pub mod Bare
+pub mod Doing
+pub mod Chanced

@@ -27,9 +27,17 @@ IsNone schedule lines = (x : Setup) (images closing : Devices) → x.servers ≤
 abbrev pub begins : List Event
 begins = then_settle c1 (commands.Begin s0) []
 
--- and opens another server twice
-abbrev pub opens_again : List Event
-opens_again = then_settle c1 (commands.Begin s0) (tells c1 (commands.Open s1) ∷ tells c1 (commands.Open s1) ∷ then_settle c1 commands.End [])
+-- it opens another server, which goes down, and ends
+abbrev pub opens_and_loses : List Event
+opens_and_loses = then_settle c1 (commands.Begin s0) (then_settle c1 (commands.Open s1) (events.Crash s1 ∷ then_settle c1 commands.End []))
+
+-- it makes a file, and ends
+abbrev pub makes_one : List Event
+makes_one = makes_file s0 (then_settle c1 commands.End [])
+
+-- it makes a file, reads a block of it, and ends
+abbrev pub makes_and_reads : List Event
+makes_and_reads = makes_file s0 (then_settle c1 (commands.Do s0 (ops.Read (file 7) (block 0))) (then_settle c1 commands.End []))
 
 -- ---- reports
 
@@ -39,6 +47,36 @@ the_end = at_end (says.Down s0) ∷ at_end (says.Up s0 2) ∷ at_end (says.Commi
 -- an answer stands before its command
 abbrev pub answered_too_soon : List Line
 answered_too_soon = line 0 (says.Up s0 1) ∷ line 1 (says.Begun c1 3 (tid s0 0)) ∷ the_end
+
+-- a client is told that its transaction lost a server which it refused to open
+abbrev pub lost_without_opening : List Line
+lost_without_opening = line 0 (says.Up s0 1) ∷ line 0 (says.Up s1 1) ∷ line 2 (says.Begun c1 1 (tid s0 0)) ∷ line 3 (says.Refused c1 3 refusals.AlreadyOpen) ∷ line 5 (says.Down s1)
+    ∷ line 7 (says.Aborted c1 6 (tid s0 0) (causes.Lost s1)) ∷ at_end (says.Down s0) ∷ at_end (says.Up s0 2) ∷ at_end (says.Up s1 2) ∷ at_end (says.Commits 0) ∷ []
+
+-- what stands before the end where a file was made
+abbrev pub a_file_made : List Line
+a_file_made = line 0 (says.Up s0 1) ∷ line 2 (says.Begun c1 1 (tid s0 0)) ∷ line 4 (says.Opened c1 3 s0) ∷ line 6 (says.Did c1 5) ∷ line 8 (says.Commit (tid s0 0)) ∷ line 8 (says.Committed c1 7 (tid s0 0)) ∷ at_end (says.Down s0) ∷ at_end (says.Up s0 2) ∷ []
+
+-- the end leaves the file out
+abbrev pub file_left_out : List Line
+file_left_out = a_file_made ++ at_end (says.Commits 1) ∷ []
+
+-- it shows the file as locked
+abbrev pub file_locked : List Line
+file_locked = a_file_made ++ at_end (says.Locked s0 (units.File (file 7)) (tid s0 0)) ∷ at_end (says.Commits 1) ∷ []
+
+-- it prints a page that nobody wrote
+abbrev pub page_unwritten : List Line
+page_unwritten = a_file_made ++ at_end (says.File s0 (file 7)) ∷ at_end (says.Page s0 (file 7) (block 0) (block_of (104 ∷ []))) ∷ at_end (says.Commits 1) ∷ []
+
+-- a block of a new file is answered with bytes
+abbrev pub other_bytes : List Line
+other_bytes = line 0 (says.Up s0 1) ∷ line 2 (says.Begun c1 1 (tid s0 0)) ∷ line 4 (says.Opened c1 3 s0) ∷ line 6 (says.Did c1 5) ∷ line 8 (says.Read c1 7 (block_of (104 ∷ [])))
+    ∷ line 10 (says.Commit (tid s0 0)) ∷ line 10 (says.Committed c1 9 (tid s0 0)) ∷ at_end (says.Down s0) ∷ at_end (says.Up s0 2) ∷ at_end (says.File s0 (file 7)) ∷ at_end (says.Commits 1) ∷ []
+
+-- a fault is told as refused though none waited
+abbrev pub fault_of_nothing : List Line
+fault_of_nothing = line 0 (says.Up s0 1) ∷ line 2 (says.Outside s0 (record { kind = faults.Null; page = 1 })) ∷ line 2 (says.Begun c1 1 (tid s0 0)) ∷ the_end
 
 -- a server is stopped without a stop
 abbrev pub stopped_by_nothing : List Line
