@@ -1,5 +1,9 @@
 -- States but for the steps so far, which nothing looks at.
-use Rattle.std.proofs.Common.{◌≡◌, ℕ, Bool, true, false, List, [], ◌∷◌, ◌++◌, length, refl, sym, ◌∙◌, ap}
+use Rattle.std.proofs.Common.{◌≡◌, ℕ, Bool, true, false, List, [], ◌∷◌, ◌++◌, append-nil, length, drop, refl, sym, ◌∙◌, ap, subst}
+use Rattle.std.proofs.Math.Seq.{drop-append_seam}
+use Rattle.jn_report.specs.declared.line.Line.{Line}
+use Rattle.jn_rows.specs.Outcomes.{Sent}
+use Rattle.jn_protocol.specs.World.{World}
 use Rattle.std.specs.Prelude.{◌||◌, if◌then◌else◌, nat_lt}
 use Rattle.jn_base.specs.declared.names.Party.{Party}
 use Rattle.jn_report.specs.declared.line.Text.{Text}
@@ -64,3 +68,33 @@ made-same x h deed steps s silent quiet same = bare-made x h deed s
     ∙ ap (λ (out : List Text). made_of out deed.texts deed.actor deed.tasks deed.cuts x.trace (bare_course (go_on deed.steps s.course)) (bare s)) (silent ∙ sym quiet)
     ∙ ap (λ (c : Course). made_of (outside_texts deed.device []) deed.texts deed.actor deed.tasks deed.cuts x.trace c (bare s)) same
     ∙ sym (bare-made x still (record deed { steps = steps }) s)
+
+-- a deed that does nothing but leave its task
+pub idles : (x : Setup) (deed : Deed) (s s' : State) → nat_lt most_messages (length s.course.world.sent) ≡ false → deed.steps ≡ [] → outside_texts deed.device [] ≡ [] → deed.texts ≡ [] → deed.cuts ≡ false
+    → s' ≡ record s { tasks = s'.tasks } → deed.tasks ++ s'.tasks ≡ s.tasks → bare (made x still deed s') ≡ bare s
+idles x deed s s' few none silent untold goes_on is tasks = bare-made x still deed s'
+    ∙ ap (λ (steps : List Step). made_of (outside_texts deed.device []) deed.texts deed.actor deed.tasks deed.cuts x.trace (bare_course (go_on steps s'.course)) (bare s')) none
+    ∙ ap (λ (out : List Text). made_of out deed.texts deed.actor deed.tasks deed.cuts x.trace (bare_course s'.course) (bare s')) silent
+    ∙ ap (λ (texts : List Text). made_of [] texts deed.actor deed.tasks deed.cuts x.trace (bare_course s'.course) (bare s')) untold
+    ∙ ap (λ (cuts : Bool). made_of [] [] deed.actor deed.tasks cuts x.trace (bare_course s'.course) (bare s')) goes_on
+    ∙ ap (λ (z : State). made_of [] [] deed.actor deed.tasks false x.trace (bare_course z.course) (bare z)) is
+    ∙ ap (λ (b : Bool). if b then bare (cut_short u) else came_of [] [] deed.actor deed.tasks x.trace (bare_course u.course) (bare u)) few
+    ∙ ap (λ (ts : List Task). record (bare s) { tasks = ts; lines = s.lines ++ lines_at (when_of s) ([] ++ own_texts w w ++ [] ++ traced x.trace (message_texts deed.actor (length w.sent) (newly_sent w w))) }) tasks
+    ∙ ap (λ (texts : List Text). record (bare s) { lines = s.lines ++ lines_at (when_of s) texts }) (none-told x.trace deed.actor (length w.sent) (own_texts w w) (newly_sent w w) (drop-all w.lines) (drop-all w.sent))
+    ∙ ap (λ (lines : List Line). record (bare s) { lines = lines }) (append-nil s.lines)
+  where
+    w : World
+    w = s.course.world
+
+    u : State
+    u = record s { tasks = s'.tasks }
+
+    drop-all : {A : Type 0} (xs : List A) → drop (length xs) xs ≡ []
+    drop-all xs = subst (λ ys. drop (length xs) ys ≡ []) (append-nil xs) (drop-append_seam xs [])
+
+    none-told : (trace : Bool) (actor : Party) (k : ℕ) (own : List Text) (sent : List Sent) → own ≡ [] → sent ≡ [] → [] ++ own ++ [] ++ traced trace (message_texts actor k sent) ≡ []
+    none-told trace actor k own sent e f = ap (λ (texts : List Text). [] ++ texts ++ [] ++ traced trace (message_texts actor k sent)) e ∙ ap (λ (more : List Sent). traced trace (message_texts actor k more)) f ∙ by trace
+      where
+        by : (b : Bool) → traced b [] ≡ []
+        by true = refl
+        by false = refl

@@ -2,3 +2,5 @@ pub mod Refuted
 pub mod Bare
 pub mod Doing
 pub mod Chanced
+pub mod Resting
+pub mod Exact
