@@ -4,3 +4,5 @@ pub mod Doing
 pub mod Chanced
 pub mod Resting
 pub mod Exact
+pub mod Computed
+pub mod Begun

@@ -44,6 +44,10 @@ makes_and_reads = makes_file s0 (then_settle c1 (commands.Do s0 (ops.Read (file 
 abbrev pub the_end : List Line
 the_end = at_end (says.Down s0) ∷ at_end (says.Up s0 2) ∷ at_end (says.Commits 0) ∷ []
 
+-- what a run of one server tells in which a client begins
+abbrev pub begun_report : List Line
+begun_report = line 0 (says.Up s0 1) ∷ line 2 (says.Begun c1 1 (tid s0 0)) ∷ the_end
+
 -- an answer stands before its command
 abbrev pub answered_too_soon : List Line
 answered_too_soon = line 0 (says.Up s0 1) ∷ line 1 (says.Begun c1 3 (tid s0 0)) ∷ the_end

@@ -1,7 +1,9 @@
 //! Wrong reports, which no run of the written machine tells.
 #![tactic(auto)]
 
-ghost use Rattle.jn_wrong.specs.Wrong.{IsNone, begins, makes_one, makes_and_reads, opens_and_loses, answered_too_soon, stopped_by_nothing, fault_of_nothing, lost_without_opening, file_left_out, file_locked, page_unwritten, other_bytes};
+ghost use Rattle.std.specs.Prelude.{true, false};
+ghost use Rattle.jn_wrong.specs.Still.{IsOnly, IsNoneOfNew};
+ghost use Rattle.jn_wrong.specs.Wrong.{IsNone, begun_report, begins, makes_one, makes_and_reads, opens_and_loses, answered_too_soon, stopped_by_nothing, fault_of_nothing, lost_without_opening, file_left_out, file_locked, page_unwritten, other_bytes};
 
 /// An answer stands under an event before its command's.
 pub fn an_answer_before_its_command_is_none()
@@ -33,4 +35,9 @@ pub fn an_end_that_shows_other_files_is_none()
 /// A transaction that commits is answered with other bytes than the files have.
 pub fn an_answer_with_other_bytes_is_none()
     ensures { IsNone makes_and_reads other_bytes }
+{}
+
+/// From new images each whole run of one server tells exactly this where a client begins and all settles, whatever befalls it.
+pub fn a_beginning_is_told_so()
+    ensures { IsOnly 1 false begins begun_report }
 {}
