@@ -24,10 +24,13 @@ use Rattle.jn_protocol.specs.Steps.{Step, Restart, AreNames, tid_before, after, 
 use Rattle.jn_reported.specs.Printing.{text_printed, prints_of}
 use Rattle.jn_settling.specs.Course.{Course, go, go_on, course_to}
 use Rattle.jn_written.specs.Chances.{Setup, Chance}
-use Rattle.jn_written.specs.Tasks.{Acts, ComesUp, State, begun}
+use Rattle.jn_written.specs.Tasks.{Meets, Acts, ComesUp, State, begun}
 use Rattle.jn_written.specs.Deeds.{Deed, Reads, last_epoch, served, stopped_idle, blocks_from, shown, showing, pick_read, recovering, recovers, recovered, given_up, is_used_up, brought_up}
 use Rattle.jn_written.specs.Devices.{Devices, IsServed, IsLookedOver, IsRecovery, Alone, Befalls}
-use Rattle.jn_written.specs.Events.{deed_of}
+use Rattle.jn_report.specs.declared.line.EventRefusal.{EventRefusal}
+use Rattle.jn_report.specs.declared.line.EventRefusal.TheVariants.{NoSuchServer, ServerDown}
+use Rattle.jn_written.specs.Refusals.{unless}
+use Rattle.jn_written.specs.Events.{met, deed_of}
 use Rattle.jn_written.specs.Steps.{made}
 use Rattle.jn_headline.proofs.Quiet.{IsQuiet, Calm, Raised, called-calm, recovered-calm, quiet-alone, quiet-called, restarted-up}
 use Rattle.jn_wrong.specs.Still.{blank, still, IsBlank, PrintsNothing}
@@ -117,20 +120,10 @@ module _ (x : Setup) (h : Chance) (s : State) (ds es : Devices) (quiet : IsQuiet
 
   module _ (q : ServerNo) (is : PrintsNothing x w q) where
     prints : (m : Memory) → w.memory q ≡ Some m → (f : FileNo) → prints_of q w m (File f) ≡ None
-    prints m up f = ap (λ (t : WorkerTable). prints_in t (stable (w.found q)).files (File f)) (workless (sym is.up ∙ up)) ∙ nothing-there (stable (w.found q)).files (is.files (File f))
+    prints m up f = subst (λ (n : Memory). prints_of q w n (File f) ≡ None) (one (sym is.up ∙ up)) (is.nothing f)
       where
-        workless : Some is.memory ≡ Some m → m.worker ≡ []
-        workless e = ap (λ (n : Memory). n.worker) (sym (one e)) ∙ is.workless
-          where
-            one : Some is.memory ≡ Some m → is.memory ≡ m
-            one k = cc
-
-        nothing-there : (files : Files) → files (File f) ≡ None → prints_in [] files (File f) ≡ None
-        nothing-there files e = by (files (File f)) e
-          where
-            by : (o : Option (List ℕ)) → o ≡ None → prints_in [] (λ u. o) (File f) ≡ None
-            by None k = refl
-            by (Some bytes) k = absurd (cc k)
+        one : Some is.memory ≡ Some m → is.memory ≡ m
+        one k = cc
 
     abbrev asked : List Text → Deed
     asked texts = record (served q (stopped_idle q h.stop)) { device = Reads q; texts = texts }
@@ -152,4 +145,17 @@ module _ (x : Setup) (h : Chance) (s : State) (ds es : Devices) (quiet : IsQuiet
               ∙ made-same x h (asked []) [] (begun (Acts (events.Show q)) s) (no-faults q h.told calm.told) refl (ap (λ (o : Option (Pick → ℕ)). bare_course (go_on (stopped_idle q o) s.course)) calm.stop)
               ∙ ap (λ (texts : List Text). bare (made x still (asked-still texts) (begun (Acts (events.Show q)) s))) (sym (shows-none still None refl refl));
           quiet = subst (λ (o : Option (Pick → ℕ)). IsQuiet x (go_on (stopped_idle q o) s.course).world es) (sym calm.stop) (quiet-called x w w ds es quiet h q (λ p z. z) a.others calm);
+        }
+
+    is-met : (g : Chance) → deed_of x g (Meets (events.Show q)) s ≡ showing g q w
+    is-met g = ap (λ (o : Option EventRefusal). met x g (events.Show q) w o) (ap (λ (b : Bool). unless b NoSuchServer (unless (is_some (w.memory q)) ServerDown None)) is.below
+        ∙ ap (λ (o : Option Memory). unless (is_some o) ServerDown None) is.up)
+
+    pub meets : Befalls x h (deed_of x h (Meets (events.Show q)) s) w ds es → Follows x h (Meets (events.Show q)) s es
+    meets b = by (shows (subst (λ (deed : Deed). Befalls x h deed w ds es) (is-met h) b))
+      where
+        by : Follows x h (Acts (events.Show q)) s es → Follows x h (Meets (events.Show q)) s es
+        by f = record {
+          same = ap (λ (deed : Deed). bare (made x h deed (begun (Acts (events.Show q)) s))) (is-met h) ∙ f.same ∙ ap (λ (deed : Deed). bare (made x still deed (begun (Acts (events.Show q)) s))) (sym (is-met still));
+          quiet = subst (λ (deed : Deed). IsQuiet x (go_on deed.steps s.course).world es) (sym (is-met h)) f.quiet;
         }

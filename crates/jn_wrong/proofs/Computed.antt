@@ -21,6 +21,7 @@ plain_so x (suc n) s = plain_next x (next_task s) s && plain_so x n (next x stil
 
 plain-does : (x : Setup) (task : Task) (s : State) → does_so x task s ≡ true → DoesSo x task s
 plain-does x (Begins e) s h = h
+plain-does x (Meets (events.Show q)) s h = never h
 plain-does x (Meets e) s h = h
 plain-does x (Acts (events.Show q)) s h = never h
 plain-does x (Acts e) s h = h
@@ -53,23 +54,15 @@ pub then-so : (x : Setup) (m n : ℕ) (s : State) → GoesSo x m s → GoesSo x 
 then-so x zero n s h k = k
 then-so x (suc m) n s h k = (h.0, then-so x m n (next x still s) h.1 k)
 
--- of one server: it comes up, its schedule, it comes up again, all settles, it prints, and the rest
-pub record OneSo (x : Setup) (a b c : ℕ) (s : State) : Type 0 where
-  pub first : DoesNext x (next_task s) s
-  pub schedule : plain_so x a (next x still s) ≡ true
-  pub second : DoesNext x (next_task (goes x a (next x still s))) (goes x a (next x still s))
-  pub settle : plain_so x b (next x still (goes x a (next x still s))) ≡ true
-  pub shows : DoesNext x (next_task (goes x b (next x still (goes x a (next x still s))))) (goes x b (next x still (goes x a (next x still s))))
-  pub rest : plain_so x c (next x still (goes x b (next x still (goes x a (next x still s))))) ≡ true
+-- so many plain steps and then one, which may be a restart or a show, again and again
+abbrev pub Pieces : Setup → List ℕ → State → Type 0
+Pieces x [] s = Unit {0}
+Pieces x (a ∷ more) s = (plain_so x a s ≡ true) × DoesNext x (next_task (goes x a s)) (goes x a s) × Pieces x more (next x still (goes x a s))
 
-pub one-so : (x : Setup) (a b c : ℕ) (s : State) → OneSo x a b c s → GoesSo x (suc (plus a (suc (plus b (suc c))))) s
-one-so x a b c s h = (h.first, then-so x a (suc (plus b (suc c))) s1 (plainly x a s1 h.schedule) (h.second, then-so x b (suc c) s3 (plainly x b s3 h.settle) (h.shows, plainly x c s5 h.rest)))
-  where
-    s1 : State
-    s1 = next x still s
+abbrev pub total : List ℕ → ℕ
+total [] = 0
+total (a ∷ more) = plus a (suc (total more))
 
-    s3 : State
-    s3 = next x still (goes x a s1)
-
-    s5 : State
-    s5 = next x still (goes x b s3)
+pub pieces-so : (x : Setup) (pieces : List ℕ) (s : State) → Pieces x pieces s → GoesSo x (total pieces) s
+pieces-so x [] s h = tt
+pieces-so x (a ∷ more) s h = then-so x a (suc (total more)) s (plainly x a s h.0) (h.1, pieces-so x more (next x still (goes x a s)) h.2)

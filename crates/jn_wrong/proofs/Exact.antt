@@ -27,7 +27,7 @@ use Rattle.jn_headline.proofs.Quiet.{IsQuiet}
 use Rattle.jn_wrong.specs.Still.{blank, AreNew, IsOnly, IsNoneOfNew, still, goes, DoesSo, DoesNext, GoesSo}
 use Rattle.jn_wrong.proofs.Bare.{bare, done-bare}
 use Rattle.jn_wrong.proofs.Doing.{Follows, below, begins, tells-client, settles, asks, nudges, dismisses, counts, closes, scrubs, goes-down}
-use Rattle.jn_wrong.proofs.Chanced.{comes-up, shows}
+use Rattle.jn_wrong.proofs.Chanced.{comes-up, shows, meets}
 use Rattle.jn_wrong.proofs.Resting.{rests, never}
 
 no-task : {A : Type 0} (task : Task) → None ≡ Some task → A
@@ -66,6 +66,7 @@ module _ (x : Setup) (h : Chance) (s : State) (ds es : Devices) (quiet : IsQuiet
   one-step (Begins e) n so b = inl (begins x h s ds es quiet e b)
   one-step (Meets (events.Command c command)) n so b = inl (tells-client x h s ds es quiet c command b)
   one-step (Meets events.Settle) n so b = inl (settles x h s ds es quiet b)
+  one-step (Meets (events.Show q)) n so b = inl (meets x h s ds es quiet q so b)
   one-step (Meets e) n so b = never so
   one-step (Acts (events.Again c)) n so b = inl (asks x h s ds es quiet c b)
   one-step (Acts (events.Nudge q)) n so b = inl (nudges x h s ds es quiet q b)

@@ -59,6 +59,7 @@ row-fixed m y r t (messages.Drop T W) e = ap (of_worker m) (drop-same m y r t W 
 row-fixed m y r t (messages.Begin c request) e = refl
 row-fixed m y r t (messages.Abort c request T works) e = refl
 row-fixed m y r t (messages.Thanks c T) e = refl
+row-fixed m y r t (messages.Inquire T W) e = refl
 row-fixed m y r t message e = never e
 
 after-fixed : (w : World) (k : ℕ) (r t : Room) (q : ServerNo) (message : Message) (m : Memory) → slice_get w.sent k ≡ Some (Server q, message) → w.memory q ≡ Some m → is_fixed message ≡ true → after (Deliver k r) w ≡ after (Deliver k t) w

@@ -1,2 +1,3 @@
 pub mod Wrong
+pub mod Reports
 pub mod Still

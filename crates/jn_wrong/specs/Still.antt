@@ -1,7 +1,8 @@
 -- Runs at which nothing strikes: what each step of them needs, so that no chance matters.
 use Rattle.std.specs.Prelude.{◌≡◌, ◌<◌, ℕ, zero, suc, Bool, true, false, not, nat_eq, nat_lt, ◌&&◌, List, [], ◌∷◌, length, slice_get, Option, Some, None, is_some}
 use Rattle.jn_base.specs.declared.names.ServerNo.{ServerNo}
-use Rattle.jn_base.specs.declared.names.LockUnit.{LockUnit}
+use Rattle.jn_base.specs.declared.names.FileNo.{FileNo}
+use Rattle.jn_base.specs.declared.names.LockUnit.TheVariants.{File}
 use Rattle.jn_base.specs.declared.names.Party.TheVariants.{Client, Server}
 use Rattle.jn_schedule.specs.declared.Event.{Event}
 use Rattle.jn_schedule.specs.declared.Event.TheVariants as events
@@ -13,7 +14,7 @@ use Rattle.jn_msgs.specs.declared.message.Message.TheVariants as messages
 use Rattle.jn_rows.specs.Stable.{StableState, Pick, stable}
 use Rattle.jn_rows.specs.Outcomes.{Sent}
 use Rattle.jn_protocol.specs.World.{World, Memory}
-use Rattle.jn_settling.specs.Course.{Course}
+use Rattle.jn_reported.specs.Printing.{prints_of}
 use Rattle.jn_written.specs.Chances.{Setup, Chance}
 use Rattle.jn_written.specs.Tasks.{Task, Begins, Meets, Acts, Rests, ComesUp, Dismisses, GoesDown, ClosesClients, CountsCommits, State, next_task}
 use Rattle.jn_written.specs.Deeds.{last_epoch}
@@ -60,6 +61,7 @@ is_fixed (messages.Drop T W) = true
 is_fixed (messages.Begin c request) = true
 is_fixed (messages.Abort c request T works) = true
 is_fixed (messages.Thanks c T) = true
+is_fixed (messages.Inquire T W) = true
 is_fixed message = false
 
 -- a server that is up takes such a message
@@ -99,12 +101,12 @@ pub record PrintsNothing (x : Setup) (w : World) (q : ServerNo) : Type 0 where
   pub memory : Memory
   pub below : nat_lt q.0 x.servers ≡ true
   pub up : w.memory q ≡ Some memory
-  pub workless : memory.worker ≡ []
-  pub files : (u : LockUnit) → (stable (w.found q)).files u ≡ None
+  pub nothing : (f : FileNo) → prints_of q w memory (File f) ≡ None
 
 abbrev pub DoesSo : Setup → Task → State → Type 0
 DoesSo x (ComesUp q) s = IsBlank x s.course.world q
 DoesSo x (Acts (events.Show q)) s = PrintsNothing x s.course.world q
+DoesSo x (Meets (events.Show q)) s = PrintsNothing x s.course.world q
 DoesSo x task s = does_so x task s ≡ true
 
 abbrev pub DoesNext : Setup → Option Task → State → Type 0
