@@ -10,7 +10,7 @@ use Rattle.jn_written.specs.Chances.{Setup}
 use Rattle.jn_written.specs.Tasks.{State, next_task}
 use Rattle.jn_written.specs.Whole.{before}
 use Rattle.jn_wrong.specs.Wrong.{begins, begun_report}
-use Rattle.jn_wrong.specs.Reports.{traced_report, two_begin, two_report, opens_other, opened_report, settles_twice, settled_report, reads_and_aborts, read_report, shows_unmade, shown_report}
+use Rattle.jn_wrong.specs.Reports.{traced_report, two_begin, two_report, opens_other, opened_report, settles_twice, settled_report, reads_and_aborts, read_report, shows_unmade, shown_report, begins_and_aborts, aborted_report}
 use Rattle.jn_wrong.specs.Still.{IsOnly, goes}
 use Rattle.jn_wrong.proofs.Exact.{new_epochs, setup_of, IsRunOf, only}
 use Rattle.jn_wrong.proofs.Computed.{Pieces, total, pieces-so}
@@ -53,6 +53,14 @@ settled-only = only 1 false settles_twice 49 settled_report (λ counts epochs. i
 
 pub two-only : IsOnly 1 false two_begin two_report
 two-only = only 1 false two_begin 71 two_report (λ counts epochs. is-run 1 false two_begin (0 ∷ 54 ∷ 12 ∷ 1 ∷ []) two_report counts epochs
+    (refl, record { epoch = 0; below = refl; found = λ c. refl; not_last = refl },
+    (refl, record { epoch = 1; below = refl; found = λ c. refl; not_last = refl },
+    (refl, record { memory = _; below = refl; up = refl; nothing = λ f. refl },
+    (refl, refl,
+    tt)))) refl refl)
+
+pub aborted-only : IsOnly 1 true begins_and_aborts aborted_report
+aborted-only = only 1 true begins_and_aborts 54 aborted_report (λ counts epochs. is-run 1 true begins_and_aborts (0 ∷ 37 ∷ 12 ∷ 1 ∷ []) aborted_report counts epochs
     (refl, record { epoch = 0; below = refl; found = λ c. refl; not_last = refl },
     (refl, record { epoch = 1; below = refl; found = λ c. refl; not_last = refl },
     (refl, record { memory = _; below = refl; up = refl; nothing = λ f. refl },

@@ -6,3 +6,4 @@ pub mod Resting
 pub mod Exact
 pub mod Computed
 pub mod Begun
+pub mod Differing

@@ -53,3 +53,12 @@ shows_unmade = makes_file s0 (events.Show s0 ∷ [])
 
 abbrev pub shown_report : List Line
 shown_report = line 0 (says.Up s0 1) ∷ line 2 (says.Begun c1 1 (tid s0 0)) ∷ line 4 (says.Opened c1 3 s0) ∷ line 6 (says.Did c1 5) ∷ the_end
+
+-- a client begins and aborts, and each message has a line
+abbrev pub begins_and_aborts : List Event
+begins_and_aborts = then_settle c1 (commands.Begin s0) (then_settle c1 commands.Abort [])
+
+abbrev pub aborted_report : List Line
+aborted_report = line 0 (says.Up s0 1) ∷ line 1 (says.Message 0 (Client c1) (Server s0) kinds.Begin) ∷ line 2 (says.Message 1 (Server s0) (Client c1) kinds.Begun) ∷ line 2 (says.Begun c1 1 (tid s0 0))
+    ∷ line 3 (says.Message 2 (Client c1) (Server s0) kinds.Abort) ∷ line 4 (says.Message 3 (Server s0) (Client c1) kinds.Outcome) ∷ line 4 (says.Aborted c1 3 (tid s0 0) Requested)
+    ∷ line 4 (says.Message 4 (Client c1) (Server s0) kinds.Thanks) ∷ the_end

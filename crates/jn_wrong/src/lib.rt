@@ -1,9 +1,11 @@
 //! Wrong reports, which no run of the written machine tells.
 #![tactic(auto)]
 
-ghost use Rattle.std.specs.Prelude.{true, false};
-ghost use Rattle.jn_wrong.specs.Still.{IsOnly, IsNoneOfNew};
-ghost use Rattle.jn_wrong.specs.Wrong.{IsNone, begun_report, begins, makes_one, makes_and_reads, opens_and_loses, answered_too_soon, stopped_by_nothing, fault_of_nothing, lost_without_opening, file_left_out, file_locked, page_unwritten, other_bytes};
+mod new;
+
+ghost use Rattle.jn_wrong.specs.Wrong.{IsNone, begins, makes_one, makes_and_reads, opens_and_loses, answered_too_soon, stopped_by_nothing, fault_of_nothing, lost_without_opening, file_left_out, file_locked, page_unwritten, other_bytes};
+
+pub use new::{a_commit_of_nobody_is_none, a_refusal_without_a_cause_is_none, a_report_that_answers_nothing_is_none, a_settle_that_leaves_a_message_is_none, a_show_of_what_is_not_there_is_none, a_stray_line_is_none, an_answer_for_another_is_none, messages_out_of_place_are_none, other_bytes_before_an_abort_are_none, reports_are_the_only_ones};
 
 /// An answer stands under an event before its command's.
 pub fn an_answer_before_its_command_is_none()
@@ -35,9 +37,4 @@ pub fn an_end_that_shows_other_files_is_none()
 /// A transaction that commits is answered with other bytes than the files have.
 pub fn an_answer_with_other_bytes_is_none()
     ensures { IsNone makes_and_reads other_bytes }
-{}
-
-/// From new images each whole run of one server tells exactly this where a client begins and all settles, whatever befalls it.
-pub fn a_beginning_is_told_so()
-    ensures { IsOnly 1 false begins begun_report }
 {}
