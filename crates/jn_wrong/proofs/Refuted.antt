@@ -1,6 +1,6 @@
 -- Reports that aren't those of their commits.
 use Rattle.std.proofs.Common.{◌≡◌, ◌≤◌, ℕ, Bool, true, false, List, [], ◌∷◌, refl, sym, ◌∙◌, ap, subst, arith, Option, Some, None, is_some}
-use Rattle.std.specs.Prelude.{if◌then◌else◌, slice_get, nat_eq}
+use Rattle.std.specs.Prelude.{if◌then◌else◌, slice_get, nat_eq, nat_lt}
 use Rattle.jn_base.specs.declared.names.LockUnit.TheVariants.{File, Block}
 use Rattle.jn_base.specs.declared.op.Op.{Op}
 use Rattle.jn_base.specs.declared.op.Op.TheVariants as ops
@@ -18,7 +18,7 @@ use Rattle.jn_written.specs.Chances.{Setup}
 use Rattle.jn_written.specs.Devices.{Devices}
 use Rattle.jn_written.specs.Whole.{IsWhole, AreImages}
 use Rattle.jn_headline.proofs.Joined.{whole-report}
-use Rattle.jn_wrong.specs.Wrong.{IsNone, begins, makes_one, makes_and_reads, opens_and_loses, answered_too_soon, stopped_by_nothing, fault_of_nothing, lost_without_opening, file_left_out, file_locked, page_unwritten, other_bytes}
+use Rattle.jn_wrong.specs.Wrong.{IsNone, begins, makes_one, makes_and_reads, opens_and_loses, answered_too_soon, stopped_by_nothing, fault_of_nothing, lost_without_opening, file_left_out, file_locked, page_unwritten, other_bytes, named_again, full_of}
 
 -- a report that isn't that of its commits, from whatever files
 by-clause : (schedule : List Event) (lines : List Line) → AllByRecursion EventInRange schedule → ((files : AllFiles) → IsOfItsCommits files schedule lines → ⊥) → IsNone schedule lines
@@ -115,3 +115,9 @@ bytes = by-clause makes_and_reads other_bytes reads-in-range (λ files r. differ
   where
     same : {a b : List ℕ} → Found a ≡ Found b → a ≡ b
     same e = cc
+
+pub again : IsNone makes_one named_again
+again = by-clause makes_one named_again makes-in-range (λ files r. clash (sym r.told.once.0))
+
+pub not-full : (free need : ℕ) → nat_lt free need ≡ false → IsNone makes_one (full_of free need)
+not-full free need e = by-clause makes_one (full_of free need) makes-in-range (λ files r. clash (sym e ∙ r.caused.1.1.1.1.0))

@@ -65,6 +65,14 @@ a_file_made = line 0 (says.Up s0 1) ∷ line 2 (says.Begun c1 1 (tid s0 0)) ∷ 
 abbrev pub file_left_out : List Line
 file_left_out = a_file_made ++ at_end (says.Commits 1) ∷ []
 
+-- the restart names the commit again, and counts it twice
+abbrev pub named_again : List Line
+named_again = a_file_made ++ at_end (says.Commit (tid s0 0)) ∷ at_end (says.File s0 (file 7)) ∷ at_end (says.Commits 2) ∷ []
+
+-- it aborts for want of records, of which so many are free and so many are needed
+abbrev pub full_of : ℕ → ℕ → List Line
+full_of free need = line 0 (says.Up s0 1) ∷ line 2 (says.Begun c1 1 (tid s0 0)) ∷ line 4 (says.Opened c1 3 s0) ∷ line 6 (says.Did c1 5) ∷ line 8 (says.Aborted c1 7 (tid s0 0) (causes.Full s0 31 free need)) ∷ the_end
+
 -- it shows the file as locked
 abbrev pub file_locked : List Line
 file_locked = a_file_made ++ at_end (says.Locked s0 (units.File (file 7)) (tid s0 0)) ∷ at_end (says.Commits 1) ∷ []
