@@ -1,41 +1,31 @@
 -- What each task does where nothing strikes: the same as without chances.
-use Rattle.std.proofs.Common.{◌≡◌, ◌≢◌, ◌⊎◌, inl, inr, ℕ, ◌<◌, Bool, true, false, List, [], ◌∷◌, ◌++◌, Option, Some, None, is_some, refl, sym, ◌∙◌, ap, subst, arith}
+use Rattle.std.proofs.Common.{◌≡◌, ◌≢◌, ◌⊎◌, inl, inr, ℕ, ◌<◌, Bool, true, false, List, [], ◌∷◌, Option, Some, None, is_some, refl, sym, ◌∙◌, ap, subst, arith}
 use Rattle.std.proofs.lemmas.Bool.Decides.{nat_tests}
-use Rattle.std.specs.Prelude.{◌||◌, if◌then◌else◌, nat_lt, nat_eq, map, drop}
+use Rattle.std.specs.Prelude.{◌||◌, if◌then◌else◌, nat_lt, map}
 use Rattle.std.specs.List.{list_any}
 use Rattle.jn_base.specs.declared.names.ServerNo.{ServerNo}
 use Rattle.jn_base.specs.declared.names.ClientNo.{ClientNo}
-use Rattle.jn_base.specs.declared.names.FileNo.{FileNo}
-use Rattle.jn_base.specs.declared.names.Tid.{Tid}
-use Rattle.jn_base.specs.declared.names.WorkId.{WorkId}
-use Rattle.jn_base.specs.declared.names.LockUnit.{LockUnit}
-use Rattle.jn_base.specs.declared.names.LockUnit.TheVariants.{File}
 use Rattle.jn_base.specs.declared.device.Outside.{Outside}
 use Rattle.jn_base.specs.declared.op.Command.{Command}
-use Rattle.jn_base.specs.Names.{server_eq, file_eq, tid_eq, work_eq}
-use Rattle.jn_base.proofs.Tells.{server_tells, file_tells, tid_tells, work_tells}
+use Rattle.jn_base.specs.Names.{server_eq}
+use Rattle.jn_base.proofs.Tells.{server_tells}
 use Rattle.jn_device.specs.Device.{DeviceState}
 use Rattle.jn_schedule.specs.declared.Event.{Event}
 use Rattle.jn_schedule.specs.declared.Event.TheVariants as events
-use Rattle.jn_report.specs.declared.line.Text.{Text}
 use Rattle.jn_report.specs.declared.line.Text.TheVariants as says
-use Rattle.jn_rows.specs.Stable.{StableState, Pick, stable}
+use Rattle.jn_rows.specs.Stable.{Pick}
 use Rattle.jn_rows.specs.Client.{Commanded, Refuses, Sends, command_row}
-use Rattle.jn_rows.specs.Worker.{WorkerTable}
-use Rattle.jn_order.specs.Files.{Files}
 use Rattle.jn_protocol.specs.World.{World, Memory}
-use Rattle.jn_protocol.specs.Printing.{Printed, print_files, prints_in, file_before}
-use Rattle.jn_protocol.specs.Steps.{Step, NextEvent, Tell, Again, Nudge, Dismiss, Crash, Restart, CloseClients, AreNames, after, commanded, crash, restart, restart_with}
-use Rattle.jn_reported.specs.Printing.{text_printed, prints_of}
-use Rattle.jn_settling.specs.Course.{Course, go_on}
+use Rattle.jn_protocol.specs.Steps.{NextEvent, Tell, Again, Nudge, Crash, CloseClients, AreNames, after, commanded, crash}
+use Rattle.jn_settling.specs.Course.{go_on}
 use Rattle.jn_written.specs.Chances.{Setup, Chance}
-use Rattle.jn_written.specs.Tasks.{Task, Begins, Meets, Acts, Rests, ComesUp, Dismisses, GoesDown, ClosesClients, CountsCommits, State, begun}
-use Rattle.jn_written.specs.Deeds.{Deed, last_epoch, nothing, served, stopped_idle, blocks_from, shown, showing, crashed_at, pick_read, recovering, recovers, recovered, given_up, is_used_up, brought_up}
-use Rattle.jn_written.specs.Devices.{Devices, IsServed, IsLookedOver, IsRecovery, Alone, Befalls}
+use Rattle.jn_written.specs.Tasks.{Task, Begins, Meets, Acts, Dismisses, GoesDown, ClosesClients, CountsCommits, State, begun}
+use Rattle.jn_written.specs.Deeds.{served, stopped_idle, crashed_at}
+use Rattle.jn_written.specs.Devices.{Devices, IsServed, Alone, Befalls}
 use Rattle.jn_written.specs.Events.{deed_of}
-use Rattle.jn_written.specs.Steps.{outside_texts, made, done}
-use Rattle.jn_headline.proofs.Quiet.{IsQuiet, WasUp, Calm, Raised, called-calm, recovered-calm, quiet-same, quiet-alone, quiet-called, nudged-up, closed-up, crashed-up, restarted-up}
-use Rattle.jn_wrong.specs.Still.{blank, still, IsBlank, PrintsNothing}
+use Rattle.jn_written.specs.Steps.{made, done}
+use Rattle.jn_headline.proofs.Quiet.{IsQuiet, Calm, called-calm, quiet-same, quiet-alone, quiet-called, nudged-up, closed-up, crashed-up}
+use Rattle.jn_wrong.specs.Still.{still}
 use Rattle.jn_wrong.proofs.Bare.{bare_course, bare, made-same}
 
 -- it comes to what is done without chances, and nothing strikes later

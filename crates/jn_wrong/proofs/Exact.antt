@@ -5,7 +5,7 @@ use Rattle.std.proofs.lemmas.Bool.Decides.{nat_tests}
 use Rattle.std.specs.Prelude.{if◌then◌else◌, nat_lt}
 use Rattle.jn_base.specs.declared.names.ServerNo.{ServerNo}
 use Rattle.jn_base.specs.declared.names.LockUnit.{LockUnit}
-use Rattle.jn_order.specs.Files.{AllFiles, Files, no_files}
+use Rattle.jn_order.specs.Files.{AllFiles, no_files}
 use Rattle.jn_records.specs.StablePages.{Counts}
 use Rattle.jn_schedule.specs.declared.Event.{Event}
 use Rattle.jn_schedule.specs.declared.Event.TheVariants as events
@@ -13,7 +13,7 @@ use Rattle.jn_report.specs.declared.line.Line.{Line}
 use Rattle.jn_rows.specs.Stable.{StableState}
 use Rattle.jn_protocol.specs.World.{World, new_memory}
 use Rattle.jn_protocol.specs.Steps.{run}
-use Rattle.jn_settling.specs.Course.{Course, go_on}
+use Rattle.jn_settling.specs.Course.{go_on}
 use Rattle.jn_settling.proofs.Settling.{on-world}
 use Rattle.jn_written.specs.Chances.{Setup, Chance}
 use Rattle.jn_written.specs.Tasks.{Task, Begins, Meets, Acts, Rests, ComesUp, Dismisses, GoesDown, ClosesClients, CountsCommits, Stage, InSchedule, AtEnd, CutShort, State, next_at, next_task, begun}
@@ -21,8 +21,8 @@ use Rattle.jn_written.specs.Deeds.{Deed}
 use Rattle.jn_written.specs.Devices.{Devices, Befalls}
 use Rattle.jn_written.specs.Events.{deed_of}
 use Rattle.jn_written.specs.Steps.{is_too_much, come_to, cut_short, done, next, next_by}
-use Rattle.jn_written.specs.Runs.{none, more, Moment, DoesStep, Leads}
-use Rattle.jn_written.specs.Whole.{before, AreImages, IsWritten, IsWhole}
+use Rattle.jn_written.specs.Runs.{none, more, Moment, Leads}
+use Rattle.jn_written.specs.Whole.{before, AreImages, IsWhole}
 use Rattle.jn_headline.proofs.Quiet.{IsQuiet}
 use Rattle.jn_wrong.specs.Still.{blank, AreNew, IsOnly, IsNoneOfNew, still, goes, DoesSo, DoesNext, GoesSo}
 use Rattle.jn_wrong.proofs.Bare.{bare, done-bare}

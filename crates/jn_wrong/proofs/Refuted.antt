@@ -1,5 +1,5 @@
 -- Reports that aren't those of their commits.
-use Rattle.std.proofs.Common.{◌≡◌, ◌≤◌, ℕ, Bool, true, false, List, [], ◌∷◌, refl, sym, ◌∙◌, ap, subst, arith, Option, Some, None, is_some}
+use Rattle.std.proofs.Common.{◌≡◌, ℕ, Bool, true, false, List, [], ◌∷◌, refl, sym, ◌∙◌, ap, arith, Option, Some, None, is_some}
 use Rattle.std.specs.Prelude.{if◌then◌else◌, slice_get, nat_eq, nat_lt}
 use Rattle.jn_base.specs.declared.names.LockUnit.TheVariants.{File, Block}
 use Rattle.jn_base.specs.declared.op.Op.{Op}
@@ -14,9 +14,7 @@ use Rattle.jn_schedule.specs.declared.Event.{Event}
 use Rattle.jn_schedule.specs.Ranges.{EventInRange}
 use Rattle.jn_report.specs.declared.line.Line.{Line}
 use Rattle.jn_ended.specs.Whole.{IsOfItsCommits}
-use Rattle.jn_written.specs.Chances.{Setup}
-use Rattle.jn_written.specs.Devices.{Devices}
-use Rattle.jn_written.specs.Whole.{IsWhole, AreImages}
+use Rattle.jn_written.specs.Whole.{AreImages}
 use Rattle.jn_headline.proofs.Joined.{whole-report}
 use Rattle.jn_wrong.specs.Wrong.{IsNone, begins, makes_one, makes_and_reads, opens_and_loses, answered_too_soon, stopped_by_nothing, fault_of_nothing, lost_without_opening, file_left_out, file_locked, page_unwritten, other_bytes, named_again, full_of}
 

@@ -1,39 +1,35 @@
 -- One step of a settle where nothing strikes: the message that a calm run hands over, or an erasure, which changes nothing.
-use Rattle.std.proofs.Common.{◌≡◌, ◌⊎◌, inl, inr, ℕ, zero, suc, ◌+◌, ◌≤◌, ◌<◌, Bool, true, false, List, [], ◌∷◌, ◌++◌, append-nil, length, drop, Option, Some, None, is_some, refl, sym, ◌∙◌, ap, subst, arith}
+use Rattle.std.proofs.Common.{◌≡◌, ◌⊎◌, inl, inr, ℕ, ◌<◌, Bool, true, false, List, [], ◌∷◌, ◌++◌, append-nil, length, drop, Option, Some, None, is_some, refl, sym, ◌∙◌, ap, subst, arith}
 use Rattle.std.proofs.Math.Seq.{drop-append_seam}
-use Rattle.std.specs.Prelude.{◌&&◌, ◌||◌, not, if◌then◌else◌, nat_lt, slice_get}
+use Rattle.std.specs.Prelude.{◌&&◌, not, if◌then◌else◌, nat_lt, slice_get}
 use Rattle.jn_base.specs.declared.names.ServerNo.{ServerNo}
-use Rattle.jn_base.specs.declared.names.ClientNo.{ClientNo}
-use Rattle.jn_base.specs.declared.names.Party.{Party}
 use Rattle.jn_base.specs.declared.names.Party.TheVariants.{Client, Server}
-use Rattle.jn_schedule.specs.declared.Event.{Event}
-use Rattle.jn_report.specs.declared.line.Text.{Text}
 use Rattle.jn_msgs.specs.declared.message.Message.{Message}
 use Rattle.jn_msgs.specs.declared.message.Message.TheVariants as messages
-use Rattle.jn_rows.specs.Stable.{StableState, Pick, stable, is_going}
+use Rattle.jn_rows.specs.Stable.{StableState, Pick, stable}
 use Rattle.jn_rows.specs.Outcomes.{RowOutcome, Sent}
 use Rattle.jn_rows.specs.declared.worker.Work.{Work}
 use Rattle.jn_rows.specs.declared.worker.Phase.TheVariants.{Active, Broken, Prepared as Stored}
 use Rattle.jn_base.specs.declared.names.WorkId.{WorkId}
 use Rattle.jn_rows.specs.declared.worker.Phase.{Phase}
-use Rattle.jn_rows.specs.Worker.{WorkerTable, drop_row, drop_phase, work_at}
-use Rattle.jn_protocol.specs.World.{World, Memory, servers_from}
+use Rattle.jn_rows.specs.Worker.{drop_row, drop_phase, work_at}
+use Rattle.jn_protocol.specs.World.{World, Memory}
 use Rattle.jn_protocol.specs.Servers.{Room, server_row, storage_of, of_worker}
 use Rattle.jn_protocol.specs.Steps.{Step, Deliver, Work as Works, after, at_memory, handed}
 use Rattle.jn_protocol.specs.Steps as steps
 use Rattle.jn_settling.specs.Settle.{is_busy as has_going, handing, working}
-use Rattle.jn_settling.specs.Course.{Course, go_on, course_to, newly_sent, numbered}
+use Rattle.jn_settling.specs.Course.{go_on, course_to, newly_sent, numbered}
 use Rattle.jn_written.specs.Chances.{Setup, Chance}
-use Rattle.jn_written.specs.Tasks.{Task, Rests, State, begun, when_of}
-use Rattle.jn_written.specs.Deeds.{Deed, room, no_room, nothing, served, plain, delivered, delivered_at, is_busy, is_busy_with, worked, working_steps}
+use Rattle.jn_written.specs.Tasks.{Rests, State, begun}
+use Rattle.jn_written.specs.Deeds.{Deed, room, no_room, nothing, served, delivered, delivered_at, is_busy, is_busy_with, worked, working_steps}
 use Rattle.jn_written.specs.Devices.{Devices, IsServed, Alone, Befalls}
-use Rattle.jn_written.specs.Events.{servers_of, first_busy, next_event, next_in, acted, resting, deed_of}
-use Rattle.jn_written.specs.Steps.{own_texts, message_texts, traced, lines_at, most_messages, made, done}
-use Rattle.jn_headline.proofs.Quiet.{IsQuiet, Calm, called-calm, quiet-same, quiet-called, delivered-up}
+use Rattle.jn_written.specs.Events.{servers_of, first_busy, next_event, resting, deed_of}
+use Rattle.jn_written.specs.Steps.{most_messages, made, done}
+use Rattle.jn_headline.proofs.Quiet.{IsQuiet, Calm, quiet-same, quiet-called, delivered-up}
 use Rattle.jn_headline.proofs.Busy.{IsFirst, first-busy-is, none-busy, idle-goes-not, erases}
 use Rattle.jn_wrong.specs.Still.{still, is_fixed, is_sent_so, rests_so}
 use Rattle.jn_wrong.proofs.Bare.{bare_course, bare, made-same, idles}
-use Rattle.jn_wrong.proofs.Doing.{no-faults, below, clash, is-calm}
+use Rattle.jn_wrong.proofs.Doing.{no-faults, below, is-calm}
 
 -- ---- what a message does hangs on no room
 
@@ -110,11 +106,13 @@ module _ (x : Setup) (h : Chance) (s : State) (ds es : Devices) (quiet : IsQuiet
       by a = at (is-calm x h s ds es quiet q (below q.0 x.servers is.0) a)
         where
           at : Calm h (es q) → Same (on (served q (handing k (room h q) h.stop ∷ []))) (on (served q (Deliver k (room still q) ∷ [])))
-          at calm = (made-same x h (on (served q (handing k (room h q) h.stop ∷ []))) (Deliver k (room still q) ∷ []) s' (no-faults q h.told calm.told) refl
-              (ap (λ (o : Option (Pick → ℕ)). bare_course (go_on (handing k (room h q) o ∷ []) s.course)) calm.stop
-              ∙ ap (λ (now : World). bare_course (course_to now (Deliver k (room still q)) s.course)) (after-fixed w k (room h q) (room still q) q message m e up is.2)),
-              subst (λ (o : Option (Pick → ℕ)). IsQuiet x (go_on (handing k (room h q) o ∷ []) s.course).world es) (sym calm.stop)
-              (quiet-called x w (after (Deliver k (room h q)) w) ds es quiet h q (λ p. delivered-up w p k (room h q)) a.others calm))
+          at calm = (
+            made-same x h (on (served q (handing k (room h q) h.stop ∷ []))) (Deliver k (room still q) ∷ []) s' (no-faults q h.told calm.told) refl
+                (ap (λ (o : Option (Pick → ℕ)). bare_course (go_on (handing k (room h q) o ∷ []) s.course)) calm.stop
+                ∙ ap (λ (now : World). bare_course (course_to now (Deliver k (room still q)) s.course)) (after-fixed w k (room h q) (room still q) q message m e up is.2)),
+            subst (λ (o : Option (Pick → ℕ)). IsQuiet x (go_on (handing k (room h q) o ∷ []) s.course).world es) (sym calm.stop)
+                (quiet-called x w (after (Deliver k (room h q)) w) ds es quiet h q (λ p. delivered-up w p k (room h q)) a.others calm),
+          )
 
   delivers : (k : ℕ) (o : Option Sent) → slice_get w.sent k ≡ o → is_sent_so x w o ≡ true → Befalls x h (on (delivered h k w o)) w ds es → Same (on (delivered h k w o)) (on (delivered still k w o))
   delivers k None e so b = never so
@@ -138,11 +136,13 @@ module _ (x : Setup) (h : Chance) (s : State) (ds es : Devices) (quiet : IsQuiet
                 (subst (λ (o : Option Memory). has_going (stable (w.found q)) o ≡ false) a.its.up idle)
 
             at : Calm h (es q) → Stays (on (served q (working_steps h q)))
-            at calm = (made-same x h (on (served q (working_steps h q))) [] s' (no-faults q h.told calm.told) refl
-                (ap (λ (o : Option (Pick → ℕ)). bare_course (go_on (working q (room h q) o ∷ []) s.course)) calm.stop
-                ∙ ap (λ (now : World). bare_course (course_to now (Works q (room h q)) s.course)) still-so ∙ idle-course)
-                ∙ idles x (on (served q [])) s s' few refl refl refl refl refl (sym tasks),
-                quiet-called x w w ds es quiet h q (λ p z. z) a.others calm)
+            at calm = (
+              made-same x h (on (served q (working_steps h q))) [] s' (no-faults q h.told calm.told) refl
+                  (ap (λ (o : Option (Pick → ℕ)). bare_course (go_on (working q (room h q) o ∷ []) s.course)) calm.stop
+                  ∙ ap (λ (now : World). bare_course (course_to now (Works q (room h q)) s.course)) still-so ∙ idle-course)
+                  ∙ idles x (on (served q [])) s s' few refl refl refl refl refl (sym tasks),
+              quiet-called x w w ds es quiet h q (λ p z. z) a.others calm,
+            )
               where
                 nothing-sent : newly_sent w w ≡ []
                 nothing-sent = drop-all w.sent

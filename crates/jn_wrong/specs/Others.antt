@@ -1,19 +1,17 @@
 -- Wrong reports of schedules that have only one from new images.
-use Rattle.std.specs.Prelude.{ℕ, Bool, List, [], ◌∷◌, ◌++◌}
+use Rattle.std.specs.Prelude.{List, [], ◌∷◌}
 use Rattle.jn_base.specs.declared.names.Party.TheVariants.{Client, Server}
 use Rattle.jn_base.specs.declared.names.MsgKind.TheVariants as kinds
 use Rattle.jn_base.specs.declared.names.Cause.TheVariants.{Requested}
-use Rattle.jn_base.specs.declared.names.LockUnit.TheVariants as units
 use Rattle.jn_base.specs.declared.names.Tid.{Tid}
 use Rattle.jn_report.specs.declared.line.EventRefusal.{EventRefusal}
 use Rattle.jn_report.specs.declared.line.Refusal.{Refusal}
 use Rattle.jn_report.specs.declared.line.Text.{Text}
 use Rattle.jn_report.specs.declared.line.Text.TheVariants as says
 use Rattle.jn_report.specs.declared.line.Line.{Line}
-use Rattle.jn_settling.specs.Rows.{s0, s1, c1, c2, tid, file, block}
+use Rattle.jn_settling.specs.Rows.{s0, s1, c1, c2, tid}
 use Rattle.jn_written.specs.Examples.{block_of, line, at_end}
 use Rattle.jn_wrong.specs.Wrong.{the_end}
-use Rattle.jn_wrong.specs.Reports.{shown_report}
 
 abbrev up : Line
 up = line 0 (says.Up s0 1)

@@ -11,7 +11,7 @@ use Rattle.jn_store.specs.Pairs.{pairs_view}
 use Rattle.jn_found.specs.Pages.{found_on}
 use Rattle.jn_msgs.specs.declared.message.Message.{Message}
 use Rattle.jn_msgs.specs.declared.message.Message.TheVariants as messages
-use Rattle.jn_rows.specs.Stable.{StableState, Pick, stable}
+use Rattle.jn_rows.specs.Stable.{StableState, Pick}
 use Rattle.jn_rows.specs.Outcomes.{Sent}
 use Rattle.jn_protocol.specs.World.{World, Memory}
 use Rattle.jn_reported.specs.Printing.{prints_of}

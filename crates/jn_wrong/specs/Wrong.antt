@@ -1,6 +1,5 @@
 -- Wrong reports, each of a short schedule.
-use Rattle.std.specs.Prelude.{◌≡◌, ◌≤◌, ℕ, List, [], ◌∷◌, ◌++◌}
-use Rattle.jn_base.specs.declared.names.ServerNo.{ServerNo}
+use Rattle.std.specs.Prelude.{◌≤◌, ℕ, List, [], ◌∷◌, ◌++◌}
 use Rattle.jn_base.specs.declared.names.Cause.TheVariants as causes
 use Rattle.jn_base.specs.declared.names.LockUnit.TheVariants as units
 use Rattle.jn_base.specs.declared.device.FaultKind.TheVariants as faults
@@ -11,11 +10,11 @@ use Rattle.jn_schedule.specs.declared.Event.TheVariants as events
 use Rattle.jn_report.specs.declared.line.Refusal.TheVariants as refusals
 use Rattle.jn_report.specs.declared.line.Text.TheVariants as says
 use Rattle.jn_report.specs.declared.line.Line.{Line}
-use Rattle.jn_settling.specs.Rows.{s0, s1, c1, c2, tid, file, block}
+use Rattle.jn_settling.specs.Rows.{s0, s1, c1, tid, file, block}
 use Rattle.jn_written.specs.Chances.{Setup}
 use Rattle.jn_written.specs.Devices.{Devices}
 use Rattle.jn_written.specs.Whole.{IsWhole}
-use Rattle.jn_written.specs.Examples.{block_of, line, at_end, tells, then_settle, makes_file, one_write}
+use Rattle.jn_written.specs.Examples.{block_of, line, at_end, then_settle, makes_file}
 
 -- no whole run of the schedule tells these lines, whatever stands on the images and whatever befalls it
 abbrev pub IsNone : List Event → List Line → Type 0
