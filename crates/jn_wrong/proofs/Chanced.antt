@@ -1,0 +1,155 @@
+-- A restart, a show and a settle where nothing strikes: what is found and what is free doesn't matter.
+use Rattle.std.proofs.Common.{◌≡◌, ℕ, Bool, true, false, List, [], ◌∷◌, Option, Some, None, is_some, refl, sym, ◌∙◌, ap, subst}
+use Rattle.std.specs.Prelude.{if◌then◌else◌, nat_eq, map}
+use Rattle.jn_base.specs.declared.names.ServerNo.{ServerNo}
+use Rattle.jn_base.specs.declared.names.FileNo.{FileNo}
+use Rattle.jn_base.specs.declared.names.Tid.{Tid}
+use Rattle.jn_base.specs.declared.names.WorkId.{WorkId}
+use Rattle.jn_base.specs.declared.names.LockUnit.TheVariants.{File}
+use Rattle.jn_base.specs.Names.{file_eq, tid_eq, work_eq}
+use Rattle.jn_base.proofs.Tells.{file_tells, tid_tells, work_tells}
+use Rattle.jn_schedule.specs.declared.Event.TheVariants as events
+use Rattle.jn_report.specs.declared.line.Text.{Text}
+use Rattle.jn_rows.specs.Stable.{StableState, Pick}
+use Rattle.jn_locks.specs.Locks.{work_before}
+use Rattle.jn_protocol.specs.World.{World, Memory}
+use Rattle.jn_protocol.specs.Printing.{print_files, file_before}
+use Rattle.jn_protocol.specs.Steps.{Step, Restart, tid_before, after, run, IsRun, restart, restart_with}
+use Rattle.jn_reported.specs.Printing.{text_printed, prints_of}
+use Rattle.jn_settling.specs.Course.{go_on, course_to}
+use Rattle.jn_written.specs.Chances.{Setup, Chance}
+use Rattle.jn_written.specs.Tasks.{Meets, Acts, ComesUp, State, begun}
+use Rattle.jn_written.specs.Deeds.{Deed, Reads, last_epoch, served, stopped_idle, blocks_from, shown, showing, pick_read, recovering, recovered, given_up, is_used_up, brought_up}
+use Rattle.jn_written.specs.Devices.{Devices, IsLookedOver, IsRecovery, Alone, Befalls}
+use Rattle.jn_report.specs.declared.line.EventRefusal.{EventRefusal}
+use Rattle.jn_report.specs.declared.line.EventRefusal.TheVariants.{NoSuchServer, ServerDown}
+use Rattle.jn_written.specs.Refusals.{unless}
+use Rattle.jn_written.specs.Events.{met, deed_of}
+use Rattle.jn_written.specs.Steps.{made}
+use Rattle.jn_headline.proofs.Quiet.{IsQuiet, Raised, called-calm, recovered-calm, quiet-alone, quiet-called, restarted-up}
+use Rattle.jn_wrong.specs.Still.{still, IsBlank, PrintsNothing}
+use Rattle.jn_wrong.proofs.Bare.{bare_course, bare, made-same}
+use Rattle.jn_wrong.proofs.Doing.{Follows, no-faults, below, none-named, itself}
+
+same-work : (W : WorkId) → work_eq W W ≡ true
+same-work W = itself work_eq W (work_tells W W)
+
+same-tid : (T : Tid) → tid_eq T T ≡ true
+same-tid T = itself tid_eq T (tid_tells T T)
+
+same-file : (f : FileNo) → file_eq f f ≡ true
+same-file f = itself file_eq f (file_tells f f)
+
+module _ (x : Setup) (h : Chance) (s : State) (ds es : Devices) (quiet : IsQuiet x s.course.world ds) where
+  abbrev w : World
+  w = s.course.world
+
+  -- ---- a restart
+
+  module _ (q : ServerNo) (is : IsBlank x w q) where
+    not-used : (g : Chance) → is_used_up g q w ≡ false
+    not-used g = by g.stop
+      where
+        by : (o : Option (Pick → ℕ)) → (if is_some o then false else nat_eq (w.found q (pick_read g)).epoch last_epoch) ≡ false
+        by None = ap (λ (y : StableState). nat_eq y.epoch last_epoch) (is.found (pick_read g)) ∙ is.not_last
+        by (Some made) = refl
+
+    brings : (g : Chance) → brought_up g q w ≡ recovered g q
+    brings g = ap (λ (b : Bool). if b then record (given_up g q) { cuts = true } else recovered g q) (not-used g)
+
+    finds-same : (p r : Pick) → after (Restart q p [] []) w ≡ after (Restart q r [] []) w
+    finds-same p r = by (w.memory q)
+      where
+        by : (o : Option Memory) → restart q p [] [] o w ≡ restart q r [] [] o w
+        by (Some m) = refl
+        by None = ap (λ (y : StableState). restart_with q y [] [] w) (is.found p ∙ sym (is.found r))
+
+    abbrev Restarts : Pick → List WorkId → List Tid → Step
+    Restarts p Ws Ts = Restart q p Ws Ts
+
+    comes-so : Befalls x h (recovered h q) w ds es → (bare (made x h (recovered h q) (begun (ComesUp q) s)) ≡ bare (made x still (recovered still q) (begun (ComesUp q) s))) × IsQuiet x (go_on (recovered h q).steps s.course).world es
+    comes-so b = by b.used
+      where
+        by : Alone q (IsRecovery h (is_some ((run (recovering h q h.stop) w).memory q))) ds es
+            → (bare (made x h (recovered h q) (begun (ComesUp q) s)) ≡ bare (made x still (recovered still q) (begun (ComesUp q) s))) × IsQuiet x (go_on (recovering h q h.stop) s.course).world es
+        by a = at (recovered-calm h (is_some ((run (recovering h q h.stop) w).memory q)) (ds q) (es q) a.its (quiet.told q (below q.0 x.servers is.below)) (quiet.waiting q (below q.0 x.servers is.below)))
+          where
+            at : Raised h (is_some ((run (recovering h q h.stop) w).memory q)) (es q)
+                → (bare (made x h (recovered h q) (begun (ComesUp q) s)) ≡ bare (made x still (recovered still q) (begun (ComesUp q) s))) × IsQuiet x (go_on (recovering h q h.stop) s.course).world es
+            at r = (made-same x h (recovered h q) (Restarts (pick_read still) [] [] ∷ []) (begun (ComesUp q) s) (no-faults q h.told r.told) refl course, subst (λ (steps : List Step). IsQuiet x (go_on steps s.course).world es) (sym steps) calm)
+              where
+                read : Pick
+                read = pick_read h
+
+                steps : recovering h q h.stop ≡ Restarts (pick_read h) h.works h.tids ∷ []
+                steps = ap (λ (o : Option (Pick → ℕ)). recovering h q o) r.stop
+
+                names : IsRun (Restarts (pick_read h) h.works h.tids ∷ []) w
+                names = subst (λ (ss : List Step). IsRun ss w) steps b.steps
+
+                no-works : h.works ≡ []
+                no-works = none-named work_eq work_before (w.found q (pick_read h)).works h.works names.0.0 same-work (λ W. ap (λ (y : StableState). y.works W) (is.found (pick_read h)))
+
+                no-flags : h.tids ≡ []
+                no-flags = none-named tid_eq tid_before (w.found q (pick_read h)).flags h.tids names.0.1 same-tid (λ T. ap (λ (y : StableState). y.flags T) (is.found (pick_read h)))
+
+                steps-now : recovering h q h.stop ≡ Restarts (pick_read h) [] [] ∷ []
+                steps-now = steps ∙ ap (λ (Ws : List WorkId). Restarts (pick_read h) Ws h.tids ∷ []) no-works ∙ ap (λ (Ts : List Tid). Restarts (pick_read h) [] Ts ∷ []) no-flags
+
+                course : bare_course (go_on (recovering h q h.stop) s.course) ≡ bare_course (go_on (Restarts (pick_read still) [] [] ∷ []) s.course)
+                course = ap (λ (ss : List Step). bare_course (go_on ss s.course)) steps-now
+                    ∙ ap (λ (now : World). bare_course (course_to now (Restarts (pick_read still) [] []) s.course)) (finds-same (pick_read h) (pick_read still))
+
+                calm : IsQuiet x (after (Restarts (pick_read h) h.works h.tids) w) es
+                calm = quiet-alone x w (after (Restarts (pick_read h) h.works h.tids) w) ds es quiet q (λ p k. restarted-up w p q (pick_read h) h.works h.tids k) a.others
+                    (λ z. r.power (ap (λ (ss : List Step). is_some ((run ss w).memory q)) steps ∙ z)) r.nothing_told r.nothing_waits
+
+    pub comes-up : Befalls x h (deed_of x h (ComesUp q) s) w ds es → Follows x h (ComesUp q) s es
+    comes-up b = let r = comes-so (subst (λ (deed : Deed). Befalls x h deed w ds es) (brings h) b) in record {
+      same = ap (λ (deed : Deed). bare (made x h deed (begun (ComesUp q) s))) (brings h) ∙ r.0 ∙ ap (λ (deed : Deed). bare (made x still deed (begun (ComesUp q) s))) (sym (brings still));
+      quiet = subst (λ (deed : Deed). IsQuiet x (go_on deed.steps s.course).world es) (sym (brings h)) r.1;
+    }
+
+  -- ---- a show
+
+  module _ (q : ServerNo) (is : PrintsNothing x w q) where
+    prints : (m : Memory) → w.memory q ≡ Some m → (f : FileNo) → prints_of q w m (File f) ≡ None
+    prints m up f = subst (λ (n : Memory). prints_of q w n (File f) ≡ None) (one (sym is.up ∙ up)) (is.nothing f)
+      where
+        one : Some is.memory ≡ Some m → is.memory ≡ m
+        one k = cc
+
+    abbrev asked : List Text → Deed
+    asked texts = record (served q (stopped_idle q h.stop)) { device = Reads q; texts = texts }
+
+    abbrev asked-still : List Text → Deed
+    asked-still texts = record (served q []) { device = Reads q; texts = texts }
+
+    shows-none : (g : Chance) (o : Option (Pick → ℕ)) → o ≡ None → g.files ≡ [] → shown g q w (w.memory q) o ≡ []
+    shows-none g o e none = ap (λ (k : Option (Pick → ℕ)). shown g q w (w.memory q) k) e ∙ ap (λ (k : Option Memory). shown g q w k None) is.up
+        ∙ ap (λ (fs : List FileNo). map (text_printed q) (print_files (prints_of q w is.memory) (λ f. blocks_from 0 120) fs)) none
+
+    pub shows : Befalls x h (deed_of x h (Acts (events.Show q)) s) w ds es → Follows x h (Acts (events.Show q)) s es
+    shows b = by b.used
+      where
+        by : Alone q (IsLookedOver h w q) ds es → Follows x h (Acts (events.Show q)) s es
+        by a = let calm = called-calm h (ds q) (es q) a.its.called (quiet.power q (below q.0 x.servers is.below) (ap is_some is.up)) (quiet.told q (below q.0 x.servers is.below)) (quiet.waiting q (below q.0 x.servers is.below)) in record {
+          same = ap (λ (texts : List Text). bare (made x h (asked texts) (begun (Acts (events.Show q)) s)))
+              (shows-none h h.stop calm.stop (none-named file_eq file_before (λ f. prints_of q w a.its.memory (File f)) h.files (a.its.files calm.stop) same-file (λ f. prints a.its.memory a.its.up f)))
+              ∙ made-same x h (asked []) [] (begun (Acts (events.Show q)) s) (no-faults q h.told calm.told) refl (ap (λ (o : Option (Pick → ℕ)). bare_course (go_on (stopped_idle q o) s.course)) calm.stop)
+              ∙ ap (λ (texts : List Text). bare (made x still (asked-still texts) (begun (Acts (events.Show q)) s))) (sym (shows-none still None refl refl));
+          quiet = subst (λ (o : Option (Pick → ℕ)). IsQuiet x (go_on (stopped_idle q o) s.course).world es) (sym calm.stop) (quiet-called x w w ds es quiet h q (λ p z. z) a.others calm);
+        }
+
+    is-met : (g : Chance) → deed_of x g (Meets (events.Show q)) s ≡ showing g q w
+    is-met g = ap (λ (o : Option EventRefusal). met x g (events.Show q) w o) (ap (λ (b : Bool). unless b NoSuchServer (unless (is_some (w.memory q)) ServerDown None)) is.below
+        ∙ ap (λ (o : Option Memory). unless (is_some o) ServerDown None) is.up)
+
+    pub meets : Befalls x h (deed_of x h (Meets (events.Show q)) s) w ds es → Follows x h (Meets (events.Show q)) s es
+    meets b = by (shows (subst (λ (deed : Deed). Befalls x h deed w ds es) (is-met h) b))
+      where
+        by : Follows x h (Acts (events.Show q)) s es → Follows x h (Meets (events.Show q)) s es
+        by f = record {
+          same = ap (λ (deed : Deed). bare (made x h deed (begun (Acts (events.Show q)) s))) (is-met h) ∙ f.same ∙ ap (λ (deed : Deed). bare (made x still deed (begun (Acts (events.Show q)) s))) (sym (is-met still));
+          quiet = subst (λ (deed : Deed). IsQuiet x (go_on deed.steps s.course).world es) (sym (is-met h)) f.quiet;
+        }

@@ -1,0 +1,4 @@
+pub mod Wrong
+pub mod Reports
+pub mod Others
+pub mod Still

@@ -1,0 +1,57 @@
+//! Wrong reports, which no run of the written machine tells.
+#![tactic(auto)]
+
+mod new;
+
+ghost use Rattle.std.specs.Prelude.{◌≡◌, ℕ, nat_lt, false};
+ghost use Rattle.jn_wrong.specs.Wrong.{IsNone, begins, makes_one, makes_and_reads, opens_and_loses, answered_too_soon, stopped_by_nothing, fault_of_nothing, lost_without_opening, file_left_out, file_locked, page_unwritten, other_bytes, named_again, full_of};
+
+pub use new::{
+    a_commit_of_nobody_is_none, a_refusal_without_a_cause_is_none,
+    a_report_that_answers_nothing_is_none, a_settle_that_leaves_a_message_is_none,
+    a_show_of_what_is_not_there_is_none, a_stray_line_is_none, an_answer_for_another_is_none,
+    messages_out_of_place_are_none, other_bytes_before_an_abort_are_none,
+    reports_are_the_only_ones,
+};
+
+/// An answer stands under an event before its command's.
+pub fn an_answer_before_its_command_is_none()
+    ensures { IsNone begins answered_too_soon }
+{}
+
+/// A server is stopped though no stop waited.
+pub fn a_stop_without_a_cause_is_none()
+    ensures { IsNone begins stopped_by_nothing }
+{}
+
+/// A fault is told as refused though none waited.
+pub fn a_refused_fault_without_a_cause_is_none()
+    ensures { IsNone begins fault_of_nothing }
+{}
+
+/// A transaction is aborted since a server was lost that its client refused to open.
+pub fn a_loss_of_what_was_not_opened_is_none()
+    ensures { IsNone opens_and_loses lost_without_opening }
+{}
+
+/// The end leaves out a file that was made, shows it as locked, or prints a page that nobody wrote.
+pub fn an_end_that_shows_other_files_is_none()
+    ensures left_out { IsNone makes_one file_left_out }
+    ensures as_locked { IsNone makes_one file_locked }
+    ensures page { IsNone makes_one page_unwritten }
+{}
+
+/// A transaction that commits is answered with other bytes than the files have.
+pub fn an_answer_with_other_bytes_is_none()
+    ensures { IsNone makes_and_reads other_bytes }
+{}
+
+/// A restart names a commit again.
+pub fn a_commit_named_again_is_none()
+    ensures { IsNone makes_one named_again }
+{}
+
+/// A transaction is aborted for want of records where no more are needed than are said to be free.
+pub fn an_abort_for_want_of_nothing_is_none()
+    ensures { (free need : ℕ) → nat_lt free need ≡ false → IsNone makes_one (full_of free need) }
+{}
