@@ -14,7 +14,7 @@ returns-then-has_going-clause-work g c =
     let serves : IsServer (view_with look inside) = subst (λ (s : Parts g.row.S.Denot). IsServer (view_with look s)) (sym c.self.view_is) c.requires.serves in
     let steps = c.has_going.ensures.steps (view_with look inside).storage c.self.inside.tickets serves.works in
     subst (λ (s : Parts g.row.S.Denot). let x = view_with look s in c.has_going.result ≡ is_some (server_step (memory_of x) (state x.storage) (room_of x.storage))) c.self.view_is
-        (work_goes (view_with look inside) c.has_going.result steps c.if-has_going.true)
+    (work_goes (view_with look inside) c.has_going.result steps c.if-has_going.true)
 
 pub returns-else-has_going-clause-work : goal.returns-else-has_going-clause-work
 returns-else-has_going-clause-work g c =
@@ -23,4 +23,4 @@ returns-else-has_going-clause-work g c =
     let serves : IsServer (view_with look inside) = subst (λ (s : Parts g.row.S.Denot). IsServer (view_with look s)) (sym c.self.view_is) c.requires.serves in
     let steps = c.has_going.ensures.steps (view_with look inside).storage c.self.inside.tickets serves.works in
     subst (λ (s : Parts g.row.S.Denot). let x = view_with look s in c.has_rubbish.result ≡ is_some (server_step (memory_of x) (state x.storage) (room_of x.storage))) c.self.view_is
-        (rubbish_left (view_with look inside) c.has_going.result steps c.if-has_going.false c.has_rubbish.result c.has_rubbish.ensures)
+    (rubbish_left (view_with look inside) c.has_going.result steps c.if-has_going.false c.has_rubbish.result c.has_rubbish.ensures)
