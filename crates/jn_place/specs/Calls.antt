@@ -40,6 +40,12 @@ abbrev pub LeavesStore : {S : Type 0} → Slot S → Slot S → Type 0
 LeavesStore (Up p) (Down s) = s ≡ p.storage.0
 LeavesStore a b = ⊥
 
+-- the store that a server stands on, up or down
+abbrev pub StandsOn : {S : Type 0} → Slot S → S → Type 0
+StandsOn (Up p) s = s ≡ p.storage.0
+StandsOn (Down t) s = s ≡ t
+StandsOn Gone s = ⊥
+
 -- a restart: the server is up and has drawn no name yet, or it is down
 abbrev pub CameUp : {S : Type 0} → (S → StoreView) → ServerNo → Counts → Slot S → Restarted → Type 0
 CameUp look server g after (came.Up epoch tids) = HoldsUp look server g 0 true after

@@ -7,7 +7,7 @@ ghost use Rattle.jn_records.specs.StablePages.{Counts, page_count};
 ghost use Rattle.jn_recovery.specs.Loading.{counts_by};
 ghost use Rattle.jn_rows.specs.declared.coordinator.Transaction.{Transaction};
 ghost use Rattle.jn_within.specs.Taking.{CanBeTaken, AllCanBeTaken};
-ghost use Rattle.jn_place.specs.Calls.{Serves, Called, Answered, LeavesStore, CameUp, Left};
+ghost use Rattle.jn_place.specs.Calls.{Serves, Called, Answered, LeavesStore, CameUp, Left, StandsOn};
 ghost use Rattle.jn_place.specs.Exact.{lines_at, texts_of_step, has_work_at, ReadsPages, items_of, Took, WorkedBy, ScrubbedBy, Showed, Closed, AsksAgain, TimedOut, Crashed, IsRestart, Befell, StaysCalm, ComesCalm};
 ghost use Rattle.jn_place.specs.Inner.{Handles, Works, Idles, Shows, Closes, told_at, SaysSame, StaysAs, Follows, StandsUp, Rises, Lifts};
 ghost use Rattle.jn_place.specs.Places.{HoldsUp, Stands, IsDownAt, IsPlace, NoneTold, HasPages, is_up, is_there};
@@ -359,7 +359,7 @@ impl<S: Powered + Drop> Place<S> {
 
     /// A server that is up goes down, and its power goes.
     pub fn crash(&mut self)
-        requires { is_up self.old.slot ≡ true }
+        requires up { is_up self.old.slot ≡ true }
         ensures place { (server : ServerNo) (most : ℕ) → IsPlace (λ s. S.view s) server most self.old → IsPlace (λ s. S.view s) server most self.new }
         ensures crashed { (server : ServerNo) (most : ℕ) → IsPlace (λ s. S.view s) server most self.old → Crashed (λ s. S.view s) (λ s. S.device s) (counts_by self.old.counts) self.old.slot self.new.slot }
         ensures counts { self.new.counts ≡ self.old.counts }
@@ -522,6 +522,7 @@ impl<S: Powered + Drop> Place<S> {
     pub fn into_store(self) -> S
         requires there { is_there self.slot ≡ true }
         ensures recoverable { (server : ServerNo) (most : ℕ) → IsPlace (λ s. S.view s) server most self → IsRecoverable server (counts_by self.counts) (S.view result) }
+        ensures store { StandsOn self.slot result }
     {
         let Place { counts: _, slot } = self;
         match slot {
