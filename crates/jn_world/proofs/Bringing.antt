@@ -1,6 +1,6 @@
 -- A server that is down comes up, as the written machine has it.
 use Rattle.std.proofs.Common.{◌≡◌, ◌≤◌, ◌<◌, ℕ, zero, suc, ◌+◌, Bool, true, false, List, [], ◌∷◌, ◌++◌, drop, get_or, length, length-append, append-nil, append_assoc, slice_get, slice_set, Option, Some, None, Result, Ok, Err, true≢false, refl, sym, ◌∙◌, ap, subst, arith}
-use Rattle.std.specs.Prelude.{◌||◌, if◌then◌else◌}
+use Rattle.std.specs.Prelude.{◌||◌, if◌then◌else◌, IsErrAnd}
 use Rattle.std.specs.List.{list_any}
 use Rattle.std.specs.Vec.{with_item}
 use Rattle.std.proofs.Math.Path.{fun_ext}
@@ -34,7 +34,7 @@ use Rattle.jn_stands.specs.Stands.{Standing, Stands, with_named}
 use Rattle.jn_store.specs.Pairs.{pairs_view}
 use Rattle.jn_store.specs.Store.{StoreView}
 use Rattle.jn_world.specs.declared.ended.Ended.{Ended}
-use Rattle.jn_world.specs.declared.ended.Ended.TheVariants.{Epoch}
+use Rattle.jn_world.specs.declared.ended.Ended.TheVariants.{Epoch, Memory}
 use Rattle.jn_world.specs.declared.world.World.{World}
 use Rattle.jn_world.specs.Bringing.{BroughtUp, texts_so_far, left_to_tell}
 use Rattle.jn_world.specs.Naming.{is_among, newly_named, restart_texts, has_come}
@@ -92,7 +92,7 @@ named-standing : {S : Type 0} (a b : World S) (q : ServerNo) (r : Restarted) →
 named-standing {S} a b q r e names =
     ap (λ (w : World S). standing_of w) e
     ∙ ap (λ (ns : List Tid). record (standing_of a) { named = is_among ns; commits = length ns })
-      (names ∙ ap (λ (ns : List Tid). a.named.names.items ++ ns) (ap commits_in (so-far q a.named.names.items r) ∙ commits-so-far q (is_among a.named.names.items) r))
+    (names ∙ ap (λ (ns : List Tid). a.named.names.items ++ ns) (ap commits_in (so-far q a.named.names.items r) ∙ commits-so-far q (is_among a.named.names.items) r))
     ∙ ap (λ (f : Tid → Bool). record (standing_of a) { named = f; commits = length (a.named.names.items ++ commits_in texts) }) (among-more a.named.names.items texts)
     ∙ ap (λ (n : ℕ). record (standing_of a) { named = λ T. has_line T texts || is_among a.named.names.items T; commits = n }) (length-append a.named.names.items (commits_in texts))
   where
@@ -196,8 +196,8 @@ module _ {S : Type 0} (look : S → StoreView) (device : S → DeviceState) wher
         subst (λ (ts : List Task). WentOn look device x m ts w' first (first ++ told)) (ap (λ (ts : List Task). drop 1 ts) tasks)
         (subst (λ (u : Standing S). WentOn look device x m (drop 1 m.state.tasks) u first (first ++ told)) (sym b.here)
         (subst (λ (l : List Line). WentOn look device x m (drop 1 m.state.tasks) (with_named (texts_restarted q w.named b.restarted) (moved b)) first l)
-            (sym (ap (λ (l : List Line). first ++ l) (sym (append-nil told)) ∙ told-behind q w.named when (when_of m.state) b.restarted true first b.now told is b.came_is b.told))
-            (came-went q w (moved b) x m b.restarted first ((first ++ b.now) ++ lines_at (when_of m.state) (texts_restarted q w.named b.restarted)) b.came_is (comes b x m rest stands tasks going is) few)))
+        (sym (ap (λ (l : List Line). first ++ l) (sym (append-nil told)) ∙ told-behind q w.named when (when_of m.state) b.restarted true first b.now told is b.came_is b.told))
+        (came-went q w (moved b) x m b.restarted first ((first ++ b.now) ++ lines_at (when_of m.state) (texts_restarted q w.named b.restarted)) b.came_is (comes b x m rest stands tasks going is) few)))
 
     pub up-cut : (A : Type 0) (u : Standing S) → BroughtUp look device q when w false w' [] told → DoesTasks {S = S} {A = A} look device (λ x. ComesUp q ∷ []) when w (Err (Epoch q)) u first first
     up-cut A u b x m rest stands tasks going is =
@@ -207,8 +207,12 @@ module _ {S : Type 0} (look : S → StoreView) (device : S → DeviceState) wher
     pub restarts-does : {A : Type 0} (a : A) (is : Bool) (all : List Line) → BroughtUp look device q when w is w' [] told → all ≡ told ++ left_to_tell when is → length w.net.sent ≤ 1000000 → DoesEvent look device (events.Restart q) when w (Ok a) w' first (first ++ all)
     restarts-does a is all b e few x m more stands next at =
         let step = restarted-step look device seen x w m stands q b.place b.at more next first (first ++ b.now) ((first ++ b.now) ++ lines_at (when_of m.state) (texts_restarted q w.named b.restarted))
-            b.restarted b.slot (restart-behind q (counts_by b.place.counts) when (when_of m.state) b.place.slot b.slot b.restarted first b.now at b.restart) b.counts refl in
+        b.restarted b.slot (restart-behind q (counts_by b.place.counts) when (when_of m.state) b.place.slot b.slot b.restarted first b.now at b.restart) b.counts refl in
         subst (λ (u : Standing S). WentOn look device x m (more ++ drop 1 m.state.tasks) u first (first ++ all)) (sym b.here)
         (subst (λ (l : List Line). WentOn look device x m (more ++ drop 1 m.state.tasks) (with_named (texts_restarted q w.named b.restarted) (moved b)) first l)
-            (sym (ap (λ (l : List Line). first ++ l) e ∙ told-behind q w.named when (when_of m.state) b.restarted is first b.now told at b.came_is b.told))
-            (step.done few))
+        (sym (ap (λ (l : List Line). first ++ l) e ∙ told-behind q w.named when (when_of m.state) b.restarted is first b.now told at b.came_is b.told))
+        (step.done few))
+
+-- an error that is want of memory, handed on
+pub memory-on : {B : Type 0} (r : Result B Ended) (e : Ended) → IsErrAnd r (λ f. f ≡ e) → e ≡ Memory → IsErrAnd r (λ f. f ≡ Memory)
+memory-on {B} r e which is = subst (λ (m : Ended). IsErrAnd r (λ f. f ≡ m)) is which

@@ -90,7 +90,7 @@ module _ {S : Type 0} (look : S → StoreView) (device : S → DeviceState) (see
       → DoesTasks look device (λ x. ClosesClients q ∷ []) when w (Ok a) (record w { places = set w.places i new }) first later
   closed-does a w q i p new done first later index at same counts closed up idle few x m rest stands tasks going is =
       let step = closed-step look device seen x w m stands q p at first idle (next-first m.state (ClosesClients q) rest tasks going) new.slot later
-          (subst (λ (t : When). Closed look device q (counts_by p.counts) t p.slot true new.slot first later) (sym is) (really-done q (counts_by p.counts) p.slot new.slot done first later up closed)) counts in
+      (subst (λ (t : When). Closed look device q (counts_by p.counts) t p.slot true new.slot first later) (sym is) (really-done q (counts_by p.counts) p.slot new.slot done first later up closed)) counts in
       subst (λ (n : ℕ). WentOn look device x m rest (record w { places = set w.places n new }) first later) (sym index)
       (subst (λ (r : Place S). WentOn look device x m rest (record w { places = slice_set w.places q.0 r }) first later) (same-place p new same)
       (subst (λ (ts : List Task). WentOn look device x m ts (record w { places = slice_set w.places q.0 (record p { slot = new.slot }) }) first later) (ap (λ (ts : List Task). drop 1 ts) tasks) (step.done few)))

@@ -1,7 +1,7 @@
 -- The start and the end of a run, as the written machine has them.
-use Rattle.std.proofs.Common.{◌≡◌, ◌≤◌, ◌<◌, ℕ, zero, suc, ◌+◌, Bool, true, false, List, [], ◌∷◌, ◌++◌, map, drop, get_or, length, append_assoc, append-nil, slice_get, Option, Some, None, Result, Ok, Err, true≢false, refl, sym, ◌∙◌, ap, subst, arith}
+use Rattle.std.proofs.Common.{◌≡◌, ◌≤◌, ◌<◌, ℕ, zero, suc, ◌+◌, Bool, true, false, List, [], ◌∷◌, ◌++◌, map, drop, get_or, length, append_assoc, append-nil, slice_get, Option, Some, None, Result, Ok, Err, inl, inr, true≢false, refl, sym, ◌∙◌, ap, subst, arith}
 use Rattle.std.proofs.Math.ListN.{set}
-use Rattle.std.specs.Prelude.{◌⊎◌, inl, inr, IsErr, IsErrAnd}
+use Rattle.std.specs.Prelude.{◌⊎◌, IsErr, IsErrAnd}
 use Rattle.jn_base.specs.declared.names.ServerNo.{ServerNo}
 use Rattle.jn_device.specs.Device.{DeviceState}
 use Rattle.jn_order.specs.Files.{AllFiles}
@@ -55,6 +55,16 @@ get-same [] i y h = absurd (omega arith)
 get-same (x ∷ xs) zero y h = refl
 get-same (x ∷ xs) (suc i) y h = get-same xs i y (omega arith)
 
+either : (n s : ℕ) → n < s + 1 → (n ≡ s) ⊎ (n < s)
+either zero zero h = inl refl
+either zero (suc s) h = inr (omega arith)
+either (suc n) zero h = absurd (omega arith)
+either (suc n) (suc s) h = by (either n s (omega arith))
+  where
+    by : (n ≡ s) ⊎ (n < s) → (suc n ≡ suc s) ⊎ (suc n < suc s)
+    by (inl e) = inl (ap (λ (k : ℕ). suc k) e)
+    by (inr l) = inr (omega arith)
+
 pub record DisarmedTo {S : Type 0} (look : S → StoreView) (device : S → DeviceState) (s : ℕ) (ps ps' : List (Place S)) : Type 0 where
   pub as_many : length ps' ≡ length ps
   pub each : (n : ℕ) (p p' : Place S) → n < s → slice_get ps n ≡ Some p → slice_get ps' n ≡ Some p' → IsDisarmed look device p p'
@@ -81,11 +91,8 @@ module _ {S : Type 0} (look : S → StoreView) (device : S → DeviceState) wher
           subst (λ (x : Place S). IsDisarmed look device x b) first (subst (λ (y : Place S). IsDisarmed look device p y) second is)
 
       each : (n : ℕ) (a b : Place S) → n < s + 1 → slice_get ps n ≡ Some a → slice_get (set ps' s q) n ≡ Some b → IsDisarmed look device a b
-      each n a b less e f = by (either n less)
+      each n a b less e f = by (either n s less)
         where
-          either : (n : ℕ) → n < s + 1 → (n ≡ s) ⊎ (n < s)
-          either n h = omega arith
-
           by : (n ≡ s) ⊎ (n < s) → IsDisarmed look device a b
           by (inl g) = own a b (subst (λ (k : ℕ). slice_get ps k ≡ Some a) g e) (subst (λ (k : ℕ). slice_get (set ps' s q) k ≡ Some b) g f)
           by (inr g) = h.each n a b g e (sym (get-other ps' s n q (λ z. omega arith)) ∙ f)

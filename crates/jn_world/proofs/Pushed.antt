@@ -1,5 +1,5 @@
 -- Lists that are built one by one.
-use Rattle.std.proofs.Common.{◌≡◌, ◌<◌, ℕ, Bool, false, zero, suc, ◌+◌, List, [], ◌∷◌, ◌++◌, length, slice_get, Option, Some, None, refl, sym, ◌∙◌, ap, subst, arith}
+use Rattle.std.proofs.Common.{◌≡◌, ◌<◌, ℕ, Bool, false, zero, suc, ◌+◌, List, [], ◌∷◌, ◌++◌, map, length, slice_get, Option, Some, None, refl, sym, ◌∙◌, ap, subst, arith}
 use Rattle.jn_base.specs.declared.names.Tid.{Tid}
 use Rattle.jn_device.specs.Device.{DeviceState}
 use Rattle.jn_place.specs.declared.place.Place.{Place}
@@ -19,6 +19,13 @@ use Rattle.jn_written.specs.Devices.{Devices}
 
 some-same : {A : Type 0} (a b : A) → Some a ≡ Some b → a ≡ b
 some-same a b e = cc
+
+pub yielded-all : {A : Type 0} (xs ys : List A) → map (λ (x : A). x) xs ≡ ys → xs ≡ ys
+yielded-all {A} xs ys h = by xs ∙ h
+  where
+    by : (xs : List A) → xs ≡ map (λ (x : A). x) xs
+    by [] = refl
+    by (x ∷ xs) = ap (λ (l : List A). x ∷ l) (by xs)
 
 pub pushed-each : {A : Type 0} (P : ℕ → A → Type 0) (xs : List A) (y : A) → ((n : ℕ) (t : A) → slice_get xs n ≡ Some t → P n t) → P (length xs) y → (n : ℕ) (t : A) → slice_get (xs ++ y ∷ []) n ≡ Some t → P n t
 pushed-each P [] y h own zero t e = subst (P 0) (some-same y t e) own

@@ -1,9 +1,12 @@
 //! What servers that are up do without a message.
-ghost use Rattle.std.specs.Prelude.{◌≡◌, ◌∷◌, [], true, vec_len, OnOk};
+ghost use Rattle.std.specs.Prelude.{◌≡◌, ◌∷◌, ◌++◌, [], true, map, vec_len, OnOk};
+ghost use Rattle.jn_place.specs.Exact.{items_of};
 ghost use Rattle.jn_schedule.specs.declared.Event.TheVariants as events;
+ghost use Rattle.jn_stands.specs.Showing.{text_shown, texts_shown};
 ghost use Rattle.jn_world.specs.Closing.{AreIdle};
 ghost use Rattle.jn_world.specs.Standing.{IsWorld, is_up_at};
 ghost use Rattle.jn_world.specs.Written.{DoesEvent, DoesTasks, standing_of};
+ghost use Rattle.jn_written.specs.Steps.{lines_at};
 ghost use Rattle.jn_written.specs.Tasks.{ClosesClients, Meets};
 
 use crate::ended::Ended;
@@ -16,7 +19,9 @@ use jn_store::Powered;
 use std::alloc::AllocError;
 
 /// A line of a show.
-fn text_of(server: ServerNo, shown: Shown) -> Text {
+fn text_of(server: ServerNo, shown: Shown) -> Text
+    ensures { result ≡ text_shown server shown }
+{
     match shown {
         Shown::File(file) => Text::File(server, file),
         Shown::Locked(unit, tid) => Text::Locked(server, unit, tid),
@@ -30,11 +35,28 @@ fn tell_shown(
     when: When,
     server: ServerNo,
     list: &[Shown],
-) -> Result<(), AllocError> {
+) -> Result<(), AllocError>
+    ensures { OnOk result (lines.new.items ≡ lines.old.items ++ lines_at when (map (text_shown server) list.now)) }
+{
     for shown in list {
         tell(lines, when, text_of(server, *shown))?;
     }
     Ok(())
+}
+
+/// The lines of a show, none of which are of a server that was stopped.
+fn tell_list(
+    lines: &mut Vec<Line>,
+    when: When,
+    server: ServerNo,
+    shown: Option<Vec<Shown>>,
+) -> Result<(), AllocError>
+    ensures { OnOk result (lines.new.items ≡ lines.old.items ++ lines_at when (texts_shown server (items_of shown))) }
+{
+    match shown {
+        None => Ok(()),
+        Some(list) => tell_shown(lines, when, server, &list),
+    }
 }
 
 impl<S: Powered + Drop> World<S> {
@@ -140,9 +162,8 @@ impl<S: Powered + Drop> World<S> {
         ensures does { DoesEvent (λ s. S.view s) (λ s. S.device s) (events.Show server) when (standing_of self.old) result (standing_of self.new) lines.old.items lines.new.items }
     {
         let place = &mut self.places[usize::from(server.0)];
-        if let Some(list) = place.show(self.alloc, server, when, lines)? {
-            tell_shown(lines, when, server, &list)?;
-        }
+        let shown = place.show(self.alloc, server, when, lines)?;
+        tell_list(lines, when, server, shown)?;
         Ok(())
     }
 

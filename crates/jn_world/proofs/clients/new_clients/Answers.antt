@@ -1,4 +1,4 @@
-use Rattle.std.proofs.Common.{◌+◌, List, refl, subst, sym, arith}
+use Rattle.std.proofs.Common.{◌+◌, List, length, ap, subst, sym, arith}
 use Rattle.std.proofs.lemmas.List.Elements.{All-nil, All-push}
 use Rattle.std.specs.Prelude.{All}
 use Rattle.jn_rows.specs.Client.{ClientTable}
@@ -9,7 +9,14 @@ use Rattle.jn_world.proofs.Places.{new-client}
 use Rattle.jn_world.proofs.clients.new_clients.Goals as goal
 
 pub loop-c-init : goal.loop-c-init
-loop-c-init c = record { many = refl; all = All-nil (IsClientOf 0); new = new-none c.args.servers }
+loop-c-init c =
+    let items = c.new-clients.ensures.items in
+    let none = ap (λ (ts : List ClientTable). length ts) items in
+    record {
+      many = omega (arith, c.new-clients.result.ok.0);
+      all = subst (λ (ts : List ClientTable). All (IsClientOf 0) ts) (sym items) (All-nil (IsClientOf 0));
+      new = subst (λ (ts : List ClientTable). AreNew c.args.servers ts) (sym items) (new-none c.args.servers);
+    }
 
 pub loop-c-preserved : goal.loop-c-preserved
 loop-c-preserved c =

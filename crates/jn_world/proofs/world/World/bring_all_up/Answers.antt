@@ -54,9 +54,9 @@ returns-in_err-bring_up_at_once-clause-does g c =
     let fails = c.in_err-bring_up_at_once.ensures in
     let e = c.in_err-bring_up_at_once.field-0.0 in
     does-exit look device when ℕ _ c.from_residual.result e coming_up w u u first later c.from_residual.ensures.0 c.from_residual.ensures.1
-        (servers-cut look device when f (λ q. refl) ℕ ℕ (c.loop-s.s + 1) e w u u first later (omega (arith, c.args.self.now.places.ok.0))
-            (server-turn look device when f (λ q. refl) {A = ℕ} {B = ℕ} c.loop-s.s 0 (Err e) w v u first now later c.loop-s.invariant.does
-                (fails.does)))
+    (servers-cut look device when f (λ q. refl) ℕ ℕ (c.loop-s.s + 1) e w u u first later (omega (arith, c.args.self.now.places.ok.0))
+    (server-turn look device when f (λ q. refl) {A = ℕ} {B = ℕ} c.loop-s.s 0 (Err e) w v u first now later c.loop-s.invariant.does
+    (fails.does)))
 
 pub returns-clause-does : goal.returns-clause-does
 returns-clause-does g c =

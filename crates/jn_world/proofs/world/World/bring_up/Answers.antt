@@ -58,4 +58,4 @@ returns-clause-brought g c =
     let step = c.in_ok-restarted.ensures in
     let end = c.in_ok-came.ensures in
     brought look device w b server i p q c.args.when c.in_ok-restarted.restarted c.in_ok-came.came c.args.told.now.items c.come_up.new.told.items c.tell_restarted.new.told.items c.from.ensures within c.index_mut-place.ensures.value c.come_up.ensures.counts
-        (has-counts look server (length w.net.sent) p q c.come_up.ensures.counts (step.place (length w.net.sent) place)) step.restarts c.tell_restarted.ensures.others end.names end.told end.came
+    (has-counts look server (length w.net.sent) p q c.come_up.ensures.counts (step.place (length w.net.sent) place)) step.restarts c.tell_restarted.ensures.others end.names end.told end.came

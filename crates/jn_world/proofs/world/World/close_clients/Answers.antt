@@ -47,6 +47,6 @@ returns-clause-does g c =
     let within = up-within w.places.items server.0 c.requires.up in
     let closed = step.closed in
     closed-does look device g.met.S.Powered.seen c.args.when {A = ℕ} 0 (standing_of w) server i p q closed.0 c.args.lines.now.items c.close_clients.new.told.items c.from.ensures
-        (place-got w.places.items server i p c.from.ensures within c.index_mut.ensures.value) c.close_clients.ensures.counts
-        (has-counts look server (length w.net.sent) p q c.close_clients.ensures.counts (step.left (length w.net.sent) place)) closed.1
-        (up-set w.places.items server i q c.from.ensures within (sym c.is_up.ensures ∙ c.if-not-is_up.false)) c.requires.idle c.requires.world.limit
+    (place-got w.places.items server i p c.from.ensures within c.index_mut.ensures.value) c.close_clients.ensures.counts
+    (has-counts look server (length w.net.sent) p q c.close_clients.ensures.counts (step.left (length w.net.sent) place)) closed.1
+    (up-set w.places.items server i q c.from.ensures within (sym c.is_up.ensures ∙ c.if-not-is_up.false)) c.requires.idle c.requires.world.limit

@@ -8,8 +8,8 @@ use Rattle.jn_world.proofs.Places.{place-here, up-here, up-within, moved-quiet}
 use Rattle.jn_world.proofs.ServerCalls.{crashed-does, event-without}
 use Rattle.jn_world.proofs.world.World.crash.Goals as goal
 
-pub crash-requires-clause-up : goal.crash-requires-clause-up
-crash-requires-clause-up g c = up-here c.args.self.now c.args.server c.from.result c.index_mut.result.now c.from.ensures c.requires.up c.index_mut.ensures.value
+pub crash-requires : goal.crash-requires
+crash-requires g c = record { up = up-here c.args.self.now c.args.server c.from.result c.index_mut.result.now c.from.ensures c.requires.up c.index_mut.ensures.value }
 
 pub returns-clause-world : goal.returns-clause-world
 returns-clause-world g c =
@@ -33,6 +33,6 @@ returns-clause-does g c =
     let q = c.crash.new.self in
     let limit = c.requires.world.limit in
     crashed-does look device g.met.S.Powered.seen (standing_of w) server p q i c.from.ensures c.crash.ensures.counts {A = ℕ} c.args.when (Ok 0) (standing_of (record w { places = with_item w.places i q }))
-        c.args.lines.now.items c.tell.new.lines.items (place-got w.places.items server i p c.from.ensures (up-within w.places.items server.0 c.requires.up) c.index_mut.ensures.value)
-        (has-counts look server (length w.net.sent) p q c.crash.ensures.counts (c.crash.ensures.place server (length w.net.sent) place))
-        (c.crash.ensures.crashed server (length w.net.sent) place) (refl, c.in_ok-tell.ensures, limit)
+    c.args.lines.now.items c.tell.new.lines.items (place-got w.places.items server i p c.from.ensures (up-within w.places.items server.0 c.requires.up) c.index_mut.ensures.value)
+    (has-counts look server (length w.net.sent) p q c.crash.ensures.counts (c.crash.ensures.place server (length w.net.sent) place))
+    (c.crash.ensures.crashed server (length w.net.sent) place) (refl, c.in_ok-tell.ensures, limit)

@@ -17,8 +17,8 @@ loop-s-init g c =
     let device : g.row.S.Denot → DeviceState = λ s. g.S.Powered.device s in
     record { world = c.requires; as_many = refl; others = refl; disarmed = disarmed-none look device c.args.self.now.places.items }
 
-pub disarm-requires-clause-there : goal.disarm-requires-clause-there
-disarm-requires-clause-there g c =
+pub disarm-requires : goal.disarm-requires
+disarm-requires g c =
     let look : g.row.S.Denot → StoreView = λ s. g.S.StableStore.view s in
     let w = c.loop-s.self in
     let server : ServerNo = record { 0 = c.loop-s.s } in
@@ -29,7 +29,7 @@ disarm-requires-clause-there g c =
     let many = c.loop-s.invariant.as_many in
     let within : server.0 < length w.places.items = omega (arith, w.places.ok.0) in
     let place = place-there look w server i p c.from.ensures within c.index_mut.ensures.value c.loop-s.invariant.world in
-    stands-there look server (counts_by p.counts) (length w.net.sent) p.slot place.stands
+    record { there = stands-there look server (counts_by p.counts) (length w.net.sent) p.slot place.stands }
 
 pub loop-s-preserved : goal.loop-s-preserved
 loop-s-preserved g c =

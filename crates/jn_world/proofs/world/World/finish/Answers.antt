@@ -24,7 +24,7 @@ returns-in_err-turn_over-clause-does g c =
     let e = c.in_err-turn_over.field-0.0 in
     let fails = c.in_err-turn_over.ensures in
     does-exit look device End ℕ _ c.from_residual.result e finishing w u u first later c.from_residual.ensures.0 c.from_residual.ensures.1
-        (does-cut look device End ℕ ℕ (λ x. turning x ++ thanking x) telling e w u u first later (does-cut look device End ℕ ℕ turning thanking e w u u first later fails.does))
+    (does-cut look device End ℕ ℕ (λ x. turning x ++ thanking x) telling e w u u first later (does-cut look device End ℕ ℕ turning thanking e w u u first later fails.does))
 
 pub returns-in_err-thank_all-clause-does : goal.returns-in_err-thank_all-clause-does
 returns-in_err-thank_all-clause-does g c =
@@ -40,8 +40,8 @@ returns-in_err-thank_all-clause-does g c =
     let went = c.in_ok-turn_over.ensures in
     let fails = c.in_err-thank_all.ensures in
     does-exit look device End ℕ _ c.from_residual-in_err-thank_all.result e finishing w u u first later c.from_residual-in_err-thank_all.ensures.0 c.from_residual-in_err-thank_all.ensures.1
-        (does-cut look device End ℕ ℕ (λ x. turning x ++ thanking x) telling e w u u first later
-            (does-then look device End {B = ℕ} turning thanking c.in_ok-turn_over.field-0 (Err e) w v u first now later turning-quiet went.does fails.does))
+    (does-cut look device End ℕ ℕ (λ x. turning x ++ thanking x) telling e w u u first later
+    (does-then look device End {B = ℕ} turning thanking c.in_ok-turn_over.field-0 (Err e) w v u first now later turning-quiet went.does fails.does))
 
 pub returns-clause-does : goal.returns-clause-does
 returns-clause-does g c =
@@ -58,4 +58,4 @@ returns-clause-does g c =
     let went = c.in_ok-turn_over.ensures in
     let on = c.in_ok-thank_all.ensures in
     does-then look device End (λ x. turning x ++ thanking x) telling c.in_ok-thank_all.field-0 c.tell_all.result w u z first again later (λ x. both-quiet (turning x) (thanking x) (turning-quiet x) (thanking-quiet x))
-        (does-then look device End turning thanking c.in_ok-turn_over.field-0 (Ok c.in_ok-thank_all.field-0) w v u first now again turning-quiet went.does on.does) c.tell_all.ensures.does
+    (does-then look device End turning thanking c.in_ok-turn_over.field-0 (Ok c.in_ok-thank_all.field-0) w v u first now again turning-quiet went.does on.does) c.tell_all.ensures.does

@@ -9,13 +9,13 @@ use Rattle.jn_place.specs.declared.place.Place.{Place}
 use Rattle.jn_place.specs.Places.{IsPlace}
 use Rattle.jn_world.specs.Standing.{AreClosed}
 use Rattle.jn_world.specs.Closing.{AreTheirs}
-use Rattle.jn_world.proofs.Pushed.{theirs-more}
+use Rattle.jn_world.proofs.Pushed.{theirs-more, yielded-all}
 use Rattle.jn_world.proofs.Places.{place-at, closed-more}
 use Rattle.jn_place.proofs.Slots.{stands-there}
 use Rattle.jn_world.proofs.world.World.into_stores.Goals as goal
 
-pub into_store-requires-clause-there : goal.into_store-requires-clause-there
-into_store-requires-clause-there g c =
+pub into_store-requires : goal.into_store-requires
+into_store-requires g c =
     let look : g.row.S.Denot → StoreView = λ s. g.S.StableStore.view s in
     let xs = c.args.self.places.items in
     let gives = c.into_iter-place-iterator.ensures.into_iter_gives in
@@ -24,7 +24,7 @@ into_store-requires-clause-there g c =
     let n = length c.loop-place.yielded in
     let server : ServerNo = record { 0 = n } in
     let place = subst (λ (p : Place g.row.S.Denot). IsPlace look server (length c.args.self.net.sent) p) (sym t.1) (place-at look (length c.args.self.net.sent) xs server c.in-Some.place t.0 c.requires.world.places) in
-    stands-there look server (counts_by c.in-Some.place.counts) (length c.args.self.net.sent) c.in-Some.place.slot place.stands
+    record { there = stands-there look server (counts_by c.in-Some.place.counts) (length c.args.self.net.sent) c.in-Some.place.slot place.stands }
 
 pub loop-place-preserved : goal.loop-place-preserved
 loop-place-preserved g c =
@@ -54,4 +54,4 @@ returns-clause-theirs g c =
     let gives = c.into_iter-place-iterator.ensures.into_iter_gives in
     let long = c.args.self.places.ok.0 in
     let t = YieldsList-end (YieldsList-from_vec {s = c.into_iter-place-iterator.result} xs (cc) (cc)) c.loop-place.yielded c.loop-place.place-iterator c.loop-place.yielded_by c.next.result c.next.new.self c.in-None.is c.next.ensures.steps in
-    subst (λ (ps : List (Place g.row.S.Denot)). AreTheirs ps c.loop-place.stores.items) t.1 c.loop-place.invariant.theirs
+    subst (λ (ps : List (Place g.row.S.Denot)). AreTheirs ps c.loop-place.stores.items) (yielded-all c.loop-place.yielded xs t.0) c.loop-place.invariant.theirs

@@ -24,7 +24,7 @@ returns-in_err-close_all_clients-clause-does g c =
     let e = c.in_err-close_all_clients.field-0.0 in
     let fails = c.in_err-close_all_clients.ensures in
     does-exit look device End ℕ _ c.from_residual.result e (λ x. closing_clients x ++ settling x) w u u first later c.from_residual.ensures.0 c.from_residual.ensures.1
-        (does-cut look device End ℕ ℕ closing_clients settling e w u u first later fails.does)
+    (does-cut look device End ℕ ℕ closing_clients settling e w u u first later fails.does)
 
 pub returns-clause-does : goal.returns-clause-does
 returns-clause-does g c =
@@ -34,4 +34,4 @@ returns-clause-does g c =
     let first = c.args.lines.now.items in
     let e = c.in_ok-close_all_clients.ensures in
     does-then look device End closing_clients settling c.in_ok-close_all_clients.field-0 c.settle_at.result w (standing_of c.close_all_clients.new.self) (standing_of c.settle_at.new.self)
-        first c.close_all_clients.new.lines.items c.settle_at.new.lines.items closing-quiet e.does c.settle_at.ensures.does
+    first c.close_all_clients.new.lines.items c.settle_at.new.lines.items closing-quiet e.does c.settle_at.ensures.does

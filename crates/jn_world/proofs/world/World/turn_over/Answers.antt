@@ -24,7 +24,7 @@ returns-in_err-crash_all-clause-does g c =
     let e = c.in_err-crash_all.field-0.0 in
     let fails = c.in_err-crash_all.ensures in
     does-exit look device End ℕ _ c.from_residual.result e (λ x. going_down x ++ coming_up x) w u u first later c.from_residual.ensures.0 c.from_residual.ensures.1
-        (does-cut look device End ℕ ℕ going_down coming_up e w u u first later fails.does)
+    (does-cut look device End ℕ ℕ going_down coming_up e w u u first later fails.does)
 
 pub returns-clause-does : goal.returns-clause-does
 returns-clause-does g c =
@@ -34,4 +34,4 @@ returns-clause-does g c =
     let first = c.args.lines.now.items in
     let e = c.in_ok-crash_all.ensures in
     does-then look device End going_down coming_up c.in_ok-crash_all.field-0 c.bring_all_up.result w (standing_of c.crash_all.new.self) (standing_of c.bring_all_up.new.self)
-        first c.crash_all.new.lines.items c.bring_all_up.new.lines.items going-quiet e.does c.bring_all_up.ensures.does
+    first c.crash_all.new.lines.items c.bring_all_up.new.lines.items going-quiet e.does c.bring_all_up.ensures.does
