@@ -17,3 +17,4 @@ pub mod Finishing
 pub mod Pushed
 pub mod RestartRefusals
 pub mod Resting
+pub mod PageRefusals

@@ -1,12 +1,8 @@
-use Rattle.std.proofs.Common.{◌≡◌, ℕ, ◌+◌, [], ◌∷◌, ◌++◌, List, length, Some, None, Ok, Err, refl, sym, ◌∙◌, ap, subst, arith}
+use Rattle.std.proofs.Common.{ℕ, Ok, refl, arith}
 use Rattle.jn_device.specs.Device.{DeviceState}
 use Rattle.jn_world.specs.Written.{standing_of}
-use Rattle.jn_rows.specs.Client.{Refuses, Sends}
-use Rattle.jn_rows.specs.Client.{ClientTable}
-use Rattle.jn_schedule.specs.declared.Event.TheVariants as events
-use Rattle.jn_report.specs.declared.line.When.TheVariants.{Event as AtEvent}
+use Rattle.jn_rows.specs.Client.{Sends}
 use Rattle.jn_world.proofs.ClientCalls.{commanded-does, refused-does, client-is}
-use Rattle.jn_world.proofs.ServerCalls.{event-without}
 use Rattle.std.specs.Vec.{with_item}
 use Rattle.jn_store.specs.Store.{StoreView}
 use Rattle.jn_base.specs.declared.names.Party.TheVariants.{Client}
