@@ -7,6 +7,7 @@ pub mod Sending
 pub mod Exits
 pub mod Turns
 pub mod Bringing
+pub mod Busy
 pub mod ClientCalls
 pub mod Refusing
 pub mod Scheduled

@@ -77,7 +77,7 @@ sent-for ms k one party at to = subst (λ (o : Option Posted). IsSentTo party o)
 pub to-it : (ms : List Posted) (k : ℕ) (one : Posted) (party : Party) → slice_get ms k ≡ Some one → one.to ≡ party → IsSentTo party (slice_get ms k)
 to-it ms k one party at to = subst (λ (o : Option Posted). IsSentTo party o) (sym at) to
 
-as-many : (k : ℕ) (ms : List Posted) → length (with_delivered k ms) ≡ length ms
+pub as-many : (k : ℕ) (ms : List Posted) → length (with_delivered k ms) ≡ length ms
 as-many k [] = refl
 as-many zero (m ∷ ms) = refl
 as-many (suc k) (m ∷ ms) = ap suc (as-many k ms)

@@ -4,7 +4,7 @@ ghost use Rattle.jn_place.specs.Exact.{items_of};
 ghost use Rattle.jn_schedule.specs.declared.Event.TheVariants as events;
 ghost use Rattle.jn_stands.specs.Showing.{text_shown, texts_shown};
 ghost use Rattle.jn_world.specs.Closing.{AreIdle};
-ghost use Rattle.jn_world.specs.Standing.{IsWorld, is_up_at};
+ghost use Rattle.jn_world.specs.Standing.{IsWorld, is_up_at, works_at};
 ghost use Rattle.jn_world.specs.Written.{DoesEvent, DoesTasks, standing_of};
 ghost use Rattle.jn_written.specs.Steps.{lines_at};
 ghost use Rattle.jn_written.specs.Tasks.{ClosesClients, Meets};
@@ -87,6 +87,7 @@ impl<S: Powered + Drop> World<S> {
     ) -> Result<(), Ended>
         requires world { IsWorld (λ s. S.view s) self.old }
         requires up { is_up_at server.0 self.old.places.items ≡ true }
+        requires work { works_at (λ s. S.view s) server.0 self.old.places.items ≡ true }
         ensures world { OnOk result (IsWorld (λ s. S.view s) self.new) }
         ensures does { DoesEvent (λ s. S.view s) (λ s. S.device s) (events.Step server) when (standing_of self.old) result (standing_of self.new) lines.old.items lines.new.items }
     {

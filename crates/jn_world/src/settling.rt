@@ -1,11 +1,11 @@
 //! A settle: until nothing is left to do.
-ghost use Rattle.std.specs.Prelude.{◌≡◌, ◌≤◌, ◌<◌, ◌+◌, ◌∷◌, [], true, vec_len, OnOk, IfSome};
-ghost use Rattle.jn_schedule.specs.declared.Event.TheVariants.{Again, Nudge};
-ghost use Rattle.jn_world.specs.Settling.{asking_clients, asking_servers};
-ghost use Rattle.jn_world.specs.Standing.{IsWorld, is_up_at, is_client};
+ghost use Rattle.std.specs.Prelude.{◌≡◌, ◌<◌, ◌∷◌, [], vec_len, OnOk};
+ghost use Rattle.jn_schedule.specs.declared.Event.TheVariants.{Nudge};
+ghost use Rattle.jn_world.specs.Settling.{TellsBusy, TellsFirst, asking_clients, asking_servers};
+ghost use Rattle.jn_world.specs.Standing.{IsWorld};
 ghost use Rattle.jn_world.specs.Written.{DoesEvent, DoesTasks, TakesTurn, standing_of};
 ghost use Rattle.jn_written.specs.Events.{asking, settling};
-ghost use Rattle.jn_written.specs.Tasks.{Acts, Rests};
+ghost use Rattle.jn_written.specs.Tasks.{Rests};
 
 use crate::ended::Ended;
 use crate::world::{CLIENTS, World};
@@ -61,15 +61,27 @@ impl<S: Powered + Drop> World<S> {
 
     /// The first server that is up and has something to do.
     fn first_busy(&self) -> Option<ServerNo>
-        requires few { vec_len self.now.places ≤ 8 }
-        ensures up { IfSome result (λ server. is_up_at server.0 self.now.places.items ≡ true) }
+        requires world { IsWorld (λ s. S.view s) self.now }
+        ensures first { TellsFirst (λ s. S.view s) (λ s. S.device s) self.now.places.items result }
     {
         for s in 0..self.servers() {
-            if self.is_up(ServerNo(s)) && self.places[usize::from(s)].has_work() {
+            if self.is_busy(ServerNo(s)) {
                 return Some(ServerNo(s));
             }
         }
         None
+    }
+
+    /// Whether it is up and has something to do.
+    fn is_busy(&self, server: ServerNo) -> bool
+        requires world { IsWorld (λ s. S.view s) self.now }
+        requires there { server.0 < vec_len self.now.places }
+        ensures busy { TellsBusy (λ s. S.view s) (λ s. S.device s) server self.now.places.items result }
+    {
+        if !self.is_up(server) {
+            return false;
+        }
+        self.places[usize::from(server.0)].has_work()
     }
 
     /// Each client, and then each server that is up, sends once more what waits for an answer.

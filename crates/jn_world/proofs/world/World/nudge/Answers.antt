@@ -1,6 +1,6 @@
 use Rattle.jn_device.specs.Device.{DeviceState}
 use Rattle.jn_world.specs.Written.{standing_of}
-use Rattle.jn_world.proofs.ServerCalls.{nudged-does}
+use Rattle.jn_world.proofs.Busy.{nudged-now}
 use Rattle.jn_store.specs.Store.{StoreView}
 use Rattle.jn_base.specs.declared.names.Party.TheVariants.{Server}
 use Rattle.jn_recovery.specs.Loading.{counts_by}
@@ -38,5 +38,5 @@ returns-clause-does g c =
     let i = c.from.result in
     let p = c.index.result.now in
     let out = c.in_ok-out.ensures in
-    nudged-does look device g.met.S.Powered.seen w q p (place-is c.args.self.now q i p c.from.ensures c.requires.up c.index.ensures) c.args.when c.end_step.result (standing_of c.end_step.new.self) c.args.lines.now.items c.end_step.new.lines.items
-    c.in_ok-out.out out.asks c.end_step.ensures.ends
+    nudged-now look device g.met.S.Powered.seen w q p (place-is c.args.self.now q i p c.from.ensures c.requires.up c.index.ensures) c.args.when c.end_step.result (standing_of c.end_step.new.self) c.args.lines.now.items c.end_step.new.lines.items
+    c.new-told.result.items c.new-told.ensures.items c.in_ok-out.out out.asks c.end_step.ensures.ends
