@@ -189,11 +189,11 @@ module _ {S : Type 0} (look : S → StoreView) (device : S → DeviceState) (see
 
   timed-slot : (g : Counts) (T : Tid) (slot slot' : Slot S) (memory : Option ServerMemory) (found : Pick → StableState) (d : DeviceState) → TimedOut look T slot false slot' → StandsAt look device g slot memory found d → StandsAt look device g slot' memory found d
   timed-slot g T (Up p) (Up p') memory found d t h = (
-      h.0 ∙ ap (λ (k : ServerMemory). Some k) (sym (t.memory ∙ timed-same (memory_of (view_with look p)) T t.live)),
-      h.1 ∙ sym (found-is p p' t),
-      h.2 ∙ ap (λ (z : S × Kept). device z.0) (sym t.storage),
-      subst (λ (f : Pick → StableState). IsUp f) (sym (found-is p p' t)) h.3,
-    )
+    h.0 ∙ ap (λ (k : ServerMemory). Some k) (sym (t.memory ∙ timed-same (memory_of (view_with look p)) T t.live)),
+    h.1 ∙ sym (found-is p p' t),
+    h.2 ∙ ap (λ (z : S × Kept). device z.0) (sym t.storage),
+    subst (λ (f : Pick → StableState). IsUp f) (sym (found-is p p' t)) h.3,
+  )
     where
       found-is : (a b : Parts S) → IsTimedOut look T a false b → (view_with look b).storage.found ≡ (view_with look a).storage.found
       found-is a b e = ap (λ (z : S × Kept). (view_of z.1 (look z.0)).found) e.storage
@@ -219,19 +219,19 @@ module _ {S : Type 0} (look : S → StoreView) (device : S → DeviceState) (see
     -- nothing changes where there is no such work
     timed-stands : TimedOut look T place.slot false new.slot → (x : Setup) (m : Moment) → Stands look device x w m → Stands look device x (record w { places = set w.places i new }) m
     timed-stands timed x m stands = subst (λ (n : ℕ). Stands look device x (record w { places = set w.places n new }) m) (sym index) (record {
-        servers = length-set w.places q.0 new ∙ stands.servers;
-        trace = stands.trace;
-        places = each-set (λ (n : ℕ) (p : Place S). PlaceStands look device x m n p) w.places q.0 new here (λ n p other e. stands.places n p e);
-        eight = stands.eight;
-        clients = stands.clients;
-        other_clients = stands.other_clients;
-        net = stands.net;
-        named = stands.named;
-        commits = stands.commits;
-        history = stands.history;
-        within = stands.within;
-        found = stands.found;
-      })
+      servers = length-set w.places q.0 new ∙ stands.servers;
+      trace = stands.trace;
+      places = each-set (λ (n : ℕ) (p : Place S). PlaceStands look device x m n p) w.places q.0 new here (λ n p other e. stands.places n p e);
+      eight = stands.eight;
+      clients = stands.clients;
+      other_clients = stands.other_clients;
+      net = stands.net;
+      named = stands.named;
+      commits = stands.commits;
+      history = stands.history;
+      within = stands.within;
+      found = stands.found;
+    })
       where
         here : PlaceStands look device x m q.0 new
         here =

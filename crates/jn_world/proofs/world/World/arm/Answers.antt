@@ -56,9 +56,9 @@ returns-then-not-is_within-clause-does g c =
     let is = sym c.is_within.ensures ∙ c.if-not-is_within.true in
     let may = fault-as look device (standing_of w) server p at c.args.n c.args.kind false (ap (λ (k : ℕ). is_within k c.args.kind) (sym c.pages.ensures) ∙ is) in
     subst (λ (ps : List (Place g.row.S.Denot)). DoesTasks look device (λ x. Meets (events.Arm server c.args.n c.args.kind) ∷ []) c.args.when (standing_of w) c.refuse.result (record (standing_of w) { places = ps }) c.args.lines.now.items c.refuse.new.lines.items)
-        (written-again w.places.items i p c.index_mut-place.ensures.value)
-        (meets-refused look device c.args.when (events.Arm server c.args.n c.args.kind) refusals.NoSuchPage c.refuse.result (standing_of w) c.args.lines.now.items c.refuse.new.lines.items may
-        (let has = c.requires.world in has.limit) c.refuse.ensures.told c.refuse.ensures.memory)
+    (written-again w.places.items i p c.index_mut-place.ensures.value)
+    (meets-refused look device c.args.when (events.Arm server c.args.n c.args.kind) refusals.NoSuchPage c.refuse.result (standing_of w) c.args.lines.now.items c.refuse.new.lines.items may
+    (let has = c.requires.world in has.limit) c.refuse.ensures.told c.refuse.ensures.memory)
 
 pub returns-then-not-arm-clause-world : goal.returns-then-not-arm-clause-world
 returns-then-not-arm-clause-world g c =
@@ -90,9 +90,9 @@ returns-then-not-arm-clause-does g c =
     let is = sym c.is_within.ensures ∙ c.if-not-is_within.false in
     let may = fault-as look device (standing_of w) server p at c.args.n c.args.kind true (ap (λ (k : ℕ). is_within k c.args.kind) (sym c.pages.ensures) ∙ is) in
     meets-done look device c.args.when (events.Arm server c.args.n c.args.kind) c.refuse-then-not-arm.result (standing_of w) u first c.refuse-then-not-arm.new.lines.items refl may
-        (armed-does look device g.met.S.Powered.seen (standing_of w) server p q i c.from.ensures c.arm.ensures.counts c.args.when c.refuse-then-not-arm.result u
-        first c.refuse-then-not-arm.new.lines.items at (has-counts look server (length w.net.sent) p q c.arm.ensures.counts (c.arm.ensures.place server (length w.net.sent) place))
-        c.args.n c.args.kind c.arm.result c.arm.ensures.befell (subst (λ (b : Bool). EndsStep c.refuse-then-not-arm.result u u first (first ++ lines_at c.args.when (told_unless b (says.RefusedEvent refusals.TooManyArmed))) c.refuse-then-not-arm.new.lines.items) (sym c.if-not-arm.true) (ends-refused c.refuse-then-not-arm.result u first (first ++ lines_at c.args.when (told_unless false (says.RefusedEvent refusals.TooManyArmed))) c.refuse-then-not-arm.new.lines.items c.refuse-then-not-arm.ensures.told c.refuse-then-not-arm.ensures.memory (let has = c.requires.world in has.limit))))
+    (armed-does look device g.met.S.Powered.seen (standing_of w) server p q i c.from.ensures c.arm.ensures.counts c.args.when c.refuse-then-not-arm.result u
+    first c.refuse-then-not-arm.new.lines.items at (has-counts look server (length w.net.sent) p q c.arm.ensures.counts (c.arm.ensures.place server (length w.net.sent) place))
+    c.args.n c.args.kind c.arm.result c.arm.ensures.befell (subst (λ (b : Bool). EndsStep c.refuse-then-not-arm.result u u first (first ++ lines_at c.args.when (told_unless b (says.RefusedEvent refusals.TooManyArmed))) c.refuse-then-not-arm.new.lines.items) (sym c.if-not-arm.true) (ends-refused c.refuse-then-not-arm.result u first (first ++ lines_at c.args.when (told_unless false (says.RefusedEvent refusals.TooManyArmed))) c.refuse-then-not-arm.new.lines.items c.refuse-then-not-arm.ensures.told c.refuse-then-not-arm.ensures.memory (let has = c.requires.world in has.limit))))
 
 pub returns-clause-world : goal.returns-clause-world
 returns-clause-world g c =
@@ -123,6 +123,6 @@ returns-clause-does g c =
     let is = sym c.is_within.ensures ∙ c.if-not-is_within.false in
     let may = fault-as look device (standing_of w) server p at c.args.n c.args.kind true (ap (λ (k : ℕ). is_within k c.args.kind) (sym c.pages.ensures) ∙ is) in
     meets-done look device c.args.when (events.Arm server c.args.n c.args.kind) {A = ℕ} (Ok 0) (standing_of w) u first first refl may
-        (armed-does look device g.met.S.Powered.seen (standing_of w) server p q i c.from.ensures c.arm.ensures.counts {A = ℕ} c.args.when (Ok 0) u
-        first first at (has-counts look server (length w.net.sent) p q c.arm.ensures.counts (c.arm.ensures.place server (length w.net.sent) place))
-        c.args.n c.args.kind c.arm.result c.arm.ensures.befell (refl, sym (append-nil first) ∙ ap (λ (b : Bool). first ++ lines_at c.args.when (told_unless b (says.RefusedEvent refusals.TooManyArmed))) (sym c.if-not-arm.false), (let has = c.requires.world in has.limit)))
+    (armed-does look device g.met.S.Powered.seen (standing_of w) server p q i c.from.ensures c.arm.ensures.counts {A = ℕ} c.args.when (Ok 0) u
+    first first at (has-counts look server (length w.net.sent) p q c.arm.ensures.counts (c.arm.ensures.place server (length w.net.sent) place))
+    c.args.n c.args.kind c.arm.result c.arm.ensures.befell (refl, sym (append-nil first) ∙ ap (λ (b : Bool). first ++ lines_at c.args.when (told_unless b (says.RefusedEvent refusals.TooManyArmed))) (sym c.if-not-arm.false), (let has = c.requires.world in has.limit)))

@@ -15,4 +15,4 @@ returns-then-not-has-clause-does g c =
     let q = c.args.server in
     let none = lt-none q.0 c.args.self.now.places (sym c.has.ensures ∙ c.if-not-has.true) in
     meets-refused look device c.args.when c.args.event.now NoSuchServer c.refuse.result w c.args.lines.now.items c.refuse.new.lines.items
-        (befalls-nothing look device w q c.args.event.now c.requires.its none) (let has = c.requires.world in has.limit) c.refuse.ensures.told c.refuse.ensures.memory
+    (befalls-nothing look device w q c.args.event.now c.requires.its none) (let has = c.requires.world in has.limit) c.refuse.ensures.told c.refuse.ensures.memory

@@ -49,9 +49,9 @@ returns-then-p-pages-clause-does g c =
     let is : nat_lt c.args.p (page_count (counts_by p.counts) + page_count (counts_by p.counts)) ≡ false = grind (arith, nat_tests) in
     let may = page-as look device (standing_of w) server p at c.args.p false is in
     subst (λ (ps : List (Place g.row.S.Denot)). DoesTasks look device (λ x. Meets (events.Decay server c.args.p) ∷ []) c.args.when (standing_of w) c.refuse.result (record (standing_of w) { places = ps }) c.args.lines.now.items c.refuse.new.lines.items)
-        (written-again w.places.items i p c.index_mut-place.ensures.value)
-        (meets-refused look device c.args.when (events.Decay server c.args.p) refusals.NoSuchPage c.refuse.result (standing_of w) c.args.lines.now.items c.refuse.new.lines.items may
-        (let has = c.requires.world in has.limit) c.refuse.ensures.told c.refuse.ensures.memory)
+    (written-again w.places.items i p c.index_mut-place.ensures.value)
+    (meets-refused look device c.args.when (events.Decay server c.args.p) refusals.NoSuchPage c.refuse.result (standing_of w) c.args.lines.now.items c.refuse.new.lines.items may
+    (let has = c.requires.world in has.limit) c.refuse.ensures.told c.refuse.ensures.memory)
 
 pub returns-in_ok-tell-clause-world : goal.returns-in_ok-tell-clause-world
 returns-in_ok-tell-clause-world g c =
@@ -84,9 +84,9 @@ returns-in_ok-tell-clause-does g c =
     let is : nat_lt c.args.p (page_count (counts_by p.counts) + page_count (counts_by p.counts)) ≡ true = grind (arith, nat_tests) in
     let may = page-as look device (standing_of w) server p at c.args.p true is in
     meets-done look device c.args.when (events.Decay server c.args.p) {A = ℕ} (Ok 0) (standing_of w) u first c.tell.new.lines.items refl may
-        (decayed-does look device g.met.S.Powered.seen (standing_of w) server p q i c.from.ensures c.decay.ensures.counts {A = ℕ} c.args.when (Ok 0) u
-        first c.tell.new.lines.items at (has-counts look server (length w.net.sent) p q c.decay.ensures.counts (c.decay.ensures.place server (length w.net.sent) place))
-        c.args.p c.decay.result c.decay.ensures.befell (refl, c.in_ok-tell.ensures ∙ ap (λ (b : Bool). first ++ lines_at c.args.when (told_unless b (says.Outside server (record { kind = faults.Decay c.args.p; page = c.args.p })))) (sym c.if-not-decay.true), (let has = c.requires.world in has.limit)))
+    (decayed-does look device g.met.S.Powered.seen (standing_of w) server p q i c.from.ensures c.decay.ensures.counts {A = ℕ} c.args.when (Ok 0) u
+    first c.tell.new.lines.items at (has-counts look server (length w.net.sent) p q c.decay.ensures.counts (c.decay.ensures.place server (length w.net.sent) place))
+    c.args.p c.decay.result c.decay.ensures.befell (refl, c.in_ok-tell.ensures ∙ ap (λ (b : Bool). first ++ lines_at c.args.when (told_unless b (says.Outside server (record { kind = faults.Decay c.args.p; page = c.args.p })))) (sym c.if-not-decay.true), (let has = c.requires.world in has.limit)))
 
 pub returns-else-not-decay-clause-world : goal.returns-else-not-decay-clause-world
 returns-else-not-decay-clause-world g c =
@@ -119,6 +119,6 @@ returns-else-not-decay-clause-does g c =
     let is : nat_lt c.args.p (page_count (counts_by p.counts) + page_count (counts_by p.counts)) ≡ true = grind (arith, nat_tests) in
     let may = page-as look device (standing_of w) server p at c.args.p true is in
     meets-done look device c.args.when (events.Decay server c.args.p) {A = ℕ} (Ok 0) (standing_of w) u first first refl may
-        (decayed-does look device g.met.S.Powered.seen (standing_of w) server p q i c.from.ensures c.decay.ensures.counts {A = ℕ} c.args.when (Ok 0) u
-        first first at (has-counts look server (length w.net.sent) p q c.decay.ensures.counts (c.decay.ensures.place server (length w.net.sent) place))
-        c.args.p c.decay.result c.decay.ensures.befell (refl, sym (append-nil first) ∙ ap (λ (b : Bool). first ++ lines_at c.args.when (told_unless b (says.Outside server (record { kind = faults.Decay c.args.p; page = c.args.p })))) (sym c.if-not-decay.false), (let has = c.requires.world in has.limit)))
+    (decayed-does look device g.met.S.Powered.seen (standing_of w) server p q i c.from.ensures c.decay.ensures.counts {A = ℕ} c.args.when (Ok 0) u
+    first first at (has-counts look server (length w.net.sent) p q c.decay.ensures.counts (c.decay.ensures.place server (length w.net.sent) place))
+    c.args.p c.decay.result c.decay.ensures.befell (refl, sym (append-nil first) ∙ ap (λ (b : Bool). first ++ lines_at c.args.when (told_unless b (says.Outside server (record { kind = faults.Decay c.args.p; page = c.args.p })))) (sym c.if-not-decay.false), (let has = c.requires.world in has.limit)))

@@ -45,9 +45,9 @@ returns-then-p-pages-clause-does g c =
     let is : nat_lt c.args.p (page_count (counts_by p.counts) + page_count (counts_by p.counts)) ≡ false = grind (arith, nat_tests) in
     let may = page-as look device (standing_of w) server p at c.args.p false is in
     subst (λ (ps : List (Place g.row.S.Denot)). DoesTasks look device (λ x. Meets (events.Revive server c.args.p) ∷ []) c.args.when (standing_of w) c.refuse.result (record (standing_of w) { places = ps }) c.args.lines.now.items c.refuse.new.lines.items)
-        (written-again w.places.items i p c.index_mut-place.ensures.value)
-        (meets-refused look device c.args.when (events.Revive server c.args.p) refusals.NoSuchPage c.refuse.result (standing_of w) c.args.lines.now.items c.refuse.new.lines.items may
-        (let has = c.requires.world in has.limit) c.refuse.ensures.told c.refuse.ensures.memory)
+    (written-again w.places.items i p c.index_mut-place.ensures.value)
+    (meets-refused look device c.args.when (events.Revive server c.args.p) refusals.NoSuchPage c.refuse.result (standing_of w) c.args.lines.now.items c.refuse.new.lines.items may
+    (let has = c.requires.world in has.limit) c.refuse.ensures.told c.refuse.ensures.memory)
 
 pub returns-clause-world : goal.returns-clause-world
 returns-clause-world g c =
@@ -80,6 +80,6 @@ returns-clause-does g c =
     let is : nat_lt c.args.p (page_count (counts_by p.counts) + page_count (counts_by p.counts)) ≡ true = grind (arith, nat_tests) in
     let may = page-as look device (standing_of w) server p at c.args.p true is in
     meets-done look device c.args.when (events.Revive server c.args.p) {A = ℕ} (Ok 0) (standing_of w) u first first refl may
-        (revived-does look device g.met.S.Powered.seen (standing_of w) server p q i c.from.ensures c.revive.ensures.counts {A = ℕ} c.args.when (Ok 0) u
-        first first at (has-counts look server (length w.net.sent) p q c.revive.ensures.counts (c.revive.ensures.place server (length w.net.sent) place))
-        c.args.p c.revive.ensures.befell (refl, refl, (let has = c.requires.world in has.limit)))
+    (revived-does look device g.met.S.Powered.seen (standing_of w) server p q i c.from.ensures c.revive.ensures.counts {A = ℕ} c.args.when (Ok 0) u
+    first first at (has-counts look server (length w.net.sent) p q c.revive.ensures.counts (c.revive.ensures.place server (length w.net.sent) place))
+    c.args.p c.revive.ensures.befell (refl, refl, (let has = c.requires.world in has.limit)))
