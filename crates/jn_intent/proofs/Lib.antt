@@ -19,5 +19,4 @@ pub mod StoringPages
 pub mod ReadyPool
 pub mod ReadyStates
 pub mod Readying
-pub mod Rubbish
 mod HeldPages

@@ -1,5 +1,3 @@
-pub mod New
 pub mod Outcomes
-pub mod Told
-pub mod Lines
+pub mod Telling
 pub mod Stores

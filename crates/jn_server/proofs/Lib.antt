@@ -7,4 +7,3 @@ mod Serving
 mod Listed
 mod Pieces
 mod Shows
-mod Room

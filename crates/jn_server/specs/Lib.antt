@@ -1,5 +1,4 @@
 pub mod Seen
-pub mod Standing
 pub mod Ranges
 pub mod Handling
 pub mod Faults

@@ -2,7 +2,6 @@ pub mod Reports
 pub mod Computed
 pub mod Telling
 pub mod Ordered
-pub mod Counted
 pub mod Texts
 pub mod Quiet
 pub mod Resting

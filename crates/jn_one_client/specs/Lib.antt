@@ -1,0 +1,17 @@
+pub mod Pages
+pub mod Report
+pub mod Ending
+pub mod StorePages
+pub mod Heads
+pub mod Disk
+pub mod Printed
+pub mod Names
+pub mod Moves
+pub mod Runnable
+pub mod Room
+pub mod Sound
+pub mod World
+pub mod Running
+pub mod Client
+pub mod Within
+pub mod Seen

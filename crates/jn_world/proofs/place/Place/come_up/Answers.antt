@@ -1,0 +1,33 @@
+use Rattle.jn_recovery.specs.Loading.{counts_by}
+use Rattle.jn_store.specs.Store.{StoreView}
+use Rattle.jn_world.proofs.Steps.{stands-down, came-there, came-stands, stands-as}
+use Rattle.jn_world.proofs.place.Place.come_up.Goals as goal
+
+pub restart-requires : goal.restart-requires
+restart-requires g c =
+    let look : g.row.S.Denot → StoreView = λ s. g.S.StableStore.view s in
+    let p = c.args.self.now in
+    record { down = (c.args.server, stands-down look c.args.server (counts_by p.counts) 1000000 p.slot c.requires.place.stands c.requires.down) }
+
+pub tell_outside-requires : goal.tell_outside-requires
+tell_outside-requires g c =
+    let look : g.row.S.Denot → StoreView = λ s. g.S.StableStore.view s in
+    let p = c.args.self.now in
+    let call = c.in_ok-restarted.ensures in
+    record {
+      there = came-there look c.args.server (counts_by p.counts) c.restart.new.self.slot c.in_ok-restarted.restarted
+          (call.came c.args.server (stands-down look c.args.server (counts_by p.counts) 1000000 p.slot c.requires.place.stands c.requires.down));
+    }
+
+pub returns : goal.returns
+returns g c =
+    let look : g.row.S.Denot → StoreView = λ s. g.S.StableStore.view s in
+    let p = c.args.self.now in
+    let q = c.restart.new.self in
+    let call = c.in_ok-restarted.ensures in
+    let told = c.in_ok-tell_outside.ensures in
+    record {
+      place = λ most h. told.place most (stands-as look c.args.server most p.counts q.counts q.slot call.counts
+          (came-stands look c.args.server (counts_by p.counts) most q.slot c.in_ok-restarted.restarted
+          (call.came c.args.server (stands-down look c.args.server (counts_by p.counts) 1000000 p.slot c.requires.place.stands c.requires.down))));
+    }

@@ -1,0 +1,15 @@
+use Rattle.std.proofs.Common.{ap}
+use Rattle.jn_device.specs.Device.{DeviceState}
+use Rattle.jn_store.specs.Store.{StoreView}
+use Rattle.jn_world.proofs.Devices.{told-still, befallen-down}
+use Rattle.jn_world.proofs.place.Place.disarm.Goals as goal
+
+pub returns-in-Down : goal.returns-in-Down
+returns-in-Down g c =
+    let look : g.row.S.Denot → StoreView = λ s. g.S.StableStore.view s in
+    let device : g.row.S.Denot → DeviceState = λ s. g.S.Powered.device s in
+    let t = c.disarm-in-Down.new.self in
+    record {
+      place = λ server most h. befallen-down look server most c.args.self.now c.in-Down.store t c.in-Down.is c.disarm-in-Down.ensures.pages
+          (told-still look device c.in-Down.store t (g.met.S.Powered.seen c.in-Down.store) (g.met.S.Powered.seen t) (ap (λ (d : DeviceState). d.told) c.disarm-in-Down.ensures.disarmed)) h;
+    }
