@@ -10,7 +10,7 @@ use Rattle.jn_base.specs.declared.names.ServerNo.{ServerNo}
 use Rattle.jn_device.specs.Later.{count_kind, count_told}
 use Rattle.jn_order.specs.Files.{there}
 use Rattle.jn_device.specs.Device.{DeviceState, blank_page}
-use Rattle.jn_disks.specs.Disks.{IsNewStore, no_files}
+use Rattle.jn_disks.specs.Disks.{IsNewStore, new_page, no_files}
 use Rattle.jn_found.specs.Images.{CountsFit, IsFresh}
 use Rattle.jn_found.proofs.ImageStates.{image_fresh}
 use Rattle.jn_memdisk.specs.Disk.{IsNew, IsBlank as IsBlankDisk}
@@ -146,8 +146,24 @@ module _ (server : ServerNo) (g : Counts) (epoch : ℕ) (epoch_fits : epoch < 2 
     found = subst (λ f. IsFresh server g epoch f w) files_none
         (image_fresh server image w sound fit (record { count = sym (put.later.count ∙ blank.count_is); pages = only }) epoch epoch_fits refl)
 
+    count : w.count ≡ page_count g
+    count = put.later.count ∙ blank.count_is
+
+    behind_root : (i : ℕ) → i < page_count g → bytes i ≡ new_page root i
+    behind_root i lt = ap (λ b. if b then root_page root else blank_page) (same i lt)
+      where
+        same : (i : ℕ) → i < page_count g → is_root i ≡ nat_eq i 0
+        same i lt = grind (arith, lt)
+
+    new_pages : (i : ℕ) → i < w.count → IsOnly w i (new_page root i)
+    new_pages i lt =
+        let at : i < page_count g = subst (λ n. i < n) count lt in
+        subst (λ page. IsOnly w i page) (behind_root i at) (only i at)
+
     pub new_is : IsNewStore root w
     new_is = record {
+      count = count;
+      pages = new_pages;
       fresh = found;
       untouched = record {
         calm = put.later.calm blank.calm;

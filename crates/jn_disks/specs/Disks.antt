@@ -1,6 +1,7 @@
 -- A server's store in memory: how it starts, and what its pages are in the end.
-use Rattle.std.specs.Prelude.{◌≡◌, ◌<◌, ◌*◌, ◌^◌, ℕ, List, [], length, None}
+use Rattle.std.specs.Prelude.{◌≡◌, ◌<◌, ◌*◌, ◌^◌, ℕ, nat_eq, if◌then◌else◌, List, [], length, None}
 use Rattle.jn_base.specs.declared.names.ServerNo.{ServerNo}
+use Rattle.jn_device.specs.Device.{blank_page}
 use Rattle.jn_device.specs.declared.Half.{Half}
 use Rattle.jn_memdisk.specs.Pages.{half_at}
 use Rattle.jn_order.specs.Files.{Files}
@@ -8,7 +9,7 @@ use Rattle.jn_records.specs.declared.root.Root.{Root}
 use Rattle.jn_records.specs.Pages.{root_page}
 use Rattle.jn_records.specs.Sound.{Image, IsSound, root_of}
 use Rattle.jn_records.specs.StablePages.{Counts, page_count, files_of_pages}
-use Rattle.jn_store.specs.Store.{StoreView, IsCalm, IsWhole}
+use Rattle.jn_store.specs.Store.{StoreView, IsCalm, IsWhole, IsOnly}
 use Rattle.jn_found.specs.Images.{CountsFit, IsFresh}
 
 -- no fault waits, none was told, and both halves of each page are good and equal
@@ -25,8 +26,14 @@ counts_of r = record { pool = r.pool; heads = r.heads; leaves = r.leaves }
 abbrev pub no_files : Files
 no_files u = None
 
--- zeros behind the root: nothing is found but its epoch
+-- zeros behind the root
+abbrev pub new_page : Root → ℕ → List ℕ
+new_page root i = if nat_eq i 0 then root_page root else blank_page
+
+-- both halves of each page are so, good, and nothing is found but the root's epoch
 pub record IsNewStore (root : Root) (v : StoreView) : Type 0 where
+  pub count : v.count ≡ page_count (counts_of root)
+  pub pages : (i : ℕ) → i < v.count → IsOnly v i (new_page root i)
   pub fresh : IsFresh root.server (counts_of root) root.epoch no_files v
   pub untouched : IsUntouched v
 

@@ -19,4 +19,5 @@ pub mod StoringPages
 pub mod ReadyPool
 pub mod ReadyStates
 pub mod Readying
+pub mod Rubbish
 mod HeldPages

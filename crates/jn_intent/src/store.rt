@@ -1,8 +1,9 @@
 //! The store below a storage.
-ghost use Rattle.std.specs.Prelude.{◌≡◌, ◌≤◌, ◌<◌, ◌+◌, ◌-◌, ◌*◌, [], true, is_ok, OnErr, OnOk};
+ghost use Rattle.std.specs.Prelude.{◌≡◌, ◌≤◌, ◌<◌, ◌+◌, ◌-◌, ◌*◌, [], true, length, nat_lt, is_ok, OnErr, OnOk};
 ghost use Rattle.jn_device.specs.Events.{Decays, Revives, Arms, is_within, disarmed, cleared};
 ghost use Rattle.jn_found.specs.Puts.{IsFewer};
 ghost use Rattle.jn_found.specs.Recoverable.{IsRecoverable};
+ghost use Rattle.jn_recovery.specs.Matches.{IsKept};
 ghost use Rattle.jn_storage.specs.Storage.{IsServing};
 ghost use Rattle.jn_store.specs.Store.{IsCalm, IsStop, StoreLater};
 ghost use Rattle.jn_intent.specs.Events.{Befalls};
@@ -20,6 +21,20 @@ impl<S: StableStore> Intents<S> {
         ensures { result ≡ (⟦<Intents<S> as Storage>⟧.view self.now).accounts.server }
     {
         self.server
+    }
+
+    /// Whether a record is rubbish: an intention that no prepared work has. It makes no device call.
+    pub fn has_rubbish(&self) -> bool
+        ensures { result ≡ nat_lt 0 (length (⟦<Intents<S> as Storage>⟧.view self.now).accounts.rubbish) }
+    {
+        self.sets.has_rubbish()
+    }
+
+    /// For proofs alone: while the store has power, what is kept in memory is what stands on the pages.
+    pub fn is_kept(&self)
+        ensures { IsKept self.now.1 (S.view self.now.0) }
+    {
+        let _sets = &self.sets;
     }
 
     /// The store, which alone outlives a stop. A recovery may begin from it, whatever call was stopped.

@@ -1,5 +1,7 @@
 -- A store is cleaned and read.
-use Rattle.std.proofs.Common.{◌≡◌, ◌≢◌, ◌<◌, ◌≤◌, ◌+◌, ◌*◌, ℕ, false, List, length, Result, Ok, Err, refl, sym, ◌∙◌, ap, subst, arith}
+use Rattle.std.proofs.Common.{◌≡◌, ◌≢◌, ◌<◌, ◌≤◌, ◌+◌, ◌*◌, ℕ, Bool, true, false, if◌then◌else◌, List, [], length, Result, Ok, Err, refl, sym, ◌∙◌, ap, subst, true≢false, arith}
+use Rattle.std.proofs.lemmas.Bool.Decides.{nat_tests}
+use Rattle.std.specs.Prelude.{nat_lt}
 use Rattle.jn_base.specs.declared.names.ServerNo.{ServerNo}
 use Rattle.jn_files.specs.declared.fault.LoadFault.{LoadFault as TableFault}
 use Rattle.jn_files.specs.declared.fault.LoadFault.TheVariants.{Stopped as TableStopped, Memory as TableMemory}
@@ -10,7 +12,7 @@ use Rattle.jn_files.proofs.Putting.{same_only}
 use Rattle.jn_records.specs.Pages.{root_page, IsRoot}
 use Rattle.jn_sets.specs.Pool.{IsReadable, Holds}
 use Rattle.jn_sets.specs.Sets.{StoreRead as SetsRead}
-use Rattle.jn_found.specs.Pages.{found_on, root_by, heads_on, pages_by}
+use Rattle.jn_found.specs.Pages.{found_on, root_by, epoch_by, heads_on, half_of, pages_by}
 use Rattle.jn_found.specs.Puts.{IsFewer}
 use Rattle.jn_found.specs.Recoverable.{IsRecoverable}
 use Rattle.jn_found.specs.Standing.{IsStanding}
@@ -20,6 +22,7 @@ use Rattle.jn_records.specs.declared.head.Head.{Head}
 use Rattle.jn_records.specs.declared.record.Record.{Record}
 use Rattle.jn_records.specs.declared.root.Root.{Root}
 use Rattle.jn_records.specs.StablePages.{Counts, page_count}
+use Rattle.jn_records.proofs.Roots.{root_is_read}
 use Rattle.jn_rows.specs.Stable.{StableState, Pick}
 use Rattle.jn_sets.specs.declared.fault.LoadFault.{LoadFault as SetsFault}
 use Rattle.jn_sets.specs.declared.fault.LoadFault.TheVariants.{Stopped as SetsStopped, Memory as SetsMemory}
@@ -68,6 +71,20 @@ module _ (server : ServerNo) (g : Counts) (v : StoreView) where
     not_used_up : root_epoch server g u before.recoverable before.clean < 4294967295 → IsNotUsedUp g v
     not_used_up lt = record { read = root_pick.0; before_last = subst (λ n. n < 4294967295) (sym root_pick.1) lt }
 
+    -- and each pick reads it once pages are clean
+    root_by_each : (w : StoreView) → StoreLater u w → ((j : ℕ) → IsSamePage u w j) → (c : Pick) → (found_on g w c).epoch ≡ root_epoch server g u before.recoverable before.clean
+    root_by_each w later same c = ap epoch_by (root_is_read (pages_by w c 0) (root_by server g (root_epoch server g u before.recoverable before.clean)) (root_is server g u before.recoverable before.clean) (ap (λ b. if b then half_of w 0 c else []) inside ∙ half (c 0)))
+      where
+        only : IsOnly w 0 (root_page (root_by server g (root_epoch server g u before.recoverable before.clean)))
+        only = same_only u w 0 _ (same 0) (root_only server g u before.recoverable before.clean)
+
+        inside : nat_lt 0 w.count ≡ true
+        inside = let a = later.count in let b = before.recoverable.count in grind (arith, nat_tests, a, b)
+
+        half : (b : Bool) → (if b then w.second 0 else w.first 0) ≡ root_page (root_by server g (root_epoch server g u before.recoverable before.clean))
+        half true = only.second
+        half false = only.first
+
     module _ (k : ℕ) (w : StoreView) (later : StoreLater u w) (calls : w.calls ≤ u.calls + k) (same : (j : ℕ) → IsSamePage u w j) (few : most + k ≤ most_calls g) (first : IsRecoverable server g v) where
       recovering : Recovering server g v w
       recovering = let now = reads_more k w later calls same in recovering_fewer server g v w first now.fewer now.later (let c = now.calls in omega (arith, c, few))
@@ -75,10 +92,10 @@ module _ (server : ServerNo) (g : Counts) (v : StoreView) where
       stop_down : IsStop u w → (IsCalm u → ⊥) → IsDown server g v Stopped w
       stop_down stop calm = stopped_down server g v w recovering (stop_since v u w before.later later stop) (λ quiet. calm (before.later.calm quiet))
 
-      root_down : (cause : DownCause) → RootRead (root_by server g (root_epoch server g u before.recoverable before.clean)) (Err cause) → (cause ≡ Stopped → IsStop u w) → (IsCalm u → cause ≡ Stopped → ⊥) → IsDown server g v cause w
-      root_down Stopped read stop calm = stop_down (stop refl) (λ quiet. calm quiet refl)
-      root_down Memory read stop calm = absurd read
-      root_down EpochsUsedUp read stop calm = used_down server g v w recovering (record { read = root_pick.0; last = root_pick.1 ∙ read; fewer = (reads_more k w later calls same).fewer })
+      root_down : (cause : DownCause) → RootRead (root_by server g (root_epoch server g u before.recoverable before.clean)) (Err cause) → (cause ≡ Stopped → IsStop u w) → (IsCalm u → cause ≡ Stopped → ⊥) → (cause ≡ EpochsUsedUp → w.power ≡ true) → IsDown server g v cause w
+      root_down Stopped read stop calm served = stop_down (stop refl) (λ quiet. calm quiet refl)
+      root_down Memory read stop calm served = absurd read
+      root_down EpochsUsedUp read stop calm served = used_down server g v w recovering (record { read = root_pick.0; last = root_pick.1 ∙ read; fewer = (reads_more k w later calls same).fewer; all = λ c. root_by_each w later same c ∙ read; power = served refl })
 
       sets_down : IsNotUsedUp g v → (fault : SetsFault) → (fault ≡ SetsStopped → IsStop u w) → (IsCalm u → fault ≡ SetsStopped → ⊥) → IsDown server g v (of_sets fault) w
       sets_down left SetsStopped stop calm = stop_down (stop refl) (λ quiet. calm quiet refl)
@@ -122,9 +139,13 @@ module _ (server : ServerNo) (g : Counts) (v : StoreView) (before : IsRecoverabl
   root_read : RootRead (root_by server g its_epoch) r
   root_read = root (root_by server g its_epoch) (root_is server g u cleaned.recoverable cleaned.clean) (root_only server g u cleaned.recoverable cleaned.clean)
 
-  pub root_exit : (cause : DownCause) → r ≡ Err cause → (r ≡ Err Stopped → IsStop u x) → (IsCalm u → r ≢ Err Stopped) → IsDown server g v cause x
-  root_exit cause is stop calm = root_down server g v (16 * page_count g) u cleaned (8 * 1) x read.later read.calls read.same (omega arith) before cause (subst (RootRead (root_by server g its_epoch)) is root_read)
-      (λ e. stop (is ∙ ap (λ (k : DownCause). Err k) e)) (λ quiet e. calm quiet (is ∙ ap (λ (k : DownCause). Err k) e))
+  abbrev is_last : Result Root DownCause → Bool
+  is_last (Err EpochsUsedUp) = true
+  is_last _ = false
+
+  pub root_exit : (cause : DownCause) → r ≡ Err cause → (r ≡ Err Stopped → IsStop u x) → (IsCalm u → r ≢ Err Stopped) → (r ≢ Err Stopped → IsServed u x) → IsDown server g v cause x
+  root_exit cause is stop calm served = root_down server g v (16 * page_count g) u cleaned (8 * 1) x read.later read.calls read.same (omega arith) before cause (subst (RootRead (root_by server g its_epoch)) is root_read)
+      (λ e. stop (is ∙ ap (λ (k : DownCause). Err k) e)) (λ quiet e. calm quiet (is ∙ ap (λ (k : DownCause). Err k) e)) (λ e. (served (λ k. true≢false (sym (ap is_last (is ∙ ap (λ (k : DownCause). Err k) e)) ∙ ap is_last k))).power)
 
   module _ (o : Root) (is : r ≡ Ok o) where
     good : (o ≡ root_by server g its_epoch) × (its_epoch < 4294967295)

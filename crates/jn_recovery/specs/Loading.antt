@@ -76,6 +76,10 @@ pub record IsUsedUp (g : Counts) (v w : StoreView) : Type 0 where
   pub read : Pick
   pub last : (found_on g v read).epoch ≡ 4294967295
   pub fewer : IsFewer v w
+  -- each pick reads that root now
+  pub all : (c : Pick) → (found_on g w c).epoch ≡ 4294967295
+  -- no call was stopped
+  pub power : w.power ≡ true
 
 -- the root that was read has an epoch before the last
 pub record IsNotUsedUp (g : Counts) (v : StoreView) : Type 0 where

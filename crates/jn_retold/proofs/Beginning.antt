@@ -1,6 +1,6 @@
 -- An event begins, and then it is refused or done.
-use Rattle.std.proofs.Common.{◌≡◌, ◌⊎◌, inl, inr, ◌≤◌, ◌<◌, ℕ, List, [], ◌∷◌, ◌++◌, append-nil, drop, Option, Some, None, refl, sym, ◌∙◌, ap, subst}
-use Rattle.std.specs.Prelude.{slice_get, is_some}
+use Rattle.std.proofs.Common.{◌≡◌, ◌⊎◌, inl, inr, ◌≤◌, ◌<◌, ℕ, Bool, true, false, List, [], ◌∷◌, ◌++◌, append-nil, drop, length, Option, Some, None, refl, sym, ◌∙◌, ap, subst}
+use Rattle.std.specs.Prelude.{nat_lt, slice_get, is_some}
 use Rattle.jn_base.specs.declared.names.ServerNo.{ServerNo}
 use Rattle.jn_base.specs.declared.names.FileNo.{FileNo}
 use Rattle.jn_base.specs.declared.names.BlockNo.{BlockNo}
@@ -14,20 +14,23 @@ use Rattle.jn_report.specs.declared.line.EventRefusal.{EventRefusal}
 use Rattle.jn_report.specs.declared.line.Line.{Line}
 use Rattle.jn_report.specs.declared.line.Text.{Text}
 use Rattle.jn_report.specs.declared.line.Text.TheVariants as says
+use Rattle.jn_rows.specs.Outcomes.{RowOutcome, Sent}
+use Rattle.jn_rows.specs.Stable.{Pick, stable}
+use Rattle.jn_protocol.specs.Servers.{Room, server_step}
 use Rattle.jn_protocol.specs.World.{World, Memory, opening}
-use Rattle.jn_protocol.specs.Steps.{NextEvent, run, after}
+use Rattle.jn_protocol.specs.Steps.{NextEvent, run, after, work, works}
 use Rattle.jn_reported.specs.Reported.{Item, Act, Does, Refuses, Waiting, IsUnder, IsShown, AreStruck, steps_in, world_of, with_event, strike_all, told_in, at_event, lines_of, none_wait}
 use Rattle.jn_reported.specs.Printing.{prints_of}
-use Rattle.jn_aside.specs.Aside.{plain}
+use Rattle.jn_aside.specs.Aside.{plain, is_show}
 use Rattle.jn_aside.proofs.Plain.{plain-append}
 use Rattle.jn_within.proofs.WorldSteps.{sent-near}
 use Rattle.jn_written.specs.Chances.{Setup, Chance}
 use Rattle.jn_written.specs.Tasks.{Task, Begins, Meets, Rests, State}
-use Rattle.jn_written.specs.Deeds.{Deed, nobody, plain as plain_deed, tells}
+use Rattle.jn_written.specs.Deeds.{Deed, nobody, no_room, plain as plain_deed, stopped_idle, tells}
 use Rattle.jn_written.specs.Refusals.{refusal_of}
 use Rattle.jn_written.specs.Events.{settling, acted, met}
 use Rattle.jn_settling.specs.Course.{go_on}
-use Rattle.jn_written.specs.Steps.{come_to, cut_short, made, own_texts}
+use Rattle.jn_written.specs.Steps.{most_messages, is_too_much, come_to, cut_short, made, own_texts}
 use Rattle.jn_written.specs.Devices.{IsUsed, Befalls}
 use Rattle.jn_written.specs.Runs.{Moment, DoesStep}
 use Rattle.jn_retold.specs.Retold.{behind}
@@ -40,13 +43,29 @@ use Rattle.jn_retold.proofs.Befalling.{Befell, same-stands}
 use Rattle.jn_retold.proofs.Doing.{IsReady, acted-befell, refused-befell}
 use Rattle.jn_retold.proofs.May.{acts-under, is-ready, refusal-under}
 use Rattle.jn_retold.proofs.Showing.{shown-acts}
-use Rattle.jn_retold.proofs.Going.{Goes, Next, does-next, goes-or-cut, goes-on, comes, stands-behind}
+use Rattle.jn_retold.proofs.Going.{Goes, Next, does-next, goes-or-cut, go-world, goes-on, comes, stands-behind}
 use Rattle.jn_retold.proofs.Besides.{besides-told, acted-tasks, all-settling, refused-shown}
 use Rattle.jn_retold.proofs.Forms.{left, Between, Meeting, Amid, Held, between, meeting, settling as settling_now, cut, closes, between-part, meeting-part}
 
 -- the blocks of a file have numbers below 120
 abbrev pub Blocks : Setup → World → Type 0
 Blocks x w = (q : ServerNo) (memory : Memory) → q.0 < x.servers → w.memory q ≡ Some memory → (f : FileNo) (p : BlockNo) → 120 ≤ p.0 → prints_of q w memory (Block f p) ≡ None
+
+-- what a look over the pages sends
+idle-sent : (q : ServerNo) (stop : Option (Pick → ℕ)) (w : World) → (run (stopped_idle q stop) w).sent ≡ w.sent
+idle-sent q None w = refl
+idle-sent q (Some made) w = by (w.memory q)
+  where
+    r : Room
+    r = record no_room { rubbish = true }
+
+    row : (o : Option (RowOutcome Memory)) → (works q (Some (λ c. 0)) o w).sent ≡ w.sent
+    row None = refl
+    row (Some outcome) = refl
+
+    by : (o : Option Memory) → (work q r (Some (λ c. 0)) o w).sent ≡ w.sent
+    by None = refl
+    by (Some m) = row (server_step m (stable (w.found q)) r)
 
 module _ (x : Setup) (files : AllFiles) (epochs : ServerNo → ℕ) (schedule : List Event) where
   abbrev start : World
@@ -97,9 +116,9 @@ module _ (x : Setup) (files : AllFiles) (epochs : ServerNo → ℕ) (schedule : 
         number = h.number;
       }
 
-      by : (b.state ≡ cut_short before) ⊎ (b.state ≡ come_to x n.chance deed (go_on deed.steps before.course) before) → Held x files epochs schedule b
-      by (inl k) = cut (record { part = between-part x files epochs schedule items (e ∷ rest) a b h (ap (λ (s : State). s.lines) k) (ap (λ (s : State). s.course.world) k); cut = ap (λ (s : State). s.stage) k })
-      by (inr k) = meeting items e rest (meets (goes-on x a b w z z h.at n.chance deed acts (drop 1 a.state.tasks) refl refl befalls stands k))
+      by : ((b.state ≡ cut_short before) × (is_too_much deed (go_on deed.steps before.course) ≡ true)) ⊎ ((b.state ≡ come_to x n.chance deed (go_on deed.steps before.course) before) × (is_too_much deed (go_on deed.steps before.course) ≡ false)) → Held x files epochs schedule b
+      by (inl k) = cut (record { part = between-part x files epochs schedule items (e ∷ rest) a b h (ap (λ (s : State). s.lines) k.0) (ap (λ (s : State). s.course.world) k.0); cut = ap (λ (s : State). s.stage) k.0 })
+      by (inr k) = meeting items e rest (meets (goes-on x a b w z z h.at n.chance deed acts (drop 1 a.state.tasks) refl refl befalls stands k.0 k.1))
 
   -- ---- an event is refused or done
 
@@ -118,7 +137,7 @@ module _ (x : Setup) (files : AllFiles) (epochs : ServerNo → ℕ) (schedule : 
 
     module _ (chance : Chance) (deed : Deed) (acts : List Act) (does : steps_in acts ≡ deed.steps) (tells : told_in acts v ≡ texts_by chance deed v (run deed.steps v))
         (befalls : Befalls x chance deed v a.devices b.devices) (befell : Befell x.servers e (texts_by chance deed v (run deed.steps v)) v (run deed.steps v) b.devices z)
-        (under : IsUnder e acts) (shown : IsShown e v acts) (tasks : (deed.tasks ≡ []) ⊎ ((e ≡ events.Settle) × (deed.tasks ≡ settling x))) where
+        (under : IsUnder e acts) (shown : IsShown e v acts) (tasks : (deed.tasks ≡ []) ⊎ ((e ≡ events.Settle) × (deed.tasks ≡ settling x))) (quiet : is_show e ≡ true → is_too_much deed (go_on deed.steps a.state.course) ≡ false) where
       abbrev item : Item
       item = record { event = e; acts = acts }
 
@@ -157,9 +176,16 @@ module _ (x : Setup) (files : AllFiles) (epochs : ServerNo → ℕ) (schedule : 
       met-step : b.state ≡ made x chance deed before → Held x files epochs schedule b
       met-step is = by (goes-or-cut x chance deed before b.state is)
         where
-          by : (b.state ≡ cut_short before) ⊎ (b.state ≡ come_to x chance deed (go_on deed.steps before.course) before) → Held x files epochs schedule b
-          by (inl k) = cut (record { part = meeting-part x files epochs schedule items e rest a b h (ap (λ (s : State). s.lines) k) (ap (λ (s : State). s.course.world) k); cut = ap (λ (s : State). s.stage) k })
-          by (inr k) = over deed.tasks (amid (goes-on x a b w z y h.at chance deed acts (drop 1 a.state.tasks) does tells befalls stands k)) tasks
+          unshown : (c : Bool) → is_show e ≡ c → is_too_much deed (go_on deed.steps a.state.course) ≡ true → is_show e ≡ false
+          unshown false k much = k
+          unshown true k much = absurd (clash (sym much ∙ quiet k))
+            where
+              clash : true ≡ false → ⊥
+              clash z = cc
+
+          by : ((b.state ≡ cut_short before) × (is_too_much deed (go_on deed.steps before.course) ≡ true)) ⊎ ((b.state ≡ come_to x chance deed (go_on deed.steps before.course) before) × (is_too_much deed (go_on deed.steps before.course) ≡ false)) → Held x files epochs schedule b
+          by (inl k) = cut (record { part = meeting-part x files epochs schedule items e rest a b h (ap (λ (s : State). s.lines) k.0) (ap (λ (s : State). s.course.world) k.0) (λ cut. unshown (is_show e) refl k.1); cut = ap (λ (s : State). s.stage) k.0 })
+          by (inr k) = over deed.tasks (amid (goes-on x a b w z y h.at chance deed acts (drop 1 a.state.tasks) does tells befalls stands k.0 k.1)) tasks
 
     near : (k : ℕ) (q : ServerNo) (message : Message) → slice_get v.sent k ≡ Some (Server q, message) → q.0 < x.servers
     near k q message k' = sent-near x.servers w h.at.within k q message k'
@@ -174,12 +200,18 @@ module _ (x : Setup) (files : AllFiles) (epochs : ServerNo → ℕ) (schedule : 
     done-shown (events.Show q) chance ready used = shown-acts q v chance (a.devices q) (b.devices q) used.its (λ f p l. blocks q used.its.memory ready used.its.up f p l)
     done-shown event chance ready used = tt
 
+    -- a show sends nothing
+    show-quiet : (event : Event) (chance : Chance) → is_show event ≡ true → is_too_much (acted x chance event v) (go_on (acted x chance event v).steps a.state.course) ≡ false
+    show-quiet (events.Show q) chance k = ap (λ (u : World). nat_lt most_messages (length u.sent)) (go-world (stopped_idle q chance.stop) a.state.course)
+        ∙ ap (λ (sent : List Sent). nat_lt most_messages (length sent)) (idle-sent q chance.stop a.state.course.world) ∙ h.at.few
+    show-quiet event chance k = absurd (cc k)
+
     by-cause : (chance : Chance) (o : Option EventRefusal) → refusal_of x v e ≡ o → b.state ≡ made x chance (met x chance e v o) before → Befalls x chance (met x chance e v o) v a.devices b.devices → Held x files epochs schedule b
     by-cause chance (Some refusal) k is befalls = met-step chance (tells (says.RefusedEvent refusal ∷ [])) (Refuses refusal ∷ []) refl (ap (λ (own : List Text). own ++ says.RefusedEvent refusal ∷ []) (sym no-own)) befalls
-        (refused-befell x chance v a.devices b.devices z st near e refusal befalls.used) (refusal-under x v e refusal k) (refused-shown e refusal v) (inl refl) is
+        (refused-befell x chance v a.devices b.devices z st near e refusal befalls.used) (refusal-under x v e refusal k) (refused-shown e refusal v) (inl refl) (λ show. h.at.few) is
     by-cause chance None k is befalls = met-step chance (acted x chance e v) (acts_by x chance e v) (steps-of-acts chance (acted x chance e v) (besides chance e v) (besides-steps chance e v))
         (told-of-acts chance (acted x chance e v) (besides chance e v) (besides-told x chance e v) v) befalls
-        (acted-befell x chance v a.devices b.devices z st near e (is-ready x v e k) befalls.used) (acts-under x chance e v) (done-shown e chance (is-ready x v e k) befalls.used) (acted-tasks x chance e v) is
+        (acted-befell x chance v a.devices b.devices z st near e (is-ready x v e k) befalls.used) (acts-under x chance e v) (done-shown e chance (is-ready x v e k) befalls.used) (acted-tasks x chance e v) (show-quiet e chance) is
 
     pub meet-step : DoesStep x a b → Held x files epochs schedule b
     meet-step d = let n = does-next x (Meets e) (left x files epochs schedule rest) a b d h.at.stage h.tasks in

@@ -36,9 +36,9 @@ use Rattle.jn_written.specs.Devices.{Devices, IsUsed}
 use Rattle.jn_written.specs.Kinds.{is_answer, is_of_delivery}
 use Rattle.jn_written.proofs.Telling.{Adds, adds, weaker}
 use Rattle.jn_retold.proofs.Acts.{texts_by, grown-own}
-use Rattle.jn_retold.proofs.Strikes.{is_harmless, same-server}
+use Rattle.jn_retold.proofs.Strikes.{is_harmless, same-server, told_texts}
 use Rattle.jn_retold.proofs.Turns.{Turns, at-self, at-other, delivery-harmless, delivery-turns, working-turns, idle-turns, recovering-turns, narrow-turns}
-use Rattle.jn_retold.proofs.Standing.{Stands, call-spends, recovery-spends, turned-stands}
+use Rattle.jn_retold.proofs.Standing.{Stands, Spent, call-spends, recovery-spends, turned-stands}
 use Rattle.jn_retold.proofs.Befalling.{Befell, JustBefell, Calm, calm-befell, crash-befell, decay-befell, becomes-stands, arm-befell, refused-waits}
 
 -- what is known of an event that isn't refused
@@ -127,6 +127,10 @@ module _ (x : Setup) (h : Chance) (w : World) (ds es : Devices) (z : Waiting) (s
   number-of q now None t = t.number
   number-of q now (Some made) t = t.number
 
+  turned : (q : ServerNo) → q.0 < x.servers → (now : World) → ((s : ServerNo) → server_eq q s ≡ false → es s ≡ ds s) → Spent h (is_some (now.memory q)) (ds q) (es q) → (texts : List Text) → list_all is_harmless texts ≡ true
+      → (stop : Option (Pick → ℕ)) → h.stop ≡ stop → Turns q w now stop → JustBefell x.servers (told_texts q h.told ++ own_texts w now ++ texts) w now es z
+  turned q l now others spent texts mute stop e t = let r = turned-stands x.servers q l h w now ds es z st others spent texts mute stop e t in record { struck = r.0; stands = r.1; number = number-of q now stop t }
+
   -- ---- messages
 
   module _ (near : (k : ℕ) (q : ServerNo) (message : Message) → slice_get w.sent k ≡ Some (Server q, message) → q.0 < x.servers) where
@@ -137,8 +141,7 @@ module _ (x : Setup) (h : Chance) (w : World) (ds es : Devices) (z : Waiting) (s
         lost : (after (Deliver k (room h q)) w).memory ≡ w.memory
         lost = ap (λ (sent : Option Sent). (handed k (room h q) None sent w).memory) e ∙ ap (λ (memory : Option Memory). (at_memory q k (room h q) None message memory w).memory) down
     to-server k q message e (Some m) up used = let now = run (delivered_at h k q (Some m)).steps w in let t = delivery-turns w q (same-server q) m up k message (room h q) h.stop e in let l = near k q message e in
-        let r = turned-stands x.servers q l h w now ds es z st used.others (call-spends h (is_some (now.memory q)) (ds q) (es q) used.its.called (st.power q m l up) (st.told q l)) [] refl h.stop refl t in
-        record { struck = r.0; stands = r.1; number = number-of q now h.stop t }
+        turned q l now used.others (call-spends h (is_some (now.memory q)) (ds q) (es q) used.its.called (st.power q m l up) (st.told q l)) [] refl h.stop refl t
 
     delivers : (k : ℕ) (o : Option Sent) → slice_get w.sent k ≡ o → IsUsed x h (delivered h k w o).device w (run (delivered h k w o).steps w) ds es
         → JustBefell x.servers (texts_by h (delivered h k w o) w (run (delivered h k w o).steps w)) w (run (delivered h k w o).steps w) es z
@@ -155,8 +158,7 @@ module _ (x : Setup) (h : Chance) (w : World) (ds es : Devices) (z : Waiting) (s
         → JustBefell x.servers (texts_by h (if b then served q (working_steps h q) else nothing) w (run (if b then served q (working_steps h q) else nothing).steps w)) w (run (if b then served q (working_steps h q) else nothing).steps w) es z
     works q l false e used = calm w stays used
     works q l true e used = let now = run (working_steps h q) w in let m = used.its.memory in let t = working-turns w q (same-server q) m used.its.up (room h q) h.stop (goes m used.its.up) in
-        let r = turned-stands x.servers q l h w now ds es z st used.others (call-spends h (is_some (now.memory q)) (ds q) (es q) used.its.called (st.power q m l used.its.up) (st.told q l)) [] refl h.stop refl t in
-        record { struck = r.0; stands = r.1; number = number-of q now h.stop t }
+        turned q l now used.others (call-spends h (is_some (now.memory q)) (ds q) (es q) used.its.called (st.power q m l used.its.up) (st.told q l)) [] refl h.stop refl t
       where
         goes : (m : Memory) → w.memory q ≡ Some m → (has_going (stable (w.found q)) (Some m) || h.rubbish q) ≡ true
         goes m up = both-parts (has_going (stable (w.found q)) (Some m) || h.rubbish q) (sym (ap (λ (memory : Option Memory). is_some memory && (has_going (stable (w.found q)) memory || h.rubbish q)) up) ∙ e)
@@ -169,8 +171,7 @@ module _ (x : Setup) (h : Chance) (w : World) (ds es : Devices) (z : Waiting) (s
     looks : (q : ServerNo) → q.0 < x.servers → IsUsed x h (scrubbed h q).device w (run (scrubbed h q).steps w) ds es
         → JustBefell x.servers (texts_by h (scrubbed h q) w (run (scrubbed h q).steps w)) w (run (scrubbed h q).steps w) es z
     looks q l used = let now = run (scrubbed h q).steps w in let m = used.its.memory in let t = idle-turns w q (same-server q) m used.its.up h.stop in
-        let r = turned-stands x.servers q l h w now ds es z st used.others (call-spends h (is_some (now.memory q)) (ds q) (es q) used.its.called (st.power q m l used.its.up) (st.told q l)) [] refl h.stop refl t in
-        record { struck = r.0; stands = r.1; number = number-of q now h.stop t }
+        turned q l now used.others (call-spends h (is_some (now.memory q)) (ds q) (es q) used.its.called (st.power q m l used.its.up) (st.told q l)) [] refl h.stop refl t
 
     shown-harmless : (q : ServerNo) (o : Option Memory) (stop : Option (Pick → ℕ)) → list_all is_harmless (shown h q w o stop) ≡ true
     shown-harmless q None stop = refl
@@ -180,8 +181,7 @@ module _ (x : Setup) (h : Chance) (w : World) (ds es : Devices) (z : Waiting) (s
     shows : (q : ServerNo) → q.0 < x.servers → IsUsed x h (showing h q w).device w (run (showing h q w).steps w) ds es
         → JustBefell x.servers (texts_by h (showing h q w) w (run (showing h q w).steps w)) w (run (showing h q w).steps w) es z
     shows q l used = let now = run (showing h q w).steps w in let m = used.its.memory in let t = idle-turns w q (same-server q) m used.its.up h.stop in
-        let r = turned-stands x.servers q l h w now ds es z st used.others (call-spends h (is_some (now.memory q)) (ds q) (es q) used.its.called (st.power q m l used.its.up) (st.told q l)) (shown h q w (w.memory q) h.stop) (shown-harmless q (w.memory q) h.stop) h.stop refl t in
-        record { struck = r.0; stands = r.1; number = number-of q now h.stop t }
+        turned q l now used.others (call-spends h (is_some (now.memory q)) (ds q) (es q) used.its.called (st.power q m l used.its.up) (st.told q l)) (shown h q w (w.memory q) h.stop) (shown-harmless q (w.memory q) h.stop) h.stop refl t
 
     -- ---- crashes and restarts
 
@@ -203,8 +203,7 @@ module _ (x : Setup) (h : Chance) (w : World) (ds es : Devices) (z : Waiting) (s
 
         go : IsUsed x h gives.device w (run gives.steps w) ds es → JustBefell x.servers (texts_by h gives w (run gives.steps w)) w (run gives.steps w) es z
         go used = let now = run gives.steps w in let t = narrow-turns w q (same-server q) down h in
-            let r = turned-stands x.servers q l h w now ds es z st used.others (recovery-spends h (is_some (now.memory q)) (ds q) (es q) used.its (st.told q l)) (says.RefusedEvent EpochsUsedUp ∷ []) refl None (unstopped h q w e) t in
-            record { struck = r.0; stands = r.1; number = t.number }
+            turned q l now used.others (recovery-spends h (is_some (now.memory q)) (ds q) (es q) used.its (st.told q l)) (says.RefusedEvent EpochsUsedUp ∷ []) refl None (unstopped h q w e) t
     restarts q l down false e deed is used = subst (λ (d : Deed). IsUsed x h d.device w (run d.steps w) ds es → JustBefell x.servers (texts_by h d w (run d.steps w)) w (run d.steps w) es z) (sym is) go used
       where
         comes : Deed
@@ -212,8 +211,7 @@ module _ (x : Setup) (h : Chance) (w : World) (ds es : Devices) (z : Waiting) (s
 
         go : IsUsed x h comes.device w (run comes.steps w) ds es → JustBefell x.servers (texts_by h comes w (run comes.steps w)) w (run comes.steps w) es z
         go used = let now = run comes.steps w in let t = recovering-turns w q (same-server q) down h h.stop in
-            let r = turned-stands x.servers q l h w now ds es z st used.others (recovery-spends h (is_some (now.memory q)) (ds q) (es q) used.its (st.told q l)) [] refl h.stop refl t in
-            record { struck = r.0; stands = r.1; number = number-of q now h.stop t }
+            turned q l now used.others (recovery-spends h (is_some (now.memory q)) (ds q) (es q) used.its (st.told q l)) [] refl h.stop refl t
 
     -- ---- each event
 

@@ -1,6 +1,7 @@
 -- Where a run under its schedule stands: between two events, with one that has begun, or within a settle.
-use Rattle.std.proofs.Common.{◌≡◌, ◌<◌, ℕ, ◌+◌, true, List, [], ◌∷◌, ◌++◌, append-nil, append_assoc, length, map, refl, sym, ◌∙◌, ap, subst, arith}
-use Rattle.std.specs.List.{list_all}
+use Rattle.std.proofs.Common.{◌≡◌, ◌<◌, ℕ, Bool, ◌+◌, true, false, List, [], ◌∷◌, ◌++◌, append-nil, append_assoc, length, map, refl, sym, ◌∙◌, ap, subst, arith}
+use Rattle.std.specs.Prelude.{◌||◌}
+use Rattle.std.specs.List.{list_all, list_any}
 use Rattle.jn_base.specs.declared.names.ServerNo.{ServerNo}
 use Rattle.jn_order.specs.Files.{AllFiles}
 use Rattle.jn_schedule.specs.declared.Event.{Event}
@@ -8,7 +9,7 @@ use Rattle.jn_schedule.specs.declared.Event.TheVariants as events
 use Rattle.jn_protocol.specs.World.{World, opening}
 use Rattle.jn_protocol.specs.Steps.{NextEvent, after}
 use Rattle.jn_reported.specs.Reported.{Item, Act, Waiting, IsReported, events_of, world_of, after_item, waiting_in, strike_all, told_under, lines_of, none_wait}
-use Rattle.jn_aside.specs.Aside.{plain}
+use Rattle.jn_aside.specs.Aside.{plain, is_show}
 use Rattle.jn_written.specs.Chances.{Setup}
 use Rattle.jn_written.specs.Tasks.{Task, Begins, Meets, CutShort}
 use Rattle.jn_written.specs.Events.{ending}
@@ -83,8 +84,8 @@ module _ (x : Setup) (files : AllFiles) (epochs : ServerNo → ℕ) (schedule : 
   few n e = omega (arith, e)
 
   part-of : (items : List Item) (begun rest : List Event) (a b : Moment) → IsReported items beginning → events_of items ++ begun ++ rest ≡ schedule → length begun < 2
-      → plain a.state.lines ≡ plain (lines_of items beginning) → a.state.course.world.event ≡ length items + length begun → b.state.lines ≡ a.state.lines → b.state.course.world ≡ a.state.course.world → IsRetoldInPart x schedule files b
-  part-of items begun rest a b reported events one lines number same-lines same-world = record {
+      → plain a.state.lines ≡ plain (lines_of items beginning) → a.state.course.world.event ≡ length items + length begun → b.state.lines ≡ a.state.lines → b.state.course.world ≡ a.state.course.world → (b.state.stage ≡ CutShort → list_any is_show begun ≡ false) → IsRetoldInPart x schedule files b
+  part-of items begun rest a b reported events one lines number same-lines same-world shows = record {
     epochs = epochs;
     items = items;
     begun = begun;
@@ -94,26 +95,31 @@ module _ (x : Setup) (files : AllFiles) (epochs : ServerNo → ℕ) (schedule : 
     reported = reported;
     lines = ap plain same-lines ∙ lines;
     event = ap (λ (w : World). w.event) same-world ∙ number;
+    shows = shows;
   }
 
   pub between-part : (items : List Item) (rest : List Event) (a b : Moment) → Between items rest a → b.state.lines ≡ a.state.lines → b.state.course.world ≡ a.state.course.world → IsRetoldInPart x schedule files b
-  between-part items rest a b h = part-of items [] rest a b h.reported (ap (λ (es : List Event). es ++ rest) (append-nil (events_of items)) ∙ h.events) (few 0 refl) h.lines
-      (ap (λ (w : World). w.event) h.at.world ∙ h.number ∙ plus-none (length items))
+  between-part items rest a b h lines world = part-of items [] rest a b h.reported (ap (λ (es : List Event). es ++ rest) (append-nil (events_of items)) ∙ h.events) (few 0 refl) h.lines
+      (ap (λ (w : World). w.event) h.at.world ∙ h.number ∙ plus-none (length items)) lines world (λ cut. refl)
     where
       plus-none : (n : ℕ) → n ≡ n + 0
       plus-none n = omega arith
 
-  pub meeting-part : (items : List Item) (event : Event) (rest : List Event) (a b : Moment) → Meeting items event rest a → b.state.lines ≡ a.state.lines → b.state.course.world ≡ a.state.course.world → IsRetoldInPart x schedule files b
-  meeting-part items event rest a b h = part-of items (event ∷ []) rest a b h.reported (append_assoc (events_of items) (event ∷ []) rest ∙ h.events) one h.lines
-      (ap (λ (w : World). w.event) h.at.world ∙ ap (λ (n : ℕ). n + 1) h.number)
+  pub meeting-part : (items : List Item) (event : Event) (rest : List Event) (a b : Moment) → Meeting items event rest a → b.state.lines ≡ a.state.lines → b.state.course.world ≡ a.state.course.world
+      → (b.state.stage ≡ CutShort → is_show event ≡ false) → IsRetoldInPart x schedule files b
+  meeting-part items event rest a b h lines world shows = part-of items (event ∷ []) rest a b h.reported (append_assoc (events_of items) (event ∷ []) rest ∙ h.events) one h.lines
+      (ap (λ (w : World). w.event) h.at.world ∙ ap (λ (n : ℕ). n + 1) h.number) lines world (λ cut. alone (is_show event) (shows cut))
     where
       one : 1 < 2
       one = omega arith
 
+      alone : (b : Bool) → b ≡ false → (b || false) ≡ false
+      alone b e = grind arith
+
   pub amid-part : (items : List Item) (item : Item) (pending : List Task) (rest : List Event) (a b : Moment) → Amid items item pending rest a → b.state.lines ≡ a.state.lines → b.state.course.world ≡ a.state.course.world → IsRetoldInPart x schedule files b
-  amid-part items item pending rest a b h = part-of (one_more items item) [] rest a b (reported-more items item beginning h.reported h.next)
+  amid-part items item pending rest a b h lines world = part-of (one_more items item) [] rest a b (reported-more items item beginning h.reported h.next)
       (ap (λ (es : List Event). es ++ rest) (append-nil (events_of (one_more items item)) ∙ events-more items item) ∙ append_assoc (events_of items) (item.event ∷ []) rest ∙ h.events) (few 0 refl) h.lines
-      (ap (λ (w : World). w.event) h.at.world ∙ h.same ∙ ap (λ (n : ℕ). n + 1) h.number ∙ sym (length-more items item) ∙ plus-none (length (one_more items item)))
+      (ap (λ (w : World). w.event) h.at.world ∙ h.same ∙ ap (λ (n : ℕ). n + 1) h.number ∙ sym (length-more items item) ∙ plus-none (length (one_more items item))) lines world (λ cut. refl)
     where
       plus-none : (n : ℕ) → n ≡ n + 0
       plus-none n = omega arith

@@ -1,6 +1,6 @@
 -- Where a run under its schedule stands, and how a step of it goes on.
-use Rattle.std.proofs.Common.{◌≡◌, ◌⊎◌, inl, inr, Bool, true, false, List, [], ◌∷◌, ◌++◌, Some, refl, sym, ◌∙◌, ap, subst}
-use Rattle.std.specs.Prelude.{if◌then◌else◌}
+use Rattle.std.proofs.Common.{◌≡◌, ◌⊎◌, inl, inr, Bool, true, false, List, [], ◌∷◌, ◌++◌, length, Some, refl, sym, ◌∙◌, ap, subst, arith}
+use Rattle.std.specs.Prelude.{◌||◌, nat_lt, if◌then◌else◌}
 use Rattle.std.specs.List.{list_all}
 use Rattle.jn_report.specs.declared.line.When.TheVariants.{Event as AtEvent}
 use Rattle.jn_report.specs.declared.line.Line.{Line}
@@ -17,7 +17,7 @@ use Rattle.jn_written.specs.Chances.{Setup, Chance}
 use Rattle.jn_written.specs.Tasks.{Task, Stage, InSchedule, State, when_at, when_of, next_at, begun}
 use Rattle.jn_written.specs.Deeds.{Deed}
 use Rattle.jn_written.specs.Events.{deed_of}
-use Rattle.jn_written.specs.Steps.{texts_of, lines_at, is_too_much, come_to, cut_short, made}
+use Rattle.jn_written.specs.Steps.{texts_of, lines_at, most_messages, is_too_much, come_to, cut_short, made}
 use Rattle.jn_written.specs.Devices.{Devices, Befalls, AreFound}
 use Rattle.jn_written.specs.Kinds.{is_up}
 use Rattle.jn_written.specs.Runs.{Moment, DoesStep}
@@ -44,12 +44,15 @@ does-next x t ts a b d e k = let same = its-task a.state.stage a.state.tasks ts 
   befalls = subst (λ (task : Task). Befalls x d.chance (deed_of x d.chance task a.state) a.state.course.world a.devices b.devices) same d.befalls;
 }
 
-pub goes-or-cut : (x : Setup) (h : Chance) (deed : Deed) (s t : State) → t ≡ made x h deed s → (t ≡ cut_short s) ⊎ (t ≡ come_to x h deed (go_on deed.steps s.course) s)
-goes-or-cut x h deed s t e = by (is_too_much deed (go_on deed.steps s.course)) e
+-- either it goes on, or too many messages would be sent
+pub goes-or-cut : (x : Setup) (h : Chance) (deed : Deed) (s t : State) → t ≡ made x h deed s
+    → ((t ≡ cut_short s) × (is_too_much deed (go_on deed.steps s.course) ≡ true)) ⊎ ((t ≡ come_to x h deed (go_on deed.steps s.course) s) × (is_too_much deed (go_on deed.steps s.course) ≡ false))
+goes-or-cut x h deed s t e = by (is_too_much deed (go_on deed.steps s.course)) refl e
   where
-    by : (b : Bool) → t ≡ (if b then cut_short s else come_to x h deed (go_on deed.steps s.course) s) → (t ≡ cut_short s) ⊎ (t ≡ come_to x h deed (go_on deed.steps s.course) s)
-    by true k = inl k
-    by false k = inr k
+    by : (b : Bool) → is_too_much deed (go_on deed.steps s.course) ≡ b → t ≡ (if b then cut_short s else come_to x h deed (go_on deed.steps s.course) s)
+        → ((t ≡ cut_short s) × (is_too_much deed (go_on deed.steps s.course) ≡ true)) ⊎ ((t ≡ come_to x h deed (go_on deed.steps s.course) s) × (is_too_much deed (go_on deed.steps s.course) ≡ false))
+    by true k z = inl (z, k)
+    by false k z = inr (z, k)
 
 pub go-world : (steps : List Step) (c : Course) → (go_on steps c).world ≡ run steps c.world
 go-world [] c = refl
@@ -67,6 +70,8 @@ module _ (x : Setup) where
     pub found : AreFound x w m.devices
     pub within : Within x.servers w
     pub stage : m.state.stage ≡ InSchedule
+    -- not too many messages were sent
+    pub few : nat_lt most_messages (length m.state.course.world.sent) ≡ false
 
   -- how a step that isn't cut short goes on
   pub record Goes (a : Moment) (w : World) (z : Waiting) (steps : List Step) (told : List Text) (tasks : List Task) (b : Moment) : Type 0 where
@@ -102,8 +107,8 @@ module _ (x : Setup) where
         ∙ plain-texts x h deed (behind at.ups w) (run deed.steps (behind at.ups w)) (AtEvent w.event)
         ∙ ap (λ (texts : List Text). plain (lines_at (AtEvent w.event) texts)) (sym tells ∙ told-behind at.ups mute acts w)
 
-    pub goes-on : b.state ≡ come_to x h deed (go_on deed.steps before.course) before → Goes a w y (steps_in acts) (told_in acts w) (deed.tasks ++ ts) b
-    goes-on e = record {
+    pub goes-on : b.state ≡ come_to x h deed (go_on deed.steps before.course) before → is_too_much deed (go_on deed.steps before.course) ≡ false → Goes a w y (steps_in acts) (told_in acts w) (deed.tasks ++ ts) b
+    goes-on e fits = record {
       at = record {
         ups = at.ups;
         are_up = at.are_up;
@@ -112,8 +117,12 @@ module _ (x : Setup) where
         found = subst (λ (v : World). AreFound x v b.devices) comes befalls.found;
         within = run-within x.servers (steps_in acts) w at.within;
         stage = ap (λ (s : State). s.stage) e ∙ at.stage;
+        few = ap (λ (s : State). nat_lt most_messages (length s.course.world.sent)) e ∙ neither deed.cuts (nat_lt most_messages (length (go_on deed.steps a.state.course).world.sent)) fits;
       };
       may = subst (λ (steps : List Step). IsRun steps w) (sym does) (may-run at.ups mute deed.steps w befalls.steps);
       lines = ap (λ (s : State). plain s.lines) e ∙ plain-append a.state.lines _ ∙ ap (λ (ls : List Line). plain a.state.lines ++ ls) told;
       tasks_are = ap (λ (s : State). s.tasks) e;
     }
+      where
+        neither : (b c : Bool) → (b || c) ≡ false → c ≡ false
+        neither b c k = grind arith

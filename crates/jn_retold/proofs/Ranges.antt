@@ -103,7 +103,7 @@ items-ranged (item ∷ items) r h = joined (NextEvent ∷ steps_in item.acts) (s
 unheld : (f : FileNo) (p : BlockNo) → 120 ≤ p.0 → (us : List LockUnit) → list_all unit_in_range us ≡ true → is_unit us (Block f p) ≡ false
 unheld f p l [] h = refl
 unheld f p l (File g ∷ us) h = unheld f p l us h
-unheld f p l (Block g r ∷ us) h = let again = unheld f p l us (second-of _ _ h) in let below = first-of (nat_lt r.0 120) _ h in grind (arith, nat_tests, l, again, below)
+unheld f p l (Block g r ∷ us) h = let again = unheld f p l us (second-of (nat_lt r.0 120) (list_all unit_in_range us) h) in let below = first-of (nat_lt r.0 120) (list_all unit_in_range us) h in grind (arith, nat_tests, l, again, below)
 
 unheld-in : (f : FileNo) (p : BlockNo) → 120 ≤ p.0 → (phase : Phase) → IsRanged phase → holds phase (Block f p) Commit ≡ false
 unheld-in f p l (Active a) h = refl
@@ -124,13 +124,15 @@ not-stored g pages f p l = by (head_of g pages f)
     by None = refl
     by (Some head) = ap (λ (b : Bool). if b then block_behind g pages (address_in head p.0) else None) (past p.0 l)
 
+-- what a server that is up has to print
+pub blocks-ranged : (x : Setup) (w : World) (ds : Devices) → Ranged w → AreFound x w ds → Blocks x w
+blocks-ranged x w ds ranged found q memory l up f p beyond = ap (λ (holder : Option Tid). print_unit (Block f p) holder ((w.found q (λ n. false)).files (Block f p))) (no-holder f p beyond memory.worker (ranged.memory q memory up))
+    ∙ ap (λ (content : Option (List ℕ)). print_unit (Block f p) None content) (ap (λ (x : StableState). x.files (Block f p)) (found q (λ n. false) l) ∙ not-stored (x.counts q) (pages_by (pairs_view (ds q)) (λ n. false)) f p beyond)
+
+pub reported-ranged : (n : ℕ) → n ≤ 8 → (files : AllFiles) (epochs : ServerNo → ℕ) (items : List Item) → IsReported items (opening n files epochs) → AllByRecursion EventInRange (events_of items) → Ranged (world_of items (opening n files epochs))
+reported-ranged n few files epochs items h ranges = run-ranged (steps_of items) (opening n files epochs) (items-ranged items ranges h.under) (opening-ranged n files epochs few)
+
 pub blocks-below : (x : Setup) → x.servers ≤ 8 → (files : AllFiles) (epochs : ServerNo → ℕ) (items : List Item) → IsReported items (opening x.servers files epochs) → AllByRecursion EventInRange (events_of items)
     → (ds : Devices) → AreFound x (after NextEvent (world_of items (opening x.servers files epochs))) ds → Blocks x (after NextEvent (world_of items (opening x.servers files epochs)))
-blocks-below x few files epochs items h ranges ds found q memory l up f p beyond = ap (λ (holder : Option Tid). print_unit (Block f p) holder ((w.found q (λ n. false)).files (Block f p))) (no-holder f p beyond memory.worker (ranged.memory q memory up))
-    ∙ ap (λ (content : Option (List ℕ)). print_unit (Block f p) None content) (ap (λ (x : StableState). x.files (Block f p)) (found q (λ n. false) l) ∙ not-stored (x.counts q) (pages_by (pairs_view (ds q)) (λ n. false)) f p beyond)
-  where
-    w : World
-    w = world_of items (opening x.servers files epochs)
-
-    ranged : Ranged w
-    ranged = run-ranged (steps_of items) (opening x.servers files epochs) (items-ranged items ranges h.under) (opening-ranged x.servers files epochs few)
+blocks-below x few files epochs items h ranges ds found = blocks-ranged x (after NextEvent (world_of items (opening x.servers files epochs))) ds
+    (run-ranged (NextEvent ∷ []) (world_of items (opening x.servers files epochs)) (tt, tt) (reported-ranged x.servers few files epochs items h ranges)) found

@@ -23,7 +23,7 @@ use Rattle.jn_written.specs.Chances.{Setup, Chance}
 use Rattle.jn_written.specs.Tasks.{Task, Acts, Rests, State}
 use Rattle.jn_written.specs.Deeds.{Deed, nothing, is_busy}
 use Rattle.jn_written.specs.Events.{servers_of, first_busy, next_event, resting, acted}
-use Rattle.jn_written.specs.Steps.{come_to, cut_short, made, own_texts}
+use Rattle.jn_written.specs.Steps.{is_too_much, come_to, cut_short, made, own_texts}
 use Rattle.jn_written.specs.Devices.{Befalls}
 use Rattle.jn_written.specs.Runs.{Moment, DoesStep}
 use Rattle.jn_retold.specs.Retold.{behind}
@@ -149,9 +149,9 @@ module _ (x : Setup) (files : AllFiles) (epochs : ServerNo → ℕ) (schedule : 
     goes : b.state ≡ made x chance deed before → Held x files epochs schedule b
     goes is = by (goes-or-cut x chance deed before b.state is)
       where
-        by : (b.state ≡ cut_short before) ⊎ (b.state ≡ come_to x chance deed (go_on deed.steps before.course) before) → Held x files epochs schedule b
-        by (inl k) = cut (record { part = amid-part x files epochs schedule items (record { event = events.Settle; acts = done }) (task ∷ pending) rest a b h (ap (λ (s : State). s.lines) k) (ap (λ (s : State). s.course.world) k); cut = ap (λ (s : State). s.stage) k })
-        by (inr k) = over (deed.tasks ++ pending) (amid (goes-on x a b w z y h.at chance deed acts (drop 1 a.state.tasks) does tells befalls stands k))
+        by : ((b.state ≡ cut_short before) × (is_too_much deed (go_on deed.steps before.course) ≡ true)) ⊎ ((b.state ≡ come_to x chance deed (go_on deed.steps before.course) before) × (is_too_much deed (go_on deed.steps before.course) ≡ false)) → Held x files epochs schedule b
+        by (inl k) = cut (record { part = amid-part x files epochs schedule items (record { event = events.Settle; acts = done }) (task ∷ pending) rest a b h (ap (λ (s : State). s.lines) k.0) (ap (λ (s : State). s.course.world) k.0); cut = ap (λ (s : State). s.stage) k.0 })
+        by (inr k) = over (deed.tasks ++ pending) (amid (goes-on x a b w z y h.at chance deed acts (drop 1 a.state.tasks) does tells befalls stands k.0 k.1))
             (list_all-append is_settling deed.tasks pending ∙ both _ _ more (second-of _ _ are))
 
   near : (k : ℕ) (q : ServerNo) (message : Message) → slice_get v.sent k ≡ Some (Server q, message) → q.0 < x.servers

@@ -1,5 +1,5 @@
 -- Until every server has come up.
-use Rattle.std.proofs.Common.{◌≡◌, ◌⊎◌, inl, inr, ◌≤◌, ◌<◌, ℕ, suc, ◌+◌, Bool, true, false, List, [], ◌∷◌, ◌++◌, append-nil, map, drop, Option, Some, None, refl, sym, ◌∙◌, ap, subst, arith}
+use Rattle.std.proofs.Common.{◌≡◌, ◌⊎◌, inl, inr, ◌≤◌, ◌<◌, ℕ, suc, ◌+◌, Bool, true, false, List, [], ◌∷◌, ◌++◌, append-nil, map, drop, Option, Some, None, refl, sym, ◌∙◌, ap, subst, arith, length}
 use Rattle.std.specs.Prelude.{not, ◌&&◌, ◌||◌, if◌then◌else◌, nat_lt, is_some}
 use Rattle.std.specs.List.{list_all}
 use Rattle.std.proofs.lemmas.List.Folds.{list_all-append}
@@ -32,7 +32,7 @@ use Rattle.jn_written.specs.Chances.{Setup, Chance}
 use Rattle.jn_written.specs.Tasks.{Task, Begins, ComesUp, InSchedule, State, when_at}
 use Rattle.jn_written.specs.Deeds.{pick_read, is_used_up, given_up, recovering, recovered, brought_up}
 use Rattle.jn_written.specs.Events.{ending}
-use Rattle.jn_written.specs.Steps.{own_texts, texts_of, lines_at, come_to, cut_short, made}
+use Rattle.jn_written.specs.Steps.{is_too_much, most_messages, own_texts, texts_of, lines_at, come_to, cut_short, made}
 use Rattle.jn_written.specs.Devices.{IsRecovery, Befalls, AreFound}
 use Rattle.jn_written.specs.Kinds.{is_up}
 use Rattle.jn_written.specs.Runs.{Moment, DoesStep}
@@ -111,6 +111,7 @@ module _ (x : Setup) (files : AllFiles) (epochs : ServerNo → ℕ) (schedule : 
       found = s.found;
       within = opening-within x.servers files last;
       stage = s.stage;
+      few = ap (λ (w : World). nat_lt most_messages (length w.sent)) s.world;
     };
     reported = nothing-done;
     events = refl;
@@ -140,6 +141,7 @@ module _ (x : Setup) (files : AllFiles) (epochs : ServerNo → ℕ) (schedule : 
     reported = record { under = tt; steps = tt; shows = tt; faults = tt };
     lines = ap plain same-lines ∙ lines;
     event = ap (λ (w : World). w.event) (same-world ∙ world);
+    shows = λ cut. refl;
   }
     where
       few : 0 < 2
@@ -244,9 +246,9 @@ module _ (x : Setup) (files : AllFiles) (epochs : ServerNo → ℕ) (schedule : 
     by-epoch h true e is befalls = inl (cut (record { part = cut-part k a b s.ups s.world s.lines (ap (λ (t : State). t.lines) is) (ap (λ (t : State). t.course.world) is); cut = ap (λ (t : State). t.stage) is }))
     by-epoch h false e is befalls = by (goes-or-cut x h (recovered h q) before b.state is)
       where
-        by : (b.state ≡ cut_short before) ⊎ (b.state ≡ come_to x h (recovered h q) (go_on (recovered h q).steps before.course) before) → Here b ⊎ Starts (k + 1) r b
-        by (inl c) = inl (cut (record { part = cut-part k a b s.ups s.world s.lines (ap (λ (t : State). t.lines) c) (ap (λ (t : State). t.course.world) c); cut = ap (λ (t : State). t.stage) c }))
-        by (inr c) = inr (comes h befalls c)
+        by : ((b.state ≡ cut_short before) × (is_too_much (recovered h q) (go_on (recovered h q).steps before.course) ≡ true)) ⊎ ((b.state ≡ come_to x h (recovered h q) (go_on (recovered h q).steps before.course) before) × (is_too_much (recovered h q) (go_on (recovered h q).steps before.course) ≡ false)) → Here b ⊎ Starts (k + 1) r b
+        by (inl c) = inl (cut (record { part = cut-part k a b s.ups s.world s.lines (ap (λ (t : State). t.lines) c.0) (ap (λ (t : State). t.course.world) c.0); cut = ap (λ (t : State). t.stage) c.0 }))
+        by (inr c) = inr (comes h befalls c.0)
 
     pub start-step : DoesStep x a b → Here b ⊎ Starts (k + 1) r b
     start-step d = let n = does-next x (ComesUp q) (map ComesUp (servers_from (k + 1) r) ++ map Begins schedule ++ ending x) a b d s.stage s.tasks in

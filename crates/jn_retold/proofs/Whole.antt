@@ -107,6 +107,9 @@ module _ (x : Setup) (few : x.servers ≤ 8) (files : AllFiles) (epochs : Server
 
   -- ---- what it comes to
 
+  apart : (stage : Stage) → stage ≡ InSchedule → stage ≡ CutShort → ⊥
+  apart stage a b = cc
+
   part : (now : Moment) → So now → IsRetoldInPart x schedule files now ⊎ IsRetold x schedule files now
   part now (starting k r s) = inl (record {
     epochs = last;
@@ -118,37 +121,29 @@ module _ (x : Setup) (few : x.servers ≤ 8) (files : AllFiles) (epochs : Server
     reported = record { under = tt; steps = tt; shows = tt; faults = tt };
     lines = s.lines;
     event = ap (λ (w : World). w.event) s.world;
+    shows = λ cut. refl;
   })
     where
       one : 0 < 2
       one = omega arith
   part now (held (between items rest h)) = inl (between-part x files last schedule items rest now now h refl refl)
-  part now (held (meeting items e rest h)) = inl (meeting-part x files last schedule items e rest now now h refl refl)
+  part now (held (meeting items e rest h)) = inl (meeting-part x files last schedule items e rest now now h refl refl (λ cut. absurd (apart now.state.stage h.at.stage cut)))
   part now (held (settling items acts task pending rest h are)) = inl (amid-part x files last schedule items _ (task ∷ pending) rest now now h refl refl)
   part now (held (cut c)) = inl c.part
   part now (held (ended r)) = inr r
 
+  early : (stage : Stage) → stage ≡ InSchedule → stage ≡ AtEnd → ⊥
+  early stage a b = cc
+
+  over : (stage : Stage) → stage ≡ CutShort → stage ≡ AtEnd → ⊥
+  over stage a b = cc
+
   at-end : (now : Moment) → now.state.stage ≡ AtEnd → So now → IsRetold x schedule files now
   at-end now e (starting k r s) = absurd (early now.state.stage s.stage e)
-    where
-      early : (stage : Stage) → stage ≡ InSchedule → stage ≡ AtEnd → ⊥
-      early stage a b = cc
   at-end now e (held (between items rest h)) = absurd (early now.state.stage h.at.stage e)
-    where
-      early : (stage : Stage) → stage ≡ InSchedule → stage ≡ AtEnd → ⊥
-      early stage a b = cc
   at-end now e (held (meeting items event rest h)) = absurd (early now.state.stage h.at.stage e)
-    where
-      early : (stage : Stage) → stage ≡ InSchedule → stage ≡ AtEnd → ⊥
-      early stage a b = cc
   at-end now e (held (settling items acts task pending rest h are)) = absurd (early now.state.stage h.at.stage e)
-    where
-      early : (stage : Stage) → stage ≡ InSchedule → stage ≡ AtEnd → ⊥
-      early stage a b = cc
-  at-end now e (held (cut c)) = absurd (early now.state.stage c.cut e)
-    where
-      early : (stage : Stage) → stage ≡ CutShort → stage ≡ AtEnd → ⊥
-      early stage a b = cc
+  at-end now e (held (cut c)) = absurd (over now.state.stage c.cut e)
   at-end now e (held (ended r)) = r
 
 module _ (x : Setup) (schedule : List Event) (images : Devices) (now : Moment) (few : x.servers ≤ 8) (ranges : AllByRecursion EventInRange schedule) (h : IsWritten x schedule images now) where

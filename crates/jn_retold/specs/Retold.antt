@@ -1,15 +1,15 @@
 -- A run of the written machine, told as a run of the whole system under its schedule's events.
-use Rattle.std.specs.Prelude.{◌≡◌, ◌<◌, ℕ, ◌+◌, true, List, [], ◌++◌, Some, length}
-use Rattle.std.specs.List.{list_all}
+use Rattle.std.specs.Prelude.{◌≡◌, ◌<◌, ℕ, ◌+◌, true, false, List, [], ◌++◌, Some, length}
+use Rattle.std.specs.List.{list_all, list_any}
 use Rattle.jn_base.specs.declared.names.ServerNo.{ServerNo}
 use Rattle.jn_order.specs.Files.{AllFiles}
 use Rattle.jn_schedule.specs.declared.Event.{Event}
 use Rattle.jn_report.specs.declared.line.Text.{Text}
-use Rattle.jn_aside.specs.Aside.{plain}
+use Rattle.jn_aside.specs.Aside.{plain, is_show}
 use Rattle.jn_protocol.specs.World.{World, Memory, opening}
 use Rattle.jn_reported.specs.Reported.{Item, events_of, world_of, lines_of, IsReported}
 use Rattle.jn_written.specs.Chances.{Setup}
-use Rattle.jn_written.specs.Tasks.{InSchedule}
+use Rattle.jn_written.specs.Tasks.{InSchedule, CutShort}
 use Rattle.jn_written.specs.Events.{ending}
 use Rattle.jn_written.specs.Kinds.{is_up}
 use Rattle.jn_written.specs.Runs.{Moment, Leads}
@@ -57,3 +57,5 @@ pub record IsRetoldInPart (x : Setup) (schedule : List Event) (files : AllFiles)
   pub lines : plain now.state.lines ≡ plain (lines_of items (opening x.servers files epochs))
   -- the events up to the last one that began
   pub event : now.state.course.world.event ≡ length items + length begun
+  -- a run is cut short only where messages are sent, and so at no show
+  pub shows : now.state.stage ≡ CutShort → list_any is_show begun ≡ false

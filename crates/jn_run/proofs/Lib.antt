@@ -1,3 +1,5 @@
+pub mod New
 pub mod Outcomes
-pub mod Telling
+pub mod Told
+pub mod Lines
 pub mod Stores

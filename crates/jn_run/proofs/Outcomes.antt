@@ -1,21 +1,23 @@
 -- What a call leaves, by its status.
 use Rattle.std.proofs.Common.{◌≡◌, inl, inr, ℕ, ◌≤◌, List, length, Option, Some, None, Result, Ok, Err, refl, sym, ap, subst, true, false, true≢false, ◌∙◌}
 use Rattle.std.specs.Prelude.{is_ok, Bool}
+use Rattle.std.specs.List.{AllByRecursion}
 use Rattle.jn_schedule.specs.declared.Event.{Event}
+use Rattle.jn_schedule.specs.Ranges.{EventInRange}
 use Rattle.jn_schedule.specs.Grammar.{IsSchedule}
 use Rattle.jn_schedule.specs.Faults.{IsFirstFault}
 use Rattle.jn_options.specs.declared.options.Options.{Options}
-use Rattle.jn_one_client.specs.Running.{Ran as RanOne}
-use Rattle.jn_writing.specs.declared.ReportFault.{ReportFault}
-use Rattle.jn_writing.specs.declared.ReportFault.TheVariants as reports
+use Rattle.jn_writing.specs.Writing.{Took, TookFront}
+use Rattle.jn_written.specs.Devices.{Devices}
 use Rattle.jn_run.specs.declared.status.Status.{Status}
 use Rattle.jn_run.specs.declared.status.Status.TheVariants as statuses
 use Rattle.jn_run.specs.declared.running.RunFault.{RunFault}
 use Rattle.jn_run.specs.declared.running.RunFault.TheVariants as runs
 use Rattle.jn_report.specs.declared.line.Line.{Line}
 use Rattle.jn_report.specs.Text.{report_text}
-use Rattle.jn_run.specs.Outcome.{Ran, Reads, OfWords, OfRefusal, OfReport, OutcomeOf, OutcomeOn, Outside, IsText, Refuses, RefusesWords, is_one_client}
-use Rattle.jn_run.specs.Running.{Tells}
+use Rattle.jn_run.specs.Outcome.{Ran, Reads, OfWords, OfRefusal, OfReport, OutcomeOf, OutcomeOn, Outside, IsText, most_bytes, Refuses, RefusesWords, setup_of, AreNew, IsWhole, IsPart, IsCutShort, RanInPart}
+use Rattle.jn_run.specs.Running.{course_of, RunsFrom, Runs}
+use Rattle.jn_run.proofs.New.{whole-holds, part-holds, limit-holds}
 
 -- words that are refused
 pub words-outcome : (o : Outside) (status : Status) → RefusesWords o.taken o.write_faults status o.taken' o.write_faults' → OutcomeOf None o status
@@ -44,6 +46,15 @@ refused-outcome options text line number taken faults statuses.Read taken' fault
 refused-outcome options text line number taken faults statuses.Keep taken' faults' is h = absurd h
 refused-outcome options text line number taken faults statuses.Limit taken' faults' is h = absurd h
 
+err-is : (x : Result (Unit {0}) RunFault) (d e : RunFault) → x ≡ Err d → x ≡ Err e → d ≡ e
+err-is x d e is other = cc
+
+no-limit : runs.Memory ≡ runs.Limit → ⊥
+no-limit h = cc
+
+no-write : runs.Memory ≡ runs.Write → ⊥
+no-write h = cc
+
 -- ---- what was told of a schedule that may be run
 
 pub record Accepted (text : List ℕ) (events : List Event) : Type 0 where
@@ -53,79 +64,49 @@ pub record Accepted (text : List ℕ) (events : List Event) : Type 0 where
 told-of : (o : Outside) (Holds : List Event → List Line → Type 0) (TookOf : List ℕ → Type 0) (text : List ℕ) (events : List Event) → Reads o text → Accepted text events → (lines : List Line) → Holds events lines → TookOf (report_text lines) → Ran o Holds TookOf
 told-of o Holds TookOf text events reads a lines holds took = record { text = text; reads = reads; events = events; schedule = a.schedule; few = a.few; lines = lines; holds = holds; took = took }
 
--- ---- one client at one server
+-- ---- a run
 
-pub one-done : (options : Options) (text : List ℕ) (events : List Event) (taken : Option (List ℕ)) (faults : ℕ) (r : Result (Unit {0}) ReportFault) (taken' : Option (List ℕ)) (faults' : ℕ) → Accepted text events → is_ok r ≡ true
-    → RanOne taken faults events r taken' faults' → OutcomeOn options text taken faults statuses.Done taken' faults'
-one-done options text events taken faults r taken' faults' a ok ran = λ left rf rf' told fits. (
-  options,
-  refl,
-  told-of _ _ _ text events (record { told = told; fits = fits }) a ((ran.whole ok).lines) (record { report = λ one. (ran.whole ok).report; run = λ one. (ran.whole ok).run }) ((ran.whole ok).took),
-)
-
-pub one-write : (options : Options) (text : List ℕ) (events : List Event) (taken : Option (List ℕ)) (faults : ℕ) (r : Result (Unit {0}) ReportFault) (taken' : Option (List ℕ)) (faults' : ℕ) → Accepted text events → r ≡ Err reports.Write
-    → RanOne taken faults events r taken' faults' → OutcomeOn options text taken faults statuses.Write taken' faults'
-one-write options text events taken faults r taken' faults' a is ran =
-    let part = ran.part (ap is_ok is) in
-    λ left rf rf' told fits. (
-      ran.rose is,
-      OfReport (
+module _ (options : Options) (text : List ℕ) (events : List Event) (taken : Option (List ℕ)) (faults : ℕ) (r : Result (Unit {0}) RunFault) (taken' : Option (List ℕ)) (faults' : ℕ) (a : Accepted text events) (servers : options.servers ≤ 8) (range : AllByRecursion EventInRange events) (ran : Runs options events taken faults r taken' faults') where
+  pub run-done : is_ok r ≡ true → OutcomeOn options text taken faults statuses.Done taken' faults'
+  run-done ok = by ran
+    where
+      by : Runs options events taken faults r taken' faults' → OutcomeOn options text taken faults statuses.Done taken' faults'
+      by (inl none) = absurd (true≢false (sym ok ∙ ap is_ok none.0))
+      by (inr (images, new, from)) = λ left rf rf' told fits. (
         options,
         refl,
-        told-of _ _ _ text events (record { told = told; fits = fits }) a (part.lines) (record { run = λ one. part.run }) (part.took),
-      ),
-    )
+        told-of _ (IsWhole options) (Took taken taken') text events (record { told = told; fits = fits }) a (from.whole ok).lines (whole-holds options images new events servers range _ _ (from.whole ok).whole) (from.whole ok).took,
+      )
 
-pub one-memory : (options : Options) (text : List ℕ) (events : List Event) (taken : Option (List ℕ)) (faults : ℕ) (r : Result (Unit {0}) ReportFault) (taken' : Option (List ℕ)) (faults' : ℕ) → Accepted text events → r ≡ Err reports.Memory
-    → RanOne taken faults events r taken' faults' → OutcomeOn options text taken faults statuses.Memory taken' faults'
-one-memory options text events taken faults r taken' faults' a is ran =
-    let part = ran.part (ap is_ok is) in
-    λ left rf rf' told fits. inr (
-      options,
-      refl,
-      told-of _ _ _ text events (record { told = told; fits = fits }) a (part.lines) (record { run = λ one. part.run }) (part.took),
-    )
-
--- ---- any schedule
-
-not-one : {A : Type 0} (options : Options) (events : List Event) → is_one_client options events ≡ false → is_one_client options events ≡ true → A
-not-one options events others one = absurd (true≢false (sym one ∙ others))
-
-pub many-done : (options : Options) (text : List ℕ) (events : List Event) (taken : Option (List ℕ)) (faults : ℕ) (r : Result (Unit {0}) RunFault) (taken' : Option (List ℕ)) (faults' : ℕ) → Accepted text events → is_one_client options events ≡ false
-    → is_ok r ≡ true → Tells taken faults r taken' faults' → OutcomeOn options text taken faults statuses.Done taken' faults'
-many-done options text events taken faults r taken' faults' a others ok ran = λ left rf rf' told fits. (
-  options,
-  refl,
-  told-of _ _ _ text events (record { told = told; fits = fits }) a ((ran.whole ok).0) (record { report = not-one options events others; run = not-one options events others }) ((ran.whole ok).1),
-)
-
-pub many-limit : (options : Options) (text : List ℕ) (events : List Event) (taken : Option (List ℕ)) (faults : ℕ) (r : Result (Unit {0}) RunFault) (taken' : Option (List ℕ)) (faults' : ℕ) → Accepted text events → is_one_client options events ≡ false
-    → r ≡ Err runs.Limit → Tells taken faults r taken' faults' → OutcomeOn options text taken faults statuses.Limit taken' faults'
-many-limit options text events taken faults r taken' faults' a others is ran = λ left rf rf' told fits. inr (
-  options,
-  refl,
-  told-of _ _ _ text events (record { told = told; fits = fits }) a ((ran.limit is).0) (record { others = others }) ((ran.limit is).1),
-)
-
-pub many-write : (options : Options) (text : List ℕ) (events : List Event) (taken : Option (List ℕ)) (faults : ℕ) (r : Result (Unit {0}) RunFault) (taken' : Option (List ℕ)) (faults' : ℕ) → Accepted text events → is_one_client options events ≡ false
-    → r ≡ Err runs.Write → Tells taken faults r taken' faults' → OutcomeOn options text taken faults statuses.Write taken' faults'
-many-write options text events taken faults r taken' faults' a others is ran =
-    let part = ran.part (ap is_ok is) in
-    λ left rf rf' told fits. (
-      ran.rose is,
-      OfReport (
+  pub run-limit : r ≡ Err runs.Limit → OutcomeOn options text taken faults statuses.Limit taken' faults'
+  run-limit is = by ran
+    where
+      by : Runs options events taken faults r taken' faults' → OutcomeOn options text taken faults statuses.Limit taken' faults'
+      by (inl none) = absurd (no-limit (err-is r runs.Memory runs.Limit none.0 is))
+      by (inr (images, new, from)) = λ left rf rf' told fits. inr (
         options,
         refl,
-        told-of _ _ _ text events (record { told = told; fits = fits }) a (part.0) (record { run = not-one options events others }) (part.1),
-      ),
-    )
+        told-of _ (IsCutShort options) (Took taken taken') text events (record { told = told; fits = fits }) a (from.limit is).lines (limit-holds options images new events servers range _ (from.limit is).limited) (from.limit is).took,
+      )
 
-pub many-memory : (options : Options) (text : List ℕ) (events : List Event) (taken : Option (List ℕ)) (faults : ℕ) (r : Result (Unit {0}) RunFault) (taken' : Option (List ℕ)) (faults' : ℕ) → Accepted text events → is_one_client options events ≡ false
-    → r ≡ Err runs.Memory → Tells taken faults r taken' faults' → OutcomeOn options text taken faults statuses.Memory taken' faults'
-many-memory options text events taken faults r taken' faults' a others is ran =
-    let part = ran.part (ap is_ok is) in
-    λ left rf rf' told fits. inr (
-      options,
-      refl,
-      told-of _ _ _ text events (record { told = told; fits = fits }) a (part.0) (record { run = not-one options events others }) (part.1),
-    )
+  part-told : is_ok r ≡ false → (left : Option (List ℕ)) (rf rf' : ℕ) → IsText left text → length text ≤ most_bytes → (images : Devices) → AreNew options images → RunsFrom (course_of options events images taken faults) r taken' faults'
+      → RanInPart (record { left = left; read_faults = rf; read_faults' = rf'; taken = taken; taken' = taken'; write_faults = faults; write_faults' = faults' }) options
+  part-told failed left rf rf' told fits images new from =
+      told-of _ (IsPart options) (TookFront taken taken') text events (record { told = told; fits = fits }) a (from.part failed).lines (part-holds options images new events servers range _ (from.part failed).part) (from.part failed).took
+
+  pub run-write : r ≡ Err runs.Write → OutcomeOn options text taken faults statuses.Write taken' faults'
+  run-write is = by ran
+    where
+      by : Runs options events taken faults r taken' faults' → OutcomeOn options text taken faults statuses.Write taken' faults'
+      by (inl none) = absurd (no-write (err-is r runs.Memory runs.Write none.0 is))
+      by (inr (images, new, from)) = λ left rf rf' told fits. (
+        from.rose is,
+        OfReport (options, refl, part-told (ap is_ok is) left rf rf' told fits images new from),
+      )
+
+  pub run-memory : r ≡ Err runs.Memory → OutcomeOn options text taken faults statuses.Memory taken' faults'
+  run-memory is = by ran
+    where
+      by : Runs options events taken faults r taken' faults' → OutcomeOn options text taken faults statuses.Memory taken' faults'
+      by (inl none) = λ left rf rf' told fits. inl none.1
+      by (inr (images, new, from)) = λ left rf rf' told fits. inr (options, refl, part-told (ap is_ok is) left rf rf' told fits images new from)

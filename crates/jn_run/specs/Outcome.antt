@@ -1,5 +1,5 @@
 -- What a call of the program leaves, by its status.
-use Rattle.std.specs.Prelude.{◌≡◌, true, false, Bool, not, ◌&&◌, nat_eq, ◌≤◌, ◌<◌, ◌⊎◌, ℕ, List, ◌∷◌, [], ◌++◌, length, Option, Some, None, is_some, codes, decimal, IfSome}
+use Rattle.std.specs.Prelude.{◌≡◌, true, false, ◌≤◌, ◌<◌, ◌⊎◌, ℕ, List, ◌∷◌, [], ◌++◌, length, Option, Some, None, is_some, codes, decimal, IfSome}
 use Rattle.jn_schedule.specs.declared.Event.{Event}
 use Rattle.jn_report.specs.declared.line.Line.{Line}
 use Rattle.jn_report.specs.Text.{report_text}
@@ -7,21 +7,39 @@ use Rattle.jn_host.specs.Outside.{Rose}
 use Rattle.jn_schedule.specs.Grammar.{IsSchedule}
 use Rattle.jn_schedule.specs.Faults.{IsFirstFault}
 use Rattle.jn_writing.specs.Writing.{Took, TookFront}
-use Rattle.jn_one_client.specs.Runnable.{all_run}
-use Rattle.jn_one_client.specs.Report.{IsReport, IsRun, IsRunSoFar}
+use Rattle.jn_base.specs.declared.names.ServerNo.{ServerNo}
+use Rattle.jn_order.specs.Files.{AllFiles}
+use Rattle.jn_records.specs.StablePages.{Counts}
+use Rattle.jn_records.specs.declared.root.Root.{Root}
+use Rattle.jn_store.specs.Pairs.{pairs_view}
+use Rattle.jn_disks.specs.Disks.{IsNewStore}
 use Rattle.jn_options.specs.declared.options.Options.{Options}
+use Rattle.jn_ended.specs.Whole.{IsOfItsCommits}
+use Rattle.jn_headline.specs.Headline.{IsTrueOfBegun}
+use Rattle.jn_written.specs.Chances.{Setup}
+use Rattle.jn_written.specs.Devices.{Devices}
+use Rattle.jn_written.specs.Whole.{IsWhole as IsWholeRun, IsLimited, IsPartOfRun}
 use Rattle.jn_run.specs.declared.status.Status.{Status}
 use Rattle.jn_run.specs.declared.status.Status.TheVariants as statuses
 
 -- ---- what is asked for
 
--- the words ask for nothing but a run: one server with the usual counts of pages, and no line for each message
-abbrev pub is_plain : Options → Bool
-is_plain o = nat_eq o.servers 1 && (nat_eq o.pool 32 && (nat_eq o.heads 16 && (nat_eq o.leaves 128 && not o.trace)))
+-- the servers, their counts of pages, and whether messages are told
+abbrev pub counts_of : Options → Counts
+counts_of o = record { pool = o.pool; heads = o.heads; leaves = o.leaves }
 
--- and all events are of client 1, or settles
-abbrev pub is_one_client : Options → List Event → Bool
-is_one_client options events = is_plain options && all_run events
+abbrev pub setup_of : Options → Setup
+setup_of o = record { servers = o.servers; counts = λ q. counts_of o; trace = o.trace }
+
+abbrev pub root_of : Options → ServerNo → Root
+root_of o q = record { server = q; pool = o.pool; heads = o.heads; leaves = o.leaves; epoch = 0 }
+
+-- each server's disk is new: good pages of zeros behind a root of epoch 0, with power, and no fault waits
+abbrev pub AreNew : Options → Devices → Type 0
+AreNew o images = (q : ServerNo) → q.0 < o.servers → IsNewStore (root_of o q) (pairs_view (images q))
+
+abbrev pub no_files : AllFiles
+no_files s u = None
 
 -- these words are a command, with options of which this holds
 abbrev pub Asks : Option Options → (Options → Type 0) → Type 0
@@ -29,18 +47,28 @@ Asks asked Holds = (options : Options) × (asked ≡ Some options) × Holds opti
 
 -- ---- what holds of the lines
 
--- The lines of a run that was done. Those of one client at one server are of the order of their commits.
+-- The lines are those of a run of the written machine over all events, from new disks; and they are those of its commits, one after
+-- another.
 pub record IsWhole (options : Options) (events : List Event) (lines : List Line) : Type 0 where
-  pub report : is_one_client options events ≡ true → IsReport lines
-  pub run : is_one_client options events ≡ true → IsRun events lines
+  pub images : Devices
+  pub closing : Devices
+  pub new : AreNew options images
+  pub run : IsWholeRun (setup_of options) events images closing lines
+  pub commits : IsOfItsCommits no_files events lines
 
--- the lines of a run up to some event, or within one
+-- the lines of such a run up to some step, true of the events that have begun
 pub record IsPart (options : Options) (events : List Event) (lines : List Line) : Type 0 where
-  pub run : is_one_client options events ≡ true → IsRunSoFar events lines
+  pub images : Devices
+  pub new : AreNew options images
+  pub run : IsPartOfRun (setup_of options) events images lines
+  pub commits : IsTrueOfBegun no_files events run.now.state.course.world.event lines
 
--- the lines of a run that was cut short, which one client at one server never is
+-- the lines of such a run that a limit cut short
 pub record IsCutShort (options : Options) (events : List Event) (lines : List Line) : Type 0 where
-  pub others : is_one_client options events ≡ false
+  pub images : Devices
+  pub new : AreNew options images
+  pub run : IsLimited (setup_of options) events images lines
+  pub commits : IsTrueOfBegun no_files events run.last.state.course.world.event lines
 
 -- ---- what was read and written
 

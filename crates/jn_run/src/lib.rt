@@ -5,7 +5,7 @@ ghost use Rattle.std.specs.Prelude.{◌≡◌, ◌<◌, ◌≤◌, true, false, 
 ghost use Rattle.jn_options.specs.Words.{options_of, AreWithinLimits};
 ghost use Rattle.jn_schedule.specs.declared.Event.{Event as AnEvent};
 ghost use Rattle.jn_schedule.specs.Grammar.{IsSchedule};
-ghost use Rattle.jn_run.specs.Outcome.{OutcomeOf, OutcomeOn, Refuses, RefusesWords, refused_line, is_one_client, is_plain};
+ghost use Rattle.jn_run.specs.Outcome.{OutcomeOf, OutcomeOn, Refuses, RefusesWords, refused_line};
 
 use jn_host::{Failed, Keeper, Sink, Source};
 use std::alloc::Global;
@@ -14,11 +14,10 @@ mod reading;
 mod running;
 mod status;
 
-use jn_one_client::{are_known, run_events};
 use jn_options::{Options, read_options};
 use jn_schedule::{Event, ParseFault, check, count_events, parse};
 use jn_text::push_number;
-use jn_writing::{ReportFault, write_all};
+use jn_writing::write_all;
 use reading::{ReadFault, read_all};
 use running::{RunFault, run_servers};
 pub use status::Status;
@@ -128,7 +127,7 @@ fn refuse_long<K: Sink>(alloc: Global, options: Options, text: &[u8], sink: &mut
     }
 }
 
-/// Runs a schedule: that of one client at one server over a plain list of pages, any other in a world of servers on disks.
+/// Runs a schedule in a world of servers.
 fn run_schedule<K: Sink>(
     alloc: Global,
     options: Options,
@@ -139,58 +138,6 @@ fn run_schedule<K: Sink>(
     requires limits { AreWithinLimits options }
     requires schedule { IsSchedule text.now events.now }
     requires few { length events.now ≤ 100000 }
-    ensures ran { OutcomeOn options text.now (K.taken sink.old) (K.faults sink.old) result (K.taken sink.new) (K.faults sink.new) }
-{
-    if is_plain(options) && are_known(events) {
-        return run_one_client(alloc, options, text, events, sink);
-    }
-    run_many(alloc, options, text, events, sink)
-}
-
-/// Whether the words ask for nothing but a run.
-fn is_plain(options: Options) -> bool
-    ensures { result ≡ is_plain options }
-{
-    options.servers == 1
-        && options.pool == 32
-        && options.heads == 16
-        && options.leaves == 128
-        && !options.trace
-}
-
-/// Runs a schedule of one client at one server.
-fn run_one_client<K: Sink>(
-    alloc: Global,
-    options: Options,
-    text: &[u8],
-    events: &[Event],
-    sink: &mut K,
-) -> Status
-    requires schedule { IsSchedule text.now events.now }
-    requires few { length events.now ≤ 100000 }
-    requires known { is_one_client options events.now ≡ true }
-    ensures ran { OutcomeOn options text.now (K.taken sink.old) (K.faults sink.old) result (K.taken sink.new) (K.faults sink.new) }
-{
-    let _text = text;
-    match run_events(alloc, events, sink) {
-        Ok(()) => Status::Done,
-        Err(ReportFault::Write) => Status::Write,
-        Err(ReportFault::Memory) => Status::Memory,
-    }
-}
-
-/// Runs any schedule.
-fn run_many<K: Sink>(
-    alloc: Global,
-    options: Options,
-    text: &[u8],
-    events: &[Event],
-    sink: &mut K,
-) -> Status
-    requires limits { AreWithinLimits options }
-    requires schedule { IsSchedule text.now events.now }
-    requires few { length events.now ≤ 100000 }
-    requires others { is_one_client options events.now ≡ false }
     ensures ran { OutcomeOn options text.now (K.taken sink.old) (K.faults sink.old) result (K.taken sink.new) (K.faults sink.new) }
 {
     let _text = text;

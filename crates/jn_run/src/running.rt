@@ -1,10 +1,14 @@
 //! The events of a schedule in a world of servers, each on a disk of its own in memory.
 
-ghost use Rattle.std.specs.Prelude.{◌≡◌, ◌≤◌, Ok, OnOk, IfOk, length, vec_len};
+ghost use Rattle.std.specs.Prelude.{◌≡◌, ◌≤◌, ◌+◌, ◌∷◌, [], List, Ok, OnOk, IfOk, length, vec_len};
 ghost use Rattle.std.specs.List.{AllByRecursion};
 ghost use Rattle.jn_schedule.specs.Ranges.{EventInRange};
+ghost use Rattle.jn_schedule.specs.declared.Event.{Event as AnEvent};
+ghost use Rattle.jn_written.specs.Devices.{Devices};
+ghost use Rattle.jn_written.specs.Runs.{Moment};
+ghost use Rattle.jn_disks.specs.Disks.{IsNewStore};
 ghost use Rattle.jn_world.specs.Standing.{IsWorld, AreStores};
-ghost use Rattle.jn_run.specs.Running.{Tells, IsStore};
+ghost use Rattle.jn_run.specs.Running.{Course, course_of, HasTold, StandsBefore, Reaches, RunsFrom, Runs, Wrote, WroteLast, IsStore, AreDisks, AreDevices};
 ghost use Rattle.jn_run.specs.declared.running.RunFault.TheVariants as runs;
 
 use jn_base::ServerNo;
@@ -17,7 +21,7 @@ use jn_records::Root;
 use jn_report::Line;
 use jn_schedule::Event;
 use jn_stable::Pairs;
-use jn_store::StableStore;
+use jn_store::{Powered, StableStore};
 use jn_world::{Ended, World, start};
 use jn_writing::{ReportFault, report};
 use std::alloc::{AllocError, Global};
@@ -54,20 +58,61 @@ pub fn run_servers<K: Sink>(
     requires servers { options.servers ≤ 8 }
     requires few { length events.now ≤ 100000 }
     requires range { AllByRecursion EventInRange events.now }
-    ensures told { Tells (K.taken sink.old) (K.faults sink.old) result (K.taken sink.new) (K.faults sink.new) }
+    ensures ran { Runs options events.now (K.taken sink.old) (K.faults sink.old) result (K.taken sink.new) (K.faults sink.new) }
 {
-    let mut world = open_world(alloc, options, sink)?;
+    let stores = new_stores(alloc, options)?;
+    run_from(alloc, options, stores, events, sink)
+}
+
+/// Runs events from these stores.
+fn run_from<K: Sink>(
+    alloc: Global,
+    options: Options,
+    stores: Vec<(Disks, PageCounts)>,
+    events: &[Event],
+    sink: &mut K,
+) -> Result<(), RunFault>
+    requires servers { vec_len stores ≤ 8 }
+    requires count { vec_len stores ≡ options.servers }
+    requires stores { AreStores (⟦<Pairs<MemDisk> as StableStore>⟧.view) 0 stores.items }
+    requires new { AreDisks (⟦<Pairs<MemDisk> as StableStore>⟧.view) options stores.items }
+    requires few { length events.now ≤ 100000 }
+    requires range { AllByRecursion EventInRange events.now }
+    ensures ran { (images : Devices) → AreDevices (⟦<Pairs<MemDisk> as Powered>⟧.device) stores.items images
+        → RunsFrom (course_of options events.now images (K.taken sink.old) (K.faults sink.old)) result (K.taken sink.new) (K.faults sink.new) }
+{
+    let mut world = open_world(alloc, options, stores, sink)?;
+    run_events(alloc, &mut world, events, sink)?;
+    close_world(alloc, world, sink)
+}
+
+/// Does all events, one after another.
+fn run_events<K: Sink>(
+    alloc: Global,
+    world: &mut World<Disks>,
+    events: &[Event],
+    sink: &mut K,
+) -> Result<(), RunFault>
+    requires world { IsWorld (⟦<Pairs<MemDisk> as StableStore>⟧.view) world.old }
+    requires few { length events.now ≤ 100000 }
+    requires range { AllByRecursion EventInRange events.now }
+    ensures world { OnOk result (IsWorld (⟦<Pairs<MemDisk> as StableStore>⟧.view) world.new) }
+    ensures ran { (c : Course) (m : Moment) → HasTold c m (K.taken sink.old) (K.faults sink.old) → c.schedule ≡ events.now
+        → StandsBefore (⟦<Pairs<MemDisk> as StableStore>⟧.view) (⟦<Pairs<MemDisk> as Powered>⟧.device) c events.now world.old m
+        → Reaches c (λ done. StandsBefore (⟦<Pairs<MemDisk> as StableStore>⟧.view) (⟦<Pairs<MemDisk> as Powered>⟧.device) c [] world.new) result (K.taken sink.new) (K.faults sink.new) }
+{
     let mut number = 0;
     for event in events {
         number += 1;
-        run_event(alloc, &mut world, number, event, sink)?;
+        run_event(alloc, world, number, event, sink)?;
     }
-    close_world(alloc, world, sink)
+    Ok(())
 }
 
 /// The stores of new servers.
 fn new_stores(alloc: Global, options: Options) -> Result<Vec<(Disks, PageCounts)>, AllocError>
     ensures stores { IfOk result (λ v. AreStores (⟦<Pairs<MemDisk> as StableStore>⟧.view) 0 v.items) }
+    ensures new { IfOk result (λ v. AreDisks (⟦<Pairs<MemDisk> as StableStore>⟧.view) options v.items) }
     ensures count { IfOk result (λ v. vec_len v ≡ options.servers) }
 {
     let counts = PageCounts {
@@ -85,6 +130,7 @@ fn new_stores(alloc: Global, options: Options) -> Result<Vec<(Disks, PageCounts)
 /// The store of a new server.
 fn new_disk(alloc: Global, server: ServerNo, counts: PageCounts) -> Result<Disks, AllocError>
     ensures store { IfOk result (λ store. IsStore (⟦<Pairs<MemDisk> as StableStore>⟧.view) server.0 (store, counts)) }
+    ensures new { IfOk result (λ store. IsNewStore (record { server = server; pool = counts.pool; heads = counts.heads; leaves = counts.leaves; epoch = 0 }) (⟦<Pairs<MemDisk> as StableStore>⟧.view store)) }
 {
     let root = Root {
         server,
@@ -96,17 +142,22 @@ fn new_disk(alloc: Global, server: ServerNo, counts: PageCounts) -> Result<Disks
     new_store(alloc, root)
 }
 
-/// The world of new servers, all of which come up. The lines that tell it are written, also where a server doesn't.
+/// The world of these stores, all of whose servers come up. The lines that tell it are written, also where a server doesn't.
 fn open_world<K: Sink>(
     alloc: Global,
     options: Options,
+    stores: Vec<(Disks, PageCounts)>,
     sink: &mut K,
 ) -> Result<World<Disks>, RunFault>
-    requires few { options.servers ≤ 8 }
-    ensures told { Tells (K.taken sink.old) (K.faults sink.old) result (K.taken sink.new) (K.faults sink.new) }
+    requires few { vec_len stores ≤ 8 }
+    requires count { vec_len stores ≡ options.servers }
+    requires stores { AreStores (⟦<Pairs<MemDisk> as StableStore>⟧.view) 0 stores.items }
+    requires new { AreDisks (⟦<Pairs<MemDisk> as StableStore>⟧.view) options stores.items }
     ensures world { IfOk result (λ world. IsWorld (⟦<Pairs<MemDisk> as StableStore>⟧.view) world) }
+    ensures opened { (schedule : List AnEvent) (images : Devices) → AreDevices (⟦<Pairs<MemDisk> as Powered>⟧.device) stores.items images
+        → let c = course_of options schedule images (K.taken sink.old) (K.faults sink.old) in
+        Reaches c (StandsBefore (⟦<Pairs<MemDisk> as StableStore>⟧.view) (⟦<Pairs<MemDisk> as Powered>⟧.device) c schedule) result (K.taken sink.new) (K.faults sink.new) }
 {
-    let stores = new_stores(alloc, options)?;
     let mut lines = Vec::new(alloc);
     let world = start(alloc, stores, options.trace, &mut lines);
     write_lines(alloc, sink, &lines, world)
@@ -122,8 +173,10 @@ fn run_event<K: Sink>(
 ) -> Result<(), RunFault>
     requires world { IsWorld (⟦<Pairs<MemDisk> as StableStore>⟧.view) world.old }
     requires range { EventInRange event.now }
-    ensures told { Tells (K.taken sink.old) (K.faults sink.old) result (K.taken sink.new) (K.faults sink.new) }
     ensures world { OnOk result (IsWorld (⟦<Pairs<MemDisk> as StableStore>⟧.view) world.new) }
+    ensures ran { (c : Course) (m : Moment) (rest : List AnEvent) → HasTold c m (K.taken sink.old) (K.faults sink.old)
+        → StandsBefore (⟦<Pairs<MemDisk> as StableStore>⟧.view) (⟦<Pairs<MemDisk> as Powered>⟧.device) c (event.now ∷ rest) world.old m → number ≡ m.state.course.world.event + 1
+        → Reaches c (λ done. StandsBefore (⟦<Pairs<MemDisk> as StableStore>⟧.view) (⟦<Pairs<MemDisk> as Powered>⟧.device) c rest world.new) result (K.taken sink.new) (K.faults sink.new) }
 {
     let mut lines = Vec::new(alloc);
     let done = world.event(number, event, &mut lines);
@@ -133,31 +186,45 @@ fn run_event<K: Sink>(
 /// Ends the run, and writes the lines of the end, as far as it comes.
 fn close_world<K: Sink>(alloc: Global, world: World<Disks>, sink: &mut K) -> Result<(), RunFault>
     requires world { IsWorld (⟦<Pairs<MemDisk> as StableStore>⟧.view) world }
-    ensures told { Tells (K.taken sink.old) (K.faults sink.old) result (K.taken sink.new) (K.faults sink.new) }
+    ensures ran { (c : Course) (m : Moment) → HasTold c m (K.taken sink.old) (K.faults sink.old)
+        → StandsBefore (⟦<Pairs<MemDisk> as StableStore>⟧.view) (⟦<Pairs<MemDisk> as Powered>⟧.device) c [] world m
+        → RunsFrom c result (K.taken sink.new) (K.faults sink.new) }
 {
     let mut lines = Vec::new(alloc);
-    let closed = world.close(&mut lines).map(|_stores| ());
-    write_lines(alloc, sink, &lines, closed)
+    let closed = world.close(&mut lines);
+    let _stores = write_lines(alloc, sink, &lines, closed)?;
+    Ok(())
 }
 
-/// Writes the lines of a call, also where it ended the run, and gives what the call gave.
+/// Writes the lines of a call, also where it ended the run, and gives what the call gave. Where memory ran out its last step may not
+/// be whole, so none is written.
 fn write_lines<K: Sink, T: Drop>(
     alloc: Global,
     sink: &mut K,
     lines: &[Line],
     done: Result<T, Ended>,
 ) -> Result<T, RunFault>
-    ensures told { Tells (K.taken sink.old) (K.faults sink.old) result (K.taken sink.new) (K.faults sink.new) }
-    ensures same { IfOk result (λ x. done ≡ Ok x) }
+    ensures wrote { Wrote done lines.now (K.taken sink.old) (K.faults sink.old) result (K.taken sink.new) (K.faults sink.new) }
+{
+    match done {
+        Err(Ended::Memory) => Err(RunFault::Memory),
+        Err(Ended::Messages) => Err(write_last(alloc, sink, lines)),
+        Err(Ended::Epoch(_)) => Err(write_last(alloc, sink, lines)),
+        Ok(given) => match report(alloc, sink, lines) {
+            Ok(()) => Ok(given),
+            Err(ReportFault::Write) => Err(RunFault::Write),
+            Err(ReportFault::Memory) => Err(RunFault::Memory),
+        },
+    }
+}
+
+/// Writes the last lines of a run that a limit cut short. Why it ends then.
+fn write_last<K: Sink>(alloc: Global, sink: &mut K, lines: &[Line]) -> RunFault
+    ensures { WroteLast lines.now (K.taken sink.old) (K.faults sink.old) result (K.taken sink.new) (K.faults sink.new) }
 {
     match report(alloc, sink, lines) {
-        Err(ReportFault::Write) => Err(RunFault::Write),
-        Err(ReportFault::Memory) => Err(RunFault::Memory),
-        Ok(()) => match done {
-            Ok(given) => Ok(given),
-            Err(Ended::Memory) => Err(RunFault::Memory),
-            Err(Ended::Messages) => Err(RunFault::Limit),
-            Err(Ended::Epoch(_)) => Err(RunFault::Limit),
-        },
+        Ok(()) => RunFault::Limit,
+        Err(ReportFault::Write) => RunFault::Write,
+        Err(ReportFault::Memory) => RunFault::Memory,
     }
 }

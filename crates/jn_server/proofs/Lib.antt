@@ -7,3 +7,4 @@ mod Serving
 mod Listed
 mod Pieces
 mod Shows
+mod Room

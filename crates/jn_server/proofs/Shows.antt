@@ -303,6 +303,7 @@ module _ (v : ServerView) (serves : IsServer v) where
         are_blocks = λ f e. blocks-names f;
         printed = h.tells.told;
       };
+      in_range = in-range;
       accounts = h.tells.accounts;
       serves = h.tells.serves;
       no_stop = h.tells.no_stop;

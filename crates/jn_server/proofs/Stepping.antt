@@ -1,6 +1,6 @@
 -- A background step of the worker, and what is sent again, as the whole server's.
-use Rattle.std.proofs.Common.{◌≡◌, Bool, true, false, [], ◌++◌, append_assoc, Option, Some, None, refl, ◌∙◌, ap, arith}
-use Rattle.std.specs.Prelude.{Result, Ok, Err, OnOk, is_ok}
+use Rattle.std.proofs.Common.{◌≡◌, Bool, true, false, ◌||◌, [], ◌++◌, length, append_assoc, Option, Some, None, refl, sym, ◌∙◌, ap, arith}
+use Rattle.std.specs.Prelude.{Result, Ok, Err, OnOk, is_ok, is_some, nat_lt}
 use Rattle.std.specs.Result.{IsErr, IsErrAnd}
 use Rattle.jn_msgs.specs.Collected.{Collected}
 use Rattle.jn_rows.specs.Outcomes.{RowOutcome}
@@ -12,12 +12,13 @@ use Rattle.jn_transactions.specs.Telling.{added}
 use Rattle.jn_worker.specs.declared.words.WorkerFault.{WorkerFault}
 use Rattle.jn_worker.specs.Calls.{Steps as WorkerSteps, AsksAgain}
 use Rattle.jn_worker.specs.Fitting.{WorkerView, seen}
-use Rattle.jn_protocol.specs.Servers.{of_step, server_again}
+use Rattle.jn_protocol.specs.Servers.{of_step, server_step, server_again}
 use Rattle.jn_protocol.proofs.WorkerChanges.{step-aside}
 use Rattle.jn_server.specs.declared.fault.ServerFault.{ServerFault}
 use Rattle.jn_server.specs.Faults.{of_worker as fault_of}
 use Rattle.jn_server.specs.Handling.{Steps}
-use Rattle.jn_server.specs.Seen.{ServerView, memory_of, IsServer}
+use Rattle.jn_server.specs.Seen.{ServerView, memory_of, room_of, IsServer}
+use Rattle.jn_server.proofs.Room.{not_none}
 use Rattle.jn_server.proofs.Ranges.{step-in-range}
 use Rattle.jn_server.proofs.Working.{worked, one-leaves, worker_failed}
 
@@ -61,6 +62,21 @@ module _ (v : ServerView) (serves : IsServer v) (before : Collected) (u : Worker
   pub step-failed : (fault : WorkerFault) (answer : Result Bool ServerFault) → IsErr answer → IsErrAnd answer (λ e. e ≡ fault_of fault)
       → WorkerSteps step v.worker v.storage before v.tickets (Err fault) u w after v.tickets → Steps (of_step (memory_of v) step) v before answer now after
   step-failed fault answer is why h = failed-by fault answer is why step refl h
+
+-- whether a step is left: a work goes, or a record is rubbish
+module _ (v : ServerView) (going : Bool) (steps : is_some (worker_step v.worker.table (seen v.storage) v.tickets) ≡ (going || (seen v.storage).rubbish)) where
+  whole : (going || (seen v.storage).rubbish) ≡ is_some (server_step (memory_of v) (state v.storage) (room_of v.storage))
+  whole = sym steps ∙ by (worker_step v.worker.table (seen v.storage) v.tickets)
+    where
+      by : (o : Option (RowOutcome WorkerTable)) → is_some o ≡ is_some (of_step (memory_of v) o)
+      by None = refl
+      by (Some row) = refl
+
+  pub work_goes : going ≡ true → going ≡ is_some (server_step (memory_of v) (state v.storage) (room_of v.storage))
+  work_goes goes = goes ∙ ap (λ b. b || (seen v.storage).rubbish) (sym goes) ∙ whole
+
+  pub rubbish_left : going ≡ false → (rubbish : Bool) → rubbish ≡ nat_lt 0 (length v.storage.accounts.rubbish) → rubbish ≡ is_some (server_step (memory_of v) (state v.storage) (room_of v.storage))
+  rubbish_left none rubbish is = is ∙ not_none v.storage.accounts.rubbish ∙ ap (λ b. b || (seen v.storage).rubbish) (sym none) ∙ whole
 
 -- first the worker's questions, then what the coordinator has told
 pub sent-again : {E : Type 0} (answer : Result Unit E) (v : ServerView) (before middle after : Collected) → IsServer v → AsksAgain v.worker before true middle

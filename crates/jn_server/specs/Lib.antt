@@ -1,4 +1,5 @@
 pub mod Seen
+pub mod Standing
 pub mod Ranges
 pub mod Handling
 pub mod Faults

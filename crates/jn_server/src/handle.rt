@@ -8,6 +8,7 @@ ghost use Rattle.jn_rows.specs.Coordinator.{coordinator_row};
 ghost use Rattle.jn_rows.specs.Worker.{worker_row};
 ghost use Rattle.jn_server.specs.Handling.{Does, LeavesRubbish};
 ghost use Rattle.jn_server.specs.Seen.{view_with, memory_of, room_of, IsServer};
+ghost use Rattle.jn_server.specs.Standing.{IsRoomOfPages};
 ghost use Rattle.jn_storage.specs.Calls.{state};
 ghost use Rattle.jn_worker.specs.Fitting.{seen};
 ghost use Rattle.jn_worker.specs.Handling.{InRange};
@@ -53,7 +54,9 @@ impl<S: StableStore> Server<S> {
         requires few { FewWorks message.now }
         ensures does { let v = view_with (λ s. S.view s) self.old in Does 1024 (server_row (memory_of v) (state v.storage) (room_of v.storage) message.now) v out.old result (view_with (λ s. S.view s) self.new) out.new }
         ensures rubbish { let v = view_with (λ s. S.view s) self.old in OnOk result (LeavesRubbish v (server_row (memory_of v) (state v.storage) (room_of v.storage) message.now) (view_with (λ s. S.view s) self.new)) }
+        ensures room { IsRoomOfPages (view_with (λ s. S.view s) self.old) }
     {
+        self.reads_pages();
         if is_for_worker(message) {
             return self.work_on(message, out);
         }

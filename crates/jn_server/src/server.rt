@@ -1,8 +1,10 @@
 //! A server that is up.
+ghost use Rattle.std.specs.Prelude.{◌≡◌};
 
 use jn_base::Tickets;
 use jn_coord::Coordinator;
 use jn_intent::Intents;
+use jn_rows::Transaction;
 use jn_store::StableStore;
 use jn_worker::Worker;
 use std::marker::Model;
@@ -23,4 +25,13 @@ impl<S: StableStore> Model for Server<S> {
     ghost Value = { Parts S };
 
     ghost view = { λ s. record { storage = s.storage; worker = s.worker; coordinator = s.coordinator; tickets = s.tickets } };
+}
+
+impl<S: StableStore> Server<S> {
+    /// The live transactions, in rising order of their names.
+    pub fn transactions(&self) -> &[Transaction]
+        ensures { result.now ≡ self.now.coordinator.transactions }
+    {
+        self.coordinator.transactions()
+    }
 }

@@ -1,8 +1,9 @@
 //! What a server does without a message.
-ghost use Rattle.std.specs.Prelude.{◌≡◌, [], OnOk};
+ghost use Rattle.std.specs.Prelude.{◌≡◌, [], is_some, OnOk};
 ghost use Rattle.jn_protocol.specs.Servers.{server_step, server_again};
 ghost use Rattle.jn_server.specs.Handling.{Steps, TimesOut};
 ghost use Rattle.jn_server.specs.Seen.{view_with, memory_of, room_of, IsServer};
+ghost use Rattle.jn_server.specs.Standing.{IsRoomOfPages};
 ghost use Rattle.jn_storage.specs.Calls.{state};
 ghost use Rattle.jn_transactions.specs.Telling.{added};
 
@@ -14,12 +15,33 @@ use jn_store::StableStore;
 use std::alloc::AllocError;
 
 impl<S: StableStore> Server<S> {
+    /// For proofs alone: what the rows read of the storage is what stands on its pages.
+    pub fn reads_pages(&self)
+        requires serves { IsServer (view_with (λ s. S.view s) self.now) }
+        ensures { IsRoomOfPages (view_with (λ s. S.view s) self.now) }
+    {
+        self.storage.is_kept();
+        self.worker.is_in_order();
+    }
+
+    /// Whether a background step has something to do. It makes no device call.
+    pub fn has_work(&self) -> bool
+        requires serves { IsServer (view_with (λ s. S.view s) self.now) }
+        ensures work { let v = view_with (λ s. S.view s) self.now in result ≡ is_some (server_step (memory_of v) (state v.storage) (room_of v.storage)) }
+        ensures room { IsRoomOfPages (view_with (λ s. S.view s) self.now) }
+    {
+        self.reads_pages();
+        self.worker.has_going() || self.storage.has_rubbish()
+    }
+
     /// One background step: the next intention of a going work is carried out, or a work that is carried out is forgotten, or
     /// a rubbish record is erased. False exactly where nothing is to do.
     pub fn step(&mut self, out: &mut Out) -> Result<bool, ServerFault>
         requires serves { IsServer (view_with (λ s. S.view s) self.old) }
         ensures steps { let v = view_with (λ s. S.view s) self.old in Steps (server_step (memory_of v) (state v.storage) (room_of v.storage)) v out.old result (view_with (λ s. S.view s) self.new) out.new }
+        ensures room { IsRoomOfPages (view_with (λ s. S.view s) self.old) }
     {
+        self.reads_pages();
         Ok(self.worker.step(&mut self.storage, out)?)
     }
 
@@ -38,6 +60,7 @@ impl<S: StableStore> Server<S> {
     pub fn timeout(&mut self, tid: Tid) -> bool
         requires serves { IsServer (view_with (λ s. S.view s) self.old) }
         ensures times_out { TimesOut tid (view_with (λ s. S.view s) self.old) result (view_with (λ s. S.view s) self.new) }
+        ensures storage { self.new.storage ≡ self.old.storage }
     {
         self.worker.timeout(tid)
     }

@@ -237,6 +237,14 @@ impl Sets {
         Ok(true)
     }
 
+    /// Whether some slot has an intention whose work has no ready or going record. The slots are looked at once, without
+    /// those below the ones that `erase_one` has looked at.
+    pub fn has_rubbish(&self) -> bool
+        ensures { result ≡ list_any (pool.is_rubbish self.now) self.now }
+    {
+        self.rubbish_slot().is_some()
+    }
+
     /// The lowest slot with what is wanted, among those with its number.
     fn lowest(&self, wanted: Wanted) -> Option<u16>
         ensures { result ≡ position (pool.is_wanted wanted) self.now }

@@ -1,12 +1,13 @@
 -- A step without a message.
 use Rattle.std.proofs.Common.{◌≡◌, ℕ, Bool, true, false, List, [], ◌∷◌, Option, Some, None, refl, sym, ◌∙◌, ap, subst, arith, true≢false}
-use Rattle.std.specs.Prelude.{Result, Ok, Err, is_ok, is_some, not, slice_get, if◌then◌else◌}
+use Rattle.std.specs.Prelude.{Result, Ok, Err, is_ok, is_some, not, ◌||◌, slice_get, if◌then◌else◌}
 use Rattle.std.proofs.lemmas.List.{append-nil}
 use Rattle.jn_base.specs.declared.device.Stopped.{Stopped}
 use Rattle.jn_base.specs.declared.names.Tickets.{Tickets}
 use Rattle.jn_base.specs.declared.names.WorkId.{WorkId}
 use Rattle.jn_base.specs.Names.{work_eq}
 use Rattle.jn_records.specs.declared.intention.Intention.{Intention}
+use Rattle.jn_records.specs.Reading.{Gives}
 use Rattle.jn_msgs.specs.Collected.{Collected}
 use Rattle.jn_rows.specs.declared.worker.Work.{Work}
 use Rattle.jn_rows.specs.Outcomes.{RowOutcome, Performs, quiet}
@@ -131,6 +132,22 @@ same-list (Some p) = refl
 one-going : (t : WorkerView) (v : StorageView) (k : Tickets) (w : Work) → Fits t v → going_in t.going t.table ≡ Some w → worker_step t.table (seen v) k ≡ Some (carried_row t.table k (new_work w.name w.tid) (next_of v w.name))
 one-going t v k w h found = ap (λ o. going_row t.table (seen v) k o) (sym (going-same t.going (state v) t.table h.going) ∙ found)
     ∙ ap (λ r. Some r) (carried-same t.table k w _ ∙ ap (λ l. carried_row t.table k (new_work w.name w.tid) (slice_get l (v.accounts.next w.name))) (same-list ((state v).works w.name)))
+
+-- whether a step is left
+pub some_given : {X Y : Type 0} (view : X → Y) (o : Option X) (r : Option Y) → Gives view o r → is_some o ≡ is_some r
+some_given view None r e = ap is_some (sym e)
+some_given view (Some x) r e = ap is_some (sym e)
+
+pub step_left : (t : WorkerView) (v : StorageView) (k : Tickets) → Fits t v → is_some (worker_step t.table (seen v) k) ≡ (is_some (going_in t.going t.table) || (seen v).rubbish)
+step_left t v k h = by (going_in t.going t.table) refl
+  where
+    left : (rs : List WorkId) → is_some (erase_row rs t.table k) ≡ not (is_none rs)
+    left [] = refl
+    left (x ∷ xs) = refl
+
+    by : (o : Option Work) → going_in t.going t.table ≡ o → is_some (worker_step t.table (seen v) k) ≡ (is_some o || (seen v).rubbish)
+    by None e = ap is_some (none-going t v k h e) ∙ left v.accounts.rubbish
+    by (Some w) e = ap is_some (one-going t v k w h e)
 
 retold : {A B : Type 0} (row : RowOutcome WorkerTable) (t u : WorkerView) (v w : StorageView) (before after : Collected) (k l : Tickets) (a : Result A WorkerFault) (b : Result B WorkerFault) → is_ok a ≡ is_ok b → has_stopped a ≡ has_stopped b
     → Takes 40 row t v before k a u w after l → Takes 40 row t v before k b u w after l

@@ -1,10 +1,12 @@
 // What a worker does without a message.
-ghost use Rattle.std.specs.Prelude.{◌≡◌, true, is_some};
+ghost use Rattle.std.specs.Prelude.{◌≡◌, ◌||◌, true, is_some};
 ghost use Rattle.jn_base.specs.declared.names.Tickets.{Tickets};
 ghost use Rattle.jn_rows.specs.Worker as rows;
 ghost use Rattle.jn_storage.specs.Calls.{IsGoing, next_of};
+ghost use Rattle.jn_storage.specs.Storage.{StorageView};
 ghost use Rattle.jn_worker.specs.Calls.{Takes, Steps};
 ghost use Rattle.jn_worker.specs.Fitting.{Fits, seen};
+ghost use Rattle.jn_works.specs.Changing.{going_in};
 
 use crate::words::WorkerFault;
 use crate::worker::Worker;
@@ -26,6 +28,14 @@ impl Worker {
         let (name, tid) = (work.name, work.tid);
         self.carry_on(store, name, tid, out)?;
         Ok(true)
+    }
+
+    /// Whether some work is going. A step has something to do where one is, and also where a record is rubbish.
+    pub fn has_going(&self) -> bool
+        ensures going { result ≡ is_some (going_in self.now.going self.now.table) }
+        ensures steps { (v : StorageView) (k : Tickets) → Fits self.now v → is_some (rows.worker_step self.now.table (seen v) k) ≡ (result || (seen v).rubbish) }
+    {
+        going_work(&self.works, &self.going).is_some()
     }
 
     /// Carries on with a going work.

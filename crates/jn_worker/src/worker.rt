@@ -1,5 +1,6 @@
 //! A worker's table: its live works and their locks.
-ghost use Rattle.std.specs.Prelude.{◌≡◌, is_ok};
+ghost use Rattle.std.specs.Prelude.{◌≡◌, true, is_ok};
+ghost use Rattle.jn_lock_rows.specs.Matching.{are_rising};
 ghost use Rattle.jn_rows.specs.Worker as rows;
 ghost use Rattle.jn_works.specs.Locked.{next_locked};
 ghost use Rattle.jn_worker.specs.Calls.{AsksAgain, TimesOut};
@@ -48,6 +49,13 @@ impl Worker {
         ensures { result ≡ next_locked after self.now.table }
     {
         next_locked(&self.works, after)
+    }
+
+    /// For proofs alone: the works stand in rising order of their names.
+    pub fn is_in_order(&self)
+        ensures { are_rising self.now.table ≡ true }
+    {
+        let _locks = &self.locks;
     }
 
     #[tactic(auto, using(crate::proofs::Again::again_row))]

@@ -3,7 +3,7 @@ use Rattle.std.proofs.Common.{◌≡◌, ◌≤◌, ◌<◌, ℕ, zero, suc, ◌
 use Rattle.std.proofs.Math.ListN.{set}
 use Rattle.std.proofs.lemmas.Bool.Decides.{nat_tests}
 use Rattle.std.proofs.lemmas.List.Elements.{All-append, All-map, All-nil, All-cons, All-set, All-weaker, All-get_or, All-from_recursion, recursion_from_All}
-use Rattle.std.proofs.lemmas.Option.{slice_get_within, get_or_from_slice_get}
+use Rattle.std.proofs.lemmas.Option.{slice_get_within, slice_get-get_or, get_or_from_slice_get}
 use Rattle.std.specs.List.{AllByRecursion as ByRecursion}
 use Rattle.std.specs.Prelude.{All, Result, OnOk, slice_get}
 use Rattle.std.specs.Vec.{with_item}
@@ -28,12 +28,12 @@ use Rattle.jn_store.specs.Store.{StoreView}
 use Rattle.jn_within.proofs.Taking.{command-fits, command-draws, take-fits, take-number, new-fits}
 use Rattle.jn_within.specs.Drawing.{DrawsOne}
 use Rattle.jn_within.specs.Taking.{CanBeTaken, AllCanBeTaken, ClientFits, CommandInRange, CommandFits, sent_for}
-use Rattle.jn_world.specs.Calls.{Left}
-use Rattle.jn_world.specs.declared.place.Place.{Place}
-use Rattle.jn_world.specs.declared.place.Slot.{Slot}
-use Rattle.jn_world.specs.declared.place.Slot.TheVariants.{Up, Down, Gone}
+use Rattle.jn_place.specs.Calls.{Left}
+use Rattle.jn_place.specs.declared.place.Place.{Place}
+use Rattle.jn_place.specs.declared.place.Slot.{Slot}
+use Rattle.jn_place.specs.declared.place.Slot.TheVariants.{Up, Down, Gone}
 use Rattle.jn_world.specs.declared.world.World.{World}
-use Rattle.jn_world.specs.Places.{Stands, IsPlace, is_up}
+use Rattle.jn_place.specs.Places.{Stands, IsPlace, is_up}
 use Rattle.jn_world.specs.Standing.{ArePlaces, IsClientOf, ArePosted, IsWorld, posted_by, messages_in, is_up_at, is_client, AreStores, AreClosed}
 
 -- ---- one place
@@ -151,7 +151,7 @@ world-posted {S} look a b from messages h can places clients sent limit =
 
 -- ---- a server's place in the world
 
-up-within : {S : Type 0} (ps : List (Place S)) (i : ℕ) → is_up_at i ps ≡ true → i < length ps
+pub up-within : {S : Type 0} (ps : List (Place S)) (i : ℕ) → is_up_at i ps ≡ true → i < length ps
 up-within [] i e = absurd (true≢false (sym e))
 up-within (p ∷ ps) zero e = omega arith
 up-within (p ∷ ps) (suc i) e = let below = up-within ps i e in omega arith
@@ -182,6 +182,10 @@ up-here {S} w server i p at up read = subst (λ (q : Place S). is_up q.slot ≡ 
 
 pub down-here : {S : Type 0} (w : World S) (server : ServerNo) (i : ℕ) (p : Place S) → i ≡ server.0 → server.0 < length w.places.items → is_up_at server.0 w.places.items ≡ false → p ≡ get_or w.places.items i p → is_up p.slot ≡ false
 down-here {S} w server i p at within down read = subst (λ (q : Place S). is_up q.slot ≡ false) (sym (read ∙ ap (λ (k : ℕ). get_or w.places.items k p) at)) (down-at-index w.places.items server.0 p within down)
+
+-- the place of a server that is up, as a list reads it
+pub place-is : {S : Type 0} (w : World S) (server : ServerNo) (i : ℕ) (p : Place S) → i ≡ server.0 → is_up_at server.0 w.places.items ≡ true → p ≡ get_or w.places.items i p → slice_get w.places.items server.0 ≡ Some p
+place-is {S} w server i p at up read = slice_get-get_or w.places.items server.0 p (up-within w.places.items server.0 up) ∙ ap (λ (q : Place S). Some q) (sym (read ∙ ap (λ (k : ℕ). get_or w.places.items k p) at))
 
 -- a place is written, and nothing is sent
 pub moved-quiet : {S : Type 0} (look : S → StoreView) (a b : World S) (server : ServerNo) (i : ℕ) (q : Place S) → i ≡ server.0 → IsWorld look a → IsPlace look server (length a.net.sent) q
@@ -306,6 +310,9 @@ delivered-world look a k n h e =
       posted = subst ArePosted (sym sent) (All-from_recursion P (with_delivered k a.net.sent) (delivered-by k a.net.sent (recursion_from_All P a.net.sent h.posted)));
       limit = (let before = h.limit in omega arith);
     }
+
+pub delivered-many : (a n : Carried) (k : ℕ) → n ≡ record a { sent = with_delivered k a.sent } → length n.sent ≡ length a.sent
+delivered-many a n k e = ap (λ (x : Carried). length x.sent) e ∙ delivered-length k a.sent
 
 pub delivered-below : (a n : Carried) (k j : ℕ) → n ≡ record a { sent = with_delivered k a.sent } → j < length a.sent → j < length n.sent
 delivered-below a n k j e h = let same = ap (λ (x : Carried). length x.sent) e ∙ delivered-length k a.sent in omega arith

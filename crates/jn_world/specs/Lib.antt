@@ -1,3 +1,9 @@
-pub mod Places
-pub mod Calls
 pub mod Standing
+pub mod Naming
+pub mod Faults
+pub mod Written
+pub mod Settling
+pub mod Bringing
+pub mod Closing
+pub mod Meeting
+pub mod Opening

@@ -10,10 +10,11 @@ use Rattle.jn_recovery.specs.Loading.{counts_by}
 use Rattle.jn_rows.specs.Client.{ClientTable}
 use Rattle.jn_rows.specs.Outcomes.{Sent}
 use Rattle.jn_store.specs.Store.{StoreView}
-use Rattle.jn_world.specs.declared.place.Place.{Place}
+use Rattle.jn_place.specs.declared.place.Place.{Place}
 use Rattle.jn_world.specs.declared.world.World.{World}
 use Rattle.jn_within.specs.Taking.{CanBeTaken, ClientFits}
-use Rattle.jn_world.specs.Places.{IsPlace, is_up}
+use Rattle.jn_place.specs.Places.{IsPlace, is_up}
+use Rattle.jn_place.specs.Exact.{has_work_at}
 
 -- the places of the servers from this number on
 abbrev pub ArePlaces : {S : Type 0} → (S → StoreView) → ℕ → ℕ → List (Place S) → Type 0
@@ -58,6 +59,14 @@ is_up_in (Some p) = is_up p.slot
 
 abbrev pub is_up_at : {S : Type 0} → ℕ → List (Place S) → Bool
 is_up_at n ps = is_up_in (slice_get ps n)
+
+-- whether it is there and has something to do
+abbrev pub works_in : {S : Type 0} → (S → StoreView) → Option (Place S) → Bool
+works_in look None = false
+works_in look (Some p) = has_work_at look p.slot
+
+abbrev pub works_at : {S : Type 0} → (S → StoreView) → ℕ → List (Place S) → Bool
+works_at look n ps = works_in look (slice_get ps n)
 
 -- whether a client is one of the eight
 abbrev pub is_client : ℕ → Bool

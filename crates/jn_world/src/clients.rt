@@ -1,17 +1,23 @@
 //! What clients do.
-ghost use Rattle.std.specs.Prelude.{◌≡◌, ◌<◌, ◌≤◌, ◌+◌, true, false, vec_len, length, nat_lt, OnOk, IfOk, All, [], ◌∷◌, ◌++◌};
-ghost use Rattle.jn_within.specs.Taking.{CanBeTaken, AllCanBeTaken, CommandInRange};
-ghost use Rattle.jn_world.specs.Standing.{IsWorld, IsWorldUpTo, is_up_at, posted_by};
+ghost use Rattle.std.specs.Prelude.{◌≡◌, ◌<◌, ◌≤◌, ◌+◌, true, false, vec_len, length, OnOk, IfOk, IfSome, All, [], ◌∷◌, ◌++◌, slice_get};
 ghost use Rattle.jn_base.specs.declared.names.Party.TheVariants.{Client as AClient};
-ghost use Rattle.jn_within.specs.Taking.{sent_for};
-ghost use Rattle.jn_world.specs.Standing.{is_client, IsClientOf};
+ghost use Rattle.jn_report.specs.declared.line.When.TheVariants.{Event as AtEvent};
+ghost use Rattle.jn_rows.specs.Client.{new_table, take_row};
+ghost use Rattle.jn_schedule.specs.declared.Event.TheVariants as events;
+ghost use Rattle.jn_stands.specs.Clients.{texts_taken};
+ghost use Rattle.jn_stands.specs.Stands.{with_sent};
+ghost use Rattle.jn_within.specs.Taking.{sent_for, AllCanBeTaken, CommandInRange};
+ghost use Rattle.jn_world.specs.Opening.{AreNew};
+ghost use Rattle.jn_world.specs.Standing.{IsWorld, IsClientOf, is_client, posted_by};
+ghost use Rattle.jn_world.specs.Written.{DoesEvent, EndsStep, IsSentTo, standing_of};
+ghost use Rattle.jn_written.specs.Steps.{lines_at, message_texts, traced};
 
 use crate::ended::Ended;
-use crate::telling::tell;
 use crate::world::{CLIENTS, World, is_client};
 use jn_base::{ClientNo, Command, Party};
 use jn_client::{Client, CommandFault};
 use jn_msgs::Message;
+use jn_place::tell;
 use jn_report::{Line, Text, When};
 use jn_rows::Taken;
 use jn_store::Powered;
@@ -20,7 +26,7 @@ use std::alloc::{AllocError, Global};
 /// All clients, which have no transaction yet.
 pub(crate) fn new_clients(alloc: Global, servers: u8) -> Result<Vec<Client>, AllocError>
     requires { servers ≤ 8 }
-    ensures { IfOk result (λ clients. (vec_len clients ≡ 8) × All (IsClientOf 0) clients.items) }
+    ensures { IfOk result (λ clients. (vec_len clients ≡ 8) × All (IsClientOf 0) clients.items × AreNew servers clients.items) }
 {
     let mut clients = Vec::new(alloc);
     for c in 0..CLIENTS {
@@ -40,7 +46,8 @@ fn index_of(client: ClientNo) -> usize
 /// What a client does with a message that has given no command yet.
 fn take_as_new(alloc: Global, client: ClientNo, servers: u8, message: &Message) -> Taken
     requires { servers ≤ 8 }
-    ensures { AllCanBeTaken (sent_for result) }
+    ensures can { AllCanBeTaken (sent_for result) }
+    ensures row { result ≡ (take_row (new_table client servers) message.now).1 }
 {
     let mut new = Client::new(alloc, client, servers);
     new.take(message)
@@ -59,6 +66,7 @@ impl<S: Powered + Drop> World<S> {
         requires client { is_client client.0 ≡ true }
         requires range { CommandInRange command.now }
         ensures world { OnOk result (IsWorld (λ s. S.view s) self.new) }
+        ensures does { DoesEvent (λ s. S.view s) (λ s. S.device s) (events.Command client command.now) (AtEvent number) (standing_of self.old) result (standing_of self.new) lines.old.items lines.new.items }
     {
         let when = When::Event(number);
         match self.clients[index_of(client)].command(number, command) {
@@ -85,6 +93,8 @@ impl<S: Powered + Drop> World<S> {
         ensures others { self.new ≡ record self.old { net = self.new.net } }
         ensures sent { OnOk result (self.new.net.sent ≡ self.old.net.sent ++ posted_by (AClient client) ((to, message) ∷ [])) }
         ensures limit { OnOk result (length self.new.net.sent ≤ 1000000) }
+        ensures ends { EndsStep result (with_sent (posted_by (AClient client) ((to, message) ∷ [])) (standing_of self.old)) (standing_of self.new) lines.old.items
+            (lines.old.items ++ lines_at when (traced self.old.trace (message_texts (AClient client) (length self.old.net.sent) ((to, message) ∷ [])))) lines.new.items }
     {
         self.post(Party::Client(client), to, message, when, lines)
     }
@@ -99,6 +109,7 @@ impl<S: Powered + Drop> World<S> {
         requires world { IsWorld (λ s. S.view s) self.old }
         requires client { is_client client.0 ≡ true }
         ensures world { OnOk result (IsWorld (λ s. S.view s) self.new) }
+        ensures does { DoesEvent (λ s. S.view s) (λ s. S.device s) (events.Again client) when (standing_of self.old) result (standing_of self.new) lines.old.items lines.new.items }
     {
         match self.clients[index_of(client)].again()? {
             None => Ok(()),
@@ -116,7 +127,9 @@ impl<S: Powered + Drop> World<S> {
     ) -> Result<(), Ended>
         requires world { IsWorld (λ s. S.view s) self.old }
         requires sent { k < length self.old.net.sent }
+        requires to { IsSentTo (AClient client) (slice_get self.old.net.sent k) }
         ensures world { OnOk result (IsWorld (λ s. S.view s) self.new) }
+        ensures does { DoesEvent (λ s. S.view s) (λ s. S.device s) (events.Deliver k) when (standing_of self.old) result (standing_of self.new) lines.old.items lines.new.items }
     {
         if is_client(client) {
             return self.take_at_own(client, k, when, lines);
@@ -134,13 +147,16 @@ impl<S: Powered + Drop> World<S> {
     ) -> Result<(), Ended>
         requires world { IsWorld (λ s. S.view s) self.old }
         requires sent { k < length self.old.net.sent }
+        requires to { IsSentTo (AClient client) (slice_get self.old.net.sent k) }
         requires client { is_client client.0 ≡ true }
         ensures world { OnOk result (IsWorld (λ s. S.view s) self.new) }
+        ensures does { DoesEvent (λ s. S.view s) (λ s. S.device s) (events.Deliver k) when (standing_of self.old) result (standing_of self.new) lines.old.items lines.new.items }
     {
         let Some(sent) = self.net.message(k) else {
             unreachable!()
         };
         let taken = self.clients[index_of(client)].take(&sent.message);
+        self.net.delivered(k);
         self.tell_taken(client, k, taken, when, lines)
     }
 
@@ -154,13 +170,17 @@ impl<S: Powered + Drop> World<S> {
     ) -> Result<(), Ended>
         requires world { IsWorld (λ s. S.view s) self.old }
         requires sent { k < length self.old.net.sent }
+        requires to { IsSentTo (AClient client) (slice_get self.old.net.sent k) }
+        requires other { is_client client.0 ≡ false }
         ensures world { OnOk result (IsWorld (λ s. S.view s) self.new) }
+        ensures does { DoesEvent (λ s. S.view s) (λ s. S.device s) (events.Deliver k) when (standing_of self.old) result (standing_of self.new) lines.old.items lines.new.items }
     {
         let servers = self.servers();
         let Some(sent) = self.net.message(k) else {
             unreachable!()
         };
         let taken = take_as_new(self.alloc, client, servers, &sent.message);
+        self.net.delivered(k);
         self.tell_taken(client, k, taken, when, lines)
     }
 
@@ -176,6 +196,8 @@ impl<S: Powered + Drop> World<S> {
         ensures others { self.new ≡ record self.old { net = self.new.net } }
         ensures sent { OnOk result (self.new.net.sent ≡ self.old.net.sent ++ posted_by (AClient client) (sent_for taken)) }
         ensures limit { OnOk result (length self.new.net.sent ≤ 1000000) }
+        ensures ends { EndsStep result (with_sent (posted_by (AClient client) (sent_for taken)) (standing_of self.old)) (standing_of self.new) lines.old.items
+            (lines.old.items ++ lines_at when (texts_taken k taken ++ traced self.old.trace (message_texts (AClient client) (length self.old.net.sent) (sent_for taken)))) lines.new.items }
     {
         match taken {
             Taken::Ignored => {
@@ -207,6 +229,8 @@ impl<S: Powered + Drop> World<S> {
         ensures others { self.new ≡ record self.old { net = self.new.net } }
         ensures sent { OnOk result (self.new.net.sent ≡ self.old.net.sent ++ posted_by (AClient client) ((to, message) ∷ [])) }
         ensures limit { OnOk result (length self.new.net.sent ≤ 1000000) }
+        ensures ends { EndsStep result (with_sent (posted_by (AClient client) ((to, message) ∷ [])) (standing_of self.old)) (standing_of self.new) lines.old.items
+            (lines.old.items ++ lines_at when (text ∷ traced self.old.trace (message_texts (AClient client) (length self.old.net.sent) ((to, message) ∷ [])))) lines.new.items }
     {
         let mut told = Vec::new(self.alloc);
         tell(&mut told, when, text)?;

@@ -1,12 +1,15 @@
 //! Messages that are handed over.
-ghost use Rattle.std.specs.Prelude.{◌≡◌, ◌<◌, ◌≤◌, ◌+◌, true, false, vec_len, length, nat_lt, OnOk, IfOk};
-ghost use Rattle.jn_within.specs.Taking.{CanBeTaken, AllCanBeTaken, CommandInRange};
-ghost use Rattle.jn_world.specs.Standing.{IsWorld, IsWorldUpTo, is_up_at, posted_by};
+ghost use Rattle.std.specs.Prelude.{◌≡◌, ◌<◌, ◌∷◌, [], true, false, length, OnOk, slice_get};
+ghost use Rattle.jn_base.specs.declared.names.Party.TheVariants.{Server as AServer};
+ghost use Rattle.jn_schedule.specs.declared.Event.TheVariants as events;
+ghost use Rattle.jn_world.specs.Standing.{IsWorld, is_up_at};
+ghost use Rattle.jn_world.specs.Written.{DoesEvent, DoesTasks, IsSentTo, standing_of};
+ghost use Rattle.jn_written.specs.Tasks.{Meets};
 
 use crate::ended::Ended;
-use crate::telling::tell;
 use crate::world::{World, refuse};
 use jn_base::{Party, ServerNo};
+use jn_place::tell;
 use jn_report::{EventRefusal, Line, Text, When};
 use jn_store::Powered;
 
@@ -15,6 +18,7 @@ impl<S: Powered + Drop> World<S> {
     pub(crate) fn deliver(&mut self, k: u32, when: When, lines: &mut Vec<Line>) -> Result<(), Ended>
         requires world { IsWorld (λ s. S.view s) self.old }
         ensures world { OnOk result (IsWorld (λ s. S.view s) self.new) }
+        ensures does { DoesTasks (λ s. S.view s) (λ s. S.device s) (λ x. Meets (events.Deliver k) ∷ []) when (standing_of self.old) result (standing_of self.new) lines.old.items lines.new.items }
     {
         if k >= self.net.count() {
             return refuse(lines, when, EventRefusal::NoSuchMessage);
@@ -32,13 +36,12 @@ impl<S: Powered + Drop> World<S> {
         requires world { IsWorld (λ s. S.view s) self.old }
         requires sent { k < length self.old.net.sent }
         ensures world { OnOk result (IsWorld (λ s. S.view s) self.new) }
+        ensures does { DoesEvent (λ s. S.view s) (λ s. S.device s) (events.Deliver k) when (standing_of self.old) result (standing_of self.new) lines.old.items lines.new.items }
     {
         let Some(sent) = self.net.message(k) else {
             unreachable!()
         };
-        let to = sent.to;
-        self.net.delivered(k);
-        match to {
+        match sent.to {
             Party::Client(client) => self.take_at_client(client, k, when, lines),
             Party::Server(server) => self.take_at_server(server, k, when, lines),
         }
@@ -54,13 +57,34 @@ impl<S: Powered + Drop> World<S> {
     ) -> Result<(), Ended>
         requires world { IsWorld (λ s. S.view s) self.old }
         requires sent { k < length self.old.net.sent }
+        requires to { IsSentTo (AServer server) (slice_get self.old.net.sent k) }
         ensures world { OnOk result (IsWorld (λ s. S.view s) self.new) }
+        ensures does { DoesEvent (λ s. S.view s) (λ s. S.device s) (events.Deliver k) when (standing_of self.old) result (standing_of self.new) lines.old.items lines.new.items }
     {
-        if !self.has(server) || !self.is_up(server) {
-            tell(lines, when, Text::Lost(k))?;
-            return Ok(());
+        if !self.is_up(server) {
+            return self.lose(server, k, when, lines);
         }
         self.take_at_up(server, k, when, lines)
+    }
+
+    /// A message for a server that isn't up is lost.
+    fn lose(
+        &mut self,
+        server: ServerNo,
+        k: u32,
+        when: When,
+        lines: &mut Vec<Line>,
+    ) -> Result<(), Ended>
+        requires world { IsWorld (λ s. S.view s) self.old }
+        requires sent { k < length self.old.net.sent }
+        requires to { IsSentTo (AServer server) (slice_get self.old.net.sent k) }
+        requires down { is_up_at server.0 self.old.places.items ≡ false }
+        ensures world { OnOk result (IsWorld (λ s. S.view s) self.new) }
+        ensures does { DoesEvent (λ s. S.view s) (λ s. S.device s) (events.Deliver k) when (standing_of self.old) result (standing_of self.new) lines.old.items lines.new.items }
+    {
+        self.net.delivered(k);
+        tell(lines, when, Text::Lost(k))?;
+        Ok(())
     }
 
     /// A server that is up takes a message.
@@ -73,8 +97,10 @@ impl<S: Powered + Drop> World<S> {
     ) -> Result<(), Ended>
         requires world { IsWorld (λ s. S.view s) self.old }
         requires sent { k < length self.old.net.sent }
+        requires to { IsSentTo (AServer server) (slice_get self.old.net.sent k) }
         requires up { is_up_at server.0 self.old.places.items ≡ true }
         ensures world { OnOk result (IsWorld (λ s. S.view s) self.new) }
+        ensures does { DoesEvent (λ s. S.view s) (λ s. S.device s) (events.Deliver k) when (standing_of self.old) result (standing_of self.new) lines.old.items lines.new.items }
     {
         let mut told = Vec::new(self.alloc);
         let Some(sent) = self.net.message(k) else {
@@ -82,6 +108,7 @@ impl<S: Powered + Drop> World<S> {
         };
         let place = &mut self.places[usize::from(server.0)];
         let answer = place.take(self.alloc, server, &sent.message, when, &mut told)?;
+        self.net.delivered(k);
         self.end_step(server, Some(k), answer, when, told, lines)
     }
 }

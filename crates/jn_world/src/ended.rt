@@ -16,18 +16,33 @@ pub enum Ended {
 }
 
 impl From<AllocError> for Ended {
+    ghost use Rattle.jn_world.specs.declared.ended.Ended.TheVariants.{Memory};
+    ghost use Rattle.std.specs.Prelude.{◌≡◌};
+
+    ghost from_gives = { λ _ e. e ≡ Memory };
+
     fn from(_e: AllocError) -> Ended {
         Ended::Memory
     }
 }
 
 impl<T: Drop> From<AllocFailed<T>> for Ended {
+    ghost use Rattle.jn_world.specs.declared.ended.Ended.TheVariants.{Memory};
+    ghost use Rattle.std.specs.Prelude.{◌≡◌};
+
+    ghost from_gives = { λ _ e. e ≡ Memory };
+
     fn from(_e: AllocFailed<T>) -> Ended {
         Ended::Memory
     }
 }
 
 impl From<SendFault> for Ended {
+    ghost use Rattle.jn_world.specs.Faults.{ended_by};
+    ghost use Rattle.std.specs.Prelude.{◌≡◌};
+
+    ghost from_gives = { λ fault e. e ≡ ended_by fault };
+
     fn from(e: SendFault) -> Ended {
         match e {
             SendFault::Limit => Ended::Messages,

@@ -1,13 +1,22 @@
 //! The end of a run.
-ghost use Rattle.std.specs.Prelude.{◌≡◌, ◌<◌, ◌≤◌, ◌+◌, true, false, vec_len, length, nat_lt, OnOk, IfOk};
-ghost use Rattle.jn_within.specs.Taking.{CanBeTaken, AllCanBeTaken, CommandInRange};
-ghost use Rattle.jn_world.specs.Standing.{IsWorld, IsWorldUpTo, is_up_at, posted_by};
-ghost use Rattle.jn_world.specs.Standing.{AreClosed};
+ghost use Rattle.std.specs.Prelude.{◌≡◌, ◌<◌, ◌≤◌, ◌∷◌, [], map, vec_len, length, OnOk, IfOk};
+ghost use Rattle.jn_report.specs.declared.line.When.TheVariants.{End};
+ghost use Rattle.jn_rows.specs.Client.{over};
+ghost use Rattle.jn_schedule.specs.declared.Event.TheVariants.{Crash, Scrub, Show};
+ghost use Rattle.jn_stands.specs.Ending.{AreDisarmed, dismissed};
+ghost use Rattle.jn_stands.specs.Stands.{Stands};
+ghost use Rattle.jn_world.specs.Closing.{AreIdle, AreTheirs, going_down, closing_clients, showing_all, scrubbing_all, turning, thanking, telling, finishing};
+ghost use Rattle.jn_world.specs.Standing.{AreClosed, IsWorld};
+ghost use Rattle.jn_world.specs.Written.{Closes, DoesEvent, DoesTasks, standing_of};
+ghost use Rattle.jn_written.specs.Chances.{Setup};
+ghost use Rattle.jn_written.specs.Events.{ending};
+ghost use Rattle.jn_written.specs.Runs.{Moment};
+ghost use Rattle.jn_written.specs.Tasks.{ClosesClients, CountsCommits, InSchedule};
 
 use crate::ended::Ended;
-use crate::telling::tell;
 use crate::world::{CLIENTS, World};
 use jn_base::ServerNo;
+use jn_place::tell;
 use jn_report::{Line, Text, When};
 use jn_store::Powered;
 use std::alloc::AllocError;
@@ -19,23 +28,75 @@ impl<S: Powered + Drop> World<S> {
     pub fn close(self, lines: &mut Vec<Line>) -> Result<Vec<S>, Ended>
         requires world { IsWorld (λ s. S.view s) self }
         ensures closed { IfOk result (λ stores. AreClosed (λ s. S.view s) 0 stores.items) }
+        ensures written { (x : Setup) (m : Moment) → Stands (λ s. S.view s) (λ s. S.device s) x (standing_of self) m → m.state.tasks ≡ ending x → m.state.stage ≡ InSchedule
+            → Closes (λ s. S.device s) (λ stores. stores.items) x m result lines.old.items lines.new.items }
     {
         let mut world = self;
         world.dismiss();
-        world.crash_all(lines)?;
-        world.bring_all_up(When::End, lines)?;
-        world.close_all_clients(lines)?;
-        world.settle_at(When::End, lines)?;
-        world.show_all(lines)?;
-        world.scrub_all(lines)?;
-        tell(lines, When::End, Text::Commits(world.named.count()))?;
+        world.finish(lines)?;
         Ok(world.into_stores()?)
+    }
+
+    /// The end behind its first task.
+    fn finish(&mut self, lines: &mut Vec<Line>) -> Result<(), Ended>
+        requires world { IsWorld (λ s. S.view s) self.old }
+        requires idle { AreIdle self.old.clients.items }
+        ensures world { OnOk result (IsWorld (λ s. S.view s) self.new) }
+        ensures does { DoesTasks (λ s. S.view s) (λ s. S.device s) finishing End (standing_of self.old) result (standing_of self.new) lines.old.items lines.new.items }
+    {
+        self.turn_over(lines)?;
+        self.thank_all(lines)?;
+        self.tell_all(lines)
+    }
+
+    /// All servers go down and come up again.
+    fn turn_over(&mut self, lines: &mut Vec<Line>) -> Result<(), Ended>
+        requires world { IsWorld (λ s. S.view s) self.old }
+        ensures world { OnOk result (IsWorld (λ s. S.view s) self.new) }
+        ensures clients { OnOk result (self.new.clients ≡ self.old.clients) }
+        ensures does { DoesTasks (λ s. S.view s) (λ s. S.device s) turning End (standing_of self.old) result (standing_of self.new) lines.old.items lines.new.items }
+    {
+        self.crash_all(lines)?;
+        self.bring_all_up(When::End, lines)
+    }
+
+    /// Each outcome counts as thanked, and all settles.
+    fn thank_all(&mut self, lines: &mut Vec<Line>) -> Result<(), Ended>
+        requires world { IsWorld (λ s. S.view s) self.old }
+        requires idle { AreIdle self.old.clients.items }
+        ensures world { OnOk result (IsWorld (λ s. S.view s) self.new) }
+        ensures does { DoesTasks (λ s. S.view s) (λ s. S.device s) thanking End (standing_of self.old) result (standing_of self.new) lines.old.items lines.new.items }
+    {
+        self.close_all_clients(lines)?;
+        self.settle_at(When::End, lines)
+    }
+
+    /// The files are printed, the pages cleaned, and the commits counted.
+    fn tell_all(&mut self, lines: &mut Vec<Line>) -> Result<(), Ended>
+        requires world { IsWorld (λ s. S.view s) self.old }
+        ensures world { OnOk result (IsWorld (λ s. S.view s) self.new) }
+        ensures does { DoesTasks (λ s. S.view s) (λ s. S.device s) telling End (standing_of self.old) result (standing_of self.new) lines.old.items lines.new.items }
+    {
+        self.show_all(lines)?;
+        self.scrub_all(lines)?;
+        self.tell_count(lines)
+    }
+
+    /// The last line counts the commits.
+    fn tell_count(&self, lines: &mut Vec<Line>) -> Result<(), Ended>
+        requires few { length self.now.net.sent ≤ 1000000 }
+        ensures does { DoesTasks (λ s. S.view s) (λ s. S.device s) (λ x. CountsCommits ∷ []) End (standing_of self.now) result (standing_of self.now) lines.old.items lines.new.items }
+    {
+        tell(lines, When::End, Text::Commits(self.named.count()))?;
+        Ok(())
     }
 
     /// No fault and no message waits any more, and the clients are dismissed.
     fn dismiss(&mut self)
         requires { IsWorld (λ s. S.view s) self.old }
-        ensures { IsWorld (λ s. S.view s) self.new }
+        ensures world { IsWorld (λ s. S.view s) self.new }
+        ensures disarmed { AreDisarmed (λ s. S.view s) (λ s. S.device s) self.old.places.items self.new.places.items }
+        ensures dismissed { standing_of self.new ≡ dismissed self.new.places.items (standing_of self.old) }
     {
         self.disarm_all();
         self.net.forget_waiting();
@@ -44,7 +105,9 @@ impl<S: Powered + Drop> World<S> {
 
     fn disarm_all(&mut self)
         requires { IsWorld (λ s. S.view s) self.old }
-        ensures { IsWorld (λ s. S.view s) self.new }
+        ensures world { IsWorld (λ s. S.view s) self.new }
+        ensures others { self.new ≡ record self.old { places = self.new.places } }
+        ensures disarmed { AreDisarmed (λ s. S.view s) (λ s. S.device s) self.old.places.items self.new.places.items }
     {
         for s in 0..self.servers() {
             self.places[usize::from(s)].disarm();
@@ -53,68 +116,126 @@ impl<S: Powered + Drop> World<S> {
 
     fn dismiss_clients(&mut self)
         requires { IsWorld (λ s. S.view s) self.old }
-        ensures { IsWorld (λ s. S.view s) self.new }
+        ensures world { IsWorld (λ s. S.view s) self.new }
+        ensures others { self.new ≡ record self.old { clients = self.new.clients } }
+        ensures over { self.new.clients.items ≡ map over self.old.clients.items }
     {
         for c in 0..usize::from(CLIENTS) {
             self.clients[c].dismiss();
         }
     }
 
+    /// All servers that are up go down.
     fn crash_all(&mut self, lines: &mut Vec<Line>) -> Result<(), Ended>
         requires world { IsWorld (λ s. S.view s) self.old }
         ensures world { OnOk result (IsWorld (λ s. S.view s) self.new) }
+        ensures clients { OnOk result (self.new.clients ≡ self.old.clients) }
+        ensures does { DoesTasks (λ s. S.view s) (λ s. S.device s) going_down End (standing_of self.old) result (standing_of self.new) lines.old.items lines.new.items }
     {
         for s in 0..self.servers() {
-            let server = ServerNo(s);
-            if self.is_up(server) {
-                self.crash(server, When::End, lines)?;
-            }
+            self.take_down(ServerNo(s), lines)?;
         }
         Ok(())
     }
 
+    /// A server goes down, if it is up.
+    fn take_down(&mut self, server: ServerNo, lines: &mut Vec<Line>) -> Result<(), Ended>
+        requires world { IsWorld (λ s. S.view s) self.old }
+        requires there { server.0 < vec_len self.old.places }
+        ensures world { OnOk result (IsWorld (λ s. S.view s) self.new) }
+        ensures as_many { OnOk result (vec_len self.new.places ≡ vec_len self.old.places) }
+        ensures clients { OnOk result (self.new.clients ≡ self.old.clients) }
+        ensures does { DoesEvent (λ s. S.view s) (λ s. S.device s) (Crash server) End (standing_of self.old) result (standing_of self.new) lines.old.items lines.new.items }
+    {
+        if !self.is_up(server) {
+            return Ok(());
+        }
+        self.crash(server, When::End, lines)
+    }
+
+    /// Each outcome at each server counts as thanked.
     fn close_all_clients(&mut self, lines: &mut Vec<Line>) -> Result<(), Ended>
         requires world { IsWorld (λ s. S.view s) self.old }
+        requires idle { AreIdle self.old.clients.items }
         ensures world { OnOk result (IsWorld (λ s. S.view s) self.new) }
+        ensures clients { OnOk result (self.new.clients ≡ self.old.clients) }
+        ensures does { DoesTasks (λ s. S.view s) (λ s. S.device s) closing_clients End (standing_of self.old) result (standing_of self.new) lines.old.items lines.new.items }
     {
         for s in 0..self.servers() {
-            let server = ServerNo(s);
-            if self.is_up(server) {
-                self.close_clients(server, When::End, lines)?;
-            }
+            self.close_at(ServerNo(s), lines)?;
         }
         Ok(())
     }
 
+    /// Each outcome at one server counts as thanked.
+    fn close_at(&mut self, server: ServerNo, lines: &mut Vec<Line>) -> Result<(), Ended>
+        requires world { IsWorld (λ s. S.view s) self.old }
+        requires idle { AreIdle self.old.clients.items }
+        ensures world { OnOk result (IsWorld (λ s. S.view s) self.new) }
+        ensures clients { OnOk result (self.new.clients ≡ self.old.clients) }
+        ensures does { DoesTasks (λ s. S.view s) (λ s. S.device s) (λ x. ClosesClients server ∷ []) End (standing_of self.old) result (standing_of self.new) lines.old.items lines.new.items }
+    {
+        if !self.is_up(server) {
+            // It always is: no fault waits that might have stopped it.
+            return Err(Ended::Memory);
+        }
+        self.close_clients(server, When::End, lines)
+    }
+
+    /// The files of all servers are printed.
     fn show_all(&mut self, lines: &mut Vec<Line>) -> Result<(), Ended>
         requires world { IsWorld (λ s. S.view s) self.old }
         ensures world { OnOk result (IsWorld (λ s. S.view s) self.new) }
+        ensures does { DoesTasks (λ s. S.view s) (λ s. S.device s) showing_all End (standing_of self.old) result (standing_of self.new) lines.old.items lines.new.items }
     {
         for s in 0..self.servers() {
-            let server = ServerNo(s);
-            if self.is_up(server) {
-                self.show(server, When::End, lines)?;
-            }
+            self.show_at(ServerNo(s), lines)?;
         }
         Ok(())
     }
 
+    /// The files of one server are printed.
+    fn show_at(&mut self, server: ServerNo, lines: &mut Vec<Line>) -> Result<(), Ended>
+        requires world { IsWorld (λ s. S.view s) self.old }
+        ensures world { OnOk result (IsWorld (λ s. S.view s) self.new) }
+        ensures does { DoesEvent (λ s. S.view s) (λ s. S.device s) (Show server) End (standing_of self.old) result (standing_of self.new) lines.old.items lines.new.items }
+    {
+        if !self.is_up(server) {
+            // It always is: no fault waits that might have stopped it.
+            return Err(Ended::Memory);
+        }
+        self.show(server, When::End, lines)
+    }
+
+    /// The pages of all servers are cleaned.
     fn scrub_all(&mut self, lines: &mut Vec<Line>) -> Result<(), Ended>
         requires world { IsWorld (λ s. S.view s) self.old }
         ensures world { OnOk result (IsWorld (λ s. S.view s) self.new) }
+        ensures does { DoesTasks (λ s. S.view s) (λ s. S.device s) scrubbing_all End (standing_of self.old) result (standing_of self.new) lines.old.items lines.new.items }
     {
         for s in 0..self.servers() {
-            let server = ServerNo(s);
-            if self.is_up(server) {
-                self.scrub(server, When::End, lines)?;
-            }
+            self.scrub_at(ServerNo(s), lines)?;
         }
         Ok(())
+    }
+
+    /// The pages of one server are cleaned.
+    fn scrub_at(&mut self, server: ServerNo, lines: &mut Vec<Line>) -> Result<(), Ended>
+        requires world { IsWorld (λ s. S.view s) self.old }
+        ensures world { OnOk result (IsWorld (λ s. S.view s) self.new) }
+        ensures does { DoesEvent (λ s. S.view s) (λ s. S.device s) (Scrub server) End (standing_of self.old) result (standing_of self.new) lines.old.items lines.new.items }
+    {
+        if !self.is_up(server) {
+            // It always is: no fault waits that might have stopped it.
+            return Err(Ended::Memory);
+        }
+        self.scrub(server, When::End, lines)
     }
 
     fn into_stores(self) -> Result<Vec<S>, AllocError>
         requires world { IsWorld (λ s. S.view s) self }
         ensures closed { IfOk result (λ stores. AreClosed (λ s. S.view s) 0 stores.items) }
+        ensures theirs { IfOk result (λ stores. AreTheirs self.places.items stores.items) }
     {
         let World {
             places,

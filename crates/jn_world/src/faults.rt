@@ -1,14 +1,17 @@
 //! What befalls a server's device.
-ghost use Rattle.std.specs.Prelude.{◌≡◌, ◌<◌, ◌≤◌, ◌+◌, true, false, vec_len, length, nat_lt, OnOk, IfOk};
-ghost use Rattle.jn_within.specs.Taking.{CanBeTaken, AllCanBeTaken, CommandInRange};
-ghost use Rattle.jn_world.specs.Standing.{IsWorld, IsWorldUpTo, is_up_at, posted_by};
+ghost use Rattle.std.specs.Prelude.{◌≡◌, ◌<◌, ◌∷◌, [], vec_len, OnOk};
 ghost use Rattle.jn_device.specs.Events.{is_within};
 ghost use Rattle.jn_schedule.specs.Ranges.{EventInRange};
+ghost use Rattle.jn_schedule.specs.declared.Event.TheVariants as events;
+ghost use Rattle.jn_world.specs.Meeting.{IsBefalling};
+ghost use Rattle.jn_world.specs.Standing.{IsWorld};
+ghost use Rattle.jn_world.specs.Written.{DoesTasks, standing_of};
+ghost use Rattle.jn_written.specs.Tasks.{Meets};
 
 use crate::ended::Ended;
-use crate::telling::tell;
 use crate::world::{World, refuse};
 use jn_base::{FaultKind, Outside, ServerNo};
+use jn_place::tell;
 use jn_report::{EventRefusal, Line, Text, When};
 use jn_schedule::Event;
 use jn_store::Powered;
@@ -33,8 +36,10 @@ impl<S: Powered + Drop> World<S> {
         lines: &mut Vec<Line>,
     ) -> Result<(), Ended>
         requires world { IsWorld (λ s. S.view s) self.old }
+        requires its { IsBefalling server event.now }
         requires range { EventInRange event.now }
         ensures world { OnOk result (IsWorld (λ s. S.view s) self.new) }
+        ensures does { DoesTasks (λ s. S.view s) (λ s. S.device s) (λ x. Meets event.now ∷ []) when (standing_of self.old) result (standing_of self.new) lines.old.items lines.new.items }
     {
         if !self.has(server) {
             return refuse(lines, when, EventRefusal::NoSuchServer);
@@ -58,6 +63,7 @@ impl<S: Powered + Drop> World<S> {
         requires world { IsWorld (λ s. S.view s) self.old }
         requires there { server.0 < vec_len self.old.places }
         ensures world { OnOk result (IsWorld (λ s. S.view s) self.new) }
+        ensures does { DoesTasks (λ s. S.view s) (λ s. S.device s) (λ x. Meets (events.Decay server p) ∷ []) when (standing_of self.old) result (standing_of self.new) lines.old.items lines.new.items }
     {
         let place = &mut self.places[usize::from(server.0)];
         if p >= place.pages() {
@@ -85,6 +91,7 @@ impl<S: Powered + Drop> World<S> {
         requires world { IsWorld (λ s. S.view s) self.old }
         requires there { server.0 < vec_len self.old.places }
         ensures world { OnOk result (IsWorld (λ s. S.view s) self.new) }
+        ensures does { DoesTasks (λ s. S.view s) (λ s. S.device s) (λ x. Meets (events.Revive server p) ∷ []) when (standing_of self.old) result (standing_of self.new) lines.old.items lines.new.items }
     {
         let place = &mut self.places[usize::from(server.0)];
         if p >= place.pages() {
@@ -107,6 +114,7 @@ impl<S: Powered + Drop> World<S> {
         requires there { server.0 < vec_len self.old.places }
         requires from_one { 0 < n }
         ensures world { OnOk result (IsWorld (λ s. S.view s) self.new) }
+        ensures does { DoesTasks (λ s. S.view s) (λ s. S.device s) (λ x. Meets (events.Arm server n kind) ∷ []) when (standing_of self.old) result (standing_of self.new) lines.old.items lines.new.items }
     {
         let place = &mut self.places[usize::from(server.0)];
         if !is_within(place.pages(), kind) {

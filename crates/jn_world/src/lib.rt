@@ -10,12 +10,10 @@ mod ended;
 mod ending;
 mod faults;
 mod named;
-mod place;
 mod posting;
 mod serving;
 mod settling;
 mod starting;
-mod telling;
 mod world;
 
 pub use ended::Ended;

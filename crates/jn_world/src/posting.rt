@@ -1,15 +1,21 @@
 //! What a step sends and tells.
-ghost use Rattle.std.specs.Prelude.{◌≡◌, ◌≤◌, ◌++◌, ◌∷◌, [], false, length, OnOk};
+ghost use Rattle.std.specs.Prelude.{◌≡◌, ◌≤◌, ◌++◌, ◌∷◌, [], false, length, OnOk, Some};
 ghost use Rattle.jn_base.specs.declared.names.Party.TheVariants.{Server};
+ghost use Rattle.jn_protocol.specs.Servers.{line_of, lines_of};
+ghost use Rattle.jn_protocol.specs.World.{commits_in};
+ghost use Rattle.jn_stands.specs.Stands.{texts_sent, with_answer, with_sent};
 ghost use Rattle.jn_world.specs.Standing.{posted_by, messages_in};
+ghost use Rattle.jn_world.specs.Written.{EndsPart, EndsStep, standing_of};
+ghost use Rattle.jn_written.specs.Steps.{lines_at, message_texts, traced};
 
 use crate::ended::Ended;
-use crate::telling::tell;
 use crate::world::World;
 use jn_base::{Party, ServerNo};
 use jn_msgs::{Message, Note, Out};
+use jn_place::tell;
 use jn_report::{Line, Text, When};
 use jn_store::Powered;
+use std::alloc::AllocError;
 
 impl<S: Powered + Drop> World<S> {
     /// A step of a server ends: unless it was stopped its notes are told and its messages sent. Its lines are added.
@@ -26,6 +32,8 @@ impl<S: Powered + Drop> World<S> {
         ensures others { self.new ≡ record self.old { net = self.new.net; named = self.new.named } }
         ensures sent { OnOk result (self.new.net.sent ≡ self.old.net.sent ++ posted_by (Server server) (messages_in answer)) }
         ensures limit { OnOk result (length self.new.net.sent ≤ 1000000) }
+        ensures ends { EndsStep result (with_answer server message answer (standing_of self.old)) (standing_of self.new) lines.old.items
+            (lines.old.items ++ told.items ++ lines_at when (texts_sent server message self.old.trace (length self.old.net.sent) answer)) lines.new.items }
     {
         let mut told = told;
         if let Some(out) = answer {
@@ -48,6 +56,8 @@ impl<S: Powered + Drop> World<S> {
         ensures others { self.new ≡ record self.old { net = self.new.net; named = self.new.named } }
         ensures sent { OnOk result (self.new.net.sent ≡ self.old.net.sent ++ posted_by (Server server) out.messages) }
         ensures limit { OnOk result (length self.new.net.sent ≤ 1000000) }
+        ensures ends { EndsPart result (with_answer server message (Some out) (standing_of self.old)) (standing_of self.new)
+            (told.old.items ++ lines_at when (texts_sent server message self.old.trace (length self.old.net.sent) (Some out))) told.new.items }
     {
         let (messages, notes) = out.into_parts();
         self.tell_notes(server, message, &notes, when, told)?;
@@ -66,6 +76,8 @@ impl<S: Powered + Drop> World<S> {
         ensures others { self.new ≡ record self.old { net = self.new.net } }
         ensures sent { OnOk result (self.new.net.sent ≡ self.old.net.sent ++ posted_by from messages.items) }
         ensures limit { OnOk result (length self.new.net.sent ≤ 1000000) }
+        ensures ends { EndsPart result (with_sent (posted_by from messages.items) (standing_of self.old)) (standing_of self.new)
+            (told.old.items ++ lines_at when (traced self.old.trace (message_texts from (length self.old.net.sent) messages.items))) told.new.items }
     {
         for (to, message) in messages {
             self.post(from, to, message, when, told)?;
@@ -85,6 +97,8 @@ impl<S: Powered + Drop> World<S> {
         ensures others { self.new ≡ record self.old { net = self.new.net } }
         ensures sent { OnOk result (self.new.net.sent ≡ self.old.net.sent ++ posted_by from ((to, message) ∷ [])) }
         ensures limit { OnOk result (length self.new.net.sent ≤ 1000000) }
+        ensures ends { EndsStep result (with_sent (posted_by from ((to, message) ∷ [])) (standing_of self.old)) (standing_of self.new) told.old.items
+            (told.old.items ++ lines_at when (traced self.old.trace (message_texts from (length self.old.net.sent) ((to, message) ∷ [])))) told.new.items }
     {
         let kind = message.kind();
         let k = self.net.send(from, to, message)?;
@@ -102,8 +116,10 @@ impl<S: Powered + Drop> World<S> {
         notes: &[Note],
         when: When,
         told: &mut Vec<Line>,
-    ) -> Result<(), Ended>
-        ensures { self.new ≡ record self.old { named = self.new.named } }
+    ) -> Result<(), AllocError>
+        ensures others { self.new ≡ record self.old { named = self.new.named } }
+        ensures names { OnOk result (self.new.named.names.items ≡ self.old.named.names.items ++ commits_in (lines_of server message notes.now)) }
+        ensures told { OnOk result (told.new.items ≡ told.old.items ++ lines_at when (lines_of server message notes.now)) }
     {
         for note in notes {
             self.tell_note(server, message, *note, when, told)?;
@@ -118,8 +134,10 @@ impl<S: Powered + Drop> World<S> {
         note: Note,
         when: When,
         told: &mut Vec<Line>,
-    ) -> Result<(), Ended>
-        ensures { self.new ≡ record self.old { named = self.new.named } }
+    ) -> Result<(), AllocError>
+        ensures others { self.new ≡ record self.old { named = self.new.named } }
+        ensures names { OnOk result (self.new.named.names.items ≡ self.old.named.names.items ++ commits_in (line_of server message note)) }
+        ensures told { OnOk result (told.new.items ≡ told.old.items ++ lines_at when (line_of server message note)) }
     {
         match note {
             Note::Commit(tid) => {

@@ -1,20 +1,27 @@
 //! What servers that are up do without a message.
-ghost use Rattle.std.specs.Prelude.{◌≡◌, ◌<◌, ◌≤◌, ◌+◌, true, false, vec_len, length, nat_lt, OnOk, IfOk};
-ghost use Rattle.jn_within.specs.Taking.{CanBeTaken, AllCanBeTaken, CommandInRange};
-ghost use Rattle.jn_world.specs.Standing.{IsWorld, IsWorldUpTo, is_up_at, posted_by};
+ghost use Rattle.std.specs.Prelude.{◌≡◌, ◌∷◌, ◌++◌, [], true, map, vec_len, OnOk};
+ghost use Rattle.jn_place.specs.Exact.{items_of};
+ghost use Rattle.jn_schedule.specs.declared.Event.TheVariants as events;
+ghost use Rattle.jn_stands.specs.Showing.{text_shown, texts_shown};
+ghost use Rattle.jn_world.specs.Closing.{AreIdle};
+ghost use Rattle.jn_world.specs.Standing.{IsWorld, is_up_at, works_at};
+ghost use Rattle.jn_world.specs.Written.{DoesEvent, DoesTasks, standing_of};
+ghost use Rattle.jn_written.specs.Steps.{lines_at};
+ghost use Rattle.jn_written.specs.Tasks.{ClosesClients, Meets};
 
 use crate::ended::Ended;
-use crate::place::Work;
-use crate::telling::tell;
 use crate::world::{World, refuse};
 use jn_base::{ServerNo, Tid};
+use jn_place::tell;
 use jn_report::{EventRefusal, Line, Text, When};
 use jn_server::Shown;
 use jn_store::Powered;
 use std::alloc::AllocError;
 
 /// A line of a show.
-fn text_of(server: ServerNo, shown: Shown) -> Text {
+fn text_of(server: ServerNo, shown: Shown) -> Text
+    ensures { result ≡ text_shown server shown }
+{
     match shown {
         Shown::File(file) => Text::File(server, file),
         Shown::Locked(unit, tid) => Text::Locked(server, unit, tid),
@@ -28,38 +35,66 @@ fn tell_shown(
     when: When,
     server: ServerNo,
     list: &[Shown],
-) -> Result<(), AllocError> {
+) -> Result<(), AllocError>
+    ensures { OnOk result (lines.new.items ≡ lines.old.items ++ lines_at when (map (text_shown server) list.now)) }
+{
     for shown in list {
         tell(lines, when, text_of(server, *shown))?;
     }
     Ok(())
 }
 
+/// The lines of a show, none of which are of a server that was stopped.
+fn tell_list(
+    lines: &mut Vec<Line>,
+    when: When,
+    server: ServerNo,
+    shown: Option<Vec<Shown>>,
+) -> Result<(), AllocError>
+    ensures { OnOk result (lines.new.items ≡ lines.old.items ++ lines_at when (texts_shown server (items_of shown))) }
+{
+    match shown {
+        None => Ok(()),
+        Some(list) => tell_shown(lines, when, server, &list),
+    }
+}
+
 impl<S: Powered + Drop> World<S> {
-    /// One background step. False exactly where nothing is to do.
+    /// One background step, if there is something to do.
     pub(crate) fn work(
         &mut self,
         server: ServerNo,
         when: When,
         lines: &mut Vec<Line>,
-    ) -> Result<bool, Ended>
+    ) -> Result<(), Ended>
         requires world { IsWorld (λ s. S.view s) self.old }
         requires up { is_up_at server.0 self.old.places.items ≡ true }
         ensures world { OnOk result (IsWorld (λ s. S.view s) self.new) }
+        ensures does { DoesEvent (λ s. S.view s) (λ s. S.device s) (events.Step server) when (standing_of self.old) result (standing_of self.new) lines.old.items lines.new.items }
+    {
+        if !self.places[usize::from(server.0)].has_work() {
+            return Ok(());
+        }
+        self.make_step(server, when, lines)
+    }
+
+    /// A server that has something to do makes one background step.
+    fn make_step(
+        &mut self,
+        server: ServerNo,
+        when: When,
+        lines: &mut Vec<Line>,
+    ) -> Result<(), Ended>
+        requires world { IsWorld (λ s. S.view s) self.old }
+        requires up { is_up_at server.0 self.old.places.items ≡ true }
+        requires work { works_at (λ s. S.view s) server.0 self.old.places.items ≡ true }
+        ensures world { OnOk result (IsWorld (λ s. S.view s) self.new) }
+        ensures does { DoesEvent (λ s. S.view s) (λ s. S.device s) (events.Step server) when (standing_of self.old) result (standing_of self.new) lines.old.items lines.new.items }
     {
         let mut told = Vec::new(self.alloc);
         let place = &mut self.places[usize::from(server.0)];
-        match place.step(self.alloc, server, when, &mut told)? {
-            Work::Idle => Ok(false),
-            Work::Done(out) => {
-                self.end_step(server, None, Some(out), when, told, lines)?;
-                Ok(true)
-            }
-            Work::Stopped => {
-                self.end_step(server, None, None, when, told, lines)?;
-                Ok(true)
-            }
-        }
+        let answer = place.step(self.alloc, server, when, &mut told)?;
+        self.end_step(server, None, answer, when, told, lines)
     }
 
     /// A server sends again what waits for an answer.
@@ -72,6 +107,8 @@ impl<S: Powered + Drop> World<S> {
         requires world { IsWorld (λ s. S.view s) self.old }
         requires up { is_up_at server.0 self.old.places.items ≡ true }
         ensures world { OnOk result (IsWorld (λ s. S.view s) self.new) }
+        ensures does { DoesEvent (λ s. S.view s) (λ s. S.device s) (events.Nudge server) when (standing_of self.old) result (standing_of self.new) lines.old.items lines.new.items }
+        ensures as_many { OnOk result (vec_len self.new.places ≡ vec_len self.old.places) }
     {
         let told = Vec::new(self.alloc);
         let out = self.places[usize::from(server.0)].again(self.alloc)?;
@@ -89,6 +126,7 @@ impl<S: Powered + Drop> World<S> {
         requires world { IsWorld (λ s. S.view s) self.old }
         requires up { is_up_at server.0 self.old.places.items ≡ true }
         ensures world { OnOk result (IsWorld (λ s. S.view s) self.new) }
+        ensures does { DoesTasks (λ s. S.view s) (λ s. S.device s) (λ x. Meets (events.Timeout server tid) ∷ []) when (standing_of self.old) result (standing_of self.new) lines.old.items lines.new.items }
     {
         if !self.places[usize::from(server.0)].timeout(tid) {
             return refuse(lines, when, EventRefusal::NoSuchWork);
@@ -106,6 +144,7 @@ impl<S: Powered + Drop> World<S> {
         requires world { IsWorld (λ s. S.view s) self.old }
         requires up { is_up_at server.0 self.old.places.items ≡ true }
         ensures world { OnOk result (IsWorld (λ s. S.view s) self.new) }
+        ensures does { DoesEvent (λ s. S.view s) (λ s. S.device s) (events.Scrub server) when (standing_of self.old) result (standing_of self.new) lines.old.items lines.new.items }
     {
         self.places[usize::from(server.0)].scrub(server, when, lines)?;
         Ok(())
@@ -121,11 +160,11 @@ impl<S: Powered + Drop> World<S> {
         requires world { IsWorld (λ s. S.view s) self.old }
         requires up { is_up_at server.0 self.old.places.items ≡ true }
         ensures world { OnOk result (IsWorld (λ s. S.view s) self.new) }
+        ensures does { DoesEvent (λ s. S.view s) (λ s. S.device s) (events.Show server) when (standing_of self.old) result (standing_of self.new) lines.old.items lines.new.items }
     {
         let place = &mut self.places[usize::from(server.0)];
-        if let Some(list) = place.show(self.alloc, server, when, lines)? {
-            tell_shown(lines, when, server, &list)?;
-        }
+        let shown = place.show(self.alloc, server, when, lines)?;
+        tell_list(lines, when, server, shown)?;
         Ok(())
     }
 
@@ -138,9 +177,16 @@ impl<S: Powered + Drop> World<S> {
     ) -> Result<(), Ended>
         requires world { IsWorld (λ s. S.view s) self.old }
         requires up { is_up_at server.0 self.old.places.items ≡ true }
+        requires idle { AreIdle self.old.clients.items }
         ensures world { OnOk result (IsWorld (λ s. S.view s) self.new) }
+        ensures clients { OnOk result (self.new.clients ≡ self.old.clients) }
+        ensures does { DoesTasks (λ s. S.view s) (λ s. S.device s) (λ x. ClosesClients server ∷ []) when (standing_of self.old) result (standing_of self.new) lines.old.items lines.new.items }
     {
         self.places[usize::from(server.0)].close_clients(server, when, lines)?;
+        if !self.is_up(server) {
+            // It always is: no fault waits that might have stopped it.
+            return Err(Ended::Memory);
+        }
         Ok(())
     }
 
@@ -154,6 +200,9 @@ impl<S: Powered + Drop> World<S> {
         requires world { IsWorld (λ s. S.view s) self.old }
         requires up { is_up_at server.0 self.old.places.items ≡ true }
         ensures world { OnOk result (IsWorld (λ s. S.view s) self.new) }
+        ensures others { self.new ≡ record self.old { places = self.new.places } }
+        ensures as_many { vec_len self.new.places ≡ vec_len self.old.places }
+        ensures does { DoesEvent (λ s. S.view s) (λ s. S.device s) (events.Crash server) when (standing_of self.old) result (standing_of self.new) lines.old.items lines.new.items }
     {
         self.places[usize::from(server.0)].crash();
         tell(lines, when, Text::Down(server))?;

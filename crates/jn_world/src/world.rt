@@ -1,17 +1,20 @@
 //! The world, and the events of a schedule.
-ghost use Rattle.std.specs.Prelude.{◌≡◌, ◌<◌, ◌≤◌, ◌+◌, true, false, vec_len, length, nat_lt, OnOk, IfOk};
-ghost use Rattle.jn_within.specs.Taking.{CanBeTaken, AllCanBeTaken, CommandInRange};
-ghost use Rattle.jn_world.specs.Standing.{IsWorld, IsWorldUpTo, is_up_at, posted_by};
+ghost use Rattle.std.specs.Prelude.{◌≡◌, ◌≤◌, ◌++◌, ◌∷◌, [], true, vec_len, nat_lt, OnOk, IfErr};
+ghost use Rattle.jn_report.specs.declared.line.Text.TheVariants.{RefusedEvent};
+ghost use Rattle.jn_report.specs.declared.line.When.TheVariants.{Event as AtEvent};
 ghost use Rattle.jn_schedule.specs.Ranges.{EventInRange};
-ghost use Rattle.jn_world.specs.Standing.{is_client};
+ghost use Rattle.jn_world.specs.declared.ended.Ended.TheVariants.{Memory};
+ghost use Rattle.jn_world.specs.Standing.{IsWorld, is_client, is_up_at};
+ghost use Rattle.jn_world.specs.Meeting.{IsAtUp};
+ghost use Rattle.jn_world.specs.Written.{DoesScheduled, DoesTasks, standing_of};
+ghost use Rattle.jn_written.specs.Tasks.{Meets};
 
 use crate::ended::Ended;
 use crate::named::Named;
-use crate::place::Place;
-use crate::telling::tell;
 use jn_base::{ClientNo, ServerNo};
 use jn_client::Client;
 use jn_net::Net;
+use jn_place::{Place, tell};
 use jn_report::{EventRefusal, Line, Text, When};
 use jn_schedule::Event;
 use jn_store::Powered;
@@ -37,6 +40,17 @@ impl<S: Powered + Drop> World<S> {
         requires world { IsWorld (λ s. S.view s) self.old }
         requires range { EventInRange event.now }
         ensures world { OnOk result (IsWorld (λ s. S.view s) self.new) }
+        ensures does { DoesScheduled (λ s. S.view s) (λ s. S.device s) number event.now (standing_of self.old) result (standing_of self.new) lines.old.items lines.new.items }
+    {
+        self.meet(number, event, lines)
+    }
+
+    /// The event of this number, which has begun, is refused or done.
+    fn meet(&mut self, number: u32, event: &Event, lines: &mut Vec<Line>) -> Result<(), Ended>
+        requires world { IsWorld (λ s. S.view s) self.old }
+        requires range { EventInRange event.now }
+        ensures world { OnOk result (IsWorld (λ s. S.view s) self.new) }
+        ensures does { DoesTasks (λ s. S.view s) (λ s. S.device s) (λ x. Meets event.now ∷ []) (AtEvent number) (standing_of self.old) result (standing_of self.new) lines.old.items lines.new.items }
     {
         let when = When::Event(number);
         match event {
@@ -44,16 +58,16 @@ impl<S: Powered + Drop> World<S> {
             Event::Again(client) => self.again(*client, when, lines),
             Event::Deliver(k) => self.deliver(*k, when, lines),
             Event::Settle => self.settle_at(when, lines),
-            Event::Step(server)
-            | Event::Nudge(server)
-            | Event::Timeout(server, _)
-            | Event::Scrub(server)
-            | Event::Crash(server)
-            | Event::Show(server) => self.at_server(*server, event, when, lines),
+            Event::Step(server) => self.at_server(*server, event, when, lines),
+            Event::Nudge(server) => self.at_server(*server, event, when, lines),
+            Event::Timeout(server, _) => self.at_server(*server, event, when, lines),
+            Event::Scrub(server) => self.at_server(*server, event, when, lines),
+            Event::Crash(server) => self.at_server(*server, event, when, lines),
+            Event::Show(server) => self.at_server(*server, event, when, lines),
             Event::Restart(server) => self.restart(*server, when, lines),
-            Event::Decay(server, _) | Event::Revive(server, _) | Event::Arm(server, _, _) => {
-                self.befall(*server, event, when, lines)
-            }
+            Event::Decay(server, _) => self.befall(*server, event, when, lines),
+            Event::Revive(server, _) => self.befall(*server, event, when, lines),
+            Event::Arm(server, _, _) => self.befall(*server, event, when, lines),
         }
     }
 
@@ -75,7 +89,9 @@ impl<S: Powered + Drop> World<S> {
         lines: &mut Vec<Line>,
     ) -> Result<(), Ended>
         requires world { IsWorld (λ s. S.view s) self.old }
+        requires its { IsAtUp server event.now }
         ensures world { OnOk result (IsWorld (λ s. S.view s) self.new) }
+        ensures does { DoesTasks (λ s. S.view s) (λ s. S.device s) (λ x. Meets event.now ∷ []) when (standing_of self.old) result (standing_of self.new) lines.old.items lines.new.items }
     {
         if !self.has(server) {
             return refuse(lines, when, EventRefusal::NoSuchServer);
@@ -83,11 +99,26 @@ impl<S: Powered + Drop> World<S> {
         if !self.is_up(server) {
             return refuse(lines, when, EventRefusal::ServerDown);
         }
+        self.at_up(server, event, when, lines)
+    }
+
+    /// An event of a server that is up.
+    fn at_up(
+        &mut self,
+        server: ServerNo,
+        event: &Event,
+        when: When,
+        lines: &mut Vec<Line>,
+    ) -> Result<(), Ended>
+        requires world { IsWorld (λ s. S.view s) self.old }
+        requires its { IsAtUp server event.now }
+        requires there { nat_lt server.0 (vec_len self.old.places) ≡ true }
+        requires up { is_up_at server.0 self.old.places.items ≡ true }
+        ensures world { OnOk result (IsWorld (λ s. S.view s) self.new) }
+        ensures does { DoesTasks (λ s. S.view s) (λ s. S.device s) (λ x. Meets event.now ∷ []) when (standing_of self.old) result (standing_of self.new) lines.old.items lines.new.items }
+    {
         match event {
-            Event::Step(_) => {
-                let _more = self.work(server, when, lines)?;
-                Ok(())
-            }
+            Event::Step(_) => self.work(server, when, lines),
             Event::Nudge(_) => self.nudge(server, when, lines),
             Event::Timeout(_, tid) => self.timeout(server, *tid, when, lines),
             Event::Scrub(_) => self.scrub(server, when, lines),
@@ -123,11 +154,10 @@ impl<S: Powered + Drop> World<S> {
 }
 
 /// The event is refused.
-pub(crate) fn refuse(
-    lines: &mut Vec<Line>,
-    when: When,
-    refusal: EventRefusal,
-) -> Result<(), Ended> {
+pub(crate) fn refuse(lines: &mut Vec<Line>, when: When, refusal: EventRefusal) -> Result<(), Ended>
+    ensures told { OnOk result (lines.new.items ≡ lines.old.items ++ (record { when = when; text = RefusedEvent refusal }) ∷ []) }
+    ensures memory { IfErr result (λ e. e ≡ Memory) }
+{
     tell(lines, when, Text::RefusedEvent(refusal))?;
     Ok(())
 }

@@ -2,6 +2,7 @@ pub mod Reports
 pub mod Computed
 pub mod Telling
 pub mod Ordered
+pub mod Counted
 pub mod Texts
 pub mod Quiet
 pub mod Resting

@@ -1,28 +1,20 @@
 -- What befalls a step is what its server's device does.
-use Rattle.std.specs.Prelude.{◌≡◌, ℕ, ◌+◌, ◌-◌, ◌<◌, Bool, true, false, not, ◌||◌, if◌then◌else◌, List, [], ◌∷◌, count_by, Some, None, is_some}
-use Rattle.std.specs.List.{list_any}
+use Rattle.std.specs.Prelude.{◌≡◌, ◌<◌, Bool, false, not, if◌then◌else◌, Some, None, is_some}
 use Rattle.jn_base.specs.declared.names.ServerNo.{ServerNo}
 use Rattle.jn_base.specs.declared.names.LockUnit.TheVariants.{File}
 use Rattle.jn_base.specs.Names.{server_eq, file_eq}
 use Rattle.jn_device.specs.Device.{DeviceState}
 use Rattle.jn_device.specs.Events.{PowersUp, powered_off, disarmed, cleared, Decays as PageDecays, Revives as PageRevives, Arms as FaultArmed}
-use Rattle.jn_records.specs.declared.head.Head.{Head}
-use Rattle.jn_records.specs.declared.head.Head.TheVariants.{Free as FreeHead, Used}
-use Rattle.jn_records.specs.declared.net_list.Need.{Need}
-use Rattle.jn_records.specs.declared.record.Record.{Record}
 use Rattle.jn_records.specs.StablePages.{Counts, Pages}
-use Rattle.jn_sets.specs.Pool.{free_count, is_rubbish}
 use Rattle.jn_store.specs.Pairs.{pairs_view}
 use Rattle.jn_store.specs.Store.{StoreLater}
-use Rattle.jn_found.specs.Contents.{heads_name, works_name}
-use Rattle.jn_found.specs.Pages.{pool_on, heads_on, listed, pages_by, found_on}
-use Rattle.jn_rows.specs.Stable.{StableState, Pick, stable}
-use Rattle.jn_rows.specs.Worker.{WorkerTable, intentions_of, need_in}
-use Rattle.jn_rows.specs.Coordinator.{promised}
+use Rattle.jn_found.specs.Pages.{pool_on, found_on}
+use Rattle.jn_rows.specs.Stable.{Pick, stable}
 use Rattle.jn_protocol.specs.World.{World, Memory}
 use Rattle.jn_protocol.specs.Steps.{AreNames, run, IsRun}
 use Rattle.jn_protocol.specs.Printing.{file_before}
 use Rattle.jn_reported.specs.Printing.{prints_of}
+use Rattle.jn_server.specs.Standing.{standing_pages, free_on, has_rubbish}
 use Rattle.jn_written.specs.Chances.{Setup, Chance}
 use Rattle.jn_written.specs.Deeds.{Use, Nothing, Calls, Reads, Recovers, PowersOff, Decays, Revives, Arms, Disarms, Deed}
 
@@ -57,31 +49,7 @@ pub record Alone (q : ServerNo) (becomes : DeviceState → DeviceState → Type 
 
 -- by one pick: all find the same records and heads
 abbrev pub pages_of : DeviceState → Pages
-pages_of d = pages_by (pairs_view d) (λ n. false)
-
-abbrev pub is_free_head : Head → Bool
-is_free_head FreeHead = true
-is_free_head (Used f addresses) = false
-
--- no head and no prepared work has the data page
-abbrev pub is_free_page : Counts → Pages → ℕ → Bool
-is_free_page g pages d = not (heads_name (heads_on g pages) (d + 1) || works_name (pool_on g pages) (d + 1))
-
--- the heads that are promised to prepared works
-abbrev pub promised_heads : StableState → WorkerTable → ℕ
-promised_heads x [] = 0
-promised_heads x (w ∷ ws) = (need_in x.files (intentions_of (x.works w.name))).heads + promised_heads x ws
-
--- what is free and not promised; a prepared work has its data pages already
-abbrev pub free_on : Counts → Pages → StableState → Memory → Need
-free_on g pages x m = record {
-  records = free_count (pool_on g pages) - promised m.coordinator.transactions;
-  heads = count_by is_free_head (heads_on g pages) - promised_heads x m.worker;
-  pages = count_by (is_free_page g pages) (listed (λ d. d) 0 g.leaves);
-}
-
-abbrev pub has_rubbish : List Record → Bool
-has_rubbish pool = list_any (is_rubbish pool) pool
+pages_of d = standing_pages (pairs_view d)
 
 abbrev pub rubbish_on : Setup → Devices → ServerNo → Bool
 rubbish_on x ds q = has_rubbish (pool_on (x.counts q) (pages_of (ds q)))

@@ -13,7 +13,7 @@ use Rattle.jn_serial.specs.Lines.{is_before, history_of}
 use Rattle.jn_protocol.specs.World.{World}
 use Rattle.jn_protocol.specs.Steps.{Step, NextEvent, Tell, Deliver, Work, StopDelivery, StopWork, Crash, StopRestart, Restart, CloseClients}
 use Rattle.jn_written.specs.Chances.{Setup, Chance}
-use Rattle.jn_written.specs.Tasks.{Task, Meets, Acts}
+use Rattle.jn_written.specs.Tasks.{Task, Begins, Meets, Acts}
 use Rattle.jn_written.specs.Deeds.{is_used_up}
 use Rattle.jn_written.specs.Refusals.{refusal_of}
 
@@ -126,3 +126,11 @@ abbrev pub cause_of : Setup → Chance → Task → World → Option EventRefusa
 cause_of x h (Meets event) w = or_else (refusal_of x w event) (refused_while h event w)
 cause_of x h (Acts event) w = refused_while h event w
 cause_of x h task w = None
+
+-- ---- events that are left
+
+-- how many events have yet to begin
+abbrev pub events_left : List Task → ℕ
+events_left [] = 0
+events_left (Begins event ∷ tasks) = events_left tasks + 1
+events_left (task ∷ tasks) = events_left tasks

@@ -3,11 +3,13 @@ use Rattle.std.specs.Prelude.{◌≡◌, ◌<◌, ℕ, nat_lt, if◌then◌else�
 use Rattle.jn_base.specs.declared.names.ServerNo.{ServerNo}
 use Rattle.jn_order.specs.Files.{AllFiles}
 use Rattle.jn_device.specs.Device.{DeviceState}
+use Rattle.jn_records.specs.StablePages.{page_count}
+use Rattle.jn_store.specs.Pairs.{pairs_view}
 use Rattle.jn_schedule.specs.declared.Event.{Event}
 use Rattle.jn_report.specs.declared.line.Line.{Line}
 use Rattle.jn_protocol.specs.World.{World, new_memory, opening}
 use Rattle.jn_reported.specs.Ending.{AreFilesOf}
-use Rattle.jn_written.specs.Chances.{Setup, physical_pages}
+use Rattle.jn_written.specs.Chances.{Setup}
 use Rattle.jn_written.specs.Tasks.{InSchedule, CutShort, AtEnd, State}
 use Rattle.jn_written.specs.Events.{tasks_of}
 use Rattle.jn_written.specs.Devices.{Devices, AreFound}
@@ -25,9 +27,9 @@ before x schedule files epochs = record {
   stage = InSchedule;
 }
 
--- a device before a run
+-- a device before a run, with so many stable pages
 pub record IsFresh (pages : ℕ) (d : DeviceState) : Type 0 where
-  pub count : d.count ≡ pages
+  pub count : (pairs_view d).count ≡ pages
   pub waiting : d.waiting ≡ []
   pub told : d.told ≡ []
 
@@ -35,7 +37,7 @@ pub record IsFresh (pages : ℕ) (d : DeviceState) : Type 0 where
 pub record AreImages (x : Setup) (files : AllFiles) (epochs : ServerNo → ℕ) (images : Devices) : Type 0 where
   -- there are no files of other servers
   pub its : AreFilesOf x.servers files
-  pub fresh : (q : ServerNo) → q.0 < x.servers → IsFresh (physical_pages x q) (images q)
+  pub fresh : (q : ServerNo) → q.0 < x.servers → IsFresh (page_count (x.counts q)) (images q)
   pub found : AreFound x (closed_world x.servers files epochs) images
 
 -- a run of a schedule, from its images to this moment

@@ -6,7 +6,7 @@ mod rows;
 mod settling;
 mod wrong;
 
-ghost use Rattle.std.specs.Prelude.{◌≡◌, ℕ, true, false, List, [], ◌∷◌, ◌++◌};
+ghost use Rattle.std.specs.Prelude.{◌≡◌, ◌+◌, ℕ, true, false, List, [], ◌∷◌, ◌++◌, length};
 ghost use Rattle.jn_base.specs.declared.names.ServerNo.{ServerNo};
 ghost use Rattle.jn_order.specs.Files.{AllFiles};
 ghost use Rattle.jn_schedule.specs.declared.Event.{Event};
@@ -14,11 +14,11 @@ ghost use Rattle.jn_report.specs.declared.line.Line.{Line};
 ghost use Rattle.jn_serial.specs.Lines.{history_of};
 ghost use Rattle.jn_protocol.specs.World.{commits_in};
 ghost use Rattle.jn_written.specs.Chances.{Setup, Chance};
-ghost use Rattle.jn_written.specs.Tasks.{State};
+ghost use Rattle.jn_written.specs.Tasks.{CutShort, State};
 ghost use Rattle.jn_written.specs.Runs.{MayLead};
 ghost use Rattle.jn_written.specs.Steps.{after};
 ghost use Rattle.jn_written.specs.Whole.{before};
-ghost use Rattle.jn_written.specs.Kinds.{are_in_order, are_quiet, count_right};
+ghost use Rattle.jn_written.specs.Kinds.{are_in_order, are_quiet, count_right, events_left};
 
 pub use devices::{
     a_stop_had_waited, devices_give_chances, nothing_strikes_where_nothing_waits,
@@ -67,6 +67,12 @@ pub fn commits_are_counted()
 {}
 
 /// The commits that the lines name are those that the system has named, in its order.
+/// Unless the run is cut short, the events that have begun and those that are left are those of the schedule.
+pub fn each_event_begins_once()
+    ensures { (x : Setup) (schedule : List Event) (files : AllFiles) (epochs : ServerNo → ℕ) (t : State) → MayLead x (before x schedule files epochs) t
+        → (t.stage ≡ CutShort → ⊥) → t.course.world.event + events_left t.tasks ≡ length schedule }
+{}
+
 pub fn commits_are_the_systems()
     ensures { (x : Setup) (schedule : List Event) (files : AllFiles) (epochs : ServerNo → ℕ) (t : State) → MayLead x (before x schedule files epochs) t
         → history_of t.lines ≡ commits_in t.course.world.lines }

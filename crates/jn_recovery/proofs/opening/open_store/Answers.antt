@@ -30,7 +30,7 @@ returns-in_err-root-clause-down g c = λ server before. let counts = counts_by c
     let w = g.S.StableStore.view c.read_root.new.store in
     if_err_is c.from_residual-in_err-root.result (λ cause. IsDown server counts (g.S.StableStore.view c.args.store.now) cause w) c.in_err-root.field-0.0 (search rules)
     (root_exit server counts _ before (g.S.StableStore.view c.clean_all.new.store) (on_ok c.clean_all.result _ c.clean_all.ensures.cleaned (search rules)) c.read_root.result w c.read_root.ensures.read c.read_root.ensures.root
-    c.in_err-root.field-0.0 c.in_err-root.was c.read_root.ensures.stop c.read_root.ensures.calm)
+    c.in_err-root.field-0.0 c.in_err-root.was c.read_root.ensures.stop c.read_root.ensures.calm c.read_root.ensures.served)
 
 pub load-requires-clause-counts : goal.load-requires-clause-counts
 load-requires-clause-counts g c = let (server, before) = c.requires.recoverable in let counts = counts_by c.args.counts in counts_fit server counts (g.S.StableStore.view c.args.store.now) before (g.S.StableStore.view c.clean_all.new.store) (on_ok c.clean_all.result _ c.clean_all.ensures.cleaned (search rules))

@@ -1,15 +1,20 @@
-use Rattle.std.proofs.Common.{length, ◌≡◌, ◌+◌, ◌++◌, ◌∷◌, [], ℕ, sym, subst, arith}
+use Rattle.std.proofs.Common.{length, ◌∙◌, ◌≡◌, ◌+◌, ◌++◌, ◌∷◌, [], ℕ, refl, sym, subst, arith}
 use Rattle.std.proofs.lemmas.Grind.{common_steps}
 use Rattle.jn_world.specs.Standing.{AreStores}
-use Rattle.jn_run.specs.Running.{IsStore}
-use Rattle.jn_run.proofs.Stores.{look, one-more-store}
+use Rattle.jn_run.specs.Running.{IsStore, IsDisk, AreDisks}
+use Rattle.jn_run.proofs.Stores.{look, one-more-store, one-more-disk}
 use Rattle.jn_run.proofs.running.new_stores.Goals as goal
+
+zero-plus : (n : ℕ) → 0 + n ≡ n
+zero-plus n = omega arith
 
 pub loop-server-preserved : goal.loop-server-preserved
 loop-server-preserved c =
     let place : c.loop-server.server ≡ 0 + length c.loop-server.stores.items = omega (arith, c.loop-server.invariant.count) in
     let here = subst (λ (k : ℕ). IsStore look k (c.in_ok-new_disk.field-0, record { pool = c.args.options.pool; heads = c.args.options.heads; leaves = c.args.options.leaves })) place c.in_ok-new_disk.ensures.store in
+    let disk = subst (λ (k : ℕ). IsDisk look c.args.options k (c.in_ok-new_disk.field-0, record { pool = c.args.options.pool; heads = c.args.options.heads; leaves = c.args.options.leaves })) (place ∙ zero-plus (length c.loop-server.stores.items)) (record { counts = refl; new = c.in_ok-new_disk.ensures.new }) in
     record {
+      new = subst (λ xs. AreDisks look c.args.options xs) (sym c.in_ok-push.ensures.items) (one-more-disk look c.args.options c.loop-server.stores.items _ c.loop-server.invariant.new disk);
       stores = subst (λ xs. AreStores look 0 xs) (sym c.in_ok-push.ensures.items) (one-more-store look 0 c.loop-server.stores.items _ c.loop-server.invariant.stores here);
       count = grind (arith, common_steps, c.loop-server.invariant.count);
     }

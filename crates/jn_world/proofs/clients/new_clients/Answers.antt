@@ -1,10 +1,22 @@
-use Rattle.std.proofs.Common.{◌+◌, List, subst, sym, arith}
-use Rattle.std.proofs.lemmas.List.Elements.{All-push}
+use Rattle.std.proofs.Common.{◌+◌, List, length, ap, subst, sym, arith}
+use Rattle.std.proofs.lemmas.List.Elements.{All-nil, All-push}
 use Rattle.std.specs.Prelude.{All}
 use Rattle.jn_rows.specs.Client.{ClientTable}
+use Rattle.jn_world.specs.Opening.{AreNew}
 use Rattle.jn_world.specs.Standing.{IsClientOf}
+use Rattle.jn_world.proofs.Pushed.{new-more, new-none}
 use Rattle.jn_world.proofs.Places.{new-client}
 use Rattle.jn_world.proofs.clients.new_clients.Goals as goal
+
+pub loop-c-init : goal.loop-c-init
+loop-c-init c =
+    let items = c.new-clients.ensures.items in
+    let none = ap (λ (ts : List ClientTable). length ts) items in
+    record {
+      many = omega (arith, c.new-clients.result.ok.0);
+      all = subst (λ (ts : List ClientTable). All (IsClientOf 0) ts) (sym items) (All-nil (IsClientOf 0));
+      new = subst (λ (ts : List ClientTable). AreNew c.args.servers ts) (sym items) (new-none c.args.servers);
+    }
 
 pub loop-c-preserved : goal.loop-c-preserved
 loop-c-preserved c =
@@ -14,4 +26,5 @@ loop-c-preserved c =
       many = omega arith;
       all = subst (λ (ts : List ClientTable). All (IsClientOf 0) ts) (sym long.items)
           (All-push (IsClientOf 0) c.loop-c.clients.items c.new.result c.loop-c.invariant.all (subst (IsClientOf 0) (sym c.new.ensures) (new-client (record { 0 = c.loop-c.c + 1 }) c.args.servers c.requires)));
+      new = subst (λ (ts : List ClientTable). AreNew c.args.servers ts) (sym long.items) (new-more c.args.servers c.loop-c.c c.loop-c.clients.items c.new.result (omega (arith, c.loop-c.clients.ok.0)) c.new.ensures c.loop-c.invariant.new);
     }

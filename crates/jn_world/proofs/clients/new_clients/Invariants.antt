@@ -1,7 +1,8 @@
 use Rattle.std.proofs.Common.{◌≡◌, vec_len}
 use Rattle.std.specs.Prelude.{All}
+use Rattle.jn_world.specs.Opening.{AreNew}
 use Rattle.jn_world.specs.Standing.{IsClientOf}
 use Rattle.jn_world.proofs.clients.new_clients.Given as goal
 
 abbrev pub invariant-loop-c : goal.invariant-loop-c
-invariant-loop-c l = record { many : vec_len l.clients ≡ l.c; all : All (IsClientOf 0) l.clients.items }
+invariant-loop-c l = record { many : vec_len l.clients ≡ l.c; all : All (IsClientOf 0) l.clients.items; new : AreNew l.servers l.clients.items }

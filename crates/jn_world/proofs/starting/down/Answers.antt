@@ -1,11 +1,19 @@
-use Rattle.std.proofs.Common.{ℕ, ◌+◌, length, List, sym, subst, ◌∙◌, ap, arith}
+use Rattle.std.proofs.Common.{ℕ, ◌+◌, ◌∷◌, [], ◌++◌, length, List, sym, subst, ◌∙◌, ap, arith}
+use Rattle.jn_base.specs.declared.names.Tid.{Tid}
+use Rattle.jn_device.specs.Device.{DeviceState}
+use Rattle.jn_recovery.specs.declared.counts.PageCounts.{PageCounts}
+use Rattle.jn_world.specs.declared.world.World.{World}
+use Rattle.jn_world.specs.Naming.{is_among}
+use Rattle.jn_world.specs.Opening.{AreNew, StandFor}
+use Rattle.jn_world.specs.Written.{standing_of}
+use Rattle.jn_world.proofs.Pushed.{stand-more, opens, yielded-all}
 use Rattle.std.proofs.lemmas.Iterator.Adapters.{YieldsList-from_vec}
 use Rattle.std.proofs.lemmas.Iterator.Consumers.{YieldsList-turn, YieldsList-end}
 use Rattle.std.proofs.lemmas.List.{length_push}
 use Rattle.jn_net.specs.Carried.{Carried}
 use Rattle.jn_store.specs.Store.{StoreView}
-use Rattle.jn_world.specs.declared.place.Place.{Place}
-use Rattle.jn_world.specs.declared.place.Slot.TheVariants.{Down}
+use Rattle.jn_place.specs.declared.place.Place.{Place}
+use Rattle.jn_place.specs.declared.place.Slot.TheVariants.{Down}
 use Rattle.jn_world.specs.Standing.{ArePlaces}
 use Rattle.jn_world.proofs.Places.{store-place, places-push, start-world}
 use Rattle.jn_world.proofs.starting.down.Goals as goal
@@ -26,6 +34,7 @@ loop-store-preserved g c =
       places = subst (λ (xs : List (Place g.row.S.Denot)). ArePlaces look 0 0 xs) (sym pushed.items)
           (places-push look 0 n ps q many (store-place look xs n c.in-Some.store c.in-Some.counts t.0 t.1 c.requires.stores) c.loop-store.invariant.places);
       many = ap length pushed.items ∙ length_push ps q ∙ ap (λ (k : ℕ). k + 1) many ∙ sym (length_push c.loop-store.yielded (c.in-Some.store, c.in-Some.counts));
+      stand = subst (λ (xs : List (Place g.row.S.Denot)). StandFor (c.loop-store.yielded ++ (c.in-Some.store, c.in-Some.counts) ∷ []) xs) (sym pushed.items) (stand-more c.loop-store.yielded ps c.in-Some.store c.in-Some.counts many c.loop-store.invariant.stand);
     }
 
 pub returns : goal.returns
@@ -40,7 +49,12 @@ returns g c =
     let few = c.requires.few in
     let own = c.loop-store.places.ok.0 in
     let clients = c.in_ok-new_clients.ensures in
+    let device : g.row.S.Denot → DeviceState = λ s. g.S.Powered.device s in
+    let w : World g.row.S.Denot = record { places = c.loop-store.places; clients = c.in_ok-new_clients.field-0; net = c.new.result; named = c.new-2.result; trace = c.args.trace; alloc = c.args.alloc } in
+    let stand = subst (λ (ys : List (g.row.S.Denot × PageCounts)). StandFor ys c.loop-store.places.items) (yielded-all c.loop-store.yielded xs t.0) c.loop-store.invariant.stand in
     record {
-      world = start-world look (record { places = c.loop-store.places; clients = c.in_ok-new_clients.field-0; net = c.new.result; named = c.new-2.result; trace = c.args.trace; alloc = c.args.alloc })
+      world = start-world look w
           (omega arith) c.loop-store.invariant.places clients.0 clients.1 (ap (λ (n : Carried). n.sent) c.new.ensures);
+      opens = opens device xs (standing_of w) (many ∙ all) stand (omega (arith, clients.0, c.in_ok-new_clients.field-0.ok.0)) (subst (λ (k : ℕ). AreNew k c.in_ok-new_clients.field-0.items) (omega arith) clients.2)
+          c.new.ensures (λ T. ap (λ (ns : List Tid). is_among ns T) c.new-2.ensures) (ap (λ (ns : List Tid). length ns) c.new-2.ensures);
     }

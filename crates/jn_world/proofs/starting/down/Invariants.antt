@@ -1,6 +1,7 @@
 use Rattle.std.proofs.Common.{◌≡◌, length}
+use Rattle.jn_world.specs.Opening.{StandFor}
 use Rattle.jn_world.specs.Standing.{ArePlaces}
 use Rattle.jn_world.proofs.starting.down.Given as goal
 
 abbrev pub invariant-loop-store : goal.invariant-loop-store
-invariant-loop-store g l = record { places : ArePlaces (λ s. g.S.StableStore.view s) 0 0 l.places.items; many : length l.places.items ≡ length l.yielded }
+invariant-loop-store g l = record { places : ArePlaces (λ s. g.S.StableStore.view s) 0 0 l.places.items; many : length l.places.items ≡ length l.yielded; stand : StandFor l.yielded l.places.items }

@@ -19,6 +19,7 @@ returns g c =
       steps = subst (λ (s : Parts g.row.S.Denot). let x = view_with look s in Steps (server_step (memory_of x) (state x.storage) (room_of x.storage)) x c.args.out.now (Ok c.in_ok-step.field-0)
           (view_with look (record { storage = c.step.new.store; worker = c.step.new.self; coordinator = c.self.inside.coordinator; tickets = c.self.inside.tickets })) c.step.new.out) c.self.view_is
           (stepped v serves c.args.out.now c.step.new.self (view_of c.step.new.store.1 (look c.step.new.store.0)) c.step.new.out c.in_ok-step.field-0 (h.steps v.tickets));
+      room = c.reads_pages.ensures;
     }
 
 pub returns-in_err-step : goal.returns-in_err-step
@@ -32,4 +33,5 @@ returns-in_err-step g c =
       steps = subst (λ (s : Parts g.row.S.Denot). let x = view_with look s in Steps (server_step (memory_of x) (state x.storage) (room_of x.storage)) x c.args.out.now c.from_residual.result
           (view_with look (record { storage = c.step.new.store; worker = c.step.new.self; coordinator = c.self.inside.coordinator; tickets = c.self.inside.tickets })) c.step.new.out) c.self.view_is
           (step-failed v serves c.args.out.now c.step.new.self (view_of c.step.new.store.1 (look c.step.new.store.0)) c.step.new.out c.in_err-step.field-0.0 c.from_residual.result c.from_residual.ensures.0 c.from_residual.ensures.1 (h.steps v.tickets));
+      room = c.reads_pages.ensures;
     }

@@ -1,4 +1,4 @@
-use Rattle.std.proofs.Common.{subst, sym}
+use Rattle.std.proofs.Common.{subst, sym, ap}
 use Rattle.jn_store.specs.Store.{StoreView}
 use Rattle.jn_server.specs.Handling.{TimesOut}
 use Rattle.jn_server.specs.Seen.{Parts, view_with, IsServer}
@@ -13,4 +13,5 @@ returns g c =
     record {
       times_out = subst (λ (s : Parts g.row.S.Denot). TimesOut c.args.tid (view_with look s) c.timeout.result (view_with look (record { storage = c.self.inside.storage; worker = c.timeout.new.self; coordinator = c.self.inside.coordinator; tickets = c.self.inside.tickets }))) c.self.view_is
           (timed-out c.args.tid (view_with look inside) c.timeout.result c.timeout.new.self serves c.timeout.ensures);
+      storage = ap (λ (s : Parts g.row.S.Denot). s.storage) c.self.view_is;
     }

@@ -1,9 +1,21 @@
+use Rattle.jn_base.specs.declared.names.ClientNo.{ClientNo}
+use Rattle.jn_schedule.specs.declared.Event.TheVariants.{Again}
+use Rattle.jn_device.specs.Device.{DeviceState}
 use Rattle.jn_store.specs.Store.{StoreView}
-use Rattle.jn_world.proofs.Worlds.{world-as}
-use Rattle.jn_world.proofs.world.World.ask_again.Goals.{then-is_up+in_ok-nudge, else-is_up}
+use Rattle.jn_world.specs.Written.{standing_of}
+use Rattle.jn_world.proofs.Calls.{does-then}
+use Rattle.jn_world.proofs.Numbers.{none-begin}
+use Rattle.jn_settling.specs.Settle.{clients_from}
+use Rattle.jn_world.specs.Settling.{asking_clients, asking_servers}
 use Rattle.jn_world.proofs.world.World.ask_again.Goals as goal
 
-pub loop-s-preserved : goal.loop-s-preserved
-loop-s-preserved g c =
+pub returns-clause-does : goal.returns-clause-does
+returns-clause-does g c =
     let look : g.row.S.Denot → StoreView = λ s. g.S.StableStore.view s in
-    elim c.if-is_up.branch [ then-is_up+in_ok-nudge w ↦ world-as look c.if-is_up.self w.nudge.new.self w.self-is (let h = w.in_ok-nudge.ensures in h.world) | else-is_up w ↦ world-as look c.if-is_up.self c.loop-s.self w.self-is c.loop-s.invariant ]
+    let device : g.row.S.Denot → DeviceState = λ s. g.S.Powered.device s in
+    let when = c.args.when in
+    let w = standing_of c.args.self.now in
+    let first = c.args.lines.now.items in
+    let e = c.in_ok-ask_clients.ensures in
+    does-then look device when asking_clients asking_servers c.in_ok-ask_clients.field-0 c.ask_servers.result w (standing_of c.ask_clients.new.self) (standing_of c.ask_servers.new.self)
+    first c.ask_clients.new.lines.items c.ask_servers.new.lines.items (λ x. none-begin (λ (q : ClientNo). Again q) (clients_from 1 8)) e.does c.ask_servers.ensures.does

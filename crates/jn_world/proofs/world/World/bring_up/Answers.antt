@@ -1,8 +1,8 @@
 use Rattle.std.proofs.Common.{◌<◌, length, ap, arith}
 use Rattle.jn_store.specs.Store.{StoreView}
 use Rattle.jn_world.specs.declared.world.World.{World}
-use Rattle.jn_world.specs.Standing.{IsWorld}
-use Rattle.jn_world.proofs.Steps.{any-ok}
+use Rattle.jn_device.specs.Device.{DeviceState}
+use Rattle.jn_world.proofs.Bringing.{brought, has-counts}
 use Rattle.jn_world.proofs.Places.{place-there, place-million, down-here, moved-quiet}
 use Rattle.jn_world.proofs.world.World.bring_up.Goals as goal
 
@@ -40,5 +40,22 @@ returns-clause-world g c =
     let q = c.come_up.new.self in
     let b = c.tell_restarted.new.self in
     let step = c.in_ok-restarted.ensures in
-    any-ok (IsWorld look b) c.tell_restarted.result (moved-quiet look w b server i q c.from.ensures c.requires.world (step.place (length w.net.sent) place)
-    (ap (λ (x : World g.row.S.Denot). x.places) c.tell_restarted.ensures) (ap (λ (x : World g.row.S.Denot). x.clients) c.tell_restarted.ensures) (ap (λ (x : World g.row.S.Denot). x.net) c.tell_restarted.ensures))
+    moved-quiet look w b server i q c.from.ensures c.requires.world (step.place (length w.net.sent) place)
+    (ap (λ (x : World g.row.S.Denot). x.places) c.tell_restarted.ensures.others) (ap (λ (x : World g.row.S.Denot). x.clients) c.tell_restarted.ensures.others) (ap (λ (x : World g.row.S.Denot). x.net) c.tell_restarted.ensures.others)
+
+pub returns-clause-brought : goal.returns-clause-brought
+returns-clause-brought g c =
+    let look : g.row.S.Denot → StoreView = λ s. g.S.StableStore.view s in
+    let device : g.row.S.Denot → DeviceState = λ s. g.S.Powered.device s in
+    let w = c.args.self.now in
+    let server = c.args.server in
+    let i = c.from.result in
+    let p = c.index_mut-place.result.now in
+    let within : server.0 < length w.places.items = (let few = c.requires.there in omega (arith, w.places.ok.0)) in
+    let place = place-there look w server i p c.from.ensures within c.index_mut-place.ensures.value c.requires.world in
+    let q = c.come_up.new.self in
+    let b = c.tell_restarted.new.self in
+    let step = c.in_ok-restarted.ensures in
+    let end = c.in_ok-came.ensures in
+    brought look device w b server i p q c.args.when c.in_ok-restarted.restarted c.in_ok-came.came c.args.told.now.items c.come_up.new.told.items c.tell_restarted.new.told.items c.from.ensures within c.index_mut-place.ensures.value c.come_up.ensures.counts
+    (has-counts look server (length w.net.sent) p q c.come_up.ensures.counts (step.place (length w.net.sent) place)) step.restarts c.tell_restarted.ensures.others end.names end.told end.came

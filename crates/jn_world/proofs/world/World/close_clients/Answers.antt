@@ -1,7 +1,11 @@
-use Rattle.std.proofs.Common.{refl, length}
+use Rattle.std.proofs.Common.{ℕ, refl, sym, ◌∙◌, length}
 use Rattle.std.specs.Vec.{with_item}
 use Rattle.jn_store.specs.Store.{StoreView}
-use Rattle.jn_world.proofs.Places.{place-here, place-million, up-here, moved-quiet}
+use Rattle.jn_device.specs.Device.{DeviceState}
+use Rattle.jn_world.specs.Written.{standing_of}
+use Rattle.jn_world.proofs.Bringing.{place-got, has-counts}
+use Rattle.jn_world.proofs.Closing.{closed-does, up-set}
+use Rattle.jn_world.proofs.Places.{place-here, place-million, up-here, up-within, moved-quiet}
 use Rattle.jn_world.proofs.world.World.close_clients.Goals as goal
 
 pub close_clients-requires-clause-place : goal.close_clients-requires-clause-place
@@ -17,8 +21,8 @@ close_clients-requires-clause-place g c =
 pub close_clients-requires-clause-up : goal.close_clients-requires-clause-up
 close_clients-requires-clause-up g c = up-here c.args.self.now c.args.server c.from.result c.index_mut.result.now c.from.ensures c.requires.up c.index_mut.ensures.value
 
-pub returns : goal.returns
-returns g c =
+pub returns-clause-world : goal.returns-clause-world
+returns-clause-world g c =
     let look : g.row.S.Denot → StoreView = λ s. g.S.StableStore.view s in
     let w = c.args.self.now in
     let server = c.args.server in
@@ -27,4 +31,22 @@ returns g c =
     let place = place-here look w server i p c.from.ensures c.requires.up c.index_mut.ensures.value c.requires.world in
     let q = c.close_clients.new.self in
     let step = c.in_ok-close_clients.ensures in
-    record { world = moved-quiet look w (record w { places = with_item w.places i q }) server i q c.from.ensures c.requires.world (step.left (length w.net.sent) place) refl refl refl }
+    moved-quiet look w (record w { places = with_item w.places i q }) server i q c.from.ensures c.requires.world (step.left (length w.net.sent) place) refl refl refl
+
+pub returns-clause-does : goal.returns-clause-does
+returns-clause-does g c =
+    let look : g.row.S.Denot → StoreView = λ s. g.S.StableStore.view s in
+    let device : g.row.S.Denot → DeviceState = λ s. g.S.Powered.device s in
+    let w = c.args.self.now in
+    let server = c.args.server in
+    let i = c.from.result in
+    let p = c.index_mut.result.now in
+    let place = place-here look w server i p c.from.ensures c.requires.up c.index_mut.ensures.value c.requires.world in
+    let q = c.close_clients.new.self in
+    let step = c.in_ok-close_clients.ensures in
+    let within = up-within w.places.items server.0 c.requires.up in
+    let closed = step.closed in
+    closed-does look device g.met.S.Powered.seen c.args.when {A = ℕ} 0 (standing_of w) server i p q closed.0 c.args.lines.now.items c.close_clients.new.told.items c.from.ensures
+    (place-got w.places.items server i p c.from.ensures within c.index_mut.ensures.value) c.close_clients.ensures.counts
+    (has-counts look server (length w.net.sent) p q c.close_clients.ensures.counts (step.left (length w.net.sent) place)) closed.1
+    (up-set w.places.items server i q c.from.ensures within (sym c.is_up.ensures ∙ c.if-not-is_up.false)) c.requires.idle c.requires.world.limit

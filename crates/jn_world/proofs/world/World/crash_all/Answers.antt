@@ -1,9 +1,70 @@
+use Rattle.std.proofs.Common.{◌≡◌, ◌≤◌, ℕ, ◌+◌, ◌∷◌, [], length, Ok, Err, refl, ◌∙◌, subst, arith}
+use Rattle.jn_base.specs.declared.names.ServerNo.{ServerNo}
+use Rattle.jn_world.specs.Closing.{going_down}
+use Rattle.jn_written.specs.Tasks.{Task, GoesDown}
+use Rattle.jn_world.proofs.Turns.{goes-down-does, does-exit}
+use Rattle.jn_device.specs.Device.{DeviceState}
+use Rattle.jn_report.specs.declared.line.When.TheVariants.{End}
 use Rattle.jn_store.specs.Store.{StoreView}
-use Rattle.jn_world.proofs.Worlds.{world-as}
-use Rattle.jn_world.proofs.world.World.crash_all.Goals.{then-is_up+in_ok-crash, else-is_up}
+use Rattle.jn_world.specs.Written.{standing_of}
+use Rattle.jn_world.proofs.Calls.{server-turn, servers-cut, servers-end, does-nothing}
 use Rattle.jn_world.proofs.world.World.crash_all.Goals as goal
+
+pub loop-s-init : goal.loop-s-init
+loop-s-init g c =
+    let look : g.row.S.Denot → StoreView = λ s. g.S.StableStore.view s in
+    let device : g.row.S.Denot → DeviceState = λ s. g.S.Powered.device s in
+    let when = End in
+    let w = standing_of c.args.self.now in
+    let first = c.args.lines.now.items in
+    record { world = c.requires.world; as_many = refl; clients = refl; does = does-nothing look device when {A = ℕ} 0 w first }
 
 pub loop-s-preserved : goal.loop-s-preserved
 loop-s-preserved g c =
     let look : g.row.S.Denot → StoreView = λ s. g.S.StableStore.view s in
-    elim c.if-is_up.branch [ then-is_up+in_ok-crash w ↦ world-as look c.if-is_up.self w.crash.new.self w.self-is (let h = w.in_ok-crash.ensures in h.world) | else-is_up w ↦ world-as look c.if-is_up.self c.loop-s.self w.self-is c.loop-s.invariant ]
+    let device : g.row.S.Denot → DeviceState = λ s. g.S.Powered.device s in
+    let when = End in
+    let w = standing_of c.args.self.now in
+    let first = c.args.lines.now.items in
+    let f : ServerNo → Task = λ (q : ServerNo). GoesDown q in
+    let v = standing_of c.loop-s.self in
+    let u = standing_of c.take_down.new.self in
+    let now = c.loop-s.lines.items in
+    let later = c.take_down.new.lines.items in
+    let e = c.in_ok-take_down.ensures in
+    record {
+      world = e.world;
+      as_many = e.as_many ∙ c.loop-s.invariant.as_many;
+      clients = e.clients ∙ c.loop-s.invariant.clients;
+      does = server-turn look device when f (λ q. refl) {A = ℕ} {B = ℕ} c.loop-s.s 0 (Ok 0) w v u first now later c.loop-s.invariant.does
+          (goes-down-does look device when {A = ℕ} (record { 0 = c.loop-s.s }) (Ok 0) v u now later e.does);
+    }
+
+pub returns-in_err-take_down-clause-does : goal.returns-in_err-take_down-clause-does
+returns-in_err-take_down-clause-does g c =
+    let look : g.row.S.Denot → StoreView = λ s. g.S.StableStore.view s in
+    let device : g.row.S.Denot → DeviceState = λ s. g.S.Powered.device s in
+    let when = End in
+    let w = standing_of c.args.self.now in
+    let first = c.args.lines.now.items in
+    let f : ServerNo → Task = λ (q : ServerNo). GoesDown q in
+    let v = standing_of c.loop-s.self in
+    let u = standing_of c.take_down.new.self in
+    let now = c.loop-s.lines.items in
+    let later = c.take_down.new.lines.items in
+    let fails = c.in_err-take_down.ensures in
+    let e = c.in_err-take_down.field-0.0 in
+    does-exit look device when ℕ _ c.from_residual.result e going_down w u u first later c.from_residual.ensures.0 c.from_residual.ensures.1
+    (servers-cut look device when f (λ q. refl) ℕ ℕ (c.loop-s.s + 1) e w u u first later (omega (arith, c.args.self.now.places.ok.0))
+    (server-turn look device when f (λ q. refl) {A = ℕ} {B = ℕ} c.loop-s.s 0 (Err e) w v u first now later c.loop-s.invariant.does
+    (goes-down-does look device when {A = ℕ} (record { 0 = c.loop-s.s }) (Err e) v u now later fails.does)))
+
+pub returns-clause-does : goal.returns-clause-does
+returns-clause-does g c =
+    let look : g.row.S.Denot → StoreView = λ s. g.S.StableStore.view s in
+    let device : g.row.S.Denot → DeviceState = λ s. g.S.Powered.device s in
+    let when = End in
+    let w = standing_of c.args.self.now in
+    let first = c.args.lines.now.items in
+    let f : ServerNo → Task = λ (q : ServerNo). GoesDown q in
+    servers-end look device when f (λ q. refl) {A = ℕ} c.loop-s.s (Ok 0) w (standing_of c.loop-s.self) first c.loop-s.lines.items (omega (arith, c.args.self.now.places.ok.0)) c.loop-s.invariant.does

@@ -1,11 +1,21 @@
-use Rattle.std.proofs.Common.{◌<◌, length, arith, refl}
+use Rattle.std.proofs.Common.{◌≡◌, ◌<◌, ◌≤◌, length, arith, refl, sym, ◌∙◌, ap}
 use Rattle.std.specs.Vec.{with_item}
+use Rattle.jn_device.specs.Device.{DeviceState}
 use Rattle.jn_store.specs.Store.{StoreView}
 use Rattle.jn_base.specs.declared.names.ServerNo.{ServerNo}
 use Rattle.jn_recovery.specs.Loading.{counts_by}
-use Rattle.jn_world.proofs.Slots.{stands-there}
+use Rattle.jn_place.proofs.Slots.{stands-there}
+use Rattle.jn_world.specs.declared.world.World.{World}
+use Rattle.jn_world.proofs.Bringing.{place-got}
+use Rattle.jn_world.proofs.Finishing.{disarmed-none, disarmed-more, disarmed-all}
 use Rattle.jn_world.proofs.Places.{place-there, moved-quiet}
 use Rattle.jn_world.proofs.world.World.disarm_all.Goals as goal
+
+pub loop-s-init : goal.loop-s-init
+loop-s-init g c =
+    let look : g.row.S.Denot → StoreView = λ s. g.S.StableStore.view s in
+    let device : g.row.S.Denot → DeviceState = λ s. g.S.Powered.device s in
+    record { world = c.requires; as_many = refl; others = refl; disarmed = disarmed-none look device c.args.self.now.places.items }
 
 pub disarm-requires : goal.disarm-requires
 disarm-requires g c =
@@ -24,6 +34,7 @@ disarm-requires g c =
 pub loop-s-preserved : goal.loop-s-preserved
 loop-s-preserved g c =
     let look : g.row.S.Denot → StoreView = λ s. g.S.StableStore.view s in
+    let device : g.row.S.Denot → DeviceState = λ s. g.S.Powered.device s in
     let w = c.loop-s.self in
     let server : ServerNo = record { 0 = c.loop-s.s } in
     let i = c.from.result in
@@ -37,4 +48,13 @@ loop-s-preserved g c =
     record {
       world = moved-quiet look w (record w { places = with_item w.places i q }) server i q c.from.ensures c.loop-s.invariant.world (c.disarm.ensures.place server (length w.net.sent) place) refl refl refl;
       as_many = c.loop-s.invariant.as_many;
+      others = ap (λ (x : World g.row.S.Denot). record x { places = with_item w.places i q }) c.loop-s.invariant.others;
+      disarmed = disarmed-more look device c.loop-s.s i c.args.self.now.places.items w.places.items p q c.from.ensures within (place-got w.places.items server i p c.from.ensures within c.index_mut.ensures.value)
+          (record { counts = c.disarm.ensures.counts; befell = c.disarm.ensures.befell }) c.loop-s.invariant.disarmed;
     }
+
+pub returns-clause-disarmed : goal.returns-clause-disarmed
+returns-clause-disarmed g c =
+    let look : g.row.S.Denot → StoreView = λ s. g.S.StableStore.view s in
+    let device : g.row.S.Denot → DeviceState = λ s. g.S.Powered.device s in
+    disarmed-all look device c.loop-s.s c.args.self.now.places.items c.loop-s.self.places.items (omega (arith, c.args.self.now.places.ok.0)) c.loop-s.invariant.disarmed

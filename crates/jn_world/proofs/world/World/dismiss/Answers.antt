@@ -1,10 +1,25 @@
-use Rattle.std.proofs.Common.{ap}
+use Rattle.std.proofs.Common.{List, ap, sym, subst}
+use Rattle.jn_device.specs.Device.{DeviceState}
+use Rattle.jn_place.specs.declared.place.Place.{Place}
+use Rattle.jn_stands.specs.Ending.{AreDisarmed}
 use Rattle.jn_store.specs.Store.{StoreView}
 use Rattle.jn_net.specs.Carried.{Carried}
+use Rattle.jn_world.specs.declared.world.World.{World}
 use Rattle.jn_world.proofs.Places.{world-net}
+use Rattle.jn_world.proofs.Finishing.{dismissed-standing}
 use Rattle.jn_world.proofs.world.World.dismiss.Goals as goal
 
 pub dismiss_clients-requires : goal.dismiss_clients-requires
 dismiss_clients-requires g c =
     let look : g.row.S.Denot → StoreView = λ s. g.S.StableStore.view s in
-    world-net look c.disarm_all.new.self c.forget_waiting.new.self c.disarm_all.ensures (ap (λ (x : Carried). x.sent) c.forget_waiting.ensures)
+    world-net look c.disarm_all.new.self c.forget_waiting.new.self c.disarm_all.ensures.world (ap (λ (x : Carried). x.sent) c.forget_waiting.ensures)
+
+pub returns-clause-dismissed : goal.returns-clause-dismissed
+returns-clause-dismissed g c =
+    dismissed-standing c.args.self.now c.disarm_all.new.self c.dismiss_clients.new.self c.forget_waiting.new.self c.disarm_all.ensures.others c.forget_waiting.ensures c.dismiss_clients.ensures.others c.dismiss_clients.ensures.over
+
+pub returns-clause-disarmed : goal.returns-clause-disarmed
+returns-clause-disarmed g c =
+    let look : g.row.S.Denot → StoreView = λ s. g.S.StableStore.view s in
+    let device : g.row.S.Denot → DeviceState = λ s. g.S.Powered.device s in
+    subst (λ (ps : List (Place g.row.S.Denot)). AreDisarmed look device c.args.self.now.places.items ps) (sym (ap (λ (w : World g.row.S.Denot). w.places.items) c.dismiss_clients.ensures.others)) c.disarm_all.ensures.disarmed

@@ -1,15 +1,17 @@
-use Rattle.std.proofs.Common.{ℕ, ◌+◌, length, List, sym, subst, ◌∙◌, ap}
+use Rattle.std.proofs.Common.{ℕ, ◌+◌, ◌∷◌, [], ◌++◌, length, List, sym, subst, ◌∙◌, ap}
 use Rattle.std.proofs.lemmas.Iterator.Adapters.{YieldsList-from_vec}
-use Rattle.std.proofs.lemmas.Iterator.Consumers.{YieldsList-turn}
+use Rattle.std.proofs.lemmas.Iterator.Consumers.{YieldsList-turn, YieldsList-end}
 use Rattle.std.proofs.lemmas.List.{length_push}
 use Rattle.jn_base.specs.declared.names.ServerNo.{ServerNo}
 use Rattle.jn_recovery.specs.Loading.{counts_by}
 use Rattle.jn_store.specs.Store.{StoreView}
-use Rattle.jn_world.specs.declared.place.Place.{Place}
-use Rattle.jn_world.specs.Places.{IsPlace}
+use Rattle.jn_place.specs.declared.place.Place.{Place}
+use Rattle.jn_place.specs.Places.{IsPlace}
 use Rattle.jn_world.specs.Standing.{AreClosed}
+use Rattle.jn_world.specs.Closing.{AreTheirs}
+use Rattle.jn_world.proofs.Pushed.{theirs-more, yielded-all}
 use Rattle.jn_world.proofs.Places.{place-at, closed-more}
-use Rattle.jn_world.proofs.Slots.{stands-there}
+use Rattle.jn_place.proofs.Slots.{stands-there}
 use Rattle.jn_world.proofs.world.World.into_stores.Goals as goal
 
 pub into_store-requires : goal.into_store-requires
@@ -42,4 +44,14 @@ loop-place-preserved g c =
       closed = subst (λ (xs : List g.row.S.Denot). AreClosed look 0 xs) (sym pushed.items)
           (closed-more look ss n (counts_by c.in-Some.place.counts) store many (c.into_store.ensures.recoverable server (length c.args.self.net.sent) place) c.loop-place.invariant.closed);
       many = ap length pushed.items ∙ length_push ss store ∙ ap (λ (k : ℕ). k + 1) many ∙ sym (length_push c.loop-place.yielded c.in-Some.place);
+      theirs = subst (λ (xs : List g.row.S.Denot). AreTheirs (c.loop-place.yielded ++ c.in-Some.place ∷ []) xs) (sym pushed.items)
+          (theirs-more c.loop-place.yielded ss c.in-Some.place store many c.into_store.ensures.store c.loop-place.invariant.theirs);
     }
+
+pub returns-clause-theirs : goal.returns-clause-theirs
+returns-clause-theirs g c =
+    let xs = c.args.self.places.items in
+    let gives = c.into_iter-place-iterator.ensures.into_iter_gives in
+    let long = c.args.self.places.ok.0 in
+    let t = YieldsList-end (YieldsList-from_vec {s = c.into_iter-place-iterator.result} xs (cc) (cc)) c.loop-place.yielded c.loop-place.place-iterator c.loop-place.yielded_by c.next.result c.next.new.self c.in-None.is c.next.ensures.steps in
+    subst (λ (ps : List (Place g.row.S.Denot)). AreTheirs ps c.loop-place.stores.items) (yielded-all c.loop-place.yielded xs t.0) c.loop-place.invariant.theirs

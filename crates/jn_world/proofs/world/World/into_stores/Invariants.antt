@@ -1,6 +1,7 @@
 use Rattle.std.proofs.Common.{◌≡◌, length}
+use Rattle.jn_world.specs.Closing.{AreTheirs}
 use Rattle.jn_world.specs.Standing.{AreClosed}
 use Rattle.jn_world.proofs.world.World.into_stores.Given as goal
 
 abbrev pub invariant-loop-place : goal.invariant-loop-place
-invariant-loop-place g l = record { closed : AreClosed (λ s. g.S.StableStore.view s) 0 l.stores.items; many : length l.stores.items ≡ length l.yielded }
+invariant-loop-place g l = record { closed : AreClosed (λ s. g.S.StableStore.view s) 0 l.stores.items; many : length l.stores.items ≡ length l.yielded; theirs : AreTheirs l.yielded l.stores.items }

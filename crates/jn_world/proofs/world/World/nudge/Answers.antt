@@ -1,8 +1,11 @@
+use Rattle.jn_device.specs.Device.{DeviceState}
+use Rattle.jn_world.specs.Written.{standing_of}
+use Rattle.jn_world.proofs.Busy.{nudged-now}
 use Rattle.jn_store.specs.Store.{StoreView}
 use Rattle.jn_base.specs.declared.names.Party.TheVariants.{Server}
 use Rattle.jn_recovery.specs.Loading.{counts_by}
-use Rattle.jn_world.proofs.Places.{place-here, place-million, up-here, sent-world}
-use Rattle.jn_world.proofs.Slots.{serves-here}
+use Rattle.jn_world.proofs.Places.{place-is, place-here, place-million, up-here, sent-world}
+use Rattle.jn_place.proofs.Slots.{serves-here}
 use Rattle.jn_world.proofs.Worlds.{places-of, clients-of}
 use Rattle.jn_world.proofs.world.World.nudge.Goals as goal
 
@@ -17,13 +20,23 @@ again-requires g c =
     let million = place-million look w server p c.requires.world place in
     record { serves = serves-here look server (counts_by p.counts) 1000000 p.slot million.stands (up-here w server i p c.from.ensures c.requires.up c.index.ensures) }
 
-pub returns : goal.returns
-returns g c =
+pub returns-clause-world : goal.returns-clause-world
+returns-clause-world g c =
     let look : g.row.S.Denot → StoreView = λ s. g.S.StableStore.view s in
     let w = c.args.self.now in
     let b = c.end_step.new.self in
     let sent = c.in_ok-out.ensures in
-    record {
-      world = sent-world look w b (Server c.args.server) c.in_ok-out.out.messages c.end_step.result c.requires.world sent.sent
-          (places-of w b c.end_step.ensures.others) (clients-of w b c.end_step.ensures.others) c.end_step.ensures.sent c.end_step.ensures.limit;
-    }
+    sent-world look w b (Server c.args.server) c.in_ok-out.out.messages c.end_step.result c.requires.world sent.sent
+    (places-of w b c.end_step.ensures.others) (clients-of w b c.end_step.ensures.others) c.end_step.ensures.sent c.end_step.ensures.limit
+
+pub returns-clause-does : goal.returns-clause-does
+returns-clause-does g c =
+    let look : g.row.S.Denot → StoreView = λ s. g.S.StableStore.view s in
+    let device : g.row.S.Denot → DeviceState = λ s. g.S.Powered.device s in
+    let w = standing_of c.args.self.now in
+    let q = c.args.server in
+    let i = c.from.result in
+    let p = c.index.result.now in
+    let out = c.in_ok-out.ensures in
+    nudged-now look device g.met.S.Powered.seen w q p (place-is c.args.self.now q i p c.from.ensures c.requires.up c.index.ensures) c.args.when c.end_step.result (standing_of c.end_step.new.self) c.args.lines.now.items c.end_step.new.lines.items
+    c.new-told.result.items c.new-told.ensures.items c.in_ok-out.out out.asks c.end_step.ensures.ends

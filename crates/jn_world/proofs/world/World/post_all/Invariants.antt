@@ -1,5 +1,8 @@
 use Rattle.std.proofs.Common.{◌≡◌, ◌≤◌, ◌++◌, length}
+use Rattle.jn_stands.specs.Stands.{with_sent}
 use Rattle.jn_world.specs.Standing.{posted_by}
+use Rattle.jn_world.specs.Written.{standing_of}
+use Rattle.jn_written.specs.Steps.{lines_at, message_texts, traced}
 use Rattle.jn_world.proofs.world.World.post_all.Given as goal
 
 abbrev pub invariant-loop-to : goal.invariant-loop-to
@@ -7,4 +10,6 @@ invariant-loop-to g l = record {
   others : l.self ≡ record l.initial.self { net = l.self.net };
   sent : l.self.net.sent ≡ l.initial.self.net.sent ++ posted_by l.from l.yielded;
   limit : length l.self.net.sent ≤ 1000000;
+  stands : standing_of l.self ≡ with_sent (posted_by l.from l.yielded) (standing_of l.initial.self);
+  told : l.told.items ≡ l.initial.told.items ++ lines_at l.when (traced l.initial.self.trace (message_texts l.from (length l.initial.self.net.sent) l.yielded));
 }

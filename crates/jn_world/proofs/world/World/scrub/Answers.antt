@@ -1,7 +1,11 @@
-use Rattle.std.proofs.Common.{refl, length}
+use Rattle.std.proofs.Common.{ℕ, Ok, refl, length}
 use Rattle.std.specs.Vec.{with_item}
 use Rattle.jn_store.specs.Store.{StoreView}
-use Rattle.jn_world.proofs.Places.{place-here, place-million, up-here, moved-quiet}
+use Rattle.jn_device.specs.Device.{DeviceState}
+use Rattle.jn_world.specs.Written.{standing_of}
+use Rattle.jn_world.proofs.Bringing.{has-counts}
+use Rattle.jn_world.proofs.ServerCalls.{scrubbed-does}
+use Rattle.jn_world.proofs.Places.{place-here, place-is, place-million, up-here, moved-quiet}
 use Rattle.jn_world.proofs.world.World.scrub.Goals as goal
 
 pub scrub-requires-clause-place : goal.scrub-requires-clause-place
@@ -17,8 +21,8 @@ scrub-requires-clause-place g c =
 pub scrub-requires-clause-up : goal.scrub-requires-clause-up
 scrub-requires-clause-up g c = up-here c.args.self.now c.args.server c.from.result c.index_mut.result.now c.from.ensures c.requires.up c.index_mut.ensures.value
 
-pub returns : goal.returns
-returns g c =
+pub returns-clause-world : goal.returns-clause-world
+returns-clause-world g c =
     let look : g.row.S.Denot → StoreView = λ s. g.S.StableStore.view s in
     let w = c.args.self.now in
     let server = c.args.server in
@@ -27,4 +31,19 @@ returns g c =
     let place = place-here look w server i p c.from.ensures c.requires.up c.index_mut.ensures.value c.requires.world in
     let q = c.scrub.new.self in
     let step = c.in_ok-scrub.ensures in
-    record { world = moved-quiet look w (record w { places = with_item w.places i q }) server i q c.from.ensures c.requires.world (step.left (length w.net.sent) place) refl refl refl }
+    moved-quiet look w (record w { places = with_item w.places i q }) server i q c.from.ensures c.requires.world (step.left (length w.net.sent) place) refl refl refl
+
+pub returns-clause-does : goal.returns-clause-does
+returns-clause-does g c =
+    let look : g.row.S.Denot → StoreView = λ s. g.S.StableStore.view s in
+    let device : g.row.S.Denot → DeviceState = λ s. g.S.Powered.device s in
+    let w = c.args.self.now in
+    let server = c.args.server in
+    let i = c.from.result in
+    let p = c.index_mut.result.now in
+    let place = place-here look w server i p c.from.ensures c.requires.up c.index_mut.ensures.value c.requires.world in
+    let q = c.scrub.new.self in
+    let step = c.in_ok-scrub.ensures in
+    let limit = c.requires.world.limit in
+    scrubbed-does look device g.met.S.Powered.seen (standing_of w) server p q i c.from.ensures c.scrub.ensures.counts {A = ℕ} c.args.when (Ok 0) (standing_of (record w { places = with_item w.places i q })) c.args.lines.now.items c.scrub.new.told.items
+    (place-is w server i p c.from.ensures c.requires.up c.index_mut.ensures.value) (has-counts look server (length w.net.sent) p q c.scrub.ensures.counts (step.left (length w.net.sent) place)) (step.scrubbed.0) c.scrub.new.told.items step.scrubbed.1 (refl, refl, limit)

@@ -1,7 +1,12 @@
-use Rattle.std.proofs.Common.{refl, length}
+use Rattle.std.proofs.Common.{ℕ, Ok, refl, length}
 use Rattle.std.specs.Vec.{with_item}
 use Rattle.jn_store.specs.Store.{StoreView}
-use Rattle.jn_world.proofs.Places.{place-here, place-million, up-here, moved-quiet}
+use Rattle.jn_device.specs.Device.{DeviceState}
+use Rattle.jn_world.specs.Written.{standing_of}
+use Rattle.jn_world.proofs.Bringing.{has-counts}
+use Rattle.jn_world.proofs.ServerCalls.{showed-does}
+use Rattle.jn_place.specs.Exact.{items_of}
+use Rattle.jn_world.proofs.Places.{place-here, place-is, place-million, up-here, moved-quiet}
 use Rattle.jn_world.proofs.world.World.show.Goals as goal
 
 pub show-requires-clause-place : goal.show-requires-clause-place
@@ -17,8 +22,8 @@ show-requires-clause-place g c =
 pub show-requires-clause-up : goal.show-requires-clause-up
 show-requires-clause-up g c = up-here c.args.self.now c.args.server c.from.result c.index_mut-place.result.now c.from.ensures c.requires.up c.index_mut-place.ensures.value
 
-pub returns-in_ok-tell_shown : goal.returns-in_ok-tell_shown
-returns-in_ok-tell_shown g c =
+pub returns-clause-world : goal.returns-clause-world
+returns-clause-world g c =
     let look : g.row.S.Denot → StoreView = λ s. g.S.StableStore.view s in
     let w = c.args.self.now in
     let server = c.args.server in
@@ -26,17 +31,20 @@ returns-in_ok-tell_shown g c =
     let p = c.index_mut-place.result.now in
     let place = place-here look w server i p c.from.ensures c.requires.up c.index_mut-place.ensures.value c.requires.world in
     let q = c.show.new.self in
-    let step = c.in_ok-list.ensures in
-    record { world = moved-quiet look w (record w { places = with_item w.places i q }) server i q c.from.ensures c.requires.world (step.left (length w.net.sent) place) refl refl refl }
+    let step = c.in_ok-shown.ensures in
+    moved-quiet look w (record w { places = with_item w.places i q }) server i q c.from.ensures c.requires.world (step.left (length w.net.sent) place) refl refl refl
 
-pub returns-in_default : goal.returns-in_default
-returns-in_default g c =
+pub returns-clause-does : goal.returns-clause-does
+returns-clause-does g c =
     let look : g.row.S.Denot → StoreView = λ s. g.S.StableStore.view s in
+    let device : g.row.S.Denot → DeviceState = λ s. g.S.Powered.device s in
     let w = c.args.self.now in
     let server = c.args.server in
     let i = c.from.result in
     let p = c.index_mut-place.result.now in
     let place = place-here look w server i p c.from.ensures c.requires.up c.index_mut-place.ensures.value c.requires.world in
     let q = c.show.new.self in
-    let step = c.in_ok-list.ensures in
-    record { world = moved-quiet look w (record w { places = with_item w.places i q }) server i q c.from.ensures c.requires.world (step.left (length w.net.sent) place) refl refl refl }
+    let step = c.in_ok-shown.ensures in
+    let limit = c.requires.world.limit in
+    showed-does look device g.met.S.Powered.seen (standing_of w) server p q i c.from.ensures c.show.ensures.counts {A = ℕ} c.args.when (Ok 0) (standing_of (record w { places = with_item w.places i q })) c.args.lines.now.items c.tell_list.new.lines.items
+    (place-is w server i p c.from.ensures c.requires.up c.index_mut-place.ensures.value) (has-counts look server (length w.net.sent) p q c.show.ensures.counts (step.left (length w.net.sent) place)) (items_of c.in_ok-shown.shown) c.show.new.told.items step.showed (refl, c.in_ok-tell_list.ensures, limit)

@@ -1,5 +1,15 @@
+use Rattle.std.proofs.Common.{◌≡◌, ℕ, vec_len, Ok}
+use Rattle.jn_base.specs.declared.names.ServerNo.{ServerNo}
+use Rattle.jn_report.specs.declared.line.When.TheVariants.{End}
+use Rattle.jn_world.proofs.Calls.{at_servers}
 use Rattle.jn_world.specs.Standing.{IsWorld}
+use Rattle.jn_world.specs.Written.{DoesTasks, standing_of}
+use Rattle.jn_schedule.specs.declared.Event.TheVariants.{Show}
+use Rattle.jn_written.specs.Tasks.{Acts}
 use Rattle.jn_world.proofs.world.World.show_all.Given as goal
 
 abbrev pub invariant-loop-s : goal.invariant-loop-s
-invariant-loop-s g l = IsWorld (λ s. g.S.StableStore.view s) l.self
+invariant-loop-s g l = record {
+  world : IsWorld (λ s. g.S.StableStore.view s) l.self;
+  does : DoesTasks {A = ℕ} (λ s. g.S.StableStore.view s) (λ s. g.S.Powered.device s) (at_servers (λ (q : ServerNo). Acts (Show q)) l.s) End (standing_of l.initial.self) (Ok 0) (standing_of l.self) l.initial.lines.items l.lines.items;
+}

@@ -1,20 +1,40 @@
+use Rattle.jn_world.proofs.LostCalls.{delivered-limit}
+use Rattle.std.proofs.Common.{arith, ◌≡◌, List, Some, sym, ◌∙◌, ap, subst}
+use Rattle.jn_device.specs.Device.{DeviceState}
+use Rattle.jn_world.specs.Written.{standing_of}
+use Rattle.jn_world.proofs.ClientCalls.{client-took-now, client-is, sent-to}
 use Rattle.std.specs.Vec.{with_item}
 use Rattle.jn_store.specs.Store.{StoreView}
 use Rattle.jn_base.specs.declared.names.Party.TheVariants.{Client}
-use Rattle.jn_world.proofs.Places.{taken-world}
+use Rattle.jn_world.proofs.Places.{delivered-world, taken-world}
 use Rattle.jn_world.proofs.Worlds.{net-places, net-clients}
 use Rattle.jn_world.proofs.world.World.take_at_own.Goals as goal
 
-pub returns : goal.returns
-returns g c =
+pub tell_taken-requires : goal.tell_taken-requires
+tell_taken-requires g c = record { few = delivered-limit c.args.self.now.net c.delivered.new.self c.args.k c.delivered.ensures (let has = c.requires.world in has.limit) }
+
+pub returns-clause-world : goal.returns-clause-world
+returns-clause-world g c =
     let look : g.row.S.Denot → StoreView = λ s. g.S.StableStore.view s in
     let w = c.args.self.now in
     let i = c.index_of.result in
     let now = c.take-taken.new.self in
-    let a = record w { clients = with_item w.clients i now } in
+    let n = c.delivered.new.self in
+    let a = record w { clients = with_item w.clients i now; net = n } in
     let b = c.tell_taken.new.self in
-    record {
-      world = taken-world look w b (Client c.args.client) c.args.client.0 i c.index_mut.result.now now c.in-Some.sent.now.message c.take-taken.result c.tell_taken.result
-          c.requires.world c.requires.client c.index_of.ensures c.index_mut.ensures.value c.take-taken.ensures
-          (net-places a b c.tell_taken.ensures.others) (net-clients a b c.tell_taken.ensures.others) c.tell_taken.ensures.sent c.tell_taken.ensures.limit;
-    }
+    taken-world look (record w { net = n }) b (Client c.args.client) c.args.client.0 i c.index_mut.result.now now c.in-Some.sent.now.message c.take-taken.result c.tell_taken.result
+    (delivered-world look w c.args.k n c.requires.world c.delivered.ensures) c.requires.client c.index_of.ensures c.index_mut.ensures.value c.take-taken.ensures
+    (net-places a b c.tell_taken.ensures.others) (net-clients a b c.tell_taken.ensures.others) c.tell_taken.ensures.sent c.tell_taken.ensures.limit
+
+pub returns-clause-does : goal.returns-clause-does
+returns-clause-does g c =
+    let look : g.row.S.Denot → StoreView = λ s. g.S.StableStore.view s in
+    let device : g.row.S.Denot → DeviceState = λ s. g.S.Powered.device s in
+    let w = standing_of c.args.self.now in
+    let i = c.index_of.result in
+    let t = c.index_mut.result.now in
+    let one = c.in-Some.sent.now in
+    client-took-now look device g.met.S.Powered.seen w c.args.client c.tell_taken.result (standing_of c.tell_taken.new.self) c.args.lines.now.items c.tell_taken.new.lines.items c.requires.client i c.index_of.ensures t
+    (client-is w.clients c.args.client i t c.requires.client c.index_of.ensures (let has = c.requires.world in let eight = has.eight in omega (arith, c.args.self.now.clients.ok.0)) c.index_mut.ensures.value)
+    c.args.when c.args.k one (sym c.in-Some.ensures) (sent-to w.net.sent c.args.k one c.args.client (sym c.in-Some.ensures) c.requires.to)
+    c.take-taken.new.self c.take-taken.result c.delivered.new.self c.take-taken.ensures c.delivered.ensures c.tell_taken.ensures.ends

@@ -1,11 +1,15 @@
-use Rattle.std.proofs.Common.{refl, length}
+use Rattle.std.proofs.Common.{◌≡◌, ℕ, Ok, refl, length}
 use Rattle.std.specs.Vec.{with_item}
+use Rattle.jn_device.specs.Device.{DeviceState}
 use Rattle.jn_store.specs.Store.{StoreView}
 use Rattle.jn_recovery.specs.Loading.{counts_by}
-use Rattle.jn_world.proofs.Places.{place-here, place-million, up-here, moved-quiet}
+use Rattle.jn_world.specs.Written.{standing_of}
+use Rattle.jn_world.proofs.Bringing.{has-counts}
+use Rattle.jn_world.proofs.Busy.{timeout-refused, timeout-done}
+use Rattle.jn_world.proofs.Places.{place-is, place-here, place-million, up-here, moved-quiet}
 use Rattle.jn_world.specs.Standing.{IsWorld}
-use Rattle.jn_world.proofs.Steps.{any-ok}
-use Rattle.jn_world.proofs.Slots.{serves-here}
+use Rattle.jn_place.proofs.Steps.{any-ok}
+use Rattle.jn_place.proofs.Slots.{serves-here}
 use Rattle.jn_world.proofs.world.World.timeout.Goals as goal
 
 pub timeout-requires : goal.timeout-requires
@@ -19,8 +23,8 @@ timeout-requires g c =
     let million = place-million look w server p c.requires.world place in
     record { serves = serves-here look server (counts_by p.counts) 1000000 p.slot million.stands (up-here w server i p c.from.ensures c.requires.up c.index_mut.ensures.value) }
 
-pub returns-then-not-timeout : goal.returns-then-not-timeout
-returns-then-not-timeout g c =
+pub returns-then-not-timeout-clause-world : goal.returns-then-not-timeout-clause-world
+returns-then-not-timeout-clause-world g c =
     let look : g.row.S.Denot → StoreView = λ s. g.S.StableStore.view s in
     let w = c.args.self.now in
     let server = c.args.server in
@@ -29,10 +33,23 @@ returns-then-not-timeout g c =
     let place = place-here look w server i p c.from.ensures c.requires.up c.index_mut.ensures.value c.requires.world in
     let q = c.timeout.new.self in
     let b = record w { places = with_item w.places i q } in
-    record { world = any-ok (IsWorld look b) c.refuse.result (moved-quiet look w b server i q c.from.ensures c.requires.world (c.timeout.ensures.place server (length w.net.sent) place) refl refl refl) }
+    any-ok (IsWorld look b) c.refuse.result (moved-quiet look w b server i q c.from.ensures c.requires.world (c.timeout.ensures.place server (length w.net.sent) place) refl refl refl)
 
-pub returns : goal.returns
-returns g c =
+pub returns-then-not-timeout-clause-does : goal.returns-then-not-timeout-clause-does
+returns-then-not-timeout-clause-does g c =
+    let look : g.row.S.Denot → StoreView = λ s. g.S.StableStore.view s in
+    let device : g.row.S.Denot → DeviceState = λ s. g.S.Powered.device s in
+    let w = c.args.self.now in
+    let server = c.args.server in
+    let i = c.from.result in
+    let p = c.index_mut.result.now in
+    let q = c.timeout.new.self in
+    let has = c.requires.world in
+    timeout-refused look device g.met.S.Powered.seen (standing_of w) server c.args.tid p q i c.from.ensures c.timeout.ensures.counts (place-is w server i p c.from.ensures c.requires.up c.index_mut.ensures.value) c.requires.up
+    c.args.when c.timeout.result c.timeout.ensures.timed_out c.refuse.result c.args.lines.now.items c.refuse.new.lines.items c.if-not-timeout.true has.limit c.refuse.ensures.told c.refuse.ensures.memory
+
+pub returns-clause-world : goal.returns-clause-world
+returns-clause-world g c =
     let look : g.row.S.Denot → StoreView = λ s. g.S.StableStore.view s in
     let w = c.args.self.now in
     let server = c.args.server in
@@ -40,4 +57,19 @@ returns g c =
     let p = c.index_mut.result.now in
     let place = place-here look w server i p c.from.ensures c.requires.up c.index_mut.ensures.value c.requires.world in
     let q = c.timeout.new.self in
-    record { world = moved-quiet look w (record w { places = with_item w.places i q }) server i q c.from.ensures c.requires.world (c.timeout.ensures.place server (length w.net.sent) place) refl refl refl }
+    moved-quiet look w (record w { places = with_item w.places i q }) server i q c.from.ensures c.requires.world (c.timeout.ensures.place server (length w.net.sent) place) refl refl refl
+
+pub returns-clause-does : goal.returns-clause-does
+returns-clause-does g c =
+    let look : g.row.S.Denot → StoreView = λ s. g.S.StableStore.view s in
+    let device : g.row.S.Denot → DeviceState = λ s. g.S.Powered.device s in
+    let w = c.args.self.now in
+    let server = c.args.server in
+    let i = c.from.result in
+    let p = c.index_mut.result.now in
+    let place = place-here look w server i p c.from.ensures c.requires.up c.index_mut.ensures.value c.requires.world in
+    let q = c.timeout.new.self in
+    let has = c.requires.world in
+    timeout-done look device g.met.S.Powered.seen (standing_of w) server c.args.tid p q i c.from.ensures c.timeout.ensures.counts (place-is w server i p c.from.ensures c.requires.up c.index_mut.ensures.value) c.requires.up
+    {A = ℕ} c.args.when c.timeout.result c.timeout.ensures.timed_out (Ok 0) (standing_of (record w { places = with_item w.places i q })) c.args.lines.now.items c.args.lines.now.items c.if-not-timeout.false
+    (has-counts look server (length w.net.sent) p q c.timeout.ensures.counts (c.timeout.ensures.place server (length w.net.sent) place)) (refl, refl, has.limit)

@@ -1,72 +1,43 @@
-use Rattle.std.proofs.Common.{refl, length, subst, Some, None}
-use Rattle.std.specs.Vec.{with_item}
+use Rattle.std.proofs.Common.{◌≡◌, ℕ, length, Ok, refl, sym, ◌∙◌}
+use Rattle.jn_device.specs.Device.{DeviceState}
+use Rattle.jn_place.proofs.Slots.{serves-here}
+use Rattle.jn_recovery.specs.Loading.{counts_by}
 use Rattle.jn_store.specs.Store.{StoreView}
-use Rattle.jn_world.proofs.Places.{place-here, place-million, up-here, moved-quiet, moved-posted}
-use Rattle.jn_world.specs.Calls.{LeftBy}
-use Rattle.jn_world.specs.declared.place.Work.{Work}
-use Rattle.jn_world.proofs.Worlds.{places-of, clients-of}
+use Rattle.jn_world.specs.Written.{standing_of}
+use Rattle.jn_world.proofs.Busy.{reads-here, works-here}
+use Rattle.jn_world.proofs.Places.{place-is, place-here, place-million, up-here}
+use Rattle.jn_world.proofs.ServerCalls.{idle-does}
 use Rattle.jn_world.proofs.world.World.work.Goals as goal
 
-pub step-requires-clause-place : goal.step-requires-clause-place
-step-requires-clause-place g c =
+pub has_work-requires : goal.has_work-requires
+has_work-requires g c =
     let look : g.row.S.Denot → StoreView = λ s. g.S.StableStore.view s in
     let w = c.args.self.now in
     let server = c.args.server in
     let i = c.from.result in
-    let p = c.index_mut-place.result.now in
-    let place = place-here look w server i p c.from.ensures c.requires.up c.index_mut-place.ensures.value c.requires.world in
-    place-million look w server p c.requires.world place
+    let p = c.index.result.now in
+    let place = place-here look w server i p c.from.ensures c.requires.up c.index.ensures c.requires.world in
+    let million = place-million look w server p c.requires.world place in
+    record { serves = serves-here look server (counts_by p.counts) 1000000 p.slot million.stands (up-here w server i p c.from.ensures c.requires.up c.index.ensures) }
 
-pub step-requires-clause-up : goal.step-requires-clause-up
-step-requires-clause-up g c = up-here c.args.self.now c.args.server c.from.result c.index_mut-place.result.now c.from.ensures c.requires.up c.index_mut-place.ensures.value
-
-pub returns-in-Idle : goal.returns-in-Idle
-returns-in-Idle g c =
+pub make_step-requires-clause-work : goal.make_step-requires-clause-work
+make_step-requires-clause-work g c =
     let look : g.row.S.Denot → StoreView = λ s. g.S.StableStore.view s in
     let w = c.args.self.now in
     let server = c.args.server in
-    let i = c.from.result in
-    let p = c.index_mut-place.result.now in
-    let place = place-here look w server i p c.from.ensures c.requires.up c.index_mut-place.ensures.value c.requires.world in
-    let q = c.step.new.self in
-    let step = c.in_ok-step.ensures in
-    let left = subst (λ (x : Work). LeftBy look server (length w.net.sent) q x) c.in-Idle.is (step.left (length w.net.sent) place) in
-    record { world = moved-quiet look w (record w { places = with_item w.places i q }) server i q c.from.ensures c.requires.world left refl refl refl }
+    let p = c.index.result.now in
+    works-here look w.places.items server p (place-is w server c.from.result p c.from.ensures c.requires.up c.index.ensures) ∙ sym c.has_work.ensures.work ∙ c.if-not-has_work.false
 
-pub returns-in_ok-end_step-in-Done : goal.returns-in_ok-end_step-in-Done
-returns-in_ok-end_step-in-Done g c =
+pub returns-then-not-has_work-clause-does : goal.returns-then-not-has_work-clause-does
+returns-then-not-has_work-clause-does g c =
     let look : g.row.S.Denot → StoreView = λ s. g.S.StableStore.view s in
+    let device : g.row.S.Denot → DeviceState = λ s. g.S.Powered.device s in
+    let seen = g.met.S.Powered.seen in
     let w = c.args.self.now in
     let server = c.args.server in
     let i = c.from.result in
-    let p = c.index_mut-place.result.now in
-    let place = place-here look w server i p c.from.ensures c.requires.up c.index_mut-place.ensures.value c.requires.world in
-    let q = c.step.new.self in
-    let step = c.in_ok-step.ensures in
-    let left = subst (λ (x : Work). LeftBy look server (length w.net.sent) q x) c.in-Done.is (step.left (length w.net.sent) place) in
-    let sent = c.in_ok-end_step-in-Done.ensures in
-    let a = record w { places = with_item w.places i q } in
-    let b = c.end_step.new.self in
-    record {
-      world = moved-posted look w b server i q (Some c.in-Done.out) c.from.ensures c.requires.world left
-          (places-of a b c.end_step.ensures.others) (clients-of a b c.end_step.ensures.others) sent.sent sent.limit;
-    }
-
-pub returns-in_ok-end_step-in-Stopped : goal.returns-in_ok-end_step-in-Stopped
-returns-in_ok-end_step-in-Stopped g c =
-    let look : g.row.S.Denot → StoreView = λ s. g.S.StableStore.view s in
-    let w = c.args.self.now in
-    let server = c.args.server in
-    let i = c.from.result in
-    let p = c.index_mut-place.result.now in
-    let place = place-here look w server i p c.from.ensures c.requires.up c.index_mut-place.ensures.value c.requires.world in
-    let q = c.step.new.self in
-    let step = c.in_ok-step.ensures in
-    let left = subst (λ (x : Work). LeftBy look server (length w.net.sent) q x) c.in-Stopped.is (step.left (length w.net.sent) place) in
-    let sent = c.in_ok-end_step-in-Stopped.ensures in
-    let a = record w { places = with_item w.places i q } in
-    let b = c.end_step-in-Stopped.new.self in
-    record {
-      world = moved-posted look w b server i q None c.from.ensures c.requires.world left
-          (places-of a b c.end_step-in-Stopped.ensures.others) (clients-of a b c.end_step-in-Stopped.ensures.others) sent.sent sent.limit;
-    }
+    let p = c.index.result.now in
+    let place = place-here look w server i p c.from.ensures c.requires.up c.index.ensures c.requires.world in
+    let has = c.requires.world in
+    idle-does look device seen {A = ℕ} (standing_of w) server p (place-is w server i p c.from.ensures c.requires.up c.index.ensures) c.args.when (Ok 0) (standing_of w) c.args.lines.now.items c.args.lines.now.items
+    (reads-here look device seen server (length w.net.sent) p place c.has_work.ensures.room) (sym c.has_work.ensures.work ∙ c.if-not-has_work.true) (refl, refl, has.limit)

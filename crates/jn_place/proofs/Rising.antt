@@ -1,0 +1,237 @@
+-- A restart, from the store with power to the server.
+use Rattle.std.proofs.Common.{◌≡◌, ◌<◌, ◌+◌, ℕ, suc, Bool, true, false, true≢false, List, [], ◌∷◌, ◌++◌, map, Option, Some, None, is_some, ⊎_elim, ◌||◌, refl, sym, ◌∙◌, ap, subst, arith}
+use Rattle.std.specs.List.{list_any}
+use Rattle.std.specs.Prelude.{Result, Ok, Err, IfOk}
+use Rattle.jn_base.specs.declared.names.ServerNo.{ServerNo}
+use Rattle.jn_base.specs.declared.names.Tid.{Tid}
+use Rattle.jn_base.specs.Names.{tid_eq}
+use Rattle.jn_base.proofs.Tells.{tid_tells}
+use Rattle.jn_device.specs.Device.{DeviceState}
+use Rattle.jn_device.specs.Events.{PowersUp, powered_off, cleared}
+use Rattle.jn_found.specs.Pages.{found_on}
+use Rattle.jn_found.proofs.Picking.{fewer_picked}
+use Rattle.jn_protocol.specs.Steps.{AreNames, tid_before}
+use Rattle.jn_protocol.specs.Servers.{restored}
+use Rattle.jn_protocol.specs.World.{Memory}
+use Rattle.jn_records.specs.StablePages.{Counts}
+use Rattle.jn_recovery.specs.declared.load.DownCause.{DownCause}
+use Rattle.jn_recovery.specs.declared.load.DownCause.TheVariants.{Stopped, EpochsUsedUp}
+use Rattle.jn_recovery.specs.declared.load.Found.{Found}
+use Rattle.jn_rows.specs.declared.coordinator.Transaction.{Transaction}
+use Rattle.jn_rows.specs.Coordinator.{restored_transaction, restored_transactions}
+use Rattle.jn_rows.specs.Stable.{StableState, FlagState}
+use Rattle.jn_server.specs.Restarting.{IsRestarted, IsNotRestarted}
+use Rattle.jn_server.specs.Seen.{Parts, view_with, memory_of}
+use Rattle.jn_store.specs.Store.{StoreView, IsCalm}
+use Rattle.jn_base.specs.Names.{work_eq}
+use Rattle.jn_locks.specs.Locks.{work_before}
+use Rattle.jn_machine.specs.Steps.{with_epoch}
+use Rattle.jn_recovery.specs.Loading.{IsSameOrNext}
+use Rattle.jn_report.specs.declared.line.When.{When}
+use Rattle.jn_report.specs.declared.line.Line.{Line}
+use Rattle.jn_store.specs.Store.{StoreLater}
+use Rattle.jn_place.specs.declared.place.Restarted.{Restarted}
+use Rattle.jn_place.specs.declared.place.Restarted.TheVariants as came
+use Rattle.jn_place.specs.declared.place.Slot.{Slot}
+use Rattle.jn_place.specs.declared.place.Slot.TheVariants.{Up, Down, Gone}
+use Rattle.jn_place.specs.Exact.{lines_at, texts_of_step, IsTried, IsUpAt, IsStoppedUp, IsUsedUpAt, CameTo, IsRestart, IsCalmAt, ComesCalm, is_stopped}
+use Rattle.jn_place.specs.Inner.{IsRisen, IsCutUp, IsAtLast, SaysSame, StaysAs, StandsUp, Rises, Lifts, told_at}
+use Rattle.jn_place.specs.Calls.{CameUp}
+use Rattle.jn_place.specs.Places.{IsHeld}
+use Rattle.jn_place.proofs.Ending.{Sees, later-below, spent, calm-cleared}
+
+-- ---- the names of the flags
+
+abbrev tid_of : Transaction → Tid
+tid_of x = x.tid
+
+is-head : (T : Tid) (rest : Bool) → (tid_eq T T || rest) ≡ true
+is-head T rest = ⊎_elim (λ h. ap (λ b. b || rest) h.0) (λ h. absurd (h.1 refl)) (tid_tells T T)
+
+in-tail : (b rest : Bool) → rest ≡ true → (b || rest) ≡ true
+in-tail true rest h = refl
+in-tail false rest h = h
+
+names-told : (x : StableState) (Ts : List Tid) → ((T : Tid) → list_any (λ b. tid_eq b T) Ts ≡ true → is_some (x.flags T) ≡ true) → map tid_of (restored_transactions x Ts) ≡ Ts
+names-told x [] h = refl
+names-told x (T ∷ Ts) h = by (x.flags T) (h T (is-head T (list_any (λ b. tid_eq b T) Ts))) (names-told x Ts (λ U e. h U (in-tail (tid_eq T U) (list_any (λ b. tid_eq b U) Ts) e)))
+  where
+    by : (o : Option FlagState) → is_some o ≡ true → map tid_of (restored_transactions x Ts) ≡ Ts → map tid_of (restored_transaction T o ++ restored_transactions x Ts) ≡ T ∷ Ts
+    by (Some flag) e rest = ap (λ (l : List Tid). T ∷ l) rest
+    by None e rest = absurd (true≢false (sym e))
+
+pub names-are : (x : StableState) (Ts : List Tid) → AreNames tid_eq tid_before x.flags Ts → map (λ (t : Transaction). t.tid) (restored_transactions x Ts) ≡ Ts
+names-are x Ts h = names-told x Ts (λ T e. sym (h.each T) ∙ e)
+
+-- ---- the three ways
+
+module _ {S : Type 0} (look : S → StoreView) (device : S → DeviceState) (q : ServerNo) (g : Counts) (s : S) where
+  pub risen : (told : Found) (tids : List Tid) (p : Parts S) → IsRestarted q g (look s) told (view_with look p) → tids ≡ map (λ (t : Transaction). t.tid) p.coordinator.transactions → IsRisen look q g s told.epoch tids p
+  risen told tids p r e = record {
+    later = r.loaded.recovering.later;
+    power = r.serves.works.serving.power;
+    pick = r.loaded.before;
+    works = r.works;
+    work_names = r.work_names;
+    flag_names = subst (λ l. AreNames tid_eq tid_before x.flags l) (sym same) r.flag_names;
+    remembers = r.remembers ∙ ap (λ l. restored q x r.works l) (sym same);
+    finds = λ c. r.loaded.found c ∙ ap (λ (n : ℕ). record x { epoch = n }) (one-more x.epoch);
+    epoch_is = told-epoch;
+    before_last = let fits = r.loaded.epoch_fits in omega (arith, told-epoch, fits);
+  }
+    where
+      x : StableState
+      x = found_on g (look s) r.loaded.before
+
+      same : tids ≡ r.tids
+      same = e ∙ ap (λ (m : Memory). map (λ (t : Transaction). t.tid) m.coordinator.transactions) r.remembers ∙ names-are x r.tids r.flag_names
+
+      one-more : (n : ℕ) → suc n ≡ n + 1
+      one-more n = omega arith
+
+      told-epoch : told.epoch ≡ x.epoch + 1
+      told-epoch = r.loaded.epoch ∙ ap (λ (y : StableState). y.epoch) (r.loaded.found (λ n. false)) ∙ one-more x.epoch
+
+  pub risen-ok : {E : Type 0} (answer : Result Restarted E) (told : Found) (p : Parts S) (b : Slot S) → IsRestarted q g (look s) told (view_with look p) → IfOk answer (λ r. StandsUp p told.epoch r b) → IfOk answer (λ r. Rises look device q g s r b)
+  risen-ok (Ok (came.Up e tids)) told p b r h = subst (λ (x : Slot S). Rises look device q g s (came.Up e tids) x) (sym h.0) (subst (λ (n : ℕ). IsRisen look q g s n tids.items p) (sym h.1) (risen told tids.items p r h.2))
+  risen-ok (Ok came.Stopped) told p b r h = absurd h
+  risen-ok (Ok came.UsedUp) told p b r h = absurd h
+  risen-ok (Err e) told p b r h = tt
+
+  pub came-ok : {E : Type 0} (answer : Result Restarted E) (epoch : ℕ) (p : Parts S) (b : Slot S) → IsHeld q g 0 true (view_with look p) → IfOk answer (λ r. StandsUp p epoch r b) → IfOk answer (λ r. CameUp look q g b r)
+  came-ok (Ok (came.Up e tids)) epoch p b held h = subst (λ (x : Slot S). CameUp look q g x (came.Up e tids)) (sym h.0) held
+  came-ok (Ok came.Stopped) epoch p b held h = absurd h
+  came-ok (Ok came.UsedUp) epoch p b held h = absurd h
+  came-ok (Err e) epoch p b held h = tt
+
+  pub cut-up : (cause : DownCause) (s' : S) → cause ≡ Stopped → IsNotRestarted q g (look s) cause (look s') → IsCutUp look g s s'
+  cut-up cause s' is d = record {
+    later = d.down.recovering.later;
+    dark = (d.down.stop is).dark;
+    each = d.down.recovering.each;
+    not_calm = λ calm. d.down.calm calm is;
+  }
+
+  pub at-last : (cause : DownCause) (called s' : S) → cause ≡ EpochsUsedUp → IsNotRestarted q g (look s) cause (look called) → device s' ≡ powered_off (device called) → SaysSame look called s' → IsAtLast look device g s s'
+  at-last cause called s' is d off same = let used = d.down.used_up is in record {
+    called = called;
+    later = d.down.recovering.later;
+    power = used.power;
+    device_is = off;
+    each = λ c. let h = fewer_picked (look s) (look called) used.fewer g c in (h.0, ap (λ f. f c) (same g) ∙ h.1);
+    last = λ c. ap (λ f. let x : StableState = f c in x.epoch) (same g) ∙ used.all c;
+  }
+
+-- ---- with the power that came before, and what follows
+
+module _ {S : Type 0} (look : S → StoreView) (device : S → DeviceState) (sees : Sees look device) (q : ServerNo) (g : Counts) where
+  pub lifted : (a : Slot S) (s lit : S) (r : Restarted) (b : Slot S) → a ≡ Down s → PowersUp (device s) (device lit) → SaysSame look s lit → Rises look device q g lit r b → Lifts look device q g a r b
+  lifted a s lit r b is powers same h = subst (λ (x : Slot S). Lifts look device q g x r b) (sym is) (record { lit = lit; powers = powers; same = same; rises = h })
+
+  module _ (s lit : S) (powers : PowersUp (device s) (device lit)) (same : SaysSame look s lit) where
+    tried : (t u : S) (power : Bool) → StoreLater (look lit) (look t) → (look t).power ≡ power → device u ≡ cleared (device t) → IsTried (device t).told power (device s) (device u)
+    tried t u power later lit-is after = record { powered = device lit; up = powers; spent = spent look device sees lit t u power later lit-is after }
+
+    up-at : (epoch : ℕ) (tids : List Tid) (m b : Parts S) → IsRisen look q g lit epoch tids m → StaysAs look device cleared (Up m) (Up b) → IsUpAt look device q g (device m.storage.0).told s epoch tids b
+    up-at epoch tids m b h stays = record {
+      tried = tried m.storage.0 b.storage.0 true h.later h.power stays.1;
+      pick = h.pick;
+      works = h.works;
+      work_names = subst (λ (x : StableState). AreNames work_eq work_before x.works h.works) at h.work_names;
+      flag_names = subst (λ (x : StableState). AreNames tid_eq tid_before x.flags tids) at h.flag_names;
+      remembers = stays.0.memory ∙ subst (λ (x : StableState). memory_of (view_with look m) ≡ restored q x h.works tids) at h.remembers;
+      finds = λ c. ap (λ f. f c) stays.0.found ∙ subst (λ (x : StableState). (view_with look m).storage.found c ≡ with_epoch x) at (h.finds c);
+      epoch_is = subst (λ (x : StableState). epoch ≡ x.epoch + 1) at h.epoch_is;
+      before_last = subst (λ (x : StableState). x.epoch < 4294967295) at h.before_last;
+    }
+      where
+        at : found_on g (look lit) h.pick ≡ found_on g (look s) h.pick
+        at = ap (λ f. f h.pick) (same g)
+
+    stopped-up : (m b : S) → IsCutUp look g lit m → StaysAs look device cleared (Down m) (Down b) → IsStoppedUp look device g (device m).told s b
+    stopped-up m b h stays = record {
+      tried = tried m b false h.later h.dark stays.1;
+      each = λ c. let (k, e) = h.each c in (
+        k,
+        subst (λ (x : StableState). IsSameOrNext x (found_on g (look b) c)) (ap (λ f. f k) (same g))
+            (subst (λ (y : StableState). IsSameOrNext (found_on g (look lit) k) y) (sym (ap (λ f. f c) (stays.0 g))) e),
+      );
+    }
+
+    used-up : (m b : S) → IsAtLast look device g lit m → StaysAs look device cleared (Down m) (Down b) → IsUsedUpAt look device g (device m).told s b
+    used-up m b h stays = record {
+      called = cleared (device h.called);
+      tried = record {
+        powered = device lit;
+        up = powers;
+        spent = record {
+          last = device h.called;
+          calls = later-below look device sees lit h.called h.later;
+          told_is = ap (λ (d : DeviceState). d.told) h.device_is;
+          power_is = sym (ap (λ (v : StoreView). v.power) (sees h.called)) ∙ h.power;
+          after = refl;
+        };
+      };
+      device_is = stays.1 ∙ ap cleared h.device_is;
+      each = λ c. let (k, e) = h.each c in (k, ap (λ f. f c) (stays.0 g) ∙ e ∙ ap (λ f. f k) (same g));
+      last = λ c. ap (λ f. let x : StableState = f c in x.epoch) (stays.0 g) ∙ h.last c;
+    }
+
+    came-to : (r : Restarted) (m b : Slot S) → Rises look device q g lit r m → StaysAs look device cleared m b → CameTo look device q g (told_at device m) (Down s) r b
+    came-to (came.Up epoch tids) (Up m) (Up b) h stays = up-at epoch tids.items m b h stays
+    came-to (came.Up epoch tids) (Up m) (Down b) h stays = absurd stays
+    came-to (came.Up epoch tids) (Up m) Gone h stays = absurd stays
+    came-to (came.Up epoch tids) (Down m) b h stays = absurd h
+    came-to (came.Up epoch tids) Gone b h stays = absurd h
+    came-to came.Stopped (Down m) (Down b) h stays = stopped-up m b h stays
+    came-to came.Stopped (Down m) (Up b) h stays = absurd stays
+    came-to came.Stopped (Down m) Gone h stays = absurd stays
+    came-to came.Stopped (Up m) b h stays = absurd h
+    came-to came.Stopped Gone b h stays = absurd h
+    came-to came.UsedUp (Down m) (Down b) h stays = used-up m b h stays
+    came-to came.UsedUp (Down m) (Up b) h stays = absurd stays
+    came-to came.UsedUp (Down m) Gone h stays = absurd stays
+    came-to came.UsedUp (Up m) b h stays = absurd h
+    came-to came.UsedUp Gone b h stays = absurd h
+
+  pub restarted : (when : When) (lines lines' : List Line) (a m b : Slot S) (r : Restarted) → Lifts look device q g a r m → StaysAs look device cleared m b → lines' ≡ lines ++ lines_at when (texts_of_step q (told_at device m) true)
+      → IsRestart look device q g when a r b lines lines'
+  restarted when lines lines' (Down s) m b r h stays e = record { told = told_at device m; came = came-to s h.lit h.powers h.same r m b h.rises stays; lines_are = e }
+  restarted when lines lines' (Up p) m b r h stays e = absurd h
+  restarted when lines lines' Gone m b r h stays e = absurd h
+
+  -- ---- while no fault waits
+
+  lit-calm : (s lit : S) → PowersUp (device s) (device lit) → (look s).waiting ≡ [] → IsCalm (look lit)
+  lit-calm s lit powers quiet = record {
+    quiet = ap (λ (v : StoreView). v.waiting) (sees lit) ∙ powers.waiting ∙ sym (ap (λ (v : StoreView). v.waiting) (sees s)) ∙ quiet;
+    power = ap (λ (v : StoreView). v.power) (sees lit) ∙ powers.power_is;
+  }
+
+  used-quiet : (lit m b : S) → IsAtLast look device g lit m → device b ≡ cleared (device m) → IsCalm (look lit) → (look b).waiting ≡ []
+  used-quiet lit m b h after calm =
+      ap (λ (v : StoreView). v.waiting) (sees b) ∙ ap (λ (d : DeviceState). d.waiting) after ∙ ap (λ (d : DeviceState). d.waiting) h.device_is ∙ sym (ap (λ (v : StoreView). v.waiting) (sees h.called)) ∙ h.later.quiet calm.quiet
+
+  rises-calm : (lit : S) (r : Restarted) (m b : Slot S) → Rises look device q g lit r m → StaysAs look device cleared m b → IsCalm (look lit) → (is_stopped r ≡ false) × IsCalmAt look b
+  rises-calm lit (came.Up epoch tids) (Up m) (Up b) h stays calm = (refl, calm-cleared look device sees m.storage.0 b.storage.0 stays.1 (h.later.calm calm))
+  rises-calm lit (came.Up epoch tids) (Up m) (Down b) h stays calm = absurd stays
+  rises-calm lit (came.Up epoch tids) (Up m) Gone h stays calm = absurd stays
+  rises-calm lit (came.Up epoch tids) (Down m) b h stays calm = absurd h
+  rises-calm lit (came.Up epoch tids) Gone b h stays calm = absurd h
+  rises-calm lit came.Stopped (Down m) b h stays calm = absurd (h.not_calm calm)
+  rises-calm lit came.Stopped (Up m) b h stays calm = absurd h
+  rises-calm lit came.Stopped Gone b h stays calm = absurd h
+  rises-calm lit came.UsedUp (Down m) (Down b) h stays calm = (refl, used-quiet lit m b h stays.1 calm)
+  rises-calm lit came.UsedUp (Down m) (Up b) h stays calm = absurd stays
+  rises-calm lit came.UsedUp (Down m) Gone h stays calm = absurd stays
+  rises-calm lit came.UsedUp (Up m) b h stays calm = absurd h
+  rises-calm lit came.UsedUp Gone b h stays calm = absurd h
+
+  pub comes-calm : (a m b : Slot S) (r : Restarted) → Lifts look device q g a r m → StaysAs look device cleared m b → ComesCalm look a r b
+  comes-calm (Down s) m b r h stays calm = rises-calm h.lit r m b h.rises stays (lit-calm s h.lit h.powers calm)
+  comes-calm (Up p) m b r h stays calm = absurd h
+  comes-calm Gone m b r h stays calm = absurd h
+
+  pub lifted-ok : {E : Type 0} (a : Slot S) (s lit : S) (answer : Result Restarted E) (b : Slot S) → a ≡ Down s → PowersUp (device s) (device lit) → SaysSame look s lit → IfOk answer (λ r. Rises look device q g lit r b) → IfOk answer (λ r. Lifts look device q g a r b)
+  lifted-ok a s lit (Ok r) b is powers same h = lifted a s lit r b is powers same h
+  lifted-ok a s lit (Err e) b is powers same h = tt

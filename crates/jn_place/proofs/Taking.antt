@@ -1,0 +1,90 @@
+-- Each call of a server that is up, with what follows it.
+use Rattle.std.proofs.Common.{◌≡◌, ℕ, Bool, List, ◌++◌, Option, is_some}
+use Rattle.jn_base.specs.declared.names.ServerNo.{ServerNo}
+use Rattle.jn_device.specs.Device.{DeviceState}
+use Rattle.jn_msgs.specs.declared.message.Message.{Message}
+use Rattle.jn_msgs.specs.Collected.{Collected}
+use Rattle.jn_protocol.specs.Servers.{server_row, of_coordinator}
+use Rattle.jn_records.specs.StablePages.{Counts}
+use Rattle.jn_report.specs.declared.line.When.{When}
+use Rattle.jn_report.specs.declared.line.Line.{Line}
+use Rattle.jn_rows.specs.Coordinator.{close_clients_row}
+use Rattle.jn_server.specs.declared.show.Shown.{Shown}
+use Rattle.jn_server.specs.Seen.{view_with, memory_of, room_of}
+use Rattle.jn_storage.specs.Calls.{state}
+use Rattle.jn_store.specs.Store.{StoreView}
+use Rattle.jn_place.specs.declared.place.Slot.{Slot}
+use Rattle.jn_place.specs.declared.place.Slot.TheVariants.{Up, Down, Gone}
+use Rattle.jn_place.specs.Exact.{lines_at, texts_of_step, Took, WorkedBy, ScrubbedBy, Showed, Closed, StaysCalm, idle_row}
+use Rattle.jn_place.specs.Inner.{Handles, Works, Idles, Shows, Closes, told_at, Follows}
+use Rattle.jn_place.specs.Places.{Stands}
+use Rattle.jn_place.proofs.Ending.{Sees, step-of, calm-of}
+
+module _ {S : Type 0} (look : S → StoreView) (device : S → DeviceState) (sees : Sees look device) (q : ServerNo) (g : Counts) (most : ℕ) (when : When) (lines lines' : List Line) where
+  pub took : (message : Message) (a m b : Slot S) (answer : Option Collected) → Stands look q g most a → Handles look message a answer m → Follows look device m (is_some answer) b
+      → lines' ≡ lines ++ lines_at when (texts_of_step q (told_at device m) (is_some answer)) → Took look device q g when message a answer b lines lines'
+  took message (Up p) m b answer stands h follows e =
+      let v = view_with look p in
+      (step-of look device sees q g when (server_row (memory_of v) (state v.storage) (room_of v.storage) message) p stands.counts lines lines' m (is_some answer) b h.0 follows e, h.1)
+  took message (Down s) m b answer stands h follows e = absurd h
+  took message Gone m b answer stands h follows e = absurd h
+
+  pub took-calm : (message : Message) (a m b : Slot S) (answer : Option Collected) → Stands look q g most a → Handles look message a answer m → Follows look device m (is_some answer) b → StaysCalm look a (is_some answer) b
+  took-calm message (Up p) m b answer stands h follows =
+      let v = view_with look p in
+      calm-of look device sees q g when (server_row (memory_of v) (state v.storage) (room_of v.storage) message) p stands.counts lines lines' m (is_some answer) b h.0 follows
+  took-calm message (Down s) m b answer stands h follows = absurd h
+  took-calm message Gone m b answer stands h follows = absurd h
+
+  pub worked-by : (a m b : Slot S) (answer : Option Collected) → Stands look q g most a → Works look a answer m → Follows look device m (is_some answer) b
+      → lines' ≡ lines ++ lines_at when (texts_of_step q (told_at device m) (is_some answer)) → WorkedBy look device q g when a answer b lines lines'
+  worked-by (Up p) m b answer stands h follows e = record {
+    row = h.row;
+    row_is = h.row_is;
+    step = step-of look device sees q g when h.row p stands.counts lines lines' m (is_some answer) b h.ends follows e;
+    sends = h.sends;
+  }
+  worked-by (Down s) m b answer stands h follows e = absurd h
+  worked-by Gone m b answer stands h follows e = absurd h
+
+  pub worked-calm : (a m b : Slot S) (answer : Option Collected) → Stands look q g most a → Works look a answer m → Follows look device m (is_some answer) b → StaysCalm look a (is_some answer) b
+  worked-calm (Up p) m b answer stands h follows = calm-of look device sees q g when h.row p stands.counts lines lines' m (is_some answer) b h.ends follows
+  worked-calm (Down s) m b answer stands h follows = absurd h
+  worked-calm Gone m b answer stands h follows = absurd h
+
+  pub scrubbed-by : (a m b : Slot S) (done : Bool) → Stands look q g most a → Idles look a done m → Follows look device m done b
+      → lines' ≡ lines ++ lines_at when (texts_of_step q (told_at device m) done) → ScrubbedBy look device q g when a done b lines lines'
+  scrubbed-by (Up p) m b done stands h follows e = step-of look device sees q g when (idle_row (memory_of (view_with look p))) p stands.counts lines lines' m done b h follows e
+  scrubbed-by (Down s) m b done stands h follows e = absurd h
+  scrubbed-by Gone m b done stands h follows e = absurd h
+
+  pub scrubbed-calm : (a m b : Slot S) (done : Bool) → Stands look q g most a → Idles look a done m → Follows look device m done b → StaysCalm look a done b
+  scrubbed-calm (Up p) m b done stands h follows = calm-of look device sees q g when (idle_row (memory_of (view_with look p))) p stands.counts lines lines' m done b h follows
+  scrubbed-calm (Down s) m b done stands h follows = absurd h
+  scrubbed-calm Gone m b done stands h follows = absurd h
+
+  pub showed-by : (a m b : Slot S) (list : Option (List Shown)) → Stands look q g most a → Shows look a list m → Follows look device m (is_some list) b
+      → lines' ≡ lines ++ lines_at when (texts_of_step q (told_at device m) (is_some list)) → Showed look device q g when a list b lines lines'
+  showed-by (Up p) m b list stands h follows e = (scrubbed-by (Up p) m b (is_some list) stands h.0 follows e, h.1)
+  showed-by (Down s) m b list stands h follows e = absurd h
+  showed-by Gone m b list stands h follows e = absurd h
+
+  pub showed-calm : (a m b : Slot S) (list : Option (List Shown)) → Stands look q g most a → Shows look a list m → Follows look device m (is_some list) b → StaysCalm look a (is_some list) b
+  showed-calm (Up p) m b list stands h follows = scrubbed-calm (Up p) m b (is_some list) stands h.0 follows
+  showed-calm (Down s) m b list stands h follows = absurd h
+  showed-calm Gone m b list stands h follows = absurd h
+
+  pub closed-by : (a m b : Slot S) (done : Bool) → Stands look q g most a → Closes look a done m → Follows look device m done b
+      → lines' ≡ lines ++ lines_at when (texts_of_step q (told_at device m) done) → Closed look device q g when a done b lines lines'
+  closed-by (Up p) m b done stands h follows e =
+      let k = memory_of (view_with look p) in
+      step-of look device sees q g when (of_coordinator k (close_clients_row k.coordinator k.tickets)) p stands.counts lines lines' m done b h follows e
+  closed-by (Down s) m b done stands h follows e = absurd h
+  closed-by Gone m b done stands h follows e = absurd h
+
+  pub closed-calm : (a m b : Slot S) (done : Bool) → Stands look q g most a → Closes look a done m → Follows look device m done b → StaysCalm look a done b
+  closed-calm (Up p) m b done stands h follows =
+      let k = memory_of (view_with look p) in
+      calm-of look device sees q g when (of_coordinator k (close_clients_row k.coordinator k.tickets)) p stands.counts lines lines' m done b h follows
+  closed-calm (Down s) m b done stands h follows = absurd h
+  closed-calm Gone m b done stands h follows = absurd h

@@ -1,0 +1,38 @@
+use Rattle.std.specs.Prelude.{Bool, true, ◌≡◌, ◌++◌, is_some, OnOk}
+use Rattle.std.proofs.Common.{◌∙◌, sym, subst}
+use Rattle.jn_device.specs.Device.{DeviceState}
+use Rattle.jn_recovery.specs.Loading.{counts_by}
+use Rattle.jn_store.specs.Store.{StoreView}
+use Rattle.jn_place.specs.Calls.{Called}
+use Rattle.jn_place.specs.Exact.{lines_at, texts_of_step, ScrubbedBy, StaysCalm}
+use Rattle.jn_place.specs.Inner.{told_at, Follows}
+use Rattle.jn_place.specs.Places.{IsPlace}
+use Rattle.jn_place.proofs.Ending.{on-both, done-calm}
+use Rattle.jn_place.proofs.Steps.{quiet-left}
+use Rattle.jn_place.proofs.Taking.{scrubbed-by, scrubbed-calm}
+use Rattle.jn_place.proofs.place.Place.scrub.Goals as goal
+
+pub returns : goal.returns
+returns g c =
+    let look : g.row.S.Denot → StoreView = λ s. g.S.StableStore.view s in
+    let device : g.row.S.Denot → DeviceState = λ s. g.S.Powered.device s in
+    let p = c.args.self.now in
+    let q = c.clean-done.new.self in
+    let r = c.after_step.new.self in
+    let call = c.clean-done.ensures in
+    let done = is_some c.clean-done.result in
+    let old = c.args.told.now.items in
+    let new = c.after_step.new.told.items in
+    let follows = subst (λ (b : Bool). OnOk c.after_step.result (Follows look device q.slot b r.slot)) c.is_some.ensures c.after_step.ensures.follows in
+    let lines = subst (λ (b : Bool). OnOk c.after_step.result (new ≡ old ++ lines_at c.args.when (texts_of_step c.args.server (told_at device q.slot) b))) c.is_some.ensures c.after_step.ensures.lines in
+    record {
+      left = λ most h. quiet-left look c.args.server most c.is_some.result p q (λ m. OnOk c.after_step.result (IsPlace look c.args.server m c.after_step.new.self)) h
+          (subst (λ (b : Bool). Called look 0 b p.slot q.slot) (sym c.is_some.ensures) call.called) call.counts c.after_step.ensures.place;
+      scrubbed = on-both (Follows look device q.slot done r.slot) (new ≡ old ++ lines_at c.args.when (texts_of_step c.args.server (told_at device q.slot) done))
+          ((d : Bool) × ScrubbedBy look device c.args.server (counts_by p.counts) c.args.when p.slot d r.slot old new) c.after_step.result
+          (λ h e. (done, scrubbed-by look device g.met.S.Powered.seen c.args.server (counts_by p.counts) 1000000 c.args.when old new p.slot q.slot r.slot done c.requires.place.stands call.idles h e)) follows lines;
+      calm = on-both (Follows look device q.slot done r.slot) (new ≡ old ++ lines_at c.args.when (texts_of_step c.args.server (told_at device q.slot) done))
+          (StaysCalm look p.slot true r.slot) c.after_step.result
+          (λ h e. done-calm look p.slot done r.slot (scrubbed-calm look device g.met.S.Powered.seen c.args.server (counts_by p.counts) 1000000 c.args.when old new p.slot q.slot r.slot done c.requires.place.stands call.idles h)) follows lines;
+      counts = c.after_step.ensures.counts ∙ call.counts;
+    }

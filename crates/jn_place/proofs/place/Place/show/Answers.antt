@@ -1,0 +1,42 @@
+use Rattle.std.specs.Global.{Vec}
+use Rattle.std.specs.Prelude.{Bool, Option, Some, None, ◌≡◌, ◌++◌, is_some}
+use Rattle.std.proofs.Common.{◌∙◌, refl, sym, subst}
+use Rattle.jn_device.specs.Device.{DeviceState}
+use Rattle.jn_recovery.specs.Loading.{counts_by}
+use Rattle.jn_server.specs.declared.show.Shown.{Shown}
+use Rattle.jn_store.specs.Store.{StoreView}
+use Rattle.jn_place.specs.Calls.{Called}
+use Rattle.jn_place.specs.Exact.{lines_at, texts_of_step, items_of, StaysCalm}
+use Rattle.jn_place.specs.Inner.{told_at, Follows}
+use Rattle.jn_place.specs.Places.{IsPlace}
+use Rattle.jn_place.proofs.Steps.{quiet-left}
+use Rattle.jn_place.proofs.Taking.{showed-by, showed-calm}
+use Rattle.jn_place.proofs.place.Place.show.Goals as goal
+
+items-some : (list : Option (Vec Shown)) → is_some list ≡ is_some (items_of list)
+items-some None = refl
+items-some (Some list) = refl
+
+pub returns : goal.returns
+returns g c =
+    let look : g.row.S.Denot → StoreView = λ s. g.S.StableStore.view s in
+    let device : g.row.S.Denot → DeviceState = λ s. g.S.Powered.device s in
+    let p = c.args.self.now in
+    let q = c.list_files.new.self in
+    let r = c.after_step.new.self in
+    let list = c.in_ok-list.list in
+    let call = c.in_ok-list.ensures in
+    let then-so = c.in_ok-after_step.ensures in
+    let old = c.args.told.now.items in
+    let new = c.after_step.new.told.items in
+    let done = c.is_some.ensures ∙ items-some list in
+    let follows = subst (λ (b : Bool). Follows look device q.slot b r.slot) done then-so.follows in
+    let lines = subst (λ (b : Bool). new ≡ old ++ lines_at c.args.when (texts_of_step c.args.server (told_at device q.slot) b)) done then-so.lines in
+    record {
+      left = λ most h. quiet-left look c.args.server most c.is_some.result p q (λ m. IsPlace look c.args.server m c.after_step.new.self) h
+          (subst (λ (b : Bool). Called look 0 b p.slot q.slot) (sym c.is_some.ensures) call.called) call.counts then-so.place;
+      showed = showed-by look device g.met.S.Powered.seen c.args.server (counts_by p.counts) 1000000 c.args.when old new p.slot q.slot r.slot (items_of list) c.requires.place.stands call.shows follows lines;
+      calm = subst (λ (b : Bool). StaysCalm look p.slot b r.slot) (sym (items-some list))
+          (showed-calm look device g.met.S.Powered.seen c.args.server (counts_by p.counts) 1000000 c.args.when old new p.slot q.slot r.slot (items_of list) c.requires.place.stands call.shows follows);
+      counts = then-so.counts ∙ call.counts;
+    }

@@ -1,0 +1,34 @@
+use Rattle.std.specs.Prelude.{ℕ, Bool, ◌≡◌, ◌++◌, is_some}
+use Rattle.std.proofs.Common.{◌∙◌, subst}
+use Rattle.jn_device.specs.Device.{DeviceState}
+use Rattle.jn_recovery.specs.Loading.{counts_by}
+use Rattle.jn_store.specs.Store.{StoreView}
+use Rattle.jn_place.specs.Exact.{lines_at, texts_of_step}
+use Rattle.jn_place.specs.Inner.{told_at, Follows}
+use Rattle.jn_place.specs.Places.{IsPlace}
+use Rattle.jn_place.proofs.Steps.{taken-left, follows-as}
+use Rattle.jn_place.proofs.Taking.{took, took-calm}
+use Rattle.jn_place.proofs.place.Place.take.Goals as goal
+
+pub returns : goal.returns
+returns g c =
+    let look : g.row.S.Denot → StoreView = λ s. g.S.StableStore.view s in
+    let device : g.row.S.Denot → DeviceState = λ s. g.S.Powered.device s in
+    let p = c.args.self.now in
+    let q = c.handle.new.self in
+    let r = c.after_step.new.self in
+    let answer = c.in_ok-answer.answer in
+    let call = c.in_ok-answer.ensures in
+    let then-so = c.in_ok-after_step.ensures in
+    let old = c.args.told.now.items in
+    let new = c.after_step.new.told.items in
+    let follows = subst (λ (b : Bool). Follows look device q.slot b r.slot) c.is_some.ensures then-so.follows in
+    let lines = subst (λ (b : Bool). new ≡ old ++ lines_at c.args.when (texts_of_step c.args.server (told_at device q.slot) b)) c.is_some.ensures then-so.lines in
+    record {
+      left = λ most h. taken-left look c.args.server most p q r answer h call.answered call.counts
+          (follows-as look c.args.server (is_some answer) c.is_some.result q (λ (m : ℕ). IsPlace look c.args.server m r) c.is_some.ensures then-so.place);
+      took = took look device g.met.S.Powered.seen c.args.server (counts_by p.counts) 1000000 c.args.when old new c.args.message.now p.slot q.slot r.slot answer c.requires.place.stands call.handled follows lines;
+      calm = took-calm look device g.met.S.Powered.seen c.args.server (counts_by p.counts) 1000000 c.args.when old new c.args.message.now p.slot q.slot r.slot answer c.requires.place.stands call.handled follows;
+      counts = then-so.counts ∙ call.counts;
+      room = call.room;
+    }

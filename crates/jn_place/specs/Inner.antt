@@ -1,0 +1,169 @@
+-- What the parts of a call at a place do: the server's own call, and what follows it.
+use Rattle.std.specs.Prelude.{◌≡◌, ◌<◌, ◌+◌, ℕ, Bool, true, false, List, [], map, Option, Some, is_some}
+use Rattle.jn_base.specs.declared.names.ServerNo.{ServerNo}
+use Rattle.jn_base.specs.declared.names.Tid.{Tid}
+use Rattle.jn_base.specs.declared.names.WorkId.{WorkId}
+use Rattle.jn_base.specs.declared.device.Outside.{Outside}
+use Rattle.jn_base.specs.Names.{tid_eq, work_eq}
+use Rattle.jn_device.specs.Device.{DeviceState}
+use Rattle.jn_device.specs.Events.{PowersUp, powered_off, cleared}
+use Rattle.jn_found.specs.Pages.{found_on}
+use Rattle.jn_locks.specs.Locks.{work_before}
+use Rattle.jn_machine.specs.Steps.{with_epoch}
+use Rattle.jn_msgs.specs.declared.message.Message.{Message}
+use Rattle.jn_msgs.specs.Collected.{Collected}
+use Rattle.jn_protocol.specs.Servers.{server_row, of_coordinator, restored}
+use Rattle.jn_protocol.specs.Steps.{AreNames, tid_before}
+use Rattle.jn_protocol.specs.World.{Memory}
+use Rattle.jn_records.specs.StablePages.{Counts}
+use Rattle.jn_recovery.specs.Loading.{IsSameOrNext}
+use Rattle.jn_rows.specs.declared.coordinator.Transaction.{Transaction}
+use Rattle.jn_rows.specs.Coordinator.{close_clients_row}
+use Rattle.jn_rows.specs.Outcomes.{RowOutcome}
+use Rattle.jn_rows.specs.Stable.{Pick, IsStopState, made_all}
+use Rattle.jn_server.specs.declared.show.Shown.{Shown}
+use Rattle.jn_server.specs.Seen.{Parts, view_with, memory_of, room_of}
+use Rattle.jn_storage.specs.Calls.{state}
+use Rattle.jn_storage.specs.Storage.{StorageLater}
+use Rattle.jn_store.specs.Store.{StoreView, StoreLater, IsCalm}
+use Rattle.jn_place.specs.declared.place.Restarted.{Restarted}
+use Rattle.jn_place.specs.declared.place.Restarted.TheVariants as came
+use Rattle.jn_place.specs.declared.place.Slot.{Slot}
+use Rattle.jn_place.specs.declared.place.Slot.TheVariants.{Up, Down, Gone}
+use Rattle.jn_place.specs.Exact.{Sends, Prints, idle_row, work_of}
+
+-- ---- a call of a server that is up, which leaves it where it is
+
+-- its row is done
+pub record IsRowDone {S : Type 0} (look : S → StoreView) (row : RowOutcome Memory) (p p' : Parts S) : Type 0 where
+  pub memory : memory_of (view_with look p') ≡ row.table
+  pub found : (c : Pick) → (view_with look p').storage.found c ≡ made_all row.changes (state (view_with look p).storage)
+  pub later : StorageLater (view_with look p).storage (view_with look p').storage
+  pub power : (look p'.storage.0).power ≡ true
+
+-- or stopped, which doesn't happen while no fault waits
+pub record IsRowStopped {S : Type 0} (look : S → StoreView) (row : RowOutcome Memory) (p p' : Parts S) : Type 0 where
+  pub some : (c : Pick) → IsStopState (state (view_with look p).storage) row.changes ((view_with look p').storage.found c)
+  pub later : StorageLater (view_with look p).storage (view_with look p').storage
+  pub dark : (look p'.storage.0).power ≡ false
+  pub not_calm : IsCalm (look p.storage.0) → ⊥
+
+abbrev pub RowEnds : {S : Type 0} → (S → StoreView) → RowOutcome Memory → Parts S → Bool → Slot S → Type 0
+RowEnds look row p true (Up p') = IsRowDone look row p p'
+RowEnds look row p false (Up p') = IsRowStopped look row p p'
+RowEnds look row p done after = ⊥
+
+-- a message
+abbrev pub Handles : {S : Type 0} → (S → StoreView) → Message → Slot S → Option Collected → Slot S → Type 0
+Handles look message (Up p) answer after =
+    let v = view_with look p in
+    let row = server_row (memory_of v) (state v.storage) (room_of v.storage) message in
+    RowEnds look row p (is_some answer) after × Sends row answer
+Handles look message before answer after = ⊥
+
+-- a background step
+pub record IsWorking {S : Type 0} (look : S → StoreView) (p : Parts S) (answer : Option Collected) (after : Slot S) : Type 0 where
+  pub row : RowOutcome Memory
+  pub row_is : work_of (view_with look p) ≡ Some row
+  pub ends : RowEnds look row p (is_some answer) after
+  pub sends : Sends row answer
+
+abbrev pub Works : {S : Type 0} → (S → StoreView) → Slot S → Option Collected → Slot S → Type 0
+Works look (Up p) answer after = IsWorking look p answer after
+Works look before answer after = ⊥
+
+-- one that changes nothing
+abbrev pub Idles : {S : Type 0} → (S → StoreView) → Slot S → Bool → Slot S → Type 0
+Idles look (Up p) done after = RowEnds look (idle_row (memory_of (view_with look p))) p done after
+Idles look before done after = ⊥
+
+-- a show
+abbrev pub Shows : {S : Type 0} → (S → StoreView) → Slot S → Option (List Shown) → Slot S → Type 0
+Shows look (Up p) list after = Idles look (Up p) (is_some list) after × Prints (view_with look p) list
+Shows look before list after = ⊥
+
+-- the clients' end
+abbrev pub Closes : {S : Type 0} → (S → StoreView) → Slot S → Bool → Slot S → Type 0
+Closes look (Up p) done after = let m = memory_of (view_with look p) in RowEnds look (of_coordinator m (close_clients_row m.coordinator m.tickets)) p done after
+Closes look before done after = ⊥
+
+-- ---- what follows
+
+-- what the device below has told
+abbrev pub told_at : {S : Type 0} → (S → DeviceState) → Slot S → List Outside
+told_at device (Up p) = (device p.storage.0).told
+told_at device (Down s) = (device s).told
+told_at device Gone = []
+
+-- the pages say the same, whatever their counts
+abbrev pub SaysSame : {S : Type 0} → (S → StoreView) → S → S → Type 0
+SaysSame look s t = (g : Counts) → found_on g (look t) ≡ found_on g (look s)
+
+-- all is as it was, but for the device
+pub record IsAsBefore {S : Type 0} (look : S → StoreView) (p p' : Parts S) : Type 0 where
+  pub memory : memory_of (view_with look p') ≡ memory_of (view_with look p)
+  pub found : (view_with look p').storage.found ≡ (view_with look p).storage.found
+
+abbrev pub StaysAs : {S : Type 0} → (S → StoreView) → (S → DeviceState) → (DeviceState → DeviceState) → Slot S → Slot S → Type 0
+StaysAs look device f (Up p) (Up p') = IsAsBefore look p p' × (device p'.storage.0 ≡ f (device p.storage.0))
+StaysAs look device f (Down s) (Down s') = SaysSame look s s' × (device s' ≡ f (device s))
+StaysAs look device f before after = ⊥
+
+-- what follows a call: what the device told is forgotten, and a server that was stopped is down
+abbrev pub Follows : {S : Type 0} → (S → StoreView) → (S → DeviceState) → Slot S → Bool → Slot S → Type 0
+Follows look device (Up p) true (Up p') = StaysAs look device cleared (Up p) (Up p')
+Follows look device (Up p) false (Down s) = StaysAs look device cleared (Down p.storage.0) (Down s)
+Follows look device before done after = ⊥
+
+-- ---- a restart
+
+-- from a store with power: the server is up
+pub record IsRisen {S : Type 0} (look : S → StoreView) (q : ServerNo) (g : Counts) (s : S) (epoch : ℕ) (tids : List Tid) (p' : Parts S) : Type 0 where
+  pub later : StoreLater (look s) (look p'.storage.0)
+  pub power : (look p'.storage.0).power ≡ true
+  pub pick : Pick
+  pub works : List WorkId
+  pub work_names : AreNames work_eq work_before (found_on g (look s) pick).works works
+  pub flag_names : AreNames tid_eq tid_before (found_on g (look s) pick).flags tids
+  pub remembers : memory_of (view_with look p') ≡ restored q (found_on g (look s) pick) works tids
+  pub finds : (c : Pick) → (view_with look p').storage.found c ≡ with_epoch (found_on g (look s) pick)
+  pub epoch_is : epoch ≡ (found_on g (look s) pick).epoch + 1
+  pub before_last : (found_on g (look s) pick).epoch < 4294967295
+
+-- or it was stopped
+pub record IsCutUp {S : Type 0} (look : S → StoreView) (g : Counts) (s s' : S) : Type 0 where
+  pub later : StoreLater (look s) (look s')
+  pub dark : (look s').power ≡ false
+  pub each : (c : Pick) → (b : Pick) × IsSameOrNext (found_on g (look s) b) (found_on g (look s') c)
+  pub not_calm : IsCalm (look s) → ⊥
+
+-- or it found the last epoch
+pub record IsAtLast {S : Type 0} (look : S → StoreView) (device : S → DeviceState) (g : Counts) (s s' : S) : Type 0 where
+  pub called : S
+  pub later : StoreLater (look s) (look called)
+  pub power : (look called).power ≡ true
+  pub device_is : device s' ≡ powered_off (device called)
+  pub each : (c : Pick) → (b : Pick) × (found_on g (look s') c ≡ found_on g (look s) b)
+  pub last : (c : Pick) → (found_on g (look s') c).epoch ≡ 4294967295
+
+abbrev pub Rises : {S : Type 0} → (S → StoreView) → (S → DeviceState) → ServerNo → Counts → S → Restarted → Slot S → Type 0
+Rises look device q g s (came.Up epoch tids) (Up p') = IsRisen look q g s epoch tids.items p'
+Rises look device q g s came.Stopped (Down s') = IsCutUp look g s s'
+Rises look device q g s came.UsedUp (Down s') = IsAtLast look device g s s'
+Rises look device q g s restarted after = ⊥
+
+-- the server stands there, with the names of its transactions
+abbrev pub StandsUp : {S : Type 0} → Parts S → ℕ → Restarted → Slot S → Type 0
+StandsUp p epoch (came.Up e tids) after = (after ≡ Up p) × (e ≡ epoch) × (tids.items ≡ map (λ (t : Transaction). t.tid) p.coordinator.transactions)
+StandsUp p epoch restarted after = ⊥
+
+-- a server that is down gets power first
+pub record IsLifted {S : Type 0} (look : S → StoreView) (device : S → DeviceState) (q : ServerNo) (g : Counts) (s : S) (restarted : Restarted) (after : Slot S) : Type 0 where
+  pub lit : S
+  pub powers : PowersUp (device s) (device lit)
+  pub same : SaysSame look s lit
+  pub rises : Rises look device q g lit restarted after
+
+abbrev pub Lifts : {S : Type 0} → (S → StoreView) → (S → DeviceState) → ServerNo → Counts → Slot S → Restarted → Slot S → Type 0
+Lifts look device q g (Down s) restarted after = IsLifted look device q g s restarted after
+Lifts look device q g before restarted after = ⊥

@@ -1,0 +1,246 @@
+-- What the rows read of a storage is what stands on its pages.
+use Rattle.std.proofs.Common.{◌≡◌, ⊎_elim, ◌<◌, ◌+◌, ◌-◌, ℕ, suc, Bool, true, false, not, ◌&&◌, ◌||◌, if◌then◌else◌, List, [], ◌∷◌, length, get_or, Option, Some, None, refl, sym, ◌∙◌, ap, subst, true≢false, arith}
+use Rattle.std.proofs.lemmas.Bool.Decides.{nat_tests}
+use Rattle.std.proofs.lemmas.List.Sums.{sum_by-cons}
+use Rattle.std.specs.Prelude.{is_some, count_by, nat_eq, nat_lt, slice_index_or}
+use Rattle.std.specs.List.{list_any}
+use Rattle.jn_base.specs.declared.names.Tickets.{Tickets}
+use Rattle.jn_base.specs.declared.names.WorkId.{WorkId}
+use Rattle.jn_base.specs.Names.{work_eq}
+use Rattle.jn_base.proofs.Tells.{work_tells}
+use Rattle.jn_alloc.specs.Free.{free_count as free_numbers, is_free as is_free_number}
+use Rattle.jn_files.specs.Table.{TableView, IsTable, is_held, is_free, head_in, address_of, IsUnnamed}
+use Rattle.jn_records.specs.declared.head.Head.{Head}
+use Rattle.jn_records.specs.declared.head.Head.TheVariants.{Free as FreeHead, Used}
+use Rattle.jn_records.specs.declared.net_list.Need.{Need}
+use Rattle.jn_records.specs.declared.record.Record.{Record}
+use Rattle.jn_records.specs.StablePages.{Counts, Pages}
+use Rattle.jn_rows.specs.declared.worker.Work.{Work}
+use Rattle.jn_rows.specs.Stable.{StableState, Prepared}
+use Rattle.jn_rows.specs.Worker.{WorkerTable, work_at, intentions_of, need_in}
+use Rattle.jn_rows.specs.Coordinator.{promised}
+use Rattle.jn_lock_rows.specs.Matching.{are_rising, is_before}
+use Rattle.jn_lock_rows.proofs.Works.{none-behind}
+use Rattle.jn_storage.specs.Listing.{is_in, are_different, total}
+use Rattle.jn_storage.specs.Storage.{Accounts, IsCounted, needed, intentions, list_of}
+use Rattle.jn_storage.specs.Calls.{state}
+use Rattle.jn_storage.proofs.Listings.{but, is_in-but, different-but, total-but}
+use Rattle.jn_store.specs.Store.{StoreView}
+use Rattle.jn_sets.specs.Pool.{free_count, is_rubbish}
+use Rattle.jn_found.specs.Contents.{Contents, has_address, heads_name, works_name}
+use Rattle.jn_found.specs.Held.{held_contents}
+use Rattle.jn_found.specs.Pages.{pool_on, heads_on, listed}
+use Rattle.jn_found.specs.Puts.{contents_by}
+use Rattle.jn_found.proofs.HeldLaws.{contents_held}
+use Rattle.jn_found.proofs.Slots.{passes_at}
+use Rattle.jn_recovery.specs.Matches.{Matches, IsKept}
+use Rattle.jn_recovery.specs.Memory.{Memory as Kept, view_of, rubbish_in}
+use Rattle.jn_recovery.proofs.Standing.{named_head}
+use Rattle.jn_intent.proofs.Rubbish.{some_rubbish}
+use Rattle.jn_worker.specs.Fitting.{WorkerView, WorkFits, is_none}
+use Rattle.jn_coord.specs.Remembered.{Remembered}
+use Rattle.jn_server.specs.Seen.{ServerView, IsServer}
+use Rattle.jn_server.specs.Standing.{standing_pages, is_free_head, promised_heads, IsRoomOfPages}
+
+-- ---- the heads that are promised to prepared works
+
+abbrev names_of : WorkerTable → List WorkId
+names_of [] = []
+names_of (w ∷ ws) = w.name ∷ names_of ws
+
+names_in : (W : WorkId) (ws : WorkerTable) → is_in work_eq W (names_of ws) ≡ is_some (work_at W ws)
+names_in W [] = refl
+names_in W (w ∷ ws) = by (work_eq w.name W) (names_in W ws)
+  where
+    by : (b : Bool) → is_in work_eq W (names_of ws) ≡ is_some (work_at W ws) → (b || is_in work_eq W (names_of ws)) ≡ is_some (if b then Some w else work_at W ws)
+    by true again = refl
+    by false again = again
+
+both : (a b : Bool) → (a && b) ≡ true → (a ≡ true) × (b ≡ true)
+both true b h = (refl, h)
+both false b h = absurd (true≢false (sym h))
+
+names_differ : (ws : WorkerTable) → are_rising ws ≡ true → are_different work_eq (names_of ws) ≡ true
+names_differ [] h = refl
+names_differ (w ∷ ws) h =
+    let p = both (is_before w.name ws) (are_rising ws) h in
+    ap (λ b. not b && are_different work_eq (names_of ws)) (names_in w.name ws ∙ ap (λ (o : Option Work). is_some o) (none-behind w.name ws p.0)) ∙ names_differ ws p.1
+
+all_zero : (f : WorkId → ℕ) (ks : List WorkId) → ((k : WorkId) → is_in work_eq k ks ≡ true → f k ≡ 0) → total f ks ≡ 0
+all_zero f [] h = refl
+all_zero f (k ∷ ks) h =
+    let own = work_tells k k in
+    let here : f k ≡ 0 = h k (grind arith) in
+    let again = all_zero f ks (λ j i. h j (grind (arith, i))) in omega (arith, here, again)
+
+-- keys more, at which nothing is counted
+total_more : (f : WorkId → ℕ) (ks js : List WorkId) → are_different work_eq ks ≡ true → are_different work_eq js ≡ true → ((k : WorkId) → is_in work_eq k js ≡ true → is_in work_eq k ks ≡ true)
+    → ((k : WorkId) → is_in work_eq k ks ≡ true → is_in work_eq k js ≡ false → f k ≡ 0) → total f ks ≡ total f js
+total_more f ks [] dk dj within none = all_zero f ks (λ k h. none k h refl)
+total_more f ks (j ∷ js) dk dj within none =
+    total-but work_eq work_tells f j ks dk (within j first)
+    ∙ ap (λ n. f j + n) (total_more f (but work_eq j ks) js (different-but work_eq work_tells j ks dk) later.1
+    (λ k h. is_in-but work_eq work_tells j k ks ∙ inside k (work_eq j k) refl h)
+    (λ k h out. let at = both (is_in work_eq k ks) (not (work_eq j k)) (sym (is_in-but work_eq work_tells j k ks) ∙ h) in none k at.0 (outside (work_eq j k) (is_in work_eq k js) at.1 out)))
+  where
+    first : (work_eq j j || is_in work_eq j js) ≡ true
+    first = ⊎_elim (λ h. ap (λ b. b || is_in work_eq j js) h.0) (λ h. absurd (h.1 refl)) (work_tells j j)
+
+    later : (not (is_in work_eq j js) ≡ true) × (are_different work_eq js ≡ true)
+    later = both (not (is_in work_eq j js)) (are_different work_eq js) dj
+
+    apart : (b : Bool) → not b ≡ true → b ≡ true → ⊥
+    apart true n y = true≢false (sym n)
+    apart false n y = true≢false (sym y)
+
+    inside : (k : WorkId) (b : Bool) → work_eq j k ≡ b → is_in work_eq k js ≡ true → (is_in work_eq k ks && not b) ≡ true
+    inside k true e h = absurd (apart (is_in work_eq j js) later.0 (⊎_elim (λ t. subst (λ (i : WorkId). is_in work_eq i js ≡ true) (sym t.1) h) (λ t. absurd (true≢false (sym e ∙ t.0))) (work_tells j k)))
+    inside k false e h = ap (λ b. b && true) (within k (ap (λ b. b || is_in work_eq k js) e ∙ h))
+
+    outside : (a b : Bool) → not a ≡ true → b ≡ false → (a || b) ≡ false
+    outside true b n o = absurd (true≢false (sym n))
+    outside false b n o = o
+
+same_need : (x : StableState) (p : Option Prepared) → (need_in x.files (intentions_of p)).heads ≡ (needed x (intentions p)).heads
+same_need x None = refl
+same_need x (Some p) = refl
+
+promised_names : (x : StableState) (ws : WorkerTable) → promised_heads x ws ≡ total (λ w. (needed x (list_of x w)).heads) (names_of ws)
+promised_names x [] = refl
+promised_names x (w ∷ ws) = let here = same_need x (x.works w.name) in let again = promised_names x ws in omega (arith, here, again)
+
+promises_are : (x : StableState) (a : Accounts) (ws : WorkerTable) → IsCounted x a → are_rising ws ≡ true → ((W : WorkId) → WorkFits (work_at W ws) (x.works W)) → a.promised_heads ≡ promised_heads x ws
+promises_are x a ws counted rising fits = counted.promises ∙ sym (promised_names x ws ∙ total_more (λ w. (needed x (list_of x w)).heads) (names_of ws) counted.works (names_differ ws rising) counted.works_all.different
+    (λ k h. names_in k ws ∙ live (work_at k ws) (x.works k) (fits k) (sym (counted.works_all.all k) ∙ h))
+    (λ k h none. nothing (x.works k) (sym (counted.works_all.all k) ∙ none)))
+  where
+    live : (o : Option Work) (p : Option Prepared) → WorkFits o p → is_some p ≡ true → is_some o ≡ true
+    live (Some w) p f e = refl
+    live None None f e = absurd (true≢false (sym e))
+    live None (Some p) f e = absurd f
+
+    nothing : (p : Option Prepared) → is_some p ≡ false → (needed x (intentions p)).heads ≡ 0
+    nothing None e = refl
+    nothing (Some p) e = absurd (true≢false e)
+
+-- ---- heads and data pages
+
+heads_are : (flags : List Bool) (heads : List Head) → length flags ≡ length heads → ((j : ℕ) → j < length heads → slice_index_or flags j false ≡ is_free (head_in heads j)) → count_by (λ b. b) flags ≡ count_by is_free_head heads
+heads_are [] [] size same = refl
+heads_are [] (h ∷ hs) size same = absurd (omega (arith, size))
+heads_are (b ∷ flags) [] size same = absurd (omega (arith, size))
+heads_are (b ∷ flags) (h ∷ hs) size same =
+    let one_more = sum_by-cons (λ (b : Bool). if b then 1 else 0) b flags in
+    let head_more = sum_by-cons (λ h. if is_free_head h then 1 else 0) h hs in
+    let again = heads_are flags hs (omega (arith, size)) (λ j lt. same (suc j) (omega (arith, lt))) in
+    let here : b ≡ is_free_head h = same 0 (omega arith) ∙ test h in grind (arith, one_more, head_more, again, here)
+  where
+    test : (h : Head) → is_free h ≡ is_free_head h
+    test FreeHead = refl
+    test (Used f xs) = refl
+
+pages_are : (flags : List Bool) (test : ℕ → Bool) (from : ℕ) → ((j : ℕ) → j < length flags → slice_index_or flags j false ≡ test (from + j)) → count_by (λ b. b) flags ≡ count_by test (listed (λ d. d) from (length flags))
+pages_are [] test from same = refl
+pages_are (b ∷ flags) test from same =
+    let one_more = sum_by-cons (λ (b : Bool). if b then 1 else 0) b flags in
+    let page_more = sum_by-cons (λ d. if test d then 1 else 0) from (listed (λ d. d) (suc from) (length flags)) in
+    let again = pages_are flags test (suc from) (λ j lt. same (suc j) (omega (arith, lt)) ∙ ap test (omega arith)) in
+    let here : b ≡ test from = same 0 (omega arith) ∙ ap test (omega arith) in grind (arith, one_more, page_more, again, here)
+
+module _ (t : TableView) (table : IsTable t) (pool : List Record) (held : (a : ℕ) → is_held t a ≡ works_name pool (suc a)) where
+  has_at : (h : Head) (a : ℕ) → has_address (suc a) h ≡ true → (p : ℕ) × (address_of h p ≡ suc a)
+  has_at FreeHead a e = absurd (true≢false (sym e))
+  has_at (Used f xs) a e = let at = passes_at (λ b. nat_eq b (suc a)) 0 xs e in (at.0, same (get_or xs at.0 0) at.1)
+    where
+      same : (b : ℕ) → nat_eq b (suc a) ≡ true → b ≡ suc a
+      same b e = grind (arith, nat_tests)
+
+  free_page : (a : ℕ) → a < t.counts.leaves → is_free_number t.free_leaves a ≡ not (heads_name t.heads (a + 1) || works_name pool (a + 1))
+  free_page a lt = by (is_free_number t.free_leaves a) (heads_name t.heads (suc a)) (works_name pool (suc a)) refl refl refl ∙ ap (λ (k : ℕ). not (heads_name t.heads k || works_name pool k)) next
+    where
+      next : suc a ≡ a + 1
+      next = omega arith
+
+      unnamed : heads_name t.heads (suc a) ≡ false → IsUnnamed t.heads a
+      unnamed none slot p e = true≢false (sym (named_head t.heads slot p a e) ∙ none)
+
+      not_named : IsUnnamed t.heads a → heads_name t.heads (suc a) ≡ true → ⊥
+      not_named none named = let at = passes_at (has_address (suc a)) FreeHead t.heads named in let p = has_at (head_in t.heads at.0) a at.1 in none at.0 p.0 p.1
+
+      by : (f n w : Bool) → is_free_number t.free_leaves a ≡ f → heads_name t.heads (suc a) ≡ n → works_name pool (suc a) ≡ w → f ≡ not (n || w)
+      by true true w free named listed = absurd (not_named ((table.free_leaves a).0 free).unnamed named)
+      by true false true free named listed = absurd (true≢false (sym listed ∙ sym (held a) ∙ ((table.free_leaves a).0 free).loose))
+      by true false false free named listed = refl
+      by false true w free named listed = refl
+      by false false true free named listed = refl
+      by false false false free named listed = absurd (true≢false (sym ((table.free_leaves a).1 (record { below = lt; loose = held a ∙ listed; unnamed = unnamed named })) ∙ free))
+
+  abbrev is_loose : ℕ → Bool
+  is_loose d = not (heads_name t.heads (d + 1) || works_name pool (d + 1))
+
+  pub pages_free : free_numbers t.free_leaves ≡ count_by is_loose (listed (λ d. d) 0 t.counts.leaves)
+  pages_free =
+      pages_are t.free_leaves.flags is_loose 0 (λ j lt. free_page j (subst (λ (n : ℕ). j < n) table.leaf_count lt) ∙ ap is_loose (omega arith))
+      ∙ ap (λ n. count_by is_loose (listed (λ d. d) 0 n)) table.leaf_count
+
+  pub heads_free : free_numbers t.free_heads ≡ count_by is_free_head t.heads
+  heads_free = heads_are t.free_heads.flags t.heads (let a = table.head_count in let b = table.slots in omega (arith, a, b)) (λ j lt. table.free_heads j (let b = table.slots in omega (arith, lt, b)))
+
+-- ---- all
+
+abbrev need : ℕ → ℕ → ℕ → Need
+need a b c = record { records = a; heads = b; pages = c }
+
+same_needs : (a b c x y z : ℕ) → a ≡ x → b ≡ y → c ≡ z → need a b c ≡ need x y z
+same_needs a b c x y z e f g = ap (λ n. need n b c) e ∙ ap (λ n. need x n c) f ∙ ap (λ n. need x y n) g
+
+pub not_none : (xs : List WorkId) → nat_lt 0 (length xs) ≡ not (is_none xs)
+not_none [] = let z : nat_lt 0 0 ≡ false = grind (arith, nat_tests) in z
+not_none (x ∷ xs) = let z : nat_lt 0 (suc (length xs)) ≡ true = grind (arith, nat_tests) in z
+
+module _ (m : Kept) (s : StoreView) (t : WorkerView) (r : Remembered) (k : Tickets) where
+  abbrev view : ServerView
+  view = record { storage = view_of m s; worker = t; coordinator = r; tickets = k }
+
+  abbrev g : Counts
+  g = m.table.counts
+
+  abbrev pages : Pages
+  pages = standing_pages s
+
+  module _ (serves : IsServer view) (rising : are_rising t.table ≡ true) (now : Matches m s) where
+    said : contents_by g s (λ n. false) ≡ held_contents g s m.epoch m.records m.table.heads (λ n. false)
+    said = contents_held m.server g s m.epoch m.records m.table.heads now.standing.held (λ n. false)
+
+    pool_is : pool_on g pages ≡ m.records
+    pool_is = ap (λ (x : Contents). x.pool) said
+
+    heads_is : heads_on g pages ≡ m.table.heads
+    heads_is = ap (λ (x : Contents). x.heads) said
+
+    promised_is : m.promised ≡ promised r.transactions
+    promised_is = let e = serves.transactions.promises in omega (arith, e)
+
+    records_are : (free_count m.records - m.promised) ≡ (free_count (pool_on g pages) - promised r.transactions)
+    records_are = ap (λ n. free_count m.records - n) promised_is ∙ ap (λ (l : List Record). free_count l - promised r.transactions) (sym pool_is)
+
+    abbrev promises : ℕ
+    promises = promised_heads (state (view_of m s)) t.table
+
+    heads_free_are : (free_numbers m.table.free_heads - m.table.free_heads.promised) ≡ (count_by is_free_head (heads_on g pages) - promises)
+    heads_free_are = ap (λ n. free_numbers m.table.free_heads - n) (promises_are (state (view_of m s)) (view_of m s).accounts t.table serves.works.serving.counted rising serves.works.stored)
+        ∙ ap (λ n. n - promises) (heads_free m.table now.table m.records now.held ∙ ap (λ (l : List Head). count_by is_free_head l) (sym heads_is))
+
+    pages_free_are : free_numbers m.table.free_leaves ≡ count_by (λ d. not (heads_name (heads_on g pages) (d + 1) || works_name (pool_on g pages) (d + 1))) (listed (λ d. d) 0 g.leaves)
+    pages_free_are = pages_free m.table now.table m.records now.held
+        ∙ ap (λ (l : List Head). count_by (λ d. not (heads_name l (d + 1) || works_name m.records (d + 1))) (listed (λ d. d) 0 g.leaves)) (sym heads_is)
+        ∙ ap (λ (l : List Record). count_by (λ d. not (heads_name (heads_on g pages) (d + 1) || works_name l (d + 1))) (listed (λ d. d) 0 g.leaves)) (sym pool_is)
+
+    of_pages : IsRoomOfPages view
+    of_pages = record {
+      free = same_needs _ _ _ _ _ _ records_are heads_free_are pages_free_are;
+      rubbish = sym (some_rubbish m.records m.records ∙ not_none (rubbish_in m.records m.records)) ∙ ap (λ (l : List Record). list_any (is_rubbish l) l) (sym pool_is);
+    }
+
+  pub room_of_pages : IsServer view → are_rising t.table ≡ true → IsKept m s → IsRoomOfPages view
+  room_of_pages serves rising kept = of_pages serves rising (kept serves.works.serving.power)

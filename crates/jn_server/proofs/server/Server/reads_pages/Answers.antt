@@ -1,0 +1,14 @@
+use Rattle.std.proofs.Common.{subst, sym}
+use Rattle.jn_store.specs.Store.{StoreView}
+use Rattle.jn_server.specs.Seen.{Parts, view_with, IsServer}
+use Rattle.jn_server.specs.Standing.{IsRoomOfPages}
+use Rattle.jn_server.proofs.Room.{room_of_pages}
+use Rattle.jn_server.proofs.server.Server.reads_pages.Goals as goal
+
+pub returns : goal.returns
+returns g c =
+    let look : g.row.S.Denot → StoreView = λ s. g.S.StableStore.view s in
+    let inside : Parts g.row.S.Denot = record { storage = c.self.inside.storage; worker = c.self.inside.worker; coordinator = c.self.inside.coordinator; tickets = c.self.inside.tickets } in
+    let serves : IsServer (view_with look inside) = subst (λ (s : Parts g.row.S.Denot). IsServer (view_with look s)) (sym c.self.view_is) c.requires.serves in
+    subst (λ (s : Parts g.row.S.Denot). IsRoomOfPages (view_with look s)) c.self.view_is
+    (room_of_pages c.self.inside.storage.1 (look c.self.inside.storage.0) c.self.inside.worker c.self.inside.coordinator c.self.inside.tickets serves c.is_in_order.ensures c.is_kept.ensures)

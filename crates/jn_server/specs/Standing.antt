@@ -1,0 +1,52 @@
+-- What the rows of a server read of its storage, as it stands on the pages.
+use Rattle.std.specs.Prelude.{◌≡◌, ℕ, ◌+◌, ◌-◌, Bool, true, false, not, ◌||◌, List, [], ◌∷◌, count_by}
+use Rattle.std.specs.List.{list_any}
+use Rattle.jn_records.specs.declared.head.Head.{Head}
+use Rattle.jn_records.specs.declared.head.Head.TheVariants.{Free as FreeHead, Used}
+use Rattle.jn_records.specs.declared.net_list.Need.{Need}
+use Rattle.jn_records.specs.declared.record.Record.{Record}
+use Rattle.jn_records.specs.StablePages.{Counts, Pages}
+use Rattle.jn_sets.specs.Pool.{free_count, is_rubbish}
+use Rattle.jn_store.specs.Store.{StoreView}
+use Rattle.jn_storage.specs.Calls.{state}
+use Rattle.jn_found.specs.Contents.{heads_name, works_name}
+use Rattle.jn_found.specs.Pages.{pool_on, heads_on, listed, pages_by}
+use Rattle.jn_rows.specs.Stable.{StableState}
+use Rattle.jn_rows.specs.Worker.{WorkerTable, intentions_of, need_in}
+use Rattle.jn_rows.specs.Coordinator.{promised}
+use Rattle.jn_intent.specs.Scrubbing.{counts_in}
+use Rattle.jn_protocol.specs.World.{Memory}
+use Rattle.jn_server.specs.Seen.{ServerView, memory_of, room_of}
+
+-- by one pick: all find the same records and heads while a server is up
+abbrev pub standing_pages : StoreView → Pages
+standing_pages v = pages_by v (λ n. false)
+
+abbrev pub is_free_head : Head → Bool
+is_free_head FreeHead = true
+is_free_head (Used f addresses) = false
+
+-- no head and no prepared work has the data page
+abbrev pub is_free_page : Counts → Pages → ℕ → Bool
+is_free_page g pages d = not (heads_name (heads_on g pages) (d + 1) || works_name (pool_on g pages) (d + 1))
+
+-- the heads that are promised to prepared works
+abbrev pub promised_heads : StableState → WorkerTable → ℕ
+promised_heads x [] = 0
+promised_heads x (w ∷ ws) = (need_in x.files (intentions_of (x.works w.name))).heads + promised_heads x ws
+
+-- what is free and not promised; a prepared work has its data pages already
+abbrev pub free_on : Counts → Pages → StableState → Memory → Need
+free_on g pages x m = record {
+  records = free_count (pool_on g pages) - promised m.coordinator.transactions;
+  heads = count_by is_free_head (heads_on g pages) - promised_heads x m.worker;
+  pages = count_by (is_free_page g pages) (listed (λ d. d) 0 g.leaves);
+}
+
+abbrev pub has_rubbish : List Record → Bool
+has_rubbish pool = list_any (is_rubbish pool) pool
+
+-- the rows read no more and no less than that
+pub record IsRoomOfPages (v : ServerView) : Type 0 where
+  pub free : (room_of v.storage).free ≡ free_on (counts_in v.storage.accounts) (standing_pages v.storage.store) (state v.storage) (memory_of v)
+  pub rubbish : (room_of v.storage).rubbish ≡ has_rubbish (pool_on (counts_in v.storage.accounts) (standing_pages v.storage.store))

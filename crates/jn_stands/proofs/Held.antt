@@ -1,0 +1,24 @@
+-- What a server's own calls say of its pages.
+use Rattle.std.proofs.Common.{◌≡◌, ◌∙◌, ap}
+use Rattle.jn_device.specs.Device.{DeviceState}
+use Rattle.jn_found.specs.Pages.{pool_on}
+use Rattle.jn_intent.specs.Scrubbing.{counts_in}
+use Rattle.jn_place.specs.declared.place.Slot.TheVariants.{Up}
+use Rattle.jn_records.specs.StablePages.{Counts}
+use Rattle.jn_server.specs.Seen.{Parts, view_with, memory_of}
+use Rattle.jn_server.specs.Standing.{standing_pages, free_on, has_rubbish, IsRoomOfPages}
+use Rattle.jn_storage.specs.Calls.{state}
+use Rattle.jn_store.specs.Pairs.{pairs_view}
+use Rattle.jn_store.specs.Store.{StoreView}
+use Rattle.jn_stands.specs.Pages.{HasCounts, ReadsPages}
+
+module _ {S : Type 0} (look : S → StoreView) (device : S → DeviceState) (seen : (s : S) → look s ≡ pairs_view (device s)) where
+  pub counts-held : (g : Counts) (p : Parts S) → counts_in (view_with look p).storage.accounts ≡ g → HasCounts g (Up p)
+  counts-held g p e = e
+
+  pub reads-pages : (g : Counts) (p : Parts S) → counts_in (view_with look p).storage.accounts ≡ g → IsRoomOfPages (view_with look p) → ReadsPages look device g (Up p)
+  reads-pages g p e room = (
+    room.free ∙ ap (λ (n : Counts). free_on n (standing_pages (look p.storage.0)) (state (view_with look p).storage) (memory_of (view_with look p))) e
+        ∙ ap (λ (v : StoreView). free_on g (standing_pages v) (state (view_with look p).storage) (memory_of (view_with look p))) (seen p.storage.0),
+    room.rubbish ∙ ap (λ (n : Counts). has_rubbish (pool_on n (standing_pages (look p.storage.0)))) e ∙ ap (λ (v : StoreView). has_rubbish (pool_on g (standing_pages v))) (seen p.storage.0),
+  )

@@ -1,0 +1,132 @@
+-- A server cleans its pages, or shows its files, and nothing else changes.
+use Rattle.std.proofs.Common.{◌≡◌, ℕ, zero, suc, Bool, true, false, not, List, [], ◌∷◌, ◌++◌, slice_get, take, Option, Some, None, is_some, refl, sym, ◌∙◌, ap, subst}
+use Rattle.std.specs.Prelude.{if◌then◌else◌}
+use Rattle.std.proofs.Math.Path.{fun_ext}
+use Rattle.jn_base.specs.declared.names.ServerNo.{ServerNo}
+use Rattle.jn_base.specs.declared.names.FileNo.{FileNo}
+use Rattle.jn_base.specs.declared.device.Outside.{Outside}
+use Rattle.jn_base.specs.Names.{server_eq}
+use Rattle.jn_device.specs.Device.{DeviceState}
+use Rattle.jn_found.specs.Pages.{found_on}
+use Rattle.jn_place.specs.declared.place.Place.{Place}
+use Rattle.jn_place.specs.declared.place.Slot.{Slot}
+use Rattle.jn_place.specs.declared.place.Slot.TheVariants.{Up, Down}
+use Rattle.jn_place.specs.Exact.{IsSpent, IsDoneAt, IsStoppedAt, idle_row}
+use Rattle.jn_protocol.specs.World.{World, Memory, at_server}
+use Rattle.jn_protocol.specs.Servers.{Room, server_step, of_step}
+use Rattle.jn_protocol.specs.Steps.{Step, StopWork, after, work, works}
+use Rattle.jn_recovery.specs.Loading.{counts_by}
+use Rattle.jn_report.specs.declared.line.Text.TheVariants as says
+use Rattle.jn_rests.specs.Waiting.{Carries}
+use Rattle.jn_rows.specs.declared.worker.Work.{Work}
+use Rattle.jn_rows.specs.Outcomes.{RowOutcome}
+use Rattle.jn_rows.specs.Stable.{StableState, Pick, Change, stable, made_all}
+use Rattle.jn_rows.specs.Worker.{going_work, going_row}
+use Rattle.jn_server.specs.Seen.{Parts, view_with, memory_of}
+use Rattle.jn_settling.specs.Course.{go_on}
+use Rattle.jn_storage.specs.Calls.{state}
+use Rattle.jn_store.specs.Pairs.{pairs_view}
+use Rattle.jn_store.specs.Store.{StoreView}
+use Rattle.jn_written.specs.Chances.{Setup, Chance}
+use Rattle.jn_written.specs.Deeds.{no_room}
+use Rattle.jn_server.specs.Standing.{free_on}
+use Rattle.jn_written.specs.Devices.{Devices, IsCalled, rubbish_on, pages_of}
+use Rattle.jn_written.specs.Runs.{Moment}
+use Rattle.jn_stands.specs.Pages.{HasCounts}
+use Rattle.jn_stands.specs.Stands.{Standing, StandsAt, Stands}
+use Rattle.jn_stands.proofs.Servers.{IsAlone}
+use Rattle.jn_stands.proofs.Moving.{same-server, carries-on, devices-now, device-here, device-there}
+
+-- ---- no change at all
+
+take-none : (n : ℕ) (y : StableState) → made_all (take n []) y ≡ y
+take-none zero y = refl
+take-none (suc n) y = refl
+
+none-taken : (changes : List Change) (y : StableState) → made_all (take 0 changes) y ≡ y
+none-taken [] y = refl
+none-taken (c ∷ changes) y = refl
+
+abbrev pub idle_room : Room
+idle_room = record no_room { rubbish = true }
+
+-- where a rubbish record is left, a server has something to do
+always-some : (k : Memory) (y : StableState) → is_some (server_step k y idle_room) ≡ true
+always-some k y = by (going_work y k.worker)
+  where
+    by : (o : Option Work) → is_some (of_step k (going_row k.worker (record { state = y; free = no_room.free; next = k.next; rubbish = true }) k.tickets o)) ≡ true
+    by (Some v) = refl
+    by None = refl
+
+-- it is stopped in that before any change
+stopped-works : (q : ServerNo) (v : World) (o : Option (RowOutcome Memory)) → is_some o ≡ true
+    → works q (Some (λ c. 0)) o v ≡ record v { memory = at_server v.memory q None; found = λ r c. if server_eq q r then v.found q c else v.found r c; lines = v.lines ++ says.Stopped q ∷ [] }
+stopped-works q v None e = absurd (cc e)
+stopped-works q v (Some row) e = ap (λ (f : Pick → StableState). record v { memory = at_server v.memory q None; found = λ r c. if server_eq q r then f c else v.found r c; lines = v.lines ++ says.Stopped q ∷ [] })
+    (fun_ext (λ c. none-taken row.changes (v.found q c)))
+
+module _ {S : Type 0} (look : S → StoreView) (device : S → DeviceState) (seen : (s : S) → look s ≡ pairs_view (device s)) (x : Setup) (w : Standing S) (m : Moment) (stand : Stands look device x w m)
+    (q : ServerNo) (place : Place S) (at : slice_get w.places q.0 ≡ Some place) (p : Parts S) (is : place.slot ≡ Up p) (told : List Outside) where
+  abbrev world : World
+  world = m.state.course.world
+
+  pub here : StandsAt look device (counts_by place.counts) (Up p) (world.memory q) (world.found q) (m.devices q)
+  here = let there = stand.places q.0 place at in subst (λ (slot : Slot S). StandsAt look device (counts_by place.counts) slot (world.memory q) (world.found q) (m.devices q)) is there.stands
+
+  abbrev mem : Memory
+  mem = memory_of (view_with look p)
+
+  -- what is free, where the step is stopped, and the files that are printed
+  abbrev pub idling : Option (Pick → ℕ) → List FileNo → Chance
+  idling stop files = record { free = free_on (x.counts q) (pages_of (m.devices q)) (stable (world.found q)) mem; rubbish = rubbish_on x m.devices; stop = stop; told = told; allows = true; finds = λ c. c; works = []; tids = []; files = files }
+
+  pub calling : (stop : Option (Pick → ℕ)) (files : List FileNo) (power : Bool) (e : DeviceState) → is_some stop ≡ not power → IsSpent told power (device p.storage.0) e
+      → IsCalled (idling stop files) (m.devices q) (devices-now look device x w m stand seen q place at e q)
+  calling stop files power e stops spent = subst (λ (d : DeviceState). IsCalled (idling stop files) d (devices-now look device x w m stand seen q place at e q)) (sym here.2)
+      (record { last = spent.last; calls = spent.calls; told = spent.told_is; stop = stops ∙ ap not (sym spent.power_is); after = device-here look device x w m stand seen q place at e ∙ spent.after })
+
+  -- ---- it is done
+
+  pub done-alone : (p' : Parts S) → IsDoneAt look device told (idle_row mem) p p' → HasCounts (counts_by place.counts) (Up p')
+      → (now : Moment) → now.state.course.world ≡ world → now.devices ≡ devices-now look device x w m stand seen q place at (device p'.storage.0) → IsAlone look device seen x w m stand now q (counts_by place.counts) (Up p')
+  done-alone p' e counts now same ds = record {
+    memory = λ r o. ap (λ (u : World). u.memory r) same;
+    found = λ r o. ap (λ (u : World). u.found r) same;
+    devices = λ r o. ap (λ (f : Devices). f r) ds ∙ device-there look device x w m stand seen q place at (device p'.storage.0) r o;
+    here = (
+      ap (λ (u : World). u.memory q) same ∙ here.0 ∙ ap (λ (k : Memory). Some k) (sym e.memory),
+      ap (λ (u : World). u.found q) same ∙ here.1 ∙ fun_ext (λ c. here.3 c ∙ sym (e.found c)),
+      ap (λ (f : Devices). f q) ds ∙ device-here look device x w m stand seen q place at (device p'.storage.0),
+      λ c. e.found c ∙ sym (e.found (λ n. false)),
+    );
+    counts = counts;
+  }
+
+  -- ---- it is stopped
+
+  abbrev pub stopping : Step
+  stopping = StopWork q idle_room (λ c. 0)
+
+  pub after-stop : after stopping world ≡ record world { memory = at_server world.memory q None; found = λ r c. if server_eq q r then world.found q c else world.found r c; lines = world.lines ++ says.Stopped q ∷ [] }
+  after-stop = ap (λ (o : Option Memory). work q idle_room (Some (λ c. 0)) o world) here.0 ∙ stopped-works q world (server_step mem (stable (world.found q)) idle_room) (always-some mem (stable (world.found q)))
+
+  pub stopped-alone : (s : S) → IsStoppedAt look device (counts_by place.counts) told (idle_row mem) p s
+      → (now : Moment) → now.state.course.world ≡ after stopping world → now.devices ≡ devices-now look device x w m stand seen q place at (device s) → IsAlone look device seen x w m stand now q (counts_by place.counts) (Down s)
+  stopped-alone s e now same ds = record {
+    memory = λ r o. ap (λ (u : World). u.memory r) (same ∙ after-stop) ∙ ap (λ (b : Bool). if b then None else world.memory r) o;
+    found = λ r o. ap (λ (u : World). u.found r) (same ∙ after-stop) ∙ fun_ext (λ c. ap (λ (b : Bool). if b then world.found q c else world.found r c) o);
+    devices = λ r o. ap (λ (f : Devices). f r) ds ∙ device-there look device x w m stand seen q place at (device s) r o;
+    here = (
+      ap (λ (u : World). u.memory q) (same ∙ after-stop) ∙ ap (λ (b : Bool). if b then None else world.memory q) (same-server q),
+      ap (λ (u : World). u.found q) (same ∙ after-stop) ∙ fun_ext (λ c. ap (λ (b : Bool). if b then world.found q c else world.found q c) (same-server q)
+          ∙ ap (λ (f : Pick → StableState). f c) here.1 ∙ here.3 c ∙ sym (found-there c)),
+      ap (λ (f : Devices). f q) ds ∙ device-here look device x w m stand seen q place at (device s),
+    );
+    counts = tt;
+  }
+    where
+      found-there : (c : Pick) → found_on (counts_by place.counts) (look s) c ≡ state (view_with look p).storage
+      found-there c = let some = e.some c in some.is_after ∙ take-none some.made (state (view_with look p).storage)
+
+  pub stop-carries : Carries w.net (go_on (stopping ∷ []) m.state.course)
+  stop-carries = carries-on w.net m.state.course stopping refl (ap (λ (u : World). u.sent) after-stop) stand.net

@@ -1,0 +1,195 @@
+-- A scrub and a show.
+use Rattle.std.proofs.Common.{◌≡◌, ℕ, Bool, true, false, List, [], ◌∷◌, ◌++◌, append-nil, drop, map, slice_get, slice_set, Option, Some, None, is_some, not, refl, sym, ◌∙◌, ap, subst}
+use Rattle.jn_base.specs.declared.names.ServerNo.{ServerNo}
+use Rattle.jn_base.specs.declared.names.FileNo.{FileNo}
+use Rattle.jn_base.specs.declared.names.LockUnit.TheVariants.{File}
+use Rattle.jn_base.specs.declared.device.Outside.{Outside}
+use Rattle.jn_base.specs.Names.{file_eq}
+use Rattle.jn_device.specs.Device.{DeviceState}
+use Rattle.jn_place.specs.declared.place.Place.{Place}
+use Rattle.jn_place.specs.declared.place.Slot.{Slot}
+use Rattle.jn_place.specs.declared.place.Slot.TheVariants.{Up, Down, Gone}
+use Rattle.jn_place.specs.Exact.{IsSpent, PrintsInRange, IsDoneAt, IsStoppedAt, IsStepOf, idle_row, ScrubbedBy, Prints, Showed, texts_of_step}
+use Rattle.jn_protocol.specs.World.{World, Memory}
+use Rattle.jn_protocol.specs.Steps.{AreNames}
+use Rattle.jn_protocol.specs.Printing.{prints_in, print_files, file_before, ArePrints}
+use Rattle.jn_recovery.specs.Loading.{counts_by}
+use Rattle.jn_report.specs.declared.line.Line.{Line}
+use Rattle.jn_report.specs.declared.line.Text.{Text}
+use Rattle.jn_report.specs.declared.line.Text.TheVariants as says
+use Rattle.jn_reported.specs.Printing.{text_printed}
+use Rattle.jn_rows.specs.Stable.{StableState, Pick, stable}
+use Rattle.jn_schedule.specs.declared.Event.TheVariants as events
+use Rattle.jn_server.specs.declared.show.Shown.{Shown}
+use Rattle.jn_server.specs.Seen.{Parts, view_with, memory_of}
+use Rattle.jn_server.specs.Showing.{print_of}
+use Rattle.jn_settling.specs.Course.{go_on}
+use Rattle.jn_storage.specs.Calls.{state}
+use Rattle.jn_store.specs.Pairs.{pairs_view}
+use Rattle.jn_store.specs.Store.{StoreView}
+use Rattle.jn_written.specs.Chances.{Setup, Chance}
+use Rattle.jn_written.specs.Deeds.{Reads, Deed, served, blocks_from, shown}
+use Rattle.jn_written.specs.Devices.{Alone, IsServed, IsLookedOver}
+use Rattle.jn_written.specs.Runs.{Moment}
+use Rattle.jn_written.specs.Steps.{lines_at}
+use Rattle.jn_written.specs.Tasks.{Task, when_of}
+use Rattle.jn_stands.specs.Showing.{text_shown, texts_shown}
+use Rattle.jn_stands.specs.Stands.{Standing, Stands}
+use Rattle.jn_stands.specs.Pages.{HasCounts}
+use Rattle.jn_stands.specs.Going.{ActsNext, IsStepTo}
+use Rattle.jn_stands.proofs.Posted.{lines-in-two}
+use Rattle.jn_stands.proofs.Printed.{prints-all}
+use Rattle.jn_stands.proofs.Moving.{does-next, led-to, net-quiet, devices-now, device-there, moved-step}
+use Rattle.jn_stands.proofs.Idle.{here, idling, calling, done-alone, stopping, after-stop, stopped-alone, stop-carries}
+
+shown-texts : (q : ServerNo) (list : List Shown) → map (text_printed q) (map print_of list) ≡ map (text_shown q) list
+shown-texts q [] = refl
+shown-texts q (one ∷ list) = ap (λ (texts : List Text). text_shown q one ∷ texts) (shown-texts q list)
+
+module _ {S : Type 0} (look : S → StoreView) (device : S → DeviceState) (seen : (s : S) → look s ≡ pairs_view (device s)) (x : Setup) (w : Standing S) (m : Moment) (stand : Stands look device x w m)
+    (q : ServerNo) (place : Place S) (at : slice_get w.places q.0 ≡ Some place) (more : List Task) (lines : List Line) where
+  abbrev world : World
+  world = m.state.course.world
+
+  abbrev standing : Slot S → Standing S
+  standing slot = record w { places = slice_set w.places q.0 (record place { slot = slot }) }
+
+  module _ (p : Parts S) (is : place.slot ≡ Up p) where
+    abbrev mem : Memory
+    mem = memory_of (view_with look p)
+
+    called : (told : List Outside) (stop : Option (Pick → ℕ)) (power : Bool) (e : DeviceState) → is_some stop ≡ not power → IsSpent told power (device p.storage.0) e
+        → Alone q (IsServed (x.counts q) (idling look device seen x w m stand q place at p is told stop []) world q) m.devices (devices-now look device x w m stand seen q place at e)
+    called told stop power e stops spent = record {
+      its = record { memory = mem; up = let h = here look device seen x w m stand q place at p is told in h.0; free = refl; called = calling look device seen x w m stand q place at p is told stop [] power e stops spent };
+      others = λ r o. device-there look device x w m stand seen q place at e r o;
+    }
+
+    -- ---- a scrub
+
+    scrub-done : (told : List Outside) (p' : Parts S) → IsDoneAt look device told (idle_row mem) p p' → HasCounts (counts_by place.counts) (Up p') → ActsNext x m (events.Scrub q) more
+        → IsStepTo look device x m (more ++ drop 1 m.state.tasks) (standing (Up p')) lines (lines ++ lines_at (when_of m.state) (texts_of_step q told true))
+    scrub-done told p' e counts next = moved-step look device x w m stand seen q place at (idling look device seen x w m stand q place at p is told None []) (λ r. refl) (record (served q []) { tasks = more })
+        (does-next x m (events.Scrub q) more next (idling look device seen x w m stand q place at p is told None []) (λ r. refl) (served q []) refl) refl
+        (Up p') (device p'.storage.0) [] w.named w.commits
+        (done-alone look device seen x w m stand q place at p is told p' e counts (led-to x m (idling look device seen x w m stand q place at p is told None []) (record (served q []) { tasks = more }) (devices-now look device x w m stand seen q place at (device p'.storage.0))) refl refl)
+        refl (record { net = stand.net; named = stand.named; commits = stand.commits }) (sym (append-nil world.lines)) refl tt
+        (called told None true (device p'.storage.0) refl e.spent)
+        lines (lines ++ lines_at (when_of m.state) (texts_of_step q told true)) (ap (λ (ts : List Text). lines ++ lines_at (when_of m.state) ts) (sym (append-nil (texts_of_step q told true))))
+
+    scrub-stopped : (told : List Outside) (s : S) → IsStoppedAt look device (counts_by place.counts) told (idle_row mem) p s → ActsNext x m (events.Scrub q) more
+        → IsStepTo look device x m (more ++ drop 1 m.state.tasks) (standing (Down s)) lines (lines ++ lines_at (when_of m.state) (texts_of_step q told false))
+    scrub-stopped told s e next = moved-step look device x w m stand seen q place at (idling look device seen x w m stand q place at p is told (Some (λ c. 0)) []) (λ r. refl)
+        (record (served q (stopping look device seen x w m stand q place at p is told ∷ [])) { tasks = more })
+        (does-next x m (events.Scrub q) more next (idling look device seen x w m stand q place at p is told (Some (λ c. 0)) []) (λ r. refl) (served q (stopping look device seen x w m stand q place at p is told ∷ [])) refl) refl
+        (Down s) (device s) (says.Stopped q ∷ []) w.named w.commits
+        (stopped-alone look device seen x w m stand q place at p is told s e
+        (led-to x m (idling look device seen x w m stand q place at p is told (Some (λ c. 0)) []) (record (served q (stopping look device seen x w m stand q place at p is told ∷ [])) { tasks = more }) (devices-now look device x w m stand seen q place at (device s))) refl refl)
+        (ap (λ (u : World). u.clients) (after-stop look device seen x w m stand q place at p is told))
+        (net-quiet look device x w m stand (go_on (stopping look device seen x w m stand q place at p is told ∷ []) m.state.course) (says.Stopped q ∷ []) (stop-carries look device seen x w m stand q place at p is told)
+        (ap (λ (u : World). u.lines) (after-stop look device seen x w m stand q place at p is told)) refl)
+        (ap (λ (u : World). u.lines) (after-stop look device seen x w m stand q place at p is told)) (ap (λ (u : World). u.sent) (after-stop look device seen x w m stand q place at p is told)) (tt, tt)
+        (called told (Some (λ c. 0)) false (device s) refl e.spent)
+        lines (lines ++ lines_at (when_of m.state) (texts_of_step q told false)) (ap (λ (ts : List Text). lines ++ lines_at (when_of m.state) ts) (sym (append-nil (texts_of_step q told false))))
+
+    -- ---- a show
+
+    reading : (told : List Outside) (stop : Option (Pick → ℕ)) (files : List FileNo) (power : Bool) (e : DeviceState) → is_some stop ≡ not power → IsSpent told power (device p.storage.0) e
+        → (stop ≡ None → AreNames file_eq file_before (λ f. prints_in mem.worker (stable (world.found q)).files (File f)) files)
+        → Alone q (IsLookedOver (idling look device seen x w m stand q place at p is told stop files) world q) m.devices (devices-now look device x w m stand seen q place at e)
+    reading told stop files power e stops spent names = record {
+      its = record { memory = mem; up = let h = here look device seen x w m stand q place at p is told in h.0; files = names; called = calling look device seen x w m stand q place at p is told stop files power e stops spent };
+      others = λ r o. device-there look device x w m stand seen q place at e r o;
+    }
+
+    show-done : (told : List Outside) (list : List Shown) (prints : ArePrints (prints_in mem.worker (state (view_with look p).storage).files) (map print_of list)) → PrintsInRange (view_with look p)
+        → (p' : Parts S) → IsDoneAt look device told (idle_row mem) p p' → HasCounts (counts_by place.counts) (Up p') → ActsNext x m (events.Show q) more
+        → IsStepTo look device x m (more ++ drop 1 m.state.tasks) (standing (Up p')) lines (lines ++ lines_at (when_of m.state) (texts_of_step q told true) ++ lines_at (when_of m.state) (map (text_shown q) list))
+    show-done told list prints below p' e counts next = moved-step look device x w m stand seen q place at h (λ r. refl) (record deed { tasks = more })
+        (does-next x m (events.Show q) more next h (λ r. refl) deed (ap (λ (texts : List Text). record (served q []) { device = Reads q; texts = texts }) texts-are)) refl
+        (Up p') (device p'.storage.0) [] w.named w.commits
+        (done-alone look device seen x w m stand q place at p is told p' e counts (led-to x m h (record deed { tasks = more }) (devices-now look device x w m stand seen q place at (device p'.storage.0))) refl refl)
+        refl (record { net = stand.net; named = stand.named; commits = stand.commits }) (sym (append-nil world.lines)) refl tt
+        (reading told None prints.files true (device p'.storage.0) refl e.spent
+        (λ z. subst (λ (f : Pick → StableState). AreNames file_eq file_before (λ g. prints_in mem.worker (stable f).files (File g)) prints.files) (sym found-is) prints.are_files))
+        lines (lines ++ lines_at (when_of m.state) (texts_of_step q told true) ++ lines_at (when_of m.state) (map (text_shown q) list)) (lines-in-two (when_of m.state) lines (texts_of_step q told true) (map (text_shown q) list))
+      where
+        h : Chance
+        h = idling look device seen x w m stand q place at p is told None prints.files
+
+        deed : Deed
+        deed = record (served q []) { device = Reads q; texts = map (text_shown q) list }
+
+        memory-is : world.memory q ≡ Some mem
+        memory-is = let at-here = here look device seen x w m stand q place at p is told in at-here.0
+
+        found-is : world.found q ≡ (view_with look p).storage.found
+        found-is = let at-here = here look device seen x w m stand q place at p is told in at-here.1
+
+        texts-are : shown h q world (world.memory q) None ≡ map (text_shown q) list
+        texts-are = ap (λ (o : Option Memory). shown h q world o None) memory-is
+            ∙ ap (λ (f : Pick → StableState). map (text_printed q) (print_files (prints_in mem.worker (stable f).files) (λ g. blocks_from 0 120) prints.files)) found-is
+            ∙ ap (map (text_printed q)) (sym (prints-all mem.worker (state (view_with look p).storage).files 120 below (map print_of list) prints))
+            ∙ shown-texts q list
+
+    show-stopped : (told : List Outside) (s : S) → IsStoppedAt look device (counts_by place.counts) told (idle_row mem) p s → ActsNext x m (events.Show q) more
+        → IsStepTo look device x m (more ++ drop 1 m.state.tasks) (standing (Down s)) lines (lines ++ lines_at (when_of m.state) (texts_of_step q told false))
+    show-stopped told s e next = moved-step look device x w m stand seen q place at h (λ r. refl) (record deed { tasks = more })
+        (does-next x m (events.Show q) more next h (λ r. refl) deed (ap (λ (o : Option Memory). record (served q (stopping look device seen x w m stand q place at p is told ∷ [])) { device = Reads q; texts = shown h q world o (Some (λ c. 0)) }) memory-is)) refl
+        (Down s) (device s) (says.Stopped q ∷ []) w.named w.commits
+        (stopped-alone look device seen x w m stand q place at p is told s e (led-to x m h (record deed { tasks = more }) (devices-now look device x w m stand seen q place at (device s))) refl refl)
+        (ap (λ (u : World). u.clients) (after-stop look device seen x w m stand q place at p is told))
+        (net-quiet look device x w m stand (go_on (stopping look device seen x w m stand q place at p is told ∷ []) m.state.course) (says.Stopped q ∷ []) (stop-carries look device seen x w m stand q place at p is told)
+        (ap (λ (u : World). u.lines) (after-stop look device seen x w m stand q place at p is told)) refl)
+        (ap (λ (u : World). u.lines) (after-stop look device seen x w m stand q place at p is told)) (ap (λ (u : World). u.sent) (after-stop look device seen x w m stand q place at p is told)) (tt, tt)
+        (reading told (Some (λ c. 0)) [] false (device s) refl e.spent (λ z. absurd (cc z)))
+        lines (lines ++ lines_at (when_of m.state) (texts_of_step q told false)) (ap (λ (ts : List Text). lines ++ lines_at (when_of m.state) ts) (sym (append-nil (texts_of_step q told false))))
+      where
+        h : Chance
+        h = idling look device seen x w m stand q place at p is told (Some (λ c. 0)) []
+
+        deed : Deed
+        deed = record (served q (stopping look device seen x w m stand q place at p is told ∷ [])) { device = Reads q }
+
+        memory-is : world.memory q ≡ Some mem
+        memory-is = let at-here = here look device seen x w m stand q place at p is told in at-here.0
+
+  -- ---- done or stopped
+
+  module _ (lines' : List Line) where
+    pub scrubbed-step : (done : Bool) (slot : Slot S) → ScrubbedBy look device q (counts_by place.counts) (when_of m.state) place.slot done slot lines lines' → HasCounts (counts_by place.counts) slot → ActsNext x m (events.Scrub q) more
+        → IsStepTo look device x m (more ++ drop 1 m.state.tasks) (standing slot) lines lines'
+    scrubbed-step done slot scrubbed counts next = by place.slot refl scrubbed
+      where
+        from : (p : Parts S) → place.slot ≡ Up p → (done : Bool) (slot : Slot S) → HasCounts (counts_by place.counts) slot
+            → IsStepOf look device q (counts_by place.counts) (when_of m.state) (idle_row (memory_of (view_with look p))) (Up p) done slot lines lines' → IsStepTo look device x m (more ++ drop 1 m.state.tasks) (standing slot) lines lines'
+        from p is true (Up p') k s = subst (λ (ls : List Line). IsStepTo look device x m (more ++ drop 1 m.state.tasks) (standing (Up p')) lines ls) (sym s.lines_are) (scrub-done p is s.told p' s.ends k next)
+        from p is false (Down t) k s = subst (λ (ls : List Line). IsStepTo look device x m (more ++ drop 1 m.state.tasks) (standing (Down t)) lines ls) (sym s.lines_are) (scrub-stopped p is s.told t s.ends next)
+        from p is done slot k s = absurd s.ends
+
+        by : (before : Slot S) → place.slot ≡ before → ScrubbedBy look device q (counts_by place.counts) (when_of m.state) before done slot lines lines' → IsStepTo look device x m (more ++ drop 1 m.state.tasks) (standing slot) lines lines'
+        by (Up p) is s = from p is done slot counts s
+        by (Down t) is s = absurd s
+        by Gone is s = absurd s
+
+    -- the code tells what was shown behind the faults
+    pub showed-step : (list : Option (List Shown)) (slot : Slot S) → Showed look device q (counts_by place.counts) (when_of m.state) place.slot list slot lines lines' → HasCounts (counts_by place.counts) slot → ActsNext x m (events.Show q) more
+        → IsStepTo look device x m (more ++ drop 1 m.state.tasks) (standing slot) lines (lines' ++ lines_at (when_of m.state) (texts_shown q list))
+    showed-step list slot showed counts next = by place.slot refl showed
+      where
+        from : (p : Parts S) → place.slot ≡ Up p → (list : Option (List Shown)) (slot : Slot S) → HasCounts (counts_by place.counts) slot → Prints (view_with look p) list
+            → IsStepOf look device q (counts_by place.counts) (when_of m.state) (idle_row (memory_of (view_with look p))) (Up p) (is_some list) slot lines lines'
+            → IsStepTo look device x m (more ++ drop 1 m.state.tasks) (standing slot) lines (lines' ++ lines_at (when_of m.state) (texts_shown q list))
+        from p is (Some list) (Up p') k prints s = subst (λ (ls : List Line). IsStepTo look device x m (more ++ drop 1 m.state.tasks) (standing (Up p')) lines (ls ++ lines_at (when_of m.state) (map (text_shown q) list))) (sym s.lines_are)
+            (show-done p is s.told list prints.0 prints.1 p' s.ends k next)
+        from p is None (Down t) k prints s = subst (λ (ls : List Line). IsStepTo look device x m (more ++ drop 1 m.state.tasks) (standing (Down t)) lines ls) (sym s.lines_are ∙ sym (append-nil lines')) (show-stopped p is s.told t s.ends next)
+        from p is (Some list) (Down t) k prints s = absurd s.ends
+        from p is (Some list) Gone k prints s = absurd s.ends
+        from p is None (Up p') k prints s = absurd s.ends
+        from p is None Gone k prints s = absurd s.ends
+
+        by : (before : Slot S) → place.slot ≡ before → Showed look device q (counts_by place.counts) (when_of m.state) before list slot lines lines'
+            → IsStepTo look device x m (more ++ drop 1 m.state.tasks) (standing slot) lines (lines' ++ lines_at (when_of m.state) (texts_shown q list))
+        by (Up p) is s = from p is list slot counts s.1 s.0
+        by (Down t) is s = absurd s
+        by Gone is s = absurd s

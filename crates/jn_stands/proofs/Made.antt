@@ -1,0 +1,123 @@
+-- A step that is made, or that cuts the run short.
+use Rattle.std.proofs.Common.{◌≡◌, ◌≤◌, ◌<◌, ℕ, Bool, true, false, List, [], ◌++◌, length, append-nil, drop, Some, None, refl, sym, ◌∙◌, ap, subst, arith}
+use Rattle.std.specs.Prelude.{◌||◌, nat_lt, if◌then◌else◌}
+use Rattle.std.proofs.Math.Seq.{drop-length}
+use Rattle.std.proofs.lemmas.List.{length-map}
+use Rattle.std.proofs.lemmas.Bool.Decides.{nat_tests}
+use Rattle.jn_device.specs.Device.{DeviceState}
+use Rattle.jn_net.specs.declared.Sent.{Sent as Posted}
+use Rattle.jn_report.specs.declared.line.Line.{Line}
+use Rattle.jn_report.specs.declared.line.Text.{Text}
+use Rattle.jn_store.specs.Store.{StoreView}
+use Rattle.jn_protocol.specs.World.{World}
+use Rattle.jn_settling.specs.Course.{Course, go_on}
+use Rattle.jn_rests.specs.Waiting.{sent_of}
+use Rattle.jn_written.specs.Chances.{Setup, Chance}
+use Rattle.jn_written.specs.Tasks.{Task, State, when_of, next_task, begun}
+use Rattle.jn_rows.specs.Outcomes.{Sent}
+use Rattle.jn_written.specs.Deeds.{Nothing, Deed}
+use Rattle.jn_written.specs.Events.{deed_of}
+use Rattle.jn_written.specs.Steps.{message_texts, traced, texts_of, lines_at, is_too_much, come_to, cut_short, made_to}
+use Rattle.jn_written.specs.Devices.{Devices, Befalls, rubbish_on}
+use Rattle.jn_written.specs.Runs.{Moment, Leads, none, more}
+use Rattle.jn_stands.specs.Stands.{Standing, Stands}
+use Rattle.jn_stands.specs.Going.{IsStepTo}
+
+-- a chance of which no step asks anything more
+abbrev pub quiet_chance : Setup → Devices → Chance
+quiet_chance x ds = record {
+  free = record { records = 0; heads = 0; pages = 0 };
+  rubbish = rubbish_on x ds;
+  stop = None;
+  told = [];
+  allows = true;
+  finds = λ c. c;
+  works = [];
+  tids = [];
+  files = [];
+}
+
+-- ---- the step
+
+-- a task with its deed, and where it leads to
+pub record Makes (x : Setup) (m : Moment) (h : Chance) (deed : Deed) (s : State) (c : Course) (es : Devices) : Type 0 where
+  pub task : Task
+  pub next : next_task m.state ≡ Some task
+  pub deed_is : deed_of x h task m.state ≡ deed
+  pub begun_is : begun task m.state ≡ s
+  pub course : go_on deed.steps s.course ≡ c
+  pub befalls : Befalls x h deed m.state.course.world m.devices es
+
+pub one-step : (x : Setup) (m : Moment) (h : Chance) (deed : Deed) (s : State) (c : Course) (es : Devices) → Makes x m h deed s c es → Leads x m (record { state = made_to x h deed c s; devices = es })
+one-step x m h deed s c es k = more m (record { state = made_to x h deed c s; devices = es }) (record { state = made_to x h deed c s; devices = es }) (record {
+  chance = h;
+  task = k.task;
+  task_is = k.next;
+  state_is = sym (ap (λ (d : Deed). made_to x h d (go_on d.steps (begun k.task m.state).course) (begun k.task m.state)) k.deed_is
+      ∙ ap (λ (t : State). made_to x h deed (go_on deed.steps t.course) t) k.begun_is ∙ ap (λ (d : Course). made_to x h deed d s) k.course);
+  befalls = subst (λ (d : Deed). Befalls x h d m.state.course.world m.devices es) (sym k.deed_is) k.befalls;
+}) (none (record { state = made_to x h deed c s; devices = es }))
+
+pub made-leads : (x : Setup) (m : Moment) (h : Chance) (deed : Deed) (s : State) (c : Course) (es : Devices) → Makes x m h deed s c es → is_too_much deed c ≡ false → Leads x m (record { state = come_to x h deed c s; devices = es })
+made-leads x m h deed s c es k e = subst (λ (b : Bool). Leads x m (record { state = if b then cut_short s else come_to x h deed c s; devices = es })) e (one-step x m h deed s c es k)
+
+pub made-cuts : (x : Setup) (m : Moment) (h : Chance) (deed : Deed) (s : State) (c : Course) (es : Devices) → Makes x m h deed s c es → is_too_much deed c ≡ true → Leads x m (record { state = cut_short s; devices = es })
+made-cuts x m h deed s c es k e = subst (λ (b : Bool). Leads x m (record { state = if b then cut_short s else come_to x h deed c s; devices = es })) e (one-step x m h deed s c es k)
+
+-- ---- how much was sent
+
+pub carried-length : (sent : List Posted) (c : Course) → c.world.sent ≡ sent_of sent → length c.world.sent ≡ length sent
+carried-length sent c e = ap length e ∙ length-map sent (λ (m : Posted). (m.to, m.message))
+
+pub not-too-much : (deed : Deed) (c : Course) (n : ℕ) → deed.cuts ≡ false → length c.world.sent ≡ n → n ≤ 1000000 → is_too_much deed c ≡ false
+not-too-much deed c n e l h = ap (λ (b : Bool). b || nat_lt 1000000 (length c.world.sent)) e ∙ ap (nat_lt 1000000) l ∙ small n h
+  where
+    small : (n : ℕ) → n ≤ 1000000 → nat_lt 1000000 n ≡ false
+    small n h = grind (arith, nat_tests)
+
+pub too-much : (deed : Deed) (c : Course) (n : ℕ) → deed.cuts ≡ false → length c.world.sent ≡ n → 1000000 < n → is_too_much deed c ≡ true
+too-much deed c n e l h = ap (λ (b : Bool). b || nat_lt 1000000 (length c.world.sent)) e ∙ ap (nat_lt 1000000) l ∙ large n h
+  where
+    large : (n : ℕ) → 1000000 < n → nat_lt 1000000 n ≡ true
+    large n h = grind (arith, nat_tests)
+
+-- ---- where the code stands afterwards
+
+module _ {S : Type 0} (look : S → StoreView) (device : S → DeviceState) where
+  pub made-step : (x : Setup) (m : Moment) (h : Chance) (deed : Deed) (c : Course) (es : Devices) (rest : List Task) (w' : Standing S) (lines lines' : List Line)
+      → Makes x m h deed (record m.state { tasks = drop 1 m.state.tasks }) c es → deed.cuts ≡ false
+      → Stands look device x w' (record { state = come_to x h deed c (record m.state { tasks = drop 1 m.state.tasks }); devices = es })
+      → deed.tasks ++ drop 1 m.state.tasks ≡ rest
+      → lines' ≡ lines ++ lines_at (when_of m.state) (texts_of x h deed m.state.course.world c.world)
+      → IsStepTo look device x m rest w' lines lines'
+  made-step x m h deed c es rest w' lines lines' k cuts stands tasks told = record {
+    done = λ few. record {
+      last = record { state = come_to x h deed c s; devices = es };
+      leads = made-leads x m h deed s c es k (not-too-much deed c (length w'.net.sent) cuts (carried-length w'.net.sent c stands.net.sent) few);
+      stands = stands;
+      tasks = tasks;
+      stage = refl;
+      told = record { new = lines_at (when_of m.state) (texts_of x h deed m.state.course.world c.world); here = told; there = refl };
+    };
+    cut = λ many. record {
+      last = record { state = cut_short s; devices = es };
+      leads = made-cuts x m h deed s c es k (too-much deed c (length w'.net.sent) cuts (carried-length w'.net.sent c stands.net.sent) many);
+      stage = refl;
+      told = record { new = []; here = sym (append-nil lines); there = sym (append-nil m.state.lines) };
+    };
+  }
+    where
+      s : State
+      s = record m.state { tasks = drop 1 m.state.tasks }
+
+-- ---- what a step tells in a world that stays
+
+pub quiet-texts : (x : Setup) (h : Chance) (deed : Deed) (w : World) → texts_of x h (record deed { device = Nothing }) w w ≡ deed.texts
+quiet-texts x h deed w = ap (λ (own : List Text). own ++ deed.texts ++ traced x.trace (message_texts deed.actor (length w.sent) (drop (length w.sent) w.sent))) (drop-length w.lines)
+    ∙ ap (λ (sent : List Sent). deed.texts ++ traced x.trace (message_texts deed.actor (length w.sent) sent)) (drop-length w.sent)
+    ∙ ap (λ (texts : List Text). deed.texts ++ texts) (nothing-traced x.trace)
+    ∙ append-nil deed.texts
+  where
+    nothing-traced : (trace : Bool) → traced trace [] ≡ []
+    nothing-traced true = refl
+    nothing-traced false = refl

@@ -1,0 +1,132 @@
+-- A server comes up, or is stopped while it does.
+use Rattle.std.proofs.Common.{◌≡◌, ◌<◌, ℕ, ◌+◌, Bool, true, false, not, List, [], ◌∷◌, ◌++◌, append-nil, drop, length, map, slice_get, slice_set, Option, Some, None, is_some, refl, sym, ◌∙◌, ap, subst, arith}
+use Rattle.std.specs.Prelude.{◌||◌, if◌then◌else◌, nat_eq}
+use Rattle.std.proofs.Math.Path.{fun_ext}
+use Rattle.std.proofs.lemmas.Bool.Decides.{nat_tests}
+use Rattle.jn_base.specs.declared.names.ServerNo.{ServerNo}
+use Rattle.jn_base.specs.declared.names.Tid.{Tid}
+use Rattle.jn_base.specs.declared.names.WorkId.{WorkId}
+use Rattle.jn_base.specs.declared.device.Outside.{Outside}
+use Rattle.jn_base.specs.Names.{tid_eq, work_eq}
+use Rattle.jn_device.specs.Device.{DeviceState}
+use Rattle.jn_device.specs.Events.{powered_off}
+use Rattle.jn_found.specs.Pages.{found_on}
+use Rattle.jn_locks.specs.Locks.{work_before}
+use Rattle.jn_machine.specs.Steps.{with_epoch}
+use Rattle.jn_place.specs.declared.place.Place.{Place}
+use Rattle.jn_place.specs.declared.place.Slot.{Slot}
+use Rattle.jn_place.specs.declared.place.Slot.TheVariants.{Up, Down}
+use Rattle.jn_place.specs.Exact.{IsTried, IsUpAt, texts_of_step}
+use Rattle.jn_protocol.specs.World.{World, Memory, commits_in, has_line}
+use Rattle.jn_protocol.specs.Servers.{restored, named_now}
+use Rattle.jn_protocol.specs.Steps.{Restart, AreNames, tid_before, restart, restart_with}
+use Rattle.jn_recovery.specs.Loading.{counts_by}
+use Rattle.jn_report.specs.declared.line.Line.{Line}
+use Rattle.jn_report.specs.declared.line.Text.{Text}
+use Rattle.jn_report.specs.declared.line.Text.TheVariants as says
+use Rattle.jn_rows.specs.Stable.{StableState, Pick}
+use Rattle.jn_server.specs.Seen.{Parts}
+use Rattle.jn_settling.specs.Course.{go_on}
+use Rattle.jn_store.specs.Pairs.{pairs_view}
+use Rattle.jn_store.specs.Store.{StoreView}
+use Rattle.jn_written.specs.Chances.{Setup, Chance}
+use Rattle.jn_written.specs.Deeds.{Deed, recovered, last_epoch, is_used_up}
+use Rattle.jn_written.specs.Devices.{IsRecovery, rubbish_on}
+use Rattle.jn_written.specs.Runs.{Moment}
+use Rattle.jn_written.specs.Steps.{lines_at}
+use Rattle.jn_written.specs.Tasks.{when_of}
+use Rattle.jn_stands.specs.Naming.{names_told}
+use Rattle.jn_stands.specs.Pages.{HasCounts}
+use Rattle.jn_stands.specs.Stands.{Standing, StandsAt, Stands, with_named}
+use Rattle.jn_stands.specs.Going.{IsStepTo}
+use Rattle.jn_stands.proofs.Naming.{told-names}
+use Rattle.jn_stands.proofs.Posted.{lines-in-two}
+use Rattle.jn_stands.proofs.Moving.{same-server, carries-on, Does, net-named, devices-now, device-here, device-there, moved-step}
+
+-- what a restart tells its device
+pub recovery : (h : Chance) (up : Bool) (told : List Outside) (power : Bool) (d e f : DeviceState) → h.told ≡ told → is_some h.stop ≡ not power → IsTried told power d e → f ≡ (if up then e else powered_off e) → IsRecovery h up d f
+recovery h up told power d e f told-is stop tried f-is = record {
+  powered = tried.powered;
+  last = e;
+  power = tried.up;
+  called = record { last = tried.spent.last; calls = tried.spent.calls; told = told-is ∙ tried.spent.told_is; stop = stop ∙ ap not (sym tried.spent.power_is); after = tried.spent.after };
+  after = f-is;
+}
+
+module _ {S : Type 0} (look : S → StoreView) (device : S → DeviceState) (seen : (s : S) → look s ≡ pairs_view (device s)) (x : Setup) (w : Standing S) (m : Moment) (stand : Stands look device x w m)
+    (q : ServerNo) (place : Place S) (at : slice_get w.places q.0 ≡ Some place) (s : S) (is : place.slot ≡ Down s) (told : List Outside) where
+  abbrev world : World
+  world = m.state.course.world
+
+  pub here : StandsAt look device (counts_by place.counts) (Down s) (world.memory q) (world.found q) (m.devices q)
+  here = let there = stand.places q.0 place at in subst (λ (slot : Slot S). StandsAt look device (counts_by place.counts) slot (world.memory q) (world.found q) (m.devices q)) is there.stands
+
+  -- what each pick found before
+  abbrev old : Pick → StableState
+  old = found_on (counts_by place.counts) (look s)
+
+  abbrev pub trying : (Pick → Pick) → Option (Pick → ℕ) → List WorkId → List Tid → Chance
+  trying finds stop works tids = record { free = record { records = 0; heads = 0; pages = 0 }; rubbish = rubbish_on x m.devices; stop = stop; told = told; allows = true; finds = finds; works = works; tids = tids; files = [] }
+
+  -- ---- it comes up
+
+  module _ (epoch : ℕ) (tids : List Tid) (p : Parts S) (up : IsUpAt look device q (counts_by place.counts) told s epoch tids p) where
+    abbrev pub up-chance : Chance
+    up-chance = trying (λ c. up.pick) None up.works tids
+
+    found-there : world.found q up.pick ≡ old up.pick
+    found-there = ap (λ (f : Pick → StableState). f up.pick) here.1
+
+    pub not-used-up : is_used_up up-chance q world ≡ false
+    not-used-up = ap (λ (y : StableState). nat_eq y.epoch last_epoch) found-there ∙ less (old up.pick).epoch up.before_last
+      where
+        less : (n : ℕ) → n < 4294967295 → nat_eq n 4294967295 ≡ false
+        less n h = grind (arith, nat_tests)
+
+    after-up : restart q up.pick up.works tids (world.memory q) world ≡ restart_with q (old up.pick) up.works tids world
+    after-up = ap (λ (o : Option Memory). restart q up.pick up.works tids o world) here.0 ∙ ap (λ (y : StableState). restart_with q y up.works tids world) found-there
+
+    abbrev own : List Text
+    own = says.Up q epoch ∷ named_now tids world.lines
+
+    after-lines : (restart q up.pick up.works tids (world.memory q) world).lines ≡ world.lines ++ own
+    after-lines = ap (λ (u : World). u.lines) after-up ∙ ap (λ (n : ℕ). world.lines ++ (says.Up q n ∷ named_now tids world.lines)) (sym up.epoch_is)
+
+    names-are : names_told tids w.named ≡ named_now tids world.lines
+    names-are = told-names tids world.lines w.named up.flag_names.rising (λ T e. stand.named T)
+
+    pub up-step : (deed : Deed) → deed ≡ record (recovered up-chance q) { tasks = deed.tasks } → Does x m up-chance deed → HasCounts (counts_by place.counts) (Up p)
+        → (lines lines' : List Line) → lines' ≡ lines ++ lines_at (when_of m.state) (texts_of_step q told true) ++ lines_at (when_of m.state) (says.Up q epoch ∷ names_told tids w.named)
+        → IsStepTo look device x m (deed.tasks ++ drop 1 m.state.tasks) (with_named (names_told tids w.named) (record w { places = slice_set w.places q.0 (record place { slot = Up p }) })) lines lines'
+    up-step deed deed-is does counts lines lines' lines-are =
+        subst (λ (texts : List Text). IsStepTo look device x m (deed.tasks ++ drop 1 m.state.tasks) (with_named texts (record w { places = slice_set w.places q.0 (record place { slot = Up p }) })) lines lines') (sym names-are)
+        (moved-step look device x w m stand seen q place at up-chance (λ s. refl) (record (recovered up-chance q) { tasks = deed.tasks }) (subst (λ (d : Deed). Does x m up-chance d) deed-is does) refl
+        (Up p) (device p.storage.0) own (λ T. has_line T own || w.named T) (w.commits + length (commits_in own))
+        (record {
+          memory = λ r o. ap (λ (u : World). u.memory r) after-up ∙ ap (λ (b : Bool). if b then Some (restored q (old up.pick) up.works tids) else world.memory r) o;
+          found = λ r o. ap (λ (u : World). u.found r) after-up ∙ fun_ext (λ c. ap (λ (b : Bool). if b then with_epoch (old up.pick) else world.found r c) o);
+          devices = λ r o. device-there look device x w m stand seen q place at (device p.storage.0) r o;
+          here = (
+            ap (λ (u : World). u.memory q) after-up ∙ ap (λ (b : Bool). if b then Some (restored q (old up.pick) up.works tids) else world.memory q) (same-server q) ∙ ap (λ (k : Memory). Some k) (sym up.remembers),
+            ap (λ (u : World). u.found q) after-up ∙ fun_ext (λ c. ap (λ (b : Bool). if b then with_epoch (old up.pick) else world.found q c) (same-server q) ∙ sym (up.finds c)),
+            device-here look device x w m stand seen q place at (device p.storage.0),
+            λ c. up.finds c ∙ sym (up.finds (λ n. false)),
+          );
+          counts = counts;
+        })
+        (ap (λ (u : World). u.clients) after-up)
+        (net-named look device x w m stand (go_on (Restart q up.pick up.works tids ∷ []) m.state.course) own (carries-on w.net m.state.course (Restart q up.pick up.works tids) refl (ap (λ (u : World). u.sent) after-up) stand.net) after-lines)
+        after-lines (ap (λ (u : World). u.sent) after-up)
+        ((subst (λ (y : StableState). AreNames work_eq work_before y.works up.works) (sym found-there) up.work_names, subst (λ (y : StableState). AreNames tid_eq tid_before y.flags tids) (sym found-there) up.flag_names), tt)
+        (record {
+          its = subst (λ (o : Option Memory). IsRecovery up-chance (is_some o) (m.devices q) (devices-now look device x w m stand seen q place at (device p.storage.0) q))
+              (sym (ap (λ (u : World). u.memory q) after-up ∙ ap (λ (b : Bool). if b then Some (restored q (old up.pick) up.works tids) else world.memory q) (same-server q)))
+              (recovery up-chance true told true (m.devices q) (device p.storage.0) (devices-now look device x w m stand seen q place at (device p.storage.0) q) refl refl
+              (subst (λ (d : DeviceState). IsTried told true d (device p.storage.0)) (sym here.2) up.tried) (device-here look device x w m stand seen q place at (device p.storage.0)));
+          others = λ r o. device-there look device x w m stand seen q place at (device p.storage.0) r o;
+        })
+        lines lines' (lines-are ∙ ap (λ (ts : List Text). lines ++ lines_at (when_of m.state) (texts_of_step q told true) ++ lines_at (when_of m.state) (says.Up q epoch ∷ ts)) names-are
+        ∙ lines-in-two (when_of m.state) lines (texts_of_step q told true) own ∙ ap (λ (ts : List Text). lines ++ lines_at (when_of m.state) ts) (texts own)))
+      where
+        texts : (more : List Text) → texts_of_step q told true ++ more ≡ map (λ (fault : Outside). says.Outside q fault) told ++ more ++ []
+        texts more = ap (λ (ts : List Text). ts ++ more) (append-nil (map (λ (fault : Outside). says.Outside q fault) told)) ∙ sym (append-nil (map (λ (fault : Outside). says.Outside q fault) told ++ more))

@@ -1,0 +1,132 @@
+-- Where the code's parts stand after a step of the system.
+use Rattle.std.proofs.Common.{◌≡◌, ◌⊎◌, inl, inr, ◌≢◌, ℕ, suc, ◌+◌, Bool, true, false, ◌<◌, List, ◌++◌, length, slice_get, slice_set, Option, Some, sym, ◌∙◌, ap, subst, arith}
+use Rattle.std.specs.Prelude.{◌||◌}
+use Rattle.std.proofs.lemmas.List.{length-set}
+use Rattle.jn_base.specs.declared.names.ServerNo.{ServerNo}
+use Rattle.jn_base.specs.declared.names.ClientNo.{ClientNo}
+use Rattle.jn_base.specs.Names.{server_eq}
+use Rattle.jn_base.proofs.Tells.{server_tells}
+use Rattle.jn_device.specs.Device.{DeviceState}
+use Rattle.jn_found.specs.Pages.{found_on}
+use Rattle.jn_net.specs.declared.Sent.{Sent as Posted}
+use Rattle.jn_place.specs.declared.place.Place.{Place}
+use Rattle.jn_place.specs.declared.place.Slot.{Slot}
+use Rattle.jn_place.specs.declared.place.Slot.TheVariants.{Up, Down, Gone}
+use Rattle.jn_protocol.specs.World.{World, Memory, commits_in, has_line}
+use Rattle.jn_protocol.specs.Steps.{Step, after}
+use Rattle.jn_records.specs.StablePages.{Counts}
+use Rattle.jn_recovery.specs.Loading.{counts_by}
+use Rattle.jn_report.specs.declared.line.Text.{Text}
+use Rattle.jn_rests.specs.Waiting.{sent_of, are_new, delivered_by}
+use Rattle.jn_rests.proofs.Numbers.{carries-step}
+use Rattle.jn_rows.specs.Client.{ClientTable}
+use Rattle.jn_rows.specs.Stable.{StableState, Pick}
+use Rattle.jn_settling.specs.Course.{go}
+use Rattle.jn_store.specs.Pairs.{pairs_view}
+use Rattle.jn_store.specs.Store.{StoreView}
+use Rattle.jn_written.specs.Chances.{Setup}
+use Rattle.jn_written.specs.Runs.{Moment}
+use Rattle.jn_stands.specs.Stands.{Standing, StandsAt, PlaceStands, Stands}
+use Rattle.jn_stands.specs.Pages.{HasCounts}
+use Rattle.jn_stands.proofs.Placed.{each-set}
+use Rattle.jn_stands.proofs.Lines.{line-append, count-append}
+use Rattle.jn_stands.proofs.Core.{ServersStand, ClientsStand, NetStands}
+
+module _ {S : Type 0} (look : S → StoreView) (device : S → DeviceState) (seen : (s : S) → look s ≡ pairs_view (device s)) (x : Setup) (w : Standing S) (m : Moment) (stand : Stands look device x w m) where
+  -- ---- servers
+
+  -- all servers are as they were
+  pub record AreSame (last : Moment) : Type 0 where
+    pub memory : (q : ServerNo) → last.state.course.world.memory q ≡ m.state.course.world.memory q
+    pub found : (q : ServerNo) → last.state.course.world.found q ≡ m.state.course.world.found q
+    pub devices : (q : ServerNo) → last.devices q ≡ m.devices q
+
+  -- at one server memory, what is found and the device are what stands there now
+  pub record IsAlone (last : Moment) (q : ServerNo) (g : Counts) (slot : Slot S) : Type 0 where
+    pub memory : (s : ServerNo) → server_eq q s ≡ false → last.state.course.world.memory s ≡ m.state.course.world.memory s
+    pub found : (s : ServerNo) → server_eq q s ≡ false → last.state.course.world.found s ≡ m.state.course.world.found s
+    pub devices : (s : ServerNo) → server_eq q s ≡ false → last.devices s ≡ m.devices s
+    pub here : StandsAt look device g slot (last.state.course.world.memory q) (last.state.course.world.found q) (last.devices q)
+    pub counts : HasCounts g slot
+
+  moved : (last : Moment) (n : ℕ) (p : Place S) → last.state.course.world.memory (record { 0 = n }) ≡ m.state.course.world.memory (record { 0 = n })
+      → last.state.course.world.found (record { 0 = n }) ≡ m.state.course.world.found (record { 0 = n }) → last.devices (record { 0 = n }) ≡ m.devices (record { 0 = n })
+      → PlaceStands look device x m n p → PlaceStands look device x last n p
+  moved last n p a b c old = record {
+    counts = old.counts;
+    stands = subst (λ (o : Option Memory). StandsAt look device (counts_by p.counts) p.slot o (last.state.course.world.found (record { 0 = n })) (last.devices (record { 0 = n }))) (sym a)
+        (subst (λ (f : Pick → StableState). StandsAt look device (counts_by p.counts) p.slot (m.state.course.world.memory (record { 0 = n })) f (last.devices (record { 0 = n }))) (sym b)
+        (subst (λ (d : DeviceState). StandsAt look device (counts_by p.counts) p.slot (m.state.course.world.memory (record { 0 = n })) (m.state.course.world.found (record { 0 = n })) d) (sym c) old.stands));
+  }
+
+  found-moved : (last : Moment) (q : ServerNo) (c : Pick) → last.state.course.world.found q ≡ m.state.course.world.found q → last.devices q ≡ m.devices q
+      → m.state.course.world.found q c ≡ found_on (x.counts q) (pairs_view (m.devices q)) c → last.state.course.world.found q c ≡ found_on (x.counts q) (pairs_view (last.devices q)) c
+  found-moved last q c a b old = ap (λ (f : Pick → StableState). f c) a ∙ old ∙ ap (λ (d : DeviceState). found_on (x.counts q) (pairs_view d) c) (sym b)
+
+  pub servers-same : (last : Moment) → AreSame last → ServersStand look device x w.places last
+  servers-same last same = record {
+    servers = stand.servers;
+    places = λ n p e. moved last n p (same.memory (record { 0 = n })) (same.found (record { 0 = n })) (same.devices (record { 0 = n })) (stand.places n p e);
+    found = λ q c l. found-moved last q c (same.found q) (same.devices q) (stand.found q c l);
+  }
+
+  found-here : (g : Counts) (slot : Slot S) (o : Option Memory) (f : Pick → StableState) (d : DeviceState) → StandsAt look device g slot o f d → HasCounts g slot → f ≡ found_on g (pairs_view d)
+  found-here g (Up p) o f d h k = h.1 ∙ ap (λ (n : Counts). found_on n (look p.storage.0)) k ∙ ap (found_on g) (seen p.storage.0) ∙ ap (λ (e : DeviceState). found_on g (pairs_view e)) (sym h.2)
+  found-here g (Down s) o f d h k = h.1 ∙ ap (found_on g) (seen s) ∙ ap (λ (e : DeviceState). found_on g (pairs_view e)) (sym h.2)
+  found-here g Gone o f d h k = absurd h
+
+  other-server : (q : ServerNo) (n : ℕ) → (q.0 ≡ n → ⊥) → server_eq q (record { 0 = n }) ≡ false
+  other-server q n d = by (server_tells q (record { 0 = n }))
+    where
+      by : ((server_eq q (record { 0 = n }) ≡ true) × (q ≡ record { 0 = n })) ⊎ ((server_eq q (record { 0 = n }) ≡ false) × (q ≢ record { 0 = n })) → server_eq q (record { 0 = n }) ≡ false
+      by (inl t) = absurd (d (ap (λ (s : ServerNo). s.0) t.1))
+      by (inr t) = t.0
+
+  pub server-moved : (last : Moment) (q : ServerNo) (p : Place S) (slot : Slot S) → slice_get w.places q.0 ≡ Some p → IsAlone last q (counts_by p.counts) slot
+      → ServersStand look device x (slice_set w.places q.0 (record p { slot = slot })) last
+  server-moved last q p slot at alone = record {
+    servers = length-set w.places q.0 (record p { slot = slot }) ∙ stand.servers;
+    places = each-set (PlaceStands look device x last) w.places q.0 (record p { slot = slot }) (record { counts = counts-are; stands = alone.here })
+        (λ n p other e. moved last n p (alone.memory (record { 0 = n }) (other-server q n other)) (alone.found (record { 0 = n }) (other-server q n other)) (alone.devices (record { 0 = n }) (other-server q n other)) (stand.places n p e));
+    found = λ s c l. found-at s c l (server_tells q s);
+  }
+    where
+      counts-are : x.counts q ≡ counts_by p.counts
+      counts-are = let there = stand.places q.0 p at in there.counts
+
+      found-at : (s : ServerNo) (c : Pick) → s.0 < x.servers → ((server_eq q s ≡ true) × (q ≡ s)) ⊎ ((server_eq q s ≡ false) × (q ≢ s)) → last.state.course.world.found s c ≡ found_on (x.counts s) (pairs_view (last.devices s)) c
+      found-at s c l (inr t) = found-moved last s c (alone.found s t.0) (alone.devices s t.0) (stand.found s c l)
+      found-at s c l (inl t) = subst (λ (r : ServerNo). last.state.course.world.found r c ≡ found_on (x.counts r) (pairs_view (last.devices r)) c) t.1
+          (ap (λ (f : Pick → StableState). f c) (found-here (counts_by p.counts) slot (last.state.course.world.memory q) (last.state.course.world.found q) (last.devices q) alone.here alone.counts)
+          ∙ ap (λ (g : Counts). found_on g (pairs_view (last.devices q)) c) (sym counts-are))
+
+  -- ---- clients
+
+  pub clients-same : (v : World) → v.clients ≡ m.state.course.world.clients → ClientsStand x w.clients v
+  clients-same v e = record {
+    eight = stand.eight;
+    clients = λ n t g. ap (λ (f : ClientNo → ClientTable). f (record { 0 = suc n })) e ∙ stand.clients n t g;
+    others = λ c o. ap (λ (f : ClientNo → ClientTable). f c) e ∙ stand.other_clients c o;
+  }
+
+  -- ---- the network, and what was named
+
+  -- what a step sends and tells
+  pub record Adds (step : Step) (more : List Posted) (texts : List Text) : Type 0 where
+    pub new : are_new more ≡ true
+    pub sent : (after step m.state.course.world).sent ≡ m.state.course.world.sent ++ sent_of more
+    pub lines : (after step m.state.course.world).lines ≡ m.state.course.world.lines ++ texts
+
+  pub net-moved : (step : Step) (more : List Posted) (texts : List Text) → Adds step more texts
+      → NetStands (record w.net { sent = delivered_by step w.net.sent ++ more }) (λ T. has_line T texts || w.named T) (w.commits + length (commits_in texts)) (go step m.state.course)
+  net-moved step more texts adds = record {
+    net = carries-step w.net m.state.course step more stand.net adds.new adds.sent;
+    named = λ T. turn (has_line T texts) (w.named T) ∙ ap (λ (b : Bool). b || has_line T texts) (stand.named T) ∙ sym (line-append T m.state.course.world.lines texts) ∙ ap (has_line T) (sym adds.lines);
+    commits = ap (λ (n : ℕ). n + length (commits_in texts)) stand.commits ∙ sym (count-append m.state.course.world.lines texts) ∙ ap (λ (ls : List Text). length (commits_in ls)) (sym adds.lines);
+  }
+    where
+      turn : (a b : Bool) → (a || b) ≡ (b || a)
+      turn a b = grind arith
+
+  pub net-same : NetStands w.net w.named w.commits m.state.course
+  net-same = record { net = stand.net; named = stand.named; commits = stand.commits }

@@ -1,0 +1,103 @@
+-- A server that is up takes a message.
+use Rattle.std.proofs.Common.{◌≡◌, ℕ, zero, suc, List, [], ◌∷◌, ◌++◌, length, slice_get, slice_set, drop, Option, Some, None, refl, ◌∙◌, ap}
+use Rattle.jn_base.specs.declared.names.ServerNo.{ServerNo}
+use Rattle.jn_base.specs.declared.names.Party.{Party}
+use Rattle.jn_base.specs.declared.names.Party.TheVariants.{Server}
+use Rattle.jn_base.specs.declared.device.Outside.{Outside}
+use Rattle.jn_device.specs.Device.{DeviceState}
+use Rattle.jn_msgs.specs.Collected.{Collected}
+use Rattle.jn_net.specs.declared.Sent.{Sent as Posted}
+use Rattle.jn_net.specs.Carried.{with_delivered}
+use Rattle.jn_place.specs.declared.place.Place.{Place}
+use Rattle.jn_place.specs.declared.place.Slot.{Slot}
+use Rattle.jn_place.specs.declared.place.Slot.TheVariants.{Up, Down, Gone}
+use Rattle.jn_place.specs.Exact.{Took}
+use Rattle.jn_protocol.specs.Servers.{Room, server_row}
+use Rattle.jn_protocol.specs.Steps.{IsStep, after, ends, at_memory, handed}
+use Rattle.jn_protocol.specs.World.{Memory}
+use Rattle.jn_recovery.specs.Loading.{counts_by}
+use Rattle.jn_report.specs.declared.line.Line.{Line}
+use Rattle.jn_rests.specs.Waiting.{sent_of, delivered_by}
+use Rattle.jn_rows.specs.Outcomes.{Sent}
+use Rattle.jn_rows.specs.Stable.{StableState, Pick, stable}
+use Rattle.jn_schedule.specs.declared.Event.TheVariants as events
+use Rattle.jn_server.specs.Seen.{Parts, view_with, memory_of, room_of}
+use Rattle.jn_settling.specs.Settle.{handing}
+use Rattle.jn_storage.specs.Calls.{state}
+use Rattle.jn_store.specs.Pairs.{pairs_view}
+use Rattle.jn_store.specs.Store.{StoreView}
+use Rattle.jn_written.specs.Chances.{Setup}
+use Rattle.jn_written.specs.Deeds.{served, delivered, delivered_at}
+use Rattle.jn_written.specs.Runs.{Moment}
+use Rattle.jn_written.specs.Steps.{lines_at}
+use Rattle.jn_written.specs.Tasks.{Task, when_of}
+use Rattle.jn_stands.specs.Stands.{Standing, Stands, texts_sent, with_answer}
+use Rattle.jn_stands.specs.Pages.{HasCounts, ReadsPages}
+use Rattle.jn_stands.specs.Going.{ActsNext, IsStepTo}
+use Rattle.jn_stands.proofs.Served.{chance, room-is, here}
+use Rattle.jn_stands.proofs.ServedSteps.{IsRowStep, row-step}
+
+pub sent-there : (ms : List Posted) (k : ℕ) (one : Posted) → slice_get ms k ≡ Some one → slice_get (sent_of ms) k ≡ Some (one.to, one.message)
+sent-there [] k one e = absurd (cc e)
+sent-there (m ∷ ms) zero one e = ap (λ (a : Posted). Some (a.to, a.message)) (some-of m one e)
+  where
+    some-of : (a b : Posted) → Some a ≡ Some b → a ≡ b
+    some-of a b e = cc
+sent-there (m ∷ ms) (suc k) one e = sent-there ms k one e
+
+module _ {S : Type 0} (look : S → StoreView) (device : S → DeviceState) (seen : (s : S) → look s ≡ pairs_view (device s)) (x : Setup) (w : Standing S) (m : Moment) (stand : Stands look device x w m)
+    (k : ℕ) (one : Posted) (posted : slice_get w.net.sent k ≡ Some one) where
+  -- the message as the machine has it
+  pub is-sent : (to : Party) → one.to ≡ to → slice_get m.state.course.world.sent k ≡ Some (to, one.message)
+  is-sent to e = ap (λ (ms : List Sent). slice_get ms k) (let net = stand.net in net.sent) ∙ sent-there w.net.sent k one posted ∙ ap (λ (p : Party). Some (p, one.message)) e
+
+  module _ (q : ServerNo) (to : one.to ≡ Server q) (place : Place S) (at : slice_get w.places q.0 ≡ Some place) (reads : ReadsPages look device (counts_by place.counts) place.slot) where
+    up-step : (p : Parts S) (is : place.slot ≡ Up p)
+        → IsRowStep look device seen x w m stand q place at p is reads (server_row (memory_of (view_with look p)) (state (view_with look p).storage) (room_of (view_with look p).storage) one.message)
+        (Some k) (events.Deliver k) (handing k (room_of (view_with look p).storage)) (with_delivered k w.net.sent)
+    up-step p is = record { acts = acts; does = does; may = may; delivers = delivers }
+      where
+        its : Room
+        its = room_of (view_with look p).storage
+
+        mem : Memory
+        mem = memory_of (view_with look p)
+
+        acts : (told : List Outside) (stop : Option (Pick → ℕ)) → delivered (chance look device seen x w m stand q place at p is reads told stop) k m.state.course.world (slice_get m.state.course.world.sent k) ≡ served q (handing k its stop ∷ [])
+        acts told stop = ap (delivered (chance look device seen x w m stand q place at p is reads told stop) k m.state.course.world) (is-sent (Server q) to)
+            ∙ ap (delivered_at (chance look device seen x w m stand q place at p is reads told stop) k q) (let stands = here look device seen x w m stand q place at p is reads in stands.0)
+            ∙ ap (λ (r : Room). served q (handing k r stop ∷ [])) (room-is look device seen x w m stand q place at p is reads told stop)
+
+        does-by : (stop : Option (Pick → ℕ)) → handed k its stop (slice_get m.state.course.world.sent k) m.state.course.world ≡ ends q (Some k) stop (server_row mem (state (view_with look p).storage) its one.message) m.state.course.world
+        does-by stop = ap (λ (o : Option Sent). handed k its stop o m.state.course.world) (is-sent (Server q) to)
+            ∙ ap (λ (o : Option Memory). at_memory q k its stop one.message o m.state.course.world) (let stands = here look device seen x w m stand q place at p is reads in stands.0)
+            ∙ ap (λ (f : Pick → StableState). ends q (Some k) stop (server_row mem (stable f) its one.message) m.state.course.world) (let stands = here look device seen x w m stand q place at p is reads in stands.1)
+
+        does : (stop : Option (Pick → ℕ)) → after (handing k its stop) m.state.course.world ≡ ends q (Some k) stop (server_row mem (state (view_with look p).storage) its one.message) m.state.course.world
+        does None = does-by None
+        does (Some made) = does-by (Some made)
+
+        may : (stop : Option (Pick → ℕ)) → IsStep (handing k its stop) m.state.course.world
+        may None = tt
+        may (Some made) = tt
+
+        delivers : (stop : Option (Pick → ℕ)) → delivered_by (handing k its stop) w.net.sent ≡ with_delivered k w.net.sent
+        delivers None = refl
+        delivers (Some made) = refl
+
+    -- It is done, or the server is stopped.
+    pub took-step : (more : List Task) → ActsNext x m (events.Deliver k) more → (answer : Option Collected) (slot : Slot S) (told : List Line) → Took look device q (counts_by place.counts) (when_of m.state) one.message place.slot answer slot [] told
+        → HasCounts (counts_by place.counts) slot → (lines : List Line)
+        → IsStepTo look device x m (more ++ drop 1 m.state.tasks)
+        (with_answer q (Some k) answer (record w { places = slice_set w.places q.0 (record place { slot = slot }); net = record w.net { sent = with_delivered k w.net.sent } }))
+        lines (lines ++ told ++ lines_at (when_of m.state) (texts_sent q (Some k) w.trace (length w.net.sent) answer))
+    took-step more next answer slot told took counts lines = by place.slot refl took
+      where
+        by : (before : Slot S) → place.slot ≡ before → Took look device q (counts_by place.counts) (when_of m.state) one.message before answer slot [] told
+            → IsStepTo look device x m (more ++ drop 1 m.state.tasks)
+            (with_answer q (Some k) answer (record w { places = slice_set w.places q.0 (record place { slot = slot }); net = record w.net { sent = with_delivered k w.net.sent } }))
+            lines (lines ++ told ++ lines_at (when_of m.state) (texts_sent q (Some k) w.trace (length w.net.sent) answer))
+        by (Up p) is t = row-step look device seen x w m stand q place at p is reads (server_row (memory_of (view_with look p)) (state (view_with look p).storage) (room_of (view_with look p).storage) one.message)
+            (Some k) (events.Deliver k) (handing k (room_of (view_with look p).storage)) (with_delivered k w.net.sent) (up-step p is) more next lines answer slot told t.0 t.1 counts
+        by (Down s) is t = absurd t
+        by Gone is t = absurd t

@@ -1,0 +1,33 @@
+-- What a server that is up reads of its pages.
+use Rattle.std.specs.Prelude.{◌≡◌, false, ⊤}
+use Rattle.jn_device.specs.Device.{DeviceState}
+use Rattle.jn_found.specs.Pages.{pool_on}
+use Rattle.jn_place.specs.declared.place.Place.{Place}
+use Rattle.jn_place.specs.declared.place.Slot.{Slot}
+use Rattle.jn_place.specs.declared.place.Slot.TheVariants.{Up}
+use Rattle.jn_place.specs.Exact.{has_work_at}
+use Rattle.jn_records.specs.StablePages.{Counts}
+use Rattle.jn_recovery.specs.Loading.{counts_by}
+use Rattle.jn_server.specs.Seen.{view_with, memory_of, room_of}
+use Rattle.jn_server.specs.Standing.{free_on, has_rubbish}
+use Rattle.jn_storage.specs.Calls.{state}
+use Rattle.jn_store.specs.Store.{StoreView}
+use Rattle.jn_written.specs.Devices.{pages_of}
+
+-- its storage has so many pages
+abbrev pub HasCounts : {S : Type 0} → Counts → Slot S → Type 0
+HasCounts g (Up p) = p.storage.1.table.counts ≡ g
+HasCounts g slot = ⊤
+
+-- what its rows read of its storage, what is free and whether a rubbish record is left, is what stands on its pages
+abbrev pub ReadsPages : {S : Type 0} → (S → StoreView) → (S → DeviceState) → Counts → Slot S → Type 0
+ReadsPages look device g (Up p) =
+    let v = view_with look p in
+    let pages = pages_of (device p.storage.0) in
+    ((room_of v.storage).free ≡ free_on g pages (state v.storage) (memory_of v)) × ((room_of v.storage).rubbish ≡ has_rubbish (pool_on g pages))
+ReadsPages look device g slot = ⊤
+
+-- a place with nothing to do, of which the code tells rightly
+pub record IsIdleAt {S : Type 0} (look : S → StoreView) (device : S → DeviceState) (p : Place S) : Type 0 where
+  pub reads : ReadsPages look device (counts_by p.counts) p.slot
+  pub idle : has_work_at look p.slot ≡ false

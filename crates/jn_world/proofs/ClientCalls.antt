@@ -1,0 +1,207 @@
+-- What a call of a client does, and its messages, is an event of the written machine.
+use Rattle.std.proofs.Common.{◌≡◌, ◌≤◌, ◌<◌, ℕ, zero, suc, ◌+◌, ◌-◌, Bool, true, false, List, [], ◌∷◌, ◌++◌, length, append-nil, Option, Some, None, Result, Ok, Err, true≢false, refl, sym, ◌∙◌, ap, subst, arith}
+use Rattle.std.proofs.Math.ListN.{set, get_or}
+use Rattle.std.proofs.lemmas.Bool.Decides.{nat_tests}
+use Rattle.std.proofs.lemmas.Option.{slice_get-get_or}
+use Rattle.std.specs.Prelude.{drop, slice_get, slice_set, IsErr, IsErrAnd}
+use Rattle.jn_base.specs.declared.device.FaultKind.{FaultKind}
+use Rattle.jn_base.specs.declared.device.FaultKind.TheVariants as faults
+use Rattle.jn_base.specs.declared.names.ClientNo.{ClientNo}
+use Rattle.jn_base.specs.declared.names.Party.TheVariants.{Client, Server}
+use Rattle.jn_base.specs.declared.names.ServerNo.{ServerNo}
+use Rattle.jn_base.specs.declared.names.Tid.{Tid}
+use Rattle.jn_base.specs.declared.op.Command.{Command}
+use Rattle.jn_device.specs.Device.{DeviceState}
+use Rattle.jn_device.specs.Events.{Decays as PageDecays, Revives as PageRevives, Arms as FaultArmed}
+use Rattle.jn_msgs.specs.Collected.{Collected}
+use Rattle.jn_net.specs.Carried.{Carried, with_delivered}
+use Rattle.jn_rows.specs.declared.client.Taken.{Taken}
+use Rattle.jn_net.specs.declared.Sent.{Sent as Posted}
+use Rattle.jn_place.specs.declared.place.Place.{Place}
+use Rattle.jn_place.specs.declared.place.Slot.{Slot}
+use Rattle.jn_place.specs.declared.place.Slot.TheVariants.{Up, Down, Gone}
+use Rattle.jn_place.specs.Exact.{Took, WorkedBy, ScrubbedBy, Showed, AsksAgain, TimedOut, Crashed, Befell, has_work_at}
+use Rattle.jn_protocol.specs.Steps.{sent_now}
+use Rattle.jn_recovery.specs.Loading.{counts_by}
+use Rattle.jn_report.specs.declared.line.EventRefusal.TheVariants.{TooManyArmed}
+use Rattle.jn_report.specs.declared.line.Line.{Line}
+use Rattle.jn_report.specs.declared.line.Text.{Text}
+use Rattle.jn_report.specs.declared.line.Text.TheVariants as says
+use Rattle.jn_report.specs.declared.line.When.{When}
+use Rattle.jn_report.specs.declared.line.When.TheVariants.{Event as AtEvent, End}
+use Rattle.jn_rows.specs.Client.{ClientTable, Commanded, Refuses, command_row, take_row, again_row, new_table}
+use Rattle.jn_rows.specs.Outcomes.{Sent}
+use Rattle.jn_schedule.specs.declared.Event.{Event}
+use Rattle.jn_schedule.specs.declared.Event.TheVariants as events
+use Rattle.jn_server.specs.declared.show.Shown.{Shown}
+use Rattle.jn_stands.specs.Clients.{with_client, texts_taken, texts_commanded, sent_commanded, table_commanded}
+use Rattle.jn_stands.specs.Going.{IsStepTo, ActsNext}
+use Rattle.jn_stands.specs.Pages.{HasCounts, ReadsPages}
+use Rattle.jn_stands.specs.Showing.{texts_shown}
+use Rattle.jn_stands.specs.Stands.{Standing, Stands, is_client, posted_by, with_sent, texts_sent, with_answer}
+use Rattle.jn_stands.proofs.ClientSteps.{client-took-step, other-took-step}
+use Rattle.jn_stands.proofs.Commands.{told-step, asked-step}
+use Rattle.jn_stands.proofs.Losing.{lost-step}
+use Rattle.jn_report.specs.declared.line.Refusal.{Refusal}
+use Rattle.jn_stands.proofs.Posted.{none-traced}
+use Rattle.jn_stands.proofs.Took.{took-step}
+use Rattle.jn_stands.proofs.Working.{idle-step, worked-step}
+use Rattle.jn_stands.proofs.Nudging.{nudged-step, nudged-down-step, timed-out-step}
+use Rattle.jn_stands.proofs.Looking.{scrubbed-step, showed-step}
+use Rattle.jn_stands.proofs.Crashing.{crashed-step}
+use Rattle.jn_stands.proofs.Befalling.{decayed-step, revived-step, armed-step}
+use Rattle.jn_store.specs.Pairs.{pairs_view}
+use Rattle.jn_store.specs.Store.{StoreView}
+use Rattle.jn_within.specs.Taking.{sent_for}
+use Rattle.jn_world.specs.declared.ended.Ended.{Ended}
+use Rattle.jn_world.specs.declared.ended.Ended.TheVariants.{Memory}
+use Rattle.jn_world.specs.Written.{GoesTo, DoesEvent, EndsStep, IsSentTo}
+use Rattle.jn_world.proofs.Calls.{step-ends}
+use Rattle.jn_written.specs.Chances.{Setup}
+use Rattle.jn_written.specs.Events.{told_unless}
+use Rattle.jn_written.specs.Runs.{Moment}
+use Rattle.jn_written.specs.Steps.{lines_at, message_texts, traced}
+use Rattle.jn_written.specs.Tasks.{Task, Stage, InSchedule, AtEnd, CutShort, when_at, when_of}
+
+-- the number of the event under way
+event-number : (stage : Stage) (event number : ℕ) → when_at stage event ≡ AtEvent number → event ≡ number
+event-number AtEnd event number e = absurd (cc e)
+event-number InSchedule event number e = cc
+event-number CutShort event number e = cc
+
+-- nothing is sent
+unsent : {S : Type 0} (w : Standing S) → w ≡ record w { net = record w.net { sent = w.net.sent ++ [] } }
+unsent {S} w = ap (λ (ms : List Posted). record w { net = record w.net { sent = ms } }) (sym (append-nil w.net.sent))
+
+-- the table that an index reads
+pub client-is : (ts : List ClientTable) (c : ClientNo) (i : ℕ) (t : ClientTable) → is_client c.0 ≡ true → i + 1 ≡ c.0 → length ts ≡ 8 → t ≡ get_or ts i t → slice_get ts i ≡ Some t
+client-is ts c i t is index eight read =
+    let within : i < length ts = grind (arith, nat_tests) in
+    slice_get-get_or ts i t within ∙ ap (λ (x : ClientTable). Some x) (sym read)
+
+delivered-many : (k : ℕ) (ms : List Posted) → length (with_delivered k ms) ≡ length ms
+delivered-many k [] = refl
+delivered-many zero (m ∷ ms) = refl
+delivered-many (suc k) (m ∷ ms) = ap suc (delivered-many k ms)
+
+-- a message that was sent to a client
+pub sent-to : (ms : List Posted) (k : ℕ) (one : Posted) (c : ClientNo) → slice_get ms k ≡ Some one → IsSentTo (Client c) (slice_get ms k) → one.to ≡ Client c
+sent-to ms k one c at to = subst (λ (o : Option Posted). IsSentTo (Client c) o) at to
+
+module _ {S : Type 0} (look : S → StoreView) (device : S → DeviceState) (seen : (s : S) → look s ≡ pairs_view (device s)) {A : Type 0} (w : Standing S) (c : ClientNo) (r : Result A Ended) (u : Standing S) (first later : List Line) where
+  module _ (is : is_client c.0 ≡ true) (i : ℕ) (index : i + 1 ≡ c.0) (t : ClientTable) (at : slice_get w.clients i ≡ Some t) where
+    index-is : i ≡ c.0 - 1
+    index-is = omega arith
+
+    its : slice_get w.clients (c.0 - 1) ≡ Some t
+    its = subst (λ (n : ℕ). slice_get w.clients n ≡ Some t) index-is at
+
+    -- a command
+    pub commanded-does : (number : ℕ) (command : Command) (row : Commanded) → command_row t number command ≡ row
+        → EndsStep r (with_sent (posted_by (Client c) (sent_commanded row)) (record w { clients = set w.clients i (table_commanded t row) })) u first
+        (first ++ lines_at (AtEvent number) (texts_commanded c number row ++ traced w.trace (message_texts (Client c) (length w.net.sent) (sent_commanded row)))) later
+        → DoesEvent look device (events.Command c command) (AtEvent number) w r u first later
+    commanded-does number command row row-is ends x m more stands next when =
+        let same = event-number m.state.stage m.state.course.world.event number when in
+        let now : Standing S = with_sent (posted_by (Client c) (sent_commanded row)) (record w { clients = set w.clients i (table_commanded t row) }) in
+        step-ends look device x m (more ++ drop 1 m.state.tasks) now u r first (first ++ lines_at (AtEvent number) (texts_commanded c number row ++ traced w.trace (message_texts (Client c) (length w.net.sent) (sent_commanded row)))) later
+        (subst (λ (n : ℕ). IsStepTo look device x m (more ++ drop 1 m.state.tasks) (with_sent (posted_by (Client c) (sent_commanded row)) (record w { clients = set w.clients n (table_commanded t row) })) first
+        (first ++ lines_at (AtEvent number) (texts_commanded c number row ++ traced w.trace (message_texts (Client c) (length w.net.sent) (sent_commanded row))))) (sym index-is)
+        (subst (λ (e : When). IsStepTo look device x m (more ++ drop 1 m.state.tasks) (with_sent (posted_by (Client c) (sent_commanded row)) (with_client c (table_commanded t row) w)) first
+        (first ++ lines_at e (texts_commanded c number row ++ traced w.trace (message_texts (Client c) (length w.net.sent) (sent_commanded row))))) when
+        (subst (λ (n : ℕ). IsStepTo look device x m (more ++ drop 1 m.state.tasks) (with_sent (posted_by (Client c) (sent_commanded row)) (with_client c (table_commanded t row) w)) first
+        (first ++ lines_at (when_of m.state) (texts_commanded c n row ++ traced w.trace (message_texts (Client c) (length w.net.sent) (sent_commanded row))))) same
+        (told-step look device seen x w m stands c is t its more command next row (ap (λ (n : ℕ). command_row t n command) same ∙ row-is) first))))
+        ends
+
+    -- its outstanding message once more
+    pub asked-does : (when : When) → EndsStep r (with_sent (posted_by (Client c) (sent_now (again_row t))) w) u first (first ++ lines_at when (traced w.trace (message_texts (Client c) (length w.net.sent) (sent_now (again_row t))))) later
+        → DoesEvent look device (events.Again c) when w r u first later
+    asked-does when ends x m more stands next e =
+        step-ends look device x m (more ++ drop 1 m.state.tasks) (with_sent (posted_by (Client c) (sent_now (again_row t))) w) u r first (first ++ lines_at when (traced w.trace (message_texts (Client c) (length w.net.sent) (sent_now (again_row t))))) later
+        (subst (λ (a : When). IsStepTo look device x m (more ++ drop 1 m.state.tasks) (with_sent (posted_by (Client c) (sent_now (again_row t))) w) first (first ++ lines_at a (traced w.trace (message_texts (Client c) (length w.net.sent) (sent_now (again_row t)))))) e
+        (asked-step look device seen x w m stands c is t its more next first))
+        ends
+
+    pub asked-now : (when : When) (sent : Option Sent) → again_row t ≡ sent
+        → EndsStep r (with_sent (posted_by (Client c) (sent_now sent)) w) u first (first ++ lines_at when (traced w.trace (message_texts (Client c) (length w.net.sent) (sent_now sent)))) later
+        → DoesEvent look device (events.Again c) when w r u first later
+    asked-now when sent e ends = asked-does when
+        (subst (λ (o : Option Sent). EndsStep r (with_sent (posted_by (Client c) (sent_now o)) w) u first (first ++ lines_at when (traced w.trace (message_texts (Client c) (length w.net.sent) (sent_now o)))) later) (sym e) ends)
+
+    -- nothing waits for an answer
+    pub asked-none : (when : When) → again_row t ≡ None → EndsStep r w u first first later → DoesEvent look device (events.Again c) when w r u first later
+    asked-none when none ends = asked-now when None none (subst (λ (v : Standing S). EndsStep r v u first (first ++ lines_at when (traced w.trace [])) later) (unsent w)
+        (subst (λ (l : List Line). EndsStep r w u first l later) (sym (ap (λ (ts : List Text). first ++ lines_at when ts) (none-traced w.trace) ∙ append-nil first)) ends))
+
+    -- a command that is refused
+    pub refused-does : (number : ℕ) (command : Command) (refusal : Refusal) (now : ClientTable) → command_row t number command ≡ Refuses refusal → now ≡ t
+        → EndsStep r (record w { clients = set w.clients i now }) u first (first ++ record { when = AtEvent number; text = says.Refused c number refusal } ∷ []) later
+        → DoesEvent look device (events.Command c command) (AtEvent number) w r u first later
+    refused-does number command refusal now row same ends = commanded-does number command (Refuses refusal) row
+        (subst (λ (v : Standing S). EndsStep r v u first (first ++ lines_at (AtEvent number) (says.Refused c number refusal ∷ [] ++ traced w.trace [])) later)
+        (ap (λ (n : ClientTable). record w { clients = set w.clients i n }) same ∙ unsent (record w { clients = set w.clients i t }))
+        (subst (λ (ts : List Text). EndsStep r (record w { clients = set w.clients i now }) u first (first ++ lines_at (AtEvent number) (says.Refused c number refusal ∷ [] ++ ts)) later) (sym (none-traced w.trace)) ends))
+
+    -- a message
+    pub client-took-does : (when : When) (k : ℕ) (one : Posted) → slice_get w.net.sent k ≡ Some one → one.to ≡ Client c
+        → EndsStep r (with_sent (posted_by (Client c) (sent_for (take_row t one.message).1)) (record w { clients = set w.clients i (take_row t one.message).0; net = record w.net { sent = with_delivered k w.net.sent } })) u first
+        (first ++ lines_at when (texts_taken k (take_row t one.message).1 ++ traced w.trace (message_texts (Client c) (length w.net.sent) (sent_for (take_row t one.message).1)))) later
+        → DoesEvent look device (events.Deliver k) when w r u first later
+    client-took-does when k one posted to ends x m more stands next e =
+        let row = take_row t one.message in
+        let texts : List Text = texts_taken k row.1 ++ traced w.trace (message_texts (Client c) (length w.net.sent) (sent_for row.1)) in
+        step-ends look device x m (more ++ drop 1 m.state.tasks) (with_sent (posted_by (Client c) (sent_for row.1)) (record w { clients = set w.clients i row.0; net = record w.net { sent = with_delivered k w.net.sent } })) u r first (first ++ lines_at when texts) later
+        (subst (λ (n : ℕ). IsStepTo look device x m (more ++ drop 1 m.state.tasks) (with_sent (posted_by (Client c) (sent_for row.1)) (record w { clients = set w.clients n row.0; net = record w.net { sent = with_delivered k w.net.sent } })) first (first ++ lines_at when texts)) (sym index-is)
+        (subst (λ (a : When). IsStepTo look device x m (more ++ drop 1 m.state.tasks) (with_sent (posted_by (Client c) (sent_for row.1)) (with_client c row.0 (record w { net = record w.net { sent = with_delivered k w.net.sent } }))) first (first ++ lines_at a texts)) e
+        (client-took-step look device seen x w m stands k one posted c to is t its more next first)))
+        ends
+
+    pub client-took-now : (when : When) (k : ℕ) (one : Posted) → slice_get w.net.sent k ≡ Some one → one.to ≡ Client c
+        → (now : ClientTable) (taken : Taken) (net : Carried) → (now, taken) ≡ take_row t one.message → net ≡ record w.net { sent = with_delivered k w.net.sent }
+        → EndsStep r (with_sent (posted_by (Client c) (sent_for taken)) (record w { clients = set w.clients i now; net = net })) u first
+        (first ++ lines_at when (texts_taken k taken ++ traced w.trace (message_texts (Client c) (length net.sent) (sent_for taken)))) later
+        → DoesEvent look device (events.Deliver k) when w r u first later
+    client-took-now when k one posted to now taken net row delivers ends = client-took-does when k one posted to
+        (subst (λ (z : ClientTable × Taken). EndsStep r (with_sent (posted_by (Client c) (sent_for z.1)) (record w { clients = set w.clients i z.0; net = record w.net { sent = with_delivered k w.net.sent } })) u first
+        (first ++ lines_at when (texts_taken k z.1 ++ traced w.trace (message_texts (Client c) (length w.net.sent) (sent_for z.1)))) later) row
+        (by-length when k taken net now delivers ends))
+      where
+        by-length : (when : When) (k : ℕ) (taken : Taken) (net : Carried) (now : ClientTable) → net ≡ record w.net { sent = with_delivered k w.net.sent }
+            → EndsStep r (with_sent (posted_by (Client c) (sent_for taken)) (record w { clients = set w.clients i now; net = net })) u first
+            (first ++ lines_at when (texts_taken k taken ++ traced w.trace (message_texts (Client c) (length net.sent) (sent_for taken)))) later
+            → EndsStep r (with_sent (posted_by (Client c) (sent_for taken)) (record w { clients = set w.clients i now; net = record w.net { sent = with_delivered k w.net.sent } })) u first
+            (first ++ lines_at when (texts_taken k taken ++ traced w.trace (message_texts (Client c) (length w.net.sent) (sent_for taken)))) later
+        by-length when k taken net now e h =
+            subst (λ (n : ℕ). EndsStep r (with_sent (posted_by (Client c) (sent_for taken)) (record w { clients = set w.clients i now; net = record w.net { sent = with_delivered k w.net.sent } })) u first
+            (first ++ lines_at when (texts_taken k taken ++ traced w.trace (message_texts (Client c) n (sent_for taken)))) later) (ap (λ (n : Carried). length n.sent) e ∙ delivered-many k w.net.sent)
+            (subst (λ (n : Carried). EndsStep r (with_sent (posted_by (Client c) (sent_for taken)) (record w { clients = set w.clients i now; net = n })) u first
+            (first ++ lines_at when (texts_taken k taken ++ traced w.trace (message_texts (Client c) (length net.sent) (sent_for taken)))) later) e h)
+
+  -- one that isn't there takes a message
+  pub other-took-does : (when : When) (k : ℕ) (one : Posted) → slice_get w.net.sent k ≡ Some one → one.to ≡ Client c → is_client c.0 ≡ false
+      → EndsStep r (with_sent (posted_by (Client c) (sent_for (take_row (new_table c (length w.places)) one.message).1)) (record w { net = record w.net { sent = with_delivered k w.net.sent } })) u first
+      (first ++ lines_at when (texts_taken k (take_row (new_table c (length w.places)) one.message).1 ++ traced w.trace (message_texts (Client c) (length w.net.sent) (sent_for (take_row (new_table c (length w.places)) one.message).1)))) later
+      → DoesEvent look device (events.Deliver k) when w r u first later
+  other-took-does when k one posted to is ends x m more stands next e =
+      let row = take_row (new_table c (length w.places)) one.message in
+      let texts : List Text = texts_taken k row.1 ++ traced w.trace (message_texts (Client c) (length w.net.sent) (sent_for row.1)) in
+      step-ends look device x m (more ++ drop 1 m.state.tasks) (with_sent (posted_by (Client c) (sent_for row.1)) (record w { net = record w.net { sent = with_delivered k w.net.sent } })) u r first (first ++ lines_at when texts) later
+      (subst (λ (a : When). IsStepTo look device x m (more ++ drop 1 m.state.tasks) (with_sent (posted_by (Client c) (sent_for row.1)) (record w { net = record w.net { sent = with_delivered k w.net.sent } })) first (first ++ lines_at a texts)) e
+      (subst (λ (n : ℕ). IsStepTo look device x m (more ++ drop 1 m.state.tasks) (with_sent (posted_by (Client c) (sent_for (take_row (new_table c n) one.message).1)) (record w { net = record w.net { sent = with_delivered k w.net.sent } })) first
+      (first ++ lines_at (when_of m.state) (texts_taken k (take_row (new_table c n) one.message).1 ++ traced w.trace (message_texts (Client c) (length w.net.sent) (sent_for (take_row (new_table c n) one.message).1))))) (sym stands.servers)
+      (other-took-step look device seen x w m stands k one posted c to is more next first)))
+      ends
+
+  pub other-took-now : (when : When) (k : ℕ) (one : Posted) → slice_get w.net.sent k ≡ Some one → one.to ≡ Client c → is_client c.0 ≡ false
+      → (servers : ℕ) (taken : Taken) (net : Carried) → servers ≡ length w.places → taken ≡ (take_row (new_table c servers) one.message).1 → net ≡ record w.net { sent = with_delivered k w.net.sent }
+      → EndsStep r (with_sent (posted_by (Client c) (sent_for taken)) (record w { net = net })) u first
+      (first ++ lines_at when (texts_taken k taken ++ traced w.trace (message_texts (Client c) (length net.sent) (sent_for taken)))) later
+      → DoesEvent look device (events.Deliver k) when w r u first later
+  other-took-now when k one posted to is servers taken net many row delivers ends = other-took-does when k one posted to is
+      (subst (λ (z : Taken). EndsStep r (with_sent (posted_by (Client c) (sent_for z)) (record w { net = record w.net { sent = with_delivered k w.net.sent } })) u first
+      (first ++ lines_at when (texts_taken k z ++ traced w.trace (message_texts (Client c) (length w.net.sent) (sent_for z)))) later) (row ∙ ap (λ (n : ℕ). (take_row (new_table c n) one.message).1) many)
+      (subst (λ (n : ℕ). EndsStep r (with_sent (posted_by (Client c) (sent_for taken)) (record w { net = record w.net { sent = with_delivered k w.net.sent } })) u first
+      (first ++ lines_at when (texts_taken k taken ++ traced w.trace (message_texts (Client c) n (sent_for taken)))) later) (ap (λ (n : Carried). length n.sent) delivers ∙ delivered-many k w.net.sent)
+      (subst (λ (n : Carried). EndsStep r (with_sent (posted_by (Client c) (sent_for taken)) (record w { net = n })) u first
+      (first ++ lines_at when (texts_taken k taken ++ traced w.trace (message_texts (Client c) (length net.sent) (sent_for taken)))) later) delivers ends)))

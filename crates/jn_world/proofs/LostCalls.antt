@@ -1,0 +1,137 @@
+-- Messages that are lost, and messages that were never sent.
+use Rattle.std.proofs.Common.{◌≡◌, ◌≤◌, ◌<◌, ℕ, zero, suc, ◌+◌, ◌-◌, Bool, true, false, List, [], ◌∷◌, ◌++◌, length, Option, Some, None, Result, Ok, Err, true≢false, refl, sym, ◌∙◌, ap, subst, arith}
+use Rattle.std.proofs.Math.ListN.{set}
+use Rattle.std.specs.Prelude.{drop, nat_lt, slice_get}
+use Rattle.jn_base.specs.declared.device.FaultKind.{FaultKind}
+use Rattle.jn_base.specs.declared.device.FaultKind.TheVariants as faults
+use Rattle.jn_base.specs.declared.names.ClientNo.{ClientNo}
+use Rattle.jn_base.specs.declared.names.Party.TheVariants.{Client, Server}
+use Rattle.jn_base.specs.declared.names.ServerNo.{ServerNo}
+use Rattle.jn_base.specs.declared.names.Tid.{Tid}
+use Rattle.jn_base.specs.declared.op.Command.{Command}
+use Rattle.jn_device.specs.Device.{DeviceState}
+use Rattle.jn_device.specs.Events.{Decays as PageDecays, Revives as PageRevives, Arms as FaultArmed}
+use Rattle.jn_msgs.specs.Collected.{Collected}
+use Rattle.jn_net.specs.Carried.{with_delivered}
+use Rattle.jn_net.specs.declared.Sent.{Sent as Posted}
+use Rattle.jn_place.specs.declared.place.Place.{Place}
+use Rattle.jn_place.specs.declared.place.Slot.{Slot}
+use Rattle.jn_place.specs.declared.place.Slot.TheVariants.{Up, Down, Gone}
+use Rattle.jn_place.specs.Exact.{Took, WorkedBy, ScrubbedBy, Showed, AsksAgain, TimedOut, Crashed, Befell, has_work_at}
+use Rattle.jn_protocol.specs.Steps.{sent_now}
+use Rattle.jn_recovery.specs.Loading.{counts_by}
+use Rattle.jn_report.specs.declared.line.EventRefusal.TheVariants.{TooManyArmed}
+use Rattle.jn_report.specs.declared.line.Line.{Line}
+use Rattle.jn_report.specs.declared.line.Text.{Text}
+use Rattle.jn_report.specs.declared.line.Text.TheVariants as says
+use Rattle.jn_report.specs.declared.line.When.{When}
+use Rattle.jn_report.specs.declared.line.When.TheVariants.{Event as AtEvent, End}
+use Rattle.jn_rows.specs.Client.{ClientTable, Commanded, command_row, take_row, again_row, new_table}
+use Rattle.jn_rows.specs.Outcomes.{Sent}
+use Rattle.jn_schedule.specs.declared.Event.{Event}
+use Rattle.jn_schedule.specs.declared.Event.TheVariants as events
+use Rattle.jn_server.specs.declared.show.Shown.{Shown}
+use Rattle.jn_stands.specs.Clients.{with_client, texts_taken, texts_commanded, sent_commanded, table_commanded}
+use Rattle.jn_stands.specs.Going.{IsStepTo, ActsNext}
+use Rattle.jn_stands.specs.Pages.{HasCounts, ReadsPages}
+use Rattle.jn_stands.specs.Showing.{texts_shown}
+use Rattle.jn_stands.specs.Stands.{Standing, Stands, is_client, posted_by, with_sent, texts_sent, with_answer}
+use Rattle.jn_stands.proofs.ClientSteps.{client-took-step, other-took-step}
+use Rattle.jn_stands.proofs.Commands.{told-step, asked-step}
+use Rattle.jn_stands.proofs.Losing.{lost-step}
+use Rattle.jn_stands.proofs.Took.{took-step}
+use Rattle.jn_stands.proofs.Working.{idle-step, worked-step}
+use Rattle.jn_stands.proofs.Nudging.{nudged-step, nudged-down-step, timed-out-step}
+use Rattle.jn_stands.proofs.Looking.{scrubbed-step, showed-step}
+use Rattle.jn_stands.proofs.Crashing.{crashed-step}
+use Rattle.jn_stands.proofs.Befalling.{decayed-step, revived-step, armed-step}
+use Rattle.jn_store.specs.Pairs.{pairs_view}
+use Rattle.jn_store.specs.Store.{StoreView}
+use Rattle.jn_within.specs.Taking.{sent_for}
+use Rattle.jn_world.specs.declared.ended.Ended.{Ended}
+use Rattle.jn_world.specs.declared.ended.Ended.TheVariants.{Memory}
+use Rattle.jn_world.specs.Written.{GoesTo, DoesEvent, EndsStep}
+use Rattle.jn_base.specs.declared.names.Party.{Party}
+use Rattle.jn_net.specs.Carried.{Carried}
+use Rattle.jn_place.specs.Places.{is_up}
+use Rattle.jn_protocol.specs.World.{World as Protocol}
+use Rattle.jn_report.specs.declared.line.EventRefusal.{EventRefusal}
+use Rattle.jn_report.specs.declared.line.EventRefusal.TheVariants as refusals
+use Rattle.jn_rests.specs.Waiting.{sent_of}
+use Rattle.jn_stands.proofs.Losing.{never-sent}
+use Rattle.jn_stands.specs.Stands.{StandsAt}
+use Rattle.jn_world.specs.Standing.{is_up_at, is_up_in}
+use Rattle.jn_world.specs.Written.{IsSentTo}
+use Rattle.jn_world.proofs.Refusing.{place-there}
+use Rattle.jn_world.proofs.ServerCalls.{lost-does, nudged-down-does}
+use Rattle.jn_written.specs.Refusals.{refusal_of, unless}
+use Rattle.jn_written.specs.Chances.{Setup}
+use Rattle.jn_written.specs.Events.{told_unless}
+use Rattle.jn_written.specs.Runs.{Moment}
+use Rattle.jn_written.specs.Steps.{lines_at, message_texts, traced}
+use Rattle.jn_written.specs.Tasks.{Task, Stage, InSchedule, AtEnd, CutShort, when_at, when_of}
+
+pub sent-for : (ms : List Posted) (k : ℕ) (one : Posted) (party : Party) → slice_get ms k ≡ Some one → IsSentTo party (slice_get ms k) → one.to ≡ party
+sent-for ms k one party at to = subst (λ (o : Option Posted). IsSentTo party o) at to
+
+pub to-it : (ms : List Posted) (k : ℕ) (one : Posted) (party : Party) → slice_get ms k ≡ Some one → one.to ≡ party → IsSentTo party (slice_get ms k)
+to-it ms k one party at to = subst (λ (o : Option Posted). IsSentTo party o) (sym at) to
+
+pub as-many : (k : ℕ) (ms : List Posted) → length (with_delivered k ms) ≡ length ms
+as-many k [] = refl
+as-many zero (m ∷ ms) = refl
+as-many (suc k) (m ∷ ms) = ap suc (as-many k ms)
+
+pub delivered-limit : (a n : Carried) (k : ℕ) → n ≡ record a { sent = with_delivered k a.sent } → length a.sent ≤ 1000000 → length n.sent ≤ 1000000
+delivered-limit a n k e few = let same = ap (λ (x : Carried). length x.sent) e ∙ as-many k a.sent in omega arith
+
+posted-there : (party : Party) (o : Option Posted) → IsSentTo party o → (one : Posted) × (o ≡ Some one) × (one.to ≡ party)
+posted-there party None h = absurd h
+posted-there party (Some one) h = (one, refl, h)
+
+many-sent : (ms : List Posted) → length (sent_of ms) ≡ length ms
+many-sent [] = refl
+many-sent (m ∷ ms) = ap suc (many-sent ms)
+
+module _ {S : Type 0} (look : S → StoreView) (device : S → DeviceState) (seen : (s : S) → look s ≡ pairs_view (device s)) where
+  pub lost-now : {A : Type 0} (w : Standing S) (q : ServerNo) (when : When) (r : Result A Ended) (u : Standing S) (first later : List Line) (k : ℕ) (one : Posted) → slice_get w.net.sent k ≡ Some one → one.to ≡ Server q → is_up_at q.0 w.places ≡ false
+      → EndsStep r (record w { net = record w.net { sent = with_delivered k w.net.sent } }) u first (first ++ lines_at when (says.Lost k ∷ [])) later → DoesEvent look device (events.Deliver k) when w r u first later
+  lost-now {A} w q when r u first later k one posted to down ends x m more stands next is =
+      let (place, at) = place-there look device w.places q.0 (never-sent look device seen x w m stands k one posted q to) in
+      let there = stands.places q.0 place at in
+      by place at place.slot refl there.stands (sym (ap (λ (o : Option (Place S)). is_up_in o) at) ∙ down)
+    where
+      by : (place : Place S) → slice_get w.places q.0 ≡ Some place → (slot : Slot S) → place.slot ≡ slot → StandsAt look device (counts_by place.counts) place.slot (m.state.course.world.memory q) (m.state.course.world.found q) (m.devices q) → is_up place.slot ≡ false
+          → GoesTo look device x m (more ++ drop 1 m.state.tasks) r u first later
+      by place at (Down s) e st no' = lost-does look device seen w q place at when r u first later k one s posted to e ends x m more stands next is
+      by place at (Up p) e st no' = absurd (true≢false (ap (λ (t : Slot S). is_up t) (sym e) ∙ no'))
+      by place at Gone e st no' = absurd (subst (λ (t : Slot S). StandsAt look device (counts_by place.counts) t (m.state.course.world.memory q) (m.state.course.world.found q) (m.devices q)) e st)
+
+  -- a server that is down sends nothing again
+  pub nudged-idle : {A : Type 0} (w : Standing S) (q : ServerNo) (when : When) (r : Result A Ended) (u : Standing S) (first later : List Line) → q.0 < length w.places → is_up_at q.0 w.places ≡ false
+      → EndsStep r w u first first later → DoesEvent look device (events.Nudge q) when w r u first later
+  nudged-idle {A} w q when r u first later within down ends x m more stands next is =
+      let (place, at) = place-there look device w.places q.0 within in
+      let there = stands.places q.0 place at in
+      by place at place.slot refl there.stands (sym (ap (λ (o : Option (Place S)). is_up_in o) at) ∙ down)
+    where
+      by : (place : Place S) → slice_get w.places q.0 ≡ Some place → (slot : Slot S) → place.slot ≡ slot → StandsAt look device (counts_by place.counts) place.slot (m.state.course.world.memory q) (m.state.course.world.found q) (m.devices q) → is_up place.slot ≡ false
+          → GoesTo look device x m (more ++ drop 1 m.state.tasks) r u first later
+      by place at (Down s) e st no' = nudged-down-does look device seen w q place at when r u first later s e ends x m more stands next is
+      by place at (Up p) e st no' = absurd (true≢false (ap (λ (t : Slot S). is_up t) (sym e) ∙ no'))
+      by place at Gone e st no' = absurd (subst (λ (t : Slot S). StandsAt look device (counts_by place.counts) t (m.state.course.world.memory q) (m.state.course.world.found q) (m.devices q)) e st)
+
+  -- whichever message it is
+  pub lost-to : {A : Type 0} (w : Standing S) (q : ServerNo) (when : When) (r : Result A Ended) (u : Standing S) (first later : List Line) (k : ℕ) (net : Carried) → IsSentTo (Server q) (slice_get w.net.sent k) → is_up_at q.0 w.places ≡ false
+      → net ≡ record w.net { sent = with_delivered k w.net.sent }
+      → EndsStep r (record w { net = net }) u first (first ++ lines_at when (says.Lost k ∷ [])) later → DoesEvent look device (events.Deliver k) when w r u first later
+  lost-to w q when r u first later k net to down delivers ends =
+      let (one, at, to-q) = posted-there (Server q) (slice_get w.net.sent k) to in
+      lost-now w q when r u first later k one at to-q down (subst (λ (n : Carried). EndsStep r (record w { net = n }) u first (first ++ lines_at when (says.Lost k ∷ [])) later) delivers ends)
+
+  -- whether a message of this number was sent
+  pub no-message : (k : ℕ) (w : Standing S) → nat_lt k (length w.net.sent) ≡ false → (x : Setup) (m : Moment) → Stands look device x w m → refusal_of x m.state.course.world (events.Deliver k) ≡ Some refusals.NoSuchMessage
+  no-message k w h x m stands = let net = stands.net in ap (λ (n : ℕ). unless (nat_lt k n) refusals.NoSuchMessage None) (ap length net.sent ∙ many-sent w.net.sent) ∙ ap (λ (b : Bool). unless b refusals.NoSuchMessage None) h
+
+  pub some-message : (k : ℕ) (w : Standing S) → nat_lt k (length w.net.sent) ≡ true → (x : Setup) (m : Moment) → Stands look device x w m → refusal_of x m.state.course.world (events.Deliver k) ≡ None
+  some-message k w h x m stands = let net = stands.net in ap (λ (n : ℕ). unless (nat_lt k n) refusals.NoSuchMessage None) (ap length net.sent ∙ many-sent w.net.sent) ∙ ap (λ (b : Bool). unless b refusals.NoSuchMessage None) h

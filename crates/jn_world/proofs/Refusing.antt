@@ -1,0 +1,131 @@
+-- Events of the schedule that are refused, or done.
+use Rattle.std.proofs.Common.{◌≡◌, ◌<◌, ◌≤◌, ℕ, zero, suc, ◌+◌, Bool, true, false, List, [], ◌∷◌, ◌++◌, length, Option, Some, None, is_some, Result, Ok, Err, true≢false, refl, sym, ◌∙◌, ap, subst, arith}
+use Rattle.std.proofs.lemmas.Bool.Decides.{nat_tests}
+use Rattle.std.specs.Global.{Vec}
+use Rattle.std.specs.Prelude.{vec_len, drop, nat_lt, slice_get, IsErr, IsErrAnd, IfErr, OnOk}
+use Rattle.jn_base.specs.declared.names.ServerNo.{ServerNo}
+use Rattle.jn_device.specs.Device.{DeviceState}
+use Rattle.jn_place.specs.declared.place.Place.{Place}
+use Rattle.jn_place.specs.declared.place.Slot.{Slot}
+use Rattle.jn_place.specs.declared.place.Slot.TheVariants.{Up, Down, Gone}
+use Rattle.jn_place.specs.Places.{is_up}
+use Rattle.jn_protocol.specs.World.{World as Protocol, Memory as ServerMemory}
+use Rattle.jn_recovery.specs.Loading.{counts_by}
+use Rattle.jn_report.specs.declared.line.EventRefusal.{EventRefusal}
+use Rattle.jn_report.specs.declared.line.EventRefusal.TheVariants as refusals
+use Rattle.jn_report.specs.declared.line.Line.{Line}
+use Rattle.jn_report.specs.declared.line.Text.TheVariants as says
+use Rattle.jn_report.specs.declared.line.When.{When}
+use Rattle.jn_rows.specs.Stable.{StableState, Pick}
+use Rattle.jn_schedule.specs.declared.Event.{Event}
+use Rattle.jn_schedule.specs.declared.Event.TheVariants as events
+use Rattle.jn_stands.proofs.Meeting.{meets-acts}
+use Rattle.jn_stands.proofs.Still.{refused-step}
+use Rattle.jn_stands.specs.Going.{WentOn, ActsNext}
+use Rattle.jn_stands.specs.Meeting.{is_settle}
+use Rattle.jn_stands.specs.Stands.{Standing, Stands, StandsAt, PlaceStands}
+use Rattle.jn_store.specs.Store.{StoreView}
+use Rattle.jn_world.specs.declared.ended.Ended.{Ended}
+use Rattle.jn_world.specs.declared.ended.Ended.TheVariants.{Memory}
+use Rattle.jn_world.specs.Standing.{is_up_at, is_up_in}
+use Rattle.jn_world.specs.Meeting.{IsAtUp, refusal_up}
+use Rattle.jn_world.specs.Written.{GoesTo, DoesEvent, DoesTasks}
+use Rattle.jn_world.proofs.Turns.{next-first}
+use Rattle.jn_written.specs.Chances.{Setup}
+use Rattle.jn_written.specs.Refusals.{refusal_of, if_there, if_up, if_down, unless}
+use Rattle.jn_written.specs.Runs.{Moment}
+use Rattle.jn_written.specs.Tasks.{Task, Meets, when_of}
+
+pub lt-none : {A : Type 0} (n : ℕ) (v : Vec A) → nat_lt n (vec_len v) ≡ false → nat_lt n (length v.items) ≡ false
+lt-none n v h = let same = v.ok.0 in grind (arith, nat_tests)
+
+pub lt-there : {A : Type 0} (n : ℕ) (v : Vec A) → nat_lt n (vec_len v) ≡ true → (nat_lt n (length v.items) ≡ true) × (n < length v.items)
+lt-there n v h = let same = v.ok.0 in (grind (arith, nat_tests), grind (arith, nat_tests))
+
+module _ {S : Type 0} (look : S → StoreView) (device : S → DeviceState) where
+  -- ---- servers that are there and up
+
+  -- whether the machine has it up
+  memory-is : (g : _) (slot : Slot S) (memory : Option ServerMemory) (found : Pick → StableState) (d : DeviceState) → StandsAt look device g slot memory found d → is_some memory ≡ is_up slot
+  memory-is g (Up p) memory found d h = ap is_some h.0
+  memory-is g (Down s) memory found d h = ap is_some h.0
+  memory-is g Gone memory found d h = absurd h
+
+  pub place-there : (ps : List (Place S)) (n : ℕ) → n < length ps → (p : Place S) × (slice_get ps n ≡ Some p)
+  place-there [] n h = absurd (omega arith)
+  place-there (p ∷ ps) zero h = (p, refl)
+  place-there (p ∷ ps) (suc n) h = place-there ps n (omega arith)
+
+  pub up-as : (x : Setup) (w : Standing S) (m : Moment) → Stands look device x w m → (q : ServerNo) → q.0 < length w.places → is_some (m.state.course.world.memory q) ≡ is_up_at q.0 w.places
+  up-as x w m stands q h =
+      let (p, at) = place-there w.places q.0 h in
+      let there = stands.places q.0 p at in
+      memory-is (counts_by p.counts) p.slot (m.state.course.world.memory q) (m.state.course.world.found q) (m.devices q) there.stands ∙ sym (ap (λ (o : Option (Place S)). is_up_in o) at)
+
+  pub not-there : (x : Setup) (w : Standing S) (m : Moment) → Stands look device x w m → (q : ServerNo) (more : Option EventRefusal) → nat_lt q.0 (length w.places) ≡ false → if_there x q more ≡ Some refusals.NoSuchServer
+  not-there x w m stands q more h = ap (λ (n : ℕ). unless (nat_lt q.0 n) refusals.NoSuchServer more) (sym stands.servers) ∙ ap (λ (b : Bool). unless b refusals.NoSuchServer more) h
+
+  pub is-there : (x : Setup) (w : Standing S) (m : Moment) → Stands look device x w m → (q : ServerNo) (more : Option EventRefusal) → nat_lt q.0 (length w.places) ≡ true → if_there x q more ≡ more
+  is-there x w m stands q more h = ap (λ (n : ℕ). unless (nat_lt q.0 n) refusals.NoSuchServer more) (sym stands.servers) ∙ ap (λ (b : Bool). unless b refusals.NoSuchServer more) h
+
+  pub is-down : (x : Setup) (w : Standing S) (m : Moment) → Stands look device x w m → (q : ServerNo) (more : Option EventRefusal) → nat_lt q.0 (length w.places) ≡ true → q.0 < length w.places → is_up_at q.0 w.places ≡ false
+      → if_up x q m.state.course.world more ≡ Some refusals.ServerDown
+  is-down x w m stands q more there h down =
+      is-there x w m stands q (unless (is_some (m.state.course.world.memory q)) refusals.ServerDown more) there
+      ∙ ap (λ (b : Bool). unless b refusals.ServerDown more) (up-as x w m stands q h ∙ down)
+
+  pub is-up : (x : Setup) (w : Standing S) (m : Moment) → Stands look device x w m → (q : ServerNo) (more : Option EventRefusal) → nat_lt q.0 (length w.places) ≡ true → q.0 < length w.places → is_up_at q.0 w.places ≡ true
+      → if_up x q m.state.course.world more ≡ more
+  is-up x w m stands q more there h up =
+      is-there x w m stands q (unless (is_some (m.state.course.world.memory q)) refusals.ServerDown more) there
+      ∙ ap (λ (b : Bool). unless b refusals.ServerDown more) (up-as x w m stands q h ∙ up)
+
+  -- an event of a server that must be up is refused so
+  at-up : (x : Setup) (v : Protocol) (q : ServerNo) (event : Event) → IsAtUp q event → refusal_of x v event ≡ if_up x q v (refusal_up v event)
+  at-up x v q (events.Step s) h = ap (λ (r : ServerNo). if_up x r v None) h
+  at-up x v q (events.Nudge s) h = ap (λ (r : ServerNo). if_up x r v None) h
+  at-up x v q (events.Timeout s T) h = ap (λ (r : ServerNo). if_up x r v (refusal_up v (events.Timeout s T))) h
+  at-up x v q (events.Scrub s) h = ap (λ (r : ServerNo). if_up x r v None) h
+  at-up x v q (events.Crash s) h = ap (λ (r : ServerNo). if_up x r v None) h
+  at-up x v q (events.Show s) h = ap (λ (r : ServerNo). if_up x r v None) h
+  at-up x v q (events.Command c command) h = absurd h
+  at-up x v q (events.Again c) h = absurd h
+  at-up x v q (events.Deliver k) h = absurd h
+  at-up x v q events.Settle h = absurd h
+  at-up x v q (events.Decay s p) h = absurd h
+  at-up x v q (events.Revive s p) h = absurd h
+  at-up x v q (events.Arm s n kind) h = absurd h
+  at-up x v q (events.Restart s) h = absurd h
+
+  pub refused-not-there : (w : Standing S) (q : ServerNo) (event : Event) → IsAtUp q event → nat_lt q.0 (length w.places) ≡ false → (x : Setup) (m : Moment) → Stands look device x w m → refusal_of x m.state.course.world event ≡ Some refusals.NoSuchServer
+  refused-not-there w q event its none x m stands = at-up x m.state.course.world q event its ∙ not-there x w m stands q (unless (is_some (m.state.course.world.memory q)) refusals.ServerDown (refusal_up m.state.course.world event)) none
+
+  pub refused-down : (w : Standing S) (q : ServerNo) (event : Event) → IsAtUp q event → nat_lt q.0 (length w.places) ≡ true → q.0 < length w.places → is_up_at q.0 w.places ≡ false → (x : Setup) (m : Moment) → Stands look device x w m
+      → refusal_of x m.state.course.world event ≡ Some refusals.ServerDown
+  refused-down w q event its there h down x m stands = at-up x m.state.course.world q event its ∙ is-down x w m stands q (refusal_up m.state.course.world event) there h down
+
+  pub refused-up : (w : Standing S) (q : ServerNo) (event : Event) → IsAtUp q event → nat_lt q.0 (length w.places) ≡ true → q.0 < length w.places → is_up_at q.0 w.places ≡ true → (x : Setup) (m : Moment) → Stands look device x w m
+      → refusal_of x m.state.course.world event ≡ refusal_up m.state.course.world event
+  refused-up w q event its there h up x m stands = at-up x m.state.course.world q event its ∙ is-up x w m stands q (refusal_up m.state.course.world event) there h up
+
+  -- ---- refused, or done
+
+  module _ (when : When) (event : Event) where
+    -- the call tells the refusal and does nothing more
+    pub meets-refused : {A : Type 0} (refusal : EventRefusal) (r : Result A Ended) (w : Standing S) (first later : List Line)
+        → ((x : Setup) (m : Moment) → Stands look device x w m → refusal_of x m.state.course.world event ≡ Some refusal) → length w.net.sent ≤ 1000000
+        → OnOk r (later ≡ first ++ record { when = when; text = says.RefusedEvent refusal } ∷ []) → IfErr r (λ e. e ≡ Memory)
+        → DoesTasks look device (λ x. Meets event ∷ []) when w r w first later
+    meets-refused {A} refusal (Err e) w first later refused few told memory = λ x m rest stands tasks going is. subst (λ (f : Ended). GoesTo {S = S} {A = A} look device x m rest (Err f) w first later) (sym memory) tt
+    meets-refused refusal (Ok a) w first later refused few told memory = λ x m rest stands tasks going is.
+        let step = refused-step look device x w m stands event refusal first (next-first m.state (Meets event) rest tasks going) (refused x m stands) in
+        subst (λ (l : List Line). WentOn look device x m rest w first l) (ap (λ (at : When). first ++ record { when = at; text = says.RefusedEvent refusal } ∷ []) is ∙ sym told)
+        (subst (λ (ts : List Task). WentOn look device x m ts w first (first ++ record { when = when_of m.state; text = says.RefusedEvent refusal } ∷ [])) (ap (λ (ts : List Task). drop 1 ts) tasks) (step.done few))
+
+    -- it isn't refused
+    pub meets-done : {A : Type 0} (r : Result A Ended) (w u : Standing S) (first later : List Line) → is_settle event ≡ false
+        → ((x : Setup) (m : Moment) → Stands look device x w m → refusal_of x m.state.course.world event ≡ None)
+        → DoesEvent look device event when w r u first later → DoesTasks look device (λ x. Meets event ∷ []) when w r u first later
+    meets-done r w u first later settle may h x m rest stands tasks going is =
+        subst (λ (ts : List Task). GoesTo look device x m ts r u first later) (ap (λ (ts : List Task). drop 1 ts) tasks)
+        (h x m [] stands (meets-acts x m event (next-first m.state (Meets event) rest tasks going) settle (may x m stands)) is)

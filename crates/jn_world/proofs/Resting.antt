@@ -1,0 +1,50 @@
+-- One turn of a rest: a message is handed over, a server makes a step, or nothing is left.
+use Rattle.std.proofs.Common.{◌≡◌, ◌≤◌, Bool, true, false, List, [], ◌∷◌, ◌++◌, length, Option, Some, None, Result, Ok, Err, refl, sym, ◌∙◌, ap, subst}
+use Rattle.std.specs.Prelude.{drop}
+use Rattle.jn_device.specs.Device.{DeviceState}
+use Rattle.jn_report.specs.declared.line.Line.{Line}
+use Rattle.jn_report.specs.declared.line.When.{When}
+use Rattle.jn_schedule.specs.declared.Event.{Event}
+use Rattle.jn_stands.proofs.RestNext.{rest-next, rest-over-step}
+use Rattle.jn_stands.specs.Going.{WentOn}
+use Rattle.jn_stands.specs.Stands.{Standing, Stands}
+use Rattle.jn_store.specs.Pairs.{pairs_view}
+use Rattle.jn_store.specs.Store.{StoreView}
+use Rattle.jn_world.specs.declared.ended.Ended.{Ended}
+use Rattle.jn_world.specs.declared.ended.Ended.TheVariants.{Messages, Epoch, Memory}
+use Rattle.jn_world.specs.Written.{GoesTo, GoesTurn, DoesEvent, TakesTurn}
+use Rattle.jn_world.proofs.Turns.{next-first}
+use Rattle.jn_written.specs.Chances.{Setup}
+use Rattle.jn_written.specs.Devices.{rubbish_on}
+use Rattle.jn_written.specs.Events.{next_in}
+use Rattle.jn_written.specs.Runs.{Moment}
+use Rattle.jn_written.specs.Tasks.{Task, Rests}
+
+module _ {S : Type 0} (look : S → StoreView) (device : S → DeviceState) (seen : (s : S) → look s ≡ pairs_view (device s)) (when : When) (w : Standing S) where
+  -- this event is next, and was done
+  pub turn-done : {A : Type 0} (event : Event) (a : A) (u : Standing S) (first later : List Line)
+      → ((x : Setup) (m : Moment) → Stands look device x w m → next_in x (rubbish_on x m.devices) m.state.course ≡ Some event)
+      → DoesEvent look device event when w (Ok a) u first later → TakesTurn look device when w (Ok true) u first later
+  turn-done event a u first later is-next h x m rest stands tasks going is =
+      subst (λ (ts : List Task). WentOn look device x m (Rests ∷ drop 1 ts) u first later) tasks
+      (h x m (Rests ∷ []) stands (rest-next look device seen x w m stands (next-first m.state Rests rest tasks going) event (is-next x m stands)) is)
+
+  -- or it failed
+  pub turn-failed : (A : Type 0) (event : Event) (e : Ended) (u : Standing S) (first later : List Line)
+      → ((x : Setup) (m : Moment) → Stands look device x w m → next_in x (rubbish_on x m.devices) m.state.course ≡ Some event)
+      → DoesEvent {S = S} {A = A} look device event when w (Err e) u first later → TakesTurn look device when w (Err e) u first later
+  turn-failed A event e u first later is-next h x m rest stands tasks going is =
+      by e (h x m (Rests ∷ []) stands (rest-next look device seen x w m stands (next-first m.state Rests rest tasks going) event (is-next x m stands)) is)
+    where
+      by : (e : Ended) → GoesTo {S = S} {A = A} look device x m ((Rests ∷ []) ++ drop 1 m.state.tasks) (Err e) u first later → GoesTurn look device x m rest (Err e) u first later
+      by Messages g = g
+      by (Epoch q) g = g
+      by Memory g = tt
+
+  -- nothing is left to do
+  pub turn-over : (first : List Line) → length w.net.sent ≤ 1000000
+      → ((x : Setup) (m : Moment) → Stands look device x w m → next_in x (rubbish_on x m.devices) m.state.course ≡ None)
+      → TakesTurn look device when w (Ok false) w first first
+  turn-over first few none x m rest stands tasks going is =
+      let step = rest-over-step look device seen x w m stands (next-first m.state Rests rest tasks going) (none x m stands) first in
+      subst (λ (ts : List Task). WentOn look device x m (drop 1 ts) w first first) tasks (step.done few)

@@ -1,0 +1,125 @@
+-- Messages and notes of a step one after another, and what the world has then.
+use Rattle.std.proofs.Common.{◌≡◌, ◌≤◌, ◌<◌, ℕ, suc, ◌+◌, Bool, true, false, ◌||◌, List, [], ◌∷◌, ◌++◌, length, length-append, append_assoc, append-nil, map, Option, Some, None, Result, Ok, Err, refl, sym, ◌∙◌, ap, subst, arith}
+use Rattle.std.proofs.Math.Path.{fun_ext}
+use Rattle.std.proofs.lemmas.List.{map-append}
+use Rattle.std.proofs.lemmas.List.Folds.{list_any-append}
+use Rattle.std.proofs.Math.Bool.{or_assoc, or_comm}
+use Rattle.std.specs.List.{list_any}
+use Rattle.jn_base.specs.declared.names.Party.{Party}
+use Rattle.jn_base.specs.declared.names.Party.TheVariants.{Server}
+use Rattle.jn_base.specs.declared.names.ServerNo.{ServerNo}
+use Rattle.jn_base.specs.declared.names.Tid.{Tid}
+use Rattle.jn_base.specs.Names.{tid_eq}
+use Rattle.jn_moves.proofs.Mirrored.{commits-more}
+use Rattle.jn_msgs.specs.declared.message.Note.{Note}
+use Rattle.jn_msgs.specs.Kinds.{kind_of}
+use Rattle.jn_net.specs.Carried.{Carried}
+use Rattle.jn_net.specs.declared.Sent.{Sent as Posted}
+use Rattle.jn_protocol.specs.Servers.{line_of, lines_of}
+use Rattle.jn_protocol.specs.World.{commits_in, has_line}
+use Rattle.jn_report.specs.declared.line.Line.{Line}
+use Rattle.jn_report.specs.declared.line.Text.{Text}
+use Rattle.jn_report.specs.declared.line.Text.TheVariants as says
+use Rattle.jn_report.specs.declared.line.When.{When}
+use Rattle.jn_rows.specs.Outcomes.{Sent}
+use Rattle.jn_msgs.specs.Collected.{Collected}
+use Rattle.jn_stands.specs.Stands.{Standing, posted_by, with_sent, with_named, with_answer, texts_sent}
+use Rattle.jn_world.proofs.Exits.{part-as}
+use Rattle.jn_world.specs.declared.ended.Ended.{Ended}
+use Rattle.jn_world.specs.declared.ended.Ended.TheVariants.{Messages, Epoch, Memory}
+use Rattle.jn_world.specs.declared.world.World.{World}
+use Rattle.jn_world.specs.Naming.{is_among}
+use Rattle.jn_world.specs.Written.{standing_of, EndsStep, EndsPart}
+use Rattle.jn_written.specs.Steps.{lines_at, message_texts, traced}
+
+-- ---- lines
+
+pub lines-append : (when : When) (a b : List Text) → lines_at when (a ++ b) ≡ lines_at when a ++ lines_at when b
+lines-append when a b = map-append (λ (text : Text). record { when = when; text = text }) a b
+
+pub lines-then : (when : When) (first : List Line) (a b : List Text) → (first ++ lines_at when a) ++ lines_at when b ≡ first ++ lines_at when (a ++ b)
+lines-then when first a b = append_assoc first (lines_at when a) (lines_at when b) ∙ ap (λ (more : List Line). first ++ more) (sym (lines-append when a b))
+
+pub notes-append : (q : ServerNo) (k : Option ℕ) (a b : List Note) → lines_of q k (a ++ b) ≡ lines_of q k a ++ lines_of q k b
+notes-append q k [] b = refl
+notes-append q k (n ∷ ns) b = ap (λ (more : List Text). line_of q k n ++ more) (notes-append q k ns b) ∙ sym (append_assoc (line_of q k n) (lines_of q k ns) (lines_of q k b))
+
+pub one-note : (q : ServerNo) (k : Option ℕ) (n : Note) → lines_of q k (n ∷ []) ≡ line_of q k n
+one-note q k n = append-nil (line_of q k n)
+
+messages-append : (from : Party) (k : ℕ) (xs ys : List Sent) → message_texts from k (xs ++ ys) ≡ message_texts from k xs ++ message_texts from (k + length xs) ys
+messages-append from k [] ys = let at : k ≡ k + 0 = omega arith in ap (λ (n : ℕ). message_texts from n ys) at
+messages-append from k (x ∷ xs) ys =
+    let at : k + 1 + length xs ≡ k + suc (length xs) = omega arith in
+    ap (λ (more : List Text). says.Message k from x.0 (kind_of x.1) ∷ more) (messages-append from (k + 1) xs ys ∙ ap (λ (n : ℕ). message_texts from (k + 1) xs ++ message_texts from n ys) at)
+
+traced-append : (trace : Bool) (a b : List Text) → traced trace (a ++ b) ≡ traced trace a ++ traced trace b
+traced-append true a b = refl
+traced-append false a b = refl
+
+pub posted-append : (from : Party) (a b : List Sent) → posted_by from (a ++ b) ≡ posted_by from a ++ posted_by from b
+posted-append from a b = map-append (λ (m : Sent). record { from = from; to = m.0; message = m.1; delivered = false }) a b
+
+-- ---- what the world has
+
+pub among-append : (a b : List Tid) (T : Tid) → is_among (a ++ b) T ≡ (is_among b T || is_among a T)
+among-append a b T = list_any-append (λ U. tid_eq U T) a b ∙ or_comm (is_among a T) (is_among b T)
+
+-- these lines were told
+pub named-so : {S : Type 0} (a b : World S) (texts : List Text) → b ≡ record a { named = b.named } → b.named.names.items ≡ a.named.names.items ++ commits_in texts → standing_of b ≡ with_named texts (standing_of a)
+named-so {S} a b texts others names =
+    let rest : standing_of b ≡ record (standing_of a) { named = is_among b.named.names.items; commits = length b.named.names.items } = ap (λ (w : World S). standing_of w) others in
+    let among : is_among b.named.names.items ≡ (λ T. has_line T texts || is_among a.named.names.items T) =
+    fun_ext (λ (T : Tid). ap (λ (ts : List Tid). is_among ts T) names ∙ among-append a.named.names.items (commits_in texts) T) in
+    let many : length b.named.names.items ≡ length a.named.names.items + length (commits_in texts) = ap length names ∙ length-append a.named.names.items (commits_in texts) in
+    rest ∙ ap (λ (f : Tid → Bool). record (standing_of a) { named = f; commits = length b.named.names.items }) among
+    ∙ ap (λ (n : ℕ). record (standing_of a) { named = λ T. has_line T texts || is_among a.named.names.items T; commits = n }) many
+
+-- messages are sent one after another
+pub sent-then : {S : Type 0} (from : Party) (a b c : Standing S) (xs ys : List Sent) → b ≡ with_sent (posted_by from xs) a → c ≡ with_sent (posted_by from ys) b → c ≡ with_sent (posted_by from (xs ++ ys)) a
+sent-then {S} from a b c xs ys first then' =
+    then' ∙ ap (λ (w : Standing S). with_sent (posted_by from ys) w) first
+    ∙ ap (λ (more : List Posted). record a { net = record a.net { sent = more } }) (append_assoc a.net.sent (posted_by from xs) (posted_by from ys) ∙ ap (λ (more : List Posted). a.net.sent ++ more) (sym (posted-append from xs ys)))
+
+pub as-many-posted : (from : Party) (xs : List Sent) → length (posted_by from xs) ≡ length xs
+as-many-posted from [] = refl
+as-many-posted from (x ∷ xs) = ap suc (as-many-posted from xs)
+
+pub many-sent : {S : Type 0} (from : Party) (a b : Standing S) (xs : List Sent) → b ≡ with_sent (posted_by from xs) a → length b.net.sent ≡ length a.net.sent + length xs
+many-sent {S} from a b xs e = ap (λ (w : Standing S). length w.net.sent) e ∙ length-append a.net.sent (posted_by from xs) ∙ ap (λ (n : ℕ). length a.net.sent + n) (as-many-posted from xs)
+
+-- and their lines
+pub texts-then : {S : Type 0} (when : When) (from : Party) (trace : Bool) (a b : Standing S) (told now later : List Line) (xs ys : List Sent) → b ≡ with_sent (posted_by from xs) a
+    → now ≡ told ++ lines_at when (traced trace (message_texts from (length a.net.sent) xs))
+    → later ≡ now ++ lines_at when (traced trace (message_texts from (length b.net.sent) ys))
+    → later ≡ told ++ lines_at when (traced trace (message_texts from (length a.net.sent) (xs ++ ys)))
+texts-then {S} when from trace a b told now later xs ys e first then' =
+    let n = length a.net.sent in
+    let one = message_texts from n xs in
+    let two = message_texts from (n + length xs) ys in
+    then' ∙ ap (λ (k : ℕ). now ++ lines_at when (traced trace (message_texts from k ys))) (many-sent from a b xs e)
+    ∙ ap (λ (l : List Line). l ++ lines_at when (traced trace two)) first
+    ∙ lines-then when told (traced trace one) (traced trace two)
+    ∙ ap (λ (texts : List Text). told ++ lines_at when texts) (sym (traced-append trace one two) ∙ ap (λ (texts : List Text). traced trace texts) (sym (messages-append from n xs ys)))
+
+-- what a step of a server tells and sends
+pub sends-out : {S A : Type 0} (q : ServerNo) (k : Option ℕ) (when : When) (out : Collected) (a b : World S) (notes : List Note) (messages : List Sent) (new : Standing S) (told now later : List Line) (r : Result A Ended)
+    → notes ≡ out.notes → messages ≡ out.messages → b ≡ record a { named = b.named } → b.named.names.items ≡ a.named.names.items ++ commits_in (lines_of q k notes)
+    → now ≡ told ++ lines_at when (lines_of q k notes)
+    → EndsPart r (with_sent (posted_by (Server q) messages) (standing_of b)) new (now ++ lines_at when (traced b.trace (message_texts (Server q) (length b.net.sent) messages))) later
+    → EndsPart r (with_answer q k (Some out) (standing_of a)) new (told ++ lines_at when (texts_sent q k a.trace (length a.net.sent) (Some out))) later
+sends-out {S} q k when out a b notes messages new told now later r its-notes its-messages others names tells h =
+    let noted : standing_of b ≡ with_named (lines_of q k out.notes) (standing_of a) = named-so a b (lines_of q k notes) others names ∙ ap (λ (ns : List Note). with_named (lines_of q k ns) (standing_of a)) its-notes in
+    let same = ap (λ (ms : List Sent). with_sent (posted_by (Server q) ms) (standing_of b)) its-messages ∙ ap (λ (w : Standing S). with_sent (posted_by (Server q) out.messages) w) noted in
+    let first = lines_of q k out.notes in
+    let second = traced a.trace (message_texts (Server q) (length a.net.sent) out.messages) in
+    let lines = ap (λ (ms : List Sent). now ++ lines_at when (traced b.trace (message_texts (Server q) (length b.net.sent) ms))) its-messages
+    ∙ ap (λ (w : World S). now ++ lines_at when (traced w.trace (message_texts (Server q) (length w.net.sent) out.messages))) others
+    ∙ ap (λ (l : List Line). l ++ lines_at when second) (tells ∙ ap (λ (ns : List Note). told ++ lines_at when (lines_of q k ns)) its-notes)
+    ∙ lines-then when told first second in
+    part-as r (with_sent (posted_by (Server q) messages) (standing_of b)) (with_answer q k (Some out) (standing_of a)) new
+    (now ++ lines_at when (traced b.trace (message_texts (Server q) (length b.net.sent) messages))) (told ++ lines_at when (first ++ second)) later same lines h
+
+-- as many were sent as a network carries
+pub over-limit : (sent : List Posted) (m : Posted) → 1000000 ≤ length sent → 1000000 < length (sent ++ m ∷ [])
+over-limit sent m h = let many = length-append sent (m ∷ []) in omega arith

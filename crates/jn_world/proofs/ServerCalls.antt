@@ -1,0 +1,202 @@
+-- What a call of a server's place does, and its messages and notes, is an event of the written machine.
+use Rattle.std.proofs.Common.{◌≡◌, ◌≤◌, ◌<◌, ℕ, zero, suc, ◌+◌, ◌-◌, Bool, true, false, List, [], ◌∷◌, ◌++◌, length, Option, Some, None, Result, Ok, Err, true≢false, refl, sym, ◌∙◌, ap, subst, arith}
+use Rattle.std.proofs.Math.ListN.{set}
+use Rattle.std.specs.Prelude.{drop, slice_get, slice_set, IsErr, IsErrAnd}
+use Rattle.jn_base.specs.declared.device.FaultKind.{FaultKind}
+use Rattle.jn_base.specs.declared.device.FaultKind.TheVariants as faults
+use Rattle.jn_base.specs.declared.names.ClientNo.{ClientNo}
+use Rattle.jn_base.specs.declared.names.Party.TheVariants.{Client, Server}
+use Rattle.jn_base.specs.declared.names.ServerNo.{ServerNo}
+use Rattle.jn_base.specs.declared.names.Tid.{Tid}
+use Rattle.jn_base.specs.declared.op.Command.{Command}
+use Rattle.jn_device.specs.Device.{DeviceState}
+use Rattle.jn_device.specs.Events.{Decays as PageDecays, Revives as PageRevives, Arms as FaultArmed}
+use Rattle.jn_msgs.specs.Collected.{Collected}
+use Rattle.jn_net.specs.Carried.{with_delivered}
+use Rattle.jn_net.specs.declared.Sent.{Sent as Posted}
+use Rattle.jn_place.specs.declared.place.Place.{Place}
+use Rattle.jn_place.specs.declared.place.Slot.{Slot}
+use Rattle.jn_place.specs.declared.place.Slot.TheVariants.{Up, Down, Gone}
+use Rattle.jn_place.specs.Exact.{Took, WorkedBy, ScrubbedBy, Showed, AsksAgain, TimedOut, Crashed, Befell, has_work_at}
+use Rattle.jn_protocol.specs.Steps.{sent_now}
+use Rattle.jn_recovery.specs.Loading.{counts_by}
+use Rattle.jn_report.specs.declared.line.EventRefusal.TheVariants.{TooManyArmed}
+use Rattle.jn_report.specs.declared.line.Line.{Line}
+use Rattle.jn_report.specs.declared.line.Text.{Text}
+use Rattle.jn_report.specs.declared.line.Text.TheVariants as says
+use Rattle.jn_report.specs.declared.line.When.{When}
+use Rattle.jn_report.specs.declared.line.When.TheVariants.{Event as AtEvent, End}
+use Rattle.jn_rows.specs.Client.{ClientTable, Commanded, command_row, take_row, again_row, new_table}
+use Rattle.jn_rows.specs.Outcomes.{Sent}
+use Rattle.jn_schedule.specs.declared.Event.{Event}
+use Rattle.jn_schedule.specs.declared.Event.TheVariants as events
+use Rattle.jn_server.specs.declared.show.Shown.{Shown}
+use Rattle.jn_stands.specs.Clients.{with_client, texts_taken, texts_commanded, sent_commanded, table_commanded}
+use Rattle.jn_stands.specs.Going.{IsStepTo, ActsNext}
+use Rattle.jn_stands.specs.Pages.{HasCounts, ReadsPages}
+use Rattle.jn_stands.specs.Showing.{texts_shown}
+use Rattle.jn_stands.specs.Stands.{Standing, Stands, is_client, posted_by, with_sent, texts_sent, with_answer}
+use Rattle.jn_stands.proofs.ClientSteps.{client-took-step, other-took-step}
+use Rattle.jn_stands.proofs.Commands.{told-step, asked-step}
+use Rattle.jn_stands.proofs.Losing.{lost-step}
+use Rattle.jn_stands.proofs.Took.{took-step}
+use Rattle.jn_stands.proofs.Working.{idle-step, worked-step}
+use Rattle.jn_stands.proofs.Nudging.{nudged-step, nudged-down-step, timed-out-step}
+use Rattle.jn_stands.proofs.Looking.{scrubbed-step, showed-step}
+use Rattle.jn_stands.proofs.Crashing.{crashed-step}
+use Rattle.jn_stands.proofs.Befalling.{decayed-step, revived-step, armed-step}
+use Rattle.jn_store.specs.Pairs.{pairs_view}
+use Rattle.jn_store.specs.Store.{StoreView}
+use Rattle.jn_within.specs.Taking.{sent_for}
+use Rattle.jn_world.specs.declared.ended.Ended.{Ended}
+use Rattle.jn_world.specs.declared.ended.Ended.TheVariants.{Memory}
+use Rattle.jn_world.specs.Written.{GoesTo, DoesEvent, EndsStep}
+use Rattle.jn_world.proofs.Calls.{step-ends}
+use Rattle.jn_written.specs.Chances.{Setup}
+use Rattle.jn_written.specs.Events.{told_unless}
+use Rattle.jn_written.specs.Runs.{Moment}
+use Rattle.jn_written.specs.Steps.{lines_at, message_texts, traced}
+use Rattle.jn_written.specs.Tasks.{Task, Stage, InSchedule, AtEnd, CutShort, when_at, when_of}
+
+module _ {S : Type 0} (look : S → StoreView) (device : S → DeviceState) (seen : (s : S) → look s ≡ pairs_view (device s)) where
+  -- without memory nothing is said
+  pub event-without : {A : Type 0} (r : Result A Ended) (event : Event) (when : When) (w u : Standing S) (first later : List Line) → IsErr r → IsErrAnd r (λ e. e ≡ Memory) → DoesEvent look device event when w r u first later
+  event-without (Ok a) event when w u first later is which = absurd (true≢false (sym is))
+  event-without {A} (Err e) event when w u first later is which = subst (λ (f : Ended). DoesEvent {S = S} {A = A} look device event when w (Err f) u first later) (sym which) (λ x m more stands next at. tt)
+
+  -- a step of one place, which is written by an index
+  module _ (w : Standing S) (q : ServerNo) (place new : Place S) (i : ℕ) (index : i ≡ q.0) (same : new.counts ≡ place.counts) where
+    place-is : record place { slot = new.slot } ≡ new
+    place-is = ap (λ (c : _). record new { counts = c }) (sym same)
+
+    written : (x : Setup) (m : Moment) (rest : List Task) (f : List (Place S) → Standing S) (lines wanted : List Line)
+        → IsStepTo look device x m rest (f (slice_set w.places q.0 (record place { slot = new.slot }))) lines wanted → IsStepTo look device x m rest (f (set w.places i new)) lines wanted
+    written x m rest f lines wanted step =
+        subst (λ (n : ℕ). IsStepTo look device x m rest (f (set w.places n new)) lines wanted) (sym index)
+        (subst (λ (p : Place S). IsStepTo look device x m rest (f (set w.places q.0 p)) lines wanted) place-is step)
+
+    module _ {A : Type 0} (when : When) (r : Result A Ended) (u : Standing S) (first later : List Line) (at : slice_get w.places q.0 ≡ Some place) (counts : HasCounts (counts_by place.counts) new.slot) where
+      -- it takes a message
+      pub took-does : (k : ℕ) (one : Posted) (answer : Option Collected) (told : List Line) → slice_get w.net.sent k ≡ Some one → one.to ≡ Server q → ReadsPages look device (counts_by place.counts) place.slot
+          → Took look device q (counts_by place.counts) when one.message place.slot answer new.slot [] told
+          → EndsStep r (with_answer q (Some k) answer (record w { places = set w.places i new; net = record w.net { sent = with_delivered k w.net.sent } })) u first (first ++ told ++ lines_at when (texts_sent q (Some k) w.trace (length w.net.sent) answer)) later
+          → DoesEvent look device (events.Deliver k) when w r u first later
+      took-does k one answer told posted to reads took ends x m more stands next is =
+          step-ends look device x m (more ++ drop 1 m.state.tasks) (with_answer q (Some k) answer (record w { places = set w.places i new; net = record w.net { sent = with_delivered k w.net.sent } })) u r first
+          (first ++ told ++ lines_at when (texts_sent q (Some k) w.trace (length w.net.sent) answer)) later
+          (subst (λ (t : When). Took look device q (counts_by place.counts) t one.message place.slot answer new.slot [] told
+          → IsStepTo look device x m (more ++ drop 1 m.state.tasks) (with_answer q (Some k) answer (record w { places = set w.places i new; net = record w.net { sent = with_delivered k w.net.sent } })) first (first ++ told ++ lines_at t (texts_sent q (Some k) w.trace (length w.net.sent) answer))) is
+          (λ t. written x m (more ++ drop 1 m.state.tasks) (λ ps. with_answer q (Some k) answer (record w { places = ps; net = record w.net { sent = with_delivered k w.net.sent } })) first _
+          (took-step look device seen x w m stands k one posted q to place at reads more next answer new.slot told t counts first)) took)
+          ends
+
+      -- a background step
+      pub worked-does : (answer : Option Collected) (told : List Line) → ReadsPages look device (counts_by place.counts) place.slot
+          → WorkedBy look device q (counts_by place.counts) when place.slot answer new.slot [] told
+          → EndsStep r (with_answer q None answer (record w { places = set w.places i new })) u first (first ++ told ++ lines_at when (texts_sent q None w.trace (length w.net.sent) answer)) later
+          → DoesEvent look device (events.Step q) when w r u first later
+      worked-does answer told reads worked ends x m more stands next is =
+          step-ends look device x m (more ++ drop 1 m.state.tasks) (with_answer q None answer (record w { places = set w.places i new })) u r first
+          (first ++ told ++ lines_at when (texts_sent q None w.trace (length w.net.sent) answer)) later
+          (subst (λ (t : When). WorkedBy look device q (counts_by place.counts) t place.slot answer new.slot [] told
+          → IsStepTo look device x m (more ++ drop 1 m.state.tasks) (with_answer q None answer (record w { places = set w.places i new })) first (first ++ told ++ lines_at t (texts_sent q None w.trace (length w.net.sent) answer))) is
+          (λ t. written x m (more ++ drop 1 m.state.tasks) (λ ps. with_answer q None answer (record w { places = ps })) first _
+          (worked-step look device seen x w m stands q place at reads more next answer new.slot told t counts first)) worked)
+          ends
+
+      -- its pages are cleaned
+      pub scrubbed-does : (done : Bool) (wanted : List Line) → ScrubbedBy look device q (counts_by place.counts) when place.slot done new.slot first wanted
+          → EndsStep r (record w { places = set w.places i new }) u first wanted later → DoesEvent look device (events.Scrub q) when w r u first later
+      scrubbed-does done wanted scrubbed ends x m more stands next is =
+          step-ends look device x m (more ++ drop 1 m.state.tasks) (record w { places = set w.places i new }) u r first wanted later
+          (written x m (more ++ drop 1 m.state.tasks) (λ ps. record w { places = ps }) first wanted
+          (scrubbed-step look device seen x w m stands q place at more first wanted done new.slot
+          (subst (λ (t : When). ScrubbedBy look device q (counts_by place.counts) t place.slot done new.slot first wanted) (sym is) scrubbed) counts next))
+          ends
+
+      -- its files are printed
+      pub showed-does : (list : Option (List Shown)) (now : List Line) → Showed look device q (counts_by place.counts) when place.slot list new.slot first now
+          → EndsStep r (record w { places = set w.places i new }) u first (now ++ lines_at when (texts_shown q list)) later → DoesEvent look device (events.Show q) when w r u first later
+      showed-does list now showed ends x m more stands next is =
+          step-ends look device x m (more ++ drop 1 m.state.tasks) (record w { places = set w.places i new }) u r first (now ++ lines_at when (texts_shown q list)) later
+          (subst (λ (t : When). Showed look device q (counts_by place.counts) t place.slot list new.slot first now
+          → IsStepTo look device x m (more ++ drop 1 m.state.tasks) (record w { places = set w.places i new }) first (now ++ lines_at t (texts_shown q list))) is
+          (λ s. written x m (more ++ drop 1 m.state.tasks) (λ ps. record w { places = ps }) first _
+          (showed-step look device seen x w m stands q place at more first now list new.slot s counts next)) showed)
+          ends
+
+      -- a work may be broken from now on
+      pub timed-out-does : (T : Tid) (answer : Bool) → TimedOut look T place.slot answer new.slot
+          → EndsStep r (record w { places = set w.places i new }) u first first later → DoesEvent look device (events.Timeout q T) when w r u first later
+      timed-out-does T answer timed ends x m more stands next is =
+          step-ends look device x m (more ++ drop 1 m.state.tasks) (record w { places = set w.places i new }) u r first first later
+          (written x m (more ++ drop 1 m.state.tasks) (λ ps. record w { places = ps }) first first
+          (timed-out-step look device seen x w m stands q place at T more next answer new.slot timed counts first))
+          ends
+
+      -- it goes down
+      pub crashed-does : Crashed look device (counts_by place.counts) place.slot new.slot
+          → EndsStep r (record w { places = set w.places i new }) u first (first ++ record { when = when; text = says.Down q } ∷ []) later → DoesEvent look device (events.Crash q) when w r u first later
+      crashed-does crashed ends x m more stands next is =
+          step-ends look device x m (more ++ drop 1 m.state.tasks) (record w { places = set w.places i new }) u r first (first ++ record { when = when; text = says.Down q } ∷ []) later
+          (subst (λ (t : When). IsStepTo look device x m (more ++ drop 1 m.state.tasks) (record w { places = set w.places i new }) first (first ++ record { when = t; text = says.Down q } ∷ [])) is
+          (written x m (more ++ drop 1 m.state.tasks) (λ ps. record w { places = ps }) first _
+          (crashed-step look device seen x w m stands q place at first more new.slot crashed next)))
+          ends
+
+      -- a page goes bad, is good again, or a fault is to wait
+      pub decayed-does : (p : ℕ) (answer : Bool) → Befell look device (counts_by place.counts) (λ d e. PageDecays d p answer e) place.slot new.slot
+          → EndsStep r (record w { places = set w.places i new }) u first (first ++ lines_at when (told_unless answer (says.Outside q (record { kind = faults.Decay p; page = p })))) later
+          → DoesEvent look device (events.Decay q p) when w r u first later
+      decayed-does p answer befell ends x m more stands next is =
+          step-ends look device x m (more ++ drop 1 m.state.tasks) (record w { places = set w.places i new }) u r first (first ++ lines_at when (told_unless answer (says.Outside q (record { kind = faults.Decay p; page = p })))) later
+          (subst (λ (t : When). IsStepTo look device x m (more ++ drop 1 m.state.tasks) (record w { places = set w.places i new }) first (first ++ lines_at t (told_unless answer (says.Outside q (record { kind = faults.Decay p; page = p }))))) is
+          (written x m (more ++ drop 1 m.state.tasks) (λ ps. record w { places = ps }) first _
+          (decayed-step look device seen x w m stands q place at new.slot counts first more p answer next befell)))
+          ends
+
+      pub revived-does : (p : ℕ) → Befell look device (counts_by place.counts) (λ d e. PageRevives d p e) place.slot new.slot
+          → EndsStep r (record w { places = set w.places i new }) u first first later → DoesEvent look device (events.Revive q p) when w r u first later
+      revived-does p befell ends x m more stands next is =
+          step-ends look device x m (more ++ drop 1 m.state.tasks) (record w { places = set w.places i new }) u r first first later
+          (written x m (more ++ drop 1 m.state.tasks) (λ ps. record w { places = ps }) first first
+          (revived-step look device seen x w m stands q place at new.slot counts first more p next befell))
+          ends
+
+      pub armed-does : (n : ℕ) (kind : FaultKind) (answer : Bool) → Befell look device (counts_by place.counts) (λ d e. FaultArmed d n kind answer e) place.slot new.slot
+          → EndsStep r (record w { places = set w.places i new }) u first (first ++ lines_at when (told_unless answer (says.RefusedEvent TooManyArmed))) later
+          → DoesEvent look device (events.Arm q n kind) when w r u first later
+      armed-does n kind answer befell ends x m more stands next is =
+          step-ends look device x m (more ++ drop 1 m.state.tasks) (record w { places = set w.places i new }) u r first (first ++ lines_at when (told_unless answer (says.RefusedEvent TooManyArmed))) later
+          (subst (λ (t : When). IsStepTo look device x m (more ++ drop 1 m.state.tasks) (record w { places = set w.places i new }) first (first ++ lines_at t (told_unless answer (says.RefusedEvent TooManyArmed)))) is
+          (written x m (more ++ drop 1 m.state.tasks) (λ ps. record w { places = ps }) first _
+          (armed-step look device seen x w m stands q place at new.slot counts first more n kind answer next befell)))
+          ends
+
+  module _ {A : Type 0} (w : Standing S) (q : ServerNo) (place : Place S) (at : slice_get w.places q.0 ≡ Some place) (when : When) (r : Result A Ended) (u : Standing S) (first later : List Line) where
+    -- it sends again what waits for an answer
+    pub nudged-does : (out : Collected) → AsksAgain look place.slot out
+        → EndsStep r (with_answer q None (Some out) w) u first (first ++ lines_at when (texts_sent q None w.trace (length w.net.sent) (Some out))) later → DoesEvent look device (events.Nudge q) when w r u first later
+    nudged-does out asks ends x m more stands next is =
+        step-ends look device x m (more ++ drop 1 m.state.tasks) (with_answer q None (Some out) w) u r first (first ++ lines_at when (texts_sent q None w.trace (length w.net.sent) (Some out))) later
+        (subst (λ (t : When). IsStepTo look device x m (more ++ drop 1 m.state.tasks) (with_answer q None (Some out) w) first (first ++ lines_at t (texts_sent q None w.trace (length w.net.sent) (Some out)))) is
+        (nudged-step look device seen x w m stands q place at more next out asks first))
+        ends
+
+    pub nudged-down-does : (s : S) → place.slot ≡ Down s → EndsStep r w u first first later → DoesEvent look device (events.Nudge q) when w r u first later
+    nudged-down-does s down ends x m more stands next is =
+        step-ends look device x m (more ++ drop 1 m.state.tasks) w u r first first later (nudged-down-step look device seen x w m stands q place at s down more next first) ends
+
+    -- it has nothing to do
+    pub idle-does : ReadsPages look device (counts_by place.counts) place.slot → has_work_at look place.slot ≡ false → EndsStep r w u first first later → DoesEvent look device (events.Step q) when w r u first later
+    idle-does reads idle ends x m more stands next is =
+        step-ends look device x m (more ++ drop 1 m.state.tasks) w u r first first later (idle-step look device seen x w m stands q place at reads more next idle first) ends
+
+    -- it is down, and a message for it is lost
+    pub lost-does : (k : ℕ) (one : Posted) (s : S) → slice_get w.net.sent k ≡ Some one → one.to ≡ Server q → place.slot ≡ Down s
+        → EndsStep r (record w { net = record w.net { sent = with_delivered k w.net.sent } }) u first (first ++ lines_at when (says.Lost k ∷ [])) later → DoesEvent look device (events.Deliver k) when w r u first later
+    lost-does k one s posted to down ends x m more stands next is =
+        step-ends look device x m (more ++ drop 1 m.state.tasks) (record w { net = record w.net { sent = with_delivered k w.net.sent } }) u r first (first ++ lines_at when (says.Lost k ∷ [])) later
+        (subst (λ (t : When). IsStepTo look device x m (more ++ drop 1 m.state.tasks) (record w { net = record w.net { sent = with_delivered k w.net.sent } }) first (first ++ lines_at t (says.Lost k ∷ []))) is
+        (lost-step look device seen x w m stands k one posted q to place s at down more next first))
+        ends

@@ -1,0 +1,93 @@
+-- Turns of a rest, and events as tasks.
+use Rattle.std.proofs.Common.{◌≡◌, ℕ, Bool, true, false, List, [], ◌∷◌, ◌++◌, Option, Some, None, Result, Ok, Err, true≢false, refl, sym, ◌∙◌, ap, subst}
+use Rattle.std.specs.Prelude.{drop, IsErr, IsErrAnd}
+use Rattle.jn_base.specs.declared.names.ServerNo.{ServerNo}
+use Rattle.jn_device.specs.Device.{DeviceState}
+use Rattle.jn_report.specs.declared.line.Line.{Line}
+use Rattle.jn_report.specs.declared.line.When.{When}
+use Rattle.jn_schedule.specs.declared.Event.{Event}
+use Rattle.jn_schedule.specs.declared.Event.TheVariants as events
+use Rattle.jn_stands.proofs.Meeting.{acts-acts, down-acts}
+use Rattle.jn_stands.specs.Going.{WentOn, ActsNext}
+use Rattle.jn_stands.specs.Meeting.{is_settle}
+use Rattle.jn_stands.specs.Stands.{Standing, Stands}
+use Rattle.jn_store.specs.Store.{StoreView}
+use Rattle.jn_world.specs.declared.ended.Ended.{Ended}
+use Rattle.jn_world.specs.declared.ended.Ended.TheVariants.{Messages, Epoch, Memory}
+use Rattle.jn_world.specs.Written.{GoesTo, GoesTurn, DoesEvent, DoesTasks, TakesTurn, is_going}
+use Rattle.jn_world.proofs.Calls.{goes-then, fails-anyhow, went-nowhere, went-going, went-when}
+use Rattle.jn_world.proofs.Numbers.{count_begins}
+use Rattle.jn_written.specs.Chances.{Setup}
+use Rattle.jn_written.specs.Runs.{Moment}
+use Rattle.jn_written.specs.Tasks.{Task, Acts, Rests, GoesDown, Stage, InSchedule, AtEnd, CutShort, State, when_of, next_task, next_at}
+
+-- the first task of a run that goes on is next
+next-by : (stage : Stage) (tasks : List Task) (task : Task) (rest : List Task) → tasks ≡ task ∷ rest → is_going stage ≡ true → next_at stage tasks ≡ Some task
+next-by CutShort tasks task rest e going = absurd (true≢false (sym going))
+next-by InSchedule tasks task rest e going = ap (λ (ts : List Task). next_at InSchedule ts) e
+next-by AtEnd tasks task rest e going = ap (λ (ts : List Task). next_at AtEnd ts) e
+
+pub next-first : (s : State) (task : Task) (rest : List Task) → s.tasks ≡ task ∷ rest → is_going s.stage ≡ true → next_task s ≡ Some task
+next-first s task rest e going = next-by s.stage s.tasks task rest e going
+
+module _ {S : Type 0} (look : S → StoreView) (device : S → DeviceState) (when : When) where
+  -- an event as a task of its own
+  pub acts-does : {A : Type 0} (event : Event) (r : Result A Ended) (w u : Standing S) (first later : List Line) → is_settle event ≡ false → DoesEvent look device event when w r u first later → DoesTasks look device (λ x. Acts event ∷ []) when w r u first later
+  acts-does event r w u first later settle h x m rest stands tasks going is =
+      subst (λ (ts : List Task). GoesTo look device x m ts r u first later) (ap (λ (ts : List Task). drop 1 ts) tasks)
+      (h x m [] stands (acts-acts x m event (next-first m.state (Acts event) rest tasks going) settle) is)
+
+  pub goes-down-does : {A : Type 0} (q : ServerNo) (r : Result A Ended) (w u : Standing S) (first later : List Line) → DoesEvent look device (events.Crash q) when w r u first later → DoesTasks look device (λ x. GoesDown q ∷ []) when w r u first later
+  goes-down-does q r w u first later h x m rest stands tasks going is =
+      subst (λ (ts : List Task). GoesTo look device x m ts r u first later) (ap (λ (ts : List Task). drop 1 ts) tasks)
+      (h x m [] stands (down-acts x m q (next-first m.state (GoesDown q) rest tasks going)) is)
+
+  -- ---- turns
+
+  pub turns-none : (w : Standing S) (lines : List Line) → TakesTurn look device when w (Ok true) w lines lines
+  turns-none w lines x m rest stands tasks going is = subst (λ (ts : List Task). WentOn look device x m ts w lines lines) tasks (went-nowhere look device x m w lines stands)
+
+  pub turn-then : (r : Result Bool Ended) (w v u : Standing S) (first now later : List Line) → TakesTurn look device when w (Ok true) v first now → TakesTurn look device when v r u now later → TakesTurn look device when w r u first later
+  turn-then r w v u first now later h k x m rest stands tasks going is =
+      by r (k x went.last rest went.stands went.tasks (went-going look device x m (Rests ∷ rest) v first now went going) (went-when look device x m (Rests ∷ rest) v first now went going (sym (ap count_begins tasks)) ∙ is))
+    where
+      went : WentOn look device x m (Rests ∷ rest) v first now
+      went = h x m rest stands tasks going is
+
+      by : (r : Result Bool Ended) → GoesTurn look device x went.last rest r u now later → GoesTurn look device x m rest r u first later
+      by (Ok true) g = goes-then look device x {A = Bool} m (Rests ∷ rest) (Rests ∷ rest) v u first now later (Ok true) went g
+      by (Ok false) g = goes-then look device x {A = Bool} m (Rests ∷ rest) rest v u first now later (Ok false) went g
+      by (Err Messages) g = goes-then look device x {A = Bool} m (Rests ∷ rest) rest v u first now later (Err Messages) went g
+      by (Err (Epoch q)) g = goes-then look device x {A = Bool} m (Rests ∷ rest) rest v u first now later (Err (Epoch q)) went g
+      by (Err Memory) g = tt
+
+  pub turns-on : (b : Bool) (w u : Standing S) (first later : List Line) → b ≡ true → TakesTurn look device when w (Ok b) u first later → TakesTurn look device when w (Ok true) u first later
+  turns-on true w u first later is h = h
+  turns-on false w u first later is h = absurd (true≢false (sym is))
+
+  pub turns-over : (b : Bool) (w u : Standing S) (first later : List Line) → b ≡ false → TakesTurn look device when w (Ok b) u first later → TakesTurn look device when w (Ok false) u first later
+  turns-over true w u first later is h = absurd (true≢false is)
+  turns-over false w u first later is h = h
+
+  -- nothing is left to do
+  pub turns-end : {A : Type 0} (a : A) (w u : Standing S) (first later : List Line) → TakesTurn look device when w (Ok false) u first later → DoesTasks look device (λ x. Rests ∷ []) when w (Ok a) u first later
+  turns-end a w u first later h = h
+
+  pub turns-cut : (B : Type 0) (e : Ended) (w u : Standing S) (first later : List Line) → TakesTurn look device when w (Err e) u first later → DoesTasks {S = S} {A = B} look device (λ x. Rests ∷ []) when w (Err e) u first later
+  turns-cut B Messages w u first later h = h
+  turns-cut B (Epoch q) w u first later h = h
+  turns-cut B Memory w u first later h = λ x m rest stands tasks going is. tt
+
+  -- ---- exits
+
+  pub does-exit : (A B : Type 0) (r : Result B Ended) (e : Ended) (tasks : Setup → List Task) (w u v : Standing S) (first later : List Line) → IsErr r → IsErrAnd r (λ f. f ≡ e)
+      → DoesTasks {S = S} {A = A} look device tasks when w (Err e) u first later → DoesTasks look device tasks when w r v first later
+  does-exit A B (Ok b) e tasks w u v first later is which h = absurd (true≢false (sym is))
+  does-exit A B (Err f) e tasks w u v first later is which h =
+      subst (λ (g : Ended). DoesTasks {S = S} {A = B} look device tasks when w (Err g) v first later) (sym which)
+      (λ x m rest stands its going at. fails-anyhow look device x A B m rest rest u v first later e (h x m rest stands its going at))
+
+  -- without memory nothing is said
+  pub does-without : (B : Type 0) (r : Result B Ended) (tasks : Setup → List Task) (w v : Standing S) (first later : List Line) → IsErr r → IsErrAnd r (λ f. f ≡ Memory) → DoesTasks look device tasks when w r v first later
+  does-without B (Ok b) tasks w v first later is which = absurd (true≢false (sym is))
+  does-without B (Err f) tasks w v first later is which = subst (λ (g : Ended). DoesTasks {S = S} {A = B} look device tasks when w (Err g) v first later) (sym which) (λ x m rest stands its going at. tt)

@@ -1,9 +1,0 @@
-use Rattle.jn_store.specs.Store.{StoreView}
-use Rattle.jn_world.proofs.Served.{handled-done}
-use Rattle.jn_world.proofs.place.Place.handle.Goals as goal
-
-pub returns-in-Ok-clause-answered : goal.returns-in-Ok-clause-answered
-returns-in-Ok-clause-answered g c =
-    let look : g.row.S.Denot → StoreView = λ s. g.S.StableStore.view s in
-    let h = c.in-Ok.ensures in
-    handled-done look c.args.self.now.slot c.in-Up.server c.handle.new.self c.args.message.now c.new-out.result c.handle.new.out c.in-Up.is c.new-out.ensures h.does

@@ -1,0 +1,8 @@
+use Rattle.std.proofs.Common.{◌≡◌, ◌++◌, map}
+use Rattle.std.specs.Prelude.{drop}
+use Rattle.jn_stands.specs.Showing.{text_shown}
+use Rattle.jn_written.specs.Steps.{lines_at}
+use Rattle.jn_world.proofs.serving.tell_shown.Given as goal
+
+abbrev pub invariant-loop-shown : goal.invariant-loop-shown
+invariant-loop-shown l = l.lines.items ++ lines_at l.when (map (text_shown l.server) (drop l.shown-index l.list)) ≡ l.initial.lines.items ++ lines_at l.when (map (text_shown l.server) l.list)

@@ -1,0 +1,18 @@
+use Rattle.std.proofs.Common.{sym, ◌∙◌}
+use Rattle.jn_device.specs.Device.{DeviceState}
+use Rattle.jn_report.specs.declared.line.EventRefusal.TheVariants.{NoSuchServer}
+use Rattle.jn_store.specs.Store.{StoreView}
+use Rattle.jn_world.specs.Written.{standing_of}
+use Rattle.jn_world.proofs.PageRefusals.{befalls-nothing}
+use Rattle.jn_world.proofs.Refusing.{meets-refused, lt-none}
+use Rattle.jn_world.proofs.world.World.befall.Goals as goal
+
+pub returns-then-not-has-clause-does : goal.returns-then-not-has-clause-does
+returns-then-not-has-clause-does g c =
+    let look : g.row.S.Denot → StoreView = λ s. g.S.StableStore.view s in
+    let device : g.row.S.Denot → DeviceState = λ s. g.S.Powered.device s in
+    let w = standing_of c.args.self.now in
+    let q = c.args.server in
+    let none = lt-none q.0 c.args.self.now.places (sym c.has.ensures ∙ c.if-not-has.true) in
+    meets-refused look device c.args.when c.args.event.now NoSuchServer c.refuse.result w c.args.lines.now.items c.refuse.new.lines.items
+    (befalls-nothing look device w q c.args.event.now c.requires.its none) (let has = c.requires.world in has.limit) c.refuse.ensures.told c.refuse.ensures.memory

@@ -1,0 +1,64 @@
+use Rattle.std.proofs.Common.{ℕ, true, false, ◌∷◌, [], Ok, Err}
+use Rattle.jn_device.specs.Device.{DeviceState}
+use Rattle.jn_store.specs.Store.{StoreView}
+use Rattle.jn_world.specs.Written.{standing_of}
+use Rattle.jn_written.specs.Tasks.{Rests}
+use Rattle.jn_world.proofs.Turns.{turns-none, turn-then, turns-on, turns-over, turns-end, turns-cut, does-exit}
+use Rattle.jn_world.proofs.world.World.come_to_rest.Goals as goal
+
+pub loop-init : goal.loop-init
+loop-init g c =
+    let look : g.row.S.Denot → StoreView = λ s. g.S.StableStore.view s in
+    let device : g.row.S.Denot → DeviceState = λ s. g.S.Powered.device s in
+    let when = c.args.when in
+    let w = standing_of c.args.self.now in
+    let first = c.args.lines.now.items in
+    record { world = c.requires.world; turns = turns-none look device when w first }
+
+pub loop-preserved : goal.loop-preserved
+loop-preserved g c =
+    let look : g.row.S.Denot → StoreView = λ s. g.S.StableStore.view s in
+    let device : g.row.S.Denot → DeviceState = λ s. g.S.Powered.device s in
+    let when = c.args.when in
+    let w = standing_of c.args.self.now in
+    let first = c.args.lines.now.items in
+    let v = standing_of c.loop.self in
+    let u = standing_of c.goes_on.new.self in
+    let now = c.loop.lines.items in
+    let later = c.goes_on.new.lines.items in
+    let e = c.in_ok-goes_on.ensures in
+    record {
+      world = e.world;
+      turns = turn-then look device when (Ok true) w v u first now later c.loop.invariant.turns (turns-on look device when c.in_ok-goes_on.field-0 v u now later c.if-not-branch.false e.turn);
+    }
+
+pub returns-then-not-branch-clause-does : goal.returns-then-not-branch-clause-does
+returns-then-not-branch-clause-does g c =
+    let look : g.row.S.Denot → StoreView = λ s. g.S.StableStore.view s in
+    let device : g.row.S.Denot → DeviceState = λ s. g.S.Powered.device s in
+    let when = c.args.when in
+    let w = standing_of c.args.self.now in
+    let first = c.args.lines.now.items in
+    let v = standing_of c.loop.self in
+    let u = standing_of c.goes_on.new.self in
+    let now = c.loop.lines.items in
+    let later = c.goes_on.new.lines.items in
+    let e = c.in_ok-goes_on.ensures in
+    turns-end look device when {A = ℕ} 0 w u first later
+    (turn-then look device when (Ok false) w v u first now later c.loop.invariant.turns (turns-over look device when c.in_ok-goes_on.field-0 v u now later c.if-not-branch.true e.turn))
+
+pub returns-in_err-goes_on-clause-does : goal.returns-in_err-goes_on-clause-does
+returns-in_err-goes_on-clause-does g c =
+    let look : g.row.S.Denot → StoreView = λ s. g.S.StableStore.view s in
+    let device : g.row.S.Denot → DeviceState = λ s. g.S.Powered.device s in
+    let when = c.args.when in
+    let w = standing_of c.args.self.now in
+    let first = c.args.lines.now.items in
+    let v = standing_of c.loop.self in
+    let u = standing_of c.goes_on.new.self in
+    let now = c.loop.lines.items in
+    let later = c.goes_on.new.lines.items in
+    let e = c.in_err-goes_on.field-0.0 in
+    let ends = c.in_err-goes_on.ensures in
+    does-exit look device when ℕ _ c.from_residual.result e (λ x. Rests ∷ []) w u u first later c.from_residual.ensures.0 c.from_residual.ensures.1
+    (turns-cut look device when ℕ e w u first later (turn-then look device when (Err e) w v u first now later c.loop.invariant.turns ends.turn))

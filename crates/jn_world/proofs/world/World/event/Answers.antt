@@ -1,0 +1,12 @@
+use Rattle.jn_device.specs.Device.{DeviceState}
+use Rattle.jn_store.specs.Store.{StoreView}
+use Rattle.jn_world.specs.Written.{standing_of}
+use Rattle.jn_world.proofs.Scheduled.{begins-meets}
+use Rattle.jn_world.proofs.world.World.event.Goals as goal
+
+pub returns-clause-does : goal.returns-clause-does
+returns-clause-does g c =
+    let look : g.row.S.Denot → StoreView = λ s. g.S.StableStore.view s in
+    let device : g.row.S.Denot → DeviceState = λ s. g.S.Powered.device s in
+    begins-meets look device c.args.number c.args.event.now c.meet.result (standing_of c.args.self.now) (standing_of c.meet.new.self) c.args.lines.now.items c.meet.new.lines.items
+    (let has = c.requires.world in has.limit) c.meet.ensures.does

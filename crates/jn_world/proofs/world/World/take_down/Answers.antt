@@ -1,0 +1,15 @@
+use Rattle.std.proofs.Common.{◌<◌, ℕ, length, sym, ◌∙◌, arith}
+use Rattle.jn_device.specs.Device.{DeviceState}
+use Rattle.jn_report.specs.declared.line.When.TheVariants.{End}
+use Rattle.jn_store.specs.Store.{StoreView}
+use Rattle.jn_world.proofs.Closing.{down-does}
+use Rattle.jn_world.proofs.world.World.take_down.Goals as goal
+
+pub returns-then-not-is_up-clause-does : goal.returns-then-not-is_up-clause-does
+returns-then-not-is_up-clause-does g c =
+    let look : g.row.S.Denot → StoreView = λ s. g.S.StableStore.view s in
+    let device : g.row.S.Denot → DeviceState = λ s. g.S.Powered.device s in
+    let w = c.args.self.now in
+    let server = c.args.server in
+    let within : server.0 < length w.places.items = (let few = c.requires.there in omega (arith, w.places.ok.0)) in
+    down-does look device g.met.S.Powered.seen End {A = ℕ} 0 w server c.args.lines.now.items within (sym c.is_up.ensures ∙ c.if-not-is_up.true) c.requires.world

@@ -1,0 +1,61 @@
+use Rattle.std.proofs.Common.{ℕ, ◌∷◌, [], ◌++◌, Ok, Err, refl, sym, subst, List}
+use Rattle.jn_device.specs.Device.{DeviceState}
+use Rattle.jn_report.specs.declared.line.When.TheVariants.{End}
+use Rattle.jn_store.specs.Store.{StoreView}
+use Rattle.jn_world.specs.Written.{standing_of}
+use Rattle.jn_written.specs.Events.{servers_of, coming_up, settling, printing}
+use Rattle.jn_written.specs.Tasks.{Task, Acts, GoesDown, ClosesClients, CountsCommits}
+use Rattle.jn_schedule.specs.declared.Event.TheVariants.{Show, Scrub}
+use Rattle.jn_base.specs.declared.names.ServerNo.{ServerNo}
+use Rattle.jn_world.specs.Closing.{going_down, closing_clients, showing_all, scrubbing_all, turning, thanking, telling, finishing}
+use Rattle.jn_world.proofs.Calls.{does-then, does-cut, servers-quiet}
+use Rattle.jn_world.proofs.Finishing.{turning-quiet, thanking-quiet, showing-quiet, scrubbing-quiet, going-quiet, closing-quiet, both-quiet}
+use Rattle.jn_world.proofs.Turns.{does-exit}
+use Rattle.jn_world.proofs.world.World.tell_all.Goals as goal
+
+pub returns-in_err-show_all-clause-does : goal.returns-in_err-show_all-clause-does
+returns-in_err-show_all-clause-does g c =
+    let look : g.row.S.Denot → StoreView = λ s. g.S.StableStore.view s in
+    let device : g.row.S.Denot → DeviceState = λ s. g.S.Powered.device s in
+    let w = standing_of c.args.self.now in
+    let first = c.args.lines.now.items in
+    let u = standing_of c.show_all.new.self in
+    let later = c.show_all.new.lines.items in
+    let e = c.in_err-show_all.field-0.0 in
+    let fails = c.in_err-show_all.ensures in
+    does-exit look device End ℕ _ c.from_residual.result e telling w u u first later c.from_residual.ensures.0 c.from_residual.ensures.1
+    (does-cut look device End ℕ ℕ (λ x. showing_all x ++ scrubbing_all x) (λ x. CountsCommits ∷ []) e w u u first later (does-cut look device End ℕ ℕ showing_all scrubbing_all e w u u first later fails.does))
+
+pub returns-in_err-scrub_all-clause-does : goal.returns-in_err-scrub_all-clause-does
+returns-in_err-scrub_all-clause-does g c =
+    let look : g.row.S.Denot → StoreView = λ s. g.S.StableStore.view s in
+    let device : g.row.S.Denot → DeviceState = λ s. g.S.Powered.device s in
+    let w = standing_of c.args.self.now in
+    let first = c.args.lines.now.items in
+    let v = standing_of c.show_all.new.self in
+    let u = standing_of c.scrub_all.new.self in
+    let now = c.show_all.new.lines.items in
+    let later = c.scrub_all.new.lines.items in
+    let e = c.in_err-scrub_all.field-0.0 in
+    let went = c.in_ok-show_all.ensures in
+    let fails = c.in_err-scrub_all.ensures in
+    does-exit look device End ℕ _ c.from_residual-in_err-scrub_all.result e telling w u u first later c.from_residual-in_err-scrub_all.ensures.0 c.from_residual-in_err-scrub_all.ensures.1
+    (does-cut look device End ℕ ℕ (λ x. showing_all x ++ scrubbing_all x) (λ x. CountsCommits ∷ []) e w u u first later
+    (does-then look device End {B = ℕ} showing_all scrubbing_all c.in_ok-show_all.field-0 (Err e) w v u first now later showing-quiet went.does fails.does))
+
+pub returns-clause-does : goal.returns-clause-does
+returns-clause-does g c =
+    let look : g.row.S.Denot → StoreView = λ s. g.S.StableStore.view s in
+    let device : g.row.S.Denot → DeviceState = λ s. g.S.Powered.device s in
+    let w = standing_of c.args.self.now in
+    let first = c.args.lines.now.items in
+    let v = standing_of c.show_all.new.self in
+    let u = standing_of c.scrub_all.new.self in
+    let z = u in
+    let now = c.show_all.new.lines.items in
+    let again = c.scrub_all.new.lines.items in
+    let later = c.tell_count.new.lines.items in
+    let went = c.in_ok-show_all.ensures in
+    let on = c.in_ok-scrub_all.ensures in
+    does-then look device End (λ x. showing_all x ++ scrubbing_all x) (λ x. CountsCommits ∷ []) c.in_ok-scrub_all.field-0 c.tell_count.result w u z first again later (λ x. both-quiet (showing_all x) (scrubbing_all x) (showing-quiet x) (scrubbing-quiet x))
+    (does-then look device End showing_all scrubbing_all c.in_ok-show_all.field-0 (Ok c.in_ok-scrub_all.field-0) w v u first now again showing-quiet went.does on.does) c.tell_count.ensures.does

@@ -1,0 +1,27 @@
+use Rattle.std.proofs.Common.{ℕ, ◌≡◌, ◌∷◌, [], ◌++◌, Ok, Err, refl, sym, ◌∙◌, ap, subst, List}
+use Rattle.jn_device.specs.Device.{DeviceState}
+use Rattle.jn_report.specs.declared.line.When.TheVariants.{End}
+use Rattle.jn_store.specs.Store.{StoreView}
+use Rattle.jn_world.specs.Written.{standing_of}
+use Rattle.jn_written.specs.Events.{servers_of, coming_up, settling, printing}
+use Rattle.jn_written.specs.Tasks.{Task, Acts, GoesDown, ClosesClients, CountsCommits}
+use Rattle.jn_schedule.specs.declared.Event.TheVariants.{Show, Scrub}
+use Rattle.jn_base.specs.declared.names.ServerNo.{ServerNo}
+use Rattle.jn_world.specs.Closing.{going_down, closing_clients, showing_all, scrubbing_all, turning, thanking, telling, finishing}
+use Rattle.jn_world.proofs.Calls.{does-then, does-cut, servers-quiet}
+use Rattle.jn_world.proofs.Finishing.{turning-quiet, thanking-quiet, showing-quiet, scrubbing-quiet, going-quiet, closing-quiet}
+use Rattle.jn_world.proofs.Turns.{does-exit}
+use Rattle.jn_report.specs.declared.line.Text.TheVariants.{Commits}
+use Rattle.jn_world.proofs.Closing.{counts-does}
+use Rattle.jn_world.specs.Written.{DoesTasks}
+use Rattle.jn_report.specs.declared.line.Line.{Line}
+use Rattle.jn_world.proofs.world.World.tell_count.Goals as goal
+
+pub returns : goal.returns
+returns g c =
+    let look : g.row.S.Denot → StoreView = λ s. g.S.StableStore.view s in
+    let device : g.row.S.Denot → DeviceState = λ s. g.S.Powered.device s in
+    let w = standing_of c.args.self.now in
+    let first = c.args.lines.now.items in
+    let told : c.tell.new.lines.items ≡ first ++ record { when = End; text = Commits w.commits } ∷ [] = c.in_ok-tell.ensures ∙ ap (λ (n : ℕ). first ++ record { when = End; text = Commits n } ∷ []) c.count.ensures in
+    record { does = subst (λ (l : List Line). DoesTasks {A = ℕ} look device (λ x. CountsCommits ∷ []) End w (Ok 0) w first l) (sym told) (counts-does look device g.met.S.Powered.seen End {A = ℕ} 0 w first c.requires.few) }
