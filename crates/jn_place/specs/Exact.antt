@@ -33,7 +33,7 @@ use Rattle.jn_rows.specs.Worker.{timeout_row}
 use Rattle.jn_server.specs.declared.show.Shown.{Shown}
 use Rattle.jn_server.specs.Seen.{Parts, ServerView, view_with, memory_of, room_of}
 use Rattle.jn_server.specs.Showing.{print_of}
-use Rattle.jn_server.specs.Standing.{IsRoomOfPages}
+use Rattle.jn_server.specs.Reading.{IsRoomOfPages}
 use Rattle.jn_storage.specs.Calls.{state}
 use Rattle.jn_store.specs.Pairs.{pairs_view}
 use Rattle.jn_store.specs.Store.{StoreView, StoreLater, IsCalm}

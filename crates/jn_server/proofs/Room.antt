@@ -40,7 +40,8 @@ use Rattle.jn_intent.proofs.Rubbish.{some_rubbish}
 use Rattle.jn_worker.specs.Fitting.{WorkerView, WorkFits, is_none}
 use Rattle.jn_coord.specs.Remembered.{Remembered}
 use Rattle.jn_server.specs.Seen.{ServerView, IsServer}
-use Rattle.jn_server.specs.Standing.{standing_pages, is_free_head, promised_heads, IsRoomOfPages}
+use Rattle.jn_server.specs.Reading.{IsRoomOfPages}
+use Rattle.jn_server.specs.Standing.{standing_pages, is_free_head, promised_heads}
 
 -- ---- the heads that are promised to prepared works
 

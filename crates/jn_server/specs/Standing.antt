@@ -1,5 +1,5 @@
--- What the rows of a server read of its storage, as it stands on the pages.
-use Rattle.std.specs.Prelude.{◌≡◌, ℕ, ◌+◌, ◌-◌, Bool, true, false, not, ◌||◌, List, [], ◌∷◌, count_by}
+-- What is free and what is rubbish on the pages of a server that is up.
+use Rattle.std.specs.Prelude.{ℕ, ◌+◌, ◌-◌, Bool, true, false, not, ◌||◌, List, [], ◌∷◌, count_by}
 use Rattle.std.specs.List.{list_any}
 use Rattle.jn_records.specs.declared.head.Head.{Head}
 use Rattle.jn_records.specs.declared.head.Head.TheVariants.{Free as FreeHead, Used}
@@ -8,15 +8,12 @@ use Rattle.jn_records.specs.declared.record.Record.{Record}
 use Rattle.jn_records.specs.StablePages.{Counts, Pages}
 use Rattle.jn_sets.specs.Pool.{free_count, is_rubbish}
 use Rattle.jn_store.specs.Store.{StoreView}
-use Rattle.jn_storage.specs.Calls.{state}
 use Rattle.jn_found.specs.Contents.{heads_name, works_name}
 use Rattle.jn_found.specs.Pages.{pool_on, heads_on, listed, pages_by}
 use Rattle.jn_rows.specs.Stable.{StableState}
 use Rattle.jn_rows.specs.Worker.{WorkerTable, intentions_of, need_in}
 use Rattle.jn_rows.specs.Coordinator.{promised}
-use Rattle.jn_intent.specs.Scrubbing.{counts_in}
 use Rattle.jn_protocol.specs.World.{Memory}
-use Rattle.jn_server.specs.Seen.{ServerView, memory_of, room_of}
 
 -- by one pick: all find the same records and heads while a server is up
 abbrev pub standing_pages : StoreView → Pages
@@ -45,8 +42,3 @@ free_on g pages x m = record {
 
 abbrev pub has_rubbish : List Record → Bool
 has_rubbish pool = list_any (is_rubbish pool) pool
-
--- the rows read no more and no less than that
-pub record IsRoomOfPages (v : ServerView) : Type 0 where
-  pub free : (room_of v.storage).free ≡ free_on (counts_in v.storage.accounts) (standing_pages v.storage.store) (state v.storage) (memory_of v)
-  pub rubbish : (room_of v.storage).rubbish ≡ has_rubbish (pool_on (counts_in v.storage.accounts) (standing_pages v.storage.store))

@@ -8,7 +8,7 @@ ghost use Rattle.jn_rows.specs.Coordinator.{coordinator_row};
 ghost use Rattle.jn_rows.specs.Worker.{worker_row};
 ghost use Rattle.jn_server.specs.Handling.{Does, LeavesRubbish};
 ghost use Rattle.jn_server.specs.Seen.{view_with, memory_of, room_of, IsServer};
-ghost use Rattle.jn_server.specs.Standing.{IsRoomOfPages};
+ghost use Rattle.jn_server.specs.Reading.{IsRoomOfPages};
 ghost use Rattle.jn_storage.specs.Calls.{state};
 ghost use Rattle.jn_worker.specs.Fitting.{seen};
 ghost use Rattle.jn_worker.specs.Handling.{InRange};

@@ -3,7 +3,7 @@ ghost use Rattle.std.specs.Prelude.{◌≡◌, [], is_some, OnOk};
 ghost use Rattle.jn_protocol.specs.Servers.{server_step, server_again};
 ghost use Rattle.jn_server.specs.Handling.{Steps, TimesOut};
 ghost use Rattle.jn_server.specs.Seen.{view_with, memory_of, room_of, IsServer};
-ghost use Rattle.jn_server.specs.Standing.{IsRoomOfPages};
+ghost use Rattle.jn_server.specs.Reading.{IsRoomOfPages};
 ghost use Rattle.jn_storage.specs.Calls.{state};
 ghost use Rattle.jn_transactions.specs.Telling.{added};
 

@@ -6,7 +6,8 @@ use Rattle.jn_intent.specs.Scrubbing.{counts_in}
 use Rattle.jn_place.specs.declared.place.Slot.TheVariants.{Up}
 use Rattle.jn_records.specs.StablePages.{Counts}
 use Rattle.jn_server.specs.Seen.{Parts, view_with, memory_of}
-use Rattle.jn_server.specs.Standing.{standing_pages, free_on, has_rubbish, IsRoomOfPages}
+use Rattle.jn_server.specs.Reading.{IsRoomOfPages}
+use Rattle.jn_server.specs.Standing.{standing_pages, free_on, has_rubbish}
 use Rattle.jn_storage.specs.Calls.{state}
 use Rattle.jn_store.specs.Pairs.{pairs_view}
 use Rattle.jn_store.specs.Store.{StoreView}

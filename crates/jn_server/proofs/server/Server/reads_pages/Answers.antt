@@ -1,7 +1,7 @@
 use Rattle.std.proofs.Common.{subst, sym}
 use Rattle.jn_store.specs.Store.{StoreView}
 use Rattle.jn_server.specs.Seen.{Parts, view_with, IsServer}
-use Rattle.jn_server.specs.Standing.{IsRoomOfPages}
+use Rattle.jn_server.specs.Reading.{IsRoomOfPages}
 use Rattle.jn_server.proofs.Room.{room_of_pages}
 use Rattle.jn_server.proofs.server.Server.reads_pages.Goals as goal
 
