@@ -1,11 +1,11 @@
 -- The text of events is a schedule of them.
-use Rattle.std.proofs.Common.{◌≡◌, ◌∙◌, ℕ, Bool, true, false, not, ◌&&◌, nat_eq, ◌+◌, ◌<◌, ◌≤◌, List, [], ◌∷◌, ◌++◌, length, take, drop, get_or, filter, map, inl, inr, refl, ap, sym, subst, arith, append_assoc}
+use Rattle.std.proofs.Common.{◌≡◌, ◌∙◌, ℕ, true, false, nat_eq, ◌+◌, ◌<◌, ◌≤◌, List, [], ◌∷◌, ◌++◌, length, take, drop, get_or, filter, map, inl, inr, refl, ap, sym, subst, arith, append_assoc}
 use Rattle.std.proofs.lemmas.Bool.Decides.{nat_tests}
 use Rattle.std.proofs.lemmas.List.{append-nil, at_drop_all, at_drop_more, take_all, take_more}
 use Rattle.std.proofs.lemmas.List.Splits.{slice_split-cons_no, slice_split-cons_yes}
 use Rattle.std.specs.List.{AllByRecursion, onto_first, slice_split}
 use Rattle.jn_schedule.specs.declared.Event.{Event}
-use Rattle.jn_schedule.specs.Grammar.{AreLines, IsSchedule, has_bytes, lines_of, parts_of, word_lines, words_of}
+use Rattle.jn_schedule.specs.Grammar.{AreLines, IsSchedule, has_bytes, parts_of, word_lines, words_of}
 use Rattle.jn_schedule.specs.Ranges.{EventInRange}
 use Rattle.jn_gen.specs.Spell.{IsOfBytes}
 use Rattle.jn_gen.specs.Texts.{event_words, joined, line_of, spaced, text_of}

@@ -1,5 +1,5 @@
 -- What the code that appends lines says of them.
-use Rattle.std.specs.Prelude.{ℕ, List, [], ◌∷◌, ◌++◌, codes, decimal, map}
+use Rattle.std.specs.Prelude.{ℕ, List, ◌++◌, codes, decimal, map}
 use Rattle.std.specs.List.{AllByRecursion}
 use Rattle.jn_schedule.specs.Grammar.{Part, Bytes, IsByte}
 use Rattle.jn_text.specs.Words.{block_word}

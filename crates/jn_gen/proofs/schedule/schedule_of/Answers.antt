@@ -1,4 +1,4 @@
-use Rattle.std.proofs.Common.{◌≡◌, ◌+◌, ◌-◌, suc, arith}
+use Rattle.std.proofs.Common.{◌+◌, ◌-◌, arith}
 use Rattle.jn_gen.specs.Trial.{events_from}
 use Rattle.jn_gen.proofs.Drawing.{events_more, events_whole}
 use Rattle.jn_gen.proofs.schedule.schedule_of.Goals as goal

@@ -1,4 +1,3 @@
-use Rattle.std.proofs.Common.{refl, arith, ◌≤◌, length}
 use Rattle.jn_gen.proofs.Parsing.{bytes_more, schedule_whole, text_more, text_whole}
 use Rattle.jn_gen.proofs.text.text_of.Goals as goal
 
