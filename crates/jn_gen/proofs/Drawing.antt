@@ -1,0 +1,148 @@
+-- Draws and events are in range.
+use Rattle.std.proofs.Common.{◌≡◌, ◌∙◌, ℕ, zero, suc, ◌+◌, ◌-◌, ◌^◌, ◌<◌, ◌≤◌, Bool, true, false, List, [], ◌∷◌, ◌++◌, length, get_or, ap, sym, arith, nat_lt, cond, lit<, append_assoc}
+use Rattle.std.proofs.lemmas.List.{append-nil, length-replicate}
+use Rattle.std.specs.List.{AllByRecursion}
+use Rattle.jn_base.specs.declared.op.Command.TheVariants as commands
+use Rattle.jn_base.specs.declared.op.Op.TheVariants as ops
+use Rattle.jn_schedule.specs.declared.Event.{Event}
+use Rattle.jn_schedule.specs.declared.Event.TheVariants as events
+use Rattle.jn_schedule.specs.Grammar.{filled, kind_parts}
+use Rattle.jn_schedule.specs.Ranges.{EventInRange, PartsInRange}
+use Rattle.jn_gen.specs.declared.draws.Draws.{Draws}
+use Rattle.jn_gen.specs.Trial.{after_event, choices, does, draw, draws_from, event_of, events_from, fault_of, first_epoch, next_state, state_after, tells}
+
+pub state_fits : (x : ℕ) → next_state x < 2 ^ 64
+unfolding next_state
+state_fits x = omega arith
+
+pub drawn_below : (count x : ℕ) → 0 < count → draw count x < count
+unfolding draw
+drawn_below count x some = omega arith
+
+-- ---- what is drawn for an event
+
+record DrawnInRange (d : Draws) : Type 0 where
+  pub least : 1 ≤ d.client.0
+  pub client : d.client.0 ≤ 8
+  pub server : d.server.0 ≤ 7
+  pub file : d.file.0 ≤ 2 ^ 32 - 1
+  pub block : d.block.0 ≤ 119
+  pub byte : d.byte < 256
+
+drawn_in_range : (x : ℕ) → DrawnInRange (draws_from x)
+drawn_in_range x =
+    let client = drawn_below 4 (state_after 2 x) (lit< tt) in
+    let server = drawn_below 2 (state_after 3 x) (lit< tt) in
+    let file = drawn_below 4 (state_after 4 x) (lit< tt) in
+    let block = drawn_below 6 (state_after 5 x) (lit< tt) in
+    record {
+      least = omega arith;
+      client = omega arith;
+      server = omega arith;
+      file = omega arith;
+      block = omega arith;
+      byte = drawn_below 256 (state_after 6 x) (lit< tt);
+    }
+
+-- ---- the events among which is chosen
+
+either : (b : Bool) (x y : Event) → EventInRange x → EventInRange y → EventInRange (cond b x y)
+either true x y a b = a
+either false x y a b = b
+
+fault_in_range : (f : ℕ) → PartsInRange (kind_parts (fault_of f))
+fault_in_range zero = (tt, tt)
+fault_in_range (suc zero) = (tt, tt)
+fault_in_range (suc (suc zero)) = (tt, tt)
+fault_in_range (suc (suc (suc f))) = (tt, tt)
+
+at_any : {X : Type 0} (P : X → Type 0) (xs : List X) (i : ℕ) (d : X) → AllByRecursion P xs → P d → P (get_or xs i d)
+at_any P [] i d all last = last
+at_any P (x ∷ xs) zero d all last = all.0
+at_any P (x ∷ xs) (suc i) d all last = at_any P xs i d all.1 last
+
+length-filled : (b : ℕ) → length (filled (b ∷ [])) ≡ 448
+length-filled b = let zero_byte : ℕ = 0 in ap suc (length-replicate 447 zero_byte)
+
+chosen_in_range : (d : Draws) → DrawnInRange d → EventInRange (event_of d)
+chosen_in_range d range =
+    let client : (1 ≤ d.client.0) × (d.client.0 ≤ 8) = (range.least, range.client) in
+    let server : (0 ≤ d.server.0) × (d.server.0 ≤ 7) = (omega arith, range.server) in
+    let file : (0 ≤ d.file.0) × (d.file.0 ≤ 2 ^ 32 - 1) = (omega arith, range.file) in
+    let block : (0 ≤ d.block.0) × (d.block.0 ≤ 119) = (omega arith, range.block) in
+    let byte = range.byte in
+    let write : EventInRange (does d (ops.Write d.file d.block (filled (d.byte ∷ [])))) = (client, (tt, (server, (file, (block, (length-filled d.byte, tt)))))) in
+    let ticket : d.byte - 170 < 2 ^ 32 = omega arith in
+    let page : (0 ≤ d.byte) × (d.byte ≤ 20001) = (omega arith, omega arith) in
+    let call : (1 ≤ d.byte + 1) × (d.byte + 1 ≤ 1000000) = (omega arith, omega arith) in
+    let restart : EventInRange (events.Restart d.server) = (tt, (server, tt)) in
+    let begin : EventInRange (tells d (commands.Begin d.server)) = (client, (tt, (server, tt))) in
+    let opened : EventInRange (tells d (commands.Open d.server)) = (client, (tt, (server, tt))) in
+    let create : EventInRange (does d (ops.Create d.file)) = (client, (tt, (server, (file, tt)))) in
+    let read : EventInRange (does d (ops.Read d.file d.block)) = (client, (tt, (server, (file, (block, tt))))) in
+    let ended : EventInRange (tells d commands.End) = (client, (tt, tt)) in
+    let abort : EventInRange (tells d commands.Abort) = (client, (tt, tt)) in
+    let again : EventInRange (events.Again d.client) = (client, (tt, tt)) in
+    let cut : EventInRange (does d (ops.Cut d.file d.block)) = (client, (tt, (server, (file, (block, tt))))) in
+    let remove : EventInRange (does d (ops.Remove d.file)) = (client, (tt, (server, (file, tt)))) in
+    let timeout : EventInRange (events.Timeout d.server (first_epoch d (d.byte - 170))) = (tt, (server, ((range.server, one_fits, ticket), tt))) in
+    let settle : EventInRange events.Settle = (tt, tt) in
+    let arm : EventInRange (events.Arm d.server (d.byte + 1) (fault_of d.file.0)) = (tt, (server, (call, fault_in_range d.file.0))) in
+    let crash : EventInRange (events.Crash d.server) = (tt, (server, tt)) in
+    let decay : EventInRange (events.Decay d.server d.byte) = (tt, (server, (page, tt))) in
+    at_any EventInRange (choices d) d.choice (events.Restart d.server) (
+      begin,
+      (
+        opened,
+        (
+          create,
+          (
+            write,
+            (
+              write,
+              (
+                read,
+                (
+                  ended,
+                  (
+                    either (nat_lt d.byte 64) _ _ abort again,
+                    (
+                      either (nat_lt d.byte 85) _ _ cut (either (nat_lt d.byte 170) _ _ remove timeout),
+                      (settle, (settle, (settle, (settle, (arm, (either (nat_lt d.byte 128) _ _ crash decay, (restart, tt))))))),
+                    ),
+                  ),
+                ),
+              ),
+            ),
+          ),
+        ),
+      ),
+    )
+    restart
+  where
+    one_fits : 1 < 2 ^ 32
+    one_fits = lit< tt
+
+-- the events of a trial are in range
+pub events_in_range : (x n : ℕ) → AllByRecursion EventInRange (events_from x n)
+unfolding events_from
+events_in_range x zero = tt
+events_in_range x (suc n) = (chosen_in_range (draws_from x) (drawn_in_range x), events_in_range (after_event x) n)
+
+-- ---- as a loop does
+
+-- one event more
+pub events_more : (x x' n m : ℕ) (list list' : List Event) (d : Draws) (e : Event) (total : List Event) → n ≡ suc m → x' ≡ after_event x → d ≡ draws_from x → e ≡ event_of d
+    → list' ≡ list ++ e ∷ [] → list ++ events_from x n ≡ total → list' ++ events_from x' m ≡ total
+unfolding events_from
+events_more x x' n m list list' d e total left state drawn is pushed so_far =
+    ap (λ (l : List Event). l ++ events_from x' m) pushed
+    ∙ append_assoc list (e ∷ []) (events_from x' m)
+    ∙ ap (λ (y : ℕ). list ++ (e ∷ events_from y m)) state
+    ∙ ap (λ (f : Event). list ++ (f ∷ events_from (after_event x) m)) (is ∙ ap event_of drawn)
+    ∙ ap (λ (k : ℕ). list ++ events_from x k) (sym left)
+    ∙ so_far
+
+pub events_whole : (x n : ℕ) (list total : List Event) → n ≡ 0 → list ++ events_from x n ≡ total → list ≡ total
+unfolding events_from
+events_whole x n list total left so_far = sym (append-nil list) ∙ ap (λ (k : ℕ). list ++ events_from x k) (sym left) ∙ so_far

@@ -1,0 +1,4 @@
+pub mod Words
+pub mod Parsing
+pub mod Drawing
+pub mod Choosing

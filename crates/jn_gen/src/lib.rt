@@ -1,0 +1,15 @@
+//! The schedule of a trial, made of a seed; and schedules as text.
+#![tactic(auto)]
+
+mod draws;
+mod event;
+mod schedule;
+mod text;
+mod word;
+
+pub use draws::draws_are_in_range;
+pub use schedule::{drawn_events_are_in_range, schedule_of};
+pub use text::text_of;
+
+#[cfg(test)]
+mod tests;

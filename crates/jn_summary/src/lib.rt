@@ -1,0 +1,11 @@
+//! What is told of a long run in one line: how many lines of some kinds its report has, and the digest of its text.
+#![tactic(auto)]
+
+mod counts;
+mod summary;
+mod told;
+
+pub use summary::Summary;
+
+#[cfg(test)]
+mod tests;
