@@ -1,5 +1,5 @@
 -- What an answer to bytes says of them.
-use Rattle.std.proofs.Common.{◌≡◌, ◌⊎◌, inl, inr, ℕ, List, Option, Some, None, Result, Ok, Err, refl, sym, ap, ◌∙◌, subst}
+use Rattle.std.proofs.Common.{◌≡◌, ◌⊎◌, inl, inr, ℕ, List, Some, None, Result, Ok, Err, refl, sym, ap, ◌∙◌, subst}
 use Rattle.std.specs.Prelude.{IfOk, MatchResult}
 use Rattle.jn_image.specs.declared.fault.BadImage.{BadImage}
 use Rattle.jn_image.specs.declared.fault.DecodeError.{DecodeError}

@@ -1,5 +1,5 @@
 -- What is wrong with bytes that are no image: the first of these faults, in this order.
-use Rattle.std.specs.Prelude.{◌≡◌, ◌+◌, ◌*◌, ℕ, zero, suc, Bool, true, ◌&&◌, not, nat_eq, nat_lt, nat_le, List, length, take, drop, codes, slice_index, bytes_eq, Option, Some, None, Result, Ok, Err, if◌then◌else◌}
+use Rattle.std.specs.Prelude.{◌≡◌, ◌*◌, ℕ, zero, suc, Bool, true, ◌&&◌, not, nat_eq, nat_lt, nat_le, List, length, take, drop, codes, slice_index, bytes_eq, Option, Some, None, Result, Ok, Err, if◌then◌else◌}
 use Rattle.byteorder.specs.Endian.{big_number}
 use Rattle.sha2.specs.Sha256.{sha256}
 use Rattle.jn_records.specs.StablePages.{Counts, page_count}

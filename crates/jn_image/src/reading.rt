@@ -9,9 +9,9 @@ ghost use Rattle.jn_image.specs.Form.{HasForm, PagesFit, body_size, image_bytes,
 ghost use Rattle.jn_image.specs.Headers.{counts_by};
 ghost use Rattle.jn_image.specs.Reading.{half_in, halves_in, image_in};
 
-use crate::writing::{DIGEST, NAME, VERSION, digest_of};
 use crate::fault::{BadImage, DecodeError};
 use crate::image::{Image, is_within};
+use crate::writing::{DIGEST, NAME, VERSION, digest_of};
 use byteorder::{BigEndian, ByteOrder};
 use jn_base::ServerNo;
 use jn_device::Half;

@@ -1,4 +1,4 @@
-use Rattle.std.proofs.Common.{◌<◌, ℕ, get_or, arith}
+use Rattle.std.proofs.Common.{arith}
 use Rattle.jn_image.proofs.Told.{told_found, told_only, told_fault, told_first}
 use Rattle.jn_image.proofs.Headers.{AreBytes}
 use Rattle.jn_image.proofs.reading.decode.Goals as goal
