@@ -1,0 +1,52 @@
+//! A server's disk.
+ghost use Rattle.std.specs.Prelude.{◌≡◌, ◌↔◌, IsTrue};
+ghost use Rattle.jn_records.specs.StablePages.{page_count};
+ghost use Rattle.jn_image.specs.Faults.{within};
+ghost use Rattle.jn_image.specs.Form.{counts_of, HasForm};
+
+use jn_base::ServerNo;
+use jn_device::Half;
+use jn_records::ListOf;
+
+/// Whose disk it is, how many pages there are of each kind, and each physical page.
+///
+/// With N stable pages, stable page i is the physical pages i and i + N.
+#[derive(Drop)]
+pub struct Image {
+    pub server: ServerNo,
+    /// Pages of the pool of records.
+    pub pool: u16,
+    /// Heads of files.
+    pub heads: u16,
+    /// Data pages.
+    pub leaves: u16,
+    /// Each physical page, 2 N of them.
+    pub pages: ListOf<Half>,
+}
+
+impl Image {
+    /// Whether the image has bytes: the server and the counts are in their ranges, and there are so many pages.
+    pub fn has_form(&self) -> bool
+        ensures { IsTrue result ↔ HasForm self.now }
+    {
+        self.server.0 <= 7
+            && is_within(1000, self.pool)
+            && is_within(1000, self.heads)
+            && is_within(8000, self.leaves)
+            && self.pages.as_slice().len() == 2 * self.count()
+    }
+
+    /// How many stable pages there are.
+    pub(crate) fn count(&self) -> usize
+        ensures { result ≡ page_count (counts_of self.now) }
+    {
+        1 + self.pool as usize + self.heads as usize + self.leaves as usize
+    }
+}
+
+/// Whether a count is in its range.
+pub(crate) fn is_within(limit: u16, n: u16) -> bool
+    ensures { result ≡ within limit n }
+{
+    1 <= n && n <= limit
+}
