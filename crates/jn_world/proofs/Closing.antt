@@ -149,14 +149,3 @@ over-world look w n old new below read e h = let here : IsClientOf (length w.net
   posted = h.posted;
   limit = h.limit;
 }
-
--- ---- the place that was written
-
-pub up-set : {S : Type 0} (ps : List (Place S)) (q : ServerNo) (i : ℕ) (new : Place S) → i ≡ q.0 → q.0 < length ps → is_up_at q.0 (set ps i new) ≡ true → is_up new.slot ≡ true
-up-set {S} ps q i new at within up =
-    sym (ap (λ (o : Option (Place S)). is_up_in o) (by ps q.0 within)) ∙ subst (λ (k : ℕ). is_up_at q.0 (set ps k new) ≡ true) at up
-  where
-    by : (ps : List (Place S)) (n : ℕ) → n < length ps → slice_get (set ps n new) n ≡ Some new
-    by [] n h = absurd (omega arith)
-    by (p ∷ ps) zero h = refl
-    by (p ∷ ps) (suc n) h = by ps n (omega arith)

@@ -43,19 +43,19 @@ length-set [] i y = refl
 length-set (x ∷ xs) zero y = refl
 length-set (x ∷ xs) (suc i) y = ap (λ (n : ℕ). suc n) (length-set xs i y)
 
-get-other : {A : Type 0} (xs : List A) (i n : ℕ) (y : A) → (i ≡ n → ⊥) → slice_get (set xs i y) n ≡ slice_get xs n
+pub get-other : {A : Type 0} (xs : List A) (i n : ℕ) (y : A) → (i ≡ n → ⊥) → slice_get (set xs i y) n ≡ slice_get xs n
 get-other [] i n y h = refl
 get-other (x ∷ xs) zero zero y h = absurd (h refl)
 get-other (x ∷ xs) zero (suc n) y h = refl
 get-other (x ∷ xs) (suc i) zero y h = refl
 get-other (x ∷ xs) (suc i) (suc n) y h = get-other xs i n y (λ e. h (ap (λ (k : ℕ). suc k) e))
 
-get-same : {A : Type 0} (xs : List A) (i : ℕ) (y : A) → i < length xs → slice_get (set xs i y) i ≡ Some y
+pub get-same : {A : Type 0} (xs : List A) (i : ℕ) (y : A) → i < length xs → slice_get (set xs i y) i ≡ Some y
 get-same [] i y h = absurd (omega arith)
 get-same (x ∷ xs) zero y h = refl
 get-same (x ∷ xs) (suc i) y h = get-same xs i y (omega arith)
 
-either : (n s : ℕ) → n < s + 1 → (n ≡ s) ⊎ (n < s)
+pub either : (n s : ℕ) → n < s + 1 → (n ≡ s) ⊎ (n < s)
 either zero zero h = inl refl
 either zero (suc s) h = inr (omega arith)
 either (suc n) zero h = absurd (omega arith)

@@ -21,3 +21,6 @@ returns-clause-does g c =
     let limit = c.requires.world in
     lost-to look device g.met.S.Powered.seen {A = ℕ} w c.args.server c.args.when (Ok 0) (standing_of (record c.args.self.now { net = c.delivered.new.self })) c.args.lines.now.items c.tell.new.lines.items c.args.k c.delivered.new.self
     c.requires.to c.requires.down c.delivered.ensures (refl, c.in_ok-tell.ensures, delivered-limit c.args.self.now.net c.delivered.new.self c.args.k c.delivered.ensures limit.limit)
+
+pub returns-clause-calm : goal.returns-clause-calm
+returns-clause-calm g c = λ all. all

@@ -11,6 +11,7 @@ use Rattle.jn_world.specs.Closing.{going_down, closing_clients, showing_all, scr
 use Rattle.jn_world.proofs.Calls.{does-then, does-cut, servers-quiet}
 use Rattle.jn_world.proofs.Finishing.{turning-quiet, thanking-quiet, showing-quiet, scrubbing-quiet, going-quiet, closing-quiet}
 use Rattle.jn_world.proofs.Turns.{does-exit}
+use Rattle.jn_world.proofs.Calm.{stay-to}
 use Rattle.jn_world.proofs.world.World.thank_all.Goals as goal
 
 pub returns-in_err-close_all_clients-clause-does : goal.returns-in_err-close_all_clients-clause-does
@@ -35,3 +36,9 @@ returns-clause-does g c =
     let e = c.in_ok-close_all_clients.ensures in
     does-then look device End closing_clients settling c.in_ok-close_all_clients.field-0 c.settle_at.result w (standing_of c.close_all_clients.new.self) (standing_of c.settle_at.new.self)
     first c.close_all_clients.new.lines.items c.settle_at.new.lines.items closing-quiet e.does c.settle_at.ensures.does
+
+pub returns-clause-calm : goal.returns-clause-calm
+returns-clause-calm g c =
+    let look : g.row.S.Denot → StoreView = λ s. g.S.StableStore.view s in
+    let e = c.in_ok-close_all_clients.ensures in
+    stay-to look c.close_all_clients.new.self.places.items c.settle_at.new.self.places.items c.settle_at.result e.calm c.settle_at.ensures.calm

@@ -11,6 +11,7 @@ use Rattle.jn_world.specs.Closing.{going_down, closing_clients, showing_all, scr
 use Rattle.jn_world.proofs.Calls.{does-then, does-cut, servers-quiet}
 use Rattle.jn_world.proofs.Finishing.{turning-quiet, thanking-quiet, showing-quiet, scrubbing-quiet, going-quiet, closing-quiet}
 use Rattle.jn_world.proofs.Turns.{does-exit}
+use Rattle.jn_world.proofs.Calm.{rise-to}
 use Rattle.jn_world.proofs.world.World.turn_over.Goals as goal
 
 pub returns-in_err-crash_all-clause-does : goal.returns-in_err-crash_all-clause-does
@@ -35,3 +36,12 @@ returns-clause-does g c =
     let e = c.in_ok-crash_all.ensures in
     does-then look device End going_down coming_up c.in_ok-crash_all.field-0 c.bring_all_up.result w (standing_of c.crash_all.new.self) (standing_of c.bring_all_up.new.self)
     first c.crash_all.new.lines.items c.bring_all_up.new.lines.items going-quiet e.does c.bring_all_up.ensures.does
+
+pub returns-clause-calm : goal.returns-clause-calm
+returns-clause-calm g c =
+    let look : g.row.S.Denot → StoreView = λ s. g.S.StableStore.view s in
+    let e = c.in_ok-crash_all.ensures in
+    rise-to look c.crash_all.new.self.places.items c.bring_all_up.new.self.places.items c.bring_all_up.result (e.quiet c.requires.quiet) c.bring_all_up.ensures.calm
+
+pub bring_all_up-requires-clause-all_down : goal.bring_all_up-requires-clause-all_down
+bring_all_up-requires-clause-all_down g c = let e = c.in_ok-crash_all.ensures in e.all_down
