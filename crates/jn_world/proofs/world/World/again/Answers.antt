@@ -1,9 +1,7 @@
 use Rattle.jn_device.specs.Device.{DeviceState}
 use Rattle.jn_world.specs.Written.{standing_of}
-use Rattle.jn_rows.specs.Client.{again_row}
-use Rattle.jn_protocol.specs.Steps.{sent_now}
 use Rattle.jn_world.proofs.ClientCalls.{asked-none, client-is, asked-now}
-use Rattle.std.proofs.Common.{[], ◌∷◌, sym, ◌∙◌, ◌≡◌, ℕ, ◌+◌, ◌++◌, List, length, Some, None, Ok, Err, refl, ap, subst, arith}
+use Rattle.std.proofs.Common.{[], ◌∷◌, sym, ◌∙◌, ℕ, Some, Ok, refl, arith}
 use Rattle.jn_store.specs.Store.{StoreView}
 use Rattle.jn_base.specs.declared.names.Party.TheVariants.{Client}
 use Rattle.jn_world.proofs.Places.{client-here, again-can, sent-world}

@@ -1,4 +1,4 @@
-use Rattle.std.proofs.Common.{◌≡◌, ℕ, ◌+◌, ◌∷◌, [], Ok, Err, refl, subst, arith}
+use Rattle.std.proofs.Common.{◌≡◌, ℕ, ◌+◌, Ok, Err, refl, subst, arith}
 use Rattle.jn_base.specs.declared.names.ClientNo.{ClientNo}
 use Rattle.jn_schedule.specs.declared.Event.TheVariants.{Again}
 use Rattle.jn_device.specs.Device.{DeviceState}

@@ -1,4 +1,4 @@
-use Rattle.std.proofs.Common.{◌≡◌, ◌<◌, ◌≤◌, ℕ, false, length, Ok, refl, sym, ◌∙◌, arith}
+use Rattle.std.proofs.Common.{ℕ, Ok, refl, sym, ◌∙◌, arith}
 use Rattle.jn_device.specs.Device.{DeviceState}
 use Rattle.jn_store.specs.Store.{StoreView}
 use Rattle.jn_world.specs.Written.{standing_of}

@@ -1,4 +1,4 @@
-use Rattle.std.proofs.Common.{◌≡◌, ◌<◌, ◌≤◌, ℕ, ◌+◌, ◌∷◌, [], length, Ok, Err, refl, ◌∙◌, subst, arith}
+use Rattle.std.proofs.Common.{◌<◌, ℕ, ◌+◌, length, Ok, Err, refl, ◌∙◌, arith}
 use Rattle.jn_base.specs.declared.names.ServerNo.{ServerNo}
 use Rattle.jn_written.specs.Events.{coming_up}
 use Rattle.jn_written.specs.Tasks.{Task, ComesUp}

@@ -1,11 +1,11 @@
-use Rattle.std.proofs.Common.{◌≡◌, ◌<◌, ℕ, length, arith, refl, Ok}
+use Rattle.std.proofs.Common.{ℕ, length, refl, Ok}
 use Rattle.std.specs.Vec.{with_item}
 use Rattle.jn_device.specs.Device.{DeviceState}
 use Rattle.jn_store.specs.Store.{StoreView}
 use Rattle.jn_world.specs.Written.{standing_of}
 use Rattle.jn_world.proofs.Bringing.{place-got, has-counts}
 use Rattle.jn_world.proofs.Places.{place-here, up-here, up-within, moved-quiet}
-use Rattle.jn_world.proofs.ServerCalls.{crashed-does, event-without}
+use Rattle.jn_world.proofs.ServerCalls.{crashed-does}
 use Rattle.jn_world.proofs.Calm.{quiet-set, taken-down}
 use Rattle.jn_world.proofs.world.World.crash.Goals as goal
 

@@ -1,5 +1,5 @@
 use Rattle.jn_world.proofs.LostCalls.{delivered-limit}
-use Rattle.std.proofs.Common.{arith, ◌≡◌, List, Some, sym, ◌∙◌, ap, subst}
+use Rattle.std.proofs.Common.{arith, sym}
 use Rattle.jn_device.specs.Device.{DeviceState}
 use Rattle.jn_world.specs.Written.{standing_of}
 use Rattle.jn_world.proofs.ClientCalls.{client-took-now, client-is, sent-to}

@@ -1,4 +1,4 @@
-use Rattle.std.proofs.Common.{◌≡◌, ℕ, length, Ok, refl, sym, ◌∙◌}
+use Rattle.std.proofs.Common.{ℕ, length, Ok, refl, sym, ◌∙◌}
 use Rattle.jn_device.specs.Device.{DeviceState}
 use Rattle.jn_place.proofs.Slots.{serves-here}
 use Rattle.jn_recovery.specs.Loading.{counts_by}
