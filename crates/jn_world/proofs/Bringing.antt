@@ -1,10 +1,9 @@
 -- A server that is down comes up, as the written machine has it.
-use Rattle.std.proofs.Common.{◌≡◌, ◌≤◌, ◌<◌, ℕ, zero, suc, ◌+◌, Bool, true, false, List, [], ◌∷◌, ◌++◌, drop, get_or, length, length-append, append-nil, append_assoc, slice_get, slice_set, Option, Some, None, Result, Ok, Err, true≢false, refl, sym, ◌∙◌, ap, subst, arith}
+use Rattle.std.proofs.Common.{◌≡◌, ◌≤◌, ◌<◌, ℕ, zero, suc, Bool, true, false, List, [], ◌∷◌, ◌++◌, drop, get_or, length, length-append, append-nil, append_assoc, slice_get, slice_set, Some, Result, Ok, Err, true≢false, refl, sym, ◌∙◌, ap, subst, arith}
 use Rattle.std.specs.Prelude.{◌||◌, if◌then◌else◌, IsErrAnd}
 use Rattle.std.specs.List.{list_any}
 use Rattle.std.specs.Vec.{with_item}
 use Rattle.std.proofs.Math.Path.{fun_ext}
-use Rattle.std.proofs.lemmas.List.{map-append}
 use Rattle.jn_base.specs.declared.names.ServerNo.{ServerNo}
 use Rattle.jn_base.specs.declared.names.Tid.{Tid}
 use Rattle.jn_base.specs.Names.{tid_eq}
@@ -14,8 +13,8 @@ use Rattle.jn_place.specs.declared.place.Restarted.{Restarted}
 use Rattle.jn_place.specs.declared.place.Restarted.TheVariants as came
 use Rattle.jn_place.specs.declared.place.Slot.{Slot}
 use Rattle.jn_place.specs.declared.place.Slot.TheVariants.{Up, Down, Gone}
-use Rattle.jn_place.specs.Exact.{IsRestart, texts_of_step}
-use Rattle.jn_place.specs.Places.{IsPlace, Stands as StandsThere, is_up}
+use Rattle.jn_place.specs.Exact.{IsRestart}
+use Rattle.jn_place.specs.Places.{IsPlace, Stands as StandsThere}
 use Rattle.jn_protocol.specs.World.{commits_in, has_line}
 use Rattle.jn_records.specs.StablePages.{Counts}
 use Rattle.jn_recovery.specs.Loading.{counts_by}
@@ -26,7 +25,7 @@ use Rattle.jn_report.specs.declared.line.When.{When}
 use Rattle.jn_report.specs.declared.line.EventRefusal.TheVariants.{EpochsUsedUp}
 use Rattle.jn_schedule.specs.declared.Event.TheVariants as events
 use Rattle.jn_stands.proofs.Restarts.{restarted-step, came-up-step}
-use Rattle.jn_stands.specs.Going.{WentOn, WasCut, IsStepTo}
+use Rattle.jn_stands.specs.Going.{WentOn, WasCut}
 use Rattle.jn_stands.specs.Naming.{with_name, names_told}
 use Rattle.jn_stands.specs.Pages.{HasCounts}
 use Rattle.jn_stands.specs.Restarting.{texts_restarted, ComesTo}

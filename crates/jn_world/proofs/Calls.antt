@@ -1,6 +1,5 @@
 -- Calls one after another, each from where the machine stands.
-use Rattle.std.proofs.Common.{◌≡◌, ◌≤◌, ◌<◌, ℕ, zero, suc, ◌+◌, ◌-◌, Bool, true, false, List, [], ◌∷◌, ◌++◌, map, length, append-nil, append_assoc, Result, Ok, Err, true≢false, refl, sym, ◌∙◌, ap, subst, arith}
-use Rattle.std.specs.Prelude.{drop}
+use Rattle.std.proofs.Common.{◌≡◌, ◌≤◌, ℕ, zero, suc, ◌+◌, ◌-◌, true, List, [], ◌∷◌, ◌++◌, map, length, append-nil, append_assoc, Result, Ok, Err, refl, sym, ◌∙◌, ap, subst, arith}
 use Rattle.std.proofs.lemmas.List.{map-append}
 use Rattle.jn_base.specs.declared.names.ServerNo.{ServerNo}
 use Rattle.jn_base.specs.declared.names.ClientNo.{ClientNo}
@@ -8,20 +7,19 @@ use Rattle.jn_device.specs.Device.{DeviceState}
 use Rattle.jn_protocol.specs.World.{servers_from}
 use Rattle.jn_report.specs.declared.line.Line.{Line}
 use Rattle.jn_report.specs.declared.line.When.{When}
-use Rattle.jn_schedule.specs.declared.Event.{Event}
 use Rattle.jn_settling.specs.Settle.{clients_from}
-use Rattle.jn_stands.specs.Going.{IsTold, WentOn, WasCut, IsStepTo, ActsNext}
+use Rattle.jn_stands.specs.Going.{IsTold, WentOn, WasCut, IsStepTo}
 use Rattle.jn_stands.specs.Stands.{Standing, Stands}
 use Rattle.jn_store.specs.Store.{StoreView}
 use Rattle.jn_world.specs.declared.ended.Ended.{Ended}
 use Rattle.jn_world.specs.declared.ended.Ended.TheVariants.{Messages, Epoch, Memory}
-use Rattle.jn_world.specs.Written.{GoesTo, DoesEvent, DoesTasks, EndsStep, is_going}
+use Rattle.jn_world.specs.Written.{GoesTo, DoesTasks, EndsStep, is_going}
 use Rattle.jn_world.proofs.Numbers.{count_begins, begins-append, same-number}
 use Rattle.jn_written.proofs.Computed.{join}
 use Rattle.jn_written.specs.Chances.{Setup}
 use Rattle.jn_written.specs.Events.{servers_of}
-use Rattle.jn_written.specs.Runs.{none, Moment, DoesStep, Leads}
-use Rattle.jn_written.specs.Tasks.{Task, Stage, InSchedule, AtEnd, CutShort, when_at, when_of}
+use Rattle.jn_written.specs.Runs.{none, Moment, DoesStep}
+use Rattle.jn_written.specs.Tasks.{Task, Stage, when_at, when_of}
 
 -- ---- lines and steps
 

@@ -1,67 +1,40 @@
 -- What a call of a client does, and its messages, is an event of the written machine.
-use Rattle.std.proofs.Common.{◌≡◌, ◌≤◌, ◌<◌, ℕ, zero, suc, ◌+◌, ◌-◌, Bool, true, false, List, [], ◌∷◌, ◌++◌, length, append-nil, Option, Some, None, Result, Ok, Err, true≢false, refl, sym, ◌∙◌, ap, subst, arith}
+use Rattle.std.proofs.Common.{◌≡◌, ◌<◌, ℕ, zero, suc, ◌+◌, ◌-◌, true, false, List, [], ◌∷◌, ◌++◌, length, append-nil, Option, Some, None, Result, refl, sym, ◌∙◌, ap, subst, arith}
 use Rattle.std.proofs.Math.ListN.{set, get_or}
 use Rattle.std.proofs.lemmas.Bool.Decides.{nat_tests}
 use Rattle.std.proofs.lemmas.Option.{slice_get-get_or}
-use Rattle.std.specs.Prelude.{drop, slice_get, slice_set, IsErr, IsErrAnd}
-use Rattle.jn_base.specs.declared.device.FaultKind.{FaultKind}
-use Rattle.jn_base.specs.declared.device.FaultKind.TheVariants as faults
+use Rattle.std.specs.Prelude.{drop, slice_get}
 use Rattle.jn_base.specs.declared.names.ClientNo.{ClientNo}
-use Rattle.jn_base.specs.declared.names.Party.TheVariants.{Client, Server}
-use Rattle.jn_base.specs.declared.names.ServerNo.{ServerNo}
-use Rattle.jn_base.specs.declared.names.Tid.{Tid}
+use Rattle.jn_base.specs.declared.names.Party.TheVariants.{Client}
 use Rattle.jn_base.specs.declared.op.Command.{Command}
 use Rattle.jn_device.specs.Device.{DeviceState}
-use Rattle.jn_device.specs.Events.{Decays as PageDecays, Revives as PageRevives, Arms as FaultArmed}
-use Rattle.jn_msgs.specs.Collected.{Collected}
 use Rattle.jn_net.specs.Carried.{Carried, with_delivered}
 use Rattle.jn_rows.specs.declared.client.Taken.{Taken}
 use Rattle.jn_net.specs.declared.Sent.{Sent as Posted}
-use Rattle.jn_place.specs.declared.place.Place.{Place}
-use Rattle.jn_place.specs.declared.place.Slot.{Slot}
-use Rattle.jn_place.specs.declared.place.Slot.TheVariants.{Up, Down, Gone}
-use Rattle.jn_place.specs.Exact.{Took, WorkedBy, ScrubbedBy, Showed, AsksAgain, TimedOut, Crashed, Befell, has_work_at}
 use Rattle.jn_protocol.specs.Steps.{sent_now}
-use Rattle.jn_recovery.specs.Loading.{counts_by}
-use Rattle.jn_report.specs.declared.line.EventRefusal.TheVariants.{TooManyArmed}
 use Rattle.jn_report.specs.declared.line.Line.{Line}
 use Rattle.jn_report.specs.declared.line.Text.{Text}
 use Rattle.jn_report.specs.declared.line.Text.TheVariants as says
 use Rattle.jn_report.specs.declared.line.When.{When}
-use Rattle.jn_report.specs.declared.line.When.TheVariants.{Event as AtEvent, End}
+use Rattle.jn_report.specs.declared.line.When.TheVariants.{Event as AtEvent}
 use Rattle.jn_rows.specs.Client.{ClientTable, Commanded, Refuses, command_row, take_row, again_row, new_table}
 use Rattle.jn_rows.specs.Outcomes.{Sent}
-use Rattle.jn_schedule.specs.declared.Event.{Event}
 use Rattle.jn_schedule.specs.declared.Event.TheVariants as events
-use Rattle.jn_server.specs.declared.show.Shown.{Shown}
 use Rattle.jn_stands.specs.Clients.{with_client, texts_taken, texts_commanded, sent_commanded, table_commanded}
-use Rattle.jn_stands.specs.Going.{IsStepTo, ActsNext}
-use Rattle.jn_stands.specs.Pages.{HasCounts, ReadsPages}
-use Rattle.jn_stands.specs.Showing.{texts_shown}
-use Rattle.jn_stands.specs.Stands.{Standing, Stands, is_client, posted_by, with_sent, texts_sent, with_answer}
+use Rattle.jn_stands.specs.Going.{IsStepTo}
+use Rattle.jn_stands.specs.Stands.{Standing, is_client, posted_by, with_sent}
 use Rattle.jn_stands.proofs.ClientSteps.{client-took-step, other-took-step}
 use Rattle.jn_stands.proofs.Commands.{told-step, asked-step}
-use Rattle.jn_stands.proofs.Losing.{lost-step}
 use Rattle.jn_report.specs.declared.line.Refusal.{Refusal}
 use Rattle.jn_stands.proofs.Posted.{none-traced}
-use Rattle.jn_stands.proofs.Took.{took-step}
-use Rattle.jn_stands.proofs.Working.{idle-step, worked-step}
-use Rattle.jn_stands.proofs.Nudging.{nudged-step, nudged-down-step, timed-out-step}
-use Rattle.jn_stands.proofs.Looking.{scrubbed-step, showed-step}
-use Rattle.jn_stands.proofs.Crashing.{crashed-step}
-use Rattle.jn_stands.proofs.Befalling.{decayed-step, revived-step, armed-step}
 use Rattle.jn_store.specs.Pairs.{pairs_view}
 use Rattle.jn_store.specs.Store.{StoreView}
 use Rattle.jn_within.specs.Taking.{sent_for}
 use Rattle.jn_world.specs.declared.ended.Ended.{Ended}
-use Rattle.jn_world.specs.declared.ended.Ended.TheVariants.{Memory}
-use Rattle.jn_world.specs.Written.{GoesTo, DoesEvent, EndsStep, IsSentTo}
+use Rattle.jn_world.specs.Written.{DoesEvent, EndsStep, IsSentTo}
 use Rattle.jn_world.proofs.Calls.{step-ends}
-use Rattle.jn_written.specs.Chances.{Setup}
-use Rattle.jn_written.specs.Events.{told_unless}
-use Rattle.jn_written.specs.Runs.{Moment}
 use Rattle.jn_written.specs.Steps.{lines_at, message_texts, traced}
-use Rattle.jn_written.specs.Tasks.{Task, Stage, InSchedule, AtEnd, CutShort, when_at, when_of}
+use Rattle.jn_written.specs.Tasks.{Stage, InSchedule, AtEnd, CutShort, when_at, when_of}
 
 -- the number of the event under way
 event-number : (stage : Stage) (event number : ℕ) → when_at stage event ≡ AtEvent number → event ≡ number

@@ -1,5 +1,5 @@
 -- The parts of the end, as the written machine has them.
-use Rattle.std.proofs.Common.{◌≡◌, ◌≤◌, ◌<◌, ℕ, zero, suc, ◌+◌, Bool, true, false, List, [], ◌∷◌, ◌++◌, map, drop, get_or, length, append-nil, slice_get, slice_set, Option, Some, None, Result, Ok, Err, true≢false, refl, sym, ◌∙◌, ap, subst, arith}
+use Rattle.std.proofs.Common.{◌≡◌, ◌≤◌, ◌<◌, ℕ, zero, suc, ◌+◌, Bool, true, false, List, [], ◌∷◌, ◌++◌, map, drop, get_or, length, slice_get, slice_set, Option, Some, None, Ok, true≢false, refl, sym, ◌∙◌, ap, subst, arith}
 use Rattle.std.specs.Option.{option_map}
 use Rattle.std.proofs.Math.ListN.{set}
 use Rattle.std.proofs.lemmas.List.Elements.{All-set, All-get_or}
@@ -12,7 +12,7 @@ use Rattle.jn_place.specs.declared.place.Place.{Place}
 use Rattle.jn_place.specs.declared.place.Slot.{Slot}
 use Rattle.jn_place.specs.declared.place.Slot.TheVariants.{Up, Down, Gone}
 use Rattle.jn_place.specs.Exact.{Closed}
-use Rattle.jn_place.specs.Places.{IsPlace, Stands as StandsThere, is_up}
+use Rattle.jn_place.specs.Places.{Stands as StandsThere, is_up}
 use Rattle.jn_protocol.specs.Steps.{IsIdle}
 use Rattle.jn_records.specs.StablePages.{Counts}
 use Rattle.jn_recovery.specs.Loading.{counts_by}
@@ -25,12 +25,11 @@ use Rattle.jn_stands.proofs.Closing.{closed-step}
 use Rattle.jn_stands.proofs.Crashing.{down-already-step}
 use Rattle.jn_stands.proofs.Dismissing.{there-is}
 use Rattle.jn_stands.proofs.Still.{counts-step}
-use Rattle.jn_stands.specs.Going.{WentOn, IsStepTo}
+use Rattle.jn_stands.specs.Going.{WentOn}
 use Rattle.jn_stands.specs.Pages.{HasCounts}
-use Rattle.jn_stands.specs.Stands.{Standing, Stands}
+use Rattle.jn_stands.specs.Stands.{Standing}
 use Rattle.jn_store.specs.Pairs.{pairs_view}
 use Rattle.jn_store.specs.Store.{StoreView}
-use Rattle.jn_world.specs.declared.ended.Ended.{Ended}
 use Rattle.jn_world.specs.declared.world.World.{World}
 use Rattle.jn_world.specs.Closing.{AreIdle}
 use Rattle.jn_world.specs.Standing.{IsWorld, IsClientOf, is_up_at, is_up_in}
@@ -38,8 +37,6 @@ use Rattle.jn_world.specs.Written.{standing_of, DoesEvent, DoesTasks}
 use Rattle.jn_world.proofs.Bringing.{get-slice, same-place}
 use Rattle.jn_world.proofs.Places.{place-at}
 use Rattle.jn_world.proofs.Turns.{next-first}
-use Rattle.jn_written.specs.Chances.{Setup}
-use Rattle.jn_written.specs.Runs.{Moment}
 use Rattle.jn_written.specs.Tasks.{Task, ClosesClients, CountsCommits, when_of}
 
 -- ---- a server that is down
@@ -149,14 +146,3 @@ over-world look w n old new below read e h = let here : IsClientOf (length w.net
   posted = h.posted;
   limit = h.limit;
 }
-
--- ---- the place that was written
-
-pub up-set : {S : Type 0} (ps : List (Place S)) (q : ServerNo) (i : ℕ) (new : Place S) → i ≡ q.0 → q.0 < length ps → is_up_at q.0 (set ps i new) ≡ true → is_up new.slot ≡ true
-up-set {S} ps q i new at within up =
-    sym (ap (λ (o : Option (Place S)). is_up_in o) (by ps q.0 within)) ∙ subst (λ (k : ℕ). is_up_at q.0 (set ps k new) ≡ true) at up
-  where
-    by : (ps : List (Place S)) (n : ℕ) → n < length ps → slice_get (set ps n new) n ≡ Some new
-    by [] n h = absurd (omega arith)
-    by (p ∷ ps) zero h = refl
-    by (p ∷ ps) (suc n) h = by ps n (omega arith)

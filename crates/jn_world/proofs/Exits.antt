@@ -1,12 +1,10 @@
 -- Where a call ends early.
-use Rattle.std.proofs.Common.{◌≡◌, ◌≤◌, ◌<◌, ℕ, ◌+◌, List, length, Result, Ok, Err, true≢false, refl, sym, ◌∙◌, subst, arith}
+use Rattle.std.proofs.Common.{◌≡◌, ◌<◌, List, length, Result, Ok, Err, true≢false, refl, sym, subst}
 use Rattle.std.specs.Prelude.{IsErr, IsErrAnd}
-use Rattle.jn_device.specs.Device.{DeviceState}
 use Rattle.jn_net.specs.declared.SendFault.{SendFault}
 use Rattle.jn_net.specs.declared.SendFault.TheVariants.{Limit, Memory as NoMemory}
 use Rattle.jn_report.specs.declared.line.Line.{Line}
 use Rattle.jn_stands.specs.Stands.{Standing}
-use Rattle.jn_store.specs.Store.{StoreView}
 use Rattle.jn_world.specs.declared.ended.Ended.{Ended}
 use Rattle.jn_world.specs.declared.ended.Ended.TheVariants.{Messages, Epoch, Memory}
 use Rattle.jn_world.specs.Faults.{ended_by}

@@ -1,5 +1,5 @@
 -- The start and the end of a run, as the written machine has them.
-use Rattle.std.proofs.Common.{◌≡◌, ◌≤◌, ◌<◌, ℕ, zero, suc, ◌+◌, Bool, true, false, List, [], ◌∷◌, ◌++◌, map, drop, get_or, length, append_assoc, append-nil, slice_get, Option, Some, None, Result, Ok, Err, inl, inr, true≢false, refl, sym, ◌∙◌, ap, subst, arith}
+use Rattle.std.proofs.Common.{◌≡◌, ◌≤◌, ◌<◌, ℕ, zero, suc, ◌+◌, Bool, true, List, [], ◌∷◌, ◌++◌, map, drop, length, append_assoc, append-nil, slice_get, Some, Result, Ok, Err, inl, inr, true≢false, refl, sym, ◌∙◌, ap, subst, arith}
 use Rattle.std.proofs.Math.ListN.{set}
 use Rattle.std.specs.Prelude.{◌⊎◌, IsErr, IsErrAnd}
 use Rattle.jn_base.specs.declared.names.ServerNo.{ServerNo}
@@ -13,7 +13,7 @@ use Rattle.jn_schedule.specs.declared.Event.{Event as AnEvent}
 use Rattle.jn_stands.proofs.Dismissing.{dismissed-step}
 use Rattle.jn_stands.proofs.Starting.{first-stands, closed-stores}
 use Rattle.jn_stands.specs.Ending.{IsDisarmed, AreDisarmed, dismissed, BeganEnd}
-use Rattle.jn_stands.specs.Going.{IsTold, WentOn, WasCut}
+use Rattle.jn_stands.specs.Going.{WentOn, WasCut}
 use Rattle.jn_stands.specs.Stands.{Standing, Stands}
 use Rattle.jn_stands.specs.Starting.{IsFirst}
 use Rattle.jn_store.specs.Pairs.{pairs_view}
@@ -25,15 +25,15 @@ use Rattle.jn_net.specs.Carried.{Carried}
 use Rattle.jn_rows.specs.Client.{ClientTable, over}
 use Rattle.jn_schedule.specs.declared.Event.TheVariants.{Show, Scrub}
 use Rattle.jn_world.specs.Closing.{AreTheirs, going_down, closing_clients, showing_all, scrubbing_all, turning, thanking, telling, finishing}
-use Rattle.jn_world.specs.Written.{standing_of, GoesTo, DoesTasks, StartsAt, Starts, AreStoresOf, IsClosed, Closes, is_going}
+use Rattle.jn_world.specs.Written.{standing_of, GoesTo, DoesTasks, Starts, AreStoresOf, IsClosed, Closes, is_going}
 use Rattle.jn_world.proofs.Calls.{told-then, servers-quiet}
 use Rattle.jn_world.proofs.Numbers.{count_begins, begins-append, settling-begins}
 use Rattle.jn_written.proofs.Computed.{join}
 use Rattle.jn_written.specs.Chances.{Setup}
 use Rattle.jn_written.specs.Devices.{Devices}
 use Rattle.jn_written.specs.Events.{ending, coming_up, settling, printing, servers_of}
-use Rattle.jn_written.specs.Runs.{Moment, DoesStep, Leads}
-use Rattle.jn_written.specs.Tasks.{Task, Acts, Begins, GoesDown, ComesUp, ClosesClients, Dismisses, CountsCommits, Stage, InSchedule, AtEnd, when_at, when_of, next_at, next_task}
+use Rattle.jn_written.specs.Runs.{Moment, DoesStep}
+use Rattle.jn_written.specs.Tasks.{Task, Acts, Begins, GoesDown, ComesUp, ClosesClients, Dismisses, CountsCommits, Stage, InSchedule, AtEnd, when_at, next_at}
 use Rattle.jn_written.specs.Whole.{AreImages, before}
 
 -- ---- places that are disarmed one after another
@@ -43,19 +43,19 @@ length-set [] i y = refl
 length-set (x ∷ xs) zero y = refl
 length-set (x ∷ xs) (suc i) y = ap (λ (n : ℕ). suc n) (length-set xs i y)
 
-get-other : {A : Type 0} (xs : List A) (i n : ℕ) (y : A) → (i ≡ n → ⊥) → slice_get (set xs i y) n ≡ slice_get xs n
+pub get-other : {A : Type 0} (xs : List A) (i n : ℕ) (y : A) → (i ≡ n → ⊥) → slice_get (set xs i y) n ≡ slice_get xs n
 get-other [] i n y h = refl
 get-other (x ∷ xs) zero zero y h = absurd (h refl)
 get-other (x ∷ xs) zero (suc n) y h = refl
 get-other (x ∷ xs) (suc i) zero y h = refl
 get-other (x ∷ xs) (suc i) (suc n) y h = get-other xs i n y (λ e. h (ap (λ (k : ℕ). suc k) e))
 
-get-same : {A : Type 0} (xs : List A) (i : ℕ) (y : A) → i < length xs → slice_get (set xs i y) i ≡ Some y
+pub get-same : {A : Type 0} (xs : List A) (i : ℕ) (y : A) → i < length xs → slice_get (set xs i y) i ≡ Some y
 get-same [] i y h = absurd (omega arith)
 get-same (x ∷ xs) zero y h = refl
 get-same (x ∷ xs) (suc i) y h = get-same xs i y (omega arith)
 
-either : (n s : ℕ) → n < s + 1 → (n ≡ s) ⊎ (n < s)
+pub either : (n s : ℕ) → n < s + 1 → (n ≡ s) ⊎ (n < s)
 either zero zero h = inl refl
 either zero (suc s) h = inr (omega arith)
 either (suc n) zero h = absurd (omega arith)

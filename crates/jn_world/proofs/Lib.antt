@@ -19,3 +19,4 @@ pub mod Pushed
 pub mod RestartRefusals
 pub mod Resting
 pub mod PageRefusals
+pub mod Calm

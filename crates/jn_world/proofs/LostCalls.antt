@@ -1,61 +1,28 @@
 -- Messages that are lost, and messages that were never sent.
-use Rattle.std.proofs.Common.{◌≡◌, ◌≤◌, ◌<◌, ℕ, zero, suc, ◌+◌, ◌-◌, Bool, true, false, List, [], ◌∷◌, ◌++◌, length, Option, Some, None, Result, Ok, Err, true≢false, refl, sym, ◌∙◌, ap, subst, arith}
-use Rattle.std.proofs.Math.ListN.{set}
+use Rattle.std.proofs.Common.{◌≡◌, ◌≤◌, ◌<◌, ℕ, zero, suc, Bool, true, false, List, [], ◌∷◌, ◌++◌, length, Option, Some, None, Result, true≢false, refl, sym, ◌∙◌, ap, subst, arith}
 use Rattle.std.specs.Prelude.{drop, nat_lt, slice_get}
-use Rattle.jn_base.specs.declared.device.FaultKind.{FaultKind}
-use Rattle.jn_base.specs.declared.device.FaultKind.TheVariants as faults
-use Rattle.jn_base.specs.declared.names.ClientNo.{ClientNo}
-use Rattle.jn_base.specs.declared.names.Party.TheVariants.{Client, Server}
+use Rattle.jn_base.specs.declared.names.Party.TheVariants.{Server}
 use Rattle.jn_base.specs.declared.names.ServerNo.{ServerNo}
-use Rattle.jn_base.specs.declared.names.Tid.{Tid}
-use Rattle.jn_base.specs.declared.op.Command.{Command}
 use Rattle.jn_device.specs.Device.{DeviceState}
-use Rattle.jn_device.specs.Events.{Decays as PageDecays, Revives as PageRevives, Arms as FaultArmed}
-use Rattle.jn_msgs.specs.Collected.{Collected}
 use Rattle.jn_net.specs.Carried.{with_delivered}
 use Rattle.jn_net.specs.declared.Sent.{Sent as Posted}
 use Rattle.jn_place.specs.declared.place.Place.{Place}
 use Rattle.jn_place.specs.declared.place.Slot.{Slot}
 use Rattle.jn_place.specs.declared.place.Slot.TheVariants.{Up, Down, Gone}
-use Rattle.jn_place.specs.Exact.{Took, WorkedBy, ScrubbedBy, Showed, AsksAgain, TimedOut, Crashed, Befell, has_work_at}
-use Rattle.jn_protocol.specs.Steps.{sent_now}
 use Rattle.jn_recovery.specs.Loading.{counts_by}
 use Rattle.jn_report.specs.declared.line.EventRefusal.TheVariants.{TooManyArmed}
 use Rattle.jn_report.specs.declared.line.Line.{Line}
-use Rattle.jn_report.specs.declared.line.Text.{Text}
 use Rattle.jn_report.specs.declared.line.Text.TheVariants as says
 use Rattle.jn_report.specs.declared.line.When.{When}
-use Rattle.jn_report.specs.declared.line.When.TheVariants.{Event as AtEvent, End}
-use Rattle.jn_rows.specs.Client.{ClientTable, Commanded, command_row, take_row, again_row, new_table}
-use Rattle.jn_rows.specs.Outcomes.{Sent}
-use Rattle.jn_schedule.specs.declared.Event.{Event}
 use Rattle.jn_schedule.specs.declared.Event.TheVariants as events
-use Rattle.jn_server.specs.declared.show.Shown.{Shown}
-use Rattle.jn_stands.specs.Clients.{with_client, texts_taken, texts_commanded, sent_commanded, table_commanded}
-use Rattle.jn_stands.specs.Going.{IsStepTo, ActsNext}
-use Rattle.jn_stands.specs.Pages.{HasCounts, ReadsPages}
-use Rattle.jn_stands.specs.Showing.{texts_shown}
-use Rattle.jn_stands.specs.Stands.{Standing, Stands, is_client, posted_by, with_sent, texts_sent, with_answer}
-use Rattle.jn_stands.proofs.ClientSteps.{client-took-step, other-took-step}
-use Rattle.jn_stands.proofs.Commands.{told-step, asked-step}
-use Rattle.jn_stands.proofs.Losing.{lost-step}
-use Rattle.jn_stands.proofs.Took.{took-step}
-use Rattle.jn_stands.proofs.Working.{idle-step, worked-step}
-use Rattle.jn_stands.proofs.Nudging.{nudged-step, nudged-down-step, timed-out-step}
-use Rattle.jn_stands.proofs.Looking.{scrubbed-step, showed-step}
-use Rattle.jn_stands.proofs.Crashing.{crashed-step}
-use Rattle.jn_stands.proofs.Befalling.{decayed-step, revived-step, armed-step}
+use Rattle.jn_stands.specs.Stands.{Standing, Stands}
 use Rattle.jn_store.specs.Pairs.{pairs_view}
 use Rattle.jn_store.specs.Store.{StoreView}
-use Rattle.jn_within.specs.Taking.{sent_for}
 use Rattle.jn_world.specs.declared.ended.Ended.{Ended}
-use Rattle.jn_world.specs.declared.ended.Ended.TheVariants.{Memory}
 use Rattle.jn_world.specs.Written.{GoesTo, DoesEvent, EndsStep}
 use Rattle.jn_base.specs.declared.names.Party.{Party}
 use Rattle.jn_net.specs.Carried.{Carried}
 use Rattle.jn_place.specs.Places.{is_up}
-use Rattle.jn_protocol.specs.World.{World as Protocol}
-use Rattle.jn_report.specs.declared.line.EventRefusal.{EventRefusal}
 use Rattle.jn_report.specs.declared.line.EventRefusal.TheVariants as refusals
 use Rattle.jn_rests.specs.Waiting.{sent_of}
 use Rattle.jn_stands.proofs.Losing.{never-sent}
@@ -66,10 +33,8 @@ use Rattle.jn_world.proofs.Refusing.{place-there}
 use Rattle.jn_world.proofs.ServerCalls.{lost-does, nudged-down-does}
 use Rattle.jn_written.specs.Refusals.{refusal_of, unless}
 use Rattle.jn_written.specs.Chances.{Setup}
-use Rattle.jn_written.specs.Events.{told_unless}
 use Rattle.jn_written.specs.Runs.{Moment}
-use Rattle.jn_written.specs.Steps.{lines_at, message_texts, traced}
-use Rattle.jn_written.specs.Tasks.{Task, Stage, InSchedule, AtEnd, CutShort, when_at, when_of}
+use Rattle.jn_written.specs.Steps.{lines_at}
 
 pub sent-for : (ms : List Posted) (k : ℕ) (one : Posted) (party : Party) → slice_get ms k ≡ Some one → IsSentTo party (slice_get ms k) → one.to ≡ party
 sent-for ms k one party at to = subst (λ (o : Option Posted). IsSentTo party o) at to

@@ -1,11 +1,11 @@
 -- The event under way changes only as one begins.
-use Rattle.std.proofs.Common.{◌≡◌, ℕ, zero, suc, ◌+◌, Bool, true, false, List, [], ◌∷◌, ◌++◌, map, drop, Option, Some, None, is_some, true≢false, refl, sym, ◌∙◌, ap, subst, arith}
+use Rattle.std.proofs.Common.{◌≡◌, ℕ, ◌+◌, Bool, true, false, List, [], ◌∷◌, ◌++◌, map, drop, Option, Some, None, is_some, true≢false, refl, sym, ◌∙◌, ap, subst, arith}
 use Rattle.std.specs.Prelude.{if◌then◌else◌, slice_get}
 use Rattle.jn_base.specs.declared.names.ClientNo.{ClientNo}
 use Rattle.jn_base.specs.declared.names.ServerNo.{ServerNo}
 use Rattle.jn_base.specs.declared.names.Party.TheVariants.{Client, Server}
 use Rattle.jn_protocol.specs.Steps.{Step}
-use Rattle.jn_protocol.specs.World.{World, Memory, servers_from}
+use Rattle.jn_protocol.specs.World.{World, Memory}
 use Rattle.jn_report.specs.declared.line.EventRefusal.{EventRefusal}
 use Rattle.jn_rows.specs.Outcomes.{Sent}
 use Rattle.jn_rows.specs.Stable.{Pick}
@@ -22,8 +22,8 @@ use Rattle.jn_written.specs.Events.{acted, met, resting, deed_of, settling, aski
 use Rattle.jn_written.specs.Kinds.{event_after}
 use Rattle.jn_written.specs.Refusals.{refusal_of}
 use Rattle.jn_written.specs.Runs.{none, more, Moment, DoesStep, Leads}
-use Rattle.jn_written.specs.Steps.{is_too_much, come_to, cut_short, made_to, done}
-use Rattle.jn_written.specs.Tasks.{Task, Begins, Meets, Acts, Rests, ComesUp, Dismisses, GoesDown, ClosesClients, CountsCommits, Stage, InSchedule, AtEnd, CutShort, State, begun, next_at, next_task}
+use Rattle.jn_written.specs.Steps.{is_too_much, come_to, cut_short, made_to}
+use Rattle.jn_written.specs.Tasks.{Task, Begins, Meets, Acts, Rests, ComesUp, Dismisses, GoesDown, ClosesClients, CountsCommits, Stage, InSchedule, AtEnd, CutShort, State, begun, next_at}
 use Rattle.jn_written.proofs.Telling.{adds}
 
 -- how many events are still to begin

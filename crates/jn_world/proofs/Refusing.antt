@@ -1,8 +1,8 @@
 -- Events of the schedule that are refused, or done.
-use Rattle.std.proofs.Common.{◌≡◌, ◌<◌, ◌≤◌, ℕ, zero, suc, ◌+◌, Bool, true, false, List, [], ◌∷◌, ◌++◌, length, Option, Some, None, is_some, Result, Ok, Err, true≢false, refl, sym, ◌∙◌, ap, subst, arith}
+use Rattle.std.proofs.Common.{◌≡◌, ◌<◌, ◌≤◌, ℕ, zero, suc, Bool, true, false, List, [], ◌∷◌, ◌++◌, length, Option, Some, None, is_some, Result, Ok, Err, refl, sym, ◌∙◌, ap, subst, arith}
 use Rattle.std.proofs.lemmas.Bool.Decides.{nat_tests}
 use Rattle.std.specs.Global.{Vec}
-use Rattle.std.specs.Prelude.{vec_len, drop, nat_lt, slice_get, IsErr, IsErrAnd, IfErr, OnOk}
+use Rattle.std.specs.Prelude.{vec_len, drop, nat_lt, slice_get, IfErr, OnOk}
 use Rattle.jn_base.specs.declared.names.ServerNo.{ServerNo}
 use Rattle.jn_device.specs.Device.{DeviceState}
 use Rattle.jn_place.specs.declared.place.Place.{Place}
@@ -21,9 +21,9 @@ use Rattle.jn_schedule.specs.declared.Event.{Event}
 use Rattle.jn_schedule.specs.declared.Event.TheVariants as events
 use Rattle.jn_stands.proofs.Meeting.{meets-acts}
 use Rattle.jn_stands.proofs.Still.{refused-step}
-use Rattle.jn_stands.specs.Going.{WentOn, ActsNext}
+use Rattle.jn_stands.specs.Going.{WentOn}
 use Rattle.jn_stands.specs.Meeting.{is_settle}
-use Rattle.jn_stands.specs.Stands.{Standing, Stands, StandsAt, PlaceStands}
+use Rattle.jn_stands.specs.Stands.{Standing, Stands, StandsAt}
 use Rattle.jn_store.specs.Store.{StoreView}
 use Rattle.jn_world.specs.declared.ended.Ended.{Ended}
 use Rattle.jn_world.specs.declared.ended.Ended.TheVariants.{Memory}
@@ -32,7 +32,7 @@ use Rattle.jn_world.specs.Meeting.{IsAtUp, refusal_up}
 use Rattle.jn_world.specs.Written.{GoesTo, DoesEvent, DoesTasks}
 use Rattle.jn_world.proofs.Turns.{next-first}
 use Rattle.jn_written.specs.Chances.{Setup}
-use Rattle.jn_written.specs.Refusals.{refusal_of, if_there, if_up, if_down, unless}
+use Rattle.jn_written.specs.Refusals.{refusal_of, if_there, if_up, unless}
 use Rattle.jn_written.specs.Runs.{Moment}
 use Rattle.jn_written.specs.Tasks.{Task, Meets, when_of}
 

@@ -1,19 +1,16 @@
 -- Messages and notes of a step one after another, and what the world has then.
-use Rattle.std.proofs.Common.{◌≡◌, ◌≤◌, ◌<◌, ℕ, suc, ◌+◌, Bool, true, false, ◌||◌, List, [], ◌∷◌, ◌++◌, length, length-append, append_assoc, append-nil, map, Option, Some, None, Result, Ok, Err, refl, sym, ◌∙◌, ap, subst, arith}
+use Rattle.std.proofs.Common.{◌≡◌, ◌≤◌, ◌<◌, ℕ, suc, ◌+◌, Bool, true, false, ◌||◌, List, [], ◌∷◌, ◌++◌, length, length-append, append_assoc, append-nil, Option, Some, Result, refl, sym, ◌∙◌, ap, arith}
 use Rattle.std.proofs.Math.Path.{fun_ext}
 use Rattle.std.proofs.lemmas.List.{map-append}
 use Rattle.std.proofs.lemmas.List.Folds.{list_any-append}
-use Rattle.std.proofs.Math.Bool.{or_assoc, or_comm}
-use Rattle.std.specs.List.{list_any}
+use Rattle.std.proofs.Math.Bool.{or_comm}
 use Rattle.jn_base.specs.declared.names.Party.{Party}
 use Rattle.jn_base.specs.declared.names.Party.TheVariants.{Server}
 use Rattle.jn_base.specs.declared.names.ServerNo.{ServerNo}
 use Rattle.jn_base.specs.declared.names.Tid.{Tid}
 use Rattle.jn_base.specs.Names.{tid_eq}
-use Rattle.jn_moves.proofs.Mirrored.{commits-more}
 use Rattle.jn_msgs.specs.declared.message.Note.{Note}
 use Rattle.jn_msgs.specs.Kinds.{kind_of}
-use Rattle.jn_net.specs.Carried.{Carried}
 use Rattle.jn_net.specs.declared.Sent.{Sent as Posted}
 use Rattle.jn_protocol.specs.Servers.{line_of, lines_of}
 use Rattle.jn_protocol.specs.World.{commits_in, has_line}
@@ -26,10 +23,9 @@ use Rattle.jn_msgs.specs.Collected.{Collected}
 use Rattle.jn_stands.specs.Stands.{Standing, posted_by, with_sent, with_named, with_answer, texts_sent}
 use Rattle.jn_world.proofs.Exits.{part-as}
 use Rattle.jn_world.specs.declared.ended.Ended.{Ended}
-use Rattle.jn_world.specs.declared.ended.Ended.TheVariants.{Messages, Epoch, Memory}
 use Rattle.jn_world.specs.declared.world.World.{World}
 use Rattle.jn_world.specs.Naming.{is_among}
-use Rattle.jn_world.specs.Written.{standing_of, EndsStep, EndsPart}
+use Rattle.jn_world.specs.Written.{standing_of, EndsPart}
 use Rattle.jn_written.specs.Steps.{lines_at, message_texts, traced}
 
 -- ---- lines

@@ -7,3 +7,4 @@ pub mod Bringing
 pub mod Closing
 pub mod Meeting
 pub mod Opening
+pub mod Calm

@@ -1,5 +1,5 @@
 -- Events of one server, and why they are refused.
-use Rattle.std.specs.Prelude.{◌≡◌, Option, None, Bool}
+use Rattle.std.specs.Prelude.{◌≡◌, Option, None}
 use Rattle.jn_base.specs.declared.names.ServerNo.{ServerNo}
 use Rattle.jn_protocol.specs.World.{World}
 use Rattle.jn_report.specs.declared.line.EventRefusal.{EventRefusal}

@@ -7,6 +7,7 @@ ghost use Rattle.jn_schedule.specs.declared.Event.TheVariants as events;
 ghost use Rattle.jn_stands.specs.Clients.{texts_taken};
 ghost use Rattle.jn_stands.specs.Stands.{with_sent};
 ghost use Rattle.jn_within.specs.Taking.{sent_for, AllCanBeTaken, CommandInRange};
+ghost use Rattle.jn_world.specs.Calm.{StayUp};
 ghost use Rattle.jn_world.specs.Opening.{AreNew};
 ghost use Rattle.jn_world.specs.Standing.{IsWorld, IsClientOf, is_client, posted_by};
 ghost use Rattle.jn_world.specs.Written.{DoesEvent, EndsStep, IsSentTo, standing_of};
@@ -109,6 +110,7 @@ impl<S: Powered + Drop> World<S> {
         requires world { IsWorld (λ s. S.view s) self.old }
         requires client { is_client client.0 ≡ true }
         ensures world { OnOk result (IsWorld (λ s. S.view s) self.new) }
+        ensures calm { OnOk result (StayUp (λ s. S.view s) self.old.places.items self.new.places.items) }
         ensures does { DoesEvent (λ s. S.view s) (λ s. S.device s) (events.Again client) when (standing_of self.old) result (standing_of self.new) lines.old.items lines.new.items }
     {
         match self.clients[index_of(client)].again()? {
@@ -129,6 +131,7 @@ impl<S: Powered + Drop> World<S> {
         requires sent { k < length self.old.net.sent }
         requires to { IsSentTo (AClient client) (slice_get self.old.net.sent k) }
         ensures world { OnOk result (IsWorld (λ s. S.view s) self.new) }
+        ensures calm { OnOk result (StayUp (λ s. S.view s) self.old.places.items self.new.places.items) }
         ensures does { DoesEvent (λ s. S.view s) (λ s. S.device s) (events.Deliver k) when (standing_of self.old) result (standing_of self.new) lines.old.items lines.new.items }
     {
         if is_client(client) {
@@ -150,6 +153,7 @@ impl<S: Powered + Drop> World<S> {
         requires to { IsSentTo (AClient client) (slice_get self.old.net.sent k) }
         requires client { is_client client.0 ≡ true }
         ensures world { OnOk result (IsWorld (λ s. S.view s) self.new) }
+        ensures calm { OnOk result (StayUp (λ s. S.view s) self.old.places.items self.new.places.items) }
         ensures does { DoesEvent (λ s. S.view s) (λ s. S.device s) (events.Deliver k) when (standing_of self.old) result (standing_of self.new) lines.old.items lines.new.items }
     {
         let Some(sent) = self.net.message(k) else {
@@ -173,6 +177,7 @@ impl<S: Powered + Drop> World<S> {
         requires to { IsSentTo (AClient client) (slice_get self.old.net.sent k) }
         requires other { is_client client.0 ≡ false }
         ensures world { OnOk result (IsWorld (λ s. S.view s) self.new) }
+        ensures calm { OnOk result (StayUp (λ s. S.view s) self.old.places.items self.new.places.items) }
         ensures does { DoesEvent (λ s. S.view s) (λ s. S.device s) (events.Deliver k) when (standing_of self.old) result (standing_of self.new) lines.old.items lines.new.items }
     {
         let servers = self.servers();

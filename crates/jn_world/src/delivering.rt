@@ -2,6 +2,7 @@
 ghost use Rattle.std.specs.Prelude.{◌≡◌, ◌<◌, ◌∷◌, [], true, false, length, OnOk, slice_get};
 ghost use Rattle.jn_base.specs.declared.names.Party.TheVariants.{Server as AServer};
 ghost use Rattle.jn_schedule.specs.declared.Event.TheVariants as events;
+ghost use Rattle.jn_world.specs.Calm.{StayUp};
 ghost use Rattle.jn_world.specs.Standing.{IsWorld, is_up_at};
 ghost use Rattle.jn_world.specs.Written.{DoesEvent, DoesTasks, IsSentTo, standing_of};
 ghost use Rattle.jn_written.specs.Tasks.{Meets};
@@ -36,6 +37,7 @@ impl<S: Powered + Drop> World<S> {
         requires world { IsWorld (λ s. S.view s) self.old }
         requires sent { k < length self.old.net.sent }
         ensures world { OnOk result (IsWorld (λ s. S.view s) self.new) }
+        ensures calm { OnOk result (StayUp (λ s. S.view s) self.old.places.items self.new.places.items) }
         ensures does { DoesEvent (λ s. S.view s) (λ s. S.device s) (events.Deliver k) when (standing_of self.old) result (standing_of self.new) lines.old.items lines.new.items }
     {
         let Some(sent) = self.net.message(k) else {
@@ -59,6 +61,7 @@ impl<S: Powered + Drop> World<S> {
         requires sent { k < length self.old.net.sent }
         requires to { IsSentTo (AServer server) (slice_get self.old.net.sent k) }
         ensures world { OnOk result (IsWorld (λ s. S.view s) self.new) }
+        ensures calm { OnOk result (StayUp (λ s. S.view s) self.old.places.items self.new.places.items) }
         ensures does { DoesEvent (λ s. S.view s) (λ s. S.device s) (events.Deliver k) when (standing_of self.old) result (standing_of self.new) lines.old.items lines.new.items }
     {
         if !self.is_up(server) {
@@ -80,6 +83,7 @@ impl<S: Powered + Drop> World<S> {
         requires to { IsSentTo (AServer server) (slice_get self.old.net.sent k) }
         requires down { is_up_at server.0 self.old.places.items ≡ false }
         ensures world { OnOk result (IsWorld (λ s. S.view s) self.new) }
+        ensures calm { OnOk result (StayUp (λ s. S.view s) self.old.places.items self.new.places.items) }
         ensures does { DoesEvent (λ s. S.view s) (λ s. S.device s) (events.Deliver k) when (standing_of self.old) result (standing_of self.new) lines.old.items lines.new.items }
     {
         self.net.delivered(k);
@@ -100,6 +104,7 @@ impl<S: Powered + Drop> World<S> {
         requires to { IsSentTo (AServer server) (slice_get self.old.net.sent k) }
         requires up { is_up_at server.0 self.old.places.items ≡ true }
         ensures world { OnOk result (IsWorld (λ s. S.view s) self.new) }
+        ensures calm { OnOk result (StayUp (λ s. S.view s) self.old.places.items self.new.places.items) }
         ensures does { DoesEvent (λ s. S.view s) (λ s. S.device s) (events.Deliver k) when (standing_of self.old) result (standing_of self.new) lines.old.items lines.new.items }
     {
         let mut told = Vec::new(self.alloc);

@@ -2,16 +2,17 @@
 ghost use Rattle.std.specs.Prelude.{◌≡◌, ◌<◌, ◌≤◌, ◌∷◌, [], map, vec_len, length, OnOk, IfOk};
 ghost use Rattle.jn_report.specs.declared.line.When.TheVariants.{End};
 ghost use Rattle.jn_rows.specs.Client.{over};
-ghost use Rattle.jn_schedule.specs.declared.Event.TheVariants.{Crash, Scrub, Show};
+ghost use Rattle.jn_schedule.specs.declared.Event.TheVariants.{Crash};
 ghost use Rattle.jn_stands.specs.Ending.{AreDisarmed, dismissed};
 ghost use Rattle.jn_stands.specs.Stands.{Stands};
+ghost use Rattle.jn_world.specs.Calm.{AreDown, AreQuiet, AreUpAndCalm, IsTakenDown};
 ghost use Rattle.jn_world.specs.Closing.{AreIdle, AreTheirs, going_down, closing_clients, showing_all, scrubbing_all, turning, thanking, telling, finishing};
 ghost use Rattle.jn_world.specs.Standing.{AreClosed, IsWorld};
 ghost use Rattle.jn_world.specs.Written.{Closes, DoesEvent, DoesTasks, standing_of};
 ghost use Rattle.jn_written.specs.Chances.{Setup};
 ghost use Rattle.jn_written.specs.Events.{ending};
 ghost use Rattle.jn_written.specs.Runs.{Moment};
-ghost use Rattle.jn_written.specs.Tasks.{ClosesClients, CountsCommits, InSchedule};
+ghost use Rattle.jn_written.specs.Tasks.{CountsCommits, InSchedule};
 
 use crate::ended::Ended;
 use crate::world::{CLIENTS, World};
@@ -41,6 +42,7 @@ impl<S: Powered + Drop> World<S> {
     fn finish(&mut self, lines: &mut Vec<Line>) -> Result<(), Ended>
         requires world { IsWorld (λ s. S.view s) self.old }
         requires idle { AreIdle self.old.clients.items }
+        requires quiet { AreQuiet (λ s. S.view s) self.old.places.items }
         ensures world { OnOk result (IsWorld (λ s. S.view s) self.new) }
         ensures does { DoesTasks (λ s. S.view s) (λ s. S.device s) finishing End (standing_of self.old) result (standing_of self.new) lines.old.items lines.new.items }
     {
@@ -52,8 +54,10 @@ impl<S: Powered + Drop> World<S> {
     /// All servers go down and come up again.
     fn turn_over(&mut self, lines: &mut Vec<Line>) -> Result<(), Ended>
         requires world { IsWorld (λ s. S.view s) self.old }
+        requires quiet { AreQuiet (λ s. S.view s) self.old.places.items }
         ensures world { OnOk result (IsWorld (λ s. S.view s) self.new) }
         ensures clients { OnOk result (self.new.clients ≡ self.old.clients) }
+        ensures calm { OnOk result (AreUpAndCalm (λ s. S.view s) self.new.places.items) }
         ensures does { DoesTasks (λ s. S.view s) (λ s. S.device s) turning End (standing_of self.old) result (standing_of self.new) lines.old.items lines.new.items }
     {
         self.crash_all(lines)?;
@@ -64,7 +68,9 @@ impl<S: Powered + Drop> World<S> {
     fn thank_all(&mut self, lines: &mut Vec<Line>) -> Result<(), Ended>
         requires world { IsWorld (λ s. S.view s) self.old }
         requires idle { AreIdle self.old.clients.items }
+        requires calm { AreUpAndCalm (λ s. S.view s) self.old.places.items }
         ensures world { OnOk result (IsWorld (λ s. S.view s) self.new) }
+        ensures calm { OnOk result (AreUpAndCalm (λ s. S.view s) self.new.places.items) }
         ensures does { DoesTasks (λ s. S.view s) (λ s. S.device s) thanking End (standing_of self.old) result (standing_of self.new) lines.old.items lines.new.items }
     {
         self.close_all_clients(lines)?;
@@ -74,6 +80,7 @@ impl<S: Powered + Drop> World<S> {
     /// The files are printed, the pages cleaned, and the commits counted.
     fn tell_all(&mut self, lines: &mut Vec<Line>) -> Result<(), Ended>
         requires world { IsWorld (λ s. S.view s) self.old }
+        requires calm { AreUpAndCalm (λ s. S.view s) self.old.places.items }
         ensures world { OnOk result (IsWorld (λ s. S.view s) self.new) }
         ensures does { DoesTasks (λ s. S.view s) (λ s. S.device s) telling End (standing_of self.old) result (standing_of self.new) lines.old.items lines.new.items }
     {
@@ -96,6 +103,7 @@ impl<S: Powered + Drop> World<S> {
         requires { IsWorld (λ s. S.view s) self.old }
         ensures world { IsWorld (λ s. S.view s) self.new }
         ensures disarmed { AreDisarmed (λ s. S.view s) (λ s. S.device s) self.old.places.items self.new.places.items }
+        ensures quiet { AreQuiet (λ s. S.view s) self.new.places.items }
         ensures dismissed { standing_of self.new ≡ dismissed self.new.places.items (standing_of self.old) }
     {
         self.disarm_all();
@@ -130,6 +138,8 @@ impl<S: Powered + Drop> World<S> {
         requires world { IsWorld (λ s. S.view s) self.old }
         ensures world { OnOk result (IsWorld (λ s. S.view s) self.new) }
         ensures clients { OnOk result (self.new.clients ≡ self.old.clients) }
+        ensures all_down { OnOk result (AreDown self.new.places.items) }
+        ensures quiet { OnOk result (AreQuiet (λ s. S.view s) self.old.places.items → AreQuiet (λ s. S.view s) self.new.places.items) }
         ensures does { DoesTasks (λ s. S.view s) (λ s. S.device s) going_down End (standing_of self.old) result (standing_of self.new) lines.old.items lines.new.items }
     {
         for s in 0..self.servers() {
@@ -145,6 +155,8 @@ impl<S: Powered + Drop> World<S> {
         ensures world { OnOk result (IsWorld (λ s. S.view s) self.new) }
         ensures as_many { OnOk result (vec_len self.new.places ≡ vec_len self.old.places) }
         ensures clients { OnOk result (self.new.clients ≡ self.old.clients) }
+        ensures down { OnOk result (IsTakenDown server.0 self.old.places.items self.new.places.items) }
+        ensures quiet { OnOk result (AreQuiet (λ s. S.view s) self.old.places.items → AreQuiet (λ s. S.view s) self.new.places.items) }
         ensures does { DoesEvent (λ s. S.view s) (λ s. S.device s) (Crash server) End (standing_of self.old) result (standing_of self.new) lines.old.items lines.new.items }
     {
         if !self.is_up(server) {
@@ -157,79 +169,44 @@ impl<S: Powered + Drop> World<S> {
     fn close_all_clients(&mut self, lines: &mut Vec<Line>) -> Result<(), Ended>
         requires world { IsWorld (λ s. S.view s) self.old }
         requires idle { AreIdle self.old.clients.items }
+        requires calm { AreUpAndCalm (λ s. S.view s) self.old.places.items }
         ensures world { OnOk result (IsWorld (λ s. S.view s) self.new) }
         ensures clients { OnOk result (self.new.clients ≡ self.old.clients) }
+        ensures calm { OnOk result (AreUpAndCalm (λ s. S.view s) self.new.places.items) }
         ensures does { DoesTasks (λ s. S.view s) (λ s. S.device s) closing_clients End (standing_of self.old) result (standing_of self.new) lines.old.items lines.new.items }
     {
         for s in 0..self.servers() {
-            self.close_at(ServerNo(s), lines)?;
+            self.close_clients(ServerNo(s), When::End, lines)?;
         }
         Ok(())
-    }
-
-    /// Each outcome at one server counts as thanked.
-    fn close_at(&mut self, server: ServerNo, lines: &mut Vec<Line>) -> Result<(), Ended>
-        requires world { IsWorld (λ s. S.view s) self.old }
-        requires idle { AreIdle self.old.clients.items }
-        ensures world { OnOk result (IsWorld (λ s. S.view s) self.new) }
-        ensures clients { OnOk result (self.new.clients ≡ self.old.clients) }
-        ensures does { DoesTasks (λ s. S.view s) (λ s. S.device s) (λ x. ClosesClients server ∷ []) End (standing_of self.old) result (standing_of self.new) lines.old.items lines.new.items }
-    {
-        if !self.is_up(server) {
-            // It always is: no fault waits that might have stopped it.
-            return Err(Ended::Memory);
-        }
-        self.close_clients(server, When::End, lines)
     }
 
     /// The files of all servers are printed.
     fn show_all(&mut self, lines: &mut Vec<Line>) -> Result<(), Ended>
         requires world { IsWorld (λ s. S.view s) self.old }
+        requires calm { AreUpAndCalm (λ s. S.view s) self.old.places.items }
         ensures world { OnOk result (IsWorld (λ s. S.view s) self.new) }
+        ensures calm { OnOk result (AreUpAndCalm (λ s. S.view s) self.new.places.items) }
         ensures does { DoesTasks (λ s. S.view s) (λ s. S.device s) showing_all End (standing_of self.old) result (standing_of self.new) lines.old.items lines.new.items }
     {
         for s in 0..self.servers() {
-            self.show_at(ServerNo(s), lines)?;
+            self.show(ServerNo(s), When::End, lines)?;
         }
         Ok(())
-    }
-
-    /// The files of one server are printed.
-    fn show_at(&mut self, server: ServerNo, lines: &mut Vec<Line>) -> Result<(), Ended>
-        requires world { IsWorld (λ s. S.view s) self.old }
-        ensures world { OnOk result (IsWorld (λ s. S.view s) self.new) }
-        ensures does { DoesEvent (λ s. S.view s) (λ s. S.device s) (Show server) End (standing_of self.old) result (standing_of self.new) lines.old.items lines.new.items }
-    {
-        if !self.is_up(server) {
-            // It always is: no fault waits that might have stopped it.
-            return Err(Ended::Memory);
-        }
-        self.show(server, When::End, lines)
     }
 
     /// The pages of all servers are cleaned.
     fn scrub_all(&mut self, lines: &mut Vec<Line>) -> Result<(), Ended>
         requires world { IsWorld (λ s. S.view s) self.old }
+        requires calm { AreUpAndCalm (λ s. S.view s) self.old.places.items }
         ensures world { OnOk result (IsWorld (λ s. S.view s) self.new) }
+        ensures calm { OnOk result (AreUpAndCalm (λ s. S.view s) self.new.places.items) }
         ensures does { DoesTasks (λ s. S.view s) (λ s. S.device s) scrubbing_all End (standing_of self.old) result (standing_of self.new) lines.old.items lines.new.items }
     {
         for s in 0..self.servers() {
-            self.scrub_at(ServerNo(s), lines)?;
+            self.scrub(ServerNo(s), When::End, lines)?;
         }
         Ok(())
-    }
-
-    /// The pages of one server are cleaned.
-    fn scrub_at(&mut self, server: ServerNo, lines: &mut Vec<Line>) -> Result<(), Ended>
-        requires world { IsWorld (λ s. S.view s) self.old }
-        ensures world { OnOk result (IsWorld (λ s. S.view s) self.new) }
-        ensures does { DoesEvent (λ s. S.view s) (λ s. S.device s) (Scrub server) End (standing_of self.old) result (standing_of self.new) lines.old.items lines.new.items }
-    {
-        if !self.is_up(server) {
-            // It always is: no fault waits that might have stopped it.
-            return Err(Ended::Memory);
-        }
-        self.scrub(server, When::End, lines)
     }
 
     fn into_stores(self) -> Result<Vec<S>, AllocError>

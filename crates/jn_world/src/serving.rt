@@ -3,6 +3,7 @@ ghost use Rattle.std.specs.Prelude.{◌≡◌, ◌∷◌, ◌++◌, [], true, ma
 ghost use Rattle.jn_place.specs.Exact.{items_of};
 ghost use Rattle.jn_schedule.specs.declared.Event.TheVariants as events;
 ghost use Rattle.jn_stands.specs.Showing.{text_shown, texts_shown};
+ghost use Rattle.jn_world.specs.Calm.{AreQuiet, AreUpAndCalm, IsTakenDown, StayUp};
 ghost use Rattle.jn_world.specs.Closing.{AreIdle};
 ghost use Rattle.jn_world.specs.Standing.{IsWorld, is_up_at, works_at};
 ghost use Rattle.jn_world.specs.Written.{DoesEvent, DoesTasks, standing_of};
@@ -70,6 +71,7 @@ impl<S: Powered + Drop> World<S> {
         requires world { IsWorld (λ s. S.view s) self.old }
         requires up { is_up_at server.0 self.old.places.items ≡ true }
         ensures world { OnOk result (IsWorld (λ s. S.view s) self.new) }
+        ensures calm { OnOk result (StayUp (λ s. S.view s) self.old.places.items self.new.places.items) }
         ensures does { DoesEvent (λ s. S.view s) (λ s. S.device s) (events.Step server) when (standing_of self.old) result (standing_of self.new) lines.old.items lines.new.items }
     {
         if !self.places[usize::from(server.0)].has_work() {
@@ -89,6 +91,7 @@ impl<S: Powered + Drop> World<S> {
         requires up { is_up_at server.0 self.old.places.items ≡ true }
         requires work { works_at (λ s. S.view s) server.0 self.old.places.items ≡ true }
         ensures world { OnOk result (IsWorld (λ s. S.view s) self.new) }
+        ensures calm { OnOk result (StayUp (λ s. S.view s) self.old.places.items self.new.places.items) }
         ensures does { DoesEvent (λ s. S.view s) (λ s. S.device s) (events.Step server) when (standing_of self.old) result (standing_of self.new) lines.old.items lines.new.items }
     {
         let mut told = Vec::new(self.alloc);
@@ -107,6 +110,7 @@ impl<S: Powered + Drop> World<S> {
         requires world { IsWorld (λ s. S.view s) self.old }
         requires up { is_up_at server.0 self.old.places.items ≡ true }
         ensures world { OnOk result (IsWorld (λ s. S.view s) self.new) }
+        ensures calm { OnOk result (StayUp (λ s. S.view s) self.old.places.items self.new.places.items) }
         ensures does { DoesEvent (λ s. S.view s) (λ s. S.device s) (events.Nudge server) when (standing_of self.old) result (standing_of self.new) lines.old.items lines.new.items }
         ensures as_many { OnOk result (vec_len self.new.places ≡ vec_len self.old.places) }
     {
@@ -144,6 +148,8 @@ impl<S: Powered + Drop> World<S> {
         requires world { IsWorld (λ s. S.view s) self.old }
         requires up { is_up_at server.0 self.old.places.items ≡ true }
         ensures world { OnOk result (IsWorld (λ s. S.view s) self.new) }
+        ensures as_many { OnOk result (vec_len self.new.places ≡ vec_len self.old.places) }
+        ensures calm { OnOk result (StayUp (λ s. S.view s) self.old.places.items self.new.places.items) }
         ensures does { DoesEvent (λ s. S.view s) (λ s. S.device s) (events.Scrub server) when (standing_of self.old) result (standing_of self.new) lines.old.items lines.new.items }
     {
         self.places[usize::from(server.0)].scrub(server, when, lines)?;
@@ -160,6 +166,8 @@ impl<S: Powered + Drop> World<S> {
         requires world { IsWorld (λ s. S.view s) self.old }
         requires up { is_up_at server.0 self.old.places.items ≡ true }
         ensures world { OnOk result (IsWorld (λ s. S.view s) self.new) }
+        ensures as_many { OnOk result (vec_len self.new.places ≡ vec_len self.old.places) }
+        ensures calm { OnOk result (StayUp (λ s. S.view s) self.old.places.items self.new.places.items) }
         ensures does { DoesEvent (λ s. S.view s) (λ s. S.device s) (events.Show server) when (standing_of self.old) result (standing_of self.new) lines.old.items lines.new.items }
     {
         let place = &mut self.places[usize::from(server.0)];
@@ -177,16 +185,15 @@ impl<S: Powered + Drop> World<S> {
     ) -> Result<(), Ended>
         requires world { IsWorld (λ s. S.view s) self.old }
         requires up { is_up_at server.0 self.old.places.items ≡ true }
+        requires calm { AreUpAndCalm (λ s. S.view s) self.old.places.items }
         requires idle { AreIdle self.old.clients.items }
         ensures world { OnOk result (IsWorld (λ s. S.view s) self.new) }
+        ensures as_many { OnOk result (vec_len self.new.places ≡ vec_len self.old.places) }
+        ensures calm { OnOk result (StayUp (λ s. S.view s) self.old.places.items self.new.places.items) }
         ensures clients { OnOk result (self.new.clients ≡ self.old.clients) }
         ensures does { DoesTasks (λ s. S.view s) (λ s. S.device s) (λ x. ClosesClients server ∷ []) when (standing_of self.old) result (standing_of self.new) lines.old.items lines.new.items }
     {
         self.places[usize::from(server.0)].close_clients(server, when, lines)?;
-        if !self.is_up(server) {
-            // It always is: no fault waits that might have stopped it.
-            return Err(Ended::Memory);
-        }
         Ok(())
     }
 
@@ -202,6 +209,8 @@ impl<S: Powered + Drop> World<S> {
         ensures world { OnOk result (IsWorld (λ s. S.view s) self.new) }
         ensures others { self.new ≡ record self.old { places = self.new.places } }
         ensures as_many { vec_len self.new.places ≡ vec_len self.old.places }
+        ensures down { OnOk result (IsTakenDown server.0 self.old.places.items self.new.places.items) }
+        ensures quiet { OnOk result (AreQuiet (λ s. S.view s) self.old.places.items → AreQuiet (λ s. S.view s) self.new.places.items) }
         ensures does { DoesEvent (λ s. S.view s) (λ s. S.device s) (events.Crash server) when (standing_of self.old) result (standing_of self.new) lines.old.items lines.new.items }
     {
         self.places[usize::from(server.0)].crash();

@@ -1,6 +1,7 @@
 //! A settle: until nothing is left to do.
 ghost use Rattle.std.specs.Prelude.{◌≡◌, ◌<◌, ◌∷◌, [], vec_len, OnOk};
 ghost use Rattle.jn_schedule.specs.declared.Event.TheVariants.{Nudge};
+ghost use Rattle.jn_world.specs.Calm.{StayUp};
 ghost use Rattle.jn_world.specs.Settling.{TellsBusy, TellsFirst, asking_clients, asking_servers};
 ghost use Rattle.jn_world.specs.Standing.{IsWorld};
 ghost use Rattle.jn_world.specs.Written.{DoesEvent, DoesTasks, TakesTurn, standing_of};
@@ -19,6 +20,7 @@ impl<S: Powered + Drop> World<S> {
     pub(crate) fn settle_at(&mut self, when: When, lines: &mut Vec<Line>) -> Result<(), Ended>
         requires world { IsWorld (λ s. S.view s) self.old }
         ensures world { OnOk result (IsWorld (λ s. S.view s) self.new) }
+        ensures calm { OnOk result (StayUp (λ s. S.view s) self.old.places.items self.new.places.items) }
         ensures does { DoesTasks (λ s. S.view s) (λ s. S.device s) settling when (standing_of self.old) result (standing_of self.new) lines.old.items lines.new.items }
     {
         self.come_to_rest(when, lines)?;
@@ -30,6 +32,7 @@ impl<S: Powered + Drop> World<S> {
     fn come_to_rest(&mut self, when: When, lines: &mut Vec<Line>) -> Result<(), Ended>
         requires world { IsWorld (λ s. S.view s) self.old }
         ensures world { OnOk result (IsWorld (λ s. S.view s) self.new) }
+        ensures calm { OnOk result (StayUp (λ s. S.view s) self.old.places.items self.new.places.items) }
         ensures does { DoesTasks (λ s. S.view s) (λ s. S.device s) (λ x. Rests ∷ []) when (standing_of self.old) result (standing_of self.new) lines.old.items lines.new.items }
     {
         for _ in 0..u64::MAX {
@@ -46,6 +49,7 @@ impl<S: Powered + Drop> World<S> {
     fn goes_on(&mut self, when: When, lines: &mut Vec<Line>) -> Result<bool, Ended>
         requires world { IsWorld (λ s. S.view s) self.old }
         ensures world { OnOk result (IsWorld (λ s. S.view s) self.new) }
+        ensures calm { OnOk result (StayUp (λ s. S.view s) self.old.places.items self.new.places.items) }
         ensures turn { TakesTurn (λ s. S.view s) (λ s. S.device s) when (standing_of self.old) result (standing_of self.new) lines.old.items lines.new.items }
     {
         if let Some(k) = self.net.waiting() {
@@ -88,6 +92,7 @@ impl<S: Powered + Drop> World<S> {
     fn ask_again(&mut self, when: When, lines: &mut Vec<Line>) -> Result<(), Ended>
         requires world { IsWorld (λ s. S.view s) self.old }
         ensures world { OnOk result (IsWorld (λ s. S.view s) self.new) }
+        ensures calm { OnOk result (StayUp (λ s. S.view s) self.old.places.items self.new.places.items) }
         ensures does { DoesTasks (λ s. S.view s) (λ s. S.device s) asking when (standing_of self.old) result (standing_of self.new) lines.old.items lines.new.items }
     {
         self.ask_clients(when, lines)?;
@@ -97,6 +102,7 @@ impl<S: Powered + Drop> World<S> {
     fn ask_clients(&mut self, when: When, lines: &mut Vec<Line>) -> Result<(), Ended>
         requires world { IsWorld (λ s. S.view s) self.old }
         ensures world { OnOk result (IsWorld (λ s. S.view s) self.new) }
+        ensures calm { OnOk result (StayUp (λ s. S.view s) self.old.places.items self.new.places.items) }
         ensures does { DoesTasks (λ s. S.view s) (λ s. S.device s) asking_clients when (standing_of self.old) result (standing_of self.new) lines.old.items lines.new.items }
     {
         for c in 0..CLIENTS {
@@ -108,6 +114,7 @@ impl<S: Powered + Drop> World<S> {
     fn ask_servers(&mut self, when: When, lines: &mut Vec<Line>) -> Result<(), Ended>
         requires world { IsWorld (λ s. S.view s) self.old }
         ensures world { OnOk result (IsWorld (λ s. S.view s) self.new) }
+        ensures calm { OnOk result (StayUp (λ s. S.view s) self.old.places.items self.new.places.items) }
         ensures does { DoesTasks (λ s. S.view s) (λ s. S.device s) asking_servers when (standing_of self.old) result (standing_of self.new) lines.old.items lines.new.items }
     {
         for s in 0..self.servers() {
@@ -126,6 +133,7 @@ impl<S: Powered + Drop> World<S> {
         requires world { IsWorld (λ s. S.view s) self.old }
         requires there { server.0 < vec_len self.old.places }
         ensures world { OnOk result (IsWorld (λ s. S.view s) self.new) }
+        ensures calm { OnOk result (StayUp (λ s. S.view s) self.old.places.items self.new.places.items) }
         ensures as_many { OnOk result (vec_len self.new.places ≡ vec_len self.old.places) }
         ensures does { DoesEvent (λ s. S.view s) (λ s. S.device s) (Nudge server) when (standing_of self.old) result (standing_of self.new) lines.old.items lines.new.items }
     {

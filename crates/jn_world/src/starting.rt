@@ -1,9 +1,10 @@
 //! How servers come up, at the start of a run and later.
-ghost use Rattle.std.specs.Prelude.{◌≡◌, ◌<◌, ◌≤◌, ◌++◌, ◌∷◌, [], false, vec_len, OnOk, IfOk, IfErr};
+ghost use Rattle.std.specs.Prelude.{◌≡◌, ◌<◌, ◌≤◌, ◌++◌, ◌∷◌, [], true, false, vec_len, OnOk, IfOk, IfErr};
 ghost use Rattle.jn_protocol.specs.World.{commits_in};
 ghost use Rattle.jn_world.specs.Naming.{has_come, newly_named, restart_texts};
 ghost use Rattle.jn_schedule.specs.declared.Event.TheVariants.{Restart};
 ghost use Rattle.jn_world.specs.Bringing.{BroughtUp, left_to_tell};
+ghost use Rattle.jn_world.specs.Calm.{AreDown, AreQuiet, AreUpAndCalm, IsRisen};
 ghost use Rattle.jn_world.specs.Opening.{Opens};
 ghost use Rattle.jn_world.specs.Standing.{AreStores, IsWorld, is_up_at};
 ghost use Rattle.jn_world.specs.Written.{DoesEvent, DoesTasks, Starts, standing_of};
@@ -50,6 +51,7 @@ fn down<S: Powered + Drop>(
     requires few { vec_len stores ≤ 8 }
     requires stores { AreStores (λ s. S.view s) 0 stores.items }
     ensures world { IfOk result (λ world. IsWorld (λ s. S.view s) world) }
+    ensures all_down { IfOk result (λ world. AreDown world.places.items) }
     ensures opens { IfOk result (λ world. Opens (λ s. S.device s) stores.items trace (standing_of world)) }
 {
     let servers = stores.len() as u8;
@@ -112,8 +114,10 @@ impl<S: Powered + Drop> World<S> {
     /// All servers, which are down, come up.
     pub(crate) fn bring_all_up(&mut self, when: When, lines: &mut Vec<Line>) -> Result<(), Ended>
         requires world { IsWorld (λ s. S.view s) self.old }
+        requires all_down { AreDown self.old.places.items }
         ensures world { OnOk result (IsWorld (λ s. S.view s) self.new) }
         ensures clients { OnOk result (self.new.clients ≡ self.old.clients) }
+        ensures calm { OnOk result (AreQuiet (λ s. S.view s) self.old.places.items → AreUpAndCalm (λ s. S.view s) self.new.places.items) }
         ensures does { DoesTasks (λ s. S.view s) (λ s. S.device s) coming_up when (standing_of self.old) result (standing_of self.new) lines.old.items lines.new.items }
     {
         for s in 0..self.servers() {
@@ -132,15 +136,13 @@ impl<S: Powered + Drop> World<S> {
     ) -> Result<(), Ended>
         requires world { IsWorld (λ s. S.view s) self.old }
         requires there { server.0 < vec_len self.old.places }
+        requires down { is_up_at server.0 self.old.places.items ≡ false }
         ensures world { OnOk result (IsWorld (λ s. S.view s) self.new) }
         ensures as_many { OnOk result (vec_len self.new.places ≡ vec_len self.old.places) }
         ensures clients { OnOk result (self.new.clients ≡ self.old.clients) }
+        ensures calm { OnOk result (IsRisen (λ s. S.view s) server.0 self.old.places.items self.new.places.items) }
         ensures does { DoesTasks (λ s. S.view s) (λ s. S.device s) (λ x. ComesUp server ∷ []) when (standing_of self.old) result (standing_of self.new) lines.old.items lines.new.items }
     {
-        if self.is_up(server) {
-            // It never is: all are down before.
-            return Err(Ended::Memory);
-        }
         let mut told = Vec::new(self.alloc);
         let came = self.bring_up(server, when, &mut told)?;
         if !came {
@@ -164,6 +166,7 @@ impl<S: Powered + Drop> World<S> {
         ensures as_many { OnOk result (vec_len self.new.places ≡ vec_len self.old.places) }
         ensures clients { OnOk result (self.new.clients ≡ self.old.clients) }
         ensures brought { IfOk result (λ came. BroughtUp (λ s. S.view s) (λ s. S.device s) server when (standing_of self.old) came (standing_of self.new) told.old.items told.new.items) }
+        ensures calm { IfOk result (λ came. came ≡ true → IsRisen (λ s. S.view s) server.0 self.old.places.items self.new.places.items) }
         ensures memory { IfErr result (λ e. e ≡ Memory) }
     {
         let place = &mut self.places[usize::from(server.0)];

@@ -16,6 +16,7 @@ use Rattle.jn_place.specs.declared.place.Place.{Place}
 use Rattle.jn_place.specs.declared.place.Slot.TheVariants.{Down}
 use Rattle.jn_world.specs.Standing.{ArePlaces}
 use Rattle.jn_world.proofs.Places.{store-place, places-push, start-world}
+use Rattle.jn_world.proofs.Calm.{stand-down}
 use Rattle.jn_world.proofs.starting.down.Goals as goal
 
 pub loop-store-preserved : goal.loop-store-preserved
@@ -55,6 +56,7 @@ returns g c =
     record {
       world = start-world look w
           (omega arith) c.loop-store.invariant.places clients.0 clients.1 (ap (λ (n : Carried). n.sent) c.new.ensures);
+      all_down = stand-down xs c.loop-store.places.items stand;
       opens = opens device xs (standing_of w) (many ∙ all) stand (omega (arith, clients.0, c.in_ok-new_clients.field-0.ok.0)) (subst (λ (k : ℕ). AreNew k c.in_ok-new_clients.field-0.items) (omega arith) clients.2)
           c.new.ensures (λ T. ap (λ (ns : List Tid). is_among ns T) c.new-2.ensures) (ap (λ (ns : List Tid). length ns) c.new-2.ensures);
     }

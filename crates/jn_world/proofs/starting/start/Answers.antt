@@ -28,3 +28,6 @@ returns-clause-written g c =
     let went = c.in_ok-bring_all_up.ensures in
     starts-at look device g.met.S.Powered.seen _ c.in_ok-bring_all_up.field-0 c.args.stores.items c.args.trace (standing_of c.in_ok-world.world) c.bring_all_up.new.self
     c.args.lines.now.items c.bring_all_up.new.lines.items made.opens went.does
+
+pub bring_all_up-requires-clause-all_down : goal.bring_all_up-requires-clause-all_down
+bring_all_up-requires-clause-all_down g c = let made = c.in_ok-world.ensures in made.all_down

@@ -1,13 +1,12 @@
 use Rattle.jn_device.specs.Device.{DeviceState}
 use Rattle.jn_world.specs.Written.{standing_of}
-use Rattle.jn_rows.specs.Client.{again_row}
-use Rattle.jn_protocol.specs.Steps.{sent_now}
 use Rattle.jn_world.proofs.ClientCalls.{asked-none, client-is, asked-now}
-use Rattle.std.proofs.Common.{[], ◌∷◌, sym, ◌∙◌, ◌≡◌, ℕ, ◌+◌, ◌++◌, List, length, Some, None, Ok, Err, refl, ap, subst, arith}
+use Rattle.std.proofs.Common.{[], ◌∷◌, sym, ◌∙◌, ℕ, Some, Ok, refl, arith}
 use Rattle.jn_store.specs.Store.{StoreView}
 use Rattle.jn_base.specs.declared.names.Party.TheVariants.{Client}
 use Rattle.jn_world.proofs.Places.{client-here, again-can, sent-world}
 use Rattle.jn_world.proofs.Worlds.{net-places, net-clients}
+use Rattle.jn_world.proofs.Calm.{stay-places}
 use Rattle.jn_world.proofs.world.World.again.Goals as goal
 
 pub returns-in-Some-clause-world : goal.returns-in-Some-clause-world
@@ -42,3 +41,13 @@ returns-in-None-clause-does g c =
     asked-none look device g.met.S.Powered.seen {A = ℕ} w c.args.client (Ok 0) w c.args.lines.now.items c.args.lines.now.items c.requires.client i c.index_of.ensures t
     (client-is w.clients c.args.client i t c.requires.client c.index_of.ensures (let has = c.requires.world in let eight = has.eight in omega (arith, c.args.self.now.clients.ok.0)) c.index.ensures)
     c.args.when (sym (sym c.in-None.is ∙ c.in_ok-again.ensures)) (refl, refl, (let has = c.requires.world in has.limit))
+
+pub returns-in-Some-clause-calm : goal.returns-in-Some-clause-calm
+returns-in-Some-clause-calm g c =
+    let look : g.row.S.Denot → StoreView = λ s. g.S.StableStore.view s in
+    let w = c.args.self.now in
+    let b = c.send.new.self in
+    stay-places look w b c.send.result (net-places w b c.send.ensures.others)
+
+pub returns-in-None-clause-calm : goal.returns-in-None-clause-calm
+returns-in-None-clause-calm g c = λ all. all

@@ -7,6 +7,7 @@ use Rattle.jn_world.proofs.Calls.{does-then}
 use Rattle.jn_world.proofs.Numbers.{none-begin}
 use Rattle.jn_settling.specs.Settle.{clients_from}
 use Rattle.jn_world.specs.Settling.{asking_clients, asking_servers}
+use Rattle.jn_world.proofs.Calm.{stay-then}
 use Rattle.jn_world.proofs.world.World.ask_again.Goals as goal
 
 pub returns-clause-does : goal.returns-clause-does
@@ -19,3 +20,9 @@ returns-clause-does g c =
     let e = c.in_ok-ask_clients.ensures in
     does-then look device when asking_clients asking_servers c.in_ok-ask_clients.field-0 c.ask_servers.result w (standing_of c.ask_clients.new.self) (standing_of c.ask_servers.new.self)
     first c.ask_clients.new.lines.items c.ask_servers.new.lines.items (λ x. none-begin (λ (q : ClientNo). Again q) (clients_from 1 8)) e.does c.ask_servers.ensures.does
+
+pub returns-clause-calm : goal.returns-clause-calm
+returns-clause-calm g c =
+    let look : g.row.S.Denot → StoreView = λ s. g.S.StableStore.view s in
+    let one = c.in_ok-ask_clients.ensures in
+    stay-then look c.args.self.now.places.items c.ask_clients.new.self.places.items c.ask_servers.new.self.places.items c.ask_servers.result one.calm c.ask_servers.ensures.calm

@@ -1,4 +1,4 @@
-use Rattle.std.proofs.Common.{◌≡◌, ℕ, ◌+◌, ◌∷◌, [], Ok, Err, refl, subst, arith}
+use Rattle.std.proofs.Common.{◌≡◌, ℕ, ◌+◌, Ok, Err, refl, subst, arith}
 use Rattle.jn_base.specs.declared.names.ClientNo.{ClientNo}
 use Rattle.jn_schedule.specs.declared.Event.TheVariants.{Again}
 use Rattle.jn_device.specs.Device.{DeviceState}
@@ -18,7 +18,7 @@ loop-c-init g c =
     let when = c.args.when in
     let w = standing_of c.args.self.now in
     let first = c.args.lines.now.items in
-    record { world = c.requires.world; does = does-nothing look device when {A = ℕ} 0 w first }
+    record { world = c.requires.world; calm = λ all. all; does = does-nothing look device when {A = ℕ} 0 w first }
 
 pub loop-c-preserved : goal.loop-c-preserved
 loop-c-preserved g c =
@@ -35,6 +35,7 @@ loop-c-preserved g c =
     let e = c.in_ok-again.ensures in
     record {
       world = e.world;
+      calm = λ all. e.calm (c.loop-c.invariant.calm all);
       does = client-turn look device when f (λ q. refl) {A = ℕ} {B = ℕ} c.loop-c.c 0 (Ok 0) w v u first now later c.loop-c.invariant.does
           (acts-does look device when {A = ℕ} (Again (record { 0 = c.loop-c.c + 1 })) (Ok 0) v u now later refl e.does);
     }

@@ -1,4 +1,4 @@
-use Rattle.std.proofs.Common.{◌≡◌, ◌<◌, ◌≤◌, ℕ, false, length, Ok, refl, sym, ◌∙◌, arith}
+use Rattle.std.proofs.Common.{ℕ, Ok, refl, sym, ◌∙◌, arith}
 use Rattle.jn_device.specs.Device.{DeviceState}
 use Rattle.jn_store.specs.Store.{StoreView}
 use Rattle.jn_world.specs.Written.{standing_of}
@@ -14,3 +14,6 @@ returns-then-not-is_up-clause-does g c =
     let first = c.args.lines.now.items in
     let has = c.requires.world in
     nudged-idle look device g.met.S.Powered.seen {A = ℕ} w q c.args.when (Ok 0) w first first (let there = c.requires.there in omega (arith, c.args.self.now.places.ok.0)) (sym c.is_up.ensures ∙ c.if-not-is_up.true) (refl, refl, has.limit)
+
+pub returns-then-not-is_up-clause-calm : goal.returns-then-not-is_up-clause-calm
+returns-then-not-is_up-clause-calm g c = λ all. all

@@ -1,4 +1,4 @@
-use Rattle.std.proofs.Common.{◌≡◌, ◌≤◌, ℕ, ◌+◌, ◌∷◌, [], length, Ok, Err, refl, ◌∙◌, subst, arith}
+use Rattle.std.proofs.Common.{ℕ, ◌+◌, Ok, Err, refl, ◌∙◌, arith}
 use Rattle.jn_base.specs.declared.names.ServerNo.{ServerNo}
 use Rattle.jn_schedule.specs.declared.Event.TheVariants.{Nudge}
 use Rattle.jn_device.specs.Device.{DeviceState}
@@ -17,7 +17,7 @@ loop-s-init g c =
     let when = c.args.when in
     let w = standing_of c.args.self.now in
     let first = c.args.lines.now.items in
-    record { world = c.requires.world; as_many = refl; does = does-nothing look device when {A = ℕ} 0 w first }
+    record { world = c.requires.world; calm = λ all. all; as_many = refl; does = does-nothing look device when {A = ℕ} 0 w first }
 
 pub loop-s-preserved : goal.loop-s-preserved
 loop-s-preserved g c =
@@ -34,6 +34,7 @@ loop-s-preserved g c =
     let e = c.in_ok-ask_server.ensures in
     record {
       world = e.world;
+      calm = λ all. e.calm (c.loop-s.invariant.calm all);
       as_many = e.as_many ∙ c.loop-s.invariant.as_many;
       does = server-turn look device when f (λ q. refl) {A = ℕ} {B = ℕ} c.loop-s.s 0 (Ok 0) w v u first now later c.loop-s.invariant.does
           (acts-does look device when {A = ℕ} (Nudge (record { 0 = c.loop-s.s })) (Ok 0) v u now later refl e.does);

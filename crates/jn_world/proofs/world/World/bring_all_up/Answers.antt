@@ -1,4 +1,4 @@
-use Rattle.std.proofs.Common.{◌≡◌, ◌≤◌, ℕ, ◌+◌, ◌∷◌, [], length, Ok, Err, refl, ◌∙◌, subst, arith}
+use Rattle.std.proofs.Common.{◌<◌, ℕ, ◌+◌, length, Ok, Err, refl, ◌∙◌, arith}
 use Rattle.jn_base.specs.declared.names.ServerNo.{ServerNo}
 use Rattle.jn_written.specs.Events.{coming_up}
 use Rattle.jn_written.specs.Tasks.{Task, ComesUp}
@@ -7,6 +7,7 @@ use Rattle.jn_device.specs.Device.{DeviceState}
 use Rattle.jn_store.specs.Store.{StoreView}
 use Rattle.jn_world.specs.Written.{standing_of}
 use Rattle.jn_world.proofs.Calls.{server-turn, servers-cut, servers-end, does-nothing}
+use Rattle.jn_world.proofs.Calm.{risen-none, risen-more, risen-all, still-down}
 use Rattle.jn_world.proofs.world.World.bring_all_up.Goals as goal
 
 pub loop-s-init : goal.loop-s-init
@@ -16,7 +17,7 @@ loop-s-init g c =
     let when = c.args.when in
     let w = standing_of c.args.self.now in
     let first = c.args.lines.now.items in
-    record { world = c.requires.world; as_many = refl; clients = refl; does = does-nothing look device when {A = ℕ} 0 w first }
+    record { world = c.requires.world; risen = risen-none look c.args.self.now.places.items; as_many = refl; clients = refl; does = does-nothing look device when {A = ℕ} 0 w first }
 
 pub loop-s-preserved : goal.loop-s-preserved
 loop-s-preserved g c =
@@ -31,8 +32,13 @@ loop-s-preserved g c =
     let now = c.loop-s.lines.items in
     let later = c.bring_up_at_once.new.lines.items in
     let e = c.in_ok-bring_up_at_once.ensures in
+    let end = c.servers-s-end.ensures in
+    let test = c.loop-s-test.true in
+    let many = c.loop-s.invariant.as_many in
+    let within : c.loop-s.s < length c.loop-s.self.places.items = omega (arith, c.loop-s.self.places.ok.0) in
     record {
       world = e.world;
+      risen = risen-more look c.loop-s.s c.args.self.now.places.items c.loop-s.self.places.items c.bring_up_at_once.new.self.places.items within c.loop-s.invariant.risen e.calm;
       as_many = e.as_many ∙ c.loop-s.invariant.as_many;
       clients = e.clients ∙ c.loop-s.invariant.clients;
       does = server-turn look device when f (λ q. refl) {A = ℕ} {B = ℕ} c.loop-s.s 0 (Ok 0) w v u first now later c.loop-s.invariant.does
@@ -67,3 +73,14 @@ returns-clause-does g c =
     let first = c.args.lines.now.items in
     let f : ServerNo → Task = λ (q : ServerNo). ComesUp q in
     servers-end look device when f (λ q. refl) {A = ℕ} c.loop-s.s (Ok 0) w (standing_of c.loop-s.self) first c.loop-s.lines.items (omega (arith, c.args.self.now.places.ok.0)) c.loop-s.invariant.does
+
+pub bring_up_at_once-requires-clause-down : goal.bring_up_at_once-requires-clause-down
+bring_up_at_once-requires-clause-down g c =
+    let look : g.row.S.Denot → StoreView = λ s. g.S.StableStore.view s in
+    still-down look c.loop-s.s c.args.self.now.places.items c.loop-s.self.places.items c.loop-s.invariant.risen c.requires.all_down
+
+pub returns-clause-calm : goal.returns-clause-calm
+returns-clause-calm g c =
+    let look : g.row.S.Denot → StoreView = λ s. g.S.StableStore.view s in
+    let many = c.loop-s.invariant.as_many in
+    risen-all look c.loop-s.s c.args.self.now.places.items c.loop-s.self.places.items (omega (arith, c.args.self.now.places.ok.0, c.loop-s.self.places.ok.0)) c.loop-s.invariant.risen

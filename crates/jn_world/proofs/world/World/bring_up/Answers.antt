@@ -1,9 +1,10 @@
-use Rattle.std.proofs.Common.{◌<◌, length, ap, arith}
+use Rattle.std.proofs.Common.{◌<◌, length, ap, arith, sym, ◌∙◌}
 use Rattle.jn_store.specs.Store.{StoreView}
 use Rattle.jn_world.specs.declared.world.World.{World}
 use Rattle.jn_device.specs.Device.{DeviceState}
-use Rattle.jn_world.proofs.Bringing.{brought, has-counts}
+use Rattle.jn_world.proofs.Bringing.{brought, has-counts, place-got}
 use Rattle.jn_world.proofs.Places.{place-there, place-million, down-here, moved-quiet}
+use Rattle.jn_world.proofs.Calm.{risen-set, risen-by}
 use Rattle.jn_world.proofs.world.World.bring_up.Goals as goal
 
 pub come_up-requires-clause-place : goal.come_up-requires-clause-place
@@ -59,3 +60,20 @@ returns-clause-brought g c =
     let end = c.in_ok-came.ensures in
     brought look device w b server i p q c.args.when c.in_ok-restarted.restarted c.in_ok-came.came c.args.told.now.items c.come_up.new.told.items c.tell_restarted.new.told.items c.from.ensures within c.index_mut-place.ensures.value c.come_up.ensures.counts
     (has-counts look server (length w.net.sent) p q c.come_up.ensures.counts (step.place (length w.net.sent) place)) step.restarts c.tell_restarted.ensures.others end.names end.told end.came
+
+pub returns-clause-calm : goal.returns-clause-calm
+returns-clause-calm g c =
+    let look : g.row.S.Denot → StoreView = λ s. g.S.StableStore.view s in
+    let device : g.row.S.Denot → DeviceState = λ s. g.S.Powered.device s in
+    let w = c.args.self.now in
+    let server = c.args.server in
+    let i = c.from.result in
+    let p = c.index_mut-place.result.now in
+    let within : server.0 < length w.places.items = (let few = c.requires.there in omega (arith, w.places.ok.0)) in
+    let q = c.come_up.new.self in
+    let b = c.tell_restarted.new.self in
+    let step = c.in_ok-restarted.ensures in
+    let end = c.in_ok-came.ensures in
+    λ is. risen-by look w b server.0 i q (ap (λ (x : World g.row.S.Denot). x.places) c.tell_restarted.ensures.others)
+    (risen-set look device g.met.S.Powered.seen server _ c.args.when w.places.items i p q c.in_ok-restarted.restarted c.args.told.now.items c.come_up.new.told.items c.from.ensures (place-got w.places.items server i p c.from.ensures within c.index_mut-place.ensures.value)
+    (down-here w server i p c.from.ensures within c.requires.down c.index_mut-place.ensures.value) (sym is ∙ end.came) step.calm step.restarts)

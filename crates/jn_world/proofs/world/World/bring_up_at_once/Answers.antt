@@ -53,3 +53,6 @@ returns-in_err-extend_from_slice-clause-does g c =
     let device : g.row.S.Denot → DeviceState = λ s. g.S.Powered.device s in
     does-without look device c.args.when _ c.from_residual-in_err-extend_from_slice.result (λ x. ComesUp c.args.server ∷ []) (standing_of c.args.self.now) (standing_of c.bring_up.new.self) c.args.lines.now.items _
     c.from_residual-in_err-extend_from_slice.ensures.0 c.from_residual-in_err-extend_from_slice.ensures.1
+
+pub returns-clause-calm : goal.returns-clause-calm
+returns-clause-calm g c = let e = c.in_ok-came.ensures in e.calm c.if-not-came.false

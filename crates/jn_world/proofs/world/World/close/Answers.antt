@@ -1,4 +1,4 @@
-use Rattle.std.proofs.Common.{ℕ, sym, subst, ◌∙◌, ap}
+use Rattle.std.proofs.Common.{ℕ, sym, subst, ap}
 use Rattle.jn_device.specs.Device.{DeviceState}
 use Rattle.jn_store.specs.Store.{StoreView}
 use Rattle.jn_world.specs.Closing.{AreIdle}

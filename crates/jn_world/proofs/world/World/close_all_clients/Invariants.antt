@@ -5,11 +5,14 @@ use Rattle.jn_world.proofs.Calls.{at_servers}
 use Rattle.jn_world.specs.Standing.{IsWorld}
 use Rattle.jn_world.specs.Written.{DoesTasks, standing_of}
 use Rattle.jn_written.specs.Tasks.{ClosesClients}
+use Rattle.jn_world.specs.Calm.{AreUpAndCalm}
 use Rattle.jn_world.proofs.world.World.close_all_clients.Given as goal
 
 abbrev pub invariant-loop-s : goal.invariant-loop-s
 invariant-loop-s g l = record {
   world : IsWorld (λ s. g.S.StableStore.view s) l.self;
+  calm : AreUpAndCalm (λ s. g.S.StableStore.view s) l.self.places.items;
+  as_many : vec_len l.self.places ≡ vec_len l.initial.self.places;
   clients : l.self.clients ≡ l.initial.self.clients;
   does : DoesTasks {A = ℕ} (λ s. g.S.StableStore.view s) (λ s. g.S.Powered.device s) (at_servers (λ (q : ServerNo). ClosesClients q) l.s) End (standing_of l.initial.self) (Ok 0) (standing_of l.self) l.initial.lines.items l.lines.items;
 }

@@ -1,11 +1,12 @@
-use Rattle.std.proofs.Common.{ℕ, refl, sym, ◌∙◌, length}
+use Rattle.std.proofs.Common.{ℕ, refl, length, true}
 use Rattle.std.specs.Vec.{with_item}
 use Rattle.jn_store.specs.Store.{StoreView}
 use Rattle.jn_device.specs.Device.{DeviceState}
 use Rattle.jn_world.specs.Written.{standing_of}
 use Rattle.jn_world.proofs.Bringing.{place-got, has-counts}
-use Rattle.jn_world.proofs.Closing.{closed-does, up-set}
+use Rattle.jn_world.proofs.Closing.{closed-does}
 use Rattle.jn_world.proofs.Places.{place-here, place-million, up-here, up-within, moved-quiet}
+use Rattle.jn_world.proofs.Calm.{stay-put, stays-up}
 use Rattle.jn_world.proofs.world.World.close_clients.Goals as goal
 
 pub close_clients-requires-clause-place : goal.close_clients-requires-clause-place
@@ -49,4 +50,14 @@ returns-clause-does g c =
     closed-does look device g.met.S.Powered.seen c.args.when {A = ℕ} 0 (standing_of w) server i p q closed.0 c.args.lines.now.items c.close_clients.new.told.items c.from.ensures
     (place-got w.places.items server i p c.from.ensures within c.index_mut.ensures.value) c.close_clients.ensures.counts
     (has-counts look server (length w.net.sent) p q c.close_clients.ensures.counts (step.left (length w.net.sent) place)) closed.1
-    (up-set w.places.items server i q c.from.ensures within (sym c.is_up.ensures ∙ c.if-not-is_up.false)) c.requires.idle c.requires.world.limit
+    (stays-up look w.places.items server.0 p q true (place-got w.places.items server i p c.from.ensures within c.index_mut.ensures.value) step.calm c.requires.calm) c.requires.idle c.requires.world.limit
+
+pub returns-clause-calm : goal.returns-clause-calm
+returns-clause-calm g c =
+    let look : g.row.S.Denot → StoreView = λ s. g.S.StableStore.view s in
+    let w = c.args.self.now in
+    let server = c.args.server in
+    let i = c.from.result in
+    let p = c.index_mut.result.now in
+    let step = c.in_ok-close_clients.ensures in
+    stay-put look w.places.items server.0 i p c.close_clients.new.self true c.from.ensures (place-got w.places.items server i p c.from.ensures (up-within w.places.items server.0 c.requires.up) c.index_mut.ensures.value) step.calm

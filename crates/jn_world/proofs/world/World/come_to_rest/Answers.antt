@@ -13,7 +13,7 @@ loop-init g c =
     let when = c.args.when in
     let w = standing_of c.args.self.now in
     let first = c.args.lines.now.items in
-    record { world = c.requires.world; turns = turns-none look device when w first }
+    record { world = c.requires.world; calm = λ all. all; turns = turns-none look device when w first }
 
 pub loop-preserved : goal.loop-preserved
 loop-preserved g c =
@@ -29,6 +29,7 @@ loop-preserved g c =
     let e = c.in_ok-goes_on.ensures in
     record {
       world = e.world;
+      calm = λ all. e.calm (c.loop.invariant.calm all);
       turns = turn-then look device when (Ok true) w v u first now later c.loop.invariant.turns (turns-on look device when c.in_ok-goes_on.field-0 v u now later c.if-not-branch.false e.turn);
     }
 
@@ -62,3 +63,6 @@ returns-in_err-goes_on-clause-does g c =
     let ends = c.in_err-goes_on.ensures in
     does-exit look device when ℕ _ c.from_residual.result e (λ x. Rests ∷ []) w u u first later c.from_residual.ensures.0 c.from_residual.ensures.1
     (turns-cut look device when ℕ e w u first later (turn-then look device when (Err e) w v u first now later c.loop.invariant.turns ends.turn))
+
+pub returns-then-not-branch-clause-calm : goal.returns-then-not-branch-clause-calm
+returns-then-not-branch-clause-calm g c = let e = c.in_ok-goes_on.ensures in λ all. e.calm (c.loop.invariant.calm all)

@@ -1,11 +1,12 @@
-use Rattle.std.proofs.Common.{◌≡◌, ◌<◌, ℕ, length, arith, refl, Ok}
+use Rattle.std.proofs.Common.{ℕ, length, refl, Ok}
 use Rattle.std.specs.Vec.{with_item}
 use Rattle.jn_device.specs.Device.{DeviceState}
 use Rattle.jn_store.specs.Store.{StoreView}
 use Rattle.jn_world.specs.Written.{standing_of}
 use Rattle.jn_world.proofs.Bringing.{place-got, has-counts}
 use Rattle.jn_world.proofs.Places.{place-here, up-here, up-within, moved-quiet}
-use Rattle.jn_world.proofs.ServerCalls.{crashed-does, event-without}
+use Rattle.jn_world.proofs.ServerCalls.{crashed-does}
+use Rattle.jn_world.proofs.Calm.{quiet-set, taken-down}
 use Rattle.jn_world.proofs.world.World.crash.Goals as goal
 
 pub crash-requires : goal.crash-requires
@@ -36,3 +37,27 @@ returns-clause-does g c =
     c.args.lines.now.items c.tell.new.lines.items (place-got w.places.items server i p c.from.ensures (up-within w.places.items server.0 c.requires.up) c.index_mut.ensures.value)
     (has-counts look server (length w.net.sent) p q c.crash.ensures.counts (c.crash.ensures.place server (length w.net.sent) place))
     (c.crash.ensures.crashed server (length w.net.sent) place) (refl, c.in_ok-tell.ensures, limit)
+
+pub returns-clause-down : goal.returns-clause-down
+returns-clause-down g c =
+    let look : g.row.S.Denot → StoreView = λ s. g.S.StableStore.view s in
+    let device : g.row.S.Denot → DeviceState = λ s. g.S.Powered.device s in
+    let w = c.args.self.now in
+    let server = c.args.server in
+    let i = c.from.result in
+    let p = c.index_mut.result.now in
+    let place = place-here look w server i p c.from.ensures c.requires.up c.index_mut.ensures.value c.requires.world in
+    taken-down look device g.met.S.Powered.seen _ w.places.items i server.0 p c.crash.new.self c.from.ensures (up-within w.places.items server.0 c.requires.up) (c.crash.ensures.crashed server (length w.net.sent) place)
+
+pub returns-clause-quiet : goal.returns-clause-quiet
+returns-clause-quiet g c =
+    let look : g.row.S.Denot → StoreView = λ s. g.S.StableStore.view s in
+    let device : g.row.S.Denot → DeviceState = λ s. g.S.Powered.device s in
+    let w = c.args.self.now in
+    let server = c.args.server in
+    let i = c.from.result in
+    let p = c.index_mut.result.now in
+    let q = c.crash.new.self in
+    let place = place-here look w server i p c.from.ensures c.requires.up c.index_mut.ensures.value c.requires.world in
+    quiet-set look device g.met.S.Powered.seen _ w.places.items i server.0 p q c.from.ensures (place-got w.places.items server i p c.from.ensures (up-within w.places.items server.0 c.requires.up) c.index_mut.ensures.value)
+    (c.crash.ensures.crashed server (length w.net.sent) place)

@@ -1,4 +1,4 @@
-use Rattle.std.proofs.Common.{◌≡◌, ◌≤◌, ℕ, ◌+◌, ◌∷◌, [], length, Ok, Err, refl, ◌∙◌, subst, arith}
+use Rattle.std.proofs.Common.{ℕ, ◌+◌, Ok, Err, refl, ◌∙◌, arith}
 use Rattle.jn_base.specs.declared.names.ServerNo.{ServerNo}
 use Rattle.jn_world.specs.Closing.{going_down}
 use Rattle.jn_written.specs.Tasks.{Task, GoesDown}
@@ -8,6 +8,7 @@ use Rattle.jn_report.specs.declared.line.When.TheVariants.{End}
 use Rattle.jn_store.specs.Store.{StoreView}
 use Rattle.jn_world.specs.Written.{standing_of}
 use Rattle.jn_world.proofs.Calls.{server-turn, servers-cut, servers-end, does-nothing}
+use Rattle.jn_world.proofs.Calm.{down-none, down-more, down-all}
 use Rattle.jn_world.proofs.world.World.crash_all.Goals as goal
 
 pub loop-s-init : goal.loop-s-init
@@ -17,7 +18,7 @@ loop-s-init g c =
     let when = End in
     let w = standing_of c.args.self.now in
     let first = c.args.lines.now.items in
-    record { world = c.requires.world; as_many = refl; clients = refl; does = does-nothing look device when {A = ℕ} 0 w first }
+    record { world = c.requires.world; down = down-none c.args.self.now.places.items; quiet = λ all. all; as_many = refl; clients = refl; does = does-nothing look device when {A = ℕ} 0 w first }
 
 pub loop-s-preserved : goal.loop-s-preserved
 loop-s-preserved g c =
@@ -34,6 +35,8 @@ loop-s-preserved g c =
     let e = c.in_ok-take_down.ensures in
     record {
       world = e.world;
+      down = down-more c.loop-s.s c.loop-s.self.places.items c.take_down.new.self.places.items c.loop-s.invariant.down e.down;
+      quiet = λ all. e.quiet (c.loop-s.invariant.quiet all);
       as_many = e.as_many ∙ c.loop-s.invariant.as_many;
       clients = e.clients ∙ c.loop-s.invariant.clients;
       does = server-turn look device when f (λ q. refl) {A = ℕ} {B = ℕ} c.loop-s.s 0 (Ok 0) w v u first now later c.loop-s.invariant.does
@@ -68,3 +71,8 @@ returns-clause-does g c =
     let first = c.args.lines.now.items in
     let f : ServerNo → Task = λ (q : ServerNo). GoesDown q in
     servers-end look device when f (λ q. refl) {A = ℕ} c.loop-s.s (Ok 0) w (standing_of c.loop-s.self) first c.loop-s.lines.items (omega (arith, c.args.self.now.places.ok.0)) c.loop-s.invariant.does
+
+pub returns-clause-all_down : goal.returns-clause-all_down
+returns-clause-all_down g c =
+    let many = c.loop-s.invariant.as_many in
+    down-all c.loop-s.s c.loop-s.self.places.items (omega (arith, c.args.self.now.places.ok.0, c.loop-s.self.places.ok.0)) c.loop-s.invariant.down

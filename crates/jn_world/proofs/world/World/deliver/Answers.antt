@@ -1,4 +1,4 @@
-use Rattle.std.proofs.Common.{◌≡◌, ◌≤◌, ◌<◌, false, true, length, refl, arith}
+use Rattle.std.proofs.Common.{◌≡◌, false, true, length, refl, arith}
 use Rattle.std.proofs.lemmas.Bool.Decides.{nat_tests}
 use Rattle.std.specs.Prelude.{nat_lt}
 use Rattle.jn_device.specs.Device.{DeviceState}

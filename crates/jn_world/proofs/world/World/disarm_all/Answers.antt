@@ -1,4 +1,4 @@
-use Rattle.std.proofs.Common.{◌≡◌, ◌<◌, ◌≤◌, length, arith, refl, sym, ◌∙◌, ap}
+use Rattle.std.proofs.Common.{◌<◌, length, arith, refl, ap}
 use Rattle.std.specs.Vec.{with_item}
 use Rattle.jn_device.specs.Device.{DeviceState}
 use Rattle.jn_store.specs.Store.{StoreView}

@@ -7,6 +7,8 @@ use Rattle.jn_net.specs.Carried.{Carried}
 use Rattle.jn_world.specs.declared.world.World.{World}
 use Rattle.jn_world.proofs.Places.{world-net}
 use Rattle.jn_world.proofs.Finishing.{dismissed-standing}
+use Rattle.jn_world.proofs.Calm.{quiet-disarmed}
+use Rattle.jn_world.specs.Calm.{AreQuiet}
 use Rattle.jn_world.proofs.world.World.dismiss.Goals as goal
 
 pub dismiss_clients-requires : goal.dismiss_clients-requires
@@ -23,3 +25,10 @@ returns-clause-disarmed g c =
     let look : g.row.S.Denot → StoreView = λ s. g.S.StableStore.view s in
     let device : g.row.S.Denot → DeviceState = λ s. g.S.Powered.device s in
     subst (λ (ps : List (Place g.row.S.Denot)). AreDisarmed look device c.args.self.now.places.items ps) (sym (ap (λ (w : World g.row.S.Denot). w.places.items) c.dismiss_clients.ensures.others)) c.disarm_all.ensures.disarmed
+
+pub returns-clause-quiet : goal.returns-clause-quiet
+returns-clause-quiet g c =
+    let look : g.row.S.Denot → StoreView = λ s. g.S.StableStore.view s in
+    let device : g.row.S.Denot → DeviceState = λ s. g.S.Powered.device s in
+    subst (λ (ps : List (Place g.row.S.Denot)). AreQuiet look ps) (sym (ap (λ (w : World g.row.S.Denot). w.places.items) c.dismiss_clients.ensures.others))
+    (quiet-disarmed look device g.met.S.Powered.seen c.args.self.now.places.items c.disarm_all.new.self.places.items c.disarm_all.ensures.disarmed)

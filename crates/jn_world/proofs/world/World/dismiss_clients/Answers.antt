@@ -1,4 +1,4 @@
-use Rattle.std.proofs.Common.{rules, ◌≡◌, ◌<◌, ℕ, ◌+◌, length, refl, sym, ◌∙◌, ap, arith}
+use Rattle.std.proofs.Common.{◌<◌, ℕ, length, ◌∙◌, ap, arith}
 use Rattle.std.specs.Vec.{with_item}
 use Rattle.jn_store.specs.Store.{StoreView}
 use Rattle.jn_rows.specs.Client.{ClientTable}

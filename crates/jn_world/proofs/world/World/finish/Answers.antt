@@ -1,15 +1,11 @@
-use Rattle.std.proofs.Common.{ℕ, ◌∷◌, [], ◌++◌, Ok, Err, refl, sym, subst, List}
+use Rattle.std.proofs.Common.{ℕ, ◌++◌, Ok, Err}
 use Rattle.jn_device.specs.Device.{DeviceState}
 use Rattle.jn_report.specs.declared.line.When.TheVariants.{End}
 use Rattle.jn_store.specs.Store.{StoreView}
 use Rattle.jn_world.specs.Written.{standing_of}
-use Rattle.jn_written.specs.Events.{servers_of, coming_up, settling, printing}
-use Rattle.jn_written.specs.Tasks.{Task, Acts, GoesDown, ClosesClients, CountsCommits}
-use Rattle.jn_schedule.specs.declared.Event.TheVariants.{Show, Scrub}
-use Rattle.jn_base.specs.declared.names.ServerNo.{ServerNo}
-use Rattle.jn_world.specs.Closing.{going_down, closing_clients, showing_all, scrubbing_all, turning, thanking, telling, finishing}
-use Rattle.jn_world.proofs.Calls.{does-then, does-cut, servers-quiet}
-use Rattle.jn_world.proofs.Finishing.{turning-quiet, thanking-quiet, showing-quiet, scrubbing-quiet, going-quiet, closing-quiet, both-quiet}
+use Rattle.jn_world.specs.Closing.{turning, thanking, telling, finishing}
+use Rattle.jn_world.proofs.Calls.{does-then, does-cut}
+use Rattle.jn_world.proofs.Finishing.{turning-quiet, thanking-quiet, both-quiet}
 use Rattle.jn_world.proofs.Turns.{does-exit}
 use Rattle.jn_world.proofs.world.World.finish.Goals as goal
 

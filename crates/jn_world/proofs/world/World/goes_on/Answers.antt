@@ -1,4 +1,4 @@
-use Rattle.std.proofs.Common.{◌≡◌, ℕ, Option, Some, None, refl, sym, ◌∙◌, subst}
+use Rattle.std.proofs.Common.{ℕ, Option, sym, ◌∙◌, subst}
 use Rattle.jn_base.specs.declared.names.ServerNo.{ServerNo}
 use Rattle.jn_device.specs.Device.{DeviceState}
 use Rattle.jn_schedule.specs.declared.Event.TheVariants.{Deliver, Step}
@@ -85,3 +85,12 @@ returns-clause-turn g c =
     let later = c.work.new.lines.items in
     let went = c.in_ok-work.ensures in
     turn-done look device seen c.args.when w {A = ℕ} (Step q) 0 u first later (works-next look device seen w none q busy) went.does
+
+pub returns-in_default-first_busy-clause-calm : goal.returns-in_default-first_busy-clause-calm
+returns-in_default-first_busy-clause-calm g c = λ all. all
+
+pub returns-in-Some-clause-calm : goal.returns-in-Some-clause-calm
+returns-in-Some-clause-calm g c = let went = c.in_ok-hand_over.ensures in went.calm
+
+pub returns-clause-calm : goal.returns-clause-calm
+returns-clause-calm g c = let went = c.in_ok-work.ensures in went.calm

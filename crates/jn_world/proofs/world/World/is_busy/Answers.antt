@@ -1,4 +1,4 @@
-use Rattle.std.proofs.Common.{◌≡◌, length, true, sym, ◌∙◌}
+use Rattle.std.proofs.Common.{length, sym, ◌∙◌}
 use Rattle.jn_device.specs.Device.{DeviceState}
 use Rattle.jn_place.proofs.Slots.{serves-here}
 use Rattle.jn_recovery.specs.Loading.{counts_by}

@@ -1,6 +1,4 @@
-use Rattle.std.proofs.Common.{◌≡◌, ◌≤◌, ℕ, length, Some, Ok, refl, sym, ap, subst}
-use Rattle.jn_base.specs.declared.names.Party.TheVariants.{Server}
-use Rattle.jn_net.specs.Carried.{Carried}
+use Rattle.std.proofs.Common.{ℕ, Ok, refl}
 use Rattle.jn_device.specs.Device.{DeviceState}
 use Rattle.jn_store.specs.Store.{StoreView}
 use Rattle.jn_world.specs.Written.{standing_of}
@@ -21,3 +19,6 @@ returns-clause-does g c =
     let limit = c.requires.world in
     lost-to look device g.met.S.Powered.seen {A = ℕ} w c.args.server c.args.when (Ok 0) (standing_of (record c.args.self.now { net = c.delivered.new.self })) c.args.lines.now.items c.tell.new.lines.items c.args.k c.delivered.new.self
     c.requires.to c.requires.down c.delivered.ensures (refl, c.in_ok-tell.ensures, delivered-limit c.args.self.now.net c.delivered.new.self c.args.k c.delivered.ensures limit.limit)
+
+pub returns-clause-calm : goal.returns-clause-calm
+returns-clause-calm g c = λ all. all

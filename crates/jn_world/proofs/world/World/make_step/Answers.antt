@@ -1,4 +1,4 @@
-use Rattle.std.proofs.Common.{length, sym, ◌∙◌}
+use Rattle.std.proofs.Common.{length, sym, ◌∙◌, is_some}
 use Rattle.std.specs.Vec.{with_item}
 use Rattle.jn_device.specs.Device.{DeviceState}
 use Rattle.jn_store.specs.Store.{StoreView}
@@ -6,6 +6,7 @@ use Rattle.jn_world.specs.Written.{standing_of}
 use Rattle.jn_world.proofs.Busy.{left-counts, reads-here, worked-now, works-here}
 use Rattle.jn_world.proofs.Places.{place-is, place-here, place-million, up-here, moved-sent}
 use Rattle.jn_world.proofs.Worlds.{places-of, clients-of}
+use Rattle.jn_world.proofs.Calm.{stay-moved}
 use Rattle.jn_world.proofs.world.World.make_step.Goals as goal
 
 pub step-requires-clause-place : goal.step-requires-clause-place
@@ -60,3 +61,16 @@ returns-clause-does g c =
     (place-is w server i p c.from.ensures c.requires.up c.index_mut-place.ensures.value)
     (left-counts look server (length w.net.sent) p q c.in_ok-answer.answer c.step.ensures.counts (step.left (length w.net.sent) place))
     c.in_ok-answer.answer c.new-told.result.items c.step.new.told.items c.new-told.ensures.items (reads-here look device seen server (length w.net.sent) p place c.step.ensures.room) step.worked c.end_step.ensures.ends
+
+pub returns-clause-calm : goal.returns-clause-calm
+returns-clause-calm g c =
+    let look : g.row.S.Denot → StoreView = λ s. g.S.StableStore.view s in
+    let w = c.args.self.now in
+    let server = c.args.server in
+    let i = c.from.result in
+    let p = c.index_mut-place.result.now in
+    let q = c.step.new.self in
+    let step = c.in_ok-answer.ensures in
+    let a = record w { places = with_item w.places i q } in
+    let b = c.end_step.new.self in
+    stay-moved look w b server.0 i p q (is_some c.in_ok-answer.answer) c.end_step.result c.from.ensures (place-is w server i p c.from.ensures c.requires.up c.index_mut-place.ensures.value) step.calm (places-of a b c.end_step.ensures.others)

@@ -7,6 +7,7 @@ use Rattle.jn_recovery.specs.Loading.{counts_by}
 use Rattle.jn_world.proofs.Places.{place-is, place-here, place-million, up-here, sent-world}
 use Rattle.jn_place.proofs.Slots.{serves-here}
 use Rattle.jn_world.proofs.Worlds.{places-of, clients-of}
+use Rattle.jn_world.proofs.Calm.{stay-places}
 use Rattle.jn_world.proofs.world.World.nudge.Goals as goal
 
 pub again-requires : goal.again-requires
@@ -40,3 +41,10 @@ returns-clause-does g c =
     let out = c.in_ok-out.ensures in
     nudged-now look device g.met.S.Powered.seen w q p (place-is c.args.self.now q i p c.from.ensures c.requires.up c.index.ensures) c.args.when c.end_step.result (standing_of c.end_step.new.self) c.args.lines.now.items c.end_step.new.lines.items
     c.new-told.result.items c.new-told.ensures.items c.in_ok-out.out out.asks c.end_step.ensures.ends
+
+pub returns-clause-calm : goal.returns-clause-calm
+returns-clause-calm g c =
+    let look : g.row.S.Denot → StoreView = λ s. g.S.StableStore.view s in
+    let w = c.args.self.now in
+    let b = c.end_step.new.self in
+    stay-places look w b c.end_step.result (places-of w b c.end_step.ensures.others)

@@ -1,5 +1,4 @@
-use Rattle.std.proofs.Common.{◌≡◌, ◌≤◌, ◌<◌, ◌+◌, length, length-append, List, [], ◌∷◌, ◌++◌, sym, ◌∙◌, ap, Err, arith}
-use Rattle.jn_net.specs.declared.SendFault.{SendFault}
+use Rattle.std.proofs.Common.{◌∙◌, ap, Err}
 use Rattle.jn_world.proofs.Exits.{ends-memory, ends-unsent}
 use Rattle.jn_world.proofs.Sending.{over-limit}
 use Rattle.jn_world.proofs.world.World.post.Goals as goal

@@ -1,4 +1,4 @@
-use Rattle.std.proofs.Common.{ℕ, ◌∷◌, [], ◌++◌, ◌∙◌, ap, List, Ok, sym, subst}
+use Rattle.std.proofs.Common.{ℕ, [], ◌++◌, ◌∙◌, ap, List, Ok, sym, subst}
 use Rattle.jn_device.specs.Device.{DeviceState}
 use Rattle.jn_report.specs.declared.line.Line.{Line}
 use Rattle.jn_schedule.specs.declared.Event.TheVariants.{Restart}

@@ -1,4 +1,4 @@
-use Rattle.std.proofs.Common.{ℕ, Ok, refl, length}
+use Rattle.std.proofs.Common.{ℕ, Ok, refl, length, true}
 use Rattle.std.specs.Vec.{with_item}
 use Rattle.jn_store.specs.Store.{StoreView}
 use Rattle.jn_device.specs.Device.{DeviceState}
@@ -6,6 +6,7 @@ use Rattle.jn_world.specs.Written.{standing_of}
 use Rattle.jn_world.proofs.Bringing.{has-counts}
 use Rattle.jn_world.proofs.ServerCalls.{scrubbed-does}
 use Rattle.jn_world.proofs.Places.{place-here, place-is, place-million, up-here, moved-quiet}
+use Rattle.jn_world.proofs.Calm.{stay-put}
 use Rattle.jn_world.proofs.world.World.scrub.Goals as goal
 
 pub scrub-requires-clause-place : goal.scrub-requires-clause-place
@@ -47,3 +48,13 @@ returns-clause-does g c =
     let limit = c.requires.world.limit in
     scrubbed-does look device g.met.S.Powered.seen (standing_of w) server p q i c.from.ensures c.scrub.ensures.counts {A = ℕ} c.args.when (Ok 0) (standing_of (record w { places = with_item w.places i q })) c.args.lines.now.items c.scrub.new.told.items
     (place-is w server i p c.from.ensures c.requires.up c.index_mut.ensures.value) (has-counts look server (length w.net.sent) p q c.scrub.ensures.counts (step.left (length w.net.sent) place)) (step.scrubbed.0) c.scrub.new.told.items step.scrubbed.1 (refl, refl, limit)
+
+pub returns-clause-calm : goal.returns-clause-calm
+returns-clause-calm g c =
+    let look : g.row.S.Denot → StoreView = λ s. g.S.StableStore.view s in
+    let w = c.args.self.now in
+    let server = c.args.server in
+    let i = c.from.result in
+    let p = c.index_mut.result.now in
+    let step = c.in_ok-scrub.ensures in
+    stay-put look w.places.items server.0 i p c.scrub.new.self true c.from.ensures (place-is w server i p c.from.ensures c.requires.up c.index_mut.ensures.value) step.calm

@@ -1,4 +1,4 @@
-use Rattle.std.proofs.Common.{◌≡◌, ◌≤◌, ℕ, ◌+◌, ◌∷◌, [], length, Ok, Err, refl, ◌∙◌, subst, arith}
+use Rattle.std.proofs.Common.{◌<◌, ℕ, ◌+◌, length, Ok, Err, refl, ◌∙◌, arith}
 use Rattle.jn_base.specs.declared.names.ServerNo.{ServerNo}
 use Rattle.jn_schedule.specs.declared.Event.TheVariants.{Scrub}
 use Rattle.jn_world.specs.Closing.{scrubbing_all}
@@ -9,6 +9,7 @@ use Rattle.jn_report.specs.declared.line.When.TheVariants.{End}
 use Rattle.jn_store.specs.Store.{StoreView}
 use Rattle.jn_world.specs.Written.{standing_of}
 use Rattle.jn_world.proofs.Calls.{server-turn, servers-cut, servers-end, does-nothing}
+use Rattle.jn_world.proofs.Calm.{up-of-all}
 use Rattle.jn_world.proofs.world.World.scrub_all.Goals as goal
 
 pub loop-s-init : goal.loop-s-init
@@ -18,7 +19,7 @@ loop-s-init g c =
     let when = End in
     let w = standing_of c.args.self.now in
     let first = c.args.lines.now.items in
-    record { world = c.requires.world; does = does-nothing look device when {A = ℕ} 0 w first }
+    record { world = c.requires.world; calm = c.requires.calm; as_many = refl; does = does-nothing look device when {A = ℕ} 0 w first }
 
 pub loop-s-preserved : goal.loop-s-preserved
 loop-s-preserved g c =
@@ -29,18 +30,20 @@ loop-s-preserved g c =
     let first = c.args.lines.now.items in
     let f : ServerNo → Task = λ (q : ServerNo). Acts (Scrub q) in
     let v = standing_of c.loop-s.self in
-    let u = standing_of c.scrub_at.new.self in
+    let u = standing_of c.scrub.new.self in
     let now = c.loop-s.lines.items in
-    let later = c.scrub_at.new.lines.items in
-    let e = c.in_ok-scrub_at.ensures in
+    let later = c.scrub.new.lines.items in
+    let e = c.in_ok-scrub.ensures in
     record {
       world = e.world;
+      calm = e.calm c.loop-s.invariant.calm;
+      as_many = e.as_many ∙ c.loop-s.invariant.as_many;
       does = server-turn look device when f (λ q. refl) {A = ℕ} {B = ℕ} c.loop-s.s 0 (Ok 0) w v u first now later c.loop-s.invariant.does
           (acts-does look device when {A = ℕ} (Scrub (record { 0 = c.loop-s.s })) (Ok 0) v u now later refl e.does);
     }
 
-pub returns-in_err-scrub_at-clause-does : goal.returns-in_err-scrub_at-clause-does
-returns-in_err-scrub_at-clause-does g c =
+pub returns-in_err-scrub-clause-does : goal.returns-in_err-scrub-clause-does
+returns-in_err-scrub-clause-does g c =
     let look : g.row.S.Denot → StoreView = λ s. g.S.StableStore.view s in
     let device : g.row.S.Denot → DeviceState = λ s. g.S.Powered.device s in
     let when = End in
@@ -48,11 +51,11 @@ returns-in_err-scrub_at-clause-does g c =
     let first = c.args.lines.now.items in
     let f : ServerNo → Task = λ (q : ServerNo). Acts (Scrub q) in
     let v = standing_of c.loop-s.self in
-    let u = standing_of c.scrub_at.new.self in
+    let u = standing_of c.scrub.new.self in
     let now = c.loop-s.lines.items in
-    let later = c.scrub_at.new.lines.items in
-    let fails = c.in_err-scrub_at.ensures in
-    let e = c.in_err-scrub_at.field-0.0 in
+    let later = c.scrub.new.lines.items in
+    let fails = c.in_err-scrub.ensures in
+    let e = c.in_err-scrub.field-0.0 in
     does-exit look device when ℕ _ c.from_residual.result e scrubbing_all w u u first later c.from_residual.ensures.0 c.from_residual.ensures.1
     (servers-cut look device when f (λ q. refl) ℕ ℕ (c.loop-s.s + 1) e w u u first later (omega (arith, c.args.self.now.places.ok.0))
     (server-turn look device when f (λ q. refl) {A = ℕ} {B = ℕ} c.loop-s.s 0 (Err e) w v u first now later c.loop-s.invariant.does
@@ -67,3 +70,13 @@ returns-clause-does g c =
     let first = c.args.lines.now.items in
     let f : ServerNo → Task = λ (q : ServerNo). Acts (Scrub q) in
     servers-end look device when f (λ q. refl) {A = ℕ} c.loop-s.s (Ok 0) w (standing_of c.loop-s.self) first c.loop-s.lines.items (omega (arith, c.args.self.now.places.ok.0)) c.loop-s.invariant.does
+
+pub scrub-requires-clause-up : goal.scrub-requires-clause-up
+scrub-requires-clause-up g c =
+    let look : g.row.S.Denot → StoreView = λ s. g.S.StableStore.view s in
+    let w = c.loop-s.self in
+    let end = c.servers-s-end.ensures in
+    let test = c.loop-s-test.true in
+    let many = c.loop-s.invariant.as_many in
+    let within : c.loop-s.s < length w.places.items = omega (arith, w.places.ok.0) in
+    up-of-all look w.places.items c.loop-s.s within c.loop-s.invariant.calm

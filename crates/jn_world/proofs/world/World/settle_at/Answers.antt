@@ -7,6 +7,7 @@ use Rattle.jn_written.specs.Tasks.{Rests}
 use Rattle.jn_world.proofs.Calls.{does-then, does-cut}
 use Rattle.jn_world.proofs.Numbers.{asking-begins}
 use Rattle.jn_world.proofs.Turns.{does-exit}
+use Rattle.jn_world.proofs.Calm.{stay-then}
 use Rattle.jn_world.proofs.world.World.settle_at.Goals as goal
 
 pub returns-in_err-ask_again-clause-does : goal.returns-in_err-ask_again-clause-does
@@ -44,3 +45,10 @@ returns-clause-does g c =
     let two = c.in_ok-ask_again.ensures in
     does-then look device when (λ x. Rests ∷ []) (λ x. asking x ++ Rests ∷ []) c.in_ok-come_to_rest.field-0 c.come_to_rest-2.result w v z first now later (λ x. refl) one.does
     (does-then look device when asking (λ x. Rests ∷ []) c.in_ok-ask_again.field-0 c.come_to_rest-2.result v u z now then' later asking-begins two.does c.come_to_rest-2.ensures.does)
+
+pub returns-clause-calm : goal.returns-clause-calm
+returns-clause-calm g c =
+    let look : g.row.S.Denot → StoreView = λ s. g.S.StableStore.view s in
+    let one = c.in_ok-come_to_rest.ensures in
+    let two = c.in_ok-ask_again.ensures in
+    stay-then look c.args.self.now.places.items c.ask_again.new.self.places.items c.come_to_rest-2.new.self.places.items c.come_to_rest-2.result (λ all. two.calm (one.calm all)) c.come_to_rest-2.ensures.calm

@@ -1,4 +1,4 @@
-use Rattle.std.proofs.Common.{ℕ, Ok, refl, length}
+use Rattle.std.proofs.Common.{ℕ, Ok, refl, length, is_some}
 use Rattle.std.specs.Vec.{with_item}
 use Rattle.jn_store.specs.Store.{StoreView}
 use Rattle.jn_device.specs.Device.{DeviceState}
@@ -7,6 +7,7 @@ use Rattle.jn_world.proofs.Bringing.{has-counts}
 use Rattle.jn_world.proofs.ServerCalls.{showed-does}
 use Rattle.jn_place.specs.Exact.{items_of}
 use Rattle.jn_world.proofs.Places.{place-here, place-is, place-million, up-here, moved-quiet}
+use Rattle.jn_world.proofs.Calm.{stay-put}
 use Rattle.jn_world.proofs.world.World.show.Goals as goal
 
 pub show-requires-clause-place : goal.show-requires-clause-place
@@ -48,3 +49,13 @@ returns-clause-does g c =
     let limit = c.requires.world.limit in
     showed-does look device g.met.S.Powered.seen (standing_of w) server p q i c.from.ensures c.show.ensures.counts {A = ℕ} c.args.when (Ok 0) (standing_of (record w { places = with_item w.places i q })) c.args.lines.now.items c.tell_list.new.lines.items
     (place-is w server i p c.from.ensures c.requires.up c.index_mut-place.ensures.value) (has-counts look server (length w.net.sent) p q c.show.ensures.counts (step.left (length w.net.sent) place)) (items_of c.in_ok-shown.shown) c.show.new.told.items step.showed (refl, c.in_ok-tell_list.ensures, limit)
+
+pub returns-clause-calm : goal.returns-clause-calm
+returns-clause-calm g c =
+    let look : g.row.S.Denot → StoreView = λ s. g.S.StableStore.view s in
+    let w = c.args.self.now in
+    let server = c.args.server in
+    let i = c.from.result in
+    let p = c.index_mut-place.result.now in
+    let step = c.in_ok-shown.ensures in
+    stay-put look w.places.items server.0 i p c.show.new.self (is_some c.in_ok-shown.shown) c.from.ensures (place-is w server i p c.from.ensures c.requires.up c.index_mut-place.ensures.value) step.calm

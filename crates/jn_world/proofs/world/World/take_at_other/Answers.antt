@@ -1,5 +1,5 @@
 use Rattle.jn_world.proofs.LostCalls.{delivered-limit}
-use Rattle.std.proofs.Common.{◌≡◌, List, Some, sym, ◌∙◌, ap, subst}
+use Rattle.std.proofs.Common.{sym, ◌∙◌}
 use Rattle.jn_device.specs.Device.{DeviceState}
 use Rattle.jn_world.specs.Written.{standing_of}
 use Rattle.jn_world.proofs.ClientCalls.{other-took-now, sent-to}
@@ -8,6 +8,7 @@ use Rattle.jn_base.specs.declared.names.Party.TheVariants.{Client}
 use Rattle.jn_within.specs.Taking.{sent_for}
 use Rattle.jn_world.proofs.Places.{delivered-world, sent-world}
 use Rattle.jn_world.proofs.Worlds.{net-places, net-clients}
+use Rattle.jn_world.proofs.Calm.{stay-places}
 use Rattle.jn_world.proofs.world.World.take_at_other.Goals as goal
 
 pub tell_taken-requires : goal.tell_taken-requires
@@ -33,3 +34,11 @@ returns-clause-does g c =
     other-took-now look device g.met.S.Powered.seen w c.args.client c.tell_taken.result (standing_of c.tell_taken.new.self) c.args.lines.now.items c.tell_taken.new.lines.items
     c.args.when c.args.k one (sym c.in-Some.ensures) (sent-to w.net.sent c.args.k one c.args.client (sym c.in-Some.ensures) c.requires.to) c.requires.other
     c.servers-servers.result c.take_as_new-taken.result c.delivered.new.self (c.servers-servers.ensures ∙ c.args.self.now.places.ok.0) c.take_as_new-taken.ensures.row c.delivered.ensures c.tell_taken.ensures.ends
+
+pub returns-clause-calm : goal.returns-clause-calm
+returns-clause-calm g c =
+    let look : g.row.S.Denot → StoreView = λ s. g.S.StableStore.view s in
+    let w = c.args.self.now in
+    let a = record w { net = c.delivered.new.self } in
+    let b = c.tell_taken.new.self in
+    stay-places look w b c.tell_taken.result (net-places a b c.tell_taken.ensures.others)

@@ -1,5 +1,5 @@
 use Rattle.jn_world.proofs.LostCalls.{delivered-limit}
-use Rattle.std.proofs.Common.{arith, ◌≡◌, List, Some, sym, ◌∙◌, ap, subst}
+use Rattle.std.proofs.Common.{arith, sym}
 use Rattle.jn_device.specs.Device.{DeviceState}
 use Rattle.jn_world.specs.Written.{standing_of}
 use Rattle.jn_world.proofs.ClientCalls.{client-took-now, client-is, sent-to}
@@ -8,6 +8,7 @@ use Rattle.jn_store.specs.Store.{StoreView}
 use Rattle.jn_base.specs.declared.names.Party.TheVariants.{Client}
 use Rattle.jn_world.proofs.Places.{delivered-world, taken-world}
 use Rattle.jn_world.proofs.Worlds.{net-places, net-clients}
+use Rattle.jn_world.proofs.Calm.{stay-places}
 use Rattle.jn_world.proofs.world.World.take_at_own.Goals as goal
 
 pub tell_taken-requires : goal.tell_taken-requires
@@ -38,3 +39,11 @@ returns-clause-does g c =
     (client-is w.clients c.args.client i t c.requires.client c.index_of.ensures (let has = c.requires.world in let eight = has.eight in omega (arith, c.args.self.now.clients.ok.0)) c.index_mut.ensures.value)
     c.args.when c.args.k one (sym c.in-Some.ensures) (sent-to w.net.sent c.args.k one c.args.client (sym c.in-Some.ensures) c.requires.to)
     c.take-taken.new.self c.take-taken.result c.delivered.new.self c.take-taken.ensures c.delivered.ensures c.tell_taken.ensures.ends
+
+pub returns-clause-calm : goal.returns-clause-calm
+returns-clause-calm g c =
+    let look : g.row.S.Denot → StoreView = λ s. g.S.StableStore.view s in
+    let w = c.args.self.now in
+    let a = record w { clients = with_item w.clients c.index_of.result c.take-taken.new.self; net = c.delivered.new.self } in
+    let b = c.tell_taken.new.self in
+    stay-places look w b c.tell_taken.result (net-places a b c.tell_taken.ensures.others)

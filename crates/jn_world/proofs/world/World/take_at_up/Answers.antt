@@ -1,4 +1,4 @@
-use Rattle.std.proofs.Common.{ℕ, length, subst, sym}
+use Rattle.std.proofs.Common.{ℕ, length, subst, sym, is_some}
 use Rattle.std.specs.Vec.{with_item}
 use Rattle.jn_base.specs.declared.names.Party.TheVariants.{Server}
 use Rattle.jn_device.specs.Device.{DeviceState}
@@ -9,6 +9,7 @@ use Rattle.jn_world.proofs.Busy.{left-counts, reads-here, took-now}
 use Rattle.jn_world.proofs.LostCalls.{sent-for}
 use Rattle.jn_world.proofs.Places.{place-is, delivered-world, delivered-many, place-here, place-million, up-here, moved-sent, posted-at}
 use Rattle.jn_world.proofs.Worlds.{places-of, clients-of}
+use Rattle.jn_world.proofs.Calm.{stay-moved}
 use Rattle.jn_world.proofs.world.World.take_at_up.Goals as goal
 
 pub take-requires-clause-place : goal.take-requires-clause-place
@@ -70,3 +71,16 @@ returns-clause-does g c =
     (left-counts look server (length w.net.sent) p q c.in_ok-answer.answer c.take.ensures.counts (step.left (length w.net.sent) place))
     c.args.k one c.in_ok-answer.answer c.new-told.result.items c.take.new.told.items c.delivered.new.self c.new-told.ensures.items (sym c.in-Some.ensures) (sent-for w.net.sent c.args.k one (Server server) (sym c.in-Some.ensures) c.requires.to)
     (reads-here look device seen server (length w.net.sent) p place c.take.ensures.room) step.took c.delivered.ensures c.end_step.ensures.ends
+
+pub returns-clause-calm : goal.returns-clause-calm
+returns-clause-calm g c =
+    let look : g.row.S.Denot → StoreView = λ s. g.S.StableStore.view s in
+    let w = c.args.self.now in
+    let server = c.args.server in
+    let i = c.from.result in
+    let p = c.index_mut-place.result.now in
+    let q = c.take.new.self in
+    let step = c.in_ok-answer.ensures in
+    let a = record w { places = with_item w.places i q; net = c.delivered.new.self } in
+    let b = c.end_step.new.self in
+    stay-moved look w b server.0 i p q (is_some c.in_ok-answer.answer) c.end_step.result c.from.ensures (place-is w server i p c.from.ensures c.requires.up c.index_mut-place.ensures.value) step.calm (places-of a b c.end_step.ensures.others)

@@ -3,6 +3,7 @@ use Rattle.jn_device.specs.Device.{DeviceState}
 use Rattle.jn_report.specs.declared.line.When.TheVariants.{End}
 use Rattle.jn_store.specs.Store.{StoreView}
 use Rattle.jn_world.proofs.Closing.{down-does}
+use Rattle.jn_world.proofs.Calm.{down-there}
 use Rattle.jn_world.proofs.world.World.take_down.Goals as goal
 
 pub returns-then-not-is_up-clause-does : goal.returns-then-not-is_up-clause-does
@@ -13,3 +14,9 @@ returns-then-not-is_up-clause-does g c =
     let server = c.args.server in
     let within : server.0 < length w.places.items = (let few = c.requires.there in omega (arith, w.places.ok.0)) in
     down-does look device g.met.S.Powered.seen End {A = ℕ} 0 w server c.args.lines.now.items within (sym c.is_up.ensures ∙ c.if-not-is_up.true) c.requires.world
+
+pub returns-then-not-is_up-clause-down : goal.returns-then-not-is_up-clause-down
+returns-then-not-is_up-clause-down g c = down-there c.args.self.now.places.items c.args.server.0 (sym c.is_up.ensures ∙ c.if-not-is_up.true)
+
+pub returns-then-not-is_up-clause-quiet : goal.returns-then-not-is_up-clause-quiet
+returns-then-not-is_up-clause-quiet g c = λ all. all

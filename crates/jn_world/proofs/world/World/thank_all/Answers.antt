@@ -1,16 +1,14 @@
-use Rattle.std.proofs.Common.{ℕ, ◌∷◌, [], ◌++◌, Ok, Err, refl, sym, subst, List}
+use Rattle.std.proofs.Common.{ℕ, ◌++◌}
 use Rattle.jn_device.specs.Device.{DeviceState}
 use Rattle.jn_report.specs.declared.line.When.TheVariants.{End}
 use Rattle.jn_store.specs.Store.{StoreView}
 use Rattle.jn_world.specs.Written.{standing_of}
-use Rattle.jn_written.specs.Events.{servers_of, coming_up, settling, printing}
-use Rattle.jn_written.specs.Tasks.{Task, Acts, GoesDown, ClosesClients, CountsCommits}
-use Rattle.jn_schedule.specs.declared.Event.TheVariants.{Show, Scrub}
-use Rattle.jn_base.specs.declared.names.ServerNo.{ServerNo}
-use Rattle.jn_world.specs.Closing.{going_down, closing_clients, showing_all, scrubbing_all, turning, thanking, telling, finishing}
-use Rattle.jn_world.proofs.Calls.{does-then, does-cut, servers-quiet}
-use Rattle.jn_world.proofs.Finishing.{turning-quiet, thanking-quiet, showing-quiet, scrubbing-quiet, going-quiet, closing-quiet}
+use Rattle.jn_written.specs.Events.{settling}
+use Rattle.jn_world.specs.Closing.{closing_clients}
+use Rattle.jn_world.proofs.Calls.{does-then, does-cut}
+use Rattle.jn_world.proofs.Finishing.{closing-quiet}
 use Rattle.jn_world.proofs.Turns.{does-exit}
+use Rattle.jn_world.proofs.Calm.{stay-to}
 use Rattle.jn_world.proofs.world.World.thank_all.Goals as goal
 
 pub returns-in_err-close_all_clients-clause-does : goal.returns-in_err-close_all_clients-clause-does
@@ -35,3 +33,9 @@ returns-clause-does g c =
     let e = c.in_ok-close_all_clients.ensures in
     does-then look device End closing_clients settling c.in_ok-close_all_clients.field-0 c.settle_at.result w (standing_of c.close_all_clients.new.self) (standing_of c.settle_at.new.self)
     first c.close_all_clients.new.lines.items c.settle_at.new.lines.items closing-quiet e.does c.settle_at.ensures.does
+
+pub returns-clause-calm : goal.returns-clause-calm
+returns-clause-calm g c =
+    let look : g.row.S.Denot → StoreView = λ s. g.S.StableStore.view s in
+    let e = c.in_ok-close_all_clients.ensures in
+    stay-to look c.close_all_clients.new.self.places.items c.settle_at.new.self.places.items c.settle_at.result e.calm c.settle_at.ensures.calm

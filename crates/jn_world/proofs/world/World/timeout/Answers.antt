@@ -1,4 +1,4 @@
-use Rattle.std.proofs.Common.{◌≡◌, ℕ, Ok, refl, length}
+use Rattle.std.proofs.Common.{ℕ, Ok, refl, length}
 use Rattle.std.specs.Vec.{with_item}
 use Rattle.jn_device.specs.Device.{DeviceState}
 use Rattle.jn_store.specs.Store.{StoreView}

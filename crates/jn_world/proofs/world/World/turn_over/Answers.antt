@@ -1,16 +1,14 @@
-use Rattle.std.proofs.Common.{ℕ, ◌∷◌, [], ◌++◌, Ok, Err, refl, sym, subst, List}
+use Rattle.std.proofs.Common.{ℕ, ◌++◌}
 use Rattle.jn_device.specs.Device.{DeviceState}
 use Rattle.jn_report.specs.declared.line.When.TheVariants.{End}
 use Rattle.jn_store.specs.Store.{StoreView}
 use Rattle.jn_world.specs.Written.{standing_of}
-use Rattle.jn_written.specs.Events.{servers_of, coming_up, settling, printing}
-use Rattle.jn_written.specs.Tasks.{Task, Acts, GoesDown, ClosesClients, CountsCommits}
-use Rattle.jn_schedule.specs.declared.Event.TheVariants.{Show, Scrub}
-use Rattle.jn_base.specs.declared.names.ServerNo.{ServerNo}
-use Rattle.jn_world.specs.Closing.{going_down, closing_clients, showing_all, scrubbing_all, turning, thanking, telling, finishing}
-use Rattle.jn_world.proofs.Calls.{does-then, does-cut, servers-quiet}
-use Rattle.jn_world.proofs.Finishing.{turning-quiet, thanking-quiet, showing-quiet, scrubbing-quiet, going-quiet, closing-quiet}
+use Rattle.jn_written.specs.Events.{coming_up}
+use Rattle.jn_world.specs.Closing.{going_down}
+use Rattle.jn_world.proofs.Calls.{does-then, does-cut}
+use Rattle.jn_world.proofs.Finishing.{going-quiet}
 use Rattle.jn_world.proofs.Turns.{does-exit}
+use Rattle.jn_world.proofs.Calm.{rise-to}
 use Rattle.jn_world.proofs.world.World.turn_over.Goals as goal
 
 pub returns-in_err-crash_all-clause-does : goal.returns-in_err-crash_all-clause-does
@@ -35,3 +33,12 @@ returns-clause-does g c =
     let e = c.in_ok-crash_all.ensures in
     does-then look device End going_down coming_up c.in_ok-crash_all.field-0 c.bring_all_up.result w (standing_of c.crash_all.new.self) (standing_of c.bring_all_up.new.self)
     first c.crash_all.new.lines.items c.bring_all_up.new.lines.items going-quiet e.does c.bring_all_up.ensures.does
+
+pub returns-clause-calm : goal.returns-clause-calm
+returns-clause-calm g c =
+    let look : g.row.S.Denot → StoreView = λ s. g.S.StableStore.view s in
+    let e = c.in_ok-crash_all.ensures in
+    rise-to look c.crash_all.new.self.places.items c.bring_all_up.new.self.places.items c.bring_all_up.result (e.quiet c.requires.quiet) c.bring_all_up.ensures.calm
+
+pub bring_all_up-requires-clause-all_down : goal.bring_all_up-requires-clause-all_down
+bring_all_up-requires-clause-all_down g c = let e = c.in_ok-crash_all.ensures in e.all_down

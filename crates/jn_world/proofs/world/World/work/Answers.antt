@@ -1,4 +1,4 @@
-use Rattle.std.proofs.Common.{◌≡◌, ℕ, length, Ok, refl, sym, ◌∙◌}
+use Rattle.std.proofs.Common.{ℕ, length, Ok, refl, sym, ◌∙◌}
 use Rattle.jn_device.specs.Device.{DeviceState}
 use Rattle.jn_place.proofs.Slots.{serves-here}
 use Rattle.jn_recovery.specs.Loading.{counts_by}
@@ -41,3 +41,6 @@ returns-then-not-has_work-clause-does g c =
     let has = c.requires.world in
     idle-does look device seen {A = ℕ} (standing_of w) server p (place-is w server i p c.from.ensures c.requires.up c.index.ensures) c.args.when (Ok 0) (standing_of w) c.args.lines.now.items c.args.lines.now.items
     (reads-here look device seen server (length w.net.sent) p place c.has_work.ensures.room) (sym c.has_work.ensures.work ∙ c.if-not-has_work.true) (refl, refl, has.limit)
+
+pub returns-then-not-has_work-clause-calm : goal.returns-then-not-has_work-clause-calm
+returns-then-not-has_work-clause-calm g c = λ all. all
