@@ -7,6 +7,7 @@ ghost use Rattle.jn_world.specs.declared.ended.Ended.TheVariants.{Memory};
 ghost use Rattle.jn_world.specs.Standing.{IsWorld, is_client, is_up_at};
 ghost use Rattle.jn_world.specs.Meeting.{IsAtUp};
 ghost use Rattle.jn_world.specs.Written.{DoesScheduled, DoesTasks, standing_of};
+ghost use Rattle.jn_written.specs.Events.{settling};
 ghost use Rattle.jn_written.specs.Tasks.{Meets};
 
 use crate::ended::Ended;
@@ -76,6 +77,7 @@ impl<S: Powered + Drop> World<S> {
     pub fn settle(&mut self, number: u32, lines: &mut Vec<Line>) -> Result<(), Ended>
         requires world { IsWorld (λ s. S.view s) self.old }
         ensures world { OnOk result (IsWorld (λ s. S.view s) self.new) }
+        ensures does { DoesTasks (λ s. S.view s) (λ s. S.device s) settling (AtEvent number) (standing_of self.old) result (standing_of self.new) lines.old.items lines.new.items }
     {
         self.settle_at(When::Event(number), lines)
     }
