@@ -1,0 +1,131 @@
+-- What the calls of a server keep of what the tests know of it.
+use Rattle.std.proofs.Common.{◌≡◌, ◌⊎◌, ℕ, ◌≤◌, ◌+◌, Bool, true, false, List, Option, Some, None, Result, Ok, Err, refl, sym, ◌∙◌, subst, ap, arith, inl, inr}
+use Rattle.std.specs.Prelude.{if◌then◌else◌}
+use Rattle.jn_base.specs.declared.names.Tickets.{Tickets}
+use Rattle.jn_base.specs.declared.names.Tid.{Tid}
+use Rattle.jn_msgs.specs.Collected.{Collected}
+use Rattle.jn_msgs.specs.declared.message.Message.{Message}
+use Rattle.jn_rows.specs.Outcomes.{RowOutcome}
+use Rattle.jn_rows.specs.Stable.{StableState}
+use Rattle.jn_rows.specs.Worker.{WorkerTable, worker_row, worker_step}
+use Rattle.jn_rows.specs.Coordinator.{coordinator_row, close_clients_row}
+use Rattle.jn_protocol.specs.World.{Memory}
+use Rattle.jn_protocol.specs.Servers.{Room, storage_of, of_worker, of_coordinator, of_step, server_row, server_step, is_for_worker}
+use Rattle.jn_protocol.proofs.WorkerChanges.{worker-aside, step-aside}
+use Rattle.jn_protocol.proofs.CoordinatorRows.{coordinator-aside}
+use Rattle.jn_storage.specs.Storage.{StorageLater, Accounts}
+use Rattle.jn_storage.specs.Calls.{state}
+use Rattle.jn_store.specs.Store.{StoreView}
+use Rattle.jn_intent.specs.Scrubbing.{Scrubbed}
+use Rattle.jn_recovery.specs.declared.counts.PageCounts.{PageCounts}
+use Rattle.jn_recovery.specs.declared.load.Found.{Found}
+use Rattle.jn_recovery.specs.Loading.{counts_by}
+use Rattle.jn_records.specs.StablePages.{page_count}
+use Rattle.jn_restarts.specs.Restarts.{MayBegin, IsOf}
+use Rattle.jn_restarts.proofs.Starts.{later_of, loaded_started, may_begin}
+use Rattle.jn_server.specs.declared.fault.ServerFault.{ServerFault}
+use Rattle.jn_server.specs.declared.fault.ServerFault.TheVariants.{Stopped, Memory as NoMemory}
+use Rattle.jn_server.specs.declared.show.Shown.{Shown}
+use Rattle.jn_server.specs.Befalling.{Befalls}
+use Rattle.jn_server.specs.Handling.{Does, Steps, TimesOut}
+use Rattle.jn_server.specs.Restarting.{IsRestarted, IsLeft}
+use Rattle.jn_server.specs.Seen.{ServerView, memory_of, room_of, IsServer}
+use Rattle.jn_server.specs.Showing.{IsShown}
+use Rattle.jn_server_tests.specs.Trial.{the_server, IsOn, Leaves}
+
+-- ---- names
+
+abbrev Draws : Tickets → Tickets → Type 0
+Draws k l = (l ≡ k) ⊎ (l ≡ record k { next = k.next + 1 })
+
+one-more : (k l : Tickets) → Draws k l → l.next ≤ k.next + 1
+one-more k l (inl e) = subst (λ (t : Tickets). t.next ≤ k.next + 1) (sym e) (omega arith)
+one-more k l (inr e) = subst (λ (t : Tickets). t.next ≤ k.next + 1) (sym e) (omega arith)
+
+row-names : (m : Memory) (x : StableState) (room : Room) (message : Message) → (server_row m x room message).table.tickets.next ≤ m.tickets.next + 1
+row-names m x room message = by (is_for_worker message)
+  where
+    by : (b : Bool) → (if b then of_worker m (worker_row m.worker (storage_of m x room) m.tickets message) else of_coordinator m (coordinator_row m.coordinator room.free.records m.tickets message)).table.tickets.next ≤ m.tickets.next + 1
+    by true = one-more m.tickets _ (worker-aside m.worker (storage_of m x room) m.tickets message).tickets
+    by false = one-more m.tickets _ (coordinator-aside m.coordinator room.free.records m.tickets message).tickets
+
+-- ---- a restart
+
+pub restarted-on : (n : PageCounts) (v : StoreView) (told : Found) (w : ServerView) → MayBegin the_server n v → IsRestarted the_server (counts_by n) v told w → IsOn n 0 w
+restarted-on n v told w begin r = record {
+  serves = r.serves;
+  of = (loaded_started the_server n v told w.storage r.loaded).of;
+  count = r.loaded.recovering.later.count ∙ sym begin.count;
+  drawn = let none = ap (λ (m : Memory). m.tickets.next) r.remembers in omega (arith, none);
+}
+
+pub left-begins : (n : PageCounts) (v : ServerView) (store : StoreView) → IsOf the_server n v.storage → IsLeft v store → MayBegin the_server n store
+left-begins n v store of left = may_begin the_server v.storage.accounts.server _ n store of.server_is of.pool of.heads of.leaves left.recoverable
+
+-- ---- calls
+
+module _ (n : PageCounts) (k : ℕ) (v w : ServerView) (on : IsOn n k v) where
+  kept : StorageLater v.storage w.storage → IsOf the_server n w.storage
+  kept later = later_of the_server n v.storage w.storage later on.of
+
+  pages : StorageLater v.storage w.storage → w.storage.store.count ≡ page_count (counts_by n)
+  pages later = later.store.count ∙ on.count
+
+  done : {A : Type 0} (most names : ℕ) (row : RowOutcome Memory) (answer : Result A ServerFault) (before after : Collected) → row.table.tickets.next ≤ names → Does most row v before answer w after → Leaves n names answer w
+  done most names row (Ok x) before after few does = record {
+    serves = does.serves;
+    of = kept does.later;
+    count = pages does.later;
+    drawn = subst (λ (m : Memory). m.tickets.next ≤ names) (sym does.memory) few;
+  }
+  done most names row (Err Stopped) before after few does = kept does.later
+  done most names row (Err NoMemory) before after few does = tt
+
+  pub told : {A : Type 0} (message : Message) (answer : Result A ServerFault) (before after : Collected) → Does 1024 (server_row (memory_of v) (state v.storage) (room_of v.storage) message) v before answer w after → Leaves n (k + 1) answer w
+  told message answer before after does = done 1024 (k + 1) _ answer before after (let few = row-names (memory_of v) (state v.storage) (room_of v.storage) message in let drawn = on.drawn in omega (arith, few, drawn)) does
+
+  pub closed : {A : Type 0} (answer : Result A ServerFault) (before after : Collected) → Does 1024 (of_coordinator (memory_of v) (close_clients_row (memory_of v).coordinator v.tickets)) v before answer w after → Leaves n k answer w
+  closed answer before after does = done 1024 k _ answer before after on.drawn does
+
+  same : w ≡ v → IsOn n k w
+  same e = subst (IsOn n k) (sym e) on
+
+  pub stepped : (answer : Result Bool ServerFault) (before after : Collected) → Steps (server_step (memory_of v) (state v.storage) (room_of v.storage)) v before answer w after → Leaves n (k + 1) answer w
+  stepped answer before after steps = by (worker_step v.worker.table (storage_of (memory_of v) (state v.storage) (room_of v.storage)) v.tickets) refl steps
+    where
+      by : (o : Option (RowOutcome WorkerTable)) → worker_step v.worker.table (storage_of (memory_of v) (state v.storage) (room_of v.storage)) v.tickets ≡ o → Steps (of_step (memory_of v) o) v before answer w after → Leaves n (k + 1) answer w
+      by None e h = subst (λ (a : Result Bool ServerFault). Leaves n (k + 1) a w) (sym h.0) (let on = same h.1 in record { serves = on.serves; of = on.of; count = on.count; drawn = let d = on.drawn in omega (arith, d) })
+      by (Some row) e h = done 40 (k + 1) _ answer before after (let few = one-more v.tickets row.tickets (step-aside v.worker.table (storage_of (memory_of v) (state v.storage) (room_of v.storage)) v.tickets row e).tickets in let drawn = on.drawn in omega (arith, few, drawn)) h.0
+
+  pub timed-out : (T : Tid) (answer : Bool) → TimesOut T v answer w → IsOn n k w
+  timed-out T answer t = record {
+    serves = t.serves;
+    of = subst (λ (u : ServerView). IsOf the_server n u.storage) (sym t.others) on.of;
+    count = subst (λ (u : ServerView). u.storage.store.count ≡ page_count (counts_by n)) (sym t.others) on.count;
+    drawn = subst (λ (u : ServerView). u.tickets.next ≤ k) (sym t.others) on.drawn;
+  }
+
+  tables-kept : w ≡ record v { storage = w.storage } → w.tickets.next ≤ k
+  tables-kept e = subst (λ (u : ServerView). u.tickets.next ≤ k) (sym e) on.drawn
+
+  pub scrubbed-on : (ok : Bool) → Scrubbed v.storage ok w.storage → w ≡ record v { storage = w.storage } → IsServer w → IsOn n k w
+  scrubbed-on ok s tables serves = record { serves = serves; of = kept s.called.later; count = pages s.called.later; drawn = tables-kept tables }
+
+  pub scrubbed-of : (ok : Bool) → Scrubbed v.storage ok w.storage → IsOf the_server n w.storage
+  scrubbed-of ok s = kept s.called.later
+
+  pub shown-on : {list : List Shown} → IsShown v list w → IsOn n k w
+  shown-on s = record { serves = s.serves; of = kept s.looks.later; count = pages s.looks.later; drawn = tables-kept s.looks.tables }
+
+  pub befallen : Befalls v w → IsOn n k w
+  befallen b = record {
+    serves = b.serves on.serves;
+    of = record {
+      server_is = ap (λ (a : Accounts). a.server) b.storage.same ∙ on.of.server_is;
+      pool = ap (λ (a : Accounts). a.pool) b.storage.same ∙ on.of.pool;
+      heads = ap (λ (a : Accounts). a.heads) b.storage.same ∙ on.of.heads;
+      leaves = ap (λ (a : Accounts). a.leaves) b.storage.same ∙ on.of.leaves;
+    };
+    count = b.storage.pages.count ∙ on.count;
+    drawn = tables-kept b.tables;
+  }

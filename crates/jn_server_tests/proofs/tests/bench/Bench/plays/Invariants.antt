@@ -1,0 +1,6 @@
+use Rattle.jn_server.specs.Seen.{view_with}
+use Rattle.jn_server_tests.specs.Trial.{IsOn}
+use Rattle.jn_server_tests.proofs.tests.bench.Bench.plays.Given as goal
+
+abbrev pub invariant-loop-line : goal.invariant-loop-line
+invariant-loop-line g l = IsOn l.self.counts l.self.names (view_with (λ s. g.S.StableStore.view s) l.self.server)

@@ -1,0 +1,118 @@
+//! What a test makes a server do.
+ghost use Rattle.std.specs.Prelude.{◌<◌, ◌≤◌, length, IfOk, IfSome};
+ghost use Rattle.jn_coord.specs.Handling.{FewWorks};
+ghost use Rattle.jn_storage.specs.Viewing.{BlockInRange};
+ghost use Rattle.jn_worker.specs.Handling.{InRange};
+
+use jn_base::{BlockContent, BlockNo, ClientNo, FileNo, Op, ServerNo, Tid, WorkId};
+use jn_msgs::{Message, Vote, Works};
+use std::alloc::{AllocError, Global};
+
+pub(crate) const SERVER: ServerNo = ServerNo(0);
+
+/// An operation of a file and one of its 120 blocks; a write is of nines.
+#[derive(Clone, Copy)]
+pub(crate) enum Task {
+    Create(u32),
+    Remove(u32),
+    Cut(u32, u8),
+    Read(u32, u8),
+    Nines(u32, u8),
+}
+
+/// The works that an End or an Abort names.
+#[derive(Clone, Copy)]
+pub(crate) enum Named {
+    Nothing,
+    One(WorkId),
+    Two(WorkId, WorkId),
+}
+
+/// What a server does. A client's number comes first; its request is number 9, but that of a Begin.
+#[derive(Clone, Copy)]
+pub(crate) enum Move {
+    Begin(u8, u32),
+    Open(u8, Tid),
+    /// The work's operation of this number.
+    Do(u8, WorkId, u32, Task),
+    End(u8, Tid, Named),
+    Abort(u8, Tid, Named),
+    Thanks(u8, Tid),
+    Prepare(Tid, u8, WorkId),
+    Commit(Tid, WorkId),
+    Drop(Tid, WorkId),
+    Vote(Tid, WorkId, Vote),
+    Done(Tid, WorkId),
+    Inquire(Tid, WorkId),
+    /// A message that only a client takes.
+    Stray(u8),
+    /// A background step.
+    Step,
+    /// What waits for an answer is sent again.
+    Again,
+    /// The transaction's work gives way from now on.
+    Timeout(Tid),
+    Scrub,
+    Show,
+    /// The clients are dismissed.
+    Close,
+}
+
+fn block(p: u8) -> BlockNo
+    ensures { result.0 < 120 }
+{
+    BlockNo(u16::from(p % 120))
+}
+
+fn op_of(alloc: Global, task: Task) -> Result<Op, AllocError>
+    ensures { IfOk result BlockInRange }
+{
+    Ok(match task {
+        Task::Create(f) => Op::Create(FileNo(f)),
+        Task::Remove(f) => Op::Remove(FileNo(f)),
+        Task::Cut(f, p) => Op::Cut(FileNo(f), block(p)),
+        Task::Read(f, p) => Op::Read(FileNo(f), block(p)),
+        Task::Nines(f, p) => {
+            let nines = BlockContent::from_block(alloc, &[9; 448])?;
+            Op::Write(FileNo(f), block(p), nines)
+        }
+    })
+}
+
+fn works_of(alloc: Global, named: Named) -> Result<Works, AllocError>
+    ensures { IfOk result (λ works. length works ≤ 8) }
+{
+    let works = match named {
+        Named::Nothing => Vec::new(alloc),
+        Named::One(w) => Vec::from_array(alloc, [w])?,
+        Named::Two(v, w) => Vec::from_array(alloc, [v, w])?,
+    };
+    Ok(Works::from_vec(works))
+}
+
+/// The message that makes the server do this, where it is one.
+pub(crate) fn message_of(alloc: Global, step: Move) -> Result<Option<Message>, AllocError>
+    ensures range { IfOk result (λ message. IfSome message InRange) }
+    ensures few { IfOk result (λ message. IfSome message FewWorks) }
+{
+    let message = match step {
+        Move::Begin(c, request) => Message::Begin(ClientNo(c), request),
+        Move::Open(c, t) => Message::Open(ClientNo(c), 9, t),
+        Move::Do(c, w, number, task) => {
+            Message::Op(ClientNo(c), 9, w, number, op_of(alloc, task)?)
+        }
+        Move::End(c, t, named) => Message::End(ClientNo(c), 9, t, works_of(alloc, named)?),
+        Move::Abort(c, t, named) => Message::Abort(ClientNo(c), 9, t, works_of(alloc, named)?),
+        Move::Thanks(c, t) => Message::Thanks(ClientNo(c), t),
+        Move::Prepare(t, c, w) => Message::Prepare(t, ClientNo(c), w),
+        Move::Commit(t, w) => Message::Commit(t, w),
+        Move::Drop(t, w) => Message::Drop(t, w),
+        Move::Vote(t, w, vote) => Message::Vote(t, w, vote),
+        Move::Done(t, w) => Message::Done(t, w),
+        Move::Inquire(t, w) => Message::Inquire(t, w),
+        Move::Stray(c) => Message::Begun(ClientNo(c), 9, None),
+        Move::Step | Move::Again | Move::Timeout(_) | Move::Scrub | Move::Show | Move::Close =>
+            return Ok(None),
+    };
+    Ok(Some(message))
+}

@@ -1,0 +1,181 @@
+//! A worker's works: what comes of each message in each state of a work, and what a restart keeps. The transactions are those of
+//! server 1, and the client is number 3.
+
+use super::bench::{left_by, new_store, start_and_follow};
+use jn_intent::PageCounts;
+use std::alloc::Global;
+use std::process::Abort;
+use std::test::Fail;
+
+/// So many records, heads and data pages are enough for all that follows.
+const COUNTS: PageCounts = PageCounts {
+    pool: 9,
+    heads: 3,
+    leaves: 4,
+};
+
+/// The work 0.1.0 has made file 7.
+const ACTIVE: &str = "\
+open 3 1.5.1 | > c3 opened c3 9 1.5.1 0.1.0
+do 3 0.1.0 1 create 7 | > c3 answer c3 9 did";
+
+/// It is broken by 0.1.1.
+const BROKEN: &str = "\
+timeout 1.5.1 |
+open 3 1.5.2 | > c3 opened c3 9 1.5.2 0.1.1
+do 3 0.1.1 1 create 7 | > c3 answer c3 9 did !broke 1.5.1 7 1.5.2";
+
+/// It is ready.
+const READY: &str = "prepare 1.5.1 3 0.1.0 | > s1 vote 1.5.1 0.1.0 ready";
+
+/// It goes.
+const GOING: &str = "\
+prepare 1.5.1 3 0.1.0 | > s1 vote 1.5.1 0.1.0 ready
+commit 1.5.1 0.1.0 |";
+
+/// Each line is for a server of its own. The first are of a work that isn't there, the others of one that is active.
+const IF_ACTIVE: &str = "\
+do 3 0.0.9 1 create 7 | > c3 answer c3 9 lost 0 1
+prepare 1.5.1 3 0.0.9 | > s1 vote 1.5.1 0.0.9 lost 0 1
+commit 1.5.1 0.0.9 | > s1 done 1.5.1 0.0.9
+drop 1.5.1 0.0.9 | !ignored
+do 3 0.1.0 2 create 7 | > c3 answer c3 9 exists
+do 3 0.1.0 1 create 7 | > c3 answer c3 9 did
+do 3 0.1.0 0 create 7 | !ignored
+do 3 0.1.0 3 create 7 | !ignored
+prepare 1.5.1 3 0.1.0 | > s1 vote 1.5.1 0.1.0 ready
+commit 1.5.1 0.1.0 | !ignored
+drop 1.5.1 0.1.0 |
+open 3 1.5.1 | > c3 opened c3 9 1.5.1 0.1.0
+again | > s1 inquire 1.5.1 0.1.0";
+
+const IF_BROKEN: &str = "\
+do 3 0.1.0 9 create 7 | > c3 answer c3 9 broken 7 1.5.2
+prepare 1.5.1 3 0.1.0 | > s1 vote 1.5.1 0.1.0 broken 7 1.5.2
+commit 1.5.1 0.1.0 | !ignored
+drop 1.5.1 0.1.0 |
+open 3 1.5.1 | > c3 opened c3 9 1.5.1 0.1.0
+again | > s1 inquire 1.5.1 0.1.0 > s1 inquire 1.5.2 0.1.1";
+
+const IF_READY: &str = "\
+do 3 0.1.0 9 create 7 | > c3 answer c3 9 closing
+prepare 1.5.1 3 0.1.0 | > s1 vote 1.5.1 0.1.0 ready
+commit 1.5.1 0.1.0 |
+drop 1.5.1 0.1.0 |
+open 3 1.5.1 | > c3 opened c3 9 1.5.1 0.1.0
+again | > s1 inquire 1.5.1 0.1.0";
+
+const IF_GOING: &str = "\
+do 3 0.1.0 1 create 7 | > c3 answer c3 9 closing
+prepare 1.5.1 3 0.1.0 | !ignored
+commit 1.5.1 0.1.0 | !ignored
+drop 1.5.1 0.1.0 | !ignored
+open 3 1.5.1 | > c3 opened c3 9 1.5.1 0.1.0
+again |";
+
+/// A state of the work, and moves.
+#[derive(Clone, Copy)]
+struct Moves {
+    state: &'static str,
+    moves: &'static str,
+}
+
+fn nth_state(n: u32) -> Option<Moves> {
+    let (state, moves) = match n {
+        0 => ("", IF_ACTIVE),
+        1 => (BROKEN, IF_BROKEN),
+        2 => (READY, IF_READY),
+        3 => (GOING, IF_GOING),
+        _ => return None,
+    };
+    Some(Moves { state, moves })
+}
+
+fn check_one(rt: &impl Abort, alloc: Global, state: &str, one: &str) -> Result<(), Fail> {
+    start_and_follow(rt, alloc, new_store(alloc, COUNTS)?, ACTIVE, state, one)
+}
+
+/// What comes of each of these moves where the work has come into this state.
+fn check_each(rt: &impl Abort, alloc: Global, each: Moves) -> Result<(), Fail> {
+    for one in each.moves.lines() {
+        check_one(rt, alloc, each.state, one)?;
+    }
+    Ok(())
+}
+
+#[test]
+fn each_message_is_done_as_its_work_stands(rt: HostRuntime) -> Result<(), Fail> {
+    for n in 0..9 {
+        let Some(each) = nth_state(n) else {
+            return Ok(());
+        };
+        check_each(&rt, rt.alloc(), each)?;
+    }
+    Err("no end".into())
+}
+
+/// A new server does a script and goes down; then it comes up and does another.
+fn check_restart(rt: &impl Abort, alloc: Global, before: &str, after: &str) -> Result<(), Fail> {
+    let lines: Vec<&str> = before.lines().collect(alloc)?;
+    let left = left_by(rt, alloc, new_store(alloc, COUNTS)?, &lines, &[])?;
+    start_and_follow(rt, alloc, left, after, "", "")
+}
+
+/// The work that is opened last is prepared first, and the storage lists it first.
+const PREPARED: &str = "\
+open 3 1.5.2 | > c3 opened c3 9 1.5.2 0.1.0
+open 3 1.5.1 | > c3 opened c3 9 1.5.1 0.1.1
+do 3 0.1.1 1 create 7 | > c3 answer c3 9 did
+do 3 0.1.1 2 nines 7 3 | > c3 answer c3 9 did
+prepare 1.5.1 3 0.1.1 | > s1 vote 1.5.1 0.1.1 ready
+commit 1.5.1 0.1.1 |
+do 3 0.1.0 1 create 8 | > c3 answer c3 9 did
+do 3 0.1.0 2 read 9 0 | > c3 answer c3 9 absent
+prepare 1.5.2 3 0.1.0 | > s1 vote 1.5.2 0.1.0 ready";
+
+/// Only the ready work asks for its outcome. What is held for commit is refused to a third work, and what is held for reading
+/// holds up its commit, until the work that goes is carried out, and the ready one is dropped.
+const RESTORED: &str = "\
+show | locked 7 1.5.1 locked 8 1.5.2
+again | > s1 inquire 1.5.2 0.1.0
+open 3 1.5.1 | > c3 opened c3 9 1.5.1 0.1.1
+do 3 0.1.0 1 create 9 | > c3 answer c3 9 closing
+prepare 1.5.2 3 0.1.0 | > s1 vote 1.5.2 0.1.0 ready
+commit 1.5.1 0.1.1 | !ignored
+open 3 1.5.3 | > c3 opened c3 9 1.5.3 0.2.0
+do 3 0.2.0 1 create 7 | > c3 answer c3 9 locked 7 1.5.1
+do 3 0.2.0 2 read 7 3 | > c3 answer c3 9 locked 7 1.5.1
+do 3 0.2.0 3 create 8 | > c3 answer c3 9 locked 8 1.5.2
+do 3 0.2.0 4 create 9 | > c3 answer c3 9 did
+prepare 1.5.3 3 0.2.0 | > s1 vote 1.5.3 0.2.0 waiting 9 1.5.2
+step |
+step |
+step | > s1 done 1.5.1 0.1.1
+show | file 7 page 7/3 nines locked 8 1.5.2
+do 3 0.2.0 5 read 7 3 | > c3 answer c3 9 read nines
+step |
+step |
+step | idle
+drop 1.5.2 0.1.0 |
+prepare 1.5.3 3 0.2.0 | > s1 vote 1.5.3 0.2.0 ready";
+
+const NOT_PREPARED: &str = "\
+open 3 1.5.1 | > c3 opened c3 9 1.5.1 0.1.0
+do 3 0.1.0 1 create 7 | > c3 answer c3 9 did";
+
+const LOST: &str = "\
+again |
+do 3 0.1.0 2 create 8 | > c3 answer c3 9 lost 1 2
+prepare 1.5.1 3 0.1.0 | > s1 vote 1.5.1 0.1.0 lost 1 2
+open 3 1.5.2 | > c3 opened c3 9 1.5.2 0.2.0
+do 3 0.2.0 1 create 7 | > c3 answer c3 9 did";
+
+#[test]
+fn a_restart_keeps_what_was_prepared(rt: HostRuntime) -> Result<(), Fail> {
+    check_restart(&rt, rt.alloc(), PREPARED, RESTORED)
+}
+
+#[test]
+fn a_restart_forgets_what_was_not_prepared(rt: HostRuntime) -> Result<(), Fail> {
+    check_restart(&rt, rt.alloc(), NOT_PREPARED, LOST)
+}
