@@ -29,6 +29,9 @@ same_value a b e = cc
 none_some : (a : ℕ) → None ≡ Some a → ⊥
 none_some a e = cc
 
+abbrev nothing : Option ℕ
+nothing = None
+
 abbrev head_or : List (Option Head) → ℕ → Option Head
 head_or heads i = get_or heads i None
 
@@ -109,10 +112,10 @@ module _ (m : sound.Image) (heads : List (Option Head)) (are : AreHeads m heads)
   size_at i (Some Free) at = refl
   size_at i (Some (Used k xs)) at = length-map xs ∙ whole m.counts.leaves (head_bytes_of m i) are.few k xs at.0 at.1 at.2
 
-  none_there : (p : ℕ) → get_or (replicate 120 None) p None ≡ None
+  none_there : (p : ℕ) → get_or (replicate 120 nothing) p nothing ≡ nothing
   none_there p = nowhere 120 p
     where
-      nowhere : (n p : ℕ) → get_or (replicate n None) p None ≡ None
+      nowhere : (n p : ℕ) → get_or (replicate n nothing) p nothing ≡ nothing
       nowhere zero p = refl
       nowhere (suc n) zero = refl
       nowhere (suc n) (suc p) = nowhere n p
@@ -144,12 +147,20 @@ module _ (m : sound.Image) (heads : List (Option Head)) (are : AreHeads m heads)
   at_address i p lt = row heads sizes i p lt
 
   address_is : (a : ℕ) → 0 < a → address_of a ≡ Some a
-  address_is zero least = absurd (omega (arith, least))
-  address_is (suc a) least = refl
+  address_is a least = by (nat_eq a 0) (grind (arith, nat_tests, least))
+    where
+      by : (b : Bool) → b ≡ false → (if b then None else Some a) ≡ Some a
+      by b e = rw e refl
 
   is_address : (n a : ℕ) → address_of n ≡ Some a → (n ≡ a) × (0 < a)
-  is_address zero a e = absurd (none_some a e)
-  is_address (suc n) a e = let same = same_value (suc n) a e in (same, omega (arith, same))
+  is_address n a e = by (nat_eq n 0) refl e
+    where
+      above : nat_eq n 0 ≡ false → n ≡ a → 0 < a
+      above z same = grind (arith, nat_tests, z, same)
+
+      by : (b : Bool) → nat_eq n 0 ≡ b → (if b then None else Some n) ≡ Some a → (n ≡ a) × (0 < a)
+      by true z e = absurd (none_some a e)
+      by false z e = let same = same_value n a e in (same, above z same)
 
   named : (a i p : ℕ) → 0 < a → ((k : ℕ) → HeadsWhole m k) → Names m a i p → get_or addresses (120 * i + p) None ≡ Some a
   named a i p least all n = at_address i p n.block ∙ by (head_or heads i) (are.each i n.head)
