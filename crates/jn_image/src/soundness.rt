@@ -198,9 +198,10 @@ fn heads_of(alloc: Global, image: &Image) -> Result<Vec<Option<Head>>, AllocErro
     ensures { IfOk result (λ v. AreHeads (seen image.now) v.items) }
 {
     let first = 1 + image.pool as usize;
+    let leaves = image.leaves;
     let mut heads = Vec::with_capacity(alloc, image.heads as usize)?;
     for i in 0..image.heads as usize {
-        heads.push(Head::decode(alloc, image.page(first + i), image.leaves)?)?;
+        heads.push(Head::decode(alloc, image.page(first + i), leaves)?)?;
     }
     Ok(heads)
 }
