@@ -52,6 +52,9 @@ module _ (m : sound.Image) (heads : List (Option Head)) (are : AreHeads m heads)
   pub heads_read : (i : ℕ) → HeadsWhole m i → IsRead heads i
   heads_read i whole lt = let within : i < m.counts.heads = let n = are.count in omega (arith, lt, n) in some_at i (head_or heads i) (are.each i within) (whole within)
 
+  pub malformed : (r : Option ℕ) → Finds (IsRead heads) r → Finds (HeadsWhole m) r
+  malformed r found = finds_same (IsRead heads) (HeadsWhole m) heads_whole heads_read r found
+
   -- ---- files
 
   abbrev files : List (Option ℕ)

@@ -37,6 +37,7 @@ IsHeadAt m i (Some h) = IsHead m.counts.leaves h × FileFits h × (head_bytes_of
 
 -- these are the image's heads, and none where a page is no head
 pub record AreHeads (m : sound.Image) (heads : List (Option Head)) : Type 0 where
+  pub few_heads : m.counts.heads < 2 ^ 16
   pub few : m.counts.leaves < 2 ^ 16
   pub count : length heads ≡ m.counts.heads
   pub each : (i : ℕ) → i < m.counts.heads → IsHeadAt m i (get_or heads i None)

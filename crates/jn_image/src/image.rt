@@ -45,6 +45,22 @@ impl Image {
         1 + self.pool as usize + self.heads as usize + self.leaves as usize
     }
 
+    /// How many heads there are.
+    pub(crate) fn head_count(&self) -> usize
+        ensures count { result ≡ self.now.heads }
+        ensures few { result < 2 ^ 16 }
+    {
+        self.heads as usize
+    }
+
+    /// How many data pages there are.
+    pub(crate) fn leaf_count(&self) -> u16
+        ensures count { result ≡ self.now.leaves }
+        ensures few { result < 2 ^ 16 }
+    {
+        self.leaves
+    }
+
     /// Whether a physical page is good.
     pub(crate) fn is_good(&self, p: usize) -> bool
         requires { p < length self.now.pages }

@@ -1,6 +1,7 @@
 //! Whether an image is sound.
 ghost use Rattle.std.specs.Prelude.{◌≡◌, ◌⊎◌, ◌<◌, ◌*◌, ◌^◌, ◌↔◌, ◌++◌, ℕ, length, drop, map, flat_map, replicate, Err, IfOk, IfErr, OnOk, IsTrue, MatchOption};
 ghost use Rattle.jn_base.specs.declared.names.ServerNo.{ServerNo as AnyServer};
+ghost use Rattle.jn_records.specs.Pages.{IsRoot};
 ghost use Rattle.jn_records.specs.Sound as sound;
 ghost use Rattle.jn_records.specs.Sound.{HasRoot, IsSound, HasOneHead};
 ghost use Rattle.jn_records.specs.StablePages.{page_count};
@@ -96,22 +97,31 @@ fn has_root(image: &Image) -> bool
     requires { 0 < length image.now.pages }
     ensures { IsTrue result ↔ HasRoot (seen image.now) }
 {
-    let like = Root {
-        server: image.server,
-        pool: image.pool,
-        heads: image.heads,
-        leaves: image.leaves,
-        epoch: 0,
-    };
+    let like = first_root(image.server, image.pool, image.heads, image.leaves);
     match Root::decode(image.page(0)) {
         Some(root) => is_like(root, like),
         None => false,
     }
 }
 
+/// The root of a server with so many pages of each kind, at epoch 0.
+fn first_root(server: ServerNo, pool: u16, heads: u16, leaves: u16) -> Root
+    ensures root { result ≡ record { server = server; pool = pool; heads = heads; leaves = leaves; epoch = 0 } }
+    ensures fits { IsRoot result }
+{
+    Root {
+        server,
+        pool,
+        heads,
+        leaves,
+        epoch: 0,
+    }
+}
+
 /// Whether a root is another but for its epoch.
 fn is_like(root: Root, like: Root) -> bool
-    ensures { IsTrue result ↔ (root ≡ at_epoch like root.epoch) }
+    ensures same { IsTrue result ↔ (root ≡ at_epoch like root.epoch) }
+    ensures fits { root.epoch < 2 ^ 32 }
 {
     root.server.0 == like.server.0
         && root.pool == like.pool
@@ -180,7 +190,21 @@ fn holds(image: &Image, rule: Rule, place: u32) -> bool
 fn ends_in_zeros(page: &Page) -> bool
     ensures { IsTrue result ↔ (drop 448 page.now ≡ replicate 64 0) }
 {
-    same_bytes(&page[448..], &[0; 64])
+    is_blank(tail_of(page))
+}
+
+/// What stands behind a page's block.
+fn tail_of(page: &Page) -> &[u8]
+    ensures { result.now ≡ drop 448 page.now }
+{
+    &page[448..]
+}
+
+/// Whether bytes are as many zeros as stand behind a block.
+fn is_blank(bytes: &[u8]) -> bool
+    ensures { IsTrue result ↔ (bytes.now ≡ replicate 64 0) }
+{
+    same_bytes(bytes, &[0; 64])
 }
 
 /// Whether two pages, or parts of them, have the same bytes.
@@ -198,9 +222,10 @@ fn heads_of(alloc: Global, image: &Image) -> Result<Vec<Option<Head>>, AllocErro
     ensures { IfOk result (λ v. AreHeads (seen image.now) v.items) }
 {
     let first = 1 + image.pool as usize;
-    let leaves = image.leaves;
-    let mut heads = Vec::with_capacity(alloc, image.heads as usize)?;
-    for i in 0..image.heads as usize {
+    let leaves = image.leaf_count();
+    let count = image.head_count();
+    let mut heads = Vec::with_capacity(alloc, count)?;
+    for i in 0..count {
         heads.push(Head::decode(alloc, image.page(first + i), leaves)?)?;
     }
     Ok(heads)
