@@ -1,21 +1,19 @@
 -- What the heads that were read say of the image.
-use Rattle.std.proofs.Common.{◌≡◌, ◌⊎◌, inl, inr, ⊎_elim, ◌<◌, ◌≤◌, ◌+◌, ◌*◌, ◌^◌, ◌/◌, ◌%◌, ℕ, zero, suc, Bool, true, false, List, [], ◌∷◌, ◌++◌, length, get_or, replicate, map, Option, Some, None, refl, sym, ap, ◌∙◌, subst, arith}
-use Rattle.std.specs.Prelude.{nat_eq, is_some, flat_map, if◌then◌else◌, slice_index}
+use Rattle.std.proofs.Common.{◌≡◌, ⊎_elim, ◌<◌, ◌+◌, ◌*◌, ◌/◌, ◌%◌, ℕ, zero, suc, Bool, true, false, List, [], ◌∷◌, ◌++◌, length, get_or, replicate, map, Option, Some, None, refl, sym, ap, ◌∙◌, arith}
+use Rattle.std.specs.Prelude.{nat_eq, is_some, flat_map, if◌then◌else◌}
 use Rattle.std.specs.List.{AllByRecursion}
 use Rattle.std.proofs.lemmas.Bool.{cases_lt, false≢true}
 use Rattle.std.proofs.lemmas.Bool.Decides.{nat_tests}
 use Rattle.std.proofs.lemmas.List.{get_or_past, get_or-append-add}
 use Rattle.std.proofs.Math.ListN.{get_or-map, get_or-append}
-use Rattle.jn_base.specs.declared.names.FileNo.{FileNo}
 use Rattle.jn_records.specs.declared.head.Head.{Head}
 use Rattle.jn_records.specs.declared.head.Head.TheVariants.{Free, Used}
-use Rattle.jn_records.specs.Heads.{head_page, IsHead, FileFits}
 use Rattle.jn_records.specs.Sound as sound
 use Rattle.jn_records.specs.Sound.{HasOneHead, IsWhole, IsNamedOnce, Names, head_bytes_of}
-use Rattle.jn_records.specs.StablePages.{is_used, file_in, address_in}
-use Rattle.jn_image.specs.Repeats.{IsLeastFailing, Finds, StandsOnce}
+use Rattle.jn_records.specs.StablePages.{is_used, file_in}
+use Rattle.jn_image.specs.Repeats.{Finds, StandsOnce}
 use Rattle.jn_image.specs.Rules.{IsHeadAt, AreHeads, IsRead, file_of, address_of, addresses_of}
-use Rattle.jn_image.specs.Unsound.{All, HeadsWhole, AddressesOnce}
+use Rattle.jn_image.specs.Unsound.{HeadsWhole, AddressesOnce}
 use Rattle.jn_found.proofs.HeadPages.{free_unused, used_kind, used_file, used_address, whole}
 
 -- what is found for one rule is found for another that says the same

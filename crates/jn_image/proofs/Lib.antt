@@ -8,3 +8,4 @@ pub mod Roots
 pub mod Repeated
 pub mod Exclusive
 pub mod HeadLists
+pub mod SoundPages

@@ -1,5 +1,5 @@
 -- Whether a page is a root like another.
-use Rattle.std.proofs.Common.{◌≡◌, ◌<◌, ◌^◌, ℕ, Bool, true, false, List, Option, Some, None, refl, sym, ap, ◌∙◌, subst}
+use Rattle.std.proofs.Common.{◌≡◌, ◌<◌, ◌^◌, ℕ, Bool, false, List, Some, None, sym, ap, ◌∙◌}
 use Rattle.std.specs.Prelude.{IsTrue, ◌↔◌}
 use Rattle.std.proofs.lemmas.Bool.{false≢true}
 use Rattle.jn_records.specs.declared.root.Root.{Root}
@@ -35,5 +35,5 @@ module _ (m : sound.Image) (page : List ℕ) (is_page : page ≡ m.bytes 0) (lik
   one_found root small found only r says = (
     (λ t. (root.epoch, small, sym is_page ∙ found ∙ ap root_page (says.0 t ∙ sym (same root.epoch)))),
     (λ h. says.1 (let e = same_root root (at_epoch like h.0) (only (at_epoch like h.0) (fits h.0 h.1) (spelled h)) in
-    e ∙ ap (at_epoch like) (sym (ap (λ (q : Root). q.epoch) e)))),
+        e ∙ ap (at_epoch like) (sym (ap (λ (q : Root). q.epoch) e)))),
   )

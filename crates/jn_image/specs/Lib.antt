@@ -5,3 +5,4 @@ pub mod Reading
 pub mod Repeats
 pub mod Rules
 pub mod Unsound
+pub mod Laws

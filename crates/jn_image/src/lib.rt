@@ -14,6 +14,7 @@
 
 mod fault;
 mod image;
+mod laws;
 mod reading;
 mod repeats;
 mod soundness;
@@ -23,6 +24,7 @@ mod writing;
 
 pub use fault::{BadImage, CheckError, DecodeError, Unsound};
 pub use image::Image;
+pub use laws::a_sound_image_has_sound_pages;
 pub use reading::decode;
 pub use soundness::check;
 pub use writing::encode;

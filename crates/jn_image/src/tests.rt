@@ -63,9 +63,12 @@ fn the_image_of_a_server_with_the_usual_counts(rt: HostRuntime) -> Result<(), Fa
     assert!(rt; image.has_form());
     let bytes = encode(rt.alloc(), &image)?;
     assert_eq!(rt; bytes.len(), 181_650);
-    assert!(rt; bytes.as_slice().starts_with(&[
-        0x4a, 0x55, 0x4e, 0x49, 0x4d, 0x41, 0x47, 0x45, 1, 0, 0, 0x20, 0, 0x10, 0, 0x80, 1, 0x4a, 0x55, 0x4e, 0x31,
-    ]));
+    assert!(rt;
+        bytes.as_slice().starts_with(&[
+            0x4a, 0x55, 0x4e, 0x49, 0x4d, 0x41, 0x47, 0x45, 1, 0, 0, 0x20, 0, 0x10, 0, 0x80, 1,
+            0x4a, 0x55, 0x4e, 0x31,
+        ])
+    );
     let again = decode(rt.alloc(), &bytes)
         .ok()
         .ok_or("it isn't read again")?;

@@ -11,4 +11,4 @@ stood added false e f = absurd (false≢true (sym f ∙ e))
 pub returns-else-branch : goal.returns-else-branch
 returns-else-branch c = λ xs n at noted. rw c.lesser.ensures
     (old_value xs n c.args.seen.now c.insert.new.self c.args.least noted c.in-Some.value (at ∙ c.in-Some.is) c.in_ok-insert.ensures.updates
-      (stood c.in_ok-insert.field-0 _ c.in_ok-insert.ensures.added c.if-branch.false))
+    (stood c.in_ok-insert.field-0 _ c.in_ok-insert.ensures.added c.if-branch.false))

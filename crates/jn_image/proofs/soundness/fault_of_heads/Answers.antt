@@ -13,6 +13,7 @@ returns-in-Some-first_malformed c = λ s m are pool. (
   (pool, subst (λ (r : Option ℕ). Finds (HasOneHead m) r) c.in_default.is (c.in_ok-f.ensures m are)),
   malformed m c.args.heads.now are (Some c.in-Some-first_malformed.i) c.in-Some-first_malformed.ensures,
 )
+
 pub returns-in-Some-2 : goal.returns-in-Some-2
 returns-in-Some-2 c = λ s m are pool. let whole = malformed m c.args.heads.now are None c.in_default-first_malformed.ensures in (
   ((pool, subst (λ (r : Option ℕ). Finds (HasOneHead m) r) c.in_default.is (c.in_ok-f.ensures m are)), whole),

@@ -1,4 +1,4 @@
-use Rattle.std.proofs.Common.{◌≡◌, ◌<◌, ◌^◌, ℕ, subst, arith}
+use Rattle.std.proofs.Common.{◌<◌, ◌^◌, ℕ, subst, arith}
 use Rattle.jn_image.proofs.soundness.heads_of.Goals as goal
 
 pub returns : goal.returns

@@ -9,7 +9,6 @@ use Rattle.jn_image.specs.Unsound.{seen, ToPool, ToAddresses, IsFirstFault}
 use Rattle.jn_image.proofs.Exclusive.{all_hold}
 use Rattle.jn_image.proofs.soundness.look.Goals as goal
 
-
 told : (s : ServerNo) (m : sound.Image) (heads now : List (Option Head)) (r q : Option Unsound) → now ≡ heads → AreHeads m heads
     → ((s : ServerNo) (m : sound.Image) → AreHeads m now → ToPool s m → MatchOption r (ToAddresses s m) (λ f. IsFirstFault s m f)) → ToPool s m → r ≡ q
     → MatchOption q (ToAddresses s m) (λ f. IsFirstFault s m f)
@@ -29,12 +28,12 @@ returns-in-Some-2 c = told c.args.server (seen c.args.image.now) c.in_ok-heads.h
 pub returns-in-Some-first_failing : goal.returns-in-Some-first_failing
 returns-in-Some-first_failing c = (
   told c.args.server (seen c.args.image.now) c.in_ok-heads.heads.items c.deref.result.now c.in_ok-fault.field-0 None
-    c.deref.ensures.value c.in_ok-heads.ensures c.in_ok-fault.ensures c.in_default.ensures c.in_default-2.is,
+      c.deref.ensures.value c.in_ok-heads.ensures c.in_ok-fault.ensures c.in_default.ensures c.in_default-2.is,
   c.in-Some-first_failing.ensures,
 )
 
 pub returns : goal.returns
 returns c = all_hold c.args.server (seen c.args.image.now)
     (told c.args.server (seen c.args.image.now) c.in_ok-heads.heads.items c.deref.result.now c.in_ok-fault.field-0 None
-      c.deref.ensures.value c.in_ok-heads.ensures c.in_ok-fault.ensures c.in_default.ensures c.in_default-2.is)
+    c.deref.ensures.value c.in_ok-heads.ensures c.in_ok-fault.ensures c.in_default.ensures c.in_default-2.is)
     c.in_default-first_failing.ensures
