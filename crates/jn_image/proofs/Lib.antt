@@ -4,3 +4,8 @@ pub mod Passing
 pub mod Again
 pub mod Told
 pub mod Loops
+pub mod Roots
+pub mod Repeated
+pub mod Exclusive
+pub mod HeadLists
+pub mod SoundPages

@@ -1,8 +1,9 @@
-//! Why bytes are no image.
+//! Why bytes are no image, and why an image is unsound.
 ghost use Rattle.std.specs.Prelude.{◌≡◌};
-ghost use Rattle.jn_image.specs.Faults.{number_of};
+ghost use Rattle.jn_image.specs.Faults as faults;
+ghost use Rattle.jn_image.specs.Unsound as unsound;
 
-use std::alloc::AllocError;
+use std::alloc::{AllocError, AllocFailed};
 
 /// What is wrong with bytes that are no image: the first that holds, in this order, but `Short` also behind
 /// `Geometry`, where there are fewer bytes than the counts ask for.
@@ -27,7 +28,7 @@ pub enum BadImage {
 impl BadImage {
     /// The number by which the fault is reported, 1 to 7.
     pub fn number(self) -> u8
-        ensures { result ≡ number_of self }
+        ensures { result ≡ faults.number_of self }
     {
         match self {
             BadImage::Short => 1,
@@ -55,5 +56,90 @@ impl From<AllocError> for DecodeError {
 
     fn from(_e: AllocError) -> DecodeError {
         DecodeError::Memory
+    }
+}
+
+/// Why an image is unsound: the first that holds, in this order. Indices count from 0, each among its kind.
+#[derive(Clone, Copy, Debug, PartialEq, Eq, Drop)]
+pub enum Unsound {
+    /// It is another server's.
+    Server,
+    /// Stable page 0 isn't a root with this server and these counts.
+    Root,
+    /// This physical page is bad.
+    BadPage(u32),
+    /// The halves of this stable page differ.
+    PairDiffers(u32),
+    /// This slot of the pool isn't free.
+    PoolInUse(u32),
+    /// Two heads have this file.
+    SameFile(u32),
+    /// This head's page is no head, or has an address past the data pages.
+    Address(u32),
+    /// This data page's index and 1 is named twice.
+    AddressTwice(u32),
+    /// This data page has other bytes than zeros behind its block.
+    DataTail(u32),
+}
+
+impl Unsound {
+    /// The number by which the fault is reported, 1 to 9.
+    pub fn number(self) -> u8
+        ensures { result ≡ unsound.number_of self }
+    {
+        match self {
+            Unsound::Server => 1,
+            Unsound::Root => 2,
+            Unsound::BadPage(_) => 3,
+            Unsound::PairDiffers(_) => 4,
+            Unsound::PoolInUse(_) => 5,
+            Unsound::SameFile(_) => 6,
+            Unsound::Address(_) => 7,
+            Unsound::AddressTwice(_) => 8,
+            Unsound::DataTail(_) => 9,
+        }
+    }
+
+    /// The place or the name that is reported with it.
+    pub fn argument(self) -> Option<u32>
+        ensures { result ≡ unsound.argument_of self }
+    {
+        match self {
+            Unsound::Server | Unsound::Root => None,
+            Unsound::BadPage(n)
+            | Unsound::PairDiffers(n)
+            | Unsound::PoolInUse(n)
+            | Unsound::SameFile(n)
+            | Unsound::Address(n)
+            | Unsound::AddressTwice(n)
+            | Unsound::DataTail(n) => Some(n),
+        }
+    }
+}
+
+/// Why an image wasn't found sound.
+#[derive(Clone, Copy, Debug, PartialEq, Eq, Drop)]
+pub enum CheckError {
+    Unsound(Unsound),
+    Memory,
+}
+
+impl From<AllocError> for CheckError {
+    ghost use Rattle.jn_image.specs.declared.fault.CheckError.TheVariants as errors;
+
+    ghost from_gives = { λ _ e. e ≡ errors.Memory };
+
+    fn from(_e: AllocError) -> CheckError {
+        CheckError::Memory
+    }
+}
+
+impl<T: Drop> From<AllocFailed<T>> for CheckError {
+    ghost use Rattle.jn_image.specs.declared.fault.CheckError.TheVariants as errors;
+
+    ghost from_gives = { λ _ e. e ≡ errors.Memory };
+
+    fn from(_e: AllocFailed<T>) -> CheckError {
+        CheckError::Memory
     }
 }

@@ -1,10 +1,11 @@
 //! A server's disk.
-ghost use Rattle.std.specs.Prelude.{◌≡◌, ◌↔◌, IsTrue};
+ghost use Rattle.std.specs.Prelude.{◌≡◌, ◌<◌, ◌^◌, ◌↔◌, length, IsTrue};
 ghost use Rattle.jn_records.specs.StablePages.{page_count};
 ghost use Rattle.jn_image.specs.Faults.{within};
 ghost use Rattle.jn_image.specs.Form.{counts_of, HasForm};
+ghost use Rattle.jn_memdisk.specs.Pages.{half_at};
 
-use jn_base::ServerNo;
+use jn_base::{Page, ServerNo};
 use jn_device::Half;
 use jn_records::ListOf;
 
@@ -38,9 +39,42 @@ impl Image {
 
     /// How many stable pages there are.
     pub(crate) fn count(&self) -> usize
-        ensures { result ≡ page_count (counts_of self.now) }
+        ensures count { result ≡ page_count (counts_of self.now) }
+        ensures few { result < 2 ^ 18 }
     {
         1 + self.pool as usize + self.heads as usize + self.leaves as usize
+    }
+
+    /// How many heads there are.
+    pub(crate) fn head_count(&self) -> usize
+        ensures count { result ≡ self.now.heads }
+        ensures few { result < 2 ^ 16 }
+    {
+        self.heads as usize
+    }
+
+    /// How many data pages there are.
+    pub(crate) fn leaf_count(&self) -> u16
+        ensures count { result ≡ self.now.leaves }
+        ensures few { result < 2 ^ 16 }
+    {
+        self.leaves
+    }
+
+    /// Whether a physical page is good.
+    pub(crate) fn is_good(&self, p: usize) -> bool
+        requires { p < length self.now.pages }
+        ensures { result ≡ (half_at self.now.pages p).good }
+    {
+        self.pages.as_slice()[p].good
+    }
+
+    /// The bytes of a physical page.
+    pub(crate) fn page(&self, p: usize) -> &Page
+        requires { p < length self.now.pages }
+        ensures { result.now ≡ (half_at self.now.pages p).bytes }
+    {
+        &self.pages.as_slice()[p].bytes
     }
 }
 

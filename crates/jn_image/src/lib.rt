@@ -1,4 +1,4 @@
-//! Images: the disk of one server as bytes.
+//! Images: the disk of one server as bytes, and whether it is one that a server may begin with.
 //!
 //! | bytes | what stands there |
 //! |---|---|
@@ -8,17 +8,23 @@
 //! | from 16 on | each physical page: 1 where it is good or 0 where it is bad, and its 512 bytes |
 //! | the last 32 | the SHA-256 (FIPS 180-4) of all bytes before |
 //!
-//! `decode` takes exactly what `encode` gives, and names the first fault of all other bytes.
+//! `decode` takes exactly what `encode` gives, and names the first fault of all other bytes. `check` finds an
+//! image sound exactly where a recovery may begin from its pages.
 #![tactic(auto)]
 
 mod fault;
 mod image;
+mod laws;
 mod reading;
+mod repeats;
+mod soundness;
 #[cfg(test)]
 mod tests;
 mod writing;
 
-pub use fault::{BadImage, DecodeError};
+pub use fault::{BadImage, CheckError, DecodeError, Unsound};
 pub use image::Image;
+pub use laws::a_sound_image_has_sound_pages;
 pub use reading::decode;
+pub use soundness::check;
 pub use writing::encode;

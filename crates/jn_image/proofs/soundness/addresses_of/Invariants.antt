@@ -1,0 +1,7 @@
+use Rattle.std.proofs.Common.{◌≡◌, ◌++◌, drop}
+use Rattle.std.specs.Prelude.{flat_map}
+use Rattle.jn_image.specs.Rules.{addresses_of}
+use Rattle.jn_image.proofs.soundness.addresses_of.Given as goal
+
+abbrev pub invariant-loop-head : goal.invariant-loop-head
+invariant-loop-head l = l.addresses.items ++ flat_map (λ h. addresses_of h) (drop l.head-index l.heads) ≡ flat_map (λ h. addresses_of h) l.heads

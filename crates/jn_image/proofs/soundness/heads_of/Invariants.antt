@@ -1,0 +1,10 @@
+use Rattle.std.proofs.Common.{◌≡◌, ℕ, ◌<◌, None, get_or, vec_len}
+use Rattle.jn_image.specs.Rules.{IsHeadAt}
+use Rattle.jn_image.specs.Unsound.{seen}
+use Rattle.jn_image.proofs.soundness.heads_of.Given as goal
+
+abbrev pub invariant-loop-i : goal.invariant-loop-i
+invariant-loop-i l = record {
+  len : vec_len l.heads ≡ l.i;
+  each : (k : ℕ) → k < l.i → IsHeadAt (seen l.image) k (get_or l.heads.items k None);
+}

@@ -1,0 +1,6 @@
+use Rattle.std.proofs.Common.{drop, length-drop, arith}
+use Rattle.std.proofs.lemmas.List.{take_all}
+use Rattle.jn_image.proofs.soundness.tail_of.Goals as goal
+
+pub returns : goal.returns
+returns c = let size = c.told-page in take_all 64 (drop 448 c.args.page.now) (omega (arith, length-drop 448 c.args.page.now, size))

@@ -1,0 +1,62 @@
+-- The rules that are looked at place by place, and the heads as they are read.
+use Rattle.std.specs.Prelude.{◌≡◌, ◌<◌, ◌*◌, ◌^◌, ℕ, nat_eq, is_some, true, List, length, map, replicate, get_or, Option, Some, None, if◌then◌else◌}
+use Rattle.jn_records.specs.declared.head.Head.{Head}
+use Rattle.jn_records.specs.declared.head.Head.TheVariants.{Free, Used}
+use Rattle.jn_records.specs.declared.root.Root.{Root}
+use Rattle.jn_records.specs.Heads.{head_page, IsHead, FileFits}
+use Rattle.jn_records.specs.Sound as sound
+use Rattle.jn_records.specs.Sound.{IsGood, HalvesAgree, SlotIsFree, TailIsZeros, IsWhole, head_bytes_of}
+use Rattle.jn_records.specs.StablePages.{page_count}
+use Rattle.jn_image.specs.declared.soundness.Rule.{Rule}
+use Rattle.jn_image.specs.declared.soundness.Rule.TheVariants.{Good, Pair, Slot, Tail}
+
+-- how many places a rule has
+abbrev pub places : sound.Image → Rule → ℕ
+places m Good = 2 * page_count m.counts
+places m Pair = page_count m.counts
+places m Slot = m.counts.pool
+places m Tail = m.counts.leaves
+
+abbrev pub Holds : sound.Image → Rule → ℕ → Type 0
+Holds m Good p = IsGood m p
+Holds m Pair i = HalvesAgree m i
+Holds m Slot i = SlotIsFree m i
+Holds m Tail i = TailIsZeros m i
+
+abbrev pub HoldsWithin : sound.Image → Rule → ℕ → Type 0
+HoldsWithin m rule i = i < places m rule → Holds m rule i
+
+-- a root at another epoch
+abbrev pub at_epoch : Root → ℕ → Root
+at_epoch r epoch = record { server = r.server; pool = r.pool; heads = r.heads; leaves = r.leaves; epoch = epoch }
+
+-- what was read of a head's page
+abbrev pub IsHeadAt : sound.Image → ℕ → Option Head → Type 0
+IsHeadAt m i None = IsWhole m i → ⊥
+IsHeadAt m i (Some h) = IsHead m.counts.leaves h × FileFits h × (head_bytes_of m i ≡ head_page h)
+
+-- these are the image's heads, and none where a page is no head
+pub record AreHeads (m : sound.Image) (heads : List (Option Head)) : Type 0 where
+  pub few_heads : m.counts.heads < 2 ^ 16
+  pub few : m.counts.leaves < 2 ^ 16
+  pub count : length heads ≡ m.counts.heads
+  pub each : (i : ℕ) → i < m.counts.heads → IsHeadAt m i (get_or heads i None)
+
+-- a head's file, where it is used
+abbrev pub file_of : Option Head → Option ℕ
+file_of (Some (Used file addresses)) = Some file.0
+file_of (Some Free) = None
+file_of None = None
+
+abbrev pub address_of : ℕ → Option ℕ
+address_of a = if nat_eq a 0 then None else Some a
+
+-- what each block of a head is named by
+abbrev pub addresses_of : Option Head → List (Option ℕ)
+addresses_of (Some (Used file addresses)) = map (λ a. address_of a) addresses
+addresses_of (Some Free) = replicate 120 None
+addresses_of None = replicate 120 None
+
+-- head i was read as one
+abbrev pub IsRead : List (Option Head) → ℕ → Type 0
+IsRead heads i = i < length heads → is_some (get_or heads i None) ≡ true

@@ -1,0 +1,332 @@
+//! Whether an image is sound.
+ghost use Rattle.std.specs.Prelude.{◌≡◌, ◌⊎◌, ◌<◌, ◌*◌, ◌^◌, ◌↔◌, ◌++◌, ℕ, length, drop, map, flat_map, replicate, Err, IfOk, IfErr, OnOk, IsTrue, MatchOption};
+ghost use Rattle.jn_base.specs.declared.names.ServerNo.{ServerNo as AnyServer};
+ghost use Rattle.jn_records.specs.Pages.{IsRoot};
+ghost use Rattle.jn_records.specs.Sound as sound;
+ghost use Rattle.jn_records.specs.Sound.{HasRoot, IsSound, HasOneHead};
+ghost use Rattle.jn_records.specs.StablePages.{page_count};
+ghost use Rattle.jn_image.specs.declared.fault.CheckError.TheVariants.{Unsound as AnUnsound, Memory};
+ghost use Rattle.jn_image.specs.declared.fault.Unsound.{Unsound as AnyFault};
+ghost use Rattle.jn_image.specs.Form.{counts_of};
+ghost use Rattle.jn_image.specs.Repeats.{Finds};
+ghost use Rattle.jn_image.specs.Rules.{places, Holds, HoldsWithin, AreHeads, at_epoch, IsRead, file_of, address_of, addresses_of};
+ghost use Rattle.jn_image.specs.Unsound.{seen, All, HeadsWhole, AddressesOnce, ToPool, ToAddresses, IsFirstFault, Tells};
+
+use crate::fault::{CheckError, Unsound};
+use crate::image::Image;
+use crate::repeats::least_repeated;
+use jn_base::{Page, ServerNo};
+use jn_records::{BLOCKS, Head, Record, Root};
+use std::alloc::{AllocError, Global};
+
+/// Whether the image is a sound one of this server, from whose pages a recovery may begin.
+pub fn check(alloc: Global, image: &Image, server: ServerNo) -> Result<(), CheckError>
+    requires { length image.now.pages ≡ 2 * page_count (counts_of image.now) }
+    // What is found sound is sound.
+    ensures sound { IfOk result (λ _. IsSound server (seen image.now)) }
+    // A sound image is found so, unless memory runs out.
+    ensures only { IsSound server (seen image.now) → IfErr result (λ e. e ≡ Memory) }
+    // A fault that is told is the first one.
+    ensures fault { (f : AnyFault) → result ≡ Err (AnUnsound f) → IsFirstFault server (seen image.now) f }
+    // The first fault is told, unless memory runs out.
+    ensures first { (f : AnyFault) → IsFirstFault server (seen image.now) f → (result ≡ Err (AnUnsound f)) ⊎ (result ≡ Err Memory) }
+{
+    look(alloc, image, server)
+}
+
+fn look(alloc: Global, image: &Image, server: ServerNo) -> Result<(), CheckError>
+    requires { length image.now.pages ≡ 2 * page_count (counts_of image.now) }
+    ensures { Tells server (seen image.now) result }
+{
+    if let Some(fault) = fault_of_pages(image, server) {
+        return Err(CheckError::Unsound(fault));
+    }
+    let heads = heads_of(alloc, image)?;
+    if let Some(fault) = fault_of_heads(alloc, &heads)? {
+        return Err(CheckError::Unsound(fault));
+    }
+    if let Some(i) = first_failing(image, Rule::Tail) {
+        return Err(CheckError::Unsound(Unsound::DataTail(i)));
+    }
+    Ok(())
+}
+
+/// The first fault up to the pool's.
+fn fault_of_pages(image: &Image, server: ServerNo) -> Option<Unsound>
+    requires { length image.now.pages ≡ 2 * page_count (counts_of image.now) }
+    ensures { MatchOption result (ToPool server (seen image.now)) (λ f. IsFirstFault server (seen image.now) f) }
+{
+    if image.server != server {
+        return Some(Unsound::Server);
+    }
+    if !has_root(image) {
+        return Some(Unsound::Root);
+    }
+    if let Some(p) = first_failing(image, Rule::Good) {
+        return Some(Unsound::BadPage(p));
+    }
+    if let Some(i) = first_failing(image, Rule::Pair) {
+        return Some(Unsound::PairDiffers(i));
+    }
+    if let Some(i) = first_failing(image, Rule::Slot) {
+        return Some(Unsound::PoolInUse(i));
+    }
+    None
+}
+
+/// The first fault of heads, where none comes before them.
+fn fault_of_heads(alloc: Global, heads: &[Option<Head>]) -> Result<Option<Unsound>, AllocError>
+    requires { length heads.now < 2 ^ 16 }
+    ensures { IfOk result (λ r. (s : AnyServer) (m : sound.Image) → AreHeads m heads.now → ToPool s m
+        → MatchOption r (ToAddresses s m) (λ f. IsFirstFault s m f)) }
+{
+    if let Some(f) = same_file(alloc, heads)? {
+        return Ok(Some(Unsound::SameFile(f)));
+    }
+    if let Some(i) = first_malformed(heads) {
+        return Ok(Some(Unsound::Address(i)));
+    }
+    match address_twice(alloc, heads)? {
+        Some(a) => Ok(Some(Unsound::AddressTwice(a))),
+        None => Ok(None),
+    }
+}
+
+/// Whether the first page is a root with the image's server and counts.
+fn has_root(image: &Image) -> bool
+    requires { 0 < length image.now.pages }
+    ensures { IsTrue result ↔ HasRoot (seen image.now) }
+{
+    let like = first_root(image.server, image.pool, image.heads, image.leaves);
+    match Root::decode(image.page(0)) {
+        Some(root) => is_like(root, like),
+        None => false,
+    }
+}
+
+/// The root of a server with so many pages of each kind, at epoch 0.
+fn first_root(server: ServerNo, pool: u16, heads: u16, leaves: u16) -> Root
+    ensures root { result ≡ record { server = server; pool = pool; heads = heads; leaves = leaves; epoch = 0 } }
+    ensures fits { IsRoot result }
+{
+    Root {
+        server,
+        pool,
+        heads,
+        leaves,
+        epoch: 0,
+    }
+}
+
+/// Whether a root is another but for its epoch.
+fn is_like(root: Root, like: Root) -> bool
+    ensures same { IsTrue result ↔ (root ≡ at_epoch like root.epoch) }
+    ensures fits { root.epoch < 2 ^ 32 }
+{
+    root.server.0 == like.server.0
+        && root.pool == like.pool
+        && root.heads == like.heads
+        && root.leaves == like.leaves
+}
+
+// ---- the pages, place by place
+
+/// What is to hold of each page of a kind.
+#[derive(Clone, Copy)]
+enum Rule {
+    /// A physical page is good.
+    Good,
+    /// The halves of a stable page are equal.
+    Pair,
+    /// A slot of the pool is free.
+    Slot,
+    /// A data page ends in zeros.
+    Tail,
+}
+
+/// The first place where a rule doesn't hold.
+fn first_failing(image: &Image, rule: Rule) -> Option<u32>
+    requires { length image.now.pages ≡ 2 * page_count (counts_of image.now) }
+    ensures { Finds (HoldsWithin (seen image.now) rule) result }
+{
+    for i in 0..places(image, rule) {
+        if !holds(image, rule, i) {
+            return Some(i);
+        }
+    }
+    None
+}
+
+/// How many places a rule has.
+fn places(image: &Image, rule: Rule) -> u32
+    ensures { result ≡ places (seen image.now) rule }
+{
+    match rule {
+        Rule::Good => 2 * image.count() as u32,
+        Rule::Pair => image.count() as u32,
+        Rule::Slot => u32::from(image.pool),
+        Rule::Tail => u32::from(image.leaves),
+    }
+}
+
+/// Whether a rule holds at a place.
+fn holds(image: &Image, rule: Rule, place: u32) -> bool
+    requires pages { length image.now.pages ≡ 2 * page_count (counts_of image.now) }
+    requires within { place < places (seen image.now) rule }
+    ensures { IsTrue result ↔ Holds (seen image.now) rule place }
+{
+    let i = place as usize;
+    match rule {
+        Rule::Good => image.is_good(i),
+        Rule::Pair => same_bytes(image.page(i), image.page(i + image.count())),
+        Rule::Slot => same_bytes(image.page(1 + i), &Record::Free.encode()),
+        Rule::Tail => {
+            ends_in_zeros(image.page(1 + image.pool as usize + image.heads as usize + i))
+        }
+    }
+}
+
+/// Whether a page has zeros behind its block.
+fn ends_in_zeros(page: &Page) -> bool
+    ensures { IsTrue result ↔ (drop 448 page.now ≡ replicate 64 0) }
+{
+    is_blank(tail_of(page))
+}
+
+/// What stands behind a page's block.
+fn tail_of(page: &Page) -> &[u8]
+    ensures { result.now ≡ drop 448 page.now }
+{
+    &page[448..]
+}
+
+/// Whether bytes are as many zeros as stand behind a block.
+fn is_blank(bytes: &[u8]) -> bool
+    ensures { IsTrue result ↔ (bytes.now ≡ replicate 64 0) }
+{
+    same_bytes(bytes, &[0; 64])
+}
+
+/// Whether two pages, or parts of them, have the same bytes.
+fn same_bytes(a: &[u8], b: &[u8]) -> bool
+    ensures { IsTrue result ↔ (a.now ≡ b.now) }
+{
+    a == b
+}
+
+// ---- the heads
+
+/// The heads, and none where a page is no head.
+fn heads_of(alloc: Global, image: &Image) -> Result<Vec<Option<Head>>, AllocError>
+    requires { length image.now.pages ≡ 2 * page_count (counts_of image.now) }
+    ensures { IfOk result (λ v. AreHeads (seen image.now) v.items) }
+{
+    let first = 1 + image.pool as usize;
+    let leaves = image.leaf_count();
+    let count = image.head_count();
+    let mut heads = Vec::with_capacity(alloc, count)?;
+    for i in 0..count {
+        heads.push(Head::decode(alloc, image.page(first + i), leaves)?)?;
+    }
+    Ok(heads)
+}
+
+/// The least file that two heads have.
+fn same_file(alloc: Global, heads: &[Option<Head>]) -> Result<Option<u32>, AllocError>
+    ensures { IfOk result (λ r. (m : sound.Image) → AreHeads m heads.now → Finds (HasOneHead m) r) }
+{
+    let files = files_of(alloc, heads)?;
+    least_repeated(alloc, &files)
+}
+
+/// The first page that is no head.
+fn first_malformed(heads: &[Option<Head>]) -> Option<u32>
+    requires { length heads.now < 2 ^ 16 }
+    ensures { Finds (IsRead heads.now) result }
+{
+    for i in 0..heads.len() {
+        if heads[i].is_none() {
+            return Some(i as u32);
+        }
+    }
+    None
+}
+
+/// The least address that is named twice.
+fn address_twice(alloc: Global, heads: &[Option<Head>]) -> Result<Option<u32>, AllocError>
+    ensures { IfOk result (λ r. (m : sound.Image) → AreHeads m heads.now → All (HeadsWhole m) → Finds (AddressesOnce m) r) }
+{
+    let addresses = addresses_of(alloc, heads)?;
+    least_repeated(alloc, &addresses)
+}
+
+/// The file of each head.
+fn files_of(alloc: Global, heads: &[Option<Head>]) -> Result<Vec<Option<u32>>, AllocError>
+    ensures { IfOk result (λ v. v.items ≡ map (λ h. file_of h) heads.now) }
+{
+    let mut files = Vec::with_capacity(alloc, heads.len())?;
+    for head in heads {
+        files.push(file_of(head))?;
+    }
+    Ok(files)
+}
+
+/// The head's file, where it is used.
+fn file_of(head: &Option<Head>) -> Option<u32>
+    ensures { result ≡ file_of head.now }
+{
+    match head {
+        Some(Head::Used { file, .. }) => Some(file.0),
+        Some(Head::Free) | None => None,
+    }
+}
+
+/// The address of each block of each head.
+fn addresses_of(alloc: Global, heads: &[Option<Head>]) -> Result<Vec<Option<u32>>, AllocError>
+    ensures { IfOk result (λ v. v.items ≡ flat_map (λ h. addresses_of h) heads.now) }
+{
+    let mut addresses = Vec::new(alloc);
+    for head in heads {
+        push_head(&mut addresses, head)?;
+    }
+    Ok(addresses)
+}
+
+fn push_head(out: &mut Vec<Option<u32>>, head: &Option<Head>) -> Result<(), AllocError>
+    ensures { OnOk result (out.new.items ≡ out.old.items ++ addresses_of head.now) }
+{
+    match head {
+        Some(Head::Used { addresses, .. }) => push_addresses(out, addresses.as_slice()),
+        Some(Head::Free) | None => push_none(out),
+    }
+}
+
+fn push_addresses(out: &mut Vec<Option<u32>>, addresses: &[u16]) -> Result<(), AllocError>
+    ensures { OnOk result (out.new.items ≡ out.old.items ++ map (λ a. address_of a) addresses.now) }
+{
+    for address in addresses {
+        out.push(address_of(*address))?;
+    }
+    Ok(())
+}
+
+/// An address, where there is one.
+fn address_of(address: u16) -> Option<u32>
+    ensures { result ≡ address_of address }
+{
+    if address == 0 {
+        None
+    } else {
+        Some(u32::from(address))
+    }
+}
+
+/// No address for each block that a head may have.
+fn push_none(out: &mut Vec<Option<u32>>) -> Result<(), AllocError>
+    ensures { OnOk result (out.new.items ≡ out.old.items ++ replicate 120 None) }
+{
+    for _ in 0..BLOCKS {
+        out.push(None)?;
+    }
+    Ok(())
+}
