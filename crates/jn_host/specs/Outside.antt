@@ -5,7 +5,7 @@ use Rattle.std.specs.Io.KnownBytes.{append_known}
 use Rattle.std.specs.declared.alloc.Global.{Global}
 use Rattle.jn_host.specs.declared.Failed.{Failed}
 use Rattle.jn_host.specs.declared.KeepFailure.{KeepFailure}
-use Rattle.jn_host.specs.declared.KeepFailure.TheVariants.{Failed as CallFailed, Memory}
+use Rattle.jn_host.specs.declared.KeepFailure.TheVariants.{Failed as CallFailed}
 
 -- a count of 64 bits rose in a call; it stays at its last value
 abbrev pub Rose : ℕ → ℕ → Type 0
@@ -66,7 +66,7 @@ pub record KeeperSaved (kept : Option Contents) (faults : ℕ) (name : List ℕ)
   -- a keeper that tells goes on to tell, and one that doesn't goes on so
   pub told : is_some kept' ≡ is_some kept
   pub saved : is_ok answer ≡ true → is_some kept ≡ true → kept_at kept' name ≡ Some (Some bytes)
+  -- a call that failed has changed nothing
+  pub unsaved : is_ok answer ≡ false → kept_at kept' name ≡ kept_at kept name
   pub others : (other : List ℕ) → other ≢ name → kept_at kept' other ≡ kept_at kept other
-  -- what this name holds after a failed call isn't promised
   pub rose : answer ≡ Err CallFailed → Rose faults faults'
-  pub unsaved : answer ≡ Err Memory → kept_at kept' name ≡ kept_at kept name

@@ -96,12 +96,13 @@ pub trait Keeper {
     /// How often a call failed. It stays at the last value of a `u64`.
     ghost faults: { Self → ℕ };
 
-    /// What the name holds, or `None` where it holds nothing.
+    /// What the name holds, or `None` where it holds nothing. It changes nothing that is kept. A name
+    /// that holds something which can't be read is a call that failed.
     fn load(&mut self, alloc: Global, name: &str) -> Result<Option<Vec<u8>>, KeepFailure>
         ensures loaded { KeeperLoaded (kept self.old) (faults self.old) name.now result (kept self.new) (faults self.new) };
 
-    /// Makes the name hold the bytes. What it holds after a call that failed isn't promised; where
-    /// there was no memory nothing has changed.
+    /// Makes the name hold the bytes, and changes no other name. Where that failed, or there was no
+    /// memory for it, each name holds what it held.
     fn save(&mut self, name: &str, bytes: &[u8]) -> Result<(), KeepFailure>
         ensures saved { KeeperSaved (kept self.old) (faults self.old) name.now bytes.now result (kept self.new) (faults self.new) };
 }

@@ -4,7 +4,11 @@ use jn_host::{
     Failed, FileKeeper, KeepFailure, Keeper, MemoryKeeper, MemorySink, MemorySource, Sink, Source,
     StandardInput, StandardOutput,
 };
-use std::io::{Cursor, ErrorKind};
+use std::alloc::Allocator;
+use std::fs::{Metadata, OpenFile, OpenOptions};
+use std::io::{Cursor, ErrorKind, SeekFrom};
+use std::os::unix::fs::symlink;
+use std::rt::Files;
 use std::test::Fail;
 use std::{fs, io};
 
@@ -25,6 +29,156 @@ impl io::Write for Broken {
 
     fn flush(&mut self) -> io::Result<()> {
         Err(io::Error::from(ErrorKind::Other))
+    }
+}
+
+/// A writer that takes every byte, and can't be flushed.
+#[derive(Drop)]
+struct Unflushed;
+
+impl io::Write for Unflushed {
+    fn write(&mut self, from: &[u8]) -> io::Result<usize> {
+        Ok(from.len())
+    }
+
+    fn flush(&mut self) -> io::Result<()> {
+        Err(io::Error::from(ErrorKind::Other))
+    }
+}
+
+/// A call on files.
+#[derive(Clone, Copy, PartialEq, Eq)]
+enum Step {
+    Open,
+    Write,
+    Sync,
+    Rename,
+}
+
+impl Step {
+    /// Refuses the call that is to fail.
+    fn refuse(self, call: Step) -> io::Result<()> {
+        if self == call {
+            Err(io::Error::from(ErrorKind::PermissionDenied))
+        } else {
+            Ok(())
+        }
+    }
+}
+
+/// Files of which one kind of call fails.
+#[derive(Drop)]
+struct Faulty<R> {
+    files: R,
+    failing: Step,
+}
+
+/// A file of them.
+#[derive(Drop)]
+struct FaultyFile<F> {
+    file: F,
+    failing: Step,
+}
+
+impl<R: Alloc> Alloc for Faulty<R> {
+    type A = R::A;
+
+    fn alloc(&self) -> R::A {
+        self.files.alloc()
+    }
+}
+
+impl<R: Files> Files for Faulty<R> {
+    type File = FaultyFile<R::File>;
+
+    type Dir = R::Dir;
+
+    fn open_file(&self, how: &OpenOptions, path: &str) -> io::Result<FaultyFile<R::File>> {
+        self.failing.refuse(Step::Open)?;
+        Ok(FaultyFile {
+            file: self.files.open_file(how, path)?,
+            failing: self.failing,
+        })
+    }
+
+    fn open_dir(&self, path: &str) -> io::Result<R::Dir> {
+        self.files.open_dir(path)
+    }
+
+    fn metadata(&self, path: &str) -> io::Result<Metadata> {
+        self.files.metadata(path)
+    }
+
+    fn symlink_metadata(&self, path: &str) -> io::Result<Metadata> {
+        self.files.symlink_metadata(path)
+    }
+
+    fn copy(&self, from: &str, to: &str) -> io::Result<u64> {
+        self.files.copy(from, to)
+    }
+
+    fn rename(&self, from: &str, to: &str) -> io::Result<()> {
+        self.failing.refuse(Step::Rename)?;
+        self.files.rename(from, to)
+    }
+
+    fn remove_file(&self, path: &str) -> io::Result<()> {
+        self.files.remove_file(path)
+    }
+
+    fn create_dir(&self, path: &str) -> io::Result<()> {
+        self.files.create_dir(path)
+    }
+
+    fn remove_dir(&self, path: &str) -> io::Result<()> {
+        self.files.remove_dir(path)
+    }
+
+    fn remove_dir_all<B: Allocator>(&self, alloc: B, path: &str) -> io::Result<()> {
+        self.files.remove_dir_all(alloc, path)
+    }
+}
+
+impl<F: io::Read> io::Read for FaultyFile<F> {
+    fn read(&mut self, into: &mut [u8]) -> io::Result<usize> {
+        self.file.read(into)
+    }
+}
+
+impl<F: io::Write> io::Write for FaultyFile<F> {
+    fn write(&mut self, from: &[u8]) -> io::Result<usize> {
+        self.failing.refuse(Step::Write)?;
+        self.file.write(from)
+    }
+
+    fn flush(&mut self) -> io::Result<()> {
+        self.file.flush()
+    }
+}
+
+impl<F: io::Seek> io::Seek for FaultyFile<F> {
+    fn seek(&mut self, to: SeekFrom) -> io::Result<u64> {
+        self.file.seek(to)
+    }
+}
+
+impl<F: OpenFile> OpenFile for FaultyFile<F> {
+    fn metadata(&self) -> io::Result<Metadata> {
+        self.file.metadata()
+    }
+
+    fn set_len(&self, size: u64) -> io::Result<()> {
+        self.file.set_len(size)
+    }
+
+    fn sync_all(&self) -> io::Result<()> {
+        self.failing.refuse(Step::Sync)?;
+        self.file.sync_all()
+    }
+
+    fn sync_data(&self) -> io::Result<()> {
+        self.failing.refuse(Step::Sync)?;
+        self.file.sync_data()
     }
 }
 
@@ -108,6 +262,7 @@ fn a_writer_is_a_sink(rt: HostRuntime) {
     assert_eq!(rt; sink.write(b""), Ok(0));
     assert_eq!(rt; place, *b"pages");
     assert_eq!(rt; StandardOutput::new(Broken).write(b"none"), Err(Failed));
+    assert_eq!(rt; StandardOutput::new(Unflushed).write(b"none"), Err(Failed));
     assert_eq!(rt; StandardOutput::new(io::writer(&rt)).write(b""), Ok(0));
 }
 
@@ -117,7 +272,13 @@ fn a_file_is_kept_whole(rt: HostRuntime) -> Result<(), Fail> {
     let name = "jn_host_kept.0";
     let mut keeper = FileKeeper::new(&rt);
     assert_eq!(rt; keeper.save(name, b"long and old"), Ok(()));
+    fs::write(
+        &rt,
+        "jn_host_kept.0.new",
+        "left by a program that was killed",
+    )?;
     assert_eq!(rt; keeper.save(name, b"new"), Ok(()));
+    assert_eq!(rt; keeper.load(alloc, "jn_host_kept.0.new"), Ok(None));
     let found = keeper.load(alloc, name)?;
     assert_eq!(rt; found.as_deref(), Some(b"new".as_slice()));
     fs::File::create(&rt, name)?.set_len(10_261_080)?;
@@ -130,5 +291,57 @@ fn a_file_is_kept_whole(rt: HostRuntime) -> Result<(), Fail> {
         keeper.save("no_such_folder/a.0", b"none"),
         Err(KeepFailure::Failed)
     );
+    Ok(())
+}
+
+#[test]
+fn a_file_that_cannot_be_opened_is_not_missing(rt: HostRuntime) -> Result<(), Fail> {
+    let alloc = rt.alloc();
+    let mut keeper = FileKeeper::new(Faulty {
+        files: &rt,
+        failing: Step::Open,
+    });
+    assert_eq!(rt; keeper.load(alloc, "any.0"), Err(KeepFailure::Failed));
+    let mut keeper = FileKeeper::new(&rt);
+    let name = "jn_host_loop.0";
+    symlink(&rt, name, name)?;
+    assert_eq!(rt; keeper.load(alloc, name), Err(KeepFailure::Failed));
+    fs::remove_file(&rt, name)?;
+    assert_eq!(rt; keeper.load(alloc, name), Ok(None));
+    Ok(())
+}
+
+/// Whether a save over this file, which holds `old`, fails and leaves it as it was.
+fn leaves_the_old<R: Files + AllocGlobal + Drop>(
+    files: R,
+    rt: &HostRuntime,
+    name: &str,
+) -> Result<bool, KeepFailure> {
+    let failed = FileKeeper::new(files).save(name, b"new") == Err(KeepFailure::Failed);
+    let held = FileKeeper::new(rt).load(rt.alloc(), name)?;
+    Ok(failed && held.as_deref() == Some(b"old"))
+}
+
+#[test]
+fn a_save_that_fails_leaves_the_old_file(rt: HostRuntime) -> Result<(), Fail> {
+    let alloc = rt.alloc();
+    let name = "jn_host_old.0";
+    let beside = "jn_host_old.0.new";
+    let mut keeper = FileKeeper::new(&rt);
+    assert_eq!(rt; keeper.save(name, b"old"), Ok(()));
+    for failing in [Step::Open, Step::Write, Step::Sync, Step::Rename] {
+        let files = Faulty {
+            files: &rt,
+            failing,
+        };
+        assert!(rt; leaves_the_old(files, &rt, name)?);
+        assert_eq!(rt; keeper.load(alloc, beside), Ok(None));
+    }
+    fs::create_dir(&rt, beside)?;
+    assert!(rt; leaves_the_old(&rt, &rt, name)?);
+    assert_eq!(rt; keeper.save(beside, b"new"), Err(KeepFailure::Failed));
+    assert_eq!(rt; keeper.load(alloc, "jn_host_old.0.new.new"), Ok(None));
+    fs::remove_dir(&rt, beside)?;
+    fs::remove_file(&rt, name)?;
     Ok(())
 }

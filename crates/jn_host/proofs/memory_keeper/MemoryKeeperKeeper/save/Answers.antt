@@ -8,7 +8,7 @@ returns-clause-saved c =
       count = grind arith;
       told = grind arith;
       saved = λ ok told. grind (arith, text_keys);
+      unsaved = λ failed. grind arith;
       others = λ other apart. grind (arith, text_keys);
       rose = λ e. grind arith;
-      unsaved = λ e. grind arith;
     }
