@@ -1,6 +1,7 @@
-use Rattle.std.proofs.Common.{◌≡◌, ◌∙◌, Err, Vec, ap, refl, sym}
+use Rattle.std.proofs.Common.{◌≡◌, ◌∙◌, Err, List, Vec, ap, map, refl, sym}
 use Rattle.std.specs.declared.alloc.Global.{Global}
 use Rattle.jn_memdisk.specs.declared.disk.MemDisk.{MemDisk}
+use Rattle.jn_recovery.specs.declared.counts.PageCounts.{PageCounts}
 use Rattle.jn_schedule.proofs.Ranges.{lines_in_range}
 use Rattle.jn_schedule.specs.Grammar.{word_lines}
 use Rattle.jn_run.specs.Outcome.{Outputs}
@@ -12,8 +13,8 @@ use Rattle.jn_run.proofs.run_stores.Goals as goal
 pub run_from-requires-clause-range : goal.run_from-requires-clause-range
 run_from-requires-clause-range g c = lines_in_range (word_lines c.args.text.now) c.args.events.now c.requires.schedule
 
-pub returns-in-Ok : goal.returns-in-Ok
-returns-in-Ok g c = record {
+pub returns-in-Ok-run_from : goal.returns-in-Ok-run_from
+returns-in-Ok-run_from g c = record {
   ran = λ earlier since.
     let o = c.args.options.now in
     let before : Outputs = record { taken = g.K.Sink.taken c.args.sink.now; write_faults = g.K.Sink.faults c.args.sink.now; kept = g.I.Keeper.kept c.args.keeper.now; keep_faults = earlier } in
@@ -21,7 +22,8 @@ returns-in-Ok g c = record {
     let b = opened-so look device (λ s. refl) o before.kept c.args.stores.items c.requires.servers c.requires.opened in
     run-kept device o c.args.text.now c.args.events.now before after c.args.stores.items b (record { schedule = c.requires.schedule; few = c.requires.few }) c.requires.limits.servers.1
           (lines_in_range (word_lines c.args.text.now) c.args.events.now c.requires.schedule) (λ (v : Vec MemDisk Global). v.items) c.run_from.result
-          (c.run_from.ensures.ran b.setup b.files b.epochs b.images b.stores_are b.opens.trace b.are_images) c.in-Ok.left c.in-Ok.is c.in_ok-counts_of.items (c.in-Ok.ensures.count) ? (g.I.Keeper.faults c.args.keeper.now) since c.keep.result c.keep.ensures.kept;
+          (c.run_from.ensures.ran b.setup b.files b.epochs b.images b.stores_are b.opens.trace b.are_images) c.in-Ok-run_from.left c.in-Ok-run_from.is c.deref-in-Ok-run_from.result.now c.in-Ok-run_from.ensures.count
+          (c.deref-in-Ok-run_from.ensures.value ∙ c.in-Ok.ensures ∙ ap (λ (xs : List (MemDisk × PageCounts)). map (λ (x : MemDisk × PageCounts). x.1) xs) c.deref.ensures.value) (g.I.Keeper.faults c.args.keeper.now) since c.keep.result c.keep.ensures.kept;
 }
 
 pub returns-in-Err-Write : goal.returns-in-Err-Write
@@ -48,8 +50,8 @@ returns-in-Err-Limit g c = record {
           (c.run_from.ensures.ran b.setup b.files b.epochs b.images b.stores_are b.opens.trace b.are_images) refl (c.in-Err-Limit.is ∙ ap (λ e. Err e) c.in-Err-Limit.field-0-is);
 }
 
-pub returns-in-Err-Memory : goal.returns-in-Err-Memory
-returns-in-Err-Memory g c = record {
+pub returns : goal.returns
+returns g c = record {
   ran = λ earlier since.
     let o = c.args.options.now in
     let before : Outputs = record { taken = g.K.Sink.taken c.args.sink.now; write_faults = g.K.Sink.faults c.args.sink.now; kept = g.I.Keeper.kept c.args.keeper.now; keep_faults = earlier } in

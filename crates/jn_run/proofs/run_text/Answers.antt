@@ -9,3 +9,6 @@ returns-in-Err-Syntax g c = record {
       (record { taken = g.K.Sink.taken c.refuse_line.new.sink; write_faults = g.K.Sink.faults c.refuse_line.new.sink; kept = g.I.Keeper.kept c.args.keeper.now; keep_faults = g.I.Keeper.faults c.args.keeper.now })
       (c.parse.ensures.fault _ _ (search rules)) refl c.refuse_line.ensures.refused;
 }
+
+pub returns-then-count_events-gt-MOST_EVENTS : goal.returns-then-count_events-gt-MOST_EVENTS
+returns-then-count_events-gt-MOST_EVENTS g c = record { ran = c.refuse_long.ensures.ran (g.I.Keeper.kept c.args.keeper.now) (g.I.Keeper.faults c.args.keeper.now) }

@@ -27,8 +27,8 @@ returns-in_err-left-clause-ran g c = λ x files epochs images stores trace are.
     let p = err_from_is_err_and c.from_residual-in_err-left.result c.from_residual-in_err-left.ensures.1 in
     faulted-run course _ _ c.close_world.result c.from_residual-in_err-left.result p.0 _ _ (c.in_err-left.was ∙ ap (λ e. Err e) (sym p.2)) p.1 (c.close_world.ensures.ran course fin.now fin.told fin.there)
 
-pub returns-then-clause-ran : goal.returns-then-clause-ran
-returns-then-clause-ran g c = λ x files epochs images stores trace are.
+pub returns-then-len-servers-clause-ran : goal.returns-then-len-servers-clause-ran
+returns-then-len-servers-clause-ran g c = λ x files epochs images stores trace are.
     let course = course_of x c.args.events.now images (g.K.Sink.taken c.args.sink.now) (g.K.Sink.faults c.args.sink.now) in
     let at = (c.open_world.ensures.opened x c.args.events.now files epochs images stores trace are).whole c.in_ok-world.world c.in_ok-world.was in
     let run = c.run_events.ensures.ran course at.now at.told refl at.there in
