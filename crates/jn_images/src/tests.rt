@@ -37,7 +37,10 @@ fn two_disks(alloc: Global) -> Result<Vec<Pairs<MemDisk>>, AllocError> {
 }
 
 /// A keeper in which the save of this number fails, to which two disks were saved, and how that ended.
-fn saved(alloc: Global, failing: &[u64]) -> Result<(MemoryKeeper, Result<(), KeepFailure>), AllocError> {
+fn saved(
+    alloc: Global,
+    failing: &[u64],
+) -> Result<(MemoryKeeper, Result<(), KeepFailure>), AllocError> {
     let mut keeper = MemoryKeeper::new(alloc, Vec::new(alloc), Vec::from_slice(alloc, failing)?);
     let stores = two_disks(alloc)?;
     let done = save_images(alloc, &mut keeper, "a", stores, &[COUNTS, COUNTS]);
@@ -68,7 +71,13 @@ fn refusal(alloc: Global, keeper: &mut MemoryKeeper) -> Result<Option<(Refusal, 
 }
 
 /// Whether the images of `a` are refused so.
-fn is_refused(alloc: Global, keeper: &mut MemoryKeeper, server: u8, cause: Cause, line: &[u8]) -> Result<bool, Fail> {
+fn is_refused(
+    alloc: Global,
+    keeper: &mut MemoryKeeper,
+    server: u8,
+    cause: Cause,
+    line: &[u8],
+) -> Result<bool, Fail> {
     match refusal(alloc, keeper)? {
         Some((refusal, text)) => {
             let server = ServerNo(server);
@@ -103,7 +112,15 @@ fn what_was_saved_before_a_failure_stays(rt: HostRuntime) -> Result<(), Fail> {
     assert_eq!(rt; done, Err(KeepFailure::Failed));
     assert_eq!(rt; size(&keeper, "a.0"), Some(SIZE));
     assert_eq!(rt; size(&keeper, "a.1"), None);
-    assert!(rt; is_refused(rt.alloc(), &mut keeper, 1, Cause::Missing, b"refused: image 1 missing\n")?);
+    assert!(rt;
+        is_refused(
+            rt.alloc(),
+            &mut keeper,
+            1,
+            Cause::Missing,
+            b"refused: image 1 missing\n"
+        )?
+    );
     Ok(())
 }
 
@@ -117,7 +134,15 @@ fn the_first_that_is_refused_is_told(rt: HostRuntime) -> Result<(), Fail> {
     };
     // The image of server 0 in the place of that of server 1.
     assert_eq!(rt; keeper.save("a.1", &other), Ok(()));
-    assert!(rt; is_refused(alloc, &mut keeper, 1, Cause::Unsound(Unsound::Server), b"refused: image 1 unsound 1\n")?);
+    assert!(rt;
+        is_refused(
+            alloc,
+            &mut keeper,
+            1,
+            Cause::Unsound(Unsound::Server),
+            b"refused: image 1 unsound 1\n"
+        )?
+    );
     // And one whose digest isn't right, before it.
     let changed = with_last(alloc, &other, 0)?;
     let changed = if changed.as_slice() == other.as_slice() {
@@ -126,7 +151,15 @@ fn the_first_that_is_refused_is_told(rt: HostRuntime) -> Result<(), Fail> {
         changed
     };
     assert_eq!(rt; keeper.save("a.0", &changed), Ok(()));
-    assert!(rt; is_refused(alloc, &mut keeper, 0, Cause::Bad(BadImage::Digest), b"refused: image 0 bad 6\n")?);
+    assert!(rt;
+        is_refused(
+            alloc,
+            &mut keeper,
+            0,
+            Cause::Bad(BadImage::Digest),
+            b"refused: image 0 bad 6\n"
+        )?
+    );
     Ok(())
 }
 

@@ -160,11 +160,14 @@ module _ {S : Type 0} (device : S → DeviceState) (options : Options) (text : L
         told-of _ (IsPart options before.kept) (TookFront before.taken after.taken) text events (record { told = told; fits = fits }) a (ran.part failed).lines (part-holds device options before.kept stores b few events range _ (ran.part failed).part) (ran.part failed).took
 
     pub run-limit : after.kept ≡ before.kept → r ≡ Err runs.Limit → OutcomeOn options text before statuses.Limit after
-    run-limit stays is = λ left rf rf' told fits. (inr (
+    run-limit stays is = λ left rf rf' told fits. (
+      inr (
         options,
         refl,
         told-of _ (IsCutShort options before.kept) (Took before.taken after.taken) text events (record { told = told; fits = fits }) a (ran.limit is).lines (limit-holds device options before.kept stores b few events range _ (ran.limit is).limited) (ran.limit is).took,
-      ), stays)
+      ),
+      stays,
+    )
 
     pub run-write : after.kept ≡ before.kept → r ≡ Err runs.Write → OutcomeOn options text before statuses.Write after
     run-write stays is = λ left rf rf' told fits. (ran.rose is, OfReport (options, refl, part-told left rf rf' told fits (ap is_ok is)), stays)
@@ -194,9 +197,13 @@ module _ {S : Type 0} (device : S → DeviceState) (options : Options) (text : L
       by : (c : Option (List ℕ)) → options.closing ≡ c → (status : Status) → KeptWith device (items_of left) counts c before.kept faults status after.kept after.keep_faults → OutcomeOn options text before status after
       by None e status k = subst (λ (s : Status). OutcomeOn options text before s after) (sym k.0)
           (λ l rf rf' told fits. (options, refl, whole-told l rf rf' told fits (subst (λ (c : Option (List ℕ)). Keeps c before.kept b.setup whole.closing after.kept) (sym e) k.1)))
-      by (Some name) e statuses.Done k = λ l rf rf' told fits. (options, refl, whole-told l rf rf' told fits
-          (subst (λ (c : Option (List ℕ)). Keeps c before.kept b.setup whole.closing after.kept) (sym e)
-          (all-kept device options before.kept stores b few events range whole.closing (items_of left) counts as_many whole.gives counts_are name after.kept k)))
+      by (Some name) e statuses.Done k = λ l rf rf' told fits. (
+        options,
+        refl,
+        whole-told l rf rf' told fits
+            (subst (λ (c : Option (List ℕ)). Keeps c before.kept b.setup whole.closing after.kept) (sym e)
+            (all-kept device options before.kept stores b few events range whole.closing (items_of left) counts as_many whole.gives counts_are name after.kept k)),
+      )
       by (Some name) e statuses.Keep k = λ l rf rf' told fits. (rose_since before.keep_faults faults after.keep_faults since k.0 k.1, inr (options, refl, unkept-told l rf rf' told fits (first name e k.2)))
       by (Some name) e statuses.Memory k = λ l rf rf' told fits. inr (inr (options, refl, unkept-told l rf rf' told fits (first name e k)))
       by (Some name) e statuses.Words k = absurd k

@@ -89,11 +89,9 @@ fn seal(image: &mut Vec<u8>) {
     }
 }
 
-const EMPTY: &str =
-    "0: up s0 epoch 1\nend: down s0\nend: up s0 epoch 2\nend: commits 0\n";
+const EMPTY: &str = "0: up s0 epoch 1\nend: down s0\nend: up s0 epoch 2\nend: commits 0\n";
 
-const EMPTY_AGAIN: &str =
-    "0: up s0 epoch 3\nend: down s0\nend: up s0 epoch 4\nend: commits 0\n";
+const EMPTY_AGAIN: &str = "0: up s0 epoch 3\nend: down s0\nend: up s0 epoch 4\nend: commits 0\n";
 
 const EMPTY_TWO: &str =
     "0: up s0 epoch 1\n0: up s1 epoch 1\nend: down s0\nend: down s1\nend: up s0 epoch 2\nend: up s1 epoch 2\nend: commits 0\n";
@@ -124,7 +122,16 @@ fn what_a_run_leaves_another_begins_with(rt: HostRuntime) -> Result<(), Fail> {
 fn images_are_refused(rt: HostRuntime) -> Result<(), Fail> {
     let alloc = rt.alloc();
     let mut keeper = new_keeper(alloc, &[], &[])?;
-    assert!(rt; ends(alloc, &FROM_A, b"", &mut keeper, Status::Image, "refused: image 0 missing\n")?);
+    assert!(rt;
+        ends(
+            alloc,
+            &FROM_A,
+            b"",
+            &mut keeper,
+            Status::Image,
+            "refused: image 0 missing\n"
+        )?
+    );
     let mut image = first_image(alloc)?;
     assert!(rt; is_refused(alloc, &image[..SIZE - 1], "refused: image 0 bad 1\n")?);
     image.push(0)?;
@@ -160,6 +167,15 @@ fn the_last_epoch_is_used_up(rt: HostRuntime) -> Result<(), Fail> {
     let mut keeper = new_keeper(alloc, &[], &[])?;
     assert!(rt; keeper.save("a.0", &image).is_ok());
     let report = "0: up s0 epoch 4294967295\n1: down s0\n2: refused 45\n";
-    assert!(rt; ends(alloc, &FROM_A, b"crash 0\nrestart 0\n", &mut keeper, Status::Limit, report)?);
+    assert!(rt;
+        ends(
+            alloc,
+            &FROM_A,
+            b"crash 0\nrestart 0\n",
+            &mut keeper,
+            Status::Limit,
+            report
+        )?
+    );
     Ok(())
 }
