@@ -15,7 +15,7 @@ use Rattle.jn_records.specs.StablePages.{Counts, Pages, page_count, slot_place, 
 use Rattle.jn_store.specs.Pairs.{pairs_view}
 use Rattle.jn_found.specs.Images.{IsStoreOf, IsImage, image_on}
 use Rattle.jn_found.proofs.ImageStates.{files_agree, image_fresh}
-use Rattle.jn_disks.specs.Disks.{AreSound, image_of, files_in, IsStoreOfPages}
+use Rattle.jn_disks.specs.Disks.{AreSound, HasPages, image_of, files_in, IsStoreOfPages}
 
 -- an image with the same bytes, each page of which is good
 module _ (s server : ServerNo) (g : Counts) (good_one good_two : ℕ → Bool) (one two : Pages) (same : (p : ℕ) → p < 2 * page_count g → two p ≡ one p) (good : (p : ℕ) → p < 2 * page_count g → good_two p ≡ true) where
@@ -156,3 +156,33 @@ module _ (server : ServerNo) (g : Counts) (files : Files) (s : DeviceState) (ima
   pub closed_files : files_in g (take (2 * (s.count / 2)) halves) ≡ files
   closed_files = sym (files_agree g (image_on server g (pairs_view s)).bytes (λ p. (half_at (take (2 * (s.count / 2)) halves) p).bytes) image.fit.leaves image.sound.heads
       (λ p lt. sym (same_bytes p (omega (arith, lt))))) ∙ image.same_files
+
+-- ---- the pages themselves
+
+-- all pages of a disk of pairs
+pub all_pages : (halves : List Half) (s : DeviceState) → Holds halves s → 2 * (length halves / 2) ≡ length halves → HasPages halves s
+all_pages halves s holds even = record {
+  count = sym even ∙ ap (λ n. 2 * (n / 2)) holds.count;
+  good = λ p lt. holds.good p (subst (λ n. p < n) holds.count lt);
+  bytes = λ p lt. holds.bytes p (subst (λ n. p < n) holds.count lt);
+}
+
+-- without the last page, where it has no other half
+pub paired_pages : (halves : List Half) (s : DeviceState) → Holds halves s → HasPages (take (2 * (s.count / 2)) halves) s
+paired_pages halves s holds = record {
+  count = count;
+  good = λ p lt. holds.good p (inside p (below p lt)) ∙ sym (ap (λ (h : Half). h.good) (at p (below p lt)));
+  bytes = λ p lt. holds.bytes p (inside p (below p lt)) ∙ sym (ap (λ (h : Half). h.bytes) (at p (below p lt)));
+}
+  where
+    count : length (take (2 * (s.count / 2)) halves) ≡ 2 * (s.count / 2)
+    count = length-take-le (2 * (s.count / 2)) halves (let e = holds.count in omega (arith, e))
+
+    below : (p : ℕ) → p < length (take (2 * (s.count / 2)) halves) → p < 2 * (s.count / 2)
+    below p lt = subst (λ n. p < n) count lt
+
+    inside : (p : ℕ) → p < 2 * (s.count / 2) → p < s.count
+    inside p lt = omega (arith, lt)
+
+    at : (p : ℕ) → p < 2 * (s.count / 2) → half_at (take (2 * (s.count / 2)) halves) p ≡ half_at halves p
+    at p lt = get_or-take (2 * (s.count / 2)) halves p (record { good = false; bytes = [] }) lt

@@ -1,7 +1,7 @@
 -- A server's store in memory: how it starts, and what its pages are in the end.
-use Rattle.std.specs.Prelude.{◌≡◌, ◌<◌, ◌*◌, ◌^◌, ℕ, nat_eq, if◌then◌else◌, List, [], length, None}
+use Rattle.std.specs.Prelude.{◌≡◌, ◌<◌, ◌*◌, ◌/◌, ◌^◌, ℕ, nat_eq, if◌then◌else◌, List, [], length, None}
 use Rattle.jn_base.specs.declared.names.ServerNo.{ServerNo}
-use Rattle.jn_device.specs.Device.{blank_page}
+use Rattle.jn_device.specs.Device.{DeviceState, blank_page}
 use Rattle.jn_device.specs.declared.Half.{Half}
 use Rattle.jn_memdisk.specs.Pages.{half_at}
 use Rattle.jn_order.specs.Files.{Files}
@@ -55,3 +55,11 @@ files_in g halves = files_of_pages g (λ p. (half_at halves p).bytes)
 pub record IsStoreOfPages (server : ServerNo) (g : Counts) (halves : List Half) (v : StoreView) : Type 0 where
   pub fresh : (epoch : ℕ) → epoch < 2 ^ 32 → (half_at halves 0).bytes ≡ root_page (root_of (image_of server g halves) epoch) → IsFresh server g epoch (files_in g halves) v
   pub untouched : IsUntouched v
+
+-- ---- the pages themselves
+
+-- these are the disk's pages, two for each stable page: each is good or bad as it is there, with the bytes that it has there
+pub record HasPages (halves : List Half) (d : DeviceState) : Type 0 where
+  pub count : length halves ≡ 2 * (d.count / 2)
+  pub good : (p : ℕ) → p < length halves → (d.pages p).good ≡ (half_at halves p).good
+  pub bytes : (p : ℕ) → p < length halves → (d.pages p).bytes ≡ (half_at halves p).bytes

@@ -3,8 +3,9 @@
 
 ghost use Rattle.std.specs.Prelude.{◌≡◌, ◌+◌, ℕ, IfOk};
 ghost use Rattle.jn_base.specs.declared.names.ServerNo.{ServerNo};
-ghost use Rattle.jn_disks.specs.Disks.{IsNewStore, AreSound, IsStoreOfPages, files_in};
+ghost use Rattle.jn_disks.specs.Disks.{IsNewStore, AreSound, HasPages, IsStoreOfPages, files_in};
 ghost use Rattle.jn_found.specs.Images.{IsImage};
+ghost use Rattle.jn_memdisk.specs.Disk.{IsNew};
 ghost use Rattle.jn_order.specs.Files.{Files};
 ghost use Rattle.jn_records.specs.StablePages.{Counts, page_count};
 ghost use Rattle.jn_store.specs.Store.{IsBlank};
@@ -13,7 +14,7 @@ use jn_device::Half;
 use jn_memdisk::MemDisk;
 use jn_records::Root;
 use jn_stable::Pairs;
-use jn_store::StableStore;
+use jn_store::{Powered, StableStore};
 use std::alloc::{AllocError, Global};
 
 /// The store of a new server: zeros behind its root.
@@ -39,15 +40,18 @@ pub fn put_root<S: StableStore>(store: &mut S, root: Root)
 /// The store of a server that was closed, of its pages. Page p and page p + half of their number are halves of one.
 pub fn store_of_pages(alloc: Global, pages: Vec<Half>) -> Result<Pairs<MemDisk>, AllocError>
     requires sound { (server : ServerNo) × (g : Counts) × AreSound server g pages.items }
-    ensures { (server : ServerNo) (g : Counts) → AreSound server g pages.items → IfOk result (λ store. IsStoreOfPages server g pages.items (⟦<Pairs<MemDisk> as StableStore>⟧.view store)) }
+    ensures found { (server : ServerNo) (g : Counts) → AreSound server g pages.items → IfOk result (λ store. IsStoreOfPages server g pages.items (⟦<Pairs<MemDisk> as StableStore>⟧.view store)) }
+    ensures pages { IfOk result (λ store. HasPages pages.items (⟦<Pairs<MemDisk> as Powered>⟧.device store)) }
+    ensures new { IfOk result (λ store. IsNew (⟦<Pairs<MemDisk> as Powered>⟧.device store)) }
 {
     Ok(Pairs::new(MemDisk::from_pages(alloc, pages)?))
 }
 
 /// The pages of a store, good or bad, with the bytes that they keep.
 pub fn pages_of_store(store: Pairs<MemDisk>) -> Vec<Half>
-    ensures { (server : ServerNo) (g : Counts) (files : Files) → IsImage server g files (⟦<Pairs<MemDisk> as StableStore>⟧.view store) → page_count g ≡ (⟦<Pairs<MemDisk> as StableStore>⟧.view store).count
+    ensures sound { (server : ServerNo) (g : Counts) (files : Files) → IsImage server g files (⟦<Pairs<MemDisk> as StableStore>⟧.view store) → page_count g ≡ (⟦<Pairs<MemDisk> as StableStore>⟧.view store).count
         → AreSound server g result.items × (files_in g result.items ≡ files) }
+    ensures pages { HasPages result.items (⟦<Pairs<MemDisk> as Powered>⟧.device store) }
 {
     let count = 2 * store.count();
     let mut pages = store.into_inner().into_pages();

@@ -5,14 +5,14 @@ use Rattle.clap.specs.declared.error.Error.{Error}
 use Rattle.clap.specs.declared.error.kind.ErrorKind.TheVariants as kinds
 use Rattle.clap.specs.declared.parser.matches.ArgMatches.{ArgMatches}
 use Rattle.clap.proofs.OnLiterals.{clap_on_literals}
-use Rattle.jn_options.specs.Command.{program_app, run_app}
+use Rattle.jn_options.specs.Command.{program_app, run_app, trial_app}
 
 simple_and_free : is_simple_and_free program_app ≡ true
-unfolding clap_on_literals program_app run_app
+unfolding clap_on_literals program_app run_app trial_app
 simple_and_free = refl
 
 simple : is_simple program_app ≡ true
-unfolding clap_on_literals program_app run_app
+unfolding clap_on_literals program_app run_app trial_app
 simple = refl
 
 module _ (a : App) (is : a ≡ program_app) (words : List Text) where

@@ -1,2 +1,5 @@
 mod Commands
-mod Counts
+mod Found
+mod Limits
+mod NewDisks
+mod Numbers

@@ -11,10 +11,19 @@ valued name = record (new_rule name) { long = Some name }
 abbrev pub switch : Text → Rule
 switch name = record (new_rule name) { long = Some name; action = Some SetTrue }
 
+-- a value that is known by its place, and has to be there
+abbrev pub placed : Text → Rule
+placed name = record (new_rule name) { required = true }
+
 -- the command `run`, whose options are given at most once each, in any order
 unfoldable pub run_app : App
-run_app = with_rule (with_rule (with_rule (with_rule (with_rule (new_app (codes "run"))
-    (valued (codes "servers"))) (valued (codes "pool"))) (valued (codes "heads"))) (valued (codes "data"))) (switch (codes "trace"))
+run_app = with_rule (with_rule (with_rule (with_rule (with_rule (with_rule (with_rule (new_app (codes "run"))
+    (valued (codes "servers"))) (valued (codes "pool"))) (valued (codes "heads"))) (valued (codes "data")))
+    (valued (codes "in"))) (valued (codes "out"))) (switch (codes "trace"))
+
+-- the command `trial`, with its two numbers
+unfoldable pub trial_app : App
+trial_app = with_rule (with_rule (new_app (codes "trial")) (placed (codes "seed"))) (placed (codes "events"))
 
 -- a command that offers neither help nor a version
 abbrev pub without_help : App → App
@@ -22,4 +31,4 @@ without_help a = record a { top = record a.top { disable_help_flag = true; disab
 
 -- the program, whose next word is a command; what stands behind that is the command's
 unfoldable pub program_app : App
-program_app = with_subcommand (without_help (new_app (codes "juniper"))) run_app.top
+program_app = with_subcommand (with_subcommand (without_help (new_app (codes "juniper"))) run_app.top) trial_app.top

@@ -2,7 +2,7 @@
 ghost use Rattle.std.specs.Prelude.{◌≡◌, ◌≢◌, [], IfOk, MatchOption, false, map, string_bytes};
 ghost use Rattle.clap.specs.Words.{app_of, fault_of, rule_of, subcommand_of, subcommand_rows_of};
 ghost use Rattle.clap.specs.declared.builder.command.Command.TheViews.{out-Command};
-ghost use Rattle.jn_options.specs.Command.{program_app, run_app, switch, valued};
+ghost use Rattle.jn_options.specs.Command.{placed, program_app, run_app, switch, trial_app, valued};
 
 use clap::error::ErrorKind;
 use clap::{Arg, ArgAction, ArgMatches, Command};
@@ -33,10 +33,12 @@ fn program<'a>(alloc: Global) -> Result<Command<'a>, AllocError>
     ensures { IfOk result (λ command. app_of command ≡ program_app) }
 {
     let run = run_command(alloc)?;
+    let trial = trial_command(alloc)?;
     Command::new(alloc, "juniper")
         .disable_help_flag(true)
         .disable_help_subcommand(true)
-        .subcommand(run)
+        .subcommand(run)?
+        .subcommand(trial)
 }
 
 /// The command `run`.
@@ -49,7 +51,19 @@ fn run_command<'a>(alloc: Global) -> Result<Command<'a>, AllocError>
         .arg(valued_option(alloc, "pool"))?
         .arg(valued_option(alloc, "heads"))?
         .arg(valued_option(alloc, "data"))?
+        .arg(valued_option(alloc, "in"))?
+        .arg(valued_option(alloc, "out"))?
         .arg(switch_option(alloc, "trace"))
+}
+
+/// The command `trial`.
+fn trial_command<'a>(alloc: Global) -> Result<Command<'a>, AllocError>
+    ensures app { IfOk result (λ command. app_of command ≡ trial_app) }
+    ensures local { IfOk result (λ command. (out-Command command).has_globals ≡ false) }
+{
+    Command::new(alloc, "trial")
+        .arg(placed_value(alloc, "seed"))?
+        .arg(placed_value(alloc, "events"))
 }
 
 /// An option with one value.
@@ -66,4 +80,12 @@ fn switch_option<'a>(alloc: Global, name: &'a str) -> Arg<'a>
     ensures local { result.global ≡ false }
 {
     Arg::new(alloc, name).long(name).action(ArgAction::SetTrue)
+}
+
+/// A value that is known by its place, and has to be there.
+fn placed_value<'a>(alloc: Global, name: &'a str) -> Arg<'a>
+    ensures rule { rule_of result ≡ placed name.entry.now }
+    ensures local { result.global ≡ false }
+{
+    Arg::new(alloc, name).required(true)
 }

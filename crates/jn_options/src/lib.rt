@@ -1,18 +1,24 @@
-//! The words that the program is called with, as options.
+//! The words that the program is called with, as a command.
 //!
-//! They are the program's name, `run`, and options in any order: `--servers`, `--pool`, `--heads`
-//! and `--data`, each with a number, and `--trace`.
+//! They are the program's name and one of two commands. `run` has options in any order, each at most
+//! once: `--servers`, `--pool`, `--heads` and `--data`, each with a number, `--in` and `--out`, each
+//! with a name, and `--trace`. `trial` has two numbers, a seed and how many events there are.
 #![tactic(auto)]
 
+mod asked;
 mod command;
 mod laws;
-mod options;
+mod name;
 mod read;
 #[cfg(test)]
 mod tests;
 
+pub use asked::{Command, Geometry, Opening, Options, Trial};
 pub use laws::{
-    defaults_stand_alone, numbers_are_those_of_schedules, options_are_read, other_words_are_refused,
+    commands_are_within_limits, defaults_stand_alone, names_are_read,
+    numbers_are_those_of_schedules, options_are_read, other_names_are_refused,
+    other_trials_are_refused, other_words_are_refused, runs_without_names_are_on_new_disks,
+    trials_are_read,
 };
-pub use options::Options;
-pub use read::read_options;
+pub use name::Name;
+pub use read::read_command;

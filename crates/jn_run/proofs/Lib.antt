@@ -1,4 +1,4 @@
-pub mod New
+pub mod Opened
 pub mod Outcomes
 pub mod Told
 pub mod Lines

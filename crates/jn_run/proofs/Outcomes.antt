@@ -1,112 +1,218 @@
 -- What a call leaves, by its status.
-use Rattle.std.proofs.Common.{◌≡◌, inl, inr, ℕ, ◌≤◌, List, length, Option, Some, None, Result, Ok, Err, refl, sym, ap, subst, true, false, true≢false, ◌∙◌}
-use Rattle.std.specs.Prelude.{is_ok, Bool}
+use Rattle.std.proofs.Common.{◌≡◌, inl, inr, ℕ, ◌≤◌, ◌<◌, List, length, map, slice_get, Option, Some, None, Result, Ok, Err, refl, sym, ap, subst, true, false, true≢false, ◌∙◌, arith}
+use Rattle.std.proofs.lemmas.Option.{slice_get-map}
+use Rattle.std.specs.Prelude.{is_ok, Bool, option_map}
 use Rattle.std.specs.List.{AllByRecursion}
+use Rattle.jn_base.specs.declared.names.ServerNo.{ServerNo}
+use Rattle.jn_device.specs.Device.{DeviceState}
+use Rattle.jn_host.specs.Outside.{Contents, Rose}
+use Rattle.jn_host.proofs.Faults.{rose_since}
+use Rattle.jn_images.specs.Kept.{IsKept}
+use Rattle.jn_images.specs.Saved.{SavedTo}
+use Rattle.jn_images.specs.Texts.{refusal_text}
+use Rattle.jn_images.specs.declared.refusal.Refusal.{Refusal}
+use Rattle.jn_records.specs.StablePages.{Counts}
+use Rattle.jn_recovery.specs.Loading.{counts_by}
+use Rattle.jn_recovery.specs.declared.counts.PageCounts.{PageCounts}
 use Rattle.jn_schedule.specs.declared.Event.{Event}
 use Rattle.jn_schedule.specs.Ranges.{EventInRange}
-use Rattle.jn_schedule.specs.Grammar.{IsSchedule}
 use Rattle.jn_schedule.specs.Faults.{IsFirstFault}
-use Rattle.jn_options.specs.declared.options.Options.{Options}
+use Rattle.jn_headline.proofs.Joined.{whole-report, part-report, limited-report}
+use Rattle.jn_headline.specs.Headline.{IsTrueOfBegun}
+use Rattle.jn_ended.specs.Whole.{IsOfItsCommits}
+use Rattle.jn_options.specs.declared.asked.Options.{Options}
+use Rattle.jn_options.specs.declared.asked.Opening.TheVariants.{Images}
+use Rattle.jn_order.specs.Files.{AllFiles}
 use Rattle.jn_writing.specs.Writing.{Took, TookFront}
+use Rattle.jn_written.specs.Chances.{Setup}
 use Rattle.jn_written.specs.Devices.{Devices}
+use Rattle.jn_written.specs.Whole.{AreImages, IsWhole as IsWholeRun, IsLimited, IsPartOfRun}
+use Rattle.jn_report.specs.declared.line.Line.{Line}
+use Rattle.jn_report.specs.Text.{report_text}
 use Rattle.jn_run.specs.declared.status.Status.{Status}
 use Rattle.jn_run.specs.declared.status.Status.TheVariants as statuses
 use Rattle.jn_run.specs.declared.running.RunFault.{RunFault}
 use Rattle.jn_run.specs.declared.running.RunFault.TheVariants as runs
-use Rattle.jn_report.specs.declared.line.Line.{Line}
-use Rattle.jn_report.specs.Text.{report_text}
-use Rattle.jn_run.specs.Outcome.{Ran, Reads, OfWords, OfRefusal, OfReport, OutcomeOf, OutcomeOn, Outside, IsText, most_bytes, Refuses, RefusesWords, setup_of, AreNew, IsWhole, IsPart, IsCutShort, RanInPart}
-use Rattle.jn_run.specs.Running.{course_of, RunsFrom, Runs}
-use Rattle.jn_run.proofs.New.{whole-holds, part-holds, limit-holds}
+use Rattle.jn_run.specs.Keeping.{KeptWith}
+use Rattle.jn_run.specs.Outcome.{Accepted, AreKept, IsRefusedImage, Keeps, KeepsFirst, OfImage, OfRefusal, OfReport, OfWords, Opens, OutcomeOf, OutcomeOn, Outputs, Outside, IsText, most_bytes, Ran, Reads, Refuses, RefusesWords, refused_line, IsWhole, IsPart, IsCutShort, RanInPart, RanUnkept, RanWhole}
+use Rattle.jn_run.specs.Running.{course_of, AreLeft, RunsFrom, TookWhole}
+use Rattle.jn_run.proofs.Opened.{Opened, one-files, some-at}
 
 -- words that are refused
-pub words-outcome : (o : Outside) (status : Status) → RefusesWords o.taken o.write_faults status o.taken' o.write_faults' → OutcomeOf None o status
-words-outcome o statuses.Words took = (refl, took)
-words-outcome o statuses.Write wrote = (wrote.0, OfWords refl wrote.1)
-words-outcome o statuses.Done h = absurd h
-words-outcome o statuses.Schedule h = absurd h
-words-outcome o statuses.Image h = absurd h
-words-outcome o statuses.Read h = absurd h
-words-outcome o statuses.Keep h = absurd h
-words-outcome o statuses.Limit h = absurd h
-words-outcome o statuses.Memory h = absurd h
+pub words-outcome : (o : Outside) (status : Status) → RefusesWords o.taken o.write_faults status o.taken' o.write_faults' → o.kept' ≡ o.kept → OutcomeOf None o status
+words-outcome o statuses.Words took stays = (refl, took, stays)
+words-outcome o statuses.Write wrote stays = (wrote.0, OfWords refl wrote.1, stays)
+words-outcome o statuses.Done h stays = absurd h
+words-outcome o statuses.Schedule h stays = absurd h
+words-outcome o statuses.Image h stays = absurd h
+words-outcome o statuses.Read h stays = absurd h
+words-outcome o statuses.Keep h stays = absurd h
+words-outcome o statuses.Limit h stays = absurd h
+words-outcome o statuses.Memory h stays = absurd h
 
 -- a refused line
-pub refused-outcome : (options : Options) (text : List ℕ) (line number : ℕ) (taken : Option (List ℕ)) (faults : ℕ) (status : Status) (taken' : Option (List ℕ)) (faults' : ℕ) → IsFirstFault text line number
-    → Refuses line number taken faults status taken' faults' → OutcomeOn options text taken faults status taken' faults'
-refused-outcome options text line number taken faults statuses.Schedule taken' faults' is took =
-    λ left rf rf' told fits. (refl, record { text = text; reads = record { told = told; fits = fits }; line = line; number = number; refused = is; took = took })
-refused-outcome options text line number taken faults statuses.Write taken' faults' is wrote =
-    λ left rf rf' told fits. (wrote.0, OfRefusal refl (record { text = text; reads = record { told = told; fits = fits }; line = line; number = number; refused = is; took = wrote.1 }))
-refused-outcome options text line number taken faults statuses.Memory taken' faults' is same = λ left rf rf' told fits. inl same
-refused-outcome options text line number taken faults statuses.Done taken' faults' is h = absurd h
-refused-outcome options text line number taken faults statuses.Words taken' faults' is h = absurd h
-refused-outcome options text line number taken faults statuses.Image taken' faults' is h = absurd h
-refused-outcome options text line number taken faults statuses.Read taken' faults' is h = absurd h
-refused-outcome options text line number taken faults statuses.Keep taken' faults' is h = absurd h
-refused-outcome options text line number taken faults statuses.Limit taken' faults' is h = absurd h
+pub line-outcome : (options : Options) (text : List ℕ) (line number : ℕ) (before : Outputs) (status : Status) (after : Outputs) → IsFirstFault text line number → after.kept ≡ before.kept
+    → Refuses (refused_line line number) statuses.Schedule before.taken before.write_faults status after.taken after.write_faults → OutcomeOn options text before status after
+line-outcome options text line number before statuses.Schedule after is stays took =
+    λ left rf rf' told fits. (refl, record { text = text; reads = record { told = told; fits = fits }; line = line; number = number; refused = is; took = took.1 }, stays)
+line-outcome options text line number before statuses.Write after is stays wrote =
+    λ left rf rf' told fits. (wrote.0, OfRefusal refl (record { text = text; reads = record { told = told; fits = fits }; line = line; number = number; refused = is; took = wrote.1 }), stays)
+line-outcome options text line number before statuses.Memory after is stays same = λ left rf rf' told fits. inl (same, stays)
+line-outcome options text line number before statuses.Done after is stays h = absurd cc
+line-outcome options text line number before statuses.Words after is stays h = absurd cc
+line-outcome options text line number before statuses.Image after is stays h = absurd cc
+line-outcome options text line number before statuses.Read after is stays h = absurd cc
+line-outcome options text line number before statuses.Keep after is stays h = absurd cc
+line-outcome options text line number before statuses.Limit after is stays h = absurd cc
 
-err-is : (x : Result (Unit {0}) RunFault) (d e : RunFault) → x ≡ Err d → x ≡ Err e → d ≡ e
-err-is x d e is other = cc
+-- a refused image
+pub image-outcome : (options : Options) (text : List ℕ) (events : List Event) (r : Refusal) (before : Outputs) (status : Status) (after : Outputs) → Accepted text events → IsRefusedImage options before.kept r → after.kept ≡ before.kept
+    → Refuses (refusal_text r) statuses.Image before.taken before.write_faults status after.taken after.write_faults → OutcomeOn options text before status after
+image-outcome options text events r before statuses.Image after a is stays took =
+    λ left rf rf' told fits. ((options, refl, record { text = text; reads = record { told = told; fits = fits }; events = events; accepted = a; refusal = r; refused = is; took = took.1 }), stays)
+image-outcome options text events r before statuses.Write after a is stays wrote =
+    λ left rf rf' told fits. (wrote.0, OfImage (options, refl, record { text = text; reads = record { told = told; fits = fits }; events = events; accepted = a; refusal = r; refused = is; took = wrote.1 }), stays)
+image-outcome options text events r before statuses.Memory after a is stays same = λ left rf rf' told fits. inl (same, stays)
+image-outcome options text events r before statuses.Done after a is stays h = absurd cc
+image-outcome options text events r before statuses.Words after a is stays h = absurd cc
+image-outcome options text events r before statuses.Schedule after a is stays h = absurd cc
+image-outcome options text events r before statuses.Read after a is stays h = absurd cc
+image-outcome options text events r before statuses.Keep after a is stays h = absurd cc
+image-outcome options text events r before statuses.Limit after a is stays h = absurd cc
 
-no-limit : runs.Memory ≡ runs.Limit → ⊥
-no-limit h = cc
-
-no-write : runs.Memory ≡ runs.Write → ⊥
-no-write h = cc
+-- an image that wasn't loaded
+pub load-outcome : (options : Options) (text : List ℕ) (events : List Event) (before after : Outputs) → Accepted text events → after.taken ≡ before.taken → after.kept ≡ before.kept → Rose before.keep_faults after.keep_faults → (name : List ℕ) × (options.opening ≡ Images name)
+    → OutcomeOn options text before statuses.Keep after
+load-outcome options text events before after a same stays rose from =
+    λ left rf rf' told fits. (rose, inl ((options, refl, record { text = text; reads = record { told = told; fits = fits }; events = events; accepted = a; name = from.0; opening = from.1 }), same, stays))
 
 -- ---- what was told of a schedule that may be run
 
-pub record Accepted (text : List ℕ) (events : List Event) : Type 0 where
-  pub schedule : IsSchedule text events
-  pub few : length events ≤ 100000
-
 told-of : (o : Outside) (Holds : List Event → List Line → Type 0) (TookOf : List ℕ → Type 0) (text : List ℕ) (events : List Event) → Reads o text → Accepted text events → (lines : List Line) → Holds events lines → TookOf (report_text lines) → Ran o Holds TookOf
-told-of o Holds TookOf text events reads a lines holds took = record { text = text; reads = reads; events = events; schedule = a.schedule; few = a.few; lines = lines; holds = holds; took = took }
+told-of o Holds TookOf text events reads a lines holds took = record { text = text; reads = reads; events = events; accepted = a; lines = lines; holds = holds; took = took }
 
--- ---- a run
+-- ---- a run from its disks
 
-module _ (options : Options) (text : List ℕ) (events : List Event) (taken : Option (List ℕ)) (faults : ℕ) (r : Result (Unit {0}) RunFault) (taken' : Option (List ℕ)) (faults' : ℕ) (a : Accepted text events) (servers : options.servers ≤ 8) (range : AllByRecursion EventInRange events) (ran : Runs options events taken faults r taken' faults') where
-  pub run-done : is_ok r ≡ true → OutcomeOn options text taken faults statuses.Done taken' faults'
-  run-done ok = by ran
-    where
-      by : Runs options events taken faults r taken' faults' → OutcomeOn options text taken faults statuses.Done taken' faults'
-      by (inl none) = absurd (true≢false (sym ok ∙ ap is_ok none.0))
-      by (inr (images, new, from)) = λ left rf rf' told fits. (
+module _ {S : Type 0} (device : S → DeviceState) (options : Options) (kept : Option Contents) (stores : List (S × PageCounts)) (b : Opened device options kept stores) (few : options.servers ≤ 8) (events : List Event) (range : AllByRecursion EventInRange events) where
+  less : b.setup.servers ≤ 8
+  less = subst (λ (n : ℕ). n ≤ 8) (sym b.opens.servers) few
+
+  -- the files of the images are those that it begins with: both are found on the same pages
+  module _ (files : AllFiles) (epochs : ServerNo → ℕ) where
+    same-files : AreImages b.setup files epochs b.images → files ≡ b.files
+    same-files are = one-files b.setup files epochs b.files b.epochs b.images are b.are_images
+
+  abbrev whole-holds : (closing : Devices) (lines : List Line) → IsWholeRun b.setup events b.images closing lines → IsWhole options kept events lines
+  whole-holds closing lines run =
+      let of = whole-report b.setup events b.images less range closing lines run in
+      record {
+        setup = b.setup;
+        files = b.files;
+        images = b.images;
+        closing = closing;
+        opens = b.opens;
+        run = run;
+        commits = subst (λ (files : AllFiles). IsOfItsCommits files events lines) (same-files of.0 of.1 of.2) of.3;
+      }
+
+  part-holds : (lines : List Line) → IsPartOfRun b.setup events b.images lines → IsPart options kept events lines
+  part-holds lines run =
+      let of = part-report b.setup events b.images less range lines run in
+      record { setup = b.setup; files = b.files; images = b.images; opens = b.opens; run = run; commits = subst (λ (files : AllFiles). IsTrueOfBegun files events run.now.state.course.world.event lines) (same-files of.0 of.1 of.2) of.3 }
+
+  limit-holds : (lines : List Line) → IsLimited b.setup events b.images lines → IsCutShort options kept events lines
+  limit-holds lines run =
+      let of = limited-report b.setup events b.images less range lines run in
+      record { setup = b.setup; files = b.files; images = b.images; opens = b.opens; run = run; commits = subst (λ (files : AllFiles). IsTrueOfBegun files events run.last.state.course.world.event lines) (same-files of.0 of.1 of.2) of.3 }
+
+  -- ---- what is kept of it
+
+  module _ (closing : Devices) (left : List S) (counts : List PageCounts) (as_many : length left ≡ length stores) (theirs : AreLeft device left closing) (counts_are : counts ≡ map (λ (x : S × PageCounts). x.1) stores) where
+    -- the first n stores are kept, so the first n disks are
+    disks-kept : (name : List ℕ) (n : ℕ) (kept' : Option Contents) → n ≤ length left → SavedTo device name left counts n kept kept' → AreKept kept name n b.setup closing kept'
+    disks-kept name n kept' fit saved = record {
+      disks = λ q lt.
+          let (s, at) = some-at left q.0 (omega (arith, lt, fit)) in
+          let (x, there) = some-at stores q.0 (subst (λ (k : ℕ). q.0 < k) as_many (omega (arith, lt, fit))) in
+          let its = ap (λ (xs : List PageCounts). slice_get xs q.0) counts_are ∙ slice_get-map (λ (x : S × PageCounts). x.1) stores q.0 ∙ ap (λ (y : Option (S × PageCounts)). option_map (λ (x : S × PageCounts). x.1) y) there in
+          let is = saved.are_kept q s x.1 lt at its in
+          subst (λ (d : DeviceState). IsKept kept' name (b.setup.counts q) q d) (sym (theirs q.0 s at))
+          (subst (λ (g : Counts). IsKept kept' name g q (device s)) (sym (b.stores_are.counts q.0 x there)) is);
+      others = saved.stay;
+    }
+
+    servers-are : b.setup.servers ≡ length left
+    servers-are = sym (as_many ∙ b.stores_are.servers)
+
+    all-kept : (name : List ℕ) (kept' : Option Contents) → SavedTo device name left counts (length left) kept kept' → AreKept kept name b.setup.servers b.setup closing kept'
+    all-kept name kept' h = subst (λ (n : ℕ). AreKept kept name n b.setup closing kept') (sym servers-are) (disks-kept name (length left) kept' (omega arith) h)
+
+    first-kept : (name : List ℕ) (kept' : Option Contents) → (n : ℕ) × (n < length left) × SavedTo device name left counts n kept kept' → KeepsFirst (Some name) kept b.setup closing kept'
+    first-kept name kept' h = (h.0, subst (λ (k : ℕ). h.0 < k) (sym servers-are) h.1, disks-kept name h.0 kept' (omega (arith, h.1)) h.2)
+
+-- ---- its outcome
+
+module _ {S : Type 0} (device : S → DeviceState) (options : Options) (text : List ℕ) (events : List Event) (before after : Outputs) (stores : List (S × PageCounts)) (b : Opened device options before.kept stores) (a : Accepted text events) (few : options.servers ≤ 8) (range : AllByRecursion EventInRange events) where
+  module _ {A : Type 0} (items_of : A → List S) (r : Result A RunFault) (ran : RunsFrom (course_of b.setup events b.images before.taken before.write_faults) (λ (left : A). AreLeft device (items_of left)) r after.taken after.write_faults) where
+    part-told : (left : Option (List ℕ)) (rf rf' : ℕ) → IsText left text → length text ≤ most_bytes → is_ok r ≡ false
+        → RanInPart (record { left = left; read_faults = rf; read_faults' = rf'; taken = before.taken; taken' = after.taken; write_faults = before.write_faults; write_faults' = after.write_faults; kept = before.kept; kept' = after.kept; keep_faults = before.keep_faults; keep_faults' = after.keep_faults }) options
+    part-told left rf rf' told fits failed =
+        told-of _ (IsPart options before.kept) (TookFront before.taken after.taken) text events (record { told = told; fits = fits }) a (ran.part failed).lines (part-holds device options before.kept stores b few events range _ (ran.part failed).part) (ran.part failed).took
+
+    pub run-limit : after.kept ≡ before.kept → r ≡ Err runs.Limit → OutcomeOn options text before statuses.Limit after
+    run-limit stays is = λ left rf rf' told fits. (
+      inr (
         options,
         refl,
-        told-of _ (IsWhole options) (Took taken taken') text events (record { told = told; fits = fits }) a (from.whole ok).lines (whole-holds options images new events servers range _ _ (from.whole ok).whole) (from.whole ok).took,
-      )
+        told-of _ (IsCutShort options before.kept) (Took before.taken after.taken) text events (record { told = told; fits = fits }) a (ran.limit is).lines (limit-holds device options before.kept stores b few events range _ (ran.limit is).limited) (ran.limit is).took,
+      ),
+      stays,
+    )
 
-  pub run-limit : r ≡ Err runs.Limit → OutcomeOn options text taken faults statuses.Limit taken' faults'
-  run-limit is = by ran
-    where
-      by : Runs options events taken faults r taken' faults' → OutcomeOn options text taken faults statuses.Limit taken' faults'
-      by (inl none) = absurd (no-limit (err-is r runs.Memory runs.Limit none.0 is))
-      by (inr (images, new, from)) = λ left rf rf' told fits. inr (
+    pub run-write : after.kept ≡ before.kept → r ≡ Err runs.Write → OutcomeOn options text before statuses.Write after
+    run-write stays is = λ left rf rf' told fits. (ran.rose is, OfReport (options, refl, part-told left rf rf' told fits (ap is_ok is)), stays)
+
+    pub run-memory : after.kept ≡ before.kept → r ≡ Err runs.Memory → OutcomeOn options text before statuses.Memory after
+    run-memory stays is = λ left rf rf' told fits. inr (inl ((options, refl, part-told left rf rf' told fits (ap is_ok is)), stays))
+
+    module _ (left : A) (is : r ≡ Ok left) (counts : List PageCounts) (as_many : length (items_of left) ≡ length stores) (counts_are : counts ≡ map (λ (x : S × PageCounts). x.1) stores) (faults : ℕ) (since : before.keep_faults ≤ faults) where
+      abbrev whole : TookWhole (course_of b.setup events b.images before.taken before.write_faults) (AreLeft device (items_of left)) after.taken
+      whole = ran.whole left is
+
+      abbrev w : IsWhole options before.kept events whole.lines
+      w = whole-holds device options before.kept stores b few events range whole.closing whole.lines whole.whole
+
+      abbrev around : Option (List ℕ) → ℕ → ℕ → Outside
+      around l rf rf' = record { left = l; read_faults = rf; read_faults' = rf'; taken = before.taken; taken' = after.taken; write_faults = before.write_faults; write_faults' = after.write_faults; kept = before.kept; kept' = after.kept; keep_faults = before.keep_faults; keep_faults' = after.keep_faults }
+
+      whole-told : (l : Option (List ℕ)) (rf rf' : ℕ) → IsText l text → length text ≤ most_bytes → Keeps options.closing before.kept b.setup whole.closing after.kept → RanWhole (around l rf rf') options
+      whole-told l rf rf' told fits keeps = told-of _ _ (Took before.taken after.taken) text events (record { told = told; fits = fits }) a whole.lines (w, keeps) whole.took
+
+      unkept-told : (l : Option (List ℕ)) (rf rf' : ℕ) → IsText l text → length text ≤ most_bytes → KeepsFirst options.closing before.kept b.setup whole.closing after.kept → RanUnkept (around l rf rf') options
+      unkept-told l rf rf' told fits keeps = told-of _ _ (Took before.taken after.taken) text events (record { told = told; fits = fits }) a whole.lines (w, keeps) whole.took
+
+      first : (name : List ℕ) → options.closing ≡ Some name → (n : ℕ) × (n < length (items_of left)) × SavedTo device name (items_of left) counts n before.kept after.kept → KeepsFirst options.closing before.kept b.setup whole.closing after.kept
+      first name e h = subst (λ (c : Option (List ℕ)). KeepsFirst c before.kept b.setup whole.closing after.kept) (sym e) (first-kept device options before.kept stores b few events range whole.closing (items_of left) counts as_many whole.gives counts_are name after.kept h)
+
+      by : (c : Option (List ℕ)) → options.closing ≡ c → (status : Status) → KeptWith device (items_of left) counts c before.kept faults status after.kept after.keep_faults → OutcomeOn options text before status after
+      by None e status k = subst (λ (s : Status). OutcomeOn options text before s after) (sym k.0)
+          (λ l rf rf' told fits. (options, refl, whole-told l rf rf' told fits (subst (λ (c : Option (List ℕ)). Keeps c before.kept b.setup whole.closing after.kept) (sym e) k.1)))
+      by (Some name) e statuses.Done k = λ l rf rf' told fits. (
         options,
         refl,
-        told-of _ (IsCutShort options) (Took taken taken') text events (record { told = told; fits = fits }) a (from.limit is).lines (limit-holds options images new events servers range _ (from.limit is).limited) (from.limit is).took,
+        whole-told l rf rf' told fits
+            (subst (λ (c : Option (List ℕ)). Keeps c before.kept b.setup whole.closing after.kept) (sym e)
+            (all-kept device options before.kept stores b few events range whole.closing (items_of left) counts as_many whole.gives counts_are name after.kept k)),
       )
+      by (Some name) e statuses.Keep k = λ l rf rf' told fits. (rose_since before.keep_faults faults after.keep_faults since k.0 k.1, inr (options, refl, unkept-told l rf rf' told fits (first name e k.2)))
+      by (Some name) e statuses.Memory k = λ l rf rf' told fits. inr (inr (options, refl, unkept-told l rf rf' told fits (first name e k)))
+      by (Some name) e statuses.Words k = absurd k
+      by (Some name) e statuses.Schedule k = absurd k
+      by (Some name) e statuses.Image k = absurd k
+      by (Some name) e statuses.Read k = absurd k
+      by (Some name) e statuses.Write k = absurd k
+      by (Some name) e statuses.Limit k = absurd k
 
-  part-told : is_ok r ≡ false → (left : Option (List ℕ)) (rf rf' : ℕ) → IsText left text → length text ≤ most_bytes → (images : Devices) → AreNew options images → RunsFrom (course_of options events images taken faults) r taken' faults'
-      → RanInPart (record { left = left; read_faults = rf; read_faults' = rf'; taken = taken; taken' = taken'; write_faults = faults; write_faults' = faults' }) options
-  part-told failed left rf rf' told fits images new from =
-      told-of _ (IsPart options) (TookFront taken taken') text events (record { told = told; fits = fits }) a (from.part failed).lines (part-holds options images new events servers range _ (from.part failed).part) (from.part failed).took
-
-  pub run-write : r ≡ Err runs.Write → OutcomeOn options text taken faults statuses.Write taken' faults'
-  run-write is = by ran
-    where
-      by : Runs options events taken faults r taken' faults' → OutcomeOn options text taken faults statuses.Write taken' faults'
-      by (inl none) = absurd (no-write (err-is r runs.Memory runs.Write none.0 is))
-      by (inr (images, new, from)) = λ left rf rf' told fits. (
-        from.rose is,
-        OfReport (options, refl, part-told (ap is_ok is) left rf rf' told fits images new from),
-      )
-
-  pub run-memory : r ≡ Err runs.Memory → OutcomeOn options text taken faults statuses.Memory taken' faults'
-  run-memory is = by ran
-    where
-      by : Runs options events taken faults r taken' faults' → OutcomeOn options text taken faults statuses.Memory taken' faults'
-      by (inl none) = λ left rf rf' told fits. inl none.1
-      by (inr (images, new, from)) = λ left rf rf' told fits. inr (options, refl, part-told (ap is_ok is) left rf rf' told fits images new from)
+      -- it was done, and then its disks were to be kept
+      pub run-kept : (status : Status) → KeptWith device (items_of left) counts options.closing before.kept faults status after.kept after.keep_faults → OutcomeOn options text before status after
+      run-kept status k = by options.closing refl status k

@@ -1,14 +1,21 @@
--- The stores of new servers, one after another.
-use Rattle.std.proofs.Common.{◌≡◌, ℕ, zero, suc, ◌+◌, ◌<◌, ◌≤◌, Bool, true, false, List, [], ◌∷◌, ◌++◌, length, slice_get, Some, None, refl, sym, ◌∙◌, subst, arith}
+-- The stores of servers, one after another.
+use Rattle.std.proofs.Common.{◌≡◌, ℕ, zero, suc, ◌+◌, ◌<◌, ◌≤◌, Bool, true, false, List, [], ◌∷◌, ◌++◌, length, slice_get, Option, Some, None, refl, sym, ◌∙◌, subst, arith}
 use Rattle.std.specs.Prelude.{nat_lt}
-use Rattle.jn_options.specs.declared.options.Options.{Options}
+use Rattle.jn_base.specs.declared.names.ServerNo.{ServerNo}
+use Rattle.jn_images.specs.Examined.{IsStoreOf, AreStoresOf}
+use Rattle.jn_options.specs.declared.asked.Geometry.{Geometry}
+use Rattle.jn_records.specs.Sound.{HasRoot}
+use Rattle.jn_records.specs.StablePages.{Counts}
+use Rattle.jn_disks.specs.Disks.{image_of}
+use Rattle.jn_recovery.specs.Loading.{counts_by}
 use Rattle.jn_device.specs.Device.{DeviceState}
 use Rattle.jn_memdisk.specs.declared.disk.MemDisk.{MemDisk}
 use Rattle.jn_recovery.specs.declared.counts.PageCounts.{PageCounts}
 use Rattle.jn_store.specs.Pairs.{pairs_view}
 use Rattle.jn_store.specs.Store.{StoreView}
 use Rattle.jn_world.specs.Standing.{AreStores}
-use Rattle.jn_run.specs.Running.{IsStore, IsDisk, AreDisks}
+use Rattle.jn_run.specs.Opening.{IsDisk, AreDisks}
+use Rattle.jn_run.specs.Running.{IsStore}
 
 -- a place in front of what is added, and the one that is added
 get-front : {A : Type 0} (xs ys : List A) (n : ℕ) → n < length xs → slice_get (xs ++ ys) n ≡ slice_get xs n
@@ -41,14 +48,32 @@ one-more-store see n [] x h is = let here = at-place see x (n + 0) n (omega arit
 one-more-store see n (y ∷ xs) x h is = (h.0, h.1, one-more-store see (n + 1) xs x h.2 (at-place see x (n + suc (length xs)) (n + 1 + length xs) (omega arith) is))
 
 -- one more new disk
-pub one-more-disk : {S : Type 0} (see : S → StoreView) (o : Options) (xs : List (S × PageCounts)) (x : S × PageCounts) → AreDisks see o xs → IsDisk see o (length xs) x → AreDisks see o (xs ++ x ∷ [])
-one-more-disk {S} see o xs x h is n y at = by (nat_lt n (length xs)) refl
+pub one-more-disk : {S : Type 0} (see : S → StoreView) (g : Geometry) (xs : List (S × PageCounts)) (x : S × PageCounts) → AreDisks see g xs → IsDisk see g (length xs) x → AreDisks see g (xs ++ x ∷ [])
+one-more-disk {S} see g xs x h is n y at = by (nat_lt n (length xs)) refl
   where
     some : (a b : S × PageCounts) → Some a ≡ Some b → a ≡ b
     some a b e = cc
 
-    by : (b : Bool) → nat_lt n (length xs) ≡ b → IsDisk see o n y
+    by : (b : Bool) → nat_lt n (length xs) ≡ b → IsDisk see g n y
     by true lt = h n y (sym (get-front xs (x ∷ []) n (grind (arith, lt))) ∙ at)
     by false ge =
         let here = at-end xs x n y (grind (arith, ge)) at in
-        subst (λ (k : ℕ). IsDisk see o k y) (sym here.0) (subst (λ (z : S × PageCounts). IsDisk see o (length xs) z) (some x y (sym here.1)) is)
+        subst (λ (k : ℕ). IsDisk see g k y) (sym here.0) (subst (λ (z : S × PageCounts). IsDisk see g (length xs) z) (some x y (sym here.1)) is)
+
+-- ---- the stores of images
+
+pub all-stores : {S : Type 0} (see : S → StoreView) (n : ℕ) (xs : List (S × PageCounts)) → ((k : ℕ) (x : S × PageCounts) → slice_get xs k ≡ Some x → IsStore see (n + k) x) → AreStores see n xs
+all-stores see n [] h = tt
+all-stores see n (x ∷ xs) h = let here = at-place see x (n + 0) n (omega arith) (h 0 x refl) in
+    (here.0, here.1, all-stores see (n + 1) xs (λ k y at. at-place see y (n + suc k) (n + 1 + k) (omega arith) (h (suc k) y at)))
+
+store-is : {S : Type 0} (see : S → StoreView) (dev : S → DeviceState) (q : ServerNo) (content : Option (List ℕ)) (x : S × PageCounts) → IsStoreOf see dev q content x → IsStore see q.0 x
+store-is see dev q content x s =
+    let root = subst (λ (g : Counts). HasRoot (image_of q g s.disk.image.pages)) s.disk.counts s.disk.is_sound.sound.pages_are.sound.root in
+    ((s.store.fresh root.0 root.1 root.2).recoverable, s.store.untouched.told)
+
+zero-more : (n : ℕ) → n ≡ 0 + n
+zero-more n = omega arith
+
+pub stores-of-images : {S : Type 0} (see : S → StoreView) (dev : S → DeviceState) (found : ℕ → Option (List ℕ)) (xs : List (S × PageCounts)) → AreStoresOf see dev found xs → AreStores see 0 xs
+stores-of-images see dev found xs are = all-stores see 0 xs (λ k x at. at-place see x k (0 + k) (zero-more k) (store-is see dev (record { 0 = k }) (found k) x (are k x at)))

@@ -26,10 +26,11 @@ use Rattle.jn_stands.specs.Stands.{Standing, Stands}
 use Rattle.jn_stands.specs.Going.{WentOn, WasCut}
 use Rattle.jn_world.specs.declared.ended.Ended.{Ended}
 use Rattle.jn_world.specs.declared.ended.Ended.TheVariants.{Messages, Epoch, Memory}
-use Rattle.jn_world.specs.Written.{standing_of, GoesTo, StartsAt, Closes}
+use Rattle.jn_world.specs.Written.{standing_of, GoesTo, StartsAt, Closes, IsClosed}
+use Rattle.jn_written.specs.Devices.{Devices}
 use Rattle.jn_run.specs.declared.running.RunFault.{RunFault}
 use Rattle.jn_run.specs.declared.running.RunFault.TheVariants as runs
-use Rattle.jn_run.specs.Running.{Course, HasTold, StandsBefore, TookLimited, TookPart, ToldTo, Reaches, RunsFrom, TookWhole, Wrote, lines_kept, is_limit}
+use Rattle.jn_run.specs.Running.{Course, AreLeft, HasTold, StandsBefore, TookLimited, TookPart, ToldTo, Reaches, RunsFrom, TookWhole, Wrote, lines_kept, is_limit}
 
 -- a run that goes on from where it is
 pub further : (c : Course) (m last : Moment) → IsWritten c.setup c.schedule c.images m → Leads c.setup m last → IsWritten c.setup c.schedule c.images last
@@ -148,10 +149,10 @@ event-number look device c n taken faults rest w told stands =
     no-cut h = cc
 
 -- a call whose fault is handed on
-pub faulted : {A : Type 0} (c : Course) (Then : A → Moment → Type 0) (r : Result A RunFault) (s : Result (Unit {0}) RunFault) (e : RunFault) (taken : Option (List ℕ)) (faults : ℕ) → r ≡ Err e → s ≡ Err e → Reaches c Then r taken faults → RunsFrom c s taken faults
-faulted c Then r s e taken faults is same one = record {
+pub faulted : {A B : Type 0} (c : Course) (Then : A → Moment → Type 0) (Gives : B → Devices → Type 0) (r : Result A RunFault) (s : Result B RunFault) (e : RunFault) (taken : Option (List ℕ)) (faults : ℕ) → r ≡ Err e → s ≡ Err e → Reaches c Then r taken faults → RunsFrom c Gives s taken faults
+faulted c Then Gives r s e taken faults is same one = record {
   count = one.count;
-  whole = λ ok. absurd (true≢false (sym ok ∙ ap is_ok same));
+  whole = λ b ok. absurd (true≢false (sym (ap is_ok ok) ∙ ap is_ok same));
   limit = λ limit. one.limit (is ∙ ap (λ x. Err x) (fault-is s e same runs.Limit limit));
   part = λ no. one.part (ap is_ok is);
   rose = λ write. one.rose (is ∙ ap (λ x. Err x) (fault-is s e same runs.Write write));
@@ -181,14 +182,6 @@ told-there c Then r u taken faults is one = one.whole u is
 
 -- ---- the end
 
--- where the last call ended
-pub record EndsSo {A : Type 0} (c : Course) (r : Result A RunFault) (taken : Option (List ℕ)) (faults : ℕ) : Type 0 where
-  pub count : c.faults ≤ faults
-  pub whole : (a : A) → r ≡ Ok a → TookWhole c taken
-  pub limit : r ≡ Err runs.Limit → TookLimited c taken
-  pub part : is_ok r ≡ false → TookPart c taken
-  pub rose : r ≡ Err runs.Write → Rose c.faults faults
-
 module _ {S A : Type 0} (device : S → DeviceState) (items_of : A → List S) (c : Course) (m : Moment) (taken taken' : Option (List ℕ)) (faults faults' : ℕ) (told : HasTold c m taken faults) (lines : List Line) where
   closed-came : (done : Result A Ended) → Closes device items_of c.setup m done [] lines → Came c m taken taken' faults faults' told done lines
   closed-came (Ok stores) closed = record { last = closed.last; leads = closed.leads; lines_are = new-lines m.state.lines closed.told.new lines closed.last.state.lines closed.told.here closed.told.there }
@@ -196,16 +189,20 @@ module _ {S A : Type 0} (device : S → DeviceState) (items_of : A → List S) (
   closed-came (Err (Epoch q)) cut = record { last = cut.last; leads = cut.leads; lines_are = new-lines m.state.lines cut.told.new lines cut.last.state.lines cut.told.here cut.told.there }
   closed-came (Err Memory) none = record { last = m; leads = Rattle.jn_written.specs.Runs.none m; lines_are = sym (append-nil m.state.lines) }
 
-  closed-whole : (done : Result A Ended) → Closes device items_of c.setup m done [] lines → (a : A) → done ≡ Ok a → Took taken taken' (report_text lines) → TookWhole c taken'
-  closed-whole (Ok stores) closed a is took =
+  closed-whole : (stores : A) → IsClosed device c.setup m (items_of stores) [] lines → Took taken taken' (report_text lines) → TookWhole c (AreLeft device (items_of stores)) taken'
+  closed-whole stores closed took =
       let lines_are = new-lines m.state.lines closed.told.new lines closed.last.state.lines closed.told.here closed.told.there in
       record {
         closing = closed.last.devices;
+        gives = closed.devices;
         lines = closed.last.state.lines;
         whole = record { last = closed.last; written = further c m closed.last told.written closed.leads; stage = closed.stage; tasks = closed.tasks; closing_is = refl; lines_are = refl };
         took = all-taken c m taken taken' faults faults' told closed.last lines lines_are took;
       }
-  closed-whole (Err e) closed a is took = absurd (true≢false (sym (ap is_ok is)))
+
+  closed-so : (done : Result A Ended) → Closes device items_of c.setup m done [] lines → (a : A) → done ≡ Ok a → IsClosed device c.setup m (items_of a) [] lines
+  closed-so (Ok stores) closed a is = subst (λ (b : A). IsClosed device c.setup m (items_of b) [] lines) (some-ok stores a is) closed
+  closed-so (Err e) closed a is = absurd (true≢false (sym (ap is_ok is)))
 
   closed-limit : (done : Result A Ended) → Closes device items_of c.setup m done [] lines → is_limit done → Took taken taken' (report_text lines) → TookLimited c taken'
   closed-limit (Ok stores) closed limit took = absurd limit
@@ -213,39 +210,57 @@ module _ {S A : Type 0} (device : S → DeviceState) (items_of : A → List S) (
   closed-limit (Err Messages) cut limit took = limit-taken c m taken taken' faults faults' told cut.last lines cut.leads cut.stage (new-lines m.state.lines cut.told.new lines cut.last.state.lines cut.told.here cut.told.there) took
   closed-limit (Err (Epoch q)) cut limit took = limit-taken c m taken taken' faults faults' told cut.last lines cut.leads cut.stage (new-lines m.state.lines cut.told.new lines cut.last.state.lines cut.told.here cut.told.there) took
 
-  pub closed-ends : (done : Result A Ended) (answer : Result A RunFault) → Closes device items_of c.setup m done [] lines → Wrote done lines taken faults answer taken' faults' → EndsSo c answer taken' faults'
+  pub closed-ends : (done : Result A Ended) (answer : Result A RunFault) → Closes device items_of c.setup m done [] lines → Wrote done lines taken faults answer taken' faults' → RunsFrom c (λ (a : A). AreLeft device (items_of a)) answer taken' faults'
   closed-ends done answer closed wrote = record {
     count = omega (arith, told.count, wrote.count);
-    whole = λ a is. closed-whole done closed a (wrote.whole a is).0 (wrote.whole a is).1;
+    whole = λ a is. closed-whole a (closed-so done closed a (wrote.whole a is).0) (wrote.whole a is).1;
     limit = λ is. closed-limit done closed (wrote.limit is).0 (wrote.limit is).1;
     part = λ no. part-taken c m taken taken' faults faults' told done lines (closed-came done closed) (wrote.part no);
     rose = λ is. rose_since c.faults faults faults' told.count wrote.count (wrote.rose is);
   }
 
 pub closed-told : {S A : Type 0} (device : S → DeviceState) (items_of : A → List S) (c : Course) (m : Moment) (taken taken' : Option (List ℕ)) (faults faults' : ℕ) (told : HasTold c m taken faults) (done : Result A Ended) (old lines kept : List Line) (answer : Result A RunFault)
-    → Closes device items_of c.setup m done old lines → old ≡ [] → kept ≡ lines → Wrote done kept taken faults answer taken' faults' → EndsSo c answer taken' faults'
+    → Closes device items_of c.setup m done old lines → old ≡ [] → kept ≡ lines → Wrote done kept taken faults answer taken' faults' → RunsFrom c (λ (a : A). AreLeft device (items_of a)) answer taken' faults'
 closed-told device items_of c m taken taken' faults faults' told done old lines kept answer closes empty same wrote =
     closed-ends device items_of c m taken taken' faults faults' told lines done answer
     (subst (λ (ls : List Line). Closes device items_of c.setup m done ls lines) empty closes)
     (subst (λ (ls : List Line). Wrote done ls taken faults answer taken' faults') same wrote)
 
-pub ends-well : {A : Type 0} (c : Course) (r : Result A RunFault) (a : A) (taken : Option (List ℕ)) (faults : ℕ) → r ≡ Ok a → EndsSo c r taken faults → RunsFrom c (Ok tt) taken faults
-ends-well c r a taken faults is ends = record {
+-- a run whose fault is handed on
+pub faulted-run : {A B : Type 0} (c : Course) (Gives : A → Devices → Type 0) (Other : B → Devices → Type 0) (r : Result A RunFault) (s : Result B RunFault) (e : RunFault) (taken : Option (List ℕ)) (faults : ℕ) → r ≡ Err e → s ≡ Err e → RunsFrom c Gives r taken faults → RunsFrom c Other s taken faults
+faulted-run c Gives Other r s e taken faults is same ends = record {
   count = ends.count;
-  whole = λ ok. ends.whole a is;
-  limit = λ limit. absurd (true≢false (ap is_ok limit));
-  part = λ no. absurd (true≢false no);
-  rose = λ write. absurd (true≢false (ap is_ok write));
-}
-
-pub ends-ill : {A : Type 0} (c : Course) (r : Result A RunFault) (s : Result (Unit {0}) RunFault) (e : RunFault) (taken : Option (List ℕ)) (faults : ℕ) → r ≡ Err e → s ≡ Err e → EndsSo c r taken faults → RunsFrom c s taken faults
-ends-ill c r s e taken faults is same ends = record {
-  count = ends.count;
-  whole = λ ok. absurd (true≢false (sym ok ∙ ap is_ok same));
+  whole = λ a ok. absurd (true≢false (sym (ap is_ok ok) ∙ ap is_ok same));
   limit = λ limit. ends.limit (is ∙ ap (λ x. Err x) (fault-is s e same runs.Limit limit));
   part = λ no. ends.part (ap is_ok is);
   rose = λ write. ends.rose (is ∙ ap (λ x. Err x) (fault-is s e same runs.Write write));
 }
+
+-- one that was done, and then cut off for want of memory
+pub cut-after : {A B : Type 0} (c : Course) (Gives : A → Devices → Type 0) (Other : B → Devices → Type 0) (r : Result A RunFault) (a : A) (s : Result B RunFault) (taken : Option (List ℕ)) (faults : ℕ) → r ≡ Ok a → s ≡ Err runs.Memory → RunsFrom c Gives r taken faults → RunsFrom c Other s taken faults
+cut-after c Gives Other r a s taken faults is same ran =
+    let whole = ran.whole a is in
+    record {
+      count = ran.count;
+      whole = λ b ok. absurd (true≢false (sym (ap is_ok ok) ∙ ap is_ok same));
+      limit = λ limit. absurd (no-limit (fault-is s runs.Memory same runs.Limit limit));
+      part = λ no. record {
+        lines = whole.lines;
+        part = record { now = whole.whole.last; written = whole.whole.written; lines_are = whole.whole.lines_are };
+        took = front-all c.taken taken (report_text whole.lines) whole.took;
+      };
+      rose = λ write. absurd (no-write (fault-is s runs.Memory same runs.Write write));
+    }
+  where
+    no-limit : runs.Memory ≡ runs.Limit → ⊥
+    no-limit h = cc
+
+    no-write : runs.Memory ≡ runs.Write → ⊥
+    no-write h = cc
+
+-- one that was done, with what was given
+pub done-with : {A : Type 0} (c : Course) (Gives : A → Devices → Type 0) (r : Result A RunFault) (a : A) (taken : Option (List ℕ)) (faults : ℕ) → r ≡ Ok a → RunsFrom c Gives r taken faults → RunsFrom c Gives (Ok a) taken faults
+done-with {A} c Gives r a taken faults is ran = subst (λ (s : Result A RunFault). RunsFrom c Gives s taken faults) is ran
 
 -- ---- the start
 

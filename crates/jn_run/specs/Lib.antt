@@ -1,4 +1,6 @@
 pub mod Codes
+pub mod Keeping
+pub mod Opening
 pub mod Outcome
 pub mod Reading
 pub mod Running

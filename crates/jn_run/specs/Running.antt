@@ -1,16 +1,14 @@
 -- How far a run has come, and what a sink took of it.
-use Rattle.std.specs.Prelude.{◌≡◌, ◌≤◌, ◌⊎◌, ℕ, true, false, List, [], ◌∷◌, ◌++◌, map, slice_get, Option, Some, None, Result, Ok, Err, is_ok}
+use Rattle.std.specs.Prelude.{◌≡◌, ◌≤◌, ℕ, true, false, List, [], ◌∷◌, ◌++◌, map, slice_get, Option, Some, Result, Ok, Err, is_ok}
 use Rattle.jn_device.specs.Device.{DeviceState}
-use Rattle.jn_disks.specs.Disks.{IsNewStore}
 use Rattle.jn_found.specs.Recoverable.{IsRecoverable}
-use Rattle.jn_options.specs.declared.options.Options.{Options}
+use Rattle.jn_host.specs.Outside.{Rose}
 use Rattle.jn_recovery.specs.declared.counts.PageCounts.{PageCounts}
 use Rattle.jn_recovery.specs.Loading.{counts_by}
 use Rattle.jn_store.specs.Store.{StoreView}
 use Rattle.jn_schedule.specs.declared.Event.{Event}
 use Rattle.jn_report.specs.declared.line.Line.{Line}
 use Rattle.jn_report.specs.Text.{report_text}
-use Rattle.jn_host.specs.Outside.{Rose}
 use Rattle.jn_writing.specs.Writing.{Took, TookFront}
 use Rattle.jn_written.specs.Chances.{Setup}
 use Rattle.jn_written.specs.Devices.{Devices}
@@ -23,7 +21,6 @@ use Rattle.jn_world.specs.declared.ended.Ended.{Ended}
 use Rattle.jn_world.specs.declared.ended.Ended.TheVariants as ends
 use Rattle.jn_world.specs.declared.world.World.{World}
 use Rattle.jn_world.specs.Written.{standing_of}
-use Rattle.jn_run.specs.Outcome.{setup_of, root_of, AreNew}
 use Rattle.jn_run.specs.declared.running.RunFault.{RunFault}
 use Rattle.jn_run.specs.declared.running.RunFault.TheVariants as runs
 
@@ -32,14 +29,6 @@ use Rattle.jn_run.specs.declared.running.RunFault.TheVariants as runs
 -- a store of the server of this number, with its counts of pages: a restart may begin there, and no fault that was outside is told
 abbrev pub IsStore : {S : Type 0} → (S → StoreView) → ℕ → S × PageCounts → Type 0
 IsStore look n x = IsRecoverable (record { 0 = n }) (counts_by x.1) (look x.0) × ((look x.0).told ≡ [])
-
--- a new one, of so many pages as are asked for
-pub record IsDisk {S : Type 0} (look : S → StoreView) (o : Options) (n : ℕ) (x : S × PageCounts) : Type 0 where
-  pub counts : x.1 ≡ record { pool = o.pool; heads = o.heads; leaves = o.leaves }
-  pub new : IsNewStore (root_of o (record { 0 = n })) (look x.0)
-
-abbrev pub AreDisks : {S : Type 0} → (S → StoreView) → Options → List (S × PageCounts) → Type 0
-AreDisks {S} look o stores = (n : ℕ) (x : S × PageCounts) → slice_get stores n ≡ Some x → IsDisk look o n x
 
 -- these are their devices
 abbrev pub AreDevices : {S : Type 0} → (S → DeviceState) → List (S × PageCounts) → Devices → Type 0
@@ -55,8 +44,8 @@ pub record Course : Type 0 where
   pub taken : Option (List ℕ)
   pub faults : ℕ
 
-abbrev pub course_of : Options → List Event → Devices → Option (List ℕ) → ℕ → Course
-course_of o schedule images taken faults = record { setup = setup_of o; schedule = schedule; images = images; taken = taken; faults = faults }
+abbrev pub course_of : Setup → List Event → Devices → Option (List ℕ) → ℕ → Course
+course_of x schedule images taken faults = record { setup = x; schedule = schedule; images = images; taken = taken; faults = faults }
 
 -- a run has come to this moment, and the sink took each of its lines
 pub record HasTold (c : Course) (m : Moment) (taken : Option (List ℕ)) (faults : ℕ) : Type 0 where
@@ -123,22 +112,21 @@ pub record WroteLast (lines : List Line) (taken : Option (List ℕ)) (faults : �
 
 -- ---- a whole run
 
--- the end came, and the sink took each line
-pub record TookWhole (c : Course) (taken : Option (List ℕ)) : Type 0 where
+-- the end came with devices of which this holds, and the sink took each line
+pub record TookWhole (c : Course) (Gives : Devices → Type 0) (taken : Option (List ℕ)) : Type 0 where
   pub closing : Devices
+  pub gives : Gives closing
   pub lines : List Line
   pub whole : IsWhole c.setup c.schedule c.images closing lines
   pub took : Took c.taken taken (report_text lines)
 
-pub record RunsFrom (c : Course) (answer : Result (Unit {0}) RunFault) (taken : Option (List ℕ)) (faults : ℕ) : Type 0 where
+pub record RunsFrom {A : Type 0} (c : Course) (Gives : A → Devices → Type 0) (answer : Result A RunFault) (taken : Option (List ℕ)) (faults : ℕ) : Type 0 where
   pub count : c.faults ≤ faults
-  pub whole : is_ok answer ≡ true → TookWhole c taken
+  pub whole : (a : A) → answer ≡ Ok a → TookWhole c (Gives a) taken
   pub limit : answer ≡ Err runs.Limit → TookLimited c taken
   pub part : is_ok answer ≡ false → TookPart c taken
   pub rose : answer ≡ Err runs.Write → Rose c.faults faults
 
--- A run from new disks, or none for want of memory.
-abbrev pub Runs : Options → List Event → Option (List ℕ) → ℕ → Result (Unit {0}) RunFault → Option (List ℕ) → ℕ → Type 0
-Runs o schedule taken faults answer taken' faults' =
-    ((answer ≡ Err runs.Memory) × (taken' ≡ taken))
-    ⊎ ((images : Devices) × AreNew o images × RunsFrom (course_of o schedule images taken faults) answer taken' faults')
+-- these stores are left
+abbrev pub AreLeft : {S : Type 0} → (S → DeviceState) → List S → Devices → Type 0
+AreLeft {S} device stores closing = (n : ℕ) (s : S) → slice_get stores n ≡ Some s → closing (record { 0 = n }) ≡ device s

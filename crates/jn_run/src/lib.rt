@@ -1,38 +1,54 @@
-//! The top call: reads the words and a schedule, runs it and writes the report.
+//! The top call: reads the words and a schedule, runs it, writes the report and keeps the disks.
 #![tactic(auto)]
 
-ghost use Rattle.std.specs.Prelude.{◌≡◌, ◌<◌, ◌≤◌, true, false, Some, List, length, IfOk};
-ghost use Rattle.jn_options.specs.Words.{options_of, AreWithinLimits};
+ghost use Rattle.std.specs.Prelude.{◌≡◌, ◌<◌, ◌≤◌, ℕ, Option, Some, List, length, IfOk};
+ghost use Rattle.jn_host.specs.Outside.{Contents};
+ghost use Rattle.jn_images.specs.Texts.{refusal_text};
+ghost use Rattle.jn_options.specs.Words.{AreWithinLimits};
 ghost use Rattle.jn_schedule.specs.declared.Event.{Event as AnEvent};
 ghost use Rattle.jn_schedule.specs.Grammar.{IsSchedule};
-ghost use Rattle.jn_run.specs.Outcome.{OutcomeOf, OutcomeOn, Refuses, RefusesWords, refused_line};
+ghost use Rattle.jn_world.specs.Standing.{AreStores};
+ghost use Rattle.jn_run.specs.Opening.{AreOpened};
+ghost use Rattle.jn_run.specs.Outcome.{OutcomeOf, OutcomeOn, Refuses, RefusesWords, refused_line, run_asked};
+ghost use Rattle.jn_run.specs.declared.status.Status.TheVariants as statuses;
 
 use jn_host::{Failed, Keeper, Sink, Source};
 use std::alloc::Global;
 
+mod keeping;
+mod opening;
 mod reading;
 mod running;
 mod status;
 
-use jn_options::{Options, read_options};
+use jn_images::Refusal;
+use jn_intent::PageCounts;
+use jn_memdisk::MemDisk;
+use jn_options::{Command, Options, read_command};
 use jn_schedule::{Event, ParseFault, check, count_events, parse};
+use jn_stable::Pairs;
+use jn_store::{Powered, StableStore};
 use jn_text::push_number;
 use jn_writing::write_all;
+use keeping::keep;
+use opening::{OpenFault, counts_of, open_stores};
 use reading::{ReadFault, read_all};
-use running::{RunFault, run_servers};
+use running::{Disks, RunFault, run_from};
 pub use status::Status;
 use std::alloc::AllocError;
 
 /// The most events of a schedule.
 const MOST_EVENTS: usize = 100_000;
 
-/// Does all that the program does: reads the words and the schedule, runs it and writes the report.
+/// Does all that the program does: reads the words and the schedule, runs it, writes the report and keeps the disks.
 ///
-/// The words are the program's name, `run` and options. The report tells what each event of the schedule led to and, at the
-/// end, prints the files from the servers' pages. Each event's lines are written as the event ends. Other words are
-/// refused in one line of text, as are bytes that aren't a schedule, by the line and the number of the first fault. A
+/// The words are the program's name, `run` and options. The run begins with new disks, or with those of the images that the
+/// keeper has under a name. The report tells what each event of the schedule led to and, at the end, prints the files from the
+/// servers' pages. Each event's lines are written as the event ends. Once the whole report was taken, the disks are saved as images
+/// where a name for them is given. Other words are refused in one line of text, as are bytes that aren't a schedule, by the line and
+/// the number of the first fault, and images, by the first that is missing, is none or is unsound: then nothing is run. A
 /// schedule of more than 4,194,304 bytes or 100,000 events, a run that would send a message too many or has no epoch left, a
-/// source or a sink that fails and want of memory have a status of their own. The keeper of images isn't called.
+/// source, a sink or a keeper that fails and want of memory have a status of their own. A trial isn't done yet, and is refused as words.
 pub fn run<S: Source, K: Sink, I: Keeper>(
     alloc: Global,
     words: &[String],
@@ -40,7 +56,7 @@ pub fn run<S: Source, K: Sink, I: Keeper>(
     sink: &mut K,
     images: &mut I,
 ) -> Status
-    ensures outcome { OutcomeOf (options_of words.now) (record {
+    ensures outcome { OutcomeOf (run_asked words.now) (record {
       left = S.left source.old;
       read_faults = S.faults source.old;
       read_faults' = S.faults source.new;
@@ -48,18 +64,22 @@ pub fn run<S: Source, K: Sink, I: Keeper>(
       taken' = K.taken sink.new;
       write_faults = K.faults sink.old;
       write_faults' = K.faults sink.new;
+      kept = I.kept images.old;
+      kept' = I.kept images.new;
+      keep_faults = I.faults images.old;
+      keep_faults' = I.faults images.new;
     }) result }
-    ensures images { images.new ≡ images.old }
 {
-    let _images = images;
-    let asked = match read_options(alloc, words) {
+    let asked = match read_command(alloc, words) {
         Ok(asked) => asked,
         Err(_refused) => return Status::Memory,
     };
-    let Some(options) = asked else {
-        return refuse_words(sink);
-    };
-    run_source(alloc, options, source, sink)
+    match asked {
+        Some(Command::Run(options)) => run_source(alloc, &options, source, sink, images),
+        // No schedule is made of a seed yet.
+        Some(Command::Trial(_)) => refuse_words(sink),
+        None => refuse_words(sink),
+    }
 }
 
 /// Says that the words are no command.
@@ -73,14 +93,15 @@ fn refuse_words<K: Sink>(sink: &mut K) -> Status
 }
 
 /// Reads a schedule from the source and runs it.
-fn run_source<S: Source, K: Sink>(
+fn run_source<S: Source, K: Sink, I: Keeper>(
     alloc: Global,
-    options: Options,
+    options: &Options,
     source: &mut S,
     sink: &mut K,
+    keeper: &mut I,
 ) -> Status
-    requires limits { AreWithinLimits options }
-    ensures outcome { OutcomeOf (Some options) (record {
+    requires limits { AreWithinLimits options.now }
+    ensures outcome { OutcomeOf (Some options.now) (record {
       left = S.left source.old;
       read_faults = S.faults source.old;
       read_faults' = S.faults source.new;
@@ -88,6 +109,10 @@ fn run_source<S: Source, K: Sink>(
       taken' = K.taken sink.new;
       write_faults = K.faults sink.old;
       write_faults' = K.faults sink.new;
+      kept = I.kept keeper.old;
+      kept' = I.kept keeper.new;
+      keep_faults = I.faults keeper.old;
+      keep_faults' = I.faults keeper.new;
     }) result }
 {
     let text = match read_all(alloc, source) {
@@ -96,53 +121,98 @@ fn run_source<S: Source, K: Sink>(
         Err(ReadFault::TooLong) => return Status::Limit,
         Err(ReadFault::Memory) => return Status::Memory,
     };
-    run_text(alloc, options, &text, sink)
+    run_text(alloc, options, &text, sink, keeper)
 }
 
 /// Reads a schedule and runs it.
-fn run_text<K: Sink>(alloc: Global, options: Options, text: &[u8], sink: &mut K) -> Status
-    requires limits { AreWithinLimits options }
-    ensures ran { OutcomeOn options text.now (K.taken sink.old) (K.faults sink.old) result (K.taken sink.new) (K.faults sink.new) }
+fn run_text<K: Sink, I: Keeper>(
+    alloc: Global,
+    options: &Options,
+    text: &[u8],
+    sink: &mut K,
+    keeper: &mut I,
+) -> Status
+    requires limits { AreWithinLimits options.now }
+    ensures ran { OutcomeOn options.now text.now
+        (record { taken = K.taken sink.old; write_faults = K.faults sink.old; kept = I.kept keeper.old; keep_faults = I.faults keeper.old }) result
+        (record { taken = K.taken sink.new; write_faults = K.faults sink.new; kept = I.kept keeper.new; keep_faults = I.faults keeper.new }) }
 {
     if count_events(text) > MOST_EVENTS {
         return refuse_long(alloc, options, text, sink);
     }
     match parse(alloc, text) {
-        Ok(events) => run_schedule(alloc, options, text, &events, sink),
-        Err(ParseFault::Syntax { line, number }) => refuse(alloc, line, number, sink),
+        Ok(events) => run_schedule(alloc, options, text, &events, sink, keeper),
+        Err(ParseFault::Syntax { line, number }) => refuse_line(alloc, line, number, sink),
         Err(ParseFault::Memory) => Status::Memory,
     }
 }
 
 /// Refuses a text that has too many events if it is a schedule. None of its events is kept.
-fn refuse_long<K: Sink>(alloc: Global, options: Options, text: &[u8], sink: &mut K) -> Status
+fn refuse_long<K: Sink>(alloc: Global, options: &Options, text: &[u8], sink: &mut K) -> Status
     requires long { (es : List AnEvent) → IsSchedule text.now es → 100000 < length es }
-    ensures ran { OutcomeOn options text.now (K.taken sink.old) (K.faults sink.old) result (K.taken sink.new) (K.faults sink.new) }
+    ensures ran { (kept : Option Contents) (faults : ℕ) → OutcomeOn options.now text.now
+        (record { taken = K.taken sink.old; write_faults = K.faults sink.old; kept = kept; keep_faults = faults }) result
+        (record { taken = K.taken sink.new; write_faults = K.faults sink.new; kept = kept; keep_faults = faults }) }
 {
     let _options = options;
     match check(alloc, text) {
         Ok(()) => Status::Limit,
-        Err(ParseFault::Syntax { line, number }) => refuse(alloc, line, number, sink),
+        Err(ParseFault::Syntax { line, number }) => refuse_line(alloc, line, number, sink),
         Err(ParseFault::Memory) => Status::Memory,
     }
 }
 
-/// Runs a schedule in a world of servers.
-fn run_schedule<K: Sink>(
+/// Runs a schedule, once there are disks to begin with.
+fn run_schedule<K: Sink, I: Keeper>(
     alloc: Global,
-    options: Options,
+    options: &Options,
     text: &[u8],
     events: &[Event],
     sink: &mut K,
+    keeper: &mut I,
 ) -> Status
-    requires limits { AreWithinLimits options }
+    requires limits { AreWithinLimits options.now }
     requires schedule { IsSchedule text.now events.now }
     requires few { length events.now ≤ 100000 }
-    ensures ran { OutcomeOn options text.now (K.taken sink.old) (K.faults sink.old) result (K.taken sink.new) (K.faults sink.new) }
+    ensures ran { OutcomeOn options.now text.now
+        (record { taken = K.taken sink.old; write_faults = K.faults sink.old; kept = I.kept keeper.old; keep_faults = I.faults keeper.old }) result
+        (record { taken = K.taken sink.new; write_faults = K.faults sink.new; kept = I.kept keeper.new; keep_faults = I.faults keeper.new }) }
+{
+    match open_stores(alloc, options, keeper) {
+        Ok(stores) => run_stores(alloc, options, stores, text, events, sink, keeper),
+        Err(OpenFault::Refused(refusal)) => refuse_image(alloc, refusal, sink),
+        Err(OpenFault::Keep) => Status::Keep,
+        Err(OpenFault::Memory) => Status::Memory,
+    }
+}
+
+/// Runs a schedule in a world of servers with these disks, and keeps the disks that are left.
+fn run_stores<K: Sink, I: Keeper>(
+    alloc: Global,
+    options: &Options,
+    stores: Vec<(Disks, PageCounts)>,
+    text: &[u8],
+    events: &[Event],
+    sink: &mut K,
+    keeper: &mut I,
+) -> Status
+    requires limits { AreWithinLimits options.now }
+    requires stores { AreStores (⟦<Pairs<MemDisk> as StableStore>⟧.view) 0 stores.items }
+    requires servers { length stores.items ≡ options.now.servers }
+    requires opened { AreOpened (⟦<Pairs<MemDisk> as StableStore>⟧.view) (⟦<Pairs<MemDisk> as Powered>⟧.device) options.now.opening (I.kept keeper.old) stores.items }
+    requires schedule { IsSchedule text.now events.now }
+    requires few { length events.now ≤ 100000 }
+    // Also where calls of the keeper had failed before.
+    ensures ran { (earlier : ℕ) → earlier ≤ I.faults keeper.old → OutcomeOn options.now text.now
+        (record { taken = K.taken sink.old; write_faults = K.faults sink.old; kept = I.kept keeper.old; keep_faults = earlier }) result
+        (record { taken = K.taken sink.new; write_faults = K.faults sink.new; kept = I.kept keeper.new; keep_faults = I.faults keeper.new }) }
 {
     let _text = text;
-    match run_servers(alloc, options, events, sink) {
-        Ok(()) => Status::Done,
+    let Ok(counts) = counts_of(alloc, &stores) else {
+        return Status::Memory;
+    };
+    match run_from(alloc, options.trace, stores, events, sink) {
+        Ok(left) => keep(alloc, options, left, &counts, keeper),
         Err(RunFault::Write) => Status::Write,
         Err(RunFault::Limit) => Status::Limit,
         Err(RunFault::Memory) => Status::Memory,
@@ -150,10 +220,10 @@ fn run_schedule<K: Sink>(
 }
 
 /// Says which line is refused, and by which fault.
-fn refuse<K: Sink>(alloc: Global, line: usize, number: u8, sink: &mut K) -> Status
-    ensures refused { Refuses line number (K.taken sink.old) (K.faults sink.old) result (K.taken sink.new) (K.faults sink.new) }
+fn refuse_line<K: Sink>(alloc: Global, line: usize, number: u8, sink: &mut K) -> Status
+    ensures refused { Refuses (refused_line line number) statuses.Schedule (K.taken sink.old) (K.faults sink.old) result (K.taken sink.new) (K.faults sink.new) }
 {
-    match refusal_text(alloc, line, number) {
+    match line_text(alloc, line, number) {
         Ok(text) => match write_all(sink, &text) {
             Ok(()) => Status::Schedule,
             Err(Failed) => Status::Write,
@@ -162,7 +232,20 @@ fn refuse<K: Sink>(alloc: Global, line: usize, number: u8, sink: &mut K) -> Stat
     }
 }
 
-fn refusal_text(alloc: Global, line: usize, number: u8) -> Result<Vec<u8>, AllocError>
+/// Says which image is refused, and why.
+fn refuse_image<K: Sink>(alloc: Global, refusal: Refusal, sink: &mut K) -> Status
+    ensures refused { Refuses (refusal_text refusal) statuses.Image (K.taken sink.old) (K.faults sink.old) result (K.taken sink.new) (K.faults sink.new) }
+{
+    match refusal.text(alloc) {
+        Ok(text) => match write_all(sink, &text) {
+            Ok(()) => Status::Image,
+            Err(Failed) => Status::Write,
+        },
+        Err(_refused) => Status::Memory,
+    }
+}
+
+fn line_text(alloc: Global, line: usize, number: u8) -> Result<Vec<u8>, AllocError>
     ensures { IfOk result (λ v. v.items ≡ refused_line line number) }
 {
     let mut text = Vec::from_slice(alloc, b"refused: schedule line ")?;

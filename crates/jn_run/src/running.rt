@@ -1,30 +1,29 @@
 //! The events of a schedule in a world of servers, each on a disk of its own in memory.
 
-ghost use Rattle.std.specs.Prelude.{◌≡◌, ◌≤◌, ◌+◌, ◌∷◌, [], List, Ok, OnOk, IfOk, length, vec_len};
+ghost use Rattle.std.specs.Prelude.{◌≡◌, ◌≤◌, ◌+◌, ◌∷◌, [], ℕ, List, OnOk, IfOk, length, vec_len};
 ghost use Rattle.std.specs.List.{AllByRecursion};
 ghost use Rattle.jn_schedule.specs.Ranges.{EventInRange};
 ghost use Rattle.jn_schedule.specs.declared.Event.{Event as AnEvent};
 ghost use Rattle.jn_written.specs.Devices.{Devices};
 ghost use Rattle.jn_written.specs.Runs.{Moment};
-ghost use Rattle.jn_disks.specs.Disks.{IsNewStore};
+ghost use Rattle.jn_written.specs.Chances.{Setup};
+ghost use Rattle.jn_written.specs.Whole.{AreImages};
+ghost use Rattle.jn_base.specs.declared.names.ServerNo.{ServerNo as AnyServer};
+ghost use Rattle.jn_order.specs.Files.{AllFiles};
 ghost use Rattle.jn_world.specs.Standing.{IsWorld, AreStores};
-ghost use Rattle.jn_run.specs.Running.{Course, course_of, HasTold, StandsBefore, Reaches, RunsFrom, Runs, Wrote, WroteLast, IsStore, AreDisks, AreDevices};
-ghost use Rattle.jn_run.specs.declared.running.RunFault.TheVariants as runs;
+ghost use Rattle.jn_world.specs.Written.{AreStoresOf};
+ghost use Rattle.jn_run.specs.Running.{Course, course_of, AreLeft, HasTold, StandsBefore, Reaches, RunsFrom, Wrote, WroteLast};
 
-use jn_base::ServerNo;
-use jn_disks::new_store;
 use jn_host::Sink;
 use jn_intent::PageCounts;
 use jn_memdisk::MemDisk;
-use jn_options::Options;
-use jn_records::Root;
 use jn_report::Line;
 use jn_schedule::Event;
 use jn_stable::Pairs;
 use jn_store::{Powered, StableStore};
 use jn_world::{Ended, World, start};
 use jn_writing::{ReportFault, report};
-use std::alloc::{AllocError, Global};
+use std::alloc::Global;
 
 /// Why a run was cut off.
 #[derive(Clone, Copy, Debug, PartialEq, Eq, Drop)]
@@ -37,53 +36,34 @@ pub enum RunFault {
     Memory,
 }
 
-impl From<AllocError> for RunFault {
-    ghost from_gives = { λ _ e. e ≡ runs.Memory };
-
-    fn from(_e: AllocError) -> RunFault {
-        RunFault::Memory
-    }
-}
-
 /// The stores of servers: pairs of pages on disks in memory.
-type Disks = Pairs<MemDisk>;
+pub type Disks = Pairs<MemDisk>;
 
-/// Runs events, and tells the report event by event.
-pub fn run_servers<K: Sink>(
+/// Runs events from these stores, server 0 first, and tells the report event by event. The stores that are left, one of each server.
+pub fn run_from<K: Sink>(
     alloc: Global,
-    options: Options,
-    events: &[Event],
-    sink: &mut K,
-) -> Result<(), RunFault>
-    requires servers { options.servers ≤ 8 }
-    requires few { length events.now ≤ 100000 }
-    requires range { AllByRecursion EventInRange events.now }
-    ensures ran { Runs options events.now (K.taken sink.old) (K.faults sink.old) result (K.taken sink.new) (K.faults sink.new) }
-{
-    let stores = new_stores(alloc, options)?;
-    run_from(alloc, options, stores, events, sink)
-}
-
-/// Runs events from these stores.
-fn run_from<K: Sink>(
-    alloc: Global,
-    options: Options,
+    trace: bool,
     stores: Vec<(Disks, PageCounts)>,
     events: &[Event],
     sink: &mut K,
-) -> Result<(), RunFault>
+) -> Result<Vec<Disks>, RunFault>
     requires servers { vec_len stores ≤ 8 }
-    requires count { vec_len stores ≡ options.servers }
     requires stores { AreStores (⟦<Pairs<MemDisk> as StableStore>⟧.view) 0 stores.items }
-    requires new { AreDisks (⟦<Pairs<MemDisk> as StableStore>⟧.view) options stores.items }
     requires few { length events.now ≤ 100000 }
     requires range { AllByRecursion EventInRange events.now }
-    ensures ran { (images : Devices) → AreDevices (⟦<Pairs<MemDisk> as Powered>⟧.device) stores.items images
-        → RunsFrom (course_of options events.now images (K.taken sink.old) (K.faults sink.old)) result (K.taken sink.new) (K.faults sink.new) }
+    ensures count { IfOk result (λ left. length left.items ≡ length stores.items) }
+    ensures ran { (x : Setup) (files : AllFiles) (epochs : AnyServer → ℕ) (images : Devices) → AreStoresOf (⟦<Pairs<MemDisk> as Powered>⟧.device) x stores.items images → x.trace ≡ trace → AreImages x files epochs images
+        → RunsFrom (course_of x events.now images (K.taken sink.old) (K.faults sink.old)) (λ left. AreLeft (⟦<Pairs<MemDisk> as Powered>⟧.device) left.items) result (K.taken sink.new) (K.faults sink.new) }
 {
-    let mut world = open_world(alloc, options, stores, sink)?;
+    let servers = stores.len();
+    let mut world = open_world(alloc, trace, stores, sink)?;
     run_events(alloc, &mut world, events, sink)?;
-    close_world(alloc, world, sink)
+    let left = close_world(alloc, world, sink)?;
+    if left.len() != servers {
+        // There are as many: a world gives back the store of each of its servers.
+        return Err(RunFault::Memory);
+    }
+    Ok(left)
 }
 
 /// Does all events, one after another.
@@ -109,57 +89,22 @@ fn run_events<K: Sink>(
     Ok(())
 }
 
-/// The stores of new servers.
-fn new_stores(alloc: Global, options: Options) -> Result<Vec<(Disks, PageCounts)>, AllocError>
-    ensures stores { IfOk result (λ v. AreStores (⟦<Pairs<MemDisk> as StableStore>⟧.view) 0 v.items) }
-    ensures new { IfOk result (λ v. AreDisks (⟦<Pairs<MemDisk> as StableStore>⟧.view) options v.items) }
-    ensures count { IfOk result (λ v. vec_len v ≡ options.servers) }
-{
-    let counts = PageCounts {
-        pool: options.pool,
-        heads: options.heads,
-        leaves: options.leaves,
-    };
-    let mut stores = Vec::new(alloc);
-    for server in 0..options.servers {
-        stores.push((new_disk(alloc, ServerNo(server), counts)?, counts))?;
-    }
-    Ok(stores)
-}
-
-/// The store of a new server.
-fn new_disk(alloc: Global, server: ServerNo, counts: PageCounts) -> Result<Disks, AllocError>
-    ensures store { IfOk result (λ store. IsStore (⟦<Pairs<MemDisk> as StableStore>⟧.view) server.0 (store, counts)) }
-    ensures new { IfOk result (λ store. IsNewStore (record { server = server; pool = counts.pool; heads = counts.heads; leaves = counts.leaves; epoch = 0 }) (⟦<Pairs<MemDisk> as StableStore>⟧.view store)) }
-{
-    let root = Root {
-        server,
-        pool: counts.pool,
-        heads: counts.heads,
-        leaves: counts.leaves,
-        epoch: 0,
-    };
-    new_store(alloc, root)
-}
-
 /// The world of these stores, all of whose servers come up. The lines that tell it are written, also where a server doesn't.
 fn open_world<K: Sink>(
     alloc: Global,
-    options: Options,
+    trace: bool,
     stores: Vec<(Disks, PageCounts)>,
     sink: &mut K,
 ) -> Result<World<Disks>, RunFault>
     requires few { vec_len stores ≤ 8 }
-    requires count { vec_len stores ≡ options.servers }
     requires stores { AreStores (⟦<Pairs<MemDisk> as StableStore>⟧.view) 0 stores.items }
-    requires new { AreDisks (⟦<Pairs<MemDisk> as StableStore>⟧.view) options stores.items }
     ensures world { IfOk result (λ world. IsWorld (⟦<Pairs<MemDisk> as StableStore>⟧.view) world) }
-    ensures opened { (schedule : List AnEvent) (images : Devices) → AreDevices (⟦<Pairs<MemDisk> as Powered>⟧.device) stores.items images
-        → let c = course_of options schedule images (K.taken sink.old) (K.faults sink.old) in
+    ensures opened { (x : Setup) (schedule : List AnEvent) (files : AllFiles) (epochs : AnyServer → ℕ) (images : Devices) → AreStoresOf (⟦<Pairs<MemDisk> as Powered>⟧.device) x stores.items images → x.trace ≡ trace → AreImages x files epochs images
+        → let c = course_of x schedule images (K.taken sink.old) (K.faults sink.old) in
         Reaches c (StandsBefore (⟦<Pairs<MemDisk> as StableStore>⟧.view) (⟦<Pairs<MemDisk> as Powered>⟧.device) c schedule) result (K.taken sink.new) (K.faults sink.new) }
 {
     let mut lines = Vec::new(alloc);
-    let world = start(alloc, stores, options.trace, &mut lines);
+    let world = start(alloc, stores, trace, &mut lines);
     write_lines(alloc, sink, &lines, world)
 }
 
@@ -184,16 +129,19 @@ fn run_event<K: Sink>(
 }
 
 /// Ends the run, and writes the lines of the end, as far as it comes.
-fn close_world<K: Sink>(alloc: Global, world: World<Disks>, sink: &mut K) -> Result<(), RunFault>
+fn close_world<K: Sink>(
+    alloc: Global,
+    world: World<Disks>,
+    sink: &mut K,
+) -> Result<Vec<Disks>, RunFault>
     requires world { IsWorld (⟦<Pairs<MemDisk> as StableStore>⟧.view) world }
     ensures ran { (c : Course) (m : Moment) → HasTold c m (K.taken sink.old) (K.faults sink.old)
         → StandsBefore (⟦<Pairs<MemDisk> as StableStore>⟧.view) (⟦<Pairs<MemDisk> as Powered>⟧.device) c [] world m
-        → RunsFrom c result (K.taken sink.new) (K.faults sink.new) }
+        → RunsFrom c (λ left. AreLeft (⟦<Pairs<MemDisk> as Powered>⟧.device) left.items) result (K.taken sink.new) (K.faults sink.new) }
 {
     let mut lines = Vec::new(alloc);
     let closed = world.close(&mut lines);
-    let _stores = write_lines(alloc, sink, &lines, closed)?;
-    Ok(())
+    write_lines(alloc, sink, &lines, closed)
 }
 
 /// Writes the lines of a call, also where it ended the run, and gives what the call gave. Where memory ran out its last step may not

@@ -1,5 +1,7 @@
-//! Tests of the top call: schedules with their reports, each status with its text, and limits.
+//! Tests of the top call: schedules with their reports, each status with its text, limits, and images.
 #![tactic(auto)]
 
+#[cfg(test)]
+mod images;
 #[cfg(test)]
 mod tests;

@@ -1,15 +1,16 @@
 use Rattle.std.proofs.Common.{◌≡◌, ◌*◌, ◌/◌, ◌∙◌, sym, subst, ap, List, take}
 use Rattle.jn_device.specs.declared.Half.{Half}
+use Rattle.jn_device.specs.Device.{DeviceState}
 use Rattle.jn_found.specs.Images.{IsImage}
 use Rattle.jn_memdisk.specs.contracts.disk.MemDiskPhysDisk.TheImpl.{ghosts}
 use Rattle.jn_records.specs.StablePages.{page_count}
 use Rattle.jn_store.specs.Pairs.{pairs_view}
-use Rattle.jn_disks.specs.Disks.{AreSound, files_in}
-use Rattle.jn_disks.proofs.Closed.{closed, closed_files}
+use Rattle.jn_disks.specs.Disks.{AreSound, HasPages, files_in}
+use Rattle.jn_disks.proofs.Closed.{closed, closed_files, paired_pages}
 use Rattle.jn_disks.proofs.pages_of_store.Goals as goal
 
-pub returns : goal.returns
-returns c = λ server g files image count.
+pub returns-clause-sound : goal.returns-clause-sound
+returns-clause-sound c = λ server g files image count.
     let disk = c.into_inner.result in
     let same = c.into_inner.ensures.disk in
     let its_image = subst (λ d. IsImage server g files (pairs_view (ghosts.state d))) (sym same) image in
@@ -20,3 +21,12 @@ returns c = λ server g files image count.
       closed server g files (ghosts.state disk) its_image its_count halves (record { count = c.into_pages-pages.ensures.count; good = c.into_pages-pages.ensures.good; bytes = c.into_pages-pages.ensures.bytes }),
       closed_files server g files (ghosts.state disk) its_image its_count halves (record { count = c.into_pages-pages.ensures.count; good = c.into_pages-pages.ensures.good; bytes = c.into_pages-pages.ensures.bytes }),
     )
+
+pub returns-clause-pages : goal.returns-clause-pages
+returns-clause-pages c =
+    let same = c.into_inner.ensures.disk in
+    let halves = c.into_pages-pages.result.items in
+    subst (λ d. HasPages c.truncate.new.self.items (ghosts.state d)) same
+    (subst (λ (l : List Half). HasPages l (ghosts.state c.into_inner.result))
+    (sym (c.truncate.ensures.items ∙ ap (λ n. take (2 * n) halves) (c.count-count.ensures ∙ ap (λ d. (ghosts.state d).count / 2) (sym same))))
+    (paired_pages halves (ghosts.state c.into_inner.result) (record { count = c.into_pages-pages.ensures.count; good = c.into_pages-pages.ensures.good; bytes = c.into_pages-pages.ensures.bytes })))

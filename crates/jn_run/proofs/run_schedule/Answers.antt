@@ -1,33 +1,35 @@
-use Rattle.std.proofs.Common.{◌∙◌, Err, ap}
-use Rattle.std.specs.Prelude.{is_ok}
-use Rattle.jn_schedule.proofs.Ranges.{lines_in_range}
-use Rattle.jn_schedule.specs.Grammar.{word_lines}
-use Rattle.jn_run.proofs.Outcomes.{run-done, run-limit, run-write, run-memory}
+use Rattle.std.proofs.Common.{◌≡◌, ◌∙◌, ℕ, List, Option, Err, ap, arith, refl, subst, sym}
+use Rattle.jn_host.specs.Outside.{Contents}
+use Rattle.jn_run.specs.Opening.{AreOpened}
+use Rattle.jn_run.specs.Outcome.{OutcomeOn, Outputs}
+use Rattle.jn_run.proofs.Outcomes.{image-outcome, load-outcome}
+use Rattle.jn_run.proofs.Stores.{look, device}
 use Rattle.jn_run.proofs.run_schedule.Goals as goal
 
-pub run_servers-requires-clause-range : goal.run_servers-requires-clause-range
-run_servers-requires-clause-range g c = lines_in_range (word_lines c.args.text.now) c.args.events.now c.requires.schedule
+pub run_stores-requires-clause-opened : goal.run_stores-requires-clause-opened
+run_stores-requires-clause-opened g c = subst (λ (k : Option Contents). AreOpened look device c.args.options.now.opening k c.in-Ok.stores.items) (sym c.open_stores.ensures.kept.same) c.in-Ok.ensures.opened
 
 pub returns-in-Ok : goal.returns-in-Ok
 returns-in-Ok g c = record {
-  ran = run-done c.args.options c.args.text.now c.args.events.now _ _ c.run_servers.result _ _ (record { schedule = c.requires.schedule; few = c.requires.few }) c.requires.limits.servers.1
-      (lines_in_range (word_lines c.args.text.now) c.args.events.now c.requires.schedule) c.run_servers.ensures.ran (ap is_ok c.in-Ok.is);
+  ran = subst (λ (k : Option Contents). OutcomeOn c.args.options.now c.args.text.now
+      (record { taken = g.K.Sink.taken c.args.sink.now; write_faults = g.K.Sink.faults c.args.sink.now; kept = k; keep_faults = g.I.Keeper.faults c.args.keeper.now }) c.run_stores.result
+      (record { taken = g.K.Sink.taken c.run_stores.new.sink; write_faults = g.K.Sink.faults c.run_stores.new.sink; kept = g.I.Keeper.kept c.run_stores.new.keeper; keep_faults = g.I.Keeper.faults c.run_stores.new.keeper }))
+      c.open_stores.ensures.kept.same (c.run_stores.ensures.ran (g.I.Keeper.faults c.args.keeper.now) c.open_stores.ensures.kept.count);
 }
 
-pub returns-in-Err-Write : goal.returns-in-Err-Write
-returns-in-Err-Write g c = record {
-  ran = run-write c.args.options c.args.text.now c.args.events.now _ _ c.run_servers.result _ _ (record { schedule = c.requires.schedule; few = c.requires.few }) c.requires.limits.servers.1
-      (lines_in_range (word_lines c.args.text.now) c.args.events.now c.requires.schedule) c.run_servers.ensures.ran (c.in-Err-Write.is ∙ ap (λ e. Err e) c.in-Err-Write.field-0-is);
+pub returns-in-Err-Refused : goal.returns-in-Err-Refused
+returns-in-Err-Refused g c = record {
+  ran = image-outcome c.args.options.now c.args.text.now c.args.events.now c.in-Err-Refused.refusal
+      (record { taken = g.K.Sink.taken c.args.sink.now; write_faults = g.K.Sink.faults c.args.sink.now; kept = g.I.Keeper.kept c.args.keeper.now; keep_faults = g.I.Keeper.faults c.args.keeper.now }) c.refuse_image.result
+      (record { taken = g.K.Sink.taken c.refuse_image.new.sink; write_faults = g.K.Sink.faults c.refuse_image.new.sink; kept = g.I.Keeper.kept c.open_stores.new.keeper; keep_faults = g.I.Keeper.faults c.open_stores.new.keeper })
+      (record { schedule = c.requires.schedule; few = c.requires.few }) (c.open_stores.ensures.refused c.in-Err-Refused.refusal (c.in-Err-Refused.is ∙ ap (λ e. Err e) c.in-Err-Refused.field-0-is)) c.open_stores.ensures.kept.same c.refuse_image.ensures.refused;
 }
 
-pub returns-in-Err-Limit : goal.returns-in-Err-Limit
-returns-in-Err-Limit g c = record {
-  ran = run-limit c.args.options c.args.text.now c.args.events.now _ _ c.run_servers.result _ _ (record { schedule = c.requires.schedule; few = c.requires.few }) c.requires.limits.servers.1
-      (lines_in_range (word_lines c.args.text.now) c.args.events.now c.requires.schedule) c.run_servers.ensures.ran (c.in-Err-Limit.is ∙ ap (λ e. Err e) c.in-Err-Limit.field-0-is);
-}
-
-pub returns-in-Err-Memory : goal.returns-in-Err-Memory
-returns-in-Err-Memory g c = record {
-  ran = run-memory c.args.options c.args.text.now c.args.events.now _ _ c.run_servers.result _ _ (record { schedule = c.requires.schedule; few = c.requires.few }) c.requires.limits.servers.1
-      (lines_in_range (word_lines c.args.text.now) c.args.events.now c.requires.schedule) c.run_servers.ensures.ran (c.in-Err-Memory.is ∙ ap (λ e. Err e) c.in-Err-Memory.field-0-is);
+pub returns-in-Err-Keep : goal.returns-in-Err-Keep
+returns-in-Err-Keep g c = record {
+  ran = load-outcome c.args.options.now c.args.text.now c.args.events.now
+      (record { taken = g.K.Sink.taken c.args.sink.now; write_faults = g.K.Sink.faults c.args.sink.now; kept = g.I.Keeper.kept c.args.keeper.now; keep_faults = g.I.Keeper.faults c.args.keeper.now })
+      (record { taken = g.K.Sink.taken c.args.sink.now; write_faults = g.K.Sink.faults c.args.sink.now; kept = g.I.Keeper.kept c.open_stores.new.keeper; keep_faults = g.I.Keeper.faults c.open_stores.new.keeper })
+      (record { schedule = c.requires.schedule; few = c.requires.few }) refl c.open_stores.ensures.kept.same
+      (c.open_stores.ensures.kept.rose (c.in-Err-Keep.is ∙ ap (λ e. Err e) c.in-Err-Keep.field-0-is)) (c.open_stores.ensures.kept.images (c.in-Err-Keep.is ∙ ap (λ e. Err e) c.in-Err-Keep.field-0-is));
 }

@@ -1,8 +1,14 @@
-use Rattle.std.proofs.Common.{rules}
-use Rattle.jn_run.proofs.Outcomes.{refused-outcome}
+use Rattle.std.proofs.Common.{rules, refl}
+use Rattle.jn_run.proofs.Outcomes.{line-outcome}
 use Rattle.jn_run.proofs.run_text.Goals as goal
 
 pub returns-in-Err-Syntax : goal.returns-in-Err-Syntax
 returns-in-Err-Syntax g c = record {
-  ran = refused-outcome c.args.options c.args.text.now _ _ _ _ c.refuse.result _ _ (c.parse.ensures.fault _ _ (search rules)) c.refuse.ensures.refused;
+  ran = line-outcome c.args.options.now c.args.text.now _ _
+      (record { taken = g.K.Sink.taken c.args.sink.now; write_faults = g.K.Sink.faults c.args.sink.now; kept = g.I.Keeper.kept c.args.keeper.now; keep_faults = g.I.Keeper.faults c.args.keeper.now }) c.refuse_line.result
+      (record { taken = g.K.Sink.taken c.refuse_line.new.sink; write_faults = g.K.Sink.faults c.refuse_line.new.sink; kept = g.I.Keeper.kept c.args.keeper.now; keep_faults = g.I.Keeper.faults c.args.keeper.now })
+      (c.parse.ensures.fault _ _ (search rules)) refl c.refuse_line.ensures.refused;
 }
+
+pub returns-then-count_events-gt-MOST_EVENTS : goal.returns-then-count_events-gt-MOST_EVENTS
+returns-then-count_events-gt-MOST_EVENTS g c = record { ran = c.refuse_long.ensures.ran (g.I.Keeper.kept c.args.keeper.now) (g.I.Keeper.faults c.args.keeper.now) }

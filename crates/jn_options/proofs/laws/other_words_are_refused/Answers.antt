@@ -1,17 +1,18 @@
 use Rattle.std.proofs.Common.{refl}
 use Rattle.std.specs.Fmt.{digits}
 use Rattle.clap.proofs.OnLiterals.{clap_on_literals}
-use Rattle.jn_options.specs.Command.{program_app, run_app}
+use Rattle.jn_options.specs.Command.{program_app, run_app, trial_app}
 use Rattle.jn_options.proofs.laws.other_words_are_refused.Goals as goal
 
 pub returns : goal.returns
-unfolding clap_on_literals program_app run_app digits
+unfolding clap_on_literals program_app run_app trial_app digits
 returns c = record {
   no_words = refl;
   no_command = refl;
   other_command = refl;
   more = refl;
   help = refl;
+  version = refl;
   twice = refl;
   missing = refl;
   too_large = refl;

@@ -1,0 +1,13 @@
+-- Pairs of pages on a disk in memory.
+use Rattle.jn_device.specs.Device.{DeviceState}
+use Rattle.jn_memdisk.specs.declared.disk.MemDisk.{MemDisk}
+use Rattle.jn_store.specs.Pairs.{pairs_view}
+use Rattle.jn_store.specs.Store.{StoreView}
+
+-- what is seen of them
+abbrev pub look : MemDisk → StoreView
+look s = pairs_view ((Rattle.jn_memdisk.specs.contracts.disk.MemDiskPhysDisk.TheImpl.ghosts).state s)
+
+-- and the device below them
+abbrev pub device : MemDisk → DeviceState
+device s = (Rattle.jn_memdisk.specs.contracts.disk.MemDiskPhysDisk.TheImpl.ghosts).state s

@@ -1,0 +1,5 @@
+pub mod Naming
+pub mod Loaded
+pub mod Kept
+pub mod Stores
+pub mod Disks

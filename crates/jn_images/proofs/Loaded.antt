@@ -1,0 +1,28 @@
+-- One more image was loaded.
+use Rattle.std.proofs.Common.{◌≡◌, ℕ, ◌+◌, ◌<◌, Bool, true, false, List, [], ◌∷◌, ◌++◌, length, Option, Some, None, Vec, refl, sym, ◌∙◌, ap, subst, arith}
+use Rattle.std.proofs.lemmas.Bool.Decides.{nat_tests}
+use Rattle.std.proofs.lemmas.List.{get_or_append_left, get_or_push}
+use Rattle.std.specs.Prelude.{get_or, nat_lt, is_some}
+use Rattle.std.specs.declared.alloc.Global.{Global}
+use Rattle.jn_host.specs.Outside.{Contents, kept_at, found_bytes}
+use Rattle.jn_images.specs.Kept.{Has, found_at, image_name}
+
+some-is : (a b : Option (List ℕ)) → Some a ≡ Some b → a ≡ b
+some-is a b h = cc
+
+-- what a load found is what the name held
+pub has-found : (kept : Option Contents) (name : List ℕ) (content : Option (List ℕ)) → (is_some kept ≡ true → kept_at kept name ≡ Some content) → Has kept name content
+has-found None name content h = tt
+has-found (Some holds) name content h = some-is (holds name) content (h refl)
+
+pub one-more : (kept : Option Contents) (name : List ℕ) (xs : List (Option (Vec ℕ Global))) (x : Option (Vec ℕ Global)) (k : ℕ) → length xs ≡ k → ((n : ℕ) → n < k → Has kept (image_name name n) (found_at xs n)) → Has kept (image_name name k) (found_bytes x)
+    → (n : ℕ) → n < k + 1 → Has kept (image_name name n) (found_at (xs ++ x ∷ []) n)
+one-more kept name xs x k count all last n lt = by (nat_lt n k) refl
+  where
+    by : (b : Bool) → nat_lt n k ≡ b → Has kept (image_name name n) (found_at (xs ++ x ∷ []) n)
+    by true before =
+        let less : n < k = grind (arith, nat_tests, before) in
+        subst (λ (o : Option (Vec ℕ Global)). Has kept (image_name name n) (found_bytes o)) (sym (get_or_append_left xs (x ∷ []) None n (subst (λ (m : ℕ). n < m) (sym count) less))) (all n less)
+    by false past =
+        let here : k ≡ n = grind (arith, nat_tests, past, lt) in
+        subst (λ (o : Option (Vec ℕ Global)). Has kept (image_name name n) (found_bytes o)) (sym (get_or_push xs x None n (count ∙ here))) (subst (λ (m : ℕ). Has kept (image_name name m) (found_bytes x)) here last)

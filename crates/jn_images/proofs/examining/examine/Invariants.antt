@@ -1,0 +1,13 @@
+use Rattle.std.proofs.Common.{◌≡◌, length}
+use Rattle.jn_device.specs.Device.{DeviceState}
+use Rattle.jn_memdisk.specs.declared.disk.MemDisk.{MemDisk}
+use Rattle.jn_images.specs.Examined.{AreStoresOf}
+use Rattle.jn_images.specs.Kept.{found_at}
+use Rattle.jn_images.proofs.Disks.{look, device}
+use Rattle.jn_images.proofs.examining.examine.Given as goal
+
+abbrev pub invariant-loop-content : goal.invariant-loop-content
+invariant-loop-content l = record {
+  count : length l.stores.items ≡ l.content-index;
+  stores : AreStoresOf look device (found_at l.fn.found) l.stores.items;
+}

@@ -1,0 +1,43 @@
+-- What a keeper has of images.
+use Rattle.std.specs.Prelude.{◌≡◌, ◌<◌, ◌++◌, ℕ, List, length, get_or, codes, decimal, Option, Some, None, Vec}
+use Rattle.std.specs.declared.alloc.Global.{Global}
+use Rattle.jn_base.specs.declared.names.ServerNo.{ServerNo}
+use Rattle.jn_device.specs.Device.{DeviceState}
+use Rattle.jn_disks.specs.Disks.{HasPages}
+use Rattle.jn_host.specs.Outside.{Contents, found_bytes}
+use Rattle.jn_image.specs.Form.{HasForm, counts_of, image_bytes}
+use Rattle.jn_image.specs.Unsound.{IsSoundOf}
+use Rattle.jn_image.specs.declared.image.Image.{Image}
+use Rattle.jn_records.specs.StablePages.{Counts}
+
+-- the name of the image of the server of this number
+abbrev pub image_name : List ℕ → ℕ → List ℕ
+image_name name n = name ++ codes "." ++ decimal n
+
+-- the name holds this, where the keeper tells it
+abbrev pub Has : Option Contents → List ℕ → Option (List ℕ) → Type 0
+Has None name content = Unit {0}
+Has (Some holds) name content = holds name ≡ content
+
+-- an image that has bytes, and from whose pages a recovery of this server may begin
+pub record IsSoundImage (q : ServerNo) (m : Image) : Type 0 where
+  pub form : HasForm m
+  pub sound : IsSoundOf q m
+
+-- A sound image of this server, with these counts of pages, has the pages of the disk, and its bytes stand under the server's name.
+pub record IsKept (kept : Option Contents) (name : List ℕ) (g : Counts) (q : ServerNo) (d : DeviceState) : Type 0 where
+  pub image : Image
+  pub is_sound : IsSoundImage q image
+  pub counts : counts_of image ≡ g
+  pub pages : HasPages image.pages d
+  pub bytes : Has kept (image_name name q.0) (Some (image_bytes image))
+
+-- ---- what was loaded
+
+-- what was found of the image of each server, server 0 first
+abbrev pub found_at : List (Option (Vec ℕ Global)) → ℕ → Option (List ℕ)
+found_at found n = found_bytes (get_or found n None)
+
+pub record AreLoaded (kept : Option Contents) (name : List ℕ) (servers : ℕ) (found : List (Option (Vec ℕ Global))) : Type 0 where
+  pub count : length found ≡ servers
+  pub each : (n : ℕ) → n < servers → Has kept (image_name name n) (found_at found n)

@@ -1,0 +1,4 @@
+pub mod Kept
+pub mod Examined
+pub mod Saved
+pub mod Texts

@@ -1,0 +1,19 @@
+//! The images of a run's disks, under names of a keeper: `NAME.0`, `NAME.1` and so on.
+//!
+//! A run that begins with images loads all of them before it looks at one. They give its disks where each is a
+//! sound image of its server; else the first that isn't is refused, with its cause. A run that is kept saves its disks, server
+//! 0 first, each as a whole image.
+#![tactic(auto)]
+
+mod examining;
+mod loading;
+mod names;
+mod refusal;
+mod saving;
+#[cfg(test)]
+mod tests;
+
+pub use examining::{ExamineFault, examine};
+pub use loading::load_images;
+pub use refusal::{Cause, Refusal};
+pub use saving::save_images;

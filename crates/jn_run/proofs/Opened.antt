@@ -1,0 +1,242 @@
+-- What a run begins with, of the stores that were opened.
+use Rattle.std.proofs.Common.{◌≡◌, ℕ, zero, suc, ◌≤◌, ◌<◌, Bool, true, false, List, [], ◌∷◌, length, slice_get, Option, Some, None, refl, sym, ◌∙◌, ap, subst, arith}
+use Rattle.std.proofs.Math.Path.{fun_ext}
+use Rattle.std.proofs.lemmas.Option.{slice_get_past}
+use Rattle.std.specs.Prelude.{nat_lt}
+use Rattle.jn_base.specs.declared.names.ServerNo.{ServerNo}
+use Rattle.jn_base.specs.declared.names.LockUnit.{LockUnit}
+use Rattle.jn_device.specs.Device.{DeviceState}
+use Rattle.jn_device.specs.declared.Half.{Half}
+use Rattle.jn_disks.specs.Disks.{IsNewStore, image_of, files_in}
+use Rattle.jn_found.specs.Images.{IsFresh}
+use Rattle.jn_found.specs.Pages.{found_on}
+use Rattle.jn_host.specs.Outside.{Contents}
+use Rattle.jn_image.specs.Form.{counts_of as image_counts}
+use Rattle.jn_images.specs.Examined.{IsStoreOf, AreStoresOf as AreStoresOfImages}
+use Rattle.jn_images.specs.Kept.{Has, image_name}
+use Rattle.jn_memdisk.specs.Pages.{half_at}
+use Rattle.jn_options.specs.declared.asked.Geometry.{Geometry}
+use Rattle.jn_options.specs.declared.asked.Opening.{Opening}
+use Rattle.jn_options.specs.declared.asked.Opening.TheVariants.{New, Images}
+use Rattle.jn_options.specs.declared.asked.Options.{Options}
+use Rattle.jn_order.specs.Files.{Files, AllFiles}
+use Rattle.jn_records.specs.Pages.{root_page}
+use Rattle.jn_records.specs.Sound.{HasRoot, root_of as root_in}
+use Rattle.jn_records.specs.StablePages.{Counts, page_count}
+use Rattle.jn_recovery.specs.declared.counts.PageCounts.{PageCounts}
+use Rattle.jn_recovery.specs.Loading.{counts_by}
+use Rattle.jn_rows.specs.Stable.{StableState, Pick}
+use Rattle.jn_store.specs.Pairs.{pairs_view}
+use Rattle.jn_store.specs.Store.{StoreView}
+use Rattle.jn_world.specs.Written.{AreStoresOf}
+use Rattle.jn_written.specs.Chances.{Setup}
+use Rattle.jn_written.specs.Devices.{Devices}
+use Rattle.jn_written.specs.Whole.{closed_world, AreImages}
+use Rattle.jn_run.specs.Opening.{AreDisks, AreOpened}
+use Rattle.jn_run.specs.Outcome.{counts_of, root_of, AreNew, BeginsWith, IsOpened, Opens, no_files}
+use Rattle.jn_run.specs.Running.{AreDevices}
+
+pub some-at : {A : Type 0} (xs : List A) (n : ℕ) → n < length xs → (x : A) × (slice_get xs n ≡ Some x)
+some-at [] n lt = absurd (omega (arith, lt))
+some-at (x ∷ xs) zero lt = (x, refl)
+some-at (x ∷ xs) (suc n) lt = some-at xs n (omega (arith, lt))
+
+some-is : {A : Type 0} (a b : A) → Some a ≡ Some b → a ≡ b
+some-is a b h = cc
+
+some-none : {A : Type 0} (a : A) → Some a ≡ None → ⊥
+some-none a h = cc
+
+-- ---- the devices of stores
+
+no_device : DeviceState
+no_device = record { count = 0; pages = λ p. record { good = true; bytes = []; missed = false; fails = 0 }; power = false; waiting = []; told = []; calls = 0; puts = 0; stops = 0 }
+
+device_in : {S : Type 0} → (S → DeviceState) → Option (S × PageCounts) → DeviceState
+device_in device None = no_device
+device_in device (Some x) = device x.0
+
+pub images_of : {S : Type 0} → (S → DeviceState) → List (S × PageCounts) → Devices
+images_of device stores q = device_in device (slice_get stores q.0)
+
+pub images-of : {S : Type 0} (device : S → DeviceState) (stores : List (S × PageCounts)) → AreDevices device stores (images_of device stores)
+unfolding images_of device_in
+images-of device stores n x at = ap (device_in device) at
+
+-- ---- what a run begins with
+
+pub record Opened {S : Type 0} (device : S → DeviceState) (o : Options) (kept : Option Contents) (stores : List (S × PageCounts)) : Type 0 where
+  pub setup : Setup
+  pub files : AllFiles
+  pub epochs : ServerNo → ℕ
+  pub images : Devices
+  pub opens : Opens o kept setup files images
+  pub stores_are : AreStoresOf device setup stores images
+  pub are_images : AreImages setup files epochs images
+
+module _ {S : Type 0} (look : S → StoreView) (device : S → DeviceState) (seen : (s : S) → look s ≡ pairs_view (device s)) (o : Options) (kept : Option Contents) (stores : List (S × PageCounts)) (count : length stores ≡ o.servers) where
+  abbrev images : Devices
+  images = images_of device stores
+
+  devices : AreDevices device stores images
+  devices = images-of device stores
+
+  there : (q : ServerNo) → q.0 < o.servers → (x : S × PageCounts) × (slice_get stores q.0 ≡ Some x)
+  there q lt = some-at stores q.0 (subst (λ (n : ℕ). q.0 < n) (sym count) lt)
+
+  -- ---- new disks
+
+  module _ (g : Geometry) (disks : AreDisks look g stores) where
+    images-new : AreNew g o.servers images
+    images-new q lt =
+        let (x, at) = there q lt in
+        subst (λ (d : DeviceState). IsNewStore (root_of g q) (pairs_view d)) (sym (devices q.0 x at)) (subst (λ (v : StoreView). IsNewStore (root_of g q) v) (seen x.0) (disks q.0 x at).new)
+
+    abbrev new_setup : Setup
+    new_setup = record { servers = o.servers; counts = λ q. counts_of g; trace = o.trace }
+
+    found-none : (q : ServerNo) → IsNewStore (root_of g q) (pairs_view (images q)) → (c : Pick) → (closed_world o.servers no_files (λ q. 0)).found q c ≡ found_on (counts_of g) (pairs_view (images q)) c
+    found-none q n c = sym (n.fresh.found c)
+
+    new-opened : o.opening ≡ New g → Opened device o kept stores
+    new-opened is = record {
+      setup = new_setup;
+      files = no_files;
+      epochs = λ q. 0;
+      images = images;
+      opens = record { servers = refl; trace = refl; disks = subst (λ (a : Opening). BeginsWith a kept new_setup no_files images) (sym is) ((λ q. refl), refl, images-new) };
+      stores_are = record { servers = count; counts = λ n x at. sym (ap counts_by (disks n x at).counts); devices = devices };
+      are_images = record {
+        its = λ q u far. refl;
+        fresh = λ q lt. let n = images-new q lt in record { count = n.count; waiting = n.untouched.calm.quiet; told = n.untouched.told };
+        found = λ q c lt. found-none q (images-new q lt) c;
+      };
+    }
+
+  -- ---- the disks of images
+
+  module _ (name : List ℕ) (found : ℕ → Option (List ℕ)) (held : (n : ℕ) → n < length stores → Has kept (image_name name n) (found n)) (are : AreStoresOfImages look device found stores) where
+    -- the store of a server, and what stands on it
+    record Its (q : ServerNo) (counts : Counts) (files : Files) (epoch : ℕ) (x : S × PageCounts) : Type 0 where
+      counts_are : counts ≡ counts_by x.1
+      opened : q.0 < length stores → IsOpened kept name counts files q (device x.0)
+      fresh : IsFresh q counts epoch files (pairs_view (device x.0))
+      waiting : (device x.0).waiting ≡ []
+      told : (device x.0).told ≡ []
+
+    record Began (q : ServerNo) : Type 0 where
+      counts : Counts
+      files : Files
+      epoch : ℕ
+      its : (x : S × PageCounts) → slice_get stores q.0 ≡ Some x → Its q counts files epoch x
+      none : slice_get stores q.0 ≡ None → (u : LockUnit) → files u ≡ None
+
+    root-is : (q : ServerNo) (x : S × PageCounts) → (s : IsStoreOf look device q (found q.0) x) → HasRoot (image_of q (counts_by x.1) s.disk.image.pages)
+    root-is q x s = subst (λ (g : Counts). HasRoot (image_of q g s.disk.image.pages)) s.disk.counts s.disk.is_sound.sound.pages_are.sound.root
+
+    its-is : (q : ServerNo) (x : S × PageCounts) → (s : IsStoreOf look device q (found q.0) x) → Its q (counts_by x.1) (files_in (counts_by x.1) s.disk.image.pages) (root-is q x s).0 x
+    its-is q x s = record {
+      counts_are = refl;
+      opened = λ lt. record {
+        disk = record {
+          image = s.disk.image;
+          is_sound = s.disk.is_sound;
+          counts = s.disk.counts;
+          pages = s.disk.pages;
+          bytes = subst (λ (content : Option (List ℕ)). Has kept (image_name name q.0) content) s.disk.bytes (held q.0 lt);
+        };
+        files_are = refl;
+        new = s.disk.new;
+      };
+      fresh = let r = root-is q x s in subst (λ (v : StoreView). IsFresh q (counts_by x.1) (root-is q x s).0 (files_in (counts_by x.1) s.disk.image.pages) v) (seen x.0) (s.store.fresh r.0 r.1 r.2);
+      waiting = s.disk.new.waiting;
+      told = s.disk.new.told;
+    }
+
+    began : (q : ServerNo) → Began q
+    began q = by (slice_get stores q.0) refl
+      where
+        by : (a : Option (S × PageCounts)) → slice_get stores q.0 ≡ a → Began q
+        by None e = record {
+          counts = record { pool = 0; heads = 0; leaves = 0 };
+          files = λ u. None;
+          epoch = 0;
+          its = λ x at. absurd (some-none x (sym at ∙ e));
+          none = λ e u. refl;
+        }
+        by (Some x) e =
+            let s = are q.0 x e in
+            record {
+              counts = counts_by x.1;
+              files = files_in (counts_by x.1) s.disk.image.pages;
+              epoch = (root-is q x s).0;
+              its = λ y at. subst (λ (z : S × PageCounts). Its q (counts_by x.1) (files_in (counts_by x.1) s.disk.image.pages) (root-is q x s).0 z) (some-is x y (sym e ∙ at)) (its-is q x s);
+              none = λ no_store u. absurd (some-none x (sym e ∙ no_store));
+            }
+
+    abbrev its_setup : Setup
+    its_setup = record { servers = o.servers; counts = λ q. (began q).counts; trace = o.trace }
+
+    abbrev its_files : AllFiles
+    its_files q = (began q).files
+
+    abbrev its_epochs : ServerNo → ℕ
+    its_epochs q = (began q).epoch
+
+    its-opened : (q : ServerNo) → q.0 < o.servers → IsOpened kept name ((began q).counts) ((began q).files) q (images q)
+    its-opened q lt =
+        let (x, at) = there q lt in
+        subst (λ (d : DeviceState). IsOpened kept name ((began q).counts) ((began q).files) q d) (sym (devices q.0 x at)) (((began q).its x at).opened (subst (λ (n : ℕ). q.0 < n) (sym count) lt))
+
+    its-fresh : (q : ServerNo) → q.0 < o.servers → IsFresh q ((began q).counts) ((began q).epoch) ((began q).files) (pairs_view (images q))
+    its-fresh q lt =
+        let (x, at) = there q lt in
+        subst (λ (d : DeviceState). IsFresh q ((began q).counts) ((began q).epoch) ((began q).files) (pairs_view d)) (sym (devices q.0 x at)) ((began q).its x at).fresh
+
+    images-opened : o.opening ≡ Images name → Opened device o kept stores
+    images-opened is = record {
+      setup = its_setup;
+      files = its_files;
+      epochs = its_epochs;
+      images = images;
+      opens = record { servers = refl; trace = refl; disks = subst (λ (a : Opening). BeginsWith a kept its_setup its_files images) (sym is) (none-past, its-opened) };
+      stores_are = record { servers = count; counts = λ n x at. ((began (record { 0 = n })).its x at).counts_are; devices = devices };
+      are_images = record {
+        its = none-past;
+        fresh = λ q lt.
+            let (x, at) = there q lt in
+            let i = (began q).its x at in
+            record {
+              count = sym (its-fresh q lt).recoverable.count;
+              waiting = ap (λ (d : DeviceState). d.waiting) (devices q.0 x at) ∙ i.waiting;
+              told = ap (λ (d : DeviceState). d.told) (devices q.0 x at) ∙ i.told;
+            };
+        found = λ q c lt. sym ((its-fresh q lt).found c);
+      };
+    }
+      where
+        none-past : (q : ServerNo) (u : LockUnit) → o.servers ≤ q.0 → its_files q u ≡ None
+        none-past q u far = (began q).none (slice_get_past stores q.0 (subst (λ (n : ℕ). n ≤ q.0) (sym count) far)) u
+
+  pub opened-so : AreOpened look device o.opening kept stores → Opened device o kept stores
+  opened-so are = by o.opening refl are
+    where
+      by : (a : Opening) → o.opening ≡ a → AreOpened look device a kept stores → Opened device o kept stores
+      by (New g) is disks = new-opened g disks is
+      by (Images name) is given = images-opened name given.0 given.1 given.2 is
+
+-- ---- what is found on devices is found once
+
+-- the files that are found on the same devices are the same
+pub one-files : (x : Setup) (files : AllFiles) (epochs : ServerNo → ℕ) (others : AllFiles) (other_epochs : ServerNo → ℕ) (images : Devices) → AreImages x files epochs images → AreImages x others other_epochs images → files ≡ others
+one-files x files epochs others other_epochs images are again = fun_ext (λ q. fun_ext (λ u. at q u (nat_lt q.0 x.servers) refl))
+  where
+    no_pick : Pick
+    no_pick n = false
+
+    at : (q : ServerNo) (u : LockUnit) (b : Bool) → nat_lt q.0 x.servers ≡ b → files q u ≡ others q u
+    at q u true here =
+        let lt : q.0 < x.servers = grind (arith, here) in
+        let same = are.found q no_pick lt ∙ sym (again.found q no_pick lt) in
+        ap (λ (y : StableState). y.files u) same
+    at q u false here = are.its q u (grind (arith, here)) ∙ sym (again.its q u (grind (arith, here)))
