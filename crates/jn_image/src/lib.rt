@@ -8,8 +8,8 @@
 //! | from 16 on | each physical page: 1 where it is good or 0 where it is bad, and its 512 bytes |
 //! | the last 32 | the SHA-256 (FIPS 180-4) of all bytes before |
 //!
-//! `decode` takes exactly what `encode` gives, and names the first fault of all other bytes. `check` finds an
-//! image sound exactly where a recovery may begin from its pages.
+//! `decode` takes exactly what `encode` gives, and names the first fault of all other bytes. `check` takes exactly
+//! the sound images of a server, from whose pages a recovery may begin, and names the first fault of all others.
 #![tactic(auto)]
 
 mod fault;
