@@ -6,8 +6,9 @@ use Rattle.jn_device.specs.Device.{DeviceState}
 use Rattle.jn_disks.specs.Disks.{HasPages}
 use Rattle.jn_host.specs.Outside.{Contents, found_bytes}
 use Rattle.jn_image.specs.Form.{HasForm, counts_of, image_bytes}
-use Rattle.jn_image.specs.Unsound.{IsSoundOf}
+use Rattle.jn_image.specs.Unsound.{seen}
 use Rattle.jn_image.specs.declared.image.Image.{Image}
+use Rattle.jn_records.specs.Sound.{IsSound}
 use Rattle.jn_records.specs.StablePages.{Counts}
 
 -- the name of the image of the server of this number
@@ -19,10 +20,10 @@ abbrev pub Has : Option Contents → List ℕ → Option (List ℕ) → Type 0
 Has None name content = Unit {0}
 Has (Some holds) name content = holds name ≡ content
 
--- an image that has bytes, and from whose pages a recovery of this server may begin
+-- an image that has bytes, and is a sound one of this server: a recovery may begin from its pages
 pub record IsSoundImage (q : ServerNo) (m : Image) : Type 0 where
   pub form : HasForm m
-  pub sound : IsSoundOf q m
+  pub sound : IsSound q (seen m)
 
 -- A sound image of this server, with these counts of pages, has the pages of the disk, and its bytes stand under the server's name.
 pub record IsKept (kept : Option Contents) (name : List ℕ) (g : Counts) (q : ServerNo) (d : DeviceState) : Type 0 where

@@ -11,6 +11,7 @@ use Rattle.jn_disks.specs.Disks.{IsNewStore, image_of, files_in}
 use Rattle.jn_found.specs.Images.{IsFresh}
 use Rattle.jn_found.specs.Pages.{found_on}
 use Rattle.jn_host.specs.Outside.{Contents}
+use Rattle.jn_image.proofs.SoundPages.{sound_pages}
 use Rattle.jn_image.specs.Form.{counts_of as image_counts}
 use Rattle.jn_images.specs.Examined.{IsStoreOf, AreStoresOf as AreStoresOfImages}
 use Rattle.jn_images.specs.Kept.{Has, image_name}
@@ -132,7 +133,7 @@ module _ {S : Type 0} (look : S → StoreView) (device : S → DeviceState) (see
       none : slice_get stores q.0 ≡ None → (u : LockUnit) → files u ≡ None
 
     root-is : (q : ServerNo) (x : S × PageCounts) → (s : IsStoreOf look device q (found q.0) x) → HasRoot (image_of q (counts_by x.1) s.disk.image.pages)
-    root-is q x s = subst (λ (g : Counts). HasRoot (image_of q g s.disk.image.pages)) s.disk.counts s.disk.is_sound.sound.pages_are.sound.root
+    root-is q x s = subst (λ (g : Counts). HasRoot (image_of q g s.disk.image.pages)) s.disk.counts (sound_pages s.disk.image q s.disk.is_sound.form s.disk.is_sound.sound).sound.root
 
     its-is : (q : ServerNo) (x : S × PageCounts) → (s : IsStoreOf look device q (found q.0) x) → Its q (counts_by x.1) (files_in (counts_by x.1) s.disk.image.pages) (root-is q x s).0 x
     its-is q x s = record {

@@ -2,6 +2,7 @@
 use Rattle.std.proofs.Common.{◌≡◌, ℕ, zero, suc, ◌+◌, ◌<◌, ◌≤◌, Bool, true, false, List, [], ◌∷◌, ◌++◌, length, slice_get, Option, Some, None, refl, sym, ◌∙◌, subst, arith}
 use Rattle.std.specs.Prelude.{nat_lt}
 use Rattle.jn_base.specs.declared.names.ServerNo.{ServerNo}
+use Rattle.jn_image.proofs.SoundPages.{sound_pages}
 use Rattle.jn_images.specs.Examined.{IsStoreOf, AreStoresOf}
 use Rattle.jn_options.specs.declared.asked.Geometry.{Geometry}
 use Rattle.jn_records.specs.Sound.{HasRoot}
@@ -69,7 +70,7 @@ all-stores see n (x ∷ xs) h = let here = at-place see x (n + 0) n (omega arith
 
 store-is : {S : Type 0} (see : S → StoreView) (dev : S → DeviceState) (q : ServerNo) (content : Option (List ℕ)) (x : S × PageCounts) → IsStoreOf see dev q content x → IsStore see q.0 x
 store-is see dev q content x s =
-    let root = subst (λ (g : Counts). HasRoot (image_of q g s.disk.image.pages)) s.disk.counts s.disk.is_sound.sound.pages_are.sound.root in
+    let root = subst (λ (g : Counts). HasRoot (image_of q g s.disk.image.pages)) s.disk.counts (sound_pages s.disk.image q s.disk.is_sound.form s.disk.is_sound.sound).sound.root in
     ((s.store.fresh root.0 root.1 root.2).recoverable, s.store.untouched.told)
 
 zero-more : (n : ℕ) → n ≡ 0 + n

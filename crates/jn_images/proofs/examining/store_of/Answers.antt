@@ -1,6 +1,7 @@
 use Rattle.std.proofs.Common.{◌≡◌, List, refl, sym, subst}
 use Rattle.jn_device.specs.declared.Half.{Half}
 use Rattle.jn_disks.specs.Disks.{AreSound, HasPages, IsStoreOfPages}
+use Rattle.jn_image.proofs.SoundPages.{sound_pages}
 use Rattle.jn_image.specs.Form.{counts_of}
 use Rattle.jn_images.proofs.Disks.{look, device}
 use Rattle.jn_images.proofs.examining.store_of.Goals as goal
@@ -9,7 +10,7 @@ pub returns-clause-store : goal.returns-clause-store
 returns-clause-store c =
     let m = c.in_ok-image.image in
     let found = c.in_ok-image.ensures.sound in
-    let sound = found.0.sound.pages_are in
+    let sound = sound_pages m c.args.server found.0.form found.0.sound in
     let given = c.in_ok-store.ensures in
     let are : AreSound c.args.server (counts_of m) c.into_vec.result.items = subst (λ (xs : List Half). AreSound c.args.server (counts_of m) xs) (sym c.into_vec.ensures) sound in
     record {
