@@ -1,4 +1,6 @@
 // Disks that are saved, loaded and examined again, and images that are refused.
+ghost use Rattle.std.specs.Prelude.{◌≡◌, IfOk, vec_len};
+
 use crate::{Cause, ExamineFault, Refusal, examine, load_images, save_images};
 use jn_base::ServerNo;
 use jn_disks::new_store;
@@ -20,19 +22,25 @@ const COUNTS: PageCounts = PageCounts {
 /// How many bytes an image with these counts has.
 const SIZE: usize = 181_650;
 
+/// The disk of a new server.
+fn disk(alloc: Global, server: u8) -> Result<Pairs<MemDisk>, AllocError> {
+    let root = Root {
+        server: ServerNo(server),
+        pool: COUNTS.pool,
+        heads: COUNTS.heads,
+        leaves: COUNTS.leaves,
+        epoch: 2,
+    };
+    new_store(alloc, root)
+}
+
 /// The disks of two new servers.
-fn two_disks(alloc: Global) -> Result<Vec<Pairs<MemDisk>>, AllocError> {
+fn two_disks(alloc: Global) -> Result<Vec<Pairs<MemDisk>>, AllocError>
+    ensures { IfOk result (λ stores. vec_len stores ≡ 2) }
+{
     let mut stores = Vec::new(alloc);
-    for server in 0..2 {
-        let root = Root {
-            server: ServerNo(server),
-            pool: COUNTS.pool,
-            heads: COUNTS.heads,
-            leaves: COUNTS.leaves,
-            epoch: 2,
-        };
-        stores.push(new_store(alloc, root)?)?;
-    }
+    stores.push(disk(alloc, 0)?)?;
+    stores.push(disk(alloc, 1)?)?;
     Ok(stores)
 }
 
