@@ -12,9 +12,17 @@ const SIZE: usize = 181_650;
 /// How many bytes of it stand before the digest.
 const BODY: usize = 181_618;
 
-/// Where a physical page's bytes stand.
-fn place(page: usize) -> usize {
-    17 + 513 * page
+/// Where a byte of a physical page stands.
+fn place(page: usize, at: usize) -> usize {
+    page.wrapping_mul(513).wrapping_add(17).wrapping_add(at)
+}
+
+/// The bytes from here to there, or none where an image isn't so long.
+fn part(image: &[u8], from: usize, to: usize) -> &[u8] {
+    match image.get(from..to) {
+        Some(bytes) => bytes,
+        None => &[],
+    }
 }
 
 /// Runs a schedule. How it ends, and the report.
@@ -70,23 +78,29 @@ fn first_image(alloc: Global) -> Result<Vec<u8>, Fail> {
     }
 }
 
-/// An image with other bytes here, in both halves of a page.
-fn with_bytes(image: &mut Vec<u8>, page: usize, at: usize, bytes: &[u8]) {
-    for half in [place(page) + at, place(page + 177) + at] {
-        for (i, byte) in bytes.iter().enumerate() {
-            if let Some(old) = image.get_mut(half + i) {
-                *old = *byte;
-            }
+/// Other bytes stand from here on.
+fn put_bytes(image: &mut Vec<u8>, from: usize, bytes: &[u8]) {
+    let mut here = from;
+    for byte in bytes {
+        if let Some(old) = image.get_mut(here) {
+            *old = *byte;
         }
+        here = here.wrapping_add(1);
     }
 }
 
-/// The digest of an image is made anew.
-fn seal(image: &mut Vec<u8>) {
-    if image.len() == SIZE {
-        let digest = Sha256::digest(&image[..BODY]);
-        image[BODY..].copy_from_slice(&digest);
-    }
+/// Other bytes stand here, in both halves of a page.
+fn with_bytes(image: &mut Vec<u8>, page: usize, at: usize, bytes: &[u8]) {
+    put_bytes(image, place(page, at), bytes);
+    put_bytes(image, place(page.wrapping_add(177), at), bytes);
+}
+
+/// The image with the digest of what stands there now.
+fn sealed(alloc: Global, image: &[u8]) -> Result<Vec<u8>, AllocError> {
+    let body = part(image, 0, BODY);
+    let mut sealed = Vec::from_slice(alloc, body)?;
+    sealed.extend_from_slice(&Sha256::digest(body))?;
+    Ok(sealed)
 }
 
 const EMPTY: &str = "0: up s0 epoch 1\nend: down s0\nend: up s0 epoch 2\nend: commits 0\n";
@@ -110,8 +124,8 @@ fn what_a_run_leaves_another_begins_with(rt: HostRuntime) -> Result<(), Fail> {
     let alloc = rt.alloc();
     let image = first_image(alloc)?;
     assert_eq!(rt; image.len(), SIZE);
-    let root = place(0);
-    assert!(rt; image[root + 12..root + 16] == [0, 0, 0, 2][..]);
+    let epoch: &[u8] = &[0, 0, 0, 2];
+    assert!(rt; part(&image, place(0, 12), place(0, 16)) == epoch);
     let mut keeper = new_keeper(alloc, &[], &[])?;
     assert!(rt; keeper.save("a.0", &image).is_ok());
     assert!(rt; ends(alloc, &FROM_A, b"", &mut keeper, Status::Done, EMPTY_AGAIN)?);
@@ -133,14 +147,14 @@ fn images_are_refused(rt: HostRuntime) -> Result<(), Fail> {
         )?
     );
     let mut image = first_image(alloc)?;
-    assert!(rt; is_refused(alloc, &image[..SIZE - 1], "refused: image 0 bad 1\n")?);
+    assert!(rt; is_refused(alloc, part(&image, 0, SIZE - 1), "refused: image 0 bad 1\n")?);
     image.push(0)?;
     assert!(rt; is_refused(alloc, &image, "refused: image 0 bad 7\n")?);
     let _ = image.pop();
     with_bytes(&mut image, 33, 0, &[1, 0, 0, 0, 7, 0, 5]);
     assert!(rt; is_refused(alloc, &image, "refused: image 0 bad 6\n")?);
     with_bytes(&mut image, 34, 0, &[1, 0, 0, 0, 8, 0, 5]);
-    seal(&mut image);
+    let image = sealed(alloc, &image)?;
     assert!(rt; is_refused(alloc, &image, "refused: image 0 unsound 8 5\n")?);
     Ok(())
 }
@@ -163,7 +177,7 @@ fn the_last_epoch_is_used_up(rt: HostRuntime) -> Result<(), Fail> {
     let alloc = rt.alloc();
     let mut image = first_image(alloc)?;
     with_bytes(&mut image, 0, 12, &[0xff, 0xff, 0xff, 0xfe]);
-    seal(&mut image);
+    let image = sealed(alloc, &image)?;
     let mut keeper = new_keeper(alloc, &[], &[])?;
     assert!(rt; keeper.save("a.0", &image).is_ok());
     let report = "0: up s0 epoch 4294967295\n1: down s0\n2: refused 45\n";
