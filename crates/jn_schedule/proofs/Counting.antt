@@ -1,11 +1,10 @@
 -- A schedule has as many events as lines that begin one.
-use Rattle.std.proofs.Common.{◌≡◌, ◌≢◌, ◌+◌, ◌∙◌, ℕ, Bool, true, false, not, cond, nat_eq, List, [], ◌∷◌, inl, inr, length, filter, map, count_by, codes, refl, sym, ap, subst, arith}
+use Rattle.std.proofs.Common.{◌≡◌, ◌+◌, ◌∙◌, ℕ, Bool, true, false, not, cond, nat_eq, List, [], ◌∷◌, inl, inr, length, filter, map, count_by, refl, ap, arith}
 use Rattle.std.specs.List.{slice_split, onto_first}
 use Rattle.std.proofs.lemmas.Bool.Decides.{nat_tests}
-use Rattle.std.proofs.lemmas.List.Splits.{slice_split-cons_yes, slice_split-cons_no}
 use Rattle.std.proofs.lemmas.List.Sums.{length-filter}
 use Rattle.jn_schedule.specs.declared.Event.{Event}
-use Rattle.jn_schedule.specs.Grammar.{AreLines, Spells, has_bytes, is_passed, lines_of, words_of, word_lines}
+use Rattle.jn_schedule.specs.Grammar.{AreLines, has_bytes, is_passed, lines_of, words_of, word_lines}
 use Rattle.jn_schedule.specs.Reading.{begins_event}
 use Rattle.jn_schedule.proofs.Again.{spelled_read}
 

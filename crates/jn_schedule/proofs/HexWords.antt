@@ -1,8 +1,9 @@
 -- Words that spell bytes.
-use Rattle.std.proofs.Common.{◌≡◌, ◌≢◌, ℕ, zero, suc, ◌-◌, ◌*◌, ◌/◌, ◌<◌, ◌≤◌, Bool, true, false, List, [], ◌∷◌, ◌++◌, length, drop, replicate, refl, ap, sym, ◌∙◌, arith}
+use Rattle.std.proofs.Common.{◌≡◌, ◌≢◌, ℕ, zero, suc, ◌-◌, ◌*◌, ◌/◌, ◌<◌, ◌≤◌, Bool, true, false, List, [], ◌∷◌, ◌++◌, length, take, drop, replicate, refl, ap, sym, ◌∙◌, arith}
 use Rattle.std.proofs.lemmas.Bool.{eqb-true, false≢true}
-use Rattle.std.proofs.lemmas.List.{drop-replicate}
+use Rattle.std.proofs.lemmas.List.{drop-replicate, length-append}
 use Rattle.std.proofs.lemmas.Bool.Decides.{nat_tests}
+use Rattle.std.proofs.Math.Seq.{take-append_seam}
 use Rattle.std.specs.List.{AllByRecursion}
 use Rattle.std.specs.Prelude.{MatchBool, MatchResult, Result, Ok, Err, is_err}
 use Rattle.std.proofs.Common.{eqb}
@@ -12,7 +13,7 @@ use Rattle.hex.specs.declared.error.FromHexError.{FromHexError}
 use Rattle.hex.specs.Hex.{IsBytes, decode_sized, encode_lower, lower_digits}
 use Rattle.hex.proofs.HexLemmas.{decode_of-ok, decode_sized-encode_lower, decode_sized-ok, decode_sized-twice, length-encode_with}
 use Rattle.jn_text.specs.Words.{hex_word}
-use Rattle.jn_schedule.specs.Grammar.{IsByte, SpellsBlock}
+use Rattle.jn_schedule.specs.Grammar.{IsByte, SpellsBlock, filled}
 
 pub bytes_at : (bytes : List ℕ) → AllByRecursion IsByte bytes → IsBytes bytes
 bytes_at [] fits i = omega arith
@@ -53,6 +54,11 @@ told word room left again r true answers ok spelled tests =
     (decoded_bytes word room left r answers ok, sym (same_text again word tests) ∙ spelled)
 told word room left again r false answers ok spelled tests =
     λ bytes long fits e. other_text again word tests (spelled ∙ ap encode_lower (decoded word room left bytes r answers long fits e).1 ∙ sym e)
+
+-- each byte has two digits, and none is spelled by one
+halves : (word bytes : List ℕ) → word ≡ hex_word bytes → length word / 2 ≡ length bytes
+halves word [] e = let long = ap length e in omega arith
+halves word (b ∷ bytes) e = let long = ap length e ∙ length-encode_with lower_digits (b ∷ bytes) in omega arith
 
 -- a block of which some bytes are spelled
 pub record SpellsSome (word : List ℕ) : Type 0 where
@@ -111,3 +117,20 @@ not_empty word some empty = let long = some.long in let one = some.some in let n
 
 pub not_long : (word : List ℕ) → SpellsSome word → 448 < length word / 2 → ⊥
 not_long word some past = let long = some.long in let few = some.few in omega arith
+
+-- a block is the bytes that its word spells, of which each has two digits, and zeros
+pub front_is : (word stored front content : List ℕ) → SpellsBlock stored word → front ≡ take (length word / 2) stored
+    → content ≡ front ++ replicate (448 - length front) 0 → content ≡ stored
+front_is word stored front content spells at is = go spells.bytes spells.stores spells.spelled
+  where
+    go : (bytes : List ℕ) → stored ≡ filled bytes → word ≡ hex_word bytes → content ≡ stored
+    go bytes stores e =
+        let half : length word / 2 ≡ length bytes = halves word bytes e in
+        let same : front ≡ bytes = at ∙ ap (λ (n : ℕ). take n stored) half ∙ ap (take (length bytes)) stores ∙ take-append_seam bytes (replicate (448 - length bytes) 0) in
+        is ∙ ap filled same ∙ sym stores
+
+pub few_spelled : (word stored : List ℕ) → SpellsBlock stored word → length word / 2 ≤ length stored
+few_spelled word stored spells =
+    let half = halves word spells.bytes spells.spelled in
+    let long = ap length spells.stores ∙ length-append spells.bytes (replicate (448 - length spells.bytes) 0) in
+    omega (arith, half, long)

@@ -2,7 +2,7 @@
 ghost use Rattle.std.specs.Prelude.{◌≡◌, IfOk};
 ghost use Rattle.jn_schedule.specs.Grammar.{line_of_event};
 
-use crate::words::{is_passed, words_of};
+use crate::words::{fill_words, is_passed};
 use std::alloc::{AllocError, Global};
 
 /// The line of a text, from 1, at which the event of an index stands; indexes count from 0. None where
@@ -10,11 +10,12 @@ use std::alloc::{AllocError, Global};
 pub fn line_of_event(alloc: Global, text: &[u8], index: usize) -> Result<Option<usize>, AllocError>
     ensures { IfOk result (λ found. found ≡ line_of_event text.now index) }
 {
+    let mut words = Vec::new(alloc);
     let mut left = index;
     let mut number = 0;
     for line in text.split(|b| *b == b'\n') {
         number += 1;
-        let words = words_of(alloc, line)?;
+        fill_words(&mut words, line)?;
         if !is_passed(&words) {
             if left == 0 {
                 return Ok(Some(number));

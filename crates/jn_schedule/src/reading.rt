@@ -8,9 +8,7 @@ use crate::fault::{LineFault, ReadFault};
 use crate::word::{
     block_no_of, bytes_of, client_of, file_of, name_of, page_of, server_of, value_of,
 };
-use jn_base::{
-    Block, BlockContent, BlockNo, ClientNo, Command, FaultKind, FileNo, Op, ServerNo, Tid,
-};
+use jn_base::{BlockNo, ClientNo, Command, FaultKind, FileNo, Op, ServerNo, Tid};
 use std::alloc::Global;
 
 /// How many messages a schedule can name.
@@ -380,25 +378,17 @@ fn server_file_block(args: &[&[u8]]) -> Result<(ServerNo, FileNo, BlockNo), Line
     Ok((server_of(server)?, file_of(file)?, block_no_of(block)?))
 }
 
-#[tactic(auto, unfolding(crate::specs::Reading::write_of))]
-fn write_of(args: &[&[u8]]) -> Result<(ServerNo, FileNo, BlockNo, Block), LineFault>
-    ensures { result ≡ reads.write_of (texts args.now) }
+#[tactic(auto, unfolding(crate::specs::Reading::written, crate::specs::Reading::write_of))]
+fn written(alloc: Global, args: &[&[u8]]) -> Result<Command, ReadFault>
+    ensures { reads.Tells result (reads.written (texts args.now)) }
 {
     let [server, file, block, bytes] = args else {
-        return Err(LineFault::Count);
+        return Err(ReadFault::Line(LineFault::Count));
     };
     let server = server_of(server)?;
     let file = file_of(file)?;
     let block = block_no_of(block)?;
-    Ok((server, file, block, bytes_of(bytes)?))
-}
-
-#[tactic(auto, unfolding(crate::specs::Reading::written))]
-fn written(alloc: Global, args: &[&[u8]]) -> Result<Command, ReadFault>
-    ensures { reads.Tells result (reads.written (texts args.now)) }
-{
-    let (server, file, block, bytes) = write_of(args)?;
-    let content = BlockContent::from_block(alloc, &bytes)?;
+    let content = bytes_of(alloc, bytes)?;
     Ok(Command::Do(server, Op::Write(file, block, content)))
 }
 

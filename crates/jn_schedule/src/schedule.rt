@@ -11,8 +11,11 @@ ghost use Rattle.jn_schedule.specs.declared.fault.ParseFault.TheVariants.{Memory
 use crate::Event;
 use crate::fault::{ParseFault, ReadFault};
 use crate::reading::event_of;
-use crate::words::{is_passed, words_of};
+use crate::words::{fill_words, is_passed};
 use std::alloc::Global;
+
+/// The bytes of the shortest event, with its line feed: `show 0` and the like.
+const SHORTEST_EVENT: usize = 7;
 
 /// The events of a schedule's text, or its first fault.
 ///
@@ -66,12 +69,13 @@ pub fn words_are_in_range()
 fn read_text(alloc: Global, text: &[u8]) -> Result<Vec<Event>, ParseFault>
     ensures { Gives result (read_lines 1 (word_lines text.now)) }
 {
-    // Events are large: room is taken once.
-    let mut events = Vec::with_capacity(alloc, count_events(text))?;
+    // Events are large: room is taken once. What no event takes of it is never touched.
+    let mut events = Vec::with_capacity(alloc, text.len() / SHORTEST_EVENT + 1)?;
+    let mut words = Vec::new(alloc);
     let mut number = 0;
     for line in text.split(|b| *b == b'\n') {
         number += 1;
-        read_line(alloc, line, number, &mut events)?;
+        read_line(alloc, line, number, &mut words, &mut events)?;
     }
     Ok(events)
 }
@@ -81,30 +85,32 @@ fn check_text(alloc: Global, text: &[u8]) -> Result<(), ParseFault>
     ensures { Passes result (read_lines 1 (word_lines text.now)) }
 {
     let mut events = Vec::new(alloc);
+    let mut words = Vec::new(alloc);
     let mut number = 0;
     for line in text.split(|b| *b == b'\n') {
         number += 1;
         events.clear();
-        read_line(alloc, line, number, &mut events)?;
+        read_line(alloc, line, number, &mut words, &mut events)?;
     }
     Ok(())
 }
 
-/// Adds the event of a line, if it is one.
+/// Adds the event of a line, if it is one. The line's words take the room of those before.
 #[tactic(auto, unfolding(crate::specs::Reading::read_line))]
-fn read_line(
+fn read_line<'a>(
     alloc: Global,
-    line: &[u8],
+    line: &'a [u8],
     number: usize,
+    words: &mut Vec<&'a [u8]>,
     events: &mut Vec<Event>,
 ) -> Result<(), ParseFault>
     ensures { AddsLine result number (read_line (words_of line.now)) events.old.items events.new.items }
 {
-    let words = words_of(alloc, line)?;
-    if is_passed(&words) {
+    fill_words(words, line)?;
+    if is_passed(words) {
         return Ok(());
     }
-    match event_of(alloc, &words) {
+    match event_of(alloc, words) {
         Ok(event) => {
             events.push(event)?;
             Ok(())

@@ -3,11 +3,12 @@ ghost use Rattle.std.specs.Prelude.{◌≡◌, ◌≢◌, ◌≤◌, ℕ, List, 
 ghost use Rattle.std.specs.List.{AllByRecursion};
 ghost use Rattle.hex.specs.Hex.{encode_lower};
 ghost use Rattle.jn_schedule.specs.Grammar.{IsByte, SpellsBlock};
-ghost use Rattle.jn_schedule.specs.Reading.{Reads, block_no_of, bytes_of, client_of, cut_at_stop, file_of, name_in, name_of, number_in, page_of, server_of, server_in, value_of};
+ghost use Rattle.jn_schedule.specs.Reading.{Reads, Tells, block_no_of, bytes_of, client_of, cut_at_stop, file_of, name_in, name_of, number_in, page_of, server_of, server_in, value_of};
 
-use crate::fault::LineFault;
-use jn_base::{Block, BlockNo, ClientNo, FileNo, ServerNo, Tid};
+use crate::fault::{LineFault, ReadFault};
+use jn_base::{Block, BlockContent, BlockNo, ClientNo, FileNo, ServerNo, Tid};
 use jn_text::read_number;
+use std::alloc::Global;
 
 /// The last server.
 const LAST_SERVER: u32 = 7;
@@ -163,8 +164,14 @@ fn decode(word: &[u8], room: &mut [u8]) -> bool
     hex::encode_to_slice(&*room, again).is_ok() && *again == *word
 }
 
-pub fn bytes_of(word: &[u8]) -> Result<Block, LineFault>
-    ensures { result ≡ bytes_of word.now }
+/// That block's content, as it is told of a line.
+#[tactic(auto, unfolding(crate::specs::Reading::bytes_of))]
+pub fn bytes_of(alloc: Global, word: &[u8]) -> Result<BlockContent, ReadFault>
+    ensures { Tells result (bytes_of word.now) }
 {
-    block_at(word).ok_or(LineFault::Bytes)
+    let Some(block) = block_at(word) else {
+        return Err(ReadFault::Line(LineFault::Bytes));
+    };
+    // Two digits spell a byte, and only zeros stand behind those bytes.
+    Ok(BlockContent::new(alloc, &block[..word.len() / 2])?)
 }

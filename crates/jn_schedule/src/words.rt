@@ -1,17 +1,16 @@
 //! Lines as words.
-ghost use Rattle.std.specs.Prelude.{◌≡◌, map, IfOk};
+ghost use Rattle.std.specs.Prelude.{◌≡◌, map, OnOk};
 ghost use Rattle.jn_schedule.specs.Grammar.{words_of, is_passed, begins_comment};
 ghost use Rattle.jn_schedule.specs.Reading.{texts};
 
-use std::alloc::{AllocError, Global};
+use std::alloc::AllocError;
 
-/// The words of a line: its runs of bytes other than spaces.
-pub fn words_of(alloc: Global, line: &[u8]) -> Result<Vec<&[u8]>, AllocError>
-    ensures { IfOk result (λ v. texts v.items ≡ words_of line.now) }
+/// Leaves the words of a line in place of those that were there: its runs of bytes other than spaces.
+pub fn fill_words<'a>(words: &mut Vec<&'a [u8]>, line: &'a [u8]) -> Result<(), AllocError>
+    ensures { OnOk result (texts words.new.items ≡ words_of line.now) }
 {
-    line.split(|b| *b == b' ')
-        .filter(|word| !word.is_empty())
-        .collect(alloc)
+    words.clear();
+    words.extend(line.split(|b| *b == b' ').filter(|word| !word.is_empty()))
 }
 
 /// Whether the line of these words is no event: it has none, or is a comment.
