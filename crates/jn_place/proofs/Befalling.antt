@@ -32,6 +32,7 @@ module _ {S : Type 0} (look : S → StoreView) (device : S → DeviceState) wher
   as-before p q h = record {
     memory = ap memory_of h.tables ∙ ap (λ (a : Accounts). memory_of (record (view_with look p) { storage = record (view_with look q).storage { accounts = a } })) h.storage.same;
     found = h.storage.found;
+    accounts = h.storage.same;
   }
 
   pub befell-up : (g : Counts) (becomes : DeviceState → DeviceState → Type 0) (a : Slot S) (p q : Parts S) → a ≡ Up p → Befalls (view_with look p) (view_with look q) → becomes (device p.storage.0) (device q.storage.0)

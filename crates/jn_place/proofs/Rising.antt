@@ -29,6 +29,7 @@ use Rattle.jn_machine.specs.Steps.{with_epoch}
 use Rattle.jn_recovery.specs.Loading.{IsSameOrNext}
 use Rattle.jn_report.specs.declared.line.When.{When}
 use Rattle.jn_report.specs.declared.line.Line.{Line}
+use Rattle.jn_storage.specs.Storage.{Accounts}
 use Rattle.jn_store.specs.Store.{StoreLater}
 use Rattle.jn_place.specs.declared.place.Restarted.{Restarted}
 use Rattle.jn_place.specs.declared.place.Restarted.TheVariants as came
@@ -78,6 +79,7 @@ module _ {S : Type 0} (look : S → StoreView) (device : S → DeviceState) (q :
     finds = λ c. r.loaded.found c ∙ ap (λ (n : ℕ). record x { epoch = n }) (one-more x.epoch);
     epoch_is = told-epoch;
     before_last = let fits = r.loaded.epoch_fits in omega (arith, told-epoch, fits);
+    clean = r.loaded.recovered.rubbish;
   }
     where
       x : StableState
@@ -143,6 +145,7 @@ module _ {S : Type 0} (look : S → StoreView) (device : S → DeviceState) (see
       finds = λ c. ap (λ f. f c) stays.0.found ∙ subst (λ (x : StableState). (view_with look m).storage.found c ≡ with_epoch x) at (h.finds c);
       epoch_is = subst (λ (x : StableState). epoch ≡ x.epoch + 1) at h.epoch_is;
       before_last = subst (λ (x : StableState). x.epoch < 4294967295) at h.before_last;
+      clean = ap (λ (a : Accounts). a.rubbish) stays.0.accounts ∙ h.clean;
     }
       where
         at : found_on g (look lit) h.pick ≡ found_on g (look s) h.pick

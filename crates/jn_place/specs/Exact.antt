@@ -11,7 +11,9 @@ use Rattle.jn_base.specs.declared.device.Outside.{Outside}
 use Rattle.jn_base.specs.Names.{tid_eq, work_eq}
 use Rattle.jn_device.specs.Device.{DeviceState}
 use Rattle.jn_device.specs.Events.{PowersUp, powered_off, cleared}
+use Rattle.jn_found.specs.Images.{IsImage}
 use Rattle.jn_found.specs.Pages.{found_on}
+use Rattle.jn_intent.specs.Scrubbing.{IsIdle}
 use Rattle.jn_locks.specs.Locks.{work_before}
 use Rattle.jn_msgs.specs.declared.message.Message.{Message}
 use Rattle.jn_msgs.specs.Collected.{Collected}
@@ -31,6 +33,7 @@ use Rattle.jn_machine.specs.Steps.{with_epoch}
 use Rattle.jn_rows.specs.Stable.{Pick, IsStopState, made_all}
 use Rattle.jn_rows.specs.Worker.{timeout_row}
 use Rattle.jn_server.specs.declared.show.Shown.{Shown}
+use Rattle.jn_server.specs.Handling.{LeavesRubbish, StepLeaves}
 use Rattle.jn_server.specs.Seen.{Parts, ServerView, view_with, memory_of, room_of}
 use Rattle.jn_server.specs.Showing.{print_of}
 use Rattle.jn_server.specs.Reading.{IsRoomOfPages}
@@ -176,6 +179,31 @@ abbrev pub TimedOut : {S : Type 0} → (S → StoreView) → Tid → Slot S → 
 TimedOut look T (Up p) answer (Up p') = IsTimedOut look T p answer p'
 TimedOut look T before answer after = ⊥
 
+-- ---- rubbish
+
+-- this holds of the server before and after a call that leaves it up
+abbrev pub WhereUp : {S : Type 0} → (S → StoreView) → (ServerView → ServerView → Type 0) → Slot S → Slot S → Type 0
+WhereUp look so (Up p) (Up p') = so (view_with look p) (view_with look p')
+WhereUp look so before after = ⊤
+
+-- a message leaves as rubbish what its row's changes leave
+abbrev pub TakeLeaves : Message → ServerView → ServerView → Type 0
+TakeLeaves message v w = LeavesRubbish v (server_row (memory_of v) (state v.storage) (room_of v.storage) message) w
+
+-- a background step erases a record of it, or leaves what its row's change leaves
+abbrev pub WorkLeaves : ServerView → ServerView → Type 0
+WorkLeaves v w = (row : RowOutcome Memory) → work_of v ≡ Some row → StepLeaves v row w
+
+-- any other call leaves it as it is
+abbrev pub KeepsRubbish : ServerView → ServerView → Type 0
+KeepsRubbish v w = w.storage.accounts.rubbish ≡ v.storage.accounts.rubbish
+
+-- ---- an image
+
+-- Where no fault waits and it has nothing but files, its store is that of a sound image then, which holds these files.
+abbrev pub LeavesImage : ServerNo → Counts → ServerView → ServerView → Type 0
+LeavesImage q g v w = IsCalm v.storage.store → IsIdle v.storage → IsImage q g (state v.storage).files w.storage.store
+
 -- ---- down and up
 
 -- it went down, and its power went
@@ -205,6 +233,8 @@ pub record IsUpAt {S : Type 0} (look : S → StoreView) (device : S → DeviceSt
   pub finds : (c : Pick) → (view_with look p').storage.found c ≡ with_epoch (found_on g (look s) pick)
   pub epoch_is : epoch ≡ (found_on g (look s) pick).epoch + 1
   pub before_last : (found_on g (look s) pick).epoch < 4294967295
+  -- no record is rubbish any more
+  pub clean : (view_with look p').storage.accounts.rubbish ≡ []
 
 -- It was stopped: each pick finds what some pick found before, in the same epoch or the next.
 pub record IsStoppedUp {S : Type 0} (look : S → StoreView) (device : S → DeviceState) (g : Counts) (told : List Outside) (s s' : S) : Type 0 where

@@ -1,5 +1,5 @@
 -- What the parts of a call at a place do: the server's own call, and what follows it.
-use Rattle.std.specs.Prelude.{◌≡◌, ◌<◌, ◌+◌, ℕ, Bool, true, false, List, [], map, Option, Some, is_some}
+use Rattle.std.specs.Prelude.{◌≡◌, ◌<◌, ◌+◌, ℕ, Bool, true, false, ⊤, List, [], map, Option, Some, is_some}
 use Rattle.jn_base.specs.declared.names.ServerNo.{ServerNo}
 use Rattle.jn_base.specs.declared.names.Tid.{Tid}
 use Rattle.jn_base.specs.declared.names.WorkId.{WorkId}
@@ -8,6 +8,7 @@ use Rattle.jn_base.specs.Names.{tid_eq, work_eq}
 use Rattle.jn_device.specs.Device.{DeviceState}
 use Rattle.jn_device.specs.Events.{PowersUp, powered_off, cleared}
 use Rattle.jn_found.specs.Pages.{found_on}
+use Rattle.jn_intent.specs.Scrubbing.{counts_in}
 use Rattle.jn_locks.specs.Locks.{work_before}
 use Rattle.jn_machine.specs.Steps.{with_epoch}
 use Rattle.jn_msgs.specs.declared.message.Message.{Message}
@@ -22,7 +23,7 @@ use Rattle.jn_rows.specs.Coordinator.{close_clients_row}
 use Rattle.jn_rows.specs.Outcomes.{RowOutcome}
 use Rattle.jn_rows.specs.Stable.{Pick, IsStopState, made_all}
 use Rattle.jn_server.specs.declared.show.Shown.{Shown}
-use Rattle.jn_server.specs.Seen.{Parts, view_with, memory_of, room_of}
+use Rattle.jn_server.specs.Seen.{Parts, ServerView, view_with, memory_of, room_of}
 use Rattle.jn_storage.specs.Calls.{state}
 use Rattle.jn_storage.specs.Storage.{StorageLater}
 use Rattle.jn_store.specs.Store.{StoreView, StoreLater, IsCalm}
@@ -30,7 +31,7 @@ use Rattle.jn_place.specs.declared.place.Restarted.{Restarted}
 use Rattle.jn_place.specs.declared.place.Restarted.TheVariants as came
 use Rattle.jn_place.specs.declared.place.Slot.{Slot}
 use Rattle.jn_place.specs.declared.place.Slot.TheVariants.{Up, Down, Gone}
-use Rattle.jn_place.specs.Exact.{Sends, Prints, idle_row, work_of}
+use Rattle.jn_place.specs.Exact.{Sends, Prints, WhereUp, LeavesImage, idle_row, work_of}
 
 -- ---- a call of a server that is up, which leaves it where it is
 
@@ -87,6 +88,15 @@ abbrev pub Closes : {S : Type 0} → (S → StoreView) → Slot S → Bool → S
 Closes look (Up p) done after = let m = memory_of (view_with look p) in RowEnds look (of_coordinator m (close_clients_row m.coordinator m.tickets)) p done after
 Closes look before done after = ⊥
 
+-- this holds of the server before and after a call that is done
+abbrev pub WhereDone : {S : Type 0} → (S → StoreView) → (ServerView → ServerView → Type 0) → Slot S → Bool → Slot S → Type 0
+WhereDone look so before true after = WhereUp look so before after
+WhereDone look so before false after = ⊤
+
+-- the server's own image, by its root
+abbrev pub LeavesOwnImage : ServerView → ServerView → Type 0
+LeavesOwnImage v w = LeavesImage v.storage.accounts.server (counts_in v.storage.accounts) v w
+
 -- ---- what follows
 
 -- what the device below has told
@@ -103,6 +113,7 @@ SaysSame look s t = (g : Counts) → found_on g (look t) ≡ found_on g (look s)
 pub record IsAsBefore {S : Type 0} (look : S → StoreView) (p p' : Parts S) : Type 0 where
   pub memory : memory_of (view_with look p') ≡ memory_of (view_with look p)
   pub found : (view_with look p').storage.found ≡ (view_with look p).storage.found
+  pub accounts : (view_with look p').storage.accounts ≡ (view_with look p).storage.accounts
 
 abbrev pub StaysAs : {S : Type 0} → (S → StoreView) → (S → DeviceState) → (DeviceState → DeviceState) → Slot S → Slot S → Type 0
 StaysAs look device f (Up p) (Up p') = IsAsBefore look p p' × (device p'.storage.0 ≡ f (device p.storage.0))
@@ -129,6 +140,7 @@ pub record IsRisen {S : Type 0} (look : S → StoreView) (q : ServerNo) (g : Cou
   pub finds : (c : Pick) → (view_with look p').storage.found c ≡ with_epoch (found_on g (look s) pick)
   pub epoch_is : epoch ≡ (found_on g (look s) pick).epoch + 1
   pub before_last : (found_on g (look s) pick).epoch < 4294967295
+  pub clean : (view_with look p').storage.accounts.rubbish ≡ []
 
 -- or it was stopped
 pub record IsCutUp {S : Type 0} (look : S → StoreView) (g : Counts) (s s' : S) : Type 0 where

@@ -1,5 +1,6 @@
 use Rattle.jn_store.specs.Store.{StoreView}
 use Rattle.jn_place.proofs.Calling.{scrubs-done, scrubs-stopped}
+use Rattle.jn_place.proofs.Rubbish.{keeps-so, scrubs-image}
 use Rattle.jn_place.proofs.place.Place.clean.Goals as goal
 
 pub returns-in-Ok-clause-idles : goal.returns-in-Ok-clause-idles
@@ -13,3 +14,15 @@ returns-in-Err-clause-idles g c =
     let look : g.row.S.Denot → StoreView = λ s. g.S.StableStore.view s in
     let h = c.in-Err.ensures in
     scrubs-stopped look c.args.self.now.slot c.in-Up.server c.scrub.new.self c.in-Up.is h.scrubbed
+
+pub returns-in-Ok-clause-rubbish : goal.returns-in-Ok-clause-rubbish
+returns-in-Ok-clause-rubbish g c =
+    let look : g.row.S.Denot → StoreView = λ s. g.S.StableStore.view s in
+    let h = c.in-Ok.ensures in
+    keeps-so look c.args.self.now.slot c.in-Up.server c.scrub.new.self c.in-Up.is h.scrubbed.same
+
+pub returns-in-Ok-clause-image : goal.returns-in-Ok-clause-image
+returns-in-Ok-clause-image g c =
+    let look : g.row.S.Denot → StoreView = λ s. g.S.StableStore.view s in
+    let h = c.in-Ok.ensures in
+    scrubs-image look c.args.self.now.slot c.in-Up.server c.scrub.new.self c.in-Up.is h.scrubbed

@@ -6,9 +6,10 @@ use Rattle.jn_recovery.specs.Loading.{counts_by}
 use Rattle.jn_server.specs.declared.show.Shown.{Shown}
 use Rattle.jn_store.specs.Store.{StoreView}
 use Rattle.jn_place.specs.Calls.{Called}
-use Rattle.jn_place.specs.Exact.{lines_at, texts_of_step, items_of, StaysCalm}
+use Rattle.jn_place.specs.Exact.{lines_at, texts_of_step, items_of, StaysCalm, KeepsRubbish}
 use Rattle.jn_place.specs.Inner.{told_at, Follows}
 use Rattle.jn_place.specs.Places.{IsPlace}
+use Rattle.jn_place.proofs.Rubbish.{left-up, keeps-lasts}
 use Rattle.jn_place.proofs.Steps.{quiet-left}
 use Rattle.jn_place.proofs.Taking.{showed-by, showed-calm}
 use Rattle.jn_place.proofs.place.Place.show.Goals as goal
@@ -38,5 +39,6 @@ returns g c =
       showed = showed-by look device g.met.S.Powered.seen c.args.server (counts_by p.counts) 1000000 c.args.when old new p.slot q.slot r.slot (items_of list) c.requires.place.stands call.shows follows lines;
       calm = subst (λ (b : Bool). StaysCalm look p.slot b r.slot) (sym (items-some list))
           (showed-calm look device g.met.S.Powered.seen c.args.server (counts_by p.counts) 1000000 c.args.when old new p.slot q.slot r.slot (items_of list) c.requires.place.stands call.shows follows);
+      rubbish = left-up look device KeepsRubbish (keeps-lasts look device) p.slot q.slot r.slot (is_some list) call.rubbish (subst (λ (b : Bool). Follows look device q.slot b r.slot) c.is_some.ensures then-so.follows);
       counts = then-so.counts ∙ call.counts;
     }

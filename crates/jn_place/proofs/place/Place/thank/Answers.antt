@@ -4,7 +4,9 @@ use Rattle.jn_store.specs.Store.{StoreView}
 use Rattle.jn_place.specs.declared.place.Slot.{Slot}
 use Rattle.jn_place.specs.declared.place.Slot.TheVariants.{Up}
 use Rattle.jn_place.specs.Calls.{Called}
+use Rattle.jn_place.specs.Exact.{KeepsRubbish}
 use Rattle.jn_place.proofs.Calling.{closes-done, closes-stopped}
+use Rattle.jn_place.proofs.Rubbish.{up-so}
 use Rattle.jn_place.proofs.Served.{nothing, closed-called, closed-stopped}
 use Rattle.jn_place.proofs.place.Place.thank.Goals as goal
 
@@ -33,3 +35,9 @@ returns-in-Err-Stopped-clause-closes g c =
     let look : g.row.S.Denot → StoreView = λ s. g.S.StableStore.view s in
     let h = rw c.in-Err-Stopped.field-0-is at c.in-Err-Stopped.ensures in
     closes-stopped look c.args.self.now.slot c.in-Up.server c.close_clients.new.self c.in-Up.is (h.does nothing)
+
+pub returns-in-Ok-clause-rubbish : goal.returns-in-Ok-clause-rubbish
+returns-in-Ok-clause-rubbish g c =
+    let look : g.row.S.Denot → StoreView = λ s. g.S.StableStore.view s in
+    let h = c.in-Ok.ensures in
+    up-so look KeepsRubbish c.args.self.now.slot c.in-Up.server c.close_clients.new.self c.in-Up.is h.rubbish
