@@ -113,7 +113,11 @@ impl<S: Powered + Drop> World<S> {
         ensures calm { OnOk result (StayUp (λ s. S.view s) self.old.places.items self.new.places.items) }
         ensures does { DoesEvent (λ s. S.view s) (λ s. S.device s) (events.Again client) when (standing_of self.old) result (standing_of self.new) lines.old.items lines.new.items }
     {
-        match self.clients[index_of(client)].again()? {
+        let own = &self.clients[index_of(client)];
+        if own.waits_for().is_none() {
+            return Ok(());
+        }
+        match own.again()? {
             None => Ok(()),
             Some((to, message)) => self.send(client, to, message, when, lines),
         }
