@@ -1,7 +1,7 @@
 -- Lists by slot, and the index that numbers them.
-use Rattle.std.proofs.Common.{◌≡◌, ◌⊎◌, inr, ⊎_elim, ◌≤◌, ◌<◌, ℕ, zero, suc, ◌+◌, Bool, true, false, List, [], ◌∷◌, ◌++◌, length, None, Some, refl, sym, ◌∙◌, ap, subst, arith}
+use Rattle.std.proofs.Common.{◌≡◌, ◌⊎◌, inr, ⊎_elim, ◌≤◌, ◌<◌, ℕ, zero, suc, ◌+◌, Bool, true, false, List, [], ◌∷◌, ◌++◌, length, Option, None, Some, refl, sym, ◌∙◌, ap, subst, arith}
 use Rattle.std.proofs.lemmas.Bool.Decides.{nat_tests}
-use Rattle.std.proofs.lemmas.List.Sums.{length-filter}
+use Rattle.std.proofs.lemmas.List.Sums.{length-filter, sum_by-cons}
 use Rattle.std.specs.Prelude.{nat_eq, nat_lt, slice_set, position, filter, count_by, is_some, cond}
 use Rattle.std.specs.List.{enumerate_from, position_or_len, list_any}
 use Rattle.std.specs.Map.{values_of, lookup}
@@ -68,3 +68,25 @@ any_found test xs = some_where (nat_lt (position_or_len test xs) (length xs)) (p
         by : (b : Bool) → test x ≡ b → nat_lt (position_or_len test xs) (length xs) ≡ list_any test xs → nat_lt (position_or_len test (x ∷ xs)) (length (x ∷ xs)) ≡ list_any test (x ∷ xs)
         by true e rest = grind (arith, nat_tests)
         by false e rest = grind (arith, nat_tests)
+
+-- as many entries pass by their values as values do
+values_counted : {K X : Type 0} (test : X → Bool) (es : List (K × X)) → count_by (λ e. test e.1) es ≡ count_by test (values_of es)
+values_counted test [] = refl
+values_counted test (e ∷ es) =
+    let one : count_by (λ m. test m.1) (e ∷ es) ≡ cond (test e.1) 1 0 + count_by (λ m. test m.1) es = sum_by-cons (λ m. cond (test m.1) 1 0) e es in
+    let its : count_by test (e.1 ∷ values_of es) ≡ cond (test e.1) 1 0 + count_by test (values_of es) = sum_by-cons (λ x. cond (test x) 1 0) e.1 (values_of es) in
+    let rest = values_counted test es in
+    omega arith
+
+pub values_passing : {K X : Type 0} (test : X → Bool) (es : List (K × X)) → length (filter (λ e. test e.1) es) ≡ count_by test (values_of es)
+values_passing test es = length-filter (λ e. test e.1) es ∙ values_counted test es
+
+pub none_yet : (n m : ℕ) → n ≡ m → 0 + n ≡ m
+none_yet n m h = omega (arith, h)
+
+pub none_found_where : {X : Type 0} (test : X → Bool) (xs : List X) → list_any test xs ≡ false → None ≡ position test xs
+none_found_where test xs none = by (position test xs) (any_found test xs ∙ none)
+  where
+    by : (o : Option ℕ) → is_some o ≡ false → None ≡ o
+    by None e = refl
+    by (Some i) e = absurd (cc e)

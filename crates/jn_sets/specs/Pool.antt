@@ -1,5 +1,5 @@
 -- The pool: a record for each of its slots, and the pages on which they stand.
-use Rattle.std.specs.Prelude.{◌≡◌, ℕ, ◌+◌, ◌*◌, ◌%◌, ◌<◌, List, length, slice_index_or, filter, count_by, not, ◌&&◌, nat_eq, Bool, true, false, Option, Some}
+use Rattle.std.specs.Prelude.{◌≡◌, ℕ, ◌+◌, ◌*◌, ◌%◌, ◌<◌, List, length, slice_index_or, filter, count_by, not, ◌&&◌, nat_eq, if◌then◌else◌, Bool, true, false, Option, Some}
 use Rattle.std.specs.List.{list_any, enumerate_from}
 use Rattle.jn_base.specs.declared.names.Tid.{Tid}
 use Rattle.jn_base.specs.declared.names.WorkId.{WorkId}
@@ -96,6 +96,24 @@ number_of (FlagRecord f) = spread f.tid.ticket 1
 abbrev pub is_rubbish : List Record → Record → Bool
 is_rubbish records (Intention work tid order i) = not (list_any (is_prepared work) records)
 is_rubbish records _ = false
+
+abbrev pub rubbish_count : List Record → ℕ
+rubbish_count records = count_by (is_rubbish records) records
+
+-- any of a work's intentions
+abbrev pub intends_for : WorkId → Record → Bool
+intends_for work (Intention w t o i) = work_eq w work
+intends_for work _ = false
+
+-- how many intentions a work without a ready or going record has
+abbrev pub left_of : List Record → WorkId → ℕ
+left_of records work = if list_any (is_prepared work) records then 0 else count_by (intends_for work) records
+
+-- how many intentions a record keeps from being rubbish, where it comes to these
+abbrev pub kept_by : List Record → Record → ℕ
+kept_by records (Ready head intentions reads) = left_of records head.work
+kept_by records (Going head intentions reads) = left_of records head.work
+kept_by records _ = 0
 
 -- ---- records on pages
 

@@ -6,7 +6,7 @@ use Rattle.jn_records.specs.declared.record.Record.{Record}
 use Rattle.jn_records.specs.Records.{record_page, has_page}
 use Rattle.jn_store.specs.Store.{StoreView, StoreLater, StorePut, IsSamePage}
 use Rattle.jn_store.specs.Choices.{IsChoice}
-use Rattle.jn_sets.specs.Pool.{page_of, record_in, number_of, free_count, is_rubbish, Holds, Says}
+use Rattle.jn_sets.specs.Pool.{page_of, record_in, number_of, free_count, is_rubbish, rubbish_count, Holds, Says}
 use Rattle.jn_index.specs.Numbers.{number_at}
 
 -- an index: it numbers its records from 0 on, and each has a page
@@ -27,12 +27,17 @@ ones b = if b then 1 else 0
 abbrev pub AreCleanTo : List Record → ℕ → Type 0
 AreCleanTo records slot = (k : ℕ) → k < slot → is_rubbish records (record_in records k) ≡ false
 
--- what a set keeps in memory
-pub record IsKept (entries : List (ℕ × Record)) (numbers : List (Option ℕ)) (free clean : ℕ) : Type 0 where
+-- the records in memory, and how they are found
+pub record AreInOrder (entries : List (ℕ × Record)) (numbers : List (Option ℕ)) (free : ℕ) : Type 0 where
   pub index : IsIndex entries
   pub slots : length numbers ≡ length (values_of entries)
   pub counted : AreCounted numbers free (values_of entries)
-  pub none_below : AreCleanTo (values_of entries) clean
+
+-- how many of them are rubbish, and below which slot none is
+pub record IsWatched (records : List Record) (rubbish clean : ℕ) : Type 0 where
+  pub few : length records < 2 ^ 16
+  pub count : rubbish ≡ rubbish_count records
+  pub none_below : AreCleanTo records clean
 
 -- so many gets: no page changes
 pub record StoreRead (v : StoreView) (gets : ℕ) (w : StoreView) : Type 0 where

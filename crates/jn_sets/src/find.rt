@@ -73,7 +73,7 @@ fn spread(ticket: u32, kind: u32) -> u32
 /// A count where one record may be more or less.
 pub(crate) fn recount(count: u32, was: bool, is: bool) -> u32
     requires some { was ≡ true → 0 < count }
-    requires few { count < 2 ^ 16 }
+    requires few { count < 2 ^ 17 }
     ensures { result + ones was ≡ count + ones is }
 {
     if was == is {
@@ -94,6 +94,16 @@ pub(crate) fn intends(value: &Record) -> bool
     ensures { result ≡ pool.intends value.now }
 {
     matches!(value, Record::Intention { .. })
+}
+
+/// Whether it is one of the work's intentions.
+pub(crate) fn intends_for(work: WorkId, value: &Record) -> bool
+    ensures { result ≡ pool.intends_for work value.now }
+{
+    match value {
+        Record::Intention { work: of, .. } => work_eq(*of, work),
+        _ => false,
+    }
 }
 
 /// Below which slot no record is rubbish, where it was so below one and a slot has another record: where a prepared

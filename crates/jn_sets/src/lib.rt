@@ -7,6 +7,7 @@
 //! but `load` and `members` takes memory, and after a stop only the store counts.
 #![tactic(auto)]
 
+mod by_slot;
 mod fault;
 mod find;
 mod numbers;

@@ -9,47 +9,39 @@ ghost use Rattle.jn_sets.specs.declared.fault.SetFault.TheVariants.{Full};
 ghost use Rattle.jn_sets.specs.Pool as pool;
 ghost use Rattle.jn_sets.specs.Sets.{StoreRead, Puts, AreCleanTo};
 
+use crate::by_slot::{Slots, page_of};
 use crate::fault::{LoadFault, SetFault};
-use crate::find::{
-    Wanted, clean_after, going_of, intends, is_free, is_wanted, number_of, number_wanted, ready_of,
-    recount,
-};
+use crate::find::{Wanted, clean_after, going_of, intends, is_free, ready_of, recount};
 use crate::numbers::record_fits;
-use indexmap::IndexMap;
-use jn_base::{Page, Stopped, Tid, WorkId};
-use jn_index::Index;
+use jn_base::{Stopped, Tid, WorkId};
 use jn_records::{Record, Root};
 use jn_store::StableStore;
 use std::alloc::{AllocError, Global};
 use std::marker::Model;
-use std::mem;
 
 /// The records of a pool. Contracts see them as a list, by slot.
 ///
 /// The store isn't kept: the calls that need it are passed it, and it is that from which the set was
-/// loaded. The index has every slot, also the free ones.
+/// loaded.
 #[derive(Drop)]
 pub struct Sets {
-    index: IndexMap<u16, Record>,
-    /// Of each slot the number by which its record is found.
-    numbers: Index,
-    /// How many slots hold no record.
-    free: u32,
-    /// No slot below it has an intention whose work has no ready or going record.
+    slots: Slots,
+    /// How many intentions are rubbish: their works have no ready or going record.
+    rubbish: u32,
+    /// No slot below it has such an intention.
     clean: u16,
 }
 
 impl Model for Sets {
     ghost use Rattle.std.specs.Prelude.{List};
-    ghost use Rattle.indexmap.specs.IndexMap.{values};
     ghost use Rattle.jn_records.specs.declared.record.Record.{Record};
-    ghost use Rattle.jn_sets.specs.Sets.{IsKept};
+    ghost use Rattle.jn_sets.specs.Sets.{IsWatched};
 
     ghost Value = { List Record };
 
-    ghost view = { λ s. values s.index };
+    ghost view = { λ s. s.slots };
 
-    ghost invariant = { λ s. IsKept s.index.entries s.numbers s.free s.clean };
+    ghost invariant = { λ s. IsWatched s.slots s.rubbish s.clean };
 }
 
 impl Sets {
@@ -69,20 +61,11 @@ impl Sets {
         ensures stop { result ≡ Err LoadStopped → IsStop (S.view store.old) (S.view store.new) }
         ensures calm { IsCalm (S.view store.old) → result ≢ Err LoadStopped }
     {
-        let mut index = IndexMap::with_capacity(alloc, root.pool as usize)?;
-        let mut numbers = Vec::with_capacity(alloc, root.pool as usize)?;
-        let mut free = 0;
-        for slot in 0..root.pool {
-            let value = read_slot(alloc, store, slot)?;
-            numbers.push(Some(number_of(&value)))?;
-            free = recount(free, false, is_free(&value));
-            index.insert(slot, value)?;
-        }
-        let by_number = Index::of(alloc, &numbers)?;
+        let slots = Slots::load(alloc, store, root)?;
+        let rubbish = slots.rubbish_count();
         Ok(Sets {
-            index,
-            numbers: by_number,
-            free,
+            slots,
+            rubbish,
             clean: 0,
         })
     }
@@ -91,22 +74,21 @@ impl Sets {
     pub fn slots(&self) -> u16
         ensures { result ≡ length self.now }
     {
-        self.index.len() as u16
+        self.slots.slots()
     }
 
     /// How many slots hold no record.
     pub fn free(&self) -> u32
         ensures { result ≡ pool.free_count self.now }
     {
-        self.free
+        self.slots.free()
     }
 
     /// The slot's record, `Free` where it holds none; `None` where there is no such slot.
     pub fn record(&self, slot: u16) -> Option<&Record>
         ensures { option_map (λ r. r.now) result ≡ slice_get self.now slot }
     {
-        let (_, value) = self.index.get_index(slot as usize)?;
-        Some(value)
+        self.slots.record(slot)
     }
 
     /// Whether there is such a slot, and it holds a record.
@@ -123,34 +105,28 @@ impl Sets {
     pub fn members(&self, alloc: Global) -> Result<Vec<(u16, &Record)>, AllocError>
         ensures { IfOk result (λ list. map (λ m. (m.0, m.1.now)) list.items ≡ pool.members_of self.now) }
     {
-        let mut list = Vec::new(alloc);
-        for (slot, value) in self.index.iter() {
-            if !is_free(value) {
-                list.push((*slot, value))?;
-            }
-        }
-        Ok(list)
+        self.slots.members(alloc)
     }
 
     /// The lowest slot with the ready or going record of the work.
     pub fn prepared_slot(&self, work: WorkId) -> Option<u16>
         ensures { result ≡ position (pool.is_prepared work) self.now }
     {
-        self.lowest(Wanted::Prepared(work))
+        self.slots.lowest(Wanted::Prepared(work))
     }
 
     /// The lowest slot with the work's intention of this place.
     pub fn intention_slot(&self, work: WorkId, order: u8) -> Option<u16>
         ensures { result ≡ position (pool.is_intention work order) self.now }
     {
-        self.lowest(Wanted::Intention(work, order))
+        self.slots.lowest(Wanted::Intention(work, order))
     }
 
     /// The lowest slot with the transaction's commit flag.
     pub fn flag_slot(&self, tid: Tid) -> Option<u16>
         ensures { result ≡ position (pool.is_flag tid) self.now }
     {
-        self.lowest(Wanted::Flag(tid))
+        self.slots.lowest(Wanted::Flag(tid))
     }
 
     /// Inserts a record into the lowest free slot, and says which. `Full` comes exactly where none is free,
@@ -167,7 +143,7 @@ impl Sets {
         ensures slots { length self.new ≡ length self.old }
         ensures later { StoreLater (S.view store.old) (S.view store.new) }
     {
-        let Some(free) = self.lowest(Wanted::Free) else {
+        let Some(free) = self.lowest_free() else {
             return Err(SetFault::Full);
         };
         self.put(store, free, value)?;
@@ -205,15 +181,15 @@ impl Sets {
         requires ready { pool.is_ready (pool.record_in self.old slot) ≡ true }
         ensures { Puts self.old (S.view store.old) slot (pool.going_of (pool.record_in self.old slot)) (is_ok result) self.new (S.view store.new) }
     {
-        let going = going_of(self.take(slot));
+        let going = going_of(self.slots.swap(slot, Record::Free));
         record_fits(&going);
         match store.put(page_of(slot), &going.encode()) {
             Ok(()) => {
-                self.set(slot, going);
+                self.slots.swap(slot, going);
                 Ok(())
             }
             Err(stopped) => {
-                self.set(slot, ready_of(going));
+                self.slots.swap(slot, ready_of(going));
                 Err(stopped)
             }
         }
@@ -237,27 +213,17 @@ impl Sets {
         Ok(true)
     }
 
-    /// Whether some slot has an intention whose work has no ready or going record. The slots are looked at once, without
-    /// those below the ones that `erase_one` has looked at.
+    /// Whether some slot has an intention whose work has no ready or going record.
     pub fn has_rubbish(&self) -> bool
         ensures { result ≡ list_any (pool.is_rubbish self.now) self.now }
     {
-        self.rubbish_slot().is_some()
+        self.rubbish > 0
     }
 
-    /// The lowest slot with what is wanted, among those with its number.
-    fn lowest(&self, wanted: Wanted) -> Option<u16>
-        ensures { result ≡ position (pool.is_wanted wanted) self.now }
+    fn lowest_free(&self) -> Option<u16>
+        ensures { result ≡ position pool.is_free self.now }
     {
-        let number = number_wanted(wanted);
-        let mut from = 0;
-        while let Some(slot) = self.numbers.slot_from(number, from) {
-            if is_wanted(wanted, &self.index[slot as usize]) {
-                return Some(slot);
-            }
-            from = slot + 1;
-        }
-        None
+        self.slots.lowest(Wanted::Free)
     }
 
     /// The lowest slot with an intention whose work has no ready or going record. The slots below it aren't looked
@@ -267,45 +233,34 @@ impl Sets {
         ensures within { IfSome result (λ slot. slot < length self.old) }
         ensures same { self.new ≡ self.old }
     {
-        match self.rubbish_slot() {
-            Some(slot) => {
-                self.clean = slot;
-                Some(slot)
-            }
-            None => {
-                self.clean = self.slots();
-                None
-            }
-        }
+        let slot = self.rubbish_slot()?;
+        self.clean = slot;
+        Some(slot)
     }
 
     fn rubbish_slot(&self) -> Option<u16>
         ensures first { result ≡ position (pool.is_rubbish self.now) self.now }
         ensures within { IfSome result (λ slot. slot < length self.now) }
         ensures below { IfSome result (λ slot. AreCleanTo self.now slot) }
-        ensures none { IfNone result (AreCleanTo self.now (length self.now)) }
     {
+        if !self.has_rubbish() {
+            return None;
+        }
         for slot in self.clean..self.slots() {
-            if self.is_rubbish(&self.index[slot as usize]) {
+            if self.is_rubbish_at(slot) {
                 return Some(slot);
             }
         }
         None
     }
 
-    fn is_rubbish(&self, value: &Record) -> bool
-        ensures { result ≡ pool.is_rubbish self.now value.now }
+    fn is_rubbish_at(&self, slot: u16) -> bool
+        ensures { result ≡ pool.is_rubbish self.now (pool.record_in self.now slot) }
     {
-        match value {
-            Record::Intention { work, .. } => !self.has_prepared(*work),
-            _ => false,
+        match self.slots.record(slot) {
+            Some(value) => self.slots.is_rubbish(value),
+            None => false,
         }
-    }
-
-    fn has_prepared(&self, work: WorkId) -> bool
-        ensures { result ≡ list_any (pool.is_prepared work) self.now }
-    {
-        self.lowest(Wanted::Prepared(work)).is_some()
     }
 
     /// Puts the slot's page, and then the index has its record.
@@ -322,67 +277,34 @@ impl Sets {
     {
         record_fits(&value);
         store.put(page_of(slot), &value.encode())?;
-        self.set(slot, value);
+        self.clear(slot);
+        self.fill(slot, value);
         Ok(())
     }
 
-    /// Takes the slot's record out of the index.
-    fn take(&mut self, slot: u16) -> Record
+    /// Takes the slot's record out of memory.
+    fn clear(&mut self, slot: u16)
         requires { slot < length self.old }
-        ensures taken { result ≡ pool.record_in self.old slot }
-        ensures page { has_page result ≡ true }
-        ensures left { self.new ≡ slice_set self.old slot Free }
+        ensures { self.new ≡ slice_set self.old slot Free }
     {
-        self.swap(slot, Record::Free)
+        let old = self.slots.swap(slot, Record::Free);
+        let was = self.slots.is_rubbish(&old);
+        self.rubbish = recount(self.rubbish + self.slots.kept_by(&old), was, false);
+        self.clean = clean_after(self.clean, slot, &old, false);
     }
 
-    fn set(&mut self, slot: u16, value: Record)
+    /// Puts a record into a free slot in memory.
+    fn fill(&mut self, slot: u16, value: Record)
         requires slot { slot < length self.old }
+        requires free { pool.record_in self.old slot ≡ Free }
         requires page { has_page value ≡ true }
         ensures { self.new ≡ slice_set self.old slot value }
     {
-        self.swap(slot, value);
-    }
-
-    /// Puts another record in place of the slot's in memory, and gives that back.
-    fn swap(&mut self, slot: u16, value: Record) -> Record
-        requires slot { slot < length self.old }
-        requires page { has_page value ≡ true }
-        ensures taken { result ≡ pool.record_in self.old slot }
-        ensures page { has_page result ≡ true }
-        ensures left { self.new ≡ slice_set self.old slot value }
-    {
-        let is = is_free(&value);
+        let is = self.slots.is_rubbish(&value);
+        let kept = self.slots.kept_by(&value);
         let intended = intends(&value);
-        self.numbers.set(slot, Some(number_of(&value)));
-        let old = mem::replace(&mut self.index[slot as usize], value);
-        self.free = recount(self.free, is_free(&old), is);
+        let old = self.slots.swap(slot, value);
+        self.rubbish = recount(self.rubbish, false, is) - kept;
         self.clean = clean_after(self.clean, slot, &old, intended);
-        old
     }
-}
-
-/// The slot's page, behind the root.
-fn page_of(slot: u16) -> u32
-    ensures { result ≡ pool.page_of slot }
-{
-    u32::from(slot) + 1
-}
-
-/// The record of a slot whose page is clean and of the format.
-fn read_slot<S: StableStore>(alloc: Global, store: &mut S, slot: u16) -> Result<Record, LoadFault>
-    requires there { slot + 1 < (S.view store.old).count }
-    requires readable { pool.IsReadable (S.view store.old) slot }
-    ensures stored { IfOk result (λ value. pool.IsStored (S.view store.old) slot value) }
-    ensures read { StoreRead (S.view store.old) 1 (S.view store.new) }
-    ensures served { IsOk result → IsServed (S.view store.old) (S.view store.new) }
-    ensures stop { result ≡ Err LoadStopped → IsStop (S.view store.old) (S.view store.new) }
-    ensures calm { IsCalm (S.view store.old) → result ≢ Err LoadStopped }
-{
-    let page = store.get(page_of(slot))?;
-    let Some(value) = Record::decode(alloc, &page)? else {
-        unreachable!()
-    };
-    record_fits(&value);
-    Ok(value)
 }

@@ -1,8 +1,12 @@
-use Rattle.std.proofs.Common.{ℕ, Option, ap, ◌∙◌}
-use Rattle.std.specs.Prelude.{is_some}
+use Rattle.std.proofs.Common.{ℕ, List, sym, ◌∙◌, ap}
+use Rattle.std.specs.Prelude.{nat_lt}
+use Rattle.std.specs.List.{list_any}
+use Rattle.jn_records.specs.declared.record.Record.{Record}
 use Rattle.jn_sets.specs.Pool.{is_rubbish}
-use Rattle.jn_sets.proofs.Slots.{any_found}
+use Rattle.jn_sets.proofs.Rubbish.{any_counted}
 use Rattle.jn_sets.proofs.sets.Sets.has_rubbish.Goals as goal
 
 pub returns : goal.returns
-returns c = c.is_some.ensures ∙ ap (λ (o : Option ℕ). is_some o) c.rubbish_slot.ensures.first ∙ any_found (is_rubbish c.args.self.now) c.args.self.now
+returns c =
+    let records = c.self.inside.slots in
+    ap (nat_lt 0) c.self.invariant.count ∙ sym (any_counted (is_rubbish records) records) ∙ ap (λ (l : List Record). list_any (is_rubbish l) l) c.self.view_is

@@ -1,6 +1,5 @@
-use Rattle.std.specs.Map.{values_of}
 use Rattle.jn_sets.specs.Sets.{AreCleanTo}
 use Rattle.jn_sets.proofs.sets.Sets.rubbish_slot.Given as goal
 
 abbrev pub invariant-loop-slot : goal.invariant-loop-slot
-invariant-loop-slot l = AreCleanTo (values_of l.self-inside.index.entries) l.slot
+invariant-loop-slot l = AreCleanTo l.self l.slot

@@ -6,7 +6,7 @@ use Rattle.jn_index.specs.Numbers.{number_at, IsSlotFrom}
 use Rattle.jn_records.specs.declared.record.Record.TheVariants.{Free}
 use Rattle.jn_sets.specs.Pool.{is_wanted, record_in}
 use Rattle.jn_sets.proofs.Numbering.{found_first, none_found, past_it, slot_within}
-use Rattle.jn_sets.proofs.sets.Sets.lowest.Goals as goal
+use Rattle.jn_sets.proofs.by_slot.Slots.lowest.Goals as goal
 
 pub returns-then-is_wanted : goal.returns-then-is_wanted
 returns-then-is_wanted c =

@@ -2,7 +2,7 @@ use Rattle.std.proofs.Common.{◌≡◌, length}
 use Rattle.std.specs.Map.{values_of}
 use Rattle.jn_sets.specs.Sets.{AreCounted}
 use Rattle.jn_sets.proofs.Loading.{LoadedTo}
-use Rattle.jn_sets.proofs.sets.Sets.load.Given as goal
+use Rattle.jn_sets.proofs.by_slot.Slots.load.Given as goal
 
 abbrev pub invariant-loop-slot : goal.invariant-loop-slot
 invariant-loop-slot g l = record {

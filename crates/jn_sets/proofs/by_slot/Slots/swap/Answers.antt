@@ -6,13 +6,12 @@ use Rattle.std.specs.Prelude.{slice_set}
 use Rattle.jn_records.specs.declared.record.Record.{Record}
 use Rattle.jn_records.specs.declared.record.Record.TheVariants.{Free}
 use Rattle.jn_records.specs.Records.{has_page}
-use Rattle.jn_sets.specs.Pool.{record_in, number_of, is_free, prepares, intends}
-use Rattle.jn_sets.specs.Sets.{AreCounted, AreCleanTo, ones}
+use Rattle.jn_sets.specs.Pool.{record_in, number_of, is_free}
+use Rattle.jn_sets.specs.Sets.{AreCounted, ones}
 use Rattle.jn_sets.proofs.Slots.{values_set}
 use Rattle.jn_sets.proofs.Stored.{index_set}
 use Rattle.jn_sets.proofs.Numbering.{counted_set, some_free}
-use Rattle.jn_sets.proofs.Rubbish.{clean_set}
-use Rattle.jn_sets.proofs.sets.Sets.swap.Goals as goal
+use Rattle.jn_sets.proofs.by_slot.Slots.swap.Goals as goal
 
 pub recount-self-inside-requires-clause-some : goal.recount-self-inside-requires-clause-some
 recount-self-inside-requires-clause-some c free =
@@ -41,9 +40,6 @@ invariant_of-self c =
       counted = subst (λ (l : List Record). AreCounted c.set.new.self c.recount-self-inside.result l) (sym values)
           (subst (λ (l : List (Option ℕ)). AreCounted l c.recount-self-inside.result (slice_set records c.args.slot value)) (sym numbers)
           (counted_set c.self.inside.numbers c.self.inside.free records c.self.invariant.counted value c.recount-self-inside.result c.args.slot below c.self.invariant.slots (omega arith)));
-      none_below = subst (λ (l : List Record). AreCleanTo l c.clean_after-self-inside.result) (sym values)
-          (clean_set records c.self.inside.clean c.args.slot c.clean_after-self-inside.result value below c.self.invariant.none_below c.clean_after-self-inside.ensures.kept
-          (λ e. c.clean_after-self-inside.ensures.prepared (ap prepares taken ∙ e)) (λ e. c.clean_after-self-inside.ensures.intention (c.intends-intended.ensures ∙ ap intends (sym is) ∙ e)));
     }
 
 pub returns-clause-taken : goal.returns-clause-taken

@@ -1,7 +1,7 @@
 use Rattle.std.proofs.Common.{◌≡◌, ◌<◌, ◌≤◌, ◌-◌, ℕ, false, length}
 use Rattle.std.specs.Map.{values_of}
 use Rattle.jn_sets.specs.Pool.{is_wanted, record_in}
-use Rattle.jn_sets.proofs.sets.Sets.lowest.Given as goal
+use Rattle.jn_sets.proofs.by_slot.Slots.lowest.Given as goal
 
 abbrev pub invariant-loop-slot : goal.invariant-loop-slot
 invariant-loop-slot l = record {

@@ -1,0 +1,27 @@
+use Rattle.std.proofs.Common.{◌≡◌, ◌<◌, ◌+◌, ◌-◌, ◌≤◌, ℕ, false, true, List, length, sym, ◌∙◌, ap, subst, arith}
+use Rattle.jn_records.specs.declared.record.Record.{Record}
+use Rattle.jn_records.specs.declared.record.Record.TheVariants.{Free}
+use Rattle.jn_sets.specs.Pool.{record_in, intends}
+use Rattle.jn_sets.specs.Sets.{ones}
+use Rattle.jn_sets.proofs.Rubbish.{sum_filled, watched_filled}
+use Rattle.jn_sets.proofs.sets.Sets.fill.Goals as goal
+
+pub overflow_sub-self : goal.overflow_sub-self
+overflow_sub-self c =
+    let below : c.args.slot < length c.self.inside.slots = subst (λ (l : List Record). c.args.slot < length l) (sym c.self.view_is) c.requires.slot in
+    let free : record_in c.self.inside.slots c.args.slot ≡ Free = subst (λ (l : List Record). record_in l c.args.slot ≡ Free) (sym c.self.view_is) c.requires.free in
+    let sum = sum_filled c.self.inside.slots c.self.inside.rubbish c.self.inside.clean c.self.invariant c.args.slot below c.swap-old.new.self c.args.value c.is_rubbish-is.result c.kept_by-kept.result
+    free c.swap-old.ensures.left c.is_rubbish-is.ensures c.kept_by-kept.ensures in
+    let all = c.recount.ensures in
+    omega arith
+
+pub invariant_of-self : goal.invariant_of-self
+invariant_of-self c =
+    let below : c.args.slot < length c.self.inside.slots = subst (λ (l : List Record). c.args.slot < length l) (sym c.self.view_is) c.requires.slot in
+    let free : record_in c.self.inside.slots c.args.slot ≡ Free = subst (λ (l : List Record). record_in l c.args.slot ≡ Free) (sym c.self.view_is) c.requires.free in
+    let sum = sum_filled c.self.inside.slots c.self.inside.rubbish c.self.inside.clean c.self.invariant c.args.slot below c.swap-old.new.self c.args.value c.is_rubbish-is.result c.kept_by-kept.result
+    free c.swap-old.ensures.left c.is_rubbish-is.ensures c.kept_by-kept.ensures in
+    let all = c.recount.ensures in
+    watched_filled c.self.inside.slots c.self.inside.rubbish c.self.inside.clean c.self.invariant c.args.slot below c.swap-old.new.self c.args.value c.is_rubbish-is.result c.kept_by-kept.result
+    free c.swap-old.ensures.left c.is_rubbish-is.ensures c.kept_by-kept.ensures (c.recount.result - c.kept_by-kept.result) c.clean_after-self-inside.result (omega arith)
+    c.clean_after-self-inside.ensures.kept (λ e. c.clean_after-self-inside.ensures.intention (c.intends-intended.ensures ∙ e))

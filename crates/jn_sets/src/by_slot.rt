@@ -1,0 +1,223 @@
+//! The records by slot, and the slots by number.
+ghost use Rattle.std.specs.Prelude.{◌≡◌, ◌<◌, ◌+◌, ℕ, true, not, List, length, position, slice_get, slice_set, map, count_by, option_map, IfOk, IsOk, ◌^◌, ◌≢◌, Err};
+ghost use Rattle.std.specs.List.{list_any};
+ghost use Rattle.jn_records.specs.Records.{has_page};
+ghost use Rattle.jn_store.specs.Store.{IsCalm, IsServed, IsStop};
+ghost use Rattle.jn_sets.specs.declared.fault.LoadFault.TheVariants.{Stopped as LoadStopped};
+ghost use Rattle.jn_sets.specs.Pool as pool;
+ghost use Rattle.jn_sets.specs.Sets.{StoreRead};
+
+use crate::fault::LoadFault;
+use crate::find::{Wanted, intends_for, is_free, is_wanted, number_of, number_wanted, recount};
+use crate::numbers::record_fits;
+use indexmap::IndexMap;
+use jn_base::WorkId;
+use jn_index::Index;
+use jn_records::{Record, Root};
+use jn_store::StableStore;
+use std::alloc::{AllocError, Global};
+use std::marker::Model;
+use std::mem;
+
+/// A record for each slot. The index has every slot, also the free ones.
+#[derive(Drop)]
+pub(crate) struct Slots {
+    index: IndexMap<u16, Record>,
+    /// Of each slot the number by which its record is found.
+    numbers: Index,
+    /// How many slots hold no record.
+    free: u32,
+}
+
+impl Model for Slots {
+    ghost use Rattle.std.specs.Prelude.{List};
+    ghost use Rattle.indexmap.specs.IndexMap.{values};
+    ghost use Rattle.jn_records.specs.declared.record.Record.{Record};
+    ghost use Rattle.jn_sets.specs.Sets.{AreInOrder};
+
+    ghost Value = { List Record };
+
+    ghost view = { λ s. values s.index };
+
+    ghost invariant = { λ s. AreInOrder s.index.entries s.numbers s.free };
+}
+
+impl Slots {
+    pub(crate) fn load<S: StableStore>(
+        alloc: Global,
+        store: &mut S,
+        root: &Root,
+    ) -> Result<Self, LoadFault>
+        requires counts { (S.view store.old).count ≡ 1 + root.now.pool + root.now.heads + root.now.leaves }
+        requires readable { (slot : ℕ) → slot < root.now.pool → pool.IsReadable (S.view store.old) slot }
+        ensures slots { IfOk result (λ slots. length slots ≡ root.now.pool) }
+        ensures holds { IfOk result (λ slots. pool.Holds slots (S.view store.new)) }
+        ensures read { StoreRead (S.view store.old) root.now.pool (S.view store.new) }
+        ensures served { IsOk result → 0 < root.now.pool → IsServed (S.view store.old) (S.view store.new) }
+        ensures stops { IsOk result → (S.view store.new).stops ≡ (S.view store.old).stops }
+        ensures stop { result ≡ Err LoadStopped → IsStop (S.view store.old) (S.view store.new) }
+        ensures calm { IsCalm (S.view store.old) → result ≢ Err LoadStopped }
+    {
+        let mut index = IndexMap::with_capacity(alloc, root.pool as usize)?;
+        let mut numbers = Vec::with_capacity(alloc, root.pool as usize)?;
+        let mut free = 0;
+        for slot in 0..root.pool {
+            let value = read_slot(alloc, store, slot)?;
+            numbers.push(Some(number_of(&value)))?;
+            free = recount(free, false, is_free(&value));
+            index.insert(slot, value)?;
+        }
+        let by_number = Index::of(alloc, &numbers)?;
+        Ok(Slots {
+            index,
+            numbers: by_number,
+            free,
+        })
+    }
+
+    /// How many slots there are.
+    pub(crate) fn slots(&self) -> u16
+        ensures { result ≡ length self.now }
+    {
+        self.index.len() as u16
+    }
+
+    /// How many slots hold no record.
+    pub(crate) fn free(&self) -> u32
+        ensures { result ≡ pool.free_count self.now }
+    {
+        self.free
+    }
+
+    /// The slot's record, `Free` where it holds none; `None` where there is no such slot.
+    pub(crate) fn record(&self, slot: u16) -> Option<&Record>
+        ensures { option_map (λ r. r.now) result ≡ slice_get self.now slot }
+    {
+        let (_, value) = self.index.get_index(slot as usize)?;
+        Some(value)
+    }
+
+    /// The slots that hold a record, with it, ascending.
+    pub(crate) fn members(&self, alloc: Global) -> Result<Vec<(u16, &Record)>, AllocError>
+        ensures { IfOk result (λ list. map (λ m. (m.0, m.1.now)) list.items ≡ pool.members_of self.now) }
+    {
+        let mut list = Vec::new(alloc);
+        for (slot, value) in self.index.iter() {
+            if !is_free(value) {
+                list.push((*slot, value))?;
+            }
+        }
+        Ok(list)
+    }
+
+    /// The lowest slot with what is wanted, among those with its number.
+    pub(crate) fn lowest(&self, wanted: Wanted) -> Option<u16>
+        ensures { result ≡ position (pool.is_wanted wanted) self.now }
+    {
+        let number = number_wanted(wanted);
+        let mut from = 0;
+        while let Some(slot) = self.numbers.slot_from(number, from) {
+            if is_wanted(wanted, &self.index[slot as usize]) {
+                return Some(slot);
+            }
+            from = slot + 1;
+        }
+        None
+    }
+
+    pub(crate) fn is_rubbish(&self, value: &Record) -> bool
+        ensures { result ≡ pool.is_rubbish self.now value.now }
+    {
+        match value {
+            Record::Intention { work, .. } => !self.has_prepared(*work),
+            _ => false,
+        }
+    }
+
+    fn has_prepared(&self, work: WorkId) -> bool
+        ensures { result ≡ list_any (pool.is_prepared work) self.now }
+    {
+        self.lowest(Wanted::Prepared(work)).is_some()
+    }
+
+    /// How many intentions are rubbish.
+    pub(crate) fn rubbish_count(&self) -> u32
+        ensures count { result ≡ pool.rubbish_count self.now }
+        ensures few { length self.now < 2 ^ 16 }
+    {
+        let mut count = 0;
+        for (_, value) in self.index.iter() {
+            if self.is_rubbish(value) {
+                count += 1;
+            }
+        }
+        count
+    }
+
+    /// How many intentions a record keeps from being rubbish, where it comes to these.
+    pub(crate) fn kept_by(&self, value: &Record) -> u32
+        ensures { result ≡ pool.kept_by self.now value.now }
+    {
+        match value {
+            Record::Ready { head, .. } => self.left_of(head.work),
+            Record::Going { head, .. } => self.left_of(head.work),
+            _ => 0,
+        }
+    }
+
+    /// How many intentions a work without a ready or going record has; none of one with such a record.
+    fn left_of(&self, work: WorkId) -> u32
+        ensures { result ≡ pool.left_of self.now work }
+    {
+        if self.has_prepared(work) {
+            return 0;
+        }
+        let mut count = 0;
+        for (_, value) in self.index.iter() {
+            if intends_for(work, value) {
+                count += 1;
+            }
+        }
+        count
+    }
+
+    /// Puts another record in place of the slot's, and gives that back.
+    pub(crate) fn swap(&mut self, slot: u16, value: Record) -> Record
+        requires slot { slot < length self.old }
+        requires page { has_page value ≡ true }
+        ensures taken { result ≡ pool.record_in self.old slot }
+        ensures page { has_page result ≡ true }
+        ensures left { self.new ≡ slice_set self.old slot value }
+    {
+        let is = is_free(&value);
+        self.numbers.set(slot, Some(number_of(&value)));
+        let old = mem::replace(&mut self.index[slot as usize], value);
+        self.free = recount(self.free, is_free(&old), is);
+        old
+    }
+}
+
+/// The slot's page, behind the root.
+pub(crate) fn page_of(slot: u16) -> u32
+    ensures { result ≡ pool.page_of slot }
+{
+    u32::from(slot) + 1
+}
+
+/// The record of a slot whose page is clean and of the format.
+fn read_slot<S: StableStore>(alloc: Global, store: &mut S, slot: u16) -> Result<Record, LoadFault>
+    requires there { slot + 1 < (S.view store.old).count }
+    requires readable { pool.IsReadable (S.view store.old) slot }
+    ensures stored { IfOk result (λ value. pool.IsStored (S.view store.old) slot value) }
+    ensures read { StoreRead (S.view store.old) 1 (S.view store.new) }
+    ensures served { IsOk result → IsServed (S.view store.old) (S.view store.new) }
+    ensures stop { result ≡ Err LoadStopped → IsStop (S.view store.old) (S.view store.new) }
+    ensures calm { IsCalm (S.view store.old) → result ≢ Err LoadStopped }
+{
+    let page = store.get(page_of(slot))?;
+    let Some(value) = Record::decode(alloc, &page)? else {
+        unreachable!()
+    };
+    record_fits(&value);
+    Ok(value)
+}
