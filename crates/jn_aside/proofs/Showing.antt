@@ -38,15 +38,15 @@ ops-plain t xs j [] = refl
 ops-plain t xs j (e ∷ es) = ap (λ ps. ps ++ ops_from t (plain xs) (j + 1) es) (op-plain t xs j e) ∙ ap (λ ps. op_in t xs j e ++ ps) (ops-plain t xs (j + 1) es)
 
 module _ (events : List Event) (a b : List Line) (same : plain a ≡ plain b) where
-  ops-aside : (t : Tid) → ops_of events a t ≡ ops_of events b t
+  pub ops-aside : (t : Tid) → ops_of events a t ≡ ops_of events b t
   ops-aside t = same-of (λ xs. ops_of events xs t) (λ xs. ops-plain t xs 1 events) a b same
 
-  history-aside : history_of a ≡ history_of b
+  pub history-aside : history_of a ≡ history_of b
   history-aside = same-of history_of history-plain a b same
 
   -- ---- the commits one after another
 
-  replay-aside : (files : AllFiles) (ts : List Tid) → replay files events a ts ≡ replay files events b ts
+  pub replay-aside : (files : AllFiles) (ts : List Tid) → replay files events a ts ≡ replay files events b ts
   replay-aside files [] = refl
   replay-aside files (t ∷ ts) = ap (λ ps. replay (files_then ps files) events a ts) (ops-aside t) ∙ replay-aside (files_then (ops_of events b t) files) ts
 

@@ -186,10 +186,10 @@ module _ (servers : ℕ) (few : servers ≤ 8) (files : AllFiles) (epochs : Serv
 
     -- ---- what it prints
 
-    world-is : (prints : List (List Printed)) → world_at_end servers (with_prints prints) done_world ≡ (go_on every begin).world
+    pub world-is : (prints : List (List Printed)) → world_at_end servers (with_prints prints) done_world ≡ (go_on every begin).world
     world-is prints = sym (on-world every begin ∙ ap (λ (ss : List Step). run ss begin.world) steps-are)
 
-    up : AreUp servers (world_at_end servers (with_prints []) done_world)
+    pub up : AreUp servers (world_at_end servers (with_prints []) done_world)
     up s l = subst (λ (w : World). is_some (w.memory s) ≡ true) (sym (world-is [])) (looked-up (go_on every begin).world 0 whole.texts whole.looked s (least s.0) (below s.0 (length whole.texts) l whole.text_count))
       where
         least : (a : ℕ) → 0 ≤ a
@@ -198,7 +198,7 @@ module _ (servers : ℕ) (few : servers ≤ 8) (files : AllFiles) (epochs : Serv
         below : (a n : ℕ) → a < servers → n ≡ servers → a < 0 + n
         below a n h e = omega (arith, h, e)
 
-    free : (s : ServerNo) (m : Memory) (u : LockUnit) → (go_on every begin).world.memory s ≡ Some m → commit_holder u m.worker ≡ None
+    pub free : (s : ServerNo) (m : Memory) (u : LockUnit) → (go_on every begin).world.memory s ≡ Some m → commit_holder u m.worker ≡ None
     free s m u e = holds-where-up servers few files epochs items (with_prints []) reported may whole.back_count (settles-so []) up s m u (ap (λ (w : World). w.memory s) (world-is []) ∙ e)
 
     abbrev pub prints : List (List Printed)

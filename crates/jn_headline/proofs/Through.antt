@@ -26,6 +26,7 @@ use Rattle.jn_written.specs.Deeds.{Deed, tells}
 use Rattle.jn_written.specs.Events.{servers_of, settling, coming_up, printing, counting}
 use Rattle.jn_written.specs.Kinds.{is_up}
 use Rattle.jn_written.specs.Runs.{none, more, Moment, Leads}
+use Rattle.jn_retold.specs.Retold.{behind}
 use Rattle.jn_headline.proofs.Texts.{at-end-append}
 use Rattle.jn_headline.proofs.Came.{Came, drop-all, lines-then, tasks-then}
 use Rattle.jn_headline.proofs.Parts.{Part, Onward, same-event, drive, MakesOne, many}
@@ -62,6 +63,9 @@ pub record Whole (servers : ℕ) (start : Course) (before : List Line) (now : Mo
   pub texts : List (List Text)
   pub text_count : length texts ≡ servers
   pub looked : AllLooked (go_on (asked_steps servers backs one ++ two) start).world 0 texts
+  pub ups : List Text
+  pub are_up : list_all is_up ups ≡ true
+  pub world : now.state.course.world ≡ behind ups (go_on (asked_steps servers backs one ++ two) start).world
   pub stage : now.state.stage ≡ AtEnd
   pub tasks : now.state.tasks ≡ []
   pub event : now.state.course.world.event ≡ start.world.event
@@ -110,10 +114,11 @@ each-client P (c ∷ cs) h = (h c, each-client P cs h)
 
 -- ---- the last line
 
-pub record Counted (start : Course) (before : List Line) (now : Moment) (steps : List Step) (printed : List Text) : Type 0 where
+pub record Counted (ups : List Text) (start : Course) (before : List Line) (now : Moment) (steps : List Step) (printed : List Text) : Type 0 where
   pub stage : now.state.stage ≡ AtEnd
   pub tasks : now.state.tasks ≡ []
   pub event : now.state.course.world.event ≡ start.world.event
+  pub world : now.state.course.world ≡ behind ups (go_on steps start).world
   pub lines : plain now.state.lines ≡ plain (counted (before ++ at_end (told_by_steps steps start.world ++ printed)))
 
 -- a run at its end that has nothing left to do
@@ -125,7 +130,7 @@ ended x n last (more u v z d rest) t s = absurd (never (sym (ap (λ (k : Stage).
     never k = cc
 
 module _ (x : Setup) (ups : List Text) (are_up : list_all is_up ups ≡ true) (start : Course) (before : List Line) where
-  counts : (m now : Moment) (steps : List Step) (printed : List Text) → Came x ups start before m steps printed → m.state.tasks ≡ CountsCommits ∷ [] → Leads x m now → Part start before now ⊎ Counted start before now steps printed
+  counts : (m now : Moment) (steps : List Step) (printed : List Text) → Came x ups start before m steps printed → m.state.tasks ≡ CountsCommits ∷ [] → Leads x m now → Part start before now ⊎ Counted ups start before now steps printed
   counts m now steps printed came tasks leads = then (drive x ups start before m now leads steps printed came CountsCommits [] (λ s. refl) tasks) (λ on. inr (at on))
     where
       told : List Line
@@ -134,11 +139,12 @@ module _ (x : Setup) (ups : List Text) (are_up : list_all is_up ups ≡ true) (s
       deed : Deed
       deed = tells (counting m.state.lines)
 
-      at : Onward x m now CountsCommits [] → Counted start before now steps printed
+      at : Onward x m now CountsCommits [] → Counted ups start before now steps printed
       at on = record {
         stage = ap (λ (z : Moment). z.state.stage) now-is ∙ stage;
         tasks = ap (λ (z : Moment). z.state.tasks) now-is ∙ none-left;
         event = ap (λ (z : Moment). z.state.course.world.event) now-is ∙ ap (λ (s : State). s.course.world.event) on.makes.state_is ∙ same-event x ups start before m steps printed came;
+        world = ap (λ (z : Moment). z.state.course.world) now-is ∙ ap (λ (s : State). s.course.world) on.makes.state_is ∙ came.goes.world;
         lines = ap (λ (z : Moment). plain z.state.lines) now-is
             ∙ lines-then x ups are_up start before m on.moment on.makes.chance deed [] on.makes.state_is steps printed came (counting m.state.lines) refl (ap (λ (ts : List Text). ts ++ counting m.state.lines) (drop-all m.state.course.world.lines))
             ∙ ap plain (ap (λ (ls : List Line). before ++ ls) (at-end-append (told_by_steps steps start.world ++ printed) (counting m.state.lines)) ∙ sym (append_assoc before (at_end (told_by_steps steps start.world ++ printed)) (at_end (counting m.state.lines))))
@@ -185,6 +191,9 @@ module _ (x : Setup) (ups : List Text) (are_up : list_all is_up ups ≡ true) (s
           texts = shown.texts;
           text_count = shown.count_is;
           looked = shown.looked;
+          ups = ups;
+          are_up = are_up;
+          world = counted.world;
           stage = counted.stage;
           tasks = counted.tasks;
           event = counted.event;

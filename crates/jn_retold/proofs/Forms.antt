@@ -6,18 +6,33 @@ use Rattle.jn_base.specs.declared.names.ServerNo.{ServerNo}
 use Rattle.jn_order.specs.Files.{AllFiles}
 use Rattle.jn_schedule.specs.declared.Event.{Event}
 use Rattle.jn_schedule.specs.declared.Event.TheVariants as events
-use Rattle.jn_protocol.specs.World.{World, opening}
-use Rattle.jn_protocol.specs.Steps.{NextEvent, after}
+use Rattle.jn_protocol.specs.World.{World, Memory, opening}
+use Rattle.jn_protocol.specs.Steps.{NextEvent, after, run}
+use Rattle.jn_report.specs.declared.line.Text.{Text}
 use Rattle.jn_reported.specs.Reported.{Item, Act, Waiting, IsReported, events_of, world_of, after_item, waiting_in, strike_all, told_under, lines_of, none_wait}
 use Rattle.jn_aside.specs.Aside.{plain, is_show}
 use Rattle.jn_written.specs.Chances.{Setup}
 use Rattle.jn_written.specs.Tasks.{Task, Begins, Meets, CutShort}
 use Rattle.jn_written.specs.Events.{ending}
+use Rattle.jn_written.specs.Kinds.{is_up}
 use Rattle.jn_written.specs.Runs.{Moment}
-use Rattle.jn_retold.specs.Retold.{IsToldBy, IsRetold, IsRetoldInPart}
+use Rattle.jn_retold.specs.Retold.{behind, IsAsIn, IsToldBy, IsRetold, IsRetoldInPart}
 use Rattle.jn_retold.proofs.Items.{waits_after, IsNext, one_more, reported-more, world-more, waits-more, events-more, length-more}
 use Rattle.jn_retold.proofs.Besides.{is_settling}
 use Rattle.jn_retold.proofs.Going.{At}
+
+-- with lines of servers that came up, it is as it was
+pub as-behind : (ups : List Text) → list_all is_up ups ≡ true → (w v : World) → v ≡ behind ups w → IsAsIn w v
+as-behind ups are_up w v e = record {
+  ups = ups;
+  are_up = are_up;
+  lines = ap (λ (z : World). z.lines) e;
+  memory = λ q m k. ap (λ (z : World). z.memory q) (sym e) ∙ k;
+  found = ap (λ (z : World). z.found) e;
+  clients = ap (λ (z : World). z.clients) e;
+  sent = ap (λ (z : World). z.sent) e;
+  event = ap (λ (z : World). z.event) e;
+}
 
 module _ (x : Setup) (files : AllFiles) (epochs : ServerNo → ℕ) (schedule : List Event) where
   abbrev pub beginning : World
@@ -84,8 +99,8 @@ module _ (x : Setup) (files : AllFiles) (epochs : ServerNo → ℕ) (schedule : 
   few n e = omega (arith, e)
 
   part-of : (items : List Item) (begun rest : List Event) (a b : Moment) → IsReported items beginning → events_of items ++ begun ++ rest ≡ schedule → length begun < 2
-      → plain a.state.lines ≡ plain (lines_of items beginning) → a.state.course.world.event ≡ length items + length begun → b.state.lines ≡ a.state.lines → b.state.course.world ≡ a.state.course.world → (b.state.stage ≡ CutShort → list_any is_show begun ≡ false) → IsRetoldInPart x schedule files b
-  part-of items begun rest a b reported events one lines number same-lines same-world shows = record {
+      → plain a.state.lines ≡ plain (lines_of items beginning) → IsAsIn (run (map (λ (e : Event). NextEvent) begun) (world_of items beginning)) a.state.course.world → a.state.course.world.event ≡ length items + length begun → b.state.lines ≡ a.state.lines → b.state.course.world ≡ a.state.course.world → (b.state.stage ≡ CutShort → list_any is_show begun ≡ false) → IsRetoldInPart x schedule files b
+  part-of items begun rest a b reported events one lines world number same-lines same-world shows = record {
     epochs = epochs;
     items = items;
     begun = begun;
@@ -94,13 +109,14 @@ module _ (x : Setup) (files : AllFiles) (epochs : ServerNo → ℕ) (schedule : 
     one = one;
     reported = reported;
     lines = ap plain same-lines ∙ lines;
+    world = subst (λ (v : World). IsAsIn (run (map (λ (e : Event). NextEvent) begun) (world_of items beginning)) v) (sym same-world) world;
     event = ap (λ (w : World). w.event) same-world ∙ number;
     shows = shows;
   }
 
   pub between-part : (items : List Item) (rest : List Event) (a b : Moment) → Between items rest a → b.state.lines ≡ a.state.lines → b.state.course.world ≡ a.state.course.world → IsRetoldInPart x schedule files b
   between-part items rest a b h lines world = part-of items [] rest a b h.reported (ap (λ (es : List Event). es ++ rest) (append-nil (events_of items)) ∙ h.events) (few 0 refl) h.lines
-      (ap (λ (w : World). w.event) h.at.world ∙ h.number ∙ plus-none (length items)) lines world (λ cut. refl)
+      (as-behind h.at.ups h.at.are_up (world_of items beginning) a.state.course.world h.at.world) (ap (λ (w : World). w.event) h.at.world ∙ h.number ∙ plus-none (length items)) lines world (λ cut. refl)
     where
       plus-none : (n : ℕ) → n ≡ n + 0
       plus-none n = omega arith
@@ -108,7 +124,7 @@ module _ (x : Setup) (files : AllFiles) (epochs : ServerNo → ℕ) (schedule : 
   pub meeting-part : (items : List Item) (event : Event) (rest : List Event) (a b : Moment) → Meeting items event rest a → b.state.lines ≡ a.state.lines → b.state.course.world ≡ a.state.course.world
       → (b.state.stage ≡ CutShort → is_show event ≡ false) → IsRetoldInPart x schedule files b
   meeting-part items event rest a b h lines world shows = part-of items (event ∷ []) rest a b h.reported (append_assoc (events_of items) (event ∷ []) rest ∙ h.events) one h.lines
-      (ap (λ (w : World). w.event) h.at.world ∙ ap (λ (n : ℕ). n + 1) h.number) lines world (λ cut. alone (is_show event) (shows cut))
+      (as-behind h.at.ups h.at.are_up (after NextEvent (world_of items beginning)) a.state.course.world h.at.world) (ap (λ (w : World). w.event) h.at.world ∙ ap (λ (n : ℕ). n + 1) h.number) lines world (λ cut. alone (is_show event) (shows cut))
     where
       one : 1 < 2
       one = omega arith
@@ -119,7 +135,7 @@ module _ (x : Setup) (files : AllFiles) (epochs : ServerNo → ℕ) (schedule : 
   pub amid-part : (items : List Item) (item : Item) (pending : List Task) (rest : List Event) (a b : Moment) → Amid items item pending rest a → b.state.lines ≡ a.state.lines → b.state.course.world ≡ a.state.course.world → IsRetoldInPart x schedule files b
   amid-part items item pending rest a b h lines world = part-of (one_more items item) [] rest a b (reported-more items item beginning h.reported h.next)
       (ap (λ (es : List Event). es ++ rest) (append-nil (events_of (one_more items item)) ∙ events-more items item) ∙ append_assoc (events_of items) (item.event ∷ []) rest ∙ h.events) (few 0 refl) h.lines
-      (ap (λ (w : World). w.event) h.at.world ∙ h.same ∙ ap (λ (n : ℕ). n + 1) h.number ∙ sym (length-more items item) ∙ plus-none (length (one_more items item))) lines world (λ cut. refl)
+      (subst (λ (w : World). IsAsIn w a.state.course.world) (sym (world-more items item beginning)) (as-behind h.at.ups h.at.are_up (after_item item (world_of items beginning)) a.state.course.world h.at.world)) (ap (λ (w : World). w.event) h.at.world ∙ h.same ∙ ap (λ (n : ℕ). n + 1) h.number ∙ sym (length-more items item) ∙ plus-none (length (one_more items item))) lines world (λ cut. refl)
     where
       plus-none : (n : ℕ) → n ≡ n + 0
       plus-none n = omega arith

@@ -21,7 +21,7 @@ use Rattle.jn_report.specs.declared.line.Text.{Text}
 use Rattle.jn_report.specs.declared.line.Text.TheVariants as says
 use Rattle.jn_rows.specs.Stable.{Pick}
 use Rattle.jn_locks.specs.Locks.{work_before}
-use Rattle.jn_protocol.specs.World.{World, new_memory, opening, servers_from}
+use Rattle.jn_protocol.specs.World.{World, Memory, new_memory, opening, servers_from}
 use Rattle.jn_protocol.specs.Steps.{Step, Restart, IsRun, run, after, tid_before}
 use Rattle.jn_settling.specs.Course.{go_on}
 use Rattle.jn_reported.specs.Reported.{IsReported}
@@ -37,7 +37,7 @@ use Rattle.jn_written.specs.Devices.{IsRecovery, Befalls, AreFound}
 use Rattle.jn_written.specs.Kinds.{is_up}
 use Rattle.jn_written.specs.Runs.{Moment, DoesStep}
 use Rattle.jn_written.proofs.Struck.{nothing-strikes}
-use Rattle.jn_retold.specs.Retold.{IsRetoldInPart}
+use Rattle.jn_retold.specs.Retold.{IsAsIn, IsRetoldInPart}
 use Rattle.jn_retold.proofs.Acts.{texts_by, grown-own, plain-texts}
 use Rattle.jn_retold.proofs.Going.{does-next, goes-or-cut, go-world}
 use Rattle.jn_retold.proofs.Forms.{Between, Held, cut}
@@ -129,10 +129,30 @@ module _ (x : Setup) (files : AllFiles) (epochs : ServerNo → ℕ) (schedule : 
           least : (m : ℕ) → m ≡ 0 → m ≤ 0
           least m z = omega (arith, z)
 
-  -- where epochs are used up
-  cut-part : (k : ℕ) (a b : Moment) (ups : List Text) → a.state.course.world ≡ partly x.servers files epochs k ups → plain a.state.lines ≡ [] → b.state.lines ≡ a.state.lines → b.state.course.world ≡ a.state.course.world → IsRetoldInPart x schedule files b
-  cut-part k a b ups world lines same-lines same-world = record {
-    epochs = last;
+  -- but for those that haven't come up, it is an opening
+  as-opening : (k : ℕ) (ups : List Text) → list_all is_up ups ≡ true → (v : World) → v ≡ partly x.servers files epochs k ups → IsAsIn (opening x.servers files (raised x.servers files epochs k)) v
+  as-opening k ups are_up v e = record {
+    ups = ups;
+    are_up = are_up;
+    lines = ap (λ (w : World). w.lines) e ∙ sym (append-nil ups);
+    memory = λ q m i. there q m (nat_lt q.0 k || not (nat_lt q.0 x.servers)) (ap (λ (w : World). w.memory q) (sym e) ∙ i);
+    found = ap (λ (w : World). w.found) e;
+    clients = ap (λ (w : World). w.clients) e;
+    sent = ap (λ (w : World). w.sent) e;
+    event = ap (λ (w : World). w.event) e;
+  }
+    where
+      none : (m : Memory) → None ≡ Some m → ⊥
+      none m z = cc
+
+      there : (q : ServerNo) (m : Memory) (b : Bool) → (if b then Some (new_memory q (raised x.servers files epochs k q)) else None) ≡ Some m → Some (new_memory q (raised x.servers files epochs k q)) ≡ Some m
+      there q m true i = i
+      there q m false i = absurd (none m i)
+
+  -- where epochs are used up, or not all servers have come up yet
+  pub start-part : (k : ℕ) (a b : Moment) (ups : List Text) → list_all is_up ups ≡ true → a.state.course.world ≡ partly x.servers files epochs k ups → plain a.state.lines ≡ [] → b.state.lines ≡ a.state.lines → b.state.course.world ≡ a.state.course.world → IsRetoldInPart x schedule files b
+  start-part k a b ups are_up world lines same-lines same-world = record {
+    epochs = raised x.servers files epochs k;
     items = [];
     begun = [];
     rest = schedule;
@@ -140,6 +160,7 @@ module _ (x : Setup) (files : AllFiles) (epochs : ServerNo → ℕ) (schedule : 
     one = few;
     reported = record { under = tt; steps = tt; shows = tt; faults = tt };
     lines = ap plain same-lines ∙ lines;
+    world = as-opening k ups are_up b.state.course.world (same-world ∙ world);
     event = ap (λ (w : World). w.event) (same-world ∙ world);
     shows = λ cut. refl;
   }
@@ -243,11 +264,11 @@ module _ (x : Setup) (files : AllFiles) (epochs : ServerNo → ℕ) (schedule : 
 
     by-epoch : (h : Chance) (used-up : Bool) → is_used_up h q v ≡ used-up → b.state ≡ made x h (if used-up then record (given_up h q) { cuts = true } else recovered h q) before
         → Befalls x h (if used-up then record (given_up h q) { cuts = true } else recovered h q) v a.devices b.devices → Here b ⊎ Starts (k + 1) r b
-    by-epoch h true e is befalls = inl (cut (record { part = cut-part k a b s.ups s.world s.lines (ap (λ (t : State). t.lines) is) (ap (λ (t : State). t.course.world) is); cut = ap (λ (t : State). t.stage) is }))
+    by-epoch h true e is befalls = inl (cut (record { part = start-part k a b s.ups s.are_up s.world s.lines (ap (λ (t : State). t.lines) is) (ap (λ (t : State). t.course.world) is); cut = ap (λ (t : State). t.stage) is }))
     by-epoch h false e is befalls = by (goes-or-cut x h (recovered h q) before b.state is)
       where
         by : ((b.state ≡ cut_short before) × (is_too_much (recovered h q) (go_on (recovered h q).steps before.course) ≡ true)) ⊎ ((b.state ≡ come_to x h (recovered h q) (go_on (recovered h q).steps before.course) before) × (is_too_much (recovered h q) (go_on (recovered h q).steps before.course) ≡ false)) → Here b ⊎ Starts (k + 1) r b
-        by (inl c) = inl (cut (record { part = cut-part k a b s.ups s.world s.lines (ap (λ (t : State). t.lines) c.0) (ap (λ (t : State). t.course.world) c.0); cut = ap (λ (t : State). t.stage) c.0 }))
+        by (inl c) = inl (cut (record { part = start-part k a b s.ups s.are_up s.world s.lines (ap (λ (t : State). t.lines) c.0) (ap (λ (t : State). t.course.world) c.0); cut = ap (λ (t : State). t.stage) c.0 }))
         by (inr c) = inr (comes h befalls c.0)
 
     pub start-step : DoesStep x a b → Here b ⊎ Starts (k + 1) r b

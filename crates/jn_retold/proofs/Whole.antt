@@ -18,7 +18,7 @@ use Rattle.jn_retold.proofs.Forms.{Between, Held, between, meeting, settling, cu
 use Rattle.jn_retold.proofs.Beginning.{begin-step, meet-step}
 use Rattle.jn_retold.proofs.Settles.{settle-step}
 use Rattle.jn_retold.proofs.Partly.{raised, none-up}
-use Rattle.jn_retold.proofs.Starting.{Starts, all-started, start-step}
+use Rattle.jn_retold.proofs.Starting.{Starts, all-started, start-part, start-step}
 use Rattle.jn_retold.proofs.Ranges.{blocks-below}
 
 -- what holds of all events holds of the first ones
@@ -30,7 +30,7 @@ module _ (x : Setup) (few : x.servers ≤ 8) (files : AllFiles) (epochs : Server
   abbrev last : ServerNo → ℕ
   last = raised x.servers files epochs x.servers
 
-  data So (m : Moment) : Type 0 where
+  pub data So (m : Moment) : Type 0 where
     starting : (k r : ℕ) → Starts x files epochs schedule k (suc r) m → So m
     held : Held x files last schedule m → So m
 
@@ -102,7 +102,7 @@ module _ (x : Setup) (few : x.servers ≤ 8) (files : AllFiles) (epochs : Server
       none-below : (m : ℕ) → m < 0 → ⊥
       none-below m l = omega (arith, l)
 
-  so-written : (images : Devices) (now : Moment) → AreImages x files epochs images → Leads x (record { state = before x schedule files epochs; devices = images }) now → So now
+  pub so-written : (images : Devices) (now : Moment) → AreImages x files epochs images → Leads x (record { state = before x schedule files epochs; devices = images }) now → So now
   so-written images now h leads = so-run _ now (started 0 x.servers _ (images-start images h)) leads
 
   -- ---- what it comes to
@@ -111,21 +111,7 @@ module _ (x : Setup) (few : x.servers ≤ 8) (files : AllFiles) (epochs : Server
   apart stage a b = cc
 
   part : (now : Moment) → So now → IsRetoldInPart x schedule files now ⊎ IsRetold x schedule files now
-  part now (starting k r s) = inl (record {
-    epochs = last;
-    items = [];
-    begun = [];
-    rest = schedule;
-    events = refl;
-    one = one;
-    reported = record { under = tt; steps = tt; shows = tt; faults = tt };
-    lines = s.lines;
-    event = ap (λ (w : World). w.event) s.world;
-    shows = λ cut. refl;
-  })
-    where
-      one : 0 < 2
-      one = omega arith
+  part now (starting k r s) = inl (start-part x files epochs schedule k now now s.ups s.are_up s.world s.lines refl refl)
   part now (held (between items rest h)) = inl (between-part x files last schedule items rest now now h refl refl)
   part now (held (meeting items e rest h)) = inl (meeting-part x files last schedule items e rest now now h refl refl (λ cut. absurd (apart now.state.stage h.at.stage cut)))
   part now (held (settling items acts task pending rest h are)) = inl (amid-part x files last schedule items _ (task ∷ pending) rest now now h refl refl)

@@ -1,5 +1,5 @@
 -- A run of the written machine, told as a run of the whole system under its schedule's events.
-use Rattle.std.specs.Prelude.{◌≡◌, ◌<◌, ℕ, ◌+◌, true, false, List, [], ◌++◌, Some, length}
+use Rattle.std.specs.Prelude.{◌≡◌, ◌<◌, ℕ, ◌+◌, true, false, List, [], ◌++◌, Some, length, map}
 use Rattle.std.specs.List.{list_all, list_any}
 use Rattle.jn_base.specs.declared.names.ServerNo.{ServerNo}
 use Rattle.jn_order.specs.Files.{AllFiles}
@@ -7,6 +7,7 @@ use Rattle.jn_schedule.specs.declared.Event.{Event}
 use Rattle.jn_report.specs.declared.line.Text.{Text}
 use Rattle.jn_aside.specs.Aside.{plain, is_show}
 use Rattle.jn_protocol.specs.World.{World, Memory, opening}
+use Rattle.jn_protocol.specs.Steps.{NextEvent, run}
 use Rattle.jn_reported.specs.Reported.{Item, events_of, world_of, lines_of, IsReported}
 use Rattle.jn_written.specs.Chances.{Setup}
 use Rattle.jn_written.specs.Tasks.{InSchedule, CutShort}
@@ -17,6 +18,17 @@ use Rattle.jn_written.specs.Runs.{Moment, Leads}
 -- the same world, with these lines before its own
 abbrev pub behind : List Text → World → World
 behind texts w = record w { lines = texts ++ w.lines }
+
+-- The second world is the first one, but for lines of servers that came up at the start, and for servers that haven't come up yet.
+pub record IsAsIn (w v : World) : Type 0 where
+  pub ups : List Text
+  pub are_up : list_all is_up ups ≡ true
+  pub lines : v.lines ≡ ups ++ w.lines
+  pub memory : (q : ServerNo) (m : Memory) → v.memory q ≡ Some m → w.memory q ≡ Some m
+  pub found : v.found ≡ w.found
+  pub clients : v.clients ≡ w.clients
+  pub sent : v.sent ≡ w.sent
+  pub event : v.event ≡ w.event
 
 -- each server that is up has power, and no device has told a fault that isn't in a line yet
 pub record IsWell (x : Setup) (m : Moment) : Type 0 where
@@ -55,6 +67,7 @@ pub record IsRetoldInPart (x : Setup) (schedule : List Event) (files : AllFiles)
   pub one : length begun < 2
   pub reported : IsReported items (opening x.servers files epochs)
   pub lines : plain now.state.lines ≡ plain (lines_of items (opening x.servers files epochs))
+  pub world : IsAsIn (run (map (λ (e : Event). NextEvent) begun) (world_of items (opening x.servers files epochs))) now.state.course.world
   -- the events up to the last one that began
   pub event : now.state.course.world.event ≡ length items + length begun
   -- a run is cut short only where messages are sent, and so at no show

@@ -1,0 +1,93 @@
+-- The world of each moment is what steps of the system lead to, and what is found in it is what is found on the pages.
+use Rattle.std.proofs.Common.{◌≡◌, ◌⊎◌, inl, inr, true, false, List, [], ◌++◌, refl, sym, ◌∙◌, ap, subst}
+use Rattle.jn_protocol.specs.World.{World}
+use Rattle.jn_protocol.specs.Steps.{Step, IsRun, run}
+use Rattle.jn_settling.specs.Course.{go_on}
+use Rattle.jn_written.specs.Chances.{Setup}
+use Rattle.jn_written.specs.Tasks.{Task, Dismisses, InSchedule, AtEnd, CutShort, State, begun}
+use Rattle.jn_written.specs.Deeds.{Deed}
+use Rattle.jn_written.specs.Events.{deed_of}
+use Rattle.jn_written.specs.Steps.{is_too_much, come_to, cut_short}
+use Rattle.jn_written.specs.Devices.{AreFound}
+use Rattle.jn_written.specs.Runs.{none, more, Moment, DoesStep, Leads}
+use Rattle.jn_retold.proofs.Going.{goes-or-cut, go-world}
+use Rattle.jn_retold.proofs.Items.{run-both, is-run-both}
+use Rattle.jn_headline.proofs.Came.{stuck}
+
+-- a task is begun in the same world
+same-world : (task : Task) (s : State) → (begun task s).course.world ≡ s.course.world
+same-world Dismisses s = refl
+same-world task s = refl
+
+-- a step is done, or the run is cut short by it
+data Does (x : Setup) (a b : Moment) : Type 0 where
+  cut : b.state.course.world ≡ a.state.course.world → b.state.stage ≡ CutShort → Does x a b
+  did : (steps : List Step) → IsRun steps a.state.course.world → b.state.course.world ≡ run steps a.state.course.world → AreFound x b.state.course.world b.devices → Does x a b
+
+does : (x : Setup) (a b : Moment) → DoesStep x a b → Does x a b
+does x a b d = by (goes-or-cut x d.chance deed (begun d.task a.state) b.state d.state_is)
+  where
+    deed : Deed
+    deed = deed_of x d.chance d.task a.state
+
+    by : ((b.state ≡ cut_short (begun d.task a.state)) × (is_too_much deed (go_on deed.steps (begun d.task a.state).course) ≡ true))
+        ⊎ ((b.state ≡ come_to x d.chance deed (go_on deed.steps (begun d.task a.state).course) (begun d.task a.state)) × (is_too_much deed (go_on deed.steps (begun d.task a.state).course) ≡ false)) → Does x a b
+    by (inl k) = cut (ap (λ (s : State). s.course.world) k.0 ∙ same-world d.task a.state) (ap (λ (s : State). s.stage) k.0)
+    by (inr k) = did deed.steps d.befalls.steps now (subst (λ (w : World). AreFound x w b.devices) (sym now) d.befalls.found)
+      where
+        now : b.state.course.world ≡ run deed.steps a.state.course.world
+        now = ap (λ (s : State). s.course.world) k.0 ∙ go-world deed.steps (begun d.task a.state).course ∙ ap (λ (w : World). run deed.steps w) (same-world d.task a.state)
+
+-- ---- what is found
+
+pub found-then : (x : Setup) (a b : Moment) → AreFound x a.state.course.world a.devices → Leads x a b → (b.state.stage ≡ CutShort → ⊥) → AreFound x b.state.course.world b.devices
+found-then x a b found (none m) going = found
+found-then x a b found (more u v t d rest) going = by (does x u v d) (λ now. found-then x v t now rest going)
+  where
+    by : Does x u v → (AreFound x v.state.course.world v.devices → AreFound x t.state.course.world t.devices) → AreFound x t.state.course.world t.devices
+    by (cut same stage) on = absurd (going (ap (λ (m : Moment). m.state.stage) (stuck x v t rest stage) ∙ stage))
+    by (did steps may is now) on = on now
+
+-- ---- its steps
+
+pub record Led (w v : World) : Type 0 where
+  pub steps : List Step
+  pub may : IsRun steps w
+  pub world : v ≡ run steps w
+
+pub led-on : (u v w : World) → Led u v → Led v w → Led u w
+led-on u v w a b = record {
+  steps = a.steps ++ b.steps;
+  may = is-run-both a.steps b.steps u a.may (subst (λ (z : World). IsRun b.steps z) a.world b.may);
+  world = b.world ∙ ap (λ (z : World). run b.steps z) a.world ∙ sym (run-both a.steps b.steps u);
+}
+
+pub led-by : (x : Setup) (a b : Moment) → Leads x a b → Led a.state.course.world b.state.course.world
+led-by x a b (none m) = record { steps = []; may = tt; world = refl }
+led-by x a b (more u v t d rest) = by (does x u v d) (led-by x v t rest)
+  where
+    by : Does x u v → Led v.state.course.world t.state.course.world → Led u.state.course.world t.state.course.world
+    by (cut same stage) on = record { steps = []; may = tt; world = ap (λ (m : Moment). m.state.course.world) (stuck x v t rest stage) ∙ same }
+    by (did steps may is now) on = led-on u.state.course.world v.state.course.world t.state.course.world (record { steps = steps; may = may; world = is }) on
+
+-- ---- the end goes on
+
+-- once the end has begun, or the run is cut short, no event is done any more
+pub ended-stays : (x : Setup) (a b : Moment) → Leads x a b → (a.state.stage ≡ InSchedule → ⊥) → b.state.stage ≡ InSchedule → ⊥
+ended-stays x a b (none m) other e = other e
+ended-stays x a b (more u v t d rest) other e = ended-stays x v t rest (later d.task (goes-or-cut x d.chance (deed_of x d.chance d.task u.state) (begun d.task u.state) v.state d.state_is)) e
+  where
+    apart : CutShort ≡ InSchedule → ⊥
+    apart z = cc
+
+    end-apart : AtEnd ≡ InSchedule → ⊥
+    end-apart z = cc
+
+    not-begun : (task : Task) → (begun task u.state).stage ≡ InSchedule → ⊥
+    not-begun Dismisses z = end-apart z
+    not-begun task z = other z
+
+    later : (task : Task) → ((v.state ≡ cut_short (begun task u.state)) × (is_too_much (deed_of x d.chance task u.state) (go_on (deed_of x d.chance task u.state).steps (begun task u.state).course) ≡ true))
+        ⊎ ((v.state ≡ come_to x d.chance (deed_of x d.chance task u.state) (go_on (deed_of x d.chance task u.state).steps (begun task u.state).course) (begun task u.state)) × (is_too_much (deed_of x d.chance task u.state) (go_on (deed_of x d.chance task u.state).steps (begun task u.state).course) ≡ false)) → v.state.stage ≡ InSchedule → ⊥
+    later task (inl k) z = apart (sym (ap (λ (s : State). s.stage) k.0) ∙ z)
+    later task (inr k) z = not-begun task (sym (ap (λ (s : State). s.stage) k.0) ∙ z)

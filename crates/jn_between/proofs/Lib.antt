@@ -1,0 +1,4 @@
+pub mod Seen
+pub mod Found
+pub mod Moments
+pub mod Ended
