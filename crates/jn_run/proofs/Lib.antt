@@ -3,3 +3,4 @@ pub mod Outcomes
 pub mod Told
 pub mod Lines
 pub mod Stores
+pub mod Summed

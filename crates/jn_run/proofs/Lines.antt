@@ -1,17 +1,15 @@
--- The lines of one call, which are written.
-use Rattle.std.proofs.Common.{◌≡◌, ℕ, true, List, Option, Result}
+-- The lines of one call, which are reported.
+use Rattle.std.proofs.Common.{◌≡◌, true, List, Result}
 use Rattle.std.specs.Prelude.{is_ok}
 use Rattle.jn_report.specs.declared.line.Line.{Line}
-use Rattle.jn_report.specs.Text.{report_text}
-use Rattle.jn_writing.specs.Writing.{Reports}
-use Rattle.jn_writing.specs.declared.ReportFault.{ReportFault}
-use Rattle.jn_writing.proofs.Telling.{front-all}
+use Rattle.jn_writing.specs.Reporting.{Reporting, Reports, Joins}
+use Rattle.jn_writing.specs.declared.fault.ReportFault.{ReportFault}
 use Rattle.jn_run.specs.declared.running.RunFault.TheVariants as runs
-use Rattle.jn_run.specs.Running.{WroteLast}
+use Rattle.jn_run.specs.Running.{ReportedLast}
 
 limit-no-write : runs.Limit ≡ runs.Write → ⊥
 limit-no-write h = cc
 
 -- the last lines of a run that a limit cut short
-pub last-whole : (a b : Option (List ℕ)) (f g : ℕ) (lines : List Line) (r : Result (Unit {0}) ReportFault) → is_ok r ≡ true → Reports a f lines r b g → WroteLast lines a f runs.Limit b g
-last-whole a b f g lines r ok one = record { count = one.count; limit = λ is. one.whole ok; front = front-all a b (report_text lines) (one.whole ok); rose = λ is. absurd (limit-no-write is) }
+pub last-whole : {O : Type 0} (r : Reporting O) (j : Joins r) (a b : O) (lines : List Line) (x : Result (Unit {0}) ReportFault) → is_ok x ≡ true → Reports r a lines x b → ReportedLast r lines a runs.Limit b
+last-whole r j a b lines x ok one = record { count = one.count; limit = λ is. one.whole ok; front = j.all a b lines (one.whole ok); rose = λ is. absurd (limit-no-write is) }

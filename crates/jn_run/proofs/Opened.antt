@@ -6,24 +6,20 @@ use Rattle.std.specs.Prelude.{nat_lt}
 use Rattle.jn_base.specs.declared.names.ServerNo.{ServerNo}
 use Rattle.jn_base.specs.declared.names.LockUnit.{LockUnit}
 use Rattle.jn_device.specs.Device.{DeviceState}
-use Rattle.jn_device.specs.declared.Half.{Half}
 use Rattle.jn_disks.specs.Disks.{IsNewStore, image_of, files_in}
 use Rattle.jn_found.specs.Images.{IsFresh}
 use Rattle.jn_found.specs.Pages.{found_on}
 use Rattle.jn_host.specs.Outside.{Contents}
 use Rattle.jn_image.proofs.SoundPages.{sound_pages}
-use Rattle.jn_image.specs.Form.{counts_of as image_counts}
 use Rattle.jn_images.specs.Examined.{IsStoreOf, AreStoresOf as AreStoresOfImages}
 use Rattle.jn_images.specs.Kept.{Has, image_name}
-use Rattle.jn_memdisk.specs.Pages.{half_at}
 use Rattle.jn_options.specs.declared.asked.Geometry.{Geometry}
 use Rattle.jn_options.specs.declared.asked.Opening.{Opening}
 use Rattle.jn_options.specs.declared.asked.Opening.TheVariants.{New, Images}
 use Rattle.jn_options.specs.declared.asked.Options.{Options}
 use Rattle.jn_order.specs.Files.{Files, AllFiles}
-use Rattle.jn_records.specs.Pages.{root_page}
-use Rattle.jn_records.specs.Sound.{HasRoot, root_of as root_in}
-use Rattle.jn_records.specs.StablePages.{Counts, page_count}
+use Rattle.jn_records.specs.Sound.{HasRoot}
+use Rattle.jn_records.specs.StablePages.{Counts}
 use Rattle.jn_recovery.specs.declared.counts.PageCounts.{PageCounts}
 use Rattle.jn_recovery.specs.Loading.{counts_by}
 use Rattle.jn_rows.specs.Stable.{StableState, Pick}

@@ -1,7 +1,7 @@
 -- What a call leaves, by its status.
-use Rattle.std.proofs.Common.{◌≡◌, inl, inr, ℕ, ◌≤◌, ◌<◌, List, length, map, slice_get, Option, Some, None, Result, Ok, Err, refl, sym, ap, subst, true, false, true≢false, ◌∙◌, arith}
+use Rattle.std.proofs.Common.{◌≡◌, inl, inr, ℕ, ◌≤◌, ◌<◌, List, length, map, slice_get, Option, Some, None, Result, Ok, Err, refl, sym, ap, subst, false, ◌∙◌, arith}
 use Rattle.std.proofs.lemmas.Option.{slice_get-map}
-use Rattle.std.specs.Prelude.{is_ok, Bool, option_map}
+use Rattle.std.specs.Prelude.{is_ok, option_map}
 use Rattle.std.specs.List.{AllByRecursion}
 use Rattle.jn_base.specs.declared.names.ServerNo.{ServerNo}
 use Rattle.jn_device.specs.Device.{DeviceState}
@@ -12,7 +12,6 @@ use Rattle.jn_images.specs.Saved.{SavedTo}
 use Rattle.jn_images.specs.Texts.{refusal_text}
 use Rattle.jn_images.specs.declared.refusal.Refusal.{Refusal}
 use Rattle.jn_records.specs.StablePages.{Counts}
-use Rattle.jn_recovery.specs.Loading.{counts_by}
 use Rattle.jn_recovery.specs.declared.counts.PageCounts.{PageCounts}
 use Rattle.jn_schedule.specs.declared.Event.{Event}
 use Rattle.jn_schedule.specs.Ranges.{EventInRange}
@@ -20,11 +19,12 @@ use Rattle.jn_schedule.specs.Faults.{IsFirstFault}
 use Rattle.jn_headline.proofs.Joined.{whole-report, part-report, limited-report}
 use Rattle.jn_headline.specs.Headline.{IsTrueOfBegun}
 use Rattle.jn_ended.specs.Whole.{IsOfItsCommits}
+use Rattle.jn_options.specs.declared.asked.Command.{Command}
+use Rattle.jn_options.specs.declared.asked.Command.TheVariants.{Run, Trial}
 use Rattle.jn_options.specs.declared.asked.Options.{Options}
 use Rattle.jn_options.specs.declared.asked.Opening.TheVariants.{Images}
 use Rattle.jn_order.specs.Files.{AllFiles}
-use Rattle.jn_writing.specs.Writing.{Took, TookFront}
-use Rattle.jn_written.specs.Chances.{Setup}
+use Rattle.jn_writing.specs.Writing.{Took, TookFront, writes_to}
 use Rattle.jn_written.specs.Devices.{Devices}
 use Rattle.jn_written.specs.Whole.{AreImages, IsWhole as IsWholeRun, IsLimited, IsPartOfRun}
 use Rattle.jn_report.specs.declared.line.Line.{Line}
@@ -34,7 +34,7 @@ use Rattle.jn_run.specs.declared.status.Status.TheVariants as statuses
 use Rattle.jn_run.specs.declared.running.RunFault.{RunFault}
 use Rattle.jn_run.specs.declared.running.RunFault.TheVariants as runs
 use Rattle.jn_run.specs.Keeping.{KeptWith}
-use Rattle.jn_run.specs.Outcome.{Accepted, AreKept, IsRefusedImage, Keeps, KeepsFirst, OfImage, OfRefusal, OfReport, OfWords, Opens, OutcomeOf, OutcomeOn, Outputs, Outside, IsText, most_bytes, Ran, Reads, Refuses, RefusesWords, refused_line, IsWhole, IsPart, IsCutShort, RanInPart, RanUnkept, RanWhole}
+use Rattle.jn_run.specs.Outcome.{Accepted, AreKept, IsRefusedImage, Keeps, KeepsFirst, OfImage, OfRefusal, OfReport, OfWords, OutcomeOf, OutcomeOn, IsUntouched, Outputs, Outside, IsText, most_bytes, Ran, Reads, Refuses, RefusesWords, refused_line, IsWhole, IsPart, IsCutShort, RanInPart, RanUnkept, RanWhole}
 use Rattle.jn_run.specs.Running.{course_of, AreLeft, RunsFrom, TookWhole}
 use Rattle.jn_run.proofs.Opened.{Opened, one-files, some-at}
 
@@ -50,14 +50,20 @@ words-outcome o statuses.Keep h stays = absurd h
 words-outcome o statuses.Limit h stays = absurd h
 words-outcome o statuses.Memory h stays = absurd h
 
+-- no memory for the words
+pub memory-outcome : (asked : Option Command) (o : Outside) → o.taken' ≡ o.taken → IsUntouched o → OutcomeOf asked o statuses.Memory
+memory-outcome None o nothing same = inl (nothing, same.kept)
+memory-outcome (Some (Run options)) o nothing same = inl (nothing, same.kept)
+memory-outcome (Some (Trial trial)) o nothing same = (nothing, same)
+
 -- a refused line
 pub line-outcome : (options : Options) (text : List ℕ) (line number : ℕ) (before : Outputs) (status : Status) (after : Outputs) → IsFirstFault text line number → after.kept ≡ before.kept
     → Refuses (refused_line line number) statuses.Schedule before.taken before.write_faults status after.taken after.write_faults → OutcomeOn options text before status after
 line-outcome options text line number before statuses.Schedule after is stays took =
-    λ left rf rf' told fits. (refl, record { text = text; reads = record { told = told; fits = fits }; line = line; number = number; refused = is; took = took.1 }, stays)
+    λ left left' rf rf' told fits. (refl, record { text = text; reads = record { told = told; fits = fits }; line = line; number = number; refused = is; took = took.1 }, stays)
 line-outcome options text line number before statuses.Write after is stays wrote =
-    λ left rf rf' told fits. (wrote.0, OfRefusal refl (record { text = text; reads = record { told = told; fits = fits }; line = line; number = number; refused = is; took = wrote.1 }), stays)
-line-outcome options text line number before statuses.Memory after is stays same = λ left rf rf' told fits. inl (same, stays)
+    λ left left' rf rf' told fits. (wrote.0, OfRefusal refl (record { text = text; reads = record { told = told; fits = fits }; line = line; number = number; refused = is; took = wrote.1 }), stays)
+line-outcome options text line number before statuses.Memory after is stays same = λ left left' rf rf' told fits. inl (same, stays)
 line-outcome options text line number before statuses.Done after is stays h = absurd cc
 line-outcome options text line number before statuses.Words after is stays h = absurd cc
 line-outcome options text line number before statuses.Image after is stays h = absurd cc
@@ -69,10 +75,10 @@ line-outcome options text line number before statuses.Limit after is stays h = a
 pub image-outcome : (options : Options) (text : List ℕ) (events : List Event) (r : Refusal) (before : Outputs) (status : Status) (after : Outputs) → Accepted text events → IsRefusedImage options before.kept r → after.kept ≡ before.kept
     → Refuses (refusal_text r) statuses.Image before.taken before.write_faults status after.taken after.write_faults → OutcomeOn options text before status after
 image-outcome options text events r before statuses.Image after a is stays took =
-    λ left rf rf' told fits. ((options, refl, record { text = text; reads = record { told = told; fits = fits }; events = events; accepted = a; refusal = r; refused = is; took = took.1 }), stays)
+    λ left left' rf rf' told fits. ((options, refl, record { text = text; reads = record { told = told; fits = fits }; events = events; accepted = a; refusal = r; refused = is; took = took.1 }), stays)
 image-outcome options text events r before statuses.Write after a is stays wrote =
-    λ left rf rf' told fits. (wrote.0, OfImage (options, refl, record { text = text; reads = record { told = told; fits = fits }; events = events; accepted = a; refusal = r; refused = is; took = wrote.1 }), stays)
-image-outcome options text events r before statuses.Memory after a is stays same = λ left rf rf' told fits. inl (same, stays)
+    λ left left' rf rf' told fits. (wrote.0, OfImage (options, refl, record { text = text; reads = record { told = told; fits = fits }; events = events; accepted = a; refusal = r; refused = is; took = wrote.1 }), stays)
+image-outcome options text events r before statuses.Memory after a is stays same = λ left left' rf rf' told fits. inl (same, stays)
 image-outcome options text events r before statuses.Done after a is stays h = absurd cc
 image-outcome options text events r before statuses.Words after a is stays h = absurd cc
 image-outcome options text events r before statuses.Schedule after a is stays h = absurd cc
@@ -84,7 +90,7 @@ image-outcome options text events r before statuses.Limit after a is stays h = a
 pub load-outcome : (options : Options) (text : List ℕ) (events : List Event) (before after : Outputs) → Accepted text events → after.taken ≡ before.taken → after.kept ≡ before.kept → Rose before.keep_faults after.keep_faults → (name : List ℕ) × (options.opening ≡ Images name)
     → OutcomeOn options text before statuses.Keep after
 load-outcome options text events before after a same stays rose from =
-    λ left rf rf' told fits. (rose, inl ((options, refl, record { text = text; reads = record { told = told; fits = fits }; events = events; accepted = a; name = from.0; opening = from.1 }), same, stays))
+    λ left left' rf rf' told fits. (rose, inl ((options, refl, record { text = text; reads = record { told = told; fits = fits }; events = events; accepted = a; name = from.0; opening = from.1 }), same, stays))
 
 -- ---- what was told of a schedule that may be run
 
@@ -94,15 +100,15 @@ told-of o Holds TookOf text events reads a lines holds took = record { text = te
 -- ---- a run from its disks
 
 module _ {S : Type 0} (device : S → DeviceState) (options : Options) (kept : Option Contents) (stores : List (S × PageCounts)) (b : Opened device options kept stores) (few : options.servers ≤ 8) (events : List Event) (range : AllByRecursion EventInRange events) where
-  less : b.setup.servers ≤ 8
+  pub less : b.setup.servers ≤ 8
   less = subst (λ (n : ℕ). n ≤ 8) (sym b.opens.servers) few
 
   -- the files of the images are those that it begins with: both are found on the same pages
   module _ (files : AllFiles) (epochs : ServerNo → ℕ) where
-    same-files : AreImages b.setup files epochs b.images → files ≡ b.files
+    pub same-files : AreImages b.setup files epochs b.images → files ≡ b.files
     same-files are = one-files b.setup files epochs b.files b.epochs b.images are b.are_images
 
-  abbrev whole-holds : (closing : Devices) (lines : List Line) → IsWholeRun b.setup events b.images closing lines → IsWhole options kept events lines
+  abbrev pub whole-holds : (closing : Devices) (lines : List Line) → IsWholeRun b.setup events b.images closing lines → IsWhole options kept events lines
   whole-holds closing lines run =
       let of = whole-report b.setup events b.images less range closing lines run in
       record {
@@ -120,7 +126,7 @@ module _ {S : Type 0} (device : S → DeviceState) (options : Options) (kept : O
       let of = part-report b.setup events b.images less range lines run in
       record { setup = b.setup; files = b.files; images = b.images; opens = b.opens; run = run; commits = subst (λ (files : AllFiles). IsTrueOfBegun files events run.now.state.course.world.event lines) (same-files of.0 of.1 of.2) of.3 }
 
-  limit-holds : (lines : List Line) → IsLimited b.setup events b.images lines → IsCutShort options kept events lines
+  pub limit-holds : (lines : List Line) → IsLimited b.setup events b.images lines → IsCutShort options kept events lines
   limit-holds lines run =
       let of = limited-report b.setup events b.images less range lines run in
       record { setup = b.setup; files = b.files; images = b.images; opens = b.opens; run = run; commits = subst (λ (files : AllFiles). IsTrueOfBegun files events run.last.state.course.world.event lines) (same-files of.0 of.1 of.2) of.3 }
@@ -152,15 +158,22 @@ module _ {S : Type 0} (device : S → DeviceState) (options : Options) (kept : O
 
 -- ---- its outcome
 
-module _ {S : Type 0} (device : S → DeviceState) (options : Options) (text : List ℕ) (events : List Event) (before after : Outputs) (stores : List (S × PageCounts)) (b : Opened device options before.kept stores) (a : Accepted text events) (few : options.servers ≤ 8) (range : AllByRecursion EventInRange events) where
-  module _ {A : Type 0} (items_of : A → List S) (r : Result A RunFault) (ran : RunsFrom (course_of b.setup events b.images before.taken before.write_faults) (λ (left : A). AreLeft device (items_of left)) r after.taken after.write_faults) where
-    part-told : (left : Option (List ℕ)) (rf rf' : ℕ) → IsText left text → length text ≤ most_bytes → is_ok r ≡ false
-        → RanInPart (record { left = left; read_faults = rf; read_faults' = rf'; taken = before.taken; taken' = after.taken; write_faults = before.write_faults; write_faults' = after.write_faults; kept = before.kept; kept' = after.kept; keep_faults = before.keep_faults; keep_faults' = after.keep_faults }) options
-    part-told left rf rf' told fits failed =
+module _ {S K : Type 0} (device : S → DeviceState) (options : Options) (text : List ℕ) (events : List Event) (taken_of : K → Option (List ℕ)) (faults_of : K → ℕ) (sink sink' : K) (kept kept' : Option Contents) (keep_faults keep_faults' : ℕ)
+    (stores : List (S × PageCounts)) (b : Opened device options kept stores) (a : Accepted text events) (few : options.servers ≤ 8) (range : AllByRecursion EventInRange events) where
+  abbrev pub before : Outputs
+  before = record { taken = taken_of sink; write_faults = faults_of sink; kept = kept; keep_faults = keep_faults }
+
+  abbrev pub after : Outputs
+  after = record { taken = taken_of sink'; write_faults = faults_of sink'; kept = kept'; keep_faults = keep_faults' }
+
+  module _ {A : Type 0} (items_of : A → List S) (r : Result A RunFault) (ran : RunsFrom (writes_to taken_of faults_of) (course_of b.setup events b.images sink) (λ (left : A). AreLeft device (items_of left)) r sink') where
+    part-told : (left left' : Option (List ℕ)) (rf rf' : ℕ) → IsText left text → length text ≤ most_bytes → is_ok r ≡ false
+        → RanInPart (record { left = left; left' = left'; read_faults = rf; read_faults' = rf'; taken = before.taken; taken' = after.taken; write_faults = before.write_faults; write_faults' = after.write_faults; kept = before.kept; kept' = after.kept; keep_faults = before.keep_faults; keep_faults' = after.keep_faults }) options
+    part-told left left' rf rf' told fits failed =
         told-of _ (IsPart options before.kept) (TookFront before.taken after.taken) text events (record { told = told; fits = fits }) a (ran.part failed).lines (part-holds device options before.kept stores b few events range _ (ran.part failed).part) (ran.part failed).took
 
     pub run-limit : after.kept ≡ before.kept → r ≡ Err runs.Limit → OutcomeOn options text before statuses.Limit after
-    run-limit stays is = λ left rf rf' told fits. (
+    run-limit stays is = λ left left' rf rf' told fits. (
       inr (
         options,
         refl,
@@ -170,42 +183,42 @@ module _ {S : Type 0} (device : S → DeviceState) (options : Options) (text : L
     )
 
     pub run-write : after.kept ≡ before.kept → r ≡ Err runs.Write → OutcomeOn options text before statuses.Write after
-    run-write stays is = λ left rf rf' told fits. (ran.rose is, OfReport (options, refl, part-told left rf rf' told fits (ap is_ok is)), stays)
+    run-write stays is = λ left left' rf rf' told fits. (ran.rose is, OfReport (options, refl, part-told left left' rf rf' told fits (ap is_ok is)), stays)
 
     pub run-memory : after.kept ≡ before.kept → r ≡ Err runs.Memory → OutcomeOn options text before statuses.Memory after
-    run-memory stays is = λ left rf rf' told fits. inr (inl ((options, refl, part-told left rf rf' told fits (ap is_ok is)), stays))
+    run-memory stays is = λ left left' rf rf' told fits. inr (inl ((options, refl, part-told left left' rf rf' told fits (ap is_ok is)), stays))
 
     module _ (left : A) (is : r ≡ Ok left) (counts : List PageCounts) (as_many : length (items_of left) ≡ length stores) (counts_are : counts ≡ map (λ (x : S × PageCounts). x.1) stores) (faults : ℕ) (since : before.keep_faults ≤ faults) where
-      abbrev whole : TookWhole (course_of b.setup events b.images before.taken before.write_faults) (AreLeft device (items_of left)) after.taken
+      abbrev whole : TookWhole (writes_to taken_of faults_of) (course_of b.setup events b.images sink) (AreLeft device (items_of left)) sink'
       whole = ran.whole left is
 
       abbrev w : IsWhole options before.kept events whole.lines
       w = whole-holds device options before.kept stores b few events range whole.closing whole.lines whole.whole
 
-      abbrev around : Option (List ℕ) → ℕ → ℕ → Outside
-      around l rf rf' = record { left = l; read_faults = rf; read_faults' = rf'; taken = before.taken; taken' = after.taken; write_faults = before.write_faults; write_faults' = after.write_faults; kept = before.kept; kept' = after.kept; keep_faults = before.keep_faults; keep_faults' = after.keep_faults }
+      abbrev around : Option (List ℕ) → Option (List ℕ) → ℕ → ℕ → Outside
+      around l l' rf rf' = record { left = l; left' = l'; read_faults = rf; read_faults' = rf'; taken = before.taken; taken' = after.taken; write_faults = before.write_faults; write_faults' = after.write_faults; kept = before.kept; kept' = after.kept; keep_faults = before.keep_faults; keep_faults' = after.keep_faults }
 
-      whole-told : (l : Option (List ℕ)) (rf rf' : ℕ) → IsText l text → length text ≤ most_bytes → Keeps options.closing before.kept b.setup whole.closing after.kept → RanWhole (around l rf rf') options
-      whole-told l rf rf' told fits keeps = told-of _ _ (Took before.taken after.taken) text events (record { told = told; fits = fits }) a whole.lines (w, keeps) whole.took
+      whole-told : (l l' : Option (List ℕ)) (rf rf' : ℕ) → IsText l text → length text ≤ most_bytes → Keeps options.closing before.kept b.setup whole.closing after.kept → RanWhole (around l l' rf rf') options
+      whole-told l l' rf rf' told fits keeps = told-of _ _ (Took before.taken after.taken) text events (record { told = told; fits = fits }) a whole.lines (w, keeps) whole.took
 
-      unkept-told : (l : Option (List ℕ)) (rf rf' : ℕ) → IsText l text → length text ≤ most_bytes → KeepsFirst options.closing before.kept b.setup whole.closing after.kept → RanUnkept (around l rf rf') options
-      unkept-told l rf rf' told fits keeps = told-of _ _ (Took before.taken after.taken) text events (record { told = told; fits = fits }) a whole.lines (w, keeps) whole.took
+      unkept-told : (l l' : Option (List ℕ)) (rf rf' : ℕ) → IsText l text → length text ≤ most_bytes → KeepsFirst options.closing before.kept b.setup whole.closing after.kept → RanUnkept (around l l' rf rf') options
+      unkept-told l l' rf rf' told fits keeps = told-of _ _ (Took before.taken after.taken) text events (record { told = told; fits = fits }) a whole.lines (w, keeps) whole.took
 
       first : (name : List ℕ) → options.closing ≡ Some name → (n : ℕ) × (n < length (items_of left)) × SavedTo device name (items_of left) counts n before.kept after.kept → KeepsFirst options.closing before.kept b.setup whole.closing after.kept
       first name e h = subst (λ (c : Option (List ℕ)). KeepsFirst c before.kept b.setup whole.closing after.kept) (sym e) (first-kept device options before.kept stores b few events range whole.closing (items_of left) counts as_many whole.gives counts_are name after.kept h)
 
       by : (c : Option (List ℕ)) → options.closing ≡ c → (status : Status) → KeptWith device (items_of left) counts c before.kept faults status after.kept after.keep_faults → OutcomeOn options text before status after
       by None e status k = subst (λ (s : Status). OutcomeOn options text before s after) (sym k.0)
-          (λ l rf rf' told fits. (options, refl, whole-told l rf rf' told fits (subst (λ (c : Option (List ℕ)). Keeps c before.kept b.setup whole.closing after.kept) (sym e) k.1)))
-      by (Some name) e statuses.Done k = λ l rf rf' told fits. (
+          (λ l l' rf rf' told fits. (options, refl, whole-told l l' rf rf' told fits (subst (λ (c : Option (List ℕ)). Keeps c before.kept b.setup whole.closing after.kept) (sym e) k.1)))
+      by (Some name) e statuses.Done k = λ l l' rf rf' told fits. (
         options,
         refl,
-        whole-told l rf rf' told fits
+        whole-told l l' rf rf' told fits
             (subst (λ (c : Option (List ℕ)). Keeps c before.kept b.setup whole.closing after.kept) (sym e)
             (all-kept device options before.kept stores b few events range whole.closing (items_of left) counts as_many whole.gives counts_are name after.kept k)),
       )
-      by (Some name) e statuses.Keep k = λ l rf rf' told fits. (rose_since before.keep_faults faults after.keep_faults since k.0 k.1, inr (options, refl, unkept-told l rf rf' told fits (first name e k.2)))
-      by (Some name) e statuses.Memory k = λ l rf rf' told fits. inr (inr (options, refl, unkept-told l rf rf' told fits (first name e k)))
+      by (Some name) e statuses.Keep k = λ l l' rf rf' told fits. (rose_since before.keep_faults faults after.keep_faults since k.0 k.1, inr (options, refl, unkept-told l l' rf rf' told fits (first name e k.2)))
+      by (Some name) e statuses.Memory k = λ l l' rf rf' told fits. inr (inr (options, refl, unkept-told l l' rf rf' told fits (first name e k)))
       by (Some name) e statuses.Words k = absurd k
       by (Some name) e statuses.Schedule k = absurd k
       by (Some name) e statuses.Image k = absurd k

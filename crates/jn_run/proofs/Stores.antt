@@ -8,7 +8,6 @@ use Rattle.jn_options.specs.declared.asked.Geometry.{Geometry}
 use Rattle.jn_records.specs.Sound.{HasRoot}
 use Rattle.jn_records.specs.StablePages.{Counts}
 use Rattle.jn_disks.specs.Disks.{image_of}
-use Rattle.jn_recovery.specs.Loading.{counts_by}
 use Rattle.jn_device.specs.Device.{DeviceState}
 use Rattle.jn_memdisk.specs.declared.disk.MemDisk.{MemDisk}
 use Rattle.jn_recovery.specs.declared.counts.PageCounts.{PageCounts}

@@ -4,3 +4,4 @@ pub mod Opening
 pub mod Outcome
 pub mod Reading
 pub mod Running
+pub mod Trial

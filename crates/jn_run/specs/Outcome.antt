@@ -1,6 +1,5 @@
 -- What a call of the program leaves, by its status.
-use Rattle.std.specs.Prelude.{◌≡◌, true, false, ◌≤◌, ◌<◌, ◌⊎◌, ℕ, List, ◌∷◌, [], ◌++◌, length, Option, Some, None, is_some, codes, decimal, IfSome, String}
-use Rattle.std.specs.declared.alloc.Global.{Global}
+use Rattle.std.specs.Prelude.{◌≡◌, true, false, ◌≤◌, ◌<◌, ◌⊎◌, ℕ, List, ◌∷◌, [], ◌++◌, length, Option, Some, None, is_some, codes, decimal, IfSome}
 use Rattle.jn_schedule.specs.declared.Event.{Event}
 use Rattle.jn_report.specs.declared.line.Line.{Line}
 use Rattle.jn_report.specs.Text.{report_text}
@@ -21,35 +20,27 @@ use Rattle.jn_images.specs.Examined.{IsFirstRefused}
 use Rattle.jn_images.specs.Kept.{Has, IsKept, image_name}
 use Rattle.jn_images.specs.Saved.{OthersStay}
 use Rattle.jn_images.specs.Texts.{refusal_text}
-use Rattle.jn_options.specs.Words.{command_of}
 use Rattle.jn_options.specs.declared.asked.Command.{Command}
 use Rattle.jn_options.specs.declared.asked.Command.TheVariants.{Run, Trial}
 use Rattle.jn_options.specs.declared.asked.Geometry.{Geometry}
 use Rattle.jn_options.specs.declared.asked.Opening.{Opening}
 use Rattle.jn_options.specs.declared.asked.Opening.TheVariants.{New, Images}
 use Rattle.jn_options.specs.declared.asked.Options.{Options}
+use Rattle.jn_options.specs.declared.asked.Trial.{Trial as ATrial}
 use Rattle.jn_ended.specs.Whole.{IsOfItsCommits}
+use Rattle.jn_gen.specs.Trial.{events_from}
 use Rattle.jn_headline.specs.Headline.{IsTrueOfBegun}
 use Rattle.jn_reported.specs.Ending.{AreFilesOf}
 use Rattle.jn_written.specs.Chances.{Setup}
 use Rattle.jn_written.specs.Devices.{Devices}
 use Rattle.jn_written.specs.Whole.{IsWhole as IsWholeRun, IsLimited, IsPartOfRun}
+use Rattle.jn_summary.specs.Summary.{summary_text}
 use Rattle.jn_run.specs.declared.status.Status.{Status}
 use Rattle.jn_run.specs.declared.status.Status.TheVariants as statuses
 
 -- ---- what is asked for
 
--- the run that a command is: none where it is a trial, which isn't done yet
-abbrev pub run_of : Option Command → Option Options
-run_of (Some (Run options)) = Some options
-run_of (Some (Trial trial)) = None
-run_of None = None
-
--- the run that these words ask for
-abbrev pub run_asked : List (String Global) → Option Options
-run_asked words = run_of (command_of words)
-
--- these words ask for a run, with options of which this holds
+-- a run is asked for, with options of which this holds
 abbrev pub Asks : Option Options → (Options → Type 0) → Type 0
 Asks asked Holds = (options : Options) × (asked ≡ Some options) × Holds options
 
@@ -166,6 +157,7 @@ pub record Outputs : Type 0 where
 -- what the outside was before the call and after it
 pub record Outside : Type 0 where
   pub left : Option (List ℕ)
+  pub left' : Option (List ℕ)
   pub read_faults : ℕ
   pub read_faults' : ℕ
   pub taken : Option (List ℕ)
@@ -180,6 +172,13 @@ pub record Outside : Type 0 where
 -- the keeper holds what it held
 abbrev pub Stays : Outside → Type 0
 Stays o = o.kept' ≡ o.kept
+
+-- nothing was read, and the keeper wasn't called
+pub record IsUntouched (o : Outside) : Type 0 where
+  pub left : o.left' ≡ o.left
+  pub read_faults : o.read_faults' ≡ o.read_faults
+  pub kept : Stays o
+  pub keep_faults : o.keep_faults' ≡ o.keep_faults
 
 -- nothing was taken
 abbrev pub TookNothing : Outside → Type 0
@@ -269,7 +268,7 @@ pub record HasTooManyEvents (o : Outside) : Type 0 where
 abbrev pub IsTooLong : Outside → Type 0
 IsTooLong o = IfSome o.left (λ bytes. most_bytes < length bytes) ⊎ HasTooManyEvents o
 
--- ---- the statuses
+-- ---- the statuses of a run, and of words that are refused
 
 -- what the sink took before it failed: of the text that refuses the words, the schedule or an image, or of the report
 pub data Written (asked : Option Options) (o : Outside) : Type 0 where
@@ -278,23 +277,62 @@ pub data Written (asked : Option Options) (o : Outside) : Type 0 where
   OfImage : Asks asked (λ options. RefusedImage o options (TookFront o.taken o.taken')) → Written asked o
   OfReport : Asks asked (RanInPart o) → Written asked o
 
-abbrev pub OutcomeOf : Option Options → Outside → Status → Type 0
-OutcomeOf asked o statuses.Done = Asks asked (RanWhole o)
-OutcomeOf asked o statuses.Words = (asked ≡ None) × Took o.taken o.taken' refused_words × Stays o
-OutcomeOf asked o statuses.Schedule = (is_some asked ≡ true) × RefusedSchedule o (Took o.taken o.taken') × Stays o
-OutcomeOf asked o statuses.Image = Asks asked (λ options. RefusedImage o options (Took o.taken o.taken')) × Stays o
-OutcomeOf asked o statuses.Read = (is_some asked ≡ true) × Rose o.read_faults o.read_faults' × TookNothing o × Stays o
-OutcomeOf asked o statuses.Write = Rose o.write_faults o.write_faults' × Written asked o × Stays o
-OutcomeOf asked o statuses.Keep = Rose o.keep_faults o.keep_faults' × ((Asks asked (WasToLoad o) × TookNothing o × Stays o) ⊎ Asks asked (RanUnkept o))
-OutcomeOf asked o statuses.Limit = (((is_some asked ≡ true) × IsTooLong o × TookNothing o) ⊎ Asks asked (RanToLimit o)) × Stays o
-OutcomeOf asked o statuses.Memory = (TookNothing o × Stays o) ⊎ (Asks asked (RanInPart o) × Stays o) ⊎ Asks asked (RanUnkept o)
+abbrev pub OutcomeOfRun : Option Options → Outside → Status → Type 0
+OutcomeOfRun asked o statuses.Done = Asks asked (RanWhole o)
+OutcomeOfRun asked o statuses.Words = (asked ≡ None) × Took o.taken o.taken' refused_words × Stays o
+OutcomeOfRun asked o statuses.Schedule = (is_some asked ≡ true) × RefusedSchedule o (Took o.taken o.taken') × Stays o
+OutcomeOfRun asked o statuses.Image = Asks asked (λ options. RefusedImage o options (Took o.taken o.taken')) × Stays o
+OutcomeOfRun asked o statuses.Read = (is_some asked ≡ true) × Rose o.read_faults o.read_faults' × TookNothing o × Stays o
+OutcomeOfRun asked o statuses.Write = Rose o.write_faults o.write_faults' × Written asked o × Stays o
+OutcomeOfRun asked o statuses.Keep = Rose o.keep_faults o.keep_faults' × ((Asks asked (WasToLoad o) × TookNothing o × Stays o) ⊎ Asks asked (RanUnkept o))
+OutcomeOfRun asked o statuses.Limit = (((is_some asked ≡ true) × IsTooLong o × TookNothing o) ⊎ Asks asked (RanToLimit o)) × Stays o
+OutcomeOfRun asked o statuses.Memory = (TookNothing o × Stays o) ⊎ (Asks asked (RanInPart o) × Stays o) ⊎ Asks asked (RanUnkept o)
+
+-- ---- the statuses of a trial
+
+-- two servers, each as one that a run has without options
+abbrev pub trial_options : Options
+trial_options = record { servers = 2; opening = New (record { pool = 32; heads = 16; leaves = 128 }); closing = None; trace = false }
+
+-- the events that the seed gives, as many as are asked for
+abbrev pub trial_events : ATrial → List Event
+trial_events trial = events_from trial.seed trial.events
+
+-- The lines are those of a whole run of these events, and the sink took this of the one line that sums them up.
+pub record RanTrial (trial : ATrial) (kept : Option Contents) (TookOf : List ℕ → Type 0) : Type 0 where
+  pub lines : List Line
+  pub whole : IsWhole trial_options kept (trial_events trial) lines
+  pub took : TookOf (summary_text trial.seed trial.events lines)
+
+-- a limit cut the run of these events short
+pub record TrialToLimit (trial : ATrial) (kept : Option Contents) : Type 0 where
+  pub lines : List Line
+  pub cut : IsCutShort trial_options kept (trial_events trial) lines
+
+-- Where a limit cuts it short or memory runs out, nothing is told of it.
+abbrev pub OutcomeOfTrial : ATrial → Outside → Status → Type 0
+OutcomeOfTrial trial o statuses.Done = RanTrial trial o.kept (Took o.taken o.taken') × IsUntouched o
+OutcomeOfTrial trial o statuses.Write = Rose o.write_faults o.write_faults' × RanTrial trial o.kept (TookFront o.taken o.taken') × IsUntouched o
+OutcomeOfTrial trial o statuses.Limit = TrialToLimit trial o.kept × TookNothing o × IsUntouched o
+OutcomeOfTrial trial o statuses.Memory = TookNothing o × IsUntouched o
+OutcomeOfTrial trial o status = ⊥
+
+-- ---- what a call leaves, by the command that its words are
+
+abbrev pub OutcomeOf : Option Command → Outside → Status → Type 0
+OutcomeOf None o status = OutcomeOfRun None o status
+OutcomeOf (Some (Run options)) o status = OutcomeOfRun (Some options) o status
+OutcomeOf (Some (Trial trial)) o status = OutcomeOfTrial trial o status
+
+-- ---- parts of a call
 
 -- what a call leaves whose words ask for this run and whose source had this text, whole
 abbrev pub OutcomeOn : Options → List ℕ → Outputs → Status → Outputs → Type 0
 OutcomeOn options text before status after =
-    (left : Option (List ℕ)) (read_faults read_faults' : ℕ) → IsText left text → length text ≤ most_bytes
-    → OutcomeOf (Some options) (record {
+    (left left' : Option (List ℕ)) (read_faults read_faults' : ℕ) → IsText left text → length text ≤ most_bytes
+    → OutcomeOfRun (Some options) (record {
       left = left;
+      left' = left';
       read_faults = read_faults;
       read_faults' = read_faults';
       taken = before.taken;

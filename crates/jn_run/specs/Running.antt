@@ -1,5 +1,5 @@
--- How far a run has come, and what a sink took of it.
-use Rattle.std.specs.Prelude.{◌≡◌, ◌≤◌, ℕ, true, false, List, [], ◌∷◌, ◌++◌, map, slice_get, Option, Some, Result, Ok, Err, is_ok}
+-- How far a run has come, and what the output of its report took of it.
+use Rattle.std.specs.Prelude.{◌≡◌, ◌≤◌, ℕ, false, List, [], ◌++◌, map, slice_get, Some, Result, Ok, Err, is_ok}
 use Rattle.jn_device.specs.Device.{DeviceState}
 use Rattle.jn_found.specs.Recoverable.{IsRecoverable}
 use Rattle.jn_host.specs.Outside.{Rose}
@@ -8,8 +8,7 @@ use Rattle.jn_recovery.specs.Loading.{counts_by}
 use Rattle.jn_store.specs.Store.{StoreView}
 use Rattle.jn_schedule.specs.declared.Event.{Event}
 use Rattle.jn_report.specs.declared.line.Line.{Line}
-use Rattle.jn_report.specs.Text.{report_text}
-use Rattle.jn_writing.specs.Writing.{Took, TookFront}
+use Rattle.jn_writing.specs.Reporting.{Reporting}
 use Rattle.jn_written.specs.Chances.{Setup}
 use Rattle.jn_written.specs.Devices.{Devices}
 use Rattle.jn_written.specs.Events.{ending}
@@ -36,57 +35,56 @@ AreDevices {S} device stores images = (n : ℕ) (x : S × PageCounts) → slice_
 
 -- ---- how far a run has come
 
--- what is run: a schedule, by such servers, from these disks; and what the sink had taken before
-pub record Course : Type 0 where
+-- what is run: a schedule, by such servers, from these disks; and the output of its report as it was before
+pub record Course (O : Type 0) : Type 0 where
   pub setup : Setup
   pub schedule : List Event
   pub images : Devices
-  pub taken : Option (List ℕ)
-  pub faults : ℕ
+  pub output : O
 
-abbrev pub course_of : Setup → List Event → Devices → Option (List ℕ) → ℕ → Course
-course_of x schedule images taken faults = record { setup = x; schedule = schedule; images = images; taken = taken; faults = faults }
+abbrev pub course_of : {O : Type 0} → Setup → List Event → Devices → O → Course O
+course_of x schedule images output = record { setup = x; schedule = schedule; images = images; output = output }
 
--- a run has come to this moment, and the sink took each of its lines
-pub record HasTold (c : Course) (m : Moment) (taken : Option (List ℕ)) (faults : ℕ) : Type 0 where
-  pub count : c.faults ≤ faults
+-- a run has come to this moment, and the output took each of its lines
+pub record HasTold {O : Type 0} (r : Reporting O) (c : Course O) (m : Moment) (now : O) : Type 0 where
+  pub count : r.faults c.output ≤ r.faults now
   pub written : IsWritten c.setup c.schedule c.images m
-  pub took : Took c.taken taken (report_text m.state.lines)
+  pub took : r.took c.output now m.state.lines
 
 -- the world stands there, with these events left
-pub record StandsBefore {S : Type 0} (look : S → StoreView) (device : S → DeviceState) (c : Course) (events : List Event) (w : World S) (m : Moment) : Type 0 where
-  pub stands : Stands look device c.setup (standing_of w) m
-  pub tasks : m.state.tasks ≡ map (λ (e : Event). Begins e) events ++ ending c.setup
+pub record StandsBefore {S : Type 0} (look : S → StoreView) (device : S → DeviceState) (x : Setup) (events : List Event) (w : World S) (m : Moment) : Type 0 where
+  pub stands : Stands look device x (standing_of w) m
+  pub tasks : m.state.tasks ≡ map (λ (e : Event). Begins e) events ++ ending x
   pub stage : m.state.stage ≡ InSchedule
 
--- a limit cut it short, and the sink took each line
-pub record TookLimited (c : Course) (taken : Option (List ℕ)) : Type 0 where
+-- a limit cut it short, and the output took each line
+pub record TookLimited {O : Type 0} (r : Reporting O) (c : Course O) (now : O) : Type 0 where
   pub lines : List Line
   pub limited : IsLimited c.setup c.schedule c.images lines
-  pub took : Took c.taken taken (report_text lines)
+  pub took : r.took c.output now lines
 
--- it came to some step, and the sink took a front of the lines
-pub record TookPart (c : Course) (taken : Option (List ℕ)) : Type 0 where
+-- it came to some step, and the output took a front of the lines
+pub record TookPart {O : Type 0} (r : Reporting O) (c : Course O) (now : O) : Type 0 where
   pub lines : List Line
   pub part : IsPartOfRun c.setup c.schedule c.images lines
-  pub took : TookFront c.taken taken (report_text lines)
+  pub took : r.front c.output now lines
 
-pub record ToldTo (c : Course) (Then : Moment → Type 0) (taken : Option (List ℕ)) (faults : ℕ) : Type 0 where
+pub record ToldTo {O : Type 0} (r : Reporting O) (c : Course O) (Then : Moment → Type 0) (out : O) : Type 0 where
   pub now : Moment
-  pub told : HasTold c now taken faults
+  pub told : HasTold r c now out
   pub there : Then now
 
--- A run went on to a moment of which this holds; or a limit cut it short, or the sink or want of memory cut it off.
-pub record Reaches {A : Type 0} (c : Course) (Then : A → Moment → Type 0) (answer : Result A RunFault) (taken : Option (List ℕ)) (faults : ℕ) : Type 0 where
-  pub count : c.faults ≤ faults
-  pub whole : (a : A) → answer ≡ Ok a → ToldTo c (Then a) taken faults
-  pub limit : answer ≡ Err runs.Limit → TookLimited c taken
-  pub part : is_ok answer ≡ false → TookPart c taken
-  pub rose : answer ≡ Err runs.Write → Rose c.faults faults
+-- A run went on to a moment of which this holds; or a limit cut it short, or the output or want of memory cut it off.
+pub record Reaches {O A : Type 0} (r : Reporting O) (c : Course O) (Then : A → Moment → Type 0) (answer : Result A RunFault) (now : O) : Type 0 where
+  pub count : r.faults c.output ≤ r.faults now
+  pub whole : (a : A) → answer ≡ Ok a → ToldTo r c (Then a) now
+  pub limit : answer ≡ Err runs.Limit → TookLimited r c now
+  pub part : is_ok answer ≡ false → TookPart r c now
+  pub rose : answer ≡ Err runs.Write → Rose (r.faults c.output) (r.faults now)
 
 -- ---- the lines of one call
 
--- what is written of them: nothing where memory ran out, since the last step may not be whole
+-- what is reported of them: nothing where memory ran out, since the last step may not be whole
 abbrev pub lines_kept : {A : Type 0} → Result A Ended → List Line → List Line
 lines_kept (Err ends.Memory) lines = []
 lines_kept done lines = lines
@@ -96,36 +94,36 @@ is_limit (Ok a) = ⊥
 is_limit (Err ends.Memory) = ⊥
 is_limit (Err ended) = Unit {0}
 
-pub record Wrote {A : Type 0} (done : Result A Ended) (lines : List Line) (taken : Option (List ℕ)) (faults : ℕ) (answer : Result A RunFault) (taken' : Option (List ℕ)) (faults' : ℕ) : Type 0 where
-  pub count : faults ≤ faults'
-  pub whole : (a : A) → answer ≡ Ok a → (done ≡ Ok a) × Took taken taken' (report_text lines)
-  pub limit : answer ≡ Err runs.Limit → is_limit done × Took taken taken' (report_text lines)
-  pub part : is_ok answer ≡ false → TookFront taken taken' (report_text (lines_kept done lines))
-  pub rose : answer ≡ Err runs.Write → Rose faults faults'
+pub record Reported {O A : Type 0} (r : Reporting O) (done : Result A Ended) (lines : List Line) (before : O) (answer : Result A RunFault) (after : O) : Type 0 where
+  pub count : r.faults before ≤ r.faults after
+  pub whole : (a : A) → answer ≡ Ok a → (done ≡ Ok a) × r.took before after lines
+  pub limit : answer ≡ Err runs.Limit → is_limit done × r.took before after lines
+  pub part : is_ok answer ≡ false → r.front before after (lines_kept done lines)
+  pub rose : answer ≡ Err runs.Write → Rose (r.faults before) (r.faults after)
 
 -- the last lines of a run that a limit cut short
-pub record WroteLast (lines : List Line) (taken : Option (List ℕ)) (faults : ℕ) (answer : RunFault) (taken' : Option (List ℕ)) (faults' : ℕ) : Type 0 where
-  pub count : faults ≤ faults'
-  pub limit : answer ≡ runs.Limit → Took taken taken' (report_text lines)
-  pub front : TookFront taken taken' (report_text lines)
-  pub rose : answer ≡ runs.Write → Rose faults faults'
+pub record ReportedLast {O : Type 0} (r : Reporting O) (lines : List Line) (before : O) (answer : RunFault) (after : O) : Type 0 where
+  pub count : r.faults before ≤ r.faults after
+  pub limit : answer ≡ runs.Limit → r.took before after lines
+  pub front : r.front before after lines
+  pub rose : answer ≡ runs.Write → Rose (r.faults before) (r.faults after)
 
 -- ---- a whole run
 
--- the end came with devices of which this holds, and the sink took each line
-pub record TookWhole (c : Course) (Gives : Devices → Type 0) (taken : Option (List ℕ)) : Type 0 where
+-- the end came with devices of which this holds, and the output took each line
+pub record TookWhole {O : Type 0} (r : Reporting O) (c : Course O) (Gives : Devices → Type 0) (now : O) : Type 0 where
   pub closing : Devices
   pub gives : Gives closing
   pub lines : List Line
   pub whole : IsWhole c.setup c.schedule c.images closing lines
-  pub took : Took c.taken taken (report_text lines)
+  pub took : r.took c.output now lines
 
-pub record RunsFrom {A : Type 0} (c : Course) (Gives : A → Devices → Type 0) (answer : Result A RunFault) (taken : Option (List ℕ)) (faults : ℕ) : Type 0 where
-  pub count : c.faults ≤ faults
-  pub whole : (a : A) → answer ≡ Ok a → TookWhole c (Gives a) taken
-  pub limit : answer ≡ Err runs.Limit → TookLimited c taken
-  pub part : is_ok answer ≡ false → TookPart c taken
-  pub rose : answer ≡ Err runs.Write → Rose c.faults faults
+pub record RunsFrom {O A : Type 0} (r : Reporting O) (c : Course O) (Gives : A → Devices → Type 0) (answer : Result A RunFault) (now : O) : Type 0 where
+  pub count : r.faults c.output ≤ r.faults now
+  pub whole : (a : A) → answer ≡ Ok a → TookWhole r c (Gives a) now
+  pub limit : answer ≡ Err runs.Limit → TookLimited r c now
+  pub part : is_ok answer ≡ false → TookPart r c now
+  pub rose : answer ≡ Err runs.Write → Rose (r.faults c.output) (r.faults now)
 
 -- these stores are left
 abbrev pub AreLeft : {S : Type 0} → (S → DeviceState) → List S → Devices → Type 0

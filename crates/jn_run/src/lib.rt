@@ -4,12 +4,12 @@
 ghost use Rattle.std.specs.Prelude.{◌≡◌, ◌<◌, ◌≤◌, ℕ, Option, Some, List, length, IfOk};
 ghost use Rattle.jn_host.specs.Outside.{Contents};
 ghost use Rattle.jn_images.specs.Texts.{refusal_text};
-ghost use Rattle.jn_options.specs.Words.{AreWithinLimits};
+ghost use Rattle.jn_options.specs.Words.{AreWithinLimits, IsTrialInRange, command_of};
 ghost use Rattle.jn_schedule.specs.declared.Event.{Event as AnEvent};
 ghost use Rattle.jn_schedule.specs.Grammar.{IsSchedule};
 ghost use Rattle.jn_world.specs.Standing.{AreStores};
 ghost use Rattle.jn_run.specs.Opening.{AreOpened};
-ghost use Rattle.jn_run.specs.Outcome.{OutcomeOf, OutcomeOn, Refuses, RefusesWords, refused_line, run_asked};
+ghost use Rattle.jn_run.specs.Outcome.{OutcomeOf, OutcomeOfRun, OutcomeOfTrial, OutcomeOn, Refuses, RefusesWords, refused_line};
 ghost use Rattle.jn_run.specs.declared.status.Status.TheVariants as statuses;
 
 use jn_host::{Failed, Keeper, Sink, Source};
@@ -20,35 +20,40 @@ mod opening;
 mod reading;
 mod running;
 mod status;
+mod trial;
 
 use jn_images::Refusal;
 use jn_intent::PageCounts;
 use jn_memdisk::MemDisk;
-use jn_options::{Command, Options, read_command};
+use jn_options::{Command, Options, Trial, read_command};
 use jn_schedule::{Event, ParseFault, check, count_events, parse};
 use jn_stable::Pairs;
 use jn_store::{Powered, StableStore};
 use jn_text::push_number;
-use jn_writing::write_all;
+use jn_writing::{Writer, write_all};
 use keeping::keep;
 use opening::{OpenFault, counts_of, open_stores};
 use reading::{ReadFault, read_all};
 use running::{Disks, RunFault, run_from};
 pub use status::Status;
 use std::alloc::AllocError;
+use trial::sum_up;
 
 /// The most events of a schedule.
 const MOST_EVENTS: usize = 100_000;
 
 /// Does all that the program does: reads the words and the schedule, runs it, writes the report and keeps the disks.
 ///
-/// The words are the program's name, `run` and options. The run begins with new disks, or with those of the images that the
+/// The words are the program's name, and `run` with options or `trial` with a seed and how many events there are. A run begins with new disks, or with those of the images that the
 /// keeper has under a name. The report tells what each event of the schedule led to and, at the end, prints the files from the
 /// servers' pages. Each event's lines are written as the event ends. Once the whole report was taken, the disks are saved as images
 /// where a name for them is given. Other words are refused in one line of text, as are bytes that aren't a schedule, by the line and
 /// the number of the first fault, and images, by the first that is missing, is none or is unsound: then nothing is run. A
 /// schedule of more than 4,194,304 bytes or 100,000 events, a run that would send a message too many or has no epoch left, a
-/// source, a sink or a keeper that fails and want of memory have a status of their own. A trial isn't done yet, and is refused as words.
+/// source, a sink or a keeper that fails and want of memory have a status of their own.
+///
+/// A trial makes its schedule of the seed, runs it on two servers with new disks, and tells its whole report in one line, which is written
+/// once the run is done. It reads no source and keeps no disks, and writes nothing where a limit is reached or memory runs out.
 pub fn run<S: Source, K: Sink, I: Keeper>(
     alloc: Global,
     words: &[String],
@@ -56,8 +61,9 @@ pub fn run<S: Source, K: Sink, I: Keeper>(
     sink: &mut K,
     images: &mut I,
 ) -> Status
-    ensures outcome { OutcomeOf (run_asked words.now) (record {
+    ensures outcome { OutcomeOf (command_of words.now) (record {
       left = S.left source.old;
+      left' = S.left source.new;
       read_faults = S.faults source.old;
       read_faults' = S.faults source.new;
       taken = K.taken sink.old;
@@ -76,9 +82,38 @@ pub fn run<S: Source, K: Sink, I: Keeper>(
     };
     match asked {
         Some(Command::Run(options)) => run_source(alloc, &options, source, sink, images),
-        // No schedule is made of a seed yet.
-        Some(Command::Trial(_)) => refuse_words(sink),
+        Some(Command::Trial(trial)) => run_trial(alloc, &trial, sink),
         None => refuse_words(sink),
+    }
+}
+
+/// Runs a trial, and writes the line that sums it up once it is done.
+fn run_trial<K: Sink>(alloc: Global, trial: &Trial, sink: &mut K) -> Status
+    requires range { IsTrialInRange trial.now }
+    ensures outcome { (left : Option (List ℕ)) (read_faults : ℕ) (kept : Option Contents) (keep_faults : ℕ) → OutcomeOfTrial trial.now (record {
+      left = left;
+      left' = left;
+      read_faults = read_faults;
+      read_faults' = read_faults;
+      taken = K.taken sink.old;
+      taken' = K.taken sink.new;
+      write_faults = K.faults sink.old;
+      write_faults' = K.faults sink.new;
+      kept = kept;
+      kept' = kept;
+      keep_faults = keep_faults;
+      keep_faults' = keep_faults;
+    }) result }
+{
+    match sum_up(alloc, trial) {
+        Ok(line) => match write_all(sink, &line) {
+            Ok(()) => Status::Done,
+            Err(Failed) => Status::Write,
+        },
+        Err(RunFault::Limit) => Status::Limit,
+        // A summary never fails.
+        Err(RunFault::Write) => Status::Write,
+        Err(RunFault::Memory) => Status::Memory,
     }
 }
 
@@ -101,8 +136,9 @@ fn run_source<S: Source, K: Sink, I: Keeper>(
     keeper: &mut I,
 ) -> Status
     requires limits { AreWithinLimits options.now }
-    ensures outcome { OutcomeOf (Some options.now) (record {
+    ensures outcome { OutcomeOfRun (Some options.now) (record {
       left = S.left source.old;
+      left' = S.left source.new;
       read_faults = S.faults source.old;
       read_faults' = S.faults source.new;
       taken = K.taken sink.old;
@@ -211,7 +247,8 @@ fn run_stores<K: Sink, I: Keeper>(
     let Ok(counts) = counts_of(alloc, &stores) else {
         return Status::Memory;
     };
-    match run_from(alloc, options.trace, stores, events, sink) {
+    let mut writer = Writer::new(alloc);
+    match run_from(alloc, options.trace, stores, events, &mut writer, sink) {
         Ok(left) => keep(alloc, options, left, &counts, keeper),
         Err(RunFault::Write) => Status::Write,
         Err(RunFault::Limit) => Status::Limit,

@@ -89,7 +89,7 @@ fn open_images<I: Keeper>(
 }
 
 /// The stores of new servers.
-fn new_stores(
+pub fn new_stores(
     alloc: Global,
     servers: u8,
     geometry: Geometry,

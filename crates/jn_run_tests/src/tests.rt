@@ -21,16 +21,17 @@ const ANSWERED: &str =
 /// A call of the program: its words, the schedule, the calls of the source and of the sink that
 /// fail, the status and what the sink took.
 #[derive(Clone, Copy)]
-struct Case<'a> {
-    words: &'a [&'a str],
-    schedule: &'a [u8],
-    failing_reads: &'a [u64],
-    failing_writes: &'a [u64],
-    status: Status,
-    report: &'a str,
+pub struct Case<'a> {
+    pub words: &'a [&'a str],
+    pub schedule: &'a [u8],
+    pub failing_reads: &'a [u64],
+    pub failing_writes: &'a [u64],
+    pub status: Status,
+    pub report: &'a str,
 }
 
-fn outcome(alloc: Global, case: &Case<'_>) -> Result<(Status, Vec<u8>), AllocError> {
+/// How a call ends, and what the sink took.
+pub fn outcome(alloc: Global, case: &Case<'_>) -> Result<(Status, Vec<u8>), AllocError> {
     let mut words = Vec::new(alloc);
     for word in case.words {
         words.push(String::from_str(alloc, word)?)?;

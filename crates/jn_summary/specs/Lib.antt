@@ -1,3 +1,4 @@
 pub mod Summary
+pub mod Summing
 pub mod Taken
 pub mod Spell

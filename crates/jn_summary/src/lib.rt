@@ -2,9 +2,11 @@
 #![tactic(auto)]
 
 mod counts;
+mod reporting;
 mod summary;
 mod told;
 
+pub use reporting::Summing;
 pub use summary::Summary;
 
 #[cfg(test)]

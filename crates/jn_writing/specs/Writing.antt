@@ -1,11 +1,9 @@
 -- What a sink took.
-use Rattle.std.specs.Prelude.{◌≡◌, ◌≤◌, ℕ, Bool, true, false, List, take, Option, Result, Ok, Err, is_ok}
+use Rattle.std.specs.Prelude.{◌≡◌, ◌≤◌, ℕ, Bool, true, false, List, take, Option}
 use Rattle.std.specs.Io.KnownBytes.{append_known}
-use Rattle.jn_report.specs.declared.line.Line.{Line}
 use Rattle.jn_report.specs.Text.{report_text}
 use Rattle.jn_host.specs.Outside.{Rose}
-use Rattle.jn_writing.specs.declared.ReportFault.{ReportFault}
-use Rattle.jn_writing.specs.declared.ReportFault.TheVariants as reports
+use Rattle.jn_writing.specs.Reporting.{Reporting}
 
 -- exactly this, or a front of it
 abbrev pub Took : Option (List ℕ) → Option (List ℕ) → List ℕ → Type 0
@@ -21,9 +19,10 @@ pub record WritesAll (taken : Option (List ℕ)) (faults : ℕ) (bytes : List �
   pub front : ok ≡ false → TookFront taken taken' bytes
   pub rose : ok ≡ false → Rose faults faults'
 
--- lines were written to a sink
-pub record Reports (taken : Option (List ℕ)) (faults : ℕ) (lines : List Line) (answer : Result (Unit {0}) ReportFault) (taken' : Option (List ℕ)) (faults' : ℕ) : Type 0 where
-  pub count : faults ≤ faults'
-  pub whole : is_ok answer ≡ true → Took taken taken' (report_text lines)
-  pub front : is_ok answer ≡ false → TookFront taken taken' (report_text lines)
-  pub rose : answer ≡ Err reports.Write → Rose faults faults'
+-- A sink takes lines as their text. A front of that may end within a line.
+abbrev pub writes_to : {K : Type 0} → (K → Option (List ℕ)) → (K → ℕ) → Reporting K
+writes_to taken faults = record {
+  took = λ before after lines. Took (taken before) (taken after) (report_text lines);
+  front = λ before after lines. TookFront (taken before) (taken after) (report_text lines);
+  faults = faults;
+}

@@ -8,4 +8,4 @@ returns g c =
     subst (λ (bytes : List ℕ). IsText (g.S.Source.left c.args.source.now) bytes) (sym c.deref.ensures.value) (c.read_all.ensures.read.whole c.in-Ok.text c.in-Ok.is) in
     let fits : length c.deref.result.now ≤ most_bytes =
     subst (λ (bytes : List ℕ). length bytes ≤ most_bytes) (sym c.deref.ensures.value) (c.read_all.ensures.read.fits c.in-Ok.text c.in-Ok.is) in
-    record { outcome = c.run_text.ensures.ran _ _ _ told fits }
+    record { outcome = c.run_text.ensures.ran _ _ _ _ told fits }

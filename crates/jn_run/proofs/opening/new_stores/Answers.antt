@@ -1,4 +1,4 @@
-use Rattle.std.proofs.Common.{length, ◌∙◌, ◌≡◌, ◌+◌, ◌++◌, ◌∷◌, [], ℕ, refl, sym, subst, arith}
+use Rattle.std.proofs.Common.{length, ◌∙◌, ◌≡◌, ◌+◌, ℕ, refl, sym, subst, arith}
 use Rattle.std.proofs.lemmas.Grind.{common_steps}
 use Rattle.jn_world.specs.Standing.{AreStores}
 use Rattle.jn_run.specs.Opening.{IsDisk, AreDisks}

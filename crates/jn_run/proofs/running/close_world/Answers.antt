@@ -4,6 +4,6 @@ use Rattle.jn_run.proofs.running.close_world.Goals as goal
 
 pub returns : goal.returns
 returns g c = record {
-  ran = λ course m told stands. closed-told device _ course m _ _ _ _ told c.close-closed.result c.new-lines.result.items c.close-closed.new.lines.items c.deref.result.now c.write_lines.result
-      (c.close-closed.ensures.written course.setup m stands.stands stands.tasks stands.stage) c.new-lines.ensures.items c.deref.ensures.value c.write_lines.ensures.wrote;
+  ran = λ course m told stands. closed-told g.R.Reporter.reporting g.met.R.Reporter.joins device _ course m _ _ told c.close-closed.result c.clear.new.self.items c.close-closed.new.lines.items c.deref.result.now c.report_lines.result
+      (c.close-closed.ensures.written course.setup m stands.stands stands.tasks stands.stage) c.clear.ensures.items c.deref.ensures.value c.report_lines.ensures.reported;
 }

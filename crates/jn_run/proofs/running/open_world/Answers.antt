@@ -5,5 +5,5 @@ use Rattle.jn_run.proofs.running.open_world.Goals as goal
 
 pub returns-clause-opened : goal.returns-clause-opened
 returns-clause-opened g c = λ x schedule files epochs images stores trace are.
-    start-told look device (course_of x schedule images (g.K.Sink.taken c.args.sink.now) (g.K.Sink.faults c.args.sink.now)) files epochs are c.start-world.result c.new-lines.result.items c.start-world.new.lines.items c.deref.result.now c.write_lines.result _ _
-    (c.start-world.ensures.written x schedule files epochs images stores trace are) c.new-lines.ensures.items c.deref.ensures.value c.write_lines.ensures.wrote
+    start-told g.R.Reporter.reporting g.met.R.Reporter.joins look device (course_of x schedule images c.args.output.now) files epochs are c.start-world.result c.clear.new.self.items c.start-world.new.lines.items c.deref.result.now c.report_lines.result _
+    (c.start-world.ensures.written x schedule files epochs images stores trace are) c.clear.ensures.items c.deref.ensures.value c.report_lines.ensures.reported

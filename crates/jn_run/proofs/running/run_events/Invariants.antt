@@ -9,6 +9,6 @@ abbrev pub invariant-loop-event : goal.invariant-loop-event
 invariant-loop-event g l = record {
   number : l.number ≡ l.event-index;
   world : IsWorld look l.world;
-  so_far : (c : Course) (m : Moment) → HasTold c m (g.K.Sink.taken l.fn.sink) (g.K.Sink.faults l.fn.sink) → c.schedule ≡ l.fn.events → StandsBefore look device c l.fn.events l.fn.world m
-      → ToldTo c (StandsBefore look device c (drop l.event-index l.fn.events) l.world) (g.K.Sink.taken l.sink) (g.K.Sink.faults l.sink);
+  so_far : (c : Course g.row.O.Denot) (m : Moment) → HasTold g.R.Reporter.reporting c m l.fn.output → c.schedule ≡ l.fn.events → StandsBefore look device c.setup l.fn.events l.fn.world m
+      → ToldTo g.R.Reporter.reporting c (StandsBefore look device c.setup (drop l.event-index l.fn.events) l.world) l.output;
 }

@@ -1,7 +1,7 @@
 use Rattle.std.proofs.Common.{arith}
 use Rattle.std.proofs.lemmas.Grind.{common_steps}
 use Rattle.jn_host.proofs.Writing.{writes_join}
-use Rattle.jn_writing.proofs.write_all.Goals as goal
+use Rattle.jn_writing.proofs.writer.write_all.Goals as goal
 
 pub loop-done-preserved : goal.loop-done-preserved
 loop-done-preserved g c =

@@ -1,7 +1,0 @@
-use Rattle.std.proofs.Common.{ap}
-use Rattle.std.specs.Prelude.{is_ok}
-use Rattle.jn_run.proofs.Lines.{last-whole}
-use Rattle.jn_run.proofs.running.write_last.Goals as goal
-
-pub returns-in-Ok : goal.returns-in-Ok
-returns-in-Ok g c = last-whole _ _ _ _ c.args.lines.now c.report.result (ap is_ok c.in-Ok.is) c.report.ensures.reported
