@@ -16,6 +16,7 @@ use Rattle.jn_recovery.specs.declared.counts.PageCounts.{PageCounts}
 use Rattle.jn_schedule.specs.declared.Event.{Event}
 use Rattle.jn_schedule.specs.Ranges.{EventInRange}
 use Rattle.jn_schedule.specs.Faults.{IsFirstFault}
+use Rattle.jn_between.proofs.Ended.{at-the-end}
 use Rattle.jn_headline.proofs.Joined.{whole-report, part-report, limited-report}
 use Rattle.jn_headline.specs.Headline.{IsTrueOfBegun}
 use Rattle.jn_ended.specs.Whole.{IsOfItsCommits}
@@ -34,7 +35,7 @@ use Rattle.jn_run.specs.declared.status.Status.TheVariants as statuses
 use Rattle.jn_run.specs.declared.running.RunFault.{RunFault}
 use Rattle.jn_run.specs.declared.running.RunFault.TheVariants as runs
 use Rattle.jn_run.specs.Keeping.{KeptWith}
-use Rattle.jn_run.specs.Outcome.{Accepted, AreKept, IsRefusedImage, Keeps, KeepsFirst, OfImage, OfRefusal, OfReport, OfWords, OutcomeOf, OutcomeOn, IsUntouched, Outputs, Outside, IsText, most_bytes, Ran, Reads, Refuses, RefusesWords, refused_line, IsWhole, IsPart, IsCutShort, RanInPart, RanUnkept, RanWhole}
+use Rattle.jn_run.specs.Outcome.{LeavesFiles, Accepted, AreKept, IsRefusedImage, Keeps, KeepsFirst, OfImage, OfRefusal, OfReport, OfWords, OutcomeOf, OutcomeOn, IsUntouched, Outputs, Outside, IsText, most_bytes, Ran, Reads, Refuses, RefusesWords, refused_line, IsWhole, IsPart, IsCutShort, RanInPart, RanUnkept, RanWhole}
 use Rattle.jn_run.specs.Running.{course_of, AreLeft, RunsFrom, TookWhole}
 use Rattle.jn_run.proofs.Opened.{Opened, one-files, some-at}
 
@@ -108,6 +109,14 @@ module _ {S : Type 0} (device : S → DeviceState) (options : Options) (kept : O
     pub same-files : AreImages b.setup files epochs b.images → files ≡ b.files
     same-files are = one-files b.setup files epochs b.files b.epochs b.images are b.are_images
 
+  -- the end's moment has them on its pages
+  pub left-holds : (closing : Devices) (lines : List Line) → IsWholeRun b.setup events b.images closing lines → LeavesFiles b.setup b.files events lines closing
+  left-holds closing lines run =
+      let end = at-the-end b.setup events b.images run.last less range run.written run.stage run.tasks in
+      subst (λ (files : AllFiles). LeavesFiles b.setup files events lines closing) (same-files run.written.files run.written.epochs run.written.are_images)
+      (subst (λ (ls : List Line). LeavesFiles b.setup run.written.files events ls closing) run.lines_are
+      (subst (λ (ds : Devices). LeavesFiles b.setup run.written.files events run.last.state.lines ds) run.closing_is end.pages))
+
   abbrev pub whole-holds : (closing : Devices) (lines : List Line) → IsWholeRun b.setup events b.images closing lines → IsWhole options kept events lines
   whole-holds closing lines run =
       let of = whole-report b.setup events b.images less range closing lines run in
@@ -119,6 +128,7 @@ module _ {S : Type 0} (device : S → DeviceState) (options : Options) (kept : O
         opens = b.opens;
         run = run;
         commits = subst (λ (files : AllFiles). IsOfItsCommits files events lines) (same-files of.0 of.1 of.2) of.3;
+        left = left-holds closing lines run;
       }
 
   part-holds : (lines : List Line) → IsPartOfRun b.setup events b.images lines → IsPart options kept events lines

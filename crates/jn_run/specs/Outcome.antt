@@ -7,6 +7,7 @@ use Rattle.jn_host.specs.Outside.{Contents, Rose}
 use Rattle.jn_schedule.specs.Grammar.{IsSchedule}
 use Rattle.jn_schedule.specs.Faults.{IsFirstFault}
 use Rattle.jn_writing.specs.Writing.{Took, TookFront}
+use Rattle.jn_base.specs.declared.names.LockUnit.{LockUnit}
 use Rattle.jn_base.specs.declared.names.ServerNo.{ServerNo}
 use Rattle.jn_device.specs.Device.{DeviceState}
 use Rattle.jn_order.specs.Files.{Files, AllFiles}
@@ -29,8 +30,12 @@ use Rattle.jn_options.specs.declared.asked.Options.{Options}
 use Rattle.jn_options.specs.declared.asked.Trial.{Trial as ATrial}
 use Rattle.jn_ended.specs.Whole.{IsOfItsCommits}
 use Rattle.jn_gen.specs.Trial.{events_from}
+use Rattle.jn_found.specs.Pages.{found_on}
 use Rattle.jn_headline.specs.Headline.{IsTrueOfBegun}
 use Rattle.jn_reported.specs.Ending.{AreFilesOf}
+use Rattle.jn_rows.specs.Stable.{Pick}
+use Rattle.jn_serial.specs.Lines.{history_of}
+use Rattle.jn_serial.specs.Order.{replay}
 use Rattle.jn_written.specs.Chances.{Setup}
 use Rattle.jn_written.specs.Devices.{Devices}
 use Rattle.jn_written.specs.Whole.{IsWhole as IsWholeRun, IsLimited, IsPartOfRun}
@@ -79,6 +84,11 @@ pub record Opens (options : Options) (kept : Option Contents) (x : Setup) (files
 
 -- ---- what holds of the lines
 
+-- The disks that are left hold, by every pick of halves, the files that all commits leave: those that the run began with, and then the commits that the
+-- lines name, one after another.
+abbrev pub LeavesFiles : Setup → AllFiles → List Event → List Line → Devices → Type 0
+LeavesFiles x files events lines closing = (q : ServerNo) (u : LockUnit) (c : Pick) → q.0 < x.servers → (found_on (x.counts q) (pairs_view (closing q)) c).files u ≡ replay files events lines (history_of lines) q u
+
 -- The lines are those of a run of the written machine over all events, from these disks to others; and they are those of its commits, one
 -- after another.
 pub record IsWhole (options : Options) (kept : Option Contents) (events : List Event) (lines : List Line) : Type 0 where
@@ -89,6 +99,7 @@ pub record IsWhole (options : Options) (kept : Option Contents) (events : List E
   pub opens : Opens options kept setup files images
   pub run : IsWholeRun setup events images closing lines
   pub commits : IsOfItsCommits files events lines
+  pub left : LeavesFiles setup files events lines closing
 
 -- the lines of such a run up to some step, true of the events that have begun
 pub record IsPart (options : Options) (kept : Option Contents) (events : List Event) (lines : List Line) : Type 0 where
