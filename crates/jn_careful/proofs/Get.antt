@@ -1,5 +1,5 @@
 -- The looks of a careful get.
-use Rattle.std.proofs.Common.{◌≡◌, ◌≢◌, ◌⊎◌, ⊎_elim, ℕ, ◌+◌, ◌≤◌, ◌<◌, true, false, List, Option, Some, None, Result, Ok, Err, ◌∙◌, ap, sym, arith}
+use Rattle.std.proofs.Common.{◌≡◌, ◌≢◌, ◌⊎◌, ⊎_elim, ℕ, ◌+◌, ◌≤◌, ◌<◌, Bool, true, false, List, Some, None, Result, Ok, Err, refl, ◌∙◌, ap, sym, arith}
 use Rattle.std.proofs.lemmas.Bool.Decides.{nat_tests}
 use Rattle.std.specs.Prelude.{IsErr}
 use Rattle.jn_base.specs.declared.device.Stopped.{Stopped}
@@ -10,7 +10,10 @@ use Rattle.jn_device.specs.Calls.{GetStep}
 use Rattle.jn_device.specs.Later.{Later, Struck}
 use Rattle.jn_device.proofs.Later.{later_trans, struck_trans}
 use Rattle.jn_device.proofs.Steps.{get_later, get_struck, get_bytes}
-use Rattle.jn_careful.specs.Careful.{CarefulGot, IsServed, IsStopped}
+use Rattle.jn_phys.specs.declared.Found.{Found}
+use Rattle.jn_phys.specs.declared.Found.TheVariants.{Same, Other, LooksBad as FoundBad}
+use Rattle.jn_phys.specs.Answers.{look_compared}
+use Rattle.jn_careful.specs.Careful.{CarefulGot, IsServed, IsStopped, page_read, page_compared}
 
 -- after n looks that failed
 pub record Looking (s : DeviceState) (p n : ℕ) (t : DeviceState) : Type 0 where
@@ -87,9 +90,8 @@ module _ (s : DeviceState) (p n : ℕ) (t : DeviceState) (l : Looking s p n t) (
     calm = λ q on w is. cc is;
   }
 
-  pub look_err : (w : Stopped) → n + 1 ≤ 4 → answer ≡ Err w → (r : Result (Option (List ℕ)) Stopped) → IsErr r → CarefulGot s p r u
-  look_err w few e (Ok v) h = absurd (cc h)
-  look_err w few e (Err v) h = record {
+  pub look_err : (w : Stopped) → n + 1 ≤ 4 → answer ≡ Err w → (v : Stopped) → CarefulGot s p (Err v) u
+  look_err w few e v = record {
     later = since;
     calls = omega (arith, gets_up t p answer u step, l.calls);
     puts = step.puts ∙ l.puts;
@@ -103,6 +105,26 @@ module _ (s : DeviceState) (p n : ℕ) (t : DeviceState) (l : Looking s p n t) (
     stopped = λ w' is. rises w e;
     calm = λ q on w' is. let on' = since.power q on in let off = (rises w e).power in cc (on', off);
   }
+
+-- the looks of a get into a page, and of one that compares
+module _ (s : DeviceState) (p n : ℕ) (t : DeviceState) (l : Looking s p n t) (few : n + 1 ≤ 4) (u : DeviceState) where
+  pub read_err : (e : Stopped) → GetStep t p (Err e) u → (r : Result Bool Stopped) → IsErr r → (bytes : List ℕ) → CarefulGot s p (page_read r bytes) u
+  read_err e step (Ok good) h bytes = absurd (cc h)
+  read_err e step (Err v) h bytes = look_err s p n t l (Err e) u step e few refl v
+
+  pub compared_err : (e : Stopped) → GetStep t p (Err e) u → (r : Result Found Stopped) → IsErr r → (bytes : List ℕ) → CarefulGot s p (page_compared r bytes) u
+  compared_err e step (Ok found) h bytes = absurd (cc h)
+  compared_err e step (Err v) h bytes = look_err s p n t l (Err e) u step e few refl v
+
+  pub compared_good : (found : Found) → GetStep t p (look_compared (Ok found) (u.pages p).bytes) u → (found ≡ FoundBad → ⊥) → CarefulGot s p (page_compared (Ok found) (u.pages p).bytes) u
+  compared_good Same step good = look_good s p n t l _ u step (u.pages p).bytes few refl
+  compared_good Other step good = look_good s p n t l _ u step (u.pages p).bytes few refl
+  compared_good FoundBad step good = absurd (good refl)
+
+  pub compared_again : (found : Found) → GetStep t p (look_compared (Ok found) (u.pages p).bytes) u → found ≡ FoundBad → Looking s p (n + 1) u
+  compared_again Same step bad = absurd (cc bad)
+  compared_again Other step bad = absurd (cc bad)
+  compared_again FoundBad step bad = look_again s p n t l _ u step refl
 
 pub look_end : (s : DeviceState) (p n : ℕ) (t : DeviceState) → Looking s p n t → n ≡ 4 → (t.pages p).fails ≤ 3 → CarefulGot s p (Ok None) t
 look_end s p n t l four few = record {

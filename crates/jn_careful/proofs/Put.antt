@@ -10,6 +10,9 @@ use Rattle.jn_device.specs.Calls.{GetStep, PutStep}
 use Rattle.jn_device.specs.Later.{Later, Struck}
 use Rattle.jn_device.proofs.Later.{later_trans, struck_trans, rose_since, rose_then}
 use Rattle.jn_device.proofs.Steps.{get_later, put_later, get_struck, put_struck, get_bytes, put_bytes, put_bytes_at}
+use Rattle.jn_phys.specs.declared.Found.{Found}
+use Rattle.jn_phys.specs.declared.Found.TheVariants.{Same, Other, LooksBad as FoundBad}
+use Rattle.jn_phys.specs.Answers.{look_compared, IsCompared}
 use Rattle.jn_careful.proofs.Get.{gets_up}
 use Rattle.jn_careful.specs.Careful.{CarefulPut, IsServed, IsStopped}
 
@@ -113,7 +116,7 @@ module _ (s : DeviceState) (p : ℕ) (new : List ℕ) (n : ℕ) (t : DeviceState
     turn_served : (found : Look) → answer ≡ Ok found → IsServed s u
     turn_served found e = let now = get_served m p found u (at_look e) in record { power = now.power; stops = now.stops ∙ (put_served t p new m put).0 ∙ l.stops }
 
-    pub put_again : (found : Look) → answer ≡ Ok found → (t.pages p).fails + 1 ≤ (u.pages p).fails → Putting s p new (n + 1) u
+    put_again : (found : Look) → answer ≡ Ok found → (t.pages p).fails + 1 ≤ (u.pages p).fails → Putting s p new (n + 1) u
     put_again found e more = record {
       later = turn;
       calls = omega (arith, turn_calls);
@@ -124,7 +127,7 @@ module _ (s : DeviceState) (p : ℕ) (new : List ℕ) (n : ℕ) (t : DeviceState
       stops = (turn_served found e).stops;
     }
 
-    pub put_found : (v : List ℕ) → answer ≡ Ok (Good v) → v ≡ new → CarefulPut s p new false u
+    put_found : (v : List ℕ) → answer ≡ Ok (Good v) → v ≡ new → CarefulPut s p new false u
     put_found v e is = record {
       later = turn;
       calls = omega (arith, turn_calls);
@@ -155,8 +158,19 @@ module _ (s : DeviceState) (p : ℕ) (new : List ℕ) (n : ℕ) (t : DeviceState
           calm = λ q on. absurd (ends s u turn off.power q on);
         }
 
-  pub put_bad : (m u : DeviceState) → PutStep t p new false m → GetStep m p (Ok LooksBad) u → Putting s p new (n + 1) u
+  put_bad : (m u : DeviceState) → PutStep t p new false m → GetStep m p (Ok LooksBad) u → Putting s p new (n + 1) u
   put_bad m u put look = put_again m put _ u look LooksBad refl (fails_bad t p new m u put look)
 
-  pub put_other : (m u : DeviceState) (v : List ℕ) → PutStep t p new false m → GetStep m p (Ok (Good v)) u → (v ≡ new → ⊥) → Putting s p new (n + 1) u
+  put_other : (m u : DeviceState) (v : List ℕ) → PutStep t p new false m → GetStep m p (Ok (Good v)) u → (v ≡ new → ⊥) → Putting s p new (n + 1) u
   put_other m u v put look other = put_again m put _ u look (Good v) refl (fails_other t p new m v u put look other)
+
+  module _ (m u : DeviceState) (put : PutStep t p new false m) where
+    pub put_same : (found : Found) → GetStep m p (look_compared (Ok found) (u.pages p).bytes) u → IsCompared (Ok found) (u.pages p).bytes new → found ≡ Same → CarefulPut s p new false u
+    put_same Same look is same = put_found m put _ u look (u.pages p).bytes refl (is.same refl)
+    put_same Other look is same = absurd (cc same)
+    put_same FoundBad look is same = absurd (cc same)
+
+    pub put_unlike : (found : Found) → GetStep m p (look_compared (Ok found) (u.pages p).bytes) u → IsCompared (Ok found) (u.pages p).bytes new → (found ≡ Same → ⊥) → Putting s p new (n + 1) u
+    put_unlike Same look is unlike = absurd (unlike refl)
+    put_unlike Other look is unlike = put_other m u (u.pages p).bytes put look (is.other refl)
+    put_unlike FoundBad look is unlike = put_bad m u put look

@@ -3,6 +3,8 @@ use Rattle.std.specs.Prelude.{◌≡◌, ◌≢◌, ◌⊎◌, ℕ, ◌+◌, ◌
 use Rattle.jn_base.specs.declared.device.Stopped.{Stopped}
 use Rattle.jn_device.specs.Device.{DeviceState, Rose, partner_of}
 use Rattle.jn_device.specs.Later.{Later, Struck}
+use Rattle.jn_phys.specs.declared.Found.{Found}
+use Rattle.jn_phys.specs.declared.Found.TheVariants.{Same, Other, LooksBad}
 
 -- a call that is answered Ok: the power is there, and no stop was counted
 pub record IsServed (s t : DeviceState) : Type 0 where
@@ -13,6 +15,19 @@ pub record IsServed (s t : DeviceState) : Type 0 where
 pub record IsStopped (s t : DeviceState) : Type 0 where
   pub power : t.power ≡ false
   pub stops : Rose s.stops t.stops
+
+-- a page that is read, of which these are the bytes, or none where it is bad
+abbrev pub page_read : Result Bool Stopped → List ℕ → Result (Option (List ℕ)) Stopped
+page_read (Ok true) bytes = Ok (Some bytes)
+page_read (Ok false) bytes = Ok None
+page_read (Err e) bytes = Err e
+
+-- and one that is compared
+abbrev pub page_compared : Result Found Stopped → List ℕ → Result (Option (List ℕ)) Stopped
+page_compared (Ok Same) bytes = Ok (Some bytes)
+page_compared (Ok Other) bytes = Ok (Some bytes)
+page_compared (Ok LooksBad) bytes = Ok None
+page_compared (Err e) bytes = Err e
 
 -- a careful get of page p, from s to t
 pub record CarefulGot (s : DeviceState) (p : ℕ) (answer : Result (Option (List ℕ)) Stopped) (t : DeviceState) : Type 0 where

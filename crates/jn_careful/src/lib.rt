@@ -1,13 +1,13 @@
 //! Careful pages: gets and puts that are repeated until they hold (Lampson and Sturgis 1979).
 #![tactic(auto)]
 
-ghost use Rattle.std.specs.Prelude.{◌≡◌, ◌≤◌, ◌<◌, [], ℕ, is_err, true};
-ghost use Rattle.jn_careful.specs.Careful.{CarefulGot, CarefulPut};
+ghost use Rattle.std.specs.Prelude.{◌≡◌, ◌≢◌, ◌≤◌, ◌<◌, [], ℕ, is_err, true, Ok};
+ghost use Rattle.jn_careful.specs.Careful.{CarefulGot, CarefulPut, page_read, page_compared};
+ghost use Rattle.jn_phys.specs.Answers.{IsCompared};
 ghost use Rattle.jn_device.specs.Events.{PowersUp, powered_off, Decays, Revives, Arms, is_within, disarmed, cleared};
 
 use jn_base::{FaultKind, Outside, Page, Stopped};
-use jn_device::Look;
-use jn_phys::{PhysDisk, PhysPower};
+use jn_phys::{Found, PhysDisk, PhysPower};
 use std::marker::Model;
 
 /// How often a call is tried. A page fails at most three times until it is read.
@@ -48,17 +48,35 @@ impl<D: PhysDisk> Careful<D> {
         self.disk.count()
     }
 
-    /// The page's bytes, or `None` exactly where it is bad at the return. At most 4 device calls.
-    pub fn get(&mut self, p: u32) -> Result<Option<Page>, Stopped>
+    /// Reads a page: true where its bytes are in `into`, and false exactly where it is bad at the
+    /// return. But for true, `into` is as it was. At most 4 device calls.
+    pub fn get(&mut self, p: u32, into: &mut Page) -> Result<bool, Stopped>
         requires { p < (D.state self.old).count }
-        ensures got { CarefulGot (D.state self.old) p result (D.state self.new) }
+        ensures got { CarefulGot (D.state self.old) p (page_read result into.new) (D.state self.new) }
+        ensures kept { result ≢ Ok true → into.new ≡ into.old }
     {
         for _try in 0..TRIES {
-            if let Look::Good(page) = self.disk.get(p)? {
-                return Ok(Some(page));
+            if self.disk.get(p, into)? {
+                return Ok(true);
             }
         }
-        Ok(None)
+        Ok(false)
+    }
+
+    /// A get that compares the page where it stands; it looks bad exactly where it is bad at the
+    /// return. At most 4 device calls.
+    pub fn compare(&mut self, p: u32, page: &Page) -> Result<Found, Stopped>
+        requires { p < (D.state self.old).count }
+        ensures got { CarefulGot (D.state self.old) p (page_compared result ((D.state self.new).pages p).bytes) (D.state self.new) }
+        ensures compared { IsCompared result ((D.state self.new).pages p).bytes page.now }
+    {
+        for _try in 0..TRIES {
+            let found = self.disk.compare(p, page)?;
+            if found != Found::LooksBad {
+                return Ok(found);
+            }
+        }
+        Ok(Found::LooksBad)
     }
 
     /// Puts the page and reads it back, until it is there: Ok means that it is good with these
@@ -69,10 +87,9 @@ impl<D: PhysDisk> Careful<D> {
     {
         for _try in 0..TRIES {
             self.disk.put(p, page)?;
-            if let Look::Good(found) = self.disk.get(p)? {
-                if found == *page {
-                    return Ok(());
-                }
+            let found = self.disk.compare(p, page)?;
+            if found == Found::Same {
+                return Ok(());
             }
         }
         unreachable!()

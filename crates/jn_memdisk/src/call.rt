@@ -3,9 +3,10 @@ ghost use Rattle.std.specs.Prelude.{◌≡◌, ◌≤◌, ◌<◌, ◌+◌, ℕ,
 ghost use Rattle.jn_device.specs.Calls as calls;
 ghost use Rattle.jn_device.specs.Device as device;
 ghost use Rattle.jn_memdisk.specs.Pages.{page_of};
+ghost use Rattle.jn_phys.specs.Answers.{look_read};
 
 use jn_base::{FaultKind, Page, Stopped};
-use jn_device::{GetOutcome, Half, Look, PutOutcome};
+use jn_device::{GetOutcome, Half, PutOutcome};
 
 /// What a page's last calls have left: whether the last put missed it, and how often it has failed.
 #[derive(Clone, Copy)]
@@ -45,18 +46,14 @@ pub(crate) fn put_under(
     }
 }
 
-/// The answer to a get.
-pub(crate) fn answer_got(outcome: GetOutcome, half: &Half, marks: Marks) -> Result<Look, Stopped>
-    ensures { result ≡ calls.answer_got outcome (page_of half.now marks) }
+/// The answer to a get: whether the page is good, if it isn't stopped.
+pub(crate) fn answer_got(outcome: GetOutcome, half: &Half, marks: Marks) -> Result<bool, Stopped>
+    ensures { look_read result half.now.bytes ≡ calls.answer_got outcome (page_of half.now marks) }
 {
     let _marks = marks;
     match outcome {
-        GetOutcome::Reads => Ok(if half.good {
-            Look::Good(half.bytes)
-        } else {
-            Look::LooksBad
-        }),
-        GetOutcome::Misreads => Ok(Look::LooksBad),
+        GetOutcome::Reads => Ok(half.good),
+        GetOutcome::Misreads => Ok(false),
         _ => Err(Stopped),
     }
 }

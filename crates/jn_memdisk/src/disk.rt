@@ -1,13 +1,15 @@
 // The disk.
 ghost use Rattle.std.specs.Prelude.{◌≡◌, ◌≤◌, ◌<◌, ◌+◌, ◌^◌, ◌/◌, ◌*◌, ℕ, List, length, vec_len, IfOk, true};
+ghost use Rattle.jn_device.specs.Calls.{GetStep};
 ghost use Rattle.jn_memdisk.specs.Faults.{all_within};
+ghost use Rattle.jn_phys.specs.Answers.{look_read};
 
 use crate::call::{bumped, get_is_done, get_stops, put_is_done, put_stops};
 use crate::faults::Faults;
 use crate::pages::{Pages, blank_halves};
 use jn_base::{FaultKind, Outside, Page, Stopped};
-use jn_device::{Half, Look};
-use jn_phys::{PhysDisk, PhysPower};
+use jn_device::Half;
+use jn_phys::{Found, PhysDisk, PhysPower};
 use std::alloc::{AllocError, Global};
 
 /// Pages in memory, with power, and room for sixteen faults that wait and sixteen that were told.
@@ -72,6 +74,33 @@ impl MemDisk {
     {
         self.calls
     }
+
+    /// A get but for its bytes: whether the page is good.
+    fn look(&mut self, p: u32) -> Result<bool, Stopped>
+        requires { p < (⟦<MemDisk as PhysDisk>⟧.state self.old).count }
+        ensures step { GetStep (⟦<MemDisk as PhysDisk>⟧.state self.old) p (look_read result ((⟦<MemDisk as PhysDisk>⟧.state self.new).pages p).bytes) (⟦<MemDisk as PhysDisk>⟧.state self.new) }
+    {
+        if !self.power {
+            self.stops = bumped(self.stops);
+            return Err(Stopped);
+        }
+        if self.faults.waiting.is_empty() {
+            self.calls = bumped(self.calls);
+            return Ok(self.pages.read(p));
+        }
+        let kind = self.faults.strike();
+        self.faults.tell(self.pages.told_got(p, kind));
+        let outcome = self.pages.get_outcome(p, kind);
+        let answer = self.pages.get(p, kind, outcome);
+        if get_is_done(outcome) {
+            self.calls = bumped(self.calls);
+        }
+        if get_stops(outcome) {
+            self.power = false;
+            self.stops = bumped(self.stops);
+        }
+        answer
+    }
 }
 
 impl PhysDisk for MemDisk {
@@ -96,29 +125,35 @@ impl PhysDisk for MemDisk {
         self.pages.count()
     }
 
-    fn get(&mut self, p: u32) -> Result<Look, Stopped> {
-        if !self.power {
-            self.stops = bumped(self.stops);
-            return Err(Stopped);
+    fn get(&mut self, p: u32, into: &mut Page) -> Result<bool, Stopped> {
+        let good = self.look(p)?;
+        if good {
+            *into = self.pages.halves[p as usize].bytes;
         }
-        let kind = self.faults.strike();
-        self.faults.tell(self.pages.told_got(p, kind));
-        let outcome = self.pages.get_outcome(p, kind);
-        let answer = self.pages.get(p, kind, outcome);
-        if get_is_done(outcome) {
-            self.calls = bumped(self.calls);
+        Ok(good)
+    }
+
+    fn compare(&mut self, p: u32, page: &Page) -> Result<Found, Stopped> {
+        if !self.look(p)? {
+            return Ok(Found::LooksBad);
         }
-        if get_stops(outcome) {
-            self.power = false;
-            self.stops = bumped(self.stops);
+        if self.pages.halves[p as usize].bytes == *page {
+            Ok(Found::Same)
+        } else {
+            Ok(Found::Other)
         }
-        answer
     }
 
     fn put(&mut self, p: u32, page: &Page) -> Result<(), Stopped> {
         if !self.power {
             self.stops = bumped(self.stops);
             return Err(Stopped);
+        }
+        if self.faults.waiting.is_empty() {
+            self.pages.write(p, page);
+            self.calls = bumped(self.calls);
+            self.puts = bumped(self.puts);
+            return Ok(());
         }
         let kind = self.faults.strike();
         self.faults.tell(self.pages.told_put(p, kind));

@@ -1,15 +1,16 @@
 // The pages, and what a fault or a call does to them.
-ghost use Rattle.std.specs.Prelude.{◌≡◌, ◌≤◌, ◌<◌, ◌*◌, ◌/◌, ◌^◌, ℕ, ◌+◌, length, vec_len, IfOk, true, false};
+ghost use Rattle.std.specs.Prelude.{◌≡◌, ◌≤◌, ◌<◌, ◌*◌, ◌/◌, ◌^◌, ℕ, ◌+◌, length, vec_len, IfOk, None, true, false};
 ghost use Rattle.jn_device.specs.Device as device;
 ghost use Rattle.jn_device.specs.Calls as calls;
 ghost use Rattle.jn_device.specs.Events.{rested};
 ghost use Rattle.jn_device.specs.Device.{blank_page};
 ghost use Rattle.jn_memdisk.specs.Pages.{half_at, marks_at, AllFew};
 ghost use Rattle.jn_memdisk.specs.Faults.{Within, list_of};
+ghost use Rattle.jn_phys.specs.Answers.{look_read};
 
 use crate::call::{Marks, answer_got, got_under, leave_got, leave_put, put_under};
 use jn_base::{FaultKind, Outside, Page, Stopped};
-use jn_device::{GetOutcome, Half, Look, PutOutcome, blank_page};
+use jn_device::{GetOutcome, Half, PutOutcome, blank_page};
 use std::alloc::{AllocError, Global};
 
 /// An even number of pages; page p and page p + half are partners.
@@ -211,17 +212,42 @@ impl Pages {
         )
     }
 
+    /// A get of page p that meets no fault: whether the page is good.
+    pub(crate) fn read(&mut self, p: u32) -> bool
+        requires { p < vec_len self.old.halves }
+        ensures good { result ≡ (pages_of self.old p).good }
+        ensures leaves { Leaves self.old p None (calls.rested_by_read (pages_of self.old p)) self.new }
+    {
+        let good = self.halves[p as usize].good;
+        let marks = &mut self.marks[p as usize];
+        if good && !marks.missed {
+            marks.fails = 0;
+        }
+        good
+    }
+
+    /// A put at page p that meets no fault.
+    pub(crate) fn write(&mut self, p: u32, page: &Page)
+        requires { p < vec_len self.old.halves }
+        ensures { Leaves self.old p None (calls.page_put PutOutcome.Writes page.now (pages_of self.old p)) self.new }
+    {
+        let half = &mut self.halves[p as usize];
+        half.good = true;
+        half.bytes = *page;
+        self.marks[p as usize].missed = false;
+    }
+
     /// A get of page p, of which this becomes.
     pub(crate) fn get(
         &mut self,
         p: u32,
         kind: Option<FaultKind>,
         outcome: GetOutcome,
-    ) -> Result<Look, Stopped>
+    ) -> Result<bool, Stopped>
         requires here { p < vec_len self.old.halves }
         requires within { Within (vec_len self.old.halves) kind }
         requires outcome { outcome ≡ calls.got_under (pages_of self.old p) kind }
-        ensures answer { result ≡ calls.answer_got outcome (device.met_at (half_of self.old) (pages_of self.old) kind p) }
+        ensures answer { look_read result (pages_of self.new p).bytes ≡ calls.answer_got outcome (device.met_at (half_of self.old) (pages_of self.old) kind p) }
         ensures leaves { Leaves self.old p kind (calls.page_got outcome (device.met_at (half_of self.old) (pages_of self.old) kind p)) self.new }
     {
         self.meet(kind);

@@ -4,13 +4,23 @@
 //! nothing else happens to the pages. No call takes memory.
 #![tactic(auto)]
 
-ghost use Rattle.std.specs.Prelude.{◌≡◌, ◌≤◌, ◌<◌, ◌^◌, [], ℕ, is_err, true};
+ghost use Rattle.std.specs.Prelude.{◌≡◌, ◌≢◌, ◌≤◌, ◌<◌, ◌^◌, [], ℕ, is_err, true, Ok};
 ghost use Rattle.jn_device.specs.Device.{DeviceState};
 ghost use Rattle.jn_device.specs.Calls.{GetStep, PutStep};
 ghost use Rattle.jn_device.specs.Events.{PowersUp, powered_off, Decays, Revives, Arms, is_within, disarmed, cleared};
+ghost use Rattle.jn_phys.specs.Answers.{look_read, look_compared, IsCompared};
 
 use jn_base::{FaultKind, Outside, Page, Stopped};
-use jn_device::Look;
+
+/// How a page that is got compares with another.
+#[derive(Clone, Copy, Debug, PartialEq, Eq)]
+pub enum Found {
+    /// It is good and has the same bytes.
+    Same,
+    /// It is good and has other bytes.
+    Other,
+    LooksBad,
+}
 
 /// Physical pages, numbered from 0. Page p and page p + count / 2 are partners.
 pub trait PhysDisk {
@@ -21,10 +31,18 @@ pub trait PhysDisk {
     fn count(&self) -> u32
         ensures { result ≡ (state self.now).count };
 
-    /// A good page's bytes. Stopped is answered without power, and at a stop, which takes the power.
-    fn get(&mut self, p: u32) -> Result<Look, Stopped>
+    /// Reads a page: true where it is good, and its bytes are in `into`, which is else as it was.
+    /// Stopped is answered without power, and at a stop, which takes the power.
+    fn get(&mut self, p: u32, into: &mut Page) -> Result<bool, Stopped>
         requires { p < (state self.old).count }
-        ensures step { GetStep (state self.old) p result (state self.new) };
+        ensures step { GetStep (state self.old) p (look_read result into.new) (state self.new) }
+        ensures kept { result ≢ Ok true → into.new ≡ into.old };
+
+    /// The same device call, which compares the page where it stands.
+    fn compare(&mut self, p: u32, page: &Page) -> Result<Found, Stopped>
+        requires { p < (state self.old).count }
+        ensures step { GetStep (state self.old) p (look_compared result ((state self.new).pages p).bytes) (state self.new) }
+        ensures compared { IsCompared result ((state self.new).pages p).bytes page.now };
 
     /// Ok doesn't say that the page is there: a put may miss its page or spoil it, unnoticed.
     fn put(&mut self, p: u32, page: &Page) -> Result<(), Stopped>

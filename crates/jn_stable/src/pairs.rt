@@ -8,7 +8,8 @@ ghost use Rattle.jn_stable.specs.Order.{GetsInOrder, PutsInOrder, CleansInOrder}
 
 use jn_base::{Page, Stopped};
 use jn_careful::Careful;
-use jn_phys::PhysDisk;
+use jn_device::blank_page;
+use jn_phys::{Found, PhysDisk};
 use jn_store::StableStore;
 use std::marker::Model;
 
@@ -63,12 +64,10 @@ impl<D: PhysDisk> StableStore for Pairs<D> {
         ensures order { GetsInOrder (D.state self.old) i result }
     {
         let other = i + self.disk.count() / 2;
-        if let Some(page) = self.disk.get(i)? {
-            return Ok(page);
-        }
-        let Some(page) = self.disk.get(other)? else {
+        let mut page = blank_page();
+        if !self.disk.get(i, &mut page)? && !self.disk.get(other, &mut page)? {
             unreachable!()
-        };
+        }
         Ok(page)
     }
 
@@ -89,18 +88,16 @@ impl<D: PhysDisk> StableStore for Pairs<D> {
         ensures order { CleansInOrder (D.state self.old) i (D.state self.new) }
     {
         let other = i + self.disk.count() / 2;
-        let first = self.disk.get(i)?;
-        let second = self.disk.get(other)?;
-        match (first, second) {
-            (Some(a), Some(b)) => {
-                if a == b {
-                    return Ok(false);
-                }
-                self.disk.put(other, &a)?;
+        let mut page = blank_page();
+        if self.disk.get(i, &mut page)? {
+            if self.disk.compare(other, &page)? == Found::Same {
+                return Ok(false);
             }
-            (Some(a), None) => self.disk.put(other, &a)?,
-            (None, Some(b)) => self.disk.put(i, &b)?,
-            (None, None) => unreachable!(),
+            self.disk.put(other, &page)?;
+        } else if self.disk.get(other, &mut page)? {
+            self.disk.put(i, &page)?;
+        } else {
+            unreachable!()
         }
         Ok(true)
     }

@@ -22,7 +22,7 @@ enum Step {
 
 #[derive(Clone, Copy, Debug, PartialEq, Eq)]
 enum Answer {
-    Found(u8),
+    Read(u8),
     Looked,
     Done,
     Stop,
@@ -57,11 +57,14 @@ fn names_a_page(kind: FaultKind, count: u32) -> bool
 fn perform(disk: &mut MemDisk, step: Step) -> Answer {
     let count = disk.count();
     match step {
-        Get(p) if p < count => match disk.get(p) {
-            Ok(Look::Good(page)) => Found(byte_of(&page)),
-            Ok(Look::LooksBad) => Looked,
-            Err(Stopped) => Stop,
-        },
+        Get(p) if p < count => {
+            let mut page = [255; 512];
+            match disk.get(p, &mut page) {
+                Ok(true) => Read(byte_of(&page)),
+                Ok(false) => Looked,
+                Err(Stopped) => Stop,
+            }
+        }
         Put(p, byte) if p < count => match disk.put(p, &[byte; 512]) {
             Ok(()) => Done,
             Err(Stopped) => Stop,
@@ -129,10 +132,10 @@ fn rows() -> [Row; 28] {
         Row {
             name: "a get and a put with no fault",
             steps: &[
-                (Get(0), Found(1)),
+                (Get(0), Read(1)),
                 (Put(0, 3), Done),
-                (Get(0), Found(3)),
-                (Get(1), Found(2)),
+                (Get(0), Read(3)),
+                (Get(1), Read(2)),
             ],
             first: (true, 3, false, 0),
             second: SECOND,
@@ -147,7 +150,7 @@ fn rows() -> [Row; 28] {
         },
         Row {
             name: "a page that is read has failed no more",
-            steps: &[(Arm(1, Soft), Yes), (Get(0), Looked), (Get(0), Found(1))],
+            steps: &[(Arm(1, Soft), Yes), (Get(0), Looked), (Get(0), Read(1))],
             first: FIRST,
             second: SECOND,
             told: &[],
@@ -162,7 +165,7 @@ fn rows() -> [Row; 28] {
                 (Get(0), Looked),
                 (Get(0), Looked),
                 (Get(0), Looked),
-                (Get(0), Found(1)),
+                (Get(0), Read(1)),
             ],
             first: FIRST,
             second: SECOND,
@@ -184,7 +187,7 @@ fn rows() -> [Row; 28] {
         },
         Row {
             name: "null at a put: nothing is written, and it is missed",
-            steps: &[(Arm(1, Null), Yes), (Put(0, 3), Done), (Get(0), Found(1))],
+            steps: &[(Arm(1, Null), Yes), (Put(0, 3), Done), (Get(0), Read(1))],
             first: (true, 1, true, 1),
             second: SECOND,
             told: &[],
@@ -195,7 +198,7 @@ fn rows() -> [Row; 28] {
                 (Arm(1, Null), Yes),
                 (Put(0, 3), Done),
                 (Put(0, 4), Done),
-                (Get(0), Found(4)),
+                (Get(0), Read(4)),
             ],
             first: (true, 4, false, 0),
             second: SECOND,
@@ -226,7 +229,7 @@ fn rows() -> [Row; 28] {
         },
         Row {
             name: "null doesn't fit a get",
-            steps: &[(Arm(1, Null), Yes), (Get(0), Found(1))],
+            steps: &[(Arm(1, Null), Yes), (Get(0), Read(1))],
             first: FIRST,
             second: SECOND,
             told: &[(Null, 0)],
@@ -247,7 +250,7 @@ fn rows() -> [Row; 28] {
         },
         Row {
             name: "bad doesn't fit a get",
-            steps: &[(Arm(1, Bad), Yes), (Get(1), Found(2))],
+            steps: &[(Arm(1, Bad), Yes), (Get(1), Read(2))],
             first: FIRST,
             second: SECOND,
             told: &[(Bad, 1)],
@@ -272,7 +275,7 @@ fn rows() -> [Row; 28] {
                 (DecayNow(1), Yes),
                 (DecayNow(0), No),
                 (Arm(1, Decay(0)), Yes),
-                (Get(0), Found(1)),
+                (Get(0), Read(1)),
             ],
             first: FIRST,
             second: (false, 2, false, 1),
@@ -284,7 +287,7 @@ fn rows() -> [Row; 28] {
                 (DecayNow(0), Yes),
                 (DecayNow(0), Yes),
                 (Arm(1, Decay(0)), Yes),
-                (Get(1), Found(2)),
+                (Get(1), Read(2)),
             ],
             first: (false, 1, false, 1),
             second: SECOND,
@@ -327,8 +330,8 @@ fn rows() -> [Row; 28] {
                 (DecayNow(0), Yes),
                 (Arm(1, Revive(0)), Yes),
                 (Arm(2, Revive(1)), Yes),
-                (Get(0), Found(1)),
-                (Get(1), Found(2)),
+                (Get(0), Read(1)),
+                (Get(1), Read(2)),
             ],
             first: FIRST,
             second: SECOND,
@@ -342,7 +345,7 @@ fn rows() -> [Row; 28] {
                 (Put(0, 4), Stop),
                 (Get(0), Stop),
                 (Up, Done),
-                (Get(0), Found(1)),
+                (Get(0), Read(1)),
             ],
             first: FIRST,
             second: SECOND,
@@ -454,7 +457,7 @@ fn sixteen_faults_wait_each_for_its_own_call(rt: HostRuntime) -> Result<(), Fail
     assert_eq!(rt; perform(&mut disk, Arm(17, Soft)), No);
     disk.disarm();
     assert_eq!(rt; perform(&mut disk, Arm(17, Soft)), Yes);
-    assert_eq!(rt; perform(&mut disk, Get(3)), Found(0));
+    assert_eq!(rt; perform(&mut disk, Get(3)), Read(0));
     assert_eq!(rt; disk.calls(), 1);
     assert_eq!(rt; disk.pages().len(), 4);
     assert_eq!(rt; disk.into_pages().len(), 4);
