@@ -84,11 +84,11 @@ impl MemDisk {
             self.stops = bumped(self.stops);
             return Err(Stopped);
         }
-        if self.faults.waiting.is_empty() {
+        let kind = self.faults.strike();
+        if kind.is_none() {
             self.calls = bumped(self.calls);
             return Ok(self.pages.read(p));
         }
-        let kind = self.faults.strike();
         self.faults.tell(self.pages.told_got(p, kind));
         let outcome = self.pages.get_outcome(p, kind);
         let answer = self.pages.get(p, kind, outcome);
@@ -149,13 +149,13 @@ impl PhysDisk for MemDisk {
             self.stops = bumped(self.stops);
             return Err(Stopped);
         }
-        if self.faults.waiting.is_empty() {
+        let kind = self.faults.strike();
+        if kind.is_none() {
             self.pages.write(p, page);
             self.calls = bumped(self.calls);
             self.puts = bumped(self.puts);
             return Ok(());
         }
-        let kind = self.faults.strike();
         self.faults.tell(self.pages.told_put(p, kind));
         let outcome = self.pages.put_outcome(p, kind);
         self.pages.put(p, kind, outcome, page);

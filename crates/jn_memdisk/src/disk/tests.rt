@@ -12,6 +12,7 @@ use std::test::Fail;
 #[derive(Clone, Copy)]
 enum Step {
     Get(u32),
+    Compare(u32, u8),
     Put(u32, u8),
     Arm(u32, FaultKind),
     DecayNow(u32),
@@ -23,6 +24,8 @@ enum Step {
 #[derive(Clone, Copy, Debug, PartialEq, Eq)]
 enum Answer {
     Read(u8),
+    Alike,
+    Unlike,
     Looked,
     Done,
     Stop,
@@ -65,6 +68,12 @@ fn perform(disk: &mut MemDisk, step: Step) -> Answer {
                 Err(Stopped) => Stop,
             }
         }
+        Compare(p, byte) if p < count => match disk.compare(p, &[byte; 512]) {
+            Ok(Found::Same) => Alike,
+            Ok(Found::Other) => Unlike,
+            Ok(Found::LooksBad) => Looked,
+            Err(Stopped) => Stop,
+        },
         Put(p, byte) if p < count => match disk.put(p, &[byte; 512]) {
             Ok(()) => Done,
             Err(Stopped) => Stop,
@@ -127,7 +136,7 @@ const FIRST: Kept = (true, 1, false, 0);
 
 const SECOND: Kept = (true, 2, false, 0);
 
-fn rows() -> [Row; 28] {
+fn rows() -> [Row; 29] {
     [
         Row {
             name: "a get and a put with no fault",
@@ -138,6 +147,22 @@ fn rows() -> [Row; 28] {
                 (Get(1), Read(2)),
             ],
             first: (true, 3, false, 0),
+            second: SECOND,
+            told: &[],
+        },
+        Row {
+            name: "a get that compares meets the faults of a get",
+            steps: &[
+                (Compare(0, 1), Alike),
+                (Compare(0, 2), Unlike),
+                (Arm(1, Soft), Yes),
+                (Arm(3, StopAfter), Yes),
+                (Compare(0, 1), Looked),
+                (Compare(0, 1), Alike),
+                (Compare(0, 1), Stop),
+                (Compare(0, 1), Stop),
+            ],
+            first: FIRST,
             second: SECOND,
             told: &[],
         },
