@@ -41,9 +41,6 @@ impl Faults {
         ensures strikes_within { (count : ℕ) → all_within count self.old.waiting.items ≡ true → Within count result }
         ensures waits_within { (count : ℕ) → all_within count self.old.waiting.items ≡ true → all_within count self.new.waiting.items ≡ true }
     {
-        if self.waiting.is_empty() {
-            return None;
-        }
         strike(&mut self.waiting)
     }
 
