@@ -191,19 +191,22 @@ module _ (v w : ServerView) (serves : IsServer v) (f : FileNo) (p : BlockNo) (an
     no_stop = h.called.no_stop (ap is_ok is);
   }
 
-  pub tells-no-page : answer ≡ Ok None → commit_holder (Block f p) v.worker.table ≡ None → (old : List Shown)
-      → TellsPiece (is_at (Block f p)) v old (print_one (to_print v (Block f p))) w old
-  tells-no-page is free old = record {
-    looks = read-looks;
-    told = sym (append-nil (map print_of old)) ∙ ap (λ (o : Option Printed). map print_of old ++ print_one o) (sym (ap (λ (o : Option Tid). print_unit (Block f p) o ((state v.storage).files (Block f p))) free ∙ ap (print_unit (Block f p) None) (sym (h.found None is))));
-    accounts = h.same (ap is_ok is);
-    serves = read-serves (ap is_ok is);
-    no_stop = h.called.no_stop (ap is_ok is);
-  }
-
   pub read-cut : {A : Type 0} (result : Result A ServerFault) → is_ok answer ≡ false → IsErr result → IsErrAnd result (λ e. e ≡ Stopped) → IfErr result (λ fault. CutsPiece fault (is_at (Block f p)) v w)
   read-cut (Ok x) stops e is = tt
   read-cut (Err z) stops e is = subst (λ (y : ServerFault). CutsPiece y (is_at (Block f p)) v w) (sym is) (record { looks = read-looks; stop = h.called.stop stops })
+
+-- a block that isn't stored
+pub tells-unstored : (v : ServerView) → IsServer v → (f : FileNo) (p : BlockNo) → is_some ((state v.storage).files (Block f p)) ≡ false → commit_holder (Block f p) v.worker.table ≡ None → (old : List Shown)
+    → TellsPiece (is_at (Block f p)) v old (print_one (to_print v (Block f p))) v old
+tells-unstored v serves f p unstored free old = subst (λ (l : List Printed). TellsPiece (is_at (Block f p)) v old l v old) (sym nothing) (tells-nothing (is_at (Block f p)) v serves old)
+  where
+    none : (o : Option (List ℕ)) → is_some o ≡ false → o ≡ None
+    none None e = refl
+    none (Some x) e = absurd (cc e)
+
+    nothing : print_one (to_print v (Block f p)) ≡ []
+    nothing = ap (λ (o : Option Tid). print_one (print_unit (Block f p) o ((state v.storage).files (Block f p)))) free
+        ∙ ap (λ (o : Option (List ℕ)). print_one (print_unit (Block f p) None o)) (none ((state v.storage).files (Block f p)) unstored)
 
 -- a unit that is held for commit
 pub tells-locked : (test : LockUnit → Bool) (v : ServerView) → IsServer v → (u : LockUnit) (T : Tid) → commit_holder u v.worker.table ≡ Some T → (old new : List Shown) → new ≡ old ++ shown.Locked u T ∷ []

@@ -126,11 +126,23 @@ impl<S: StableStore> Server<S> {
         ensures shown { let v = view_with (λ s. S.view s) self.old in OnOk result (TellsPiece (is_at (BlockUnit file block)) v list.old.items (print_one (to_print v (BlockUnit file block))) (view_with (λ s. S.view s) self.new) list.new.items) }
         ensures cut { IfErr result (λ fault. CutsPiece fault (is_at (BlockUnit file block)) (view_with (λ s. S.view s) self.old) (view_with (λ s. S.view s) self.new)) }
     {
-        let Some(bytes) = self.read(file, block)? else {
+        if !self.is_stored(file, block) {
             return Ok(());
+        }
+        let Some(bytes) = self.read(file, block)? else {
+            unreachable!()
         };
         tell(list, Shown::Page(file, block, bytes))?;
         Ok(())
+    }
+
+    /// Whether the block is stored. Most blocks aren't, and an answer without a block costs less than one with room for it.
+    fn is_stored(&self, file: FileNo, block: BlockNo) -> bool
+        requires serves { IsServer (view_with (λ s. S.view s) self.now) }
+        requires range { block.0 < 120 }
+        ensures { result ≡ is_some ((state (view_with (λ s. S.view s) self.now).storage).files (BlockUnit file block)) }
+    {
+        self.storage.mapped(file, block)
     }
 
     /// The transaction that holds the unit for commit.

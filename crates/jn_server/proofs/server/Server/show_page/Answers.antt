@@ -1,10 +1,10 @@
-use Rattle.std.proofs.Common.{Some, None}
+use Rattle.std.proofs.Common.{Some, sym, ◌∙◌}
 use Rattle.jn_base.specs.declared.names.LockUnit.TheVariants.{Block}
 use Rattle.jn_store.specs.Store.{StoreView}
 use Rattle.jn_server.specs.Pieces.{is_at, to_print, TellsPiece}
 use Rattle.jn_server.specs.Seen.{ServerView, view_with}
 use Rattle.jn_protocol.specs.Printing.{print_one}
-use Rattle.jn_server.proofs.Pieces.{ok-with, not-ok, tells-page, tells-no-page, read-cut, no-memory, no-show}
+use Rattle.jn_server.proofs.Pieces.{ok-with, not-ok, tells-page, tells-unstored, read-cut, no-memory, no-show}
 use Rattle.jn_server.proofs.server.Server.show_page.Goals as goal
 
 pub returns : goal.returns
@@ -18,14 +18,12 @@ returns g c =
       cut = tt;
     }
 
-pub returns-in_default : goal.returns-in_default
-returns-in_default g c =
+pub returns-then-not-is_stored : goal.returns-then-not-is_stored
+returns-then-not-is_stored g c =
     let look : g.row.S.Denot → StoreView = λ s. g.S.StableStore.view s in
     let v : ServerView = view_with look c.args.self.now in
-    let w : ServerView = view_with look c.read.new.self in
     record {
-      shown = tells-no-page v w c.requires.serves c.args.file c.args.block c.read.result c.read.ensures.read c.read.ensures.unasked c.read.ensures.tables
-          (ok-with c.read.result c.in_ok-bytes.field-0 None c.in_ok-bytes.was c.in_default.is) c.requires.free c.args.list.now.items;
+      shown = tells-unstored v c.requires.serves c.args.file c.args.block (sym c.is_stored.ensures ∙ c.if-not-is_stored.true) c.requires.free c.args.list.now.items;
       cut = tt;
     }
 
