@@ -1,13 +1,13 @@
 -- Data pages become free one by one, as a head leads to them no more.
 use Rattle.std.proofs.Common.{◌≡◌, ◌⊎◌, inl, inr, ⊎_elim, ℕ, zero, suc, ◌+◌, ◌-◌, ◌≤◌, ◌<◌, Bool, true, false, List, length, refl, sym, subst, ◌∙◌, arith}
-use Rattle.std.proofs.lemmas.Bool.{cases_eq, false_from_ne_true}
+use Rattle.std.proofs.lemmas.Bool.{cases_eq, cases_lt, false_from_ne_true}
 use Rattle.std.proofs.lemmas.Bool.Decides.{nat_tests}
 use Rattle.std.proofs.lemmas.List.{get_or-set_same, get_or-set_other, length-set}
 use Rattle.std.specs.Prelude.{nat_eq, slice_index_or, if◌then◌else◌}
 use Rattle.jn_alloc.specs.Free.{FreeNumbers, is_free, with_free}
 use Rattle.jn_records.specs.declared.head.Head.{Head}
 use Rattle.jn_files.specs.Table.{address_of}
-use Rattle.jn_files.specs.Inside.{MayDrop, IsDropped, DropsAmong, Drops, freed_one}
+use Rattle.jn_files.specs.Inside.{ChangesBlocks, MayDrop, IsDropped, DropsAmong, Drops, freed_one}
 
 one_less : (b : ℕ) → suc b - 1 ≡ b
 one_less b = omega arith
@@ -87,3 +87,33 @@ module _ (held : List Bool) (old new : Head) (n : ℕ) (v w : FreeNumbers) (may 
 
   pub drop_one : Drops held old new (n + 1) v (freed_one held (address_of old n) (address_of new n) w)
   drop_one = step (address_of old n) (address_of new n) (nat_eq (address_of old n) 0) (nat_eq (address_of old n) (address_of new n)) (slice_index_or held (address_of old n - 1) false) refl refl refl refl refl
+
+-- blocks that keep their data pages drop nothing
+module _ (held : List Bool) (old new : Head) (first end : ℕ) (blocks : ChangesBlocks old new first end) where
+  not_dropped : (q a : ℕ) → q < 120 → (q < first) ⊎ (end ≤ q) → IsDropped held old new q a → ⊥
+  not_dropped q a low out d = d.changed (blocks.same q low out ∙ d.was)
+
+  pub none_dropped : (v : FreeNumbers) → Drops held old new first v v
+  none_dropped v = record {
+    count = refl;
+    promised = refl;
+    only = λ a e. inl e;
+    kept = λ a e. e;
+    freed = λ q a lt d. absurd (not_dropped q a (let range = blocks.range in let within = blocks.within in omega arith) (inl lt) d);
+  }
+
+  among_all : (v : FreeNumbers) (a : ℕ) → (is_free v a ≡ true) ⊎ DropsAmong held old new end a → (is_free v a ≡ true) ⊎ DropsAmong held old new 120 a
+  among_all v a (inl e) = inl e
+  among_all v a (inr d) = inr (record { block = d.block; below = let lt = d.below in let within = blocks.within in omega arith; dropped = d.dropped })
+
+  pub all_dropped : (v w : FreeNumbers) → Drops held old new end v w → Drops held old new 120 v w
+  all_dropped v w so_far = record {
+    count = so_far.count;
+    promised = so_far.promised;
+    only = λ a e. among_all v a (so_far.only a e);
+    kept = so_far.kept;
+    freed = λ q a low d. elim (cases_lt q end) [
+      | inl lt ↦ so_far.freed q a lt d
+      | inr ge ↦ absurd (not_dropped q a low (inr ge) d)
+    ];
+  }

@@ -1,5 +1,5 @@
 -- The heads that the calls put may stand in their slots, and what each makes of the files.
-use Rattle.std.proofs.Common.{◌≡◌, ◌⊎◌, inl, inr, ⊎_elim, ◌<◌, ◌^◌, ℕ, zero, suc, Bool, true, false, List, [], ◌∷◌, length, replicate, refl, sym, ap, subst, ◌∙◌, arith}
+use Rattle.std.proofs.Common.{◌≡◌, ◌⊎◌, inl, inr, ⊎_elim, ◌<◌, ◌≤◌, ◌+◌, ◌^◌, ℕ, zero, suc, Bool, true, false, List, [], ◌∷◌, length, replicate, refl, sym, ap, subst, ◌∙◌, arith}
 use Rattle.std.proofs.lemmas.Bool.{cases_eq, cases_lt, false_from_ne_true}
 use Rattle.std.proofs.lemmas.Bool.Decides.{nat_tests}
 use Rattle.std.proofs.lemmas.List.{get_or_past, get_or-set_same, get_or-set_other, length-set}
@@ -16,7 +16,7 @@ use Rattle.jn_files.specs.Table.{TableView, head_in, is_free, is_of, exists, add
 use Rattle.jn_files.specs.Pages.{IsLeaf}
 use Rattle.jn_records.specs.StablePages.{data_place}
 use Rattle.jn_files.specs.Calls.{IsPlaceOf, MayBecome, PutsHead, SetsHead}
-use Rattle.jn_files.specs.Inside.{MayStand, IsChange, AreLeaves}
+use Rattle.jn_files.specs.Inside.{MayStand, ChangesBlocks, IsChange, AreLeaves}
 use Rattle.jn_files.proofs.Cutting.{cut_length, cut_kept, cut_gone}
 use Rattle.jn_files.proofs.Lookup.{absent_none, of_one}
 use Rattle.jn_files.proofs.Changing.{zeros_at, becomes_fresh, becomes_gone, becomes_cut, becomes_written}
@@ -49,6 +49,30 @@ set_within : (p a leaves : ℕ) (xs : List ℕ) → a < leaves → list_all (λ 
 set_within p a leaves [] lt all = refl
 set_within zero a leaves (x ∷ xs) lt all = let small : nat_le (suc a) leaves ≡ true = grind (arith, nat_tests) in grind (arith, nat_tests)
 set_within (suc p) a leaves (x ∷ xs) lt all = let rest = set_within p a leaves xs lt (grind (arith, nat_tests)) in grind (arith, nat_tests)
+
+-- ---- which blocks have another data page
+
+pub changes_any : (old new : Head) → ChangesBlocks old new 0 120
+changes_any old new = record {
+  range = omega arith;
+  within = omega arith;
+  same = λ p low out. absurd (⊎_elim (λ (before : p < 0). let no_way : ⊥ = omega arith in no_way) (λ (behind : 120 ≤ p). let no_way : ⊥ = omega arith in no_way) out);
+}
+
+pub cut_changes_blocks : (old : Head) (f : FileNo) (xs : List ℕ) (n : ℕ) → n < 120 → old ≡ Used f xs → ChangesBlocks old (Used f (cut_addresses n xs)) n 120
+cut_changes_blocks old f xs n lt was = record {
+  range = omega arith;
+  within = omega arith;
+  same = λ p low out. ⊎_elim (λ (before : p < n). cut_kept n xs p before ∙ ap (λ (x : Head). address_of x p) (sym was)) (λ (behind : 120 ≤ p). absurd (omega arith)) out;
+}
+
+pub leaf_changes_blocks : (old : Head) (f : FileNo) (xs : List ℕ) (p a : ℕ) → p < 120 → old ≡ Used f xs → ChangesBlocks old (Used f (slice_set xs p (suc a))) p (p + 1)
+leaf_changes_blocks old f xs p a lt was = record {
+  range = omega arith;
+  within = omega arith;
+  same = λ q low out. get_or-set_other xs p q (suc a) 0 (λ e. ⊎_elim (λ (before : q < p). let no_way : ⊥ = omega arith in no_way) (λ (behind : p + 1 ≤ q). let no_way : ⊥ = omega arith in no_way) out)
+      ∙ ap (λ (x : Head). address_of x q) (sym was);
+}
 
 -- ---- the slot of a file's head, or a free one
 

@@ -1,5 +1,5 @@
 -- How the table keeps its parts.
-use Rattle.std.specs.Prelude.{◌≡◌, ◌≢◌, ◌⊎◌, ℕ, suc, ◌-◌, ◌^◌, ◌<◌, Bool, true, false, nat_eq, if◌then◌else◌, not, List, length, slice_set, slice_index_or, take, ◌↔◌, ◌≢◌, Some, None, Option}
+use Rattle.std.specs.Prelude.{◌≡◌, ◌≢◌, ◌⊎◌, ℕ, suc, ◌-◌, ◌^◌, ◌<◌, ◌≤◌, Bool, true, false, nat_eq, if◌then◌else◌, not, List, length, slice_set, slice_index_or, take, ◌↔◌, ◌≢◌, Some, None, Option}
 use Rattle.jn_alloc.specs.Free.{FreeNumbers, count_of, free_count, is_free as is_free_number, with_free, IsLeastFree}
 use Rattle.jn_base.specs.declared.names.FileNo.{FileNo}
 use Rattle.jn_index.specs.Numbers.{number_at}
@@ -58,16 +58,23 @@ pub record NamedBefore (heads : List Head) (n : ℕ) (named : List Bool) : Type 
   pub set : (a : ℕ) → a < length named → slice_index_or named a false ≡ true → IsNamed heads a
   pub clear : (a : ℕ) → a < length named → slice_index_or named a false ≡ false → (slot p : ℕ) → slot < n → address_of (head_in heads slot) p ≢ suc a
 
-pub record NamesAmong (h : Head) (n a : ℕ) : Type 0 where
+-- none but these blocks have another data page
+pub record ChangesBlocks (old new : Head) (first end : ℕ) : Type 0 where
+  pub range : first ≤ end
+  pub within : end ≤ 120
+  pub same : (p : ℕ) → p < 120 → (p < first) ⊎ (end ≤ p) → address_of new p ≡ address_of old p
+
+pub record NamesAmong (h : Head) (first n a : ℕ) : Type 0 where
   pub block : ℕ
+  pub above : first ≤ block
   pub below : block < n
   pub here : address_of h block ≡ suc a
 
--- the flags of the data pages of a head's first blocks are set so, and no others change
-pub record Marks (h : Head) (is : Bool) (n : ℕ) (flags new : List Bool) : Type 0 where
+-- the flags of the data pages of these blocks of a head are set so, and no others change
+pub record Marks (h : Head) (is : Bool) (first n : ℕ) (flags new : List Bool) : Type 0 where
   pub count : length new ≡ length flags
-  pub to : (a : ℕ) → a < length flags → slice_index_or new a false ≡ is → (slice_index_or flags a false ≡ is) ⊎ NamesAmong h n a
-  pub from : (a : ℕ) → a < length flags → slice_index_or new a false ≡ not is → (slice_index_or flags a false ≡ not is) × ((p : ℕ) → p < n → address_of h p ≢ suc a)
+  pub to : (a : ℕ) → a < length flags → slice_index_or new a false ≡ is → (slice_index_or flags a false ≡ is) ⊎ NamesAmong h first n a
+  pub from : (a : ℕ) → a < length flags → slice_index_or new a false ≡ not is → (slice_index_or flags a false ≡ not is) × ((p : ℕ) → first ≤ p → p < n → address_of h p ≢ suc a)
 
 abbrev pub marked_one : ℕ → Bool → List Bool → List Bool
 marked_one address is flags = if nat_eq address 0 then flags else slice_set flags (address - 1) is

@@ -184,7 +184,7 @@ impl FileTable {
         ensures { calls.SetsHead self.old (S.view store.old) f (λ h. table.fresh_head f) (λ leaves. created f) (is_ok result) self.new (S.view store.new) }
     {
         let slot = place_of(&self.heads, &self.free_heads, f);
-        self.put_head(store, slot, Slot::fresh(f))
+        self.put_head(store, slot, Slot::fresh(f), 0, BLOCKS)
     }
 
     /// Makes a file gone. Where it isn't there nothing is done.
@@ -196,7 +196,7 @@ impl FileTable {
         let Some(slot) = self.heads.slot_of(f) else {
             return Ok(());
         };
-        self.put_head(store, slot, Slot::free())
+        self.put_head(store, slot, Slot::free(), 0, BLOCKS)
     }
 
     /// Takes the blocks of a file from one on away.
@@ -215,7 +215,7 @@ impl FileTable {
             unreachable!()
         };
         let head = self.heads.slot(slot).cut(n.0);
-        self.put_head(store, slot, head)
+        self.put_head(store, slot, head, n.0, BLOCKS)
     }
 
     /// Makes a data page that is held a file's block.
@@ -236,7 +236,7 @@ impl FileTable {
             unreachable!()
         };
         let head = self.heads.slot(slot).with_leaf(p.0, a);
-        self.put_head(store, slot, head)
+        self.put_head(store, slot, head, p.0, p.0 + 1)
     }
 
     /// Puts a block to a data page that is held and that no head names.
@@ -323,35 +323,39 @@ impl FileTable {
         self.named[a as usize]
     }
 
-    /// Puts a head's page, and then the table has it.
+    /// Puts a head's page, and then the table has it. The blocks from `first` to `end` alone may have another data page.
     fn put_head<S: StableStore>(
         &mut self,
         store: &mut S,
         slot: u16,
         head: Slot,
+        first: u16,
+        end: u16,
     ) -> Result<(), Stopped>
         requires fits { calls.Fits self.old (S.view store.old) }
         requires may { inside.MayStand self.old slot head }
+        requires blocks { inside.ChangesBlocks (table.head_in self.old.heads slot) head first end }
         ensures { (c : (ℕ → List ℕ) → Change) → inside.IsChange self.old.heads slot head c → inside.AreLeaves self.old (S.view store.old) head
             → calls.PutsHead self.old (S.view store.old) slot head c (is_ok result) self.new (S.view store.new) }
     {
         let _heads = &self.heads;
         store.put(self.head_page(slot), &head.page())?;
-        self.set_head(slot, head);
+        self.set_head(slot, head, first, end);
         Ok(())
     }
 
     /// The table has another head. What it leads to no more is free, unless it is held.
-    fn set_head(&mut self, slot: u16, head: Slot)
-        requires { inside.MayStand self.old slot head }
+    fn set_head(&mut self, slot: u16, head: Slot, first: u16, end: u16)
+        requires may { inside.MayStand self.old slot head }
+        requires blocks { inside.ChangesBlocks (table.head_in self.old.heads slot) head first end }
         ensures { calls.IsChanged self.old slot head self.new }
     {
         let old = self.heads.replace(slot, head);
         let new = self.heads.slot(slot);
-        mark(&mut self.named, &old, false);
-        mark(&mut self.named, new, true);
+        mark(&mut self.named, &old, first, end, false);
+        mark(&mut self.named, new, first, end, true);
         count_head(&mut self.free_heads, slot, old.is_free(), new.is_free());
-        free_dropped(&mut self.free_leaves, &self.held, &old, new);
+        free_dropped(&mut self.free_leaves, &self.held, &old, new, first, end);
     }
 
     /// The place of a head's page.
@@ -500,17 +504,19 @@ fn named_pages(alloc: Global, leaves: u16, slots: &[Slot]) -> Result<Vec<bool>, 
 {
     let mut named = none_set(alloc, leaves)?;
     for head in slots {
-        mark(&mut named, head, true);
+        mark(&mut named, head, 0, BLOCKS, true);
     }
     Ok(named)
 }
 
-/// Sets the flags of the data pages that a head names.
-fn mark(flags: &mut Vec<bool>, head: &Slot, is: bool)
-    requires { (p a : ℕ) → table.address_of head.now p ≡ suc a → a < length flags.old.items }
-    ensures { inside.Marks head.now is 120 flags.old.items flags.new.items }
+/// Sets the flags of the data pages that a head names for its blocks from `first` to `end`.
+fn mark(flags: &mut Vec<bool>, head: &Slot, first: u16, end: u16, is: bool)
+    requires range { first ≤ end }
+    requires within { end ≤ 120 }
+    requires below { (p a : ℕ) → table.address_of head.now p ≡ suc a → a < length flags.old.items }
+    ensures { inside.Marks head.now is first end flags.old.items flags.new.items }
 {
-    for p in 0..BLOCKS {
+    for p in first..end {
         mark_one(flags, head.address(p), is);
     }
 }
@@ -540,11 +546,19 @@ fn count_head(free_heads: &mut FreeList, slot: u16, was: bool, is: bool)
 }
 
 /// The data pages to which a head leads no more are free, unless they are held.
-fn free_dropped(free: &mut FreeList, held: &[bool], old: &Slot, new: &Slot)
-    requires { inside.MayDrop held.now old.now free.old }
+fn free_dropped(
+    free: &mut FreeList,
+    held: &[bool],
+    old: &Slot,
+    new: &Slot,
+    first: u16,
+    end: u16,
+)
+    requires may { inside.MayDrop held.now old.now free.old }
+    requires blocks { inside.ChangesBlocks old.now new.now first end }
     ensures { inside.Drops held.now old.now new.now 120 free.old free.new }
 {
-    for p in 0..BLOCKS {
+    for p in first..end {
         free_one(free, held, old.address(p), new.address(p));
     }
 }

@@ -1,5 +1,9 @@
+use Rattle.std.proofs.Common.{◌≤◌}
 use Rattle.jn_files.specs.Inside.{Marks}
 use Rattle.jn_files.proofs.table.mark.Given as goal
 
 abbrev pub invariant-loop-p : goal.invariant-loop-p
-invariant-loop-p l = Marks l.head l.is l.p l.initial.flags.items l.flags.items
+invariant-loop-p l = record {
+  from : l.first ≤ l.p;
+  marks : Marks l.head l.is l.first l.p l.initial.flags.items l.flags.items;
+}

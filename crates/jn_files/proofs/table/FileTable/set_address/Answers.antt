@@ -1,13 +1,13 @@
-use Rattle.std.proofs.Common.{◌≡◌, inl, true, suc, sym, subst, ap, ◌∙◌}
+use Rattle.std.proofs.Common.{◌≡◌, ◌+◌, inl, true, suc, sym, subst, ap, ◌∙◌}
 use Rattle.std.specs.Prelude.{is_ok, slice_set, take}
 use Rattle.jn_order.specs.Files.{written}
 use Rattle.jn_records.specs.declared.head.Head.{Head}
 use Rattle.jn_records.specs.declared.head.Head.TheVariants.{Used}
 use Rattle.jn_files.specs.Table.{TableView, IsTable, head_in, is_of, addresses_of, with_leaf}
 use Rattle.jn_files.specs.Calls.{IsPlaceOf}
-use Rattle.jn_files.specs.Inside.{MayStand}
+use Rattle.jn_files.specs.Inside.{MayStand, ChangesBlocks}
 use Rattle.jn_files.proofs.Lookup.{of_used}
-use Rattle.jn_files.proofs.Setting.{leaf_stands, leaf_leaves, leaf_changes, sets_head}
+use Rattle.jn_files.proofs.Setting.{leaf_changes_blocks, leaf_stands, leaf_leaves, leaf_changes, sets_head}
 use Rattle.jn_files.proofs.table.FileTable.set_address.Goals as goal
 
 pub put_head-requires-clause-may : goal.put_head-requires-clause-may
@@ -22,6 +22,15 @@ put_head-requires-clause-may g c =
     let was = of_used c.args.f (head_in c.args.self.now.heads c.in-Some.slot) own in
     let read = c.slot.ensures ∙ ap (λ (x : TableView). head_in x.heads c.in-Some.slot) c.self.view_is in
     subst (λ (h : Head). MayStand t slot h) (sym (c.with_leaf-head.ensures ∙ ap (with_leaf c.args.p.0 c.args.a) (read ∙ was))) (leaf_stands t is c.args.f slot place xs was v c.args.p.0 c.args.a c.requires.range c.requires.leaf)
+
+pub put_head-requires-clause-blocks : goal.put_head-requires-clause-blocks
+put_head-requires-clause-blocks g c =
+    let own : is_of c.args.f (head_in c.args.self.now.heads c.in-Some.slot) ≡ true = ap (λ (x : TableView). is_of c.args.f (head_in x.heads c.in-Some.slot)) (sym c.self.view_is) ∙ c.in-Some.ensures.found.1 in
+    let xs = addresses_of (head_in c.args.self.now.heads c.in-Some.slot) in
+    let was = of_used c.args.f (head_in c.args.self.now.heads c.in-Some.slot) own in
+    let read = c.slot.ensures ∙ ap (λ (x : TableView). head_in x.heads c.in-Some.slot) c.self.view_is in
+    subst (λ (h : Head). ChangesBlocks (head_in c.args.self.now.heads c.in-Some.slot) h c.args.p.0 (c.args.p.0 + 1)) (sym (c.with_leaf-head.ensures ∙ ap (with_leaf c.args.p.0 c.args.a) (read ∙ was)))
+    (leaf_changes_blocks (head_in c.args.self.now.heads c.in-Some.slot) c.args.f xs c.args.p.0 c.args.a c.requires.range was)
 
 pub returns : goal.returns
 returns g c =

@@ -5,9 +5,9 @@ use Rattle.jn_records.specs.declared.head.Head.{Head}
 use Rattle.jn_records.specs.declared.head.Head.TheVariants.{Used}
 use Rattle.jn_files.specs.Table.{TableView, IsTable, head_in, is_of, addresses_of, cut_addresses, cut_head}
 use Rattle.jn_files.specs.Calls.{IsPlaceOf}
-use Rattle.jn_files.specs.Inside.{MayStand}
+use Rattle.jn_files.specs.Inside.{MayStand, ChangesBlocks}
 use Rattle.jn_files.proofs.Lookup.{of_used}
-use Rattle.jn_files.proofs.Setting.{cut_stands, cut_leaves, cut_changes, sets_head}
+use Rattle.jn_files.proofs.Setting.{cut_changes_blocks, cut_stands, cut_leaves, cut_changes, sets_head}
 use Rattle.jn_files.proofs.table.FileTable.set_cut.Goals as goal
 
 pub put_head-requires-clause-may : goal.put_head-requires-clause-may
@@ -22,6 +22,15 @@ put_head-requires-clause-may g c =
     let was = of_used c.args.f (head_in c.args.self.now.heads c.in-Some.slot) own in
     let read = c.slot.ensures ∙ ap (λ (x : TableView). head_in x.heads c.in-Some.slot) c.self.view_is in
     subst (λ (h : Head). MayStand t slot h) (sym (c.cut-head.ensures ∙ ap (cut_head c.args.n.0) (read ∙ was))) (cut_stands t is c.args.f slot place xs was c.args.n.0)
+
+pub put_head-requires-clause-blocks : goal.put_head-requires-clause-blocks
+put_head-requires-clause-blocks g c =
+    let own : is_of c.args.f (head_in c.args.self.now.heads c.in-Some.slot) ≡ true = ap (λ (x : TableView). is_of c.args.f (head_in x.heads c.in-Some.slot)) (sym c.self.view_is) ∙ c.in-Some.ensures.found.1 in
+    let xs = addresses_of (head_in c.args.self.now.heads c.in-Some.slot) in
+    let was = of_used c.args.f (head_in c.args.self.now.heads c.in-Some.slot) own in
+    let read = c.slot.ensures ∙ ap (λ (x : TableView). head_in x.heads c.in-Some.slot) c.self.view_is in
+    subst (λ (h : Head). ChangesBlocks (head_in c.args.self.now.heads c.in-Some.slot) h c.args.n.0 120) (sym (c.cut-head.ensures ∙ ap (cut_head c.args.n.0) (read ∙ was)))
+    (cut_changes_blocks (head_in c.args.self.now.heads c.in-Some.slot) c.args.f xs c.args.n.0 c.requires.range was)
 
 pub returns : goal.returns
 returns g c =

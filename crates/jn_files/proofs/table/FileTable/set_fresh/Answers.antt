@@ -2,10 +2,10 @@ use Rattle.std.proofs.Common.{sym, subst}
 use Rattle.std.specs.Prelude.{is_ok}
 use Rattle.jn_order.specs.Files.{created}
 use Rattle.jn_records.specs.declared.head.Head.{Head}
-use Rattle.jn_files.specs.Table.{TableView, IsTable}
+use Rattle.jn_files.specs.Table.{TableView, IsTable, head_in}
 use Rattle.jn_files.specs.Calls.{IsPlaceOf, PutsHead}
 use Rattle.jn_files.specs.Inside.{MayStand, IsChange, AreLeaves}
-use Rattle.jn_files.proofs.Setting.{place_below, fresh_stands, fresh_leaves, fresh_changes}
+use Rattle.jn_files.proofs.Setting.{changes_any, place_below, fresh_stands, fresh_leaves, fresh_changes}
 use Rattle.jn_files.proofs.table.FileTable.set_fresh.Goals as goal
 
 pub put_head-requires-clause-may : goal.put_head-requires-clause-may
@@ -13,6 +13,9 @@ put_head-requires-clause-may g c =
     let is = subst (λ (x : TableView). IsTable x) c.self.view_is c.self.invariant.table in
     let place = subst (λ (x : TableView). IsPlaceOf x c.args.f c.place_of-slot.result) c.self.view_is c.place_of-slot.ensures in
     subst (λ (h : Head). MayStand c.args.self.now c.place_of-slot.result h) (sym c.fresh.ensures.fresh) (fresh_stands c.args.self.now is c.args.f c.place_of-slot.result place c.fresh.ensures.fits c.requires.room)
+
+pub put_head-requires-clause-blocks : goal.put_head-requires-clause-blocks
+put_head-requires-clause-blocks g c = changes_any (head_in c.args.self.now.heads c.place_of-slot.result) c.fresh.result
 
 pub returns : goal.returns
 returns g c =

@@ -6,7 +6,7 @@ use Rattle.jn_records.specs.declared.head.Head.TheVariants.{Free}
 use Rattle.jn_files.specs.Table.{TableView, IsTable, head_in, is_of}
 use Rattle.jn_files.specs.Calls.{IsPlaceOf}
 use Rattle.jn_files.specs.Inside.{MayStand}
-use Rattle.jn_files.proofs.Setting.{gone_stands, gone_leaves, gone_changes, sets_head}
+use Rattle.jn_files.proofs.Setting.{changes_any, gone_stands, gone_leaves, gone_changes, sets_head}
 use Rattle.jn_files.proofs.table.FileTable.set_gone.Goals as goal
 
 pub put_head-requires-clause-may : goal.put_head-requires-clause-may
@@ -18,6 +18,9 @@ put_head-requires-clause-may g c =
     let own : is_of c.args.f (head_in c.args.self.now.heads c.in-Some.slot) ≡ true = ap (λ (x : TableView). is_of c.args.f (head_in x.heads c.in-Some.slot)) (sym c.self.view_is) ∙ c.in-Some.ensures.found.1 in
     let place : IsPlaceOf c.args.self.now c.args.f c.in-Some.slot = inl own in
     subst (λ (h : Head). MayStand t slot h) (sym c.free.ensures) (gone_stands t is c.args.f slot place)
+
+pub put_head-requires-clause-blocks : goal.put_head-requires-clause-blocks
+put_head-requires-clause-blocks g c = changes_any (head_in c.args.self.now.heads c.in-Some.slot) c.free.result
 
 pub returns-clause-there : goal.returns-clause-there
 returns-clause-there g c exists =
