@@ -190,8 +190,45 @@ fn place_above(entries: &[Entry], after: Option<u32>) -> usize
     }
 }
 
-/// How many entries come before one.
+/// How many entries come before one. Where slots have the numbers from 0 on, that is its number, which is tried first.
 fn place_of(entries: &[Entry], sought: Entry) -> usize
+    requires { AreRising entries.now }
+    ensures bound { result ≤ length entries.now }
+    ensures before { (i : ℕ) → i < result → is_before (entry_at entries.now i) sought ≡ true }
+    ensures after { (i : ℕ) → result ≤ i → i < length entries.now → is_before (entry_at entries.now i) sought ≡ false }
+{
+    let place = sought.number as usize;
+    if place < entries.len()
+        && are_before(entries, sought, place)
+        && none_is_before(entries, sought, place)
+    {
+        return place;
+    }
+    place_by_halving(entries, sought)
+}
+
+/// Whether so many entries come before one.
+fn are_before(entries: &[Entry], sought: Entry, place: usize) -> bool
+    requires rising { AreRising entries.now }
+    requires bound { place < length entries.now }
+    ensures { result ≡ true → (i : ℕ) → i < place → is_before (entry_at entries.now i) sought ≡ true }
+{
+    if place == 0 {
+        return true;
+    }
+    comes_before(entries[place - 1], sought)
+}
+
+/// Whether from a place on no entry comes before one.
+fn none_is_before(entries: &[Entry], sought: Entry, place: usize) -> bool
+    requires rising { AreRising entries.now }
+    requires bound { place < length entries.now }
+    ensures { result ≡ true → (i : ℕ) → place ≤ i → i < length entries.now → is_before (entry_at entries.now i) sought ≡ false }
+{
+    !comes_before(entries[place], sought)
+}
+
+fn place_by_halving(entries: &[Entry], sought: Entry) -> usize
     requires { AreRising entries.now }
     ensures bound { result ≤ length entries.now }
     ensures before { (i : ℕ) → i < result → is_before (entry_at entries.now i) sought ≡ true }

@@ -1,6 +1,6 @@
 use Rattle.std.proofs.Common.{◌+◌, ◌-◌, ◌/◌, arith, sym, ◌∙◌}
 use Rattle.jn_index.proofs.Order.{before_up_to, after_from}
-use Rattle.jn_index.proofs.place_of.Goals as goal
+use Rattle.jn_index.proofs.place_by_halving.Goals as goal
 
 pub loop-low-preserved-then-comes_before : goal.loop-low-preserved-then-comes_before
 loop-low-preserved-then-comes_before c = record {

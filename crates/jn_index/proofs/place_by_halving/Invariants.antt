@@ -1,6 +1,6 @@
 use Rattle.std.proofs.Common.{◌-◌, ◌≡◌, ◌<◌, ◌≤◌, ℕ, true, false, length}
 use Rattle.jn_index.specs.Entries.{is_before, entry_at}
-use Rattle.jn_index.proofs.place_of.Given as goal
+use Rattle.jn_index.proofs.place_by_halving.Given as goal
 
 abbrev pub invariant-loop-low : goal.invariant-loop-low
 invariant-loop-low l = record {
