@@ -1,5 +1,5 @@
 -- Appends, one after another.
-use Rattle.std.proofs.Common.{◌≡◌, ℕ, ◌+◌, ◌<◌, List, [], ◌∷◌, ◌++◌, length, take, drop, get_or, map, ap, arith, append_assoc, ◌∙◌, sym, Result, Ok, Err, OnOk, OnErr, is_ok, if◌then◌else◌}
+use Rattle.std.proofs.Common.{◌≡◌, ℕ, ◌+◌, ◌<◌, List, [], ◌∷◌, ◌++◌, length, take, drop, get_or, map, ap, arith, append_assoc, ◌∙◌, sym, Result, Ok, Err, OnOk, OnErr}
 use Rattle.std.proofs.lemmas.Grind.{common_steps}
 use Rattle.std.proofs.lemmas.List.{take-append-drop, map_more}
 use Rattle.std.proofs.Math.Seq.{take-append_seam}
@@ -30,7 +30,7 @@ OnErr-always (Ok x) P holds = tt
 OnErr-always (Err e) P holds = holds
 
 -- the last of the appends of a line
-pub appended_last : {T E : Type 0} (r : Result T E) (old x mid y new : List ℕ) → mid ≡ old ++ x → new ≡ (if is_ok r then mid ++ y else mid) → OnOk r (new ≡ old ++ (x ++ y))
+pub appended_last : {T E : Type 0} (r : Result T E) (old x mid y new : List ℕ) → mid ≡ old ++ x → OnOk r (new ≡ mid ++ y) → OnOk r (new ≡ old ++ (x ++ y))
 appended_last (Ok t) old x mid y new first second = appended_twice old x mid y new first second
 appended_last (Err e) old x mid y new first second = tt
 

@@ -1,5 +1,5 @@
 //! The words of a line.
-ghost use Rattle.std.specs.Prelude.{◌≡◌, ◌++◌, codes, decimal, OnOk, OnErr};
+ghost use Rattle.std.specs.Prelude.{◌≡◌, ◌++◌, ◌∷◌, [], codes, decimal, OnOk, OnErr};
 ghost use Rattle.jn_report.specs.Append.{IsKept};
 ghost use Rattle.jn_report.specs.Spell.{spelled, spelled_words};
 ghost use Rattle.jn_report.specs.Text.{client_word, party_word, server_word, tid_word, unit_word};
@@ -28,9 +28,18 @@ pub(crate) fn push_words(out: &mut Vec<u8>, words: &[Word<'_>]) -> Result<(), Al
     ensures err { OnErr result (IsKept out.old.items out.new.items) }
 {
     for word in words {
-        out.extend_from_slice(b" ")?;
+        push_byte(out, b' ')?;
         push_word(out, word)?;
     }
+    Ok(())
+}
+
+/// Appends one byte.
+pub(crate) fn push_byte(out: &mut Vec<u8>, byte: u8) -> Result<(), AllocError>
+    ensures ok { OnOk result (out.new.items ≡ out.old.items ++ byte ∷ []) }
+    ensures err { OnErr result (out.new.items ≡ out.old.items) }
+{
+    out.push(byte)?;
     Ok(())
 }
 
@@ -54,7 +63,7 @@ fn push_server(out: &mut Vec<u8>, server: ServerNo) -> Result<(), AllocError>
     ensures ok { OnOk result (out.new.items ≡ out.old.items ++ server_word server) }
     ensures err { OnErr result (IsKept out.old.items out.new.items) }
 {
-    out.extend_from_slice(b"s")?;
+    push_byte(out, b's')?;
     push_number(out, u64::from(server.0))
 }
 
@@ -62,7 +71,7 @@ fn push_client(out: &mut Vec<u8>, client: ClientNo) -> Result<(), AllocError>
     ensures ok { OnOk result (out.new.items ≡ out.old.items ++ client_word client) }
     ensures err { OnErr result (IsKept out.old.items out.new.items) }
 {
-    out.extend_from_slice(b"c")?;
+    push_byte(out, b'c')?;
     push_number(out, u64::from(client.0))
 }
 
@@ -71,9 +80,9 @@ fn push_tid(out: &mut Vec<u8>, tid: Tid) -> Result<(), AllocError>
     ensures err { OnErr result (IsKept out.old.items out.new.items) }
 {
     push_number(out, u64::from(tid.server.0))?;
-    out.extend_from_slice(b".")?;
+    push_byte(out, b'.')?;
     push_number(out, u64::from(tid.epoch))?;
-    out.extend_from_slice(b".")?;
+    push_byte(out, b'.')?;
     push_number(out, u64::from(tid.ticket))
 }
 
@@ -85,7 +94,7 @@ fn push_unit(out: &mut Vec<u8>, unit: LockUnit) -> Result<(), AllocError>
         LockUnit::File(file) => push_number(out, u64::from(file.0)),
         LockUnit::Block(file, block) => {
             push_number(out, u64::from(file.0))?;
-            out.extend_from_slice(b"/")?;
+            push_byte(out, b'/')?;
             push_number(out, u64::from(block.0))
         }
     }
@@ -107,6 +116,6 @@ fn push_route(out: &mut Vec<u8>, from: Party, to: Party) -> Result<(), AllocErro
     ensures err { OnErr result (IsKept out.old.items out.new.items) }
 {
     push_party(out, from)?;
-    out.extend_from_slice(b">")?;
+    push_byte(out, b'>')?;
     push_party(out, to)
 }

@@ -6,7 +6,7 @@ ghost use Rattle.jn_report.specs.Text.{cause_words, client_word, event_refusal_w
 
 use crate::line::{EventRefusal, Line, Refusal, Text, When};
 use crate::word::Word::{Block, Client, Name, Number, Route, Server, Transaction, Unit};
-use crate::word::{Word, push_words};
+use crate::word::{Word, push_byte, push_words};
 use jn_base::{
     BlockNo, Cause, ClientNo, FaultKind, FileNo, LockUnit, MsgKind, Outside, Party, ServerNo, Tid,
 };
@@ -32,9 +32,9 @@ fn push_parts(out: &mut Vec<u8>, line: &Line) -> Result<(), AllocError>
     ensures err { OnErr result (IsKept out.old.items out.new.items) }
 {
     push_when(out, line.when)?;
-    out.extend_from_slice(b":")?;
+    push_byte(out, b':')?;
     push_text(out, &line.text)?;
-    out.extend_from_slice(b"\n")
+    push_byte(out, b'\n')
 }
 
 fn push_when(out: &mut Vec<u8>, when: When) -> Result<(), AllocError>

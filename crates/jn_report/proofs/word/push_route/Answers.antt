@@ -5,5 +5,5 @@ use Rattle.jn_report.proofs.word.push_route.Goals as goal
 
 pub returns-clause-err : goal.returns-clause-err
 returns-clause-err c =
-    let begun = appended_twice c.args.out.now.items (party_word c.args.from) c.push_party.new.out.items (codes ">") c.extend_from_slice.new.self.items c.in_ok-push_party.ensures.ok c.in_ok-extend_from_slice.ensures.items in
+    let begun = appended_twice c.args.out.now.items (party_word c.args.from) c.push_party.new.out.items (codes ">") c.push_byte.new.out.items c.in_ok-push_party.ensures.ok c.in_ok-push_byte.ensures.ok in
     IsKept-on_err c.push_party-2.result c.args.out.now.items (party_word c.args.from ++ codes ">") _ _ begun c.push_party-2.ensures.err
