@@ -546,14 +546,7 @@ fn count_head(free_heads: &mut FreeList, slot: u16, was: bool, is: bool)
 }
 
 /// The data pages to which a head leads no more are free, unless they are held.
-fn free_dropped(
-    free: &mut FreeList,
-    held: &[bool],
-    old: &Slot,
-    new: &Slot,
-    first: u16,
-    end: u16,
-)
+fn free_dropped(free: &mut FreeList, held: &[bool], old: &Slot, new: &Slot, first: u16, end: u16)
     requires may { inside.MayDrop held.now old.now free.old }
     requires blocks { inside.ChangesBlocks old.now new.now first end }
     ensures { inside.Drops held.now old.now new.now 120 free.old free.new }

@@ -1,4 +1,4 @@
-use Rattle.std.proofs.Common.{◌≡◌, ◌+◌, ◌≤◌, ℕ, sym, ◌∙◌, subst, arith}
+use Rattle.std.proofs.Common.{◌≡◌, ◌+◌, ℕ, sym, ◌∙◌, subst, arith}
 use Rattle.jn_alloc.specs.Free.{FreeNumbers}
 use Rattle.jn_files.specs.Table.{address_of}
 use Rattle.jn_files.specs.Inside.{Drops, freed_one}
