@@ -1,5 +1,5 @@
 //! Appends numbers and bytes to a text.
-ghost use Rattle.std.specs.Prelude.{◌≡◌, ◌++◌, decimal, OnOk, OnErr};
+ghost use Rattle.std.specs.Prelude.{◌≡◌, ◌<◌, ◌++◌, decimal, OnOk, OnErr};
 ghost use Rattle.hex.specs.Hex.{encode_lower};
 ghost use Rattle.jn_text.specs.Words.{block_word, without_end_zeros};
 
@@ -11,8 +11,21 @@ pub fn push_number(out: &mut Vec<u8>, n: u64) -> Result<(), AllocError>
     ensures ok { OnOk result (out.new.items ≡ out.old.items ++ decimal n) }
     ensures err { OnErr result (out.new.items ≡ out.old.items) }
 {
+    if n < 10 {
+        return push_digit(out, n as u8);
+    }
     let mut buffer = Buffer::new();
     out.extend_from_slice(buffer.format(n).as_bytes())
+}
+
+/// Appends a number of one digit, as most numbers of a report are.
+fn push_digit(out: &mut Vec<u8>, n: u8) -> Result<(), AllocError>
+    requires { n < 10 }
+    ensures ok { OnOk result (out.new.items ≡ out.old.items ++ decimal n) }
+    ensures err { OnErr result (out.new.items ≡ out.old.items) }
+{
+    out.push(b'0' + n)?;
+    Ok(())
 }
 
 /// Appends bytes as pairs of lower-case hexadecimal digits, without the zeros at the end of the
