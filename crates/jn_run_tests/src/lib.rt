@@ -1,9 +1,5 @@
-//! Tests of the top call: schedules with their reports, each status with its text, limits, images, and trials.
+//! Tests of the top call with a source, a sink and a keeper in memory, of which chosen calls fail. All else about it is tried by `.ci/program`.
 #![tactic(auto)]
 
 #[cfg(test)]
-mod images;
-#[cfg(test)]
-mod tests;
-#[cfg(test)]
-mod trials;
+mod failing;
