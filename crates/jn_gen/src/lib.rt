@@ -10,6 +10,3 @@ mod word;
 pub use draws::draws_are_in_range;
 pub use schedule::{drawn_events_are_in_range, schedule_of};
 pub use text::text_of;
-
-#[cfg(test)]
-mod tests;

@@ -10,8 +10,6 @@ mod command;
 mod laws;
 mod name;
 mod read;
-#[cfg(test)]
-mod tests;
 
 pub use asked::{Command, Geometry, Opening, Options, Trial};
 pub use laws::{

@@ -1,4 +1,4 @@
-//! Tests of what comes in and goes out: fields, numbers, schedules, report lines, and the sources, sinks and keepers.
+//! Tests of what comes in and goes out: words, fields, numbers, schedules, trials, report lines and their summary, and the sources, sinks and keepers.
 #![tactic(auto)]
 
 #[cfg(test)]
@@ -6,8 +6,14 @@ mod fields;
 #[cfg(test)]
 mod host;
 #[cfg(test)]
+mod options;
+#[cfg(test)]
 mod report;
 #[cfg(test)]
 mod schedule;
 #[cfg(test)]
+mod summary;
+#[cfg(test)]
 mod text;
+#[cfg(test)]
+mod trial;

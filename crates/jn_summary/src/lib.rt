@@ -8,6 +8,3 @@ mod told;
 
 pub use reporting::Summing;
 pub use summary::Summary;
-
-#[cfg(test)]
-mod tests;

@@ -1,6 +1,6 @@
 //! The first events of a trial, as the table of draws gives them.
 
-use crate::{schedule_of, text_of};
+use jn_gen::{schedule_of, text_of};
 use std::test::Fail;
 
 /// The first 21 events of seed 7, worked out apart from this program.

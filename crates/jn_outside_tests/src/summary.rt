@@ -1,8 +1,8 @@
 //! A short report and its summary.
 
-use crate::Summary;
 use jn_base::{BlockNo, Cause, ClientNo, FaultKind, FileNo, LockUnit, Outside, ServerNo, Tid};
 use jn_report::{EventRefusal, Line, Refusal, Text, When};
+use jn_summary::Summary;
 use std::test::Fail;
 
 const TEN_LINES: &str = "trial 7 9 commits 2 aborted 1 refused 2 stopped 1 outside 1 \

@@ -1,4 +1,6 @@
-use crate::{Command, Geometry, Opening, Options, Trial, read_command};
+//! Words with the command that they ask for, and words that are refused.
+
+use jn_options::{Command, Geometry, Opening, Options, Trial, read_command};
 use std::alloc::Global;
 use std::test::Fail;
 
