@@ -7,3 +7,5 @@ pub mod Exact
 pub mod Computed
 pub mod Begun
 pub mod Differing
+pub mod Handed
+pub mod Left

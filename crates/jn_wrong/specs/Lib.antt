@@ -2,3 +2,4 @@ pub mod Wrong
 pub mod Reports
 pub mod Others
 pub mod Still
+pub mod Settles
