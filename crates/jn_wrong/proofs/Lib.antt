@@ -9,3 +9,4 @@ pub mod Begun
 pub mod Differing
 pub mod Handed
 pub mod Left
+pub mod Outside

@@ -3,3 +3,4 @@ pub mod Reports
 pub mod Others
 pub mod Still
 pub mod Settles
+pub mod Telling

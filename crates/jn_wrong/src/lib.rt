@@ -3,6 +3,7 @@
 
 mod new;
 mod settling;
+mod telling;
 
 ghost use Rattle.std.specs.Prelude.{◌≡◌, ℕ, nat_lt, false};
 ghost use Rattle.jn_wrong.specs.Wrong.{IsNone, begins, makes_one, makes_and_reads, opens_and_loses, answered_too_soon, stopped_by_nothing, fault_of_nothing, lost_without_opening, file_left_out, file_locked, page_unwritten, other_bytes, named_again, full_of};
@@ -15,6 +16,7 @@ pub use new::{
     reports_are_the_only_ones,
 };
 pub use settling::{a_message_is_handed_over_once, a_settle_leaves_nothing_to_do};
+pub use telling::{each_refused_fault_is_told};
 
 /// An answer stands under an event before its command's.
 pub fn an_answer_before_its_command_is_none()

@@ -1,0 +1,325 @@
+-- The lines of a step that tell of refused faults are those that its device told.
+use Rattle.std.proofs.Common.{◌≡◌, ◌≢◌, ◌⊎◌, inl, inr, ℕ, ◌+◌, Bool, true, false, List, [], ◌∷◌, ◌++◌, append-nil, append_assoc, map, length, drop, Option, Some, None, is_some, refl, sym, ◌∙◌, ap, subst, arith}
+use Rattle.std.specs.Prelude.{◌||◌, ◌&&◌, ◌/◌, not, filter, if◌then◌else◌, slice_get}
+use Rattle.std.specs.List.{list_all}
+use Rattle.std.proofs.Math.Seq.{drop-append_seam}
+use Rattle.jn_base.specs.declared.names.ServerNo.{ServerNo}
+use Rattle.jn_base.specs.declared.names.Party.{Party}
+use Rattle.jn_base.specs.declared.names.Party.TheVariants.{Client, Server}
+use Rattle.jn_base.specs.declared.device.FaultKind.TheVariants as faults
+use Rattle.jn_base.specs.declared.device.Outside.{Outside}
+use Rattle.jn_device.specs.Device.{DeviceState}
+use Rattle.jn_device.specs.Calls.{decay_outside}
+use Rattle.jn_device.specs.Events.{powered_off}
+use Rattle.jn_schedule.specs.declared.Event.{Event}
+use Rattle.jn_schedule.specs.declared.Event.TheVariants as events
+use Rattle.jn_report.specs.declared.line.EventRefusal.{EventRefusal}
+use Rattle.jn_report.specs.declared.line.EventRefusal.TheVariants.{TooManyArmed, EpochsUsedUp}
+use Rattle.jn_report.specs.declared.line.When.{When}
+use Rattle.jn_report.specs.declared.line.Text.{Text}
+use Rattle.jn_report.specs.declared.line.Text.TheVariants as says
+use Rattle.jn_report.specs.declared.line.Line.{Line}
+use Rattle.jn_rows.specs.Outcomes.{Sent}
+use Rattle.jn_rows.specs.Stable.{Pick}
+use Rattle.jn_protocol.specs.World.{World, Memory}
+use Rattle.jn_protocol.specs.Printing.{Printed, FileThere, PageStored, UnitLocked, print_files}
+use Rattle.jn_protocol.specs.Steps.{Step, Tell, Deliver, Work, StopDelivery, StopWork, Crash, StopRestart, Restart, CloseClients, run}
+use Rattle.jn_settling.specs.Course.{Course, go_on, newly_sent}
+use Rattle.jn_reported.specs.Printing.{text_printed, prints_of}
+use Rattle.jn_written.specs.Chances.{Setup, Chance}
+use Rattle.jn_written.specs.Tasks.{Task, Begins, Meets, Acts, Rests, ComesUp, Dismisses, GoesDown, ClosesClients, CountsCommits, CutShort, State, when_of, begun}
+use Rattle.jn_written.specs.Deeds.{Use, Nothing, Calls, Reads, Recovers, PowersOff, Decays, Revives, Arms, Disarms, Deed, blocks_from, delivered, delivered_at, is_busy, worked, served, working_steps, nothing, shown, showing, crashed_at, is_used_up, restarted, recovered, given_up, brought_up}
+use Rattle.jn_written.specs.Devices.{Devices, IsCalled, IsRecovery, IsServed, IsLookedOver, Alone, IsUsed}
+use Rattle.jn_written.specs.Refusals.{refusal_of}
+use Rattle.jn_written.specs.Events.{told_unless, acted, met, next_in, resting, deed_of}
+use Rattle.jn_written.specs.Steps.{outside_texts, own_texts, message_texts, traced, texts_of, lines_at, is_too_much, come_to, cut_short, done}
+use Rattle.jn_written.specs.Runs.{Moment, DoesStep}
+use Rattle.jn_written.specs.Kinds.{may_tell, is_answer, is_note, is_of_delivery, is_up, is_down, is_stopped}
+use Rattle.jn_written.proofs.Ordered.{begun-lines}
+use Rattle.jn_written.proofs.Texts.{More, gone-on}
+use Rattle.jn_wrong.specs.Telling.{is_outside, outside_lines, outside_at, Tells, TellsOf, TellsRaised, AreToldBy, TellsFaults}
+
+-- ---- lists
+
+abbrev no_fault : Text → Bool
+no_fault text = not (is_outside text)
+
+none-left : (texts : List Text) → list_all no_fault texts ≡ true → filter is_outside texts ≡ []
+none-left [] h = refl
+none-left (text ∷ texts) h = by (is_outside text) (first (no_fault text) (list_all no_fault texts) h) (none-left texts (second (no_fault text) (list_all no_fault texts) h))
+  where
+    first : (a b : Bool) → (a && b) ≡ true → a ≡ true
+    first a b k = grind arith
+
+    second : (a b : Bool) → (a && b) ≡ true → b ≡ true
+    second a b k = grind arith
+
+    by : (b : Bool) → not b ≡ true → filter is_outside texts ≡ [] → (if b then text ∷ filter is_outside texts else filter is_outside texts) ≡ []
+    by false k e = e
+    by true k e = absurd (clash k)
+      where
+        clash : false ≡ true → ⊥
+        clash z = cc
+
+filter-both : {A : Type 0} (test : A → Bool) (xs ys : List A) → filter test (xs ++ ys) ≡ filter test xs ++ filter test ys
+filter-both test [] ys = refl
+filter-both test (x ∷ xs) ys = by (test x) (filter-both test xs ys)
+  where
+    by : (b : Bool) → filter test (xs ++ ys) ≡ filter test xs ++ filter test ys → (if b then x ∷ filter test (xs ++ ys) else filter test (xs ++ ys)) ≡ (if b then x ∷ filter test xs else filter test xs) ++ filter test ys
+    by true e = ap (λ (zs : List _). x ∷ zs) e
+    by false e = e
+
+lines-left : (w : When) (texts : List Text) → outside_lines (lines_at w texts) ≡ lines_at w (filter is_outside texts)
+lines-left w [] = refl
+lines-left w (text ∷ texts) = by (is_outside text) (lines-left w texts)
+  where
+    one : Line
+    one = record { when = w; text = text }
+
+    by : (b : Bool) → outside_lines (lines_at w texts) ≡ lines_at w (filter is_outside texts)
+        → (if b then record { when = w; text = text } ∷ outside_lines (lines_at w texts) else outside_lines (lines_at w texts)) ≡ lines_at w (if b then text ∷ filter is_outside texts else filter is_outside texts)
+    by true e = ap (λ (ls : List Line). record { when = w; text = text } ∷ ls) e
+    by false e = e
+
+-- ---- what isn't told of a fault
+
+of-answer : (text : Text) → is_answer text ≡ true → no_fault text ≡ true
+of-answer text h = grind arith
+
+of-note : (text : Text) → is_note text ≡ true → no_fault text ≡ true
+of-note text h = grind arith
+
+of-delivery : (text : Text) → is_of_delivery text ≡ true → no_fault text ≡ true
+of-delivery text h = grind arith
+
+of-stop : (text : Text) → is_stopped text ≡ true → no_fault text ≡ true
+of-stop text h = grind arith
+
+of-down : (text : Text) → is_down text ≡ true → no_fault text ≡ true
+of-down text h = grind arith
+
+of-up : (text : Text) → is_up text ≡ true → no_fault text ≡ true
+of-up text h = grind arith
+
+either : (a b c : Bool) → (a ≡ true → c ≡ true) → (b ≡ true → c ≡ true) → (a || b) ≡ true → c ≡ true
+either true b c h k e = h refl
+either false b c h k e = k e
+
+of-step : (step : Step) (text : Text) → may_tell step text ≡ true → no_fault text ≡ true
+of-step (Tell c command) text h = of-answer text h
+of-step (Deliver k room) text h = of-delivery text h
+of-step (Work s room) text h = of-note text h
+of-step (StopDelivery k room made) text h = either (is_of_delivery text) (is_stopped text) (no_fault text) (of-delivery text) (of-stop text) h
+of-step (StopWork s room made) text h = of-stop text h
+of-step (Crash s) text h = of-down text h
+of-step (StopRestart s raised) text h = of-stop text h
+of-step (Restart s pick works tids) text h = either (is_up text) (is_note text) (no_fault text) (of-up text) (of-note text) h
+of-step (CloseClients s) text h = of-note text h
+of-step step text h = absurd (clash h)
+  where
+    clash : false ≡ true → ⊥
+    clash z = cc
+
+own-none : (steps : List Step) (c : Course) → filter is_outside (own_texts c.world (go_on steps c).world) ≡ []
+own-none steps c = by (gone-on no_fault of-step steps c)
+  where
+    by : More no_fault c.world (go_on steps c).world → filter is_outside (own_texts c.world (go_on steps c).world) ≡ []
+    by m = ap (λ (ls : List Text). filter is_outside (drop (length c.world.lines) ls)) m.lines ∙ ap (λ (ls : List Text). filter is_outside ls) (drop-append_seam c.world.lines m.texts) ∙ none-left m.texts m.kinds
+
+messages-none : (from : Party) (k : ℕ) (sent : List Sent) → filter is_outside (message_texts from k sent) ≡ []
+messages-none from k [] = refl
+messages-none from k (one ∷ sent) = messages-none from (k + 1) sent
+
+traced-none : (trace : Bool) (from : Party) (k : ℕ) (sent : List Sent) → filter is_outside (traced trace (message_texts from k sent)) ≡ []
+traced-none true from k sent = messages-none from k sent
+traced-none false from k sent = refl
+
+printed-none : (q : ServerNo) (prints : List Printed) → filter is_outside (map (text_printed q) prints) ≡ []
+printed-none q [] = refl
+printed-none q (FileThere f ∷ prints) = printed-none q prints
+printed-none q (PageStored f p bytes ∷ prints) = printed-none q prints
+printed-none q (UnitLocked u T ∷ prints) = printed-none q prints
+
+shown-none : (h : Chance) (q : ServerNo) (w : World) (o : Option Memory) (stop : Option (Pick → ℕ)) → filter is_outside (shown h q w o stop) ≡ []
+shown-none h q w None stop = refl
+shown-none h q w (Some m) (Some made) = refl
+shown-none h q w (Some m) None = printed-none q (print_files (prints_of q w m) (λ f. blocks_from 0 120) h.files)
+
+-- ---- what is told of one
+
+-- a decay that the device didn't allow
+abbrev of_decay : Use → Chance → List Text
+of_decay (Decays q p) h = told_unless h.allows (says.Outside q (record { kind = faults.Decay p; page = p }))
+of_decay device h = []
+
+abbrev Tells_just : Chance → Deed → Type 0
+Tells_just h deed = filter is_outside deed.texts ≡ of_decay deed.device h
+
+at-just : (h : Chance) (k : ℕ) (q : ServerNo) (o : Option Memory) → Tells_just h (delivered_at h k q o)
+at-just h k q None = refl
+at-just h k q (Some m) = refl
+
+delivered-just : (h : Chance) (k : ℕ) (w : World) (o : Option Sent) → Tells_just h (delivered h k w o)
+delivered-just h k w None = refl
+delivered-just h k w (Some (Client c, message)) = refl
+delivered-just h k w (Some (Server q, message)) = at-just h k q (w.memory q)
+
+worked-just : (h : Chance) (q : ServerNo) (w : World) → Tells_just h (worked h q w)
+worked-just h q w = by (is_busy h.rubbish w q)
+  where
+    by : (b : Bool) → Tells_just h (if b then served q (working_steps h q) else nothing)
+    by true = refl
+    by false = refl
+
+crashed-just : (h : Chance) (q : ServerNo) (o : Option Memory) → Tells_just h (crashed_at q o)
+crashed-just h q None = refl
+crashed-just h q (Some m) = refl
+
+restarted-just : (h : Chance) (q : ServerNo) (w : World) → Tells_just h (restarted h q w)
+restarted-just h q w = by (is_used_up h q w)
+  where
+    by : (b : Bool) → Tells_just h (if b then record (given_up h q) { texts = says.RefusedEvent EpochsUsedUp ∷ [] } else recovered h q)
+    by true = refl
+    by false = refl
+
+raised-just : (h : Chance) (q : ServerNo) (w : World) → Tells_just h (brought_up h q w)
+raised-just h q w = by (is_used_up h q w)
+  where
+    by : (b : Bool) → Tells_just h (if b then record (given_up h q) { cuts = true } else recovered h q)
+    by true = refl
+    by false = refl
+
+acts-just : (x : Setup) (h : Chance) (event : Event) (w : World) → Tells_just h (acted x h event w)
+acts-just x h (events.Command c command) w = refl
+acts-just x h (events.Again c) w = refl
+acts-just x h (events.Deliver k) w = delivered-just h k w (slice_get w.sent k)
+acts-just x h events.Settle w = refl
+acts-just x h (events.Step q) w = worked-just h q w
+acts-just x h (events.Nudge q) w = refl
+acts-just x h (events.Timeout q T) w = refl
+acts-just x h (events.Scrub q) w = refl
+acts-just x h (events.Decay q p) w = by h.allows
+  where
+    fault : Text
+    fault = says.Outside q (record { kind = faults.Decay p; page = p })
+
+    by : (b : Bool) → filter is_outside (told_unless b (says.Outside q (record { kind = faults.Decay p; page = p }))) ≡ told_unless b (says.Outside q (record { kind = faults.Decay p; page = p }))
+    by true = refl
+    by false = refl
+acts-just x h (events.Revive q p) w = refl
+acts-just x h (events.Arm q n kind) w = by h.allows
+  where
+    by : (b : Bool) → filter is_outside (told_unless b (says.RefusedEvent TooManyArmed)) ≡ []
+    by true = refl
+    by false = refl
+acts-just x h (events.Crash q) w = crashed-just h q (w.memory q)
+acts-just x h (events.Restart q) w = restarted-just h q w
+acts-just x h (events.Show q) w = shown-none h q w (w.memory q) h.stop
+
+meets-just : (x : Setup) (h : Chance) (event : Event) (w : World) (o : Option EventRefusal) → Tells_just h (met x h event w o)
+meets-just x h event w (Some refusal) = refl
+meets-just x h event w None = acts-just x h event w
+
+rests-just : (x : Setup) (h : Chance) (w : World) (o : Option Event) → Tells_just h (resting x h w o)
+rests-just x h w None = refl
+rests-just x h w (Some event) = acts-just x h event w
+
+deed-just : (x : Setup) (h : Chance) (task : Task) (s : State) → Tells_just h (deed_of x h task s)
+deed-just x h (Begins event) s = refl
+deed-just x h (Meets event) s = meets-just x h event s.course.world (refusal_of x s.course.world event)
+deed-just x h (Acts event) s = acts-just x h event s.course.world
+deed-just x h Rests s = rests-just x h s.course.world (next_in x h.rubbish s.course)
+deed-just x h (ComesUp q) s = raised-just h q s.course.world
+deed-just x h Dismisses s = refl
+deed-just x h (GoesDown q) s = crashed-just h q (s.course.world.memory q)
+deed-just x h (ClosesClients q) s = refl
+deed-just x h CountsCommits s = refl
+
+all-outside : (q : ServerNo) (told : List Outside) → filter is_outside (outside_at q told) ≡ outside_at q told
+all-outside q [] = refl
+all-outside q (fault ∷ told) = ap (λ (texts : List Text). says.Outside q fault ∷ texts) (all-outside q told)
+
+device-told : (device : Use) (told : List Outside) → filter is_outside (outside_texts device told) ≡ outside_texts device told
+device-told (Calls q) told = all-outside q told
+device-told (Reads q) told = all-outside q told
+device-told (Recovers q) told = all-outside q told
+device-told Nothing told = refl
+device-told (PowersOff q) told = refl
+device-told (Decays q p) told = refl
+device-told (Revives q p) told = refl
+device-told (Arms q n kind) told = refl
+device-told Disarms told = refl
+
+faults-of : (x : Setup) (h : Chance) (deed : Deed) (c : Course) → Tells_just h deed → filter is_outside (texts_of x h deed c.world (go_on deed.steps c).world) ≡ outside_texts deed.device h.told ++ of_decay deed.device h
+faults-of x h deed c just = filter-both is_outside (told ++ own ++ deed.texts) messages
+    ∙ ap (λ (texts : List Text). filter is_outside (told ++ own ++ deed.texts) ++ texts) (traced-none x.trace deed.actor (length c.world.sent) (newly_sent c.world (go_on deed.steps c).world))
+    ∙ append-nil (filter is_outside (told ++ own ++ deed.texts))
+    ∙ filter-both is_outside (told ++ own) deed.texts
+    ∙ ap (λ (texts : List Text). texts ++ filter is_outside deed.texts) before
+    ∙ ap (λ (texts : List Text). told ++ texts) just
+  where
+    told : List Text
+    told = outside_texts deed.device h.told
+
+    own : List Text
+    own = own_texts c.world (go_on deed.steps c).world
+
+    messages : List Text
+    messages = traced x.trace (message_texts deed.actor (length c.world.sent) (newly_sent c.world (go_on deed.steps c).world))
+
+    before : filter is_outside (told ++ own) ≡ told
+    before = filter-both is_outside told own ∙ ap (λ (texts : List Text). filter is_outside told ++ texts) (own-none deed.steps c) ∙ append-nil (filter is_outside told) ∙ device-told deed.device h.told
+
+-- ---- and by which device
+
+module _ (x : Setup) (h : Chance) (w now : World) (ds es : Devices) where
+  called : (d e : DeviceState) (q : ServerNo) → IsCalled h d e → (texts : List Text) → texts ≡ outside_at q h.told ++ [] → TellsOf q d e texts
+  called d e q c texts is = record {
+    told = h.told;
+    tells = record { last = c.last; calls = c.calls; told_is = c.told; after = c.after };
+    texts_are = is ∙ append-nil (outside_at q h.told);
+  }
+
+  raised : (q : ServerNo) (up : Bool) → IsRecovery h up (ds q) (es q) → (texts : List Text) → texts ≡ outside_at q h.told ++ [] → TellsRaised q (ds q) (es q) texts
+  raised q up r texts is = record { powered = r.powered; last = r.last; power = r.power; tells = called r.powered r.last q r.called texts is; after = by up r.after }
+    where
+      by : (b : Bool) → es q ≡ (if b then r.last else powered_off r.last) → (es q ≡ r.last) ⊎ (es q ≡ powered_off r.last)
+      by true e = inl e
+      by false e = inr e
+
+  told-by : (device : Use) → IsUsed x h device w now ds es → (texts : List Text) → texts ≡ outside_texts device h.told ++ of_decay device h → AreToldBy device ds es texts
+  told-by (Calls q) a texts is = called (ds q) (es q) q a.its.called texts is
+  told-by (Reads q) a texts is = called (ds q) (es q) q a.its.called texts is
+  told-by (Recovers q) a texts is = raised q (is_some (now.memory q)) a.its texts is
+  told-by (Decays q p) a texts is = is ∙ ap (λ (b : Bool). told_unless b (says.Outside q (record { kind = faults.Decay p; page = p }))) a.its.answers
+  told-by Nothing a texts is = is
+  told-by (PowersOff q) a texts is = is
+  told-by (Revives q p) a texts is = is
+  told-by (Arms q n kind) a texts is = is
+  told-by Disarms a texts is = is
+
+pub faults-told : (x : Setup) (a b : Moment) (d : DoesStep x a b) → b.state.stage ≢ CutShort → TellsFaults x a b d
+faults-told x a b d goes = record {
+  texts = outside_texts deed.device d.chance.told ++ of_decay deed.device d.chance;
+  told = by-device d.befalls.used;
+  lines = ap (λ (s : State). outside_lines s.lines) d.state_is ∙ by (is_too_much deed (go_on deed.steps u.course)) (λ e. goes (ap (λ (s : State). s.stage) d.state_is ∙ e));
+}
+  where
+    deed : Deed
+    deed = deed_of x d.chance d.task a.state
+
+    u : State
+    u = begun d.task a.state
+
+    by-device : IsUsed x d.chance deed.device a.state.course.world (run deed.steps a.state.course.world) a.devices b.devices → AreToldBy deed.device a.devices b.devices (outside_texts deed.device d.chance.told ++ of_decay deed.device d.chance)
+    by-device used = told-by x d.chance a.state.course.world (run deed.steps a.state.course.world) a.devices b.devices deed.device used (outside_texts deed.device d.chance.told ++ of_decay deed.device d.chance) refl
+
+    texts : List Text
+    texts = texts_of x d.chance deed u.course.world (go_on deed.steps u.course).world
+
+    by : (b : Bool) → ((if b then cut_short u else come_to x d.chance deed (go_on deed.steps u.course) u).stage ≡ CutShort → ⊥)
+        → outside_lines (if b then cut_short u else come_to x d.chance deed (go_on deed.steps u.course) u).lines ≡ outside_lines a.state.lines ++ lines_at (when_of u) (outside_texts deed.device d.chance.told ++ of_decay deed.device d.chance)
+    by true n = absurd (n refl)
+    by false n = filter-both (λ (l : Line). is_outside l.text) u.lines (lines_at (when_of u) texts)
+        ∙ ap (λ (ls : List Line). outside_lines ls ++ outside_lines (lines_at (when_of u) texts)) (begun-lines d.task a.state)
+        ∙ ap (λ (ls : List Line). outside_lines a.state.lines ++ ls) (lines-left (when_of u) texts ∙ ap (λ (ts : List Text). lines_at (when_of u) ts) (faults-of x d.chance deed u.course (deed-just x d.chance d.task a.state)))

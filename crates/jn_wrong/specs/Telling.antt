@@ -1,0 +1,67 @@
+-- What a step tells of refused faults, and what a show prints, in any run.
+use Rattle.std.specs.Prelude.{◌≡◌, ◌⊎◌, ◌/◌, Bool, true, false, not, filter, List, [], ◌∷◌, ◌++◌, map}
+use Rattle.jn_base.specs.declared.names.ServerNo.{ServerNo}
+use Rattle.jn_base.specs.declared.device.FaultKind.TheVariants as faults
+use Rattle.jn_base.specs.declared.device.Outside.{Outside}
+use Rattle.jn_device.specs.Device.{DeviceState}
+use Rattle.jn_device.specs.Calls.{decay_outside}
+use Rattle.jn_device.specs.Events.{PowersUp, cleared, powered_off}
+use Rattle.jn_store.specs.Pairs.{pairs_view}
+use Rattle.jn_store.specs.Store.{StoreLater}
+use Rattle.jn_report.specs.declared.line.Text.{Text}
+use Rattle.jn_report.specs.declared.line.Text.TheVariants as says
+use Rattle.jn_report.specs.declared.line.Line.{Line}
+use Rattle.jn_written.specs.Deeds.{Use, Calls, Reads, Recovers, Decays}
+use Rattle.jn_written.specs.Devices.{Devices}
+use Rattle.jn_written.specs.Events.{told_unless, deed_of}
+use Rattle.jn_written.specs.Chances.{Setup}
+use Rattle.jn_written.specs.Steps.{lines_at}
+use Rattle.jn_written.specs.Tasks.{when_of, begun}
+use Rattle.jn_written.specs.Runs.{Moment, DoesStep}
+
+-- ---- refused faults
+
+abbrev pub is_outside : Text → Bool
+is_outside (says.Outside q fault) = true
+is_outside text = false
+
+abbrev pub outside_lines : List Line → List Line
+outside_lines lines = filter (λ (l : Line). is_outside l.text) lines
+
+abbrev pub outside_at : ServerNo → List Outside → List Text
+outside_at q told = map (λ (fault : Outside). says.Outside q fault) told
+
+-- the device is called, any number of times, and tells these faults meanwhile
+pub record Tells (told : List Outside) (d e : DeviceState) : Type 0 where
+  pub last : DeviceState
+  pub calls : StoreLater (pairs_view d) (pairs_view last)
+  pub told_is : told ≡ last.told
+  pub after : e ≡ cleared last
+
+-- a server's device tells these faults
+pub record TellsOf (q : ServerNo) (d e : DeviceState) (texts : List Text) : Type 0 where
+  pub told : List Outside
+  pub tells : Tells told d e
+  pub texts_are : texts ≡ outside_at q told
+
+-- once its power is there, which goes where the server doesn't come up
+pub record TellsRaised (q : ServerNo) (d e : DeviceState) (texts : List Text) : Type 0 where
+  pub powered : DeviceState
+  pub last : DeviceState
+  pub power : PowersUp d powered
+  pub tells : TellsOf q powered last texts
+  pub after : (e ≡ last) ⊎ (e ≡ powered_off last)
+
+-- what is told of refused faults where devices are used so: each that the device told, and a decay that isn't allowed
+abbrev pub AreToldBy : Use → Devices → Devices → List Text → Type 0
+AreToldBy (Calls q) ds es texts = TellsOf q (ds q) (es q) texts
+AreToldBy (Reads q) ds es texts = TellsOf q (ds q) (es q) texts
+AreToldBy (Recovers q) ds es texts = TellsRaised q (ds q) (es q) texts
+AreToldBy (Decays q p) ds es texts = texts ≡ told_unless (not (decay_outside ((ds q).count / 2) (ds q).pages p)) (says.Outside q (record { kind = faults.Decay p; page = p }))
+AreToldBy device ds es texts = texts ≡ []
+
+-- a step's lines of refused faults are these
+pub record TellsFaults (x : Setup) (a b : Moment) (d : DoesStep x a b) : Type 0 where
+  pub texts : List Text
+  pub told : AreToldBy (deed_of x d.chance d.task a.state).device a.devices b.devices texts
+  pub lines : outside_lines b.state.lines ≡ outside_lines a.state.lines ++ lines_at (when_of (begun d.task a.state)) texts
