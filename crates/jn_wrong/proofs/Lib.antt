@@ -9,4 +9,7 @@ pub mod Begun
 pub mod Differing
 pub mod Handed
 pub mod Left
+pub mod Filtered
 pub mod Outside
+pub mod Printed
+pub mod Shown

@@ -34,97 +34,22 @@ use Rattle.jn_written.specs.Refusals.{refusal_of}
 use Rattle.jn_written.specs.Events.{told_unless, acted, met, next_in, resting, deed_of}
 use Rattle.jn_written.specs.Steps.{outside_texts, own_texts, message_texts, traced, texts_of, lines_at, is_too_much, come_to, cut_short, done}
 use Rattle.jn_written.specs.Runs.{Moment, DoesStep}
-use Rattle.jn_written.specs.Kinds.{may_tell, is_answer, is_note, is_of_delivery, is_up, is_down, is_stopped}
+use Rattle.jn_written.specs.Kinds.{may_tell}
 use Rattle.jn_written.proofs.Ordered.{begun-lines}
-use Rattle.jn_written.proofs.Texts.{More, gone-on}
+use Rattle.jn_wrong.proofs.Filtered.{filter-both, lines-left, is_of_step, step-tells, own-filtered}
 use Rattle.jn_wrong.specs.Telling.{is_outside, outside_lines, outside_at, Tells, TellsOf, TellsRaised, AreToldBy, TellsFaults}
-
--- ---- lists
 
 abbrev no_fault : Text → Bool
 no_fault text = not (is_outside text)
 
-none-left : (texts : List Text) → list_all no_fault texts ≡ true → filter is_outside texts ≡ []
-none-left [] h = refl
-none-left (text ∷ texts) h = by (is_outside text) (first (no_fault text) (list_all no_fault texts) h) (none-left texts (second (no_fault text) (list_all no_fault texts) h))
-  where
-    first : (a b : Bool) → (a && b) ≡ true → a ≡ true
-    first a b k = grind arith
-
-    second : (a b : Bool) → (a && b) ≡ true → b ≡ true
-    second a b k = grind arith
-
-    by : (b : Bool) → not b ≡ true → filter is_outside texts ≡ [] → (if b then text ∷ filter is_outside texts else filter is_outside texts) ≡ []
-    by false k e = e
-    by true k e = absurd (clash k)
-      where
-        clash : false ≡ true → ⊥
-        clash z = cc
-
-filter-both : {A : Type 0} (test : A → Bool) (xs ys : List A) → filter test (xs ++ ys) ≡ filter test xs ++ filter test ys
-filter-both test [] ys = refl
-filter-both test (x ∷ xs) ys = by (test x) (filter-both test xs ys)
-  where
-    by : (b : Bool) → filter test (xs ++ ys) ≡ filter test xs ++ filter test ys → (if b then x ∷ filter test (xs ++ ys) else filter test (xs ++ ys)) ≡ (if b then x ∷ filter test xs else filter test xs) ++ filter test ys
-    by true e = ap (λ (zs : List _). x ∷ zs) e
-    by false e = e
-
-lines-left : (w : When) (texts : List Text) → outside_lines (lines_at w texts) ≡ lines_at w (filter is_outside texts)
-lines-left w [] = refl
-lines-left w (text ∷ texts) = by (is_outside text) (lines-left w texts)
-  where
-    one : Line
-    one = record { when = w; text = text }
-
-    by : (b : Bool) → outside_lines (lines_at w texts) ≡ lines_at w (filter is_outside texts)
-        → (if b then record { when = w; text = text } ∷ outside_lines (lines_at w texts) else outside_lines (lines_at w texts)) ≡ lines_at w (if b then text ∷ filter is_outside texts else filter is_outside texts)
-    by true e = ap (λ (ls : List Line). record { when = w; text = text } ∷ ls) e
-    by false e = e
-
--- ---- what isn't told of a fault
-
-of-answer : (text : Text) → is_answer text ≡ true → no_fault text ≡ true
-of-answer text h = grind arith
-
-of-note : (text : Text) → is_note text ≡ true → no_fault text ≡ true
-of-note text h = grind arith
-
-of-delivery : (text : Text) → is_of_delivery text ≡ true → no_fault text ≡ true
-of-delivery text h = grind arith
-
-of-stop : (text : Text) → is_stopped text ≡ true → no_fault text ≡ true
-of-stop text h = grind arith
-
-of-down : (text : Text) → is_down text ≡ true → no_fault text ≡ true
-of-down text h = grind arith
-
-of-up : (text : Text) → is_up text ≡ true → no_fault text ≡ true
-of-up text h = grind arith
-
-either : (a b c : Bool) → (a ≡ true → c ≡ true) → (b ≡ true → c ≡ true) → (a || b) ≡ true → c ≡ true
-either true b c h k e = h refl
-either false b c h k e = k e
-
 of-step : (step : Step) (text : Text) → may_tell step text ≡ true → no_fault text ≡ true
-of-step (Tell c command) text h = of-answer text h
-of-step (Deliver k room) text h = of-delivery text h
-of-step (Work s room) text h = of-note text h
-of-step (StopDelivery k room made) text h = either (is_of_delivery text) (is_stopped text) (no_fault text) (of-delivery text) (of-stop text) h
-of-step (StopWork s room made) text h = of-stop text h
-of-step (Crash s) text h = of-down text h
-of-step (StopRestart s raised) text h = of-stop text h
-of-step (Restart s pick works tids) text h = either (is_up text) (is_note text) (no_fault text) (of-up text) (of-note text) h
-of-step (CloseClients s) text h = of-note text h
-of-step step text h = absurd (clash h)
+of-step step text h = by (step-tells step text h)
   where
-    clash : false ≡ true → ⊥
-    clash z = cc
+    by : is_of_step text ≡ true → no_fault text ≡ true
+    by k = grind arith
 
 own-none : (steps : List Step) (c : Course) → filter is_outside (own_texts c.world (go_on steps c).world) ≡ []
-own-none steps c = by (gone-on no_fault of-step steps c)
-  where
-    by : More no_fault c.world (go_on steps c).world → filter is_outside (own_texts c.world (go_on steps c).world) ≡ []
-    by m = ap (λ (ls : List Text). filter is_outside (drop (length c.world.lines) ls)) m.lines ∙ ap (λ (ls : List Text). filter is_outside ls) (drop-append_seam c.world.lines m.texts) ∙ none-left m.texts m.kinds
+own-none steps c = own-filtered is_outside of-step steps c
 
 messages-none : (from : Party) (k : ℕ) (sent : List Sent) → filter is_outside (message_texts from k sent) ≡ []
 messages-none from k [] = refl
@@ -322,4 +247,4 @@ faults-told x a b d goes = record {
     by true n = absurd (n refl)
     by false n = filter-both (λ (l : Line). is_outside l.text) u.lines (lines_at (when_of u) texts)
         ∙ ap (λ (ls : List Line). outside_lines ls ++ outside_lines (lines_at (when_of u) texts)) (begun-lines d.task a.state)
-        ∙ ap (λ (ls : List Line). outside_lines a.state.lines ++ ls) (lines-left (when_of u) texts ∙ ap (λ (ts : List Text). lines_at (when_of u) ts) (faults-of x d.chance deed u.course (deed-just x d.chance d.task a.state)))
+        ∙ ap (λ (ls : List Line). outside_lines a.state.lines ++ ls) (lines-left is_outside (when_of u) texts ∙ ap (λ (ts : List Text). lines_at (when_of u) ts) (faults-of x d.chance deed u.course (deed-just x d.chance d.task a.state)))

@@ -11,9 +11,10 @@ use Rattle.jn_base.specs.declared.names.Tid.{Tid}
 use Rattle.jn_base.specs.declared.names.LockUnit.{LockUnit}
 use Rattle.jn_base.specs.declared.names.LockUnit.TheVariants.{File, Block}
 use Rattle.jn_base.specs.Names.{file_eq, block_eq}
-use Rattle.jn_base.proofs.Tells.{file_tells, block_tells}
+use Rattle.jn_base.proofs.Tells.{file_tells}
 use Rattle.jn_locks.specs.Locks as locks
 use Rattle.jn_locks.specs.Locks.{unit_eq, unit_before}
+use Rattle.jn_locks.proofs.Orders.{unit_tells}
 use Rattle.jn_protocol.specs.Steps.{are_rising, AreNames}
 use Rattle.jn_protocol.specs.Printing.{Printed, FileThere, PageStored, UnitLocked, print_unit, print_one, print_blocks, print_file, print_files, file_before}
 use Rattle.jn_written.specs.Deeds.{blocks_from}
@@ -97,7 +98,214 @@ prints-right : (u : LockUnit) (xs ys : List Printed) → prints_unit u ys ≡ tr
 prints-right u [] ys h = h
 prints-right u (x ∷ xs) ys h = right (unit_eq (unit_printed x) u) (prints_unit u (xs ++ ys)) (prints-right u xs ys h)
 
--- ---- what is printed of each unit is of that unit
+-- ---- what there is to print
 
-pub IsOfUnit : (LockUnit → Option Printed) → Type 0
-IsOfUnit there = (u : LockUnit) (y : Printed) → there u ≡ Some y → unit_printed y ≡ u
+module _ (there : LockUnit → Option Printed) (of-unit : (u : LockUnit) (y : Printed) → there u ≡ Some y → unit_printed y ≡ u) where
+  is-there : (u : LockUnit) (y : Printed) → there u ≡ Some y → there (unit_printed y) ≡ Some y
+  is-there u y e = ap there (of-unit u y e) ∙ e
+
+  same-unit : (u : LockUnit) → unit_eq u u ≡ true
+  same-unit u = by (unit_tells u u)
+    where
+      by : ((unit_eq u u ≡ true) × (u ≡ u)) ⊎ ((unit_eq u u ≡ false) × (u ≢ u)) → unit_eq u u ≡ true
+      by (inl t) = t.0
+      by (inr t) = absurd (t.1 refl)
+
+  prints-it : (u : LockUnit) (y : Printed) (more : List Printed) → there u ≡ Some y → prints_unit u (y ∷ more) ≡ true
+  prints-it u y more e = left (unit_eq (unit_printed y) u) (prints_unit u more) (ap (λ (v : LockUnit). unit_eq v u) (of-unit u y e) ∙ same-unit u)
+
+  -- ---- blocks
+
+  module _ (f : FileNo) where
+    abbrev its : ℕ → ℕ → List Printed
+    its k n = print_blocks there f (blocks_from k n)
+
+    abbrev with_one : Option Printed → List Printed → List Printed
+    with_one o more = print_one o ++ more
+
+    blocks-behind : (u : LockUnit) (k n : ℕ) → ((p : BlockNo) → k ≤ p.0 → unit_before u (Block f p) ≡ true) → are_behind u (its k n) ≡ true
+    blocks-behind u k zero h = refl
+    blocks-behind u k (suc n) h = by (there (Block f (record { 0 = k }))) refl (blocks-behind u (k + 1) n (λ p l. h p (omega (arith, l))))
+      where
+        by : (o : Option Printed) → there (Block f (record { 0 = k })) ≡ o → are_behind u (its (k + 1) n) ≡ true → are_behind u (with_one o (its (k + 1) n)) ≡ true
+        by None e again = again
+        by (Some y) e again = both (unit_before u (unit_printed y)) (are_behind u (its (k + 1) n)) (ap (λ (v : LockUnit). unit_before u v) (of-unit (Block f (record { 0 = k })) y e) ∙ h (record { 0 = k }) (omega arith)) again
+
+    blocks-risen : (k n : ℕ) → are_risen (its k n) ≡ true
+    blocks-risen k zero = refl
+    blocks-risen k (suc n) = by (there (Block f (record { 0 = k }))) refl (blocks-risen (k + 1) n)
+      where
+        here : BlockNo
+        here = record { 0 = k }
+
+        less : (p : BlockNo) → k + 1 ≤ p.0 → nat_lt k p.0 ≡ true
+        less p l = grind (arith, nat_tests, l)
+
+        by : (o : Option Printed) → there (Block f (record { 0 = k })) ≡ o → are_risen (its (k + 1) n) ≡ true → are_risen (with_one o (its (k + 1) n)) ≡ true
+        by None e again = again
+        by (Some y) e again = both (are_behind (unit_printed y) (its (k + 1) n)) (are_risen (its (k + 1) n))
+            (ap (λ (v : LockUnit). are_behind v (its (k + 1) n)) (of-unit (Block f (record { 0 = k })) y e) ∙ blocks-behind (Block f (record { 0 = k })) (k + 1) n (λ p l. block-first f (record { 0 = k }) p (less p l))) again
+
+    blocks-there : (ps : List BlockNo) → AreThere there (print_blocks there f ps)
+    blocks-there [] = tt
+    blocks-there (p ∷ ps) = by (there (Block f p)) refl (blocks-there ps)
+      where
+        by : (o : Option Printed) → there (Block f p) ≡ o → AreThere there (print_blocks there f ps) → AreThere there (with_one o (print_blocks there f ps))
+        by None e again = again
+        by (Some y) e again = (is-there (Block f p) y e, again)
+
+    blocks-before : (ps : List BlockNo) (ys : List Printed) → ((u : LockUnit) → file_in u ≡ f → are_behind u ys ≡ true) → AllBefore (print_blocks there f ps) ys
+    blocks-before [] ys h = tt
+    blocks-before (p ∷ ps) ys h = by (there (Block f p)) refl (blocks-before ps ys h)
+      where
+        by : (o : Option Printed) → there (Block f p) ≡ o → AllBefore (print_blocks there f ps) ys → AllBefore (with_one o (print_blocks there f ps)) ys
+        by None e again = again
+        by (Some y) e again = (h (unit_printed y) (ap file_in (of-unit (Block f p) y e)), again)
+
+    blocks-printed : (p : BlockNo) (k n : ℕ) → k ≤ p.0 → p.0 < k + n → is_some (there (Block f p)) ≡ true → prints_unit (Block f p) (its k n) ≡ true
+    blocks-printed p k zero l m s = absurd (omega (arith, l, m))
+    blocks-printed p k (suc n) l m s = by (nat_eq k p.0) refl (λ j. blocks-printed p (k + 1) n j (omega (arith, m)) s)
+      where
+        there-so : (o : Option Printed) → there (Block f p) ≡ o → is_some o ≡ true → prints_unit (Block f p) (with_one o (its (k + 1) n)) ≡ true
+        there-so None e z = absurd (clash z)
+          where
+            clash : false ≡ true → ⊥
+            clash y = cc
+        there-so (Some y) e z = prints-it (Block f p) y (its (k + 1) n) e
+
+        same : k ≡ p.0 → prints_unit (Block f p) (with_one (there (Block f (record { 0 = k }))) (its (k + 1) n)) ≡ true
+        same e = subst (λ (i : ℕ). prints_unit (Block f p) (with_one (there (Block f (record { 0 = i }))) (its (k + 1) n)) ≡ true) (sym e) (there-so (there (Block f p)) refl s)
+
+        by : (b : Bool) → nat_eq k p.0 ≡ b → (k + 1 ≤ p.0 → prints_unit (Block f p) (its (k + 1) n) ≡ true) → prints_unit (Block f p) (with_one (there (Block f (record { 0 = k }))) (its (k + 1) n)) ≡ true
+        by true e again = same (equal k p.0 e)
+          where
+            equal : (i j : ℕ) → nat_eq i j ≡ true → i ≡ j
+            equal i j z = grind (arith, nat_tests, z)
+        by false e again = prints-right (Block f p) (print_one (there (Block f (record { 0 = k })))) (its (k + 1) n) (again (greater k p.0 e l))
+          where
+            greater : (i j : ℕ) → nat_eq i j ≡ false → i ≤ j → i + 1 ≤ j
+            greater i j z y = grind (arith, nat_tests, z, y)
+
+  -- ---- files
+
+  module _ (n : ℕ) where
+    abbrev one : FileNo → List Printed
+    one f = print_file (there (File f)) (print_blocks there f (blocks_from 0 n))
+
+    abbrev all : List FileNo → List Printed
+    all fs = print_files there (λ f. blocks_from 0 n) fs
+
+    file-risen : (f : FileNo) → are_risen (one f) ≡ true
+    file-risen f = by (there (File f)) refl
+      where
+        by : (o : Option Printed) → there (File f) ≡ o → are_risen (print_file o (its f 0 n)) ≡ true
+        by None e = refl
+        by (Some (FileThere g)) e = both (are_behind (File g) (its f 0 n)) (are_risen (its f 0 n))
+            (ap (λ (u : LockUnit). are_behind u (its f 0 n)) (of-unit (File f) (FileThere g) e) ∙ blocks-behind f (File f) 0 n (λ p l. file-first f p)) (blocks-risen f 0 n)
+        by (Some (PageStored g p bytes)) e = refl
+        by (Some (UnitLocked u T)) e = refl
+
+    file-there : (f : FileNo) → AreThere there (one f)
+    file-there f = by (there (File f)) refl
+      where
+        by : (o : Option Printed) → there (File f) ≡ o → AreThere there (print_file o (its f 0 n))
+        by None e = tt
+        by (Some (FileThere g)) e = (is-there (File f) (FileThere g) e, blocks-there f (blocks_from 0 n))
+        by (Some (PageStored g p bytes)) e = (is-there (File f) (PageStored g p bytes) e, tt)
+        by (Some (UnitLocked u T)) e = (is-there (File f) (UnitLocked u T) e, tt)
+
+    file-behind : (u : LockUnit) (f : FileNo) → nat_lt (file_in u).0 f.0 ≡ true → are_behind u (one f) ≡ true
+    file-behind u f h = by (there (File f)) refl
+      where
+        of-file : (v : LockUnit) → v ≡ File f → unit_before u v ≡ true
+        of-file v e = earlier-file u v (ap (λ (w : LockUnit). nat_lt (file_in u).0 (file_in w).0) e ∙ h)
+
+        by : (o : Option Printed) → there (File f) ≡ o → are_behind u (print_file o (its f 0 n)) ≡ true
+        by None e = refl
+        by (Some (FileThere g)) e = both (unit_before u (File g)) (are_behind u (its f 0 n)) (of-file (File g) (of-unit (File f) (FileThere g) e)) (blocks-behind f u 0 n (λ p l. earlier-file u (Block f p) h))
+        by (Some (PageStored g p bytes)) e = both (unit_before u (Block g p)) true (of-file (Block g p) (of-unit (File f) (PageStored g p bytes) e)) refl
+        by (Some (UnitLocked v T)) e = both (unit_before u v) true (of-file v (of-unit (File f) (UnitLocked v T) e)) refl
+
+    file-before-all : (f : FileNo) (ys : List Printed) → ((u : LockUnit) → file_in u ≡ f → are_behind u ys ≡ true) → AllBefore (one f) ys
+    file-before-all f ys h = by (there (File f)) refl
+      where
+        by : (o : Option Printed) → there (File f) ≡ o → AllBefore (print_file o (its f 0 n)) ys
+        by None e = tt
+        by (Some (FileThere g)) e = (h (File g) (ap file_in (of-unit (File f) (FileThere g) e)), blocks-before f (blocks_from 0 n) ys h)
+        by (Some (PageStored g p bytes)) e = (h (Block g p) (ap file_in (of-unit (File f) (PageStored g p bytes) e)), tt)
+        by (Some (UnitLocked u T)) e = (h u (ap file_in (of-unit (File f) (UnitLocked u T) e)), tt)
+
+    files-behind : (u : LockUnit) (fs : List FileNo) → list_all (λ (g : FileNo). nat_lt (file_in u).0 g.0) fs ≡ true → are_behind u (all fs) ≡ true
+    files-behind u [] h = refl
+    files-behind u (f ∷ fs) h = behind-both u (one f) (all fs) (file-behind u f (first (nat_lt (file_in u).0 f.0) (list_all (λ (g : FileNo). nat_lt (file_in u).0 g.0) fs) h))
+        (files-behind u fs (second (nat_lt (file_in u).0 f.0) (list_all (λ (g : FileNo). nat_lt (file_in u).0 g.0) fs) h))
+
+    files-risen : (fs : List FileNo) → are_rising file_before fs ≡ true → are_risen (all fs) ≡ true
+    files-risen [] h = refl
+    files-risen (f ∷ fs) h = risen-both (one f) (all fs) (file-risen f) (files-risen fs (second (list_all (λ (g : FileNo). file_before f g) fs) (are_rising file_before fs) h))
+        (file-before-all f (all fs) (λ u e. files-behind u fs (ap (λ (e : FileNo). list_all (λ (g : FileNo). nat_lt e.0 g.0) fs) e ∙ first (list_all (λ (g : FileNo). file_before f g) fs) (are_rising file_before fs) h)))
+
+    files-there : (fs : List FileNo) → AreThere there (all fs)
+    files-there [] = tt
+    files-there (f ∷ fs) = there-both there (one f) (all fs) (file-there f) (files-there fs)
+
+    -- whatever is printed of a file is printed of all
+    among : (u : LockUnit) (f : FileNo) → prints_unit u (one f) ≡ true → (fs : List FileNo) → list_any (λ (g : FileNo). file_eq g f) fs ≡ true → prints_unit u (all fs) ≡ true
+    among u f h [] k = absurd (clash k)
+      where
+        clash : false ≡ true → ⊥
+        clash z = cc
+    among u f h (g ∷ fs) k = by (file_tells g f) k (among u f h fs)
+      where
+        by : ((file_eq g f ≡ true) × (g ≡ f)) ⊎ ((file_eq g f ≡ false) × (g ≢ f)) → (file_eq g f || list_any (λ (g : FileNo). file_eq g f) fs) ≡ true
+            → (list_any (λ (g : FileNo). file_eq g f) fs ≡ true → prints_unit u (all fs) ≡ true) → prints_unit u (one g ++ all fs) ≡ true
+        by (inl t) z again = prints-left u (one g) (all fs) (ap (λ (e : FileNo). prints_unit u (one e)) t.1 ∙ h)
+        by (inr t) z again = prints-right u (one g) (all fs) (again (ap (λ (b : Bool). b || list_any (λ (g : FileNo). file_eq g f) fs) (sym t.0) ∙ z))
+
+    file-printed : (f : FileNo) → is_some (there (File f)) ≡ true → prints_unit (File f) (one f) ≡ true
+    file-printed f h = by (there (File f)) refl h
+      where
+        by : (o : Option Printed) → there (File f) ≡ o → is_some o ≡ true → prints_unit (File f) (print_file o (its f 0 n)) ≡ true
+        by None e z = absurd (clash z)
+          where
+            clash : false ≡ true → ⊥
+            clash y = cc
+        by (Some (FileThere g)) e z = prints-it (File f) (FileThere g) (its f 0 n) e
+        by (Some (PageStored g p bytes)) e z = prints-it (File f) (PageStored g p bytes) [] e
+        by (Some (UnitLocked u T)) e z = prints-it (File f) (UnitLocked u T) [] e
+
+    block-printed : (f : FileNo) (p : BlockNo) → p.0 < n → there (File f) ≡ Some (FileThere f) → is_some (there (Block f p)) ≡ true → prints_unit (Block f p) (one f) ≡ true
+    block-printed f p l e h = ap (λ (o : Option Printed). prints_unit (Block f p) (print_file o (its f 0 n))) e
+        ∙ prints-right (Block f p) (FileThere f ∷ []) (its f 0 n) (blocks-printed f p 0 n (omega arith) (omega (arith, l)) h)
+
+    pub all-printed : (fs : List FileNo) → AreNames file_eq file_before (λ f. there (File f)) fs → PrintsAll n there (all fs)
+    all-printed fs names = record {
+      rising = files-risen fs names.rising;
+      each = files-there fs;
+      files = λ f h. among (File f) f (file-printed f h) fs (names.each f ∙ h);
+      blocks = λ f p l e h. among (Block f p) f (block-printed f p l e h) fs (names.each f ∙ ap is_some e);
+    }
+
+-- ---- a server's files
+
+pub unit-of : (u : LockUnit) (held : Option Tid) (content : Option (List ℕ)) (y : Printed) → print_unit u held content ≡ Some y → unit_printed y ≡ u
+unit-of u (Some T) content y e = ap unit_printed (sym (some e))
+  where
+    some : Some (UnitLocked u T) ≡ Some y → UnitLocked u T ≡ y
+    some k = cc
+unit-of (File f) None (Some content) y e = ap unit_printed (sym (some e))
+  where
+    some : Some (FileThere f) ≡ Some y → FileThere f ≡ y
+    some k = cc
+unit-of (Block f p) None (Some bytes) y e = ap unit_printed (sym (some e))
+  where
+    some : Some (PageStored f p bytes) ≡ Some y → PageStored f p bytes ≡ y
+    some k = cc
+unit-of (File f) None None y e = absurd (no' e)
+  where
+    no' : None ≡ Some y → ⊥
+    no' k = cc
+unit-of (Block f p) None None y e = absurd (no' e)
+  where
+    no' : None ≡ Some y → ⊥
+    no' k = cc

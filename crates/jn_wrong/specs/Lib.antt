@@ -4,3 +4,4 @@ pub mod Others
 pub mod Still
 pub mod Settles
 pub mod Telling
+pub mod Showing

@@ -16,7 +16,7 @@ pub use new::{
     reports_are_the_only_ones,
 };
 pub use settling::{a_message_is_handed_over_once, a_settle_leaves_nothing_to_do};
-pub use telling::{each_refused_fault_is_told};
+pub use telling::{a_show_prints_what_is_there_once, each_refused_fault_is_told};
 
 /// An answer stands under an event before its command's.
 pub fn an_answer_before_its_command_is_none()

@@ -1,0 +1,97 @@
+-- The lines of one kind among those that a step tells.
+use Rattle.std.proofs.Common.{◌≡◌, ℕ, Bool, true, false, List, [], ◌∷◌, ◌++◌, length, drop, refl, ◌∙◌, ap, arith}
+use Rattle.std.specs.Prelude.{◌||◌, ◌&&◌, not, filter, if◌then◌else◌}
+use Rattle.std.specs.List.{list_all}
+use Rattle.std.proofs.Math.Seq.{drop-append_seam}
+use Rattle.jn_report.specs.declared.line.When.{When}
+use Rattle.jn_report.specs.declared.line.Text.{Text}
+use Rattle.jn_report.specs.declared.line.Line.{Line}
+use Rattle.jn_protocol.specs.Steps.{Step, Tell, Deliver, Work, StopDelivery, StopWork, Crash, StopRestart, Restart, CloseClients}
+use Rattle.jn_settling.specs.Course.{Course, go_on}
+use Rattle.jn_written.specs.Steps.{own_texts, lines_at}
+use Rattle.jn_written.specs.Kinds.{may_tell, is_answer, is_note, is_of_delivery, is_up, is_down, is_stopped}
+use Rattle.jn_written.proofs.Texts.{More, gone-on}
+
+pub filter-both : {A : Type 0} (test : A → Bool) (xs ys : List A) → filter test (xs ++ ys) ≡ filter test xs ++ filter test ys
+filter-both test [] ys = refl
+filter-both test (x ∷ xs) ys = by (test x) (filter-both test xs ys)
+  where
+    by : (b : Bool) → filter test (xs ++ ys) ≡ filter test xs ++ filter test ys → (if b then x ∷ filter test (xs ++ ys) else filter test (xs ++ ys)) ≡ (if b then x ∷ filter test xs else filter test xs) ++ filter test ys
+    by true e = ap (λ (zs : List _). x ∷ zs) e
+    by false e = e
+
+module _ (test : Text → Bool) where
+  pub lines-left : (w : When) (texts : List Text) → filter (λ (l : Line). test l.text) (lines_at w texts) ≡ lines_at w (filter test texts)
+  lines-left w [] = refl
+  lines-left w (text ∷ texts) = by (test text) (lines-left w texts)
+    where
+      by : (b : Bool) → filter (λ (l : Line). test l.text) (lines_at w texts) ≡ lines_at w (filter test texts)
+          → (if b then record { when = w; text = text } ∷ filter (λ (l : Line). test l.text) (lines_at w texts) else filter (λ (l : Line). test l.text) (lines_at w texts)) ≡ lines_at w (if b then text ∷ filter test texts else filter test texts)
+      by true e = ap (λ (ls : List Line). record { when = w; text = text } ∷ ls) e
+      by false e = e
+
+  pub none-left : (texts : List Text) → list_all (λ (text : Text). not (test text)) texts ≡ true → filter test texts ≡ []
+  none-left [] h = refl
+  none-left (text ∷ texts) h = by (test text) (first (not (test text)) (list_all (λ (text : Text). not (test text)) texts) h) (none-left texts (second (not (test text)) (list_all (λ (text : Text). not (test text)) texts) h))
+    where
+      first : (a b : Bool) → (a && b) ≡ true → a ≡ true
+      first a b k = grind arith
+
+      second : (a b : Bool) → (a && b) ≡ true → b ≡ true
+      second a b k = grind arith
+
+      by : (b : Bool) → not b ≡ true → filter test texts ≡ [] → (if b then text ∷ filter test texts else filter test texts) ≡ []
+      by false k e = e
+      by true k e = absurd (clash k)
+        where
+          clash : false ≡ true → ⊥
+          clash z = cc
+
+  -- of what the steps of the system tell none is of a kind that no step tells
+  pub own-filtered : ((step : Step) (text : Text) → may_tell step text ≡ true → not (test text) ≡ true) → (steps : List Step) (c : Course) → filter test (own_texts c.world (go_on steps c).world) ≡ []
+  own-filtered system steps c = by (gone-on (λ (text : Text). not (test text)) system steps c)
+    where
+      by : More (λ (text : Text). not (test text)) c.world (go_on steps c).world → filter test (own_texts c.world (go_on steps c).world) ≡ []
+      by m = ap (λ (ls : List Text). filter test (drop (length c.world.lines) ls)) m.lines ∙ ap (λ (ls : List Text). filter test ls) (drop-append_seam c.world.lines m.texts) ∙ none-left m.texts m.kinds
+
+-- ---- what steps of the system tell
+
+abbrev pub is_of_step : Text → Bool
+is_of_step text = is_of_delivery text || (is_up text || (is_down text || is_stopped text))
+
+of-note : (text : Text) → is_note text ≡ true → is_of_step text ≡ true
+of-note text h = grind arith
+
+of-answer : (text : Text) → is_answer text ≡ true → is_of_step text ≡ true
+of-answer text h = grind arith
+
+of-delivery : (text : Text) → is_of_delivery text ≡ true → is_of_step text ≡ true
+of-delivery text h = grind arith
+
+of-stop : (text : Text) → is_stopped text ≡ true → is_of_step text ≡ true
+of-stop text h = grind arith
+
+of-down : (text : Text) → is_down text ≡ true → is_of_step text ≡ true
+of-down text h = grind arith
+
+of-up : (text : Text) → is_up text ≡ true → is_of_step text ≡ true
+of-up text h = grind arith
+
+either : (a b c : Bool) → (a ≡ true → c ≡ true) → (b ≡ true → c ≡ true) → (a || b) ≡ true → c ≡ true
+either true b c h k e = h refl
+either false b c h k e = k e
+
+pub step-tells : (step : Step) (text : Text) → may_tell step text ≡ true → is_of_step text ≡ true
+step-tells (Tell c command) text h = of-answer text h
+step-tells (Deliver k room) text h = of-delivery text h
+step-tells (Work s room) text h = of-note text h
+step-tells (StopDelivery k room made) text h = either (is_of_delivery text) (is_stopped text) (is_of_step text) (of-delivery text) (of-stop text) h
+step-tells (StopWork s room made) text h = of-stop text h
+step-tells (Crash s) text h = of-down text h
+step-tells (StopRestart s raised) text h = of-stop text h
+step-tells (Restart s pick works tids) text h = either (is_up text) (is_note text) (is_of_step text) (of-up text) (of-note text) h
+step-tells (CloseClients s) text h = of-note text h
+step-tells step text h = absurd (clash h)
+  where
+    clash : false ≡ true → ⊥
+    clash z = cc
