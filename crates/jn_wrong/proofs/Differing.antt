@@ -1,6 +1,6 @@
 -- Reports that differ from the only one.
 use Rattle.std.proofs.Common.{◌≡◌, ℕ, Bool, true, false, List, length, Option, Some, None, refl, sym, ◌∙◌, ap}
-use Rattle.std.specs.Prelude.{nat_eq, slice_get}
+use Rattle.std.specs.Prelude.{◌&&◌, nat_eq, slice_get}
 use Rattle.std.specs.List.{list_any}
 use Rattle.jn_order.specs.Files.{zeros}
 use Rattle.jn_schedule.specs.declared.Event.{Event}
@@ -15,7 +15,7 @@ use Rattle.jn_written.specs.Examples.{block_of}
 use Rattle.jn_wrong.specs.Still.{IsOnly, IsNoneOfNew}
 use Rattle.jn_wrong.specs.Wrong.{begins, begun_report}
 use Rattle.jn_wrong.specs.Reports.{traced_report, settles_twice, settled_report, two_begin, two_report, reads_and_aborts, read_report, opens_other, opened_report, shows_unmade, shown_report, begins_and_aborts, aborted_report}
-use Rattle.jn_wrong.specs.Others.{nothing_answered, refused_by_client, refused_as_event, with_another, ended_with_another, commit_of_nobody, answered_later, one_for_two, aborted_for_another, committed_for_another, opened_another, read_otherwise, show_tells, messages_swapped, thanked_too_soon}
+use Rattle.jn_wrong.specs.Others.{nothing_answered, refused_by_client, refused_as_event, with_another, ended_with_another, commit_of_nobody, answered_later, one_for_two, aborted_for_another, committed_for_another, opened_another, answered_at_once, epoch_skipped, downs_swapped, ups_swapped, read_otherwise, show_tells, messages_swapped, thanked_too_soon}
 use Rattle.jn_wrong.proofs.Exact.{differs}
 use Rattle.jn_wrong.proofs.Begun.{begun-only, traced-only, settled-only, two-only, read-only, opened-only, shown-only, aborted-only}
 
@@ -71,6 +71,14 @@ abbrev says_at : (Text → Bool) → Option Line → Bool
 says_at test None = false
 says_at test (Some l) = test l.text
 
+abbrev goes_down : ℕ → Text → Bool
+goes_down k (says.Down q) = nat_eq q.0 k
+goes_down k text = false
+
+abbrev comes_up : ℕ → ℕ → Text → Bool
+comes_up k epoch (says.Up q now) = nat_eq q.0 k && nat_eq now epoch
+comes_up k epoch text = false
+
 -- ---- a client begins
 
 pub unanswered : IsNoneOfNew 1 false begins nothing_answered
@@ -94,6 +102,12 @@ nobodys-commit = by-test 1 false begins begun_report commit_of_nobody begun-only
 pub later : IsNoneOfNew 1 false settles_twice answered_later
 later = by-test 1 false settles_twice settled_report answered_later settled-only (λ lines. list_any (λ (l : Line). is_at 2 l.when) lines) refl refl
 
+pub at-once : IsNoneOfNew 1 false begins answered_at_once
+at-once = by-test 1 false begins begun_report answered_at_once begun-only (λ lines. list_any (λ (l : Line). is_at 2 l.when) lines) refl refl
+
+pub skipped : IsNoneOfNew 1 false begins epoch_skipped
+skipped = by-test 1 false begins begun_report epoch_skipped begun-only (some_text (comes_up 0 2)) refl refl
+
 -- ---- two clients
 
 pub for-two : IsNoneOfNew 1 false two_begin one_for_two
@@ -109,6 +123,12 @@ committed-another = by-test 1 false two_begin two_report committed_for_another t
 
 pub other-server : IsNoneOfNew 2 false opens_other opened_another
 other-server = by-test 2 false opens_other opened_report opened_another opened-only (some_text (opens_at 1)) refl refl
+
+pub other-downs : IsNoneOfNew 2 false opens_other downs_swapped
+other-downs = by-test 2 false opens_other opened_report downs_swapped opened-only (λ lines. says_at (goes_down 0) (slice_get lines 4)) refl refl
+
+pub other-ups : IsNoneOfNew 2 false opens_other ups_swapped
+other-ups = by-test 2 false opens_other opened_report ups_swapped opened-only (λ lines. says_at (comes_up 0 2) (slice_get lines 6)) refl refl
 
 pub other-bytes : IsNoneOfNew 1 false reads_and_aborts read_otherwise
 unfolding zeros block_of

@@ -13,3 +13,7 @@ pub mod Filtered
 pub mod Outside
 pub mod Printed
 pub mod Shown
+pub mod ShortRows
+pub mod ShortWorks
+pub mod ShortSteps
+pub mod Short

@@ -5,3 +5,4 @@ pub mod Still
 pub mod Settles
 pub mod Telling
 pub mod Showing
+pub mod Wanting

@@ -50,6 +50,14 @@ commit_of_nobody = up ∷ begun ∷ line 2 (says.Commit nobodys) ∷ at_end (say
 abbrev pub answered_later : List Line
 answered_later = up ∷ line 3 (says.Begun c1 1 (tid s0 0)) ∷ the_end
 
+-- the answer stands at the command's own event, before anything settles
+abbrev pub answered_at_once : List Line
+answered_at_once = up ∷ line 1 (says.Begun c1 1 (tid s0 0)) ∷ the_end
+
+-- the end's restart skips an epoch
+abbrev pub epoch_skipped : List Line
+epoch_skipped = up ∷ begun ∷ at_end (says.Down s0) ∷ at_end (says.Up s0 3) ∷ at_end (says.Commits 0) ∷ []
+
 -- ---- two clients begin, and one aborts
 
 abbrev pub two_and : Line → Line → List Line
@@ -74,6 +82,18 @@ committed_for_another = up ∷ begun ∷ second ∷ line 6 (says.Commit (tid s0 
 abbrev pub opened_another : List Line
 opened_another = up ∷ line 0 (says.Up s1 1) ∷ begun ∷ line 4 (says.Opened c1 3 s0)
     ∷ at_end (says.Down s0) ∷ at_end (says.Down s1) ∷ at_end (says.Up s0 2) ∷ at_end (says.Up s1 2) ∷ at_end (says.Commits 0) ∷ []
+
+-- at the end they go down, or come up, in another order
+abbrev opened : Line
+opened = line 4 (says.Opened c1 3 s1)
+
+abbrev pub downs_swapped : List Line
+downs_swapped = up ∷ line 0 (says.Up s1 1) ∷ begun ∷ opened
+    ∷ at_end (says.Down s1) ∷ at_end (says.Down s0) ∷ at_end (says.Up s0 2) ∷ at_end (says.Up s1 2) ∷ at_end (says.Commits 0) ∷ []
+
+abbrev pub ups_swapped : List Line
+ups_swapped = up ∷ line 0 (says.Up s1 1) ∷ begun ∷ opened
+    ∷ at_end (says.Down s0) ∷ at_end (says.Down s1) ∷ at_end (says.Up s1 2) ∷ at_end (says.Up s0 2) ∷ at_end (says.Commits 0) ∷ []
 
 -- ---- a file is made, and a block of it read
 

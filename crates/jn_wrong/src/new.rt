@@ -8,7 +8,7 @@ ghost use Rattle.jn_report.specs.declared.line.Text.TheVariants.{RefusedEvent};
 ghost use Rattle.jn_wrong.specs.Still.{IsOnly, IsNoneOfNew};
 ghost use Rattle.jn_wrong.specs.Wrong.{begins, begun_report};
 ghost use Rattle.jn_wrong.specs.Reports.{traced_report, settles_twice, settled_report, two_begin, two_report, reads_and_aborts, read_report, opens_other, opened_report, shows_unmade, shown_report, begins_and_aborts, aborted_report};
-ghost use Rattle.jn_wrong.specs.Others.{nothing_answered, refused_by_client, refused_as_event, with_another, ended_with_another, commit_of_nobody, answered_later, one_for_two, aborted_for_another, committed_for_another, opened_another, read_otherwise, show_tells, messages_swapped, thanked_too_soon};
+ghost use Rattle.jn_wrong.specs.Others.{nothing_answered, refused_by_client, refused_as_event, with_another, ended_with_another, commit_of_nobody, answered_later, one_for_two, aborted_for_another, committed_for_another, opened_another, answered_at_once, epoch_skipped, downs_swapped, ups_swapped, read_otherwise, show_tells, messages_swapped, thanked_too_soon};
 
 /// From new images each whole run of these schedules tells exactly this, whatever befalls it.
 pub fn reports_are_the_only_ones()
@@ -73,4 +73,20 @@ pub fn a_settle_that_leaves_a_message_is_none()
 pub fn messages_out_of_place_are_none()
     ensures swapped { IsNoneOfNew 1 true begins messages_swapped }
     ensures too_soon { IsNoneOfNew 1 true begins_and_aborts thanked_too_soon }
+{}
+
+/// An answer stands at its command's own event, before anything is handed over.
+pub fn an_answer_before_a_settle_is_none()
+    ensures { IsNoneOfNew 1 false begins answered_at_once }
+{}
+
+/// A server comes up in another epoch than the next one.
+pub fn a_skipped_epoch_is_none()
+    ensures { IsNoneOfNew 1 false begins epoch_skipped }
+{}
+
+/// At the end the servers go down, or come up, in another order.
+pub fn an_end_in_another_order_is_none()
+    ensures down { IsNoneOfNew 2 false opens_other downs_swapped }
+    ensures up { IsNoneOfNew 2 false opens_other ups_swapped }
 {}
