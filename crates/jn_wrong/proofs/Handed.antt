@@ -1,5 +1,5 @@
 -- A message that a settle hands over waits no more, so that no settle hands it over again.
-use Rattle.std.proofs.Common.{◌≡◌, ◌≤◌, ◌<◌, ℕ, zero, suc, ◌+◌, Bool, true, false, List, [], ◌∷◌, ◌++◌, length, length-append, drop, Option, Some, None, refl, sym, ◌∙◌, ap, subst, arith}
+use Rattle.std.proofs.Common.{◌≡◌, ◌<◌, ℕ, ◌+◌, Bool, true, false, List, [], ◌∷◌, ◌++◌, length, length-append, drop, Option, Some, None, refl, sym, ◌∙◌, ap, subst, arith}
 use Rattle.std.specs.Prelude.{◌&&◌, not, nat_eq, nat_lt, if◌then◌else◌, slice_get}
 use Rattle.std.proofs.Math.Seq.{drop-append_seam}
 use Rattle.std.proofs.lemmas.Bool.Decides.{nat_tests}
@@ -21,9 +21,9 @@ use Rattle.jn_settling.proofs.Parts.{get-some}
 use Rattle.jn_written.specs.Chances.{Setup, Chance}
 use Rattle.jn_written.specs.Tasks.{Task, Begins, Meets, Acts, Rests, ComesUp, Dismisses, GoesDown, ClosesClients, CountsCommits, Stage, CutShort, State, next_at, next_task, begun}
 use Rattle.jn_written.specs.Deeds.{Deed, room, no_room, delivered, delivered_at}
-use Rattle.jn_written.specs.Events.{servers_of, first_busy, next_event, next_in, acted, resting, deed_of}
+use Rattle.jn_written.specs.Events.{servers_of, first_busy, next_event, next_in, resting, deed_of}
 use Rattle.jn_written.specs.Steps.{is_too_much, come_to, cut_short, made, done}
-use Rattle.jn_written.specs.Runs.{none, more, MayStep, MayLead}
+use Rattle.jn_written.specs.Runs.{none, more, MayLead}
 use Rattle.jn_written.specs.Whole.{before}
 use Rattle.jn_wrong.specs.Settles.{HandsOver}
 

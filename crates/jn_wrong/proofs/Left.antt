@@ -1,16 +1,15 @@
 -- A settle is over only where nothing is left to do.
-use Rattle.std.proofs.Common.{◌≡◌, ◌≢◌, ◌⊎◌, inl, inr, ℕ, suc, ◌+◌, ◌<◌, Bool, true, false, List, [], ◌∷◌, ◌++◌, append_assoc, length, length-append, drop, Option, Some, None, refl, sym, ◌∙◌, ap, subst, arith}
+use Rattle.std.proofs.Common.{◌≡◌, ◌≢◌, ℕ, suc, ◌+◌, Bool, true, false, List, [], ◌∷◌, ◌++◌, append_assoc, length, length-append, drop, Option, Some, None, refl, sym, ◌∙◌, ap, subst, arith}
 use Rattle.std.specs.Prelude.{if◌then◌else◌}
 use Rattle.jn_base.specs.declared.names.ServerNo.{ServerNo}
 use Rattle.jn_schedule.specs.declared.Event.{Event}
 use Rattle.jn_schedule.specs.declared.Event.TheVariants as events
-use Rattle.jn_protocol.specs.World.{World}
 use Rattle.jn_settling.specs.Course.{Course, go_on}
 use Rattle.jn_written.specs.Chances.{Setup, Chance}
-use Rattle.jn_written.specs.Tasks.{Task, Begins, Meets, Acts, Rests, ComesUp, Dismisses, GoesDown, ClosesClients, CountsCommits, Stage, InSchedule, AtEnd, CutShort, State, next_at, next_task, begun}
-use Rattle.jn_written.specs.Deeds.{Deed, nothing, leaves, is_busy}
-use Rattle.jn_written.specs.Devices.{Devices, Befalls, rubbish_on}
-use Rattle.jn_written.specs.Events.{servers_of, asking, settling, first_busy, next_event, next_in, resting, deed_of}
+use Rattle.jn_written.specs.Tasks.{Task, Begins, Meets, Acts, Rests, ComesUp, Dismisses, GoesDown, ClosesClients, CountsCommits, Stage, InSchedule, AtEnd, CutShort, State, next_at, begun}
+use Rattle.jn_written.specs.Deeds.{Deed, nothing, is_busy}
+use Rattle.jn_written.specs.Devices.{Befalls, rubbish_on}
+use Rattle.jn_written.specs.Events.{asking, settling, next_in, resting, deed_of}
 use Rattle.jn_written.specs.Steps.{is_too_much, come_to, cut_short, done}
 use Rattle.jn_written.specs.Runs.{none, more, Moment, DoesStep, Leads}
 use Rattle.jn_written.specs.Wrong.{IsAtRest}

@@ -13,6 +13,8 @@ pub mod Filtered
 pub mod Outside
 pub mod Printed
 pub mod Shown
+pub mod Turns
+pub mod Numbers
 pub mod ShortRows
 pub mod ShortWorks
 pub mod ShortSteps

@@ -1,5 +1,5 @@
 -- In any run, each abort that is told for want of room was short of it at a step.
-use Rattle.std.proofs.Common.{◌≡◌, ◌≢◌, ℕ, zero, suc, ◌+◌, Bool, true, false, List, [], ◌∷◌, ◌++◌, map, length, drop, Option, Some, None, refl, sym, ◌∙◌, ap, subst, arith}
+use Rattle.std.proofs.Common.{◌≡◌, ℕ, zero, suc, ◌+◌, Bool, true, false, List, [], ◌∷◌, ◌++◌, map, length, drop, Option, Some, None, refl, sym, ◌∙◌, ap, subst, arith}
 use Rattle.std.specs.Prelude.{if◌then◌else◌, ◌&&◌, nat_lt, slice_get}
 use Rattle.std.specs.List.{list_all}
 use Rattle.jn_base.specs.declared.names.ServerNo.{ServerNo}
@@ -19,11 +19,10 @@ use Rattle.jn_report.specs.declared.line.Text.{Text}
 use Rattle.jn_report.specs.declared.line.Text.TheVariants as says
 use Rattle.jn_report.specs.declared.line.Line.{Line}
 use Rattle.jn_rows.specs.Outcomes.{Sent}
-use Rattle.jn_rows.specs.Stable.{Pick, stable}
-use Rattle.jn_server.specs.Standing.{free_on}
+use Rattle.jn_rows.specs.Stable.{Pick}
 use Rattle.jn_protocol.specs.World.{World, Memory, new_memory}
 use Rattle.jn_protocol.specs.Servers.{Room}
-use Rattle.jn_protocol.specs.Steps.{Step, Deliver, StopDelivery, IsRun, run, after}
+use Rattle.jn_protocol.specs.Steps.{Step, Deliver, IsRun, run, after}
 use Rattle.jn_protocol.specs.LockFacts.{LockFacts, ServerFact}
 use Rattle.jn_protocol.proofs.Steps.{locks-keep, run-keeps, opening-keeps}
 use Rattle.jn_settling.specs.Course.{Course, go, go_on}
@@ -31,11 +30,11 @@ use Rattle.jn_settling.specs.Settle.{handing, working}
 use Rattle.jn_settling.proofs.Settling.{on-world}
 use Rattle.jn_written.specs.Chances.{Setup, Chance}
 use Rattle.jn_written.specs.Tasks.{Task, Begins, Meets, Acts, Rests, ComesUp, Dismisses, GoesDown, ClosesClients, CountsCommits, State, when_of, begun}
-use Rattle.jn_written.specs.Deeds.{Use, Nothing, Calls, Reads, Recovers, PowersOff, Decays, Revives, Arms, Disarms, Deed, room, no_room, delivered, delivered_at, is_busy, worked, working_steps, served, nothing, stopped_idle, crashed_at, recovering, recovered, restarted, given_up, brought_up, is_used_up}
-use Rattle.jn_written.specs.Devices.{Devices, IsServed, Alone, IsUsed, pages_of}
+use Rattle.jn_written.specs.Deeds.{Use, Nothing, Calls, Reads, Recovers, PowersOff, Decays, Revives, Arms, Disarms, Deed, room, delivered, delivered_at, is_busy, worked, working_steps, served, nothing, stopped_idle, crashed_at, recovering, recovered, restarted, given_up, brought_up, is_used_up}
+use Rattle.jn_written.specs.Devices.{Devices, IsServed, Alone, IsUsed}
 use Rattle.jn_written.specs.Refusals.{refusal_of}
 use Rattle.jn_written.specs.Events.{acted, met, next_in, resting, deed_of}
-use Rattle.jn_written.specs.Steps.{outside_texts, own_texts, message_texts, traced, texts_of, lines_at, is_too_much, come_to, cut_short, done}
+use Rattle.jn_written.specs.Steps.{outside_texts, message_texts, traced, texts_of, lines_at, is_too_much, come_to, cut_short}
 use Rattle.jn_written.specs.Runs.{none, more, Moment, DoesStep, Leads}
 use Rattle.jn_written.specs.Whole.{before, closed_world, IsWritten}
 use Rattle.jn_written.proofs.Ordered.{begun-lines}

@@ -1,6 +1,6 @@
 -- And so of the whole system, step by step: of all messages, outcomes and lines.
 use Rattle.std.proofs.Common.{◌≡◌, ◌≢◌, ◌⊎◌, inl, inr, ℕ, Bool, true, false, List, [], ◌∷◌, ◌++◌, Option, Some, None, refl, sym, ◌∙◌, ap, subst}
-use Rattle.std.specs.Prelude.{if◌then◌else◌, nat_lt, nat_eq, slice_get, ◌&&◌}
+use Rattle.std.specs.Prelude.{if◌then◌else◌, nat_lt, slice_get}
 use Rattle.jn_base.specs.declared.names.ServerNo.{ServerNo}
 use Rattle.jn_base.specs.declared.names.ClientNo.{ClientNo}
 use Rattle.jn_base.specs.declared.names.Tid.{Tid}
@@ -28,12 +28,12 @@ use Rattle.jn_rows.specs.declared.client.Taken.TheVariants as taken
 use Rattle.jn_rows.specs.declared.worker.Work.{Work}
 use Rattle.jn_rows.specs.Stable.{StableState, Pick, stable}
 use Rattle.jn_rows.specs.Outcomes.{RowOutcome, Sent}
-use Rattle.jn_rows.specs.Client.{ClientTable, Commanded, Refuses, Sends, command_row, if_server, if_idle, if_transaction, if_no_transaction, if_open, if_not_open, work_at as open_at, with_operation, names_of, take_row, again_row, sent_again, if_waits, begun_row, opened_row, answer_line, outcome_row, decided_row, is_current, is_end_or_abort, over, idle}
+use Rattle.jn_rows.specs.Client.{ClientTable, Commanded, Refuses, Sends, command_row, if_server, if_idle, if_transaction, if_no_transaction, if_open, if_not_open, work_at as open_at, take_row, again_row, sent_again, if_waits, begun_row, opened_row, answer_line, outcome_row, decided_row, is_current, is_end_or_abort, over}
 use Rattle.jn_rows.specs.Worker.{WorkerTable, work_at, worker_row, worker_step, timeout_row}
 use Rattle.jn_rows.specs.Coordinator.{coordinator_row, close_clients_row}
 use Rattle.jn_protocol.specs.World.{World, Memory, at_server, at_client, has_line}
-use Rattle.jn_protocol.specs.Servers.{Room, storage_of, of_worker, of_coordinator, is_for_worker, server_row, of_step, server_step, server_again, of_timeout, server_timeout, restored, line_of, lines_of, named_now}
-use Rattle.jn_protocol.specs.Steps.{Step, NextEvent, Tell, Again, Deliver, Work as Works, Nudge, Timeout, StopDelivery, StopWork, Crash, Narrow, StopRestart, Restart, Dismiss, CloseClients, after, commanded, took, sent_now, done, stopped, ends, at_memory, handed, works, work, nudge, timeout, crash, narrow, stop_restart, restart, close_clients}
+use Rattle.jn_protocol.specs.Servers.{Room, storage_of, of_worker, of_coordinator, is_for_worker, server_row, of_step, server_again, of_timeout, server_timeout, restored, line_of, lines_of, named_now}
+use Rattle.jn_protocol.specs.Steps.{Step, NextEvent, Tell, Again, Deliver, Work as Works, Nudge, Timeout, StopDelivery, StopWork, Crash, Narrow, StopRestart, Restart, Dismiss, CloseClients, after, commanded, took, sent_now, done, stopped, at_memory, handed, works, work, nudge, timeout, crash, narrow, stop_restart, restart, close_clients}
 use Rattle.jn_protocol.specs.LockFacts.{LockFacts, ServerFact, UpFact}
 use Rattle.jn_wrong.specs.Wanting.{IsShort, OfText}
 use Rattle.jn_wrong.proofs.ShortRows.{OfMessage, OfAll, OfOutcome, OfTable, OfRow, both-say, said, coordinates-so, again-so, all-thanked-so, restored-so}

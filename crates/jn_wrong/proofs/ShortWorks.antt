@@ -1,5 +1,5 @@
 -- And of all that a worker's rows say of it.
-use Rattle.std.proofs.Common.{◌≡◌, ℕ, ◌+◌, Bool, true, false, List, [], ◌∷◌, ◌++◌, length, Option, Some, None, refl, sym, ◌∙◌, ap, subst, arith}
+use Rattle.std.proofs.Common.{◌≡◌, ℕ, ◌+◌, Bool, true, false, List, [], ◌∷◌, length, Option, Some, None, refl, subst}
 use Rattle.std.specs.Prelude.{if◌then◌else◌, nat_eq, nat_lt, slice_get}
 use Rattle.jn_base.specs.declared.names.ServerNo.{ServerNo}
 use Rattle.jn_base.specs.declared.names.ClientNo.{ClientNo}
@@ -22,8 +22,8 @@ use Rattle.jn_rows.specs.declared.worker.Phase.{Phase}
 use Rattle.jn_rows.specs.declared.worker.Phase.TheVariants.{Active, Broken, Prepared as Stored}
 use Rattle.jn_rows.specs.declared.worker.ActiveWork.{ActiveWork}
 use Rattle.jn_rows.specs.Stable.{StableState, is_going}
-use Rattle.jn_rows.specs.Outcomes.{RowOutcome, Sent, ignored}
-use Rattle.jn_rows.specs.Worker.{WorkerTable, WorkStorage, Held, Wanted, shortage, vote_of, voted, prepared_row, prepare_phase, prepare_row, need_in, conflict, commit_wants, new_work, name_from, open_row, op_row, op_phase, by_number, performed, granted_row, repeated, replies, refusal_of, wants_of, is_fit, commit_row, commit_phase, drop_row, drop_phase, without, worker_row, work_at, work_of, going_row, going_work, carried_row, intentions_of, worker_step, worker_again}
+use Rattle.jn_rows.specs.Outcomes.{RowOutcome, ignored}
+use Rattle.jn_rows.specs.Worker.{WorkerTable, WorkStorage, Held, Wanted, shortage, vote_of, voted, prepared_row, prepare_phase, prepare_row, need_in, conflict, commit_wants, open_row, op_row, op_phase, by_number, granted_row, repeated, refusal_of, wants_of, is_fit, commit_row, commit_phase, drop_row, drop_phase, worker_row, work_at, work_of, going_row, going_work, carried_row, intentions_of, worker_step, worker_again}
 use Rattle.jn_wrong.specs.Wanting.{IsShort}
 use Rattle.jn_wrong.proofs.ShortRows.{OfVote, OfAll}
 

@@ -1,13 +1,10 @@
 -- The lines of a show are those of what there is to print.
-use Rattle.std.proofs.Common.{◌≡◌, ◌≢◌, ℕ, ◌+◌, Bool, true, false, List, [], ◌∷◌, ◌++◌, append-nil, map, length, Option, Some, None, refl, sym, ◌∙◌, ap, subst, arith}
-use Rattle.std.specs.Prelude.{◌||◌, ◌&&◌, not, filter, if◌then◌else◌}
+use Rattle.std.proofs.Common.{◌≡◌, ◌≢◌, ℕ, ◌+◌, Bool, true, false, List, [], ◌∷◌, ◌++◌, append-nil, map, length, Option, None, refl, ◌∙◌, ap, subst, arith}
+use Rattle.std.specs.Prelude.{not, filter, if◌then◌else◌}
 use Rattle.jn_base.specs.declared.names.ServerNo.{ServerNo}
 use Rattle.jn_base.specs.declared.names.FileNo.{FileNo}
 use Rattle.jn_base.specs.declared.names.Party.{Party}
-use Rattle.jn_base.specs.declared.names.LockUnit.{LockUnit}
-use Rattle.jn_base.specs.declared.names.LockUnit.TheVariants.{File}
 use Rattle.jn_base.specs.declared.device.Outside.{Outside}
-use Rattle.jn_base.specs.Names.{file_eq}
 use Rattle.jn_schedule.specs.declared.Event.TheVariants as events
 use Rattle.jn_report.specs.declared.line.EventRefusal.{EventRefusal}
 use Rattle.jn_report.specs.declared.line.Text.{Text}
@@ -17,8 +14,8 @@ use Rattle.jn_rows.specs.Outcomes.{Sent}
 use Rattle.jn_rows.specs.Stable.{Pick, stable}
 use Rattle.jn_rows.specs.Worker.{commit_holder}
 use Rattle.jn_protocol.specs.World.{World, Memory}
-use Rattle.jn_protocol.specs.Printing.{Printed, FileThere, PageStored, UnitLocked, print_files, file_before}
-use Rattle.jn_protocol.specs.Steps.{Step, AreNames, run}
+use Rattle.jn_protocol.specs.Printing.{Printed, FileThere, PageStored, UnitLocked, print_files}
+use Rattle.jn_protocol.specs.Steps.{Step}
 use Rattle.jn_settling.specs.Course.{Course, go_on, newly_sent}
 use Rattle.jn_reported.specs.Printing.{text_printed, prints_of}
 use Rattle.jn_written.specs.Chances.{Setup, Chance}
@@ -27,7 +24,7 @@ use Rattle.jn_written.specs.Deeds.{Deed, Reads, served, stopped_idle, blocks_fro
 use Rattle.jn_written.specs.Devices.{IsLookedOver, Alone, Befalls}
 use Rattle.jn_written.specs.Refusals.{refusal_of}
 use Rattle.jn_written.specs.Events.{met, deed_of}
-use Rattle.jn_written.specs.Steps.{outside_texts, own_texts, message_texts, traced, texts_of, lines_at, is_too_much, come_to, cut_short, done}
+use Rattle.jn_written.specs.Steps.{own_texts, message_texts, traced, texts_of, lines_at, is_too_much, come_to, cut_short}
 use Rattle.jn_written.specs.Runs.{Moment, DoesStep}
 use Rattle.jn_written.specs.Kinds.{may_tell}
 use Rattle.jn_written.proofs.Ordered.{begun-lines}

@@ -27,7 +27,7 @@ use Rattle.jn_rows.specs.Coordinator.{close_clients_row}
 use Rattle.jn_rows.specs.Outcomes.{RowOutcome, Sent}
 use Rattle.jn_rows.specs.Stable.{Pick, stable}
 use Rattle.jn_protocol.specs.World.{World, Memory, at_server, new_memory, has_line}
-use Rattle.jn_protocol.specs.Servers.{Room, server_row, server_step, of_coordinator, restored, named_now}
+use Rattle.jn_protocol.specs.Servers.{Room, server_row, server_step, server_timeout, of_coordinator, restored, named_now}
 use Rattle.jn_protocol.specs.Steps.{Step, NextEvent, Tell, Again, Deliver, Work as Works, Nudge, Timeout, StopDelivery, StopWork, Crash, Narrow, StopRestart, Restart, Dismiss, CloseClients, after, commanded, took, ends, at_memory, handed, works, work, nudge, timeout, crash, narrow, stop_restart, restart, close_clients}
 use Rattle.jn_settling.specs.Course.{Course, go, go_on, newly_sent}
 use Rattle.jn_written.specs.Chances.{Setup, Chance}
@@ -35,9 +35,9 @@ use Rattle.jn_written.specs.Tasks.{Task, Begins, Meets, Acts, Rests, ComesUp, Di
 use Rattle.jn_written.specs.Deeds.{Use, Nothing, Calls, Reads, Recovers, PowersOff, Decays, Revives, Arms, Disarms, Deed}
 use Rattle.jn_written.specs.Events.{deed_of}
 use Rattle.jn_written.specs.Steps.{outside_texts, own_texts, message_texts, traced, texts_of, lines_at, is_too_much, come_to, cut_short, done}
-use Rattle.jn_written.specs.Runs.{none, more, MayStep, MayLead}
+use Rattle.jn_written.specs.Runs.{none, more, MayLead}
 use Rattle.jn_written.specs.Whole.{before}
-use Rattle.jn_written.specs.Kinds.{may_tell, is_note, is_of_delivery, is_answer}
+use Rattle.jn_written.specs.Kinds.{is_note, is_of_delivery, is_answer}
 use Rattle.jn_written.proofs.Ordered.{begun-lines}
 use Rattle.jn_written.proofs.Telling.{Adds, adds}
 use Rattle.jn_written.proofs.Texts.{task-texts, Besides}
@@ -240,10 +240,10 @@ module _ (q : ServerNo) where
 
     pub step-turns : (step : Step) → Turns w (after step w)
     step-turns NextEvent = tells-nothing (after NextEvent w) refl refl
-    step-turns (Tell c command) = quietly _ _ _ of-answer (adds w (Tell c command)) (told-up c (command_row (w.clients c) w.event command))
+    step-turns (Tell c command) = quietly is_answer w.event (after (Tell c command) w) of-answer (adds w (Tell c command)) (told-up c (command_row (w.clients c) w.event command))
     step-turns (Again c) = tells-nothing (after (Again c) w) refl refl
-    step-turns (Deliver k room) = quietly _ _ _ of-delivery (adds w (Deliver k room)) (handed-up k room (slice_get w.sent k))
-    step-turns (Works s room) = quietly _ _ _ of-note (adds w (Works s room)) (worked-up s room (w.memory s) refl)
+    step-turns (Deliver k room) = quietly is_of_delivery w.event (after (Deliver k room) w) of-delivery (adds w (Deliver k room)) (handed-up k room (slice_get w.sent k))
+    step-turns (Works s room) = quietly is_note w.event (after (Works s room) w) of-note (adds w (Works s room)) (worked-up s room (w.memory s) refl)
     step-turns (Nudge s) = by (w.memory s)
       where
         by : (o : Option Memory) → Turns w (nudge s o w)
@@ -253,16 +253,15 @@ module _ (q : ServerNo) where
       where
         by : (o : Option Memory) → w.memory s ≡ o → Turns w (timeout s T o w)
         by None e = tells-nothing w refl refl
-        by (Some m) e = tells-nothing (timeout s T (Some m) w) refl (at-same s m _ e)
-    step-turns (StopDelivery k room made) = by (slice_get w.sent k)
+        by (Some m) e = tells-nothing (timeout s T (Some m) w) refl (at-same s m (server_timeout m T) e)
+    step-turns (StopDelivery k room made) = by (slice_get w.sent k) refl
       where
-        by : (o : Option Sent) → Turns w (handed k room (Some made) o w)
-        by None = tells-nothing w refl refl
-        by (Some (Client c, message)) = at (take_row (w.clients c) message)
-          where
-            at : (row : ClientTable × Taken) → Turns w (took c k row.0 row.1 w)
-            at row = _
-        by (Some (Server s, message)) = stops-at s k room made message (w.memory s)
+        by : (o : Option Sent) → slice_get w.sent k ≡ o → Turns w (handed k room (Some made) o w)
+        by None e = tells-nothing w refl refl
+        -- a client is never stopped
+        by (Some (Client c, message)) e = quietly is_of_delivery w.event (handed k room None (Some (Client c, message)) w) of-delivery
+            (subst (λ (o : Option Sent). Adds is_of_delivery w.event w (handed k room None o w)) e (adds w (Deliver k room))) (handed-up k room (Some (Client c, message)))
+        by (Some (Server s, message)) e = stops-at s k room made message (w.memory s)
     step-turns (StopWork s room made) = by (w.memory s)
       where
         at : (o : Option (RowOutcome Memory)) → Turns w (works s (Some made) o w)
@@ -281,8 +280,153 @@ module _ (q : ServerNo) where
     step-turns (StopRestart s raised) = stop-restarts s raised (w.memory s) refl
     step-turns (Restart s pick Ws Ts) = restarts s pick Ws Ts (w.memory s) refl
     step-turns Dismiss = tells-nothing (after Dismiss w) refl refl
-    step-turns (CloseClients s) = quietly _ _ _ of-note (adds w (CloseClients s)) (by (w.memory s) refl)
+    step-turns (CloseClients s) = quietly is_note w.event (after (CloseClients s) w) of-note (adds w (CloseClients s)) (by (w.memory s) refl)
       where
         by : (o : Option Memory) → w.memory s ≡ o → up (close_clients s o w) ≡ up w
         by None e = refl
         by (Some m) e = at-same s m (of_coordinator m (close_clients_row m.coordinator m.tickets)).table e
+
+  -- ---- many steps, and what else is told
+
+  pub gone-on : (steps : List Step) (c : Course) → Turns c.world (go_on steps c).world
+  gone-on [] c = tells-nothing c.world c.world refl refl
+  gone-on (step ∷ steps) c = joined (step-turns c.world step) (gone-on steps (go step c))
+    where
+      joined : Turns c.world (after step c.world) → Turns (after step c.world) (go_on steps (go step c)).world → Turns c.world (go_on steps (go step c)).world
+      joined a b = record {
+        texts = a.texts ++ b.texts;
+        lines = b.lines ∙ ap (λ (ls : List Text). ls ++ b.texts) a.lines ∙ append_assoc c.world.lines a.texts b.texts;
+        turn = turns-both (up c.world) a.texts b.texts a.turn (subst (λ (was : Bool). turns was b.texts ≡ true) (sym a.leaves) b.turn);
+        leaves = behind-both (up c.world) a.texts b.texts ∙ ap (λ (was : Bool). behind was b.texts) a.leaves ∙ b.leaves;
+      }
+
+  of-faults : (s : ServerNo) (told : List Outside) → list_all no_turn (map (λ (fault : Outside). says.Outside s fault) told) ≡ true
+  of-faults s [] = refl
+  of-faults s (fault ∷ told) = of-faults s told
+
+  of-outside : (device : Use) (told : List Outside) → list_all no_turn (outside_texts device told) ≡ true
+  of-outside (Calls s) told = of-faults s told
+  of-outside (Reads s) told = of-faults s told
+  of-outside (Recovers s) told = of-faults s told
+  of-outside Nothing told = refl
+  of-outside (PowersOff s) told = refl
+  of-outside (Decays s p) told = refl
+  of-outside (Revives s p) told = refl
+  of-outside (Arms s n kind) told = refl
+  of-outside Disarms told = refl
+
+  of-messages : (from : Party) (k : ℕ) (sent : List Sent) → list_all no_turn (message_texts from k sent) ≡ true
+  of-messages from k [] = refl
+  of-messages from k (one ∷ sent) = of-messages from (k + 1) sent
+
+  of-traced : (trace : Bool) (from : Party) (k : ℕ) (sent : List Sent) → list_all no_turn (traced trace (message_texts from k sent)) ≡ true
+  of-traced true from k sent = of-messages from k sent
+  of-traced false from k sent = refl
+
+  besides : Besides no_turn
+  besides = record { file = λ q f. refl; page = λ q f p bytes. refl; locked = λ q u T. refl; refused = λ refusal. refl; outside = λ q fault. refl }
+
+  deed-tells : (x : Setup) (h : Chance) (task : Task) (s : State) → list_all no_turn (deed_of x h task s).texts ≡ true
+  deed-tells x h CountsCommits s = refl
+  deed-tells x h (Begins e) s = task-texts no_turn besides x h (Begins e) s (λ e. cc)
+  deed-tells x h (Meets e) s = task-texts no_turn besides x h (Meets e) s (λ e. cc)
+  deed-tells x h (Acts e) s = task-texts no_turn besides x h (Acts e) s (λ e. cc)
+  deed-tells x h Rests s = task-texts no_turn besides x h Rests s (λ e. cc)
+  deed-tells x h (ComesUp p) s = task-texts no_turn besides x h (ComesUp p) s (λ e. cc)
+  deed-tells x h Dismisses s = task-texts no_turn besides x h Dismisses s (λ e. cc)
+  deed-tells x h (GoesDown p) s = task-texts no_turn besides x h (GoesDown p) s (λ e. cc)
+  deed-tells x h (ClosesClients p) s = task-texts no_turn besides x h (ClosesClients p) s (λ e. cc)
+
+  -- a list that tells no turn, behind or before one that does
+  record Tells (was now : Bool) (texts : List Text) : Type 0 where
+    turn : turns was texts ≡ true
+    leaves : behind was texts ≡ now
+
+  no-turn : (was : Bool) (texts : List Text) → list_all no_turn texts ≡ true → Tells was was texts
+  no-turn was texts h = record { turn = quiet-turns was texts h; leaves = quiet-behind was texts h }
+
+  both-tell : (was now next : Bool) (xs ys : List Text) → Tells was now xs → Tells now next ys → Tells was next (xs ++ ys)
+  both-tell was now next xs ys h k = record {
+    turn = turns-both was xs ys h.turn (subst (λ (b : Bool). turns b ys ≡ true) (sym h.leaves) k.turn);
+    leaves = behind-both was xs ys ∙ ap (λ (b : Bool). behind b ys) h.leaves ∙ k.leaves;
+  }
+
+  own-tells : (steps : List Step) (c : Course) → Tells (up c.world) (up (go_on steps c).world) (own_texts c.world (go_on steps c).world)
+  own-tells steps c = by (gone-on steps c)
+    where
+      by : Turns c.world (go_on steps c).world → Tells (up c.world) (up (go_on steps c).world) (own_texts c.world (go_on steps c).world)
+      by t = subst (λ (texts : List Text). Tells (up c.world) (up (go_on steps c).world) texts) (sym (ap (λ (ls : List Text). drop (length c.world.lines) ls) t.lines ∙ drop-append_seam c.world.lines t.texts)) (record { turn = t.turn; leaves = t.leaves })
+
+  texts-tell : (x : Setup) (h : Chance) (deed : Deed) (c : Course) → list_all no_turn deed.texts ≡ true → Tells (up c.world) (up (go_on deed.steps c).world) (texts_of x h deed c.world (go_on deed.steps c).world)
+  texts-tell x h deed c quiet = both-tell was now now (told ++ own ++ deed.texts) messages (both-tell was now now (told ++ own) deed.texts (both-tell was was now told own (no-turn was told (of-outside deed.device h.told)) (own-tells deed.steps c)) (no-turn now deed.texts quiet))
+      (no-turn now messages (of-traced x.trace deed.actor (length c.world.sent) (newly_sent c.world (go_on deed.steps c).world)))
+    where
+      was : Bool
+      was = up c.world
+
+      now : Bool
+      now = up (go_on deed.steps c).world
+
+      told : List Text
+      told = outside_texts deed.device h.told
+
+      own : List Text
+      own = own_texts c.world (go_on deed.steps c).world
+
+      messages : List Text
+      messages = traced x.trace (message_texts deed.actor (length c.world.sent) (newly_sent c.world (go_on deed.steps c).world))
+
+  -- ---- runs
+
+  record Holds (s : State) : Type 0 where
+    turn : takes_turns q false s.lines ≡ true
+    leaves : line_behind false s.lines ≡ up s.course.world
+
+  world-begun : (task : Task) (s : State) → (begun task s).course.world ≡ s.course.world
+  world-begun Dismisses s = refl
+  world-begun task s = refl
+
+  one-step : (x : Setup) (h : Chance) (task : Task) (s : State) → Holds s → Holds (done x h task s)
+  one-step x h task s holds = by (is_too_much deed (go_on deed.steps u.course))
+    where
+      deed : Deed
+      deed = deed_of x h task s
+
+      u : State
+      u = begun task s
+
+      turn-now : takes_turns q false u.lines ≡ true
+      turn-now = ap (λ (ls : List Line). takes_turns q false ls) (begun-lines task s) ∙ holds.turn
+
+      leaves-now : line_behind false u.lines ≡ up u.course.world
+      leaves-now = ap (λ (ls : List Line). line_behind false ls) (begun-lines task s) ∙ holds.leaves ∙ ap up (sym (world-begun task s))
+
+      texts : List Text
+      texts = texts_of x h deed u.course.world (go_on deed.steps u.course).world
+
+      tells : Tells (up u.course.world) (up (go_on deed.steps u.course).world) texts
+      tells = texts-tell x h deed u.course (deed-tells x h task s)
+
+      by : (b : Bool) → Holds (if b then cut_short u else come_to x h deed (go_on deed.steps u.course) u)
+      by true = record { turn = turn-now; leaves = leaves-now }
+      by false = record {
+        turn = lines-both false (when_of u) u.lines texts turn-now (subst (λ (b : Bool). turns b texts ≡ true) (sym leaves-now) tells.turn);
+        leaves = lines-behind false (when_of u) u.lines texts ∙ ap (λ (b : Bool). behind b texts) leaves-now ∙ tells.leaves;
+      }
+
+  all-steps : (x : Setup) (s t : State) → MayLead x s t → Holds s → Holds t
+  all-steps x s t (none u) holds = holds
+  all-steps x s t (more a b c m rest) holds = all-steps x b t rest (subst Holds (sym m.state_is) (one-step x m.chance m.task s holds))
+
+  pub by-turns : (x : Setup) (schedule : List Event) (files : AllFiles) (epochs : ServerNo → ℕ) (t : State) → q.0 < x.servers → MayLead x (before x schedule files epochs) t → takes_turns q false t.lines ≡ true
+  by-turns x schedule files epochs t below leads = let end = all-steps x (before x schedule files epochs) t leads (record { turn = refl; leaves = sym (down (nat_lt q.0 x.servers) (is-below q.0 x.servers below)) }) in end.turn
+    where
+      is-below : (a n : ℕ) → a < n → nat_lt a n ≡ true
+      is-below a n h = grind (arith, nat_tests, h)
+
+      down : (b : Bool) → b ≡ true → is_some (if b then None else Some (new_memory q (epochs q))) ≡ false
+      down true e = refl
+      down false e = absurd (clash e)
+        where
+          clash : false ≡ true → ⊥
+          clash z = cc

@@ -5,4 +5,5 @@ pub mod Still
 pub mod Settles
 pub mod Telling
 pub mod Showing
+pub mod Turns
 pub mod Wanting

@@ -9,9 +9,19 @@ mod wanting;
 ghost use Rattle.std.specs.Prelude.{◌≡◌, ℕ, nat_lt, false};
 ghost use Rattle.jn_wrong.specs.Wrong.{IsNone, begins, makes_one, makes_and_reads, opens_and_loses, answered_too_soon, stopped_by_nothing, fault_of_nothing, lost_without_opening, file_left_out, file_locked, page_unwritten, other_bytes, named_again, full_of};
 
-pub use new::{a_commit_of_nobody_is_none, a_refusal_without_a_cause_is_none, a_report_that_answers_nothing_is_none, a_settle_that_leaves_a_message_is_none, a_show_of_what_is_not_there_is_none, a_skipped_epoch_is_none, a_stray_line_is_none, an_answer_before_a_settle_is_none, an_answer_for_another_is_none, an_end_in_another_order_is_none, messages_out_of_place_are_none, other_bytes_before_an_abort_are_none, reports_are_the_only_ones};
+pub use new::{
+    a_commit_of_nobody_is_none, a_refusal_without_a_cause_is_none,
+    a_report_that_answers_nothing_is_none, a_settle_that_leaves_a_message_is_none,
+    a_show_of_what_is_not_there_is_none, a_skipped_epoch_is_none, a_stray_line_is_none,
+    an_answer_before_a_settle_is_none, an_answer_for_another_is_none,
+    an_end_in_another_order_is_none, messages_out_of_place_are_none,
+    other_bytes_before_an_abort_are_none, reports_are_the_only_ones,
+};
 pub use settling::{a_message_is_handed_over_once, a_settle_leaves_nothing_to_do};
-pub use telling::{a_show_prints_what_is_there_once, each_refused_fault_is_told};
+pub use telling::{
+    a_server_comes_up_and_goes_down_by_turns, a_show_prints_what_is_there_once,
+    each_refused_fault_is_told, no_line_stands_at_an_event_that_has_not_begun,
+};
 pub use wanting::an_abort_for_want_of_room_was_short;
 
 /// An answer stands under an event before its command's.

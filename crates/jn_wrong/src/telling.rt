@@ -1,14 +1,18 @@
-//! What each step tells of its devices, in any run: each fault that is refused, and at a show the files that are there.
+//! What is told of servers and their devices, in any run: each fault that is refused, at a show the files that are there, and who comes up and goes down.
 
-ghost use Rattle.std.specs.Prelude.{◌≡◌, ◌≢◌, None};
+ghost use Rattle.std.specs.Prelude.{◌≡◌, ◌≢◌, ◌<◌, ℕ, true, false, List, length, None};
 ghost use Rattle.jn_base.specs.declared.names.ServerNo.{ServerNo};
+ghost use Rattle.jn_order.specs.Files.{AllFiles};
+ghost use Rattle.jn_schedule.specs.declared.Event.{Event};
 ghost use Rattle.jn_schedule.specs.declared.Event.TheVariants.{Show};
 ghost use Rattle.jn_written.specs.Chances.{Setup};
 ghost use Rattle.jn_written.specs.Refusals.{refusal_of};
-ghost use Rattle.jn_written.specs.Runs.{Moment, DoesStep};
-ghost use Rattle.jn_written.specs.Tasks.{Meets, Acts, CutShort};
+ghost use Rattle.jn_written.specs.Runs.{Moment, DoesStep, MayLead};
+ghost use Rattle.jn_written.specs.Tasks.{Meets, Acts, CutShort, State};
+ghost use Rattle.jn_written.specs.Whole.{before};
 ghost use Rattle.jn_wrong.specs.Showing.{Shows};
 ghost use Rattle.jn_wrong.specs.Telling.{TellsFaults};
+ghost use Rattle.jn_wrong.specs.Turns.{takes_turns, are_by};
 
 /// The lines of a step that tell of a refused fault are one for each that its device told in the step's calls, in their order, or for a decay that the
 /// device doesn't allow: none is left out, and none is told besides.
@@ -21,4 +25,17 @@ pub fn each_refused_fault_is_told()
 pub fn a_show_prints_what_is_there_once()
     ensures in_the_schedule { (x : Setup) (q : ServerNo) (a b : Moment) (d : DoesStep x a b) → d.task ≡ Meets (Show q) → refusal_of x a.state.course.world (Show q) ≡ None → d.chance.stop ≡ None → b.state.stage ≢ CutShort → Shows x q a b d }
     ensures at_the_end { (x : Setup) (q : ServerNo) (a b : Moment) (d : DoesStep x a b) → d.task ≡ Acts (Show q) → d.chance.stop ≡ None → b.state.stage ≢ CutShort → Shows x q a b d }
+{}
+
+/// Each server is told to come up only where it is down, first at the start, and to go down only where it is up.
+pub fn a_server_comes_up_and_goes_down_by_turns()
+    ensures { (q : ServerNo) (x : Setup) (schedule : List Event) (files : AllFiles) (epochs : ServerNo → ℕ) (t : State) → q.0 < x.servers → MayLead x (before x schedule files epochs) t
+        → takes_turns q false t.lines ≡ true }
+{}
+
+/// No line stands at an event that has not begun, so none at one that the schedule doesn't have.
+pub fn no_line_stands_at_an_event_that_has_not_begun()
+    ensures begun { (x : Setup) (schedule : List Event) (files : AllFiles) (epochs : ServerNo → ℕ) (t : State) → MayLead x (before x schedule files epochs) t → are_by t.course.world.event t.lines ≡ true }
+    ensures of_the_schedule { (x : Setup) (schedule : List Event) (files : AllFiles) (epochs : ServerNo → ℕ) (t : State) → MayLead x (before x schedule files epochs) t
+        → (t.stage ≡ CutShort → ⊥) → are_by (length schedule) t.lines ≡ true }
 {}
