@@ -13,7 +13,9 @@ pub mod Filtered
 pub mod Outside
 pub mod Printed
 pub mod Shown
+pub mod Reading
 pub mod Turns
+pub mod Epochs
 pub mod Numbers
 pub mod ShortRows
 pub mod ShortWorks

@@ -35,106 +35,61 @@ use Rattle.jn_written.specs.Tasks.{Task, Begins, Meets, Acts, Rests, ComesUp, Di
 use Rattle.jn_written.specs.Deeds.{Use, Nothing, Calls, Reads, Recovers, PowersOff, Decays, Revives, Arms, Disarms, Deed}
 use Rattle.jn_written.specs.Events.{deed_of}
 use Rattle.jn_written.specs.Steps.{outside_texts, own_texts, message_texts, traced, texts_of, lines_at, is_too_much, come_to, cut_short, done}
-use Rattle.jn_written.specs.Runs.{none, more, MayLead}
+use Rattle.jn_written.specs.Runs.{MayLead}
 use Rattle.jn_written.specs.Whole.{before}
 use Rattle.jn_written.specs.Kinds.{is_note, is_of_delivery, is_answer}
-use Rattle.jn_written.proofs.Ordered.{begun-lines}
-use Rattle.jn_written.proofs.Telling.{Adds, adds}
-use Rattle.jn_written.proofs.Texts.{task-texts, Besides}
+use Rattle.jn_written.proofs.Telling.{Adds, adds, weaker}
 use Rattle.jn_wrong.specs.Turns.{is_up_after, may_be_told, takes_turns}
+use Rattle.jn_wrong.proofs.Reading.{no_turn, of-answer, of-note, of-delivery, named-quiet, reads, behind, quiet-reads, quiet-behind as still-behind, Reading, run-read}
 
 both : (a b : Bool) → a ≡ true → b ≡ true → (a && b) ≡ true
 both a b h k = grind arith
 
-first : (a b : Bool) → (a && b) ≡ true → a ≡ true
-first a b h = grind arith
-
-second : (a b : Bool) → (a && b) ≡ true → b ≡ true
-second a b h = grind arith
-
--- neither that a server comes up nor that it goes down
-abbrev no_turn : Text → Bool
-no_turn (says.Up s epoch) = false
-no_turn (says.Down s) = false
-no_turn (says.Stopped s) = false
-no_turn text = true
-
 module _ (q : ServerNo) where
+  aside : (was : Bool) (text : Text) → no_turn text ≡ true → (may_be_told q was text ≡ true) × (is_up_after q was text ≡ was)
+  aside was (says.Up s epoch) h = absurd (clash h)
+    where
+      clash : false ≡ true → ⊥
+      clash z = cc
+  aside was (says.Down s) h = absurd (clash h)
+    where
+      clash : false ≡ true → ⊥
+      clash z = cc
+  aside was (says.Stopped s) h = absurd (clash h)
+    where
+      clash : false ≡ true → ⊥
+      clash z = cc
+  aside was text h = (refl, refl)
+
   abbrev turns : Bool → List Text → Bool
-  turns was [] = true
-  turns was (text ∷ texts) = may_be_told q was text && turns (is_up_after q was text) texts
+  turns was texts = reads Bool (is_up_after q) (may_be_told q) aside was texts
 
-  abbrev behind : Bool → List Text → Bool
-  behind was [] = was
-  behind was (text ∷ texts) = behind (is_up_after q was text) texts
-
-  abbrev line_behind : Bool → List Line → Bool
-  line_behind was [] = was
-  line_behind was (l ∷ lines) = line_behind (is_up_after q was l.text) lines
-
-  turns-both : (was : Bool) (xs ys : List Text) → turns was xs ≡ true → turns (behind was xs) ys ≡ true → turns was (xs ++ ys) ≡ true
-  turns-both was [] ys h k = k
-  turns-both was (x ∷ xs) ys h k = both (may_be_told q was x) (turns (is_up_after q was x) (xs ++ ys)) (first (may_be_told q was x) (turns (is_up_after q was x) xs) h)
-      (turns-both (is_up_after q was x) xs ys (second (may_be_told q was x) (turns (is_up_after q was x) xs) h) k)
-
-  behind-both : (was : Bool) (xs ys : List Text) → behind was (xs ++ ys) ≡ behind (behind was xs) ys
-  behind-both was [] ys = refl
-  behind-both was (x ∷ xs) ys = behind-both (is_up_after q was x) xs ys
-
-  lines-both : (was : Bool) (w : When) (lines : List Line) (texts : List Text) → takes_turns q was lines ≡ true → turns (line_behind was lines) texts ≡ true → takes_turns q was (lines ++ lines_at w texts) ≡ true
-  lines-both was w [] [] h k = refl
-  lines-both was w [] (text ∷ texts) h k = both (may_be_told q was text) (takes_turns q (is_up_after q was text) (lines_at w texts)) (first (may_be_told q was text) (turns (is_up_after q was text) texts) k)
-      (lines-both (is_up_after q was text) w [] texts refl (second (may_be_told q was text) (turns (is_up_after q was text) texts) k))
-  lines-both was w (l ∷ lines) texts h k = both (may_be_told q was l.text) (takes_turns q (is_up_after q was l.text) (lines ++ lines_at w texts)) (first (may_be_told q was l.text) (takes_turns q (is_up_after q was l.text) lines) h)
-      (lines-both (is_up_after q was l.text) w lines texts (second (may_be_told q was l.text) (takes_turns q (is_up_after q was l.text) lines) h) k)
-
-  lines-behind : (was : Bool) (w : When) (lines : List Line) (texts : List Text) → line_behind was (lines ++ lines_at w texts) ≡ behind (line_behind was lines) texts
-  lines-behind was w [] [] = refl
-  lines-behind was w [] (text ∷ texts) = lines-behind (is_up_after q was text) w [] texts
-  lines-behind was w (l ∷ lines) texts = lines-behind (is_up_after q was l.text) w lines texts
-
-  one-quiet : (was : Bool) (text : Text) → no_turn text ≡ true → (may_be_told q was text ≡ true) × (is_up_after q was text ≡ was)
-  one-quiet was (says.Up s epoch) h = absurd (clash h)
-    where
-      clash : false ≡ true → ⊥
-      clash z = cc
-  one-quiet was (says.Down s) h = absurd (clash h)
-    where
-      clash : false ≡ true → ⊥
-      clash z = cc
-  one-quiet was (says.Stopped s) h = absurd (clash h)
-    where
-      clash : false ≡ true → ⊥
-      clash z = cc
-  one-quiet was text h = (refl, refl)
-
-  quiet-behind : (was : Bool) (texts : List Text) → list_all no_turn texts ≡ true → behind was texts ≡ was
-  quiet-behind was [] h = refl
-  quiet-behind was (text ∷ texts) h = ap (λ (b : Bool). behind b texts) (one-quiet was text (first (no_turn text) (list_all no_turn texts) h)).1 ∙ quiet-behind was texts (second (no_turn text) (list_all no_turn texts) h)
-
-  quiet-turns : (was : Bool) (texts : List Text) → list_all no_turn texts ≡ true → turns was texts ≡ true
-  quiet-turns was [] h = refl
-  quiet-turns was (text ∷ texts) h = both (may_be_told q was text) (turns (is_up_after q was text) texts) (one-quiet was text (first (no_turn text) (list_all no_turn texts) h)).0
-      (quiet-turns (is_up_after q was text) texts (second (no_turn text) (list_all no_turn texts) h))
+  abbrev told_up : Bool → List Text → Bool
+  told_up was texts = behind Bool (is_up_after q) (may_be_told q) aside was texts
 
   -- ---- one step of the system
 
   abbrev up : World → Bool
   up w = is_some (w.memory q)
 
-  pub record Turns (w now : World) : Type 0 where
+  record Turns (w now : World) : Type 0 where
     texts : List Text
     lines : now.lines ≡ w.lines ++ texts
     turn : turns (up w) texts ≡ true
-    leaves : behind (up w) texts ≡ up now
+    leaves : told_up (up w) texts ≡ up now
+
+  quiet-turns : (was : Bool) (texts : List Text) → list_all no_turn texts ≡ true → turns was texts ≡ true
+  quiet-turns = quiet-reads Bool (is_up_after q) (may_be_told q) aside
+
+  quiet-behind : (was : Bool) (texts : List Text) → list_all no_turn texts ≡ true → told_up was texts ≡ was
+  quiet-behind = still-behind Bool (is_up_after q) (may_be_told q) aside
 
   module _ (w : World) where
     quietly : (test : Text → Bool) (event : ℕ) (now : World) → ((text : Text) → test text ≡ true → no_turn text ≡ true) → Adds test event w now → up now ≡ up w → Turns w now
-    quietly test event now wide a same = record { texts = a.texts; lines = a.lines; turn = quiet-turns (up w) a.texts (quiet a.texts a.kinds); leaves = quiet-behind (up w) a.texts (quiet a.texts a.kinds) ∙ sym same }
+    quietly test event now wide a same = record { texts = a.texts; lines = a.lines; turn = quiet-turns (up w) a.texts quiet; leaves = quiet-behind (up w) a.texts quiet ∙ sym same }
       where
-        quiet : (texts : List Text) → list_all test texts ≡ true → list_all no_turn texts ≡ true
-        quiet [] h = refl
-        quiet (text ∷ texts) h = both (no_turn text) (list_all no_turn texts) (wide text (first (test text) (list_all test texts) h)) (quiet texts (second (test text) (list_all test texts) h))
+        quiet : list_all no_turn a.texts ≡ true
+        quiet = weaker test no_turn wide a.texts a.kinds
 
     -- a server that stays up, or goes down
     at-same : (s : ServerNo) (m n : Memory) → w.memory s ≡ Some m → is_some (at_server w.memory s (Some n) q) ≡ up w
@@ -153,15 +108,6 @@ module _ (q : ServerNo) where
 
     tells-nothing : (now : World) → now.lines ≡ w.lines → up now ≡ up w → Turns w now
     tells-nothing now lines same = record { texts = []; lines = lines ∙ sym (append-nil w.lines); turn = refl; leaves = sym same }
-
-    of-answer : (text : Text) → is_answer text ≡ true → no_turn text ≡ true
-    of-answer text h = grind arith
-
-    of-note : (text : Text) → is_note text ≡ true → no_turn text ≡ true
-    of-note text h = grind arith
-
-    of-delivery : (text : Text) → is_of_delivery text ≡ true → no_turn text ≡ true
-    of-delivery text h = grind arith
 
     took-same : (c : ClientNo) (k : ℕ) (t : ClientTable) (r : Taken) → up (took c k t r w) ≡ up w
     took-same c k t taken.Ignored = refl
@@ -192,14 +138,6 @@ module _ (q : ServerNo) where
     stops-at : (s : ServerNo) (k : ℕ) (room : Room) (made : Pick → ℕ) (message : Message) (o : Option Memory) → Turns w (at_memory s k room (Some made) message o w)
     stops-at s k room made message None = record { texts = says.Lost k ∷ []; lines = refl; turn = refl; leaves = refl }
     stops-at s k room made message (Some m) = tells-stop s (ends s (Some k) (Some made) (server_row m (stable (w.found s)) room message) w) refl refl
-
-    named-quiet : (Ts : List Tid) (lines : List Text) → list_all no_turn (named_now Ts lines) ≡ true
-    named-quiet [] lines = refl
-    named-quiet (T ∷ Ts) lines = by (has_line T lines) (named-quiet Ts lines)
-      where
-        by : (b : Bool) → list_all no_turn (named_now Ts lines) ≡ true → list_all no_turn (if b then named_now Ts lines else says.Commit T ∷ named_now Ts lines) ≡ true
-        by true h = h
-        by false h = h
 
     restarts : (s : ServerNo) (pick : Pick) (Ws : List WorkId) (Ts : List Tid) (o : Option Memory) → w.memory s ≡ o → Turns w (restart s pick Ws Ts o w)
     restarts s pick Ws Ts (Some m) e = tells-nothing w refl refl
@@ -238,7 +176,7 @@ module _ (q : ServerNo) where
         by (inl t) = ap (λ (b : Bool). if b then false else up w) t.0 ∙ sym (ap (λ (p : ServerNo). is_some (w.memory p)) (sym t.1) ∙ ap is_some e)
         by (inr t) = ap (λ (b : Bool). if b then false else up w) t.0
 
-    pub step-turns : (step : Step) → Turns w (after step w)
+    step-turns : (step : Step) → Turns w (after step w)
     step-turns NextEvent = tells-nothing (after NextEvent w) refl refl
     step-turns (Tell c command) = quietly is_answer w.event (after (Tell c command) w) of-answer (adds w (Tell c command)) (told-up c (command_row (w.clients c) w.event command))
     step-turns (Again c) = tells-nothing (after (Again c) w) refl refl
@@ -286,140 +224,22 @@ module _ (q : ServerNo) where
         by None e = refl
         by (Some m) e = at-same s m (of_coordinator m (close_clients_row m.coordinator m.tickets)).table e
 
-  -- ---- many steps, and what else is told
-
-  pub gone-on : (steps : List Step) (c : Course) → Turns c.world (go_on steps c).world
-  gone-on [] c = tells-nothing c.world c.world refl refl
-  gone-on (step ∷ steps) c = joined (step-turns c.world step) (gone-on steps (go step c))
-    where
-      joined : Turns c.world (after step c.world) → Turns (after step c.world) (go_on steps (go step c)).world → Turns c.world (go_on steps (go step c)).world
-      joined a b = record {
-        texts = a.texts ++ b.texts;
-        lines = b.lines ∙ ap (λ (ls : List Text). ls ++ b.texts) a.lines ∙ append_assoc c.world.lines a.texts b.texts;
-        turn = turns-both (up c.world) a.texts b.texts a.turn (subst (λ (was : Bool). turns was b.texts ≡ true) (sym a.leaves) b.turn);
-        leaves = behind-both (up c.world) a.texts b.texts ∙ ap (λ (was : Bool). behind was b.texts) a.leaves ∙ b.leaves;
-      }
-
-  of-faults : (s : ServerNo) (told : List Outside) → list_all no_turn (map (λ (fault : Outside). says.Outside s fault) told) ≡ true
-  of-faults s [] = refl
-  of-faults s (fault ∷ told) = of-faults s told
-
-  of-outside : (device : Use) (told : List Outside) → list_all no_turn (outside_texts device told) ≡ true
-  of-outside (Calls s) told = of-faults s told
-  of-outside (Reads s) told = of-faults s told
-  of-outside (Recovers s) told = of-faults s told
-  of-outside Nothing told = refl
-  of-outside (PowersOff s) told = refl
-  of-outside (Decays s p) told = refl
-  of-outside (Revives s p) told = refl
-  of-outside (Arms s n kind) told = refl
-  of-outside Disarms told = refl
-
-  of-messages : (from : Party) (k : ℕ) (sent : List Sent) → list_all no_turn (message_texts from k sent) ≡ true
-  of-messages from k [] = refl
-  of-messages from k (one ∷ sent) = of-messages from (k + 1) sent
-
-  of-traced : (trace : Bool) (from : Party) (k : ℕ) (sent : List Sent) → list_all no_turn (traced trace (message_texts from k sent)) ≡ true
-  of-traced true from k sent = of-messages from k sent
-  of-traced false from k sent = refl
-
-  besides : Besides no_turn
-  besides = record { file = λ q f. refl; page = λ q f p bytes. refl; locked = λ q u T. refl; refused = λ refusal. refl; outside = λ q fault. refl }
-
-  deed-tells : (x : Setup) (h : Chance) (task : Task) (s : State) → list_all no_turn (deed_of x h task s).texts ≡ true
-  deed-tells x h CountsCommits s = refl
-  deed-tells x h (Begins e) s = task-texts no_turn besides x h (Begins e) s (λ e. cc)
-  deed-tells x h (Meets e) s = task-texts no_turn besides x h (Meets e) s (λ e. cc)
-  deed-tells x h (Acts e) s = task-texts no_turn besides x h (Acts e) s (λ e. cc)
-  deed-tells x h Rests s = task-texts no_turn besides x h Rests s (λ e. cc)
-  deed-tells x h (ComesUp p) s = task-texts no_turn besides x h (ComesUp p) s (λ e. cc)
-  deed-tells x h Dismisses s = task-texts no_turn besides x h Dismisses s (λ e. cc)
-  deed-tells x h (GoesDown p) s = task-texts no_turn besides x h (GoesDown p) s (λ e. cc)
-  deed-tells x h (ClosesClients p) s = task-texts no_turn besides x h (ClosesClients p) s (λ e. cc)
-
-  -- a list that tells no turn, behind or before one that does
-  record Tells (was now : Bool) (texts : List Text) : Type 0 where
-    turn : turns was texts ≡ true
-    leaves : behind was texts ≡ now
-
-  no-turn : (was : Bool) (texts : List Text) → list_all no_turn texts ≡ true → Tells was was texts
-  no-turn was texts h = record { turn = quiet-turns was texts h; leaves = quiet-behind was texts h }
-
-  both-tell : (was now next : Bool) (xs ys : List Text) → Tells was now xs → Tells now next ys → Tells was next (xs ++ ys)
-  both-tell was now next xs ys h k = record {
-    turn = turns-both was xs ys h.turn (subst (λ (b : Bool). turns b ys ≡ true) (sym h.leaves) k.turn);
-    leaves = behind-both was xs ys ∙ ap (λ (b : Bool). behind b ys) h.leaves ∙ k.leaves;
-  }
-
-  own-tells : (steps : List Step) (c : Course) → Tells (up c.world) (up (go_on steps c).world) (own_texts c.world (go_on steps c).world)
-  own-tells steps c = by (gone-on steps c)
-    where
-      by : Turns c.world (go_on steps c).world → Tells (up c.world) (up (go_on steps c).world) (own_texts c.world (go_on steps c).world)
-      by t = subst (λ (texts : List Text). Tells (up c.world) (up (go_on steps c).world) texts) (sym (ap (λ (ls : List Text). drop (length c.world.lines) ls) t.lines ∙ drop-append_seam c.world.lines t.texts)) (record { turn = t.turn; leaves = t.leaves })
-
-  texts-tell : (x : Setup) (h : Chance) (deed : Deed) (c : Course) → list_all no_turn deed.texts ≡ true → Tells (up c.world) (up (go_on deed.steps c).world) (texts_of x h deed c.world (go_on deed.steps c).world)
-  texts-tell x h deed c quiet = both-tell was now now (told ++ own ++ deed.texts) messages (both-tell was now now (told ++ own) deed.texts (both-tell was was now told own (no-turn was told (of-outside deed.device h.told)) (own-tells deed.steps c)) (no-turn now deed.texts quiet))
-      (no-turn now messages (of-traced x.trace deed.actor (length c.world.sent) (newly_sent c.world (go_on deed.steps c).world)))
-    where
-      was : Bool
-      was = up c.world
-
-      now : Bool
-      now = up (go_on deed.steps c).world
-
-      told : List Text
-      told = outside_texts deed.device h.told
-
-      own : List Text
-      own = own_texts c.world (go_on deed.steps c).world
-
-      messages : List Text
-      messages = traced x.trace (message_texts deed.actor (length c.world.sent) (newly_sent c.world (go_on deed.steps c).world))
-
   -- ---- runs
 
-  record Holds (s : State) : Type 0 where
-    turn : takes_turns q false s.lines ≡ true
-    leaves : line_behind false s.lines ≡ up s.course.world
-
-  world-begun : (task : Task) (s : State) → (begun task s).course.world ≡ s.course.world
-  world-begun Dismisses s = refl
-  world-begun task s = refl
-
-  one-step : (x : Setup) (h : Chance) (task : Task) (s : State) → Holds s → Holds (done x h task s)
-  one-step x h task s holds = by (is_too_much deed (go_on deed.steps u.course))
+  each : (w : World) (step : Step) (was : Bool) → was ≡ up w → Reading Bool (is_up_after q) (may_be_told q) aside (λ (was : Bool) (w : World). was ≡ up w) was w (after step w)
+  each w step was h = by (step-turns w step)
     where
-      deed : Deed
-      deed = deed_of x h task s
-
-      u : State
-      u = begun task s
-
-      turn-now : takes_turns q false u.lines ≡ true
-      turn-now = ap (λ (ls : List Line). takes_turns q false ls) (begun-lines task s) ∙ holds.turn
-
-      leaves-now : line_behind false u.lines ≡ up u.course.world
-      leaves-now = ap (λ (ls : List Line). line_behind false ls) (begun-lines task s) ∙ holds.leaves ∙ ap up (sym (world-begun task s))
-
-      texts : List Text
-      texts = texts_of x h deed u.course.world (go_on deed.steps u.course).world
-
-      tells : Tells (up u.course.world) (up (go_on deed.steps u.course).world) texts
-      tells = texts-tell x h deed u.course (deed-tells x h task s)
-
-      by : (b : Bool) → Holds (if b then cut_short u else come_to x h deed (go_on deed.steps u.course) u)
-      by true = record { turn = turn-now; leaves = leaves-now }
-      by false = record {
-        turn = lines-both false (when_of u) u.lines texts turn-now (subst (λ (b : Bool). turns b texts ≡ true) (sym leaves-now) tells.turn);
-        leaves = lines-behind false (when_of u) u.lines texts ∙ ap (λ (b : Bool). behind b texts) leaves-now ∙ tells.leaves;
+      by : Turns w (after step w) → Reading Bool (is_up_after q) (may_be_told q) aside (λ (was : Bool) (w : World). was ≡ up w) was w (after step w)
+      by t = record {
+        texts = t.texts;
+        lines = t.lines;
+        read = ap (λ (b : Bool). turns b t.texts) h ∙ t.turn;
+        stands = ap (λ (b : Bool). told_up b t.texts) h ∙ t.leaves;
       }
 
-  all-steps : (x : Setup) (s t : State) → MayLead x s t → Holds s → Holds t
-  all-steps x s t (none u) holds = holds
-  all-steps x s t (more a b c m rest) holds = all-steps x b t rest (subst Holds (sym m.state_is) (one-step x m.chance m.task s holds))
-
-  pub by-turns : (x : Setup) (schedule : List Event) (files : AllFiles) (epochs : ServerNo → ℕ) (t : State) → q.0 < x.servers → MayLead x (before x schedule files epochs) t → takes_turns q false t.lines ≡ true
-  by-turns x schedule files epochs t below leads = let end = all-steps x (before x schedule files epochs) t leads (record { turn = refl; leaves = sym (down (nat_lt q.0 x.servers) (is-below q.0 x.servers below)) }) in end.turn
+  pub by-turns : (x : Setup) (schedule : List Event) (files : AllFiles) (epochs : ServerNo → ℕ) (t : State) → q.0 < x.servers → MayLead x (before x schedule files epochs) t → takes_turns q t.lines ≡ true
+  by-turns x schedule files epochs t below leads = run-read Bool (is_up_after q) (may_be_told q) aside (λ (was : Bool) (w : World). was ≡ up w) each false x (before x schedule files epochs) t refl
+      (sym (down (nat_lt q.0 x.servers) (is-below q.0 x.servers below))) leads
     where
       is-below : (a n : ℕ) → a < n → nat_lt a n ≡ true
       is-below a n h = grind (arith, nat_tests, h)

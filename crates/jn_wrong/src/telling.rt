@@ -12,7 +12,7 @@ ghost use Rattle.jn_written.specs.Tasks.{Meets, Acts, CutShort, State};
 ghost use Rattle.jn_written.specs.Whole.{before};
 ghost use Rattle.jn_wrong.specs.Showing.{Shows};
 ghost use Rattle.jn_wrong.specs.Telling.{TellsFaults};
-ghost use Rattle.jn_wrong.specs.Turns.{takes_turns, are_by};
+ghost use Rattle.jn_wrong.specs.Turns.{takes_turns, epochs_rise, are_by};
 
 /// The lines of a step that tell of a refused fault are one for each that its device told in the step's calls, in their order, or for a decay that the
 /// device doesn't allow: none is left out, and none is told besides.
@@ -30,7 +30,7 @@ pub fn a_show_prints_what_is_there_once()
 /// Each server is told to come up only where it is down, first at the start, and to go down only where it is up.
 pub fn a_server_comes_up_and_goes_down_by_turns()
     ensures { (q : ServerNo) (x : Setup) (schedule : List Event) (files : AllFiles) (epochs : ServerNo → ℕ) (t : State) → q.0 < x.servers → MayLead x (before x schedule files epochs) t
-        → takes_turns q false t.lines ≡ true }
+        → takes_turns q t.lines ≡ true }
 {}
 
 /// No line stands at an event that has not begun, so none at one that the schedule doesn't have.
@@ -38,4 +38,10 @@ pub fn no_line_stands_at_an_event_that_has_not_begun()
     ensures begun { (x : Setup) (schedule : List Event) (files : AllFiles) (epochs : ServerNo → ℕ) (t : State) → MayLead x (before x schedule files epochs) t → are_by t.course.world.event t.lines ≡ true }
     ensures of_the_schedule { (x : Setup) (schedule : List Event) (files : AllFiles) (epochs : ServerNo → ℕ) (t : State) → MayLead x (before x schedule files epochs) t
         → (t.stage ≡ CutShort → ⊥) → are_by (length schedule) t.lines ≡ true }
+{}
+
+/// Each server comes up in a later epoch each time, first in a later one than its images have.
+pub fn epochs_rise_from_those_of_the_images()
+    ensures { (q : ServerNo) (x : Setup) (schedule : List Event) (files : AllFiles) (epochs : ServerNo → ℕ) (t : State) → MayLead x (before x schedule files epochs) t
+        → epochs_rise q (epochs q) t.lines ≡ true }
 {}
