@@ -20,7 +20,8 @@ pub use new::{
 pub use settling::{a_message_is_handed_over_once, a_settle_leaves_nothing_to_do};
 pub use telling::{
     a_server_comes_up_and_goes_down_by_turns, a_show_prints_what_is_there_once,
-    each_refused_fault_is_told, epochs_rise_from_those_of_the_images, no_line_stands_at_an_event_that_has_not_begun,
+    each_refused_fault_is_told, epochs_rise_from_those_of_the_images,
+    no_line_stands_at_an_event_that_has_not_begun,
 };
 pub use wanting::an_abort_for_want_of_room_was_short;
 
