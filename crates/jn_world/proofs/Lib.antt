@@ -18,5 +18,6 @@ pub mod Finishing
 pub mod Pushed
 pub mod RestartRefusals
 pub mod Resting
+pub mod Measures
 pub mod PageRefusals
 pub mod Calm

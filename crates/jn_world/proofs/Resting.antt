@@ -1,5 +1,5 @@
 -- One turn of a rest: a message is handed over, a server makes a step, or nothing is left.
-use Rattle.std.proofs.Common.{◌≡◌, ◌≤◌, true, false, List, [], ◌∷◌, ◌++◌, length, Some, None, Ok, Err, subst}
+use Rattle.std.proofs.Common.{◌≡◌, ◌≤◌, false, List, [], ◌∷◌, length, Some, None, Result, Ok, subst}
 use Rattle.std.specs.Prelude.{drop}
 use Rattle.jn_device.specs.Device.{DeviceState}
 use Rattle.jn_report.specs.declared.line.Line.{Line}
@@ -11,8 +11,7 @@ use Rattle.jn_stands.specs.Stands.{Standing, Stands}
 use Rattle.jn_store.specs.Pairs.{pairs_view}
 use Rattle.jn_store.specs.Store.{StoreView}
 use Rattle.jn_world.specs.declared.ended.Ended.{Ended}
-use Rattle.jn_world.specs.declared.ended.Ended.TheVariants.{Messages, Epoch, Memory}
-use Rattle.jn_world.specs.Written.{GoesTo, GoesTurn, DoesEvent, TakesTurn}
+use Rattle.jn_world.specs.Written.{GoesTo, DoesEvent, KeepsOn, TakesTurn}
 use Rattle.jn_world.proofs.Turns.{next-first}
 use Rattle.jn_written.specs.Chances.{Setup}
 use Rattle.jn_written.specs.Devices.{rubbish_on}
@@ -21,25 +20,13 @@ use Rattle.jn_written.specs.Runs.{Moment}
 use Rattle.jn_written.specs.Tasks.{Task, Rests}
 
 module _ {S : Type 0} (look : S → StoreView) (device : S → DeviceState) (seen : (s : S) → look s ≡ pairs_view (device s)) (when : When) (w : Standing S) where
-  -- this event is next, and was done
-  pub turn-done : {A : Type 0} (event : Event) (a : A) (u : Standing S) (first later : List Line)
+  -- this event is next, and was done or failed
+  pub turn-kept : {A : Type 0} (event : Event) (r : Result A Ended) (u : Standing S) (first later : List Line)
       → ((x : Setup) (m : Moment) → Stands look device x w m → next_in x (rubbish_on x m.devices) m.state.course ≡ Some event)
-      → DoesEvent look device event when w (Ok a) u first later → TakesTurn look device when w (Ok true) u first later
-  turn-done event a u first later is-next h x m rest stands tasks going is =
-      subst (λ (ts : List Task). WentOn look device x m (Rests ∷ drop 1 ts) u first later) tasks
+      → DoesEvent look device event when w r u first later → KeepsOn look device when w r u first later
+  turn-kept event r u first later is-next h x m rest stands tasks going is =
+      subst (λ (ts : List Task). GoesTo look device x m (Rests ∷ drop 1 ts) r u first later) tasks
       (h x m (Rests ∷ []) stands (rest-next look device seen x w m stands (next-first m.state Rests rest tasks going) event (is-next x m stands)) is)
-
-  -- or it failed
-  pub turn-failed : (A : Type 0) (event : Event) (e : Ended) (u : Standing S) (first later : List Line)
-      → ((x : Setup) (m : Moment) → Stands look device x w m → next_in x (rubbish_on x m.devices) m.state.course ≡ Some event)
-      → DoesEvent {S = S} {A = A} look device event when w (Err e) u first later → TakesTurn look device when w (Err e) u first later
-  turn-failed A event e u first later is-next h x m rest stands tasks going is =
-      by e (h x m (Rests ∷ []) stands (rest-next look device seen x w m stands (next-first m.state Rests rest tasks going) event (is-next x m stands)) is)
-    where
-      by : (e : Ended) → GoesTo {S = S} {A = A} look device x m ((Rests ∷ []) ++ drop 1 m.state.tasks) (Err e) u first later → GoesTurn look device x m rest (Err e) u first later
-      by Messages g = g
-      by (Epoch q) g = g
-      by Memory g = tt
 
   -- nothing is left to do
   pub turn-over : (first : List Line) → length w.net.sent ≤ 1000000

@@ -14,7 +14,7 @@ use Rattle.jn_stands.specs.Stands.{Standing}
 use Rattle.jn_store.specs.Store.{StoreView}
 use Rattle.jn_world.specs.declared.ended.Ended.{Ended}
 use Rattle.jn_world.specs.declared.ended.Ended.TheVariants.{Messages, Epoch, Memory}
-use Rattle.jn_world.specs.Written.{GoesTo, GoesTurn, DoesEvent, DoesTasks, TakesTurn, is_going}
+use Rattle.jn_world.specs.Written.{GoesTo, GoesTurn, DoesEvent, DoesTasks, KeepsOn, TakesTurn, is_going}
 use Rattle.jn_world.proofs.Calls.{goes-then, fails-anyhow, went-nowhere, went-going, went-when}
 use Rattle.jn_world.proofs.Numbers.{count_begins}
 use Rattle.jn_written.specs.Chances.{Setup}
@@ -43,11 +43,19 @@ module _ {S : Type 0} (look : S → StoreView) (device : S → DeviceState) (whe
 
   -- ---- turns
 
-  pub turns-none : (w : Standing S) (lines : List Line) → TakesTurn look device when w (Ok true) w lines lines
-  turns-none w lines x m rest stands tasks going is = subst (λ (ts : List Task). WentOn look device x m ts w lines lines) tasks (went-nowhere look device x m w lines stands)
+  pub turns-none : {A : Type 0} (a : A) (w : Standing S) (lines : List Line) → KeepsOn look device when w (Ok a) w lines lines
+  turns-none a w lines x m rest stands tasks going is = subst (λ (ts : List Task). WentOn look device x m ts w lines lines) tasks (went-nowhere look device x m w lines stands)
 
-  pub turn-then : (r : Result Bool Ended) (w v u : Standing S) (first now later : List Line) → TakesTurn look device when w (Ok true) v first now → TakesTurn look device when v r u now later → TakesTurn look device when w r u first later
-  turn-then r w v u first now later h k x m rest stands tasks going is =
+  -- turns, and then more
+  pub turns-more : {A B : Type 0} (a : A) (r : Result B Ended) (w v u : Standing S) (first now later : List Line) → KeepsOn look device when w (Ok a) v first now → KeepsOn look device when v r u now later → KeepsOn look device when w r u first later
+  turns-more a r w v u first now later h k x m rest stands tasks going is =
+      let went = h x m rest stands tasks going is in
+      goes-then look device x m (Rests ∷ rest) (Rests ∷ rest) v u first now later r went
+      (k x went.last rest went.stands went.tasks (went-going look device x m (Rests ∷ rest) v first now went going) (went-when look device x m (Rests ∷ rest) v first now went going (sym (ap count_begins tasks)) ∙ is))
+
+  -- what follows is the last turn, or another one
+  pub turn-then : {A : Type 0} (a : A) (r : Result Bool Ended) (w v u : Standing S) (first now later : List Line) → KeepsOn look device when w (Ok a) v first now → TakesTurn look device when v r u now later → TakesTurn look device when w r u first later
+  turn-then a r w v u first now later h k x m rest stands tasks going is =
       by r (k x went.last rest went.stands went.tasks (went-going look device x m (Rests ∷ rest) v first now went going) (went-when look device x m (Rests ∷ rest) v first now went going (sym (ap count_begins tasks)) ∙ is))
     where
       went : WentOn look device x m (Rests ∷ rest) v first now
@@ -60,13 +68,26 @@ module _ {S : Type 0} (look : S → StoreView) (device : S → DeviceState) (whe
       by (Err (Epoch q)) g = goes-then look device x {A = Bool} m (Rests ∷ rest) rest v u first now later (Err (Epoch q)) went g
       by (Err Memory) g = tt
 
-  pub turns-on : (b : Bool) (w u : Standing S) (first later : List Line) → b ≡ true → TakesTurn look device when w (Ok b) u first later → TakesTurn look device when w (Ok true) u first later
-  turns-on true w u first later is h = h
-  turns-on false w u first later is h = absurd (true≢false (sym is))
+  pub turns-on : {A : Type 0} (a : A) (b : Bool) (w u : Standing S) (first later : List Line) → b ≡ true → TakesTurn look device when w (Ok b) u first later → KeepsOn look device when w (Ok a) u first later
+  turns-on a true w u first later is h = h
+  turns-on a false w u first later is h = absurd (true≢false (sym is))
 
   pub turns-over : (b : Bool) (w u : Standing S) (first later : List Line) → b ≡ false → TakesTurn look device when w (Ok b) u first later → TakesTurn look device when w (Ok false) u first later
   turns-over true w u first later is h = absurd (true≢false is)
   turns-over false w u first later is h = h
+
+  -- turns that failed
+  pub turns-fail : (A : Type 0) (e : Ended) (w u v : Standing S) (first later : List Line) → KeepsOn {S = S} {A = A} look device when w (Err e) u first later → TakesTurn look device when w (Err e) v first later
+  turns-fail A Messages w u v first later h = h
+  turns-fail A (Epoch q) w u v first later h = h
+  turns-fail A Memory w u v first later h = λ x m rest stands tasks going is. tt
+
+  pub turns-exit : (A B : Type 0) (r : Result B Ended) (e : Ended) (w u v : Standing S) (first later : List Line) → IsErr r → IsErrAnd r (λ f. f ≡ e)
+      → KeepsOn {S = S} {A = A} look device when w (Err e) u first later → KeepsOn look device when w r v first later
+  turns-exit A B (Ok b) e w u v first later is which h = absurd (true≢false (sym is))
+  turns-exit A B (Err f) e w u v first later is which h =
+      subst (λ (g : Ended). KeepsOn {S = S} {A = B} look device when w (Err g) v first later) (sym which)
+      (λ x m rest stands its going at. fails-anyhow look device x A B m (Rests ∷ rest) (Rests ∷ rest) u v first later e (h x m rest stands its going at))
 
   -- nothing is left to do
   pub turns-end : {A : Type 0} (a : A) (w u : Standing S) (first later : List Line) → TakesTurn look device when w (Ok false) u first later → DoesTasks look device (λ x. Rests ∷ []) when w (Ok a) u first later

@@ -1,5 +1,5 @@
 -- The message that waits is one that was sent.
-use Rattle.std.proofs.Common.{◌≡◌, ◌≤◌, ◌<◌, ℕ, ◌+◌, Bool, true, false, cond, List, [], ◌∷◌, length, drop, length-drop, Some, is_some, true≢false, sym, ap, arith}
+use Rattle.std.proofs.Common.{◌≡◌, ◌≤◌, ◌<◌, ℕ, ◌+◌, Bool, true, false, cond, List, [], ◌∷◌, length, drop, length-drop, Option, Some, None, is_some, true≢false, refl, sym, ◌∙◌, ap, arith}
 use Rattle.std.specs.List.{position_from}
 use Rattle.std.specs.Prelude.{not}
 use Rattle.jn_net.specs.Carried.{Carried, waiting}
@@ -23,3 +23,11 @@ waiting-below c k e =
     let high = within.1 in
     let rest = length-drop c.forgotten c.sent in
     omega arith
+
+-- where it isn't so that some message waits, none does
+pub none-waits : (c : Carried) (found : Option ℕ) (b : Bool) → found ≡ waiting c → b ≡ is_some found → b ≡ false → waiting c ≡ None
+none-waits c found b is e not-so = by (waiting c) (sym e ∙ not-so) is
+  where
+    by : (o : Option ℕ) → is_some found ≡ false → found ≡ o → o ≡ None
+    by None f same = refl
+    by (Some k) f same = absurd (true≢false (sym (ap is_some same) ∙ f))

@@ -1,9 +1,12 @@
 -- The tasks of a settle, in parts, and which server makes the next step.
-use Rattle.std.specs.Prelude.{◌≡◌, ◌<◌, ℕ, Bool, true, false, List, map, length, slice_get, Option, Some, None}
+use Rattle.std.specs.Prelude.{◌≡◌, ◌<◌, ◌+◌, ℕ, Bool, true, false, if◌then◌else◌, List, [], ◌∷◌, map, length, slice_get, Option, Some, None}
 use Rattle.jn_base.specs.declared.names.ClientNo.{ClientNo}
 use Rattle.jn_base.specs.declared.names.ServerNo.{ServerNo}
 use Rattle.jn_device.specs.Device.{DeviceState}
+use Rattle.jn_net.specs.Carried.{Carried, waiting}
+use Rattle.jn_net.specs.declared.Sent.{Sent as Posted}
 use Rattle.jn_place.specs.declared.place.Place.{Place}
+use Rattle.jn_place.specs.Remaining.{steps_at}
 use Rattle.jn_recovery.specs.Loading.{counts_by}
 use Rattle.jn_schedule.specs.declared.Event.TheVariants.{Again, Nudge}
 use Rattle.jn_settling.specs.Settle.{clients_from}
@@ -50,3 +53,24 @@ pub record IsFirstBusy {S : Type 0} (look : S → StoreView) (device : S → Dev
 abbrev pub TellsFirst : {S : Type 0} → (S → StoreView) → (S → DeviceState) → List (Place S) → Option ServerNo → Type 0
 TellsFirst look device ps (Some q) = IsFirstBusy look device q ps
 TellsFirst look device ps None = AreIdleBelow look device (length ps) ps
+
+-- where no message waits nothing is left to do
+abbrev pub RestsUnlessWaiting : {S : Type 0} → (S → StoreView) → (S → DeviceState) → Carried → List (Place S) → Type 0
+RestsUnlessWaiting look device net ps = waiting net ≡ None → AreIdleBelow look device (length ps) ps
+
+-- no message waits, and nothing is left to do
+pub record IsAtRest {S : Type 0} (look : S → StoreView) (device : S → DeviceState) (net : Carried) (ps : List (Place S)) : Type 0 where
+  pub waits : waiting net ≡ None
+  pub idle : AreIdleBelow look device (length ps) ps
+
+-- ---- that a settle ends
+
+-- how many messages were handed over, which are no more than were sent
+abbrev pub handed : List Posted → ℕ
+handed [] = 0
+handed (m ∷ ms) = (if m.delivered then 1 else 0) + handed ms
+
+-- how many steps the servers have still to make, while they take no message
+abbrev pub steps_of_all : {S : Type 0} → (S → StoreView) → List (Place S) → ℕ
+steps_of_all look [] = 0
+steps_of_all look (p ∷ ps) = steps_at look p.slot + steps_of_all look ps

@@ -73,7 +73,7 @@ IsSentTo party (Some m) = m.to ≡ party
 
 -- ---- a turn of a rest
 
--- one step was made, and a rest is still next, or nothing was left to do
+-- steps were made, and a rest is still next, or nothing was left to do
 abbrev pub GoesTurn : {S : Type 0} → (S → StoreView) → (S → DeviceState) → Setup → Moment → List Task → Result Bool Ended → Standing S → List Line → List Line → Type 0
 GoesTurn look device x m rest (Ok true) w' lines lines' = WentOn look device x m (Rests ∷ rest) w' lines lines'
 GoesTurn look device x m rest (Ok false) w' lines lines' = WentOn look device x m rest w' lines lines'
@@ -85,6 +85,12 @@ abbrev pub TakesTurn : {S : Type 0} → (S → StoreView) → (S → DeviceState
 TakesTurn look device when w result w' lines lines' =
     (x : Setup) (m : Moment) (rest : List Task) → Stands look device x w m → m.state.tasks ≡ Rests ∷ rest → is_going m.state.stage ≡ true → when_of m.state ≡ when
     → GoesTurn look device x m rest result w' lines lines'
+
+-- A call made steps of a rest, which is still next.
+abbrev pub KeepsOn : {S A : Type 0} → (S → StoreView) → (S → DeviceState) → When → Standing S → Result A Ended → Standing S → List Line → List Line → Type 0
+KeepsOn look device when w result w' lines lines' =
+    (x : Setup) (m : Moment) (rest : List Task) → Stands look device x w m → m.state.tasks ≡ Rests ∷ rest → is_going m.state.stage ≡ true → when_of m.state ≡ when
+    → GoesTo look device x m (Rests ∷ rest) result w' lines lines'
 
 -- ---- the end of a step
 

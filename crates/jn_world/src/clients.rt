@@ -1,6 +1,7 @@
 //! What clients do.
 ghost use Rattle.std.specs.Prelude.{◌≡◌, ◌<◌, ◌≤◌, ◌+◌, true, false, vec_len, length, OnOk, IfOk, IfSome, All, [], ◌∷◌, ◌++◌, slice_get};
 ghost use Rattle.jn_base.specs.declared.names.Party.TheVariants.{Client as AClient};
+ghost use Rattle.jn_net.specs.Carried.{with_delivered};
 ghost use Rattle.jn_report.specs.declared.line.When.TheVariants.{Event as AtEvent};
 ghost use Rattle.jn_rows.specs.Client.{new_table, take_row};
 ghost use Rattle.jn_schedule.specs.declared.Event.TheVariants as events;
@@ -9,6 +10,7 @@ ghost use Rattle.jn_stands.specs.Stands.{with_sent};
 ghost use Rattle.jn_within.specs.Taking.{sent_for, AllCanBeTaken, CommandInRange};
 ghost use Rattle.jn_world.specs.Calm.{StayUp};
 ghost use Rattle.jn_world.specs.Opening.{AreNew};
+ghost use Rattle.jn_world.specs.Settling.{handed};
 ghost use Rattle.jn_world.specs.Standing.{IsWorld, IsClientOf, is_client, posted_by};
 ghost use Rattle.jn_world.specs.Written.{DoesEvent, EndsStep, IsSentTo, standing_of};
 ghost use Rattle.jn_written.specs.Steps.{lines_at, message_texts, traced};
@@ -137,6 +139,7 @@ impl<S: Powered + Drop> World<S> {
         ensures world { OnOk result (IsWorld (λ s. S.view s) self.new) }
         ensures calm { OnOk result (StayUp (λ s. S.view s) self.old.places.items self.new.places.items) }
         ensures does { DoesEvent (λ s. S.view s) (λ s. S.device s) (events.Deliver k) when (standing_of self.old) result (standing_of self.new) lines.old.items lines.new.items }
+        ensures hands { OnOk result (handed self.new.net.sent ≡ handed (with_delivered k self.old.net.sent)) }
     {
         if is_client(client) {
             return self.take_at_own(client, k, when, lines);
@@ -159,6 +162,7 @@ impl<S: Powered + Drop> World<S> {
         ensures world { OnOk result (IsWorld (λ s. S.view s) self.new) }
         ensures calm { OnOk result (StayUp (λ s. S.view s) self.old.places.items self.new.places.items) }
         ensures does { DoesEvent (λ s. S.view s) (λ s. S.device s) (events.Deliver k) when (standing_of self.old) result (standing_of self.new) lines.old.items lines.new.items }
+        ensures hands { OnOk result (handed self.new.net.sent ≡ handed (with_delivered k self.old.net.sent)) }
     {
         let Some(sent) = self.net.message(k) else {
             unreachable!()
@@ -183,6 +187,7 @@ impl<S: Powered + Drop> World<S> {
         ensures world { OnOk result (IsWorld (λ s. S.view s) self.new) }
         ensures calm { OnOk result (StayUp (λ s. S.view s) self.old.places.items self.new.places.items) }
         ensures does { DoesEvent (λ s. S.view s) (λ s. S.device s) (events.Deliver k) when (standing_of self.old) result (standing_of self.new) lines.old.items lines.new.items }
+        ensures hands { OnOk result (handed self.new.net.sent ≡ handed (with_delivered k self.old.net.sent)) }
     {
         let servers = self.servers();
         let Some(sent) = self.net.message(k) else {

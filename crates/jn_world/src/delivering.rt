@@ -1,8 +1,10 @@
 //! Messages that are handed over.
 ghost use Rattle.std.specs.Prelude.{◌≡◌, ◌<◌, ◌∷◌, [], true, false, length, OnOk, slice_get};
 ghost use Rattle.jn_base.specs.declared.names.Party.TheVariants.{Server as AServer};
+ghost use Rattle.jn_net.specs.Carried.{with_delivered};
 ghost use Rattle.jn_schedule.specs.declared.Event.TheVariants as events;
 ghost use Rattle.jn_world.specs.Calm.{StayUp};
+ghost use Rattle.jn_world.specs.Settling.{handed};
 ghost use Rattle.jn_world.specs.Standing.{IsWorld, is_up_at};
 ghost use Rattle.jn_world.specs.Written.{DoesEvent, DoesTasks, IsSentTo, standing_of};
 ghost use Rattle.jn_written.specs.Tasks.{Meets};
@@ -39,6 +41,7 @@ impl<S: Powered + Drop> World<S> {
         ensures world { OnOk result (IsWorld (λ s. S.view s) self.new) }
         ensures calm { OnOk result (StayUp (λ s. S.view s) self.old.places.items self.new.places.items) }
         ensures does { DoesEvent (λ s. S.view s) (λ s. S.device s) (events.Deliver k) when (standing_of self.old) result (standing_of self.new) lines.old.items lines.new.items }
+        ensures hands { OnOk result (handed self.new.net.sent ≡ handed (with_delivered k self.old.net.sent)) }
     {
         let Some(sent) = self.net.message(k) else {
             unreachable!()
@@ -63,6 +66,7 @@ impl<S: Powered + Drop> World<S> {
         ensures world { OnOk result (IsWorld (λ s. S.view s) self.new) }
         ensures calm { OnOk result (StayUp (λ s. S.view s) self.old.places.items self.new.places.items) }
         ensures does { DoesEvent (λ s. S.view s) (λ s. S.device s) (events.Deliver k) when (standing_of self.old) result (standing_of self.new) lines.old.items lines.new.items }
+        ensures hands { OnOk result (handed self.new.net.sent ≡ handed (with_delivered k self.old.net.sent)) }
     {
         if !self.is_up(server) {
             return self.lose(server, k, when, lines);
@@ -85,6 +89,7 @@ impl<S: Powered + Drop> World<S> {
         ensures world { OnOk result (IsWorld (λ s. S.view s) self.new) }
         ensures calm { OnOk result (StayUp (λ s. S.view s) self.old.places.items self.new.places.items) }
         ensures does { DoesEvent (λ s. S.view s) (λ s. S.device s) (events.Deliver k) when (standing_of self.old) result (standing_of self.new) lines.old.items lines.new.items }
+        ensures hands { OnOk result (handed self.new.net.sent ≡ handed (with_delivered k self.old.net.sent)) }
     {
         self.net.delivered(k);
         tell(lines, when, Text::Lost(k))?;
@@ -106,6 +111,7 @@ impl<S: Powered + Drop> World<S> {
         ensures world { OnOk result (IsWorld (λ s. S.view s) self.new) }
         ensures calm { OnOk result (StayUp (λ s. S.view s) self.old.places.items self.new.places.items) }
         ensures does { DoesEvent (λ s. S.view s) (λ s. S.device s) (events.Deliver k) when (standing_of self.old) result (standing_of self.new) lines.old.items lines.new.items }
+        ensures hands { OnOk result (handed self.new.net.sent ≡ handed (with_delivered k self.old.net.sent)) }
     {
         let mut told = Vec::new(self.alloc);
         let Some(sent) = self.net.message(k) else {

@@ -1,10 +1,11 @@
 //! What servers that are up do without a message.
-ghost use Rattle.std.specs.Prelude.{◌≡◌, ◌∷◌, ◌++◌, [], true, map, vec_len, OnOk};
+ghost use Rattle.std.specs.Prelude.{◌≡◌, ◌<◌, ◌∷◌, ◌++◌, [], true, map, vec_len, OnOk};
 ghost use Rattle.jn_place.specs.Exact.{items_of};
 ghost use Rattle.jn_schedule.specs.declared.Event.TheVariants as events;
 ghost use Rattle.jn_stands.specs.Showing.{text_shown, texts_shown};
 ghost use Rattle.jn_world.specs.Calm.{AreQuiet, AreUpAndCalm, IsTakenDown, StayUp};
 ghost use Rattle.jn_world.specs.Closing.{AreIdle};
+ghost use Rattle.jn_world.specs.Settling.{handed, steps_of_all};
 ghost use Rattle.jn_world.specs.Standing.{IsWorld, is_up_at, works_at};
 ghost use Rattle.jn_world.specs.Written.{DoesEvent, DoesTasks, standing_of};
 ghost use Rattle.jn_written.specs.Steps.{lines_at};
@@ -80,8 +81,8 @@ impl<S: Powered + Drop> World<S> {
         self.make_step(server, when, lines)
     }
 
-    /// A server that has something to do makes one background step.
-    fn make_step(
+    /// A server that has something to do makes one background step, which leaves fewer to make.
+    pub(crate) fn make_step(
         &mut self,
         server: ServerNo,
         when: When,
@@ -93,6 +94,8 @@ impl<S: Powered + Drop> World<S> {
         ensures world { OnOk result (IsWorld (λ s. S.view s) self.new) }
         ensures calm { OnOk result (StayUp (λ s. S.view s) self.old.places.items self.new.places.items) }
         ensures does { DoesEvent (λ s. S.view s) (λ s. S.device s) (events.Step server) when (standing_of self.old) result (standing_of self.new) lines.old.items lines.new.items }
+        ensures hands { OnOk result (handed self.new.net.sent ≡ handed self.old.net.sent) }
+        ensures less { OnOk result (steps_of_all (λ s. S.view s) self.new.places.items < steps_of_all (λ s. S.view s) self.old.places.items) }
     {
         let mut told = Vec::new(self.alloc);
         let place = &mut self.places[usize::from(server.0)];

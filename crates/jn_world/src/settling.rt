@@ -1,10 +1,10 @@
 //! A settle: until nothing is left to do.
-ghost use Rattle.std.specs.Prelude.{◌≡◌, ◌<◌, ◌∷◌, [], vec_len, OnOk};
+ghost use Rattle.std.specs.Prelude.{◌≡◌, ◌<◌, ◌∷◌, [], suc, true, false, vec_len, OnOk, IfOk};
 ghost use Rattle.jn_schedule.specs.declared.Event.TheVariants.{Nudge};
 ghost use Rattle.jn_world.specs.Calm.{StayUp};
-ghost use Rattle.jn_world.specs.Settling.{TellsBusy, TellsFirst, asking_clients, asking_servers};
+ghost use Rattle.jn_world.specs.Settling.{IsAtRest, RestsUnlessWaiting, TellsBusy, TellsFirst, asking_clients, asking_servers, handed, steps_of_all};
 ghost use Rattle.jn_world.specs.Standing.{IsWorld};
-ghost use Rattle.jn_world.specs.Written.{DoesEvent, DoesTasks, TakesTurn, standing_of};
+ghost use Rattle.jn_world.specs.Written.{DoesEvent, DoesTasks, KeepsOn, TakesTurn, standing_of};
 ghost use Rattle.jn_written.specs.Events.{asking, settling};
 ghost use Rattle.jn_written.specs.Tasks.{Rests};
 
@@ -22,6 +22,7 @@ impl<S: Powered + Drop> World<S> {
         ensures world { OnOk result (IsWorld (λ s. S.view s) self.new) }
         ensures calm { OnOk result (StayUp (λ s. S.view s) self.old.places.items self.new.places.items) }
         ensures does { DoesTasks (λ s. S.view s) (λ s. S.device s) settling when (standing_of self.old) result (standing_of self.new) lines.old.items lines.new.items }
+        ensures rests { OnOk result (IsAtRest (λ s. S.view s) (λ s. S.device s) self.new.net self.new.places.items) }
     {
         self.come_to_rest(when, lines)?;
         self.ask_again(when, lines)?;
@@ -34,33 +35,63 @@ impl<S: Powered + Drop> World<S> {
         ensures world { OnOk result (IsWorld (λ s. S.view s) self.new) }
         ensures calm { OnOk result (StayUp (λ s. S.view s) self.old.places.items self.new.places.items) }
         ensures does { DoesTasks (λ s. S.view s) (λ s. S.device s) (λ x. Rests ∷ []) when (standing_of self.old) result (standing_of self.new) lines.old.items lines.new.items }
+        ensures rests { OnOk result (IsAtRest (λ s. S.view s) (λ s. S.device s) self.new.net self.new.places.items) }
     {
-        for _ in 0..u64::MAX {
-            if !self.goes_on(when, lines)? {
-                return Ok(());
-            }
-        }
-        // No settle has so many steps: each hands over a message, carries an intention out or erases a record.
-        Err(Ended::Memory)
+        // Each turn hands one message over, and no message is handed over twice.
+        while self.goes_on(when, lines)? {}
+        Ok(())
     }
 
-    /// The least message that waits is handed over; where none waits, the first server that has something to do makes a
-    /// step. False exactly where nothing is left to do.
+    /// What servers have to do is carried out, until a message waits; then the least that waits is handed over. False exactly where
+    /// none waits and nothing is left to do.
     fn goes_on(&mut self, when: When, lines: &mut Vec<Line>) -> Result<bool, Ended>
         requires world { IsWorld (λ s. S.view s) self.old }
         ensures world { OnOk result (IsWorld (λ s. S.view s) self.new) }
         ensures calm { OnOk result (StayUp (λ s. S.view s) self.old.places.items self.new.places.items) }
         ensures turn { TakesTurn (λ s. S.view s) (λ s. S.device s) when (standing_of self.old) result (standing_of self.new) lines.old.items lines.new.items }
+        ensures hands { IfOk result (λ hands. hands ≡ true → handed self.new.net.sent ≡ suc (handed self.old.net.sent)) }
+        ensures rests { IfOk result (λ hands. hands ≡ false → IsAtRest (λ s. S.view s) (λ s. S.device s) self.new.net self.new.places.items) }
     {
-        if let Some(k) = self.net.waiting() {
-            self.hand_over(k, when, lines)?;
-            return Ok(true);
-        }
-        let Some(server) = self.first_busy() else {
+        self.carry_out(when, lines)?;
+        let Some(k) = self.net.waiting() else {
             return Ok(false);
         };
-        self.work(server, when, lines)?;
+        self.hand_over(k, when, lines)?;
         Ok(true)
+    }
+
+    /// Servers make steps, until a message waits or none has anything to do.
+    fn carry_out(&mut self, when: When, lines: &mut Vec<Line>) -> Result<(), Ended>
+        requires world { IsWorld (λ s. S.view s) self.old }
+        ensures world { OnOk result (IsWorld (λ s. S.view s) self.new) }
+        ensures calm { OnOk result (StayUp (λ s. S.view s) self.old.places.items self.new.places.items) }
+        ensures turns { KeepsOn (λ s. S.view s) (λ s. S.device s) when (standing_of self.old) result (standing_of self.new) lines.old.items lines.new.items }
+        ensures hands { OnOk result (handed self.new.net.sent ≡ handed self.old.net.sent) }
+        ensures rests { OnOk result (RestsUnlessWaiting (λ s. S.view s) (λ s. S.device s) self.new.net self.new.places.items) }
+    {
+        // Each step leaves fewer to make.
+        while self.carries_on(when, lines)? {}
+        Ok(())
+    }
+
+    /// Where no message waits, the first server that has something to do makes a step. Whether one did.
+    fn carries_on(&mut self, when: When, lines: &mut Vec<Line>) -> Result<bool, Ended>
+        requires world { IsWorld (λ s. S.view s) self.old }
+        ensures world { OnOk result (IsWorld (λ s. S.view s) self.new) }
+        ensures calm { OnOk result (StayUp (λ s. S.view s) self.old.places.items self.new.places.items) }
+        ensures turn { KeepsOn (λ s. S.view s) (λ s. S.device s) when (standing_of self.old) result (standing_of self.new) lines.old.items lines.new.items }
+        ensures hands { OnOk result (handed self.new.net.sent ≡ handed self.old.net.sent) }
+        ensures less { IfOk result (λ works. works ≡ true → steps_of_all (λ s. S.view s) self.new.places.items < steps_of_all (λ s. S.view s) self.old.places.items) }
+        ensures rests { IfOk result (λ works. works ≡ false → RestsUnlessWaiting (λ s. S.view s) (λ s. S.device s) self.new.net self.new.places.items) }
+    {
+        if self.net.waiting().is_some() {
+            return Ok(false);
+        }
+        if let Some(server) = self.first_busy() {
+            self.make_step(server, when, lines)?;
+            return Ok(true);
+        }
+        Ok(false)
     }
 
     /// The first server that is up and has something to do.

@@ -6,6 +6,7 @@ ghost use Rattle.jn_schedule.specs.Ranges.{EventInRange};
 ghost use Rattle.jn_world.specs.declared.ended.Ended.TheVariants.{Memory};
 ghost use Rattle.jn_world.specs.Standing.{IsWorld, is_client, is_up_at};
 ghost use Rattle.jn_world.specs.Meeting.{IsAtUp};
+ghost use Rattle.jn_world.specs.Settling.{IsAtRest};
 ghost use Rattle.jn_world.specs.Written.{DoesScheduled, DoesTasks, standing_of};
 ghost use Rattle.jn_written.specs.Events.{settling};
 ghost use Rattle.jn_written.specs.Tasks.{Meets};
@@ -78,6 +79,7 @@ impl<S: Powered + Drop> World<S> {
         requires world { IsWorld (λ s. S.view s) self.old }
         ensures world { OnOk result (IsWorld (λ s. S.view s) self.new) }
         ensures does { DoesTasks (λ s. S.view s) (λ s. S.device s) settling (AtEvent number) (standing_of self.old) result (standing_of self.new) lines.old.items lines.new.items }
+        ensures rests { OnOk result (IsAtRest (λ s. S.view s) (λ s. S.device s) self.new.net self.new.places.items) }
     {
         self.settle_at(When::Event(number), lines)
     }

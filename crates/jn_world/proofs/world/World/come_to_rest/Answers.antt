@@ -1,19 +1,25 @@
-use Rattle.std.proofs.Common.{ℕ, true, false, ◌∷◌, [], Ok, Err}
+use Rattle.std.proofs.Common.{ℕ, false, ◌∷◌, [], Ok, Err}
 use Rattle.jn_device.specs.Device.{DeviceState}
 use Rattle.jn_store.specs.Store.{StoreView}
+use Rattle.jn_world.specs.Settling.{handed}
 use Rattle.jn_world.specs.Written.{standing_of}
 use Rattle.jn_written.specs.Tasks.{Rests}
-use Rattle.jn_world.proofs.Turns.{turns-none, turn-then, turns-on, turns-over, turns-end, turns-cut, does-exit}
+use Rattle.jn_world.proofs.Measures.{handed-most, fewer-left}
+use Rattle.jn_world.proofs.Turns.{turns-none, turns-more, turn-then, turns-on, turns-over, turns-end, turns-cut, does-exit}
 use Rattle.jn_world.proofs.world.World.come_to_rest.Goals as goal
 
 pub loop-init : goal.loop-init
 loop-init g c =
     let look : g.row.S.Denot → StoreView = λ s. g.S.StableStore.view s in
     let device : g.row.S.Denot → DeviceState = λ s. g.S.Powered.device s in
-    let when = c.args.when in
-    let w = standing_of c.args.self.now in
-    let first = c.args.lines.now.items in
-    record { world = c.requires.world; calm = λ all. all; turns = turns-none look device when w first }
+    record { world = c.requires.world; calm = λ all. all; turns = turns-none look device c.args.when {A = ℕ} 0 (standing_of c.args.self.now) c.args.lines.now.items }
+
+pub loop-smaller : goal.loop-smaller
+loop-smaller g c =
+    let e = c.in_ok-goes_on.ensures in
+    let limit = e.world in
+    let sent = c.goes_on.new.self.net.sent in
+    fewer-left (handed c.loop.self.net.sent) (handed sent) _ (e.hands c.if-branch.true) (handed-most sent) limit.limit
 
 pub loop-preserved : goal.loop-preserved
 loop-preserved g c =
@@ -30,11 +36,11 @@ loop-preserved g c =
     record {
       world = e.world;
       calm = λ all. e.calm (c.loop.invariant.calm all);
-      turns = turn-then look device when (Ok true) w v u first now later c.loop.invariant.turns (turns-on look device when c.in_ok-goes_on.field-0 v u now later c.if-not-branch.false e.turn);
+      turns = turns-more look device when {A = ℕ} {B = ℕ} 0 (Ok 0) w v u first now later c.loop.invariant.turns (turns-on look device when {A = ℕ} 0 c.in_ok-goes_on.field-0 v u now later c.if-branch.true e.turn);
     }
 
-pub returns-then-not-branch-clause-does : goal.returns-then-not-branch-clause-does
-returns-then-not-branch-clause-does g c =
+pub returns-clause-does : goal.returns-clause-does
+returns-clause-does g c =
     let look : g.row.S.Denot → StoreView = λ s. g.S.StableStore.view s in
     let device : g.row.S.Denot → DeviceState = λ s. g.S.Powered.device s in
     let when = c.args.when in
@@ -46,7 +52,10 @@ returns-then-not-branch-clause-does g c =
     let later = c.goes_on.new.lines.items in
     let e = c.in_ok-goes_on.ensures in
     turns-end look device when {A = ℕ} 0 w u first later
-    (turn-then look device when (Ok false) w v u first now later c.loop.invariant.turns (turns-over look device when c.in_ok-goes_on.field-0 v u now later c.if-not-branch.true e.turn))
+    (turn-then look device when {A = ℕ} 0 (Ok false) w v u first now later c.loop.invariant.turns (turns-over look device when c.in_ok-goes_on.field-0 v u now later c.if-branch.false e.turn))
+
+pub returns-clause-calm : goal.returns-clause-calm
+returns-clause-calm g c = let e = c.in_ok-goes_on.ensures in λ all. e.calm (c.loop.invariant.calm all)
 
 pub returns-in_err-goes_on-clause-does : goal.returns-in_err-goes_on-clause-does
 returns-in_err-goes_on-clause-does g c =
@@ -62,7 +71,7 @@ returns-in_err-goes_on-clause-does g c =
     let e = c.in_err-goes_on.field-0.0 in
     let ends = c.in_err-goes_on.ensures in
     does-exit look device when ℕ _ c.from_residual.result e (λ x. Rests ∷ []) w u u first later c.from_residual.ensures.0 c.from_residual.ensures.1
-    (turns-cut look device when ℕ e w u first later (turn-then look device when (Err e) w v u first now later c.loop.invariant.turns ends.turn))
+    (turns-cut look device when ℕ e w u first later (turn-then look device when {A = ℕ} 0 (Err e) w v u first now later c.loop.invariant.turns ends.turn))
 
-pub returns-then-not-branch-clause-calm : goal.returns-then-not-branch-clause-calm
-returns-then-not-branch-clause-calm g c = let e = c.in_ok-goes_on.ensures in λ all. e.calm (c.loop.invariant.calm all)
+pub returns-clause-rests : goal.returns-clause-rests
+returns-clause-rests g c = let e = c.in_ok-goes_on.ensures in e.rests c.if-branch.false

@@ -1,96 +1,104 @@
-use Rattle.std.proofs.Common.{ℕ, Option, sym, ◌∙◌, subst}
-use Rattle.jn_base.specs.declared.names.ServerNo.{ServerNo}
+use Rattle.std.proofs.Common.{ℕ, suc, true, false, Ok, Err, sym, ◌∙◌, ap}
 use Rattle.jn_device.specs.Device.{DeviceState}
-use Rattle.jn_schedule.specs.declared.Event.TheVariants.{Deliver, Step}
+use Rattle.jn_schedule.specs.declared.Event.TheVariants.{Deliver}
 use Rattle.jn_stands.proofs.RestNext.{next-delivers}
 use Rattle.jn_store.specs.Store.{StoreView}
-use Rattle.jn_world.specs.Settling.{TellsFirst}
 use Rattle.jn_world.specs.Written.{standing_of}
-use Rattle.jn_world.proofs.Busy.{turn-exit, works-next, none-next}
-use Rattle.jn_world.proofs.Resting.{turn-done, turn-failed, turn-over}
+use Rattle.jn_world.proofs.Busy.{turn-exit, none-next}
+use Rattle.jn_world.proofs.Measures.{hands-more}
+use Rattle.jn_world.proofs.Resting.{turn-kept, turn-over}
+use Rattle.jn_world.proofs.Turns.{turn-then, turns-fail}
 use Rattle.jn_world.proofs.Waits.{waiting-below}
 use Rattle.jn_world.proofs.world.World.goes_on.Goals as goal
 
 pub hand_over-requires-clause-sent : goal.hand_over-requires-clause-sent
-hand_over-requires-clause-sent g c = waiting-below c.args.self.now.net c.in-Some.k c.in-Some.ensures
+hand_over-requires-clause-sent g c = waiting-below c.carry_out.new.self.net c.in-Some.k (sym c.in-Some.is ∙ c.waiting.ensures)
+
+pub returns-in_err-carry_out-clause-turn : goal.returns-in_err-carry_out-clause-turn
+returns-in_err-carry_out-clause-turn g c =
+    let look : g.row.S.Denot → StoreView = λ s. g.S.StableStore.view s in
+    let device : g.row.S.Denot → DeviceState = λ s. g.S.Powered.device s in
+    let seen = g.met.S.Powered.seen in
+    let when = c.args.when in
+    let w = standing_of c.args.self.now in
+    let first = c.args.lines.now.items in
+    let v = standing_of c.carry_out.new.self in
+    let now = c.carry_out.new.lines.items in
+    let fails = c.in_err-carry_out.ensures in
+    let e = c.in_err-carry_out.field-0.0 in
+    turn-exit look device seen when c.from_residual.result e w v v first now c.from_residual.ensures.0 c.from_residual.ensures.1
+    (turns-fail look device when ℕ e w v v first now fails.turns)
+
+pub returns-in_default-clause-turn : goal.returns-in_default-clause-turn
+returns-in_default-clause-turn g c =
+    let look : g.row.S.Denot → StoreView = λ s. g.S.StableStore.view s in
+    let device : g.row.S.Denot → DeviceState = λ s. g.S.Powered.device s in
+    let seen = g.met.S.Powered.seen in
+    let when = c.args.when in
+    let w = standing_of c.args.self.now in
+    let first = c.args.lines.now.items in
+    let v = standing_of c.carry_out.new.self in
+    let now = c.carry_out.new.lines.items in
+    let went = c.in_ok-carry_out.ensures in
+    let limit = went.world in
+    let none = sym c.waiting.ensures ∙ c.in_default.is in
+    turn-then look device when {A = ℕ} 0 (Ok false) w v v first now now went.turns (turn-over look device seen when v now limit.limit (none-next look device seen v none (went.rests none)))
 
 pub returns-in_err-hand_over-clause-turn : goal.returns-in_err-hand_over-clause-turn
 returns-in_err-hand_over-clause-turn g c =
     let look : g.row.S.Denot → StoreView = λ s. g.S.StableStore.view s in
     let device : g.row.S.Denot → DeviceState = λ s. g.S.Powered.device s in
     let seen = g.met.S.Powered.seen in
+    let when = c.args.when in
     let w = standing_of c.args.self.now in
     let first = c.args.lines.now.items in
+    let v = standing_of c.carry_out.new.self in
+    let now = c.carry_out.new.lines.items in
+    let went = c.in_ok-carry_out.ensures in
     let u = standing_of c.hand_over.new.self in
     let later = c.hand_over.new.lines.items in
     let k = c.in-Some.k in
+    let waits = sym c.in-Some.is ∙ c.waiting.ensures in
     let fails = c.in_err-hand_over.ensures in
     let e = c.in_err-hand_over.field-0.0 in
-    turn-exit look device seen c.args.when c.from_residual.result e w u u first later c.from_residual.ensures.0 c.from_residual.ensures.1
-    (turn-failed look device seen c.args.when w ℕ (Deliver k) e u first later (λ x m stands. next-delivers look device seen x w m stands k (sym c.in-Some.ensures)) fails.does)
-
-pub returns-in-Some-clause-turn : goal.returns-in-Some-clause-turn
-returns-in-Some-clause-turn g c =
-    let look : g.row.S.Denot → StoreView = λ s. g.S.StableStore.view s in
-    let device : g.row.S.Denot → DeviceState = λ s. g.S.Powered.device s in
-    let seen = g.met.S.Powered.seen in
-    let w = standing_of c.args.self.now in
-    let first = c.args.lines.now.items in
-    let u = standing_of c.hand_over.new.self in
-    let later = c.hand_over.new.lines.items in
-    let k = c.in-Some.k in
-    let went = c.in_ok-hand_over.ensures in
-    turn-done look device seen c.args.when w {A = ℕ} (Deliver k) 0 u first later (λ x m stands. next-delivers look device seen x w m stands k (sym c.in-Some.ensures)) went.does
-
-pub returns-in_default-first_busy-clause-turn : goal.returns-in_default-first_busy-clause-turn
-returns-in_default-first_busy-clause-turn g c =
-    let look : g.row.S.Denot → StoreView = λ s. g.S.StableStore.view s in
-    let device : g.row.S.Denot → DeviceState = λ s. g.S.Powered.device s in
-    let seen = g.met.S.Powered.seen in
-    let w = standing_of c.args.self.now in
-    let first = c.args.lines.now.items in
-    let idle = subst (λ (o : Option ServerNo). TellsFirst look device w.places o) c.in_default-first_busy.is c.first_busy.ensures.first in
-    let none = sym c.waiting.ensures ∙ c.in_default.is in
-    let has = c.requires.world in
-    turn-over look device seen c.args.when w first has.limit (none-next look device seen w none idle)
-
-pub returns-in_err-work-clause-turn : goal.returns-in_err-work-clause-turn
-returns-in_err-work-clause-turn g c =
-    let look : g.row.S.Denot → StoreView = λ s. g.S.StableStore.view s in
-    let device : g.row.S.Denot → DeviceState = λ s. g.S.Powered.device s in
-    let seen = g.met.S.Powered.seen in
-    let w = standing_of c.args.self.now in
-    let first = c.args.lines.now.items in
-    let busy = subst (λ (o : Option ServerNo). TellsFirst look device w.places o) c.in-Some-first_busy.is c.first_busy.ensures.first in
-    let q = c.in-Some-first_busy.server in
-    let none = sym c.waiting.ensures ∙ c.in_default.is in
-    let u = standing_of c.work.new.self in
-    let later = c.work.new.lines.items in
-    let fails = c.in_err-work.ensures in
-    let e = c.in_err-work.field-0.0 in
-    turn-exit look device seen c.args.when c.from_residual-in_err-work.result e w u u first later c.from_residual-in_err-work.ensures.0 c.from_residual-in_err-work.ensures.1
-    (turn-failed look device seen c.args.when w ℕ (Step q) e u first later (works-next look device seen w none q busy) fails.does)
+    turn-exit look device seen when c.from_residual-in_err-hand_over.result e w u u first later c.from_residual-in_err-hand_over.ensures.0 c.from_residual-in_err-hand_over.ensures.1
+    (turn-then look device when {A = ℕ} 0 (Err e) w v u first now later went.turns
+    (turns-fail look device when ℕ e v u u now later (turn-kept look device seen when v {A = ℕ} (Deliver k) (Err e) u now later (λ x m stands. next-delivers look device seen x v m stands k (sym waits)) fails.does)))
 
 pub returns-clause-turn : goal.returns-clause-turn
 returns-clause-turn g c =
     let look : g.row.S.Denot → StoreView = λ s. g.S.StableStore.view s in
     let device : g.row.S.Denot → DeviceState = λ s. g.S.Powered.device s in
     let seen = g.met.S.Powered.seen in
+    let when = c.args.when in
     let w = standing_of c.args.self.now in
     let first = c.args.lines.now.items in
-    let busy = subst (λ (o : Option ServerNo). TellsFirst look device w.places o) c.in-Some-first_busy.is c.first_busy.ensures.first in
-    let q = c.in-Some-first_busy.server in
-    let none = sym c.waiting.ensures ∙ c.in_default.is in
-    let u = standing_of c.work.new.self in
-    let later = c.work.new.lines.items in
-    let went = c.in_ok-work.ensures in
-    turn-done look device seen c.args.when w {A = ℕ} (Step q) 0 u first later (works-next look device seen w none q busy) went.does
+    let v = standing_of c.carry_out.new.self in
+    let now = c.carry_out.new.lines.items in
+    let went = c.in_ok-carry_out.ensures in
+    let u = standing_of c.hand_over.new.self in
+    let later = c.hand_over.new.lines.items in
+    let k = c.in-Some.k in
+    let waits = sym c.in-Some.is ∙ c.waiting.ensures in
+    let hands = c.in_ok-hand_over.ensures in
+    turn-then look device when {A = ℕ} 0 (Ok true) w v u first now later went.turns
+    (turn-kept look device seen when v {A = ℕ} (Deliver k) (Ok 0) u now later (λ x m stands. next-delivers look device seen x v m stands k (sym waits)) hands.does)
 
-pub returns-in_default-first_busy-clause-calm : goal.returns-in_default-first_busy-clause-calm
-returns-in_default-first_busy-clause-calm g c = λ all. all
+pub returns-clause-hands : goal.returns-clause-hands
+returns-clause-hands g c =
+    let went = c.in_ok-carry_out.ensures in
+    let hands = c.in_ok-hand_over.ensures in
+    let waits = sym c.in-Some.is ∙ c.waiting.ensures in
+    λ _. hands.hands ∙ hands-more c.carry_out.new.self.net c.in-Some.k waits ∙ ap suc went.hands
 
-pub returns-in-Some-clause-calm : goal.returns-in-Some-clause-calm
-returns-in-Some-clause-calm g c = let went = c.in_ok-hand_over.ensures in went.calm
+pub returns-in_default-clause-calm : goal.returns-in_default-clause-calm
+returns-in_default-clause-calm g c = let went = c.in_ok-carry_out.ensures in went.calm
 
 pub returns-clause-calm : goal.returns-clause-calm
-returns-clause-calm g c = let went = c.in_ok-work.ensures in went.calm
+returns-clause-calm g c = let went = c.in_ok-carry_out.ensures in let hands = c.in_ok-hand_over.ensures in λ all. hands.calm (went.calm all)
+
+pub returns-in_default-clause-rests : goal.returns-in_default-clause-rests
+returns-in_default-clause-rests g c =
+    let went = c.in_ok-carry_out.ensures in
+    let none = sym c.waiting.ensures ∙ c.in_default.is in
+    λ _. record { waits = none; idle = went.rests none }

@@ -4,6 +4,7 @@ use Rattle.jn_store.specs.Store.{StoreView}
 use Rattle.jn_world.specs.Written.{standing_of}
 use Rattle.jn_world.proofs.LostCalls.{lost-to, delivered-limit}
 use Rattle.jn_world.proofs.Places.{delivered-world}
+use Rattle.jn_world.proofs.Measures.{hands-one}
 use Rattle.jn_world.proofs.world.World.lose.Goals as goal
 
 pub returns-clause-world : goal.returns-clause-world
@@ -22,3 +23,6 @@ returns-clause-does g c =
 
 pub returns-clause-calm : goal.returns-clause-calm
 returns-clause-calm g c = λ all. all
+
+pub returns-clause-hands : goal.returns-clause-hands
+returns-clause-hands g c = hands-one c.args.self.now.net c.delivered.new.self c.args.k c.delivered.ensures

@@ -1,4 +1,4 @@
-use Rattle.std.proofs.Common.{length, sym, ◌∙◌, is_some}
+use Rattle.std.proofs.Common.{length, sym, ◌∙◌, ap, is_some}
 use Rattle.std.specs.Vec.{with_item}
 use Rattle.jn_device.specs.Device.{DeviceState}
 use Rattle.jn_store.specs.Store.{StoreView}
@@ -7,6 +7,9 @@ use Rattle.jn_world.proofs.Busy.{left-counts, reads-here, worked-now, works-here
 use Rattle.jn_world.proofs.Places.{place-is, place-here, place-million, up-here, moved-sent}
 use Rattle.jn_world.proofs.Worlds.{places-of, clients-of}
 use Rattle.jn_world.proofs.Calm.{stay-moved}
+use Rattle.jn_world.proofs.Measures.{hands-none, steps-less}
+use Rattle.jn_world.specs.Standing.{messages_in}
+use Rattle.jn_base.specs.declared.names.Party.TheVariants.{Server}
 use Rattle.jn_world.proofs.world.World.make_step.Goals as goal
 
 pub step-requires-clause-place : goal.step-requires-clause-place
@@ -74,3 +77,21 @@ returns-clause-calm g c =
     let a = record w { places = with_item w.places i q } in
     let b = c.end_step.new.self in
     stay-moved look w b server.0 i p q (is_some c.in_ok-answer.answer) c.end_step.result c.from.ensures (place-is w server i p c.from.ensures c.requires.up c.index_mut-place.ensures.value) step.calm (places-of a b c.end_step.ensures.others)
+
+pub returns-clause-hands : goal.returns-clause-hands
+returns-clause-hands g c =
+    hands-none c.end_step.result c.args.self.now.net.sent c.end_step.new.self.net.sent (Server c.args.server) (messages_in c.in_ok-answer.answer) c.end_step.ensures.sent
+
+pub returns-clause-less : goal.returns-clause-less
+returns-clause-less g c =
+    let look : g.row.S.Denot → StoreView = λ s. g.S.StableStore.view s in
+    let w = c.args.self.now in
+    let server = c.args.server in
+    let i = c.from.result in
+    let p = c.index_mut-place.result.now in
+    let q = c.step.new.self in
+    let step = c.in_ok-answer.ensures in
+    let a = record w { places = with_item w.places i q } in
+    let b = c.end_step.new.self in
+    steps-less c.end_step.result look w.places.items b.places.items server.0 i p q c.from.ensures (place-is w server i p c.from.ensures c.requires.up c.index_mut-place.ensures.value)
+    (ap (λ (v : _). v.items) (places-of a b c.end_step.ensures.others)) step.less

@@ -9,6 +9,8 @@ use Rattle.jn_base.specs.declared.names.Party.TheVariants.{Client}
 use Rattle.jn_world.proofs.Places.{delivered-world, taken-world}
 use Rattle.jn_world.proofs.Worlds.{net-places, net-clients}
 use Rattle.jn_world.proofs.Calm.{stay-places}
+use Rattle.jn_world.proofs.Measures.{hands-on}
+use Rattle.jn_within.specs.Taking.{sent_for}
 use Rattle.jn_world.proofs.world.World.take_at_own.Goals as goal
 
 pub tell_taken-requires : goal.tell_taken-requires
@@ -47,3 +49,7 @@ returns-clause-calm g c =
     let a = record w { clients = with_item w.clients c.index_of.result c.take-taken.new.self; net = c.delivered.new.self } in
     let b = c.tell_taken.new.self in
     stay-places look w b c.tell_taken.result (net-places a b c.tell_taken.ensures.others)
+
+pub returns-clause-hands : goal.returns-clause-hands
+returns-clause-hands g c =
+    hands-on c.tell_taken.result c.args.self.now.net c.delivered.new.self c.args.k c.tell_taken.new.self.net.sent (Client c.args.client) (sent_for c.take-taken.result) c.delivered.ensures c.tell_taken.ensures.sent

@@ -10,6 +10,8 @@ use Rattle.jn_world.proofs.LostCalls.{sent-for}
 use Rattle.jn_world.proofs.Places.{place-is, delivered-world, delivered-many, place-here, place-million, up-here, moved-sent, posted-at}
 use Rattle.jn_world.proofs.Worlds.{places-of, clients-of}
 use Rattle.jn_world.proofs.Calm.{stay-moved}
+use Rattle.jn_world.proofs.Measures.{hands-on}
+use Rattle.jn_world.specs.Standing.{messages_in}
 use Rattle.jn_world.proofs.world.World.take_at_up.Goals as goal
 
 pub take-requires-clause-place : goal.take-requires-clause-place
@@ -84,3 +86,7 @@ returns-clause-calm g c =
     let a = record w { places = with_item w.places i q; net = c.delivered.new.self } in
     let b = c.end_step.new.self in
     stay-moved look w b server.0 i p q (is_some c.in_ok-answer.answer) c.end_step.result c.from.ensures (place-is w server i p c.from.ensures c.requires.up c.index_mut-place.ensures.value) step.calm (places-of a b c.end_step.ensures.others)
+
+pub returns-clause-hands : goal.returns-clause-hands
+returns-clause-hands g c =
+    hands-on c.end_step.result c.args.self.now.net c.delivered.new.self c.args.k c.end_step.new.self.net.sent (Server c.args.server) (messages_in c.in_ok-answer.answer) c.delivered.ensures c.end_step.ensures.sent
