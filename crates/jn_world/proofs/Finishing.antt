@@ -25,7 +25,7 @@ use Rattle.jn_net.specs.Carried.{Carried}
 use Rattle.jn_rows.specs.Client.{ClientTable, over}
 use Rattle.jn_schedule.specs.declared.Event.TheVariants.{Show, Scrub}
 use Rattle.jn_world.specs.Closing.{AreTheirs, going_down, closing_clients, showing_all, scrubbing_all, turning, thanking, telling, finishing}
-use Rattle.jn_world.specs.Written.{standing_of, GoesTo, DoesTasks, Starts, AreStoresOf, IsClosed, Closes, is_going}
+use Rattle.jn_world.specs.Written.{standing_of, GoesTo, DoesTasks, Starts, AreStoresOf, GivesImage, IsClosed, Closes, is_going}
 use Rattle.jn_world.proofs.Calls.{told-then, servers-quiet}
 use Rattle.jn_world.proofs.Numbers.{count_begins, begins-append, settling-begins}
 use Rattle.jn_written.proofs.Computed.{join}
@@ -140,24 +140,28 @@ module _ {S : Type 0} (look : S → StoreView) (device : S → DeviceState) wher
           }
 
       -- all was done, and these stores are left
-      closed-by : (stores : List S) → AreTheirs u.places stores → (b : BeganEnd look device x m (dismissed v.places w) first) → WentOn look device x b.last [] u first later → IsClosed device x m stores first later
-      closed-by stores theirs b h = record {
+      closed-by : (stores : List S) → AreTheirs u.places stores → length stores ≡ length u.places
+          → ((last : Moment) → Stands look device x u last → (n : ℕ) (s : S) → slice_get stores n ≡ Some s → GivesImage x last (record { 0 = n }) (device s)) → (b : BeganEnd look device x m (dismissed v.places w) first) → WentOn look device x b.last [] u first later → IsClosed device x m stores first later
+      closed-by stores theirs many images b h = record {
         last = h.last;
         leads = join Moment (DoesStep x) m b.last h.last b.leads h.leads;
         tasks = h.tasks;
         stage = h.stage ∙ b.stage;
         told = told-then m b.last h.last first first later b.told h.told;
+        servers = (let there = h.stands in many ∙ there.servers);
         devices = λ n s e. (let t = theirs n s e in closed-stores look device seen x u h.last h.stands n t.place s t.at t.its);
+        images = images h.last h.stands;
       }
 
       cut-by : (b : BeganEnd look device x m (dismissed v.places w) first) → WasCut x b.last first later → WasCut x m first later
       cut-by b h = record { last = h.last; leads = join Moment (DoesStep x) m b.last h.last b.leads h.leads; stage = h.stage; told = told-then m b.last h.last first first later b.told h.told }
 
-      pub closes : {B : Type 0} (A : Type 0) (a : A) (items_of : B → List S) (b : B) → AreTheirs u.places (items_of b) → Stands look device x w m → m.state.tasks ≡ ending x → m.state.stage ≡ InSchedule
+      pub closes : {B : Type 0} (A : Type 0) (a : A) (items_of : B → List S) (b : B) → AreTheirs u.places (items_of b) → length (items_of b) ≡ length u.places
+          → ((last : Moment) → Stands look device x u last → (n : ℕ) (s : S) → slice_get (items_of b) n ≡ Some s → GivesImage x last (record { 0 = n }) (device s)) → Stands look device x w m → m.state.tasks ≡ ending x → m.state.stage ≡ InSchedule
           → AreDisarmed look device w.places v.places → v ≡ dismissed v.places w → length w.net.sent ≤ 1000000 → DoesTasks look device finishing End v (Ok a) u first later → Closes device items_of x m (Ok b) first later
-      closes A a items_of b theirs stands tasks stage disarms is few does =
+      closes A a items_of b theirs many images stands tasks stage disarms is few does =
           let e = ends (Ok a) stands tasks stage disarms is few does in
-          closed-by (items_of b) theirs e.began e.then_goes
+          closed-by (items_of b) theirs many images e.began e.then_goes
 
       pub closes-not : {B : Type 0} (A : Type 0) (items_of : B → List S) (e : Ended) (r : Result B Ended) → IsErr r → IsErrAnd r (λ f. f ≡ e) → Stands look device x w m → m.state.tasks ≡ ending x → m.state.stage ≡ InSchedule
           → AreDisarmed look device w.places v.places → v ≡ dismissed v.places w → length w.net.sent ≤ 1000000 → DoesTasks {S = S} {A = A} look device finishing End v (Err e) u first later → Closes device items_of x m r first later

@@ -21,3 +21,4 @@ pub mod Resting
 pub mod Measures
 pub mod PageRefusals
 pub mod Calm
+pub mod Images

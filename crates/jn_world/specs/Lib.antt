@@ -8,3 +8,4 @@ pub mod Closing
 pub mod Meeting
 pub mod Opening
 pub mod Calm
+pub mod Images

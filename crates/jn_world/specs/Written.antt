@@ -16,7 +16,11 @@ use Rattle.jn_schedule.specs.declared.Event.{Event}
 use Rattle.jn_schedule.specs.declared.Event.{Event as AnEvent}
 use Rattle.jn_stands.specs.Stands.{Standing, Stands}
 use Rattle.jn_stands.specs.Going.{WentOn, WasCut, IsTold, ActsNext}
+use Rattle.jn_found.specs.Images.{IsImage}
+use Rattle.jn_rows.specs.Stable.{stable}
+use Rattle.jn_store.specs.Pairs.{pairs_view}
 use Rattle.jn_store.specs.Store.{StoreView}
+use Rattle.jn_world.specs.Images.{HasFilesAlone}
 use Rattle.jn_world.specs.declared.ended.Ended.{Ended}
 use Rattle.jn_world.specs.declared.ended.Ended.TheVariants.{Messages, Epoch, Memory}
 use Rattle.jn_world.specs.declared.world.World.{World}
@@ -128,14 +132,20 @@ Starts look device stores trace result lines lines' =
     (x : Setup) (schedule : List AnEvent) (files : AllFiles) (epochs : ServerNo → ℕ) (images : Devices) → AreStoresOf device x stores images → x.trace ≡ trace → AreImages x files epochs images
     → StartsAt look device x schedule (record { state = before x schedule files epochs; devices = images }) result lines lines'
 
--- The end was done, and these stores are left; or the run was cut short.
+-- where a server has nothing but files, this device has the pages of a sound image, which holds these files
+abbrev pub GivesImage : Setup → Moment → ServerNo → DeviceState → Type 0
+GivesImage x m q d = let y = stable (m.state.course.world.found q) in HasFilesAlone y → IsImage q (x.counts q) y.files (pairs_view d)
+
+-- The end was done, and these stores are left, one of each server; or the run was cut short.
 pub record IsClosed {S : Type 0} (device : S → DeviceState) (x : Setup) (m : Moment) (stores : List S) (lines lines' : List Line) : Type 0 where
   pub last : Moment
   pub leads : Leads x m last
   pub tasks : last.state.tasks ≡ []
   pub stage : last.state.stage ≡ AtEnd
   pub told : IsTold m last lines lines'
+  pub servers : length stores ≡ x.servers
   pub devices : (n : ℕ) (s : S) → slice_get stores n ≡ Some s → last.devices (record { 0 = n }) ≡ device s
+  pub images : (n : ℕ) (s : S) → slice_get stores n ≡ Some s → GivesImage x last (record { 0 = n }) (device s)
 
 abbrev pub Closes : {S A : Type 0} → (S → DeviceState) → (A → List S) → Setup → Moment → Result A Ended → List Line → List Line → Type 0
 Closes device items_of x m (Ok stores) lines lines' = IsClosed device x m (items_of stores) lines lines'

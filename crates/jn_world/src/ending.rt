@@ -7,6 +7,7 @@ ghost use Rattle.jn_stands.specs.Ending.{AreDisarmed, dismissed};
 ghost use Rattle.jn_stands.specs.Stands.{Stands};
 ghost use Rattle.jn_world.specs.Calm.{AreDown, AreQuiet, AreUpAndCalm, IsTakenDown};
 ghost use Rattle.jn_world.specs.Closing.{AreIdle, AreTheirs, going_down, closing_clients, showing_all, scrubbing_all, turning, thanking, telling, finishing};
+ghost use Rattle.jn_world.specs.Images.{AreClean, HoldImages};
 ghost use Rattle.jn_world.specs.Standing.{AreClosed, IsWorld};
 ghost use Rattle.jn_world.specs.Written.{Closes, DoesEvent, DoesTasks, standing_of};
 ghost use Rattle.jn_written.specs.Chances.{Setup};
@@ -44,6 +45,7 @@ impl<S: Powered + Drop> World<S> {
         requires idle { AreIdle self.old.clients.items }
         requires quiet { AreQuiet (λ s. S.view s) self.old.places.items }
         ensures world { OnOk result (IsWorld (λ s. S.view s) self.new) }
+        ensures images { OnOk result (HoldImages (λ s. S.view s) self.new.places.items) }
         ensures does { DoesTasks (λ s. S.view s) (λ s. S.device s) finishing End (standing_of self.old) result (standing_of self.new) lines.old.items lines.new.items }
     {
         self.turn_over(lines)?;
@@ -71,6 +73,7 @@ impl<S: Powered + Drop> World<S> {
         requires calm { AreUpAndCalm (λ s. S.view s) self.old.places.items }
         ensures world { OnOk result (IsWorld (λ s. S.view s) self.new) }
         ensures calm { OnOk result (AreUpAndCalm (λ s. S.view s) self.new.places.items) }
+        ensures clean { OnOk result (AreClean (λ s. S.view s) self.new.places.items) }
         ensures does { DoesTasks (λ s. S.view s) (λ s. S.device s) thanking End (standing_of self.old) result (standing_of self.new) lines.old.items lines.new.items }
     {
         self.close_all_clients(lines)?;
@@ -81,7 +84,9 @@ impl<S: Powered + Drop> World<S> {
     fn tell_all(&mut self, lines: &mut Vec<Line>) -> Result<(), Ended>
         requires world { IsWorld (λ s. S.view s) self.old }
         requires calm { AreUpAndCalm (λ s. S.view s) self.old.places.items }
+        requires clean { AreClean (λ s. S.view s) self.old.places.items }
         ensures world { OnOk result (IsWorld (λ s. S.view s) self.new) }
+        ensures images { OnOk result (HoldImages (λ s. S.view s) self.new.places.items) }
         ensures does { DoesTasks (λ s. S.view s) (λ s. S.device s) telling End (standing_of self.old) result (standing_of self.new) lines.old.items lines.new.items }
     {
         self.show_all(lines)?;
@@ -185,8 +190,10 @@ impl<S: Powered + Drop> World<S> {
     fn show_all(&mut self, lines: &mut Vec<Line>) -> Result<(), Ended>
         requires world { IsWorld (λ s. S.view s) self.old }
         requires calm { AreUpAndCalm (λ s. S.view s) self.old.places.items }
+        requires clean { AreClean (λ s. S.view s) self.old.places.items }
         ensures world { OnOk result (IsWorld (λ s. S.view s) self.new) }
         ensures calm { OnOk result (AreUpAndCalm (λ s. S.view s) self.new.places.items) }
+        ensures clean { OnOk result (AreClean (λ s. S.view s) self.new.places.items) }
         ensures does { DoesTasks (λ s. S.view s) (λ s. S.device s) showing_all End (standing_of self.old) result (standing_of self.new) lines.old.items lines.new.items }
     {
         for s in 0..self.servers() {
@@ -199,8 +206,10 @@ impl<S: Powered + Drop> World<S> {
     fn scrub_all(&mut self, lines: &mut Vec<Line>) -> Result<(), Ended>
         requires world { IsWorld (λ s. S.view s) self.old }
         requires calm { AreUpAndCalm (λ s. S.view s) self.old.places.items }
+        requires clean { AreClean (λ s. S.view s) self.old.places.items }
         ensures world { OnOk result (IsWorld (λ s. S.view s) self.new) }
         ensures calm { OnOk result (AreUpAndCalm (λ s. S.view s) self.new.places.items) }
+        ensures images { OnOk result (HoldImages (λ s. S.view s) self.new.places.items) }
         ensures does { DoesTasks (λ s. S.view s) (λ s. S.device s) scrubbing_all End (standing_of self.old) result (standing_of self.new) lines.old.items lines.new.items }
     {
         for s in 0..self.servers() {
@@ -213,6 +222,7 @@ impl<S: Powered + Drop> World<S> {
         requires world { IsWorld (λ s. S.view s) self }
         ensures closed { IfOk result (λ stores. AreClosed (λ s. S.view s) 0 stores.items) }
         ensures theirs { IfOk result (λ stores. AreTheirs self.places.items stores.items) }
+        ensures as_many { IfOk result (λ stores. length stores.items ≡ length self.places.items) }
     {
         let World {
             places,

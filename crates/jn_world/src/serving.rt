@@ -5,6 +5,7 @@ ghost use Rattle.jn_schedule.specs.declared.Event.TheVariants as events;
 ghost use Rattle.jn_stands.specs.Showing.{text_shown, texts_shown};
 ghost use Rattle.jn_world.specs.Calm.{AreQuiet, AreUpAndCalm, IsTakenDown, StayUp};
 ghost use Rattle.jn_world.specs.Closing.{AreIdle};
+ghost use Rattle.jn_world.specs.Images.{AreClean, IsScrubbedAt, StayClean};
 ghost use Rattle.jn_world.specs.Settling.{handed, steps_of_all};
 ghost use Rattle.jn_world.specs.Standing.{IsWorld, is_up_at, works_at};
 ghost use Rattle.jn_world.specs.Written.{DoesEvent, DoesTasks, standing_of};
@@ -153,6 +154,8 @@ impl<S: Powered + Drop> World<S> {
         ensures world { OnOk result (IsWorld (λ s. S.view s) self.new) }
         ensures as_many { OnOk result (vec_len self.new.places ≡ vec_len self.old.places) }
         ensures calm { OnOk result (StayUp (λ s. S.view s) self.old.places.items self.new.places.items) }
+        ensures clean { OnOk result (StayClean (λ s. S.view s) self.old.places.items self.new.places.items) }
+        ensures images { OnOk result (AreUpAndCalm (λ s. S.view s) self.old.places.items → AreClean (λ s. S.view s) self.old.places.items → IsScrubbedAt (λ s. S.view s) server.0 self.old.places.items self.new.places.items) }
         ensures does { DoesEvent (λ s. S.view s) (λ s. S.device s) (events.Scrub server) when (standing_of self.old) result (standing_of self.new) lines.old.items lines.new.items }
     {
         self.places[usize::from(server.0)].scrub(server, when, lines)?;
@@ -171,6 +174,7 @@ impl<S: Powered + Drop> World<S> {
         ensures world { OnOk result (IsWorld (λ s. S.view s) self.new) }
         ensures as_many { OnOk result (vec_len self.new.places ≡ vec_len self.old.places) }
         ensures calm { OnOk result (StayUp (λ s. S.view s) self.old.places.items self.new.places.items) }
+        ensures clean { OnOk result (StayClean (λ s. S.view s) self.old.places.items self.new.places.items) }
         ensures does { DoesEvent (λ s. S.view s) (λ s. S.device s) (events.Show server) when (standing_of self.old) result (standing_of self.new) lines.old.items lines.new.items }
     {
         let place = &mut self.places[usize::from(server.0)];

@@ -6,6 +6,7 @@ use Rattle.jn_world.specs.Written.{standing_of}
 use Rattle.jn_stands.specs.Stands.{Standing}
 use Rattle.jn_world.proofs.Closing.{are-idle}
 use Rattle.jn_world.proofs.Finishing.{closes, closes-not, closes-without}
+use Rattle.jn_world.proofs.Images.{given-image}
 use Rattle.jn_world.proofs.world.World.close.Goals as goal
 
 pub finish-requires-clause-idle : goal.finish-requires-clause-idle
@@ -41,5 +42,6 @@ returns-clause-written g c =
     let went = c.in_ok-finish.ensures in
     let given = c.in_ok-into_stores.ensures in
     let limit = c.requires.world.limit in
-    λ x m stands tasks stage. closes look device g.met.S.Powered.seen x w v u m c.args.lines.now.items c.finish.new.lines.items _ c.in_ok-finish.field-0 (λ stores. stores.items) c.in_ok-into_stores.field-0 given.theirs
+    λ x m stands tasks stage. closes look device g.met.S.Powered.seen x w v u m c.args.lines.now.items c.finish.new.lines.items _ c.in_ok-finish.field-0 (λ stores. stores.items) c.in_ok-into_stores.field-0 given.theirs given.as_many
+    (λ last there n s e. let t = given.theirs n s e in given-image look device g.met.S.Powered.seen x u last there n t.place s t.at t.its (went.images n t.place t.at))
     stands tasks stage c.dismiss.ensures.disarmed c.dismiss.ensures.dismissed limit went.does

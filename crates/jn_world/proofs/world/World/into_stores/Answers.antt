@@ -55,3 +55,11 @@ returns-clause-theirs g c =
     let long = c.args.self.places.ok.0 in
     let t = YieldsList-end (YieldsList-from_vec {s = c.into_iter-place-iterator.result} xs (cc) (cc)) c.loop-place.yielded c.loop-place.place-iterator c.loop-place.yielded_by c.next.result c.next.new.self c.in-None.is c.next.ensures.steps in
     subst (λ (ps : List (Place g.row.S.Denot)). AreTheirs ps c.loop-place.stores.items) (yielded-all c.loop-place.yielded xs t.0) c.loop-place.invariant.theirs
+
+pub returns-clause-as_many : goal.returns-clause-as_many
+returns-clause-as_many g c =
+    let xs = c.args.self.places.items in
+    let gives = c.into_iter-place-iterator.ensures.into_iter_gives in
+    let long = c.args.self.places.ok.0 in
+    let t = YieldsList-end (YieldsList-from_vec {s = c.into_iter-place-iterator.result} xs (cc) (cc)) c.loop-place.yielded c.loop-place.place-iterator c.loop-place.yielded_by c.next.result c.next.new.self c.in-None.is c.next.ensures.steps in
+    c.loop-place.invariant.many ∙ ap (λ (ps : List (Place g.row.S.Denot)). length ps) (yielded-all c.loop-place.yielded xs t.0)

@@ -6,7 +6,9 @@ use Rattle.jn_world.specs.Written.{standing_of}
 use Rattle.jn_world.proofs.Bringing.{has-counts}
 use Rattle.jn_world.proofs.ServerCalls.{scrubbed-does}
 use Rattle.jn_world.proofs.Places.{place-here, place-is, place-million, up-here, moved-quiet}
-use Rattle.jn_world.proofs.Calm.{stay-put}
+use Rattle.jn_world.proofs.Calm.{stay-put, stays-up}
+use Rattle.jn_world.proofs.Images.{clean-put, scrubbed-put}
+use Rattle.jn_recovery.specs.Loading.{counts_by}
 use Rattle.jn_world.proofs.world.World.scrub.Goals as goal
 
 pub scrub-requires-clause-place : goal.scrub-requires-clause-place
@@ -58,3 +60,27 @@ returns-clause-calm g c =
     let p = c.index_mut.result.now in
     let step = c.in_ok-scrub.ensures in
     stay-put look w.places.items server.0 i p c.scrub.new.self true c.from.ensures (place-is w server i p c.from.ensures c.requires.up c.index_mut.ensures.value) step.calm
+
+pub returns-clause-clean : goal.returns-clause-clean
+returns-clause-clean g c =
+    let look : g.row.S.Denot → StoreView = λ s. g.S.StableStore.view s in
+    let w = c.args.self.now in
+    let server = c.args.server in
+    let i = c.from.result in
+    let p = c.index_mut.result.now in
+    let step = c.in_ok-scrub.ensures in
+    clean-put look w.places.items server.0 i p c.scrub.new.self c.from.ensures (place-is w server i p c.from.ensures c.requires.up c.index_mut.ensures.value) step.rubbish
+
+pub returns-clause-images : goal.returns-clause-images
+returns-clause-images g c =
+    let look : g.row.S.Denot → StoreView = λ s. g.S.StableStore.view s in
+    let w = c.args.self.now in
+    let server = c.args.server in
+    let i = c.from.result in
+    let device : g.row.S.Denot → DeviceState = λ s. g.S.Powered.device s in
+    let p = c.index_mut.result.now in
+    let q = c.scrub.new.self in
+    let step = c.in_ok-scrub.ensures in
+    let at = place-is w server i p c.from.ensures c.requires.up c.index_mut.ensures.value in
+    λ calm clean. scrubbed-put look device server (counts_by p.counts) c.args.when w.places.items i p q c.args.lines.now.items c.scrub.new.told.items c.from.ensures at c.scrub.ensures.counts refl
+    step.scrubbed step.image (stays-up look w.places.items server.0 p q true at step.calm calm) calm clean

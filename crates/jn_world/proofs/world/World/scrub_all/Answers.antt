@@ -10,6 +10,7 @@ use Rattle.jn_store.specs.Store.{StoreView}
 use Rattle.jn_world.specs.Written.{standing_of}
 use Rattle.jn_world.proofs.Calls.{server-turn, servers-cut, servers-end, does-nothing}
 use Rattle.jn_world.proofs.Calm.{up-of-all}
+use Rattle.jn_world.proofs.Images.{images-none, images-more, images-all}
 use Rattle.jn_world.proofs.world.World.scrub_all.Goals as goal
 
 pub loop-s-init : goal.loop-s-init
@@ -19,7 +20,7 @@ loop-s-init g c =
     let when = End in
     let w = standing_of c.args.self.now in
     let first = c.args.lines.now.items in
-    record { world = c.requires.world; calm = c.requires.calm; as_many = refl; does = does-nothing look device when {A = ℕ} 0 w first }
+    record { world = c.requires.world; calm = c.requires.calm; clean = c.requires.clean; images = images-none look c.args.self.now.places.items; as_many = refl; does = does-nothing look device when {A = ℕ} 0 w first }
 
 pub loop-s-preserved : goal.loop-s-preserved
 loop-s-preserved g c =
@@ -37,6 +38,8 @@ loop-s-preserved g c =
     record {
       world = e.world;
       calm = e.calm c.loop-s.invariant.calm;
+      clean = e.clean c.loop-s.invariant.calm c.loop-s.invariant.clean;
+      images = images-more look c.loop-s.s c.loop-s.self.places.items c.scrub.new.self.places.items c.loop-s.invariant.images (e.images c.loop-s.invariant.calm c.loop-s.invariant.clean);
       as_many = e.as_many ∙ c.loop-s.invariant.as_many;
       does = server-turn look device when f (λ q. refl) {A = ℕ} {B = ℕ} c.loop-s.s 0 (Ok 0) w v u first now later c.loop-s.invariant.does
           (acts-does look device when {A = ℕ} (Scrub (record { 0 = c.loop-s.s })) (Ok 0) v u now later refl e.does);
@@ -80,3 +83,12 @@ scrub-requires-clause-up g c =
     let many = c.loop-s.invariant.as_many in
     let within : c.loop-s.s < length w.places.items = omega (arith, w.places.ok.0) in
     up-of-all look w.places.items c.loop-s.s within c.loop-s.invariant.calm
+
+pub returns-clause-images : goal.returns-clause-images
+returns-clause-images g c =
+    let look : g.row.S.Denot → StoreView = λ s. g.S.StableStore.view s in
+    let w = c.loop-s.self in
+    let end = c.servers-s-end.ensures in
+    let test = c.loop-s-test.false in
+    let many = c.loop-s.invariant.as_many in
+    images-all look c.loop-s.s w.places.items (omega (arith, w.places.ok.0)) c.loop-s.invariant.images

@@ -8,6 +8,7 @@ use Rattle.jn_world.proofs.ServerCalls.{showed-does}
 use Rattle.jn_place.specs.Exact.{items_of}
 use Rattle.jn_world.proofs.Places.{place-here, place-is, place-million, up-here, moved-quiet}
 use Rattle.jn_world.proofs.Calm.{stay-put}
+use Rattle.jn_world.proofs.Images.{clean-put}
 use Rattle.jn_world.proofs.world.World.show.Goals as goal
 
 pub show-requires-clause-place : goal.show-requires-clause-place
@@ -59,3 +60,13 @@ returns-clause-calm g c =
     let p = c.index_mut-place.result.now in
     let step = c.in_ok-shown.ensures in
     stay-put look w.places.items server.0 i p c.show.new.self (is_some c.in_ok-shown.shown) c.from.ensures (place-is w server i p c.from.ensures c.requires.up c.index_mut-place.ensures.value) step.calm
+
+pub returns-clause-clean : goal.returns-clause-clean
+returns-clause-clean g c =
+    let look : g.row.S.Denot → StoreView = λ s. g.S.StableStore.view s in
+    let w = c.args.self.now in
+    let server = c.args.server in
+    let i = c.from.result in
+    let p = c.index_mut-place.result.now in
+    let step = c.in_ok-shown.ensures in
+    clean-put look w.places.items server.0 i p c.show.new.self c.from.ensures (place-is w server i p c.from.ensures c.requires.up c.index_mut-place.ensures.value) step.rubbish

@@ -19,7 +19,7 @@ loop-s-init g c =
     let when = End in
     let w = standing_of c.args.self.now in
     let first = c.args.lines.now.items in
-    record { world = c.requires.world; calm = c.requires.calm; as_many = refl; does = does-nothing look device when {A = ℕ} 0 w first }
+    record { world = c.requires.world; calm = c.requires.calm; clean = c.requires.clean; as_many = refl; does = does-nothing look device when {A = ℕ} 0 w first }
 
 pub loop-s-preserved : goal.loop-s-preserved
 loop-s-preserved g c =
@@ -37,6 +37,7 @@ loop-s-preserved g c =
     record {
       world = e.world;
       calm = e.calm c.loop-s.invariant.calm;
+      clean = e.clean c.loop-s.invariant.calm c.loop-s.invariant.clean;
       as_many = e.as_many ∙ c.loop-s.invariant.as_many;
       does = server-turn look device when f (λ q. refl) {A = ℕ} {B = ℕ} c.loop-s.s 0 (Ok 0) w v u first now later c.loop-s.invariant.does
           (acts-does look device when {A = ℕ} (Show (record { 0 = c.loop-s.s })) (Ok 0) v u now later refl e.does);

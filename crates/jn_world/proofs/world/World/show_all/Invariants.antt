@@ -7,12 +7,14 @@ use Rattle.jn_world.specs.Written.{DoesTasks, standing_of}
 use Rattle.jn_schedule.specs.declared.Event.TheVariants.{Show}
 use Rattle.jn_written.specs.Tasks.{Acts}
 use Rattle.jn_world.specs.Calm.{AreUpAndCalm}
+use Rattle.jn_world.specs.Images.{AreClean}
 use Rattle.jn_world.proofs.world.World.show_all.Given as goal
 
 abbrev pub invariant-loop-s : goal.invariant-loop-s
 invariant-loop-s g l = record {
   world : IsWorld (λ s. g.S.StableStore.view s) l.self;
   calm : AreUpAndCalm (λ s. g.S.StableStore.view s) l.self.places.items;
+  clean : AreClean (λ s. g.S.StableStore.view s) l.self.places.items;
   as_many : vec_len l.self.places ≡ vec_len l.initial.self.places;
   does : DoesTasks {A = ℕ} (λ s. g.S.StableStore.view s) (λ s. g.S.Powered.device s) (at_servers (λ (q : ServerNo). Acts (Show q)) l.s) End (standing_of l.initial.self) (Ok 0) (standing_of l.self) l.initial.lines.items l.lines.items;
 }

@@ -9,6 +9,7 @@ use Rattle.jn_world.proofs.Calls.{does-then, does-cut}
 use Rattle.jn_world.proofs.Finishing.{closing-quiet}
 use Rattle.jn_world.proofs.Turns.{does-exit}
 use Rattle.jn_world.proofs.Calm.{stay-to}
+use Rattle.jn_world.proofs.Images.{rested-clean}
 use Rattle.jn_world.proofs.world.World.thank_all.Goals as goal
 
 pub returns-in_err-close_all_clients-clause-does : goal.returns-in_err-close_all_clients-clause-does
@@ -39,3 +40,9 @@ returns-clause-calm g c =
     let look : g.row.S.Denot → StoreView = λ s. g.S.StableStore.view s in
     let e = c.in_ok-close_all_clients.ensures in
     stay-to look c.close_all_clients.new.self.places.items c.settle_at.new.self.places.items c.settle_at.result e.calm c.settle_at.ensures.calm
+
+pub returns-clause-clean : goal.returns-clause-clean
+returns-clause-clean g c =
+    let look : g.row.S.Denot → StoreView = λ s. g.S.StableStore.view s in
+    let device : g.row.S.Denot → DeviceState = λ s. g.S.Powered.device s in
+    rested-clean look device c.settle_at.result c.settle_at.new.self.net c.settle_at.new.self.places.items c.settle_at.ensures.rests
