@@ -1,12 +1,10 @@
 //! Runs of two servers.
 
-mod driving;
-mod judging;
 mod texts;
 
-use driving::{lines_of, parsed};
+use jn_intent::PageCounts;
 use jn_run::Status;
-use judging::{first_broken, outcome, text_of};
+use jn_whole_runs::{Call, Failing, Servers, ending_of, first_broken, lines_of, parsed, text_of};
 use std::alloc::Global;
 use std::process::Abort;
 use std::str;
@@ -15,13 +13,39 @@ use texts::{
     AGAIN, CHART, DELIVERED, STOPPED_IN_FLAG, again, crossed_again, crossed_report, delivered,
 };
 
+/// How many pages of each kind a server has that no option asks for.
+const COUNTS: PageCounts = PageCounts {
+    pool: 32,
+    heads: 16,
+    leaves: 128,
+};
+
+/// The words that ask for two servers.
+fn words(trace: bool) -> &'static [&'static str] {
+    if trace {
+        &["juniper", "run", "--servers", "2", "--trace"]
+    } else {
+        &["juniper", "run", "--servers", "2"]
+    }
+}
+
 /// The text of a run's lines, which meet each definition, and which the top call writes.
 fn told(rt: &impl Abort, alloc: Global, trace: bool, schedule: &str) -> Result<Vec<u8>, Fail> {
     let events = parsed(alloc, schedule.as_bytes())?;
-    let lines = lines_of(alloc, trace, &events)?;
+    let servers = Servers {
+        count: 2,
+        pages: COUNTS,
+        trace,
+    };
+    let lines = lines_of(alloc, servers, &events)?;
     assert_eq!(rt; first_broken(alloc, &events, &lines)?, None);
     let text = text_of(alloc, &lines)?;
-    let (status, taken) = outcome(alloc, trace, schedule.as_bytes())?;
+    let asked = Call {
+        words: words(trace),
+        schedule: schedule.as_bytes(),
+        failing: Failing::Nothing,
+    };
+    let (status, taken) = ending_of(alloc, &asked, None)?;
     assert_eq!(rt; status, Status::Done);
     assert!(rt; taken == text, "another text is written");
     Ok(text)

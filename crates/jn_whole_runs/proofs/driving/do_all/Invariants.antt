@@ -1,5 +1,5 @@
 use Rattle.jn_world.specs.Standing.{IsWorld}
-use Rattle.jn_world_tests.proofs.tests.driving.do_all.Given as goal
+use Rattle.jn_whole_runs.proofs.driving.do_all.Given as goal
 
 abbrev pub invariant-loop-event : goal.invariant-loop-event
 invariant-loop-event g l = record {

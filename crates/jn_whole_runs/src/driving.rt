@@ -1,4 +1,4 @@
-//! A schedule's events in a world of two new servers.
+//! A schedule's events in a world of new servers.
 ghost use Rattle.std.specs.Prelude.{◌≡◌, ◌≤◌, ◌∷◌, [], OnOk, IfOk, vec_len};
 ghost use Rattle.std.specs.List.{AllByRecursion};
 ghost use Rattle.jn_schedule.specs.Ranges.{EventInRange};
@@ -16,42 +16,77 @@ use jn_store::{Powered, StableStore};
 use jn_world::{Ended, World, start};
 use std::alloc::{AllocError, Global};
 
-/// How many pages of each kind a server has that no option asks for.
-const COUNTS: PageCounts = PageCounts {
-    pool: 32,
-    heads: 16,
-    leaves: 128,
-};
+/// The servers of a run, whose disks are new.
+#[derive(Clone, Copy)]
+pub struct Servers {
+    /// How many there are: 1, 2 or 3, and 3 for every other number.
+    pub count: u8,
+    /// How many pages of each kind each of them has.
+    pub pages: PageCounts,
+    /// Whether each message has a line.
+    pub trace: bool,
+}
 
 /// The store of a server, with its counts of pages.
 type Disk = (Pairs<MemDisk>, PageCounts);
 
 /// The store of a new server.
-fn new_disk(alloc: Global, server: ServerNo) -> Result<Disk, AllocError>
+fn new_disk(alloc: Global, server: ServerNo, pages: PageCounts) -> Result<Disk, AllocError>
     ensures { IfOk result (λ disk. AreStores (⟦<Pairs<MemDisk> as StableStore>⟧.view) server.0 (disk ∷ [])) }
 {
     let root = Root {
         server,
-        pool: COUNTS.pool,
-        heads: COUNTS.heads,
-        leaves: COUNTS.leaves,
+        pool: pages.pool,
+        heads: pages.heads,
+        leaves: pages.leaves,
         epoch: 0,
     };
-    Ok((new_store(alloc, root)?, COUNTS))
+    Ok((new_store(alloc, root)?, pages))
 }
 
-/// The stores of two new servers.
-fn new_disks(alloc: Global) -> Result<Vec<Disk>, AllocError>
+/// The store of one new server.
+fn one_disk(alloc: Global, pages: PageCounts) -> Result<Vec<Disk>, AllocError>
     ensures few { IfOk result (λ disks. vec_len disks ≤ 8) }
     ensures stores { IfOk result (λ disks. AreStores (⟦<Pairs<MemDisk> as StableStore>⟧.view) 0 disks.items) }
 {
-    let first = new_disk(alloc, ServerNo(0))?;
-    let second = new_disk(alloc, ServerNo(1))?;
+    let first = new_disk(alloc, ServerNo(0), pages)?;
+    Ok(vec![in alloc; first]?)
+}
+
+/// The stores of two new servers.
+fn two_disks(alloc: Global, pages: PageCounts) -> Result<Vec<Disk>, AllocError>
+    ensures few { IfOk result (λ disks. vec_len disks ≤ 8) }
+    ensures stores { IfOk result (λ disks. AreStores (⟦<Pairs<MemDisk> as StableStore>⟧.view) 0 disks.items) }
+{
+    let first = new_disk(alloc, ServerNo(0), pages)?;
+    let second = new_disk(alloc, ServerNo(1), pages)?;
     Ok(vec![in alloc; first, second]?)
 }
 
+/// The stores of three new servers.
+fn three_disks(alloc: Global, pages: PageCounts) -> Result<Vec<Disk>, AllocError>
+    ensures few { IfOk result (λ disks. vec_len disks ≤ 8) }
+    ensures stores { IfOk result (λ disks. AreStores (⟦<Pairs<MemDisk> as StableStore>⟧.view) 0 disks.items) }
+{
+    let first = new_disk(alloc, ServerNo(0), pages)?;
+    let second = new_disk(alloc, ServerNo(1), pages)?;
+    let third = new_disk(alloc, ServerNo(2), pages)?;
+    Ok(vec![in alloc; first, second, third]?)
+}
+
+fn new_disks(alloc: Global, servers: Servers) -> Result<Vec<Disk>, AllocError>
+    ensures few { IfOk result (λ disks. vec_len disks ≤ 8) }
+    ensures stores { IfOk result (λ disks. AreStores (⟦<Pairs<MemDisk> as StableStore>⟧.view) 0 disks.items) }
+{
+    match servers.count {
+        1 => one_disk(alloc, servers.pages),
+        2 => two_disks(alloc, servers.pages),
+        _ => three_disks(alloc, servers.pages),
+    }
+}
+
 /// The events of a schedule.
-pub(crate) fn parsed(alloc: Global, schedule: &[u8]) -> Result<Vec<Event>, ParseFault>
+pub fn parsed(alloc: Global, schedule: &[u8]) -> Result<Vec<Event>, ParseFault>
     ensures { IfOk result (λ events. AllByRecursion EventInRange events.items) }
 {
     words_are_in_range();
@@ -95,10 +130,10 @@ fn run_from<S: Powered + Drop>(
     Ok(lines)
 }
 
-/// The lines of a whole run of two new servers.
-pub(crate) fn lines_of(alloc: Global, trace: bool, events: &[Event]) -> Result<Vec<Line>, Ended>
+/// The lines of a whole run.
+pub fn lines_of(alloc: Global, servers: Servers, events: &[Event]) -> Result<Vec<Line>, Ended>
     requires range { AllByRecursion EventInRange events.now }
 {
-    let disks = new_disks(alloc)?;
-    run_from(alloc, disks, trace, events)
+    let disks = new_disks(alloc, servers)?;
+    run_from(alloc, disks, servers.trace, events)
 }
