@@ -217,42 +217,38 @@ impl Counter {
         }
     }
 
-    /// Counts the lines of the event of this number, which begin at a place among all lines. The place behind them.
-    fn add_lines(
-        &mut self,
-        event: Option<&Event>,
-        number: u32,
-        lines: &[Line],
-        from: usize,
-    ) -> usize {
-        let mut place = from;
-        while place < lines.len() {
-            let line = &lines[place];
-            if !stands_at(line.when, number) {
-                return place;
+    /// Counts the lines of the event of this number. Whether there are any.
+    fn add_lines(&mut self, event: Option<&Event>, number: u32, lines: &[Line]) -> bool {
+        let mut has_lines = false;
+        for line in lines {
+            if stands_at(line.when, number) {
+                self.add_line(event, &line.text);
+                has_lines = true;
             }
-            self.add_line(event, &line.text);
-            place += 1;
         }
-        place
+        has_lines
     }
 
-    /// Counts a run.
-    pub(crate) fn add_run(&mut self, events: &[Event], lines: &[Line]) {
-        add(&mut self.counts.schedules);
-        let mut place = self.add_lines(None, 0, lines, 0);
-        let mut number = 0_u32;
-        for event in events {
-            number = number.saturating_add(1);
-            let behind = self.add_lines(Some(event), number, lines, place);
-            self.add_event(event, behind != place);
-            place = behind;
-        }
+    /// Counts the lines of the end.
+    fn add_end(&mut self, lines: &[Line]) {
         for line in lines {
             if let When::End = line.when {
                 self.add_line(None, &line.text);
             }
         }
+    }
+
+    /// Counts a run.
+    pub(crate) fn add_run(&mut self, events: &[Event], lines: &[Line]) {
+        add(&mut self.counts.schedules);
+        let _ = self.add_lines(None, 0, lines);
+        let mut number = 0_u32;
+        for event in events {
+            number = number.saturating_add(1);
+            let has_lines = self.add_lines(Some(event), number, lines);
+            self.add_event(event, has_lines);
+        }
+        self.add_end(lines);
     }
 }
 

@@ -13,8 +13,8 @@ use std::alloc::{AllocError, Global};
 #[derive(Clone, Copy, PartialEq, Eq)]
 enum Stage {
     Idle,
-    Begun,
-    Opened(ServerNo),
+    Begun(Tid),
+    Opened(ServerNo, Tid),
 }
 
 /// What the schedule takes a server for.
@@ -42,8 +42,6 @@ pub(crate) struct Drawing {
     files: u32,
     /// Of client 1 first.
     stages: Vec<Stage>,
-    /// Transactions that may be there.
-    begun: Vec<Tid>,
     alloc: Global,
 }
 
@@ -88,7 +86,7 @@ impl Drawing {
         let mut random = Pcg32::new(seed, u64::from(number));
         let servers = drawn_servers(&mut random);
         let clients = 1 + below(&mut random, 4);
-        let misfortunes = 1 + below(&mut random, 20);
+        let misfortunes = below(&mut random, 5) * 5;
         let files = 1 + below(&mut random, 4);
         let new = Guess {
             epoch: 1,
@@ -108,7 +106,6 @@ impl Drawing {
             stops,
             guesses: vec![in alloc; new, new, new]?,
             files,
-            begun: Vec::new(alloc),
             stages: vec![in alloc; Stage::Idle, Stage::Idle, Stage::Idle, Stage::Idle]?,
             alloc,
         })
@@ -246,37 +243,34 @@ impl Drawing {
         });
     }
 
-    /// What the schedule knows by a client's command.
-    fn follow(&mut self, command: &Command) -> Result<(), AllocError> {
-        match command {
-            Command::Begin(server) => {
-                let guess = self.guess(*server);
-                self.begun.push(Tid {
-                    server: *server,
-                    epoch: guess.epoch,
-                    ticket: guess.ticket,
-                })?;
-                self.draw_ticket(*server);
-            }
-            Command::Open(server) => self.draw_ticket(*server),
-            _ => {}
+    /// The name that a server gives the next transaction, as far as the schedule can know.
+    fn next_name(&self, server: ServerNo) -> Tid {
+        let guess = self.guess(server);
+        Tid {
+            server,
+            epoch: guess.epoch,
+            ticket: guess.ticket,
         }
-        Ok(())
     }
 
-    /// A transaction that may be there, mostly one of the last four.
-    fn transaction(&mut self) -> Tid {
-        let back = 1 + self.draw(4) as usize;
-        if let Some(tid) = self.begun.get(self.begun.len().wrapping_sub(back)) {
-            return Tid {
-                server: ServerNo(tid.server.0 % 8),
-                ..*tid
-            };
+    /// A server that begins a transaction or a work draws a ticket.
+    fn follow(&mut self, command: &Command) {
+        match command {
+            Command::Begin(server) | Command::Open(server) => self.draw_ticket(*server),
+            _ => {}
         }
-        Tid {
-            server: ServerNo(self.draw(3) as u8),
-            epoch: 1,
-            ticket: self.draw(8),
+    }
+
+    /// A transaction that may be there: that of a client, or another one.
+    fn transaction(&mut self) -> Tid {
+        let client = self.client();
+        match self.stage(client) {
+            Stage::Begun(tid) | Stage::Opened(_, tid) => tid,
+            Stage::Idle => Tid {
+                server: ServerNo(self.draw(3) as u8),
+                epoch: 1,
+                ticket: self.draw(8),
+            },
         }
     }
 
@@ -321,12 +315,12 @@ impl Drawing {
     fn next_command(&mut self, stage: Stage) -> Result<(Command, Stage), AllocError> {
         let server = self.server();
         Ok(match (stage, self.draw(20)) {
-            (Stage::Idle, _) => (Command::Begin(server), Stage::Begun),
-            (Stage::Begun, _) => (Command::Open(server), Stage::Opened(server)),
-            (Stage::Opened(_), 0 | 1) => (Command::Open(server), Stage::Opened(server)),
-            (Stage::Opened(_), 2) => (Command::Abort, Stage::Idle),
-            (Stage::Opened(_), 3..=7) => (Command::End, Stage::Idle),
-            (Stage::Opened(at), _) => (Command::Do(at, self.op()?), stage),
+            (Stage::Idle, _) => (Command::Begin(server), Stage::Begun(self.next_name(server))),
+            (Stage::Begun(tid), _) => (Command::Open(server), Stage::Opened(server, tid)),
+            (Stage::Opened(_, tid), 0 | 1) => (Command::Open(server), Stage::Opened(server, tid)),
+            (Stage::Opened(..), 2) => (Command::Abort, Stage::Idle),
+            (Stage::Opened(..), 3..=7) => (Command::End, Stage::Idle),
+            (Stage::Opened(at, _), _) => (Command::Do(at, self.op()?), stage),
         })
     }
 
@@ -336,10 +330,19 @@ impl Drawing {
         let stage = self.stage(client);
         let (command, after) = self.next_command(stage)?;
         self.set_stage(client, after);
-        self.follow(&command)?;
+        self.follow(&command);
         events.push(Event::Command(client, command))?;
-        if self.draw(10) < 4 {
+        if self.draw(10) < 6 {
             events.push(Event::Settle)?;
+        }
+        Ok(())
+    }
+
+    /// Appends that a client's transaction has taken too long, where it came to a server.
+    fn push_timeout(&mut self, events: &mut Vec<Event>) -> Result<(), AllocError> {
+        let client = self.client();
+        if let Stage::Opened(server, tid) = self.stage(client) {
+            events.push(Event::Timeout(server, tid))?;
         }
         Ok(())
     }
@@ -360,9 +363,12 @@ impl Drawing {
                 Event::Crash(server)
             }
             3..=8 => {
-                self.turn(server, true);
                 let call = self.call();
-                Event::Arm(server, call, self.fault(server))
+                let fault = self.fault(server);
+                if let FaultKind::StopBefore | FaultKind::StopTorn | FaultKind::StopAfter = fault {
+                    self.turn(server, true);
+                }
+                Event::Arm(server, call, fault)
             }
             9 | 10 => Event::Decay(server, self.page()),
             _ => Event::Revive(server, self.page()),
@@ -414,7 +420,8 @@ impl Drawing {
         }
         match self.draw(100) {
             0..=59 => self.push_next(events),
-            60..=65 => self.push_command(events),
+            60..=64 => self.push_command(events),
+            65..=70 => self.push_timeout(events),
             _ => {
                 events.push(self.passing(server, done))?;
                 Ok(())

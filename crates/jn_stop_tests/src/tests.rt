@@ -30,7 +30,14 @@ fn all_stops(alloc: Global, is_revived: bool) -> Result<Tally, Fail> {
 #[test]
 fn a_stop_at_each_device_call_of_a_commit(rt: HostRuntime) -> Result<(), Fail> {
     let tally = all_stops(rt.alloc(), false)?;
-    assert_eq!(rt; tally, Tally { right: 96, lost: 16, wrong: None });
+    assert_eq!(rt;
+        tally,
+        Tally {
+            right: 96,
+            lost: 16,
+            wrong: None
+        }
+    );
     Ok(())
 }
 
@@ -38,7 +45,14 @@ fn a_stop_at_each_device_call_of_a_commit(rt: HostRuntime) -> Result<(), Fail> {
 #[test]
 fn a_stop_at_each_device_call_with_a_revival_of_each_page(rt: HostRuntime) -> Result<(), Fail> {
     let tally = all_stops(rt.alloc(), true)?;
-    assert_eq!(rt; tally, Tally { right: 96, lost: 14, wrong: None });
+    assert_eq!(rt;
+        tally,
+        Tally {
+            right: 96,
+            lost: 14,
+            wrong: None
+        }
+    );
     Ok(())
 }
 
@@ -49,7 +63,11 @@ fn restarts_of(alloc: Global, stop: Stop, way: Way, tally: &mut Tally) -> Result
         let trial = Trial {
             stop,
             is_revived: false,
-            restarts: if call <= calls { Restarts::Stopped(call, way) } else { Restarts::Missed(call, way) },
+            restarts: if call <= calls {
+                Restarts::Stopped(call, way)
+            } else {
+                Restarts::Missed(call, way)
+            },
         };
         tally.add(alloc, &trial)?;
     }
@@ -72,14 +90,28 @@ fn all_restarts(alloc: Global, way: Way) -> Result<Tally, Fail> {
 #[test]
 fn a_stop_before_each_call_of_a_restart(rt: HostRuntime) -> Result<(), Fail> {
     let tally = all_restarts(rt.alloc(), Way::Before)?;
-    assert_eq!(rt; tally, Tally { right: 1152, lost: 224, wrong: None });
+    assert_eq!(rt;
+        tally,
+        Tally {
+            right: 1152,
+            lost: 224,
+            wrong: None
+        }
+    );
     Ok(())
 }
 
 #[test]
 fn a_torn_put_at_each_call_of_a_restart(rt: HostRuntime) -> Result<(), Fail> {
     let tally = all_restarts(rt.alloc(), Way::Torn)?;
-    assert_eq!(rt; tally, Tally { right: 1152, lost: 224, wrong: None });
+    assert_eq!(rt;
+        tally,
+        Tally {
+            right: 1152,
+            lost: 224,
+            wrong: None
+        }
+    );
     Ok(())
 }
 
@@ -89,13 +121,24 @@ fn no_device_call_is_left_out(rt: HostRuntime) -> Result<(), Fail> {
     let mut tally = Tally::new();
     for (server, call) in [(0, 25), (1, 9)] {
         let trial = Trial {
-            stop: Stop { server, call, way: Way::Before },
+            stop: Stop {
+                server,
+                call,
+                way: Way::Before,
+            },
             is_revived: false,
             restarts: Restarts::None,
         };
         tally.add(rt.alloc(), &trial)?;
     }
-    assert_eq!(rt; tally, Tally { right: 2, lost: 0, wrong: None });
+    assert_eq!(rt;
+        tally,
+        Tally {
+            right: 2,
+            lost: 0,
+            wrong: None
+        }
+    );
     Ok(())
 }
 

@@ -20,10 +20,30 @@ const SCHEDULE: &[u8] =
 
 /// A run of the images that one of no events left.
 const FIRST: &[&str] = &[
-    "juniper", "run", "--servers", "2", "--pool", "4", "--heads", "2", "--data", "4", "--out", "a",
+    "juniper",
+    "run",
+    "--servers",
+    "2",
+    "--pool",
+    "4",
+    "--heads",
+    "2",
+    "--data",
+    "4",
+    "--out",
+    "a",
 ];
 
-const WORDS: &[&str] = &["juniper", "run", "--servers", "2", "--in", "a", "--out", "b"];
+const WORDS: &[&str] = &[
+    "juniper",
+    "run",
+    "--servers",
+    "2",
+    "--in",
+    "a",
+    "--out",
+    "b",
+];
 
 impl Part {
     /// Its call of this number fails. The saves behind the two that laid the images down are counted.
@@ -62,7 +82,11 @@ pub(crate) struct Honest {
     report: Vec<u8>,
 }
 
-fn called(alloc: Global, failing: Failing, images: &Images) -> Result<(Status, Vec<u8>), AllocError> {
+fn called(
+    alloc: Global,
+    failing: Failing,
+    images: &Images,
+) -> Result<(Status, Vec<u8>), AllocError> {
     let asked = Call {
         words: WORDS,
         schedule: SCHEDULE,
@@ -92,7 +116,11 @@ impl Honest {
         for number in 1..1000_u64 {
             let (status, taken) = called(alloc, part.failing(number), &self.images)?;
             if status == Status::Done {
-                return Ok(if taken == self.report { Some(number.wrapping_sub(1)) } else { None });
+                return Ok(if taken == self.report {
+                    Some(number.wrapping_sub(1))
+                } else {
+                    None
+                });
             }
             if status != part.status() || !part.may_take(&taken, &self.report) {
                 return Ok(None);

@@ -52,9 +52,17 @@ impl Stop {
             _ => Way::After,
         };
         if call < CALLS {
-            Stop { server: 0, call: call.wrapping_add(1), way }
+            Stop {
+                server: 0,
+                call: call.wrapping_add(1),
+                way,
+            }
         } else {
-            Stop { server: 1, call: (call - CALLS).wrapping_add(1), way }
+            Stop {
+                server: 1,
+                call: (call - CALLS).wrapping_add(1),
+                way,
+            }
         }
     }
 

@@ -25,7 +25,16 @@ const SERVERS: Servers = Servers {
 
 /// The words that ask for them.
 const WORDS: &[&str] = &[
-    "juniper", "run", "--servers", "2", "--pool", "4", "--heads", "2", "--data", "4",
+    "juniper",
+    "run",
+    "--servers",
+    "2",
+    "--pool",
+    "4",
+    "--heads",
+    "2",
+    "--data",
+    "4",
 ];
 
 /// How a server that was stopped comes up again.
