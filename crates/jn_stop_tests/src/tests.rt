@@ -30,14 +30,7 @@ fn all_stops(alloc: Global, is_revived: bool) -> Result<Tally, Fail> {
 #[test]
 fn a_stop_at_each_device_call_of_a_commit(rt: HostRuntime) -> Result<(), Fail> {
     let tally = all_stops(rt.alloc(), false)?;
-    assert_eq!(rt;
-        tally,
-        Tally {
-            right: 96,
-            lost: 16,
-            wrong: None
-        }
-    );
+    assert_eq!(rt; tally.verdict(), (96, 16, "nothing"));
     Ok(())
 }
 
@@ -45,14 +38,7 @@ fn a_stop_at_each_device_call_of_a_commit(rt: HostRuntime) -> Result<(), Fail> {
 #[test]
 fn a_stop_at_each_device_call_with_a_revival_of_each_page(rt: HostRuntime) -> Result<(), Fail> {
     let tally = all_stops(rt.alloc(), true)?;
-    assert_eq!(rt;
-        tally,
-        Tally {
-            right: 96,
-            lost: 14,
-            wrong: None
-        }
-    );
+    assert_eq!(rt; tally.verdict(), (96, 14, "nothing"));
     Ok(())
 }
 
@@ -90,28 +76,14 @@ fn all_restarts(alloc: Global, way: Way) -> Result<Tally, Fail> {
 #[test]
 fn a_stop_before_each_call_of_a_restart(rt: HostRuntime) -> Result<(), Fail> {
     let tally = all_restarts(rt.alloc(), Way::Before)?;
-    assert_eq!(rt;
-        tally,
-        Tally {
-            right: 1152,
-            lost: 224,
-            wrong: None
-        }
-    );
+    assert_eq!(rt; tally.verdict(), (1152, 224, "nothing"));
     Ok(())
 }
 
 #[test]
 fn a_torn_put_at_each_call_of_a_restart(rt: HostRuntime) -> Result<(), Fail> {
     let tally = all_restarts(rt.alloc(), Way::Torn)?;
-    assert_eq!(rt;
-        tally,
-        Tally {
-            right: 1152,
-            lost: 224,
-            wrong: None
-        }
-    );
+    assert_eq!(rt; tally.verdict(), (1152, 224, "nothing"));
     Ok(())
 }
 
@@ -131,14 +103,7 @@ fn no_device_call_is_left_out(rt: HostRuntime) -> Result<(), Fail> {
         };
         tally.add(rt.alloc(), &trial)?;
     }
-    assert_eq!(rt;
-        tally,
-        Tally {
-            right: 2,
-            lost: 0,
-            wrong: None
-        }
-    );
+    assert_eq!(rt; tally.verdict(), (2, 0, "nothing"));
     Ok(())
 }
 

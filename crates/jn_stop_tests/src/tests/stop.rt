@@ -1,7 +1,7 @@
 //! Stops at a device call of the commit, and what each leaves by the actors' tables.
 
 /// In which way a device call is stopped.
-#[derive(Clone, Copy, Debug, PartialEq, Eq)]
+#[derive(Clone, Copy)]
 pub(crate) enum Way {
     Before,
     Torn,
@@ -9,7 +9,7 @@ pub(crate) enum Way {
 }
 
 /// A stop at a server's device call, counted from 1.
-#[derive(Clone, Copy, Debug, PartialEq, Eq)]
+#[derive(Clone, Copy)]
 pub(crate) struct Stop {
     pub(crate) server: u8,
     pub(crate) call: u32,
@@ -17,7 +17,7 @@ pub(crate) struct Stop {
 }
 
 /// What the client is told at last.
-#[derive(Clone, Copy, Debug, PartialEq, Eq)]
+#[derive(Clone, Copy, PartialEq, Eq)]
 pub(crate) enum Outcome {
     Committed,
     /// Aborted, since what the server had of the transaction is lost.

@@ -38,7 +38,7 @@ const WORDS: &[&str] = &[
 ];
 
 /// How a server that was stopped comes up again.
-#[derive(Clone, Copy, Debug, PartialEq, Eq)]
+#[derive(Clone, Copy)]
 pub(crate) enum Restarts {
     /// It isn't stopped.
     None,
@@ -50,7 +50,7 @@ pub(crate) enum Restarts {
 }
 
 /// A run of the commit.
-#[derive(Clone, Copy, Debug, PartialEq, Eq)]
+#[derive(Clone, Copy)]
 pub(crate) struct Trial {
     pub(crate) stop: Stop,
     /// Whether each page of the server is good again before its restart.
@@ -59,7 +59,7 @@ pub(crate) struct Trial {
 }
 
 /// What is wrong with a run.
-#[derive(Clone, Copy, Debug, PartialEq, Eq)]
+#[derive(Clone, Copy)]
 pub(crate) enum Wrong {
     Broken(Definition),
     Outcome,
@@ -67,12 +67,13 @@ pub(crate) enum Wrong {
     Text,
 }
 
-/// Runs that were right, those of them whose transaction was lost, and the first one that was wrong.
-#[derive(Clone, Copy, Debug, PartialEq, Eq)]
+/// Runs until one was wrong.
+#[derive(Clone, Copy)]
 pub(crate) struct Tally {
-    pub(crate) right: u32,
-    pub(crate) lost: u32,
-    pub(crate) wrong: Option<(Trial, Wrong)>,
+    right: u32,
+    /// Those whose transaction was lost.
+    lost: u32,
+    wrong: Option<Wrong>,
 }
 
 /// A fault waits for a server's device call.
@@ -243,7 +244,31 @@ fn stops_in(events: &[Event], lines: &[Line]) -> Stops {
     stops
 }
 
+impl Wrong {
+    fn word(self) -> &'static str {
+        match self {
+            Wrong::Broken(Definition::Agrees) => "agrees",
+            Wrong::Broken(Definition::Told) => "told",
+            Wrong::Broken(Definition::Shown) => "shown",
+            Wrong::Broken(Definition::Caused) => "caused",
+            Wrong::Broken(Definition::Follows) => "follows",
+            Wrong::Outcome => "outcome",
+            Wrong::Stops => "stops",
+            Wrong::Text => "text",
+        }
+    }
+}
+
 impl Tally {
+    /// How many runs were right, how many of them lost their transaction, and what is wrong with the next one.
+    pub(crate) fn verdict(&self) -> (u32, u32, &'static str) {
+        let word = match self.wrong {
+            Some(wrong) => wrong.word(),
+            None => "nothing",
+        };
+        (self.right, self.lost, word)
+    }
+
     pub(crate) fn new() -> Tally {
         Tally {
             right: 0,
@@ -258,7 +283,7 @@ impl Tally {
             return Ok(());
         }
         if let Some(wrong) = trial.wrong(alloc, self.right % 10 == 0)? {
-            self.wrong = Some((*trial, wrong));
+            self.wrong = Some(wrong);
             return Ok(());
         }
         self.right = self.right.saturating_add(1);
