@@ -234,13 +234,18 @@ impl Drawing {
     /// The server is to go down, or up.
     fn turn(&mut self, server: ServerNo, is_down: bool) {
         let guess = self.guess(server);
-        self.set_guess(server, if is_down { Guess { is_down, ..guess } } else {
-            Guess {
-                epoch: guess.epoch.saturating_add(1),
-                ticket: 0,
-                is_down,
-            }
-        });
+        self.set_guess(
+            server,
+            if is_down {
+                Guess { is_down, ..guess }
+            } else {
+                Guess {
+                    epoch: guess.epoch.saturating_add(1),
+                    ticket: 0,
+                    is_down,
+                }
+            },
+        );
     }
 
     /// The name that a server gives the next transaction, as far as the schedule can know.

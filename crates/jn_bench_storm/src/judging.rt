@@ -47,8 +47,16 @@ fn wrong_in_call(
     let heads = format!(in alloc; "{}", servers.pages.heads)?;
     let leaves = format!(in alloc; "{}", servers.pages.leaves)?;
     let words = [
-        "juniper", "run", "--servers", count.as_str(), "--pool", pool.as_str(), "--heads",
-        heads.as_str(), "--data", leaves.as_str(),
+        "juniper",
+        "run",
+        "--servers",
+        count.as_str(),
+        "--pool",
+        pool.as_str(),
+        "--heads",
+        heads.as_str(),
+        "--data",
+        leaves.as_str(),
     ];
     let asked = Call {
         words: &words,
