@@ -66,13 +66,13 @@ pub fn commits_are_counted()
         → count_right [] t.lines ≡ true }
 {}
 
-/// The commits that the lines name are those that the system has named, in its order.
 /// Unless the run is cut short, the events that have begun and those that are left are those of the schedule.
 pub fn each_event_begins_once()
     ensures { (x : Setup) (schedule : List Event) (files : AllFiles) (epochs : ServerNo → ℕ) (t : State) → MayLead x (before x schedule files epochs) t
         → (t.stage ≡ CutShort → ⊥) → t.course.world.event + events_left t.tasks ≡ length schedule }
 {}
 
+/// The commits that the lines name are those that the system has named, in its order.
 pub fn commits_are_the_systems()
     ensures { (x : Setup) (schedule : List Event) (files : AllFiles) (epochs : ServerNo → ℕ) (t : State) → MayLead x (before x schedule files epochs) t
         → history_of t.lines ≡ commits_in t.course.world.lines }
