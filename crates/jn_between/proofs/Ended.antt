@@ -11,14 +11,14 @@ use Rattle.jn_serial.specs.Lines.{history_of}
 use Rattle.jn_serial.specs.Order.{replay}
 use Rattle.jn_rows.specs.Stable.{StableState, Pick}
 use Rattle.jn_rows.specs.Worker.{commit_holder}
-use Rattle.jn_machine.specs.Held.{file_unit}
+use Rattle.jn_system.specs.SmallSteps.Held.{file_unit}
 use Rattle.jn_aside.specs.Aside.{plain}
 use Rattle.jn_aside.proofs.Showing.{history-aside, replay-aside}
-use Rattle.jn_protocol.specs.World.{World, Memory, opening}
-use Rattle.jn_reported.specs.Reported.{events_of, steps_of, world_of, IsReported}
-use Rattle.jn_reported.specs.Ending.{Ending, IsWholeRun, all_lines, steps_at_end, world_at_end}
-use Rattle.jn_talk.specs.Agreement.{AreAsTold}
-use Rattle.jn_shown.proofs.Ends.{end-agrees}
+use Rattle.jn_system.specs.WholeSystem.World.{World, Memory, opening}
+use Rattle.jn_system_reports.specs.Reporting.Reported.{events_of, steps_of, world_of, IsReported}
+use Rattle.jn_system_reports.specs.Reporting.Ending.{Ending, IsWholeRun, all_lines, steps_at_end, world_at_end}
+use Rattle.jn_system_reports.specs.Telling.Agreement.{AreAsTold}
+use Rattle.jn_system_reports.proofs.Showing.Ends.{end-agrees}
 use Rattle.jn_written.specs.Chances.{Setup}
 use Rattle.jn_written.specs.Devices.{Devices, AreFound}
 use Rattle.jn_written.specs.Runs.{Moment}

@@ -1,8 +1,8 @@
 -- The world of each moment is what steps of the system lead to, and what is found in it is what is found on the pages.
 use Rattle.std.proofs.Common.{◌≡◌, ◌⊎◌, inl, inr, true, false, List, [], ◌++◌, refl, sym, ◌∙◌, ap, subst}
-use Rattle.jn_protocol.specs.World.{World}
-use Rattle.jn_protocol.specs.Steps.{Step, IsRun, run}
-use Rattle.jn_settling.specs.Course.{go_on}
+use Rattle.jn_system.specs.WholeSystem.World.{World}
+use Rattle.jn_system.specs.WholeSystem.Steps.{Step, IsRun, run}
+use Rattle.jn_system_settling.specs.Settling.Course.{go_on}
 use Rattle.jn_written.specs.Chances.{Setup}
 use Rattle.jn_written.specs.Tasks.{Task, Dismisses, InSchedule, AtEnd, CutShort, State, begun}
 use Rattle.jn_written.specs.Deeds.{Deed}

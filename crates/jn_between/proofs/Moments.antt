@@ -13,17 +13,17 @@ use Rattle.jn_serial.specs.Order.{replay}
 use Rattle.jn_rows.specs.Stable.{StableState, Pick}
 use Rattle.jn_aside.specs.Aside.{plain}
 use Rattle.jn_aside.proofs.Showing.{history-aside, replay-aside}
-use Rattle.jn_protocol.specs.World.{World, opening}
-use Rattle.jn_protocol.specs.Steps.{Step, NextEvent, IsRun, run, after}
-use Rattle.jn_reported.specs.Reported.{Item, events_of, steps_of, world_of, lines_of, IsReported}
-use Rattle.jn_talk.specs.Agreement.{AreAsTold}
-use Rattle.jn_talk.proofs.Reports.{run-as-told}
-use Rattle.jn_facts.proofs.Standing.{Standing, stand}
-use Rattle.jn_facts.proofs.Laws.{up-fact, made-once, doubt, told-after, answers-stand, works-stay}
-use Rattle.jn_facts.proofs.Dropping.{dropped}
-use Rattle.jn_facts.proofs.Passing.{reached, unknown}
-use Rattle.jn_facts.proofs.Lined.{run-lines-stand}
-use Rattle.jn_cut.proofs.Cut.{run-true}
+use Rattle.jn_system.specs.WholeSystem.World.{World, opening}
+use Rattle.jn_system.specs.WholeSystem.Steps.{Step, NextEvent, IsRun, run, after}
+use Rattle.jn_system_reports.specs.Reporting.Reported.{Item, events_of, steps_of, world_of, lines_of, IsReported}
+use Rattle.jn_system_reports.specs.Telling.Agreement.{AreAsTold}
+use Rattle.jn_system_reports.proofs.Telling.Reports.{run-as-told}
+use Rattle.jn_system_reports.proofs.BetweenSteps.Standing.{Standing, stand}
+use Rattle.jn_system_reports.proofs.BetweenSteps.Laws.{up-fact, made-once, doubt, told-after, answers-stand, works-stay}
+use Rattle.jn_system_reports.proofs.BetweenSteps.Dropping.{dropped}
+use Rattle.jn_system_reports.proofs.BetweenSteps.Passing.{reached, unknown}
+use Rattle.jn_system_reports.proofs.BetweenSteps.Lined.{run-lines-stand}
+use Rattle.jn_headline.proofs.CutReports.Cut.{run-true}
 use Rattle.jn_written.specs.Chances.{Setup}
 use Rattle.jn_written.specs.Tasks.{Task, Begins, Dismisses, InSchedule, AtEnd, CutShort, Stage, State, begun, first_of_tasks}
 use Rattle.jn_written.specs.Devices.{Devices, AreFound}
@@ -31,7 +31,7 @@ use Rattle.jn_written.specs.Events.{ending, dismissing}
 use Rattle.jn_written.specs.Runs.{none, more, Moment, Leads}
 use Rattle.jn_written.specs.Steps.{is_too_much, come_to, cut_short}
 use Rattle.jn_written.specs.Whole.{before, IsWritten}
-use Rattle.jn_settling.specs.Course.{go_on}
+use Rattle.jn_system_settling.specs.Settling.Course.{go_on}
 use Rattle.jn_retold.specs.Retold.{behind, IsAsIn, IsToldBy, IsRetold, IsRetoldInPart}
 use Rattle.jn_retold.proofs.Behind.{ups-name-none, run-behind}
 use Rattle.jn_retold.proofs.Besides.{is_settling}

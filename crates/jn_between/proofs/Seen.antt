@@ -15,26 +15,26 @@ use Rattle.jn_rows.specs.Outcomes.{Sent}
 use Rattle.jn_rows.specs.Client.{ClientTable, work_at}
 use Rattle.jn_rows.specs.Stable.{StableState, Pick, IsUp}
 use Rattle.jn_rows.specs.declared.worker.ActiveWork.{ActiveWork}
-use Rattle.jn_machine.specs.Traces.{Agrees}
+use Rattle.jn_system.specs.SmallSteps.Traces.{Agrees}
 use Rattle.jn_serial.specs.Lines.{history_of}
 use Rattle.jn_serial.specs.Order.{ops_of, replay}
 use Rattle.jn_replay.specs.declared.files.Performed.{Performed}
 use Rattle.jn_aside.specs.Aside.{plain}
 use Rattle.jn_aside.proofs.Showing.{ops-aside, history-aside, replay-aside}
-use Rattle.jn_protocol.specs.World.{World, Memory, commits_in}
-use Rattle.jn_talk.specs.Told.{at_place}
-use Rattle.jn_facts.specs.Sent.{WasSent, IsNamed}
-use Rattle.jn_facts.specs.Names.{WasMade, AreMadeOnce}
-use Rattle.jn_facts.specs.Doubt.{IsInDoubt, IsDownInDoubt}
-use Rattle.jn_facts.specs.Parts.{WasEnded, IsPart, IsNoPart}
-use Rattle.jn_facts.specs.Works.{AreCarriedOut, IsFlagged, IsPrepared, IsCarriedOut, DoWorksStay, IsActive}
-use Rattle.jn_facts.specs.Commits.{AreToldAfter}
-use Rattle.jn_facts.specs.Drops.{IsOver, IsPast, AreOfThePast}
-use Rattle.jn_facts.specs.Answers.{DoAnswersStand}
-use Rattle.jn_facts.specs.Lines.{WasAsked, StandAt, DoLinesStand}
+use Rattle.jn_system.specs.WholeSystem.World.{World, Memory, commits_in}
+use Rattle.jn_system_reports.specs.Telling.Told.{at_place}
+use Rattle.jn_system_reports.specs.BetweenSteps.Sent.{WasSent, IsNamed}
+use Rattle.jn_system_reports.specs.BetweenSteps.Names.{WasMade, AreMadeOnce}
+use Rattle.jn_system_reports.specs.BetweenSteps.Doubt.{IsInDoubt, IsDownInDoubt}
+use Rattle.jn_system_reports.specs.BetweenSteps.Parts.{WasEnded, IsPart, IsNoPart}
+use Rattle.jn_system_reports.specs.BetweenSteps.Works.{AreCarriedOut, IsFlagged, IsPrepared, IsCarriedOut, DoWorksStay, IsActive}
+use Rattle.jn_system_reports.specs.BetweenSteps.Commits.{AreToldAfter}
+use Rattle.jn_system_reports.specs.BetweenSteps.Drops.{IsOver, IsPast, AreOfThePast}
+use Rattle.jn_system_reports.specs.BetweenSteps.Answers.{DoAnswersStand}
+use Rattle.jn_system_reports.specs.BetweenSteps.Lines.{WasAsked, StandAt, DoLinesStand}
 use Rattle.jn_retold.specs.Retold.{IsAsIn}
 use Rattle.jn_retold.proofs.Behind.{ups-name-none}
-use Rattle.jn_moves.proofs.Mirrored.{commits-more}
+use Rattle.jn_system_order.proofs.Mirroring.Mirrored.{commits-more}
 use Rattle.jn_between.specs.Between.{IsConsistent}
 
 module _ (w v : World) (k : IsAsIn w v) where

@@ -13,19 +13,19 @@ use Rattle.jn_serial.specs.Lines.{history_of}
 use Rattle.jn_serial.specs.Order.{replay}
 use Rattle.jn_rows.specs.Stable.{StableState, Pick, IsUp}
 use Rattle.jn_rows.specs.Worker.{WorkerTable, commit_holder}
-use Rattle.jn_machine.specs.Held.{file_unit}
+use Rattle.jn_system.specs.SmallSteps.Held.{file_unit}
 use Rattle.jn_found.specs.Pages.{found_on}
-use Rattle.jn_protocol.specs.World.{World, Memory}
-use Rattle.jn_runs.specs.Runs.{IsDone}
-use Rattle.jn_facts.specs.Names.{AreMadeOnce}
-use Rattle.jn_facts.specs.Doubt.{IsDownInDoubt}
-use Rattle.jn_facts.specs.Works.{DoWorksStay}
-use Rattle.jn_facts.specs.Commits.{AreToldAfter}
-use Rattle.jn_facts.specs.Drops.{AreOfThePast}
-use Rattle.jn_facts.specs.Answers.{DoAnswersStand}
-use Rattle.jn_facts.specs.Lines.{DoLinesStand}
-use Rattle.jn_cut.specs.Cut.{IsTrueSoFar}
-use Rattle.jn_ended.specs.Whole.{IsOfItsCommits}
+use Rattle.jn_system.specs.WholeSystem.World.{World, Memory}
+use Rattle.jn_system_order.specs.Ordering.Runs.{IsDone}
+use Rattle.jn_system_reports.specs.BetweenSteps.Names.{AreMadeOnce}
+use Rattle.jn_system_reports.specs.BetweenSteps.Doubt.{IsDownInDoubt}
+use Rattle.jn_system_reports.specs.BetweenSteps.Works.{DoWorksStay}
+use Rattle.jn_system_reports.specs.BetweenSteps.Commits.{AreToldAfter}
+use Rattle.jn_system_reports.specs.BetweenSteps.Drops.{AreOfThePast}
+use Rattle.jn_system_reports.specs.BetweenSteps.Answers.{DoAnswersStand}
+use Rattle.jn_system_reports.specs.BetweenSteps.Lines.{DoLinesStand}
+use Rattle.jn_headline.specs.CutReports.Cut.{IsTrueSoFar}
+use Rattle.jn_headline.specs.WholeReports.Whole.{IsOfItsCommits}
 use Rattle.jn_written.specs.Chances.{Setup}
 use Rattle.jn_written.specs.Devices.{Devices}
 use Rattle.jn_written.specs.Runs.{Moment}

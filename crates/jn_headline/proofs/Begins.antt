@@ -9,11 +9,11 @@ use Rattle.jn_device.specs.Device.{DeviceState}
 use Rattle.jn_report.specs.declared.line.Text.{Text}
 use Rattle.jn_report.specs.declared.line.Line.{Line}
 use Rattle.jn_aside.specs.Aside.{plain}
-use Rattle.jn_protocol.specs.World.{World, Memory, opening}
-use Rattle.jn_protocol.specs.Steps.{Step, Dismiss, after, run}
-use Rattle.jn_settling.specs.Course.{Course, go, go_on, newly_sent}
-use Rattle.jn_reported.specs.Reported.{Item, steps_of, world_of, lines_of}
-use Rattle.jn_reported.specs.Ending.{at_end}
+use Rattle.jn_system.specs.WholeSystem.World.{World, Memory, opening}
+use Rattle.jn_system.specs.WholeSystem.Steps.{Step, Dismiss, after, run}
+use Rattle.jn_system_settling.specs.Settling.Course.{Course, go, go_on, newly_sent}
+use Rattle.jn_system_reports.specs.Reporting.Reported.{Item, steps_of, world_of, lines_of}
+use Rattle.jn_system_reports.specs.Reporting.Ending.{at_end}
 use Rattle.jn_within.proofs.WorldSteps.{run-within, opening-within, sent-near}
 use Rattle.jn_written.specs.Chances.{Setup, Chance}
 use Rattle.jn_written.specs.Tasks.{Task, Dismisses, InSchedule, AtEnd, CutShort, Stage, State, next_at, begun}

@@ -2,10 +2,10 @@
 use Rattle.std.proofs.Common.{◌≡◌, ℕ, true, List, [], ◌∷◌, ◌++◌, append-nil, length, drop, sym, ◌∙◌, ap}
 use Rattle.std.specs.List.{list_all}
 use Rattle.jn_report.specs.declared.line.Text.{Text}
-use Rattle.jn_protocol.specs.World.{World, commits_in}
-use Rattle.jn_protocol.specs.Steps.{Step, IsStep, after}
-use Rattle.jn_settling.specs.Course.{Course, go, numbered, newly_sent, still_waiting}
-use Rattle.jn_reported.specs.Reported.{Does, told_by}
+use Rattle.jn_system.specs.WholeSystem.World.{World, commits_in}
+use Rattle.jn_system.specs.WholeSystem.Steps.{Step, IsStep, after}
+use Rattle.jn_system_settling.specs.Settling.Course.{Course, go, numbered, newly_sent, still_waiting}
+use Rattle.jn_system_reports.specs.Reporting.Reported.{Does, told_by}
 use Rattle.jn_written.specs.Kinds.{is_up}
 use Rattle.jn_written.specs.Steps.{own_texts}
 use Rattle.jn_retold.specs.Retold.{behind}

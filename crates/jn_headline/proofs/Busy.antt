@@ -5,10 +5,10 @@ use Rattle.std.specs.Prelude.{◌&&◌, ◌||◌, if◌then◌else◌, nat_lt}
 use Rattle.jn_base.specs.declared.names.ServerNo.{ServerNo}
 use Rattle.jn_rows.specs.Outcomes.{RowOutcome}
 use Rattle.jn_rows.specs.Stable.{StableState, Change, stable}
-use Rattle.jn_protocol.specs.World.{World, Memory, servers_from}
-use Rattle.jn_protocol.specs.Servers.{Room, server_step}
-use Rattle.jn_protocol.specs.Steps.{Work, after}
-use Rattle.jn_settling.specs.Settle.{is_busy as has_going}
+use Rattle.jn_system.specs.WholeSystem.World.{World, Memory, servers_from}
+use Rattle.jn_system.specs.WholeSystem.Servers.{Room, server_step}
+use Rattle.jn_system.specs.WholeSystem.Steps.{Work, after}
+use Rattle.jn_system_settling.specs.Settling.Settle.{is_busy as has_going}
 use Rattle.jn_rests.proofs.BusyServers.{goes, nothing, erased-same}
 use Rattle.jn_written.specs.Deeds.{is_busy, is_busy_with}
 use Rattle.jn_written.specs.Events.{first_busy}

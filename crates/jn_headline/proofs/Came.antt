@@ -7,13 +7,13 @@ use Rattle.jn_report.specs.declared.line.Text.{Text}
 use Rattle.jn_report.specs.declared.line.Line.{Line}
 use Rattle.jn_aside.specs.Aside.{plain}
 use Rattle.jn_rows.specs.Outcomes.{Sent}
-use Rattle.jn_protocol.specs.World.{World}
-use Rattle.jn_protocol.specs.Steps.{Step, IsStep, IsRun, after, run}
-use Rattle.jn_settling.specs.Course.{Course, numbered, newly_sent, still_waiting, go, go_on}
-use Rattle.jn_settling.proofs.Settling.{on-world}
-use Rattle.jn_reported.specs.Reported.{Does, told_by}
-use Rattle.jn_reported.specs.Ending.{told_by_steps, at_end}
-use Rattle.jn_cut.specs.Cut.{is_of_end, is_print}
+use Rattle.jn_system.specs.WholeSystem.World.{World}
+use Rattle.jn_system.specs.WholeSystem.Steps.{Step, IsStep, IsRun, after, run}
+use Rattle.jn_system_settling.specs.Settling.Course.{Course, numbered, newly_sent, still_waiting, go, go_on}
+use Rattle.jn_system_settling.proofs.Settling.Settling.{on-world}
+use Rattle.jn_system_reports.specs.Reporting.Reported.{Does, told_by}
+use Rattle.jn_system_reports.specs.Reporting.Ending.{told_by_steps, at_end}
+use Rattle.jn_headline.specs.CutReports.Cut.{is_of_end, is_print}
 use Rattle.jn_written.specs.Chances.{Setup, Chance}
 use Rattle.jn_written.specs.Tasks.{Task, AtEnd, CutShort, Stage, State, when_at, next_at, begun}
 use Rattle.jn_written.specs.Kinds.{is_up}

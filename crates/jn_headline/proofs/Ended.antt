@@ -16,20 +16,20 @@ use Rattle.jn_report.specs.declared.line.Line.{Line}
 use Rattle.jn_rows.specs.Stable.{Pick, StableState, stable}
 use Rattle.jn_rows.specs.Worker.{commit_holder}
 use Rattle.jn_aside.specs.Aside.{plain}
-use Rattle.jn_protocol.specs.World.{World, Memory, opening, servers_from}
-use Rattle.jn_protocol.specs.Printing.{Printed, print_unit, prints_in, print_files}
-use Rattle.jn_protocol.specs.Steps.{Step, Again, Nudge, Dismiss, run, IsRun}
-use Rattle.jn_settling.specs.Course.{Course, go, go_on}
-use Rattle.jn_settling.specs.Settle.{settled, until_rest, ask_again}
-use Rattle.jn_settling.proofs.Settling.{on-world}
-use Rattle.jn_settled.specs.Settled.{AreUp}
+use Rattle.jn_system.specs.WholeSystem.World.{World, Memory, opening, servers_from}
+use Rattle.jn_system.specs.WholeSystem.Printing.{Printed, print_unit, prints_in, print_files}
+use Rattle.jn_system.specs.WholeSystem.Steps.{Step, Again, Nudge, Dismiss, run, IsRun}
+use Rattle.jn_system_settling.specs.Settling.Course.{Course, go, go_on}
+use Rattle.jn_system_settling.specs.Settling.Settle.{settled, until_rest, ask_again}
+use Rattle.jn_system_settling.proofs.Settling.Settling.{on-world}
+use Rattle.jn_system_settling.specs.AtRest.Settled.{AreUp}
 use Rattle.jn_rests.specs.Rests.{ComeToRest, chances_of, asked}
 use Rattle.jn_rests.proofs.Loops.{reached}
-use Rattle.jn_reported.specs.Printing.{IsPrinted}
-use Rattle.jn_reported.specs.Reported.{Item, Does, told_by, world_of, lines_of, IsReported}
-use Rattle.jn_reported.specs.Ending.{Ending, settles, world_at_end, ArePrinted, told_by_steps, texts_from, at_end, counted, IsWholeRun, all_lines}
-use Rattle.jn_ended.specs.Whole.{IsSettledEnd}
-use Rattle.jn_ended.proofs.Whole.{holds-where-up}
+use Rattle.jn_system_reports.specs.Reporting.Printing.{IsPrinted}
+use Rattle.jn_system_reports.specs.Reporting.Reported.{Item, Does, told_by, world_of, lines_of, IsReported}
+use Rattle.jn_system_reports.specs.Reporting.Ending.{Ending, settles, world_at_end, ArePrinted, told_by_steps, texts_from, at_end, counted, IsWholeRun, all_lines}
+use Rattle.jn_headline.specs.WholeReports.Whole.{IsSettledEnd}
+use Rattle.jn_headline.proofs.WholeReports.Whole.{holds-where-up}
 use Rattle.jn_written.specs.Deeds.{blocks_from}
 use Rattle.jn_written.specs.Runs.{Moment}
 use Rattle.jn_retold.proofs.Showing.{all-printed}

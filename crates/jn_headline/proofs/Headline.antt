@@ -5,17 +5,17 @@ use Rattle.jn_base.specs.declared.names.ServerNo.{ServerNo}
 use Rattle.jn_order.specs.Files.{AllFiles}
 use Rattle.jn_schedule.specs.declared.Event.{Event}
 use Rattle.jn_aside.specs.Aside.{plain}
-use Rattle.jn_protocol.specs.World.{opening}
-use Rattle.jn_reported.specs.Reported.{Item, events_of, world_of, IsReported}
-use Rattle.jn_reported.specs.Ending.{Ending, IsWholeRun, AreFilesOf, all_lines}
-use Rattle.jn_reported.proofs.Following.{run-follows}
-use Rattle.jn_causes.proofs.Ends.{end-causes, end-told}
-use Rattle.jn_shown.proofs.Ends.{end-agrees, end-whole, end-free}
-use Rattle.jn_shown.proofs.Follows.{follows-to-end, counted-follows}
-use Rattle.jn_ended.specs.Whole.{IsSettledEnd, IsOfItsCommits}
-use Rattle.jn_ended.proofs.Outcomes.{told-to-end}
-use Rattle.jn_ended.proofs.Whole.{end-holds}
-use Rattle.jn_cut.specs.Cut.{CutEnd, IsCutEnd, IsTrueSoFar, cut_lines}
+use Rattle.jn_system.specs.WholeSystem.World.{opening}
+use Rattle.jn_system_reports.specs.Reporting.Reported.{Item, events_of, world_of, IsReported}
+use Rattle.jn_system_reports.specs.Reporting.Ending.{Ending, IsWholeRun, AreFilesOf, all_lines}
+use Rattle.jn_system_reports.proofs.Reporting.Following.{run-follows}
+use Rattle.jn_system_reports.proofs.Causing.Ends.{end-causes, end-told}
+use Rattle.jn_system_reports.proofs.Showing.Ends.{end-agrees, end-whole, end-free}
+use Rattle.jn_system_reports.proofs.Showing.Follows.{follows-to-end, counted-follows}
+use Rattle.jn_headline.specs.WholeReports.Whole.{IsSettledEnd, IsOfItsCommits}
+use Rattle.jn_headline.proofs.WholeReports.Outcomes.{told-to-end}
+use Rattle.jn_headline.proofs.WholeReports.Whole.{end-holds}
+use Rattle.jn_headline.specs.CutReports.Cut.{CutEnd, IsCutEnd, IsTrueSoFar, cut_lines}
 use Rattle.jn_written.specs.Chances.{Setup}
 use Rattle.jn_written.specs.Tasks.{AtEnd}
 use Rattle.jn_written.specs.Runs.{Moment}

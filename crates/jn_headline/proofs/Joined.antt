@@ -6,7 +6,7 @@ use Rattle.jn_order.specs.Files.{AllFiles}
 use Rattle.jn_schedule.specs.declared.Event.{Event}
 use Rattle.jn_schedule.specs.Ranges.{EventInRange}
 use Rattle.jn_report.specs.declared.line.Line.{Line}
-use Rattle.jn_ended.specs.Whole.{IsOfItsCommits}
+use Rattle.jn_headline.specs.WholeReports.Whole.{IsOfItsCommits}
 use Rattle.jn_written.specs.Chances.{Setup}
 use Rattle.jn_written.specs.Devices.{Devices}
 use Rattle.jn_written.specs.Runs.{Moment}

@@ -1,3 +1,5 @@
+pub mod WholeReports
+pub mod CutReports
 pub mod Behind
 pub mod Texts
 pub mod Quiet

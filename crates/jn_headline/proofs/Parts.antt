@@ -5,12 +5,12 @@ use Rattle.std.specs.List.{list_all, AllByRecursion}
 use Rattle.jn_report.specs.declared.line.Text.{Text}
 use Rattle.jn_report.specs.declared.line.Line.{Line}
 use Rattle.jn_aside.specs.Aside.{plain}
-use Rattle.jn_protocol.specs.World.{World}
-use Rattle.jn_protocol.specs.Steps.{Step, IsRun}
-use Rattle.jn_settling.specs.Course.{Course}
-use Rattle.jn_settling.proofs.Settling.{on-world}
-use Rattle.jn_reported.specs.Ending.{told_by_steps, at_end}
-use Rattle.jn_cut.specs.Cut.{is_of_end, is_print}
+use Rattle.jn_system.specs.WholeSystem.World.{World}
+use Rattle.jn_system.specs.WholeSystem.Steps.{Step, IsRun}
+use Rattle.jn_system_settling.specs.Settling.Course.{Course}
+use Rattle.jn_system_settling.proofs.Settling.Settling.{on-world}
+use Rattle.jn_system_reports.specs.Reporting.Ending.{told_by_steps, at_end}
+use Rattle.jn_headline.specs.CutReports.Cut.{is_of_end, is_print}
 use Rattle.jn_written.specs.Chances.{Setup}
 use Rattle.jn_written.specs.Tasks.{Task, AtEnd, CutShort, State}
 use Rattle.jn_written.specs.Steps.{cut_short}

@@ -17,9 +17,9 @@ use Rattle.jn_rows.specs.Client.{ClientTable, take_row}
 use Rattle.jn_rows.specs.Coordinator.{close_clients_row}
 use Rattle.jn_rows.specs.Outcomes.{RowOutcome, Sent}
 use Rattle.jn_rows.specs.Stable.{Pick, stable}
-use Rattle.jn_protocol.specs.World.{World, Memory, at_server}
-use Rattle.jn_protocol.specs.Servers.{Room, server_row, server_step, of_coordinator, restored}
-use Rattle.jn_protocol.specs.Steps.{Deliver, Work, Nudge, Crash, Restart, CloseClients, after, at_memory, handed, work, works, nudge, crash, close_clients, restart, took}
+use Rattle.jn_system.specs.WholeSystem.World.{World, Memory, at_server}
+use Rattle.jn_system.specs.WholeSystem.Servers.{Room, server_row, server_step, of_coordinator, restored}
+use Rattle.jn_system.specs.WholeSystem.Steps.{Deliver, Work, Nudge, Crash, Restart, CloseClients, after, at_memory, handed, work, works, nudge, crash, close_clients, restart, took}
 use Rattle.jn_written.specs.Chances.{Setup, Chance}
 use Rattle.jn_written.specs.Devices.{Devices, IsCalled, IsRecovery}
 use Rattle.jn_written.proofs.Struck.{nothing-strikes}

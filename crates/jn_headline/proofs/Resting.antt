@@ -10,16 +10,16 @@ use Rattle.jn_report.specs.declared.line.Text.{Text}
 use Rattle.jn_report.specs.declared.line.Line.{Line}
 use Rattle.jn_rows.specs.Outcomes.{Sent}
 use Rattle.jn_rows.specs.Stable.{Pick, stable}
-use Rattle.jn_protocol.specs.World.{World, Memory, servers_from}
-use Rattle.jn_protocol.specs.Servers.{Room}
-use Rattle.jn_protocol.specs.Steps.{Step, Deliver, Work, after, run}
-use Rattle.jn_settling.specs.Course.{Course, go_on}
-use Rattle.jn_settling.specs.Settle.{first_busy as first_going, is_busy as has_going, handing, working, next_step}
-use Rattle.jn_settling.proofs.Settling.{on-world}
+use Rattle.jn_system.specs.WholeSystem.World.{World, Memory, servers_from}
+use Rattle.jn_system.specs.WholeSystem.Servers.{Room}
+use Rattle.jn_system.specs.WholeSystem.Steps.{Step, Deliver, Work, after, run}
+use Rattle.jn_system_settling.specs.Settling.Course.{Course, go_on}
+use Rattle.jn_system_settling.specs.Settling.Settle.{first_busy as first_going, is_busy as has_going, handing, working, next_step}
+use Rattle.jn_system_settling.proofs.Settling.Settling.{on-world}
 use Rattle.jn_rests.specs.Rests.{ComesNext, AreNext, ComeToRest}
 use Rattle.jn_rests.proofs.Loops.{in-turn}
 use Rattle.jn_rests.proofs.BusyServers.{first-is, first-none}
-use Rattle.jn_reported.specs.Ending.{settles}
+use Rattle.jn_system_reports.specs.Reporting.Ending.{settles}
 use Rattle.jn_written.specs.Chances.{Setup, Chance}
 use Rattle.jn_written.specs.Tasks.{Task, Rests}
 use Rattle.jn_written.specs.Deeds.{Deed, plain, served, nothing, room, no_room, delivered, delivered_at, is_busy_with, worked, working_steps}

@@ -15,12 +15,12 @@ use Rattle.jn_report.specs.declared.line.Line.{Line}
 use Rattle.jn_rows.specs.Stable.{StableState, Pick, stable}
 use Rattle.jn_store.specs.Pairs.{pairs_view}
 use Rattle.jn_found.specs.Pages.{pages_by}
-use Rattle.jn_protocol.specs.World.{World, Memory, servers_from}
-use Rattle.jn_protocol.specs.Printing.{Printed, FileThere, PageStored, UnitLocked, prints_in, print_files, file_before}
-use Rattle.jn_protocol.specs.Steps.{Step, AreNames}
-use Rattle.jn_settling.specs.Course.{Course, go_on}
-use Rattle.jn_reported.specs.Printing.{text_printed}
-use Rattle.jn_cut.specs.Cut.{is_print}
+use Rattle.jn_system.specs.WholeSystem.World.{World, Memory, servers_from}
+use Rattle.jn_system.specs.WholeSystem.Printing.{Printed, FileThere, PageStored, UnitLocked, prints_in, print_files, file_before}
+use Rattle.jn_system.specs.WholeSystem.Steps.{Step, AreNames}
+use Rattle.jn_system_settling.specs.Settling.Course.{Course, go_on}
+use Rattle.jn_system_reports.specs.Reporting.Printing.{text_printed}
+use Rattle.jn_headline.specs.CutReports.Cut.{is_print}
 use Rattle.jn_written.specs.Chances.{Setup, Chance}
 use Rattle.jn_written.specs.Tasks.{Task, Acts}
 use Rattle.jn_written.specs.Deeds.{Deed, Reads, served, stopped_idle, shown, showing, scrubbed, blocks_from}

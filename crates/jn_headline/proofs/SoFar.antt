@@ -22,14 +22,14 @@ use Rattle.jn_aside.proofs.Telling.{told-aside}
 use Rattle.jn_aside.proofs.Answering.{follows-aside}
 use Rattle.jn_aside.proofs.Showing.{agrees-aside, so-far-aside, at-end-aside}
 use Rattle.jn_aside.proofs.Causing.{caused-aside}
-use Rattle.jn_protocol.specs.World.{opening}
-use Rattle.jn_reported.specs.Reported.{Item, events_of, world_of, lines_of, IsReported}
-use Rattle.jn_reported.specs.Ending.{told_by_steps, at_end}
-use Rattle.jn_reported.proofs.Following.{items-follow}
-use Rattle.jn_reported.proofs.Reached.{opening-reached}
-use Rattle.jn_ended.specs.Whole.{IsOfItsCommits}
-use Rattle.jn_cut.specs.Cut.{IsCutEnd, IsTrueSoFar, cut_lines}
-use Rattle.jn_cut.proofs.Cut.{cut-true, run-true, next-true}
+use Rattle.jn_system.specs.WholeSystem.World.{opening}
+use Rattle.jn_system_reports.specs.Reporting.Reported.{Item, events_of, world_of, lines_of, IsReported}
+use Rattle.jn_system_reports.specs.Reporting.Ending.{told_by_steps, at_end}
+use Rattle.jn_system_reports.proofs.Reporting.Following.{items-follow}
+use Rattle.jn_system_reports.proofs.Reporting.Reached.{opening-reached}
+use Rattle.jn_headline.specs.WholeReports.Whole.{IsOfItsCommits}
+use Rattle.jn_headline.specs.CutReports.Cut.{IsCutEnd, IsTrueSoFar, cut_lines}
+use Rattle.jn_headline.proofs.CutReports.Cut.{cut-true, run-true, next-true}
 use Rattle.jn_written.specs.Runs.{Moment}
 use Rattle.jn_headline.specs.Headline.{IsTrueOfBegun, but_shows}
 use Rattle.jn_headline.proofs.Ended.{PartOf, dismissed, dismissal-untold}

@@ -14,10 +14,10 @@ use Rattle.jn_report.specs.declared.line.Text.{Text}
 use Rattle.jn_report.specs.declared.line.Text.TheVariants as says
 use Rattle.jn_report.specs.declared.line.Line.{Line}
 use Rattle.jn_rows.specs.Stable.{Pick}
-use Rattle.jn_protocol.specs.World.{World, Memory, servers_from}
-use Rattle.jn_protocol.specs.Steps.{Step, Again, Nudge, Crash, Restart, CloseClients, after, run, crash}
-use Rattle.jn_settling.specs.Course.{Course, go_on}
-use Rattle.jn_reported.specs.Ending.{Comeback, restarts_from}
+use Rattle.jn_system.specs.WholeSystem.World.{World, Memory, servers_from}
+use Rattle.jn_system.specs.WholeSystem.Steps.{Step, Again, Nudge, Crash, Restart, CloseClients, after, run, crash}
+use Rattle.jn_system_settling.specs.Settling.Course.{Course, go_on}
+use Rattle.jn_system_reports.specs.Reporting.Ending.{Comeback, restarts_from}
 use Rattle.jn_written.specs.Chances.{Setup, Chance}
 use Rattle.jn_written.specs.Tasks.{Task, Acts, ComesUp, GoesDown, ClosesClients}
 use Rattle.jn_written.specs.Deeds.{Deed, plain, crashed_at, served, recovers, recovering, recovered, given_up, is_used_up, pick_read}

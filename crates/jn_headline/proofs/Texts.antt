@@ -9,10 +9,10 @@ use Rattle.jn_report.specs.declared.line.Line.{Line}
 use Rattle.jn_rows.specs.Outcomes.{Sent}
 use Rattle.jn_aside.specs.Aside.{is_aside, plain}
 use Rattle.jn_aside.proofs.Plain.{plain-append, plain-none}
-use Rattle.jn_protocol.specs.World.{World}
-use Rattle.jn_protocol.specs.Steps.{Step, after, run}
-use Rattle.jn_reported.specs.Reported.{Does, told_by}
-use Rattle.jn_reported.specs.Ending.{told_by_steps, at_end}
+use Rattle.jn_system.specs.WholeSystem.World.{World}
+use Rattle.jn_system.specs.WholeSystem.Steps.{Step, after, run}
+use Rattle.jn_system_reports.specs.Reporting.Reported.{Does, told_by}
+use Rattle.jn_system_reports.specs.Reporting.Ending.{told_by_steps, at_end}
 use Rattle.jn_written.specs.Steps.{message_texts, traced}
 
 pub told-append : (a b : List Step) (w : World) → told_by_steps (a ++ b) w ≡ told_by_steps a w ++ told_by_steps b (run a w)

@@ -14,12 +14,12 @@ use Rattle.jn_report.specs.declared.line.Line.{Line}
 use Rattle.jn_serial.specs.Lines.{history_of}
 use Rattle.jn_aside.specs.Aside.{plain}
 use Rattle.jn_aside.proofs.Plain.{history-plain, same-of}
-use Rattle.jn_protocol.specs.World.{servers_from}
-use Rattle.jn_protocol.specs.Steps.{Step, Again, Nudge, Crash, CloseClients, run, IsRun}
-use Rattle.jn_settling.specs.Course.{Course, go_on}
-use Rattle.jn_settling.specs.Settle.{clients_from}
+use Rattle.jn_system.specs.WholeSystem.World.{servers_from}
+use Rattle.jn_system.specs.WholeSystem.Steps.{Step, Again, Nudge, Crash, CloseClients, run, IsRun}
+use Rattle.jn_system_settling.specs.Settling.Course.{Course, go_on}
+use Rattle.jn_system_settling.specs.Settling.Settle.{clients_from}
 use Rattle.jn_rests.specs.Rests.{ComeToRest}
-use Rattle.jn_reported.specs.Ending.{Comeback, restarts_from, settles, told_by_steps, at_end, counted}
+use Rattle.jn_system_reports.specs.Reporting.Ending.{Comeback, restarts_from, settles, told_by_steps, at_end, counted}
 use Rattle.jn_written.specs.Chances.{Setup}
 use Rattle.jn_written.specs.Tasks.{Task, Acts, Rests, ComesUp, GoesDown, ClosesClients, CountsCommits, AtEnd, Stage, State, next_at}
 use Rattle.jn_written.specs.Deeds.{Deed, tells}

@@ -1,1 +1,3 @@
+pub mod WholeReports
+pub mod CutReports
 pub mod Headline

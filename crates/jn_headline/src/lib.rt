@@ -2,6 +2,9 @@
 //! it is cut off anywhere.
 #![tactic(auto)]
 
+mod cut_reports;
+mod whole_reports;
+
 ghost use Rattle.std.specs.Prelude.{◌≡◌, ◌≤◌, ℕ, List, []};
 ghost use Rattle.std.specs.List.{AllByRecursion};
 ghost use Rattle.jn_base.specs.declared.names.ServerNo.{ServerNo};
@@ -10,11 +13,11 @@ ghost use Rattle.jn_schedule.specs.declared.Event.{Event};
 ghost use Rattle.jn_schedule.specs.Ranges.{EventInRange};
 ghost use Rattle.jn_report.specs.declared.line.Line.{Line};
 ghost use Rattle.jn_aside.specs.Aside.{plain};
-ghost use Rattle.jn_protocol.specs.World.{opening};
-ghost use Rattle.jn_reported.specs.Reported.{world_of};
-ghost use Rattle.jn_reported.specs.Ending.{Ending, IsWholeRun, AreFilesOf, all_lines};
-ghost use Rattle.jn_ended.specs.Whole.{IsSettledEnd, IsOfItsCommits};
-ghost use Rattle.jn_cut.specs.Cut.{CutEnd, IsCutEnd, cut_lines};
+ghost use Rattle.jn_system.specs.WholeSystem.World.{opening};
+ghost use Rattle.jn_system_reports.specs.Reporting.Reported.{world_of};
+ghost use Rattle.jn_system_reports.specs.Reporting.Ending.{Ending, IsWholeRun, AreFilesOf, all_lines};
+ghost use Rattle.jn_headline.specs.WholeReports.Whole.{IsSettledEnd, IsOfItsCommits};
+ghost use Rattle.jn_headline.specs.CutReports.Cut.{CutEnd, IsCutEnd, cut_lines};
 ghost use Rattle.jn_written.specs.Chances.{Setup};
 ghost use Rattle.jn_written.specs.Devices.{Devices};
 ghost use Rattle.jn_written.specs.Tasks.{AtEnd};
@@ -22,6 +25,11 @@ ghost use Rattle.jn_written.specs.Runs.{Moment};
 ghost use Rattle.jn_written.specs.Whole.{AreImages, IsWhole, IsLimited, IsPartOfRun};
 ghost use Rattle.jn_retold.specs.Retold.{IsRetold, IsRetoldInPart};
 ghost use Rattle.jn_headline.specs.Headline.{IsTrueOfBegun};
+
+pub use cut_reports::{a_run_is_cut_off, fronts_of_an_end_are_cut_ends, reports_are_true_so_far};
+pub use whole_reports::{
+    an_end_settles, reports_are_of_their_commits, reports_are_true_to_the_end,
+};
 
 /// Where the schedule of a run is retold, its end is: one that was done whole is an ending of the whole system that settles until nothing is
 /// left to do, and one that isn't is an end that is cut off. The lines are theirs, but for those of servers that came up and of messages.

@@ -19,8 +19,8 @@ use Rattle.jn_rows.specs.Coordinator.{abort_row, end_promised}
 use Rattle.jn_rows.specs.Outcomes.{RowOutcome}
 use Rattle.jn_rows.specs.Stable.{StableState, Change, made_all}
 use Rattle.jn_storage.specs.Calls.{state}
-use Rattle.jn_protocol.specs.World.{Memory}
-use Rattle.jn_protocol.specs.Servers.{Room, server_row, server_step, of_worker, of_coordinator}
+use Rattle.jn_system.specs.WholeSystem.World.{Memory}
+use Rattle.jn_system.specs.WholeSystem.Servers.{Room, server_row, server_step, of_worker, of_coordinator}
 use Rattle.jn_server.specs.Handling.{IsDone, LeavesRubbish, left_over, Steps}
 use Rattle.jn_server.specs.Seen.{ServerView, memory_of, room_of}
 use Rattle.jn_one_server.specs.Story.{Stage, StandsAt, Took, Worked, after_row, after_message, enough, the_server, the_client, the_transaction, the_work, begin_it, open_it, create_file, write_block, end_it, prepare_it, vote_for_it, commit_it, started, opened, written, voting, prepared, committed}

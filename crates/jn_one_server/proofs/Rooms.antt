@@ -17,7 +17,7 @@ use Rattle.jn_rows.specs.Coordinator.{promised}
 use Rattle.jn_storage.specs.Listing.{is_in, IsListing, total}
 use Rattle.jn_storage.specs.Storage.{IsCounted, file_there, is_stored, needed, list_of}
 use Rattle.jn_storage.specs.Calls.{state}
-use Rattle.jn_protocol.specs.World.{Memory}
+use Rattle.jn_system.specs.WholeSystem.World.{Memory}
 use Rattle.jn_server.specs.Seen.{ServerView, room_of}
 use Rattle.jn_one_server.specs.Story.{Stage, StandsAt}
 

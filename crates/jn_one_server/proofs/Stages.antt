@@ -13,8 +13,8 @@ use Rattle.jn_intent.specs.Scrubbing.{counts_in}
 use Rattle.jn_locks.specs.Locks as locks
 use Rattle.jn_records.specs.StablePages.{Counts}
 use Rattle.jn_rows.specs.Stable.{StableState}
-use Rattle.jn_protocol.specs.Servers.{restored}
-use Rattle.jn_protocol.specs.Steps.{AreNames}
+use Rattle.jn_system.specs.WholeSystem.Servers.{restored}
+use Rattle.jn_system.specs.WholeSystem.Steps.{AreNames}
 use Rattle.jn_recovery.specs.declared.load.Found.{Found}
 use Rattle.jn_server.specs.Restarting.{IsRestarted, IsLeft}
 use Rattle.jn_server.specs.Seen.{ServerView, room_of}

@@ -17,8 +17,8 @@ use Rattle.jn_store.specs.Store.{StoreView}
 use Rattle.jn_rows.specs.Outcomes.{RowOutcome}
 use Rattle.jn_rows.specs.Stable.{StableState, Pick, made_all}
 use Rattle.jn_storage.specs.Calls.{state}
-use Rattle.jn_protocol.specs.World.{Memory, new_memory}
-use Rattle.jn_protocol.specs.Servers.{Room, server_row, server_step}
+use Rattle.jn_system.specs.WholeSystem.World.{Memory, new_memory}
+use Rattle.jn_system.specs.WholeSystem.Servers.{Room, server_row, server_step}
 use Rattle.jn_recovery.specs.declared.load.Found.{Found}
 use Rattle.jn_server.specs.Restarting.{IsRestarted}
 use Rattle.jn_server.specs.Handling.{IsDone, LeavesRubbish, Steps}

@@ -7,7 +7,7 @@ use Rattle.jn_device.specs.Events.{powered_off}
 use Rattle.jn_found.specs.Pages.{found_on}
 use Rattle.jn_found.proofs.Picking.{same_found}
 use Rattle.jn_msgs.specs.Collected.{Collected}
-use Rattle.jn_protocol.specs.Servers.{server_again}
+use Rattle.jn_system.specs.WholeSystem.Servers.{server_again}
 use Rattle.jn_records.specs.StablePages.{Counts}
 use Rattle.jn_server.specs.Befalling.{Befalls}
 use Rattle.jn_server.specs.Handling.{TimesOut}

@@ -3,8 +3,8 @@ use Rattle.std.proofs.Common.{◌≡◌, ℕ, Bool, true, false, length, Option,
 use Rattle.std.specs.Prelude.{List}
 use Rattle.jn_msgs.specs.declared.message.Message.{Message}
 use Rattle.jn_msgs.specs.Collected.{Collected}
-use Rattle.jn_protocol.specs.Servers.{server_row, of_coordinator}
-use Rattle.jn_protocol.specs.World.{Memory}
+use Rattle.jn_system.specs.WholeSystem.Servers.{server_row, of_coordinator}
+use Rattle.jn_system.specs.WholeSystem.World.{Memory}
 use Rattle.jn_coord.specs.Remembered.{table_of}
 use Rattle.jn_intent.specs.Scrubbing.{Scrubbed}
 use Rattle.jn_rows.specs.Coordinator.{close_clients_row}

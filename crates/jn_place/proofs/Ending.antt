@@ -8,7 +8,7 @@ use Rattle.jn_device.specs.Device.{DeviceState}
 use Rattle.jn_device.specs.Events.{cleared}
 use Rattle.jn_found.specs.Pages.{found_on}
 use Rattle.jn_intent.specs.Scrubbing.{counts_in}
-use Rattle.jn_protocol.specs.World.{Memory}
+use Rattle.jn_system.specs.WholeSystem.World.{Memory}
 use Rattle.jn_records.specs.StablePages.{Counts}
 use Rattle.jn_report.specs.declared.line.When.{When}
 use Rattle.jn_report.specs.declared.line.Text.{Text}

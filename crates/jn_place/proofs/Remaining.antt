@@ -8,9 +8,9 @@ use Rattle.jn_base.specs.Names.{work_eq}
 use Rattle.jn_device.specs.Device.{DeviceState}
 use Rattle.jn_msgs.specs.Collected.{Collected}
 use Rattle.jn_order.specs.Files.{Files, change}
-use Rattle.jn_protocol.proofs.WorkerRows.{going-is}
-use Rattle.jn_protocol.specs.Servers.{of_worker, of_step, storage_of}
-use Rattle.jn_protocol.specs.World.{Memory}
+use Rattle.jn_system.proofs.WholeSystem.WorkerRows.{going-is}
+use Rattle.jn_system.specs.WholeSystem.Servers.{of_worker, of_step, storage_of}
+use Rattle.jn_system.specs.WholeSystem.World.{Memory}
 use Rattle.jn_records.specs.NetLists.{intention_change}
 use Rattle.jn_records.specs.declared.intention.Intention.{Intention}
 use Rattle.jn_rows.specs.declared.worker.Work.{Work}

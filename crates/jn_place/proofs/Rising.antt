@@ -10,9 +10,9 @@ use Rattle.jn_device.specs.Device.{DeviceState}
 use Rattle.jn_device.specs.Events.{PowersUp, powered_off, cleared}
 use Rattle.jn_found.specs.Pages.{found_on}
 use Rattle.jn_found.proofs.Picking.{fewer_picked}
-use Rattle.jn_protocol.specs.Steps.{AreNames, tid_before}
-use Rattle.jn_protocol.specs.Servers.{restored}
-use Rattle.jn_protocol.specs.World.{Memory}
+use Rattle.jn_system.specs.WholeSystem.Steps.{AreNames, tid_before}
+use Rattle.jn_system.specs.WholeSystem.Servers.{restored}
+use Rattle.jn_system.specs.WholeSystem.World.{Memory}
 use Rattle.jn_records.specs.StablePages.{Counts}
 use Rattle.jn_recovery.specs.declared.load.DownCause.{DownCause}
 use Rattle.jn_recovery.specs.declared.load.DownCause.TheVariants.{Stopped, EpochsUsedUp}
@@ -25,7 +25,7 @@ use Rattle.jn_server.specs.Seen.{Parts, view_with, memory_of}
 use Rattle.jn_store.specs.Store.{StoreView, IsCalm}
 use Rattle.jn_base.specs.Names.{work_eq}
 use Rattle.jn_locks.specs.Locks.{work_before}
-use Rattle.jn_machine.specs.Steps.{with_epoch}
+use Rattle.jn_system.specs.SmallSteps.Steps.{with_epoch}
 use Rattle.jn_recovery.specs.Loading.{IsSameOrNext}
 use Rattle.jn_report.specs.declared.line.When.{When}
 use Rattle.jn_report.specs.declared.line.Line.{Line}

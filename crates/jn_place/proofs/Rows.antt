@@ -5,8 +5,8 @@ use Rattle.jn_msgs.specs.declared.message.Message.{Message}
 use Rattle.jn_rows.specs.Coordinator.{close_clients_row}
 use Rattle.jn_rows.specs.Outcomes.{RowOutcome}
 use Rattle.jn_rows.specs.Stable.{StableState}
-use Rattle.jn_protocol.specs.Servers.{Room, server_row, server_step, server_again, of_coordinator}
-use Rattle.jn_protocol.specs.World.{Memory}
+use Rattle.jn_system.specs.WholeSystem.Servers.{Room, server_row, server_step, server_again, of_coordinator}
+use Rattle.jn_system.specs.WholeSystem.World.{Memory}
 use Rattle.jn_within.specs.Taking.{AllCanBeTaken}
 use Rattle.jn_within.proofs.Taking.{servers-taken}
 use Rattle.jn_within.proofs.ServerRows.{row-requests, row-drawn, step-requests, step-tickets, again-requests}

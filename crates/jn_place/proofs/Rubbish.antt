@@ -8,7 +8,7 @@ use Rattle.jn_intent.specs.Scrubbing.{Scrubbed, counts_in}
 use Rattle.jn_msgs.specs.declared.message.Message.{Message}
 use Rattle.jn_msgs.specs.Collected.{Collected}
 use Rattle.jn_order.specs.Files.{Files}
-use Rattle.jn_protocol.specs.World.{Memory}
+use Rattle.jn_system.specs.WholeSystem.World.{Memory}
 use Rattle.jn_records.specs.StablePages.{Counts}
 use Rattle.jn_rows.specs.Outcomes.{RowOutcome}
 use Rattle.jn_server.specs.Befalling.{Befalls}

@@ -4,7 +4,7 @@ use Rattle.jn_base.specs.declared.names.ServerNo.{ServerNo}
 use Rattle.jn_device.specs.Device.{DeviceState}
 use Rattle.jn_msgs.specs.declared.message.Message.{Message}
 use Rattle.jn_msgs.specs.Collected.{Collected}
-use Rattle.jn_protocol.specs.Servers.{server_row, of_coordinator}
+use Rattle.jn_system.specs.WholeSystem.Servers.{server_row, of_coordinator}
 use Rattle.jn_records.specs.StablePages.{Counts}
 use Rattle.jn_report.specs.declared.line.When.{When}
 use Rattle.jn_report.specs.declared.line.Line.{Line}

@@ -17,10 +17,10 @@ use Rattle.jn_intent.specs.Scrubbing.{IsIdle}
 use Rattle.jn_locks.specs.Locks.{work_before}
 use Rattle.jn_msgs.specs.declared.message.Message.{Message}
 use Rattle.jn_msgs.specs.Collected.{Collected}
-use Rattle.jn_protocol.specs.Printing.{ArePrints, prints_in}
-use Rattle.jn_protocol.specs.Servers.{server_row, server_step, server_again, server_timeout, of_coordinator, restored}
-use Rattle.jn_protocol.specs.Steps.{AreNames, tid_before}
-use Rattle.jn_protocol.specs.World.{Memory}
+use Rattle.jn_system.specs.WholeSystem.Printing.{ArePrints, prints_in}
+use Rattle.jn_system.specs.WholeSystem.Servers.{server_row, server_step, server_again, server_timeout, of_coordinator, restored}
+use Rattle.jn_system.specs.WholeSystem.Steps.{AreNames, tid_before}
+use Rattle.jn_system.specs.WholeSystem.World.{Memory}
 use Rattle.jn_records.specs.StablePages.{Counts}
 use Rattle.jn_recovery.specs.Loading.{IsSameOrNext}
 use Rattle.jn_report.specs.declared.line.When.{When}
@@ -29,7 +29,7 @@ use Rattle.jn_report.specs.declared.line.Text.TheVariants as says
 use Rattle.jn_report.specs.declared.line.Line.{Line}
 use Rattle.jn_rows.specs.Coordinator.{close_clients_row}
 use Rattle.jn_rows.specs.Outcomes.{RowOutcome}
-use Rattle.jn_machine.specs.Steps.{with_epoch}
+use Rattle.jn_system.specs.SmallSteps.Steps.{with_epoch}
 use Rattle.jn_rows.specs.Stable.{Pick, IsStopState, made_all}
 use Rattle.jn_rows.specs.Worker.{timeout_row}
 use Rattle.jn_server.specs.declared.show.Shown.{Shown}

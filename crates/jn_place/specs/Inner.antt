@@ -10,12 +10,12 @@ use Rattle.jn_device.specs.Events.{PowersUp, powered_off, cleared}
 use Rattle.jn_found.specs.Pages.{found_on}
 use Rattle.jn_intent.specs.Scrubbing.{counts_in}
 use Rattle.jn_locks.specs.Locks.{work_before}
-use Rattle.jn_machine.specs.Steps.{with_epoch}
+use Rattle.jn_system.specs.SmallSteps.Steps.{with_epoch}
 use Rattle.jn_msgs.specs.declared.message.Message.{Message}
 use Rattle.jn_msgs.specs.Collected.{Collected}
-use Rattle.jn_protocol.specs.Servers.{server_row, of_coordinator, restored}
-use Rattle.jn_protocol.specs.Steps.{AreNames, tid_before}
-use Rattle.jn_protocol.specs.World.{Memory}
+use Rattle.jn_system.specs.WholeSystem.Servers.{server_row, of_coordinator, restored}
+use Rattle.jn_system.specs.WholeSystem.Steps.{AreNames, tid_before}
+use Rattle.jn_system.specs.WholeSystem.World.{Memory}
 use Rattle.jn_records.specs.StablePages.{Counts}
 use Rattle.jn_recovery.specs.Loading.{IsSameOrNext}
 use Rattle.jn_rows.specs.declared.coordinator.Transaction.{Transaction}

@@ -3,15 +3,15 @@ use Rattle.std.proofs.Common.{◌≡◌, ◌⊎◌, inl, inr, ◌≤◌, ◌<◌
 use Rattle.jn_base.specs.declared.names.ServerNo.{ServerNo}
 use Rattle.jn_rows.specs.Stable.{Pick, stable}
 use Rattle.jn_rows.specs.Outcomes.{RowOutcome}
-use Rattle.jn_protocol.specs.World.{World, Memory, servers_from}
-use Rattle.jn_protocol.specs.Servers.{Room, server_step}
-use Rattle.jn_protocol.specs.Steps.{Step, StopWork, after, work, works}
-use Rattle.jn_settling.specs.Course.{Course, go, go_on}
-use Rattle.jn_settling.specs.Settle.{onward, clients_from, ask_again}
-use Rattle.jn_settling.proofs.Burdens.{Leads, stopped-leads}
-use Rattle.jn_settling.proofs.Courses.{Sound, go-sound, go-balance, burden-after, deliveries-more}
-use Rattle.jn_settling.proofs.Parts.{Bounded, part-bounded}
-use Rattle.jn_settling.proofs.Asking.{asked, servers-length, waiting-light, waiting-weighs}
+use Rattle.jn_system.specs.WholeSystem.World.{World, Memory, servers_from}
+use Rattle.jn_system.specs.WholeSystem.Servers.{Room, server_step}
+use Rattle.jn_system.specs.WholeSystem.Steps.{Step, StopWork, after, work, works}
+use Rattle.jn_system_settling.specs.Settling.Course.{Course, go, go_on}
+use Rattle.jn_system_settling.specs.Settling.Settle.{onward, clients_from, ask_again}
+use Rattle.jn_system_settling.proofs.Settling.Burdens.{Leads, stopped-leads}
+use Rattle.jn_system_settling.proofs.Settling.Courses.{Sound, go-sound, go-balance, burden-after, deliveries-more}
+use Rattle.jn_system_settling.proofs.Settling.Parts.{Bounded, part-bounded}
+use Rattle.jn_system_settling.proofs.Settling.Asking.{asked, servers-length, waiting-light, waiting-weighs}
 use Rattle.jn_rests.specs.Rests.{ComesNext, IsHalt, EachComes, IsBounded, in_two, asked as asked_again}
 
 module _ (n : ℕ) (at_most : n ≤ 8) (start : World) where

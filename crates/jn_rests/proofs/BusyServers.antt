@@ -12,11 +12,11 @@ use Rattle.jn_rows.specs.declared.worker.Work.{Work as WorkEntry}
 use Rattle.jn_rows.specs.Outcomes.{RowOutcome, Sent, quiet}
 use Rattle.jn_rows.specs.Stable.{StableState, Change, Pick, stable, made_all}
 use Rattle.jn_rows.specs.Worker.{going_work, going_row, carried_row, intentions_of}
-use Rattle.jn_machine.specs.Steps.{changed}
-use Rattle.jn_protocol.specs.World.{World, Memory, at_server, servers_from}
-use Rattle.jn_protocol.specs.Servers.{Room, storage_of, server_step, of_worker, of_step}
-use Rattle.jn_protocol.specs.Steps.{Work, after, done, work, works}
-use Rattle.jn_settling.specs.Settle.{is_busy, first_busy}
+use Rattle.jn_system.specs.SmallSteps.Steps.{changed}
+use Rattle.jn_system.specs.WholeSystem.World.{World, Memory, at_server, servers_from}
+use Rattle.jn_system.specs.WholeSystem.Servers.{Room, storage_of, server_step, of_worker, of_step}
+use Rattle.jn_system.specs.WholeSystem.Steps.{Work, after, done, work, works}
+use Rattle.jn_system_settling.specs.Settling.Settle.{is_busy, first_busy}
 
 some : (a b : RowOutcome Memory) → Some a ≡ Some b → a ≡ b
 some a b q = cc

@@ -9,9 +9,9 @@ use Rattle.jn_base.specs.declared.names.ServerNo.{ServerNo}
 use Rattle.jn_order.specs.Files.{AllFiles}
 use Rattle.jn_net.specs.declared.Sent.{Sent as Posted}
 use Rattle.jn_net.specs.Carried.{Carried, waiting, with_delivered}
-use Rattle.jn_protocol.specs.Steps.{Step, NextEvent, Tell, Again, Deliver, Work, Nudge, Timeout, StopDelivery, StopWork, Crash, Narrow, StopRestart, Restart, Dismiss, CloseClients, after}
-use Rattle.jn_settling.specs.Course.{Course, opening_course, without_number, still_waiting, numbered, go}
-use Rattle.jn_settling.specs.Settle.{Chance, next_step, handing}
+use Rattle.jn_system.specs.WholeSystem.Steps.{Step, NextEvent, Tell, Again, Deliver, Work, Nudge, Timeout, StopDelivery, StopWork, Crash, Narrow, StopRestart, Restart, Dismiss, CloseClients, after}
+use Rattle.jn_system_settling.specs.Settling.Course.{Course, opening_course, without_number, still_waiting, numbered, go}
+use Rattle.jn_system_settling.specs.Settling.Settle.{Chance, next_step, handing}
 use Rattle.jn_rests.specs.Waiting.{undelivered, waiting_numbers, sent_of, are_new, Carries, delivered_by}
 
 -- ---- messages that are sent

@@ -3,8 +3,8 @@ use Rattle.std.specs.Prelude.{◌≡◌, ◌≤◌, ℕ, ◌+◌, Bool, true, no
 use Rattle.jn_net.specs.declared.Sent.{Sent as Posted}
 use Rattle.jn_net.specs.Carried.{Carried, with_delivered}
 use Rattle.jn_rows.specs.Outcomes.{Sent}
-use Rattle.jn_protocol.specs.Steps.{Step, Deliver, StopDelivery}
-use Rattle.jn_settling.specs.Course.{Course}
+use Rattle.jn_system.specs.WholeSystem.Steps.{Step, Deliver, StopDelivery}
+use Rattle.jn_system_settling.specs.Settling.Course.{Course}
 
 -- of messages of which the first has this number, the numbers of those that were never delivered
 abbrev pub undelivered : ℕ → List Posted → List ℕ

@@ -3,10 +3,10 @@
 ghost use Rattle.std.specs.Prelude.{◌≡◌, ◌≤◌, ◌+◌, ◌++◌, ℕ, List, length};
 ghost use Rattle.jn_base.specs.declared.names.ServerNo.{ServerNo};
 ghost use Rattle.jn_order.specs.Files.{AllFiles};
-ghost use Rattle.jn_protocol.specs.Steps.{Step, IsRun};
-ghost use Rattle.jn_protocol.specs.World.{opening, servers_from};
-ghost use Rattle.jn_settling.specs.Course.{Course, opening_course, go_on};
-ghost use Rattle.jn_settling.specs.Settle.{until_rest, settled};
+ghost use Rattle.jn_system.specs.WholeSystem.Steps.{Step, IsRun};
+ghost use Rattle.jn_system.specs.WholeSystem.World.{opening, servers_from};
+ghost use Rattle.jn_system_settling.specs.Settling.Course.{Course, opening_course, go_on};
+ghost use Rattle.jn_system_settling.specs.Settling.Settle.{until_rest, settled};
 ghost use Rattle.jn_rests.specs.Rests.{AreNext, ComeToRest, EachComes, IsBounded, chances_of, asked, in_two, both_parts};
 
 /// Steps that come next in their turn, and then others, are a list of such steps; so too where servers that only erase are stopped.

@@ -16,11 +16,11 @@ use Rattle.jn_report.specs.declared.line.Text.TheVariants as says
 use Rattle.jn_report.specs.declared.line.Line.{Line}
 use Rattle.jn_rows.specs.Stable.{Pick}
 use Rattle.jn_rows.specs.Outcomes.{Sent}
-use Rattle.jn_protocol.specs.World.{World, Memory}
-use Rattle.jn_protocol.specs.Steps.{Step, after, run}
-use Rattle.jn_protocol.specs.Printing.{print_files}
-use Rattle.jn_reported.specs.Reported.{Act, Does, Refuses, Tells, Shows, steps_in, told_in}
-use Rattle.jn_reported.specs.Printing.{prints_of}
+use Rattle.jn_system.specs.WholeSystem.World.{World, Memory}
+use Rattle.jn_system.specs.WholeSystem.Steps.{Step, after, run}
+use Rattle.jn_system.specs.WholeSystem.Printing.{print_files}
+use Rattle.jn_system_reports.specs.Reporting.Reported.{Act, Does, Refuses, Tells, Shows, steps_in, told_in}
+use Rattle.jn_system_reports.specs.Reporting.Printing.{prints_of}
 use Rattle.jn_aside.specs.Aside.{is_aside, plain}
 use Rattle.jn_aside.proofs.Plain.{plain-append, plain-none}
 use Rattle.jn_written.specs.Chances.{Setup, Chance}

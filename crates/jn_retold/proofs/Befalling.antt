@@ -19,8 +19,8 @@ use Rattle.jn_report.specs.declared.line.Text.TheVariants as says
 use Rattle.jn_schedule.specs.declared.Event.{Event}
 use Rattle.jn_schedule.specs.declared.Event.TheVariants as events
 use Rattle.jn_serial.specs.Caused.{is_stop as stops_server}
-use Rattle.jn_protocol.specs.World.{World, Memory}
-use Rattle.jn_reported.specs.Reported.{Waiting, one_more, armed, with_event, strikes, strike_all, AreStruck}
+use Rattle.jn_system.specs.WholeSystem.World.{World, Memory}
+use Rattle.jn_system_reports.specs.Reporting.Reported.{Waiting, one_more, armed, with_event, strikes, strike_all, AreStruck}
 use Rattle.jn_written.specs.Devices.{Devices, Alone}
 use Rattle.jn_retold.proofs.Strikes.{any, is_harmless, same-server, Strikes, unstruck, none-strike, fault-strikes}
 use Rattle.jn_retold.proofs.Standing.{Stands, alone-stands}

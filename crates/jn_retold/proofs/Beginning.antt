@@ -16,11 +16,11 @@ use Rattle.jn_report.specs.declared.line.Text.{Text}
 use Rattle.jn_report.specs.declared.line.Text.TheVariants as says
 use Rattle.jn_rows.specs.Outcomes.{RowOutcome, Sent}
 use Rattle.jn_rows.specs.Stable.{Pick, stable}
-use Rattle.jn_protocol.specs.Servers.{Room, server_step}
-use Rattle.jn_protocol.specs.World.{World, Memory, opening}
-use Rattle.jn_protocol.specs.Steps.{NextEvent, run, after, work, works}
-use Rattle.jn_reported.specs.Reported.{Item, Act, Does, Refuses, Waiting, IsUnder, IsShown, AreStruck, steps_in, world_of, with_event, strike_all, told_in, at_event, lines_of, none_wait}
-use Rattle.jn_reported.specs.Printing.{prints_of}
+use Rattle.jn_system.specs.WholeSystem.Servers.{Room, server_step}
+use Rattle.jn_system.specs.WholeSystem.World.{World, Memory, opening}
+use Rattle.jn_system.specs.WholeSystem.Steps.{NextEvent, run, after, work, works}
+use Rattle.jn_system_reports.specs.Reporting.Reported.{Item, Act, Does, Refuses, Waiting, IsUnder, IsShown, AreStruck, steps_in, world_of, with_event, strike_all, told_in, at_event, lines_of, none_wait}
+use Rattle.jn_system_reports.specs.Reporting.Printing.{prints_of}
 use Rattle.jn_aside.specs.Aside.{plain, is_show}
 use Rattle.jn_aside.proofs.Plain.{plain-append}
 use Rattle.jn_within.proofs.WorldSteps.{sent-near}
@@ -29,7 +29,7 @@ use Rattle.jn_written.specs.Tasks.{Task, Begins, Meets, Rests, State}
 use Rattle.jn_written.specs.Deeds.{Deed, nobody, no_room, plain as plain_deed, stopped_idle, tells}
 use Rattle.jn_written.specs.Refusals.{refusal_of}
 use Rattle.jn_written.specs.Events.{settling, acted, met}
-use Rattle.jn_settling.specs.Course.{go_on}
+use Rattle.jn_system_settling.specs.Settling.Course.{go_on}
 use Rattle.jn_written.specs.Steps.{most_messages, is_too_much, come_to, cut_short, made, own_texts}
 use Rattle.jn_written.specs.Devices.{IsUsed, Befalls}
 use Rattle.jn_written.specs.Runs.{Moment, DoesStep}

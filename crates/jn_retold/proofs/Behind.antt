@@ -17,9 +17,9 @@ use Rattle.jn_rows.specs.Stable.{Pick, stable}
 use Rattle.jn_rows.specs.Outcomes.{RowOutcome, Sent}
 use Rattle.jn_rows.specs.Client.{ClientTable, Commanded, Refuses, Sends, command_row, take_row}
 use Rattle.jn_rows.specs.Coordinator.{close_clients_row}
-use Rattle.jn_protocol.specs.World.{World, Memory, committed_in, commits_in, has_line}
-use Rattle.jn_protocol.specs.Servers.{Room, server_row, server_step, of_coordinator, lines_of, named_now}
-use Rattle.jn_protocol.specs.Steps.{Step, NextEvent, Tell, Again, Deliver, Work, Nudge, Timeout, StopDelivery, StopWork, Crash, Narrow, StopRestart, Restart, Dismiss, CloseClients, after, run, ends, at_memory, handed, work, works, nudge, timeout, crash, narrow, stop_restart, restart, close_clients, commanded, took}
+use Rattle.jn_system.specs.WholeSystem.World.{World, Memory, committed_in, commits_in, has_line}
+use Rattle.jn_system.specs.WholeSystem.Servers.{Room, server_row, server_step, of_coordinator, lines_of, named_now}
+use Rattle.jn_system.specs.WholeSystem.Steps.{Step, NextEvent, Tell, Again, Deliver, Work, Nudge, Timeout, StopDelivery, StopWork, Crash, Narrow, StopRestart, Restart, Dismiss, CloseClients, after, run, ends, at_memory, handed, work, works, nudge, timeout, crash, narrow, stop_restart, restart, close_clients, commanded, took}
 use Rattle.jn_written.specs.Kinds.{is_up}
 use Rattle.jn_retold.specs.Retold.{behind}
 

@@ -14,9 +14,9 @@ use Rattle.jn_report.specs.declared.line.EventRefusal.TheVariants.{TooManyArmed,
 use Rattle.jn_report.specs.declared.line.Text.TheVariants as says
 use Rattle.jn_rows.specs.Stable.{Pick}
 use Rattle.jn_rows.specs.Outcomes.{Sent}
-use Rattle.jn_protocol.specs.World.{World, Memory}
-use Rattle.jn_settling.specs.Settle.{clients_from}
-use Rattle.jn_reported.specs.Reported.{Refuses, Tells, IsShown, told_in}
+use Rattle.jn_system.specs.WholeSystem.World.{World, Memory}
+use Rattle.jn_system_settling.specs.Settling.Settle.{clients_from}
+use Rattle.jn_system_reports.specs.Reporting.Reported.{Refuses, Tells, IsShown, told_in}
 use Rattle.jn_written.specs.Chances.{Setup, Chance}
 use Rattle.jn_written.specs.Tasks.{Task, Acts, Rests}
 use Rattle.jn_written.specs.Deeds.{served, nothing, delivered, delivered_at, is_busy, working_steps, shown, crashed_at, is_used_up, given_up, recovered}

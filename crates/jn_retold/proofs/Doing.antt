@@ -22,12 +22,12 @@ use Rattle.jn_rows.specs.declared.client.Taken.TheVariants as taken
 use Rattle.jn_rows.specs.Stable.{Pick, stable}
 use Rattle.jn_rows.specs.Outcomes.{Sent}
 use Rattle.jn_rows.specs.Client.{ClientTable, Commanded, Refuses, Sends, command_row, take_row}
-use Rattle.jn_protocol.specs.World.{World, Memory}
-use Rattle.jn_protocol.specs.Printing.{Printed, FileThere, PageStored, UnitLocked, print_files}
-use Rattle.jn_protocol.specs.Steps.{Tell, Again, Deliver, Nudge, Timeout, Crash, after, run, commanded, took, at_memory, handed, nudge, timeout, crash}
-use Rattle.jn_settling.specs.Settle.{is_busy as has_going}
-use Rattle.jn_reported.specs.Printing.{text_printed, prints_of}
-use Rattle.jn_reported.specs.Reported.{Waiting, with_event, strike_all, AreStruck}
+use Rattle.jn_system.specs.WholeSystem.World.{World, Memory}
+use Rattle.jn_system.specs.WholeSystem.Printing.{Printed, FileThere, PageStored, UnitLocked, print_files}
+use Rattle.jn_system.specs.WholeSystem.Steps.{Tell, Again, Deliver, Nudge, Timeout, Crash, after, run, commanded, took, at_memory, handed, nudge, timeout, crash}
+use Rattle.jn_system_settling.specs.Settling.Settle.{is_busy as has_going}
+use Rattle.jn_system_reports.specs.Reporting.Printing.{text_printed, prints_of}
+use Rattle.jn_system_reports.specs.Reporting.Reported.{Waiting, with_event, strike_all, AreStruck}
 use Rattle.jn_written.specs.Chances.{Setup, Chance}
 use Rattle.jn_written.specs.Deeds.{Deed, room, no_room, served, nothing, tells, delivered, delivered_at, is_busy, working_steps, scrubbed, blocks_from, shown, showing, crashed_at, pick_read, is_used_up, given_up, recovered, restarted}
 use Rattle.jn_written.specs.Events.{told_unless, acted}

@@ -6,10 +6,10 @@ use Rattle.jn_base.specs.declared.names.ServerNo.{ServerNo}
 use Rattle.jn_order.specs.Files.{AllFiles}
 use Rattle.jn_schedule.specs.declared.Event.{Event}
 use Rattle.jn_schedule.specs.declared.Event.TheVariants as events
-use Rattle.jn_protocol.specs.World.{World, Memory, opening}
-use Rattle.jn_protocol.specs.Steps.{NextEvent, after, run}
+use Rattle.jn_system.specs.WholeSystem.World.{World, Memory, opening}
+use Rattle.jn_system.specs.WholeSystem.Steps.{NextEvent, after, run}
 use Rattle.jn_report.specs.declared.line.Text.{Text}
-use Rattle.jn_reported.specs.Reported.{Item, Act, Waiting, IsReported, events_of, world_of, after_item, waiting_in, strike_all, told_under, lines_of, none_wait}
+use Rattle.jn_system_reports.specs.Reporting.Reported.{Item, Act, Waiting, IsReported, events_of, world_of, after_item, waiting_in, strike_all, told_under, lines_of, none_wait}
 use Rattle.jn_aside.specs.Aside.{plain, is_show}
 use Rattle.jn_written.specs.Chances.{Setup}
 use Rattle.jn_written.specs.Tasks.{Task, Begins, Meets, CutShort}

@@ -5,10 +5,10 @@ use Rattle.std.specs.List.{list_all}
 use Rattle.jn_report.specs.declared.line.When.TheVariants.{Event as AtEvent}
 use Rattle.jn_report.specs.declared.line.Line.{Line}
 use Rattle.jn_report.specs.declared.line.Text.{Text}
-use Rattle.jn_protocol.specs.World.{World, commits_in}
-use Rattle.jn_protocol.specs.Steps.{Step, IsRun, run}
-use Rattle.jn_settling.specs.Course.{Course, go, go_on}
-use Rattle.jn_reported.specs.Reported.{Act, Waiting, steps_in, told_in, at_event}
+use Rattle.jn_system.specs.WholeSystem.World.{World, commits_in}
+use Rattle.jn_system.specs.WholeSystem.Steps.{Step, IsRun, run}
+use Rattle.jn_system_settling.specs.Settling.Course.{Course, go, go_on}
+use Rattle.jn_system_reports.specs.Reporting.Reported.{Act, Waiting, steps_in, told_in, at_event}
 use Rattle.jn_aside.specs.Aside.{plain}
 use Rattle.jn_aside.proofs.Plain.{plain-append}
 use Rattle.jn_within.specs.Within.{Within}

@@ -19,12 +19,12 @@ use Rattle.jn_schedule.specs.declared.Event.{Event}
 use Rattle.jn_schedule.specs.declared.Event.TheVariants as events
 use Rattle.jn_rows.specs.Stable.{Pick}
 use Rattle.jn_rows.specs.Outcomes.{Sent}
-use Rattle.jn_protocol.specs.World.{World, Memory}
-use Rattle.jn_protocol.specs.Printing.{Printed}
-use Rattle.jn_protocol.specs.Servers.{Room}
-use Rattle.jn_protocol.specs.Steps.{Deliver, StopDelivery, Work, StopWork, Narrow, StopRestart, Restart}
-use Rattle.jn_settling.specs.Settle.{handing, working}
-use Rattle.jn_reported.specs.Reported.{Act, Does, Refuses, Tells, Shows, may_refuse, may_act, IsUnder}
+use Rattle.jn_system.specs.WholeSystem.World.{World, Memory}
+use Rattle.jn_system.specs.WholeSystem.Printing.{Printed}
+use Rattle.jn_system.specs.WholeSystem.Servers.{Room}
+use Rattle.jn_system.specs.WholeSystem.Steps.{Deliver, StopDelivery, Work, StopWork, Narrow, StopRestart, Restart}
+use Rattle.jn_system_settling.specs.Settling.Settle.{handing, working}
+use Rattle.jn_system_reports.specs.Reporting.Reported.{Act, Does, Refuses, Tells, Shows, may_refuse, may_act, IsUnder}
 use Rattle.jn_written.specs.Chances.{Setup, Chance}
 use Rattle.jn_written.specs.Deeds.{Deed, served, nothing, delivered, delivered_at, is_busy, no_room, working_steps, stopped_idle, scrubbed, showing, given_up, recovering, recovered, crashed_at, is_used_up, room}
 use Rattle.jn_written.specs.Refusals.{refusal_of, if_down}

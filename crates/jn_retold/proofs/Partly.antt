@@ -10,11 +10,11 @@ use Rattle.jn_base.proofs.Tells.{server_tells}
 use Rattle.jn_order.specs.Files.{AllFiles}
 use Rattle.jn_report.specs.declared.line.Text.{Text}
 use Rattle.jn_report.specs.declared.line.Text.TheVariants as says
-use Rattle.jn_machine.specs.Steps.{with_epoch}
+use Rattle.jn_system.specs.SmallSteps.Steps.{with_epoch}
 use Rattle.jn_rows.specs.Stable.{StableState, Pick}
-use Rattle.jn_protocol.specs.World.{World, Memory, new_memory, opening, at_server}
-use Rattle.jn_protocol.specs.Servers.{restored}
-use Rattle.jn_protocol.specs.Steps.{Restart, AreNames, after, restart}
+use Rattle.jn_system.specs.WholeSystem.World.{World, Memory, new_memory, opening, at_server}
+use Rattle.jn_system.specs.WholeSystem.Servers.{restored}
+use Rattle.jn_system.specs.WholeSystem.Steps.{Restart, AreNames, after, restart}
 use Rattle.jn_written.specs.Whole.{closed_world}
 use Rattle.jn_retold.specs.Retold.{behind}
 

@@ -25,10 +25,10 @@ use Rattle.jn_rows.specs.Worker.{WorkerTable, holds, commit_holder}
 use Rattle.jn_found.specs.Pages.{pages_by}
 use Rattle.jn_store.specs.Pairs.{pairs_view}
 use Rattle.jn_storage.specs.Orderly.{unit_in_range}
-use Rattle.jn_protocol.specs.World.{World, opening}
-use Rattle.jn_protocol.specs.Printing.{print_unit}
-use Rattle.jn_protocol.specs.Steps.{Step, NextEvent, Tell, after}
-use Rattle.jn_reported.specs.Reported.{Item, Act, Does, Refuses, Tells, Shows, IsUnder, AreUnder, IsReported, may_do, may_act, events_of, steps_in, steps_of, world_of}
+use Rattle.jn_system.specs.WholeSystem.World.{World, opening}
+use Rattle.jn_system.specs.WholeSystem.Printing.{print_unit}
+use Rattle.jn_system.specs.WholeSystem.Steps.{Step, NextEvent, Tell, after}
+use Rattle.jn_system_reports.specs.Reporting.Reported.{Item, Act, Does, Refuses, Tells, Shows, IsUnder, AreUnder, IsReported, may_do, may_act, events_of, steps_in, steps_of, world_of}
 use Rattle.jn_within.proofs.Taking.{scheduled-in-range}
 use Rattle.jn_written.specs.Chances.{Setup}
 use Rattle.jn_written.specs.Devices.{Devices, AreFound}

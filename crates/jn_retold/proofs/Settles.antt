@@ -12,10 +12,10 @@ use Rattle.jn_schedule.specs.declared.Event.TheVariants as events
 use Rattle.jn_report.specs.declared.line.Line.{Line}
 use Rattle.jn_report.specs.declared.line.When.TheVariants.{Event as AtEvent}
 use Rattle.jn_report.specs.declared.line.Text.{Text}
-use Rattle.jn_protocol.specs.World.{World, opening, servers_from}
-use Rattle.jn_protocol.specs.Steps.{Step, NextEvent, IsRun, run, after}
-use Rattle.jn_settling.specs.Course.{go_on}
-use Rattle.jn_reported.specs.Reported.{Item, Act, Waiting, AreStruck, may_act, steps_in, world_of, after_item, strike_all, told_in, at_event, lines_of, none_wait}
+use Rattle.jn_system.specs.WholeSystem.World.{World, opening, servers_from}
+use Rattle.jn_system.specs.WholeSystem.Steps.{Step, NextEvent, IsRun, run, after}
+use Rattle.jn_system_settling.specs.Settling.Course.{go_on}
+use Rattle.jn_system_reports.specs.Reporting.Reported.{Item, Act, Waiting, AreStruck, may_act, steps_in, world_of, after_item, strike_all, told_in, at_event, lines_of, none_wait}
 use Rattle.jn_aside.specs.Aside.{plain}
 use Rattle.jn_aside.proofs.Plain.{plain-append}
 use Rattle.jn_within.proofs.WorldSteps.{sent-near}

@@ -14,11 +14,11 @@ use Rattle.jn_base.specs.Names.{file_eq, block_eq}
 use Rattle.jn_base.proofs.Tells.{block_tells}
 use Rattle.jn_report.specs.declared.line.Text.TheVariants as says
 use Rattle.jn_rows.specs.Stable.{Pick}
-use Rattle.jn_protocol.specs.World.{World, Memory}
-use Rattle.jn_protocol.specs.Steps.{StopWork, AreNames, are_rising, after}
-use Rattle.jn_protocol.specs.Printing.{Printed, print_one, print_blocks, print_file, print_files, file_before, block_before, ArePrints}
-use Rattle.jn_reported.specs.Reported.{Act, Does, Tells, Shows, told_by, GoesOver, IsShow}
-use Rattle.jn_reported.specs.Printing.{prints_of, IsPrinted}
+use Rattle.jn_system.specs.WholeSystem.World.{World, Memory}
+use Rattle.jn_system.specs.WholeSystem.Steps.{StopWork, AreNames, are_rising, after}
+use Rattle.jn_system.specs.WholeSystem.Printing.{Printed, print_one, print_blocks, print_file, print_files, file_before, block_before, ArePrints}
+use Rattle.jn_system_reports.specs.Reporting.Reported.{Act, Does, Tells, Shows, told_by, GoesOver, IsShow}
+use Rattle.jn_system_reports.specs.Reporting.Printing.{prints_of, IsPrinted}
 use Rattle.jn_written.specs.Chances.{Chance}
 use Rattle.jn_written.specs.Deeds.{no_room, stopped_idle, blocks_from, showing}
 use Rattle.jn_written.specs.Devices.{IsLookedOver}

@@ -11,8 +11,8 @@ use Rattle.jn_device.specs.Later.{count_kind, count_told, is_stop}
 use Rattle.jn_report.specs.declared.line.Text.{Text}
 use Rattle.jn_report.specs.declared.line.Text.TheVariants as says
 use Rattle.jn_rows.specs.Stable.{Pick}
-use Rattle.jn_protocol.specs.World.{World, Memory}
-use Rattle.jn_reported.specs.Reported.{Waiting, strike_all, AreStruck}
+use Rattle.jn_system.specs.WholeSystem.World.{World, Memory}
+use Rattle.jn_system_reports.specs.Reporting.Reported.{Waiting, strike_all, AreStruck}
 use Rattle.jn_written.specs.Chances.{Chance}
 use Rattle.jn_written.specs.Steps.{own_texts}
 use Rattle.jn_written.specs.Devices.{Devices, IsCalled, IsRecovery}

@@ -21,10 +21,10 @@ use Rattle.jn_report.specs.declared.line.Text.{Text}
 use Rattle.jn_report.specs.declared.line.Text.TheVariants as says
 use Rattle.jn_rows.specs.Stable.{Pick}
 use Rattle.jn_locks.specs.Locks.{work_before}
-use Rattle.jn_protocol.specs.World.{World, Memory, new_memory, opening, servers_from}
-use Rattle.jn_protocol.specs.Steps.{Step, Restart, IsRun, run, after, tid_before}
-use Rattle.jn_settling.specs.Course.{go_on}
-use Rattle.jn_reported.specs.Reported.{IsReported}
+use Rattle.jn_system.specs.WholeSystem.World.{World, Memory, new_memory, opening, servers_from}
+use Rattle.jn_system.specs.WholeSystem.Steps.{Step, Restart, IsRun, run, after, tid_before}
+use Rattle.jn_system_settling.specs.Settling.Course.{go_on}
+use Rattle.jn_system_reports.specs.Reporting.Reported.{IsReported}
 use Rattle.jn_aside.specs.Aside.{plain}
 use Rattle.jn_aside.proofs.Plain.{plain-append}
 use Rattle.jn_within.proofs.WorldSteps.{opening-within}

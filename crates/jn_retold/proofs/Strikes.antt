@@ -10,7 +10,7 @@ use Rattle.jn_base.specs.Names.{server_eq}
 use Rattle.jn_device.specs.Later.{count_told}
 use Rattle.jn_report.specs.declared.line.Text.{Text}
 use Rattle.jn_report.specs.declared.line.Text.TheVariants as says
-use Rattle.jn_reported.specs.Reported.{Waiting, one_less, strikes, strike_all, IsStruck, AreStruck}
+use Rattle.jn_system_reports.specs.Reporting.Reported.{Waiting, one_less, strikes, strike_all, IsStruck, AreStruck}
 use Rattle.jn_retold.proofs.Items.{strike-join, struck-join}
 
 abbrev pub any : FaultKind → Bool

@@ -12,10 +12,10 @@ use Rattle.jn_rows.specs.Stable.{Pick, stable}
 use Rattle.jn_rows.specs.Outcomes.{RowOutcome, Sent}
 use Rattle.jn_rows.specs.declared.worker.Work.{Work as WorkEntry}
 use Rattle.jn_rows.specs.Worker.{going_work}
-use Rattle.jn_protocol.specs.World.{World, Memory, at_server}
-use Rattle.jn_protocol.specs.Servers.{Room, server_row, server_step}
-use Rattle.jn_protocol.specs.Steps.{Deliver, Work, Narrow, StopRestart, Restart, after, run, ends, at_memory, handed, work, works, narrow, stop_restart, restart}
-use Rattle.jn_settling.specs.Settle.{handing, working, is_busy as has_going}
+use Rattle.jn_system.specs.WholeSystem.World.{World, Memory, at_server}
+use Rattle.jn_system.specs.WholeSystem.Servers.{Room, server_row, server_step}
+use Rattle.jn_system.specs.WholeSystem.Steps.{Deliver, Work, Narrow, StopRestart, Restart, after, run, ends, at_memory, handed, work, works, narrow, stop_restart, restart}
+use Rattle.jn_system_settling.specs.Settling.Settle.{handing, working, is_busy as has_going}
 use Rattle.jn_written.specs.Chances.{Chance}
 use Rattle.jn_written.specs.Deeds.{no_room, stopped_idle, pick_read, recovering}
 use Rattle.jn_written.specs.Kinds.{is_note, is_up, is_of_delivery}

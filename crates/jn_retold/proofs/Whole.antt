@@ -5,8 +5,8 @@ use Rattle.jn_base.specs.declared.names.ServerNo.{ServerNo}
 use Rattle.jn_order.specs.Files.{AllFiles}
 use Rattle.jn_schedule.specs.declared.Event.{Event}
 use Rattle.jn_schedule.specs.Ranges.{EventInRange}
-use Rattle.jn_protocol.specs.World.{World}
-use Rattle.jn_reported.specs.Reported.{Item, events_of}
+use Rattle.jn_system.specs.WholeSystem.World.{World}
+use Rattle.jn_system_reports.specs.Reporting.Reported.{Item, events_of}
 use Rattle.jn_written.specs.Chances.{Setup}
 use Rattle.jn_written.specs.Tasks.{Task, InSchedule, AtEnd, CutShort, Stage, next_at}
 use Rattle.jn_written.specs.Devices.{Devices, AreFound}

@@ -19,9 +19,9 @@ use Rattle.jn_rows.specs.Coordinator.{coordinator_row, flags_of_thanked, close_c
 use Rattle.jn_rows.specs.Outcomes.{RowOutcome, Sent}
 use Rattle.jn_rows.specs.Stable.{StableState, Prepared, Change, AddReady, MarkGoing, CarryOut, RemoveWork, AddFlag, DropFlag, gone_on, made_by, made_all, Pick, stable}
 use Rattle.jn_rows.specs.Worker.{WorkerTable, worker_row, worker_step, timeout_row}
-use Rattle.jn_protocol.specs.World.{World, Memory, at_server, at_client, new_memory, opening}
-use Rattle.jn_protocol.specs.Servers.{Room, storage_of, is_for_worker, of_worker, server_row, of_step, server_step, server_again, of_timeout, server_timeout, of_coordinator, restored}
-use Rattle.jn_protocol.specs.Steps.{Step, NextEvent, Tell, Again, Deliver, Work, Nudge, Timeout, StopDelivery, StopWork, Crash, Narrow, StopRestart, Restart, Dismiss, CloseClients, after, run, ends, at_memory, handed, work, works, nudge, timeout, crash, narrow, stop_restart, restart, close_clients, took, commanded, sent_now}
+use Rattle.jn_system.specs.WholeSystem.World.{World, Memory, at_server, at_client, new_memory, opening}
+use Rattle.jn_system.specs.WholeSystem.Servers.{Room, storage_of, is_for_worker, of_worker, server_row, of_step, server_step, server_again, of_timeout, server_timeout, of_coordinator, restored}
+use Rattle.jn_system.specs.WholeSystem.Steps.{Step, NextEvent, Tell, Again, Deliver, Work, Nudge, Timeout, StopDelivery, StopWork, Crash, Narrow, StopRestart, Restart, Dismiss, CloseClients, after, run, ends, at_memory, handed, work, works, nudge, timeout, crash, narrow, stop_restart, restart, close_clients, took, commanded, sent_now}
 use Rattle.jn_worker.specs.Handling.{InRange}
 use Rattle.jn_within.specs.Taking.{CanBeTaken, AllCanBeTaken, CommandInRange, ClientFits, CommandFits, sent_for}
 use Rattle.jn_within.proofs.Taking.{servers-taken, command-fits, take-fits, new-fits, over-fits}

@@ -6,9 +6,9 @@ use Rattle.jn_order.specs.Files.{AllFiles}
 use Rattle.jn_schedule.specs.declared.Event.{Event}
 use Rattle.jn_report.specs.declared.line.Text.{Text}
 use Rattle.jn_aside.specs.Aside.{plain, is_show}
-use Rattle.jn_protocol.specs.World.{World, Memory, opening}
-use Rattle.jn_protocol.specs.Steps.{NextEvent, run}
-use Rattle.jn_reported.specs.Reported.{Item, events_of, world_of, lines_of, IsReported}
+use Rattle.jn_system.specs.WholeSystem.World.{World, Memory, opening}
+use Rattle.jn_system.specs.WholeSystem.Steps.{NextEvent, run}
+use Rattle.jn_system_reports.specs.Reporting.Reported.{Item, events_of, world_of, lines_of, IsReported}
 use Rattle.jn_written.specs.Chances.{Setup}
 use Rattle.jn_written.specs.Tasks.{InSchedule, CutShort}
 use Rattle.jn_written.specs.Events.{ending}

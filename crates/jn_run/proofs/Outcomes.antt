@@ -19,7 +19,7 @@ use Rattle.jn_schedule.specs.Faults.{IsFirstFault}
 use Rattle.jn_between.proofs.Ended.{at-the-end}
 use Rattle.jn_headline.proofs.Joined.{whole-report, part-report, limited-report}
 use Rattle.jn_headline.specs.Headline.{IsTrueOfBegun}
-use Rattle.jn_ended.specs.Whole.{IsOfItsCommits}
+use Rattle.jn_headline.specs.WholeReports.Whole.{IsOfItsCommits}
 use Rattle.jn_options.specs.declared.asked.Command.{Command}
 use Rattle.jn_options.specs.declared.asked.Command.TheVariants.{Run, Trial}
 use Rattle.jn_options.specs.declared.asked.Options.{Options}

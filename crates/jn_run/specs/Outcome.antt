@@ -28,11 +28,11 @@ use Rattle.jn_options.specs.declared.asked.Opening.{Opening}
 use Rattle.jn_options.specs.declared.asked.Opening.TheVariants.{New, Images}
 use Rattle.jn_options.specs.declared.asked.Options.{Options}
 use Rattle.jn_options.specs.declared.asked.Trial.{Trial as ATrial}
-use Rattle.jn_ended.specs.Whole.{IsOfItsCommits}
+use Rattle.jn_headline.specs.WholeReports.Whole.{IsOfItsCommits}
 use Rattle.jn_gen.specs.Trial.{events_from}
 use Rattle.jn_found.specs.Pages.{found_on}
 use Rattle.jn_headline.specs.Headline.{IsTrueOfBegun}
-use Rattle.jn_reported.specs.Ending.{AreFilesOf}
+use Rattle.jn_system_reports.specs.Reporting.Ending.{AreFilesOf}
 use Rattle.jn_rows.specs.Stable.{Pick}
 use Rattle.jn_serial.specs.Lines.{history_of}
 use Rattle.jn_serial.specs.Order.{replay}

@@ -27,9 +27,9 @@ use Rattle.jn_coord.specs.Beginning.{TicketsFit as CoordinatorTickets}
 use Rattle.jn_coord.specs.Handling.{Handles}
 use Rattle.jn_transactions.specs.declared.faults.CoordFault.{CoordFault}
 use Rattle.jn_transactions.specs.declared.faults.CoordFault.TheVariants as faults
-use Rattle.jn_protocol.specs.Servers.{of_coordinator}
-use Rattle.jn_protocol.proofs.CoordinatorRows.{Aside, is_of_flag, are_of_flags, first-of, second-of, flags-all, epoch-all}
-use Rattle.jn_protocol.proofs.WorkerChanges.{DrawsOne}
+use Rattle.jn_system.specs.WholeSystem.Servers.{of_coordinator}
+use Rattle.jn_system.proofs.WholeSystem.CoordinatorRows.{Aside, is_of_flag, are_of_flags, first-of, second-of, flags-all, epoch-all}
+use Rattle.jn_system.proofs.WholeSystem.WorkerChanges.{DrawsOne}
 use Rattle.jn_server.specs.declared.fault.ServerFault.{ServerFault}
 use Rattle.jn_server.specs.Faults.{of_coordinator as fault_of}
 use Rattle.jn_server.specs.Seen.{ServerView, memory_of, IsServer}

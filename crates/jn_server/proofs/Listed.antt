@@ -4,8 +4,8 @@ use Rattle.std.specs.Prelude.{nat_lt}
 use Rattle.std.specs.List.{list_any, list_all}
 use Rattle.std.proofs.lemmas.Bool.Decides.{nat_tests}
 use Rattle.std.proofs.lemmas.List.Folds.{list_any-append, list_all-append}
-use Rattle.jn_protocol.specs.Steps.{are_rising, AreNames}
-use Rattle.jn_protocol.proofs.CoordinatorRows.{first-of, second-of}
+use Rattle.jn_system.specs.WholeSystem.Steps.{are_rising, AreNames}
+use Rattle.jn_system.proofs.WholeSystem.CoordinatorRows.{first-of, second-of}
 
 both : {a b : Bool} → a ≡ true → b ≡ true → (a && b) ≡ true
 both p q = grind (arith, p, q)

@@ -20,7 +20,7 @@ use Rattle.jn_storage.specs.Storage.{StorageView, is_stored}
 use Rattle.jn_storage.specs.Calls.{state, BlockRead}
 use Rattle.jn_storage.proofs.Laws.{storage_refl, storage_trans}
 use Rattle.jn_store.proofs.Laws.{stop_since}
-use Rattle.jn_protocol.specs.Printing.{Printed, print_unit, prints_in, print_one, print_blocks}
+use Rattle.jn_system.specs.WholeSystem.Printing.{Printed, print_unit, prints_in, print_one, print_blocks}
 use Rattle.jn_server.specs.declared.fault.ServerFault.{ServerFault}
 use Rattle.jn_server.specs.declared.fault.ServerFault.TheVariants.{Stopped, Memory as NoMemory}
 use Rattle.jn_server.specs.declared.show.Shown.{Shown}

@@ -30,8 +30,8 @@ use Rattle.jn_worker.specs.Restoring.{comes_before, names_rise}
 use Rattle.jn_coord.specs.Remembered.{Remembered, table_of, rises, are_above}
 use Rattle.jn_coord.specs.Beginning.{are_before}
 use Rattle.jn_transactions.specs.Listed.{name_below}
-use Rattle.jn_protocol.specs.Servers.{restored}
-use Rattle.jn_protocol.specs.Steps.{are_rising, tid_before}
+use Rattle.jn_system.specs.WholeSystem.Servers.{restored}
+use Rattle.jn_system.specs.WholeSystem.Steps.{are_rising, tid_before}
 use Rattle.jn_server.specs.Seen.{ServerView, memory_of}
 use Rattle.jn_server.specs.Ranges.{AreInRange}
 use Rattle.jn_server.proofs.Ranges.{restored-in-range}

@@ -8,7 +8,7 @@ use Rattle.jn_rows.specs.Stable.{StableState, Pick, is_going}
 use Rattle.jn_storage.specs.Listing.{is_in}
 use Rattle.jn_storage.specs.Orderly.{IsGiven}
 use Rattle.jn_coord.specs.Calls.{flag_told}
-use Rattle.jn_protocol.specs.Servers.{of_timeout}
+use Rattle.jn_system.specs.WholeSystem.Servers.{of_timeout}
 use Rattle.jn_rows.specs.Worker.{WorkerTable, work_at, timeout_row}
 use Rattle.jn_storage.specs.Storage.{Accounts, StorageView, IsServing}
 use Rattle.jn_storage.specs.Calls.{state}

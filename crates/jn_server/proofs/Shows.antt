@@ -29,9 +29,9 @@ use Rattle.jn_store.specs.Store.{StoreView}
 use Rattle.jn_store.proofs.Laws.{calm_on}
 use Rattle.jn_works.specs.Locked.{lesser, next_locked, is_held, LeastOf}
 use Rattle.jn_works.proofs.LeastFiles.{next_is_least}
-use Rattle.jn_protocol.specs.Printing.{Printed, FileThere, print_unit, print_blocks, print_file, print_files, block_before}
-use Rattle.jn_protocol.specs.Steps.{AreNames}
-use Rattle.jn_protocol.proofs.CoordinatorRows.{first-of, second-of}
+use Rattle.jn_system.specs.WholeSystem.Printing.{Printed, FileThere, print_unit, print_blocks, print_file, print_files, block_before}
+use Rattle.jn_system.specs.WholeSystem.Steps.{AreNames}
+use Rattle.jn_system.proofs.WholeSystem.CoordinatorRows.{first-of, second-of}
 use Rattle.jn_server.specs.declared.fault.ServerFault.{ServerFault}
 use Rattle.jn_server.specs.declared.fault.ServerFault.TheVariants.{Stopped, Memory as NoMemory}
 use Rattle.jn_server.specs.declared.show.Shown.{Shown}

@@ -12,8 +12,8 @@ use Rattle.jn_transactions.specs.Telling.{added}
 use Rattle.jn_worker.specs.declared.words.WorkerFault.{WorkerFault}
 use Rattle.jn_worker.specs.Calls.{Steps as WorkerSteps, AsksAgain}
 use Rattle.jn_worker.specs.Fitting.{WorkerView, seen}
-use Rattle.jn_protocol.specs.Servers.{of_step, server_step, server_again}
-use Rattle.jn_protocol.proofs.WorkerChanges.{step-aside}
+use Rattle.jn_system.specs.WholeSystem.Servers.{of_step, server_step, server_again}
+use Rattle.jn_system.proofs.WholeSystem.WorkerChanges.{step-aside}
 use Rattle.jn_server.specs.declared.fault.ServerFault.{ServerFault}
 use Rattle.jn_server.specs.Faults.{of_worker as fault_of}
 use Rattle.jn_server.specs.Handling.{Steps}

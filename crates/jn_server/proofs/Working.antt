@@ -20,9 +20,9 @@ use Rattle.jn_worker.specs.Fitting.{WorkerView}
 use Rattle.jn_coord.specs.Calls.{flag_told}
 use Rattle.jn_coord.specs.Beginning.{are_before}
 use Rattle.jn_transactions.specs.Telling.{added}
-use Rattle.jn_protocol.specs.Servers.{of_worker}
-use Rattle.jn_protocol.proofs.CoordinatorRows.{epoch-all}
-use Rattle.jn_protocol.proofs.WorkerChanges.{Aside, DrawsOne, works-flags}
+use Rattle.jn_system.specs.WholeSystem.Servers.{of_worker}
+use Rattle.jn_system.proofs.WholeSystem.CoordinatorRows.{epoch-all}
+use Rattle.jn_system.proofs.WholeSystem.WorkerChanges.{Aside, DrawsOne, works-flags}
 use Rattle.jn_server.specs.declared.fault.ServerFault.{ServerFault}
 use Rattle.jn_server.specs.Faults.{of_worker as fault_of}
 use Rattle.jn_server.specs.Seen.{ServerView, memory_of, IsServer}

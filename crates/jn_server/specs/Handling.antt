@@ -10,8 +10,8 @@ use Rattle.jn_storage.specs.Calls.{state, CountsErased}
 use Rattle.jn_store.specs.Store.{IsCalm, IsStop}
 use Rattle.jn_transactions.specs.Telling.{added}
 use Rattle.jn_worker.specs.Calls.{left_by}
-use Rattle.jn_protocol.specs.World.{Memory}
-use Rattle.jn_protocol.specs.Servers.{server_timeout}
+use Rattle.jn_system.specs.WholeSystem.World.{Memory}
+use Rattle.jn_system.specs.WholeSystem.Servers.{server_timeout}
 use Rattle.jn_server.specs.declared.fault.ServerFault.{ServerFault}
 use Rattle.jn_server.specs.declared.fault.ServerFault.TheVariants.{Stopped, Memory as NoMemory}
 use Rattle.jn_server.specs.Seen.{ServerView, memory_of, IsServer}

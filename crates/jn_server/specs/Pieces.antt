@@ -11,7 +11,7 @@ use Rattle.jn_storage.specs.Storage.{StorageLater, is_stored}
 use Rattle.jn_storage.specs.Calls.{state}
 use Rattle.jn_rows.specs.Stable.{Unchanged}
 use Rattle.jn_store.specs.Store.{IsStop}
-use Rattle.jn_protocol.specs.Printing.{Printed, prints_in, print_file, print_blocks}
+use Rattle.jn_system.specs.WholeSystem.Printing.{Printed, prints_in, print_file, print_blocks}
 use Rattle.jn_server.specs.declared.show.Shown.{Shown}
 use Rattle.jn_server.specs.declared.fault.ServerFault.{ServerFault}
 use Rattle.jn_server.specs.declared.fault.ServerFault.TheVariants.{Stopped, Memory as NoMemory}

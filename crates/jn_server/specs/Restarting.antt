@@ -19,8 +19,8 @@ use Rattle.jn_worker.specs.Fitting.{WorkerView}
 use Rattle.jn_worker.specs.Restoring.{Restores}
 use Rattle.jn_coord.specs.Remembered.{Remembered}
 use Rattle.jn_coord.specs.Restoring.{Restored}
-use Rattle.jn_protocol.specs.Servers.{restored}
-use Rattle.jn_protocol.specs.Steps.{AreNames, tid_before}
+use Rattle.jn_system.specs.WholeSystem.Servers.{restored}
+use Rattle.jn_system.specs.WholeSystem.Steps.{AreNames, tid_before}
 use Rattle.jn_server.specs.Seen.{ServerView, memory_of, IsServer}
 
 pub record AreTables (v : StorageView) (t : WorkerView) (r : Remembered) : Type 0 where

@@ -7,8 +7,8 @@ use Rattle.jn_worker.specs.Fitting.{WorkerView, seen, Fits as WorkerFits, Ticket
 use Rattle.jn_coord.specs.Remembered.{Remembered, table_of}
 use Rattle.jn_coord.specs.Calls.{Fits as CoordinatorFits}
 use Rattle.jn_coord.specs.Beginning.{TicketsFit as CoordinatorTickets}
-use Rattle.jn_protocol.specs.World.{Memory}
-use Rattle.jn_protocol.specs.Servers.{Room}
+use Rattle.jn_system.specs.WholeSystem.World.{Memory}
+use Rattle.jn_system.specs.WholeSystem.Servers.{Room}
 use Rattle.jn_server.specs.Ranges.{AreInRange}
 
 -- its storage with what that keeps in memory, its tables, and its next name

@@ -7,7 +7,7 @@ use Rattle.jn_storage.specs.Storage.{StorageLater}
 use Rattle.jn_storage.specs.Calls.{state}
 use Rattle.jn_rows.specs.Stable.{Unchanged}
 use Rattle.jn_store.specs.Store.{IsCalm, IsStop}
-use Rattle.jn_protocol.specs.Printing.{Printed, FileThere, PageStored, UnitLocked, prints_in, ArePrints}
+use Rattle.jn_system.specs.WholeSystem.Printing.{Printed, FileThere, PageStored, UnitLocked, prints_in, ArePrints}
 use Rattle.jn_server.specs.declared.show.Shown.{Shown}
 use Rattle.jn_server.specs.declared.show.Shown.TheVariants as shown
 use Rattle.jn_server.specs.declared.fault.ServerFault.{ServerFault}

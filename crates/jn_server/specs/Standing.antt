@@ -13,7 +13,7 @@ use Rattle.jn_found.specs.Pages.{pool_on, heads_on, listed, pages_by}
 use Rattle.jn_rows.specs.Stable.{StableState}
 use Rattle.jn_rows.specs.Worker.{WorkerTable, intentions_of, need_in}
 use Rattle.jn_rows.specs.Coordinator.{promised}
-use Rattle.jn_protocol.specs.World.{Memory}
+use Rattle.jn_system.specs.WholeSystem.World.{Memory}
 
 -- by one pick: all find the same records and heads while a server is up
 abbrev pub standing_pages : StoreView → Pages

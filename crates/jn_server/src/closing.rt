@@ -3,7 +3,7 @@ ghost use Rattle.std.specs.Prelude.{◌≡◌, is_ok, OnOk};
 ghost use Rattle.jn_coord.specs.Remembered.{table_of};
 ghost use Rattle.jn_intent.specs.Scrubbing.{Scrubbed};
 ghost use Rattle.jn_msgs.specs.Collected.{Collected};
-ghost use Rattle.jn_protocol.specs.Servers.{of_coordinator};
+ghost use Rattle.jn_system.specs.WholeSystem.Servers.{of_coordinator};
 ghost use Rattle.jn_rows.specs.Coordinator.{close_clients_row};
 ghost use Rattle.jn_server.specs.Handling.{Does};
 ghost use Rattle.jn_server.specs.Seen.{view_with, memory_of, IsServer};

@@ -3,7 +3,7 @@ ghost use Rattle.std.specs.Prelude.{◌≡◌, ◌<◌, ◌+◌, ◌^◌, true, 
 ghost use Rattle.jn_coord.specs.Calls.{free_of};
 ghost use Rattle.jn_coord.specs.Handling.{FewWorks};
 ghost use Rattle.jn_coord.specs.Remembered.{table_of};
-ghost use Rattle.jn_protocol.specs.Servers.{of_worker, of_coordinator, server_row, is_for_worker};
+ghost use Rattle.jn_system.specs.WholeSystem.Servers.{of_worker, of_coordinator, server_row, is_for_worker};
 ghost use Rattle.jn_rows.specs.Coordinator.{coordinator_row};
 ghost use Rattle.jn_rows.specs.Worker.{worker_row};
 ghost use Rattle.jn_server.specs.Handling.{Does, LeavesRubbish};

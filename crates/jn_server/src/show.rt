@@ -1,7 +1,7 @@
 //! What a server shows of its files.
 ghost use Rattle.std.specs.Prelude.{◌≡◌, ◌<◌, [], ◌∷◌, ◌++◌, is_some, true, None, Ok, OnOk, IfOk, IfErr};
 ghost use Rattle.jn_base.specs.declared.names.LockUnit.TheVariants.{File, Block as BlockUnit};
-ghost use Rattle.jn_protocol.specs.Printing.{print_one};
+ghost use Rattle.jn_system.specs.WholeSystem.Printing.{print_one};
 ghost use Rattle.jn_recovery.specs.Memory.{view_of};
 ghost use Rattle.jn_rows.specs.Worker.{commit_holder};
 ghost use Rattle.jn_server.specs.Pieces.{is_at, is_of_first, to_print, prints_of_blocks, prints_of_file, number_after, NextShown, TellsPiece, CutsPiece};

@@ -1,6 +1,6 @@
 //! What a server does without a message.
 ghost use Rattle.std.specs.Prelude.{◌≡◌, [], is_some, OnOk};
-ghost use Rattle.jn_protocol.specs.Servers.{server_step, server_again};
+ghost use Rattle.jn_system.specs.WholeSystem.Servers.{server_step, server_again};
 ghost use Rattle.jn_server.specs.Handling.{Steps, TimesOut};
 ghost use Rattle.jn_server.specs.Seen.{view_with, memory_of, room_of, IsServer};
 ghost use Rattle.jn_server.specs.Reading.{IsRoomOfPages};

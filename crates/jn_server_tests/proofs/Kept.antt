@@ -9,10 +9,10 @@ use Rattle.jn_rows.specs.Outcomes.{RowOutcome}
 use Rattle.jn_rows.specs.Stable.{StableState}
 use Rattle.jn_rows.specs.Worker.{WorkerTable, worker_row, worker_step}
 use Rattle.jn_rows.specs.Coordinator.{coordinator_row, close_clients_row}
-use Rattle.jn_protocol.specs.World.{Memory}
-use Rattle.jn_protocol.specs.Servers.{Room, storage_of, of_worker, of_coordinator, of_step, server_row, server_step, is_for_worker}
-use Rattle.jn_protocol.proofs.WorkerChanges.{worker-aside, step-aside}
-use Rattle.jn_protocol.proofs.CoordinatorRows.{coordinator-aside}
+use Rattle.jn_system.specs.WholeSystem.World.{Memory}
+use Rattle.jn_system.specs.WholeSystem.Servers.{Room, storage_of, of_worker, of_coordinator, of_step, server_row, server_step, is_for_worker}
+use Rattle.jn_system.proofs.WholeSystem.WorkerChanges.{worker-aside, step-aside}
+use Rattle.jn_system.proofs.WholeSystem.CoordinatorRows.{coordinator-aside}
 use Rattle.jn_storage.specs.Storage.{StorageLater, Accounts}
 use Rattle.jn_storage.specs.Calls.{state}
 use Rattle.jn_store.specs.Store.{StoreView}

@@ -8,7 +8,7 @@ use Rattle.jn_device.specs.Events.{Decays as PageDecays, Revives as PageRevives,
 use Rattle.jn_place.specs.declared.place.Place.{Place}
 use Rattle.jn_place.specs.declared.place.Slot.{Slot}
 use Rattle.jn_place.specs.Exact.{Befell}
-use Rattle.jn_protocol.specs.World.{commits_in}
+use Rattle.jn_system.specs.WholeSystem.World.{commits_in}
 use Rattle.jn_recovery.specs.Loading.{counts_by}
 use Rattle.jn_report.specs.declared.line.EventRefusal.TheVariants.{TooManyArmed}
 use Rattle.jn_report.specs.declared.line.Line.{Line}

@@ -9,8 +9,8 @@ use Rattle.jn_base.specs.Names.{client_eq}
 use Rattle.jn_device.specs.Device.{DeviceState}
 use Rattle.jn_net.specs.declared.Sent.{Sent as Posted}
 use Rattle.jn_net.specs.Carried.{with_delivered}
-use Rattle.jn_protocol.specs.Steps.{Deliver, after, took, taken_by, handed}
-use Rattle.jn_protocol.specs.World.{World, at_client}
+use Rattle.jn_system.specs.WholeSystem.Steps.{Deliver, after, took, taken_by, handed}
+use Rattle.jn_system.specs.WholeSystem.World.{World, at_client}
 use Rattle.jn_report.specs.declared.line.Line.{Line}
 use Rattle.jn_rows.specs.declared.client.Taken.{Taken}
 use Rattle.jn_rows.specs.declared.client.Taken.TheVariants as taken

@@ -15,7 +15,7 @@ use Rattle.jn_msgs.specs.declared.message.Message.{Message}
 use Rattle.jn_msgs.specs.declared.message.Message.TheVariants as messages
 use Rattle.jn_msgs.specs.declared.message.Outcome.{Outcome}
 use Rattle.jn_msgs.specs.declared.message.Outcome.TheVariants.{Committed, Aborted, Waiting, NotKnown}
-use Rattle.jn_protocol.specs.World.{World, commits_in}
+use Rattle.jn_system.specs.WholeSystem.World.{World, commits_in}
 use Rattle.jn_report.specs.declared.line.Text.{Text}
 use Rattle.jn_rows.specs.declared.client.Outstanding.{Outstanding}
 use Rattle.jn_rows.specs.declared.client.Taken.{Taken}

@@ -12,9 +12,9 @@ use Rattle.jn_place.specs.declared.place.Slot.{Slot}
 use Rattle.jn_place.specs.declared.place.Slot.TheVariants.{Up, Down, Gone}
 use Rattle.jn_place.specs.Exact.{IsDoneAt, Closed, texts_of_step}
 use Rattle.jn_place.specs.Places.{is_up}
-use Rattle.jn_protocol.specs.World.{World, Memory}
-use Rattle.jn_protocol.specs.Servers.{of_coordinator}
-use Rattle.jn_protocol.specs.Steps.{CloseClients, IsIdle, after, done, close_clients}
+use Rattle.jn_system.specs.WholeSystem.World.{World, Memory}
+use Rattle.jn_system.specs.WholeSystem.Servers.{of_coordinator}
+use Rattle.jn_system.specs.WholeSystem.Steps.{CloseClients, IsIdle, after, done, close_clients}
 use Rattle.jn_recovery.specs.Loading.{counts_by}
 use Rattle.jn_report.specs.declared.line.Line.{Line}
 use Rattle.jn_report.specs.declared.line.Text.{Text}
@@ -23,7 +23,7 @@ use Rattle.jn_rows.specs.Coordinator.{close_clients_row}
 use Rattle.jn_rows.specs.Outcomes.{RowOutcome}
 use Rattle.jn_rows.specs.Stable.{StableState, Pick, made_all}
 use Rattle.jn_server.specs.Seen.{Parts, view_with, memory_of}
-use Rattle.jn_settling.specs.Course.{go_on}
+use Rattle.jn_system_settling.specs.Settling.Course.{go_on}
 use Rattle.jn_storage.specs.Calls.{state}
 use Rattle.jn_store.specs.Pairs.{pairs_view}
 use Rattle.jn_store.specs.Store.{StoreView}

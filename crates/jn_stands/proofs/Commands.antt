@@ -7,8 +7,8 @@ use Rattle.jn_base.specs.declared.names.Party.TheVariants.{Client}
 use Rattle.jn_base.specs.declared.op.Command.{Command}
 use Rattle.jn_base.specs.Names.{client_eq}
 use Rattle.jn_device.specs.Device.{DeviceState}
-use Rattle.jn_protocol.specs.Steps.{Tell, Again, after, commanded, sent_now}
-use Rattle.jn_protocol.specs.World.{World, commits_in}
+use Rattle.jn_system.specs.WholeSystem.Steps.{Tell, Again, after, commanded, sent_now}
+use Rattle.jn_system.specs.WholeSystem.World.{World, commits_in}
 use Rattle.jn_report.specs.declared.line.Line.{Line}
 use Rattle.jn_rows.specs.Client.{ClientTable, Commanded, Refuses, Sends, command_row, again_row}
 use Rattle.jn_schedule.specs.declared.Event.TheVariants as events

@@ -7,15 +7,15 @@ use Rattle.jn_base.specs.declared.device.Outside.{Outside}
 use Rattle.jn_device.specs.Device.{DeviceState}
 use Rattle.jn_net.specs.Carried.{Carried}
 use Rattle.jn_place.specs.declared.place.Place.{Place}
-use Rattle.jn_protocol.specs.World.{World, commits_in, has_line}
-use Rattle.jn_protocol.specs.Steps.{Step, run, IsRun}
+use Rattle.jn_system.specs.WholeSystem.World.{World, commits_in, has_line}
+use Rattle.jn_system.specs.WholeSystem.Steps.{Step, run, IsRun}
 use Rattle.jn_records.specs.declared.net_list.Need.{Need}
 use Rattle.jn_report.specs.declared.line.Line.{Line}
 use Rattle.jn_rests.specs.Waiting.{Carries}
 use Rattle.jn_rows.specs.Client.{ClientTable, new_table}
 use Rattle.jn_rows.specs.Stable.{Pick}
 use Rattle.jn_schedule.specs.declared.Event.{Event}
-use Rattle.jn_settling.specs.Course.{Course, go, go_on}
+use Rattle.jn_system_settling.specs.Settling.Course.{Course, go, go_on}
 use Rattle.jn_store.specs.Store.{StoreView}
 use Rattle.jn_within.specs.Within.{Within}
 use Rattle.jn_within.proofs.WorldSteps.{run-within}

@@ -11,15 +11,15 @@ use Rattle.jn_place.specs.declared.place.Slot.{Slot}
 use Rattle.jn_place.specs.declared.place.Slot.TheVariants.{Up, Down, Gone}
 use Rattle.jn_place.specs.Exact.{Crashed}
 use Rattle.jn_place.specs.Places.{is_up}
-use Rattle.jn_protocol.specs.World.{World, Memory, at_server}
-use Rattle.jn_protocol.specs.Steps.{Crash, crash}
+use Rattle.jn_system.specs.WholeSystem.World.{World, Memory, at_server}
+use Rattle.jn_system.specs.WholeSystem.Steps.{Crash, crash}
 use Rattle.jn_recovery.specs.Loading.{counts_by}
 use Rattle.jn_report.specs.declared.line.Line.{Line}
 use Rattle.jn_report.specs.declared.line.Text.{Text}
 use Rattle.jn_report.specs.declared.line.Text.TheVariants as says
 use Rattle.jn_schedule.specs.declared.Event.TheVariants as events
 use Rattle.jn_server.specs.Seen.{Parts}
-use Rattle.jn_settling.specs.Course.{go_on}
+use Rattle.jn_system_settling.specs.Settling.Course.{go_on}
 use Rattle.jn_store.specs.Pairs.{pairs_view}
 use Rattle.jn_store.specs.Store.{StoreView}
 use Rattle.jn_written.specs.Chances.{Setup}

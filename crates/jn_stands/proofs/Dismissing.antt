@@ -11,8 +11,8 @@ use Rattle.jn_place.specs.declared.place.Place.{Place}
 use Rattle.jn_place.specs.declared.place.Slot.{Slot}
 use Rattle.jn_place.specs.declared.place.Slot.TheVariants.{Up, Down}
 use Rattle.jn_place.specs.Exact.{Befell}
-use Rattle.jn_protocol.specs.World.{Memory, commits_in}
-use Rattle.jn_protocol.specs.Steps.{Dismiss}
+use Rattle.jn_system.specs.WholeSystem.World.{Memory, commits_in}
+use Rattle.jn_system.specs.WholeSystem.Steps.{Dismiss}
 use Rattle.jn_records.specs.StablePages.{Counts}
 use Rattle.jn_recovery.specs.Loading.{counts_by}
 use Rattle.jn_report.specs.declared.line.Line.{Line}
@@ -21,7 +21,7 @@ use Rattle.jn_rests.specs.Waiting.{Carries}
 use Rattle.jn_rests.proofs.Numbers.{carries-step, carries-forgotten}
 use Rattle.jn_rows.specs.Client.{ClientTable, over}
 use Rattle.jn_rows.specs.Stable.{StableState, Pick, IsUp}
-use Rattle.jn_settling.specs.Course.{Course, go}
+use Rattle.jn_system_settling.specs.Settling.Course.{Course, go}
 use Rattle.jn_store.specs.Store.{StoreView}
 use Rattle.jn_within.proofs.WorldSteps.{run-within}
 use Rattle.jn_written.specs.Chances.{Setup}

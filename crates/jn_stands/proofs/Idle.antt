@@ -12,9 +12,9 @@ use Rattle.jn_place.specs.declared.place.Place.{Place}
 use Rattle.jn_place.specs.declared.place.Slot.{Slot}
 use Rattle.jn_place.specs.declared.place.Slot.TheVariants.{Up, Down}
 use Rattle.jn_place.specs.Exact.{IsSpent, IsDoneAt, IsStoppedAt, idle_row}
-use Rattle.jn_protocol.specs.World.{World, Memory, at_server}
-use Rattle.jn_protocol.specs.Servers.{Room, server_step, of_step}
-use Rattle.jn_protocol.specs.Steps.{Step, StopWork, after, work, works}
+use Rattle.jn_system.specs.WholeSystem.World.{World, Memory, at_server}
+use Rattle.jn_system.specs.WholeSystem.Servers.{Room, server_step, of_step}
+use Rattle.jn_system.specs.WholeSystem.Steps.{Step, StopWork, after, work, works}
 use Rattle.jn_recovery.specs.Loading.{counts_by}
 use Rattle.jn_report.specs.declared.line.Text.TheVariants as says
 use Rattle.jn_rests.specs.Waiting.{Carries}
@@ -23,7 +23,7 @@ use Rattle.jn_rows.specs.Outcomes.{RowOutcome}
 use Rattle.jn_rows.specs.Stable.{StableState, Pick, Change, stable, made_all}
 use Rattle.jn_rows.specs.Worker.{going_work, going_row}
 use Rattle.jn_server.specs.Seen.{Parts, view_with, memory_of}
-use Rattle.jn_settling.specs.Course.{go_on}
+use Rattle.jn_system_settling.specs.Settling.Course.{go_on}
 use Rattle.jn_storage.specs.Calls.{state}
 use Rattle.jn_store.specs.Pairs.{pairs_view}
 use Rattle.jn_store.specs.Store.{StoreView}

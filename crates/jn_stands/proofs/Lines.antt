@@ -11,7 +11,7 @@ use Rattle.jn_report.specs.declared.line.Text.{Text}
 use Rattle.jn_report.specs.declared.line.Text.TheVariants as says
 use Rattle.jn_report.specs.declared.line.Line.{Line}
 use Rattle.jn_serial.specs.Lines.{commit_in, history_of}
-use Rattle.jn_protocol.specs.World.{committed_in, commits_in, has_line}
+use Rattle.jn_system.specs.WholeSystem.World.{committed_in, commits_in, has_line}
 use Rattle.jn_written.specs.Steps.{lines_at}
 
 same : (text : Text) → commit_in text ≡ committed_in text

@@ -10,20 +10,20 @@ use Rattle.jn_place.specs.declared.place.Place.{Place}
 use Rattle.jn_place.specs.declared.place.Slot.{Slot}
 use Rattle.jn_place.specs.declared.place.Slot.TheVariants.{Up, Down, Gone}
 use Rattle.jn_place.specs.Exact.{IsSpent, PrintsInRange, IsDoneAt, IsStoppedAt, IsStepOf, idle_row, ScrubbedBy, Prints, Showed, texts_of_step}
-use Rattle.jn_protocol.specs.World.{World, Memory}
-use Rattle.jn_protocol.specs.Steps.{AreNames}
-use Rattle.jn_protocol.specs.Printing.{prints_in, print_files, file_before, ArePrints}
+use Rattle.jn_system.specs.WholeSystem.World.{World, Memory}
+use Rattle.jn_system.specs.WholeSystem.Steps.{AreNames}
+use Rattle.jn_system.specs.WholeSystem.Printing.{prints_in, print_files, file_before, ArePrints}
 use Rattle.jn_recovery.specs.Loading.{counts_by}
 use Rattle.jn_report.specs.declared.line.Line.{Line}
 use Rattle.jn_report.specs.declared.line.Text.{Text}
 use Rattle.jn_report.specs.declared.line.Text.TheVariants as says
-use Rattle.jn_reported.specs.Printing.{text_printed}
+use Rattle.jn_system_reports.specs.Reporting.Printing.{text_printed}
 use Rattle.jn_rows.specs.Stable.{StableState, Pick, stable}
 use Rattle.jn_schedule.specs.declared.Event.TheVariants as events
 use Rattle.jn_server.specs.declared.show.Shown.{Shown}
 use Rattle.jn_server.specs.Seen.{Parts, view_with, memory_of}
 use Rattle.jn_server.specs.Showing.{print_of}
-use Rattle.jn_settling.specs.Course.{go_on}
+use Rattle.jn_system_settling.specs.Settling.Course.{go_on}
 use Rattle.jn_storage.specs.Calls.{state}
 use Rattle.jn_store.specs.Pairs.{pairs_view}
 use Rattle.jn_store.specs.Store.{StoreView}

@@ -8,8 +8,8 @@ use Rattle.jn_net.specs.Carried.{with_delivered}
 use Rattle.jn_place.specs.declared.place.Place.{Place}
 use Rattle.jn_place.specs.declared.place.Slot.{Slot}
 use Rattle.jn_place.specs.declared.place.Slot.TheVariants.{Down}
-use Rattle.jn_protocol.specs.Steps.{Deliver, after, at_memory, handed}
-use Rattle.jn_protocol.specs.World.{World, Memory}
+use Rattle.jn_system.specs.WholeSystem.Steps.{Deliver, after, at_memory, handed}
+use Rattle.jn_system.specs.WholeSystem.World.{World, Memory}
 use Rattle.jn_recovery.specs.Loading.{counts_by}
 use Rattle.jn_report.specs.declared.line.Text.TheVariants as says
 use Rattle.jn_report.specs.declared.line.Line.{Line}

@@ -9,8 +9,8 @@ use Rattle.jn_net.specs.declared.Sent.{Sent as Posted}
 use Rattle.jn_report.specs.declared.line.Line.{Line}
 use Rattle.jn_report.specs.declared.line.Text.{Text}
 use Rattle.jn_store.specs.Store.{StoreView}
-use Rattle.jn_protocol.specs.World.{World}
-use Rattle.jn_settling.specs.Course.{Course, go_on}
+use Rattle.jn_system.specs.WholeSystem.World.{World}
+use Rattle.jn_system_settling.specs.Settling.Course.{Course, go_on}
 use Rattle.jn_rests.specs.Waiting.{sent_of}
 use Rattle.jn_written.specs.Chances.{Setup, Chance}
 use Rattle.jn_written.specs.Tasks.{Task, State, when_of, next_task, begun}

@@ -8,7 +8,7 @@ use Rattle.jn_report.specs.declared.line.Text.TheVariants as says
 use Rattle.jn_schedule.specs.declared.Event.{Event}
 use Rattle.jn_schedule.specs.declared.Event.TheVariants as events
 use Rattle.jn_rows.specs.Outcomes.{Sent}
-use Rattle.jn_protocol.specs.World.{World, Memory}
+use Rattle.jn_system.specs.WholeSystem.World.{World, Memory}
 use Rattle.jn_written.specs.Chances.{Setup, Chance}
 use Rattle.jn_written.specs.Tasks.{Task, Meets, Acts, GoesDown, next_task}
 use Rattle.jn_written.specs.Deeds.{Deed, served, nothing, delivered_at, delivered, is_busy, working_steps, worked, crashed_at, is_used_up, given_up, recovered, restarted}

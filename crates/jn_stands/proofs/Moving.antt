@@ -11,15 +11,15 @@ use Rattle.jn_net.specs.declared.Sent.{Sent as Posted}
 use Rattle.jn_net.specs.Carried.{Carried}
 use Rattle.jn_place.specs.declared.place.Place.{Place}
 use Rattle.jn_place.specs.declared.place.Slot.{Slot}
-use Rattle.jn_protocol.specs.World.{at_server, commits_in, has_line}
-use Rattle.jn_protocol.specs.Steps.{Step, after, run, IsRun}
+use Rattle.jn_system.specs.WholeSystem.World.{at_server, commits_in, has_line}
+use Rattle.jn_system.specs.WholeSystem.Steps.{Step, after, run, IsRun}
 use Rattle.jn_recovery.specs.Loading.{counts_by}
 use Rattle.jn_report.specs.declared.line.Line.{Line}
 use Rattle.jn_report.specs.declared.line.Text.{Text}
 use Rattle.jn_rests.specs.Waiting.{Carries, delivered_by}
 use Rattle.jn_rests.proofs.Numbers.{carries-step}
 use Rattle.jn_schedule.specs.declared.Event.{Event}
-use Rattle.jn_settling.specs.Course.{Course, go, go_on}
+use Rattle.jn_system_settling.specs.Settling.Course.{Course, go, go_on}
 use Rattle.jn_store.specs.Pairs.{pairs_view}
 use Rattle.jn_store.specs.Store.{StoreView}
 use Rattle.jn_written.specs.Chances.{Setup, Chance}

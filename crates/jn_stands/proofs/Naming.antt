@@ -9,9 +9,9 @@ use Rattle.jn_base.specs.Names.{tid_eq}
 use Rattle.jn_base.proofs.Tells.{tid_tells}
 use Rattle.jn_report.specs.declared.line.Text.{Text}
 use Rattle.jn_report.specs.declared.line.Text.TheVariants as says
-use Rattle.jn_protocol.specs.World.{has_line}
-use Rattle.jn_protocol.specs.Servers.{named_now}
-use Rattle.jn_protocol.specs.Steps.{are_rising, tid_before}
+use Rattle.jn_system.specs.WholeSystem.World.{has_line}
+use Rattle.jn_system.specs.WholeSystem.Servers.{named_now}
+use Rattle.jn_system.specs.WholeSystem.Steps.{are_rising, tid_before}
 use Rattle.jn_stands.specs.Naming.{with_name, named_by, names_told}
 
 -- ---- names in rising order

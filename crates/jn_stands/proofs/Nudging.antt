@@ -10,9 +10,9 @@ use Rattle.jn_place.specs.declared.place.Place.{Place}
 use Rattle.jn_place.specs.declared.place.Slot.{Slot}
 use Rattle.jn_place.specs.declared.place.Slot.TheVariants.{Up, Down, Gone}
 use Rattle.jn_place.specs.Exact.{AsksAgain, TimedOut, IsTimedOut}
-use Rattle.jn_protocol.specs.Servers.{server_again, server_timeout}
-use Rattle.jn_protocol.specs.Steps.{Nudge, Timeout, after, nudge, timeout}
-use Rattle.jn_protocol.specs.World.{World, Memory, at_server}
+use Rattle.jn_system.specs.WholeSystem.Servers.{server_again, server_timeout}
+use Rattle.jn_system.specs.WholeSystem.Steps.{Nudge, Timeout, after, nudge, timeout}
+use Rattle.jn_system.specs.WholeSystem.World.{World, Memory, at_server}
 use Rattle.jn_recovery.specs.Loading.{counts_by}
 use Rattle.jn_report.specs.declared.line.Line.{Line}
 use Rattle.jn_rows.specs.Stable.{StableState, Pick, stable, IsUp}

@@ -15,11 +15,11 @@ use Rattle.jn_rows.specs.Stable.{Pick}
 use Rattle.jn_schedule.specs.declared.Event.{Event}
 use Rattle.jn_schedule.specs.declared.Event.TheVariants as events
 use Rattle.jn_store.specs.Store.{StoreView}
-use Rattle.jn_protocol.specs.World.{World, Memory}
-use Rattle.jn_protocol.specs.Servers.{Room}
-use Rattle.jn_protocol.specs.Steps.{Step, NextEvent}
-use Rattle.jn_settling.specs.Course.{Course, go, go_on}
-use Rattle.jn_settling.specs.Settle.{handing, working, clients_from}
+use Rattle.jn_system.specs.WholeSystem.World.{World, Memory}
+use Rattle.jn_system.specs.WholeSystem.Servers.{Room}
+use Rattle.jn_system.specs.WholeSystem.Steps.{Step, NextEvent}
+use Rattle.jn_system_settling.specs.Settling.Course.{Course, go, go_on}
+use Rattle.jn_system_settling.specs.Settling.Settle.{handing, working, clients_from}
 use Rattle.jn_written.specs.Chances.{Setup, Chance}
 use Rattle.jn_written.specs.Tasks.{Task, Begins, Meets, Acts, Rests, ComesUp, Dismisses, GoesDown, ClosesClients, CountsCommits, Stage, InSchedule, CutShort, AtEnd, State, when_at, when_of, next_at, next_task, begun}
 use Rattle.jn_written.specs.Deeds.{Deed, served, nothing, delivered_at, delivered, is_busy, working_steps, worked, stopped_idle, crashed_at, recovering, is_used_up, given_up, recovered, restarted, brought_up}

@@ -9,15 +9,15 @@ use Rattle.jn_base.specs.Names.{tid_eq}
 use Rattle.jn_device.specs.Device.{DeviceState}
 use Rattle.jn_net.specs.declared.Sent.{Sent as Posted}
 use Rattle.jn_place.specs.declared.place.Place.{Place}
-use Rattle.jn_protocol.specs.Steps.{Step, IsStep, after}
-use Rattle.jn_protocol.specs.World.{World, commits_in, has_line}
+use Rattle.jn_system.specs.WholeSystem.Steps.{Step, IsStep, after}
+use Rattle.jn_system.specs.WholeSystem.World.{World, commits_in, has_line}
 use Rattle.jn_report.specs.declared.line.Text.{Text}
 use Rattle.jn_report.specs.declared.line.Line.{Line}
 use Rattle.jn_rests.specs.Waiting.{Carries, delivered_by}
 use Rattle.jn_rows.specs.Client.{ClientTable}
 use Rattle.jn_rows.specs.Outcomes.{Sent}
 use Rattle.jn_schedule.specs.declared.Event.{Event}
-use Rattle.jn_settling.specs.Course.{go}
+use Rattle.jn_system_settling.specs.Settling.Course.{go}
 use Rattle.jn_store.specs.Pairs.{pairs_view}
 use Rattle.jn_store.specs.Store.{StoreView}
 use Rattle.jn_written.specs.Chances.{Setup, Chance}

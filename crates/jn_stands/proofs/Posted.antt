@@ -3,7 +3,7 @@ use Rattle.std.proofs.Common.{◌≡◌, Bool, true, false, List, [], ◌∷◌,
 use Rattle.std.proofs.Math.Seq.{drop-append_seam}
 use Rattle.std.proofs.lemmas.List.{map-append}
 use Rattle.jn_base.specs.declared.names.Party.{Party}
-use Rattle.jn_protocol.specs.World.{World}
+use Rattle.jn_system.specs.WholeSystem.World.{World}
 use Rattle.jn_report.specs.declared.line.When.{When}
 use Rattle.jn_report.specs.declared.line.Text.{Text}
 use Rattle.jn_report.specs.declared.line.Line.{Line}

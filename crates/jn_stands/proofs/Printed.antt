@@ -12,8 +12,8 @@ use Rattle.jn_base.specs.Names.{block_eq}
 use Rattle.jn_base.proofs.Tells.{block_tells}
 use Rattle.jn_order.specs.Files.{Files}
 use Rattle.jn_rows.specs.Worker.{WorkerTable, commit_holder}
-use Rattle.jn_protocol.specs.Steps.{are_rising, AreNames}
-use Rattle.jn_protocol.specs.Printing.{Printed, FileThere, print_unit, prints_in, print_one, print_blocks, print_file, print_files, block_before, ArePrints}
+use Rattle.jn_system.specs.WholeSystem.Steps.{are_rising, AreNames}
+use Rattle.jn_system.specs.WholeSystem.Printing.{Printed, FileThere, print_unit, prints_in, print_one, print_blocks, print_file, print_files, block_before, ArePrints}
 use Rattle.jn_written.specs.Deeds.{blocks_from}
 use Rattle.jn_stands.proofs.Naming.{all-first, all-second, of-all}
 

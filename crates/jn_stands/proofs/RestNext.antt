@@ -7,7 +7,7 @@ use Rattle.jn_device.specs.Device.{DeviceState}
 use Rattle.jn_net.specs.Carried.{waiting}
 use Rattle.jn_place.specs.declared.place.Place.{Place}
 use Rattle.jn_place.specs.Exact.{has_work_at}
-use Rattle.jn_protocol.specs.World.{World, servers_from}
+use Rattle.jn_system.specs.WholeSystem.World.{World, servers_from}
 use Rattle.jn_recovery.specs.Loading.{counts_by}
 use Rattle.jn_report.specs.declared.line.Line.{Line}
 use Rattle.jn_rests.specs.Waiting.{waiting_numbers}

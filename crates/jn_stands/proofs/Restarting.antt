@@ -12,21 +12,21 @@ use Rattle.jn_device.specs.Device.{DeviceState}
 use Rattle.jn_device.specs.Events.{powered_off}
 use Rattle.jn_found.specs.Pages.{found_on}
 use Rattle.jn_locks.specs.Locks.{work_before}
-use Rattle.jn_machine.specs.Steps.{with_epoch}
+use Rattle.jn_system.specs.SmallSteps.Steps.{with_epoch}
 use Rattle.jn_place.specs.declared.place.Place.{Place}
 use Rattle.jn_place.specs.declared.place.Slot.{Slot}
 use Rattle.jn_place.specs.declared.place.Slot.TheVariants.{Up, Down}
 use Rattle.jn_place.specs.Exact.{IsTried, IsUpAt, texts_of_step}
-use Rattle.jn_protocol.specs.World.{World, Memory, commits_in, has_line}
-use Rattle.jn_protocol.specs.Servers.{restored, named_now}
-use Rattle.jn_protocol.specs.Steps.{Restart, AreNames, tid_before, restart, restart_with}
+use Rattle.jn_system.specs.WholeSystem.World.{World, Memory, commits_in, has_line}
+use Rattle.jn_system.specs.WholeSystem.Servers.{restored, named_now}
+use Rattle.jn_system.specs.WholeSystem.Steps.{Restart, AreNames, tid_before, restart, restart_with}
 use Rattle.jn_recovery.specs.Loading.{counts_by}
 use Rattle.jn_report.specs.declared.line.Line.{Line}
 use Rattle.jn_report.specs.declared.line.Text.{Text}
 use Rattle.jn_report.specs.declared.line.Text.TheVariants as says
 use Rattle.jn_rows.specs.Stable.{StableState, Pick}
 use Rattle.jn_server.specs.Seen.{Parts}
-use Rattle.jn_settling.specs.Course.{go_on}
+use Rattle.jn_system_settling.specs.Settling.Course.{go_on}
 use Rattle.jn_store.specs.Pairs.{pairs_view}
 use Rattle.jn_store.specs.Store.{StoreView}
 use Rattle.jn_written.specs.Chances.{Setup, Chance}

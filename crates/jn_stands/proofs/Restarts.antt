@@ -12,7 +12,7 @@ use Rattle.jn_place.specs.declared.place.Slot.TheVariants.{Up, Down, Gone}
 use Rattle.jn_place.specs.declared.place.Restarted.{Restarted}
 use Rattle.jn_place.specs.declared.place.Restarted.TheVariants as came
 use Rattle.jn_place.specs.Exact.{CameTo, IsRestart, texts_of_step}
-use Rattle.jn_protocol.specs.World.{World, commits_in, has_line}
+use Rattle.jn_system.specs.WholeSystem.World.{World, commits_in, has_line}
 use Rattle.jn_recovery.specs.Loading.{counts_by}
 use Rattle.jn_report.specs.declared.line.EventRefusal.TheVariants.{EpochsUsedUp}
 use Rattle.jn_report.specs.declared.line.Line.{Line}

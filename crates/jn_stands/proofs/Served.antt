@@ -12,8 +12,8 @@ use Rattle.jn_place.specs.declared.place.Place.{Place}
 use Rattle.jn_place.specs.declared.place.Slot.{Slot}
 use Rattle.jn_place.specs.declared.place.Slot.TheVariants.{Up, Down, Gone}
 use Rattle.jn_place.specs.Exact.{IsSpent, IsDoneAt, IsStoppedAt}
-use Rattle.jn_protocol.specs.Steps.{done, stopped}
-use Rattle.jn_protocol.specs.World.{World, Memory, at_server}
+use Rattle.jn_system.specs.WholeSystem.Steps.{done, stopped}
+use Rattle.jn_system.specs.WholeSystem.World.{World, Memory, at_server}
 use Rattle.jn_records.specs.StablePages.{Counts}
 use Rattle.jn_recovery.specs.Loading.{counts_by}
 use Rattle.jn_rows.specs.Outcomes.{RowOutcome}

@@ -11,9 +11,9 @@ use Rattle.jn_place.specs.declared.place.Place.{Place}
 use Rattle.jn_place.specs.declared.place.Slot.{Slot}
 use Rattle.jn_place.specs.declared.place.Slot.TheVariants.{Up, Down, Gone}
 use Rattle.jn_place.specs.Exact.{texts_of_step, IsDoneAt, IsStoppedAt, IsStepOf, Sends}
-use Rattle.jn_protocol.specs.Servers.{lines_of}
-use Rattle.jn_protocol.specs.Steps.{Step, IsStep, after, ends}
-use Rattle.jn_protocol.specs.World.{World, Memory, commits_in, has_line}
+use Rattle.jn_system.specs.WholeSystem.Servers.{lines_of}
+use Rattle.jn_system.specs.WholeSystem.Steps.{Step, IsStep, after, ends}
+use Rattle.jn_system.specs.WholeSystem.World.{World, Memory, commits_in, has_line}
 use Rattle.jn_recovery.specs.Loading.{counts_by}
 use Rattle.jn_report.specs.declared.line.Text.{Text}
 use Rattle.jn_report.specs.declared.line.Text.TheVariants as says
@@ -23,7 +23,7 @@ use Rattle.jn_rows.specs.Outcomes.{RowOutcome, Sent}
 use Rattle.jn_rows.specs.Stable.{Pick}
 use Rattle.jn_schedule.specs.declared.Event.{Event}
 use Rattle.jn_server.specs.Seen.{Parts}
-use Rattle.jn_settling.specs.Course.{go}
+use Rattle.jn_system_settling.specs.Settling.Course.{go}
 use Rattle.jn_store.specs.Pairs.{pairs_view}
 use Rattle.jn_store.specs.Store.{StoreView}
 use Rattle.jn_written.specs.Chances.{Setup, Chance}

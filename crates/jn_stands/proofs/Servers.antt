@@ -12,8 +12,8 @@ use Rattle.jn_net.specs.declared.Sent.{Sent as Posted}
 use Rattle.jn_place.specs.declared.place.Place.{Place}
 use Rattle.jn_place.specs.declared.place.Slot.{Slot}
 use Rattle.jn_place.specs.declared.place.Slot.TheVariants.{Up, Down, Gone}
-use Rattle.jn_protocol.specs.World.{World, Memory, commits_in, has_line}
-use Rattle.jn_protocol.specs.Steps.{Step, after}
+use Rattle.jn_system.specs.WholeSystem.World.{World, Memory, commits_in, has_line}
+use Rattle.jn_system.specs.WholeSystem.Steps.{Step, after}
 use Rattle.jn_records.specs.StablePages.{Counts}
 use Rattle.jn_recovery.specs.Loading.{counts_by}
 use Rattle.jn_report.specs.declared.line.Text.{Text}
@@ -21,7 +21,7 @@ use Rattle.jn_rests.specs.Waiting.{sent_of, are_new, delivered_by}
 use Rattle.jn_rests.proofs.Numbers.{carries-step}
 use Rattle.jn_rows.specs.Client.{ClientTable}
 use Rattle.jn_rows.specs.Stable.{StableState, Pick}
-use Rattle.jn_settling.specs.Course.{go}
+use Rattle.jn_system_settling.specs.Settling.Course.{go}
 use Rattle.jn_store.specs.Pairs.{pairs_view}
 use Rattle.jn_store.specs.Store.{StoreView}
 use Rattle.jn_written.specs.Chances.{Setup}

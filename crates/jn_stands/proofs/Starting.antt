@@ -11,7 +11,7 @@ use Rattle.jn_order.specs.Files.{AllFiles}
 use Rattle.jn_place.specs.declared.place.Place.{Place}
 use Rattle.jn_place.specs.declared.place.Slot.{Slot}
 use Rattle.jn_place.specs.declared.place.Slot.TheVariants.{Up, Down, Gone}
-use Rattle.jn_protocol.specs.World.{Memory, new_memory}
+use Rattle.jn_system.specs.WholeSystem.World.{Memory, new_memory}
 use Rattle.jn_records.specs.StablePages.{Counts}
 use Rattle.jn_rests.specs.Waiting.{Carries}
 use Rattle.jn_recovery.specs.Loading.{counts_by}

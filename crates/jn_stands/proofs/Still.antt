@@ -10,9 +10,9 @@ use Rattle.jn_schedule.specs.declared.Event.{Event}
 use Rattle.jn_schedule.specs.declared.Event.TheVariants as events
 use Rattle.jn_serial.specs.Lines.{history_of}
 use Rattle.jn_store.specs.Store.{StoreView}
-use Rattle.jn_protocol.specs.World.{commits_in}
-use Rattle.jn_protocol.specs.Steps.{NextEvent}
-use Rattle.jn_settling.specs.Course.{go}
+use Rattle.jn_system.specs.WholeSystem.World.{commits_in}
+use Rattle.jn_system.specs.WholeSystem.Steps.{NextEvent}
+use Rattle.jn_system_settling.specs.Settling.Course.{go}
 use Rattle.jn_rests.specs.Waiting.{Carries}
 use Rattle.jn_rests.proofs.Numbers.{carries-step}
 use Rattle.jn_within.proofs.WorldSteps.{run-within}

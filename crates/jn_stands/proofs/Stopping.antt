@@ -8,12 +8,12 @@ use Rattle.jn_base.specs.Names.{server_eq}
 use Rattle.jn_device.specs.Device.{DeviceState}
 use Rattle.jn_device.specs.Events.{powered_off, cleared}
 use Rattle.jn_found.specs.Pages.{found_on}
-use Rattle.jn_machine.specs.Steps.{changed, with_epoch}
+use Rattle.jn_system.specs.SmallSteps.Steps.{changed, with_epoch}
 use Rattle.jn_place.specs.declared.place.Place.{Place}
 use Rattle.jn_place.specs.declared.place.Slot.TheVariants.{Down}
 use Rattle.jn_place.specs.Exact.{IsTried, IsStoppedUp, IsUsedUpAt, texts_of_step}
-use Rattle.jn_protocol.specs.World.{World, Memory}
-use Rattle.jn_protocol.specs.Steps.{Narrow, StopRestart, after, narrow, stop_restart}
+use Rattle.jn_system.specs.WholeSystem.World.{World, Memory}
+use Rattle.jn_system.specs.WholeSystem.Steps.{Narrow, StopRestart, after, narrow, stop_restart}
 use Rattle.jn_recovery.specs.Loading.{counts_by}
 use Rattle.jn_report.specs.declared.line.EventRefusal.TheVariants.{EpochsUsedUp}
 use Rattle.jn_report.specs.declared.line.Line.{Line}
@@ -21,7 +21,7 @@ use Rattle.jn_report.specs.declared.line.Text.{Text}
 use Rattle.jn_report.specs.declared.line.Text.TheVariants as says
 use Rattle.jn_rests.specs.Waiting.{Carries}
 use Rattle.jn_rows.specs.Stable.{StableState, Pick}
-use Rattle.jn_settling.specs.Course.{go, go_on}
+use Rattle.jn_system_settling.specs.Settling.Course.{go, go_on}
 use Rattle.jn_store.specs.Pairs.{pairs_view}
 use Rattle.jn_store.specs.Store.{StoreView}
 use Rattle.jn_written.specs.Chances.{Setup, Chance}

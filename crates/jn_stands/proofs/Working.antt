@@ -9,9 +9,9 @@ use Rattle.jn_place.specs.declared.place.Place.{Place}
 use Rattle.jn_place.specs.declared.place.Slot.{Slot}
 use Rattle.jn_place.specs.declared.place.Slot.TheVariants.{Up, Down, Gone}
 use Rattle.jn_place.specs.Exact.{has_work_at, work_of, WorkedBy}
-use Rattle.jn_protocol.specs.Servers.{Room, server_step}
-use Rattle.jn_protocol.specs.Steps.{IsStep, after, ends, work, works}
-use Rattle.jn_protocol.specs.World.{World, Memory}
+use Rattle.jn_system.specs.WholeSystem.Servers.{Room, server_step}
+use Rattle.jn_system.specs.WholeSystem.Steps.{IsStep, after, ends, work, works}
+use Rattle.jn_system.specs.WholeSystem.World.{World, Memory}
 use Rattle.jn_recovery.specs.Loading.{counts_by}
 use Rattle.jn_report.specs.declared.line.Line.{Line}
 use Rattle.jn_rests.specs.Waiting.{delivered_by}
@@ -20,7 +20,7 @@ use Rattle.jn_rows.specs.Outcomes.{RowOutcome}
 use Rattle.jn_rows.specs.Stable.{StableState, Change, Pick, stable}
 use Rattle.jn_schedule.specs.declared.Event.TheVariants as events
 use Rattle.jn_server.specs.Seen.{Parts, view_with, memory_of, room_of}
-use Rattle.jn_settling.specs.Settle.{working, is_busy as has_going}
+use Rattle.jn_system_settling.specs.Settling.Settle.{working, is_busy as has_going}
 use Rattle.jn_storage.specs.Calls.{state}
 use Rattle.jn_store.specs.Pairs.{pairs_view}
 use Rattle.jn_store.specs.Store.{StoreView}

@@ -2,7 +2,7 @@
 use Rattle.std.specs.Prelude.{List, [], map, Option, Some, None}
 use Rattle.jn_base.specs.declared.names.ServerNo.{ServerNo}
 use Rattle.jn_report.specs.declared.line.Text.{Text}
-use Rattle.jn_reported.specs.Printing.{text_printed}
+use Rattle.jn_system_reports.specs.Reporting.Printing.{text_printed}
 use Rattle.jn_server.specs.declared.show.Shown.{Shown}
 use Rattle.jn_server.specs.Showing.{print_of}
 

@@ -13,8 +13,8 @@ use Rattle.jn_net.specs.declared.Sent.{Sent as Posted}
 use Rattle.jn_place.specs.declared.place.Place.{Place}
 use Rattle.jn_place.specs.declared.place.Slot.{Slot}
 use Rattle.jn_place.specs.declared.place.Slot.TheVariants.{Up, Down, Gone}
-use Rattle.jn_protocol.specs.Servers.{lines_of}
-use Rattle.jn_protocol.specs.World.{Memory, commits_in, has_line}
+use Rattle.jn_system.specs.WholeSystem.Servers.{lines_of}
+use Rattle.jn_system.specs.WholeSystem.World.{Memory, commits_in, has_line}
 use Rattle.jn_records.specs.StablePages.{Counts}
 use Rattle.jn_recovery.specs.Loading.{counts_by}
 use Rattle.jn_report.specs.declared.line.Text.{Text}

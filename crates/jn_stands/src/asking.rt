@@ -6,7 +6,7 @@ ghost use Rattle.jn_base.specs.declared.names.Party.TheVariants.{Client};
 ghost use Rattle.jn_base.specs.declared.op.Command.{Command};
 ghost use Rattle.jn_net.specs.declared.Sent.{Sent as Posted};
 ghost use Rattle.jn_net.specs.Carried.{with_delivered};
-ghost use Rattle.jn_protocol.specs.Steps.{sent_now};
+ghost use Rattle.jn_system.specs.WholeSystem.Steps.{sent_now};
 ghost use Rattle.jn_report.specs.declared.line.Line.{Line};
 ghost use Rattle.jn_rows.specs.Client.{ClientTable, new_table, Commanded, command_row, take_row, again_row};
 ghost use Rattle.jn_schedule.specs.declared.Event.TheVariants as events;

@@ -19,7 +19,7 @@ use Rattle.jn_rows.specs.Client.{ClientTable, Commanded, Refuses, Sends, new_tab
 use Rattle.jn_rows.specs.ClientLaws.{IsClient, are_apart, after_command}
 use Rattle.jn_rows.proofs.ClientKeeps.{command_keeps, take_keeps, names_are_few}
 use Rattle.jn_within.specs.Taking.{sent_for}
-use Rattle.jn_settling.specs.Sizes.{are_near, is_few}
+use Rattle.jn_system_settling.specs.Settling.Sizes.{are_near, is_few}
 use Rattle.jn_within.specs.Naming.{is_near, is_any_near, names_near, is_within, are_within, is_again_within, ClientWithin, CommandWithin}
 
 -- ---- commands

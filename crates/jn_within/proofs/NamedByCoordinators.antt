@@ -19,7 +19,7 @@ use Rattle.jn_rows.specs.declared.coordinator.Committed.{Committed as Commitment
 use Rattle.jn_rows.specs.Stable.{Change}
 use Rattle.jn_rows.specs.Outcomes.{RowOutcome, Sent}
 use Rattle.jn_rows.specs.Coordinator.{CoordinatorTable, transaction_at, with_stage, without, all_in, is_work, besides, drops, commits, prepares, commit_row, abort_row, forget_row, thanked, thanked_changes, closed, after_closing, changes_of_closing, begin_new, begin_again, begun_by, begin_row, seen_now, end_promised, end_stage, end_row, not_known, abort_stage, abort_request, told_stage, inquire_row, counted_vote, vote_stage, vote_row, done_stage, done_row, thanks_stage, thanks_row, with_work, coordinator_row, told_again, coordinator_again, all_thanked, flags_of_thanked, close_clients_row}
-use Rattle.jn_settling.specs.Sizes.{are_near, is_few, is_small_stage}
+use Rattle.jn_system_settling.specs.Settling.Sizes.{are_near, is_few, is_small_stage}
 use Rattle.jn_within.specs.Naming.{is_near, names_near, are_within, is_transaction_within, are_transactions_within, are_changes_within}
 
 -- ---- lists of works

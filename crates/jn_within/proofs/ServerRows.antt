@@ -11,11 +11,11 @@ use Rattle.jn_rows.specs.Stable.{StableState, Prepared, FlagState, Change, AddRe
 use Rattle.jn_rows.specs.Outcomes.{RowOutcome}
 use Rattle.jn_rows.specs.Worker.{WorkerTable, work_of, worker_row, worker_step, worker_again, timed_out, restored_work, restored_worker}
 use Rattle.jn_rows.specs.Coordinator.{coordinator_row, coordinator_again, close_clients_row, restored_transaction, restored_transactions}
-use Rattle.jn_protocol.specs.World.{Memory}
-use Rattle.jn_protocol.specs.Servers.{Room, storage_of, server_row, server_step, server_again, server_timeout, of_worker, of_coordinator, of_step, of_timeout, is_for_worker, restored}
+use Rattle.jn_system.specs.WholeSystem.World.{Memory}
+use Rattle.jn_system.specs.WholeSystem.Servers.{Room, storage_of, server_row, server_step, server_again, server_timeout, of_worker, of_coordinator, of_step, of_timeout, is_for_worker, restored}
 use Rattle.jn_within.specs.Taking.{are_from_server}
 use Rattle.jn_within.specs.Drawing.{AreDrawn}
-use Rattle.jn_settling.specs.Sizes.{is_few}
+use Rattle.jn_system_settling.specs.Settling.Sizes.{is_few}
 use Rattle.jn_within.specs.Naming.{is_near, are_both_near, names_near, are_within, are_works_within, are_transactions_within, is_change_within, are_changes_within, StateWithin}
 use Rattle.jn_within.specs.Within.{MemoryWithin, RowWithin}
 use Rattle.jn_within.proofs.Sending.{IsPlain, both, worker-plain, step-plain, worker-again-are, coordinator-plain, coordinator-again-are}

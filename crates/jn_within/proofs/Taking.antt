@@ -25,7 +25,7 @@ use Rattle.jn_rows.specs.Outcomes.{Sent}
 use Rattle.jn_rows.specs.Client.{ClientTable, Commanded, Refuses, Sends, new_table, command_row, take_row, again_row, sent_again, over, work_at, if_server, if_idle, if_transaction, if_no_transaction, if_open, if_not_open, if_waits, ignored, is_current, begun_row, opened_row, decided_row, outcome_row}
 use Rattle.jn_rows.specs.ClientLaws.{IsClient, after_command}
 use Rattle.jn_rows.proofs.ClientKeeps.{command_keeps, take_keeps, names_are_few}
-use Rattle.jn_protocol.specs.Steps.{sent_now}
+use Rattle.jn_system.specs.WholeSystem.Steps.{sent_now}
 use Rattle.jn_schedule.specs.declared.Event.TheVariants as events
 use Rattle.jn_schedule.specs.Grammar.{op_parts}
 use Rattle.jn_schedule.specs.Ranges.{PartsInRange, EventInRange}

@@ -18,10 +18,10 @@ use Rattle.jn_rows.specs.Client.{ClientTable, Commanded, Refuses, Sends, take_ro
 use Rattle.jn_rows.specs.Coordinator.{close_clients_row}
 use Rattle.jn_rows.specs.Outcomes.{RowOutcome, Sent}
 use Rattle.jn_rows.specs.Stable.{StableState, Prepared, FlagState, Pick, made_all, stable}
-use Rattle.jn_machine.specs.Steps.{with_epoch}
-use Rattle.jn_protocol.specs.World.{World, Memory, at_server, at_client, new_memory, opening}
-use Rattle.jn_protocol.specs.Servers.{Room, server_step, server_timeout, of_coordinator, restored}
-use Rattle.jn_protocol.specs.Steps.{Step, NextEvent, Tell, Again, Deliver, Work, Nudge, Timeout, StopDelivery, StopWork, Crash, Narrow, StopRestart, Restart, Dismiss, CloseClients, after, run, ends, at_memory, handed, work, works, nudge, timeout, crash, narrow, stop_restart, restart, close_clients, took, commanded, sent_now}
+use Rattle.jn_system.specs.SmallSteps.Steps.{with_epoch}
+use Rattle.jn_system.specs.WholeSystem.World.{World, Memory, at_server, at_client, new_memory, opening}
+use Rattle.jn_system.specs.WholeSystem.Servers.{Room, server_step, server_timeout, of_coordinator, restored}
+use Rattle.jn_system.specs.WholeSystem.Steps.{Step, NextEvent, Tell, Again, Deliver, Work, Nudge, Timeout, StopDelivery, StopWork, Crash, Narrow, StopRestart, Restart, Dismiss, CloseClients, after, run, ends, at_memory, handed, work, works, nudge, timeout, crash, narrow, stop_restart, restart, close_clients, took, commanded, sent_now}
 use Rattle.jn_within.specs.Taking.{sent_for}
 use Rattle.jn_within.specs.Naming.{is_near, is_for_near, names_near, is_within, are_within, is_again_within, ClientWithin, CommandWithin, StateWithin}
 use Rattle.jn_within.specs.Within.{MemoryWithin, RowWithin, Within}

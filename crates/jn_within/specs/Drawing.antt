@@ -5,7 +5,7 @@ use Rattle.jn_base.specs.declared.names.ServerNo.{ServerNo}
 use Rattle.jn_base.specs.declared.names.Tickets.{Tickets}
 use Rattle.jn_rows.specs.Client.{ClientTable, Commanded, Refuses, Sends}
 use Rattle.jn_rows.specs.Outcomes.{Sent}
-use Rattle.jn_protocol.specs.World.{World, Memory}
+use Rattle.jn_system.specs.WholeSystem.World.{World, Memory}
 
 -- these tickets are as those, but for names that were drawn since, no more than these messages
 pub record AreDrawn (before : Tickets) (sent : List Sent) (after : Tickets) : Type 0 where

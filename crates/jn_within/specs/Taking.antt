@@ -9,7 +9,7 @@ use Rattle.jn_rows.specs.declared.client.Taken.TheVariants.{Ignored, Send, Told}
 use Rattle.jn_rows.specs.Client.{ClientTable, Commanded, Refuses, Sends, again_row}
 use Rattle.jn_rows.specs.ClientLaws.{IsClient}
 use Rattle.jn_rows.specs.Outcomes.{Sent}
-use Rattle.jn_protocol.specs.Steps.{sent_now}
+use Rattle.jn_system.specs.WholeSystem.Steps.{sent_now}
 use Rattle.jn_storage.specs.Viewing.{BlockInRange}
 use Rattle.jn_worker.specs.Handling.{InRange}
 use Rattle.jn_coord.specs.Handling.{FewWorks}

@@ -4,7 +4,7 @@ use Rattle.jn_base.specs.declared.names.ServerNo.{ServerNo}
 use Rattle.jn_base.specs.declared.names.ClientNo.{ClientNo}
 use Rattle.jn_rows.specs.Outcomes.{RowOutcome}
 use Rattle.jn_rows.specs.Stable.{Pick}
-use Rattle.jn_protocol.specs.World.{World, Memory}
+use Rattle.jn_system.specs.WholeSystem.World.{World, Memory}
 use Rattle.jn_within.specs.Naming.{are_within, ClientWithin, are_works_within, are_transactions_within, are_changes_within, StateWithin}
 
 -- its own number, its works and its transactions

@@ -11,8 +11,8 @@ ghost use Rattle.jn_rows.specs.Client.{ClientTable, new_table, command_row, take
 ghost use Rattle.jn_rows.specs.Coordinator.{close_clients_row};
 ghost use Rattle.jn_rows.specs.Outcomes.{RowOutcome};
 ghost use Rattle.jn_rows.specs.Stable.{StableState, Change, made_all};
-ghost use Rattle.jn_protocol.specs.Servers.{Room, server_row, server_step, server_again, server_timeout, of_coordinator, restored};
-ghost use Rattle.jn_protocol.specs.World.{Memory};
+ghost use Rattle.jn_system.specs.WholeSystem.Servers.{Room, server_row, server_step, server_again, server_timeout, of_coordinator, restored};
+ghost use Rattle.jn_system.specs.WholeSystem.World.{Memory};
 ghost use Rattle.jn_within.specs.Naming.{is_near, names_near, are_within, are_changes_within, ClientWithin, CommandWithin, StateWithin};
 ghost use Rattle.jn_within.specs.Taking.{sent_for};
 ghost use Rattle.jn_within.specs.Within.{MemoryWithin, RowWithin};

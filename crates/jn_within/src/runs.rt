@@ -5,8 +5,8 @@ ghost use Rattle.jn_base.specs.declared.names.ServerNo.{ServerNo};
 ghost use Rattle.jn_base.specs.declared.names.Party.TheVariants.{Server};
 ghost use Rattle.jn_order.specs.Files.{AllFiles};
 ghost use Rattle.jn_msgs.specs.declared.message.Message.{Message};
-ghost use Rattle.jn_protocol.specs.Steps.{Step, run};
-ghost use Rattle.jn_protocol.specs.World.{opening};
+ghost use Rattle.jn_system.specs.WholeSystem.Steps.{Step, run};
+ghost use Rattle.jn_system.specs.WholeSystem.World.{opening};
 ghost use Rattle.jn_within.specs.Drawing.{AreCovered};
 ghost use Rattle.jn_within.specs.Within.{Within};
 

@@ -6,8 +6,8 @@ ghost use Rattle.jn_msgs.specs.declared.message.Message.{Message};
 ghost use Rattle.jn_rows.specs.Coordinator.{close_clients_row};
 ghost use Rattle.jn_rows.specs.Outcomes.{RowOutcome, Sent};
 ghost use Rattle.jn_rows.specs.Stable.{StableState};
-ghost use Rattle.jn_protocol.specs.Servers.{Room, server_row, server_step, server_again, server_timeout, of_coordinator};
-ghost use Rattle.jn_protocol.specs.World.{Memory};
+ghost use Rattle.jn_system.specs.WholeSystem.Servers.{Room, server_row, server_step, server_again, server_timeout, of_coordinator};
+ghost use Rattle.jn_system.specs.WholeSystem.World.{Memory};
 ghost use Rattle.jn_within.specs.Taking.{AllCanBeTaken, are_from_server};
 ghost use Rattle.jn_within.specs.Drawing.{AreDrawn};
 

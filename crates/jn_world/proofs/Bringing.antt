@@ -15,7 +15,7 @@ use Rattle.jn_place.specs.declared.place.Slot.{Slot}
 use Rattle.jn_place.specs.declared.place.Slot.TheVariants.{Up, Down, Gone}
 use Rattle.jn_place.specs.Exact.{IsRestart}
 use Rattle.jn_place.specs.Places.{IsPlace, Stands as StandsThere}
-use Rattle.jn_protocol.specs.World.{commits_in, has_line}
+use Rattle.jn_system.specs.WholeSystem.World.{commits_in, has_line}
 use Rattle.jn_records.specs.StablePages.{Counts}
 use Rattle.jn_recovery.specs.Loading.{counts_by}
 use Rattle.jn_report.specs.declared.line.Line.{Line}

@@ -18,8 +18,8 @@ use Rattle.jn_place.specs.declared.place.Slot.{Slot}
 use Rattle.jn_place.specs.declared.place.Slot.TheVariants.{Up, Down, Gone}
 use Rattle.jn_place.specs.Exact.{Took, WorkedBy, AsksAgain, TimedOut, IsTimedOut, has_work_at, ReadsPages as PlaceReads}
 use Rattle.jn_place.specs.Places.{Stands as StandsThere, IsPlace, is_up}
-use Rattle.jn_protocol.specs.Servers.{server_timeout, of_timeout}
-use Rattle.jn_protocol.specs.World.{Memory as ServerMemory}
+use Rattle.jn_system.specs.WholeSystem.Servers.{server_timeout, of_timeout}
+use Rattle.jn_system.specs.WholeSystem.World.{Memory as ServerMemory}
 use Rattle.jn_records.specs.StablePages.{Counts}
 use Rattle.jn_recovery.specs.Memory.{Memory as Kept, view_of}
 use Rattle.jn_recovery.specs.Loading.{counts_by}

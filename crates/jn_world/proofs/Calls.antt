@@ -4,10 +4,10 @@ use Rattle.std.proofs.lemmas.List.{map-append}
 use Rattle.jn_base.specs.declared.names.ServerNo.{ServerNo}
 use Rattle.jn_base.specs.declared.names.ClientNo.{ClientNo}
 use Rattle.jn_device.specs.Device.{DeviceState}
-use Rattle.jn_protocol.specs.World.{servers_from}
+use Rattle.jn_system.specs.WholeSystem.World.{servers_from}
 use Rattle.jn_report.specs.declared.line.Line.{Line}
 use Rattle.jn_report.specs.declared.line.When.{When}
-use Rattle.jn_settling.specs.Settle.{clients_from}
+use Rattle.jn_system_settling.specs.Settling.Settle.{clients_from}
 use Rattle.jn_stands.specs.Going.{IsTold, WentOn, WasCut, IsStepTo}
 use Rattle.jn_stands.specs.Stands.{Standing, Stands}
 use Rattle.jn_store.specs.Store.{StoreView}

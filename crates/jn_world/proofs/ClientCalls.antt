@@ -11,7 +11,7 @@ use Rattle.jn_device.specs.Device.{DeviceState}
 use Rattle.jn_net.specs.Carried.{Carried, with_delivered}
 use Rattle.jn_rows.specs.declared.client.Taken.{Taken}
 use Rattle.jn_net.specs.declared.Sent.{Sent as Posted}
-use Rattle.jn_protocol.specs.Steps.{sent_now}
+use Rattle.jn_system.specs.WholeSystem.Steps.{sent_now}
 use Rattle.jn_report.specs.declared.line.Line.{Line}
 use Rattle.jn_report.specs.declared.line.Text.{Text}
 use Rattle.jn_report.specs.declared.line.Text.TheVariants as says

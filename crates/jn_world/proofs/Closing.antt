@@ -13,7 +13,7 @@ use Rattle.jn_place.specs.declared.place.Slot.{Slot}
 use Rattle.jn_place.specs.declared.place.Slot.TheVariants.{Up, Down, Gone}
 use Rattle.jn_place.specs.Exact.{Closed}
 use Rattle.jn_place.specs.Places.{Stands as StandsThere, is_up}
-use Rattle.jn_protocol.specs.Steps.{IsIdle}
+use Rattle.jn_system.specs.WholeSystem.Steps.{IsIdle}
 use Rattle.jn_records.specs.StablePages.{Counts}
 use Rattle.jn_recovery.specs.Loading.{counts_by}
 use Rattle.jn_report.specs.declared.line.Line.{Line}

@@ -17,7 +17,7 @@ use Rattle.jn_msgs.specs.Collected.{Collected}
 use Rattle.jn_msgs.specs.declared.message.Message.{Message}
 use Rattle.jn_net.specs.Carried.{Carried, with_delivered}
 use Rattle.jn_net.specs.declared.Sent.{Sent as Posted}
-use Rattle.jn_protocol.specs.Steps.{sent_now}
+use Rattle.jn_system.specs.WholeSystem.Steps.{sent_now}
 use Rattle.jn_records.specs.StablePages.{Counts}
 use Rattle.jn_recovery.specs.Loading.{counts_by}
 use Rattle.jn_recovery.specs.declared.counts.PageCounts.{PageCounts}

@@ -9,7 +9,7 @@ use Rattle.jn_place.specs.declared.place.Place.{Place}
 use Rattle.jn_place.specs.declared.place.Slot.{Slot}
 use Rattle.jn_place.specs.declared.place.Slot.TheVariants.{Up, Down, Gone}
 use Rattle.jn_place.specs.Places.{is_up}
-use Rattle.jn_protocol.specs.World.{World as Protocol, Memory as ServerMemory}
+use Rattle.jn_system.specs.WholeSystem.World.{World as Protocol, Memory as ServerMemory}
 use Rattle.jn_recovery.specs.Loading.{counts_by}
 use Rattle.jn_report.specs.declared.line.EventRefusal.{EventRefusal}
 use Rattle.jn_report.specs.declared.line.EventRefusal.TheVariants as refusals

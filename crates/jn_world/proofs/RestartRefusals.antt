@@ -3,7 +3,7 @@ use Rattle.std.proofs.Common.{◌≡◌, ◌<◌, true, false, length, Option, S
 use Rattle.std.specs.Prelude.{nat_lt}
 use Rattle.jn_base.specs.declared.names.ServerNo.{ServerNo}
 use Rattle.jn_device.specs.Device.{DeviceState}
-use Rattle.jn_protocol.specs.World.{Memory}
+use Rattle.jn_system.specs.WholeSystem.World.{Memory}
 use Rattle.jn_report.specs.declared.line.EventRefusal.TheVariants as refusals
 use Rattle.jn_schedule.specs.declared.Event.TheVariants.{Restart}
 use Rattle.jn_stands.specs.Stands.{Standing, Stands}

@@ -12,8 +12,8 @@ use Rattle.jn_base.specs.Names.{tid_eq}
 use Rattle.jn_msgs.specs.declared.message.Note.{Note}
 use Rattle.jn_msgs.specs.Kinds.{kind_of}
 use Rattle.jn_net.specs.declared.Sent.{Sent as Posted}
-use Rattle.jn_protocol.specs.Servers.{line_of, lines_of}
-use Rattle.jn_protocol.specs.World.{commits_in, has_line}
+use Rattle.jn_system.specs.WholeSystem.Servers.{line_of, lines_of}
+use Rattle.jn_system.specs.WholeSystem.World.{commits_in, has_line}
 use Rattle.jn_report.specs.declared.line.Line.{Line}
 use Rattle.jn_report.specs.declared.line.Text.{Text}
 use Rattle.jn_report.specs.declared.line.Text.TheVariants as says

@@ -2,7 +2,7 @@
 use Rattle.std.specs.Prelude.{◌≡◌, ℕ, List, [], ◌∷◌, ◌++◌, map, slice_get, Some}
 use Rattle.jn_base.specs.declared.names.ServerNo.{ServerNo}
 use Rattle.jn_place.specs.declared.place.Place.{Place}
-use Rattle.jn_protocol.specs.Steps.{IsIdle}
+use Rattle.jn_system.specs.WholeSystem.Steps.{IsIdle}
 use Rattle.jn_rows.specs.Client.{ClientTable}
 use Rattle.jn_schedule.specs.declared.Event.TheVariants.{Scrub, Show}
 use Rattle.jn_stands.specs.Starting.{IsStoreOf}

@@ -1,7 +1,7 @@
 -- Events of one server, and why they are refused.
 use Rattle.std.specs.Prelude.{◌≡◌, Option, None}
 use Rattle.jn_base.specs.declared.names.ServerNo.{ServerNo}
-use Rattle.jn_protocol.specs.World.{World}
+use Rattle.jn_system.specs.WholeSystem.World.{World}
 use Rattle.jn_report.specs.declared.line.EventRefusal.{EventRefusal}
 use Rattle.jn_report.specs.declared.line.EventRefusal.TheVariants.{NoSuchWork}
 use Rattle.jn_schedule.specs.declared.Event.{Event}

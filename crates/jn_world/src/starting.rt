@@ -1,6 +1,6 @@
 //! How servers come up, at the start of a run and later.
 ghost use Rattle.std.specs.Prelude.{◌≡◌, ◌<◌, ◌≤◌, ◌++◌, ◌∷◌, [], true, false, vec_len, OnOk, IfOk, IfErr};
-ghost use Rattle.jn_protocol.specs.World.{commits_in};
+ghost use Rattle.jn_system.specs.WholeSystem.World.{commits_in};
 ghost use Rattle.jn_world.specs.Naming.{has_come, newly_named, restart_texts};
 ghost use Rattle.jn_schedule.specs.declared.Event.TheVariants.{Restart};
 ghost use Rattle.jn_world.specs.Bringing.{BroughtUp, left_to_tell};

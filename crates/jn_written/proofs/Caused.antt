@@ -11,10 +11,10 @@ use Rattle.jn_report.specs.declared.line.EventRefusal.TheVariants.{TooManyArmed,
 use Rattle.jn_report.specs.declared.line.Text.{Text}
 use Rattle.jn_report.specs.declared.line.Text.TheVariants as says
 use Rattle.jn_rows.specs.Stable.{Pick}
-use Rattle.jn_protocol.specs.World.{World, Memory}
-use Rattle.jn_protocol.specs.Printing.{Printed, FileThere, PageStored, UnitLocked, print_files}
-use Rattle.jn_settling.specs.Course.{go_on}
-use Rattle.jn_reported.specs.Printing.{text_printed, prints_of}
+use Rattle.jn_system.specs.WholeSystem.World.{World, Memory}
+use Rattle.jn_system.specs.WholeSystem.Printing.{Printed, FileThere, PageStored, UnitLocked, print_files}
+use Rattle.jn_system_settling.specs.Settling.Course.{go_on}
+use Rattle.jn_system_reports.specs.Reporting.Printing.{text_printed, prints_of}
 use Rattle.jn_written.specs.Chances.{Setup, Chance}
 use Rattle.jn_written.specs.Tasks.{Task, Begins, Meets, Acts, Rests, ComesUp, Dismisses, GoesDown, ClosesClients, CountsCommits, State}
 use Rattle.jn_written.specs.Deeds.{Deed, delivered, worked, blocks_from, shown, crashed_at, is_used_up, brought_up, given_up, recovered}

@@ -11,11 +11,11 @@ use Rattle.jn_schedule.specs.declared.Event.TheVariants as events
 use Rattle.jn_report.specs.declared.line.EventRefusal.{EventRefusal}
 use Rattle.jn_rows.specs.Outcomes.{Sent}
 use Rattle.jn_rows.specs.Stable.{Pick}
-use Rattle.jn_protocol.specs.Servers.{Room}
-use Rattle.jn_protocol.specs.World.{World, Memory, servers_from}
-use Rattle.jn_protocol.specs.Steps.{Step, NextEvent}
-use Rattle.jn_settling.specs.Course.{Course, go, go_on}
-use Rattle.jn_settling.specs.Settle.{clients_from, handing, working}
+use Rattle.jn_system.specs.WholeSystem.Servers.{Room}
+use Rattle.jn_system.specs.WholeSystem.World.{World, Memory, servers_from}
+use Rattle.jn_system.specs.WholeSystem.Steps.{Step, NextEvent}
+use Rattle.jn_system_settling.specs.Settling.Course.{Course, go, go_on}
+use Rattle.jn_system_settling.specs.Settling.Settle.{clients_from, handing, working}
 use Rattle.jn_written.specs.Chances.{Setup, Chance}
 use Rattle.jn_written.specs.Tasks.{Task, Begins, Meets, Acts, Rests, ComesUp, Dismisses, GoesDown, ClosesClients, CountsCommits, Stage, InSchedule, AtEnd, CutShort, State, next_at, next_task, begun, first_of_tasks}
 use Rattle.jn_written.specs.Deeds.{Deed, delivered, delivered_at, is_busy, worked, working_steps, served, nothing, scrubbed, stopped_idle, showing, crashed_at, restarted, recovered, recovering, given_up, brought_up, is_used_up}

@@ -1,9 +1,9 @@
 -- The steps of a run with devices are a run of the whole system.
 use Rattle.std.proofs.Common.{◌≡◌, Bool, true, false, List, [], ◌∷◌, ◌++◌, refl, sym, ◌∙◌, ap, subst}
 use Rattle.std.specs.Prelude.{if◌then◌else◌}
-use Rattle.jn_protocol.specs.World.{World}
-use Rattle.jn_protocol.specs.Steps.{Step, IsStep, IsRun, after, run}
-use Rattle.jn_settling.specs.Course.{Course, go, go_on}
+use Rattle.jn_system.specs.WholeSystem.World.{World}
+use Rattle.jn_system.specs.WholeSystem.Steps.{Step, IsStep, IsRun, after, run}
+use Rattle.jn_system_settling.specs.Settling.Course.{Course, go, go_on}
 use Rattle.jn_written.specs.Chances.{Setup, Chance}
 use Rattle.jn_written.specs.Tasks.{Task, Dismisses, State, begun}
 use Rattle.jn_written.specs.Deeds.{Deed}

@@ -13,9 +13,9 @@ use Rattle.jn_report.specs.declared.line.Text.TheVariants as says
 use Rattle.jn_report.specs.declared.line.Line.{Line}
 use Rattle.jn_serial.specs.Lines.{commit_in, history_of}
 use Rattle.jn_rows.specs.Outcomes.{Sent}
-use Rattle.jn_protocol.specs.World.{World, committed_in, commits_in}
-use Rattle.jn_protocol.specs.Steps.{Step}
-use Rattle.jn_settling.specs.Course.{Course, go_on, newly_sent}
+use Rattle.jn_system.specs.WholeSystem.World.{World, committed_in, commits_in}
+use Rattle.jn_system.specs.WholeSystem.Steps.{Step}
+use Rattle.jn_system_settling.specs.Settling.Course.{Course, go_on, newly_sent}
 use Rattle.jn_written.specs.Chances.{Setup, Chance}
 use Rattle.jn_written.specs.Tasks.{Task, Begins, Meets, Acts, Rests, ComesUp, Dismisses, GoesDown, ClosesClients, CountsCommits, State, when_of, begun}
 use Rattle.jn_written.specs.Deeds.{Use, Calls, Reads, Recovers, Deed}

@@ -11,8 +11,8 @@ use Rattle.jn_report.specs.declared.line.When.TheVariants.{Event as AtEvent, End
 use Rattle.jn_report.specs.declared.line.Text.{Text}
 use Rattle.jn_report.specs.declared.line.Line.{Line}
 use Rattle.jn_serial.specs.Lines.{is_before}
-use Rattle.jn_protocol.specs.Steps.{Step, NextEvent}
-use Rattle.jn_settling.specs.Course.{Course, go, go_on}
+use Rattle.jn_system.specs.WholeSystem.Steps.{Step, NextEvent}
+use Rattle.jn_system_settling.specs.Settling.Course.{Course, go, go_on}
 use Rattle.jn_written.specs.Chances.{Setup, Chance}
 use Rattle.jn_written.specs.Tasks.{Task, Dismisses, Stage, InSchedule, AtEnd, CutShort, State, when_at, when_of, next_at, next_task, begun}
 use Rattle.jn_written.specs.Deeds.{Deed}

@@ -7,7 +7,7 @@ use Rattle.jn_locks.specs.Locks as locks
 use Rattle.jn_schedule.specs.declared.Event.TheVariants as events
 use Rattle.jn_report.specs.declared.line.EventRefusal.TheVariants as refusals
 use Rattle.jn_report.specs.declared.line.Text.TheVariants as says
-use Rattle.jn_settling.specs.Rows.{s0, s1, c1, c2, tid, file, block, half_made, the_work}
+use Rattle.jn_system_settling.specs.Settling.Rows.{s0, s1, c1, c2, tid, file, block, half_made, the_work}
 use Rattle.jn_written.specs.Examples.{calm, calmly, block_of, at_step, stopped, finding, report, line, at_end, a_reader_gives_way, a_prepare_is_stopped, restarts_are_stopped, pages_fail, events_are_refused, half_prepared, half_committed}
 
 pub nothing_happens : report 1 calmly 40 []

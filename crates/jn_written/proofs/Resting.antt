@@ -9,8 +9,8 @@ use Rattle.jn_report.specs.declared.line.Line.{Line}
 use Rattle.jn_report.specs.declared.line.Text.{Text}
 use Rattle.jn_report.specs.declared.line.Text.TheVariants.{RefusedEvent}
 use Rattle.jn_rows.specs.Outcomes.{Sent}
-use Rattle.jn_protocol.specs.World.{World, servers_from}
-use Rattle.jn_settling.specs.Course.{Course, newly_sent}
+use Rattle.jn_system.specs.WholeSystem.World.{World, servers_from}
+use Rattle.jn_system_settling.specs.Settling.Course.{Course, newly_sent}
 use Rattle.jn_written.specs.Chances.{Setup, Chance}
 use Rattle.jn_written.specs.Tasks.{Task, Meets, Rests, CutShort, State, when_of, begun}
 use Rattle.jn_written.specs.Deeds.{Deed, is_busy, nobody, nothing, tells}

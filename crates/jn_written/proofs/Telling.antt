@@ -25,9 +25,9 @@ use Rattle.jn_rows.specs.Stable.{Pick, stable}
 use Rattle.jn_rows.specs.Outcomes.{RowOutcome, Sent}
 use Rattle.jn_rows.specs.Client.{ClientTable, Commanded, Refuses, Sends, command_row, take_row, if_waits, begun_row, opened_row, answer_line, outcome_row, is_current, is_end_or_abort, over}
 use Rattle.jn_rows.specs.Coordinator.{close_clients_row}
-use Rattle.jn_protocol.specs.World.{World, Memory, has_line}
-use Rattle.jn_protocol.specs.Servers.{Room, server_step, server_row, of_coordinator, lines_of, named_now}
-use Rattle.jn_protocol.specs.Steps.{Step, NextEvent, Tell, Again, Deliver, Work, Nudge, Timeout, StopDelivery, StopWork, Crash, Narrow, StopRestart, Restart, Dismiss, CloseClients, after, ends, at_memory, handed, work, works, nudge, timeout, crash, narrow, stop_restart, restart, close_clients, commanded, took}
+use Rattle.jn_system.specs.WholeSystem.World.{World, Memory, has_line}
+use Rattle.jn_system.specs.WholeSystem.Servers.{Room, server_step, server_row, of_coordinator, lines_of, named_now}
+use Rattle.jn_system.specs.WholeSystem.Steps.{Step, NextEvent, Tell, Again, Deliver, Work, Nudge, Timeout, StopDelivery, StopWork, Crash, Narrow, StopRestart, Restart, Dismiss, CloseClients, after, ends, at_memory, handed, work, works, nudge, timeout, crash, narrow, stop_restart, restart, close_clients, commanded, took}
 use Rattle.jn_written.specs.Kinds.{is_answer, is_note, is_of_delivery, is_up, is_stopped, may_tell, event_after}
 
 pub record Adds (test : Text → Bool) (event : ℕ) (w now : World) : Type 0 where

@@ -21,11 +21,11 @@ use Rattle.jn_report.specs.declared.line.Text.{Text}
 use Rattle.jn_report.specs.declared.line.Text.TheVariants as says
 use Rattle.jn_rows.specs.Stable.{Pick}
 use Rattle.jn_rows.specs.Outcomes.{Sent}
-use Rattle.jn_protocol.specs.World.{World, Memory}
-use Rattle.jn_protocol.specs.Steps.{Step, after}
-use Rattle.jn_protocol.specs.Printing.{Printed, FileThere, PageStored, UnitLocked}
-use Rattle.jn_settling.specs.Course.{Course, go, go_on, newly_sent}
-use Rattle.jn_reported.specs.Printing.{text_printed}
+use Rattle.jn_system.specs.WholeSystem.World.{World, Memory}
+use Rattle.jn_system.specs.WholeSystem.Steps.{Step, after}
+use Rattle.jn_system.specs.WholeSystem.Printing.{Printed, FileThere, PageStored, UnitLocked}
+use Rattle.jn_system_settling.specs.Settling.Course.{Course, go, go_on, newly_sent}
+use Rattle.jn_system_reports.specs.Reporting.Printing.{text_printed}
 use Rattle.jn_written.specs.Chances.{Setup, Chance}
 use Rattle.jn_written.specs.Tasks.{Task, Begins, Meets, Acts, Rests, ComesUp, Dismisses, GoesDown, ClosesClients, CountsCommits, State}
 use Rattle.jn_written.specs.Deeds.{Use, Calls, Reads, Recovers, Deed, delivered, delivered_at, is_busy, worked, shown, crashed_at, is_used_up, restarted, brought_up, given_up, recovered, served, nothing, working_steps}

@@ -10,10 +10,10 @@ use Rattle.jn_store.specs.Pairs.{pairs_view}
 use Rattle.jn_store.specs.Store.{StoreLater}
 use Rattle.jn_found.specs.Pages.{pool_on, found_on}
 use Rattle.jn_rows.specs.Stable.{Pick, stable}
-use Rattle.jn_protocol.specs.World.{World, Memory}
-use Rattle.jn_protocol.specs.Steps.{AreNames, run, IsRun}
-use Rattle.jn_protocol.specs.Printing.{file_before}
-use Rattle.jn_reported.specs.Printing.{prints_of}
+use Rattle.jn_system.specs.WholeSystem.World.{World, Memory}
+use Rattle.jn_system.specs.WholeSystem.Steps.{AreNames, run, IsRun}
+use Rattle.jn_system.specs.WholeSystem.Printing.{file_before}
+use Rattle.jn_system_reports.specs.Reporting.Printing.{prints_of}
 use Rattle.jn_server.specs.Standing.{standing_pages, free_on, has_rubbish}
 use Rattle.jn_written.specs.Chances.{Setup, Chance}
 use Rattle.jn_written.specs.Deeds.{Use, Nothing, Calls, Reads, Recovers, PowersOff, Decays, Revives, Arms, Disarms, Deed}

@@ -12,10 +12,10 @@ use Rattle.jn_report.specs.declared.line.Line.{Line}
 use Rattle.jn_report.specs.declared.line.Text.{Text}
 use Rattle.jn_report.specs.declared.line.Text.TheVariants as says
 use Rattle.jn_serial.specs.Lines.{history_of}
-use Rattle.jn_protocol.specs.World.{World, servers_from}
-use Rattle.jn_protocol.specs.Steps.{NextEvent, Tell, Again, Nudge, Timeout, Dismiss, CloseClients}
-use Rattle.jn_settling.specs.Course.{Course}
-use Rattle.jn_settling.specs.Settle.{clients_from}
+use Rattle.jn_system.specs.WholeSystem.World.{World, servers_from}
+use Rattle.jn_system.specs.WholeSystem.Steps.{NextEvent, Tell, Again, Nudge, Timeout, Dismiss, CloseClients}
+use Rattle.jn_system_settling.specs.Settling.Course.{Course}
+use Rattle.jn_system_settling.specs.Settling.Settle.{clients_from}
 use Rattle.jn_written.specs.Chances.{Setup, Chance}
 use Rattle.jn_written.specs.Tasks.{Task, Begins, Meets, Acts, Rests, ComesUp, Dismisses, GoesDown, ClosesClients, CountsCommits, State}
 use Rattle.jn_written.specs.Deeds.{Decays, Revives, Arms, Disarms, Deed, plain, served, nobody, nothing, tells, leaves, uses, delivered, is_busy, worked, scrubbed, showing, crashed_at, restarted, brought_up}

@@ -15,7 +15,7 @@ use Rattle.jn_report.specs.declared.line.When.TheVariants.{Event as AtEvent, End
 use Rattle.jn_report.specs.declared.line.Text.{Text}
 use Rattle.jn_report.specs.declared.line.Line.{Line}
 use Rattle.jn_rows.specs.Stable.{Pick}
-use Rattle.jn_settling.specs.Rows.{s0, s1, c1, c2, tid, file, block}
+use Rattle.jn_system_settling.specs.Settling.Rows.{s0, s1, c1, c2, tid, file, block}
 use Rattle.jn_written.specs.Chances.{Setup, Chance}
 use Rattle.jn_written.specs.Tasks.{State}
 use Rattle.jn_written.specs.Steps.{after}

@@ -10,8 +10,8 @@ use Rattle.jn_report.specs.declared.line.Text.{Text}
 use Rattle.jn_report.specs.declared.line.Text.TheVariants as says
 use Rattle.jn_report.specs.declared.line.Line.{Line}
 use Rattle.jn_serial.specs.Lines.{is_before, history_of}
-use Rattle.jn_protocol.specs.World.{World}
-use Rattle.jn_protocol.specs.Steps.{Step, NextEvent, Tell, Deliver, Work, StopDelivery, StopWork, Crash, StopRestart, Restart, CloseClients}
+use Rattle.jn_system.specs.WholeSystem.World.{World}
+use Rattle.jn_system.specs.WholeSystem.Steps.{Step, NextEvent, Tell, Deliver, Work, StopDelivery, StopWork, Crash, StopRestart, Restart, CloseClients}
 use Rattle.jn_written.specs.Chances.{Setup, Chance}
 use Rattle.jn_written.specs.Tasks.{Task, Begins, Meets, Acts}
 use Rattle.jn_written.specs.Deeds.{is_used_up}

@@ -8,7 +8,7 @@ use Rattle.jn_schedule.specs.declared.Event.TheVariants as events
 use Rattle.jn_report.specs.declared.line.EventRefusal.{EventRefusal}
 use Rattle.jn_report.specs.declared.line.EventRefusal.TheVariants as refusals
 use Rattle.jn_rows.specs.Worker.{timeout_row}
-use Rattle.jn_protocol.specs.World.{World, Memory}
+use Rattle.jn_system.specs.WholeSystem.World.{World, Memory}
 use Rattle.jn_written.specs.Chances.{Setup, physical_pages}
 
 -- a refusal, or what comes behind it

@@ -7,8 +7,8 @@ use Rattle.jn_records.specs.StablePages.{page_count}
 use Rattle.jn_store.specs.Pairs.{pairs_view}
 use Rattle.jn_schedule.specs.declared.Event.{Event}
 use Rattle.jn_report.specs.declared.line.Line.{Line}
-use Rattle.jn_protocol.specs.World.{World, new_memory, opening}
-use Rattle.jn_reported.specs.Ending.{AreFilesOf}
+use Rattle.jn_system.specs.WholeSystem.World.{World, new_memory, opening}
+use Rattle.jn_system_reports.specs.Reporting.Ending.{AreFilesOf}
 use Rattle.jn_written.specs.Chances.{Setup}
 use Rattle.jn_written.specs.Tasks.{InSchedule, CutShort, AtEnd, State}
 use Rattle.jn_written.specs.Events.{tasks_of}

@@ -12,7 +12,7 @@ ghost use Rattle.jn_order.specs.Files.{AllFiles};
 ghost use Rattle.jn_schedule.specs.declared.Event.{Event};
 ghost use Rattle.jn_report.specs.declared.line.Line.{Line};
 ghost use Rattle.jn_serial.specs.Lines.{history_of};
-ghost use Rattle.jn_protocol.specs.World.{commits_in};
+ghost use Rattle.jn_system.specs.WholeSystem.World.{commits_in};
 ghost use Rattle.jn_written.specs.Chances.{Setup, Chance};
 ghost use Rattle.jn_written.specs.Tasks.{CutShort, State};
 ghost use Rattle.jn_written.specs.Runs.{MayLead};

@@ -7,7 +7,7 @@ ghost use Rattle.jn_base.specs.declared.names.LockUnit.TheVariants.{Block};
 ghost use Rattle.jn_schedule.specs.declared.Event.TheVariants as events;
 ghost use Rattle.jn_report.specs.declared.line.EventRefusal.TheVariants as refusals;
 ghost use Rattle.jn_report.specs.declared.line.Text.TheVariants as says;
-ghost use Rattle.jn_settling.specs.Rows.{s0, s1, c1, c2, tid, file, block, half_made, the_work};
+ghost use Rattle.jn_system_settling.specs.Settling.Rows.{s0, s1, c1, c2, tid, file, block, half_made, the_work};
 ghost use Rattle.jn_written.specs.Examples.{calm, calmly, block_of, at_step, stopped, finding, report, line, at_end, a_reader_gives_way, a_prepare_is_stopped, restarts_are_stopped, pages_fail, events_are_refused, half_prepared, half_committed};
 
 /// A schedule without an event: the server comes up, goes down and comes up again.

@@ -3,12 +3,12 @@ use Rattle.std.proofs.Common.{◌≡◌, ℕ, Bool, true, false, List, [], ◌�
 use Rattle.std.proofs.Math.Seq.{drop-append_seam}
 use Rattle.jn_report.specs.declared.line.Line.{Line}
 use Rattle.jn_rows.specs.Outcomes.{Sent}
-use Rattle.jn_protocol.specs.World.{World}
+use Rattle.jn_system.specs.WholeSystem.World.{World}
 use Rattle.std.specs.Prelude.{◌||◌, if◌then◌else◌, nat_lt}
 use Rattle.jn_base.specs.declared.names.Party.{Party}
 use Rattle.jn_report.specs.declared.line.Text.{Text}
-use Rattle.jn_protocol.specs.Steps.{Step}
-use Rattle.jn_settling.specs.Course.{Course, go, go_on, newly_sent}
+use Rattle.jn_system.specs.WholeSystem.Steps.{Step}
+use Rattle.jn_system_settling.specs.Settling.Course.{Course, go, go_on, newly_sent}
 use Rattle.jn_written.specs.Chances.{Setup, Chance}
 use Rattle.jn_written.specs.Tasks.{Task, Begins, Meets, Acts, Rests, ComesUp, Dismisses, GoesDown, ClosesClients, CountsCommits, State, when_of, begun}
 use Rattle.jn_written.specs.Deeds.{Deed}

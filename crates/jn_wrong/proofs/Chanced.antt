@@ -12,11 +12,11 @@ use Rattle.jn_schedule.specs.declared.Event.TheVariants as events
 use Rattle.jn_report.specs.declared.line.Text.{Text}
 use Rattle.jn_rows.specs.Stable.{StableState, Pick}
 use Rattle.jn_locks.specs.Locks.{work_before}
-use Rattle.jn_protocol.specs.World.{World, Memory}
-use Rattle.jn_protocol.specs.Printing.{print_files, file_before}
-use Rattle.jn_protocol.specs.Steps.{Step, Restart, tid_before, after, run, IsRun, restart, restart_with}
-use Rattle.jn_reported.specs.Printing.{text_printed, prints_of}
-use Rattle.jn_settling.specs.Course.{go_on, course_to}
+use Rattle.jn_system.specs.WholeSystem.World.{World, Memory}
+use Rattle.jn_system.specs.WholeSystem.Printing.{print_files, file_before}
+use Rattle.jn_system.specs.WholeSystem.Steps.{Step, Restart, tid_before, after, run, IsRun, restart, restart_with}
+use Rattle.jn_system_reports.specs.Reporting.Printing.{text_printed, prints_of}
+use Rattle.jn_system_settling.specs.Settling.Course.{go_on, course_to}
 use Rattle.jn_written.specs.Chances.{Setup, Chance}
 use Rattle.jn_written.specs.Tasks.{Meets, Acts, ComesUp, State, begun}
 use Rattle.jn_written.specs.Deeds.{Deed, Reads, last_epoch, served, stopped_idle, blocks_from, shown, showing, pick_read, recovering, recovered, given_up, is_used_up, brought_up}

@@ -15,9 +15,9 @@ use Rattle.jn_schedule.specs.declared.Event.TheVariants as events
 use Rattle.jn_report.specs.declared.line.Text.TheVariants as says
 use Rattle.jn_rows.specs.Stable.{Pick}
 use Rattle.jn_rows.specs.Client.{Commanded, Refuses, Sends, command_row}
-use Rattle.jn_protocol.specs.World.{World, Memory}
-use Rattle.jn_protocol.specs.Steps.{NextEvent, Tell, Again, Nudge, Crash, CloseClients, AreNames, after, commanded, crash}
-use Rattle.jn_settling.specs.Course.{go_on}
+use Rattle.jn_system.specs.WholeSystem.World.{World, Memory}
+use Rattle.jn_system.specs.WholeSystem.Steps.{NextEvent, Tell, Again, Nudge, Crash, CloseClients, AreNames, after, commanded, crash}
+use Rattle.jn_system_settling.specs.Settling.Course.{go_on}
 use Rattle.jn_written.specs.Chances.{Setup, Chance}
 use Rattle.jn_written.specs.Tasks.{Task, Begins, Meets, Acts, Dismisses, GoesDown, ClosesClients, CountsCommits, State, begun}
 use Rattle.jn_written.specs.Deeds.{served, stopped_idle, crashed_at}

@@ -11,10 +11,10 @@ use Rattle.jn_schedule.specs.declared.Event.{Event}
 use Rattle.jn_schedule.specs.declared.Event.TheVariants as events
 use Rattle.jn_report.specs.declared.line.Line.{Line}
 use Rattle.jn_rows.specs.Stable.{StableState}
-use Rattle.jn_protocol.specs.World.{World, new_memory}
-use Rattle.jn_protocol.specs.Steps.{run}
-use Rattle.jn_settling.specs.Course.{go_on}
-use Rattle.jn_settling.proofs.Settling.{on-world}
+use Rattle.jn_system.specs.WholeSystem.World.{World, new_memory}
+use Rattle.jn_system.specs.WholeSystem.Steps.{run}
+use Rattle.jn_system_settling.specs.Settling.Course.{go_on}
+use Rattle.jn_system_settling.proofs.Settling.Settling.{on-world}
 use Rattle.jn_written.specs.Chances.{Setup, Chance}
 use Rattle.jn_written.specs.Tasks.{Task, Begins, Meets, Acts, Rests, ComesUp, Dismisses, GoesDown, ClosesClients, CountsCommits, Stage, InSchedule, AtEnd, CutShort, State, next_at, next_task, begun}
 use Rattle.jn_written.specs.Deeds.{Deed}

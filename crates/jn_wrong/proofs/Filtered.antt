@@ -6,8 +6,8 @@ use Rattle.std.proofs.Math.Seq.{drop-append_seam}
 use Rattle.jn_report.specs.declared.line.When.{When}
 use Rattle.jn_report.specs.declared.line.Text.{Text}
 use Rattle.jn_report.specs.declared.line.Line.{Line}
-use Rattle.jn_protocol.specs.Steps.{Step, Tell, Deliver, Work, StopDelivery, StopWork, Crash, StopRestart, Restart, CloseClients}
-use Rattle.jn_settling.specs.Course.{Course, go_on}
+use Rattle.jn_system.specs.WholeSystem.Steps.{Step, Tell, Deliver, Work, StopDelivery, StopWork, Crash, StopRestart, Restart, CloseClients}
+use Rattle.jn_system_settling.specs.Settling.Course.{Course, go_on}
 use Rattle.jn_written.specs.Steps.{own_texts, lines_at}
 use Rattle.jn_written.specs.Kinds.{may_tell, is_answer, is_note, is_of_delivery, is_up, is_down, is_stopped}
 use Rattle.jn_written.proofs.Texts.{More, gone-on}

@@ -10,14 +10,14 @@ use Rattle.jn_schedule.specs.declared.Event.{Event}
 use Rattle.jn_schedule.specs.declared.Event.TheVariants as events
 use Rattle.jn_rows.specs.Outcomes.{Sent}
 use Rattle.jn_rows.specs.Stable.{Pick}
-use Rattle.jn_protocol.specs.World.{World, Memory}
-use Rattle.jn_protocol.specs.Servers.{Room}
-use Rattle.jn_protocol.specs.Steps.{Step, NextEvent, Tell, Again, Deliver, Work, Nudge, Timeout, StopDelivery, StopWork, Crash, Narrow, StopRestart, Restart, Dismiss, CloseClients, after}
-use Rattle.jn_settling.specs.Course.{Course, without_number, still_waiting, numbered, go, go_on}
-use Rattle.jn_settling.specs.Settle.{handing}
-use Rattle.jn_settling.proofs.Burdens.{are_below, below-both, below-more, below-new}
-use Rattle.jn_settling.proofs.Courses.{Grows, grows, below-still}
-use Rattle.jn_settling.proofs.Parts.{get-some}
+use Rattle.jn_system.specs.WholeSystem.World.{World, Memory}
+use Rattle.jn_system.specs.WholeSystem.Servers.{Room}
+use Rattle.jn_system.specs.WholeSystem.Steps.{Step, NextEvent, Tell, Again, Deliver, Work, Nudge, Timeout, StopDelivery, StopWork, Crash, Narrow, StopRestart, Restart, Dismiss, CloseClients, after}
+use Rattle.jn_system_settling.specs.Settling.Course.{Course, without_number, still_waiting, numbered, go, go_on}
+use Rattle.jn_system_settling.specs.Settling.Settle.{handing}
+use Rattle.jn_system_settling.proofs.Settling.Burdens.{are_below, below-both, below-more, below-new}
+use Rattle.jn_system_settling.proofs.Settling.Courses.{Grows, grows, below-still}
+use Rattle.jn_system_settling.proofs.Settling.Parts.{get-some}
 use Rattle.jn_written.specs.Chances.{Setup, Chance}
 use Rattle.jn_written.specs.Tasks.{Task, Begins, Meets, Acts, Rests, ComesUp, Dismisses, GoesDown, ClosesClients, CountsCommits, Stage, CutShort, State, next_at, next_task, begun}
 use Rattle.jn_written.specs.Deeds.{Deed, room, no_room, delivered, delivered_at}

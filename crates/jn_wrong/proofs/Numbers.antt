@@ -10,8 +10,8 @@ use Rattle.jn_report.specs.declared.line.When.{When}
 use Rattle.jn_report.specs.declared.line.When.TheVariants.{Event as AtEvent, End}
 use Rattle.jn_report.specs.declared.line.Text.{Text}
 use Rattle.jn_report.specs.declared.line.Line.{Line}
-use Rattle.jn_protocol.specs.World.{World}
-use Rattle.jn_settling.specs.Course.{go_on}
+use Rattle.jn_system.specs.WholeSystem.World.{World}
+use Rattle.jn_system_settling.specs.Settling.Course.{go_on}
 use Rattle.jn_written.specs.Chances.{Setup, Chance}
 use Rattle.jn_written.specs.Tasks.{Task, Dismisses, Stage, InSchedule, AtEnd, CutShort, State, when_at, when_of, begun}
 use Rattle.jn_written.specs.Deeds.{Deed}

@@ -17,11 +17,11 @@ use Rattle.jn_report.specs.declared.line.Text.TheVariants as says
 use Rattle.jn_report.specs.declared.line.Line.{Line}
 use Rattle.jn_rows.specs.Outcomes.{Sent}
 use Rattle.jn_rows.specs.Stable.{Pick}
-use Rattle.jn_protocol.specs.World.{World, Memory}
-use Rattle.jn_protocol.specs.Printing.{Printed, FileThere, PageStored, UnitLocked, print_files}
-use Rattle.jn_protocol.specs.Steps.{Step, run}
-use Rattle.jn_settling.specs.Course.{Course, go_on, newly_sent}
-use Rattle.jn_reported.specs.Printing.{text_printed, prints_of}
+use Rattle.jn_system.specs.WholeSystem.World.{World, Memory}
+use Rattle.jn_system.specs.WholeSystem.Printing.{Printed, FileThere, PageStored, UnitLocked, print_files}
+use Rattle.jn_system.specs.WholeSystem.Steps.{Step, run}
+use Rattle.jn_system_settling.specs.Settling.Course.{Course, go_on, newly_sent}
+use Rattle.jn_system_reports.specs.Reporting.Printing.{text_printed, prints_of}
 use Rattle.jn_written.specs.Chances.{Setup, Chance}
 use Rattle.jn_written.specs.Tasks.{Task, Begins, Meets, Acts, Rests, ComesUp, Dismisses, GoesDown, ClosesClients, CountsCommits, CutShort, State, when_of, begun}
 use Rattle.jn_written.specs.Deeds.{Use, Nothing, Calls, Reads, Recovers, PowersOff, Decays, Revives, Arms, Disarms, Deed, blocks_from, delivered, delivered_at, is_busy, worked, served, working_steps, nothing, shown, crashed_at, is_used_up, restarted, recovered, given_up, brought_up}

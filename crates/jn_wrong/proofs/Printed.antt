@@ -13,8 +13,8 @@ use Rattle.jn_base.proofs.Tells.{file_tells}
 use Rattle.jn_locks.specs.Locks as locks
 use Rattle.jn_locks.specs.Locks.{unit_eq, unit_before}
 use Rattle.jn_locks.proofs.Orders.{unit_tells}
-use Rattle.jn_protocol.specs.Steps.{are_rising, AreNames}
-use Rattle.jn_protocol.specs.Printing.{Printed, FileThere, PageStored, UnitLocked, print_unit, print_one, print_blocks, print_file, print_files, file_before}
+use Rattle.jn_system.specs.WholeSystem.Steps.{are_rising, AreNames}
+use Rattle.jn_system.specs.WholeSystem.Printing.{Printed, FileThere, PageStored, UnitLocked, print_unit, print_one, print_blocks, print_file, print_files, file_before}
 use Rattle.jn_written.specs.Deeds.{blocks_from}
 use Rattle.jn_wrong.specs.Showing.{unit_printed, prints_unit, AreThere, PrintsAll}
 

@@ -12,10 +12,10 @@ use Rattle.jn_report.specs.declared.line.Text.{Text}
 use Rattle.jn_report.specs.declared.line.Text.TheVariants as says
 use Rattle.jn_report.specs.declared.line.Line.{Line}
 use Rattle.jn_rows.specs.Outcomes.{Sent}
-use Rattle.jn_protocol.specs.World.{World, has_line}
-use Rattle.jn_protocol.specs.Servers.{named_now}
-use Rattle.jn_protocol.specs.Steps.{Step, after}
-use Rattle.jn_settling.specs.Course.{Course, go, go_on, newly_sent}
+use Rattle.jn_system.specs.WholeSystem.World.{World, has_line}
+use Rattle.jn_system.specs.WholeSystem.Servers.{named_now}
+use Rattle.jn_system.specs.WholeSystem.Steps.{Step, after}
+use Rattle.jn_system_settling.specs.Settling.Course.{Course, go, go_on, newly_sent}
 use Rattle.jn_written.specs.Chances.{Setup, Chance}
 use Rattle.jn_written.specs.Tasks.{Task, Begins, Meets, Acts, Rests, ComesUp, Dismisses, GoesDown, ClosesClients, CountsCommits, State, when_of, begun}
 use Rattle.jn_written.specs.Deeds.{Use, Nothing, Calls, Reads, Recovers, PowersOff, Decays, Revives, Arms, Disarms, Deed}

@@ -5,7 +5,7 @@ use Rattle.jn_base.specs.declared.names.LockUnit.TheVariants.{File, Block}
 use Rattle.jn_base.specs.declared.op.Op.{Op}
 use Rattle.jn_base.specs.declared.op.Op.TheVariants as ops
 use Rattle.jn_base.specs.declared.op.Answer.TheVariants.{Did, Exists, Read as Found}
-use Rattle.jn_settling.specs.Rows.{s0, file, block}
+use Rattle.jn_system_settling.specs.Settling.Rows.{s0, file, block}
 use Rattle.jn_written.specs.Examples.{block_of}
 use Rattle.std.specs.List.{AllByRecursion}
 use Rattle.jn_order.specs.Files.{AllFiles, Files, change, effect, answer_to, files_after, is_did, zeros}
@@ -13,7 +13,7 @@ use Rattle.jn_base.specs.declared.names.ServerNo.{ServerNo}
 use Rattle.jn_schedule.specs.declared.Event.{Event}
 use Rattle.jn_schedule.specs.Ranges.{EventInRange}
 use Rattle.jn_report.specs.declared.line.Line.{Line}
-use Rattle.jn_ended.specs.Whole.{IsOfItsCommits}
+use Rattle.jn_headline.specs.WholeReports.Whole.{IsOfItsCommits}
 use Rattle.jn_written.specs.Whole.{AreImages}
 use Rattle.jn_headline.proofs.Joined.{whole-report}
 use Rattle.jn_wrong.specs.Wrong.{IsNone, begins, makes_one, makes_and_reads, opens_and_loses, answered_too_soon, stopped_by_nothing, fault_of_nothing, lost_without_opening, file_left_out, file_locked, page_unwritten, other_bytes, named_again, full_of}

@@ -13,12 +13,12 @@ use Rattle.jn_rows.specs.declared.worker.Phase.TheVariants.{Active, Broken, Prep
 use Rattle.jn_base.specs.declared.names.WorkId.{WorkId}
 use Rattle.jn_rows.specs.declared.worker.Phase.{Phase}
 use Rattle.jn_rows.specs.Worker.{drop_row, drop_phase, work_at}
-use Rattle.jn_protocol.specs.World.{World, Memory}
-use Rattle.jn_protocol.specs.Servers.{Room, server_row, storage_of, of_worker}
-use Rattle.jn_protocol.specs.Steps.{Step, Deliver, Work as Works, after, at_memory, handed}
-use Rattle.jn_protocol.specs.Steps as steps
-use Rattle.jn_settling.specs.Settle.{is_busy as has_going, handing, working}
-use Rattle.jn_settling.specs.Course.{go_on, course_to, newly_sent, numbered}
+use Rattle.jn_system.specs.WholeSystem.World.{World, Memory}
+use Rattle.jn_system.specs.WholeSystem.Servers.{Room, server_row, storage_of, of_worker}
+use Rattle.jn_system.specs.WholeSystem.Steps.{Step, Deliver, Work as Works, after, at_memory, handed}
+use Rattle.jn_system.specs.WholeSystem.Steps as steps
+use Rattle.jn_system_settling.specs.Settling.Settle.{is_busy as has_going, handing, working}
+use Rattle.jn_system_settling.specs.Settling.Course.{go_on, course_to, newly_sent, numbered}
 use Rattle.jn_written.specs.Chances.{Setup, Chance}
 use Rattle.jn_written.specs.Tasks.{Rests, State, begun}
 use Rattle.jn_written.specs.Deeds.{Deed, room, no_room, nothing, served, delivered, delivered_at, is_busy, is_busy_with, worked, working_steps}

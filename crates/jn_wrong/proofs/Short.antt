@@ -20,14 +20,14 @@ use Rattle.jn_report.specs.declared.line.Text.TheVariants as says
 use Rattle.jn_report.specs.declared.line.Line.{Line}
 use Rattle.jn_rows.specs.Outcomes.{Sent}
 use Rattle.jn_rows.specs.Stable.{Pick}
-use Rattle.jn_protocol.specs.World.{World, Memory, new_memory}
-use Rattle.jn_protocol.specs.Servers.{Room}
-use Rattle.jn_protocol.specs.Steps.{Step, Deliver, IsRun, run, after}
-use Rattle.jn_protocol.specs.LockFacts.{LockFacts, ServerFact}
-use Rattle.jn_protocol.proofs.Steps.{locks-keep, run-keeps, opening-keeps}
-use Rattle.jn_settling.specs.Course.{Course, go, go_on}
-use Rattle.jn_settling.specs.Settle.{handing, working}
-use Rattle.jn_settling.proofs.Settling.{on-world}
+use Rattle.jn_system.specs.WholeSystem.World.{World, Memory, new_memory}
+use Rattle.jn_system.specs.WholeSystem.Servers.{Room}
+use Rattle.jn_system.specs.WholeSystem.Steps.{Step, Deliver, IsRun, run, after}
+use Rattle.jn_system.specs.WholeSystem.LockFacts.{LockFacts, ServerFact}
+use Rattle.jn_system.proofs.WholeSystem.Steps.{locks-keep, run-keeps, opening-keeps}
+use Rattle.jn_system_settling.specs.Settling.Course.{Course, go, go_on}
+use Rattle.jn_system_settling.specs.Settling.Settle.{handing, working}
+use Rattle.jn_system_settling.proofs.Settling.Settling.{on-world}
 use Rattle.jn_written.specs.Chances.{Setup, Chance}
 use Rattle.jn_written.specs.Tasks.{Task, Begins, Meets, Acts, Rests, ComesUp, Dismisses, GoesDown, ClosesClients, CountsCommits, State, when_of, begun}
 use Rattle.jn_written.specs.Deeds.{Use, Nothing, Calls, Reads, Recovers, PowersOff, Decays, Revives, Arms, Disarms, Deed, room, delivered, delivered_at, is_busy, worked, working_steps, served, nothing, stopped_idle, crashed_at, recovering, recovered, restarted, given_up, brought_up, is_used_up}

@@ -31,10 +31,10 @@ use Rattle.jn_rows.specs.Outcomes.{RowOutcome, Sent}
 use Rattle.jn_rows.specs.Client.{ClientTable, Commanded, Refuses, Sends, command_row, if_server, if_idle, if_transaction, if_no_transaction, if_open, if_not_open, work_at as open_at, take_row, again_row, sent_again, if_waits, begun_row, opened_row, answer_line, outcome_row, decided_row, is_current, is_end_or_abort, over}
 use Rattle.jn_rows.specs.Worker.{WorkerTable, work_at, worker_row, worker_step, timeout_row}
 use Rattle.jn_rows.specs.Coordinator.{coordinator_row, close_clients_row}
-use Rattle.jn_protocol.specs.World.{World, Memory, at_server, at_client, has_line}
-use Rattle.jn_protocol.specs.Servers.{Room, storage_of, of_worker, of_coordinator, is_for_worker, server_row, of_step, server_again, of_timeout, server_timeout, restored, line_of, lines_of, named_now}
-use Rattle.jn_protocol.specs.Steps.{Step, NextEvent, Tell, Again, Deliver, Work as Works, Nudge, Timeout, StopDelivery, StopWork, Crash, Narrow, StopRestart, Restart, Dismiss, CloseClients, after, commanded, took, sent_now, done, stopped, at_memory, handed, works, work, nudge, timeout, crash, narrow, stop_restart, restart, close_clients}
-use Rattle.jn_protocol.specs.LockFacts.{LockFacts, ServerFact, UpFact}
+use Rattle.jn_system.specs.WholeSystem.World.{World, Memory, at_server, at_client, has_line}
+use Rattle.jn_system.specs.WholeSystem.Servers.{Room, storage_of, of_worker, of_coordinator, is_for_worker, server_row, of_step, server_again, of_timeout, server_timeout, restored, line_of, lines_of, named_now}
+use Rattle.jn_system.specs.WholeSystem.Steps.{Step, NextEvent, Tell, Again, Deliver, Work as Works, Nudge, Timeout, StopDelivery, StopWork, Crash, Narrow, StopRestart, Restart, Dismiss, CloseClients, after, commanded, took, sent_now, done, stopped, at_memory, handed, works, work, nudge, timeout, crash, narrow, stop_restart, restart, close_clients}
+use Rattle.jn_system.specs.WholeSystem.LockFacts.{LockFacts, ServerFact, UpFact}
 use Rattle.jn_wrong.specs.Wanting.{IsShort, OfText}
 use Rattle.jn_wrong.proofs.ShortRows.{OfMessage, OfAll, OfOutcome, OfTable, OfRow, both-say, said, coordinates-so, again-so, all-thanked-so, restored-so}
 use Rattle.jn_wrong.proofs.ShortWorks.{works-so, steps-so, asks-so}

@@ -13,11 +13,11 @@ use Rattle.jn_report.specs.declared.line.Line.{Line}
 use Rattle.jn_rows.specs.Outcomes.{Sent}
 use Rattle.jn_rows.specs.Stable.{Pick, stable}
 use Rattle.jn_rows.specs.Worker.{commit_holder}
-use Rattle.jn_protocol.specs.World.{World, Memory}
-use Rattle.jn_protocol.specs.Printing.{Printed, FileThere, PageStored, UnitLocked, print_files}
-use Rattle.jn_protocol.specs.Steps.{Step}
-use Rattle.jn_settling.specs.Course.{Course, go_on, newly_sent}
-use Rattle.jn_reported.specs.Printing.{text_printed, prints_of}
+use Rattle.jn_system.specs.WholeSystem.World.{World, Memory}
+use Rattle.jn_system.specs.WholeSystem.Printing.{Printed, FileThere, PageStored, UnitLocked, print_files}
+use Rattle.jn_system.specs.WholeSystem.Steps.{Step}
+use Rattle.jn_system_settling.specs.Settling.Course.{Course, go_on, newly_sent}
+use Rattle.jn_system_reports.specs.Reporting.Printing.{text_printed, prints_of}
 use Rattle.jn_written.specs.Chances.{Setup, Chance}
 use Rattle.jn_written.specs.Tasks.{Task, Meets, Acts, CutShort, State, when_of, begun}
 use Rattle.jn_written.specs.Deeds.{Deed, Reads, served, stopped_idle, blocks_from, shown, showing}

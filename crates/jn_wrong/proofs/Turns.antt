@@ -21,9 +21,9 @@ use Rattle.jn_rows.specs.Client.{Commanded, Refuses, Sends, ClientTable, command
 use Rattle.jn_rows.specs.Coordinator.{close_clients_row}
 use Rattle.jn_rows.specs.Outcomes.{RowOutcome, Sent}
 use Rattle.jn_rows.specs.Stable.{Pick, stable}
-use Rattle.jn_protocol.specs.World.{World, Memory, at_server, new_memory}
-use Rattle.jn_protocol.specs.Servers.{Room, server_row, server_step, server_timeout, of_coordinator, restored, named_now}
-use Rattle.jn_protocol.specs.Steps.{Step, NextEvent, Tell, Again, Deliver, Work as Works, Nudge, Timeout, StopDelivery, StopWork, Crash, Narrow, StopRestart, Restart, Dismiss, CloseClients, after, commanded, took, ends, at_memory, handed, works, work, nudge, timeout, crash, narrow, stop_restart, restart, close_clients}
+use Rattle.jn_system.specs.WholeSystem.World.{World, Memory, at_server, new_memory}
+use Rattle.jn_system.specs.WholeSystem.Servers.{Room, server_row, server_step, server_timeout, of_coordinator, restored, named_now}
+use Rattle.jn_system.specs.WholeSystem.Steps.{Step, NextEvent, Tell, Again, Deliver, Work as Works, Nudge, Timeout, StopDelivery, StopWork, Crash, Narrow, StopRestart, Restart, Dismiss, CloseClients, after, commanded, took, ends, at_memory, handed, works, work, nudge, timeout, crash, narrow, stop_restart, restart, close_clients}
 use Rattle.jn_written.specs.Chances.{Setup}
 use Rattle.jn_written.specs.Tasks.{State}
 use Rattle.jn_written.specs.Runs.{MayLead}

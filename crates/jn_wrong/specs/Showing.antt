@@ -10,10 +10,10 @@ use Rattle.jn_locks.specs.Locks.{unit_eq, unit_before}
 use Rattle.jn_report.specs.declared.line.Text.{Text}
 use Rattle.jn_report.specs.declared.line.Text.TheVariants as says
 use Rattle.jn_report.specs.declared.line.Line.{Line}
-use Rattle.jn_protocol.specs.World.{Memory}
-use Rattle.jn_protocol.specs.Steps.{are_rising}
-use Rattle.jn_protocol.specs.Printing.{Printed, FileThere, PageStored, UnitLocked}
-use Rattle.jn_reported.specs.Printing.{text_printed, prints_of}
+use Rattle.jn_system.specs.WholeSystem.World.{Memory}
+use Rattle.jn_system.specs.WholeSystem.Steps.{are_rising}
+use Rattle.jn_system.specs.WholeSystem.Printing.{Printed, FileThere, PageStored, UnitLocked}
+use Rattle.jn_system_reports.specs.Reporting.Printing.{text_printed, prints_of}
 use Rattle.jn_written.specs.Chances.{Setup}
 use Rattle.jn_written.specs.Tasks.{when_of, begun}
 use Rattle.jn_written.specs.Steps.{lines_at}

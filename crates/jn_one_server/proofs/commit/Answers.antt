@@ -1,6 +1,6 @@
 use Rattle.std.proofs.Common.{ap, arith, subst}
 use Rattle.jn_msgs.specs.declared.message.Message.TheVariants as messages
-use Rattle.jn_protocol.specs.World.{Memory}
+use Rattle.jn_system.specs.WholeSystem.World.{Memory}
 use Rattle.jn_server.specs.Seen.{view_with}
 use Rattle.jn_store.specs.Store.{StoreView}
 use Rattle.jn_one_server.specs.Story.{Took, the_client, the_transaction}

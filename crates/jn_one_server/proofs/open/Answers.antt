@@ -1,5 +1,5 @@
 use Rattle.std.proofs.Common.{ap, arith}
-use Rattle.jn_protocol.specs.World.{Memory}
+use Rattle.jn_system.specs.WholeSystem.World.{Memory}
 use Rattle.jn_server.specs.Seen.{view_with}
 use Rattle.jn_store.specs.Store.{StoreView}
 use Rattle.jn_one_server.proofs.Stages.{if-ok, to-begun, to-opened}

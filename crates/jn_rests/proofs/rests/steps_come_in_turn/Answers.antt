@@ -1,5 +1,5 @@
 use Rattle.std.specs.Prelude.{◌⊎◌}
-use Rattle.jn_protocol.specs.World.{servers_from}
+use Rattle.jn_system.specs.WholeSystem.World.{servers_from}
 use Rattle.jn_rests.specs.Rests.{ComesNext, IsHalt}
 use Rattle.jn_rests.proofs.Loops.{in-turn}
 use Rattle.jn_rests.proofs.rests.steps_come_in_turn.Goals as goal

@@ -3,7 +3,7 @@ use Rattle.jn_store.specs.Store.{StoreView}
 use Rattle.std.proofs.Common.{◌≡◌, []}
 use Rattle.std.specs.Prelude.{OnOk}
 use Rattle.jn_storage.specs.Calls.{state}
-use Rattle.jn_protocol.specs.Servers.{server_again}
+use Rattle.jn_system.specs.WholeSystem.Servers.{server_again}
 use Rattle.jn_transactions.specs.Telling.{added}
 use Rattle.jn_server.specs.Seen.{Parts, view_with, memory_of, IsServer}
 use Rattle.jn_server.proofs.Stepping.{sent-again}

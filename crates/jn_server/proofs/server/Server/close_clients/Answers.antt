@@ -4,8 +4,8 @@ use Rattle.jn_recovery.specs.Memory.{view_of}
 use Rattle.jn_storage.specs.Storage.{Accounts}
 use Rattle.jn_coord.specs.Remembered.{table_of}
 use Rattle.jn_rows.specs.Coordinator.{close_clients_row}
-use Rattle.jn_protocol.specs.Servers.{of_coordinator}
-use Rattle.jn_protocol.proofs.CoordinatorRows.{close-aside}
+use Rattle.jn_system.specs.WholeSystem.Servers.{of_coordinator}
+use Rattle.jn_system.proofs.WholeSystem.CoordinatorRows.{close-aside}
 use Rattle.jn_server.specs.Handling.{IsDone, Does}
 use Rattle.jn_server.specs.Seen.{Parts, view_with, memory_of, IsServer}
 use Rattle.jn_server.proofs.Coordinating.{coordinated, closing_failed}

@@ -2,8 +2,8 @@ use Rattle.std.proofs.Common.{arith, refl, subst, sym}
 use Rattle.jn_recovery.specs.Memory.{view_of}
 use Rattle.jn_worker.specs.Fitting.{seen}
 use Rattle.jn_rows.specs.Worker.{worker_row}
-use Rattle.jn_protocol.specs.Servers.{of_worker}
-use Rattle.jn_protocol.proofs.WorkerChanges.{worker-aside}
+use Rattle.jn_system.specs.WholeSystem.Servers.{of_worker}
+use Rattle.jn_system.proofs.WholeSystem.WorkerChanges.{worker-aside}
 use Rattle.jn_server.specs.Seen.{Parts, view_with, memory_of, IsServer}
 use Rattle.jn_server.specs.Handling.{IsDone, Does, LeavesRubbish}
 use Rattle.jn_server.proofs.Ranges.{row-in-range}

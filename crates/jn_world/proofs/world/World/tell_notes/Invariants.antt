@@ -1,7 +1,7 @@
 use Rattle.std.proofs.Common.{◌≡◌, ◌++◌}
 use Rattle.std.specs.Prelude.{drop}
-use Rattle.jn_protocol.specs.Servers.{lines_of}
-use Rattle.jn_protocol.specs.World.{commits_in}
+use Rattle.jn_system.specs.WholeSystem.Servers.{lines_of}
+use Rattle.jn_system.specs.WholeSystem.World.{commits_in}
 use Rattle.jn_written.specs.Steps.{lines_at}
 use Rattle.jn_world.proofs.world.World.tell_notes.Given as goal
 

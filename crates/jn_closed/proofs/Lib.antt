@@ -1,4 +1,0 @@
-pub mod Rows
-pub mod Tends
-pub mod Rests
-pub mod Ends

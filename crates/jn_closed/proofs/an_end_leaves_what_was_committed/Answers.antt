@@ -1,5 +1,0 @@
-use Rattle.jn_closed.proofs.Ends.{end-leaves-committed}
-use Rattle.jn_closed.proofs.an_end_leaves_what_was_committed.Goals as goal
-
-pub returns : goal.returns
-returns c = λ servers files epochs steps few is starts comes. end-leaves-committed servers few files epochs steps is starts comes

@@ -1,0 +1,3 @@
+-- Reports that are cut off.
+pub mod Cut
+pub mod Fronts

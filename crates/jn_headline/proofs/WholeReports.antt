@@ -1,0 +1,3 @@
+-- Reports of whole runs.
+pub mod Whole
+pub mod Outcomes

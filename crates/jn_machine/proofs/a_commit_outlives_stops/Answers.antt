@@ -1,6 +1,0 @@
-use Rattle.std.proofs.Common.{refl}
-use Rattle.jn_machine.proofs.ExampleRun.{may_run}
-use Rattle.jn_machine.proofs.a_commit_outlives_stops.Goals as goal
-
-pub returns : goal.returns
-returns c = record { may = may_run; commit = refl; file = λ c. refl }

@@ -1,5 +1,0 @@
-use Rattle.std.proofs.Common.{refl}
-use Rattle.jn_protocol.proofs.an_end_forgets.Goals as goal
-
-pub returns-clause-steps : goal.returns-clause-steps
-returns-clause-steps c = (tt, (λ d. (refl, refl), (tt, tt)))

@@ -1,6 +1,0 @@
-use Rattle.jn_protocol.specs.World.{opening}
-use Rattle.jn_protocol.proofs.Steps.{run-keeps, opening-keeps}
-use Rattle.jn_protocol.proofs.locks_go_together.Goals as goal
-
-pub returns : goal.returns
-returns c = λ servers files epochs steps i. run-keeps steps (opening servers files epochs) i (opening-keeps servers files epochs)

@@ -1,5 +1,0 @@
-use Rattle.jn_reported.proofs.ArmedRuns.{run-armed}
-use Rattle.jn_reported.proofs.stops_and_faults_are_armed.Goals as goal
-
-pub returns : goal.returns
-returns c = λ servers files epochs items. run-armed files epochs items servers

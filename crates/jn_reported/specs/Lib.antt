@@ -1,5 +1,0 @@
-pub mod Printing
-pub mod Reported
-pub mod Armed
-pub mod Ending
-pub mod Example

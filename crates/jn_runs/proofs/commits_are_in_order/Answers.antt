@@ -1,9 +1,0 @@
-use Rattle.jn_protocol.specs.World.{opening}
-use Rattle.jn_protocol.specs.Steps.{run}
-use Rattle.jn_protocol.proofs.Steps.{run-keeps, opening-keeps}
-use Rattle.jn_runs.proofs.Runs.{runs-move, moves-in-order}
-use Rattle.jn_runs.proofs.commits_are_in_order.Goals as goal
-
-pub returns : goal.returns
-returns c = λ servers files epochs steps i. moves-in-order files epochs (run steps (opening servers files epochs))
-    (run-keeps steps (opening servers files epochs) i (opening-keeps servers files epochs)) (runs-move servers files epochs steps i)

@@ -1,9 +1,0 @@
-use Rattle.jn_protocol.specs.World.{opening}
-use Rattle.jn_settling.specs.Course.{opening_course, go_on}
-use Rattle.jn_settling.proofs.Parts.{next-lightens}
-use Rattle.jn_settling.proofs.Settling.{course-sound}
-use Rattle.jn_settling.proofs.deliveries_lighten.Goals as goal
-
-pub returns : goal.returns
-returns c = λ servers files epochs steps few is chance step next.
-    next-lightens servers few (opening servers files epochs) chance step (go_on steps (opening_course servers files epochs)) (course-sound servers few files epochs steps is) next

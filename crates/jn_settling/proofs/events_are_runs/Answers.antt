@@ -1,8 +1,0 @@
-use Rattle.std.proofs.Common.{[]}
-use Rattle.jn_protocol.specs.World.{opening}
-use Rattle.jn_settling.specs.Course.{opening_course}
-use Rattle.jn_settling.proofs.Settling.{opening-sound, event-sound}
-use Rattle.jn_settling.proofs.events_are_runs.Goals as goal
-
-pub returns : goal.returns
-returns c = λ servers files epochs events few steps. event-sound servers few (opening servers files epochs) events (record { course = opening_course servers files epochs; report = [] }) (opening-sound servers files epochs) steps

@@ -1,8 +1,0 @@
-use Rattle.jn_settling.proofs.Reports.{a_write_waits_for_a_reader, a_write_waits_for_a_reader_steps}
-use Rattle.jn_settling.proofs.rows.a_write_waits_for_a_reader.Goals as goal
-
-pub returns-clause-steps : goal.returns-clause-steps
-returns-clause-steps c = a_write_waits_for_a_reader_steps
-
-pub returns-clause-lines : goal.returns-clause-lines
-returns-clause-lines c = a_write_waits_for_a_reader

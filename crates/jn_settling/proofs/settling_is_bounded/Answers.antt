@@ -1,9 +1,0 @@
-use Rattle.jn_protocol.specs.World.{opening}
-use Rattle.jn_settling.specs.Course.{opening_course, go_on}
-use Rattle.jn_settling.proofs.Asking.{settle-bounded}
-use Rattle.jn_settling.proofs.Settling.{course-sound}
-use Rattle.jn_settling.proofs.settling_is_bounded.Goals as goal
-
-pub returns : goal.returns
-returns c = λ servers files epochs steps few is chances.
-    settle-bounded servers few (opening servers files epochs) chances (go_on steps (opening_course servers files epochs)) (course-sound servers few files epochs steps is)

@@ -1,5 +1,0 @@
-use Rattle.jn_settling.proofs.Settling.{run-sizes}
-use Rattle.jn_settling.proofs.tables_stay_small.Goals as goal
-
-pub returns : goal.returns
-returns c = λ servers files epochs steps few is. run-sizes servers few files epochs steps is

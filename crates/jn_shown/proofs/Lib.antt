@@ -1,6 +1,0 @@
-pub mod Follows
-pub mod Prints
-pub mod Shows
-pub mod Within
-pub mod Ends
-pub mod Examples

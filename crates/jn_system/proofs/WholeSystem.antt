@@ -1,0 +1,14 @@
+-- Each client and server by its row.
+pub mod Clear
+pub mod Granted
+pub mod Keeping
+pub mod Units
+pub mod Rows
+pub mod Tables
+pub mod WorkerRows
+pub mod WorkerChanges
+pub mod Closes
+pub mod CoordinatorRows
+pub mod Restored
+pub mod Steps
+pub mod LostCommits

@@ -1,0 +1,20 @@
+use Rattle.std.proofs.Common.{[], ◌∷◌, Some, None, refl, arith}
+use Rattle.jn_base.specs.Names.{tid_eq, work_eq}
+use Rattle.jn_base.proofs.Tells.{work_tells, tid_tells}
+use Rattle.jn_locks.specs.Locks.{work_before}
+use Rattle.jn_rows.specs.Stable.{Prepared, FlagState, at_work, at_tid}
+use Rattle.jn_system.specs.WholeSystem.Steps.{AreNames, tid_before}
+use Rattle.jn_system.specs.WholeSystem.Example.{the_transaction, the_work}
+use Rattle.jn_system.proofs.protocol.a_commit_is_found_again.Goals as goal
+
+one_work : (p : Prepared) → AreNames work_eq work_before (at_work (λ V. None) the_work (Some p)) (the_work ∷ [])
+one_work p = record { each = λ a. grind (arith, work_tells); rising = refl }
+
+same_work : (p q : Prepared) → AreNames work_eq work_before (at_work (at_work (λ V. None) the_work (Some p)) the_work (Some q)) (the_work ∷ [])
+same_work p q = record { each = λ a. grind (arith, work_tells); rising = refl }
+
+one_flag : (p : FlagState) → AreNames tid_eq tid_before (at_tid (λ V. None) the_transaction (Some p)) (the_transaction ∷ [])
+one_flag p = record { each = λ a. grind (arith, tid_tells); rising = refl }
+
+pub returns-clause-steps : goal.returns-clause-steps
+returns-clause-steps c = (tt, (tt, (tt, (tt, (tt, (tt, (tt, (tt, (tt, (tt, (tt, (tt, (tt, (tt, (tt, (tt, (tt, ((one_work _, one_flag _), (tt, (tt, (tt, (tt, ((same_work _ _, one_flag _), (tt, (tt, tt)))))))))))))))))))))))))

@@ -1,0 +1,25 @@
+-- What stands where, and that each step keeps it.
+pub mod Performed
+pub mod Mirrored
+pub mod WorkerNotes
+pub mod Losing
+pub mod GrantMoves
+pub mod OpMoves
+pub mod QuietMoves
+pub mod PrepareMoves
+pub mod WorkerMoves
+pub mod Intended
+pub mod CarryMoves
+pub mod CommitMoves
+pub mod DropMoves
+pub mod RestartMoves
+pub mod Transactions
+pub mod StageMoves
+pub mod CoordinatorMoves
+pub mod NudgeMoves
+pub mod Closing
+pub mod ClosingMoves
+pub mod BeginMoves
+pub mod ClientRows
+pub mod ClientMoves
+pub mod StepMoves

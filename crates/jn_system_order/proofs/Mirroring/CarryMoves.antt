@@ -1,0 +1,330 @@
+-- What a worker does with a prepared work, as steps of the machine: its next intention is carried out, or it goes.
+use Rattle.std.proofs.Common.{◌≡◌, ◌≢◌, ◌⊎◌, inl, inr, ℕ, suc, ◌+◌, Bool, true, false, List, [], ◌∷◌, take, Option, Some, None, is_some, refl, sym, ◌∙◌, ap, subst, arith}
+use Rattle.std.specs.Prelude.{if◌then◌else◌, slice_get, All}
+use Rattle.std.proofs.lemmas.List.Elements.{All-nil, All-cons}
+use Rattle.jn_base.specs.declared.names.ServerNo.{ServerNo}
+use Rattle.jn_base.specs.declared.names.Tid.{Tid}
+use Rattle.jn_base.specs.declared.names.WorkId.{WorkId}
+use Rattle.jn_base.specs.declared.names.LockUnit.{LockUnit}
+use Rattle.jn_base.specs.declared.names.Party.TheVariants.{Server}
+use Rattle.jn_base.specs.Names.{server_eq, work_eq}
+use Rattle.jn_base.proofs.Tells.{server_tells, work_tells}
+use Rattle.jn_order.specs.Files.{change, or_else}
+use Rattle.jn_order.specs.Changes.{or_also}
+use Rattle.jn_records.specs.declared.intention.Intention.{Intention}
+use Rattle.jn_records.specs.NetLists.{intention_change, list_change}
+use Rattle.jn_msgs.specs.declared.message.Message.{Message}
+use Rattle.jn_msgs.specs.declared.message.Message.TheVariants as messages
+use Rattle.jn_rows.specs.declared.worker.Work.{Work}
+use Rattle.jn_rows.specs.Stable.{StableState, Prepared, Pick, CarryOut, RemoveWork, is_going, made_by, at_work, stable}
+use Rattle.jn_rows.specs.Outcomes.{RowOutcome, Sent}
+use Rattle.jn_rows.specs.Worker.{WorkerTable, work_at, without, going_work, going_row, carried_row, intentions_of, worker_step}
+use Rattle.jn_lock_rows.proofs.Works.{at-less}
+use Rattle.jn_system.specs.SmallSteps.World.{World as Machine}
+use Rattle.jn_system.specs.SmallSteps.Invariant.{Invariant}
+use Rattle.jn_system.specs.SmallSteps.Steps.{Atom, Count, Make, NoteOver, always, run}
+use Rattle.jn_system.specs.SmallSteps.Premises.{MayRun, MayCount, MayCarryOut, MayRemove, MayBeOver}
+use Rattle.jn_system.specs.SmallSteps.FoundStates.{IsPrepared}
+use Rattle.jn_system.specs.SmallSteps.Messages.{Says}
+use Rattle.jn_system.proofs.SmallSteps.TraceLemmas.{take_zero}
+use Rattle.jn_system.specs.WholeSystem.World.{World, Memory}
+use Rattle.jn_system.specs.WholeSystem.LockFacts.{UpFact}
+use Rattle.jn_system_order.specs.Mirroring.Mirrors.{Mirrors, IsTrue, IsAddressed, working_of, next_in}
+use Rattle.jn_system.specs.WholeSystem.Servers.{Room, storage_of}
+use Rattle.jn_system.proofs.WholeSystem.WorkerRows.{going-is}
+use Rattle.jn_system.proofs.WholeSystem.Restored.{stored-fact}
+use Rattle.jn_system_order.proofs.Mirroring.GrantMoves.{active-here, found-here}
+use Rattle.jn_system_order.proofs.Mirroring.Mirrored.{some_made, made-one, DoesStop}
+use Rattle.jn_system_order.proofs.Mirroring.QuietMoves.{RowMoves, sends-moves}
+use Rattle.jn_system_order.proofs.Mirroring.Intended.{step-writes, step-more, take-end}
+
+one-more : (n : ℕ) → suc n ≡ n + 1
+one-more n = omega arith
+
+module _ (r : World) (w : Machine) (s : ServerNo) (m : Memory) (mirrors : Mirrors r w) (is : r.memory s ≡ Some m) (up : UpFact s m (r.found s))
+    (grow : (atoms : List Atom) → MayRun atoms w → (message : Message) → Says w message → Says (run atoms w) message) (inv : Invariant w)
+    (N : WorkId) (p : Prepared) (stored : (stable (r.found s)).works N ≡ Some p) where
+  at : N.server ≡ s
+  at = (stored-fact s m.worker m.tickets m.tickets.epoch (stable (r.found s)).works up.table up.server refl).place N p stored
+
+  next-here : (V : WorkId) → V.server ≡ s → w.next V ≡ m.next V
+  next-here V e = mirrors.next V ∙ ap (λ (q : ServerNo). next_in (r.memory q) V) e ∙ ap (λ o. next_in o V) is
+
+  is-up : w.up N.server ≡ true
+  is-up = mirrors.up N.server ∙ ap (λ (q : ServerNo). is_some (r.memory q)) at ∙ ap is_some is
+
+  state : (c : Pick) → w.found N.server c ≡ stable (r.found s)
+  state c = found-here r w s m mirrors is up N.server c at
+
+  found-it : (c : Pick) → (w.found N.server c).works N ≡ Some p
+  found-it c = ap (λ (z : StableState). z.works N) (state c) ∙ stored
+
+  none-yet : (v : Machine) → v.up N.server ≡ true → MayCount v N 0
+  none-yet v u = record { up = u; counts = λ c q e g x y h. absurd (no y (sym (ap (λ l. list_change l x) (take_zero q.list)) ∙ h)) }
+    where
+      no : (y : Option (List ℕ)) → None ≡ Some y → ⊥
+      no y e = cc
+
+  -- ---- an intention
+
+  module _ (going : p.going ≡ true) (i : Intention) (next : slice_get p.list (m.next N) ≡ Some i) where
+    abbrev counted : Machine
+    counted = run (Count N 0 ∷ []) w
+
+    abbrev atoms : List Atom
+    atoms = Count N 0 ∷ Make always (CarryOut N i) ∷ Count N (suc (m.next N)) ∷ []
+
+    zero-now : at_work w.next N 0 N ≡ 0
+    zero-now = grind (arith, work_tells N N)
+
+    may-carry : (c : Pick) → MayCarryOut counted (w.found N.server c) N i
+    may-carry c = record { work = p; is = found-it c; going = going; none = zero-now; writes = λ u h. step-writes p.list (m.next N) i next u h }
+
+    carried-state : (c : Pick) → (run (Count N 0 ∷ Make always (CarryOut N i) ∷ []) w).found N.server c ≡ made_by (CarryOut N i) (w.found N.server c)
+    carried-state c = by (server_tells N.server N.server)
+      where
+        by : ((server_eq N.server N.server ≡ true) × (N.server ≡ N.server)) ⊎ ((server_eq N.server N.server ≡ false) × (N.server ≢ N.server))
+            → (if server_eq N.server N.server then made_by (CarryOut N i) (w.found N.server c) else w.found N.server c) ≡ made_by (CarryOut N i) (w.found N.server c)
+        by (inl e) = ap (λ (b : Bool). if b then made_by (CarryOut N i) (w.found N.server c) else w.found N.server c) e.0
+        by (inr e) = absurd (e.1 refl)
+
+    same-work : (c : Pick) (q : Prepared) → (made_by (CarryOut N i) (w.found N.server c)).works N ≡ Some q → p ≡ q
+    same-work c q e = some (sym (found-it c) ∙ e)
+      where
+        some : Some p ≡ Some q → p ≡ q
+        some z = cc
+
+    -- what was carried out before, and this intention
+    written : (c : Pick) (u : LockUnit) (v : Option (List ℕ)) → list_change (take (suc (m.next N)) p.list) u ≡ Some v → change (intention_change i) (w.found N.server c).files u ≡ v
+    written c u v h = by (intention_change i u) (list_change (take (m.next N) p.list) u) (before (list_change (take (m.next N) p.list) u) refl) (sym (step-more p.list (m.next N) i next u) ∙ h)
+      where
+        before : (o : Option (Option (List ℕ))) → list_change (take (m.next N) p.list) u ≡ o → (y : Option (List ℕ)) → o ≡ Some y → (w.found N.server c).files u ≡ y
+        before o e y f = ((inv.core.states N.server c).prepared N p (found-it c)).next going u y (subst (λ n. list_change (take n p.list) u ≡ Some y) (sym (next-here N at)) (e ∙ f))
+
+        by : (a b : Option (Option (List ℕ))) → ((y : Option (List ℕ)) → b ≡ Some y → (w.found N.server c).files u ≡ y) → or_also a b ≡ Some v → or_else a ((w.found N.server c).files u) ≡ v
+        by None b f e = f v e
+        by (Some y) b f e = cc
+
+    may-count : MayCount (run (Count N 0 ∷ Make always (CarryOut N i) ∷ []) w) N (suc (m.next N))
+    may-count = record {
+      up = is-up;
+      counts = λ c q e g u v h. ap (λ (z : StableState). z.files u) (carried-state c)
+          ∙ written c u v (subst (λ (z : Prepared). list_change (take (suc (m.next N)) z.list) u ≡ Some v) (sym (same-work c q (sym (ap (λ (z : StableState). z.works N) (carried-state c)) ∙ e))) h);
+    }
+
+    may-all : MayRun atoms w
+    may-all = (none-yet w is-up, (may-carry, (may-count, tt)))
+
+    next-now : (V : WorkId) → V.server ≡ s → at_work (at_work w.next N 0) N (suc (m.next N)) V ≡ at_work m.next N (m.next N + 1) V
+    next-now V e = by (work_tells N V)
+      where
+        by : ((work_eq N V ≡ true) × (N ≡ V)) ⊎ ((work_eq N V ≡ false) × (N ≢ V)) → at_work (at_work w.next N 0) N (suc (m.next N)) V ≡ at_work m.next N (m.next N + 1) V
+        by (inl f) = ap (λ (b : Bool). if b then suc (m.next N) else (if b then 0 else w.next V)) f.0 ∙ one-more (m.next N) ∙ sym (ap (λ (b : Bool). if b then m.next N + 1 else m.next V) f.0)
+        by (inr f) = ap (λ (b : Bool). if b then suc (m.next N) else (if b then 0 else w.next V)) f.0 ∙ next-here V e ∙ sym (ap (λ (b : Bool). if b then m.next N + 1 else m.next V) f.0)
+
+    next-there : (V : WorkId) (n : ℕ) → s ≢ V.server → (if work_eq N V then n else (if work_eq N V then 0 else w.next V)) ≡ w.next V
+    next-there V n ne = by (work_tells N V)
+      where
+        by : ((work_eq N V ≡ true) × (N ≡ V)) ⊎ ((work_eq N V ≡ false) × (N ≢ V)) → (if work_eq N V then n else (if work_eq N V then 0 else w.next V)) ≡ w.next V
+        by (inl f) = absurd (ne (sym at ∙ ap (λ (U : WorkId). U.server) f.1))
+        by (inr f) = ap (λ (b : Bool). if b then n else (if b then 0 else w.next V)) f.0
+
+    abbrev stop-atoms : (Pick → ℕ) → List Atom
+    stop-atoms made = Count N 0 ∷ Make (λ c. some_made (made c)) (CarryOut N i) ∷ []
+
+    may-stop : (made : Pick → ℕ) → MayRun (stop-atoms made) w
+    may-stop made = (none-yet w is-up, (may-carry, tt))
+
+    stop-next : (V : WorkId) → s ≢ V.server → at_work w.next N 0 V ≡ w.next V
+    stop-next V ne = by (work_tells N V)
+      where
+        by : ((work_eq N V ≡ true) × (N ≡ V)) ⊎ ((work_eq N V ≡ false) × (N ≢ V)) → (if work_eq N V then 0 else w.next V) ≡ w.next V
+        by (inl f) = absurd (ne (sym at ∙ ap (λ (U : WorkId). U.server) f.1))
+        by (inr f) = ap (λ (b : Bool). if b then 0 else w.next V) f.0
+
+    stop-does : (made : Pick → ℕ) → DoesStop s (record { table = m.worker; changes = CarryOut N i ∷ []; messages = []; notes = []; tickets = m.tickets }) made w (run (stop-atoms made) w)
+    stop-does made = record {
+      up = λ q. refl;
+      found = λ q c. ap (λ (z : ServerNo). if server_eq z q then (if some_made (made c) then made_by (CarryOut N i) (w.found z c) else w.found z c) else w.found q c) at
+          ∙ ap (λ z. if server_eq s q then z else w.found q c) (made-one (CarryOut N i) (made c) (w.found s c));
+      elsewhere = λ V ne. refl;
+      next = stop-next;
+      ticket = λ q ne. refl;
+      knowledge = λ U ne. refl;
+      history = refl;
+      ended = refl;
+      grows = λ message h. grow (stop-atoms made) (may-stop made) message h;
+    }
+
+    pub carry-moves : RowMoves s m (record { table = m.worker; changes = CarryOut N i ∷ []; messages = []; notes = []; tickets = m.tickets }) w
+    carry-moves = record {
+      atoms = atoms;
+      may = may-all;
+      does = record {
+        up = λ q. refl;
+        found = λ q c. ap (λ (z : ServerNo). if server_eq z q then made_by (CarryOut N i) (w.found z c) else w.found q c) at;
+        here = λ V e. active-here r w s m mirrors is up V e;
+        elsewhere = λ V ne. refl;
+        next_here = next-now;
+        next_elsewhere = λ V ne. next-there V (suc (m.next N)) ne;
+        ticket_here = mirrors.ticket s m is;
+        ticket_elsewhere = λ q ne. refl;
+        knowledge = λ U. refl;
+        history = refl;
+        ended = refl;
+        owner = λ V v h. grow atoms may-all (messages.Inquire v.tid V) (mirrors.owner s m V v is h);
+        grows = λ message h. grow atoms may-all message h;
+        says = All-nil (IsTrue (run atoms w));
+        addressed = All-nil IsAddressed;
+      };
+      stops = λ made. record { atoms = stop-atoms made; may = may-stop made; does = stop-does made };
+    }
+
+  -- ---- a work that goes from the stable state, and is over
+
+  abbrev pub over-atoms : List Atom
+  over-atoms = Count N 0 ∷ Make always (RemoveWork N) ∷ NoteOver N ∷ []
+
+  pub prepared : (c : Pick) → IsPrepared w N.server (w.found N.server c) N p
+  prepared c = (inv.core.states N.server c).prepared N p (found-it c)
+
+  pub same-stored : (c : Pick) (q : Prepared) → (w.found N.server c).works N ≡ Some q → p ≡ q
+  same-stored c q e = some (sym (found-it c) ∙ e)
+    where
+      some : Some p ≡ Some q → p ≡ q
+      some z = cc
+
+  module _ (may-remove : (c : Pick) → MayRemove (run (Count N 0 ∷ []) w) (w.found N.server c) N) where
+    removed : (c : Pick) → ((run (Count N 0 ∷ Make always (RemoveWork N) ∷ []) w).found N.server c).works N ≡ None
+    removed c = by (server_tells N.server N.server) (work_tells N N)
+      where
+        by : ((server_eq N.server N.server ≡ true) × (N.server ≡ N.server)) ⊎ ((server_eq N.server N.server ≡ false) × (N.server ≢ N.server))
+            → ((work_eq N N ≡ true) × (N ≡ N)) ⊎ ((work_eq N N ≡ false) × (N ≢ N))
+            → (if server_eq N.server N.server then made_by (RemoveWork N) (w.found N.server c) else w.found N.server c).works N ≡ None
+        by (inl e) (inl f) = ap (λ (b : Bool). (if b then made_by (RemoveWork N) (w.found N.server c) else w.found N.server c).works N) e.0 ∙ ap (λ (b : Bool). if b then None else (w.found N.server c).works N) f.0
+        by (inr e) f = absurd (e.1 refl)
+        by (inl e) (inr f) = absurd (f.1 refl)
+
+    may-over : MayBeOver (run (Count N 0 ∷ Make always (RemoveWork N) ∷ []) w) N
+    may-over = record { opened = (prepared (λ n. false)).opened; not_active = (prepared (λ n. false)).not_active; nowhere = removed }
+
+    may-end : MayRun over-atoms w
+    may-end = (none-yet w is-up, (may-remove, (may-over, tt)))
+
+    abbrev Is : WorkId → Type 0
+    Is V = ((work_eq N V ≡ true) × (N ≡ V)) ⊎ ((work_eq N V ≡ false) × (N ≢ V))
+
+    left-here : (V : WorkId) → V.server ≡ s → Is V → w.active V ≡ working_of (if work_eq N V then None else work_at V m.worker)
+    left-here V e (inl f) = subst (λ (U : WorkId). w.active U ≡ None) f.1 (prepared (λ n. false)).not_active ∙ sym (ap (λ (b : Bool). working_of (if b then None else work_at V m.worker)) f.0)
+    left-here V e (inr f) = active-here r w s m mirrors is up V e ∙ sym (ap (λ (b : Bool). working_of (if b then None else work_at V m.worker)) f.0)
+
+    next-zero : (V : WorkId) → V.server ≡ s → Is V → at_work w.next N 0 V ≡ at_work m.next N 0 V
+    next-zero V e (inl f) = ap (λ (b : Bool). if b then 0 else w.next V) f.0 ∙ sym (ap (λ (b : Bool). if b then 0 else m.next V) f.0)
+    next-zero V e (inr f) = ap (λ (b : Bool). if b then 0 else w.next V) f.0 ∙ next-here V e ∙ sym (ap (λ (b : Bool). if b then 0 else m.next V) f.0)
+
+    zero-there : (V : WorkId) → s ≢ V.server → Is V → at_work w.next N 0 V ≡ w.next V
+    zero-there V ne (inl f) = absurd (ne (sym at ∙ ap (λ (U : WorkId). U.server) f.1))
+    zero-there V ne (inr f) = ap (λ (b : Bool). if b then 0 else w.next V) f.0
+
+    owner-left : (V : WorkId) (v : Work) → Is V → (if work_eq N V then None else work_at V m.worker) ≡ Some v → Says w (messages.Inquire v.tid V)
+    owner-left V v (inl f) h = absurd (no (subst (λ (b : Bool). (if b then None else work_at V m.worker) ≡ Some v) f.0 h))
+      where
+        no : None ≡ Some v → ⊥
+        no q = cc
+    owner-left V v (inr f) h = mirrors.owner s m V v is (subst (λ (b : Bool). (if b then None else work_at V m.worker) ≡ Some v) f.0 h)
+
+    abbrev over-stops : (Pick → ℕ) → List Atom
+    over-stops made = Count N 0 ∷ Make (λ c. some_made (made c)) (RemoveWork N) ∷ []
+
+    may-end-stop : (made : Pick → ℕ) → MayRun (over-stops made) w
+    may-end-stop made = (none-yet w is-up, (may-remove, tt))
+
+    abbrev over-row : List Sent → RowOutcome WorkerTable
+    over-row sent = record { table = without N m.worker; changes = RemoveWork N ∷ []; messages = sent; notes = []; tickets = m.tickets }
+
+    over-stop-does : (sent : List Sent) (made : Pick → ℕ) → DoesStop s (over-row sent) made w (run (over-stops made) w)
+    over-stop-does sent made = record {
+      up = λ q. refl;
+      found = λ q c. ap (λ (z : ServerNo). if server_eq z q then (if some_made (made c) then made_by (RemoveWork N) (w.found z c) else w.found z c) else w.found q c) at
+          ∙ ap (λ z. if server_eq s q then z else w.found q c) (made-one (RemoveWork N) (made c) (w.found s c));
+      elsewhere = λ V ne. refl;
+      next = λ V ne. zero-there V ne (work_tells N V);
+      ticket = λ q ne. refl;
+      knowledge = λ U ne. refl;
+      history = refl;
+      ended = refl;
+      grows = λ message h. grow (over-stops made) (may-end-stop made) message h;
+    }
+
+    pub remove-moves : (sent : List Sent) → All (IsTrue (run over-atoms w)) sent → All IsAddressed sent → RowMoves s m (over-row sent) w
+    remove-moves sent says addressed = record {
+      atoms = over-atoms;
+      may = may-end;
+      does = record {
+        up = λ q. refl;
+        found = λ q c. ap (λ (z : ServerNo). if server_eq z q then made_by (RemoveWork N) (w.found z c) else w.found q c) at;
+        here = λ V e. left-here V e (work_tells N V) ∙ sym (ap working_of (at-less V N m.worker up.table.rising));
+        elsewhere = λ V ne. refl;
+        next_here = λ V e. next-zero V e (work_tells N V);
+        next_elsewhere = λ V ne. zero-there V ne (work_tells N V);
+        ticket_here = mirrors.ticket s m is;
+        ticket_elsewhere = λ q ne. refl;
+        knowledge = λ U. refl;
+        history = refl;
+        ended = refl;
+        owner = λ V v h. grow over-atoms may-end (messages.Inquire v.tid V) (owner-left V v (work_tells N V) (sym (at-less V N m.worker up.table.rising) ∙ h));
+        grows = λ message h. grow over-atoms may-end message h;
+        says = says;
+        addressed = addressed;
+      };
+      stops = λ made. record { atoms = over-stops made; may = may-end-stop made; does = over-stop-does sent made };
+    }
+
+  -- ---- nothing is left to carry out
+
+  module _ (going : p.going ≡ true) (T : Tid) (end : slice_get p.list (m.next N) ≡ None) where
+    all-written : (c : Pick) (u : LockUnit) (v : Option (List ℕ)) → list_change p.list u ≡ Some v → (w.found N.server c).files u ≡ v
+    all-written c u v h = (prepared c).next going u v (subst (λ n. list_change (take n p.list) u ≡ Some v) (sym (next-here N at)) (subst (λ l. list_change l u ≡ Some v) (sym (take-end p.list (m.next N) end)) h))
+
+    may-remove : (c : Pick) → MayRemove (run (Count N 0 ∷ []) w) (w.found N.server c) N
+    may-remove c = record {
+      why = inl ((prepared c).going going);
+      done = λ q e n u v h. all-written c u v (subst (λ (z : Prepared). list_change z.list u ≡ Some v) (sym (same-stored c q e)) h);
+    }
+
+    over-now : at_work w.over N true N ≡ true
+    over-now = grind (arith, work_tells N N)
+
+    pub over-moves : RowMoves s m (record { table = without N m.worker; changes = RemoveWork N ∷ []; messages = (Server T.server, messages.Done T N) ∷ []; notes = []; tickets = m.tickets }) w
+    over-moves = remove-moves may-remove ((Server T.server, messages.Done T N) ∷ []) (All-cons (IsTrue (run over-atoms w)) (Server T.server, messages.Done T N) [] over-now (All-nil (IsTrue (run over-atoms w))))
+        (All-cons IsAddressed (Server T.server, messages.Done T N) [] refl (All-nil IsAddressed))
+
+-- ---- a background step
+
+module _ (r : World) (w : Machine) (s : ServerNo) (m : Memory) (mirrors : Mirrors r w) (is : r.memory s ≡ Some m) (up : UpFact s m (r.found s))
+    (grow : (atoms : List Atom) → MayRun atoms w → (message : Message) → Says w message → Says (run atoms w) message) (inv : Invariant w) where
+  carried : (x : Work) (o : Option Prepared) (i : Option Intention) → (stable (r.found s)).works x.name ≡ o → is_going o ≡ true → slice_get (intentions_of o) (m.next x.name) ≡ i → RowMoves s m (carried_row m.worker m.tickets x i) w
+  carried x None i e g h = absurd (grind arith)
+  carried x (Some p) (Some i) e g h = carry-moves r w s m mirrors is up grow inv x.name p e g i h
+  carried x (Some p) None e g h = over-moves r w s m mirrors is up grow inv x.name p e g x.tid h
+
+  going : (o : Option Work) (room : Room) (row : RowOutcome WorkerTable) → going_work (stable (r.found s)) m.worker ≡ o → going_row m.worker (storage_of m (stable (r.found s)) room) m.tickets o ≡ Some row → RowMoves s m row w
+  going (Some x) room row e h = subst (λ (z : RowOutcome WorkerTable). RowMoves s m z w) (some h)
+      (carried x ((stable (r.found s)).works x.name) (slice_get (intentions_of ((stable (r.found s)).works x.name)) (m.next x.name)) refl (going-is (stable (r.found s)) m.worker x e) refl)
+    where
+      some : {a b : RowOutcome WorkerTable} → Some a ≡ Some b → a ≡ b
+      some q = cc
+  going None room row e h = by room.rubbish h
+    where
+      some : {a b : RowOutcome WorkerTable} → Some a ≡ Some b → a ≡ b
+      some q = cc
+
+      by : (b : Bool) → (if b then Some (record { table = m.worker; changes = []; messages = []; notes = []; tickets = m.tickets }) else None) ≡ Some row → RowMoves s m row w
+      by true q = subst (λ (z : RowOutcome WorkerTable). RowMoves s m z w) (some q) (sends-moves r w s m mirrors is up [] [] (All-nil (IsTrue w), All-nil IsAddressed))
+      by false q = absurd (none q)
+        where
+          none : None ≡ Some row → ⊥
+          none z = cc
+
+  pub step-move : (room : Room) (row : RowOutcome WorkerTable) → worker_step m.worker (storage_of m (stable (r.found s)) room) m.tickets ≡ Some row → RowMoves s m row w
+  step-move room row h = going (going_work (stable (r.found s)) m.worker) room row refl h

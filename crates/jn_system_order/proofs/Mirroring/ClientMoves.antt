@@ -1,0 +1,124 @@
+-- What a client does, as steps of the machine: it sends what is true, and where it thanks, it asks nothing more.
+use Rattle.std.proofs.Common.{◌≡◌, Bool, true, false, List, [], ◌∷◌, ◌++◌, append-nil, ℕ, Option, Some, None, refl, sym, ◌∙◌, ap}
+use Rattle.std.specs.Prelude.{if◌then◌else◌, All}
+use Rattle.std.proofs.lemmas.List.Elements.{All-nil, All-cons, All-append}
+use Rattle.jn_base.specs.declared.names.ClientNo.{ClientNo}
+use Rattle.jn_base.specs.declared.names.Party.TheVariants.{Client, Server}
+use Rattle.jn_base.specs.declared.op.Command.{Command}
+use Rattle.jn_base.specs.Names.{client_eq}
+use Rattle.jn_msgs.specs.declared.message.Message.{Message}
+use Rattle.jn_msgs.specs.declared.message.Message.TheVariants as messages
+use Rattle.jn_report.specs.declared.line.Text.{Text}
+use Rattle.jn_report.specs.declared.line.Text.TheVariants as says
+use Rattle.jn_rows.specs.declared.client.Outstanding.{Outstanding}
+use Rattle.jn_rows.specs.declared.client.Taken.{Taken}
+use Rattle.jn_rows.specs.declared.client.Taken.TheVariants as taken
+use Rattle.jn_rows.specs.Outcomes.{Sent}
+use Rattle.jn_rows.specs.Client.{ClientTable, Commanded, Refuses, Sends, command_row, take_row, is_end, sent_again}
+use Rattle.jn_system.specs.SmallSteps.World.{World as Machine}
+use Rattle.jn_system.specs.SmallSteps.Steps.{Atom, Close, run}
+use Rattle.jn_system.specs.SmallSteps.Premises.{MayRun}
+use Rattle.jn_system.specs.SmallSteps.Messages.{Says}
+use Rattle.jn_system.proofs.SmallSteps.Updates.{at_tid_here}
+use Rattle.jn_system.specs.WholeSystem.World.{World, at_client, commits_in, committed_in}
+use Rattle.jn_system.specs.WholeSystem.Steps.{commanded, tell, again, sent_now, took, taken_by}
+use Rattle.jn_system_order.specs.Mirroring.Mirrors.{Mirrors, MovesTo, IsTrue, IsAddressed, IsOutstanding, IsClient, commits_of}
+use Rattle.jn_system_order.proofs.Mirroring.Mirrored.{All-grows, transactions-still, client-still, commits-more}
+use Rattle.jn_system_order.proofs.Mirroring.ClientRows.{Tells, commands-tell, IsThanks, Takes, takes}
+
+-- the machine's steps have changed only what has happened
+pub record SameServers (w v : Machine) : Type 0 where
+  pub up : v.up ≡ w.up
+  pub found : v.found ≡ w.found
+  pub active : v.active ≡ w.active
+  pub next : v.next ≡ w.next
+  pub ticket : v.ticket ≡ w.ticket
+  pub knowledge : v.knowledge ≡ w.knowledge
+  pub history : v.history ≡ w.history
+
+same-servers : (w : Machine) → SameServers w w
+same-servers w = record { up = refl; found = refl; active = refl; next = refl; ticket = refl; knowledge = refl; history = refl }
+
+-- a line that tells of no commit
+pub quiet-line : (lines : List Text) (line : Text) → committed_in line ≡ [] → commits_in (lines ++ line ∷ []) ≡ commits_in lines
+quiet-line lines line h = commits-more lines (line ∷ []) ∙ ap (λ z. commits_in lines ++ (z ++ [])) h ∙ append-nil (commits_in lines)
+
+module _ (r : World) (w : Machine) (h : Mirrors r w) (grow : (atoms : List Atom) → MayRun atoms w → (message : Message) → Says w message → Says (run atoms w) message) where
+  pub mirrors-still : (v : Machine) → SameServers w v → ((message : Message) → Says w message → Says v message) → (clients : ClientNo → ClientTable) → ((c : ClientNo) → IsClient v (clients c))
+      → (sent : List Sent) → All (IsTrue v) sent → All IsAddressed sent → (lines : List Text) → commits_in lines ≡ commits_in r.lines → Mirrors (record r { clients = clients; sent = sent; lines = lines }) v
+  mirrors-still v same g clients are sent says addressed lines quiet = record {
+    up = λ s. ap (λ f. f s) same.up ∙ h.up s;
+    found = λ s c. ap (λ f. f s c) same.found ∙ h.found s c;
+    active = λ W. ap (λ f. f W) same.active ∙ h.active W;
+    next = λ W. ap (λ f. f W) same.next ∙ h.next W;
+    ticket = λ s m e. ap (λ f. f s) same.ticket ∙ h.ticket s m e;
+    knowledge = λ T. ap (λ f. f T) same.knowledge ∙ h.knowledge T;
+    owner = λ s m W x e k. g (messages.Inquire x.tid W) (h.owner s m W x e k);
+    transactions = λ s m e. transactions-still w v g s m.coordinator.transactions (h.transactions s m e);
+    clients = are;
+    commits = ap commits_of same.history ∙ h.commits ∙ sym quiet;
+    says = says;
+    addressed = addressed;
+  }
+
+  -- one client changes
+  pub at-one : (v : Machine) → ((message : Message) → Says w message → Says v message) → (c : ClientNo) (t : ClientTable) → IsClient v t → (d : ClientNo) → IsClient v (at_client r.clients c t d)
+  at-one v g c t now d = by (client_eq c d)
+    where
+      by : (b : Bool) → IsClient v (if b then t else r.clients d)
+      by true = now
+      by false = client-still w v g (r.clients d) (h.clients d)
+
+  one : (P : Sent → Type 0) (sent : Sent) → P sent → All P (sent ∷ [])
+  one P sent k = All-cons P sent [] k (All-nil P)
+
+  -- nothing happens in the machine
+  pub stays-with : (clients : ClientNo → ClientTable) → ((c : ClientNo) → IsClient w (clients c)) → (sent : List Sent) → All (IsTrue w) sent → All IsAddressed sent → (lines : List Text) → commits_in lines ≡ commits_in r.lines
+      → MovesTo (record r { clients = clients; sent = sent; lines = lines }) w
+  stays-with clients are sent says addressed lines quiet = record { atoms = []; may = tt; ended = refl; mirrors = mirrors-still w (same-servers w) (λ message k. k) clients are sent says addressed lines quiet }
+
+  -- its transaction is closed
+  thanks-with : (c : ClientNo) (t : ClientTable) (sent : Sent) (lines : List Text) → IsClient w t → IsThanks sent → commits_in lines ≡ commits_in r.lines → MovesTo (record r { clients = at_client r.clients c t; sent = r.sent ++ sent ∷ []; lines = lines }) w
+  thanks-with c t (Server q, messages.Thanks d T) lines now to quiet = let atoms : List Atom = Close T ∷ [] in let v = run atoms w in let g = grow atoms (tt, tt) in record {
+    atoms = atoms;
+    may = (tt, tt);
+    ended = refl;
+    mirrors = mirrors-still v (record { up = refl; found = refl; active = refl; next = refl; ticket = refl; knowledge = refl; history = refl }) g (at_client r.clients c t) (at-one v g c t (client-still w v g t now)) (r.sent ++ (Server q, messages.Thanks d T) ∷ [])
+        (All-append (IsTrue v) r.sent ((Server q, messages.Thanks d T) ∷ []) (All-grows w v g r.sent h.says) (one (IsTrue v) (Server q, messages.Thanks d T) (at_tid_here w.closed T true)))
+        (All-append IsAddressed r.sent ((Server q, messages.Thanks d T) ∷ []) h.addressed (one IsAddressed (Server q, messages.Thanks d T) to)) lines quiet;
+  }
+  thanks-with c t (Client e, message) lines now to quiet = absurd to
+  thanks-with c t (Server q, _) lines now to quiet = absurd to
+
+  -- ---- a command
+
+  commanded-moves : (c : ClientNo) (row : Commanded) → Tells w row → MovesTo (commanded c row r) w
+  commanded-moves c (Refuses refusal) k = stays-with r.clients h.clients r.sent h.says h.addressed (r.lines ++ says.Refused c r.event refusal ∷ []) (quiet-line r.lines (says.Refused c r.event refusal) refl)
+  commanded-moves c (Sends t to message) k = stays-with (at_client r.clients c t) (at-one w (λ m l. l) c t k.0) (r.sent ++ (to, message) ∷ [])
+      (All-append (IsTrue w) r.sent ((to, message) ∷ []) h.says (one (IsTrue w) (to, message) k.1)) (All-append IsAddressed r.sent ((to, message) ∷ []) h.addressed (one IsAddressed (to, message) k.2)) r.lines refl
+
+  pub tell-moves : (c : ClientNo) (command : Command) → is_end command ≡ false → MovesTo (tell c command r) w
+  tell-moves c command not-end = commanded-moves c (command_row (r.clients c) r.event command) (commands-tell w (r.clients c) (h.clients c) r.event command not-end)
+
+  -- ---- once more
+
+  again-true : (o : Option Outstanding) → IsOutstanding w o → All (IsTrue w) (sent_now (sent_again o)) × All IsAddressed (sent_now (sent_again o))
+  again-true None k = (All-nil (IsTrue w), All-nil IsAddressed)
+  again-true (Some o) k = (one (IsTrue w) (o.to, o.message) k.0, one IsAddressed (o.to, o.message) k.1)
+
+  pub again-moves : (c : ClientNo) → MovesTo (again c r) w
+  again-moves c = let k = again-true (r.clients c).outstanding (h.clients c).waits in
+      stays-with r.clients h.clients (r.sent ++ sent_now (sent_again (r.clients c).outstanding)) (All-append (IsTrue w) r.sent (sent_now (sent_again (r.clients c).outstanding)) h.says k.0)
+      (All-append IsAddressed r.sent (sent_now (sent_again (r.clients c).outstanding)) h.addressed k.1) r.lines refl
+
+  -- ---- a message
+
+  took-moves : (c : ClientNo) (k : ℕ) (t : ClientTable) (taken : Taken) → Takes w t taken → MovesTo (took c k t taken r) w
+  took-moves c k t taken.Ignored now = stays-with (at_client r.clients c t) (at-one w (λ m l. l) c t now) r.sent h.says h.addressed (r.lines ++ says.Ignored k ∷ []) (quiet-line r.lines (says.Ignored k) refl)
+  took-moves c k t (taken.Send to message) now = thanks-with c t (to, message) r.lines now.0 now.1 refl
+  took-moves c k t (taken.Told line None) now = stays-with (at_client r.clients c t) (at-one w (λ m l. l) c t now.0) (r.sent ++ []) (All-append (IsTrue w) r.sent [] h.says (All-nil (IsTrue w)))
+      (All-append IsAddressed r.sent [] h.addressed (All-nil IsAddressed)) (r.lines ++ line ∷ []) (quiet-line r.lines line now.1)
+  took-moves c k t (taken.Told line (Some sent)) now = thanks-with c t sent (r.lines ++ line ∷ []) now.0 now.2 (quiet-line r.lines line now.1)
+
+  pub taken-moves : (c : ClientNo) (k : ℕ) (message : Message) → Says w message → MovesTo (taken_by c k (take_row (r.clients c) message) r) w
+  taken-moves c k message said = let row = take_row (r.clients c) message in took-moves c k row.0 row.1 (takes w (r.clients c) (h.clients c) message said)

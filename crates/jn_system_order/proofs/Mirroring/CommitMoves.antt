@@ -1,0 +1,151 @@
+-- What a worker does with a Commit, as steps of the machine: its work goes on, or is over.
+use Rattle.std.proofs.Common.{◌≡◌, ◌≢◌, ◌⊎◌, inl, inr, ℕ, Bool, true, false, List, [], ◌∷◌, Option, Some, None, is_some, refl, sym, ◌∙◌, ap, subst, arith}
+use Rattle.std.specs.Prelude.{if◌then◌else◌}
+use Rattle.std.proofs.lemmas.List.Elements.{All-nil, All-cons}
+use Rattle.jn_base.specs.declared.names.ServerNo.{ServerNo}
+use Rattle.jn_base.specs.declared.names.Tid.{Tid}
+use Rattle.jn_base.specs.declared.names.WorkId.{WorkId}
+use Rattle.jn_base.specs.declared.names.Party.TheVariants.{Server}
+use Rattle.jn_base.specs.Names.{server_eq, work_eq}
+use Rattle.jn_base.proofs.Tells.{work_tells}
+use Rattle.jn_msgs.specs.declared.message.Message.{Message}
+use Rattle.jn_msgs.specs.declared.message.Message.TheVariants as messages
+use Rattle.jn_msgs.specs.declared.message.Note.TheVariants.{Ignored}
+use Rattle.jn_rows.specs.declared.worker.Work.{Work}
+use Rattle.jn_rows.specs.declared.worker.Phase.{Phase}
+use Rattle.jn_rows.specs.declared.worker.Phase.TheVariants.{Active, Broken, Prepared as Stored}
+use Rattle.jn_rows.specs.Stable.{StableState, Prepared, Pick, MarkGoing, made_by, at_work, stable, is_going}
+use Rattle.jn_rows.specs.Worker.{work_at, commit_phase, commit_row}
+use Rattle.jn_system.specs.SmallSteps.World.{World as Machine}
+use Rattle.jn_system.specs.SmallSteps.Transactions.{PartFact}
+use Rattle.jn_system.specs.SmallSteps.Steps.{Atom, NoteOver, Make, always, run}
+use Rattle.jn_system.specs.SmallSteps.Premises.{MayRun, MayGoOn}
+use Rattle.jn_system.specs.SmallSteps.Messages.{Says}
+use Rattle.jn_system.specs.WholeSystem.World.{World, Memory}
+use Rattle.jn_system.specs.WholeSystem.Servers.{Room, storage_of}
+use Rattle.jn_system.specs.WholeSystem.LockFacts.{UpFact}
+use Rattle.jn_system_order.specs.Mirroring.Mirrors.{Mirrors, IsTrue, IsAddressed, working_of, next_in}
+use Rattle.jn_system_order.proofs.Mirroring.GrantMoves.{active-here, found-here, found-same}
+use Rattle.jn_system_order.proofs.Mirroring.Mirrored.{some_made, made-one, DoesStop}
+use Rattle.jn_system_order.proofs.Mirroring.QuietMoves.{RowMoves, still-stops, sends-moves}
+
+module _ (r : World) (w : Machine) (s : ServerNo) (m : Memory) (mirrors : Mirrors r w) (is : r.memory s ≡ Some m) (up : UpFact s m (r.found s))
+    (grow : (atoms : List Atom) → MayRun atoms w → (message : Message) → Says w message → Says (run atoms w) message) (parts : PartFact w)
+    (room : Room) (T : Tid) (W : WorkId) (said : Says w (messages.Commit T W)) (at : W.server ≡ s) where
+  next-here : (V : WorkId) → V.server ≡ s → w.next V ≡ m.next V
+  next-here V e = mirrors.next V ∙ ap (λ (q : ServerNo). next_in (r.memory q) V) e ∙ ap (λ o. next_in o V) is
+
+  -- ---- a work that is over
+
+  module _ (gone : work_at W m.worker ≡ None) where
+    not-stored : (stable (r.found s)).works W ≡ None
+    not-stored = by ((stable (r.found s)).works W) refl
+      where
+        by : (o : Option Prepared) → (stable (r.found s)).works W ≡ o → o ≡ None
+        by None e = refl
+        by (Some p) e = absurd (no (sym (ap is_some gone) ∙ up.table.live W (ap is_some e)))
+          where
+            no : false ≡ true → ⊥
+            no q = grind arith
+
+    may-over : MayRun (NoteOver W ∷ []) w
+    may-over = (
+      record {
+        opened = (parts T W.server W said.1.1).opened;
+        not_active = active-here r w s m mirrors is up W at ∙ ap working_of gone;
+        nowhere = λ c. ap (λ (z : StableState). z.works W) (found-here r w s m mirrors is up W.server c at) ∙ not-stored;
+      },
+      tt,
+    )
+
+    over-now : ((work_eq W W ≡ true) × (W ≡ W)) ⊎ ((work_eq W W ≡ false) × (W ≢ W)) → at_work w.over W true W ≡ true
+    over-now (inl e) = ap (λ (b : Bool). if b then true else w.over W) e.0
+    over-now (inr e) = absurd (e.1 refl)
+
+    over-moves : RowMoves s m (record { table = m.worker; changes = []; messages = (Server T.server, messages.Done T W) ∷ []; notes = []; tickets = m.tickets }) w
+    over-moves = record {
+      atoms = NoteOver W ∷ [];
+      may = may-over;
+      does = record {
+        up = λ q. refl;
+        found = λ q k. found-same r w s m mirrors is up q k;
+        here = λ V e. active-here r w s m mirrors is up V e;
+        elsewhere = λ V ne. refl;
+        next_here = next-here;
+        next_elsewhere = λ V ne. refl;
+        ticket_here = mirrors.ticket s m is;
+        ticket_elsewhere = λ q ne. refl;
+        knowledge = λ U. refl;
+        history = refl;
+        ended = refl;
+        owner = λ V v h. grow (NoteOver W ∷ []) may-over (messages.Inquire v.tid V) (mirrors.owner s m V v is h);
+        grows = λ message h. grow (NoteOver W ∷ []) may-over message h;
+        says = All-cons (IsTrue (run (NoteOver W ∷ []) w)) (Server T.server, messages.Done T W) [] (over-now (work_tells W W)) (All-nil (IsTrue (run (NoteOver W ∷ []) w)));
+        addressed = All-cons IsAddressed (Server T.server, messages.Done T W) [] refl (All-nil IsAddressed);
+      };
+      stops = still-stops r w s m mirrors is up _ refl;
+    }
+
+  -- ---- a work that goes on
+
+  module _ (ready : is_going ((stable (r.found s)).works W) ≡ false) where
+    may-go : MayGoOn w W
+    may-go = record {
+      named = subst (λ (U : Tid). w.named U ≡ true) (sym (parts T W.server W said.1.1).owner) said.0;
+      none = next-here W at ∙ up.idle W ready;
+    }
+
+    may-mark : (done : Pick → Bool) → MayRun (Make done (MarkGoing W) ∷ []) w
+    may-mark done = (λ c. may-go, tt)
+
+    mark-stops : (made : Pick → ℕ) → DoesStop s (record { table = m.worker; changes = MarkGoing W ∷ []; messages = []; notes = []; tickets = m.tickets }) made w (run (Make (λ p. some_made (made p)) (MarkGoing W) ∷ []) w)
+    mark-stops made = record {
+      up = λ q. refl;
+      found = λ q p. ap (λ (z : ServerNo). if server_eq z q then (if some_made (made p) then made_by (MarkGoing W) (w.found z p) else w.found z p) else w.found q p) at
+          ∙ ap (λ z. if server_eq s q then z else w.found q p) (made-one (MarkGoing W) (made p) (w.found s p));
+      elsewhere = λ V ne. refl;
+      next = λ V ne. refl;
+      ticket = λ q ne. refl;
+      knowledge = λ U ne. refl;
+      history = refl;
+      ended = refl;
+      grows = λ message h. grow (Make (λ p. some_made (made p)) (MarkGoing W) ∷ []) (may-mark (λ p. some_made (made p))) message h;
+    }
+
+    mark-moves : RowMoves s m (record { table = m.worker; changes = MarkGoing W ∷ []; messages = []; notes = []; tickets = m.tickets }) w
+    mark-moves = record {
+      atoms = Make always (MarkGoing W) ∷ [];
+      may = may-mark always;
+      does = record {
+        up = λ q. refl;
+        found = λ q p. ap (λ (z : ServerNo). if server_eq z q then made_by (MarkGoing W) (w.found z p) else w.found q p) at;
+        here = λ V e. active-here r w s m mirrors is up V e;
+        elsewhere = λ V ne. refl;
+        next_here = next-here;
+        next_elsewhere = λ V ne. refl;
+        ticket_here = mirrors.ticket s m is;
+        ticket_elsewhere = λ q ne. refl;
+        knowledge = λ U. refl;
+        history = refl;
+        ended = refl;
+        owner = λ V v h. grow (Make always (MarkGoing W) ∷ []) (may-mark always) (messages.Inquire v.tid V) (mirrors.owner s m V v is h);
+        grows = λ message h. grow (Make always (MarkGoing W) ∷ []) (may-mark always) message h;
+        says = All-nil (IsTrue (run (Make always (MarkGoing W) ∷ []) w));
+        addressed = All-nil IsAddressed;
+      };
+      stops = λ made. record { atoms = Make (λ p. some_made (made p)) (MarkGoing W) ∷ []; may = may-mark (λ p. some_made (made p)); does = mark-stops made };
+    }
+
+  by-going : (b : Bool) → is_going ((stable (r.found s)).works W) ≡ b
+      → RowMoves s m (if b then record { table = m.worker; changes = []; messages = []; notes = Ignored ∷ []; tickets = m.tickets } else record { table = m.worker; changes = MarkGoing W ∷ []; messages = []; notes = []; tickets = m.tickets }) w
+  by-going true e = sends-moves r w s m mirrors is up [] (Ignored ∷ []) (All-nil (IsTrue w), All-nil IsAddressed)
+  by-going false e = mark-moves e
+
+  by-stage : (p : Phase) → RowMoves s m (commit_phase m.worker (storage_of m (stable (r.found s)) room) m.tickets W p) w
+  by-stage (Active a) = sends-moves r w s m mirrors is up [] (Ignored ∷ []) (All-nil (IsTrue w), All-nil IsAddressed)
+  by-stage (Broken u by) = sends-moves r w s m mirrors is up [] (Ignored ∷ []) (All-nil (IsTrue w), All-nil IsAddressed)
+  by-stage (Stored p) = by-going (is_going ((stable (r.found s)).works W)) refl
+
+  pub commits-move : (o : Option Work) → work_at W m.worker ≡ o → RowMoves s m (commit_row m.worker (storage_of m (stable (r.found s)) room) m.tickets T W o) w
+  commits-move (Some x) h = by-stage x.phase
+  commits-move None h = over-moves h

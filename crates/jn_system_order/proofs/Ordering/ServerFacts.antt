@@ -1,0 +1,285 @@
+-- A server's steps keep what holds of the openings.
+use Rattle.std.proofs.Common.{◌≡◌, ◌≢◌, ◌⊎◌, inl, inr, ℕ, Bool, true, false, List, [], ◌∷◌, ◌++◌, append-nil, Option, Some, None, is_some, ◌+◌, refl, sym, ◌∙◌, ap, subst, arith}
+use Rattle.std.specs.Prelude.{◌&&◌, if◌then◌else◌, nat_eq, nat_lt, length}
+use Rattle.std.proofs.lemmas.Bool.Decides.{nat_tests}
+use Rattle.jn_base.specs.declared.names.ServerNo.{ServerNo}
+use Rattle.jn_base.specs.declared.names.ClientNo.{ClientNo}
+use Rattle.jn_base.specs.declared.names.Tid.{Tid}
+use Rattle.jn_base.specs.declared.names.WorkId.{WorkId}
+use Rattle.jn_base.specs.declared.names.Party.TheVariants.{Client}
+use Rattle.jn_base.specs.Names.{server_eq, client_eq}
+use Rattle.jn_base.proofs.Tells.{client_tells}
+use Rattle.jn_msgs.specs.declared.message.Message.{Message}
+use Rattle.jn_msgs.specs.declared.message.Message.TheVariants as messages
+use Rattle.jn_rows.specs.declared.coordinator.Transaction.{Transaction}
+use Rattle.jn_rows.specs.declared.coordinator.Stage.TheVariants.{Open}
+use Rattle.jn_rows.specs.Stable.{StableState, Pick, stable}
+use Rattle.jn_rows.specs.Outcomes.{RowOutcome}
+use Rattle.jn_rows.specs.Worker.{WorkerTable, worker_step, worker_again, timeout_row}
+use Rattle.jn_rows.specs.Coordinator.{CoordinatorTable, transaction_at, coordinator_again, name_from, after_closing, changes_of_closing, seen_now, begin_again, begun_by, begin_row, is_begun, close_clients_row}
+use Rattle.jn_system.specs.SmallSteps.World.{World as Machine}
+use Rattle.jn_system.specs.SmallSteps.Invariant.{Invariant}
+use Rattle.jn_system.proofs.SmallSteps.NameLemmas.{fresh_tid}
+use Rattle.jn_system.specs.WholeSystem.World.{World, Memory, at_server}
+use Rattle.jn_system.specs.WholeSystem.Servers.{Room, storage_of, of_worker, of_coordinator, of_step, server_row, server_again, of_timeout, restored}
+use Rattle.jn_system.specs.WholeSystem.Steps.{done, stopped, ends, at_memory, works, work, nudge, timeout, crash, narrow, stop_restart, restart, close_clients}
+use Rattle.jn_system.specs.WholeSystem.LockFacts.{ServerFact, UpFact}
+use Rattle.jn_system.proofs.WholeSystem.Closes.{client-closes, outcomes-close}
+use Rattle.jn_system_order.specs.Mirroring.Mirrors.{Mirrors}
+use Rattle.jn_system_order.proofs.Mirroring.GrantMoves.{found-here}
+use Rattle.jn_system_order.proofs.Ordering.Openings.{Opening, openings, openings-more, Has, has-first, has-second, has-either, HasOpening, HaveOpenings, more-openings}
+use Rattle.jn_system_order.proofs.Ordering.RowOpenings.{worker-none, step-none, again-none, Quiet, closes-have, ends-quiet, aborts-quiet, inquires-quiet, votes-quiet, dones-quiet, thanks-quiet, coordinator-again-quiet, restored-have}
+use Rattle.jn_system_order.proofs.Ordering.Facts.{opening, Facts, facts-keep}
+
+-- what a row's messages and table have
+pub record RowFacts (os : List Opening) (w : Machine) (row : RowOutcome Memory) : Type 0 where
+  pub fresh : Opening
+  pub back : (a : Opening) → Has a (openings row.messages) → Has a os ⊎ ((a ≡ fresh) × (w.begun fresh.tid ≡ false))
+  pub tables : HaveOpenings (os ++ openings row.messages) row.table.coordinator.transactions
+
+no-opening : Opening
+no-opening = record { client = record { 0 = 0 }; request = 0; tid = record { server = record { 0 = 0 }; epoch = 0; ticket = 0 } }
+
+append-have : (os : List Opening) (xs ys : List Transaction) → HaveOpenings os xs → HaveOpenings os ys → HaveOpenings os (xs ++ ys)
+append-have os [] ys h k = k
+append-have os (x ∷ xs) ys h k = (h.0, append-have os xs ys h.1 k)
+
+some-memory : (a b : Memory) → Some a ≡ Some b → a ≡ b
+some-memory a b e = cc
+
+none-memory : (a : Memory) → None ≡ Some a → ⊥
+none-memory a e = cc
+
+-- ---- rows
+
+module _ (os : List Opening) (w : Machine) (m : Memory) (have : HaveOpenings os m.coordinator.transactions) where
+  -- nothing is opened
+  plain : (row : RowOutcome Memory) → openings row.messages ≡ [] → HaveOpenings os row.table.coordinator.transactions → RowFacts os w row
+  plain row none h = record {
+    fresh = no-opening;
+    back = λ a k. absurd (subst (λ l. Has a l) none k);
+    tables = more-openings os (openings row.messages) row.table.coordinator.transactions h;
+  }
+
+  by-worker : (row : RowOutcome WorkerTable) → openings row.messages ≡ [] → RowFacts os w (of_worker m row)
+  by-worker row none = plain (of_worker m row) none have
+
+  by-quiet : (row : RowOutcome CoordinatorTable) → Quiet m.coordinator row → RowFacts os w (of_coordinator m row)
+  by-quiet row q = plain (of_coordinator m row) q.none (q.keeps os have)
+
+  -- a Begin
+  module _ (c : ClientNo) (request : ℕ) (not-begun : w.begun (name_from m.tickets) ≡ false) where
+    abbrev ys : List Transaction
+    ys = after_closing c m.coordinator.transactions
+
+    ys-have : HaveOpenings os ys
+    ys-have = closes-have os (client-closes c m.coordinator.transactions) have
+
+    abbrev table : CoordinatorTable
+    table = record { transactions = ys; seen = seen_now m.coordinator.seen c request }
+
+    abbrev new : Transaction
+    new = record { tid = name_from m.tickets; client = c; begun = Some request; stage = Open }
+
+    its : HasOpening (os ++ opening c request (name_from m.tickets) ∷ []) new
+    its q e = has-second _ os (opening c request (name_from m.tickets) ∷ []) (inl (ap (λ n. opening c n (name_from m.tickets)) (some e)))
+      where
+        some : {q : ℕ} → Some request ≡ Some q → request ≡ q
+        some f = cc
+
+    begun-facts : RowFacts os w (of_coordinator m (record {
+      table = record table { transactions = ys ++ new ∷ [] };
+      changes = changes_of_closing c m.coordinator.transactions;
+      messages = (Client c, messages.Begun c request (Some (name_from m.tickets))) ∷ [];
+      notes = [];
+      tickets = record m.tickets { next = m.tickets.next + 1 };
+    }))
+    begun-facts = record {
+      fresh = opening c request (name_from m.tickets);
+      back = λ a k. inr (by a k, not-begun);
+      tables = append-have (os ++ opening c request (name_from m.tickets) ∷ []) ys (new ∷ []) (more-openings os (opening c request (name_from m.tickets) ∷ []) ys ys-have) (its, tt);
+    }
+      where
+        by : (a : Opening) → (opening c request (name_from m.tickets) ≡ a) ⊎ ⊥ → a ≡ opening c request (name_from m.tickets)
+        by a (inl e) = sym e
+        by a (inr e) = absurd e
+
+    either : (b : Bool) (p q : RowOutcome CoordinatorTable) → RowFacts os w (of_coordinator m p) → RowFacts os w (of_coordinator m q) → RowFacts os w (of_coordinator m (if b then p else q))
+    either true p q h l = h
+    either false p q h l = l
+
+    -- one that was begun before
+    found-begun : (zs : List Transaction) (y : Transaction) → HaveOpenings os zs → begun_by c request zs ≡ Some y → Has (opening c request y.tid) os
+    found-begun [] y h k = absurd (none k)
+      where
+        none : None ≡ Some y → ⊥
+        none q = cc
+    found-begun (z ∷ zs) y h k = by (client_eq z.client c && is_begun z.begun request) refl k (found-begun zs y h.1)
+      where
+        some : Some z ≡ Some y → z ≡ y
+        some q = cc
+
+        first : (a b : Bool) → (a && b) ≡ true → a ≡ true
+        first a b q = grind arith
+
+        second : (a b : Bool) → (a && b) ≡ true → b ≡ true
+        second a b q = grind arith
+
+        off : (b : Bool) → b ≡ true → b ≡ false → ⊥
+        off b p q = grind arith
+
+        same-client : client_eq z.client c ≡ true → z.client ≡ c
+        same-client e = at (client_tells z.client c)
+          where
+            at : ((client_eq z.client c ≡ true) × (z.client ≡ c)) ⊎ ((client_eq z.client c ≡ false) × (z.client ≢ c)) → z.client ≡ c
+            at (inl p) = p.1
+            at (inr p) = absurd (off (client_eq z.client c) e p.0)
+
+        same-request : (o : Option ℕ) → is_begun o request ≡ true → o ≡ Some request
+        same-request None e = absurd (no e)
+          where
+            no : false ≡ true → ⊥
+            no q = grind arith
+        same-request (Some q) e = grind (arith, nat_tests)
+
+        by : (b : Bool) → (client_eq z.client c && is_begun z.begun request) ≡ b → (if b then Some z else begun_by c request zs) ≡ Some y → (begun_by c request zs ≡ Some y → Has (opening c request y.tid) os) → Has (opening c request y.tid) os
+        by true e q on = subst (λ (t : Transaction). Has (opening c request t.tid) os) (some q)
+            (subst (λ (d : ClientNo). Has (opening d request z.tid) os) (same-client (first (client_eq z.client c) (is_begun z.begun request) e)) (h.0 request (same-request z.begun (second (client_eq z.client c) (is_begun z.begun request) e))))
+        by false e q on = on q
+
+    again-facts : (o : Option Transaction) → begun_by c request m.coordinator.transactions ≡ o → RowFacts os w (of_coordinator m (begin_again m.coordinator m.tickets c request o))
+    again-facts None h = plain _ refl have
+    again-facts (Some y) h = record {
+      fresh = no-opening;
+      back = λ a k. by a k;
+      tables = more-openings os (opening c request y.tid ∷ []) m.coordinator.transactions have;
+    }
+      where
+        by : (a : Opening) → (opening c request y.tid ≡ a) ⊎ ⊥ → Has a os ⊎ ((a ≡ no-opening) × (w.begun no-opening.tid ≡ false))
+        by a (inl e) = inl (subst (λ (z : Opening). Has z os) e (found-begun m.coordinator.transactions y have h))
+        by a (inr e) = absurd e
+
+    begin-facts : RowFacts os w (of_coordinator m (begin_row m.coordinator m.tickets c request))
+    begin-facts = either (nat_lt (m.coordinator.seen c) request) _ _ (either (nat_lt (length ys) 64) _ _ begun-facts (plain _ refl ys-have))
+        (either (nat_eq (m.coordinator.seen c) request) _ _ (again-facts (begun_by c request m.coordinator.transactions) refl) (plain _ refl have))
+
+  pub row-facts : (x : StableState) (room : Room) (message : Message) → w.begun (name_from m.tickets) ≡ false → RowFacts os w (server_row m x room message)
+  row-facts x room (messages.Open c request T) fresh = by-worker _ (worker-none m.worker (storage_of m x room) m.tickets (messages.Open c request T))
+  row-facts x room (messages.Op c request W number op) fresh = by-worker _ (worker-none m.worker (storage_of m x room) m.tickets (messages.Op c request W number op))
+  row-facts x room (messages.Prepare T c W) fresh = by-worker _ (worker-none m.worker (storage_of m x room) m.tickets (messages.Prepare T c W))
+  row-facts x room (messages.Commit T W) fresh = by-worker _ (worker-none m.worker (storage_of m x room) m.tickets (messages.Commit T W))
+  row-facts x room (messages.Drop T W) fresh = by-worker _ (worker-none m.worker (storage_of m x room) m.tickets (messages.Drop T W))
+  row-facts x room (messages.Begin c request) fresh = begin-facts c request fresh
+  row-facts x room (messages.End c request T works) fresh = by-quiet _ (ends-quiet m.coordinator m.tickets room.free.records c request T works (transaction_at T m.coordinator.transactions))
+  row-facts x room (messages.Abort c request T works) fresh = by-quiet _ (aborts-quiet m.coordinator m.tickets c T works (transaction_at T m.coordinator.transactions))
+  row-facts x room (messages.Thanks c T) fresh = by-quiet _ (thanks-quiet m.coordinator m.tickets T (transaction_at T m.coordinator.transactions))
+  row-facts x room (messages.Vote T W vote) fresh = by-quiet _ (votes-quiet m.coordinator m.tickets T W vote (transaction_at T m.coordinator.transactions))
+  row-facts x room (messages.Done T W) fresh = by-quiet _ (dones-quiet m.coordinator m.tickets T W (transaction_at T m.coordinator.transactions))
+  row-facts x room (messages.Inquire T W) fresh = by-quiet _ (inquires-quiet m.coordinator m.tickets T W (transaction_at T m.coordinator.transactions))
+  row-facts x room (messages.Begun c request T) fresh = plain _ refl have
+  row-facts x room (messages.Opened c request T W) fresh = plain _ refl have
+  row-facts x room (messages.Answer c request answer) fresh = plain _ refl have
+  row-facts x room (messages.Outcome c T outcome) fresh = plain _ refl have
+
+-- ---- the world
+
+module _ (r : World) (w v : Machine) (mirrors : Mirrors r w) (facts : Facts r w) (inv : Invariant w) (ended : v.ended ≡ w.ended) (grow : (T : Tid) → w.begun T ≡ true → v.begun T ≡ true) where
+  abbrev os : List Opening
+  os = openings r.sent
+
+  -- nothing is sent
+  pub still-facts : (r' : World) → r'.clients ≡ r.clients → openings r'.sent ≡ openings r.sent → ((s : ServerNo) (m : Memory) → r'.memory s ≡ Some m → HaveOpenings (openings r.sent) m.coordinator.transactions) → Facts r' v
+  still-facts r' clients same tables = facts-keep r r' w v mirrors facts clients ended grow no-opening (λ a h. subst (λ l. Has a l) (sym same) h) (λ a h. inl (subst (λ l. Has a l) same h))
+      (λ s m e. subst (λ l. HaveOpenings l m.coordinator.transactions) (sym same) (tables s m e))
+
+  -- a server's table changes
+  at-tables : (s : ServerNo) (o : Option Memory) (more : List Opening) → ((m : Memory) → o ≡ Some m → HaveOpenings (os ++ more) m.coordinator.transactions) → (q : ServerNo) (n : Memory) → at_server r.memory s o q ≡ Some n → HaveOpenings (os ++ more) n.coordinator.transactions
+  at-tables s o more h q n e = by (server_eq s q) e
+    where
+      by : (b : Bool) → (if b then o else r.memory q) ≡ Some n → HaveOpenings (os ++ more) n.coordinator.transactions
+      by true k = h n k
+      by false k = more-openings os more n.coordinator.transactions (facts.tables q n k)
+
+  done-facts : (s : ServerNo) (k : Option ℕ) (row : RowOutcome Memory) → RowFacts os w row → Facts (done s k row r) v
+  done-facts s k row h = facts-keep r (done s k row r) w v mirrors facts refl ended grow h.fresh
+      (λ a e. subst (λ l. Has a l) (sym (openings-more r.sent row.messages)) (has-first a os (openings row.messages) e))
+      (λ a e. by a (has-either a os (openings row.messages) (subst (λ l. Has a l) (openings-more r.sent row.messages) e)))
+      (λ q n e. subst (λ l. HaveOpenings l n.coordinator.transactions) (sym (openings-more r.sent row.messages)) (at-tables s (Some row.table) (openings row.messages) (λ m f. subst (λ (z : Memory). HaveOpenings (os ++ openings row.messages) z.coordinator.transactions) (some-memory row.table m f) h.tables) q n e))
+    where
+      by : (a : Opening) → Has a os ⊎ Has a (openings row.messages) → Has a os ⊎ ((a ≡ h.fresh) × (w.begun h.fresh.tid ≡ false))
+      by a (inl p) = inl p
+      by a (inr p) = h.back a p
+
+  back-nil : (xs : List Transaction) → HaveOpenings (os ++ []) xs → HaveOpenings os xs
+  back-nil xs h = subst (λ l. HaveOpenings l xs) (append-nil os) h
+
+  gone-tables : (s : ServerNo) (q : ServerNo) (n : Memory) → at_server r.memory s None q ≡ Some n → HaveOpenings os n.coordinator.transactions
+  gone-tables s q n e = back-nil n.coordinator.transactions (at-tables s None [] (λ m f. absurd (none-memory m f)) q n e)
+
+  stopped-facts : (s : ServerNo) (made : Pick → ℕ) (row : RowOutcome Memory) → Facts (stopped s made row r) v
+  stopped-facts s made row = still-facts (stopped s made row r) refl refl (gone-tables s)
+
+  ends-facts : (s : ServerNo) (k : Option ℕ) (stop : Option (Pick → ℕ)) (row : RowOutcome Memory) → RowFacts os w row → Facts (ends s k stop row r) v
+  ends-facts s k None row h = done-facts s k row h
+  ends-facts s k (Some made) row h = stopped-facts s made row
+
+  same-facts : Facts r v
+  same-facts = still-facts r refl refl facts.tables
+
+  -- a name that is given next was never given
+  next-fresh : (s : ServerNo) (m : Memory) → r.memory s ≡ Some m → UpFact s m (r.found s) → w.begun (name_from m.tickets) ≡ false
+  next-fresh s m is up = fresh_tid w (name_from m.tickets) inv.names record {
+    up = mirrors.up m.tickets.server ∙ ap (λ (q : ServerNo). is_some (r.memory q)) up.server ∙ ap is_some is;
+    ticket = sym (ap w.ticket up.server ∙ mirrors.ticket s m is);
+    epoch = λ c. up.epoch ∙ sym (ap (λ x. x.epoch) (found-here r w s m mirrors is up m.tickets.server c up.server));
+  }
+
+  pub message-facts : (s : ServerNo) (k : ℕ) (room : Room) (stop : Option (Pick → ℕ)) (message : Message) (o : Option Memory) → r.memory s ≡ o → ServerFact s o (r.found s) → Facts (at_memory s k room stop message o r) v
+  message-facts s k room stop message None is fact = still-facts _ refl refl facts.tables
+  message-facts s k room stop message (Some m) is up = ends-facts s (Some k) stop _ (row-facts os w m (facts.tables s m is) (stable (r.found s)) room message (next-fresh s m is up))
+
+  pub work-facts : (s : ServerNo) (room : Room) (stop : Option (Pick → ℕ)) (o : Option Memory) → r.memory s ≡ o → Facts (work s room stop o r) v
+  work-facts s room stop None is = same-facts
+  work-facts s room stop (Some m) is = by (worker_step m.worker (storage_of m (stable (r.found s)) room) m.tickets) refl
+    where
+      by : (o : Option (RowOutcome WorkerTable)) → worker_step m.worker (storage_of m (stable (r.found s)) room) m.tickets ≡ o → Facts (works s stop (of_step m o) r) v
+      by None e = same-facts
+      by (Some row) e = ends-facts s None stop (of_worker m row) (by-worker os w m (facts.tables s m is) row (step-none m.worker (storage_of m (stable (r.found s)) room) m.tickets row e))
+
+  pub nudge-facts : (s : ServerNo) (o : Option Memory) → r.memory s ≡ o → Facts (nudge s o r) v
+  nudge-facts s None is = same-facts
+  nudge-facts s (Some m) is = facts-keep r _ w v mirrors facts refl ended grow no-opening (λ a h. subst (λ l. Has a l) (sym same) h) (λ a h. inl (subst (λ l. Has a l) same h)) (λ q n e. subst (λ l. HaveOpenings l n.coordinator.transactions) (sym same) (facts.tables q n e))
+    where
+      same : openings (r.sent ++ server_again m (stable (r.found s))) ≡ os
+      same = openings-more r.sent (server_again m (stable (r.found s))) ∙ ap (λ l. os ++ l) (openings-more (worker_again (stable (r.found s)) m.worker) (coordinator_again m.coordinator.transactions)
+          ∙ ap (λ l. l ++ openings (coordinator_again m.coordinator.transactions)) (again-none (stable (r.found s)) m.worker) ∙ coordinator-again-quiet m.coordinator.transactions) ∙ append-nil os
+
+  pub timeout-facts : (s : ServerNo) (T : Tid) (o : Option Memory) → r.memory s ≡ o → Facts (timeout s T o r) v
+  timeout-facts s T None is = same-facts
+  timeout-facts s T (Some m) is = still-facts _ refl refl (λ q n e. back-nil n.coordinator.transactions (at-tables s (Some (of_timeout m (timeout_row m.worker T))) [] (λ x f. more-openings os [] x.coordinator.transactions
+      (subst (λ (z : Memory). HaveOpenings os z.coordinator.transactions) (some-memory _ x f) (by (timeout_row m.worker T)))) q n e))
+    where
+      by : (t : Option WorkerTable) → HaveOpenings os (of_timeout m t).coordinator.transactions
+      by None = facts.tables s m is
+      by (Some t) = facts.tables s m is
+
+  pub crash-facts : (s : ServerNo) (o : Option Memory) → Facts (crash s o r) v
+  crash-facts s None = same-facts
+  crash-facts s (Some m) = still-facts _ refl refl (gone-tables s)
+
+  pub narrow-facts : (s : ServerNo) (g : Pick → Pick) (o : Option Memory) → Facts (narrow s g o r) v
+  narrow-facts s g None = still-facts _ refl refl facts.tables
+  narrow-facts s g (Some m) = same-facts
+
+  pub raise-facts : (s : ServerNo) (raised : Pick → Bool) (o : Option Memory) → Facts (stop_restart s raised o r) v
+  raise-facts s raised None = still-facts _ refl refl facts.tables
+  raise-facts s raised (Some m) = same-facts
+
+  pub restart-facts : (s : ServerNo) (pick : Pick) (Ws : List WorkId) (Ts : List Tid) (o : Option Memory) → Facts (restart s pick Ws Ts o r) v
+  restart-facts s pick Ws Ts (Some m) = same-facts
+  restart-facts s pick Ws Ts None = still-facts _ refl refl (λ q n e. back-nil n.coordinator.transactions (at-tables s (Some (restored s (r.found s pick) Ws Ts)) [] (λ x f. more-openings os [] x.coordinator.transactions
+      (subst (λ (z : Memory). HaveOpenings os z.coordinator.transactions) (some-memory (restored s (r.found s pick) Ws Ts) x f) (restored-have os (r.found s pick) Ts))) q n e))
+
+  pub close-facts : (s : ServerNo) (o : Option Memory) → r.memory s ≡ o → Facts (close_clients s o r) v
+  close-facts s None is = same-facts
+  close-facts s (Some m) is = let row = of_coordinator m (close_clients_row m.coordinator m.tickets) in done-facts s None row (plain os w m (facts.tables s m is) row refl (closes-have os (outcomes-close m.coordinator.transactions) (facts.tables s m is)))

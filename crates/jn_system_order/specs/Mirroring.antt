@@ -1,0 +1,2 @@
+-- What stands where, and that each step keeps it.
+pub mod Mirrors

@@ -1,0 +1,2 @@
+-- Runs, and the order of their commits.
+pub mod Runs

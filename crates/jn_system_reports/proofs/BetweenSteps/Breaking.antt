@@ -1,0 +1,349 @@
+-- A broken work of a table was broken there before a step, or active; where a step names a commit, it breaks none.
+use Rattle.std.proofs.Common.{◌≡◌, ◌≢◌, ◌⊎◌, inl, inr, ℕ, ◌+◌, Bool, true, false, List, [], ◌∷◌, ◌++◌, append-nil, Option, Some, None, refl, sym, ◌∙◌, ap, subst}
+use Rattle.std.specs.Prelude.{if◌then◌else◌, nat_eq, nat_lt, length, slice_get}
+use Rattle.jn_base.specs.declared.names.ServerNo.{ServerNo}
+use Rattle.jn_base.specs.declared.names.ClientNo.{ClientNo}
+use Rattle.jn_base.specs.declared.names.Tid.{Tid}
+use Rattle.jn_base.specs.declared.names.WorkId.{WorkId}
+use Rattle.jn_base.specs.declared.names.Tickets.{Tickets}
+use Rattle.jn_base.specs.declared.names.Party.TheVariants.{Client, Server}
+use Rattle.jn_base.specs.declared.op.Op.{Op}
+use Rattle.jn_base.specs.declared.op.Answer.{Answer}
+use Rattle.jn_base.specs.Names.{server_eq, work_eq}
+use Rattle.jn_order.specs.Files.{Files, change, answer_to}
+use Rattle.jn_records.specs.NetLists.{list_change, length_with}
+use Rattle.jn_locks.specs.declared.words.Mode.TheVariants.{Read}
+use Rattle.jn_records.specs.declared.intention.Intention.{Intention}
+use Rattle.jn_msgs.specs.declared.message.Message.{Message}
+use Rattle.jn_msgs.specs.declared.message.Message.TheVariants as messages
+use Rattle.jn_msgs.specs.declared.message.Vote.{Vote}
+use Rattle.jn_msgs.specs.declared.message.Vote.TheVariants as votes
+use Rattle.jn_rows.specs.declared.worker.Work.{Work}
+use Rattle.jn_rows.specs.declared.worker.Phase.{Phase}
+use Rattle.jn_rows.specs.declared.worker.Phase.TheVariants.{Active, Broken, Prepared as Stored}
+use Rattle.jn_rows.specs.declared.worker.ActiveWork.{ActiveWork}
+use Rattle.jn_rows.specs.declared.client.Taken.{Taken}
+use Rattle.jn_rows.specs.declared.client.Taken.TheVariants as taken
+use Rattle.jn_rows.specs.Stable.{Pick, is_going, stable}
+use Rattle.jn_rows.specs.Outcomes.{RowOutcome, Sent}
+use Rattle.jn_rows.specs.Client.{ClientTable, Commanded, Refuses, Sends, command_row, take_row}
+use Rattle.jn_rows.specs.Worker.{WorkerTable, WorkStorage, Wanted, Held, gives_way, work_at, work_of, without, new_work, name_from, open_row, conflict, commit_wants, wants_of, is_fit, past_limit, units_for, with_units, refusal_of, counted, done as performed-work, granted_row, performed, repeated, op_phase, op_row, vote_of, shortage, need_in, prepared_row, prepare_phase, prepare_row, commit_phase, commit_row, drop_phase, drop_row, worker_row, going_work, intentions_of, carried_row, going_row, worker_step, vulnerable, timed_out, timeout_row}
+use Rattle.jn_rows.specs.Coordinator.{coordinator_row, close_clients_row}
+use Rattle.jn_lock_rows.specs.Matching.{are_rising, is_after}
+use Rattle.jn_lock_rows.proofs.Works.{at-more, at-less}
+use Rattle.jn_system.proofs.SmallSteps.Updates.{some_is, none_some, not_both}
+use Rattle.jn_system.specs.WholeSystem.World.{World, Memory, at_server, commits_in}
+use Rattle.jn_system.specs.WholeSystem.Servers.{Room, storage_of, is_for_worker, server_row, of_step, of_worker, of_coordinator, of_timeout, lines_of, restored}
+use Rattle.jn_system.specs.WholeSystem.Steps.{Step, NextEvent, Tell, Again, Deliver, Work as Works, Nudge, Timeout, StopDelivery, StopWork, Crash, Narrow, StopRestart, Restart, Dismiss, CloseClients, after, commanded, took, ends, at_memory, handed, works, work, nudge, timeout, crash, narrow, stop_restart, restart, close_clients}
+use Rattle.jn_system.specs.WholeSystem.LockFacts.{LockFacts, ServerFact, UpFact}
+use Rattle.jn_system.proofs.WholeSystem.Granted.{Regrants, Origin, Mine, Kept, Broke, granted, phase_changed}
+use Rattle.jn_system.proofs.WholeSystem.Restored.{restored-is}
+use Rattle.jn_system.proofs.WholeSystem.Tables.{of-found}
+use Rattle.jn_system.proofs.WholeSystem.WorkerRows.{no-lock}
+use Rattle.jn_system_order.proofs.Mirroring.Mirrored.{named_by, commits-more, lines-commit}
+use Rattle.jn_system_order.proofs.Mirroring.WorkerNotes.{worker-none, step-none}
+
+abbrev pub is_broken : Phase → Bool
+is_broken (Broken u by) = true
+is_broken phase = false
+
+abbrev pub is_stored : Phase → Bool
+is_stored (Stored p) = true
+is_stored phase = false
+
+-- ---- tables
+
+abbrev pub BreaksFrom : WorkerTable → WorkerTable → Type 0
+BreaksFrom t now = (W : WorkId) (x : Work) → work_at W now ≡ Some x → is_broken x.phase ≡ true → (y : Work) × (work_at W t ≡ Some y) × (y.tid ≡ x.tid) × (is_stored y.phase ≡ false)
+
+-- each broken work was broken so
+abbrev pub BreaksNone : WorkerTable → WorkerTable → Type 0
+BreaksNone t now = (W : WorkId) (x : Work) → work_at W now ≡ Some x → is_broken x.phase ≡ true → work_at W t ≡ Some x
+
+broken-free : (p : Phase) → is_broken p ≡ true → is_stored p ≡ false
+broken-free (Broken u by) h = refl
+broken-free (Active a) h = absurd (not_both false h refl)
+broken-free (Stored p) h = absurd (not_both false h refl)
+
+pub from-none : (t now : WorkerTable) → BreaksNone t now → BreaksFrom t now
+from-none t now h W x e b = (x, h W x e b, refl, broken-free x.phase b)
+
+same-none : (t : WorkerTable) → BreaksNone t t
+same-none t W x e b = e
+
+same-from : (t : WorkerTable) → BreaksFrom t t
+same-from t = from-none t t (same-none t)
+
+less-none : (N : WorkId) (t : WorkerTable) → are_rising t ≡ true → BreaksNone t (without N t)
+less-none N t rising W x e b = by (work_eq N W) (sym (at-less W N t rising) ∙ e)
+  where
+    by : (c : Bool) → (if c then None else work_at W t) ≡ Some x → work_at W t ≡ Some x
+    by true k = absurd (none_some x k)
+    by false k = k
+
+more-none : (N : WorkId) (T : Tid) (t : WorkerTable) → is_after N t ≡ true → BreaksNone t (t ++ new_work N T ∷ [])
+more-none N T t after W x e b = by (work_eq N W) (sym (at-more W t (new_work N T) after) ∙ e)
+  where
+    by : (c : Bool) → (if c then Some (new_work N T) else work_at W t) ≡ Some x → work_at W t ≡ Some x
+    by true k = absurd (not_both (is_broken x.phase) b (ap (λ (z : Work). is_broken z.phase) (sym (some_is (new_work N T) x k))))
+    by false k = k
+
+way-free : (p : Phase) → gives_way p ≡ true → is_stored p ≡ false
+way-free (Active a) h = refl
+way-free (Broken u by) h = refl
+way-free (Stored p) h = absurd (not_both false h refl)
+
+regrants-from : (N : WorkId) (wants : List Wanted) (phase : Phase) (t now : WorkerTable) → Regrants N wants phase t now → ((v : Work) → work_at N t ≡ Some v → is_broken phase ≡ true → is_stored v.phase ≡ false) → BreaksFrom t now
+regrants-from N wants phase t now g mine W x e b = by (g.origin W x e)
+  where
+    by : Origin N wants phase t W x → (y : Work) × (work_at W t ≡ Some y) × (y.tid ≡ x.tid) × (is_stored y.phase ≡ false)
+    by (Mine same y l k) = (y, subst (λ (U : WorkId). work_at U t ≡ Some y) same l, ap (λ (z : Work). z.tid) (sym k), mine y l (ap (λ (z : Work). is_broken z.phase) (sym k) ∙ b))
+    by (Kept ne l clear) = (x, l, refl, broken-free x.phase b)
+    by (Broke ne y l way u T k) = (y, l, ap (λ (z : Work). z.tid) (sym k), way-free y.phase way)
+
+-- ---- a worker's rows
+
+module _ (t : WorkerTable) (k : Tickets) (rising : are_rising t ≡ true) (before : is_after (name_from k) t ≡ true) where
+  abbrev Ok : RowOutcome WorkerTable → Type 0
+  Ok row = BreaksFrom t row.table
+
+  either : (b : Bool) (p q : RowOutcome WorkerTable) → Ok p → Ok q → Ok (if b then p else q)
+  either true p q h l = h
+  either false p q h l = l
+
+  never : {A : Type 0} → (b : Bool) → b ≡ false → b ≡ true → A
+  never b f h = absurd (not_both b h f)
+
+  less : (N : WorkId) → BreaksFrom t (without N t)
+  less N = from-none t (without N t) (less-none N t rising)
+
+  opens : (c : ClientNo) (request : ℕ) (T : Tid) (o : Option Work) → Ok (open_row t k c request T o)
+  opens c request T (Some w) = same-from t
+  opens c request T None = either (nat_lt (length t) 64) _ _ (from-none t _ (more-none (name_from k) T t before)) (same-from t)
+
+  grants : (c : ClientNo) (request : ℕ) (w : Work) (a : ActiveWork) (op : Op) (answer : Answer) (wants : List Wanted) (o : Option Answer) → (o ≡ None → conflict w.name wants t ≡ None) → Ok (granted_row t k c request w a op answer wants o)
+  grants c request w a op answer wants (Some refusal) free = regrants-from w.name [] (Active (counted a refusal)) t _ (phase_changed w.name (Active (counted a refusal)) t) (λ v l b. never false refl b)
+  grants c request w a op answer wants None free = regrants-from w.name wants (Active (performed-work a op answer wants)) t _ (granted w.tid w.name wants (Active (performed-work a op answer wants)) t (free refl)) (λ v l b. never false refl b)
+
+  repeats : (c : ClientNo) (request : ℕ) (o : Option Answer) → Ok (repeated t k c request o)
+  repeats c request (Some answer) = same-from t
+  repeats c request None = same-from t
+
+  performs : (c : ClientNo) (request : ℕ) (w : Work) (a : ActiveWork) (op : Op) (answer : Answer) → Ok (performed t k c request w a op answer)
+  performs c request w a op answer = let wants = wants_of op (is_fit answer) in grants c request w a op answer wants (refusal_of t w.name a op answer wants) (λ e. no-lock (past_limit (length (with_units (units_for Read wants) a.reads)) (if is_fit answer then length_with a.list op else length a.list)) (conflict w.name wants t) e)
+
+  op-phases : (files : Files) (c : ClientNo) (request : ℕ) (w : Work) (number : ℕ) (op : Op) (p : Phase) → Ok (op_phase t files k c request w number op p)
+  op-phases files c request w number op (Active a) = either (nat_eq number (a.last + 1)) _ _ (performs c request w a op (answer_to op (change (list_change a.list) files))) (either (nat_eq number a.last) _ _ (repeats c request a.kept) (same-from t))
+  op-phases files c request w number op (Broken u by) = same-from t
+  op-phases files c request w number op (Stored p) = same-from t
+
+  ops : (files : Files) (c : ClientNo) (request : ℕ) (W : WorkId) (number : ℕ) (op : Op) (o : Option Work) → Ok (op_row t files k c request W number op o)
+  ops files c request W number op (Some w) = op-phases files c request w number op w.phase
+  ops files c request W number op None = same-from t
+
+  ready : (T : Tid) (c : ClientNo) (w : Work) (a : ActiveWork) → conflict w.name (commit_wants a.writes) t ≡ None → Ok (prepared_row t k T c w a votes.Ready)
+  ready T c w a free = regrants-from w.name (commit_wants a.writes) _ t _ (granted w.tid w.name (commit_wants a.writes) (Stored (record { reads = a.reads; writes = a.writes })) t free) (λ v l b. never false refl b)
+
+  votes-so : (T : Tid) (c : ClientNo) (w : Work) (a : ActiveWork) (o : Option Held) (short : Option Vote) → conflict w.name (commit_wants a.writes) t ≡ o → Ok (prepared_row t k T c w a (vote_of o short))
+  votes-so T c w a (Some held) short h = same-from t
+  votes-so T c w a None (Some votes.Ready) h = ready T c w a h
+  votes-so T c w a None (Some (votes.Waiting u by)) h = same-from t
+  votes-so T c w a None (Some (votes.Broken u by)) h = same-from t
+  votes-so T c w a None (Some (votes.Lost n l)) h = same-from t
+  votes-so T c w a None (Some (votes.Full n l m)) h = same-from t
+  votes-so T c w a None None h = ready T c w a h
+
+  prepares : (s : WorkStorage) (T : Tid) (c : ClientNo) (W : WorkId) (o : Option Work) → Ok (prepare_row t s k T c W o)
+  prepares s T c W None = same-from t
+  prepares s T c W (Some w) = by w.phase
+    where
+      by : (p : Phase) → Ok (prepare_phase t s k T c w p)
+      by (Active a) = votes-so T c w a (conflict w.name (commit_wants a.writes) t) (shortage s.free (need_in s.state.files a.list)) refl
+      by (Broken u U) = same-from t
+      by (Stored p) = either (is_going (s.state.works w.name)) _ _ (same-from t) (same-from t)
+
+  commits : (s : WorkStorage) (T : Tid) (W : WorkId) (o : Option Work) → Ok (commit_row t s k T W o)
+  commits s T W None = same-from t
+  commits s T W (Some w) = by w.phase
+    where
+      by : (p : Phase) → Ok (commit_phase t s k W p)
+      by (Active a) = same-from t
+      by (Broken u U) = same-from t
+      by (Stored p) = either (is_going (s.state.works W)) _ _ (same-from t) (same-from t)
+
+  drops : (s : WorkStorage) (W : WorkId) (o : Option Work) → Ok (drop_row t s k W o)
+  drops s W None = same-from t
+  drops s W (Some w) = by w.phase
+    where
+      by : (p : Phase) → Ok (drop_phase t s k W p)
+      by (Active a) = less W
+      by (Broken u U) = less W
+      by (Stored p) = either (is_going (s.state.works W)) _ _ (same-from t) (less W)
+
+  takes : (s : WorkStorage) (message : Message) → Ok (worker_row t s k message)
+  takes s (messages.Open c q T) = opens c q T (work_of T t)
+  takes s (messages.Op c q W n op) = ops s.state.files c q W n op (work_at W t)
+  takes s (messages.Prepare T c W) = prepares s T c W (work_at W t)
+  takes s (messages.Commit T W) = commits s T W (work_at W t)
+  takes s (messages.Drop T W) = drops s W (work_at W t)
+  takes s _ = same-from t
+
+  steps : (s : WorkStorage) (row : RowOutcome WorkerTable) → worker_step t s k ≡ Some row → Ok row
+  steps s row h = by (going_work s.state t) h
+    where
+      carried : (w : Work) (o : Option Intention) → Ok (carried_row t k w o)
+      carried w (Some i) = same-from t
+      carried w None = less w.name
+
+      rest : (b : Bool) → (if b then Some (record { table = t; changes = []; messages = []; notes = []; tickets = k }) else None) ≡ Some row → Ok row
+      rest true q = subst (λ (z : RowOutcome WorkerTable). Ok z) (some_is _ row q) (same-from t)
+      rest false q = absurd (none_some row q)
+
+      by : (o : Option Work) → going_row t s k o ≡ Some row → Ok row
+      by (Some w) q = subst (λ (z : RowOutcome WorkerTable). Ok z) (some_is _ row q) (carried w (slice_get (intentions_of (s.state.works w.name)) (s.next w.name)))
+      by None q = rest s.rubbish q
+
+  times-out : (T : Tid) (now : WorkerTable) → timeout_row t T ≡ Some now → BreaksFrom t now
+  times-out T now h = by (work_of T t) refl h
+    where
+      still : (p : Phase) → is_broken (vulnerable p) ≡ true → is_stored p ≡ false
+      still (Active a) b = refl
+      still (Broken u U) b = refl
+      still (Stored p) b = never false refl b
+
+      by : (o : Option Work) → work_of T t ≡ o → timed_out t o ≡ Some now → BreaksFrom t now
+      by None e q = absurd (none_some now q)
+      by (Some x) e q = subst (λ (z : WorkerTable). BreaksFrom t z) (some_is _ now q) (regrants-from x.name [] (vulnerable x.phase) t _ (phase_changed x.name (vulnerable x.phase) t)
+          (λ v l b. subst (λ (z : Work). is_stored z.phase ≡ false) (some_is x v (sym (of-found T t x rising e) ∙ l)) (still x.phase b)))
+
+-- ---- worlds
+
+abbrev pub table_of : Option Memory → WorkerTable
+table_of None = []
+table_of (Some m) = m.worker
+
+pub record Breaks (r q : World) : Type 0 where
+  pub from : (s : ServerNo) → BreaksFrom (table_of (r.memory s)) (table_of (q.memory s))
+  pub none : (commits_in q.lines ≡ commits_in r.lines) ⊎ ((s : ServerNo) → BreaksNone (table_of (r.memory s)) (table_of (q.memory s)))
+
+module _ (r : World) (locks : LockFacts r) where
+  at-all : (s : ServerNo) (now : Option Memory) (P : WorkerTable → WorkerTable → Type 0) → ((t : WorkerTable) → P t t) → P (table_of (r.memory s)) (table_of now) → (q : ServerNo) → P (table_of (r.memory q)) (table_of (at_server r.memory s now q))
+  at-all s now P same h q = by (Rattle.jn_base.proofs.Tells.server_tells s q)
+    where
+      by : ((server_eq s q ≡ true) × (s ≡ q)) ⊎ ((server_eq s q ≡ false) × (s ≢ q)) → P (table_of (r.memory q)) (table_of (if server_eq s q then now else r.memory q))
+      by (inl p) = subst (λ (b : Bool). P (table_of (r.memory q)) (table_of (if b then now else r.memory q))) (sym p.0) (subst (λ (z : ServerNo). P (table_of (r.memory z)) (table_of now)) p.1 h)
+      by (inr p) = subst (λ (b : Bool). P (table_of (r.memory q)) (table_of (if b then now else r.memory q))) (sym p.0) (same (table_of (r.memory q)))
+
+  -- no table has a work newly broken
+  breaks-none : (q : World) → ((s : ServerNo) → BreaksNone (table_of (r.memory s)) (table_of (q.memory s))) → Breaks r q
+  breaks-none q h = record { from = λ s. from-none _ _ (h s); none = inr h }
+
+  still : (q : World) → q.memory ≡ r.memory → Breaks r q
+  still q e = breaks-none q (λ s. subst (λ (f : ServerNo → Option Memory). BreaksNone (table_of (r.memory s)) (table_of (f s))) (sym e) (same-none (table_of (r.memory s))))
+
+  one-none : (q : World) (s : ServerNo) (now : Option Memory) → q.memory ≡ at_server r.memory s now → BreaksNone (table_of (r.memory s)) (table_of now) → Breaks r q
+  one-none q s now e h = breaks-none q (λ z. subst (λ (f : ServerNo → Option Memory). BreaksNone (table_of (r.memory z)) (table_of (f z))) (sym e) (at-all s now BreaksNone same-none h z))
+
+  empty-none : (t : WorkerTable) → BreaksNone t []
+  empty-none t W x e b = absurd (none_some x e)
+
+  module _ (s : ServerNo) (m : Memory) (is : r.memory s ≡ Some m) where
+    up : UpFact s m (r.found s)
+    up = subst (λ o. ServerFact s o (r.found s)) is (locks s)
+
+    here : (now : WorkerTable) (P : WorkerTable → WorkerTable → Type 0) → P m.worker now → P (table_of (r.memory s)) now
+    here now P h = subst (λ o. P (table_of o) now) (sym is) h
+
+    -- a row of the worker's, which names no commit
+    worker-ends : (k : Option ℕ) (stop : Option (Pick → ℕ)) (row : RowOutcome WorkerTable) → named_by row.notes ≡ [] → BreaksFrom m.worker row.table → Breaks r (ends s k stop (of_worker m row) r)
+    worker-ends k None row names h = record {
+      from = at-all s (Some (of_worker m row).table) BreaksFrom same-from (here row.table BreaksFrom h);
+      none = inl (commits-more r.lines (lines_of s k row.notes) ∙ ap (λ z. commits_in r.lines ++ z) (lines-commit s k row.notes ∙ names) ∙ append-nil (commits_in r.lines));
+    }
+    worker-ends k (Some made) row names h = one-none _ s None refl (empty-none (table_of (r.memory s)))
+
+    coordinator-ends : (k : Option ℕ) (stop : Option (Pick → ℕ)) (row : RowOutcome _) → Breaks r (ends s k stop (of_coordinator m row) r)
+    coordinator-ends k None row = one-none _ s (Some (of_coordinator m row).table) refl (here m.worker BreaksNone (same-none m.worker))
+    coordinator-ends k (Some made) row = one-none _ s None refl (empty-none (table_of (r.memory s)))
+
+    row-ends : (k : Option ℕ) (stop : Option (Pick → ℕ)) (room : Room) (message : Message) → Breaks r (ends s k stop (server_row m (stable (r.found s)) room message) r)
+    row-ends k stop room message = by (is_for_worker message)
+      where
+        by : (b : Bool) → Breaks r (ends s k stop (if b then of_worker m (worker_row m.worker (storage_of m (stable (r.found s)) room) m.tickets message) else of_coordinator m (coordinator_row m.coordinator room.free.records m.tickets message)) r)
+        by true = worker-ends k stop (worker_row m.worker (storage_of m (stable (r.found s)) room) m.tickets message) (worker-none m.worker (storage_of m (stable (r.found s)) room) m.tickets message) (takes m.worker m.tickets up.table.rising up.table.before (storage_of m (stable (r.found s)) room) message)
+        by false = coordinator-ends k stop (coordinator_row m.coordinator room.free.records m.tickets message)
+
+    work-ends : (stop : Option (Pick → ℕ)) (room : Room) (o : Option (RowOutcome WorkerTable)) → worker_step m.worker (storage_of m (stable (r.found s)) room) m.tickets ≡ o → Breaks r (works s stop (of_step m o) r)
+    work-ends stop room None e = still _ refl
+    work-ends stop room (Some row) e = worker-ends None stop row (step-none m.worker (storage_of m (stable (r.found s)) room) m.tickets row e) (steps m.worker m.tickets up.table.rising up.table.before (storage_of m (stable (r.found s)) room) row e)
+
+    timeout-ends : (T : Tid) (o : Option WorkerTable) → timeout_row m.worker T ≡ o → Breaks r (record r { memory = at_server r.memory s (Some (of_timeout m o)) })
+    timeout-ends T None e = one-none _ s (Some m) refl (here m.worker BreaksNone (same-none m.worker))
+    timeout-ends T (Some t) e = record { from = at-all s (Some (record m { worker = t })) BreaksFrom same-from (here t BreaksFrom (times-out m.worker m.tickets up.table.rising up.table.before T t e)); none = inl refl }
+
+  at-memories : (s : ServerNo) (k : ℕ) (room : Room) (stop : Option (Pick → ℕ)) (message : Message) (o : Option Memory) → r.memory s ≡ o → Breaks r (at_memory s k room stop message o r)
+  at-memories s k room stop message None e = still _ refl
+  at-memories s k room stop message (Some m) e = row-ends s m e (Some k) stop room message
+
+  takings : (c : ClientNo) (k : ℕ) (t : ClientTable) (what : Taken) → Breaks r (took c k t what r)
+  takings c k t taken.Ignored = still _ refl
+  takings c k t (taken.Send to message) = still _ refl
+  takings c k t (taken.Told line answer) = still _ refl
+
+  hands : (k : ℕ) (room : Room) (stop : Option (Pick → ℕ)) (o : Option Sent) → Breaks r (handed k room stop o r)
+  hands k room stop None = still _ refl
+  hands k room stop (Some (Client c, message)) = let row = take_row (r.clients c) message in takings c k row.0 row.1
+  hands k room stop (Some (Server s, message)) = at-memories s k room stop message (r.memory s) refl
+
+  commands : (c : ClientNo) (row : Commanded) → Breaks r (commanded c row r)
+  commands c (Refuses refusal) = still _ refl
+  commands c (Sends t to message) = still _ refl
+
+  workings : (s : ServerNo) (room : Room) (stop : Option (Pick → ℕ)) (o : Option Memory) → r.memory s ≡ o → Breaks r (work s room stop o r)
+  workings s room stop None e = still _ refl
+  workings s room stop (Some m) e = work-ends s m e stop room (worker_step m.worker (storage_of m (stable (r.found s)) room) m.tickets) refl
+
+  nudges : (s : ServerNo) (o : Option Memory) → Breaks r (nudge s o r)
+  nudges s None = still _ refl
+  nudges s (Some m) = still _ refl
+
+  timeouts : (s : ServerNo) (T : Tid) (o : Option Memory) → r.memory s ≡ o → Breaks r (timeout s T o r)
+  timeouts s T None e = still _ refl
+  timeouts s T (Some m) e = timeout-ends s m e T (timeout_row m.worker T) refl
+
+  crashes : (s : ServerNo) (o : Option Memory) → Breaks r (crash s o r)
+  crashes s None = still _ refl
+  crashes s (Some m) = one-none _ s None refl (empty-none (table_of (r.memory s)))
+
+  narrows : (s : ServerNo) (g : Pick → Pick) (o : Option Memory) → Breaks r (narrow s g o r)
+  narrows s g None = still _ refl
+  narrows s g (Some m) = still _ refl
+
+  raises : (s : ServerNo) (raised : Pick → Bool) (o : Option Memory) → Breaks r (stop_restart s raised o r)
+  raises s raised None = still _ refl
+  raises s raised (Some m) = still _ refl
+
+  restarts : (s : ServerNo) (pick : Pick) (Ws : List WorkId) (Ts : List Tid) (o : Option Memory) → Breaks r (restart s pick Ws Ts o r)
+  restarts s pick Ws Ts None = one-none _ s (Some (restored s (r.found s pick) Ws Ts)) refl (λ W x e b. let f = restored-is (r.found s pick) Ws W x e in absurd (not_both (is_broken x.phase) b (ap (λ (z : Work). is_broken z.phase) f.1.1)))
+  restarts s pick Ws Ts (Some m) = still _ refl
+
+  closes : (s : ServerNo) (o : Option Memory) → r.memory s ≡ o → Breaks r (close_clients s o r)
+  closes s None e = still r refl
+  closes s (Some m) e = coordinator-ends s m e None None (close_clients_row m.coordinator m.tickets)
+
+  pub step-breaks : (step : Step) → Breaks r (after step r)
+  step-breaks NextEvent = still _ refl
+  step-breaks (Tell c command) = commands c (command_row (r.clients c) r.event command)
+  step-breaks (Again c) = still _ refl
+  step-breaks (Deliver k room) = hands k room None (slice_get r.sent k)
+  step-breaks (Works s room) = workings s room None (r.memory s) refl
+  step-breaks (Nudge s) = nudges s (r.memory s)
+  step-breaks (Timeout s T) = timeouts s T (r.memory s) refl
+  step-breaks (StopDelivery k room made) = hands k room (Some made) (slice_get r.sent k)
+  step-breaks (StopWork s room made) = workings s room (Some made) (r.memory s) refl
+  step-breaks (Crash s) = crashes s (r.memory s)
+  step-breaks (Narrow s g) = narrows s g (r.memory s)
+  step-breaks (StopRestart s raised) = raises s raised (r.memory s)
+  step-breaks (Restart s pick Ws Ts) = restarts s pick Ws Ts (r.memory s)
+  step-breaks Dismiss = still _ refl
+  step-breaks (CloseClients s) = closes s (r.memory s) refl

@@ -1,0 +1,263 @@
+-- The end of a run tells nothing that needs a cause or answers a client, as no client waits for anything.
+use Rattle.std.proofs.Common.{◌≡◌, ℕ, ◌+◌, Bool, true, false, List, [], ◌∷◌, ◌++◌, append-nil, length, Option, Some, None, refl, sym, ◌∙◌, subst, arith}
+use Rattle.std.specs.Prelude.{◌&&◌, if◌then◌else◌, map, slice_get}
+use Rattle.std.specs.List.{list_all}
+use Rattle.jn_base.specs.declared.names.ServerNo.{ServerNo}
+use Rattle.jn_base.specs.declared.names.ClientNo.{ClientNo}
+use Rattle.jn_base.specs.declared.names.Tid.{Tid}
+use Rattle.jn_base.specs.declared.names.WorkId.{WorkId}
+use Rattle.jn_base.specs.declared.names.Party.TheVariants.{Client, Server}
+use Rattle.jn_base.specs.Names.{client_eq}
+use Rattle.jn_order.specs.Files.{AllFiles}
+use Rattle.jn_msgs.specs.declared.message.Message.{Message}
+use Rattle.jn_msgs.specs.declared.message.Message.TheVariants as messages
+use Rattle.jn_msgs.specs.declared.message.Note.{Note}
+use Rattle.jn_msgs.specs.declared.message.Note.TheVariants as notes
+use Rattle.jn_msgs.specs.declared.message.Outcome.{Outcome}
+use Rattle.jn_msgs.specs.declared.message.Outcome.TheVariants as outcomes
+use Rattle.jn_schedule.specs.declared.Event.{Event}
+use Rattle.jn_report.specs.declared.line.Line.{Line}
+use Rattle.jn_report.specs.declared.line.Text.{Text}
+use Rattle.jn_report.specs.declared.line.Text.TheVariants as says
+use Rattle.jn_rows.specs.declared.client.Outstanding.{Outstanding}
+use Rattle.jn_rows.specs.declared.client.Taken.{Taken}
+use Rattle.jn_rows.specs.declared.client.Taken.TheVariants as taken
+use Rattle.jn_rows.specs.Stable.{Pick, stable}
+use Rattle.jn_rows.specs.Outcomes.{RowOutcome, Sent}
+use Rattle.jn_rows.specs.Client.{ClientTable, is_current, if_waits, decided_row, outcome_row, take_row}
+use Rattle.jn_system.specs.WholeSystem.World.{World, Memory, at_client, has_line, opening, servers_from}
+use Rattle.jn_system.specs.WholeSystem.Servers.{Room, server_row, server_step, line_of, lines_of, named_now}
+use Rattle.jn_system.specs.WholeSystem.Steps.{Step, NextEvent, Tell, Again, Deliver, Work, Nudge, Timeout, StopDelivery, StopWork, Crash, Narrow, StopRestart, Restart, Dismiss, CloseClients, IsIdle, after, took, at_memory, handed, works, work, nudge, timeout, crash, narrow, restart, close_clients}
+use Rattle.jn_serial.specs.Lines.{history_of}
+use Rattle.jn_serial.specs.Follows.{is_answer}
+use Rattle.jn_serial.specs.Caused.{Caused}
+use Rattle.jn_serial.proofs.CausedGrowth.{Caused-lines, needs_cause, NeedNoCause, CausedFrom-plain}
+use Rattle.jn_system.specs.WholeSystem.Printing.{Printed, FileThere, PageStored, UnitLocked}
+use Rattle.jn_system_reports.specs.Reporting.Printing.{text_printed}
+use Rattle.jn_system_reports.specs.Reporting.Reported.{Does, Item, events_of, told_by, lines_of as lines_of_items, world_of, IsReported}
+use Rattle.jn_system_reports.specs.Reporting.Ending.{Comeback, Ending, restarts_from, steps_at_end, settles, IsEnding, told_by_steps, texts_from, at_end, counted, lines_to_end}
+use Rattle.jn_system_reports.proofs.Reporting.Lists.{Each, each-append}
+use Rattle.jn_system_reports.proofs.Reporting.Hearing.{told-is}
+use Rattle.jn_system_reports.proofs.Reporting.Prints.{each-print}
+use Rattle.jn_system_reports.proofs.Causing.Causing.{run-causes}
+
+-- neither an abort, a stop, a refused fault nor an answer
+abbrev pub IsOfEnd : Text → Type 0
+IsOfEnd text = (needs_cause text ≡ false) × (is_answer text ≡ false)
+
+-- ---- steps by which no client is told to do anything, and no server is stopped
+
+abbrev pub IsFinal : Step → Type 0
+IsFinal (Tell c command) = ⊥
+IsFinal (StopDelivery k room made) = ⊥
+IsFinal (StopWork s room made) = ⊥
+IsFinal (StopRestart s raised) = ⊥
+IsFinal step = Unit {0}
+
+all-final : {A : Type 0} (f : A → Step) → ((a : A) → IsFinal (f a)) → (xs : List A) → Each IsFinal (map f xs)
+all-final f h [] = tt
+all-final f h (x ∷ xs) = (h x, all-final f h xs)
+
+restarts-final : (first : ℕ) (xs : List Comeback) → Each IsFinal (restarts_from first xs)
+restarts-final first [] = tt
+restarts-final first (x ∷ xs) = (tt, restarts-final (first + 1) xs)
+
+settle-final : (step : Step) → settles step ≡ true → IsFinal step
+settle-final (Tell c command) h = grind arith
+settle-final (StopDelivery k room made) h = grind arith
+settle-final (StopWork s room made) h = grind arith
+settle-final (StopRestart s raised) h = grind arith
+settle-final _ h = tt
+
+settling-final : (steps : List Step) → list_all settles steps ≡ true → Each IsFinal steps
+settling-final [] h = tt
+settling-final (step ∷ steps) h = (settle-final step (first-of (settles step) (list_all settles steps) h), settling-final steps (second-of (settles step) (list_all settles steps) h))
+  where
+    first-of : (a b : Bool) → (a && b) ≡ true → a ≡ true
+    first-of a b k = grind arith
+
+    second-of : (a b : Bool) → (a && b) ≡ true → b ≡ true
+    second-of a b k = grind arith
+
+end-final : (servers : ℕ) (e : Ending) → list_all settles e.settling ≡ true → Each IsFinal (steps_at_end servers e)
+end-final servers e h = let ss = servers_from 0 servers in let rs = restarts_from 0 e.comebacks in (
+  tt,
+  each-append IsFinal (map Crash ss ++ rs ++ map CloseClients ss) e.settling
+      (each-append IsFinal (map Crash ss ++ rs) (map CloseClients ss) (each-append IsFinal (map Crash ss) rs (all-final Crash (λ s. tt) ss) (restarts-final 0 e.comebacks)) (all-final CloseClients (λ s. tt) ss)) (settling-final e.settling h),
+)
+
+-- ---- what they tell
+
+pub record TellsPlainly (w q : World) : Type 0 where
+  pub new : List Text
+  pub adds : q.lines ≡ w.lines ++ new
+  pub each : Each IsOfEnd new
+  pub idle : (c : ClientNo) → IsIdle (q.clients c)
+
+lines-plain : (s : ServerNo) (k : Option ℕ) (told : List Note) → Each IsOfEnd (lines_of s k told)
+lines-plain s k [] = tt
+lines-plain s k (note ∷ told) = each-append IsOfEnd (line_of s k note) (lines_of s k told) (one k note) (lines-plain s k told)
+  where
+    one : (k : Option ℕ) (note : Note) → Each IsOfEnd (line_of s k note)
+    one k (notes.Commit T) = ((refl, refl), tt)
+    one k (notes.Broke T u by) = ((refl, refl), tt)
+    one (Some j) notes.Ignored = ((refl, refl), tt)
+    one None notes.Ignored = tt
+
+now-plain : (Ts : List Tid) (lines : List Text) → Each IsOfEnd (named_now Ts lines)
+now-plain [] lines = tt
+now-plain (T ∷ Ts) lines = by (has_line T lines) (now-plain Ts lines)
+  where
+    by : (b : Bool) → Each IsOfEnd (named_now Ts lines) → Each IsOfEnd (if b then named_now Ts lines else says.Commit T ∷ named_now Ts lines)
+    by true h = h
+    by false h = ((refl, refl), h)
+
+-- ---- an idle client
+
+abbrev StaysIdle : ClientTable × Taken → Type 0
+StaysIdle (u, taken.Told line answer) = ⊥
+StaysIdle (u, what) = IsIdle u
+
+module _ (t : ClientTable) (idle : IsIdle t) where
+  waits-idle : (o : Option Outstanding) (test : Outstanding → Bool) (row : ℕ → ClientTable × Taken) → o ≡ None → StaysIdle (if_waits t o test row)
+  waits-idle None test row e = idle
+  waits-idle (Some x) test row e = absurd (some e)
+    where
+      some : Some x ≡ None → ⊥
+      some q = cc
+
+  either : (b : Bool) (p q : ClientTable × Taken) → StaysIdle p → StaysIdle q → StaysIdle (if b then p else q)
+  either true p q h k = h
+  either false p q h k = k
+
+  decided-idle : (T : Tid) (line : ℕ → Text) → StaysIdle (decided_row t T line)
+  decided-idle T line = either (is_current t T) _ _ (waits-idle t.outstanding _ _ idle.1) idle
+
+  outcome-idle : (T : Tid) (outcome : Outcome) → StaysIdle (outcome_row t T outcome)
+  outcome-idle T outcomes.Committed = decided-idle T _
+  outcome-idle T (outcomes.Aborted cause) = decided-idle T _
+  outcome-idle T (outcomes.Waiting s u by) = either (is_current t T) _ _ (waits-idle t.outstanding _ _ idle.1) idle
+  outcome-idle T (outcomes.NotKnown s epoch) = either (is_current t T) _ _ (waits-idle t.outstanding _ _ idle.1) idle
+
+  take-idle : (message : Message) → StaysIdle (take_row t message)
+  take-idle (messages.Begun d q o) = waits-idle t.outstanding _ _ idle.1
+  take-idle (messages.Opened d q T o) = waits-idle t.outstanding _ _ idle.1
+  take-idle (messages.Answer d q answer) = waits-idle t.outstanding _ _ idle.1
+  take-idle (messages.Outcome d T outcome) = either (client_eq d t.client) _ _ (outcome-idle T outcome) idle
+  take-idle _ = idle
+
+module _ (w : World) (idle : (c : ClientNo) → IsIdle (w.clients c)) where
+  tells : (q : World) (new : List Text) → q.lines ≡ w.lines ++ new → q.clients ≡ w.clients → Each IsOfEnd new → TellsPlainly w q
+  tells q new adds same h = record { new = new; adds = adds; each = h; idle = λ c. subst (λ f. IsIdle (f c)) (sym same) (idle c) }
+
+  silent : (q : World) → q.lines ≡ w.lines → q.clients ≡ w.clients → TellsPlainly w q
+  silent q lines same = tells q [] (lines ∙ sym (append-nil w.lines)) same tt
+
+  at-own : (c : ClientNo) (u : ClientTable) → IsIdle u → (d : ClientNo) → IsIdle (at_client w.clients c u d)
+  at-own c u h d = by (client_eq c d)
+    where
+      by : (b : Bool) → IsIdle (if b then u else w.clients d)
+      by true = h
+      by false = idle d
+
+  took-plain : (c : ClientNo) (k : ℕ) (u : ClientTable) (what : Taken) → StaysIdle (u, what) → TellsPlainly w (took c k u what w)
+  took-plain c k u taken.Ignored h = record { new = says.Ignored k ∷ []; adds = refl; each = ((refl, refl), tt); idle = at-own c u h }
+  took-plain c k u (taken.Send to message) h = record { new = []; adds = sym (append-nil w.lines); each = tt; idle = at-own c u h }
+  took-plain c k u (taken.Told line answer) h = absurd h
+
+  handed-plain : (k : ℕ) (room : Room) (o : Option Sent) → TellsPlainly w (handed k room None o w)
+  handed-plain k room None = silent w refl refl
+  handed-plain k room (Some (Client c, message)) = let row = take_row (w.clients c) message in took-plain c k row.0 row.1 (take-idle (w.clients c) (idle c) message)
+  handed-plain k room (Some (Server s, message)) = by (w.memory s)
+    where
+      by : (o : Option Memory) → TellsPlainly w (at_memory s k room None message o w)
+      by None = tells _ (says.Lost k ∷ []) refl refl ((refl, refl), tt)
+      by (Some m) = tells _ (lines_of s (Some k) (server_row m (stable (w.found s)) room message).notes) refl refl (lines-plain s (Some k) _)
+
+  work-plain : (s : ServerNo) (room : Room) (o : Option Memory) → TellsPlainly w (work s room None o w)
+  work-plain s room None = silent w refl refl
+  work-plain s room (Some m) = by (server_step m (stable (w.found s)) room)
+    where
+      by : (o : Option (RowOutcome Memory)) → TellsPlainly w (works s None o w)
+      by None = silent w refl refl
+      by (Some row) = tells _ (lines_of s None row.notes) refl refl (lines-plain s None row.notes)
+
+  nudge-plain : (s : ServerNo) (o : Option Memory) → TellsPlainly w (nudge s o w)
+  nudge-plain s None = silent w refl refl
+  nudge-plain s (Some m) = silent _ refl refl
+
+  timeout-plain : (s : ServerNo) (T : Tid) (o : Option Memory) → TellsPlainly w (timeout s T o w)
+  timeout-plain s T None = silent w refl refl
+  timeout-plain s T (Some m) = silent _ refl refl
+
+  crash-plain : (s : ServerNo) (o : Option Memory) → TellsPlainly w (crash s o w)
+  crash-plain s None = silent w refl refl
+  crash-plain s (Some m) = tells _ (says.Down s ∷ []) refl refl ((refl, refl), tt)
+
+  narrow-plain : (s : ServerNo) (g : Pick → Pick) (o : Option Memory) → TellsPlainly w (narrow s g o w)
+  narrow-plain s g None = silent _ refl refl
+  narrow-plain s g (Some m) = silent w refl refl
+
+  restart-plain : (s : ServerNo) (pick : Pick) (Ws : List WorkId) (Ts : List Tid) (o : Option Memory) → TellsPlainly w (restart s pick Ws Ts o w)
+  restart-plain s pick Ws Ts None = tells _ (says.Up s ((w.found s pick).epoch + 1) ∷ named_now Ts w.lines) refl refl ((refl, refl), now-plain Ts w.lines)
+  restart-plain s pick Ws Ts (Some m) = silent w refl refl
+
+  close-plain : (s : ServerNo) (o : Option Memory) → TellsPlainly w (close_clients s o w)
+  close-plain s None = silent w refl refl
+  close-plain s (Some m) = tells _ [] refl refl tt
+
+  step-plain : (step : Step) → IsFinal step → TellsPlainly w (after step w)
+  step-plain NextEvent h = silent _ refl refl
+  step-plain (Tell c command) h = absurd h
+  step-plain (Again c) h = silent _ refl refl
+  step-plain (Deliver k room) h = handed-plain k room (slice_get w.sent k)
+  step-plain (Work s room) h = work-plain s room (w.memory s)
+  step-plain (Nudge s) h = nudge-plain s (w.memory s)
+  step-plain (Timeout s T) h = timeout-plain s T (w.memory s)
+  step-plain (StopDelivery k room made) h = absurd h
+  step-plain (StopWork s room made) h = absurd h
+  step-plain (Crash s) h = crash-plain s (w.memory s)
+  step-plain (Narrow s g) h = narrow-plain s g (w.memory s)
+  step-plain (StopRestart s raised) h = absurd h
+  step-plain (Restart s pick Ws Ts) h = restart-plain s pick Ws Ts (w.memory s)
+  step-plain Dismiss h = record { new = []; adds = sym (append-nil w.lines); each = tt; idle = λ c. (refl, refl) }
+  step-plain (CloseClients s) h = close-plain s (w.memory s)
+
+steps-plain : (steps : List Step) (w : World) → ((c : ClientNo) → IsIdle (w.clients c)) → Each IsFinal steps → Each IsOfEnd (told_by_steps steps w)
+steps-plain [] w idle h = tt
+steps-plain (step ∷ steps) w idle h = let p = step-plain w idle step h.0 in
+    each-append IsOfEnd (told_by (Does step) w) (told_by_steps steps (after step w)) (subst (λ l. Each IsOfEnd l) (sym (told-is w step p.new p.adds)) p.each) (steps-plain steps (after step w) p.idle h.1)
+
+-- once the clients are dismissed
+pub dismissed-told : (steps : List Step) (w : World) → Each IsFinal steps → Each IsOfEnd (told_by_steps (Dismiss ∷ steps) w)
+dismissed-told steps w h = each-append IsOfEnd (told_by (Does Dismiss) w) (told_by_steps steps (after Dismiss w)) (subst (λ l. Each IsOfEnd l) (sym (told-is w Dismiss [] (sym (append-nil w.lines)))) tt) (steps-plain steps (after Dismiss w) (λ c. (refl, refl)) h)
+
+-- ---- the end
+
+print-plain : (s : ServerNo) (x : Printed) → IsOfEnd (text_printed s x)
+print-plain s (FileThere f) = (refl, refl)
+print-plain s (PageStored f p bytes) = (refl, refl)
+print-plain s (UnitLocked u T) = (refl, refl)
+
+prints-plain : (first : ℕ) (prints : List (List Printed)) → Each IsOfEnd (texts_from first prints)
+prints-plain first [] = tt
+prints-plain first (x ∷ prints) = each-append IsOfEnd (map (text_printed (record { 0 = first })) x) (texts_from (first + 1) prints) (each-print IsOfEnd (record { 0 = first }) (print-plain (record { 0 = first })) x) (prints-plain (first + 1) prints)
+
+end-plain : (texts : List Text) → Each IsOfEnd texts → NeedNoCause (at_end texts)
+end-plain [] h = tt
+end-plain (x ∷ texts) h = (h.0.0, end-plain texts h.1)
+
+-- what needs no cause may follow a run
+pub with-end : (files : AllFiles) (epochs : ServerNo → ℕ) (servers : ℕ) (items : List Item) (texts : List Text) → IsReported items (opening servers files epochs) → Each IsOfEnd texts → Caused (events_of items) (lines_of_items items (opening servers files epochs) ++ at_end texts)
+with-end files epochs servers items texts h k = let start = opening servers files epochs in Caused-lines (events_of items) (lines_of_items items start) (at_end texts) (run-causes files epochs servers items h) (CausedFrom-plain (events_of items) (lines_of_items items start) (at_end texts) (end-plain texts k))
+
+counted-causes : (es : List Event) (lines : List Line) → Caused es lines → Caused es (counted lines)
+counted-causes es lines h = Caused-lines es lines (at_end (says.Commits (length (history_of lines)) ∷ [])) h (CausedFrom-plain es lines (at_end (says.Commits (length (history_of lines)) ∷ [])) (refl, tt))
+
+-- what is told and printed at the end
+pub end-told : (servers : ℕ) (e : Ending) (w : World) → list_all settles e.settling ≡ true → Each IsOfEnd (told_by_steps (steps_at_end servers e) w ++ texts_from 0 e.prints)
+end-told servers e w h = let ss = servers_from 0 servers in each-append IsOfEnd (told_by_steps (steps_at_end servers e) w) (texts_from 0 e.prints)
+    (dismissed-told (map Crash ss ++ restarts_from 0 e.comebacks ++ map CloseClients ss ++ e.settling) w (end-final servers e h).1) (prints-plain 0 e.prints)
+
+pub end-causes : (files : AllFiles) (epochs : ServerNo → ℕ) (servers : ℕ) (items : List Item) (e : Ending) → IsReported items (opening servers files epochs) → IsEnding servers e (world_of items (opening servers files epochs)) → Caused (events_of items) (lines_to_end servers items e (opening servers files epochs))
+end-causes files epochs servers items e h k = let start = opening servers files epochs in counted-causes (events_of items) _ (with-end files epochs servers items (told_by_steps (steps_at_end servers e) (world_of items start) ++ texts_from 0 e.prints) h (end-told servers e (world_of items start) k.settling))

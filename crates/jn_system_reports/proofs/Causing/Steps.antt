@@ -1,0 +1,287 @@
+-- After any steps, with the events that they stand under: each abort that is told has its cause.
+use Rattle.std.proofs.Common.{◌≡◌, ◌≢◌, ◌⊎◌, inl, inr, ℕ, ◌+◌, Bool, true, false, List, [], ◌∷◌, ◌++◌, append-nil, length, Option, Some, None, is_some, refl, sym, ◌∙◌, ap, subst, arith}
+use Rattle.std.specs.Prelude.{◌&&◌, slice_get, nat_lt}
+use Rattle.std.specs.List.{list_any}
+use Rattle.jn_base.specs.declared.names.ServerNo.{ServerNo}
+use Rattle.jn_base.specs.declared.names.ClientNo.{ClientNo}
+use Rattle.jn_base.specs.declared.names.Tid.{Tid}
+use Rattle.jn_base.specs.declared.names.WorkId.{WorkId}
+use Rattle.jn_base.specs.declared.names.Cause.{Cause}
+use Rattle.jn_base.specs.declared.names.Cause.TheVariants.{Requested, Lost as LostAt, Full as FullAt}
+use Rattle.jn_base.specs.declared.names.Party.TheVariants.{Client, Server}
+use Rattle.jn_base.specs.declared.op.Command.{Command}
+use Rattle.jn_base.specs.declared.op.Command.TheVariants.{Abort}
+use Rattle.jn_base.specs.Names.{client_eq, tid_eq}
+use Rattle.jn_base.proofs.Tells.{client_tells, tid_tells}
+use Rattle.jn_msgs.specs.declared.message.Message.{Message}
+use Rattle.jn_msgs.specs.declared.message.Message.TheVariants as messages
+use Rattle.jn_schedule.specs.declared.Event.{Event}
+use Rattle.jn_schedule.specs.declared.Event.TheVariants as events
+use Rattle.jn_report.specs.declared.line.Text.{Text}
+use Rattle.jn_report.specs.declared.line.Text.TheVariants as texts
+use Rattle.jn_report.specs.declared.line.Line.{Line}
+use Rattle.jn_rows.specs.declared.client.Outstanding.{Outstanding}
+use Rattle.jn_rows.specs.declared.client.Taken.{Taken}
+use Rattle.jn_rows.specs.declared.client.Taken.TheVariants as taken
+use Rattle.jn_rows.specs.Stable.{Pick, stable}
+use Rattle.jn_rows.specs.Outcomes.{Sent}
+use Rattle.jn_rows.specs.Worker.{worker_row}
+use Rattle.jn_rows.specs.Coordinator.{transaction_at, coordinator_row}
+use Rattle.jn_rows.specs.Client.{ClientTable, Commanded, Refuses, Sends, command_row, take_row, sent_again}
+use Rattle.jn_system.specs.SmallSteps.World.{World as Machine}
+use Rattle.jn_system.specs.SmallSteps.Invariant.{Invariant}
+use Rattle.jn_system.proofs.SmallSteps.MessageLemmas.{Grows}
+use Rattle.jn_system.proofs.SmallSteps.Updates.{not_both}
+use Rattle.jn_system.specs.WholeSystem.World.{World, Memory, has_line}
+use Rattle.jn_system.specs.WholeSystem.Servers.{Room, storage_of}
+use Rattle.jn_system.specs.WholeSystem.Steps.{Step, NextEvent, Tell, Again, Deliver, Work, Nudge, Timeout, StopDelivery, StopWork, Crash, Narrow, StopRestart, Restart, Dismiss, CloseClients, IsStep, after, commanded, sent_now, took, handed}
+use Rattle.jn_system.specs.WholeSystem.LockFacts.{LockFacts, UpFact, ServerFact}
+use Rattle.jn_system_order.specs.Mirroring.Mirrors.{Mirrors, AreOpen, IsCurrent, IsTrue, IsAddressed}
+use Rattle.jn_system_order.proofs.Mirroring.StepMoves.{holds-of}
+use Rattle.jn_system_order.proofs.Ordering.Openings.{Opening, opening_in, openings, openings-more, Has, has-first}
+use Rattle.jn_system_order.proofs.Ordering.Facts.{opening as began_by, Began, Facts}
+use Rattle.jn_system_order.proofs.Ordering.ClientFacts.{all-have-theirs}
+use Rattle.jn_system_order.proofs.Ordering.ClientSteps.{EndsNow}
+use Rattle.jn_serial.specs.Begun.{is_in}
+use Rattle.jn_serial.proofs.Growth.{AreWithin}
+use Rattle.jn_system_reports.specs.Reporting.Reported.{at_event}
+use Rattle.jn_system_reports.proofs.Reporting.Lists.{In, Each, each-in, get-in}
+use Rattle.jn_system_reports.proofs.Reporting.ClientTalk.{TableGoes, CommandTalks, command-talks, take-talks}
+use Rattle.jn_system_reports.proofs.Reporting.Talk.{Talk}
+use Rattle.jn_system_reports.proofs.Reporting.Past.{Had, Past, SaysPast}
+use Rattle.jn_system_reports.proofs.Reporting.PastRows.{is_broke}
+use Rattle.jn_system_reports.proofs.Reporting.PastSteps.{PastFacts}
+use Rattle.jn_system_reports.proofs.Reporting.PastWorld.{Later, coordinator-quiet}
+use Rattle.jn_system_reports.proofs.Reporting.PastAll.{step-past}
+use Rattle.jn_system_reports.proofs.Reporting.Outcomes.{IsTrueAbort}
+use Rattle.jn_system_reports.proofs.Reporting.Reached.{in-all}
+use Rattle.jn_system_reports.proofs.Reporting.StepLines.{IsPlainText, AddsLines, step-lines}
+use Rattle.jn_system_reports.proofs.Causing.Evidence.{Stands, Stood, DownAfter, in-here}
+use Rattle.jn_system_reports.proofs.Causing.CoordinatorKeeps.{Spent}
+use Rattle.jn_system_reports.proofs.Causing.Facts.{HasTransaction, WasOpened, HasCause, MessageFact, CauseFacts, BeganAt, cause-more, opened-more, came-by, messages-on, client-on, told-on}
+use Rattle.jn_system_reports.proofs.Causing.ServerSteps.{servers-mute, News, ServerKeeps, worker-row, nothing-keeps, memory-keeps, work-keeps, nudge-keeps, timing-keeps, crash-keeps, narrow-keeps, raise-keeps, restart-keeps, close-keeps}
+use Rattle.jn_system_reports.proofs.Causing.ClientSteps.{client-facts, again-facts, dismissed-facts, TakesCause, take-keeps, CommandCauses, command-keeps}
+
+-- an abort has its cause
+abbrev pub AbortStands : List Event → List Line → Text → Type 0
+AbortStands es ls (texts.Aborted c j T cause) = Stood es ls c T cause
+AbortStands es ls text = Unit {0}
+
+-- a client is told in an event of its own
+pub record IsTold (es es' : List Event) (ls : List Line) (r : World) (c : ClientNo) (command : Command) : Type 0 where
+  pub stands : Stands 1 es' r.event (events.Command c command)
+  pub within : AreWithin 0 r.event ls
+  pub now : r.event ≡ 1 + length es
+
+-- ---- one step
+
+module _ (es es' : List Event) (on : (j : ℕ) (e : Event) → Stands 1 es j e → Stands 1 es' j e) (ls : List Line) (r : World) (w v : Machine) (past : PastFacts r.sent r.clients r.memory r.found w (HasCause (openings r.sent) es ls)) (cause : CauseFacts es ls r.sent r.clients r.memory r.lines w)
+    (parts : (T : Tid) (W : WorkId) → w.ended T ≡ true → w.part T W.server ≡ Some W → WasOpened r.sent T W) (mirrors : Mirrors r w) (inv : Invariant w) (locks : LockFacts r) (facts : Facts r w) (talk : Talk r w) (named : (T : Tid) → w.named T ≡ has_line T r.lines) (grown : Grows w v) where
+  abbrev Caused : ClientNo → Tid → Cause → Type 0
+  Caused = HasCause (openings r.sent) es ls
+
+  spent : (T : Tid) → Spent w T → Spent v T
+  spent T (inl e) = inl (grown.named T e)
+  spent T (inr e) = inr (grown.aborted T e)
+
+  began : (c : ClientNo) (T : Tid) → (r.clients c).transaction ≡ Some T → Began (openings r.sent) c (r.clients c).next T
+  began c T e = (facts.clients c).current T e
+
+  -- what is said of the causes after a step
+  pub record NextCauses (q : World) : Type 0 where
+    pub new : List Text
+    pub adds : q.lines ≡ r.lines ++ new
+    pub forth : (a : Opening) → Has a (openings r.sent) → Has a (openings q.sent)
+    pub sends : (T : Tid) (W : WorkId) → WasOpened r.sent T W → WasOpened q.sent T W
+    pub causes : CauseFacts es' (ls ++ at_event (1 + length es) new) q.sent q.clients q.memory q.lines v
+
+  has-more : (more : List Sent) (a : Opening) → Has a (openings r.sent) → Has a (openings (r.sent ++ more))
+  has-more more a h = subst (λ l. Has a l) (sym (openings-more r.sent more)) (has-first a (openings r.sent) (openings more) h)
+
+  of-facts : (q : World) (new : List Text) (more : List Sent) → q.lines ≡ r.lines ++ new → q.sent ≡ r.sent ++ more → CauseFacts es' (ls ++ at_event (1 + length es) new) (r.sent ++ more) q.clients q.memory (r.lines ++ new) v → NextCauses q
+  of-facts q new more adds sends h = record {
+    new = new;
+    adds = adds;
+    forth = λ a k. subst (λ l. Has a (openings l)) (sym sends) (has-more more a k);
+    sends = λ T W k. subst (λ l. WasOpened l T W) (sym sends) (opened-more r.sent more T W k);
+    causes = subst (λ l. CauseFacts es' (ls ++ at_event (1 + length es) new) q.sent q.clients q.memory l v) (sym adds) (subst (λ l. CauseFacts es' (ls ++ at_event (1 + length es) new) l q.clients q.memory (r.lines ++ new) v) (sym sends) h);
+  }
+
+  -- ---- a server's
+
+  server-next : (q : World) → ServerKeeps es ls r w v past cause parts mirrors inv locks facts spent q → NextCauses q
+  server-next q k = of-facts q k.new k.more k.adds k.sends (subst (λ f. CauseFacts es' (ls ++ at_event (1 + length es) k.new) (r.sent ++ k.more) f q.memory (r.lines ++ k.new) v) (sym k.same) (record {
+    messages = messages-on es es' on ls k.new r.sent k.more r.clients r.clients r.memory q.memory r.lines w v cause mirrors.says facts.unique began spent (λ c n l. l) (λ c o e. inl e) k.holds k.has (news k.more k.news);
+    each = λ c. client-on es es' on ls k.new r.sent k.more r.clients r.clients r.memory q.memory r.lines w v cause mirrors.says facts.unique began spent (λ c n l. l) (λ c o e. inl e) k.holds k.has c (servers-mute k.new k.quiet c);
+    broken = k.broken;
+    told = told-on es es' on ls k.new r.lines cause.told;
+  }))
+    where
+      fact : (x : Sent) → In x r.sent → MessageFact es ls (openings r.sent) r.clients r.memory w x
+      fact x i = each-in (MessageFact es ls (openings r.sent) r.clients r.memory w) r.sent x cause.messages i
+
+      one : (x : Sent) → News es ls r w v past cause parts mirrors inv locks facts spent q.memory x → MessageFact es' (ls ++ at_event (1 + length es) k.new) (openings (r.sent ++ k.more)) r.clients q.memory v x
+      one (to, messages.Begun c n (Some T)) h = let b = fact (Server T.server, messages.Begin c n) h.1 in (b.0, λ o e f. record { to = b.1 o e f; stands = inl h.0 })
+      one (to, messages.Begun c n None) h = tt
+      one (to, messages.Opened c n T (Some W)) h = record {
+        by = came-by es es' on ls k.new r.sent k.more r.clients r.clients r.memory q.memory r.lines w v cause mirrors.says facts.unique began spent (λ c n l. l) (λ c o e. inl e) k.holds k.has c T W.server (fact (Server W.server, messages.Open c n T) h.1 W.server refl);
+        stands = inr (inl h.0);
+      }
+      one (to, messages.Opened c n T None) h = tt
+      one (to, messages.Drop T W) h = h
+      one (to, messages.Begin c n) h = absurd h
+      one (to, messages.Open c n T) h = absurd h
+      one (to, _) h = tt
+
+      news : (more : List Sent) → Each (News es ls r w v past cause parts mirrors inv locks facts spent q.memory) more → Each (MessageFact es' (ls ++ at_event (1 + length es) k.new) (openings (r.sent ++ k.more)) r.clients q.memory v) more
+      news [] h = tt
+      news (x ∷ more) h = (one x h.0, news more h.1)
+
+  -- ---- a client's
+
+  current : (c : ClientNo) (T : Tid) → (r.clients c).transaction ≡ Some T → AreOpen w T (r.clients c).works
+  current c T e = (subst (λ o. IsCurrent w o (r.clients c).works) e (mirrors.clients c).current).1
+
+  commanded-next : (c : ClientNo) (within : AreWithin 0 r.event ls) (row : Commanded) → CommandTalks (openings r.sent) w w.ended r.sent c (r.clients c) (facts.clients c) facts.unique (talk.waits c) (current c) row
+      → CommandCauses es es' on ls r w v cause mirrors facts spent c within row → NextCauses (commanded c row r)
+  commanded-next c within (Refuses refusal) h k = of-facts _ (texts.Refused c r.event refusal ∷ []) [] refl (sym (append-nil r.sent)) (again-facts es es' on ls r w v cause mirrors facts spent (texts.Refused c r.event refusal ∷ []) [] (λ d n now. refl) (λ x i. absurd i))
+  commanded-next c within (Sends u to message) h k = of-facts _ [] ((to, message) ∷ []) (sym (append-nil r.lines)) refl
+      (client-facts es es' on ls r w v cause mirrors facts spent c u [] ((to, message) ∷ []) (record { next = h.next; fresh = h.fresh; has = λ T e. inl (sym h.same ∙ e) }) k)
+
+  again-next : (c : ClientNo) (o : Option Outstanding) → (r.clients c).outstanding ≡ o → NextCauses (record r { sent = r.sent ++ sent_now (sent_again o) })
+  again-next c None e = of-facts _ [] [] (sym (append-nil r.lines)) refl (again-facts es es' on ls r w v cause mirrors facts spent [] [] (λ d n now. refl) (λ x i. absurd i))
+  again-next c (Some o) e = of-facts _ [] ((o.to, o.message) ∷ []) (sym (append-nil r.lines)) refl (again-facts es es' on ls r w v cause mirrors facts spent [] ((o.to, o.message) ∷ []) (λ d n now. refl) (λ x i. by x i))
+    where
+      by : (x : Sent) → ((o.to, o.message) ≡ x) ⊎ ⊥ → In x r.sent
+      by x (inl f) = subst (λ (y : Sent). In y r.sent) f (talk.waits c o e).again
+      by x (inr f) = absurd f
+
+  took-next : (c : ClientNo) (k : ℕ) (u : ClientTable) (what : Taken) → TableGoes (openings r.sent) c (r.clients c) u → TakesCause es es' on ls r w v cause mirrors facts spent c k (u, what) → NextCauses (took c k u what r)
+  took-next c k u taken.Ignored g h = of-facts _ (texts.Ignored k ∷ []) [] refl (sym (append-nil r.sent)) (client-facts es es' on ls r w v cause mirrors facts spent c u (texts.Ignored k ∷ []) [] g h)
+  took-next c k u (taken.Send to message) g h = of-facts _ [] ((to, message) ∷ []) (sym (append-nil r.lines)) refl (client-facts es es' on ls r w v cause mirrors facts spent c u [] ((to, message) ∷ []) g h)
+  took-next c k u (taken.Told line answer) g h = of-facts _ (line ∷ []) (sent_now answer) refl refl (client-facts es es' on ls r w v cause mirrors facts spent c u (line ∷ []) (sent_now answer) g h)
+
+  handed-next : (k : ℕ) (room : Room) (stop : Option (Pick → ℕ)) (o : Option Sent) → slice_get r.sent k ≡ o → ((x : Sent) → In x (handed k room stop o r).sent → IsTrue v x) → NextCauses (handed k room stop o r)
+  handed-next k room stop None e said = server-next r (nothing-keeps es ls r w v past cause parts mirrors inv locks facts spent)
+  handed-next k room stop (Some (Client c, message)) e said = let row = take_row (r.clients c) message in
+      took-next c k row.0 row.1 (take-talks (openings r.sent) w w.ended r.sent c (r.clients c) (facts.clients c) facts.unique (talk.waits c) (current c) message
+      (holds-of (λ (x : Sent). (a : Opening) → Has a (opening_in x) → Has a (openings r.sent)) r.sent k (Client c, message) (all-have-theirs r.sent) e)).goes
+      (take-keeps es es' on ls r w v cause mirrors facts spent c k message (get-in r.sent k (Client c, message) e) (each-in (MessageFact es ls (openings r.sent) r.clients r.memory w) r.sent (Client c, message) cause.messages (get-in r.sent k (Client c, message) e)))
+  handed-next k room stop (Some (Server s, message)) e said = server-next _ (memory-keeps es ls r w v past cause parts mirrors inv locks facts spent s k room stop message (r.memory s) refl (get-in r.sent k (Server s, message) e) said)
+
+  -- ---- every step
+
+  pub step-causes : (step : Step) → IsStep step r → ((c : ClientNo) (command : Command) → step ≡ Tell c command → IsTold es es' ls r c command) → ((x : Sent) → In x (after step r).sent → IsTrue v x) → NextCauses (after step r)
+  step-causes NextEvent i told said = of-facts _ [] [] (sym (append-nil r.lines)) (sym (append-nil r.sent)) (again-facts es es' on ls r w v cause mirrors facts spent [] [] (λ d n now. refl) (λ x i. absurd i))
+  step-causes (Tell c command) i told said = let it = told c command refl in commanded-next c it.within (command_row (r.clients c) r.event command) (command-talks (openings r.sent) w w.ended r.sent c (r.clients c) (facts.clients c) facts.unique (talk.waits c) (current c) r.event command)
+      (command-keeps es es' on ls r w v cause mirrors facts spent c it.within command it.stands)
+  step-causes (Again c) i told said = again-next c (r.clients c).outstanding refl
+  step-causes (Deliver k room) i told said = handed-next k room None (slice_get r.sent k) refl said
+  step-causes (Work s room) i told said = server-next _ (work-keeps es ls r w v past cause parts mirrors inv locks facts spent s room None (r.memory s) refl)
+  step-causes (Nudge s) i told said = server-next _ (nudge-keeps es ls r w v past cause parts mirrors inv locks facts spent s (r.memory s) refl)
+  step-causes (Timeout s T) i told said = server-next _ (timing-keeps es ls r w v past cause parts mirrors inv locks facts spent s T (r.memory s) refl)
+  step-causes (StopDelivery k room made) i told said = handed-next k room (Some made) (slice_get r.sent k) refl said
+  step-causes (StopWork s room made) i told said = server-next _ (work-keeps es ls r w v past cause parts mirrors inv locks facts spent s room (Some made) (r.memory s) refl)
+  step-causes (Crash s) i told said = server-next _ (crash-keeps es ls r w v past cause parts mirrors inv locks facts spent s (r.memory s))
+  step-causes (Narrow s g) i told said = server-next _ (narrow-keeps es ls r w v past cause parts mirrors inv locks facts spent s g (r.memory s))
+  step-causes (StopRestart s raised) i told said = server-next _ (raise-keeps es ls r w v past cause parts mirrors inv locks facts spent s raised (r.memory s))
+  step-causes (Restart s pick Ws Ts) i told said = server-next _ (restart-keeps es ls r w v past cause parts mirrors inv locks facts spent s pick Ws Ts (r.memory s) refl)
+  step-causes Dismiss i told said = of-facts _ [] [] (sym (append-nil r.lines)) (sym (append-nil r.sent)) (dismissed-facts es es' on ls r w v cause mirrors facts spent [] [] (λ d n now. refl) (λ x j. absurd j))
+  step-causes (CloseClients s) i told said = server-next _ (close-keeps es ls r w v past cause parts mirrors inv locks facts spent s (r.memory s) refl i)
+
+  -- ---- what aborts have as their causes
+
+  up-at : (s : ServerNo) (m : Memory) → r.memory s ≡ Some m → UpFact s m (r.found s)
+  up-at s m is = subst (λ o. ServerFact s o (r.found s)) is (locks s)
+
+  pub votes-say : (s : ServerNo) (m : Memory) → r.memory s ≡ Some m → (room : Room) (message : Message) → In (Server s, message) r.sent → Each (SaysPast (openings r.sent) r.clients w Caused) (worker_row m.worker (storage_of m (stable (r.found s)) room) m.tickets message).messages
+  votes-say s m is room message i = (worker-row es ls r w v past cause parts mirrors inv locks facts spent s m is (up-at s m is) None room message i).says
+
+  -- a current transaction that its coordinator doesn't have was lost
+  pub lost-there : (s : ServerNo) (m : Memory) → r.memory s ≡ Some m → (c : ClientNo) (T : Tid) → T.server ≡ s → transaction_at T m.coordinator.transactions ≡ None → Had (openings r.sent) r.clients w Caused c T → Past (openings r.sent) r.clients w Caused c T ⊎ Caused c T (LostAt s)
+  lost-there s m is c T at none had = by (r.clients c).transaction refl
+    where
+      over : (r.clients c).transaction ≢ Some T → Past (openings r.sent) r.clients w Caused c T
+      over e = record { request = had.request; has = had.has; drawn = had.drawn; over = e; answered = had.answered }
+
+      some-memory : (a b : Memory) → Some a ≡ Some b → a ≡ b
+      some-memory a b e = cc
+
+      lost : (r.clients c).transaction ≡ Some T → Caused c T (LostAt s)
+      lost e = stand b.stands
+        where
+          b : BeganAt es ls r.memory c T
+          b = (cause.each c).current T e
+
+          stand : HasTransaction r.memory T ⊎ DownAfter ls T.server b.number → Caused c T (LostAt s)
+          stand (inl h) = absurd (not_both (is_some (transaction_at T m.coordinator.transactions)) (subst (λ (z : Memory). is_some (transaction_at T z.coordinator.transactions) ≡ true) (some-memory h.0 m (sym h.1 ∙ ap r.memory at ∙ is)) h.2) (ap is_some none))
+          stand (inr h) = inr (subst (λ (z : ServerNo). Stood es ls c T (LostAt z)) at (record { number = b.number; came = b.came; down = h }))
+
+      none-tid : None ≡ Some T → ⊥
+      none-tid e = cc
+
+      some-tid : (U : Tid) → Some U ≡ Some T → U ≡ T
+      some-tid U e = cc
+
+      by : (o : Option Tid) → (r.clients c).transaction ≡ o → Past (openings r.sent) r.clients w Caused c T ⊎ Caused c T (LostAt s)
+      by None e = inl (over (λ f. none-tid (sym e ∙ f)))
+      by (Some U) e = same (tid_tells U T)
+        where
+          same : ((tid_eq U T ≡ true) × (U ≡ T)) ⊎ ((tid_eq U T ≡ false) × (U ≢ T)) → Past (openings r.sent) r.clients w Caused c T ⊎ Caused c T (LostAt s)
+          same (inl p) = inr (lost (e ∙ ap (λ (z : Tid). Some z) p.1))
+          same (inr p) = inl (over (λ f. p.1 (some-tid U (sym e ∙ f))))
+
+  pub any-full : (c : ClientNo) (T : Tid) (s : ServerNo) (n free need : ℕ) → nat_lt free need ≡ true → Caused c T (FullAt s n free need)
+  any-full c T s n free need h = inr h
+
+  -- a client's own abort
+  requested : (step : Step) → ((c : ClientNo) (command : Command) → step ≡ Tell c command → IsTold es es' ls r c command) → (new : List Text) (os : List Opening) (c : ClientNo) → step ≡ Tell c Abort → (T : Tid) → (r.clients c).transaction ≡ Some T → HasCause os es' (ls ++ at_event (1 + length es) new) c T Requested
+  requested step told new os c e T f = let it = told c Abort e in inr (record {
+    number = r.event;
+    event = events.Command c Abort;
+    stands = it.stands;
+    is = both (client_eq c c) _ (self c) (subst (λ n. is_in c T r.event (ls ++ at_event n new) ≡ true) it.now (in-here r.event ls new c T it.within ((cause.each c).begun T f)));
+  })
+    where
+      self : (d : ClientNo) → client_eq d d ≡ true
+      self d = grind (arith, client_tells d d)
+
+      both : (a b : Bool) → a ≡ true → b ≡ true → (a && b) ≡ true
+      both a b h k = grind arith
+
+  pub past-next : (step : Step) → IsStep step r → ((c : ClientNo) (command : Command) → step ≡ Tell c command → IsTold es es' ls r c command) → (next : NextCauses (after step r)) → Later (after step r) v
+      → PastFacts (after step r).sent (after step r).clients (after step r).memory (after step r).found v (HasCause (openings (after step r).sent) es' (ls ++ at_event (1 + length es) next.new))
+  past-next step i told next later = step-past r w v Caused (HasCause (openings (after step r).sent) es' (ls ++ at_event (1 + length es) next.new)) past (cause-more es es' on ls next.new (openings r.sent) (openings (after step r).sent) next.forth) grown.aborted grown.named named any-full mirrors inv locks facts talk votes-say lost-there
+      step (i, requested step told next.new (openings (after step r).sent)) later
+
+  -- a work of an end was told to be open
+  pub parts-next : (step : Step) (next : NextCauses (after step r)) → ((T : Tid) → v.ended T ≡ true → (w.ended T ≡ true) ⊎ EndsNow (after step r) v T) → (T : Tid) (W : WorkId) → v.ended T ≡ true → v.part T W.server ≡ Some W → WasOpened (after step r).sent T W
+  parts-next step next ends T W e p = by (ends T e)
+    where
+      by : (w.ended T ≡ true) ⊎ EndsNow (after step r) v T → WasOpened (after step r).sent T W
+      by (inl k) = next.sends T W (parts T W k (sym (grown.part T k W.server) ∙ p))
+      by (inr k) = (next.causes.each k.client).works T k.current W (k.all W.server W p)
+
+  -- ---- the lines of the step
+
+  plain-stands : (text : Text) → IsPlainText text → AbortStands es ls text
+  plain-stands (texts.Aborted c j T why) h = absurd h
+  plain-stands _ h = tt
+
+  told-stands : (c : ClientNo) (text : Text) → IsTrueAbort (openings r.sent) r.clients w Caused c (facts.clients c).name text → AbortStands es ls text
+  told-stands c (texts.Aborted d j T why) h = by h.3
+    where
+      by : HasCause (openings r.sent) es ls c T why → Stood es ls d T why
+      by (inl o) = let b = (facts.clients c).current T h.1 in absurd (o.other (ap (λ (a : Opening). a.client) (facts.unique (began_by o.client o.request T) (began_by c b.request T) o.has b.has refl)))
+      by (inr k) = subst (λ (z : ClientNo). Stood es ls z T why) (sym h.0) k
+  told-stands c _ h = tt
+
+  silent : (s : ServerNo) (m : Memory) (is : r.memory s ≡ Some m) (room : Room) (message : Message) → In (Server s, message) r.sent → list_any is_broke (coordinator_row m.coordinator room.free.records m.tickets message).notes ≡ false
+  silent s m is room message i = coordinator-quiet r w w Caused Caused past (λ c T why h. h) (λ T h. h) (λ T h. h) began named facts.unique any-full mirrors inv locks votes-say lost-there
+      s m is (up-at s m is) room message (in-all IsAddressed r.sent (Server s, message) mirrors.addressed i) (each-in (SaysPast (openings r.sent) r.clients w Caused) r.sent (Server s, message) past.says i)
+
+  abbrev Any : World → Type 0
+  Any q = Unit {0}
+
+  pub lines-stand : (step : Step) → AddsLines (AbortStands es ls) r (after step r)
+  lines-stand step = step-lines (AbortStands es ls) plain-stands r w Caused mirrors facts past Any told-stands (λ s m is k room message i l T u by n. tt) silent step tt

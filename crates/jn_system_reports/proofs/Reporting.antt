@@ -1,0 +1,27 @@
+-- A run with its events, its end and its lines.
+pub mod Lists
+pub mod Prints
+pub mod Asking
+pub mod WorkerTalk
+pub mod CoordinatorTalk
+pub mod Known
+pub mod Gone
+pub mod Breaking
+pub mod ClientTalk
+pub mod Talk
+pub mod Reached
+pub mod Fitting
+pub mod Hearing
+pub mod Following
+pub mod Naming
+pub mod Past
+pub mod PastRows
+pub mod PastSteps
+pub mod PastWorld
+pub mod PastClients
+pub mod PastAll
+pub mod Outcomes
+pub mod StepLines
+pub mod Unnamed
+pub mod Arming
+pub mod ArmedRuns

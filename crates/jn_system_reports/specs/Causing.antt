@@ -1,0 +1,2 @@
+-- Each abort that is told has its cause.
+pub mod Example

@@ -1,0 +1,6 @@
+-- A run with its events, its end and its lines.
+pub mod Printing
+pub mod Reported
+pub mod Armed
+pub mod Ending
+pub mod Example

@@ -1,0 +1,2 @@
+-- What shows and the end print.
+pub mod Example

@@ -1,0 +1,5 @@
+-- What the lines tell of a transaction.
+pub mod Told
+pub mod Agreement
+pub mod Example
+pub mod WrongRuns

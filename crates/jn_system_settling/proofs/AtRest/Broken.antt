@@ -1,0 +1,350 @@
+-- Each broken work has its line.
+use Rattle.std.proofs.Common.{◌≡◌, ◌≢◌, ◌⊎◌, inl, inr, ℕ, ◌+◌, Bool, true, false, List, [], ◌∷◌, ◌++◌, length, Option, Some, None, refl, sym, ◌∙◌, ap, subst}
+use Rattle.std.specs.Prelude.{map, if◌then◌else◌, nat_lt, nat_eq, slice_get}
+use Rattle.jn_base.specs.declared.names.ServerNo.{ServerNo}
+use Rattle.jn_base.specs.declared.names.ClientNo.{ClientNo}
+use Rattle.jn_base.specs.declared.names.Tid.{Tid}
+use Rattle.jn_base.specs.declared.names.WorkId.{WorkId}
+use Rattle.jn_base.specs.declared.names.Tickets.{Tickets}
+use Rattle.jn_base.specs.declared.names.LockUnit.{LockUnit}
+use Rattle.jn_base.specs.declared.op.Op.{Op}
+use Rattle.jn_base.specs.declared.op.Answer.{Answer}
+use Rattle.jn_base.specs.Names.{work_eq}
+use Rattle.jn_base.proofs.Tells.{work_tells}
+use Rattle.jn_order.specs.Files.{AllFiles, change, answer_to}
+use Rattle.jn_records.specs.NetLists.{list_change}
+use Rattle.jn_records.specs.declared.intention.Intention.{Intention}
+use Rattle.jn_msgs.specs.declared.message.Message.{Message}
+use Rattle.jn_msgs.specs.declared.message.Message.TheVariants as messages
+use Rattle.jn_msgs.specs.declared.message.Vote.{Vote}
+use Rattle.jn_msgs.specs.declared.message.Vote.TheVariants as votes
+use Rattle.jn_msgs.specs.declared.message.Note.{Note}
+use Rattle.jn_msgs.specs.declared.message.Note.TheVariants as notes
+use Rattle.jn_report.specs.declared.line.Text.{Text}
+use Rattle.jn_report.specs.declared.line.Text.TheVariants as says
+use Rattle.jn_rows.specs.declared.worker.Work.{Work}
+use Rattle.jn_rows.specs.declared.worker.Phase.{Phase}
+use Rattle.jn_rows.specs.declared.worker.Phase.TheVariants.{Active, Broken, Prepared as Stored}
+use Rattle.jn_rows.specs.declared.worker.ActiveWork.{ActiveWork}
+use Rattle.jn_rows.specs.declared.worker.PreparedWork.{PreparedWork}
+use Rattle.jn_rows.specs.Stable.{StableState, Prepared, stable, is_going}
+use Rattle.jn_rows.specs.Outcomes.{RowOutcome, quiet}
+use Rattle.jn_rows.specs.Worker.{WorkerTable, WorkStorage, Wanted, work_at, work_of, with_phase, without, new_work, name_from, open_row, break_notes, breaks_at, broken_by, note_of, after_grant, granted_row, repeated, op_phase, op_row, refusal_of, wants_of, is_fit, commit_wants, conflict, vote_of, shortage, need_in, prepared_row, prepare_phase, prepare_row, commit_phase, commit_row, drop_phase, drop_row, worker_row, worker_step, going_work, going_row, carried_row, intentions_of, timed_out, timeout_row, vulnerable, written_unit, restored_work, restored_worker}
+use Rattle.jn_lock_rows.specs.Matching.{are_rising, is_after}
+use Rattle.jn_lock_rows.proofs.Works.{in_phase, at-phase, at-grant, once_granted, at-less, at-more}
+use Rattle.jn_system.specs.WholeSystem.World.{World, Memory}
+use Rattle.jn_system.specs.WholeSystem.Servers.{Room, storage_of, of_worker, of_coordinator, of_step, of_timeout, server_step, server_timeout, is_for_worker, restored, line_of, lines_of}
+use Rattle.jn_system.specs.WholeSystem.Steps.{Step, IsRun, after, run}
+use Rattle.jn_system.specs.WholeSystem.LockFacts.{UpFact, ServerFact}
+use Rattle.jn_system.proofs.WholeSystem.Tables.{of-found}
+use Rattle.jn_rows.specs.Coordinator.{coordinator_row}
+use Rattle.jn_system_reports.specs.Reporting.Reported.{Does, told_by}
+use Rattle.jn_system_reports.proofs.Reporting.Lists.{In, in-first, in-second}
+use Rattle.jn_system_reports.proofs.Reporting.Naming.{adds}
+use Rattle.jn_system_reports.proofs.Reporting.Reached.{Reached, next-reached}
+use Rattle.jn_system_settling.proofs.AtRest.Memories.{Remembers, as_before, down, by_message, by_step, by_timeout, by_closing, by_restart, step-memory}
+
+-- where a broken work of a new table comes from: it was broken before, or breaks with its note
+record WasBroken (t : WorkerTable) (W : WorkId) (v : Work) (u : LockUnit) (by : Tid) : Type 0 where
+  work : Work
+  found : work_at W t ≡ Some work
+  phase : work.phase ≡ Broken u by
+  tid : work.tid ≡ v.tid
+
+abbrev Breaks : WorkerTable → WorkerTable → List Note → Type 0
+Breaks t now told = (W : WorkId) (v : Work) (u : LockUnit) (by : Tid) → work_at W now ≡ Some v → v.phase ≡ Broken u by → WasBroken t W v u by ⊎ In (notes.Broke v.tid u by) told
+
+some-work : (a b : Work) → Some a ≡ Some b → a ≡ b
+some-work a b e = cc
+
+none-work : (a : Work) → None ≡ Some a → ⊥
+none-work a e = cc
+
+same-breaks : (t : WorkerTable) (told : List Note) → Breaks t t told
+same-breaks t told W v u by e p = inl (record { work = v; found = e; phase = p; tid = refl })
+
+less-breaks : (N : WorkId) (t : WorkerTable) (told : List Note) → are_rising t ≡ true → Breaks t (without N t) told
+less-breaks N t told rising W v u by e p = on (work_eq N W) (sym (at-less W N t rising) ∙ e)
+  where
+    on : (b : Bool) → (if b then None else work_at W t) ≡ Some v → WasBroken t W v u by ⊎ In (notes.Broke v.tid u by) told
+    on true q = absurd (none-work v q)
+    on false q = same-breaks t told W v u by q p
+
+more-breaks : (N : WorkId) (T : Tid) (t : WorkerTable) (told : List Note) → is_after N t ≡ true → Breaks t (t ++ new_work N T ∷ []) told
+more-breaks N T t told after W v u by e p = on (work_eq N W) (sym (at-more W t (new_work N T) after) ∙ e)
+  where
+    clash : (a : ActiveWork) → Active a ≡ Broken u by → ⊥
+    clash a q = cc
+
+    on : (b : Bool) → (if b then Some (new_work N T) else work_at W t) ≡ Some v → WasBroken t W v u by ⊎ In (notes.Broke v.tid u by) told
+    on true q = absurd (clash _ (ap (λ (z : Work). z.phase) (some-work (new_work N T) v q) ∙ p))
+    on false q = same-breaks t told W v u by q p
+
+-- one work comes to a phase that isn't broken
+
+active-whole : (a : ActiveWork) (u : LockUnit) (by : Tid) → Active a ≡ Broken u by → ⊥
+active-whole a u by e = cc
+
+stored-whole : (a : PreparedWork) (u : LockUnit) (by : Tid) → Stored a ≡ Broken u by → ⊥
+stored-whole a u by e = cc
+
+phase-breaks : (N : WorkId) (p : Phase) (t now : WorkerTable) (told : List Note) → ((u : LockUnit) (by : Tid) → p ≡ Broken u by → ⊥) → Breaks t now told → Breaks t (with_phase N p now) told
+phase-breaks N p t now told whole h W v u by e q = on (work_eq N W) (sym (at-phase W N p now) ∙ e)
+  where
+    its : (o : Option Work) → in_phase p o ≡ Some v → WasBroken t W v u by ⊎ In (notes.Broke v.tid u by) told
+    its None z = absurd (none-work v z)
+    its (Some w) z = absurd (whole u by (ap (λ (z : Work). z.phase) (some-work (record w { phase = p }) v z) ∙ q))
+
+    on : (b : Bool) → (if b then in_phase p (work_at W now) else work_at W now) ≡ Some v → WasBroken t W v u by ⊎ In (notes.Broke v.tid u by) told
+    on true z = its (work_at W now) z
+    on false z = h W v u by z q
+
+-- the others that are in the way break
+grant-breaks : (T : Tid) (N : WorkId) (wants : List Wanted) (t : WorkerTable) → Breaks t (after_grant T N wants t) (break_notes T N wants t)
+grant-breaks T N wants t W v u by e q = on (work_at W t) refl (sym (at-grant T N wants W t) ∙ e)
+  where
+    noted : (xs : WorkerTable) (w : Work) → work_at W xs ≡ Some w → breaks_at N wants w ≡ Some u → T ≡ by → In (notes.Broke w.tid u by) (break_notes T N wants xs)
+    noted [] w z k f = absurd (none-work w z)
+    noted (x ∷ xs) w z k f = at (work_eq x.name W) z (noted xs w)
+      where
+        at : (b : Bool) → (if b then Some x else work_at W xs) ≡ Some w → (work_at W xs ≡ Some w → breaks_at N wants w ≡ Some u → T ≡ by → In (notes.Broke w.tid u by) (break_notes T N wants xs)) → In (notes.Broke w.tid u by) (break_notes T N wants (x ∷ xs))
+        at true z again = in-first _ (note_of T (breaks_at N wants x) x) (break_notes T N wants xs) (subst (λ o. In (notes.Broke w.tid u by) (note_of T o x)) (sym (ap (breaks_at N wants) (some-work x w z) ∙ k))
+            (inl (ap (λ (y : Work). notes.Broke y.tid u T) (some-work x w z) ∙ ap (λ y. notes.Broke w.tid u y) f)))
+        at false z again = in-second _ (note_of T (breaks_at N wants x) x) (break_notes T N wants xs) (again z k f)
+
+    unit-of : (x : LockUnit) → Broken x T ≡ Broken u by → (x ≡ u) × (T ≡ by)
+    unit-of x z = (cc, cc)
+
+    one : (w : Work) → work_at W t ≡ Some w → (o : Option LockUnit) → breaks_at N wants w ≡ o → broken_by T o w ≡ v → WasBroken t W v u by ⊎ In (notes.Broke v.tid u by) (break_notes T N wants t)
+    one w z None k f = inl (record { work = w; found = z; phase = ap (λ (y : Work). y.phase) f ∙ q; tid = ap (λ (y : Work). y.tid) f })
+    one w z (Some x) k f = let same = unit-of x (ap (λ (y : Work). y.phase) f ∙ q) in inr (subst (λ (U : Tid). In (notes.Broke U u by) (break_notes T N wants t)) (ap (λ (y : Work). y.tid) f) (noted t w z (k ∙ ap (λ y. Some y) same.0) same.1))
+
+    on : (o : Option Work) → work_at W t ≡ o → once_granted T N wants o ≡ Some v → WasBroken t W v u by ⊎ In (notes.Broke v.tid u by) (break_notes T N wants t)
+    on None z k = absurd (none-work v k)
+    on (Some w) z k = one w z (breaks_at N wants w) refl (some-work _ v k)
+
+-- ---- a worker's rows
+
+module _ (t : WorkerTable) (k : Tickets) (rising : are_rising t ≡ true) (next : is_after (name_from k) t ≡ true) where
+  record Row (row : RowOutcome WorkerTable) : Type 0 where
+    each : Breaks t row.table row.notes
+
+  same : (row : RowOutcome WorkerTable) → row.table ≡ t → Row row
+  same row e = record { each = subst (λ z. Breaks t z row.notes) (sym e) (same-breaks t row.notes) }
+
+  less : (N : WorkId) (row : RowOutcome WorkerTable) → row.table ≡ without N t → Row row
+  less N row e = record { each = subst (λ z. Breaks t z row.notes) (sym e) (less-breaks N t row.notes rising) }
+
+  more : (T : Tid) (row : RowOutcome WorkerTable) → row.table ≡ t ++ new_work (name_from k) T ∷ [] → Row row
+  more T row e = record { each = subst (λ z. Breaks t z row.notes) (sym e) (more-breaks (name_from k) T t row.notes next) }
+
+  choose : (b : Bool) (p q : RowOutcome WorkerTable) → Row p → Row q → Row (if b then p else q)
+  choose true p q h l = h
+  choose false p q h l = l
+
+  granted-breaks : (c : ClientNo) (request : ℕ) (w : Work) (a : ActiveWork) (op : Op) (answer : Answer) (wants : List Wanted) (o : Option Answer) → Row (granted_row t k c request w a op answer wants o)
+  granted-breaks c request w a op answer wants (Some refusal) = record { each = phase-breaks w.name _ t t [] (active-whole _) (same-breaks t []) }
+  granted-breaks c request w a op answer wants None = record { each = phase-breaks w.name _ t (after_grant w.tid w.name wants t) (break_notes w.tid w.name wants t) (active-whole _) (grant-breaks w.tid w.name wants t) }
+
+  op-breaks : (x : StableState) (c : ClientNo) (request : ℕ) (w : Work) (number : ℕ) (op : Op) (p : Phase) → Row (op_phase t x.files k c request w number op p)
+  op-breaks x c request w number op (Active a) = let answer = answer_to op (change (list_change a.list) x.files) in
+      choose (nat_eq number (a.last + 1)) _ _ (granted-breaks c request w a op answer (wants_of op (is_fit answer)) (refusal_of t w.name a op answer (wants_of op (is_fit answer))))
+      (choose (nat_eq number a.last) _ _ (repeats a.kept) (same _ refl))
+    where
+      repeats : (o : Option Answer) → Row (repeated t k c request o)
+      repeats (Some answer) = same _ refl
+      repeats None = same _ refl
+  op-breaks x c request w number op (Broken u by) = same _ refl
+  op-breaks x c request w number op (Stored p) = same _ refl
+
+  prepared-breaks : (T : Tid) (c : ClientNo) (w : Work) (a : ActiveWork) (vote : Vote) → Row (prepared_row t k T c w a vote)
+  prepared-breaks T c w a votes.Ready = record { each = phase-breaks w.name _ t (after_grant w.tid w.name (commit_wants a.writes) t) (break_notes w.tid w.name (commit_wants a.writes) t) (stored-whole _) (grant-breaks w.tid w.name (commit_wants a.writes) t) }
+  prepared-breaks T c w a (votes.Waiting u held) = same _ refl
+  prepared-breaks T c w a (votes.Lost m n) = same _ refl
+  prepared-breaks T c w a (votes.Broken u held) = same _ refl
+  prepared-breaks T c w a (votes.Full m n need) = same _ refl
+
+  worker-breaks : (s : WorkStorage) (m : Message) → Row (worker_row t s k m)
+  worker-breaks s (messages.Open c request T) = by (work_of T t)
+    where
+      by : (o : Option Work) → Row (open_row t k c request T o)
+      by (Some w) = same _ refl
+      by None = choose (nat_lt (length t) 64) _ _ (more T _ refl) (same _ refl)
+  worker-breaks s (messages.Op c request W number op) = by (work_at W t)
+    where
+      by : (o : Option Work) → Row (op_row t s.state.files k c request W number op o)
+      by (Some w) = op-breaks s.state c request w number op w.phase
+      by None = same _ refl
+  worker-breaks s (messages.Prepare T c W) = by (work_at W t)
+    where
+      phase : (w : Work) (p : Phase) → Row (prepare_phase t s k T c w p)
+      phase w (Active a) = prepared-breaks T c w a (vote_of (conflict w.name (commit_wants a.writes) t) (shortage s.free (need_in s.state.files a.list)))
+      phase w (Broken u by) = same _ refl
+      phase w (Stored p) = choose (is_going (s.state.works w.name)) _ _ (same _ refl) (same _ refl)
+
+      by : (o : Option Work) → Row (prepare_row t s k T c W o)
+      by (Some w) = phase w w.phase
+      by None = same _ refl
+  worker-breaks s (messages.Commit T W) = by (work_at W t)
+    where
+      phase : (p : Phase) → Row (commit_phase t s k W p)
+      phase (Active a) = same _ refl
+      phase (Broken u by) = same _ refl
+      phase (Stored p) = choose (is_going (s.state.works W)) _ _ (same _ refl) (same _ refl)
+
+      by : (o : Option Work) → Row (commit_row t s k T W o)
+      by (Some w) = phase w.phase
+      by None = same _ refl
+  worker-breaks s (messages.Drop T W) = by (work_at W t)
+    where
+      phase : (p : Phase) → Row (drop_phase t s k W p)
+      phase (Active a) = less W _ refl
+      phase (Broken u by) = less W _ refl
+      phase (Stored p) = choose (is_going (s.state.works W)) _ _ (same _ refl) (less W _ refl)
+
+      by : (o : Option Work) → Row (drop_row t s k W o)
+      by (Some w) = phase w.phase
+      by None = same _ refl
+  worker-breaks s m = same _ refl
+
+  step-breaks : (s : WorkStorage) (row : RowOutcome WorkerTable) → worker_step t s k ≡ Some row → Breaks t row.table []
+  step-breaks s row h = by (going_work s.state t) h
+    where
+      some : (a b : RowOutcome WorkerTable) → Some a ≡ Some b → a ≡ b
+      some a b q = cc
+
+      none : None ≡ Some row → ⊥
+      none q = cc
+
+      carried : (w : Work) (o : Option Intention) → Breaks t (carried_row t k w o).table []
+      carried w (Some i) = same-breaks t []
+      carried w None = less-breaks w.name t [] rising
+
+      rest : (b : Bool) → (if b then Some (quiet t k) else None) ≡ Some row → Breaks t row.table []
+      rest true q = subst (λ (z : RowOutcome WorkerTable). Breaks t z.table []) (some _ row q) (same-breaks t [])
+      rest false q = absurd (none q)
+
+      by : (o : Option Work) → going_row t s k o ≡ Some row → Breaks t row.table []
+      by (Some w) q = subst (λ (z : RowOutcome WorkerTable). Breaks t z.table []) (some _ row q) (carried w (slice_get (intentions_of (s.state.works w.name)) (s.next w.name)))
+      by None q = rest s.rubbish q
+
+  late-breaks : (T : Tid) (o : Option Work) (now : WorkerTable) → ((w : Work) → o ≡ Some w → work_at w.name t ≡ Some w) → timed_out t o ≡ Some now → Breaks t now []
+  late-breaks T None now own h = absurd (none h)
+    where
+      none : None ≡ Some now → ⊥
+      none q = cc
+  late-breaks T (Some w) now own h = subst (λ z. Breaks t z []) (some (with_phase w.name (vulnerable w.phase) t) now h) (on w.phase refl)
+    where
+      some : (a b : WorkerTable) → Some a ≡ Some b → a ≡ b
+      some a b q = cc
+
+      -- what was broken stays so
+      on : (p : Phase) → w.phase ≡ p → Breaks t (with_phase w.name (vulnerable p) t) []
+      on (Active a) e = phase-breaks w.name _ t t [] (active-whole _) (same-breaks t [])
+      on (Stored a) e = phase-breaks w.name _ t t [] (stored-whole _) (same-breaks t [])
+      on (Broken x y) e = λ W v u by f q. at W v u by (work_tells w.name W) (sym (at-phase W w.name (Broken x y) t) ∙ f) q
+        where
+          at : (W : WorkId) (v : Work) (u : LockUnit) (by : Tid) → ((work_eq w.name W ≡ true) × (w.name ≡ W)) ⊎ ((work_eq w.name W ≡ false) × (w.name ≢ W)) → (if work_eq w.name W then in_phase (Broken x y) (work_at W t) else work_at W t) ≡ Some v
+              → v.phase ≡ Broken u by → WasBroken t W v u by ⊎ In (notes.Broke v.tid u by) []
+          at W v u by (inr p) f q = same-breaks t [] W v u by (sym (ap (λ (b : Bool). if b then in_phase (Broken x y) (work_at W t) else work_at W t) p.0) ∙ f) q
+          at W v u by (inl p) f q = let here = sym (ap (λ (V : WorkId). work_at V t) p.1) ∙ own w refl in
+              let is = some-work (record w { phase = Broken x y }) v (sym (ap (in_phase (Broken x y)) here) ∙ sym (ap (λ (b : Bool). if b then in_phase (Broken x y) (work_at W t) else work_at W t) p.0) ∙ f) in
+              inl (record { work = w; found = here; phase = e ∙ ap (λ (z : Work). z.phase) is ∙ q; tid = ap (λ (z : Work). z.tid) is })
+
+-- ---- every run
+
+abbrev pub BrokenTold : World → Type 0
+BrokenTold r = (s : ServerNo) (m : Memory) (W : WorkId) (v : Work) (u : LockUnit) (by : Tid) → r.memory s ≡ Some m → work_at W m.worker ≡ Some v → v.phase ≡ Broken u by → In (says.Broke s v.tid u by) r.lines
+
+restored-whole : (x : StableState) (Ws : List WorkId) (W : WorkId) (v : Work) (u : LockUnit) (by : Tid) → work_at W (restored_worker x Ws) ≡ Some v → v.phase ≡ Broken u by → ⊥
+restored-whole x [] W v u by e p = none-work v e
+restored-whole x (V ∷ Vs) W v u by e p = on (x.works V) e (restored-whole x Vs W v u by)
+  where
+    on : (o : Option Prepared) → work_at W (restored_work V o ++ restored_worker x Vs) ≡ Some v → (work_at W (restored_worker x Vs) ≡ Some v → v.phase ≡ Broken u by → ⊥) → ⊥
+    on None q again = again q p
+    on (Some w) q again = at (work_eq V W) q
+      where
+        at : (b : Bool) → (if b then Some (record { name = V; tid = w.tid; phase = Stored (record { reads = w.reads; writes = map (λ (i : Intention). written_unit i.what i.file i.block) w.list }) }) else work_at W (restored_worker x Vs)) ≡ Some v → ⊥
+        at true z = stored-whole _ u by (ap (λ (y : Work). y.phase) (some-work _ v z) ∙ p)
+        at false z = again z p
+
+module _ (files : AllFiles) (epochs : ServerNo → ℕ) where
+  step-told : (step : Step) (r : World) → Reached files epochs r → BrokenTold r → BrokenTold (after step r)
+  step-told step r R h s n W v u by e f p = on ((after step r).memory s) e (step-memory r s step)
+    where
+      same : (a b : Memory) → Some a ≡ Some b → a ≡ b
+      same a b q = cc
+
+      none : None ≡ Some n → ⊥
+      none q = cc
+
+      up : (m : Memory) → r.memory s ≡ Some m → UpFact s m (r.found s)
+      up m q = subst (λ o. ServerFact s o (r.found s)) q (R.locks s)
+
+      stays : (x : Text) → In x r.lines → In x (after step r).lines
+      stays x k = subst (λ l. In x l) (sym (adds files epochs r R step)) (in-first x r.lines (told_by (Does step) r) k)
+
+      old : (m : Memory) → r.memory s ≡ Some m → WasBroken m.worker W v u by → In (says.Broke s v.tid u by) (after step r).lines
+      old m q w = stays _ (subst (λ (T : Tid). In (says.Broke s T u by) r.lines) w.tid (h s m W w.work u by q w.found w.phase))
+
+      in-lines : (k : Option ℕ) (told : List Note) → In (notes.Broke v.tid u by) told → In (says.Broke s v.tid u by) (lines_of s k told)
+      in-lines k [] q = absurd q
+      in-lines k (x ∷ told) (inl q) = in-first _ (line_of s k x) (lines_of s k told) (subst (λ z. In (says.Broke s v.tid u by) (line_of s k z)) (sym q) (inl refl))
+      in-lines k (x ∷ told) (inr q) = in-second _ (line_of s k x) (lines_of s k told) (in-lines k told q)
+
+      its : (m : Memory) → r.memory s ≡ Some m → (t : WorkerTable) → Breaks m.worker t [] → work_at W t ≡ Some v → In (says.Broke s v.tid u by) (after step r).lines
+      its m q t b g = at (b W v u by g p)
+        where
+          at : WasBroken m.worker W v u by ⊎ ⊥ → In (says.Broke s v.tid u by) (after step r).lines
+          at (inl w) = old m q w
+          at (inr z) = absurd z
+
+      at-n : (m : Memory) → Some m ≡ Some n → work_at W m.worker ≡ Some v
+      at-n m q = ap (λ (z : Memory). work_at W z.worker) (same m n q) ∙ f
+
+      by-row : (m : Memory) (room : Room) (message : Message) (k : ℕ) (b : Bool) → r.memory s ≡ Some m
+          → work_at W (if b then of_worker m (worker_row m.worker (storage_of m (stable (r.found s)) room) m.tickets message) else of_coordinator m (coordinator_row m.coordinator room.free.records m.tickets message)).table.worker ≡ Some v
+          → (after step r).lines ≡ r.lines ++ lines_of s (Some k) (if b then of_worker m (worker_row m.worker (storage_of m (stable (r.found s)) room) m.tickets message) else of_coordinator m (coordinator_row m.coordinator room.free.records m.tickets message)).notes
+          → In (says.Broke s v.tid u by) (after step r).lines
+      by-row m room message k false q g l = old m q (record { work = v; found = g; phase = p; tid = refl })
+      by-row m room message k true q g l = at ((worker-breaks m.worker m.tickets (up m q).table.rising (up m q).table.before (storage_of m (stable (r.found s)) room) message).each W v u by g p)
+        where
+          at : WasBroken m.worker W v u by ⊎ In (notes.Broke v.tid u by) (worker_row m.worker (storage_of m (stable (r.found s)) room) m.tickets message).notes → In (says.Broke s v.tid u by) (after step r).lines
+          at (inl w) = old m q w
+          at (inr z) = subst (λ x. In (says.Broke s v.tid u by) x) (sym l) (in-second _ r.lines _ (in-lines (Some k) _ z))
+
+      by-own : (m : Memory) (room : Room) (row : RowOutcome Memory) → r.memory s ≡ Some m → server_step m (stable (r.found s)) room ≡ Some row → Some row.table ≡ Some n → In (says.Broke s v.tid u by) (after step r).lines
+      by-own m room row q g z = at (worker_step m.worker (storage_of m (stable (r.found s)) room) m.tickets) refl g
+        where
+          one : (a : RowOutcome Memory) → Some a ≡ Some row → a ≡ row
+          one a k = cc
+
+          no : None ≡ Some row → ⊥
+          no k = cc
+
+          at : (o : Option (RowOutcome WorkerTable)) → worker_step m.worker (storage_of m (stable (r.found s)) room) m.tickets ≡ o → of_step m o ≡ Some row → In (says.Broke s v.tid u by) (after step r).lines
+          at None x k = absurd (no k)
+          at (Some w) x k = its m q w.table (step-breaks m.worker m.tickets (up m q).table.rising (up m q).table.before (storage_of m (stable (r.found s)) room) w x) (ap (λ (y : RowOutcome Memory). work_at W y.table.worker) (one (of_worker m w) k) ∙ at-n row.table z)
+
+      by-late : (m : Memory) (T : Tid) → r.memory s ≡ Some m → Some (server_timeout m T) ≡ Some n → In (says.Broke s v.tid u by) (after step r).lines
+      by-late m T q z = at (timeout_row m.worker T) refl (at-n (server_timeout m T) z)
+        where
+          own : (w : Work) → work_of T m.worker ≡ Some w → work_at w.name m.worker ≡ Some w
+          own w k = of-found T m.worker w (up m q).table.rising k
+
+          at : (o : Option WorkerTable) → timeout_row m.worker T ≡ o → work_at W (of_timeout m o).worker ≡ Some v → In (says.Broke s v.tid u by) (after step r).lines
+          at None x g = old m q (record { work = v; found = g; phase = p; tid = refl })
+          at (Some t) x g = its m q t (late-breaks m.worker m.tickets (up m q).table.rising (up m q).table.before T (work_of T m.worker) t own x) g
+
+      on : (o : Option Memory) → o ≡ Some n → Remembers r (after step r) s o → In (says.Broke s v.tid u by) (after step r).lines
+      on o q as_before = stays _ (h s n W v u by q f p)
+      on o q down = absurd (none q)
+      on o q (by_message m room message up has k l) = by-row m room message k (is_for_worker message) up (at-n _ q) l
+      on o q (by_step m room row up g) = by-own m room row up g q
+      on o q (by_timeout m T up) = by-late m T up q
+      on o q (by_closing m up) = old m up (record { work = v; found = at-n _ q; phase = p; tid = refl })
+      on o q (by_restart x Ws Ts) = absurd (restored-whole x Ws W v u by (at-n (restored s x Ws Ts) q) p)
+
+  pub run-told : (steps : List Step) (r : World) → IsRun steps r → Reached files epochs r → BrokenTold r → BrokenTold (run steps r)
+  run-told [] r i R h = h
+  run-told (step ∷ steps) r i R h = run-told steps (after step r) i.1 (next-reached files epochs r step i.0 R) (step-told step r R h)

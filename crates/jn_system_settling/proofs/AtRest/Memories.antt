@@ -1,0 +1,271 @@
+-- How a server's memory comes to be in a step, and what holds of every table of a coordinator: no vote or commit in it is complete.
+use Rattle.std.proofs.Common.{◌≡◌, ◌≢◌, ◌⊎◌, inl, inr, ℕ, Bool, true, false, List, [], ◌∷◌, ◌++◌, length, Option, Some, None, refl, sym, ◌∙◌, ap, subst, arith}
+use Rattle.std.specs.Prelude.{◌&&◌, not, if◌then◌else◌, nat_lt, nat_eq, slice_get}
+use Rattle.jn_base.specs.declared.names.ServerNo.{ServerNo}
+use Rattle.jn_base.specs.declared.names.ClientNo.{ClientNo}
+use Rattle.jn_base.specs.declared.names.Tid.{Tid}
+use Rattle.jn_base.specs.declared.names.Tickets.{Tickets}
+use Rattle.jn_base.specs.declared.names.WorkId.{WorkId}
+use Rattle.jn_base.specs.declared.names.Party.TheVariants.{Client, Server}
+use Rattle.jn_base.specs.Names.{server_eq, client_eq}
+use Rattle.jn_base.proofs.Tells.{server_tells}
+use Rattle.jn_msgs.specs.declared.message.Message.{Message}
+use Rattle.jn_msgs.specs.declared.message.Message.TheVariants as messages
+use Rattle.jn_rows.specs.declared.client.Taken.{Taken}
+use Rattle.jn_rows.specs.declared.client.Taken.TheVariants as taken
+use Rattle.jn_rows.specs.declared.coordinator.Transaction.{Transaction}
+use Rattle.jn_rows.specs.declared.coordinator.Stage.{Stage}
+use Rattle.jn_rows.specs.declared.coordinator.Stage.TheVariants.{Open, Voting, Committed, Aborted}
+use Rattle.jn_rows.specs.Stable.{StableState, FlagState, Pick, stable}
+use Rattle.jn_rows.specs.Outcomes.{RowOutcome, Sent}
+use Rattle.jn_rows.specs.Client.{ClientTable, Commanded, Refuses, Sends, command_row, take_row}
+use Rattle.jn_rows.specs.Coordinator.{all_thanked, thanked, close_clients_row, CoordinatorTable, transaction_at, with_stage, without, all_in, closed, after_closing, begin_again, begun_by, end_row, abort_request, inquire_row, vote_row, done_row, thanks_row, coordinator_row, restored_transaction, restored_transactions}
+use Rattle.jn_system.specs.WholeSystem.World.{World, Memory, at_server}
+use Rattle.jn_system.specs.WholeSystem.Servers.{Room, server_row, server_step, server_timeout, storage_of, of_timeout, of_step, of_worker, of_coordinator, is_for_worker, restored, lines_of}
+use Rattle.jn_rows.specs.Worker.{WorkerTable, worker_row, worker_step, timeout_row}
+use Rattle.jn_system.specs.WholeSystem.Steps.{Step, NextEvent, Tell, Again, Deliver, Work, Nudge, Timeout, StopDelivery, StopWork, Crash, Narrow, StopRestart, Restart, Dismiss, CloseClients, after, run, commanded, took, done, stopped, ends, at_memory, handed, work, works, nudge, timeout, crash, narrow, stop_restart, restart, close_clients}
+use Rattle.jn_system_settling.proofs.AtRest.Ways.{Has}
+use Rattle.jn_system_settling.proofs.AtRest.RequestSteps.{has-at}
+use Rattle.jn_system_settling.proofs.AtRest.Fates.{is_unfinished, Kind, keeps, comes, goes, end-its, abort-stage-its, told-its, vote-its, done-its, thanks-its}
+
+-- what a server remembers after a step
+pub data Remembers (w now : World) (s : ServerNo) : Option Memory → Type 0 where
+  as_before : Remembers w now s (w.memory s)
+  down : Remembers w now s None
+  by_message : (m : Memory) (room : Room) (message : Message) → w.memory s ≡ Some m → Has (Server s, message) w.sent → (k : ℕ) → now.lines ≡ w.lines ++ lines_of s (Some k) (server_row m (stable (w.found s)) room message).notes → Remembers w now s (Some (server_row m (stable (w.found s)) room message).table)
+  by_step : (m : Memory) (room : Room) (row : RowOutcome Memory) → w.memory s ≡ Some m → server_step m (stable (w.found s)) room ≡ Some row → Remembers w now s (Some row.table)
+  by_timeout : (m : Memory) (T : Tid) → w.memory s ≡ Some m → Remembers w now s (Some (server_timeout m T))
+  by_closing : (m : Memory) → w.memory s ≡ Some m → Remembers w now s (Some (of_coordinator m (close_clients_row m.coordinator m.tickets)).table)
+  by_restart : (x : StableState) (Ws : List WorkId) (Ts : List Tid) → Remembers w now s (Some (restored s x Ws Ts))
+
+module _ (w : World) (q : ServerNo) where
+  abbrev So : World → Type 0
+  So now = Remembers w now q (now.memory q)
+
+  -- one server's memory changes
+  one-server : (now : World) (s : ServerNo) (o : Option Memory) → Remembers w now s o → Remembers w now q (at_server w.memory s o q)
+  one-server now s o h = by (server_tells s q)
+    where
+      by : ((server_eq s q ≡ true) × (s ≡ q)) ⊎ ((server_eq s q ≡ false) × (s ≢ q)) → Remembers w now q (if server_eq s q then o else w.memory q)
+      by (inl p) = subst (λ (b : Bool). Remembers w now q (if b then o else w.memory q)) (sym p.0) (subst (λ (z : ServerNo). Remembers w now z o) p.1 h)
+      by (inr p) = subst (λ (b : Bool). Remembers w now q (if b then o else w.memory q)) (sym p.0) as_before
+
+  ends-so : (s : ServerNo) (k : Option ℕ) (stop : Option (Pick → ℕ)) (row : RowOutcome Memory) → Remembers w (done s k row w) s (Some row.table) → So (ends s k stop row w)
+  ends-so s k None row h = one-server (done s k row w) s (Some row.table) h
+  ends-so s k (Some made) row h = one-server (stopped s made row w) s None down
+
+  took-so : (c : ClientNo) (k : ℕ) (row : ClientTable × Taken) → So (took c k row.0 row.1 w)
+  took-so c k (t, taken.Ignored) = as_before
+  took-so c k (t, taken.Send to m) = as_before
+  took-so c k (t, taken.Told line answer) = as_before
+
+  handed-so : (k : ℕ) (room : Room) (stop : Option (Pick → ℕ)) (o : Option Sent) → slice_get w.sent k ≡ o → So (handed k room stop o w)
+  handed-so k room stop None e = as_before
+  handed-so k room stop (Some (Client c, message)) e = took-so c k (take_row (w.clients c) message)
+  handed-so k room stop (Some (Server s, message)) e = by (w.memory s) refl
+    where
+      by : (o : Option Memory) → w.memory s ≡ o → So (at_memory s k room stop message o w)
+      by None f = as_before
+      by (Some m) f = ends-so s (Some k) stop (server_row m (stable (w.found s)) room message) (by_message m room message f (has-at w.sent k (Server s, message) e) k refl)
+
+  work-so : (s : ServerNo) (room : Room) (stop : Option (Pick → ℕ)) (o : Option Memory) → w.memory s ≡ o → So (work s room stop o w)
+  work-so s room stop None e = as_before
+  work-so s room stop (Some m) e = by (server_step m (stable (w.found s)) room) refl
+    where
+      by : (o : Option (RowOutcome Memory)) → server_step m (stable (w.found s)) room ≡ o → So (works s stop o w)
+      by None f = as_before
+      by (Some row) f = ends-so s None stop row (by_step m room row e f)
+
+  pub step-memory : (step : Step) → Remembers w (after step w) q ((after step w).memory q)
+  step-memory NextEvent = as_before
+  step-memory (Tell c command) = by (command_row (w.clients c) w.event command)
+    where
+      by : (row : Commanded) → So (commanded c row w)
+      by (Refuses refusal) = as_before
+      by (Sends t to m) = as_before
+  step-memory (Again c) = as_before
+  step-memory (Deliver k room) = handed-so k room None (slice_get w.sent k) refl
+  step-memory (Work s room) = work-so s room None (w.memory s) refl
+  step-memory (Nudge s) = by (w.memory s)
+    where
+      by : (o : Option Memory) → So (nudge s o w)
+      by None = as_before
+      by (Some m) = as_before
+  step-memory (Timeout s T) = by (w.memory s) refl
+    where
+      by : (o : Option Memory) → w.memory s ≡ o → So (timeout s T o w)
+      by None e = as_before
+      by (Some m) e = one-server (timeout s T (Some m) w) s (Some (server_timeout m T)) (by_timeout m T e)
+  step-memory (StopDelivery k room made) = handed-so k room (Some made) (slice_get w.sent k) refl
+  step-memory (StopWork s room made) = work-so s room (Some made) (w.memory s) refl
+  step-memory (Crash s) = by (w.memory s)
+    where
+      by : (o : Option Memory) → So (crash s o w)
+      by None = as_before
+      by (Some m) = one-server (crash s (Some m) w) s None down
+  step-memory (Narrow s g) = by (w.memory s)
+    where
+      by : (o : Option Memory) → So (narrow s g o w)
+      by None = as_before
+      by (Some m) = as_before
+  step-memory (StopRestart s raised) = by (w.memory s)
+    where
+      by : (o : Option Memory) → So (stop_restart s raised o w)
+      by None = as_before
+      by (Some m) = as_before
+  step-memory (Restart s pick Ws Ts) = by (w.memory s)
+    where
+      by : (o : Option Memory) → So (restart s pick Ws Ts o w)
+      by None = one-server (restart s pick Ws Ts None w) s (Some (restored s (w.found s pick) Ws Ts)) (by_restart (w.found s pick) Ws Ts)
+      by (Some m) = as_before
+  step-memory Dismiss = as_before
+  step-memory (CloseClients s) = by (w.memory s) refl
+    where
+      by : (o : Option Memory) → w.memory s ≡ o → So (close_clients s o w)
+      by None e = as_before
+      by (Some m) e = ends-so s None None (of_coordinator m (close_clients_row m.coordinator m.tickets)) (by_closing m e)
+
+-- ---- no vote or commit is complete
+
+abbrev pub all_unfinished : List Transaction → Bool
+all_unfinished [] = true
+all_unfinished (x ∷ xs) = is_unfinished x.stage && all_unfinished xs
+
+pub found-unfinished : (T : Tid) (xs : List Transaction) (y : Transaction) → all_unfinished xs ≡ true → transaction_at T xs ≡ Some y → is_unfinished y.stage ≡ true
+found-unfinished T [] y h q = absurd (cc q)
+found-unfinished T (x ∷ xs) y h q = let again = found-unfinished T xs y in grind (arith, h, q)
+
+abbrev AreUnfinished : RowOutcome CoordinatorTable → Type 0
+AreUnfinished row = all_unfinished row.table.transactions ≡ true
+
+staged-unfinished : (T : Tid) (s : Stage) (xs : List Transaction) → is_unfinished s ≡ true → all_unfinished xs ≡ true → all_unfinished (with_stage T s xs) ≡ true
+staged-unfinished T s [] k h = refl
+staged-unfinished T s (x ∷ xs) k h = let again = staged-unfinished T s xs k in grind (arith, h, k)
+
+less-unfinished : (T : Tid) (xs : List Transaction) → all_unfinished xs ≡ true → all_unfinished (without T xs) ≡ true
+less-unfinished T [] h = refl
+less-unfinished T (x ∷ xs) h = let again = less-unfinished T xs in grind (arith, h)
+
+both-unfinished : (xs ys : List Transaction) → all_unfinished xs ≡ true → all_unfinished ys ≡ true → all_unfinished (xs ++ ys) ≡ true
+both-unfinished [] ys h k = k
+both-unfinished (x ∷ xs) ys h k = let again = both-unfinished xs ys in grind (arith, h, k)
+
+closing-unfinished : (c : ClientNo) (xs : List Transaction) → all_unfinished xs ≡ true → all_unfinished (after_closing c xs) ≡ true
+closing-unfinished c [] h = refl
+closing-unfinished c (x ∷ xs) h = by (client_eq x.client c) (closing-unfinished c xs (grind (arith, h)))
+  where
+    one : (s : Stage) → all_unfinished (closed s x) ≡ true
+    one Open = refl
+    one (Voting b) = refl
+    one (Aborted cause) = refl
+    one (Committed d) = on (all_in d.works d.done) refl
+      where
+        on : (b : Bool) → all_in d.works d.done ≡ b → all_unfinished (if b then [] else record x { stage = Committed (record d { thanked = true }) } ∷ []) ≡ true
+        on true e = refl
+        on false e = ap (λ (z : Bool). not z && true) e
+
+    by : (b : Bool) → all_unfinished (after_closing c xs) ≡ true → all_unfinished (if b then closed x.stage x ++ after_closing c xs else x ∷ after_closing c xs) ≡ true
+    by true again = both-unfinished (closed x.stage x) (after_closing c xs) (one x.stage) again
+    by false again = grind (arith, h)
+
+-- those that are thanked all at once
+thanked-unfinished : (xs : List Transaction) → all_unfinished xs ≡ true → all_unfinished (all_thanked xs) ≡ true
+thanked-unfinished [] h = refl
+thanked-unfinished (x ∷ xs) h = both-unfinished (thanked x.stage x) (all_thanked xs) (one x.stage refl) (thanked-unfinished xs (grind (arith, h)))
+  where
+    its : is_unfinished x.stage ≡ true
+    its = grind (arith, h)
+
+    one : (s : Stage) → x.stage ≡ s → all_unfinished (thanked s x) ≡ true
+    one Open e = ap (λ (z : Stage). is_unfinished z && true) e
+    one (Voting b) e = ap (λ (b : Bool). b && true) its
+    one (Aborted cause) e = refl
+    one (Committed d) e = on (all_in d.works d.done) refl
+      where
+        on : (b : Bool) → all_in d.works d.done ≡ b → all_unfinished (if b then [] else record x { stage = Committed (record d { thanked = true }) } ∷ []) ≡ true
+        on true e = refl
+        on false e = ap (λ z. not z && true) e
+
+module _ (t : CoordinatorTable) (free : ℕ) (k : Tickets) (h : all_unfinished t.transactions ≡ true) where
+  by-kind : (U : Tid) (y : Transaction) (row : RowOutcome CoordinatorTable) → Kind U y t row → AreUnfinished row
+  by-kind U y row (keeps e) = ap all_unfinished e ∙ h
+  by-kind U y row (comes stage e unfinished move) = ap all_unfinished e ∙ staged-unfinished U stage t.transactions unfinished h
+  by-kind U y row (goes e u) = ap all_unfinished e ∙ less-unfinished U t.transactions h
+
+  choose : (b : Bool) (p q : RowOutcome CoordinatorTable) → AreUnfinished p → AreUnfinished q → AreUnfinished (if b then p else q)
+  choose true p q a b = a
+  choose false p q a b = b
+
+  -- a row on a transaction, if it is there
+  on-one : (U : Tid) (f : Option Transaction → RowOutcome CoordinatorTable) → AreUnfinished (f None) → ((y : Transaction) → transaction_at U t.transactions ≡ Some y → Kind U y t (f (Some y))) → AreUnfinished (f (transaction_at U t.transactions))
+  on-one U f none some = by (transaction_at U t.transactions) refl
+    where
+      by : (o : Option Transaction) → transaction_at U t.transactions ≡ o → AreUnfinished (f o)
+      by None e = none
+      by (Some y) e = by-kind U y (f (Some y)) (some y e)
+
+  pub row-unfinished : (m : Message) → AreUnfinished (coordinator_row t free k m)
+  row-unfinished (messages.Begin c q) = choose (nat_lt (t.seen c) q) _ _ (choose (nat_lt (length (after_closing c t.transactions)) 64) _ _ (both-unfinished (after_closing c t.transactions) _ (closing-unfinished c t.transactions h) refl) (closing-unfinished c t.transactions h))
+      (choose (nat_eq (t.seen c) q) _ _ (again (begun_by c q t.transactions)) h)
+    where
+      again : (o : Option Transaction) → AreUnfinished (begin_again t k c q o)
+      again None = h
+      again (Some y) = h
+  row-unfinished (messages.End c q U Ws) = on-one U (end_row t free k c q U Ws) h (λ y e. end-its t k U y e free q Ws y.stage refl)
+  row-unfinished (messages.Abort c q U Ws) = on-one U (abort_request t k c U Ws) h (λ y e. abort-stage-its t k U y e Ws y.stage refl)
+  row-unfinished (messages.Thanks c U) = on-one U (thanks_row t k U) h (λ y e. thanks-its t k U y e y.stage refl)
+  row-unfinished (messages.Vote U W vote) = on-one U (vote_row t k U W vote) h (λ y e. vote-its t k U y e W vote y.stage refl)
+  row-unfinished (messages.Done U W) = on-one U (done_row t k U W) h (λ y e. done-its t k U y e W y.stage refl)
+  row-unfinished (messages.Inquire U W) = on-one U (inquire_row t k U W) h (λ y e. told-its t k U y e U W y.stage)
+  row-unfinished m = h
+
+abbrev pub Unfinished : World → Type 0
+Unfinished w = (s : ServerNo) (m : Memory) → w.memory s ≡ Some m → all_unfinished m.coordinator.transactions ≡ true
+
+restored-unfinished : (x : StableState) (Ts : List Tid) → all_unfinished (restored_transactions x Ts) ≡ true
+restored-unfinished x [] = refl
+restored-unfinished x (T ∷ Ts) = both-unfinished (restored_transaction T (x.flags T)) (restored_transactions x Ts) (by (x.flags T)) (restored-unfinished x Ts)
+  where
+    by : (o : Option FlagState) → all_unfinished (restored_transaction T o) ≡ true
+    by None = refl
+    by (Some flag) = refl
+
+pub step-unfinished : (step : Step) (w : World) → Unfinished w → Unfinished (after step w)
+step-unfinished step w h s n e = by ((after step w).memory s) e (step-memory w s step)
+  where
+    same : (a b : Memory) → Some a ≡ Some b → a ≡ b
+    same a b q = cc
+
+    its : (a : Memory) → Some a ≡ Some n → all_unfinished a.coordinator.transactions ≡ true → all_unfinished n.coordinator.transactions ≡ true
+    its a q k = subst (λ (z : Memory). all_unfinished z.coordinator.transactions ≡ true) (same a n q) k
+
+    for : (m : Memory) (room : Room) (message : Message) (b : Bool) → all_unfinished m.coordinator.transactions ≡ true → all_unfinished (if b then of_worker m (worker_row m.worker (storage_of m (stable (w.found s)) room) m.tickets message) else of_coordinator m (coordinator_row m.coordinator room.free.records m.tickets message)).table.coordinator.transactions ≡ true
+    for m room message true k = k
+    for m room message false k = row-unfinished m.coordinator room.free.records m.tickets k message
+
+    of-step : (m : Memory) (room : Room) (row : RowOutcome Memory) → server_step m (stable (w.found s)) room ≡ Some row → all_unfinished m.coordinator.transactions ≡ true → all_unfinished row.table.coordinator.transactions ≡ true
+    of-step m room row f k = on (worker_step m.worker (storage_of m (stable (w.found s)) room) m.tickets) f
+      where
+        one : (a : RowOutcome Memory) → Some a ≡ Some row → a ≡ row
+        one a q = cc
+
+        on : (o : Option (RowOutcome WorkerTable)) → of_step m o ≡ Some row → all_unfinished row.table.coordinator.transactions ≡ true
+        on None q = absurd (cc q)
+        on (Some r) q = subst (λ (z : RowOutcome Memory). all_unfinished z.table.coordinator.transactions ≡ true) (one (of_worker m r) q) k
+
+    of-late : (m : Memory) (o : Option WorkerTable) → all_unfinished m.coordinator.transactions ≡ true → all_unfinished (of_timeout m o).coordinator.transactions ≡ true
+    of-late m None k = k
+    of-late m (Some t) k = k
+
+    by : (o : Option Memory) → o ≡ Some n → Remembers w (after step w) s o → all_unfinished n.coordinator.transactions ≡ true
+    by o q as_before = h s n q
+    by o q down = absurd (cc q)
+    by o q (by_message m room message f has k l) = its _ q (for m room message (is_for_worker message) (h s m f))
+    by o q (by_step m room row f g) = its row.table q (of-step m room row g (h s m f))
+    by o q (by_timeout m T f) = its (server_timeout m T) q (of-late m (timeout_row m.worker T) (h s m f))
+    by o q (by_closing m f) = its _ q (thanked-unfinished m.coordinator.transactions (h s m f))
+    by o q (by_restart x Ws Ts) = its (restored s x Ws Ts) q (restored-unfinished x Ts)
+
+pub run-unfinished : (steps : List Step) (w : World) → Unfinished w → Unfinished (run steps w)
+run-unfinished [] w h = h
+run-unfinished (step ∷ steps) w h = run-unfinished steps (after step w) (step-unfinished step w h)

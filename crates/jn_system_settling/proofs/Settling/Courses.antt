@@ -1,0 +1,204 @@
+-- What holds of a course after each of its steps, and what a step does to its burden.
+use Rattle.std.proofs.Common.{◌≡◌, ◌≤◌, ℕ, ◌+◌, true, List, [], ◌∷◌, ◌++◌, length, length-append, append-nil, drop, Option, Some, None, refl, sym, ◌∙◌, ap, subst, arith}
+use Rattle.std.specs.Prelude.{slice_get}
+use Rattle.std.proofs.Math.Seq.{drop-append_seam}
+use Rattle.jn_base.specs.declared.names.ServerNo.{ServerNo}
+use Rattle.jn_base.specs.declared.names.ClientNo.{ClientNo}
+use Rattle.jn_base.specs.declared.names.Party.TheVariants.{Client, Server}
+use Rattle.jn_msgs.specs.declared.message.Message.{Message}
+use Rattle.jn_rows.specs.declared.client.Taken.{Taken}
+use Rattle.jn_rows.specs.declared.client.Taken.TheVariants as taken
+use Rattle.jn_rows.specs.Stable.{Pick, stable}
+use Rattle.jn_rows.specs.Outcomes.{RowOutcome, Sent}
+use Rattle.jn_rows.specs.Client.{ClientTable, Commanded, Refuses, Sends, command_row, take_row, again_row}
+use Rattle.jn_system.specs.WholeSystem.World.{World, Memory, servers_from}
+use Rattle.jn_system.specs.WholeSystem.Servers.{Room, server_step, server_row, server_again}
+use Rattle.jn_system.specs.WholeSystem.Steps.{Step, NextEvent, Tell, Again, Deliver, Work, Nudge, Timeout, StopDelivery, StopWork, Crash, Narrow, StopRestart, Restart, Dismiss, CloseClients, IsStep, IsRun, after, run, ends, at_memory, handed, work, works, nudge, timeout, crash, narrow, stop_restart, restart, close_clients, commanded, took, sent_now}
+use Rattle.jn_system.specs.WholeSystem.LockFacts.{LockFacts}
+use Rattle.jn_system.proofs.WholeSystem.Steps.{locks-keep}
+use Rattle.jn_system_settling.specs.Settling.Course.{Course, numbered, without_number, still_waiting, go, go_on}
+use Rattle.jn_system_settling.specs.Settling.Weights.{weigh, going_works, burden}
+use Rattle.jn_system_settling.specs.Settling.Sizes.{Sizes}
+use Rattle.jn_system_settling.specs.Settling.Bounds.{one_if_delivery, deliveries, IsCourse}
+use Rattle.jn_system_settling.proofs.Settling.WorldSizes.{sizes-keep}
+use Rattle.jn_system_settling.proofs.Settling.Burdens.{are_below, weigh-more, weigh-both, weigh-new, below-both, below-more, below-new, Leads}
+
+-- ---- nothing that was sent is forgotten
+
+pub record Grows (w now : World) : Type 0 where
+  pub new : List Sent
+  pub sent : now.sent ≡ w.sent ++ new
+
+module _ (w : World) where
+  same : (now : World) → now.sent ≡ w.sent → Grows w now
+  same now e = record { new = []; sent = e ∙ sym (append-nil w.sent) }
+
+  commanded-grows : (c : ClientNo) (r : Commanded) → Grows w (commanded c r w)
+  commanded-grows c (Refuses refusal) = same _ refl
+  commanded-grows c (Sends t to message) = record { new = (to, message) ∷ []; sent = refl }
+
+  took-grows : (c : ClientNo) (k : ℕ) (t : ClientTable) (r : Taken) → Grows w (took c k t r w)
+  took-grows c k t taken.Ignored = same (took c k t taken.Ignored w) refl
+  took-grows c k t (taken.Send to message) = record { new = (to, message) ∷ []; sent = refl }
+  took-grows c k t (taken.Told line answer) = record { new = sent_now answer; sent = refl }
+
+  ends-grows : (s : ServerNo) (k : Option ℕ) (stop : Option (Pick → ℕ)) (row : RowOutcome Memory) → Grows w (ends s k stop row w)
+  ends-grows s k None row = record { new = row.messages; sent = refl }
+  ends-grows s k (Some made) row = same (ends s k (Some made) row w) refl
+
+  memory-grows : (s : ServerNo) (k : ℕ) (room : Room) (stop : Option (Pick → ℕ)) (message : Message) (o : Option Memory) → Grows w (at_memory s k room stop message o w)
+  memory-grows s k room stop message None = same (at_memory s k room stop message None w) refl
+  memory-grows s k room stop message (Some m) = ends-grows s (Some k) stop (server_row m (stable (w.found s)) room message)
+
+  handed-grows : (k : ℕ) (room : Room) (stop : Option (Pick → ℕ)) (o : Option Sent) → Grows w (handed k room stop o w)
+  handed-grows k room stop None = same w refl
+  handed-grows k room stop (Some (Client c, message)) = took-grows c k (take_row (w.clients c) message).0 (take_row (w.clients c) message).1
+  handed-grows k room stop (Some (Server s, message)) = memory-grows s k room stop message (w.memory s)
+
+  works-grows : (s : ServerNo) (stop : Option (Pick → ℕ)) (o : Option (RowOutcome Memory)) → Grows w (works s stop o w)
+  works-grows s stop None = same w refl
+  works-grows s stop (Some row) = ends-grows s None stop row
+
+  work-grows : (s : ServerNo) (room : Room) (stop : Option (Pick → ℕ)) (o : Option Memory) → Grows w (work s room stop o w)
+  work-grows s room stop None = same w refl
+  work-grows s room stop (Some m) = works-grows s stop (server_step m (stable (w.found s)) room)
+
+  nudge-grows : (s : ServerNo) (o : Option Memory) → Grows w (nudge s o w)
+  nudge-grows s None = same w refl
+  nudge-grows s (Some m) = record { new = server_again m (stable (w.found s)); sent = refl }
+
+  pub grows : (step : Step) → Grows w (after step w)
+  grows NextEvent = same (after NextEvent w) refl
+  grows (Tell c command) = commanded-grows c (command_row (w.clients c) w.event command)
+  grows (Again c) = record { new = sent_now (again_row (w.clients c)); sent = refl }
+  grows (Deliver k room) = handed-grows k room None (slice_get w.sent k)
+  grows (Work s room) = work-grows s room None (w.memory s)
+  grows (Nudge s) = nudge-grows s (w.memory s)
+  grows (Timeout s T) = by (w.memory s)
+    where
+      by : (o : Option Memory) → Grows w (timeout s T o w)
+      by None = same w refl
+      by (Some m) = same (timeout s T (Some m) w) refl
+  grows (StopDelivery k room made) = handed-grows k room (Some made) (slice_get w.sent k)
+  grows (StopWork s room made) = work-grows s room (Some made) (w.memory s)
+  grows (Crash s) = by (w.memory s)
+    where
+      by : (o : Option Memory) → Grows w (crash s o w)
+      by None = same w refl
+      by (Some m) = same (crash s (Some m) w) refl
+  grows (Narrow s g) = by (w.memory s)
+    where
+      by : (o : Option Memory) → Grows w (narrow s g o w)
+      by None = same (narrow s g None w) refl
+      by (Some m) = same w refl
+  grows (StopRestart s up) = by (w.memory s)
+    where
+      by : (o : Option Memory) → Grows w (stop_restart s up o w)
+      by None = same (stop_restart s up None w) refl
+      by (Some m) = same w refl
+  grows (Restart s pick Ws Ts) = by (w.memory s)
+    where
+      by : (o : Option Memory) → Grows w (restart s pick Ws Ts o w)
+      by None = same (restart s pick Ws Ts None w) refl
+      by (Some m) = same w refl
+  grows Dismiss = same (after Dismiss w) refl
+  grows (CloseClients s) = by (w.memory s)
+    where
+      by : (o : Option Memory) → Grows w (close_clients s o w)
+      by None = same w refl
+      by (Some m) = record { new = []; sent = refl }
+
+-- ---- runs
+
+run-more : (a : List Step) (step : Step) (w : World) → run (a ++ step ∷ []) w ≡ after step (run a w)
+run-more [] step w = refl
+run-more (x ∷ a) step w = run-more a step (after x w)
+
+run-is : (a : List Step) (step : Step) (w : World) → IsRun a w → IsStep step (run a w) → IsRun (a ++ step ∷ []) w
+run-is [] step w h i = (i, tt)
+run-is (x ∷ a) step w h i = (h.0, run-is a step (after x w) h.1 i)
+
+-- what holds of a course at each moment
+pub record Sound (n : ℕ) (start : World) (c : Course) : Type 0 where
+  pub course : IsCourse start c
+  pub locks : LockFacts c.world
+  pub sizes : Sizes n c.world
+  pub below : are_below (length c.world.sent) c.waiting ≡ true
+
+length-numbered : (k : ℕ) (ys : List Sent) → length (numbered k ys) ≡ length ys
+length-numbered k [] = refl
+length-numbered k (y ∷ ys) = let again = length-numbered (k + 1) ys in omega (arith, again)
+
+-- each message that is sent waits or is handed over
+abbrev pub IsBalanced : Course → Course → Type 0
+IsBalanced c now = length now.world.sent + length c.waiting + deliveries c.steps ≡ length c.world.sent + length now.waiting + deliveries now.steps
+
+below-less : (n k : ℕ) (ks : List ℕ) → are_below n ks ≡ true → are_below n (without_number k ks) ≡ true
+below-less n k [] h = refl
+below-less n k (j ∷ js) h = let again = below-less n k js in grind (arith, h)
+
+pub below-still : (n : ℕ) (step : Step) (ks : List ℕ) → are_below n ks ≡ true → are_below n (still_waiting step ks) ≡ true
+below-still n (Deliver k room) ks h = below-less n k ks h
+below-still n (StopDelivery k room made) ks h = below-less n k ks h
+below-still n NextEvent ks h = h
+below-still n (Tell c command) ks h = h
+below-still n (Again c) ks h = h
+below-still n (Work s room) ks h = h
+below-still n (Nudge s) ks h = h
+below-still n (Timeout s T) ks h = h
+below-still n (StopWork s room made) ks h = h
+below-still n (Crash s) ks h = h
+below-still n (Narrow s g) ks h = h
+below-still n (StopRestart s up) ks h = h
+below-still n (Restart s pick Ws Ts) ks h = h
+below-still n Dismiss ks h = h
+below-still n (CloseClients s) ks h = h
+
+module _ (n : ℕ) (at_most : n ≤ 8) (start : World) where
+  -- what is new waits behind what is still waiting
+  pub waiting-is : (c : Course) (step : Step) (new : List Sent) → (after step c.world).sent ≡ c.world.sent ++ new → (go step c).waiting ≡ still_waiting step c.waiting ++ numbered (length c.world.sent) new
+  waiting-is c step new e = ap (λ xs. still_waiting step c.waiting ++ numbered (length c.world.sent) (drop (length c.world.sent) xs)) e ∙ ap (λ xs. still_waiting step c.waiting ++ numbered (length c.world.sent) xs) (drop-append_seam c.world.sent new)
+
+  pub go-sound : (c : Course) (step : Step) → Sound n start c → IsStep step c.world → Sound n start (go step c)
+  go-sound c step h i = record {
+    course = record {
+      is_run = run-is c.steps step start h.course.is_run (subst (λ (z : World). IsStep step z) (sym h.course.stands) i);
+      stands = run-more c.steps step start ∙ ap (after step) h.course.stands;
+    };
+    locks = locks-keep step c.world i h.locks;
+    sizes = sizes-keep n at_most c.world h.sizes h.locks step i;
+    below = below (grows c.world step);
+  }
+    where
+      below : Grows c.world (after step c.world) → are_below (length (after step c.world).sent) (go step c).waiting ≡ true
+      below g = let long = ap length g.sent ∙ length-append c.world.sent g.new in
+          subst (λ ks. are_below (length (after step c.world).sent) ks ≡ true) (sym (waiting-is c step g.new g.sent))
+          (below-both (length (after step c.world).sent) (still_waiting step c.waiting) (numbered (length c.world.sent) g.new)
+          (below-more (length c.world.sent) (length (after step c.world).sent) (still_waiting step c.waiting) (omega (arith, long)) (below-still (length c.world.sent) step c.waiting h.below))
+          (below-new (length c.world.sent) g.new (length (after step c.world).sent) (omega (arith, long))))
+
+  pub go-on-sound : (steps : List Step) (c : Course) → Sound n start c → IsRun steps c.world → Sound n start (go_on steps c)
+  go-on-sound [] c h i = h
+  go-on-sound (step ∷ steps) c h i = go-on-sound steps (go step c) (go-sound c step h i.0) i.1
+
+  -- what is sent waits
+  pub go-balance : (c : Course) (step : Step) → length (go step c).world.sent + length (still_waiting step c.waiting) ≡ length c.world.sent + length (go step c).waiting
+  go-balance c step = by (grows c.world step)
+    where
+      by : Grows c.world (after step c.world) → length (after step c.world).sent + length (still_waiting step c.waiting) ≡ length c.world.sent + length (go step c).waiting
+      by g = let long = ap length g.sent ∙ length-append c.world.sent g.new in
+          let waits = ap length (waiting-is c step g.new g.sent) ∙ length-append (still_waiting step c.waiting) (numbered (length c.world.sent) g.new) in
+          let new = length-numbered (length c.world.sent) g.new in omega (arith, long, waits, new)
+
+  -- the burden after a step
+  pub burden-after : (c : Course) (step : Step) (less weight_of : ℕ) → Sound n start c → Leads n c.world (after step c.world) less weight_of
+      → burden (servers_from 0 n) (go step c) + less ≤ weigh c.world.sent (still_waiting step c.waiting) + going_works c.world (servers_from 0 n) + weight_of
+  burden-after c step less weight_of h leads = let old = weigh-more c.world.sent leads.new (still_waiting step c.waiting) (below-still (length c.world.sent) step c.waiting h.below) in
+      let new = weigh-new c.world.sent leads.new in let both = weigh-both (c.world.sent ++ leads.new) (still_waiting step c.waiting) (numbered (length c.world.sent) leads.new) in
+      let is : weigh (go step c).world.sent (go step c).waiting ≡ weigh (c.world.sent ++ leads.new) (still_waiting step c.waiting ++ numbered (length c.world.sent) leads.new)
+      = ap (weigh (after step c.world).sent) (waiting-is c step leads.new leads.sent) ∙ ap (λ xs. weigh xs (still_waiting step c.waiting ++ numbered (length c.world.sent) leads.new)) leads.sent in
+      let goes = leads.goes in omega (arith, old, new, both, is, goes)
+
+pub deliveries-more : (steps : List Step) (step : Step) → deliveries (steps ++ step ∷ []) ≡ deliveries steps + one_if_delivery step
+deliveries-more [] step = omega arith
+deliveries-more (x ∷ steps) step = let again = deliveries-more steps step in omega (arith, again)

@@ -1,0 +1,3 @@
+-- What a settle leaves.
+pub mod Settled
+pub mod Example

@@ -1,0 +1,3 @@
+-- What an end that settles leaves.
+pub mod Ending
+pub mod Example

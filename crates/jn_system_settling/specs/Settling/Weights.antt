@@ -1,0 +1,60 @@
+-- Weights: what a message may still lead to. A message that is handed over weighs more than all that it leads to.
+use Rattle.std.specs.Prelude.{ℕ, ◌+◌, if◌then◌else◌, List, [], ◌∷◌, slice_get, Option, Some, None}
+use Rattle.jn_base.specs.declared.names.ServerNo.{ServerNo}
+use Rattle.jn_base.specs.declared.names.WorkId.{WorkId}
+use Rattle.jn_msgs.specs.declared.message.Message.{Message}
+use Rattle.jn_msgs.specs.declared.message.Message.TheVariants.{Begin, Open, Op, End, Abort, Outcome, Prepare, Commit, Vote, Inquire}
+use Rattle.jn_rows.specs.Stable.{Prepared, StableState, is_going, stable}
+use Rattle.jn_rows.specs.Outcomes.{Sent}
+use Rattle.jn_rows.specs.Worker.{WorkerTable}
+use Rattle.jn_system.specs.WholeSystem.World.{World, Memory}
+use Rattle.jn_system_settling.specs.Settling.Course.{Course}
+
+-- an end leads to eight prepares, a prepare to a vote, a vote to eight commits and an outcome, a commit to a going work,
+-- which leads to a Done; an abort and an end may lead to drops too
+abbrev pub weight : Message → ℕ
+weight (End c request T works) = 161
+weight (Abort c request T works) = 161
+weight (Prepare T c W) = 20
+weight (Vote T W vote) = 19
+weight (Inquire T W) = 3
+weight (Begin c request) = 2
+weight (Open c request T) = 2
+weight (Op c request W number op) = 2
+weight (Outcome c T outcome) = 2
+weight (Commit T W) = 2
+weight message = 1
+
+abbrev pub weigh_all : List Sent → ℕ
+weigh_all [] = 0
+weigh_all (message ∷ messages) = weight message.1 + weigh_all messages
+
+abbrev pub weight_at : Option Sent → ℕ
+weight_at None = 0
+weight_at (Some message) = weight message.1
+
+-- the messages of these numbers
+abbrev pub weigh : List Sent → List ℕ → ℕ
+weigh sent [] = 0
+weigh sent (k ∷ waiting) = weight_at (slice_get sent k) + weigh sent waiting
+
+-- how many of the works go
+abbrev pub goings : (WorkId → Option Prepared) → WorkerTable → ℕ
+goings stored [] = 0
+goings stored (w ∷ ws) = if is_going (stored w.name) then goings stored ws + 1 else goings stored ws
+
+abbrev pub goings_at : StableState → Option Memory → ℕ
+goings_at x None = 0
+goings_at x (Some m) = goings x.works m.worker
+
+abbrev pub sum_over : (ServerNo → ℕ) → List ServerNo → ℕ
+sum_over f [] = 0
+sum_over f (s ∷ servers) = f s + sum_over f servers
+
+-- the works that go at these servers
+abbrev pub going_works : World → List ServerNo → ℕ
+going_works w servers = sum_over (λ s. goings_at (stable (w.found s)) (w.memory s)) servers
+
+-- what waits, and what goes
+abbrev pub burden : List ServerNo → Course → ℕ
+burden servers c = weigh c.world.sent c.waiting + going_works c.world servers

@@ -1,0 +1,15 @@
+//! Settling: that it ends and how soon, what it leaves where all servers are up, and that an end that settles leaves nothing open.
+#![tactic(auto)]
+
+mod closed;
+mod courses;
+mod settled;
+
+pub use closed::{a_stopped_commit_ends, an_end_leaves_nothing, an_end_leaves_what_was_committed};
+pub use courses::{
+    a_commit_is_named_at_a_restart, a_prepare_is_stopped, a_reader_gives_way,
+    a_stopped_commit_is_found_or_not, a_stopped_prepare_is_found_or_not,
+    a_write_waits_for_a_reader, courses_are_runs, deliveries_lighten, events_are_runs,
+    one_client_writes, settling_ends, settling_is_bounded, tables_stay_small, two_clients_wait,
+};
+pub use settled::{a_forgotten_work_is_not_settled, a_settle_settles};

@@ -1,4 +1,0 @@
-pub mod Told
-pub mod Agreement
-pub mod Example
-pub mod WrongRuns
