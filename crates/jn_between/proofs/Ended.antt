@@ -3,6 +3,8 @@ use Rattle.std.proofs.Common.{◌≡◌, ◌⊎◌, inl, inr, ◌≤◌, ◌<◌
 use Rattle.std.specs.List.{AllByRecursion}
 use Rattle.jn_base.specs.declared.names.ServerNo.{ServerNo}
 use Rattle.jn_base.specs.declared.names.LockUnit.{LockUnit}
+use Rattle.jn_base.specs.declared.names.Tid.{Tid}
+use Rattle.jn_base.specs.declared.names.WorkId.{WorkId}
 use Rattle.jn_order.specs.Files.{AllFiles}
 use Rattle.jn_schedule.specs.declared.Event.{Event}
 use Rattle.jn_schedule.specs.Ranges.{EventInRange}
@@ -17,20 +19,24 @@ use Rattle.jn_aside.proofs.Showing.{history-aside, replay-aside}
 use Rattle.jn_system.specs.WholeSystem.World.{World, Memory, opening}
 use Rattle.jn_system_reports.specs.Reporting.Reported.{events_of, steps_of, world_of, IsReported}
 use Rattle.jn_system_reports.specs.Reporting.Ending.{Ending, IsWholeRun, all_lines, steps_at_end, world_at_end}
+use Rattle.jn_system_settling.specs.Settling.Course.{go_on}
 use Rattle.jn_system_reports.specs.Telling.Agreement.{AreAsTold}
 use Rattle.jn_system_reports.proofs.Showing.Ends.{end-agrees}
+use Rattle.jn_system_settling.specs.Closing.Ending.{IsEmpty}
 use Rattle.jn_written.specs.Chances.{Setup}
 use Rattle.jn_written.specs.Devices.{Devices, AreFound}
 use Rattle.jn_written.specs.Runs.{Moment}
 use Rattle.jn_written.specs.Tasks.{AtEnd, CutShort}
-use Rattle.jn_written.specs.Whole.{IsWritten}
+use Rattle.jn_written.specs.Whole.{before, IsWritten}
 use Rattle.jn_retold.specs.Retold.{behind, IsAsIn, IsRetold}
 use Rattle.jn_retold.proofs.Forms.{as-behind}
 use Rattle.jn_retold.proofs.Items.{run-both, is-run-both}
 use Rattle.jn_headline.proofs.Begins.{begins}
-use Rattle.jn_headline.proofs.Ended.{PartOf, WholeOf, ending, is-whole, lines-are, world-is, up, free, prints}
+use Rattle.jn_headline.proofs.Ended.{PartOf, WholeOf, dismissed, ending, is-whole, lines-are, world-is, up, empty, free, prints}
 use Rattle.jn_headline.proofs.Headline.{whole-run}
+use Rattle.jn_headline.proofs.Through.{asked_steps}
 use Rattle.jn_between.specs.Between.{IsConsistent, state_on, files_told, IsTrueAtEnd}
+use Rattle.jn_between.proofs.Found.{pages-stay}
 use Rattle.jn_between.proofs.Seen.{seen}
 use Rattle.jn_between.proofs.Moments.{run-consistent, found-now, retold-end}
 
@@ -56,8 +62,11 @@ module _ (x : Setup) (few : x.servers ≤ 8) (files : AllFiles) (schedule : List
   run-whole : IsWholeRun x.servers files r.epochs r.items (ending x.servers few files r.epochs r.items reported m whole)
   run-whole = is-whole x.servers few files r.epochs r.items reported m whole
 
+  ended_is : world_at_end x.servers (ending x.servers few files r.epochs r.items reported m whole) (world_of r.items start) ≡ (go_on (asked_steps x.servers whole.backs whole.one ++ whole.two) (dismissed (world_of r.items (opening x.servers files r.epochs)))).world
+  ended_is = world-is x.servers few files r.epochs r.items reported m whole (prints x.servers few files r.epochs r.items reported m whole)
+
   now : m.state.course.world ≡ behind whole.ups w
-  now = whole.world ∙ ap (λ (z : World). behind whole.ups z) (sym (world-is x.servers few files r.epochs r.items reported m whole (prints x.servers few files r.epochs r.items reported m whole)))
+  now = whole.world ∙ ap (λ (z : World). behind whole.ups z) (sym ended_is)
 
   pub as-in : IsAsIn w m.state.course.world
   as-in = as-behind whole.ups whole.are_up w m.state.course.world now
@@ -80,7 +89,28 @@ module _ (x : Setup) (few : x.servers ≤ 8) (files : AllFiles) (schedule : List
 
   none-held : (q : ServerNo) (memory : Memory) (u : LockUnit) → w.memory q ≡ Some memory → commit_holder u memory.worker ≡ None
   none-held q memory u k = free x.servers few files r.epochs r.items reported m whole q memory u
-      (ap (λ (z : World). z.memory q) (sym (world-is x.servers few files r.epochs r.items reported m whole (prints x.servers few files r.epochs r.items reported m whole))) ∙ k)
+      (ap (λ (z : World). z.memory q) (sym ended_is) ∙ k)
+
+  -- what each pick finds at a server has no work and no flag
+  module _ (q : ServerNo) (c : Pick) (l : q.0 < x.servers) where
+    abbrev Alone : StableState → Type 0
+    Alone y = ((W : WorkId) → y.works W ≡ None) × ((T : Tid) → y.flags T ≡ None)
+
+    pub alone : ((W : WorkId) → (state_on (x.counts q) (m.devices q) c).works W ≡ None) × ((T : Tid) → (state_on (x.counts q) (m.devices q) c).flags T ≡ None)
+    alone = by (w.memory q) refl (is-up q l)
+      where
+        clash : false ≡ true → ⊥
+        clash z = cc
+
+        here : w.found q c ≡ state_on (x.counts q) (m.devices q) c
+        here = ap (λ (f : ServerNo → Pick → StableState). f q c) (sym as-in.found) ∙ found q c l
+
+        nothing : (memory : Memory) → w.memory q ≡ Some memory → IsEmpty memory (w.found q)
+        nothing memory k = subst (λ (z : World). IsEmpty memory (z.found q)) (sym ended_is) (empty x.servers few files r.epochs r.items reported m whole q memory (ap (λ (z : World). z.memory q) (sym ended_is) ∙ k))
+
+        by : (o : Option Memory) → w.memory q ≡ o → is_some o ≡ true → Alone (state_on (x.counts q) (m.devices q) c)
+        by None k some = absurd (clash some)
+        by (Some memory) k some = subst (λ (y : StableState). Alone y) here (let it = nothing memory k in ((λ W. it.stored c W), (λ T. it.flags c T)))
 
   its-pages : (q : ServerNo) (u : LockUnit) (c : Pick) → q.0 < x.servers → (state_on (x.counts q) (m.devices q) c).files u ≡ files_told files schedule m.state.lines q u
   its-pages q u c l = by (w.memory q) refl (is-up q l)
@@ -115,4 +145,8 @@ module _ (x : Setup) (schedule : List Event) (images : Devices) (m : Moment) (fe
         up = λ q l. ap (λ (z : World). is_some (z.memory q)) (now x few h.files schedule m r whole here) ∙ is-up x few h.files schedule m r whole here q l;
         free = λ q memory u k. none-held x few h.files schedule m r whole here q memory u (let a = as-in x few h.files schedule m r whole here in a.memory q memory k);
         pages = its-pages x few h.files schedule m r whole here;
+        works = λ q c W l. (alone x few h.files schedule m r whole here q c l).0 W;
+        flags = λ q c T l. (alone x few h.files schedule m r whole here q c l).1 T;
+        found = here;
+        count = λ q l. sym (pages-stay x (record { state = before x schedule h.files h.epochs; devices = images }) m h.leads q ∙ (h.are_images.fresh q l).count);
       }

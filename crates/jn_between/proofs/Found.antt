@@ -1,14 +1,20 @@
 -- The world of each moment is what steps of the system lead to, and what is found in it is what is found on the pages.
-use Rattle.std.proofs.Common.{◌≡◌, ◌⊎◌, inl, inr, true, false, List, [], ◌++◌, refl, sym, ◌∙◌, ap, subst}
+use Rattle.std.proofs.Common.{◌≡◌, ◌≢◌, ◌⊎◌, inl, inr, ℕ, ◌/◌, Bool, true, false, if◌then◌else◌, is_some, List, [], ◌++◌, refl, sym, ◌∙◌, ap, subst}
+use Rattle.jn_base.specs.declared.names.ServerNo.{ServerNo}
+use Rattle.jn_base.specs.Names.{server_eq}
+use Rattle.jn_base.proofs.Tells.{server_tells}
+use Rattle.jn_device.specs.Device.{DeviceState}
+use Rattle.jn_device.specs.Events.{powered_off, Decays as PageDecays, Revives as PageRevives, Arms as FaultArmed}
+use Rattle.jn_store.specs.Pairs.{pairs_view}
 use Rattle.jn_system.specs.WholeSystem.World.{World}
 use Rattle.jn_system.specs.WholeSystem.Steps.{Step, IsRun, run}
 use Rattle.jn_system_settling.specs.Settling.Course.{go_on}
-use Rattle.jn_written.specs.Chances.{Setup}
+use Rattle.jn_written.specs.Chances.{Setup, Chance}
 use Rattle.jn_written.specs.Tasks.{Task, Dismisses, InSchedule, AtEnd, CutShort, State, begun}
-use Rattle.jn_written.specs.Deeds.{Deed}
+use Rattle.jn_written.specs.Deeds.{Use, Nothing, Calls, Reads, Recovers, PowersOff, Decays, Revives, Arms, Disarms, Deed}
 use Rattle.jn_written.specs.Events.{deed_of}
 use Rattle.jn_written.specs.Steps.{is_too_much, come_to, cut_short}
-use Rattle.jn_written.specs.Devices.{AreFound}
+use Rattle.jn_written.specs.Devices.{Devices, Alone, IsServed, IsLookedOver, IsRecovery, IsUsed, AreFound}
 use Rattle.jn_written.specs.Runs.{none, more, Moment, DoesStep, Leads}
 use Rattle.jn_retold.proofs.Going.{goes-or-cut, go-world}
 use Rattle.jn_retold.proofs.Items.{run-both, is-run-both}
@@ -47,6 +53,41 @@ found-then x a b found (more u v t d rest) going = by (does x u v d) (λ now. fo
     by : Does x u v → (AreFound x v.state.course.world v.devices → AreFound x t.state.course.world t.devices) → AreFound x t.state.course.world t.devices
     by (cut same stage) on = absurd (going (ap (λ (m : Moment). m.state.stage) (stuck x v t rest stage) ∙ stage))
     by (did steps may is now) on = on now
+
+-- ---- how many pages there are
+
+abbrev pages : DeviceState → ℕ
+pages d = (pairs_view d).count
+
+same-alone : (becomes : DeviceState → DeviceState → Type 0) (p : ServerNo) (ds es : Devices) → Alone p becomes ds es → ((d e : DeviceState) → becomes d e → pages e ≡ pages d) → (q : ServerNo) → pages (es q) ≡ pages (ds q)
+same-alone becomes p ds es a stay q = by (server_tells p q)
+  where
+    by : ((server_eq p q ≡ true) × (p ≡ q)) ⊎ ((server_eq p q ≡ false) × (p ≢ q)) → pages (es q) ≡ pages (ds q)
+    by (inl t) = subst (λ (s : ServerNo). pages (es s) ≡ pages (ds s)) t.1 (stay (ds p) (es p) a.its)
+    by (inr t) = ap pages (a.others q t.0)
+
+-- no use of a device changes that
+same-pages : (x : Setup) (h : Chance) (does_so : Use) (w now : World) (ds es : Devices) → IsUsed x h does_so w now ds es → (q : ServerNo) → pages (es q) ≡ pages (ds q)
+same-pages x h Nothing w now ds es used q = ap pages (used q)
+same-pages x h (Calls p) w now ds es used q = same-alone (IsServed (x.counts p) h w p) p ds es used (λ d e s. ap pages s.called.after ∙ s.called.calls.count) q
+same-pages x h (Reads p) w now ds es used q = same-alone (IsLookedOver h w p) p ds es used (λ d e s. ap pages s.called.after ∙ s.called.calls.count) q
+same-pages x h (Recovers p) w now ds es used q = same-alone (IsRecovery h (is_some (now.memory p))) p ds es used (λ d e s. recovered d e (is_some (now.memory p)) s) q
+  where
+    either : (up : Bool) (d : DeviceState) → pages (if up then d else powered_off d) ≡ pages d
+    either true d = refl
+    either false d = refl
+
+    recovered : (d e : DeviceState) (up : Bool) → IsRecovery h up d e → pages e ≡ pages d
+    recovered d e up s = ap pages s.after ∙ either up s.last ∙ ap pages s.called.after ∙ s.called.calls.count ∙ ap (λ (n : ℕ). n / 2) s.power.count
+same-pages x h (PowersOff p) w now ds es used q = same-alone (λ d e. e ≡ powered_off d) p ds es used (λ d e s. ap pages s) q
+same-pages x h (Decays p n) w now ds es used q = same-alone (λ d e. PageDecays d n h.allows e) p ds es used (λ d e s. ap (λ (n : ℕ). n / 2) s.becomes.count) q
+same-pages x h (Revives p n) w now ds es used q = same-alone (λ d e. PageRevives d n e) p ds es used (λ d e s. ap (λ (n : ℕ). n / 2) s.count) q
+same-pages x h (Arms p n kind) w now ds es used q = same-alone (λ d e. FaultArmed d n kind h.allows e) p ds es used (λ d e s. ap pages s.armed) q
+same-pages x h Disarms w now ds es used q = ap pages (used q)
+
+pub pages-stay : (x : Setup) (a b : Moment) → Leads x a b → (q : ServerNo) → pages (b.devices q) ≡ pages (a.devices q)
+pages-stay x a b (none m) q = refl
+pages-stay x a b (more u v t d rest) q = pages-stay x v t rest q ∙ same-pages x d.chance (deed_of x d.chance d.task u.state).device u.state.course.world (run (deed_of x d.chance d.task u.state).steps u.state.course.world) u.devices v.devices d.befalls.used q
 
 -- ---- its steps
 

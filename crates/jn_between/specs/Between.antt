@@ -3,9 +3,11 @@
 use Rattle.std.specs.Prelude.{◌≡◌, ◌<◌, true, List, length, Some, None, is_some}
 use Rattle.jn_base.specs.declared.names.ServerNo.{ServerNo}
 use Rattle.jn_base.specs.declared.names.LockUnit.{LockUnit}
+use Rattle.jn_base.specs.declared.names.Tid.{Tid}
+use Rattle.jn_base.specs.declared.names.WorkId.{WorkId}
 use Rattle.jn_order.specs.Files.{AllFiles}
 use Rattle.jn_device.specs.Device.{DeviceState}
-use Rattle.jn_records.specs.StablePages.{Counts}
+use Rattle.jn_records.specs.StablePages.{Counts, page_count}
 use Rattle.jn_store.specs.Pairs.{pairs_view}
 use Rattle.jn_schedule.specs.declared.Event.{Event}
 use Rattle.jn_report.specs.declared.line.Line.{Line}
@@ -27,7 +29,7 @@ use Rattle.jn_system_reports.specs.BetweenSteps.Lines.{DoLinesStand}
 use Rattle.jn_headline.specs.CutReports.Cut.{IsTrueSoFar}
 use Rattle.jn_headline.specs.WholeReports.Whole.{IsOfItsCommits}
 use Rattle.jn_written.specs.Chances.{Setup}
-use Rattle.jn_written.specs.Devices.{Devices}
+use Rattle.jn_written.specs.Devices.{Devices, AreFound}
 use Rattle.jn_written.specs.Runs.{Moment}
 
 -- ---- the whole system
@@ -79,10 +81,14 @@ pub record IsTrueBetween (x : Setup) (files : AllFiles) (done : List Event) (m :
 -- ---- after the end
 
 -- The report is that of its commits. Every server is up and holds nothing for commit, and each pick finds on its pages each file and each
--- block as all commits leave it.
+-- block as all commits leave it, and no work and no flag. There are as many pages as its counts say, and the world finds what they have.
 pub record IsTrueAtEnd (x : Setup) (files : AllFiles) (schedule : List Event) (m : Moment) : Type 0 where
   pub system : IsConsistent files m.state.course.world
   pub report : IsOfItsCommits files schedule m.state.lines
   pub up : (q : ServerNo) → q.0 < x.servers → is_some (m.state.course.world.memory q) ≡ true
   pub free : (q : ServerNo) (memory : Memory) (u : LockUnit) → m.state.course.world.memory q ≡ Some memory → commit_holder u memory.worker ≡ None
   pub pages : (q : ServerNo) (u : LockUnit) (c : Pick) → q.0 < x.servers → (state_on (x.counts q) (m.devices q) c).files u ≡ files_told files schedule m.state.lines q u
+  pub works : (q : ServerNo) (c : Pick) (W : WorkId) → q.0 < x.servers → (state_on (x.counts q) (m.devices q) c).works W ≡ None
+  pub flags : (q : ServerNo) (c : Pick) (T : Tid) → q.0 < x.servers → (state_on (x.counts q) (m.devices q) c).flags T ≡ None
+  pub found : AreFound x m.state.course.world m.devices
+  pub count : (q : ServerNo) → q.0 < x.servers → page_count (x.counts q) ≡ (pairs_view (m.devices q)).count

@@ -23,13 +23,14 @@ use Rattle.jn_system_settling.specs.Settling.Course.{Course, go, go_on}
 use Rattle.jn_system_settling.specs.Settling.Settle.{settled, until_rest, ask_again}
 use Rattle.jn_system_settling.proofs.Settling.Settling.{on-world}
 use Rattle.jn_system_settling.specs.AtRest.Settled.{AreUp}
+use Rattle.jn_system_settling.specs.Closing.Ending.{IsEmpty}
 use Rattle.jn_rests.specs.Rests.{ComeToRest, chances_of, asked}
 use Rattle.jn_rests.proofs.Loops.{reached}
 use Rattle.jn_system_reports.specs.Reporting.Printing.{IsPrinted}
 use Rattle.jn_system_reports.specs.Reporting.Reported.{Item, Does, told_by, world_of, lines_of, IsReported}
 use Rattle.jn_system_reports.specs.Reporting.Ending.{Ending, settles, world_at_end, ArePrinted, told_by_steps, texts_from, at_end, counted, IsWholeRun, all_lines}
 use Rattle.jn_headline.specs.WholeReports.Whole.{IsSettledEnd}
-use Rattle.jn_headline.proofs.WholeReports.Whole.{holds-where-up}
+use Rattle.jn_headline.proofs.WholeReports.Whole.{empty-where-up}
 use Rattle.jn_written.specs.Deeds.{blocks_from}
 use Rattle.jn_written.specs.Runs.{Moment}
 use Rattle.jn_retold.proofs.Showing.{all-printed}
@@ -198,8 +199,11 @@ module _ (servers : ℕ) (few : servers ≤ 8) (files : AllFiles) (epochs : Serv
         below : (a n : ℕ) → a < servers → n ≡ servers → a < 0 + n
         below a n h e = omega (arith, h, e)
 
+    pub empty : (s : ServerNo) (m : Memory) → (go_on every begin).world.memory s ≡ Some m → IsEmpty m ((go_on every begin).world.found s)
+    empty s m e = subst (λ (w : World). IsEmpty m (w.found s)) (world-is []) (empty-where-up servers few files epochs items (with_prints []) reported may whole.back_count (settles-so []) up s m (ap (λ (w : World). w.memory s) (world-is []) ∙ e))
+
     pub free : (s : ServerNo) (m : Memory) (u : LockUnit) → (go_on every begin).world.memory s ≡ Some m → commit_holder u m.worker ≡ None
-    free s m u e = holds-where-up servers few files epochs items (with_prints []) reported may whole.back_count (settles-so []) up s m u (ap (λ (w : World). w.memory s) (world-is []) ∙ e)
+    free s m u e = ap (commit_holder u) (let it = empty s m e in it.works)
 
     abbrev pub prints : List (List Printed)
     prints = all_prints (go_on every begin).world 0 whole.texts whole.looked

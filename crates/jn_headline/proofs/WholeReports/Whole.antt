@@ -1,4 +1,4 @@
--- After an end that settles until nothing is left to do, nothing is held for commit.
+-- After an end that settles until nothing is left to do, nothing is left at a server, so nothing is held for commit.
 use Rattle.std.proofs.Common.{◌≡◌, ◌≢◌, ◌⊎◌, inl, inr, ◌≤◌, ◌<◌, ℕ, zero, suc, ◌+◌, Bool, true, false, List, [], ◌∷◌, ◌++◌, append-nil, append_assoc, length, Option, Some, None, is_some, refl, sym, ◌∙◌, ap, subst, arith}
 use Rattle.std.proofs.Math.Path.{fun_ext}
 use Rattle.std.specs.Prelude.{if◌then◌else◌, map}
@@ -22,7 +22,7 @@ use Rattle.jn_system_reports.proofs.Telling.Reports.{steps-append}
 use Rattle.jn_system_settling.proofs.Settling.Settling.{on-world}
 use Rattle.jn_system_settling.proofs.AtRest.Answered.{rest-keeps, ask-keeps}
 use Rattle.jn_system_settling.specs.AtRest.Settled.{AreUp}
-use Rattle.jn_system_settling.specs.Closing.Ending.{Start, restarts, end_steps, without_messages, ended, IsClosed, Leaves}
+use Rattle.jn_system_settling.specs.Closing.Ending.{Start, restarts, end_steps, without_messages, ended, IsClosed, IsEmpty, Leaves}
 use Rattle.jn_system_settling.proofs.Closing.Ends.{end-leaves-nothing}
 use Rattle.jn_headline.specs.WholeReports.Whole.{course_at_end, IsSettledEnd}
 
@@ -211,14 +211,17 @@ module _ (servers : ℕ) (few : servers ≤ 8) (files : AllFiles) (epochs : Serv
   leads : (settled servers chances (ended servers (starts servers few e) before)).world ≡ world_at_end servers e w
   leads = ap (λ (z : Course). z.world) (settled-same servers chances _ _ same) ∙ stands
 
-  pub holds-where-up : (s : ServerNo) (m : Memory) (u : LockUnit) → (world_at_end servers e (world_of items (opening servers files epochs))).memory s ≡ Some m → commit_holder u m.worker ≡ None
-  holds-where-up s m u is = ap (commit_holder u) (let empty = closed.servers s m (ap (λ (z : World). z.memory s) leads ∙ is) in empty.works)
+  pub empty-where-up : (s : ServerNo) (m : Memory) → (world_at_end servers e (world_of items (opening servers files epochs))).memory s ≡ Some m → IsEmpty m ((world_at_end servers e (world_of items (opening servers files epochs))).found s)
+  empty-where-up s m is = subst (λ (z : World). IsEmpty m (z.found s)) leads (closed.servers s m (ap (λ (z : World). z.memory s) leads ∙ is))
     where
       more : (a b : ℕ) → b ≤ a + b
       more a b = omega arith
 
       closed : IsClosed (settled servers chances (ended servers (starts servers few e) before))
       closed = leaves.each (rest.enough + leaves.steps) (more rest.enough leaves.steps) (subst (AreUp servers) (sym leads) up)
+
+  pub holds-where-up : (s : ServerNo) (m : Memory) (u : LockUnit) → (world_at_end servers e (world_of items (opening servers files epochs))).memory s ≡ Some m → commit_holder u m.worker ≡ None
+  holds-where-up s m u is = ap (commit_holder u) (let empty = empty-where-up s m is in empty.works)
 
 pub end-holds : (servers : ℕ) → servers ≤ 8 → (files : AllFiles) (epochs : ServerNo → ℕ) (items : List Item) (e : Ending) → IsReported items (opening servers files epochs) → IsEnding servers e (world_of items (opening servers files epochs))
     → IsSettledEnd servers e (world_of items (opening servers files epochs)) → (s : ServerNo) (m : Memory) (u : LockUnit) → (world_at_end servers e (world_of items (opening servers files epochs))).memory s ≡ Some m → commit_holder u m.worker ≡ None
