@@ -1,6 +1,6 @@
 -- Draws and events are in range.
-use Rattle.std.proofs.Common.{◌≡◌, ◌∙◌, ℕ, zero, suc, ◌+◌, ◌-◌, ◌^◌, ◌<◌, ◌≤◌, Bool, true, false, List, [], ◌∷◌, ◌++◌, length, get_or, ap, sym, arith, nat_lt, cond, lit<, append_assoc}
-use Rattle.std.proofs.lemmas.List.{append-nil, length-replicate}
+use Rattle.std.proofs.Common.{◌≡◌, ◌∙◌, ℕ, zero, suc, ◌+◌, ◌-◌, ◌^◌, ◌<◌, ◌≤◌, min, Bool, true, false, List, [], ◌∷◌, ◌++◌, length, get_or, drop, take, refl, ap, sym, arith, nat_lt, cond, lit<, append_assoc}
+use Rattle.std.proofs.lemmas.List.{append-nil, length-replicate, take-append-drop}
 use Rattle.std.specs.List.{AllByRecursion}
 use Rattle.jn_base.specs.declared.op.Command.TheVariants as commands
 use Rattle.jn_base.specs.declared.op.Op.TheVariants as ops
@@ -143,6 +143,52 @@ events_more x x' n m list list' d e total left state drawn is pushed so_far =
     ∙ ap (λ (k : ℕ). list ++ events_from x k) (sym left)
     ∙ so_far
 
-pub events_whole : (x n : ℕ) (list total : List Event) → n ≡ 0 → list ++ events_from x n ≡ total → list ≡ total
+-- all of the count, and then those that come later
+pub events_whole : (x n later : ℕ) (list total : List Event) → n ≡ 0 → list ++ events_from x (n + later) ≡ total → list ++ events_from x later ≡ total
+events_whole x n later list total left so_far = ap (λ (k : ℕ). list ++ events_from x k) (omega (arith, left)) ∙ so_far
+
+-- as many events are drawn as are asked for
+pub events_count : (x n : ℕ) → length (events_from x n) ≡ n
 unfolding events_from
-events_whole x n list total left so_far = sym (append-nil list) ∙ ap (λ (k : ℕ). list ++ events_from x k) (sym left) ∙ so_far
+events_count x zero = refl
+events_count x (suc n) = ap suc (events_count (after_event x) n)
+
+-- ---- some at a time
+
+pub none_drawn : (x : ℕ) → events_from x 0 ≡ []
+unfolding events_from
+none_drawn x = refl
+
+pub cancel : (xs ys zs : List Event) → xs ++ ys ≡ xs ++ zs → ys ≡ zs
+cancel [] ys zs h = h
+cancel (x ∷ xs) ys zs h = cancel xs ys zs (ap (drop 1) h)
+
+-- the first of the events are those that are drawn first
+front : (x n most left : ℕ) → n ≡ min most left → events_from x n ≡ take most (events_from x left)
+unfolding events_from
+front x zero zero left h = refl
+front x (suc n) zero left h = absurd (omega (arith, h))
+front x zero (suc most) zero h = refl
+front x (suc n) (suc most) zero h = absurd (omega (arith, h))
+front x zero (suc most) (suc left) h = absurd (omega (arith, h))
+front x (suc n) (suc most) (suc left) h = ap (λ (es : List Event). event_of (draws_from x) ∷ es) (front (after_event x) n most left (omega (arith, h)))
+
+module _ (x y most left count : ℕ) (items : List Event) (is : count ≡ min most left) (drawn : (later : ℕ) → items ++ events_from y later ≡ events_from x (count + later)) where
+  -- what is given at once
+  pub next_given : items ≡ take most (events_from x left)
+  next_given =
+      sym (append-nil items)
+      ∙ ap (λ (es : List Event). items ++ es) (sym (none_drawn y))
+      ∙ drawn 0
+      ∙ ap (events_from x) (omega arith)
+      ∙ front x count most left is
+
+  -- and what is left then
+  pub next_left : events_from y (left - count) ≡ drop most (events_from x left)
+  next_left =
+      cancel items (events_from y (left - count)) (drop most (events_from x left)) (
+      drawn (left - count)
+      ∙ ap (events_from x) (omega (arith, is))
+      ∙ sym (take-append-drop most (events_from x left))
+      ∙ ap (λ (es : List Event). es ++ drop most (events_from x left)) (sym next_given)
+      )

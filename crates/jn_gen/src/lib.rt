@@ -8,5 +8,5 @@ mod text;
 mod word;
 
 pub use draws::draws_are_in_range;
-pub use schedule::{drawn_events_are_in_range, schedule_of};
+pub use schedule::{TrialEvents, drawn_events_are_in_range};
 pub use text::text_of;

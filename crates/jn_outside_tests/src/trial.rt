@@ -1,6 +1,6 @@
 //! The first events of a trial, as the table of draws gives them.
 
-use jn_gen::{schedule_of, text_of};
+use jn_gen::{TrialEvents, text_of};
 use std::test::Fail;
 
 /// The first 21 events of seed 7, worked out apart from this program.
@@ -30,7 +30,7 @@ c3 again
 #[test]
 fn a_trial_begins_so(rt: HostRuntime) -> Result<(), Fail> {
     let alloc = rt.alloc();
-    let events = schedule_of(alloc, 7, 21)?;
+    let events = TrialEvents::new(7, 21).next(alloc, 21)?;
     let text = text_of(alloc, &events)?;
     assert_eq!(rt; text.as_slice(), SEED_7.as_bytes());
     Ok(())

@@ -4,3 +4,4 @@ pub mod Told
 pub mod Lines
 pub mod Stores
 pub mod Summed
+pub mod Stretches

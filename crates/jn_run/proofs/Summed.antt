@@ -4,8 +4,7 @@ use Rattle.std.specs.Prelude.{is_ok}
 use Rattle.std.specs.declared.alloc.Global.{Global}
 use Rattle.std.specs.List.{AllByRecursion}
 use Rattle.jn_device.specs.Device.{DeviceState}
-use Rattle.jn_gen.proofs.Drawing.{events_in_range}
-use Rattle.jn_gen.specs.Trial.{after_event, events_from}
+use Rattle.jn_gen.proofs.Drawing.{events_count, events_in_range}
 use Rattle.jn_host.specs.Outside.{Contents, Rose}
 use Rattle.jn_options.specs.declared.asked.Trial.{Trial}
 use Rattle.jn_recovery.specs.declared.counts.PageCounts.{PageCounts}
@@ -26,14 +25,8 @@ use Rattle.jn_run.proofs.Opened.{Opened}
 use Rattle.jn_run.proofs.Outcomes.{whole-holds, limit-holds}
 use Rattle.jn_run.proofs.Told.{fault-is, some-ok}
 
--- as many events are drawn as are asked for
-pub drawn-count : (x n : ℕ) → length (events_from x n) ≡ n
-unfolding events_from
-drawn-count x zero = refl
-drawn-count x (suc n) = ap (λ (k : ℕ). suc k) (drawn-count (after_event x) n)
-
 pub drawn-few : (trial : Trial) (events : List Event) → events ≡ trial_events trial → trial.events ≤ 100000 → length events ≤ 100000
-drawn-few trial events same few = let count = ap (λ (es : List Event). length es) same in let drawn = drawn-count trial.seed trial.events in omega (arith, count, drawn, few)
+drawn-few trial events same few = let count = ap (λ (es : List Event). length es) same in let drawn = events_count trial.seed trial.events in omega (arith, count, drawn, few)
 
 pub drawn-range : (trial : Trial) (events : List Event) → events ≡ trial_events trial → AllByRecursion EventInRange events
 drawn-range trial events same = subst (λ (es : List Event). AllByRecursion EventInRange es) (sym same) (events_in_range trial.seed trial.events)

@@ -1,6 +1,7 @@
 -- A run that is reported, call by call.
 use Rattle.std.proofs.Common.{◌≡◌, ℕ, zero, suc, ◌≤◌, ◌<◌, false, List, [], ◌∷◌, ◌++◌, ◌+◌, map, length, drop, drop-cons, get_or, append-nil, Result, Ok, Err, refl, sym, ◌∙◌, ap, subst, arith, true≢false}
 use Rattle.std.specs.Prelude.{is_ok}
+use Rattle.std.proofs.lemmas.List.{length-append}
 use Rattle.jn_device.specs.Device.{DeviceState}
 use Rattle.jn_store.specs.Store.{StoreView}
 use Rattle.jn_report.specs.declared.line.Line.{Line}
@@ -290,6 +291,26 @@ module _ {O S : Type 0} (r : Reporting O) (j : Joins r) (look : S → StoreView)
       (subst (λ (ls : List Line). Reported r done ls c.output answer out') same one)
       (λ a ok on. record { stands = subst (λ v. Stands look device c.setup v on.last) (s.same a ok) on.stands; tasks = on.tasks; stage = on.stage })
 
+-- want of memory ends a run where it is
+pub out-of-memory : {O A : Type 0} (r : Reporting O) (j : Joins r) (c : Course O) (There : Moment → Type 0) (Then : A → Moment → Type 0) (s : Result A RunFault) (out : O) → s ≡ Err runs.Memory → ToldTo r c There out → Reaches r c Then s out
+out-of-memory r j c There Then s out same to = record {
+  count = to.told.count;
+  whole = λ a ok. absurd (true≢false (sym (ap is_ok ok) ∙ ap is_ok same));
+  limit = λ limit. absurd (no-limit (fault-is s runs.Memory same runs.Limit limit));
+  part = λ no. record {
+    lines = to.now.state.lines;
+    part = record { now = to.now; written = to.told.written; lines_are = refl };
+    took = j.all c.output out to.now.state.lines to.told.took;
+  };
+  rose = λ write. absurd (no-write (fault-is s runs.Memory same runs.Write write));
+}
+  where
+    no-limit : runs.Memory ≡ runs.Limit → ⊥
+    no-limit h = cc
+
+    no-write : runs.Memory ≡ runs.Write → ⊥
+    no-write h = cc
+
 -- ---- a list that is gone through
 
 pub drop-past : {A : Type 0} (xs : List A) (i : ℕ) → length xs ≤ i → drop i xs ≡ []
@@ -308,3 +329,35 @@ suc-is i = omega arith
 
 pub drop-here : {A : Type 0} (xs : List A) (i : ℕ) (x : A) → i < length xs → x ≡ get_or xs i x → drop i xs ≡ x ∷ drop (i + 1) xs
 drop-here {A} xs i x lt is = subst (λ (k : ℕ). drop i xs ≡ x ∷ drop k xs) (suc-is i) (drop-cons xs i x lt ∙ ap (λ (y : A). y ∷ drop (suc i) xs) (sym is))
+
+-- ---- events that begin one after another
+
+module _ {O S : Type 0} (r : Reporting O) (look : S → StoreView) (device : S → DeviceState) (c : Course O) (m : Moment) (out : O) where
+  -- none has begun where all are left
+  pub none-begun : (events : List Event) (w : World S) → HasTold r c m out → c.schedule ≡ events → StandsBefore look device c.setup events w m → 0 ≡ m.state.course.world.event
+  none-begun events w told same stands =
+      let count = event-number r look device c m out events w told stands in
+      let all = ap (λ (es : List Event). length es) same in
+      omega (arith, count, all)
+
+  -- as many have begun as aren't left
+  pub so-many-begun : (all left : List Event) (begun : ℕ) (w : World S) → HasTold r c m out → c.schedule ≡ all → StandsBefore look device c.setup left w m → begun + length left ≡ length all → begun ≡ m.state.course.world.event
+  so-many-begun all left begun w told same stands sum =
+      let count = event-number r look device c m out left w told stands in
+      let is = ap (λ (es : List Event). length es) same in
+      omega (arith, count, is, sum)
+
+  -- the number of the next event
+  pub next-number : (n : Moment) (now : O) (w w' : World S) (xs rest : List Event) (i begun number : ℕ) → HasTold r c m out → begun ≡ m.state.course.world.event → StandsBefore look device c.setup (xs ++ rest) w m
+      → HasTold r c n now → StandsBefore look device c.setup (drop i xs ++ rest) w' n → i < length xs → number ≡ begun + i → number + 1 ≡ n.state.course.world.event + 1
+  next-number n now w w' xs rest i begun number told began stands told' stands' lt is =
+      let first = event-number r look device c m out (xs ++ rest) w told stands in
+      let then_ = event-number r look device c n now (drop i xs ++ rest) w' told' stands' in
+      let all = length-append xs rest in
+      let later = length-append (drop i xs) rest in
+      let left = length-drop xs i (omega (arith, lt)) in
+      omega (arith, first, then_, all, later, left, began, is)
+
+-- nothing follows all events
+pub before-all : {S : Type 0} (look : S → StoreView) (device : S → DeviceState) (x : Setup) (events : List Event) (w : World S) (m : Moment) → StandsBefore look device x events w m → StandsBefore look device x (events ++ []) w m
+before-all look device x events w m stands = subst (λ (es : List Event). StandsBefore look device x es w m) (sym (append-nil events)) stands

@@ -2,11 +2,14 @@
 #![tactic(auto)]
 
 ghost use Rattle.std.specs.Prelude.{◌≡◌, ◌<◌, ◌≤◌, ℕ, Option, Some, List, length, IfOk};
+ghost use Rattle.std.specs.List.{AllByRecursion};
 ghost use Rattle.jn_host.specs.Outside.{Contents};
 ghost use Rattle.jn_images.specs.Texts.{refusal_text};
 ghost use Rattle.jn_options.specs.Words.{AreWithinLimits, IsTrialInRange, command_of};
+ghost use Rattle.jn_options.specs.declared.asked.Options.{Options as AnOptions};
 ghost use Rattle.jn_schedule.specs.declared.Event.{Event as AnEvent};
 ghost use Rattle.jn_schedule.specs.Grammar.{IsSchedule};
+ghost use Rattle.jn_schedule.specs.Ranges.{EventInRange};
 ghost use Rattle.jn_world.specs.Standing.{AreStores};
 ghost use Rattle.jn_run.specs.Opening.{AreOpened};
 ghost use Rattle.jn_run.specs.Outcome.{OutcomeOf, OutcomeOfRun, OutcomeOfTrial, OutcomeOn, Refuses, RefusesWords, refused_line};
@@ -44,16 +47,17 @@ const MOST_EVENTS: usize = 100_000;
 
 /// Does all that the program does: reads the words and the schedule, runs it, writes the report and keeps the disks.
 ///
-/// The words are the program's name, and `run` with options or `trial` with a seed and how many events there are. A run begins with new disks, or with those of the images that the
-/// keeper has under a name. The report tells what each event of the schedule led to and, at the end, prints the files from the
-/// servers' pages. Each event's lines are written as the event ends. Once the whole report was taken, the disks are saved as images
-/// where a name for them is given. Other words are refused in one line of text, as are bytes that aren't a schedule, by the line and
-/// the number of the first fault, and images, by the first that is missing, is none or is unsound: then nothing is run. A
-/// schedule of more than 4,194,304 bytes or 100,000 events, a run that would send a message too many or has no epoch left, a
-/// source, a sink or a keeper that fails and want of memory have a status of their own.
+/// The words are the program's name, and `run` with options or `trial` with a seed and how many events there are. A run begins with
+/// new disks, or with those of the images that the keeper has under a name. The report tells what each event of the schedule led to
+/// and, at the end, prints the files from the servers' pages. Each event's lines are written as the event ends. Once the whole
+/// report was taken, the disks are saved as images where a name for them is given. Other words are refused in one line of text, as
+/// are bytes that aren't a schedule, by the line and the number of the first fault, and images, by the first that is missing, is
+/// none or is unsound: then nothing is run. A schedule of more than 4,194,304 bytes or 100,000 events, a run that would send a
+/// message too many or has no epoch left, a source, a sink or a keeper that fails and want of memory have a status of their own.
 ///
-/// A trial makes its schedule of the seed, runs it on two servers with new disks, and tells its whole report in one line, which is written
-/// once the run is done. It reads no source and keeps no disks, and writes nothing where a limit is reached or memory runs out.
+/// A trial makes its schedule of the seed, runs it on two servers with new disks, and tells its whole report in one line, which is
+/// written once the run is done. It reads no source and keeps no disks, and writes nothing where a limit is reached or memory runs
+/// out.
 pub fn run<S: Source, K: Sink, I: Keeper>(
     alloc: Global,
     words: &[String],
@@ -112,7 +116,7 @@ fn run_trial<K: Sink>(alloc: Global, trial: &Trial, sink: &mut K) -> Status
         },
         Err(RunFault::Limit) => Status::Limit,
         // A summary never fails.
-        Err(RunFault::Write) => Status::Write,
+        Err(RunFault::Write) => unreachable!(),
         Err(RunFault::Memory) => Status::Memory,
     }
 }
@@ -174,23 +178,22 @@ fn run_text<K: Sink, I: Keeper>(
         (record { taken = K.taken sink.new; write_faults = K.faults sink.new; kept = I.kept keeper.new; keep_faults = I.faults keeper.new }) }
 {
     if count_events(text) > MOST_EVENTS {
-        return refuse_long(alloc, options, text, sink);
+        return refuse_long(alloc, text, sink);
     }
     match parse(alloc, text) {
-        Ok(events) => run_schedule(alloc, options, text, &events, sink, keeper),
+        Ok(events) => run_schedule(alloc, options, &events, sink, keeper),
         Err(ParseFault::Syntax { line, number }) => refuse_line(alloc, line, number, sink),
         Err(ParseFault::Memory) => Status::Memory,
     }
 }
 
 /// Refuses a text that has too many events if it is a schedule. None of its events is kept.
-fn refuse_long<K: Sink>(alloc: Global, options: &Options, text: &[u8], sink: &mut K) -> Status
+fn refuse_long<K: Sink>(alloc: Global, text: &[u8], sink: &mut K) -> Status
     requires long { (es : List AnEvent) → IsSchedule text.now es → 100000 < length es }
-    ensures ran { (kept : Option Contents) (faults : ℕ) → OutcomeOn options.now text.now
+    ensures ran { (options : AnOptions) (kept : Option Contents) (faults : ℕ) → OutcomeOn options text.now
         (record { taken = K.taken sink.old; write_faults = K.faults sink.old; kept = kept; keep_faults = faults }) result
         (record { taken = K.taken sink.new; write_faults = K.faults sink.new; kept = kept; keep_faults = faults }) }
 {
-    let _options = options;
     match check(alloc, text) {
         Ok(()) => Status::Limit,
         Err(ParseFault::Syntax { line, number }) => refuse_line(alloc, line, number, sink),
@@ -202,20 +205,19 @@ fn refuse_long<K: Sink>(alloc: Global, options: &Options, text: &[u8], sink: &mu
 fn run_schedule<K: Sink, I: Keeper>(
     alloc: Global,
     options: &Options,
-    text: &[u8],
     events: &[Event],
     sink: &mut K,
     keeper: &mut I,
 ) -> Status
     requires limits { AreWithinLimits options.now }
-    requires schedule { IsSchedule text.now events.now }
     requires few { length events.now ≤ 100000 }
-    ensures ran { OutcomeOn options.now text.now
+    requires range { AllByRecursion EventInRange events.now }
+    ensures ran { (text : List ℕ) → IsSchedule text events.now → OutcomeOn options.now text
         (record { taken = K.taken sink.old; write_faults = K.faults sink.old; kept = I.kept keeper.old; keep_faults = I.faults keeper.old }) result
         (record { taken = K.taken sink.new; write_faults = K.faults sink.new; kept = I.kept keeper.new; keep_faults = I.faults keeper.new }) }
 {
     match open_stores(alloc, options, keeper) {
-        Ok(stores) => run_stores(alloc, options, stores, text, events, sink, keeper),
+        Ok(stores) => run_stores(alloc, options, stores, events, sink, keeper),
         Err(OpenFault::Refused(refusal)) => refuse_image(alloc, refusal, sink),
         Err(OpenFault::Keep) => Status::Keep,
         Err(OpenFault::Memory) => Status::Memory,
@@ -227,7 +229,6 @@ fn run_stores<K: Sink, I: Keeper>(
     alloc: Global,
     options: &Options,
     stores: Vec<(Disks, PageCounts)>,
-    text: &[u8],
     events: &[Event],
     sink: &mut K,
     keeper: &mut I,
@@ -236,14 +237,13 @@ fn run_stores<K: Sink, I: Keeper>(
     requires stores { AreStores (⟦<Pairs<MemDisk> as StableStore>⟧.view) 0 stores.items }
     requires servers { length stores.items ≡ options.now.servers }
     requires opened { AreOpened (⟦<Pairs<MemDisk> as StableStore>⟧.view) (⟦<Pairs<MemDisk> as Powered>⟧.device) options.now.opening (I.kept keeper.old) stores.items }
-    requires schedule { IsSchedule text.now events.now }
     requires few { length events.now ≤ 100000 }
+    requires range { AllByRecursion EventInRange events.now }
     // Also where calls of the keeper had failed before.
-    ensures ran { (earlier : ℕ) → earlier ≤ I.faults keeper.old → OutcomeOn options.now text.now
+    ensures ran { (text : List ℕ) (earlier : ℕ) → IsSchedule text events.now → earlier ≤ I.faults keeper.old → OutcomeOn options.now text
         (record { taken = K.taken sink.old; write_faults = K.faults sink.old; kept = I.kept keeper.old; keep_faults = earlier }) result
         (record { taken = K.taken sink.new; write_faults = K.faults sink.new; kept = I.kept keeper.new; keep_faults = I.faults keeper.new }) }
 {
-    let _text = text;
     let Ok(counts) = counts_of(alloc, &stores) else {
         return Status::Memory;
     };

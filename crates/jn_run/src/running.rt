@@ -1,6 +1,6 @@
 //! The events of a schedule in a world of servers, each on a disk of its own in memory.
 
-ghost use Rattle.std.specs.Prelude.{◌≡◌, ◌≤◌, ◌+◌, ◌∷◌, [], ℕ, List, OnOk, IfOk, length, vec_len};
+ghost use Rattle.std.specs.Prelude.{◌≡◌, ◌≤◌, ◌+◌, ◌++◌, ◌∷◌, [], ℕ, List, OnOk, IfOk, length, vec_len};
 ghost use Rattle.std.specs.List.{AllByRecursion};
 ghost use Rattle.jn_schedule.specs.Ranges.{EventInRange};
 ghost use Rattle.jn_schedule.specs.declared.Event.{Event as AnEvent};
@@ -68,7 +68,7 @@ pub fn run_from<O, R: Reporter<O>>(
     // One list for all events, so that none takes memory of its own for its lines.
     let mut lines = Vec::new(alloc);
     let mut world = open_world(alloc, trace, stores, &mut lines, reporter, output)?;
-    run_events(&mut world, events, &mut lines, reporter, output)?;
+    run_events(&mut world, 0, events, &mut lines, reporter, output)?;
     let left = close_world(world, &mut lines, reporter, output)?;
     if left.len() != servers {
         // There are as many: a world gives back the store of each of its servers.
@@ -77,23 +77,24 @@ pub fn run_from<O, R: Reporter<O>>(
     Ok(left)
 }
 
-/// Does all events, one after another.
-fn run_events<O, R: Reporter<O>>(
+/// Does events one after another, when so many have begun and any may follow.
+pub fn run_events<O, R: Reporter<O>>(
     world: &mut World<Disks>,
+    begun: u32,
     events: &[Event],
     lines: &mut Vec<Line>,
     reporter: &mut R,
     output: &mut O,
 ) -> Result<(), RunFault>
     requires world { IsWorld (⟦<Pairs<MemDisk> as StableStore>⟧.view) world.old }
-    requires few { length events.now ≤ 100000 }
+    requires few { begun + length events.now ≤ 100000 }
     requires range { AllByRecursion EventInRange events.now }
     ensures world { OnOk result (IsWorld (⟦<Pairs<MemDisk> as StableStore>⟧.view) world.new) }
-    ensures ran { (c : Course O) (m : Moment) → HasTold R.reporting c m output.old → c.schedule ≡ events.now
-        → StandsBefore (⟦<Pairs<MemDisk> as StableStore>⟧.view) (⟦<Pairs<MemDisk> as Powered>⟧.device) c.setup events.now world.old m
-        → Reaches R.reporting c (λ done. StandsBefore (⟦<Pairs<MemDisk> as StableStore>⟧.view) (⟦<Pairs<MemDisk> as Powered>⟧.device) c.setup [] world.new) result output.new }
+    ensures ran { (c : Course O) (m : Moment) (rest : List AnEvent) → HasTold R.reporting c m output.old → begun ≡ m.state.course.world.event
+        → StandsBefore (⟦<Pairs<MemDisk> as StableStore>⟧.view) (⟦<Pairs<MemDisk> as Powered>⟧.device) c.setup (events.now ++ rest) world.old m
+        → Reaches R.reporting c (λ done. StandsBefore (⟦<Pairs<MemDisk> as StableStore>⟧.view) (⟦<Pairs<MemDisk> as Powered>⟧.device) c.setup rest world.new) result output.new }
 {
-    let mut number = 0;
+    let mut number = begun;
     for event in events {
         number += 1;
         run_event(world, number, event, lines, reporter, output)?;
@@ -102,7 +103,7 @@ fn run_events<O, R: Reporter<O>>(
 }
 
 /// The world of these stores, all of whose servers come up. The lines that tell it are reported, also where a server doesn't.
-fn open_world<O, R: Reporter<O>>(
+pub fn open_world<O, R: Reporter<O>>(
     alloc: Global,
     trace: bool,
     stores: Vec<(Disks, PageCounts)>,
@@ -143,7 +144,7 @@ fn run_event<O, R: Reporter<O>>(
 }
 
 /// Ends the run, and reports the lines of the end, as far as it comes.
-fn close_world<O, R: Reporter<O>>(
+pub fn close_world<O, R: Reporter<O>>(
     world: World<Disks>,
     lines: &mut Vec<Line>,
     reporter: &mut R,

@@ -11,25 +11,25 @@ run_stores-requires-clause-opened g c = subst (λ (k : Option Contents). AreOpen
 
 pub returns-in-Ok : goal.returns-in-Ok
 returns-in-Ok g c = record {
-  ran = subst (λ (k : Option Contents). OutcomeOn c.args.options.now c.args.text.now
+  ran = λ text schedule. subst (λ (k : Option Contents). OutcomeOn c.args.options.now text
       (record { taken = g.K.Sink.taken c.args.sink.now; write_faults = g.K.Sink.faults c.args.sink.now; kept = k; keep_faults = g.I.Keeper.faults c.args.keeper.now }) c.run_stores.result
       (record { taken = g.K.Sink.taken c.run_stores.new.sink; write_faults = g.K.Sink.faults c.run_stores.new.sink; kept = g.I.Keeper.kept c.run_stores.new.keeper; keep_faults = g.I.Keeper.faults c.run_stores.new.keeper }))
-      c.open_stores.ensures.kept.same (c.run_stores.ensures.ran (g.I.Keeper.faults c.args.keeper.now) c.open_stores.ensures.kept.count);
+      c.open_stores.ensures.kept.same (c.run_stores.ensures.ran text (g.I.Keeper.faults c.args.keeper.now) schedule c.open_stores.ensures.kept.count);
 }
 
 pub returns-in-Err-Refused : goal.returns-in-Err-Refused
 returns-in-Err-Refused g c = record {
-  ran = image-outcome c.args.options.now c.args.text.now c.args.events.now c.in-Err-Refused.refusal
+  ran = λ text schedule. image-outcome c.args.options.now text c.args.events.now c.in-Err-Refused.refusal
       (record { taken = g.K.Sink.taken c.args.sink.now; write_faults = g.K.Sink.faults c.args.sink.now; kept = g.I.Keeper.kept c.args.keeper.now; keep_faults = g.I.Keeper.faults c.args.keeper.now }) c.refuse_image.result
       (record { taken = g.K.Sink.taken c.refuse_image.new.sink; write_faults = g.K.Sink.faults c.refuse_image.new.sink; kept = g.I.Keeper.kept c.open_stores.new.keeper; keep_faults = g.I.Keeper.faults c.open_stores.new.keeper })
-      (record { schedule = c.requires.schedule; few = c.requires.few }) (c.open_stores.ensures.refused c.in-Err-Refused.refusal (c.in-Err-Refused.is ∙ ap (λ e. Err e) c.in-Err-Refused.field-0-is)) c.open_stores.ensures.kept.same c.refuse_image.ensures.refused;
+      (record { schedule = schedule; few = c.requires.few }) (c.open_stores.ensures.refused c.in-Err-Refused.refusal (c.in-Err-Refused.is ∙ ap (λ e. Err e) c.in-Err-Refused.field-0-is)) c.open_stores.ensures.kept.same c.refuse_image.ensures.refused;
 }
 
 pub returns-in-Err-Keep : goal.returns-in-Err-Keep
 returns-in-Err-Keep g c = record {
-  ran = load-outcome c.args.options.now c.args.text.now c.args.events.now
+  ran = λ text schedule. load-outcome c.args.options.now text c.args.events.now
       (record { taken = g.K.Sink.taken c.args.sink.now; write_faults = g.K.Sink.faults c.args.sink.now; kept = g.I.Keeper.kept c.args.keeper.now; keep_faults = g.I.Keeper.faults c.args.keeper.now })
       (record { taken = g.K.Sink.taken c.args.sink.now; write_faults = g.K.Sink.faults c.args.sink.now; kept = g.I.Keeper.kept c.open_stores.new.keeper; keep_faults = g.I.Keeper.faults c.open_stores.new.keeper })
-      (record { schedule = c.requires.schedule; few = c.requires.few }) refl c.open_stores.ensures.kept.same
+      (record { schedule = schedule; few = c.requires.few }) refl c.open_stores.ensures.kept.same
       (c.open_stores.ensures.kept.rose (c.in-Err-Keep.is ∙ ap (λ e. Err e) c.in-Err-Keep.field-0-is)) (c.open_stores.ensures.kept.images (c.in-Err-Keep.is ∙ ap (λ e. Err e) c.in-Err-Keep.field-0-is));
 }

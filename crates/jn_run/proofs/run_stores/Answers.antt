@@ -2,57 +2,52 @@ use Rattle.std.proofs.Common.{◌∙◌, Err, List, Vec, ap, map, refl}
 use Rattle.std.specs.declared.alloc.Global.{Global}
 use Rattle.jn_memdisk.specs.declared.disk.MemDisk.{MemDisk}
 use Rattle.jn_recovery.specs.declared.counts.PageCounts.{PageCounts}
-use Rattle.jn_schedule.proofs.Ranges.{lines_in_range}
-use Rattle.jn_schedule.specs.Grammar.{word_lines}
 use Rattle.jn_run.proofs.Opened.{opened-so}
 use Rattle.jn_run.proofs.Outcomes.{run-kept, run-limit, run-write, run-memory}
 use Rattle.jn_run.proofs.Stores.{look, device}
 use Rattle.jn_run.proofs.run_stores.Goals as goal
 
-pub run_from-requires-clause-range : goal.run_from-requires-clause-range
-run_from-requires-clause-range g c = lines_in_range (word_lines c.args.text.now) c.args.events.now c.requires.schedule
-
 pub returns-in-Ok-run_from : goal.returns-in-Ok-run_from
 returns-in-Ok-run_from g c = record {
-  ran = λ earlier since.
+  ran = λ text earlier schedule since.
       let o = c.args.options.now in
       let b = opened-so look device (λ s. refl) o (g.I.Keeper.kept c.args.keeper.now) c.args.stores.items c.requires.servers c.requires.opened in
-      run-kept device o c.args.text.now c.args.events.now g.K.Sink.taken g.K.Sink.faults c.args.sink.now c.run_from.new.output (g.I.Keeper.kept c.args.keeper.now) (g.I.Keeper.kept c.keep.new.keeper) earlier (g.I.Keeper.faults c.keep.new.keeper) c.args.stores.items b
-      (record { schedule = c.requires.schedule; few = c.requires.few }) c.requires.limits.servers.1
-      (lines_in_range (word_lines c.args.text.now) c.args.events.now c.requires.schedule) (λ (v : Vec MemDisk Global). v.items) c.run_from.result
+      run-kept device o text c.args.events.now g.K.Sink.taken g.K.Sink.faults c.args.sink.now c.run_from.new.output (g.I.Keeper.kept c.args.keeper.now) (g.I.Keeper.kept c.keep.new.keeper) earlier (g.I.Keeper.faults c.keep.new.keeper) c.args.stores.items b
+      (record { schedule = schedule; few = c.requires.few }) c.requires.limits.servers.1
+      c.requires.range (λ (v : Vec MemDisk Global). v.items) c.run_from.result
       (c.run_from.ensures.ran b.setup b.files b.epochs b.images b.stores_are b.opens.trace b.are_images) c.in-Ok-run_from.left c.in-Ok-run_from.is c.deref-in-Ok-run_from.result.now c.in-Ok-run_from.ensures.count
       (c.deref-in-Ok-run_from.ensures.value ∙ c.in-Ok.ensures ∙ ap (λ (xs : List (MemDisk × PageCounts)). map (λ (x : MemDisk × PageCounts). x.1) xs) c.deref.ensures.value) (g.I.Keeper.faults c.args.keeper.now) since c.keep.result c.keep.ensures.kept;
 }
 
 pub returns-in-Err-Write : goal.returns-in-Err-Write
 returns-in-Err-Write g c = record {
-  ran = λ earlier since.
+  ran = λ text earlier schedule since.
       let o = c.args.options.now in
       let b = opened-so look device (λ s. refl) o (g.I.Keeper.kept c.args.keeper.now) c.args.stores.items c.requires.servers c.requires.opened in
-      run-write device o c.args.text.now c.args.events.now g.K.Sink.taken g.K.Sink.faults c.args.sink.now c.run_from.new.output (g.I.Keeper.kept c.args.keeper.now) (g.I.Keeper.kept c.args.keeper.now) earlier (g.I.Keeper.faults c.args.keeper.now) c.args.stores.items b
-      (record { schedule = c.requires.schedule; few = c.requires.few }) c.requires.limits.servers.1
-      (lines_in_range (word_lines c.args.text.now) c.args.events.now c.requires.schedule) (λ (v : Vec MemDisk Global). v.items) c.run_from.result
+      run-write device o text c.args.events.now g.K.Sink.taken g.K.Sink.faults c.args.sink.now c.run_from.new.output (g.I.Keeper.kept c.args.keeper.now) (g.I.Keeper.kept c.args.keeper.now) earlier (g.I.Keeper.faults c.args.keeper.now) c.args.stores.items b
+      (record { schedule = schedule; few = c.requires.few }) c.requires.limits.servers.1
+      c.requires.range (λ (v : Vec MemDisk Global). v.items) c.run_from.result
       (c.run_from.ensures.ran b.setup b.files b.epochs b.images b.stores_are b.opens.trace b.are_images) refl (c.in-Err-Write.is ∙ ap (λ e. Err e) c.in-Err-Write.field-0-is);
 }
 
 pub returns-in-Err-Limit : goal.returns-in-Err-Limit
 returns-in-Err-Limit g c = record {
-  ran = λ earlier since.
+  ran = λ text earlier schedule since.
       let o = c.args.options.now in
       let b = opened-so look device (λ s. refl) o (g.I.Keeper.kept c.args.keeper.now) c.args.stores.items c.requires.servers c.requires.opened in
-      run-limit device o c.args.text.now c.args.events.now g.K.Sink.taken g.K.Sink.faults c.args.sink.now c.run_from.new.output (g.I.Keeper.kept c.args.keeper.now) (g.I.Keeper.kept c.args.keeper.now) earlier (g.I.Keeper.faults c.args.keeper.now) c.args.stores.items b
-      (record { schedule = c.requires.schedule; few = c.requires.few }) c.requires.limits.servers.1
-      (lines_in_range (word_lines c.args.text.now) c.args.events.now c.requires.schedule) (λ (v : Vec MemDisk Global). v.items) c.run_from.result
+      run-limit device o text c.args.events.now g.K.Sink.taken g.K.Sink.faults c.args.sink.now c.run_from.new.output (g.I.Keeper.kept c.args.keeper.now) (g.I.Keeper.kept c.args.keeper.now) earlier (g.I.Keeper.faults c.args.keeper.now) c.args.stores.items b
+      (record { schedule = schedule; few = c.requires.few }) c.requires.limits.servers.1
+      c.requires.range (λ (v : Vec MemDisk Global). v.items) c.run_from.result
       (c.run_from.ensures.ran b.setup b.files b.epochs b.images b.stores_are b.opens.trace b.are_images) refl (c.in-Err-Limit.is ∙ ap (λ e. Err e) c.in-Err-Limit.field-0-is);
 }
 
 pub returns : goal.returns
 returns g c = record {
-  ran = λ earlier since.
+  ran = λ text earlier schedule since.
       let o = c.args.options.now in
       let b = opened-so look device (λ s. refl) o (g.I.Keeper.kept c.args.keeper.now) c.args.stores.items c.requires.servers c.requires.opened in
-      run-memory device o c.args.text.now c.args.events.now g.K.Sink.taken g.K.Sink.faults c.args.sink.now c.run_from.new.output (g.I.Keeper.kept c.args.keeper.now) (g.I.Keeper.kept c.args.keeper.now) earlier (g.I.Keeper.faults c.args.keeper.now) c.args.stores.items b
-      (record { schedule = c.requires.schedule; few = c.requires.few }) c.requires.limits.servers.1
-      (lines_in_range (word_lines c.args.text.now) c.args.events.now c.requires.schedule) (λ (v : Vec MemDisk Global). v.items) c.run_from.result
+      run-memory device o text c.args.events.now g.K.Sink.taken g.K.Sink.faults c.args.sink.now c.run_from.new.output (g.I.Keeper.kept c.args.keeper.now) (g.I.Keeper.kept c.args.keeper.now) earlier (g.I.Keeper.faults c.args.keeper.now) c.args.stores.items b
+      (record { schedule = schedule; few = c.requires.few }) c.requires.limits.servers.1
+      c.requires.range (λ (v : Vec MemDisk Global). v.items) c.run_from.result
       (c.run_from.ensures.ran b.setup b.files b.epochs b.images b.stores_are b.opens.trace b.are_images) refl (c.in-Err-Memory.is ∙ ap (λ e. Err e) c.in-Err-Memory.field-0-is);
 }

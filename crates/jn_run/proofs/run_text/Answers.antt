@@ -1,6 +1,15 @@
-use Rattle.std.proofs.Common.{rules, refl}
+use Rattle.std.proofs.Common.{List, rules, refl, subst, sym}
+use Rattle.jn_schedule.proofs.Ranges.{lines_in_range}
+use Rattle.jn_schedule.specs.declared.Event.{Event}
+use Rattle.jn_schedule.specs.Grammar.{word_lines, IsSchedule}
 use Rattle.jn_run.proofs.Outcomes.{line-outcome}
 use Rattle.jn_run.proofs.run_text.Goals as goal
+
+pub run_schedule-requires-clause-range : goal.run_schedule-requires-clause-range
+run_schedule-requires-clause-range g c = lines_in_range (word_lines c.args.text.now) c.deref.result.now (subst (λ (es : List Event). IsSchedule c.args.text.now es) (sym c.deref.ensures.value) c.in-Ok.ensures.found)
+
+pub returns-in-Ok : goal.returns-in-Ok
+returns-in-Ok g c = record { ran = c.run_schedule.ensures.ran c.args.text.now (subst (λ (es : List Event). IsSchedule c.args.text.now es) (sym c.deref.ensures.value) c.in-Ok.ensures.found) }
 
 pub returns-in-Err-Syntax : goal.returns-in-Err-Syntax
 returns-in-Err-Syntax g c = record {
@@ -11,4 +20,4 @@ returns-in-Err-Syntax g c = record {
 }
 
 pub returns-then-count_events-gt-MOST_EVENTS : goal.returns-then-count_events-gt-MOST_EVENTS
-returns-then-count_events-gt-MOST_EVENTS g c = record { ran = c.refuse_long.ensures.ran (g.I.Keeper.kept c.args.keeper.now) (g.I.Keeper.faults c.args.keeper.now) }
+returns-then-count_events-gt-MOST_EVENTS g c = record { ran = c.refuse_long.ensures.ran c.args.options.now (g.I.Keeper.kept c.args.keeper.now) (g.I.Keeper.faults c.args.keeper.now) }

@@ -1,4 +1,4 @@
-use Rattle.std.proofs.Common.{◌∙◌, ℕ, List, Err, ap, refl, subst}
+use Rattle.std.proofs.Common.{◌∙◌, ℕ, List, Err, None, ap, refl, subst}
 use Rattle.std.specs.Prelude.{is_ok}
 use Rattle.jn_writing.specs.Writing.{Took, TookFront}
 use Rattle.jn_run.proofs.Summed.{written-so}
@@ -29,7 +29,5 @@ returns-in-Err-Limit g c = record {
       ((c.sum_up.ensures.told kept).limit (c.in-Err-Limit.is ∙ ap (λ e. Err e) c.in-Err-Limit.field-0-is), refl, record { left = refl; read_faults = refl; kept = refl; keep_faults = refl });
 }
 
-pub returns-in-Err-Write : goal.returns-in-Err-Write
-returns-in-Err-Write g c = record {
-  outcome = λ left faults kept keep_faults. absurd ((c.sum_up.ensures.told kept).no_write (c.in-Err-Write.is ∙ ap (λ e. Err e) c.in-Err-Write.field-0-is));
-}
+pub unreachable-in-Err-Write-unreachable-requires : goal.unreachable-in-Err-Write-unreachable-requires
+unreachable-in-Err-Write-unreachable-requires g c = (c.sum_up.ensures.told None).no_write (c.in-Err-Write.is ∙ ap (λ e. Err e) c.in-Err-Write.field-0-is)
