@@ -29,5 +29,5 @@ returns-in-Err-Limit g c = record {
       ((c.sum_up.ensures.told kept).limit (c.in-Err-Limit.is ∙ ap (λ e. Err e) c.in-Err-Limit.field-0-is), refl, record { left = refl; read_faults = refl; kept = refl; keep_faults = refl });
 }
 
-pub unreachable-in-Err-Write-unreachable-requires : goal.unreachable-in-Err-Write-unreachable-requires
-unreachable-in-Err-Write-unreachable-requires g c = (c.sum_up.ensures.told None).no_write (c.in-Err-Write.is ∙ ap (λ e. Err e) c.in-Err-Write.field-0-is)
+pub unreachable-requires : goal.unreachable-requires
+unreachable-requires g c = (c.sum_up.ensures.told None).no_write (c.in-Err-Write.is ∙ ap (λ e. Err e) c.in-Err-Write.field-0-is)

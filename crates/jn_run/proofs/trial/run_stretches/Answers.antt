@@ -1,4 +1,4 @@
-use Rattle.std.proofs.Common.{◌≡◌, ◌+◌, ◌++◌, List, length, ap, sym, ◌∙◌, Err, subst, arith}
+use Rattle.std.proofs.Common.{◌≡◌, ◌+◌, ◌++◌, List, length, ap, sym, ◌∙◌, Err, lit<, subst, arith}
 use Rattle.std.proofs.lemmas.Result.{err_from_is_err_and}
 use Rattle.jn_schedule.specs.declared.Event.{Event}
 use Rattle.jn_schedule.specs.Ranges.{EventInRange}
@@ -10,11 +10,24 @@ use Rattle.jn_run.proofs.trial.run_stretches.Goals as goal
 
 pub run_events-requires-clause-few : goal.run_events-requires-clause-few
 run_events-requires-clause-few g c =
-    let some = stretch-length 1000 c.stretches.drawn c.deref.result.now c.next-events.new.self (c.deref.ensures.value ∙ c.in_ok-events.ensures.given) c.in_ok-events.ensures.left in
+    let some = stretch-length 1000 c.stretches.drawn c.deref.result.now c.next.new.self (c.deref.ensures.value ∙ c.in_ok-events.ensures.given) c.in_ok-events.ensures.left in
     omega (arith, some, c.stretches.invariant.all, c.requires.few)
 
 pub run_events-requires-clause-range : goal.run_events-requires-clause-range
 run_events-requires-clause-range g c = stretch-all EventInRange 1000 c.stretches.drawn c.deref.result.now (c.deref.ensures.value ∙ c.in_ok-events.ensures.given) c.stretches.invariant.range
+
+pub overflow_cast-begun : goal.overflow_cast-begun
+overflow_cast-begun g c =
+    let some = stretch-length 1000 c.stretches.drawn c.in_ok-events.events.items c.next.new.self c.in_ok-events.ensures.given c.in_ok-events.ensures.left in
+    omega (arith, some, c.stretches.invariant.all, c.requires.few, c.len.ensures, c.in_ok-events.events.ok)
+
+pub overflow_add-begun : goal.overflow_add-begun
+overflow_add-begun g c =
+    let some = stretch-length 1000 c.stretches.drawn c.in_ok-events.events.items c.next.new.self c.in_ok-events.ensures.given c.in_ok-events.ensures.left in
+    omega (arith, some, c.stretches.invariant.all, c.requires.few, c.len.ensures, c.in_ok-events.events.ok)
+
+pub stretches-smaller : goal.stretches-smaller
+stretches-smaller g c = stretch-shorter 1000 c.stretches.drawn c.next.new.self (lit< tt) (omega (arith, c.left.ensures, c.stretches-test.true)) c.in_ok-events.ensures.left
 
 pub returns-in_err-events-clause-ran : goal.returns-in_err-events-clause-ran
 returns-in_err-events-clause-ran g c = λ course m told same stands.
@@ -24,25 +37,24 @@ returns-in_err-events-clause-ran g c = λ course m told same stands.
 pub returns-in_err-run_events-clause-ran : goal.returns-in_err-run_events-clause-ran
 returns-in_err-run_events-clause-ran g c = λ course m told same stands.
     let at = c.stretches.invariant.so_far course m told same stands in
-    let joins = stretch-joins 1000 c.stretches.drawn c.deref.result.now c.next-events.new.self (c.deref.ensures.value ∙ c.in_ok-events.ensures.given) c.in_ok-events.ensures.left in
+    let joins = stretch-joins 1000 c.stretches.drawn c.deref.result.now c.next.new.self (c.deref.ensures.value ∙ c.in_ok-events.ensures.given) c.in_ok-events.ensures.left in
     let begun = so-many-begun g.R.Reporter.reporting look device course at.now _ c.args.drawn c.stretches.drawn c.stretches.begun c.stretches.world at.told same at.there c.stretches.invariant.all in
-    let one = c.run_events.ensures.ran course at.now c.next-events.new.self at.told begun (subst (λ (es : List Event). StandsBefore look device course.setup es c.stretches.world at.now) (sym joins) at.there) in
+    let one = c.run_events.ensures.ran course at.now c.next.new.self at.told begun (subst (λ (es : List Event). StandsBefore look device course.setup es c.stretches.world at.now) (sym joins) at.there) in
     let p = err_from_is_err_and c.from_residual-in_err-run_events.result c.from_residual-in_err-run_events.ensures.1 in
     fault-reaches g.R.Reporter.reporting course _ _ c.run_events.result c.from_residual-in_err-run_events.result p.0 _ (c.in_err-run_events.was ∙ ap (λ e. Err e) (sym p.2)) p.1 one
 
 pub stretches-preserved : goal.stretches-preserved
 stretches-preserved g c =
     let given = c.deref.ensures.value ∙ c.in_ok-events.ensures.given in
-    let some = stretch-length 1000 c.stretches.drawn c.deref.result.now c.next-events.new.self given c.in_ok-events.ensures.left in
     record {
-      all = omega (arith, some, c.stretches.invariant.all);
-      range = left-all EventInRange 1000 c.stretches.drawn c.next-events.new.self c.in_ok-events.ensures.left c.stretches.invariant.range;
+      all = omega (arith, stretch-length 1000 c.stretches.drawn c.in_ok-events.events.items c.next.new.self c.in_ok-events.ensures.given c.in_ok-events.ensures.left, c.stretches.invariant.all, c.len.ensures, c.in_ok-events.events.ok);
+      range = left-all EventInRange 1000 c.stretches.drawn c.next.new.self c.in_ok-events.ensures.left c.stretches.invariant.range;
       world = c.in_ok-run_events.ensures.world;
       so_far = λ course m told same stands.
           let at = c.stretches.invariant.so_far course m told same stands in
-          let joins = stretch-joins 1000 c.stretches.drawn c.deref.result.now c.next-events.new.self given c.in_ok-events.ensures.left in
+          let joins = stretch-joins 1000 c.stretches.drawn c.deref.result.now c.next.new.self given c.in_ok-events.ensures.left in
           let begun = so-many-begun g.R.Reporter.reporting look device course at.now _ c.args.drawn c.stretches.drawn c.stretches.begun c.stretches.world at.told same at.there c.stretches.invariant.all in
-          let one = c.run_events.ensures.ran course at.now c.next-events.new.self at.told begun (subst (λ (es : List Event). StandsBefore look device course.setup es c.stretches.world at.now) (sym joins) at.there) in
+          let one = c.run_events.ensures.ran course at.now c.next.new.self at.told begun (subst (λ (es : List Event). StandsBefore look device course.setup es c.stretches.world at.now) (sym joins) at.there) in
           one.whole c.in_ok-run_events.field-0 c.in_ok-run_events.was;
     }
 
