@@ -1,4 +1,4 @@
-use Rattle.std.proofs.Common.{◌≡◌, ◌+◌, ◌++◌, List, length, ap, sym, ◌∙◌, Err, lit<, subst, arith}
+use Rattle.std.proofs.Common.{List, ap, sym, ◌∙◌, Err, lit<, subst, arith}
 use Rattle.std.proofs.lemmas.Result.{err_from_is_err_and}
 use Rattle.jn_schedule.specs.declared.Event.{Event}
 use Rattle.jn_schedule.specs.Ranges.{EventInRange}
