@@ -143,7 +143,10 @@ module _ {S : Type 0} (device : S → DeviceState) (options : Options) (kept : O
 
   -- ---- what is kept of it
 
-  module _ (closing : Devices) (left : List S) (counts : List PageCounts) (as_many : length left ≡ length stores) (theirs : AreLeft device left closing) (counts_are : counts ≡ map (λ (x : S × PageCounts). x.1) stores) where
+  module _ (closing : Devices) (left : List S) (counts : List PageCounts) (theirs : AreLeft device b.setup left closing) (counts_are : counts ≡ map (λ (x : S × PageCounts). x.1) stores) where
+    as_many : length left ≡ length stores
+    as_many = theirs.count ∙ sym b.stores_are.servers
+
     -- the first n stores are kept, so the first n disks are
     disks-kept : (name : List ℕ) (n : ℕ) (kept' : Option Contents) → n ≤ length left → SavedTo device name left counts n kept kept' → AreKept kept name n b.setup closing kept'
     disks-kept name n kept' fit saved = record {
@@ -152,7 +155,7 @@ module _ {S : Type 0} (device : S → DeviceState) (options : Options) (kept : O
           let (x, there) = some-at stores q.0 (subst (λ (k : ℕ). q.0 < k) as_many (omega (arith, lt, fit))) in
           let its = ap (λ (xs : List PageCounts). slice_get xs q.0) counts_are ∙ slice_get-map (λ (x : S × PageCounts). x.1) stores q.0 ∙ ap (λ (y : Option (S × PageCounts)). option_map (λ (x : S × PageCounts). x.1) y) there in
           let is = saved.are_kept q s x.1 lt at its in
-          subst (λ (d : DeviceState). IsKept kept' name (b.setup.counts q) q d) (sym (theirs q.0 s at))
+          subst (λ (d : DeviceState). IsKept kept' name (b.setup.counts q) q d) (sym (theirs.each q.0 s at))
           (subst (λ (g : Counts). IsKept kept' name g q (device s)) (sym (b.stores_are.counts q.0 x there)) is);
       others = saved.stay;
     }
@@ -176,7 +179,7 @@ module _ {S K : Type 0} (device : S → DeviceState) (options : Options) (text :
   abbrev pub after : Outputs
   after = record { taken = taken_of sink'; write_faults = faults_of sink'; kept = kept'; keep_faults = keep_faults' }
 
-  module _ {A : Type 0} (items_of : A → List S) (r : Result A RunFault) (ran : RunsFrom (writes_to taken_of faults_of) (course_of b.setup events b.images sink) (λ (left : A). AreLeft device (items_of left)) r sink') where
+  module _ {A : Type 0} (items_of : A → List S) (r : Result A RunFault) (ran : RunsFrom (writes_to taken_of faults_of) (course_of b.setup events b.images sink) (λ (left : A). AreLeft device b.setup (items_of left)) r sink') where
     part-told : (left left' : Option (List ℕ)) (rf rf' : ℕ) → IsText left text → length text ≤ most_bytes → is_ok r ≡ false
         → RanInPart (record { left = left; left' = left'; read_faults = rf; read_faults' = rf'; taken = before.taken; taken' = after.taken; write_faults = before.write_faults; write_faults' = after.write_faults; kept = before.kept; kept' = after.kept; keep_faults = before.keep_faults; keep_faults' = after.keep_faults }) options
     part-told left left' rf rf' told fits failed =
@@ -198,8 +201,8 @@ module _ {S K : Type 0} (device : S → DeviceState) (options : Options) (text :
     pub run-memory : after.kept ≡ before.kept → r ≡ Err runs.Memory → OutcomeOn options text before statuses.Memory after
     run-memory stays is = λ left left' rf rf' told fits. inr (inl ((options, refl, part-told left left' rf rf' told fits (ap is_ok is)), stays))
 
-    module _ (left : A) (is : r ≡ Ok left) (counts : List PageCounts) (as_many : length (items_of left) ≡ length stores) (counts_are : counts ≡ map (λ (x : S × PageCounts). x.1) stores) (faults : ℕ) (since : before.keep_faults ≤ faults) where
-      abbrev whole : TookWhole (writes_to taken_of faults_of) (course_of b.setup events b.images sink) (AreLeft device (items_of left)) sink'
+    module _ (left : A) (is : r ≡ Ok left) (counts : List PageCounts) (counts_are : counts ≡ map (λ (x : S × PageCounts). x.1) stores) (faults : ℕ) (since : before.keep_faults ≤ faults) where
+      abbrev whole : TookWhole (writes_to taken_of faults_of) (course_of b.setup events b.images sink) (AreLeft device b.setup (items_of left)) sink'
       whole = ran.whole left is
 
       abbrev w : IsWhole options before.kept events whole.lines
@@ -215,7 +218,7 @@ module _ {S K : Type 0} (device : S → DeviceState) (options : Options) (text :
       unkept-told l l' rf rf' told fits keeps = told-of _ _ (Took before.taken after.taken) text events (record { told = told; fits = fits }) a whole.lines (w, keeps) whole.took
 
       first : (name : List ℕ) → options.closing ≡ Some name → (n : ℕ) × (n < length (items_of left)) × SavedTo device name (items_of left) counts n before.kept after.kept → KeepsFirst options.closing before.kept b.setup whole.closing after.kept
-      first name e h = subst (λ (c : Option (List ℕ)). KeepsFirst c before.kept b.setup whole.closing after.kept) (sym e) (first-kept device options before.kept stores b few events range whole.closing (items_of left) counts as_many whole.gives counts_are name after.kept h)
+      first name e h = subst (λ (c : Option (List ℕ)). KeepsFirst c before.kept b.setup whole.closing after.kept) (sym e) (first-kept device options before.kept stores b few events range whole.closing (items_of left) counts whole.gives counts_are name after.kept h)
 
       by : (c : Option (List ℕ)) → options.closing ≡ c → (status : Status) → KeptWith device (items_of left) counts c before.kept faults status after.kept after.keep_faults → OutcomeOn options text before status after
       by None e status k = subst (λ (s : Status). OutcomeOn options text before s after) (sym k.0)
@@ -225,7 +228,7 @@ module _ {S K : Type 0} (device : S → DeviceState) (options : Options) (text :
         refl,
         whole-told l l' rf rf' told fits
             (subst (λ (c : Option (List ℕ)). Keeps c before.kept b.setup whole.closing after.kept) (sym e)
-            (all-kept device options before.kept stores b few events range whole.closing (items_of left) counts as_many whole.gives counts_are name after.kept k)),
+            (all-kept device options before.kept stores b few events range whole.closing (items_of left) counts whole.gives counts_are name after.kept k)),
       )
       by (Some name) e statuses.Keep k = λ l l' rf rf' told fits. (rose_since before.keep_faults faults after.keep_faults since k.0 k.1, inr (options, refl, unkept-told l l' rf rf' told fits (first name e k.2)))
       by (Some name) e statuses.Memory k = λ l l' rf rf' told fits. inr (inr (options, refl, unkept-told l l' rf rf' told fits (first name e k)))

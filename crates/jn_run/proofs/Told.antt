@@ -169,42 +169,6 @@ module _ {O : Type 0} (r : Reporting O) (c : Course O) where
     rose = λ is. absurd (true≢false (ap is_ok is));
   }
 
-  -- a run whose fault is handed on
-  pub faulted-run : {A B : Type 0} (Gives : A → Devices → Type 0) (Other : B → Devices → Type 0) (x : Result A RunFault) (s : Result B RunFault) (e : RunFault) (out : O) → x ≡ Err e → s ≡ Err e → RunsFrom r c Gives x out → RunsFrom r c Other s out
-  faulted-run Gives Other x s e out is same ends = record {
-    count = ends.count;
-    whole = λ a ok. absurd (true≢false (sym (ap is_ok ok) ∙ ap is_ok same));
-    limit = λ limit. ends.limit (is ∙ ap (λ x. Err x) (fault-is s e same runs.Limit limit));
-    part = λ no. ends.part (ap is_ok is);
-    rose = λ write. ends.rose (is ∙ ap (λ x. Err x) (fault-is s e same runs.Write write));
-  }
-
-  -- one that was done, with what was given
-  pub done-with : {A : Type 0} (Gives : A → Devices → Type 0) (x : Result A RunFault) (a : A) (out : O) → x ≡ Ok a → RunsFrom r c Gives x out → RunsFrom r c Gives (Ok a) out
-  done-with {A} Gives x a out is ran = subst (λ (s : Result A RunFault). RunsFrom r c Gives s out) is ran
-
--- one that was done, and then cut off for want of memory
-pub cut-after : {O A B : Type 0} (r : Reporting O) (j : Joins r) (c : Course O) (Gives : A → Devices → Type 0) (Other : B → Devices → Type 0) (x : Result A RunFault) (a : A) (s : Result B RunFault) (out : O) → x ≡ Ok a → s ≡ Err runs.Memory → RunsFrom r c Gives x out → RunsFrom r c Other s out
-cut-after r j c Gives Other x a s out is same ran =
-    let whole = ran.whole a is in
-    record {
-      count = ran.count;
-      whole = λ b ok. absurd (true≢false (sym (ap is_ok ok) ∙ ap is_ok same));
-      limit = λ limit. absurd (no-limit (fault-is s runs.Memory same runs.Limit limit));
-      part = λ no. record {
-        lines = whole.lines;
-        part = record { now = whole.whole.last; written = whole.whole.written; lines_are = whole.whole.lines_are };
-        took = j.all c.output out whole.lines whole.took;
-      };
-      rose = λ write. absurd (no-write (fault-is s runs.Memory same runs.Write write));
-    }
-  where
-    no-limit : runs.Memory ≡ runs.Limit → ⊥
-    no-limit h = cc
-
-    no-write : runs.Memory ≡ runs.Write → ⊥
-    no-write h = cc
-
 -- ---- the end
 
 module _ {O S A : Type 0} (r : Reporting O) (j : Joins r) (device : S → DeviceState) (items_of : A → List S) (c : Course O) (m : Moment) (out out' : O) (told : HasTold r c m out) (lines : List Line) where
@@ -214,12 +178,12 @@ module _ {O S A : Type 0} (r : Reporting O) (j : Joins r) (device : S → Device
   closed-came (Err (Epoch q)) cut = record { last = cut.last; leads = cut.leads; lines_are = new-lines m.state.lines cut.told.new lines cut.last.state.lines cut.told.here cut.told.there }
   closed-came (Err Memory) none = record { last = m; leads = Rattle.jn_written.specs.Runs.none m; lines_are = sym (append-nil m.state.lines) }
 
-  closed-whole : (stores : A) → IsClosed device c.setup m (items_of stores) [] lines → r.took out out' lines → TookWhole r c (AreLeft device (items_of stores)) out'
+  closed-whole : (stores : A) → IsClosed device c.setup m (items_of stores) [] lines → r.took out out' lines → TookWhole r c (AreLeft device c.setup (items_of stores)) out'
   closed-whole stores closed took =
       let lines_are = new-lines m.state.lines closed.told.new lines closed.last.state.lines closed.told.here closed.told.there in
       record {
         closing = closed.last.devices;
-        gives = closed.devices;
+        gives = record { count = closed.servers; each = closed.devices };
         lines = closed.last.state.lines;
         whole = record { last = closed.last; written = further c m closed.last told.written closed.leads; stage = closed.stage; tasks = closed.tasks; closing_is = refl; lines_are = refl };
         took = all-taken r j c m out out' told closed.last lines lines_are took;
@@ -235,7 +199,7 @@ module _ {O S A : Type 0} (r : Reporting O) (j : Joins r) (device : S → Device
   closed-limit (Err Messages) cut limit took = limit-taken r j c m out out' told cut.last lines cut.leads cut.stage (new-lines m.state.lines cut.told.new lines cut.last.state.lines cut.told.here cut.told.there) took
   closed-limit (Err (Epoch q)) cut limit took = limit-taken r j c m out out' told cut.last lines cut.leads cut.stage (new-lines m.state.lines cut.told.new lines cut.last.state.lines cut.told.here cut.told.there) took
 
-  pub closed-ends : (done : Result A Ended) (answer : Result A RunFault) → Closes device items_of c.setup m done [] lines → Reported r done lines out answer out' → RunsFrom r c (λ (a : A). AreLeft device (items_of a)) answer out'
+  pub closed-ends : (done : Result A Ended) (answer : Result A RunFault) → Closes device items_of c.setup m done [] lines → Reported r done lines out answer out' → RunsFrom r c (λ (a : A). AreLeft device c.setup (items_of a)) answer out'
   closed-ends done answer closed one = record {
     count = omega (arith, told.count, one.count);
     whole = λ a is. closed-whole a (closed-so done closed a (one.whole a is).0) (one.whole a is).1;
@@ -245,7 +209,7 @@ module _ {O S A : Type 0} (r : Reporting O) (j : Joins r) (device : S → Device
   }
 
 pub closed-told : {O S A : Type 0} (r : Reporting O) (j : Joins r) (device : S → DeviceState) (items_of : A → List S) (c : Course O) (m : Moment) (out out' : O) (told : HasTold r c m out) (done : Result A Ended) (old lines kept : List Line) (answer : Result A RunFault)
-    → Closes device items_of c.setup m done old lines → old ≡ [] → kept ≡ lines → Reported r done kept out answer out' → RunsFrom r c (λ (a : A). AreLeft device (items_of a)) answer out'
+    → Closes device items_of c.setup m done old lines → old ≡ [] → kept ≡ lines → Reported r done kept out answer out' → RunsFrom r c (λ (a : A). AreLeft device c.setup (items_of a)) answer out'
 closed-told r j device items_of c m out out' told done old lines kept answer closes empty same one =
     closed-ends r j device items_of c m out out' told lines done answer
     (subst (λ (ls : List Line). Closes device items_of c.setup m done ls lines) empty closes)

@@ -1,5 +1,5 @@
 -- How far a run has come, and what the output of its report took of it.
-use Rattle.std.specs.Prelude.{◌≡◌, ◌≤◌, ℕ, false, List, [], ◌++◌, map, slice_get, Some, Result, Ok, Err, is_ok}
+use Rattle.std.specs.Prelude.{◌≡◌, ◌≤◌, ℕ, false, List, [], ◌++◌, map, length, slice_get, Some, Result, Ok, Err, is_ok}
 use Rattle.jn_device.specs.Device.{DeviceState}
 use Rattle.jn_found.specs.Recoverable.{IsRecoverable}
 use Rattle.jn_host.specs.Outside.{Rose}
@@ -125,6 +125,7 @@ pub record RunsFrom {O A : Type 0} (r : Reporting O) (c : Course O) (Gives : A �
   pub part : is_ok answer ≡ false → TookPart r c now
   pub rose : answer ≡ Err runs.Write → Rose (r.faults c.output) (r.faults now)
 
--- these stores are left
-abbrev pub AreLeft : {S : Type 0} → (S → DeviceState) → List S → Devices → Type 0
-AreLeft {S} device stores closing = (n : ℕ) (s : S) → slice_get stores n ≡ Some s → closing (record { 0 = n }) ≡ device s
+-- these stores are left, one of each server
+pub record AreLeft {S : Type 0} (device : S → DeviceState) (x : Setup) (stores : List S) (closing : Devices) : Type 0 where
+  pub count : length stores ≡ x.servers
+  pub each : (n : ℕ) (s : S) → slice_get stores n ≡ Some s → closing (record { 0 = n }) ≡ device s

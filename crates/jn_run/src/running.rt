@@ -60,21 +60,14 @@ pub fn run_from<O, R: Reporter<O>>(
     requires stores { AreStores (⟦<Pairs<MemDisk> as StableStore>⟧.view) 0 stores.items }
     requires few { length events.now ≤ 100000 }
     requires range { AllByRecursion EventInRange events.now }
-    ensures count { IfOk result (λ left. length left.items ≡ length stores.items) }
     ensures ran { (x : Setup) (files : AllFiles) (epochs : AnyServer → ℕ) (images : Devices) → AreStoresOf (⟦<Pairs<MemDisk> as Powered>⟧.device) x stores.items images → x.trace ≡ trace → AreImages x files epochs images
-        → RunsFrom R.reporting (course_of x events.now images output.old) (λ left. AreLeft (⟦<Pairs<MemDisk> as Powered>⟧.device) left.items) result output.new }
+        → RunsFrom R.reporting (course_of x events.now images output.old) (λ left. AreLeft (⟦<Pairs<MemDisk> as Powered>⟧.device) x left.items) result output.new }
 {
-    let servers = stores.len();
     // One list for all events, so that none takes memory of its own for its lines.
     let mut lines = Vec::new(alloc);
     let mut world = open_world(alloc, trace, stores, &mut lines, reporter, output)?;
     run_events(&mut world, 0, events, &mut lines, reporter, output)?;
-    let left = close_world(world, &mut lines, reporter, output)?;
-    if left.len() != servers {
-        // There are as many: a world gives back the store of each of its servers.
-        return Err(RunFault::Memory);
-    }
-    Ok(left)
+    close_world(world, &mut lines, reporter, output)
 }
 
 /// Does events one after another, when so many have begun and any may follow.
@@ -153,7 +146,7 @@ pub fn close_world<O, R: Reporter<O>>(
     requires world { IsWorld (⟦<Pairs<MemDisk> as StableStore>⟧.view) world }
     ensures ran { (c : Course O) (m : Moment) → HasTold R.reporting c m output.old
         → StandsBefore (⟦<Pairs<MemDisk> as StableStore>⟧.view) (⟦<Pairs<MemDisk> as Powered>⟧.device) c.setup [] world m
-        → RunsFrom R.reporting c (λ left. AreLeft (⟦<Pairs<MemDisk> as Powered>⟧.device) left.items) result output.new }
+        → RunsFrom R.reporting c (λ left. AreLeft (⟦<Pairs<MemDisk> as Powered>⟧.device) c.setup left.items) result output.new }
 {
     lines.clear();
     let closed = world.close(lines);

@@ -68,7 +68,7 @@ fn run_drawn<O, R: Reporter<O>>(
     requires few { length drawn ≤ 100000 }
     requires range { AllByRecursion EventInRange drawn }
     ensures ran { (x : Setup) (files : AllFiles) (epochs : AnyServer → ℕ) (images : Devices) → AreStoresOf (⟦<Pairs<MemDisk> as Powered>⟧.device) x stores.items images → x.trace ≡ false → AreImages x files epochs images
-        → RunsFrom R.reporting (course_of x drawn images output.old) (λ left. AreLeft (⟦<Pairs<MemDisk> as Powered>⟧.device) left.items) result output.new }
+        → RunsFrom R.reporting (course_of x drawn images output.old) (λ left. AreLeft (⟦<Pairs<MemDisk> as Powered>⟧.device) x left.items) result output.new }
 {
     let mut lines = Vec::new(alloc);
     let mut world = open_world(alloc, false, stores, &mut lines, reporter, output)?;

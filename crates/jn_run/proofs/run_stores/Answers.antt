@@ -1,4 +1,5 @@
-use Rattle.std.proofs.Common.{◌∙◌, Err, List, Vec, ap, map, refl}
+use Rattle.std.proofs.Common.{◌∙◌, ℕ, ◌≤◌, Err, List, Vec, ap, length, map, refl, subst, sym}
+use Rattle.std.proofs.lemmas.List.{length-map}
 use Rattle.std.specs.declared.alloc.Global.{Global}
 use Rattle.jn_memdisk.specs.declared.disk.MemDisk.{MemDisk}
 use Rattle.jn_recovery.specs.declared.counts.PageCounts.{PageCounts}
@@ -6,6 +7,19 @@ use Rattle.jn_run.proofs.Opened.{opened-so}
 use Rattle.jn_run.proofs.Outcomes.{run-kept, run-limit, run-write, run-memory}
 use Rattle.jn_run.proofs.Stores.{look, device}
 use Rattle.jn_run.proofs.run_stores.Goals as goal
+
+pub keep-requires-clause-few : goal.keep-requires-clause-few
+keep-requires-clause-few g c =
+    let b = opened-so look device (λ s. refl) c.args.options.now (g.I.Keeper.kept c.args.keeper.now) c.args.stores.items c.requires.servers c.requires.opened in
+    let gives = ((c.run_from.ensures.ran b.setup b.files b.epochs b.images b.stores_are b.opens.trace b.are_images).whole c.in-Ok-run_from.left c.in-Ok-run_from.is).gives in
+    subst (λ (n : ℕ). n ≤ 8) (sym (gives.count ∙ b.opens.servers)) c.requires.limits.servers.1
+
+pub keep-requires-clause-counts : goal.keep-requires-clause-counts
+keep-requires-clause-counts g c =
+    let b = opened-so look device (λ s. refl) c.args.options.now (g.I.Keeper.kept c.args.keeper.now) c.args.stores.items c.requires.servers c.requires.opened in
+    let gives = ((c.run_from.ensures.ran b.setup b.files b.epochs b.images b.stores_are b.opens.trace b.are_images).whole c.in-Ok-run_from.left c.in-Ok-run_from.is).gives in
+    ap (λ (xs : List PageCounts). length xs) (c.deref-in-Ok-run_from.ensures.value ∙ c.in-Ok.ensures ∙ ap (λ (xs : List (MemDisk × PageCounts)). map (λ (x : MemDisk × PageCounts). x.1) xs) c.deref.ensures.value)
+    ∙ length-map c.args.stores.items (λ (x : MemDisk × PageCounts). x.1) ∙ b.stores_are.servers ∙ sym gives.count
 
 pub returns-in-Ok-run_from : goal.returns-in-Ok-run_from
 returns-in-Ok-run_from g c = record {
@@ -15,7 +29,7 @@ returns-in-Ok-run_from g c = record {
       run-kept device o text c.args.events.now g.K.Sink.taken g.K.Sink.faults c.args.sink.now c.run_from.new.output (g.I.Keeper.kept c.args.keeper.now) (g.I.Keeper.kept c.keep.new.keeper) earlier (g.I.Keeper.faults c.keep.new.keeper) c.args.stores.items b
       (record { schedule = schedule; few = c.requires.few }) c.requires.limits.servers.1
       c.requires.range (λ (v : Vec MemDisk Global). v.items) c.run_from.result
-      (c.run_from.ensures.ran b.setup b.files b.epochs b.images b.stores_are b.opens.trace b.are_images) c.in-Ok-run_from.left c.in-Ok-run_from.is c.deref-in-Ok-run_from.result.now c.in-Ok-run_from.ensures.count
+      (c.run_from.ensures.ran b.setup b.files b.epochs b.images b.stores_are b.opens.trace b.are_images) c.in-Ok-run_from.left c.in-Ok-run_from.is c.deref-in-Ok-run_from.result.now
       (c.deref-in-Ok-run_from.ensures.value ∙ c.in-Ok.ensures ∙ ap (λ (xs : List (MemDisk × PageCounts)). map (λ (x : MemDisk × PageCounts). x.1) xs) c.deref.ensures.value) (g.I.Keeper.faults c.args.keeper.now) since c.keep.result c.keep.ensures.kept;
 }
 
