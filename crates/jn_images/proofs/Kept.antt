@@ -8,7 +8,8 @@ use Rattle.jn_host.specs.Outside.{Contents, KeeperSaved, Rose, kept_at}
 use Rattle.jn_host.specs.declared.KeepFailure.{KeepFailure}
 use Rattle.jn_image.specs.Form.{counts_of, image_bytes}
 use Rattle.jn_image.specs.declared.image.Image.{Image}
-use Rattle.jn_disks.specs.Disks.{HasPages}
+use Rattle.jn_device.specs.declared.Half.{Half}
+use Rattle.jn_disks.specs.Disks.{AreSound, HasPages}
 use Rattle.std.proofs.lemmas.Slice.Eq.{bytes_eq-Decides}
 use Rattle.std.specs.Str.{bytes_eq}
 use Rattle.jn_host.proofs.Faults.{rose_since}
@@ -16,7 +17,7 @@ use Rattle.jn_host.specs.declared.KeepFailure.TheVariants.{Failed as CallFailed}
 use Rattle.jn_records.specs.StablePages.{Counts}
 use Rattle.jn_recovery.specs.Loading.{counts_by}
 use Rattle.jn_recovery.specs.declared.counts.PageCounts.{PageCounts}
-use Rattle.jn_images.specs.Kept.{Has, IsKept, IsSoundImage, image_name}
+use Rattle.jn_images.specs.Kept.{Has, IsClosed, IsKept, IsSoundImage, image_name}
 use Rattle.jn_images.specs.Saved.{OthersStay, SavesOne, SavedTo, SavesAll}
 use Rattle.jn_images.proofs.Naming.{same-server}
 
@@ -47,6 +48,15 @@ kept-still kept kept' name g q d told same is = record {
   counts = is.counts;
   pages = is.pages;
   bytes = has-still kept kept' (image_name name q.0) (Some (image_bytes is.image)) told same is.bytes;
+}
+
+-- ---- what may be saved
+
+-- the pages of a closed server's disk, sound, are those of an image that has bytes
+pub image-of : (q : ServerNo) (g : Counts) (d : DeviceState) (halves : List Half) → q.0 ≤ 7 → IsClosed q g d → AreSound q g halves → IsSoundImage q (record { server = q; pool = g.pool; heads = g.heads; leaves = g.leaves; pages = halves })
+image-of q g d halves within closed are = record {
+  form = record { server_within = within; pool_within = closed.within.pool; heads_within = closed.within.heads; leaves_within = closed.within.leaves; both_halves = are.size };
+  sound = are.sound;
 }
 
 -- ---- one save

@@ -3,3 +3,4 @@ pub mod Loaded
 pub mod Kept
 pub mod Stores
 pub mod Disks
+pub mod NewDisks

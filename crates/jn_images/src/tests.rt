@@ -1,5 +1,6 @@
 // Disks that are saved, loaded and examined again, and images that are refused.
-ghost use Rattle.std.specs.Prelude.{◌≡◌, IfOk, vec_len};
+ghost use Rattle.std.specs.Prelude.{◌≡◌, ◌∷◌, [], IfOk, vec_len};
+ghost use Rattle.jn_images.specs.Kept.{AreClosed, IsClosed};
 
 use crate::{Cause, ExamineFault, Refusal, examine, load_images, save_images};
 use jn_base::ServerNo;
@@ -10,6 +11,7 @@ use jn_memdisk::MemDisk;
 use jn_records::Root;
 use jn_recovery::PageCounts;
 use jn_stable::Pairs;
+use jn_store::Powered;
 use std::alloc::{AllocError, Global};
 use std::test::Fail;
 
@@ -23,7 +25,9 @@ const COUNTS: PageCounts = PageCounts {
 const SIZE: usize = 181_650;
 
 /// The disk of a new server.
-fn disk(alloc: Global, server: u8) -> Result<Pairs<MemDisk>, AllocError> {
+fn disk(alloc: Global, server: u8) -> Result<Pairs<MemDisk>, AllocError>
+    ensures { IfOk result (λ store. IsClosed (record { 0 = server }) (record { pool = 32; heads = 16; leaves = 128 }) (⟦<Pairs<MemDisk> as Powered>⟧.device store)) }
+{
     let root = Root {
         server: ServerNo(server),
         pool: COUNTS.pool,
@@ -36,7 +40,8 @@ fn disk(alloc: Global, server: u8) -> Result<Pairs<MemDisk>, AllocError> {
 
 /// The disks of two new servers.
 fn two_disks(alloc: Global) -> Result<Vec<Pairs<MemDisk>>, AllocError>
-    ensures { IfOk result (λ stores. vec_len stores ≡ 2) }
+    ensures count { IfOk result (λ stores. vec_len stores ≡ 2) }
+    ensures closed { IfOk result (λ stores. AreClosed (⟦<Pairs<MemDisk> as Powered>⟧.device) stores.items (record { pool = 32; heads = 16; leaves = 128 } ∷ record { pool = 32; heads = 16; leaves = 128 } ∷ [])) }
 {
     let mut stores = Vec::new(alloc);
     stores.push(disk(alloc, 0)?)?;

@@ -12,7 +12,8 @@ use Rattle.jn_found.specs.Pages.{found_on}
 use Rattle.jn_host.specs.Outside.{Contents}
 use Rattle.jn_image.proofs.SoundPages.{sound_pages}
 use Rattle.jn_images.specs.Examined.{IsStoreOf, AreStoresOf as AreStoresOfImages}
-use Rattle.jn_images.specs.Kept.{Has, image_name}
+use Rattle.jn_images.specs.Kept.{AreWithin, Has, image_name}
+use Rattle.jn_options.specs.Words.{IsOpening}
 use Rattle.jn_options.specs.declared.asked.Geometry.{Geometry}
 use Rattle.jn_options.specs.declared.asked.Opening.{Opening}
 use Rattle.jn_options.specs.declared.asked.Opening.TheVariants.{New, Images}
@@ -37,6 +38,11 @@ pub some-at : {A : Type 0} (xs : List A) (n : ℕ) → n < length xs → (x : A)
 some-at [] n lt = absurd (omega (arith, lt))
 some-at (x ∷ xs) zero lt = (x, refl)
 some-at (x ∷ xs) (suc n) lt = some-at xs n (omega (arith, lt))
+
+pub get-below : {A : Type 0} (xs : List A) (n : ℕ) (x : A) → slice_get xs n ≡ Some x → n < length xs
+get-below [] n x at = absurd (cc at)
+get-below (y ∷ xs) zero x at = omega arith
+get-below (y ∷ xs) (suc n) x at = let less = get-below xs n x at in omega (arith, less)
 
 some-is : {A : Type 0} (a b : A) → Some a ≡ Some b → a ≡ b
 some-is a b h = cc
@@ -221,6 +227,17 @@ module _ {S : Type 0} (look : S → StoreView) (device : S → DeviceState) (see
       by : (a : Opening) → o.opening ≡ a → AreOpened look device a kept stores → Opened device o kept stores
       by (New g) is disks = new-opened g disks is
       by (Images name) is given = images-opened name given.0 given.1 given.2 is
+
+-- ---- their counts of pages
+
+-- are those that images may have
+pub within-of : {S : Type 0} (look : S → StoreView) (device : S → DeviceState) (opening : Opening) (kept : Option Contents) (stores : List (S × PageCounts)) → IsOpening opening → AreOpened look device opening kept stores
+    → (n : ℕ) (x : S × PageCounts) → slice_get stores n ≡ Some x → AreWithin (counts_by x.1)
+within-of look device (New g) kept stores is disks n x at = subst (λ (c : PageCounts). AreWithin (counts_by c)) (sym (disks n x at).counts) (record { pool = is.pool; heads = is.heads; leaves = is.leaves })
+within-of look device (Images name) kept stores is given n x at =
+    let disk = (given.2 n x at).disk in
+    let form = disk.is_sound.form in
+    subst (λ (g : Counts). AreWithin g) disk.counts (record { pool = form.pool_within; heads = form.heads_within; leaves = form.leaves_within })
 
 -- ---- what is found on devices is found once
 

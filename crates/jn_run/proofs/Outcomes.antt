@@ -7,12 +7,15 @@ use Rattle.jn_base.specs.declared.names.ServerNo.{ServerNo}
 use Rattle.jn_device.specs.Device.{DeviceState}
 use Rattle.jn_host.specs.Outside.{Contents, Rose}
 use Rattle.jn_host.proofs.Faults.{rose_since}
-use Rattle.jn_images.specs.Kept.{IsKept}
+use Rattle.jn_found.specs.Images.{IsImage}
+use Rattle.jn_images.specs.Kept.{AreClosed, AreWithin, IsKept}
 use Rattle.jn_images.specs.Saved.{SavedTo}
 use Rattle.jn_images.specs.Texts.{refusal_text}
 use Rattle.jn_images.specs.declared.refusal.Refusal.{Refusal}
-use Rattle.jn_records.specs.StablePages.{Counts}
+use Rattle.jn_records.specs.StablePages.{Counts, page_count}
+use Rattle.jn_recovery.specs.Loading.{counts_by}
 use Rattle.jn_recovery.specs.declared.counts.PageCounts.{PageCounts}
+use Rattle.jn_rows.specs.Stable.{StableState, stable}
 use Rattle.jn_schedule.specs.declared.Event.{Event}
 use Rattle.jn_schedule.specs.Ranges.{EventInRange}
 use Rattle.jn_schedule.specs.Faults.{IsFirstFault}
@@ -26,7 +29,10 @@ use Rattle.jn_options.specs.declared.asked.Options.{Options}
 use Rattle.jn_options.specs.declared.asked.Opening.TheVariants.{Images}
 use Rattle.jn_order.specs.Files.{AllFiles}
 use Rattle.jn_writing.specs.Writing.{Took, TookFront, writes_to}
+use Rattle.jn_store.specs.Pairs.{pairs_view}
+use Rattle.jn_world.specs.Images.{HasFilesAlone}
 use Rattle.jn_written.specs.Devices.{Devices}
+use Rattle.jn_written.specs.Runs.{Moment}
 use Rattle.jn_written.specs.Whole.{AreImages, IsWhole as IsWholeRun, IsLimited, IsPartOfRun}
 use Rattle.jn_report.specs.declared.line.Line.{Line}
 use Rattle.jn_report.specs.Text.{report_text}
@@ -37,7 +43,7 @@ use Rattle.jn_run.specs.declared.running.RunFault.TheVariants as runs
 use Rattle.jn_run.specs.Keeping.{KeptWith}
 use Rattle.jn_run.specs.Outcome.{LeavesFiles, Accepted, AreKept, IsRefusedImage, Keeps, KeepsFirst, OfImage, OfRefusal, OfReport, OfWords, OutcomeOf, OutcomeOn, IsUntouched, Outputs, Outside, IsText, most_bytes, Ran, Reads, Refuses, RefusesWords, refused_line, IsWhole, IsPart, IsCutShort, RanInPart, RanUnkept, RanWhole}
 use Rattle.jn_run.specs.Running.{course_of, AreLeft, RunsFrom, TookWhole}
-use Rattle.jn_run.proofs.Opened.{Opened, one-files, some-at}
+use Rattle.jn_run.proofs.Opened.{Opened, get-below, one-files, some-at}
 
 -- words that are refused
 pub words-outcome : (o : Outside) (status : Status) → RefusesWords o.taken o.write_faults status o.taken' o.write_faults' → o.kept' ≡ o.kept → OutcomeOf None o status
@@ -143,7 +149,36 @@ module _ {S : Type 0} (device : S → DeviceState) (options : Options) (kept : O
 
   -- ---- what is kept of it
 
-  module _ (closing : Devices) (left : List S) (counts : List PageCounts) (theirs : AreLeft device b.setup left closing) (counts_are : counts ≡ map (λ (x : S × PageCounts). x.1) stores) where
+  -- where the store of a server is, there is one that it began with, of the same counts
+  module _ (left : List S) (counts : List PageCounts) (counts_are : counts ≡ map (λ (x : S × PageCounts). x.1) stores) where
+    its-counts : (q : ServerNo) (x : S × PageCounts) → slice_get stores q.0 ≡ Some x → slice_get counts q.0 ≡ Some x.1
+    its-counts q x there = ap (λ (xs : List PageCounts). slice_get xs q.0) counts_are ∙ slice_get-map (λ (x : S × PageCounts). x.1) stores q.0 ∙ ap (λ (y : Option (S × PageCounts)). option_map (λ (x : S × PageCounts). x.1) y) there
+
+    -- nothing but files is left at any server, so its store is that of an image
+    pub left-closed : (closing : Devices) (lines : List Line) (run : IsWholeRun b.setup events b.images closing lines) → AreLeft device b.setup left run.last
+        → ((n : ℕ) (x : S × PageCounts) → slice_get stores n ≡ Some x → AreWithin (counts_by x.1)) → AreClosed device left counts
+    left-closed closing lines run theirs within q s g at its =
+        let end = at-the-end b.setup events b.images run.last less range run.written run.stage run.tasks in
+        let below = get-below left q.0 s at in
+        let lt : q.0 < b.setup.servers = subst (λ (n : ℕ). q.0 < n) theirs.count below in
+        let (x, there) = some-at stores q.0 (subst (λ (n : ℕ). q.0 < n) (sym b.stores_are.servers) lt) in
+        let same : b.setup.counts q ≡ counts_by g = b.stores_are.counts q.0 x there ∙ ap (λ (h : PageCounts). counts_by h) (some-is x.1 g (sym (its-counts q x there) ∙ its)) in
+        let found = end.found q (λ n. false) lt in
+        let alone : HasFilesAlone (stable (run.last.state.course.world.found q)) = record {
+          works = λ W. ap (λ (y : StableState). y.works W) found ∙ end.works q (λ n. false) W lt;
+          flags = λ T. ap (λ (y : StableState). y.flags T) found ∙ end.flags q (λ n. false) T lt;
+        } in
+        record {
+          within = subst (λ (h : PageCounts). AreWithin (counts_by h)) (some-is x.1 g (sym (its-counts q x there) ∙ its)) (within q.0 x there);
+          files = (stable (run.last.state.course.world.found q)).files;
+          image = subst (λ (h : Counts). IsImage q h (stable (run.last.state.course.world.found q)).files (pairs_view (device s))) same (theirs.images q.0 s at alone);
+          count = subst (λ (h : Counts). page_count h ≡ (pairs_view (device s)).count) same (subst (λ (d : DeviceState). page_count (b.setup.counts q) ≡ (pairs_view d).count) (theirs.each q.0 s at) (end.count q lt));
+        }
+      where
+        some-is : (a c : PageCounts) → Some a ≡ Some c → a ≡ c
+        some-is a c h = cc
+
+  module _ (closing : Devices) (last : Moment) (closing_is : last.devices ≡ closing) (left : List S) (counts : List PageCounts) (theirs : AreLeft device b.setup left last) (counts_are : counts ≡ map (λ (x : S × PageCounts). x.1) stores) where
     as_many : length left ≡ length stores
     as_many = theirs.count ∙ sym b.stores_are.servers
 
@@ -153,9 +188,8 @@ module _ {S : Type 0} (device : S → DeviceState) (options : Options) (kept : O
       disks = λ q lt.
           let (s, at) = some-at left q.0 (omega (arith, lt, fit)) in
           let (x, there) = some-at stores q.0 (subst (λ (k : ℕ). q.0 < k) as_many (omega (arith, lt, fit))) in
-          let its = ap (λ (xs : List PageCounts). slice_get xs q.0) counts_are ∙ slice_get-map (λ (x : S × PageCounts). x.1) stores q.0 ∙ ap (λ (y : Option (S × PageCounts)). option_map (λ (x : S × PageCounts). x.1) y) there in
-          let is = saved.are_kept q s x.1 lt at its in
-          subst (λ (d : DeviceState). IsKept kept' name (b.setup.counts q) q d) (sym (theirs.each q.0 s at))
+          let is = saved.are_kept q s x.1 lt at (its-counts left counts counts_are q x there) in
+          subst (λ (d : DeviceState). IsKept kept' name (b.setup.counts q) q d) (sym (ap (λ (ds : Devices). ds q) (sym closing_is) ∙ theirs.each q.0 s at))
           (subst (λ (g : Counts). IsKept kept' name g q (device s)) (sym (b.stores_are.counts q.0 x there)) is);
       others = saved.stay;
     }
@@ -218,7 +252,7 @@ module _ {S K : Type 0} (device : S → DeviceState) (options : Options) (text :
       unkept-told l l' rf rf' told fits keeps = told-of _ _ (Took before.taken after.taken) text events (record { told = told; fits = fits }) a whole.lines (w, keeps) whole.took
 
       first : (name : List ℕ) → options.closing ≡ Some name → (n : ℕ) × (n < length (items_of left)) × SavedTo device name (items_of left) counts n before.kept after.kept → KeepsFirst options.closing before.kept b.setup whole.closing after.kept
-      first name e h = subst (λ (c : Option (List ℕ)). KeepsFirst c before.kept b.setup whole.closing after.kept) (sym e) (first-kept device options before.kept stores b few events range whole.closing (items_of left) counts whole.gives counts_are name after.kept h)
+      first name e h = subst (λ (c : Option (List ℕ)). KeepsFirst c before.kept b.setup whole.closing after.kept) (sym e) (first-kept device options before.kept stores b few events range whole.closing whole.whole.last whole.whole.closing_is (items_of left) counts whole.gives counts_are name after.kept h)
 
       by : (c : Option (List ℕ)) → options.closing ≡ c → (status : Status) → KeptWith device (items_of left) counts c before.kept faults status after.kept after.keep_faults → OutcomeOn options text before status after
       by None e status k = subst (λ (s : Status). OutcomeOn options text before s after) (sym k.0)
@@ -228,7 +262,7 @@ module _ {S K : Type 0} (device : S → DeviceState) (options : Options) (text :
         refl,
         whole-told l l' rf rf' told fits
             (subst (λ (c : Option (List ℕ)). Keeps c before.kept b.setup whole.closing after.kept) (sym e)
-            (all-kept device options before.kept stores b few events range whole.closing (items_of left) counts whole.gives counts_are name after.kept k)),
+            (all-kept device options before.kept stores b few events range whole.closing whole.whole.last whole.whole.closing_is (items_of left) counts whole.gives counts_are name after.kept k)),
       )
       by (Some name) e statuses.Keep k = λ l l' rf rf' told fits. (rose_since before.keep_faults faults after.keep_faults since k.0 k.1, inr (options, refl, unkept-told l l' rf rf' told fits (first name e k.2)))
       by (Some name) e statuses.Memory k = λ l l' rf rf' told fits. inr (inr (options, refl, unkept-told l l' rf rf' told fits (first name e k)))

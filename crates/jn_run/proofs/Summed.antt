@@ -15,7 +15,7 @@ use Rattle.jn_summary.specs.Summary.{summary_text}
 use Rattle.jn_summary.specs.Summing.{sums_up}
 use Rattle.jn_summary.specs.Taken.{HasTaken}
 use Rattle.jn_summary.specs.declared.summary.Summary.{Summary}
-use Rattle.jn_written.specs.Devices.{Devices}
+use Rattle.jn_written.specs.Runs.{Moment}
 use Rattle.jn_run.specs.Outcome.{trial_events, trial_options, IsCutShort, IsWhole, RanTrial, TrialToLimit}
 use Rattle.jn_run.specs.Running.{course_of, RunsFrom}
 use Rattle.jn_run.specs.Trial.{SumsUp}
@@ -36,7 +36,7 @@ never-rises (inl less) = omega (arith, less)
 never-rises (inr last) = omega (arith, last)
 
 module _ {S A : Type 0} (device : S → DeviceState) (trial : Trial) (kept : Option Contents) (stores : List (S × PageCounts)) (b : Opened device trial_options kept stores) (events : List Event) (same : events ≡ trial_events trial)
-    (Gives : A → Devices → Type 0) (answer : Result A RunFault) (summary summary' : Summary) (ran : RunsFrom sums_up (course_of b.setup events b.images summary) Gives answer summary') where
+    (Gives : A → Moment → Type 0) (answer : Result A RunFault) (summary summary' : Summary) (ran : RunsFrom sums_up (course_of b.setup events b.images summary) Gives answer summary') where
   two : trial_options.servers ≤ 8
   two = omega arith
 

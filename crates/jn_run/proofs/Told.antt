@@ -24,7 +24,6 @@ use Rattle.jn_stands.specs.Going.{WentOn}
 use Rattle.jn_world.specs.declared.ended.Ended.{Ended}
 use Rattle.jn_world.specs.declared.ended.Ended.TheVariants.{Messages, Epoch, Memory}
 use Rattle.jn_world.specs.Written.{standing_of, GoesTo, StartsAt, Closes, IsClosed}
-use Rattle.jn_written.specs.Devices.{Devices}
 use Rattle.jn_run.specs.declared.running.RunFault.{RunFault}
 use Rattle.jn_run.specs.declared.running.RunFault.TheVariants as runs
 use Rattle.jn_run.specs.Running.{Course, AreLeft, HasTold, StandsBefore, TookLimited, TookPart, ToldTo, Reaches, RunsFrom, TookWhole, Reported, lines_kept, is_limit}
@@ -141,7 +140,7 @@ event-number r look device c n out rest w told stands =
 
 module _ {O : Type 0} (r : Reporting O) (c : Course O) where
   -- a call whose fault is handed on
-  pub faulted : {A B : Type 0} (Then : A → Moment → Type 0) (Gives : B → Devices → Type 0) (x : Result A RunFault) (s : Result B RunFault) (e : RunFault) (out : O) → x ≡ Err e → s ≡ Err e → Reaches r c Then x out → RunsFrom r c Gives s out
+  pub faulted : {A B : Type 0} (Then : A → Moment → Type 0) (Gives : B → Moment → Type 0) (x : Result A RunFault) (s : Result B RunFault) (e : RunFault) (out : O) → x ≡ Err e → s ≡ Err e → Reaches r c Then x out → RunsFrom r c Gives s out
   faulted Then Gives x s e out is same one = record {
     count = one.count;
     whole = λ b ok. absurd (true≢false (sym (ap is_ok ok) ∙ ap is_ok same));
@@ -183,7 +182,7 @@ module _ {O S A : Type 0} (r : Reporting O) (j : Joins r) (device : S → Device
       let lines_are = new-lines m.state.lines closed.told.new lines closed.last.state.lines closed.told.here closed.told.there in
       record {
         closing = closed.last.devices;
-        gives = record { count = closed.servers; each = closed.devices };
+        gives = record { count = closed.servers; each = closed.devices; images = closed.images };
         lines = closed.last.state.lines;
         whole = record { last = closed.last; written = further c m closed.last told.written closed.leads; stage = closed.stage; tasks = closed.tasks; closing_is = refl; lines_are = refl };
         took = all-taken r j c m out out' told closed.last lines lines_are took;

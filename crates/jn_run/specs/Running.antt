@@ -19,7 +19,7 @@ use Rattle.jn_stands.specs.Stands.{Stands}
 use Rattle.jn_world.specs.declared.ended.Ended.{Ended}
 use Rattle.jn_world.specs.declared.ended.Ended.TheVariants as ends
 use Rattle.jn_world.specs.declared.world.World.{World}
-use Rattle.jn_world.specs.Written.{standing_of}
+use Rattle.jn_world.specs.Written.{GivesImage, standing_of}
 use Rattle.jn_run.specs.declared.running.RunFault.{RunFault}
 use Rattle.jn_run.specs.declared.running.RunFault.TheVariants as runs
 
@@ -110,22 +110,23 @@ pub record ReportedLast {O : Type 0} (r : Reporting O) (lines : List Line) (befo
 
 -- ---- a whole run
 
--- the end came with devices of which this holds, and the output took each line
-pub record TookWhole {O : Type 0} (r : Reporting O) (c : Course O) (Gives : Devices → Type 0) (now : O) : Type 0 where
+-- the end came, this holds of its moment, and the output took each line
+pub record TookWhole {O : Type 0} (r : Reporting O) (c : Course O) (Gives : Moment → Type 0) (now : O) : Type 0 where
   pub closing : Devices
-  pub gives : Gives closing
   pub lines : List Line
   pub whole : IsWhole c.setup c.schedule c.images closing lines
+  pub gives : Gives whole.last
   pub took : r.took c.output now lines
 
-pub record RunsFrom {O A : Type 0} (r : Reporting O) (c : Course O) (Gives : A → Devices → Type 0) (answer : Result A RunFault) (now : O) : Type 0 where
+pub record RunsFrom {O A : Type 0} (r : Reporting O) (c : Course O) (Gives : A → Moment → Type 0) (answer : Result A RunFault) (now : O) : Type 0 where
   pub count : r.faults c.output ≤ r.faults now
   pub whole : (a : A) → answer ≡ Ok a → TookWhole r c (Gives a) now
   pub limit : answer ≡ Err runs.Limit → TookLimited r c now
   pub part : is_ok answer ≡ false → TookPart r c now
   pub rose : answer ≡ Err runs.Write → Rose (r.faults c.output) (r.faults now)
 
--- these stores are left, one of each server
-pub record AreLeft {S : Type 0} (device : S → DeviceState) (x : Setup) (stores : List S) (closing : Devices) : Type 0 where
+-- these stores are left, one of each server, and each is that of an image where the server has nothing but files
+pub record AreLeft {S : Type 0} (device : S → DeviceState) (x : Setup) (stores : List S) (m : Moment) : Type 0 where
   pub count : length stores ≡ x.servers
-  pub each : (n : ℕ) (s : S) → slice_get stores n ≡ Some s → closing (record { 0 = n }) ≡ device s
+  pub each : (n : ℕ) (s : S) → slice_get stores n ≡ Some s → m.devices (record { 0 = n }) ≡ device s
+  pub images : (n : ℕ) (s : S) → slice_get stores n ≡ Some s → GivesImage x m (record { 0 = n }) (device s)

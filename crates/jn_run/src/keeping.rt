@@ -1,6 +1,7 @@
 //! The disks that a run leaves, as images.
 
 ghost use Rattle.std.specs.Prelude.{◌≡◌, ◌≤◌, length};
+ghost use Rattle.jn_images.specs.Kept.{AreClosed};
 ghost use Rattle.jn_run.specs.Keeping.{KeptAs, KeptWith};
 
 use crate::running::Disks;
@@ -24,6 +25,7 @@ pub fn keep<I: Keeper>(
 ) -> Status
     requires few { length stores.items ≤ 8 }
     requires counts { length counts.now ≡ length stores.items }
+    requires closed { AreClosed (⟦<Pairs<MemDisk> as Powered>⟧.device) stores.items counts.now }
     ensures kept { KeptWith (⟦<Pairs<MemDisk> as Powered>⟧.device) stores.items counts.now options.now.closing (I.kept keeper.old) (I.faults keeper.old) result (I.kept keeper.new) (I.faults keeper.new) }
 {
     match &options.closing {
@@ -42,6 +44,7 @@ fn keep_as<I: Keeper>(
 ) -> Status
     requires few { length stores.items ≤ 8 }
     requires counts { length counts.now ≡ length stores.items }
+    requires closed { AreClosed (⟦<Pairs<MemDisk> as Powered>⟧.device) stores.items counts.now }
     ensures kept { KeptAs (⟦<Pairs<MemDisk> as Powered>⟧.device) stores.items counts.now name.now (I.kept keeper.old) (I.faults keeper.old) result (I.kept keeper.new) (I.faults keeper.new) }
 {
     match save_images(alloc, keeper, name, stores, counts) {

@@ -3,8 +3,8 @@ use Rattle.std.proofs.lemmas.List.{length-map}
 use Rattle.std.specs.declared.alloc.Global.{Global}
 use Rattle.jn_memdisk.specs.declared.disk.MemDisk.{MemDisk}
 use Rattle.jn_recovery.specs.declared.counts.PageCounts.{PageCounts}
-use Rattle.jn_run.proofs.Opened.{opened-so}
-use Rattle.jn_run.proofs.Outcomes.{run-kept, run-limit, run-write, run-memory}
+use Rattle.jn_run.proofs.Opened.{opened-so, within-of}
+use Rattle.jn_run.proofs.Outcomes.{left-closed, run-kept, run-limit, run-write, run-memory}
 use Rattle.jn_run.proofs.Stores.{look, device}
 use Rattle.jn_run.proofs.run_stores.Goals as goal
 
@@ -20,6 +20,16 @@ keep-requires-clause-counts g c =
     let gives = ((c.run_from.ensures.ran b.setup b.files b.epochs b.images b.stores_are b.opens.trace b.are_images).whole c.in-Ok-run_from.left c.in-Ok-run_from.is).gives in
     ap (λ (xs : List PageCounts). length xs) (c.deref-in-Ok-run_from.ensures.value ∙ c.in-Ok.ensures ∙ ap (λ (xs : List (MemDisk × PageCounts)). map (λ (x : MemDisk × PageCounts). x.1) xs) c.deref.ensures.value)
     ∙ length-map c.args.stores.items (λ (x : MemDisk × PageCounts). x.1) ∙ b.stores_are.servers ∙ sym gives.count
+
+pub keep-requires-clause-closed : goal.keep-requires-clause-closed
+keep-requires-clause-closed g c =
+    let o = c.args.options.now in
+    let kept = g.I.Keeper.kept c.args.keeper.now in
+    let b = opened-so look device (λ s. refl) o kept c.args.stores.items c.requires.servers c.requires.opened in
+    let whole = (c.run_from.ensures.ran b.setup b.files b.epochs b.images b.stores_are b.opens.trace b.are_images).whole c.in-Ok-run_from.left c.in-Ok-run_from.is in
+    left-closed device o kept c.args.stores.items b c.requires.limits.servers.1 c.args.events.now c.requires.range c.in-Ok-run_from.left.items c.deref-in-Ok-run_from.result.now
+    (c.deref-in-Ok-run_from.ensures.value ∙ c.in-Ok.ensures ∙ ap (λ (xs : List (MemDisk × PageCounts)). map (λ (x : MemDisk × PageCounts). x.1) xs) c.deref.ensures.value) whole.closing whole.lines whole.whole whole.gives
+    (within-of look device o.opening kept c.args.stores.items c.requires.limits.opening c.requires.opened)
 
 pub returns-in-Ok-run_from : goal.returns-in-Ok-run_from
 returns-in-Ok-run_from g c = record {

@@ -11,6 +11,28 @@ use Rattle.jn_images.proofs.Kept.{fails-all, saved-more, get-some}
 use Rattle.std.specs.Prelude.{get_or, is_ok}
 use Rattle.jn_images.proofs.saving.save_images.Goals as goal
 
+pub save_image-requires-clause-closed : goal.save_image-requires-clause-closed
+save_image-requires-clause-closed g c =
+    let xs = c.args.stores.items in
+    let gives = c.into_iter-store-iterator.ensures.into_iter_gives in
+    let long = c.args.stores.ok.0 in
+    let t = YieldsList-turn (YieldsList-from_vec {s = c.into_iter-store-iterator.result} xs (cc) (cc)) c.loop-store.yielded c.loop-store.store-iterator c.loop-store.yielded_by c.next.result c.next.new.self c.in-Some.store c.in-Some.is c.next.ensures.steps in
+    let n = c.loop-store.server in
+    let many = c.loop-store.invariant.count in
+    let lt : n < length xs = subst (λ (k : ℕ). k < length xs) many t.0 in
+    let d : PageCounts = record { pool = 0; heads = 0; leaves = 0 } in
+    let place : c.from.result ≡ n = c.from.ensures in
+    c.requires.closed (record { 0 = n }) c.in-Some.store (get_or c.args.counts.now c.from.result d) (get-some xs n c.in-Some.store lt (subst (λ (k : ℕ). c.in-Some.store ≡ get_or xs k c.in-Some.store) many t.1))
+    (subst (λ (k : ℕ). slice_get c.args.counts.now k ≡ Some (get_or c.args.counts.now c.from.result d)) place (slice_get-get_or c.args.counts.now c.from.result d (omega (arith, lt, long, c.requires.counts, place))))
+
+pub save_image-requires-clause-server : goal.save_image-requires-clause-server
+save_image-requires-clause-server g c =
+    let xs = c.args.stores.items in
+    let gives = c.into_iter-store-iterator.ensures.into_iter_gives in
+    let t = YieldsList-turn (YieldsList-from_vec {s = c.into_iter-store-iterator.result} xs (cc) (cc)) c.loop-store.yielded c.loop-store.store-iterator c.loop-store.yielded_by c.next.result c.next.new.self c.in-Some.store c.in-Some.is c.next.ensures.steps in
+    let lt : c.loop-store.server < length xs = subst (λ (k : ℕ). k < length xs) c.loop-store.invariant.count t.0 in
+    omega (arith, lt, c.args.stores.ok.0, c.requires.few)
+
 pub returns-in_err-save_image : goal.returns-in_err-save_image
 returns-in_err-save_image g c =
     let xs = c.args.stores.items in

@@ -1,0 +1,146 @@
+-- The disk of a new server is that of one that was closed.
+use Rattle.std.proofs.Common.{◌≡◌, ℕ, zero, suc, ◌+◌, ◌*◌, ◌-◌, ◌/◌, ◌<◌, ◌≤◌, ◌^◌, Bool, true, false, true≢false, if◌then◌else◌, List, [], ◌∷◌, slice_get, Some, None, Result, Ok, Err, drop, replicate, refl, sym, ◌∙◌, ap, subst, arith}
+use Rattle.std.proofs.lemmas.Bool.Decides.{nat_tests}
+use Rattle.std.specs.Prelude.{IfOk, nat_lt, nat_eq}
+use Rattle.jn_base.specs.declared.names.ServerNo.{ServerNo}
+use Rattle.jn_device.specs.Device.{DeviceState, blank_page}
+use Rattle.jn_disks.specs.Disks.{IsNewStore, counts_of, new_page}
+use Rattle.jn_found.specs.Images.{CountsFit, IsImage, image_on, place_in}
+use Rattle.jn_records.specs.declared.head.Head.TheVariants.{Free as FreeHead}
+use Rattle.jn_records.specs.declared.record.Record.TheVariants.{Free}
+use Rattle.jn_records.specs.declared.root.Root.{Root}
+use Rattle.jn_records.specs.Heads.{head_page}
+use Rattle.jn_records.specs.Pages.{root_page}
+use Rattle.jn_records.specs.Records.{record_page}
+use Rattle.jn_records.specs.Sound.{Image, IsSound}
+use Rattle.jn_records.specs.StablePages.{Counts, page_count, slot_place, head_place, data_place, is_used, files_of_pages}
+use Rattle.jn_recovery.specs.Loading.{counts_by}
+use Rattle.jn_recovery.specs.declared.counts.PageCounts.{PageCounts}
+use Rattle.jn_store.specs.Pairs.{pairs_view}
+use Rattle.jn_store.specs.Store.{StoreView}
+use Rattle.jn_images.specs.Kept.{AreClosed, AreWithin, IsClosed}
+
+-- ---- the page of zeros
+
+blank_record : blank_page ≡ record_page Free
+unfolding blank_page record_page
+blank_record = refl
+
+blank_head : blank_page ≡ head_page FreeHead
+unfolding blank_page head_page
+blank_head = refl
+
+blank_unused : is_used blank_page ≡ false
+unfolding blank_page
+blank_unused = refl
+
+blank_tail : drop 448 blank_page ≡ replicate 64 0
+unfolding blank_page
+blank_tail = refl
+
+-- ---- the image
+
+below-is : (a b : ℕ) → a < b → nat_lt a b ≡ true
+below-is a b h = grind (arith, nat_tests)
+
+past-is : (a b : ℕ) → nat_lt (a + b) b ≡ false
+past-is a b = grind (arith, nat_tests)
+
+back-is : (a b : ℕ) → a + b - b ≡ a
+back-is a b = omega arith
+
+module _ (root : Root) (epoch : root.epoch < 2 ^ 32) (v : StoreView) (new : IsNewStore root v) where
+  abbrev g : Counts
+  g = counts_of root
+
+  abbrev m : Image
+  m = image_on root.server (counts_of root) v
+
+  inside : (p : ℕ) → p < page_count (counts_of root) → p < v.count
+  inside p lt = subst (λ (n : ℕ). p < n) (sym new.count) lt
+
+  -- both halves are what stands there
+  first-is : (p : ℕ) → p < page_count (counts_of root) → m.bytes p ≡ new_page root p
+  first-is p lt = ap (λ b. if b then v.first p else v.second (p - v.count)) (below-is p v.count (inside p lt)) ∙ (new.pages p (inside p lt)).first
+
+  second-is : (p : ℕ) → p < page_count (counts_of root) → m.bytes (p + page_count (counts_of root)) ≡ new_page root p
+  second-is p lt = ap (λ (n : ℕ). m.bytes (p + n)) (sym new.count)
+      ∙ ap (λ b. if b then v.first (p + v.count) else v.second (p + v.count - v.count)) (past-is p v.count)
+      ∙ ap v.second (back-is p v.count) ∙ (new.pages p (inside p lt)).second
+
+  good : (p : ℕ) → p < 2 * page_count (counts_of root) → v.both (place_in v.count p) ≡ true
+  good p lt = by (nat_lt p v.count) refl
+    where
+      within : (a n k : ℕ) → nat_lt a n ≡ true → a < n
+      within a n k e = grind (arith, nat_tests, e)
+
+      behind : (a n k : ℕ) → nat_lt a n ≡ false → n ≡ k → a < 2 * k → a - n < n
+      behind a n k e s l = grind (arith, nat_tests, e, s, l)
+
+      by : (b : Bool) → nat_lt p v.count ≡ b → v.both (if b then p else p - v.count) ≡ true
+      by true e = (new.untouched.whole p (within p v.count 0 e)).both
+      by false e = (new.untouched.whole (p - v.count) (behind p v.count (page_count (counts_of root)) e new.count lt)).both
+
+  blank : (p : ℕ) → 0 < p → p < page_count (counts_of root) → m.bytes p ≡ blank_page
+  blank p least lt = first-is p lt ∙ ap (λ b. if b then root_page root else blank_page) (not-first p least)
+    where
+      not-first : (a : ℕ) → 0 < a → nat_eq a 0 ≡ false
+      not-first a l = grind (arith, nat_tests, l)
+
+  unused : (i : ℕ) → i < root.heads → is_used (m.bytes (head_place (counts_of root) i)) ≡ true → ⊥
+  unused i lt used = true≢false (sym used ∙ ap is_used (blank (head_place (counts_of root) i) (omega arith) (omega (arith, lt))) ∙ blank_unused)
+
+  sound : IsSound root.server (image_on root.server (counts_of root) v)
+  sound = record {
+    server = refl;
+    root = (root.epoch, epoch, first-is 0 (omega arith));
+    good = good;
+    pairs = λ i lt. first-is i lt ∙ sym (second-is i lt);
+    pool = λ i lt. blank (slot_place (counts_of root) i) (omega arith) (omega (arith, lt)) ∙ blank_record;
+    files = λ f i j lt less here there used e. absurd (unused i lt used);
+    heads = λ i lt. (FreeHead, record { whole = refl; within_leaves = refl }, tt, blank (head_place (counts_of root) i) (omega arith) (omega (arith, lt)) ∙ blank_head);
+    addresses = λ a least i j p q at other. absurd (unused i at.head at.used);
+    tails = λ i lt. ap (drop 448) (blank (data_place (counts_of root) i) (omega arith) (omega (arith, lt))) ∙ blank_tail;
+  }
+
+  pub is-image : CountsFit root.server (counts_of root) → IsImage root.server (counts_of root) (files_of_pages (counts_of root) m.bytes) v
+  is-image fit = record { sound = sound; fit = fit; same_files = refl }
+
+pub new-is-closed : (root : Root) → root.epoch < 2 ^ 32 → CountsFit root.server (counts_of root) → AreWithin (counts_of root) → (d : DeviceState) → IsNewStore root (pairs_view d) → IsClosed root.server (counts_of root) d
+new-is-closed root epoch fit within d new = record {
+  within = within;
+  files = files_of_pages (counts_of root) (image_on root.server (counts_of root) (pairs_view d)).bytes;
+  image = is-image root epoch (pairs_view d) new fit;
+  count = sym new.count;
+}
+
+-- two of them
+pub two-closed : {S : Type 0} (device : S → DeviceState) (a b : S) (g : PageCounts) → IsClosed (record { 0 = 0 }) (counts_by g) (device a) → IsClosed (record { 0 = 1 }) (counts_by g) (device b) → AreClosed device (a ∷ b ∷ []) (g ∷ g ∷ [])
+two-closed {S} device a b g one two q s h at its = by q.0 refl
+  where
+    server : ℕ → ServerNo
+    server k = record { 0 = k }
+
+    some : (x y : S) → Some x ≡ Some y → x ≡ y
+    some x y h = cc
+
+    some-counts : (x y : PageCounts) → Some x ≡ Some y → x ≡ y
+    some-counts x y h = cc
+
+    never : (x : S) → None ≡ Some x → ⊥
+    never x h = cc
+
+    by : (n : ℕ) → q.0 ≡ n → IsClosed q (counts_by h) (device s)
+    by zero e =
+        let here = sym (ap (λ (k : ℕ). slice_get (a ∷ b ∷ []) k) e) ∙ at in
+        let there = sym (ap (λ (k : ℕ). slice_get (g ∷ g ∷ []) k) e) ∙ its in
+        subst (λ (p : ServerNo). IsClosed p (counts_by h) (device s)) (ap (λ (k : ℕ). server k) (sym e)) (subst (λ (x : S). IsClosed (server 0) (counts_by h) (device x)) (some a s here) (subst (λ (x : PageCounts). IsClosed (server 0) (counts_by x) (device a)) (some-counts g h there) one))
+    by (suc zero) e =
+        let here = sym (ap (λ (k : ℕ). slice_get (a ∷ b ∷ []) k) e) ∙ at in
+        let there = sym (ap (λ (k : ℕ). slice_get (g ∷ g ∷ []) k) e) ∙ its in
+        subst (λ (p : ServerNo). IsClosed p (counts_by h) (device s)) (ap (λ (k : ℕ). server k) (sym e)) (subst (λ (x : S). IsClosed (server 1) (counts_by h) (device x)) (some b s here) (subst (λ (x : PageCounts). IsClosed (server 1) (counts_by x) (device b)) (some-counts g h there) two))
+    by (suc (suc n)) e = absurd (never s (sym (ap (λ (k : ℕ). slice_get (a ∷ b ∷ []) k) e) ∙ at))
+
+pub map-ok : {A E : Type 0} (P Q : A → Type 0) → ((a : A) → P a → Q a) → (r : Result A E) → IfOk r P → IfOk r Q
+map-ok P Q h (Ok a) p = h a p
+map-ok P Q h (Err e) p = tt
