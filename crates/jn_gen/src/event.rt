@@ -1,10 +1,9 @@
 //! The event that drawn numbers give.
-ghost use Rattle.std.specs.Prelude.{◌≡◌, ◌∷◌, [], IfOk};
-ghost use Rattle.jn_schedule.specs.Grammar.{filled};
+ghost use Rattle.std.specs.Prelude.{◌≡◌, IfOk};
 ghost use Rattle.jn_gen.specs.Trial.{event_of, fault_of};
 
 use crate::draws::Draws;
-use jn_base::{Block, BlockContent, Command, FaultKind, FileNo, Op, Tid};
+use jn_base::{BlockContent, Command, FaultKind, FileNo, Op, Tid};
 use jn_schedule::Event;
 use std::alloc::{AllocError, Global};
 
@@ -25,7 +24,7 @@ pub(crate) fn event_of(alloc: Global, draws: Draws) -> Result<Event, AllocError>
         1 => Event::Command(client, Command::Open(server)),
         2 => Event::Command(client, Command::Do(server, Op::Create(file))),
         3 | 4 => {
-            let content = BlockContent::from_block(alloc, &block_of(byte))?;
+            let content = BlockContent::new(alloc, &[byte])?;
             Event::Command(client, Command::Do(server, Op::Write(file, block, content)))
         }
         5 => Event::Command(client, Command::Do(server, Op::Read(file, block))),
@@ -48,15 +47,6 @@ pub(crate) fn event_of(alloc: Global, draws: Draws) -> Result<Event, AllocError>
         14 => Event::Decay(server, u32::from(byte)),
         _ => Event::Restart(server),
     })
-}
-
-/// The block whose first byte this is, with zeros behind it.
-fn block_of(byte: u8) -> Block
-    ensures { result ≡ filled (byte ∷ []) }
-{
-    let mut block = [0; 448];
-    block[0] = byte;
-    block
 }
 
 /// The fault that is armed, by the number of the file.

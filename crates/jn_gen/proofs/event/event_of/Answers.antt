@@ -37,7 +37,7 @@ returns c =
       | in-3+in_ok-content-in-3 w ↦
           let low : 3 ≤ d.choice = omega arith in
           let high : d.choice ≤ 4 = omega arith in
-          let content : w.in_ok-content-in-3.content ≡ filled (d.byte ∷ []) = w.in_ok-content-in-3.ensures ∙ w.block_of.ensures in
+          let content : w.in_ok-content-in-3.content ≡ filled (d.byte ∷ []) = w.in_ok-content-in-3.ensures in
           w.result-is ∙ ap (λ (b : List ℕ). does d (ops.Write d.file d.block b)) content ∙ sym (writes d low high)
       | in-9-to-12 w ↦ w.result-is ∙ sym (settles d (omega arith) (omega arith))
       | in_default w ↦ w.result-is ∙ sym (restarts d (omega arith))
