@@ -42,22 +42,15 @@ fn wrong_in_call(
     schedule: &[u8],
     lines: &[Line],
 ) -> Result<Option<Wrong>, AllocError> {
-    let count = format!(in alloc; "{}", servers.count)?;
-    let pool = format!(in alloc; "{}", servers.pages.pool)?;
-    let heads = format!(in alloc; "{}", servers.pages.heads)?;
-    let leaves = format!(in alloc; "{}", servers.pages.leaves)?;
-    let words = [
-        "juniper",
-        "run",
-        "--servers",
-        count.as_str(),
-        "--pool",
-        pool.as_str(),
-        "--heads",
-        heads.as_str(),
-        "--data",
-        leaves.as_str(),
-    ];
+    let pages = servers.pages;
+    let line = format!(in alloc;
+        "juniper run --servers {} --pool {} --heads {} --data {}",
+        servers.count, pages.pool, pages.heads, pages.leaves
+    )?;
+    let mut words = Vec::new(alloc);
+    for word in line.split_whitespace() {
+        words.push(word)?;
+    }
     let asked = Call {
         words: &words,
         schedule,
