@@ -3,7 +3,7 @@ use Rattle.std.proofs.Common.{◌≡◌, ◌≢◌, inl, inr, ◌<◌, ◌≤◌
 use Rattle.std.proofs.lemmas.Bool.{cases_eq, cases_lt}
 use Rattle.std.proofs.lemmas.Bool.Decides.{nat_tests}
 use Rattle.std.proofs.lemmas.List.{get_or-set_same, get_or-set_other, get_or_past}
-use Rattle.std.proofs.lemmas.List.Edits.{get_or-insert_at, get_or-insert_below, get_or-insert_above, get_or-remove_below, get_or-remove_above}
+use Rattle.std.proofs.lemmas.List.Edits.{length-remove, get_or-insert_at, get_or-insert_below, get_or-insert_above, get_or-remove_below, get_or-remove_above}
 use Rattle.std.specs.List.{insert, remove}
 use Rattle.std.specs.Prelude.{slice_set, nat_lt, if◌then◌else◌}
 use Rattle.jn_index.specs.declared.Entry.{Entry}
@@ -72,6 +72,50 @@ at_inserted list i j e here = by (nat_lt j i) refl
     by : (b : Bool) → nat_lt j i ≡ b → entry_at (insert list i e) (if b then j else (j + 1)) ≡ entry_at list j
     by true t = get_or-insert_below list i e (entry 0 0) j (grind (arith, nat_tests, t)) here
     by false t = get_or-insert_above list i e (entry 0 0) j (grind (arith, nat_tests, t)) here
+
+skip_before : (out i place : ℕ) → out < place → i < place - 1 → skip out i < place
+unfolding skip
+skip_before out i place lt up = grind (arith, nat_tests, lt, up)
+
+skip_still_before : (out i place : ℕ) → place ≤ out → i < place → skip out i < place
+unfolding skip
+skip_still_before out i place le up = grind (arith, nat_tests, le, up)
+
+skip_behind : (out i place : ℕ) → out < place → place - 1 ≤ i → place ≤ skip out i
+unfolding skip
+skip_behind out i place lt le = grind (arith, nat_tests, lt, le)
+
+skip_still_behind : (out i place : ℕ) → place ≤ i → place ≤ skip out i
+unfolding skip
+skip_still_behind out i place le = grind (arith, nat_tests, le)
+
+skip_past : (out i : ℕ) → out ≤ i → out < skip out i
+unfolding skip
+skip_past out i le = grind (arith, nat_tests, le)
+
+-- a place among all entries but one
+module _ (list : List Entry) (out : ℕ) (here : out < length list) (sought : Entry) where
+  at_other : (i : ℕ) {b : Bool} → is_before (entry_at list (skip out i)) sought ≡ b → is_before (entry_at (remove list out) i) sought ≡ b
+  at_other i e = ap (λ (x : Entry). is_before x sought) (at_removed list out i here) ∙ e
+
+  in_list : (i : ℕ) → i < length (remove list out) → skip out i < length list
+  in_list i lt = skip_below out i (length list) (let shorter = length-remove list out here in omega (arith, lt, shorter))
+
+  pub others_behind : ((k : ℕ) → out < k → k < length list → is_before (entry_at list k) sought ≡ false) → (i : ℕ) → out ≤ i → i < length (remove list out) → is_before (entry_at (remove list out) i) sought ≡ false
+  others_behind behind i le lt = at_other i (behind (skip out i) (skip_past out i le) (in_list i lt))
+
+  module _ (place : ℕ) (before : (k : ℕ) → k < place → is_before (entry_at list k) sought ≡ true) (behind : (k : ℕ) → place ≤ k → k < length list → is_before (entry_at list k) sought ≡ false) where
+    pub before_later : out < place → (i : ℕ) → i < place - 1 → is_before (entry_at (remove list out) i) sought ≡ true
+    before_later lt i up = at_other i (before (skip out i) (skip_before out i place lt up))
+
+    pub behind_later : out < place → (i : ℕ) → place - 1 ≤ i → i < length (remove list out) → is_before (entry_at (remove list out) i) sought ≡ false
+    behind_later lt i le in_i = at_other i (behind (skip out i) (skip_behind out i place lt le) (in_list i in_i))
+
+    pub before_earlier : place ≤ out → (i : ℕ) → i < place → is_before (entry_at (remove list out) i) sought ≡ true
+    before_earlier le i up = at_other i (before (skip out i) (skip_still_before out i place le up))
+
+    pub behind_earlier : (i : ℕ) → place ≤ i → i < length (remove list out) → is_before (entry_at (remove list out) i) sought ≡ false
+    behind_earlier i le in_i = at_other i (behind (skip out i) (skip_still_behind out i place le) (in_list i in_i))
 
 module _ (numbers : List (Option ℕ)) (list : List Entry) (are : AreEntries numbers list) where
   -- two places have two entries

@@ -1,6 +1,6 @@
 -- An index in memory, as it is changed.
 use Rattle.std.proofs.Common.{◌≡◌, ◌<◌, ◌≤◌, ◌+◌, ℕ, true, false, List, length, Option, Some, None, refl, sym, ap, subst, ◌∙◌, arith}
-use Rattle.std.proofs.lemmas.List.{length-set}
+use Rattle.std.proofs.lemmas.List.{length-set, set-set, get_or-set_same}
 use Rattle.std.proofs.lemmas.List.Edits.{length-insert, length-remove}
 use Rattle.std.proofs.lemmas.List.Sums.{sum_by-set}
 use Rattle.std.specs.List.{insert, remove}
@@ -58,3 +58,17 @@ module _ (numbers : List (Option ℕ)) (list : List Entry) (capacity : ℕ) (ind
 
       one_of : ones None ≡ 1
       one_of = refl
+
+module _ (numbers : List (Option ℕ)) (list : List Entry) (capacity : ℕ) (index : IsIndex numbers list capacity) where
+  pub is_renumbered : (old new : Entry) (i j : ℕ) (after : List Entry) (room : ℕ) → number_at numbers old.slot ≡ Some old.number → new.slot ≡ old.slot → i < length list → entry_at list i ≡ old → j < length list
+      → ((k : ℕ) → k < j → is_before (entry_at (remove list i) k) new ≡ true) → ((k : ℕ) → j ≤ k → k < length (remove list i) → is_before (entry_at (remove list i) k) new ≡ false)
+      → after ≡ insert (remove list i) j new → capacity ≤ room → IsIndex (slice_set numbers old.slot (Some new.number)) after room
+  is_renumbered old new i j after room some its here is end before behind same more =
+      let shorter = length-remove list i here in
+      let below = has_slot numbers old.slot old.number some in
+      let gone = slice_set numbers old.slot None in
+      let below_too : new.slot < length gone = simp length-set (subst (λ (slot : ℕ). slot < length numbers) (sym its) below) in
+      let none : number_at gone new.slot ≡ None = subst (λ (slot : ℕ). number_at gone slot ≡ None) (sym its) (get_or-set_same numbers old.slot None None below) in
+      let twice : slice_set gone new.slot (Some new.number) ≡ slice_set numbers old.slot (Some new.number) = ap (λ (slot : ℕ). slice_set gone slot (Some new.number)) its ∙ set-set numbers old.slot None (Some new.number) in
+      subst (λ (n : List (Option ℕ)). IsIndex n after room) twice
+      (is_filled gone (remove list i) capacity (is_cleared numbers list capacity index old i (remove list i) capacity some here is refl (omega arith)) new j after room below_too none (omega (arith, end, shorter)) before behind same more)

@@ -2,3 +2,4 @@ mod Order
 mod Editing
 mod Indexed
 mod Taking
+mod Turning

@@ -4,8 +4,9 @@
 //! so that a search halves them. Nothing but `new` and `of` takes memory.
 #![tactic(auto)]
 
-ghost use Rattle.std.specs.Prelude.{◌≡◌, ◌<◌, ◌≤◌, ◌+◌, ◌^◌, ℕ, true, false, length, List, slice_set, slice_index_or, count_by, Option, Some, None, is_some, IfOk, IfSome, IfNone, insert, remove};
+ghost use Rattle.std.specs.Prelude.{◌≡◌, ◌<◌, ◌≤◌, ◌+◌, ◌^◌, ℕ, true, false, length, List, slice_set, slice_index_or, vec_capacity, count_by, Option, Some, None, is_some, IfOk, IfSome, IfNone, insert, remove};
 ghost use Rattle.jn_index.specs.Numbers.{number_at, is_above, IsSlotFrom, IsNumberAbove};
+ghost use Rattle.jn_index.specs.declared.Entry.{Entry};
 ghost use Rattle.jn_index.specs.Entries.{is_none, is_before, entry, entry_at, AreRising, AreOf};
 
 use std::alloc::{AllocError, Global};
@@ -78,11 +79,14 @@ impl Index {
         if old == number {
             return;
         }
-        if let Some(old) = old {
-            self.clear(Entry { number: old, slot });
-        }
-        if let Some(number) = number {
-            self.fill(Entry { number, slot });
+        let Some(number) = number else {
+            self.unset(slot);
+            return;
+        };
+        let new = Entry { number, slot };
+        match old {
+            Some(old) => self.renumber(Entry { number: old, slot }, new),
+            None => self.fill(new),
         }
     }
 
@@ -120,6 +124,16 @@ impl Index {
         self.numbers[old.slot as usize] = None;
     }
 
+    /// Takes a slot's number away, if it has one.
+    fn unset(&mut self, slot: u16)
+        requires { slot < length self.old }
+        ensures { self.new ≡ slice_set self.old slot None }
+    {
+        if let Some(old) = self.numbers[slot as usize] {
+            self.clear(Entry { number: old, slot });
+        }
+    }
+
     /// Gives a slot without a number one.
     fn fill(&mut self, new: Entry)
         requires below { new.slot < length self.old }
@@ -131,6 +145,61 @@ impl Index {
             unreachable!()
         };
         self.numbers[new.slot as usize] = Some(new.number);
+    }
+
+    /// Gives a slot that has a number another. Only the entries between both places move.
+    fn renumber(&mut self, old: Entry, new: Entry)
+        requires has { number_at self.old old.slot ≡ Some old.number }
+        requires slot { new.slot ≡ old.slot }
+        ensures { self.new ≡ slice_set self.old old.slot (Some new.number) }
+    {
+        let from = place_of(&self.entries, old);
+        let to = place_without(&self.entries, from, new);
+        turn(&mut self.entries, from, to, new);
+        self.numbers[old.slot as usize] = Some(new.number);
+    }
+}
+
+/// Takes the entry of a place out, and inserts one at a place among the others.
+fn turn(entries: &mut Vec<Entry>, from: usize, to: usize, new: Entry)
+    requires from { from < length entries.old.items }
+    requires to { to < length entries.old.items }
+    ensures turned { entries.new.items ≡ insert (remove entries.old.items from) to new }
+    ensures capacity { vec_capacity entries.new ≡ vec_capacity entries.old }
+{
+    if from < to {
+        move_down(entries, from, to);
+    } else {
+        move_up(entries, from, to);
+    }
+    entries[to] = new;
+}
+
+/// Moves the entries from behind a place up to a later one, each one place down.
+fn move_down(entries: &mut Vec<Entry>, from: usize, to: usize)
+    requires from { from ≤ to }
+    requires to { to < length entries.old.items }
+    ensures moved { (new : Entry) → slice_set entries.new.items to new ≡ insert (remove entries.old.items from) to new }
+    ensures len { length entries.new.items ≡ length entries.old.items }
+    ensures capacity { vec_capacity entries.new ≡ vec_capacity entries.old }
+{
+    for place in from..to {
+        entries[place] = entries[place + 1];
+    }
+}
+
+/// Moves the entries from a place up to before a later one, each one place up.
+fn move_up(entries: &mut Vec<Entry>, from: usize, to: usize)
+    requires to { to ≤ from }
+    requires from { from < length entries.old.items }
+    ensures moved { (new : Entry) → slice_set entries.new.items to new ≡ insert (remove entries.old.items from) to new }
+    ensures len { length entries.new.items ≡ length entries.old.items }
+    ensures capacity { vec_capacity entries.new ≡ vec_capacity entries.old }
+{
+    let mut place = from;
+    while to < place {
+        entries[place] = entries[place - 1];
+        place -= 1;
     }
 }
 
@@ -205,6 +274,32 @@ fn place_of(entries: &[Entry], sought: Entry) -> usize
         return place;
     }
     place_by_halving(entries, sought)
+}
+
+/// How many of the entries but one come before another, which may take the place of that one.
+fn place_without(entries: &[Entry], out: usize, sought: Entry) -> usize
+    requires rising { AreRising entries.now }
+    requires bound { out < length entries.now }
+    ensures bound { result < length entries.now }
+    ensures before { (i : ℕ) → i < result → is_before (entry_at (remove entries.now out) i) sought ≡ true }
+    ensures after { (i : ℕ) → result ≤ i → i < length (remove entries.now out) → is_before (entry_at (remove entries.now out) i) sought ≡ false }
+{
+    if fits_at(entries, out, sought) {
+        return out;
+    }
+    let place = place_of(entries, sought);
+    if out < place { place - 1 } else { place }
+}
+
+/// Whether an entry may take the place of another.
+fn fits_at(entries: &[Entry], place: usize, new: Entry) -> bool
+    requires rising { AreRising entries.now }
+    requires bound { place < length entries.now }
+    ensures before { result ≡ true → (i : ℕ) → i < place → is_before (entry_at entries.now i) new ≡ true }
+    ensures after { result ≡ true → (i : ℕ) → place < i → i < length entries.now → is_before (entry_at entries.now i) new ≡ false }
+{
+    are_before(entries, new, place)
+        && (place + 1 == entries.len() || none_is_before(entries, new, place + 1))
 }
 
 /// Whether so many entries come before one.
