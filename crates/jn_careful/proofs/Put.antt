@@ -1,5 +1,5 @@
 -- The turns of a careful put.
-use Rattle.std.proofs.Common.{◌≡◌, ◌≢◌, ◌⊎◌, inl, inr, ⊎_elim, ℕ, ◌+◌, ◌*◌, ◌≤◌, Bool, true, false, List, [], Result, Ok, Err, refl, ◌∙◌, subst, arith}
+use Rattle.std.proofs.Common.{◌≡◌, ◌≢◌, ◌⊎◌, inl, inr, ⊎_elim, ℕ, ◌+◌, ◌*◌, ◌≤◌, Bool, true, false, List, [], Result, Ok, Err, refl, sym, ◌∙◌, subst, arith}
 use Rattle.std.proofs.lemmas.Bool.Decides.{nat_tests}
 use Rattle.std.specs.Prelude.{IsErr, is_err}
 use Rattle.jn_base.specs.declared.device.Stopped.{Stopped}
@@ -12,7 +12,7 @@ use Rattle.jn_device.proofs.Later.{later_trans, struck_trans, rose_since, rose_t
 use Rattle.jn_device.proofs.Steps.{get_later, put_later, get_struck, put_struck, get_bytes, put_bytes, put_bytes_at}
 use Rattle.jn_phys.specs.declared.Found.{Found}
 use Rattle.jn_phys.specs.declared.Found.TheVariants.{Same, Other, LooksBad as FoundBad}
-use Rattle.jn_phys.specs.Answers.{look_compared, IsCompared}
+use Rattle.jn_phys.specs.Answers.{look_compared, IsCompared, PutCompared}
 use Rattle.jn_careful.proofs.Get.{gets_up}
 use Rattle.jn_careful.specs.Careful.{CarefulPut, IsServed, IsStopped}
 
@@ -73,7 +73,7 @@ module _ (s : DeviceState) (p : ℕ) (new : List ℕ) (n : ℕ) (t : DeviceState
   at : (x : List ℕ) → (x ≡ new) ⊎ (x ≡ (t.pages p).bytes) → (x ≡ new) ⊎ (x ≡ (s.pages p).bytes)
   at x h = ⊎_elim (λ e. inl e) (λ e. ⊎_elim (λ f. inl (e ∙ f)) (λ f. inr (e ∙ f)) l.bytes) h
 
-  pub put_err : (m : DeviceState) → PutStep t p new true m → (r : Result (Unit {0}) Stopped) → IsErr r → CarefulPut s p new (is_err r) m
+  put_err : (m : DeviceState) → PutStep t p new true m → (r : Result (Unit {0}) Stopped) → IsErr r → CarefulPut s p new (is_err r) m
   put_err m step (Ok v) h = absurd (cc h)
   put_err m step (Err v) h =
       let later = put_later t p new true m step in
@@ -141,7 +141,7 @@ module _ (s : DeviceState) (p : ℕ) (new : List ℕ) (n : ℕ) (t : DeviceState
       calm = λ _ _. refl;
     }
 
-    pub put_looked_err : (w : Stopped) → answer ≡ Err w → (r : Result (Unit {0}) Stopped) → IsErr r → CarefulPut s p new (is_err r) u
+    put_looked_err : (w : Stopped) → answer ≡ Err w → (r : Result (Unit {0}) Stopped) → IsErr r → CarefulPut s p new (is_err r) u
     put_looked_err w e (Ok v) h = absurd (cc h)
     put_looked_err w e (Err v) h =
         let off = get_stopped m p w u (at_look e) in
@@ -165,12 +165,36 @@ module _ (s : DeviceState) (p : ℕ) (new : List ℕ) (n : ℕ) (t : DeviceState
   put_other m u v put look other = put_again m put _ u look (Good v) refl (fails_other t p new m v u put look other)
 
   module _ (m u : DeviceState) (put : PutStep t p new false m) where
-    pub put_same : (found : Found) → GetStep m p (look_compared (Ok found) (u.pages p).bytes) u → IsCompared (Ok found) (u.pages p).bytes new → found ≡ Same → CarefulPut s p new false u
+    put_same : (found : Found) → GetStep m p (look_compared (Ok found) (u.pages p).bytes) u → IsCompared (Ok found) (u.pages p).bytes new → found ≡ Same → CarefulPut s p new false u
     put_same Same look is same = put_found m put _ u look (u.pages p).bytes refl (is.same refl)
     put_same Other look is same = absurd (cc same)
     put_same FoundBad look is same = absurd (cc same)
 
-    pub put_unlike : (found : Found) → GetStep m p (look_compared (Ok found) (u.pages p).bytes) u → IsCompared (Ok found) (u.pages p).bytes new → (found ≡ Same → ⊥) → Putting s p new (n + 1) u
+    put_unlike : (found : Found) → GetStep m p (look_compared (Ok found) (u.pages p).bytes) u → IsCompared (Ok found) (u.pages p).bytes new → (found ≡ Same → ⊥) → Putting s p new (n + 1) u
     put_unlike Same look is unlike = absurd (unlike refl)
     put_unlike Other look is unlike = put_other m u (u.pages p).bytes put look (is.other refl)
     put_unlike FoundBad look is unlike = put_bad m u put look
+
+  pub compared_err : (u : DeviceState) (w : Stopped) → PutCompared t p new (Err w) u → (r : Result (Unit {0}) Stopped) → IsErr r → CarefulPut s p new (is_err r) u
+  compared_err u w both r h = by both.stops refl
+    where
+      by : (b : Bool) → both.stops ≡ b → CarefulPut s p new (is_err r) u
+      by true e = subst (λ (m : DeviceState). CarefulPut s p new (is_err r) m) (sym (both.stopped e).1) (put_err both.middle (subst (λ (b : Bool). PutStep t p new b both.middle) e both.put) r h)
+      by false e = put_looked_err both.middle (subst (λ (b : Bool). PutStep t p new b both.middle) e both.put) _ u (both.got e) w refl r h
+
+  module _ (u : DeviceState) (found : Found) (both : PutCompared t p new (Ok found) u) where
+    goes_on : both.stops ≡ false
+    goes_on = by both.stops refl
+      where
+        by : (b : Bool) → both.stops ≡ b → b ≡ false
+        by true e = absurd (let is = (both.stopped e).0 in cc is)
+        by false e = refl
+
+    was_put : PutStep t p new false both.middle
+    was_put = subst (λ (b : Bool). PutStep t p new b both.middle) goes_on both.put
+
+    pub compared_same : found ≡ Same → CarefulPut s p new false u
+    compared_same is = put_same both.middle u was_put found (both.got goes_on) both.compared is
+
+    pub compared_unlike : (found ≡ Same → ⊥) → Putting s p new (n + 1) u
+    compared_unlike unlike = put_unlike both.middle u was_put found (both.got goes_on) both.compared unlike

@@ -86,8 +86,7 @@ impl<D: PhysDisk> Careful<D> {
         ensures put { CarefulPut (D.state self.old) p page.now (is_err result) (D.state self.new) }
     {
         for _try in 0..TRIES {
-            self.disk.put(p, page)?;
-            let found = self.disk.compare(p, page)?;
+            let found = self.disk.put_and_compare(p, page)?;
             if found == Found::Same {
                 return Ok(());
             }

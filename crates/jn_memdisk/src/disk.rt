@@ -180,6 +180,17 @@ impl PhysDisk for MemDisk {
         }
         Ok(())
     }
+
+    fn put_and_compare(&mut self, p: u32, page: &Page) -> Result<Found, Stopped> {
+        // Where no fault waits, the page is there, and needn't be compared.
+        let is_there = self.power && self.faults.waiting.is_empty();
+        self.put(p, page)?;
+        if is_there {
+            let good = self.look(p)?;
+            return Ok(if good { Found::Same } else { Found::LooksBad });
+        }
+        self.compare(p, page)
+    }
 }
 
 impl PhysPower for MemDisk {

@@ -8,7 +8,7 @@ ghost use Rattle.std.specs.Prelude.{◌≡◌, ◌≢◌, ◌≤◌, ◌<◌, �
 ghost use Rattle.jn_device.specs.Device.{DeviceState};
 ghost use Rattle.jn_device.specs.Calls.{GetStep, PutStep};
 ghost use Rattle.jn_device.specs.Events.{PowersUp, powered_off, Decays, Revives, Arms, is_within, disarmed, cleared};
-ghost use Rattle.jn_phys.specs.Answers.{look_read, look_compared, IsCompared};
+ghost use Rattle.jn_phys.specs.Answers.{look_read, look_compared, IsCompared, PutCompared};
 
 use jn_base::{FaultKind, Outside, Page, Stopped};
 
@@ -48,6 +48,11 @@ pub trait PhysDisk {
     fn put(&mut self, p: u32, page: &Page) -> Result<(), Stopped>
         requires { p < (state self.old).count }
         ensures step { PutStep (state self.old) p page.now (is_err result) (state self.new) };
+
+    /// A put, and where that is answered Ok the get that compares the page with what was put: two device calls.
+    fn put_and_compare(&mut self, p: u32, page: &Page) -> Result<Found, Stopped>
+        requires { p < (state self.old).count }
+        ensures { PutCompared (state self.old) p page.now result (state self.new) };
 
     /// A page fails at most three times between two reads.
     ghost few_fails: { (d : Self) (q : ℕ) → ((state d).pages q).fails ≤ 3 };
