@@ -6,7 +6,8 @@ ghost use Rattle.jn_records.specs.declared.head.Head.TheVariants.{Used};
 ghost use Rattle.jn_records.specs.Heads.{head_page, has_page, within, IsHead, FileFits, used_at, head_at};
 
 use crate::field::{same_page, u8_at, u32_at};
-use crate::list::{ListOf, list_at, put_list};
+use crate::list::{ListOf, list_at};
+use byteorder::{BigEndian, ByteOrder};
 use jn_base::{FileNo, Page, PageWriter};
 use std::alloc::{AllocError, Global};
 
@@ -103,10 +104,12 @@ pub fn used_page(file: FileNo, addresses: &[u16]) -> Page
     requires { length addresses.now ≡ 120 }
     ensures { result ≡ head_page (Used file addresses.now) }
 {
+    let mut bytes = [0; 240];
+    BigEndian::write_u16_into(addresses, &mut bytes);
     let mut page = PageWriter::new();
     page.put_u8(USED);
     page.put_u32(file.0);
-    put_list(&mut page, addresses);
+    page.put_bytes(&bytes);
     page.finish()
 }
 

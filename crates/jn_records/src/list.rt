@@ -93,7 +93,7 @@ pub fn list_at<F: Field>(
 ) -> Result<Option<(Vec<F>, &[u8])>, AllocError>
     ensures { IfOk result (λ r. Gives (λ x. (x.0.items, x.1.now)) r (list_at F.read count bytes.now)) }
 {
-    let mut list = Vec::new(alloc);
+    let mut list = Vec::with_capacity(alloc, count as usize)?;
     let mut rest = bytes;
     for _ in 0..count {
         let Some((field, after)) = F::at(rest) else {
