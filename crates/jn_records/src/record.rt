@@ -1,10 +1,9 @@
 //! The records of the pool.
-ghost use Rattle.std.specs.Prelude.{◌≡◌, ◌≤◌, true, false, Bool, ◌&&◌, length, List, Option, Some, None, IfOk, IfSome, IsTrue, ◌↔◌};
+ghost use Rattle.std.specs.Prelude.{◌≡◌, ◌≤◌, true, false, Bool, ◌&&◌, [], length, List, Option, Some, None, IfOk, IfSome, IsTrue, ◌↔◌};
 ghost use Rattle.jn_records.specs.Reading.{Gives};
 ghost use Rattle.jn_records.specs.declared.record.Record.{Record};
-ghost use Rattle.jn_records.specs.declared.record.Record.TheVariants.{Intention as IntentionRecord, Flag as FlagRecord};
-ghost use Rattle.jn_records.specs.Pages.{padded};
-ghost use Rattle.jn_records.specs.Records.{prepared_bytes, record_page, reads_have_page, has_page, prepared, RecordFits, intention_record_at, work_head_at, prepared_at, flag_at, record_at};
+ghost use Rattle.jn_records.specs.declared.record.Record.TheVariants.{Intention as IntentionRecord};
+ghost use Rattle.jn_records.specs.Records.{prepared_bytes, flag_bytes, record_bytes, record_page, reads_have_page, has_page, prepared, RecordFits, intention_record_at, work_head_at, prepared_at, flag_at, record_at};
 
 use crate::field::{same_page, u8_at, u32_at};
 use crate::flag::Flag;
@@ -64,25 +63,35 @@ impl Record {
         requires { has_page self.now ≡ true }
         ensures { result ≡ record_page self.now }
     {
+        let mut page = PageWriter::new();
+        self.put(&mut page);
+        page.finish()
+    }
+
+    fn put(&self, page: &mut PageWriter)
+        requires whole { has_page self.now ≡ true }
+        requires blank { page.old ≡ [] }
+        ensures { page.new ≡ record_bytes self.now }
+    {
         match self {
-            Record::Free => PageWriter::new().finish(),
+            Record::Free => {}
             Record::Intention {
                 work,
                 tid,
                 order,
                 intention,
-            } => intention_page(*work, *tid, *order, intention),
+            } => put_intention_record(page, *work, *tid, *order, intention),
             Record::Ready {
                 head,
                 intentions,
                 reads,
-            } => prepared_page(READY, head, *intentions, reads.as_slice()),
+            } => put_prepared(page, READY, head, *intentions, reads.as_slice()),
             Record::Going {
                 head,
                 intentions,
                 reads,
-            } => prepared_page(GOING, head, *intentions, reads.as_slice()),
-            Record::Flag(flag) => flag_page(flag),
+            } => put_prepared(page, GOING, head, *intentions, reads.as_slice()),
+            Record::Flag(flag) => put_flag(page, flag),
         }
     }
 
@@ -133,48 +142,55 @@ fn have_page(reads: &[LockUnit]) -> bool
     reads.len() <= READS && ascends(reads) && all_have_pages(reads)
 }
 
-#[tactic(auto, unfolding(crate::specs::Records::record_page))]
-fn intention_page(work: WorkId, tid: Tid, order: u8, intention: &StoredIntention) -> Page
-    ensures { result ≡ record_page (IntentionRecord work tid order intention.now) }
+fn put_intention_record(
+    page: &mut PageWriter,
+    work: WorkId,
+    tid: Tid,
+    order: u8,
+    intention: &StoredIntention,
+)
+    requires { page.old ≡ [] }
+    ensures { page.new ≡ record_bytes (IntentionRecord work tid order intention.now) }
 {
-    let mut page = PageWriter::new();
     page.put_u8(INTENTION);
-    put_work(&mut page, work);
-    put_tid(&mut page, tid);
+    put_work(page, work);
+    put_tid(page, tid);
     page.put_u8(order);
-    put_intention(&mut page, intention);
-    page.finish()
+    put_intention(page, intention);
 }
 
-fn prepared_page(kind: u8, head: &WorkHead, intentions: u8, reads: &[LockUnit]) -> Page
-    requires { length reads.now ≤ 81 }
-    ensures { result ≡ padded (prepared_bytes kind head.now intentions reads.now) }
+fn put_prepared(
+    page: &mut PageWriter,
+    kind: u8,
+    head: &WorkHead,
+    intentions: u8,
+    reads: &[LockUnit],
+)
+    requires few { length reads.now ≤ 81 }
+    requires blank { page.old ≡ [] }
+    ensures { page.new ≡ prepared_bytes kind head.now intentions reads.now }
 {
-    let mut page = PageWriter::new();
     page.put_u8(kind);
-    put_work(&mut page, head.work);
-    put_tid(&mut page, head.tid);
+    put_work(page, head.work);
+    put_tid(page, head.tid);
     page.put_u8(head.client.0);
     page.put_u8(intentions);
     page.put_u8(reads.len() as u8);
-    put_list(&mut page, reads);
-    page.finish()
+    put_list(page, reads);
 }
 
-#[tactic(auto, unfolding(crate::specs::Records::record_page))]
-fn flag_page(flag: &Flag) -> Page
-    requires { length flag.now.works ≤ 55 }
-    ensures { result ≡ record_page (FlagRecord flag.now) }
+fn put_flag(page: &mut PageWriter, flag: &Flag)
+    requires few { length flag.now.works ≤ 55 }
+    requires blank { page.old ≡ [] }
+    ensures { page.new ≡ flag_bytes flag.now }
 {
-    let mut page = PageWriter::new();
     page.put_u8(FLAG);
-    put_tid(&mut page, flag.tid);
+    put_tid(page, flag.tid);
     page.put_u8(flag.client.0);
     page.put_u32(flag.request);
     let works = flag.works.as_slice();
     page.put_u8(works.len() as u8);
-    put_list(&mut page, works);
-    page.finish()
+    put_list(page, works);
 }
 
 #[tactic(auto, unfolding(crate::specs::Records::intention_record_at))]

@@ -3,7 +3,7 @@ use Rattle.byteorder.specs.Endian.{big_bytes}
 use Rattle.jn_base.specs.declared.names.WorkId.{WorkId}
 use Rattle.jn_records.specs.Names.{tid_bytes, work_bytes}
 use Rattle.jn_records.proofs.Lists.{length-fields, grows}
-use Rattle.jn_records.proofs.record.flag_page.Goals as goal
+use Rattle.jn_records.proofs.record.put_flag.Goals as goal
 
 pub put_list-requires : goal.put_list-requires
 put_list-requires c =
@@ -11,10 +11,10 @@ put_list-requires c =
     let size = length-fields (λ (w : WorkId). work_bytes w) 9 (λ w. refl) works in
     let flag = c.args.flag.now in
     let all : length works ≡ length flag.works = ap (λ (ws : List WorkId). length ws) c.as_slice-works.ensures in
-    let begin : length c.new-page.result ≡ 0 = ap (λ (l : List ℕ). length l) c.new-page.ensures in
-    let a = grows c.put_u8.new.self c.new-page.result (big_bytes 1 4) 1 refl c.put_u8.ensures in
+    let begin : length c.args.page.now ≡ 0 = ap (λ (l : List ℕ). length l) c.requires.blank in
+    let a = grows c.put_u8.new.self c.args.page.now (big_bytes 1 4) 1 refl c.put_u8.ensures in
     let b = grows c.put_tid.new.page c.put_u8.new.self (tid_bytes flag.tid) 9 refl c.put_tid.ensures in
     let d = grows c.put_u8-2.new.self c.put_tid.new.page (big_bytes 1 flag.client.0) 1 refl c.put_u8-2.ensures in
     let e = grows c.put_u32.new.self c.put_u8-2.new.self (big_bytes 4 flag.request) 4 refl c.put_u32.ensures in
     let f = grows c.put_u8-3.new.self c.put_u32.new.self (big_bytes 1 (length works)) 1 refl c.put_u8-3.ensures in
-    omega (arith, size, begin, all, a, b, d, e, f, c.requires)
+    omega (arith, size, begin, all, a, b, d, e, f, c.requires.few)
