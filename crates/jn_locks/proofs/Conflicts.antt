@@ -37,6 +37,9 @@ module _ (h : Held) (W : WorkId) (ws : List Want) where
       (none_passes (stays_in_way (table_of h)) conflict_at conflict_before conflict_before-irreflexive conflict_before-transitive
       (onward conflict_before conflict_before-transitive conflict_before-total) None (collisions (at h.units) W ws) e).1 r.0))
 
+  pub alone_free : collisions (at h.units) W ws ≡ [] → NoConflict (table_of h) W (wanted ws)
+  alone_free e = no_conflict (ap (λ (bs : List Broken). least_conflict (table_of h) None bs) e)
+
   pub conflict_is : (c : Conflict) → least_conflict (table_of h) None (collisions (at h.units) W ws) ≡ Some c → IsConflict (table_of h) W (wanted ws) c
   conflict_is c e = record {
     stands = from least.from;
@@ -55,6 +58,13 @@ module _ (h : Held) (W : WorkId) (ws : List Want) where
       not_before : (b : Broken) → Among b (collisions (at h.units) W ws) → stays_in_way (table_of h) b ≡ true → (unit_before b.unit c.unit ≡ false) × (unit_eq b.unit c.unit ≡ true → work_before b.work c.holder ≡ false)
       not_before b here pass = not_earlier (unit_before b.unit c.unit) (unit_eq b.unit c.unit) (work_before b.work c.holder)
           (every_among (λ b. stays_in_way (table_of h) b ≡ true → conflict_before (conflict_at b) c ≡ false) (collisions (at h.units) W ws) b least.none here pass)
+
+-- one want further, where nothing collides
+pub alone_step : (h : Held) (W : WorkId) (ws : List Want) (i : ℕ) (d : Want) → i < length ws → collisions_at W (get_or ws i d) (at h.units (get_or ws i d).unit) ≡ []
+    → collisions (at h.units) W (drop (i + 1) ws) ≡ collisions (at h.units) W (drop i ws)
+alone_step h W ws i d within e = rw add-one (
+    ap (λ (bs : List Broken). bs ++ collisions (at h.units) W (drop (suc i) ws)) (sym e)
+    ∙ ap (λ (xs : List Want). collisions (at h.units) W xs) (sym (drop-cons ws i d within)))
 
 module _ (h : Held) (W : WorkId) (best new : Option Conflict) where
   -- one want further

@@ -12,8 +12,8 @@ ghost use Rattle.jn_locks.specs.Loops as loops;
 ghost use Rattle.jn_locks.specs.Tables as tables;
 ghost use Rattle.jn_locks.specs.Tables.{IsSound, table_of};
 
-use crate::holders::{is_among, modes_of};
-use crate::modes::{committed, with_mode};
+use crate::holders::modes_of;
+use crate::modes::committed;
 use crate::units::Units;
 use crate::wants::unit_wants;
 use crate::words::{Broken, LockFault, Want};
@@ -64,10 +64,7 @@ impl Held {
         ensures still { (u : LockUnit) → (is_among (tables.at self.old.units u) work || tables.has_room_at self.old.units u) ≡ true → (is_among (tables.at self.new.units u) work || tables.has_room_at self.new.units u) ≡ true }
         ensures room { tables.room_of self.old.works work ≤ tables.room_of self.new.works work + 1 }
     {
-        let holders = self.units.at(want.unit);
-        let is_new = !is_among(holders, work);
-        let modes = with_mode(modes_of(holders, work), want.mode);
-        self.units.put(want.unit, work, modes);
+        let (is_new, _modes) = self.units.add(want.unit, work, want.mode);
         if is_new {
             self.works.push_unit(work, want.unit);
         }
@@ -138,8 +135,7 @@ impl Held {
         ensures unchanged { OnErr result (table_of self.new ≡ table_of self.old) }
         ensures sound_after { IsSound self.new }
     {
-        self.test(work, wants)?;
-        let broken = self.broken(alloc, work, wants)?;
+        let broken = self.clear(alloc, work, wants)?;
         self.make_room(alloc, wants)?;
         self.works.enter(alloc, work, wants.len())?;
         self.add_all(work, wants);
@@ -156,8 +152,7 @@ impl Held {
         ensures sound_after { IsSound self.new }
     {
         let wants = self.commit_wants(alloc, work)?;
-        self.test(work, &wants)?;
-        let broken = self.broken(alloc, work, &wants)?;
+        let broken = self.clear(alloc, work, &wants)?;
         self.works.enter(alloc, work, 0)?;
         self.turn(work, &wants);
         self.works.prepare(work);

@@ -1,6 +1,6 @@
 //! What stands in a work's way at the units that it wants.
 
-ghost use Rattle.std.specs.Prelude.{◌≡◌, [], None, IfOk, MatchResult};
+ghost use Rattle.std.specs.Prelude.{◌≡◌, [], None, true, IfOk, IfErr, MatchResult};
 ghost use Rattle.jn_base.specs.declared.names.LockUnit.{LockUnit};
 ghost use Rattle.jn_locks.specs.declared.words.Mode.{Mode};
 ghost use Rattle.jn_locks.specs.declared.words.Mode.TheVariants.{IntentionWrite};
@@ -91,6 +91,50 @@ impl Held {
         }
     }
 
+    /// Whether no other work holds a wanted unit in a mode that doesn't go with the wanted one.
+    fn is_alone_at(&self, work: WorkId, want: Want) -> bool
+        ensures { result ≡ true → loops.collisions_at work want (tables.at self.now.units want.unit) ≡ [] }
+    {
+        for holder in self.units.at(want.unit) {
+            if holder_collides(work, want.mode, holder) {
+                return false;
+            }
+        }
+        true
+    }
+
+    /// The same at each wanted unit.
+    fn is_alone(&self, work: WorkId, wants: &[Want]) -> bool
+        ensures { result ≡ true → loops.collisions (tables.at self.now.units) work wants.now ≡ [] }
+    {
+        for want in wants {
+            if !self.is_alone_at(work, *want) {
+                return false;
+            }
+        }
+        true
+    }
+
+    #[tactic(auto, using(crate::proofs::Conflicts::alone_free, crate::proofs::Breaks::alone_broken))]
+    /// The works that give way where nothing stands in the way of these wants. Most works are alone, and need one look
+    /// at each unit.
+    pub(crate) fn clear(
+        &self,
+        alloc: Global,
+        work: WorkId,
+        wants: &[Want],
+    ) -> Result<Vec<Broken>, LockFault>
+        ensures free { IfOk result (λ _. asked.NoConflict (tables.table_of self.now) work (locks.wanted wants.now)) }
+        ensures broken { IfOk result (λ v. asked.AreBroken (tables.table_of self.now) work (locks.wanted wants.now) v.items) }
+        ensures refused { IfErr result (asked.IsRefusal (tables.table_of self.now) work (locks.wanted wants.now)) }
+    {
+        if self.is_alone(work, wants) {
+            return Ok(Vec::new(alloc));
+        }
+        self.test(work, wants)?;
+        Ok(self.broken(alloc, work, wants)?)
+    }
+
     /// Whether the work holds the unit for intention-write.
     pub(crate) fn intends(&self, work: WorkId, unit: LockUnit) -> bool
         ensures { result ≡ (tables.table_of self.now).holds work unit IntentionWrite }
@@ -164,12 +208,7 @@ impl Held {
     }
 
     /// The works that give way at the units that the work wants.
-    pub(crate) fn broken(
-        &self,
-        alloc: Global,
-        work: WorkId,
-        wants: &[Want],
-    ) -> Result<Vec<Broken>, AllocError>
+    fn broken(&self, alloc: Global, work: WorkId, wants: &[Want]) -> Result<Vec<Broken>, AllocError>
         ensures { IfOk result (λ v. asked.AreBroken (tables.table_of self.now) work (locks.wanted wants.now) v.items) }
     {
         let mut broken = Vec::new(alloc);

@@ -1,13 +1,15 @@
 //! The holders of each unit, found by the unit.
 
-ghost use Rattle.std.specs.Prelude.{◌≡◌, ◌||◌, [], true, false, IfOk, OnOk, if◌then◌else◌};
+ghost use Rattle.std.specs.Prelude.{◌≡◌, ◌||◌, [], true, false, not, IfOk, OnOk, if◌then◌else◌};
 ghost use Rattle.jn_base.specs.declared.names.LockUnit.{LockUnit};
-ghost use Rattle.jn_locks.specs.Locks.{unit_eq};
-ghost use Rattle.jn_locks.specs.Holders.{is_among, without, with_holder};
+ghost use Rattle.jn_locks.specs.declared.words.Mode.{Mode as AnyMode};
+ghost use Rattle.jn_locks.specs.Locks.{unit_eq, mode_eq};
+ghost use Rattle.jn_locks.specs.Holders.{has, holds_in, is_among, without, with_holder};
 ghost use Rattle.jn_locks.specs.Tables as tables;
 
-use crate::holders::{drop_work, put_modes};
-use crate::words::{Holder, Modes};
+use crate::holders::{drop_work, is_among, modes_of, put_modes};
+use crate::modes::with_mode;
+use crate::words::{Holder, Mode, Modes};
 use jn_base::{LockUnit, WorkId};
 use std::alloc::{AllocError, Global};
 use std::collections::HashMap;
@@ -74,6 +76,24 @@ impl Units {
         if let Some(all) = self.map.get_mut(&place_of(unit)) {
             put_modes(all, work, modes);
         }
+    }
+
+    /// The work holds the unit in one mode more: whether it held the unit in none, and its modes now. It held it, or
+    /// there is room for one more.
+    pub(crate) fn add(&mut self, unit: LockUnit, work: WorkId, mode: Mode) -> (bool, Modes)
+        requires { (is_among (tables.at self.old unit) work || tables.has_room_at self.old unit) ≡ true }
+        ensures is_new { result.0 ≡ not (is_among (tables.at self.old unit) work) }
+        ensures modes { (m : AnyMode) → has result.1 m ≡ (holds_in (tables.at self.old unit) work m || mode_eq mode m) }
+        ensures at { (u : LockUnit) → tables.at self.new u ≡ (if unit_eq unit u then with_holder work result.1 (tables.at self.old unit) else tables.at self.old u) }
+        ensures room { (u : LockUnit) → unit_eq unit u ≡ false → tables.has_room_at self.new u ≡ tables.has_room_at self.old u }
+    {
+        let Some(all) = self.map.get_mut(&place_of(unit)) else {
+            unreachable!()
+        };
+        let is_new = !is_among(all, work);
+        let modes = with_mode(modes_of(all, work), mode);
+        put_modes(all, work, modes);
+        (is_new, modes)
     }
 
     /// The work holds the unit no more.

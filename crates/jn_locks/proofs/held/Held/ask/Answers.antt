@@ -16,10 +16,10 @@ pub returns-clause-granted : goal.returns-clause-granted
 returns-clause-granted c =
     let t = table_of c.args.self.now in
     let bs = c.in_ok-broken.broken.items in
-    let itself = not_self t c.args.work (wanted c.args.wants.now) bs c.in_ok-broken.ensures in
+    let itself = not_self t c.args.work (wanted c.args.wants.now) bs c.in_ok-broken.ensures.broken in
     record {
-      free = c.in_ok-test.ensures;
-      broken = c.in_ok-broken.ensures;
+      free = c.in_ok-broken.ensures.free;
+      broken = c.in_ok-broken.ensures.broken;
       grants = record {
         locks = λ V u m. after_break bs c.args.work itself false V _ _ _ _
             (c.break_all.ensures.holds V u m ∙ ap (λ (b : List Broken). if is_broken b V then false else (table_of c.add_all.new.self).holds V u m) c.deref.ensures.value)

@@ -1,0 +1,7 @@
+use Rattle.std.proofs.Common.{◌≡◌, drop}
+use Rattle.jn_locks.specs.Tables.{at}
+use Rattle.jn_locks.specs.Loops.{collisions}
+use Rattle.jn_locks.proofs.held.Held.is_alone.Given as goal
+
+abbrev pub invariant-loop-want : goal.invariant-loop-want
+invariant-loop-want l = collisions (at l.self.units) l.work (drop l.want-index l.wants) ≡ collisions (at l.self.units) l.work l.wants
