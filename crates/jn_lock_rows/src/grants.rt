@@ -70,8 +70,8 @@ pub fn grant_operation(
     ensures same { OnErr result (works.new ≡ works.old) }
     ensures matches { LocksMatch works.new (table locks.new) }
 {
-    let wants = operation_wants(alloc, op, is_fit)?;
-    match locks.ask(alloc, name, &wants) {
+    let wants = operation_wants(op, is_fit);
+    match locks.ask(alloc, name, wants.as_slice()) {
         Ok(granted) => {
             break_works(works, granted.broken(), tid);
             set_phase(works, name, Phase::Active(next));

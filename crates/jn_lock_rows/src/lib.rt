@@ -20,4 +20,4 @@ pub use laws::{
     a_vulnerable_work_matches, a_work_is_stored_as_the_rows_say, an_opened_work_matches,
     an_operation_is_granted_as_the_rows_say, an_operation_is_refused_as_the_rows_say,
 };
-pub use wants::{operation_wants, units_with};
+pub use wants::{OperationWants, operation_wants, units_with};

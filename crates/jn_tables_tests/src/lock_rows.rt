@@ -37,9 +37,9 @@ fn operations_want_their_file_and_what_they_touch(rt: HostRuntime) -> Result<(),
         ),
     ];
     for (op, wanted) in second {
-        let wants = operation_wants(rt.alloc(), &op, true)?;
+        let wants = operation_wants(&op, true);
         assert!(rt; wants.as_slice() == [reads_file, wanted].as_slice());
-        let wants = operation_wants(rt.alloc(), &op, false)?;
+        let wants = operation_wants(&op, false);
         assert!(rt; wants.as_slice() == [reads_file].as_slice());
     }
     Ok(())

@@ -70,9 +70,9 @@ fn units_after(
     ensures reads { IfOk result (λ u. u.0.items ≡ rows.with_units (rows.units_for modes.Read (rows.wants_of op.now fit)) work.now.reads) }
     ensures writes { IfOk result (λ u. u.1.items ≡ rows.with_units (rows.units_for modes.IntentionWrite (rows.wants_of op.now fit)) work.now.writes) }
 {
-    let wants = operation_wants(alloc, op, fit)?;
-    let reads = units_with(alloc, work.reads.as_slice(), &wants, Mode::Read)?;
-    let writes = units_with(alloc, work.writes.as_slice(), &wants, Mode::IntentionWrite)?;
+    let wants = operation_wants(op, fit);
+    let reads = units_with(alloc, work.reads.as_slice(), wants.as_slice(), Mode::Read)?;
+    let writes = units_with(alloc, work.writes.as_slice(), wants.as_slice(), Mode::IntentionWrite)?;
     Ok((reads, writes))
 }
 
