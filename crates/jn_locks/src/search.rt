@@ -50,12 +50,18 @@ impl Held {
         matches!(self.works.standing(work), Some(Standing::Vulnerable))
     }
 
-    /// The least conflict at one wanted unit, or the best so far.
-    fn conflict_at(&self, best: Option<Conflict>, work: WorkId, want: Want) -> Option<Conflict>
-        ensures { result ≡ loops.least_conflict (tables.table_of self.now) best (loops.collisions_at work want (tables.at self.now.units want.unit)) }
+    /// The least conflict among the holders of one wanted unit, or the best so far.
+    fn conflict_among(
+        &self,
+        best: Option<Conflict>,
+        work: WorkId,
+        want: Want,
+        holders: &[Holder],
+    ) -> Option<Conflict>
+        ensures { result ≡ loops.least_conflict (tables.table_of self.now) best (loops.collisions_at work want holders.now) }
     {
         let mut best = best;
-        for holder in self.units.at(want.unit) {
+        for holder in holders {
             if holder_collides(work, want.mode, holder) && !self.gives_way(holder.work) {
                 best = Some(lesser_conflict(
                     best,
@@ -67,6 +73,13 @@ impl Held {
             }
         }
         best
+    }
+
+    /// The least conflict at one wanted unit, or the best so far.
+    fn conflict_at(&self, best: Option<Conflict>, work: WorkId, want: Want) -> Option<Conflict>
+        ensures { result ≡ loops.least_conflict (tables.table_of self.now) best (loops.collisions_at work want (tables.at self.now.units want.unit)) }
+    {
+        self.conflict_among(best, work, want, self.units.at(want.unit))
     }
 
     /// The least conflict at the units that the work wants.
@@ -151,14 +164,15 @@ impl Held {
     ) -> Option<Conflict>
         ensures { result ≡ loops.least_conflict (tables.table_of self.now) best (loops.intended_at (tables.at self.now.units) work unit) }
     {
-        if !self.intends(work, unit) {
+        let holders = self.units.at(unit);
+        if !modes_of(holders, work).intention_write {
             return best;
         }
         let want = Want {
             unit,
             mode: Mode::Commit,
         };
-        self.conflict_at(best, work, want)
+        self.conflict_among(best, work, want, holders)
     }
 
     /// The least conflict where the work holds intention-write and wants to hold for commit.

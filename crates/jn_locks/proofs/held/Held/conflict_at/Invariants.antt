@@ -1,9 +1,0 @@
-use Rattle.std.proofs.Common.{◌≡◌, drop}
-use Rattle.jn_locks.specs.Tables.{table_of, at}
-use Rattle.jn_locks.specs.Loops.{least_conflict, collisions_at}
-use Rattle.jn_locks.proofs.held.Held.conflict_at.Given as goal
-
-abbrev pub invariant-loop-holder : goal.invariant-loop-holder
-invariant-loop-holder l =
-    let hs = at l.self.units l.want.unit in
-    least_conflict (table_of l.self) l.best (collisions_at l.work l.want (drop l.holder-index hs)) ≡ least_conflict (table_of l.self) l.fn.best (collisions_at l.work l.want hs)
