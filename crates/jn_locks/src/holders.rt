@@ -2,6 +2,7 @@
 
 ghost use Rattle.std.specs.Prelude.{◌≡◌, ◌||◌, ◌+◌, ◌≤◌, ◌<◌, true, vec_len, vec_capacity};
 ghost use Rattle.jn_locks.specs.declared.words.Mode.{Mode};
+ghost use Rattle.jn_locks.specs.declared.words.Mode.TheVariants.{IntentionWrite};
 ghost use Rattle.jn_locks.specs.Holders as holders;
 
 use crate::modes::{NO_MODES, union};
@@ -14,6 +15,18 @@ pub(crate) fn is_among(all: &[Holder], work: WorkId) -> bool
 {
     for h in all {
         if work_eq(h.work, work) {
+            return true;
+        }
+    }
+    false
+}
+
+/// Whether the work holds the unit for intention-write.
+pub(crate) fn is_intended(all: &[Holder], work: WorkId) -> bool
+    ensures { result ≡ holders.holds_in all.now work IntentionWrite }
+{
+    for h in all {
+        if h.modes.intention_write && work_eq(h.work, work) {
             return true;
         }
     }

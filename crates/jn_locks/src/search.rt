@@ -12,7 +12,7 @@ ghost use Rattle.jn_locks.specs.Tables.{IsSound};
 
 use crate::broken::add_broken;
 use crate::held::Held;
-use crate::holders::modes_of;
+use crate::holders::is_intended;
 use crate::modes::clashes;
 use crate::order::{unit_before, unit_eq, work_before, work_eq};
 use crate::words::{Broken, Conflict, Holder, LockFault, Mode, Standing, Want};
@@ -152,7 +152,7 @@ impl Held {
     pub(crate) fn intends(&self, work: WorkId, unit: LockUnit) -> bool
         ensures { result ≡ (tables.table_of self.now).holds work unit IntentionWrite }
     {
-        modes_of(self.units.at(unit), work).intention_write
+        is_intended(self.units.at(unit), work)
     }
 
     /// The least conflict at a unit that the work is to write, or the best so far.
@@ -165,7 +165,7 @@ impl Held {
         ensures { result ≡ loops.least_conflict (tables.table_of self.now) best (loops.intended_at (tables.at self.now.units) work unit) }
     {
         let holders = self.units.at(unit);
-        if !modes_of(holders, work).intention_write {
+        if !is_intended(holders, work) {
             return best;
         }
         let want = Want {

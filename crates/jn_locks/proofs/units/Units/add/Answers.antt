@@ -1,4 +1,4 @@
-use Rattle.std.proofs.Common.{rules, Bool, List, refl, sym, ap, ◌∙◌}
+use Rattle.std.proofs.Common.{rules, List, refl, sym, ap, ◌∙◌}
 use Rattle.std.specs.Prelude.{not}
 use Rattle.jn_locks.specs.declared.words.Holder.{Holder}
 use Rattle.jn_locks.specs.Holders.{is_among, with_holder}

@@ -1,0 +1,7 @@
+use Rattle.std.proofs.Common.{◌≡◌, drop}
+use Rattle.jn_locks.specs.declared.words.Mode.TheVariants.{IntentionWrite}
+use Rattle.jn_locks.specs.Holders.{holds_in}
+use Rattle.jn_locks.proofs.holders.is_intended.Given as goal
+
+abbrev pub invariant-loop-h : goal.invariant-loop-h
+invariant-loop-h l = holds_in (drop l.h-index l.all) l.work IntentionWrite ≡ holds_in l.all l.work IntentionWrite
