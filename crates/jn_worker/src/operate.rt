@@ -72,7 +72,12 @@ fn units_after(
 {
     let wants = operation_wants(op, fit);
     let reads = units_with(alloc, work.reads.as_slice(), wants.as_slice(), Mode::Read)?;
-    let writes = units_with(alloc, work.writes.as_slice(), wants.as_slice(), Mode::IntentionWrite)?;
+    let writes = units_with(
+        alloc,
+        work.writes.as_slice(),
+        wants.as_slice(),
+        Mode::IntentionWrite,
+    )?;
     Ok((reads, writes))
 }
 
