@@ -26,7 +26,7 @@ use Rattle.jn_storage.specs.Storage.{Accounts, IsCounted, needed, intentions, li
 use Rattle.jn_storage.specs.Calls.{state}
 use Rattle.jn_storage.proofs.Listings.{but, is_in-but, different-but, total-but}
 use Rattle.jn_store.specs.Store.{StoreView}
-use Rattle.jn_sets.specs.Pool.{free_count, is_rubbish}
+use Rattle.jn_sets.specs.Pool.{free_count, is_rubbish, rubbish_count}
 use Rattle.jn_found.specs.Contents.{Contents, has_address, heads_name, works_name}
 use Rattle.jn_found.specs.Held.{held_contents}
 use Rattle.jn_found.specs.Pages.{pool_on, heads_on, listed}
@@ -35,12 +35,13 @@ use Rattle.jn_found.proofs.HeldLaws.{contents_held}
 use Rattle.jn_found.proofs.Slots.{passes_at}
 use Rattle.jn_recovery.specs.Matches.{Matches, IsKept}
 use Rattle.jn_recovery.specs.Memory.{Memory as Kept, view_of, rubbish_in}
+use Rattle.jn_recovery.proofs.Erasing.{rubbish_length}
 use Rattle.jn_recovery.proofs.Standing.{named_head}
 use Rattle.jn_intent.proofs.Rubbish.{some_rubbish}
 use Rattle.jn_worker.specs.Fitting.{WorkerView, WorkFits, is_none}
 use Rattle.jn_coord.specs.Remembered.{Remembered}
 use Rattle.jn_server.specs.Seen.{ServerView, IsServer}
-use Rattle.jn_server.specs.Reading.{IsRoomOfPages}
+use Rattle.jn_server.specs.Reading.{IsRoomOfPages, CountsPages}
 use Rattle.jn_server.specs.Standing.{standing_pages, is_free_head, promised_heads}
 
 -- ---- the heads that are promised to prepared works
@@ -209,15 +210,31 @@ module _ (m : Kept) (s : StoreView) (t : WorkerView) (r : Remembered) (k : Ticke
   abbrev pages : Pages
   pages = standing_pages s
 
-  module _ (serves : IsServer view) (rising : are_rising t.table ≡ true) (now : Matches m s) where
-    said : contents_by g s (λ n. false) ≡ held_contents g s m.epoch m.records m.table.heads (λ n. false)
-    said = contents_held m.server g s m.epoch m.records m.table.heads now.standing.held (λ n. false)
+  contents_are : Matches m s → contents_by g s (λ n. false) ≡ held_contents g s m.epoch m.records m.table.heads (λ n. false)
+  contents_are now = contents_held m.server g s m.epoch m.records m.table.heads now.standing.held (λ n. false)
 
+  pool_held : Matches m s → pool_on g pages ≡ m.records
+  pool_held now = ap (λ (x : Contents). x.pool) (contents_are now)
+
+  heads_held : Matches m s → heads_on g pages ≡ m.table.heads
+  heads_held now = ap (λ (x : Contents). x.heads) (contents_are now)
+
+  heads_counted : Matches m s → free_numbers m.table.free_heads ≡ count_by is_free_head (heads_on g pages)
+  heads_counted now = heads_free m.table now.table m.records now.held ∙ ap (λ (l : List Head). count_by is_free_head l) (sym (heads_held now))
+
+  pub counts_of_pages : IsKept m s → CountsPages view
+  counts_of_pages kept power = record {
+    free = ap (λ (l : List Record). free_count l) (sym (pool_held (kept power)));
+    rubbish = rubbish_length m.records m.records ∙ ap (λ (l : List Record). rubbish_count l) (sym (pool_held (kept power)));
+    heads = heads_counted (kept power);
+  }
+
+  module _ (serves : IsServer view) (rising : are_rising t.table ≡ true) (now : Matches m s) where
     pool_is : pool_on g pages ≡ m.records
-    pool_is = ap (λ (x : Contents). x.pool) said
+    pool_is = pool_held now
 
     heads_is : heads_on g pages ≡ m.table.heads
-    heads_is = ap (λ (x : Contents). x.heads) said
+    heads_is = heads_held now
 
     promised_is : m.promised ≡ promised r.transactions
     promised_is = let e = serves.transactions.promises in omega (arith, e)
@@ -230,7 +247,7 @@ module _ (m : Kept) (s : StoreView) (t : WorkerView) (r : Remembered) (k : Ticke
 
     heads_free_are : (free_numbers m.table.free_heads - m.table.free_heads.promised) ≡ (count_by is_free_head (heads_on g pages) - promises)
     heads_free_are = ap (λ n. free_numbers m.table.free_heads - n) (promises_are (state (view_of m s)) (view_of m s).accounts t.table serves.works.serving.counted rising serves.works.stored)
-        ∙ ap (λ n. n - promises) (heads_free m.table now.table m.records now.held ∙ ap (λ (l : List Head). count_by is_free_head l) (sym heads_is))
+        ∙ ap (λ n. n - promises) (heads_counted now)
 
     pages_free_are : free_numbers m.table.free_leaves ≡ count_by (λ d. not (heads_name (heads_on g pages) (d + 1) || works_name (pool_on g pages) (d + 1))) (listed (λ d. d) 0 g.leaves)
     pages_free_are = pages_free m.table now.table m.records now.held

@@ -1,12 +1,22 @@
 -- What the rows of a server read of its storage, as it stands on the pages.
-use Rattle.std.specs.Prelude.{◌≡◌}
-use Rattle.jn_found.specs.Pages.{pool_on}
+use Rattle.std.specs.Prelude.{◌≡◌, true, length, count_by}
+use Rattle.jn_found.specs.Pages.{pool_on, heads_on}
 use Rattle.jn_intent.specs.Scrubbing.{counts_in}
+use Rattle.jn_sets.specs.Pool.{free_count, rubbish_count}
 use Rattle.jn_server.specs.Seen.{ServerView, memory_of, room_of}
-use Rattle.jn_server.specs.Standing.{standing_pages, free_on, has_rubbish}
+use Rattle.jn_server.specs.Standing.{standing_pages, is_free_head, free_on, has_rubbish}
 use Rattle.jn_storage.specs.Calls.{state}
 
 -- what is free and whether a record is rubbish, no more and no less
 pub record IsRoomOfPages (v : ServerView) : Type 0 where
   pub free : (room_of v.storage).free ≡ free_on (counts_in v.storage.accounts) (standing_pages v.storage.store) (state v.storage) (memory_of v)
   pub rubbish : (room_of v.storage).rubbish ≡ has_rubbish (pool_on (counts_in v.storage.accounts) (standing_pages v.storage.store))
+
+-- How many free records, rubbish records and free heads its storage counts is how many are on its pages, while the store has power.
+pub record AreCountsOfPages (v : ServerView) : Type 0 where
+  pub free : v.storage.accounts.free_records ≡ free_count (pool_on (counts_in v.storage.accounts) (standing_pages v.storage.store))
+  pub rubbish : length v.storage.accounts.rubbish ≡ rubbish_count (pool_on (counts_in v.storage.accounts) (standing_pages v.storage.store))
+  pub heads : v.storage.accounts.free_heads ≡ count_by is_free_head (heads_on (counts_in v.storage.accounts) (standing_pages v.storage.store))
+
+abbrev pub CountsPages : ServerView → Type 0
+CountsPages v = v.storage.store.power ≡ true → AreCountsOfPages v

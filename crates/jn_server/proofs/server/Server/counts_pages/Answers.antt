@@ -1,0 +1,13 @@
+use Rattle.std.proofs.Common.{subst}
+use Rattle.jn_store.specs.Store.{StoreView}
+use Rattle.jn_server.specs.Seen.{Parts, view_with}
+use Rattle.jn_server.specs.Reading.{CountsPages}
+use Rattle.jn_server.proofs.Room.{counts_of_pages}
+use Rattle.jn_server.proofs.server.Server.counts_pages.Goals as goal
+
+pub returns : goal.returns
+returns g c =
+    let look : g.row.S.Denot → StoreView = λ s. g.S.StableStore.view s in
+    let inside : Parts g.row.S.Denot = record { storage = c.self.inside.storage; worker = c.self.inside.worker; coordinator = c.self.inside.coordinator; tickets = c.self.inside.tickets } in
+    subst (λ (s : Parts g.row.S.Denot). CountsPages (view_with look s)) c.self.view_is
+    (counts_of_pages c.self.inside.storage.1 (look c.self.inside.storage.0) c.self.inside.worker c.self.inside.coordinator c.self.inside.tickets c.is_kept.ensures)
