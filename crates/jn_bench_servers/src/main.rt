@@ -392,12 +392,12 @@ fn calls_of(
     }
 }
 
-/// A restart cleans each pair, reads the root, the records and the heads, and puts the root.
+/// A restart cleans and reads the root, the records and the heads, three calls each, and puts the root.
 fn restart_calls(is_large: bool) -> u64 {
     if is_large {
-        2 * 10_001 + 1 + 1000 + 1000 + 4
+        3 * (1 + 1000 + 1000) + 4
     } else {
-        2 * 177 + 1 + 32 + 16 + 4
+        3 * (1 + 32 + 16) + 4
     }
 }
 

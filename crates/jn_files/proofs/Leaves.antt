@@ -1,4 +1,4 @@
--- Data pages: one is filled, read, or let go.
+-- Data pages: one is filled, held, or let go.
 use Rattle.std.proofs.Common.{◌≡◌, ◌≢◌, inl, inr, ⊎_elim, ◌<◌, ◌↔◌, ◌-◌, ℕ, suc, Bool, true, false, List, length, drop, replicate, Some, None, Result, Ok, refl, sym, ap, subst, ◌∙◌, arith}
 use Rattle.std.proofs.lemmas.Bool.{cases_eq, false_from_ne_true}
 use Rattle.std.proofs.lemmas.List.{drop_at, get_or-set_same, get_or-set_other, length-set}
@@ -17,7 +17,7 @@ use Rattle.jn_store.specs.Choices.{IsChoice}
 use Rattle.jn_store.proofs.Laws.{later_refl, same_refl}
 use Rattle.jn_files.specs.Table.{TableView, head_in, address_of, address_for, behind, IsUnnamed, IsFreeLeaf, IsTable, AreHeads}
 use Rattle.jn_files.specs.Pages.{leaves_in, leaf_page, IsLeaf, Holds, files_in}
-use Rattle.jn_files.specs.Calls.{Fits, StoreRead, BlockGot, Fills}
+use Rattle.jn_files.specs.Calls.{Fits, Fills, with_touched}
 use Rattle.jn_files.specs.Inside.{view_of, IsNamed}
 use Rattle.jn_files.proofs.Lookup.{named_by}
 use Rattle.jn_files.proofs.Putting.{files_said, same_leaves, says_choice, leaf_choice, files_first, named_below, same_leaf, same_only}
@@ -50,56 +50,21 @@ module _ (t : TableView) (v : StoreView) (a : ℕ) (block : List ℕ) (ok : Bool
       ∙ sym (files_first t.counts t.heads v is.slots is.few_leaves is.heads fits holds)
 
 pub fills : (t : TableView) (v : StoreView) (a : ℕ) (block : List ℕ) (ok : Bool) (w : StoreView) (at : ℕ) (page : List ℕ) → at ≡ data_place t.counts a → page ≡ leaf_page block → StorePut v at page ok w
-    → IsTable t → a < t.counts.leaves → IsUnnamed t.heads a → Fits t v → length block ≡ 448 → Fills t v a block ok w
-fills t v a block ok w at page at_is page_is raw is below unnamed fits long =
+    → IsTable t → a < t.counts.leaves → IsUnnamed t.heads a → Fits t v → length block ≡ 448 → (u : TableView) → (ok ≡ true → u ≡ with_touched t a) → (ok ≡ false → u ≡ t) → Fills t v a block ok u w
+fills t v a block ok w at page at_is page_is raw is below unnamed fits long u done stopped =
     let put : StorePut v (data_place t.counts a) (leaf_page block) ok w = subst (λ (k : ℕ). StorePut v k (leaf_page block) ok w) at_is (subst (λ (x : List ℕ). StorePut v at x ok w) page_is raw) in
     record {
+      done = done;
+      stopped = stopped;
       put = put;
       leaf = λ e. let only = put.done e in record { clean = only.first ∙ sym only.second; tail = ap (drop 448) only.first ∙ drop_at block (replicate 64 0) 448 long };
       holds = λ holds. fill_holds t v a block ok w put is below unnamed fits holds;
       files = λ holds d choice. fill_files t v a block ok w put is below unnamed fits holds d choice;
     }
 
--- ---- reading
-
-read_none : (v : StoreView) → StoreRead v 1 v
-read_none v = record { later = later_refl v; calls = omega arith; puts = refl; same = λ j. same_refl v j }
-
-pub read_one : (v : StoreView) (i : ℕ) (answer : Result (List ℕ) Stopped) (w : StoreView) → StoreGot v i answer w → StoreRead v 1 w
-read_one v i answer w got = record { later = got.later; calls = let n = got.calls in omega arith; puts = got.puts; same = got.same }
-
-module _ (t : TableView) (v : StoreView) (is : IsTable t) (fits : Fits t v) (holds : Holds t v) (f : FileNo) (p : BlockNo) where
-  block_is : files_in t.counts v (Block f p) ≡ behind (leaves_in t.counts v.first) (address_for t.heads f p.0)
-  block_is = ap (λ (files : Files). files (Block f p)) (files_first t.counts t.heads v is.slots is.few_leaves is.heads fits holds)
-
-  pub got_none : (x : ℕ) → x ≡ address_for t.heads f p.0 → x ≡ 0 → BlockGot t v f p (Ok None) v
-  got_none x e zero_is = record {
-    read = read_none v;
-    found = λ block same. let none : None ≡ block = cc same in sym none ∙ sym (block_is ∙ ap (behind (leaves_in t.counts v.first)) (sym e ∙ zero_is));
-  }
-
-  named : (x : ℕ) → x ≡ address_for t.heads f p.0 → x ≢ 0 → (slot : ℕ) × (address_of (head_in t.heads slot) p.0 ≡ suc (x - 1))
-  named x e ne = named_by f t.heads p.0 (x - 1) (sym e ∙ (let s : x ≡ suc (x - 1) = omega arith in s))
-
-  pub leaf_place_below : (x : ℕ) → x ≡ address_for t.heads f p.0 → x ≢ 0 → data_place t.counts (x - 1) < v.count
-  leaf_place_below x e ne = let n = named x e ne in let lt = named_below t.counts t.heads is.heads n.0 p.0 (x - 1) n.1 in omega arith
-
-  pub got_some : (x i : ℕ) (page block : List ℕ) (w : StoreView) → x ≡ address_for t.heads f p.0 → x ≢ 0 → i ≡ data_place t.counts (x - 1) → StoreGot v i (Ok page) w → block ≡ take 448 page → BlockGot t v f p (Ok (Some block)) w
-  got_some x i page block w e ne place got block_of =
-      let n = named x e ne in
-      let leaf = holds.leaves n.0 p.0 (x - 1) n.1 in
-      let here : Candidate v (data_place t.counts (x - 1)) page = subst (λ (k : ℕ). Candidate v k page) place (got.found page refl) in
-      let page_is : page ≡ v.first (data_place t.counts (x - 1)) = ⊎_elim (λ a. a) (λ b. b ∙ sym leaf.clean) here in
-      record {
-        read = read_one v i (Ok page) w got;
-        found = λ b same. let some : Some block ≡ b = cc same in
-            sym some ∙ ap (λ (l : List ℕ). Some l) (block_of ∙ ap (take 448) page_is)
-            ∙ sym (block_is ∙ ap (behind (leaves_in t.counts v.first)) (sym e ∙ (let s : x ≡ suc (x - 1) = omega arith in s)));
-      }
-
 -- ---- a data page that is held no more
 
-module _ (pool : ℕ) (heads : List Head) (held : List Bool) (fh fl fl2 : FreeNumbers) (a : ℕ) (is : IsTable (view_of pool heads held fh fl)) (was : slice_index_or held a false ≡ true)
+module _ (pool : ℕ) (heads : List Head) (held touched : List Bool) (fh fl fl2 : FreeNumbers) (a : ℕ) (is : IsTable (view_of pool heads held touched fh fl)) (was : slice_index_or held a false ≡ true)
     (count : count_of fl2 ≡ count_of fl) (others : (b : ℕ) → b ≢ a → is_free_number fl2 b ≡ is_free_number fl b) (here : (is_free_number fl2 a ≡ true) ↔ IsUnnamed heads a) where
   below : a < length held
   below = set_below held a was
@@ -110,7 +75,7 @@ module _ (pool : ℕ) (heads : List Head) (held : List Bool) (fh fl fl2 : FreeNu
   loose_here : slice_index_or (slice_set held a false) a false ≡ false
   loose_here = get_or-set_same held a false false below
 
-  free_to : (b : ℕ) → is_free_number fl2 b ≡ true → IsFreeLeaf (view_of pool heads (slice_set held a false) fh fl2) b
+  free_to : (b : ℕ) → is_free_number fl2 b ≡ true → IsFreeLeaf (view_of pool heads (slice_set held a false) touched fh fl2) b
   free_to b free = elim (cases_eq b a) [
     | inl e ↦ record {
       below = let n = length-set held a false in let lt = below in omega arith;
@@ -124,13 +89,13 @@ module _ (pool : ℕ) (heads : List Head) (held : List Bool) (fh fl fl2 : FreeNu
     }
   ]
 
-  to_free : (b : ℕ) → IsFreeLeaf (view_of pool heads (slice_set held a false) fh fl2) b → is_free_number fl2 b ≡ true
+  to_free : (b : ℕ) → IsFreeLeaf (view_of pool heads (slice_set held a false) touched fh fl2) b → is_free_number fl2 b ≡ true
   to_free b leaf = elim (cases_eq b a) [
     | inl e ↦ subst (λ (k : ℕ). is_free_number fl2 k ≡ true) (sym e) (here.1 (subst (λ (k : ℕ). IsUnnamed heads k) e leaf.unnamed))
     | inr ne ↦ others b ne ∙ (is.free_leaves b).1 (record { below = let n = length-set held a false in let lt = leaf.below in omega arith; loose = sym (loose_other b ne) ∙ leaf.loose; unnamed = leaf.unnamed })
   ]
 
-  pub let_go_table : IsTable (view_of pool heads (slice_set held a false) fh fl2)
+  pub let_go_table : IsTable (view_of pool heads (slice_set held a false) touched fh fl2)
   let_go_table =
       let n : length (slice_set held a false) ≡ length held = length-set held a false in
       record {
@@ -138,6 +103,7 @@ module _ (pool : ℕ) (heads : List Head) (held : List Bool) (fh fl fl2 : FreeNu
         slots = refl;
         leaves = refl;
         few_heads = is.few_heads;
+        touches = is.touches ∙ sym n;
         few_leaves = let few = is.few_leaves in omega arith;
         head_count = is.head_count;
         free_heads = is.free_heads;
@@ -145,19 +111,60 @@ module _ (pool : ℕ) (heads : List Head) (held : List Bool) (fh fl fl2 : FreeNu
         free_leaves = λ b. (free_to b, to_free b);
       }
 
-pub named_used : (pool : ℕ) (heads : List Head) (held : List Bool) (fh fl : FreeNumbers) (a : ℕ) → IsTable (view_of pool heads held fh fl) → slice_index_or held a false ≡ true → is_free_number fl a ≡ false
-named_used pool heads held fh fl a is was = false_from_ne_true (is_free_number fl a) (λ free. let loose : slice_index_or held a false ≡ false = ((is.free_leaves a).0 free).loose in cc (loose, was))
+pub named_used : (pool : ℕ) (heads : List Head) (held touched : List Bool) (fh fl : FreeNumbers) (a : ℕ) → IsTable (view_of pool heads held touched fh fl) → slice_index_or held a false ≡ true → is_free_number fl a ≡ false
+named_used pool heads held touched fh fl a is was = false_from_ne_true (is_free_number fl a) (λ free. let loose : slice_index_or held a false ≡ false = ((is.free_leaves a).0 free).loose in cc (loose, was))
 
 -- it stays named
-pub let_go_named : (pool : ℕ) (heads : List Head) (held : List Bool) (fh fl : FreeNumbers) (a : ℕ) → IsTable (view_of pool heads held fh fl) → slice_index_or held a false ≡ true → IsNamed heads a
-    → IsTable (view_of pool heads (slice_set held a false) fh fl)
-let_go_named pool heads held fh fl a is was named =
-    let_go_table pool heads held fh fl fl a is was refl (λ b ne. refl)
-    (λ free. absurd (let used = named_used pool heads held fh fl a is was in cc (used, free)), λ unnamed. absurd (unnamed named.slot named.block named.here))
+pub let_go_named : (pool : ℕ) (heads : List Head) (held touched : List Bool) (fh fl : FreeNumbers) (a : ℕ) → IsTable (view_of pool heads held touched fh fl) → slice_index_or held a false ≡ true → IsNamed heads a
+    → IsTable (view_of pool heads (slice_set held a false) touched fh fl)
+let_go_named pool heads held touched fh fl a is was named =
+    let_go_table pool heads held touched fh fl fl a is was refl (λ b ne. refl)
+    (λ free. absurd (let used = named_used pool heads held touched fh fl a is was in cc (used, free)), λ unnamed. absurd (unnamed named.slot named.block named.here))
 
 -- or it is free
-pub let_go_free : (pool : ℕ) (heads : List Head) (held : List Bool) (fh fl : FreeNumbers) (a : ℕ) → IsTable (view_of pool heads held fh fl) → slice_index_or held a false ≡ true → IsUnnamed heads a
-    → IsTable (view_of pool heads (slice_set held a false) fh (with_free fl a true))
-let_go_free pool heads held fh fl a is was unnamed =
-    let_go_table pool heads held fh fl (with_free fl a true) a is was (length-set fl.flags a true) (λ b ne. get_or-set_other fl.flags a b true false ne)
+pub let_go_free : (pool : ℕ) (heads : List Head) (held touched : List Bool) (fh fl : FreeNumbers) (a : ℕ) → IsTable (view_of pool heads held touched fh fl) → slice_index_or held a false ≡ true → IsUnnamed heads a
+    → IsTable (view_of pool heads (slice_set held a false) touched fh (with_free fl a true))
+let_go_free pool heads held touched fh fl a is was unnamed =
+    let_go_table pool heads held touched fh fl (with_free fl a true) a is was (length-set fl.flags a true) (λ b ne. get_or-set_other fl.flags a b true false ne)
     (λ free. unnamed, λ u. get_or-set_same fl.flags a true false (let lt = set_below held a was in let n = is.leaf_count in omega arith))
+
+-- ---- a data page that is held
+
+module _ (pool : ℕ) (heads : List Head) (held touched : List Bool) (fh fl : FreeNumbers) (a : ℕ) (is : IsTable (view_of pool heads held touched fh fl)) (below_held : a < length held) where
+  hold_to : (b : ℕ) → is_free_number (with_free fl a false) b ≡ true → IsFreeLeaf (view_of pool heads (slice_set held a true) touched fh (with_free fl a false)) b
+  hold_to b free = elim (cases_eq b a) [
+    | inl e ↦ absurd (let none : is_free_number (with_free fl a false) a ≡ false = get_or-set_same fl.flags a false false (let n = is.leaf_count in omega arith) in
+        let here : is_free_number (with_free fl a false) a ≡ true = subst (λ (k : ℕ). is_free_number (with_free fl a false) k ≡ true) e free in cc (none, here))
+    | inr ne ↦ let old = (is.free_leaves b).0 (sym (get_or-set_other fl.flags a b false false ne) ∙ free) in record {
+      below = let n = length-set held a true in let lt = old.below in omega arith;
+      loose = get_or-set_other held a b true false ne ∙ old.loose;
+      unnamed = old.unnamed;
+    }
+  ]
+
+  hold_from : (b : ℕ) → IsFreeLeaf (view_of pool heads (slice_set held a true) touched fh (with_free fl a false)) b → is_free_number (with_free fl a false) b ≡ true
+  hold_from b leaf = elim (cases_eq b a) [
+    | inl e ↦ absurd (let set : slice_index_or (slice_set held a true) a false ≡ true = get_or-set_same held a true false below_held in
+        let loose : slice_index_or (slice_set held a true) a false ≡ false = subst (λ (k : ℕ). slice_index_or (slice_set held a true) k false ≡ false) e leaf.loose in cc (set, loose))
+    | inr ne ↦ get_or-set_other fl.flags a b false false ne ∙ (is.free_leaves b).1 (record {
+      below = let n = length-set held a true in let lt = leaf.below in omega arith;
+      loose = sym (get_or-set_other held a b true false ne) ∙ leaf.loose;
+      unnamed = leaf.unnamed;
+    })
+  ]
+
+  pub hold_table : IsTable (view_of pool heads (slice_set held a true) touched fh (with_free fl a false))
+  hold_table =
+      let n : length (slice_set held a true) ≡ length held = length-set held a true in
+      record {
+        heads = subst (λ (k : ℕ). AreHeads k heads) (sym n) is.heads;
+        slots = refl;
+        leaves = refl;
+        touches = is.touches ∙ sym n;
+        few_heads = is.few_heads;
+        few_leaves = let few = is.few_leaves in omega arith;
+        head_count = is.head_count;
+        free_heads = is.free_heads;
+        leaf_count = length-set fl.flags a false ∙ is.leaf_count ∙ sym n;
+        free_leaves = λ b. (hold_to b, hold_from b);
+      }

@@ -7,6 +7,7 @@ pub mod Spelled
 pub mod Putting
 pub mod Setting
 pub mod Leaves
+pub mod Touching
 pub mod Loading
 pub mod Finding
 pub mod Naming

@@ -18,8 +18,8 @@ head_at_slot heads slot h j below e = subst (λ (k : ℕ). head_in (slice_set he
 pub head_off_slot : (heads : List Head) (slot : ℕ) (h : Head) (j : ℕ) → j ≢ slot → head_in (slice_set heads slot h) j ≡ head_in heads j
 head_off_slot heads slot h j ne = get_or-set_other heads slot j h Free ne
 
-module _ (pool : ℕ) (heads : List Head) (held : List Bool) (fh fl : FreeNumbers) (slot : ℕ) (h : Head)
-    (is : IsTable (view_of pool heads held fh fl)) (may : MayStand (view_of pool heads held fh fl) slot h) where
+module _ (pool : ℕ) (heads : List Head) (held touched : List Bool) (fh fl : FreeNumbers) (slot : ℕ) (h : Head)
+    (is : IsTable (view_of pool heads held touched fh fl)) (may : MayStand (view_of pool heads held touched fh fl) slot h) where
   at : (j : ℕ) → j ≡ slot → head_in (slice_set heads slot h) j ≡ h
   at j e = head_at_slot heads slot h j may.below e
 
@@ -64,16 +64,16 @@ module _ (pool : ℕ) (heads : List Head) (held : List Bool) (fh fl : FreeNumber
 
   module _ (fh2 fl2 : FreeNumbers) (counts : Counts fh slot (is_free h) fh2) (drops : Drops held (head_in heads slot) h 120 fl fl2) where
     new_view : TableView
-    new_view = view_of pool (slice_set heads slot h) held fh2 fl2
+    new_view = view_of pool (slice_set heads slot h) held touched fh2 fl2
 
     same_length : length (slice_set heads slot h) ≡ length heads
     same_length = length-set heads slot h
 
     -- what is free now was so, or was dropped
-    leaf_free : (a : ℕ) → is_free_number fl2 a ≡ true → IsFreeLeaf (view_of pool (slice_set heads slot h) held fh2 fl2) a
+    leaf_free : (a : ℕ) → is_free_number fl2 a ≡ true → IsFreeLeaf (view_of pool (slice_set heads slot h) held touched fh2 fl2) a
     leaf_free a free = ⊎_elim
         (λ (was : is_free_number fl a ≡ true).
-        let old : IsFreeLeaf (view_of pool heads held fh fl) a = (is.free_leaves a).0 was in
+        let old : IsFreeLeaf (view_of pool heads held touched fh fl) a = (is.free_leaves a).0 was in
         record {
           below = old.below;
           loose = old.loose;
@@ -95,7 +95,7 @@ module _ (pool : ℕ) (heads : List Head) (held : List Bool) (fh fl : FreeNumber
         })
         (drops.only a free)
 
-    free_leaf : (a : ℕ) → IsFreeLeaf (view_of pool (slice_set heads slot h) held fh2 fl2) a → is_free_number fl2 a ≡ true
+    free_leaf : (a : ℕ) → IsFreeLeaf (view_of pool (slice_set heads slot h) held touched fh2 fl2) a → is_free_number fl2 a ≡ true
     free_leaf a leaf = ⊎_elim
         (λ (yes_free : is_free_number fl2 a ≡ true). yes_free)
         (λ (used : is_free_number fl2 a ≡ false).
@@ -111,12 +111,13 @@ module _ (pool : ℕ) (heads : List Head) (held : List Bool) (fh fl : FreeNumber
         absurd (cc (freed, used)))
         (cases_Bool (is_free_number fl2 a))
 
-    pub table_set : IsTable (view_of pool (slice_set heads slot h) held fh2 fl2)
+    pub table_set : IsTable (view_of pool (slice_set heads slot h) held touched fh2 fl2)
     table_set = record {
       heads = new_heads;
       slots = refl;
       leaves = refl;
       few_heads = let few = is.few_heads in let same = same_length in omega arith;
+      touches = is.touches;
       few_leaves = is.few_leaves;
       head_count = ap length counts.flags ∙ length-set fh.flags slot (is_free h) ∙ is.head_count ∙ sym same_length;
       free_heads = λ j below. elim (cases_eq j slot) [
@@ -130,11 +131,12 @@ module _ (pool : ℕ) (heads : List Head) (held : List Bool) (fh fl : FreeNumber
       free_leaves = λ a. (leaf_free a, free_leaf a);
     }
 
-    pub is_changed : IsChanged (view_of pool heads held fh fl) slot h (view_of pool (slice_set heads slot h) held fh2 fl2)
+    pub is_changed : IsChanged (view_of pool heads held touched fh fl) slot h (view_of pool (slice_set heads slot h) held touched fh2 fl2)
     is_changed = record {
       counts = ap (λ (n : ℕ). let g : PageCounts = record { pool = pool; heads = n; leaves = length held } in g) same_length;
       heads = refl;
       held = refl;
+      touched = refl;
       promised_heads = counts.promised;
       promised_leaves = drops.promised;
       table = table_set;
@@ -145,14 +147,14 @@ pub read_is : (heads after : List Head) (slot : ℕ) (h new : Head) → slot < l
 read_is heads after slot h new below after_is new_read = new_read ∙ ap (λ (l : List Head). head_in l slot) after_is ∙ head_at_slot heads slot h slot below refl
 
 -- as the code has it, where an old and a new head are read from the list
-module _ (pool : ℕ) (heads : List Head) (held : List Bool) (fh fl fh2 fl2 : FreeNumbers) (slot : ℕ) (h old new : Head) (after : List Head) (held2 : List Bool) (free : Bool)
-    (is : IsTable (view_of pool heads held fh fl)) (may : MayStand (view_of pool heads held fh fl) slot h) (old_is : old ≡ head_in heads slot) (after_is : after ≡ slice_set heads slot h)
+module _ (pool : ℕ) (heads : List Head) (held touched : List Bool) (fh fl fh2 fl2 : FreeNumbers) (slot : ℕ) (h old new : Head) (after : List Head) (held2 : List Bool) (free : Bool)
+    (is : IsTable (view_of pool heads held touched fh fl)) (may : MayStand (view_of pool heads held touched fh fl) slot h) (old_is : old ≡ head_in heads slot) (after_is : after ≡ slice_set heads slot h)
     (new_read : new ≡ head_in after slot) (held_is : held2 ≡ held) where
   new_is : new ≡ h
   new_is = read_is heads after slot h new may.below after_is new_read
 
   pub code_may_drop : MayDrop held2 old fl
-  code_may_drop = subst (λ (l : List Bool). MayDrop l old fl) (sym held_is) (subst (λ (x : Head). MayDrop held x fl) (sym old_is) (may_drop pool heads held fh fl slot h is may))
+  code_may_drop = subst (λ (l : List Bool). MayDrop l old fl) (sym held_is) (subst (λ (x : Head). MayDrop held x fl) (sym old_is) (may_drop pool heads held touched fh fl slot h is may))
 
   module _ (free_is : free ≡ is_free new) (counts : Counts fh slot free fh2) (drops : Drops held2 old new 120 fl fl2) where
     plain_counts : Counts fh slot (is_free h) fh2
@@ -162,8 +164,8 @@ module _ (pool : ℕ) (heads : List Head) (held : List Bool) (fh fl fh2 fl2 : Fr
     plain_drops = subst (λ (l : List Bool). Drops l (head_in heads slot) h 120 fl fl2) held_is
         (subst (λ (x : Head). Drops held2 x h 120 fl fl2) old_is (subst (λ (x : Head). Drops held2 old x 120 fl fl2) new_is drops))
 
-    pub code_table : IsTable (view_of pool after held fh2 fl2)
-    code_table = subst (λ (l : List Head). IsTable (view_of pool l held fh2 fl2)) (sym after_is) (table_set pool heads held fh fl slot h is may fh2 fl2 plain_counts plain_drops)
+    pub code_table : IsTable (view_of pool after held touched fh2 fl2)
+    code_table = subst (λ (l : List Head). IsTable (view_of pool l held touched fh2 fl2)) (sym after_is) (table_set pool heads held touched fh fl slot h is may fh2 fl2 plain_counts plain_drops)
 
-    pub code_changed : IsChanged (view_of pool heads held fh fl) slot h (view_of pool after held fh2 fl2)
-    code_changed = subst (λ (l : List Head). IsChanged (view_of pool heads held fh fl) slot h (view_of pool l held fh2 fl2)) (sym after_is) (is_changed pool heads held fh fl slot h is may fh2 fl2 plain_counts plain_drops)
+    pub code_changed : IsChanged (view_of pool heads held touched fh fl) slot h (view_of pool after held touched fh2 fl2)
+    code_changed = subst (λ (l : List Head). IsChanged (view_of pool heads held touched fh fl) slot h (view_of pool l held touched fh2 fl2)) (sym after_is) (is_changed pool heads held touched fh fl slot h is may fh2 fl2 plain_counts plain_drops)

@@ -1,5 +1,5 @@
 -- What the calls of a table of files do to it and to its store.
-use Rattle.std.specs.Prelude.{◌≡◌, ◌⊎◌, ℕ, suc, ◌+◌, ◌*◌, ◌≤◌, ◌<◌, Bool, true, false, List, slice_set, Option, Some, None, Result, Ok, nat_lt}
+use Rattle.std.specs.Prelude.{◌≡◌, ◌⊎◌, ℕ, suc, ◌+◌, ◌*◌, ◌≤◌, ◌<◌, Bool, true, false, List, slice_set, Option, Some, None, Result, Ok, is_ok, nat_lt}
 use Rattle.jn_alloc.specs.Free.{free_count, FreeNumbers, with_free, with_promised, IsLeastFree}
 use Rattle.jn_base.specs.declared.device.Stopped.{Stopped}
 use Rattle.jn_base.specs.declared.names.FileNo.{FileNo}
@@ -10,9 +10,9 @@ use Rattle.jn_records.specs.declared.head.Head.{Head}
 use Rattle.jn_records.specs.declared.root.Root.{Root}
 use Rattle.jn_records.specs.Heads.{head_page}
 use Rattle.jn_records.specs.StablePages.{Counts, Pages, head_place, data_place, page_count, files_of_pages}
-use Rattle.jn_store.specs.Store.{StoreView, StoreLater, StorePut, IsSamePage}
+use Rattle.jn_store.specs.Store.{StoreView, StoreLater, StoreGot, StorePut, StoreCleaned, IsSamePage, IsCalm, IsServed, IsStop, IsWhole}
 use Rattle.jn_store.specs.Choices.{IsChoice}
-use Rattle.jn_files.specs.Table.{TableView, IsTable, head_in, is_of, exists, is_held, IsUnnamed, files_of, address_of}
+use Rattle.jn_files.specs.Table.{TableView, IsTable, head_in, is_of, exists, is_held, is_touched, IsUnnamed, files_of, address_of}
 use Rattle.jn_files.specs.Pages.{Says, IsLeaf, leaf_page, Holds, files_in}
 
 -- the store has the pages that the table counts
@@ -31,11 +31,12 @@ pub record StoreRead (v : StoreView) (gets : ℕ) (w : StoreView) : Type 0 where
 abbrev pub counts_of : Root → Counts
 counts_of root = record { pool = root.pool; heads = root.heads; leaves = root.leaves }
 
--- no data page is held, and nothing is promised
+-- no data page is held or touched, and nothing is promised
 pub record IsLoaded (g : Counts) (t : TableView) : Type 0 where
   pub counts : t.counts ≡ g
   pub table : IsTable t
   pub loose : (a : ℕ) → is_held t a ≡ false
+  pub untouched : (a : ℕ) → is_touched t a ≡ false
   pub promised_heads : t.free_heads.promised ≡ 0
   pub promised_leaves : t.free_leaves.promised ≡ 0
 
@@ -46,6 +47,7 @@ pub record IsChanged (t : TableView) (slot : ℕ) (h : Head) (u : TableView) : T
   pub counts : u.counts ≡ t.counts
   pub heads : u.heads ≡ slice_set t.heads slot h
   pub held : u.held ≡ t.held
+  pub touched : u.touched ≡ t.touched
   pub promised_heads : u.free_heads.promised ≡ t.free_heads.promised
   pub promised_leaves : u.free_leaves.promised ≡ t.free_leaves.promised
   pub table : IsTable u
@@ -90,8 +92,19 @@ pub record MayBecome (t : TableView) (v : StoreView) (f : FileNo) (p a : ℕ) : 
 
 -- ---- data pages
 
--- a data page that no head names gets this block, which no file shows
-pub record Fills (t : TableView) (v : StoreView) (a : ℕ) (block : List ℕ) (ok : Bool) (w : StoreView) : Type 0 where
+-- a data page is touched: what was put there, or cleaned
+abbrev pub with_touched : TableView → ℕ → TableView
+with_touched t a = record t { touched = slice_set t.touched a true }
+
+-- every data page is
+pub record TouchesAll (t u : TableView) : Type 0 where
+  pub rest : u ≡ record t { touched = u.touched }
+  pub all : (a : ℕ) → a < t.counts.leaves → is_touched u a ≡ true
+
+-- a data page that no head names gets this block, which no file shows; a fill is a touch
+pub record Fills (t : TableView) (v : StoreView) (a : ℕ) (block : List ℕ) (ok : Bool) (u : TableView) (w : StoreView) : Type 0 where
+  pub done : ok ≡ true → u ≡ with_touched t a
+  pub stopped : ok ≡ false → u ≡ t
   pub put : StorePut v (data_place t.counts a) (leaf_page block) ok w
   pub leaf : ok ≡ true → IsLeaf w (data_place t.counts a)
   pub holds : Holds t v → Holds t w
@@ -106,10 +119,37 @@ pub record LetsGo (t : TableView) (a : ℕ) (u : TableView) : Type 0 where
   pub unnamed : IsUnnamed t.heads a → u ≡ record t { held = slice_set t.held a false; free_leaves = with_free t.free_leaves a true }
   pub named : (slot p : ℕ) → address_of (head_in t.heads slot) p ≡ suc a → u ≡ record t { held = slice_set t.held a false }
 
--- a block is read, or none is stored there and the device isn't asked
-pub record BlockGot (t : TableView) (v : StoreView) (f : FileNo) (p : BlockNo) (answer : Result (Option (List ℕ)) Stopped) (w : StoreView) : Type 0 where
-  pub read : StoreRead v 1 w
+-- a data page is cleaned for the first time since the load
+pub record FirstTouch (t : TableView) (v : StoreView) (a : ℕ) (ok : Bool) (u : TableView) (w : StoreView) : Type 0 where
+  pub answer : Result Bool Stopped
+  pub is : is_ok answer ≡ ok
+  pub cleaned : StoreCleaned v (data_place t.counts a) answer w
+  pub done : ok ≡ true → u ≡ with_touched t a
+  pub stopped : ok ≡ false → u ≡ t
+
+-- a data page is cleaned where it wasn't touched yet, and else nothing is done
+pub record Touches (t : TableView) (v : StoreView) (a : ℕ) (ok : Bool) (u : TableView) (w : StoreView) : Type 0 where
+  pub first : is_touched t a ≡ false → FirstTouch t v a ok u w
+  pub again : is_touched t a ≡ true → (ok ≡ true) × (u ≡ t) × (w ≡ v)
+
+-- The block that is stored at data page a is read: the page is touched, and then there is one get of it.
+pub record BlockGot (t : TableView) (v : StoreView) (f : FileNo) (p : BlockNo) (a : ℕ) (answer : Result (Option (List ℕ)) Stopped) (u : TableView) (w : StoreView) : Type 0 where
+  -- the store between the touch and the get, and whether the touch was done
+  pub between : StoreView
+  pub ready : Bool
+  pub touches : Touches t v a ready u between
+  pub page : Result (List ℕ) Stopped
+  pub got : ready ≡ true → StoreGot between (data_place t.counts a) page w × (is_ok answer ≡ is_ok page)
+  pub unready : ready ≡ false → (is_ok answer ≡ false) × (w ≡ between)
   pub found : (block : Option (List ℕ)) → answer ≡ Ok block → block ≡ files_in t.counts v (Block f p)
+  -- no page has another candidate, and while no fault waits both halves of a page that wasn't touched are good afterwards
+  pub later : StoreLater v w
+  pub calls : w.calls ≤ v.calls + 24
+  pub same : (j : ℕ) → j < v.count → IsSamePage v w j
+  pub whole : IsCalm v → is_touched t a ≡ false → IsWhole w (data_place t.counts a)
+  pub served : is_ok answer ≡ true → IsServed v w
+  pub stop : is_ok answer ≡ false → IsStop v w
+  pub calm : IsCalm v → is_ok answer ≡ true
 
 abbrev pub with_promised_heads : TableView → ℕ → TableView
 with_promised_heads t n = record t { free_heads = with_promised t.free_heads n }

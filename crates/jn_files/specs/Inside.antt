@@ -13,11 +13,12 @@ use Rattle.jn_files.specs.Table.{TableView, IsTable, IsUnnamed, head_in, is_free
 use Rattle.jn_files.specs.Pages.{IsLeaf, Holds, IsLoadable}
 use Rattle.jn_files.specs.Calls.{StoreRead}
 
-abbrev pub view_of : ℕ → List Head → List Bool → FreeNumbers → FreeNumbers → TableView
-view_of pool heads held free_heads free_leaves = record {
+abbrev pub view_of : ℕ → List Head → List Bool → List Bool → FreeNumbers → FreeNumbers → TableView
+view_of pool heads held touched free_heads free_leaves = record {
   counts = record { pool = pool; heads = length heads; leaves = length held };
   heads = heads;
   held = held;
+  touched = touched;
   free_heads = free_heads;
   free_leaves = free_leaves;
 }
@@ -80,8 +81,8 @@ abbrev pub marked_one : ℕ → Bool → List Bool → List Bool
 marked_one address is flags = if nat_eq address 0 then flags else slice_set flags (address - 1) is
 
 -- what a table keeps in memory
-pub record IsKept (pool : ℕ) (heads : List Head) (held named : List Bool) (free_heads free_leaves : FreeNumbers) : Type 0 where
-  pub table : IsTable (view_of pool heads held free_heads free_leaves)
+pub record IsKept (pool : ℕ) (heads : List Head) (held touched named : List Bool) (free_heads free_leaves : FreeNumbers) : Type 0 where
+  pub table : IsTable (view_of pool heads held touched free_heads free_leaves)
   pub pages : length named ≡ length held
   pub names : AreNamed heads named
 

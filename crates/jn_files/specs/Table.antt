@@ -18,6 +18,8 @@ pub record TableView : Type 0 where
   pub heads : List Head
   -- of each data page, whether it is held: then it isn't free, whatever the heads name
   pub held : List Bool
+  -- of each data page, whether it was cleaned or put since the table was loaded
+  pub touched : List Bool
   pub free_heads : FreeNumbers
   pub free_leaves : FreeNumbers
 
@@ -74,6 +76,10 @@ pub record AreHeads (leaves : ℕ) (heads : List Head) : Type 0 where
 abbrev pub is_held : TableView → ℕ → Bool
 is_held t a = slice_index_or t.held a false
 
+-- a data page was cleaned or put since the table was loaded, so a get needs no cleanup before it
+abbrev pub is_touched : TableView → ℕ → Bool
+is_touched t a = slice_index_or t.touched a false
+
 -- a data page is free where it is neither held nor named
 pub record IsFreeLeaf (t : TableView) (a : ℕ) : Type 0 where
   pub below : a < t.counts.leaves
@@ -84,6 +90,7 @@ pub record IsTable (t : TableView) : Type 0 where
   pub heads : AreHeads t.counts.leaves t.heads
   pub slots : length t.heads ≡ t.counts.heads
   pub leaves : length t.held ≡ t.counts.leaves
+  pub touches : length t.touched ≡ t.counts.leaves
   pub few_heads : t.counts.heads < 2 ^ 16
   pub few_leaves : t.counts.leaves < 2 ^ 16
   -- the two free lists say what is free

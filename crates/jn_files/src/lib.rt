@@ -5,6 +5,9 @@
 //! address. So each change of the files is one put of one page, and a call that is stopped leaves a file old or
 //! new and all others as they were, whichever candidate of that page is found later.
 //!
+//! A data page is cleaned before the first get of it since the load, unless it was put since then: it is touched then. So a load
+//! needs no data page cleaned.
+//!
 //! A data page may be held: it is that of an intention, and isn't free, whatever the heads name. No call but `load` takes
 //! memory.
 #![tactic(auto)]

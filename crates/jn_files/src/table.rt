@@ -1,6 +1,6 @@
 //! The table of files.
 ghost use Rattle.std.specs.Prelude.{◌≡◌, ◌^◌, ◌≢◌, ◌↔◌, ◌<◌, ◌≤◌, ◌+◌, ◌-◌, ℕ, suc, true, false, length, List, slice_set, slice_index_or, Option, Some, None, Ok, Err, is_ok, is_some, IfOk, IfSome, IfNone, IfErr, IsOk, IsSome, OnOk, OnErr, take};
-ghost use Rattle.jn_alloc.specs.Free.{free_count, is_free as is_free_number, count_of, IsLeastFree};
+ghost use Rattle.jn_alloc.specs.Free.{free_count, with_free, is_free as is_free_number, count_of, IsLeastFree};
 ghost use Rattle.jn_order.specs.Files.{Change, created, removed, cut_from, written};
 ghost use Rattle.jn_records.specs.declared.head.Head.{Head as HeadOf};
 ghost use Rattle.jn_records.specs.declared.head.Head.TheVariants.{Free};
@@ -22,7 +22,7 @@ use jn_store::StableStore;
 use std::alloc::{AllocError, Global};
 use std::marker::Model;
 
-/// The heads of a store, and which of its data pages are held.
+/// The heads of a store, and which of its data pages are held and which are touched.
 ///
 /// The store isn't kept: the calls that need it are passed it, and it is that from which the table was loaded.
 #[derive(Drop)]
@@ -30,6 +30,8 @@ pub struct FileTable {
     pool: u16,
     heads: Heads,
     held: Vec<bool>,
+    /// Of each data page, whether it was cleaned or put since the load.
+    touched: Vec<bool>,
     /// Of each data page, whether a head names it.
     named: Vec<bool>,
     free_heads: FreeList,
@@ -43,13 +45,13 @@ impl Model for FileTable {
 
     ghost Value = { TableView };
 
-    ghost view = { λ t. view_of t.pool t.heads t.held.items t.free_heads t.free_leaves };
+    ghost view = { λ t. view_of t.pool t.heads t.held.items t.touched.items t.free_heads t.free_leaves };
 
-    ghost invariant = { λ t. IsKept t.pool t.heads t.held.items t.named.items t.free_heads t.free_leaves };
+    ghost invariant = { λ t. IsKept t.pool t.heads t.held.items t.touched.items t.named.items t.free_heads t.free_leaves };
 }
 
 impl FileTable {
-    /// The table of the heads that the store holds. None of its data pages is held, and none is promised. This call alone takes
+    /// The table of the heads that the store holds. None of its data pages is held, touched or promised. This call alone takes
     /// memory.
     pub fn load<S: StableStore>(
         alloc: Global,
@@ -71,12 +73,14 @@ impl FileTable {
         let free_heads = free_heads(alloc, &slots)?;
         let free_leaves = free_leaves(alloc, root.leaves, &slots)?;
         let held = none_set(alloc, root.leaves)?;
+        let touched = none_set(alloc, root.leaves)?;
         let named = named_pages(alloc, root.leaves, &slots)?;
         let heads = Heads::new(alloc, slots)?;
         Ok(FileTable {
             pool: root.pool,
             heads,
             held,
+            touched,
             named,
             free_heads,
             free_leaves,
@@ -239,39 +243,72 @@ impl FileTable {
         self.put_head(store, slot, head, p.0, p.0 + 1)
     }
 
-    /// Puts a block to a data page that is held and that no head names.
-    pub fn fill<S: StableStore>(&self, store: &mut S, a: u16, block: &Block) -> Result<(), Stopped>
-        requires fits { calls.Fits self.now (S.view store.old) }
-        requires held { table.is_held self.now a ≡ true }
-        requires unnamed { table.IsUnnamed self.now.heads a }
-        ensures { calls.Fills self.now (S.view store.old) a block.now (is_ok result) (S.view store.new) }
+    /// Puts a block to a data page that is held and that no head names. It needs no cleanup before, and is a touch.
+    pub fn fill<S: StableStore>(
+        &mut self,
+        store: &mut S,
+        a: u16,
+        block: &Block,
+    ) -> Result<(), Stopped>
+        requires fits { calls.Fits self.old (S.view store.old) }
+        requires held { table.is_held self.old a ≡ true }
+        requires unnamed { table.IsUnnamed self.old.heads a }
+        ensures { calls.Fills self.old (S.view store.old) a block.now (is_ok result) self.new (S.view store.new) }
     {
         let _held = &self.held;
-        store.put(self.data_page(a), &leaf_page(block))
+        store.put(self.data_page(a), &leaf_page(block))?;
+        self.note_touch(a);
+        Ok(())
     }
 
-    /// The block, where one is stored.
+    /// The block, where one is stored. Its data page is cleaned first, unless it was touched since the load.
     pub fn read_block<S: StableStore>(
-        &self,
+        &mut self,
         store: &mut S,
         f: FileNo,
         p: BlockNo,
     ) -> Result<Option<Block>, Stopped>
-        requires fits { calls.Fits self.now (S.view store.old) }
-        requires holds { pages.Holds self.now (S.view store.old) }
+        requires fits { calls.Fits self.old (S.view store.old) }
+        requires holds { pages.Holds self.old (S.view store.old) }
         requires range { p.0 < 120 }
-        ensures got { calls.BlockGot self.now (S.view store.old) f p result (S.view store.new) }
-        ensures unasked { table.is_mapped self.now.heads f p.0 ≡ false → (result ≡ Ok None) × (S.view store.new ≡ S.view store.old) }
-        ensures served { table.is_mapped self.now.heads f p.0 ≡ true → IsOk result → IsServed (S.view store.old) (S.view store.new) }
-        ensures stop { is_ok result ≡ false → IsStop (S.view store.old) (S.view store.new) }
-        ensures calm { IsCalm (S.view store.old) → IsOk result }
+        ensures got { (a : ℕ) → table.address_for self.old.heads f p.0 ≡ suc a → calls.BlockGot self.old (S.view store.old) f p a result self.new (S.view store.new) }
+        ensures unasked { table.is_mapped self.old.heads f p.0 ≡ false → (result ≡ Ok None) × (self.new ≡ self.old) × (S.view store.new ≡ S.view store.old) }
     {
         let address = self.heads.address_for(f, p);
         if address == 0 {
             return Ok(None);
         }
+        self.touch(store, address - 1)?;
         let page = store.get(self.data_page(address - 1))?;
         Ok(Some(block_of(&page)))
+    }
+
+    /// Every data page was cleaned by whoever owns the store.
+    pub fn touch_all(&mut self)
+        ensures { calls.TouchesAll self.old self.new }
+    {
+        set_all(&mut self.touched);
+    }
+
+    /// Cleans a data page that wasn't touched yet.
+    fn touch<S: StableStore>(&mut self, store: &mut S, a: u16) -> Result<(), Stopped>
+        requires fits { calls.Fits self.old (S.view store.old) }
+        requires below { a < self.old.counts.leaves }
+        ensures { calls.Touches self.old (S.view store.old) a (is_ok result) self.new (S.view store.new) }
+    {
+        if self.touched[a as usize] {
+            return Ok(());
+        }
+        store.cleanup(self.data_page(a))?;
+        self.note_touch(a);
+        Ok(())
+    }
+
+    fn note_touch(&mut self, a: u16)
+        requires { a < self.old.counts.leaves }
+        ensures { self.new ≡ calls.with_touched self.old a }
+    {
+        self.touched[a as usize] = true;
     }
 
     /// Takes the lowest free data page, which is held from now on. Who has a promise releases it first.
@@ -296,9 +333,7 @@ impl FileTable {
         requires unpromised { self.old.free_leaves.promised ≡ 0 }
         ensures { self.new ≡ calls.with_held self.old a }
     {
-        if self.free_leaves.is_free(a) {
-            self.free_leaves.take_this(a);
-        }
+        take_if_free(&mut self.free_leaves, a);
         self.held[a as usize] = true;
     }
 
@@ -470,6 +505,15 @@ fn take_one(free: &mut FreeList, address: u16)
     }
 }
 
+fn take_if_free(free: &mut FreeList, a: u16)
+    requires { free.old.promised ≡ 0 }
+    ensures { free.new ≡ with_free free.old a false }
+{
+    if free.is_free(a) {
+        free.take_this(a);
+    }
+}
+
 fn none_set(alloc: Global, count: u16) -> Result<Vec<bool>, AllocError>
     ensures length { IfOk result (λ flags. length flags.items ≡ count) }
     ensures few { count < 2 ^ 16 }
@@ -480,6 +524,15 @@ fn none_set(alloc: Global, count: u16) -> Result<Vec<bool>, AllocError>
         flags.push(false)?;
     }
     Ok(flags)
+}
+
+fn set_all(flags: &mut Vec<bool>)
+    ensures length { length flags.new.items ≡ length flags.old.items }
+    ensures set { (a : ℕ) → a < length flags.old.items → slice_index_or flags.new.items a false ≡ true }
+{
+    for i in 0..flags.len() {
+        flags[i] = true;
+    }
 }
 
 /// The slot of a file's head, or the lowest free one.

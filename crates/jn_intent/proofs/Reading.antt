@@ -1,25 +1,29 @@
--- Reading files changes nothing.
-use Rattle.std.proofs.Common.{◌≡◌, ℕ, Bool, true, false, List, Option, Some, None, Result, Ok, refl, sym, ◌∙◌, ap, arith}
-use Rattle.std.specs.Prelude.{is_some, is_ok, Err, IsOk}
+-- Reading files changes nothing that is found.
+use Rattle.std.proofs.Common.{◌≡◌, ◌<◌, ◌≤◌, ◌+◌, ℕ, zero, suc, Bool, true, false, List, Option, Some, None, Result, Ok, refl, sym, ◌∙◌, ap, subst, true≢false, arith}
+use Rattle.std.proofs.lemmas.Bool.Decides.{nat_tests}
+use Rattle.std.specs.Prelude.{is_some, is_ok, slice_set}
 use Rattle.jn_base.specs.declared.device.Stopped.{Stopped}
 use Rattle.jn_base.specs.declared.names.BlockNo.{BlockNo}
 use Rattle.jn_base.specs.declared.names.FileNo.{FileNo}
 use Rattle.jn_base.specs.declared.names.LockUnit.TheVariants.{Block}
 use Rattle.jn_order.specs.Files.{Files}
-use Rattle.jn_files.specs.Table.{exists, is_mapped}
-use Rattle.jn_files.specs.Calls.{NextFile as NextHead, is_above as is_above_head, Fits, BlockGot}
-use Rattle.jn_files.specs.Pages.{Holds}
-use Rattle.jn_rows.specs.Stable.{Pick, StableState}
+use Rattle.jn_files.specs.Table.{TableView, IsTable, address_for, exists, is_mapped, is_touched}
+use Rattle.jn_files.specs.Calls.{NextFile as NextHead, is_above as is_above_head, Fits, Touches, BlockGot}
+use Rattle.jn_files.specs.Pages.{Holds, files_in}
+use Rattle.jn_rows.specs.Stable.{Unchanged}
 use Rattle.jn_found.specs.Pages.{found_on}
-use Rattle.jn_found.proofs.Picking.{same_found}
+use Rattle.jn_found.specs.Puts.{IsFewer}
+use Rattle.jn_found.proofs.Picking.{fewer_found}
 use Rattle.jn_records.specs.declared.head.Head.{Head}
 use Rattle.jn_storage.specs.Storage.{IsServing, file_there}
 use Rattle.jn_storage.specs.Calls.{state, NextFile, is_above, BlockRead}
-use Rattle.jn_store.specs.Store.{StoreView, HasSamePages, IsServed, IsStop}
+use Rattle.jn_store.specs.Store.{StoreView, StoreLater, IsSamePage, IsServed, IsStop}
+use Rattle.jn_store.proofs.Laws.{later_refl, same_refl, same_shrinks}
 use Rattle.jn_recovery.specs.Memory.{Memory, view_of}
 use Rattle.jn_recovery.specs.Matches.{IsKept, Matches}
 use Rattle.jn_recovery.proofs.Serving.{serves_of, serving_by, loadable_found}
-use Rattle.jn_recovery.proofs.Standing.{there_found, mapped_found, holds, files_are, up, standing_same}
+use Rattle.jn_recovery.proofs.Standing.{there_found, mapped_found, holds, files_are}
+use Rattle.jn_intent.proofs.Scrubbing.{IsSafe, fewer_kept}
 
 -- what stands while it serves
 pub kept_now : (m : Memory) (v : StoreView) → IsKept m v → IsServing (view_of m v) → Matches m v
@@ -54,55 +58,94 @@ holds_seen m v kept serving = let now = kept_now m v kept serving in holds m.ser
 
 -- ---- a block is read
 
-module _ (m : Memory) (v w : StoreView) (kept : IsKept m v) (serving : IsServing (view_of m v)) (same : HasSamePages v w) where
-  now : Matches m v
-  now = kept_now m v kept serving
+-- tables that are one but for what is touched
+touched_only : (t u : TableView) (xs : List Bool) → u ≡ record t { touched = xs } → u ≡ record t { touched = u.touched }
+touched_only t u xs e = e ∙ ap (λ (k : TableView). record t { touched = k.touched }) (sym e)
 
-  pub kept_same : IsKept m w
-  kept_same power = record {
-    standing = standing_same m.server m.table.counts v m.epoch m.records m.table.heads now.standing w same;
-    table = now.table;
-    works = now.works;
-    made = now.made;
-    flags = now.flags;
-    held = now.held;
-  }
-
-  still : (c : Pick) → found_on m.table.counts w c ≡ state (view_of m v)
-  still c = ap (λ (f : Pick → StableState). f c) (same_found v w same m.table.counts) ∙ up m.server m.table.counts v m.epoch m.records m.table.heads now.standing c
-
-  pub read_seen : (f : FileNo) (p : BlockNo) (answer : Result (Option (List ℕ)) Stopped) → BlockGot m.table v f p answer w
-      → (is_ok answer ≡ true → IsServed v w) → (is_ok answer ≡ false → IsStop v w) → BlockRead (view_of m v) f p answer (view_of m w)
-  read_seen f p answer got served stop = record {
-    called = record {
-      later = record { server = refl; pool = refl; heads = refl; leaves = refl; store = got.read.later };
-      calls = let n = got.read.calls in omega (arith, n);
-      loadable = λ c. loadable_found m.server m.table.counts w (standing_same m.server m.table.counts v m.epoch m.records m.table.heads now.standing w same).recoverable c;
-      no_stop = λ e. (served e).stops;
-      serving = λ e. serving_by m w (state (view_of m v)) still (served e).power (serves_of m v serving);
-      stop = stop;
-    };
-    found = λ block e. got.found block e ∙ ap (λ (files : Files). files (Block f p)) (files_are m.server m.table.counts v m.epoch m.records m.table.heads now.standing now.table.heads);
-    unchanged = still;
-    same = λ e. refl;
-  }
-
--- a block that isn't stored is told without the device
-pub read_now : (m : Memory) (v w : StoreView) → IsKept m v → IsServing (view_of m v) → (f : FileNo) (p : BlockNo) (answer : Result (Option (List ℕ)) Stopped) → BlockGot m.table v f p answer w
-    → (is_mapped m.table.heads f p.0 ≡ false → (answer ≡ Ok None) × (w ≡ v)) → (is_mapped m.table.heads f p.0 ≡ true → IsOk answer → IsServed v w) → (is_ok answer ≡ false → IsStop v w)
-    → BlockRead (view_of m v) f p answer (view_of m w)
-read_now m v w kept serving f p answer got unasked asked stop = read_seen m v w kept serving (record { count = got.read.later.count; pages = got.read.same }) f p answer got (λ e. served (is_mapped m.table.heads f p.0) refl e) stop
+touch_rest : (t : TableView) (v : StoreView) (a : ℕ) (ok : Bool) (u : TableView) (w : StoreView) → Touches t v a ok u w → u ≡ record t { touched = u.touched }
+touch_rest t v a ok u w touches = by (is_touched t a) ok refl refl
   where
-    ok : (a : Result (Option (List ℕ)) Stopped) → is_ok a ≡ true → IsOk a
-    ok (Ok x) e = refl
-    ok (Err x) e = absurd (cc e)
+    by : (before b : Bool) → is_touched t a ≡ before → ok ≡ b → u ≡ record t { touched = u.touched }
+    by true b e is = touched_only t u t.touched (touches.again e).1
+    by false true e is = touched_only t u (slice_set t.touched a true) ((touches.first e).done is)
+    by false false e is = touched_only t u t.touched ((touches.first e).stopped is)
 
-    served : (b : Bool) → is_mapped m.table.heads f p.0 ≡ b → is_ok answer ≡ true → IsServed v w
-    served true e is = asked e (ok answer is)
-    served false e is = let at = (unasked e).1 in record { power = ap (λ (s : StoreView). s.power) at ∙ serving.power; stops = ap (λ (s : StoreView). s.stops) at }
+module _ (m : Memory) (v : StoreView) (kept : IsKept m v) (serving : IsServing (view_of m v)) (w : StoreView) (later : StoreLater v w) (same : (j : ℕ) → j < v.count → IsSamePage v w j) where
+  fewer : IsFewer v w
+  fewer = record { count = later.count; shrinks = λ j lt. same_shrinks v w j (same j lt) }
 
--- and the storage is as it was
-pub unasked_now : (m : Memory) (v w : StoreView) → IsKept m v → IsServing (view_of m v) → (f : FileNo) (p : BlockNo) (answer : Result (Option (List ℕ)) Stopped)
-    → (is_mapped m.table.heads f p.0 ≡ false → (answer ≡ Ok None) × (w ≡ v)) → (state (view_of m v)).files (Block f p) ≡ None → (answer ≡ Ok None) × (view_of m w ≡ view_of m v)
-unasked_now m v w kept serving f p answer unasked none =
-    let h = unasked (mapped_seen m v kept serving f p ∙ ap (λ o. is_some o) none) in (h.0, ap (view_of m) h.1)
+  now : Matches m w
+  now = fewer_kept m v w kept fewer serving.power
+
+  still : Unchanged (state (view_of m v)) (found_on m.table.counts w)
+  still = fewer_found v w fewer m.table.counts (state (view_of m v)) serving.up
+
+  module _ (u : TableView) (rest : u ≡ record m.table { touched = u.touched }) (table : IsTable u) where
+    matches_touched : Matches (record m { table = u }) w
+    matches_touched = subst (λ k. Matches (record m { table = k }) w) (sym rest)
+        (record { standing = now.standing; table = subst IsTable rest table; works = now.works; made = now.made; flags = now.flags; held = now.held })
+
+    pub safe_touched : IsSafe (record m { table = u }) w
+    safe_touched = (λ power. matches_touched, matches_touched.standing.recoverable)
+
+    view_touched : view_of m w ≡ view_of (record m { table = u }) w
+    view_touched = ap (λ k. view_of (record m { table = k }) w) (sym rest)
+
+    pub read_touched : (f : FileNo) (p : BlockNo) (answer : Result (Option (List ℕ)) Stopped) → w.calls ≤ v.calls + 24 → (is_ok answer ≡ true → IsServed v w) → (is_ok answer ≡ false → IsStop v w)
+        → ((block : Option (List ℕ)) → answer ≡ Ok block → block ≡ files_in m.table.counts v (Block f p)) → BlockRead (view_of m v) f p answer (view_of (record m { table = u }) w)
+    read_touched f p answer calls served stop found = subst (BlockRead (view_of m v) f p answer) view_touched (record {
+      called = record {
+        later = record { server = refl; pool = refl; heads = refl; leaves = refl; store = later };
+        calls = calls;
+        loadable = λ c. loadable_found m.server m.table.counts w now.standing.recoverable c;
+        no_stop = λ e. (served e).stops;
+        serving = λ e. serving_by m w (state (view_of m v)) still (served e).power (serves_of m v serving);
+        stop = stop;
+      };
+      found = λ block e. found block e ∙ ap (λ (files : Files). files (Block f p)) (files_are m.server m.table.counts v m.epoch m.records m.table.heads (kept serving.power).standing (kept serving.power).table.heads);
+      unchanged = still;
+      same = λ e. refl;
+    })
+
+-- A block is read as the code reads it: its page is touched, or the device isn't asked.
+module _ (m : Memory) (v : StoreView) (kept : IsKept m v) (serving : IsServing (view_of m v)) (f : FileNo) (p : BlockNo) (answer : Result (Option (List ℕ)) Stopped) (u : TableView) (w : StoreView) (table : IsTable u)
+    (got : (a : ℕ) → address_for m.table.heads f p.0 ≡ suc a → BlockGot m.table v f p a answer u w) (unasked : is_mapped m.table.heads f p.0 ≡ false → (answer ≡ Ok None) × (u ≡ m.table) × (w ≡ v)) where
+  none_mapped : address_for m.table.heads f p.0 ≡ zero → is_mapped m.table.heads f p.0 ≡ false
+  none_mapped e = grind (arith, nat_tests, e)
+
+  none_found : address_for m.table.heads f p.0 ≡ zero → files_in m.table.counts v (Block f p) ≡ None
+  none_found e = ap (λ (files : Files). files (Block f p)) (files_are m.server m.table.counts v m.epoch m.records m.table.heads (kept serving.power).standing (kept serving.power).table.heads)
+      ∙ no_some ((state (view_of m v)).files (Block f p)) (sym (mapped_seen m v kept serving f p) ∙ none_mapped e)
+    where
+      no_some : (o : Option (List ℕ)) → is_some o ≡ false → o ≡ None
+      no_some None h = refl
+      no_some (Some x) h = absurd (true≢false h)
+
+  -- what holds where the device isn't asked
+  none_read : address_for m.table.heads f p.0 ≡ zero → BlockRead (view_of m v) f p answer (view_of (record m { table = u }) w)
+  none_read e = let h = unasked (none_mapped e) in subst (λ x. BlockRead (view_of m v) f p x (view_of (record m { table = u }) w)) (sym h.0)
+      (subst (λ y. BlockRead (view_of m v) f p (Ok None) (view_of (record m { table = u }) y)) (sym h.2)
+      (read_touched m v kept serving v (later_refl v) (λ j lt. same_refl v j) u (touched_only m.table u m.table.touched h.1) table f p (Ok None)
+      (omega arith) (λ _. record { power = serving.power; stops = refl }) (λ bad. absurd (true≢false bad)) (λ block b. let none : None ≡ block = cc b in sym none ∙ sym (none_found e))))
+
+  none_safe : address_for m.table.heads f p.0 ≡ zero → IsSafe (record m { table = u }) w
+  none_safe e = let h = unasked (none_mapped e) in subst (λ y. IsSafe (record m { table = u }) y) (sym h.2)
+      (safe_touched m v kept serving v (later_refl v) (λ j lt. same_refl v j) u (touched_only m.table u m.table.touched h.1) table)
+
+  pub read_now : BlockRead (view_of m v) f p answer (view_of (record m { table = u }) w)
+  read_now = by (address_for m.table.heads f p.0) refl
+    where
+      by : (x : ℕ) → address_for m.table.heads f p.0 ≡ x → BlockRead (view_of m v) f p answer (view_of (record m { table = u }) w)
+      by zero e = none_read e
+      by (suc a) e = let g = got a e in read_touched m v kept serving w g.later g.same u (touch_rest m.table v a g.ready u g.between g.touches) table f p answer g.calls g.served g.stop g.found
+
+  pub read_safe : IsSafe (record m { table = u }) w
+  read_safe = by (address_for m.table.heads f p.0) refl
+    where
+      by : (x : ℕ) → address_for m.table.heads f p.0 ≡ x → IsSafe (record m { table = u }) w
+      by zero e = none_safe e
+      by (suc a) e = let g = got a e in safe_touched m v kept serving w g.later g.same u (touch_rest m.table v a g.ready u g.between g.touches) table
+
+  -- and the storage is as it was
+  pub unasked_now : (state (view_of m v)).files (Block f p) ≡ None → (answer ≡ Ok None) × (view_of (record m { table = u }) w ≡ view_of m v)
+  unasked_now none = let h = unasked (mapped_seen m v kept serving f p ∙ ap (λ o. is_some o) none) in (h.0, ap (λ k. view_of (record m { table = k }) w) h.1 ∙ ap (view_of m) h.2)

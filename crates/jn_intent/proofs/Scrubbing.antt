@@ -1,6 +1,8 @@
 -- What a scrub of a storage leaves, and what befalls its device.
 use Rattle.std.proofs.Common.{◌≡◌, ◌<◌, ◌≤◌, ◌+◌, ◌*◌, ℕ, Bool, true, false, refl, sym, ◌∙◌, ap, subst, arith}
 use Rattle.jn_device.specs.Device.{DeviceState}
+use Rattle.jn_files.specs.Table.{TableView, IsTable}
+use Rattle.jn_files.specs.Calls.{TouchesAll}
 use Rattle.jn_found.specs.Images.{IsImage}
 use Rattle.jn_found.specs.Pages.{found_on}
 use Rattle.jn_found.specs.Puts.{IsFewer}
@@ -43,6 +45,11 @@ module _ (m : Memory) (v w : StoreView) (kept : IsKept m v) (fewer : IsFewer v w
   pub fewer_kept : v.power ≡ true → Matches m w
   fewer_kept power = let now = kept power in record { standing = standing_fewer power; table = now.table; works = now.works; made = now.made; flags = now.flags; held = now.held }
 
+  -- of a table that is the same but for what is touched
+  pub touched_kept : v.power ≡ true → (u : TableView) → TouchesAll m.table u → IsTable u → Matches (record m { table = u }) w
+  touched_kept power u touches table = let now = fewer_kept power in subst (λ k. Matches (record m { table = k }) w) (sym touches.rest)
+      (record { standing = now.standing; table = subst IsTable touches.rest table; works = now.works; made = now.made; flags = now.flags; held = now.held })
+
   module _ (serving : IsServing (view_of m v)) (ok : Bool) (later : StoreLater v w) (calls : w.calls ≤ v.calls + 16 * v.count) (done : ok ≡ true → CleansAll v w) (stopped : ok ≡ false → IsStop v w) (calm : IsCalm v → ok ≡ true) where
     same : Unchanged (state (view_of m v)) (found_on m.table.counts w)
     same = fewer_found v w fewer m.table.counts (state (view_of m v)) serving.up
@@ -68,6 +75,9 @@ module _ (m : Memory) (v w : StoreView) (kept : IsKept m v) (fewer : IsFewer v w
           (is_image m.server m.table.counts w m.epoch m.records m.table.heads (standing_fewer serving.power) (idle_free m v serving idle (kept serving.power).standing.held.slots)
           (λ i lt. whole quiet i (subst (λ n. i < n) later.count lt)));
     }
+
+    pub scrubbed_touched : (u : TableView) → TouchesAll m.table u → Scrubbed (view_of m v) ok (view_of (record m { table = u }) w)
+    scrubbed_touched u touches = subst (λ k. Scrubbed (view_of m v) ok (view_of (record m { table = k }) w)) (sym touches.rest) scrubbed
 
 -- ---- events of the device
 

@@ -114,9 +114,9 @@ module _ (m : Memory) (v : StoreView) (head : WorkHead) (list : List Intention) 
       by false none = absurd (no_ok (block.none none).0)
       by true some =
           let f = block.put some in
-          let put = subst (λ (g : Counts). StorePut w (data_place g f.page) (leaf_page i.bytes) false x) (ap (λ (u : TableView). u.counts) f.held ∙ p.pages.counts) f.fills.put in
+          let put = subst (λ (g : Counts). StorePut w (data_place g f.page) (leaf_page i.bytes) false x) p.pages.counts f.fills.put in
           let makes = fill_makes f.page f.least.is_free_itself i.bytes f.whole false x put in
-          store_stops m v (32 * length stored) records w p.store x (data_place m.table.counts f.page) (leaf_page i.bytes) put u (ap (λ (u : TableView). u.counts) f.held ∙ p.pages.counts) makes.unchanged makes.recoverable
+          store_stops m v (32 * length stored) records w p.store x (data_place m.table.counts f.page) (leaf_page i.bytes) put u (ap (λ (u : TableView). u.counts) (f.fills.stopped refl) ∙ p.pages.counts) makes.unchanged makes.recoverable
 
   module _ (i : Intention) (at : slice_get list (length stored) ≡ Some i) (plain : Plain i.what i.block i.bytes) (a : ℕ) (u : TableView) (x : StoreView) (block : BlockStored t w i (Ok a) u x) (table : IsTable u) where
     block_on : PagesPreparing m list (stored ++ stored_as i a ∷ []) u x × StorePreparing m v (32 * length stored + 16) records x
@@ -130,10 +130,10 @@ module _ (m : Memory) (v : StoreView) (head : WorkHead) (list : List Intention) 
             (pages_none m list stored t w i p.pages at none plain, store_within m v (32 * length stored) (32 * length stored + 16) records w (omega arith) p.store)))
         by true some =
             let f = block.put some in
-            let put = subst (λ (g : Counts). StorePut w (data_place g f.page) (leaf_page i.bytes) true x) (ap (λ (u : TableView). u.counts) f.held ∙ p.pages.counts) f.fills.put in
+            let put = subst (λ (g : Counts). StorePut w (data_place g f.page) (leaf_page i.bytes) true x) p.pages.counts f.fills.put in
             let makes = fill_makes f.page f.least.is_free_itself i.bytes f.whole true x put in (
-              subst (λ n. PagesPreparing m list (stored ++ stored_as i n ∷ []) u x) (sym f.address) (subst (λ r. PagesPreparing m list (stored ++ stored_as i (suc f.page) ∷ []) r x) (sym f.held)
-                  (pages_put m list stored t w p.pages f.page f.least.is_free_itself i some at x p.store.standing.held.count put f.whole (subst IsTable f.held table))),
+              subst (λ n. PagesPreparing m list (stored ++ stored_as i n ∷ []) u x) (sym f.address) (subst (λ r. PagesPreparing m list (stored ++ stored_as i (suc f.page) ∷ []) r x) (sym (f.fills.done refl))
+                  (pages_put m list stored t w p.pages f.page f.least.is_free_itself i some at x p.store.standing.held.count put f.whole (subst IsTable (f.fills.done refl) table))),
               store_on m v (32 * length stored) records w p.store x (data_place m.table.counts f.page) (leaf_page i.bytes) put records makes.unchanged (makes.standing refl),
             )
 

@@ -11,7 +11,7 @@ use Rattle.std.specs.Prelude.{nat_eq, nat_lt, replicate, slice_get, slice_set, s
 use Rattle.std.specs.List.{list_any}
 use Rattle.jn_alloc.specs.Free.{is_free, free_count as free_numbers}
 use Rattle.jn_files.specs.Table.{TableView, IsTable, IsFreeLeaf, is_held, head_in}
-use Rattle.jn_files.specs.Calls.{with_held}
+use Rattle.jn_files.specs.Calls.{with_held, with_touched}
 use Rattle.jn_files.specs.Pages.{leaf_page}
 use Rattle.jn_found.specs.Contents.{bytes_by, intended, heads_name}
 use Rattle.jn_found.specs.Pages.{block_on, pages_by}
@@ -181,7 +181,7 @@ module _ (m : Memory) (list : List Intention) (stored : List StoredIntention) (t
   pub page_unnamed : heads_name m.table.heads (suc d) ≡ false
   page_unnamed = subst (λ hs. heads_name hs (suc d) ≡ false) p.heads (unnamed_heads t d free_leaf)
 
-  module _ (i : Intention) (put_is : is_put i.what ≡ true) (at : slice_get list (length stored) ≡ Some i) (x : StoreView) (fits : page_count m.table.counts ≡ w.count) (put : StorePut w (data_place m.table.counts d) (leaf_page i.bytes) true x) (whole : length i.bytes ≡ 448) (table : IsTable (with_held t d)) where
+  module _ (i : Intention) (put_is : is_put i.what ≡ true) (at : slice_get list (length stored) ≡ Some i) (x : StoreView) (fits : page_count m.table.counts ≡ w.count) (put : StorePut w (data_place m.table.counts d) (leaf_page i.bytes) true x) (whole : length i.bytes ≡ 448) (table : IsTable (with_touched (with_held t d) d)) where
     moved : PagesPreparing m list stored t x
     moved = pages_moved m list stored t w x p put.later.count (λ a h. put.others (data_place m.table.counts a) (let below = (p.own a h).below in omega (arith, below, fits)) (λ e. other a h (omega (arith, e))))
       where
@@ -225,7 +225,7 @@ module _ (m : Memory) (list : List Intention) (stored : List StoredIntention) (t
     its_bytes c Cut h = absurd (true≢false (sym h))
     its_bytes c Put h = filled c
 
-    pub pages_put : PagesPreparing m list (stored ++ stored_as i (suc d) ∷ []) (with_held t d) x
+    pub pages_put : PagesPreparing m list (stored ++ stored_as i (suc d) ∷ []) (with_touched (with_held t d) d) x
     pages_put = record {
       table = table;
       counts = p.counts;

@@ -36,8 +36,7 @@ stored_as i address = record { what = i.what; file = i.file; block = i.block; ad
 pub record FillsPage (t : TableView) (v : StoreView) (block : List ℕ) (answer : Result ℕ Stopped) (u : TableView) (w : StoreView) : Type 0 where
   pub page : ℕ
   pub least : IsLeastFree t.free_leaves page
-  pub held : u ≡ with_held t page
-  pub fills : Fills u v page block (is_ok answer) w
+  pub fills : Fills (with_held t page) v page block (is_ok answer) u w
   pub whole : length block ≡ 448
   pub address : IfOk answer (λ a. a ≡ suc page)
 

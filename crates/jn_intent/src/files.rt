@@ -22,13 +22,15 @@ impl<S: StableStore> StoredFiles for Intents<S> {
         self.table.mapped(f, p)
     }
 
-    /// A block that isn't stored is told without a device call.
+    /// A block that isn't stored is told without a device call. The page of one that is stored is cleaned before its first get.
     fn read_block(&mut self, f: FileNo, p: BlockNo) -> Result<Option<Block>, Stopped>
         requires serving { IsServing (⟦<Intents<S> as Storage>⟧.view self.old) }
         requires range { p.0 < 120 }
         ensures read { BlockRead (⟦<Intents<S> as Storage>⟧.view self.old) f p result (⟦<Intents<S> as Storage>⟧.view self.new) }
         ensures unasked { (state (⟦<Intents<S> as Storage>⟧.view self.old)).files (BlockUnit f p) ≡ None → (result ≡ Ok None) × (⟦<Intents<S> as Storage>⟧.view self.new ≡ ⟦<Intents<S> as Storage>⟧.view self.old) }
     {
-        self.table.read_block(&mut self.store, f, p)
+        let answer = self.table.read_block(&mut self.store, f, p);
+        self.table.is_table();
+        answer
     }
 }

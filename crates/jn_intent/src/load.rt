@@ -3,7 +3,7 @@ ghost use Rattle.std.specs.Prelude.{◌≡◌, IfOk, IfErr};
 ghost use Rattle.jn_base.specs.declared.names.ServerNo.{ServerNo};
 ghost use Rattle.jn_found.specs.Recoverable.{IsRecoverable};
 ghost use Rattle.jn_recovery.specs.Kept.{memory_kept};
-ghost use Rattle.jn_recovery.specs.Loading.{counts_by, IsLoaded, IsDown, IsCleaned};
+ghost use Rattle.jn_recovery.specs.Loading.{counts_by, IsLoaded, IsDown, IsUntouched};
 ghost use Rattle.jn_recovery.specs.Matches.{Matches};
 
 use crate::Intents;
@@ -20,13 +20,14 @@ pub struct Down<S> {
 }
 
 impl<S: StableStore> Intents<S> {
-    /// The storage that stands on a store of so many pages, whatever was stopped there before. The store is cleaned, the
-    /// restart is counted in its root, and what an unfinished preparation or a removed work left is erased.
+    /// The storage that stands on a store of so many pages, whatever was stopped there before. Root, records and heads are
+    /// cleaned, the restart is counted in the root, and what an unfinished preparation or a removed work left is erased. A data
+    /// page is cleaned later, before its first get.
     pub fn load(alloc: Global, store: S, counts: PageCounts) -> Result<(Intents<S>, Found), Down<S>>
         requires recoverable { (server : ServerNo) × IsRecoverable server (counts_by counts) (S.view store) }
         ensures loaded { (server : ServerNo) → IsRecoverable server (counts_by counts) (S.view store) → IfOk result (λ r. IsLoaded server (counts_by counts) (S.view store) r.1 (⟦<Intents<S> as Storage>⟧.view r.0)) }
         ensures down { (server : ServerNo) → IsRecoverable server (counts_by counts) (S.view store) → IfErr result (λ d. IsDown server (counts_by counts) (S.view store) d.cause (S.view d.store)) }
-        ensures cleaned { IfOk result (λ r. IsCleaned (S.view store) (⟦<Intents<S> as Storage>⟧.view r.0).store) }
+        ensures untouched { IfOk result (λ r. IsUntouched r.0.1.table) }
     {
         let mut store = store;
         match recover(alloc, &mut store, counts) {

@@ -1,6 +1,7 @@
 //! The store below a storage.
 ghost use Rattle.std.specs.Prelude.{◌≡◌, ◌≤◌, ◌<◌, ◌+◌, ◌-◌, ◌*◌, [], true, length, nat_lt, is_ok, OnErr, OnOk};
 ghost use Rattle.jn_device.specs.Events.{Decays, Revives, Arms, is_within, disarmed, cleared};
+ghost use Rattle.jn_files.specs.Calls.{TouchesAll};
 ghost use Rattle.jn_found.specs.Puts.{IsFewer};
 ghost use Rattle.jn_found.specs.Recoverable.{IsRecoverable};
 ghost use Rattle.jn_recovery.specs.Matches.{IsKept};
@@ -45,13 +46,17 @@ impl<S: StableStore> Intents<S> {
         self.store
     }
 
-    /// Cleans each page of the store, from the first on. Nothing that is found changes.
+    /// Cleans each page of the store, from the first on. Nothing that is found changes, and each data page is touched then.
     pub fn scrub(&mut self) -> Result<(), Stopped>
         requires serving { IsServing (⟦<Intents<S> as Storage>⟧.view self.old) }
         ensures scrubbed { Scrubbed (⟦<Intents<S> as Storage>⟧.view self.old) (is_ok result) (⟦<Intents<S> as Storage>⟧.view self.new) }
+        ensures touched { OnOk result (TouchesAll self.old.1.table self.new.1.table) }
     {
         let count = self.store.count();
-        clean_pages(&mut self.store, 0, count)
+        clean_pages(&mut self.store, 0, count)?;
+        self.table.touch_all();
+        self.table.is_table();
+        Ok(())
     }
 }
 

@@ -12,11 +12,11 @@ use Rattle.jn_records.specs.declared.head.Head.{Head}
 use Rattle.jn_records.specs.declared.record.Record.{Record}
 use Rattle.jn_records.specs.declared.root.Root.{Root}
 use Rattle.jn_records.specs.Pages.{root_page}
-use Rattle.jn_records.specs.StablePages.{Counts}
+use Rattle.jn_records.specs.StablePages.{Counts, data_place}
 use Rattle.jn_rows.specs.Stable.{StableState}
 use Rattle.jn_store.specs.Store.{StoreView, StorePut, IsClean, IsWhole}
-use Rattle.jn_store.proofs.Laws.{later_trans, only_clean, stop_since, calm_on}
-use Rattle.jn_recovery.specs.Loading.{IsSameOrNext, IsDown, reading_calls, most_calls}
+use Rattle.jn_store.proofs.Laws.{later_trans, same_trans, only_clean, stop_since, calm_on}
+use Rattle.jn_recovery.specs.Loading.{IsSameOrNext, IsDown, front_count, reading_calls, most_calls, KeepsDataPages}
 use Rattle.jn_recovery.specs.Memory.{rubbish_in}
 use Rattle.jn_recovery.specs.Opening.{next_root, Stands, IsOpened, ErasesAll, EraseStopped, IsBegun}
 use Rattle.jn_recovery.specs.declared.load.DownCause.TheVariants.{Stopped}
@@ -46,6 +46,12 @@ module _ (server : ServerNo) (g : Counts) (v : StoreView) (o : Opened) (u : Stor
       step = subst (λ (r : Root). StorePut u 0 (root_page r) ok x) next_is put;
     }
 
+    within : (i : ℕ) → i < front_count g → i < u.count
+    within i lt = let e = at.stands.standing.held.count in omega (arith, e, lt)
+
+    kept : KeepsDataPages g v x
+    kept d lt = same_trans v u x (data_place g d) (at.stands.data_pages d lt) (put.others (data_place g d) (let e = at.stands.standing.held.count in omega (arith, e, lt)) (λ e. omega (arith, e)))
+
     makes : MakesEpoch server g u o.sets o.table.heads (o.root.epoch + 1) ok x
     makes = counts_on server g u x o.root.epoch o.sets o.table.heads ok at.stands.standing (o.root.epoch + 1) step (omega arith)
 
@@ -58,7 +64,7 @@ module _ (server : ServerNo) (g : Counts) (v : StoreView) (o : Opened) (u : Stor
               (λ e. same_or_next_at (found_on g v at.stands.before) (found_on g x c) o.root.epoch (e ∙ state_was) (inl (sym at.stands.old)))
               (λ e. same_or_next_at (found_on g v at.stands.before) (found_on g x c) (o.root.epoch + 1) (e ∙ ap (λ (s : StableState). record s { epoch = o.root.epoch + 1 }) state_was) (inr (let old = at.stands.old in omega (arith, old))))
               (makes.stop c),
-        )))
+        )) kept)
         (stop_since v u x at.stands.later put.later (put.stop bad)) (λ quiet. true≢false (sym (put.calm (at.stands.later.calm quiet)).0 ∙ bad))
 
     pub put_stands : ok ≡ true → Stands server g v (reading_calls g + 16) o.root.epoch (o.root.epoch + 1) o.sets o.table.heads x
@@ -78,10 +84,8 @@ module _ (server : ServerNo) (g : Counts) (v : StoreView) (o : Opened) (u : Stor
           (λ e. subst (IsWhole x) (sym e) (put.calm (at.stands.later.calm quiet)).1)
           (λ ne. put.later.whole (at.stands.later.calm quiet) i (within i lt) (at.stands.whole quiet i lt))
           (cases_eq i 0);
+      data_pages = kept;
     }
-      where
-        within : (i : ℕ) → i < v.count → i < u.count
-        within i lt = subst (λ n. i < n) (sym at.stands.later.count) lt
 
 -- ---- rubbish is erased
 
@@ -89,7 +93,8 @@ module _ (server : ServerNo) (g : Counts) (v : StoreView) (most was : ℕ) (reco
   pub erase_down : most + 16 * g.pool ≤ most_calls g → (y : StoreView) → EraseStopped server g x g.pool y → IsDown server g v Stopped y
   erase_down few y stopped = stopped_down server g v y
       (recovering_by server g v y (later_trans v x y at.later stopped.later) (let a = at.calls in let b = stopped.calls in omega (arith, a, b, few)) stopped.recoverable
-      (λ c. (at.before, same_or_next_at (found_on g v at.before) (found_on g y c) (was + 1) (stopped.unchanged c ∙ at.found (λ n. false)) (inr (let old = at.old in omega (arith, old))))))
+      (λ c. (at.before, same_or_next_at (found_on g v at.before) (found_on g y c) (was + 1) (stopped.unchanged c ∙ at.found (λ n. false)) (inr (let old = at.old in omega (arith, old)))))
+      (λ d lt. same_trans v x y (data_place g d) (at.data_pages d lt) (stopped.data_pages d lt)))
       (stop_since v x y at.later stopped.later stopped.stop) (λ quiet. calm_on x y stopped.later stopped.stop (at.later.calm quiet))
 
   erase_stands : (new : List Record) (y : StoreView) → ErasesAll server g x (was + 1) heads new y → Stands server g v (most + 16 * g.pool) was (was + 1) new heads y
@@ -103,10 +108,11 @@ module _ (server : ServerNo) (g : Counts) (v : StoreView) (most was : ℕ) (reco
     found = λ c. all.erases.unchanged c ∙ at.found (λ n. false);
     clean = λ i lt. all.erases.clean i (within i lt) (at.clean i lt);
     whole = λ quiet i lt. all.erases.later.whole (at.later.calm quiet) i (within i lt) (at.whole quiet i lt);
+    data_pages = λ d lt. same_trans v x y (data_place g d) (at.data_pages d lt) (all.erases.data_pages d lt);
   }
     where
-      within : (i : ℕ) → i < v.count → i < x.count
-      within i lt = subst (λ n. i < n) (sym at.later.count) lt
+      within : (i : ℕ) → i < front_count g → i < x.count
+      within i lt = let e = at.standing.held.count in omega (arith, e, lt)
 
 pub begun : (server : ServerNo) (g : Counts) (v : StoreView) (o : Opened) (u x : StoreView) (at : IsOpened server g v o u) → StorePut u 0 (root_page (next_root o.root)) true x
     → (new : List Record) (y : StoreView) → ErasesAll server g x (o.root.epoch + 1) o.table.heads new y → (p : Opened) → p.root ≡ o.root → p.sets ≡ new → p.table ≡ o.table → IsBegun server g v p (o.root.epoch + 1) y

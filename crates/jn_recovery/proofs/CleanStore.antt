@@ -1,4 +1,4 @@
--- What stands on a store of which each page is clean.
+-- What stands on a store of which root, records and heads are clean.
 use Rattle.std.proofs.Common.{◌≡◌, ⊎_elim, ◌<◌, ◌+◌, ℕ, zero, suc, true, false, if◌then◌else◌, List, [], length, get_or, refl, sym, ◌∙◌, ap, subst, arith}
 use Rattle.std.proofs.lemmas.Bool.{cases_lt}
 use Rattle.std.proofs.lemmas.Bool.Decides.{nat_tests}
@@ -25,6 +25,7 @@ use Rattle.jn_records.proofs.Heads.{head_is_read}
 use Rattle.jn_records.proofs.Roots.{root_is_read}
 use Rattle.jn_sets.specs.Pool.{page_of, Holds, IsReadable, IsRecordPage}
 use Rattle.jn_store.specs.Store.{StoreView, IsClean, IsOnly}
+use Rattle.jn_recovery.specs.Loading.{front_count}
 use Rattle.jn_recovery.proofs.Bridge.{same_test, same_address}
 use Rattle.jn_recovery.proofs.Standing.{consistent, holds}
 
@@ -38,7 +39,7 @@ head_has : (h : Head) (p a : ℕ) → address_of h p ≡ suc a → (f : FileNo) 
 head_has FreeHead p a e = absurd (omega (arith, e))
 head_has (Used f xs) p a e = (f, grind (arith, nat_tests))
 
-module _ (server : ServerNo) (g : Counts) (u : StoreView) (recoverable : IsRecoverable server g u) (clean : (i : ℕ) → i < u.count → IsClean u i) where
+module _ (server : ServerNo) (g : Counts) (u : StoreView) (recoverable : IsRecoverable server g u) (clean : (i : ℕ) → i < front_count g → IsClean u i) where
   format : IsOfFormat server g (pages_by u (λ n. false))
   format = (recoverable.each (λ n. false)).of_format
 
@@ -54,8 +55,8 @@ module _ (server : ServerNo) (g : Counts) (u : StoreView) (recoverable : IsRecov
       inside : (a b : ℕ) → a < b → nat_lt a b ≡ true
       inside a b h = grind (arith, nat_tests)
 
-  only_at : (k : ℕ) (page : List ℕ) → k < page_count g → pages_by u (λ n. false) k ≡ page → IsOnly u k page
-  only_at k page lt e = record { first = sym (page_first k lt) ∙ e; second = sym (clean k (within k lt)) ∙ sym (page_first k lt) ∙ e }
+  only_at : (k : ℕ) (page : List ℕ) → k < front_count g → pages_by u (λ n. false) k ≡ page → IsOnly u k page
+  only_at k page lt e = let first : u.first k ≡ page = sym (page_first k (omega (arith, lt))) ∙ e in record { first = first; second = sym (clean k lt) ∙ first }
 
   pub root_is : IsRoot (root_by server g root_epoch)
   root_is = (recoverable.each (λ n. false)).of_format.root.1
@@ -68,7 +69,7 @@ module _ (server : ServerNo) (g : Counts) (u : StoreView) (recoverable : IsRecov
 
   pub slots_readable : (slot : ℕ) → slot < g.pool → IsReadable u slot
   slots_readable slot lt = record {
-    clean = clean (page_of slot) (within (page_of slot) (omega (arith, lt)));
+    clean = clean (page_of slot) (omega (arith, lt));
     page = subst IsRecordPage (page_first (page_of slot) (omega (arith, lt))) (subst (λ k. IsRecordPage (pages_by u (λ n. false) k)) (let e : slot_place g slot ≡ page_of slot = omega arith in e) (format.pool slot lt));
   }
 

@@ -9,24 +9,25 @@ use Rattle.jn_found.proofs.Picking.{fewer_picked, fewer_recoverable}
 use Rattle.jn_records.specs.StablePages.{Counts}
 use Rattle.jn_rows.specs.Stable.{StableState, Pick}
 use Rattle.jn_store.specs.Store.{StoreView, StoreLater, IsCalm, IsStop}
-use Rattle.jn_recovery.specs.Loading.{IsSameOrNext, most_calls, Recovering, IsDown, IsUsedUp, IsNotUsedUp}
+use Rattle.jn_recovery.specs.Loading.{IsSameOrNext, most_calls, KeepsDataPages, Recovering, IsDown, IsUsedUp, IsNotUsedUp}
 use Rattle.jn_recovery.specs.declared.load.DownCause.TheVariants.{Stopped, Memory, EpochsUsedUp}
 
 same_or_next : (x y : StableState) → y ≡ x → IsSameOrNext x y
 same_or_next x y e = record { same = e ∙ ap (λ k. record x { epoch = k }) (sym (ap (λ (z : StableState). z.epoch) e)); epoch = inl (ap (λ (z : StableState). z.epoch) e) }
 
 module _ (server : ServerNo) (g : Counts) (v w : StoreView) where
-  pub recovering_by : StoreLater v w → w.calls ≤ v.calls + most_calls g → IsRecoverable server g w → ((c : Pick) → (b : Pick) × IsSameOrNext (found_on g v b) (found_on g w c)) → Recovering server g v w
-  recovering_by later calls recoverable each = record {
+  pub recovering_by : StoreLater v w → w.calls ≤ v.calls + most_calls g → IsRecoverable server g w → ((c : Pick) → (b : Pick) × IsSameOrNext (found_on g v b) (found_on g w c)) → KeepsDataPages g v w → Recovering server g v w
+  recovering_by later calls recoverable each kept = record {
     later = later;
     calls = calls;
     recoverable = recoverable;
     each = each;
+    data_pages = kept;
     finds = λ c. let h = each c in (h.0, record { same = h.1.same; later = ⊎_elim (λ e. omega (arith, e)) (λ e. omega (arith, e)) h.1.epoch });
   }
 
-  pub recovering_fewer : IsRecoverable server g v → IsFewer v w → StoreLater v w → w.calls ≤ v.calls + most_calls g → Recovering server g v w
-  recovering_fewer recoverable fewer later calls = recovering_by later calls (fewer_recoverable v w fewer server g recoverable) (λ c. let h = fewer_picked v w fewer g c in (h.0, same_or_next (found_on g v h.0) (found_on g w c) h.1))
+  pub recovering_fewer : IsRecoverable server g v → IsFewer v w → StoreLater v w → w.calls ≤ v.calls + most_calls g → KeepsDataPages g v w → Recovering server g v w
+  recovering_fewer recoverable fewer later calls kept = recovering_by later calls (fewer_recoverable v w fewer server g recoverable) (λ c. let h = fewer_picked v w fewer g c in (h.0, same_or_next (found_on g v h.0) (found_on g w c) h.1)) kept
 
   module _ (recovering : Recovering server g v w) where
     pub stopped_down : IsStop v w → (IsCalm v → ⊥) → IsDown server g v Stopped w

@@ -12,11 +12,12 @@ use Rattle.jn_found.proofs.CallLaws.{idles}
 use Rattle.jn_records.specs.declared.head.Head.{Head}
 use Rattle.jn_records.specs.declared.record.Record.{Record}
 use Rattle.jn_records.specs.declared.record.Record.TheVariants.{Free}
-use Rattle.jn_records.specs.StablePages.{Counts}
+use Rattle.jn_records.specs.StablePages.{Counts, data_place}
 use Rattle.jn_sets.specs.Pool.{page_of, is_rubbish}
 use Rattle.jn_sets.specs.Sets.{Puts}
 use Rattle.jn_store.specs.Store.{StoreView, IsClean}
-use Rattle.jn_store.proofs.Laws.{later_refl, later_trans, only_clean, stop_since}
+use Rattle.jn_store.proofs.Laws.{later_refl, later_trans, same_refl, same_trans, only_clean, stop_since}
+use Rattle.jn_recovery.specs.Loading.{KeepsDataPages}
 use Rattle.jn_recovery.specs.Memory.{rubbish_in}
 use Rattle.jn_recovery.specs.Opening.{Erases, EraseStopped, ErasesAll}
 use Rattle.jn_recovery.proofs.Erasing.{rubbish_length, no_rubbish, rubbish_there, rubbish_idle, rubbish_less}
@@ -34,6 +35,7 @@ module _ (server : ServerNo) (g : Counts) (v : StoreView) (epoch : ℕ) (heads :
     standing = standing;
     unchanged = stands_up server g v epoch records heads standing;
     clean = λ i lt is. is;
+    data_pages = λ d lt. same_refl v (data_place g d);
   }
 
   pub erases_all : (n : ℕ) (records : List Record) (w : StoreView) → n ≤ length records → rubbish_in records records ≡ [] → Erases server g v epoch heads n records w → ErasesAll server g v epoch heads records w
@@ -46,6 +48,7 @@ module _ (server : ServerNo) (g : Counts) (v : StoreView) (epoch : ℕ) (heads :
       standing = e.standing;
       unchanged = e.unchanged;
       clean = e.clean;
+      data_pages = e.data_pages;
     };
     none_left = none;
   }
@@ -54,6 +57,11 @@ module _ (server : ServerNo) (g : Counts) (v : StoreView) (epoch : ℕ) (heads :
     makes : MakesNothing server g u epoch pool heads (RecordPut slot Free) ok w
     makes = idles server g u w epoch pool heads ok before.standing slot Free
         (step_of server g u slot Free ok w (subst (λ n. slot < n) before.standing.held.slots (rubbish_there pool slot at)) free_record puts.put) (rubbish_idle pool slot at)
+
+    -- a record's page is no data page
+    kept : KeepsDataPages g v w
+    kept d lt = same_trans v u w (data_place g d) (before.data_pages d lt)
+        (let there = rubbish_there pool slot at in let size = before.standing.held.slots in let count = before.standing.held.count in puts.put.others (data_place g d) (omega (arith, count, lt)) (λ e. omega (arith, e, there, size)))
 
     same_state : standing_state g u ≡ standing_state g v
     same_state = before.unchanged (λ n. false)
@@ -70,6 +78,7 @@ module _ (server : ServerNo) (g : Counts) (v : StoreView) (epoch : ℕ) (heads :
           (λ e. subst (IsClean w) (sym e) (only_clean w (page_of slot) _ (puts.put.done done)))
           (λ ne. let same = puts.put.others i (subst (λ k. i < k) (sym before.later.count) lt) ne in same.first ∙ before.clean i lt is ∙ sym same.second)
           (cases_eq i (page_of slot));
+      data_pages = kept;
     }
 
     pub erase_stopped : ok ≡ false → n < g.pool → EraseStopped server g v g.pool w
@@ -79,6 +88,7 @@ module _ (server : ServerNo) (g : Counts) (v : StoreView) (epoch : ℕ) (heads :
       stop = stop_since v u w before.later puts.put.later (puts.put.stop bad);
       recoverable = makes.recoverable;
       unchanged = λ c. makes.unchanged c ∙ same_state;
+      data_pages = kept;
     }
 
 -- ---- by what the code answers

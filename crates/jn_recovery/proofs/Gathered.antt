@@ -72,6 +72,7 @@ hold_none t u pool k lt e before = record {
   free_heads = before.free_heads;
   promised = before.promised;
   size = before.size;
+  touched = before.touched;
   held = λ a. before.held a ∙ sym (any_more (names_page a) Free pool k lt ∙ (let here : names_page a (record_in pool k) ≡ false = not_named a in grind (arith, here)));
 }
   where
@@ -92,6 +93,7 @@ module _ (t u : TableView) (pool : List Record) (k a : ℕ) (lt : k < length poo
     free_heads = before.free_heads;
     promised = before.promised;
     size = length-set u.held a true ∙ before.size;
+    touched = before.touched;
     held = λ b. ⊎_elim
         (λ same. subst (λ j. is_held (with_held u a) j ≡ list_any (names_page j) (take (k + 1) pool)) (sym same)
         (get_or-set_same u.held a true false below ∙ sym (any_more (names_page a) Free pool k lt ∙ (let h = named_here in let x = list_any (names_page a) (take k pool) in grind (arith, h)))))

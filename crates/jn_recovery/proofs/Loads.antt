@@ -1,5 +1,5 @@
 -- What a recovery keeps in memory is what stands on the pages, and the storage serves.
-use Rattle.std.proofs.Common.{◌≡◌, inr, ◌<◌, ◌≤◌, ◌+◌, ℕ, suc, true, false, List, [], Option, Some, None, refl, sym, ◌∙◌, ap, subst, arith}
+use Rattle.std.proofs.Common.{◌≡◌, inr, ◌<◌, ◌≤◌, ◌+◌, ℕ, suc, true, false, List, [], Option, Some, None, get_or, refl, sym, ◌∙◌, ap, subst, arith}
 use Rattle.std.proofs.lemmas.List.Sums.{count_by-le-length}
 use Rattle.std.specs.Prelude.{is_some}
 use Rattle.std.specs.List.{list_any}
@@ -7,7 +7,7 @@ use Rattle.jn_base.specs.declared.names.ServerNo.{ServerNo}
 use Rattle.jn_base.specs.declared.names.Tid.{Tid}
 use Rattle.jn_base.specs.declared.names.WorkId.{WorkId}
 use Rattle.jn_base.specs.Names.{work_eq}
-use Rattle.jn_files.specs.Table.{TableView, IsTable, is_held}
+use Rattle.jn_files.specs.Table.{TableView, IsTable, is_held, is_touched}
 use Rattle.jn_found.specs.Contents.{state_in}
 use Rattle.jn_found.specs.Held.{held_contents}
 use Rattle.jn_found.specs.Pages.{found_on, pages_by, block_on}
@@ -16,7 +16,7 @@ use Rattle.jn_records.specs.declared.head.Head.{Head}
 use Rattle.jn_records.specs.declared.record.Record.{Record}
 use Rattle.jn_records.specs.declared.root.Root.{Root}
 use Rattle.jn_records.specs.declared.work.WorkState.{WorkState}
-use Rattle.jn_records.specs.StablePages.{Counts, page_count, slot_place, head_place}
+use Rattle.jn_records.specs.StablePages.{Counts, slot_place, head_place}
 use Rattle.jn_rows.specs.Stable.{StableState}
 use Rattle.jn_sets.specs.Pool.{record_in}
 use Rattle.jn_storage.specs.Storage.{IsServing, IsLoadable}
@@ -25,7 +25,7 @@ use Rattle.jn_storage.specs.Finding.{find_by}
 use Rattle.jn_store.specs.Store.{StoreView}
 use Rattle.jn_recovery.specs.Gathering.{works_on, flags_on, names_page, address_in, all_needed, MayHold, MayPromise, IsGathered}
 use Rattle.jn_recovery.specs.Kept.{memory_kept}
-use Rattle.jn_recovery.specs.Loading.{IsLoaded, IsDown, IsCleaned, Recovering, most_calls}
+use Rattle.jn_recovery.specs.Loading.{IsLoaded, IsDown, IsUntouched, Recovering, most_calls}
 use Rattle.jn_recovery.specs.Matches.{Matches, IsMade}
 use Rattle.jn_recovery.specs.Memory.{Memory, accounts_of, view_of, next_by, rubbish_in}
 use Rattle.jn_recovery.specs.Opening.{Stands, IsBegun}
@@ -52,7 +52,7 @@ nothing_made heads (Some s) e = λ k i lt at fresh. absurd (omega (arith, lt, e)
 module _ (server : ServerNo) (g : Counts) (v : StoreView) (most was : ℕ) (records : List Record) (heads : List Head) (w : StoreView) (stands : Stands server g v most was (was + 1) records heads w) (few : most ≤ most_calls g) where
   recovering : Recovering server g v w
   recovering = recovering_by server g v w stands.later (let c = stands.calls in omega (arith, c, few)) stands.standing.recoverable
-      (λ c. (stands.before, same_or_next_at (found_on g v stands.before) (found_on g w c) (was + 1) (stands.found c) (inr (let old = stands.old in omega (arith, old)))))
+      (λ c. (stands.before, same_or_next_at (found_on g v stands.before) (found_on g w c) (was + 1) (stands.found c) (inr (let old = stands.old in omega (arith, old))))) stands.data_pages
 
   memory_gone : was < 4294967295 → IsDown server g v NoMemory w
   memory_gone last = memory_down server g v w recovering (record { read = stands.before; before_last = subst (λ n. n < 4294967295) (sym stands.old) last })
@@ -105,9 +105,6 @@ module _ (server : ServerNo) (v : StoreView) (most was : ℕ) (pool : List Recor
         let old = stands.old in
         subst (λ e. t.epoch < e) (sym (ap (λ (x : StableState). x.epoch) (stands.found (λ k. false)))) (omega (arith, past, old))
 
-  within : (k : ℕ) → k < page_count u.counts → k < v.count
-  within k lt = let e = stands.standing.held.count in let f = stands.later.count in omega (arith, lt, e, f)
-
   pub loaded : IsRecoverable server u.counts v → was < 4294967295 → most ≤ most_calls u.counts → (told : Found) → told.epoch ≡ was + 1 → told.flags ≡ flags_on pool → IsLoaded server u.counts v told (view_of (memory_at server (was + 1) pool u) w)
   loaded first last few told epoch flags = record {
     recovering = recovering server u.counts v most was pool u.heads w stands few;
@@ -129,14 +126,14 @@ module _ (server : ServerNo) (v : StoreView) (most was : ℕ) (pool : List Recor
     works_earlier = works_before first;
     flags_earlier = flags_before first;
     front = record {
-      root = stands.clean 0 (within 0 (omega arith));
-      pool = λ i lt. stands.clean (slot_place u.counts i) (within (slot_place u.counts i) (omega (arith, lt)));
-      heads = λ i lt. stands.clean (head_place u.counts i) (within (head_place u.counts i) (omega (arith, lt)));
+      root = stands.clean 0 (omega arith);
+      pool = λ i lt. stands.clean (slot_place u.counts i) (omega (arith, lt));
+      heads = λ i lt. stands.clean (head_place u.counts i) (omega (arith, lt));
     };
     front_whole = λ calm. record {
-      root = stands.whole calm 0 (within 0 (omega arith));
-      pool = λ i lt. stands.whole calm (slot_place u.counts i) (within (slot_place u.counts i) (omega (arith, lt)));
-      heads = λ i lt. stands.whole calm (head_place u.counts i) (within (head_place u.counts i) (omega (arith, lt)));
+      root = stands.whole calm 0 (omega arith);
+      pool = λ i lt. stands.whole calm (slot_place u.counts i) (omega (arith, lt));
+      heads = λ i lt. stands.whole calm (head_place u.counts i) (omega (arith, lt));
     };
     named = stands.standing.recoverable.clean;
     no_stop = stands.stops;
@@ -145,9 +142,6 @@ module _ (server : ServerNo) (v : StoreView) (most was : ℕ) (pool : List Recor
 -- ---- of what the code has begun with
 
 module _ (server : ServerNo) (g : Counts) (v : StoreView) (p : Opened) (epoch : ℕ) (w : StoreView) (at : IsBegun server g v p epoch w) where
-  pub cleaned : IsCleaned v w
-  cleaned = record { clean = at.stands.clean; whole = at.stands.whole }
-
   begins : Stands server g v (most_calls g) p.root.epoch (p.root.epoch + 1) p.sets p.table.heads w
   begins = subst (λ n. Stands server g v (most_calls g) p.root.epoch n p.sets p.table.heads w) at.next at.stands
 
@@ -190,6 +184,9 @@ module _ (server : ServerNo) (g : Counts) (v : StoreView) (p : Opened) (epoch : 
 
     heads_are : k.table.heads ≡ p.table.heads
     heads_are = ap (λ (t : TableView). t.heads) table.promises ∙ table.holds.heads
+
+    pub kept_untouched : IsUntouched k.table
+    kept_untouched a = ap (λ t. is_touched t a) table.promises ∙ ap (λ l. get_or l a false) table.holds.touched ∙ at.table.untouched a
 
     held : (a : ℕ) → is_held k.table a ≡ list_any (names_page a) p.sets
     held a = ap (λ t. is_held t a) table.promises ∙ table.holds.held a

@@ -1,5 +1,5 @@
 -- A store is cleaned and read.
-use Rattle.std.proofs.Common.{◌≡◌, ◌≢◌, ◌<◌, ◌≤◌, ◌+◌, ◌*◌, ℕ, Bool, true, false, if◌then◌else◌, List, [], length, Result, Ok, Err, refl, sym, ◌∙◌, ap, subst, true≢false, arith}
+use Rattle.std.proofs.Common.{◌≡◌, ◌≢◌, inr, ◌<◌, ◌≤◌, ◌+◌, ◌*◌, ℕ, Bool, true, false, if◌then◌else◌, List, [], length, Result, Ok, Err, refl, sym, ◌∙◌, ap, subst, true≢false, arith}
 use Rattle.std.proofs.lemmas.Bool.Decides.{nat_tests}
 use Rattle.std.specs.Prelude.{nat_lt}
 use Rattle.jn_base.specs.declared.names.ServerNo.{ServerNo}
@@ -21,17 +21,17 @@ use Rattle.jn_found.proofs.Picking.{fewer_picked, fewer_recoverable}
 use Rattle.jn_records.specs.declared.head.Head.{Head}
 use Rattle.jn_records.specs.declared.record.Record.{Record}
 use Rattle.jn_records.specs.declared.root.Root.{Root}
-use Rattle.jn_records.specs.StablePages.{Counts, page_count}
+use Rattle.jn_records.specs.StablePages.{Counts, data_place}
 use Rattle.jn_records.proofs.Roots.{root_is_read}
 use Rattle.jn_rows.specs.Stable.{StableState, Pick}
 use Rattle.jn_sets.specs.declared.fault.LoadFault.{LoadFault as SetsFault}
 use Rattle.jn_sets.specs.declared.fault.LoadFault.TheVariants.{Stopped as SetsStopped, Memory as SetsMemory}
 use Rattle.jn_store.specs.Store.{StoreView, StoreLater, IsSamePage, IsCalm, IsStop, IsServed, IsOnly}
-use Rattle.jn_store.proofs.Laws.{later_trans, same_shrinks, stop_since}
+use Rattle.jn_store.proofs.Laws.{later_trans, same_shrinks, same_trans, stop_since}
 use Rattle.jn_recovery.specs.Causes.{of_sets, of_table}
-use Rattle.jn_recovery.specs.Loading.{Recovering, IsDown, IsNotUsedUp, reading_calls, most_calls}
+use Rattle.jn_recovery.specs.Loading.{Recovering, IsDown, IsNotUsedUp, front_count, reading_calls, most_calls}
 use Rattle.jn_recovery.specs.Opening.{IsRead, Stands, RootRead, IsOpened}
-use Rattle.jn_recovery.specs.Cleaning.{CleansAll}
+use Rattle.jn_recovery.specs.Cleaning.{Cleans}
 use Rattle.jn_recovery.specs.declared.load.DownCause.{DownCause}
 use Rattle.jn_recovery.specs.declared.opening.Opened.{Opened}
 use Rattle.jn_recovery.specs.declared.load.DownCause.TheVariants.{Stopped, Memory, EpochsUsedUp}
@@ -40,14 +40,15 @@ use Rattle.jn_recovery.proofs.Downs.{recovering_fewer, stopped_down, memory_down
 use Rattle.jn_recovery.proofs.Standing.{up, finds, standing_same}
 
 module _ (server : ServerNo) (g : Counts) (v : StoreView) where
-  pub reads_none : (u : StoreView) → IsRecoverable server g v → CleansAll v u → IsRead server g v (16 * page_count g) u
+  pub reads_none : (u : StoreView) → IsRecoverable server g v → Cleans v 0 (front_count g) u → IsRead server g v (16 * front_count g) u
   reads_none u before to = record {
     later = to.later;
-    calls = let a = to.calls in let e = before.count in omega (arith, a, e);
+    calls = let a = to.calls in omega (arith, a);
     fewer = to.fewer;
     recoverable = fewer_recoverable v u to.fewer server g before;
-    clean = λ i lt. to.clean i (omega arith) (subst (λ n. i < n) to.later.count lt);
+    clean = λ i lt. to.clean i (omega arith) lt;
     whole = λ calm i lt. to.whole calm i (omega arith) lt;
+    data_pages = λ d lt. to.others (data_place g d) (let e = before.count in omega (arith, e, lt)) (inr (omega arith));
   }
 
   module _ (most : ℕ) (u : StoreView) (before : IsRead server g v most u) where
@@ -57,8 +58,9 @@ module _ (server : ServerNo) (g : Counts) (v : StoreView) where
       calls = let a = before.calls in omega (arith, a, calls);
       fewer = fewer_trans v u w before.fewer fewer;
       recoverable = fewer_recoverable u w fewer server g before.recoverable;
-      clean = λ i lt. (same i).first ∙ before.clean i (subst (λ n. i < n) later.count lt) ∙ sym (same i).second;
-      whole = λ calm i lt. later.whole (before.later.calm calm) i (subst (λ n. i < n) (sym before.later.count) lt) (before.whole calm i lt);
+      clean = λ i lt. (same i).first ∙ before.clean i lt ∙ sym (same i).second;
+      whole = λ calm i lt. later.whole (before.later.calm calm) i (let e = before.recoverable.count in omega (arith, e, lt)) (before.whole calm i lt);
+      data_pages = λ d lt. same_trans v u w (data_place g d) (before.data_pages d lt) (same (data_place g d));
     }
       where
         fewer : IsFewer u w
@@ -87,7 +89,7 @@ module _ (server : ServerNo) (g : Counts) (v : StoreView) where
 
     module _ (k : ℕ) (w : StoreView) (later : StoreLater u w) (calls : w.calls ≤ u.calls + k) (same : (j : ℕ) → IsSamePage u w j) (few : most + k ≤ most_calls g) (first : IsRecoverable server g v) where
       recovering : Recovering server g v w
-      recovering = let now = reads_more k w later calls same in recovering_fewer server g v w first now.fewer now.later (let c = now.calls in omega (arith, c, few))
+      recovering = let now = reads_more k w later calls same in recovering_fewer server g v w first now.fewer now.later (let c = now.calls in omega (arith, c, few)) now.data_pages
 
       stop_down : IsStop u w → (IsCalm u → ⊥) → IsDown server g v Stopped w
       stop_down stop calm = stopped_down server g v w recovering (stop_since v u w before.later later stop) (λ quiet. calm (before.later.calm quiet))
@@ -122,15 +124,16 @@ module _ (server : ServerNo) (g : Counts) (v : StoreView) where
         before = opened_pick.0;
         old = opened_pick.2;
         found = λ c. opened_pick.1 c ∙ ap (λ k. record (found_on g v opened_pick.0) { epoch = k }) opened_pick.2;
-        clean = λ i lt. before.clean i (subst (λ n. i < n) (sym before.later.count) lt);
+        clean = before.clean;
         whole = before.whole;
+        data_pages = before.data_pages;
       }
 
 -- ---- what the code has read, step by step
 
-module _ (server : ServerNo) (g : Counts) (v : StoreView) (before : IsRecoverable server g v) (u : StoreView) (to : CleansAll v u)
+module _ (server : ServerNo) (g : Counts) (v : StoreView) (before : IsRecoverable server g v) (u : StoreView) (to : Cleans v 0 (front_count g) u)
     (r : Result Root DownCause) (x : StoreView) (read : SetsRead u 1 x) (root : (root : Root) → IsRoot root → IsOnly u 0 (root_page root) → RootRead root r) where
-  abbrev cleaned : IsRead server g v (16 * page_count g) u
+  abbrev cleaned : IsRead server g v (16 * front_count g) u
   cleaned = reads_none server g v u before to
 
   abbrev its_epoch : ℕ
@@ -144,7 +147,7 @@ module _ (server : ServerNo) (g : Counts) (v : StoreView) (before : IsRecoverabl
   is_last _ = false
 
   pub root_exit : (cause : DownCause) → r ≡ Err cause → (r ≡ Err Stopped → IsStop u x) → (IsCalm u → r ≢ Err Stopped) → (r ≢ Err Stopped → IsServed u x) → IsDown server g v cause x
-  root_exit cause is stop calm served = root_down server g v (16 * page_count g) u cleaned (8 * 1) x read.later read.calls read.same (omega arith) before cause (subst (RootRead (root_by server g its_epoch)) is root_read)
+  root_exit cause is stop calm served = root_down server g v (16 * front_count g) u cleaned (8 * 1) x read.later read.calls read.same (omega arith) before cause (subst (RootRead (root_by server g its_epoch)) is root_read)
       (λ e. stop (is ∙ ap (λ (k : DownCause). Err k) e)) (λ quiet e. calm quiet (is ∙ ap (λ (k : DownCause). Err k) e)) (λ e. (served (λ k. true≢false (sym (ap is_last (is ∙ ap (λ (k : DownCause). Err k) e)) ∙ ap is_last k))).power)
 
   module _ (o : Root) (is : r ≡ Ok o) where
@@ -152,10 +155,10 @@ module _ (server : ServerNo) (g : Counts) (v : StoreView) (before : IsRecoverabl
     good = subst (RootRead (root_by server g its_epoch)) is root_read
 
     left : IsNotUsedUp g v
-    left = not_used_up server g v (16 * page_count g) u cleaned good.1
+    left = not_used_up server g v (16 * front_count g) u cleaned good.1
 
-    with_root : IsRead server g v (16 * page_count g + 8 * 1) x
-    with_root = reads_more server g v (16 * page_count g) u cleaned (8 * 1) x read.later read.calls read.same
+    with_root : IsRead server g v (16 * front_count g + 8 * 1) x
+    with_root = reads_more server g v (16 * front_count g) u cleaned (8 * 1) x read.later read.calls read.same
 
     pool_is : o.pool ≡ g.pool
     pool_is = ap (λ (k : Root). k.pool) good.0
@@ -171,10 +174,10 @@ module _ (server : ServerNo) (g : Counts) (v : StoreView) (before : IsRecoverabl
 
     module _ (y : StoreView) (more : SetsRead x o.pool y) where
       pub sets_exit : (fault : SetsFault) → (fault ≡ SetsStopped → IsStop x y) → (IsCalm x → fault ≡ SetsStopped → ⊥) → IsDown server g v (of_sets fault) y
-      sets_exit fault stop calm = sets_down server g v (16 * page_count g + 8 * 1) x with_root (8 * o.pool) y more.later more.calls more.same (let e = pool_is in omega (arith, e)) before left fault stop calm
+      sets_exit fault stop calm = sets_down server g v (16 * front_count g + 8 * 1) x with_root (8 * o.pool) y more.later more.calls more.same (let e = pool_is in omega (arith, e)) before left fault stop calm
 
-      with_pool : IsRead server g v (16 * page_count g + 8 * 1 + 8 * o.pool) y
-      with_pool = reads_more server g v (16 * page_count g + 8 * 1) x with_root (8 * o.pool) y more.later more.calls more.same
+      with_pool : IsRead server g v (16 * front_count g + 8 * 1 + 8 * o.pool) y
+      with_pool = reads_more server g v (16 * front_count g + 8 * 1) x with_root (8 * o.pool) y more.later more.calls more.same
 
       root_here : IsOnly y 0 (root_page (root_by server g its_epoch))
       root_here = same_only x y 0 _ (more.same 0) (same_only u x 0 _ (read.same 0) (root_only server g u cleaned.recoverable cleaned.clean))
@@ -188,15 +191,15 @@ module _ (server : ServerNo) (g : Counts) (v : StoreView) (before : IsRecoverabl
             (loadable server g y with_pool.recoverable with_pool.clean its_epoch (root_is server g u cleaned.recoverable cleaned.clean) root_here records (size ∙ pool_is) hold)
 
         module _ (z : StoreView) (last : TableRead y o.heads z) where
-          few : 16 * page_count g + 8 * 1 + 8 * o.pool + 8 * o.heads ≤ most_calls g
+          few : 16 * front_count g + 8 * 1 + 8 * o.pool + 8 * o.heads ≤ most_calls g
           few = let e = pool_is in let f = heads_is in omega (arith, e, f)
 
           pub table_exit : (fault : TableFault) → (fault ≡ TableStopped → IsStop y z) → (IsCalm y → fault ≡ TableStopped → ⊥) → IsDown server g v (of_table fault) z
-          table_exit fault stop calm = table_down server g v (16 * page_count g + 8 * 1 + 8 * o.pool) y with_pool (8 * o.heads) z last.later last.calls last.same few before left fault stop calm
+          table_exit fault stop calm = table_down server g v (16 * front_count g + 8 * 1 + 8 * o.pool) y with_pool (8 * o.heads) z last.later last.calls last.same few before left fault stop calm
 
           with_heads : IsRead server g v (reading_calls g) z
           with_heads = subst (λ n. IsRead server g v n z) (let e = pool_is in let f = heads_is in omega (arith, e, f))
-              (reads_more server g v (16 * page_count g + 8 * 1 + 8 * o.pool) y with_pool (8 * o.heads) z last.later last.calls last.same)
+              (reads_more server g v (16 * front_count g + 8 * 1 + 8 * o.pool) y with_pool (8 * o.heads) z last.later last.calls last.same)
 
           pub opened : (t : TableView) → IsTableLoaded (counts_of o) t → ((l : List Head) → IsLoadable (counts_of o) l y → t.heads ≡ l) → IsServed u x → y.stops ≡ x.stops → z.stops ≡ y.stops → (w : Opened) → w.root ≡ o → w.sets ≡ records → w.table ≡ t → IsOpened server g v w z
           opened t loaded heads one two three w a b c = record {

@@ -63,6 +63,7 @@ pub record HoldsNamed (t : TableView) (records : List Record) (u : TableView) : 
   pub free_heads : u.free_heads ≡ t.free_heads
   pub promised : u.free_leaves.promised ≡ t.free_leaves.promised
   pub size : length u.held ≡ length t.held
+  pub touched : u.touched ≡ t.touched
   pub held : (a : ℕ) → is_held u a ≡ list_any (names_page a) records
 
 -- ---- heads

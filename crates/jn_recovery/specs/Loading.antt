@@ -1,5 +1,5 @@
 -- What a recovery does, from its store before to the storage, or where there is none to the store that it gives back.
-use Rattle.std.specs.Prelude.{◌≡◌, ◌≢◌, ◌⊎◌, ◌≤◌, ◌<◌, ◌+◌, ◌*◌, ◌^◌, ℕ, suc, true, is_some}
+use Rattle.std.specs.Prelude.{◌≡◌, ◌≢◌, ◌⊎◌, ◌≤◌, ◌<◌, ◌+◌, ◌*◌, ◌^◌, ℕ, suc, true, false, is_some}
 use Rattle.jn_base.specs.declared.names.ServerNo.{ServerNo}
 use Rattle.jn_base.specs.declared.names.Tid.{Tid}
 use Rattle.jn_base.specs.declared.names.WorkId.{WorkId}
@@ -7,11 +7,12 @@ use Rattle.jn_found.specs.Pages.{found_on}
 use Rattle.jn_found.specs.Puts.{IsFewer, IsFrontClean, IsFrontWhole}
 use Rattle.jn_found.specs.Recoverable.{IsRecoverable, NamedAreClean}
 use Rattle.jn_found.specs.Recovery.{FindsSame}
-use Rattle.jn_records.specs.StablePages.{Counts, page_count}
+use Rattle.jn_files.specs.Table.{TableView, is_touched}
+use Rattle.jn_records.specs.StablePages.{Counts, data_place}
 use Rattle.jn_rows.specs.Stable.{StableState, Pick}
 use Rattle.jn_storage.specs.Storage.{StorageView, IsRecovered}
 use Rattle.jn_storage.specs.Calls.{state, TellsFlags}
-use Rattle.jn_store.specs.Store.{StoreView, StoreLater, IsCalm, IsClean, IsWhole, IsStop}
+use Rattle.jn_store.specs.Store.{StoreView, StoreLater, IsCalm, IsSamePage, IsStop}
 use Rattle.jn_recovery.specs.declared.load.DownCause.{DownCause}
 use Rattle.jn_recovery.specs.declared.load.DownCause.TheVariants.{Stopped, Memory, EpochsUsedUp}
 use Rattle.jn_recovery.specs.declared.load.Found.{Found}
@@ -26,22 +27,35 @@ pub record IsSameOrNext (x y : StableState) : Type 0 where
   pub same : y ≡ record x { epoch = y.epoch }
   pub epoch : (y.epoch ≡ x.epoch) ⊎ (y.epoch ≡ suc x.epoch)
 
--- Each page is cleaned, and the root, the records and the heads are read.
+-- how many pages root, records and heads take, before which no data page stands
+abbrev pub front_count : Counts → ℕ
+front_count g = 1 + g.pool + g.heads
+
+-- Each of them is cleaned and read.
 abbrev pub reading_calls : Counts → ℕ
-reading_calls g = 16 * page_count g + 8 * (1 + g.pool + g.heads)
+reading_calls g = 24 * front_count g
 
 -- The root, and each record at most, are put.
 abbrev pub most_calls : Counts → ℕ
 most_calls g = reading_calls g + 16 * (1 + g.pool)
 
+-- no data page has another half: none was cleaned or put
+abbrev pub KeepsDataPages : Counts → StoreView → StoreView → Type 0
+KeepsDataPages g v w = (d : ℕ) → d < g.leaves → IsSamePage v w (data_place g d)
+
+-- no data page was touched since the table was loaded, so each is cleaned before its first get
+abbrev pub IsUntouched : TableView → Type 0
+IsUntouched t = (a : ℕ) → is_touched t a ≡ false
+
 -- What a recovery leaves, however it ended: the next one may begin there, and by each pick it finds what some pick found
--- before, in the same epoch or the next.
+-- before, in the same epoch or the next. The data pages stay as they were.
 pub record Recovering (server : ServerNo) (g : Counts) (v w : StoreView) : Type 0 where
   pub later : StoreLater v w
   pub calls : w.calls ≤ v.calls + most_calls g
   pub recoverable : IsRecoverable server g w
   pub each : (c : Pick) → (b : Pick) × IsSameOrNext (found_on g v b) (found_on g w c)
   pub finds : FindsSame g v w
+  pub data_pages : KeepsDataPages g v w
 
 -- There is a storage, of what some pick found before, in the next epoch. Root, records and heads are clean, and so is each
 -- data page that a head or a prepared work names; of the others nothing is said.
@@ -65,11 +79,6 @@ pub record IsLoaded (server : ServerNo) (g : Counts) (v : StoreView) (told : Fou
   pub front_whole : IsCalm v → IsFrontWhole g w.store
   pub named : NamedAreClean g w.store
   pub no_stop : w.store.stops ≡ v.stops
-
--- each page was cleaned, also where nothing names it
-pub record IsCleaned (v w : StoreView) : Type 0 where
-  pub clean : (i : ℕ) → i < v.count → IsClean w i
-  pub whole : IsCalm v → (i : ℕ) → i < v.count → IsWhole w i
 
 -- the root that was read has the last epoch, and nothing was put but by cleanups
 pub record IsUsedUp (g : Counts) (v w : StoreView) : Type 0 where

@@ -12,7 +12,7 @@ use Rattle.jn_records.specs.declared.root.Root.{Root}
 use Rattle.jn_records.specs.StablePages.{Counts}
 use Rattle.jn_rows.specs.Stable.{Pick, Unchanged}
 use Rattle.jn_store.specs.Store.{StoreView, StoreLater, IsCalm, IsClean, IsWhole, IsStop}
-use Rattle.jn_recovery.specs.Loading.{reading_calls, most_calls}
+use Rattle.jn_recovery.specs.Loading.{reading_calls, most_calls, front_count, KeepsDataPages}
 use Rattle.jn_recovery.specs.Memory.{rubbish_in}
 use Rattle.jn_recovery.specs.declared.load.DownCause.{DownCause}
 use Rattle.jn_recovery.specs.declared.load.DownCause.TheVariants.{Stopped, Memory, EpochsUsedUp}
@@ -32,14 +32,15 @@ next_root r = record r { epoch = r.epoch + 1 }
 
 -- ---- the store
 
--- each page was cleaned, and pages were read
+-- root, records and heads were cleaned, and pages were read
 pub record IsRead (server : ServerNo) (g : Counts) (v : StoreView) (most : ℕ) (w : StoreView) : Type 0 where
   pub later : StoreLater v w
   pub calls : w.calls ≤ v.calls + most
   pub fewer : IsFewer v w
   pub recoverable : IsRecoverable server g w
-  pub clean : (i : ℕ) → i < w.count → IsClean w i
-  pub whole : IsCalm v → (i : ℕ) → i < v.count → IsWhole w i
+  pub clean : (i : ℕ) → i < front_count g → IsClean w i
+  pub whole : IsCalm v → (i : ℕ) → i < front_count g → IsWhole w i
+  pub data_pages : KeepsDataPages g v w
 
 -- The store stands, and each pick finds what one pick found before, which had one epoch, with another.
 pub record Stands (server : ServerNo) (g : Counts) (v : StoreView) (most was epoch : ℕ) (records : List Record) (heads : List Head) (w : StoreView) : Type 0 where
@@ -50,10 +51,11 @@ pub record Stands (server : ServerNo) (g : Counts) (v : StoreView) (most was epo
   pub before : Pick
   pub old : (found_on g v before).epoch ≡ was
   pub found : (c : Pick) → found_on g w c ≡ record (found_on g v before) { epoch = epoch }
-  pub clean : (i : ℕ) → i < v.count → IsClean w i
-  pub whole : IsCalm v → (i : ℕ) → i < v.count → IsWhole w i
+  pub clean : (i : ℕ) → i < front_count g → IsClean w i
+  pub whole : IsCalm v → (i : ℕ) → i < front_count g → IsWhole w i
+  pub data_pages : KeepsDataPages g v w
 
--- each page was cleaned, and the root, the records and the heads were read
+-- root, records and heads were cleaned and read
 pub record IsOpened (server : ServerNo) (g : Counts) (v : StoreView) (o : Opened) (w : StoreView) : Type 0 where
   pub root : o.root ≡ root_by server g o.root.epoch
   pub last : o.root.epoch < 4294967295
@@ -71,6 +73,7 @@ pub record Erases (server : ServerNo) (g : Counts) (v : StoreView) (epoch : ℕ)
   pub standing : IsStanding server g w epoch records heads
   pub unchanged : Unchanged (standing_state g v) (found_on g w)
   pub clean : (i : ℕ) → i < v.count → IsClean v i → IsClean w i
+  pub data_pages : KeepsDataPages g v w
 
 -- one more was stopped
 pub record EraseStopped (server : ServerNo) (g : Counts) (v : StoreView) (most : ℕ) (w : StoreView) : Type 0 where
@@ -79,6 +82,7 @@ pub record EraseStopped (server : ServerNo) (g : Counts) (v : StoreView) (most :
   pub stop : IsStop v w
   pub recoverable : IsRecoverable server g w
   pub unchanged : Unchanged (standing_state g v) (found_on g w)
+  pub data_pages : KeepsDataPages g v w
 
 -- no record is rubbish any more
 pub record ErasesAll (server : ServerNo) (g : Counts) (v : StoreView) (epoch : ℕ) (heads : List Head) (records : List Record) (w : StoreView) : Type 0 where

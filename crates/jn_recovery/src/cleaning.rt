@@ -1,8 +1,8 @@
 //! A store is cleaned, page by page.
-ghost use Rattle.std.specs.Prelude.{◌≡◌, ◌≤◌, ◌+◌, ◌-◌, ◌*◌, true, is_ok, OnErr, OnOk};
+ghost use Rattle.std.specs.Prelude.{◌≡◌, ◌≤◌, ◌+◌, ◌-◌, ◌*◌, ◌<◌, ◌⊎◌, ℕ, true, is_ok, OnErr, OnOk};
 ghost use Rattle.jn_found.specs.Puts.{IsFewer};
 ghost use Rattle.jn_recovery.specs.Cleaning.{Cleans};
-ghost use Rattle.jn_store.specs.Store.{IsCalm, IsStop, StoreLater};
+ghost use Rattle.jn_store.specs.Store.{IsCalm, IsSamePage, IsStop, StoreLater};
 
 use jn_base::Stopped;
 use jn_store::StableStore;
@@ -14,6 +14,7 @@ pub fn clean_pages<S: StableStore>(store: &mut S, from: u32, to: u32) -> Result<
     ensures fewer { IsFewer (S.view store.old) (S.view store.new) }
     ensures later { StoreLater (S.view store.old) (S.view store.new) }
     ensures calls { (S.view store.new).calls ≤ (S.view store.old).calls + 16 * (to - from) }
+    ensures others { (i : ℕ) → i < (S.view store.old).count → (i < from) ⊎ (to ≤ i) → IsSamePage (S.view store.old) (S.view store.new) i }
     ensures cleaned { OnOk result (Cleans (S.view store.old) from to (S.view store.new)) }
     ensures stop { OnErr result (IsStop (S.view store.old) (S.view store.new)) }
     ensures calm { IsCalm (S.view store.old) → is_ok result ≡ true }

@@ -2,7 +2,7 @@
 ghost use Rattle.std.specs.Prelude.{◌≡◌, IfOk, IfErr};
 ghost use Rattle.jn_base.specs.declared.names.ServerNo.{ServerNo};
 ghost use Rattle.jn_found.specs.Recoverable.{IsRecoverable};
-ghost use Rattle.jn_recovery.specs.Loading.{counts_by, IsLoaded, IsDown, IsCleaned};
+ghost use Rattle.jn_recovery.specs.Loading.{counts_by, IsLoaded, IsDown, IsUntouched};
 ghost use Rattle.jn_recovery.specs.Matches.{Matches};
 ghost use Rattle.jn_recovery.specs.Memory.{view_of};
 ghost use Rattle.jn_recovery.specs.Kept.{memory_kept};
@@ -37,8 +37,9 @@ pub struct Found {
     pub flags: ListOf<Flag>,
 }
 
-/// What a server keeps in memory of a store of so many pages, whatever was stopped there before. The store is cleaned, the
-/// restart is counted in its root, and what an unfinished preparation or a removed work left is erased.
+/// What a server keeps in memory of a store of so many pages, whatever was stopped there before. Root, records and heads are
+/// cleaned, the restart is counted in the root, and what an unfinished preparation or a removed work left is erased. The data
+/// pages are left as they are: each is cleaned before its first get.
 pub fn recover<S: StableStore>(
     alloc: Global,
     store: &mut S,
@@ -48,7 +49,7 @@ pub fn recover<S: StableStore>(
     ensures matches { IfOk result (λ r. Matches (memory_kept r.0) (S.view store.new)) }
     ensures loaded { (server : ServerNo) → IsRecoverable server (counts_by counts) (S.view store.old) → IfOk result (λ r. IsLoaded server (counts_by counts) (S.view store.old) r.1 (view_of (memory_kept r.0) (S.view store.new))) }
     ensures down { (server : ServerNo) → IsRecoverable server (counts_by counts) (S.view store.old) → IfErr result (λ cause. IsDown server (counts_by counts) (S.view store.old) cause (S.view store.new)) }
-    ensures cleaned { IfOk result (λ r. IsCleaned (S.view store.old) (S.view store.new)) }
+    ensures untouched { IfOk result (λ r. IsUntouched r.0.table) }
 {
     let (opened, epoch) = begin_epoch(alloc, store, counts)?;
     let kept = gather(alloc, opened, epoch)?;

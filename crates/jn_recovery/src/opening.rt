@@ -1,17 +1,15 @@
 //! What a recovery reads of its store, and puts there.
-ghost use Rattle.std.specs.Prelude.{◌≡◌, ◌≢◌, ◌<◌, ◌≤◌, ◌+◌, ◌*◌, ℕ, true, List, Err, IfOk, IfErr, OnOk, OnErr, is_ok};
+ghost use Rattle.std.specs.Prelude.{◌≡◌, ◌≢◌, ◌<◌, ◌+◌, ℕ, true, List, Err, IfOk, IfErr, OnOk, OnErr, is_ok};
 ghost use Rattle.jn_base.specs.declared.names.ServerNo.{ServerNo};
-ghost use Rattle.jn_found.specs.Puts.{IsFewer};
 ghost use Rattle.jn_found.specs.Recoverable.{IsRecoverable};
 ghost use Rattle.jn_found.specs.Standing.{IsStanding};
 ghost use Rattle.jn_records.specs.declared.head.Head.{Head};
 ghost use Rattle.jn_records.specs.declared.root.Root.{Root as RootOf};
 ghost use Rattle.jn_records.specs.Pages.{root_page, IsRoot};
-ghost use Rattle.jn_records.specs.StablePages.{Counts, page_count};
+ghost use Rattle.jn_records.specs.StablePages.{Counts};
 ghost use Rattle.jn_sets.specs.Sets.{StoreRead};
-ghost use Rattle.jn_store.specs.Store.{IsCalm, IsOnly, IsServed, IsStop, StoreLater, StorePut};
+ghost use Rattle.jn_store.specs.Store.{IsCalm, IsOnly, IsServed, IsStop, StorePut};
 ghost use Rattle.jn_recovery.specs.Loading.{counts_by, IsDown};
-ghost use Rattle.jn_recovery.specs.Cleaning.{CleansAll};
 ghost use Rattle.jn_recovery.specs.Opening.{RootRead, next_root, IsOpened, IsBegun, ErasesAll, EraseStopped};
 ghost use Rattle.jn_recovery.specs.declared.load.DownCause.TheVariants.{Stopped as DownStopped};
 
@@ -49,7 +47,7 @@ pub(crate) fn begin_epoch<S: StableStore>(
     Ok((opened, epoch))
 }
 
-/// Cleans the store, and reads its root, its records and its heads.
+/// Cleans the pages of the root, the records and the heads, and reads them. The data pages stay as they are.
 fn open_store<S: StableStore>(
     alloc: Global,
     store: &mut S,
@@ -59,28 +57,12 @@ fn open_store<S: StableStore>(
     ensures opened { (server : ServerNo) → IsRecoverable server (counts_by counts) (S.view store.old) → IfOk result (λ o. IsOpened server (counts_by counts) (S.view store.old) o (S.view store.new)) }
     ensures down { (server : ServerNo) → IsRecoverable server (counts_by counts) (S.view store.old) → IfErr result (λ cause. IsDown server (counts_by counts) (S.view store.old) cause (S.view store.new)) }
 {
-    clean_all(store, counts)?;
+    let front = counts.front();
+    clean_pages(store, 0, front)?;
     let root = read_root(store)?;
     let sets = Sets::load(alloc, store, &root)?;
     let table = FileTable::load(alloc, store, &root)?;
     Ok(Opened { root, sets, table })
-}
-
-/// Cleans the pages of the root, the records and the heads first, by which all else is found, and then the data pages.
-fn clean_all<S: StableStore>(store: &mut S, counts: PageCounts) -> Result<(), Stopped>
-    requires fits { page_count (counts_by counts) ≡ (S.view store.old).count }
-    ensures fewer { IsFewer (S.view store.old) (S.view store.new) }
-    ensures later { StoreLater (S.view store.old) (S.view store.new) }
-    ensures calls { (S.view store.new).calls ≤ (S.view store.old).calls + 16 * (S.view store.old).count }
-    ensures cleaned { OnOk result (CleansAll (S.view store.old) (S.view store.new)) }
-    ensures stop { OnErr result (IsStop (S.view store.old) (S.view store.new)) }
-    ensures calm { IsCalm (S.view store.old) → is_ok result ≡ true }
-{
-    let front = counts.front();
-    let all = store.count();
-    clean_pages(store, 0, front)?;
-    clean_pages(store, front, all)?;
-    Ok(())
 }
 
 /// The root, unless its epoch is the last.

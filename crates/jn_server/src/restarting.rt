@@ -3,7 +3,7 @@ ghost use Rattle.std.specs.Prelude.{◌≡◌, ◌<◌, ◌^◌, IfOk, IfErr};
 ghost use Rattle.jn_base.specs.declared.names.ServerNo.{ServerNo};
 ghost use Rattle.jn_coord.specs.Restoring.{Restored};
 ghost use Rattle.jn_found.specs.Recoverable.{IsRecoverable};
-ghost use Rattle.jn_recovery.specs.Loading.{counts_by, IsCleaned};
+ghost use Rattle.jn_recovery.specs.Loading.{counts_by};
 ghost use Rattle.jn_recovery.specs.Memory.{view_of};
 ghost use Rattle.jn_recovery.specs.declared.load.DownCause.TheVariants.{Memory};
 ghost use Rattle.jn_server.specs.Restarting.{IsRestarted, IsNotRestarted, IsLeft, AreTables};
@@ -54,7 +54,6 @@ pub fn restart<S: StableStore>(
     requires recoverable { (server : ServerNo) × IsRecoverable server (counts_by counts) (S.view store) }
     ensures up { (server : ServerNo) → IsRecoverable server (counts_by counts) (S.view store) → IfOk result (λ r. IsRestarted server (counts_by counts) (S.view store) r.1 (view_with (λ s. S.view s) r.0)) }
     ensures down { (server : ServerNo) → IsRecoverable server (counts_by counts) (S.view store) → IfErr result (λ d. IsNotRestarted server (counts_by counts) (S.view store) d.cause (S.view d.store)) }
-    ensures cleaned { IfOk result (λ r. IsCleaned (S.view store) (view_with (λ s. S.view s) r.0).storage.store) }
 {
     match Intents::load(alloc, store, counts) {
         Err(Down { store, cause }) => Err(Down { store, cause }),

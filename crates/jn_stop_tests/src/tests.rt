@@ -69,21 +69,21 @@ fn all_restarts(alloc: Global, way: Way) -> Result<Tally, Fail> {
     Ok(tally)
 }
 
-// Without a difference a restart takes 33 calls, so all 32 take 1,056; the 24 stops within a put leave two halves that differ in 16 cases,
-// for 2 calls each, and a record to be erased in 8, for 4 each: 1,120, and one more each that the stop misses. The runs that
-// are lost are those whose commit is stopped at calls 1 to 5 of server 0, whose restarts take 33, 39, 39, 37 and 37 calls, and at
-// call 1 of server 1, whose restart takes 33.
+// Without a difference a restart takes 25 calls, so all 32 take 800; the 24 stops within a put leave two halves that differ in 16 cases,
+// for 2 calls each, and a record to be erased in 8, for 4 each: 864, and one more each that the stop misses. The runs that
+// are lost are those whose commit is stopped at calls 1 to 5 of server 0, whose restarts take 25, 31, 31, 29 and 29 calls, and at
+// call 1 of server 1, whose restart takes 25.
 #[test]
 fn a_stop_before_each_call_of_a_restart(rt: HostRuntime) -> Result<(), Fail> {
     let tally = all_restarts(rt.alloc(), Way::Before)?;
-    assert_eq!(rt; tally.verdict(), (1152, 224, "nothing"));
+    assert_eq!(rt; tally.verdict(), (896, 176, "nothing"));
     Ok(())
 }
 
 #[test]
 fn a_torn_put_at_each_call_of_a_restart(rt: HostRuntime) -> Result<(), Fail> {
     let tally = all_restarts(rt.alloc(), Way::Torn)?;
-    assert_eq!(rt; tally.verdict(), (1152, 224, "nothing"));
+    assert_eq!(rt; tally.verdict(), (896, 176, "nothing"));
     Ok(())
 }
 

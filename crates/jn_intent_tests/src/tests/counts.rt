@@ -2,7 +2,7 @@
 ghost use Rattle.std.specs.Prelude.{◌<◌};
 
 use crate::tests::stops::stopped;
-use crate::tests::{COUNTS as FEW, Call, PAGES, Plan, STORIES, Story, new_told, started};
+use crate::tests::{COUNTS as FEW, Call, PAGES, Plan, STORIES, Story, new_told, started, told_to};
 use jn_intent::PageCounts;
 use jn_memdisk::MemDisk;
 use std::alloc::Global;
@@ -18,7 +18,8 @@ const DEFAULT: PageCounts = PageCounts {
 
 /// Calls one after another, each with how many device calls it makes. A put of a page is 4: a preparation puts a record for
 /// each intention and one for the work, and a page for each block; every other change puts one page, but that a file which is
-/// gone already isn't removed again. A stored block is read by one, and a scrub reads both halves of twelve pages.
+/// gone already isn't removed again. A stored block that was put since the load is read by one, and a scrub reads both halves of
+/// twelve pages.
 const COUNTS: [(Call, u64); 36] = [
     (Call::Prepare(Plan::Nothing), 4),
     (Call::MarkGoing, 4),
@@ -154,11 +155,8 @@ fn a_call_makes_so_many_device_calls(rt: HostRuntime) -> Result<(), Fail> {
 
 #[test]
 fn a_load_makes_so_many_device_calls(rt: HostRuntime) -> Result<(), Fail> {
-    // two for each page, the root, the records, the heads, and the put of the next epoch
-    for (counts, calls) in [
-        (FEW, 2 * 12 + 1 + 6 + 2 + 4),
-        (DEFAULT, 2 * 177 + 1 + 32 + 16 + 4),
-    ] {
+    // two to clean and one to read each page of the root, the records and the heads, and the put of the next epoch
+    for (counts, calls) in [(FEW, 3 * (1 + 6 + 2) + 4), (DEFAULT, 3 * (1 + 32 + 16) + 4)] {
         assert_eq!(rt; calls_of(&rt, rt.alloc(), counts, &[])?, calls);
     }
     Ok(())
@@ -183,7 +181,31 @@ fn a_recovery_erases_what_a_stopped_preparation_left(rt: HostRuntime) -> Result<
             .into_store()
             .into_inner()
             .calls();
-        assert_eq!(rt; after.checked_sub(before), Some(37 + 4 * records));
+        assert_eq!(rt; after.checked_sub(before), Some(31 + 4 * records));
+    }
+    Ok(())
+}
+
+/// How many device calls the disk has seen where a block is stored, the storage has started anew, and these calls were made.
+fn calls_after_restart(rt: &impl Abort, alloc: Global, calls: &[Call]) -> Result<u64, Fail> {
+    let store = stopped(rt, alloc, &STORIES[0], 5, 1, 0)?;
+    let storage = told_to(rt, alloc, store, FEW, calls)?;
+    Ok(storage.into_store().into_inner().calls())
+}
+
+#[test]
+fn a_data_page_is_cleaned_before_its_first_read(rt: HostRuntime) -> Result<(), Fail> {
+    let alloc = rt.alloc();
+    let made = calls_after_restart(&rt, alloc, &[])?;
+    // a cleanup reads both halves; after the first read, or a scrub of twelve pages, a read is one call
+    for (calls, first, both) in [
+        ([Call::Read, Call::Read], 3, 4),
+        ([Call::Scrub, Call::Read], 24, 25),
+    ] {
+        let once = calls_after_restart(&rt, alloc, &calls[..1])?;
+        let twice = calls_after_restart(&rt, alloc, &calls)?;
+        assert_eq!(rt; once.checked_sub(made), Some(first));
+        assert_eq!(rt; twice.checked_sub(made), Some(both));
     }
     Ok(())
 }

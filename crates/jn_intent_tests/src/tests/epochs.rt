@@ -39,8 +39,8 @@ fn the_last_epoch_is_used_up(rt: HostRuntime) -> Result<(), Fail> {
     let (store, epoch) = begun(&rt, alloc, store_in(alloc, 4_294_967_295)?);
     assert_eq!(rt; epoch, Err(DownCause::EpochsUsedUp));
     let disk = store.into_inner();
-    // the put of the root; then two for each page, and the root, and no put
-    assert_eq!(rt; disk.calls(), 4 + 2 * 12 + 1);
+    // the put of the root; then two for each page of the root, the records and the heads, the root, and no put
+    assert_eq!(rt; disk.calls(), 4 + 2 * (1 + 6 + 2) + 1);
     let new = store_in(alloc, 4_294_967_295)?.into_inner();
     assert!(rt; disk.pages() == new.pages());
     Ok(())

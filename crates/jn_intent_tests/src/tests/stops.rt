@@ -15,9 +15,9 @@ use std::alloc::Global;
 use std::process::Abort;
 use std::test::Fail;
 
-/// How many device calls a recovery makes at least: two for each page, the root, the records, the heads, and the put of
-/// the next epoch.
-const RECOVERY: u32 = 2 * 12 + 1 + 6 + 2 + 4;
+/// How many device calls a recovery makes at least: three for each page of the root, the records and the heads, and the put
+/// of the next epoch.
+const RECOVERY: u32 = 3 * (1 + 6 + 2) + 4;
 
 /// What is found, the old state or the new one, after a stop before, within and after each device call of the put that
 /// decides: the put and the get of the first half, then those of the second. Each letter is for one event after the stop:

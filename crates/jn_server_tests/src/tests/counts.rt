@@ -19,9 +19,8 @@ const DEFAULT: PageCounts = PageCounts {
     leaves: 128,
 };
 
-/// A restart of that geometry: two for each page, one for the root and each record and head, and four for the put of the next
-/// epoch.
-const RESTART: u64 = 407;
+/// A restart of that geometry: three for the root and each record and head, and four for the put of the next epoch.
+const RESTART: u64 = 151;
 
 /// Moves after the story, each with what the server says of it and its device calls. A show reads the one stored block, a scrub
 /// both halves of each page; a preparation of k intentions that write b blocks makes 4 k + 4 b + 4; then the stored block is
@@ -116,8 +115,8 @@ fn stopped_disk(rt: &impl Abort, alloc: Global, call: u32, way: usize) -> Result
     )
 }
 
-/// The device calls of a restart that put a half of a page, and the half: those of the root, behind 403 others.
-const PUTS: [(u32, usize); 2] = [(404, 0), (406, 177)];
+/// The device calls of a restart that put a half of a page, and the half: those of the root, behind 147 others.
+const PUTS: [(u32, usize); 2] = [(148, 0), (150, 177)];
 
 #[test]
 fn a_restart_puts_the_root_last(rt: HostRuntime) -> Result<(), Fail> {

@@ -21,9 +21,9 @@ use std::alloc::Global;
 use std::process::Abort;
 use std::test::Fail;
 
-/// How many device calls a restart makes at least: two for each page, the root, the records, the heads, and the put of the
-/// next epoch; and how many at most, where three records are rubbish.
-const LEAST: u32 = 2 * 14 + 1 + 8 + 2 + 4;
+/// How many device calls a restart makes at least: three for the root, each record and each head, and the put of the next
+/// epoch; and how many at most, where three records are rubbish.
+const LEAST: u32 = 3 * (1 + 8 + 2) + 4;
 
 const MOST: u32 = LEAST + 4 * 3;
 

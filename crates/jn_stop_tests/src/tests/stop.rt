@@ -79,16 +79,16 @@ impl Stop {
     }
 }
 
-/// The calls of a restart of the server behind a stop before a call of the commit: each of 11 pairs is read, then root, records and heads once,
-/// and the root is put. Where the halves of a page differ, one is put and read back. An intention's record that no ready or going record
+/// The calls of a restart of the server behind a stop before a call of the commit: the pairs of the root, of 4 records and of 2 heads are read,
+/// then each of these pages once, and the root is put. Where the halves of a page differ, one is put and read back. An intention's record that no ready or going record
 /// names is erased: it is there from its first half on, until the ready record's first half, and again from that of the free record on, until its own
 /// erasure's first half.
 pub(crate) fn restart_calls(stop: Stop) -> u32 {
     match (stop.server, stop.call) {
-        (0, 2 | 3 | 18 | 19) => 39,
-        (0, 4 | 5 | 20 | 21) => 37,
-        (0, 6 | 7 | 10 | 11 | 14 | 15 | 22 | 23) => 35,
-        (1, 2 | 3 | 6 | 7) => 35,
-        _ => 33,
+        (0, 2 | 3 | 18 | 19) => 31,
+        (0, 4 | 5 | 20 | 21) => 29,
+        (0, 6 | 7 | 10 | 11 | 14 | 15 | 22 | 23) => 27,
+        (1, 2 | 3 | 6 | 7) => 27,
+        _ => 25,
     }
 }

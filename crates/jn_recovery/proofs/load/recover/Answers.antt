@@ -4,7 +4,7 @@ use Rattle.jn_recovery.specs.Gathering.{flags_on}
 use Rattle.jn_recovery.specs.Loading.{counts_by, IsDown}
 use Rattle.jn_recovery.specs.declared.load.DownCause.TheVariants.{Memory}
 use Rattle.jn_recovery.proofs.Downs.{if_err_is}
-use Rattle.jn_recovery.proofs.Loads.{no_memory, may_hold, may_promise, kept_matches, kept_loaded, cleaned}
+use Rattle.jn_recovery.proofs.Loads.{no_memory, may_hold, may_promise, kept_matches, kept_loaded, kept_untouched}
 use Rattle.jn_recovery.proofs.load.recover.Goals as goal
 
 pub returns-in_err-opened-clause-down : goal.returns-in_err-opened-clause-down
@@ -41,6 +41,7 @@ returns-clause-loaded g c = λ server before. let counts = counts_by c.args.coun
     c.in_ok-kept.kept c.in_ok-kept.ensures.server c.in_ok-kept.ensures.epoch c.in_ok-kept.ensures.sets c.in_ok-kept.ensures.works c.in_ok-kept.ensures.flags c.in_ok-kept.ensures.table c.in_ok-kept.ensures.is_table before
     (record { epoch = c.in_ok-opened.epoch; flags = c.from_vec-flags.result }) refl (c.from_vec-flags.ensures ∙ c.in_ok-collect_flags.ensures ∙ ap flags_on c.in_ok-kept.ensures.sets)
 
-pub returns-clause-cleaned : goal.returns-clause-cleaned
-returns-clause-cleaned g c = let (server, before) = c.requires.recoverable in let counts = counts_by c.args.counts in
-    cleaned server counts (g.S.StableStore.view c.args.store.now) c.in_ok-opened.opened c.in_ok-opened.epoch (g.S.StableStore.view c.begin_epoch.new.store) (c.in_ok-opened.ensures.begun server before)
+pub returns-clause-untouched : goal.returns-clause-untouched
+returns-clause-untouched g c = let (server, before) = c.requires.recoverable in let counts = counts_by c.args.counts in
+    kept_untouched server counts (g.S.StableStore.view c.args.store.now) c.in_ok-opened.opened c.in_ok-opened.epoch (g.S.StableStore.view c.begin_epoch.new.store) (c.in_ok-opened.ensures.begun server before)
+    c.in_ok-kept.kept c.in_ok-kept.ensures.server c.in_ok-kept.ensures.epoch c.in_ok-kept.ensures.sets c.in_ok-kept.ensures.works c.in_ok-kept.ensures.flags c.in_ok-kept.ensures.table c.in_ok-kept.ensures.is_table

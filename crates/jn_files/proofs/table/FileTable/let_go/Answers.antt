@@ -19,8 +19,8 @@ invariant_of-self c =
     let was = ap (λ (x : TableView). slice_index_or x.held c.args.a false) c.self.view_is ∙ c.requires in
     let unnamed = subst (λ (x : TableView). IsUnnamed x.heads c.args.a) (sym c.self.view_is) (c.is_named-named.ensures.unnamed c.if-not-named.true) in
     record {
-      table = subst (λ (x : FreeNumbers). IsTable (view_of t.pool t.heads (slice_set t.held.items c.args.a false) t.free_heads x)) (sym c.give.ensures.given)
-          (let_go_free t.pool t.heads t.held.items t.free_heads t.free_leaves c.args.a c.self.invariant.table was unnamed);
+      table = subst (λ (x : FreeNumbers). IsTable (view_of t.pool t.heads (slice_set t.held.items c.args.a false) t.touched.items t.free_heads x)) (sym c.give.ensures.given)
+          (let_go_free t.pool t.heads t.held.items t.touched.items t.free_heads t.free_leaves c.args.a c.self.invariant.table was unnamed);
       pages = c.self.invariant.pages ∙ sym (length-set t.held.items c.args.a false);
       names = c.self.invariant.names;
     }
@@ -31,7 +31,7 @@ invariant_of-self-else-not-named c =
     let was = ap (λ (x : TableView). slice_index_or x.held c.args.a false) c.self.view_is ∙ c.requires in
     let named = subst (λ (x : TableView). IsNamed x.heads c.args.a) (sym c.self.view_is) (c.is_named-named.ensures.named c.if-not-named.false) in
     record {
-      table = let_go_named t.pool t.heads t.held.items t.free_heads t.free_leaves c.args.a c.self.invariant.table was named;
+      table = let_go_named t.pool t.heads t.held.items t.touched.items t.free_heads t.free_leaves c.args.a c.self.invariant.table was named;
       pages = c.self.invariant.pages ∙ sym (length-set t.held.items c.args.a false);
       names = c.self.invariant.names;
     }

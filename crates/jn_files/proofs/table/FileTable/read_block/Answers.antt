@@ -1,25 +1,46 @@
-use Rattle.std.proofs.Common.{ap, ◌∙◌, subst, arith}
+use Rattle.std.proofs.Common.{◌≡◌, Bool, false, Err, Ok, Some, Option, List, ℕ, ap, ◌∙◌, subst, sym, refl, rules}
+use Rattle.std.specs.Prelude.{is_ok}
+use Rattle.jn_base.specs.declared.device.Stopped.{Stopped}
 use Rattle.jn_files.specs.Table.{TableView, IsTable, address_for}
-use Rattle.jn_files.proofs.Leaves.{got_none, got_some, leaf_place_below}
+use Rattle.jn_files.proofs.Touching.{code_below, code_place, code_got, code_stopped, no_block, the_block}
 use Rattle.jn_files.proofs.table.FileTable.read_block.Goals as goal
 
-pub returns-then-address-eq0-clause-got : goal.returns-then-address-eq0-clause-got
-returns-then-address-eq0-clause-got g c =
+pub touch-requires-clause-below : goal.touch-requires-clause-below
+touch-requires-clause-below g c =
     let is = subst (λ (x : TableView). IsTable x) c.self.view_is c.self.invariant.table in
     let address = c.address_for-address.ensures ∙ ap (λ (x : TableView). address_for x.heads c.args.f c.args.p.0) c.self.view_is in
-    got_none c.args.self.now (g.S.StableStore.view c.args.store.now) is c.requires.fits c.requires.holds c.args.f c.args.p c.address_for-address.result address c.if-address-eq0.true
+    code_below c.args.self.now (g.S.StableStore.view c.args.store.now) is c.requires.fits c.requires.holds c.args.f c.args.p c.address_for-address.result address c.if-address-eq0.false
+
+pub returns-in_err-touch-clause-got : goal.returns-in_err-touch-clause-got
+returns-in_err-touch-clause-got g c =
+    let is = subst (λ (x : TableView). IsTable x) c.self.view_is c.self.invariant.table in
+    let address = c.address_for-address.ensures ∙ ap (λ (x : TableView). address_for x.heads c.args.f c.args.p.0) c.self.view_is in
+    let bad : is_ok c.touch.result ≡ false = search rules in
+    let no_ok : is_ok c.from_residual.result ≡ false = search rules in
+    code_stopped c.args.self.now (g.S.StableStore.view c.args.store.now) is c.requires.fits c.requires.holds c.args.f c.args.p c.address_for-address.result address
+    c.touch.new.self (g.S.StableStore.view c.touch.new.store) (is_ok c.touch.result) (Err c.in_err-touch.field-0.0) c.from_residual.result c.touch.ensures bad no_ok
 
 pub get-requires : goal.get-requires
 get-requires g c =
     let is = subst (λ (x : TableView). IsTable x) c.self.view_is c.self.invariant.table in
     let address = c.address_for-address.ensures ∙ ap (λ (x : TableView). address_for x.heads c.args.f c.args.p.0) c.self.view_is in
-    let below = leaf_place_below c.args.self.now (g.S.StableStore.view c.args.store.now) is c.requires.fits c.requires.holds c.args.f c.args.p c.address_for-address.result address c.if-address-eq0.false in
-    let place = c.data_page.ensures in
-    omega arith
+    code_place c.args.self.now (g.S.StableStore.view c.args.store.now) is c.requires.fits c.requires.holds c.args.f c.args.p c.address_for-address.result address
+    c.touch.new.self (g.S.StableStore.view c.touch.new.store) c.in_ok-touch.ensures c.data_page.result c.data_page.ensures c.if-address-eq0.false
+
+pub returns-in_err-page-clause-got : goal.returns-in_err-page-clause-got
+returns-in_err-page-clause-got g c =
+    let is = subst (λ (x : TableView). IsTable x) c.self.view_is c.self.invariant.table in
+    let address = c.address_for-address.ensures ∙ ap (λ (x : TableView). address_for x.heads c.args.f c.args.p.0) c.self.view_is in
+    let bad : is_ok c.get.result ≡ false = search rules in
+    let no_ok : is_ok c.from_residual-in_err-page.result ≡ false = search rules in
+    code_got c.args.self.now (g.S.StableStore.view c.args.store.now) is c.requires.fits c.requires.holds c.args.f c.args.p c.address_for-address.result address
+    c.touch.new.self (g.S.StableStore.view c.touch.new.store) c.in_ok-touch.ensures c.data_page.result c.data_page.ensures c.get.result c.from_residual-in_err-page.result (g.S.StableStore.view c.get.new.self) c.get.ensures.got
+    (no_ok ∙ sym bad) (no_block c.from_residual-in_err-page.result _ no_ok)
 
 pub returns-clause-got : goal.returns-clause-got
 returns-clause-got g c =
     let is = subst (λ (x : TableView). IsTable x) c.self.view_is c.self.invariant.table in
     let address = c.address_for-address.ensures ∙ ap (λ (x : TableView). address_for x.heads c.args.f c.args.p.0) c.self.view_is in
-    got_some c.args.self.now (g.S.StableStore.view c.args.store.now) is c.requires.fits c.requires.holds c.args.f c.args.p c.address_for-address.result c.data_page.result c.in_ok-page.page c.block_of.result (g.S.StableStore.view c.get.new.self)
-    address c.if-address-eq0.false c.data_page.ensures c.in_ok-page.ensures.got c.block_of.ensures
+    code_got c.args.self.now (g.S.StableStore.view c.args.store.now) is c.requires.fits c.requires.holds c.args.f c.args.p c.address_for-address.result address
+    c.touch.new.self (g.S.StableStore.view c.touch.new.store) c.in_ok-touch.ensures c.data_page.result c.data_page.ensures (Ok c.in_ok-page.page) (Ok (Some c.block_of.result)) (g.S.StableStore.view c.get.new.self) c.in_ok-page.ensures.got
+    refl (the_block c.in_ok-page.page c.block_of.result c.block_of.ensures)

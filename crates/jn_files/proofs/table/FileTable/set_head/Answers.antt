@@ -25,7 +25,7 @@ pub free_dropped-requires-clause-may : goal.free_dropped-requires-clause-may
 free_dropped-requires-clause-may c =
     let t = c.self.inside in
     let may = subst (λ (x : TableView). MayStand x c.args.slot c.args.head) (sym c.self.view_is) c.requires.may in
-    code_may_drop t.pool t.heads t.held.items t.free_heads t.free_leaves t.free_heads t.free_leaves c.args.slot c.args.head c.replace-old.result c.slot-new.result.now c.replace-old.new.self c.deref.result.now c.is_free-2.result
+    code_may_drop t.pool t.heads t.held.items t.touched.items t.free_heads t.free_leaves t.free_heads t.free_leaves c.args.slot c.args.head c.replace-old.result c.slot-new.result.now c.replace-old.new.self c.deref.result.now c.is_free-2.result
     c.self.invariant.table may c.replace-old.ensures.old c.replace-old.ensures.new c.slot-new.ensures c.deref.ensures.value
 
 pub free_dropped-requires-clause-blocks : goal.free_dropped-requires-clause-blocks
@@ -43,7 +43,7 @@ invariant_of-self c =
     let read = read_is t.heads c.replace-old.new.self c.args.slot c.args.head c.slot-new.result.now may.below c.replace-old.ensures.new c.slot-new.ensures in
     let blocks = subst (λ (x : TableView). ChangesBlocks (head_in x.heads c.args.slot) c.args.head c.args.first c.args.end) (sym c.self.view_is) c.requires.blocks in
     record {
-      table = code_table t.pool t.heads t.held.items t.free_heads t.free_leaves c.count_head.new.free_heads c.free_dropped.new.free c.args.slot c.args.head c.replace-old.result c.slot-new.result.now c.replace-old.new.self c.deref.result.now c.is_free-2.result
+      table = code_table t.pool t.heads t.held.items t.touched.items t.free_heads t.free_leaves c.count_head.new.free_heads c.free_dropped.new.free c.args.slot c.args.head c.replace-old.result c.slot-new.result.now c.replace-old.new.self c.deref.result.now c.is_free-2.result
           c.self.invariant.table may c.replace-old.ensures.old c.replace-old.ensures.new c.slot-new.ensures c.deref.ensures.value
           c.is_free-2.ensures c.count_head.ensures c.free_dropped.ensures;
       pages = c.mark-2.ensures.count ∙ c.mark.ensures.count ∙ c.self.invariant.pages;
@@ -57,7 +57,7 @@ pub returns : goal.returns
 returns c =
     let t = c.self.inside in
     let may = subst (λ (x : TableView). MayStand x c.args.slot c.args.head) (sym c.self.view_is) c.requires.may in
-    subst (λ (x : TableView). IsChanged x c.args.slot c.args.head (view_of t.pool c.replace-old.new.self t.held.items c.count_head.new.free_heads c.free_dropped.new.free)) c.self.view_is
-    (code_changed t.pool t.heads t.held.items t.free_heads t.free_leaves c.count_head.new.free_heads c.free_dropped.new.free c.args.slot c.args.head c.replace-old.result c.slot-new.result.now c.replace-old.new.self c.deref.result.now c.is_free-2.result
+    subst (λ (x : TableView). IsChanged x c.args.slot c.args.head (view_of t.pool c.replace-old.new.self t.held.items t.touched.items c.count_head.new.free_heads c.free_dropped.new.free)) c.self.view_is
+    (code_changed t.pool t.heads t.held.items t.touched.items t.free_heads t.free_leaves c.count_head.new.free_heads c.free_dropped.new.free c.args.slot c.args.head c.replace-old.result c.slot-new.result.now c.replace-old.new.self c.deref.result.now c.is_free-2.result
     c.self.invariant.table may c.replace-old.ensures.old c.replace-old.ensures.new c.slot-new.ensures c.deref.ensures.value
     c.is_free-2.ensures c.count_head.ensures c.free_dropped.ensures)

@@ -1,5 +1,5 @@
 use Rattle.std.proofs.Common.{sym, subst}
-use Rattle.jn_recovery.specs.Loading.{counts_by, IsLoaded, IsCleaned}
+use Rattle.jn_recovery.specs.Loading.{counts_by, IsLoaded, IsUntouched}
 use Rattle.jn_recovery.specs.Memory.{view_of}
 use Rattle.jn_intent.proofs.intents.Intents.load.Goals as goal
 
@@ -7,6 +7,5 @@ pub returns-in-Ok-clause-loaded : goal.returns-in-Ok-clause-loaded
 returns-in-Ok-clause-loaded g c = λ server before. let counts = counts_by c.args.counts in
     subst (λ s. IsLoaded server counts (g.S.StableStore.view c.args.store) c.in-Ok.found (view_of s.1 (g.S.StableStore.view s.0))) (sym c.on_store.ensures) (c.in-Ok.ensures.loaded server before)
 
-pub returns-in-Ok-clause-cleaned : goal.returns-in-Ok-clause-cleaned
-returns-in-Ok-clause-cleaned g c =
-    subst (λ s. IsCleaned (g.S.StableStore.view c.args.store) (view_of s.1 (g.S.StableStore.view s.0)).store) (sym c.on_store.ensures) c.in-Ok.ensures.cleaned
+pub returns-in-Ok-clause-untouched : goal.returns-in-Ok-clause-untouched
+returns-in-Ok-clause-untouched g c = subst (λ s. IsUntouched s.1.table) (sym c.on_store.ensures) c.in-Ok.ensures.untouched
