@@ -14,6 +14,7 @@ enum Step {
     Get(u32),
     Compare(u32, u8),
     Put(u32, u8),
+    PutAndCompare(u32, u8),
     Arm(u32, FaultKind),
     DecayNow(u32),
     ReviveNow(u32),
@@ -68,12 +69,8 @@ fn perform(disk: &mut MemDisk, step: Step) -> Answer {
                 Err(Stopped) => Stop,
             }
         }
-        Compare(p, byte) if p < count => match disk.compare(p, &[byte; 512]) {
-            Ok(Found::Same) => Alike,
-            Ok(Found::Other) => Unlike,
-            Ok(Found::LooksBad) => Looked,
-            Err(Stopped) => Stop,
-        },
+        Compare(p, byte) if p < count => compared(disk.compare(p, &[byte; 512])),
+        PutAndCompare(p, byte) if p < count => compared(disk.put_and_compare(p, &[byte; 512])),
         Put(p, byte) if p < count => match disk.put(p, &[byte; 512]) {
             Ok(()) => Done,
             Err(Stopped) => Stop,
@@ -95,6 +92,15 @@ fn perform(disk: &mut MemDisk, step: Step) -> Answer {
             Done
         }
         _ => Unasked,
+    }
+}
+
+fn compared(answer: Result<Found, Stopped>) -> Answer {
+    match answer {
+        Ok(Found::Same) => Alike,
+        Ok(Found::Other) => Unlike,
+        Ok(Found::LooksBad) => Looked,
+        Err(Stopped) => Stop,
     }
 }
 
@@ -136,7 +142,7 @@ const FIRST: Kept = (true, 1, false, 0);
 
 const SECOND: Kept = (true, 2, false, 0);
 
-fn rows() -> [Row; 29] {
+fn rows() -> [Row; 31] {
     [
         Row {
             name: "a get and a put with no fault",
@@ -163,6 +169,32 @@ fn rows() -> [Row; 29] {
                 (Compare(0, 1), Stop),
             ],
             first: FIRST,
+            second: SECOND,
+            told: &[],
+        },
+        Row {
+            name: "a put that is compared is there where no fault waits",
+            steps: &[
+                (PutAndCompare(0, 3), Alike),
+                (Get(0), Read(3)),
+                (Down, Done),
+                (PutAndCompare(0, 4), Stop),
+            ],
+            first: (true, 3, false, 0),
+            second: SECOND,
+            told: &[],
+        },
+        Row {
+            name: "a put that is compared meets the faults of a put and of a get",
+            steps: &[
+                (Arm(1, Null), Yes),
+                (Arm(4, Soft), Yes),
+                (Arm(5, StopAfter), Yes),
+                (PutAndCompare(0, 3), Unlike),
+                (PutAndCompare(0, 3), Looked),
+                (PutAndCompare(0, 4), Stop),
+            ],
+            first: (true, 4, false, 2),
             second: SECOND,
             told: &[],
         },
