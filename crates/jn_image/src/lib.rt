@@ -18,8 +18,6 @@ mod laws;
 mod reading;
 mod repeats;
 mod soundness;
-#[cfg(test)]
-mod tests;
 mod writing;
 
 pub use fault::{BadImage, CheckError, DecodeError, Unsound};

@@ -10,8 +10,6 @@ mod loading;
 mod names;
 mod refusal;
 mod saving;
-#[cfg(test)]
-mod tests;
 
 pub use examining::{ExamineFault, examine};
 pub use loading::load_images;

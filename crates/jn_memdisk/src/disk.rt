@@ -229,6 +229,3 @@ impl PhysPower for MemDisk {
         self.faults.clear_told();
     }
 }
-
-#[cfg(test)]
-mod tests;

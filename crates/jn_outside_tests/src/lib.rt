@@ -1,19 +1,10 @@
-//! Tests of what comes in and goes out: words, fields, numbers, schedules, trials, report lines and their summary, and the sources, sinks and keepers.
+//! Tests of the sources, sinks and keepers, and of what the program doesn't ask for. All else that comes in and goes out it shows by itself:
+//! `.ci/program`, `.ci/schedules`, `rows/` and `examples/`.
 #![tactic(auto)]
 
 #[cfg(test)]
-mod fields;
-#[cfg(test)]
 mod host;
 #[cfg(test)]
-mod options;
+mod locks;
 #[cfg(test)]
-mod report;
-#[cfg(test)]
-mod schedule;
-#[cfg(test)]
-mod summary;
-#[cfg(test)]
-mod text;
-#[cfg(test)]
-mod trial;
+mod unasked;

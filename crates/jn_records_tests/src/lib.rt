@@ -1,13 +1,5 @@
-//! Tests of pages written out by hand, and of net lists against the plain files: what a list does is what its operations do.
+//! Tests of pages of records, written out by hand.
 #![tactic(auto)]
 
 #[cfg(test)]
-mod head;
-#[cfg(test)]
-mod lists;
-#[cfg(test)]
 mod pages;
-#[cfg(test)]
-mod root;
-#[cfg(test)]
-mod tests;

@@ -1,7 +1,7 @@
 //! Pages of records written out by hand.
 
 use jn_base::{BlockNo, ClientNo, FileNo, LockUnit, Page, PageWriter, ServerNo, Tid, WorkId};
-use jn_records::{Flag, Head, ListOf, Record, Root, StoredIntention, What, WorkHead};
+use jn_records::{Record, StoredIntention, What, WorkHead};
 use std::alloc::{AllocError, Global};
 use std::test::Fail;
 
@@ -39,7 +39,7 @@ const TID: Tid = Tid {
     ticket: 6,
 };
 
-pub fn page_of(begin: &[u8]) -> Page {
+fn page_of(begin: &[u8]) -> Page {
     let mut page = PageWriter::new();
     if begin.len() <= 512 {
         page.put_bytes(begin);
@@ -47,7 +47,7 @@ pub fn page_of(begin: &[u8]) -> Page {
     page.finish()
 }
 
-pub fn changed(page: &Page, at: usize, byte: u8) -> Page {
+fn changed(page: &Page, at: usize, byte: u8) -> Page {
     let mut changed = *page;
     if at < 512 {
         changed[at] = byte;
@@ -176,39 +176,6 @@ fn a_changed_ready_work_is_another_or_none(rt: HostRuntime) -> Result<(), Fail> 
     ] {
         let decoded = Record::decode(rt.alloc(), &changed(&page, at, byte))?;
         assert_eq!(rt; decoded.is_some(), same);
-    }
-    Ok(())
-}
-
-#[test]
-fn each_byte_of_a_record_tells(rt: HostRuntime) -> Result<(), Fail> {
-    for begin in [
-        INTENTION.as_slice(),
-        READY.as_slice(),
-        GOING.as_slice(),
-        FLAG.as_slice(),
-        [0].as_slice(),
-    ] {
-        let page = page_of(begin);
-        for at in 0..512 {
-            let other = changed(&page, at, page[at].wrapping_add(1));
-            assert!(rt; is_read_as_itself(rt.alloc(), &other)? != Some(false));
-        }
-    }
-    Ok(())
-}
-
-#[test]
-fn each_byte_of_a_root_and_of_a_head_tells(rt: HostRuntime) -> Result<(), Fail> {
-    let root = page_of(&[74, 85, 78, 49, 1, 0, 0, 32, 0, 16, 0, 128, 0, 0, 0, 2]);
-    let head = page_of(&[1, 0, 0, 0, 7, 0, 1, 0, 128]);
-    for at in 0..512 {
-        let other = changed(&root, at, root[at].wrapping_add(1));
-        let value = Root::decode(&other);
-        assert!(rt; value.is_none_or(|root| root.encode() == other));
-        let other = changed(&head, at, head[at].wrapping_add(1));
-        let value = Head::decode(rt.alloc(), &other, 128)?;
-        assert!(rt; value.is_none_or(|head| head.encode() == other));
     }
     Ok(())
 }
