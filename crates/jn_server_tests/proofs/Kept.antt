@@ -13,7 +13,7 @@ use Rattle.jn_system.specs.WholeSystem.World.{Memory}
 use Rattle.jn_system.specs.WholeSystem.Servers.{Room, storage_of, of_worker, of_coordinator, of_step, server_row, server_step, is_for_worker}
 use Rattle.jn_system.proofs.WholeSystem.WorkerChanges.{worker-aside, step-aside}
 use Rattle.jn_system.proofs.WholeSystem.CoordinatorRows.{coordinator-aside}
-use Rattle.jn_storage.specs.Storage.{StorageLater, Accounts}
+use Rattle.jn_storage.specs.Storage.{StorageLater}
 use Rattle.jn_storage.specs.Calls.{state}
 use Rattle.jn_store.specs.Store.{StoreView}
 use Rattle.jn_intent.specs.Scrubbing.{Scrubbed}
@@ -26,7 +26,6 @@ use Rattle.jn_restarts.proofs.Starts.{later_of, loaded_started, may_begin}
 use Rattle.jn_server.specs.declared.fault.ServerFault.{ServerFault}
 use Rattle.jn_server.specs.declared.fault.ServerFault.TheVariants.{Stopped, Memory as NoMemory}
 use Rattle.jn_server.specs.declared.show.Shown.{Shown}
-use Rattle.jn_server.specs.Befalling.{Befalls}
 use Rattle.jn_server.specs.Handling.{Does, Steps, TimesOut}
 use Rattle.jn_server.specs.Restarting.{IsRestarted, IsLeft}
 use Rattle.jn_server.specs.Seen.{ServerView, memory_of, room_of, IsServer}
@@ -116,16 +115,3 @@ module _ (n : PageCounts) (k : ℕ) (v w : ServerView) (on : IsOn n k v) where
 
   pub shown-on : {list : List Shown} → IsShown v list w → IsOn n k w
   shown-on s = record { serves = s.serves; of = kept s.looks.later; count = pages s.looks.later; drawn = tables-kept s.looks.tables }
-
-  pub befallen : Befalls v w → IsOn n k w
-  befallen b = record {
-    serves = b.serves on.serves;
-    of = record {
-      server_is = ap (λ (a : Accounts). a.server) b.storage.same ∙ on.of.server_is;
-      pool = ap (λ (a : Accounts). a.pool) b.storage.same ∙ on.of.pool;
-      heads = ap (λ (a : Accounts). a.heads) b.storage.same ∙ on.of.heads;
-      leaves = ap (λ (a : Accounts). a.leaves) b.storage.same ∙ on.of.leaves;
-    };
-    count = b.storage.pages.count ∙ on.count;
-    drawn = tables-kept b.tables;
-  }

@@ -1,5 +1,5 @@
-//! Tests of a server over a disk in memory: what it sends for each message, its stops at each device call, how many device
-//! calls it makes, and its limits.
+//! Tests of a server over a plain list of pages: what it sends for each message, row by row. Its limits, its device calls and its stops at each of them
+//! the program shows, in `.ci/schedules`.
 #![tactic(auto)]
 
 #[cfg(test)]

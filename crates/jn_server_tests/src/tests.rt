@@ -1,13 +1,10 @@
-//! A server over a disk in memory, driven message by message.
+//! A server over a plain list of pages, driven message by message.
 
 mod bench;
-mod counts;
-mod device;
-mod limits;
+mod coordinator;
 mod moves;
+mod plays;
 mod rows;
 mod script;
-mod stops;
-mod story;
 mod words;
 mod works;

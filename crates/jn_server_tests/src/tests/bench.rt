@@ -1,7 +1,6 @@
 //! A server as the tests drive it.
-ghost use Rattle.std.specs.Prelude.{◌≡◌, ◌<◌, ◌/◌, ℕ, true, IfOk, IfErr};
+ghost use Rattle.std.specs.Prelude.{IfOk, IfErr};
 ghost use Rattle.jn_coord.specs.Handling.{FewWorks};
-ghost use Rattle.jn_device.specs.Events.{is_within};
 ghost use Rattle.jn_restarts.specs.Restarts.{MayBegin, IsOf};
 ghost use Rattle.jn_server.specs.Seen.{view_with};
 ghost use Rattle.jn_server_tests.specs.Trial.{IsOn, Leaves};
@@ -10,14 +9,12 @@ ghost use Rattle.jn_worker.specs.Handling.{InRange};
 use super::moves::{Move, SERVER, message_of};
 use super::script::scene_of;
 use super::words::Words;
-use jn_base::{FaultKind, Stopped, Tid};
+use jn_base::{Stopped, Tid};
 use jn_intent::{DownCause, PageCounts};
-use jn_memdisk::MemDisk;
 use jn_msgs::{Message, Out};
-use jn_restarts::{new_pairs, power_on};
+use jn_restarts::new_array;
 use jn_server::{Server, ServerFault, restart};
-use jn_stable::Pairs;
-use jn_store::{Powered, StableStore};
+use jn_store::{ArrayStore, StableStore};
 use std::alloc::Global;
 use std::process::Abort;
 use std::test::Fail;
@@ -40,11 +37,11 @@ pub(crate) struct Bench<S: StableStore> {
 }
 
 /// A new store in memory.
-pub(crate) fn new_store(alloc: Global, counts: PageCounts) -> Result<Left<Pairs<MemDisk>>, Fail>
-    ensures { IfOk result (λ left. MayBegin SERVER left.counts (⟦<Pairs<MemDisk> as StableStore>⟧.view left.store)) }
+pub(crate) fn new_store(alloc: Global, counts: PageCounts) -> Result<Left<ArrayStore>, Fail>
+    ensures { IfOk result (λ left. MayBegin SERVER left.counts (⟦<ArrayStore as StableStore>⟧.view left.store)) }
 {
     Ok(Left {
-        store: new_pairs(alloc, SERVER, counts, 0)?,
+        store: new_array(alloc, SERVER, counts, 0)?,
         counts,
     })
 }
@@ -109,35 +106,19 @@ pub(crate) fn start_and_follow<S: StableStore + Drop>(
     Ok(())
 }
 
-/// A server that comes up and does the moves of these lines, then those of others.
-pub(crate) fn played<S: StableStore + Drop>(
-    rt: &impl Abort,
-    alloc: Global,
-    left: Left<S>,
-    first: &[&str],
-    then: &[&str],
-) -> Result<Bench<S>, Fail>
-    requires { MayBegin SERVER left.counts (S.view left.store) }
-    ensures { IfOk result (λ b. IsOn b.counts b.names (view_with (λ s. S.view s) b.server)) }
-{
-    let mut bench = begun(rt, alloc, left)?;
-    bench.plays(rt, first)?;
-    bench.plays(rt, then)?;
-    Ok(bench)
-}
-
-/// The store of that server once it goes down.
+/// The store of a server that comes up, does a script and goes down.
 pub(crate) fn left_by<S: StableStore + Drop>(
     rt: &impl Abort,
     alloc: Global,
     left: Left<S>,
-    first: &[&str],
-    then: &[&str],
+    script: &str,
 ) -> Result<Left<S>, Fail>
     requires { MayBegin SERVER left.counts (S.view left.store) }
     ensures { IfOk result (λ left. MayBegin SERVER left.counts (S.view left.store)) }
 {
-    Ok(taken_down(played(rt, alloc, left, first, then)?))
+    let mut bench = begun(rt, alloc, left)?;
+    bench.follows(rt, script)?;
+    Ok(taken_down(bench))
 }
 
 /// The store of a server that goes down, whatever was stopped.
@@ -150,16 +131,6 @@ pub(crate) fn taken_down<S: StableStore>(bench: Bench<S>) -> Left<S>
         store: bench.server.crash(),
         counts,
     }
-}
-
-/// The power comes, and no fault waits.
-pub(crate) fn powered<S: Powered>(left: Left<S>) -> Left<S>
-    requires { MayBegin SERVER left.counts (S.view left.store) }
-    ensures { MayBegin SERVER result.counts (S.view result.store) }
-{
-    let mut left = left;
-    power_on(&mut left.store);
-    left
 }
 
 impl<S: StableStore> Bench<S> {
@@ -333,29 +304,5 @@ impl<S: StableStore> Bench<S> {
         self.follows(rt, first)?;
         self.follows(rt, then)?;
         self.follows(rt, last)
-    }
-
-    /// Steps until nothing is to be done; ten times at most.
-    pub(crate) fn idles(&mut self) -> Result<(), ServerFault>
-        requires on { IsOn self.old.counts self.old.names (view_with (λ s. S.view s) self.old.server) }
-        ensures leaves { Leaves self.new.counts self.new.names result (view_with (λ s. S.view s) self.new.server) }
-    {
-        for _ in 0..10 {
-            self.advance(Move::Step)?;
-        }
-        Ok(())
-    }
-}
-
-impl<S: Powered> Bench<S> {
-    /// A fault strikes at the n-th device call from now. False where no more may wait.
-    pub(crate) fn arm(&mut self, n: u32, kind: FaultKind) -> bool
-        requires on { IsOn self.old.counts self.old.names (view_with (λ s. S.view s) self.old.server) }
-        requires from_one { 0 < n }
-        requires within { (count : ℕ) → is_within count kind ≡ true }
-        ensures { IsOn self.new.counts self.new.names (view_with (λ s. S.view s) self.new.server) }
-    {
-        self.server.clear_outside();
-        self.server.arm(n, kind)
     }
 }

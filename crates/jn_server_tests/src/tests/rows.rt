@@ -1,39 +1,8 @@
 //! What a server says of scripts: each message of a worker's and of a coordinator's table, and what is prepared, waits or is short
 //! of room.
 
-use super::bench::{new_store, start_and_follow};
-use jn_intent::PageCounts;
-use std::alloc::Global;
-use std::process::Abort;
+use super::plays::{Play, check, play_of};
 use std::test::Fail;
-
-/// A server of so many pages, which is new and does three scripts, one after the other.
-#[derive(Clone, Copy)]
-struct Play {
-    counts: PageCounts,
-    first: &'static str,
-    then: &'static str,
-    last: &'static str,
-}
-
-fn play_of(
-    (pool, heads, leaves): (u16, u16, u16),
-    first: &'static str,
-    then: &'static str,
-    last: &'static str,
-) -> Option<Play> {
-    let counts = PageCounts {
-        pool,
-        heads,
-        leaves,
-    };
-    Some(Play {
-        counts,
-        first,
-        then,
-        last,
-    })
-}
 
 /// A new server has nothing to do.
 const IDLE: &str = "\
@@ -278,14 +247,9 @@ fn nth_play(n: u32) -> Option<Play> {
     }
 }
 
-fn check(rt: &impl Abort, alloc: Global, play: Play) -> Result<(), Fail> {
-    let left = new_store(alloc, play.counts)?;
-    start_and_follow(rt, alloc, left, play.first, play.then, play.last)
-}
-
 #[test]
 fn a_server_says_what_each_script_has(rt: HostRuntime) -> Result<(), Fail> {
-    for n in 0..20 {
+    for n in 0..30 {
         let Some(play) = nth_play(n) else {
             return Ok(());
         };

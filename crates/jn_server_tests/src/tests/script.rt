@@ -101,6 +101,7 @@ impl<'a> Reader<'a> {
             "ready" => Some(Vote::Ready),
             "waiting" => Some(Vote::Waiting(self.file()?, self.tid()?)),
             "broken" => Some(Vote::Broken(self.file()?, self.tid()?)),
+            "lost" => Some(Vote::Lost(self.number()?, self.number()?)),
             "full" => Some(Vote::Full(self.small()?, self.number()?, self.number()?)),
             _ => None,
         }
@@ -146,30 +147,18 @@ impl<'a> Reader<'a> {
     }
 }
 
-/// What a line has: the move, what the server says of it, and what stands behind that.
+/// What a line has: the move, and what the server says of it.
 #[derive(Clone, Copy)]
 pub(crate) struct Scene<'a> {
     pub(crate) step: Move,
     pub(crate) words: &'a str,
-    pub(crate) more: &'a str,
-}
-
-/// The two parts of a line, without the spaces about the bar.
-pub(crate) fn parts_of(line: &str) -> (&str, &str) {
-    match line.split_once('|') {
-        Some((first, rest)) => (first.trim(), rest.trim()),
-        None => (line.trim(), ""),
-    }
 }
 
 pub(crate) fn scene_of(line: &str) -> Option<Scene<'_>> {
-    let (first, rest) = parts_of(line);
-    let step = Reader { rest: first }.step()?;
-    let (words, more) = parts_of(rest);
-    Some(Scene { step, words, more })
-}
-
-/// The n-th number in a text.
-pub(crate) fn nth_number(text: &str, n: usize) -> Option<u32> {
-    number_in(text.split_whitespace().nth(n)?)
+    let (first, words) = line.split_once('|')?;
+    let step = Reader { rest: first.trim() }.step()?;
+    Some(Scene {
+        step,
+        words: words.trim(),
+    })
 }

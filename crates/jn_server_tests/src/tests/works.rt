@@ -1,18 +1,11 @@
 //! A worker's works: what comes of each message in each state of a work, and what a restart keeps. The transactions are those of
 //! server 1, and the client is number 3.
 
-use super::bench::{left_by, new_store, start_and_follow};
-use jn_intent::PageCounts;
-use std::alloc::Global;
-use std::process::Abort;
+use super::plays::{Play, check_each, check_restart, play_of};
 use std::test::Fail;
 
 /// So many records, heads and data pages are enough for all that follows.
-const COUNTS: PageCounts = PageCounts {
-    pool: 9,
-    heads: 3,
-    leaves: 4,
-};
+const ROOM: (u16, u16, u16) = (9, 3, 4);
 
 /// The work 0.1.0 has made file 7.
 const ACTIVE: &str = "\
@@ -73,52 +66,26 @@ drop 1.5.1 0.1.0 | !ignored
 open 3 1.5.1 | > c3 opened c3 9 1.5.1 0.1.0
 again |";
 
-/// A state of the work, and moves.
-#[derive(Clone, Copy)]
-struct Moves {
-    state: &'static str,
-    moves: &'static str,
-}
-
-fn nth_state(n: u32) -> Option<Moves> {
-    let (state, moves) = match n {
-        0 => ("", IF_ACTIVE),
-        1 => (BROKEN, IF_BROKEN),
-        2 => (READY, IF_READY),
-        3 => (GOING, IF_GOING),
-        _ => return None,
-    };
-    Some(Moves { state, moves })
-}
-
-fn check_one(rt: &impl Abort, alloc: Global, state: &str, one: &str) -> Result<(), Fail> {
-    start_and_follow(rt, alloc, new_store(alloc, COUNTS)?, ACTIVE, state, one)
-}
-
-/// What comes of each of these moves where the work has come into this state.
-fn check_each(rt: &impl Abort, alloc: Global, each: Moves) -> Result<(), Fail> {
-    for one in each.moves.lines() {
-        check_one(rt, alloc, each.state, one)?;
+/// The messages of each state of the work.
+fn nth_state(n: u32) -> Option<Play> {
+    match n {
+        0 => play_of(ROOM, ACTIVE, "", IF_ACTIVE),
+        1 => play_of(ROOM, ACTIVE, BROKEN, IF_BROKEN),
+        2 => play_of(ROOM, ACTIVE, READY, IF_READY),
+        3 => play_of(ROOM, ACTIVE, GOING, IF_GOING),
+        _ => None,
     }
-    Ok(())
 }
 
 #[test]
 fn each_message_is_done_as_its_work_stands(rt: HostRuntime) -> Result<(), Fail> {
-    for n in 0..9 {
-        let Some(each) = nth_state(n) else {
+    for n in 0..30 {
+        let Some(play) = nth_state(n) else {
             return Ok(());
         };
-        check_each(&rt, rt.alloc(), each)?;
+        check_each(&rt, rt.alloc(), play)?;
     }
     Err("no end".into())
-}
-
-/// A new server does a script and goes down; then it comes up and does another.
-fn check_restart(rt: &impl Abort, alloc: Global, before: &str, after: &str) -> Result<(), Fail> {
-    let lines: Vec<&str> = before.lines().collect(alloc)?;
-    let left = left_by(rt, alloc, new_store(alloc, COUNTS)?, &lines, &[])?;
-    start_and_follow(rt, alloc, left, after, "", "")
 }
 
 /// The work that is opened last is prepared first, and the storage lists it first.
@@ -170,12 +137,22 @@ prepare 1.5.1 3 0.1.0 | > s1 vote 1.5.1 0.1.0 lost 1 2
 open 3 1.5.2 | > c3 opened c3 9 1.5.2 0.2.0
 do 3 0.2.0 1 create 7 | > c3 answer c3 9 did";
 
-#[test]
-fn a_restart_keeps_what_was_prepared(rt: HostRuntime) -> Result<(), Fail> {
-    check_restart(&rt, rt.alloc(), PREPARED, RESTORED)
+/// What is done before a restart, and behind it.
+fn nth_restart(n: u32) -> Option<Play> {
+    match n {
+        0 => play_of(ROOM, PREPARED, RESTORED, ""),
+        1 => play_of(ROOM, NOT_PREPARED, LOST, ""),
+        _ => None,
+    }
 }
 
 #[test]
-fn a_restart_forgets_what_was_not_prepared(rt: HostRuntime) -> Result<(), Fail> {
-    check_restart(&rt, rt.alloc(), NOT_PREPARED, LOST)
+fn a_restart_keeps_what_was_prepared_and_nothing_else(rt: HostRuntime) -> Result<(), Fail> {
+    for n in 0..30 {
+        let Some(play) = nth_restart(n) else {
+            return Ok(());
+        };
+        check_restart(&rt, rt.alloc(), play)?;
+    }
+    Err("no end".into())
 }

@@ -1,5 +1,0 @@
-use Rattle.jn_server_tests.proofs.Kept.{told}
-use Rattle.jn_bench_servers.proofs.Driver.tell.Goals as goal
-
-pub returns : goal.returns
-returns g c = record { leaves = told _ _ _ _ c.requires.on _ _ _ _ c.handle.ensures.does }

@@ -1,2 +1,0 @@
-pub mod Restarted
-pub mod Hearing
