@@ -1,25 +1,18 @@
 -- Data pages: one is filled, held, or let go.
-use Rattle.std.proofs.Common.{◌≡◌, ◌≢◌, inl, inr, ⊎_elim, ◌<◌, ◌↔◌, ◌-◌, ℕ, suc, Bool, true, false, List, length, drop, replicate, Some, None, Result, Ok, refl, sym, ap, subst, ◌∙◌, arith}
+use Rattle.std.proofs.Common.{◌≡◌, ◌≢◌, inl, inr, ◌<◌, ◌↔◌, ◌-◌, ℕ, suc, Bool, true, false, List, length, drop, replicate, refl, sym, ap, subst, ◌∙◌, arith}
 use Rattle.std.proofs.lemmas.Bool.{cases_eq, false_from_ne_true}
 use Rattle.std.proofs.lemmas.List.{drop_at, get_or-set_same, get_or-set_other, length-set}
-use Rattle.std.specs.Prelude.{slice_set, slice_index_or, take}
+use Rattle.std.specs.Prelude.{slice_set, slice_index_or}
 use Rattle.jn_alloc.specs.Free.{FreeNumbers, count_of, is_free as is_free_number, with_free}
-use Rattle.jn_base.specs.declared.device.Stopped.{Stopped}
-use Rattle.jn_base.specs.declared.names.FileNo.{FileNo}
-use Rattle.jn_base.specs.declared.names.BlockNo.{BlockNo}
-use Rattle.jn_base.specs.declared.names.LockUnit.TheVariants.{Block}
-use Rattle.jn_order.specs.Files.{Files}
 use Rattle.jn_records.specs.declared.head.Head.{Head}
 use Rattle.jn_records.specs.Heads.{head_page}
 use Rattle.jn_records.specs.StablePages.{Pages, head_place, data_place, files_of_pages}
-use Rattle.jn_store.specs.Store.{StoreView, Candidate, StoreGot, StorePut}
+use Rattle.jn_store.specs.Store.{StoreView, StorePut}
 use Rattle.jn_store.specs.Choices.{IsChoice}
-use Rattle.jn_store.proofs.Laws.{later_refl, same_refl}
-use Rattle.jn_files.specs.Table.{TableView, head_in, address_of, address_for, behind, IsUnnamed, IsFreeLeaf, IsTable, AreHeads}
+use Rattle.jn_files.specs.Table.{TableView, head_in, address_of, IsUnnamed, IsFreeLeaf, IsTable, AreHeads}
 use Rattle.jn_files.specs.Pages.{leaves_in, leaf_page, IsLeaf, Holds, files_in}
 use Rattle.jn_files.specs.Calls.{Fits, Fills, with_touched}
 use Rattle.jn_files.specs.Inside.{view_of, IsNamed}
-use Rattle.jn_files.proofs.Lookup.{named_by}
 use Rattle.jn_files.proofs.Putting.{files_said, same_leaves, says_choice, leaf_choice, files_first, named_below, same_leaf, same_only}
 use Rattle.jn_files.proofs.Setting.{set_below}
 

@@ -1,5 +1,5 @@
 -- Data pages are touched: cleaned before their first get, or put.
-use Rattle.std.proofs.Common.{◌≡◌, ◌≢◌, ⊎_elim, ◌<◌, ◌≤◌, ◌+◌, ◌-◌, ℕ, suc, Bool, true, false, List, length, Option, Some, None, Result, Ok, Err, refl, sym, ap, subst, ◌∙◌, true≢false, arith}
+use Rattle.std.proofs.Common.{◌≡◌, ◌≢◌, ⊎_elim, ◌<◌, ◌≤◌, ◌+◌, ◌-◌, ℕ, suc, Bool, true, false, List, length, Option, Some, Result, Ok, refl, sym, ap, subst, ◌∙◌, true≢false, arith}
 use Rattle.std.proofs.lemmas.Bool.{cases_eq}
 use Rattle.std.proofs.lemmas.List.{get_or-set_same, get_or-set_other}
 use Rattle.std.specs.Prelude.{slice_set, slice_index_or, take, is_ok}
@@ -9,11 +9,11 @@ use Rattle.jn_base.specs.declared.names.BlockNo.{BlockNo}
 use Rattle.jn_base.specs.declared.names.LockUnit.TheVariants.{Block}
 use Rattle.jn_order.specs.Files.{Files}
 use Rattle.jn_records.specs.StablePages.{Counts, data_place}
-use Rattle.jn_store.specs.Store.{StoreView, StoreLater, StoreGot, StoreCleaned, Candidate, IsSamePage, IsServed, IsStop, IsCalm, IsWhole, IsOnly}
+use Rattle.jn_store.specs.Store.{StoreView, StoreLater, StoreGot, StoreCleaned, Candidate, IsSamePage, IsStop, IsCalm, IsWhole, IsOnly}
 use Rattle.jn_store.proofs.Laws.{later_refl, later_trans, same_refl, same_trans, shrinks_only, stop_since}
 use Rattle.jn_files.specs.Table.{TableView, address_of, address_for, behind, head_in, is_touched, IsTable}
 use Rattle.jn_files.specs.Pages.{leaves_in, IsLeaf, Holds, files_in}
-use Rattle.jn_files.specs.Calls.{Fits, FirstTouch, Touches, BlockGot}
+use Rattle.jn_files.specs.Calls.{Fits, Touches, BlockGot}
 use Rattle.jn_files.proofs.Lookup.{named_by}
 use Rattle.jn_files.proofs.Putting.{files_first, named_below}
 

@@ -14,7 +14,7 @@ pub invariant_of-self : goal.invariant_of-self
 invariant_of-self g c =
     let serving = subst (λ s. IsServing (view_of s.1 (g.S.StableStore.view s.0))) (sym c.self.view_is) c.requires.serving in
     let safe = read_safe (memory_of c.self.inside) (g.S.StableStore.view c.self.inside.store) c.self.invariant.kept serving c.args.f c.args.p c.read_block-answer.result c.read_block-answer.new.self (g.S.StableStore.view c.read_block-answer.new.store)
-        c.is_table.ensures c.read_block-answer.ensures.got c.read_block-answer.ensures.unasked in
+    c.is_table.ensures c.read_block-answer.ensures.got c.read_block-answer.ensures.unasked in
     record {
       kept = safe.0;
       recoverable = safe.1;

@@ -1,5 +1,5 @@
-use Rattle.std.proofs.Common.{◌≡◌, ◌≤◌, ◌+◌, ◌*◌, true, false, sym, subst, ◌∙◌, arith, rules}
-use Rattle.std.specs.Prelude.{is_ok, OnOk}
+use Rattle.std.proofs.Common.{◌≡◌, true, false, sym, subst, ◌∙◌, arith, rules}
+use Rattle.std.specs.Prelude.{is_ok}
 use Rattle.jn_files.specs.Calls.{TouchesAll}
 use Rattle.jn_found.proofs.Picking.{fewer_recoverable}
 use Rattle.jn_storage.specs.Storage.{IsServing}
