@@ -13,7 +13,7 @@ use Rattle.jn_place.specs.declared.place.Place.{Place}
 use Rattle.jn_place.specs.declared.place.Slot.{Slot}
 use Rattle.jn_place.specs.declared.place.Slot.TheVariants.{Up, Down, Gone}
 use Rattle.jn_place.specs.Calls.{LeavesStore}
-use Rattle.jn_place.specs.Places.{HoldsUp, Stands, NoneTold, IsPlace, IsDownAt}
+use Rattle.jn_place.specs.Places.{HoldsUp, Stands, NoneTold, IsPlace, IsDownAt, CountsAt}
 use Rattle.jn_place.proofs.Steps.{down-stands}
 
 -- what a device has told is what its store has
@@ -34,6 +34,7 @@ pub befallen-down : {S : Type 0} (look : S → StoreView) (server : ServerNo) (m
 befallen-down look server most p s t is pages told h = record {
   stands = same_recoverable (look s) (look t) pages server (counts_by p.counts) (stands-at look server (counts_by p.counts) most p.slot s is h.stands);
   told = told ∙ told-at look p.slot s is h.told;
+  counted = tt;
 }
 
 -- what was told is forgotten
@@ -42,6 +43,7 @@ pub cleared-down : {S : Type 0} (look : S → StoreView) (server : ServerNo) (mo
 cleared-down look server most p s t is pages told h = record {
   stands = same_recoverable (look s) (look t) pages server (counts_by p.counts) (stands-at look server (counts_by p.counts) most p.slot s is h);
   told = told;
+  counted = tt;
 }
 
 -- ---- going down
@@ -58,6 +60,11 @@ up-held look server g most (Up p) b e h = h
 up-held look server g most (Down s) b e h = absurd e
 up-held look server g most Gone b e h = absurd e
 
+down-counts : {S : Type 0} (look : S → StoreView) (server : ServerNo) (g : Counts) (a : Slot S) → IsDownAt look server g a → CountsAt look a
+down-counts look server g (Up p) h = absurd h
+down-counts look server g (Down s) h = tt
+down-counts look server g Gone h = tt
+
 -- a crash: from a place to what is left there, and then without power
 pub crashed : {S : Type 0} (look : S → StoreView) (server : ServerNo) (most : ℕ) (p q r : Place S) → IsPlace look server most p → LeavesStore p.slot q.slot
     → (HoldsUp look server (counts_by p.counts) most true p.slot → IsDownAt look server (counts_by p.counts) q.slot) → q.counts ≡ p.counts
@@ -66,7 +73,9 @@ pub crashed : {S : Type 0} (look : S → StoreView) (server : ServerNo) (most : 
 crashed look server most p q r h left down q-counts off told r-counts =
     let at-q : IsDownAt look server (counts_by q.counts) q.slot =
     subst (λ (k : PageCounts). IsDownAt look server (counts_by k) q.slot) (sym q-counts) (down (up-held look server (counts_by p.counts) most p.slot q.slot left h.stands)) in
+    let at-r : IsDownAt look server (counts_by r.counts) r.slot = subst (λ (k : PageCounts). IsDownAt look server (counts_by k) r.slot) (sym r-counts) (off at-q) in
     record {
-      stands = down-stands look server (counts_by r.counts) most r.slot (subst (λ (k : PageCounts). IsDownAt look server (counts_by k) r.slot) (sym r-counts) (off at-q));
+      stands = down-stands look server (counts_by r.counts) most r.slot at-r;
       told = told (left-told look p.slot q.slot left h.told);
+      counted = down-counts look server (counts_by r.counts) r.slot at-r;
     }

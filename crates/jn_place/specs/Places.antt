@@ -1,10 +1,11 @@
 -- When a server stands at its place, up or down, so that each of its calls may come.
-use Rattle.std.specs.Prelude.{◌≡◌, ◌≤◌, ℕ, Bool, true, false, []}
+use Rattle.std.specs.Prelude.{◌≡◌, ◌≤◌, ℕ, Bool, true, false, ⊤, []}
 use Rattle.jn_base.specs.declared.names.ServerNo.{ServerNo}
 use Rattle.jn_found.specs.Recoverable.{IsRecoverable}
 use Rattle.jn_intent.specs.Scrubbing.{counts_in}
 use Rattle.jn_records.specs.StablePages.{Counts, page_count}
 use Rattle.jn_recovery.specs.Loading.{counts_by}
+use Rattle.jn_server.specs.Reading.{CountsPages}
 use Rattle.jn_server.specs.Seen.{ServerView, view_with, IsServer}
 use Rattle.jn_store.specs.Store.{StoreView}
 use Rattle.jn_place.specs.declared.place.Place.{Place}
@@ -61,7 +62,14 @@ is_up (Up p) = true
 is_up (Down s) = false
 is_up Gone = false
 
+-- a server that is up counts as many records and heads as there are on its pages
+abbrev pub CountsAt : {S : Type 0} → (S → StoreView) → Slot S → Type 0
+CountsAt look (Up p) = CountsPages (view_with look p)
+CountsAt look (Down s) = ⊤
+CountsAt look Gone = ⊤
+
 -- a server's place between two steps
 pub record IsPlace {S : Type 0} (look : S → StoreView) (server : ServerNo) (most : ℕ) (p : Place S) : Type 0 where
   pub stands : Stands look server (counts_by p.counts) most p.slot
   pub told : NoneTold look p.slot
+  pub counted : CountsAt look p.slot

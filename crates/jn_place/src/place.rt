@@ -211,7 +211,9 @@ impl<S: Powered + Drop> Place<S> {
         let Slot::Up(server) = &mut self.slot else {
             unreachable!()
         };
-        server.timeout(tid)
+        let live = server.timeout(tid);
+        server.counts_pages();
+        live
     }
 
     // Calls of a server that is up, which they leave where it is.
@@ -346,6 +348,7 @@ impl<S: Powered + Drop> Place<S> {
             Slot::Up(up) => {
                 tell_faults(told, when, server, up.outside())?;
                 up.clear_outside();
+                up.counts_pages();
             }
             Slot::Down(store) => {
                 tell_faults(told, when, server, store.outside())?;
@@ -481,7 +484,11 @@ impl<S: Powered + Drop> Place<S> {
         ensures counts { self.new.counts ≡ self.old.counts }
     {
         match &mut self.slot {
-            Slot::Up(server) => server.decay(p),
+            Slot::Up(server) => {
+                let allowed = server.decay(p);
+                server.counts_pages();
+                allowed
+            }
             Slot::Down(store) => store.decay(p),
             Slot::Gone => unreachable!(),
         }
@@ -497,7 +504,10 @@ impl<S: Powered + Drop> Place<S> {
         ensures counts { self.new.counts ≡ self.old.counts }
     {
         match &mut self.slot {
-            Slot::Up(server) => server.revive(p),
+            Slot::Up(server) => {
+                server.revive(p);
+                server.counts_pages();
+            }
             Slot::Down(store) => store.revive(p),
             Slot::Gone => unreachable!(),
         }
@@ -515,7 +525,11 @@ impl<S: Powered + Drop> Place<S> {
         ensures counts { self.new.counts ≡ self.old.counts }
     {
         match &mut self.slot {
-            Slot::Up(server) => server.arm(n, kind),
+            Slot::Up(server) => {
+                let armed = server.arm(n, kind);
+                server.counts_pages();
+                armed
+            }
             Slot::Down(store) => store.arm(n, kind),
             Slot::Gone => unreachable!(),
         }
@@ -530,7 +544,10 @@ impl<S: Powered + Drop> Place<S> {
         ensures counts { self.new.counts ≡ self.old.counts }
     {
         match &mut self.slot {
-            Slot::Up(server) => server.disarm(),
+            Slot::Up(server) => {
+                server.disarm();
+                server.counts_pages();
+            }
             Slot::Down(store) => store.disarm(),
             Slot::Gone => unreachable!(),
         }

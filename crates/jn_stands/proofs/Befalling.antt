@@ -1,5 +1,5 @@
 -- What befalls a server's device by an event: a page goes bad or good, or a fault is to wait.
-use Rattle.std.proofs.Common.{◌≡◌, ℕ, Bool, true, false, List, [], ◌++◌, append-nil, drop, slice_get, slice_set, Some, refl, sym, ap, subst}
+use Rattle.std.proofs.Common.{◌≡◌, ℕ, Bool, true, false, List, [], ◌++◌, append-nil, drop, slice_get, slice_set, Some, refl, sym, ap, subst, length}
 use Rattle.jn_base.specs.declared.names.ServerNo.{ServerNo}
 use Rattle.jn_base.specs.declared.device.FaultKind.{FaultKind}
 use Rattle.jn_base.specs.declared.device.FaultKind.TheVariants as faults
@@ -7,7 +7,7 @@ use Rattle.jn_device.specs.Device.{DeviceState}
 use Rattle.jn_device.specs.Events.{Decays as PageDecays, Revives as PageRevives, Arms as FaultArmed}
 use Rattle.jn_place.specs.declared.place.Place.{Place}
 use Rattle.jn_place.specs.declared.place.Slot.{Slot}
-use Rattle.jn_place.specs.Exact.{Befell}
+use Rattle.jn_place.specs.Exact.{Befell, WhereUp, KeepsRubbish}
 use Rattle.jn_system.specs.WholeSystem.World.{commits_in}
 use Rattle.jn_recovery.specs.Loading.{counts_by}
 use Rattle.jn_report.specs.declared.line.EventRefusal.TheVariants.{TooManyArmed}
@@ -31,15 +31,26 @@ use Rattle.jn_stands.specs.Going.{ActsNext, IsStepTo}
 use Rattle.jn_stands.proofs.Made.{quiet_chance}
 use Rattle.jn_stands.proofs.Dismissing.{StandsStill, still-there}
 use Rattle.jn_stands.proofs.Moving.{does-next, devices-now, device-here, device-there, moved-step}
+use Rattle.jn_stands.proofs.Left.{Leaves}
+use Rattle.jn_base.specs.declared.names.WorkId.{WorkId}
+use Rattle.jn_place.specs.declared.place.Slot.TheVariants.{Up, Down}
 
 module _ {S : Type 0} (look : S → StoreView) (device : S → DeviceState) (seen : (s : S) → look s ≡ pairs_view (device s)) (x : Setup) (w : Standing S) (m : Moment) (stand : Stands look device x w m)
-    (q : ServerNo) (place : Place S) (at : slice_get w.places q.0 ≡ Some place) (slot : Slot S) (counts : HasCounts (counts_by place.counts) slot) (lines : List Line) (more : List Task) where
+    (q : ServerNo) (place : Place S) (at : slice_get w.places q.0 ≡ Some place) (slot : Slot S) (counts : HasCounts look (counts_by place.counts) slot)
+    (kept : WhereUp look KeepsRubbish place.slot slot) (lines : List Line) (more : List Task) where
   abbrev allowing : Bool → Chance
   allowing answer = record (quiet_chance x m.devices) { allows = answer }
 
   -- the place with what stands there now
   abbrev now : Standing S
   now = record w { places = slice_set w.places q.0 (record place { slot = slot }) }
+
+  -- as many records are rubbish as before
+  befell-leaves : (before after : Slot S) (becomes : DeviceState → DeviceState → Type 0) → Befell look device (counts_by place.counts) becomes before after → WhereUp look KeepsRubbish before after
+      → Leaves look m.state.course.world q [] after before
+  befell-leaves (Up p) (Up p') becomes b h = ap (λ (names : List WorkId). length names) h
+  befell-leaves (Down s) (Down t) becomes b h = tt
+  befell-leaves before after becomes b h = absurd b
 
   befallen-step : (event : Event) (answer : Bool) (becomes : DeviceState → DeviceState → Type 0) (using : Use) (texts : List Text) → ActsNext x m event more
       → acted x (allowing answer) event m.state.course.world ≡ uses q using texts → outside_texts using [] ≡ [] → commits_in texts ≡ []
@@ -64,6 +75,7 @@ module _ {S : Type 0} (look : S → StoreView) (device : S → DeviceState) (see
             its = subst (λ (e : DeviceState). becomes (m.devices q) e) (sym (device-here look device x w m stand seen q place at still.now)) still.becomes_it;
             others = λ s o. device-there look device x w m stand seen q place at still.now s o;
           }))
+          (λ r o n. refl) (befell-leaves place.slot slot becomes befell kept)
           lines (lines ++ lines_at (when_of m.state) texts) (ap (λ (ts : List Text). lines ++ lines_at (when_of m.state) (ts ++ texts)) (sym (ap (λ (ts : List Text). ts ++ []) silent)))
 
   -- a page goes bad, where that is allowed

@@ -1,5 +1,5 @@
 -- Each outcome at a server counts as thanked, once the clients are dismissed.
-use Rattle.std.proofs.Common.{◌≡◌, ◌<◌, ℕ, zero, suc, Bool, true, false, List, [], ◌∷◌, ◌++◌, append-nil, drop, slice_get, slice_set, Option, Some, None, refl, sym, ◌∙◌, ap, subst, arith, true≢false}
+use Rattle.std.proofs.Common.{◌≡◌, ◌<◌, ℕ, zero, suc, Bool, true, false, List, [], ◌∷◌, ◌++◌, append-nil, drop, slice_get, slice_set, Option, Some, None, refl, sym, ◌∙◌, ap, subst, arith, true≢false, length}
 use Rattle.std.specs.Prelude.{if◌then◌else◌, nat_lt}
 use Rattle.std.proofs.Math.Path.{fun_ext}
 use Rattle.std.proofs.lemmas.Bool.Decides.{nat_tests}
@@ -10,7 +10,7 @@ use Rattle.jn_device.specs.Device.{DeviceState}
 use Rattle.jn_place.specs.declared.place.Place.{Place}
 use Rattle.jn_place.specs.declared.place.Slot.{Slot}
 use Rattle.jn_place.specs.declared.place.Slot.TheVariants.{Up, Down, Gone}
-use Rattle.jn_place.specs.Exact.{IsDoneAt, Closed, texts_of_step}
+use Rattle.jn_place.specs.Exact.{IsDoneAt, Closed, texts_of_step, WhereUp, KeepsRubbish}
 use Rattle.jn_place.specs.Places.{is_up}
 use Rattle.jn_system.specs.WholeSystem.World.{World, Memory}
 use Rattle.jn_system.specs.WholeSystem.Servers.{of_coordinator}
@@ -38,6 +38,8 @@ use Rattle.jn_stands.specs.Going.{IsStepTo}
 use Rattle.jn_stands.proofs.Dismissing.{there-is}
 use Rattle.jn_stands.proofs.Moving.{same-server, carries-on, net-quiet, device-here, device-there, moved-step}
 use Rattle.jn_stands.proofs.Idle.{here, idling, calling}
+use Rattle.jn_stands.proofs.Left.{leaves-from}
+use Rattle.jn_base.specs.declared.names.WorkId.{WorkId}
 
 module _ {S : Type 0} (look : S → StoreView) (device : S → DeviceState) (seen : (s : S) → look s ≡ pairs_view (device s)) (x : Setup) (w : Standing S) (m : Moment) (stand : Stands look device x w m) where
   -- every client of the machine is idle where the code's eight are
@@ -69,9 +71,10 @@ module _ {S : Type 0} (look : S → StoreView) (device : S → DeviceState) (see
     world = m.state.course.world
 
     closed-done : (p : Parts S) → place.slot ≡ Up p → (told : List Outside) (p' : Parts S)
-        → IsDoneAt look device told (of_coordinator (memory_of (view_with look p)) (close_clients_row (memory_of (view_with look p)).coordinator (memory_of (view_with look p)).tickets)) p p' → HasCounts (counts_by place.counts) (Up p')
+        → IsDoneAt look device told (of_coordinator (memory_of (view_with look p)) (close_clients_row (memory_of (view_with look p)).coordinator (memory_of (view_with look p)).tickets)) p p' → HasCounts look (counts_by place.counts) (Up p')
+        → KeepsRubbish (view_with look p) (view_with look p')
         → IsStepTo look device x m (drop 1 m.state.tasks) (record w { places = slice_set w.places q.0 (record place { slot = Up p' }) }) lines (lines ++ lines_at (when_of m.state) (texts_of_step q told true))
-    closed-done p is told p' e counts = moved-step look device x w m stand seen q place at h (λ r. refl) (served q (CloseClients q ∷ []))
+    closed-done p is told p' e counts kept = moved-step look device x w m stand seen q place at h (λ r. refl) (served q (CloseClients q ∷ []))
         (record { task = ClosesClients q; next = next; deed_is = refl; begun_is = refl }) refl
         (Up p') (device p'.storage.0) [] w.named w.commits
         (record {
@@ -94,6 +97,7 @@ module _ {S : Type 0} (look : S → StoreView) (device : S → DeviceState) (see
           its = record { memory = memory_of (view_with look p); up = memory-is; free = refl; called = calling look device seen x w m stand q place at p is told None [] true (device p'.storage.0) refl e.spent };
           others = λ r o. device-there look device x w m stand seen q place at (device p'.storage.0) r o;
         })
+        (λ r o n. refl) (leaves-from look world q (CloseClients q ∷ []) place.slot (Up p) (Up p') is (ap (λ (names : List WorkId). length names) kept))
         lines (lines ++ lines_at (when_of m.state) (texts_of_step q told true)) (ap (λ (ts : List Text). lines ++ lines_at (when_of m.state) ts) (sym (append-nil (texts_of_step q told true))))
       where
         row : RowOutcome Memory
@@ -117,23 +121,24 @@ module _ {S : Type 0} (look : S → StoreView) (device : S → DeviceState) (see
         sent-is : (after (CloseClients q) world).sent ≡ world.sent
         sent-is = ap (λ (u : World). u.sent) after-is ∙ append-nil world.sent
 
-    pub closed-step : (slot : Slot S) (lines' : List Line) → Closed look device q (counts_by place.counts) (when_of m.state) place.slot true slot lines lines' → HasCounts (counts_by place.counts) slot
+    pub closed-step : (slot : Slot S) (lines' : List Line) → Closed look device q (counts_by place.counts) (when_of m.state) place.slot true slot lines lines' → HasCounts look (counts_by place.counts) slot → WhereUp look KeepsRubbish place.slot slot
         → IsStepTo look device x m (drop 1 m.state.tasks) (record w { places = slice_set w.places q.0 (record place { slot = slot }) }) lines lines'
-    closed-step slot lines' closed counts = by place.slot slot refl closed counts
+    closed-step slot lines' closed counts kept = by place.slot slot refl closed counts kept
       where
-        by : (before after : Slot S) → place.slot ≡ before → Closed look device q (counts_by place.counts) (when_of m.state) before true after lines lines' → HasCounts (counts_by place.counts) after
+        by : (before after : Slot S) → place.slot ≡ before → Closed look device q (counts_by place.counts) (when_of m.state) before true after lines lines' → HasCounts look (counts_by place.counts) after → WhereUp look KeepsRubbish before after
             → IsStepTo look device x m (drop 1 m.state.tasks) (record w { places = slice_set w.places q.0 (record place { slot = after }) }) lines lines'
-        by (Up p) (Up p') is s k = subst (λ (ls : List Line). IsStepTo look device x m (drop 1 m.state.tasks) (record w { places = slice_set w.places q.0 (record place { slot = Up p' }) }) lines ls) (sym s.lines_are) (closed-done p is s.told p' s.ends k)
-        by (Up p) (Down t) is s k = absurd s.ends
-        by (Up p) Gone is s k = absurd s.ends
-        by (Down t) b is s k = absurd s
-        by Gone b is s k = absurd s
+        by (Up p) (Up p') is s k l = subst (λ (ls : List Line). IsStepTo look device x m (drop 1 m.state.tasks) (record w { places = slice_set w.places q.0 (record place { slot = Up p' }) }) lines ls) (sym s.lines_are) (closed-done p is s.told p' s.ends k l)
+        by (Up p) (Down t) is s k l = absurd s.ends
+        by (Up p) Gone is s k l = absurd s.ends
+        by (Down t) b is s k l = absurd s
+        by Gone b is s k l = absurd s
 
     -- where the server is up afterwards, as while no fault waits
-    pub closed-up-step : (done : Bool) (slot : Slot S) (lines' : List Line) → Closed look device q (counts_by place.counts) (when_of m.state) place.slot done slot lines lines' → is_up slot ≡ true → HasCounts (counts_by place.counts) slot
+    pub closed-up-step : (done : Bool) (slot : Slot S) (lines' : List Line) → Closed look device q (counts_by place.counts) (when_of m.state) place.slot done slot lines lines' → is_up slot ≡ true → HasCounts look (counts_by place.counts) slot
+        → WhereUp look KeepsRubbish place.slot slot
         → IsStepTo look device x m (drop 1 m.state.tasks) (record w { places = slice_set w.places q.0 (record place { slot = slot }) }) lines lines'
-    closed-up-step true slot lines' closed up counts = closed-step slot lines' closed counts
-    closed-up-step false slot lines' closed up counts = absurd (by place.slot slot closed up)
+    closed-up-step true slot lines' closed up counts kept = closed-step slot lines' closed counts kept
+    closed-up-step false slot lines' closed up counts kept = absurd (by place.slot slot closed up)
       where
         by : (before after : Slot S) → Closed look device q (counts_by place.counts) (when_of m.state) before false after lines lines' → is_up after ≡ true → ⊥
         by (Up p) (Up p') s e = s.ends

@@ -23,6 +23,7 @@ use Rattle.jn_written.specs.Chances.{Setup, Chance}
 use Rattle.jn_written.specs.Deeds.{Deed}
 use Rattle.jn_written.specs.Devices.{Devices, IsUsed, AreFound, rubbish_on}
 use Rattle.jn_written.specs.Events.{acted, deed_of}
+use Rattle.jn_written.specs.Rubbish.{AreLeft, AreAllCounted}
 use Rattle.jn_written.specs.Runs.{Moment, Leads}
 use Rattle.jn_written.specs.Steps.{texts_of, lines_at, come_to, cut_short}
 use Rattle.jn_written.specs.Tasks.{Task, State, when_of, next_task, begun}
@@ -49,6 +50,7 @@ pub record ServersStand {S : Type 0} (look : S → StoreView) (device : S → De
   pub servers : length ps ≡ x.servers
   pub places : (n : ℕ) (p : Place S) → slice_get ps n ≡ Some p → PlaceStands look device x m n p
   pub found : AreFound x m.state.course.world m.devices
+  pub counted : AreAllCounted x m.state.course.world m.devices
 
 pub record ClientsStand (x : Setup) (ts : List ClientTable) (w : World) : Type 0 where
   pub eight : length ts ≡ 8
@@ -82,6 +84,7 @@ module _ {S : Type 0} (look : S → StoreView) (device : S → DeviceState) (x :
     history = names x m.state last.state (may-lead x m last leads) stand.history;
     within = subst (λ (v : World). Within x.servers v) (sym (ap (λ (c : Course). c.world) course ∙ run-is steps m.state.course)) (run-within x.servers steps m.state.course.world stand.within);
     found = parts.servers.found;
+    counted = parts.servers.counted;
   }
 
   abbrev pub left : State
@@ -99,10 +102,11 @@ module _ {S : Type 0} (look : S → StoreView) (device : S → DeviceState) (x :
   pub deed-made : (task : Task) → next_task m.state ≡ Some task → begun task m.state ≡ left → (h : Chance) → ((q : ServerNo) → h.rubbish q ≡ rubbish_on x m.devices q)
       → (deed : Deed) → deed_of x h task m.state ≡ deed → deed.cuts ≡ false
       → (es : Devices) → IsRun deed.steps m.state.course.world → IsUsed x h deed.device m.state.course.world (run deed.steps m.state.course.world) m.devices es
+      → AreLeft x deed.steps m.state.course.world m.devices es
       → (w' : Standing S) → PartsStand look device x w' (last-by h deed es)
       → (lines lines' : List Line) → lines' ≡ lines ++ lines_at (when_of m.state) (texts_of x h deed m.state.course.world (go_on deed.steps m.state.course).world)
       → IsStepTo look device x m (deed.tasks ++ drop 1 m.state.tasks) w' lines lines'
-  deed-made task is-next begins h rubbish deed deed-is cuts es steps used w' parts lines lines' told = record {
+  deed-made task is-next begins h rubbish deed deed-is cuts es steps used left-so w' parts lines lines' told = record {
     done = λ few. record {
       last = last-by h deed es;
       leads = leads few;
@@ -134,6 +138,8 @@ module _ {S : Type 0} (look : S → StoreView) (device : S → DeviceState) (x :
           steps = steps;
           used = used;
           found = subst (λ (v : World). AreFound x v es) (run-is deed.steps m.state.course) parts.servers.found;
+          left = left-so;
+          counted = subst (λ (v : World). AreAllCounted x v es) (run-is deed.steps m.state.course) parts.servers.counted;
         };
       }
 
@@ -144,8 +150,9 @@ module _ {S : Type 0} (look : S → StoreView) (device : S → DeviceState) (x :
   pub step-made : (event : Event) (more : List Task) → ActsNext x m event more → (h : Chance) → ((q : ServerNo) → h.rubbish q ≡ rubbish_on x m.devices q)
       → (deed : Deed) → acted x h event m.state.course.world ≡ deed → deed.cuts ≡ false
       → (es : Devices) → IsRun deed.steps m.state.course.world → IsUsed x h deed.device m.state.course.world (run deed.steps m.state.course.world) m.devices es
+      → AreLeft x deed.steps m.state.course.world m.devices es
       → (w' : Standing S) → PartsStand look device x w' (last-of h deed more es)
       → (lines lines' : List Line) → lines' ≡ lines ++ lines_at (when_of m.state) (texts_of x h deed m.state.course.world (go_on deed.steps m.state.course).world)
       → IsStepTo look device x m (more ++ drop 1 m.state.tasks) w' lines lines'
-  step-made event more next h rubbish deed deed-is cuts es steps used w' parts lines lines' told = deed-made next.task next.next next.begun_is h rubbish (record deed { tasks = more })
-      (next.deed h rubbish ∙ ap (λ (d : Deed). record d { tasks = more }) deed-is) cuts es steps used w' parts lines lines' told
+  step-made event more next h rubbish deed deed-is cuts es steps used left-so w' parts lines lines' told = deed-made next.task next.next next.begun_is h rubbish (record deed { tasks = more })
+      (next.deed h rubbish ∙ ap (λ (d : Deed). record d { tasks = more }) deed-is) cuts es steps used left-so w' parts lines lines' told

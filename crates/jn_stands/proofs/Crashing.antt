@@ -62,6 +62,7 @@ module _ {S : Type 0} (look : S → StoreView) (device : S → DeviceState) (see
       (net-quiet look device x w m stand (go_on (Crash q ∷ []) m.state.course) (says.Down q ∷ []) (carries-on w.net m.state.course (Crash q) refl (ap (λ (u : World). u.sent) after-is) stand.net) (ap (λ (u : World). u.lines) after-is) refl)
       (ap (λ (u : World). u.lines) after-is) (ap (λ (u : World). u.sent) after-is) (tt, tt)
       (record { its = device-here look device x w m stand seen q place at (device s) ∙ crashed.device_is ∙ ap powered_off (sym here.2); others = λ r o. device-there look device x w m stand seen q place at (device s) r o })
+      (λ r o n. refl) tt
       lines (lines ++ record { when = when_of m.state; text = says.Down q } ∷ []) refl
     where
       here : StandsAt look device (counts_by place.counts) (Up p) (world.memory q) (world.found q) (m.devices q)
@@ -83,7 +84,7 @@ module _ {S : Type 0} (look : S → StoreView) (device : S → DeviceState) (see
   -- and one that is down already
   pub down-already-step : (s : S) → place.slot ≡ Down s → ActsNext x m (events.Crash q) more → IsStepTo look device x m (more ++ drop 1 m.state.tasks) w lines lines
   down-already-step s is next = step-made look device x w m stand (events.Crash q) more next (quiet_chance x m.devices) (λ s. refl) nothing (ap (crashed_at q) here.0) refl
-      m.devices tt (λ s. refl) w
+      m.devices tt (λ s. refl) (λ r l up. refl) w
       (record {
         trace = stand.trace;
         servers = servers-same look device seen x w m stand (led-to x m (quiet_chance x m.devices) (record nothing { tasks = more }) m.devices) (record { memory = λ s. refl; found = λ s. refl; devices = λ s. refl });

@@ -34,6 +34,7 @@ use Rattle.jn_stands.specs.Stands.{Standing, StandsAt, PlaceStands, Stands}
 use Rattle.jn_stands.specs.Ending.{AreDisarmed, dismissed, BeginsEnd}
 use Rattle.jn_stands.proofs.Lines.{history-same}
 use Rattle.jn_stands.proofs.Made.{quiet_chance, Makes, made-leads, made-cuts, carried-length, not-too-much, too-much, quiet-texts}
+use Rattle.jn_stands.specs.Pages.{HasCounts}
 
 pub there-is : {A : Type 0} (xs : List A) (n : ℕ) → n < length xs → (x : A) × (slice_get xs n ≡ Some x)
 there-is [] n h = absurd (omega (arith, h))
@@ -86,6 +87,7 @@ module _ {S : Type 0} (look : S → StoreView) (device : S → DeviceState) (x :
           let now = still-there look device (counts_by old.counts) (λ d e. e ≡ disarmed d) old.slot p.slot (m.state.course.world.memory (record { 0 = n })) (m.state.course.world.found (record { 0 = n })) (m.devices (record { 0 = n })) d.befell s.stands in
           record {
             counts = s.counts ∙ ap counts_by (sym d.counts);
+            pages = subst (λ g. HasCounts look g p.slot) (sym (ap counts_by d.counts)) d.pages;
             stands = subst (λ g. StandsAt look device (counts_by g) p.slot (m.state.course.world.memory (record { 0 = n })) (m.state.course.world.found (record { 0 = n })) (disarmed (m.devices (record { 0 = n })))) (sym d.counts)
                 (subst (λ e. StandsAt look device (counts_by old.counts) p.slot (m.state.course.world.memory (record { 0 = n })) (m.state.course.world.found (record { 0 = n })) e) now.becomes_it now.stands);
           }
@@ -115,10 +117,11 @@ module _ {S : Type 0} (look : S → StoreView) (device : S → DeviceState) (x :
     history = history-same (when_of begun_state) m.state.lines (texts_of x (quiet_chance x m.devices) dismissing m.state.course.world (go Dismiss begun_course).world) (ap commits_in same-texts) ∙ stands.history;
     within = run-within x.servers (Dismiss ∷ []) m.state.course.world stands.within;
     found = stands.found;
+    counted = stands.counted;
   }
 
   makes : next_task m.state ≡ Some Dismisses → Makes x m (quiet_chance x m.devices) dismissing begun_state (go Dismiss begun_course) es
-  makes next = record { task = Dismisses; next = next; deed_is = refl; begun_is = refl; course = refl; befalls = record { rubbish = λ q. refl; steps = (tt, tt); used = λ q. refl; found = stands.found } }
+  makes next = record { task = Dismisses; next = next; deed_is = refl; begun_is = refl; course = refl; befalls = record { rubbish = λ q. refl; steps = (tt, tt); used = λ q. refl; found = stands.found; left = λ q l up. refl; counted = stands.counted } }
 
   pub dismissed-step : (lines : List Line) → next_task m.state ≡ Some Dismisses → BeginsEnd look device x m (dismissed places w) lines
   dismissed-step lines next = record {

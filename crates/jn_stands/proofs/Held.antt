@@ -11,12 +11,9 @@ use Rattle.jn_server.specs.Standing.{standing_pages, free_on, has_rubbish}
 use Rattle.jn_storage.specs.Calls.{state}
 use Rattle.jn_store.specs.Pairs.{pairs_view}
 use Rattle.jn_store.specs.Store.{StoreView}
-use Rattle.jn_stands.specs.Pages.{HasCounts, ReadsPages}
+use Rattle.jn_stands.specs.Pages.{ReadsPages}
 
 module _ {S : Type 0} (look : S → StoreView) (device : S → DeviceState) (seen : (s : S) → look s ≡ pairs_view (device s)) where
-  pub counts-held : (g : Counts) (p : Parts S) → counts_in (view_with look p).storage.accounts ≡ g → HasCounts g (Up p)
-  counts-held g p e = e
-
   pub reads-pages : (g : Counts) (p : Parts S) → counts_in (view_with look p).storage.accounts ≡ g → IsRoomOfPages (view_with look p) → ReadsPages look device g (Up p)
   reads-pages g p e room = (
     room.free ∙ ap (λ (n : Counts). free_on n (standing_pages (look p.storage.0)) (state (view_with look p).storage) (memory_of (view_with look p))) e

@@ -87,7 +87,7 @@ module _ {S : Type 0} (look : S → StoreView) (device : S → DeviceState) (see
 
   -- ---- it is done
 
-  pub done-alone : (p' : Parts S) → IsDoneAt look device told (idle_row mem) p p' → HasCounts (counts_by place.counts) (Up p')
+  pub done-alone : (p' : Parts S) → IsDoneAt look device told (idle_row mem) p p' → HasCounts look (counts_by place.counts) (Up p')
       → (now : Moment) → now.state.course.world ≡ world → now.devices ≡ devices-now look device x w m stand seen q place at (device p'.storage.0) → IsAlone look device seen x w m stand now q (counts_by place.counts) (Up p')
   done-alone p' e counts now same ds = record {
     memory = λ r o. ap (λ (u : World). u.memory r) same;

@@ -9,6 +9,7 @@ pub mod Dismissing
 pub mod Placed
 pub mod Core
 pub mod Servers
+pub mod Left
 pub mod Posted
 pub mod Moving
 pub mod Befalling

@@ -1,5 +1,5 @@
 -- A scrub and a show.
-use Rattle.std.proofs.Common.{◌≡◌, ℕ, Bool, true, false, List, [], ◌∷◌, ◌++◌, append-nil, drop, map, slice_get, slice_set, Option, Some, None, is_some, not, refl, sym, ◌∙◌, ap, subst}
+use Rattle.std.proofs.Common.{◌≡◌, ℕ, Bool, true, false, List, [], ◌∷◌, ◌++◌, append-nil, drop, map, slice_get, slice_set, Option, Some, None, is_some, not, refl, sym, ◌∙◌, ap, subst, length}
 use Rattle.jn_base.specs.declared.names.ServerNo.{ServerNo}
 use Rattle.jn_base.specs.declared.names.FileNo.{FileNo}
 use Rattle.jn_base.specs.declared.names.LockUnit.TheVariants.{File}
@@ -9,7 +9,7 @@ use Rattle.jn_device.specs.Device.{DeviceState}
 use Rattle.jn_place.specs.declared.place.Place.{Place}
 use Rattle.jn_place.specs.declared.place.Slot.{Slot}
 use Rattle.jn_place.specs.declared.place.Slot.TheVariants.{Up, Down, Gone}
-use Rattle.jn_place.specs.Exact.{IsSpent, PrintsInRange, IsDoneAt, IsStoppedAt, IsStepOf, idle_row, ScrubbedBy, Prints, Showed, texts_of_step}
+use Rattle.jn_place.specs.Exact.{IsSpent, PrintsInRange, IsDoneAt, IsStoppedAt, IsStepOf, idle_row, ScrubbedBy, Prints, Showed, texts_of_step, WhereUp, KeepsRubbish}
 use Rattle.jn_system.specs.WholeSystem.World.{World, Memory}
 use Rattle.jn_system.specs.WholeSystem.Steps.{AreNames}
 use Rattle.jn_system.specs.WholeSystem.Printing.{prints_in, print_files, file_before, ArePrints}
@@ -41,6 +41,8 @@ use Rattle.jn_stands.proofs.Posted.{lines-in-two}
 use Rattle.jn_stands.proofs.Printed.{prints-all}
 use Rattle.jn_stands.proofs.Moving.{does-next, led-to, net-quiet, devices-now, device-there, moved-step}
 use Rattle.jn_stands.proofs.Idle.{here, idling, calling, done-alone, stopping, after-stop, stopped-alone, stop-carries}
+use Rattle.jn_stands.proofs.Left.{leaves-from}
+use Rattle.jn_base.specs.declared.names.WorkId.{WorkId}
 
 shown-texts : (q : ServerNo) (list : List Shown) → map (text_printed q) (map print_of list) ≡ map (text_shown q) list
 shown-texts q [] = refl
@@ -67,14 +69,15 @@ module _ {S : Type 0} (look : S → StoreView) (device : S → DeviceState) (see
 
     -- ---- a scrub
 
-    scrub-done : (told : List Outside) (p' : Parts S) → IsDoneAt look device told (idle_row mem) p p' → HasCounts (counts_by place.counts) (Up p') → ActsNext x m (events.Scrub q) more
+    scrub-done : (told : List Outside) (p' : Parts S) → IsDoneAt look device told (idle_row mem) p p' → HasCounts look (counts_by place.counts) (Up p') → KeepsRubbish (view_with look p) (view_with look p') → ActsNext x m (events.Scrub q) more
         → IsStepTo look device x m (more ++ drop 1 m.state.tasks) (standing (Up p')) lines (lines ++ lines_at (when_of m.state) (texts_of_step q told true))
-    scrub-done told p' e counts next = moved-step look device x w m stand seen q place at (idling look device seen x w m stand q place at p is told None []) (λ r. refl) (record (served q []) { tasks = more })
+    scrub-done told p' e counts kept next = moved-step look device x w m stand seen q place at (idling look device seen x w m stand q place at p is told None []) (λ r. refl) (record (served q []) { tasks = more })
         (does-next x m (events.Scrub q) more next (idling look device seen x w m stand q place at p is told None []) (λ r. refl) (served q []) refl) refl
         (Up p') (device p'.storage.0) [] w.named w.commits
         (done-alone look device seen x w m stand q place at p is told p' e counts (led-to x m (idling look device seen x w m stand q place at p is told None []) (record (served q []) { tasks = more }) (devices-now look device x w m stand seen q place at (device p'.storage.0))) refl refl)
         refl (record { net = stand.net; named = stand.named; commits = stand.commits }) (sym (append-nil world.lines)) refl tt
         (called told None true (device p'.storage.0) refl e.spent)
+        (λ r o n. refl) (leaves-from look world q [] place.slot (Up p) (Up p') is (ap (λ (names : List WorkId). length names) kept))
         lines (lines ++ lines_at (when_of m.state) (texts_of_step q told true)) (ap (λ (ts : List Text). lines ++ lines_at (when_of m.state) ts) (sym (append-nil (texts_of_step q told true))))
 
     scrub-stopped : (told : List Outside) (s : S) → IsStoppedAt look device (counts_by place.counts) told (idle_row mem) p s → ActsNext x m (events.Scrub q) more
@@ -89,7 +92,7 @@ module _ {S : Type 0} (look : S → StoreView) (device : S → DeviceState) (see
         (net-quiet look device x w m stand (go_on (stopping look device seen x w m stand q place at p is told ∷ []) m.state.course) (says.Stopped q ∷ []) (stop-carries look device seen x w m stand q place at p is told)
         (ap (λ (u : World). u.lines) (after-stop look device seen x w m stand q place at p is told)) refl)
         (ap (λ (u : World). u.lines) (after-stop look device seen x w m stand q place at p is told)) (ap (λ (u : World). u.sent) (after-stop look device seen x w m stand q place at p is told)) (tt, tt)
-        (called told (Some (λ c. 0)) false (device s) refl e.spent)
+        (called told (Some (λ c. 0)) false (device s) refl e.spent) (λ r o n. refl) tt
         lines (lines ++ lines_at (when_of m.state) (texts_of_step q told false)) (ap (λ (ts : List Text). lines ++ lines_at (when_of m.state) ts) (sym (append-nil (texts_of_step q told false))))
 
     -- ---- a show
@@ -103,15 +106,16 @@ module _ {S : Type 0} (look : S → StoreView) (device : S → DeviceState) (see
     }
 
     show-done : (told : List Outside) (list : List Shown) (prints : ArePrints (prints_in mem.worker (state (view_with look p).storage).files) (map print_of list)) → PrintsInRange (view_with look p)
-        → (p' : Parts S) → IsDoneAt look device told (idle_row mem) p p' → HasCounts (counts_by place.counts) (Up p') → ActsNext x m (events.Show q) more
+        → (p' : Parts S) → IsDoneAt look device told (idle_row mem) p p' → HasCounts look (counts_by place.counts) (Up p') → KeepsRubbish (view_with look p) (view_with look p') → ActsNext x m (events.Show q) more
         → IsStepTo look device x m (more ++ drop 1 m.state.tasks) (standing (Up p')) lines (lines ++ lines_at (when_of m.state) (texts_of_step q told true) ++ lines_at (when_of m.state) (map (text_shown q) list))
-    show-done told list prints below p' e counts next = moved-step look device x w m stand seen q place at h (λ r. refl) (record deed { tasks = more })
+    show-done told list prints below p' e counts kept next = moved-step look device x w m stand seen q place at h (λ r. refl) (record deed { tasks = more })
         (does-next x m (events.Show q) more next h (λ r. refl) deed (ap (λ (texts : List Text). record (served q []) { device = Reads q; texts = texts }) texts-are)) refl
         (Up p') (device p'.storage.0) [] w.named w.commits
         (done-alone look device seen x w m stand q place at p is told p' e counts (led-to x m h (record deed { tasks = more }) (devices-now look device x w m stand seen q place at (device p'.storage.0))) refl refl)
         refl (record { net = stand.net; named = stand.named; commits = stand.commits }) (sym (append-nil world.lines)) refl tt
         (reading told None prints.files true (device p'.storage.0) refl e.spent
         (λ z. subst (λ (f : Pick → StableState). AreNames file_eq file_before (λ g. prints_in mem.worker (stable f).files (File g)) prints.files) (sym found-is) prints.are_files))
+        (λ r o n. refl) (leaves-from look world q [] place.slot (Up p) (Up p') is (ap (λ (names : List WorkId). length names) kept))
         lines (lines ++ lines_at (when_of m.state) (texts_of_step q told true) ++ lines_at (when_of m.state) (map (text_shown q) list)) (lines-in-two (when_of m.state) lines (texts_of_step q told true) (map (text_shown q) list))
       where
         h : Chance
@@ -142,7 +146,7 @@ module _ {S : Type 0} (look : S → StoreView) (device : S → DeviceState) (see
         (net-quiet look device x w m stand (go_on (stopping look device seen x w m stand q place at p is told ∷ []) m.state.course) (says.Stopped q ∷ []) (stop-carries look device seen x w m stand q place at p is told)
         (ap (λ (u : World). u.lines) (after-stop look device seen x w m stand q place at p is told)) refl)
         (ap (λ (u : World). u.lines) (after-stop look device seen x w m stand q place at p is told)) (ap (λ (u : World). u.sent) (after-stop look device seen x w m stand q place at p is told)) (tt, tt)
-        (reading told (Some (λ c. 0)) [] false (device s) refl e.spent (λ z. absurd (cc z)))
+        (reading told (Some (λ c. 0)) [] false (device s) refl e.spent (λ z. absurd (cc z))) (λ r o n. refl) tt
         lines (lines ++ lines_at (when_of m.state) (texts_of_step q told false)) (ap (λ (ts : List Text). lines ++ lines_at (when_of m.state) ts) (sym (append-nil (texts_of_step q told false))))
       where
         h : Chance
@@ -157,39 +161,42 @@ module _ {S : Type 0} (look : S → StoreView) (device : S → DeviceState) (see
   -- ---- done or stopped
 
   module _ (lines' : List Line) where
-    pub scrubbed-step : (done : Bool) (slot : Slot S) → ScrubbedBy look device q (counts_by place.counts) (when_of m.state) place.slot done slot lines lines' → HasCounts (counts_by place.counts) slot → ActsNext x m (events.Scrub q) more
+    pub scrubbed-step : (done : Bool) (slot : Slot S) → ScrubbedBy look device q (counts_by place.counts) (when_of m.state) place.slot done slot lines lines' → HasCounts look (counts_by place.counts) slot
+        → WhereUp look KeepsRubbish place.slot slot → ActsNext x m (events.Scrub q) more
         → IsStepTo look device x m (more ++ drop 1 m.state.tasks) (standing slot) lines lines'
-    scrubbed-step done slot scrubbed counts next = by place.slot refl scrubbed
+    scrubbed-step done slot scrubbed counts kept next = by place.slot refl scrubbed kept
       where
-        from : (p : Parts S) → place.slot ≡ Up p → (done : Bool) (slot : Slot S) → HasCounts (counts_by place.counts) slot
+        from : (p : Parts S) → place.slot ≡ Up p → (done : Bool) (slot : Slot S) → HasCounts look (counts_by place.counts) slot → WhereUp look KeepsRubbish (Up p) slot
             → IsStepOf look device q (counts_by place.counts) (when_of m.state) (idle_row (memory_of (view_with look p))) (Up p) done slot lines lines' → IsStepTo look device x m (more ++ drop 1 m.state.tasks) (standing slot) lines lines'
-        from p is true (Up p') k s = subst (λ (ls : List Line). IsStepTo look device x m (more ++ drop 1 m.state.tasks) (standing (Up p')) lines ls) (sym s.lines_are) (scrub-done p is s.told p' s.ends k next)
-        from p is false (Down t) k s = subst (λ (ls : List Line). IsStepTo look device x m (more ++ drop 1 m.state.tasks) (standing (Down t)) lines ls) (sym s.lines_are) (scrub-stopped p is s.told t s.ends next)
-        from p is done slot k s = absurd s.ends
+        from p is true (Up p') k l s = subst (λ (ls : List Line). IsStepTo look device x m (more ++ drop 1 m.state.tasks) (standing (Up p')) lines ls) (sym s.lines_are) (scrub-done p is s.told p' s.ends k l next)
+        from p is false (Down t) k l s = subst (λ (ls : List Line). IsStepTo look device x m (more ++ drop 1 m.state.tasks) (standing (Down t)) lines ls) (sym s.lines_are) (scrub-stopped p is s.told t s.ends next)
+        from p is done slot k l s = absurd s.ends
 
-        by : (before : Slot S) → place.slot ≡ before → ScrubbedBy look device q (counts_by place.counts) (when_of m.state) before done slot lines lines' → IsStepTo look device x m (more ++ drop 1 m.state.tasks) (standing slot) lines lines'
-        by (Up p) is s = from p is done slot counts s
-        by (Down t) is s = absurd s
-        by Gone is s = absurd s
+        by : (before : Slot S) → place.slot ≡ before → ScrubbedBy look device q (counts_by place.counts) (when_of m.state) before done slot lines lines' → WhereUp look KeepsRubbish before slot
+            → IsStepTo look device x m (more ++ drop 1 m.state.tasks) (standing slot) lines lines'
+        by (Up p) is s l = from p is done slot counts l s
+        by (Down t) is s l = absurd s
+        by Gone is s l = absurd s
 
     -- the code tells what was shown behind the faults
-    pub showed-step : (list : Option (List Shown)) (slot : Slot S) → Showed look device q (counts_by place.counts) (when_of m.state) place.slot list slot lines lines' → HasCounts (counts_by place.counts) slot → ActsNext x m (events.Show q) more
+    pub showed-step : (list : Option (List Shown)) (slot : Slot S) → Showed look device q (counts_by place.counts) (when_of m.state) place.slot list slot lines lines' → HasCounts look (counts_by place.counts) slot
+        → WhereUp look KeepsRubbish place.slot slot → ActsNext x m (events.Show q) more
         → IsStepTo look device x m (more ++ drop 1 m.state.tasks) (standing slot) lines (lines' ++ lines_at (when_of m.state) (texts_shown q list))
-    showed-step list slot showed counts next = by place.slot refl showed
+    showed-step list slot showed counts kept next = by place.slot refl showed kept
       where
-        from : (p : Parts S) → place.slot ≡ Up p → (list : Option (List Shown)) (slot : Slot S) → HasCounts (counts_by place.counts) slot → Prints (view_with look p) list
+        from : (p : Parts S) → place.slot ≡ Up p → (list : Option (List Shown)) (slot : Slot S) → HasCounts look (counts_by place.counts) slot → WhereUp look KeepsRubbish (Up p) slot → Prints (view_with look p) list
             → IsStepOf look device q (counts_by place.counts) (when_of m.state) (idle_row (memory_of (view_with look p))) (Up p) (is_some list) slot lines lines'
             → IsStepTo look device x m (more ++ drop 1 m.state.tasks) (standing slot) lines (lines' ++ lines_at (when_of m.state) (texts_shown q list))
-        from p is (Some list) (Up p') k prints s = subst (λ (ls : List Line). IsStepTo look device x m (more ++ drop 1 m.state.tasks) (standing (Up p')) lines (ls ++ lines_at (when_of m.state) (map (text_shown q) list))) (sym s.lines_are)
-            (show-done p is s.told list prints.0 prints.1 p' s.ends k next)
-        from p is None (Down t) k prints s = subst (λ (ls : List Line). IsStepTo look device x m (more ++ drop 1 m.state.tasks) (standing (Down t)) lines ls) (sym s.lines_are ∙ sym (append-nil lines')) (show-stopped p is s.told t s.ends next)
-        from p is (Some list) (Down t) k prints s = absurd s.ends
-        from p is (Some list) Gone k prints s = absurd s.ends
-        from p is None (Up p') k prints s = absurd s.ends
-        from p is None Gone k prints s = absurd s.ends
+        from p is (Some list) (Up p') k l prints s = subst (λ (ls : List Line). IsStepTo look device x m (more ++ drop 1 m.state.tasks) (standing (Up p')) lines (ls ++ lines_at (when_of m.state) (map (text_shown q) list))) (sym s.lines_are)
+            (show-done p is s.told list prints.0 prints.1 p' s.ends k l next)
+        from p is None (Down t) k l prints s = subst (λ (ls : List Line). IsStepTo look device x m (more ++ drop 1 m.state.tasks) (standing (Down t)) lines ls) (sym s.lines_are ∙ sym (append-nil lines')) (show-stopped p is s.told t s.ends next)
+        from p is (Some list) (Down t) k l prints s = absurd s.ends
+        from p is (Some list) Gone k l prints s = absurd s.ends
+        from p is None (Up p') k l prints s = absurd s.ends
+        from p is None Gone k l prints s = absurd s.ends
 
-        by : (before : Slot S) → place.slot ≡ before → Showed look device q (counts_by place.counts) (when_of m.state) before list slot lines lines'
+        by : (before : Slot S) → place.slot ≡ before → Showed look device q (counts_by place.counts) (when_of m.state) before list slot lines lines' → WhereUp look KeepsRubbish before slot
             → IsStepTo look device x m (more ++ drop 1 m.state.tasks) (standing slot) lines (lines' ++ lines_at (when_of m.state) (texts_shown q list))
-        by (Up p) is s = from p is list slot counts s.1 s.0
-        by (Down t) is s = absurd s
-        by Gone is s = absurd s
+        by (Up p) is s l = from p is list slot counts l s.1 s.0
+        by (Down t) is s l = absurd s
+        by Gone is s l = absurd s

@@ -28,6 +28,8 @@ use Rattle.jn_stands.specs.Going.{ActsNext, IsStepTo}
 use Rattle.jn_stands.proofs.Servers.{servers-same, clients-same}
 use Rattle.jn_stands.proofs.Plain.{no-chance, silent-step}
 use Rattle.jn_stands.proofs.Took.{is-sent}
+use Rattle.jn_stands.proofs.Left.{lost-quiet}
+use Rattle.jn_written.specs.Rubbish.{left_by_sent}
 
 module _ {S : Type 0} (look : S → StoreView) (device : S → DeviceState) (seen : (s : S) → look s ≡ pairs_view (device s)) (x : Setup) (w : Standing S) (m : Moment) (stand : Stands look device x w m) where
   abbrev v : World
@@ -46,6 +48,8 @@ module _ {S : Type 0} (look : S → StoreView) (device : S → DeviceState) (see
         → IsStepTo look device x m (more ++ drop 1 m.state.tasks) (record w { net = record w.net { sent = with_delivered k w.net.sent } }) lines (lines ++ lines_at (when_of m.state) (says.Lost k ∷ []))
     lost-step place s at is more next lines = silent-step look device seen x w m stand (events.Deliver k) more next (Server q) (Deliver k (room (no-chance look device seen x w m stand) q))
         (ap (delivered (no-chance look device seen x w m stand) k v) (is-sent look device seen x w m stand k one posted (Server q) to) ∙ ap (delivered_at (no-chance look device seen x w m stand) k q) (down-is q place s at is)) tt
+        (λ r n. ap (λ (o : Option Sent). left_by_sent v r (room (no-chance look device seen x w m stand) q) o n) (is-sent look device seen x w m stand k one posted (Server q) to)
+        ∙ lost-quiet v q (room (no-chance look device seen x w m stand) q) one.message (down-is q place s at is) r n)
         (says.Lost k ∷ []) refl (ap (λ (u : World). u.sent) after-is) (ap (λ (u : World). u.lines) after-is)
         w.places (servers-same look device seen x w m stand _ (record { memory = λ r. ap (λ (u : World). u.memory r) after-is; found = λ r. ap (λ (u : World). u.found r) after-is; devices = λ r. refl }))
         w.clients (clients-same look device seen x w m stand _ (ap (λ (u : World). u.clients) after-is)) (with_delivered k w.net.sent) refl lines

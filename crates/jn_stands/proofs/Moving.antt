@@ -33,8 +33,10 @@ use Rattle.jn_stands.specs.Stands.{Standing, Stands}
 use Rattle.jn_stands.specs.Going.{ActsNext, IsStepTo}
 use Rattle.jn_stands.proofs.Lines.{line-append, count-append}
 use Rattle.jn_stands.proofs.Posted.{none-traced, texts-are}
-use Rattle.jn_stands.proofs.Core.{PartsStand, NetStands, deed-made as task-made}
+use Rattle.jn_stands.proofs.Core.{PartsStand, NetStands, deed-made as task-made, run-is}
 use Rattle.jn_stands.proofs.Servers.{IsAlone, server-moved, clients-same}
+use Rattle.jn_stands.proofs.Left.{AreQuiet, Leaves, left-alone}
+use Rattle.jn_written.specs.Rubbish.{AreLeft}
 
 pub same-server : (q : ServerNo) → server_eq q q ≡ true
 same-server q = grind (arith, nat_tests)
@@ -67,11 +69,12 @@ led-to x m h deed es = record { state = come_to x h deed (go_on deed.steps m.sta
 module _ {S : Type 0} (look : S → StoreView) (device : S → DeviceState) (x : Setup) (w : Standing S) (m : Moment) (stand : Stands look device x w m) where
   pub deed-made : (h : Chance) → ((q : ServerNo) → h.rubbish q ≡ rubbish_on x m.devices q) → (deed : Deed) → Does x m h deed → deed.cuts ≡ false
       → (es : Devices) → IsRun deed.steps m.state.course.world → IsUsed x h deed.device m.state.course.world (run deed.steps m.state.course.world) m.devices es
+      → AreLeft x deed.steps m.state.course.world m.devices es
       → (w' : Standing S) → PartsStand look device x w' (led-to x m h deed es)
       → (lines lines' : List Line) → lines' ≡ lines ++ lines_at (when_of m.state) (texts_of x h deed m.state.course.world (go_on deed.steps m.state.course).world)
       → IsStepTo look device x m (deed.tasks ++ drop 1 m.state.tasks) w' lines lines'
-  deed-made h rubbish deed does cuts es steps used w' parts lines lines' told =
-      task-made look device x w m stand does.task does.next does.begun_is h rubbish deed does.deed_is cuts es steps used w' parts lines lines' told
+  deed-made h rubbish deed does cuts es steps used left-so w' parts lines lines' told =
+      task-made look device x w m stand does.task does.next does.begun_is h rubbish deed does.deed_is cuts es steps used left-so w' parts lines lines' told
 
   -- ---- what was named
 
@@ -113,10 +116,12 @@ module _ {S : Type 0} (look : S → StoreView) (device : S → DeviceState) (x :
         → (go_on deed.steps m.state.course).world.clients ≡ m.state.course.world.clients → NetStands w.net names commits (go_on deed.steps m.state.course)
         → (go_on deed.steps m.state.course).world.lines ≡ m.state.course.world.lines ++ own → (go_on deed.steps m.state.course).world.sent ≡ m.state.course.world.sent
         → IsRun deed.steps m.state.course.world → IsUsed x h deed.device m.state.course.world (run deed.steps m.state.course.world) m.devices (devices-now e)
+        → ((s : ServerNo) → server_eq q s ≡ false → AreQuiet m.state.course.world deed.steps s) → Leaves look m.state.course.world q deed.steps slot place.slot
         → (lines lines' : List Line) → lines' ≡ lines ++ lines_at (when_of m.state) (outside_texts deed.device h.told ++ own ++ deed.texts)
         → IsStepTo look device x m (deed.tasks ++ drop 1 m.state.tasks) (record w { places = slice_set w.places q.0 (record place { slot = slot }); named = names; commits = commits }) lines lines'
-    moved-step h rubbish deed does cuts slot e own names commits alone clients net lines-are sent-are steps used lines lines' told =
-        deed-made h rubbish deed does cuts (devices-now e) steps used (record w { places = slice_set w.places q.0 (record place { slot = slot }); named = names; commits = commits })
+    moved-step h rubbish deed does cuts slot e own names commits alone clients net lines-are sent-are steps used others leaves lines lines' told =
+        deed-made h rubbish deed does cuts (devices-now e) steps used
+        (left-alone look device seen x w m stand deed.steps (led-to x m h deed (devices-now e)) (run-is deed.steps m.state.course) q place at slot alone others leaves) (record w { places = slice_set w.places q.0 (record place { slot = slot }); named = names; commits = commits })
         (record {
           trace = stand.trace;
           servers = server-moved look device seen x w m stand (led-to x m h deed (devices-now e)) q place slot at alone;

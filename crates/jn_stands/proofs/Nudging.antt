@@ -61,7 +61,7 @@ module _ {S : Type 0} (look : S → StoreView) (device : S → DeviceState) (see
           made : StandsAt look device (counts_by place.counts) (Up p) (v.memory q) (v.found q) (m.devices q)
               → IsStepTo look device x m (more ++ drop 1 m.state.tasks) (with_answer q None (Some out-of) w) lines (lines ++ lines_at (when_of m.state) (texts_sent q None w.trace (length w.net.sent) (Some out-of)))
           made h = subst (λ (n : ℕ). IsStepTo look device x m (more ++ drop 1 m.state.tasks) (record (with_answer q None (Some out-of) w) { commits = n }) lines (lines ++ lines_at (when_of m.state) (texts_sent q None w.trace (length w.net.sent) (Some out-of)))) plus-none
-              (plain-step look device seen x w m stand (events.Nudge q) more next (Server q) (Nudge q) refl tt out-of.messages [] refl (ap (λ (u : World). u.sent) after-is) (ap (λ (u : World). u.lines) after-is ∙ sym (append-nil v.lines))
+              (plain-step look device seen x w m stand (events.Nudge q) more next (Server q) (Nudge q) refl tt (λ s n. refl) out-of.messages [] refl (ap (λ (u : World). u.sent) after-is) (ap (λ (u : World). u.lines) after-is ∙ sym (append-nil v.lines))
               w.places (servers-same look device seen x w m stand _ (record { memory = λ r. ap (λ (u : World). u.memory r) after-is; found = λ r. ap (λ (u : World). u.found r) after-is; devices = λ r. refl }))
               w.clients (clients-same look device seen x w m stand _ (ap (λ (u : World). u.clients) after-is)) w.net.sent refl lines)
             where
@@ -74,7 +74,7 @@ module _ {S : Type 0} (look : S → StoreView) (device : S → DeviceState) (see
   -- a server that is down sends nothing
   pub nudged-down-step : (s : S) → place.slot ≡ Down s → (more : List Task) → ActsNext x m (events.Nudge q) more → (lines : List Line) → IsStepTo look device x m (more ++ drop 1 m.state.tasks) w lines lines
   nudged-down-step s is more next lines = subst (λ (ls : List Line). IsStepTo look device x m (more ++ drop 1 m.state.tasks) w lines ls) (append-nil lines)
-      (silent-step look device seen x w m stand (events.Nudge q) more next (Server q) (Nudge q) refl tt [] refl (ap (λ (u : World). u.sent) after-is) (ap (λ (u : World). u.lines) after-is ∙ sym (append-nil v.lines))
+      (silent-step look device seen x w m stand (events.Nudge q) more next (Server q) (Nudge q) refl tt (λ s n. refl) [] refl (ap (λ (u : World). u.sent) after-is) (ap (λ (u : World). u.lines) after-is ∙ sym (append-nil v.lines))
       w.places (servers-same look device seen x w m stand _ (record { memory = λ r. ap (λ (u : World). u.memory r) after-is; found = λ r. ap (λ (u : World). u.found r) after-is; devices = λ r. refl }))
       w.clients (clients-same look device seen x w m stand _ (ap (λ (u : World). u.clients) after-is)) w.net.sent refl lines)
     where
@@ -83,14 +83,14 @@ module _ {S : Type 0} (look : S → StoreView) (device : S → DeviceState) (see
 
   -- ---- a timeout
 
-  pub timed-out-step : (T : Tid) (more : List Task) → ActsNext x m (events.Timeout q T) more → (answer : Bool) (slot : Slot S) → TimedOut look T place.slot answer slot → HasCounts (counts_by place.counts) slot → (lines : List Line)
+  pub timed-out-step : (T : Tid) (more : List Task) → ActsNext x m (events.Timeout q T) more → (answer : Bool) (slot : Slot S) → TimedOut look T place.slot answer slot → HasCounts look (counts_by place.counts) slot → (lines : List Line)
       → IsStepTo look device x m (more ++ drop 1 m.state.tasks) (record w { places = slice_set w.places q.0 (record place { slot = slot }) }) lines lines
   timed-out-step T more next answer slot timed counts lines = by place.slot refl slot timed counts
     where
-      made : (p p' : Parts S) → StandsAt look device (counts_by place.counts) (Up p) (v.memory q) (v.found q) (m.devices q) → IsTimedOut look T p answer p' → HasCounts (counts_by place.counts) (Up p')
+      made : (p p' : Parts S) → StandsAt look device (counts_by place.counts) (Up p) (v.memory q) (v.found q) (m.devices q) → IsTimedOut look T p answer p' → HasCounts look (counts_by place.counts) (Up p')
           → IsStepTo look device x m (more ++ drop 1 m.state.tasks) (record w { places = slice_set w.places q.0 (record place { slot = Up p' }) }) lines lines
       made p p' h t counts' = subst (λ (ls : List Line). IsStepTo look device x m (more ++ drop 1 m.state.tasks) (record w { places = slice_set w.places q.0 (record place { slot = Up p' }) }) lines ls) (append-nil lines)
-          (silent-step look device seen x w m stand (events.Timeout q T) more next (Server q) (Timeout q T) refl tt [] refl (ap (λ (u : World). u.sent) after-is) (ap (λ (u : World). u.lines) after-is ∙ sym (append-nil v.lines))
+          (silent-step look device seen x w m stand (events.Timeout q T) more next (Server q) (Timeout q T) refl tt (λ s n. refl) [] refl (ap (λ (u : World). u.sent) after-is) (ap (λ (u : World). u.lines) after-is ∙ sym (append-nil v.lines))
           (slice_set w.places q.0 (record place { slot = Up p' })) (server-moved look device seen x w m stand _ q place (Up p') at (record {
             memory = λ r o. ap (λ (u : World). u.memory r) after-is ∙ ap (λ (b : Bool). if b then Some (server_timeout (memory_of (view_with look p)) T) else v.memory r) o;
             found = λ r o. ap (λ (u : World). u.found r) after-is;
@@ -111,7 +111,7 @@ module _ {S : Type 0} (look : S → StoreView) (device : S → DeviceState) (see
           found-is : (view_with look p').storage.found ≡ (view_with look p).storage.found
           found-is = ap (λ (z : S × Kept). (view_of z.1 (look z.0)).found) t.storage
 
-      by : (before : Slot S) → place.slot ≡ before → (now : Slot S) → TimedOut look T before answer now → HasCounts (counts_by place.counts) now
+      by : (before : Slot S) → place.slot ≡ before → (now : Slot S) → TimedOut look T before answer now → HasCounts look (counts_by place.counts) now
           → IsStepTo look device x m (more ++ drop 1 m.state.tasks) (record w { places = slice_set w.places q.0 (record place { slot = now }) }) lines lines
       by (Up p) is (Up p') t c = made p p' (stands-at (Up p) is) t c
       by (Up p) is (Down s) t c = absurd t

@@ -32,6 +32,8 @@ use Rattle.jn_stands.proofs.Made.{carried-length, quiet-texts}
 use Rattle.jn_stands.proofs.Posted.{sent-posted, new-posted, none-traced, texts-are}
 use Rattle.jn_stands.proofs.Core.{ServersStand, ClientsStand, NetStands, chance-of, no-need, last-by, last-of, deed-made, step-made}
 use Rattle.jn_stands.proofs.Servers.{AreSame, servers-same, clients-same, net-moved, net-same}
+use Rattle.jn_stands.proofs.Left.{left-same}
+use Rattle.jn_written.specs.Rubbish.{left_by_step}
 
 module _ {S : Type 0} (look : S → StoreView) (device : S → DeviceState) (seen : (s : S) → look s ≡ pairs_view (device s)) (x : Setup) (w : Standing S) (m : Moment) (stand : Stands look device x w m) where
   abbrev v : World
@@ -48,7 +50,7 @@ module _ {S : Type 0} (look : S → StoreView) (device : S → DeviceState) (see
   -- A task that does nothing but leave these tasks.
   pub nothing-step : (task : Task) (more : List Task) → next_task m.state ≡ Some task → begun task m.state ≡ record m.state { tasks = drop 1 m.state.tasks } → deed_of x no-chance task m.state ≡ record nothing { tasks = more }
       → (lines : List Line) → IsStepTo look device x m (more ++ drop 1 m.state.tasks) w lines lines
-  nothing-step task more is-next begins deed-is lines = deed-made look device x w m stand task is-next begins no-chance (λ q. refl) (record nothing { tasks = more }) deed-is refl m.devices tt (λ q. refl) w
+  nothing-step task more is-next begins deed-is lines = deed-made look device x w m stand task is-next begins no-chance (λ q. refl) (record nothing { tasks = more }) deed-is refl m.devices tt (λ q. refl) (λ q l up. refl) w
       (record {
         trace = stand.trace;
         servers = servers-same look device seen x w m stand (last-by look device x w m stand no-chance (record nothing { tasks = more }) m.devices) (all-same _ refl refl);
@@ -60,6 +62,7 @@ module _ {S : Type 0} (look : S → StoreView) (device : S → DeviceState) (see
   -- ---- one step
 
   module _ (event : Event) (more : List Task) (next : ActsNext x m event more) (actor : Party) (step : Step) (acts : acted x no-chance event v ≡ plain actor (step ∷ [])) (may : IsStep step v)
+      (quiet : (s : ServerNo) (n : ℕ) → left_by_step v s step n ≡ n)
       (messages : List Sent) (texts : List Text) (none : commits_in texts ≡ []) (sent : (after step v).sent ≡ v.sent ++ messages) (told : (after step v).lines ≡ v.lines ++ texts) where
     abbrev pub last : Moment
     last = last-of look device x w m stand no-chance (plain actor (step ∷ [])) more m.devices
@@ -82,7 +85,7 @@ module _ {S : Type 0} (look : S → StoreView) (device : S → DeviceState) (see
     pub plain-step : (ps : List (Place S)) → ServersStand look device x ps last → (ts : List ClientTable) → ClientsStand x ts (after step v) → (ms : List Posted) → delivered_by step w.net.sent ≡ ms → (lines : List Line)
         → IsStepTo look device x m (more ++ drop 1 m.state.tasks) (with_sent (posted_by actor messages) (record w { places = ps; clients = ts; net = record w.net { sent = ms } }))
         lines (lines ++ lines_at (when_of m.state) (texts ++ traced w.trace (message_texts actor (length w.net.sent) messages)))
-    plain-step ps servers ts clients ms e lines = step-made look device x w m stand event more next no-chance (λ q. refl) (plain actor (step ∷ [])) acts refl m.devices (may, tt) (λ q. refl)
+    plain-step ps servers ts clients ms e lines = step-made look device x w m stand event more next no-chance (λ q. refl) (plain actor (step ∷ [])) acts refl m.devices (may, tt) (λ q. refl) (left-same x v (step ∷ []) m.devices m.devices (λ s. refl) quiet)
         (with_sent (posted_by actor messages) (record w { places = ps; clients = ts; net = record w.net { sent = ms } }))
         (record { trace = stand.trace; servers = servers; clients = clients; net = net-then ms e })
         lines _ (ap (λ (ns : List Text). lines ++ lines_at (when_of m.state) ns) (sym (
@@ -93,6 +96,7 @@ module _ {S : Type 0} (look : S → StoreView) (device : S → DeviceState) (see
 
   -- a step of the system that sends nothing
   module _ (event : Event) (more : List Task) (next : ActsNext x m event more) (actor : Party) (step : Step) (acts : acted x no-chance event v ≡ plain actor (step ∷ [])) (may : IsStep step v)
+      (quiet : (s : ServerNo) (n : ℕ) → left_by_step v s step n ≡ n)
       (texts : List Text) (none : commits_in texts ≡ []) (sent : (after step v).sent ≡ v.sent) (told : (after step v).lines ≡ v.lines ++ texts) where
     pub silent-step : (ps : List (Place S)) → ServersStand look device x ps (last-of look device x w m stand no-chance (plain actor (step ∷ [])) more m.devices) → (ts : List ClientTable) → ClientsStand x ts (after step v)
         → (ms : List Posted) → delivered_by step w.net.sent ≡ ms → (lines : List Line)
@@ -100,4 +104,4 @@ module _ {S : Type 0} (look : S → StoreView) (device : S → DeviceState) (see
     silent-step ps servers ts clients ms e lines = subst (λ (ns : List Posted). IsStepTo look device x m (more ++ drop 1 m.state.tasks) (record w { places = ps; clients = ts; net = record w.net { sent = ns } }) lines (lines ++ lines_at (when_of m.state) texts)) (append-nil ms)
         (subst (λ (ns : List Text). IsStepTo look device x m (more ++ drop 1 m.state.tasks) (record w { places = ps; clients = ts; net = record w.net { sent = ms ++ [] } }) lines (lines ++ lines_at (when_of m.state) ns))
         (ap (λ (ns : List Text). texts ++ ns) (none-traced w.trace) ∙ append-nil texts)
-        (plain-step event more next actor step acts may [] texts none (sent ∙ sym (append-nil v.sent)) told ps servers ts clients ms e lines))
+        (plain-step event more next actor step acts may quiet [] texts none (sent ∙ sym (append-nil v.sent)) told ps servers ts clients ms e lines))

@@ -42,6 +42,8 @@ use Rattle.jn_stands.specs.Going.{IsStepTo}
 use Rattle.jn_stands.proofs.Naming.{told-names}
 use Rattle.jn_stands.proofs.Posted.{lines-in-two}
 use Rattle.jn_stands.proofs.Moving.{same-server, carries-on, Does, net-named, devices-now, device-here, device-there, moved-step}
+use Rattle.jn_stands.proofs.Left.{counted, leaves-from}
+use Rattle.jn_written.specs.Rubbish.{left_by_restart, left_by_step}
 
 -- what a restart tells its device
 pub recovery : (h : Chance) (up : Bool) (told : List Outside) (power : Bool) (d e f : DeviceState) → h.told ≡ told → is_some h.stop ≡ not power → IsTried told power d e → f ≡ (if up then e else powered_off e) → IsRecovery h up d f
@@ -95,7 +97,7 @@ module _ {S : Type 0} (look : S → StoreView) (device : S → DeviceState) (see
     names-are : names_told tids w.named ≡ named_now tids world.lines
     names-are = told-names tids world.lines w.named up.flag_names.rising (λ T e. stand.named T)
 
-    pub up-step : (deed : Deed) → deed ≡ record (recovered up-chance q) { tasks = deed.tasks } → Does x m up-chance deed → HasCounts (counts_by place.counts) (Up p)
+    pub up-step : (deed : Deed) → deed ≡ record (recovered up-chance q) { tasks = deed.tasks } → Does x m up-chance deed → HasCounts look (counts_by place.counts) (Up p)
         → (lines lines' : List Line) → lines' ≡ lines ++ lines_at (when_of m.state) (texts_of_step q told true) ++ lines_at (when_of m.state) (says.Up q epoch ∷ names_told tids w.named)
         → IsStepTo look device x m (deed.tasks ++ drop 1 m.state.tasks) (with_named (names_told tids w.named) (record w { places = slice_set w.places q.0 (record place { slot = Up p }) })) lines lines'
     up-step deed deed-is does counts lines lines' lines-are =
@@ -125,8 +127,14 @@ module _ {S : Type 0} (look : S → StoreView) (device : S → DeviceState) (see
               (subst (λ (d : DeviceState). IsTried told true d (device p.storage.0)) (sym here.2) up.tried) (device-here look device x w m stand seen q place at (device p.storage.0)));
           others = λ r o. device-there look device x w m stand seen q place at (device p.storage.0) r o;
         })
+        (λ r o n. ap (λ (b : Bool). if b then left_by_restart (world.memory r) n else n) o)
+        (leaves-from look world q (Restart q up.pick up.works tids ∷ []) place.slot (Down s) (Up p) is none-left)
         lines lines' (lines-are ∙ ap (λ (ts : List Text). lines ++ lines_at (when_of m.state) (texts_of_step q told true) ++ lines_at (when_of m.state) (says.Up q epoch ∷ ts)) names-are
         ∙ lines-in-two (when_of m.state) lines (texts_of_step q told true) own ∙ ap (λ (ts : List Text). lines ++ lines_at (when_of m.state) ts) (texts own)))
       where
+        none-left : (n : ℕ) → counted look p ≡ left_by_step world q (Restart q up.pick up.works tids) n
+        none-left n = ap (λ (names : List WorkId). length names) up.clean
+            ∙ sym (ap (λ (b : Bool). if b then left_by_restart (world.memory q) n else n) (same-server q) ∙ ap (λ (o : Option Memory). left_by_restart o n) here.0)
+
         texts : (more : List Text) → texts_of_step q told true ++ more ≡ map (λ (fault : Outside). says.Outside q fault) told ++ more ++ []
         texts more = ap (λ (ts : List Text). ts ++ more) (append-nil (map (λ (fault : Outside). says.Outside q fault) told)) ∙ sym (append-nil (map (λ (fault : Outside). says.Outside q fault) told ++ more))

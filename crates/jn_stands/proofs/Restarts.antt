@@ -56,7 +56,7 @@ module _ {S : Type 0} (look : S → StoreView) (device : S → DeviceState) (see
 
   module _ (more : List Task) (next : ActsNext x m (events.Restart q) more) (lines lines' lines'' : List Line) where
     restarted-by : (told : List Outside) (before after : Slot S) (restarted : Restarted) → place.slot ≡ before → CameTo look device q (counts_by place.counts) told before restarted after
-        → HasCounts (counts_by place.counts) after
+        → HasCounts look (counts_by place.counts) after
         → lines' ≡ lines ++ lines_at (when_of m.state) (texts_of_step q told true) → lines'' ≡ lines' ++ lines_at (when_of m.state) (texts_restarted q w.named restarted)
         → IsStepTo look device x m (more ++ drop 1 m.state.tasks) (with_named (texts_restarted q w.named restarted) (standing after)) lines lines''
     restarted-by told (Down s) (Up p) (came.Up epoch tids) is up counts e f =
@@ -87,7 +87,7 @@ module _ {S : Type 0} (look : S → StoreView) (device : S → DeviceState) (see
     restarted-by told before after restarted is h counts e f = absurd h
 
     -- by an event of the schedule
-    pub restarted-step : (restarted : Restarted) (slot : Slot S) → IsRestart look device q (counts_by place.counts) (when_of m.state) place.slot restarted slot lines lines' → HasCounts (counts_by place.counts) slot
+    pub restarted-step : (restarted : Restarted) (slot : Slot S) → IsRestart look device q (counts_by place.counts) (when_of m.state) place.slot restarted slot lines lines' → HasCounts look (counts_by place.counts) slot
         → lines'' ≡ lines' ++ lines_at (when_of m.state) (texts_restarted q w.named restarted)
         → IsStepTo look device x m (more ++ drop 1 m.state.tasks) (with_named (texts_restarted q w.named restarted) (standing slot)) lines lines''
     restarted-step restarted slot h counts f = restarted-by h.told place.slot slot restarted refl h.came counts h.lines_are f
@@ -96,7 +96,7 @@ module _ {S : Type 0} (look : S → StoreView) (device : S → DeviceState) (see
 
   module _ (next : next_task m.state ≡ Some (ComesUp q)) (lines lines' lines'' : List Line) where
     came-by : (told : List Outside) (before after : Slot S) (restarted : Restarted) → place.slot ≡ before → CameTo look device q (counts_by place.counts) told before restarted after
-        → HasCounts (counts_by place.counts) after
+        → HasCounts look (counts_by place.counts) after
         → lines' ≡ lines ++ lines_at (when_of m.state) (texts_of_step q told true) → lines'' ≡ lines' ++ lines_at (when_of m.state) (texts_restarted q w.named restarted)
         → ComesTo look device x m q w restarted (standing after) lines lines''
     came-by told (Down s) (Up p) (came.Up epoch tids) is up counts e f =
@@ -130,7 +130,7 @@ module _ {S : Type 0} (look : S → StoreView) (device : S → DeviceState) (see
     came-by told (Down s) Gone came.UsedUp is h counts e f = absurd h
     came-by told before after restarted is h counts e f = absurd h
 
-    pub came-up-step : (restarted : Restarted) (slot : Slot S) → IsRestart look device q (counts_by place.counts) (when_of m.state) place.slot restarted slot lines lines' → HasCounts (counts_by place.counts) slot
+    pub came-up-step : (restarted : Restarted) (slot : Slot S) → IsRestart look device q (counts_by place.counts) (when_of m.state) place.slot restarted slot lines lines' → HasCounts look (counts_by place.counts) slot
         → lines'' ≡ lines' ++ lines_at (when_of m.state) (texts_restarted q w.named restarted)
         → ComesTo look device x m q w restarted (standing slot) lines lines''
     came-up-step restarted slot h counts f = came-by h.told place.slot slot restarted refl h.came counts h.lines_are f

@@ -103,7 +103,7 @@ module _ {S : Type 0} (look : S → StoreView) (device : S → DeviceState) (see
     -- ---- the server afterwards
 
     module _ (row : RowOutcome Memory) (k : Option ℕ) (told : List Outside) where
-      pub done-here : (last : Moment) (p' : Parts S) → IsDoneAt look device told row p p' → HasCounts (counts_by place.counts) (Up p')
+      pub done-here : (last : Moment) (p' : Parts S) → IsDoneAt look device told row p p' → HasCounts look (counts_by place.counts) (Up p')
           → last.state.course.world ≡ done q k row m.state.course.world → last.devices ≡ devices-with (Up p') → IsAlone look device seen x w m stand last q (counts_by place.counts) (Up p')
       done-here last p' e counts world ds = record {
         memory = λ s o. ap (λ (u : World). u.memory s) world ∙ ap (λ (b : Bool). if b then Some row.table else m.state.course.world.memory s) o;

@@ -38,8 +38,10 @@ use Rattle.jn_stands.specs.Going.{ActsNext, IsStepTo}
 use Rattle.jn_stands.proofs.Made.{carried-length}
 use Rattle.jn_stands.proofs.Posted.{sent-posted, new-posted, none-traced, texts-are, lines-in-two}
 use Rattle.jn_stands.proofs.Core.{NetStands, PartsStand, last-of, step-made}
-use Rattle.jn_stands.proofs.Servers.{server-moved, clients-same, net-moved}
+use Rattle.jn_stands.proofs.Servers.{server-moved, clients-same, net-moved, IsAlone}
 use Rattle.jn_stands.proofs.Served.{chance, devices-with, called, made-by, done-here, stopped-here}
+use Rattle.jn_stands.proofs.Left.{AreQuiet, Leaves, leaves-from, left-alone}
+use Rattle.jn_base.specs.Names.{server_eq}
 
 in-order : (faults own sent more : List Text) → sent ≡ more → faults ++ own ++ [] ++ sent ≡ faults ++ [] ++ (own ++ more)
 in-order faults own sent more e = ap (λ (ts : List Text). ts ++ sent) (append-nil (faults ++ own)) ∙ ap (λ (ts : List Text). faults ++ own ++ ts) e ∙ append_assoc faults own more ∙ ap (λ (ts : List Text). ts ++ (own ++ more)) (sym (append-nil faults))
@@ -56,6 +58,7 @@ module _ {S : Type 0} (look : S → StoreView) (device : S → DeviceState) (see
     pub does : (stop : Option (Pick → ℕ)) → after (step stop) v ≡ ends q k stop row v
     pub may : (stop : Option (Pick → ℕ)) → IsStep (step stop) v
     pub delivers : (stop : Option (Pick → ℕ)) → delivered_by (step stop) w.net.sent ≡ sent
+    pub quiet : (stop : Option (Pick → ℕ)) (s : ServerNo) → server_eq q s ≡ false → AreQuiet v (step stop ∷ []) s
 
   -- where the code stands then
   abbrev pub answered : Slot S → Option Collected → Standing S
@@ -68,11 +71,12 @@ module _ {S : Type 0} (look : S → StoreView) (device : S → DeviceState) (see
     length-is : length v.sent ≡ length w.net.sent
     length-is = let net = stand.net in carried-length w.net.sent m.state.course net.sent
 
-    done-step : (told : List Outside) (p' : Parts S) → IsDoneAt look device told row p p' → HasCounts (counts_by place.counts) (Up p')
+    done-step : (told : List Outside) (p' : Parts S) → IsDoneAt look device told row p p' → HasCounts look (counts_by place.counts) (Up p') → Leaves look v q (step None ∷ []) (Up p') (Up p)
         → IsStepTo look device x m (more ++ drop 1 m.state.tasks) (answered (Up p') of-row) lines
         (lines ++ lines_at (when_of m.state) (texts_of_step q told true) ++ lines_at (when_of m.state) (texts_sent q k w.trace (length w.net.sent) of-row))
-    done-step told p' e counts = step-made look device x w m stand event more next h (λ s. refl) (served q (step None ∷ [])) (acts.acts told None) refl
+    done-step told p' e counts leaves = step-made look device x w m stand event more next h (λ s. refl) (served q (step None ∷ [])) (acts.acts told None) refl
         (devices-with look device seen x w m stand q place at (Up p')) (acts.may None, tt) (called look device seen x w m stand q place at p is reads told None true (Up p') refl e.spent)
+        (left-alone look device seen x w m stand (step None ∷ []) last refl q place at (Up p') alone (acts.quiet None) (leaves-from look v q (step None ∷ []) place.slot (Up p) (Up p') is leaves))
         (answered (Up p') of-row) parts lines _ told-are
       where
         h : Chance
@@ -81,10 +85,13 @@ module _ {S : Type 0} (look : S → StoreView) (device : S → DeviceState) (see
         last : Moment
         last = last-of look device x w m stand h (served q (step None ∷ [])) more (devices-with look device seen x w m stand q place at (Up p'))
 
+        alone : IsAlone look device seen x w m stand last q (counts_by place.counts) (Up p')
+        alone = done-here look device seen x w m stand q place at p is reads row k told last p' e counts (acts.does None) refl
+
         parts : PartsStand look device x (answered (Up p') of-row) last
         parts = record {
           trace = stand.trace;
-          servers = server-moved look device seen x w m stand last q place (Up p') at (done-here look device seen x w m stand q place at p is reads row k told last p' e counts (acts.does None) refl);
+          servers = server-moved look device seen x w m stand last q place (Up p') at alone;
           clients = clients-same look device seen x w m stand last.state.course.world (ap (λ (u : World). u.clients) (acts.does None));
           net = subst (λ (ms : List Posted). NetStands (record w.net { sent = ms ++ posted_by (Server q) row.messages }) (λ T. has_line T (lines_of q k row.notes) || w.named T) (w.commits + length (commits_in (lines_of q k row.notes))) (go (step None) m.state.course))
               (acts.delivers None) (net-moved look device seen x w m stand (step None) (posted_by (Server q) row.messages) (lines_of q k row.notes) (record {
@@ -107,6 +114,7 @@ module _ {S : Type 0} (look : S → StoreView) (device : S → DeviceState) (see
         (lines ++ lines_at (when_of m.state) (texts_of_step q told false) ++ lines_at (when_of m.state) (texts_sent q k w.trace (length w.net.sent) None))
     stopped-step told s e = step-made look device x w m stand event more next h (λ r. refl) (served q (step stop ∷ [])) (acts.acts told stop) refl
         (devices-with look device seen x w m stand q place at (Down s)) (acts.may stop, tt) (called look device seen x w m stand q place at p is reads told stop false (Down s) refl e.spent)
+        (left-alone look device seen x w m stand (step stop ∷ []) last refl q place at (Down s) alone (acts.quiet stop) tt)
         (answered (Down s) None) parts lines _ told-are
       where
         stop : Option (Pick → ℕ)
@@ -118,10 +126,13 @@ module _ {S : Type 0} (look : S → StoreView) (device : S → DeviceState) (see
         last : Moment
         last = last-of look device x w m stand h (served q (step stop ∷ [])) more (devices-with look device seen x w m stand q place at (Down s))
 
+        alone : IsAlone look device seen x w m stand last q (counts_by place.counts) (Down s)
+        alone = stopped-here look device seen x w m stand q place at p is reads row k told last s e (acts.does stop) refl
+
         parts : PartsStand look device x (answered (Down s) None) last
         parts = record {
           trace = stand.trace;
-          servers = server-moved look device seen x w m stand last q place (Down s) at (stopped-here look device seen x w m stand q place at p is reads row k told last s e (acts.does stop) refl);
+          servers = server-moved look device seen x w m stand last q place (Down s) at alone;
           clients = clients-same look device seen x w m stand last.state.course.world (ap (λ (u : World). u.clients) (acts.does stop));
           net = subst (λ (ms : List Posted). NetStands (record w.net { sent = ms ++ [] }) w.named (w.commits + 0) (go (step stop) m.state.course))
               (acts.delivers stop) (net-moved look device seen x w m stand (step stop) [] (says.Stopped q ∷ []) (record {
@@ -140,13 +151,14 @@ module _ {S : Type 0} (look : S → StoreView) (device : S → DeviceState) (see
             ∙ ap (λ (ts : List Text). ts ++ []) (append-nil (outside_texts (Calls q) told ++ says.Stopped q ∷ []))))
 
     -- done or stopped
-    pub row-step : (answer : Option Collected) (slot : Slot S) (told : List Line) → IsStepOf look device q (counts_by place.counts) (when_of m.state) row (Up p) (is_some answer) slot [] told → Sends row answer → HasCounts (counts_by place.counts) slot
+    pub row-step : (answer : Option Collected) (slot : Slot S) (told : List Line) → IsStepOf look device q (counts_by place.counts) (when_of m.state) row (Up p) (is_some answer) slot [] told → Sends row answer → HasCounts look (counts_by place.counts) slot
+        → Leaves look v q (step None ∷ []) slot (Up p)
         → IsStepTo look device x m (more ++ drop 1 m.state.tasks) (answered slot answer) lines (lines ++ told ++ lines_at (when_of m.state) (texts_sent q k w.trace (length w.net.sent) answer))
-    row-step (Some out) (Up p') told s sends counts = subst (λ (ls : List Line). IsStepTo look device x m (more ++ drop 1 m.state.tasks) (answered (Up p') (Some out)) lines (lines ++ ls ++ lines_at (when_of m.state) (texts_sent q k w.trace (length w.net.sent) (Some out)))) (sym s.lines_are)
+    row-step (Some out) (Up p') told s sends counts leaves = subst (λ (ls : List Line). IsStepTo look device x m (more ++ drop 1 m.state.tasks) (answered (Up p') (Some out)) lines (lines ++ ls ++ lines_at (when_of m.state) (texts_sent q k w.trace (length w.net.sent) (Some out)))) (sym s.lines_are)
         (subst (λ (o : Option Collected). IsStepTo look device x m (more ++ drop 1 m.state.tasks) (answered (Up p') o) lines (lines ++ lines_at (when_of m.state) (texts_of_step q s.told true) ++ lines_at (when_of m.state) (texts_sent q k w.trace (length w.net.sent) o)))
-        (ap (λ (c : Collected). Some c) (sym sends)) (done-step s.told p' s.ends counts))
-    row-step (Some out) (Down s') told s sends counts = absurd s.ends
-    row-step (Some out) Gone told s sends counts = absurd s.ends
-    row-step None (Up p') told s sends counts = absurd s.ends
-    row-step None (Down s') told s sends counts = subst (λ (ls : List Line). IsStepTo look device x m (more ++ drop 1 m.state.tasks) (answered (Down s') None) lines (lines ++ ls ++ lines_at (when_of m.state) [])) (sym s.lines_are) (stopped-step s.told s' s.ends)
-    row-step None Gone told s sends counts = absurd s.ends
+        (ap (λ (c : Collected). Some c) (sym sends)) (done-step s.told p' s.ends counts leaves))
+    row-step (Some out) (Down s') told s sends counts leaves = absurd s.ends
+    row-step (Some out) Gone told s sends counts leaves = absurd s.ends
+    row-step None (Up p') told s sends counts leaves = absurd s.ends
+    row-step None (Down s') told s sends counts leaves = subst (λ (ls : List Line). IsStepTo look device x m (more ++ drop 1 m.state.tasks) (answered (Down s') None) lines (lines ++ ls ++ lines_at (when_of m.state) [])) (sym s.lines_are) (stopped-step s.told s' s.ends)
+    row-step None Gone told s sends counts leaves = absurd s.ends

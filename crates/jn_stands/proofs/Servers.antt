@@ -1,5 +1,5 @@
 -- Where the code's parts stand after a step of the system.
-use Rattle.std.proofs.Common.{◌≡◌, ◌⊎◌, inl, inr, ◌≢◌, ℕ, suc, ◌+◌, Bool, true, false, ◌<◌, List, ◌++◌, length, slice_get, slice_set, Option, Some, sym, ◌∙◌, ap, subst, arith}
+use Rattle.std.proofs.Common.{◌≡◌, ◌⊎◌, inl, inr, ◌≢◌, ℕ, suc, ◌+◌, Bool, true, false, ◌<◌, List, ◌++◌, length, slice_get, slice_set, Option, Some, sym, ◌∙◌, ap, subst, arith, is_some, true≢false}
 use Rattle.std.specs.Prelude.{◌||◌}
 use Rattle.std.proofs.lemmas.List.{length-set}
 use Rattle.jn_base.specs.declared.names.ServerNo.{ServerNo}
@@ -20,11 +20,15 @@ use Rattle.jn_report.specs.declared.line.Text.{Text}
 use Rattle.jn_rests.specs.Waiting.{sent_of, are_new, delivered_by}
 use Rattle.jn_rests.proofs.Numbers.{carries-step}
 use Rattle.jn_rows.specs.Client.{ClientTable}
-use Rattle.jn_rows.specs.Stable.{StableState, Pick}
+use Rattle.jn_rows.specs.Stable.{StableState, Pick, stable}
 use Rattle.jn_system_settling.specs.Settling.Course.{go}
+use Rattle.jn_server.specs.Seen.{view_with}
+use Rattle.jn_server.specs.Standing.{standing_pages}
+use Rattle.jn_storage.specs.Calls.{state}
 use Rattle.jn_store.specs.Pairs.{pairs_view}
 use Rattle.jn_store.specs.Store.{StoreView}
 use Rattle.jn_written.specs.Chances.{Setup}
+use Rattle.jn_written.specs.Rubbish.{CountsAll}
 use Rattle.jn_written.specs.Runs.{Moment}
 use Rattle.jn_stands.specs.Stands.{Standing, StandsAt, PlaceStands, Stands}
 use Rattle.jn_stands.specs.Pages.{HasCounts}
@@ -47,13 +51,14 @@ module _ {S : Type 0} (look : S → StoreView) (device : S → DeviceState) (see
     pub found : (s : ServerNo) → server_eq q s ≡ false → last.state.course.world.found s ≡ m.state.course.world.found s
     pub devices : (s : ServerNo) → server_eq q s ≡ false → last.devices s ≡ m.devices s
     pub here : StandsAt look device g slot (last.state.course.world.memory q) (last.state.course.world.found q) (last.devices q)
-    pub counts : HasCounts g slot
+    pub counts : HasCounts look g slot
 
   moved : (last : Moment) (n : ℕ) (p : Place S) → last.state.course.world.memory (record { 0 = n }) ≡ m.state.course.world.memory (record { 0 = n })
       → last.state.course.world.found (record { 0 = n }) ≡ m.state.course.world.found (record { 0 = n }) → last.devices (record { 0 = n }) ≡ m.devices (record { 0 = n })
       → PlaceStands look device x m n p → PlaceStands look device x last n p
   moved last n p a b c old = record {
     counts = old.counts;
+    pages = old.pages;
     stands = subst (λ (o : Option Memory). StandsAt look device (counts_by p.counts) p.slot o (last.state.course.world.found (record { 0 = n })) (last.devices (record { 0 = n }))) (sym a)
         (subst (λ (f : Pick → StableState). StandsAt look device (counts_by p.counts) p.slot (m.state.course.world.memory (record { 0 = n })) f (last.devices (record { 0 = n }))) (sym b)
         (subst (λ (d : DeviceState). StandsAt look device (counts_by p.counts) p.slot (m.state.course.world.memory (record { 0 = n })) (m.state.course.world.found (record { 0 = n })) d) (sym c) old.stands));
@@ -63,17 +68,31 @@ module _ {S : Type 0} (look : S → StoreView) (device : S → DeviceState) (see
       → m.state.course.world.found q c ≡ found_on (x.counts q) (pairs_view (m.devices q)) c → last.state.course.world.found q c ≡ found_on (x.counts q) (pairs_view (last.devices q)) c
   found-moved last q c a b old = ap (λ (f : Pick → StableState). f c) a ∙ old ∙ ap (λ (d : DeviceState). found_on (x.counts q) (pairs_view d) c) (sym b)
 
+  counted-moved : (last : Moment) (q : ServerNo) → last.state.course.world.memory q ≡ m.state.course.world.memory q → last.state.course.world.found q ≡ m.state.course.world.found q → last.devices q ≡ m.devices q
+      → q.0 < x.servers → is_some (last.state.course.world.memory q) ≡ true → CountsAll (x.counts q) (stable (last.state.course.world.found q)) (standing_pages (pairs_view (last.devices q)))
+  counted-moved last q a b c there up = subst (λ (d : DeviceState). CountsAll (x.counts q) (stable (last.state.course.world.found q)) (standing_pages (pairs_view d))) (sym c)
+      (subst (λ (f : Pick → StableState). CountsAll (x.counts q) (stable f) (standing_pages (pairs_view (m.devices q)))) (sym b) (stand.counted q there (ap (λ (o : Option Memory). is_some o) (sym a) ∙ up)))
+
   pub servers-same : (last : Moment) → AreSame last → ServersStand look device x w.places last
   servers-same last same = record {
     servers = stand.servers;
     places = λ n p e. moved last n p (same.memory (record { 0 = n })) (same.found (record { 0 = n })) (same.devices (record { 0 = n })) (stand.places n p e);
     found = λ q c l. found-moved last q c (same.found q) (same.devices q) (stand.found q c l);
+    counted = λ q l up. counted-moved last q (same.memory q) (same.found q) (same.devices q) l up;
   }
 
-  found-here : (g : Counts) (slot : Slot S) (o : Option Memory) (f : Pick → StableState) (d : DeviceState) → StandsAt look device g slot o f d → HasCounts g slot → f ≡ found_on g (pairs_view d)
-  found-here g (Up p) o f d h k = h.1 ∙ ap (λ (n : Counts). found_on n (look p.storage.0)) k ∙ ap (found_on g) (seen p.storage.0) ∙ ap (λ (e : DeviceState). found_on g (pairs_view e)) (sym h.2)
+  found-here : (g : Counts) (slot : Slot S) (o : Option Memory) (f : Pick → StableState) (d : DeviceState) → StandsAt look device g slot o f d → HasCounts look g slot → f ≡ found_on g (pairs_view d)
+  found-here g (Up p) o f d h k = h.1 ∙ ap (λ (n : Counts). found_on n (look p.storage.0)) k.0 ∙ ap (found_on g) (seen p.storage.0) ∙ ap (λ (e : DeviceState). found_on g (pairs_view e)) (sym h.2)
   found-here g (Down s) o f d h k = h.1 ∙ ap (found_on g) (seen s) ∙ ap (λ (e : DeviceState). found_on g (pairs_view e)) (sym h.2)
   found-here g Gone o f d h k = absurd h
+
+  -- no record is there that nothing names
+  counted-here : (g : Counts) (slot : Slot S) (o : Option Memory) (f : Pick → StableState) (d : DeviceState) → StandsAt look device g slot o f d → HasCounts look g slot → is_some o ≡ true
+      → CountsAll g (stable f) (standing_pages (pairs_view d))
+  counted-here g (Up p) o f d h k up = subst (λ (found : Pick → StableState). CountsAll g (stable found) (standing_pages (pairs_view d))) (sym h.1)
+      (subst (λ (v : StoreView). CountsAll g (state (view_with look p).storage) (standing_pages v)) (seen p.storage.0 ∙ ap (λ (e : DeviceState). pairs_view e) (sym h.2)) k.2)
+  counted-here g (Down s) o f d h k up = absurd (true≢false (sym up ∙ ap (λ (o : Option Memory). is_some o) h.0))
+  counted-here g Gone o f d h k up = absurd h
 
   other-server : (q : ServerNo) (n : ℕ) → (q.0 ≡ n → ⊥) → server_eq q (record { 0 = n }) ≡ false
   other-server q n d = by (server_tells q (record { 0 = n }))
@@ -86,9 +105,10 @@ module _ {S : Type 0} (look : S → StoreView) (device : S → DeviceState) (see
       → ServersStand look device x (slice_set w.places q.0 (record p { slot = slot })) last
   server-moved last q p slot at alone = record {
     servers = length-set w.places q.0 (record p { slot = slot }) ∙ stand.servers;
-    places = each-set (PlaceStands look device x last) w.places q.0 (record p { slot = slot }) (record { counts = counts-are; stands = alone.here })
+    places = each-set (PlaceStands look device x last) w.places q.0 (record p { slot = slot }) (record { counts = counts-are; pages = alone.counts; stands = alone.here })
         (λ n p other e. moved last n p (alone.memory (record { 0 = n }) (other-server q n other)) (alone.found (record { 0 = n }) (other-server q n other)) (alone.devices (record { 0 = n }) (other-server q n other)) (stand.places n p e));
     found = λ s c l. found-at s c l (server_tells q s);
+    counted = λ s l up. counted-at s l up (server_tells q s);
   }
     where
       counts-are : x.counts q ≡ counts_by p.counts
@@ -99,6 +119,13 @@ module _ {S : Type 0} (look : S → StoreView) (device : S → DeviceState) (see
       found-at s c l (inl t) = subst (λ (r : ServerNo). last.state.course.world.found r c ≡ found_on (x.counts r) (pairs_view (last.devices r)) c) t.1
           (ap (λ (f : Pick → StableState). f c) (found-here (counts_by p.counts) slot (last.state.course.world.memory q) (last.state.course.world.found q) (last.devices q) alone.here alone.counts)
           ∙ ap (λ (g : Counts). found_on g (pairs_view (last.devices q)) c) (sym counts-are))
+
+      counted-at : (s : ServerNo) → s.0 < x.servers → is_some (last.state.course.world.memory s) ≡ true → ((server_eq q s ≡ true) × (q ≡ s)) ⊎ ((server_eq q s ≡ false) × (q ≢ s))
+          → CountsAll (x.counts s) (stable (last.state.course.world.found s)) (standing_pages (pairs_view (last.devices s)))
+      counted-at s l up (inr t) = counted-moved last s (alone.memory s t.0) (alone.found s t.0) (alone.devices s t.0) l up
+      counted-at s l up (inl t) = subst (λ (r : ServerNo). is_some (last.state.course.world.memory r) ≡ true → CountsAll (x.counts r) (stable (last.state.course.world.found r)) (standing_pages (pairs_view (last.devices r)))) t.1
+          (λ is. subst (λ (g : Counts). CountsAll g (stable (last.state.course.world.found q)) (standing_pages (pairs_view (last.devices q)))) (sym counts-are)
+          (counted-here (counts_by p.counts) slot (last.state.course.world.memory q) (last.state.course.world.found q) (last.devices q) alone.here alone.counts is)) up
 
   -- ---- clients
 

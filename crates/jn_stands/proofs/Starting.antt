@@ -1,6 +1,6 @@
 -- Where a run starts, and what it leaves at its end.
-use Rattle.std.proofs.Common.{◌≡◌, ◌<◌, ℕ, Bool, true, false, List, Some, None, refl, sym, ◌∙◌, ap, subst, arith}
-use Rattle.std.specs.Prelude.{nat_lt, if◌then◌else◌, slice_get}
+use Rattle.std.proofs.Common.{◌≡◌, ◌<◌, ℕ, Bool, true, false, List, Some, None, refl, sym, ◌∙◌, ap, subst, arith, true≢false, Option}
+use Rattle.std.specs.Prelude.{nat_lt, if◌then◌else◌, slice_get, is_some}
 use Rattle.std.proofs.Math.Path.{fun_ext}
 use Rattle.std.proofs.lemmas.Bool.Decides.{nat_tests}
 use Rattle.std.proofs.lemmas.Option.{slice_get_within}
@@ -26,6 +26,7 @@ use Rattle.jn_written.specs.Runs.{Moment}
 use Rattle.jn_written.specs.Whole.{closed_world, before}
 use Rattle.jn_stands.specs.Stands.{Standing, StandsAt, PlaceStands, Stands}
 use Rattle.jn_stands.specs.Starting.{IsFirst, IsStoreOf}
+use Rattle.jn_stands.specs.Pages.{HasCounts}
 
 closed-within : (n : ℕ) (files : AllFiles) (epochs : ServerNo → ℕ) → Within n (closed_world n files epochs)
 closed-within n files epochs = let o = opening-within n files epochs in record {
@@ -55,6 +56,7 @@ module _ {S : Type 0} (look : S → StoreView) (device : S → DeviceState) (see
     history = refl;
     within = closed-within x.servers files epochs;
     found = found;
+    counted = λ q l up. absurd (true≢false (sym up ∙ ap (λ (o : Option Memory). is_some o) (down q.0 l)));
   }
     where
       down : (n : ℕ) → n < x.servers → (if nat_lt n x.servers then None else Some (new_memory (record { 0 = n }) (epochs (record { 0 = n })))) ≡ None
@@ -67,6 +69,7 @@ module _ {S : Type 0} (look : S → StoreView) (device : S → DeviceState) (see
           → PlaceStands look device x (record { state = before x schedule files epochs; devices = images }) n p
       at n p less counts s slot image = record {
         counts = counts;
+        pages = subst (λ (a : Slot S). HasCounts look (counts_by p.counts) a) (sym slot) tt;
         stands = subst (λ (a : Slot S). StandsAt look device (counts_by p.counts) a ((closed_world x.servers files epochs).memory (record { 0 = n })) ((closed_world x.servers files epochs).found (record { 0 = n })) (images (record { 0 = n }))) (sym slot) (
           down n less,
           fun_ext (λ c. found (record { 0 = n }) c less ∙ ap (λ (g : Counts). found_on g (pairs_view (images (record { 0 = n }))) c) counts

@@ -37,6 +37,9 @@ use Rattle.jn_stands.proofs.Servers.{IsAlone, server-moved}
 use Rattle.jn_stands.proofs.Posted.{lines-in-two}
 use Rattle.jn_stands.proofs.Moving.{same-server, carries-on, Does, led-to, net-quiet, devices-now, device-here, device-there, moved-step}
 use Rattle.jn_stands.proofs.Restarting.{recovery, here, trying}
+use Rattle.jn_stands.proofs.Left.{left-alone}
+use Rattle.jn_stands.proofs.Core.{ServersStand}
+use Rattle.jn_written.specs.Rubbish.{AreLeft}
 
 -- a device that has lost its power is as without
 dark : (told : List Outside) (d e : DeviceState) → IsTried told false d e → e ≡ powered_off e
@@ -134,6 +137,7 @@ module _ {S : Type 0} (look : S → StoreView) (device : S → DeviceState) (see
               (subst (λ (d : DeviceState). IsTried told false d (device t)) (sym there.2) stopped.tried) (device-here look device x w m stand seen q place at (device t) ∙ dark told (device s) (device t) stopped.tried));
           others = λ r o. device-there look device x w m stand seen q place at (device t) r o;
         })
+        (λ r o n. refl) tt
         lines lines' (lines-are ∙ lines-in-two (when_of m.state) lines (texts_of_step q told true) (says.Stopped q ∷ [])
         ∙ ap (λ (ts : List Text). lines ++ lines_at (when_of m.state) (ts ++ says.Stopped q ∷ [])) (append-nil (map (λ (fault : Outside). says.Outside q fault) told))
         ∙ ap (λ (ts : List Text). lines ++ lines_at (when_of m.state) ts) (sym (append-nil (map (λ (fault : Outside). says.Outside q fault) told ++ says.Stopped q ∷ []))))
@@ -186,6 +190,7 @@ module _ {S : Type 0} (look : S → StoreView) (device : S → DeviceState) (see
         (net-quiet look device x w m stand (go_on (Narrow q reads ∷ []) m.state.course) [] (carries-on w.net m.state.course (Narrow q reads) refl (ap (λ (u : World). u.sent) (after-narrow reads)) stand.net)
         (ap (λ (u : World). u.lines) (after-narrow reads) ∙ sym (append-nil world.lines)) refl)
         (ap (λ (u : World). u.lines) (after-narrow reads) ∙ sym (append-nil world.lines)) (ap (λ (u : World). u.sent) (after-narrow reads)) (tt, tt) used-device
+        (λ r o n. refl) tt
         lines lines' (lines-are ∙ lines-in-two (when_of m.state) lines (texts_of_step q told true) (says.RefusedEvent EpochsUsedUp ∷ []))
 
     -- at the start or the end the run can't go on
@@ -199,12 +204,20 @@ module _ {S : Type 0} (look : S → StoreView) (device : S → DeviceState) (see
             deed_is = does.deed_is;
             begun_is = does.begun_is;
             course = refl;
-            befalls = record { rubbish = λ r. refl; steps = (tt, tt); used = used-device; found = found-after };
+            befalls = record { rubbish = λ r. refl; steps = (tt, tt); used = used-device; found = found-after; left = left-after; counted = servers-after.counted };
           }) refl;
       stage = refl;
       told = record { new = []; here = sym (append-nil lines); there = sym (append-nil m.state.lines) };
     }
       where
+        led : Moment
+        led = led-to x m used-chance (record (given_up used-chance q) { cuts = true }) (devices-now look device x w m stand seen q place at (device t))
+
+        left-after : AreLeft x (Narrow q reads ∷ []) world m.devices (devices-now look device x w m stand seen q place at (device t))
+        left-after = left-alone look device seen x w m stand (Narrow q reads ∷ []) led refl q place at (Down t) (used-alone led refl refl) (λ r o n. refl) tt
+
+        servers-after : ServersStand look device x (slice_set w.places q.0 (record place { slot = Down t })) led
+        servers-after = server-moved look device seen x w m stand led q place (Down t) at (used-alone led refl refl)
+
         found-after : AreFound x (after (Narrow q reads) world) (devices-now look device x w m stand seen q place at (device t))
-        found-after = let servers = server-moved look device seen x w m stand (led-to x m used-chance (record (given_up used-chance q) { cuts = true }) (devices-now look device x w m stand seen q place at (device t))) q place (Down t) at
-            (used-alone (led-to x m used-chance (record (given_up used-chance q) { cuts = true }) (devices-now look device x w m stand seen q place at (device t))) refl refl) in servers.found
+        found-after = servers-after.found

@@ -1,5 +1,5 @@
 -- A server that is up takes a message.
-use Rattle.std.proofs.Common.{◌≡◌, ℕ, zero, suc, List, [], ◌∷◌, ◌++◌, length, slice_get, slice_set, drop, Option, Some, None, refl, ◌∙◌, ap}
+use Rattle.std.proofs.Common.{◌≡◌, ℕ, zero, suc, List, [], ◌∷◌, ◌++◌, length, slice_get, slice_set, drop, Option, Some, None, refl, ◌∙◌, ap, Bool, false, sym}
 use Rattle.jn_base.specs.declared.names.ServerNo.{ServerNo}
 use Rattle.jn_base.specs.declared.names.Party.{Party}
 use Rattle.jn_base.specs.declared.names.Party.TheVariants.{Server}
@@ -11,10 +11,10 @@ use Rattle.jn_net.specs.Carried.{with_delivered}
 use Rattle.jn_place.specs.declared.place.Place.{Place}
 use Rattle.jn_place.specs.declared.place.Slot.{Slot}
 use Rattle.jn_place.specs.declared.place.Slot.TheVariants.{Up, Down, Gone}
-use Rattle.jn_place.specs.Exact.{Took}
+use Rattle.jn_place.specs.Exact.{Took, WhereUp, TakeLeaves}
 use Rattle.jn_system.specs.WholeSystem.Servers.{Room, server_row}
-use Rattle.jn_system.specs.WholeSystem.Steps.{IsStep, after, ends, at_memory, handed}
-use Rattle.jn_system.specs.WholeSystem.World.{Memory}
+use Rattle.jn_system.specs.WholeSystem.Steps.{IsStep, after, ends, at_memory, handed, Deliver}
+use Rattle.jn_system.specs.WholeSystem.World.{Memory, World}
 use Rattle.jn_recovery.specs.Loading.{counts_by}
 use Rattle.jn_report.specs.declared.line.Line.{Line}
 use Rattle.jn_rests.specs.Waiting.{sent_of, delivered_by}
@@ -34,8 +34,12 @@ use Rattle.jn_written.specs.Tasks.{Task, when_of}
 use Rattle.jn_stands.specs.Stands.{Standing, Stands, texts_sent, with_answer}
 use Rattle.jn_stands.specs.Pages.{HasCounts, ReadsPages}
 use Rattle.jn_stands.specs.Going.{ActsNext, IsStepTo}
-use Rattle.jn_stands.proofs.Served.{chance, room-is, here}
+use Rattle.jn_stands.proofs.Served.{chance, room-is, here, same-server}
 use Rattle.jn_stands.proofs.ServedSteps.{IsRowStep, row-step}
+use Rattle.jn_stands.proofs.Left.{AreQuiet, counted, leaves-by}
+use Rattle.jn_written.specs.Rubbish.{left_by_row, left_by_message, left_by_sent, left_by_step}
+use Rattle.jn_base.specs.Names.{server_eq}
+use Rattle.std.specs.Prelude.{if◌then◌else◌}
 
 pub sent-there : (ms : List Posted) (k : ℕ) (one : Posted) → slice_get ms k ≡ Some one → slice_get (sent_of ms) k ≡ Some (one.to, one.message)
 sent-there [] k one e = absurd (cc e)
@@ -55,7 +59,7 @@ module _ {S : Type 0} (look : S → StoreView) (device : S → DeviceState) (see
     up-step : (p : Parts S) (is : place.slot ≡ Up p)
         → IsRowStep look device seen x w m stand q place at p is reads (server_row (memory_of (view_with look p)) (state (view_with look p).storage) (room_of (view_with look p).storage) one.message)
         (Some k) (events.Deliver k) (handing k (room_of (view_with look p).storage)) (with_delivered k w.net.sent)
-    up-step p is = record { acts = acts; does = does; may = may; delivers = delivers }
+    up-step p is = record { acts = acts; does = does; may = may; delivers = delivers; quiet = quiet }
       where
         its : Room
         its = room_of (view_with look p).storage
@@ -85,19 +89,39 @@ module _ {S : Type 0} (look : S → StoreView) (device : S → DeviceState) (see
         delivers None = refl
         delivers (Some made) = refl
 
+        quiet : (stop : Option (Pick → ℕ)) (s : ServerNo) → server_eq q s ≡ false → AreQuiet m.state.course.world (handing k its stop ∷ []) s
+        quiet None s e n = ap (λ (o : Option Sent). left_by_sent m.state.course.world s its o n) (is-sent (Server q) to)
+            ∙ ap (λ (b : Bool). if b then left_by_message (stable (m.state.course.world.found s)) (m.state.course.world.memory s) its one.message n else n) e
+        quiet (Some made) s e n = refl
+
+    -- the records that the row leaves are those that the machine's step leaves
+    takes-leave : (p : Parts S) → place.slot ≡ Up p → (n : ℕ) → left_by_step m.state.course.world q (Deliver k (room_of (view_with look p).storage)) n
+        ≡ left_by_row (state (view_with look p).storage) (server_row (memory_of (view_with look p)) (state (view_with look p).storage) (room_of (view_with look p).storage) one.message) n
+    takes-leave p is n = ap (λ (o : Option Sent). left_by_sent v q its o n) (is-sent (Server q) to)
+        ∙ ap (λ (b : Bool). if b then left_by_message (stable (v.found q)) (v.memory q) its one.message n else n) (same-server q)
+        ∙ ap (λ (o : Option Memory). left_by_message (stable (v.found q)) o its one.message n) (let stands = here look device seen x w m stand q place at p is reads in stands.0)
+        ∙ ap (λ (f : Pick → StableState). left_by_row (stable f) (server_row (memory_of (view_with look p)) (stable f) its one.message) n) (let stands = here look device seen x w m stand q place at p is reads in stands.1)
+      where
+        v : World
+        v = m.state.course.world
+
+        its : Room
+        its = room_of (view_with look p).storage
+
     -- It is done, or the server is stopped.
     pub took-step : (more : List Task) → ActsNext x m (events.Deliver k) more → (answer : Option Collected) (slot : Slot S) (told : List Line) → Took look device q (counts_by place.counts) (when_of m.state) one.message place.slot answer slot [] told
-        → HasCounts (counts_by place.counts) slot → (lines : List Line)
+        → HasCounts look (counts_by place.counts) slot → WhereUp look (TakeLeaves one.message) place.slot slot → (lines : List Line)
         → IsStepTo look device x m (more ++ drop 1 m.state.tasks)
         (with_answer q (Some k) answer (record w { places = slice_set w.places q.0 (record place { slot = slot }); net = record w.net { sent = with_delivered k w.net.sent } }))
         lines (lines ++ told ++ lines_at (when_of m.state) (texts_sent q (Some k) w.trace (length w.net.sent) answer))
-    took-step more next answer slot told took counts lines = by place.slot refl took
+    took-step more next answer slot told took counts leaves lines = by place.slot refl took leaves
       where
-        by : (before : Slot S) → place.slot ≡ before → Took look device q (counts_by place.counts) (when_of m.state) one.message before answer slot [] told
+        by : (before : Slot S) → place.slot ≡ before → Took look device q (counts_by place.counts) (when_of m.state) one.message before answer slot [] told → WhereUp look (TakeLeaves one.message) before slot
             → IsStepTo look device x m (more ++ drop 1 m.state.tasks)
             (with_answer q (Some k) answer (record w { places = slice_set w.places q.0 (record place { slot = slot }); net = record w.net { sent = with_delivered k w.net.sent } }))
             lines (lines ++ told ++ lines_at (when_of m.state) (texts_sent q (Some k) w.trace (length w.net.sent) answer))
-        by (Up p) is t = row-step look device seen x w m stand q place at p is reads (server_row (memory_of (view_with look p)) (state (view_with look p).storage) (room_of (view_with look p).storage) one.message)
+        by (Up p) is t l = row-step look device seen x w m stand q place at p is reads (server_row (memory_of (view_with look p)) (state (view_with look p).storage) (room_of (view_with look p).storage) one.message)
             (Some k) (events.Deliver k) (handing k (room_of (view_with look p).storage)) (with_delivered k w.net.sent) (up-step p is) more next lines answer slot told t.0 t.1 counts
-        by (Down s) is t = absurd t
-        by Gone is t = absurd t
+            (leaves-by look m.state.course.world q (Deliver k (room_of (view_with look p).storage) ∷ []) (TakeLeaves one.message) p (λ b h. h ∙ sym (takes-leave p is (counted look p))) slot l)
+        by (Down s) is t l = absurd t
+        by Gone is t l = absurd t

@@ -1,5 +1,5 @@
 -- Background steps of servers that are up.
-use Rattle.std.proofs.Common.{◌≡◌, ℕ, Bool, true, false, List, [], ◌∷◌, ◌++◌, length, slice_get, slice_set, drop, Option, Some, None, is_some, refl, sym, ◌∙◌, ap, subst}
+use Rattle.std.proofs.Common.{◌≡◌, ℕ, Bool, true, false, List, [], ◌∷◌, ◌++◌, length, slice_get, slice_set, drop, Option, Some, None, is_some, refl, sym, ◌∙◌, ap, subst, ◌+◌, ◌-◌, arith}
 use Rattle.std.specs.Prelude.{◌||◌, if◌then◌else◌}
 use Rattle.jn_base.specs.declared.names.ServerNo.{ServerNo}
 use Rattle.jn_base.specs.declared.device.Outside.{Outside}
@@ -8,18 +8,18 @@ use Rattle.jn_msgs.specs.Collected.{Collected}
 use Rattle.jn_place.specs.declared.place.Place.{Place}
 use Rattle.jn_place.specs.declared.place.Slot.{Slot}
 use Rattle.jn_place.specs.declared.place.Slot.TheVariants.{Up, Down, Gone}
-use Rattle.jn_place.specs.Exact.{has_work_at, work_of, WorkedBy}
-use Rattle.jn_system.specs.WholeSystem.Servers.{Room, server_step}
-use Rattle.jn_system.specs.WholeSystem.Steps.{IsStep, after, ends, work, works}
+use Rattle.jn_place.specs.Exact.{has_work_at, work_of, WorkedBy, WhereUp, WorkLeaves}
+use Rattle.jn_system.specs.WholeSystem.Servers.{Room, server_step, storage_of, of_step, of_worker}
+use Rattle.jn_system.specs.WholeSystem.Steps.{IsStep, after, ends, work, works, Work}
 use Rattle.jn_system.specs.WholeSystem.World.{World, Memory}
 use Rattle.jn_recovery.specs.Loading.{counts_by}
 use Rattle.jn_report.specs.declared.line.Line.{Line}
 use Rattle.jn_rests.specs.Waiting.{delivered_by}
 use Rattle.jn_rests.proofs.BusyServers.{goes, erases, nothing as none-to-do}
-use Rattle.jn_rows.specs.Outcomes.{RowOutcome}
+use Rattle.jn_rows.specs.Outcomes.{RowOutcome, quiet as quiet_row}
 use Rattle.jn_rows.specs.Stable.{StableState, Change, Pick, stable}
 use Rattle.jn_schedule.specs.declared.Event.TheVariants as events
-use Rattle.jn_server.specs.Seen.{Parts, view_with, memory_of, room_of}
+use Rattle.jn_server.specs.Seen.{Parts, view_with, memory_of, room_of, ServerView}
 use Rattle.jn_system_settling.specs.Settling.Settle.{working, is_busy as has_going}
 use Rattle.jn_storage.specs.Calls.{state}
 use Rattle.jn_store.specs.Pairs.{pairs_view}
@@ -33,10 +33,17 @@ use Rattle.jn_written.specs.Tasks.{Task, when_of}
 use Rattle.jn_stands.specs.Stands.{Standing, StandsAt, Stands, texts_sent, with_answer}
 use Rattle.jn_stands.specs.Pages.{HasCounts, ReadsPages}
 use Rattle.jn_stands.specs.Going.{ActsNext, IsStepTo}
-use Rattle.jn_stands.proofs.Served.{chance, room-is, rubbish-is, here}
+use Rattle.jn_stands.proofs.Served.{chance, room-is, rubbish-is, here, same-server}
 use Rattle.jn_stands.proofs.ServedSteps.{IsRowStep, row-step}
 use Rattle.jn_stands.proofs.Plain.{no-chance, nothing-step}
 use Rattle.jn_stands.proofs.Losing.{down-is}
+use Rattle.jn_stands.proofs.Left.{AreQuiet, Leaves, counted, leaves-by}
+use Rattle.jn_written.specs.Rubbish.{left_by_changes, left_by_work, left_at_work, left_by_step}
+use Rattle.jn_records.specs.declared.intention.Intention.{Intention}
+use Rattle.jn_rows.specs.declared.worker.Work.{Work as WorkEntry}
+use Rattle.jn_rows.specs.Worker.{going_work, going_row, carried_row, intentions_of}
+use Rattle.jn_base.specs.Names.{server_eq}
+use Rattle.jn_server.specs.Handling.{left_over, StepLeaves}
 
 -- a server has a background step exactly where a work of its goes or a rubbish record is left
 busy-is : (a : Memory) (y : StableState) (its : Room) → is_some (server_step a y its) ≡ (has_going y (Some a) || its.rubbish)
@@ -49,6 +56,31 @@ busy-is a y its = by (server_step a y its) refl
     by : (o : Option (RowOutcome Memory)) → server_step a y its ≡ o → is_some o ≡ (has_going y (Some a) || its.rubbish)
     by (Some row) e = with-row row e row.changes refl
     by None e = let both = none-to-do a y its e in ap (λ (b : Bool). false || b) (sym both.1) ∙ ap (λ (b : Bool). b || its.rubbish) (sym both.0)
+
+-- a background step makes one change at most
+one-change : (a : Memory) (y : StableState) (its : Room) (row : RowOutcome Memory) (c : Change) (cs : List Change) → server_step a y its ≡ Some row → row.changes ≡ c ∷ cs → cs ≡ []
+one-change a y its row c cs is changes = of (going_work y a.worker) is
+  where
+    some : (s t : RowOutcome Memory) → Some s ≡ Some t → s ≡ t
+    some s t e = cc
+
+    tail : (d : Change) → d ∷ [] ≡ c ∷ cs → cs ≡ []
+    tail d e = cc
+
+    none : [] ≡ c ∷ cs → cs ≡ []
+    none e = absurd (cc e)
+
+    of : (o : Option WorkEntry) → of_step a (going_row a.worker (storage_of a y its) a.tickets o) ≡ Some row → cs ≡ []
+    of (Some u) e = by (slice_get (intentions_of (y.works u.name)) (a.next u.name)) e
+      where
+        by : (o : Option Intention) → of_step a (Some (carried_row a.worker a.tickets u o)) ≡ Some row → cs ≡ []
+        by (Some i) q = tail _ (ap (λ (r : RowOutcome Memory). r.changes) (some _ row q) ∙ changes)
+        by None q = tail _ (ap (λ (r : RowOutcome Memory). r.changes) (some _ row q) ∙ changes)
+    of None e = by its.rubbish e
+      where
+        by : (b : Bool) → of_step a (if b then Some (quiet_row a.worker a.tickets) else None) ≡ Some row → cs ≡ []
+        by true q = none (ap (λ (r : RowOutcome Memory). r.changes) (some (of_worker a (quiet_row a.worker a.tickets)) row q) ∙ changes)
+        by false q = absurd (cc q)
 
 module _ {S : Type 0} (look : S → StoreView) (device : S → DeviceState) (seen : (s : S) → look s ≡ pairs_view (device s)) (x : Setup) (w : Standing S) (m : Moment) (stand : Stands look device x w m)
     (q : ServerNo) (place : Place S) (at : slice_get w.places q.0 ≡ Some place) (reads : ReadsPages look device (counts_by place.counts) place.slot) where
@@ -86,7 +118,7 @@ module _ {S : Type 0} (look : S → StoreView) (device : S → DeviceState) (see
     has-work = ap (has_work_at look) is ∙ ap (λ (o : Option (RowOutcome Memory)). is_some o) row-is
 
     work-step : IsRowStep look device seen x w m stand q place at p is reads row None (events.Step q) (working q (room_of (view_with look p).storage)) w.net.sent
-    work-step = record { acts = acts; does = does; may = may; delivers = delivers }
+    work-step = record { acts = acts; does = does; may = may; delivers = delivers; quiet = quiet }
       where
         its : Room
         its = room_of (view_with look p).storage
@@ -112,16 +144,47 @@ module _ {S : Type 0} (look : S → StoreView) (device : S → DeviceState) (see
         delivers None = refl
         delivers (Some made) = refl
 
+        quiet : (stop : Option (Pick → ℕ)) (s : ServerNo) → server_eq q s ≡ false → AreQuiet v (working q its stop ∷ []) s
+        quiet None s e n = ap (λ (b : Bool). if b then left_at_work (stable (v.found s)) (v.memory s) its n else n) e
+        quiet (Some made) s e n = refl
+
+    -- the records that the step leaves are those that the machine's leaves
+    works-leave : (n : ℕ) → left_by_step v q (Work q (room_of (view_with look p).storage)) n ≡ left_by_changes (state (view_with look p).storage) row.changes n
+    works-leave n = ap (λ (b : Bool). if b then left_at_work (stable (v.found q)) (v.memory q) its n else n) (same-server q)
+        ∙ ap (λ (o : Option Memory). left_at_work (stable (v.found q)) o its n) (let stands = here look device seen x w m stand q place at p is reads in stands.0)
+        ∙ ap (λ (f : Pick → StableState). left_by_work (stable f) (server_step (memory_of (view_with look p)) (stable f) its) n) (let stands = here look device seen x w m stand q place at p is reads in stands.1)
+        ∙ ap (λ (o : Option (RowOutcome Memory)). left_by_work (state (view_with look p).storage) o n) row-is
+      where
+        its : Room
+        its = room_of (view_with look p).storage
+
+    leaves-so : (b : ServerView) → WorkLeaves (view_with look p) b → length b.storage.accounts.rubbish ≡ left_by_changes (state (view_with look p).storage) row.changes (counted look p)
+    leaves-so b h = by row.changes refl
+      where
+        its : StepLeaves (view_with look p) row b
+        its = h row row-is
+
+        less : (m n : ℕ) → m + 1 ≡ n → m ≡ n - 1
+        less m n e = omega (arith, e)
+
+        by : (changes : List Change) → row.changes ≡ changes → length b.storage.accounts.rubbish ≡ left_by_changes (state (view_with look p).storage) changes (counted look p)
+        by [] e = let one = its.0 e in less _ _ one.rubbish_less
+        by (c ∷ cs) e = its.1 c (e ∙ ap (λ (l : List Change). c ∷ l) (one-change (memory_of (view_with look p)) (state (view_with look p).storage) (room_of (view_with look p).storage) row c cs row-is e))
+            ∙ ap (λ (l : List Change). counted look p + left_over (state (view_with look p).storage) l) e
+
+    work-leaves : (slot : Slot S) → WhereUp look WorkLeaves (Up p) slot → Leaves look v q (working q (room_of (view_with look p).storage) None ∷ []) slot (Up p)
+    work-leaves slot h = leaves-by look v q (working q (room_of (view_with look p).storage) None ∷ []) WorkLeaves p (λ b l. leaves-so b l ∙ sym (works-leave (counted look p))) slot h
+
   -- It makes its next background step, or is stopped in it.
   pub worked-step : (more : List Task) → ActsNext x m (events.Step q) more → (answer : Option Collected) (slot : Slot S) (told : List Line) → WorkedBy look device q (counts_by place.counts) (when_of m.state) place.slot answer slot [] told
-      → HasCounts (counts_by place.counts) slot → (lines : List Line)
+      → HasCounts look (counts_by place.counts) slot → WhereUp look WorkLeaves place.slot slot → (lines : List Line)
       → IsStepTo look device x m (more ++ drop 1 m.state.tasks) (with_answer q None answer (record w { places = slice_set w.places q.0 (record place { slot = slot }) }))
       lines (lines ++ told ++ lines_at (when_of m.state) (texts_sent q None w.trace (length w.net.sent) answer))
-  worked-step more next answer slot told worked-by counts lines = by place.slot refl worked-by
+  worked-step more next answer slot told worked-by counts leaves lines = by place.slot refl worked-by leaves
     where
-      by : (before : Slot S) → place.slot ≡ before → WorkedBy look device q (counts_by place.counts) (when_of m.state) before answer slot [] told
+      by : (before : Slot S) → place.slot ≡ before → WorkedBy look device q (counts_by place.counts) (when_of m.state) before answer slot [] told → WhereUp look WorkLeaves before slot
           → IsStepTo look device x m (more ++ drop 1 m.state.tasks) (with_answer q None answer (record w { places = slice_set w.places q.0 (record place { slot = slot }) }))
           lines (lines ++ told ++ lines_at (when_of m.state) (texts_sent q None w.trace (length w.net.sent) answer))
-      by (Up p) is b = row-step look device seen x w m stand q place at p is reads b.row None (events.Step q) (working q (room_of (view_with look p).storage)) w.net.sent (work-step p is b.row b.row_is) more next lines answer slot told b.step b.sends counts
-      by (Down s) is b = absurd b
-      by Gone is b = absurd b
+      by (Up p) is b l = row-step look device seen x w m stand q place at p is reads b.row None (events.Step q) (working q (room_of (view_with look p).storage)) w.net.sent (work-step p is b.row b.row_is) more next lines answer slot told b.step b.sends counts (work-leaves p is b.row b.row_is slot l)
+      by (Down s) is b l = absurd b
+      by Gone is b l = absurd b

@@ -11,6 +11,7 @@ use Rattle.jn_store.specs.Store.{StoreView}
 use Rattle.jn_written.specs.Chances.{Setup}
 use Rattle.jn_written.specs.Runs.{Moment, Leads}
 use Rattle.jn_written.specs.Tasks.{AtEnd}
+use Rattle.jn_stands.specs.Pages.{HasCounts}
 use Rattle.jn_stands.specs.Stands.{Standing, Stands}
 use Rattle.jn_stands.specs.Going.{IsTold, WasCut}
 
@@ -18,6 +19,7 @@ use Rattle.jn_stands.specs.Going.{IsTold, WasCut}
 pub record IsDisarmed {S : Type 0} (look : S → StoreView) (device : S → DeviceState) (p p' : Place S) : Type 0 where
   pub counts : p'.counts ≡ p.counts
   pub befell : Befell look device (counts_by p.counts) (λ d e. e ≡ disarmed d) p.slot p'.slot
+  pub pages : HasCounts look (counts_by p.counts) p'.slot
 
 pub record AreDisarmed {S : Type 0} (look : S → StoreView) (device : S → DeviceState) (places places' : List (Place S)) : Type 0 where
   pub as_many : length places' ≡ length places

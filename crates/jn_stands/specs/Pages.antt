@@ -1,5 +1,5 @@
 -- What a server that is up reads of its pages.
-use Rattle.std.specs.Prelude.{◌≡◌, false, ⊤}
+use Rattle.std.specs.Prelude.{◌≡◌, false, ⊤, length}
 use Rattle.jn_device.specs.Device.{DeviceState}
 use Rattle.jn_found.specs.Pages.{pool_on}
 use Rattle.jn_place.specs.declared.place.Place.{Place}
@@ -9,15 +9,19 @@ use Rattle.jn_place.specs.Exact.{has_work_at}
 use Rattle.jn_records.specs.StablePages.{Counts}
 use Rattle.jn_recovery.specs.Loading.{counts_by}
 use Rattle.jn_server.specs.Seen.{view_with, memory_of, room_of}
-use Rattle.jn_server.specs.Standing.{free_on, has_rubbish}
+use Rattle.jn_server.specs.Standing.{standing_pages, free_on, has_rubbish}
+use Rattle.jn_sets.specs.Pool.{rubbish_count}
 use Rattle.jn_storage.specs.Calls.{state}
 use Rattle.jn_store.specs.Store.{StoreView}
 use Rattle.jn_written.specs.Devices.{pages_of}
+use Rattle.jn_written.specs.Rubbish.{CountsAll}
 
--- its storage has so many pages
-abbrev pub HasCounts : {S : Type 0} → Counts → Slot S → Type 0
-HasCounts g (Up p) = p.storage.1.table.counts ≡ g
-HasCounts g slot = ⊤
+-- its storage has so many pages, it counts the rubbish records that are on them, and no record and no head is there that nothing names
+abbrev pub HasCounts : {S : Type 0} → (S → StoreView) → Counts → Slot S → Type 0
+HasCounts look g (Up p) =
+    (p.storage.1.table.counts ≡ g) × (length (view_with look p).storage.accounts.rubbish ≡ rubbish_count (pool_on g (standing_pages (look p.storage.0))))
+    × CountsAll g (state (view_with look p).storage) (standing_pages (look p.storage.0))
+HasCounts look g slot = ⊤
 
 -- what its rows read of its storage, what is free and whether a rubbish record is left, is what stands on its pages
 abbrev pub ReadsPages : {S : Type 0} → (S → StoreView) → (S → DeviceState) → Counts → Slot S → Type 0

@@ -1,6 +1,6 @@
 -- A server that is down comes up, as the written machine has it.
-use Rattle.std.proofs.Common.{◌≡◌, ◌≤◌, ◌<◌, ℕ, zero, suc, Bool, true, false, List, [], ◌∷◌, ◌++◌, drop, get_or, length, length-append, append-nil, append_assoc, slice_get, slice_set, Some, Result, Ok, Err, true≢false, refl, sym, ◌∙◌, ap, subst, arith}
-use Rattle.std.specs.Prelude.{◌||◌, if◌then◌else◌, IsErrAnd}
+use Rattle.std.proofs.Common.{◌≡◌, ◌≤◌, ◌<◌, ℕ, zero, suc, Bool, true, false, List, [], ◌∷◌, ◌++◌, drop, get_or, length, length-append, append-nil, append_assoc, slice_get, slice_set, Some, Result, Ok, Err, true≢false, refl, sym, ◌∙◌, ap, subst, arith, ◌+◌}
+use Rattle.std.specs.Prelude.{◌||◌, if◌then◌else◌, IsErrAnd, count_by}
 use Rattle.std.specs.List.{list_any}
 use Rattle.std.specs.Vec.{with_item}
 use Rattle.std.proofs.Math.Path.{fun_ext}
@@ -14,9 +14,9 @@ use Rattle.jn_place.specs.declared.place.Restarted.TheVariants as came
 use Rattle.jn_place.specs.declared.place.Slot.{Slot}
 use Rattle.jn_place.specs.declared.place.Slot.TheVariants.{Up, Down, Gone}
 use Rattle.jn_place.specs.Exact.{IsRestart}
-use Rattle.jn_place.specs.Places.{IsPlace, Stands as StandsThere}
+use Rattle.jn_place.specs.Places.{IsPlace, Stands as StandsThere, CountsAt}
 use Rattle.jn_system.specs.WholeSystem.World.{commits_in, has_line}
-use Rattle.jn_records.specs.StablePages.{Counts}
+use Rattle.jn_records.specs.StablePages.{Counts, Pages}
 use Rattle.jn_recovery.specs.Loading.{counts_by}
 use Rattle.jn_report.specs.declared.line.Line.{Line}
 use Rattle.jn_report.specs.declared.line.Text.{Text}
@@ -24,6 +24,13 @@ use Rattle.jn_report.specs.declared.line.Text.TheVariants as says
 use Rattle.jn_report.specs.declared.line.When.{When}
 use Rattle.jn_report.specs.declared.line.EventRefusal.TheVariants.{EpochsUsedUp}
 use Rattle.jn_schedule.specs.declared.Event.TheVariants as events
+use Rattle.jn_found.specs.Pages.{pool_on, heads_on}
+use Rattle.jn_server.specs.Standing.{standing_pages, is_free_head}
+use Rattle.jn_sets.specs.Pool.{free_count, rubbish_count}
+use Rattle.jn_server.specs.Seen.{view_with, IsServer}
+use Rattle.jn_server.specs.Reading.{AreCountsOfPages}
+use Rattle.jn_storage.specs.Calls.{state}
+use Rattle.jn_storage.specs.Storage.{IsCounted}
 use Rattle.jn_stands.proofs.Restarts.{restarted-step, came-up-step}
 use Rattle.jn_stands.specs.Going.{WentOn, WasCut}
 use Rattle.jn_stands.specs.Naming.{with_name, names_told}
@@ -111,20 +118,51 @@ place-got {S} ps q i p at within read = get-slice ps q.0 p within ∙ ap (λ (k 
 pub same-place : {S : Type 0} (p q : Place S) → q.counts ≡ p.counts → record p { slot = q.slot } ≡ q
 same-place p q e = ap (λ (c : _). record q { counts = c }) (sym e)
 
-has-by : {S : Type 0} (look : S → StoreView) (q : ServerNo) (g : Counts) (most : ℕ) (slot : Slot S) → StandsThere look q g most slot → HasCounts g slot
-has-by look q g most (Up p) h = h.counts
-has-by look q g most (Down s) h = tt
-has-by look q g most Gone h = absurd h
+has-by : {S : Type 0} (look : S → StoreView) (q : ServerNo) (g : Counts) (most : ℕ) (slot : Slot S) → StandsThere look q g most slot → CountsAt look slot → HasCounts look g slot
+has-by look q g most (Up p) h keeps = (
+  h.counts,
+  own.rubbish ∙ ap (λ (n : Counts). rubbish_count (pool_on n pages)) h.counts,
+  record {
+    works = counted.works;
+    flags = counted.flags;
+    works_all = counted.works_all;
+    flags_all = counted.flags_all;
+    files = counted.files;
+    files_all = counted.files_all;
+    records_all = all-records _ _ _ _ _ _ _ counted.records (own.free ∙ ap (λ (n : Counts). free_count (pool_on n pages)) h.counts) (own.rubbish ∙ ap (λ (n : Counts). rubbish_count (pool_on n pages)) h.counts) (ap (λ (n : Counts). n.pool) h.counts);
+    heads_all = all-heads _ _ _ counted.heads_used (own.heads ∙ ap (λ (n : Counts). count_by is_free_head (heads_on n pages)) h.counts) (ap (λ (n : Counts). n.heads) h.counts);
+  },
+)
+  where
+    pages : Pages
+    pages = standing_pages (look p.storage.0)
+
+    serves : IsServer (view_with look p)
+    serves = h.serves refl
+
+    own : AreCountsOfPages (view_with look p)
+    own = keeps serves.works.serving.power
+
+    counted : IsCounted (state (view_with look p).storage) (view_with look p).storage.accounts
+    counted = serves.works.serving.counted
+
+    all-records : (free flags works intentions rubbish free' rubbish' : ℕ) {pool pool' : ℕ} → free + flags + works + intentions + rubbish ≡ pool → free ≡ free' → rubbish ≡ rubbish' → pool ≡ pool' → free' + flags + works + intentions + rubbish' ≡ pool'
+    all-records free flags works intentions rubbish free' rubbish' e f r s = omega (arith, e, f, r, s)
+
+    all-heads : (free files free' : ℕ) {heads heads' : ℕ} → free + files ≡ heads → free ≡ free' → heads ≡ heads' → free' + files ≡ heads'
+    all-heads free files free' e f s = omega (arith, e, f, s)
+has-by look q g most (Down s) h keeps = tt
+has-by look q g most Gone h keeps = absurd h
 
 -- a place that stands has its pages
-pub has-counts : {S : Type 0} (look : S → StoreView) (q : ServerNo) (most : ℕ) (p p' : Place S) → p'.counts ≡ p.counts → IsPlace look q most p' → HasCounts (counts_by p.counts) p'.slot
-has-counts look q most p p' e h = subst (λ (c : _). HasCounts (counts_by c) p'.slot) e (has-by look q (counts_by p'.counts) most p'.slot h.stands)
+pub has-counts : {S : Type 0} (look : S → StoreView) (q : ServerNo) (most : ℕ) (p p' : Place S) → p'.counts ≡ p.counts → IsPlace look q most p' → HasCounts look (counts_by p.counts) p'.slot
+has-counts look q most p p' e h = subst (λ (c : _). HasCounts look (counts_by c) p'.slot) e (has-by look q (counts_by p'.counts) most p'.slot h.stands h.counted)
 
 -- ---- a call that brings one up
 
 module _ {S : Type 0} (look : S → StoreView) (device : S → DeviceState) where
   pub brought : (w b : World S) (q : ServerNo) (i : ℕ) (p p' : Place S) (when : When) (r : Restarted) (is : Bool) (lines now later : List Line) → i ≡ q.0 → q.0 < length w.places.items → p ≡ get_or w.places.items i p → p'.counts ≡ p.counts
-      → HasCounts (counts_by p.counts) p'.slot → IsRestart look device q (counts_by p.counts) when p.slot r p'.slot lines now
+      → HasCounts look (counts_by p.counts) p'.slot → IsRestart look device q (counts_by p.counts) when p.slot r p'.slot lines now
       → b ≡ record (record w { places = with_item w.places i p' }) { named = b.named } → b.named.names.items ≡ w.named.names.items ++ commits_in (restart_texts q w.named.names.items r)
       → later ≡ now ++ lines_at when (restart_texts q w.named.names.items r) → is ≡ has_come r
       → BroughtUp look device q when (standing_of w) is (standing_of b) lines later

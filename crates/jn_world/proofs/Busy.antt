@@ -16,7 +16,7 @@ use Rattle.jn_place.specs.Calls.{Left}
 use Rattle.jn_place.specs.declared.place.Place.{Place}
 use Rattle.jn_place.specs.declared.place.Slot.{Slot}
 use Rattle.jn_place.specs.declared.place.Slot.TheVariants.{Up, Down, Gone}
-use Rattle.jn_place.specs.Exact.{Took, WorkedBy, AsksAgain, TimedOut, IsTimedOut, has_work_at, ReadsPages as PlaceReads}
+use Rattle.jn_place.specs.Exact.{Took, WorkedBy, AsksAgain, TimedOut, IsTimedOut, has_work_at, ReadsPages as PlaceReads, WhereUp, TakeLeaves, WorkLeaves}
 use Rattle.jn_place.specs.Places.{Stands as StandsThere, IsPlace, is_up}
 use Rattle.jn_system.specs.WholeSystem.Servers.{server_timeout, of_timeout}
 use Rattle.jn_system.specs.WholeSystem.World.{Memory as ServerMemory}
@@ -31,6 +31,9 @@ use Rattle.jn_rows.specs.Stable.{StableState, Pick, IsUp}
 use Rattle.jn_rows.specs.Worker.{WorkerTable, timeout_row}
 use Rattle.jn_schedule.specs.declared.Event.TheVariants as events
 use Rattle.jn_server.specs.Seen.{Parts, view_with, memory_of}
+use Rattle.jn_found.specs.Pages.{pool_on}
+use Rattle.jn_server.specs.Standing.{standing_pages}
+use Rattle.jn_sets.specs.Pool.{rubbish_count}
 use Rattle.jn_stands.proofs.Held.{reads-pages}
 use Rattle.jn_stands.proofs.Placed.{each-set}
 use Rattle.jn_stands.proofs.RestNext.{next-works, next-none}
@@ -38,6 +41,7 @@ use Rattle.jn_stands.proofs.Still.{refused-step}
 use Rattle.jn_stands.specs.Going.{WentOn}
 use Rattle.jn_stands.specs.Pages.{HasCounts, ReadsPages, IsIdleAt}
 use Rattle.jn_stands.specs.Stands.{Standing, Stands, StandsAt, PlaceStands, with_answer, texts_sent}
+use Rattle.jn_storage.specs.Calls.{state}
 use Rattle.jn_store.specs.Pairs.{pairs_view}
 use Rattle.jn_store.specs.Store.{StoreView}
 use Rattle.jn_world.specs.declared.ended.Ended.{Ended}
@@ -54,6 +58,7 @@ use Rattle.jn_world.proofs.Turns.{next-first}
 use Rattle.jn_written.specs.Chances.{Setup}
 use Rattle.jn_written.specs.Devices.{rubbish_on}
 use Rattle.jn_written.specs.Events.{next_in}
+use Rattle.jn_written.specs.Rubbish.{CountsAll}
 use Rattle.jn_written.specs.Refusals.{has_work, refusal_of, unless}
 use Rattle.jn_written.specs.Runs.{Moment}
 use Rattle.jn_written.specs.Steps.{lines_at}
@@ -63,7 +68,7 @@ some-of : {X : Type 0} (a b : X) → Some a ≡ Some b → a ≡ b
 some-of a b e = cc
 
 -- a step leaves a place with as many pages
-pub left-counts : {S : Type 0} (look : S → StoreView) (q : ServerNo) (most : ℕ) (p p' : Place S) (answer : Option Collected) → p'.counts ≡ p.counts → Left look q most p' answer → HasCounts (counts_by p.counts) p'.slot
+pub left-counts : {S : Type 0} (look : S → StoreView) (q : ServerNo) (most : ℕ) (p p' : Place S) (answer : Option Collected) → p'.counts ≡ p.counts → Left look q most p' answer → HasCounts look (counts_by p.counts) p'.slot
 left-counts look q most p p' None e h = has-counts look q most p p' e h
 left-counts look q most p p' (Some out) e h = has-counts look q (most + length out.messages) p p' e h.0
 
@@ -83,28 +88,28 @@ module _ {S : Type 0} (look : S → StoreView) (device : S → DeviceState) (see
 
   -- it takes the message of this number
   pub took-now : {A : Type 0} (w : Standing S) (q : ServerNo) (place new : Place S) (i : ℕ) → i ≡ q.0 → new.counts ≡ place.counts
-      → (when : When) (r : Result A Ended) (u : Standing S) (first later : List Line) → slice_get w.places q.0 ≡ Some place → HasCounts (counts_by place.counts) new.slot
+      → (when : When) (r : Result A Ended) (u : Standing S) (first later : List Line) → slice_get w.places q.0 ≡ Some place → HasCounts look (counts_by place.counts) new.slot
       → (k : ℕ) (one : Posted) (answer : Option Collected) (start told : List Line) (net : Carried) → start ≡ [] → slice_get w.net.sent k ≡ Some one → one.to ≡ Server q → ReadsPages look device (counts_by place.counts) place.slot
-      → Took look device q (counts_by place.counts) when one.message place.slot answer new.slot start told
+      → Took look device q (counts_by place.counts) when one.message place.slot answer new.slot start told → WhereUp look (TakeLeaves one.message) place.slot new.slot
       → net ≡ record w.net { sent = with_delivered k w.net.sent }
       → EndsStep r (with_answer q (Some k) answer (record w { places = set w.places i new; net = net })) u first (first ++ told ++ lines_at when (texts_sent q (Some k) w.trace (length net.sent) answer)) later
       → DoesEvent look device (events.Deliver k) when w r u first later
-  took-now w q place new i index same when r u first later at counts k one answer start told net none posted to reads took delivers ends =
-      took-does look device seen w q place new i index same when r u first later at counts k one answer told posted to reads (subst (λ (l : List Line). Took look device q (counts_by place.counts) when one.message place.slot answer new.slot l told) none took)
+  took-now w q place new i index same when r u first later at counts k one answer start told net none posted to reads took leaves delivers ends =
+      took-does look device seen w q place new i index same when r u first later at counts k one answer told posted to reads (subst (λ (l : List Line). Took look device q (counts_by place.counts) when one.message place.slot answer new.slot l told) none took) leaves
       (subst (λ (n : Carried). EndsStep r (with_answer q (Some k) answer (record w { places = set w.places i new; net = n })) u first (first ++ told ++ lines_at when (texts_sent q (Some k) w.trace (length w.net.sent) answer)) later) delivers
       (subst (λ (j : ℕ). EndsStep r (with_answer q (Some k) answer (record w { places = set w.places i new; net = net })) u first (first ++ told ++ lines_at when (texts_sent q (Some k) w.trace j answer)) later)
       (ap (λ (n : Carried). length n.sent) delivers ∙ as-many k w.net.sent) ends))
 
   -- it makes a step
   pub worked-now : {A : Type 0} (w : Standing S) (q : ServerNo) (place new : Place S) (i : ℕ) → i ≡ q.0 → new.counts ≡ place.counts
-      → (when : When) (r : Result A Ended) (u : Standing S) (first later : List Line) → slice_get w.places q.0 ≡ Some place → HasCounts (counts_by place.counts) new.slot
+      → (when : When) (r : Result A Ended) (u : Standing S) (first later : List Line) → slice_get w.places q.0 ≡ Some place → HasCounts look (counts_by place.counts) new.slot
       → (answer : Option Collected) (start told : List Line) → start ≡ [] → ReadsPages look device (counts_by place.counts) place.slot
-      → WorkedBy look device q (counts_by place.counts) when place.slot answer new.slot start told
+      → WorkedBy look device q (counts_by place.counts) when place.slot answer new.slot start told → WhereUp look WorkLeaves place.slot new.slot
       → EndsStep r (with_answer q None answer (record w { places = set w.places i new })) u first (first ++ told ++ lines_at when (texts_sent q None w.trace (length w.net.sent) answer)) later
       → DoesEvent look device (events.Step q) when w r u first later
-  worked-now w q place new i index same when r u first later at counts answer start told none reads worked ends =
+  worked-now w q place new i index same when r u first later at counts answer start told none reads worked leaves ends =
       worked-does look device seen w q place new i index same when r u first later at counts answer told reads
-      (subst (λ (l : List Line). WorkedBy look device q (counts_by place.counts) when place.slot answer new.slot l told) none worked) ends
+      (subst (λ (l : List Line). WorkedBy look device q (counts_by place.counts) when place.slot answer new.slot l told) none worked) leaves ends
 
   -- it sends again what waits for an answer
   pub nudged-now : {A : Type 0} (w : Standing S) (q : ServerNo) (place : Place S) → slice_get w.places q.0 ≡ Some place
@@ -202,6 +207,15 @@ module _ {S : Type 0} (look : S → StoreView) (device : S → DeviceState) (see
   timed-slot g T (Down s) slot' memory found d t h = absurd t
   timed-slot g T Gone slot' memory found d t h = absurd t
 
+  timed-pages : (g : Counts) (T : Tid) (answer : Bool) (slot slot' : Slot S) → TimedOut look T slot answer slot' → HasCounts look g slot → HasCounts look g slot'
+  timed-pages g T answer (Up p) (Up p') t h =
+      subst (λ (z : S × Kept). (z.1.table.counts ≡ g) × (length (view_of z.1 (look z.0)).accounts.rubbish ≡ rubbish_count (pool_on g (standing_pages (look z.0))))
+      × CountsAll g (state (view_of z.1 (look z.0))) (standing_pages (look z.0))) (sym t.storage) h
+  timed-pages g T answer (Up p) (Down s) t h = absurd t
+  timed-pages g T answer (Up p) Gone t h = absurd t
+  timed-pages g T answer (Down s) slot' t h = absurd t
+  timed-pages g T answer Gone slot' t h = absurd t
+
   timed-work : (g : Counts) (T : Tid) (answer : Bool) (slot slot' : Slot S) (memory : Option ServerMemory) (found : Pick → StableState) (d : DeviceState) → TimedOut look T slot answer slot' → StandsAt look device g slot memory found d → has_work T memory ≡ answer
   timed-work g T answer (Up p) (Up p') memory found d t h = ap (has_work T) h.0 ∙ sym t.live
   timed-work g T answer (Up p) (Down s) memory found d t h = absurd t
@@ -231,6 +245,7 @@ module _ {S : Type 0} (look : S → StoreView) (device : S → DeviceState) (see
       history = stands.history;
       within = stands.within;
       found = stands.found;
+      counted = stands.counted;
     })
       where
         here : PlaceStands look device x m q.0 new
@@ -238,6 +253,7 @@ module _ {S : Type 0} (look : S → StoreView) (device : S → DeviceState) (see
             let own = stands.places q.0 place at in
             record {
               counts = own.counts ∙ ap counts_by (sym same);
+              pages = subst (λ (c : _). HasCounts look (counts_by c) new.slot) (sym same) (timed-pages (counts_by place.counts) T false place.slot new.slot timed own.pages);
               stands = subst (λ (c : _). StandsAt look device (counts_by c) new.slot (m.state.course.world.memory (record { 0 = q.0 })) (m.state.course.world.found (record { 0 = q.0 })) (m.devices (record { 0 = q.0 }))) (sym same)
                   (timed-slot (counts_by place.counts) T place.slot new.slot (m.state.course.world.memory (record { 0 = q.0 })) (m.state.course.world.found (record { 0 = q.0 })) (m.devices (record { 0 = q.0 })) timed own.stands);
             }
@@ -261,7 +277,7 @@ module _ {S : Type 0} (look : S → StoreView) (device : S → DeviceState) (see
           (subst (λ (ts : List Task). WentOn look device x m ts (record w { places = set w.places i new }) first (first ++ record { when = when_of m.state; text = says.RefusedEvent NoSuchWork } ∷ [])) (ap (λ (ts : List Task). drop 1 ts) tasks) (step.done few))
 
       -- or it may be broken from now on
-      pub timeout-done : (r : Result A Ended) (u : Standing S) (first later : List Line) → answer ≡ true → HasCounts (counts_by place.counts) new.slot
+      pub timeout-done : (r : Result A Ended) (u : Standing S) (first later : List Line) → answer ≡ true → HasCounts look (counts_by place.counts) new.slot
           → EndsStep r (record w { places = set w.places i new }) u first first later → DoesTasks look device (λ x. Meets (events.Timeout q T) ∷ []) when w r u first later
       timeout-done r u first later is counts ends =
           meets-done look device when (events.Timeout q T) r w u first later refl

@@ -11,7 +11,7 @@ use Rattle.jn_device.specs.Device.{DeviceState}
 use Rattle.jn_place.specs.declared.place.Place.{Place}
 use Rattle.jn_place.specs.declared.place.Slot.{Slot}
 use Rattle.jn_place.specs.declared.place.Slot.TheVariants.{Up, Down, Gone}
-use Rattle.jn_place.specs.Exact.{Closed}
+use Rattle.jn_place.specs.Exact.{Closed, WhereUp, KeepsRubbish}
 use Rattle.jn_place.specs.Places.{Stands as StandsThere, is_up}
 use Rattle.jn_system.specs.WholeSystem.Steps.{IsIdle}
 use Rattle.jn_records.specs.StablePages.{Counts}
@@ -82,12 +82,12 @@ module _ {S : Type 0} (look : S → StoreView) (device : S → DeviceState) (see
   really-done q g (Down t) after false first later e h = absurd h
   really-done q g Gone after false first later e h = absurd h
 
-  pub closed-does : {A : Type 0} (a : A) (w : Standing S) (q : ServerNo) (i : ℕ) (p new : Place S) (done : Bool) (first later : List Line) → i ≡ q.0 → slice_get w.places q.0 ≡ Some p → new.counts ≡ p.counts → HasCounts (counts_by p.counts) new.slot
+  pub closed-does : {A : Type 0} (a : A) (w : Standing S) (q : ServerNo) (i : ℕ) (p new : Place S) (done : Bool) (first later : List Line) → i ≡ q.0 → slice_get w.places q.0 ≡ Some p → new.counts ≡ p.counts → HasCounts look (counts_by p.counts) new.slot → WhereUp look KeepsRubbish p.slot new.slot
       → Closed look device q (counts_by p.counts) when p.slot done new.slot first later → is_up new.slot ≡ true → AreIdle w.clients → length w.net.sent ≤ 1000000
       → DoesTasks look device (λ x. ClosesClients q ∷ []) when w (Ok a) (record w { places = set w.places i new }) first later
-  closed-does a w q i p new done first later index at same counts closed up idle few x m rest stands tasks going is =
+  closed-does a w q i p new done first later index at same counts kept closed up idle few x m rest stands tasks going is =
       let step = closed-step look device seen x w m stands q p at first idle (next-first m.state (ClosesClients q) rest tasks going) new.slot later
-      (subst (λ (t : When). Closed look device q (counts_by p.counts) t p.slot true new.slot first later) (sym is) (really-done q (counts_by p.counts) p.slot new.slot done first later up closed)) counts in
+      (subst (λ (t : When). Closed look device q (counts_by p.counts) t p.slot true new.slot first later) (sym is) (really-done q (counts_by p.counts) p.slot new.slot done first later up closed)) counts kept in
       subst (λ (n : ℕ). WentOn look device x m rest (record w { places = set w.places n new }) first later) (sym index)
       (subst (λ (r : Place S). WentOn look device x m rest (record w { places = slice_set w.places q.0 r }) first later) (same-place p new same)
       (subst (λ (ts : List Task). WentOn look device x m ts (record w { places = slice_set w.places q.0 (record p { slot = new.slot }) }) first later) (ap (λ (ts : List Task). drop 1 ts) tasks) (step.done few)))

@@ -44,7 +44,7 @@ stands-more look server g a b (Down s) le h = h
 stands-more look server g a b Gone le h = h
 
 pub place-more : {S : Type 0} (look : S → StoreView) (server : ServerNo) (a b : ℕ) (p : Place S) → a ≤ b → IsPlace look server a p → IsPlace look server b p
-place-more look server a b p le h = record { stands = stands-more look server (counts_by p.counts) a b p.slot le h.stands; told = h.told }
+place-more look server a b p le h = record { stands = stands-more look server (counts_by p.counts) a b p.slot le h.stands; told = h.told; counted = h.counted }
 
 -- ---- all places
 
@@ -355,7 +355,7 @@ store-place {S} look xs i s n h read all =
     let here : IsRecoverable (record { 0 = i }) (counts_by n) (look s) × ((look s).told ≡ []) =
     subst (λ (x : S × PageCounts). IsRecoverable (record { 0 = i }) (counts_by x.1) (look x.0) × ((look x.0).told ≡ [])) (sym read)
     (subst (λ (k : ℕ). IsRecoverable (record { 0 = k }) (counts_by (get_or xs i (s, n)).1) (look (get_or xs i (s, n)).0)) at found.0, found.1) in
-    record { stands = here.0; told = here.1 }
+    record { stands = here.0; told = here.1; counted = tt }
 
 push-from : {S : Type 0} (look : S → StoreView) (most n : ℕ) (ps : List (Place S)) (q : Place S) → IsPlace look (record { 0 = n + length ps }) most q → ArePlaces look most n ps → ArePlaces look most n (ps ++ q ∷ [])
 push-from look most n [] q h all = let at : n + 0 ≡ n = omega arith in (subst (λ (k : ℕ). IsPlace look (record { 0 = k }) most q) at h, tt)

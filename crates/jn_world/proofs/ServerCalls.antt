@@ -14,7 +14,7 @@ use Rattle.jn_net.specs.Carried.{with_delivered}
 use Rattle.jn_net.specs.declared.Sent.{Sent as Posted}
 use Rattle.jn_place.specs.declared.place.Place.{Place}
 use Rattle.jn_place.specs.declared.place.Slot.TheVariants.{Down}
-use Rattle.jn_place.specs.Exact.{Took, WorkedBy, ScrubbedBy, Showed, AsksAgain, TimedOut, Crashed, Befell, has_work_at}
+use Rattle.jn_place.specs.Exact.{Took, WorkedBy, ScrubbedBy, Showed, AsksAgain, TimedOut, Crashed, Befell, has_work_at, WhereUp, TakeLeaves, WorkLeaves, KeepsRubbish}
 use Rattle.jn_recovery.specs.Loading.{counts_by}
 use Rattle.jn_report.specs.declared.line.EventRefusal.TheVariants.{TooManyArmed}
 use Rattle.jn_report.specs.declared.line.Line.{Line}
@@ -63,54 +63,54 @@ module _ {S : Type 0} (look : S → StoreView) (device : S → DeviceState) (see
         subst (λ (n : ℕ). IsStepTo look device x m rest (f (set w.places n new)) lines wanted) (sym index)
         (subst (λ (p : Place S). IsStepTo look device x m rest (f (set w.places q.0 p)) lines wanted) place-is step)
 
-    module _ {A : Type 0} (when : When) (r : Result A Ended) (u : Standing S) (first later : List Line) (at : slice_get w.places q.0 ≡ Some place) (counts : HasCounts (counts_by place.counts) new.slot) where
+    module _ {A : Type 0} (when : When) (r : Result A Ended) (u : Standing S) (first later : List Line) (at : slice_get w.places q.0 ≡ Some place) (counts : HasCounts look (counts_by place.counts) new.slot) where
       -- it takes a message
       pub took-does : (k : ℕ) (one : Posted) (answer : Option Collected) (told : List Line) → slice_get w.net.sent k ≡ Some one → one.to ≡ Server q → ReadsPages look device (counts_by place.counts) place.slot
-          → Took look device q (counts_by place.counts) when one.message place.slot answer new.slot [] told
+          → Took look device q (counts_by place.counts) when one.message place.slot answer new.slot [] told → WhereUp look (TakeLeaves one.message) place.slot new.slot
           → EndsStep r (with_answer q (Some k) answer (record w { places = set w.places i new; net = record w.net { sent = with_delivered k w.net.sent } })) u first (first ++ told ++ lines_at when (texts_sent q (Some k) w.trace (length w.net.sent) answer)) later
           → DoesEvent look device (events.Deliver k) when w r u first later
-      took-does k one answer told posted to reads took ends x m more stands next is =
+      took-does k one answer told posted to reads took leaves ends x m more stands next is =
           step-ends look device x m (more ++ drop 1 m.state.tasks) (with_answer q (Some k) answer (record w { places = set w.places i new; net = record w.net { sent = with_delivered k w.net.sent } })) u r first
           (first ++ told ++ lines_at when (texts_sent q (Some k) w.trace (length w.net.sent) answer)) later
           (subst (λ (t : When). Took look device q (counts_by place.counts) t one.message place.slot answer new.slot [] told
           → IsStepTo look device x m (more ++ drop 1 m.state.tasks) (with_answer q (Some k) answer (record w { places = set w.places i new; net = record w.net { sent = with_delivered k w.net.sent } })) first (first ++ told ++ lines_at t (texts_sent q (Some k) w.trace (length w.net.sent) answer))) is
           (λ t. written x m (more ++ drop 1 m.state.tasks) (λ ps. with_answer q (Some k) answer (record w { places = ps; net = record w.net { sent = with_delivered k w.net.sent } })) first _
-          (took-step look device seen x w m stands k one posted q to place at reads more next answer new.slot told t counts first)) took)
+          (took-step look device seen x w m stands k one posted q to place at reads more next answer new.slot told t counts leaves first)) took)
           ends
 
       -- a background step
       pub worked-does : (answer : Option Collected) (told : List Line) → ReadsPages look device (counts_by place.counts) place.slot
-          → WorkedBy look device q (counts_by place.counts) when place.slot answer new.slot [] told
+          → WorkedBy look device q (counts_by place.counts) when place.slot answer new.slot [] told → WhereUp look WorkLeaves place.slot new.slot
           → EndsStep r (with_answer q None answer (record w { places = set w.places i new })) u first (first ++ told ++ lines_at when (texts_sent q None w.trace (length w.net.sent) answer)) later
           → DoesEvent look device (events.Step q) when w r u first later
-      worked-does answer told reads worked ends x m more stands next is =
+      worked-does answer told reads worked leaves ends x m more stands next is =
           step-ends look device x m (more ++ drop 1 m.state.tasks) (with_answer q None answer (record w { places = set w.places i new })) u r first
           (first ++ told ++ lines_at when (texts_sent q None w.trace (length w.net.sent) answer)) later
           (subst (λ (t : When). WorkedBy look device q (counts_by place.counts) t place.slot answer new.slot [] told
           → IsStepTo look device x m (more ++ drop 1 m.state.tasks) (with_answer q None answer (record w { places = set w.places i new })) first (first ++ told ++ lines_at t (texts_sent q None w.trace (length w.net.sent) answer))) is
           (λ t. written x m (more ++ drop 1 m.state.tasks) (λ ps. with_answer q None answer (record w { places = ps })) first _
-          (worked-step look device seen x w m stands q place at reads more next answer new.slot told t counts first)) worked)
+          (worked-step look device seen x w m stands q place at reads more next answer new.slot told t counts leaves first)) worked)
           ends
 
       -- its pages are cleaned
-      pub scrubbed-does : (done : Bool) (wanted : List Line) → ScrubbedBy look device q (counts_by place.counts) when place.slot done new.slot first wanted
+      pub scrubbed-does : (done : Bool) (wanted : List Line) → ScrubbedBy look device q (counts_by place.counts) when place.slot done new.slot first wanted → WhereUp look KeepsRubbish place.slot new.slot
           → EndsStep r (record w { places = set w.places i new }) u first wanted later → DoesEvent look device (events.Scrub q) when w r u first later
-      scrubbed-does done wanted scrubbed ends x m more stands next is =
+      scrubbed-does done wanted scrubbed kept ends x m more stands next is =
           step-ends look device x m (more ++ drop 1 m.state.tasks) (record w { places = set w.places i new }) u r first wanted later
           (written x m (more ++ drop 1 m.state.tasks) (λ ps. record w { places = ps }) first wanted
           (scrubbed-step look device seen x w m stands q place at more first wanted done new.slot
-          (subst (λ (t : When). ScrubbedBy look device q (counts_by place.counts) t place.slot done new.slot first wanted) (sym is) scrubbed) counts next))
+          (subst (λ (t : When). ScrubbedBy look device q (counts_by place.counts) t place.slot done new.slot first wanted) (sym is) scrubbed) counts kept next))
           ends
 
       -- its files are printed
-      pub showed-does : (list : Option (List Shown)) (now : List Line) → Showed look device q (counts_by place.counts) when place.slot list new.slot first now
+      pub showed-does : (list : Option (List Shown)) (now : List Line) → Showed look device q (counts_by place.counts) when place.slot list new.slot first now → WhereUp look KeepsRubbish place.slot new.slot
           → EndsStep r (record w { places = set w.places i new }) u first (now ++ lines_at when (texts_shown q list)) later → DoesEvent look device (events.Show q) when w r u first later
-      showed-does list now showed ends x m more stands next is =
+      showed-does list now showed kept ends x m more stands next is =
           step-ends look device x m (more ++ drop 1 m.state.tasks) (record w { places = set w.places i new }) u r first (now ++ lines_at when (texts_shown q list)) later
           (subst (λ (t : When). Showed look device q (counts_by place.counts) t place.slot list new.slot first now
           → IsStepTo look device x m (more ++ drop 1 m.state.tasks) (record w { places = set w.places i new }) first (now ++ lines_at t (texts_shown q list))) is
           (λ s. written x m (more ++ drop 1 m.state.tasks) (λ ps. record w { places = ps }) first _
-          (showed-step look device seen x w m stands q place at more first now list new.slot s counts next)) showed)
+          (showed-step look device seen x w m stands q place at more first now list new.slot s counts kept next)) showed)
           ends
 
       -- a work may be broken from now on
@@ -133,32 +133,32 @@ module _ {S : Type 0} (look : S → StoreView) (device : S → DeviceState) (see
           ends
 
       -- a page goes bad, is good again, or a fault is to wait
-      pub decayed-does : (p : ℕ) (answer : Bool) → Befell look device (counts_by place.counts) (λ d e. PageDecays d p answer e) place.slot new.slot
+      pub decayed-does : (p : ℕ) (answer : Bool) → Befell look device (counts_by place.counts) (λ d e. PageDecays d p answer e) place.slot new.slot → WhereUp look KeepsRubbish place.slot new.slot
           → EndsStep r (record w { places = set w.places i new }) u first (first ++ lines_at when (told_unless answer (says.Outside q (record { kind = faults.Decay p; page = p })))) later
           → DoesEvent look device (events.Decay q p) when w r u first later
-      decayed-does p answer befell ends x m more stands next is =
+      decayed-does p answer befell kept ends x m more stands next is =
           step-ends look device x m (more ++ drop 1 m.state.tasks) (record w { places = set w.places i new }) u r first (first ++ lines_at when (told_unless answer (says.Outside q (record { kind = faults.Decay p; page = p })))) later
           (subst (λ (t : When). IsStepTo look device x m (more ++ drop 1 m.state.tasks) (record w { places = set w.places i new }) first (first ++ lines_at t (told_unless answer (says.Outside q (record { kind = faults.Decay p; page = p }))))) is
           (written x m (more ++ drop 1 m.state.tasks) (λ ps. record w { places = ps }) first _
-          (decayed-step look device seen x w m stands q place at new.slot counts first more p answer next befell)))
+          (decayed-step look device seen x w m stands q place at new.slot counts kept first more p answer next befell)))
           ends
 
-      pub revived-does : (p : ℕ) → Befell look device (counts_by place.counts) (λ d e. PageRevives d p e) place.slot new.slot
+      pub revived-does : (p : ℕ) → Befell look device (counts_by place.counts) (λ d e. PageRevives d p e) place.slot new.slot → WhereUp look KeepsRubbish place.slot new.slot
           → EndsStep r (record w { places = set w.places i new }) u first first later → DoesEvent look device (events.Revive q p) when w r u first later
-      revived-does p befell ends x m more stands next is =
+      revived-does p befell kept ends x m more stands next is =
           step-ends look device x m (more ++ drop 1 m.state.tasks) (record w { places = set w.places i new }) u r first first later
           (written x m (more ++ drop 1 m.state.tasks) (λ ps. record w { places = ps }) first first
-          (revived-step look device seen x w m stands q place at new.slot counts first more p next befell))
+          (revived-step look device seen x w m stands q place at new.slot counts kept first more p next befell))
           ends
 
-      pub armed-does : (n : ℕ) (kind : FaultKind) (answer : Bool) → Befell look device (counts_by place.counts) (λ d e. FaultArmed d n kind answer e) place.slot new.slot
+      pub armed-does : (n : ℕ) (kind : FaultKind) (answer : Bool) → Befell look device (counts_by place.counts) (λ d e. FaultArmed d n kind answer e) place.slot new.slot → WhereUp look KeepsRubbish place.slot new.slot
           → EndsStep r (record w { places = set w.places i new }) u first (first ++ lines_at when (told_unless answer (says.RefusedEvent TooManyArmed))) later
           → DoesEvent look device (events.Arm q n kind) when w r u first later
-      armed-does n kind answer befell ends x m more stands next is =
+      armed-does n kind answer befell kept ends x m more stands next is =
           step-ends look device x m (more ++ drop 1 m.state.tasks) (record w { places = set w.places i new }) u r first (first ++ lines_at when (told_unless answer (says.RefusedEvent TooManyArmed))) later
           (subst (λ (t : When). IsStepTo look device x m (more ++ drop 1 m.state.tasks) (record w { places = set w.places i new }) first (first ++ lines_at t (told_unless answer (says.RefusedEvent TooManyArmed)))) is
           (written x m (more ++ drop 1 m.state.tasks) (λ ps. record w { places = ps }) first _
-          (armed-step look device seen x w m stands q place at new.slot counts first more n kind answer next befell)))
+          (armed-step look device seen x w m stands q place at new.slot counts kept first more n kind answer next befell)))
           ends
 
   module _ {A : Type 0} (w : Standing S) (q : ServerNo) (place : Place S) (at : slice_get w.places q.0 ≡ Some place) (when : When) (r : Result A Ended) (u : Standing S) (first later : List Line) where

@@ -16,6 +16,7 @@ use Rattle.jn_system.specs.WholeSystem.Printing.{file_before}
 use Rattle.jn_system_reports.specs.Reporting.Printing.{prints_of}
 use Rattle.jn_server.specs.Standing.{standing_pages, free_on, has_rubbish}
 use Rattle.jn_written.specs.Chances.{Setup, Chance}
+use Rattle.jn_written.specs.Rubbish.{AreLeft, AreAllCounted}
 use Rattle.jn_written.specs.Deeds.{Use, Nothing, Calls, Reads, Recovers, PowersOff, Decays, Revives, Arms, Disarms, Deed}
 
 abbrev pub Devices : Type 0
@@ -96,3 +97,7 @@ pub record Befalls (x : Setup) (h : Chance) (deed : Deed) (w : World) (ds es : D
   pub steps : IsRun deed.steps w
   pub used : IsUsed x h deed.device w (run deed.steps w) ds es
   pub found : AreFound x (run deed.steps w) es
+  -- as many records are rubbish then as its steps leave
+  pub left : AreLeft x deed.steps w ds es
+  -- and no record and no head is there that nothing names
+  pub counted : AreAllCounted x (run deed.steps w) es

@@ -9,6 +9,7 @@ pub mod Begun
 pub mod Differing
 pub mod Handed
 pub mod Left
+pub mod LeftOver
 pub mod Filtered
 pub mod Outside
 pub mod Printed

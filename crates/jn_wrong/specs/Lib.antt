@@ -7,3 +7,4 @@ pub mod Telling
 pub mod Showing
 pub mod Turns
 pub mod Wanting
+pub mod Leaving

@@ -1,6 +1,7 @@
 //! Wrong reports, which no run of the written machine tells; and laws over all its runs, which refuse more of them.
 #![tactic(auto)]
 
+mod leaving;
 mod new;
 mod settling;
 mod telling;
@@ -9,6 +10,7 @@ mod wanting;
 ghost use Rattle.std.specs.Prelude.{◌≡◌, ℕ, nat_lt, false};
 ghost use Rattle.jn_wrong.specs.Wrong.{IsNone, begins, makes_one, makes_and_reads, opens_and_loses, answered_too_soon, stopped_by_nothing, fault_of_nothing, lost_without_opening, file_left_out, file_locked, page_unwritten, other_bytes, named_again, full_of};
 
+pub use leaving::{a_record_that_nothing_names_is_left_by_no_step, each_step_leaves_its_rubbish};
 pub use new::{
     a_commit_of_nobody_is_none, a_refusal_without_a_cause_is_none,
     a_report_that_answers_nothing_is_none, a_settle_that_leaves_a_message_is_none,

@@ -6,7 +6,7 @@ use Rattle.jn_base.specs.declared.names.ServerNo.{ServerNo}
 use Rattle.jn_recovery.specs.Loading.{counts_by}
 use Rattle.jn_place.proofs.Slots.{stands-there}
 use Rattle.jn_world.specs.declared.world.World.{World}
-use Rattle.jn_world.proofs.Bringing.{place-got}
+use Rattle.jn_world.proofs.Bringing.{place-got, has-counts}
 use Rattle.jn_world.proofs.Finishing.{disarmed-none, disarmed-more, disarmed-all}
 use Rattle.jn_world.proofs.Places.{place-there, moved-quiet}
 use Rattle.jn_world.proofs.world.World.disarm_all.Goals as goal
@@ -50,7 +50,7 @@ loop-s-preserved g c =
       as_many = c.loop-s.invariant.as_many;
       others = ap (λ (x : World g.row.S.Denot). record x { places = with_item w.places i q }) c.loop-s.invariant.others;
       disarmed = disarmed-more look device c.loop-s.s i c.args.self.now.places.items w.places.items p q c.from.ensures within (place-got w.places.items server i p c.from.ensures within c.index_mut.ensures.value)
-          (record { counts = c.disarm.ensures.counts; befell = c.disarm.ensures.befell }) c.loop-s.invariant.disarmed;
+          (record { counts = c.disarm.ensures.counts; befell = c.disarm.ensures.befell; pages = has-counts look server (length w.net.sent) p q c.disarm.ensures.counts (c.disarm.ensures.place server (length w.net.sent) place) }) c.loop-s.invariant.disarmed;
     }
 
 pub returns-clause-disarmed : goal.returns-clause-disarmed
