@@ -1,10 +1,9 @@
 -- How many rubbish records a step leaves, in any run.
-use Rattle.std.specs.Prelude.{◌≡◌, Bool, true, false, List, [], ◌∷◌, Some, is_some}
+use Rattle.std.specs.Prelude.{◌≡◌, Bool, true, false, List, [], ◌∷◌, is_some}
 use Rattle.jn_base.specs.declared.names.ServerNo.{ServerNo}
 use Rattle.jn_rows.specs.Stable.{Change, RemoveWork}
 use Rattle.jn_system.specs.WholeSystem.Steps.{Step, run}
 use Rattle.jn_written.specs.Chances.{Setup}
-use Rattle.jn_written.specs.Deeds.{Deed}
 use Rattle.jn_written.specs.Events.{deed_of}
 use Rattle.jn_written.specs.Runs.{Moment, DoesStep}
 

@@ -13,28 +13,28 @@ pub returns-in-Down-clause-place : goal.returns-in-Down-clause-place
 returns-in-Down-clause-place g c =
     let look : g.row.S.Denot → StoreView = λ s. g.S.StableStore.view s in
     let device : g.row.S.Denot → DeviceState = λ s. g.S.Powered.device s in
-    let t = c.arm-in-Down.new.self in
-    λ server most h. befallen-down look server most c.args.self.now c.in-Down.store t c.in-Down.is c.arm-in-Down.ensures.pages
-    (told-still look device c.in-Down.store t (g.met.S.Powered.seen c.in-Down.store) (g.met.S.Powered.seen t) (ap (λ (d : DeviceState). d.told) c.arm-in-Down.ensures.arms.armed)) h
+    let t = c.arm.new.self in
+    λ server most h. befallen-down look server most c.args.self.now c.in-Down.store t c.in-Down.is c.arm.ensures.pages
+    (told-still look device c.in-Down.store t (g.met.S.Powered.seen c.in-Down.store) (g.met.S.Powered.seen t) (ap (λ (d : DeviceState). d.told) c.arm.ensures.arms.armed)) h
 
 pub returns-in-Up-clause-befell : goal.returns-in-Up-clause-befell
 returns-in-Up-clause-befell g c =
     let look : g.row.S.Denot → StoreView = λ s. g.S.StableStore.view s in
     let device : g.row.S.Denot → DeviceState = λ s. g.S.Powered.device s in
-    befell-up look device (counts_by c.args.self.now.counts) (λ d e. Arms d c.args.n c.args.kind c.arm.result e) c.args.self.now.slot c.in-Up.server c.arm.new.self c.in-Up.is c.arm.ensures.befalls c.arm.ensures.arms
+    befell-up look device (counts_by c.args.self.now.counts) (λ d e. Arms d c.args.n c.args.kind c.arm-armed.result e) c.args.self.now.slot c.in-Up.server c.arm-armed.new.self c.in-Up.is c.arm-armed.ensures.befalls c.arm-armed.ensures.arms
 
 pub returns-in-Down-clause-befell : goal.returns-in-Down-clause-befell
 returns-in-Down-clause-befell g c =
     let look : g.row.S.Denot → StoreView = λ s. g.S.StableStore.view s in
     let device : g.row.S.Denot → DeviceState = λ s. g.S.Powered.device s in
-    befell-down look device (counts_by c.args.self.now.counts) (λ d e. Arms d c.args.n c.args.kind c.arm-in-Down.result e) c.args.self.now.slot c.in-Down.store c.arm-in-Down.new.self c.in-Down.is c.arm-in-Down.ensures.pages c.arm-in-Down.ensures.arms
+    befell-down look device (counts_by c.args.self.now.counts) (λ d e. Arms d c.args.n c.args.kind c.arm.result e) c.args.self.now.slot c.in-Down.store c.arm.new.self c.in-Down.is c.arm.ensures.pages c.arm.ensures.arms
 
 pub returns-in-Up-clause-rubbish : goal.returns-in-Up-clause-rubbish
 returns-in-Up-clause-rubbish g c =
     let look : g.row.S.Denot → StoreView = λ s. g.S.StableStore.view s in
-    befell-keeps look c.args.self.now.slot c.in-Up.server c.arm.new.self c.in-Up.is c.arm.ensures.befalls
+    befell-keeps look c.args.self.now.slot c.in-Up.server c.arm-armed.new.self c.in-Up.is c.arm-armed.ensures.befalls
 
 pub returns-in-Down-clause-rubbish : goal.returns-in-Down-clause-rubbish
 returns-in-Down-clause-rubbish g c =
     let look : g.row.S.Denot → StoreView = λ s. g.S.StableStore.view s in
-    down-so look KeepsRubbish c.args.self.now.slot c.arm-in-Down.new.self
+    down-so look KeepsRubbish c.args.self.now.slot c.arm.new.self

@@ -12,28 +12,28 @@ pub returns-in-Down-clause-place : goal.returns-in-Down-clause-place
 returns-in-Down-clause-place g c =
     let look : g.row.S.Denot → StoreView = λ s. g.S.StableStore.view s in
     let device : g.row.S.Denot → DeviceState = λ s. g.S.Powered.device s in
-    let t = c.decay-in-Down.new.self in
-    λ server most h. befallen-down look server most c.args.self.now c.in-Down.store t c.in-Down.is c.decay-in-Down.ensures.pages
-    (told-still look device c.in-Down.store t (g.met.S.Powered.seen c.in-Down.store) (g.met.S.Powered.seen t) (c.decay-in-Down.ensures.decays.becomes.told)) h
+    let t = c.decay.new.self in
+    λ server most h. befallen-down look server most c.args.self.now c.in-Down.store t c.in-Down.is c.decay.ensures.pages
+    (told-still look device c.in-Down.store t (g.met.S.Powered.seen c.in-Down.store) (g.met.S.Powered.seen t) (c.decay.ensures.decays.becomes.told)) h
 
 pub returns-in-Up-clause-befell : goal.returns-in-Up-clause-befell
 returns-in-Up-clause-befell g c =
     let look : g.row.S.Denot → StoreView = λ s. g.S.StableStore.view s in
     let device : g.row.S.Denot → DeviceState = λ s. g.S.Powered.device s in
-    befell-up look device (counts_by c.args.self.now.counts) (λ d e. Decays d c.args.p c.decay.result e) c.args.self.now.slot c.in-Up.server c.decay.new.self c.in-Up.is c.decay.ensures.befalls c.decay.ensures.decays
+    befell-up look device (counts_by c.args.self.now.counts) (λ d e. Decays d c.args.p c.decay-allowed.result e) c.args.self.now.slot c.in-Up.server c.decay-allowed.new.self c.in-Up.is c.decay-allowed.ensures.befalls c.decay-allowed.ensures.decays
 
 pub returns-in-Down-clause-befell : goal.returns-in-Down-clause-befell
 returns-in-Down-clause-befell g c =
     let look : g.row.S.Denot → StoreView = λ s. g.S.StableStore.view s in
     let device : g.row.S.Denot → DeviceState = λ s. g.S.Powered.device s in
-    befell-down look device (counts_by c.args.self.now.counts) (λ d e. Decays d c.args.p c.decay-in-Down.result e) c.args.self.now.slot c.in-Down.store c.decay-in-Down.new.self c.in-Down.is c.decay-in-Down.ensures.pages c.decay-in-Down.ensures.decays
+    befell-down look device (counts_by c.args.self.now.counts) (λ d e. Decays d c.args.p c.decay.result e) c.args.self.now.slot c.in-Down.store c.decay.new.self c.in-Down.is c.decay.ensures.pages c.decay.ensures.decays
 
 pub returns-in-Up-clause-rubbish : goal.returns-in-Up-clause-rubbish
 returns-in-Up-clause-rubbish g c =
     let look : g.row.S.Denot → StoreView = λ s. g.S.StableStore.view s in
-    befell-keeps look c.args.self.now.slot c.in-Up.server c.decay.new.self c.in-Up.is c.decay.ensures.befalls
+    befell-keeps look c.args.self.now.slot c.in-Up.server c.decay-allowed.new.self c.in-Up.is c.decay-allowed.ensures.befalls
 
 pub returns-in-Down-clause-rubbish : goal.returns-in-Down-clause-rubbish
 returns-in-Down-clause-rubbish g c =
     let look : g.row.S.Denot → StoreView = λ s. g.S.StableStore.view s in
-    down-so look KeepsRubbish c.args.self.now.slot c.decay-in-Down.new.self
+    down-so look KeepsRubbish c.args.self.now.slot c.decay.new.self
