@@ -1,5 +1,5 @@
 -- What one step of a run leaves to do, and where the system is then.
-use Rattle.std.proofs.Common.{◌≡◌, ◌⊎◌, inl, inr, Bool, true, false, List, [], ◌∷◌, ◌++◌, drop, Some, None, refl, sym, ◌∙◌, ap}
+use Rattle.std.proofs.Common.{◌≡◌, ◌⊎◌, inl, inr, Bool, true, false, List, ◌∷◌, ◌++◌, drop, Some, None, refl, sym, ◌∙◌, ap}
 use Rattle.std.specs.Prelude.{if◌then◌else◌}
 use Rattle.jn_system_settling.specs.Settling.Course.{go_on}
 use Rattle.jn_written.specs.Chances.{Setup, Chance}
@@ -39,17 +39,22 @@ pub record IsCut (t : Task) (behind : List Task) (a c : Moment) : Type 0 where
   pub stage : c.state.stage ≡ CutShort
 
 module _ (x : Setup) where
+  -- the step of a known task
+  module _ (t : Task) (behind : List Task) (a c : Moment) (d : DoesStep x a c) (is : a.state.tasks ≡ t ∷ behind) where
+    pub its-task : d.task ≡ t
+    its-task = only-task a.state.stage d.task t behind (sym (ap (λ (ts : List Task). next_at a.state.stage ts) is) ∙ d.task_is)
+
+    pub its-state : c.state ≡ done x d.chance t a.state
+    its-state = d.state_is ∙ ap (λ (task : Task). done x d.chance task a.state) its-task
+
   pub does : (t : Task) (behind : List Task) (a c : Moment) (d : DoesStep x a c) → a.state.tasks ≡ t ∷ behind → GoesOn x d.chance t behind a c ⊎ IsCut t behind a c
   does t behind a c d is = by (is_too_much deed (go_on deed.steps (begun t a.state).course)) refl
     where
       deed : Deed
       deed = deed_of x d.chance t a.state
 
-      its-task : d.task ≡ t
-      its-task = only-task a.state.stage d.task t behind (sym (ap (λ (ts : List Task). next_at a.state.stage ts) is) ∙ d.task_is)
-
-      its-state : c.state ≡ done x d.chance t a.state
-      its-state = d.state_is ∙ ap (λ (task : Task). done x d.chance task a.state) its-task
+      its : c.state ≡ done x d.chance t a.state
+      its = its-state t behind a c d is
 
       left : (begun t a.state).tasks ≡ behind
       left = begun-tasks t a.state ∙ ap (λ (ts : List Task). drop 1 ts) is
@@ -58,9 +63,9 @@ module _ (x : Setup) where
       made_if b = if b then cut_short (begun t a.state) else come_to x d.chance deed (go_on deed.steps (begun t a.state).course) (begun t a.state)
 
       by : (b : Bool) → is_too_much deed (go_on deed.steps (begun t a.state).course) ≡ b → GoesOn x d.chance t behind a c ⊎ IsCut t behind a c
-      by true e = let s : c.state ≡ cut_short (begun t a.state) = its-state ∙ ap made_if e in
+      by true e = let s : c.state ≡ cut_short (begun t a.state) = its ∙ ap made_if e in
           inr (record { tasks = ap (λ (s : State). s.tasks) s ∙ left; course = ap (λ (s : State). s.course) s; stage = ap (λ (s : State). s.stage) s })
-      by false e = let s : c.state ≡ come_to x d.chance deed (go_on deed.steps (begun t a.state).course) (begun t a.state) = its-state ∙ ap made_if e in
+      by false e = let s : c.state ≡ come_to x d.chance deed (go_on deed.steps (begun t a.state).course) (begun t a.state) = its ∙ ap made_if e in
           inl (record { tasks = ap (λ (s : State). s.tasks) s ∙ ap (λ (ts : List Task). deed.tasks ++ ts) left; course = ap (λ (s : State). s.course) s; stage = ap (λ (s : State). s.stage) s })
 
   -- a run that was cut short goes no further
@@ -70,16 +75,3 @@ module _ (x : Setup) where
     where
       no' : None ≡ Some d.task → ⊥
       no' k = cc
-
-  -- and one that has nothing left to do
-  pub is-over : (a b : Moment) → Leads x a b → a.state.tasks ≡ [] → b ≡ a
-  is-over a b (none m) e = refl
-  is-over a b (more u c v d leads) e = absurd (nothing a.state.stage (sym (ap (λ (ts : List Task). next_at a.state.stage ts) e) ∙ d.task_is))
-    where
-      no' : None ≡ Some d.task → ⊥
-      no' k = cc
-
-      nothing : (stage : Stage) → next_at stage [] ≡ Some d.task → ⊥
-      nothing CutShort e = no' e
-      nothing InSchedule e = no' e
-      nothing AtEnd e = no' e

@@ -1,19 +1,19 @@
 -- A settle is over only where nothing is left to do.
-use Rattle.std.proofs.Common.{◌≡◌, ◌≢◌, ℕ, suc, ◌+◌, Bool, true, false, List, [], ◌∷◌, ◌++◌, append_assoc, length, length-append, drop, Option, Some, None, refl, sym, ◌∙◌, ap, subst, arith}
-use Rattle.std.specs.Prelude.{if◌then◌else◌}
+use Rattle.std.proofs.Common.{◌≡◌, ◌≢◌, ◌⊎◌, inl, inr, ℕ, suc, ◌+◌, Bool, List, [], ◌∷◌, ◌++◌, append_assoc, length, length-append, drop, Option, Some, None, refl, sym, ◌∙◌, ap, subst, arith}
 use Rattle.jn_base.specs.declared.names.ServerNo.{ServerNo}
 use Rattle.jn_schedule.specs.declared.Event.{Event}
 use Rattle.jn_schedule.specs.declared.Event.TheVariants as events
 use Rattle.jn_system_settling.specs.Settling.Course.{Course, go_on}
-use Rattle.jn_written.specs.Chances.{Setup, Chance}
-use Rattle.jn_written.specs.Tasks.{Task, Begins, Meets, Acts, Rests, ComesUp, Dismisses, GoesDown, ClosesClients, CountsCommits, Stage, InSchedule, AtEnd, CutShort, State, next_at, begun}
+use Rattle.jn_written.specs.Chances.{Setup}
+use Rattle.jn_written.specs.Tasks.{Task, Meets, Rests, CutShort, State}
 use Rattle.jn_written.specs.Deeds.{Deed, nothing, is_busy}
 use Rattle.jn_written.specs.Devices.{Befalls, rubbish_on}
 use Rattle.jn_written.specs.Events.{asking, settling, next_in, resting, deed_of}
-use Rattle.jn_written.specs.Steps.{is_too_much, come_to, cut_short, done}
+use Rattle.jn_written.specs.Steps.{done}
 use Rattle.jn_written.specs.Runs.{none, more, Moment, DoesStep, Leads}
 use Rattle.jn_written.specs.Wrong.{IsAtRest}
 use Rattle.jn_written.proofs.Resting.{rest-ends}
+use Rattle.jn_bounds.proofs.Doing.{GoesOn, IsCut, its-task, its-state, does, stays}
 use Rattle.jn_wrong.specs.Settles.{ComesToRest}
 
 -- no list is longer than itself
@@ -23,75 +23,19 @@ no-longer front rest task e = longer (length front) (length rest) (sym (length-a
     longer : (m n : ℕ) → m + suc n ≡ n → ⊥
     longer m n h = omega arith
 
-only-task : (stage : Stage) (task t : Task) (rest : List Task) → next_at stage (t ∷ rest) ≡ Some task → task ≡ t
-only-task InSchedule task t rest e = sym (some e)
-  where
-    some : {a b : Task} → Some a ≡ Some b → a ≡ b
-    some k = cc
-only-task AtEnd task t rest e = sym (some e)
-  where
-    some : {a b : Task} → Some a ≡ Some b → a ≡ b
-    some k = cc
-only-task CutShort task t rest e = absurd (no' e)
-  where
-    no' : None ≡ Some task → ⊥
-    no' k = cc
-
-begun-tasks : (task : Task) (s : State) → (begun task s).tasks ≡ drop 1 s.tasks
-begun-tasks (Begins e) s = refl
-begun-tasks (Meets e) s = refl
-begun-tasks (Acts e) s = refl
-begun-tasks Rests s = refl
-begun-tasks (ComesUp q) s = refl
-begun-tasks Dismisses s = refl
-begun-tasks (GoesDown q) s = refl
-begun-tasks (ClosesClients q) s = refl
-begun-tasks CountsCommits s = refl
-
 module _ (x : Setup) where
-  stays-cut : (a b : Moment) → Leads x a b → a.state.stage ≡ CutShort → b.state.stage ≡ CutShort
-  stays-cut a b (none m) e = e
-  stays-cut a b (more u c v d leads) e = absurd (no' (sym (ap (λ (stage : Stage). next_at stage a.state.tasks) e) ∙ d.task_is))
-    where
-      no' : None ≡ Some d.task → ⊥
-      no' k = cc
-
-  -- what a task leaves to do, and where the system is then
-  record Onward (h : Chance) (task : Task) (s : State) (t : State) : Type 0 where
-    tasks : t.tasks ≡ (deed_of x h task s).tasks ++ drop 1 s.tasks
-    course : t.course ≡ go_on (deed_of x h task s).steps (begun task s).course
-
-  onward : (h : Chance) (task : Task) (s : State) → (done x h task s).stage ≢ CutShort → Onward h task s (done x h task s)
-  onward h task s = by (is_too_much deed (go_on deed.steps (begun task s).course))
-    where
-      deed : Deed
-      deed = deed_of x h task s
-
-      by : (b : Bool) → (if b then cut_short (begun task s) else come_to x h deed (go_on deed.steps (begun task s).course) (begun task s)).stage ≢ CutShort
-          → Onward h task s (if b then cut_short (begun task s) else come_to x h deed (go_on deed.steps (begun task s).course) (begun task s))
-      by true n = absurd (n refl)
-      by false n = record { tasks = ap (λ (ts : List Task). deed.tasks ++ ts) (begun-tasks task s); course = refl }
-
   module _ (rest : List Task) where
     earlier : (a c b : Moment) → DoesStep x a c → ComesToRest x rest c b → ComesToRest x rest a b
     earlier a c b d r = record { moment = r.moment; leads = more a c r.moment d r.leads; tasks = r.tasks; is_at_rest = r.is_at_rest; goes_on = r.goes_on }
 
     -- the step of a known task
     module _ (a c b : Moment) (d : DoesStep x a c) (leads : Leads x c b) (goes : b.state.stage ≢ CutShort) (t : Task) (behind : List Task) (is : a.state.tasks ≡ t ∷ behind) where
-      its-task : d.task ≡ t
-      its-task = only-task a.state.stage d.task t behind (sym (ap (λ (ts : List Task). next_at a.state.stage ts) is) ∙ d.task_is)
-
-      its-state : c.state ≡ done x d.chance t a.state
-      its-state = d.state_is ∙ ap (λ (task : Task). done x d.chance task a.state) its-task
-
-      whole : (done x d.chance t a.state).stage ≢ CutShort
-      whole e = goes (stays-cut c b leads (ap (λ (s : State). s.stage) its-state ∙ e))
-
-      goes-so : Onward d.chance t a.state (done x d.chance t a.state)
-      goes-so = onward d.chance t a.state whole
-
-      tasks-left : c.state.tasks ≡ (deed_of x d.chance t a.state).tasks ++ behind
-      tasks-left = ap (λ (s : State). s.tasks) its-state ∙ goes-so.tasks ∙ ap (λ (ts : List Task). (deed_of x d.chance t a.state).tasks ++ drop 1 ts) is
+      goes-so : GoesOn x d.chance t behind a c
+      goes-so = by (does x t behind a c d is)
+        where
+          by : GoesOn x d.chance t behind a c ⊎ IsCut t behind a c → GoesOn x d.chance t behind a c
+          by (inl g) = g
+          by (inr k) = absurd (goes (ap (λ (m : Moment). m.state.stage) (stays x c b leads k.stage) ∙ k.stage))
 
     ended : (a c b : Moment) → DoesStep x a c → Leads x c b → b.state.stage ≢ CutShort → a.state.tasks ≡ Rests ∷ rest → (c.state.tasks ≡ Rests ∷ rest → ComesToRest x rest c b) → ComesToRest x rest a b
     ended a c b d leads goes is again = by (next_in x d.chance.rubbish a.state.course) refl
@@ -100,7 +44,7 @@ module _ (x : Setup) where
         now o = resting x d.chance a.state.course.world o
 
         left : (o : Option Event) → next_in x d.chance.rubbish a.state.course ≡ o → c.state.tasks ≡ (now o).tasks ++ rest
-        left o n = tasks-left a c b d leads goes Rests rest is ∙ ap (λ (o : Option Event). (now o).tasks ++ rest) n
+        left o n = (goes-so a c b d leads goes Rests rest is).tasks ∙ ap (λ (o : Option Event). (now o).tasks ++ rest) n
 
         by : (o : Option Event) → next_in x d.chance.rubbish a.state.course ≡ o → ComesToRest x rest a b
         by (Some event) n = earlier a c b d (again (left (Some event) n))
@@ -116,16 +60,19 @@ module _ (x : Setup) where
         }
           where
             its : d.task ≡ Rests
-            its = its-task a c b d leads goes Rests rest is
+            its = its-task x Rests rest a c d is
 
             state : c.state ≡ done x d.chance Rests a.state
-            state = its-state a c b d leads goes Rests rest is
+            state = its-state x Rests rest a c d is
 
             course : c.state.course ≡ a.state.course
-            course = ap (λ (s : State). s.course) state ∙ (goes-so a c b d leads goes Rests rest is).course ∙ ap (λ (o : Option Event). go_on (now o).steps a.state.course) n
+            course = (goes-so a c b d leads goes Rests rest is).course ∙ ap (λ (o : Option Event). go_on (now o).steps a.state.course) n
+
+            whole : (done x d.chance Rests a.state).stage ≢ CutShort
+            whole e = let cut = ap (λ (s : State). s.stage) state ∙ e in goes (ap (λ (m : Moment). m.state.stage) (stays x c b leads cut) ∙ cut)
 
             at : IsAtRest x d.chance.rubbish a.state.course
-            at = rest-ends x d.chance a.state (whole a c b d leads goes Rests rest is) (sym (ap (λ (s : State). s.tasks) state) ∙ left None n ∙ sym (ap (λ (ts : List Task). drop 1 ts) is))
+            at = rest-ends x d.chance a.state whole (sym (ap (λ (s : State). s.tasks) state) ∙ left None n ∙ sym (ap (λ (ts : List Task). drop 1 ts) is))
 
             befalls : Befalls x d.chance nothing a.state.course.world a.devices c.devices
             befalls = subst (λ (o : Option Event). Befalls x d.chance (now o) a.state.course.world a.devices c.devices) n
@@ -144,7 +91,7 @@ module _ (x : Setup) where
     toward front a b is (none m) over goes = absurd (no-longer front rest Rests (sym is ∙ over))
     toward [] a b is (more u c v d leads) over goes = ended a c b d leads goes is (λ e. toward [] c b e leads over goes)
     toward (t ∷ front) a b is (more u c v d leads) over goes = earlier a c b d (toward ((deed_of x d.chance t a.state).tasks ++ front) c b
-        (tasks-left a c b d leads goes t (front ++ Rests ∷ rest) is ∙ sym (append_assoc (deed_of x d.chance t a.state).tasks front (Rests ∷ rest))) leads over goes)
+        ((goes-so a c b d leads goes t (front ++ Rests ∷ rest) is).tasks ∙ sym (append_assoc (deed_of x d.chance t a.state).tasks front (Rests ∷ rest))) leads over goes)
 
     in-front : settling x ++ rest ≡ (Rests ∷ asking x) ++ Rests ∷ rest
     in-front = ap (λ (ts : List Task). Rests ∷ ts) (append_assoc (asking x) (Rests ∷ []) rest)
@@ -154,4 +101,4 @@ module _ (x : Setup) where
 
     pub event-settles : (a b : Moment) → a.state.tasks ≡ Meets events.Settle ∷ rest → Leads x a b → b.state.tasks ≡ rest → b.state.stage ≢ CutShort → ComesToRest x rest a b
     event-settles a b is (none m) over goes = absurd (no-longer [] rest (Meets events.Settle) (sym is ∙ over))
-    event-settles a b is (more u c v d leads) over goes = earlier a c b d (settles c b (tasks-left a c b d leads goes (Meets events.Settle) rest is) leads over goes)
+    event-settles a b is (more u c v d leads) over goes = earlier a c b d (settles c b ((goes-so a c b d leads goes (Meets events.Settle) rest is).tasks) leads over goes)
