@@ -1,0 +1,446 @@
+//! A random schedule. Most commands are those that a client would give next, if all that it asked for went well.
+ghost use Rattle.std.specs.Prelude.{◌<◌};
+
+use jn_base::{BlockContent, BlockNo, ClientNo, Command, FaultKind, FileNo, Op, ServerNo, Tid};
+use jn_intent::PageCounts;
+use jn_run_tests::Servers;
+use jn_schedule::Event;
+use rand_core::utils::NextWord;
+use rand_pcg::Pcg32;
+use std::alloc::{AllocError, Global};
+
+/// How far a client has come, as far as the schedule can know.
+#[derive(Clone, Copy, PartialEq, Eq)]
+enum Stage {
+    Idle,
+    Begun(Tid),
+    Opened(ServerNo, Tid),
+}
+
+/// What the schedule takes a server for.
+#[derive(Clone, Copy)]
+struct Guess {
+    epoch: u32,
+    /// The ticket that it draws next.
+    ticket: u32,
+    is_down: bool,
+}
+
+/// From what a schedule is drawn.
+#[derive(Drop)]
+pub(crate) struct Drawing {
+    random: Pcg32,
+    pub(crate) servers: Servers,
+    clients: u32,
+    /// How many of a hundred events are misfortunes.
+    misfortunes: u32,
+    /// The one kind of stops of each server, of server 0 first, where it has only one.
+    stops: [Option<FaultKind>; 3],
+    /// Of server 0 first.
+    guesses: Vec<Guess>,
+    /// How many files there are to be at each server.
+    files: u32,
+    /// Of client 1 first.
+    stages: Vec<Stage>,
+    alloc: Global,
+}
+
+/// A number below the count.
+fn below(random: &mut Pcg32, count: u32) -> u32
+    requires { 0 < count }
+    ensures { result < count }
+{
+    random.next_word() % count
+}
+
+/// The servers of a schedule: 1 to 3, with few pages each, so that these run out.
+fn drawn_servers(random: &mut Pcg32) -> Servers {
+    let count = 1 + below(random, 3) as u8;
+    let pool = 3 + below(random, 8) as u16;
+    let heads = 1 + below(random, 4) as u16;
+    let leaves = 1 + below(random, 8) as u16;
+    Servers {
+        count,
+        pages: PageCounts {
+            pool,
+            heads,
+            leaves,
+        },
+        trace: false,
+    }
+}
+
+/// The one kind of stops of a server, or `None` for one in four that has all kinds.
+fn drawn_stop(random: &mut Pcg32) -> Option<FaultKind> {
+    match below(random, 4) {
+        0 => Some(FaultKind::StopBefore),
+        1 => Some(FaultKind::StopTorn),
+        2 => Some(FaultKind::StopAfter),
+        _ => None,
+    }
+}
+
+impl Drawing {
+    /// The schedule of this number among those of a seed.
+    pub(crate) fn new(alloc: Global, seed: u64, number: u32) -> Result<Drawing, AllocError> {
+        let mut random = Pcg32::new(seed, u64::from(number));
+        let servers = drawn_servers(&mut random);
+        let clients = 1 + below(&mut random, 4);
+        let misfortunes = below(&mut random, 5) * 5;
+        let files = 1 + below(&mut random, 4);
+        let new = Guess {
+            epoch: 1,
+            ticket: 0,
+            is_down: false,
+        };
+        let stops = [
+            drawn_stop(&mut random),
+            drawn_stop(&mut random),
+            drawn_stop(&mut random),
+        ];
+        Ok(Drawing {
+            random,
+            servers,
+            clients,
+            misfortunes,
+            stops,
+            guesses: vec![in alloc; new, new, new]?,
+            files,
+            stages: vec![in alloc; Stage::Idle, Stage::Idle, Stage::Idle, Stage::Idle]?,
+            alloc,
+        })
+    }
+
+    fn draw(&mut self, count: u32) -> u32
+        requires { 0 < count }
+        ensures { result < count }
+    {
+        below(&mut self.random, count)
+    }
+
+    /// A server, one in sixty of which isn't there.
+    fn server(&mut self) -> ServerNo {
+        let drawn = self.draw(60) as u8;
+        if drawn == 59 {
+            return ServerNo(self.servers.count % 8);
+        }
+        match self.servers.count {
+            1 => ServerNo(0),
+            2 => ServerNo(drawn % 2),
+            _ => ServerNo(drawn % 3),
+        }
+    }
+
+    fn client(&mut self) -> ClientNo {
+        let drawn = self.draw(4) as u8;
+        match self.clients {
+            1 => ClientNo(1),
+            2 => ClientNo(1 + drawn % 2),
+            3 => ClientNo(1 + drawn % 3),
+            _ => ClientNo(1 + drawn),
+        }
+    }
+
+    fn stage(&self, client: ClientNo) -> Stage {
+        match self.stages.get(usize::from(client.0).wrapping_sub(1)) {
+            Some(stage) => *stage,
+            None => Stage::Idle,
+        }
+    }
+
+    fn set_stage(&mut self, client: ClientNo, stage: Stage) {
+        if let Some(place) = self.stages.get_mut(usize::from(client.0).wrapping_sub(1)) {
+            *place = stage;
+        }
+    }
+
+    /// One of a server's physical pages, one in thirty of which isn't there.
+    fn page(&mut self) -> u32 {
+        let PageCounts {
+            pool,
+            heads,
+            leaves,
+        } = self.servers.pages;
+        let pages = u32::from(pool)
+            .wrapping_add(u32::from(heads))
+            .wrapping_add(u32::from(leaves))
+            .wrapping_add(1)
+            .wrapping_mul(2);
+        if self.draw(30) == 29 {
+            return pages;
+        }
+        self.draw(256) % pages.max(1)
+    }
+
+    fn file(&mut self) -> FileNo {
+        FileNo(self.draw(64) % self.files.max(1))
+    }
+
+    /// A block, one in twenty of which is the last one.
+    fn block(&mut self) -> BlockNo {
+        match self.draw(20) {
+            19 => BlockNo(119),
+            drawn => BlockNo((drawn % 5) as u16),
+        }
+    }
+
+    fn content(&mut self) -> Result<BlockContent, AllocError> {
+        let mut block = [0; 448];
+        block[0] = self.draw(256) as u8;
+        BlockContent::from_block(self.alloc, &block)
+    }
+
+    fn op(&mut self) -> Result<Op, AllocError> {
+        let file = self.file();
+        let block = self.block();
+        Ok(match self.draw(12) {
+            0..=2 => Op::Create(file),
+            3 => Op::Remove(file),
+            4 => Op::Cut(file, block),
+            5..=7 => Op::Read(file, block),
+            _ => Op::Write(file, block, self.content()?),
+        })
+    }
+
+    fn guess(&self, server: ServerNo) -> Guess {
+        match self.guesses.get(usize::from(server.0)) {
+            Some(guess) => *guess,
+            None => Guess {
+                epoch: 1,
+                ticket: 0,
+                is_down: true,
+            },
+        }
+    }
+
+    fn set_guess(&mut self, server: ServerNo, guess: Guess) {
+        if let Some(place) = self.guesses.get_mut(usize::from(server.0)) {
+            *place = guess;
+        }
+    }
+
+    /// The server draws a ticket.
+    fn draw_ticket(&mut self, server: ServerNo) {
+        let guess = self.guess(server);
+        self.set_guess(
+            server,
+            Guess {
+                ticket: guess.ticket.saturating_add(1),
+                ..guess
+            },
+        );
+    }
+
+    /// The server is to go down, or up.
+    fn turn(&mut self, server: ServerNo, is_down: bool) {
+        let guess = self.guess(server);
+        self.set_guess(
+            server,
+            if is_down {
+                Guess { is_down, ..guess }
+            } else {
+                Guess {
+                    epoch: guess.epoch.saturating_add(1),
+                    ticket: 0,
+                    is_down,
+                }
+            },
+        );
+    }
+
+    /// The name that a server gives the next transaction, as far as the schedule can know.
+    fn next_name(&self, server: ServerNo) -> Tid {
+        let guess = self.guess(server);
+        Tid {
+            server,
+            epoch: guess.epoch,
+            ticket: guess.ticket,
+        }
+    }
+
+    /// A server that begins a transaction or a work draws a ticket.
+    fn follow(&mut self, command: &Command) {
+        match command {
+            Command::Begin(server) | Command::Open(server) => self.draw_ticket(*server),
+            _ => {}
+        }
+    }
+
+    /// A transaction that may be there: that of a client, or another one.
+    fn transaction(&mut self) -> Tid {
+        let client = self.client();
+        match self.stage(client) {
+            Stage::Begun(tid) | Stage::Opened(_, tid) => tid,
+            Stage::Idle => Tid {
+                server: ServerNo(self.draw(3) as u8),
+                epoch: 1,
+                ticket: self.draw(8),
+            },
+        }
+    }
+
+    /// A stop of a server's device.
+    fn stop(&mut self, server: ServerNo) -> FaultKind {
+        match self.stops.get(usize::from(server.0)) {
+            Some(Some(kind)) => *kind,
+            _ => match self.draw(3) {
+                0 => FaultKind::StopBefore,
+                1 => FaultKind::StopTorn,
+                _ => FaultKind::StopAfter,
+            },
+        }
+    }
+
+    /// A fault of a server's device.
+    fn fault(&mut self, server: ServerNo) -> FaultKind {
+        let page = self.page();
+        match self.draw(14) {
+            0 | 1 => FaultKind::Soft,
+            2 | 3 => FaultKind::Null,
+            4 => FaultKind::Bad,
+            5 => FaultKind::Decay(page),
+            6 => FaultKind::Revive(page),
+            _ => self.stop(server),
+        }
+    }
+
+    /// Any command.
+    fn command(&mut self) -> Result<Command, AllocError> {
+        let server = self.server();
+        Ok(match self.draw(6) {
+            0 => Command::Begin(server),
+            1 => Command::Open(server),
+            2 => Command::End,
+            3 => Command::Abort,
+            _ => Command::Do(server, self.op()?),
+        })
+    }
+
+    /// What a client of this stage would do, and the stage behind it.
+    fn next_command(&mut self, stage: Stage) -> Result<(Command, Stage), AllocError> {
+        let server = self.server();
+        Ok(match (stage, self.draw(20)) {
+            (Stage::Idle, _) => (Command::Begin(server), Stage::Begun(self.next_name(server))),
+            (Stage::Begun(tid), _) => (Command::Open(server), Stage::Opened(server, tid)),
+            (Stage::Opened(_, tid), 0 | 1) => (Command::Open(server), Stage::Opened(server, tid)),
+            (Stage::Opened(..), 2) => (Command::Abort, Stage::Idle),
+            (Stage::Opened(..), 3..=7) => (Command::End, Stage::Idle),
+            (Stage::Opened(at, _), _) => (Command::Do(at, self.op()?), stage),
+        })
+    }
+
+    /// Appends a client's next command, and often a settle.
+    fn push_next(&mut self, events: &mut Vec<Event>) -> Result<(), AllocError> {
+        let client = self.client();
+        let stage = self.stage(client);
+        let (command, after) = self.next_command(stage)?;
+        self.set_stage(client, after);
+        self.follow(&command);
+        events.push(Event::Command(client, command))?;
+        if self.draw(10) < 6 {
+            events.push(Event::Settle)?;
+        }
+        Ok(())
+    }
+
+    /// Appends that a client's transaction has taken too long, where it came to a server.
+    fn push_timeout(&mut self, events: &mut Vec<Event>) -> Result<(), AllocError> {
+        let client = self.client();
+        if let Stage::Opened(server, tid) = self.stage(client) {
+            events.push(Event::Timeout(server, tid))?;
+        }
+        Ok(())
+    }
+
+    /// How far off a fault strikes: mostly within a commit, and else within a restart.
+    fn call(&mut self) -> u32 {
+        if self.draw(4) == 0 {
+            return 1 + self.draw(60);
+        }
+        1 + self.draw(20)
+    }
+
+    /// What befalls a server.
+    fn misfortune(&mut self, server: ServerNo) -> Event {
+        match self.draw(12) {
+            0..=2 => {
+                self.turn(server, true);
+                Event::Crash(server)
+            }
+            3..=8 => {
+                let call = self.call();
+                let fault = self.fault(server);
+                if let FaultKind::StopBefore | FaultKind::StopTorn | FaultKind::StopAfter = fault {
+                    self.turn(server, true);
+                }
+                Event::Arm(server, call, fault)
+            }
+            9 | 10 => Event::Decay(server, self.page()),
+            _ => Event::Revive(server, self.page()),
+        }
+    }
+
+    /// Brings a server up that may be down.
+    fn restart(&mut self, server: ServerNo) -> Event {
+        if !self.guess(server).is_down && self.draw(6) != 0 {
+            return Event::Show(server);
+        }
+        self.turn(server, false);
+        Event::Restart(server)
+    }
+
+    /// What is handed over or done in the background, or brings a server up. There may be a few messages for each event so far.
+    fn passing(&mut self, server: ServerNo, done: u32) -> Event {
+        match self.draw(32) {
+            0..=6 => Event::Settle,
+            7..=13 => {
+                let messages = done.saturating_mul(3);
+                Event::Deliver(self.draw(4096) % messages.max(1))
+            }
+            14 | 15 => Event::Step(server),
+            16 => Event::Nudge(server),
+            17..=21 => Event::Timeout(server, self.transaction()),
+            22 => Event::Scrub(server),
+            _ => self.restart(server),
+        }
+    }
+
+    /// Appends a command that a client may not be ready for, or what it sent once more.
+    fn push_command(&mut self, events: &mut Vec<Event>) -> Result<(), AllocError> {
+        let client = self.client();
+        if self.draw(3) == 0 {
+            return Ok(events.push(Event::Again(client))?);
+        }
+        let command = self.command()?;
+        events.push(Event::Command(client, command))?;
+        Ok(())
+    }
+
+    /// Appends an event or two.
+    fn push_event(&mut self, events: &mut Vec<Event>, done: u32) -> Result<(), AllocError> {
+        let server = self.server();
+        if self.draw(100) < self.misfortunes {
+            events.push(self.misfortune(server))?;
+            return Ok(());
+        }
+        match self.draw(100) {
+            0..=59 => self.push_next(events),
+            60..=64 => self.push_command(events),
+            65..=70 => self.push_timeout(events),
+            _ => {
+                events.push(self.passing(server, done))?;
+                Ok(())
+            }
+        }
+    }
+
+    /// All events of the schedule.
+    pub(crate) fn events(&mut self) -> Result<Vec<Event>, AllocError> {
+        let mut events = Vec::new(self.alloc);
+        let count = 40 + self.draw(120);
+        for done in 0..count {
+            self.push_event(&mut events, done)?;
+        }
+        Ok(events)
+    }
+}

@@ -1,0 +1,4 @@
+// A plain list of pages, and stable pages.
+
+mod plain;
+mod stops;

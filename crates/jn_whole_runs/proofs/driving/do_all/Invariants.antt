@@ -1,7 +1,0 @@
-use Rattle.jn_world.specs.Standing.{IsWorld}
-use Rattle.jn_whole_runs.proofs.driving.do_all.Given as goal
-
-abbrev pub invariant-loop-event : goal.invariant-loop-event
-invariant-loop-event g l = record {
-  world : IsWorld (λ s. g.S.StableStore.view s) l.world;
-}
