@@ -1,3 +1,0 @@
-mod Going
-mod Rooms
-mod Stages
