@@ -1,14 +1,20 @@
 //! A client's table: what it does with commands and messages.
 
-ghost use Rattle.std.specs.Prelude.{◌≡◌, ◌+◌, ◌<◌, ◌^◌, ℕ, true, is_some, option_map, IfOk, IfErr, IfSome, MatchResult};
+ghost use Rattle.std.specs.Prelude.{◌≡◌, ◌+◌, ◌<◌, ◌^◌, ℕ, true, is_some, option_map, IfOk, IfErr, OnOk, OnErr, IfSome, MatchResult, None};
+ghost use Rattle.jn_base.specs.declared.names.ClientNo.{ClientNo};
 ghost use Rattle.jn_base.specs.declared.op.Command.TheVariants.{Begin, Open, Do, End, Abort};
 ghost use Rattle.jn_client.specs.declared.words.CommandFault.TheVariants.{Memory};
-ghost use Rattle.jn_client.specs.Calls.{Gives, Asks, replied_to, event_where, are_below, works_after, decision};
+ghost use Rattle.jn_client.specs.Calls.{Gives, sent_table, replied_to, event_where, are_below, works_after, decision};
+ghost use Rattle.jn_client.specs.Effects.{taken_of};
 ghost use Rattle.jn_msgs.specs.declared.message.Message.TheVariants as messages;
 ghost use Rattle.jn_msgs.specs.declared.message.Outcome.TheVariants as outcomes;
+ghost use Rattle.jn_rows.specs.declared.client.Taken.TheVariants.{Told};
 ghost use Rattle.jn_rows.specs.Client as rows;
 
-use crate::copies::{copy_of, names_of};
+use crate::copies::{copy_of, copy_of_works, names_of};
+use crate::effect::{
+    Effect, aborted, begun, committed, did, forgotten, opened, read, refused, thanks, waiting,
+};
 use crate::words::CommandFault;
 use jn_base::{Answer, Cause, ClientNo, Command, Op, Party, ServerNo, Tid, WorkId};
 use jn_msgs::{Message, Outcome};
@@ -84,13 +90,13 @@ fn count(works: &mut [OpenWork], command: &Command, limit: u32)
     }
 }
 
-/// What a client reports of an answer.
-fn answer_line(client: ClientNo, event: u32, answer: &Answer) -> Text
-    ensures { result ≡ rows.answer_line client event answer.now }
+/// What an answer does, to the operation that this event gave.
+fn answer_effect<'a>(event: u32, answer: &'a Answer) -> Effect<'a>
+    ensures { (client : ClientNo) → taken_of client result ≡ Told (rows.answer_line client event answer.now) None }
 {
     let refusal = match answer {
-        Answer::Did => return Text::Did(client, event),
-        Answer::Read(content) => return Text::Read(client, event, content.to_block()),
+        Answer::Did => return Effect::Did(event),
+        Answer::Read(content) => return Effect::Read(event, content),
         Answer::NoFile => Refusal::NoFile,
         Answer::Exists => Refusal::Exists,
         Answer::Locked(unit, holder) => Refusal::Locked(*unit, *holder),
@@ -100,7 +106,7 @@ fn answer_line(client: ClientNo, event: u32, answer: &Answer) -> Text
         Answer::Lost(then, now) => Refusal::Lost(*then, *now),
         Answer::Closing => Refusal::Closing,
     };
-    Text::Refused(client, event, refusal)
+    Effect::Refused(event, refusal)
 }
 
 fn is_end(command: &Command) -> bool
@@ -173,35 +179,34 @@ impl Client {
         requires { self.old.next < 2 ^ 32 }
         ensures { Gives (rows.command_row self.old j command.now) self.old result self.new }
     {
-        let (to, message) = self.message_for(command)?;
-        let kept = copy_of(self.alloc, &message)?;
-        let asked = command.copy(self.alloc)?;
-        self.works.reserve(1)?;
-        let request = self.last + 1;
-        count(&mut self.works, command, request);
-        self.outstanding = Some(Outstanding {
-            event: j,
-            request,
-            command: asked,
-            to,
-            message: kept,
-        });
-        self.last = request;
-        Ok(Some((to, message)))
+        match command {
+            Command::Begin(server) => return self.begin(j, *server),
+            Command::Open(server) => return self.open(j, *server),
+            Command::Do(server, op) => return self.operate(j, *server, op),
+            Command::End => return self.end(j),
+            Command::Abort => return self.abort(j),
+        }
     }
 
     /// Does what a message asks for.
     pub fn take(&mut self, message: &Message) -> Taken
         ensures { (self.new, result) ≡ rows.take_row self.old message.now }
     {
-        match message {
-            Message::Begun(client, request, answer) => self.begun(*client, *request, *answer),
-            Message::Opened(client, request, tid, answer) => {
-                self.opened(*client, *request, *tid, *answer)
-            }
-            Message::Answer(client, request, answer) => self.answered(*client, *request, answer),
-            Message::Outcome(client, tid, outcome) => self.told(*client, *tid, *outcome),
-            _ => Taken::Ignored,
+        let client = self.client;
+        let effect = self.effect(message);
+        // Each line is returned where it is made, so that it is written once, to the caller's place.
+        match effect {
+            Effect::Ignored => return Taken::Ignored,
+            Effect::Over(tid) => return thanks(client, tid),
+            Effect::Begun(j, tid) => return begun(client, j, tid),
+            Effect::Opened(j, server) => return opened(client, j, server),
+            Effect::Did(j) => return did(client, j),
+            Effect::Read(j, content) => return read(client, j, content),
+            Effect::Refused(j, refusal) => return refused(client, j, refusal),
+            Effect::Waiting(j, server, unit, by) => return waiting(client, j, server, unit, by),
+            Effect::Committed(j, tid) => return committed(client, j, tid),
+            Effect::Aborted(j, tid, cause) => return aborted(client, j, tid, cause),
+            Effect::Forgotten(j, tid, server) => return forgotten(client, j, tid, server),
         }
     }
 
@@ -222,24 +227,11 @@ impl Client {
         self.finish();
     }
 
-    // The messages of commands.
+    // What commands do.
 
-    fn message_for(&self, command: &Command) -> Result<(Party, Message), CommandFault>
-        requires { self.now.next < 2 ^ 32 }
-        ensures { Asks (λ j. rows.command_row self.now j command.now) self.now command.now result }
-    {
-        match command {
-            Command::Begin(server) => self.begin_message(*server),
-            Command::Open(server) => self.open_message(*server),
-            Command::Do(server, op) => self.operation_message(*server, op),
-            Command::End => self.end_message(),
-            Command::Abort => self.abort_message(),
-        }
-    }
-
-    fn begin_message(&self, server: ServerNo) -> Result<(Party, Message), CommandFault>
-        requires { self.now.next < 2 ^ 32 }
-        ensures { Asks (λ j. rows.command_row self.now j (Begin server)) self.now (Begin server) result }
+    fn begin(&mut self, j: u32, server: ServerNo) -> Result<Option<(Party, Message)>, CommandFault>
+        requires { self.old.next < 2 ^ 32 }
+        ensures { Gives (rows.command_row self.old j (Begin server)) self.old result self.new }
     {
         if server.0 >= self.servers {
             return Err(CommandFault::Refused(Refusal::NoSuchServer));
@@ -250,15 +242,20 @@ impl Client {
         if self.transaction.is_some() {
             return Err(CommandFault::Refused(Refusal::HasTransaction));
         }
-        Ok((
-            Party::Server(server),
-            Message::Begin(self.client, self.last + 1),
-        ))
+        let to = Party::Server(server);
+        let (client, request) = (self.client, self.last + 1);
+        self.wait(
+            j,
+            Command::Begin(server),
+            to,
+            Message::Begin(client, request),
+        )?;
+        Ok(Some((to, Message::Begin(client, request))))
     }
 
-    fn open_message(&self, server: ServerNo) -> Result<(Party, Message), CommandFault>
-        requires { self.now.next < 2 ^ 32 }
-        ensures { Asks (λ j. rows.command_row self.now j (Open server)) self.now (Open server) result }
+    fn open(&mut self, j: u32, server: ServerNo) -> Result<Option<(Party, Message)>, CommandFault>
+        requires { self.old.next < 2 ^ 32 }
+        ensures { Gives (rows.command_row self.old j (Open server)) self.old result self.new }
     {
         if server.0 >= self.servers {
             return Err(CommandFault::Refused(Refusal::NoSuchServer));
@@ -272,15 +269,25 @@ impl Client {
         if self.work_at(server).is_some() {
             return Err(CommandFault::Refused(Refusal::AlreadyOpen));
         }
-        Ok((
-            Party::Server(server),
-            Message::Open(self.client, self.last + 1, tid),
-        ))
+        let to = Party::Server(server);
+        let (client, request) = (self.client, self.last + 1);
+        self.wait(
+            j,
+            Command::Open(server),
+            to,
+            Message::Open(client, request, tid),
+        )?;
+        Ok(Some((to, Message::Open(client, request, tid))))
     }
 
-    fn operation_message(&self, server: ServerNo, op: &Op) -> Result<(Party, Message), CommandFault>
-        requires { self.now.next < 2 ^ 32 }
-        ensures { Asks (λ j. rows.command_row self.now j (Do server op.now)) self.now (Do server op.now) result }
+    fn operate(
+        &mut self,
+        j: u32,
+        server: ServerNo,
+        op: &Op,
+    ) -> Result<Option<(Party, Message)>, CommandFault>
+        requires { self.old.next < 2 ^ 32 }
+        ensures { Gives (rows.command_row self.old j (Do server op.now)) self.old result self.new }
     {
         if server.0 >= self.servers {
             return Err(CommandFault::Refused(Refusal::NoSuchServer));
@@ -294,21 +301,18 @@ impl Client {
         let Some(at) = self.work_at(server) else {
             return Err(CommandFault::Refused(Refusal::NotOpen));
         };
-        Ok((
-            Party::Server(server),
-            Message::Op(
-                self.client,
-                self.last + 1,
-                at.work,
-                at.last + 1,
-                op.copy(self.alloc)?,
-            ),
-        ))
+        let to = Party::Server(server);
+        let (client, request, number) = (self.client, self.last + 1, at.last + 1);
+        let asked = Command::Do(server, op.copy(self.alloc)?);
+        let kept = Message::Op(client, request, at.work, number, op.copy(self.alloc)?);
+        let sent = Message::Op(client, request, at.work, number, op.copy(self.alloc)?);
+        self.wait(j, asked, to, kept)?;
+        Ok(Some((to, sent)))
     }
 
-    fn end_message(&self) -> Result<(Party, Message), CommandFault>
-        requires { self.now.next < 2 ^ 32 }
-        ensures { Asks (λ j. rows.command_row self.now j End) self.now End result }
+    fn end(&mut self, j: u32) -> Result<Option<(Party, Message)>, CommandFault>
+        requires { self.old.next < 2 ^ 32 }
+        ensures { Gives (rows.command_row self.old j End) self.old result self.new }
     {
         if self.outstanding.is_some() {
             return Err(CommandFault::Refused(Refusal::ClientBusy));
@@ -316,25 +320,54 @@ impl Client {
         let Some(tid) = self.transaction else {
             return Err(CommandFault::Refused(Refusal::NoTransaction));
         };
+        let to = Party::Server(tid.server);
+        let (client, request) = (self.client, self.last + 1);
         let works = names_of(self.alloc, &self.works)?;
-        Ok((
-            Party::Server(tid.server),
-            Message::End(self.client, self.last + 1, tid, works),
-        ))
+        let kept = Message::End(client, request, tid, copy_of_works(self.alloc, &works)?);
+        self.wait(j, Command::End, to, kept)?;
+        Ok(Some((to, Message::End(client, request, tid, works))))
     }
 
-    fn abort_message(&self) -> Result<(Party, Message), CommandFault>
-        requires { self.now.next < 2 ^ 32 }
-        ensures { Asks (λ j. rows.command_row self.now j Abort) self.now Abort result }
+    fn abort(&mut self, j: u32) -> Result<Option<(Party, Message)>, CommandFault>
+        requires { self.old.next < 2 ^ 32 }
+        ensures { Gives (rows.command_row self.old j Abort) self.old result self.new }
     {
         let Some(tid) = self.transaction else {
             return Err(CommandFault::Refused(Refusal::NoTransaction));
         };
+        let to = Party::Server(tid.server);
+        let (client, request) = (self.client, self.last + 1);
         let works = names_of(self.alloc, &self.works)?;
-        Ok((
-            Party::Server(tid.server),
-            Message::Abort(self.client, self.last + 1, tid, works),
-        ))
+        let kept = Message::Abort(client, request, tid, copy_of_works(self.alloc, &works)?);
+        self.wait(j, Command::Abort, to, kept)?;
+        Ok(Some((to, Message::Abort(client, request, tid, works))))
+    }
+
+    /// The client waits for what this message is answered. Without memory nothing changes.
+    #[inline(always)]
+    fn wait(
+        &mut self,
+        event: u32,
+        command: Command,
+        to: Party,
+        message: Message,
+    ) -> Result<(), AllocError>
+        requires { self.old.next < 2 ^ 32 }
+        ensures ok { OnOk result (self.new ≡ sent_table self.old event command to message) }
+        ensures err { OnErr result (self.new ≡ self.old) }
+    {
+        self.works.reserve(1)?;
+        let request = self.last + 1;
+        count(&mut self.works, &command, request);
+        self.outstanding = Some(Outstanding {
+            event,
+            request,
+            command,
+            to,
+            message,
+        });
+        self.last = request;
+        Ok(())
     }
 
     /// The work at a server.
@@ -352,113 +385,125 @@ impl Client {
 
     // What messages do.
 
-    fn begun(&mut self, client: ClientNo, request: u32, answer: Option<Tid>) -> Taken
-        ensures { (self.new, result) ≡ rows.take_row self.old (messages.Begun client request answer) }
+    fn effect<'a>(&mut self, message: &'a Message) -> Effect<'a>
+        ensures { (self.new, taken_of self.old.client result) ≡ rows.take_row self.old message.now }
+    {
+        match message {
+            Message::Begun(client, request, answer) => self.begun(*client, *request, *answer),
+            Message::Opened(client, request, tid, answer) => {
+                self.opened(*client, *request, *tid, *answer)
+            }
+            Message::Answer(client, request, answer) => self.answered(*client, *request, answer),
+            Message::Outcome(client, tid, outcome) => self.told(*client, *tid, *outcome),
+            _ => Effect::Ignored,
+        }
+    }
+
+    fn begun(&mut self, client: ClientNo, request: u32, answer: Option<Tid>) -> Effect<'static>
+        ensures { (self.new, taken_of self.old.client result) ≡ rows.take_row self.old (messages.Begun client request answer) }
     {
         let Some((j, Command::Begin(_))) = self.replied_to(client, request) else {
-            return Taken::Ignored;
+            return Effect::Ignored;
         };
         self.outstanding = None;
         let Some(tid) = answer else {
-            let refused = Text::Refused(self.client, j, Refusal::TooManyTransactions);
-            return Taken::Told(refused, None);
+            return Effect::Refused(j, Refusal::TooManyTransactions);
         };
         self.transaction = Some(tid);
         self.works.clear();
-        Taken::Told(Text::Begun(self.client, j, tid), None)
+        Effect::Begun(j, tid)
     }
 
     #[tactic(auto, using(crate::proofs::Counts::below_pushed))]
-    fn opened(&mut self, client: ClientNo, request: u32, tid: Tid, answer: Option<WorkId>) -> Taken
-        ensures { (self.new, result) ≡ rows.take_row self.old (messages.Opened client request tid answer) }
+    fn opened(
+        &mut self,
+        client: ClientNo,
+        request: u32,
+        tid: Tid,
+        answer: Option<WorkId>,
+    ) -> Effect<'static>
+        ensures { (self.new, taken_of self.old.client result) ≡ rows.take_row self.old (messages.Opened client request tid answer) }
     {
         let Some((j, Command::Open(server))) = self.replied_to(client, request) else {
-            return Taken::Ignored;
+            return Effect::Ignored;
         };
         let asked = *server;
         if !self.is_current(tid) {
-            return Taken::Ignored;
+            return Effect::Ignored;
         }
         let Some(work) = answer else {
             self.outstanding = None;
-            let refused = Text::Refused(self.client, j, Refusal::TooManyWorks);
-            return Taken::Told(refused, None);
+            return Effect::Refused(j, Refusal::TooManyWorks);
         };
         if work.server.0 != asked.0 {
-            return Taken::Ignored;
+            return Effect::Ignored;
         }
         self.outstanding = None;
         self.works.push_reserved(OpenWork { work, last: 0 });
-        Taken::Told(Text::Opened(self.client, j, work.server), None)
+        Effect::Opened(j, work.server)
     }
 
-    fn answered(&mut self, client: ClientNo, request: u32, answer: &Answer) -> Taken
-        ensures { (self.new, result) ≡ rows.take_row self.old (messages.Answer client request answer.now) }
+    fn answered<'a>(&mut self, client: ClientNo, request: u32, answer: &'a Answer) -> Effect<'a>
+        ensures { (self.new, taken_of self.old.client result) ≡ rows.take_row self.old (messages.Answer client request answer.now) }
     {
         let Some((j, Command::Do(_, _))) = self.replied_to(client, request) else {
-            return Taken::Ignored;
+            return Effect::Ignored;
         };
         self.outstanding = None;
-        Taken::Told(answer_line(self.client, j, answer), None)
+        answer_effect(j, answer)
     }
 
-    fn told(&mut self, client: ClientNo, tid: Tid, outcome: Outcome) -> Taken
-        ensures { (self.new, result) ≡ rows.take_row self.old (messages.Outcome client tid outcome) }
+    fn told(&mut self, client: ClientNo, tid: Tid, outcome: Outcome) -> Effect<'static>
+        ensures { (self.new, taken_of self.old.client result) ≡ rows.take_row self.old (messages.Outcome client tid outcome) }
     {
         if client.0 != self.client.0 {
-            return Taken::Ignored;
+            return Effect::Ignored;
         }
         match outcome {
             Outcome::Committed => self.decided(tid, None),
             Outcome::Aborted(cause) => self.decided(tid, Some(cause)),
             Outcome::Waiting(server, unit, holder) => {
                 let Some(j) = self.end_event() else {
-                    return Taken::Ignored;
+                    return Effect::Ignored;
                 };
                 if !self.is_current(tid) {
-                    return Taken::Ignored;
+                    return Effect::Ignored;
                 }
-                Taken::Told(Text::Waiting(self.client, j, server, unit, holder), None)
+                Effect::Waiting(j, server, unit, holder)
             }
             Outcome::NotKnown(server, _) => self.not_known(tid, server),
         }
     }
 
     /// The transaction committed, or was aborted for a cause.
-    fn decided(&mut self, tid: Tid, cause: Option<Cause>) -> Taken
-        ensures { (self.new, result) ≡ rows.outcome_row self.old tid (decision cause) }
+    fn decided(&mut self, tid: Tid, cause: Option<Cause>) -> Effect<'static>
+        ensures { (self.new, taken_of self.old.client result) ≡ rows.outcome_row self.old tid (decision cause) }
     {
-        let server = Party::Server(tid.server);
-        let thanks = Message::Thanks(self.client, tid);
         if !self.is_current(tid) {
-            return Taken::Send(server, thanks);
+            return Effect::Over(tid);
         }
         let Some(j) = self.decision_event() else {
-            return Taken::Ignored;
+            return Effect::Ignored;
         };
         self.finish();
-        let line = match cause {
-            None => Text::Committed(self.client, j, tid),
-            Some(cause) => Text::Aborted(self.client, j, tid, cause),
-        };
-        Taken::Told(line, Some((server, thanks)))
+        match cause {
+            None => Effect::Committed(j, tid),
+            Some(cause) => Effect::Aborted(j, tid, cause),
+        }
     }
 
     /// The transaction's server has forgotten it.
-    fn not_known(&mut self, tid: Tid, server: ServerNo) -> Taken
-        ensures { (self.new, result) ≡ rows.outcome_row self.old tid (outcomes.NotKnown server 0) }
+    fn not_known(&mut self, tid: Tid, server: ServerNo) -> Effect<'static>
+        ensures { (self.new, taken_of self.old.client result) ≡ rows.outcome_row self.old tid (outcomes.NotKnown server 0) }
     {
         if !self.is_current(tid) {
-            return Taken::Ignored;
+            return Effect::Ignored;
         }
         let Some(j) = self.decision_event() else {
-            return Taken::Ignored;
+            return Effect::Ignored;
         };
         self.finish();
-        Taken::Told(
-            Text::Aborted(self.client, j, tid, Cause::Lost(server)),
-            None,
-        )
+        Effect::Forgotten(j, tid, server)
     }
 
     /// Its transaction is over.

@@ -19,7 +19,8 @@ pub(crate) fn names_of(alloc: Global, works: &[OpenWork]) -> Result<Works, Alloc
     Ok(Works::from_vec(names))
 }
 
-fn copy_of_works(alloc: Global, works: &Works) -> Result<Works, AllocError>
+/// The same works.
+pub(crate) fn copy_of_works(alloc: Global, works: &Works) -> Result<Works, AllocError>
     ensures { IfOk result (λ copy. copy ≡ works.now) }
 {
     Ok(Works::from_vec(works.as_slice().to_vec(alloc)?))

@@ -3,6 +3,7 @@
 
 mod client;
 mod copies;
+mod effect;
 mod words;
 
 pub use client::Client;
