@@ -343,7 +343,8 @@ impl Client {
         Ok(Some((to, Message::Abort(client, request, tid, works))))
     }
 
-    /// The client waits for what this message is answered. Without memory nothing changes.
+    /// The client waits for what this message is answered. Without memory nothing changes. Where it is inlined, the parts of
+    /// a message are written once.
     #[inline(always)]
     fn wait(
         &mut self,

@@ -26,7 +26,8 @@ pub(crate) fn copy_of_works(alloc: Global, works: &Works) -> Result<Works, Alloc
     Ok(Works::from_vec(works.as_slice().to_vec(alloc)?))
 }
 
-/// The same message.
+/// The same message. A client that waits for nothing makes none, so its call isn't to pay for one.
+#[inline(never)]
 pub(crate) fn copy_of(alloc: Global, message: &Message) -> Result<Message, AllocError>
     ensures { IfOk result (λ copy. copy ≡ message.now) }
 {
