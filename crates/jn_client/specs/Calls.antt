@@ -34,12 +34,6 @@ sent_table t j command to m = record t {
   outstanding = Some (record { event = j; request = t.next; command = command; to = to; message = m });
 }
 
--- the message of a command, or its refusal
-abbrev pub Asks : (ℕ → Commanded) → ClientTable → Command → Result (Party × Message) CommandFault → Type 0
-Asks row t command (Ok m) = (j : ℕ) → row j ≡ Sends (sent_table t j command m.0 m.1) m.0 m.1
-Asks row t command (Err (Refused refusal)) = (j : ℕ) → row j ≡ Refuses refusal
-Asks row t command (Err Memory) = Unit {0}
-
 -- the event and the command of the outstanding request, where a client's message replies to it
 abbrev pub replied_to : ClientNo → Option Outstanding → ClientNo → ℕ → Option (ℕ × Command)
 replied_to me None client request = None
