@@ -18,7 +18,7 @@ use crate::effect::{
 use crate::words::CommandFault;
 use jn_base::{Answer, Cause, ClientNo, Command, Op, Party, ServerNo, Tid, WorkId};
 use jn_msgs::{Message, Outcome};
-use jn_report::{Refusal, Text};
+use jn_report::Refusal;
 use jn_rows::{OpenWork, Outstanding, Taken};
 use std::alloc::{AllocError, Global};
 use std::marker::Model;
