@@ -1,17 +1,19 @@
 //! The bytes of a block, and how they are kept where there are many.
 ghost use Rattle.std.specs.Prelude.{◌≡◌, ◌≤◌, ◌++◌, ℕ, take, replicate, ◌-◌, length, IfOk};
 
+use jn_text::before_end_zeros;
 use std::alloc::{AllocError, Global};
 use std::marker::Model;
+use std::rc::Rc;
 
 /// The bytes of a block.
 pub type Block = [u8; 448];
 
 /// The bytes of a block on the heap, without the zeros at their end: contracts see all 448. It takes the room of a
-/// list, whatever the block holds.
+/// pointer, whatever the block holds, and copies share the bytes.
 #[derive(Drop)]
 pub struct BlockContent {
-    bytes: Vec<u8>,
+    bytes: Rc<Vec<u8>>,
 }
 
 impl Model for BlockContent {
@@ -19,9 +21,9 @@ impl Model for BlockContent {
 
     ghost Value = { List ℕ };
 
-    ghost view = { λ c. c.bytes.items ++ replicate (448 - length c.bytes.items) 0 };
+    ghost view = { λ c. c.bytes.value.items ++ replicate (448 - length c.bytes.value.items) 0 };
 
-    ghost invariant = { λ c. length c.bytes.items ≤ 448 };
+    ghost invariant = { λ c. length c.bytes.value.items ≤ 448 };
 }
 
 impl BlockContent {
@@ -31,44 +33,31 @@ impl BlockContent {
         ensures { IfOk result (λ content. content ≡ bytes.now ++ replicate (448 - length bytes.now) 0) }
     {
         Ok(BlockContent {
-            bytes: bytes.to_vec(alloc)?,
+            bytes: Rc::new(alloc, bytes.to_vec(alloc)?)?,
         })
     }
 
     pub fn from_block(alloc: Global, block: &Block) -> Result<BlockContent, AllocError>
         ensures { IfOk result (λ content. content ≡ block.now) }
     {
-        let used = used_bytes(block);
-        BlockContent::new(alloc, &block[..used])
+        BlockContent::new(alloc, before_end_zeros(block))
     }
 
     pub fn to_block(&self) -> Block
         ensures { result ≡ self.now }
     {
-        let bytes = self.bytes.as_slice();
+        let bytes = self.bytes.as_ref().as_slice();
         let mut block = [0; 448];
         block[..bytes.len()].copy_from_slice(bytes);
         block
     }
 
     /// The same bytes once more.
-    pub fn copy(&self, alloc: Global) -> Result<BlockContent, AllocError>
+    pub fn copy(&self) -> Result<BlockContent, AllocError>
         ensures { IfOk result (λ content. content ≡ self.now) }
     {
         Ok(BlockContent {
-            bytes: self.bytes.to_vec(alloc)?,
+            bytes: self.bytes.clone()?,
         })
     }
-}
-
-/// How many bytes stand before the zeros at a block's end.
-fn used_bytes(block: &Block) -> usize
-    ensures within { result ≤ 448 }
-    ensures rest { block.now ≡ take result block.now ++ replicate (448 - result) 0 }
-{
-    let mut used = 448;
-    while used > 0 && block[used - 1] == 0 {
-        used -= 1;
-    }
-    used
 }

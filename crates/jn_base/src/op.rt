@@ -3,7 +3,7 @@ ghost use Rattle.std.specs.Prelude.{◌≡◌, IfOk};
 
 use crate::block::BlockContent;
 use crate::names::{BlockNo, FileNo, LockUnit, ServerNo, Tid};
-use std::alloc::{AllocError, Global};
+use std::alloc::AllocError;
 
 /// An operation on the files of one server.
 #[derive(Drop)]
@@ -19,7 +19,7 @@ pub enum Op {
 
 impl Op {
     /// The same operation once more.
-    pub fn copy(&self, alloc: Global) -> Result<Op, AllocError>
+    pub fn copy(&self) -> Result<Op, AllocError>
         ensures { IfOk result (λ op. op ≡ self.now) }
     {
         Ok(match self {
@@ -27,7 +27,7 @@ impl Op {
             Op::Remove(f) => Op::Remove(*f),
             Op::Cut(f, n) => Op::Cut(*f, *n),
             Op::Read(f, p) => Op::Read(*f, *p),
-            Op::Write(f, p, content) => Op::Write(*f, *p, content.copy(alloc)?),
+            Op::Write(f, p, content) => Op::Write(*f, *p, content.copy()?),
         })
     }
 }
@@ -52,12 +52,12 @@ pub enum Answer {
 
 impl Answer {
     /// The same answer once more.
-    pub fn copy(&self, alloc: Global) -> Result<Answer, AllocError>
+    pub fn copy(&self) -> Result<Answer, AllocError>
         ensures { IfOk result (λ answer. answer ≡ self.now) }
     {
         Ok(match self {
             Answer::Did => Answer::Did,
-            Answer::Read(content) => Answer::Read(content.copy(alloc)?),
+            Answer::Read(content) => Answer::Read(content.copy()?),
             Answer::NoFile => Answer::NoFile,
             Answer::Exists => Answer::Exists,
             Answer::Locked(unit, holder) => Answer::Locked(*unit, *holder),
@@ -82,13 +82,13 @@ pub enum Command {
 
 impl Command {
     /// The same command once more.
-    pub fn copy(&self, alloc: Global) -> Result<Command, AllocError>
+    pub fn copy(&self) -> Result<Command, AllocError>
         ensures { IfOk result (λ command. command ≡ self.now) }
     {
         Ok(match self {
             Command::Begin(server) => Command::Begin(*server),
             Command::Open(server) => Command::Open(*server),
-            Command::Do(server, op) => Command::Do(*server, op.copy(alloc)?),
+            Command::Do(server, op) => Command::Do(*server, op.copy()?),
             Command::End => Command::End,
             Command::Abort => Command::Abort,
         })

@@ -303,9 +303,9 @@ impl Client {
         };
         let to = Party::Server(server);
         let (client, request, number) = (self.client, self.last + 1, at.last + 1);
-        let asked = Command::Do(server, op.copy(self.alloc)?);
-        let kept = Message::Op(client, request, at.work, number, op.copy(self.alloc)?);
-        let sent = Message::Op(client, request, at.work, number, op.copy(self.alloc)?);
+        let asked = Command::Do(server, op.copy()?);
+        let kept = Message::Op(client, request, at.work, number, op.copy()?);
+        let sent = Message::Op(client, request, at.work, number, op.copy()?);
         self.wait(j, asked, to, kept)?;
         Ok(Some((to, sent)))
     }

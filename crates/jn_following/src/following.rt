@@ -224,7 +224,7 @@ fn take_command(
     if is_refused_own(*client, number, here) {
         return Ok(());
     }
-    let command = command.copy(alloc)?;
+    let command = command.copy()?;
     entries.push(Entry {
         client: *client,
         asked: Some(Asked { number, command }),

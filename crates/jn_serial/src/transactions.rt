@@ -90,7 +90,7 @@ fn op_in(
     let Some(answer) = first_told(alloc, *client, number, lines)? else {
         return Ok(None);
     };
-    let op = op.copy(alloc)?;
+    let op = op.copy()?;
     Ok(Some(Performed {
         server: *server,
         op,

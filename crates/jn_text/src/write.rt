@@ -42,7 +42,25 @@ pub fn push_hex(out: &mut Vec<u8>, bytes: &[u8]) -> Result<(), AllocError>
 }
 
 /// The bytes without the zeros at their end.
-fn before_end_zeros(bytes: &[u8]) -> &[u8]
+pub fn before_end_zeros(bytes: &[u8]) -> &[u8]
+    ensures { result.now ≡ without_end_zeros bytes.now }
+{
+    before_few_zeros(before_many_zeros(bytes))
+}
+
+/// The bytes without zeros at their end that stand 32 together.
+fn before_many_zeros(bytes: &[u8]) -> &[u8]
+    ensures { without_end_zeros result.now ≡ without_end_zeros bytes.now }
+{
+    let mut used = bytes;
+    while let Some(before) = used.strip_suffix(&[0; 32]) {
+        used = before;
+    }
+    used
+}
+
+/// The bytes without the zeros at their end, each of which is looked at.
+fn before_few_zeros(bytes: &[u8]) -> &[u8]
     ensures { result.now ≡ without_end_zeros bytes.now }
 {
     let mut used = bytes.len();

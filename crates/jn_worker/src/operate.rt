@@ -150,7 +150,7 @@ impl Worker {
             Err(refused) => {
                 let _none = swap_list(&mut self.works, name, list);
                 let refusal = locked(refused)?;
-                let kept = refusal.copy(self.alloc)?;
+                let kept = refusal.copy()?;
                 tally(&mut self.works, name, number, kept);
                 return Ok(Some(refusal));
             }
@@ -185,7 +185,7 @@ impl Worker {
         let fit = is_fit(&answer);
         let units = units_after(self.alloc, active, op, fit)?;
         if let Some(refusal) = past_limit(units.0.len(), intentions(active, op, fit)) {
-            let kept = refusal.copy(self.alloc)?;
+            let kept = refusal.copy()?;
             tally(&mut self.works, name, number, kept);
             return Ok(Some(refusal));
         }
@@ -208,7 +208,7 @@ impl Worker {
         requires next { (T : Tid) (a : ActiveWork) → IsActive self.old.table T name a → number ≡ a.last + 1 }
         ensures takes { (v : StorageView) (k : Tickets) → Fits self.old v → BlockInRange op.now → ((T : Tid) (a : ActiveWork) → IsActive self.old.table T name a → answer ≡ answer_to op.now (change (list_change a.list) (state v).files)) → Takes 784 (rows.op_row self.old.table (state v).files k client request name number op.now (rows.work_at name self.old.table)) self.old v out.old k result self.new v out.new k }
     {
-        let kept = answer.copy(self.alloc)?;
+        let kept = answer.copy()?;
         let refusal = self.settle(name, number, op, kept, out)?;
         let told = told(refusal, answer);
         let message = Message::Answer(client, request, told);
@@ -229,7 +229,7 @@ impl Worker {
         ensures takes { (v : StorageView) (k : Tickets) (op : AnyOp) → Fits self.now v → Takes 784 (rows.op_row self.now.table (state v).files k client request name number op (rows.work_at name self.now.table)) self.now v out.old k result self.now v out.new k }
     {
         if let Some(answer) = self.kept_answer(name, number) {
-            let again = answer.copy(self.alloc)?;
+            let again = answer.copy()?;
             let message = Message::Answer(client, request, again);
             return Ok(out.send(Party::Client(client), message)?);
         }

@@ -91,7 +91,7 @@ impl Worker {
             unreachable!()
         };
         let answer = view(self.alloc, &active.list, store, op)?;
-        let kept = answer.copy(self.alloc)?;
+        let kept = answer.copy()?;
         tally(&mut self.works, name, number, kept);
         Ok(answer)
     }

@@ -10,5 +10,5 @@ zeros_stay put bytes front size same copied =
 
 pub returns : goal.returns
 returns c =
-    zeros_stay c.copy_from_slice.new.self c.self.inside.bytes.items c.as_slice-bytes.result.now 448 c.as_slice-bytes.ensures.value c.copy_from_slice.ensures.after
+    zeros_stay c.copy_from_slice.new.self c.self.inside.bytes.value.items c.as_slice-bytes.result.now 448 (c.as_slice-bytes.ensures.value ∙ ap (λ (v : _). v.items) c.as_ref.ensures) c.copy_from_slice.ensures.after
     ∙ c.self.view_is

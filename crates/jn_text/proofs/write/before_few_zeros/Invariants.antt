@@ -1,6 +1,6 @@
 use Rattle.std.proofs.Common.{◌≡◌, ◌≤◌, length, take}
 use Rattle.jn_text.specs.Words.{without_end_zeros}
-use Rattle.jn_text.proofs.write.before_end_zeros.Given as goal
+use Rattle.jn_text.proofs.write.before_few_zeros.Given as goal
 
 abbrev pub invariant-loop-used : goal.invariant-loop-used
 invariant-loop-used l = record {

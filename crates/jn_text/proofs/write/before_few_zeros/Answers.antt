@@ -1,8 +1,8 @@
 use Rattle.std.proofs.Common.{◌≡◌, take, arith, ap, sym, ◌∙◌, subst, ℕ}
 use Rattle.jn_text.specs.Words.{without_end_zeros}
 use Rattle.jn_text.proofs.Zeros.{without_end_zeros-shorter, without_end_zeros-kept}
-use Rattle.jn_text.proofs.write.before_end_zeros.Goals as goal
-use Rattle.jn_text.proofs.write.before_end_zeros.Goals.{then-loop-used-test+else-bytes-used-eq0, else-loop-used-test}
+use Rattle.jn_text.proofs.write.before_few_zeros.Goals as goal
+use Rattle.jn_text.proofs.write.before_few_zeros.Goals.{then-loop-used-test+else-bytes-used-eq0, else-loop-used-test}
 
 pub loop-used-preserved : goal.loop-used-preserved
 loop-used-preserved c = record {
