@@ -32,6 +32,18 @@ impl Out {
         }
     }
 
+    /// Nothing yet, in the room of a list of messages, which are dropped.
+    pub fn in_room(alloc: Global, messages: Vec<(Party, Message)>) -> Out
+        ensures { result ≡ record { messages = []; notes = [] } }
+    {
+        let mut messages = messages;
+        messages.clear();
+        Out {
+            messages,
+            notes: Vec::new(alloc),
+        }
+    }
+
     /// Adds a message. Without memory nothing changes.
     pub fn send(&mut self, to: Party, message: Message) -> Result<(), AllocError>
         ensures { self.new ≡ record self.old {

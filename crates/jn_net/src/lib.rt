@@ -7,9 +7,10 @@ ghost use Rattle.jn_net.specs.declared.SendFault.TheVariants.{Limit};
 ghost use Rattle.jn_net.specs.Cursor.{NoneWaits, waits_at};
 
 use jn_base::Party;
-use jn_msgs::Message;
+use jn_msgs::{Message, Out};
 use std::alloc::{AllocFailed, Global};
 use std::marker::Model;
+use std::mem;
 
 /// How many messages a network carries.
 pub const MESSAGE_LIMIT: u32 = 1_000_000;
@@ -49,6 +50,8 @@ pub struct Net {
     forgotten: usize,
     /// No message before this one waits, and this one does unless it is yet to be sent.
     cursor: usize,
+    /// The room of a step's messages, which the next step takes.
+    room: Vec<(Party, Message)>,
 }
 
 impl Model for Net {
@@ -89,6 +92,24 @@ impl Net {
             sent: Vec::new(alloc),
             forgotten: 0,
             cursor: 0,
+            room: Vec::new(alloc),
+        }
+    }
+
+    /// Gives the room that was kept last to what a step sends and tells.
+    pub fn lend_room(&mut self, alloc: Global) -> Out
+        ensures same { self.new ≡ self.old }
+        ensures empty { result ≡ record { messages = []; notes = [] } }
+    {
+        Out::in_room(alloc, mem::replace(&mut self.room, Vec::new(alloc)))
+    }
+
+    /// Keeps the room of messages for the next step, where it is any.
+    pub fn keep_room(&mut self, room: Vec<(Party, Message)>)
+        ensures { self.new ≡ self.old }
+    {
+        if room.capacity() > 0 {
+            self.room = room;
         }
     }
 

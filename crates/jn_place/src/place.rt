@@ -1,5 +1,5 @@
 //! A server that is up, or the store that it stands on while it is down.
-ghost use Rattle.std.specs.Prelude.{◌≡◌, ◌<◌, ◌+◌, ◌++◌, ℕ, map, Bool, true, false, is_some, IfOk, OnOk};
+ghost use Rattle.std.specs.Prelude.{◌≡◌, ◌<◌, ◌+◌, ◌++◌, ℕ, map, [], Bool, true, false, is_some, IfOk, OnOk};
 ghost use Rattle.jn_base.specs.declared.names.ServerNo.{ServerNo};
 ghost use Rattle.jn_device.specs.Events.{PowersUp, powered_off, Decays, Revives, Arms, is_within, disarmed, cleared};
 ghost use Rattle.jn_found.specs.Recoverable.{IsRecoverable};
@@ -70,13 +70,14 @@ impl<S: Powered + Drop> Place<S> {
     /// The server takes a message. What it sends and tells, or none where it was stopped.
     pub fn take(
         &mut self,
-        alloc: Global,
+        out: Out,
         server: ServerNo,
         message: &Message,
         when: When,
         told: &mut Vec<Line>,
     ) -> Result<Option<Out>, AllocError>
         requires place { IsPlace (λ s. S.view s) server 1000000 self.old }
+        requires empty { out ≡ record { messages = []; notes = [] } }
         requires up { is_up self.old.slot ≡ true }
         requires message { CanBeTaken message.now }
         ensures left { (most : ℕ) → IsPlace (λ s. S.view s) server most self.old → IfOk result (λ answer. Left (λ s. S.view s) server most self.new answer) }
@@ -86,7 +87,7 @@ impl<S: Powered + Drop> Place<S> {
         ensures counts { self.new.counts ≡ self.old.counts }
         ensures room { ReadsPages (λ s. S.view s) self.old.slot }
     {
-        let answer = self.handle(alloc, message)?;
+        let answer = self.handle(out, message)?;
         self.after_step(server, answer.is_some(), when, told)?;
         Ok(answer)
     }
@@ -106,12 +107,13 @@ impl<S: Powered + Drop> Place<S> {
     /// One background step, of which there is one. What it sends and tells, or none where it was stopped.
     pub fn step(
         &mut self,
-        alloc: Global,
+        out: Out,
         server: ServerNo,
         when: When,
         told: &mut Vec<Line>,
     ) -> Result<Option<Out>, AllocError>
         requires place { IsPlace (λ s. S.view s) server 1000000 self.old }
+        requires empty { out ≡ record { messages = []; notes = [] } }
         requires up { is_up self.old.slot ≡ true }
         requires work { has_work_at (λ s. S.view s) self.old.slot ≡ true }
         ensures left { (most : ℕ) → IsPlace (λ s. S.view s) server most self.old → IfOk result (λ answer. Left (λ s. S.view s) server most self.new answer) }
@@ -122,7 +124,7 @@ impl<S: Powered + Drop> Place<S> {
         ensures counts { self.new.counts ≡ self.old.counts }
         ensures room { ReadsPages (λ s. S.view s) self.old.slot }
     {
-        let answer = self.work(alloc)?;
+        let answer = self.work(out)?;
         self.after_step(server, answer.is_some(), when, told)?;
         Ok(answer)
     }
@@ -188,12 +190,13 @@ impl<S: Powered + Drop> Place<S> {
     }
 
     /// What waits for an answer is sent again.
-    pub fn again(&self, alloc: Global) -> Result<Out, AllocError>
+    pub fn again(&self, out: Out) -> Result<Out, AllocError>
         requires serves { Serves (λ s. S.view s) 1000000 self.now.slot }
+        requires empty { out ≡ record { messages = []; notes = [] } }
         ensures sent { IfOk result (λ out. AllCanBeTaken out.messages) }
         ensures asks { IfOk result (λ out. AsksAgain (λ s. S.view s) self.now.slot out) }
     {
-        let mut out = Out::new(alloc);
+        let mut out = out;
         let Slot::Up(server) = &self.slot else {
             unreachable!()
         };
@@ -218,8 +221,9 @@ impl<S: Powered + Drop> Place<S> {
 
     // Calls of a server that is up, which they leave where it is.
 
-    fn handle(&mut self, alloc: Global, message: &Message) -> Result<Option<Out>, AllocError>
+    fn handle(&mut self, out: Out, message: &Message) -> Result<Option<Out>, AllocError>
         requires serves { Serves (λ s. S.view s) 1000000 self.old.slot }
+        requires empty { out ≡ record { messages = []; notes = [] } }
         requires message { CanBeTaken message.now }
         ensures answered { IfOk result (λ answer. Answered (λ s. S.view s) self.old.slot self.new.slot answer) }
         ensures handled { IfOk result (λ answer. Handles (λ s. S.view s) message.now self.old.slot answer self.new.slot) }
@@ -227,7 +231,7 @@ impl<S: Powered + Drop> Place<S> {
         ensures counts { self.new.counts ≡ self.old.counts }
         ensures room { ReadsPages (λ s. S.view s) self.old.slot }
     {
-        let mut out = Out::new(alloc);
+        let mut out = out;
         let Slot::Up(server) = &mut self.slot else {
             unreachable!()
         };
@@ -238,8 +242,9 @@ impl<S: Powered + Drop> Place<S> {
         }
     }
 
-    fn work(&mut self, alloc: Global) -> Result<Option<Out>, AllocError>
+    fn work(&mut self, out: Out) -> Result<Option<Out>, AllocError>
         requires serves { Serves (λ s. S.view s) 1000000 self.old.slot }
+        requires empty { out ≡ record { messages = []; notes = [] } }
         requires work { has_work_at (λ s. S.view s) self.old.slot ≡ true }
         ensures answered { IfOk result (λ answer. Answered (λ s. S.view s) self.old.slot self.new.slot answer) }
         ensures worked { IfOk result (λ answer. Works (λ s. S.view s) self.old.slot answer self.new.slot) }
@@ -247,7 +252,7 @@ impl<S: Powered + Drop> Place<S> {
         ensures counts { self.new.counts ≡ self.old.counts }
         ensures room { ReadsPages (λ s. S.view s) self.old.slot }
     {
-        let mut out = Out::new(alloc);
+        let mut out = out;
         let Slot::Up(server) = &mut self.slot else {
             unreachable!()
         };

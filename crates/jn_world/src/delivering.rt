@@ -12,6 +12,7 @@ ghost use Rattle.jn_written.specs.Tasks.{Meets};
 use crate::ended::Ended;
 use crate::world::{World, refuse};
 use jn_base::{Party, ServerNo};
+use jn_msgs::Out;
 use jn_place::tell;
 use jn_report::{EventRefusal, Line, Text, When};
 use jn_store::Powered;
@@ -113,12 +114,35 @@ impl<S: Powered + Drop> World<S> {
         ensures does { DoesEvent (λ s. S.view s) (λ s. S.device s) (events.Deliver k) when (standing_of self.old) result (standing_of self.new) lines.old.items lines.new.items }
         ensures hands { OnOk result (handed self.new.net.sent ≡ handed (with_delivered k self.old.net.sent)) }
     {
+        let out = self.net.lend_room(self.alloc);
+        self.take_into(out, server, k, when, lines)
+    }
+
+    /// The same, with the room for what the server sends and tells.
+    fn take_into(
+        &mut self,
+        out: Out,
+        server: ServerNo,
+        k: u32,
+        when: When,
+        lines: &mut Vec<Line>,
+    ) -> Result<(), Ended>
+        requires world { IsWorld (λ s. S.view s) self.old }
+        requires sent { k < length self.old.net.sent }
+        requires to { IsSentTo (AServer server) (slice_get self.old.net.sent k) }
+        requires up { is_up_at server.0 self.old.places.items ≡ true }
+        requires empty { out ≡ record { messages = []; notes = [] } }
+        ensures world { OnOk result (IsWorld (λ s. S.view s) self.new) }
+        ensures calm { OnOk result (StayUp (λ s. S.view s) self.old.places.items self.new.places.items) }
+        ensures does { DoesEvent (λ s. S.view s) (λ s. S.device s) (events.Deliver k) when (standing_of self.old) result (standing_of self.new) lines.old.items lines.new.items }
+        ensures hands { OnOk result (handed self.new.net.sent ≡ handed (with_delivered k self.old.net.sent)) }
+    {
         let mut told = Vec::new(self.alloc);
         let Some(sent) = self.net.message(k) else {
             unreachable!()
         };
         let place = &mut self.places[usize::from(server.0)];
-        let answer = place.take(self.alloc, server, &sent.message, when, &mut told)?;
+        let answer = place.take(out, server, &sent.message, when, &mut told)?;
         self.net.delivered(k);
         self.end_step(server, Some(k), answer, when, told, lines)
     }

@@ -39,6 +39,9 @@ impl<S: Powered + Drop> World<S> {
         if let Some(out) = answer {
             self.send_out(server, message, out, when, &mut told)?;
         }
+        if told.is_empty() {
+            return Ok(());
+        }
         lines.extend_from_slice(&told)?;
         Ok(())
     }
@@ -64,7 +67,7 @@ impl<S: Powered + Drop> World<S> {
         self.post_all(Party::Server(server), messages, when, told)
     }
 
-    /// Sends messages, the first one first.
+    /// Sends messages, the first one first, and keeps their room.
     fn post_all(
         &mut self,
         from: Party,
@@ -79,9 +82,11 @@ impl<S: Powered + Drop> World<S> {
         ensures ends { EndsPart result (with_sent (posted_by from messages.items) (standing_of self.old)) (standing_of self.new)
             (told.old.items ++ lines_at when (traced self.old.trace (message_texts from (length self.old.net.sent) messages.items))) told.new.items }
     {
-        for (to, message) in messages {
+        let mut messages = messages;
+        for (to, message) in messages.drain(..) {
             self.post(from, to, message, when, told)?;
         }
+        self.net.keep_room(messages);
         Ok(())
     }
 

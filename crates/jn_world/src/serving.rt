@@ -15,6 +15,7 @@ ghost use Rattle.jn_written.specs.Tasks.{ClosesClients, Meets};
 use crate::ended::Ended;
 use crate::world::{World, refuse};
 use jn_base::{ServerNo, Tid};
+use jn_msgs::Out;
 use jn_place::tell;
 use jn_report::{EventRefusal, Line, Text, When};
 use jn_server::Shown;
@@ -98,9 +99,31 @@ impl<S: Powered + Drop> World<S> {
         ensures hands { OnOk result (handed self.new.net.sent ≡ handed self.old.net.sent) }
         ensures less { OnOk result (steps_of_all (λ s. S.view s) self.new.places.items < steps_of_all (λ s. S.view s) self.old.places.items) }
     {
+        let out = self.net.lend_room(self.alloc);
+        self.step_into(out, server, when, lines)
+    }
+
+    /// The same, with the room for what the step sends and tells.
+    fn step_into(
+        &mut self,
+        out: Out,
+        server: ServerNo,
+        when: When,
+        lines: &mut Vec<Line>,
+    ) -> Result<(), Ended>
+        requires world { IsWorld (λ s. S.view s) self.old }
+        requires up { is_up_at server.0 self.old.places.items ≡ true }
+        requires work { works_at (λ s. S.view s) server.0 self.old.places.items ≡ true }
+        requires empty { out ≡ record { messages = []; notes = [] } }
+        ensures world { OnOk result (IsWorld (λ s. S.view s) self.new) }
+        ensures calm { OnOk result (StayUp (λ s. S.view s) self.old.places.items self.new.places.items) }
+        ensures does { DoesEvent (λ s. S.view s) (λ s. S.device s) (events.Step server) when (standing_of self.old) result (standing_of self.new) lines.old.items lines.new.items }
+        ensures hands { OnOk result (handed self.new.net.sent ≡ handed self.old.net.sent) }
+        ensures less { OnOk result (steps_of_all (λ s. S.view s) self.new.places.items < steps_of_all (λ s. S.view s) self.old.places.items) }
+    {
         let mut told = Vec::new(self.alloc);
         let place = &mut self.places[usize::from(server.0)];
-        let answer = place.step(self.alloc, server, when, &mut told)?;
+        let answer = place.step(out, server, when, &mut told)?;
         self.end_step(server, None, answer, when, told, lines)
     }
 
@@ -118,8 +141,28 @@ impl<S: Powered + Drop> World<S> {
         ensures does { DoesEvent (λ s. S.view s) (λ s. S.device s) (events.Nudge server) when (standing_of self.old) result (standing_of self.new) lines.old.items lines.new.items }
         ensures as_many { OnOk result (vec_len self.new.places ≡ vec_len self.old.places) }
     {
+        let out = self.net.lend_room(self.alloc);
+        self.nudge_into(out, server, when, lines)
+    }
+
+    /// The same, with the room for what the server sends.
+    fn nudge_into(
+        &mut self,
+        out: Out,
+        server: ServerNo,
+        when: When,
+        lines: &mut Vec<Line>,
+    ) -> Result<(), Ended>
+        requires world { IsWorld (λ s. S.view s) self.old }
+        requires up { is_up_at server.0 self.old.places.items ≡ true }
+        requires empty { out ≡ record { messages = []; notes = [] } }
+        ensures world { OnOk result (IsWorld (λ s. S.view s) self.new) }
+        ensures calm { OnOk result (StayUp (λ s. S.view s) self.old.places.items self.new.places.items) }
+        ensures does { DoesEvent (λ s. S.view s) (λ s. S.device s) (events.Nudge server) when (standing_of self.old) result (standing_of self.new) lines.old.items lines.new.items }
+        ensures as_many { OnOk result (vec_len self.new.places ≡ vec_len self.old.places) }
+    {
         let told = Vec::new(self.alloc);
-        let out = self.places[usize::from(server.0)].again(self.alloc)?;
+        let out = self.places[usize::from(server.0)].again(out)?;
         self.end_step(server, None, Some(out), when, told, lines)
     }
 

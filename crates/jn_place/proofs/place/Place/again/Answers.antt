@@ -13,6 +13,6 @@ returns g c =
     let v = view_with look c.in-Up.server in
     let h = c.in_ok-again.ensures in
     record {
-      sent = again-sent c.new-out.result c.again.new.out (memory_of v) (state v.storage) c.new-out.ensures h.sent;
-      asks = again-exact look device c.args.self.now.slot c.in-Up.server c.new-out.result c.again.new.out c.in-Up.is c.new-out.ensures h.sent;
+      sent = again-sent c.args.out c.again.new.out (memory_of v) (state v.storage) c.requires.empty h.sent;
+      asks = again-exact look device c.args.self.now.slot c.in-Up.server c.args.out c.again.new.out c.in-Up.is c.requires.empty h.sent;
     }

@@ -7,28 +7,28 @@ pub returns-in-Ok-clause-answered : goal.returns-in-Ok-clause-answered
 returns-in-Ok-clause-answered g c =
     let look : g.row.S.Denot → StoreView = λ s. g.S.StableStore.view s in
     let h = c.in-Ok.ensures in
-    worked-done look c.args.self.now.slot c.in-Up.server c.step.new.self c.new-out.result c.step.new.out c.in-Ok._done c.in-Up.is c.new-out.ensures c.requires.work h.steps
+    worked-done look c.args.self.now.slot c.in-Up.server c.step.new.self c.args.out c.step.new.out c.in-Ok._done c.in-Up.is c.requires.empty c.requires.work h.steps
 
 pub returns-in-Ok-clause-worked : goal.returns-in-Ok-clause-worked
 returns-in-Ok-clause-worked g c =
     let look : g.row.S.Denot → StoreView = λ s. g.S.StableStore.view s in
     let h = c.in-Ok.ensures in
-    works-done look c.args.self.now.slot c.in-Up.server c.step.new.self c.new-out.result c.step.new.out c.in-Ok._done c.in-Up.is c.new-out.ensures c.requires.work h.steps
+    works-done look c.args.self.now.slot c.in-Up.server c.step.new.self c.args.out c.step.new.out c.in-Ok._done c.in-Up.is c.requires.empty c.requires.work h.steps
 
 pub returns-in-Err-Stopped-clause-answered : goal.returns-in-Err-Stopped-clause-answered
 returns-in-Err-Stopped-clause-answered g c =
     let look : g.row.S.Denot → StoreView = λ s. g.S.StableStore.view s in
     let h = rw c.in-Err-Stopped.field-0-is at c.in-Err-Stopped.ensures in
-    worked-stopped look c.args.self.now.slot c.in-Up.server c.step.new.self c.new-out.result c.step.new.out c.in-Up.is c.requires.work h.steps
+    worked-stopped look c.args.self.now.slot c.in-Up.server c.step.new.self c.args.out c.step.new.out c.in-Up.is c.requires.work h.steps
 
 pub returns-in-Err-Stopped-clause-worked : goal.returns-in-Err-Stopped-clause-worked
 returns-in-Err-Stopped-clause-worked g c =
     let look : g.row.S.Denot → StoreView = λ s. g.S.StableStore.view s in
     let h = rw c.in-Err-Stopped.field-0-is at c.in-Err-Stopped.ensures in
-    works-stopped look c.args.self.now.slot c.in-Up.server c.step.new.self c.new-out.result c.step.new.out c.in-Up.is c.requires.work h.steps
+    works-stopped look c.args.self.now.slot c.in-Up.server c.step.new.self c.args.out c.step.new.out c.in-Up.is c.requires.work h.steps
 
 pub returns-in-Ok-clause-rubbish : goal.returns-in-Ok-clause-rubbish
 returns-in-Ok-clause-rubbish g c =
     let look : g.row.S.Denot → StoreView = λ s. g.S.StableStore.view s in
     let h = c.in-Ok.ensures in
-    works-leave look c.args.self.now.slot c.in-Up.server c.step.new.self c.new-out.result c.step.new.out c.in-Ok._done c.in-Up.is h.steps
+    works-leave look c.args.self.now.slot c.in-Up.server c.step.new.self c.args.out c.step.new.out c.in-Ok._done c.in-Up.is h.steps

@@ -10,7 +10,7 @@ use Rattle.jn_world.proofs.Calm.{stay-moved}
 use Rattle.jn_world.proofs.Measures.{hands-none, steps-less}
 use Rattle.jn_world.specs.Standing.{messages_in}
 use Rattle.jn_base.specs.declared.names.Party.TheVariants.{Server}
-use Rattle.jn_world.proofs.world.World.make_step.Goals as goal
+use Rattle.jn_world.proofs.world.World.step_into.Goals as goal
 
 pub step-requires-clause-place : goal.step-requires-clause-place
 step-requires-clause-place g c =

@@ -12,7 +12,7 @@ use Rattle.jn_world.proofs.Worlds.{places-of, clients-of}
 use Rattle.jn_world.proofs.Calm.{stay-moved}
 use Rattle.jn_world.proofs.Measures.{hands-on}
 use Rattle.jn_world.specs.Standing.{messages_in}
-use Rattle.jn_world.proofs.world.World.take_at_up.Goals as goal
+use Rattle.jn_world.proofs.world.World.take_into.Goals as goal
 
 pub take-requires-clause-place : goal.take-requires-clause-place
 take-requires-clause-place g c =

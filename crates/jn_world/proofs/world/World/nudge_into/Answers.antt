@@ -8,7 +8,7 @@ use Rattle.jn_world.proofs.Places.{place-is, place-here, place-million, up-here,
 use Rattle.jn_place.proofs.Slots.{serves-here}
 use Rattle.jn_world.proofs.Worlds.{places-of, clients-of}
 use Rattle.jn_world.proofs.Calm.{stay-places}
-use Rattle.jn_world.proofs.world.World.nudge.Goals as goal
+use Rattle.jn_world.proofs.world.World.nudge_into.Goals as goal
 
 pub again-requires : goal.again-requires
 again-requires g c =
@@ -19,7 +19,7 @@ again-requires g c =
     let p = c.index.result.now in
     let place = place-here look w server i p c.from.ensures c.requires.up c.index.ensures c.requires.world in
     let million = place-million look w server p c.requires.world place in
-    record { serves = serves-here look server (counts_by p.counts) 1000000 p.slot million.stands (up-here w server i p c.from.ensures c.requires.up c.index.ensures) }
+    record { serves = serves-here look server (counts_by p.counts) 1000000 p.slot million.stands (up-here w server i p c.from.ensures c.requires.up c.index.ensures); empty = c.requires.empty }
 
 pub returns-clause-world : goal.returns-clause-world
 returns-clause-world g c =
