@@ -29,7 +29,7 @@ use jn_images::Refusal;
 use jn_intent::PageCounts;
 use jn_memdisk::MemDisk;
 use jn_options::{Command, Options, Trial, read_command};
-use jn_schedule::{Event, ParseFault, check, count_events, parse};
+use jn_schedule::{Event, ParseFault, parse_up_to};
 use jn_stable::Pairs;
 use jn_store::{Powered, StableStore};
 use jn_text::push_number;
@@ -177,25 +177,9 @@ fn run_text<K: Sink, I: Keeper>(
         (record { taken = K.taken sink.old; write_faults = K.faults sink.old; kept = I.kept keeper.old; keep_faults = I.faults keeper.old }) result
         (record { taken = K.taken sink.new; write_faults = K.faults sink.new; kept = I.kept keeper.new; keep_faults = I.faults keeper.new }) }
 {
-    if count_events(text) > MOST_EVENTS {
-        return refuse_long(alloc, text, sink);
-    }
-    match parse(alloc, text) {
-        Ok(events) => run_schedule(alloc, options, &events, sink, keeper),
-        Err(ParseFault::Syntax { line, number }) => refuse_line(alloc, line, number, sink),
-        Err(ParseFault::Memory) => Status::Memory,
-    }
-}
-
-/// Refuses a text that has too many events if it is a schedule. None of its events is kept.
-fn refuse_long<K: Sink>(alloc: Global, text: &[u8], sink: &mut K) -> Status
-    requires long { (es : List AnEvent) → IsSchedule text.now es → 100000 < length es }
-    ensures ran { (options : AnOptions) (kept : Option Contents) (faults : ℕ) → OutcomeOn options text.now
-        (record { taken = K.taken sink.old; write_faults = K.faults sink.old; kept = kept; keep_faults = faults }) result
-        (record { taken = K.taken sink.new; write_faults = K.faults sink.new; kept = kept; keep_faults = faults }) }
-{
-    match check(alloc, text) {
-        Ok(()) => Status::Limit,
+    match parse_up_to(alloc, text, MOST_EVENTS) {
+        Ok(Some(events)) => run_schedule(alloc, options, &events, sink, keeper),
+        Ok(None) => Status::Limit,
         Err(ParseFault::Syntax { line, number }) => refuse_line(alloc, line, number, sink),
         Err(ParseFault::Memory) => Status::Memory,
     }

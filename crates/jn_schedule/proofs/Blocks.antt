@@ -1,5 +1,5 @@
 -- Words that spell blocks.
-use Rattle.std.proofs.Common.{◌≡◌, ℕ, ◌<◌, ◌≤◌, ◌&&◌, Bool, true, false, cond, List, [], ◌∷◌, length, Option, Some, None, Result, Ok, Err, nat_le, nat_lt, refl, sym, ap, ◌∙◌, arith}
+use Rattle.std.proofs.Common.{◌≡◌, ℕ, ◌<◌, ◌≤◌, ◌&&◌, Bool, true, false, cond, List, [], ◌∷◌, length, Option, Some, None, Result, Ok, Err, ok_or, nat_le, nat_lt, refl, sym, ap, ◌∙◌, arith}
 use Rattle.std.proofs.lemmas.Bool.Decides.{nat_tests}
 use Rattle.std.proofs.lemmas.Option.{cond_some}
 use Rattle.std.proofs.lemmas.Slice.Eq.{bytes_eq-Decides}
@@ -10,7 +10,8 @@ use Rattle.hex.proofs.HexLemmas.{decode_of-ok, decode_of-encode_lower, length-en
 use Rattle.jn_text.specs.Words.{hex_word}
 use Rattle.jn_schedule.specs.Faults.{same}
 use Rattle.jn_schedule.specs.Grammar.{IsByte, SpellsBlock, filled}
-use Rattle.jn_schedule.specs.Reading.{Reads, block_if, block_in}
+use Rattle.jn_schedule.specs.declared.fault.LineFault.TheVariants as faults
+use Rattle.jn_schedule.specs.Reading.{Reads, block_if, block_in, bytes_of}
 use Rattle.jn_schedule.proofs.HexWords.{bytes_at, bytes_from, hex_word-some}
 use Rattle.jn_schedule.proofs.Numbers.{both, all_of, is-le, le-is}
 use Rattle.jn_schedule.proofs.Told.{reads_same}
@@ -75,3 +76,14 @@ block_again w stored spells = go spells.bytes spells.few spells.are_bytes spells
 -- a reader of blocks answers what the function does
 pub block_same : (w : List ℕ) (r : Option (List ℕ)) → Reads (λ stored. SpellsBlock stored w) r → r ≡ block_in w
 block_same w r h = reads_same (λ stored. SpellsBlock stored w) r (block_in w) (block_sound w) (block_again w) h
+
+-- the reading of a word that spells these bytes, or spells no block
+pub bytes_some : (w bytes content : List ℕ) → SpellsBlock (filled bytes) w → content ≡ filled bytes → bytes_of w ≡ Ok content
+unfolding bytes_of
+bytes_some w bytes content spells is =
+    ap (λ (o : Option (List ℕ)). ok_or o faults.Bytes) (block_again w (filled bytes) spells) ∙ ap (λ (l : List ℕ). Ok l) (sym is)
+
+pub bytes_none : (w : List ℕ) → ((stored : List ℕ) → ¬ SpellsBlock stored w) → bytes_of w ≡ Err faults.Bytes
+unfolding bytes_of
+bytes_none w never =
+    ap (λ (o : Option (List ℕ)). ok_or o faults.Bytes) (sym (block_same w None never))

@@ -1,18 +1,19 @@
 -- Words that spell bytes.
-use Rattle.std.proofs.Common.{◌≡◌, ◌≢◌, ℕ, zero, suc, ◌-◌, ◌*◌, ◌/◌, ◌<◌, ◌≤◌, Bool, true, false, List, [], ◌∷◌, ◌++◌, length, take, drop, replicate, refl, ap, sym, ◌∙◌, arith}
+use Rattle.std.proofs.Common.{◌≡◌, ◌≢◌, ℕ, zero, suc, ◌*◌, ◌/◌, ◌%◌, ◌<◌, ◌≤◌, Bool, true, false, not, ◌||◌, eqb, List, [], ◌∷◌, length, get_or, refl, sym, ap, ◌∙◌, arith}
 use Rattle.std.proofs.lemmas.Bool.{eqb-true, false≢true}
-use Rattle.std.proofs.lemmas.List.{drop-replicate, length-append}
 use Rattle.std.proofs.lemmas.Bool.Decides.{nat_tests}
-use Rattle.std.proofs.Math.Seq.{take-append_seam}
-use Rattle.std.specs.List.{AllByRecursion}
-use Rattle.std.specs.Prelude.{MatchBool, MatchResult, Result, Ok, Err, is_err}
-use Rattle.std.proofs.Common.{eqb}
+use Rattle.std.proofs.lemmas.List.Elements.{All-cons, All-get_or, All-head, All-nil, All-tail}
+use Rattle.std.proofs.lemmas.List.Sums.{AllPass-from_list_all}
 use Rattle.std.proofs.lemmas.Result.{MatchResult-at_ok}
-use Rattle.std.specs.Cmp.Lexicographic.{pointwise, same_text, other_text}
+use Rattle.std.specs.Char.{is_ascii_uppercase}
+use Rattle.std.specs.List.{AllByRecursion, AllPass, list_any}
+use Rattle.std.specs.Prelude.{MatchBool, MatchResult, Result, Ok, Err, is_ok}
 use Rattle.hex.specs.declared.error.FromHexError.{FromHexError}
-use Rattle.hex.specs.Hex.{IsBytes, decode_sized, encode_lower, lower_digits}
+use Rattle.hex.specs.Hex.{IsBytes, decode_sized, encode_lower, encode_with, is_hex_digit, lower_digits}
 use Rattle.hex.proofs.HexLemmas.{decode_of-ok, decode_sized-encode_lower, decode_sized-ok, decode_sized-twice, length-encode_with}
+use Rattle.jn_text.specs.Read.{is_lower_hex_digit}
 use Rattle.jn_text.specs.Words.{hex_word}
+use Rattle.jn_text.proofs.HexDigits.{decode_of-spelled}
 use Rattle.jn_schedule.specs.Grammar.{IsByte, SpellsBlock, filled}
 
 pub bytes_at : (bytes : List ℕ) → AllByRecursion IsByte bytes → IsBytes bytes
@@ -32,33 +33,67 @@ decoded word room left bytes r answers long fits spelled =
     let found : decode_sized word (length room) ≡ Ok bytes = ap (λ (w : List ℕ). decode_sized w (length room)) spelled ∙ decode_sized-encode_lower bytes (length room) long (bytes_at bytes fits) in
     MatchResult-at_ok _ _ bytes found answers
 
--- what was decoded are bytes
-decoded_bytes : (word room left : List ℕ) (r : Result Unit FromHexError)
+-- a digit in lower case
+lower_one : (c : ℕ) → is_hex_digit c ≡ true → is_ascii_uppercase c ≡ false → is_lower_hex_digit c ≡ true
+lower_one c digit small = grind (arith, nat_tests)
+
+abbrev Digit : ℕ → Type 0
+Digit c = is_hex_digit c ≡ true
+
+abbrev Lower : ℕ → Type 0
+Lower c = is_lower_hex_digit c ≡ true
+
+neither : (a b : Bool) → (a || b) ≡ false → (a ≡ false) × (b ≡ false)
+neither true b h = absurd (false≢true (sym h))
+neither false b h = (refl, h)
+
+-- digits of which no letter is in upper case
+lower_all : (word : List ℕ) → AllPass is_hex_digit word → list_any is_ascii_uppercase word ≡ false → AllPass is_lower_hex_digit word
+lower_all [] digits small = All-nil Lower
+lower_all (c ∷ word) digits small =
+    let parts = neither (is_ascii_uppercase c) (list_any is_ascii_uppercase word) small in
+    All-cons Lower c word (lower_one c (All-head Digit c word digits) parts.0) (lower_all word (All-tail Digit c word digits) parts.1)
+
+-- what decodes without an upper-case letter is spelled by its digits
+decoded_spelled : (word room left : List ℕ) (r : Result Unit FromHexError)
     → MatchResult (decode_sized word (length room)) (λ found. (r ≡ Ok tt) × (left ≡ found)) (λ e. r ≡ Err e)
-    → false ≡ is_err r → AllByRecursion IsByte left
-decoded_bytes word room left r answers ok = go (decode_sized word (length room)) refl answers
+    → true ≡ is_ok r → list_any is_ascii_uppercase word ≡ false → AllByRecursion IsByte left × (word ≡ encode_lower left)
+decoded_spelled word room left r answers ok small = go (decode_sized word (length room)) refl answers
   where
     go : (read : Result (List ℕ) FromHexError) → decode_sized word (length room) ≡ read
-        → MatchResult read (λ found. (r ≡ Ok tt) × (left ≡ found)) (λ e. r ≡ Err e) → AllByRecursion IsByte left
+        → MatchResult read (λ found. (r ≡ Ok tt) × (left ≡ found)) (λ e. r ≡ Err e) → AllByRecursion IsByte left × (word ≡ encode_lower left)
     go (Ok found) e h =
         let whole = sym (decode_sized-twice word (length room) (decode_sized-ok word (length room) found e)) ∙ e in
-        bytes_from left (rw h.1 (decode_of-ok word found whole).3)
-    go (Err x) e h = absurd (false≢true (ok ∙ ap is_err h))
+        let spelled = decode_of-spelled word found (lower_all word (decode_of-ok word found whole).1 small) whole in
+        (bytes_from left (rw h.1 spelled.1), sym spelled.0 ∙ ap encode_lower (sym h.1))
+    go (Err x) e h = absurd (false≢true (sym (ok ∙ ap is_ok h)))
 
--- and what the comparison with the word that is spelled again then tells
-pub told : (word room left again : List ℕ) (r : Result Unit FromHexError) (same : Bool)
+-- what decoding a word without upper-case letters then tells
+pub told : (word room left : List ℕ) (r : Result Unit FromHexError) (ok : Bool)
     → MatchResult (decode_sized word (length room)) (λ found. (r ≡ Ok tt) × (left ≡ found)) (λ e. r ≡ Err e)
-    → false ≡ is_err r → again ≡ encode_lower left → same ≡ pointwise eqb again word
-    → MatchBool same (AllByRecursion IsByte left × (word ≡ encode_lower left)) ((bytes : List ℕ) → length bytes ≡ length room → AllByRecursion IsByte bytes → word ≢ encode_lower bytes)
-told word room left again r true answers ok spelled tests =
-    (decoded_bytes word room left r answers ok, sym (same_text again word tests) ∙ spelled)
-told word room left again r false answers ok spelled tests =
-    λ bytes long fits e. other_text again word tests (spelled ∙ ap encode_lower (decoded word room left bytes r answers long fits e).1 ∙ sym e)
+    → ok ≡ is_ok r → list_any is_ascii_uppercase word ≡ false
+    → MatchBool ok (AllByRecursion IsByte left × (word ≡ encode_lower left)) ((bytes : List ℕ) → length bytes ≡ length room → AllByRecursion IsByte bytes → word ≢ encode_lower bytes)
+told word room left r true answers is small = decoded_spelled word room left r answers is small
+told word room left r false answers is small =
+    λ bytes long fits e. absurd (false≢true (is ∙ ap is_ok (decoded word room left bytes r answers long fits e).0))
 
--- each byte has two digits, and none is spelled by one
-halves : (word bytes : List ℕ) → word ≡ hex_word bytes → length word / 2 ≡ length bytes
-halves word [] e = let long = ap length e in omega arith
-halves word (b ∷ bytes) e = let long = ap length e ∙ length-encode_with lower_digits (b ∷ bytes) in omega arith
+small_digit : (d : ℕ) → d < 16 → is_ascii_uppercase (get_or lower_digits d 0) ≡ false
+small_digit d few = opposite (is_ascii_uppercase (get_or lower_digits d 0)) (All-get_or (λ c. not (is_ascii_uppercase c) ≡ true) lower_digits d 0 few (AllPass-from_list_all (λ c. not (is_ascii_uppercase c)) lower_digits refl))
+  where
+    opposite : (b : Bool) → not b ≡ true → b ≡ false
+    opposite true h = absurd (false≢true h)
+    opposite false h = refl
+
+-- no letter is in upper case where bytes are spelled
+small_spelled : (bytes : List ℕ) → AllByRecursion IsByte bytes → list_any is_ascii_uppercase (encode_lower bytes) ≡ false
+unfolding encode_with
+small_spelled [] fits = refl
+small_spelled (b ∷ bytes) fits =
+    let byte = fits.0 in
+    rw (small_digit (b / 16) (omega arith), small_digit (b % 16) (omega arith)) (small_spelled bytes fits.1)
+
+pub not_spelled : (word bytes : List ℕ) → list_any is_ascii_uppercase word ≡ true → AllByRecursion IsByte bytes → word ≢ encode_lower bytes
+not_spelled word bytes large fits e = absurd (false≢true (sym (small_spelled bytes fits) ∙ ap (list_any is_ascii_uppercase) (sym e) ∙ large))
 
 -- a block of which some bytes are spelled
 pub record SpellsSome (word : List ℕ) : Type 0 where
@@ -83,29 +118,24 @@ spells_some stored word spells other = go spells.bytes spells.few spells.are_byt
       long = ap length e ∙ length-encode_with lower_digits (b ∷ bytes);
     }
 
-pub spells_none : (stored word : List ℕ) → stored ≡ replicate 448 0 → word ≡ 45 ∷ [] → SpellsBlock stored word
-spells_none stored word zeros e = record { bytes = []; few = omega arith; are_bytes = tt; stores = zeros; spelled = e }
+pub spells_none : (word : List ℕ) → word ≡ 45 ∷ [] → SpellsBlock (filled []) word
+spells_none word e = record { bytes = []; few = omega arith; are_bytes = tt; stores = refl; spelled = e }
 
 pub hex_word-some : (bytes : List ℕ) → 0 < length bytes → hex_word bytes ≡ encode_lower bytes
 hex_word-some [] some = absurd (omega arith)
 hex_word-some (b ∷ bytes) some = refl
 
-zeros_left : (m n : ℕ) → m ≡ n → drop {A = ℕ} m (replicate 448 0) ≡ replicate (448 - n) 0
-zeros_left m n same = drop-replicate m 448 0 ∙ ap (λ (k : ℕ). replicate {A = ℕ} (448 - k) 0) same
-
--- what is decoded into the front of a block of zeros
+-- what is decoded is a block's bytes
 pub spells_these : (word bytes : List ℕ) → false ≡ eqb (length word) 0 → length word / 2 ≤ 448
-    → AllByRecursion IsByte bytes × (word ≡ encode_lower bytes)
-    → SpellsBlock (bytes ++ drop (length word / 2) (replicate 448 0)) word
+    → AllByRecursion IsByte bytes × (word ≡ encode_lower bytes) → SpellsBlock (filled bytes) word
 spells_these word bytes some few (fits, e) =
     let long = ap length e ∙ length-encode_with lower_digits bytes in
-    let count : length word / 2 ≡ length bytes = omega arith in
     let one : 0 < length bytes = grind (arith, nat_tests) in
     record {
       bytes = bytes;
       few = omega arith;
       are_bytes = fits;
-      stores = ap (λ (zeros : List ℕ). bytes ++ zeros) (zeros_left (length word / 2) (length bytes) count);
+      stores = refl;
       spelled = e ∙ sym (hex_word-some bytes one);
     }
 
@@ -117,20 +147,3 @@ not_empty word some empty = let long = some.long in let one = some.some in let n
 
 pub not_long : (word : List ℕ) → SpellsSome word → 448 < length word / 2 → ⊥
 not_long word some past = let long = some.long in let few = some.few in omega arith
-
--- a block is the bytes that its word spells, of which each has two digits, and zeros
-pub front_is : (word stored front content : List ℕ) → SpellsBlock stored word → front ≡ take (length word / 2) stored
-    → content ≡ front ++ replicate (448 - length front) 0 → content ≡ stored
-front_is word stored front content spells at is = go spells.bytes spells.stores spells.spelled
-  where
-    go : (bytes : List ℕ) → stored ≡ filled bytes → word ≡ hex_word bytes → content ≡ stored
-    go bytes stores e =
-        let half : length word / 2 ≡ length bytes = halves word bytes e in
-        let same : front ≡ bytes = at ∙ ap (λ (n : ℕ). take n stored) half ∙ ap (take (length bytes)) stores ∙ take-append_seam bytes (replicate (448 - length bytes) 0) in
-        is ∙ ap filled same ∙ sym stores
-
-pub few_spelled : (word stored : List ℕ) → SpellsBlock stored word → length word / 2 ≤ length stored
-few_spelled word stored spells =
-    let half = halves word spells.bytes spells.spelled in
-    let long = ap length spells.stores ∙ length-append spells.bytes (replicate (448 - length spells.bytes) 0) in
-    omega (arith, half, long)

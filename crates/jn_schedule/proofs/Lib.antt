@@ -10,4 +10,3 @@ mod TextParts
 mod Told
 mod Values
 pub mod Ranges
-mod Counting

@@ -1,6 +1,6 @@
 -- Reading lines one after the other: what is told, and that what is there is told.
-use Rattle.std.proofs.Common.{◌≡◌, ℕ, ◌+◌, ◌<◌, ◌≤◌, ◌++◌, ◌⊎◌, inl, inr, Bool, true, false, cond, List, [], ◌∷◌, length, map, drop, get_or, Result, Ok, Err, IfOk, IfErr, MatchResult, refl, sym, ap, ◌∙◌, subst, append_assoc}
-use Rattle.std.proofs.lemmas.List.{append-nil, at_drop_all, at_drop_more}
+use Rattle.std.proofs.Common.{◌≡◌, ℕ, ◌+◌, ◌<◌, ◌≤◌, ◌++◌, ◌⊎◌, inl, inr, Bool, true, false, cond, List, [], ◌∷◌, length, map, drop, get_or, Option, Some, None, Result, Ok, Err, IfOk, MatchOption, MatchResult, MatchBool, refl, sym, ap, ◌∙◌, subst, append_assoc, arith}
+use Rattle.std.proofs.lemmas.List.{append-nil, at_drop_all, at_drop_more, length-append}
 use Rattle.std.specs.Global.{Vec}
 use Rattle.jn_schedule.specs.declared.Event.{Event}
 use Rattle.jn_schedule.specs.declared.fault.LineFault.{LineFault}
@@ -8,7 +8,7 @@ use Rattle.jn_schedule.specs.declared.fault.ParseFault.{ParseFault}
 use Rattle.jn_schedule.specs.declared.fault.ParseFault.TheVariants as parse
 use Rattle.jn_schedule.specs.Grammar.{AreLines, IsSchedule, Spells, is_passed, word_lines, words_of}
 use Rattle.jn_schedule.specs.Faults.{HasFault, IsFirstFault, LinesFault, number_of}
-use Rattle.jn_schedule.specs.Reading.{◌>>=◌, AddsLine, Fails, Gives, Passes, event_of, in_front, read_line, read_lines, then_lines}
+use Rattle.jn_schedule.specs.Reading.{◌>>=◌, AddsLine, Fails, GivesUpTo, event_of, in_front, read_line, read_lines, then_lines}
 use Rattle.jn_schedule.proofs.Again.{fault_one, spelled_no_fault, spelled_read}
 use Rattle.jn_schedule.proofs.Events.{event_told}
 
@@ -117,68 +117,84 @@ pub starts : (read : Result (List Event) (ℕ × LineFault)) → in_front [] rea
 starts (Ok es) = refl
 starts (Err e) = refl
 
--- a line that isn't read adds no event to any others
-pub not_added : (e : ParseFault) (at : ℕ) (read : Result (List Event) LineFault) (before after others : List Event) → AddsLine (Err e) at read before after → AddsLine (Err e) at read others others
-not_added parse.Memory at read before after others adds = tt
-not_added (parse.Syntax line number) at read before after others adds = adds
-
--- the exit at a line that isn't read
-pub exits : (front : List Event) (all : List (List ℕ)) (k at : ℕ) (line : List ℕ) (after : List Event) (total : Result (List Event) (ℕ × LineFault)) (e : ParseFault) → at ≡ k + 1
-    → (k < length all) × (line ≡ get_or all k line) → AddsLine (Err e) at (read_line (words_of line)) front after
+-- the exit at a line that isn't read, whatever is kept of the events in front
+pub exits : (front : List Event) (all : List (List ℕ)) (k at : ℕ) (line : List ℕ) (total : Result (List Event) (ℕ × LineFault)) (e : ParseFault) → at ≡ k + 1
+    → (k < length all) × (line ≡ get_or all k line) → (before after : List Event) → AddsLine (Err e) at (read_line (words_of line)) before after
     → in_front front (read_lines (k + 1) (map words_of (drop k all))) ≡ total → Fails e total
-exits front all k at line after total parse.Memory is turn adds so_far = tt
-exits front all k at line after total (parse.Syntax place number) is turn adds so_far =
+exits front all k at line total parse.Memory is turn before after adds so_far = tt
+exits front all k at line total (parse.Syntax place number) is turn before after adds so_far =
     (adds.0, adds.1, stops front adds.0 all k line total turn adds.3 so_far ∙ ap (λ (l : ℕ). Err (l, adds.0)) (sym is ∙ sym adds.2))
+
+-- what is kept of the events so far: they are too many, or are all kept
+abbrev pub Keeps : Bool → ℕ → List Event → List Event → Type 0
+Keeps many most front kept = MatchBool many (most < length front) (front ≡ kept)
+
+-- one line more, with all that it adds kept
+pub keeps_on : (many : Bool) (most : ℕ) (front kept es after : List Event) → Keeps many most front kept → after ≡ kept ++ es → Keeps many most (front ++ es) after
+keeps_on true most front kept es after past is = omega (arith, length-append front es, past)
+keeps_on false most front kept es after same is = ap (λ (l : List Event). l ++ es) same ∙ sym is
+
+-- or none of it, where it is too much
+pub lets_go : (many : Bool) (most : ℕ) (front kept es after : List Event) → Keeps many most front kept → after ≡ kept ++ es → most < length after → most < length (front ++ es)
+lets_go true most front kept es after past is many = omega (arith, length-append front es, past)
+lets_go false most front kept es after same is many = subst (λ (l : List Event). most < length l) (sym (ap (λ (l : List Event). l ++ es) same ∙ sym is)) many
 
 -- ---- the clauses
 
-pub found : (text : List ℕ) (r : Result (Vec Event) ParseFault) → Gives r (read_lines 1 (word_lines text)) → IfOk r (λ v. IsSchedule text v.items)
-found text (Ok v) gives = subst (λ (q : Result (List Event) (ℕ × LineFault)). MatchResult q (λ es. AreLines (word_lines text) es) (λ x. LinesFault 1 (word_lines text) x.0 x.1)) gives (lines_told 1 (word_lines text))
-found text (Err e) gives = tt
+schedule_read : (text : List ℕ) (es : List Event) → read_lines 1 (word_lines text) ≡ Ok es → IsSchedule text es
+schedule_read text es read = subst (λ (q : Result (List Event) (ℕ × LineFault)). MatchResult q (λ es. AreLines (word_lines text) es) (λ x. LinesFault 1 (word_lines text) x.0 x.1)) read (lines_told 1 (word_lines text))
 
-pub only : (text : List ℕ) (r : Result (Vec Event) ParseFault) → Gives r (read_lines 1 (word_lines text)) → (es : List Event) → IsSchedule text es → MatchResult r (λ v. v.items ≡ es) (λ e. e ≡ parse.Memory)
-only text (Ok v) gives es are = let again = lines_again 1 (word_lines text) es are in cc
-only text (Err parse.Memory) gives es are = refl
-only text (Err (parse.Syntax line number)) gives es are = let again = lines_again 1 (word_lines text) es are in absurd (cc (again, gives.2))
+same_events : (text : List ℕ) (es read : List Event) → IsSchedule text es → read_lines 1 (word_lines text) ≡ Ok read → read ≡ es
+same_events text es read are is = let again = lines_again 1 (word_lines text) es are in cc
 
-pub gives_passes : (r : Result (Vec Event) ParseFault) (read : Result (List Event) (ℕ × LineFault)) → Gives r read → Passes r read
-gives_passes (Ok v) read gives = (v.items, gives)
-gives_passes (Err e) read gives = gives
+pub found : (text : List ℕ) (most : ℕ) (r : Result (Option (Vec Event)) ParseFault) → GivesUpTo most r (read_lines 1 (word_lines text))
+    → IfOk r (λ events. MatchOption events ((es : List Event) × IsSchedule text es × (most < length es)) (λ v. IsSchedule text v.items × (length v.items ≤ most)))
+found text most (Ok (Some v)) gives = (schedule_read text v.items gives.0, gives.1)
+found text most (Ok None) gives = (gives.0, schedule_read text gives.0 gives.1, gives.2)
+found text most (Err e) gives = tt
 
-pub passes_found : {A : Type 0} (text : List ℕ) (r : Result A ParseFault) → Passes r (read_lines 1 (word_lines text)) → IfOk r (λ _. (es : List Event) × IsSchedule text es)
-passes_found text (Ok x) passes =
-    (passes.0, subst (λ (q : Result (List Event) (ℕ × LineFault)). MatchResult q (λ es. AreLines (word_lines text) es) (λ x. LinesFault 1 (word_lines text) x.0 x.1)) passes.1 (lines_told 1 (word_lines text)))
-passes_found text (Err e) passes = tt
+pub only : (text : List ℕ) (most : ℕ) (r : Result (Option (Vec Event)) ParseFault) → GivesUpTo most r (read_lines 1 (word_lines text))
+    → (es : List Event) → IsSchedule text es → MatchResult r (λ events. MatchOption events (most < length es) (λ v. v.items ≡ es)) (λ e. e ≡ parse.Memory)
+only text most (Ok (Some v)) gives es are = same_events text es v.items are gives.0
+only text most (Ok None) gives es are = subst (λ (l : List Event). most < length l) (same_events text es gives.0 are gives.1) gives.2
+only text most (Err parse.Memory) gives es are = refl
+only text most (Err (parse.Syntax line number)) gives es are = let again = lines_again 1 (word_lines text) es are in absurd (cc (again, gives.2))
 
-pub passes_only : {A : Type 0} (text : List ℕ) (r : Result A ParseFault) → Passes r (read_lines 1 (word_lines text)) → (es : List Event) → IsSchedule text es → IfErr r (λ e. e ≡ parse.Memory)
-passes_only text (Ok x) passes es are = tt
-passes_only text (Err parse.Memory) passes es are = refl
-passes_only text (Err (parse.Syntax line number)) passes es are = let again = lines_again 1 (word_lines text) es are in absurd (cc (again, passes.2))
-
-pub fault : {A : Type 0} (text : List ℕ) (r : Result A ParseFault) → Passes r (read_lines 1 (word_lines text)) → (line number : ℕ) → r ≡ Err (parse.Syntax line number) → IsFirstFault text line number
-fault text (Ok v) passes line number is = absurd cc
-fault text (Err parse.Memory) passes line number is = absurd cc
-fault text (Err (parse.Syntax at n)) passes line number is =
-    let told : LinesFault 1 (word_lines text) at passes.0 = subst (λ (q : Result (List Event) (ℕ × LineFault)). MatchResult q (λ es. AreLines (word_lines text) es) (λ x. LinesFault 1 (word_lines text) x.0 x.1)) passes.2 (lines_told 1 (word_lines text)) in
+pub fault : (text : List ℕ) (most : ℕ) (r : Result (Option (Vec Event)) ParseFault) → GivesUpTo most r (read_lines 1 (word_lines text)) → (line number : ℕ) → r ≡ Err (parse.Syntax line number) → IsFirstFault text line number
+fault text most (Ok o) gives line number is = absurd cc
+fault text most (Err parse.Memory) gives line number is = absurd cc
+fault text most (Err (parse.Syntax at n)) gives line number is =
+    let told : LinesFault 1 (word_lines text) at gives.0 = subst (λ (q : Result (List Event) (ℕ × LineFault)). MatchResult q (λ es. AreLines (word_lines text) es) (λ x. LinesFault 1 (word_lines text) x.0 x.1)) gives.2 (lines_told 1 (word_lines text)) in
     let same_line : at ≡ line = cc in
     let same_number : n ≡ number = cc in
-    (passes.0, sym same_number ∙ passes.1, subst (λ (l : ℕ). LinesFault 1 (word_lines text) l passes.0) same_line told)
+    (gives.0, sym same_number ∙ gives.1, subst (λ (l : ℕ). LinesFault 1 (word_lines text) l gives.0) same_line told)
 
 err_same : (x y : ℕ × LineFault) → ◌≡◌ {A = Result (List Event) (ℕ × LineFault)} (Err x) (Err y) → x ≡ y
 err_same x y e = cc
 
-pub first : {A : Type 0} (text : List ℕ) (r : Result A ParseFault) → Passes r (read_lines 1 (word_lines text)) → (line number : ℕ) → IsFirstFault text line number
+pub first : (text : List ℕ) (most : ℕ) (r : Result (Option (Vec Event)) ParseFault) → GivesUpTo most r (read_lines 1 (word_lines text)) → (line number : ℕ) → IsFirstFault text line number
     → (r ≡ Err (parse.Syntax line number)) ⊎ (r ≡ Err parse.Memory)
-first text (Ok v) passes line number is = let again = fault_again 1 (word_lines text) line is.0 is.2 in absurd (cc (again, passes.1))
-first text (Err parse.Memory) passes line number is = inr refl
-first text (Err (parse.Syntax at n)) passes line number is =
+first text most (Ok (Some v)) gives line number is = let again = fault_again 1 (word_lines text) line is.0 is.2 in absurd (cc (again, gives.0))
+first text most (Ok None) gives line number is = let again = fault_again 1 (word_lines text) line is.0 is.2 in absurd (cc (again, gives.1))
+first text most (Err parse.Memory) gives line number is = inr refl
+first text most (Err (parse.Syntax at n)) gives line number is =
     let again = fault_again 1 (word_lines text) line is.0 is.2 in
-    let pair : ◌≡◌ {A = Result (List Event) (ℕ × LineFault)} (Err (at, passes.0)) (Err (line, is.0)) = sym passes.2 ∙ again in
-    let same_pair = err_same (at, passes.0) (line, is.0) pair in
+    let pair : ◌≡◌ {A = Result (List Event) (ℕ × LineFault)} (Err (at, gives.0)) (Err (line, is.0)) = sym gives.2 ∙ again in
+    let same_pair = err_same (at, gives.0) (line, is.0) pair in
     let same_line : at ≡ line = ap (λ (p : ℕ × LineFault). p.0) same_pair in
-    let same_fault : passes.0 ≡ is.0 = ap (λ (p : ℕ × LineFault). p.1) same_pair in
-    let same_number : n ≡ number = passes.1 ∙ ap number_of same_fault ∙ sym is.1 in
+    let same_fault : gives.0 ≡ is.0 = ap (λ (p : ℕ × LineFault). p.1) same_pair in
+    let same_number : n ≡ number = gives.1 ∙ ap number_of same_fault ∙ sym is.1 in
     inl (rw (same_line, same_number) refl)
+
+-- the same of a list that is asked for whole
+pub first_same : {A B : Type 0} (e : ParseFault) (r : Result A ParseFault) → r ≡ Err e → (line number : ℕ) → (r ≡ Err (parse.Syntax line number)) ⊎ (r ≡ Err parse.Memory)
+    → (◌≡◌ {A = Result B ParseFault} (Err e) (Err (parse.Syntax line number))) ⊎ (◌≡◌ {A = Result B ParseFault} (Err e) (Err parse.Memory))
+first_same e r is line number (inl told) = inl cc
+first_same e r is line number (inr told) = inr cc
+
+pub first_never : {A : Type 0} (x : A) (r : Result A ParseFault) → r ≡ Ok x → (line number : ℕ) → (r ≡ Err (parse.Syntax line number)) ⊎ (r ≡ Err parse.Memory) → ⊥
+first_never x r is line number (inl told) = absurd cc
+first_never x r is line number (inr told) = absurd cc
 
 pub no_schedule : (text : List ℕ) (es : List Event) (line number : ℕ) → IsSchedule text es → IsFirstFault text line number → ⊥
 no_schedule text es line number are is =

@@ -1,5 +1,5 @@
 -- How the words of a line are read, one after the other: an event, or a fault.
-use Rattle.std.specs.Prelude.{◌≡◌, ℕ, ◌+◌, ◌-◌, ◌^◌, ◌++◌, Bool, false, not, ◌&&◌, nat_eq, nat_le, nat_lt, List, [], ◌∷◌, length, map, Option, Some, None, MatchOption, Result, Ok, Err, option_and_then, option_map, ok_or, if◌then◌else◌, codes, decimal}
+use Rattle.std.specs.Prelude.{◌≡◌, ℕ, ◌+◌, ◌-◌, ◌^◌, ◌++◌, ◌≤◌, ◌<◌, ◌&&◌, nat_eq, nat_le, nat_lt, List, [], ◌∷◌, length, map, Option, Some, None, MatchOption, Result, Ok, Err, option_and_then, option_map, ok_or, if◌then◌else◌, codes, decimal}
 use Rattle.std.specs.Borrow.{Bor}
 use Rattle.std.specs.Str.Parse.{digits_value}
 use Rattle.hex.specs.Hex.{decode_of, encode_lower}
@@ -265,22 +265,14 @@ abbrev pub Fails : ParseFault → Result (List Event) (ℕ × LineFault) → Typ
 Fails parse.Memory read = Unit {0}
 Fails (parse.Syntax line number) read = (fault : LineFault) × (number ≡ number_of fault) × (read ≡ Err (line, fault))
 
-abbrev pub Gives : Result (Vec Event) ParseFault → Result (List Event) (ℕ × LineFault) → Type 0
-Gives (Ok v) read = read ≡ Ok v.items
-Gives (Err e) read = Fails e read
-
--- all is read, or its first fault is told, unless memory ran out
-abbrev pub Passes : {A : Type 0} → Result A ParseFault → Result (List Event) (ℕ × LineFault) → Type 0
-Passes (Ok x) read = (es : List Event) × (read ≡ Ok es)
-Passes (Err e) read = Fails e read
+-- the events are those that were read, or those that were read are too many
+abbrev pub GivesUpTo : ℕ → Result (Option (Vec Event)) ParseFault → Result (List Event) (ℕ × LineFault) → Type 0
+GivesUpTo most (Ok (Some v)) read = (read ≡ Ok v.items) × (length v.items ≤ most)
+GivesUpTo most (Ok None) read = (es : List Event) × (read ≡ Ok es) × (most < length es)
+GivesUpTo most (Err e) read = Fails e read
 
 -- the events of a line of this number are added, or its fault is told, unless memory ran out
 abbrev pub AddsLine : Result (Unit {0}) ParseFault → ℕ → Result (List Event) LineFault → List Event → List Event → Type 0
 AddsLine (Ok x) at read before after = (es : List Event) × (read ≡ Ok es) × (after ≡ before ++ es)
 AddsLine (Err parse.Memory) at read before after = Unit {0}
 AddsLine (Err (parse.Syntax line number)) at read before after = (fault : LineFault) × (number ≡ number_of fault) × (line ≡ at) × (read ≡ Err fault)
-
--- the first byte other than a space begins a word of an event
-abbrev pub begins_event : List ℕ → Bool
-begins_event [] = false
-begins_event (b ∷ bs) = if nat_eq b 32 then begins_event bs else not (nat_eq b 35)

@@ -13,7 +13,7 @@ use jn_base::{ClientNo, Command, FaultKind, ServerNo, Tid};
 pub use place::line_of_event;
 pub use schedule::{
     a_schedule_has_one_list_of_events, a_text_is_a_schedule_or_has_a_fault,
-    a_text_with_a_fault_is_no_schedule, check, count_events, parse, words_are_in_range,
+    a_text_with_a_fault_is_no_schedule, parse, parse_up_to, words_are_in_range,
 };
 
 /// One event of a schedule, with its words as typed values.

@@ -1,11 +1,11 @@
 //! The events of a whole text.
-ghost use Rattle.std.specs.Prelude.{◌≡◌, ◌⊎◌, ℕ, List, Ok, Err, Result, IfOk, IfErr, MatchResult, count_by, length};
+ghost use Rattle.std.specs.Prelude.{◌≡◌, ◌≤◌, ◌<◌, ◌⊎◌, ℕ, List, Ok, Err, Result, IfOk, MatchOption, MatchResult, length};
 ghost use Rattle.jn_schedule.specs.declared.Event.{Event as AnEvent};
 ghost use Rattle.jn_schedule.specs.Faults.{IsFirstFault};
-ghost use Rattle.jn_schedule.specs.Grammar.{IsSchedule, lines_of, word_lines, words_of};
+ghost use Rattle.jn_schedule.specs.Grammar.{IsSchedule, word_lines, words_of};
 ghost use Rattle.std.specs.List.{AllByRecursion};
 ghost use Rattle.jn_schedule.specs.Ranges.{EventInRange};
-ghost use Rattle.jn_schedule.specs.Reading.{AddsLine, Gives, Passes, begins_event, read_line, read_lines};
+ghost use Rattle.jn_schedule.specs.Reading.{AddsLine, GivesUpTo, read_line, read_lines};
 ghost use Rattle.jn_schedule.specs.declared.fault.ParseFault.TheVariants.{Memory, Syntax};
 
 use crate::Event;
@@ -31,17 +31,30 @@ pub fn parse(alloc: Global, text: &[u8]) -> Result<Vec<Event>, ParseFault>
     // The first fault is told, unless memory runs out.
     ensures first { (line number : ℕ) → IsFirstFault text.now line number → (result ≡ Err (Syntax line number)) ⊎ (result ≡ Err Memory) }
 {
-    read_text(alloc, text)
+    match parse_up_to(alloc, text, usize::MAX) {
+        Ok(Some(events)) => Ok(events),
+        // No list has room for more.
+        Ok(None) => Err(ParseFault::Memory),
+        Err(fault) => Err(fault),
+    }
 }
 
-/// Whether a text is a schedule, as `parse` tells it, without its events: none of them is kept.
-pub fn check(alloc: Global, text: &[u8]) -> Result<(), ParseFault>
-    ensures found { IfOk result (λ _. (es : List AnEvent) × IsSchedule text.now es) }
-    ensures only { (es : List AnEvent) → IsSchedule text.now es → IfErr result (λ e. e ≡ Memory) }
+/// The same of a schedule of at most so many events. None where there are more: the whole text is read then too, and none of its
+/// events is kept.
+pub fn parse_up_to(
+    alloc: Global,
+    text: &[u8],
+    most: usize,
+) -> Result<Option<Vec<Event>>, ParseFault>
+    // What is read is a schedule with these events, or one with too many.
+    ensures found { IfOk result (λ events. MatchOption events ((es : List AnEvent) × IsSchedule text.now es × (most < length es))
+        (λ v. IsSchedule text.now v.items × (length v.items ≤ most))) }
+    ensures only { (es : List AnEvent) → IsSchedule text.now es
+        → MatchResult result (λ events. MatchOption events (most < length es) (λ v. v.items ≡ es)) (λ e. e ≡ Memory) }
     ensures fault { (line number : ℕ) → result ≡ Err (Syntax line number) → IsFirstFault text.now line number }
     ensures first { (line number : ℕ) → IsFirstFault text.now line number → (result ≡ Err (Syntax line number)) ⊎ (result ≡ Err Memory) }
 {
-    check_text(alloc, text)
+    read_text(alloc, text, most)
 }
 
 /// A text is a schedule, or has a first fault.
@@ -66,33 +79,25 @@ pub fn words_are_in_range()
     ensures { (text : List ℕ) (es : List AnEvent) → IsSchedule text es → AllByRecursion EventInRange es }
 {}
 
-fn read_text(alloc: Global, text: &[u8]) -> Result<Vec<Event>, ParseFault>
-    ensures { Gives result (read_lines 1 (word_lines text.now)) }
+/// Reads each line. Once there are too many events, those that were read are let go.
+fn read_text(alloc: Global, text: &[u8], most: usize) -> Result<Option<Vec<Event>>, ParseFault>
+    ensures { GivesUpTo most result (read_lines 1 (word_lines text.now)) }
 {
     // Events are large: room is taken once. What no event takes of it is never touched.
-    let mut events = Vec::with_capacity(alloc, text.len() / SHORTEST_EVENT + 1)?;
+    let room = most.min(text.len() / SHORTEST_EVENT) + 1;
+    let mut events = Vec::with_capacity(alloc, room)?;
     let mut words = Vec::new(alloc);
     let mut number = 0;
+    let mut many = false;
     for line in text.split(|b| *b == b'\n') {
         number += 1;
         read_line(alloc, line, number, &mut words, &mut events)?;
+        if events.len() > most {
+            many = true;
+            events.clear();
+        }
     }
-    Ok(events)
-}
-
-/// Reads each line and lets its event go.
-fn check_text(alloc: Global, text: &[u8]) -> Result<(), ParseFault>
-    ensures { Passes result (read_lines 1 (word_lines text.now)) }
-{
-    let mut events = Vec::new(alloc);
-    let mut words = Vec::new(alloc);
-    let mut number = 0;
-    for line in text.split(|b| *b == b'\n') {
-        number += 1;
-        events.clear();
-        read_line(alloc, line, number, &mut words, &mut events)?;
-    }
-    Ok(())
+    if many { Ok(None) } else { Ok(Some(events)) }
 }
 
 /// Adds the event of a line, if it is one. The line's words take the room of those before.
@@ -121,26 +126,4 @@ fn read_line<'a>(
             number: fault.number(),
         }),
     }
-}
-
-/// How many lines are events, if no line is at fault.
-pub fn count_events(text: &[u8]) -> usize
-    ensures count { result ≡ count_by begins_event (lines_of text.now) }
-    ensures events { (es : List AnEvent) → IsSchedule text.now es → length es ≡ result }
-{
-    text.split(|b| *b == b'\n')
-        .filter(|line| begins_event(line))
-        .count()
-}
-
-/// Whether the first byte other than a space is there, and begins no comment.
-fn begins_event(line: &[u8]) -> bool
-    ensures { result ≡ begins_event line.now }
-{
-    for b in line {
-        if *b != b' ' {
-            return *b != b'#';
-        }
-    }
-    false
 }

@@ -1,12 +1,13 @@
 //! Words as typed values.
 ghost use Rattle.std.specs.Prelude.{◌≡◌, ◌≢◌, ◌≤◌, ℕ, List, length, Option, Some, None, IfSome, IfOk, MatchOption, MatchBool};
-ghost use Rattle.std.specs.List.{AllByRecursion};
+ghost use Rattle.std.specs.Char.{is_ascii_uppercase};
+ghost use Rattle.std.specs.List.{AllByRecursion, list_any};
 ghost use Rattle.hex.specs.Hex.{encode_lower};
 ghost use Rattle.jn_schedule.specs.Grammar.{IsByte, SpellsBlock};
 ghost use Rattle.jn_schedule.specs.Reading.{Reads, Tells, block_no_of, bytes_of, client_of, cut_at_stop, file_of, name_in, name_of, number_in, page_of, server_of, server_in, value_of};
 
 use crate::fault::{LineFault, ReadFault};
-use jn_base::{Block, BlockContent, BlockNo, ClientNo, FileNo, ServerNo, Tid};
+use jn_base::{BlockContent, BlockNo, ClientNo, FileNo, ServerNo, Tid};
 use jn_text::read_number;
 use std::alloc::Global;
 
@@ -15,6 +16,9 @@ const LAST_SERVER: u32 = 7;
 
 /// The last block of a file.
 const LAST_BLOCK: u32 = 119;
+
+/// The bytes of a block.
+const MOST_BYTES: usize = 448;
 
 /// The last physical page of the largest device.
 const LAST_PAGE: u32 = 20001;
@@ -131,47 +135,44 @@ pub fn name_of(word: &[u8]) -> Result<Tid, LineFault>
     name_in(word).ok_or(LineFault::Value)
 }
 
-/// The block whose first bytes a word spells: `-` for none, or pairs of lower-case digits.
-fn block_at(word: &[u8]) -> Option<Block>
-    ensures { Reads (λ stored. SpellsBlock stored word.now) result }
-{
-    let mut block = [0; 448];
-    if word == b"-".as_slice() {
-        return Some(block);
-    }
-    let count = word.len() / 2;
-    if word.is_empty() || count > 448 {
-        return None;
-    }
-    if !decode(word, &mut block[..count]) {
-        return None;
-    }
-    Some(block)
-}
-
 /// Whether pairs of lower-case digits spell as many bytes as there is room for, which then has them.
 fn decode(word: &[u8], room: &mut [u8]) -> bool
-    requires { length room.old ≤ 448 }
     ensures { MatchBool result (AllByRecursion IsByte room.new × (word.now ≡ encode_lower room.new))
         ((bytes : List ℕ) → length bytes ≡ length room.old → AllByRecursion IsByte bytes → word.now ≢ encode_lower bytes) }
 {
-    if hex::decode_to_slice(word, room).is_err() {
+    if has_upper_case(word) {
         return false;
     }
-    // Spelled again, the bytes show an upper-case digit.
-    let mut digits = [0; 896];
-    let again = &mut digits[..2 * room.len()];
-    hex::encode_to_slice(&*room, again).is_ok() && *again == *word
+    hex::decode_to_slice(word, room).is_ok()
 }
 
-/// That block's content, as it is told of a line.
+/// Whether a letter of the word is in upper case. No byte ends the look, so that many are looked at at once.
+fn has_upper_case(word: &[u8]) -> bool
+    ensures { result ≡ list_any is_ascii_uppercase word.now }
+{
+    let mut found = false;
+    for byte in word {
+        found |= byte.is_ascii_uppercase();
+    }
+    found
+}
+
+/// The content of the block whose first bytes a word spells: `-` for none, or pairs of lower-case digits.
 #[tactic(auto, unfolding(crate::specs::Reading::bytes_of))]
 pub fn bytes_of(alloc: Global, word: &[u8]) -> Result<BlockContent, ReadFault>
     ensures { Tells result (bytes_of word.now) }
 {
-    let Some(block) = block_at(word) else {
+    if word == b"-".as_slice() {
+        return Ok(BlockContent::new(alloc, &[])?);
+    }
+    let count = word.len() / 2;
+    if word.is_empty() || count > MOST_BYTES {
         return Err(ReadFault::Line(LineFault::Bytes));
-    };
-    // Two digits spell a byte, and only zeros stand behind those bytes.
-    Ok(BlockContent::new(alloc, &block[..word.len() / 2])?)
+    }
+    let mut block = [0; MOST_BYTES];
+    let bytes = &mut block[..count];
+    if !decode(word, bytes) {
+        return Err(ReadFault::Line(LineFault::Bytes));
+    }
+    Ok(BlockContent::new(alloc, bytes)?)
 }

@@ -1,14 +1,8 @@
-use Rattle.jn_schedule.proofs.Lines.{found, only, fault, first, gives_passes}
+use Rattle.jn_schedule.proofs.Lines.{first_never, first_same}
 use Rattle.jn_schedule.proofs.schedule.parse.Goals as goal
 
-pub returns-clause-found : goal.returns-clause-found
-returns-clause-found c = found c.args.text.now c.read_text.result c.read_text.ensures
+pub returns-in-Ok-Some-clause-first : goal.returns-in-Ok-Some-clause-first
+returns-in-Ok-Some-clause-first c line number is = absurd (first_never c.in-Ok-Some.field-0 c.parse_up_to.result c.in-Ok-Some.is line number (c.parse_up_to.ensures.first line number is))
 
-pub returns-clause-only : goal.returns-clause-only
-returns-clause-only c = only c.args.text.now c.read_text.result c.read_text.ensures
-
-pub returns-clause-fault : goal.returns-clause-fault
-returns-clause-fault c = fault c.args.text.now c.read_text.result (gives_passes c.read_text.result _ c.read_text.ensures)
-
-pub returns-clause-first : goal.returns-clause-first
-returns-clause-first c = first c.args.text.now c.read_text.result (gives_passes c.read_text.result _ c.read_text.ensures)
+pub returns-in-Err-clause-first : goal.returns-in-Err-clause-first
+returns-in-Err-clause-first c line number is = first_same c.in-Err.fault c.parse_up_to.result c.in-Err.is line number (c.parse_up_to.ensures.first line number is)

@@ -1,23 +1,26 @@
-use Rattle.std.proofs.Common.{◌/◌, ap, length, ok_or, refl, sym, take, ◌∙◌, List, None, Ok, Option, Some, ℕ}
+use Rattle.std.proofs.Common.{[], ◌∙◌, sym}
 use Rattle.std.proofs.lemmas.List.{length-take-le}
-use Rattle.jn_schedule.specs.Reading.{bytes_of}
-use Rattle.jn_schedule.specs.declared.fault.LineFault.TheVariants as faults
-use Rattle.jn_schedule.proofs.Blocks.{block_same}
-use Rattle.jn_schedule.proofs.HexWords.{few_spelled, front_is}
+use Rattle.std.specs.Cmp.Lexicographic.{same_text, other_text}
+use Rattle.jn_schedule.proofs.Blocks.{bytes_none, bytes_some}
+use Rattle.jn_schedule.proofs.HexWords.{not_empty, not_long, some_count, spells_none, spells_some, spells_these}
 use Rattle.jn_schedule.proofs.word.bytes_of.Goals as goal
+use Rattle.jn_schedule.proofs.word.bytes_of.Goals.{then-is_empty-via-then-is_empty, then-is_empty-via-else-is_empty+then-count-gt-MOST_BYTES}
 
-pub returns-in_default : goal.returns-in_default
-unfolding bytes_of
-returns-in_default c = ap (λ (o : Option (List ℕ)). ok_or o faults.Bytes) (sym (block_same c.args.word.now None c.in_default.ensures))
+pub returns-then-eq : goal.returns-then-eq
+returns-then-eq c = bytes_some c.args.word.now [] _ (spells_none _ (same_text _ _ c.if-eq.ensures ∙ c.as_slice.ensures)) c.in_ok-new.ensures
 
-pub slice_bounds-block-end : goal.slice_bounds-block-end
-slice_bounds-block-end c = few_spelled c.args.word.now c.in-Some.block c.in-Some.ensures
+pub returns-then-is_empty : goal.returns-then-is_empty
+returns-then-is_empty c = bytes_none c.args.word.now (λ stored spells.
+    let some = spells_some stored c.args.word.now spells (λ e. other_text _ _ c.if-eq.ensures (e ∙ sym c.as_slice.ensures)) in
+    elim c.then-is_empty.branch [
+      | then-is_empty-via-then-is_empty w ↦ not_empty _ some w.if-is_empty.ensures
+      | then-is_empty-via-else-is_empty+then-count-gt-MOST_BYTES w ↦ not_long _ some w.if-count-gt-MOST_BYTES.true
+    ])
 
-pub slice_bounds-new-end : goal.slice_bounds-new-end
-slice_bounds-new-end c = sym (length-take-le _ c.in-Some.block (few_spelled c.args.word.now c.in-Some.block c.in-Some.ensures))
+pub returns-then-not-decode : goal.returns-then-not-decode
+returns-then-not-decode c = bytes_none c.args.word.now (λ stored spells.
+    let some = spells_some stored c.args.word.now spells (λ e. other_text _ _ c.if-eq.ensures (e ∙ sym c.as_slice.ensures)) in
+    c.if-not-decode.ensures some.bytes (some_count _ some ∙ sym (length-take-le _ _ c.if-count-gt-MOST_BYTES.false)) some.are_bytes some.spelled)
 
 pub returns : goal.returns
-unfolding bytes_of
-returns c =
-    ap (λ (o : Option (List ℕ)). ok_or o faults.Bytes) (sym (block_same c.args.word.now (Some c.in-Some.block) c.in-Some.ensures))
-    ∙ ap (λ (l : List ℕ). Ok l) (sym (front_is c.args.word.now c.in-Some.block (take (length c.args.word.now / 2) c.in-Some.block) c.in_ok-new.field-0 c.in-Some.ensures refl c.in_ok-new.ensures))
+returns c = bytes_some c.args.word.now c.decode.new.room _ (spells_these c.args.word.now c.decode.new.room c.if-is_empty.ensures c.if-count-gt-MOST_BYTES.false c.if-not-decode.ensures) c.in_ok-new-2.ensures
