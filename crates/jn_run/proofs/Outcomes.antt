@@ -19,6 +19,7 @@ use Rattle.jn_rows.specs.Stable.{StableState, stable}
 use Rattle.jn_schedule.specs.declared.Event.{Event}
 use Rattle.jn_schedule.specs.Ranges.{EventInRange}
 use Rattle.jn_schedule.specs.Faults.{IsFirstFault}
+use Rattle.jn_schedule.specs.Grammar.{IsSchedule}
 use Rattle.jn_between.proofs.Ended.{at-the-end}
 use Rattle.jn_headline.proofs.Joined.{whole-report, part-report, limited-report}
 use Rattle.jn_headline.specs.Headline.{IsTrueOfBegun}
@@ -41,7 +42,7 @@ use Rattle.jn_run.specs.declared.status.Status.TheVariants as statuses
 use Rattle.jn_run.specs.declared.running.RunFault.{RunFault}
 use Rattle.jn_run.specs.declared.running.RunFault.TheVariants as runs
 use Rattle.jn_run.specs.Keeping.{KeptWith}
-use Rattle.jn_run.specs.Outcome.{LeavesFiles, Accepted, AreKept, IsRefusedImage, Keeps, KeepsFirst, OfImage, OfRefusal, OfReport, OfWords, OutcomeOf, OutcomeOn, IsUntouched, Outputs, Outside, IsText, most_bytes, Ran, Reads, Refuses, RefusesWords, refused_line, IsWhole, IsPart, IsCutShort, RanInPart, RanUnkept, RanWhole}
+use Rattle.jn_run.specs.Outcome.{LeavesFiles, Accepted, AreKept, IsRefusedImage, Keeps, KeepsFirst, OfImage, OfRefusal, OfReport, OfWords, OutcomeOf, OutcomeOn, IsUntouched, Outputs, Outside, IsText, most_bytes, most_events, Ran, Reads, Refuses, RefusesWords, refused_line, IsWhole, IsPart, IsCutShort, RanInPart, RanUnkept, RanWhole}
 use Rattle.jn_run.specs.Running.{course_of, AreLeft, RunsFrom, TookWhole}
 use Rattle.jn_run.proofs.Opened.{Opened, get-below, one-files, some-at}
 
@@ -77,6 +78,11 @@ line-outcome options text line number before statuses.Image after is stays h = a
 line-outcome options text line number before statuses.Read after is stays h = absurd cc
 line-outcome options text line number before statuses.Keep after is stays h = absurd cc
 line-outcome options text line number before statuses.Limit after is stays h = absurd cc
+
+-- a schedule of too many events
+pub long-outcome : (options : Options) (text : List ℕ) (o : Outputs) → (es : List Event) × IsSchedule text es × (most_events < length es) → OutcomeOn options text o statuses.Limit o
+long-outcome options text o long =
+    λ left left' rf rf' told fits. (inl (refl, inr (record { text = text; reads = record { told = told; fits = fits }; events = long.0; schedule = long.1; many = long.2 }), refl), refl)
 
 -- a refused image
 pub image-outcome : (options : Options) (text : List ℕ) (events : List Event) (r : Refusal) (before : Outputs) (status : Status) (after : Outputs) → Accepted text events → IsRefusedImage options before.kept r → after.kept ≡ before.kept

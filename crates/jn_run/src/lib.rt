@@ -1,13 +1,11 @@
 //! The top call: reads the words and a schedule, runs it, writes the report and keeps the disks.
 #![tactic(auto)]
 
-ghost use Rattle.std.specs.Prelude.{◌≡◌, ◌<◌, ◌≤◌, ℕ, Option, Some, List, length, IfOk};
+ghost use Rattle.std.specs.Prelude.{◌≡◌, ◌≤◌, ℕ, Option, Some, List, length, IfOk};
 ghost use Rattle.std.specs.List.{AllByRecursion};
 ghost use Rattle.jn_host.specs.Outside.{Contents};
 ghost use Rattle.jn_images.specs.Texts.{refusal_text};
 ghost use Rattle.jn_options.specs.Words.{AreWithinLimits, IsTrialInRange, command_of};
-ghost use Rattle.jn_options.specs.declared.asked.Options.{Options as AnOptions};
-ghost use Rattle.jn_schedule.specs.declared.Event.{Event as AnEvent};
 ghost use Rattle.jn_schedule.specs.Grammar.{IsSchedule};
 ghost use Rattle.jn_schedule.specs.Ranges.{EventInRange};
 ghost use Rattle.jn_world.specs.Standing.{AreStores};

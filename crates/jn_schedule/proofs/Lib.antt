@@ -6,6 +6,7 @@ mod HexWords
 mod Lines
 mod Numbers
 mod Places
+mod Splits
 mod TextParts
 mod Told
 mod Values

@@ -1,12 +1,12 @@
 -- Reading lines one after the other: what is told, and that what is there is told.
-use Rattle.std.proofs.Common.{◌≡◌, ℕ, ◌+◌, ◌<◌, ◌≤◌, ◌++◌, ◌⊎◌, inl, inr, Bool, true, false, cond, List, [], ◌∷◌, length, map, drop, get_or, Option, Some, None, Result, Ok, Err, IfOk, MatchOption, MatchResult, MatchBool, refl, sym, ap, ◌∙◌, subst, append_assoc, arith}
-use Rattle.std.proofs.lemmas.List.{append-nil, at_drop_all, at_drop_more, length-append}
+use Rattle.std.proofs.Common.{◌≡◌, ℕ, ◌+◌, ◌<◌, ◌≤◌, ◌++◌, ◌⊎◌, inl, inr, Bool, true, false, cond, List, [], ◌∷◌, length, Option, Some, None, Result, Ok, Err, IfOk, MatchOption, MatchResult, MatchBool, refl, sym, ap, ◌∙◌, subst, append_assoc, arith}
+use Rattle.std.proofs.lemmas.List.{append-nil, length-append}
 use Rattle.std.specs.Global.{Vec}
 use Rattle.jn_schedule.specs.declared.Event.{Event}
 use Rattle.jn_schedule.specs.declared.fault.LineFault.{LineFault}
 use Rattle.jn_schedule.specs.declared.fault.ParseFault.{ParseFault}
 use Rattle.jn_schedule.specs.declared.fault.ParseFault.TheVariants as parse
-use Rattle.jn_schedule.specs.Grammar.{AreLines, IsSchedule, Spells, is_passed, word_lines, words_of}
+use Rattle.jn_schedule.specs.Grammar.{AreLines, IsSchedule, Spells, is_passed, word_lines}
 use Rattle.jn_schedule.specs.Faults.{HasFault, IsFirstFault, LinesFault, number_of}
 use Rattle.jn_schedule.specs.Reading.{◌>>=◌, AddsLine, Fails, GivesUpTo, event_of, in_front, read_line, read_lines, then_lines}
 use Rattle.jn_schedule.proofs.Again.{fault_one, spelled_no_fault, spelled_read}
@@ -78,52 +78,37 @@ in_front_twice : (a b : List Event) (r : Result (List Event) (ℕ × LineFault))
 in_front_twice a b (Ok more) = ap (λ (l : List Event). Ok l) (sym (append_assoc a b more))
 in_front_twice a b (Err e) = refl
 
--- the lines from this one on
-at_line : (front : List Event) (all : List (List ℕ)) (k : ℕ) (line : List ℕ) (total : Result (List Event) (ℕ × LineFault)) → (k < length all) × (line ≡ get_or all k line)
-    → in_front front (read_lines (k + 1) (map words_of (drop k all))) ≡ total
-    → in_front front (then_lines (k + 1) (read_line (words_of line)) (read_lines (k + 1 + 1) (map words_of (drop (k + 1) all)))) ≡ total
-unfolding read_lines
-at_line front all k line total turn so_far =
-    let f : List (List ℕ) → Result (List Event) (ℕ × LineFault) = λ l. in_front front (read_lines (k + 1) (map words_of l)) in
-    ap (λ (l : List ℕ). f (l ∷ drop (k + 1) all)) turn.1 ∙ sym (at_drop_more f all k line turn.0) ∙ so_far
-
 -- one line more
-pub goes_on : (front es : List Event) (all : List (List ℕ)) (k : ℕ) (line : List ℕ) (total : Result (List Event) (ℕ × LineFault)) → (k < length all) × (line ≡ get_or all k line)
-    → read_line (words_of line) ≡ Ok es → in_front front (read_lines (k + 1) (map words_of (drop k all))) ≡ total
-    → in_front (front ++ es) (read_lines (k + 1 + 1) (map words_of (drop (k + 1) all))) ≡ total
-goes_on front es all k line total turn read so_far =
-    let rest = read_lines (k + 1 + 1) (map words_of (drop (k + 1) all)) in
-    sym (in_front_twice front es rest)
-    ∙ ap (λ (r : Result (List Event) LineFault). in_front front (then_lines (k + 1) r rest)) (sym read)
-    ∙ at_line front all k line total turn so_far
+pub goes_on : (front es : List Event) (n : ℕ) (ws : List (List ℕ)) (lines : List (List (List ℕ))) (total : Result (List Event) (ℕ × LineFault))
+    → read_line ws ≡ Ok es → in_front front (read_lines n (ws ∷ lines)) ≡ total → in_front (front ++ es) (read_lines (n + 1) lines) ≡ total
+unfolding read_lines
+goes_on front es n ws lines total read so_far =
+    sym (in_front_twice front es (read_lines (n + 1) lines))
+    ∙ ap (λ (r : Result (List Event) LineFault). in_front front (then_lines n r (read_lines (n + 1) lines))) (sym read)
+    ∙ so_far
 
 -- a line at fault
-pub stops : (front : List Event) (f : LineFault) (all : List (List ℕ)) (k : ℕ) (line : List ℕ) (total : Result (List Event) (ℕ × LineFault)) → (k < length all) × (line ≡ get_or all k line)
-    → read_line (words_of line) ≡ Err f → in_front front (read_lines (k + 1) (map words_of (drop k all))) ≡ total → total ≡ Err (k + 1, f)
-stops front f all k line total turn read so_far =
-    let rest = read_lines (k + 1 + 1) (map words_of (drop (k + 1) all)) in
-    sym (at_line front all k line total turn so_far)
-    ∙ ap (λ (r : Result (List Event) LineFault). in_front front (then_lines (k + 1) r rest)) read
+stops : (front : List Event) (f : LineFault) (n : ℕ) (ws : List (List ℕ)) (lines : List (List (List ℕ))) (total : Result (List Event) (ℕ × LineFault))
+    → read_line ws ≡ Err f → in_front front (read_lines n (ws ∷ lines)) ≡ total → total ≡ Err (n, f)
+unfolding read_lines
+stops front f n ws lines total read so_far =
+    sym so_far ∙ ap (λ (r : Result (List Event) LineFault). in_front front (then_lines n r (read_lines (n + 1) lines))) read
 
 -- behind the last line
-pub is_done : (front : List Event) (all : List (List ℕ)) (k : ℕ) (total : Result (List Event) (ℕ × LineFault)) → length all ≤ k
-    → in_front front (read_lines (k + 1) (map words_of (drop k all))) ≡ total → total ≡ Ok front
+pub is_done : (front : List Event) (n : ℕ) (total : Result (List Event) (ℕ × LineFault)) → in_front front (read_lines n []) ≡ total → total ≡ Ok front
 unfolding read_lines
-is_done front all k total past so_far =
-    let f : List (List ℕ) → Result (List Event) (ℕ × LineFault) = λ l. in_front front (read_lines (k + 1) (map words_of l)) in
-    sym so_far ∙ at_drop_all f all k past ∙ ap (λ (l : List Event). Ok l) (append-nil front)
+is_done front n total so_far = sym so_far ∙ ap (λ (l : List Event). Ok l) (append-nil front)
 
 pub starts : (read : Result (List Event) (ℕ × LineFault)) → in_front [] read ≡ read
 starts (Ok es) = refl
 starts (Err e) = refl
 
 -- the exit at a line that isn't read, whatever is kept of the events in front
-pub exits : (front : List Event) (all : List (List ℕ)) (k at : ℕ) (line : List ℕ) (total : Result (List Event) (ℕ × LineFault)) (e : ParseFault) → at ≡ k + 1
-    → (k < length all) × (line ≡ get_or all k line) → (before after : List Event) → AddsLine (Err e) at (read_line (words_of line)) before after
-    → in_front front (read_lines (k + 1) (map words_of (drop k all))) ≡ total → Fails e total
-exits front all k at line total parse.Memory is turn before after adds so_far = tt
-exits front all k at line total (parse.Syntax place number) is turn before after adds so_far =
-    (adds.0, adds.1, stops front adds.0 all k line total turn adds.3 so_far ∙ ap (λ (l : ℕ). Err (l, adds.0)) (sym is ∙ sym adds.2))
+pub exits : (front : List Event) (n : ℕ) (ws : List (List ℕ)) (lines : List (List (List ℕ))) (total : Result (List Event) (ℕ × LineFault)) (e : ParseFault)
+    → (before after : List Event) → AddsLine (Err e) n (read_line ws) before after → in_front front (read_lines n (ws ∷ lines)) ≡ total → Fails e total
+exits front n ws lines total parse.Memory before after adds so_far = tt
+exits front n ws lines total (parse.Syntax place number) before after adds so_far =
+    (adds.0, adds.1, stops front adds.0 n ws lines total adds.3 so_far ∙ ap (λ (l : ℕ). Err (l, adds.0)) (sym adds.2))
 
 -- what is kept of the events so far: they are too many, or are all kept
 abbrev pub Keeps : Bool → ℕ → List Event → List Event → Type 0

@@ -2,15 +2,10 @@
 use Rattle.std.proofs.Common.{◌≡◌, ◌≢◌, ap, cond, ℕ, ◌+◌, ◌<◌, true, List, [], ◌∷◌, ◌++◌, length, take, get_or, refl, sym, ◌∙◌, arith}
 use Rattle.std.proofs.lemmas.Bool.Decides.{nat_tests}
 use Rattle.std.proofs.lemmas.Grind.{common_steps}
-use Rattle.std.proofs.Common.{false, sym, ◌∙◌, get_or, ◌-◌, ◌^◌, ◌∷◌, Bool, Some, None, Option, not, ◌&&◌, nat_eq, decimal, drop}
+use Rattle.std.proofs.Common.{false, sym, ◌∙◌, get_or, ◌-◌, ◌^◌, ◌∷◌, Bool, Some, None, Option, nat_eq, decimal, drop}
 use Rattle.std.proofs.lemmas.Fmt.{decimal_by_steps}
 use Rattle.std.proofs.lemmas.Option.{some_pair_parts}
-use Rattle.jn_schedule.specs.Reading.{cut_at_stop, with_first}
-
--- the byte isn't among the bytes
-abbrev pub lacks : ℕ → List ℕ → Bool
-lacks byte [] = true
-lacks byte (b ∷ bs) = not (nat_eq b byte) && lacks byte bs
+use Rattle.jn_schedule.specs.Reading.{cut_at_stop, lacks, with_first}
 
 pub lacks-append : (byte : ℕ) (xs ys : List ℕ) → lacks byte xs ≡ true → lacks byte ys ≡ true → lacks byte (xs ++ ys) ≡ true
 lacks-append byte [] ys front back = back
@@ -31,7 +26,7 @@ decimal-lacks byte n low small =
     (λ k ds h front. lacks-append byte ds _ front (grind (arith, nat_tests))) n small
 
 -- a byte that isn't one of the kind, and those behind it
-front_other : (byte a : ℕ) (rest : List ℕ) → lacks byte (a ∷ rest) ≡ true → (nat_eq a byte ≡ false) × (lacks byte rest ≡ true)
+pub front_other : (byte a : ℕ) (rest : List ℕ) → lacks byte (a ∷ rest) ≡ true → (nat_eq a byte ≡ false) × (lacks byte rest ≡ true)
 front_other byte a rest h = grind (arith, nat_tests)
 
 -- the first full stop is where the word is cut

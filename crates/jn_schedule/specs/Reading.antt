@@ -1,5 +1,5 @@
 -- How the words of a line are read, one after the other: an event, or a fault.
-use Rattle.std.specs.Prelude.{◌≡◌, ℕ, ◌+◌, ◌-◌, ◌^◌, ◌++◌, ◌≤◌, ◌<◌, ◌&&◌, nat_eq, nat_le, nat_lt, List, [], ◌∷◌, length, map, Option, Some, None, MatchOption, Result, Ok, Err, option_and_then, option_map, ok_or, if◌then◌else◌, codes, decimal}
+use Rattle.std.specs.Prelude.{◌≡◌, ℕ, ◌+◌, ◌-◌, ◌^◌, ◌++◌, ◌≤◌, ◌<◌, Bool, true, not, ◌&&◌, nat_eq, nat_le, nat_lt, List, [], ◌∷◌, length, map, drop, Option, Some, None, MatchOption, Result, Ok, Err, option_and_then, option_map, ok_or, if◌then◌else◌, codes, decimal}
 use Rattle.std.specs.Borrow.{Bor}
 use Rattle.std.specs.Str.Parse.{digits_value}
 use Rattle.hex.specs.Hex.{decode_of, encode_lower}
@@ -30,7 +30,7 @@ use Rattle.jn_schedule.specs.declared.fault.ParseFault.{ParseFault}
 use Rattle.jn_schedule.specs.declared.fault.ParseFault.TheVariants as parse
 use Rattle.std.specs.Global.{Vec}
 use Rattle.jn_schedule.specs.Faults.{same, number_of}
-use Rattle.jn_schedule.specs.Grammar.{filled, is_passed}
+use Rattle.jn_schedule.specs.Grammar.{filled, is_passed, lines_of}
 
 abbrev pub texts : List (Bor (List ℕ)) → List (List ℕ)
 texts ws = map (λ w. w.now) ws
@@ -276,3 +276,14 @@ abbrev pub AddsLine : Result (Unit {0}) ParseFault → ℕ → Result (List Even
 AddsLine (Ok x) at read before after = (es : List Event) × (read ≡ Ok es) × (after ≡ before ++ es)
 AddsLine (Err parse.Memory) at read before after = Unit {0}
 AddsLine (Err (parse.Syntax line number)) at read before after = (fault : LineFault) × (number ≡ number_of fault) × (line ≡ at) × (read ≡ Err fault)
+
+-- ---- places of a text
+
+-- the byte isn't among the bytes
+abbrev pub lacks : ℕ → List ℕ → Bool
+lacks byte [] = true
+lacks byte (b ∷ bs) = not (nat_eq b byte) && lacks byte bs
+
+-- the lines from a place on; behind the last line there is none
+abbrev pub lines_from : ℕ → List ℕ → List (List ℕ)
+lines_from at text = if nat_le at (length text) then lines_of (drop at text) else []

@@ -13,15 +13,17 @@ pub fn line_of_event(alloc: Global, text: &[u8], index: usize) -> Result<Option<
     let mut words = Vec::new(alloc);
     let mut left = index;
     let mut number = 0;
-    for line in text.split(|b| *b == b'\n') {
+    let mut at = 0;
+    while at <= text.len() {
         number += 1;
-        fill_words(&mut words, line)?;
+        let line = fill_words(&mut words, &text[at..])?;
         if !is_passed(&words) {
             if left == 0 {
                 return Ok(Some(number));
             }
             left -= 1;
         }
+        at += line + 1;
     }
     Ok(None)
 }

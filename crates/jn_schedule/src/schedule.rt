@@ -2,10 +2,10 @@
 ghost use Rattle.std.specs.Prelude.{◌≡◌, ◌≤◌, ◌<◌, ◌⊎◌, ℕ, List, Ok, Err, Result, IfOk, MatchOption, MatchResult, length};
 ghost use Rattle.jn_schedule.specs.declared.Event.{Event as AnEvent};
 ghost use Rattle.jn_schedule.specs.Faults.{IsFirstFault};
-ghost use Rattle.jn_schedule.specs.Grammar.{IsSchedule, word_lines, words_of};
+ghost use Rattle.jn_schedule.specs.Grammar.{IsSchedule, word_lines};
 ghost use Rattle.std.specs.List.{AllByRecursion};
 ghost use Rattle.jn_schedule.specs.Ranges.{EventInRange};
-ghost use Rattle.jn_schedule.specs.Reading.{AddsLine, GivesUpTo, read_line, read_lines};
+ghost use Rattle.jn_schedule.specs.Reading.{AddsLine, GivesUpTo, read_line, read_lines, texts};
 ghost use Rattle.jn_schedule.specs.declared.fault.ParseFault.TheVariants.{Memory, Syntax};
 
 use crate::Event;
@@ -89,9 +89,13 @@ fn read_text(alloc: Global, text: &[u8], most: usize) -> Result<Option<Vec<Event
     let mut words = Vec::new(alloc);
     let mut number = 0;
     let mut many = false;
-    for line in text.split(|b| *b == b'\n') {
+    let mut at = 0;
+    // The last line may have no bytes.
+    while at <= text.len() {
         number += 1;
-        read_line(alloc, line, number, &mut words, &mut events)?;
+        let line = fill_words(&mut words, &text[at..])?;
+        at += line + 1;
+        read_line(alloc, &words, number, &mut events)?;
         if events.len() > most {
             many = true;
             events.clear();
@@ -100,18 +104,16 @@ fn read_text(alloc: Global, text: &[u8], most: usize) -> Result<Option<Vec<Event
     if many { Ok(None) } else { Ok(Some(events)) }
 }
 
-/// Adds the event of a line, if it is one. The line's words take the room of those before.
+/// Adds the event that the words of a line spell, if it is one.
 #[tactic(auto, unfolding(crate::specs::Reading::read_line))]
-fn read_line<'a>(
+fn read_line(
     alloc: Global,
-    line: &'a [u8],
+    words: &[&[u8]],
     number: usize,
-    words: &mut Vec<&'a [u8]>,
     events: &mut Vec<Event>,
 ) -> Result<(), ParseFault>
-    ensures { AddsLine result number (read_line (words_of line.now)) events.old.items events.new.items }
+    ensures { AddsLine result number (read_line (texts words.now)) events.old.items events.new.items }
 {
-    fill_words(words, line)?;
     if is_passed(words) {
         return Ok(());
     }

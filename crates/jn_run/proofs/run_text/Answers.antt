@@ -2,22 +2,28 @@ use Rattle.std.proofs.Common.{List, rules, refl, subst, sym}
 use Rattle.jn_schedule.proofs.Ranges.{lines_in_range}
 use Rattle.jn_schedule.specs.declared.Event.{Event}
 use Rattle.jn_schedule.specs.Grammar.{word_lines, IsSchedule}
-use Rattle.jn_run.proofs.Outcomes.{line-outcome}
+use Rattle.jn_run.proofs.Outcomes.{line-outcome, long-outcome}
 use Rattle.jn_run.proofs.run_text.Goals as goal
 
 pub run_schedule-requires-clause-range : goal.run_schedule-requires-clause-range
-run_schedule-requires-clause-range g c = lines_in_range (word_lines c.args.text.now) c.deref.result.now (subst (λ (es : List Event). IsSchedule c.args.text.now es) (sym c.deref.ensures.value) c.in-Ok.ensures.found)
+run_schedule-requires-clause-range g c =
+    let found = rw c.in-Ok-Some.field-0-is at c.in-Ok-Some.ensures.found in
+    lines_in_range (word_lines c.args.text.now) c.deref.result.now (subst (λ (es : List Event). IsSchedule c.args.text.now es) (sym c.deref.ensures.value) found.0)
 
-pub returns-in-Ok : goal.returns-in-Ok
-returns-in-Ok g c = record { ran = c.run_schedule.ensures.ran c.args.text.now (subst (λ (es : List Event). IsSchedule c.args.text.now es) (sym c.deref.ensures.value) c.in-Ok.ensures.found) }
+pub returns-in-Ok-Some : goal.returns-in-Ok-Some
+returns-in-Ok-Some g c =
+    let found = rw c.in-Ok-Some.field-0-is at c.in-Ok-Some.ensures.found in
+    record { ran = c.run_schedule.ensures.ran c.args.text.now (subst (λ (es : List Event). IsSchedule c.args.text.now es) (sym c.deref.ensures.value) found.0) }
+
+pub returns-in-Ok-None : goal.returns-in-Ok-None
+returns-in-Ok-None g c =
+    let found = rw c.in-Ok-None.field-0-is at c.in-Ok-None.ensures.found in
+    record { ran = long-outcome c.args.options.now c.args.text.now _ found }
 
 pub returns-in-Err-Syntax : goal.returns-in-Err-Syntax
 returns-in-Err-Syntax g c = record {
   ran = line-outcome c.args.options.now c.args.text.now _ _
       (record { taken = g.K.Sink.taken c.args.sink.now; write_faults = g.K.Sink.faults c.args.sink.now; kept = g.I.Keeper.kept c.args.keeper.now; keep_faults = g.I.Keeper.faults c.args.keeper.now }) c.refuse_line.result
       (record { taken = g.K.Sink.taken c.refuse_line.new.sink; write_faults = g.K.Sink.faults c.refuse_line.new.sink; kept = g.I.Keeper.kept c.args.keeper.now; keep_faults = g.I.Keeper.faults c.args.keeper.now })
-      (c.parse.ensures.fault _ _ (search rules)) refl c.refuse_line.ensures.refused;
+      (c.parse_up_to.ensures.fault _ _ (search rules)) refl c.refuse_line.ensures.refused;
 }
-
-pub returns-then-count_events-gt-MOST_EVENTS : goal.returns-then-count_events-gt-MOST_EVENTS
-returns-then-count_events-gt-MOST_EVENTS g c = record { ran = c.refuse_long.ensures.ran c.args.options.now (g.I.Keeper.kept c.args.keeper.now) (g.I.Keeper.faults c.args.keeper.now) }

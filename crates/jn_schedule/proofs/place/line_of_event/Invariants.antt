@@ -1,9 +1,14 @@
-use Rattle.std.proofs.Common.{◌≡◌, ◌+◌, length, drop, map}
-use Rattle.jn_schedule.specs.Grammar.{event_line, line_of_event, lines_of, words_of}
+use Rattle.std.proofs.Common.{◌≡◌, ◌+◌, ◌-◌, ◌≤◌, length, map}
+use Rattle.jn_schedule.specs.Grammar.{event_line, line_of_event, words_of}
+use Rattle.jn_schedule.specs.Reading.{lines_from}
 use Rattle.jn_schedule.proofs.place.line_of_event.Given as goal
 
-abbrev pub invariant-loop-line : goal.invariant-loop-line
-invariant-loop-line l = record {
-  counted : l.number ≡ length l.yielded;
-  so_far : event_line (length l.yielded + 1) (map words_of (drop (length l.yielded) (lines_of l.text))) l.left ≡ line_of_event l.text l.index;
+abbrev pub invariant-loop-at : goal.invariant-loop-at
+invariant-loop-at l = record {
+  counted : l.number ≤ l.at;
+  within : l.at ≤ length l.text + 1;
+  so_far : event_line (l.number + 1) (map words_of (lines_from l.at l.text)) l.left ≡ line_of_event l.text l.index;
 }
+
+abbrev pub decreases-loop-at : goal.decreases-loop-at
+decreases-loop-at l = length l.text + 1 - l.at

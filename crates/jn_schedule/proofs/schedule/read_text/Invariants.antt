@@ -1,15 +1,19 @@
-use Rattle.std.proofs.Common.{◌≡◌, ◌+◌, ◌≤◌, List, length, drop, map}
+use Rattle.std.proofs.Common.{◌≡◌, ◌+◌, ◌-◌, ◌≤◌, List, length, map}
 use Rattle.jn_schedule.specs.declared.Event.{Event}
-use Rattle.jn_schedule.specs.Grammar.{lines_of, word_lines, words_of}
-use Rattle.jn_schedule.specs.Reading.{in_front, read_lines}
+use Rattle.jn_schedule.specs.Grammar.{word_lines, words_of}
+use Rattle.jn_schedule.specs.Reading.{in_front, lines_from, read_lines}
 use Rattle.jn_schedule.proofs.Lines.{Keeps}
 use Rattle.jn_schedule.proofs.schedule.read_text.Given as goal
 
-abbrev pub invariant-loop-line : goal.invariant-loop-line
-invariant-loop-line l = record {
-  counted : l.number ≡ length l.yielded;
+abbrev pub invariant-loop-at : goal.invariant-loop-at
+invariant-loop-at l = record {
+  counted : l.number ≤ l.at;
+  within : l.at ≤ length l.text + 1;
   front : List Event;
-  so_far : in_front front (read_lines (length l.yielded + 1) (map words_of (drop (length l.yielded) (lines_of l.text)))) ≡ read_lines 1 (word_lines l.text);
+  so_far : in_front front (read_lines (l.number + 1) (map words_of (lines_from l.at l.text))) ≡ read_lines 1 (word_lines l.text);
   few : length l.events.items ≤ l.most;
   kept : Keeps l.many l.most front l.events.items;
 }
+
+abbrev pub decreases-loop-at : goal.decreases-loop-at
+decreases-loop-at l = length l.text + 1 - l.at

@@ -1,5 +1,5 @@
 use Rattle.std.proofs.Common.{◌≡◌, true, take}
-use Rattle.jn_schedule.proofs.TextParts.{lacks}
+use Rattle.jn_schedule.specs.Reading.{lacks}
 use Rattle.jn_schedule.proofs.word.cut_at_stop.Given as goal
 
 abbrev pub invariant-loop-i : goal.invariant-loop-i

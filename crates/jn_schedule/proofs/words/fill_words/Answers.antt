@@ -1,22 +1,22 @@
-use Rattle.std.proofs.Common.{◌≡◌, ◌∙◌, ◌++◌, ap, rules, tests, ℕ, nat_eq, List, Option, Result, MatchResult, OnOk, map}
-use Rattle.std.specs.Iterator.{Drains, Yields}
-use Rattle.std.proofs.lemmas.Iterator.{YieldsList}
-use Rattle.std.proofs.lemmas.Iterator.Adapters.{fact_from_extend}
-use Rattle.std.proofs.lemmas.Iterator.Consumers.{YieldsList-from_filter, YieldsList-at}
-use Rattle.std.proofs.lemmas.Iterator.Splits.{YieldsList-from_slice_split}
-use Rattle.jn_schedule.specs.Grammar.{has_bytes}
+use Rattle.std.proofs.Common.{◌+◌, inl, inr, ap}
 use Rattle.jn_schedule.specs.Reading.{texts}
+use Rattle.jn_schedule.proofs.Splits.{found_first, found_next, line_ends}
+use Rattle.jn_schedule.proofs.TextParts.{rest_is}
 use Rattle.jn_schedule.proofs.words.fill_words.Goals as goal
 
--- what `extend` adds, seen by a value of each item
-added : {S A B E Q : Type 0} {steps : S → Option A → S → Type 0} {v : A → B} {s : S} {all : List B} {P : List A → Type 0} (r : Result (Unit {0}) E)
-    → ((it : S) × (xs : List A) × (it ≡ s) × P xs × MatchResult r (λ _. Drains steps it xs) (λ _. (t : S) × Yields steps it xs t))
-    → YieldsList steps v s all → ((xs : List A) → map v xs ≡ all → P xs → Q) → OnOk r Q
-added {v = v} r ran road says = fact_from_extend v r ran (λ it gives. YieldsList-at gives road) says
+pub loop-end-init : goal.loop-end-init
+loop-end-init c =
+    let first = c.word_length-end.ensures in
+    found_first c.args.text.now c.word_length-end.result _ _ first.within first.no_space first.no_feed first.stop (ap texts c.clear.ensures.items) c.in_ok-push_word.ensures
 
-pub returns : goal.returns
-returns c = added _ c.extend.ensures.ran
-    (YieldsList-from_filter _ has_bytes
-    (YieldsList-at c.filter.ensures.source (YieldsList-from_slice_split _ (λ (b : ℕ). nat_eq b 32) c.args.line.now c.split.ensures.rest c.split.ensures.done c.split.ensures.closure (λ x r q k. search (rules, tests))))
-    c.filter.ensures.closure (λ x r q k. search (rules, tests)))
-    (λ words same gives. ap texts (gives.0 ∙ ap (λ (l : _). l ++ words) c.clear.ensures.items) ∙ same)
+pub loop-end-preserved : goal.loop-end-preserved
+loop-end-preserved c =
+    let next = c.word_length-length.ensures in
+    found_next c.args.text.now _ c.loop-end.end c.word_length-length.result _ _ c.loop-end.invariant c.loop-end-test.true c.if-text-end-eq32.true (rest_is c.args.text.now (c.loop-end.end + 1))
+    next.within next.no_space next.no_feed next.stop c.in_ok-push_word-2.ensures
+
+pub returns-else-text-end-eq32-clause-line : goal.returns-else-text-end-eq32-clause-line
+returns-else-text-end-eq32-clause-line c = line_ends c.args.text.now c.loop-end.end _ c.loop-end.invariant (inr (c.loop-end-test.true, c.if-text-end-eq32.false))
+
+pub returns-after-loop-end-clause-line : goal.returns-after-loop-end-clause-line
+returns-after-loop-end-clause-line c = line_ends c.args.text.now c.loop-end.end _ c.loop-end.invariant (inl c.loop-end-test.false)
