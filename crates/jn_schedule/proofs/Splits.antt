@@ -1,5 +1,5 @@
 -- The words of a text's first line, found one after the other, and the lines behind it.
-use Rattle.std.proofs.Common.{◌≡◌, ◌⊎◌, inl, inr, ℕ, ◌+◌, ◌-◌, ◌<◌, ◌≤◌, Bool, true, false, nat_eq, nat_le, if◌then◌else◌, List, [], ◌∷◌, ◌++◌, append_assoc, length, filter, take, drop, get_or, refl, sym, ap, ◌∙◌, subst, arith}
+use Rattle.std.proofs.Common.{◌≡◌, ◌≢◌, ◌⊎◌, inl, inr, ℕ, ◌+◌, ◌-◌, ◌<◌, ◌≤◌, Bool, true, false, nat_eq, nat_le, if◌then◌else◌, List, [], ◌∷◌, ◌++◌, append_assoc, length, filter, take, drop, get_or, refl, sym, ap, ◌∙◌, subst, arith}
 use Rattle.std.specs.List.{slice_split}
 use Rattle.std.proofs.Math.Seq.{take-add}
 use Rattle.std.proofs.lemmas.Bool.Decides.{nat_tests}
@@ -62,12 +62,12 @@ found_first text end before words within space feed stop none are =
       more = λ rest. word_cut (take end text) rest space ∙ ap (λ (l : List (List ℕ)). l ++ words_of rest) same;
     }
 
--- the bytes up to the end of the next word
-next_front : (text : List ℕ) (end n : ℕ) → end < length text → get_or text end 0 ≡ 32 → take (end + (n + 1)) text ≡ take end text ++ 32 ∷ take n (drop (end + 1) text)
-next_front text end n inside space =
+-- the bytes up to a place, the byte there, and bytes behind it
+next_front : (text : List ℕ) (end n : ℕ) → end < length text → take (end + (n + 1)) text ≡ take end text ++ get_or text end 0 ∷ take n (drop (end + 1) text)
+next_front text end n inside =
     take-add end (n + 1) text
-    ∙ ap (λ (l : List ℕ). take end text ++ take (n + 1) l) (from_here text end inside ∙ ap (λ (b : ℕ). b ∷ drop (end + 1) text) space)
-    ∙ ap (λ (l : List ℕ). take end text ++ l) (take_first n 32 (drop (end + 1) text))
+    ∙ ap (λ (l : List ℕ). take end text ++ take (n + 1) l) (from_here text end inside)
+    ∙ ap (λ (l : List ℕ). take end text ++ l) (take_first n (get_or text end 0) (drop (end + 1) text))
   where
     from_here : (text : List ℕ) (end : ℕ) → end < length text → drop end text ≡ get_or text end 0 ∷ drop (end + 1) text
     from_here text end inside = grind (arith, common_steps)
@@ -75,12 +75,23 @@ next_front text end n inside space =
     take_first : (n b : ℕ) (l : List ℕ) → take (n + 1) (b ∷ l) ≡ b ∷ take n l
     take_first n b l = grind (arith, common_steps)
 
+-- the same byte is among none of them
+pub lacks_on : (byte : ℕ) (text rest : List ℕ) (end n : ℕ) → end < length text → rest ≡ drop (end + 1) text → get_or text end 0 ≢ byte
+    → lacks byte (take end text) ≡ true → lacks byte (take n rest) ≡ true → lacks byte (take (end + (n + 1)) text) ≡ true
+lacks_on byte text rest end n inside is other before behind =
+    ap (lacks byte) (next_front text end n inside ∙ ap (λ (l : List ℕ). take end text ++ get_or text end 0 ∷ take n l) (sym is))
+    ∙ lacks-append byte (take end text) (get_or text end 0 ∷ take n rest) before (one_on byte (get_or text end 0) (take n rest) other behind)
+  where
+    one_on : (byte a : ℕ) (l : List ℕ) → a ≢ byte → lacks byte l ≡ true → lacks byte (a ∷ l) ≡ true
+    one_on byte a l other behind = grind (arith, nat_tests)
+
 pub found_next : (text rest : List ℕ) (end n : ℕ) (before words : List (List ℕ)) → Found text end before → end < length text → get_or text end 0 ≡ 32 → rest ≡ drop (end + 1) text
     → n ≤ length rest → lacks 32 (take n rest) ≡ true → lacks 10 (take n rest) ≡ true → (n < length rest → (get_or rest n 0 ≡ 32) ⊎ (get_or rest n 0 ≡ 10))
     → words ≡ before ++ one_word (take n rest) → Found text (end + (n + 1)) words
 found_next text rest end n before words found inside space is within no_space no_feed stop are =
     let w = take n rest in
-    let front : take (end + (n + 1)) text ≡ take end text ++ 32 ∷ w = next_front text end n inside space ∙ ap (λ (l : List ℕ). take end text ++ 32 ∷ take n l) (sym is) in
+    let front : take (end + (n + 1)) text ≡ take end text ++ 32 ∷ w =
+    next_front text end n inside ∙ ap (λ (b : ℕ). take end text ++ b ∷ take n (drop (end + 1) text)) space ∙ ap (λ (l : List ℕ). take end text ++ 32 ∷ take n l) (sym is) in
     let long : length rest ≡ length text - (end + 1) = ap length is ∙ length-drop (end + 1) text in
     let at : get_or rest n 0 ≡ get_or text (end + (n + 1)) 0 = ap (λ (l : List ℕ). get_or l n 0) is ∙ next_byte text end n in
     record {

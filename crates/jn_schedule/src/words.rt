@@ -31,19 +31,32 @@ fn word_length(text: &[u8]) -> usize
     ensures no_feed { lacks 10 (take result text.now) ≡ true }
     ensures stop { result < length text.now → (slice_index text.now result ≡ 32) ⊎ (slice_index text.now result ≡ 10) }
 {
+    let mut end = plain_length(text);
+    while end < text.len() && !ends_word(text[end]) {
+        end += plain_length(&text[end + 1..]) + 1;
+    }
+    end
+}
+
+/// Whether a byte is a space or a line feed.
+fn ends_word(byte: u8) -> bool
+    ensures { MatchBool result ((byte ≡ 32) ⊎ (byte ≡ 10)) ((byte ≢ 32) × (byte ≢ 10)) }
+{
+    byte == b' ' || byte == b'\n'
+}
+
+/// How many bytes stand before the first that is at most a space. Most bytes are greater, so that one comparison passes them over.
+fn plain_length(text: &[u8]) -> usize
+    ensures within { result ≤ length text.now }
+    ensures no_space { lacks 32 (take result text.now) ≡ true }
+    ensures no_feed { lacks 10 (take result text.now) ≡ true }
+{
     for i in 0..text.len() {
-        if ends_word(text[i]) {
+        if text[i] <= b' ' {
             return i;
         }
     }
     text.len()
-}
-
-/// Whether a byte is a space or a line feed. Most bytes are of words, and need one comparison.
-fn ends_word(byte: u8) -> bool
-    ensures { MatchBool result ((byte ≡ 32) ⊎ (byte ≡ 10)) ((byte ≢ 32) × (byte ≢ 10)) }
-{
-    byte <= b' ' && (byte == b' ' || byte == b'\n')
 }
 
 /// Adds a word, unless it has no bytes.

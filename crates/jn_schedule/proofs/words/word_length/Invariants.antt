@@ -1,9 +1,13 @@
-use Rattle.std.proofs.Common.{◌≡◌, true, take}
+use Rattle.std.proofs.Common.{◌≡◌, ◌≤◌, ◌-◌, true, take, length}
 use Rattle.jn_schedule.specs.Reading.{lacks}
 use Rattle.jn_schedule.proofs.words.word_length.Given as goal
 
-abbrev pub invariant-loop-i : goal.invariant-loop-i
-invariant-loop-i l = record {
-  no_space : lacks 32 (take l.i l.text) ≡ true;
-  no_feed : lacks 10 (take l.i l.text) ≡ true;
+abbrev pub invariant-loop-end : goal.invariant-loop-end
+invariant-loop-end l = record {
+  within : l.end ≤ length l.text;
+  no_space : lacks 32 (take l.end l.text) ≡ true;
+  no_feed : lacks 10 (take l.end l.text) ≡ true;
 }
+
+abbrev pub decreases-loop-end : goal.decreases-loop-end
+decreases-loop-end l = length l.text - l.end

@@ -1,0 +1,9 @@
+use Rattle.std.proofs.Common.{◌≡◌, true, take}
+use Rattle.jn_schedule.specs.Reading.{lacks}
+use Rattle.jn_schedule.proofs.words.plain_length.Given as goal
+
+abbrev pub invariant-loop-i : goal.invariant-loop-i
+invariant-loop-i l = record {
+  no_space : lacks 32 (take l.i l.text) ≡ true;
+  no_feed : lacks 10 (take l.i l.text) ≡ true;
+}
