@@ -6,7 +6,7 @@ use Rattle.std.proofs.lemmas.Bool.{cases_eq, cases_lt, false_from_ne_true}
 use Rattle.std.proofs.lemmas.Bool.Decides.{nat_tests}
 use Rattle.std.proofs.lemmas.List.{get_or-set_same, get_or-set_other, get_or_past, length-set, length-append}
 use Rattle.std.proofs.lemmas.List.Sums.{position_or_len_is, sum_by-set, sum_by-append, sum_by-remove}
-use Rattle.std.specs.Prelude.{position, nat_eq, nat_lt, slice_set, cond, ◌&&◌}
+use Rattle.std.specs.Prelude.{position, nat_eq, nat_lt, slice_set, count_by, cond, ◌&&◌}
 use Rattle.std.specs.Map.{values_of}
 use Rattle.std.specs.List.{position_or_len, sum_by, remove}
 use Rattle.jn_base.specs.declared.names.Tid.{Tid}
@@ -18,7 +18,7 @@ use Rattle.jn_records.specs.declared.record.Record.{Record}
 use Rattle.jn_records.specs.declared.record.Record.TheVariants.{Free, Intention, Ready, Going, Flag as FlagRecord}
 use Rattle.jn_sets.specs.declared.find.Wanted.{Wanted}
 use Rattle.jn_sets.specs.declared.find.Wanted.TheVariants.{Free as WantedFree, Prepared, Intention as WantedIntention, Flag as WantedFlag}
-use Rattle.jn_sets.specs.Pool.{record_in, is_free, free_count, is_wanted, number_of, number_wanted, spread}
+use Rattle.jn_sets.specs.Pool.{record_in, is_free, prepares, is_wanted, number_of, number_wanted, spread}
 use Rattle.jn_sets.specs.Sets.{AreCounted, ones}
 use Rattle.jn_sets.proofs.Slots.{values_push}
 
@@ -60,7 +60,7 @@ has_number (WantedFlag tid) (Ready h n rs) e = absurd (cc e)
 has_number (WantedFlag tid) (Going h n rs) e = absurd (cc e)
 has_number (WantedFlag tid) (FlagRecord f) e = same_tid f.tid tid 1 e
 
-module _ (numbers : List (Option ℕ)) (free : ℕ) (records : List Record) (are : AreCounted numbers free records) (slots : length numbers ≡ length records) (wanted : Wanted) (from : ℕ)
+module _ (numbers : List (Option ℕ)) (free prepared : ℕ) (records : List Record) (are : AreCounted numbers free prepared records) (slots : length numbers ≡ length records) (wanted : Wanted) (from : ℕ)
     (none_yet : (k : ℕ) → k < from → is_wanted wanted (record_in records k) ≡ false) where
   pub slot_within : (slot : ℕ) → IsSlotFrom numbers (number_wanted wanted) from slot → slot < length records
   slot_within slot found = elim (cases_lt slot (length records)) [
@@ -100,49 +100,66 @@ module _ (numbers : List (Option ℕ)) (free : ℕ) (records : List Record) (are
       let t : nat_lt (position_or_len (is_wanted wanted) records) (length records) ≡ false = grind (arith, nat_tests, at) in
       cc t
 
-pub some_free : (records : List Record) (slot : ℕ) → slot < length records → is_free (record_in records slot) ≡ true → 0 < free_count records
-some_free records slot below e =
-    let step : sum_by (λ (r : Record). cond (is_free r) 1 0) (remove records slot) + ones (is_free (record_in records slot)) ≡ free_count records = sum_by-remove (λ (r : Record). cond (is_free r) 1 0) records slot Free below in
-    let one : ones (is_free (record_in records slot)) ≡ 1 = ap ones e in
+pub some_pass : (test : Record → Bool) (records : List Record) (slot : ℕ) → slot < length records → test (record_in records slot) ≡ true → 0 < count_by test records
+some_pass test records slot below e =
+    let step : sum_by (λ (r : Record). cond (test r) 1 0) (remove records slot) + ones (test (record_in records slot)) ≡ count_by test records = sum_by-remove (λ (r : Record). cond (test r) 1 0) records slot Free below in
+    let one : ones (test (record_in records slot)) ≡ 1 = ap ones e in
+    omega arith
+
+set_counts : (test : Record → Bool) (records : List Record) (slot before after : ℕ) (value : Record) → slot < length records → before ≡ count_by test records
+    → after + ones (test (record_in records slot)) ≡ before + ones (test value) → after ≡ count_by test (slice_set records slot value)
+set_counts test records slot before after value below was sum =
+    let step : count_by test (slice_set records slot value) + ones (test (record_in records slot)) ≡ count_by test records + ones (test value) = sum_by-set (λ (r : Record). cond (test r) 1 0) records slot value Free below in
+    omega arith
+
+last_counts : (test : Record → Bool) (records : List Record) (before after : ℕ) (value : Record) → before ≡ count_by test records → after ≡ before + ones (test value) → after ≡ count_by test (records ++ value ∷ [])
+last_counts test records before after value was sum =
+    let step : count_by test (records ++ value ∷ []) ≡ count_by test records + (0 + ones (test value)) = sum_by-append (λ (r : Record). cond (test r) 1 0) records (value ∷ []) in
     omega arith
 
 -- ---- a record takes a slot's place, or goes last
 
-module _ (numbers : List (Option ℕ)) (free : ℕ) (records : List Record) (are : AreCounted numbers free records) (value : Record) (count : ℕ) where
+module _ (numbers : List (Option ℕ)) (free prepared : ℕ) (records : List Record) (are : AreCounted numbers free prepared records) (value : Record) (count works : ℕ) where
   pub counted_set : (slot : ℕ) → slot < length records → length numbers ≡ length records → count + ones (is_free (record_in records slot)) ≡ free + ones (is_free value)
-      → AreCounted (slice_set numbers slot (Some (number_of value))) count (slice_set records slot value)
-  counted_set slot below slots sum = record {
+      → works + ones (prepares (record_in records slot)) ≡ prepared + ones (prepares value)
+      → AreCounted (slice_set numbers slot (Some (number_of value))) count works (slice_set records slot value)
+  counted_set slot below slots sum sums = record {
     each = λ k lt. elim (cases_eq k slot) [
       | inl same ↦ subst (λ (i : ℕ). number_at (slice_set numbers slot (Some (number_of value))) i ≡ Some (number_of (record_in (slice_set records slot value) i))) (sym same)
           (get_or-set_same numbers slot (Some (number_of value)) None (omega arith) ∙ ap (λ (r : Record). Some (number_of r)) (sym (get_or-set_same records slot value Free below)))
       | inr ne ↦ get_or-set_other numbers slot k (Some (number_of value)) None ne ∙ are.each k (let same = length-set records slot value in omega arith)
           ∙ ap (λ (r : Record). Some (number_of r)) (sym (get_or-set_other records slot k value Free ne))
     ];
-    free_is = let step : free_count (slice_set records slot value) + ones (is_free (record_in records slot)) ≡ free_count records + ones (is_free value) = sum_by-set (λ (r : Record). cond (is_free r) 1 0) records slot value Free below in
-        let was = are.free_is in omega arith;
+    free_is = set_counts is_free records slot free count value below are.free_is sum;
+    prepared_is = set_counts prepares records slot prepared works value below are.prepared_is sums;
   }
 
-  pub counted_last : length numbers ≡ length records → count ≡ free + ones (is_free value) → AreCounted (numbers ++ Some (number_of value) ∷ []) count (records ++ value ∷ [])
-  counted_last slots sum = record {
+  pub counted_last : length numbers ≡ length records → count ≡ free + ones (is_free value) → works ≡ prepared + ones (prepares value)
+      → AreCounted (numbers ++ Some (number_of value) ∷ []) count works (records ++ value ∷ [])
+  counted_last slots sum sums = record {
     each = λ k lt. elim (cases_eq k (length records)) [
       | inl same ↦ subst (λ (i : ℕ). number_at (numbers ++ Some (number_of value) ∷ []) i ≡ Some (number_of (record_in (records ++ value ∷ []) i))) (sym same)
           (ap (number_at (numbers ++ Some (number_of value) ∷ [])) (sym slots) ∙ get_or-append_seam numbers (Some (number_of value)) [] None ∙ ap (λ (r : Record). Some (number_of r)) (sym (get_or-append_seam records value [] Free)))
       | inr ne ↦ let low : k < length records = let long = length-append records (value ∷ []) in omega arith in
           get_or-append numbers (Some (number_of value) ∷ []) None k (omega arith) ∙ are.each k low ∙ ap (λ (r : Record). Some (number_of r)) (sym (get_or-append records (value ∷ []) Free k low))
     ];
-    free_is = let step : free_count (records ++ value ∷ []) ≡ free_count records + (0 + ones (is_free value)) = sum_by-append (λ (r : Record). cond (is_free r) 1 0) records (value ∷ []) in
-        let was = are.free_is in omega arith;
+    free_is = last_counts is_free records free count value are.free_is sum;
+    prepared_is = last_counts prepares records prepared works value are.prepared_is sums;
   }
 
 -- as the code has it, where the last record is put into the index
-pub counted_more : (numbers : List (Option ℕ)) (free : ℕ) (entries next : List (ℕ × Record)) (n : ℕ) (value : Record) (after : List (Option ℕ)) (number count : ℕ) (is : Bool)
-    → AreCounted numbers free (values_of entries) → length (values_of entries) ≡ n → length numbers ≡ n → number ≡ number_of value → after ≡ numbers ++ Some number ∷ []
-    → is ≡ is_free value → count + ones false ≡ free + ones is → next ≡ entries ++ (n, value) ∷ [] → AreCounted after count (values_of next)
-counted_more numbers free entries next n value after number count is are long slots number_is after_is is_is sum e =
-    subst (λ (l : List Record). AreCounted after count l) (sym (ap values_of e ∙ values_push entries n value))
-    (subst (λ (l : List (Option ℕ)). AreCounted l count (values_of entries ++ value ∷ []))
+pub counted_more : (numbers : List (Option ℕ)) (free prepared : ℕ) (entries next : List (ℕ × Record)) (n : ℕ) (value : Record) (after : List (Option ℕ)) (number count works : ℕ) (is is_one : Bool)
+    → AreCounted numbers free prepared (values_of entries) → length (values_of entries) ≡ n → length numbers ≡ n → number ≡ number_of value → after ≡ numbers ++ Some number ∷ []
+    → is ≡ is_free value → count + ones false ≡ free + ones is → is_one ≡ prepares value → works + ones false ≡ prepared + ones is_one → next ≡ entries ++ (n, value) ∷ []
+    → AreCounted after count works (values_of next)
+counted_more numbers free prepared entries next n value after number count works is is_one are long slots number_is after_is is_is sum one_is sums e =
+    subst (λ (l : List Record). AreCounted after count works l) (sym (ap values_of e ∙ values_push entries n value))
+    (subst (λ (l : List (Option ℕ)). AreCounted l count works (values_of entries ++ value ∷ []))
     (ap (λ (k : ℕ). numbers ++ Some k ∷ []) (sym number_is) ∙ sym after_is)
-    (counted_last numbers free (values_of entries) are value count (slots ∙ sym long) (let flag : ones is ≡ ones (is_free value) = ap ones is_is in let none : ones false ≡ 0 = refl in omega arith)))
+    (counted_last numbers free prepared (values_of entries) are value count works (slots ∙ sym long) (one_more is (is_free value) free count is_is sum) (one_more is_one (prepares value) prepared works one_is sums)))
+  where
+    one_more : (a b : Bool) (before after : ℕ) → a ≡ b → after + ones false ≡ before + ones a → after ≡ before + ones b
+    one_more a b before after e sum = let flag : ones a ≡ ones b = ap ones e in let none : ones false ≡ 0 = refl in omega arith
 
-pub none_counted_yet : (numbers : List (Option ℕ)) → AreCounted numbers 0 []
-none_counted_yet numbers = record { each = λ slot lt. let no_way : ⊥ = omega arith in absurd no_way; free_is = refl }
+pub none_counted_yet : (numbers : List (Option ℕ)) → AreCounted numbers 0 0 []
+none_counted_yet numbers = record { each = λ slot lt. let no_way : ⊥ = omega arith in absurd no_way; free_is = refl; prepared_is = refl }

@@ -1,5 +1,5 @@
 -- How many records are rubbish, and below which slot none is.
-use Rattle.std.proofs.Common.{◌≡◌, ◌⊎◌, inl, inr, ⊎_elim, ℕ, zero, suc, ◌+◌, ◌≤◌, ◌<◌, ◌^◌, Bool, true, false, List, [], ◌∷◌, length, Some, None, refl, sym, ◌∙◌, ap, subst, true≢false, arith}
+use Rattle.std.proofs.Common.{◌≡◌, inl, inr, ⊎_elim, ℕ, zero, suc, ◌+◌, ◌≤◌, ◌<◌, ◌^◌, Bool, true, false, List, [], ◌∷◌, length, Some, None, refl, sym, ◌∙◌, ap, subst, true≢false, arith}
 use Rattle.std.proofs.Math.Path.{fun_ext}
 use Rattle.std.proofs.lemmas.Bool.{cases_eq, false_from_ne_true}
 use Rattle.std.proofs.lemmas.Bool.Decides.{nat_tests}
@@ -23,6 +23,17 @@ not_prepared w (Intention v t o i) e = refl
 not_prepared w (Ready head n reads) e = absurd (true≢false e)
 not_prepared w (Going head n reads) e = absurd (true≢false e)
 not_prepared w (FlagRecord f) e = refl
+
+-- without a ready or going record no work is prepared
+pub none_prepared : (w : WorkId) (records : List Record) → count_by prepares records ≡ 0 → list_any (is_prepared w) records ≡ false
+none_prepared w [] none = refl
+none_prepared w (r ∷ rs) none =
+    let one : count_by prepares (r ∷ rs) ≡ ones (prepares r) + count_by prepares rs = sum_by-cons (λ (x : Record). cond (prepares x) 1 0) r rs in
+    by (prepares r) refl (none_prepared w rs (omega arith)) (omega arith)
+  where
+    by : (b : Bool) → prepares r ≡ b → list_any (is_prepared w) rs ≡ false → ones (prepares r) ≡ 0 → list_any (is_prepared w) (r ∷ rs) ≡ false
+    by true e rest nothing = let two : ones (prepares r) ≡ 1 = ap ones e in let no_way : ⊥ = omega arith in absurd no_way
+    by false e rest nothing = let here = not_prepared w r e in grind (arith, here, rest)
 
 not_intended : (records : List Record) (r : Record) → intends r ≡ false → is_rubbish records r ≡ false
 not_intended records Free e = refl

@@ -8,7 +8,9 @@ ghost use Rattle.jn_sets.specs.Pool as pool;
 ghost use Rattle.jn_sets.specs.Sets.{StoreRead};
 
 use crate::fault::LoadFault;
-use crate::find::{Wanted, intends_for, is_free, is_wanted, number_of, number_wanted, recount};
+use crate::find::{
+    Wanted, intends_for, is_free, is_wanted, number_of, number_wanted, prepares, recount,
+};
 use crate::numbers::record_fits;
 use indexmap::IndexMap;
 use jn_base::WorkId;
@@ -27,6 +29,8 @@ pub(crate) struct Slots {
     numbers: Index,
     /// How many slots hold no record.
     free: u32,
+    /// How many hold a ready or going record.
+    prepared: u32,
 }
 
 impl Model for Slots {
@@ -39,7 +43,7 @@ impl Model for Slots {
 
     ghost view = { λ s. values s.index };
 
-    ghost invariant = { λ s. AreInOrder s.index.entries s.numbers s.free };
+    ghost invariant = { λ s. AreInOrder s.index.entries s.numbers s.free s.prepared };
 }
 
 impl Slots {
@@ -61,10 +65,12 @@ impl Slots {
         let mut index = IndexMap::with_capacity(alloc, root.pool as usize)?;
         let mut numbers = Vec::with_capacity(alloc, root.pool as usize)?;
         let mut free = 0;
+        let mut prepared = 0;
         for slot in 0..root.pool {
             let value = read_slot(alloc, store, slot)?;
             numbers.push(Some(number_of(&value)))?;
             free = recount(free, false, is_free(&value));
+            prepared = recount(prepared, false, prepares(&value));
             index.insert(slot, value)?;
         }
         let by_number = Index::of(alloc, &numbers)?;
@@ -72,6 +78,7 @@ impl Slots {
             index,
             numbers: by_number,
             free,
+            prepared,
         })
     }
 
@@ -134,9 +141,13 @@ impl Slots {
         }
     }
 
+    /// Whether the work has a ready or going record. Nothing is searched where no work has one.
     fn has_prepared(&self, work: WorkId) -> bool
         ensures { result ≡ list_any (pool.is_prepared work) self.now }
     {
+        if self.prepared == 0 {
+            return false;
+        }
         self.lowest(Wanted::Prepared(work)).is_some()
     }
 
@@ -190,9 +201,11 @@ impl Slots {
         ensures left { self.new ≡ slice_set self.old slot value }
     {
         let is = is_free(&value);
+        let is_one = prepares(&value);
         self.numbers.set(slot, Some(number_of(&value)));
         let old = mem::replace(&mut self.index[slot as usize], value);
         self.free = recount(self.free, is_free(&old), is);
+        self.prepared = recount(self.prepared, prepares(&old), is_one);
         old
     }
 }

@@ -83,7 +83,7 @@ pub(crate) fn recount(count: u32, was: bool, is: bool) -> u32
 }
 
 /// Whether it makes its work a prepared one.
-fn prepares(value: &Record) -> bool
+pub(crate) fn prepares(value: &Record) -> bool
     ensures { result ≡ pool.prepares value.now }
 {
     matches!(value, Record::Ready { .. } | Record::Going { .. })

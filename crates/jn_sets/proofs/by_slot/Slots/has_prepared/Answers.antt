@@ -1,8 +1,18 @@
-use Rattle.std.proofs.Common.{ℕ, Option, ap, ◌∙◌}
+use Rattle.std.proofs.Common.{ℕ, Option, sym, ap, ◌∙◌, arith}
+use Rattle.std.specs.Map.{values_of}
 use Rattle.std.specs.Prelude.{is_some}
+use Rattle.std.specs.List.{list_any}
 use Rattle.jn_sets.specs.Pool.{is_prepared}
+use Rattle.jn_sets.proofs.Rubbish.{none_prepared}
 use Rattle.jn_sets.proofs.Slots.{any_found}
 use Rattle.jn_sets.proofs.by_slot.Slots.has_prepared.Goals as goal
+
+pub returns-then-self-eq0 : goal.returns-then-self-eq0
+returns-then-self-eq0 c =
+    let records = values_of c.self.inside.index.entries in
+    let count = c.self.invariant.counted.prepared_is in
+    let none = c.if-self-eq0.true in
+    sym (none_prepared c.args.work records (omega arith)) ∙ ap (list_any (is_prepared c.args.work)) c.self.view_is
 
 pub returns : goal.returns
 returns c = c.is_some.ensures ∙ ap (λ (o : Option ℕ). is_some o) c.lowest.ensures ∙ any_found (is_prepared c.args.work) c.args.self.now

@@ -8,5 +8,5 @@ abbrev pub invariant-loop-slot : goal.invariant-loop-slot
 invariant-loop-slot g l = record {
   loaded : LoadedTo (g.S.StableStore.view l.fn.store) l.slot l.index.entries (g.S.StableStore.view l.store);
   numbers : length l.numbers.items ≡ l.slot;
-  counted : AreCounted l.numbers.items l.free (values_of l.index.entries);
+  counted : AreCounted l.numbers.items l.free l.prepared (values_of l.index.entries);
 }

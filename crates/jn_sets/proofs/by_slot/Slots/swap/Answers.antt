@@ -6,11 +6,11 @@ use Rattle.std.specs.Prelude.{slice_set}
 use Rattle.jn_records.specs.declared.record.Record.{Record}
 use Rattle.jn_records.specs.declared.record.Record.TheVariants.{Free}
 use Rattle.jn_records.specs.Records.{has_page}
-use Rattle.jn_sets.specs.Pool.{record_in, number_of, is_free}
+use Rattle.jn_sets.specs.Pool.{record_in, number_of, is_free, prepares}
 use Rattle.jn_sets.specs.Sets.{AreCounted, ones}
 use Rattle.jn_sets.proofs.Slots.{values_set}
 use Rattle.jn_sets.proofs.Stored.{index_set}
-use Rattle.jn_sets.proofs.Numbering.{counted_set, some_free}
+use Rattle.jn_sets.proofs.Numbering.{counted_set, some_pass}
 use Rattle.jn_sets.proofs.by_slot.Slots.swap.Goals as goal
 
 pub recount-self-inside-requires-clause-some : goal.recount-self-inside-requires-clause-some
@@ -18,8 +18,17 @@ recount-self-inside-requires-clause-some c free =
     let records = values_of c.self.inside.index.entries in
     let below : c.args.slot < length records = subst (λ (l : List Record). c.args.slot < length l) (sym c.self.view_is) c.requires.slot in
     let taken : c.replace-old.result ≡ record_in records c.args.slot = c.replace-old.ensures.value ∙ sym (get_or_from_slice_get records c.args.slot c.index_mut.result.now Free c.index_mut.ensures.value) in
-    let some = some_free records c.args.slot below (ap is_free (sym taken) ∙ sym c.is_free.ensures ∙ free) in
+    let some = some_pass is_free records c.args.slot below (ap is_free (sym taken) ∙ sym c.is_free.ensures ∙ free) in
     let count = c.self.invariant.counted.free_is in
+    omega arith
+
+pub recount-self-inside-requires-2-clause-some : goal.recount-self-inside-requires-2-clause-some
+recount-self-inside-requires-2-clause-some c one =
+    let records = values_of c.self.inside.index.entries in
+    let below : c.args.slot < length records = subst (λ (l : List Record). c.args.slot < length l) (sym c.self.view_is) c.requires.slot in
+    let taken : c.replace-old.result ≡ record_in records c.args.slot = c.replace-old.ensures.value ∙ sym (get_or_from_slice_get records c.args.slot c.index_mut.result.now Free c.index_mut.ensures.value) in
+    let some = some_pass prepares records c.args.slot below (ap prepares (sym taken) ∙ sym c.prepares.ensures ∙ one) in
+    let count = c.self.invariant.counted.prepared_is in
     omega arith
 
 pub invariant_of-self : goal.invariant_of-self
@@ -33,13 +42,16 @@ invariant_of-self c =
     let was : ones c.is_free.result ≡ ones (is_free (record_in records c.args.slot)) = ap ones (c.is_free.ensures ∙ ap is_free taken) in
     let now : ones c.is_free-is.result ≡ ones (is_free value) = ap ones (c.is_free-is.ensures ∙ ap is_free (sym is)) in
     let count = c.recount-self-inside.ensures in
+    let was_one : ones c.prepares.result ≡ ones (prepares (record_in records c.args.slot)) = ap ones (c.prepares.ensures ∙ ap prepares taken) in
+    let now_one : ones c.prepares-is_one.result ≡ ones (prepares value) = ap ones (c.prepares-is_one.ensures ∙ ap prepares (sym is)) in
+    let works = c.recount-self-inside-2.ensures in
     let values = values_set c.self.inside.index.entries c.args.slot value in
     record {
       index = index_set c.self.inside.index.entries c.args.slot value c.self.invariant.index below (ap has_page is ∙ c.requires.page);
       slots = ap length numbers ∙ length-set c.self.inside.numbers c.args.slot (Some (number_of value)) ∙ c.self.invariant.slots ∙ sym (ap length values ∙ length-set records c.args.slot value);
-      counted = subst (λ (l : List Record). AreCounted c.set.new.self c.recount-self-inside.result l) (sym values)
-          (subst (λ (l : List (Option ℕ)). AreCounted l c.recount-self-inside.result (slice_set records c.args.slot value)) (sym numbers)
-          (counted_set c.self.inside.numbers c.self.inside.free records c.self.invariant.counted value c.recount-self-inside.result c.args.slot below c.self.invariant.slots (omega arith)));
+      counted = subst (λ (l : List Record). AreCounted c.set.new.self c.recount-self-inside.result c.recount-self-inside-2.result l) (sym values)
+          (subst (λ (l : List (Option ℕ)). AreCounted l c.recount-self-inside.result c.recount-self-inside-2.result (slice_set records c.args.slot value)) (sym numbers)
+          (counted_set c.self.inside.numbers c.self.inside.free c.self.inside.prepared records c.self.invariant.counted value c.recount-self-inside.result c.recount-self-inside-2.result c.args.slot below c.self.invariant.slots (omega arith) (omega arith)));
     }
 
 pub returns-clause-taken : goal.returns-clause-taken

@@ -1,4 +1,4 @@
-use Rattle.std.proofs.Common.{◌≡◌, ◌<◌, ◌≤◌, ◌+◌, ◌^◌, ℕ, List, length, sym, ◌∙◌, ap, subst, arith}
+use Rattle.std.proofs.Common.{◌≡◌, ◌<◌, List, length, sym, ap, subst, arith}
 use Rattle.jn_records.specs.declared.record.Record.{Record}
 use Rattle.jn_sets.specs.Sets.{ones}
 use Rattle.jn_sets.proofs.Rubbish.{sum_cleared, watched_cleared, at_most_one}

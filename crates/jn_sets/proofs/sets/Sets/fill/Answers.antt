@@ -1,8 +1,7 @@
-use Rattle.std.proofs.Common.{◌≡◌, ◌<◌, ◌+◌, ◌-◌, ◌≤◌, ℕ, false, true, List, length, sym, ◌∙◌, ap, subst, arith}
+use Rattle.std.proofs.Common.{◌≡◌, ◌<◌, ◌-◌, List, length, sym, ◌∙◌, subst, arith}
 use Rattle.jn_records.specs.declared.record.Record.{Record}
 use Rattle.jn_records.specs.declared.record.Record.TheVariants.{Free}
-use Rattle.jn_sets.specs.Pool.{record_in, intends}
-use Rattle.jn_sets.specs.Sets.{ones}
+use Rattle.jn_sets.specs.Pool.{record_in}
 use Rattle.jn_sets.proofs.Rubbish.{sum_filled, watched_filled}
 use Rattle.jn_sets.proofs.sets.Sets.fill.Goals as goal
 

@@ -1,4 +1,4 @@
-use Rattle.std.proofs.Common.{◌≡◌, List, true, false, length, sym, ◌∙◌, subst, arith, refl}
+use Rattle.std.proofs.Common.{◌≡◌, List, true, false, sym, ◌∙◌, subst, arith}
 use Rattle.jn_records.specs.declared.record.Record.{Record}
 use Rattle.jn_sets.specs.Pool.{is_rubbish, record_in}
 use Rattle.jn_sets.specs.Sets.{AreCleanTo}
