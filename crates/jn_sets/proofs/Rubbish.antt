@@ -12,7 +12,7 @@ use Rattle.jn_base.specs.Names.{work_eq}
 use Rattle.jn_base.proofs.Tells.{work_tells}
 use Rattle.jn_records.specs.declared.record.Record.{Record}
 use Rattle.jn_records.specs.declared.record.Record.TheVariants.{Free, Intention, Ready, Going, Flag as FlagRecord}
-use Rattle.jn_sets.specs.Pool.{record_in, is_prepared, is_rubbish, rubbish_count, prepares, intends, intends_for, left_of, kept_by, is_ready, going_of}
+use Rattle.jn_sets.specs.Pool.{record_in, is_free, is_prepared, is_rubbish, rubbish_count, prepares, intends, intends_for, left_of, kept_by, is_ready, going_of}
 use Rattle.jn_sets.specs.Sets.{AreCleanTo, IsWatched, ones}
 
 -- ---- a slot has another record
@@ -73,6 +73,21 @@ clean_set records clean slot after value below are less prepared intended k lt =
   | inr ne ↦ ap (is_rubbish (slice_set records slot value)) (get_or-set_other records slot k value Free ne)
       ∙ still_clean records slot value (record_in records k) (false_from_ne_true (prepares (record_in records slot)) (λ e. let none = prepared e in let no_way : ⊥ = omega arith in no_way)) (are k (omega arith))
 ]
+
+-- ---- a slot stays free
+
+only_free : (r : Record) → is_free r ≡ true → r ≡ Free
+only_free Free e = refl
+only_free (Intention w t o i) e = absurd (cc e)
+only_free (Ready head n reads) e = absurd (cc e)
+only_free (Going head n reads) e = absurd (cc e)
+only_free (FlagRecord f) e = absurd (cc e)
+
+pub still_free : (records : List Record) (slot : ℕ) → is_free (record_in records slot) ≡ true → records ≡ slice_set records slot Free
+still_free records slot e = sym (ap (slice_set records slot) (sym (only_free (record_in records slot) e)) ∙ set-get_or records slot Free)
+
+pub put_free : (records : List Record) (slot : ℕ) (value : Record) → record_in records slot ≡ Free → is_free value ≡ true → records ≡ slice_set records slot value
+put_free records slot value free e = still_free records slot (ap is_free free) ∙ ap (slice_set records slot) (sym (only_free value e))
 
 -- ---- a record comes into a free slot
 

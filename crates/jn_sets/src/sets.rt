@@ -282,24 +282,30 @@ impl Sets {
         Ok(())
     }
 
-    /// Takes the slot's record out of memory.
+    /// Takes the slot's record out of memory, where it has one.
     fn clear(&mut self, slot: u16)
         requires { slot < length self.old }
         ensures { self.new ≡ slice_set self.old slot Free }
     {
+        if !self.holds(slot) {
+            return;
+        }
         let old = self.slots.swap(slot, Record::Free);
         let was = self.slots.is_rubbish(&old);
         self.rubbish = recount(self.rubbish + self.slots.kept_by(&old), was, false);
         self.clean = clean_after(self.clean, slot, &old, false);
     }
 
-    /// Puts a record into a free slot in memory.
+    /// Puts a record into a free slot in memory. A slot that stays free is left alone.
     fn fill(&mut self, slot: u16, value: Record)
         requires slot { slot < length self.old }
         requires free { pool.record_in self.old slot ≡ Free }
         requires page { has_page value ≡ true }
         ensures { self.new ≡ slice_set self.old slot value }
     {
+        if is_free(&value) {
+            return;
+        }
         let is = self.slots.is_rubbish(&value);
         let kept = self.slots.kept_by(&value);
         let intended = intends(&value);

@@ -1,7 +1,8 @@
-use Rattle.std.proofs.Common.{◌≡◌, ◌<◌, List, length, sym, ap, subst, arith}
+use Rattle.std.proofs.Common.{◌≡◌, ◌<◌, Bool, true, false, not, List, length, sym, ◌∙◌, ap, subst, arith}
 use Rattle.jn_records.specs.declared.record.Record.{Record}
+use Rattle.jn_sets.specs.Pool.{is_free, record_in}
 use Rattle.jn_sets.specs.Sets.{ones}
-use Rattle.jn_sets.proofs.Rubbish.{sum_cleared, watched_cleared, at_most_one}
+use Rattle.jn_sets.proofs.Rubbish.{sum_cleared, watched_cleared, at_most_one, still_free}
 use Rattle.jn_sets.proofs.sets.Sets.clear.Goals as goal
 
 pub recount-self-inside-requires-clause-some : goal.recount-self-inside-requires-clause-some
@@ -28,3 +29,11 @@ invariant_of-self c =
     watched_cleared c.self.inside.slots c.self.inside.rubbish c.self.inside.clean c.self.invariant c.args.slot below c.swap-old.new.self c.swap-old.result c.is_rubbish-was.result c.kept_by.result
     c.swap-old.ensures.left c.swap-old.ensures.taken c.is_rubbish-was.ensures c.kept_by.ensures c.recount-self-inside.result c.clean_after-self-inside.result c.recount-self-inside.ensures
     c.clean_after-self-inside.ensures.kept c.clean_after-self-inside.ensures.prepared
+
+pub returns-then-not-holds : goal.returns-then-not-holds
+returns-then-not-holds c =
+    let free : is_free (record_in c.args.self.now c.args.slot) ≡ true = turned (is_free (record_in c.args.self.now c.args.slot)) (sym c.holds.ensures ∙ cc c.if-not-holds.true) in
+    still_free c.args.self.now c.args.slot free
+  where
+    turned : (b : Bool) → not b ≡ false → b ≡ true
+    turned b h = grind (arith, h)

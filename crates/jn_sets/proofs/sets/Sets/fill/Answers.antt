@@ -2,7 +2,7 @@ use Rattle.std.proofs.Common.{◌≡◌, ◌<◌, ◌-◌, List, length, sym, �
 use Rattle.jn_records.specs.declared.record.Record.{Record}
 use Rattle.jn_records.specs.declared.record.Record.TheVariants.{Free}
 use Rattle.jn_sets.specs.Pool.{record_in}
-use Rattle.jn_sets.proofs.Rubbish.{sum_filled, watched_filled}
+use Rattle.jn_sets.proofs.Rubbish.{sum_filled, watched_filled, put_free}
 use Rattle.jn_sets.proofs.sets.Sets.fill.Goals as goal
 
 pub overflow_sub-self : goal.overflow_sub-self
@@ -24,3 +24,6 @@ invariant_of-self c =
     watched_filled c.self.inside.slots c.self.inside.rubbish c.self.inside.clean c.self.invariant c.args.slot below c.swap-old.new.self c.args.value c.is_rubbish-is.result c.kept_by-kept.result
     free c.swap-old.ensures.left c.is_rubbish-is.ensures c.kept_by-kept.ensures (c.recount.result - c.kept_by-kept.result) c.clean_after-self-inside.result (omega arith)
     c.clean_after-self-inside.ensures.kept (λ e. c.clean_after-self-inside.ensures.intention (c.intends-intended.ensures ∙ e))
+
+pub returns-then-is_free : goal.returns-then-is_free
+returns-then-is_free c = put_free c.args.self.now c.args.slot c.args.value c.requires.free (sym c.is_free.ensures ∙ c.if-is_free.true)
