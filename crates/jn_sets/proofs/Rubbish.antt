@@ -5,7 +5,7 @@ use Rattle.std.proofs.lemmas.Bool.{cases_eq, false_from_ne_true}
 use Rattle.std.proofs.lemmas.Bool.Decides.{nat_tests}
 use Rattle.std.proofs.lemmas.List.{get_or-set_same, get_or-set_other, length-set, set-set, set-get_or}
 use Rattle.std.proofs.lemmas.List.Sums.{position_or_len_is, sum_by-set, sum_by-cons, count_by-le-length}
-use Rattle.std.specs.Prelude.{position, nat_lt, slice_set, count_by, cond, if◌then◌else◌, not, ◌||◌, ◌&&◌}
+use Rattle.std.specs.Prelude.{position, nat_lt, slice_set, filter, count_by, cond, if◌then◌else◌, not, ◌||◌, ◌&&◌}
 use Rattle.std.specs.List.{list_any, position_or_len}
 use Rattle.jn_base.specs.declared.names.WorkId.{WorkId}
 use Rattle.jn_base.specs.Names.{work_eq}
@@ -73,6 +73,22 @@ clean_set records clean slot after value below are less prepared intended k lt =
   | inr ne ↦ ap (is_rubbish (slice_set records slot value)) (get_or-set_other records slot k value Free ne)
       ∙ still_clean records slot value (record_in records k) (false_from_ne_true (prepares (record_in records slot)) (λ e. let none = prepared e in let no_way : ⊥ = omega arith in no_way)) (are k (omega arith))
 ]
+
+-- ---- intentions are records
+
+-- no more of them are a work's intentions than there are
+pub fewer_intend : (work : WorkId) (es : List (ℕ × Record)) → length (filter (λ m. intends_for work m.1) es) ≤ length (filter (λ m. not (is_free m.1)) es)
+fewer_intend work [] = omega arith
+fewer_intend work ((k, Free) ∷ es) = let rest = fewer_intend work es in omega arith
+fewer_intend work ((k, Intention w t o i) ∷ es) = by (work_eq w work) refl (fewer_intend work es)
+  where
+    by : (b : Bool) → work_eq w work ≡ b → length (filter (λ m. intends_for work m.1) es) ≤ length (filter (λ m. not (is_free m.1)) es)
+        → length (filter (λ m. intends_for work m.1) ((k, Intention w t o i) ∷ es)) ≤ length (filter (λ m. not (is_free m.1)) ((k, Intention w t o i) ∷ es))
+    by true e rest = rw e (omega arith)
+    by false e rest = rw e (omega arith)
+fewer_intend work ((k, Ready head n reads) ∷ es) = let rest = fewer_intend work es in omega arith
+fewer_intend work ((k, Going head n reads) ∷ es) = let rest = fewer_intend work es in omega arith
+fewer_intend work ((k, FlagRecord f) ∷ es) = let rest = fewer_intend work es in omega arith
 
 -- ---- a slot stays free
 

@@ -2,7 +2,7 @@
 use Rattle.std.proofs.Common.{◌≡◌, ◌⊎◌, inr, ⊎_elim, ◌≤◌, ◌<◌, ℕ, zero, suc, ◌+◌, Bool, true, false, List, [], ◌∷◌, ◌++◌, length, Option, None, Some, refl, sym, ◌∙◌, ap, subst, arith}
 use Rattle.std.proofs.lemmas.Bool.Decides.{nat_tests}
 use Rattle.std.proofs.lemmas.List.Sums.{length-filter, sum_by-cons}
-use Rattle.std.specs.Prelude.{nat_eq, nat_lt, slice_set, position, filter, count_by, is_some, cond}
+use Rattle.std.specs.Prelude.{nat_eq, nat_lt, slice_set, position, filter, count_by, is_some, cond, not}
 use Rattle.std.specs.List.{enumerate_from, position_or_len, list_any}
 use Rattle.std.specs.Map.{values_of, lookup}
 use Rattle.indexmap.specs.IndexMap.{IndexMap, set_value_at, insert_entry}
@@ -80,6 +80,19 @@ values_counted test (e ∷ es) =
 
 pub values_passing : {K X : Type 0} (test : X → Bool) (es : List (K × X)) → length (filter (λ e. test e.1) es) ≡ count_by test (values_of es)
 values_passing test es = length-filter (λ e. test e.1) es ∙ values_counted test es
+
+-- the others are those that don't pass
+pub values_others : {K X : Type 0} (test : X → Bool) (es : List (K × X)) → length (filter (λ e. not (test e.1)) es) + count_by test (values_of es) ≡ length (values_of es)
+values_others test [] = refl
+values_others test (e ∷ es) =
+    let its : count_by test (e.1 ∷ values_of es) ≡ cond (test e.1) 1 0 + count_by test (values_of es) = sum_by-cons (λ x. cond (test x) 1 0) e.1 (values_of es) in
+    by (test e.1) refl its (values_others test es)
+  where
+    by : (b : Bool) → test e.1 ≡ b → count_by test (e.1 ∷ values_of es) ≡ cond b 1 0 + count_by test (values_of es)
+        → length (filter (λ e. not (test e.1)) es) + count_by test (values_of es) ≡ length (values_of es)
+        → length (filter (λ e. not (test e.1)) (e ∷ es)) + count_by test (e.1 ∷ values_of es) ≡ length (e.1 ∷ values_of es)
+    by true e its rest = rw e (omega arith)
+    by false e its rest = rw e (omega arith)
 
 pub none_yet : (n m : ℕ) → n ≡ m → 0 + n ≡ m
 none_yet n m h = omega (arith, h)

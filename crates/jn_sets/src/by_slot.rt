@@ -183,10 +183,24 @@ impl Slots {
         if self.has_prepared(work) {
             return 0;
         }
+        self.intentions_of(work)
+    }
+
+    /// How many intentions a work has. No slot behind the last record is looked at.
+    fn intentions_of(&self, work: WorkId) -> u32
+        ensures { result ≡ count_by (pool.intends_for work) self.now }
+    {
         let mut count = 0;
+        let mut left = u32::from(self.slots()) - self.free;
         for (_, value) in self.index.iter() {
+            if left == 0 {
+                return count;
+            }
             if intends_for(work, value) {
                 count += 1;
+            }
+            if !is_free(value) {
+                left -= 1;
             }
         }
         count
