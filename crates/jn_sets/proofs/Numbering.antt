@@ -4,7 +4,7 @@ use Rattle.std.proofs.Math.ListN.{get_or-append}
 use Rattle.std.proofs.Math.Seq.{get_or-append_seam}
 use Rattle.std.proofs.lemmas.Bool.{cases_eq, cases_lt, false_from_ne_true}
 use Rattle.std.proofs.lemmas.Bool.Decides.{nat_tests}
-use Rattle.std.proofs.lemmas.List.{get_or-set_same, get_or-set_other, get_or_past, length-set, length-append}
+use Rattle.std.proofs.lemmas.List.{get_or-set_same, get_or-set_other, get_or_past, length-set, length-append, set-get_or}
 use Rattle.std.proofs.lemmas.List.Sums.{position_or_len_is, sum_by-set, sum_by-append, sum_by-remove}
 use Rattle.std.specs.Prelude.{position, nat_eq, nat_lt, slice_set, count_by, cond, ◌&&◌}
 use Rattle.std.specs.Map.{values_of}
@@ -133,6 +133,14 @@ module _ (numbers : List (Option ℕ)) (free prepared : ℕ) (records : List Rec
     free_is = set_counts is_free records slot free count value below are.free_is sum;
     prepared_is = set_counts prepares records slot prepared works value below are.prepared_is sums;
   }
+
+  -- a record that is found and counted as the one before
+  pub counted_like : (slot : ℕ) → slot < length records → length numbers ≡ length records → number_of value ≡ number_of (record_in records slot) → is_free value ≡ is_free (record_in records slot)
+      → prepares value ≡ prepares (record_in records slot) → count ≡ free → works ≡ prepared → AreCounted numbers count works (slice_set records slot value)
+  counted_like slot below slots number is is_one same sames =
+      subst (λ (l : List (Option ℕ)). AreCounted l count works (slice_set records slot value))
+      (ap (slice_set numbers slot) (ap (λ (n : ℕ). Some n) number ∙ sym (are.each slot below)) ∙ set-get_or numbers slot None)
+      (counted_set slot below slots (let flag = ap ones is in omega arith) (let flag = ap ones is_one in omega arith))
 
   pub counted_last : length numbers ≡ length records → count ≡ free + ones (is_free value) → works ≡ prepared + ones (prepares value)
       → AreCounted (numbers ++ Some (number_of value) ∷ []) count works (records ++ value ∷ [])

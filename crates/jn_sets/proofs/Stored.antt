@@ -1,20 +1,21 @@
 -- How what a store's pool holds goes on over a put.
-use Rattle.std.proofs.Common.{◌≡◌, ◌≢◌, ◌⊎◌, inl, inr, ⊎_elim, ℕ, ◌^◌, ◌<◌, Bool, true, false, List, length, Some, refl, sym, ◌∙◌, ap, subst, arith}
+use Rattle.std.proofs.Common.{◌≡◌, ◌≢◌, ◌⊎◌, inl, inr, ⊎_elim, ℕ, ◌^◌, ◌<◌, Bool, true, false, List, length, None, Some, refl, sym, ◌∙◌, ap, subst, arith}
 use Rattle.std.proofs.lemmas.Bool.{cases_eq, cases_lt}
-use Rattle.std.proofs.lemmas.List.{get_or_past, get_or-set_same, get_or-set_other, length-set}
-use Rattle.std.specs.Prelude.{slice_set}
+use Rattle.std.proofs.lemmas.List.{get_or_past, get_or-set_same, get_or-set_other, length-set, set-set, set-get_or}
+use Rattle.std.proofs.lemmas.Option.{get_or_from_slice_get, slice_get-get_or}
+use Rattle.std.specs.Prelude.{slice_get, slice_set}
 use Rattle.std.specs.List.{enumerate_from}
 use Rattle.std.specs.Map.{values_of}
 use Rattle.indexmap.specs.IndexMap.{set_value_at}
 use Rattle.jn_records.specs.declared.record.Record.{Record}
-use Rattle.jn_records.specs.declared.record.Record.TheVariants.{Free, Ready}
+use Rattle.jn_records.specs.declared.record.Record.TheVariants.{Free, Ready, Going}
 use Rattle.jn_records.specs.Records.{record_page, has_page, record_at}
 use Rattle.jn_records.proofs.RecordsAgain.{record_is_read}
 use Rattle.jn_device.specs.Device.{blank_page}
 use Rattle.jn_store.specs.Store.{StoreView, IsOnly, IsSamePage, StorePut}
 use Rattle.jn_store.specs.Choices.{IsChoice, Leads, with_page}
 use Rattle.jn_store.proofs.Choices.{choice_only, put_leads, with_same, with_other}
-use Rattle.jn_sets.specs.Pool.{page_of, is_ready, going_of, ready_of, record_in, members_in, IsRecord, IsReadable, IsStored, Holds, Says}
+use Rattle.jn_sets.specs.Pool.{page_of, is_free, is_ready, prepares, number_of, going_of, ready_of, marked, record_in, members_in, IsRecord, IsReadable, IsStored, Holds, Says}
 use Rattle.jn_sets.specs.Sets.{IsIndex, Puts}
 use Rattle.jn_sets.proofs.Slots.{set_numbered, values_set}
 
@@ -116,11 +117,42 @@ index_set es slot value is below page =
 
 -- ---- a ready record that becomes a going one
 
+pub is_there : (records new : List Record) (slot : ℕ) (value : Record) → slot < length records → new ≡ slice_set records slot value → slice_get new slot ≡ None → ⊥
+is_there records new slot value below e none =
+    let some : slice_get new slot ≡ Some (record_in new slot) = slice_get-get_or new slot Free (let long = ap length e ∙ length-set records slot value in omega arith) in
+    cc (none, some)
+
+pub read_again : (records new : List Record) (slot : ℕ) (value r : Record) → slot < length records → new ≡ slice_set records slot value → slice_get new slot ≡ Some r → r ≡ value
+read_again records new slot value r below e some = sym (get_or_from_slice_get new slot r Free some) ∙ ap (λ (l : List Record). record_in l slot) e ∙ get_or-set_same records slot value Free below
+
 pub ready_within : (records : List Record) (slot : ℕ) → is_ready (record_in records slot) ≡ true → slot < length records
 ready_within records slot ready = elim (cases_lt slot (length records)) [
   | inl lt ↦ lt
   | inr past ↦ absurd (cc (ap is_ready (get_or_past records slot Free past), ready))
 ]
+
+pub is_prepared_one : (r : Record) → is_ready r ≡ true → prepares r ≡ true
+is_prepared_one (Ready head intentions reads) ready = refl
+is_prepared_one r ready = absurd (cc ready)
+
+pub going_prepares : (r : Record) → prepares r ≡ true → prepares (going_of r) ≡ true
+going_prepares (Ready head intentions reads) one = refl
+going_prepares (Going head intentions reads) one = refl
+going_prepares r one = absurd (cc one)
+
+-- it is found by the same number, and has a page
+pub record IsLike (old new : Record) : Type 0 where
+  pub number : number_of new ≡ number_of old
+  pub free : is_free new ≡ is_free old
+  pub prepares : prepares new ≡ prepares old
+  pub page : has_page new ≡ has_page old
+
+pub marked_like : (going : Bool) (r : Record) → prepares r ≡ true → IsLike r (marked going r)
+marked_like true (Ready head intentions reads) one = record { number = refl; free = refl; prepares = refl; page = refl }
+marked_like true (Going head intentions reads) one = record { number = refl; free = refl; prepares = refl; page = refl }
+marked_like false (Ready head intentions reads) one = record { number = refl; free = refl; prepares = refl; page = refl }
+marked_like false (Going head intentions reads) one = record { number = refl; free = refl; prepares = refl; page = refl }
+marked_like going r one = absurd (cc one)
 
 pub going_page : (r : Record) → is_ready r ≡ true → has_page r ≡ true → has_page (going_of r) ≡ true
 going_page (Ready head intentions reads) ready page = page
@@ -129,3 +161,11 @@ going_page r ready page = absurd (cc ready)
 pub ready_again : (r : Record) → is_ready r ≡ true → ready_of (going_of r) ≡ r
 ready_again (Ready head intentions reads) ready = refl
 ready_again r ready = absurd (cc ready)
+
+pub marked_back : (old new back : List Record) (slot : ℕ) → is_ready (record_in old slot) ≡ true → new ≡ slice_set old slot (going_of (record_in old slot)) → back ≡ slice_set new slot (ready_of (record_in new slot)) → back ≡ old
+marked_back old new back slot ready e f =
+    let going = going_of (record_in old slot) in
+    let below = ready_within old slot ready in
+    let held : record_in new slot ≡ going = ap (λ (l : List Record). record_in l slot) e ∙ get_or-set_same old slot going Free below in
+    f ∙ ap (λ (r : Record). slice_set new slot (ready_of r)) held ∙ ap (slice_set new slot) (ready_again (record_in old slot) ready)
+    ∙ ap (λ (l : List Record). slice_set l slot (record_in old slot)) e ∙ set-set old slot going (record_in old slot) ∙ set-get_or old slot Free

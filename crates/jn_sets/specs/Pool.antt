@@ -59,6 +59,9 @@ abbrev pub ready_of : Record → Record
 ready_of (Going head intentions reads) = Ready head intentions reads
 ready_of r = r
 
+abbrev pub marked : Bool → Record → Record
+marked going r = if going then going_of r else ready_of r
+
 -- one of a work's intentions, by its place among them
 abbrev pub is_intention : WorkId → ℕ → Record → Bool
 is_intention work order (Intention w t o i) = work_eq w work && nat_eq o order

@@ -9,7 +9,7 @@ ghost use Rattle.jn_sets.specs.Sets.{StoreRead};
 
 use crate::fault::LoadFault;
 use crate::find::{
-    Wanted, intends_for, is_free, is_wanted, number_of, number_wanted, prepares, recount,
+    Wanted, intends_for, is_free, is_wanted, marked, number_of, number_wanted, prepares, recount,
 };
 use crate::numbers::record_fits;
 use indexmap::IndexMap;
@@ -221,6 +221,17 @@ impl Slots {
         self.free = recount(self.free, is_free(&old), is);
         self.prepared = recount(self.prepared, prepares(&old), is_one);
         old
+    }
+
+    /// Makes the slot's ready or going record a going or a ready one, in its place. Its number stays.
+    pub(crate) fn mark(&mut self, slot: u16, going: bool)
+        requires slot { slot < length self.old }
+        requires prepared { pool.prepares (pool.record_in self.old slot) ≡ true }
+        ensures left { self.new ≡ slice_set self.old slot (pool.marked going (pool.record_in self.old slot)) }
+        ensures page { has_page (pool.marked going (pool.record_in self.old slot)) ≡ true }
+    {
+        let old = mem::replace(&mut self.index[slot as usize], Record::Free);
+        self.index[slot as usize] = marked(old, going);
     }
 }
 

@@ -168,7 +168,7 @@ fn is_flag(tid: Tid, value: &Record) -> bool
 }
 
 /// A ready record as a going one.
-pub(crate) fn going_of(value: Record) -> Record
+fn going_of(value: Record) -> Record
     ensures { result ≡ pool.going_of value }
 {
     match value {
@@ -186,7 +186,7 @@ pub(crate) fn going_of(value: Record) -> Record
 }
 
 /// A going record as a ready one.
-pub(crate) fn ready_of(value: Record) -> Record
+fn ready_of(value: Record) -> Record
     ensures { result ≡ pool.ready_of value }
 {
     match value {
@@ -200,5 +200,16 @@ pub(crate) fn ready_of(value: Record) -> Record
             reads,
         },
         other => other,
+    }
+}
+
+/// A ready or going record as a going or a ready one.
+pub(crate) fn marked(value: Record, going: bool) -> Record
+    ensures { result ≡ pool.marked going value }
+{
+    if going {
+        going_of(value)
+    } else {
+        ready_of(value)
     }
 }

@@ -11,7 +11,7 @@ ghost use Rattle.jn_sets.specs.Sets.{StoreRead, Puts, AreCleanTo};
 
 use crate::by_slot::{Slots, page_of};
 use crate::fault::{LoadFault, SetFault};
-use crate::find::{Wanted, clean_after, going_of, intends, is_free, ready_of, recount};
+use crate::find::{Wanted, clean_after, intends, is_free, recount};
 use crate::numbers::record_fits;
 use jn_base::{Stopped, Tid, WorkId};
 use jn_records::{Record, Root};
@@ -181,15 +181,15 @@ impl Sets {
         requires ready { pool.is_ready (pool.record_in self.old slot) ≡ true }
         ensures { Puts self.old (S.view store.old) slot (pool.going_of (pool.record_in self.old slot)) (is_ok result) self.new (S.view store.new) }
     {
-        let going = going_of(self.slots.swap(slot, Record::Free));
-        record_fits(&going);
+        self.slots.mark(slot, true);
+        let Some(going) = self.slots.record(slot) else {
+            unreachable!()
+        };
+        record_fits(going);
         match store.put(page_of(slot), &going.encode()) {
-            Ok(()) => {
-                self.slots.swap(slot, going);
-                Ok(())
-            }
+            Ok(()) => Ok(()),
             Err(stopped) => {
-                self.slots.swap(slot, ready_of(going));
+                self.slots.mark(slot, false);
                 Err(stopped)
             }
         }
