@@ -17,7 +17,7 @@ use Rattle.jn_index.specs.Numbers.{number_at, IsSlotFrom}
 use Rattle.jn_records.specs.declared.record.Record.{Record}
 use Rattle.jn_records.specs.declared.record.Record.TheVariants.{Free, Intention, Ready, Going, Flag as FlagRecord}
 use Rattle.jn_sets.specs.declared.find.Wanted.{Wanted}
-use Rattle.jn_sets.specs.declared.find.Wanted.TheVariants.{Free as WantedFree, Prepared, Intention as WantedIntention, Flag as WantedFlag}
+use Rattle.jn_sets.specs.declared.find.Wanted.TheVariants.{Prepared, Intention as WantedIntention, Flag as WantedFlag}
 use Rattle.jn_sets.specs.Pool.{record_in, is_free, prepares, is_wanted, number_of, number_wanted, spread}
 use Rattle.jn_sets.specs.Sets.{AreCounted, ones}
 use Rattle.jn_sets.proofs.Slots.{values_push}
@@ -33,19 +33,14 @@ same_intention a b o p w n ew en tw tn =
     let same : o ≡ p = let t : nat_eq o p ≡ true = en ∙ tn in grind (arith, nat_tests, t) in
     same_work a b (o + 2) (ew ∙ tw) ∙ ap (λ (k : ℕ). spread b.ticket (k + 2)) same
 
-pub has_number : (wanted : Wanted) (r : Record) → is_wanted wanted r ≡ true → number_of r ≡ number_wanted wanted
-has_number WantedFree Free e = refl
-has_number WantedFree (Intention w t o i) e = absurd (cc e)
-has_number WantedFree (Ready h n rs) e = absurd (cc e)
-has_number WantedFree (Going h n rs) e = absurd (cc e)
-has_number WantedFree (FlagRecord f) e = absurd (cc e)
+pub has_number : (wanted : Wanted) (r : Record) → is_wanted wanted r ≡ true → number_of r ≡ Some (number_wanted wanted)
 has_number (Prepared work) Free e = absurd (cc e)
 has_number (Prepared work) (Intention w t o i) e = absurd (cc e)
-has_number (Prepared work) (Ready h n rs) e = same_work h.work work 0 e
-has_number (Prepared work) (Going h n rs) e = same_work h.work work 0 e
+has_number (Prepared work) (Ready h n rs) e = ap (λ (k : ℕ). Some k) (same_work h.work work 0 e)
+has_number (Prepared work) (Going h n rs) e = ap (λ (k : ℕ). Some k) (same_work h.work work 0 e)
 has_number (Prepared work) (FlagRecord f) e = absurd (cc e)
 has_number (WantedIntention work order) Free e = absurd (cc e)
-has_number (WantedIntention work order) (Intention w t o i) e = by (work_eq w work) (nat_eq o order) refl refl e
+has_number (WantedIntention work order) (Intention w t o i) e = ap (λ (k : ℕ). Some k) (by (work_eq w work) (nat_eq o order) refl refl e)
   where
     by : (a b : Bool) → work_eq w work ≡ a → nat_eq o order ≡ b → (a && b) ≡ true → spread w.ticket (o + 2) ≡ spread work.ticket (order + 2)
     by true true ea eb t = same_intention w work o order true true ea eb refl refl
@@ -58,7 +53,7 @@ has_number (WantedFlag tid) Free e = absurd (cc e)
 has_number (WantedFlag tid) (Intention w t o i) e = absurd (cc e)
 has_number (WantedFlag tid) (Ready h n rs) e = absurd (cc e)
 has_number (WantedFlag tid) (Going h n rs) e = absurd (cc e)
-has_number (WantedFlag tid) (FlagRecord f) e = same_tid f.tid tid 1 e
+has_number (WantedFlag tid) (FlagRecord f) e = ap (λ (k : ℕ). Some k) (same_tid f.tid tid 1 e)
 
 module _ (numbers : List (Option ℕ)) (free prepared : ℕ) (records : List Record) (are : AreCounted numbers free prepared records) (slots : length numbers ≡ length records) (wanted : Wanted) (from : ℕ)
     (none_yet : (k : ℕ) → k < from → is_wanted wanted (record_in records k) ≡ false) where
@@ -73,7 +68,7 @@ module _ (numbers : List (Option ℕ)) (free prepared : ℕ) (records : List Rec
     | inl low ↦ none_yet k low
     | inr le ↦ false_from_ne_true (is_wanted wanted (record_in records k)) (λ e.
         let within = slot_within slot found in
-        let up : slot ≤ k = found.lowest k le (are.each k (omega arith) ∙ ap (λ (n : ℕ). Some n) (has_number wanted (record_in records k) e)) in
+        let up : slot ≤ k = found.lowest k le (are.each k (omega arith) ∙ has_number wanted (record_in records k) e) in
         let no_way : ⊥ = omega arith in no_way)
   ]
 
@@ -94,7 +89,7 @@ module _ (numbers : List (Option ℕ)) (free prepared : ℕ) (records : List Rec
   none_found none =
       let each : (k : ℕ) → k < length records → is_wanted wanted (record_in records k) ≡ false = λ k lt. elim (cases_lt k from) [
         | inl low ↦ none_yet k low
-        | inr le ↦ false_from_ne_true (is_wanted wanted (record_in records k)) (λ e. none k le (are.each k lt ∙ ap (λ (n : ℕ). Some n) (has_number wanted (record_in records k) e)))
+        | inr le ↦ false_from_ne_true (is_wanted wanted (record_in records k)) (λ e. none k le (are.each k lt ∙ has_number wanted (record_in records k) e))
       ] in
       let at : position_or_len (is_wanted wanted) records ≡ length records = position_or_len_is (is_wanted wanted) records (length records) Free (omega arith) each (λ lt. let no_way : ⊥ = omega arith in absurd no_way) in
       let t : nat_lt (position_or_len (is_wanted wanted) records) (length records) ≡ false = grind (arith, nat_tests, at) in
@@ -122,13 +117,13 @@ last_counts test records before after value was sum =
 module _ (numbers : List (Option ℕ)) (free prepared : ℕ) (records : List Record) (are : AreCounted numbers free prepared records) (value : Record) (count works : ℕ) where
   pub counted_set : (slot : ℕ) → slot < length records → length numbers ≡ length records → count + ones (is_free (record_in records slot)) ≡ free + ones (is_free value)
       → works + ones (prepares (record_in records slot)) ≡ prepared + ones (prepares value)
-      → AreCounted (slice_set numbers slot (Some (number_of value))) count works (slice_set records slot value)
+      → AreCounted (slice_set numbers slot (number_of value)) count works (slice_set records slot value)
   counted_set slot below slots sum sums = record {
     each = λ k lt. elim (cases_eq k slot) [
-      | inl same ↦ subst (λ (i : ℕ). number_at (slice_set numbers slot (Some (number_of value))) i ≡ Some (number_of (record_in (slice_set records slot value) i))) (sym same)
-          (get_or-set_same numbers slot (Some (number_of value)) None (omega arith) ∙ ap (λ (r : Record). Some (number_of r)) (sym (get_or-set_same records slot value Free below)))
-      | inr ne ↦ get_or-set_other numbers slot k (Some (number_of value)) None ne ∙ are.each k (let same = length-set records slot value in omega arith)
-          ∙ ap (λ (r : Record). Some (number_of r)) (sym (get_or-set_other records slot k value Free ne))
+      | inl same ↦ subst (λ (i : ℕ). number_at (slice_set numbers slot (number_of value)) i ≡ number_of (record_in (slice_set records slot value) i)) (sym same)
+          (get_or-set_same numbers slot (number_of value) None (omega arith) ∙ ap number_of (sym (get_or-set_same records slot value Free below)))
+      | inr ne ↦ get_or-set_other numbers slot k (number_of value) None ne ∙ are.each k (let same = length-set records slot value in omega arith)
+          ∙ ap number_of (sym (get_or-set_other records slot k value Free ne))
     ];
     free_is = set_counts is_free records slot free count value below are.free_is sum;
     prepared_is = set_counts prepares records slot prepared works value below are.prepared_is sums;
@@ -139,31 +134,31 @@ module _ (numbers : List (Option ℕ)) (free prepared : ℕ) (records : List Rec
       → prepares value ≡ prepares (record_in records slot) → count ≡ free → works ≡ prepared → AreCounted numbers count works (slice_set records slot value)
   counted_like slot below slots number is is_one same sames =
       subst (λ (l : List (Option ℕ)). AreCounted l count works (slice_set records slot value))
-      (ap (slice_set numbers slot) (ap (λ (n : ℕ). Some n) number ∙ sym (are.each slot below)) ∙ set-get_or numbers slot None)
+      (ap (slice_set numbers slot) (number ∙ sym (are.each slot below)) ∙ set-get_or numbers slot None)
       (counted_set slot below slots (let flag = ap ones is in omega arith) (let flag = ap ones is_one in omega arith))
 
   pub counted_last : length numbers ≡ length records → count ≡ free + ones (is_free value) → works ≡ prepared + ones (prepares value)
-      → AreCounted (numbers ++ Some (number_of value) ∷ []) count works (records ++ value ∷ [])
+      → AreCounted (numbers ++ number_of value ∷ []) count works (records ++ value ∷ [])
   counted_last slots sum sums = record {
     each = λ k lt. elim (cases_eq k (length records)) [
-      | inl same ↦ subst (λ (i : ℕ). number_at (numbers ++ Some (number_of value) ∷ []) i ≡ Some (number_of (record_in (records ++ value ∷ []) i))) (sym same)
-          (ap (number_at (numbers ++ Some (number_of value) ∷ [])) (sym slots) ∙ get_or-append_seam numbers (Some (number_of value)) [] None ∙ ap (λ (r : Record). Some (number_of r)) (sym (get_or-append_seam records value [] Free)))
+      | inl same ↦ subst (λ (i : ℕ). number_at (numbers ++ number_of value ∷ []) i ≡ number_of (record_in (records ++ value ∷ []) i)) (sym same)
+          (ap (number_at (numbers ++ number_of value ∷ [])) (sym slots) ∙ get_or-append_seam numbers (number_of value) [] None ∙ ap number_of (sym (get_or-append_seam records value [] Free)))
       | inr ne ↦ let low : k < length records = let long = length-append records (value ∷ []) in omega arith in
-          get_or-append numbers (Some (number_of value) ∷ []) None k (omega arith) ∙ are.each k low ∙ ap (λ (r : Record). Some (number_of r)) (sym (get_or-append records (value ∷ []) Free k low))
+          get_or-append numbers (number_of value ∷ []) None k (omega arith) ∙ are.each k low ∙ ap number_of (sym (get_or-append records (value ∷ []) Free k low))
     ];
     free_is = last_counts is_free records free count value are.free_is sum;
     prepared_is = last_counts prepares records prepared works value are.prepared_is sums;
   }
 
 -- as the code has it, where the last record is put into the index
-pub counted_more : (numbers : List (Option ℕ)) (free prepared : ℕ) (entries next : List (ℕ × Record)) (n : ℕ) (value : Record) (after : List (Option ℕ)) (number count works : ℕ) (is is_one : Bool)
-    → AreCounted numbers free prepared (values_of entries) → length (values_of entries) ≡ n → length numbers ≡ n → number ≡ number_of value → after ≡ numbers ++ Some number ∷ []
+pub counted_more : (numbers : List (Option ℕ)) (free prepared : ℕ) (entries next : List (ℕ × Record)) (n : ℕ) (value : Record) (after : List (Option ℕ)) (number : Option ℕ) (count works : ℕ) (is is_one : Bool)
+    → AreCounted numbers free prepared (values_of entries) → length (values_of entries) ≡ n → length numbers ≡ n → number ≡ number_of value → after ≡ numbers ++ number ∷ []
     → is ≡ is_free value → count + ones false ≡ free + ones is → is_one ≡ prepares value → works + ones false ≡ prepared + ones is_one → next ≡ entries ++ (n, value) ∷ []
     → AreCounted after count works (values_of next)
 counted_more numbers free prepared entries next n value after number count works is is_one are long slots number_is after_is is_is sum one_is sums e =
     subst (λ (l : List Record). AreCounted after count works l) (sym (ap values_of e ∙ values_push entries n value))
     (subst (λ (l : List (Option ℕ)). AreCounted l count works (values_of entries ++ value ∷ []))
-    (ap (λ (k : ℕ). numbers ++ Some k ∷ []) (sym number_is) ∙ sym after_is)
+    (ap (λ (k : Option ℕ). numbers ++ k ∷ []) (sym number_is) ∙ sym after_is)
     (counted_last numbers free prepared (values_of entries) are value count works (slots ∙ sym long) (one_more is (is_free value) free count is_is sum) (one_more is_one (prepares value) prepared works one_is sums)))
   where
     one_more : (a b : Bool) (before after : ℕ) → a ≡ b → after + ones false ≡ before + ones a → after ≡ before + ones b

@@ -1,5 +1,5 @@
 -- How many records are rubbish, and below which slot none is.
-use Rattle.std.proofs.Common.{◌≡◌, inl, inr, ⊎_elim, ℕ, zero, suc, ◌+◌, ◌≤◌, ◌<◌, ◌^◌, Bool, true, false, List, [], ◌∷◌, length, Some, None, refl, sym, ◌∙◌, ap, subst, true≢false, arith}
+use Rattle.std.proofs.Common.{◌≡◌, ◌≢◌, inl, inr, ⊎_elim, ℕ, zero, suc, ◌+◌, ◌≤◌, ◌<◌, ◌^◌, Bool, true, false, List, [], ◌∷◌, length, Some, None, refl, sym, ◌∙◌, ap, subst, true≢false, arith}
 use Rattle.std.proofs.Math.Path.{fun_ext}
 use Rattle.std.proofs.lemmas.Bool.{cases_eq, false_from_ne_true}
 use Rattle.std.proofs.lemmas.Bool.Decides.{nat_tests}
@@ -13,7 +13,7 @@ use Rattle.jn_base.proofs.Tells.{work_tells}
 use Rattle.jn_records.specs.declared.record.Record.{Record}
 use Rattle.jn_records.specs.declared.record.Record.TheVariants.{Free, Intention, Ready, Going, Flag as FlagRecord}
 use Rattle.jn_sets.specs.Pool.{record_in, is_free, is_prepared, is_rubbish, rubbish_count, prepares, intends, intends_for, left_of, kept_by, is_ready, going_of}
-use Rattle.jn_sets.specs.Sets.{AreCleanTo, IsWatched, ones}
+use Rattle.jn_sets.specs.Sets.{AreCleanTo, AreUsedTo, IsWatched, ones}
 
 -- ---- a slot has another record
 
@@ -104,6 +104,26 @@ still_free records slot e = sym (ap (slice_set records slot) (sym (only_free (re
 
 pub put_free : (records : List Record) (slot : ℕ) (value : Record) → record_in records slot ≡ Free → is_free value ≡ true → records ≡ slice_set records slot value
 put_free records slot value free e = still_free records slot (ap is_free free) ∙ ap (slice_set records slot) (sym (only_free value e))
+
+-- ---- below which slot none is free
+
+used_set : (records : List Record) (used slot after : ℕ) (value : Record) → slot < length records → AreUsedTo records used → ((k : ℕ) → k < after → k ≢ slot → k < used)
+    → (slot < after → is_free value ≡ false) → AreUsedTo (slice_set records slot value) after
+used_set records used slot after value below are others own k lt = elim (cases_eq k slot) [
+  | inl same ↦ subst (λ (j : ℕ). is_free (record_in (slice_set records slot value) j) ≡ false) (sym same)
+      (ap is_free (get_or-set_same records slot value Free below) ∙ own (subst (λ (j : ℕ). j < after) same lt))
+  | inr ne ↦ ap is_free (get_or-set_other records slot k value Free ne) ∙ are k (others k lt ne)
+]
+
+going_used : (r : Record) → is_ready r ≡ true → is_free (going_of r) ≡ false
+going_used (Ready head n reads) ready = refl
+going_used r ready = absurd (cc ready)
+
+pub used_more : (records : List Record) (slot : ℕ) → AreUsedTo records slot → is_free (record_in records slot) ≡ false → AreUsedTo records (slot + 1)
+used_more records slot are here k lt = elim (cases_eq k slot) [
+  | inl same ↦ ap (λ (j : ℕ). is_free (record_in records j)) same ∙ here
+  | inr ne ↦ are k (omega arith)
+]
 
 -- ---- a record comes into a free slot
 
@@ -326,7 +346,7 @@ at_most_one false = omega arith
 pub few_rubbish : (records : List Record) → rubbish_count records ≤ length records
 few_rubbish records = count_by-le-length (is_rubbish records) records
 
-module _ (records : List Record) (rubbish clean : ℕ) (watched : IsWatched records rubbish clean) (slot : ℕ) (below : slot < length records) where
+module _ (records : List Record) (rubbish clean used : ℕ) (watched : IsWatched records rubbish clean used) (slot : ℕ) (below : slot < length records) where
   module _ (new : List Record) (old : Record) (was : Bool) (kept : ℕ) (left : new ≡ slice_set records slot Free) (taken : old ≡ record_in records slot) (was_eq : was ≡ is_rubbish new old) (kept_eq : kept ≡ kept_by new old) where
     pub sum_cleared : (rubbish + kept ≡ rubbish_count new + ones was) × (rubbish_count new < 2 ^ 16)
     sum_cleared =
@@ -340,8 +360,9 @@ module _ (records : List Record) (rubbish clean : ℕ) (watched : IsWatched reco
         let short = watched.few in
         (omega arith, omega arith)
 
-    pub watched_cleared : (count after : ℕ) → count + ones was ≡ rubbish + kept + ones false → after ≤ clean → (prepares old ≡ true → after ≡ 0) → IsWatched new count after
-    watched_cleared count after sum less prepared =
+    pub watched_cleared : (count after low : ℕ) → count + ones was ≡ rubbish + kept + ones false → after ≤ clean → (prepares old ≡ true → after ≡ 0) → low ≤ used → low ≤ slot
+        → IsWatched new count after low
+    watched_cleared count after low sum less prepared lower not_it =
         let long : length new ≡ length records = ap length left ∙ length-set records slot Free in
         let all = sum_cleared.0 in
         let zero : ones false ≡ 0 = refl in
@@ -351,6 +372,8 @@ module _ (records : List Record) (rubbish clean : ℕ) (watched : IsWatched reco
           count = omega arith;
           none_below = subst (λ (l : List Record). AreCleanTo l after) (sym left)
               (clean_set records clean slot after Free below watched.none_below less (λ e. prepared (ap prepares taken ∙ e)) (λ e. absurd (true≢false (sym e))));
+          used_below = subst (λ (l : List Record). AreUsedTo l low) (sym left)
+              (used_set records used slot low Free below watched.used_below (λ k lt ne. omega arith) (λ lt. let no_way : ⊥ = omega arith in absurd no_way));
         }
 
   module _ (new : List Record) (value : Record) (is : Bool) (kept : ℕ) (free : record_in records slot ≡ Free) (left : new ≡ slice_set records slot value) (is_eq : is ≡ is_rubbish records value) (kept_eq : kept ≡ kept_by records value) where
@@ -362,8 +385,9 @@ module _ (records : List Record) (rubbish clean : ℕ) (watched : IsWatched reco
         let count = watched.count in
         omega arith
 
-    pub watched_filled : (count after : ℕ) → count + kept ≡ rubbish + ones is → after ≤ clean → (intends value ≡ true → after ≤ slot) → IsWatched new count after
-    watched_filled count after sum less intended =
+    pub watched_filled : (count after low : ℕ) → count + kept ≡ rubbish + ones is → after ≤ clean → (intends value ≡ true → after ≤ slot) → is_free value ≡ false
+        → ((k : ℕ) → k < low → k ≢ slot → k < used) → IsWatched new count after low
+    watched_filled count after low sum less intended is_used others =
         let long : length new ≡ length records = ap length left ∙ length-set records slot value in
         let all = sum_filled in
         let short = watched.few in
@@ -372,9 +396,10 @@ module _ (records : List Record) (rubbish clean : ℕ) (watched : IsWatched reco
           count = omega arith;
           none_below = subst (λ (l : List Record). AreCleanTo l after) (sym left)
               (clean_set records clean slot after value below watched.none_below less (λ e. absurd (true≢false (sym e ∙ ap prepares free))) intended);
+          used_below = subst (λ (l : List Record). AreUsedTo l low) (sym left) (used_set records used slot low value below watched.used_below others (λ lt. is_used));
         }
 
-  pub watched_going : (new : List Record) → is_ready (record_in records slot) ≡ true → new ≡ slice_set records slot (going_of (record_in records slot)) → IsWatched new rubbish clean
+  pub watched_going : (new : List Record) → is_ready (record_in records slot) ≡ true → new ≡ slice_set records slot (going_of (record_in records slot)) → IsWatched new rubbish clean used
   watched_going new ready left =
       let long : length new ≡ length records = ap length left ∙ length-set records slot (going_of (record_in records slot)) in
       let short = watched.few in
@@ -382,6 +407,8 @@ module _ (records : List Record) (rubbish clean : ℕ) (watched : IsWatched reco
         few = omega arith;
         count = watched.count ∙ sym (count_going records slot below ready) ∙ ap rubbish_count (sym left);
         none_below = subst (λ (l : List Record). AreCleanTo l clean) (sym left) (clean_going records clean slot below ready watched.none_below);
+        used_below = subst (λ (l : List Record). AreUsedTo l used) (sym left)
+            (used_set records used slot used (going_of (record_in records slot)) below watched.used_below (λ k lt ne. lt) (λ lt. going_used (record_in records slot) ready));
       }
 
 pub clean_more : (records : List Record) (slot : ℕ) → AreCleanTo records slot → is_rubbish records (record_in records slot) ≡ false → AreCleanTo records (slot + 1)

@@ -131,15 +131,6 @@ ready_within records slot ready = elim (cases_lt slot (length records)) [
   | inr past ↦ absurd (cc (ap is_ready (get_or_past records slot Free past), ready))
 ]
 
-pub is_prepared_one : (r : Record) → is_ready r ≡ true → prepares r ≡ true
-is_prepared_one (Ready head intentions reads) ready = refl
-is_prepared_one r ready = absurd (cc ready)
-
-pub going_prepares : (r : Record) → prepares r ≡ true → prepares (going_of r) ≡ true
-going_prepares (Ready head intentions reads) one = refl
-going_prepares (Going head intentions reads) one = refl
-going_prepares r one = absurd (cc one)
-
 -- it is found by the same number, and has a page
 pub record IsLike (old new : Record) : Type 0 where
   pub number : number_of new ≡ number_of old

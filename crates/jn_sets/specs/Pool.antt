@@ -1,5 +1,5 @@
 -- The pool: a record for each of its slots, and the pages on which they stand.
-use Rattle.std.specs.Prelude.{◌≡◌, ℕ, ◌+◌, ◌*◌, ◌%◌, ◌<◌, List, length, slice_index_or, filter, count_by, not, ◌&&◌, nat_eq, if◌then◌else◌, Bool, true, false, Option, Some}
+use Rattle.std.specs.Prelude.{◌≡◌, ℕ, ◌+◌, ◌*◌, ◌%◌, ◌<◌, List, length, slice_index_or, filter, count_by, not, ◌&&◌, nat_eq, if◌then◌else◌, Bool, true, false, Option, Some, None}
 use Rattle.std.specs.List.{list_any, enumerate_from}
 use Rattle.jn_base.specs.declared.names.Tid.{Tid}
 use Rattle.jn_base.specs.declared.names.WorkId.{WorkId}
@@ -8,7 +8,7 @@ use Rattle.jn_records.specs.declared.record.Record.{Record}
 use Rattle.jn_records.specs.declared.record.Record.TheVariants.{Free, Intention, Ready, Going, Flag as FlagRecord}
 use Rattle.jn_records.specs.Records.{record_page, has_page, RecordFits, record_at}
 use Rattle.jn_sets.specs.declared.find.Wanted.{Wanted}
-use Rattle.jn_sets.specs.declared.find.Wanted.TheVariants.{Free as WantedFree, Prepared, Intention as WantedIntention, Flag as WantedFlag}
+use Rattle.jn_sets.specs.declared.find.Wanted.TheVariants.{Prepared, Intention as WantedIntention, Flag as WantedFlag}
 use Rattle.jn_store.specs.Store.{StoreView, IsClean, IsOnly}
 
 -- ---- records by slot
@@ -72,7 +72,6 @@ is_flag tid (FlagRecord f) = tid_eq f.tid tid
 is_flag tid _ = false
 
 abbrev pub is_wanted : Wanted → Record → Bool
-is_wanted WantedFree = is_free
 is_wanted (Prepared work) = is_prepared work
 is_wanted (WantedIntention work order) = is_intention work order
 is_wanted (WantedFlag tid) = is_flag tid
@@ -83,17 +82,17 @@ unfoldable pub spread : ℕ → ℕ → ℕ
 spread ticket kind = (ticket % 134217728) * 32 + kind % 32
 
 abbrev pub number_wanted : Wanted → ℕ
-number_wanted WantedFree = 4294967295
 number_wanted (Prepared work) = spread work.ticket 0
 number_wanted (WantedFlag tid) = spread tid.ticket 1
 number_wanted (WantedIntention work order) = spread work.ticket (order + 2)
 
-abbrev pub number_of : Record → ℕ
-number_of Free = 4294967295
-number_of (Intention work tid order i) = spread work.ticket (order + 2)
-number_of (Ready head intentions reads) = spread head.work.ticket 0
-number_of (Going head intentions reads) = spread head.work.ticket 0
-number_of (FlagRecord f) = spread f.tid.ticket 1
+-- a free slot has none
+abbrev pub number_of : Record → Option ℕ
+number_of Free = None
+number_of (Intention work tid order i) = Some (spread work.ticket (order + 2))
+number_of (Ready head intentions reads) = Some (spread head.work.ticket 0)
+number_of (Going head intentions reads) = Some (spread head.work.ticket 0)
+number_of (FlagRecord f) = Some (spread f.tid.ticket 1)
 
 -- an intention whose work has no ready or going record
 abbrev pub is_rubbish : List Record → Record → Bool

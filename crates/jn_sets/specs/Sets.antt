@@ -1,12 +1,12 @@
 -- What the calls of a set of records do to it and to its store.
-use Rattle.std.specs.Prelude.{◌≡◌, ◌⊎◌, ℕ, ◌+◌, ◌*◌, ◌^◌, ◌≤◌, ◌<◌, Bool, true, false, if◌then◌else◌, List, length, count_by, slice_set, Option, Some}
+use Rattle.std.specs.Prelude.{◌≡◌, ◌⊎◌, ℕ, ◌+◌, ◌*◌, ◌^◌, ◌≤◌, ◌<◌, Bool, true, false, if◌then◌else◌, List, length, count_by, slice_set, Option}
 use Rattle.std.specs.List.{enumerate_from}
 use Rattle.std.specs.Map.{values_of}
 use Rattle.jn_records.specs.declared.record.Record.{Record}
 use Rattle.jn_records.specs.Records.{record_page, has_page}
 use Rattle.jn_store.specs.Store.{StoreView, StoreLater, StorePut, IsSamePage}
 use Rattle.jn_store.specs.Choices.{IsChoice}
-use Rattle.jn_sets.specs.Pool.{page_of, record_in, number_of, free_count, prepares, is_rubbish, rubbish_count, Holds, Says}
+use Rattle.jn_sets.specs.Pool.{page_of, record_in, number_of, is_free, free_count, prepares, is_rubbish, rubbish_count, Holds, Says}
 use Rattle.jn_index.specs.Numbers.{number_at}
 
 -- an index: it numbers its records from 0 on, and each has a page
@@ -17,7 +17,7 @@ pub record IsIndex (entries : List (ℕ × Record)) : Type 0 where
 
 -- each record's number, how many are free, and how many make their works prepared ones
 pub record AreCounted (numbers : List (Option ℕ)) (free prepared : ℕ) (records : List Record) : Type 0 where
-  pub each : (slot : ℕ) → slot < length records → number_at numbers slot ≡ Some (number_of (record_in records slot))
+  pub each : (slot : ℕ) → slot < length records → number_at numbers slot ≡ number_of (record_in records slot)
   pub free_is : free ≡ free_count records
   pub prepared_is : prepared ≡ count_by prepares records
 
@@ -34,11 +34,16 @@ pub record AreInOrder (entries : List (ℕ × Record)) (numbers : List (Option �
   pub slots : length numbers ≡ length (values_of entries)
   pub counted : AreCounted numbers free prepared (values_of entries)
 
--- how many of them are rubbish, and below which slot none is
-pub record IsWatched (records : List Record) (rubbish clean : ℕ) : Type 0 where
+-- no slot below this one is free
+abbrev pub AreUsedTo : List Record → ℕ → Type 0
+AreUsedTo records slot = (k : ℕ) → k < slot → is_free (record_in records k) ≡ false
+
+-- how many of them are rubbish, below which slot none is, and below which none is free
+pub record IsWatched (records : List Record) (rubbish clean used : ℕ) : Type 0 where
   pub few : length records < 2 ^ 16
   pub count : rubbish ≡ rubbish_count records
   pub none_below : AreCleanTo records clean
+  pub used_below : AreUsedTo records used
 
 -- so many gets: no page changes
 pub record StoreRead (v : StoreView) (gets : ℕ) (w : StoreView) : Type 0 where

@@ -25,7 +25,7 @@ use std::mem;
 #[derive(Drop)]
 pub(crate) struct Slots {
     index: IndexMap<u16, Record>,
-    /// Of each slot the number by which its record is found.
+    /// Of each slot that has a record the number by which that is found.
     numbers: Index,
     /// How many slots hold no record.
     free: u32,
@@ -68,7 +68,7 @@ impl Slots {
         let mut prepared = 0;
         for slot in 0..root.pool {
             let value = read_slot(alloc, store, slot)?;
-            numbers.push(Some(number_of(&value)))?;
+            numbers.push(number_of(&value))?;
             free = recount(free, false, is_free(&value));
             prepared = recount(prepared, false, prepares(&value));
             index.insert(slot, value)?;
@@ -216,7 +216,7 @@ impl Slots {
     {
         let is = is_free(&value);
         let is_one = prepares(&value);
-        self.numbers.set(slot, Some(number_of(&value)));
+        self.numbers.set(slot, number_of(&value));
         let old = mem::replace(&mut self.index[slot as usize], value);
         self.free = recount(self.free, is_free(&old), is);
         self.prepared = recount(self.prepared, prepares(&old), is_one);

@@ -1,5 +1,5 @@
 //! What a slot's record is asked for.
-ghost use Rattle.std.specs.Prelude.{◌≡◌, ◌<◌, ◌≤◌, ◌+◌, ◌^◌, true};
+ghost use Rattle.std.specs.Prelude.{◌≡◌, ◌≢◌, ◌<◌, ◌≤◌, ◌+◌, ◌^◌, ℕ, true};
 ghost use Rattle.jn_base.specs.Names as names;
 ghost use Rattle.jn_sets.specs.Pool as pool;
 ghost use Rattle.jn_sets.specs.Sets.{ones};
@@ -28,8 +28,6 @@ pub(crate) fn is_free(value: &Record) -> bool
 /// What a slot is searched for.
 #[derive(Clone, Copy)]
 pub(crate) enum Wanted {
-    /// No record.
-    Free,
     /// The ready or going record of a work.
     Prepared(WorkId),
     /// The intention of a work with this place.
@@ -43,22 +41,23 @@ pub(crate) fn number_wanted(wanted: Wanted) -> u32
     ensures { result ≡ pool.number_wanted wanted }
 {
     match wanted {
-        Wanted::Free => u32::MAX,
         Wanted::Prepared(work) => spread(work.ticket, 0),
         Wanted::Flag(tid) => spread(tid.ticket, 1),
         Wanted::Intention(work, order) => spread(work.ticket, u32::from(order) + 2),
     }
 }
 
-/// A record's number.
-pub(crate) fn number_of(value: &Record) -> u32
+/// A record's number. A free slot has none.
+pub(crate) fn number_of(value: &Record) -> Option<u32>
     ensures { result ≡ pool.number_of value.now }
 {
     match value {
-        Record::Free => u32::MAX,
-        Record::Intention { work, order, .. } => spread(work.ticket, u32::from(*order) + 2),
-        Record::Ready { head, .. } | Record::Going { head, .. } => spread(head.work.ticket, 0),
-        Record::Flag(flag) => spread(flag.tid.ticket, 1),
+        Record::Free => None,
+        Record::Intention { work, order, .. } => Some(spread(work.ticket, u32::from(*order) + 2)),
+        Record::Ready { head, .. } | Record::Going { head, .. } => {
+            Some(spread(head.work.ticket, 0))
+        }
+        Record::Flag(flag) => Some(spread(flag.tid.ticket, 1)),
     }
 }
 
@@ -122,11 +121,26 @@ pub(crate) fn clean_after(clean: u16, slot: u16, old: &Record, intends: bool) ->
     clean
 }
 
+/// Below which slot none is free, where it was so below one and another goes.
+pub(crate) fn used_without(used: u16, slot: u16) -> u16
+    ensures used { result ≤ used }
+    ensures slot { result ≤ slot }
+{
+    if slot < used { slot } else { used }
+}
+
+/// Below which slot none is free, where it was so below one and another gets a record.
+pub(crate) fn used_with(used: u16, slot: u16) -> u16
+    requires { slot + 1 < 2 ^ 16 }
+    ensures { (k : ℕ) → k < result → k ≢ slot → k < used }
+{
+    if slot == used { slot + 1 } else { used }
+}
+
 pub(crate) fn is_wanted(wanted: Wanted, value: &Record) -> bool
     ensures { result ≡ pool.is_wanted wanted value.now }
 {
     match wanted {
-        Wanted::Free => is_free(value),
         Wanted::Prepared(work) => is_prepared(work, value),
         Wanted::Intention(work, order) => is_intention(work, order, value),
         Wanted::Flag(tid) => is_flag(tid, value),

@@ -7,11 +7,11 @@ ghost use Rattle.jn_store.specs.Store.{IsCalm, IsServed, IsStop, StoreLater};
 ghost use Rattle.jn_sets.specs.declared.fault.LoadFault.TheVariants.{Stopped as LoadStopped};
 ghost use Rattle.jn_sets.specs.declared.fault.SetFault.TheVariants.{Full};
 ghost use Rattle.jn_sets.specs.Pool as pool;
-ghost use Rattle.jn_sets.specs.Sets.{StoreRead, Puts, AreCleanTo};
+ghost use Rattle.jn_sets.specs.Sets.{StoreRead, Puts, AreCleanTo, AreUsedTo};
 
 use crate::by_slot::{Slots, page_of};
 use crate::fault::{LoadFault, SetFault};
-use crate::find::{Wanted, clean_after, intends, is_free, recount};
+use crate::find::{Wanted, clean_after, intends, is_free, recount, used_with, used_without};
 use crate::numbers::record_fits;
 use jn_base::{Stopped, Tid, WorkId};
 use jn_records::{Record, Root};
@@ -30,6 +30,8 @@ pub struct Sets {
     rubbish: u32,
     /// No slot below it has such an intention.
     clean: u16,
+    /// No slot below it is free.
+    used: u16,
 }
 
 impl Model for Sets {
@@ -41,7 +43,7 @@ impl Model for Sets {
 
     ghost view = { λ s. s.slots };
 
-    ghost invariant = { λ s. IsWatched s.slots s.rubbish s.clean };
+    ghost invariant = { λ s. IsWatched s.slots s.rubbish s.clean s.used };
 }
 
 impl Sets {
@@ -67,6 +69,7 @@ impl Sets {
             slots,
             rubbish,
             clean: 0,
+            used: 0,
         })
     }
 
@@ -143,7 +146,7 @@ impl Sets {
         ensures slots { length self.new ≡ length self.old }
         ensures later { StoreLater (S.view store.old) (S.view store.new) }
     {
-        let Some(free) = self.lowest_free() else {
+        let Some(free) = self.next_free() else {
             return Err(SetFault::Full);
         };
         self.put(store, free, value)?;
@@ -220,10 +223,28 @@ impl Sets {
         self.rubbish > 0
     }
 
-    fn lowest_free(&self) -> Option<u16>
-        ensures { result ≡ position pool.is_free self.now }
+    /// The lowest free slot. The slots below it aren't looked at again while they stay as they are.
+    fn next_free(&mut self) -> Option<u16>
+        ensures found { result ≡ position pool.is_free self.old }
+        ensures within { IfSome result (λ slot. slot < length self.old) }
+        ensures same { self.new ≡ self.old }
     {
-        self.slots.lowest(Wanted::Free)
+        let slot = self.free_slot()?;
+        self.used = slot;
+        Some(slot)
+    }
+
+    fn free_slot(&self) -> Option<u16>
+        ensures first { result ≡ position pool.is_free self.now }
+        ensures within { IfSome result (λ slot. slot < length self.now) }
+        ensures below { IfSome result (λ slot. AreUsedTo self.now slot) }
+    {
+        for slot in self.used..self.slots() {
+            if !self.holds(slot) {
+                return Some(slot);
+            }
+        }
+        None
     }
 
     /// The lowest slot with an intention whose work has no ready or going record. The slots below it aren't looked
@@ -294,6 +315,7 @@ impl Sets {
         let was = self.slots.is_rubbish(&old);
         self.rubbish = recount(self.rubbish + self.slots.kept_by(&old), was, false);
         self.clean = clean_after(self.clean, slot, &old, false);
+        self.used = used_without(self.used, slot);
     }
 
     /// Puts a record into a free slot in memory. A slot that stays free is left alone.
@@ -312,5 +334,6 @@ impl Sets {
         let old = self.slots.swap(slot, value);
         self.rubbish = recount(self.rubbish, false, is) - kept;
         self.clean = clean_after(self.clean, slot, &old, intended);
+        self.used = used_with(self.used, slot);
     }
 }

@@ -1,4 +1,4 @@
-use Rattle.std.proofs.Common.{refl, sym, ap, subst, length, ◌+◌, [], ◌∷◌, Some, ◌∙◌, arith}
+use Rattle.std.proofs.Common.{refl, sym, ap, subst, length, ◌+◌, [], ◌∷◌, ◌∙◌, arith}
 use Rattle.std.proofs.lemmas.List.{length-append}
 use Rattle.std.specs.Map.{values_of}
 use Rattle.jn_sets.specs.Sets.{AreCounted}
@@ -21,7 +21,7 @@ loop-slot-preserved g c =
     record {
       loaded = loads_more _ _ _ _ c.loop-slot.invariant.loaded _ _ _ c.in_ok-value.ensures.stored c.in_ok-value.ensures.read
           (c.in_ok-insert.ensures.entries ∙ index_push c.loop-slot.index _ _ c.loop-slot.invariant.loaded.numbered c.loop-slot.invariant.loaded.length_is) (c.in_ok-value.ensures.served refl);
-      numbers = ap length c.in_ok-push.ensures.items ∙ length-append c.loop-slot.numbers.items (Some c.number_of.result ∷ []) ∙ ap (λ n. n + 1) c.loop-slot.invariant.numbers;
+      numbers = ap length c.in_ok-push.ensures.items ∙ length-append c.loop-slot.numbers.items (c.number_of.result ∷ []) ∙ ap (λ n. n + 1) c.loop-slot.invariant.numbers;
       counted = counted_more c.loop-slot.numbers.items c.loop-slot.free c.loop-slot.prepared c.loop-slot.index.entries _ c.loop-slot.slot c.in_ok-value.value c.push.new.self.items c.number_of.result c.recount-free.result c.recount-prepared.result c.is_free.result c.prepares.result
           c.loop-slot.invariant.counted c.loop-slot.invariant.loaded.length_is c.loop-slot.invariant.numbers c.number_of.ensures c.in_ok-push.ensures.items c.is_free.ensures c.recount-free.ensures c.prepares.ensures c.recount-prepared.ensures
           (c.in_ok-insert.ensures.entries ∙ index_push c.loop-slot.index _ _ c.loop-slot.invariant.loaded.numbered c.loop-slot.invariant.loaded.length_is);

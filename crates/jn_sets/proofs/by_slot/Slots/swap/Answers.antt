@@ -1,4 +1,4 @@
-use Rattle.std.proofs.Common.{◌≡◌, ◌<◌, ℕ, List, Option, Some, length, sym, ◌∙◌, ap, subst, arith}
+use Rattle.std.proofs.Common.{◌≡◌, ◌<◌, ℕ, List, Option, length, sym, ◌∙◌, ap, subst, arith}
 use Rattle.std.proofs.lemmas.List.{length-set}
 use Rattle.std.proofs.lemmas.Option.{get_or_from_slice_get}
 use Rattle.std.specs.Map.{values_of}
@@ -38,7 +38,7 @@ invariant_of-self c =
     let taken : c.replace-old.result ≡ record_in records c.args.slot = c.replace-old.ensures.value ∙ sym (get_or_from_slice_get records c.args.slot c.index_mut.result.now Free c.index_mut.ensures.value) in
     let value = c.replace-old.new.dest in
     let is : value ≡ c.args.value = c.replace-old.ensures.after in
-    let numbers : c.set.new.self ≡ slice_set c.self.inside.numbers c.args.slot (Some (number_of value)) = c.set.ensures ∙ ap (λ (n : ℕ). slice_set c.self.inside.numbers c.args.slot (Some n)) (c.number_of.ensures ∙ ap number_of (sym is)) in
+    let numbers : c.set.new.self ≡ slice_set c.self.inside.numbers c.args.slot (number_of value) = c.set.ensures ∙ ap (slice_set c.self.inside.numbers c.args.slot) (c.number_of.ensures ∙ ap number_of (sym is)) in
     let was : ones c.is_free.result ≡ ones (is_free (record_in records c.args.slot)) = ap ones (c.is_free.ensures ∙ ap is_free taken) in
     let now : ones c.is_free-is.result ≡ ones (is_free value) = ap ones (c.is_free-is.ensures ∙ ap is_free (sym is)) in
     let count = c.recount-self-inside.ensures in
@@ -48,7 +48,7 @@ invariant_of-self c =
     let values = values_set c.self.inside.index.entries c.args.slot value in
     record {
       index = index_set c.self.inside.index.entries c.args.slot value c.self.invariant.index below (ap has_page is ∙ c.requires.page);
-      slots = ap length numbers ∙ length-set c.self.inside.numbers c.args.slot (Some (number_of value)) ∙ c.self.invariant.slots ∙ sym (ap length values ∙ length-set records c.args.slot value);
+      slots = ap length numbers ∙ length-set c.self.inside.numbers c.args.slot (number_of value) ∙ c.self.invariant.slots ∙ sym (ap length values ∙ length-set records c.args.slot value);
       counted = subst (λ (l : List Record). AreCounted c.set.new.self c.recount-self-inside.result c.recount-self-inside-2.result l) (sym values)
           (subst (λ (l : List (Option ℕ)). AreCounted l c.recount-self-inside.result c.recount-self-inside-2.result (slice_set records c.args.slot value)) (sym numbers)
           (counted_set c.self.inside.numbers c.self.inside.free c.self.inside.prepared records c.self.invariant.counted value c.recount-self-inside.result c.recount-self-inside-2.result c.args.slot below c.self.invariant.slots (omega arith) (omega arith)));

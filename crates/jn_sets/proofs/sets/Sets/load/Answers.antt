@@ -6,4 +6,5 @@ invariant_of-result g c = record {
   few = c.rubbish_count-rubbish.ensures.few;
   count = c.rubbish_count-rubbish.ensures.count;
   none_below = λ k lt. absurd (omega (arith, lt));
+  used_below = λ k lt. absurd (omega (arith, lt));
 }

@@ -49,11 +49,11 @@ pub invariant_of-self : goal.invariant_of-self
 invariant_of-self g c =
     let old = c.self.inside.slots in
     let ready : is_ready (record_in old c.args.slot) ≡ true = subst (λ (l : List Record). is_ready (record_in l c.args.slot) ≡ true) (sym c.self.view_is) c.requires.ready in
-    watched_going old c.self.inside.rubbish c.self.inside.clean c.self.invariant c.args.slot (ready_within old c.args.slot ready) c.mark.new.self ready c.mark.ensures.left
+    watched_going old c.self.inside.rubbish c.self.inside.clean c.self.inside.used c.self.invariant c.args.slot (ready_within old c.args.slot ready) c.mark.new.self ready c.mark.ensures.left
 
 pub invariant_of-self-in-Err : goal.invariant_of-self-in-Err
 invariant_of-self-in-Err g c =
     let old = c.self.inside.slots in
     let ready : is_ready (record_in old c.args.slot) ≡ true = subst (λ (l : List Record). is_ready (record_in l c.args.slot) ≡ true) (sym c.self.view_is) c.requires.ready in
     let same = marked_back old c.mark.new.self c.mark-in-Err.new.self c.args.slot ready c.mark.ensures.left c.mark-in-Err.ensures.left in
-    subst (λ (l : List Record). IsWatched l c.self.inside.rubbish c.self.inside.clean) (sym same) c.self.invariant
+    subst (λ (l : List Record). IsWatched l c.self.inside.rubbish c.self.inside.clean c.self.inside.used) (sym same) c.self.invariant

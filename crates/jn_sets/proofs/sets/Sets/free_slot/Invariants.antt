@@ -1,0 +1,5 @@
+use Rattle.jn_sets.specs.Sets.{AreUsedTo}
+use Rattle.jn_sets.proofs.sets.Sets.free_slot.Given as goal
+
+abbrev pub invariant-loop-slot : goal.invariant-loop-slot
+invariant-loop-slot l = AreUsedTo l.self l.slot
