@@ -65,29 +65,25 @@ module _ (old : List Record) (v : StoreView) (slot : ℕ) (value : Record) (ok :
   pub says_old_or_new : (d : ℕ → List ℕ) → IsChoice w d → Says d old ⊎ Says d (slice_set old slot value)
   says_old_or_new d choice = ⊎_elim (λ h. inl (says_old d h)) (λ h. inr (says_new d h)) (put_leads v (page_of slot) (record_page value) ok w put (omega arith) d choice)
 
-module _ (old : List Record) (v : StoreView) (slot : ℕ) (value : Record) (w : StoreView) (p : ℕ) (page : List ℕ) (at : p ≡ page_of slot) (spelled : page ≡ record_page value)
-    (is : IsRecord value) (below : slot < length old) (there : length old < v.count) where
-  its_put : (ok : Bool) → StorePut v p page ok w → StorePut v (page_of slot) (record_page value) ok w
-  its_put ok put = subst (λ q. StorePut v q (record_page value) ok w) at (subst (λ x. StorePut v p x ok w) spelled put)
-
-  pub puts_done : (new : List Record) → StorePut v p page true w → new ≡ slice_set old slot value → Puts old v slot value true new w
+module _ (old : List Record) (v : StoreView) (slot : ℕ) (value : Record) (w : StoreView) (is : IsRecord value) (below : slot < length old) (there : length old < v.count) where
+  pub puts_done : (new : List Record) → StorePut v (page_of slot) (record_page value) true w → new ≡ slice_set old slot value → Puts old v slot value true new w
   puts_done new put e = record {
-    put = its_put true put;
+    put = put;
     done = λ _. e;
     slots = ap length e ∙ length-set old slot value;
     stopped = λ h. absurd (cc h);
-    holds = λ holds ok. subst (λ l. Holds l w) (sym e) (new_holds old v slot value true w (its_put true put) is below there holds ok);
-    old_or_new = λ holds d choice. says_old_or_new old v slot value true w (its_put true put) is below there holds d choice;
+    holds = λ holds ok. subst (λ l. Holds l w) (sym e) (new_holds old v slot value true w put is below there holds ok);
+    old_or_new = λ holds d choice. says_old_or_new old v slot value true w put is below there holds d choice;
   }
 
-  pub puts_stopped : (ok : Bool) → ok ≡ false → StorePut v p page false w → Puts old v slot value ok old w
+  pub puts_stopped : (ok : Bool) → ok ≡ false → StorePut v (page_of slot) (record_page value) false w → Puts old v slot value ok old w
   puts_stopped ok err put = subst (λ b. Puts old v slot value b old w) (sym err) (record {
-    put = its_put false put;
+    put = put;
     done = λ h. absurd (cc h);
     slots = refl;
     stopped = λ _. refl;
     holds = λ _ h. absurd (cc h);
-    old_or_new = λ holds d choice. says_old_or_new old v slot value false w (its_put false put) is below there holds d choice;
+    old_or_new = λ holds d choice. says_old_or_new old v slot value false w put is below there holds d choice;
   })
 
 -- a page of zeros is that of a free record

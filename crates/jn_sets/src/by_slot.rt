@@ -1,8 +1,8 @@
 //! The records by slot, and the slots by number.
-ghost use Rattle.std.specs.Prelude.{◌≡◌, ◌<◌, ◌+◌, ℕ, true, not, List, length, position, slice_get, slice_set, map, count_by, option_map, IfOk, IsOk, ◌^◌, ◌≢◌, Err};
+ghost use Rattle.std.specs.Prelude.{◌≡◌, ◌<◌, ◌+◌, ℕ, true, not, List, length, position, slice_get, slice_set, map, count_by, option_map, is_ok, IfOk, IsOk, ◌^◌, ◌≢◌, Err};
 ghost use Rattle.std.specs.List.{list_any};
-ghost use Rattle.jn_records.specs.Records.{has_page};
-ghost use Rattle.jn_store.specs.Store.{IsCalm, IsServed, IsStop};
+ghost use Rattle.jn_records.specs.Records.{has_page, record_page};
+ghost use Rattle.jn_store.specs.Store.{IsCalm, IsServed, IsStop, StorePut};
 ghost use Rattle.jn_sets.specs.declared.fault.LoadFault.TheVariants.{Stopped as LoadStopped};
 ghost use Rattle.jn_sets.specs.Pool as pool;
 ghost use Rattle.jn_sets.specs.Sets.{StoreRead};
@@ -13,7 +13,7 @@ use crate::find::{
 };
 use crate::numbers::record_fits;
 use indexmap::IndexMap;
-use jn_base::WorkId;
+use jn_base::{Stopped, WorkId};
 use jn_index::Index;
 use jn_records::{Record, Root};
 use jn_store::StableStore;
@@ -236,7 +236,7 @@ impl Slots {
 }
 
 /// The slot's page, behind the root.
-pub(crate) fn page_of(slot: u16) -> u32
+fn page_of(slot: u16) -> u32
     ensures { result ≡ pool.page_of slot }
 {
     u32::from(slot) + 1
@@ -258,4 +258,19 @@ fn read_slot<S: StableStore>(alloc: Global, store: &mut S, slot: u16) -> Result<
     };
     record_fits(&value);
     Ok(value)
+}
+
+/// Puts a record on the slot's page.
+pub(crate) fn write_slot<S: StableStore>(
+    store: &mut S,
+    slot: u16,
+    value: &Record,
+) -> Result<(), Stopped>
+    requires there { slot + 1 < (S.view store.old).count }
+    requires page { has_page value.now ≡ true }
+    ensures is_record { pool.IsRecord value.now }
+    ensures put { StorePut (S.view store.old) (pool.page_of slot) (record_page value.now) (is_ok result) (S.view store.new) }
+{
+    record_fits(value);
+    store.put(page_of(slot), &value.encode())
 }

@@ -9,10 +9,9 @@ ghost use Rattle.jn_sets.specs.declared.fault.SetFault.TheVariants.{Full};
 ghost use Rattle.jn_sets.specs.Pool as pool;
 ghost use Rattle.jn_sets.specs.Sets.{StoreRead, Puts, AreCleanTo, AreUsedTo};
 
-use crate::by_slot::{Slots, page_of};
+use crate::by_slot::{Slots, write_slot};
 use crate::fault::{LoadFault, SetFault};
 use crate::find::{Wanted, clean_after, intends, is_free, recount, used_with, used_without};
-use crate::numbers::record_fits;
 use jn_base::{Stopped, Tid, WorkId};
 use jn_records::{Record, Root};
 use jn_store::StableStore;
@@ -188,8 +187,7 @@ impl Sets {
         let Some(going) = self.slots.record(slot) else {
             unreachable!()
         };
-        record_fits(going);
-        match store.put(page_of(slot), &going.encode()) {
+        match write_slot(store, slot, going) {
             Ok(()) => Ok(()),
             Err(stopped) => {
                 self.slots.mark(slot, false);
@@ -296,8 +294,7 @@ impl Sets {
         requires page { has_page value ≡ true }
         ensures { Puts self.old (S.view store.old) slot value (is_ok result) self.new (S.view store.new) }
     {
-        record_fits(&value);
-        store.put(page_of(slot), &value.encode())?;
+        write_slot(store, slot, &value)?;
         self.clear(slot);
         self.fill(slot, value);
         Ok(())

@@ -6,9 +6,9 @@ use Rattle.jn_records.specs.declared.record.Record.TheVariants.{Free}
 use Rattle.jn_sets.proofs.Stored.{puts_done, puts_stopped}
 use Rattle.jn_sets.proofs.sets.Sets.put.Goals as goal
 
-pub returns-in_err-put : goal.returns-in_err-put
-returns-in_err-put g c = puts_stopped _ _ _ _ _ _ _ c.page_of.ensures c.encode.ensures (record { whole = c.requires.page; fits = c.record_fits.ensures }) c.requires.slot c.requires.there _ (search rules) c.in_err-put.ensures.put
+pub returns-in_err-write_slot : goal.returns-in_err-write_slot
+returns-in_err-write_slot g c = puts_stopped _ _ _ _ _ c.in_err-write_slot.ensures.is_record c.requires.slot c.requires.there _ (search rules) c.in_err-write_slot.ensures.put
 
 pub returns : goal.returns
-returns g c = puts_done _ _ _ _ _ _ _ c.page_of.ensures c.encode.ensures (record { whole = c.requires.page; fits = c.record_fits.ensures }) c.requires.slot c.requires.there _ c.in_ok-put.ensures.put
+returns g c = puts_done _ _ _ _ _ c.in_ok-write_slot.ensures.is_record c.requires.slot c.requires.there _ c.in_ok-write_slot.ensures.put
     (c.fill.ensures ∙ ap (λ (l : List Record). slice_set l c.args.slot c.args.value) c.clear.ensures ∙ set-set c.args.self.now c.args.slot Free c.args.value)
