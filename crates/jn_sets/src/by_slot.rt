@@ -1,6 +1,7 @@
 //! The records by slot, and the slots by number.
-ghost use Rattle.std.specs.Prelude.{◌≡◌, ◌<◌, ◌+◌, ℕ, true, not, List, length, position, slice_get, slice_set, map, count_by, option_map, is_ok, IfOk, IsOk, ◌^◌, ◌≢◌, Err};
+ghost use Rattle.std.specs.Prelude.{◌≡◌, ◌<◌, ◌+◌, ℕ, true, false, not, List, length, position, slice_get, slice_set, map, count_by, option_map, is_ok, IfOk, IsOk, ◌^◌, ◌≢◌, Err};
 ghost use Rattle.std.specs.List.{list_any};
+ghost use Rattle.jn_records.specs.declared.record.Record.TheVariants.{Free};
 ghost use Rattle.jn_records.specs.Records.{has_page, record_page};
 ghost use Rattle.jn_store.specs.Store.{IsCalm, IsServed, IsStop, StorePut};
 ghost use Rattle.jn_sets.specs.declared.fault.LoadFault.TheVariants.{Stopped as LoadStopped};
@@ -206,21 +207,32 @@ impl Slots {
         count
     }
 
-    /// Puts another record in place of the slot's, and gives that back.
-    pub(crate) fn swap(&mut self, slot: u16, value: Record) -> Record
+    /// Takes a record out of its slot, which is free then.
+    pub(crate) fn take(&mut self, slot: u16) -> Record
         requires slot { slot < length self.old }
-        requires page { has_page value ≡ true }
+        requires held { pool.is_free (pool.record_in self.old slot) ≡ false }
         ensures taken { result ≡ pool.record_in self.old slot }
-        ensures page { has_page result ≡ true }
-        ensures left { self.new ≡ slice_set self.old slot value }
+        ensures left { self.new ≡ slice_set self.old slot Free }
     {
-        let is = is_free(&value);
-        let is_one = prepares(&value);
-        self.numbers.set(slot, number_of(&value));
-        let old = mem::replace(&mut self.index[slot as usize], value);
-        self.free = recount(self.free, is_free(&old), is);
-        self.prepared = recount(self.prepared, prepares(&old), is_one);
+        self.numbers.set(slot, None);
+        let old = mem::replace(&mut self.index[slot as usize], Record::Free);
+        self.free += 1;
+        self.prepared = recount(self.prepared, prepares(&old), false);
         old
+    }
+
+    /// Puts a record into a free slot.
+    pub(crate) fn fill(&mut self, slot: u16, value: Record)
+        requires slot { slot < length self.old }
+        requires free { pool.record_in self.old slot ≡ Free }
+        requires used { pool.is_free value ≡ false }
+        requires page { has_page value ≡ true }
+        ensures { self.new ≡ slice_set self.old slot value }
+    {
+        self.numbers.set(slot, number_of(&value));
+        self.free -= 1;
+        self.prepared = recount(self.prepared, false, prepares(&value));
+        self.index[slot as usize] = value;
     }
 
     /// Makes the slot's ready or going record a going or a ready one, in its place. Its number stays.

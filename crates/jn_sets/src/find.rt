@@ -105,20 +105,21 @@ pub(crate) fn intends_for(work: WorkId, value: &Record) -> bool
     }
 }
 
-/// Below which slot no record is rubbish, where it was so below one and a slot has another record: where a prepared
-/// record went, any slot may have an intention that is rubbish now.
-pub(crate) fn clean_after(clean: u16, slot: u16, old: &Record, intends: bool) -> u16
+/// Below which slot no record is rubbish, where it was so below one and a record goes: where that prepared its work, any slot
+/// may have an intention that is rubbish now.
+pub(crate) fn clean_without(clean: u16, old: &Record) -> u16
     ensures kept { result ≤ clean }
     ensures prepared { pool.prepares old.now ≡ true → result ≡ 0 }
+{
+    if prepares(old) { 0 } else { clean }
+}
+
+/// Below which slot no record is rubbish, where it was so below one and another gets a record.
+pub(crate) fn clean_with(clean: u16, slot: u16, intends: bool) -> u16
+    ensures kept { result ≤ clean }
     ensures intention { intends ≡ true → result ≤ slot }
 {
-    if prepares(old) {
-        return 0;
-    }
-    if intends && slot < clean {
-        return slot;
-    }
-    clean
+    if intends && slot < clean { slot } else { clean }
 }
 
 /// Below which slot none is free, where it was so below one and another goes.

@@ -11,7 +11,9 @@ ghost use Rattle.jn_sets.specs.Sets.{StoreRead, Puts, AreCleanTo, AreUsedTo};
 
 use crate::by_slot::{Slots, write_slot};
 use crate::fault::{LoadFault, SetFault};
-use crate::find::{Wanted, clean_after, intends, is_free, recount, used_with, used_without};
+use crate::find::{
+    Wanted, clean_with, clean_without, intends, is_free, recount, used_with, used_without,
+};
 use jn_base::{Stopped, Tid, WorkId};
 use jn_records::{Record, Root};
 use jn_store::StableStore;
@@ -308,10 +310,10 @@ impl Sets {
         if !self.holds(slot) {
             return;
         }
-        let old = self.slots.swap(slot, Record::Free);
+        let old = self.slots.take(slot);
         let was = self.slots.is_rubbish(&old);
         self.rubbish = recount(self.rubbish + self.slots.kept_by(&old), was, false);
-        self.clean = clean_after(self.clean, slot, &old, false);
+        self.clean = clean_without(self.clean, &old);
         self.used = used_without(self.used, slot);
     }
 
@@ -328,9 +330,9 @@ impl Sets {
         let is = self.slots.is_rubbish(&value);
         let kept = self.slots.kept_by(&value);
         let intended = intends(&value);
-        let old = self.slots.swap(slot, value);
+        self.slots.fill(slot, value);
         self.rubbish = recount(self.rubbish, false, is) - kept;
-        self.clean = clean_after(self.clean, slot, &old, intended);
+        self.clean = clean_with(self.clean, slot, intended);
         self.used = used_with(self.used, slot);
     }
 }
