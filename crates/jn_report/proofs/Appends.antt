@@ -1,12 +1,10 @@
 -- Appends, one after another.
-use Rattle.std.proofs.Common.{◌≡◌, ℕ, ◌+◌, ◌<◌, List, [], ◌∷◌, ◌++◌, length, take, drop, get_or, map, ap, arith, append_assoc, ◌∙◌, sym, Result, Ok, Err, OnOk, OnErr}
+use Rattle.std.proofs.Common.{◌≡◌, ℕ, List, [], ◌∷◌, ◌++◌, length, take, drop, ap, append_assoc, ◌∙◌, sym, arith, Result, Ok, Err, OnOk, OnErr}
 use Rattle.std.proofs.lemmas.Grind.{common_steps}
-use Rattle.std.proofs.lemmas.List.{take-append-drop, map_more}
+use Rattle.std.proofs.lemmas.List.{take-append-drop}
 use Rattle.std.proofs.Math.Seq.{take-append_seam}
 use Rattle.jn_report.specs.Append.{IsKept}
 use Rattle.jn_report.specs.Text.{spaced}
-use Rattle.jn_report.specs.Spell.{spelled, spelled_words}
-use Rattle.jn_report.specs.declared.word.Word.{Word}
 
 -- two appends are one
 pub appended_twice : (old x mid y new : List ℕ) → mid ≡ old ++ x → new ≡ mid ++ y → new ≡ old ++ (x ++ y)
@@ -34,10 +32,7 @@ pub appended_last : {T E : Type 0} (r : Result T E) (old x mid y new : List ℕ)
 appended_last (Ok t) old x mid y new first second = appended_twice old x mid y new first second
 appended_last (Err e) old x mid y new first second = tt
 
-spaced-append : (ws : List (List ℕ)) (w : List ℕ) → spaced (ws ++ w ∷ []) ≡ spaced ws ++ 32 ∷ w
-spaced-append [] w = grind (arith, common_steps)
-spaced-append (v ∷ ws) w = ap (λ (l : List ℕ). (32 ∷ v) ++ l) (spaced-append ws w) ∙ sym (append_assoc (32 ∷ v) (spaced ws) (32 ∷ w))
-
--- one word more
-pub spelled_words_more : (ws : List Word) (i : ℕ) (d : Word) → i < length ws → spelled_words (take (i + 1) ws) ≡ spelled_words (take i ws) ++ 32 ∷ spelled (get_or ws i d)
-spelled_words_more ws i d within = ap spaced (map_more spelled ws i d within) ∙ spaced-append (map spelled (take i ws)) (spelled (get_or ws i d))
+-- what a client is told of a transaction
+pub appended_told : {T E : Type 0} (r : Result T E) (old client name at tid mid new : List ℕ) → mid ≡ old ++ (32 ∷ client ++ ((32 ∷ name ++ 32 ∷ []) ++ at)) → OnOk r (new ≡ mid ++ 32 ∷ tid) → OnOk r (new ≡ old ++ spaced (client ∷ name ∷ at ∷ tid ∷ []))
+appended_told (Ok t) old client name at tid mid new first second = grind (arith, common_steps)
+appended_told (Err e) old client name at tid mid new first second = tt

@@ -1,16 +1,13 @@
 //! Appends a line to the text of a report.
-ghost use Rattle.std.specs.Prelude.{◌≡◌, ◌++◌, ◌∷◌, decimal, map, OnOk, OnErr};
+ghost use Rattle.std.specs.Prelude.{◌≡◌, ◌++◌, ◌∷◌, codes, decimal, OnOk, OnErr};
+ghost use Rattle.jn_text.specs.Words.{block_word};
 ghost use Rattle.jn_report.specs.Append.{IsKept};
-ghost use Rattle.jn_report.specs.Spell.{spelled};
-ghost use Rattle.jn_report.specs.Text.{cause_words, client_word, event_refusal_word, fault_word, held_words, kind_word, refusal_words, spaced, text_of, when_word, words_of};
+ghost use Rattle.jn_report.specs.Text.{cause_words, client_word, event_refusal_word, fault_word, kind_word, refusal_words, spaced, text_of, when_word, words_of};
 
 use crate::line::{EventRefusal, Line, Refusal, Text, When};
-use crate::word::Word::{Block, Client, Name, Number, Route, Server, Transaction, Unit};
-use crate::word::{Word, push_byte, push_words};
-use jn_base::{
-    BlockNo, Cause, ClientNo, FaultKind, FileNo, LockUnit, MsgKind, Outside, Party, ServerNo, Tid,
-};
-use jn_text::push_number;
+use crate::word::{push_byte, push_held, push_name, push_number, push_route, push_tid};
+use jn_base::{BlockNo, Cause, ClientNo, FaultKind, FileNo, MsgKind, Outside, Party, ServerNo};
+use jn_text::push_hex;
 use std::alloc::AllocError;
 
 /// Appends the text of a line, with its line feed. Where there is no memory, nothing is appended.
@@ -42,8 +39,8 @@ fn push_when(out: &mut Vec<u8>, when: When) -> Result<(), AllocError>
     ensures err { OnErr result (IsKept out.old.items out.new.items) }
 {
     match when {
-        When::Event(number) => push_number(out, u64::from(number)),
-        When::End => out.extend_from_slice(b"end"),
+        When::Event(number) => push_number(out, "", number),
+        When::End => push_name(out, "end"),
     }
 }
 
@@ -54,76 +51,83 @@ fn push_text(out: &mut Vec<u8>, text: &Text) -> Result<(), AllocError>
 {
     match *text {
         Text::Up(server, epoch) => {
-            push_words(out, &[Name("up"), Server(server)])?;
-            push_words(out, &[Name("epoch"), Number(epoch)])
+            push_number(out, " up s", u32::from(server.0))?;
+            push_number(out, " epoch ", epoch)
         }
-        Text::Down(server) => push_words(out, &[Name("down"), Server(server)]),
-        Text::Stopped(server) => push_words(out, &[Name("stopped"), Server(server)]),
+        Text::Down(server) => push_number(out, " down s", u32::from(server.0)),
+        Text::Stopped(server) => push_number(out, " stopped s", u32::from(server.0)),
         Text::Outside(server, outside) => push_outside(out, server, outside),
-        Text::Ignored(message) => push_words(out, &[Name("ignored"), Number(message)]),
-        Text::Lost(message) => push_words(out, &[Name("lost"), Number(message)]),
-        Text::Commit(tid) => push_words(out, &[Name("commit"), Transaction(tid)]),
+        Text::Ignored(message) => push_number(out, " ignored ", message),
+        Text::Lost(message) => push_number(out, " lost ", message),
+        Text::Commit(tid) => push_tid(out, " commit ", tid),
         Text::Broke(server, tid, unit, by) => {
-            push_words(out, &[Name("broke"), Server(server), Transaction(tid)])?;
+            push_number(out, " broke s", u32::from(server.0))?;
+            push_tid(out, " ", tid)?;
             push_held(out, unit, by)
         }
-        Text::Begun(client, at, tid) => push_told(out, client, "begun", at, &[Transaction(tid)]),
-        Text::Opened(client, at, server) => push_told(out, client, "opened", at, &[Server(server)]),
-        Text::Did(client, at) => push_told(out, client, "did", at, &[]),
-        Text::Read(client, at, ref bytes) => push_told(out, client, "read", at, &[Block(bytes)]),
+        Text::Begun(client, at, tid) => {
+            push_told(out, client, " begun ", at)?;
+            push_tid(out, " ", tid)
+        }
+        Text::Opened(client, at, server) => {
+            push_told(out, client, " opened ", at)?;
+            push_number(out, " s", u32::from(server.0))
+        }
+        Text::Did(client, at) => push_told(out, client, " did ", at),
+        Text::Read(client, at, ref bytes) => {
+            push_told(out, client, " read ", at)?;
+            push_block(out, bytes)
+        }
         Text::Refused(client, at, refusal) => {
-            push_told(out, client, "refused", at, &[])?;
+            push_told(out, client, " refused ", at)?;
             push_refusal(out, refusal)
         }
         Text::Waiting(client, at, server, unit, tid) => {
-            push_told(out, client, "waiting", at, &[Server(server)])?;
+            push_told(out, client, " waiting ", at)?;
+            push_number(out, " s", u32::from(server.0))?;
             push_held(out, unit, tid)
         }
         Text::Committed(client, at, tid) => {
-            push_told(out, client, "committed", at, &[Transaction(tid)])
+            push_told(out, client, " committed ", at)?;
+            push_tid(out, " ", tid)
         }
         Text::Aborted(client, at, tid, cause) => {
-            push_told(out, client, "aborted", at, &[Transaction(tid)])?;
+            push_told(out, client, " aborted ", at)?;
+            push_tid(out, " ", tid)?;
             push_cause(out, cause)
         }
-        Text::RefusedEvent(refusal) => {
-            push_words(out, &[Name("refused"), Name(event_refusal_number(refusal))])
-        }
+        Text::RefusedEvent(refusal) => push_refused_event(out, refusal),
         Text::File(server, file) => {
-            push_words(out, &[Server(server), Name("file"), Number(file.0)])
+            push_number(out, " s", u32::from(server.0))?;
+            push_number(out, " file ", file.0)
         }
         Text::Page(server, file, block, ref bytes) => push_page(out, server, file, block, bytes),
         Text::Locked(server, unit, tid) => {
-            push_words(out, &[Server(server), Name("locked")])?;
+            push_number(out, " s", u32::from(server.0))?;
+            push_name(out, " locked")?;
             push_held(out, unit, tid)
         }
-        Text::Commits(count) => push_words(out, &[Name("commits"), Number(count)]),
+        Text::Commits(count) => push_number(out, " commits ", count),
         Text::Message(number, from, to, kind) => push_message(out, number, from, to, kind),
     }
 }
 
-/// Appends what a client is told: who it is, the event that gave the command, and more words.
-fn push_told(
-    out: &mut Vec<u8>,
-    client: ClientNo,
-    name: &str,
-    at: u32,
-    more: &[Word<'_>],
-) -> Result<(), AllocError>
-    ensures ok { OnOk result (out.new.items
-        ≡ out.old.items ++ spaced (client_word client ∷ name.now ∷ decimal at ∷ map spelled more.now)) }
+/// Appends what a client is told: who it is, and the event that gave the command.
+fn push_told(out: &mut Vec<u8>, client: ClientNo, name: &str, at: u32) -> Result<(), AllocError>
+    ensures ok { OnOk result (out.new.items ≡ out.old.items ++ (codes " " ++ (client_word client ++ (name.now ++ decimal at)))) }
     ensures err { OnErr result (IsKept out.old.items out.new.items) }
 {
-    push_words(out, &[Client(client), Name(name), Number(at)])?;
-    push_words(out, more)
+    push_number(out, " c", u32::from(client.0))?;
+    push_number(out, name, at)
 }
 
-/// Appends a unit, and the transaction that holds it.
-fn push_held(out: &mut Vec<u8>, unit: LockUnit, tid: Tid) -> Result<(), AllocError>
-    ensures ok { OnOk result (out.new.items ≡ out.old.items ++ spaced (held_words unit tid)) }
+/// Appends a block, with a space before it.
+fn push_block(out: &mut Vec<u8>, bytes: &[u8; 448]) -> Result<(), AllocError>
+    ensures ok { OnOk result (out.new.items ≡ out.old.items ++ (codes " " ++ block_word bytes.now)) }
     ensures err { OnErr result (IsKept out.old.items out.new.items) }
 {
-    push_words(out, &[Unit(unit), Name("by"), Transaction(tid)])
+    push_byte(out, b' ')?;
+    push_hex(out, &bytes[..])
 }
 
 /// Appends that a fault was refused.
@@ -131,11 +135,19 @@ fn push_outside(out: &mut Vec<u8>, server: ServerNo, outside: Outside) -> Result
     ensures ok { OnOk result (out.new.items ≡ out.old.items ++ spaced (words_of (Text.Outside server outside))) }
     ensures err { OnErr result (IsKept out.old.items out.new.items) }
 {
-    let fault = Name(fault_name(outside.kind));
-    push_words(
-        out,
-        &[Name("outside"), Server(server), fault, Number(outside.page)],
-    )
+    push_number(out, " outside s", u32::from(server.0))?;
+    push_name(out, " ")?;
+    push_name(out, fault_name(outside.kind))?;
+    push_number(out, " ", outside.page)
+}
+
+/// Appends that an event was refused.
+fn push_refused_event(out: &mut Vec<u8>, refusal: EventRefusal) -> Result<(), AllocError>
+    ensures ok { OnOk result (out.new.items ≡ out.old.items ++ spaced (words_of (Text.RefusedEvent refusal))) }
+    ensures err { OnErr result (IsKept out.old.items out.new.items) }
+{
+    push_name(out, " refused ")?;
+    push_name(out, event_refusal_number(refusal))
 }
 
 /// Appends a block that a server holds.
@@ -149,8 +161,10 @@ fn push_page(
     ensures ok { OnOk result (out.new.items ≡ out.old.items ++ spaced (words_of (Text.Page server file block bytes.now))) }
     ensures err { OnErr result (IsKept out.old.items out.new.items) }
 {
-    push_words(out, &[Server(server), Name("page"), Number(file.0)])?;
-    push_words(out, &[Number(u32::from(block.0)), Block(bytes)])
+    push_number(out, " s", u32::from(server.0))?;
+    push_number(out, " page ", file.0)?;
+    push_number(out, " ", u32::from(block.0))?;
+    push_block(out, bytes)
 }
 
 /// Appends that a message was sent.
@@ -164,11 +178,10 @@ fn push_message(
     ensures ok { OnOk result (out.new.items ≡ out.old.items ++ spaced (words_of (Text.Message number from to kind))) }
     ensures err { OnErr result (IsKept out.old.items out.new.items) }
 {
-    let route = Route(from, to);
-    push_words(
-        out,
-        &[Name("msg"), Number(number), route, Name(kind_name(kind))],
-    )
+    push_number(out, " msg ", number)?;
+    push_route(out, from, to)?;
+    push_name(out, " ")?;
+    push_name(out, kind_name(kind))
 }
 
 /// Appends the number of a refusal, and what it says of it.
@@ -177,28 +190,31 @@ fn push_refusal(out: &mut Vec<u8>, refusal: Refusal) -> Result<(), AllocError>
     ensures err { OnErr result (IsKept out.old.items out.new.items) }
 {
     match refusal {
-        Refusal::ClientBusy => push_words(out, &[Name("1")]),
-        Refusal::NoTransaction => push_words(out, &[Name("2")]),
-        Refusal::HasTransaction => push_words(out, &[Name("3")]),
-        Refusal::NotOpen => push_words(out, &[Name("4")]),
-        Refusal::AlreadyOpen => push_words(out, &[Name("5")]),
-        Refusal::NoSuchServer => push_words(out, &[Name("6")]),
-        Refusal::NoFile => push_words(out, &[Name("11")]),
-        Refusal::Exists => push_words(out, &[Name("12")]),
+        Refusal::ClientBusy => push_name(out, " 1"),
+        Refusal::NoTransaction => push_name(out, " 2"),
+        Refusal::HasTransaction => push_name(out, " 3"),
+        Refusal::NotOpen => push_name(out, " 4"),
+        Refusal::AlreadyOpen => push_name(out, " 5"),
+        Refusal::NoSuchServer => push_name(out, " 6"),
+        Refusal::NoFile => push_name(out, " 11"),
+        Refusal::Exists => push_name(out, " 12"),
         Refusal::Locked(unit, tid) => {
-            push_words(out, &[Name("13")])?;
+            push_name(out, " 13")?;
             push_held(out, unit, tid)
         }
-        Refusal::TooManyReads => push_words(out, &[Name("14")]),
-        Refusal::TooManyWrites => push_words(out, &[Name("15")]),
+        Refusal::TooManyReads => push_name(out, " 14"),
+        Refusal::TooManyWrites => push_name(out, " 15"),
         Refusal::Broken(unit, tid) => {
-            push_words(out, &[Name("16")])?;
+            push_name(out, " 16")?;
             push_held(out, unit, tid)
         }
-        Refusal::Lost(then, now) => { push_words(out, &[Name("17"), Number(then), Number(now)]) }
-        Refusal::Closing => push_words(out, &[Name("18")]),
-        Refusal::TooManyTransactions => push_words(out, &[Name("21")]),
-        Refusal::TooManyWorks => push_words(out, &[Name("22")]),
+        Refusal::Lost(then, now) => {
+            push_number(out, " 17 ", then)?;
+            push_number(out, " ", now)
+        }
+        Refusal::Closing => push_name(out, " 18"),
+        Refusal::TooManyTransactions => push_name(out, " 21"),
+        Refusal::TooManyWorks => push_name(out, " 22"),
     }
 }
 
@@ -208,16 +224,17 @@ fn push_cause(out: &mut Vec<u8>, cause: Cause) -> Result<(), AllocError>
     ensures err { OnErr result (IsKept out.old.items out.new.items) }
 {
     match cause {
-        Cause::Requested => push_words(out, &[Name("requested")]),
+        Cause::Requested => push_name(out, " requested"),
         Cause::Broken(server, unit, tid) => {
-            push_words(out, &[Name("broken"), Server(server)])?;
+            push_number(out, " broken s", u32::from(server.0))?;
             push_held(out, unit, tid)
         }
-        Cause::Lost(server) => push_words(out, &[Name("lost"), Server(server)]),
+        Cause::Lost(server) => push_number(out, " lost s", u32::from(server.0)),
         Cause::Full(server, refusal, free, need) => {
-            let refusal = Number(u32::from(refusal));
-            push_words(out, &[Name("full"), Server(server), refusal])?;
-            push_words(out, &[Number(free), Number(need)])
+            push_number(out, " full s", u32::from(server.0))?;
+            push_number(out, " ", u32::from(refusal))?;
+            push_number(out, " ", free)?;
+            push_number(out, " ", need)
         }
     }
 }
