@@ -10,6 +10,10 @@ use Rattle.jn_report.specs.Text.{spaced}
 pub appended_twice : (old x mid y new : List ℕ) → mid ≡ old ++ x → new ≡ mid ++ y → new ≡ old ++ (x ++ y)
 appended_twice old x mid y new first second = second ∙ ap (λ (l : List ℕ). l ++ y) first ∙ append_assoc old x y
 
+-- the same, where the two are the parts of a text
+pub appended_whole : (old x mid y new whole : List ℕ) → whole ≡ x ++ y → mid ≡ old ++ x → new ≡ mid ++ y → new ≡ old ++ whole
+appended_whole old x mid y new whole parts first second = appended_twice old x mid y new first second ∙ ap (λ (l : List ℕ). old ++ l) (sym parts)
+
 -- what is kept of more is kept of what it began with
 pub IsKept-after : (old text mid new : List ℕ) → mid ≡ old ++ text → IsKept mid new → IsKept old new
 IsKept-after old text mid new appended kept =

@@ -1,6 +1,10 @@
--- What an append that runs out of memory leaves.
-use Rattle.std.specs.Prelude.{◌≡◌, ℕ, List, length, take}
+-- What is appended to a text, and what an append that runs out of memory leaves.
+use Rattle.std.specs.Prelude.{◌≡◌, ◌+◌, ◌/◌, ◌%◌, ℕ, List, [], ◌∷◌, length, take}
 
 -- what was there is still there, at the front
 abbrev pub IsKept : List ℕ → List ℕ → Type 0
 IsKept old new = take (length old) new ≡ old
+
+-- the last two digits of a number
+abbrev pub two_digits : ℕ → List ℕ
+two_digits n = (48 + n / 10 % 10) ∷ (48 + n % 10) ∷ []

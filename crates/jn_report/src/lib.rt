@@ -1,6 +1,7 @@
 //! Reports: what is printed of a run, line by line.
 #![tactic(auto)]
 
+mod digits;
 mod line;
 mod word;
 mod write;

@@ -3,6 +3,7 @@ ghost use Rattle.std.specs.Prelude.{◌≡◌, ◌++◌, ◌∷◌, [], codes, d
 ghost use Rattle.jn_report.specs.Append.{IsKept};
 ghost use Rattle.jn_report.specs.Text.{held_words, party_word, spaced, tid_word, unit_word};
 
+use crate::digits::push_digits;
 use jn_base::{LockUnit, Party, Tid};
 use std::alloc::AllocError;
 
@@ -29,7 +30,7 @@ pub(crate) fn push_number(out: &mut Vec<u8>, before: &str, number: u32) -> Resul
     ensures err { OnErr result (IsKept out.old.items out.new.items) }
 {
     push_name(out, before)?;
-    jn_text::push_number(out, u64::from(number))
+    push_digits(out, number)
 }
 
 /// Appends a text, and the name of a transaction.

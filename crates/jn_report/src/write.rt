@@ -4,6 +4,7 @@ ghost use Rattle.jn_text.specs.Words.{block_word};
 ghost use Rattle.jn_report.specs.Append.{IsKept};
 ghost use Rattle.jn_report.specs.Text.{cause_words, client_word, event_refusal_word, fault_word, kind_word, refusal_words, spaced, text_of, when_word, words_of};
 
+use crate::digits::push_digits;
 use crate::line::{EventRefusal, Line, Refusal, Text, When};
 use crate::word::{push_byte, push_held, push_name, push_number, push_route, push_tid};
 use jn_base::{BlockNo, Cause, ClientNo, FaultKind, FileNo, MsgKind, Outside, Party, ServerNo};
@@ -39,7 +40,7 @@ fn push_when(out: &mut Vec<u8>, when: When) -> Result<(), AllocError>
     ensures err { OnErr result (IsKept out.old.items out.new.items) }
 {
     match when {
-        When::Event(number) => push_number(out, "", number),
+        When::Event(number) => push_digits(out, number),
         When::End => push_name(out, "end"),
     }
 }
