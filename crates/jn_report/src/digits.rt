@@ -5,7 +5,22 @@ ghost use Rattle.jn_report.specs.Append.{two_digits};
 use std::alloc::AllocError;
 
 /// Appends a number, with no leading zero.
+#[inline(always)]
+#[tactic(auto, using(crate::proofs::Decimals::one))]
 pub(crate) fn push_digits(out: &mut Vec<u8>, n: u32) -> Result<(), AllocError>
+    ensures ok { OnOk result (out.new.items ≡ out.old.items ++ decimal n) }
+    ensures err { OnErr result (out.new.items ≡ out.old.items) }
+{
+    if n < 10 {
+        out.push(b'0' + n as u8)?;
+        return Ok(());
+    }
+    push_more(out, n)
+}
+
+/// The same, where it may have several digits.
+#[inline(never)]
+fn push_more(out: &mut Vec<u8>, n: u32) -> Result<(), AllocError>
     ensures ok { OnOk result (out.new.items ≡ out.old.items ++ decimal n) }
     ensures err { OnErr result (out.new.items ≡ out.old.items) }
 {

@@ -16,7 +16,8 @@ pub(crate) fn push_byte(out: &mut Vec<u8>, byte: u8) -> Result<(), AllocError>
     Ok(())
 }
 
-/// Appends a text.
+/// Appends a text. As it is inlined, a text that is known is copied by a few moves.
+#[inline(always)]
 pub(crate) fn push_name(out: &mut Vec<u8>, name: &str) -> Result<(), AllocError>
     ensures ok { OnOk result (out.new.items ≡ out.old.items ++ name.now) }
     ensures err { OnErr result (IsKept out.old.items out.new.items) }
@@ -25,6 +26,7 @@ pub(crate) fn push_name(out: &mut Vec<u8>, name: &str) -> Result<(), AllocError>
 }
 
 /// Appends a text, and a number behind it.
+#[inline(always)]
 pub(crate) fn push_number(out: &mut Vec<u8>, before: &str, number: u32) -> Result<(), AllocError>
     ensures ok { OnOk result (out.new.items ≡ out.old.items ++ (before.now ++ decimal number)) }
     ensures err { OnErr result (IsKept out.old.items out.new.items) }

@@ -114,6 +114,7 @@ fn push_text(out: &mut Vec<u8>, text: &Text) -> Result<(), AllocError>
 }
 
 /// Appends what a client is told: who it is, and the event that gave the command.
+#[inline(always)]
 fn push_told(out: &mut Vec<u8>, client: ClientNo, name: &str, at: u32) -> Result<(), AllocError>
     ensures ok { OnOk result (out.new.items ≡ out.old.items ++ (codes " " ++ (client_word client ++ (name.now ++ decimal at)))) }
     ensures err { OnErr result (IsKept out.old.items out.new.items) }
