@@ -22,11 +22,6 @@ IsKept-after old text mid new appended kept =
     appended_twice old text mid rest new appended (sym (take-append-drop (length mid) new) ∙ ap (λ (l : List ℕ). l ++ rest) kept) in
     ap (take (length old)) whole ∙ take-append_seam old (text ++ rest)
 
--- the same, where it is known at an error alone
-pub IsKept-on_err : {T E : Type 0} (r : Result T E) (old text mid new : List ℕ) → mid ≡ old ++ text → OnErr r (IsKept mid new) → OnErr r (IsKept old new)
-IsKept-on_err (Ok x) old text mid new appended kept = tt
-IsKept-on_err (Err e) old text mid new appended kept = IsKept-after old text mid new appended kept
-
 pub OnErr-always : {T E : Type 0} (r : Result T E) (P : Type 0) → P → OnErr r P
 OnErr-always (Ok x) P holds = tt
 OnErr-always (Err e) P holds = holds

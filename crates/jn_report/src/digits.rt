@@ -18,7 +18,7 @@ pub(crate) fn push_digits(out: &mut Vec<u8>, n: u32) -> Result<(), AllocError>
     push_more(out, n)
 }
 
-/// The same, where it may have several digits.
+/// The same, apart, so that what is inlined stays small.
 #[inline(never)]
 fn push_more(out: &mut Vec<u8>, n: u32) -> Result<(), AllocError>
     ensures ok { OnOk result (out.new.items ≡ out.old.items ++ decimal n) }
@@ -46,6 +46,7 @@ fn put_number(out: &mut Vec<u8>, n: u32)
     }
 }
 
+/// A number of at most four digits, where there is room for them.
 fn put_thousands(out: &mut Vec<u8>, n: u32)
     requires small { n < 10000 }
     requires room { vec_len out.old + 4 ≤ vec_capacity out.old }
@@ -61,6 +62,7 @@ fn put_thousands(out: &mut Vec<u8>, n: u32)
     }
 }
 
+/// A number of at most two.
 #[tactic(auto, using(crate::proofs::Decimals::one, crate::proofs::Decimals::two))]
 fn put_tens(out: &mut Vec<u8>, n: u32)
     requires small { n < 100 }

@@ -16,7 +16,7 @@ pub(crate) fn push_byte(out: &mut Vec<u8>, byte: u8) -> Result<(), AllocError>
     Ok(())
 }
 
-/// Appends a text. As it is inlined, a text that is known is copied by a few moves.
+/// Appends a text. It is inlined, so that a text that is known is copied by a few moves.
 #[inline(always)]
 pub(crate) fn push_name(out: &mut Vec<u8>, name: &str) -> Result<(), AllocError>
     ensures ok { OnOk result (out.new.items ≡ out.old.items ++ name.now) }
