@@ -139,11 +139,11 @@ module _ (r : World) (w v : Machine) (mirrors : Mirrors r w) (facts : Facts r w)
 -- ---- an End
 
 -- its work at a server
-abbrev work_in : Option OpenWork → Option WorkId
+abbrev pub work_in : Option OpenWork → Option WorkId
 work_in None = None
 work_in (Some x) = Some x.work
 
-abbrev parts_of : List OpenWork → ServerNo → Option WorkId
+abbrev pub parts_of : List OpenWork → ServerNo → Option WorkId
 parts_of works s = work_in (work_at s works)
 
 none-work : (W : WorkId) → None ≡ Some W → ⊥
@@ -329,6 +329,15 @@ module _ (r : World) (w : Machine) (mirrors : Mirrors r w) (facts : Facts r w) (
         by (inl p) = subst (λ (z : Tid). w.begun z ≡ true) p.0 current.0
         by (inr p) = facts.begun U p.1
 
+    pub end-may : MayRun (Ends T (parts_of t.works) ∷ []) w
+    end-may = may
+
+    pub end-mirrors : Mirrors (commanded c (Sends u (Server T.server) message) r) (end_it T (parts_of t.works) w)
+    end-mirrors = ended-mirrors
+
+    pub end-facts : Facts (commanded c (Sends u (Server T.server) message) r) (end_it T (parts_of t.works) w)
+    end-facts = client-keeps r _ w v facts c u refl refl (quiet-more r.sent (Server T.server, message) refl) own others drawn begun-still
+
     own-table : IsOther c c → at_client r.clients c u c ≡ u
     own-table (inl p) = ap (λ (b : Bool). if b then u else r.clients c) p.0
     own-table (inr p) = absurd (p.1 refl)
@@ -350,7 +359,7 @@ module _ (r : World) (w : Machine) (mirrors : Mirrors r w) (facts : Facts r w) (
       atoms = atoms;
       may = may;
       mirrors = ended-mirrors;
-      facts = client-keeps r _ w v facts c u refl refl (quiet-more r.sent (Server T.server, message) refl) own others drawn begun-still;
+      facts = end-facts;
       ends = λ U e. ends-now U (at_tid_cases w.ended T true U true e);
     }
 

@@ -37,7 +37,7 @@ use Rattle.jn_system_order.proofs.Mirroring.StepMoves.{step-moves}
 use Rattle.jn_system_order.proofs.Ordering.Facts.{Facts}
 use Rattle.jn_system_order.proofs.Ordering.Runs.{step-facts}
 use Rattle.jn_system_order.proofs.Ordering.ServerFacts.{still-facts}
-use Rattle.jn_system_reports.proofs.Telling.Ends.{parts_of, end-may, end-mirrors, end-facts}
+use Rattle.jn_system_order.proofs.Ordering.ClientSteps.{parts_of, end-may, end-mirrors, end-facts}
 use Rattle.jn_system_reports.specs.BetweenSteps.Parts.{WasEnded}
 
 -- ---- what was sent stays sent

@@ -20,7 +20,7 @@ use Rattle.jn_rows.specs.declared.coordinator.Transaction.{Transaction}
 use Rattle.jn_rows.specs.declared.coordinator.Stage.{Stage}
 use Rattle.jn_rows.specs.declared.coordinator.Stage.TheVariants.{Open, Voting, Committed, Aborted}
 use Rattle.jn_rows.specs.declared.coordinator.Voting.{Voting as Ballot}
-use Rattle.jn_rows.specs.Stable.{StableState, FlagState, Pick, Change, AddReady, MarkGoing, CarryOut, RemoveWork, AddFlag, DropFlag, made_by, made_all, stable, is_going}
+use Rattle.jn_rows.specs.Stable.{StableState, FlagState, Pick, Change, AddFlag, DropFlag, made_all, stable, is_going}
 use Rattle.jn_rows.specs.Outcomes.{RowOutcome}
 use Rattle.jn_base.specs.declared.names.Tickets.{Tickets}
 use Rattle.jn_records.specs.declared.intention.Intention.{Intention}

@@ -55,7 +55,8 @@ use Rattle.jn_system_reports.proofs.Telling.OpSteps.{Serves, still-serves, moved
 use Rattle.jn_system_reports.proofs.Telling.Clients.{no-client-talks, dismiss-talks}
 use Rattle.jn_system_reports.proofs.Telling.ClientTells.{tell-talks, again-talks}
 use Rattle.jn_system_reports.proofs.Telling.ClientTakes.{take-talks}
-use Rattle.jn_system_reports.proofs.Telling.Ends.{parts_of, end-may, end-mirrors, end-facts, end-talks}
+use Rattle.jn_system_order.proofs.Ordering.ClientSteps.{parts_of, end-may, end-mirrors, end-facts}
+use Rattle.jn_system_reports.proofs.Telling.Ends.{end-talks}
 
 -- a client is told in the event of its command
 abbrev pub TellsAs : List Event → Step → World → Type 0
