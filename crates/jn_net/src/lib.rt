@@ -15,7 +15,7 @@ use std::mem;
 /// How many messages a network carries.
 pub const MESSAGE_LIMIT: u32 = 1_000_000;
 
-/// A message that was sent, and whether it was ever delivered. It takes 72 bytes beside what it carries.
+/// A message that was sent, and whether it was ever delivered. It takes at most 72 bytes beside what it carries.
 #[derive(Drop)]
 pub struct Sent {
     pub from: Party,

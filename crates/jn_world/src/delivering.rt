@@ -72,7 +72,8 @@ impl<S: Powered + Drop> World<S> {
         if !self.is_up(server) {
             return self.lose(server, k, when, lines);
         }
-        self.take_at_up(server, k, when, lines)
+        let out = self.net.lend_room(self.alloc);
+        self.take_at_up(out, server, k, when, lines)
     }
 
     /// A message for a server that isn't up is lost.
@@ -97,29 +98,8 @@ impl<S: Powered + Drop> World<S> {
         Ok(())
     }
 
-    /// A server that is up takes a message.
+    /// A server that is up takes a message, with the room for what it sends and tells.
     fn take_at_up(
-        &mut self,
-        server: ServerNo,
-        k: u32,
-        when: When,
-        lines: &mut Vec<Line>,
-    ) -> Result<(), Ended>
-        requires world { IsWorld (λ s. S.view s) self.old }
-        requires sent { k < length self.old.net.sent }
-        requires to { IsSentTo (AServer server) (slice_get self.old.net.sent k) }
-        requires up { is_up_at server.0 self.old.places.items ≡ true }
-        ensures world { OnOk result (IsWorld (λ s. S.view s) self.new) }
-        ensures calm { OnOk result (StayUp (λ s. S.view s) self.old.places.items self.new.places.items) }
-        ensures does { DoesEvent (λ s. S.view s) (λ s. S.device s) (events.Deliver k) when (standing_of self.old) result (standing_of self.new) lines.old.items lines.new.items }
-        ensures hands { OnOk result (handed self.new.net.sent ≡ handed (with_delivered k self.old.net.sent)) }
-    {
-        let out = self.net.lend_room(self.alloc);
-        self.take_into(out, server, k, when, lines)
-    }
-
-    /// The same, with the room for what the server sends and tells.
-    fn take_into(
         &mut self,
         out: Out,
         server: ServerNo,
