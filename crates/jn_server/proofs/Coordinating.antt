@@ -19,7 +19,7 @@ use Rattle.jn_storage.specs.Storage.{Accounts, StorageView}
 use Rattle.jn_storage.specs.Calls.{state}
 use Rattle.jn_storage.specs.Listing.{is_in}
 use Rattle.jn_store.proofs.Laws.{calm_on}
-use Rattle.jn_worker.specs.Calls.{left_by}
+use Rattle.jn_worker.specs.Leaving.{left_by, left_over}
 use Rattle.jn_worker.specs.Fitting.{WorkFits, WorkListFits}
 use Rattle.jn_coord.specs.Remembered.{Remembered}
 use Rattle.jn_coord.specs.Calls.{IsDone as CoordinatorDone, IsStopped as CoordinatorStopped, Does as CoordinatorDoes}
@@ -33,7 +33,7 @@ use Rattle.jn_system.proofs.WholeSystem.WorkerChanges.{DrawsOne}
 use Rattle.jn_server.specs.declared.fault.ServerFault.{ServerFault}
 use Rattle.jn_server.specs.Faults.{of_coordinator as fault_of}
 use Rattle.jn_server.specs.Seen.{ServerView, memory_of, IsServer}
-use Rattle.jn_server.specs.Handling.{IsDone, IsStopped, Does, LeavesRubbish, left_over}
+use Rattle.jn_server.specs.Handling.{IsDone, IsStopped, Does, LeavesRubbish}
 
 -- changes of flags leave the files
 flags-files : (changes : List Change) (x : StableState) → are_of_flags changes ≡ true → (made_all changes x).files ≡ x.files

@@ -27,7 +27,8 @@ use Rattle.jn_server.specs.declared.fault.ServerFault.{ServerFault}
 use Rattle.jn_server.specs.Faults.{of_worker as fault_of}
 use Rattle.jn_server.specs.Seen.{ServerView, memory_of, IsServer}
 use Rattle.jn_server.specs.Ranges.{AreInRange}
-use Rattle.jn_server.specs.Handling.{IsDone, IsStopped, Does, LeavesRubbish, left_over}
+use Rattle.jn_server.specs.Handling.{IsDone, IsStopped, Does, LeavesRubbish}
+use Rattle.jn_worker.specs.Leaving.{left_over}
 
 -- a later ticket comes after the same names
 pub later-name : (xs : List Transaction) (k l : Tickets) → DrawsOne k l → are_before xs (name_from k) ≡ true → are_before xs (name_from l) ≡ true

@@ -1,25 +1,20 @@
 -- What a call of a server does whose row this is.
-use Rattle.std.specs.Prelude.{◌≡◌, ◌≤◌, ◌+◌, ℕ, Bool, true, false, ⊤, List, [], ◌∷◌, length, Option, Some, None, is_some, Result, Ok, Err, is_ok}
+use Rattle.std.specs.Prelude.{◌≡◌, ◌≤◌, ◌+◌, ℕ, Bool, true, false, ⊤, [], ◌∷◌, length, Option, Some, None, is_some, Result, Ok, Err, is_ok}
 use Rattle.jn_base.specs.declared.names.Tid.{Tid}
 use Rattle.jn_msgs.specs.Collected.{Collected}
 use Rattle.jn_rows.specs.Outcomes.{RowOutcome}
 use Rattle.jn_rows.specs.Worker.{timeout_row}
-use Rattle.jn_rows.specs.Stable.{StableState, Change, Pick, IsStopState, made_all}
+use Rattle.jn_rows.specs.Stable.{Change, Pick, IsStopState, made_all}
 use Rattle.jn_storage.specs.Storage.{StorageLater}
 use Rattle.jn_storage.specs.Calls.{state, CountsErased}
 use Rattle.jn_store.specs.Store.{IsCalm, IsStop}
 use Rattle.jn_transactions.specs.Telling.{added}
-use Rattle.jn_worker.specs.Calls.{left_by}
+use Rattle.jn_worker.specs.Leaving.{left_over}
 use Rattle.jn_system.specs.WholeSystem.World.{Memory}
 use Rattle.jn_system.specs.WholeSystem.Servers.{server_timeout}
 use Rattle.jn_server.specs.declared.fault.ServerFault.{ServerFault}
 use Rattle.jn_server.specs.declared.fault.ServerFault.TheVariants.{Stopped, Memory as NoMemory}
 use Rattle.jn_server.specs.Seen.{ServerView, memory_of, IsServer}
-
--- how many records these changes leave as rubbish
-abbrev pub left_over : StableState → List Change → ℕ
-left_over x [] = 0
-left_over x (c ∷ cs) = left_by x c + left_over x cs
 
 -- nothing but a work that is removed leaves rubbish
 abbrev pub LeavesRubbish : ServerView → RowOutcome Memory → ServerView → Type 0

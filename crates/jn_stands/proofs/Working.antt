@@ -43,7 +43,8 @@ use Rattle.jn_records.specs.declared.intention.Intention.{Intention}
 use Rattle.jn_rows.specs.declared.worker.Work.{Work as WorkEntry}
 use Rattle.jn_rows.specs.Worker.{going_work, going_row, carried_row, intentions_of}
 use Rattle.jn_base.specs.Names.{server_eq}
-use Rattle.jn_server.specs.Handling.{left_over, StepLeaves}
+use Rattle.jn_server.specs.Handling.{StepLeaves}
+use Rattle.jn_worker.specs.Leaving.{left_over}
 
 -- a server has a background step exactly where a work of its goes or a rubbish record is left
 busy-is : (a : Memory) (y : StableState) (its : Room) → is_some (server_step a y its) ≡ (has_going y (Some a) || its.rubbish)

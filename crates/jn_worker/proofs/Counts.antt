@@ -18,7 +18,8 @@ use Rattle.jn_storage.specs.Listing.{is_in}
 use Rattle.jn_storage.specs.Storage.{Accounts, StorageView, intentions, list_of}
 use Rattle.jn_storage.specs.Calls.{state, with_work, CountsOn, CountsOff, CountsErased}
 use Rattle.jn_worker.specs.Fitting.{is_none, WorkerView, Fits, WorkFits, PhaseFits}
-use Rattle.jn_worker.specs.Calls.{CountsBy, left_by}
+use Rattle.jn_worker.specs.Calls.{CountsBy}
+use Rattle.jn_worker.specs.Leaving.{left_by}
 
 pub filled : {c : Change} {cs : List Change} → c ∷ cs ≡ [] → ⊥
 filled e = cc e

@@ -29,10 +29,11 @@ use Rattle.jn_rows.specs.Outcomes.{RowOutcome, Sent, Performs}
 use Rattle.jn_rows.specs.Stable.{Change, RemoveWork, StableState, next_after}
 use Rattle.jn_rows.specs.Worker.{WorkerTable, worker_again, timeout_row, with_phase, after_grant, break_notes, commit_wants, conflict, locked, counted, done, wants_of, is_fit, refusal_of as refusal_of_row}
 use Rattle.jn_storage.specs.Listing.{is_in}
-use Rattle.jn_storage.specs.Storage.{Accounts, StorageView, list_of}
+use Rattle.jn_storage.specs.Storage.{Accounts, StorageView}
 use Rattle.jn_storage.specs.Calls.{state, Called, CountsErased}
 use Rattle.jn_worker.specs.declared.words.WorkerFault.{WorkerFault}
 use Rattle.jn_worker.specs.declared.words.WorkerFault.TheVariants.{Stopped, Memory}
+use Rattle.jn_worker.specs.Leaving.{left_by}
 use Rattle.jn_worker.specs.Fitting.{WorkerView, Fits, TicketsFit}
 
 abbrev pub has_stopped : {A : Type 0} → Result A WorkerFault → Bool
@@ -49,11 +50,6 @@ abbrev pub is_removed : WorkId → List Change → Bool
 is_removed n [] = false
 is_removed n (RemoveWork W ∷ changes) = work_eq W n || is_removed n changes
 is_removed n (c ∷ changes) = is_removed n changes
-
--- how many records a change leaves as rubbish: those of a removed work's intentions
-abbrev pub left_by : StableState → Change → ℕ
-left_by x (RemoveWork W) = length (list_of x W)
-left_by x c = 0
 
 -- What a row's changes leave of the accounts: the promises for flags stand, it is counted which intentions are carried
 -- out, and only a work that is removed leaves rubbish. A row has one change at most; where it has none, the rubbish is as

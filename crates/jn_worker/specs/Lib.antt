@@ -1,4 +1,5 @@
 pub mod Fitting
+pub mod Leaving
 pub mod Calls
 pub mod Reading
 pub mod Handling

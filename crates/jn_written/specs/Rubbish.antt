@@ -14,7 +14,7 @@ use Rattle.jn_records.specs.declared.record.Record.{Record}
 use Rattle.jn_records.specs.StablePages.{Counts, Pages}
 use Rattle.jn_rows.specs.Outcomes.{RowOutcome, Sent}
 use Rattle.jn_rows.specs.Stable.{StableState, Change, stable}
-use Rattle.jn_server.specs.Handling.{left_over}
+use Rattle.jn_worker.specs.Leaving.{left_over}
 use Rattle.jn_server.specs.Standing.{standing_pages, is_free_head}
 use Rattle.jn_sets.specs.Pool.{free_count, rubbish_count}
 use Rattle.jn_storage.specs.Listing.{IsListing, total}

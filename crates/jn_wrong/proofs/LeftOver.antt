@@ -10,7 +10,7 @@ use Rattle.jn_base.specs.Names.{server_eq}
 use Rattle.jn_msgs.specs.declared.message.Message.{Message}
 use Rattle.jn_rows.specs.Outcomes.{RowOutcome, Sent}
 use Rattle.jn_rows.specs.Stable.{StableState, Change, AddReady, MarkGoing, CarryOut, RemoveWork, AddFlag, DropFlag, Pick, stable}
-use Rattle.jn_server.specs.Handling.{left_over}
+use Rattle.jn_worker.specs.Leaving.{left_over}
 use Rattle.jn_system.specs.WholeSystem.Servers.{Room, server_row, server_step}
 use Rattle.jn_system.specs.WholeSystem.Steps.{Step, Deliver, Work, Restart}
 use Rattle.jn_system.specs.WholeSystem.World.{World, Memory}
