@@ -125,19 +125,3 @@ module _ (s : DeviceState) (p n : ℕ) (t : DeviceState) (l : Looking s p n t) (
   compared_again Same step bad = absurd (cc bad)
   compared_again Other step bad = absurd (cc bad)
   compared_again FoundBad step bad = look_again s p n t l _ u step refl
-
-pub look_end : (s : DeviceState) (p n : ℕ) (t : DeviceState) → Looking s p n t → n ≡ 4 → (t.pages p).fails ≤ 3 → CarefulGot s p (Ok None) t
-look_end s p n t l four few = record {
-  later = l.later;
-  calls = omega (arith, l.calls);
-  puts = l.puts;
-  struck = λ q _. l.struck q;
-  own = l.struck p;
-  bytes = l.bytes;
-  good = λ w is. absurd (cc is);
-  bad = λ _. ⊎_elim (λ h. h) (λ h. absurd (omega (arith, h))) l.tried;
-  half = λ _ apart g b. let now = l.half apart g b in ⊎_elim (λ bad. cc (now.0, bad)) (λ h. omega (arith, h)) l.tried;
-  served = λ a is. record { power = l.power (omega arith); stops = l.stops };
-  stopped = λ w is. absurd (cc is);
-  calm = λ q on w is. cc is;
-}

@@ -280,9 +280,6 @@ none-left : (c : Option ClientNo) (xs : List Transaction) (n : ℕ) → length x
 none-left c [] n h = refl
 none-left c (x ∷ xs) n h = absurd (omega (arith, h))
 
-pub closed-all : (c : Option ClientNo) (r s : Remembered) (u v : StorageView) (i n : ℕ) → ClosesOn c r u s v → length s.transactions + i ≤ n → n ≤ i → ClosesOn c r u s v × (next_closing c s.transactions ≡ None)
-closed-all c r s u v i n f few end = (f, none-left c s.transactions i (omega (arith, few, end)))
-
 -- where s is the table before the step
 pub step-on : (c : Option ClientNo) (r s t : Remembered) (u v w : StorageView) (a : Result Bool CoordFault) (b : Bool) → ClosesOn c r u s v → ClosesNext c s v a t w → a ≡ Ok b → b ≡ true → ClosesOn c r u t w × (length t.transactions + 1 ≤ length s.transactions)
 step-on c r s t u v w a b f g e go = let h = subst (λ d. ClosesNext c s v (Ok d) t w) go (subst (λ d. ClosesNext c s v d t w) e g) in (closes-more c r s t u v w f h.0, h.1)

@@ -66,13 +66,6 @@ may-put r v T y client request works fits found undecided few = record {
   given = fits.given T (ap is_some found);
 }
 
-pub has_flag : (spare : ℕ) (r : Remembered) (v : StorageView) (T : Tid) (works : List WorkId) → FitsWith spare r v → works_in (committed_at T r.transactions) ≡ Some works → HasFlag v T
-has_flag spare r v T works fits e = sym (told-some ((state v).flags T)) ∙ ap is_some (fits.flags T) ∙ some (committed_at T r.transactions) e
-  where
-    some : (o : Option (ClientNo × List WorkId)) → works_in o ≡ Some works → is_some o ≡ true
-    some None f = absurd (cc f)
-    some (Some told) f = refl
-
 pub has_flag_at : (r : Remembered) (v : StorageView) (T : Tid) (y : Transaction) → FitsWith 0 r v → transaction_at T r.transactions ≡ Some y → is_committed y.stage ≡ true → HasFlag v T
 has_flag_at r v T y fits found e = sym (told-some ((state v).flags T)) ∙ ap is_some (fits.flags T ∙ committed-found T r.transactions y found) ∙ some y.stage e
   where

@@ -6,9 +6,6 @@ use Rattle.jn_device.specs.declared.Armed.{Armed}
 use Rattle.jn_device.specs.Device.{DeviceState, bumped, Rose}
 use Rattle.jn_device.specs.Later.{Later, Spends, Struck, touches}
 
-pub rose_bumped : (n : ℕ) → Rose n (bumped n)
-rose_bumped n = grind (arith, nat_tests)
-
 -- what rose since a moment rose since an earlier one
 pub rose_since : (a b c : ℕ) → a ≤ b → b ≤ c → Rose b c → Rose a c
 rose_since a b c ab bc r = grind (arith, nat_tests)

@@ -25,31 +25,6 @@ use Rattle.jn_records.specs.StablePages.{Counts, page_count, slot_place, head_pl
 use Rattle.jn_store.specs.Pairs.{pairs_view}
 use Rattle.jn_store.specs.Store.{StoreView, StorePut, IsBlank, IsOnly}
 
--- a disk of zeros is a store of zeros
-pub blank_store : (n : ℕ) (s : DeviceState) → IsBlankDisk (2 * n) s → IsNew s → IsBlank n (pairs_view s)
-blank_store n s blank new = record {
-  count_is = half;
-  pages = λ i lt. record { first = first i lt; second = second i lt };
-  whole = λ i lt. record { both = rw (blank.good i (omega (arith, lt)), good i lt) refl; clean = first i lt ∙ sym (second i lt) };
-  calm = record { quiet = new.waiting; power = new.power };
-  told = new.told;
-  calls = new.calls;
-  puts = new.puts;
-  stops = new.stops;
-}
-  where
-    half : s.count / 2 ≡ n
-    half = omega (arith, blank.count_is)
-
-    first : (i : _) → i < n → (s.pages i).bytes ≡ blank_page
-    first i lt = blank.bytes i (omega (arith, lt))
-
-    second : (i : _) → i < n → (s.pages (i + s.count / 2)).bytes ≡ blank_page
-    second i lt = subst (λ h. (s.pages (i + h)).bytes ≡ blank_page) (sym half) (blank.bytes (i + n) (omega (arith, lt)))
-
-    good : (i : _) → i < n → (s.pages (i + s.count / 2)).good ≡ true
-    good i lt = subst (λ h. (s.pages (i + h)).good ≡ true) (sym half) (blank.good (i + n) (omega (arith, lt)))
-
 -- ---- the page of zeros
 
 blank_record : blank_page ≡ record_page Free

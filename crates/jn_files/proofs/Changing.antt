@@ -18,10 +18,6 @@ use Rattle.jn_files.proofs.Lookup.{when_true, when_false, none_has, addresses_at
 use Rattle.jn_files.proofs.Cutting.{cut_kept, cut_gone}
 use Rattle.jn_files.proofs.Standing.{head_at_slot, head_off_slot}
 
-file_of_unit : LockUnit → FileNo
-file_of_unit (File f) = f
-file_of_unit (Block f p) = f
-
 file_is : (h f : FileNo) → h.0 ≡ f.0 → h ≡ f
 file_is h f e = ap (λ (n : ℕ). let x : FileNo = record { 0 = n } in x) e
 

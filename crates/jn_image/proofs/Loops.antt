@@ -12,9 +12,6 @@ next count i lt = omega (arith, lt)
 pub fewer : (count i : ℕ) (rest : List ℕ) → i < count → 513 * (count - i) ≤ length rest → 513 * (count - (i + 1)) ≤ length (drop 513 rest)
 fewer count i rest lt enough = omega (arith, lt, enough, length-drop 513 rest)
 
-pub first_is_there : (count i : ℕ) (rest : List ℕ) → i < count → 513 * (count - i) ≤ length rest → 513 ≤ length rest
-first_is_there count i rest lt enough = omega (arith, lt, enough)
-
 module _ (count i : ℕ) (rest : List ℕ) (total : Bool) (lt : i < count) (so_far : statuses_fit (count - i) rest ≡ total) where
   pub status_over : 1 < get_or rest 0 0 → false ≡ total
   status_over over =

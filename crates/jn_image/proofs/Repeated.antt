@@ -134,14 +134,6 @@ module _ (xs : List (Option ℕ)) (n : ℕ) (old new : BTreeSet ℕ) (least : Op
       least_is = again xs n x s.0 here s.1 s.2 least noted.least_is;
     }
 
--- before the first place nothing is noted
-pub nothing_noted : (xs : List (Option ℕ)) (seen : BTreeSet ℕ) → ((a : ℕ) → contains nat_cmp seen a ≡ false) → AreNoted xs 0 seen None
-nothing_noted xs seen empty = record {
-  kept = λ k a below at. absurd (omega (arith, below));
-  stands = λ a has. absurd (false≢true (sym (empty a) ∙ has));
-  least_is = λ a i j below beneath at too. absurd (omega (arith, below));
-}
-
 -- and behind the last all are
 pub all_noted : (xs : List (Option ℕ)) (n : ℕ) (seen : BTreeSet ℕ) (least : Option ℕ) → length xs ≤ n → AreNoted xs n seen least → Finds (StandsOnce xs) least
 all_noted xs n seen least long noted = by least noted.least_is

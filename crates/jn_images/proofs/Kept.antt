@@ -82,17 +82,6 @@ saves-one name g q d m own bytes kept faults answer kept' faults' sound counts p
     by other failed true same = let is = (bytes_eq-Decides other own).0 same in subst (λ (n : List ℕ). kept_at kept' n ≡ kept_at kept n) (sym is) (s.unsaved failed)
     by other failed false differs = s.others other (λ same. true≢false (sym ((bytes_eq-Decides other own).1 same) ∙ differs))
 
--- where nothing was saved
-pub saves-nothing : (name : List ℕ) (g : Counts) (q : ServerNo) (d : DeviceState) (kept : Option Contents) (faults : ℕ) (answer : Result (Unit {0}) KeepFailure) → is_ok answer ≡ false → (answer ≡ Err CallFailed → ⊥) → SavesOne name g q d kept faults answer kept faults
-saves-nothing name g q d kept faults answer failed memory = record {
-  count = omega arith;
-  told = refl;
-  saved = λ ok. absurd (true≢false (sym ok ∙ failed));
-  unsaved = λ no other. refl;
-  others = λ other differs. refl;
-  rose = λ is. absurd (memory is);
-}
-
 -- ---- one save after another
 
 -- what stands at a place

@@ -10,11 +10,6 @@ use Rattle.jn_images.specs.Kept.{Has, found_at, image_name}
 some-is : (a b : Option (List ℕ)) → Some a ≡ Some b → a ≡ b
 some-is a b h = cc
 
--- what a load found is what the name held
-pub has-found : (kept : Option Contents) (name : List ℕ) (content : Option (List ℕ)) → (is_some kept ≡ true → kept_at kept name ≡ Some content) → Has kept name content
-has-found None name content h = tt
-has-found (Some holds) name content h = some-is (holds name) content (h refl)
-
 pub one-more : (kept : Option Contents) (name : List ℕ) (xs : List (Option (Vec ℕ Global))) (x : Option (Vec ℕ Global)) (k : ℕ) → length xs ≡ k → ((n : ℕ) → n < k → Has kept (image_name name n) (found_at xs n)) → Has kept (image_name name k) (found_bytes x)
     → (n : ℕ) → n < k + 1 → Has kept (image_name name n) (found_at (xs ++ x ∷ []) n)
 one-more kept name xs x k count all last n lt = by (nat_lt n k) refl

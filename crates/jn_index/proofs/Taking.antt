@@ -15,12 +15,6 @@ pair_at pairs i = slice_index_or pairs i (0, 0)
 
 -- ---- the pairs, in another order, and slot by slot
 
-pub other_order : (numbers : List (Option ℕ)) (pairs others : List (ℕ × ℕ)) → IsPermutation pairs others → AreOf numbers pairs → AreOf numbers others
-other_order numbers pairs others moved are = record {
-  right = All-permutation (λ (p : ℕ × ℕ). number_at numbers p.1 ≡ Some p.0) pairs others moved are.right;
-  all = λ slot number e. Contains-permutation pairs others (number, slot) moved (are.all slot number e);
-}
-
 -- those of the first slots
 pub record AreOfFirst (numbers : List (Option ℕ)) (slots : ℕ) (pairs : List (ℕ × ℕ)) : Type 0 where
   pub right : All (λ (p : ℕ × ℕ). number_at numbers p.1 ≡ Some p.0) pairs

@@ -50,9 +50,6 @@ next_seen heads files same after (Some f) is = record {
 pub next_of : (m : Memory) (v : StoreView) → IsKept m v → IsServing (view_of m v) → (after r : Option FileNo) → NextHead m.table.heads after r → NextFile (state (view_of m v)).files after r
 next_of m v kept serving after r is = next_seen m.table.heads (state (view_of m v)).files (there_seen m v kept serving) after r is
 
-pub fits_seen : (m : Memory) (v : StoreView) → IsKept m v → IsServing (view_of m v) → Fits m.table v
-fits_seen m v kept serving = sym (kept_now m v kept serving).standing.held.count
-
 pub holds_seen : (m : Memory) (v : StoreView) → IsKept m v → IsServing (view_of m v) → Holds m.table v
 holds_seen m v kept serving = let now = kept_now m v kept serving in holds m.server m.table.counts v m.epoch m.records m.table.heads now.standing now.table.heads
 

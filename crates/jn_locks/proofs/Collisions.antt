@@ -77,9 +77,6 @@ clashes_of m Read ms h k = grind arith
 clashes_of m IntentionWrite ms h k = grind arith
 clashes_of m Commit ms h k = grind arith
 
-clashes_has : (m : Mode) (ms : Modes) → clashes m ms ≡ true → some_mode (λ n. has ms n && not (together m n)) ≡ true
-clashes_has m ms h = h
-
 -- the works that hold the unit in a mode that does not go with the wanted one
 abbrev in_way_at : WorkId → Want → List Holder → WorkId → Bool
 in_way_at W w hs V = not (work_eq V W) && some_mode (λ n. holds_in hs V n && not (together w.mode n))

@@ -102,15 +102,6 @@ rebuilt_compatible t W wants t' had fits h A B ne u m n p q = both (work_tells W
     both (inr a) (inr b) x y =
         had A B ne u m n (subst (λ (z : Bool). (if z then (holds t W u m || wants u m) else holds t A u m) ≡ true) a.0 x) (subst (λ (z : Bool). (if z then (holds t W u n || wants u n) else holds t B u n) ≡ true) b.0 y)
 
-pub released_compatible : (t : Table) (W : WorkId) (t' : Table) → IsCompatible t → Releases t W t' → IsCompatible t'
-released_compatible t W t' had h A B ne u m n p q = had A B ne u m n (theirs A m (sym (h.locks A u m) ∙ p)) (theirs B n (sym (h.locks B u n) ∙ q))
-  where
-    theirs : (V : WorkId) (n : Mode) → (if work_eq W V then false else holds t V u n) ≡ true → holds t V u n ≡ true
-    theirs V n h = grind arith
-
-pub exposed_compatible : (t : Table) (W : WorkId) (t' : Table) → IsCompatible t → Exposes t W t' → IsCompatible t'
-exposed_compatible t W t' had h A B ne u m n p q = had A B ne u m n (sym (h.locks A u m) ∙ p) (sym (h.locks B u n) ∙ q)
-
 -- what a grant keeps, a refusal keeps too
 pub compatible_after : {T E : Type 0} (r : Result T E) (P : T → Type 0) (t t' : Table) → IsCompatible t → ((v : T) → P v → IsCompatible t') → IfOk r P → OnErr r (t' ≡ t) → IsCompatible t'
 compatible_after (Ok v) P t t' had gives h k = gives v h

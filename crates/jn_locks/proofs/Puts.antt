@@ -16,11 +16,6 @@ use Rattle.jn_locks.proofs.Orders.{unit_tells}
 use Rattle.jn_locks.proofs.Collisions.{unit_same, work_same}
 use Rattle.jn_locks.proofs.Holding.{holds_in-with_holder, is_among-with_holder, each_once-with_holder}
 
-pub has-with_mode : (ms : Modes) (n m : Mode) → has (with_mode ms n) m ≡ (has ms m || mode_eq n m)
-has-with_mode ms n Read = refl
-has-with_mode ms n IntentionWrite = refl
-has-with_mode ms n Commit = refl
-
 pub is_unit-append : (us : List LockUnit) (v u : LockUnit) → is_unit (us ++ v ∷ []) u ≡ (unit_eq v u || is_unit us u)
 is_unit-append [] v u = refl
 is_unit-append (x ∷ xs) v u = by (unit_eq x u) (is_unit xs u) (unit_eq v u) (is_unit (xs ++ v ∷ []) u) (is_unit-append xs v u)

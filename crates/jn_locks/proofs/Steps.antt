@@ -36,16 +36,6 @@ wanted_later ws i d u h k = ap (λ (xs : List Want). is_wanted_unit xs u) (drop-
 pub wanted_here : (ws : List Want) (i : ℕ) (d : Want) → i < length ws → is_wanted_unit (drop i ws) (get_or ws i d).unit ≡ true
 wanted_here ws i d h = ap (λ (xs : List Want). is_wanted_unit xs (get_or ws i d).unit) (drop-cons ws i d h) ∙ grind (arith, unit_same (get_or ws i d).unit)
 
--- room was made at one unit more
-pub room_more : (ws : List Want) (i : ℕ) (d : Want) (u : LockUnit) (old new : LockUnit → Bool) → i < length ws → ((v : LockUnit) → old v ≡ true → new v ≡ true) → new (get_or ws i d).unit ≡ true
-    → (old u || is_wanted_unit (drop i ws) u) ≡ true → (new u || is_wanted_unit (drop (i + 1) ws) u) ≡ true
-room_more ws i d u old new h kept here k = by (unit_tells (get_or ws i d).unit u) (sym (ap (λ (xs : List Want). old u || is_wanted_unit xs u) (drop-cons ws i d h)) ∙ k)
-  where
-    by : (((unit_eq (get_or ws i d).unit u ≡ true) × ((get_or ws i d).unit ≡ u)) ⊎ ((unit_eq (get_or ws i d).unit u ≡ false) × ((get_or ws i d).unit ≢ u)))
-        → (old u || (unit_eq (get_or ws i d).unit u || is_wanted_unit (drop (suc i) ws) u)) ≡ true → (new u || is_wanted_unit (drop (i + 1) ws) u) ≡ true
-    by (inl p) j = grind (arith, sym (ap new p.1) ∙ here)
-    by (inr p) j = rw add-one (grind (arith, p.0, j, kept u))
-
 -- what a work holds once the wants that are left are for commit
 abbrev pub turned_in : (WorkId → LockUnit → Mode → Bool) → WorkId → List Want → WorkId → LockUnit → Mode → Bool
 turned_in holds W ws V u m = if work_eq W V && is_wanted_unit ws u then committed (holds W) u m else holds V u m

@@ -24,8 +24,5 @@ nothing-then a = fun_ext (λ u. at u)
     at : (u : LockUnit) → and_then nothing a u ≡ a u
     at u = grind arith
 
-pub then-nothing : (a : Change) → and_then a nothing ≡ a
-then-nothing a = fun_ext (λ u. refl)
-
 pub change-nothing : (files : Files) → change nothing files ≡ files
 change-nothing files = fun_ext (λ u. refl)

@@ -31,6 +31,3 @@ files_after-not_did op files h = cond-false (is_did (answer_to op files)) (chang
 
 pub files_after-did : (op : Op) (files : Files) → is_did (answer_to op files) ≡ true → files_after op files ≡ change (effect op) files
 files_after-did op files h = cond-true (is_did (answer_to op files)) (change (effect op) files) files h
-
-pub all_files_after-same : (s : ServerNo) (op : Op) (a b : AllFiles) → ((q : ServerNo) (u : LockUnit) → a q u ≡ b q u) → (q : ServerNo) (u : LockUnit) → all_files_after s op a q u ≡ all_files_after s op b q u
-all_files_after-same s op a b same q u = ap (λ (f : AllFiles). all_files_after s op f q u) (same_files a b same)

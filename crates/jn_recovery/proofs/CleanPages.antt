@@ -8,20 +8,6 @@ use Rattle.jn_store.specs.Store.{StoreView, StoreCleaned, IsClean, IsSamePage, I
 use Rattle.jn_store.proofs.Laws.{later_refl, later_trans, same_refl, same_trans}
 use Rattle.jn_recovery.specs.Cleaning.{Cleans}
 
-pub cleans_none : (v : StoreView) (n : ℕ) → Cleans v n n v
-cleans_none v n = record {
-  order = omega arith;
-  later = later_refl v;
-  calls = omega arith;
-  fewer = fewer_refl v;
-  clean = λ i low lt. absurd (omega (arith, low, lt));
-  whole = λ calm i low lt. absurd (omega (arith, low, lt));
-  others = λ i lt out. same_refl v i;
-  stops = refl;
-  power = λ power. power;
-  powered = λ lt. absurd (omega (arith, lt));
-}
-
 module _ (u v : StoreView) (from n : ℕ) (to : Cleans u from n v) (below : n < u.count) where
   below_now : n < v.count
   below_now = subst (λ k. n < k) (sym to.later.count) below

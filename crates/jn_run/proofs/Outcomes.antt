@@ -46,18 +46,6 @@ use Rattle.jn_run.specs.Outcome.{LeavesFiles, Accepted, AreKept, IsRefusedImage,
 use Rattle.jn_run.specs.Running.{course_of, AreLeft, RunsFrom, TookWhole}
 use Rattle.jn_run.proofs.Opened.{Opened, get-below, one-files, some-at}
 
--- words that are refused
-pub words-outcome : (o : Outside) (status : Status) → RefusesWords o.taken o.write_faults status o.taken' o.write_faults' → o.kept' ≡ o.kept → OutcomeOf None o status
-words-outcome o statuses.Words took stays = (refl, took, stays)
-words-outcome o statuses.Write wrote stays = (wrote.0, OfWords refl wrote.1, stays)
-words-outcome o statuses.Done h stays = absurd h
-words-outcome o statuses.Schedule h stays = absurd h
-words-outcome o statuses.Image h stays = absurd h
-words-outcome o statuses.Read h stays = absurd h
-words-outcome o statuses.Keep h stays = absurd h
-words-outcome o statuses.Limit h stays = absurd h
-words-outcome o statuses.Memory h stays = absurd h
-
 -- no memory for the words
 pub memory-outcome : (asked : Option Command) (o : Outside) → o.taken' ≡ o.taken → IsUntouched o → OutcomeOf asked o statuses.Memory
 memory-outcome None o nothing same = inl (nothing, same.kept)

@@ -37,12 +37,6 @@ server_alone_again [] s spells = absurd spells
 server_alone_again (a ∷ []) s spells = rw (server_again a s spells.0) refl
 server_alone_again (a ∷ b ∷ ws) s spells = absurd spells.1
 
-pub page_alone_again : (ws : List (List ℕ)) (g : ℕ) → SpellsParts (page_part g ∷ []) ws → page_alone ws ≡ Ok g
-unfolding page_alone
-page_alone_again [] g spells = absurd spells
-page_alone_again (a ∷ []) g spells = rw (page_again a g spells.0) refl
-page_alone_again (a ∷ b ∷ ws) g spells = absurd spells.1
-
 pub message_alone_again : (ws : List (List ℕ)) (k : ℕ) → SpellsParts (grammar.Number 0 999999 k ∷ []) ws → message_alone ws ≡ Ok k
 unfolding message_alone
 message_alone_again [] k spells = absurd spells

@@ -68,16 +68,6 @@ server_alone_told (a ∷ []) = go (server_of a) (server_told a)
     go (Err f) h = inr h
 server_alone_told (a ∷ b ∷ ws) = wrong_count (server_place ∷ []) (a ∷ b ∷ ws) (λ e. omega arith)
 
-pub page_alone_told : (ws : List (List ℕ)) → ToldArgs (page_place ∷ []) (λ (g : ℕ). page_part g ∷ []) ws (page_alone ws)
-unfolding page_alone
-page_alone_told [] = refl
-page_alone_told (a ∷ []) = go (page_of a) (page_told a)
-  where
-    go : (r : Result ℕ LineFault) → Told page_place (λ (g : ℕ). page_part g) a r → ToldArgs (page_place ∷ []) (λ (g : ℕ). page_part g ∷ []) (a ∷ []) (r)
-    go (Ok x) h = (h, tt)
-    go (Err f) h = inr h
-page_alone_told (a ∷ b ∷ ws) = wrong_count (page_place ∷ []) (a ∷ b ∷ ws) (λ e. omega arith)
-
 pub message_alone_told : (ws : List (List ℕ)) → ToldArgs (places.Number 0 999999 ∷ []) (λ (k : ℕ). grammar.Number 0 999999 k ∷ []) ws (message_alone ws)
 unfolding message_alone
 message_alone_told [] = refl

@@ -11,11 +11,6 @@ pub lacks-append : (byte : ℕ) (xs ys : List ℕ) → lacks byte xs ≡ true �
 lacks-append byte [] ys front back = back
 lacks-append byte (x ∷ xs) ys front back = grind (arith, nat_tests, lacks-append byte xs ys)
 
--- what is behind a byte of the kind
-pub lacks-not : (byte : ℕ) (xs ys : List ℕ) → lacks byte (xs ++ byte ∷ ys) ≡ true → ⊥
-lacks-not byte [] ys h = grind (arith, nat_tests)
-lacks-not byte (x ∷ xs) ys h = grind (arith, nat_tests, lacks-not byte xs ys)
-
 pub lacks-next : (byte : ℕ) (xs : List ℕ) (i : ℕ) → i < length xs → lacks byte (take i xs) ≡ true → get_or xs i 0 ≢ byte → lacks byte (take (i + 1) xs) ≡ true
 lacks-next byte xs i within before other = grind (arith, nat_tests, common_steps, lacks-append byte (take i xs) (get_or xs i 0 ∷ []))
 

@@ -3,9 +3,6 @@ use Rattle.std.proofs.Common.{◌≡◌, true, Ok, Err, Option, Some, None, Resu
 use Rattle.std.proofs.lemmas.Bool.{false≢true}
 use Rattle.jn_schedule.specs.Reading.{Reads}
 
-pub ok_not_err : {T E : Type 0} (r : Result T E) (x : T) → r ≡ Ok x → true ≡ is_err r → ⊥
-ok_not_err r x ok err = cc (err ∙ ap is_err ok)
-
 -- what holds of an `Ok`
 pub on_ok : {T E P : Type 0} (r : Result T E) → true ≡ is_ok r → OnOk r P → P
 on_ok (Ok x) ok h = h

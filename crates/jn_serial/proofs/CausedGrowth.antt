@@ -85,10 +85,6 @@ CausedFrom-append es before (l ∷ xs) ys h k = (h.0, CausedFrom-append es (befo
 pub Caused-lines : (es : List Event) (ls ms : List Line) → Caused es ls → CausedFrom es ls ms → Caused es (ls ++ ms)
 Caused-lines es ls ms h k = CausedFrom-append es [] ls ms h k
 
--- one more event, with its lines
-pub Caused-more : (es : List Event) (e : Event) (ls ms : List Line) → Caused es ls → CausedFrom (es ++ e ∷ []) ls ms → Caused (es ++ e ∷ []) (ls ++ ms)
-Caused-more es e ls ms h k = Caused-lines (es ++ e ∷ []) ls ms (Caused-events es (e ∷ []) ls h) k
-
 -- a line that needs no cause
 abbrev pub needs_cause : Text → Bool
 needs_cause (says.Aborted c j t cause) = true
@@ -157,75 +153,3 @@ pub record AbortStands (es : List Event) (ls : List Line) (c : ClientNo) (t : Ti
   pub event : event_at es number ≡ Some (Command c Abort)
   pub earlier : number < high
   pub in_it : is_in c t number ls ≡ true
-
-is_in-later : (c : ClientNo) (t : Tid) (number low high : ℕ) (ls ms : List Line) → AreWithin low high ms → number ≤ low → is_in c t number (ls ++ ms) ≡ is_in c t number ls
-is_in-later c t number low high ls ms within h =
-    ap (λ (m : List Line). is_tid (last_begun c m) t)
-    (lines_before-append (AtEvent number) ls ms ∙ ap (λ (m : List Line). lines_before (AtEvent number) ls ++ m) (lines_before-later low high number ms within h) ∙ append-nil (lines_before (AtEvent number) ls))
-
-pub AbortStands-here : (es : List Event) (ls : List Line) (c : ClientNo) (t : Tid) → AreWithin 0 (suc (length es)) ls → last_begun c ls ≡ Some t → AbortStands (es ++ Command c Abort ∷ []) ls c t (suc (suc (length es)))
-AbortStands-here es ls c t within last = record {
-  number = suc (length es);
-  event = event_at-next es [] (Command c Abort);
-  earlier = omega arith;
-  in_it = ap (λ (m : List Line). is_tid (last_begun c m) t) (lines_before-whole 0 (suc (length es)) ls within) ∙ ap (λ (o : Option Tid). is_tid o t) last ∙ grind (arith, tid_tells t t);
-}
-
-pub AbortStands-more : (es fs : List Event) (ls ms : List Line) (c : ClientNo) (t : Tid) (high low top higher : ℕ) → AbortStands es ls c t high → high ≤ length es + 1 → AreWithin low top ms → high ≤ suc low → high ≤ higher → AbortStands (es ++ fs) (ls ++ ms) c t higher
-AbortStands-more es fs ls ms c t high low top higher a within_events within above wider = record {
-  number = a.number;
-  event = event_at-front es fs a.number (omega (arith, a.earlier)) ∙ a.event;
-  earlier = omega (arith, a.earlier);
-  in_it = is_in-later c t a.number low top ls ms within (omega (arith, a.earlier)) ∙ a.in_it;
-}
-
-any_event-at : (test : ℕ → Event → Bool) (n k : ℕ) (es : List Event) (e : Event) → event_at es (suc k) ≡ Some e → test (n + k) e ≡ true → any_event test n es ≡ true
-any_event-at test n k [] e h g = cc
-any_event-at test n zero (d ∷ es) e h g =
-    let first : test n d ≡ true = subst (λ (x : Event). test n x ≡ true) (sym (same_Some d e h)) (subst (λ (m : ℕ). test m e ≡ true) (plus_none n) g) in
-    rw first refl
-  where
-    plus_none : (n : ℕ) → n + 0 ≡ n
-    plus_none n = omega arith
-any_event-at test n (suc k) (d ∷ es) e h g =
-    let rest = any_event-at test (n + 1) k es e h (subst (λ (m : ℕ). test m e ≡ true) (shift n k) g) in
-    elim (cases_Bool (test n d)) [ inl b ↦ rw b refl | inr b ↦ rw b rest ]
-  where
-    shift : (a b : ℕ) → a + suc b ≡ (a + 1) + b
-    shift a b = omega arith
-
--- an abort that its client asked for
-pub CausedFrom-requested : (es : List Event) (before : List Line) (i j : ℕ) (c : ClientNo) (t : Tid) → AbortStands es before c t i → CausedFrom es before (record { when = AtEvent i; text = says.Aborted c j t causes.Requested } ∷ [])
-CausedFrom-requested es before i j c t a = (found a.number a.event a.earlier a.in_it, tt)
-  where
-    line : Line
-    line = record { when = AtEvent i; text = says.Aborted c j t causes.Requested }
-
-    test : ℕ → Event → Bool
-    test number e = is_before (AtEvent number) (AtEvent i) && aborts c t (before ++ line ∷ []) number e
-
-    passes : (number : ℕ) → number < i → is_in c t number before ≡ true → test number (Command c Abort) ≡ true
-    passes number earlier in_it =
-        let same = is_in-later c t number i (suc i) before (line ∷ []) ((≤-self i, <-self i), tt) (omega (arith, earlier)) ∙ in_it in
-        rw same (grind (arith, nat_tests, client_tells c c))
-      where
-        ≤-self : (n : ℕ) → n ≤ n
-        ≤-self n = omega arith
-
-        <-self : (n : ℕ) → n < suc n
-        <-self n = omega arith
-
-    found : (number : ℕ) → event_at es number ≡ Some (Command c Abort) → number < i → is_in c t number before ≡ true → is_caused es (before ++ line ∷ []) (AtEvent i) (says.Aborted c j t causes.Requested) ≡ true
-    found zero event earlier in_it = absurd (none es event)
-      where
-        none : (es : List Event) → event_at es zero ≡ Some (Command c Abort) → ⊥
-        none [] h = cc
-        none (e ∷ es) h = cc
-    found (suc k) event earlier in_it = any_event-at test 1 k es (Command c Abort) event (subst (λ (n : ℕ). test n (Command c Abort) ≡ true) (one_more k) (passes (suc k) earlier in_it))
-      where
-        one_more : (n : ℕ) → suc n ≡ 1 + n
-        one_more n = omega arith
-
--- an abort for want of room
-pub CausedFrom-full : (es : List Event) (before : List Line) (w : When) (j : ℕ) (c : ClientNo) (t : Tid) (s : ServerNo) (refusal free need : ℕ) → free < need → CausedFrom es before (record { when = w; text = says.Aborted c j t (causes.Full s refusal free need) } ∷ [])
-CausedFrom-full es before w j c t s refusal free need h = (grind (arith, nat_tests), tt)

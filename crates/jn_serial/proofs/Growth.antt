@@ -99,44 +99,8 @@ follows-more out number (d ∷ es) e ls old new = (
     shift : (a b : ℕ) → a + suc b ≡ (a + 1) + b
     shift a b = omega arith
 
-pub outstanding-more : (out : Outstanding) (number : ℕ) (es : List Event) (e : Event) (ls : List Line)
-    → outstanding_after out number (es ++ e ∷ []) ls ≡ after_one (outstanding_after out number es ls) (number + length es) e (lines_at (AtEvent (number + length es)) ls)
-outstanding-more out number [] e ls = ap (λ n. after_one out n e (lines_at (AtEvent n) ls)) (plus_none number)
-  where
-    plus_none : (n : ℕ) → n ≡ n + 0
-    plus_none n = omega arith
-outstanding-more out number (d ∷ es) e ls = outstanding-more (after_one out number d (lines_at (AtEvent number) ls)) (number + 1) es e ls ∙ ap (λ n. after_one (outstanding_after out number (d ∷ es) ls) n e (lines_at (AtEvent n) ls)) (shift number (length es))
-  where
-    shift : (a b : ℕ) → (a + 1) + b ≡ a + suc b
-    shift a b = omega arith
-
 -- only the lines at events are seen
 pub follows-same : (out : Outstanding) (number : ℕ) (es : List Event) (ls ms : List Line) → ((i : ℕ) → lines_at (AtEvent i) ms ≡ lines_at (AtEvent i) ls) → FollowsFrom out number es ls → FollowsFrom out number es ms
 follows-same out number [] ls ms same h = tt
 follows-same out number (e ∷ es) ls ms same h =
     subst (λ l. FollowsEvent out number e l × FollowsFrom (after_one out number e l) (number + 1) es ms) (sym (same number)) (h.0, follows-same (after_one out number e (lines_at (AtEvent number) ls)) (number + 1) es ls ms same h.1)
-
--- later lines are not seen
-pub follows-earlier : (out : Outstanding) (number : ℕ) (es : List Event) (ls ms : List Line) (high : ℕ)
-    → AreWithin (number + length es) high ms → FollowsFrom out number es ls → FollowsFrom out number es (ls ++ ms)
-follows-earlier out number [] ls ms high within h = tt
-follows-earlier out number (e ∷ es) ls ms high within h =
-    let same = lines_at-earlier (number + suc (length es)) high number ls ms within (omega arith) in (
-      subst (λ (m : List Line). FollowsEvent out number e m) (sym same) h.0,
-      subst (λ (m : List Line). FollowsFrom (after_one out number e m) (number + 1) es (ls ++ ms)) (sym same)
-          (follows-earlier (after_one out number e (lines_at (AtEvent number) ls)) (number + 1) es ls ms high (subst (λ n. AreWithin n high ms) (shift number (length es)) within) h.1),
-    )
-  where
-    shift : (a b : ℕ) → a + suc b ≡ (a + 1) + b
-    shift a b = omega arith
-
-pub outstanding-earlier : (out : Outstanding) (number : ℕ) (es : List Event) (ls ms : List Line) (high : ℕ)
-    → AreWithin (number + length es) high ms → outstanding_after out number es (ls ++ ms) ≡ outstanding_after out number es ls
-outstanding-earlier out number [] ls ms high within = refl
-outstanding-earlier out number (e ∷ es) ls ms high within =
-    let same = lines_at-earlier (number + suc (length es)) high number ls ms within (omega arith) in
-    ap (λ (m : List Line). outstanding_after (after_one out number e m) (number + 1) es (ls ++ ms)) same
-    ∙ outstanding-earlier (after_one out number e (lines_at (AtEvent number) ls)) (number + 1) es ls ms high (subst (λ n. AreWithin n high ms) (shift number (length es)) within)
-  where
-    shift : (a b : ℕ) → a + suc b ≡ (a + 1) + b
-    shift a b = omega arith

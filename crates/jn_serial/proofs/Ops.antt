@@ -98,12 +98,3 @@ AgreesFrom-by_ops files es ls fs ms (t ∷ ts) h a = (
   subst (λ (ps : List Performed). GivesAnswers files ps) (sym h.0) a.0,
   AgreesFrom-by_ops (files_then (ops_of fs ms t) files) es ls fs ms ts h.1 (subst (λ (ps : List Performed). AgreesFrom (files_then ps files) es ls ts) (sym h.0) a.1),
 )
-
--- one more commit
-pub AgreesFrom-more : (files : AllFiles) (es : List Event) (ls : List Line) (ts : List Tid) (t : Tid) → AgreesFrom files es ls ts → GivesAnswers (replay files es ls ts) (ops_of es ls t) → AgreesFrom files es ls (ts ++ t ∷ [])
-AgreesFrom-more files es ls [] t a g = (g, tt)
-AgreesFrom-more files es ls (u ∷ ts) t a g = (a.0, AgreesFrom-more (files_then (ops_of es ls u) files) es ls ts t a.1 g)
-
-pub replay-more : (files : AllFiles) (es : List Event) (ls : List Line) (ts : List Tid) (t : Tid) → replay files es ls (ts ++ t ∷ []) ≡ files_then (ops_of es ls t) (replay files es ls ts)
-replay-more files es ls [] t = refl
-replay-more files es ls (u ∷ ts) t = replay-more (files_then (ops_of es ls u) files) es ls ts t

@@ -24,34 +24,10 @@ use Rattle.jn_serial.specs.Told.{NamesBefore, NamesNone}
 pub replay-same : (events : List Event) (lines : List Line) (ts : List Tid) (a b : AllFiles) → AreSame a b → AreSame (replay a events lines ts) (replay b events lines ts)
 replay-same events lines ts a b same = AreSame-from_equal (replay a events lines ts) (replay b events lines ts) (ap (λ (f : AllFiles). replay f events lines ts) (same_files a b same))
 
-pub AgreesFrom-same : (events : List Event) (lines : List Line) (ts : List Tid) (a b : AllFiles) → AreSame a b → AgreesFrom a events lines ts → AgreesFrom b events lines ts
-AgreesFrom-same events lines ts a b same h = subst (λ (f : AllFiles). AgreesFrom f events lines ts) (same_files a b same) h
-
-pub Agrees-same : (events : List Event) (lines : List Line) (a b : AllFiles) → AreSame a b → Agrees a events lines → Agrees b events lines
-Agrees-same events lines a b same h = subst (λ (f : AllFiles). Agrees f events lines) (same_files a b same) h
-
-pub replay-append : (events : List Event) (lines : List Line) (ts us : List Tid) (files : AllFiles) → replay files events lines (ts ++ us) ≡ replay (replay files events lines ts) events lines us
-replay-append events lines [] us files = refl
-replay-append events lines (t ∷ ts) us files = replay-append events lines ts us (files_then (ops_of events lines t) files)
-
-pub AgreesFrom-append : (events : List Event) (lines : List Line) (ts us : List Tid) (files : AllFiles) → AgreesFrom files events lines ts → AgreesFrom (replay files events lines ts) events lines us → AgreesFrom files events lines (ts ++ us)
-AgreesFrom-append events lines [] us files h k = k
-AgreesFrom-append events lines (t ∷ ts) us files h k = (h.0, AgreesFrom-append events lines ts us (files_then (ops_of events lines t) files) h.1 k)
-
-pub AgreesFrom-parts : (events : List Event) (lines : List Line) (ts us : List Tid) (files : AllFiles) → AgreesFrom files events lines (ts ++ us) → AgreesFrom files events lines ts × AgreesFrom (replay files events lines ts) events lines us
-AgreesFrom-parts events lines [] us files h = (tt, h)
-AgreesFrom-parts events lines (t ∷ ts) us files h =
-    let parts = AgreesFrom-parts events lines ts us (files_then (ops_of events lines t) files) h.1 in
-    ((h.0, parts.0), parts.1)
-
 -- whose transaction T is after these lines
 abbrev pub owner_then : Tid → Option ClientNo → List Line → Option ClientNo
 owner_then t owner [] = owner
 owner_then t owner (l ∷ ls) = owner_then t (owner_after t owner l.text) ls
-
-pub owner_then-append : (t : Tid) (owner : Option ClientNo) (xs ys : List Line) → owner_then t owner (xs ++ ys) ≡ owner_then t (owner_then t owner xs) ys
-owner_then-append t owner [] ys = refl
-owner_then-append t owner (l ∷ xs) ys = owner_then-append t (owner_after t owner l.text) xs ys
 
 pub told_from-append : (events : List Event) (t : Tid) (owner : Option ClientNo) (xs ys : List Line) → told_from events t owner (xs ++ ys) ≡ told_from events t owner xs ++ told_from events t (owner_then t owner xs) ys
 told_from-append events t owner [] ys = refl
@@ -61,10 +37,6 @@ told_from-append events t owner (l ∷ xs) ys =
 
 pub ops_told-append : (events : List Event) (t : Tid) (xs ys : List Line) → ops_told events (xs ++ ys) t ≡ ops_told events xs t ++ told_from events t (owner_then t None xs) ys
 ops_told-append events t xs ys = told_from-append events t None xs ys
-
-pub history_of-append : (xs ys : List Line) → history_of (xs ++ ys) ≡ history_of xs ++ history_of ys
-history_of-append [] ys = refl
-history_of-append (l ∷ xs) ys = ap (λ (ts : List Tid). commit_in l.text ++ ts) (history_of-append xs ys) ∙ sym (append_assoc (commit_in l.text) (history_of xs) (history_of ys))
 
 filter-append : {X : Type 0} (p : X → Bool) (xs ys : List X) → filter p (xs ++ ys) ≡ filter p xs ++ filter p ys
 filter-append p [] ys = refl
@@ -86,23 +58,9 @@ says-append test xs ys = any-append (λ (l : Line). test l.text) xs ys
 pub has_tid-append : (ts us : List Tid) (t : Tid) → has_tid (ts ++ us) t ≡ (has_tid ts t || has_tid us t)
 has_tid-append ts us t = any-append (λ u. tid_eq u t) ts us
 
-pub NamesBefore-append : (named : List Tid) (xs ys : List Line) → NamesBefore named xs → NamesBefore (named ++ history_of xs) ys → NamesBefore named (xs ++ ys)
-NamesBefore-append named [] ys h k = rw append-nil at k
-NamesBefore-append named (l ∷ xs) ys h k = (h.0, NamesBefore-append (named ++ commit_in l.text) xs ys h.1 (rw append_assoc k))
-
-pub NamesBefore-parts : (named : List Tid) (xs ys : List Line) → NamesBefore named (xs ++ ys) → NamesBefore named xs × NamesBefore (named ++ history_of xs) ys
-NamesBefore-parts named [] ys h = (tt, rw append-nil h)
-NamesBefore-parts named (l ∷ xs) ys h =
-    let parts = NamesBefore-parts (named ++ commit_in l.text) xs ys h.1 in
-    ((h.0, parts.0), rw append_assoc at parts.1)
-
 pub NamesNone-append : (named : List Tid) (xs ys : List Line) → NamesNone named xs → NamesNone named ys → NamesNone named (xs ++ ys)
 NamesNone-append named [] ys h k = k
 NamesNone-append named (l ∷ xs) ys h k = (h.0, NamesNone-append named xs ys h.1 k)
-
-pub NamesNone-parts : (named : List Tid) (xs ys : List Line) → NamesNone named (xs ++ ys) → NamesNone named xs × NamesNone named ys
-NamesNone-parts named [] ys h = (tt, h)
-NamesNone-parts named (l ∷ xs) ys h = let parts = NamesNone-parts named xs ys h.1 in ((h.0, parts.0), parts.1)
 
 -- one step of a loop over committed transactions
 pub AgreesFrom-step : (events : List Event) (lines : List Line) (ts : List Tid) (i : ℕ) (d : Tid) (ps : List Performed) (before after : AllFiles) → i < length ts → ps ≡ ops_of events lines (get_or ts i d) → GivesAnswers before ps → AreSame after (files_then ps before) → AgreesFrom before events lines (drop i ts) ↔ AgreesFrom after events lines (drop (i + 1) ts)

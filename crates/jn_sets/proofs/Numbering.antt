@@ -163,6 +163,3 @@ counted_more numbers free prepared entries next n value after number count works
   where
     one_more : (a b : Bool) (before after : ℕ) → a ≡ b → after + ones false ≡ before + ones a → after ≡ before + ones b
     one_more a b before after e sum = let flag : ones a ≡ ones b = ap ones e in let none : ones false ≡ 0 = refl in omega arith
-
-pub none_counted_yet : (numbers : List (Option ℕ)) → AreCounted numbers 0 0 []
-none_counted_yet numbers = record { each = λ slot lt. let no_way : ⊥ = omega arith in absurd no_way; free_is = refl; prepared_is = refl }

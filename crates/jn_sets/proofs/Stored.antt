@@ -86,17 +86,6 @@ module _ (old : List Record) (v : StoreView) (slot : ℕ) (value : Record) (w : 
     old_or_new = λ holds d choice. says_old_or_new old v slot value false w put is below there holds d choice;
   })
 
--- a page of zeros is that of a free record
-pub blank_readable : (v : StoreView) (slot : ℕ) → IsOnly v (page_of slot) blank_page → IsReadable v slot
-unfolding blank_page record_page
-blank_readable v slot only = record { clean = only.first ∙ sym only.second; page = (Free, record { whole = refl; fits = tt }, only.first) }
-
--- what the pool holds can be loaded again
-pub holds_readable : (records : List Record) (v : StoreView) (slot : ℕ) → slot < length records → Holds records v → IsReadable v slot
-holds_readable records v slot below holds =
-    let stored = holds slot below in
-    record { clean = stored.only.first ∙ sym stored.only.second; page = (record_in records slot, stored.of_format, stored.only.first) }
-
 -- ---- the index
 
 pub index_set : (es : List (ℕ × Record)) (slot : ℕ) (value : Record) → IsIndex es → slot < length (values_of es) → has_page value ≡ true → IsIndex (set_value_at es slot value)
@@ -140,10 +129,6 @@ marked_like true (Going head intentions reads) one = record { number = refl; fre
 marked_like false (Ready head intentions reads) one = record { number = refl; free = refl; prepares = refl; page = refl }
 marked_like false (Going head intentions reads) one = record { number = refl; free = refl; prepares = refl; page = refl }
 marked_like going r one = absurd (cc one)
-
-pub going_page : (r : Record) → is_ready r ≡ true → has_page r ≡ true → has_page (going_of r) ≡ true
-going_page (Ready head intentions reads) ready page = page
-going_page r ready page = absurd (cc ready)
 
 pub ready_again : (r : Record) → is_ready r ≡ true → ready_of (going_of r) ≡ r
 ready_again (Ready head intentions reads) ready = refl

@@ -5,10 +5,6 @@ use Rattle.jn_storage.specs.Listing.{is_in, are_different, total}
 use Rattle.jn_storage.proofs.Listings.{Tells, but}
 use Rattle.jn_storage.specs.Finding.{find_by}
 
-pub find-key : {A K : Type 0} (eq : K → K → Bool) → Tells eq → (key : A → K) (xs : List A) (k : K) (x : A) → find_by eq key xs k ≡ Some x → key x ≡ k
-find-key eq tells key [] k x e = absurd (cc e)
-find-key eq tells key (y ∷ ys) k x e = let again = find-key eq tells key ys k x in let t = tells (key y) k in grind (arith, e)
-
 pub find-listed : {A K : Type 0} (eq : K → K → Bool) (key : A → K) (xs : List A) (k : K) → is_in eq k (map key xs) ≡ is_some (find_by eq key xs k)
 find-listed eq key [] k = refl
 find-listed eq key (y ∷ ys) k = let again = find-listed eq key ys k in grind arith
@@ -44,18 +40,6 @@ different-add eq tells x (y ∷ ks) h new = let again = different-add eq tells x
 pub map-add : {A K : Type 0} (key : A → K) (xs : List A) (x : A) → map key (xs ++ x ∷ []) ≡ map key xs ++ key x ∷ []
 map-add key [] x = refl
 map-add key (y ∷ ys) x = ap (λ l. key y ∷ l) (map-add key ys x)
-
-pub total-add : {K : Type 0} (f : K → ℕ) (ks : List K) (k : K) → total f (ks ++ k ∷ []) ≡ total f ks + f k
-total-add f [] k = grind arith
-total-add f (x ∷ ks) k = let again = total-add f ks k in grind arith
-
-pub but-kept : {K : Type 0} (eq : K → K → Bool) → Tells eq → (k : K) (ks : List K) → filter (λ x. not (eq k x)) ks ≡ but eq k ks
-but-kept eq tells k [] = refl
-but-kept eq tells k (x ∷ ks) = let again = but-kept eq tells k ks in let t = tells k x in let u = tells x k in grind arith
-
-pub length-kept : {A : Type 0} (keep : A → Bool) (xs : List A) → length (filter keep xs) ≤ length xs
-length-kept keep [] = omega arith
-length-kept keep (x ∷ xs) = let again = length-kept keep xs in grind arith
 
 -- an element is replaced by one with its key
 pub keys-set : {A K : Type 0} (key : A → K) (xs : List A) (i : ℕ) (x : A) → key x ≡ key (slice_index_or xs i x) → map key (slice_set xs i x) ≡ map key xs

@@ -62,12 +62,3 @@ disarmed_pages s t e = same_pages s t (ap (λ (d : DeviceState). d.count) e) (ap
 
 pub cleared_pages : (s t : DeviceState) → t ≡ cleared s → HasSamePages (pairs_view s) (pairs_view t)
 cleared_pages s t e = same_pages s t (ap (λ (d : DeviceState). d.count) e) (ap (λ (d : DeviceState). d.pages) e)
-
--- and the power's coming leaves each whole page whole
-pub powers_up_whole : (s t : DeviceState) → PowersUp s t → (i : ℕ) → IsWhole (pairs_view s) i → IsWhole (pairs_view t) i
-powers_up_whole s t up i whole =
-    let same = powers_up_same s t up i in
-    record {
-      both = ap (λ n. (t.pages i).good && (t.pages (i + n / 2)).good) up.count ∙ ap (λ (x : PageState). x.good && (t.pages (i + s.count / 2)).good) (up.pages_are i) ∙ ap (λ (x : PageState). (s.pages i).good && x.good) (up.pages_are (i + s.count / 2)) ∙ whole.both;
-      clean = cc (same.first, same.second, whole.clean);
-    }

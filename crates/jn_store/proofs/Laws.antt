@@ -47,13 +47,6 @@ same_trans a b c i f g = record { first = g.first ∙ f.first; second = g.second
 pub same_shrinks : (v w : StoreView) (i : ℕ) → IsSamePage v w i → Shrinks v w i
 same_shrinks v w i same x here = ⊎_elim (λ e. inl (e ∙ same.first)) (λ e. inr (e ∙ same.second)) here
 
-pub shrinks_trans : (a b c : StoreView) (i : ℕ) → Shrinks a b i → Shrinks b c i → Shrinks a c i
-shrinks_trans a b c i f g x here = f x (g x here)
-
--- the one candidate of a clean page
-pub clean_only : (v : StoreView) (i : ℕ) (x : List ℕ) → IsClean v i → Candidate v i x → IsOnly v i x
-clean_only v i x clean here = ⊎_elim (λ e. record { first = sym e; second = sym clean ∙ sym e }) (λ e. record { first = clean ∙ sym e; second = sym e }) here
-
 pub only_is : (v : StoreView) (i : ℕ) (page x : List ℕ) → IsOnly v i page → Candidate v i x → x ≡ page
 only_is v i page x only here = ⊎_elim (λ e. e ∙ only.first) (λ e. e ∙ only.second) here
 
@@ -63,13 +56,6 @@ only_clean v i page only = only.first ∙ sym only.second
 -- a clean page keeps its content, as long as its candidates only shrink
 pub shrinks_only : (v w : StoreView) (i : ℕ) (page : List ℕ) → IsOnly v i page → Shrinks v w i → IsOnly w i page
 shrinks_only v w i page only kept = record { first = only_is v i page (w.first i) only (kept (w.first i) (inl refl)); second = only_is v i page (w.second i) only (kept (w.second i) (inr refl)) }
-
-pub shrinks_clean : (v w : StoreView) (i : ℕ) → IsClean v i → Shrinks v w i → IsClean w i
-shrinks_clean v w i clean kept = only_clean w i (v.first i) (shrinks_only v w i (v.first i) (record { first = refl; second = sym clean }) kept)
-
--- a get of a clean page
-pub got_only : (v : StoreView) (i : ℕ) (page x : List ℕ) (answer : Result (List ℕ) Stopped) (w : StoreView) → StoreGot v i answer w → IsOnly v i page → answer ≡ Ok x → x ≡ page
-got_only v i page x answer w step only e = only_is v i page x only (step.found x e)
 
 -- no cleanup adds a candidate to any page
 pub cleaned_kept : (v : StoreView) (i : ℕ) (answer : Result Bool Stopped) (w : StoreView) → StoreCleaned v i answer w → (j : ℕ) → j < v.count → (j ≡ i) ⊎ (j ≡ i → ⊥) → Shrinks v w j

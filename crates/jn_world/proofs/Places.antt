@@ -209,11 +209,6 @@ moved-sent {S} look a b server i q (Some out) (Ok x) at h left places clients se
     world-moved look a b server q (Server server) out.messages h left.0 left.1
     (ap (λ (v : _). v.items) places ∙ ap (λ (k : ℕ). set a.places.items k q) at) (ap vec_len places) clients sent limit
 
-pub moved-posted : {S : Type 0} (look : S → StoreView) (a b : World S) (server : ServerNo) (i : ℕ) (q : Place S) (answer : Option Collected) → i ≡ server.0 → IsWorld look a → Left look server (length a.net.sent) q answer
-    → b.places ≡ with_item a.places i q → b.clients ≡ a.clients
-    → b.net.sent ≡ a.net.sent ++ posted_by (Server server) (messages_in answer) → length b.net.sent ≤ 1000000 → IsWorld look b
-moved-posted {S} look a b server i q answer at h left places clients sent limit = moved-sent {S = S} {A = ℕ} {E = ℕ} look a b server i q answer (Ok 0) at h left places clients sent limit
-
 -- messages are sent alone
 pub sent-world : {S A E : Type 0} (look : S → StoreView) (a b : World S) (from : Party) (messages : List Sent) (r : Result A E) → IsWorld look a → AllCanBeTaken messages → b.places ≡ a.places → b.clients ≡ a.clients
     → OnOk r (b.net.sent ≡ a.net.sent ++ posted_by from messages) → OnOk r (length b.net.sent ≤ 1000000) → OnOk r (IsWorld look b)
@@ -313,9 +308,6 @@ delivered-world look a k n h e =
 
 pub delivered-many : (a n : Carried) (k : ℕ) → n ≡ record a { sent = with_delivered k a.sent } → length n.sent ≡ length a.sent
 delivered-many a n k e = ap (λ (x : Carried). length x.sent) e ∙ delivered-length k a.sent
-
-pub delivered-below : (a n : Carried) (k j : ℕ) → n ≡ record a { sent = with_delivered k a.sent } → j < length a.sent → j < length n.sent
-delivered-below a n k j e h = let same = ap (λ (x : Carried). length x.sent) e ∙ delivered-length k a.sent in omega arith
 
 -- the message of a number that was sent
 pub posted-at : (ms : List Posted) (k : ℕ) (m : Posted) → ArePosted ms → Some m ≡ slice_get ms k → CanBeTaken m.message

@@ -44,9 +44,6 @@ store-of (Up p) s h = h
 store-of (Down t) s h = h
 store-of Gone s h = absurd h
 
-pub theirs-none : {S : Type 0} → AreTheirs {S = S} [] []
-theirs-none n s e = absurd (cc e)
-
 pub theirs-more : {S : Type 0} (ps : List (Place S)) (ss : List S) (p : Place S) (s : S) → length ss ≡ length ps → StandsOn p.slot s → AreTheirs ps ss → AreTheirs (ps ++ p ∷ []) (ss ++ s ∷ [])
 theirs-more {S} ps ss p s many on h = pushed-each (λ n t. HasStore (ps ++ p ∷ []) n t) ss s
     (λ n t e. let old = h n t e in record { place = old.place; at = got-more ps p n old.place old.at; its = old.its })
@@ -59,9 +56,6 @@ new-none servers n t e = absurd (cc e)
 
 pub new-more : (servers c : ℕ) (ts : List ClientTable) (t : ClientTable) → length ts ≡ c → t ≡ new_table (record { 0 = c + 1 }) servers → AreNew servers ts → AreNew servers (ts ++ t ∷ [])
 new-more servers c ts t many is h = pushed-each (λ n u. u ≡ new_table (record { 0 = suc n }) servers) ts t h (is ∙ ap (λ (k : ℕ). new_table (record { 0 = k }) servers) (omega (arith, many)))
-
-pub stand-none : {S : Type 0} → StandFor {S = S} [] []
-stand-none n p e = absurd (cc e)
 
 pub stand-more : {S : Type 0} (stores : List (S × PageCounts)) (ps : List (Place S)) (s : S) (counts : PageCounts) → length ps ≡ length stores → StandFor stores ps → StandFor (stores ++ (s, counts) ∷ []) (ps ++ record { counts = counts; slot = Down s } ∷ [])
 stand-more {S} stores ps s counts many h = pushed-each (λ n p. StandsFor (stores ++ (s, counts) ∷ []) n p) ps (record { counts = counts; slot = Down s })

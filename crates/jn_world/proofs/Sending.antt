@@ -36,13 +36,6 @@ lines-append when a b = map-append (λ (text : Text). record { when = when; text
 pub lines-then : (when : When) (first : List Line) (a b : List Text) → (first ++ lines_at when a) ++ lines_at when b ≡ first ++ lines_at when (a ++ b)
 lines-then when first a b = append_assoc first (lines_at when a) (lines_at when b) ∙ ap (λ (more : List Line). first ++ more) (sym (lines-append when a b))
 
-pub notes-append : (q : ServerNo) (k : Option ℕ) (a b : List Note) → lines_of q k (a ++ b) ≡ lines_of q k a ++ lines_of q k b
-notes-append q k [] b = refl
-notes-append q k (n ∷ ns) b = ap (λ (more : List Text). line_of q k n ++ more) (notes-append q k ns b) ∙ sym (append_assoc (line_of q k n) (lines_of q k ns) (lines_of q k b))
-
-pub one-note : (q : ServerNo) (k : Option ℕ) (n : Note) → lines_of q k (n ∷ []) ≡ line_of q k n
-one-note q k n = append-nil (line_of q k n)
-
 messages-append : (from : Party) (k : ℕ) (xs ys : List Sent) → message_texts from k (xs ++ ys) ≡ message_texts from k xs ++ message_texts from (k + length xs) ys
 messages-append from k [] ys = let at : k ≡ k + 0 = omega arith in ap (λ (n : ℕ). message_texts from n ys) at
 messages-append from k (x ∷ xs) ys =

@@ -15,6 +15,3 @@ net-places {S} a b e = ap (λ (w : World S). w.places) e
 
 pub net-clients : {S : Type 0} (a b : World S) → b ≡ record a { net = b.net } → b.clients ≡ a.clients
 net-clients {S} a b e = ap (λ (w : World S). w.clients) e
-
-pub world-as : {S : Type 0} (look : S → StoreView) (a b : World S) → a ≡ b → IsWorld look b → IsWorld look a
-world-as {S} look a b e h = subst (λ (w : World S). IsWorld look w) (sym e) h

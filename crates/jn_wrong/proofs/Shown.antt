@@ -84,10 +84,6 @@ module _ (x : Setup) (q : ServerNo) (h : Chance) where
       before : filter is_printed (told ++ own) ≡ []
       before = filter-both is_printed told own ∙ ap (λ (front : List Text). front ++ filter is_printed own) (outside-none q h.told) ∙ own-filtered is_printed of-step steps c
 
--- what there is to print, with so many blocks a file
-abbrev files_printed : ℕ → ServerNo → World → Memory → List FileNo → List Printed
-files_printed n q w m fs = print_files (prints_of q w m) (λ f. blocks_from 0 n) fs
-
 module _ (x : Setup) (q : ServerNo) (a b : Moment) (d : DoesStep x a b) (goes : b.state.stage ≢ CutShort) (unstopped : d.chance.stop ≡ None) (is : deed_of x d.chance d.task a.state ≡ showing d.chance q a.state.course.world) where
   abbrev w : World
   w = a.state.course.world

@@ -101,13 +101,6 @@ begun-ends t o a e begins = ap (λ z. (if_waits t z test row).0.outstanding) e �
     over (Some T) = refl
     over None = refl
 
-still-not : (t now : ClientTable) (q : ℕ) → IsStill t now → NotWaited t q → NotWaited now q
-still-not t now q (inl e) h = subst (λ (z : ClientTable). NotWaited z q) (sym e) h
-still-not t now q (inr e) h = λ o is at. none o (sym e ∙ is)
-  where
-    none : (o : Outstanding) → None ≡ Some o → ⊥
-    none o z = cc
-
 module _ (n : ℕ) (at_most : n ≤ 8) (start : World) (files : AllFiles) (epochs : ServerNo → ℕ) where
   -- all that is said of what is waited for
   pub record Good (d : Course) : Type 0 where

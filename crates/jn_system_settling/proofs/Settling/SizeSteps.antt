@@ -92,17 +92,6 @@ up-stored n m x h table = stored-sizes n m.worker m.coordinator.transactions x h
 
 -- ---- changes of flags
 
-kept-flags : (changes : List Change) (j : ℕ) (x : StableState) → keep_flags changes ≡ true → (made_all (take j changes) x).flags ≡ x.flags
-kept-flags [] zero x h = refl
-kept-flags [] (suc j) x h = refl
-kept-flags (c ∷ cs) zero x h = refl
-kept-flags (AddReady head list reads ∷ cs) (suc j) x h = kept-flags cs j (made_by (AddReady head list reads) x) h
-kept-flags (MarkGoing W ∷ cs) (suc j) x h = kept-flags cs j (made_by (MarkGoing W) x) h
-kept-flags (CarryOut W i ∷ cs) (suc j) x h = kept-flags cs j (made_by (CarryOut W i) x) h
-kept-flags (RemoveWork W ∷ cs) (suc j) x h = kept-flags cs j (made_by (RemoveWork W) x) h
-kept-flags (AddFlag flag ∷ cs) (suc j) x h = absurd (true≢false (sym h))
-kept-flags (DropFlag T ∷ cs) (suc j) x h = absurd (true≢false (sym h))
-
 all-kept : (changes : List Change) (x : StableState) → keep_flags changes ≡ true → (made_all changes x).flags ≡ x.flags
 all-kept [] x h = refl
 all-kept (AddReady head list reads ∷ cs) x h = all-kept cs (made_by (AddReady head list reads) x) h
