@@ -1,11 +1,13 @@
--- Whether two names are the same.
-use Rattle.std.specs.Prelude.{Bool, nat_eq, ◌&&◌}
+-- Whether two names are the same, and the numbers of refusals.
+use Rattle.std.specs.Prelude.{ℕ, Bool, nat_eq, ◌&&◌}
 use Rattle.jn_base.specs.declared.names.ServerNo.{ServerNo}
 use Rattle.jn_base.specs.declared.names.ClientNo.{ClientNo}
 use Rattle.jn_base.specs.declared.names.FileNo.{FileNo}
 use Rattle.jn_base.specs.declared.names.BlockNo.{BlockNo}
 use Rattle.jn_base.specs.declared.names.Tid.{Tid}
 use Rattle.jn_base.specs.declared.names.WorkId.{WorkId}
+use Rattle.jn_base.specs.declared.names.Resource.{Resource}
+use Rattle.jn_base.specs.declared.names.Resource.TheVariants.{Records, Pages, Heads}
 
 abbrev pub server_eq : ServerNo → ServerNo → Bool
 server_eq a b = nat_eq a.0 b.0
@@ -24,3 +26,9 @@ tid_eq a b = server_eq a.server b.server && (nat_eq a.epoch b.epoch && nat_eq a.
 
 abbrev pub work_eq : WorkId → WorkId → Bool
 work_eq a b = server_eq a.server b.server && (nat_eq a.epoch b.epoch && nat_eq a.ticket b.ticket)
+
+-- the refusal for want of something
+abbrev pub refusal_number : Resource → ℕ
+refusal_number Records = 31
+refusal_number Pages = 32
+refusal_number Heads = 33

@@ -11,7 +11,7 @@ pub use block::{Block, BlockContent};
 pub use device::{FaultKind, Outside, Page, Stopped};
 pub use fields::{PageWriter, numbers_are_read_back, take_bytes, take_u8, take_u16, take_u32};
 pub use names::{
-    BlockNo, Cause, ClientNo, FileNo, LockUnit, MsgKind, Party, ServerNo, Short, Tickets, Tid,
-    WorkId,
+    BlockNo, Cause, ClientNo, FileNo, LockUnit, MsgKind, Party, Resource, ServerNo, Short, Tickets,
+    Tid, WorkId,
 };
 pub use op::{Answer, Command, Op};

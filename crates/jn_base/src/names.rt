@@ -1,5 +1,8 @@
 //! Who and what is spoken of.
 
+ghost use Rattle.std.specs.Prelude.{◌≡◌};
+ghost use Rattle.jn_base.specs.Names.{refusal_number};
+
 /// A server, 0 to 7.
 #[derive(Clone, Copy, Debug, PartialEq, Eq)]
 pub struct ServerNo(pub u8);
@@ -45,6 +48,30 @@ pub struct Short {
     pub need: u32,
 }
 
+/// What a server may have too little of.
+#[derive(Clone, Copy, Debug, PartialEq, Eq)]
+pub enum Resource {
+    /// Records of its pool.
+    Records,
+    /// Data pages.
+    Pages,
+    /// Heads, one for each file.
+    Heads,
+}
+
+impl Resource {
+    /// The number of the refusal for want of it.
+    pub fn refusal_number(self) -> u8
+        ensures { result ≡ refusal_number self }
+    {
+        match self {
+            Resource::Records => 31,
+            Resource::Pages => 32,
+            Resource::Heads => 33,
+        }
+    }
+}
+
 /// Why a transaction was aborted.
 #[derive(Clone, Copy, Debug, PartialEq, Eq)]
 pub enum Cause {
@@ -54,8 +81,8 @@ pub enum Cause {
     Broken(ServerNo, LockUnit, Tid),
     /// The server lost its part of it.
     Lost(ServerNo),
-    /// The server had no room: the number of the refusal, what was free, what was needed.
-    Full(ServerNo, u8, u32, u32),
+    /// The server had no room: what of, what was free, what was needed.
+    Full(ServerNo, Resource, u32, u32),
 }
 
 /// Where a server's names come from: its epoch, and the next ticket in it.

@@ -25,7 +25,7 @@ ghost use Rattle.jn_coord.specs.Closing.{going_in, LetsGo, ClosesNext, ClosesAll
 ghost use Rattle.jn_transactions.specs.Telling.{Adds, added};
 ghost use Rattle.jn_coord.specs.Calls.{Fits, FitsWith, Does, Releases, committed_as, committed_at, spare_of, voting_in, works_in, ballot_in, stage_in, free_of, is_memory, IsPromised, ballot_row, waiting_row};
 
-use jn_base::{Cause, ClientNo, Party, Tickets, Tid, WorkId};
+use jn_base::{Cause, ClientNo, Party, Resource, Tickets, Tid, WorkId};
 use jn_msgs::{Message, Note, Out, Outcome, Vote, Works};
 use jn_records::{Flag, ListOf};
 use jn_rows::{Committed, Stage, Transaction, Voting};
@@ -348,11 +348,11 @@ impl Coordinator {
                 self.abort_all(store, tid, Cause::Broken(work.server, unit, by), out)
             }
             Vote::Lost(_, _) => self.lost(store, tid, work, out),
-            Vote::Full(number, free, need) => {
+            Vote::Full(resource, free, need) => {
                 self.abort_all(
                     store,
                     tid,
-                    Cause::Full(work.server, number, free, need),
+                    Cause::Full(work.server, resource, free, need),
                     out,
                 )
             }
@@ -516,7 +516,7 @@ impl Coordinator {
             Ok(()) => self.end_or_release(store, request, tid, works, out),
             Err(PromiseFault::Memory) => Err(CoordFault::Memory),
             Err(PromiseFault::Short(short)) => {
-                let cause = Cause::Full(tickets.server, 31, short.free, 1);
+                let cause = Cause::Full(tickets.server, Resource::Records, short.free, 1);
                 self.abort(store, tid, cause, works.as_slice(), out)
             }
         }

@@ -4,7 +4,7 @@ ghost use Rattle.std.specs.Prelude.{◌≡◌};
 ghost use Rattle.jn_msgs.specs.Kinds.{kind_of};
 
 use crate::works::Works;
-use jn_base::{Answer, Cause, ClientNo, LockUnit, MsgKind, Op, ServerNo, Tid, WorkId};
+use jn_base::{Answer, Cause, ClientNo, LockUnit, MsgKind, Op, Resource, ServerNo, Tid, WorkId};
 
 /// What a worker says of a work that is to be prepared.
 #[derive(Clone, Copy, Debug, PartialEq, Eq, Drop)]
@@ -17,8 +17,8 @@ pub enum Vote {
     Broken(LockUnit, Tid),
     /// The work isn't live: its epoch, and the epoch now.
     Lost(u32, u32),
-    /// There is no room: the number of the refusal, what is free, what is needed.
-    Full(u8, u32, u32),
+    /// There is no room: what of, what is free, what is needed.
+    Full(Resource, u32, u32),
 }
 
 /// What a client is told of its transaction's end.

@@ -1,5 +1,6 @@
 -- The text of a report: each line is the words of its event and of what it says, with a space between two.
 use Rattle.std.specs.Prelude.{ℕ, List, [], ◌∷◌, ◌++◌, codes, decimal}
+use Rattle.jn_base.specs.Names.{refusal_number}
 use Rattle.jn_base.specs.declared.names.ServerNo.{ServerNo}
 use Rattle.jn_base.specs.declared.names.ClientNo.{ClientNo}
 use Rattle.jn_base.specs.declared.names.Tid.{Tid}
@@ -109,7 +110,7 @@ abbrev pub cause_words : Cause → List Word
 cause_words Requested = codes "requested" ∷ []
 cause_words (BrokenAt s u t) = codes "broken" ∷ server_word s ∷ held_words u t
 cause_words (LostAt s) = codes "lost" ∷ server_word s ∷ []
-cause_words (Full s number free need) = codes "full" ∷ server_word s ∷ decimal number ∷ decimal free ∷ decimal need ∷ []
+cause_words (Full s resource free need) = codes "full" ∷ server_word s ∷ decimal (refusal_number resource) ∷ decimal free ∷ decimal need ∷ []
 
 -- the words of what a line says
 abbrev pub words_of : Text → List Word

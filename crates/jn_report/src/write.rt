@@ -232,9 +232,9 @@ fn push_cause(out: &mut Vec<u8>, cause: Cause) -> Result<(), AllocError>
             push_held(out, unit, tid)
         }
         Cause::Lost(server) => push_number(out, " lost s", u32::from(server.0)),
-        Cause::Full(server, refusal, free, need) => {
+        Cause::Full(server, resource, free, need) => {
             push_number(out, " full s", u32::from(server.0))?;
-            push_number(out, " ", u32::from(refusal))?;
+            push_number(out, " ", u32::from(resource.refusal_number()))?;
             push_number(out, " ", free)?;
             push_number(out, " ", need)
         }

@@ -8,6 +8,7 @@ use Rattle.jn_base.specs.declared.names.Tickets.{Tickets}
 use Rattle.jn_base.specs.declared.names.Cause.{Cause}
 use Rattle.jn_base.specs.declared.names.Cause.TheVariants.{Requested, Broken as BrokenAt, Lost as LostAt, Full as FullAt}
 use Rattle.jn_base.specs.declared.names.Party.TheVariants.{Client, Server}
+use Rattle.jn_base.specs.declared.names.Resource.TheVariants as resources
 use Rattle.jn_base.specs.Names.{client_eq, tid_eq, work_eq}
 use Rattle.jn_msgs.specs.declared.message.Message.{Message}
 use Rattle.jn_msgs.specs.declared.message.Message.TheVariants as messages
@@ -166,7 +167,7 @@ end_promised t k x request (W ∷ Ws) = sends (staged t x.tid (Voting (record { 
 -- one record is promised for its flag; without works it commits at once
 abbrev pub end_open : CoordinatorTable → ℕ → Tickets → Transaction → ℕ → List WorkId → RowOutcome CoordinatorTable
 end_open t free k x request works = if nat_lt free 1
-    then abort_row t k x (FullAt k.server 31 free 1) works
+    then abort_row t k x (FullAt k.server resources.Records free 1) works
     else end_promised t k x request works
 
 abbrev pub end_stage : CoordinatorTable → ℕ → Tickets → Transaction → ℕ → List WorkId → Stage → RowOutcome CoordinatorTable

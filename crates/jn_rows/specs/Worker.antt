@@ -13,6 +13,7 @@ use Rattle.jn_base.specs.declared.op.Op.{Op}
 use Rattle.jn_base.specs.declared.op.Op.TheVariants as ops
 use Rattle.jn_base.specs.declared.op.Answer.{Answer}
 use Rattle.jn_base.specs.declared.op.Answer.TheVariants.{NoFile, Exists, Locked, TooManyReads, TooManyWrites, Broken as BrokenAnswer, Lost as LostAnswer, Closing}
+use Rattle.jn_base.specs.declared.names.Resource.TheVariants as resources
 use Rattle.jn_base.specs.Names.{tid_eq, work_eq}
 use Rattle.jn_order.specs.Files.{Files, change, answer_to, file_of}
 use Rattle.jn_records.specs.declared.intention.What.{What}
@@ -266,9 +267,9 @@ voted t k T W vote = sends t k ((Server T.server, messages.Vote T W vote) ∷ []
 -- the first kind of which less is free and not promised than is needed
 abbrev pub shortage : Need → Need → Option Vote
 shortage free need =
-    if nat_lt free.records need.records then Some (votes.Full 31 free.records need.records)
-    else (if nat_lt free.pages need.pages then Some (votes.Full 32 free.pages need.pages)
-    else (if nat_lt free.heads need.heads then Some (votes.Full 33 free.heads need.heads)
+    if nat_lt free.records need.records then Some (votes.Full resources.Records free.records need.records)
+    else (if nat_lt free.pages need.pages then Some (votes.Full resources.Pages free.pages need.pages)
+    else (if nat_lt free.heads need.heads then Some (votes.Full resources.Heads free.heads need.heads)
     else None))
 
 abbrev pub vote_of : Option Held → Option Vote → Vote

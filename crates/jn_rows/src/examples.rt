@@ -4,6 +4,7 @@ ghost use Rattle.std.specs.Prelude.{◌≡◌, true, false, [], ◌∷◌, Some,
 ghost use Rattle.jn_base.specs.declared.names.LockUnit.TheVariants.{File, Block};
 ghost use Rattle.jn_base.specs.declared.names.Party.TheVariants.{Client, Server};
 ghost use Rattle.jn_base.specs.declared.names.Cause.TheVariants as causes;
+ghost use Rattle.jn_base.specs.declared.names.Resource.TheVariants as resources;
 ghost use Rattle.jn_base.specs.declared.op.Op.TheVariants as ops;
 ghost use Rattle.jn_base.specs.declared.op.Answer.TheVariants as answers;
 ghost use Rattle.jn_order.specs.Files.{zeros};
@@ -86,10 +87,10 @@ pub fn a_work_is_prepared_where_there_is_room()
         } }
     ensures records { (worker_row (active (work 5) (tid 1) (put_7 3 ∷ []) [] [] 1 (Some answers.Did) false ∷ [])
         (storage 1) (tickets 0 7) (messages.Prepare (tid 1) client (work 5))).messages
-        ≡ (Server (tid 1).server, messages.Vote (tid 1) (work 5) (votes.Full 31 1 2)) ∷ [] }
+        ≡ (Server (tid 1).server, messages.Vote (tid 1) (work 5) (votes.Full resources.Records 1 2)) ∷ [] }
     ensures pages { (worker_row (active (work 5) (tid 1) (put_7 3 ∷ put_7 4 ∷ []) [] [] 2 (Some answers.Did) false ∷ [])
         (storage 3) (tickets 0 7) (messages.Prepare (tid 1) client (work 5))).messages
-        ≡ (Server (tid 1).server, messages.Vote (tid 1) (work 5) (votes.Full 32 1 2)) ∷ [] }
+        ≡ (Server (tid 1).server, messages.Vote (tid 1) (work 5) (votes.Full resources.Pages 1 2)) ∷ [] }
 {}
 
 /// A work that isn't live: an operation of it is lost, and its commit counts as done.
@@ -128,7 +129,7 @@ pub fn a_transaction_aborts()
           tickets = tickets 1 8;
         } }
     ensures full { (coordinator_row (coordinator (transaction 1 5 stages.Open ∷ [])) 0 (tickets 1 8) (messages.End client 7 (tid 1) [])).messages
-        ≡ (Client client, messages.Outcome client (tid 1) (outcomes.Aborted (causes.Full (tickets 1 8).server 31 0 1))) ∷ [] }
+        ≡ (Client client, messages.Outcome client (tid 1) (outcomes.Aborted (causes.Full (tickets 1 8).server resources.Records 0 1))) ∷ [] }
 {}
 
 /// A later Begin thanks for what is decided and drops what isn't; the flag goes once every work is done too.

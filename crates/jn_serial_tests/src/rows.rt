@@ -2,7 +2,7 @@
 
 use jn_base::{
     Block, BlockContent, BlockNo, Cause, ClientNo, Command, FaultKind, FileNo, LockUnit, Op,
-    ServerNo, Tid,
+    Resource, ServerNo, Tid,
 };
 use jn_causing::caused;
 use jn_following::follows;
@@ -392,9 +392,9 @@ fn a_transaction_without_room(rt: HostRuntime) -> Result<(), Fail> {
         epoch: 1,
         ticket: 0,
     };
-    let full = Text::Aborted(C1, 7, begun, Cause::Full(S0, 31, 1, 2));
-    let enough = Text::Aborted(C1, 7, begun, Cause::Full(S0, 31, 2, 2));
-    let replaced = Text::Aborted(C1, 5, begun, Cause::Full(S0, 31, 1, 2));
+    let full = Text::Aborted(C1, 7, begun, Cause::Full(S0, Resource::Records, 1, 2));
+    let enough = Text::Aborted(C1, 7, begun, Cause::Full(S0, Resource::Records, 2, 2));
+    let replaced = Text::Aborted(C1, 5, begun, Cause::Full(S0, Resource::Records, 1, 2));
     let expected = [
         (Forgery::Nothing, RIGHT),
         (Forgery::Text(5, enough), NOT_CAUSED),

@@ -7,6 +7,7 @@ use Rattle.jn_base.specs.declared.names.Party.TheVariants.{Server}
 use Rattle.jn_base.specs.declared.names.Tid.{Tid}
 use Rattle.jn_base.specs.declared.names.Tickets.{Tickets}
 use Rattle.jn_base.specs.declared.names.WorkId.{WorkId}
+use Rattle.jn_base.specs.declared.names.Resource.TheVariants as resources
 use Rattle.jn_records.specs.declared.net_list.Need.{Need}
 use Rattle.jn_locks.specs.declared.words.Broken.{Broken as BrokenAt}
 use Rattle.jn_msgs.specs.Collected.{Collected}
@@ -102,16 +103,16 @@ ready-as t v k T S c W a i free enough = prepared-as t v k T S c W a i None None
 -- what is short, as a vote
 abbrev short_vote : Option PrepareFault → Option Vote
 short_vote None = None
-short_vote (Some (Records s)) = Some (votes.Full 31 s.free s.need)
-short_vote (Some (Pages s)) = Some (votes.Full 32 s.free s.need)
-short_vote (Some (Heads s)) = Some (votes.Full 33 s.free s.need)
+short_vote (Some (Records s)) = Some (votes.Full resources.Records s.free s.need)
+short_vote (Some (Pages s)) = Some (votes.Full resources.Pages s.free s.need)
+short_vote (Some (Heads s)) = Some (votes.Full resources.Heads s.free s.need)
 short_vote (Some NotServed) = None
 short_vote (Some NoMemory) = None
 
 short-same : (r p h : ℕ) (need : Need) → shortage (record { records = r; heads = h; pages = p }) need ≡ short_vote (first_short r p h need)
 short-same r p h need = by (nat_lt r need.records) (nat_lt p need.pages) (nat_lt h need.heads)
   where
-    by : (a b c : Bool) → (if a then Some (votes.Full 31 r need.records) else (if b then Some (votes.Full 32 p need.pages) else (if c then Some (votes.Full 33 h need.heads) else None)))
+    by : (a b c : Bool) → (if a then Some (votes.Full resources.Records r need.records) else (if b then Some (votes.Full resources.Pages p need.pages) else (if c then Some (votes.Full resources.Heads h need.heads) else None)))
         ≡ short_vote (if a then Some (Records (record { free = r; need = need.records })) else if b then Some (Pages (record { free = p; need = need.pages })) else if c then Some (Heads (record { free = h; need = need.heads })) else None)
     by true b c = refl
     by false true c = refl

@@ -8,6 +8,7 @@ use Rattle.jn_base.specs.declared.names.WorkId.{WorkId}
 use Rattle.jn_base.specs.declared.op.Answer.{Answer}
 use Rattle.jn_base.specs.declared.op.Answer.TheVariants.{Broken as BrokenAnswer, Closing, Locked}
 use Rattle.jn_base.specs.declared.op.Op.{Op}
+use Rattle.jn_base.specs.declared.names.Resource.TheVariants as resources
 use Rattle.jn_base.specs.Names.{work_eq}
 use Rattle.jn_msgs.specs.Collected.{Collected}
 use Rattle.jn_msgs.specs.declared.message.Message.TheVariants as messages
@@ -110,9 +111,9 @@ head_of W T c = record { work = W; tid = T; client = c }
 
 -- the vote where something is short
 abbrev pub refusal_of : PrepareFault → Result Vote WorkerFault
-refusal_of (Records short) = Ok (votes.Full 31 short.free short.need)
-refusal_of (Pages short) = Ok (votes.Full 32 short.free short.need)
-refusal_of (Heads short) = Ok (votes.Full 33 short.free short.need)
+refusal_of (Records short) = Ok (votes.Full resources.Records short.free short.need)
+refusal_of (Pages short) = Ok (votes.Full resources.Pages short.free short.need)
+refusal_of (Heads short) = Ok (votes.Full resources.Heads short.free short.need)
 refusal_of NotServed = Err Stopped
 refusal_of NoMemory = Err Memory
 

@@ -12,7 +12,7 @@ ghost use Rattle.jn_worker.specs.Fitting.{Fits, seen, is_active};
 
 use crate::words::WorkerFault;
 use crate::worker::Worker;
-use jn_base::{ClientNo, Party, Tickets, Tid, WorkId};
+use jn_base::{ClientNo, Party, Resource, Tickets, Tid, WorkId};
 use jn_lock_rows::{grant_storing, note_breaks, test_storing, work_at};
 use jn_msgs::{Message, Out, Vote};
 use jn_records::WorkHead;
@@ -24,9 +24,9 @@ fn refusal_of(fault: PrepareFault) -> Result<Vote, WorkerFault>
     ensures { result ≡ refusal_of fault }
 {
     match fault {
-        PrepareFault::Records(short) => Ok(Vote::Full(31, short.free, short.need)),
-        PrepareFault::Pages(short) => Ok(Vote::Full(32, short.free, short.need)),
-        PrepareFault::Heads(short) => Ok(Vote::Full(33, short.free, short.need)),
+        PrepareFault::Records(short) => Ok(Vote::Full(Resource::Records, short.free, short.need)),
+        PrepareFault::Pages(short) => Ok(Vote::Full(Resource::Pages, short.free, short.need)),
+        PrepareFault::Heads(short) => Ok(Vote::Full(Resource::Heads, short.free, short.need)),
         PrepareFault::Stopped => Err(WorkerFault::Stopped),
         PrepareFault::Memory => Err(WorkerFault::Memory),
     }

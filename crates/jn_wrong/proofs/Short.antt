@@ -6,6 +6,7 @@ use Rattle.jn_base.specs.declared.names.ServerNo.{ServerNo}
 use Rattle.jn_base.specs.declared.names.ClientNo.{ClientNo}
 use Rattle.jn_base.specs.declared.names.Party.{Party}
 use Rattle.jn_base.specs.declared.names.Party.TheVariants.{Client, Server}
+use Rattle.jn_base.specs.declared.names.Resource.{Resource}
 use Rattle.jn_base.specs.declared.device.Outside.{Outside}
 use Rattle.jn_order.specs.Files.{AllFiles}
 use Rattle.jn_records.specs.declared.net_list.Need.{Need}
@@ -143,7 +144,7 @@ deed-tells x h (GoesDown q) s = task-texts no_abort besides x h (GoesDown q) s (
 deed-tells x h (ClosesClients q) s = task-texts no_abort besides x h (ClosesClients q) s (λ e. cc)
 
 module _ (x : Setup) (start now : Moment) where
-  abbrev P : ServerNo → ℕ → ℕ → ℕ → Type 0
+  abbrev P : ServerNo → Resource → ℕ → ℕ → Type 0
   P = WasShort x start now
 
   of-text : (text : Text) → no_abort text ≡ true → OfText P text

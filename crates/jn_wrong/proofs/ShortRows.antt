@@ -8,6 +8,8 @@ use Rattle.jn_base.specs.declared.names.WorkId.{WorkId}
 use Rattle.jn_base.specs.declared.names.Tickets.{Tickets}
 use Rattle.jn_base.specs.declared.names.Cause.{Cause}
 use Rattle.jn_base.specs.declared.names.Cause.TheVariants.{Requested, Broken as BrokenAt, Lost as LostAt, Full as FullAt}
+use Rattle.jn_base.specs.declared.names.Resource.TheVariants as resources
+use Rattle.jn_base.specs.declared.names.Resource.{Resource}
 use Rattle.jn_base.specs.Names.{client_eq, tid_eq}
 use Rattle.jn_msgs.specs.declared.message.Message.{Message}
 use Rattle.jn_msgs.specs.declared.message.Message.TheVariants as messages
@@ -25,7 +27,7 @@ use Rattle.jn_rows.specs.Outcomes.{RowOutcome, Sent, ignored, quiet, sends}
 use Rattle.jn_rows.specs.Coordinator.{CoordinatorTable, transaction_at, with_stage, without, besides, all_in, is_work, drops, commits, prepares, committed_to, aborted_to, commit_row, abort_row, forget_row, thanked, closed, after_closing, begin_new, begun_by, begin_again, begin_row, seen_now, changes_of_closing, end_promised, end_open, end_stage, end_row, abort_stage, abort_request, told_stage, inquire_row, noted, with_work, counted_vote, vote_stage, vote_row, done_stage, done_row, thanks_stage, thanks_row, coordinator_row, told_again, coordinator_again, all_thanked, restored_transaction, restored_transactions}
 use Rattle.jn_wrong.specs.Wanting.{OfCause}
 
-module _ (P : ServerNo → ℕ → ℕ → ℕ → Type 0) where
+module _ (P : ServerNo → Resource → ℕ → ℕ → Type 0) where
   -- ---- messages
 
   abbrev pub OfVote : WorkId → Vote → Type 0
@@ -187,20 +189,20 @@ module _ (P : ServerNo → ℕ → ℕ → ℕ → Type 0) where
     ends-promised y request (W ∷ Ws) = record { says = prepares-say y.tid y.client (W ∷ Ws); table = staged-so y.tid (Voting (record { request = request; works = W ∷ Ws; ready = [] })) tt t.transactions its }
 
     -- the one place where it is short itself
-    ends-open : (free : ℕ) (y : Transaction) (request : ℕ) (Ws : List WorkId) → (nat_lt free 1 ≡ true → P k.server 31 free 1) → OfRow (end_open t free k y request Ws)
+    ends-open : (free : ℕ) (y : Transaction) (request : ℕ) (Ws : List WorkId) → (nat_lt free 1 ≡ true → P k.server resources.Records free 1) → OfRow (end_open t free k y request Ws)
     ends-open free y request Ws short = by (nat_lt free 1) refl
       where
-        by : (b : Bool) → nat_lt free 1 ≡ b → OfRow (if b then abort_row t k y (FullAt k.server 31 free 1) Ws else end_promised t k y request Ws)
-        by true e = aborts-so y (FullAt k.server 31 free 1) Ws (short e)
+        by : (b : Bool) → nat_lt free 1 ≡ b → OfRow (if b then abort_row t k y (FullAt k.server resources.Records free 1) Ws else end_promised t k y request Ws)
+        by true e = aborts-so y (FullAt k.server resources.Records free 1) Ws (short e)
         by false e = ends-promised y request Ws
 
-    ends-stage : (free : ℕ) (y : Transaction) (request : ℕ) (Ws : List WorkId) → (nat_lt free 1 ≡ true → P k.server 31 free 1) → (stage : Stage) → OfStage stage → OfRow (end_stage t free k y request Ws stage)
+    ends-stage : (free : ℕ) (y : Transaction) (request : ℕ) (Ws : List WorkId) → (nat_lt free 1 ≡ true → P k.server resources.Records free 1) → (stage : Stage) → OfStage stage → OfRow (end_stage t free k y request Ws stage)
     ends-stage free y request Ws short Open h = ends-open free y request Ws short
     ends-stage free y request Ws short (Voting b) h = only-says (prepares y.tid y.client (besides b.works b.ready)) (prepares-say y.tid y.client (besides b.works b.ready))
     ends-stage free y request Ws short (Committed d) h = only-says (committed_to y ∷ []) (tt, tt)
     ends-stage free y request Ws short (Aborted cause) h = only-says (aborted_to y cause ∷ []) (h, tt)
 
-    ends-so : (free : ℕ) (c : ClientNo) (request : ℕ) (T : Tid) (Ws : List WorkId) → (nat_lt free 1 ≡ true → P k.server 31 free 1) → (o : Option Transaction) → OfFound o → OfRow (end_row t free k c request T Ws o)
+    ends-so : (free : ℕ) (c : ClientNo) (request : ℕ) (T : Tid) (Ws : List WorkId) → (nat_lt free 1 ≡ true → P k.server resources.Records free 1) → (o : Option Transaction) → OfFound o → OfRow (end_row t free k c request T Ws o)
     ends-so free c request T Ws short (Some y) h = ends-stage free y request Ws short y.stage h
     ends-so free c request T Ws short None h = record { says = (tt, drops-say T Ws); table = its }
 
@@ -276,7 +278,7 @@ module _ (P : ServerNo → ℕ → ℕ → ℕ → Type 0) where
       (begins-new (record { transactions = after_closing c t.transactions; seen = seen_now t.seen c request }) (closing-so c t.transactions its) (changes_of_closing c t.transactions) k c request)
       (either (nat_eq (t.seen c) request) _ _ (begins-again t k its c request (begun_by c request t.transactions)) (is-ignored t k its))
 
-  pub coordinates-so : (t : CoordinatorTable) (free : ℕ) (k : Tickets) → OfTable t.transactions → (nat_lt free 1 ≡ true → P k.server 31 free 1) → (m : Message) → OfMessage m → OfRow (coordinator_row t free k m)
+  pub coordinates-so : (t : CoordinatorTable) (free : ℕ) (k : Tickets) → OfTable t.transactions → (nat_lt free 1 ≡ true → P k.server resources.Records free 1) → (m : Message) → OfMessage m → OfRow (coordinator_row t free k m)
   coordinates-so t free k its short (messages.Begin c request) h = begins-so t k its c request
   coordinates-so t free k its short (messages.End c request T works) h = ends-so t k its free c request T works short (transaction_at T t.transactions) (found-at T t.transactions its)
   coordinates-so t free k its short (messages.Abort c request T works) h = abort-so t k its c T works (transaction_at T t.transactions) (found-at T t.transactions its)

@@ -6,6 +6,8 @@ use Rattle.jn_base.specs.declared.names.ClientNo.{ClientNo}
 use Rattle.jn_base.specs.declared.names.Tid.{Tid}
 use Rattle.jn_base.specs.declared.names.WorkId.{WorkId}
 use Rattle.jn_base.specs.declared.names.Party.TheVariants.{Client, Server}
+use Rattle.jn_base.specs.declared.names.Resource.TheVariants as resources
+use Rattle.jn_base.specs.declared.names.Resource.{Resource}
 use Rattle.jn_base.specs.declared.op.Answer.{Answer}
 use Rattle.jn_base.specs.declared.op.Answer.TheVariants as answers
 use Rattle.jn_base.specs.declared.op.Command.{Command}
@@ -39,7 +41,7 @@ use Rattle.jn_wrong.specs.Wanting.{IsShort, OfText}
 use Rattle.jn_wrong.proofs.ShortRows.{OfMessage, OfAll, OfOutcome, OfTable, OfRow, both-say, said, coordinates-so, again-so, all-thanked-so, restored-so}
 use Rattle.jn_wrong.proofs.ShortWorks.{works-so, steps-so, asks-so}
 
-module _ (P : ServerNo → ℕ → ℕ → ℕ → Type 0) where
+module _ (P : ServerNo → Resource → ℕ → ℕ → Type 0) where
   abbrev pub OfTexts : List Text → Type 0
   OfTexts [] = Unit {0}
   OfTexts (text ∷ texts) = OfText P text × OfTexts texts
@@ -235,11 +237,11 @@ module _ (P : ServerNo → ℕ → ℕ → ℕ → Type 0) where
     table : OfTable P row.table.coordinator.transactions
 
   row-so : (s : ServerNo) (m : Memory) (x : StableState) (found : Pick → StableState) (room : Room) (message : Message) → UpFact s m found → OfTable P m.coordinator.transactions → OfMessage P message
-      → ((n f d : ℕ) → IsShort room.free n f d → P s n f d) → OfServer (server_row m x room message)
+      → ((n : Resource) (f d : ℕ) → IsShort room.free n f d → P s n f d) → OfServer (server_row m x room message)
   row-so s m x found room message up table h short = by (is_for_worker message)
     where
       coordinates : OfRow P (coordinator_row m.coordinator room.free.records m.tickets message)
-      coordinates = coordinates-so P m.coordinator room.free.records m.tickets table (λ e. subst (λ (q : ServerNo). P q 31 room.free.records 1) (sym up.server) (short 31 room.free.records 1 (record { has_is = refl; less = e }))) message h
+      coordinates = coordinates-so P m.coordinator room.free.records m.tickets table (λ e. subst (λ (q : ServerNo). P q resources.Records room.free.records 1) (sym up.server) (short resources.Records room.free.records 1 (record { has_is = refl; less = e }))) message h
 
       by : (b : Bool) → OfServer (if b then of_worker m (worker_row m.worker (storage_of m x room) m.tickets message) else of_coordinator m (coordinator_row m.coordinator room.free.records m.tickets message))
       by true = record {
@@ -253,20 +255,20 @@ module _ (P : ServerNo → ℕ → ℕ → ℕ → Type 0) where
 
   -- what a server that is up finds of its room while it takes a message
   abbrev pub FindsAt : World → ℕ → Room → Type 0
-  FindsAt w k room = (s : ServerNo) (m : Memory) (message : Message) → slice_get w.sent k ≡ Some (Server s, message) → w.memory s ≡ Some m → (n f d : ℕ) → IsShort room.free n f d → P s n f d
+  FindsAt w k room = (s : ServerNo) (m : Memory) (message : Message) → slice_get w.sent k ≡ Some (Server s, message) → w.memory s ≡ Some m → (n : Resource) (f d : ℕ) → IsShort room.free n f d → P s n f d
 
   abbrev pub Finds : Step → World → Type 0
   Finds (Deliver k room) w = FindsAt w k room
   Finds step w = Unit {0}
 
   module _ (w : World) (o : OfWorld w) (locks : LockFacts w) where
-    memory-so : (s : ServerNo) (k : ℕ) (room : Room) (stop : Option (Pick → ℕ)) (message : Message) → OfMessage P message → ((m : Memory) → stop ≡ None → w.memory s ≡ Some m → (n f d : ℕ) → IsShort room.free n f d → P s n f d)
+    memory-so : (s : ServerNo) (k : ℕ) (room : Room) (stop : Option (Pick → ℕ)) (message : Message) → OfMessage P message → ((m : Memory) → stop ≡ None → w.memory s ≡ Some m → (n : Resource) (f d : ℕ) → IsShort room.free n f d → P s n f d)
         → (now : Option Memory) → w.memory s ≡ now → OfWorld (at_memory s k room stop message now w)
     memory-so s k room stop message h short None e = record { sent = o.sent; tables = o.tables; asked = o.asked; lines = both-tell w.lines (says.Lost k ∷ []) o.lines (tt, tt) }
     memory-so s k room None message h short (Some m) e = let r = row-so s m (stable (w.found s)) (w.found s) room message (up-fact w s m locks e) (o.tables s m e) h (short m refl e) in done-so s (Some k) (server_row m (stable (w.found s)) room message) w r.says r.table o
     memory-so s k room (Some made) message h short (Some m) e = stopped-so s made (server_row m (stable (w.found s)) room message) w o
 
-    handed-so : (k : ℕ) (room : Room) (stop : Option (Pick → ℕ)) → ((s : ServerNo) (m : Memory) (message : Message) → stop ≡ None → slice_get w.sent k ≡ Some (Server s, message) → w.memory s ≡ Some m → (n f d : ℕ) → IsShort room.free n f d → P s n f d)
+    handed-so : (k : ℕ) (room : Room) (stop : Option (Pick → ℕ)) → ((s : ServerNo) (m : Memory) (message : Message) → stop ≡ None → slice_get w.sent k ≡ Some (Server s, message) → w.memory s ≡ Some m → (n : Resource) (f d : ℕ) → IsShort room.free n f d → P s n f d)
         → (y : Option Sent) → slice_get w.sent k ≡ y → OfWorld (handed k room stop y w)
     handed-so k room stop short None e = o
     handed-so k room stop short (Some (Client c, message)) e = let r = takes-so (w.clients c) (o.asked c) message (said P w.sent k (Client c, message) o.sent e) in took-so c k (take_row (w.clients c) message).0 (take_row (w.clients c) message).1 w r.0 r.1 o

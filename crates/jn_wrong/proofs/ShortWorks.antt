@@ -9,6 +9,8 @@ use Rattle.jn_base.specs.declared.names.Tickets.{Tickets}
 use Rattle.jn_base.specs.declared.names.Party.TheVariants.{Server}
 use Rattle.jn_base.specs.declared.op.Op.{Op}
 use Rattle.jn_base.specs.declared.op.Answer.{Answer}
+use Rattle.jn_base.specs.declared.names.Resource.TheVariants as resources
+use Rattle.jn_base.specs.declared.names.Resource.{Resource}
 use Rattle.jn_records.specs.declared.net_list.Need.{Need}
 use Rattle.jn_records.specs.declared.intention.Intention.{Intention}
 use Rattle.jn_order.specs.Files.{Files, answer_to, change}
@@ -27,7 +29,7 @@ use Rattle.jn_rows.specs.Worker.{WorkerTable, WorkStorage, Held, Wanted, shortag
 use Rattle.jn_wrong.specs.Wanting.{IsShort}
 use Rattle.jn_wrong.proofs.ShortRows.{OfVote, OfAll}
 
-module _ (P : ServerNo → ℕ → ℕ → ℕ → Type 0) where
+module _ (P : ServerNo → Resource → ℕ → ℕ → Type 0) where
   -- what a row sends is said truly
   abbrev Says : RowOutcome WorkerTable → Type 0
   Says row = OfAll P row.messages
@@ -66,15 +68,15 @@ module _ (P : ServerNo → ℕ → ℕ → ℕ → Type 0) where
 
   module _ (t : WorkerTable) (s : WorkStorage) (k : Tickets) where
     -- it refuses for want of room only where it is short
-    short-vote : (W : WorkId) (free need : Need) → ((n f d : ℕ) → IsShort free n f d → P W.server n f d) → (held : Option Held) → OfVote P W (vote_of held (shortage free need))
+    short-vote : (W : WorkId) (free need : Need) → ((n : Resource) (f d : ℕ) → IsShort free n f d → P W.server n f d) → (held : Option Held) → OfVote P W (vote_of held (shortage free need))
     short-vote W free need short (Some held) = tt
     short-vote W free need short None = by (nat_lt free.records need.records) refl (nat_lt free.pages need.pages) refl (nat_lt free.heads need.heads) refl
       where
         by : (a : Bool) → nat_lt free.records need.records ≡ a → (b : Bool) → nat_lt free.pages need.pages ≡ b → (c : Bool) → nat_lt free.heads need.heads ≡ c
-            → OfVote P W (vote_of None (if a then Some (votes.Full 31 free.records need.records) else (if b then Some (votes.Full 32 free.pages need.pages) else (if c then Some (votes.Full 33 free.heads need.heads) else None))))
-        by true e b f c g = short 31 free.records need.records (record { has_is = refl; less = e })
-        by false e true f c g = short 32 free.pages need.pages (record { has_is = refl; less = f })
-        by false e false f true g = short 33 free.heads need.heads (record { has_is = refl; less = g })
+            → OfVote P W (vote_of None (if a then Some (votes.Full resources.Records free.records need.records) else (if b then Some (votes.Full resources.Pages free.pages need.pages) else (if c then Some (votes.Full resources.Heads free.heads need.heads) else None))))
+        by true e b f c g = short resources.Records free.records need.records (record { has_is = refl; less = e })
+        by false e true f c g = short resources.Pages free.pages need.pages (record { has_is = refl; less = f })
+        by false e false f true g = short resources.Heads free.heads need.heads (record { has_is = refl; less = g })
         by false e false f false g = tt
 
     prepared-so : (T : Tid) (c : ClientNo) (w : Work) (a : ActiveWork) (vote : Vote) → OfVote P w.name vote → Says (prepared_row t k T c w a vote)
@@ -84,13 +86,13 @@ module _ (P : ServerNo → ℕ → ℕ → ℕ → Type 0) where
     prepared-so T c w a (votes.Lost then' now) h = (tt, tt)
     prepared-so T c w a (votes.Full n f d) h = (h, tt)
 
-    prepare-phase-so : (T : Tid) (c : ClientNo) (w : Work) → ((n f d : ℕ) → IsShort s.free n f d → P w.name.server n f d) → (phase : Phase) → Says (prepare_phase t s k T c w phase)
+    prepare-phase-so : (T : Tid) (c : ClientNo) (w : Work) → ((n : Resource) (f d : ℕ) → IsShort s.free n f d → P w.name.server n f d) → (phase : Phase) → Says (prepare_phase t s k T c w phase)
     prepare-phase-so T c w short (Active a) = prepared-so T c w a (vote_of (conflict w.name (commit_wants a.writes) t) (shortage s.free (need_in s.state.files a.list)))
         (short-vote w.name s.free (need_in s.state.files a.list) short (conflict w.name (commit_wants a.writes) t))
     prepare-phase-so T c w short (Broken u by) = (tt, tt)
     prepare-phase-so T c w short (Stored p) = either (is_going (s.state.works w.name)) (ignored t k) (voted t k T w.name votes.Ready) tt (tt, tt)
 
-    prepare-so : (T : Tid) (c : ClientNo) (W : WorkId) (o : Option Work) → ((w : Work) → o ≡ Some w → (n f d : ℕ) → IsShort s.free n f d → P w.name.server n f d) → Says (prepare_row t s k T c W o)
+    prepare-so : (T : Tid) (c : ClientNo) (W : WorkId) (o : Option Work) → ((w : Work) → o ≡ Some w → (n : Resource) (f d : ℕ) → IsShort s.free n f d → P w.name.server n f d) → Says (prepare_row t s k T c W o)
     prepare-so T c W (Some w) short = prepare-phase-so T c w (short w refl) w.phase
     prepare-so T c W None short = (tt, tt)
 
@@ -112,7 +114,7 @@ module _ (P : ServerNo → ℕ → ℕ → ℕ → Type 0) where
     drop-so W (Some w) = drop-phase-so W w.phase
     drop-so W None = tt
 
-    pub works-so : ((W : WorkId) (w : Work) → work_at W t ≡ Some w → (n f d : ℕ) → IsShort s.free n f d → P w.name.server n f d) → (m : Message) → Says (worker_row t s k m)
+    pub works-so : ((W : WorkId) (w : Work) → work_at W t ≡ Some w → (n : Resource) (f d : ℕ) → IsShort s.free n f d → P w.name.server n f d) → (m : Message) → Says (worker_row t s k m)
     works-so short (messages.Open c request T) = opens-so t k c request T (work_of T t)
     works-so short (messages.Op c request W number op) = op-so t s.state.files k c request W number op (work_at W t)
     works-so short (messages.Prepare T c W) = prepare-so T c W (work_at W t) (short W)

@@ -1,7 +1,7 @@
 //! Scripts: a line has what a server is made to do, and what it says of it, behind a bar.
 
 use super::moves::{Move, Named, Task};
-use jn_base::{FileNo, LockUnit, ServerNo, Tid, WorkId};
+use jn_base::{FileNo, LockUnit, Resource, ServerNo, Tid, WorkId};
 use jn_msgs::Vote;
 
 fn number_in(text: &str) -> Option<u32> {
@@ -96,13 +96,23 @@ impl<'a> Reader<'a> {
         Some(LockUnit::File(FileNo(self.number()?)))
     }
 
+    /// What there is too little of, by the number of its refusal.
+    fn resource(&mut self) -> Option<Resource> {
+        match self.word()? {
+            "31" => Some(Resource::Records),
+            "32" => Some(Resource::Pages),
+            "33" => Some(Resource::Heads),
+            _ => None,
+        }
+    }
+
     fn vote(&mut self) -> Option<Vote> {
         match self.word()? {
             "ready" => Some(Vote::Ready),
             "waiting" => Some(Vote::Waiting(self.file()?, self.tid()?)),
             "broken" => Some(Vote::Broken(self.file()?, self.tid()?)),
             "lost" => Some(Vote::Lost(self.number()?, self.number()?)),
-            "full" => Some(Vote::Full(self.small()?, self.number()?, self.number()?)),
+            "full" => Some(Vote::Full(self.resource()?, self.number()?, self.number()?)),
             _ => None,
         }
     }

@@ -1,6 +1,8 @@
 //! What a server sends, notes and shows, in words: every field of a message, after whom it goes to.
 
-use jn_base::{Answer, Block, BlockContent, Cause, ClientNo, FileNo, LockUnit, Party, Tid, WorkId};
+use jn_base::{
+    Answer, Block, BlockContent, Cause, ClientNo, FileNo, LockUnit, Party, Resource, Tid, WorkId,
+};
 use jn_msgs::{Message, Note, Out, Outcome, Vote};
 use jn_server::Shown;
 use std::alloc::{AllocError, Global};
@@ -130,9 +132,9 @@ impl Words {
     }
 
     /// The number of a refusal for want of room, what is free and what is needed.
-    fn full(&mut self, number: u8, free: u32, need: u32) -> Result<(), AllocError> {
+    fn full(&mut self, resource: Resource, free: u32, need: u32) -> Result<(), AllocError> {
         self.word("full")?;
-        self.number(u32::from(number))?;
+        self.number(u32::from(resource.refusal_number()))?;
         self.number(free)?;
         self.number(need)
     }
@@ -149,7 +151,7 @@ impl Words {
                 self.held(unit, by)
             }
             Vote::Lost(then, now) => self.epochs(then, now),
-            Vote::Full(number, free, need) => self.full(number, free, need),
+            Vote::Full(resource, free, need) => self.full(resource, free, need),
         }
     }
 
@@ -165,9 +167,9 @@ impl Words {
                 self.word("lost")?;
                 self.party(Party::Server(s))
             }
-            Cause::Full(s, number, free, need) => {
+            Cause::Full(s, resource, free, need) => {
                 self.party(Party::Server(s))?;
-                self.full(number, free, need)
+                self.full(resource, free, need)
             }
         }
     }

@@ -8,6 +8,8 @@ use Rattle.jn_base.specs.declared.names.WorkId.{WorkId}
 use Rattle.jn_base.specs.declared.names.Tickets.{Tickets}
 use Rattle.jn_base.specs.declared.names.Cause.{Cause}
 use Rattle.jn_base.specs.declared.names.Cause.TheVariants.{Requested, Broken as BrokenAt, Lost as LostAt, Full as FullAt}
+use Rattle.jn_base.specs.declared.names.Resource.TheVariants as resources
+use Rattle.jn_base.specs.declared.names.Resource.{Resource}
 use Rattle.jn_base.specs.Names.{client_eq, tid_eq}
 use Rattle.jn_base.proofs.Tells.{client_tells, tid_tells}
 use Rattle.jn_msgs.specs.declared.message.Message.{Message}
@@ -76,7 +78,7 @@ abbrev pub Spent : Machine → Tid → Type 0
 Spent w T = (w.named T ≡ true) ⊎ (w.aborted T ≡ true)
 
 module _ (os : List Opening) (clients : ClientNo → ClientTable) (w v : Machine) (Caused : ClientNo → Tid → Cause → Type 0) (unique : (a b : Opening) → Has a os → Has b os → a.tid ≡ b.tid → a ≡ b)
-    (full : (c : ClientNo) (T : Tid) (s : ServerNo) (n free need : ℕ) → nat_lt free need ≡ true → Caused c T (FullAt s n free need)) where
+    (full : (c : ClientNo) (T : Tid) (s : ServerNo) (n : Resource) (free need : ℕ) → nat_lt free need ≡ true → Caused c T (FullAt s n free need)) where
   -- no client is past it
   abbrev pub NotPast : Tid → Type 0
   NotPast T = (c : ClientNo) → Past os clients w Caused c T → ⊥
@@ -158,7 +160,7 @@ module _ (os : List Opening) (clients : ClientNo → ClientTable) (w v : Machine
         promised q (W ∷ Ws) = staged y.tid _ _ _ _ (λ h. prepares-new _ y.tid y.client (W ∷ Ws))
 
         ends : (free q : ℕ) (Ws : List WorkId) (stage : Stage) → Holds (end_stage t free k y q Ws stage)
-        ends free q Ws Open = either (nat_lt free 1) _ _ (aborts y (FullAt k.server 31 free 1) Ws) (promised q Ws)
+        ends free q Ws Open = either (nat_lt free 1) _ _ (aborts y (FullAt k.server resources.Records free 1) Ws) (promised q Ws)
         ends free q Ws (Voting b) = stays _ _ (λ h. prepares-new _ y.tid y.client (besides b.works b.ready))
         ends free q Ws (Committed d) = stays _ _ (λ h. (tt, tt))
         ends free q Ws (Aborted cause) = stays _ _ (λ h. (tt, tt))

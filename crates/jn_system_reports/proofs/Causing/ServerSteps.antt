@@ -10,6 +10,7 @@ use Rattle.jn_base.specs.declared.names.WorkId.{WorkId}
 use Rattle.jn_base.specs.declared.names.Cause.{Cause}
 use Rattle.jn_base.specs.declared.names.Cause.TheVariants.{Lost as LostAt, Full as FullAt}
 use Rattle.jn_base.specs.declared.names.Party.TheVariants.{Server}
+use Rattle.jn_base.specs.declared.names.Resource.{Resource}
 use Rattle.jn_base.specs.Names.{server_eq, client_eq}
 use Rattle.jn_base.proofs.Tells.{server_tells, client_tells}
 use Rattle.jn_msgs.specs.declared.message.Message.{Message}
@@ -107,7 +108,7 @@ module _ (es : List Event) (ls : List Line) (r : World) (w v : Machine) (past : 
   abbrev pub Caused : ClientNo → Tid → Cause → Type 0
   Caused = HasCause (openings r.sent) es ls
 
-  pub full : (c : ClientNo) (T : Tid) (s : ServerNo) (n free need : ℕ) → nat_lt free need ≡ true → Caused c T (FullAt s n free need)
+  pub full : (c : ClientNo) (T : Tid) (s : ServerNo) (n : Resource) (free need : ℕ) → nat_lt free need ≡ true → Caused c T (FullAt s n free need)
   full c T s n free need h = inr h
 
   -- what a server's message says

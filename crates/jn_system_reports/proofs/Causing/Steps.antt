@@ -11,6 +11,7 @@ use Rattle.jn_base.specs.declared.names.Cause.TheVariants.{Requested, Lost as Lo
 use Rattle.jn_base.specs.declared.names.Party.TheVariants.{Client, Server}
 use Rattle.jn_base.specs.declared.op.Command.{Command}
 use Rattle.jn_base.specs.declared.op.Command.TheVariants.{Abort}
+use Rattle.jn_base.specs.declared.names.Resource.{Resource}
 use Rattle.jn_base.specs.Names.{client_eq, tid_eq}
 use Rattle.jn_base.proofs.Tells.{client_tells, tid_tells}
 use Rattle.jn_msgs.specs.declared.message.Message.{Message}
@@ -231,7 +232,7 @@ module _ (es es' : List Event) (on : (j : ℕ) (e : Event) → Stands 1 es j e �
           same (inl p) = inr (lost (e ∙ ap (λ (z : Tid). Some z) p.1))
           same (inr p) = inl (over (λ f. p.1 (some-tid U (sym e ∙ f))))
 
-  pub any-full : (c : ClientNo) (T : Tid) (s : ServerNo) (n free need : ℕ) → nat_lt free need ≡ true → Caused c T (FullAt s n free need)
+  pub any-full : (c : ClientNo) (T : Tid) (s : ServerNo) (n : Resource) (free need : ℕ) → nat_lt free need ≡ true → Caused c T (FullAt s n free need)
   any-full c T s n free need h = inr h
 
   -- a client's own abort

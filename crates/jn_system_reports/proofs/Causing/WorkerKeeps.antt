@@ -12,6 +12,8 @@ use Rattle.jn_base.specs.declared.names.Cause.{Cause}
 use Rattle.jn_base.specs.declared.names.Cause.TheVariants.{Full as FullAt}
 use Rattle.jn_base.specs.declared.op.Op.{Op}
 use Rattle.jn_base.specs.declared.op.Answer.{Answer}
+use Rattle.jn_base.specs.declared.names.Resource.TheVariants as resources
+use Rattle.jn_base.specs.declared.names.Resource.{Resource}
 use Rattle.jn_base.specs.Names.{work_eq}
 use Rattle.jn_base.proofs.Tells.{server_tells, tid_tells, work_tells}
 use Rattle.jn_order.specs.Files.{Files, change, answer_to}
@@ -125,7 +127,7 @@ live-less V W t rising h = by (work_tells W V)
 
 -- ---- rows
 
-module _ (os : List Opening) (clients : ClientNo → ClientTable) (w : Machine) (Caused : ClientNo → Tid → Cause → Type 0) (full : (c : ClientNo) (T : Tid) (s : ServerNo) (n free need : ℕ) → nat_lt free need ≡ true → Caused c T (FullAt s n free need))
+module _ (os : List Opening) (clients : ClientNo → ClientTable) (w : Machine) (Caused : ClientNo → Tid → Cause → Type 0) (full : (c : ClientNo) (T : Tid) (s : ServerNo) (n : Resource) (free need : ℕ) → nat_lt free need ≡ true → Caused c T (FullAt s n free need))
     (s : ServerNo) (n : Option ℕ) (lines : List Text) (t : WorkerTable) (k : Tickets) (rising : are_rising t ≡ true) (place : (W : WorkId) (x : Work) → work_at W t ≡ Some x → W.server ≡ k.server) (all : Each (WorkTold s lines) t) where
   -- a work that is told to be open is one of the table, and was asked for
   abbrev pub OpensFact : (ClientNo → ℕ → Tid → Type 0) → WorkerTable → Sent → Type 0
@@ -218,16 +220,16 @@ module _ (os : List Opening) (clients : ClientNo → ClientTable) (w : Machine) 
     -- a shortage is of something of which there is less than is needed
     abbrev IsShort : Option Vote → Type 0
     IsShort None = Unit {0}
-    IsShort (Some vote) = (number : ℕ) × (free : ℕ) × (need : ℕ) × (vote ≡ votes.Full number free need) × (nat_lt free need ≡ true)
+    IsShort (Some vote) = (number : Resource) × (free : ℕ) × (need : ℕ) × (vote ≡ votes.Full number free need) × (nat_lt free need ≡ true)
 
     is-short : (free need : Need) → IsShort (shortage free need)
     is-short free need = by (nat_lt free.records need.records) refl (nat_lt free.pages need.pages) refl (nat_lt free.heads need.heads) refl
       where
         by : (a : Bool) → nat_lt free.records need.records ≡ a → (b : Bool) → nat_lt free.pages need.pages ≡ b → (c : Bool) → nat_lt free.heads need.heads ≡ c
-            → IsShort (if a then Some (votes.Full 31 free.records need.records) else (if b then Some (votes.Full 32 free.pages need.pages) else (if c then Some (votes.Full 33 free.heads need.heads) else None)))
-        by true e b f c g = (31, free.records, need.records, refl, e)
-        by false e true f c g = (32, free.pages, need.pages, refl, f)
-        by false e false f true g = (33, free.heads, need.heads, refl, g)
+            → IsShort (if a then Some (votes.Full resources.Records free.records need.records) else (if b then Some (votes.Full resources.Pages free.pages need.pages) else (if c then Some (votes.Full resources.Heads free.heads need.heads) else None)))
+        by true e b f c g = (resources.Records, free.records, need.records, refl, e)
+        by false e true f c g = (resources.Pages, free.pages, need.pages, refl, f)
+        by false e false f true g = (resources.Heads, free.heads, need.heads, refl, g)
         by false e false f false g = tt
 
     prepares : (T : Tid) (c : ClientNo) (x : Work) (a : ActiveWork) (held : Option Held) (short : Option Vote) → IsShort short → Keeps (prepared_row t k T c x a (vote_of held short))

@@ -9,6 +9,7 @@ use Rattle.jn_base.specs.declared.names.Cause.TheVariants.{Requested, Lost as Lo
 use Rattle.jn_base.specs.declared.op.Command.{Command}
 use Rattle.jn_base.specs.declared.op.Command.TheVariants.{Abort}
 use Rattle.jn_base.specs.declared.names.Party.TheVariants.{Client, Server}
+use Rattle.jn_base.specs.declared.names.Resource.{Resource}
 use Rattle.jn_msgs.specs.declared.message.Message.{Message}
 use Rattle.jn_msgs.specs.declared.message.Message.TheVariants as messages
 use Rattle.jn_report.specs.declared.line.Text.{Text}
@@ -52,7 +53,7 @@ thanks-none (to, _) h = refl
 
 module _ (r : World) (w v : Machine) (Caused Caused' : ClientNo → Tid → Cause → Type 0) (past : PastFacts r.sent r.clients r.memory r.found w Caused)
     (caused : (c : ClientNo) (T : Tid) (cause : Cause) → Caused c T cause → Caused' c T cause) (aborted : (T : Tid) → w.aborted T ≡ true → v.aborted T ≡ true) (grown : (T : Tid) → w.named T ≡ true → v.named T ≡ true)
-    (named : (T : Tid) → w.named T ≡ has_line T r.lines) (full : (c : ClientNo) (T : Tid) (s : ServerNo) (n free need : ℕ) → nat_lt free need ≡ true → Caused c T (FullAt s n free need))
+    (named : (T : Tid) → w.named T ≡ has_line T r.lines) (full : (c : ClientNo) (T : Tid) (s : ServerNo) (n : Resource) (free need : ℕ) → nat_lt free need ≡ true → Caused c T (FullAt s n free need))
     (mirrors : Mirrors r w) (inv : Invariant w) (locks : LockFacts r) (facts : Facts r w) (talk : Talk r w)
     (votes : (s : ServerNo) (m : Memory) → r.memory s ≡ Some m → (room : Room) (message : Message) → In (Server s, message) r.sent → Each (SaysPast (openings r.sent) r.clients w Caused) (worker_row m.worker (storage_of m (stable (r.found s)) room) m.tickets message).messages)
     (lost : (s : ServerNo) (m : Memory) → r.memory s ≡ Some m → (c : ClientNo) (T : Tid) → T.server ≡ s → transaction_at T m.coordinator.transactions ≡ None → Had (openings r.sent) r.clients w Caused c T → Past (openings r.sent) r.clients w Caused c T ⊎ Caused c T (LostAt s)) where

@@ -11,6 +11,8 @@ use Rattle.jn_base.specs.declared.names.Tickets.{Tickets}
 use Rattle.jn_base.specs.declared.names.Cause.{Cause}
 use Rattle.jn_base.specs.declared.names.Cause.TheVariants.{Requested, Broken as BrokenAt, Lost as LostAt, Full as FullAt}
 use Rattle.jn_base.specs.declared.names.Party.{Party}
+use Rattle.jn_base.specs.declared.names.Resource.TheVariants as resources
+use Rattle.jn_base.specs.declared.names.Resource.{Resource}
 use Rattle.jn_base.specs.Names.{client_eq, tid_eq}
 use Rattle.jn_base.proofs.Tells.{client_tells, tid_tells}
 use Rattle.jn_msgs.specs.declared.message.Message.{Message}
@@ -170,7 +172,7 @@ is_broke (Broke T u by) = true
 is_broke note = false
 
 module _ (os : List Opening) (clients : ClientNo → ClientTable) (w : Machine) (Caused : ClientNo → Tid → Cause → Type 0) (unique : (a b : Opening) → Has a os → Has b os → a.tid ≡ b.tid → a ≡ b)
-    (full : (c : ClientNo) (T : Tid) (s : ServerNo) (n free need : ℕ) → nat_lt free need ≡ true → Caused c T (FullAt s n free need)) where
+    (full : (c : ClientNo) (T : Tid) (s : ServerNo) (n : Resource) (free need : ℕ) → nat_lt free need ≡ true → Caused c T (FullAt s n free need)) where
   -- two openings of a transaction
   one-client : (c d : ClientNo) (p q : ℕ) (T U : Tid) → Has (opening c p T) os → Has (opening d q U) os → T ≡ U → c ≡ d
   one-client c d p q T U h k e = ap (λ (a : Opening). a.client) (unique (opening c p T) (opening d q U) h k e)
@@ -337,8 +339,8 @@ module _ (os : List Opening) (clients : ClientNo → ClientTable) (w : Machine) 
       ends : (free q : ℕ) (Ws : List WorkId) → EndedBy os y.client (clients y.client) y.tid q → (stage : Stage) → StageFact os clients w Caused y.client y.tid stage → RowPast (end_stage t free k y q Ws stage)
       ends free q Ws h Open s = by (nat_lt free 1) refl
         where
-          by : (b : Bool) → nat_lt free 1 ≡ b → RowPast (if b then abort_row t k y (FullAt k.server 31 free 1) Ws else end_promised t k y q Ws)
-          by true e = aborts (FullAt k.server 31 free 1) Ws h.had (full y.client y.tid k.server 31 free 1 e)
+          by : (b : Bool) → nat_lt free 1 ≡ b → RowPast (if b then abort_row t k y (FullAt k.server resources.Records free 1) Ws else end_promised t k y q Ws)
+          by true e = aborts (FullAt k.server resources.Records free 1) Ws h.had (full y.client y.tid k.server resources.Records free 1 e)
           by false e = promised q Ws h
       ends free q Ws h (Voting b) s = tells _ [] refl refl (prepares-say y.tid y.client (besides b.works b.ready))
       ends free q Ws h (Committed d) s = tells _ [] refl refl (s.0, tt)

@@ -23,6 +23,7 @@ use Rattle.jn_rows.specs.declared.coordinator.Voting.{Voting as Ballot}
 use Rattle.jn_rows.specs.Stable.{StableState, FlagState, Pick, Change, AddFlag, DropFlag, made_all, stable, is_going}
 use Rattle.jn_rows.specs.Outcomes.{RowOutcome}
 use Rattle.jn_base.specs.declared.names.Tickets.{Tickets}
+use Rattle.jn_base.specs.declared.names.Resource.{Resource}
 use Rattle.jn_records.specs.declared.intention.Intention.{Intention}
 use Rattle.jn_rows.specs.declared.worker.Work.{Work}
 use Rattle.jn_rows.specs.Worker.{WorkerTable, WorkStorage, going_work, carried_row, intentions_of, going_row, worker_row, worker_step, worker_again, timeout_row}
@@ -111,7 +112,7 @@ module _ (r : World) (w v : Machine) (Caused Caused' : ClientNo → Tid → Caus
     (caused : (c : ClientNo) (T : Tid) (cause : Cause) → Caused c T cause → Caused' c T cause) (aborted : (T : Tid) → w.aborted T ≡ true → v.aborted T ≡ true) (grown : (T : Tid) → w.named T ≡ true → v.named T ≡ true)
     (runs : (c : ClientNo) (T : Tid) → (r.clients c).transaction ≡ Some T → Began (openings r.sent) c (r.clients c).next T) (named : (T : Tid) → w.named T ≡ has_line T r.lines)
     (once : (a b : Opening) → Has a (openings r.sent) → Has b (openings r.sent) → a.tid ≡ b.tid → a ≡ b)
-    (full : (c : ClientNo) (T : Tid) (s : ServerNo) (n free need : ℕ) → nat_lt free need ≡ true → Caused c T (FullAt s n free need)) where
+    (full : (c : ClientNo) (T : Tid) (s : ServerNo) (n : Resource) (free need : ℕ) → nat_lt free need ≡ true → Caused c T (FullAt s n free need)) where
   abbrev Now : World → Type 0
   Now q = PastFacts q.sent q.clients q.memory q.found v Caused'
 

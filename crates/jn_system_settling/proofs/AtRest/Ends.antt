@@ -14,6 +14,7 @@ use Rattle.jn_base.specs.declared.names.Cause.TheVariants.{Full}
 use Rattle.jn_base.specs.declared.names.Tickets.{Tickets}
 use Rattle.jn_base.specs.declared.names.Party.TheVariants.{Client, Server}
 use Rattle.jn_base.specs.declared.op.Command.TheVariants.{End}
+use Rattle.jn_base.specs.declared.names.Resource.TheVariants as resources
 use Rattle.jn_base.specs.Names.{server_eq, client_eq, tid_eq, work_eq}
 use Rattle.jn_base.proofs.Tells.{server_tells, tid_tells, work_tells}
 use Rattle.jn_order.specs.Files.{AllFiles}
@@ -652,8 +653,8 @@ module _ (n : ℕ) (at_most : n ≤ 8) (files : AllFiles) (epochs : ServerNo →
             at V work false k = inr (prepare-new V _ e (has-prepare y.tid y.client V (besides b.works b.ready) (in-left V b.works b.ready work k)))
         by-stage Open q e = on (nat_lt room.free.records 1) e
           where
-            on : (z : Bool) → row ≡ of_coordinator m (if z then abort_row m.coordinator m.tickets y (Full m.tickets.server 31 room.free.records 1) (names_of t.works) else end_promised m.coordinator m.tickets y o.request (names_of t.works)) → EndWay now
-            on true e = told-them (outcomes.Aborted (Full m.tickets.server 31 room.free.records 1)) refl _ e (has-after (drops y.tid (names_of t.works)) (aborted_to y (Full m.tickets.server 31 room.free.records 1) ∷ []) (aborted_to y (Full m.tickets.server 31 room.free.records 1)) (inl refl))
+            on : (z : Bool) → row ≡ of_coordinator m (if z then abort_row m.coordinator m.tickets y (Full m.tickets.server resources.Records room.free.records 1) (names_of t.works) else end_promised m.coordinator m.tickets y o.request (names_of t.works)) → EndWay now
+            on true e = told-them (outcomes.Aborted (Full m.tickets.server resources.Records room.free.records 1)) refl _ e (has-after (drops y.tid (names_of t.works)) (aborted_to y (Full m.tickets.server resources.Records room.free.records 1) ∷ []) (aborted_to y (Full m.tickets.server resources.Records room.free.records 1)) (inl refl))
             on false e = promised (names_of t.works) e
 
       end-comes : EndWay now
