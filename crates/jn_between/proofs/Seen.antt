@@ -23,7 +23,7 @@ use Rattle.jn_aside.specs.Aside.{plain}
 use Rattle.jn_aside.proofs.Showing.{ops-aside, history-aside, replay-aside}
 use Rattle.jn_system.specs.WholeSystem.World.{World, Memory, commits_in}
 use Rattle.jn_system_reports.specs.Telling.Told.{at_place}
-use Rattle.jn_system_reports.specs.BetweenSteps.Sent.{WasSent, IsNamed}
+use Rattle.jn_system_reports.specs.BetweenSteps.Sent.{WasSent, HasCommitLine}
 use Rattle.jn_system_reports.specs.BetweenSteps.Names.{WasMade, AreMadeOnce}
 use Rattle.jn_system_reports.specs.BetweenSteps.Doubt.{IsInDoubt, IsDownInDoubt}
 use Rattle.jn_system_reports.specs.BetweenSteps.Parts.{WasEnded, IsPart, IsNoPart}
@@ -41,10 +41,10 @@ module _ (w v : World) (k : IsAsIn w v) where
   pub commits : commits_in v.lines ≡ commits_in w.lines
   commits = ap commits_in k.lines ∙ commits-more k.ups w.lines ∙ ap (λ (Ts : List Tid). Ts ++ commits_in w.lines) (ups-name-none k.ups k.are_up)
 
-  pub named-in : (T : Tid) → IsNamed v T → IsNamed w T
+  pub named-in : (T : Tid) → HasCommitLine v T → HasCommitLine w T
   named-in T n = ap (λ (Ts : List Tid). list_any (λ (U : Tid). tid_eq U T) Ts) (sym commits) ∙ n
 
-  pub named-out : (T : Tid) → IsNamed w T → IsNamed v T
+  pub named-out : (T : Tid) → HasCommitLine w T → HasCommitLine v T
   named-out T n = ap (λ (Ts : List Tid). list_any (λ (U : Tid). tid_eq U T) Ts) commits ∙ n
 
   sent-in : (message : Message) → WasSent v message → WasSent w message
@@ -120,11 +120,11 @@ module _ (w v : World) (k : IsAsIn w v) where
     stay = λ T W s. out T W (h.stay T W (into T W s));
   }
     where
-      into : (T : Tid) (W : WorkId) → IsFlagged v T W ⊎ (IsNamed v T × IsPart v T W) → IsFlagged w T W ⊎ (IsNamed w T × IsPart w T W)
+      into : (T : Tid) (W : WorkId) → IsFlagged v T W ⊎ (HasCommitLine v T × IsPart v T W) → IsFlagged w T W ⊎ (HasCommitLine w T × IsPart w T W)
       into T W (inl f) = inl (record { pick = f.pick; flag = f.flag; is = ap (λ (g : ServerNo → Pick → StableState). (g T.server f.pick).flags T) (sym k.found) ∙ f.is; work = f.work })
       into T W (inr p) = inr (named-in T p.0, (ended-in T p.1.0, p.1.1))
 
-      out : (T : Tid) (W : WorkId) → IsPrepared w W ⊎ (IsNamed w T × IsCarriedOut w W) → IsPrepared v W ⊎ (IsNamed v T × IsCarriedOut v W)
+      out : (T : Tid) (W : WorkId) → IsPrepared w W ⊎ (HasCommitLine w T × IsCarriedOut w W) → IsPrepared v W ⊎ (HasCommitLine v T × IsCarriedOut v W)
       out T W (inl p) = inl (prepared-seen W p)
       out T W (inr p) = inr (named-out T p.0, carried-seen W p.1)
 

@@ -24,7 +24,7 @@ use Rattle.jn_storage.specs.Calls.{state}
 use Rattle.jn_transactions.specs.Listed.{name_below}
 use Rattle.jn_coord.specs.Remembered.{Remembered, table_of, seen_by, are_above, rises}
 use Rattle.jn_transactions.specs.Telling.{added}
-use Rattle.jn_coord.specs.Calls.{committed_as, committed_at, ballot_fits, ballots_fit, Fits, IsDone}
+use Rattle.jn_coord.specs.Calls.{committed_as, committed_at, ballot_fits, ballots_fit, FitsStorage, IsDone}
 use Rattle.jn_transactions.specs.declared.faults.CoordFault.{CoordFault}
 use Rattle.jn_transactions.specs.Stages.{goes}
 use Rattle.jn_coord.specs.Closing.{ClientClosed, ClosesClient}
@@ -79,7 +79,7 @@ named-more T (y ∷ ys) c q U h = by (tid_eq y.tid T) h (named-more T ys c q U)
     by true h again = inl refl
     by false h again = again h
 
-fits-more : (r : Remembered) (v : StorageView) (c : ClientNo) (q : ℕ) (U : Tid) → Fits r v → length r.transactions < 64 → are_before r.transactions U ≡ true → IsGiven v.accounts.server (state v).epoch U.server U.epoch → Fits (with_begun r c q U) v
+fits-more : (r : Remembered) (v : StorageView) (c : ClientNo) (q : ℕ) (U : Tid) → FitsStorage r v → length r.transactions < 64 → are_before r.transactions U ≡ true → IsGiven v.accounts.server (state v).epoch U.server U.epoch → FitsStorage (with_begun r c q U) v
 fits-more r v c q U fits room before given = record {
   serving = fits.serving;
   clients = length-set r.requests c.0 q ∙ fits.clients;
@@ -156,7 +156,7 @@ begun-row : (r : Remembered) (k : Tickets) (c : ClientNo) (q : ℕ) → nat_lt (
 begun-row r k c q new room = rw new (let few : nat_lt (length (after_closing c r.transactions)) 64 ≡ true = rw (sym (counted_left c r.transactions)) (grind (arith, nat_tests, room)) in rw few refl)
 
 pub begun : (r s r' : Remembered) (v w : StorageView) (k : Tickets) (c : ClientNo) (q : ℕ) (before after : Collected)
-    → Fits r v → TicketsFit r v k → nat_lt (seen_by r.requests c) q ≡ true → count_left c r.transactions < 64 → nat_lt c.0 256 ≡ true
+    → FitsStorage r v → TicketsFit r v k → nat_lt (seen_by r.requests c) q ≡ true → count_left c r.transactions < 64 → nat_lt c.0 256 ≡ true
     → ClientClosed (Some c) r v s w → r' ≡ with_begun s c q (name_from k) → after ≡ added before ((Client c, messages.Begun c q (Some (name_from k))) ∷ []) []
     → IsDone (begin_row (table_of r) k c q) v before r' w after
 begun r s r' v w k c q before after fits tickets new room few closed is sent = rw (begun-row r k c q new room) (record {
@@ -208,7 +208,7 @@ full-tickets (Ok x) r k c q new full = sym (ap (λ row. row.tickets) (full-row r
 full-tickets (Err f) r k c q new full = tt
 
 pub not-begun : (r s r' : Remembered) (v w : StorageView) (k : Tickets) (c : ClientNo) (q : ℕ) (before after : Collected)
-    → Fits r v → nat_lt (seen_by r.requests c) q ≡ true → 64 ≤ count_left c r.transactions → nat_lt c.0 256 ≡ true
+    → FitsStorage r v → nat_lt (seen_by r.requests c) q ≡ true → 64 ≤ count_left c r.transactions → nat_lt c.0 256 ≡ true
     → ClientClosed (Some c) r v s w → r' ≡ with_request s c q → after ≡ added before ((Client c, messages.Begun c q None) ∷ []) []
     → IsDone (begin_row (table_of r) k c q) v before r' w after
 not-begun r s r' v w k c q before after fits new full few closed is sent = rw (full-row r k c q new full) (record {

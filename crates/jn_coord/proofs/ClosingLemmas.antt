@@ -17,7 +17,7 @@ use Rattle.jn_coord.specs.Remembered.{Remembered, are_above, rises}
 use Rattle.std.specs.Prelude.{is_ok}
 use Rattle.jn_transactions.specs.declared.faults.CoordFault.{CoordFault}
 use Rattle.jn_transactions.specs.declared.faults.CoordFault.TheVariants.{Memory, Stopped}
-use Rattle.jn_coord.specs.Calls.{flag_told, committed_as, Fits, Releases}
+use Rattle.jn_coord.specs.Calls.{flag_told, committed_as, FitsStorage, Releases}
 use Rattle.jn_transactions.specs.Stages.{goes, is_committed, is_decided}
 use Rattle.jn_transactions.specs.Closing.{takes_part, next_closing, tid_in}
 use Rattle.jn_coord.specs.Closing.{left_by, changes_by, going_in, LetsGo, GoneFrom, StaysOrGoes, ClosesOn, ClosesNext, ClosingStopped, ClosesAll}
@@ -79,7 +79,7 @@ length-less T (y ∷ ys) x e = let again = length-less T ys x in grind (arith, e
 
 -- ---- one transaction goes
 
-pub went-released : (r : Remembered) (v w : StorageView) (T : Tid) (y x : Transaction) → Fits r v → transaction_at T r.transactions ≡ Some y → transaction_at T r.transactions ≡ Some x
+pub went-released : (r : Remembered) (v w : StorageView) (T : Tid) (y x : Transaction) → FitsStorage r v → transaction_at T r.transactions ≡ Some y → transaction_at T r.transactions ≡ Some x
     → is_committed y.stage ≡ false → Releases (is_voting y.stage) v w → GoneFrom x v w
 went-released r v w T y x fits found at undecided p = for-found T r.transactions (λ z. GoneFrom z v w) y found (by (is_voting y.stage) refl p) x at
   where
@@ -165,7 +165,7 @@ made-then : (cs ds : List Change) (x : StableState) → made_all (cs ++ ds) x �
 made-then [] ds x = refl
 made-then (c ∷ cs) ds x = made-then cs ds (made_by c x)
 
-pub closes-next : (c : Option ClientNo) (r r' : Remembered) (v w : StorageView) (x : Transaction) → Fits r v → next_closing c r.transactions ≡ Some x → GoneFrom x v w → r' ≡ record r { transactions = without x.tid r.transactions }
+pub closes-next : (c : Option ClientNo) (r r' : Remembered) (v w : StorageView) (x : Transaction) → FitsStorage r v → next_closing c r.transactions ≡ Some x → GoneFrom x v w → r' ≡ record r { transactions = without x.tid r.transactions }
     → ClosesOn c r v r' w × (length r'.transactions + 1 ≤ length r.transactions)
 closes-next c r r' v w x fits next gone ts = subst (λ q. ClosesOn c r v q w × (length q.transactions + 1 ≤ length r.transactions)) (sym ts) (
   record {
@@ -186,7 +186,7 @@ closes-next c r r' v w x fits next gone ts = subst (λ q. ClosesOn c r v q w × 
     at : transaction_at x.tid r.transactions ≡ Some x
     at = next-at c x r.transactions fits.rising next
 
-pub closing-stopped : (c : Option ClientNo) (r : Remembered) (v w : StorageView) (x : Transaction) → Fits r v → next_closing c r.transactions ≡ Some x → StaysOrGoes x v w → ClosingStopped c r v w
+pub closing-stopped : (c : Option ClientNo) (r : Remembered) (v w : StorageView) (x : Transaction) → FitsStorage r v → next_closing c r.transactions ≡ Some x → StaysOrGoes x v w → ClosingStopped c r v w
 closing-stopped c r v w x fits next s = record {
   some = λ p. rw first (⊎_elim (λ e. record { made = 0; is_after = e }) (λ e. record { made = 1; is_after = e ∙ sym (one-made (state v)) }) (s.dropped.change.stop refl p));
   loadable = s.dropped.called.loadable;
@@ -230,20 +230,20 @@ stays-of x v w (Ok y) g e = absurd (cc e)
 stays-of x v w (Err Memory) g e = absurd g
 stays-of x v w (Err Stopped) g e = g
 
-pub next-closed : (c : Option ClientNo) (r r' : Remembered) (v w : StorageView) (T : Tid) (a : Result (Unit {0}) CoordFault) → Fits r v → tid_in (next_closing c r.transactions) ≡ Some T
+pub next-closed : (c : Option ClientNo) (r r' : Remembered) (v w : StorageView) (T : Tid) (a : Result (Unit {0}) CoordFault) → FitsStorage r v → tid_in (next_closing c r.transactions) ≡ Some T
     → ((x : Transaction) → transaction_at T r.transactions ≡ Some x → LetsGo x v a w) → is_ok a ≡ true → r' ≡ record r { transactions = without T r.transactions }
     → ClosesOn c r v r' w × (length r'.transactions + 1 ≤ length r.transactions)
 next-closed c r r' v w T a fits e goes ok ts = let n = next-named (next_closing c r.transactions) T e in let at = next-at c n.0 r.transactions fits.rising n.1 in
     closes-next c r r' v w n.0 fits n.1 (gone-of n.0 v w a (goes n.0 (subst (λ U. transaction_at U r.transactions ≡ Some n.0) n.2 at)) ok) (ts ∙ ap (λ U. record r { transactions = without U r.transactions }) (sym n.2))
 
-pub next-stopped : (c : Option ClientNo) (r : Remembered) (v w : StorageView) (T : Tid) (a : Result (Unit {0}) CoordFault) → Fits r v → tid_in (next_closing c r.transactions) ≡ Some T
+pub next-stopped : (c : Option ClientNo) (r : Remembered) (v w : StorageView) (T : Tid) (a : Result (Unit {0}) CoordFault) → FitsStorage r v → tid_in (next_closing c r.transactions) ≡ Some T
     → ((x : Transaction) → transaction_at T r.transactions ≡ Some x → LetsGo x v a w) → is_ok a ≡ false → ClosingStopped c r v w
 next-stopped c r v w T a fits e goes fell = let n = next-named (next_closing c r.transactions) T e in let at = next-at c n.0 r.transactions fits.rising n.1 in
     closing-stopped c r v w n.0 fits n.1 (stays-of n.0 v w a (goes n.0 (subst (λ U. transaction_at U r.transactions ≡ Some n.0) n.2 at)) fell)
 
 -- ---- one after another
 
-pub closes-none : (c : Option ClientNo) (r : Remembered) (v : StorageView) → Fits r v → ClosesOn c r v r v
+pub closes-none : (c : Option ClientNo) (r : Remembered) (v : StorageView) → FitsStorage r v → ClosesOn c r v r v
 closes-none c r v fits = record { requests = refl; left = refl; first = []; split = refl; made = refl; calls = omega arith; fits = fits; accounts = refl; later = storage_refl v; no_stop = refl }
 
 pub closes-more : (c : Option ClientNo) (r s t : Remembered) (u v w : StorageView) → ClosesOn c r u s v → ClosesOn c s v t w → ClosesOn c r u t w

@@ -15,7 +15,7 @@ use Rattle.jn_transactions.specs.declared.faults.CoordFault.{CoordFault}
 use Rattle.jn_transactions.specs.declared.faults.CoordFault.TheVariants.{Memory, Stopped}
 use Rattle.jn_coord.specs.Remembered.{Remembered, table_of, are_above, rises}
 use Rattle.jn_transactions.specs.Telling.{Longer}
-use Rattle.jn_coord.specs.Calls.{committed_as, committed_at, ballot_fits, ballots_fit, Fits, IsStopped}
+use Rattle.jn_coord.specs.Calls.{committed_as, committed_at, ballot_fits, ballots_fit, FitsStorage, IsStopped}
 use Rattle.jn_transactions.specs.Stages.{goes, is_decided}
 use Rattle.jn_transactions.specs.Closing.{is_of, next_closing, known_stage, known, knowing}
 use Rattle.jn_coord.specs.Closing.{left_by, changes_by, ClosesOn, ClientClosed, ClosesClient}
@@ -74,7 +74,7 @@ named-known c T (x ∷ xs) = rw (alike c x).tid (by (tid_eq x.tid T) (named-know
     by true h = refl
     by false h = h
 
-fits-known : (c : Option ClientNo) (r : Remembered) (v : StorageView) → Fits r v → Fits (record r { transactions = knowing c r.transactions }) v
+fits-known : (c : Option ClientNo) (r : Remembered) (v : StorageView) → FitsStorage r v → FitsStorage (record r { transactions = knowing c r.transactions }) v
 fits-known c r v f = record {
   serving = f.serving;
   clients = f.clients;

@@ -31,7 +31,7 @@ use Rattle.jn_coord.specs.Remembered.{Remembered, table_of}
 use Rattle.jn_transactions.specs.declared.faults.CoordFault.{CoordFault}
 use Rattle.jn_transactions.specs.declared.faults.CoordFault.TheVariants.{Memory, Stopped}
 use Rattle.jn_transactions.specs.Telling.{added, Adds, Longer}
-use Rattle.jn_coord.specs.Calls.{flag_told, committed_as, committed_at, works_in, voting_in, spare_of, Fits, FitsWith, ballot_in, ballot_of, ballot_fits, ballots_fit, waiting_row, Releases, Reaches, IsDone, IsStopped, Does}
+use Rattle.jn_coord.specs.Calls.{flag_told, committed_as, committed_at, works_in, voting_in, spare_of, FitsStorage, FitsWith, ballot_in, ballot_of, ballot_fits, ballots_fit, waiting_row, Releases, Reaches, IsDone, IsStopped, Does}
 use Rattle.jn_transactions.proofs.Sends.{added_none, longer_same}
 use Rattle.jn_coord.proofs.Tables.{at-named, for-found, counted}
 use Rattle.jn_coord.proofs.Fitting.{votes, fits-staged, fits-without, same-flags, committed-found, flags-without, promise_held, spare-one, has-promise, no-votes}
@@ -43,7 +43,7 @@ pub released-reaches : (v w : StorageView) → PromiseReleased v w → Reaches v
 released-reaches v w p = subst (λ u. Reaches v 0 u) (sym p.released) (record { later = record { server = refl; pool = refl; heads = refl; leaves = refl; store = (storage_refl v).store }; calls = omega arith })
 
 pub aborted : (r r' : Remembered) (v w : StorageView) (T : Tid) (k : Tickets) (x : Transaction) (cause : Cause) (works : List WorkId) (before after : Collected)
-    → Fits r v → transaction_at T r.transactions ≡ Some x → committed_as x.client x.stage ≡ None → Releases (is_voting x.stage) v w
+    → FitsStorage r v → transaction_at T r.transactions ≡ Some x → committed_as x.client x.stage ≡ None → Releases (is_voting x.stage) v w
     → after ≡ added before (abort_row (table_of r) k x cause works).messages []
     → r' ≡ record r { transactions = with_stage T (stages.Aborted cause) r.transactions }
     → IsDone (abort_row (table_of r) k x cause works) v before r' w after
@@ -73,7 +73,7 @@ aborted r r' v w T k x cause works before after fits at undecided p sent ts = su
 
 -- where y is the transaction that was found
 pub aborted-found : (r r' : Remembered) (v w : StorageView) (T : Tid) (k : Tickets) (y x : Transaction) (cause : Cause) (works : List WorkId) (before after : Collected)
-    → Fits r v → transaction_at T r.transactions ≡ Some y → transaction_at T r.transactions ≡ Some x → committed_as x.client x.stage ≡ None → Releases (is_voting y.stage) v w
+    → FitsStorage r v → transaction_at T r.transactions ≡ Some y → transaction_at T r.transactions ≡ Some x → committed_as x.client x.stage ≡ None → Releases (is_voting y.stage) v w
     → after ≡ added before (drops T works ++ (Client y.client, messages.Outcome y.client T (outcomes.Aborted cause)) ∷ []) []
     → r' ≡ record r { transactions = with_stage T (stages.Aborted cause) r.transactions }
     → IsDone (abort_row (table_of r) k x cause works) v before r' w after
@@ -119,7 +119,7 @@ stands T (y ∷ ys) works e = by (tid_eq y.tid T) refl e (stands T ys works)
     by false f e again = let s = again e in record { one = s.one; at = rw f s.at; told = s.told; quiet = s.quiet }
 
 pub settled : (r r' : Remembered) (v : StorageView) (T : Tid) (k : Tickets) (d : Commitment) (before : Collected)
-    → Fits r v → works_in (committed_at T r.transactions) ≡ Some d.works → (d.thanked && all_in d.works d.done) ≡ false
+    → FitsStorage r v → works_in (committed_at T r.transactions) ≡ Some d.works → (d.thanked && all_in d.works d.done) ≡ false
     → r' ≡ record r { transactions = with_stage T (stages.Committed d) r.transactions }
     → IsDone (forget_row (table_of r) k T d) v before r' v before
 settled r r' v T k d before fits same waits ts = let s = stands T r.transactions d.works same in subst (λ q. IsDone (forget_row (table_of r) k T d) v before q v before) (sym ts) (rw waits (record {
@@ -137,7 +137,7 @@ told-but true o p = refl
 told-but false o p = refl
 
 pub forgotten : (r r' : Remembered) (v w : StorageView) (T : Tid) (k : Tickets) (d : Commitment) (before : Collected) (ok : Bool)
-    → Fits r v → works_in (committed_at T r.transactions) ≡ Some d.works → (d.thanked && all_in d.works d.done) ≡ true
+    → FitsStorage r v → works_in (committed_at T r.transactions) ≡ Some d.works → (d.thanked && all_in d.works d.done) ≡ true
     → FlagDropped v T ok w → ok ≡ true → r' ≡ record r { transactions = without T r.transactions }
     → IsDone (forget_row (table_of r) k T d) v before r' w before
 forgotten r r' v w T k d before ok fits same over put went ts = let s = stands T r.transactions d.works same in let p = subst (λ b. FlagDropped v T b w) went put in let at = p.change.done refl (λ n. false) in
@@ -234,7 +234,7 @@ voting-undecided T xs voting = by (transaction_at T xs) refl voting
 -- ---- a ballot that comes on
 
 pub counted-on : (r r' : Remembered) (v : StorageView) (T : Tid) (k : Tickets) (x : Transaction) (b : Ballot) (before : Collected)
-    → Fits r v → voting_in (transaction_at T r.transactions) ≡ true → transaction_at T r.transactions ≡ Some x → length b.works ≤ 8 → all_in b.works b.ready ≡ false
+    → FitsStorage r v → voting_in (transaction_at T r.transactions) ≡ true → transaction_at T r.transactions ≡ Some x → length b.works ≤ 8 → all_in b.works b.ready ≡ false
     → r' ≡ record r { transactions = with_stage T (stages.Voting b) r.transactions }
     → IsDone (noted (table_of r) k x b) v before r' v before
 counted-on r r' v T k x b before fits voting at few waits ts = subst (λ q. IsDone (noted (table_of r) k x b) v before q v before) (sym ts) (rw (waits, at-named T r.transactions x at) (record {
@@ -256,7 +256,7 @@ counted-on r r' v T k x b before fits voting at few waits ts = subst (λ q. IsDo
 -- ---- thanks
 
 pub aborted-gone : (r r' : Remembered) (v : StorageView) (T : Tid) (k : Tickets) (y : Transaction) (before : Collected)
-    → Fits r v → transaction_at T r.transactions ≡ Some y → is_aborted y.stage ≡ true → r' ≡ record r { transactions = without T r.transactions }
+    → FitsStorage r v → transaction_at T r.transactions ≡ Some y → is_aborted y.stage ≡ true → r' ≡ record r { transactions = without T r.transactions }
     → IsDone (thanks_row (table_of r) k T (transaction_at T r.transactions)) v before r' v before
 aborted-gone r r' v T k y before fits at is ts = subst (λ q. IsDone (thanks_row (table_of r) k T (transaction_at T r.transactions)) v before q v before) (sym ts) (rw at (by y.stage refl is))
   where
@@ -286,7 +286,7 @@ known-now t T k o y d at is not-yet = rw (at, is, not-yet) refl
 
 -- ---- what is only told
 
-pub tells : (row : RowOutcome CoordinatorTable) (r : Remembered) (v : StorageView) (before after : Collected) (a : Result (Unit {0}) CoordFault) → row.table ≡ table_of r → row.changes ≡ [] → Fits r v → Adds row.messages row.notes before a after → Does row r v before a r v after
+pub tells : (row : RowOutcome CoordinatorTable) (r : Remembered) (v : StorageView) (before after : Collected) (a : Result (Unit {0}) CoordFault) → row.table ≡ table_of r → row.changes ≡ [] → FitsStorage r v → Adds row.messages row.notes before a after → Does row r v before a r v after
 tells row r v before after (Ok x) table changes fits sent = record {
   table = sym table;
   sent = sent;

@@ -61,8 +61,8 @@ pub record FitsWith (spare : ℕ) (r : Remembered) (v : StorageView) : Type 0 wh
   pub ballots : ballots_fit r.transactions ≡ true
   pub given : (T : Tid) → is_some (transaction_at T r.transactions) ≡ true → IsGiven v.accounts.server (state v).epoch T.server T.epoch
 
-abbrev pub Fits : Remembered → StorageView → Type 0
-Fits r v = FitsWith 0 r v
+abbrev pub FitsStorage : Remembered → StorageView → Type 0
+FitsStorage r v = FitsWith 0 r v
 
 -- the promise that a transaction is yet to be given before it can commit
 abbrev pub spare_of : Option Transaction → ℕ
@@ -109,7 +109,7 @@ pub record IsDone (row : RowOutcome CoordinatorTable) (v : StorageView) (before 
   pub table : table_of r ≡ row.table
   pub sent : after ≡ added before row.messages row.notes
   pub made : (c : Pick) → w.found c ≡ made_all row.changes (state v)
-  pub fits : Fits r w
+  pub fits : FitsStorage r w
   pub accounts : CountsRecords v.accounts w.accounts
   pub reaches : Reaches v (length row.changes) w
   pub no_stop : w.store.stops ≡ v.store.stops

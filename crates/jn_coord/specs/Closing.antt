@@ -14,7 +14,7 @@ use Rattle.jn_transactions.specs.declared.faults.CoordFault.TheVariants.{Stopped
 use Rattle.jn_transactions.specs.Stages.{goes}
 use Rattle.jn_transactions.specs.Closing.{next_closing}
 use Rattle.jn_coord.specs.Remembered.{Remembered}
-use Rattle.jn_coord.specs.Calls.{CountsRecords, Fits, flag_told}
+use Rattle.jn_coord.specs.Calls.{CountsRecords, FitsStorage, flag_told}
 
 abbrev pub left_by : Option ClientNo → List Transaction → List Transaction
 left_by (Some c) xs = after_closing c xs
@@ -59,7 +59,7 @@ pub record ClosesOn (who : Option ClientNo) (r : Remembered) (v : StorageView) (
   pub split : changes_by who r.transactions ≡ first ++ changes_by who r'.transactions
   pub made : state w ≡ made_all first (state v)
   pub calls : w.store.calls ≤ v.store.calls + 16 * length first
-  pub fits : Fits r' w
+  pub fits : FitsStorage r' w
   pub accounts : CountsRecords v.accounts w.accounts
   pub later : StorageLater v w
   pub no_stop : w.store.stops ≡ v.store.stops
@@ -92,7 +92,7 @@ pub record ClientClosed (who : Option ClientNo) (r : Remembered) (v : StorageVie
   pub table : r' ≡ record r { transactions = left_by who r.transactions }
   pub made : state w ≡ made_all (changes_by who r.transactions) (state v)
   pub calls : w.store.calls ≤ v.store.calls + 16 * length (changes_by who r.transactions)
-  pub fits : Fits r' w
+  pub fits : FitsStorage r' w
   pub accounts : CountsRecords v.accounts w.accounts
   pub later : StorageLater v w
   pub no_stop : w.store.stops ≡ v.store.stops

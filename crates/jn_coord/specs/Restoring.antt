@@ -9,7 +9,7 @@ use Rattle.jn_storage.specs.Listing.{IsListing}
 use Rattle.jn_storage.specs.Storage.{StorageView}
 use Rattle.jn_storage.specs.Calls.{state}
 use Rattle.jn_coord.specs.Remembered.{Remembered, seen_by, table_of}
-use Rattle.jn_coord.specs.Calls.{Fits}
+use Rattle.jn_coord.specs.Calls.{FitsStorage}
 
 -- a client's request is seen
 abbrev pub with_seen : List ℕ → ClientNo → ℕ → List ℕ
@@ -28,4 +28,4 @@ pub record Restored (v : StorageView) (r : Remembered) : Type 0 where
   pub names : List Tid
   pub listing : IsListing tid_eq (λ T. is_some ((state v).flags T)) names
   pub table : table_of r ≡ restored_coordinator (state v) names
-  pub fits : Fits r v
+  pub fits : FitsStorage r v

@@ -8,7 +8,7 @@ ghost use Rattle.jn_rows.specs.Coordinator as rows;
 ghost use Rattle.jn_rows.specs.Coordinator.{CoordinatorTable};
 ghost use Rattle.jn_coord.specs.Remembered.{table_of, seen_by};
 ghost use Rattle.jn_transactions.specs.Telling.{Adds};
-ghost use Rattle.jn_coord.specs.Calls.{Fits, Does};
+ghost use Rattle.jn_coord.specs.Calls.{FitsStorage, Does};
 ghost use Rattle.jn_transactions.specs.Closing.{count_left};
 ghost use Rattle.jn_coord.specs.Beginning.{TicketsFit, new_transaction, with_request, with_begun};
 
@@ -80,7 +80,7 @@ impl Coordinator {
         tickets: &mut Tickets,
         out: &mut Out,
     ) -> Result<(), CoordFault>
-        requires fits { Fits self.old (F.view store.old) }
+        requires fits { FitsStorage self.old (F.view store.old) }
         requires tickets { TicketsFit self.old (F.view store.old) tickets.old }
         requires next { tickets.old.next + 1 < 2 ^ 32 }
         requires new { nat_lt (seen_by self.old.requests client) request ≡ true }
@@ -108,7 +108,7 @@ impl Coordinator {
         request: u32,
         out: &mut Out,
     ) -> Result<(), CoordFault>
-        requires fits { Fits self.old (F.view store.old) }
+        requires fits { FitsStorage self.old (F.view store.old) }
         requires new { nat_lt (seen_by self.old.requests client) request ≡ true }
         requires full { 64 ≤ count_left client self.old.transactions }
         ensures { (k : Tickets)
@@ -132,7 +132,7 @@ impl Coordinator {
         tickets: &mut Tickets,
         out: &mut Out,
     ) -> Result<(), CoordFault>
-        requires fits { Fits self.old (F.view store.old) }
+        requires fits { FitsStorage self.old (F.view store.old) }
         requires tickets { TicketsFit self.old (F.view store.old) tickets.old }
         requires next { tickets.old.next + 1 < 2 ^ 32 }
         ensures does { Does (rows.begin_row (table_of self.old) tickets.old client request) self.old (F.view store.old) out.old result self.new (F.view store.new) out.new }

@@ -23,7 +23,7 @@ ghost use Rattle.jn_coord.specs.Beginning.{TicketsFit};
 ghost use Rattle.jn_transactions.specs.Closing.{tid_in, next_closing, knowing};
 ghost use Rattle.jn_coord.specs.Closing.{going_in, LetsGo, ClosesNext, ClosesAll, ClosesClient};
 ghost use Rattle.jn_transactions.specs.Telling.{Adds, added};
-ghost use Rattle.jn_coord.specs.Calls.{Fits, FitsWith, Does, Releases, committed_as, committed_at, spare_of, voting_in, works_in, ballot_in, stage_in, free_of, is_memory, IsPromised, ballot_row, waiting_row};
+ghost use Rattle.jn_coord.specs.Calls.{FitsStorage, FitsWith, Does, Releases, committed_as, committed_at, spare_of, voting_in, works_in, ballot_in, stage_in, free_of, is_memory, IsPromised, ballot_row, waiting_row};
 
 use jn_base::{Cause, ClientNo, Party, Resource, Tickets, Tid, WorkId};
 use jn_msgs::{Message, Note, Out, Outcome, Vote, Works};
@@ -131,7 +131,7 @@ impl Coordinator {
         works: &[WorkId],
         out: &mut Out,
     ) -> Result<(), CoordFault>
-        requires fits { Fits self.old (F.view store.old) }
+        requires fits { FitsStorage self.old (F.view store.old) }
         ensures { (k : Tickets) (x : Transaction) → rows.transaction_at tid self.old.transactions ≡ Some x → committed_as x.client x.stage ≡ None
             → Does (rows.abort_row (table_of self.old) k x cause works.now) self.old (F.view store.old) out.old result self.new (F.view store.new) out.new }
     {
@@ -184,7 +184,7 @@ impl Coordinator {
         tid: Tid,
         d: Committed,
     ) -> Result<(), CoordFault>
-        requires fits { Fits self.old (F.view store.old) }
+        requires fits { FitsStorage self.old (F.view store.old) }
         requires same { works_in (committed_at tid self.old.transactions) ≡ Some d.works }
         ensures { (k : Tickets) (before : Collected)
             → Does (rows.forget_row (table_of self.old) k tid d) self.old (F.view store.old) before result self.new (F.view store.new) before }
@@ -209,7 +209,7 @@ impl Coordinator {
         work: WorkId,
         out: &mut Out,
     ) -> Result<(), CoordFault>
-        requires fits { Fits self.old (F.view store.old) }
+        requires fits { FitsStorage self.old (F.view store.old) }
         ensures { (k : Tickets)
             → Does (rows.done_row (table_of self.old) k tid work (rows.transaction_at tid self.old.transactions)) self.old (F.view store.old) out.old result self.new (F.view store.new) out.new }
     {
@@ -234,7 +234,7 @@ impl Coordinator {
         tid: Tid,
         out: &mut Out,
     ) -> Result<(), CoordFault>
-        requires fits { Fits self.old (F.view store.old) }
+        requires fits { FitsStorage self.old (F.view store.old) }
         ensures { (k : Tickets)
             → Does (rows.thanks_row (table_of self.old) k tid (rows.transaction_at tid self.old.transactions)) self.old (F.view store.old) out.old result self.new (F.view store.new) out.new }
     {
@@ -263,7 +263,7 @@ impl Coordinator {
         ballot: Voting,
         out: &mut Out,
     ) -> Result<(), CoordFault>
-        requires fits { Fits self.old (F.view store.old) }
+        requires fits { FitsStorage self.old (F.view store.old) }
         requires voting { voting_in (rows.transaction_at tid self.old.transactions) ≡ true }
         requires few { length ballot.works ≤ 8 }
         ensures { (k : Tickets) (x : Transaction) → rows.transaction_at tid self.old.transactions ≡ Some x
@@ -307,7 +307,7 @@ impl Coordinator {
         vote: Vote,
         out: &mut Out,
     ) -> Result<(), CoordFault>
-        requires fits { Fits self.old (F.view store.old) }
+        requires fits { FitsStorage self.old (F.view store.old) }
         ensures { (k : Tickets)
             → Does (rows.vote_row (table_of self.old) k tid work vote (rows.transaction_at tid self.old.transactions)) self.old (F.view store.old) out.old result self.new (F.view store.new) out.new }
     {
@@ -335,7 +335,7 @@ impl Coordinator {
         vote: Vote,
         out: &mut Out,
     ) -> Result<(), CoordFault>
-        requires fits { Fits self.old (F.view store.old) }
+        requires fits { FitsStorage self.old (F.view store.old) }
         ensures { (k : Tickets) (x : Transaction) (b : Voting) → rows.transaction_at tid self.old.transactions ≡ Some x → x.stage ≡ stages.Voting b
             → Does (rows.counted_vote (table_of self.old) k x b work vote) self.old (F.view store.old) out.old result self.new (F.view store.new) out.new }
     {
@@ -367,7 +367,7 @@ impl Coordinator {
         work: WorkId,
         out: &mut Out,
     ) -> Result<(), CoordFault>
-        requires fits { Fits self.old (F.view store.old) }
+        requires fits { FitsStorage self.old (F.view store.old) }
         ensures { (k : Tickets) (x : Transaction) (b : Voting) → rows.transaction_at tid self.old.transactions ≡ Some x → x.stage ≡ stages.Voting b
             → Does (rows.noted (table_of self.old) k x (record b { ready = rows.with_work work b.ready })) self.old (F.view store.old) out.old result self.new (F.view store.new) out.new }
     {
@@ -407,7 +407,7 @@ impl Coordinator {
         work: WorkId,
         out: &mut Out,
     ) -> Result<(), CoordFault>
-        requires fits { Fits self.old (F.view store.old) }
+        requires fits { FitsStorage self.old (F.view store.old) }
         ensures { (k : Tickets) (x : Transaction) (b : Voting) → rows.transaction_at tid self.old.transactions ≡ Some x → x.stage ≡ stages.Voting b
             → Does (rows.abort_row (table_of self.old) k x (causes.Lost work.server) (rows.besides b.works (work ∷ []))) self.old (F.view store.old) out.old result self.new (F.view store.new) out.new }
     {
@@ -427,7 +427,7 @@ impl Coordinator {
         cause: Cause,
         out: &mut Out,
     ) -> Result<(), CoordFault>
-        requires fits { Fits self.old (F.view store.old) }
+        requires fits { FitsStorage self.old (F.view store.old) }
         ensures { (k : Tickets) (x : Transaction) (b : Voting) → rows.transaction_at tid self.old.transactions ≡ Some x → x.stage ≡ stages.Voting b
             → Does (rows.abort_row (table_of self.old) k x cause b.works) self.old (F.view store.old) out.old result self.new (F.view store.new) out.new }
     {
@@ -449,7 +449,7 @@ impl Coordinator {
         tickets: Tickets,
         out: &mut Out,
     ) -> Result<(), CoordFault>
-        requires fits { Fits self.old (F.view store.old) }
+        requires fits { FitsStorage self.old (F.view store.old) }
         ensures { Does (rows.abort_request (table_of self.old) tickets client tid works.now (rows.transaction_at tid self.old.transactions)) self.old (F.view store.old) out.old result self.new (F.view store.new) out.new }
     {
         let Some(x) = self.find(tid) else {
@@ -478,7 +478,7 @@ impl Coordinator {
         tickets: Tickets,
         out: &mut Out,
     ) -> Result<(), CoordFault>
-        requires fits { Fits self.old (F.view store.old) }
+        requires fits { FitsStorage self.old (F.view store.old) }
         requires few { length works.now ≤ 8 }
         ensures { Does (rows.end_row (table_of self.old) (free_of (F.view store.old)) tickets client request tid works.now (rows.transaction_at tid self.old.transactions)) self.old (F.view store.old) out.old result self.new (F.view store.new) out.new }
     {
@@ -506,7 +506,7 @@ impl Coordinator {
         tickets: Tickets,
         out: &mut Out,
     ) -> Result<(), CoordFault>
-        requires fits { Fits self.old (F.view store.old) }
+        requires fits { FitsStorage self.old (F.view store.old) }
         requires few { length works.now ≤ 8 }
         requires open { stage_in (rows.transaction_at tid self.old.transactions) ≡ Some stages.Open }
         ensures { (x : Transaction) → rows.transaction_at tid self.old.transactions ≡ Some x
@@ -583,7 +583,7 @@ impl Coordinator {
 
     /// The store lets a transaction go: its flag is dropped, or its promise given back.
     fn let_go<F: FlagStore>(&self, store: &mut F, tid: Tid) -> Result<(), CoordFault>
-        requires fits { Fits self.now (F.view store.old) }
+        requires fits { FitsStorage self.now (F.view store.old) }
         requires going { going_in (rows.transaction_at tid self.now.transactions) ≡ true }
         ensures { (x : Transaction)
             → rows.transaction_at tid self.now.transactions ≡ Some x
@@ -608,7 +608,7 @@ impl Coordinator {
         store: &mut F,
         who: Option<ClientNo>,
     ) -> Result<bool, CoordFault>
-        requires fits { Fits self.old (F.view store.old) }
+        requires fits { FitsStorage self.old (F.view store.old) }
         ensures { ClosesNext who self.old (F.view store.old) result self.new (F.view store.new) }
     {
         let Some(tid) = self.next_closing(who) else {
@@ -628,7 +628,7 @@ impl Coordinator {
         store: &mut F,
         who: Option<ClientNo>,
     ) -> Result<(), CoordFault>
-        requires fits { Fits self.old (F.view store.old) }
+        requires fits { FitsStorage self.old (F.view store.old) }
         ensures { ClosesClient who self.old (F.view store.old) result self.new (F.view store.new) }
     {
         if self.close(store, who).is_err() {
@@ -640,7 +640,7 @@ impl Coordinator {
 
     /// Every client knows the outcomes of its transactions: what is over goes with its flag. This takes no memory.
     pub fn close_clients<F: FlagStore>(&mut self, store: &mut F) -> Result<(), CoordFault>
-        requires fits { Fits self.old (F.view store.old) }
+        requires fits { FitsStorage self.old (F.view store.old) }
         ensures does { (k : Tickets) (before : Collected)
             → Does (rows.close_clients_row (table_of self.old) k) self.old (F.view store.old) before result self.new (F.view store.new) before }
         ensures tickets { (k : Tickets) → TicketsFit self.old (F.view store.old) k → OnOk result (TicketsFit self.new (F.view store.new) k) }
@@ -664,7 +664,7 @@ impl Coordinator {
         store: &mut F,
         who: Option<ClientNo>,
     ) -> Result<(), CoordFault>
-        requires fits { Fits self.old (F.view store.old) }
+        requires fits { FitsStorage self.old (F.view store.old) }
         ensures { ClosesAll who self.old (F.view store.old) result self.new (F.view store.new) }
     {
         for _closed in 0..self.live() {

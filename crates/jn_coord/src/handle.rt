@@ -4,7 +4,7 @@ ghost use Rattle.std.specs.Prelude.{◌≡◌, ◌+◌, ◌<◌, ◌^◌, false,
 ghost use Rattle.jn_base.specs.declared.names.Tickets.{Tickets};
 ghost use Rattle.jn_rows.specs.Coordinator as rows;
 ghost use Rattle.jn_coord.specs.Remembered.{table_of};
-ghost use Rattle.jn_coord.specs.Calls.{Fits, Does, free_of};
+ghost use Rattle.jn_coord.specs.Calls.{FitsStorage, Does, free_of};
 ghost use Rattle.jn_coord.specs.Beginning.{TicketsFit};
 ghost use Rattle.jn_coord.specs.Handling.{FewWorks, Handles, is_begin};
 
@@ -23,7 +23,7 @@ impl Coordinator {
         tickets: Tickets,
         out: &mut Out,
     ) -> Result<(), CoordFault>
-        requires fits { Fits self.old (F.view store.old) }
+        requires fits { FitsStorage self.old (F.view store.old) }
         requires few { FewWorks message.now }
         requires other { is_begin message.now ≡ false }
         ensures { Does (rows.coordinator_row (table_of self.old) (free_of (F.view store.old)) tickets message.now) self.old (F.view store.old) out.old result self.new (F.view store.new) out.new }
@@ -51,7 +51,7 @@ impl Coordinator {
         tickets: &mut Tickets,
         out: &mut Out,
     ) -> Result<(), CoordFault>
-        requires fits { Fits self.old (F.view store.old) }
+        requires fits { FitsStorage self.old (F.view store.old) }
         requires few { FewWorks message.now }
         requires tickets { TicketsFit self.old (F.view store.old) tickets.old }
         requires next { tickets.old.next + 1 < 2 ^ 32 }
@@ -74,7 +74,7 @@ impl Coordinator {
         tickets: &mut Tickets,
         out: &mut Out,
     ) -> Result<(), CoordFault>
-        requires fits { Fits self.old (F.view store.old) }
+        requires fits { FitsStorage self.old (F.view store.old) }
         requires few { FewWorks message.now }
         requires tickets { TicketsFit self.old (F.view store.old) tickets.old }
         requires next { tickets.old.next + 1 < 2 ^ 32 }

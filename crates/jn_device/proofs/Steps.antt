@@ -8,7 +8,7 @@ use Rattle.jn_base.specs.declared.device.Outside.{Outside}
 use Rattle.jn_base.specs.declared.device.Stopped.{Stopped}
 use Rattle.jn_device.specs.declared.Armed.{Armed}
 use Rattle.jn_device.specs.declared.Look.{Look}
-use Rattle.jn_device.specs.Device.{DeviceState, page_met, IsSound}
+use Rattle.jn_device.specs.Device.{DeviceState, page_met, IsSoundDevice}
 use Rattle.jn_device.specs.Calls.{due, waiting_on, strike, CallStep, GetStep, PutStep, told_of}
 use Rattle.jn_device.specs.Events.{Becomes, Decays}
 use Rattle.jn_device.specs.Later.{Later, Struck, count_kind, count_told, is_stop, touches, darkness}
@@ -136,7 +136,7 @@ module _ (s : DeviceState) (p : ℕ) (new : List ℕ) (stopped : Bool) (t : Devi
   put_bytes_at = grind (arith, nat_tests)
 
 -- so does an event that strikes a page
-pub becomes_met_sound : (s t : DeviceState) (k : Option FaultKind) (power : Bool) → Becomes s (page_met s k) power t → IsSound s → IsSound t
+pub becomes_met_sound : (s t : DeviceState) (k : Option FaultKind) (power : Bool) → Becomes s (page_met s k) power t → IsSoundDevice s → IsSoundDevice t
 becomes_met_sound s t k power becomes sound i below =
     let lt : i < s.count / 2 = subst (λ c. i < c / 2) becomes.count below in
     let met = met_sound s k i lt (sound i lt) in
@@ -145,5 +145,5 @@ becomes_met_sound s t k power becomes sound i below =
     let now : ((t.pages i).good || (t.pages (i + s.count / 2)).good) ≡ true = cc (met, first, second) in
     subst (λ c. ((t.pages i).good || (t.pages (i + c / 2)).good) ≡ true) (sym becomes.count) now
 
-pub decays_sound : (s t : DeviceState) (p : ℕ) (answer : Bool) → Decays s p answer t → IsSound s → IsSound t
+pub decays_sound : (s t : DeviceState) (p : ℕ) (answer : Bool) → Decays s p answer t → IsSoundDevice s → IsSoundDevice t
 decays_sound s t p answer decays sound = becomes_met_sound s t (Some (Decay p)) s.power decays.becomes sound

@@ -73,5 +73,5 @@ abbrev pub page_met : DeviceState → Option FaultKind → ℕ → PageState
 page_met s k q = met_at (s.count / 2) s.pages k q
 
 -- of each pair at least one half is good
-abbrev pub IsSound : DeviceState → Type 0
-IsSound s = (i : ℕ) → i < s.count / 2 → ((s.pages i).good || (s.pages (i + s.count / 2)).good) ≡ true
+abbrev pub IsSoundDevice : DeviceState → Type 0
+IsSoundDevice s = (i : ℕ) → i < s.count / 2 → ((s.pages i).good || (s.pages (i + s.count / 2)).good) ≡ true

@@ -4,7 +4,7 @@ use Rattle.jn_base.specs.declared.device.FaultKind.{FaultKind}
 use Rattle.jn_base.specs.declared.device.FaultKind.TheVariants.{Decay, Revive, StopBefore, StopTorn, StopAfter}
 use Rattle.jn_base.specs.declared.device.Outside.{Outside}
 use Rattle.jn_device.specs.declared.Armed.{Armed}
-use Rattle.jn_device.specs.Device.{DeviceState, IsSound}
+use Rattle.jn_device.specs.Device.{DeviceState, IsSoundDevice}
 
 -- how many of the faults that wait are of these kinds
 abbrev pub count_kind : (FaultKind → Bool) → List Armed → ℕ
@@ -49,7 +49,7 @@ pub record Later (s t : DeviceState) : Type 0 where
   pub puts : s.puts ≤ t.puts
   pub stops : s.stops ≤ t.stops
   pub spends : Spends s.waiting t.waiting s.told t.told s.power t.power
-  pub sound : IsSound s → IsSound t
+  pub sound : IsSoundDevice s → IsSoundDevice t
   pub quiet : s.waiting ≡ [] → t.waiting ≡ []
   -- with power and no fault waiting
   pub power : s.waiting ≡ [] → s.power ≡ true → t.power ≡ true

@@ -6,8 +6,8 @@ use Rattle.std.proofs.lemmas.List.{get_or-take, length-take-le}
 use Rattle.std.specs.Prelude.{nat_lt, take, drop}
 use Rattle.jn_base.specs.declared.names.ServerNo.{ServerNo}
 use Rattle.jn_device.specs.declared.Half.{Half}
-use Rattle.jn_device.specs.Device.{DeviceState, IsSound as IsSoundDevice}
-use Rattle.jn_memdisk.specs.Disk.{Holds, IsNew}
+use Rattle.jn_device.specs.Device.{DeviceState, IsSoundDevice}
+use Rattle.jn_memdisk.specs.Disk.{HasHalves, IsNew}
 use Rattle.jn_memdisk.specs.Pages.{half_at}
 use Rattle.jn_order.specs.Files.{Files}
 use Rattle.jn_records.specs.Sound.{Image, IsSound, Names}
@@ -59,7 +59,7 @@ module _ (server : ServerNo) (g : Counts) (halves : List Half) (are : AreSound s
   pub even : 2 * (length halves / 2) ≡ length halves
   even = let size = are.size in omega (arith, size)
 
-  module _ (s : DeviceState) (holds : Holds halves s) where
+  module _ (s : DeviceState) (holds : HasHalves halves s) where
     half : s.count / 2 ≡ page_count g
     half = let size = are.size in let count = holds.count in omega (arith, size, count)
 
@@ -115,7 +115,7 @@ below_is a b h = grind (arith, nat_tests)
 past_is : (a b : ℕ) → b ≤ a → nat_lt a b ≡ false
 past_is a b h = grind (arith, nat_tests)
 
-module _ (server : ServerNo) (g : Counts) (files : Files) (s : DeviceState) (image : IsImage server g files (pairs_view s)) (count : page_count g ≡ s.count / 2) (halves : List Half) (holds : Holds halves s) where
+module _ (server : ServerNo) (g : Counts) (files : Files) (s : DeviceState) (image : IsImage server g files (pairs_view s)) (count : page_count g ≡ s.count / 2) (halves : List Half) (holds : HasHalves halves s) where
   abbrev taken : List Half
   taken = take (2 * (s.count / 2)) halves
 
@@ -160,7 +160,7 @@ module _ (server : ServerNo) (g : Counts) (files : Files) (s : DeviceState) (ima
 -- ---- the pages themselves
 
 -- all pages of a disk of pairs
-pub all_pages : (halves : List Half) (s : DeviceState) → Holds halves s → 2 * (length halves / 2) ≡ length halves → HasPages halves s
+pub all_pages : (halves : List Half) (s : DeviceState) → HasHalves halves s → 2 * (length halves / 2) ≡ length halves → HasPages halves s
 all_pages halves s holds even = record {
   count = sym even ∙ ap (λ n. 2 * (n / 2)) holds.count;
   good = λ p lt. holds.good p (subst (λ n. p < n) holds.count lt);
@@ -168,7 +168,7 @@ all_pages halves s holds even = record {
 }
 
 -- without the last page, where it has no other half
-pub paired_pages : (halves : List Half) (s : DeviceState) → Holds halves s → HasPages (take (2 * (s.count / 2)) halves) s
+pub paired_pages : (halves : List Half) (s : DeviceState) → HasHalves halves s → HasPages (take (2 * (s.count / 2)) halves) s
 paired_pages halves s holds = record {
   count = count;
   good = λ p lt. holds.good p (inside p (below p lt)) ∙ sym (ap (λ (h : Half). h.good) (at p (below p lt)));

@@ -8,20 +8,17 @@ use Rattle.jn_order.specs.Files.{Files}
 use Rattle.jn_records.specs.declared.root.Root.{Root}
 use Rattle.jn_records.specs.Pages.{root_page}
 use Rattle.jn_records.specs.Sound.{Image, IsSound, root_of}
-use Rattle.jn_records.specs.StablePages.{Counts, page_count, files_of_pages}
-use Rattle.jn_store.specs.Store.{StoreView, IsCalm, IsWhole, IsOnly}
+use Rattle.jn_records.specs.StablePages.{Counts, counts_of, page_count, files_of_pages}
+use Rattle.jn_store.specs.Store.{StoreView, IsCalm, IsWholePage, IsOnly}
 use Rattle.jn_found.specs.Images.{CountsFit, IsFresh}
 
 -- no fault waits, none was told, and both halves of each page are good and equal
 pub record IsUntouched (v : StoreView) : Type 0 where
   pub calm : IsCalm v
   pub told : v.told ≡ []
-  pub whole : (i : ℕ) → i < v.count → IsWhole v i
+  pub whole : (i : ℕ) → i < v.count → IsWholePage v i
 
 -- ---- a new server
-
-abbrev pub counts_of : Root → Counts
-counts_of r = record { pool = r.pool; heads = r.heads; leaves = r.leaves }
 
 abbrev pub no_files : Files
 no_files u = None

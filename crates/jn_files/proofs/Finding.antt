@@ -10,7 +10,7 @@ use Rattle.jn_records.specs.declared.head.Head.{Head}
 use Rattle.jn_records.specs.declared.head.Head.TheVariants.{Free, Used}
 use Rattle.jn_files.specs.Table.{head_in, is_of, exists, addresses, addresses_of, address_of, address_for, or_nil}
 use Rattle.jn_files.specs.Calls.{is_above, NextFile}
-use Rattle.jn_files.specs.Inside.{AreIndexed, number_of, file_number}
+use Rattle.jn_files.specs.Inside.{AreIndexed, head_number, file_number}
 use Rattle.jn_files.proofs.Lookup.{absent_none, when_false, addresses_lowest}
 
 -- a head that the file has
@@ -31,11 +31,11 @@ has_file g hs j e = by (exists hs g) refl
     by true t = refl
     by false t = absurd (let none = absent_none g hs t j in cc (none, e))
 
-of_number : (f : FileNo) (h : Head) → number_of h ≡ Some f.0 → is_of f h ≡ true
+of_number : (f : FileNo) (h : Head) → head_number h ≡ Some f.0 → is_of f h ≡ true
 of_number f Free e = absurd (cc e)
 of_number f (Used g xs) e = let same : g.0 ≡ f.0 = cc e in grind (arith, nat_tests, same)
 
-its_number : (f : FileNo) (h : Head) → is_of f h ≡ true → number_of h ≡ Some f.0
+its_number : (f : FileNo) (h : Head) → is_of f h ≡ true → head_number h ≡ Some f.0
 its_number f Free e = absurd (cc e)
 its_number f (Used g xs) e = ap (λ (n : ℕ). Some n) (let same : g.0 ≡ f.0 = grind (arith, nat_tests, e) in same)
 

@@ -10,29 +10,29 @@ use Rattle.jn_records.specs.StablePages.{Pages, head_place, data_place, files_of
 use Rattle.jn_store.specs.Store.{StoreView, StorePut}
 use Rattle.jn_store.specs.Choices.{IsChoice}
 use Rattle.jn_files.specs.Table.{TableView, head_in, address_of, IsUnnamed, IsFreeLeaf, IsTable, AreHeads}
-use Rattle.jn_files.specs.Pages.{leaves_in, leaf_page, IsLeaf, Holds, files_in}
-use Rattle.jn_files.specs.Calls.{Fits, Fills, with_touched}
-use Rattle.jn_files.specs.Inside.{view_of, IsNamed}
+use Rattle.jn_files.specs.Pages.{leaves_in, leaf_page, IsLeaf, HoldsTable, files_in}
+use Rattle.jn_files.specs.Calls.{HasPagesOfTable, Fills, with_touched}
+use Rattle.jn_files.specs.Inside.{table_view, IsNamedPage}
 use Rattle.jn_files.proofs.Putting.{files_said, same_leaves, says_choice, leaf_choice, files_first, named_below, same_leaf, same_only}
 use Rattle.jn_files.proofs.Setting.{set_below}
 
 -- ---- filling
 
 module _ (t : TableView) (v : StoreView) (a : ℕ) (block : List ℕ) (ok : Bool) (w : StoreView) (put : StorePut v (data_place t.counts a) (leaf_page block) ok w)
-    (is : IsTable t) (below : a < t.counts.leaves) (unnamed : IsUnnamed t.heads a) (fits : Fits t v) where
+    (is : IsTable t) (below : a < t.counts.leaves) (unnamed : IsUnnamed t.heads a) (fits : HasPagesOfTable t v) where
   kept_leaf : (b : ℕ) → b < t.counts.leaves → b ≢ a → IsLeaf v (data_place t.counts b) → IsLeaf w (data_place t.counts b)
   kept_leaf b lt ne leaf = same_leaf v w (data_place t.counts b) (put.others (data_place t.counts b) (omega arith) (λ e. ne (omega (arith, e)))) leaf
 
   not_a : (slot p b : ℕ) → address_of (head_in t.heads slot) p ≡ suc b → b ≢ a
   not_a slot p b e same = unnamed slot p (e ∙ ap suc same)
 
-  fill_holds : Holds t v → Holds t w
+  fill_holds : HoldsTable t v → HoldsTable t w
   fill_holds holds = record {
     stored = λ j lt. same_only v w (head_place t.counts j) (head_page (head_in t.heads j)) (put.others (head_place t.counts j) (let s = is.slots in omega arith) (λ e. let s = is.slots in omega (arith, e))) (holds.stored j lt);
     leaves = λ j p b e. kept_leaf b (named_below t.counts t.heads is.heads j p b e) (not_a j p b e) (holds.leaves j p b e);
   }
 
-  fill_files : Holds t v → (d : Pages) → IsChoice w d → files_of_pages t.counts d ≡ files_in t.counts v
+  fill_files : HoldsTable t v → (d : Pages) → IsChoice w d → files_of_pages t.counts d ≡ files_in t.counts v
   fill_files holds d choice =
       let after = fill_holds holds in
       let count = put.later.count ∙ fits in
@@ -43,7 +43,7 @@ module _ (t : TableView) (v : StoreView) (a : ℕ) (block : List ℕ) (ok : Bool
       ∙ sym (files_first t.counts t.heads v is.slots is.few_leaves is.heads fits holds)
 
 pub fills : (t : TableView) (v : StoreView) (a : ℕ) (block : List ℕ) (ok : Bool) (w : StoreView) (at : ℕ) (page : List ℕ) → at ≡ data_place t.counts a → page ≡ leaf_page block → StorePut v at page ok w
-    → IsTable t → a < t.counts.leaves → IsUnnamed t.heads a → Fits t v → length block ≡ 448 → (u : TableView) → (ok ≡ true → u ≡ with_touched t a) → (ok ≡ false → u ≡ t) → Fills t v a block ok u w
+    → IsTable t → a < t.counts.leaves → IsUnnamed t.heads a → HasPagesOfTable t v → length block ≡ 448 → (u : TableView) → (ok ≡ true → u ≡ with_touched t a) → (ok ≡ false → u ≡ t) → Fills t v a block ok u w
 fills t v a block ok w at page at_is page_is raw is below unnamed fits long u done stopped =
     let put : StorePut v (data_place t.counts a) (leaf_page block) ok w = subst (λ (k : ℕ). StorePut v k (leaf_page block) ok w) at_is (subst (λ (x : List ℕ). StorePut v at x ok w) page_is raw) in
     record {
@@ -57,7 +57,7 @@ fills t v a block ok w at page at_is page_is raw is below unnamed fits long u do
 
 -- ---- a data page that is held no more
 
-module _ (pool : ℕ) (heads : List Head) (held touched : List Bool) (fh fl fl2 : FreeNumbers) (a : ℕ) (is : IsTable (view_of pool heads held touched fh fl)) (was : slice_index_or held a false ≡ true)
+module _ (pool : ℕ) (heads : List Head) (held touched : List Bool) (fh fl fl2 : FreeNumbers) (a : ℕ) (is : IsTable (table_view pool heads held touched fh fl)) (was : slice_index_or held a false ≡ true)
     (count : count_of fl2 ≡ count_of fl) (others : (b : ℕ) → b ≢ a → is_free_number fl2 b ≡ is_free_number fl b) (here : (is_free_number fl2 a ≡ true) ↔ IsUnnamed heads a) where
   below : a < length held
   below = set_below held a was
@@ -68,7 +68,7 @@ module _ (pool : ℕ) (heads : List Head) (held touched : List Bool) (fh fl fl2 
   loose_here : slice_index_or (slice_set held a false) a false ≡ false
   loose_here = get_or-set_same held a false false below
 
-  free_to : (b : ℕ) → is_free_number fl2 b ≡ true → IsFreeLeaf (view_of pool heads (slice_set held a false) touched fh fl2) b
+  free_to : (b : ℕ) → is_free_number fl2 b ≡ true → IsFreeLeaf (table_view pool heads (slice_set held a false) touched fh fl2) b
   free_to b free = elim (cases_eq b a) [
     | inl e ↦ record {
       below = let n = length-set held a false in let lt = below in omega arith;
@@ -82,13 +82,13 @@ module _ (pool : ℕ) (heads : List Head) (held touched : List Bool) (fh fl fl2 
     }
   ]
 
-  to_free : (b : ℕ) → IsFreeLeaf (view_of pool heads (slice_set held a false) touched fh fl2) b → is_free_number fl2 b ≡ true
+  to_free : (b : ℕ) → IsFreeLeaf (table_view pool heads (slice_set held a false) touched fh fl2) b → is_free_number fl2 b ≡ true
   to_free b leaf = elim (cases_eq b a) [
     | inl e ↦ subst (λ (k : ℕ). is_free_number fl2 k ≡ true) (sym e) (here.1 (subst (λ (k : ℕ). IsUnnamed heads k) e leaf.unnamed))
     | inr ne ↦ others b ne ∙ (is.free_leaves b).1 (record { below = let n = length-set held a false in let lt = leaf.below in omega arith; loose = sym (loose_other b ne) ∙ leaf.loose; unnamed = leaf.unnamed })
   ]
 
-  pub let_go_table : IsTable (view_of pool heads (slice_set held a false) touched fh fl2)
+  pub let_go_table : IsTable (table_view pool heads (slice_set held a false) touched fh fl2)
   let_go_table =
       let n : length (slice_set held a false) ≡ length held = length-set held a false in
       record {
@@ -104,27 +104,27 @@ module _ (pool : ℕ) (heads : List Head) (held touched : List Bool) (fh fl fl2 
         free_leaves = λ b. (free_to b, to_free b);
       }
 
-pub named_used : (pool : ℕ) (heads : List Head) (held touched : List Bool) (fh fl : FreeNumbers) (a : ℕ) → IsTable (view_of pool heads held touched fh fl) → slice_index_or held a false ≡ true → is_free_number fl a ≡ false
+pub named_used : (pool : ℕ) (heads : List Head) (held touched : List Bool) (fh fl : FreeNumbers) (a : ℕ) → IsTable (table_view pool heads held touched fh fl) → slice_index_or held a false ≡ true → is_free_number fl a ≡ false
 named_used pool heads held touched fh fl a is was = false_from_ne_true (is_free_number fl a) (λ free. let loose : slice_index_or held a false ≡ false = ((is.free_leaves a).0 free).loose in cc (loose, was))
 
 -- it stays named
-pub let_go_named : (pool : ℕ) (heads : List Head) (held touched : List Bool) (fh fl : FreeNumbers) (a : ℕ) → IsTable (view_of pool heads held touched fh fl) → slice_index_or held a false ≡ true → IsNamed heads a
-    → IsTable (view_of pool heads (slice_set held a false) touched fh fl)
+pub let_go_named : (pool : ℕ) (heads : List Head) (held touched : List Bool) (fh fl : FreeNumbers) (a : ℕ) → IsTable (table_view pool heads held touched fh fl) → slice_index_or held a false ≡ true → IsNamedPage heads a
+    → IsTable (table_view pool heads (slice_set held a false) touched fh fl)
 let_go_named pool heads held touched fh fl a is was named =
     let_go_table pool heads held touched fh fl fl a is was refl (λ b ne. refl)
     (λ free. absurd (let used = named_used pool heads held touched fh fl a is was in cc (used, free)), λ unnamed. absurd (unnamed named.slot named.block named.here))
 
 -- or it is free
-pub let_go_free : (pool : ℕ) (heads : List Head) (held touched : List Bool) (fh fl : FreeNumbers) (a : ℕ) → IsTable (view_of pool heads held touched fh fl) → slice_index_or held a false ≡ true → IsUnnamed heads a
-    → IsTable (view_of pool heads (slice_set held a false) touched fh (with_free fl a true))
+pub let_go_free : (pool : ℕ) (heads : List Head) (held touched : List Bool) (fh fl : FreeNumbers) (a : ℕ) → IsTable (table_view pool heads held touched fh fl) → slice_index_or held a false ≡ true → IsUnnamed heads a
+    → IsTable (table_view pool heads (slice_set held a false) touched fh (with_free fl a true))
 let_go_free pool heads held touched fh fl a is was unnamed =
     let_go_table pool heads held touched fh fl (with_free fl a true) a is was (length-set fl.flags a true) (λ b ne. get_or-set_other fl.flags a b true false ne)
     (λ free. unnamed, λ u. get_or-set_same fl.flags a true false (let lt = set_below held a was in let n = is.leaf_count in omega arith))
 
 -- ---- a data page that is held
 
-module _ (pool : ℕ) (heads : List Head) (held touched : List Bool) (fh fl : FreeNumbers) (a : ℕ) (is : IsTable (view_of pool heads held touched fh fl)) (below_held : a < length held) where
-  hold_to : (b : ℕ) → is_free_number (with_free fl a false) b ≡ true → IsFreeLeaf (view_of pool heads (slice_set held a true) touched fh (with_free fl a false)) b
+module _ (pool : ℕ) (heads : List Head) (held touched : List Bool) (fh fl : FreeNumbers) (a : ℕ) (is : IsTable (table_view pool heads held touched fh fl)) (below_held : a < length held) where
+  hold_to : (b : ℕ) → is_free_number (with_free fl a false) b ≡ true → IsFreeLeaf (table_view pool heads (slice_set held a true) touched fh (with_free fl a false)) b
   hold_to b free = elim (cases_eq b a) [
     | inl e ↦ absurd (let none : is_free_number (with_free fl a false) a ≡ false = get_or-set_same fl.flags a false false (let n = is.leaf_count in omega arith) in
         let here : is_free_number (with_free fl a false) a ≡ true = subst (λ (k : ℕ). is_free_number (with_free fl a false) k ≡ true) e free in cc (none, here))
@@ -135,7 +135,7 @@ module _ (pool : ℕ) (heads : List Head) (held touched : List Bool) (fh fl : Fr
     }
   ]
 
-  hold_from : (b : ℕ) → IsFreeLeaf (view_of pool heads (slice_set held a true) touched fh (with_free fl a false)) b → is_free_number (with_free fl a false) b ≡ true
+  hold_from : (b : ℕ) → IsFreeLeaf (table_view pool heads (slice_set held a true) touched fh (with_free fl a false)) b → is_free_number (with_free fl a false) b ≡ true
   hold_from b leaf = elim (cases_eq b a) [
     | inl e ↦ absurd (let set : slice_index_or (slice_set held a true) a false ≡ true = get_or-set_same held a true false below_held in
         let loose : slice_index_or (slice_set held a true) a false ≡ false = subst (λ (k : ℕ). slice_index_or (slice_set held a true) k false ≡ false) e leaf.loose in cc (set, loose))
@@ -146,7 +146,7 @@ module _ (pool : ℕ) (heads : List Head) (held touched : List Bool) (fh fl : Fr
     })
   ]
 
-  pub hold_table : IsTable (view_of pool heads (slice_set held a true) touched fh (with_free fl a false))
+  pub hold_table : IsTable (table_view pool heads (slice_set held a true) touched fh (with_free fl a false))
   hold_table =
       let n : length (slice_set held a true) ≡ length held = length-set held a true in
       record {

@@ -8,14 +8,14 @@ use Rattle.jn_alloc.specs.Free.{FreeNumbers, is_free as is_free_number, with_fre
 use Rattle.jn_records.specs.declared.head.Head.{Head}
 use Rattle.jn_records.specs.declared.head.Head.TheVariants.{Free}
 use Rattle.jn_records.specs.Heads.{head_page}
-use Rattle.jn_records.specs.StablePages.{Counts, head_place}
+use Rattle.jn_records.specs.StablePages.{counts_of, Counts, head_place}
 use Rattle.jn_store.specs.Store.{StoreView, IsServed}
 use Rattle.jn_store.proofs.Laws.{later_refl, later_trans, same_refl, same_trans}
 use Rattle.jn_files.specs.Table.{head_in, address_of, AreHeads, IsTable}
 use Rattle.jn_files.specs.Pages.{IsLoadable}
 use Rattle.jn_records.specs.declared.root.Root.{Root}
-use Rattle.jn_files.specs.Calls.{StoreRead, counts_of, IsLoaded}
-use Rattle.jn_files.specs.Inside.{view_of, IsHeadAt, AreFreeHeads, AreFreeLeaves, MayTakeNamed, TakesNamed, taken_one, ReadTo}
+use Rattle.jn_files.specs.Calls.{StoreRead, IsLoaded}
+use Rattle.jn_files.specs.Inside.{table_view, IsHeadAt, AreFreeHeads, AreFreeLeaves, MayTakeNamed, TakesNamed, taken_one, ReadTo}
 use Rattle.jn_files.proofs.Cutting.{address_below}
 use Rattle.jn_files.proofs.Putting.{named_below, same_only}
 use Rattle.jn_files.proofs.Setting.{set_below}
@@ -133,7 +133,7 @@ module _ (g : Counts) (u v : StoreView) (n : ℕ) (slots : List Head) (so_far : 
 
 module _ (pool : ℕ) (heads : List Head) (held touched : List Bool) (fh fl : FreeNumbers) (are : AreHeads (length held) heads) (few_heads : length heads < 2 ^ 16) (few_leaves : length held < 2 ^ 16)
     (none_held : (a : ℕ) → slice_index_or held a false ≡ false) (as_long : length touched ≡ length held) (free_heads : AreFreeHeads heads fh) (free_leaves : AreFreeLeaves (length held) heads (length heads) fl) where
-  pub loaded_table : IsTable (view_of pool heads held touched fh fl)
+  pub loaded_table : IsTable (table_view pool heads held touched fh fl)
   loaded_table = record {
     heads = are;
     slots = refl;
@@ -161,14 +161,14 @@ module _ (pool : ℕ) (heads : List Head) (held touched : List Bool) (fh fl : Fr
 module _ (root : Root) (heads slots seen again : List Head) (held touched : List Bool) (fh fl : FreeNumbers) (v : StoreView) (loadable : IsLoadable (counts_of root) heads v)
     (slots_are : slots ≡ heads) (seen_is : seen ≡ slots) (again_is : again ≡ slots) (long : length held ≡ root.leaves) (few_heads : root.heads < 2 ^ 16) (few_leaves : root.leaves < 2 ^ 16)
     (none_held : (a : ℕ) → slice_index_or held a false ≡ false) (touched_long : length touched ≡ root.leaves) (none_touched : (a : ℕ) → slice_index_or touched a false ≡ false) (free_heads : AreFreeHeads seen fh) (free_leaves : AreFreeLeaves root.leaves again (length again) fl) where
-  pub code_table : IsTable (view_of root.pool slots held touched fh fl)
+  pub code_table : IsTable (table_view root.pool slots held touched fh fl)
   code_table =
       let are : AreHeads (length held) slots = subst (λ (n : ℕ). AreHeads n slots) (sym long) (subst (λ (l : List Head). AreHeads root.leaves l) (sym slots_are) loadable.sound) in
       let left : AreFreeLeaves (length held) slots (length slots) fl = subst (λ (n : ℕ). AreFreeLeaves n slots (length slots) fl) (sym long) (subst (λ (l : List Head). AreFreeLeaves root.leaves l (length l) fl) again_is free_leaves) in
       loaded_table root.pool slots held touched fh fl are (let e : length slots ≡ root.heads = ap length slots_are ∙ loadable.slots in omega arith) (omega arith) none_held (touched_long ∙ sym long)
       (subst (λ (l : List Head). AreFreeHeads l fh) seen_is free_heads) left
 
-  pub code_loaded : IsLoaded (counts_of root) (view_of root.pool slots held touched fh fl)
+  pub code_loaded : IsLoaded (counts_of root) (table_view root.pool slots held touched fh fl)
   code_loaded = record {
     counts = ap (λ (n : ℕ). let g : Counts = record { pool = root.pool; heads = n; leaves = length held } in g) (ap length slots_are ∙ loadable.slots)
         ∙ ap (λ (n : ℕ). let g : Counts = record { pool = root.pool; heads = root.heads; leaves = n } in g) long;

@@ -6,7 +6,7 @@ use Rattle.std.proofs.lemmas.List.{get_or-set_same, get_or-set_other, length-set
 use Rattle.std.specs.Prelude.{nat_eq, not, slice_index_or, slice_set}
 use Rattle.jn_records.specs.declared.head.Head.{Head}
 use Rattle.jn_files.specs.Table.{head_in, address_of, AreHeads, IsHeadOf, IsUnnamed}
-use Rattle.jn_files.specs.Inside.{IsNamed, AreNamed, NamesAmong, NamedBefore, Marks, ChangesBlocks, marked_one}
+use Rattle.jn_files.specs.Inside.{IsNamedPage, AreNamed, NamesAmong, NamedBefore, Marks, ChangesBlocks, marked_one}
 use Rattle.jn_files.proofs.Cutting.{address_within, address_below}
 use Rattle.jn_files.proofs.Lookup.{when_false}
 use Rattle.jn_files.proofs.Standing.{head_at_slot, head_off_slot}
@@ -105,11 +105,11 @@ module _ (leaves : ℕ) (heads : List Head) (slot : ℕ) (h : Head) (first end :
   off : (j : ℕ) → j ≢ slot → head_in (slice_set heads slot h) j ≡ head_in heads j
   off j ne = head_off_slot heads slot h j ne
 
-  named_here : (a p : ℕ) → address_of h p ≡ suc a → IsNamed (slice_set heads slot h) a
+  named_here : (a p : ℕ) → address_of h p ≡ suc a → IsNamedPage (slice_set heads slot h) a
   named_here a p e = record { slot = slot; block = p; here = ap (λ (x : Head). address_of x p) at ∙ e }
 
   -- what the old head named and kept its flag stands where it stood
-  still_here : (a p : ℕ) → address_of (head_in heads slot) p ≡ suc a → ((q : ℕ) → first ≤ q → q < end → address_of (head_in heads slot) q ≢ suc a) → IsNamed (slice_set heads slot h) a
+  still_here : (a p : ℕ) → address_of (head_in heads slot) p ≡ suc a → ((q : ℕ) → first ≤ q → q < end → address_of (head_in heads slot) q ≢ suc a) → IsNamedPage (slice_set heads slot h) a
   still_here a p e none =
       let low = address_below (head_in heads slot) p a (are.each slot).is_head.whole e in
       elim (cases_lt p first) [
@@ -120,14 +120,14 @@ module _ (leaves : ℕ) (heads : List Head) (slot : ℕ) (h : Head) (first end :
         ]
       ]
 
-  now_set : (a : ℕ) → a < length flags → slice_index_or new a false ≡ true → IsNamed (slice_set heads slot h) a
+  now_set : (a : ℕ) → a < length flags → slice_index_or new a false ≡ true → IsNamedPage (slice_set heads slot h) a
   now_set a lt e = ⊎_elim
       (λ (was : slice_index_or less a false ≡ true).
       let before = cleared.from a lt was in
       let name = named.set a lt before.0 in
       elim (cases_eq name.slot slot) [
         | inl same ↦ still_here a name.block (subst (λ (k : ℕ). address_of (head_in heads k) name.block ≡ suc a) same name.here) before.1
-        | inr other ↦ let result : IsNamed (slice_set heads slot h) a = record { slot = name.slot; block = name.block; here = ap (λ (x : Head). address_of x name.block) (off name.slot other) ∙ name.here } in result
+        | inr other ↦ let result : IsNamedPage (slice_set heads slot h) a = record { slot = name.slot; block = name.block; here = ap (λ (x : Head). address_of x name.block) (off name.slot other) ∙ name.here } in result
       ])
       (λ (d : NamesAmong h first end a). named_here a d.block d.here)
       (set.to a (let same = cleared.count in omega arith) e)

@@ -18,8 +18,8 @@ use Rattle.jn_store.specs.Store.{StoreView, IsOnly, IsSamePage, StorePut}
 use Rattle.jn_store.specs.Choices.{IsChoice, Leads, with_page}
 use Rattle.jn_store.proofs.Choices.{choice_only, put_leads, done_leads, with_same, with_other, some_choice}
 use Rattle.jn_files.specs.Table.{TableView, head_in, is_of, addresses_of, address_of, addresses, address_for, or_nil, behind, files_of, AreHeads, IsTable}
-use Rattle.jn_files.specs.Pages.{Says, leaves_in, IsLeaf, HoldsHeads, Holds, files_in}
-use Rattle.jn_files.specs.Calls.{Fits, IsChanged, PutsHead}
+use Rattle.jn_files.specs.Pages.{Says, leaves_in, IsLeaf, HoldsHeads, HoldsTable, files_in}
+use Rattle.jn_files.specs.Calls.{HasPagesOfTable, IsChanged, PutsHead}
 use Rattle.jn_files.specs.Inside.{IsChange, AreLeaves}
 use Rattle.jn_files.proofs.Cutting.{address_within, address_past}
 use Rattle.jn_files.proofs.Lookup.{when_true, when_false, named_by, of_used}
@@ -132,8 +132,8 @@ pub same_only : (v w : StoreView) (i : ℕ) (page : List ℕ) → IsSamePage v w
 same_only v w i page same only = record { first = same.first ∙ only.first; second = same.second ∙ only.second }
 
 module _ (t : TableView) (v : StoreView) (slot : ℕ) (h : Head) (ok : Bool) (w : StoreView) (put : StorePut v (head_place t.counts slot) (head_page h) ok w)
-    (is : IsTable t) (new : AreHeads t.counts.leaves (slice_set t.heads slot h)) (below : slot < t.counts.heads) (fits : Fits t v)
-    (holds : Holds t v) (leaf : (p a : ℕ) → address_of h p ≡ suc a → IsLeaf v (data_place t.counts a)) where
+    (is : IsTable t) (new : AreHeads t.counts.leaves (slice_set t.heads slot h)) (below : slot < t.counts.heads) (fits : HasPagesOfTable t v)
+    (holds : HoldsTable t v) (leaf : (p a : ℕ) → address_of h p ≡ suc a → IsLeaf v (data_place t.counts a)) where
   abbrev hs2 : List Head
   hs2 = slice_set t.heads slot h
 
@@ -222,7 +222,7 @@ module _ (t : TableView) (v : StoreView) (slot : ℕ) (h : Head) (ok : Bool) (w 
 -- the head's put, done or stopped
 pub puts_head : (t : TableView) (v : StoreView) (slot : ℕ) (h : Head) (c : (ℕ → List ℕ) → Change) (ok : Bool) (u : TableView) (w : StoreView) (at : ℕ) (page : List ℕ)
     → at ≡ head_place t.counts slot → page ≡ head_page h → StorePut v at page ok w
-    → IsTable t → AreHeads t.counts.leaves (slice_set t.heads slot h) → slot < t.counts.heads → Fits t v → AreLeaves t v h → IsChange t.heads slot h c
+    → IsTable t → AreHeads t.counts.leaves (slice_set t.heads slot h) → slot < t.counts.heads → HasPagesOfTable t v → AreLeaves t v h → IsChange t.heads slot h c
     → (ok ≡ true → IsChanged t slot h u) → (ok ≡ false → u ≡ t) → PutsHead t v slot h c ok u w
 puts_head t v slot h c ok u w at page at_is page_is raw is new below fits leaf changes done stopped =
     let put : StorePut v (head_place t.counts slot) (head_page h) ok w = subst (λ (k : ℕ). StorePut v k (head_page h) ok w) at_is (subst (λ (x : List ℕ). StorePut v at x ok w) page_is raw) in

@@ -9,7 +9,7 @@ use Rattle.jn_records.specs.declared.head.Head.TheVariants.{Free}
 use Rattle.jn_records.specs.StablePages.{Counts as PageCounts}
 use Rattle.jn_files.specs.Table.{TableView, head_in, is_free, is_of, address_of, AreHeads, IsHeadOf, IsFreeLeaf, IsTable, IsUnnamed}
 use Rattle.jn_files.specs.Calls.{IsChanged}
-use Rattle.jn_files.specs.Inside.{view_of, MayStand, MayDrop, DropsAmong, Drops, Counts}
+use Rattle.jn_files.specs.Inside.{table_view, MayStand, MayDrop, DropsAmong, Drops, Counts}
 use Rattle.jn_files.proofs.Cutting.{address_within, address_below}
 
 pub head_at_slot : (heads : List Head) (slot : ℕ) (h : Head) (j : ℕ) → slot < length heads → j ≡ slot → head_in (slice_set heads slot h) j ≡ h
@@ -19,7 +19,7 @@ pub head_off_slot : (heads : List Head) (slot : ℕ) (h : Head) (j : ℕ) → j 
 head_off_slot heads slot h j ne = get_or-set_other heads slot j h Free ne
 
 module _ (pool : ℕ) (heads : List Head) (held touched : List Bool) (fh fl : FreeNumbers) (slot : ℕ) (h : Head)
-    (is : IsTable (view_of pool heads held touched fh fl)) (may : MayStand (view_of pool heads held touched fh fl) slot h) where
+    (is : IsTable (table_view pool heads held touched fh fl)) (may : MayStand (table_view pool heads held touched fh fl) slot h) where
   at : (j : ℕ) → j ≡ slot → head_in (slice_set heads slot h) j ≡ h
   at j e = head_at_slot heads slot h j may.below e
 
@@ -64,16 +64,16 @@ module _ (pool : ℕ) (heads : List Head) (held touched : List Bool) (fh fl : Fr
 
   module _ (fh2 fl2 : FreeNumbers) (counts : Counts fh slot (is_free h) fh2) (drops : Drops held (head_in heads slot) h 120 fl fl2) where
     new_view : TableView
-    new_view = view_of pool (slice_set heads slot h) held touched fh2 fl2
+    new_view = table_view pool (slice_set heads slot h) held touched fh2 fl2
 
     same_length : length (slice_set heads slot h) ≡ length heads
     same_length = length-set heads slot h
 
     -- what is free now was so, or was dropped
-    leaf_free : (a : ℕ) → is_free_number fl2 a ≡ true → IsFreeLeaf (view_of pool (slice_set heads slot h) held touched fh2 fl2) a
+    leaf_free : (a : ℕ) → is_free_number fl2 a ≡ true → IsFreeLeaf (table_view pool (slice_set heads slot h) held touched fh2 fl2) a
     leaf_free a free = ⊎_elim
         (λ (was : is_free_number fl a ≡ true).
-        let old : IsFreeLeaf (view_of pool heads held touched fh fl) a = (is.free_leaves a).0 was in
+        let old : IsFreeLeaf (table_view pool heads held touched fh fl) a = (is.free_leaves a).0 was in
         record {
           below = old.below;
           loose = old.loose;
@@ -95,7 +95,7 @@ module _ (pool : ℕ) (heads : List Head) (held touched : List Bool) (fh fl : Fr
         })
         (drops.only a free)
 
-    free_leaf : (a : ℕ) → IsFreeLeaf (view_of pool (slice_set heads slot h) held touched fh2 fl2) a → is_free_number fl2 a ≡ true
+    free_leaf : (a : ℕ) → IsFreeLeaf (table_view pool (slice_set heads slot h) held touched fh2 fl2) a → is_free_number fl2 a ≡ true
     free_leaf a leaf = ⊎_elim
         (λ (yes_free : is_free_number fl2 a ≡ true). yes_free)
         (λ (used : is_free_number fl2 a ≡ false).
@@ -111,7 +111,7 @@ module _ (pool : ℕ) (heads : List Head) (held touched : List Bool) (fh fl : Fr
         absurd (cc (freed, used)))
         (cases_Bool (is_free_number fl2 a))
 
-    pub table_set : IsTable (view_of pool (slice_set heads slot h) held touched fh2 fl2)
+    pub table_set : IsTable (table_view pool (slice_set heads slot h) held touched fh2 fl2)
     table_set = record {
       heads = new_heads;
       slots = refl;
@@ -131,7 +131,7 @@ module _ (pool : ℕ) (heads : List Head) (held touched : List Bool) (fh fl : Fr
       free_leaves = λ a. (leaf_free a, free_leaf a);
     }
 
-    pub is_changed : IsChanged (view_of pool heads held touched fh fl) slot h (view_of pool (slice_set heads slot h) held touched fh2 fl2)
+    pub is_changed : IsChanged (table_view pool heads held touched fh fl) slot h (table_view pool (slice_set heads slot h) held touched fh2 fl2)
     is_changed = record {
       counts = ap (λ (n : ℕ). let g : PageCounts = record { pool = pool; heads = n; leaves = length held } in g) same_length;
       heads = refl;
@@ -148,7 +148,7 @@ read_is heads after slot h new below after_is new_read = new_read ∙ ap (λ (l 
 
 -- as the code has it, where an old and a new head are read from the list
 module _ (pool : ℕ) (heads : List Head) (held touched : List Bool) (fh fl fh2 fl2 : FreeNumbers) (slot : ℕ) (h old new : Head) (after : List Head) (held2 : List Bool) (free : Bool)
-    (is : IsTable (view_of pool heads held touched fh fl)) (may : MayStand (view_of pool heads held touched fh fl) slot h) (old_is : old ≡ head_in heads slot) (after_is : after ≡ slice_set heads slot h)
+    (is : IsTable (table_view pool heads held touched fh fl)) (may : MayStand (table_view pool heads held touched fh fl) slot h) (old_is : old ≡ head_in heads slot) (after_is : after ≡ slice_set heads slot h)
     (new_read : new ≡ head_in after slot) (held_is : held2 ≡ held) where
   new_is : new ≡ h
   new_is = read_is heads after slot h new may.below after_is new_read
@@ -164,8 +164,8 @@ module _ (pool : ℕ) (heads : List Head) (held touched : List Bool) (fh fl fh2 
     plain_drops = subst (λ (l : List Bool). Drops l (head_in heads slot) h 120 fl fl2) held_is
         (subst (λ (x : Head). Drops held2 x h 120 fl fl2) old_is (subst (λ (x : Head). Drops held2 old x 120 fl fl2) new_is drops))
 
-    pub code_table : IsTable (view_of pool after held touched fh2 fl2)
-    code_table = subst (λ (l : List Head). IsTable (view_of pool l held touched fh2 fl2)) (sym after_is) (table_set pool heads held touched fh fl slot h is may fh2 fl2 plain_counts plain_drops)
+    pub code_table : IsTable (table_view pool after held touched fh2 fl2)
+    code_table = subst (λ (l : List Head). IsTable (table_view pool l held touched fh2 fl2)) (sym after_is) (table_set pool heads held touched fh fl slot h is may fh2 fl2 plain_counts plain_drops)
 
-    pub code_changed : IsChanged (view_of pool heads held touched fh fl) slot h (view_of pool after held touched fh2 fl2)
-    code_changed = subst (λ (l : List Head). IsChanged (view_of pool heads held touched fh fl) slot h (view_of pool l held touched fh2 fl2)) (sym after_is) (is_changed pool heads held touched fh fl slot h is may fh2 fl2 plain_counts plain_drops)
+    pub code_changed : IsChanged (table_view pool heads held touched fh fl) slot h (table_view pool after held touched fh2 fl2)
+    code_changed = subst (λ (l : List Head). IsChanged (table_view pool heads held touched fh fl) slot h (table_view pool l held touched fh2 fl2)) (sym after_is) (is_changed pool heads held touched fh fl slot h is may fh2 fl2 plain_counts plain_drops)

@@ -9,11 +9,11 @@ use Rattle.jn_base.specs.declared.names.BlockNo.{BlockNo}
 use Rattle.jn_base.specs.declared.names.LockUnit.TheVariants.{Block}
 use Rattle.jn_order.specs.Files.{Files}
 use Rattle.jn_records.specs.StablePages.{Counts, data_place}
-use Rattle.jn_store.specs.Store.{StoreView, StoreLater, StoreGot, StoreCleaned, Candidate, IsSamePage, IsStop, IsCalm, IsWhole, IsOnly}
+use Rattle.jn_store.specs.Store.{StoreView, StoreLater, StoreGot, StoreCleaned, Candidate, IsSamePage, IsStop, IsCalm, IsWholePage, IsOnly}
 use Rattle.jn_store.proofs.Laws.{later_refl, later_trans, same_refl, same_trans, shrinks_only, stop_since}
 use Rattle.jn_files.specs.Table.{TableView, address_of, address_for, behind, head_in, is_touched, IsTable}
-use Rattle.jn_files.specs.Pages.{leaves_in, IsLeaf, Holds, files_in}
-use Rattle.jn_files.specs.Calls.{Fits, Touches, BlockGot}
+use Rattle.jn_files.specs.Pages.{leaves_in, IsLeaf, HoldsTable, files_in}
+use Rattle.jn_files.specs.Calls.{HasPagesOfTable, Touches, BlockGot}
 use Rattle.jn_files.proofs.Lookup.{named_by}
 use Rattle.jn_files.proofs.Putting.{files_first, named_below}
 
@@ -51,7 +51,7 @@ record Touched (v : StoreView) (i : ℕ) (before ok : Bool) (w : StoreView) : Ty
   stops : ok ≡ true → w.stops ≡ v.stops
   stop : ok ≡ false → IsStop v w
   calm : IsCalm v → ok ≡ true
-  whole : IsCalm v → before ≡ false → IsWhole w i
+  whole : IsCalm v → before ≡ false → IsWholePage w i
 
 nothing_done : (v : StoreView) (i : ℕ) (ok : Bool) (w : StoreView) → ok ≡ true → w ≡ v → Touched v i true ok w
 nothing_done v i ok w done e = subst (λ x. Touched v i true ok x) (sym e) (record {
@@ -91,7 +91,7 @@ touched t v a ok u w is leaf = by (is_touched t a) refl
 
 -- ---- a block is read
 
-module _ (t : TableView) (v : StoreView) (is : IsTable t) (fits : Fits t v) (holds : Holds t v) (f : FileNo) (p : BlockNo) (a : ℕ) (at : address_for t.heads f p.0 ≡ suc a) where
+module _ (t : TableView) (v : StoreView) (is : IsTable t) (fits : HasPagesOfTable t v) (holds : HoldsTable t v) (f : FileNo) (p : BlockNo) (a : ℕ) (at : address_for t.heads f p.0 ≡ suc a) where
   named : (slot : ℕ) × (address_of (head_in t.heads slot) p.0 ≡ suc a)
   named = named_by f t.heads p.0 a at
 
@@ -155,7 +155,7 @@ module _ (t : TableView) (v : StoreView) (is : IsTable t) (fits : Fits t v) (hol
       }
 
 -- the same of what the code has: x is the address in the head
-module _ (t : TableView) (v : StoreView) (is : IsTable t) (fits : Fits t v) (holds : Holds t v) (f : FileNo) (p : BlockNo) (x : ℕ) (found : x ≡ address_for t.heads f p.0) where
+module _ (t : TableView) (v : StoreView) (is : IsTable t) (fits : HasPagesOfTable t v) (holds : HoldsTable t v) (f : FileNo) (p : BlockNo) (x : ℕ) (found : x ≡ address_for t.heads f p.0) where
   less : (a : ℕ) → address_for t.heads f p.0 ≡ suc a → x - 1 ≡ a
   less a at = omega (arith, found, at)
 

@@ -9,15 +9,15 @@ use Rattle.jn_order.specs.Files.{Change, change}
 use Rattle.jn_records.specs.declared.head.Head.{Head}
 use Rattle.jn_records.specs.declared.root.Root.{Root}
 use Rattle.jn_records.specs.Heads.{head_page}
-use Rattle.jn_records.specs.StablePages.{Counts, Pages, head_place, data_place, page_count, files_of_pages}
-use Rattle.jn_store.specs.Store.{StoreView, StoreLater, StoreGot, StorePut, StoreCleaned, IsSamePage, IsCalm, IsServed, IsStop, IsWhole}
+use Rattle.jn_records.specs.StablePages.{Counts, counts_of, Pages, head_place, data_place, page_count, files_of_pages}
+use Rattle.jn_store.specs.Store.{StoreView, StoreLater, StoreGot, StorePut, StoreCleaned, IsSamePage, IsCalm, IsServed, IsStop, IsWholePage}
 use Rattle.jn_store.specs.Choices.{IsChoice}
 use Rattle.jn_files.specs.Table.{TableView, IsTable, head_in, is_of, exists, is_held, is_touched, IsUnnamed, files_of, address_of}
-use Rattle.jn_files.specs.Pages.{Says, IsLeaf, leaf_page, Holds, files_in}
+use Rattle.jn_files.specs.Pages.{Says, IsLeaf, leaf_page, HoldsTable, files_in}
 
 -- the store has the pages that the table counts
-abbrev pub Fits : TableView → StoreView → Type 0
-Fits t v = v.count ≡ page_count t.counts
+abbrev pub HasPagesOfTable : TableView → StoreView → Type 0
+HasPagesOfTable t v = v.count ≡ page_count t.counts
 
 -- so many gets: no page changes
 pub record StoreRead (v : StoreView) (gets : ℕ) (w : StoreView) : Type 0 where
@@ -27,9 +27,6 @@ pub record StoreRead (v : StoreView) (gets : ℕ) (w : StoreView) : Type 0 where
   pub same : (j : ℕ) → IsSamePage v w j
 
 -- ---- loading
-
-abbrev pub counts_of : Root → Counts
-counts_of root = record { pool = root.pool; heads = root.heads; leaves = root.leaves }
 
 -- no data page is held or touched, and nothing is promised
 pub record IsLoaded (g : Counts) (t : TableView) : Type 0 where
@@ -59,14 +56,14 @@ pub record PutsHead (t : TableView) (v : StoreView) (slot : ℕ) (h : Head) (c :
   pub done : ok ≡ true → IsChanged t slot h u
   -- the table is as before a stop, whatever the store holds
   pub stopped : ok ≡ false → u ≡ t
-  pub holds : Holds t v → ok ≡ true → Holds u w
+  pub holds : HoldsTable t v → ok ≡ true → HoldsTable u w
   -- the pages, as they turn out to be, say the old heads or the new
-  pub says_new : Holds t v → ok ≡ true → (d : Pages) → IsChoice w d → Says t.counts d (slice_set t.heads slot h)
-  pub old_or_new : Holds t v → (d : Pages) → IsChoice w d → Says t.counts d t.heads ⊎ Says t.counts d (slice_set t.heads slot h)
+  pub says_new : HoldsTable t v → ok ≡ true → (d : Pages) → IsChoice w d → Says t.counts d (slice_set t.heads slot h)
+  pub old_or_new : HoldsTable t v → (d : Pages) → IsChoice w d → Says t.counts d t.heads ⊎ Says t.counts d (slice_set t.heads slot h)
   -- so they hold the files before or those after the change, whole
   pub changes : (leaves : ℕ → List ℕ) → files_of (slice_set t.heads slot h) leaves ≡ change (c leaves) (files_of t.heads leaves)
-  pub files_done : Holds t v → ok ≡ true → (d : Pages) → IsChoice w d → files_of_pages t.counts d ≡ change (c (λ a. v.first (data_place t.counts a))) (files_in t.counts v)
-  pub files_stopped : Holds t v → (d : Pages) → IsChoice w d
+  pub files_done : HoldsTable t v → ok ≡ true → (d : Pages) → IsChoice w d → files_of_pages t.counts d ≡ change (c (λ a. v.first (data_place t.counts a))) (files_in t.counts v)
+  pub files_stopped : HoldsTable t v → (d : Pages) → IsChoice w d
       → (files_of_pages t.counts d ≡ files_in t.counts v) ⊎ (files_of_pages t.counts d ≡ change (c (λ a. v.first (data_place t.counts a))) (files_in t.counts v))
 
 -- the slot of a file's head, or the lowest free one where it has none
@@ -107,8 +104,8 @@ pub record Fills (t : TableView) (v : StoreView) (a : ℕ) (block : List ℕ) (o
   pub stopped : ok ≡ false → u ≡ t
   pub put : StorePut v (data_place t.counts a) (leaf_page block) ok w
   pub leaf : ok ≡ true → IsLeaf w (data_place t.counts a)
-  pub holds : Holds t v → Holds t w
-  pub files : Holds t v → (d : Pages) → IsChoice w d → files_of_pages t.counts d ≡ files_in t.counts v
+  pub holds : HoldsTable t v → HoldsTable t w
+  pub files : HoldsTable t v → (d : Pages) → IsChoice w d → files_of_pages t.counts d ≡ files_in t.counts v
 
 -- a data page is held: it isn't free
 abbrev pub with_held : TableView → ℕ → TableView
@@ -146,7 +143,7 @@ pub record BlockGot (t : TableView) (v : StoreView) (f : FileNo) (p : BlockNo) (
   pub later : StoreLater v w
   pub calls : w.calls ≤ v.calls + 24
   pub same : (j : ℕ) → j < v.count → IsSamePage v w j
-  pub whole : IsCalm v → is_touched t a ≡ false → IsWhole w (data_place t.counts a)
+  pub whole : IsCalm v → is_touched t a ≡ false → IsWholePage w (data_place t.counts a)
   pub served : is_ok answer ≡ true → IsServed v w
   pub stop : is_ok answer ≡ false → IsStop v w
   pub calm : IsCalm v → is_ok answer ≡ true

@@ -10,11 +10,11 @@ use Rattle.jn_records.specs.StablePages.{Counts as PageCounts, data_place}
 use Rattle.jn_records.specs.Heads.{head_page, has_page}
 use Rattle.jn_store.specs.Store.{StoreView, IsOnly}
 use Rattle.jn_files.specs.Table.{TableView, IsTable, IsUnnamed, head_in, is_free, is_of, exists, address_of, files_of, IsHeadOf}
-use Rattle.jn_files.specs.Pages.{IsLeaf, Holds, IsLoadable}
+use Rattle.jn_files.specs.Pages.{IsLeaf, HoldsTable, IsLoadable}
 use Rattle.jn_files.specs.Calls.{StoreRead}
 
-abbrev pub view_of : ℕ → List Head → List Bool → List Bool → FreeNumbers → FreeNumbers → TableView
-view_of pool heads held touched free_heads free_leaves = record {
+abbrev pub table_view : ℕ → List Head → List Bool → List Bool → FreeNumbers → FreeNumbers → TableView
+table_view pool heads held touched free_heads free_leaves = record {
   counts = record { pool = pool; heads = length heads; leaves = length held };
   heads = heads;
   held = held;
@@ -39,24 +39,24 @@ IsChange heads slot h c = (leaves : ℕ → List ℕ) → files_of (slice_set he
 
 -- what it names has one candidate, where that holds of what the table names
 abbrev pub AreLeaves : TableView → StoreView → Head → Type 0
-AreLeaves t v h = Holds t v → (p a : ℕ) → address_of h p ≡ suc a → IsLeaf v (data_place t.counts a)
+AreLeaves t v h = HoldsTable t v → (p a : ℕ) → address_of h p ≡ suc a → IsLeaf v (data_place t.counts a)
 
 abbrev pub IsPlace : List Head → FreeNumbers → FileNo → ℕ → Type 0
 IsPlace heads free_heads f slot = (is_of f (head_in heads slot) ≡ true) ⊎ ((exists heads f ≡ false) × IsLeastFree free_heads slot)
 
-pub record IsNamed (heads : List Head) (a : ℕ) : Type 0 where
+pub record IsNamedPage (heads : List Head) (a : ℕ) : Type 0 where
   pub slot : ℕ
   pub block : ℕ
   pub here : address_of (head_in heads slot) block ≡ suc a
 
 -- flags of data pages say which of them these heads name
 pub record AreNamed (heads : List Head) (named : List Bool) : Type 0 where
-  pub set : (a : ℕ) → a < length named → slice_index_or named a false ≡ true → IsNamed heads a
+  pub set : (a : ℕ) → a < length named → slice_index_or named a false ≡ true → IsNamedPage heads a
   pub clear : (a : ℕ) → a < length named → slice_index_or named a false ≡ false → IsUnnamed heads a
 
 -- so do they of the first heads
 pub record NamedBefore (heads : List Head) (n : ℕ) (named : List Bool) : Type 0 where
-  pub set : (a : ℕ) → a < length named → slice_index_or named a false ≡ true → IsNamed heads a
+  pub set : (a : ℕ) → a < length named → slice_index_or named a false ≡ true → IsNamedPage heads a
   pub clear : (a : ℕ) → a < length named → slice_index_or named a false ≡ false → (slot p : ℕ) → slot < n → address_of (head_in heads slot) p ≢ suc a
 
 -- none but these blocks have another data page
@@ -81,8 +81,8 @@ abbrev pub marked_one : ℕ → Bool → List Bool → List Bool
 marked_one address is flags = if nat_eq address 0 then flags else slice_set flags (address - 1) is
 
 -- what a table keeps in memory
-pub record IsKept (pool : ℕ) (heads : List Head) (held touched named : List Bool) (free_heads free_leaves : FreeNumbers) : Type 0 where
-  pub table : IsTable (view_of pool heads held touched free_heads free_leaves)
+pub record IsKeptTable (pool : ℕ) (heads : List Head) (held touched named : List Bool) (free_heads free_leaves : FreeNumbers) : Type 0 where
+  pub table : IsTable (table_view pool heads held touched free_heads free_leaves)
   pub pages : length named ≡ length held
   pub names : AreNamed heads named
 
@@ -171,15 +171,15 @@ pub record ReadTo (g : PageCounts) (v : StoreView) (n : ℕ) (slots : List Head)
 -- ---- finding
 
 -- the number of the file that has a head
-abbrev pub number_of : Head → Option ℕ
-number_of Free = None
-number_of (Used f xs) = Some f.0
+abbrev pub head_number : Head → Option ℕ
+head_number Free = None
+head_number (Used f xs) = Some f.0
 
 -- an index of the heads has each file's number
 pub record AreIndexed (files : List (Option ℕ)) (heads : List Head) : Type 0 where
   pub few : length heads < 2 ^ 16
   pub slots : length files ≡ length heads
-  pub each : (slot : ℕ) → number_at files slot ≡ number_of (head_in heads slot)
+  pub each : (slot : ℕ) → number_at files slot ≡ head_number (head_in heads slot)
 
 abbrev pub file_number : Option FileNo → Option ℕ
 file_number None = None

@@ -29,8 +29,8 @@ pub record HoldsHeads (g : Counts) (heads : List Head) (v : StoreView) : Type 0 
   pub stored : (slot : ℕ) → slot < length heads → IsOnly v (head_place g slot) (head_page (head_in heads slot))
   pub leaves : (slot p a : ℕ) → address_of (head_in heads slot) p ≡ suc a → IsLeaf v (data_place g a)
 
-abbrev pub Holds : TableView → StoreView → Type 0
-Holds t v = HoldsHeads t.counts t.heads v
+abbrev pub HoldsTable : TableView → StoreView → Type 0
+HoldsTable t v = HoldsHeads t.counts t.heads v
 
 -- a store's heads can be loaded: it holds these
 pub record IsLoadable (g : Counts) (heads : List Head) (v : StoreView) : Type 0 where

@@ -33,9 +33,9 @@ abbrev pub is_free : Head → Bool
 is_free Free = true
 is_free (Used f xs) = false
 
-abbrev pub file_of : Head → Option FileNo
-file_of Free = None
-file_of (Used f xs) = Some f
+abbrev pub file_of_head : Head → Option FileNo
+file_of_head Free = None
+file_of_head (Used f xs) = Some f
 
 abbrev pub is_of : FileNo → Head → Bool
 is_of f Free = false

@@ -85,7 +85,7 @@ impl Slot {
 
     /// The number of the file that has it, if one has.
     pub fn number(&self) -> Option<u32>
-        ensures { result ≡ inside.number_of self.now }
+        ensures { result ≡ inside.head_number self.now }
     {
         match self.file {
             None => None,

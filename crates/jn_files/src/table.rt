@@ -4,7 +4,7 @@ ghost use Rattle.jn_alloc.specs.Free.{free_count, with_free, is_free as is_free_
 ghost use Rattle.jn_order.specs.Files.{Change, created, removed, cut_from, written};
 ghost use Rattle.jn_records.specs.declared.head.Head.{Head as HeadOf};
 ghost use Rattle.jn_records.specs.declared.head.Head.TheVariants.{Free};
-ghost use Rattle.jn_records.specs.StablePages.{head_place, data_place, page_count};
+ghost use Rattle.jn_records.specs.StablePages.{counts_of, head_place, data_place, page_count};
 ghost use Rattle.jn_store.specs.Store.{IsCalm, IsServed, IsStop, StorePut};
 ghost use Rattle.jn_files.specs.declared.fault.LoadFault.TheVariants.{Stopped as LoadStopped};
 ghost use Rattle.jn_files.specs.Table as table;
@@ -41,13 +41,13 @@ pub struct FileTable {
 impl Model for FileTable {
     ghost use Rattle.std.specs.Prelude.{vec_len};
     ghost use Rattle.jn_files.specs.Table.{TableView};
-    ghost use Rattle.jn_files.specs.Inside.{view_of, IsKept};
+    ghost use Rattle.jn_files.specs.Inside.{table_view, IsKeptTable};
 
     ghost Value = { TableView };
 
-    ghost view = { λ t. view_of t.pool t.heads t.held.items t.touched.items t.free_heads t.free_leaves };
+    ghost view = { λ t. table_view t.pool t.heads t.held.items t.touched.items t.free_heads t.free_leaves };
 
-    ghost invariant = { λ t. IsKept t.pool t.heads t.held.items t.touched.items t.named.items t.free_heads t.free_leaves };
+    ghost invariant = { λ t. IsKeptTable t.pool t.heads t.held.items t.touched.items t.named.items t.free_heads t.free_leaves };
 }
 
 impl FileTable {
@@ -59,10 +59,10 @@ impl FileTable {
         root: &Root,
     ) -> Result<Self, LoadFault>
         requires counts { (S.view store.old).count ≡ 1 + root.now.pool + root.now.heads + root.now.leaves }
-        requires loadable { (heads : List HeadOf) × pages.IsLoadable (calls.counts_of root.now) heads (S.view store.old) }
-        ensures loaded { IfOk result (λ t. calls.IsLoaded (calls.counts_of root.now) t) }
-        ensures heads { (heads : List HeadOf) → pages.IsLoadable (calls.counts_of root.now) heads (S.view store.old) → IfOk result (λ t. t.heads ≡ heads) }
-        ensures holds { IfOk result (λ t. pages.Holds t (S.view store.new)) }
+        requires loadable { (heads : List HeadOf) × pages.IsLoadable (counts_of root.now) heads (S.view store.old) }
+        ensures loaded { IfOk result (λ t. calls.IsLoaded (counts_of root.now) t) }
+        ensures heads { (heads : List HeadOf) → pages.IsLoadable (counts_of root.now) heads (S.view store.old) → IfOk result (λ t. t.heads ≡ heads) }
+        ensures holds { IfOk result (λ t. pages.HoldsTable t (S.view store.new)) }
         ensures read { calls.StoreRead (S.view store.old) root.now.heads (S.view store.new) }
         ensures served { IsOk result → 0 < root.now.heads → IsServed (S.view store.old) (S.view store.new) }
         ensures stops { IsOk result → (S.view store.new).stops ≡ (S.view store.old).stops }
@@ -183,7 +183,7 @@ impl FileTable {
 
     /// Makes a file empty; one that isn't there gets the lowest free head.
     pub fn set_fresh<S: StableStore>(&mut self, store: &mut S, f: FileNo) -> Result<(), Stopped>
-        requires fits { calls.Fits self.old (S.view store.old) }
+        requires fits { calls.HasPagesOfTable self.old (S.view store.old) }
         requires room { table.exists self.old.heads f ≡ false → self.old.free_heads.promised < free_count self.old.free_heads }
         ensures { calls.SetsHead self.old (S.view store.old) f (λ h. table.fresh_head f) (λ leaves. created f) (is_ok result) self.new (S.view store.new) }
     {
@@ -193,7 +193,7 @@ impl FileTable {
 
     /// Makes a file gone. Where it isn't there nothing is done.
     pub fn set_gone<S: StableStore>(&mut self, store: &mut S, f: FileNo) -> Result<(), Stopped>
-        requires fits { calls.Fits self.old (S.view store.old) }
+        requires fits { calls.HasPagesOfTable self.old (S.view store.old) }
         ensures there { table.exists self.old.heads f ≡ true → calls.SetsHead self.old (S.view store.old) f (λ h. Free) (λ leaves. removed f) (is_ok result) self.new (S.view store.new) }
         ensures absent { table.exists self.old.heads f ≡ false → (IsOk result) × (self.new ≡ self.old) × (S.view store.new ≡ S.view store.old) }
     {
@@ -210,7 +210,7 @@ impl FileTable {
         f: FileNo,
         n: BlockNo,
     ) -> Result<(), Stopped>
-        requires fits { calls.Fits self.old (S.view store.old) }
+        requires fits { calls.HasPagesOfTable self.old (S.view store.old) }
         requires there { table.exists self.old.heads f ≡ true }
         requires range { n.0 < 120 }
         ensures { calls.SetsHead self.old (S.view store.old) f (table.cut_head n.0) (λ leaves. cut_from f n) (is_ok result) self.new (S.view store.new) }
@@ -230,7 +230,7 @@ impl FileTable {
         p: BlockNo,
         a: u16,
     ) -> Result<(), Stopped>
-        requires fits { calls.Fits self.old (S.view store.old) }
+        requires fits { calls.HasPagesOfTable self.old (S.view store.old) }
         requires there { table.exists self.old.heads f ≡ true }
         requires range { p.0 < 120 }
         requires leaf { calls.MayBecome self.old (S.view store.old) f p.0 a }
@@ -250,7 +250,7 @@ impl FileTable {
         a: u16,
         block: &Block,
     ) -> Result<(), Stopped>
-        requires fits { calls.Fits self.old (S.view store.old) }
+        requires fits { calls.HasPagesOfTable self.old (S.view store.old) }
         requires held { table.is_held self.old a ≡ true }
         requires unnamed { table.IsUnnamed self.old.heads a }
         ensures { calls.Fills self.old (S.view store.old) a block.now (is_ok result) self.new (S.view store.new) }
@@ -268,8 +268,8 @@ impl FileTable {
         f: FileNo,
         p: BlockNo,
     ) -> Result<Option<Block>, Stopped>
-        requires fits { calls.Fits self.old (S.view store.old) }
-        requires holds { pages.Holds self.old (S.view store.old) }
+        requires fits { calls.HasPagesOfTable self.old (S.view store.old) }
+        requires holds { pages.HoldsTable self.old (S.view store.old) }
         requires range { p.0 < 120 }
         ensures got { (a : ℕ) → table.address_for self.old.heads f p.0 ≡ suc a → calls.BlockGot self.old (S.view store.old) f p a result self.new (S.view store.new) }
         ensures unasked { table.is_mapped self.old.heads f p.0 ≡ false → (result ≡ Ok None) × (self.new ≡ self.old) × (S.view store.new ≡ S.view store.old) }
@@ -292,7 +292,7 @@ impl FileTable {
 
     /// Cleans a data page that wasn't touched yet.
     fn touch<S: StableStore>(&mut self, store: &mut S, a: u16) -> Result<(), Stopped>
-        requires fits { calls.Fits self.old (S.view store.old) }
+        requires fits { calls.HasPagesOfTable self.old (S.view store.old) }
         requires below { a < self.old.counts.leaves }
         ensures { calls.Touches self.old (S.view store.old) a (is_ok result) self.new (S.view store.new) }
     {
@@ -352,7 +352,7 @@ impl FileTable {
     /// Whether a head names a data page.
     fn is_named(&self, a: u16) -> bool
         requires { a < self.now.counts.leaves }
-        ensures named { result ≡ true → inside.IsNamed self.now.heads a }
+        ensures named { result ≡ true → inside.IsNamedPage self.now.heads a }
         ensures unnamed { result ≡ false → table.IsUnnamed self.now.heads a }
     {
         self.named[a as usize]
@@ -367,7 +367,7 @@ impl FileTable {
         first: u16,
         end: u16,
     ) -> Result<(), Stopped>
-        requires fits { calls.Fits self.old (S.view store.old) }
+        requires fits { calls.HasPagesOfTable self.old (S.view store.old) }
         requires may { inside.MayStand self.old slot head }
         requires blocks { inside.ChangesBlocks (table.head_in self.old.heads slot) head first end }
         ensures { (c : (ℕ → List ℕ) → Change) → inside.IsChange self.old.heads slot head c → inside.AreLeaves self.old (S.view store.old) head
@@ -415,8 +415,8 @@ fn read_slots<S: StableStore>(
     root: &Root,
 ) -> Result<Vec<Slot>, LoadFault>
     requires counts { (S.view store.old).count ≡ 1 + root.now.pool + root.now.heads + root.now.leaves }
-    requires loadable { (heads : List HeadOf) × pages.IsLoadable (calls.counts_of root.now) heads (S.view store.old) }
-    ensures heads { (heads : List HeadOf) → pages.IsLoadable (calls.counts_of root.now) heads (S.view store.old) → IfOk result (λ slots. slots.items ≡ heads) }
+    requires loadable { (heads : List HeadOf) × pages.IsLoadable (counts_of root.now) heads (S.view store.old) }
+    ensures heads { (heads : List HeadOf) → pages.IsLoadable (counts_of root.now) heads (S.view store.old) → IfOk result (λ slots. slots.items ≡ heads) }
     ensures few { root.now.heads < 2 ^ 16 }
     ensures read { calls.StoreRead (S.view store.old) root.now.heads (S.view store.new) }
     ensures served { IsOk result → 0 < root.now.heads → IsServed (S.view store.old) (S.view store.new) }

@@ -23,7 +23,7 @@ use Rattle.jn_found.specs.Changes.{IsIdlePut, IsReadyPut, IsReadySlot, IsPrepare
 use Rattle.jn_found.specs.Held.{held_contents}
 use Rattle.jn_found.specs.Pages.{block_on, pages_by}
 use Rattle.jn_found.specs.Puts.{RootPut, RecordPut, HeadPut, BlockPut, put_in, contents_by, IsPut}
-use Rattle.jn_found.specs.Recoverable.{IsCompleteBy, Intends, HasAt, IsWhole, IsRecoverable}
+use Rattle.jn_found.specs.Recoverable.{IsCompleteBy, Intends, HasAt, IsWholeWork, IsRecoverable}
 use Rattle.jn_found.specs.Standing.{IsStanding, IsPutStep, MayChange, Makes, MakesNothing, MakesEpoch, standing_state}
 use Rattle.jn_found.proofs.ConsistentPuts.{idle_consistent, idle_named, going_consistent, going_named, removed_consistent, removed_named, flag_consistent, flag_named, dropped_consistent, dropped_named}
 use Rattle.jn_found.proofs.FillLaws.{fill_law}
@@ -64,7 +64,7 @@ module _ (server : ServerNo) (g : Counts) (v w : StoreView) (epoch : ℕ) (recor
       (λ c. idle_law (held_contents g v epoch records heads c) slot new idle)
 
   pub readies : (slot : ℕ) (head : WorkHead) (n : ℕ) (list : List Intention) (reads : List LockUnit) → IsPutStep server g v (RecordPut slot (Ready head n reads)) ok w
-      → ((c : Pick) → IsReadyPut records (block_on g (pages_by v c)) slot head n list) → ((c : Pick) → IsWhole g.leaves (held_contents g v epoch records heads c) head.work n)
+      → ((c : Pick) → IsReadyPut records (block_on g (pages_by v c)) slot head n list) → ((c : Pick) → IsWholeWork g.leaves (held_contents g v epoch records heads c) head.work n)
       → ((i d : ℕ) (s : StoredIntention) → HasAt records head.work i s → s.address ≡ suc d → d < g.leaves → IsClean v (data_place g d))
       → MayChange server g v (AddReady head list reads) → Makes server g v epoch records heads (RecordPut slot (Ready head n reads)) (AddReady head list reads) ok w
   readies slot head n list reads is put whole filled may = makes server g v epoch records heads standing (RecordPut slot (Ready head n reads)) ok w is

@@ -11,11 +11,11 @@ use Rattle.jn_records.specs.Heads.{head_page}
 use Rattle.jn_records.specs.Pages.{root_page}
 use Rattle.jn_records.specs.Records.{record_page}
 use Rattle.jn_records.specs.StablePages.{Counts, page_count, slot_place, head_place}
-use Rattle.jn_sets.specs.Pool.{page_of as slot_page, record_in, IsStored}
+use Rattle.jn_sets.specs.Pool.{slot_page, record_in, IsStored}
 use Rattle.jn_store.specs.Store.{StoreView, IsOnly}
 use Rattle.jn_found.specs.Contents.{head_in}
 use Rattle.jn_found.specs.Pages.{root_by}
-use Rattle.jn_found.specs.Puts.{PagePut, RootPut, RecordPut, HeadPut, BlockPut, place_of, IsPagePut, PutStep}
+use Rattle.jn_found.specs.Puts.{PagePut, RootPut, RecordPut, HeadPut, BlockPut, put_place, IsPagePut, PutStep}
 use Rattle.jn_found.specs.Held.{IsHeadStored, IsHeld, epoch_after, records_after, heads_after}
 use Rattle.jn_found.proofs.Slots.{at_set}
 
@@ -25,22 +25,22 @@ module _ (server : ServerNo) (g : Counts) (v w : StoreView) (epoch : ℕ) (recor
 
   module _ (put : PagePut) (step : PutStep server g v put true w) where
     -- another page keeps its one candidate
-    kept : (k : ℕ) (page : List ℕ) → k < page_count g → k ≢ place_of g put → IsOnly v k page → IsOnly w k page
+    kept : (k : ℕ) (page : List ℕ) → k < page_count g → k ≢ put_place g put → IsOnly v k page → IsOnly w k page
     kept k page lt ne only = let same = step.others k (omega (arith, lt, count)) ne in record { first = same.first ∙ only.first; second = same.second ∙ only.second }
 
     still_counted : page_count g ≡ w.count
     still_counted = count ∙ sym step.later.count
 
-    root_kept : 0 ≢ place_of g put → IsOnly w 0 (root_page (root_by server g epoch))
+    root_kept : 0 ≢ put_place g put → IsOnly w 0 (root_page (root_by server g epoch))
     root_kept ne = kept 0 (root_page (root_by server g epoch)) (omega arith) ne held.root
 
-    slot_kept : (slot : ℕ) → slot < length records → slot_place g slot ≢ place_of g put → IsStored w slot (record_in records slot)
+    slot_kept : (slot : ℕ) → slot < length records → slot_place g slot ≢ put_place g put → IsStored w slot (record_in records slot)
     slot_kept slot lt ne =
         let stored = held.pool slot lt in
         let size : length records ≡ g.pool = held.slots in
         record { of_format = stored.of_format; only = kept (slot_page slot) (record_page (record_in records slot)) (omega (arith, lt, size)) (λ e. ne (omega (arith, e))) stored.only }
 
-    head_kept : (place : ℕ) → place < g.heads → head_place g place ≢ place_of g put → IsHeadStored g w place (head_in heads place)
+    head_kept : (place : ℕ) → place < g.heads → head_place g place ≢ put_place g put → IsHeadStored g w place (head_in heads place)
     head_kept place lt ne =
         let stored = held.heads_stored place lt in
         record { whole = stored.whole; fits = stored.fits; only = kept (head_place g place) (head_page (head_in heads place)) (omega (arith, lt)) ne stored.only }

@@ -12,7 +12,7 @@ use Rattle.jn_records.specs.Pages.{root_page}
 use Rattle.jn_records.specs.StablePages.{Counts, page_count, slot_place, head_place}
 use Rattle.jn_records.proofs.Roots.{root_is_read}
 use Rattle.jn_rows.specs.Stable.{Pick}
-use Rattle.jn_sets.specs.Pool.{page_of, record_in, Says}
+use Rattle.jn_sets.specs.Pool.{slot_page, record_in, Says}
 use Rattle.jn_sets.proofs.Stored.{page_says}
 use Rattle.jn_store.specs.Store.{StoreView, IsOnly, IsClean, StoreGot, StoreCleaned}
 use Rattle.jn_store.proofs.Laws.{same_shrinks, cleaned_kept}
@@ -42,7 +42,7 @@ module _ (server : ServerNo) (g : Counts) (v : StoreView) (epoch : ℕ) (records
   says c slot lt =
       let stored = held.pool slot lt in
       let size : length records ≡ g.pool = held.slots in
-      page_says (pages_by v c) slot (record_in records slot) stored.of_format (by_pick c (page_of slot) _ (omega (arith, lt, size)) stored.only)
+      page_says (pages_by v c) slot (record_in records slot) stored.of_format (by_pick c (slot_page slot) _ (omega (arith, lt, size)) stored.only)
 
   heads_by : (c : Pick) (i : ℕ) → i < g.heads → IsHead g.leaves (head_in heads i) × FileFits (head_in heads i) × (pages_by v c (head_place g i) ≡ head_page (head_in heads i))
   heads_by c i lt = let stored = held.heads_stored i lt in (stored.whole, stored.fits, by_pick c (head_place g i) (head_page (head_in heads i)) (omega (arith, lt)) stored.only)
@@ -62,7 +62,7 @@ module _ (server : ServerNo) (g : Counts) (v : StoreView) (epoch : ℕ) (records
     heads = λ i lt. let only = (held.heads_stored i lt).only in only.first ∙ sym only.second;
   }
     where
-      at : (i : ℕ) → page_of i ≡ slot_place g i
+      at : (i : ℕ) → slot_page i ≡ slot_place g i
       at i = omega arith
 
 -- ---- steps that bring no candidate

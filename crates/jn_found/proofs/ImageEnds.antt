@@ -13,8 +13,8 @@ use Rattle.jn_records.specs.Heads.{head_page, IsHead, FileFits}
 use Rattle.jn_records.specs.Records.{record_page}
 use Rattle.jn_records.specs.Sound.{Image, IsSound, Names}
 use Rattle.jn_records.specs.StablePages.{Counts, page_count, slot_place, head_place, data_place, is_used, file_in, address_in}
-use Rattle.jn_sets.specs.Pool.{record_in, page_of}
-use Rattle.jn_store.specs.Store.{StoreView, IsWhole}
+use Rattle.jn_sets.specs.Pool.{record_in, slot_page}
+use Rattle.jn_store.specs.Store.{StoreView, IsWholePage}
 use Rattle.jn_found.specs.Contents.{head_in, is_head_of, address_at}
 use Rattle.jn_found.specs.Held.{held_contents}
 use Rattle.jn_found.specs.Images.{image_on, place_in, IsImage}
@@ -42,7 +42,7 @@ head_address leaves page few FreeHead is fits e used p lt = absurd (true≢false
 head_address leaves page few (Used f xs) is fits e used p lt = sym (used_address leaves page few f xs is fits e p lt)
 
 module _ (server : ServerNo) (g : Counts) (v : StoreView) (epoch : ℕ) (records : List Record) (heads : List Head) (standing : IsStanding server g v epoch records heads)
-    (free : (i : ℕ) → record_in records i ≡ Free) (whole : (i : ℕ) → i < v.count → IsWhole v i) where
+    (free : (i : ℕ) → record_in records i ≡ Free) (whole : (i : ℕ) → i < v.count → IsWholePage v i) where
   abbrev m : Image
   m = image_on server g v
 
@@ -111,7 +111,7 @@ module _ (server : ServerNo) (g : Counts) (v : StoreView) (epoch : ℕ) (records
     root = (epoch, standing.held.root_fits.epoch, page_is 0 (omega arith) ∙ standing.held.root.first);
     good = good;
     pairs = halves;
-    pool = λ i lt. let at : slot_place g i ≡ page_of i = omega arith in page_is (slot_place g i) (omega (arith, lt)) ∙ ap v.first at ∙ (standing.held.pool i (let e = standing.held.slots in omega (arith, lt, e))).only.first ∙ ap record_page (free i);
+    pool = λ i lt. let at : slot_place g i ≡ slot_page i = omega arith in page_is (slot_place g i) (omega (arith, lt)) ∙ ap v.first at ∙ (standing.held.pool i (let e = standing.held.slots in omega (arith, lt, e))).only.first ∙ ap record_page (free i);
     files = λ f i j a b x y. one_head f i j a b;
     heads = λ i lt. let at = standing.held.heads_stored i lt in (head_in heads i, at.whole, at.fits, head_page_is i lt);
     addresses = λ a least i j p q x y. addressed a i j p q least x y;

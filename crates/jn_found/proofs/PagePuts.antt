@@ -10,14 +10,14 @@ use Rattle.jn_store.specs.Choices.{with_page}
 use Rattle.jn_store.proofs.Choices.{with_same, with_other}
 use Rattle.jn_found.specs.Changes.{with_block}
 use Rattle.jn_found.specs.Pages.{root_by, contents_of, IsRootPage, IsHeadPage, IsDataPage, IsOfFormat}
-use Rattle.jn_found.specs.Puts.{PagePut, RootPut, RecordPut, HeadPut, BlockPut, place_of, page_of, IsPagePut, put_in}
+use Rattle.jn_found.specs.Puts.{PagePut, RootPut, RecordPut, HeadPut, BlockPut, put_place, put_page, IsPagePut, put_in}
 use Rattle.jn_found.proofs.PageChanges.{record_put, head_put, data_put, root_put}
 
 module _ (server : ServerNo) (g : Counts) (pages : Pages) (format : IsOfFormat server g pages) where
   few : g.leaves < 2 ^ 16
   few = format.root.1.leaves
 
-  pub put_is_read : (put : PagePut) → IsPagePut server g put → contents_of g (with_page pages (place_of g put) (page_of server g put)) ≡ put_in put (contents_of g pages)
+  pub put_is_read : (put : PagePut) → IsPagePut server g put → contents_of g (with_page pages (put_place g put) (put_page server g put)) ≡ put_in put (contents_of g pages)
   put_is_read (RootPut epoch) is = root_put g pages (root_by server g epoch) is
   put_is_read (RecordPut slot r) is = record_put g pages slot r is.0 is.1
   put_is_read (HeadPut place h) is = head_put g pages place h few is.0 is.1 is.2
@@ -34,28 +34,28 @@ module _ (server : ServerNo) (g : Counts) (pages : Pages) (format : IsOfFormat s
       | inr ne ↦ other P j ne old
     ]
 
-  pub keeps_format : (put : PagePut) → IsPagePut server g put → IsOfFormat server g (with_page pages (place_of g put) (page_of server g put))
+  pub keeps_format : (put : PagePut) → IsPagePut server g put → IsOfFormat server g (with_page pages (put_place g put) (put_page server g put))
   keeps_format (RootPut epoch) is = record {
-    root = either 0 (page_of server g (RootPut epoch)) (IsRootPage server g) 0 (epoch, is, refl) format.root;
-    pool = λ i lt. other 0 (page_of server g (RootPut epoch)) IsRecordPage (slot_place g i) (λ e. omega (arith, e)) (format.pool i lt);
-    heads = λ i lt. other 0 (page_of server g (RootPut epoch)) (IsHeadPage g.leaves) (head_place g i) (λ e. omega (arith, e)) (format.heads i lt);
-    data_pages = λ d lt. other 0 (page_of server g (RootPut epoch)) IsDataPage (data_place g d) (λ e. omega (arith, e)) (format.data_pages d lt);
+    root = either 0 (put_page server g (RootPut epoch)) (IsRootPage server g) 0 (epoch, is, refl) format.root;
+    pool = λ i lt. other 0 (put_page server g (RootPut epoch)) IsRecordPage (slot_place g i) (λ e. omega (arith, e)) (format.pool i lt);
+    heads = λ i lt. other 0 (put_page server g (RootPut epoch)) (IsHeadPage g.leaves) (head_place g i) (λ e. omega (arith, e)) (format.heads i lt);
+    data_pages = λ d lt. other 0 (put_page server g (RootPut epoch)) IsDataPage (data_place g d) (λ e. omega (arith, e)) (format.data_pages d lt);
   }
   keeps_format (RecordPut slot r) is = record {
-    root = other (slot_place g slot) (page_of server g (RecordPut slot r)) (IsRootPage server g) 0 (λ e. omega (arith, e)) format.root;
-    pool = λ i lt. either (slot_place g slot) (page_of server g (RecordPut slot r)) IsRecordPage (slot_place g i) (r, is.1, refl) (format.pool i lt);
-    heads = λ i lt. other (slot_place g slot) (page_of server g (RecordPut slot r)) (IsHeadPage g.leaves) (head_place g i) (let below = is.0 in λ e. omega (arith, e, below)) (format.heads i lt);
-    data_pages = λ d lt. other (slot_place g slot) (page_of server g (RecordPut slot r)) IsDataPage (data_place g d) (let below = is.0 in λ e. omega (arith, e, below)) (format.data_pages d lt);
+    root = other (slot_place g slot) (put_page server g (RecordPut slot r)) (IsRootPage server g) 0 (λ e. omega (arith, e)) format.root;
+    pool = λ i lt. either (slot_place g slot) (put_page server g (RecordPut slot r)) IsRecordPage (slot_place g i) (r, is.1, refl) (format.pool i lt);
+    heads = λ i lt. other (slot_place g slot) (put_page server g (RecordPut slot r)) (IsHeadPage g.leaves) (head_place g i) (let below = is.0 in λ e. omega (arith, e, below)) (format.heads i lt);
+    data_pages = λ d lt. other (slot_place g slot) (put_page server g (RecordPut slot r)) IsDataPage (data_place g d) (let below = is.0 in λ e. omega (arith, e, below)) (format.data_pages d lt);
   }
   keeps_format (HeadPut place h) is = record {
-    root = other (head_place g place) (page_of server g (HeadPut place h)) (IsRootPage server g) 0 (λ e. omega (arith, e)) format.root;
-    pool = λ i lt. other (head_place g place) (page_of server g (HeadPut place h)) IsRecordPage (slot_place g i) (λ e. omega (arith, e, lt)) (format.pool i lt);
-    heads = λ i lt. either (head_place g place) (page_of server g (HeadPut place h)) (IsHeadPage g.leaves) (head_place g i) (h, is.1, is.2, refl) (format.heads i lt);
-    data_pages = λ d lt. other (head_place g place) (page_of server g (HeadPut place h)) IsDataPage (data_place g d) (let below = is.0 in λ e. omega (arith, e, below)) (format.data_pages d lt);
+    root = other (head_place g place) (put_page server g (HeadPut place h)) (IsRootPage server g) 0 (λ e. omega (arith, e)) format.root;
+    pool = λ i lt. other (head_place g place) (put_page server g (HeadPut place h)) IsRecordPage (slot_place g i) (λ e. omega (arith, e, lt)) (format.pool i lt);
+    heads = λ i lt. either (head_place g place) (put_page server g (HeadPut place h)) (IsHeadPage g.leaves) (head_place g i) (h, is.1, is.2, refl) (format.heads i lt);
+    data_pages = λ d lt. other (head_place g place) (put_page server g (HeadPut place h)) IsDataPage (data_place g d) (let below = is.0 in λ e. omega (arith, e, below)) (format.data_pages d lt);
   }
   keeps_format (BlockPut d block) is = record {
-    root = other (data_place g d) (page_of server g (BlockPut d block)) (IsRootPage server g) 0 (λ e. omega (arith, e)) format.root;
-    pool = λ i lt. other (data_place g d) (page_of server g (BlockPut d block)) IsRecordPage (slot_place g i) (λ e. omega (arith, e, lt)) (format.pool i lt);
-    heads = λ i lt. other (data_place g d) (page_of server g (BlockPut d block)) (IsHeadPage g.leaves) (head_place g i) (λ e. omega (arith, e, lt)) (format.heads i lt);
-    data_pages = λ k lt. either (data_place g d) (page_of server g (BlockPut d block)) IsDataPage (data_place g k) (drop_at block (replicate 64 0) 448 is.1) (format.data_pages k lt);
+    root = other (data_place g d) (put_page server g (BlockPut d block)) (IsRootPage server g) 0 (λ e. omega (arith, e)) format.root;
+    pool = λ i lt. other (data_place g d) (put_page server g (BlockPut d block)) IsRecordPage (slot_place g i) (λ e. omega (arith, e, lt)) (format.pool i lt);
+    heads = λ i lt. other (data_place g d) (put_page server g (BlockPut d block)) (IsHeadPage g.leaves) (head_place g i) (λ e. omega (arith, e, lt)) (format.heads i lt);
+    data_pages = λ k lt. either (data_place g d) (put_page server g (BlockPut d block)) IsDataPage (data_place g k) (drop_at block (replicate 64 0) 448 is.1) (format.data_pages k lt);
   }

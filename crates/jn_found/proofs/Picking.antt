@@ -14,7 +14,7 @@ use Rattle.jn_store.proofs.Laws.{same_shrinks}
 use Rattle.jn_found.specs.Contents.{state_in}
 use Rattle.jn_found.specs.Pages.{half_of, pages_by, found_on, contents_of, state_of, IsOfFormat}
 use Rattle.jn_found.specs.Recoverable.{IsConsistent, IsFound, NamedAreClean, IsRecoverable, is_named}
-use Rattle.jn_found.specs.Puts.{PagePut, RootPut, RecordPut, HeadPut, BlockPut, place_of, page_of, IsPagePut, put_in, IsReadable, contents_by, Makes, is_written, KeepsClean, KeepsConsistent, IsPut, IsFewer}
+use Rattle.jn_found.specs.Puts.{PagePut, RootPut, RecordPut, HeadPut, BlockPut, put_place, put_page, IsPagePut, put_in, IsReadable, contents_by, Makes, is_written, KeepsClean, KeepsConsistent, IsPut, IsFewer}
 use Rattle.jn_found.proofs.FilesOnPages.{state_on_pages}
 use Rattle.jn_found.proofs.PagePuts.{put_is_read, keeps_format}
 
@@ -96,29 +96,29 @@ module _ (server : ServerNo) (g : Counts) (v : StoreView) (put : PagePut) (ok : 
   count = is.readable.count
 
   abbrev new_page : List ℕ
-  new_page = page_of server g put
+  new_page = put_page server g put
 
-  there : place_of g put < v.count
+  there : put_place g put < v.count
   there = by put is.page
     where
-      by : (put : PagePut) → IsPagePut server g put → place_of g put < v.count
+      by : (put : PagePut) → IsPagePut server g put → put_place g put < v.count
       by (RootPut epoch) h = omega (arith, count)
       by (RecordPut slot r) h = let below = h.0 in omega (arith, count, below)
       by (HeadPut place k) h = let below = h.0 in omega (arith, count, below)
       by (BlockPut d block) h = let below = h.0 in omega (arith, count, below)
 
-  abbrev step_picks : (c : Pick) → ((b : Pick) × (pages_by w c ≡ pages_by v b)) ⊎ (pages_by w c ≡ with_page (pages_by v c) (place_of g put) (page_of server g put))
-  step_picks c = picks v (place_of g put) (page_of server g put) ok w is.step there c
+  abbrev step_picks : (c : Pick) → ((b : Pick) × (pages_by w c ≡ pages_by v b)) ⊎ (pages_by w c ≡ with_page (pages_by v c) (put_place g put) (put_page server g put))
+  step_picks c = picks v (put_place g put) (put_page server g put) ok w is.step there c
 
   -- the new pages, by a pick before
-  new_format : (c : Pick) → IsOfFormat server g (with_page (pages_by v c) (place_of g put) (page_of server g put))
+  new_format : (c : Pick) → IsOfFormat server g (with_page (pages_by v c) (put_place g put) (put_page server g put))
   new_format c = keeps_format server g (pages_by v c) (is.readable.each c) put is.page
 
-  new_contents : (c : Pick) → contents_of g (with_page (pages_by v c) (place_of g put) (page_of server g put)) ≡ put_in put (contents_by g v c)
+  new_contents : (c : Pick) → contents_of g (with_page (pages_by v c) (put_place g put) (put_page server g put)) ≡ put_in put (contents_by g v c)
   new_contents c = put_is_read server g (pages_by v c) (is.readable.each c) put is.page
 
-  new_state : (c : Pick) → state_of g (with_page (pages_by v c) (place_of g put) (page_of server g put)) ≡ state_in (put_in put (contents_by g v c))
-  new_state c = state_on_pages g (with_page (pages_by v c) (place_of g put) (page_of server g put)) (is.readable.each c).root.1.leaves (new_format c).heads ∙ ap (λ x. state_in x) (new_contents c)
+  new_state : (c : Pick) → state_of g (with_page (pages_by v c) (put_place g put) (put_page server g put)) ≡ state_in (put_in put (contents_by g v c))
+  new_state c = state_on_pages g (with_page (pages_by v c) (put_place g put) (put_page server g put)) (is.readable.each c).root.1.leaves (new_format c).heads ∙ ap (λ x. state_in x) (new_contents c)
 
   pub still_readable : IsReadable server g w
   still_readable = record {
@@ -131,13 +131,13 @@ module _ (server : ServerNo) (g : Counts) (v : StoreView) (put : PagePut) (ok : 
   found_old_or_new x y before makes c = ⊎_elim (λ old. inl (ap (state_of g) old.1 ∙ before old.0)) (λ new. inr (ap (state_of g) new ∙ new_state c ∙ makes c)) (step_picks c)
 
   pub found_new : (y : StableState) → Makes g v put y → ok ≡ true → (c : Pick) → found_on g w c ≡ y
-  found_new y makes done c = ap (state_of g) (picks_done v (place_of g put) (page_of server g put) ok w is.step there c done) ∙ new_state c ∙ makes c
+  found_new y makes done c = ap (state_of g) (picks_done v (put_place g put) (put_page server g put) ok w is.step there c done) ∙ new_state c ∙ makes c
 
   pub found_picked : (c : Pick) → (b : Pick) × ((found_on g w c ≡ found_on g v b) ⊎ (found_on g w c ≡ state_in (put_in put (contents_by g v b))))
   found_picked c = ⊎_elim (λ old. (old.0, inl (ap (state_of g) old.1))) (λ new. (c, inr (ap (state_of g) new ∙ new_state c))) (step_picks c)
 
   pub found_done : ok ≡ true → (c : Pick) → found_on g w c ≡ state_in (put_in put (contents_by g v c))
-  found_done done c = ap (state_of g) (picks_done v (place_of g put) (page_of server g put) ok w is.step there c done) ∙ new_state c
+  found_done done c = ap (state_of g) (picks_done v (put_place g put) (put_page server g put) ok w is.step there c done) ∙ new_state c
 
   pub is_changed : (x : StableState) (step : Change) → ((c : Pick) → found_on g v c ≡ x) → Makes g v put (made_by step x) → Changed x step ok (found_on g w)
   is_changed x step before makes = record { done = found_new (made_by step x) makes; stop = λ _. found_old_or_new x (made_by step x) before makes }
@@ -150,11 +150,11 @@ module _ (server : ServerNo) (g : Counts) (v : StoreView) (put : PagePut) (ok : 
   -- a data page that isn't written is as before
   clean_on : (d : ℕ) → d < g.leaves → is_written put d ≡ false → IsClean v (data_place g d) → IsClean w (data_place g d)
   clean_on d lt out clean =
-      let ne : data_place g d ≢ place_of g put = by put is.page out in
+      let ne : data_place g d ≢ put_place g put = by put is.page out in
       let same = is.step.others (data_place g d) (omega (arith, lt, count)) ne in
       same.first ∙ clean ∙ sym same.second
     where
-      by : (put : PagePut) → IsPagePut server g put → is_written put d ≡ false → data_place g d ≢ place_of g put
+      by : (put : PagePut) → IsPagePut server g put → is_written put d ≡ false → data_place g d ≢ put_place g put
       by (RootPut epoch) h out e = omega (arith, e)
       by (RecordPut slot r) h out e = let below = h.0 in omega (arith, e, below)
       by (HeadPut place k) h out e = let below = h.0 in omega (arith, e, below)

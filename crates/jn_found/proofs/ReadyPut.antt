@@ -20,7 +20,7 @@ use Rattle.jn_sets.specs.Pool.{record_in, is_prepared, is_intention}
 use Rattle.jn_storage.specs.Storage.{IsLoadable}
 use Rattle.jn_found.specs.Contents.{Contents, state_in, heads_name, works_name}
 use Rattle.jn_found.specs.Changes.{with_record, IsReadyPut}
-use Rattle.jn_found.specs.Recoverable.{Intends, Addresses, AddressesDiffer, IsConsistent, is_named, HasAt, AreFresh, IsWhole}
+use Rattle.jn_found.specs.Recoverable.{Intends, Addresses, AddressesDiffer, IsConsistent, is_named, HasAt, AreFresh, IsWholeWork}
 use Rattle.jn_found.proofs.Slots.{any_fewer}
 use Rattle.jn_found.proofs.Naming.{named_intends, intends_named, addresses_named}
 use Rattle.jn_found.proofs.PoolLaws.{ready_law}
@@ -89,7 +89,7 @@ module _ (c : Contents) (slot : ℕ) (head : WorkHead) (n : ℕ) (list : List Fu
       carried = λ a i j s f p x e y. carried a i j s f p (split i s x) e y;
     }
 
-  pub ready_consistent : (server : ServerNo) (g : Counts) → IsWhole g.leaves c head.work n → IsLoadable server g.heads (made_by (AddReady head list reads) (state_in c))
+  pub ready_consistent : (server : ServerNo) (g : Counts) → IsWholeWork g.leaves c head.work n → IsLoadable server g.heads (made_by (AddReady head list reads) (state_in c))
       → IsConsistent server g c → IsConsistent server g (with_record c slot (Ready head n reads))
   ready_consistent server g whole loadable before = record {
     distinct = distinct_kept c slot (Ready head n reads) there first_one (λ t h. absurd (true≢false (sym h))) before.distinct;

@@ -8,7 +8,7 @@ use Rattle.jn_records.specs.Heads.{head_page, IsHead, FileFits}
 use Rattle.jn_records.specs.Records.{record_at}
 use Rattle.jn_records.specs.StablePages.{Counts, Pages, slot_place, head_place}
 use Rattle.jn_records.proofs.Heads.{head_is_read}
-use Rattle.jn_sets.specs.Pool.{page_of, Says}
+use Rattle.jn_sets.specs.Pool.{slot_page, Says}
 use Rattle.jn_found.specs.Contents.{head_in}
 use Rattle.jn_found.specs.Pages.{listed, record_or_free, head_or_free, record_on, head_on, pool_on, heads_on}
 
@@ -31,7 +31,7 @@ pub pool_says : (g : Counts) (pages : Pages) (records : List Record) → length 
 pool_says g pages records size says = listed_is Free (record_on g pages) records 0 g.pool size
     (λ k lt. ap (λ p. record_or_free (record_at (pages p))) (at k) ∙ ap record_or_free (says k (omega (arith, lt, size))))
   where
-    at : (k : ℕ) → slot_place g (0 + k) ≡ page_of k
+    at : (k : ℕ) → slot_place g (0 + k) ≡ slot_page k
     at k = omega arith
 
 pub heads_say : (g : Counts) (pages : Pages) (heads : List Head) → g.leaves < 2 ^ 16 → length heads ≡ g.heads

@@ -7,7 +7,7 @@ use Rattle.jn_records.specs.Heads.{head_page, IsHead, FileFits}
 use Rattle.jn_records.specs.Pages.{root_page, IsRoot}
 use Rattle.jn_records.specs.StablePages.{Counts, page_count, head_place}
 use Rattle.jn_rows.specs.Stable.{Pick}
-use Rattle.jn_sets.specs.Pool.{Holds}
+use Rattle.jn_sets.specs.Pool.{HoldsRecords}
 use Rattle.jn_store.specs.Store.{StoreView, IsOnly}
 use Rattle.jn_found.specs.Contents.{Contents, head_in}
 use Rattle.jn_found.specs.Pages.{root_by, block_on, pages_by}
@@ -25,7 +25,7 @@ pub record IsHeld (server : ServerNo) (g : Counts) (v : StoreView) (epoch : ℕ)
   pub root_fits : IsRoot (root_by server g epoch)
   pub root : IsOnly v 0 (root_page (root_by server g epoch))
   pub slots : length records ≡ g.pool
-  pub pool : Holds records v
+  pub pool : HoldsRecords records v
   pub places : length heads ≡ g.heads
   pub heads_stored : (place : ℕ) → place < g.heads → IsHeadStored g v place (head_in heads place)
 

@@ -9,7 +9,7 @@ use Rattle.jn_records.specs.Records.{record_page}
 use Rattle.jn_records.specs.StablePages.{Counts, page_count, slot_place, head_place, data_place}
 use Rattle.jn_rows.specs.Stable.{Pick, StableState}
 use Rattle.jn_sets.specs.Pool.{IsRecord}
-use Rattle.jn_store.specs.Store.{StoreView, StorePut, IsClean, IsWhole, Shrinks}
+use Rattle.jn_store.specs.Store.{StoreView, StorePut, IsClean, IsWholePage, Shrinks}
 use Rattle.jn_found.specs.Contents.{Contents, state_in}
 use Rattle.jn_found.specs.Changes.{with_record, with_head, with_block, with_epoch}
 use Rattle.jn_found.specs.Pages.{root_by, contents_of, pages_by, IsOfFormat}
@@ -25,18 +25,18 @@ pub data PagePut : Type 0 where
   -- a block at a data page
   BlockPut : ℕ → List ℕ → PagePut
 
-abbrev pub place_of : Counts → PagePut → ℕ
-place_of g (RootPut epoch) = 0
-place_of g (RecordPut slot r) = slot_place g slot
-place_of g (HeadPut place h) = head_place g place
-place_of g (BlockPut d block) = data_place g d
+abbrev pub put_place : Counts → PagePut → ℕ
+put_place g (RootPut epoch) = 0
+put_place g (RecordPut slot r) = slot_place g slot
+put_place g (HeadPut place h) = head_place g place
+put_place g (BlockPut d block) = data_place g d
 
 -- zeros stand behind a block
-abbrev pub page_of : ServerNo → Counts → PagePut → List ℕ
-page_of server g (RootPut epoch) = root_page (root_by server g epoch)
-page_of server g (RecordPut slot r) = record_page r
-page_of server g (HeadPut place h) = head_page h
-page_of server g (BlockPut d block) = block ++ replicate 64 0
+abbrev pub put_page : ServerNo → Counts → PagePut → List ℕ
+put_page server g (RootPut epoch) = root_page (root_by server g epoch)
+put_page server g (RecordPut slot r) = record_page r
+put_page server g (HeadPut place h) = head_page h
+put_page server g (BlockPut d block) = block ++ replicate 64 0
 
 -- its place is there, and it is of the format
 abbrev pub IsPagePut : ServerNo → Counts → PagePut → Type 0
@@ -63,7 +63,7 @@ contents_by g v c = contents_of g (pages_by v c)
 
 -- the store's step for a put
 abbrev pub PutStep : ServerNo → Counts → StoreView → PagePut → Bool → StoreView → Type 0
-PutStep server g v put ok w = StorePut v (place_of g put) (page_of server g put) ok w
+PutStep server g v put ok w = StorePut v (put_place g put) (put_page server g put) ok w
 
 -- Whatever is picked before, the put makes this of what is found.
 abbrev pub Makes : Counts → StoreView → PagePut → StableState → Type 0
@@ -96,9 +96,9 @@ pub record IsFrontClean (g : Counts) (v : StoreView) : Type 0 where
 
 -- and both halves of each of them are good
 pub record IsFrontWhole (g : Counts) (v : StoreView) : Type 0 where
-  pub root : IsWhole v 0
-  pub pool : (i : ℕ) → i < g.pool → IsWhole v (slot_place g i)
-  pub heads : (i : ℕ) → i < g.heads → IsWhole v (head_place g i)
+  pub root : IsWholePage v 0
+  pub pool : (i : ℕ) → i < g.pool → IsWholePage v (slot_place g i)
+  pub heads : (i : ℕ) → i < g.heads → IsWholePage v (head_place g i)
 
 -- no page has a new candidate, as after a get, a cleanup or a decay
 pub record IsFewer (v w : StoreView) : Type 0 where

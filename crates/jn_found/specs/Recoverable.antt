@@ -112,7 +112,7 @@ pub record AreFresh (leaves : ℕ) (c : Contents) (work : WorkId) : Type 0 where
   pub differ : (i j d : ℕ) (s t : StoredIntention) → HasAt c.pool work i s → HasAt c.pool work j t → s.address ≡ suc d → t.address ≡ suc d → i ≡ j
 
 -- a work that may become prepared: all its intentions stand, with data pages of their own
-pub record IsWhole (leaves : ℕ) (c : Contents) (work : WorkId) (n : ℕ) : Type 0 where
+pub record IsWholeWork (leaves : ℕ) (c : Contents) (work : WorkId) (n : ℕ) : Type 0 where
   pub intentions : HasIntentions c.pool work n
   pub fresh : AreFresh leaves c work
 

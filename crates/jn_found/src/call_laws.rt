@@ -19,7 +19,7 @@ ghost use Rattle.jn_found.specs.Changes.{IsIdlePut, IsReadyPut, IsReadySlot, IsP
 ghost use Rattle.jn_found.specs.Held.{held_contents};
 ghost use Rattle.jn_found.specs.Pages.{block_on, pages_by};
 ghost use Rattle.jn_found.specs.Puts.{RootPut, RecordPut, HeadPut, BlockPut};
-ghost use Rattle.jn_found.specs.Recoverable.{Intends, HasAt, IsWhole};
+ghost use Rattle.jn_found.specs.Recoverable.{Intends, HasAt, IsWholeWork};
 ghost use Rattle.jn_found.specs.Standing.{IsStanding, IsPutStep, MayChange, Makes, MakesNothing, MakesEpoch};
 
 /// While a work is prepared its data pages are filled and its intentions put, which changes nothing; and so does the
@@ -31,7 +31,7 @@ pub fn preparing_is_one_change()
         → IsPutStep server g v (RecordPut slot new) ok w → IsIdlePut records slot new → MakesNothing server g v epoch records heads (RecordPut slot new) ok w }
     ensures ready { (server : ServerNo) (g : Counts) (v w : StoreView) (epoch : ℕ) (records : List Record) (heads : List Head) (slot : ℕ) (head : WorkHead) (n : ℕ) (list : List Intention) (reads : List LockUnit) (ok : Bool)
         → IsStanding server g v epoch records heads → IsPutStep server g v (RecordPut slot (Ready head n reads)) ok w
-        → ((c : Pick) → IsReadyPut records (block_on g (pages_by v c)) slot head n list) → ((c : Pick) → IsWhole g.leaves (held_contents g v epoch records heads c) head.work n)
+        → ((c : Pick) → IsReadyPut records (block_on g (pages_by v c)) slot head n list) → ((c : Pick) → IsWholeWork g.leaves (held_contents g v epoch records heads c) head.work n)
         → ((i d : ℕ) (s : StoredIntention) → HasAt records head.work i s → s.address ≡ suc d → d < g.leaves → IsClean v (data_place g d))
         → MayChange server g v (AddReady head list reads) → Makes server g v epoch records heads (RecordPut slot (Ready head n reads)) (AddReady head list reads) ok w }
 {}

@@ -16,13 +16,13 @@ ghost use Rattle.jn_rows.specs.Stable.{made_by, AddReady, MarkGoing, CarryOut, R
 ghost use Rattle.jn_storage.specs.Storage.{IsLoadable};
 ghost use Rattle.jn_found.specs.Contents.{Contents, state_in, intended};
 ghost use Rattle.jn_found.specs.Changes.{with_record, with_head, with_block, with_epoch, IsIdlePut, IsReadyPut, IsReadySlot, IsPreparedSlot, IsFlagPut, IsFlagSlot, IsHeadPut};
-ghost use Rattle.jn_found.specs.Recoverable.{IsConsistent, Intends, HasAt, IsWhole, is_named};
+ghost use Rattle.jn_found.specs.Recoverable.{IsConsistent, Intends, HasAt, IsWholeWork, is_named};
 
 /// The put of a record keeps what a recovery asks, where the state with its change is one that may be loaded. A ready
 /// record asks that all intentions of its work stand, and that the data pages they name are its own.
 pub fn a_record_keeps_what_a_recovery_asks()
     ensures idle { (server : ServerNo) (g : Counts) (c : Contents) (slot : ℕ) (new : Record) → IsIdlePut c.pool slot new → IsConsistent server g c → IsConsistent server g (with_record c slot new) }
-    ensures ready { (server : ServerNo) (g : Counts) (c : Contents) (slot : ℕ) (head : WorkHead) (n : ℕ) (list : List Intention) (reads : List LockUnit) → IsReadyPut c.pool c.blocks slot head n list → IsWhole g.leaves c head.work n
+    ensures ready { (server : ServerNo) (g : Counts) (c : Contents) (slot : ℕ) (head : WorkHead) (n : ℕ) (list : List Intention) (reads : List LockUnit) → IsReadyPut c.pool c.blocks slot head n list → IsWholeWork g.leaves c head.work n
         → IsLoadable server g.heads (made_by (AddReady head list reads) (state_in c)) → IsConsistent server g c → IsConsistent server g (with_record c slot (Ready head n reads)) }
     ensures going { (server : ServerNo) (g : Counts) (c : Contents) (slot : ℕ) (head : WorkHead) (n : ℕ) (reads : List LockUnit) → IsReadySlot c.pool slot head n reads
         → IsLoadable server g.heads (made_by (MarkGoing head.work) (state_in c)) → IsConsistent server g c → IsConsistent server g (with_record c slot (Going head n reads)) }

@@ -8,7 +8,7 @@ ghost use Rattle.jn_records.specs.Pages.{root_page};
 ghost use Rattle.jn_records.specs.Sound.{Image, IsSound, root_of};
 ghost use Rattle.jn_records.specs.StablePages.{Counts, files_of_pages};
 ghost use Rattle.jn_sets.specs.Pool.{record_in};
-ghost use Rattle.jn_store.specs.Store.{StoreView, IsWhole};
+ghost use Rattle.jn_store.specs.Store.{StoreView, IsWholePage};
 ghost use Rattle.jn_found.specs.Images.{CountsFit, IsStoreOf, IsFresh, IsImage};
 ghost use Rattle.jn_found.specs.Standing.{IsStanding, standing_state};
 
@@ -21,5 +21,5 @@ pub fn a_sound_image_is_found()
 /// Where no record stands and each page is good in both its halves, the pages are those of a sound image, with the files that are found.
 pub fn whole_pages_are_a_sound_image()
     ensures { (server : ServerNo) (g : Counts) (v : StoreView) (epoch : ℕ) (records : List Record) (heads : List Head) → IsStanding server g v epoch records heads
-        → ((i : ℕ) → record_in records i ≡ Free) → ((i : ℕ) → i < v.count → IsWhole v i) → IsImage server g (standing_state g v).files v }
+        → ((i : ℕ) → record_in records i ≡ Free) → ((i : ℕ) → i < v.count → IsWholePage v i) → IsImage server g (standing_state g v).files v }
 {}

@@ -12,7 +12,7 @@ ghost use Rattle.jn_store.specs.Choices.{with_page};
 ghost use Rattle.jn_found.specs.Contents.{state_in, head_in};
 ghost use Rattle.jn_found.specs.Pages.{pool_on, heads_on, contents_of, state_of, found_on, IsOfFormat};
 ghost use Rattle.jn_found.specs.Recoverable.{NamedAreClean, IsRecoverable};
-ghost use Rattle.jn_found.specs.Puts.{PagePut, place_of, page_of, put_in, contents_by, IsPagePut, IsReadable, Makes, KeepsClean, KeepsConsistent, IsPut, IsFrontClean, IsFewer};
+ghost use Rattle.jn_found.specs.Puts.{PagePut, put_place, put_page, put_in, contents_by, IsPagePut, IsReadable, Makes, KeepsClean, KeepsConsistent, IsPut, IsFrontClean, IsFewer};
 
 /// The state on pages of the format is that of what they say.
 pub fn the_state_is_what_the_pages_say()
@@ -29,9 +29,9 @@ pub fn pages_say_their_records_and_heads()
 /// A page that was put is read again, and no other page is read otherwise.
 pub fn a_put_page_is_read_again()
     ensures contents { (server : ServerNo) (g : Counts) (pages : Pages) (put : PagePut) → IsOfFormat server g pages → IsPagePut server g put
-        → contents_of g (with_page pages (place_of g put) (page_of server g put)) ≡ put_in put (contents_of g pages) }
+        → contents_of g (with_page pages (put_place g put) (put_page server g put)) ≡ put_in put (contents_of g pages) }
     ensures format { (server : ServerNo) (g : Counts) (pages : Pages) (put : PagePut) → IsOfFormat server g pages → IsPagePut server g put
-        → IsOfFormat server g (with_page pages (place_of g put) (page_of server g put)) }
+        → IsOfFormat server g (with_page pages (put_place g put) (put_page server g put)) }
 {}
 
 /// A put that makes one change of the state makes it whole, or where it is stopped not at all, by each pick.

@@ -12,7 +12,7 @@ use Rattle.jn_device.specs.declared.Half.{Half}
 use Rattle.jn_records.specs.StablePages.{Counts, page_count}
 use Rattle.jn_image.specs.declared.image.Image.{Image}
 use Rattle.jn_image.specs.Faults.{bad_of, server_in, counts_in, in_range, within, statuses_fit, has_digest}
-use Rattle.jn_image.specs.Form.{counts_of, header_bytes, body_bytes, image_bytes, body_size, image_size, HasForm, IsWithin, PagesFit}
+use Rattle.jn_image.specs.Form.{image_counts, header_bytes, body_bytes, image_bytes, body_size, image_size, HasForm, IsWithin, PagesFit}
 use Rattle.jn_image.specs.Reading.{halves_in, image_in}
 use Rattle.jn_image.proofs.Halves.{written, halves_again, statuses_again, length-written, length-halves_in, halves_written}
 use Rattle.jn_image.proofs.Headers.{server_again, counts_again, AreBytes, header_written}
@@ -60,7 +60,7 @@ within_is limit n e = let h = of_two (nat_le 1 n) (nat_le n limit) e in (most_at
 
 module _ (m : Image) (form : HasForm m) (fit : PagesFit m) where
   abbrev g : Counts
-  g = counts_of m
+  g = image_counts m
 
   abbrev digest : List ℕ
   digest = sha256 (body_bytes m)
@@ -69,38 +69,38 @@ module _ (m : Image) (form : HasForm m) (fit : PagesFit m) where
   unfolding image_bytes
   regrouped = append_assoc (header_bytes m) (written m.pages) (sha256 (body_bytes m))
 
-  body_whole : length (body_bytes m) ≡ body_size (counts_of m)
+  body_whole : length (body_bytes m) ≡ body_size (image_counts m)
   body_whole =
       let header : length (header_bytes m) ≡ 16 = refl in
       let pages = length-written m.pages fit in
-      let count : length m.pages ≡ 2 * page_count (counts_of m) = form.both_halves in
+      let count : length m.pages ≡ 2 * page_count (image_counts m) = form.both_halves in
       omega (arith, header, pages, count, length-append (header_bytes m) (written m.pages))
 
-  image_whole : length (image_bytes m) ≡ image_size (counts_of m)
+  image_whole : length (image_bytes m) ≡ image_size (image_counts m)
   unfolding image_bytes
   image_whole = let body = body_whole in let behind = length-sha256 (body_bytes m) in omega (arith, body, behind, length-append (body_bytes m) (sha256 (body_bytes m)))
 
   server_is : server_in (image_bytes m) ≡ m.server.0
   server_is = ap server_in regrouped ∙ server_again m form (written m.pages ++ sha256 (body_bytes m))
 
-  counts_is : counts_in (image_bytes m) ≡ counts_of m
+  counts_is : counts_in (image_bytes m) ≡ image_counts m
   counts_is = ap counts_in regrouped ∙ counts_again m form (written m.pages ++ sha256 (body_bytes m))
 
   pages_behind : drop 16 (image_bytes m) ≡ written m.pages ++ sha256 (body_bytes m)
   pages_behind = ap (drop 16) regrouped ∙ drop_at (header_bytes m) (written m.pages ++ sha256 (body_bytes m)) 16 refl
 
-  in_range_is : in_range m.server.0 (counts_of m) ≡ true
+  in_range_is : in_range m.server.0 (image_counts m) ≡ true
   in_range_is = four (nat_le m.server.0 7) (within 1000 m.pool) (within 1000 m.heads) (within 8000 m.leaves)
       (at_most m.server.0 7 form.server_within) (is_within 1000 m.pool form.pool_within) (is_within 1000 m.heads form.heads_within) (is_within 8000 m.leaves form.leaves_within)
 
-  digest_is : has_digest (body_size (counts_of m)) (image_bytes m) ≡ true
+  digest_is : has_digest (body_size (image_counts m)) (image_bytes m) ≡ true
   unfolding image_bytes
-  digest_is = same_bytes (take 32 (drop (body_size (counts_of m)) (body_bytes m ++ sha256 (body_bytes m)))) (sha256 (take (body_size (counts_of m)) (body_bytes m ++ sha256 (body_bytes m))))
-      (ap (take 32) (drop_at (body_bytes m) (sha256 (body_bytes m)) (body_size (counts_of m)) body_whole)
+  digest_is = same_bytes (take 32 (drop (body_size (image_counts m)) (body_bytes m ++ sha256 (body_bytes m)))) (sha256 (take (body_size (image_counts m)) (body_bytes m ++ sha256 (body_bytes m))))
+      (ap (take 32) (drop_at (body_bytes m) (sha256 (body_bytes m)) (body_size (image_counts m)) body_whole)
       ∙ take_all (sha256 (body_bytes m)) 32 (length-sha256 (body_bytes m))
-      ∙ ap sha256 (sym (take_at (body_bytes m) (sha256 (body_bytes m)) (body_size (counts_of m)) body_whole)))
+      ∙ ap sha256 (sym (take_at (body_bytes m) (sha256 (body_bytes m)) (body_size (image_counts m)) body_whole)))
 
-  pages_fit : statuses_fit (2 * page_count (counts_of m)) (drop 16 (image_bytes m)) ≡ true
+  pages_fit : statuses_fit (2 * page_count (image_counts m)) (drop 16 (image_bytes m)) ≡ true
   pages_fit = ap (λ n. statuses_fit n (drop 16 (image_bytes m))) (sym form.both_halves)
       ∙ ap (statuses_fit (length m.pages)) pages_behind
       ∙ statuses_again m.pages (sha256 (body_bytes m)) fit
@@ -132,7 +132,7 @@ module _ (m : Image) (form : HasForm m) (fit : PagesFit m) where
   image_again =
       ap (λ s. image_by s (counts_in (image_bytes m)) (halves_in (2 * page_count (counts_in (image_bytes m))) (drop 16 (image_bytes m)))) server_is
       ∙ ap (λ h. image_by m.server.0 h (halves_in (2 * page_count (counts_in (image_bytes m))) (drop 16 (image_bytes m)))) counts_is
-      ∙ ap (λ (pages : List Half). image_by m.server.0 (counts_of m) pages) pages_is
+      ∙ ap (λ (pages : List Half). image_by m.server.0 (image_counts m) pages) pages_is
 
 -- ---- what was read is written
 

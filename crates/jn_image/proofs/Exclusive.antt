@@ -10,7 +10,7 @@ use Rattle.jn_image.specs.declared.fault.CheckError.TheVariants.{Unsound as AnUn
 use Rattle.jn_image.specs.declared.fault.Unsound.{Unsound}
 use Rattle.jn_image.specs.declared.fault.Unsound.TheVariants.{Server, Root, BadPage, PairDiffers, PoolInUse, SameFile, Address, AddressTwice, DataTail}
 use Rattle.jn_image.specs.Repeats.{IsLeastFailing}
-use Rattle.jn_image.specs.Unsound.{PagesGood, PairsAgree, SlotsFree, HeadsWhole, AddressesOnce, TailsZeros, ToRoot, ToPages, ToPairs, ToPool, ToFiles, ToHeads, ToAddresses, IsFirstFault, Tells}
+use Rattle.jn_image.specs.Unsound.{PagesGood, PairsAgree, SlotsFree, HeadsWhole, AddressesOnce, TailsZeros, ToRoot, ToPages, ToPairs, ToPool, ToFiles, ToHeads, ToAddresses, IsFirstFault, TellsSound}
 
 level : Unsound → ℕ
 level Server = 0
@@ -165,19 +165,19 @@ module _ (s : ServerNo) (m : sound.Image) where
   -- ---- what an answer tells
 
   module _ {V : Type 0} where
-    pub tells_sound : (r : Result V CheckError) → Tells s m r → IfOk r (λ _. IsSound s m)
+    pub tells_sound : (r : Result V CheckError) → TellsSound s m r → IfOk r (λ _. IsSound s m)
     tells_sound (Ok v) told = told
     tells_sound (Err e) told = tt
 
-    pub tells_only : (r : Result V CheckError) → Tells s m r → IsSound s m → IfErr r (λ e. e ≡ Memory)
+    pub tells_only : (r : Result V CheckError) → TellsSound s m r → IsSound s m → IfErr r (λ e. e ≡ Memory)
     tells_only (Ok v) told is = tt
     tells_only (Err (AnUnsound f)) told is = absurd (no_fault is f told)
     tells_only (Err Memory) told is = refl
 
-    pub tells_fault : (r : Result V CheckError) → Tells s m r → (f : Unsound) → r ≡ Err (AnUnsound f) → IsFirstFault s m f
-    tells_fault r told f e = subst (λ q. Tells s m q) e told
+    pub tells_fault : (r : Result V CheckError) → TellsSound s m r → (f : Unsound) → r ≡ Err (AnUnsound f) → IsFirstFault s m f
+    tells_fault r told f e = subst (λ q. TellsSound s m q) e told
 
-    pub tells_first : (r : Result V CheckError) → Tells s m r → (f : Unsound) → IsFirstFault s m f → (r ≡ Err (AnUnsound f)) ⊎ (r ≡ Err Memory)
+    pub tells_first : (r : Result V CheckError) → TellsSound s m r → (f : Unsound) → IsFirstFault s m f → (r ≡ Err (AnUnsound f)) ⊎ (r ≡ Err Memory)
     tells_first (Ok v) told f h = absurd (no_fault told f h)
     tells_first (Err (AnUnsound g)) told f h = inl (ap (λ q. Err (AnUnsound q)) (one_fault g f told h))
     tells_first (Err Memory) told f h = inr refl

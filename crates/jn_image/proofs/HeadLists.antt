@@ -9,10 +9,10 @@ use Rattle.std.proofs.Math.ListN.{get_or-map, get_or-append}
 use Rattle.jn_records.specs.declared.head.Head.{Head}
 use Rattle.jn_records.specs.declared.head.Head.TheVariants.{Free, Used}
 use Rattle.jn_records.specs.Sound as sound
-use Rattle.jn_records.specs.Sound.{HasOneHead, IsWhole, IsNamedOnce, Names, head_bytes_of}
+use Rattle.jn_records.specs.Sound.{HasOneHead, IsWholeHead, IsNamedOnce, Names, head_bytes_of}
 use Rattle.jn_records.specs.StablePages.{is_used, file_in}
 use Rattle.jn_image.specs.Repeats.{Finds, StandsOnce}
-use Rattle.jn_image.specs.Rules.{IsHeadAt, AreHeads, IsRead, file_of, address_of, addresses_of}
+use Rattle.jn_image.specs.Rules.{IsHeadAt, AreHeads, IsRead, head_file_number, address_of, addresses_of}
 use Rattle.jn_image.specs.Unsound.{HeadsWhole, AddressesOnce}
 use Rattle.jn_found.proofs.HeadPages.{free_unused, used_kind, used_file, used_address, whole}
 
@@ -36,11 +36,11 @@ head_or heads i = get_or heads i None
 module _ (m : sound.Image) (heads : List (Option Head)) (are : AreHeads m heads) where
   -- ---- which are heads
 
-  whole_at : (i : ℕ) (o : Option Head) → IsHeadAt m i o → is_some o ≡ true → IsWhole m i
+  whole_at : (i : ℕ) (o : Option Head) → IsHeadAt m i o → is_some o ≡ true → IsWholeHead m i
   whole_at i None at is = absurd (false≢true is)
   whole_at i (Some h) at is = (h, at.0, at.1, at.2)
 
-  some_at : (i : ℕ) (o : Option Head) → IsHeadAt m i o → IsWhole m i → is_some o ≡ true
+  some_at : (i : ℕ) (o : Option Head) → IsHeadAt m i o → IsWholeHead m i → is_some o ≡ true
   some_at i None at is = absurd (at is)
   some_at i (Some h) at is = refl
 
@@ -56,29 +56,29 @@ module _ (m : sound.Image) (heads : List (Option Head)) (are : AreHeads m heads)
   -- ---- files
 
   abbrev files : List (Option ℕ)
-  files = map (λ h. file_of h) heads
+  files = map (λ h. head_file_number h) heads
 
-  at_file : (i : ℕ) → get_or files i None ≡ file_of (head_or heads i)
-  at_file i = get_or-map (λ h. file_of h) heads i None
+  at_file : (i : ℕ) → get_or files i None ≡ head_file_number (head_or heads i)
+  at_file i = get_or-map (λ h. head_file_number h) heads i None
 
-  some_file : (i f : ℕ) (o : Option Head) → IsHeadAt m i o → IsWhole m i → is_used (head_bytes_of m i) ≡ true → file_in (head_bytes_of m i) ≡ f → file_of o ≡ Some f
+  some_file : (i f : ℕ) (o : Option Head) → IsHeadAt m i o → IsWholeHead m i → is_used (head_bytes_of m i) ≡ true → file_in (head_bytes_of m i) ≡ f → head_file_number o ≡ Some f
   some_file i f None at is used file = absurd (at is)
   some_file i f (Some Free) at is used file = absurd (false≢true (sym (free_unused m.counts.leaves (head_bytes_of m i) are.few at.2) ∙ used))
   some_file i f (Some (Used k xs)) at is used file = ap (λ n. Some n) (sym (used_file m.counts.leaves (head_bytes_of m i) are.few k xs at.0 at.1 at.2) ∙ file)
 
   record HasFile (i f : ℕ) : Type 0 where
     within : i < m.counts.heads
-    is_head : IsWhole m i
+    is_head : IsWholeHead m i
     used : is_used (head_bytes_of m i) ≡ true
     file : file_in (head_bytes_of m i) ≡ f
 
   has_file : (i f : ℕ) → get_or files i None ≡ Some f → HasFile i f
   has_file i f at = ⊎_elim
       (λ lt. by lt (head_or heads i) (are.each i lt) (sym (at_file i) ∙ at))
-      (λ past. absurd (none_some f (ap (λ h. file_of h) (sym (get_or_past heads i None (let n = are.count in omega (arith, past, n)))) ∙ sym (at_file i) ∙ at)))
+      (λ past. absurd (none_some f (ap (λ h. head_file_number h) (sym (get_or_past heads i None (let n = are.count in omega (arith, past, n)))) ∙ sym (at_file i) ∙ at)))
       (cases_lt i m.counts.heads)
     where
-      by : i < m.counts.heads → (o : Option Head) → IsHeadAt m i o → file_of o ≡ Some f → HasFile i f
+      by : i < m.counts.heads → (o : Option Head) → IsHeadAt m i o → head_file_number o ≡ Some f → HasFile i f
       by lt None at e = absurd (none_some f e)
       by lt (Some Free) at e = absurd (none_some f e)
       by lt (Some (Used k xs)) at e = record {

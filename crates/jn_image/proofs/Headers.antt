@@ -8,7 +8,7 @@ use Rattle.byteorder.specs.Numbers.{big_number-reads_back}
 use Rattle.jn_records.specs.StablePages.{Counts}
 use Rattle.jn_image.specs.declared.image.Image.{Image}
 use Rattle.jn_image.specs.Faults.{server_in, counts_in}
-use Rattle.jn_image.specs.Form.{counts_of, header_bytes, HasForm}
+use Rattle.jn_image.specs.Form.{image_counts, header_bytes, HasForm}
 
 abbrev counts_by : ℕ → ℕ → ℕ → Counts
 counts_by pool heads leaves = record { pool = pool; heads = heads; leaves = leaves }
@@ -25,7 +25,7 @@ module _ (m : Image) (form : HasForm m) (rest : List ℕ) where
       small : (s : ℕ) → s ≤ 7 → s % 256 ≡ s
       small s few = omega (arith, few)
 
-  pub counts_again : counts_in (header_bytes m ++ rest) ≡ counts_of m
+  pub counts_again : counts_in (header_bytes m ++ rest) ≡ image_counts m
   counts_again =
       ap (λ n. counts_by n (big_number 2 (two m.heads ++ (two m.leaves ++ rest))) (big_number 2 (two m.leaves ++ rest)))
       (big_number-reads_back 2 m.pool (two m.heads ++ (two m.leaves ++ rest)) (let h = form.pool_within.1 in omega (arith, h)))
@@ -69,7 +69,7 @@ joins : (n m : ℕ) (bytes : List ℕ) (front back : List ℕ) → front ≡ tak
 joins n m bytes front back f b = ap₂ (λ (xs ys : List ℕ). xs ++ ys) f b ∙ sym (take-add n m bytes)
 
 pub header_written : (bytes : List ℕ) → AreBytes bytes → 16 ≤ length bytes → take 8 bytes ≡ codes "JUNIMAGE" → slice_index bytes 8 ≡ 1
-    → (m : Image) → m.server.0 ≡ server_in bytes → counts_of m ≡ counts_in bytes → header_bytes m ≡ take 16 bytes
+    → (m : Image) → m.server.0 ≡ server_in bytes → image_counts m ≡ counts_in bytes → header_bytes m ≡ take 16 bytes
 header_written bytes fit long magic version m server counts =
     let named = codes "JUNIMAGE" ++ big_bytes 1 1 in
     let owned = named ++ big_bytes 1 m.server.0 in

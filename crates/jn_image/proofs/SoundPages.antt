@@ -3,7 +3,7 @@ use Rattle.std.proofs.Common.{◌<◌, ◌≤◌, ◌^◌, ℕ, subst, arith}
 use Rattle.jn_base.specs.declared.names.ServerNo.{ServerNo}
 use Rattle.jn_disks.specs.Disks.{image_of}
 use Rattle.jn_records.specs.Sound.{IsSound}
-use Rattle.jn_image.specs.Form.{counts_of}
+use Rattle.jn_image.specs.Form.{image_counts}
 use Rattle.jn_image.specs.Laws.{SoundImagesHaveSoundPages}
 
 one_byte : (n : ℕ) → n ≤ 7 → n < 2 ^ 8
@@ -21,5 +21,5 @@ sound_pages m s form is = record {
     heads = let most = form.heads_within.1 in omega (arith, most);
     leaves = two_bytes m.leaves form.leaves_within.1;
   };
-  sound = subst (λ (r : ServerNo). IsSound s (image_of r (counts_of m) m.pages)) is.server is;
+  sound = subst (λ (r : ServerNo). IsSound s (image_of r (image_counts m) m.pages)) is.server is;
 }

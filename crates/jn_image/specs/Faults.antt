@@ -10,14 +10,14 @@ use Rattle.jn_image.specs.declared.fault.DecodeError.TheVariants.{Bad, Memory}
 use Rattle.jn_image.specs.Form.{body_size, image_size}
 
 -- the number by which a fault is reported
-abbrev pub number_of : BadImage → ℕ
-number_of Short = 1
-number_of Magic = 2
-number_of Version = 3
-number_of Geometry = 4
-number_of Status = 5
-number_of Digest = 6
-number_of Trailing = 7
+abbrev pub image_fault_number : BadImage → ℕ
+image_fault_number Short = 1
+image_fault_number Magic = 2
+image_fault_number Version = 3
+image_fault_number Geometry = 4
+image_fault_number Status = 5
+image_fault_number Digest = 6
+image_fault_number Trailing = 7
 
 -- ---- what stands in the header
 
@@ -62,7 +62,7 @@ bad_of bytes =
     else bad_behind_header (counts_in bytes) bytes
 
 -- bytes are an image where nothing is wrong with them, and a fault is the first one; memory may run out
-abbrev pub Tells : {V : Type 0} → Option BadImage → Result V DecodeError → Type 0
-Tells bad (Ok _) = bad ≡ None
-Tells bad (Err (Bad fault)) = bad ≡ Some fault
-Tells bad (Err Memory) = Unit {0}
+abbrev pub TellsImage : {V : Type 0} → Option BadImage → Result V DecodeError → Type 0
+TellsImage bad (Ok _) = bad ≡ None
+TellsImage bad (Err (Bad fault)) = bad ≡ Some fault
+TellsImage bad (Err Memory) = Unit {0}

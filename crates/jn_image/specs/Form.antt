@@ -7,8 +7,8 @@ use Rattle.jn_device.specs.declared.Half.{Half}
 use Rattle.jn_records.specs.StablePages.{Counts, page_count}
 use Rattle.jn_image.specs.declared.image.Image.{Image}
 
-abbrev pub counts_of : Image → Counts
-counts_of m = record { pool = m.pool; heads = m.heads; leaves = m.leaves }
+abbrev pub image_counts : Image → Counts
+image_counts m = record { pool = m.pool; heads = m.heads; leaves = m.leaves }
 
 -- the format's name, its version, the server and the counts: 16 bytes
 abbrev pub header_bytes : Image → List ℕ
@@ -41,7 +41,7 @@ pub record HasForm (m : Image) : Type 0 where
   pub pool_within : IsWithin 1000 m.pool
   pub heads_within : IsWithin 1000 m.heads
   pub leaves_within : IsWithin 8000 m.leaves
-  pub both_halves : length m.pages ≡ 2 * page_count (counts_of m)
+  pub both_halves : length m.pages ≡ 2 * page_count (image_counts m)
 
 -- pages of their type
 abbrev pub PagesFit : Image → Type 0

@@ -5,7 +5,7 @@ use Rattle.jn_records.specs.declared.head.Head.TheVariants.{Free, Used}
 use Rattle.jn_records.specs.declared.root.Root.{Root}
 use Rattle.jn_records.specs.Heads.{head_page, IsHead, FileFits}
 use Rattle.jn_records.specs.Sound as sound
-use Rattle.jn_records.specs.Sound.{IsGood, HalvesAgree, SlotIsFree, TailIsZeros, IsWhole, head_bytes_of}
+use Rattle.jn_records.specs.Sound.{IsGood, HalvesAgree, SlotIsFree, TailIsZeros, IsWholeHead, head_bytes_of}
 use Rattle.jn_records.specs.StablePages.{page_count}
 use Rattle.jn_image.specs.declared.soundness.Rule.{Rule}
 use Rattle.jn_image.specs.declared.soundness.Rule.TheVariants.{Good, Pair, Slot, Tail}
@@ -17,14 +17,14 @@ places m Pair = page_count m.counts
 places m Slot = m.counts.pool
 places m Tail = m.counts.leaves
 
-abbrev pub Holds : sound.Image → Rule → ℕ → Type 0
-Holds m Good p = IsGood m p
-Holds m Pair i = HalvesAgree m i
-Holds m Slot i = SlotIsFree m i
-Holds m Tail i = TailIsZeros m i
+abbrev pub RuleHolds : sound.Image → Rule → ℕ → Type 0
+RuleHolds m Good p = IsGood m p
+RuleHolds m Pair i = HalvesAgree m i
+RuleHolds m Slot i = SlotIsFree m i
+RuleHolds m Tail i = TailIsZeros m i
 
 abbrev pub HoldsWithin : sound.Image → Rule → ℕ → Type 0
-HoldsWithin m rule i = i < places m rule → Holds m rule i
+HoldsWithin m rule i = i < places m rule → RuleHolds m rule i
 
 -- a root at another epoch
 abbrev pub at_epoch : Root → ℕ → Root
@@ -32,7 +32,7 @@ at_epoch r epoch = record { server = r.server; pool = r.pool; heads = r.heads; l
 
 -- what was read of a head's page
 abbrev pub IsHeadAt : sound.Image → ℕ → Option Head → Type 0
-IsHeadAt m i None = IsWhole m i → ⊥
+IsHeadAt m i None = IsWholeHead m i → ⊥
 IsHeadAt m i (Some h) = IsHead m.counts.leaves h × FileFits h × (head_bytes_of m i ≡ head_page h)
 
 -- these are the image's heads, and none where a page is no head
@@ -43,10 +43,10 @@ pub record AreHeads (m : sound.Image) (heads : List (Option Head)) : Type 0 wher
   pub each : (i : ℕ) → i < m.counts.heads → IsHeadAt m i (get_or heads i None)
 
 -- a head's file, where it is used
-abbrev pub file_of : Option Head → Option ℕ
-file_of (Some (Used file addresses)) = Some file.0
-file_of (Some Free) = None
-file_of None = None
+abbrev pub head_file_number : Option Head → Option ℕ
+head_file_number (Some (Used file addresses)) = Some file.0
+head_file_number (Some Free) = None
+head_file_number None = None
 
 abbrev pub address_of : ℕ → Option ℕ
 address_of a = if nat_eq a 0 then None else Some a

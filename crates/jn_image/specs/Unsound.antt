@@ -3,27 +3,27 @@ use Rattle.std.specs.Prelude.{◌≡◌, ◌≢◌, ◌<◌, ◌*◌, ℕ, Optio
 use Rattle.jn_base.specs.declared.names.ServerNo.{ServerNo}
 use Rattle.jn_disks.specs.Disks.{image_of}
 use Rattle.jn_records.specs.Sound as sound
-use Rattle.jn_records.specs.Sound.{HasRoot, IsGood, HalvesAgree, SlotIsFree, HasOneHead, IsWhole, IsNamedOnce, TailIsZeros, IsSound}
+use Rattle.jn_records.specs.Sound.{HasRoot, IsGood, HalvesAgree, SlotIsFree, HasOneHead, IsWholeHead, IsNamedOnce, TailIsZeros, IsSound}
 use Rattle.jn_records.specs.StablePages.{page_count}
 use Rattle.jn_image.specs.declared.fault.Unsound.{Unsound}
 use Rattle.jn_image.specs.declared.fault.Unsound.TheVariants.{Server, Root, BadPage, PairDiffers, PoolInUse, SameFile, Address, AddressTwice, DataTail}
 use Rattle.jn_image.specs.declared.fault.CheckError.{CheckError}
 use Rattle.jn_image.specs.declared.fault.CheckError.TheVariants.{Unsound as AnUnsound, Memory}
 use Rattle.jn_image.specs.declared.image.Image.{Image}
-use Rattle.jn_image.specs.Form.{counts_of}
+use Rattle.jn_image.specs.Form.{image_counts}
 use Rattle.jn_image.specs.Repeats.{IsLeastFailing}
 
 -- the number by which a fault is reported
-abbrev pub number_of : Unsound → ℕ
-number_of Server = 1
-number_of Root = 2
-number_of (BadPage p) = 3
-number_of (PairDiffers i) = 4
-number_of (PoolInUse i) = 5
-number_of (SameFile f) = 6
-number_of (Address i) = 7
-number_of (AddressTwice a) = 8
-number_of (DataTail i) = 9
+abbrev pub unsound_number : Unsound → ℕ
+unsound_number Server = 1
+unsound_number Root = 2
+unsound_number (BadPage p) = 3
+unsound_number (PairDiffers i) = 4
+unsound_number (PoolInUse i) = 5
+unsound_number (SameFile f) = 6
+unsound_number (Address i) = 7
+unsound_number (AddressTwice a) = 8
+unsound_number (DataTail i) = 9
 
 -- the place or the name that is reported with it
 abbrev pub argument_of : Unsound → Option ℕ
@@ -39,7 +39,7 @@ argument_of (DataTail i) = Some i
 
 -- what the image says, page by page
 abbrev pub seen : Image → sound.Image
-seen m = image_of m.server (counts_of m) m.pages
+seen m = image_of m.server (image_counts m) m.pages
 
 -- ---- what holds of each number where the image is sound
 
@@ -53,7 +53,7 @@ abbrev pub SlotsFree : sound.Image → ℕ → Type 0
 SlotsFree m i = i < m.counts.pool → SlotIsFree m i
 
 abbrev pub HeadsWhole : sound.Image → ℕ → Type 0
-HeadsWhole m i = i < m.counts.heads → IsWhole m i
+HeadsWhole m i = i < m.counts.heads → IsWholeHead m i
 
 abbrev pub AddressesOnce : sound.Image → ℕ → Type 0
 AddressesOnce m a = 0 < a → IsNamedOnce m a
@@ -100,7 +100,7 @@ IsFirstFault s m (AddressTwice a) = ToHeads s m × IsLeastFailing (AddressesOnce
 IsFirstFault s m (DataTail i) = ToAddresses s m × IsLeastFailing (TailsZeros m) i
 
 -- an image is sound, or has this first fault; memory may run out
-abbrev pub Tells : {V : Type 0} → ServerNo → sound.Image → Result V CheckError → Type 0
-Tells s m (Ok _) = IsSound s m
-Tells s m (Err (AnUnsound fault)) = IsFirstFault s m fault
-Tells s m (Err Memory) = Unit {0}
+abbrev pub TellsSound : {V : Type 0} → ServerNo → sound.Image → Result V CheckError → Type 0
+TellsSound s m (Ok _) = IsSound s m
+TellsSound s m (Err (AnUnsound fault)) = IsFirstFault s m fault
+TellsSound s m (Err Memory) = Unit {0}

@@ -28,7 +28,7 @@ pub enum BadImage {
 impl BadImage {
     /// The number by which the fault is reported, 1 to 7.
     pub fn number(self) -> u8
-        ensures { result ≡ faults.number_of self }
+        ensures { result ≡ faults.image_fault_number self }
     {
         match self {
             BadImage::Short => 1,
@@ -85,7 +85,7 @@ pub enum Unsound {
 impl Unsound {
     /// The number by which the fault is reported, 1 to 9.
     pub fn number(self) -> u8
-        ensures { result ≡ unsound.number_of self }
+        ensures { result ≡ unsound.unsound_number self }
     {
         match self {
             Unsound::Server => 1,

@@ -2,7 +2,7 @@
 ghost use Rattle.std.specs.Prelude.{◌≡◌, ◌<◌, ◌^◌, ◌↔◌, length, IsTrue};
 ghost use Rattle.jn_records.specs.StablePages.{page_count};
 ghost use Rattle.jn_image.specs.Faults.{within};
-ghost use Rattle.jn_image.specs.Form.{counts_of, HasForm};
+ghost use Rattle.jn_image.specs.Form.{image_counts, HasForm};
 ghost use Rattle.jn_memdisk.specs.Pages.{half_at};
 
 use jn_base::{Page, ServerNo};
@@ -39,7 +39,7 @@ impl Image {
 
     /// How many stable pages there are.
     pub(crate) fn count(&self) -> usize
-        ensures count { result ≡ page_count (counts_of self.now) }
+        ensures count { result ≡ page_count (image_counts self.now) }
         ensures few { result < 2 ^ 18 }
     {
         1 + self.pool as usize + self.heads as usize + self.leaves as usize

@@ -4,7 +4,7 @@ ghost use Rattle.jn_records.specs.StablePages.{Counts, page_count};
 ghost use Rattle.jn_image.specs.declared.fault.BadImage.{BadImage as AnyFault};
 ghost use Rattle.jn_image.specs.declared.fault.DecodeError.TheVariants.{Bad, Memory};
 ghost use Rattle.jn_image.specs.declared.image.Image.{Image as AnyImage};
-ghost use Rattle.jn_image.specs.Faults.{bad_of, bad_behind_header, server_in, counts_in, in_range, statuses_fit, has_digest, Tells};
+ghost use Rattle.jn_image.specs.Faults.{bad_of, bad_behind_header, server_in, counts_in, in_range, statuses_fit, has_digest, TellsImage};
 ghost use Rattle.jn_image.specs.Form.{HasForm, PagesFit, body_size, image_bytes, image_size};
 ghost use Rattle.jn_image.specs.Headers.{counts_by};
 ghost use Rattle.jn_image.specs.Reading.{half_in, halves_in, image_in};
@@ -39,7 +39,7 @@ pub fn decode(alloc: Global, bytes: &[u8]) -> Result<Image, DecodeError>
 }
 
 fn read(alloc: Global, bytes: &[u8]) -> Result<Image, DecodeError>
-    ensures tells { Tells (bad_of bytes.now) result }
+    ensures tells { TellsImage (bad_of bytes.now) result }
     ensures image { IfOk result (λ m. m ≡ image_in bytes.now) }
 {
     match bad_of(bytes) {

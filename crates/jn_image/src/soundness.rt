@@ -7,10 +7,10 @@ ghost use Rattle.jn_records.specs.Sound.{HasRoot, IsSound, HasOneHead};
 ghost use Rattle.jn_records.specs.StablePages.{page_count};
 ghost use Rattle.jn_image.specs.declared.fault.CheckError.TheVariants.{Unsound as AnUnsound, Memory};
 ghost use Rattle.jn_image.specs.declared.fault.Unsound.{Unsound as AnyFault};
-ghost use Rattle.jn_image.specs.Form.{counts_of};
+ghost use Rattle.jn_image.specs.Form.{image_counts};
 ghost use Rattle.jn_image.specs.Repeats.{Finds};
-ghost use Rattle.jn_image.specs.Rules.{places, Holds, HoldsWithin, AreHeads, at_epoch, IsRead, file_of, address_of, addresses_of};
-ghost use Rattle.jn_image.specs.Unsound.{seen, All, HeadsWhole, AddressesOnce, ToPool, ToAddresses, IsFirstFault, Tells};
+ghost use Rattle.jn_image.specs.Rules.{places, RuleHolds, HoldsWithin, AreHeads, at_epoch, IsRead, head_file_number, address_of, addresses_of};
+ghost use Rattle.jn_image.specs.Unsound.{seen, All, HeadsWhole, AddressesOnce, ToPool, ToAddresses, IsFirstFault, TellsSound};
 
 use crate::fault::{CheckError, Unsound};
 use crate::image::Image;
@@ -21,7 +21,7 @@ use std::alloc::{AllocError, Global};
 
 /// Whether the image is a sound one of this server, from whose pages a recovery may begin.
 pub fn check(alloc: Global, image: &Image, server: ServerNo) -> Result<(), CheckError>
-    requires { length image.now.pages ≡ 2 * page_count (counts_of image.now) }
+    requires { length image.now.pages ≡ 2 * page_count (image_counts image.now) }
     // What is found sound is sound.
     ensures sound { IfOk result (λ _. IsSound server (seen image.now)) }
     // A sound image is found so, unless memory runs out.
@@ -35,8 +35,8 @@ pub fn check(alloc: Global, image: &Image, server: ServerNo) -> Result<(), Check
 }
 
 fn look(alloc: Global, image: &Image, server: ServerNo) -> Result<(), CheckError>
-    requires { length image.now.pages ≡ 2 * page_count (counts_of image.now) }
-    ensures { Tells server (seen image.now) result }
+    requires { length image.now.pages ≡ 2 * page_count (image_counts image.now) }
+    ensures { TellsSound server (seen image.now) result }
 {
     if let Some(fault) = fault_of_pages(image, server) {
         return Err(CheckError::Unsound(fault));
@@ -53,7 +53,7 @@ fn look(alloc: Global, image: &Image, server: ServerNo) -> Result<(), CheckError
 
 /// The first fault up to the pool's.
 fn fault_of_pages(image: &Image, server: ServerNo) -> Option<Unsound>
-    requires { length image.now.pages ≡ 2 * page_count (counts_of image.now) }
+    requires { length image.now.pages ≡ 2 * page_count (image_counts image.now) }
     ensures { MatchOption result (ToPool server (seen image.now)) (λ f. IsFirstFault server (seen image.now) f) }
 {
     if image.server != server {
@@ -146,7 +146,7 @@ enum Rule {
 
 /// The first place where a rule doesn't hold.
 fn first_failing(image: &Image, rule: Rule) -> Option<u32>
-    requires { length image.now.pages ≡ 2 * page_count (counts_of image.now) }
+    requires { length image.now.pages ≡ 2 * page_count (image_counts image.now) }
     ensures { Finds (HoldsWithin (seen image.now) rule) result }
 {
     for i in 0..places(image, rule) {
@@ -171,9 +171,9 @@ fn places(image: &Image, rule: Rule) -> u32
 
 /// Whether a rule holds at a place.
 fn holds(image: &Image, rule: Rule, place: u32) -> bool
-    requires pages { length image.now.pages ≡ 2 * page_count (counts_of image.now) }
+    requires pages { length image.now.pages ≡ 2 * page_count (image_counts image.now) }
     requires within { place < places (seen image.now) rule }
-    ensures { IsTrue result ↔ Holds (seen image.now) rule place }
+    ensures { IsTrue result ↔ RuleHolds (seen image.now) rule place }
 {
     let i = place as usize;
     match rule {
@@ -218,7 +218,7 @@ fn same_bytes(a: &[u8], b: &[u8]) -> bool
 
 /// The heads, and none where a page is no head.
 fn heads_of(alloc: Global, image: &Image) -> Result<Vec<Option<Head>>, AllocError>
-    requires { length image.now.pages ≡ 2 * page_count (counts_of image.now) }
+    requires { length image.now.pages ≡ 2 * page_count (image_counts image.now) }
     ensures { IfOk result (λ v. AreHeads (seen image.now) v.items) }
 {
     let first = 1 + image.pool as usize;
@@ -262,18 +262,18 @@ fn address_twice(alloc: Global, heads: &[Option<Head>]) -> Result<Option<u32>, A
 
 /// The file of each head.
 fn files_of(alloc: Global, heads: &[Option<Head>]) -> Result<Vec<Option<u32>>, AllocError>
-    ensures { IfOk result (λ v. v.items ≡ map (λ h. file_of h) heads.now) }
+    ensures { IfOk result (λ v. v.items ≡ map (λ h. head_file_number h) heads.now) }
 {
     let mut files = Vec::with_capacity(alloc, heads.len())?;
     for head in heads {
-        files.push(file_of(head))?;
+        files.push(head_file_number(head))?;
     }
     Ok(files)
 }
 
 /// The head's file, where it is used.
-fn file_of(head: &Option<Head>) -> Option<u32>
-    ensures { result ≡ file_of head.now }
+fn head_file_number(head: &Option<Head>) -> Option<u32>
+    ensures { result ≡ head_file_number head.now }
 {
     match head {
         Some(Head::Used { file, .. }) => Some(file.0),

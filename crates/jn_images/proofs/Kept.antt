@@ -6,7 +6,7 @@ use Rattle.jn_base.specs.declared.names.ServerNo.{ServerNo}
 use Rattle.jn_device.specs.Device.{DeviceState}
 use Rattle.jn_host.specs.Outside.{Contents, KeeperSaved, Rose, kept_at}
 use Rattle.jn_host.specs.declared.KeepFailure.{KeepFailure}
-use Rattle.jn_image.specs.Form.{counts_of, image_bytes}
+use Rattle.jn_image.specs.Form.{image_counts, image_bytes}
 use Rattle.jn_image.specs.declared.image.Image.{Image}
 use Rattle.jn_device.specs.declared.Half.{Half}
 use Rattle.jn_disks.specs.Disks.{AreSound, HasPages}
@@ -62,7 +62,7 @@ image-of q g d halves within closed are = record {
 -- ---- one save
 
 pub saves-one : (name : List ℕ) (g : Counts) (q : ServerNo) (d : DeviceState) (m : Image) (own bytes : List ℕ) (kept : Option Contents) (faults : ℕ) (answer : Result (Unit {0}) KeepFailure) (kept' : Option Contents) (faults' : ℕ)
-    → IsSoundImage q m → counts_of m ≡ g → HasPages m.pages d → own ≡ image_name name q.0 → bytes ≡ image_bytes m → KeeperSaved kept faults own bytes answer kept' faults' → SavesOne name g q d kept faults answer kept' faults'
+    → IsSoundImage q m → image_counts m ≡ g → HasPages m.pages d → own ≡ image_name name q.0 → bytes ≡ image_bytes m → KeeperSaved kept faults own bytes answer kept' faults' → SavesOne name g q d kept faults answer kept' faults'
 saves-one name g q d m own bytes kept faults answer kept' faults' sound counts pages own_is bytes_are s = record {
   count = s.count;
   told = s.told;

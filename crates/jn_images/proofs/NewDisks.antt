@@ -4,7 +4,7 @@ use Rattle.std.proofs.lemmas.Bool.Decides.{nat_tests}
 use Rattle.std.specs.Prelude.{IfOk, nat_lt, nat_eq}
 use Rattle.jn_base.specs.declared.names.ServerNo.{ServerNo}
 use Rattle.jn_device.specs.Device.{DeviceState, blank_page}
-use Rattle.jn_disks.specs.Disks.{IsNewStore, counts_of, new_page}
+use Rattle.jn_disks.specs.Disks.{IsNewStore, new_page}
 use Rattle.jn_found.specs.Images.{CountsFit, IsImage, image_on, place_in}
 use Rattle.jn_records.specs.declared.head.Head.TheVariants.{Free as FreeHead}
 use Rattle.jn_records.specs.declared.record.Record.TheVariants.{Free}
@@ -13,7 +13,7 @@ use Rattle.jn_records.specs.Heads.{head_page}
 use Rattle.jn_records.specs.Pages.{root_page}
 use Rattle.jn_records.specs.Records.{record_page}
 use Rattle.jn_records.specs.Sound.{Image, IsSound}
-use Rattle.jn_records.specs.StablePages.{Counts, page_count, slot_place, head_place, data_place, is_used, files_of_pages}
+use Rattle.jn_records.specs.StablePages.{counts_of, Counts, page_count, slot_place, head_place, data_place, is_used, files_of_pages}
 use Rattle.jn_recovery.specs.Loading.{counts_by}
 use Rattle.jn_recovery.specs.declared.counts.PageCounts.{PageCounts}
 use Rattle.jn_store.specs.Pairs.{pairs_view}

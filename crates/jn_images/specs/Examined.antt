@@ -4,7 +4,7 @@ use Rattle.jn_base.specs.declared.names.ServerNo.{ServerNo}
 use Rattle.jn_device.specs.Device.{DeviceState}
 use Rattle.jn_disks.specs.Disks.{HasPages, IsStoreOfPages}
 use Rattle.jn_image.specs.Faults.{bad_of}
-use Rattle.jn_image.specs.Form.{HasForm, counts_of, image_bytes}
+use Rattle.jn_image.specs.Form.{HasForm, image_counts, image_bytes}
 use Rattle.jn_image.specs.Unsound.{seen, IsFirstFault}
 use Rattle.jn_image.specs.declared.image.Image.{Image}
 use Rattle.jn_memdisk.specs.Disk.{IsNew}
@@ -40,7 +40,7 @@ pub record IsDiskOf (q : ServerNo) (content : Option (List ℕ)) (g : Counts) (d
   pub image : Image
   pub is_sound : IsSoundImage q image
   pub bytes : content ≡ Some (image_bytes image)
-  pub counts : counts_of image ≡ g
+  pub counts : image_counts image ≡ g
   pub pages : HasPages image.pages d
   pub new : IsNew d
 

@@ -6,7 +6,7 @@ use Rattle.jn_device.specs.Device.{DeviceState}
 use Rattle.jn_disks.specs.Disks.{HasPages}
 use Rattle.jn_host.specs.Outside.{Contents, found_bytes}
 use Rattle.jn_found.specs.Images.{IsImage}
-use Rattle.jn_image.specs.Form.{HasForm, IsWithin, counts_of, image_bytes}
+use Rattle.jn_image.specs.Form.{HasForm, IsWithin, image_counts, image_bytes}
 use Rattle.jn_image.specs.Unsound.{seen}
 use Rattle.jn_image.specs.declared.image.Image.{Image}
 use Rattle.jn_order.specs.Files.{Files}
@@ -34,7 +34,7 @@ pub record IsSoundImage (q : ServerNo) (m : Image) : Type 0 where
 pub record IsKept (kept : Option Contents) (name : List ℕ) (g : Counts) (q : ServerNo) (d : DeviceState) : Type 0 where
   pub image : Image
   pub is_sound : IsSoundImage q image
-  pub counts : counts_of image ≡ g
+  pub counts : image_counts image ≡ g
   pub pages : HasPages image.pages d
   pub bytes : Has kept (image_name name q.0) (Some (image_bytes image))
 

@@ -51,7 +51,7 @@ use Rattle.jn_storage.proofs.Intended.{made_there, there-after}
 use Rattle.jn_storage.proofs.Laws.{called_not}
 use Rattle.jn_store.specs.Store.{StoreView}
 use Rattle.jn_intent.specs.Carrying.{Carries, PutsOne, MayCarry, heads_taken, without_promise, is_gone, is_gone_already, counted_on}
-use Rattle.jn_recovery.specs.Matches.{Matches, IsKept, IsMade, AreMade, stored_work}
+use Rattle.jn_recovery.specs.Matches.{Matches, IsKeptMemory, IsMade, AreMade, stored_work}
 use Rattle.jn_recovery.specs.Memory.{Memory, accounts_of, view_of, next_by, next_in, stored_by, holds_page, held_in}
 use Rattle.jn_recovery.proofs.Bridge.{same_there, same_address}
 use Rattle.jn_intent.proofs.CarryStates.{IsCountedOn, carried_loadable, serves_carried}
@@ -542,7 +542,7 @@ module _ (m : Memory) (v : StoreView) (now : Matches m v) (serving : IsServing (
 
 -- ---- the same of what the code makes
 
-module _ (m : Memory) (v : StoreView) (kept : IsKept m v) (serving : IsServing (view_of m v)) (work : WorkId) (l : List WorkState) (same : l ≡ m.works) (k : ℕ) (found : (k < length l) × ((d : WorkState) → work_eq (slice_index_or l k d).head.work work ≡ true))
+module _ (m : Memory) (v : StoreView) (kept : IsKeptMemory m v) (serving : IsServing (view_of m v)) (work : WorkId) (l : List WorkState) (same : l ≡ m.works) (k : ℕ) (found : (k < length l) × ((d : WorkState) → work_eq (slice_index_or l k d).head.work work ≡ true))
     (s : WorkState) (at : s ≡ slice_index_or m.works k s) (o : Option StoredIntention) (next : o ≡ slice_get s.list s.next) where
   its_place : (k < length m.works) × ((d : WorkState) → work_eq (slice_index_or m.works k d).head.work work ≡ true)
   its_place = subst (λ l. (k < length l) × ((d : WorkState) → work_eq (slice_index_or l k d).head.work work ≡ true)) same found
@@ -567,7 +567,7 @@ module _ (m : Memory) (v : StoreView) (kept : IsKept m v) (serving : IsServing (
       pub apply_stopped : ok ≡ false → (answer : Result Bool Stopped) → is_ok answer ≡ ok → StepApplied (view_of m v) work answer (view_of (record m { table = u }) w)
       apply_stopped stopped answer e = carried_stopped m v (kept serving.power) serving work s listed i (sym next ∙ some) u w ok stopped c answer e
 
-      pub apply_dark : ok ≡ false → IsKept (record m { table = u }) w
+      pub apply_dark : ok ≡ false → IsKeptMemory (record m { table = u }) w
       apply_dark stopped power = absurd (true≢false (sym power ∙ carried_dark m v (kept serving.power) serving work s listed i (sym next ∙ some) u w ok stopped c))
 
       pub apply_recovers : ok ≡ false → IsRecoverable m.server u.counts w

@@ -21,7 +21,7 @@ use Rattle.jn_records.specs.declared.work.WorkHead.{WorkHead}
 use Rattle.jn_records.specs.declared.work.WorkState.{WorkState}
 use Rattle.jn_records.specs.Records.{record_page}
 use Rattle.jn_rows.specs.Stable.{MarkGoing, made_by, is_ready}
-use Rattle.jn_sets.specs.Pool.{IsRecord, record_in, page_of, is_free, is_prepared, is_intention, is_flag, is_ready as is_ready_record, going_of}
+use Rattle.jn_sets.specs.Pool.{IsRecord, record_in, slot_page, is_free, is_prepared, is_intention, is_flag, is_ready as is_ready_record, going_of}
 use Rattle.jn_sets.specs.Sets.{Puts}
 use Rattle.jn_storage.specs.Listing.{are_different, is_in}
 use Rattle.jn_storage.specs.Storage.{IsServing}
@@ -30,7 +30,7 @@ use Rattle.jn_storage.specs.Finding.{find_by}
 use Rattle.jn_storage.proofs.Finds.{find-set, find-at, find-listed, keys-set}
 use Rattle.jn_store.specs.Store.{StoreView}
 use Rattle.jn_recovery.specs.Memory.{Memory, accounts_of, view_of, next_by, next_in, held_in, holds_page, stored_by, rubbish_of, rubbish_in}
-use Rattle.jn_recovery.specs.Matches.{Matches, IsKept, IsMade, WorksMatch, StoredWork, stored_work, work_by}
+use Rattle.jn_recovery.specs.Matches.{Matches, IsKeptMemory, IsMade, WorksMatch, StoredWork, stored_work, work_by}
 use Rattle.jn_intent.specs.Works.{MarksWork, going_on}
 use Rattle.jn_recovery.proofs.Pool.{position_at, none_position, step_of, free_same, names_kept, rubbish_kept, work_stays, flags_stay}
 use Rattle.jn_recovery.proofs.Serving.{Serves, serves_of, serving_by, may_load, called_put}
@@ -147,7 +147,7 @@ module _ (m : Memory) (v : StoreView) (now : Matches m v) (serving : IsServing (
 
       pub marked_stopped : ok ≡ false → MarkedGoing (view_of m v) head.work ok (view_of m w)
       marked_stopped stopped = record {
-        called = called_put m m v w (page_of slot) (record_page (Going head n reads)) ok 16 (omega arith) refl refl puts.put makes.recoverable (λ e. absurd (true≢false (sym e ∙ stopped)));
+        called = called_put m m v w (slot_page slot) (record_page (Going head n reads)) ok 16 (omega arith) refl refl puts.put makes.recoverable (λ e. absurd (true≢false (sym e ∙ stopped)));
         change = makes.change;
         accounts = λ e. absurd (true≢false (sym e ∙ stopped));
       }
@@ -237,7 +237,7 @@ module _ (m : Memory) (v : StoreView) (now : Matches m v) (serving : IsServing (
 
         pub marked_done : MarkedGoing (view_of m v) head.work ok (view_of (with_going m slot head n reads works) w)
         marked_done = record {
-          called = called_put m (with_going m slot head n reads works) v w (page_of slot) (record_page (Going head n reads)) ok 16 (omega arith) refl refl puts.put (makes ok records w puts).recoverable
+          called = called_put m (with_going m slot head n reads works) v w (slot_page slot) (record_page (Going head n reads)) ok 16 (omega arith) refl refl puts.put (makes ok records w puts).recoverable
               (λ e. serving_by (with_going m slot head n reads works) w (made_by (MarkGoing head.work) (state (view_of m v))) ((makes ok records w puts).change.done e) (puts.put.served e).power serves);
           change = (makes ok records w puts).change;
           accounts = λ e. accounts_same;
@@ -245,7 +245,7 @@ module _ (m : Memory) (v : StoreView) (now : Matches m v) (serving : IsServing (
 
 -- ---- the same of what the code makes
 
-module _ (m : Memory) (v : StoreView) (kept : IsKept m v) (serving : IsServing (view_of m v)) (work : WorkId) (ready : IsReady (view_of m v) work) (slot : ℕ) (at : position (is_prepared work) m.records ≡ Some slot) where
+module _ (m : Memory) (v : StoreView) (kept : IsKeptMemory m v) (serving : IsServing (view_of m v)) (work : WorkId) (ready : IsReady (view_of m v) work) (slot : ℕ) (at : position (is_prepared work) m.records ≡ Some slot) where
   its : (head : WorkHead) × (n : ℕ) × (reads : List LockUnit) × (record_in m.records slot ≡ Ready head n reads) × (head.work ≡ work)
   its = ready_record m v (kept serving.power) serving work ready slot at
 

@@ -13,7 +13,7 @@ use Rattle.jn_order.specs.Files.{Files}
 use Rattle.jn_records.specs.declared.intention.Intention.{Intention}
 use Rattle.jn_records.specs.declared.intention.What.{What}
 use Rattle.jn_records.specs.declared.intention.What.TheVariants.{Fresh, Gone, Cut, Put}
-use Rattle.jn_records.specs.NetLists.{in_order, entry, place_of, is_put, is_fresh, as_first, first_by, place_by}
+use Rattle.jn_records.specs.NetLists.{in_order, entry, intention_place, is_put, is_fresh, as_first, first_by, place_by}
 use Rattle.jn_records.proofs.NetLemmas.{no_entry}
 use Rattle.jn_rows.specs.Stable.{Prepared}
 use Rattle.jn_storage.specs.Orderly.{IsPrepared, GoTogether, unit_of, unit_by, needs_file as needs_first, takes_away, first_of}
@@ -43,9 +43,9 @@ first_before (x ∷ xs) last zero i j order at put first = absurd (none (sym (gr
 
     none : Some j ≡ None → ⊥
     none e = cc e
-first_before (x ∷ xs) last (suc k) i j order at put first = by (file_eq x.file i.file && nat_eq (place_of x) zero) refl (first_before xs (Some x) k i j (grind (arith, order)) at put) first
+first_before (x ∷ xs) last (suc k) i j order at put first = by (file_eq x.file i.file && nat_eq (intention_place x) zero) refl (first_before xs (Some x) k i j (grind (arith, order)) at put) first
   where
-    by : (b : Bool) → (file_eq x.file i.file && nat_eq (place_of x) zero) ≡ b → (entry xs i.file zero ≡ Some j → (q : ℕ) × (q < k) × (slice_get xs q ≡ Some j) × (j.file ≡ i.file))
+    by : (b : Bool) → (file_eq x.file i.file && nat_eq (intention_place x) zero) ≡ b → (entry xs i.file zero ≡ Some j → (q : ℕ) × (q < k) × (slice_get xs q ≡ Some j) × (j.file ≡ i.file))
         → (if b then Some x else entry xs i.file zero) ≡ Some j → (q : ℕ) × (q < suc k) × (slice_get (x ∷ xs) q ≡ Some j) × (j.file ≡ i.file)
     by true e rest first = (0, omega arith, first, (let same : x ≡ j = grind (arith, first) in let t = file_tells x.file i.file in subst (λ y. y.file ≡ i.file) same (grind (arith, e))))
     by false e rest first = let it = rest first in (suc it.0, (let lt = it.1 in omega (arith, lt)), it.2, it.3)
@@ -118,17 +118,17 @@ file_needed files p k i is at made needs = by (entry p.list i.file zero) refl
 -- ---- the intentions of one unit
 
 -- behind an intention of a file and a place there is no other
-no_other : (x : Intention) (xs : List Intention) (q : ℕ) (i j : Intention) → in_order (Some x) xs ≡ true → x ≡ i → slice_get xs q ≡ Some j → i.file ≡ j.file → place_of i ≡ place_of j → ⊥
+no_other : (x : Intention) (xs : List Intention) (q : ℕ) (i j : Intention) → in_order (Some x) xs ≡ true → x ≡ i → slice_get xs q ≡ Some j → i.file ≡ j.file → intention_place i ≡ intention_place j → ⊥
 no_other x xs q i j tail same too file place =
     let its = entry-of xs q j (Some x) tail too in
-    let none = no_entry x xs j.file (place_of j) tail (inr (ap (λ (f : FileNo). f.0) (sym file ∙ ap (λ (y : Intention). y.file) (sym same)), (let e = ap (λ (y : Intention). place_of y) same in omega (arith, e, place)))) in
+    let none = no_entry x xs j.file (intention_place j) tail (inr (ap (λ (f : FileNo). f.0) (sym file ∙ ap (λ (y : Intention). y.file) (sym same)), (let e = ap (λ (y : Intention). intention_place y) same in omega (arith, e, place)))) in
     clash (sym none ∙ its)
   where
     clash : {j : Intention} → None ≡ Some j → ⊥
     clash e = cc e
 
 -- it stands at one index
-pub one_index : (list : List Intention) (last : Option Intention) (k q : ℕ) (i j : Intention) → in_order last list ≡ true → slice_get list k ≡ Some i → slice_get list q ≡ Some j → i.file ≡ j.file → place_of i ≡ place_of j → k ≡ q
+pub one_index : (list : List Intention) (last : Option Intention) (k q : ℕ) (i j : Intention) → in_order last list ≡ true → slice_get list k ≡ Some i → slice_get list q ≡ Some j → i.file ≡ j.file → intention_place i ≡ intention_place j → k ≡ q
 one_index [] last k q i j order at too file place = absurd (cc at)
 one_index (x ∷ xs) last zero zero i j order at too file place = refl
 one_index (x ∷ xs) last zero (suc q) i j order at too file place = absurd (no_other x xs q i j (grind (arith, order)) (some_is at) too file place)

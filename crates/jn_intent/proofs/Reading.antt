@@ -8,8 +8,8 @@ use Rattle.jn_base.specs.declared.names.FileNo.{FileNo}
 use Rattle.jn_base.specs.declared.names.LockUnit.TheVariants.{Block}
 use Rattle.jn_order.specs.Files.{Files}
 use Rattle.jn_files.specs.Table.{TableView, IsTable, address_for, exists, is_mapped, is_touched}
-use Rattle.jn_files.specs.Calls.{NextFile as NextHead, is_above as is_above_head, Fits, Touches, BlockGot}
-use Rattle.jn_files.specs.Pages.{Holds, files_in}
+use Rattle.jn_files.specs.Calls.{NextFile as NextHead, is_above as is_above_head, HasPagesOfTable, Touches, BlockGot}
+use Rattle.jn_files.specs.Pages.{HoldsTable, files_in}
 use Rattle.jn_rows.specs.Stable.{Unchanged}
 use Rattle.jn_found.specs.Pages.{found_on}
 use Rattle.jn_found.specs.Puts.{IsFewer}
@@ -20,19 +20,19 @@ use Rattle.jn_storage.specs.Calls.{state, NextFile, is_above, BlockRead}
 use Rattle.jn_store.specs.Store.{StoreView, StoreLater, IsSamePage, IsServed, IsStop}
 use Rattle.jn_store.proofs.Laws.{later_refl, same_refl, same_shrinks}
 use Rattle.jn_recovery.specs.Memory.{Memory, view_of}
-use Rattle.jn_recovery.specs.Matches.{IsKept, Matches}
+use Rattle.jn_recovery.specs.Matches.{IsKeptMemory, Matches}
 use Rattle.jn_recovery.proofs.Serving.{serves_of, serving_by, loadable_found}
 use Rattle.jn_recovery.proofs.Standing.{there_found, mapped_found, holds, files_are}
 use Rattle.jn_intent.proofs.Scrubbing.{IsSafe, fewer_kept}
 
 -- what stands while it serves
-pub kept_now : (m : Memory) (v : StoreView) → IsKept m v → IsServing (view_of m v) → Matches m v
+pub kept_now : (m : Memory) (v : StoreView) → IsKeptMemory m v → IsServing (view_of m v) → Matches m v
 kept_now m v kept serving = kept serving.power
 
-pub there_seen : (m : Memory) (v : StoreView) → IsKept m v → IsServing (view_of m v) → (f : FileNo) → exists m.table.heads f ≡ file_there (state (view_of m v)).files f
+pub there_seen : (m : Memory) (v : StoreView) → IsKeptMemory m v → IsServing (view_of m v) → (f : FileNo) → exists m.table.heads f ≡ file_there (state (view_of m v)).files f
 there_seen m v kept serving f = there_found m.server m.table.counts v m.epoch m.records m.table.heads (kept_now m v kept serving).standing f
 
-pub mapped_seen : (m : Memory) (v : StoreView) → IsKept m v → IsServing (view_of m v) → (f : FileNo) (p : BlockNo) → is_mapped m.table.heads f p.0 ≡ is_some ((state (view_of m v)).files (Block f p))
+pub mapped_seen : (m : Memory) (v : StoreView) → IsKeptMemory m v → IsServing (view_of m v) → (f : FileNo) (p : BlockNo) → is_mapped m.table.heads f p.0 ≡ is_some ((state (view_of m v)).files (Block f p))
 mapped_seen m v kept serving f p = mapped_found m.server m.table.counts v m.epoch m.records m.table.heads (kept_now m v kept serving).standing f p
 
 above_same : (after : Option FileNo) (f : FileNo) → is_above_head after f ≡ is_above after f
@@ -47,10 +47,10 @@ next_seen heads files same after (Some f) is = record {
   least = λ g h a. is.least g (same g ∙ h) (above_same after g ∙ a);
 }
 
-pub next_of : (m : Memory) (v : StoreView) → IsKept m v → IsServing (view_of m v) → (after r : Option FileNo) → NextHead m.table.heads after r → NextFile (state (view_of m v)).files after r
+pub next_of : (m : Memory) (v : StoreView) → IsKeptMemory m v → IsServing (view_of m v) → (after r : Option FileNo) → NextHead m.table.heads after r → NextFile (state (view_of m v)).files after r
 next_of m v kept serving after r is = next_seen m.table.heads (state (view_of m v)).files (there_seen m v kept serving) after r is
 
-pub holds_seen : (m : Memory) (v : StoreView) → IsKept m v → IsServing (view_of m v) → Holds m.table v
+pub holds_seen : (m : Memory) (v : StoreView) → IsKeptMemory m v → IsServing (view_of m v) → HoldsTable m.table v
 holds_seen m v kept serving = let now = kept_now m v kept serving in holds m.server m.table.counts v m.epoch m.records m.table.heads now.standing now.table.heads
 
 -- ---- a block is read
@@ -67,7 +67,7 @@ touch_rest t v a ok u w touches = by (is_touched t a) ok refl refl
     by false true e is = touched_only t u (slice_set t.touched a true) ((touches.first e).done is)
     by false false e is = touched_only t u t.touched ((touches.first e).stopped is)
 
-module _ (m : Memory) (v : StoreView) (kept : IsKept m v) (serving : IsServing (view_of m v)) (w : StoreView) (later : StoreLater v w) (same : (j : ℕ) → j < v.count → IsSamePage v w j) where
+module _ (m : Memory) (v : StoreView) (kept : IsKeptMemory m v) (serving : IsServing (view_of m v)) (w : StoreView) (later : StoreLater v w) (same : (j : ℕ) → j < v.count → IsSamePage v w j) where
   fewer : IsFewer v w
   fewer = record { count = later.count; shrinks = λ j lt. same_shrinks v w j (same j lt) }
 
@@ -105,7 +105,7 @@ module _ (m : Memory) (v : StoreView) (kept : IsKept m v) (serving : IsServing (
     })
 
 -- A block is read as the code reads it: its page is touched, or the device isn't asked.
-module _ (m : Memory) (v : StoreView) (kept : IsKept m v) (serving : IsServing (view_of m v)) (f : FileNo) (p : BlockNo) (answer : Result (Option (List ℕ)) Stopped) (u : TableView) (w : StoreView) (table : IsTable u)
+module _ (m : Memory) (v : StoreView) (kept : IsKeptMemory m v) (serving : IsServing (view_of m v)) (f : FileNo) (p : BlockNo) (answer : Result (Option (List ℕ)) Stopped) (u : TableView) (w : StoreView) (table : IsTable u)
     (got : (a : ℕ) → address_for m.table.heads f p.0 ≡ suc a → BlockGot m.table v f p a answer u w) (unasked : is_mapped m.table.heads f p.0 ≡ false → (answer ≡ Ok None) × (u ≡ m.table) × (w ≡ v)) where
   none_mapped : address_for m.table.heads f p.0 ≡ zero → is_mapped m.table.heads f p.0 ≡ false
   none_mapped e = grind (arith, nat_tests, e)

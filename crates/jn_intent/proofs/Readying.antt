@@ -18,7 +18,7 @@ use Rattle.jn_found.specs.Contents.{intended, stored_list, prepared_by, heads_na
 use Rattle.jn_found.specs.Held.{held_contents}
 use Rattle.jn_found.specs.Pages.{found_on, block_on, pages_by}
 use Rattle.jn_found.specs.Puts.{RecordPut}
-use Rattle.jn_found.specs.Recoverable.{IsRecoverable, HasIntentions, IsWhole}
+use Rattle.jn_found.specs.Recoverable.{IsRecoverable, HasIntentions, IsWholeWork}
 use Rattle.jn_found.specs.Standing.{IsStanding, Makes}
 use Rattle.jn_found.proofs.CallLaws.{readies}
 use Rattle.jn_found.proofs.Found.{found_passes}
@@ -48,7 +48,7 @@ use Rattle.jn_storage.specs.Finding.{find_by}
 use Rattle.jn_store.specs.Store.{StoreView, StoreLater, IsStop}
 use Rattle.jn_store.proofs.Laws.{later_refl, later_trans, stop_since}
 use Rattle.jn_recovery.specs.Memory.{Memory, accounts_of, view_of, next_by, next_in, held_in, holds_page, stored_by, rubbish_in}
-use Rattle.jn_recovery.specs.Matches.{Matches, IsMade, IsKept}
+use Rattle.jn_recovery.specs.Matches.{Matches, IsMade, IsKeptMemory}
 use Rattle.jn_recovery.specs.Pages.{is_at}
 use Rattle.jn_intent.specs.Preparing.{IsPreparing, StopsUnchanged, Begins, ListStored}
 use Rattle.jn_recovery.proofs.FlagCalls.{none_any}
@@ -262,7 +262,7 @@ module _ (m : Memory) (v : StoreView) (now : Matches m v) (serving : IsServing (
         unnamed : (a : ℕ) → list_any (is_at a) stored ≡ true → (heads_name m.table.heads (suc a) || works_name records (suc a)) ≡ false
         unnamed a h = let own = p.pages.own a h in ap (λ b. b || works_name records (suc a)) own.unnamed ∙ p.pool.names a ∙ sym (now.held a) ∙ own.loose
 
-        whole_work : (c : Pick) → IsWhole m.table.counts.leaves (held_contents m.table.counts w m.epoch records m.table.heads c) head.work (length list)
+        whole_work : (c : Pick) → IsWholeWork m.table.counts.leaves (held_contents m.table.counts w m.epoch records m.table.heads c) head.work (length list)
         whole_work c = record {
           intentions = subst (HasIntentions records head.work) all p.pool.first.intentions;
           fresh = are_fresh (promising m n) head.work stored records p.pool m.table.counts.leaves (held_contents m.table.counts w m.epoch records m.table.heads c) refl p.pages.apart (λ a h. ((p.pages.own a h).below, unnamed a h));
@@ -381,7 +381,7 @@ pub record Prepares (m : Memory) (v : StoreView) (head : WorkHead) (list : List 
   pub enough : shortage (accounts_of m) (needed (state (view_of m v)) list) ≡ None
   pub heads : n ≡ (needed (state (view_of m v)) list).heads
 
-pub given : {S : Type 0} (view : S → StoreView) (store : S) (m : Memory) (s : S × Memory) → (store, m) ≡ s → IsKept m (view store) → (head : WorkHead) (list : List FullIntention) (reads : List LockUnit)
+pub given : {S : Type 0} (view : S → StoreView) (store : S) (m : Memory) (s : S × Memory) → (store, m) ≡ s → IsKeptMemory m (view store) → (head : WorkHead) (list : List FullIntention) (reads : List LockUnit)
     → IsServing (view_of s.1 (view s.0)) → MayPrepare (view_of s.1 (view s.0)) head list reads → (need : Need) → need ≡ needed (state (view_of s.1 (view s.0))) list → shortage (accounts_of s.1) need ≡ None
     → Prepares m (view store) head list reads need.heads
 given {S} view store m s is kept head list reads serving may need need_is enough =

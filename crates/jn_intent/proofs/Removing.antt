@@ -27,7 +27,7 @@ use Rattle.jn_records.specs.declared.work.WorkState.{WorkState}
 use Rattle.jn_records.specs.Records.{record_page, RecordFits}
 use Rattle.jn_records.specs.StablePages.{Counts}
 use Rattle.jn_rows.specs.Stable.{Changed, Prepared, RemoveWork, made_by, is_ready, is_going}
-use Rattle.jn_sets.specs.Pool.{record_in, page_of, is_free, is_prepared, is_intention, is_flag, is_rubbish}
+use Rattle.jn_sets.specs.Pool.{record_in, slot_page, is_free, is_prepared, is_intention, is_flag, is_rubbish}
 use Rattle.jn_sets.specs.Sets.{Puts}
 use Rattle.jn_storage.specs.Listing.{is_in, are_different}
 use Rattle.jn_storage.specs.Storage.{IsServing, IsLoadable, file_there, intentions, list_of, needed}
@@ -37,7 +37,7 @@ use Rattle.jn_storage.proofs.Finds.{find-at, find-kept, find-listed, keys-kept, 
 use Rattle.jn_storage.proofs.Listings.{total-but}
 use Rattle.jn_store.specs.Store.{StoreView}
 use Rattle.jn_recovery.specs.Memory.{Memory, accounts_of, view_of, next_by, stored_by, holds_page, rubbish_in}
-use Rattle.jn_recovery.specs.Matches.{Matches, IsKept, IsMade, WorksMatch, StoredWork, stored_work, work_by}
+use Rattle.jn_recovery.specs.Matches.{Matches, IsKeptMemory, IsMade, WorksMatch, StoredWork, stored_work, work_by}
 use Rattle.jn_recovery.specs.Pages.{pages_let_go, MayLetGo, heads_needed, is_at, ArePagesApart}
 use Rattle.jn_recovery.proofs.Counting.{is_of_work, listed_length, gone_found, prepared_gone, removed_rubbish, removed_names}
 use Rattle.jn_recovery.proofs.FlagCalls.{free_record}
@@ -120,7 +120,7 @@ given_back m list = pages_let_go list (with_promised_heads m.table (m.table.free
 abbrev pub without_work : Memory → ℕ → WorkId → List StoredIntention → Memory
 without_work m slot work list = record m { records = slice_set m.records slot Free; table = given_back m list; works = filter (λ (s : WorkState). not (work_eq work (name_of s))) m.works }
 
-module _ (m : Memory) (v : StoreView) (kept : IsKept m v) (serving : IsServing (view_of m v)) (work : WorkId) (some : is_some ((state (view_of m v)).works work) ≡ true) where
+module _ (m : Memory) (v : StoreView) (kept : IsKeptMemory m v) (serving : IsServing (view_of m v)) (work : WorkId) (some : is_some ((state (view_of m v)).works work) ≡ true) where
   now : Matches m v
   now = kept serving.power
 
@@ -269,7 +269,7 @@ module _ (m : Memory) (v : StoreView) (kept : IsKept m v) (serving : IsServing (
 
         pub remove_done : WorkRemoved (view_of m v) work ok (view_of (without_work m slot work s.list) w)
         remove_done = record {
-          called = called_put m (without_work m slot work s.list) v w (page_of slot) (record_page Free) ok 16 (omega arith) refl gone.only.counts puts.put makes.recoverable
+          called = called_put m (without_work m slot work s.list) v w (slot_page slot) (record_page Free) ok 16 (omega arith) refl gone.only.counts puts.put makes.recoverable
               (λ e. serving_by (without_work m slot work s.list) w (made_by (RemoveWork work) (state (view_of m v)))
               (λ c. ap (λ g. found_on g w c) gone.only.counts ∙ makes.change.done e c) (puts.put.served e).power serves);
           change = subst (λ g. Changed (state (view_of m v)) (RemoveWork work) ok (found_on g w)) (sym gone.only.counts) makes.change;
@@ -278,7 +278,7 @@ module _ (m : Memory) (v : StoreView) (kept : IsKept m v) (serving : IsServing (
 
         pub remove_stopped : ok ≡ false → (b : Bool) → b ≡ ok → WorkRemoved (view_of m v) work b (view_of (record m { records = records }) w)
         remove_stopped stopped b e = subst (λ r. WorkRemoved (view_of m v) work b (view_of (record m { records = r }) w)) (sym (puts.stopped stopped)) (subst (λ c. WorkRemoved (view_of m v) work c (view_of m w)) (sym e) (record {
-          called = called_put m m v w (page_of slot) (record_page Free) ok 16 (omega arith) refl refl puts.put makes.recoverable (λ e. absurd (true≢false (sym e ∙ stopped)));
+          called = called_put m m v w (slot_page slot) (record_page Free) ok 16 (omega arith) refl refl puts.put makes.recoverable (λ e. absurd (true≢false (sym e ∙ stopped)));
           change = makes.change;
           accounts = λ e. absurd (true≢false (sym e ∙ stopped));
         }))

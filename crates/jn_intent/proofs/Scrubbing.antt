@@ -14,10 +14,10 @@ use Rattle.jn_rows.specs.Stable.{Pick, StableState, Unchanged}
 use Rattle.jn_storage.specs.Storage.{IsServing}
 use Rattle.jn_storage.specs.Calls.{state}
 use Rattle.jn_store.specs.Pairs.{pairs_view}
-use Rattle.jn_store.specs.Store.{StoreView, StoreLater, HasSamePages, IsCalm, IsWhole, IsStop}
+use Rattle.jn_store.specs.Store.{StoreView, StoreLater, HasSamePages, IsCalm, IsWholePage, IsStop}
 use Rattle.jn_store.proofs.Laws.{shrinks_only}
 use Rattle.jn_recovery.specs.Memory.{Memory, view_of}
-use Rattle.jn_recovery.specs.Matches.{Matches, IsKept}
+use Rattle.jn_recovery.specs.Matches.{Matches, IsKeptMemory}
 use Rattle.jn_intent.specs.Events.{Befalls}
 use Rattle.jn_recovery.specs.Cleaning.{CleansAll}
 use Rattle.jn_intent.specs.Scrubbing.{Scrubbed}
@@ -27,7 +27,7 @@ use Rattle.jn_recovery.proofs.Standing.{standing_same}
 
 -- ---- what a scrub leaves
 
-module _ (m : Memory) (v w : StoreView) (kept : IsKept m v) (fewer : IsFewer v w) where
+module _ (m : Memory) (v w : StoreView) (kept : IsKeptMemory m v) (fewer : IsFewer v w) where
   standing_fewer : v.power ≡ true → IsStanding m.server m.table.counts w m.epoch m.records m.table.heads
   standing_fewer power = let held = (kept power).standing.held in record {
     held = record {
@@ -54,7 +54,7 @@ module _ (m : Memory) (v w : StoreView) (kept : IsKept m v) (fewer : IsFewer v w
     same : Unchanged (state (view_of m v)) (found_on m.table.counts w)
     same = fewer_found v w fewer m.table.counts (state (view_of m v)) serving.up
 
-    whole : IsCalm v → (i : ℕ) → i < v.count → IsWhole w i
+    whole : IsCalm v → (i : ℕ) → i < v.count → IsWholePage w i
     whole quiet i lt = (done (calm quiet)).whole quiet i (omega arith) lt
 
     pub scrubbed : Scrubbed (view_of m v) ok (view_of m w)
@@ -83,7 +83,7 @@ module _ (m : Memory) (v w : StoreView) (kept : IsKept m v) (fewer : IsFewer v w
 
 -- with power or without
 abbrev pub IsSafe : Memory → StoreView → Type 0
-IsSafe m v = IsKept m v × IsRecoverable m.server m.table.counts v
+IsSafe m v = IsKeptMemory m v × IsRecoverable m.server m.table.counts v
 
 module _ (m : Memory) (v w : StoreView) (same : HasSamePages v w) (power : w.power ≡ v.power) where
   -- what the power doesn't take and no page's candidates tell is kept

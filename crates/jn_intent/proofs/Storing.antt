@@ -25,7 +25,7 @@ use Rattle.jn_records.specs.NetLists.{AllPlain, Plain, is_put}
 use Rattle.jn_records.specs.Records.{RecordFits, record_page}
 use Rattle.jn_records.specs.StablePages.{Counts, data_place}
 use Rattle.jn_rows.specs.Stable.{Unchanged}
-use Rattle.jn_sets.specs.Pool.{is_free, page_of}
+use Rattle.jn_sets.specs.Pool.{is_free, slot_page}
 use Rattle.jn_sets.specs.Sets.{Puts}
 use Rattle.jn_storage.specs.Calls.{state}
 use Rattle.jn_store.specs.Store.{StoreView, StorePut}
@@ -148,17 +148,17 @@ module _ (m : Memory) (v : StoreView) (head : WorkHead) (list : List Intention) 
 
       pub record_stops : is_ok answer ≡ false → StopsUnchanged m v (32 * length stored + 32) u y
       record_stops stopped =
-          let put = subst (λ b. StorePut x (page_of r.slot) (record_page (IntentionRecord head.work head.tid (length stored) (stored_as i a))) b y) stopped r.puts.put in
+          let put = subst (λ b. StorePut x (slot_page r.slot) (record_page (IntentionRecord head.work head.tid (length stored) (stored_as i a))) b y) stopped r.puts.put in
           stops_within m v (32 * length stored + 16 + 16) (32 * length stored + 32) u y (omega arith)
-          (store_stops m v (32 * length stored + 16) records x block_on.1 y (page_of r.slot) (record_page (IntentionRecord head.work head.tid (length stored) (stored_as i a))) put u block_on.0.counts record_makes.unchanged record_makes.recoverable)
+          (store_stops m v (32 * length stored + 16) records x block_on.1 y (slot_page r.slot) (record_page (IntentionRecord head.work head.tid (length stored) (stored_as i a))) put u block_on.0.counts record_makes.unchanged record_makes.recoverable)
 
       pub record_on : (s : StoredIntention) → answer ≡ Ok s → IsPreparing m v head.work list (stored ++ s ∷ []) new u y
       record_on s done =
           let ok : is_ok answer ≡ true = ap is_ok done in
           let same : s ≡ stored_as i a = subst (λ (q : Result StoredIntention Stopped). IfOk q (λ z. z ≡ stored_as i a)) done r.stored in
-          let put = subst (λ b. StorePut x (page_of r.slot) (record_page (IntentionRecord head.work head.tid (length stored) (stored_as i a))) b y) ok r.puts.put in
+          let put = subst (λ b. StorePut x (slot_page r.slot) (record_page (IntentionRecord head.work head.tid (length stored) (stored_as i a))) b y) ok r.puts.put in
           let is_now = r.puts.done ok in
-          let store = store_on m v (32 * length stored + 16) records x block_on.1 y (page_of r.slot) (record_page (IntentionRecord head.work head.tid (length stored) (stored_as i a))) put _ record_makes.unchanged (record_makes.standing ok) in
+          let store = store_on m v (32 * length stored + 16) records x block_on.1 y (slot_page r.slot) (record_page (IntentionRecord head.work head.tid (length stored) (stored_as i a))) put _ record_makes.unchanged (record_makes.standing ok) in
           subst (λ z. IsPreparing m v head.work list (stored ++ z ∷ []) new u y) (sym same) (subst (λ l. IsPreparing m v head.work list (stored ++ stored_as i a ∷ []) l u y) (sym is_now) (record {
             pool = pool_goes_on m head.work stored records p.pool r.slot r.free head.tid (stored_as i a);
             pages = pages_moved m list (stored ++ stored_as i a ∷ []) u x y block_on.0 put.later.count (λ b h. put.others (data_place m.table.counts b)

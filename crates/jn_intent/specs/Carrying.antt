@@ -3,7 +3,7 @@ use Rattle.std.specs.Prelude.{◌≡◌, ◌≤◌, ◌<◌, ◌+◌, ◌-◌, �
 use Rattle.jn_alloc.specs.Free.{free_count}
 use Rattle.jn_base.specs.declared.names.FileNo.{FileNo}
 use Rattle.jn_files.specs.Table.{TableView, IsTable, IsHeadOf, exists}
-use Rattle.jn_files.specs.Calls.{Fits, IsChanged, MayBecome, with_promised_heads}
+use Rattle.jn_files.specs.Calls.{HasPagesOfTable, IsChanged, MayBecome, with_promised_heads}
 use Rattle.jn_found.specs.Changes.{IsHeadPut}
 use Rattle.jn_records.specs.declared.head.Head.{Head}
 use Rattle.jn_records.specs.declared.intention.StoredIntention.{StoredIntention}
@@ -44,7 +44,7 @@ is_gone_already t i = is_gone i.what && not (exists t.heads i.file)
 -- what is asked: the head that is taken was promised, and is free
 pub record MayCarry (t : TableView) (v : StoreView) (i : StoredIntention) : Type 0 where
   pub table : IsTable t
-  pub fits : Fits t v
+  pub fits : HasPagesOfTable t v
   pub file_fits : i.file.0 < 2 ^ 32
   pub names : intention_has_page i ≡ true
   pub promised : heads_taken t i ≤ t.free_heads.promised

@@ -5,7 +5,7 @@ use Rattle.jn_base.specs.declared.names.WorkId.{WorkId}
 use Rattle.jn_found.specs.Recoverable.{IsRecoverable}
 use Rattle.jn_store.specs.Store.{StoreView}
 use Rattle.jn_recovery.specs.Memory.{Memory}
-use Rattle.jn_recovery.specs.Matches.{IsKept}
+use Rattle.jn_recovery.specs.Matches.{IsKeptMemory}
 use Rattle.jn_intent.specs.declared.intents.Room.{Room}
 use Rattle.jn_intent.specs.declared.intents.Intents.TheInside.{Inside}
 
@@ -32,8 +32,8 @@ pub record IsRoom (room : Room) : Type 0 where
 
 -- Memory is what stands on the pages, while there is power. With power or without, a recovery may begin from the store.
 -- Each promise has the room that its flag will fill.
-pub record IsSound {S : Type 0} (look : S → StoreView) (s : Inside S) : Type 0 where
-  pub kept : IsKept (memory_of s) (look s.store)
+pub record IsSoundStorage {S : Type 0} (look : S → StoreView) (s : Inside S) : Type 0 where
+  pub kept : IsKeptMemory (memory_of s) (look s.store)
   pub recoverable : IsRecoverable (memory_of s).server (memory_of s).table.counts (look s.store)
   pub flags_room : vec_len s.flags + vec_len s.rooms ≤ vec_capacity s.flags
   pub rooms : AllByRecursion IsRoom s.rooms.items

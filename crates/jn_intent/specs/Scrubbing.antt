@@ -7,7 +7,7 @@ use Rattle.jn_records.specs.StablePages.{Counts}
 use Rattle.jn_rows.specs.Stable.{Unchanged}
 use Rattle.jn_storage.specs.Storage.{Accounts, StorageView}
 use Rattle.jn_storage.specs.Calls.{state, Called}
-use Rattle.jn_store.specs.Store.{IsCalm, IsClean, IsWhole}
+use Rattle.jn_store.specs.Store.{IsCalm, IsClean, IsWholePage}
 
 -- no work is prepared, no transaction has a flag, and no record is left over
 pub record IsIdle (v : StorageView) : Type 0 where
@@ -25,5 +25,5 @@ pub record Scrubbed (v : StorageView) (ok : Bool) (w : StorageView) : Type 0 whe
   pub unchanged : Unchanged (state v) w.found
   pub same : w.accounts ≡ v.accounts
   pub clean : ok ≡ true → (i : ℕ) → i < v.store.count → IsClean w.store i
-  pub whole : IsCalm v.store → (i : ℕ) → i < v.store.count → IsWhole w.store i
+  pub whole : IsCalm v.store → (i : ℕ) → i < v.store.count → IsWholePage w.store i
   pub image : IsCalm v.store → IsIdle v → IsImage v.accounts.server (counts_in v.accounts) (state v).files w.store

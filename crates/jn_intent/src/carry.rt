@@ -6,7 +6,7 @@ ghost use Rattle.jn_records.specs.declared.work.WorkState.{WorkState};
 ghost use Rattle.jn_storage.specs.Storage.{IsServing};
 ghost use Rattle.jn_storage.specs.Calls.{IsGoing, StepApplied};
 ghost use Rattle.jn_files.specs.Table.{exists, fresh_head};
-ghost use Rattle.jn_files.specs.Calls.{Fits, SetsHead};
+ghost use Rattle.jn_files.specs.Calls.{HasPagesOfTable, SetsHead};
 ghost use Rattle.jn_intent.specs.Carrying.{MayCarry, Carries, with_fresh_promise, counted_on};
 
 use crate::Intents;
@@ -82,7 +82,7 @@ fn make_fresh<S: StableStore>(
     store: &mut S,
     file: FileNo,
 ) -> Result<(), Stopped>
-    requires fits { Fits table.old (S.view store.old) }
+    requires fits { HasPagesOfTable table.old (S.view store.old) }
     requires promised { exists table.old.heads file ≡ false → 0 < table.old.free_heads.promised }
     requires free { table.old.free_heads.promised ≤ free_count table.old.free_heads }
     ensures { SetsHead (with_fresh_promise table.old file) (S.view store.old) file (λ h. fresh_head file) (λ leaves. created file) (is_ok result) table.new (S.view store.new) }

@@ -31,13 +31,13 @@ pub struct Intents<S: StableStore> {
 
 impl<S: StableStore> Model for Intents<S> {
     ghost use Rattle.jn_recovery.specs.Memory.{Memory};
-    ghost use Rattle.jn_intent.specs.Inside.{memory_of, IsSound};
+    ghost use Rattle.jn_intent.specs.Inside.{memory_of, IsSoundStorage};
 
     ghost Value = { S × Memory };
 
     ghost view = { λ s. (s.store, memory_of s) };
 
-    ghost invariant = { λ s. IsSound (λ store. S.view store) s };
+    ghost invariant = { λ s. IsSoundStorage (λ store. S.view store) s };
 }
 
 impl<S: StableStore> Storage for Intents<S> {

@@ -2,7 +2,7 @@
 ghost use Rattle.std.specs.Prelude.{◌≡◌, ◌<◌, ◌≤◌, ◌+◌, ◌-◌, ℕ, true, is_ok, [], length, vec_len, vec_capacity, IfOk, MatchResult, None, Some};
 ghost use Rattle.jn_alloc.specs.Free.{free_count as free_numbers};
 ghost use Rattle.jn_files.specs.Table.{IsTable};
-ghost use Rattle.jn_files.specs.Calls.{Fits, with_promised_heads, with_promised_leaves};
+ghost use Rattle.jn_files.specs.Calls.{HasPagesOfTable, with_promised_heads, with_promised_leaves};
 ghost use Rattle.jn_records.specs.NetLists.{Plain, is_put};
 ghost use Rattle.jn_sets.specs.Pool.{free_count};
 ghost use Rattle.jn_storage.specs.Storage.{IsServing};
@@ -165,7 +165,7 @@ fn store_one<S: StableStore>(
     order: u8,
     intention: &Intention,
 ) -> Result<StoredIntention, Stopped>
-    requires fits { Fits table.old (S.view store.old) }
+    requires fits { HasPagesOfTable table.old (S.view store.old) }
     requires unpromised { table.old.free_leaves.promised ≡ 0 }
     requires page { is_put intention.now.what ≡ true → 0 < free_numbers table.old.free_leaves }
     requires there { length sets.old < (S.view store.old).count }
@@ -200,7 +200,7 @@ fn store_block<S: StableStore>(
     table: &mut FileTable,
     intention: &Intention,
 ) -> Result<u16, Stopped>
-    requires fits { Fits table.old (S.view store.old) }
+    requires fits { HasPagesOfTable table.old (S.view store.old) }
     requires unpromised { table.old.free_leaves.promised ≡ 0 }
     requires page { is_put intention.now.what ≡ true → 0 < free_numbers table.old.free_leaves }
     ensures stored { BlockStored table.old (S.view store.old) intention.now result table.new (S.view store.new) }
@@ -219,7 +219,7 @@ fn fill_next<S: StableStore>(
     table: &mut FileTable,
     block: &Block,
 ) -> Result<u16, Stopped>
-    requires fits { Fits table.old (S.view store.old) }
+    requires fits { HasPagesOfTable table.old (S.view store.old) }
     requires unpromised { table.old.free_leaves.promised ≡ 0 }
     requires page { 0 < free_numbers table.old.free_leaves }
     ensures filled { FillsPage table.old (S.view store.old) block.now result table.new (S.view store.new) }

@@ -4,7 +4,7 @@ ghost use Rattle.jn_device.specs.Events.{Decays, Revives, Arms, is_within, disar
 ghost use Rattle.jn_files.specs.Calls.{TouchesAll};
 ghost use Rattle.jn_found.specs.Puts.{IsFewer};
 ghost use Rattle.jn_found.specs.Recoverable.{IsRecoverable};
-ghost use Rattle.jn_recovery.specs.Matches.{IsKept};
+ghost use Rattle.jn_recovery.specs.Matches.{IsKeptMemory};
 ghost use Rattle.jn_storage.specs.Storage.{IsServing};
 ghost use Rattle.jn_store.specs.Store.{IsCalm, IsStop, StoreLater};
 ghost use Rattle.jn_intent.specs.Events.{Befalls};
@@ -33,7 +33,7 @@ impl<S: StableStore> Intents<S> {
 
     /// For proofs alone: while the store has power, what is kept in memory is what stands on the pages.
     pub fn is_kept(&self)
-        ensures { IsKept self.now.1 (S.view self.now.0) }
+        ensures { IsKeptMemory self.now.1 (S.view self.now.0) }
     {
         let _sets = &self.sets;
     }

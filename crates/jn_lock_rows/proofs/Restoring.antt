@@ -7,7 +7,7 @@ use Rattle.jn_base.specs.Names.{work_eq}
 use Rattle.jn_locks.specs.declared.words.Mode.{Mode}
 use Rattle.jn_locks.specs.declared.words.Mode.TheVariants.{Read, IntentionWrite, Commit}
 use Rattle.jn_locks.specs.Locks.{Table}
-use Rattle.jn_locks.specs.Asked.{Fits, Rebuilds}
+use Rattle.jn_locks.specs.Asked.{LocksFit, Rebuilds}
 use Rattle.jn_rows.specs.declared.worker.Work.{Work}
 use Rattle.jn_rows.specs.Stable.{StableState, Prepared}
 use Rattle.jn_rows.specs.Worker.{holds, work_at, restored_work, restored_worker}
@@ -57,7 +57,7 @@ restored-from x (W ∷ Ws) V u m h = by (x.works W) refl h (restored-from x Ws V
     by (Some p) e k rest = stored p (work_eq W V) e refl k rest
 
 -- the works before it leave a stable work its locks
-pub restored_fits : (x : StableState) (Ws : List WorkId) (t : Table) (W : WorkId) (p : Prepared) → LocksMatch (restored_worker x Ws) t → GoTogether x.works → x.works W ≡ Some p → Fits t W (wants_of p)
+pub restored_fits : (x : StableState) (Ws : List WorkId) (t : Table) (W : WorkId) (p : Prepared) → LocksMatch (restored_worker x Ws) t → GoTogether x.works → x.works W ≡ Some p → LocksFit t W (wants_of p)
 restored_fits x Ws t W p h go e = λ V ne u m n wish held. let r = restored-from x Ws V u n (sym (h.locks V u n) ∙ held) in go W V p r.0 ne e r.1 u m n wish r.2
 
 -- and it is restored with them

@@ -11,7 +11,7 @@ ghost use Rattle.jn_locks.specs.declared.words.Conflict.{Conflict};
 ghost use Rattle.jn_locks.specs.declared.words.Mode.{Mode};
 ghost use Rattle.jn_locks.specs.Locks as locks;
 ghost use Rattle.jn_locks.specs.Locks.{Table};
-ghost use Rattle.jn_locks.specs.Asked.{Asks, Commits, Exposes, Fits, IsConflict, NoConflict, Rebuilds, Releases};
+ghost use Rattle.jn_locks.specs.Asked.{Asks, Commits, Exposes, LocksFit, IsConflict, NoConflict, Rebuilds, Releases};
 ghost use Rattle.jn_rows.specs.declared.worker.ActiveWork.{ActiveWork};
 ghost use Rattle.jn_rows.specs.declared.worker.Phase.TheVariants.{Active, Prepared as Stored};
 ghost use Rattle.jn_rows.specs.declared.worker.Work.{Work};
@@ -74,6 +74,6 @@ pub fn a_vulnerable_work_matches()
 
 /// The stable works, in rising order of their names, each with its locks: those of the works before it leave it them.
 pub fn a_restored_work_matches()
-    ensures fits { (x : StableState) (Ws : List WorkId) (t : Table) (W : WorkId) (p : Prepared) → LocksMatch (restored_worker x Ws) t → GoTogether x.works → x.works W ≡ Some p → Fits t W (matching.wants_of p) }
+    ensures fits { (x : StableState) (Ws : List WorkId) (t : Table) (W : WorkId) (p : Prepared) → LocksMatch (restored_worker x Ws) t → GoTogether x.works → x.works W ≡ Some p → LocksFit t W (matching.wants_of p) }
     ensures matches { (x : StableState) (Ws : List WorkId) (t now : Table) (W : WorkId) (p : Prepared) → LocksMatch (restored_worker x Ws) t → is_name_after W Ws ≡ true → x.works W ≡ Some p → Rebuilds t W (matching.wants_of p) now → LocksMatch (restored_worker x (Ws ++ W ∷ [])) now }
 {}

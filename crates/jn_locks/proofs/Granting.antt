@@ -11,7 +11,7 @@ use Rattle.jn_locks.specs.declared.words.Standing.{Standing}
 use Rattle.jn_locks.specs.declared.words.Standing.TheVariants.{Prepared}
 use Rattle.jn_locks.specs.declared.words.Broken.{Broken}
 use Rattle.jn_locks.specs.Locks.{together, Table, Wants, holds, IsCompatible, gives_way, some_mode, collides, yields, unit_before, commit_wants, or_active}
-use Rattle.jn_locks.specs.Asked.{is_broken, NoConflict, AreBroken, Grants, Asks, Commits, Rebuilds, Releases, Exposes, Fits, also, committed}
+use Rattle.jn_locks.specs.Asked.{is_broken, NoConflict, AreBroken, Grants, Asks, Commits, Rebuilds, Releases, Exposes, LocksFit, also, committed}
 use Rattle.jn_locks.proofs.Collisions.{and_true, either_true, some_mode_of}
 use Rattle.jn_locks.proofs.Breaks.{is_broken_none}
 
@@ -85,7 +85,7 @@ committed_compatible t W bs t' had h = granted_compatible t W (commit_wants t W)
     from u IntentionWrite p = not_both (sym p)
     from u Commit p = either_true (holds t W u Commit) (holds t W u IntentionWrite) p
 
-pub rebuilt_compatible : (t : Table) (W : WorkId) (wants : Wants) (t' : Table) → IsCompatible t → Fits t W wants → Rebuilds t W wants t' → IsCompatible t'
+pub rebuilt_compatible : (t : Table) (W : WorkId) (wants : Wants) (t' : Table) → IsCompatible t → LocksFit t W wants → Rebuilds t W wants t' → IsCompatible t'
 rebuilt_compatible t W wants t' had fits h A B ne u m n p q = both (work_tells W A) (work_tells W B) (sym (h.locks A u m) ∙ p) (sym (h.locks B u n) ∙ q)
   where
     mixed : (V : WorkId) (m n : Mode) → W ≢ V → (holds t W u m || wants u m) ≡ true → holds t V u n ≡ true → together m n ≡ true

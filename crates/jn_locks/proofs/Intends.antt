@@ -16,7 +16,7 @@ use Rattle.jn_locks.specs.declared.held.Held.{Held}
 use Rattle.jn_locks.specs.Locks.{unit_eq, is_unit, wanted, commit_wants}
 use Rattle.jn_locks.specs.Asked.{is_wanted_unit, is_broken, committed}
 use Rattle.jn_locks.specs.Holders.{holds_in, is_among}
-use Rattle.jn_locks.specs.Tables.{at, units_of, prepared, table_of, IsSound}
+use Rattle.jn_locks.specs.Tables.{at, units_of, prepared, table_of, IsSoundTable}
 use Rattle.jn_locks.specs.Loops.{intentions}
 use Rattle.jn_locks.proofs.Orders.{unit_tells}
 use Rattle.jn_locks.proofs.Holding.{among_if_held}
@@ -46,7 +46,7 @@ module _ (at : LockUnit → List Holder) (W : WorkId) where
   wants_commit [] u = refl
   wants_commit (v ∷ vs) u = grind (arith, wants_commit vs u)
 
-module _ (h : Held) (sound : IsSound h) (W : WorkId) where
+module _ (h : Held) (sound : IsSoundTable h) (W : WorkId) where
   pub intended_is : (u : LockUnit) → is_wanted_unit (intentions (at h.units) W (units_of h.works W)) u ≡ holds_in (at h.units u) W IntentionWrite
   intended_is u = intended (at h.units) W (units_of h.works W) u ∙ by (is_unit (units_of h.works W) u) (holds_in (at h.units u) W IntentionWrite) (is_among (at h.units u) W) refl refl (sound.listed W u) (among_if_held (at h.units u) W IntentionWrite)
     where

@@ -12,7 +12,7 @@ use Rattle.jn_locks.specs.declared.held.Held.{Held}
 use Rattle.jn_locks.specs.Locks.{mode_eq}
 use Rattle.jn_locks.specs.Asked.{is_lock, stands_in, stand_once, AreHolders}
 use Rattle.jn_locks.specs.Holders.{has, holds_in, is_among, each_once}
-use Rattle.jn_locks.specs.Tables.{at, table_of, IsSound}
+use Rattle.jn_locks.specs.Tables.{at, table_of, IsSoundTable}
 use Rattle.jn_locks.specs.Loops.{lock_if, locks_of, all_locks}
 use Rattle.jn_locks.proofs.Collisions.{work_same, mode_same}
 use Rattle.jn_locks.proofs.Holding.{among_if_held}
@@ -71,5 +71,5 @@ stand_once-all_locks (h ∷ hs) k = stand_once-append (locks_of h) (all_locks hs
     by V m (inl p) j = among_if_held hs V m (sym (ap (λ (z : WorkId). is_among hs z) p.1) ∙ grind arith)
     by V m (inr p) j = grind (arith, p.0, j)
 
-pub holders_are : (h : Held) (u : LockUnit) (ls : List (WorkId × Mode)) → IsSound h → ls ≡ all_locks (at h.units u) → AreHolders (table_of h) u ls
+pub holders_are : (h : Held) (u : LockUnit) (ls : List (WorkId × Mode)) → IsSoundTable h → ls ≡ all_locks (at h.units u) → AreHolders (table_of h) u ls
 holders_are h u ls sound e = subst (λ (xs : List (WorkId × Mode)). AreHolders (table_of h) u xs) (sym e) (record { exactly = stands_in-all_locks (at h.units u); once = stand_once-all_locks (at h.units u) (sound.once u) })

@@ -12,9 +12,9 @@ use Rattle.jn_locks.proofs.Orders.{unit_tells}
 use Rattle.jn_locks.specs.declared.words.Holder.{Holder}
 use Rattle.jn_locks.specs.declared.works.Work.{Work}
 use Rattle.jn_locks.specs.Locks.{unit_eq}
-use Rattle.jn_locks.specs.Tables.{place_of, place_eq, name_of, name_eq}
+use Rattle.jn_locks.specs.Tables.{unit_place, place_eq, name_of, name_eq}
 
-pub place_eq_is : (u v : LockUnit) → place_eq (place_of u) (place_of v) ≡ unit_eq u v
+pub place_eq_is : (u v : LockUnit) → place_eq (unit_place u) (unit_place v) ≡ unit_eq u v
 place_eq_is (File f) (File g) = grind arith
 place_eq_is (File f) (Block g q) = grind arith
 place_eq_is (Block f p) (File g) = grind arith
@@ -68,22 +68,22 @@ module _ {S : Type 0} (m : HashMap (ℕ × ℕ × ℕ) Work S) (W : WorkId) (k :
     work_kept = entry_kept name_eq name_of work_eq name_eq_is work_tells f m n W k is_name o h
 
 -- the entries of units
-module _ {S : Type 0} (m : HashMap (ℕ × Option ℕ) (Vec Holder) S) (u : LockUnit) (k : ℕ × Option ℕ) (is_place : k ≡ place_of u) where
-  pub unit_at : (o : Option (Vec Holder)) → o ≡ get place_eq m k → get place_eq m (place_of u) ≡ o
-  unit_at = entry_at place_eq place_of unit_eq place_eq_is unit_tells m u k is_place
+module _ {S : Type 0} (m : HashMap (ℕ × Option ℕ) (Vec Holder) S) (u : LockUnit) (k : ℕ × Option ℕ) (is_place : k ≡ unit_place u) where
+  pub unit_at : (o : Option (Vec Holder)) → o ≡ get place_eq m k → get place_eq m (unit_place u) ≡ o
+  unit_at = entry_at place_eq unit_place unit_eq place_eq_is unit_tells m u k is_place
 
   module _ {Y : Type 0} (f : Option (Vec Holder) → Y) (n : HashMap (ℕ × Option ℕ) (Vec Holder) S) (o : Option (Vec Holder)) (h : Updates place_eq m n k o) where
-    pub unit_after : (x : Y) → f o ≡ x → (v : LockUnit) → f (get place_eq n (place_of v)) ≡ (if unit_eq u v then x else f (get place_eq m (place_of v)))
-    unit_after x e v = subst (λ (z : Y). f (get place_eq n (place_of v)) ≡ (if unit_eq u v then z else f (get place_eq m (place_of v)))) e (entry_after place_eq place_of unit_eq place_eq_is unit_tells f m n u k is_place o h v)
+    pub unit_after : (x : Y) → f o ≡ x → (v : LockUnit) → f (get place_eq n (unit_place v)) ≡ (if unit_eq u v then x else f (get place_eq m (unit_place v)))
+    unit_after x e v = subst (λ (z : Y). f (get place_eq n (unit_place v)) ≡ (if unit_eq u v then z else f (get place_eq m (unit_place v)))) e (entry_after place_eq unit_place unit_eq place_eq_is unit_tells f m n u k is_place o h v)
 
-    pub unit_kept : f o ≡ f (get place_eq m (place_of u)) → (v : LockUnit) → f (get place_eq n (place_of v)) ≡ f (get place_eq m (place_of v))
-    unit_kept = entry_kept place_eq place_of unit_eq place_eq_is unit_tells f m n u k is_place o h
+    pub unit_kept : f o ≡ f (get place_eq m (unit_place u)) → (v : LockUnit) → f (get place_eq n (unit_place v)) ≡ f (get place_eq m (unit_place v))
+    unit_kept = entry_kept place_eq unit_place unit_eq place_eq_is unit_tells f m n u k is_place o h
 
 -- a test of the entries that holds at the changed one if it did
-module _ {S : Type 0} (test : Option (Vec Holder) → Bool) (m n : HashMap (ℕ × Option ℕ) (Vec Holder) S) (u : LockUnit) (k : ℕ × Option ℕ) (is_place : k ≡ place_of u) (o : Option (Vec Holder)) (h : Updates place_eq m n k o) where
-  pub unit_stays : (test (get place_eq m (place_of u)) ≡ true → test o ≡ true) → (v : LockUnit) → test (get place_eq m (place_of v)) ≡ true → test (get place_eq n (place_of v)) ≡ true
-  unit_stays e v held = entry_after place_eq place_of unit_eq place_eq_is unit_tells test m n u k is_place o h v ∙ by (unit_tells u v)
+module _ {S : Type 0} (test : Option (Vec Holder) → Bool) (m n : HashMap (ℕ × Option ℕ) (Vec Holder) S) (u : LockUnit) (k : ℕ × Option ℕ) (is_place : k ≡ unit_place u) (o : Option (Vec Holder)) (h : Updates place_eq m n k o) where
+  pub unit_stays : (test (get place_eq m (unit_place u)) ≡ true → test o ≡ true) → (v : LockUnit) → test (get place_eq m (unit_place v)) ≡ true → test (get place_eq n (unit_place v)) ≡ true
+  unit_stays e v held = entry_after place_eq unit_place unit_eq place_eq_is unit_tells test m n u k is_place o h v ∙ by (unit_tells u v)
     where
-      by : (((unit_eq u v ≡ true) × (u ≡ v)) ⊎ ((unit_eq u v ≡ false) × (u ≢ v))) → (if unit_eq u v then test o else test (get place_eq m (place_of v))) ≡ true
-      by (inl p) = subst (λ (c : Bool). (if c then test o else test (get place_eq m (place_of v))) ≡ true) (sym p.0) (e (subst (λ (x : LockUnit). test (get place_eq m (place_of x)) ≡ true) (sym p.1) held))
-      by (inr p) = subst (λ (c : Bool). (if c then test o else test (get place_eq m (place_of v))) ≡ true) (sym p.0) held
+      by : (((unit_eq u v ≡ true) × (u ≡ v)) ⊎ ((unit_eq u v ≡ false) × (u ≢ v))) → (if unit_eq u v then test o else test (get place_eq m (unit_place v))) ≡ true
+      by (inl p) = subst (λ (c : Bool). (if c then test o else test (get place_eq m (unit_place v))) ≡ true) (sym p.0) (e (subst (λ (x : LockUnit). test (get place_eq m (unit_place x)) ≡ true) (sym p.1) held))
+      by (inr p) = subst (λ (c : Bool). (if c then test o else test (get place_eq m (unit_place v))) ≡ true) (sym p.0) held

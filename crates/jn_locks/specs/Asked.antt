@@ -95,8 +95,8 @@ rebuilt commits reads u IntentionWrite = false
 rebuilt commits reads u Commit = is_unit commits u
 
 -- each other work's locks go with these
-abbrev pub Fits : Table → WorkId → Wants → Type 0
-Fits t W wants = (V : WorkId) → W ≢ V → (u : LockUnit) (m n : Mode) → wants u m ≡ true → holds t V u n ≡ true → together m n ≡ true
+abbrev pub LocksFit : Table → WorkId → Wants → Type 0
+LocksFit t W wants = (V : WorkId) → W ≢ V → (u : LockUnit) (m n : Mode) → wants u m ≡ true → holds t V u n ≡ true → together m n ≡ true
 
 -- a work that is prepared again
 pub record Rebuilds (t : Table) (W : WorkId) (wants : Wants) (t' : Table) : Type 0 where

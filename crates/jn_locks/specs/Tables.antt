@@ -16,9 +16,9 @@ use Rattle.jn_locks.specs.declared.held.Held.{Held}
 use Rattle.jn_locks.specs.Locks.{is_unit, Table}
 use Rattle.jn_locks.specs.Holders.{is_among, holds_in, each_once, has_room}
 
-abbrev pub place_of : LockUnit → ℕ × Option ℕ
-place_of (File f) = (f.0, None)
-place_of (Block f p) = (f.0, Some p.0)
+abbrev pub unit_place : LockUnit → ℕ × Option ℕ
+unit_place (File f) = (f.0, None)
+unit_place (Block f p) = (f.0, Some p.0)
 
 abbrev pub place_eq : ℕ × Option ℕ → ℕ × Option ℕ → Bool
 place_eq a b = nat_eq a.0 b.0 && option_eq nat_eq a.1 b.1
@@ -28,14 +28,14 @@ holders_in o = option_map_or (λ (v : Vec Holder). v.items) o []
 
 -- the holders of a unit
 abbrev pub at : Units → LockUnit → List Holder
-at s u = holders_in (get place_eq s.map (place_of u))
+at s u = holders_in (get place_eq s.map (unit_place u))
 
 abbrev pub room_in : Option (Vec Holder) → Bool
 room_in o = option_map_or has_room o false
 
 -- whether one more holder of the unit takes no memory
 abbrev pub has_room_at : Units → LockUnit → Bool
-has_room_at s u = room_in (get place_eq s.map (place_of u))
+has_room_at s u = room_in (get place_eq s.map (unit_place u))
 
 abbrev pub name_of : WorkId → ℕ × ℕ × ℕ
 name_of W = (W.server.0, W.epoch, W.ticket)
@@ -70,6 +70,6 @@ abbrev pub table_of : Held → Table
 table_of h = record { holds = λ V u m. holds_in (at h.units u) V m; standing = standing_of h.works }
 
 -- each unit that a work holds is among the work's, and each unit has a work once
-pub record IsSound (h : Held) : Type 0 where
+pub record IsSoundTable (h : Held) : Type 0 where
   pub listed : (V : WorkId) (u : LockUnit) → is_among (at h.units u) V ≡ true → is_unit (units_of h.works V) u ≡ true
   pub once : (u : LockUnit) → each_once (at h.units u) ≡ true

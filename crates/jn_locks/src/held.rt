@@ -10,7 +10,7 @@ ghost use Rattle.jn_locks.specs.Asked as asked;
 ghost use Rattle.jn_locks.specs.Holders.{is_among, without};
 ghost use Rattle.jn_locks.specs.Loops as loops;
 ghost use Rattle.jn_locks.specs.Tables as tables;
-ghost use Rattle.jn_locks.specs.Tables.{IsSound, table_of};
+ghost use Rattle.jn_locks.specs.Tables.{IsSoundTable, table_of};
 
 use crate::holders::modes_of;
 use crate::modes::committed;
@@ -32,7 +32,7 @@ impl Held {
     pub(crate) fn new(alloc: Global) -> Held
         ensures holds { (V : WorkId) (u : LockUnit) (m : Mode) → (table_of result).holds V u m ≡ false }
         ensures standing { (V : WorkId) → (table_of result).standing V ≡ None }
-        ensures sound_after { IsSound result }
+        ensures sound_after { IsSoundTable result }
     {
         Held {
             units: Units::new(alloc),
@@ -56,10 +56,10 @@ impl Held {
     fn add(&mut self, work: WorkId, want: Want)
         requires has_place { (is_among (tables.at self.old.units want.unit) work || tables.has_room_at self.old.units want.unit) ≡ true }
         requires has_room { 0 < tables.room_of self.old.works work }
-        requires sound { IsSound self.old }
+        requires sound { IsSoundTable self.old }
         ensures holds { (V : WorkId) (u : LockUnit) (m : Mode) → (table_of self.new).holds V u m ≡ ((table_of self.old).holds V u m || (work_eq work V && (locks.unit_eq want.unit u && locks.mode_eq want.mode m))) }
         ensures standing { (V : WorkId) → (table_of self.new).standing V ≡ (table_of self.old).standing V }
-        ensures sound_after { IsSound self.new }
+        ensures sound_after { IsSoundTable self.new }
         ensures here { is_among (tables.at self.new.units want.unit) work ≡ true }
         ensures still { (u : LockUnit) → (is_among (tables.at self.old.units u) work || tables.has_room_at self.old.units u) ≡ true → (is_among (tables.at self.new.units u) work || tables.has_room_at self.new.units u) ≡ true }
         ensures room { tables.room_of self.old.works work ≤ tables.room_of self.new.works work + 1 }
@@ -74,10 +74,10 @@ impl Held {
     fn add_all(&mut self, work: WorkId, wants: &[Want])
         requires has_place { (u : LockUnit) → asked.is_wanted_unit wants.now u ≡ true → (is_among (tables.at self.old.units u) work || tables.has_room_at self.old.units u) ≡ true }
         requires has_room { length wants.now ≤ tables.room_of self.old.works work }
-        requires sound { IsSound self.old }
+        requires sound { IsSoundTable self.old }
         ensures holds { (V : WorkId) (u : LockUnit) (m : Mode) → (table_of self.new).holds V u m ≡ ((table_of self.old).holds V u m || (work_eq work V && locks.wanted wants.now u m)) }
         ensures standing { (V : WorkId) → (table_of self.new).standing V ≡ (table_of self.old).standing V }
-        ensures sound_after { IsSound self.new }
+        ensures sound_after { IsSoundTable self.new }
     {
         for want in wants {
             self.add(work, *want);
@@ -87,11 +87,11 @@ impl Held {
     /// Commit locks in place of those for intention-write, at units that the work holds.
     fn turn(&mut self, work: WorkId, wants: &[Want])
         requires has_place { (u : LockUnit) → asked.is_wanted_unit wants.now u ≡ true → is_among (tables.at self.old.units u) work ≡ true }
-        requires sound { IsSound self.old }
+        requires sound { IsSoundTable self.old }
         ensures holds { (V : WorkId) (u : LockUnit) (m : Mode) → (table_of self.new).holds V u m ≡
             (if work_eq work V && asked.is_wanted_unit wants.now u then asked.committed ((table_of self.old).holds work) u m else (table_of self.old).holds V u m) }
         ensures works { self.new.works ≡ self.old.works }
-        ensures sound_after { IsSound self.new }
+        ensures sound_after { IsSoundTable self.new }
     {
         for want in wants {
             let modes = committed(modes_of(self.units.at(want.unit), work));
@@ -101,9 +101,9 @@ impl Held {
 
     /// Forgets a work.
     pub(crate) fn release(&mut self, work: WorkId)
-        requires { IsSound self.old }
+        requires { IsSoundTable self.old }
         ensures released { asked.Releases (table_of self.old) work (table_of self.new) }
-        ensures sound_after { IsSound self.new }
+        ensures sound_after { IsSoundTable self.new }
     {
         if let Some(units) = self.works.remove(work) {
             drop_units(&mut self.units, work, &units);
@@ -112,10 +112,10 @@ impl Held {
 
     /// Forgets the broken works.
     fn break_all(&mut self, broken: &[Broken])
-        requires { IsSound self.old }
+        requires { IsSoundTable self.old }
         ensures holds { (V : WorkId) (u : LockUnit) (m : Mode) → (table_of self.new).holds V u m ≡ (if asked.is_broken broken.now V then false else (table_of self.old).holds V u m) }
         ensures standing { (V : WorkId) → (table_of self.new).standing V ≡ (if asked.is_broken broken.now V then None else (table_of self.old).standing V) }
-        ensures sound_after { IsSound self.new }
+        ensures sound_after { IsSoundTable self.new }
     {
         for b in broken {
             self.release(b.work);
@@ -129,11 +129,11 @@ impl Held {
         work: WorkId,
         wants: &[Want],
     ) -> Result<Vec<Broken>, LockFault>
-        requires { IsSound self.old }
+        requires { IsSoundTable self.old }
         ensures granted { IfOk result (λ v. asked.Asks (table_of self.old) work (locks.wanted wants.now) v.items (table_of self.new)) }
         ensures refused { IfErr result (asked.IsRefusal (table_of self.old) work (locks.wanted wants.now)) }
         ensures unchanged { OnErr result (table_of self.new ≡ table_of self.old) }
-        ensures sound_after { IsSound self.new }
+        ensures sound_after { IsSoundTable self.new }
     {
         let broken = self.clear(alloc, work, wants)?;
         self.make_room(alloc, wants)?;
@@ -145,11 +145,11 @@ impl Held {
 
     /// Turns the work's locks for intention-write into commit locks, or changes nothing.
     pub(crate) fn commit(&mut self, alloc: Global, work: WorkId) -> Result<Vec<Broken>, LockFault>
-        requires { IsSound self.old }
+        requires { IsSoundTable self.old }
         ensures granted { IfOk result (λ v. asked.Commits (table_of self.old) work (locks.commit_wants (table_of self.old) work) v.items (table_of self.new)) }
         ensures refused { IfErr result (asked.IsRefusal (table_of self.old) work (locks.commit_wants (table_of self.old) work)) }
         ensures unchanged { OnErr result (table_of self.new ≡ table_of self.old) }
-        ensures sound_after { IsSound self.new }
+        ensures sound_after { IsSoundTable self.new }
     {
         let wants = self.commit_wants(alloc, work)?;
         let broken = self.clear(alloc, work, &wants)?;
@@ -168,10 +168,10 @@ impl Held {
         commits: &[LockUnit],
         reads: &[LockUnit],
     ) -> Result<(), AllocError>
-        requires { IsSound self.old }
+        requires { IsSoundTable self.old }
         ensures rebuilt { OnOk result (asked.Rebuilds (table_of self.old) work (asked.rebuilt commits.now reads.now) (table_of self.new)) }
         ensures unchanged { OnErr result (table_of self.new ≡ table_of self.old) }
-        ensures sound_after { IsSound self.new }
+        ensures sound_after { IsSoundTable self.new }
     {
         let wants = unit_wants(alloc, commits, reads)?;
         self.make_room(alloc, &wants)?;

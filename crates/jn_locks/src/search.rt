@@ -8,7 +8,7 @@ ghost use Rattle.jn_locks.specs.Locks as locks;
 ghost use Rattle.jn_locks.specs.Loops as loops;
 ghost use Rattle.jn_locks.specs.Asked as asked;
 ghost use Rattle.jn_locks.specs.Tables as tables;
-ghost use Rattle.jn_locks.specs.Tables.{IsSound};
+ghost use Rattle.jn_locks.specs.Tables.{IsSoundTable};
 
 use crate::broken::add_broken;
 use crate::held::Held;
@@ -188,7 +188,7 @@ impl Held {
 
     /// Whether nothing stands in the way of commit locks in place of those for intention-write.
     pub(crate) fn test_commit(&self, work: WorkId) -> Result<(), LockFault>
-        requires { IsSound self.now }
+        requires { IsSoundTable self.now }
         ensures { let t = tables.table_of self.now in
             MatchResult result (λ _. asked.NoConflict t work (locks.commit_wants t work)) (asked.IsConflictFault t work (locks.commit_wants t work)) }
     {

@@ -5,8 +5,8 @@ ghost use Rattle.jn_base.specs.declared.names.WorkId.{WorkId};
 ghost use Rattle.jn_base.specs.declared.names.LockUnit.{LockUnit};
 ghost use Rattle.jn_locks.specs.declared.words.Mode.{Mode};
 ghost use Rattle.jn_locks.specs.Locks.{wanted, commit_wants, IsCompatible};
-ghost use Rattle.jn_locks.specs.Asked.{Asks, Commits, Rebuilds, Releases, Exposes, Fits, NoConflict, IsRefusal, IsConflictFault, AreHolders, rebuilt};
-ghost use Rattle.jn_locks.specs.Tables.{table_of, IsSound};
+ghost use Rattle.jn_locks.specs.Asked.{Asks, Commits, Rebuilds, Releases, Exposes, LocksFit, NoConflict, IsRefusal, IsConflictFault, AreHolders, rebuilt};
+ghost use Rattle.jn_locks.specs.Tables.{table_of, IsSoundTable};
 
 use crate::held::Held;
 use crate::words::{Broken, LockFault, Mode, Want};
@@ -45,7 +45,7 @@ impl Granted {
 pub struct LockTable {
     held: Held,
     ghost compatible: { IsCompatible (table_of held) },
-    ghost sound: { IsSound held },
+    ghost sound: { IsSoundTable held },
 }
 
 impl LockTable {
@@ -98,7 +98,7 @@ impl LockTable {
         commits: &[LockUnit],
         reads: &[LockUnit],
     ) -> Result<(), AllocError>
-        requires { Fits (table self.old) work (rebuilt commits.now reads.now) }
+        requires { LocksFit (table self.old) work (rebuilt commits.now reads.now) }
         ensures rebuilt { OnOk result (Rebuilds (table self.old) work (rebuilt commits.now reads.now) (table self.new)) }
         ensures unchanged { OnErr result (table self.new ≡ table self.old) }
     {

@@ -24,7 +24,7 @@ pub(crate) struct Units {
 }
 
 fn place_of(unit: LockUnit) -> Place
-    ensures { result ≡ tables.place_of unit }
+    ensures { result ≡ tables.unit_place unit }
 {
     match unit {
         LockUnit::File(f) => (f.0, None),

@@ -60,7 +60,7 @@ impl Held {
         alloc: Global,
         unit: LockUnit,
     ) -> Result<Vec<(WorkId, Mode)>, AllocError>
-        requires { tables.IsSound self.now }
+        requires { tables.IsSoundTable self.now }
         ensures { IfOk result (λ v. asked.AreHolders (tables.table_of self.now) unit v.items) }
     {
         let mut locks = Vec::new(alloc);

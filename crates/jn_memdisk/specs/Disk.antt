@@ -13,13 +13,13 @@ abbrev pub half_of : Pages → ℕ
 half_of d = vec_len d.halves / 2
 
 -- a call at page p with this fault leaves this page there, and the others as it met them
-pub record Leaves (before : Pages) (p : ℕ) (kind : Option FaultKind) (page : PageState) (after : Pages) : Type 0 where
+pub record LeavesPages (before : Pages) (p : ℕ) (kind : Option FaultKind) (page : PageState) (after : Pages) : Type 0 where
   pub count : vec_len after.halves ≡ vec_len before.halves
   pub page_is : pages_of after p ≡ page
   pub others : (q : ℕ) → q ≢ p → pages_of after q ≡ met_at (half_of before) (pages_of before) kind q
 
 -- these are the device's pages
-pub record Holds (halves : List Half) (s : DeviceState) : Type 0 where
+pub record HasHalves (halves : List Half) (s : DeviceState) : Type 0 where
   pub count : length halves ≡ s.count
   pub good : (q : ℕ) → q < s.count → (s.pages q).good ≡ (half_at halves q).good
   pub bytes : (q : ℕ) → q < s.count → (s.pages q).bytes ≡ (half_at halves q).bytes

@@ -4,8 +4,8 @@ use Rattle.jn_device.specs.declared.Half.{Half}
 use Rattle.jn_device.specs.Device.{PageState}
 use Rattle.jn_memdisk.specs.declared.call.Marks.{Marks}
 
-abbrev pub page_of : Half → Marks → PageState
-page_of half marks = record { good = half.good; bytes = half.bytes; missed = marks.missed; fails = marks.fails }
+abbrev pub page_state : Half → Marks → PageState
+page_state half marks = record { good = half.good; bytes = half.bytes; missed = marks.missed; fails = marks.fails }
 
 -- what stands past the end
 abbrev pub half_at : List Half → ℕ → Half
@@ -15,7 +15,7 @@ abbrev pub marks_at : List Marks → ℕ → Marks
 marks_at marks q = slice_index_or marks q (record { missed = false; fails = 0 })
 
 abbrev pub pages_at : List Half → List Marks → ℕ → PageState
-pages_at halves marks q = page_of (half_at halves q) (marks_at marks q)
+pages_at halves marks q = page_state (half_at halves q) (marks_at marks q)
 
 abbrev pub AllFew : List Marks → Type 0
 AllFew marks = (q : ℕ) → (marks_at marks q).fails ≤ 3

@@ -2,7 +2,7 @@
 ghost use Rattle.std.specs.Prelude.{◌≡◌, ◌≤◌, ◌<◌, ◌+◌, ℕ, if◌then◌else◌, not, true, false};
 ghost use Rattle.jn_device.specs.Calls as calls;
 ghost use Rattle.jn_device.specs.Device as device;
-ghost use Rattle.jn_memdisk.specs.Pages.{page_of};
+ghost use Rattle.jn_memdisk.specs.Pages.{page_state};
 ghost use Rattle.jn_phys.specs.Answers.{look_read};
 
 use jn_base::{FaultKind, Page, Stopped};
@@ -17,7 +17,7 @@ pub(crate) struct Marks {
 
 /// What becomes of a get of this page.
 pub(crate) fn got_under(half: &Half, marks: Marks, kind: Option<FaultKind>) -> GetOutcome
-    ensures { result ≡ calls.got_under (page_of half.now marks) kind }
+    ensures { result ≡ calls.got_under (page_state half.now marks) kind }
 {
     match kind {
         Some(FaultKind::Soft) if half.good && marks.fails < 3 => GetOutcome::Misreads,
@@ -34,7 +34,7 @@ pub(crate) fn put_under(
     partner: bool,
     kind: Option<FaultKind>,
 ) -> PutOutcome
-    ensures { result ≡ calls.put_under (page_of half.now marks) partner kind }
+    ensures { result ≡ calls.put_under (page_state half.now marks) partner kind }
 {
     match kind {
         Some(FaultKind::Null) if marks.fails < 3 => PutOutcome::Misses,
@@ -48,7 +48,7 @@ pub(crate) fn put_under(
 
 /// The answer to a get: whether the page is good, if it isn't stopped.
 pub(crate) fn answer_got(outcome: GetOutcome, half: &Half, marks: Marks) -> Result<bool, Stopped>
-    ensures { look_read result half.now.bytes ≡ calls.answer_got outcome (page_of half.now marks) }
+    ensures { look_read result half.now.bytes ≡ calls.answer_got outcome (page_state half.now marks) }
 {
     let _marks = marks;
     match outcome {
@@ -61,7 +61,7 @@ pub(crate) fn answer_got(outcome: GetOutcome, half: &Half, marks: Marks) -> Resu
 /// The marks of a page after a get.
 pub(crate) fn leave_got(outcome: GetOutcome, half: &Half, marks: &mut Marks)
     requires { outcome ≡ GetOutcome.Misreads → marks.old.fails < 3 }
-    ensures { page_of half.now marks.new ≡ calls.page_got outcome (page_of half.now marks.old) }
+    ensures { page_state half.now marks.new ≡ calls.page_got outcome (page_state half.now marks.old) }
 {
     match outcome {
         GetOutcome::Reads | GetOutcome::ReadsAndStops => {
@@ -78,7 +78,7 @@ pub(crate) fn leave_got(outcome: GetOutcome, half: &Half, marks: &mut Marks)
 pub(crate) fn leave_put(outcome: PutOutcome, page: &Page, half: &mut Half, marks: &mut Marks)
     requires misses { outcome ≡ PutOutcome.Misses → marks.old.fails < 3 }
     requires spoils { outcome ≡ PutOutcome.Spoils → marks.old.fails < 3 }
-    ensures { page_of half.new marks.new ≡ calls.page_put outcome page.now (page_of half.old marks.old) }
+    ensures { page_state half.new marks.new ≡ calls.page_put outcome page.now (page_state half.old marks.old) }
 {
     match outcome {
         PutOutcome::Unwritten => {}

@@ -25,7 +25,7 @@ pub struct MemDisk {
 }
 
 impl MemDisk {
-    ghost use Rattle.jn_memdisk.specs.Disk.{Holds, IsNew, IsBlank};
+    ghost use Rattle.jn_memdisk.specs.Disk.{HasHalves, IsNew, IsBlank};
 
     /// So many good pages of zeros, with power.
     pub fn new(alloc: Global, count: u32) -> Result<Self, AllocError>
@@ -41,7 +41,7 @@ impl MemDisk {
     pub fn from_pages(alloc: Global, pages: Vec<Half>) -> Result<Self, AllocError>
         requires even { 2 * (vec_len pages / 2) ≡ vec_len pages }
         requires few { vec_len pages < 2 ^ 32 }
-        ensures holds { IfOk result (λ d. Holds pages.items (⟦<MemDisk as PhysDisk>⟧.state d)) }
+        ensures holds { IfOk result (λ d. HasHalves pages.items (⟦<MemDisk as PhysDisk>⟧.state d)) }
         ensures new { IfOk result (λ d. IsNew (⟦<MemDisk as PhysDisk>⟧.state d)) }
     {
         Ok(MemDisk {
@@ -56,14 +56,14 @@ impl MemDisk {
 
     /// The pages, good or bad, with the bytes that they keep.
     pub fn pages(&self) -> &[Half]
-        ensures { Holds result.now (⟦<MemDisk as PhysDisk>⟧.state self.now) }
+        ensures { HasHalves result.now (⟦<MemDisk as PhysDisk>⟧.state self.now) }
     {
         &self.pages.halves
     }
 
     /// The pages, good or bad, with the bytes that they keep.
     pub fn into_pages(self) -> Vec<Half>
-        ensures { Holds result.items (⟦<MemDisk as PhysDisk>⟧.state self) }
+        ensures { HasHalves result.items (⟦<MemDisk as PhysDisk>⟧.state self) }
     {
         self.pages.halves
     }

@@ -55,7 +55,7 @@ fn new_marks(alloc: Global, count: usize) -> Result<Vec<Marks>, AllocError>
 }
 
 impl Pages {
-    ghost use Rattle.jn_memdisk.specs.Disk.{pages_of, half_of, Leaves};
+    ghost use Rattle.jn_memdisk.specs.Disk.{pages_of, half_of, LeavesPages};
 
     pub(crate) fn new(alloc: Global, halves: Vec<Half>) -> Result<Self, AllocError>
         requires even { 2 * (vec_len halves / 2) ≡ vec_len halves }
@@ -216,7 +216,7 @@ impl Pages {
     pub(crate) fn read(&mut self, p: u32) -> bool
         requires { p < vec_len self.old.halves }
         ensures good { result ≡ (pages_of self.old p).good }
-        ensures leaves { Leaves self.old p None (calls.rested_by_read (pages_of self.old p)) self.new }
+        ensures leaves { LeavesPages self.old p None (calls.rested_by_read (pages_of self.old p)) self.new }
     {
         let good = self.halves[p as usize].good;
         let marks = &mut self.marks[p as usize];
@@ -229,7 +229,7 @@ impl Pages {
     /// A put at page p that meets no fault.
     pub(crate) fn write(&mut self, p: u32, page: &Page)
         requires { p < vec_len self.old.halves }
-        ensures { Leaves self.old p None (calls.page_put PutOutcome.Writes page.now (pages_of self.old p)) self.new }
+        ensures { LeavesPages self.old p None (calls.page_put PutOutcome.Writes page.now (pages_of self.old p)) self.new }
     {
         let half = &mut self.halves[p as usize];
         half.good = true;
@@ -248,7 +248,7 @@ impl Pages {
         requires within { Within (vec_len self.old.halves) kind }
         requires outcome { outcome ≡ calls.got_under (pages_of self.old p) kind }
         ensures answer { look_read result (pages_of self.new p).bytes ≡ calls.answer_got outcome (device.met_at (half_of self.old) (pages_of self.old) kind p) }
-        ensures leaves { Leaves self.old p kind (calls.page_got outcome (device.met_at (half_of self.old) (pages_of self.old) kind p)) self.new }
+        ensures leaves { LeavesPages self.old p kind (calls.page_got outcome (device.met_at (half_of self.old) (pages_of self.old) kind p)) self.new }
     {
         self.meet(kind);
         let half = &self.halves[p as usize];
@@ -263,7 +263,7 @@ impl Pages {
         requires here { p < vec_len self.old.halves }
         requires within { Within (vec_len self.old.halves) kind }
         requires outcome { outcome ≡ calls.put_under (pages_of self.old p) (pages_of self.old (device.partner_at (half_of self.old) p)).good kind }
-        ensures leaves { Leaves self.old p kind (calls.page_put outcome page.now (device.met_at (half_of self.old) (pages_of self.old) kind p)) self.new }
+        ensures leaves { LeavesPages self.old p kind (calls.page_put outcome page.now (device.met_at (half_of self.old) (pages_of self.old) kind p)) self.new }
     {
         self.meet(kind);
         let half = &mut self.halves[p as usize];

@@ -15,7 +15,7 @@ use Rattle.jn_base.specs.Names.{file_eq}
 use Rattle.jn_base.proofs.Tells.{file_tells}
 use Rattle.jn_order.specs.Files.{Files, change}
 use Rattle.jn_records.specs.declared.intention.Intention.{Intention}
-use Rattle.jn_records.specs.NetLists.{block_of, blocks_below, list_change, comes_behind, adds, length_with, place_of, stands_before, in_order, InOrder, Plain, AllPlain, entry, First, Kept, MadeFresh, TakenAway, CutFrom, FileNet, as_first, as_put, net_of, added, net_change, stays_at, stays, seen_block}
+use Rattle.jn_records.specs.NetLists.{block_of, blocks_below, list_change, comes_behind, adds, length_with, intention_place, stands_before, in_order, InOrder, Plain, AllPlain, entry, First, Kept, MadeFresh, TakenAway, CutFrom, FileNet, as_first, as_put, net_of, added, net_change, stays_at, stays, seen_block}
 use Rattle.jn_records.specs.NetEdits.{there_by, seen_by, cut_again, intention_for, front, in_its_place, with_intention}
 use Rattle.jn_records.proofs.NetLemmas.{list-net}
 
@@ -62,11 +62,11 @@ length-placed : (new : Intention) (list : List Intention) → length (placed new
 length-placed new [] = refl
 length-placed new (i ∷ list) = grind (arith, length-placed new list)
 
-entry-placed : (new : Intention) (list : List Intention) (f : FileNo) (k : ℕ) → entry (placed new list) f k ≡ (if file_eq new.file f && nat_eq (place_of new) k then Some new else entry list f k)
+entry-placed : (new : Intention) (list : List Intention) (f : FileNo) (k : ℕ) → entry (placed new list) f k ≡ (if file_eq new.file f && nat_eq (intention_place new) k then Some new else entry list f k)
 entry-placed new [] f k = refl
 entry-placed new (i ∷ list) f k = grind (arith, nat_tests, entry-placed new list f k)
 
-order-placed : (last : Option Intention) (new : Intention) (list : List Intention) → in_order last list ≡ true → comes_behind last new ≡ true → entry list new.file (place_of new) ≡ None → in_order last (placed new list) ≡ true
+order-placed : (last : Option Intention) (new : Intention) (list : List Intention) → in_order last list ≡ true → comes_behind last new ≡ true → entry list new.file (intention_place new) ≡ None → in_order last (placed new list) ≡ true
 order-placed last new [] h b none = grind arith
 order-placed last new (i ∷ list) h b none = grind (arith, nat_tests, order-placed (Some i) new list)
 
@@ -120,25 +120,25 @@ entry-filter op (i ∷ list) f k = by (stays op i) refl (file_tells i.file f) (e
   where
     by : (b : Bool) → stays op i ≡ b → ((file_eq i.file f ≡ true) × (i.file ≡ f)) ⊎ ((file_eq i.file f ≡ false) × (i.file ≢ f)) → entry (filter (λ (i : Intention). stays op i) list) f k ≡ (if stays_at op f k then entry list f k else None)
         → entry (if b then i ∷ filter (λ (i : Intention). stays op i) list else filter (λ (i : Intention). stays op i) list) f k ≡ (if stays_at op f k then entry (i ∷ list) f k else None)
-    by true e (inl p) h = grind (arith, nat_tests, ap (λ g. stays_at op g (place_of i)) p.1)
+    by true e (inl p) h = grind (arith, nat_tests, ap (λ g. stays_at op g (intention_place i)) p.1)
     by true e (inr p) h = grind (arith, nat_tests)
-    by false e (inl p) h = grind (arith, nat_tests, ap (λ g. stays_at op g (place_of i)) p.1)
+    by false e (inl p) h = grind (arith, nat_tests, ap (λ g. stays_at op g (intention_place i)) p.1)
     by false e (inr p) h = grind (arith, nat_tests)
 
 -- ---- one more operation
 
-replaces : (list : List Intention) (op : Op) (new : Intention) → intention_for list op ≡ Some new → stays_at op new.file (place_of new) ≡ false
-replaces list (Create f) new e = subst (λ (i : Intention). stays_at (Create f) i.file (place_of i) ≡ false) (same_Some _ _ e) (grind (arith, nat_tests))
-replaces list (Remove f) new e = subst (λ (i : Intention). stays_at (Remove f) i.file (place_of i) ≡ false) (same_Some _ _ e) (grind (arith, nat_tests))
-replaces list (CutBlocks f n) new e = subst (λ (i : Intention). stays_at (CutBlocks f n) i.file (place_of i) ≡ false) (same_Some _ _ e) (by (as_first (entry list f zero)))
+replaces : (list : List Intention) (op : Op) (new : Intention) → intention_for list op ≡ Some new → stays_at op new.file (intention_place new) ≡ false
+replaces list (Create f) new e = subst (λ (i : Intention). stays_at (Create f) i.file (intention_place i) ≡ false) (same_Some _ _ e) (grind (arith, nat_tests))
+replaces list (Remove f) new e = subst (λ (i : Intention). stays_at (Remove f) i.file (intention_place i) ≡ false) (same_Some _ _ e) (grind (arith, nat_tests))
+replaces list (CutBlocks f n) new e = subst (λ (i : Intention). stays_at (CutBlocks f n) i.file (intention_place i) ≡ false) (same_Some _ _ e) (by (as_first (entry list f zero)))
   where
-    by : (x : First) → stays_at (CutBlocks f n) (cut_again x f n).file (place_of (cut_again x f n)) ≡ false
+    by : (x : First) → stays_at (CutBlocks f n) (cut_again x f n).file (intention_place (cut_again x f n)) ≡ false
     by Kept = grind (arith, nat_tests)
     by MadeFresh = grind (arith, nat_tests)
     by TakenAway = grind (arith, nat_tests)
     by (CutFrom m) = grind (arith, nat_tests)
 replaces list (Read f p) new e = absurd (grind arith)
-replaces list (Write f p bytes) new e = subst (λ (i : Intention). stays_at (Write f p bytes) i.file (place_of i) ≡ false) (same_Some _ _ e) (grind (arith, nat_tests))
+replaces list (Write f p bytes) new e = subst (λ (i : Intention). stays_at (Write f p bytes) i.file (intention_place i) ≡ false) (same_Some _ _ e) (grind (arith, nat_tests))
 
 is_plain : (list : List Intention) (op : Op) (new : Intention) → intention_for list op ≡ Some new → Plain new.what new.block new.bytes
 is_plain list (Create f) new e = subst (λ (i : Intention). Plain i.what i.block i.bytes) (same_Some _ _ e) (refl, refl)
@@ -153,16 +153,16 @@ is_plain list (CutBlocks f n) new e = subst (λ (i : Intention). Plain i.what i.
 is_plain list (Read f p) new e = absurd (grind arith)
 is_plain list (Write f p bytes) new e = subst (λ (i : Intention). Plain i.what i.block i.bytes) (same_Some _ _ e) tt
 
-entry-edited : (op : Op) (list : List Intention) (new : Intention) (f : FileNo) (k : ℕ) → entry (with_intention op list new) f k ≡ (if file_eq new.file f && nat_eq (place_of new) k then Some new else if stays_at op f k then entry list f k else None)
+entry-edited : (op : Op) (list : List Intention) (new : Intention) (f : FileNo) (k : ℕ) → entry (with_intention op list new) f k ≡ (if file_eq new.file f && nat_eq (intention_place new) k then Some new else if stays_at op f k then entry list f k else None)
 entry-edited op list new f k =
     ap (λ (l : List Intention). entry l f k) (placed-is new (filter (λ (i : Intention). stays op i) list))
     ∙ entry-placed new (filter (λ (i : Intention). stays op i) list) f k
-    ∙ ap (λ (r : Option Intention). if file_eq new.file f && nat_eq (place_of new) k then Some new else r) (entry-filter op list f k)
+    ∙ ap (λ (r : Option Intention). if file_eq new.file f && nat_eq (intention_place new) k then Some new else r) (entry-filter op list f k)
 
 pub edited-in_order : (op : Op) (list : List Intention) (new : Intention) → intention_for list op ≡ Some new → InOrder list → InOrder (with_intention op list new)
 edited-in_order op list new e h =
     let kept = filter (λ (i : Intention). stays op i) list in
-    let none : entry kept new.file (place_of new) ≡ None = entry-filter op list new.file (place_of new) ∙ ap (λ (b : Bool). if b then entry list new.file (place_of new) else None) (replaces list op new e) in
+    let none : entry kept new.file (intention_place new) ≡ None = entry-filter op list new.file (intention_place new) ∙ ap (λ (b : Bool). if b then entry list new.file (intention_place new) else None) (replaces list op new e) in
     subst InOrder (sym (placed-is new kept)) (record {
       order = order-placed None new kept (order-filter (λ (i : Intention). stays op i) None list h.order) refl none;
       plain = plain-placed new kept (is_plain list op new e) (plain-filter (λ (i : Intention). stays op i) list h.plain);
@@ -200,33 +200,33 @@ unchanged-net (Read f p) list e = fun_ext (λ g. at g)
     at : (g : FileNo) → net_of list g ≡ added (net_of list) (Read f p) g
     at g = grind arith
 
-first-edited : (op : Op) (list : List Intention) (new : Intention) (f : FileNo) → intention_for list op ≡ Some new → as_first (if file_eq new.file f && nat_eq (place_of new) zero then Some new else if stays_at op f zero then entry list f zero else None) ≡ (added (net_of list) op f).first
-first-edited (Create g) list new f e = subst (λ (i : Intention). as_first (if file_eq i.file f && nat_eq (place_of i) zero then Some i else if stays_at (Create g) f zero then entry list f zero else None) ≡ (added (net_of list) (Create g) f).first) (same_Some _ _ e) (grind (arith, nat_tests))
-first-edited (Remove g) list new f e = subst (λ (i : Intention). as_first (if file_eq i.file f && nat_eq (place_of i) zero then Some i else if stays_at (Remove g) f zero then entry list f zero else None) ≡ (added (net_of list) (Remove g) f).first) (same_Some _ _ e) (grind (arith, nat_tests))
-first-edited (CutBlocks g n) list new f e = subst (λ (i : Intention). as_first (if file_eq i.file f && nat_eq (place_of i) zero then Some i else if stays_at (CutBlocks g n) f zero then entry list f zero else None) ≡ (added (net_of list) (CutBlocks g n) f).first) (same_Some _ _ e)
+first-edited : (op : Op) (list : List Intention) (new : Intention) (f : FileNo) → intention_for list op ≡ Some new → as_first (if file_eq new.file f && nat_eq (intention_place new) zero then Some new else if stays_at op f zero then entry list f zero else None) ≡ (added (net_of list) op f).first
+first-edited (Create g) list new f e = subst (λ (i : Intention). as_first (if file_eq i.file f && nat_eq (intention_place i) zero then Some i else if stays_at (Create g) f zero then entry list f zero else None) ≡ (added (net_of list) (Create g) f).first) (same_Some _ _ e) (grind (arith, nat_tests))
+first-edited (Remove g) list new f e = subst (λ (i : Intention). as_first (if file_eq i.file f && nat_eq (intention_place i) zero then Some i else if stays_at (Remove g) f zero then entry list f zero else None) ≡ (added (net_of list) (Remove g) f).first) (same_Some _ _ e) (grind (arith, nat_tests))
+first-edited (CutBlocks g n) list new f e = subst (λ (i : Intention). as_first (if file_eq i.file f && nat_eq (intention_place i) zero then Some i else if stays_at (CutBlocks g n) f zero then entry list f zero else None) ≡ (added (net_of list) (CutBlocks g n) f).first) (same_Some _ _ e)
     (by (as_first (entry list g zero)) refl)
   where
-    by : (x : First) → as_first (entry list g zero) ≡ x → as_first (if file_eq (cut_again x g n).file f && nat_eq (place_of (cut_again x g n)) zero then Some (cut_again x g n) else if stays_at (CutBlocks g n) f zero then entry list f zero else None) ≡ (added (net_of list) (CutBlocks g n) f).first
+    by : (x : First) → as_first (entry list g zero) ≡ x → as_first (if file_eq (cut_again x g n).file f && nat_eq (intention_place (cut_again x g n)) zero then Some (cut_again x g n) else if stays_at (CutBlocks g n) f zero then entry list f zero else None) ≡ (added (net_of list) (CutBlocks g n) f).first
     by Kept h = grind (arith, nat_tests, file_tells)
     by MadeFresh h = grind (arith, nat_tests, file_tells)
     by TakenAway h = grind (arith, nat_tests, file_tells)
     by (CutFrom m) h = grind (arith, nat_tests, file_tells)
 first-edited (Read g p) list new f e = absurd (grind arith)
-first-edited (Write g p bytes) list new f e = subst (λ (i : Intention). as_first (if file_eq i.file f && nat_eq (place_of i) zero then Some i else if stays_at (Write g p bytes) f zero then entry list f zero else None) ≡ (added (net_of list) (Write g p bytes) f).first) (same_Some _ _ e) (grind (arith, nat_tests))
+first-edited (Write g p bytes) list new f e = subst (λ (i : Intention). as_first (if file_eq i.file f && nat_eq (intention_place i) zero then Some i else if stays_at (Write g p bytes) f zero then entry list f zero else None) ≡ (added (net_of list) (Write g p bytes) f).first) (same_Some _ _ e) (grind (arith, nat_tests))
 
-put-edited : (op : Op) (list : List Intention) (new : Intention) (f : FileNo) (q : BlockNo) → intention_for list op ≡ Some new → as_put (if file_eq new.file f && nat_eq (place_of new) (suc q.0) then Some new else if stays_at op f (suc q.0) then entry list f (suc q.0) else None) ≡ (added (net_of list) op f).puts q
-put-edited (Create g) list new f q e = subst (λ (i : Intention). as_put (if file_eq i.file f && nat_eq (place_of i) (suc q.0) then Some i else if stays_at (Create g) f (suc q.0) then entry list f (suc q.0) else None) ≡ (added (net_of list) (Create g) f).puts q) (same_Some _ _ e) (grind (arith, nat_tests))
-put-edited (Remove g) list new f q e = subst (λ (i : Intention). as_put (if file_eq i.file f && nat_eq (place_of i) (suc q.0) then Some i else if stays_at (Remove g) f (suc q.0) then entry list f (suc q.0) else None) ≡ (added (net_of list) (Remove g) f).puts q) (same_Some _ _ e) (grind (arith, nat_tests))
-put-edited (CutBlocks g n) list new f q e = subst (λ (i : Intention). as_put (if file_eq i.file f && nat_eq (place_of i) (suc q.0) then Some i else if stays_at (CutBlocks g n) f (suc q.0) then entry list f (suc q.0) else None) ≡ (added (net_of list) (CutBlocks g n) f).puts q) (same_Some _ _ e)
+put-edited : (op : Op) (list : List Intention) (new : Intention) (f : FileNo) (q : BlockNo) → intention_for list op ≡ Some new → as_put (if file_eq new.file f && nat_eq (intention_place new) (suc q.0) then Some new else if stays_at op f (suc q.0) then entry list f (suc q.0) else None) ≡ (added (net_of list) op f).puts q
+put-edited (Create g) list new f q e = subst (λ (i : Intention). as_put (if file_eq i.file f && nat_eq (intention_place i) (suc q.0) then Some i else if stays_at (Create g) f (suc q.0) then entry list f (suc q.0) else None) ≡ (added (net_of list) (Create g) f).puts q) (same_Some _ _ e) (grind (arith, nat_tests))
+put-edited (Remove g) list new f q e = subst (λ (i : Intention). as_put (if file_eq i.file f && nat_eq (intention_place i) (suc q.0) then Some i else if stays_at (Remove g) f (suc q.0) then entry list f (suc q.0) else None) ≡ (added (net_of list) (Remove g) f).puts q) (same_Some _ _ e) (grind (arith, nat_tests))
+put-edited (CutBlocks g n) list new f q e = subst (λ (i : Intention). as_put (if file_eq i.file f && nat_eq (intention_place i) (suc q.0) then Some i else if stays_at (CutBlocks g n) f (suc q.0) then entry list f (suc q.0) else None) ≡ (added (net_of list) (CutBlocks g n) f).puts q) (same_Some _ _ e)
     (by (as_first (entry list g zero)))
   where
-    by : (x : First) → as_put (if file_eq (cut_again x g n).file f && nat_eq (place_of (cut_again x g n)) (suc q.0) then Some (cut_again x g n) else if stays_at (CutBlocks g n) f (suc q.0) then entry list f (suc q.0) else None) ≡ (added (net_of list) (CutBlocks g n) f).puts q
+    by : (x : First) → as_put (if file_eq (cut_again x g n).file f && nat_eq (intention_place (cut_again x g n)) (suc q.0) then Some (cut_again x g n) else if stays_at (CutBlocks g n) f (suc q.0) then entry list f (suc q.0) else None) ≡ (added (net_of list) (CutBlocks g n) f).puts q
     by Kept = grind (arith, nat_tests)
     by MadeFresh = grind (arith, nat_tests)
     by TakenAway = grind (arith, nat_tests)
     by (CutFrom m) = grind (arith, nat_tests)
 put-edited (Read g p) list new f q e = absurd (grind arith)
-put-edited (Write g p bytes) list new f q e = subst (λ (i : Intention). as_put (if file_eq i.file f && nat_eq (place_of i) (suc q.0) then Some i else if stays_at (Write g p bytes) f (suc q.0) then entry list f (suc q.0) else None) ≡ (added (net_of list) (Write g p bytes) f).puts q) (same_Some _ _ e) (grind (arith, nat_tests))
+put-edited (Write g p bytes) list new f q e = subst (λ (i : Intention). as_put (if file_eq i.file f && nat_eq (intention_place i) (suc q.0) then Some i else if stays_at (Write g p bytes) f (suc q.0) then entry list f (suc q.0) else None) ≡ (added (net_of list) (Write g p bytes) f).puts q) (same_Some _ _ e) (grind (arith, nat_tests))
 
 same_net : (a b : FileNet) → a.first ≡ b.first → ((q : BlockNo) → a.puts q ≡ b.puts q) → a ≡ b
 same_net a b e h = λ i. record { first = e i; puts = fun_ext h i }

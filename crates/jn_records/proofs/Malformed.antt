@@ -6,7 +6,7 @@ use Rattle.jn_records.specs.declared.head.Head.TheVariants.{Used}
 use Rattle.jn_records.specs.Heads.{head_page, within, used_at, head_at}
 use Rattle.jn_records.specs.Reading.{number_at, list_at}
 use Rattle.jn_records.specs.Malformed.{head_of_9, malformed_page, malformed_image}
-use Rattle.jn_records.specs.Sound.{head_bytes_of, HasOneHead, IsWhole}
+use Rattle.jn_records.specs.Sound.{head_bytes_of, HasOneHead, IsWholeHead}
 use Rattle.jn_records.specs.StablePages.{is_used, file_in}
 use Rattle.jn_records.proofs.Heads.{head_is_read}
 
@@ -26,7 +26,7 @@ begins-same i = by (nat_eq (1 + 0 + i) 1)
     by true = refl
     by false = refl
 
-pub first-head : IsWhole malformed_image 0
+pub first-head : IsWholeHead malformed_image 0
 first-head = (head_of_9, record { whole = refl; within_leaves = refl }, omega arith, refl)
 
 abbrev the-read : Head
@@ -39,7 +39,7 @@ read-so = refl
 some-head : (a b : Head) → Some a ≡ Some b → a ≡ b
 some-head a b e = cc
 
-pub no-head : IsWhole malformed_image 1 → ⊥
+pub no-head : IsWholeHead malformed_image 1 → ⊥
 no-head (h, is, fits, e) =
     let same = some-head the-read h (sym read-so ∙ head_is_read 0 malformed_page h (omega arith) is fits e) in
     true≢false (sym (subst (λ (z : Head). within 0 z ≡ true) (sym same) is.within_leaves))
@@ -47,7 +47,7 @@ no-head (h, is, fits, e) =
 pub one-head : (f : ℕ) → HasOneHead malformed_image f
 one-head f i j low lower whole wholly used its used' its' = first i low whole ∙ sym (first j lower wholly)
   where
-    first : (i : ℕ) → i < 2 → IsWhole malformed_image i → i ≡ 0
+    first : (i : ℕ) → i < 2 → IsWholeHead malformed_image i → i ≡ 0
     first zero h w = refl
     first (suc zero) h w = absurd (no-head w)
     first (suc (suc i)) h w = absurd (omega (arith, h))

@@ -14,7 +14,7 @@ use Rattle.jn_order.specs.Changes.{or_also, and_then}
 use Rattle.jn_records.specs.declared.intention.What.{What}
 use Rattle.jn_records.specs.declared.intention.What.TheVariants.{Fresh, Gone, Cut, Put}
 use Rattle.jn_records.specs.declared.intention.Intention.{Intention}
-use Rattle.jn_records.specs.NetLists.{list_change, place_of, in_order, entry, First, Kept, MadeFresh, TakenAway, CutFrom, Net, as_first, as_put, net_of, cut_first, added, first_file, first_block, put_or, net_change}
+use Rattle.jn_records.specs.NetLists.{list_change, intention_place, in_order, entry, First, Kept, MadeFresh, TakenAway, CutFrom, Net, as_first, as_put, net_of, cut_first, added, first_file, first_block, put_or, net_change}
 
 -- ---- one more operation
 
@@ -45,7 +45,7 @@ added-change net op = fun_ext (λ u. added-at net op u)
 -- ---- a list in order
 
 -- behind an intention stands none of its place or of one before it
-pub no_entry : (last : Intention) (list : List Intention) (f : FileNo) (k : ℕ) → in_order (Some last) list ≡ true → ((f.0 < last.file.0) ⊎ ((f.0 ≡ last.file.0) × (k ≤ place_of last))) → entry list f k ≡ None
+pub no_entry : (last : Intention) (list : List Intention) (f : FileNo) (k : ℕ) → in_order (Some last) list ≡ true → ((f.0 < last.file.0) ⊎ ((f.0 ≡ last.file.0) × (k ≤ intention_place last))) → entry list f k ≡ None
 no_entry last [] f k h b = refl
 no_entry last (i ∷ list) f k h b = grind (arith, nat_tests, no_entry i list f k)
 

@@ -75,11 +75,11 @@ abbrev pub place_by : What → BlockNo → ℕ
 place_by Put p = suc p.0
 place_by _ p = zero
 
-abbrev pub place_of : Intention → ℕ
-place_of i = place_by i.what i.block
+abbrev pub intention_place : Intention → ℕ
+intention_place i = place_by i.what i.block
 
 abbrev pub stands_before : Intention → Intention → Bool
-stands_before a b = nat_lt a.file.0 b.file.0 || (nat_eq a.file.0 b.file.0 && nat_lt (place_of a) (place_of b))
+stands_before a b = nat_lt a.file.0 b.file.0 || (nat_eq a.file.0 b.file.0 && nat_lt (intention_place a) (intention_place b))
 
 abbrev pub comes_behind : Option Intention → Intention → Bool
 comes_behind None i = true
@@ -128,7 +128,7 @@ Net = FileNo → FileNet
 -- the intention of a file at a place
 abbrev pub entry : List Intention → FileNo → ℕ → Option Intention
 entry [] f k = None
-entry (i ∷ list) f k = if file_eq i.file f && nat_eq (place_of i) k then Some i else entry list f k
+entry (i ∷ list) f k = if file_eq i.file f && nat_eq (intention_place i) k then Some i else entry list f k
 
 abbrev pub first_by : What → BlockNo → First
 first_by Fresh p = MadeFresh
@@ -218,7 +218,7 @@ stays_at (Read f p) g k = true
 stays_at (Write f p bytes) g k = not (file_eq f g && nat_eq k (suc p.0))
 
 abbrev pub stays : Op → Intention → Bool
-stays op i = stays_at op i.file (place_of i)
+stays op i = stays_at op i.file (intention_place i)
 
 -- how many intentions an operation adds
 abbrev pub adds : Op → ℕ

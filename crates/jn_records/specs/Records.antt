@@ -40,16 +40,16 @@ record_page r = padded (record_bytes r)
 -- ---- which records have a page
 
 -- the order of units: by file, a file before its blocks, then by block
-abbrev pub file_of : LockUnit → ℕ
-file_of (File f) = f.0
-file_of (Block f p) = f.0
+abbrev pub unit_file : LockUnit → ℕ
+unit_file (File f) = f.0
+unit_file (Block f p) = f.0
 
-abbrev pub place_of : LockUnit → ℕ
-place_of (File f) = 0
-place_of (Block f p) = p.0 + 1
+abbrev pub place_in_file : LockUnit → ℕ
+place_in_file (File f) = 0
+place_in_file (Block f p) = p.0 + 1
 
 abbrev pub unit_lt : LockUnit → LockUnit → Bool
-unit_lt a b = nat_lt (file_of a) (file_of b) || (nat_eq (file_of a) (file_of b) && nat_lt (place_of a) (place_of b))
+unit_lt a b = nat_lt (unit_file a) (unit_file b) || (nat_eq (unit_file a) (unit_file b) && nat_lt (place_in_file a) (place_in_file b))
 
 abbrev pub follows : Option LockUnit → LockUnit → Bool
 follows None unit = true

@@ -40,13 +40,13 @@ abbrev pub head_bytes_of : Image → ℕ → List ℕ
 head_bytes_of m i = m.bytes (head_place m.counts i)
 
 -- head i is the page of a head, with no address past the data pages
-abbrev pub IsWhole : Image → ℕ → Type 0
-IsWhole m i = (h : Head) × IsHead m.counts.leaves h × FileFits h × (head_bytes_of m i ≡ head_page h)
+abbrev pub IsWholeHead : Image → ℕ → Type 0
+IsWholeHead m i = (h : Head) × IsHead m.counts.leaves h × FileFits h × (head_bytes_of m i ≡ head_page h)
 
 -- one head at most is used for file f: a page that is no head counts for none
 abbrev pub HasOneHead : Image → ℕ → Type 0
 HasOneHead m f =
-    (i j : ℕ) → i < m.counts.heads → j < m.counts.heads → IsWhole m i → IsWhole m j
+    (i j : ℕ) → i < m.counts.heads → j < m.counts.heads → IsWholeHead m i → IsWholeHead m j
     → is_used (head_bytes_of m i) ≡ true → file_in (head_bytes_of m i) ≡ f
     → is_used (head_bytes_of m j) ≡ true → file_in (head_bytes_of m j) ≡ f → i ≡ j
 
@@ -73,6 +73,6 @@ pub record IsSound (s : ServerNo) (m : Image) : Type 0 where
   pub pairs : (i : ℕ) → i < page_count m.counts → HalvesAgree m i
   pub pool : (i : ℕ) → i < m.counts.pool → SlotIsFree m i
   pub files : (f : ℕ) → HasOneHead m f
-  pub heads : (i : ℕ) → i < m.counts.heads → IsWhole m i
+  pub heads : (i : ℕ) → i < m.counts.heads → IsWholeHead m i
   pub addresses : (a : ℕ) → 0 < a → IsNamedOnce m a
   pub tails : (i : ℕ) → i < m.counts.leaves → TailIsZeros m i

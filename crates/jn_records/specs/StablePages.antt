@@ -5,12 +5,17 @@ use Rattle.jn_base.specs.declared.names.FileNo.{FileNo}
 use Rattle.jn_base.specs.declared.names.BlockNo.{BlockNo}
 use Rattle.jn_base.specs.declared.names.LockUnit.TheVariants.{File, Block}
 use Rattle.jn_order.specs.Files.{Files, there}
+use Rattle.jn_records.specs.declared.root.Root.{Root}
 
 -- how many stable pages there are of each kind, behind the root at 0: the pool, the heads, the data pages
 pub record Counts : Type 0 where
   pub pool : ℕ
   pub heads : ℕ
   pub leaves : ℕ
+
+-- those that a root names
+abbrev pub counts_of : Root → Counts
+counts_of root = record { pool = root.pool; heads = root.heads; leaves = root.leaves }
 
 abbrev pub Pages : Type 0
 Pages = ℕ → List ℕ

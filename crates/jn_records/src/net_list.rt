@@ -9,7 +9,7 @@ ghost use Rattle.jn_base.specs.Names.{file_eq};
 ghost use Rattle.jn_order.specs.Files.{Files, change, effect, answer_to, file_of, or_else, zeros};
 ghost use Rattle.jn_order.specs.Changes.{and_then};
 ghost use Rattle.jn_records.specs.Reading.{Gives};
-ghost use Rattle.jn_records.specs.NetLists.{InOrder, block_of, blocks_below, list_change, net_of, added, place_of, stands_before, as_first, as_put, entry, stays, length_with, seen_block, answered, is_put_intention, needs_a_head};
+ghost use Rattle.jn_records.specs.NetLists.{InOrder, block_of, blocks_below, list_change, net_of, added, intention_place, stands_before, as_first, as_put, entry, stays, length_with, seen_block, answered, is_put_intention, needs_a_head};
 ghost use Rattle.jn_records.specs.NetEdits.{there_by, unput_by, seen_by, plain, cut_again, intention_for, list_after, front, in_its_place};
 
 use crate::intention::{Intention, What};
@@ -188,8 +188,8 @@ fn file_of(op: &Op) -> FileNo
 }
 
 /// The place of an intention among those of its file: the first one, then the puts by block.
-fn place_of(intention: &Intention) -> u32
-    ensures { result ≡ place_of intention.now }
+fn intention_place(intention: &Intention) -> u32
+    ensures { result ≡ intention_place intention.now }
 {
     match intention.what {
         What::Put => u32::from(intention.block.0) + 1,
@@ -200,13 +200,13 @@ fn place_of(intention: &Intention) -> u32
 fn stands_before(a: &Intention, b: &Intention) -> bool
     ensures { result ≡ stands_before a.now b.now }
 {
-    a.file.0 < b.file.0 || a.file.0 == b.file.0 && place_of(a) < place_of(b)
+    a.file.0 < b.file.0 || a.file.0 == b.file.0 && intention_place(a) < intention_place(b)
 }
 
 fn is_at(intention: &Intention, f: FileNo, place: u32) -> bool
-    ensures { result ≡ (file_eq intention.now.file f && nat_eq (place_of intention.now) place) }
+    ensures { result ≡ (file_eq intention.now.file f && nat_eq (intention_place intention.now) place) }
 {
-    intention.file == f && place_of(intention) == place
+    intention.file == f && intention_place(intention) == place
 }
 
 /// The intention of a file at a place.
@@ -262,7 +262,7 @@ fn where_seen(list: &[Intention], f: FileNo, p: BlockNo) -> Seen
 fn stays(op: &Op, intention: &Intention) -> bool
     ensures { result ≡ stays op.now intention.now }
 {
-    let place = place_of(intention);
+    let place = intention_place(intention);
     match op {
         Op::Create(f) | Op::Remove(f) => intention.file != *f,
         Op::Cut(f, n) => intention.file != *f || place != 0 && place <= u32::from(n.0),

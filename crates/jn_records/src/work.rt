@@ -1,7 +1,7 @@
 //! Prepared works.
 ghost use Rattle.std.specs.Prelude.{◌≡◌, true, Bool, Option, None};
 ghost use Rattle.std.specs.List.{list_all};
-ghost use Rattle.jn_records.specs.Records.{follows, ascends, unit_has_page, unit_lt, file_of, place_of};
+ghost use Rattle.jn_records.specs.Records.{follows, ascends, unit_has_page, unit_lt, unit_file, place_in_file};
 
 use crate::intention::StoredIntention;
 use crate::list::ListOf;
@@ -27,16 +27,16 @@ pub struct WorkState {
     pub next: u8,
 }
 
-fn file_of(unit: LockUnit) -> u32
-    ensures { result ≡ file_of unit }
+fn unit_file(unit: LockUnit) -> u32
+    ensures { result ≡ unit_file unit }
 {
     match unit {
         LockUnit::File(file) | LockUnit::Block(file, _) => file.0,
     }
 }
 
-fn place_of(unit: LockUnit) -> u32
-    ensures { result ≡ place_of unit }
+fn place_in_file(unit: LockUnit) -> u32
+    ensures { result ≡ place_in_file unit }
 {
     match unit {
         LockUnit::File(_) => 0,
@@ -48,7 +48,7 @@ fn place_of(unit: LockUnit) -> u32
 fn is_below(a: LockUnit, b: LockUnit) -> bool
     ensures { result ≡ unit_lt a b }
 {
-    file_of(a) < file_of(b) || file_of(a) == file_of(b) && place_of(a) < place_of(b)
+    unit_file(a) < unit_file(b) || unit_file(a) == unit_file(b) && place_in_file(a) < place_in_file(b)
 }
 
 fn follows(last: Option<LockUnit>, unit: LockUnit) -> bool

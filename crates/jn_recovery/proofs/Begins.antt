@@ -14,7 +14,7 @@ use Rattle.jn_records.specs.declared.root.Root.{Root}
 use Rattle.jn_records.specs.Pages.{root_page}
 use Rattle.jn_records.specs.StablePages.{Counts, data_place}
 use Rattle.jn_rows.specs.Stable.{StableState}
-use Rattle.jn_store.specs.Store.{StoreView, StorePut, IsClean, IsWhole}
+use Rattle.jn_store.specs.Store.{StoreView, StorePut, IsClean, IsWholePage}
 use Rattle.jn_store.proofs.Laws.{later_trans, same_trans, only_clean, stop_since, calm_on}
 use Rattle.jn_recovery.specs.Loading.{IsSameOrNext, IsDown, front_count, reading_calls, most_calls, KeepsDataPages}
 use Rattle.jn_recovery.specs.Memory.{rubbish_in}
@@ -81,7 +81,7 @@ module _ (server : ServerNo) (g : Counts) (v : StoreView) (o : Opened) (u : Stor
           (λ ne. let same = put.others i (within i lt) ne in same.first ∙ at.stands.clean i lt ∙ sym same.second)
           (cases_eq i 0);
       whole = λ quiet i lt. ⊎_elim
-          (λ e. subst (IsWhole x) (sym e) (put.calm (at.stands.later.calm quiet)).1)
+          (λ e. subst (IsWholePage x) (sym e) (put.calm (at.stands.later.calm quiet)).1)
           (λ ne. put.later.whole (at.stands.later.calm quiet) i (within i lt) (at.stands.whole quiet i lt))
           (cases_eq i 0);
       data_pages = kept;

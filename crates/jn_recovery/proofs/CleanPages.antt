@@ -4,7 +4,7 @@ use Rattle.std.proofs.lemmas.Bool.{cases_eq}
 use Rattle.std.specs.Prelude.{is_ok, OnOk, OnErr}
 use Rattle.jn_base.specs.declared.device.Stopped.{Stopped}
 use Rattle.jn_found.proofs.HeldLaws.{cleaned_fewer, fewer_refl, fewer_trans}
-use Rattle.jn_store.specs.Store.{StoreView, StoreCleaned, IsClean, IsSamePage, IsWhole}
+use Rattle.jn_store.specs.Store.{StoreView, StoreCleaned, IsClean, IsSamePage, IsWholePage}
 use Rattle.jn_store.proofs.Laws.{later_refl, later_trans, same_refl, same_trans}
 use Rattle.jn_recovery.specs.Cleaning.{Cleans}
 
@@ -25,7 +25,7 @@ module _ (u v : StoreView) (from n : ℕ) (to : Cleans u from n v) (below : n < 
     fewer = fewer_trans u v w to.fewer (cleaned_fewer v n answer w step);
     clean = λ i low lt. ⊎_elim (λ e. subst (IsClean w) (sym e) (step.clean ok))
         (λ ne. let same = step.others i (omega (arith, lt, ne, below_now)) ne in same.first ∙ to.clean i low (omega (arith, lt, ne)) ∙ sym same.second) (cases_eq i n);
-    whole = λ calm i low lt. ⊎_elim (λ e. subst (IsWhole w) (sym e) (step.calm (to.later.calm calm)).1)
+    whole = λ calm i low lt. ⊎_elim (λ e. subst (IsWholePage w) (sym e) (step.calm (to.later.calm calm)).1)
         (λ ne. step.later.whole (to.later.calm calm) i (omega (arith, lt, ne, below_now)) (to.whole calm i low (omega (arith, lt, ne)))) (cases_eq i n);
     others = others_more answer w step;
     stops = (step.served ok).stops ∙ to.stops;

@@ -23,7 +23,7 @@ use Rattle.jn_records.specs.Pages.{root_page, IsRoot}
 use Rattle.jn_records.specs.StablePages.{Counts, page_count, slot_place, head_place}
 use Rattle.jn_records.proofs.Heads.{head_is_read}
 use Rattle.jn_records.proofs.Roots.{root_is_read}
-use Rattle.jn_sets.specs.Pool.{page_of, Holds, IsReadable, IsRecordPage}
+use Rattle.jn_sets.specs.Pool.{slot_page, HoldsRecords, IsReadable, IsRecordPage}
 use Rattle.jn_store.specs.Store.{StoreView, IsClean, IsOnly}
 use Rattle.jn_recovery.specs.Loading.{front_count}
 use Rattle.jn_recovery.proofs.Bridge.{same_test, same_address}
@@ -69,8 +69,8 @@ module _ (server : ServerNo) (g : Counts) (u : StoreView) (recoverable : IsRecov
 
   pub slots_readable : (slot : ℕ) → slot < g.pool → IsReadable u slot
   slots_readable slot lt = record {
-    clean = clean (page_of slot) (omega (arith, lt));
-    page = subst IsRecordPage (page_first (page_of slot) (omega (arith, lt))) (subst (λ k. IsRecordPage (pages_by u (λ n. false) k)) (let e : slot_place g slot ≡ page_of slot = omega arith in e) (format.pool slot lt));
+    clean = clean (slot_page slot) (omega (arith, lt));
+    page = subst IsRecordPage (page_first (slot_page slot) (omega (arith, lt))) (subst (λ k. IsRecordPage (pages_by u (λ n. false) k)) (let e : slot_place g slot ≡ slot_page slot = omega arith in e) (format.pool slot lt));
   }
 
   stored : (place : ℕ) → place < g.heads → IsHeadStored g u place (head_in (heads_on g (pages_by u (λ n. false))) place)
@@ -81,7 +81,7 @@ module _ (server : ServerNo) (g : Counts) (u : StoreView) (recoverable : IsRecov
       subst (IsHeadStored g u place) (sym (listed_at (head_on g (pages_by u (λ n. false))) FreeHead 0 g.heads place lt ∙ ap (head_on g (pages_by u (λ n. false))) zero_on ∙ read))
       (record { whole = at.1; fits = at.2; only = only_at (head_place g place) (head_page at.0) (omega (arith, lt)) at.3 })
 
-  module _ (epoch : ℕ) (is : IsRoot (root_by server g epoch)) (only : IsOnly u 0 (root_page (root_by server g epoch))) (records : List Record) (size : length records ≡ g.pool) (hold : Holds records u) where
+  module _ (epoch : ℕ) (is : IsRoot (root_by server g epoch)) (only : IsOnly u 0 (root_page (root_by server g epoch))) (records : List Record) (size : length records ≡ g.pool) (hold : HoldsRecords records u) where
     pub standing : IsStanding server g u epoch records (heads_on g (pages_by u (λ n. false)))
     standing = record {
       held = record {

@@ -13,7 +13,7 @@ use Rattle.jn_base.specs.declared.names.Tid.{Tid}
 use Rattle.jn_base.specs.declared.names.WorkId.{WorkId}
 use Rattle.jn_base.specs.Names.{file_eq, work_eq}
 use Rattle.jn_base.proofs.Tells.{file_tells, work_tells}
-use Rattle.jn_files.specs.Table.{TableView, IsTable, file_of, is_held}
+use Rattle.jn_files.specs.Table.{TableView, IsTable, file_of_head, is_held}
 use Rattle.jn_found.specs.Contents.{Contents, state_in, files_in, with_first, intended, stored_list, intentions_from, intention_of, heads_name}
 use Rattle.jn_found.specs.Recoverable.{IsConsistent, Intends, PassesOnce}
 use Rattle.jn_records.specs.declared.intention.Intention.{Intention as FullIntention}
@@ -186,7 +186,7 @@ module _ (server : ServerNo) (g : Counts) (epoch : ℕ) (pool : List Record) (t 
       let files = files_listed t table blocks in
       let needs = needs_are server g c consistent none_left in
       let totals = same_total work_eq work_tells (λ w. (needed (state_in c) (list_of (state_in c) w)).heads) (collected named pool) may.works here.different may.works_all.different (λ w. here.all w ∙ sym (may.works_all.all w)) in
-      let lengths = same_length file_eq file_tells (collected file_of t.heads) may.files files.different may.files_all.different (λ f. files.all f ∙ sym (may.files_all.all f)) in
+      let lengths = same_length file_eq file_tells (collected file_of_head t.heads) may.files files.different may.files_all.different (λ f. files.all f ∙ sym (may.files_all.all f)) in
       let all = heads_counted t table blocks in
       let size = ap (λ (k : Counts). k.heads) counts in
       let fits = may.fits in
@@ -201,7 +201,7 @@ module _ (server : ServerNo) (g : Counts) (epoch : ℕ) (pool : List Record) (t 
   counted size held promised m records tables works = subst (IsCounted (state_in c)) (sym (accounts_are m records tables works)) (record {
     works = collected named pool;
     flags = collected flagged pool;
-    files = collected file_of t.heads;
+    files = collected file_of_head t.heads;
     blocks = all_units t.heads;
     works_all = works_listed server g c consistent none_left;
     flags_all = flags_listed server g c consistent none_left;

@@ -18,7 +18,7 @@ use Rattle.jn_records.specs.declared.intention.StoredIntention.{StoredIntention}
 use Rattle.jn_records.specs.declared.record.Record.{Record}
 use Rattle.jn_records.specs.declared.record.Record.TheVariants.{Free, Intention, Ready, Going, Flag as FlagRecord}
 use Rattle.jn_records.specs.Records.{record_page}
-use Rattle.jn_sets.specs.Pool.{record_in, page_of, is_free, is_prepared, is_flag, is_rubbish}
+use Rattle.jn_sets.specs.Pool.{record_in, slot_page, is_free, is_prepared, is_flag, is_rubbish}
 use Rattle.jn_sets.specs.Sets.{Puts}
 use Rattle.jn_storage.specs.Listing.{is_in}
 use Rattle.jn_storage.specs.Storage.{IsServing}
@@ -26,7 +26,7 @@ use Rattle.jn_storage.specs.Calls.{state, Called, RecordErased, CountsErased}
 use Rattle.jn_storage.proofs.Laws.{called_not}
 use Rattle.jn_store.specs.Store.{StoreView}
 use Rattle.jn_recovery.specs.Memory.{Memory, accounts_of, view_of, rubbish_of, rubbish_in}
-use Rattle.jn_recovery.specs.Matches.{Matches, IsKept}
+use Rattle.jn_recovery.specs.Matches.{Matches, IsKeptMemory}
 use Rattle.jn_recovery.proofs.FlagCalls.{none_any, free_record}
 use Rattle.jn_recovery.proofs.Pool.{position_at, none_position, step_of, free_less, names_kept, rubbish_moves, idle_works, flags_stay}
 use Rattle.jn_recovery.proofs.Serving.{serves_of, serving_by, called_put}
@@ -180,7 +180,7 @@ module _ (m : Memory) (v : StoreView) (now : Matches m v) (serving : IsServing (
 
       pub erased_done : (n : Memory) (answer : Result Bool Stopped) → is_ok answer ≡ ok → (ok ≡ true → (answer ≡ Ok true) × (n ≡ without_record m slot)) → (ok ≡ false → n ≡ m) → RecordErased (view_of m v) answer (view_of n w)
       erased_done n answer same done stopped = record {
-        called = subst (λ b. Called (view_of m v) 16 b (view_of n w)) (sym same) (called_put m n v w (page_of slot) (record_page Free) ok 16 (omega arith) (server ok refl) (counted ok refl) puts.put makes.recoverable served);
+        called = subst (λ b. Called (view_of m v) 16 b (view_of n w)) (sym same) (called_put m n v w (slot_page slot) (record_page Free) ok 16 (omega arith) (server ok refl) (counted ok refl) puts.put makes.recoverable served);
         unchanged = λ c. ap (λ g. found_on g w c) (counted ok refl) ∙ makes.unchanged c;
         none = λ e. absurd (let some = rubbish_length m.records m.records in let less = counts.rubbish_less in let zero_is = ap (λ (l : List WorkId). length l) e in omega (arith, some, less, zero_is));
         one = λ some is. let at = done (sym same ∙ is) in (at.0, subst (λ k. CountsErased (accounts_of m) (accounts_of k)) (sym at.1) counts);
@@ -202,7 +202,7 @@ module _ (m : Memory) (v : StoreView) (now : Matches m v) (serving : IsServing (
 
 -- ---- the same of what the code makes
 
-module _ (m : Memory) (v : StoreView) (kept : IsKept m v) (serving : IsServing (view_of m v)) (answer : Result Bool Stopped) (records : List Record) (w : StoreView)
+module _ (m : Memory) (v : StoreView) (kept : IsKeptMemory m v) (serving : IsServing (view_of m v)) (answer : Result Bool Stopped) (records : List Record) (w : StoreView)
     (none : position (is_rubbish m.records) m.records ≡ None → (answer ≡ Ok false) × (records ≡ m.records) × (w ≡ v))
     (erased : (slot : ℕ) → position (is_rubbish m.records) m.records ≡ Some slot → IfOk answer (λ b. b ≡ true) × Puts m.records v slot Free (is_ok answer) records w) where
   ok_true : (a : Result Bool Stopped) → IfOk a (λ b. b ≡ true) → is_ok a ≡ true → a ≡ Ok true
@@ -219,7 +219,7 @@ module _ (m : Memory) (v : StoreView) (kept : IsKept m v) (serving : IsServing (
       by (Some slot) e = let at = erased slot e in erased_done m v (kept serving.power) serving slot e (is_ok answer) records w at.1 (record m { records = records }) answer refl
           (λ is. (ok_true answer at.0 is, ap (λ r. record m { records = r }) (at.1.done is))) (λ is. ap (λ r. record m { records = r }) (at.1.stopped is))
 
-  pub erase_kept : IsKept (record m { records = records }) w
+  pub erase_kept : IsKeptMemory (record m { records = records }) w
   erase_kept power = by (position (is_rubbish m.records) m.records) refl
     where
       by : (o : Option ℕ) → position (is_rubbish m.records) m.records ≡ o → Matches (record m { records = records }) w

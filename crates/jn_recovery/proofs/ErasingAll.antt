@@ -13,7 +13,7 @@ use Rattle.jn_records.specs.declared.head.Head.{Head}
 use Rattle.jn_records.specs.declared.record.Record.{Record}
 use Rattle.jn_records.specs.declared.record.Record.TheVariants.{Free}
 use Rattle.jn_records.specs.StablePages.{Counts, data_place}
-use Rattle.jn_sets.specs.Pool.{page_of, is_rubbish}
+use Rattle.jn_sets.specs.Pool.{slot_page, is_rubbish}
 use Rattle.jn_sets.specs.Sets.{Puts}
 use Rattle.jn_store.specs.Store.{StoreView, IsClean}
 use Rattle.jn_store.proofs.Laws.{later_refl, later_trans, same_refl, same_trans, only_clean, stop_since}
@@ -75,9 +75,9 @@ module _ (server : ServerNo) (g : Counts) (v : StoreView) (epoch : ℕ) (heads :
       standing = subst (λ r. IsStanding server g w epoch r heads) (sym (puts.done done)) (makes.standing done);
       unchanged = λ c. makes.unchanged c ∙ same_state;
       clean = λ i lt is. ⊎_elim
-          (λ e. subst (IsClean w) (sym e) (only_clean w (page_of slot) _ (puts.put.done done)))
+          (λ e. subst (IsClean w) (sym e) (only_clean w (slot_page slot) _ (puts.put.done done)))
           (λ ne. let same = puts.put.others i (subst (λ k. i < k) (sym before.later.count) lt) ne in same.first ∙ before.clean i lt is ∙ sym same.second)
-          (cases_eq i (page_of slot));
+          (cases_eq i (slot_page slot));
       data_pages = kept;
     }
 

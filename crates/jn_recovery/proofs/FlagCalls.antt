@@ -20,7 +20,7 @@ use Rattle.jn_records.specs.declared.record.Record.TheVariants.{Free, Intention,
 use Rattle.jn_records.specs.Records.{record_page, FlagFits}
 use Rattle.jn_found.specs.Pages.{found_on}
 use Rattle.jn_rows.specs.Stable.{StableState, Changed, AddFlag, DropFlag, made_by, flag_state}
-use Rattle.jn_sets.specs.Pool.{IsRecord, record_in, page_of, is_free, free_count, is_flag}
+use Rattle.jn_sets.specs.Pool.{IsRecord, record_in, slot_page, is_free, free_count, is_flag}
 use Rattle.jn_sets.specs.Sets.{Puts}
 use Rattle.jn_sets.proofs.Slots.{none_counted}
 use Rattle.jn_storage.specs.Listing.{are_different}
@@ -30,7 +30,7 @@ use Rattle.jn_storage.specs.Finding.{find_by}
 use Rattle.jn_storage.proofs.Finds.{find-kept, find-add, find-at, find-listed, keys-kept, different-kept, different-add, map-add}
 use Rattle.jn_store.specs.Store.{StoreView}
 use Rattle.jn_recovery.specs.Memory.{Memory, accounts_of, view_of, rubbish_in}
-use Rattle.jn_recovery.specs.Matches.{Matches, IsKept, FlagsMatch, flag_on}
+use Rattle.jn_recovery.specs.Matches.{Matches, IsKeptMemory, FlagsMatch, flag_on}
 use Rattle.jn_recovery.proofs.FlagStates.{with_flag_less, with_flag_more, serves_dropped, serves_flagged, serves_promised}
 use Rattle.jn_recovery.proofs.Pool.{position_at, none_position, step_of, free_less, free_more, IsOfNoWork, free_no_work, flag_no_work, flag_is, free_is, rubbish_stays, names_stay, match_stays}
 use Rattle.jn_recovery.proofs.Serving.{Serves, serves_of, serving_by, may_load, called_put}
@@ -189,7 +189,7 @@ module _ (m : Memory) (v : StoreView) (now : Matches m v) (serving : IsServing (
 
       pub dropped_done : ok ≡ true → FlagDropped (view_of m v) t ok (view_of (without_flag m slot t) w)
       dropped_done done = record {
-        called = called_put m (without_flag m slot t) v w (page_of slot) (record_page Free) ok 16 (omega arith) refl refl puts.put makes.recoverable
+        called = called_put m (without_flag m slot t) v w (slot_page slot) (record_page Free) ok 16 (omega arith) refl refl puts.put makes.recoverable
             (λ e. serving_by (without_flag m slot t) w (made_by (DropFlag t) (state (view_of m v))) (makes.change.done e) (puts.put.served e).power serves);
         change = makes.change;
         accounts = λ e. accounts_less;
@@ -197,7 +197,7 @@ module _ (m : Memory) (v : StoreView) (now : Matches m v) (serving : IsServing (
 
       pub dropped_stopped : ok ≡ false → FlagDropped (view_of m v) t ok (view_of m w)
       dropped_stopped stopped = record {
-        called = called_put m m v w (page_of slot) (record_page Free) ok 16 (omega arith) refl refl puts.put makes.recoverable (λ e. absurd (true≢false (sym e ∙ stopped)));
+        called = called_put m m v w (slot_page slot) (record_page Free) ok 16 (omega arith) refl refl puts.put makes.recoverable (λ e. absurd (true≢false (sym e ∙ stopped)));
         change = makes.change;
         accounts = λ e. absurd (true≢false (sym e ∙ stopped));
       }
@@ -245,7 +245,7 @@ module _ (m : Memory) (v : StoreView) (now : Matches m v) (serving : IsServing (
 
       pub put_done : ok ≡ true → FlagPut (view_of m v) flag ok (view_of (with_flag m slot flag promised) w)
       put_done done = record {
-        called = called_put m (with_flag m slot flag promised) v w (page_of slot) (record_page (FlagRecord flag)) ok 16 (omega arith) refl refl puts.put makes_flag.recoverable
+        called = called_put m (with_flag m slot flag promised) v w (slot_page slot) (record_page (FlagRecord flag)) ok 16 (omega arith) refl refl puts.put makes_flag.recoverable
             (λ e. serving_by (with_flag m slot flag promised) w (made_by (AddFlag flag) (state (view_of m v))) (makes_flag.change.done e) (puts.put.served e).power flagged);
         change = makes_flag.change;
         accounts = λ e. accounts_more;
@@ -254,7 +254,7 @@ module _ (m : Memory) (v : StoreView) (now : Matches m v) (serving : IsServing (
       -- what is kept in memory doesn't count any more
       pub put_stopped : (n : Memory) → n.server ≡ m.server → n.table.counts ≡ m.table.counts → ok ≡ false → FlagPut (view_of m v) flag ok (view_of n w)
       put_stopped n server counts stopped = record {
-        called = called_put m n v w (page_of slot) (record_page (FlagRecord flag)) ok 16 (omega arith) server counts puts.put makes_flag.recoverable (λ e. absurd (true≢false (sym e ∙ stopped)));
+        called = called_put m n v w (slot_page slot) (record_page (FlagRecord flag)) ok 16 (omega arith) server counts puts.put makes_flag.recoverable (λ e. absurd (true≢false (sym e ∙ stopped)));
         change = subst (λ g. Changed (state (view_of m v)) (AddFlag flag) ok (found_on g w)) (sym counts) makes_flag.change;
         accounts = λ e. absurd (true≢false (sym e ∙ stopped));
       }
@@ -273,7 +273,7 @@ pub last_of : {A : Type 0} (P : A → Type 0) (xs : List A) (x : A) → AllByRec
 last_of P [] x h = h.0
 last_of P (y ∷ xs) x h = last_of P xs x h.1
 
-module _ (m : Memory) (v : StoreView) (kept : IsKept m v) (serving : IsServing (view_of m v)) where
+module _ (m : Memory) (v : StoreView) (kept : IsKeptMemory m v) (serving : IsServing (view_of m v)) where
   module _ (t : Tid) (slot : ℕ) (at : position (is_flag t) m.records ≡ Some slot) (has : HasFlag (view_of m v) t) (records : List Record) (w : StoreView) where
     pub drop_kept : (flags : List Flag) → Puts m.records v slot Free true records w → flags ≡ filter (λ (flag : Flag). not (tid_eq t (tid_of flag))) m.flags → Matches (record m { records = records; flags = flags }) w
     drop_kept flags puts e = subst (λ r. Matches (record m { records = r; flags = flags }) w) (sym (puts.done refl))
@@ -328,7 +328,7 @@ module _ (m : Memory) (v : StoreView) (kept : IsKept m v) (serving : IsServing (
   with_promises_still : (n : ℕ) → n ≤ free_count m.records → IsServing (view_of (record m { promised = n }) v)
   with_promises_still n fits = serving_by (record m { promised = n }) v (state (view_of m v)) serving.up serving.power (serves_promised (state (view_of m v)) (accounts_of m) n (serves_of m v serving) fits)
 
-  pub promised_kept : (n : ℕ) → IsKept (record m { promised = n }) v
+  pub promised_kept : (n : ℕ) → IsKeptMemory (record m { promised = n }) v
   promised_kept n power = let now = kept power in record { standing = now.standing; table = now.table; works = now.works; made = now.made; flags = now.flags; held = now.held }
 
   pub promises : (n : ℕ) → n ≡ m.promised + 1 → m.promised < free_count m.records → FlagPromised {A = Unit {0}} (view_of m v) (Ok tt) (view_of (record m { promised = n }) v)

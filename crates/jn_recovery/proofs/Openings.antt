@@ -6,11 +6,11 @@ use Rattle.jn_base.specs.declared.names.ServerNo.{ServerNo}
 use Rattle.jn_files.specs.declared.fault.LoadFault.{LoadFault as TableFault}
 use Rattle.jn_files.specs.declared.fault.LoadFault.TheVariants.{Stopped as TableStopped, Memory as TableMemory}
 use Rattle.jn_files.specs.Table.{TableView}
-use Rattle.jn_files.specs.Calls.{IsLoaded as IsTableLoaded, StoreRead as TableRead, counts_of}
+use Rattle.jn_files.specs.Calls.{IsLoaded as IsTableLoaded, StoreRead as TableRead}
 use Rattle.jn_files.specs.Pages.{IsLoadable}
 use Rattle.jn_files.proofs.Putting.{same_only}
 use Rattle.jn_records.specs.Pages.{root_page, IsRoot}
-use Rattle.jn_sets.specs.Pool.{IsReadable, Holds}
+use Rattle.jn_sets.specs.Pool.{IsReadable, HoldsRecords}
 use Rattle.jn_sets.specs.Sets.{StoreRead as SetsRead}
 use Rattle.jn_found.specs.Pages.{found_on, root_by, epoch_by, heads_on, half_of, pages_by}
 use Rattle.jn_found.specs.Puts.{IsFewer}
@@ -21,7 +21,7 @@ use Rattle.jn_found.proofs.Picking.{fewer_picked, fewer_recoverable}
 use Rattle.jn_records.specs.declared.head.Head.{Head}
 use Rattle.jn_records.specs.declared.record.Record.{Record}
 use Rattle.jn_records.specs.declared.root.Root.{Root}
-use Rattle.jn_records.specs.StablePages.{Counts, data_place}
+use Rattle.jn_records.specs.StablePages.{counts_of, Counts, data_place}
 use Rattle.jn_records.proofs.Roots.{root_is_read}
 use Rattle.jn_rows.specs.Stable.{StableState, Pick}
 use Rattle.jn_sets.specs.declared.fault.LoadFault.{LoadFault as SetsFault}
@@ -182,7 +182,7 @@ module _ (server : ServerNo) (g : Counts) (v : StoreView) (before : IsRecoverabl
       root_here : IsOnly y 0 (root_page (root_by server g its_epoch))
       root_here = same_only x y 0 _ (more.same 0) (same_only u x 0 _ (read.same 0) (root_only server g u cleaned.recoverable cleaned.clean))
 
-      module _ (records : List Record) (size : length records ≡ o.pool) (hold : Holds records y) where
+      module _ (records : List Record) (size : length records ≡ o.pool) (hold : HoldsRecords records y) where
         stood : IsStanding server g y its_epoch records (heads_on g (pages_by y (λ n. false)))
         stood = standing server g y with_pool.recoverable with_pool.clean its_epoch (root_is server g u cleaned.recoverable cleaned.clean) root_here records (size ∙ pool_is) hold
 

@@ -22,7 +22,7 @@ use Rattle.jn_records.specs.declared.record.Record.TheVariants.{Free, Intention,
 use Rattle.jn_records.specs.declared.work.WorkState.{WorkState}
 use Rattle.jn_records.specs.Records.{record_page}
 use Rattle.jn_records.specs.StablePages.{Counts}
-use Rattle.jn_sets.specs.Pool.{IsRecord, record_in, page_of, is_free, free_count, is_prepared, is_intention, is_flag}
+use Rattle.jn_sets.specs.Pool.{IsRecord, record_in, slot_page, is_free, free_count, is_prepared, is_intention, is_flag}
 use Rattle.jn_store.specs.Store.{StoreView, StorePut}
 use Rattle.jn_recovery.specs.Memory.{rubbish_of, rubbish_in}
 use Rattle.jn_recovery.specs.Matches.{WorksMatch, FlagsMatch, work_by, flag_on}
@@ -52,7 +52,7 @@ module _ {X : Type 0} (p : X → Bool) (xs : List X) where
 
 -- ---- the put of a record
 
-pub step_of : (server : ServerNo) (g : Counts) (v : StoreView) (slot : ℕ) (r : Record) (ok : Bool) (w : StoreView) → slot < g.pool → IsRecord r → StorePut v (page_of slot) (record_page r) ok w → IsPutStep server g v (RecordPut slot r) ok w
+pub step_of : (server : ServerNo) (g : Counts) (v : StoreView) (slot : ℕ) (r : Record) (ok : Bool) (w : StoreView) → slot < g.pool → IsRecord r → StorePut v (slot_page slot) (record_page r) ok w → IsPutStep server g v (RecordPut slot r) ok w
 step_of server g v slot r ok w below is put = record {
   page = (below, is);
   step = subst (λ k. StorePut v k (record_page r) ok w) (let e : slot + 1 ≡ 1 + slot = omega arith in e) put;

@@ -28,7 +28,7 @@ use Rattle.jn_records.specs.Heads.{head_page}
 use Rattle.jn_records.specs.Records.{record_page}
 use Rattle.jn_records.specs.StablePages.{Counts, page_count, head_place, data_place}
 use Rattle.jn_rows.specs.Stable.{Pick, IsUp, stable}
-use Rattle.jn_sets.specs.Pool.{page_of, record_in}
+use Rattle.jn_sets.specs.Pool.{slot_page, record_in}
 use Rattle.jn_storage.specs.Storage.{file_there}
 use Rattle.jn_store.specs.Store.{StoreView, HasSamePages}
 use Rattle.jn_recovery.proofs.Bridge.{same_there, same_mapped}
@@ -100,7 +100,7 @@ module _ (server : ServerNo) (g : Counts) (v : StoreView) (epoch : ℕ) (records
         root_fits = standing.held.root_fits;
         root = same_only v w 0 _ (same.pages 0) standing.held.root;
         slots = standing.held.slots;
-        pool = λ slot lt. let at = standing.held.pool slot lt in record { of_format = at.of_format; only = same_only v w (page_of slot) (record_page (record_in records slot)) (same.pages (page_of slot)) at.only };
+        pool = λ slot lt. let at = standing.held.pool slot lt in record { of_format = at.of_format; only = same_only v w (slot_page slot) (record_page (record_in records slot)) (same.pages (slot_page slot)) at.only };
         places = standing.held.places;
         heads_stored = λ place lt. let at = standing.held.heads_stored place lt in record { whole = at.whole; fits = at.fits; only = same_only v w (head_place g place) (head_page (head_in heads place)) (same.pages (head_place g place)) at.only };
       };

@@ -12,7 +12,7 @@ use Rattle.jn_base.specs.declared.names.LockUnit.{LockUnit}
 use Rattle.jn_base.specs.declared.names.LockUnit.TheVariants.{File, Block}
 use Rattle.jn_base.specs.Names.{file_eq}
 use Rattle.jn_base.proofs.Tells.{file_tells}
-use Rattle.jn_files.specs.Table.{TableView, IsTable, is_held, is_of, file_of, head_in, is_free, exists, is_mapped, address_of, addresses, addresses_of, or_nil, IsUnnamed}
+use Rattle.jn_files.specs.Table.{TableView, IsTable, is_held, is_of, file_of_head, head_in, is_free, exists, is_mapped, address_of, addresses, addresses_of, or_nil, IsUnnamed}
 use Rattle.jn_files.proofs.Putting.{named_below}
 use Rattle.jn_found.specs.Contents.{files_in, with_first, has_address, heads_name}
 use Rattle.jn_found.specs.Recoverable.{PassesOnce}
@@ -34,17 +34,17 @@ use Rattle.jn_recovery.proofs.PoolCounted.{on_intention}
 use Rattle.jn_recovery.proofs.Standing.{named_head}
 use Rattle.jn_recovery.proofs.Totals.{total_same, total_plus, total_ones, count_total, any_total, any_total_if, none_later, below, below_same, below_plus, below_ones, below_total, below_flags, below_address}
 
-link_file : (f : FileNo) (h : Head) → is_of f h ≡ is_key file_eq f (file_of h)
+link_file : (f : FileNo) (h : Head) → is_of f h ≡ is_key file_eq f (file_of_head h)
 link_file f FreeHead = refl
 link_file f (Used k xs) = refl
 
 -- ---- files
 
 module _ (t : TableView) (table : IsTable t) (blocks : ℕ → List ℕ) where
-  pub files_listed : IsListing file_eq (file_there (files_in t.heads blocks)) (collected file_of t.heads)
+  pub files_listed : IsListing file_eq (file_there (files_in t.heads blocks)) (collected file_of_head t.heads)
   files_listed = record {
-    different = keys_differ file_of file_eq file_tells is_of link_file FreeHead t.heads table.heads.files;
-    all = λ f. keys_in file_of file_eq file_tells is_of link_file f t.heads ∙ there_any f t.heads ∙ same_there t.heads f;
+    different = keys_differ file_of_head file_eq file_tells is_of link_file FreeHead t.heads table.heads.files;
+    all = λ f. keys_in file_of_head file_eq file_tells is_of link_file f t.heads ∙ there_any f t.heads ∙ same_there t.heads f;
   }
     where
       there_any : (f : FileNo) (heads : List Head) → list_any (is_of f) heads ≡ exists heads f
@@ -55,16 +55,16 @@ module _ (t : TableView) (table : IsTable t) (blocks : ℕ → List ℕ) where
           by true again = refl
           by false again = again
 
-  pub heads_counted : free_count t.free_heads + length (collected file_of t.heads) ≡ t.counts.heads
+  pub heads_counted : free_count t.free_heads + length (collected file_of_head t.heads) ≡ t.counts.heads
   heads_counted =
       let frees = flags_same t.free_heads.flags t.heads (let a = table.head_count in let b = table.slots in omega (arith, a, b)) (λ j lt. table.free_heads j (let b = table.slots in omega (arith, lt, b))) in
       let frees_on = count_total is_free t.heads in
-      let files = keys_length file_of t.heads in
-      let both = total_plus (λ h. one (is_free h)) (λ h. on_key (λ k. 1) (file_of h)) (λ h. 1) each t.heads in
+      let files = keys_length file_of_head t.heads in
+      let both = total_plus (λ h. one (is_free h)) (λ h. on_key (λ k. 1) (file_of_head h)) (λ h. 1) each t.heads in
       let all = total_ones t.heads in let size = table.slots in
       omega (arith, frees, frees_on, files, both, all, size)
     where
-      each : (h : Head) → 1 ≡ one (is_free h) + on_key (λ k. 1) (file_of h)
+      each : (h : Head) → 1 ≡ one (is_free h) + on_key (λ k. 1) (file_of_head h)
       each FreeHead = refl
       each (Used f xs) = refl
 

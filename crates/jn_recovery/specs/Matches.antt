@@ -76,5 +76,5 @@ pub record Matches (m : Memory) (v : StoreView) : Type 0 where
   pub held : (a : ℕ) → is_held m.table a ≡ works_name m.records (suc a)
 
 -- So it is while the store has power; after a call that was stopped it has none, and only the store counts.
-abbrev pub IsKept : Memory → StoreView → Type 0
-IsKept m v = v.power ≡ true → Matches m v
+abbrev pub IsKeptMemory : Memory → StoreView → Type 0
+IsKeptMemory m v = v.power ≡ true → Matches m v

@@ -11,7 +11,7 @@ use Rattle.jn_records.specs.declared.record.Record.{Record}
 use Rattle.jn_records.specs.declared.root.Root.{Root}
 use Rattle.jn_records.specs.StablePages.{Counts}
 use Rattle.jn_rows.specs.Stable.{Pick, Unchanged}
-use Rattle.jn_store.specs.Store.{StoreView, StoreLater, IsCalm, IsClean, IsWhole, IsStop}
+use Rattle.jn_store.specs.Store.{StoreView, StoreLater, IsCalm, IsClean, IsWholePage, IsStop}
 use Rattle.jn_recovery.specs.Loading.{reading_calls, most_calls, front_count, KeepsDataPages}
 use Rattle.jn_recovery.specs.Memory.{rubbish_in}
 use Rattle.jn_recovery.specs.declared.load.DownCause.{DownCause}
@@ -39,7 +39,7 @@ pub record IsRead (server : ServerNo) (g : Counts) (v : StoreView) (most : ℕ) 
   pub fewer : IsFewer v w
   pub recoverable : IsRecoverable server g w
   pub clean : (i : ℕ) → i < front_count g → IsClean w i
-  pub whole : IsCalm v → (i : ℕ) → i < front_count g → IsWhole w i
+  pub whole : IsCalm v → (i : ℕ) → i < front_count g → IsWholePage w i
   pub data_pages : KeepsDataPages g v w
 
 -- The store stands, and each pick finds what one pick found before, which had one epoch, with another.
@@ -52,7 +52,7 @@ pub record Stands (server : ServerNo) (g : Counts) (v : StoreView) (most was epo
   pub old : (found_on g v before).epoch ≡ was
   pub found : (c : Pick) → found_on g w c ≡ record (found_on g v before) { epoch = epoch }
   pub clean : (i : ℕ) → i < front_count g → IsClean w i
-  pub whole : IsCalm v → (i : ℕ) → i < front_count g → IsWhole w i
+  pub whole : IsCalm v → (i : ℕ) → i < front_count g → IsWholePage w i
   pub data_pages : KeepsDataPages g v w
 
 -- root, records and heads were cleaned and read

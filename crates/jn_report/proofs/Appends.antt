@@ -3,7 +3,7 @@ use Rattle.std.proofs.Common.{◌≡◌, ℕ, List, [], ◌∷◌, ◌++◌, len
 use Rattle.std.proofs.lemmas.Grind.{common_steps}
 use Rattle.std.proofs.lemmas.List.{take-append-drop}
 use Rattle.std.proofs.Math.Seq.{take-append_seam}
-use Rattle.jn_report.specs.Append.{IsKept}
+use Rattle.jn_report.specs.Append.{IsFrontKept}
 use Rattle.jn_report.specs.Text.{spaced}
 
 -- two appends are one
@@ -15,7 +15,7 @@ pub appended_whole : (old x mid y new whole : List ℕ) → whole ≡ x ++ y →
 appended_whole old x mid y new whole parts first second = appended_twice old x mid y new first second ∙ ap (λ (l : List ℕ). old ++ l) (sym parts)
 
 -- what is kept of more is kept of what it began with
-pub IsKept-after : (old text mid new : List ℕ) → mid ≡ old ++ text → IsKept mid new → IsKept old new
+pub IsKept-after : (old text mid new : List ℕ) → mid ≡ old ++ text → IsFrontKept mid new → IsFrontKept old new
 IsKept-after old text mid new appended kept =
     let rest = drop (length mid) new in
     let whole : new ≡ old ++ (text ++ rest) =

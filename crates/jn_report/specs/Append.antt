@@ -2,8 +2,8 @@
 use Rattle.std.specs.Prelude.{◌≡◌, ◌+◌, ◌/◌, ◌%◌, ℕ, List, [], ◌∷◌, length, take}
 
 -- what was there is still there, at the front
-abbrev pub IsKept : List ℕ → List ℕ → Type 0
-IsKept old new = take (length old) new ≡ old
+abbrev pub IsFrontKept : List ℕ → List ℕ → Type 0
+IsFrontKept old new = take (length old) new ≡ old
 
 -- the last two digits of a number
 abbrev pub two_digits : ℕ → List ℕ

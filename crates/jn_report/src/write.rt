@@ -1,7 +1,7 @@
 //! Appends a line to the text of a report.
 ghost use Rattle.std.specs.Prelude.{◌≡◌, ◌++◌, ◌∷◌, codes, decimal, OnOk, OnErr};
 ghost use Rattle.jn_text.specs.Words.{block_word};
-ghost use Rattle.jn_report.specs.Append.{IsKept};
+ghost use Rattle.jn_report.specs.Append.{IsFrontKept};
 ghost use Rattle.jn_report.specs.Text.{cause_words, client_word, event_refusal_word, fault_word, kind_word, refusal_words, spaced, text_of, when_word, words_of};
 
 use crate::digits::push_digits;
@@ -27,7 +27,7 @@ pub fn push_line(out: &mut Vec<u8>, line: &Line) -> Result<(), AllocError>
 /// Appends the event of a line, what it says and its end.
 fn push_parts(out: &mut Vec<u8>, line: &Line) -> Result<(), AllocError>
     ensures ok { OnOk result (out.new.items ≡ out.old.items ++ text_of line.now) }
-    ensures err { OnErr result (IsKept out.old.items out.new.items) }
+    ensures err { OnErr result (IsFrontKept out.old.items out.new.items) }
 {
     push_when(out, line.when)?;
     push_byte(out, b':')?;
@@ -37,7 +37,7 @@ fn push_parts(out: &mut Vec<u8>, line: &Line) -> Result<(), AllocError>
 
 fn push_when(out: &mut Vec<u8>, when: When) -> Result<(), AllocError>
     ensures ok { OnOk result (out.new.items ≡ out.old.items ++ when_word when) }
-    ensures err { OnErr result (IsKept out.old.items out.new.items) }
+    ensures err { OnErr result (IsFrontKept out.old.items out.new.items) }
 {
     match when {
         When::Event(number) => push_digits(out, number),
@@ -48,7 +48,7 @@ fn push_when(out: &mut Vec<u8>, when: When) -> Result<(), AllocError>
 /// Appends what a line says.
 fn push_text(out: &mut Vec<u8>, text: &Text) -> Result<(), AllocError>
     ensures ok { OnOk result (out.new.items ≡ out.old.items ++ spaced (words_of text.now)) }
-    ensures err { OnErr result (IsKept out.old.items out.new.items) }
+    ensures err { OnErr result (IsFrontKept out.old.items out.new.items) }
 {
     match *text {
         Text::Up(server, epoch) => {
@@ -117,7 +117,7 @@ fn push_text(out: &mut Vec<u8>, text: &Text) -> Result<(), AllocError>
 #[inline(always)]
 fn push_told(out: &mut Vec<u8>, client: ClientNo, name: &str, at: u32) -> Result<(), AllocError>
     ensures ok { OnOk result (out.new.items ≡ out.old.items ++ (codes " " ++ (client_word client ++ (name.now ++ decimal at)))) }
-    ensures err { OnErr result (IsKept out.old.items out.new.items) }
+    ensures err { OnErr result (IsFrontKept out.old.items out.new.items) }
 {
     push_number(out, " c", u32::from(client.0))?;
     push_number(out, name, at)
@@ -126,7 +126,7 @@ fn push_told(out: &mut Vec<u8>, client: ClientNo, name: &str, at: u32) -> Result
 /// Appends a block, with a space before it.
 fn push_block(out: &mut Vec<u8>, bytes: &[u8; 448]) -> Result<(), AllocError>
     ensures ok { OnOk result (out.new.items ≡ out.old.items ++ (codes " " ++ block_word bytes.now)) }
-    ensures err { OnErr result (IsKept out.old.items out.new.items) }
+    ensures err { OnErr result (IsFrontKept out.old.items out.new.items) }
 {
     push_byte(out, b' ')?;
     push_hex(out, &bytes[..])
@@ -135,7 +135,7 @@ fn push_block(out: &mut Vec<u8>, bytes: &[u8; 448]) -> Result<(), AllocError>
 /// Appends that a fault was refused.
 fn push_outside(out: &mut Vec<u8>, server: ServerNo, outside: Outside) -> Result<(), AllocError>
     ensures ok { OnOk result (out.new.items ≡ out.old.items ++ spaced (words_of (Text.Outside server outside))) }
-    ensures err { OnErr result (IsKept out.old.items out.new.items) }
+    ensures err { OnErr result (IsFrontKept out.old.items out.new.items) }
 {
     push_number(out, " outside s", u32::from(server.0))?;
     push_name(out, " ")?;
@@ -146,7 +146,7 @@ fn push_outside(out: &mut Vec<u8>, server: ServerNo, outside: Outside) -> Result
 /// Appends that an event was refused.
 fn push_refused_event(out: &mut Vec<u8>, refusal: EventRefusal) -> Result<(), AllocError>
     ensures ok { OnOk result (out.new.items ≡ out.old.items ++ spaced (words_of (Text.RefusedEvent refusal))) }
-    ensures err { OnErr result (IsKept out.old.items out.new.items) }
+    ensures err { OnErr result (IsFrontKept out.old.items out.new.items) }
 {
     push_name(out, " refused ")?;
     push_name(out, event_refusal_number(refusal))
@@ -161,7 +161,7 @@ fn push_page(
     bytes: &[u8; 448],
 ) -> Result<(), AllocError>
     ensures ok { OnOk result (out.new.items ≡ out.old.items ++ spaced (words_of (Text.Page server file block bytes.now))) }
-    ensures err { OnErr result (IsKept out.old.items out.new.items) }
+    ensures err { OnErr result (IsFrontKept out.old.items out.new.items) }
 {
     push_number(out, " s", u32::from(server.0))?;
     push_number(out, " page ", file.0)?;
@@ -178,7 +178,7 @@ fn push_message(
     kind: MsgKind,
 ) -> Result<(), AllocError>
     ensures ok { OnOk result (out.new.items ≡ out.old.items ++ spaced (words_of (Text.Message number from to kind))) }
-    ensures err { OnErr result (IsKept out.old.items out.new.items) }
+    ensures err { OnErr result (IsFrontKept out.old.items out.new.items) }
 {
     push_number(out, " msg ", number)?;
     push_route(out, from, to)?;
@@ -189,7 +189,7 @@ fn push_message(
 /// Appends the number of a refusal, and what it says of it.
 fn push_refusal(out: &mut Vec<u8>, refusal: Refusal) -> Result<(), AllocError>
     ensures ok { OnOk result (out.new.items ≡ out.old.items ++ spaced (refusal_words refusal)) }
-    ensures err { OnErr result (IsKept out.old.items out.new.items) }
+    ensures err { OnErr result (IsFrontKept out.old.items out.new.items) }
 {
     match refusal {
         Refusal::ClientBusy => push_name(out, " 1"),
@@ -223,7 +223,7 @@ fn push_refusal(out: &mut Vec<u8>, refusal: Refusal) -> Result<(), AllocError>
 /// Appends why a transaction was aborted.
 fn push_cause(out: &mut Vec<u8>, cause: Cause) -> Result<(), AllocError>
     ensures ok { OnOk result (out.new.items ≡ out.old.items ++ spaced (cause_words cause)) }
-    ensures err { OnErr result (IsKept out.old.items out.new.items) }
+    ensures err { OnErr result (IsFrontKept out.old.items out.new.items) }
 {
     match cause {
         Cause::Requested => push_name(out, " requested"),

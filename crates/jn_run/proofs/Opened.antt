@@ -31,7 +31,7 @@ use Rattle.jn_written.specs.Chances.{Setup}
 use Rattle.jn_written.specs.Devices.{Devices}
 use Rattle.jn_written.specs.Whole.{closed_world, AreImages}
 use Rattle.jn_run.specs.Opening.{AreDisks, AreOpened}
-use Rattle.jn_run.specs.Outcome.{counts_of, root_of, AreNew, BeginsWith, IsOpened, Opens, no_files}
+use Rattle.jn_run.specs.Outcome.{geometry_counts, root_of, AreNew, BeginsWith, IsOpened, Opens, no_files}
 use Rattle.jn_run.specs.Running.{AreDevices}
 
 pub some-at : {A : Type 0} (xs : List A) (n : ℕ) → n < length xs → (x : A) × (slice_get xs n ≡ Some x)
@@ -96,9 +96,9 @@ module _ {S : Type 0} (look : S → StoreView) (device : S → DeviceState) (see
         subst (λ (d : DeviceState). IsNewStore (root_of g q) (pairs_view d)) (sym (devices q.0 x at)) (subst (λ (v : StoreView). IsNewStore (root_of g q) v) (seen x.0) (disks q.0 x at).new)
 
     abbrev new_setup : Setup
-    new_setup = record { servers = o.servers; counts = λ q. counts_of g; trace = o.trace }
+    new_setup = record { servers = o.servers; counts = λ q. geometry_counts g; trace = o.trace }
 
-    found-none : (q : ServerNo) → IsNewStore (root_of g q) (pairs_view (images q)) → (c : Pick) → (closed_world o.servers no_files (λ q. 0)).found q c ≡ found_on (counts_of g) (pairs_view (images q)) c
+    found-none : (q : ServerNo) → IsNewStore (root_of g q) (pairs_view (images q)) → (c : Pick) → (closed_world o.servers no_files (λ q. 0)).found q c ≡ found_on (geometry_counts g) (pairs_view (images q)) c
     found-none q n c = sym (n.fresh.found c)
 
     new-opened : o.opening ≡ New g → Opened device o kept stores

@@ -42,7 +42,7 @@ use Rattle.jn_run.specs.declared.status.Status.TheVariants as statuses
 use Rattle.jn_run.specs.declared.running.RunFault.{RunFault}
 use Rattle.jn_run.specs.declared.running.RunFault.TheVariants as runs
 use Rattle.jn_run.specs.Keeping.{KeptWith}
-use Rattle.jn_run.specs.Outcome.{LeavesFiles, Accepted, AreKept, IsRefusedImage, Keeps, KeepsFirst, OfImage, OfRefusal, OfReport, OfWords, OutcomeOf, OutcomeOn, IsUntouched, Outputs, Outside, IsText, most_bytes, most_events, Ran, Reads, Refuses, RefusesWords, refused_line, IsWhole, IsPart, IsCutShort, RanInPart, RanUnkept, RanWhole}
+use Rattle.jn_run.specs.Outcome.{LeavesFiles, Accepted, AreKept, IsRefusedImage, Keeps, KeepsFirst, OfImage, OfRefusal, OfReport, OfWords, OutcomeOf, OutcomeOn, IsUntouched, Outputs, Outside, IsText, most_bytes, most_events, Ran, Reads, Refuses, RefusesWords, refused_line, IsWholeReport, IsPart, IsCutShort, RanInPart, RanUnkept, RanWhole}
 use Rattle.jn_run.specs.Running.{course_of, AreLeft, RunsFrom, TookWhole}
 use Rattle.jn_run.proofs.Opened.{Opened, get-below, one-files, some-at}
 
@@ -117,7 +117,7 @@ module _ {S : Type 0} (device : S → DeviceState) (options : Options) (kept : O
       (subst (λ (ls : List Line). LeavesFiles b.setup run.written.files events ls closing) run.lines_are
       (subst (λ (ds : Devices). LeavesFiles b.setup run.written.files events run.last.state.lines ds) run.closing_is end.pages))
 
-  abbrev pub whole-holds : (closing : Devices) (lines : List Line) → IsWholeRun b.setup events b.images closing lines → IsWhole options kept events lines
+  abbrev pub whole-holds : (closing : Devices) (lines : List Line) → IsWholeRun b.setup events b.images closing lines → IsWholeReport options kept events lines
   whole-holds closing lines run =
       let of = whole-report b.setup events b.images less range closing lines run in
       record {
@@ -233,7 +233,7 @@ module _ {S K : Type 0} (device : S → DeviceState) (options : Options) (text :
       abbrev whole : TookWhole (writes_to taken_of faults_of) (course_of b.setup events b.images sink) (AreLeft device b.setup (items_of left)) sink'
       whole = ran.whole left is
 
-      abbrev w : IsWhole options before.kept events whole.lines
+      abbrev w : IsWholeReport options before.kept events whole.lines
       w = whole-holds device options before.kept stores b few events range whole.closing whole.lines whole.whole
 
       abbrev around : Option (List ℕ) → Option (List ℕ) → ℕ → ℕ → Outside

@@ -16,7 +16,7 @@ use Rattle.jn_summary.specs.Summing.{sums_up}
 use Rattle.jn_summary.specs.Taken.{HasTaken}
 use Rattle.jn_summary.specs.declared.summary.Summary.{Summary}
 use Rattle.jn_written.specs.Runs.{Moment}
-use Rattle.jn_run.specs.Outcome.{trial_events, trial_options, IsCutShort, IsWhole, RanTrial, TrialToLimit}
+use Rattle.jn_run.specs.Outcome.{trial_events, trial_options, IsCutShort, IsWholeReport, RanTrial, TrialToLimit}
 use Rattle.jn_run.specs.Running.{course_of, RunsFrom}
 use Rattle.jn_run.specs.Trial.{SumsUp}
 use Rattle.jn_run.specs.declared.running.RunFault.{RunFault}
@@ -49,7 +49,7 @@ module _ {S A : Type 0} (device : S → DeviceState) (trial : Trial) (kept : Opt
       let w = ran.whole a is in
       record {
         lines = w.lines;
-        whole = subst (λ (es : List Event). IsWhole trial_options kept es w.lines) same (whole-holds device trial_options kept stores b two events range w.closing w.lines w.whole);
+        whole = subst (λ (es : List Event). IsWholeReport trial_options kept es w.lines) same (whole-holds device trial_options kept stores b two events range w.closing w.lines w.whole);
         took = told w.lines (w.took [] new);
       }
 

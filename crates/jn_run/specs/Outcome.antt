@@ -51,8 +51,8 @@ Asks asked Holds = (options : Options) × (asked ≡ Some options) × Holds opti
 
 -- ---- what a run begins with
 
-abbrev pub counts_of : Geometry → Counts
-counts_of g = record { pool = g.pool; heads = g.heads; leaves = g.leaves }
+abbrev pub geometry_counts : Geometry → Counts
+geometry_counts g = record { pool = g.pool; heads = g.heads; leaves = g.leaves }
 
 abbrev pub root_of : Geometry → ServerNo → Root
 root_of g q = record { server = q; pool = g.pool; heads = g.heads; leaves = g.leaves; epoch = 0 }
@@ -73,7 +73,7 @@ pub record IsOpened (kept : Option Contents) (name : List ℕ) (g : Counts) (fil
 
 -- the disks are new, with so many pages, or those of the images of this name
 abbrev pub BeginsWith : Opening → Option Contents → Setup → AllFiles → Devices → Type 0
-BeginsWith (New g) kept x files images = ((q : ServerNo) → x.counts q ≡ counts_of g) × (files ≡ no_files) × AreNew g x.servers images
+BeginsWith (New g) kept x files images = ((q : ServerNo) → x.counts q ≡ geometry_counts g) × (files ≡ no_files) × AreNew g x.servers images
 BeginsWith (Images name) kept x files images = AreFilesOf x.servers files × ((q : ServerNo) → q.0 < x.servers → IsOpened kept name (x.counts q) (files q) q (images q))
 
 -- The servers, their counts of pages, their files and their disks are those that the options ask for.
@@ -91,7 +91,7 @@ LeavesFiles x files events lines closing = (q : ServerNo) (u : LockUnit) (c : Pi
 
 -- The lines are those of a run of the written machine over all events, from these disks to others; and they are those of its commits, one
 -- after another.
-pub record IsWhole (options : Options) (kept : Option Contents) (events : List Event) (lines : List Line) : Type 0 where
+pub record IsWholeReport (options : Options) (kept : Option Contents) (events : List Event) (lines : List Line) : Type 0 where
   pub setup : Setup
   pub files : AllFiles
   pub images : Devices
@@ -217,11 +217,11 @@ pub record Ran (o : Outside) (Holds : List Event → List Line → Type 0) (Took
 
 -- the run was done, and its disks are kept
 abbrev pub RanWhole : Outside → Options → Type 0
-RanWhole o options = Ran o (λ events lines. (w : IsWhole options o.kept events lines) × Keeps options.closing o.kept w.setup w.closing o.kept') (Took o.taken o.taken')
+RanWhole o options = Ran o (λ events lines. (w : IsWholeReport options o.kept events lines) × Keeps options.closing o.kept w.setup w.closing o.kept') (Took o.taken o.taken')
 
 -- it was done, and not all of its disks could be kept
 abbrev pub RanUnkept : Outside → Options → Type 0
-RanUnkept o options = Ran o (λ events lines. (w : IsWhole options o.kept events lines) × KeepsFirst options.closing o.kept w.setup w.closing o.kept') (Took o.taken o.taken')
+RanUnkept o options = Ran o (λ events lines. (w : IsWholeReport options o.kept events lines) × KeepsFirst options.closing o.kept w.setup w.closing o.kept') (Took o.taken o.taken')
 
 -- it was cut off by want of memory or by the sink, or was cut short by a limit
 abbrev pub RanInPart : Outside → Options → Type 0
@@ -312,7 +312,7 @@ trial_events trial = events_from trial.seed trial.events
 -- The lines are those of a whole run of these events, and the sink took this of the one line that sums them up.
 pub record RanTrial (trial : ATrial) (kept : Option Contents) (TookOf : List ℕ → Type 0) : Type 0 where
   pub lines : List Line
-  pub whole : IsWhole trial_options kept (trial_events trial) lines
+  pub whole : IsWholeReport trial_options kept (trial_events trial) lines
   pub took : TookOf (summary_text trial.seed trial.events lines)
 
 -- a limit cut the run of these events short

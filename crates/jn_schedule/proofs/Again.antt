@@ -18,7 +18,7 @@ use Rattle.jn_schedule.specs.declared.fault.LineFault.TheVariants as faults
 use Rattle.jn_schedule.specs.Grammar as grammar
 use Rattle.jn_schedule.specs.Grammar.{Part, Spells, SpellsBlock, SpellsClient, SpellsPart, SpellsParts, begins_comment, block_part, command_parts, file_part, is_passed, kind_parts, page_part, parts_of, server_part}
 use Rattle.jn_schedule.specs.Faults as places
-use Rattle.jn_schedule.specs.Faults.{FirstUnfilled, HasFault, Place, PlacesFault, command_places, is_client, places_of}
+use Rattle.jn_schedule.specs.Faults.{FirstUnfilled, HasFault, Place, PlacesFault, command_places, is_client_word, places_of}
 use Rattle.jn_schedule.specs.Reading.{◌>>=◌, arm_of, by_client, client_event, client_of, command_of, event_of, fault_kind_of, has_count, kind_of, message_alone, no_client_event, nothing, one, opening_of, other_event, page_alone, server_alone, server_file, server_file_block, server_name, server_of, server_page, value_of, verb_of, write_of, written}
 use Rattle.jn_schedule.proofs.Values.{value_again, server_again, file_again, block_no_again, page_again, name_again, bytes_again}
 use Rattle.jn_schedule.proofs.Arguments.{place_of, none_unfilled}
@@ -127,7 +127,7 @@ command_placed commands.Abort v args spells = ap (λ (k : List ℕ). command_pla
 abbrev client_if : Bool → ℕ → Option ClientNo
 client_if t n = cond t (Some (record { 0 = n })) None
 
-client_again : (c : ClientNo) (w : List ℕ) → SpellsClient c.0 w → (client_of w ≡ Some c) × (is_client w ≡ true) × (begins_comment w ≡ false)
+client_again : (c : ClientNo) (w : List ℕ) → SpellsClient c.0 w → (client_of w ≡ Some c) × (is_client_word w ≡ true) × (begins_comment w ≡ false)
 unfolding client_of
 client_again c w spells =
     let least = spells.0 in
@@ -135,7 +135,7 @@ client_again c w spells =
     let tests = all_of true (nat_le 49 (48 + c.0)) (nat_le (48 + c.0) 56) refl (is-le 49 (48 + c.0) (omega arith)) (is-le (48 + c.0) 56 (omega arith)) in
     let back : 48 + c.0 - 48 ≡ c.0 = omega arith in (
       ap client_of spells.2 ∙ ap (λ (t : Bool). client_if t (48 + c.0 - 48)) tests ∙ ap (λ (n : ℕ). client_if true n) back,
-      ap is_client spells.2 ∙ tests,
+      ap is_client_word spells.2 ∙ tests,
       ap begins_comment spells.2,
     )
 

@@ -23,7 +23,7 @@ use Rattle.jn_schedule.specs.declared.reading.Verb.TheVariants as verbs
 use Rattle.jn_schedule.specs.Grammar as grammar
 use Rattle.jn_schedule.specs.Grammar.{Part, Spells, SpellsClient, SpellsPart, SpellsParts, command_parts, kind_parts, page_part, server_part}
 use Rattle.jn_schedule.specs.Faults as places
-use Rattle.jn_schedule.specs.Faults.{Fills, FirstUnfilled, HasFault, Place, PlacesFault, arm_places, block_place, command_places, file_place, is_client, page_place, places_by, places_of, same, server_place}
+use Rattle.jn_schedule.specs.Faults.{Fills, FirstUnfilled, HasFault, Place, PlacesFault, arm_places, block_place, command_places, file_place, is_client_word, page_place, places_by, places_of, same, server_place}
 use Rattle.jn_schedule.specs.Reading.{◌>>=◌, arm_of, by_client, client_event, client_of, command_of, event_of, fault_kind_of, has_count, kind_of, kind_words, lookup, message_alone, no_client_event, nothing, one, opening_of, opening_words, other_event, page_alone, page_of, server_alone, server_file, server_file_block, server_name, server_of, server_page, value_of, verb_of, verb_words, written}
 use Rattle.jn_schedule.proofs.Numbers.{both, le-is}
 use Rattle.jn_schedule.proofs.Values.{Told, number_told, page_told, server_told}
@@ -282,7 +282,7 @@ client_spelled a b is =
     let digit : b ≡ 48 + (b - 48) = omega arith in
     (omega arith, omega arith, ap (λ (x : ℕ). x ∷ b ∷ []) letter ∙ ap (λ (y : ℕ). 99 ∷ y ∷ []) digit)
 
-client_told : (w : List ℕ) → MatchOption (client_of w) (is_client w ≡ false) (λ c. (is_client w ≡ true) × SpellsClient c.0 w)
+client_told : (w : List ℕ) → MatchOption (client_of w) (is_client_word w ≡ false) (λ c. (is_client_word w ≡ true) × SpellsClient c.0 w)
 unfolding client_of
 client_told [] = refl
 client_told (a ∷ []) = refl
@@ -310,7 +310,7 @@ unfolding event_of by_client
 event_told [] = refl
 event_told (w ∷ ws) = go (client_of w) (client_told w)
   where
-    go : (o : Option ClientNo) → MatchOption o (is_client w ≡ false) (λ c. (is_client w ≡ true) × SpellsClient c.0 w)
+    go : (o : Option ClientNo) → MatchOption o (is_client_word w ≡ false) (λ c. (is_client_word w ≡ true) × SpellsClient c.0 w)
         → MatchResult (by_client o w ws) (λ e. Spells e (w ∷ ws)) (λ f. HasFault (w ∷ ws) f)
     go (Some c) h = rw h.0 (client_event_told c w ws h.1)
     go None h = rw h (no_client_told w ws)

@@ -7,7 +7,7 @@ use Rattle.jn_schedule.specs.declared.fault.LineFault.{LineFault}
 use Rattle.jn_schedule.specs.declared.fault.ParseFault.{ParseFault}
 use Rattle.jn_schedule.specs.declared.fault.ParseFault.TheVariants as parse
 use Rattle.jn_schedule.specs.Grammar.{AreLines, IsSchedule, Spells, is_passed, word_lines}
-use Rattle.jn_schedule.specs.Faults.{HasFault, IsFirstFault, LinesFault, number_of}
+use Rattle.jn_schedule.specs.Faults.{HasFault, IsFirstFault, LinesFault, line_fault_number}
 use Rattle.jn_schedule.specs.Reading.{◌>>=◌, AddsLine, Fails, GivesUpTo, event_of, in_front, read_line, read_lines, then_lines}
 use Rattle.jn_schedule.proofs.Again.{fault_one, spelled_no_fault, spelled_read}
 use Rattle.jn_schedule.proofs.Events.{event_told}
@@ -168,7 +168,7 @@ first text most (Err (parse.Syntax at n)) gives line number is =
     let same_pair = err_same (at, gives.0) (line, is.0) pair in
     let same_line : at ≡ line = ap (λ (p : ℕ × LineFault). p.0) same_pair in
     let same_fault : gives.0 ≡ is.0 = ap (λ (p : ℕ × LineFault). p.1) same_pair in
-    let same_number : n ≡ number = gives.1 ∙ ap number_of same_fault ∙ sym is.1 in
+    let same_number : n ≡ number = gives.1 ∙ ap line_fault_number same_fault ∙ sym is.1 in
     inl (rw (same_line, same_number) refl)
 
 -- the same of a list that is asked for whole
@@ -200,4 +200,4 @@ told text = go (read_lines 1 (word_lines text)) (lines_told 1 (word_lines text))
     go : (r : Result (List Event) (ℕ × LineFault)) → MatchResult r (λ es. AreLines (word_lines text) es) (λ x. LinesFault 1 (word_lines text) x.0 x.1)
         → ((es : List Event) × IsSchedule text es) ⊎ ((line : ℕ) × (number : ℕ) × IsFirstFault text line number)
     go (Ok es) h = inl (es, h)
-    go (Err x) h = inr (x.0, number_of x.1, (x.1, refl, h))
+    go (Err x) h = inr (x.0, line_fault_number x.1, (x.1, refl, h))

@@ -100,14 +100,14 @@ arm_places (server ∷ call ∷ kind ∷ ws) = places_by kinds (Keyword ∷ serv
 arm_places _ = Err faults.Count
 
 -- `c1` to `c8`
-abbrev pub is_client : List ℕ → Bool
-is_client (a ∷ b ∷ []) = nat_eq a 99 && (nat_le 49 b && nat_le b 56)
-is_client _ = false
+abbrev pub is_client_word : List ℕ → Bool
+is_client_word (a ∷ b ∷ []) = nat_eq a 99 && (nat_le 49 b && nat_le b 56)
+is_client_word _ = false
 
 -- the places of a line with these words, told by its keywords
 abbrev pub places_of : List (List ℕ) → Result (List Place) LineFault
 places_of [] = Err faults.Count
-places_of (w ∷ ws) = if is_client w then command_places ws
+places_of (w ∷ ws) = if is_client_word w then command_places ws
     else (if same w (codes "arm") then arm_places ws else places_by others (Keyword ∷ []) w)
 
 -- the first place that isn't filled has this fault
@@ -123,11 +123,11 @@ PlacesFault places ws fault = MatchBool (nat_eq (length places) (length ws)) (Fi
 abbrev pub HasFault : List (List ℕ) → LineFault → Type 0
 HasFault ws fault = MatchResult (places_of ws) (λ places. PlacesFault places ws fault) (λ other. fault ≡ other)
 
-abbrev pub number_of : LineFault → ℕ
-number_of faults.Keyword = 1
-number_of faults.Count = 2
-number_of faults.Value = 3
-number_of faults.Bytes = 4
+abbrev pub line_fault_number : LineFault → ℕ
+line_fault_number faults.Keyword = 1
+line_fault_number faults.Count = 2
+line_fault_number faults.Value = 3
+line_fault_number faults.Bytes = 4
 
 -- of lines of which the first has a number, the first line at fault, and what is wrong with it; the lines before it are passed over or are events
 abbrev pub LinesFault : ℕ → List (List (List ℕ)) → ℕ → LineFault → Type 0
@@ -137,4 +137,4 @@ LinesFault first (ws ∷ lines) line fault = ((is_passed ws ≡ false) × (line 
 
 -- the first line at fault of a text, and the number of its fault; lines count from 1
 abbrev pub IsFirstFault : List ℕ → ℕ → ℕ → Type 0
-IsFirstFault text line number = (fault : LineFault) × (number ≡ number_of fault) × LinesFault 1 (word_lines text) line fault
+IsFirstFault text line number = (fault : LineFault) × (number ≡ line_fault_number fault) × LinesFault 1 (word_lines text) line fault

@@ -29,7 +29,7 @@ use Rattle.jn_schedule.specs.declared.fault.ReadFault.TheVariants as readings
 use Rattle.jn_schedule.specs.declared.fault.ParseFault.{ParseFault}
 use Rattle.jn_schedule.specs.declared.fault.ParseFault.TheVariants as parse
 use Rattle.std.specs.Global.{Vec}
-use Rattle.jn_schedule.specs.Faults.{same, number_of}
+use Rattle.jn_schedule.specs.Faults.{same, line_fault_number}
 use Rattle.jn_schedule.specs.Grammar.{filled, is_passed, lines_of}
 
 abbrev pub texts : List (Bor (List ℕ)) → List (List ℕ)
@@ -255,15 +255,15 @@ read_lines number (ws ∷ lines) = then_lines number (read_line ws) (read_lines 
 -- ---- what the program answers
 
 -- what is read of a line, unless memory ran out
-abbrev pub Tells : {A : Type 0} → Result A ReadFault → Result A LineFault → Type 0
-Tells (Ok x) read = read ≡ Ok x
-Tells (Err readings.Memory) read = Unit {0}
-Tells (Err (readings.Line fault)) read = read ≡ Err fault
+abbrev pub TellsRead : {A : Type 0} → Result A ReadFault → Result A LineFault → Type 0
+TellsRead (Ok x) read = read ≡ Ok x
+TellsRead (Err readings.Memory) read = Unit {0}
+TellsRead (Err (readings.Line fault)) read = read ≡ Err fault
 
 -- what reading told, unless memory ran out
 abbrev pub Fails : ParseFault → Result (List Event) (ℕ × LineFault) → Type 0
 Fails parse.Memory read = Unit {0}
-Fails (parse.Syntax line number) read = (fault : LineFault) × (number ≡ number_of fault) × (read ≡ Err (line, fault))
+Fails (parse.Syntax line number) read = (fault : LineFault) × (number ≡ line_fault_number fault) × (read ≡ Err (line, fault))
 
 -- the events are those that were read, or those that were read are too many
 abbrev pub GivesUpTo : ℕ → Result (Option (Vec Event)) ParseFault → Result (List Event) (ℕ × LineFault) → Type 0
@@ -275,7 +275,7 @@ GivesUpTo most (Err e) read = Fails e read
 abbrev pub AddsLine : Result (Unit {0}) ParseFault → ℕ → Result (List Event) LineFault → List Event → List Event → Type 0
 AddsLine (Ok x) at read before after = (es : List Event) × (read ≡ Ok es) × (after ≡ before ++ es)
 AddsLine (Err parse.Memory) at read before after = Unit {0}
-AddsLine (Err (parse.Syntax line number)) at read before after = (fault : LineFault) × (number ≡ number_of fault) × (line ≡ at) × (read ≡ Err fault)
+AddsLine (Err (parse.Syntax line number)) at read before after = (fault : LineFault) × (number ≡ line_fault_number fault) × (line ≡ at) × (read ≡ Err fault)
 
 -- ---- places of a text
 

@@ -1,6 +1,6 @@
 //! Why a text is no schedule.
 ghost use Rattle.std.specs.Prelude.{◌≡◌};
-ghost use Rattle.jn_schedule.specs.Faults.{number_of};
+ghost use Rattle.jn_schedule.specs.Faults.{line_fault_number};
 ghost use Rattle.jn_schedule.specs.declared.fault.ParseFault.TheVariants.{Memory};
 
 use std::alloc::{AllocError, AllocFailed};
@@ -21,7 +21,7 @@ pub enum LineFault {
 impl LineFault {
     /// The number by which the fault is reported, 1 to 4.
     pub fn number(self) -> u8
-        ensures { result ≡ number_of self }
+        ensures { result ≡ line_fault_number self }
     {
         match self {
             LineFault::Keyword => 1,

@@ -58,7 +58,7 @@ enum Kind {
 /// The event that the words of a line spell, or what is wrong with them.
 #[tactic(auto, unfolding(crate::specs::Reading::event_of, crate::specs::Reading::by_client))]
 pub fn event_of(alloc: Global, words: &[&[u8]]) -> Result<Event, ReadFault>
-    ensures { reads.Tells result (reads.event_of (texts words.now)) }
+    ensures { reads.TellsRead result (reads.event_of (texts words.now)) }
 {
     let [first, args @ ..] = words else {
         return Err(ReadFault::Line(LineFault::Count));
@@ -82,7 +82,7 @@ fn no_client_event(first: &[u8], args: &[&[u8]]) -> Result<Event, LineFault>
 
 #[tactic(auto, unfolding(crate::specs::Reading::client_event))]
 fn client_event(alloc: Global, client: ClientNo, words: &[&[u8]]) -> Result<Event, ReadFault>
-    ensures { reads.Tells result (reads.client_event client (texts words.now)) }
+    ensures { reads.TellsRead result (reads.client_event client (texts words.now)) }
 {
     let [first, args @ ..] = words else {
         return Err(ReadFault::Line(LineFault::Count));
@@ -132,7 +132,7 @@ fn verb_of(word: &[u8]) -> Option<Verb>
 
 #[tactic(auto, unfolding(crate::specs::Reading::command_of))]
 fn command_of(alloc: Global, verb: Verb, args: &[&[u8]]) -> Result<Command, ReadFault>
-    ensures { reads.Tells result (reads.command_of verb (texts args.now)) }
+    ensures { reads.TellsRead result (reads.command_of verb (texts args.now)) }
 {
     match verb {
         Verb::Begin => Ok(Command::Begin(server_alone(args)?)),
@@ -380,7 +380,7 @@ fn server_file_block(args: &[&[u8]]) -> Result<(ServerNo, FileNo, BlockNo), Line
 
 #[tactic(auto, unfolding(crate::specs::Reading::written, crate::specs::Reading::write_of))]
 fn written(alloc: Global, args: &[&[u8]]) -> Result<Command, ReadFault>
-    ensures { reads.Tells result (reads.written (texts args.now)) }
+    ensures { reads.TellsRead result (reads.written (texts args.now)) }
 {
     let [server, file, block, bytes] = args else {
         return Err(ReadFault::Line(LineFault::Count));

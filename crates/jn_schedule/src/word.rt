@@ -4,7 +4,7 @@ ghost use Rattle.std.specs.Char.{is_ascii_uppercase};
 ghost use Rattle.std.specs.List.{AllByRecursion, list_any};
 ghost use Rattle.hex.specs.Hex.{encode_lower};
 ghost use Rattle.jn_schedule.specs.Grammar.{IsByte, SpellsBlock};
-ghost use Rattle.jn_schedule.specs.Reading.{Reads, Tells, block_no_of, bytes_of, client_of, cut_at_stop, file_of, name_in, name_of, number_in, page_of, server_of, server_in, value_of};
+ghost use Rattle.jn_schedule.specs.Reading.{Reads, TellsRead, block_no_of, bytes_of, client_of, cut_at_stop, file_of, name_in, name_of, number_in, page_of, server_of, server_in, value_of};
 
 use crate::fault::{LineFault, ReadFault};
 use jn_base::{BlockContent, BlockNo, ClientNo, FileNo, ServerNo, Tid};
@@ -160,7 +160,7 @@ fn has_upper_case(word: &[u8]) -> bool
 /// The content of the block whose first bytes a word spells: `-` for none, or pairs of lower-case digits.
 #[tactic(auto, unfolding(crate::specs::Reading::bytes_of))]
 pub fn bytes_of(alloc: Global, word: &[u8]) -> Result<BlockContent, ReadFault>
-    ensures { Tells result (bytes_of word.now) }
+    ensures { TellsRead result (bytes_of word.now) }
 {
     if word == b"-".as_slice() {
         return Ok(BlockContent::new(alloc, &[])?);

@@ -13,7 +13,7 @@ use Rattle.jn_report.specs.declared.line.Text.TheVariants as says
 use Rattle.jn_report.specs.declared.line.Line.{Line}
 use Rattle.jn_serial.specs.Lines.{is_before, lines_before, says}
 use Rattle.jn_serial.specs.Begun.{begun_after, begun_then, last_begun, is_tid, is_in}
-use Rattle.jn_serial.specs.InTurn.{begins_for, is_client, owner_after}
+use Rattle.jn_serial.specs.InTurn.{begins_for, is_its_client, owner_after}
 use Rattle.jn_serial.proofs.Orders.{owner_then, says-append}
 
 -- ---- whose a transaction is
@@ -46,9 +46,9 @@ other-tid t u h = grind (arith, tid_tells t u, tid_tells u t, h)
 
 -- a client that is in the transaction by the lines so far is the one that has it, and stays so
 begun-owner : (t : Tid) (d : ClientNo) (o : Option ClientNo) (b : Option Tid) (ls : List Line)
-    → is_client o d ≡ is_tid b t
+    → is_its_client o d ≡ is_tid b t
     → (is_tid b t ≡ true → (c : ClientNo) → says (begins_for c t) ls ≡ true → c ≡ d)
-    → HasOneClient t ls → is_client (owner_then t o ls) d ≡ is_tid (begun_then d b ls) t
+    → HasOneClient t ls → is_its_client (owner_then t o ls) d ≡ is_tid (begun_then d b ls) t
 begun-owner t d o b [] same alone one = same
 begun-owner t d o b (l ∷ ls) same alone one = begun-owner t d (owner_after t o l.text) (begun_after d b l.text) ls (here l.text refl) (still l.text refl) tail
   where
@@ -59,14 +59,14 @@ begun-owner t d o b (l ∷ ls) same alone one = begun-owner t d (owner_after t o
     begins-now c j u is e = ap (λ (x : Text). begins_for c t x || says (begins_for c t) ls) is ∙ ap (λ (p : Bool). (p && tid_eq t u) || says (begins_for c t) ls) (self-client c)
         ∙ ap (λ (p : Bool). p || says (begins_for c t) ls) e
 
-    client-two : (o : Option ClientNo) (c : ClientNo) → client_eq d c ≡ false → is_client o c ≡ true → is_client o d ≡ false
+    client-two : (o : Option ClientNo) (c : ClientNo) → client_eq d c ≡ false → is_its_client o c ≡ true → is_its_client o d ≡ false
     client-two None c ne h = refl
     client-two (Some x) c ne h = grind (arith, client_tells x c, client_tells x d, client_tells d c, ne, h)
 
-    here : (x : Text) → l.text ≡ x → is_client (owner_after t o x) d ≡ is_tid (begun_after d b x) t
+    here : (x : Text) → l.text ≡ x → is_its_client (owner_after t o x) d ≡ is_tid (begun_after d b x) t
     here (says.Begun c j u) is = by (tid_eq t u) (client_eq d c) refl refl
       where
-        by : (p q : Bool) → tid_eq t u ≡ p → client_eq d c ≡ q → is_client (if p then Some c else (if is_client o c then None else o)) d ≡ is_tid (if q then Some u else b) t
+        by : (p q : Bool) → tid_eq t u ≡ p → client_eq d c ≡ q → is_its_client (if p then Some c else (if is_its_client o c then None else o)) d ≡ is_tid (if q then Some u else b) t
         by true true e f = let a = client_tells d c in let back = tid_tells t u in grind (arith, a, back, e, f, self-tid t, self-client c)
         by true false e f = elim (client_tells d c) [
           | inl h ↦ absurd (not-both (client_eq d c) h.0 f)
@@ -82,17 +82,17 @@ begun-owner t d o b (l ∷ ls) same alone one = begun-owner t d (owner_after t o
               where
                 differs : c ≡ d → ⊥
                 differs g = not-both (client_eq d c) (subst (λ (z : ClientNo). client_eq d z ≡ true) (sym g) (self-client d)) f
-        by false true e f = same-client (is_client o c) refl ∙ sym (other-tid t u e)
+        by false true e f = same-client (is_its_client o c) refl ∙ sym (other-tid t u e)
           where
-            same-client : (p : Bool) → is_client o c ≡ p → is_client (if p then None else o) d ≡ false
+            same-client : (p : Bool) → is_its_client o c ≡ p → is_its_client (if p then None else o) d ≡ false
             same-client true h = refl
             same-client false h = elim (client_tells d c) [
-              | inl g ↦ subst (λ (z : ClientNo). is_client o z ≡ false) (sym g.1) h
+              | inl g ↦ subst (λ (z : ClientNo). is_its_client o z ≡ false) (sym g.1) h
               | inr g ↦ absurd (not-both (client_eq d c) f g.0)
             ]
-        by false false e f = other (is_client o c) refl
+        by false false e f = other (is_its_client o c) refl
           where
-            other : (p : Bool) → is_client o c ≡ p → is_client (if p then None else o) d ≡ is_tid b t
+            other : (p : Bool) → is_its_client o c ≡ p → is_its_client (if p then None else o) d ≡ is_tid b t
             other true h = sym (client-two o c f h) ∙ same
             other false h = same
     here _ is = same
@@ -108,7 +108,7 @@ begun-owner t d o b (l ∷ ls) same alone one = begun-owner t d (owner_after t o
         by false f h e k = alone h e (says-later (begins_for e t) l ls k)
     still _ is = λ h e k. alone h e (says-later (begins_for e t) l ls k)
 
-pub owner-is : (t : Tid) (d : ClientNo) (ls : List Line) → HasOneClient t ls → is_client (owner_then t None ls) d ≡ is_tid (last_begun d ls) t
+pub owner-is : (t : Tid) (d : ClientNo) (ls : List Line) → HasOneClient t ls → is_its_client (owner_then t None ls) d ≡ is_tid (last_begun d ls) t
 owner-is t d ls one = begun-owner t d None None ls refl (λ h. absurd (true≢false (sym h))) one
 
 -- a client that is in a transaction was told that it began

@@ -24,7 +24,7 @@ use Rattle.jn_report.specs.declared.line.Line.{Line}
 use Rattle.jn_serial.specs.Lines.{when_eq, is_before, lines_at, lines_before, says, event_at}
 use Rattle.jn_serial.specs.Begun.{begun_after, begun_then, last_begun, is_tid, is_in}
 use Rattle.jn_serial.specs.Order.{answer_told, or_later, first_told, performed, op_in, ops_from, ops_of}
-use Rattle.jn_serial.specs.InTurn.{performed_in, answered, answered_by, is_client, ops_told}
+use Rattle.jn_serial.specs.InTurn.{performed_in, answered, answered_by, is_its_client, ops_told}
 use Rattle.jn_serial.specs.Follows.{Outstanding, Asked, nothing_asked, with_asked, answers_command, answer_in, fits, fits_asked, after_answer, AllFit, after_answers, after_event, refuses_own, AllOwnInPlace, own_in_place, FollowsEvent, after_one, FollowsFrom, is_answer, IsOfEvent, AllOfEvents, Follows}
 use Rattle.jn_serial.proofs.Growth.{IsWithin, AreWithin, AreWithin-wider, AreWithin-append, lines_at-outside, lines_at-whole}
 use Rattle.jn_serial.proofs.Ops.{AnswersWithin, AllAnswerWithin, AllAnswerWithin-append, AllAnswerWithin-wider, told_from-events}
@@ -302,7 +302,7 @@ quiet-adds es ls out out' l h w within none silent waits = record {
 told-adds : (es : List Event) (ls : List Line) (out : Outstanding) (l : Line) (d : ClientNo) (x : Asked) (s : ServerNo) (op : Op) (a : Answer) → InTurnSoFar es ls out → ((i : ℕ) → i ≤ length es → is_before l.when (AtEvent i) ≡ false)
     → out d ≡ Some x → x.command ≡ commands.Do s op → AnswersWithin x.number l.text
     → answer_told d x.number l.text ≡ Some a → ((c : ClientNo) (i : ℕ) → (c ≢ d) ⊎ (i ≢ x.number) → answer_told c i l.text ≡ None)
-    → ((o : Option ClientNo) → answered_by es o l.text ≡ (if is_client o d then performed_in d a (event_at es x.number) else []))
+    → ((o : Option ClientNo) → answered_by es o l.text ≡ (if is_its_client o d then performed_in d a (event_at es x.number) else []))
     → ((c : ClientNo) (b : Option Tid) → begun_after c b l.text ≡ b) → Adds es ls out l (with_asked out d None)
 told-adds es ls out l d x s op a h w asked command within its others told none = record {
   within = AnswersWithin-most l.text (omega (arith, most)) within;
@@ -389,7 +389,7 @@ module _ (es : List Event) (ls : List Line) (out : Outstanding) (l : Line) (h : 
       told-adds es ls out l d y.0 o.0 o.1.0 a h w y.1.0 o.1.1 (subst (λ z. AnswersWithin y.0.number z) (sym is) (within y.0.number (let e = y.1.1.0 in omega (arith, e))))
       (ap (λ z. answer_told d y.0.number z) is ∙ told d y.0.number ∙ ap (λ (b : Bool). if b then Some a else None) (both (client_eq d d) (nat_eq y.0.number j) (self-client d) (let e = y.1.1.0 in grind (arith, nat_tests, e))))
       (λ c i ne. ap (λ z. answer_told c i z) is ∙ told c i ∙ ap (λ (b : Bool). if b then Some a else None) (other c i y.0.number y.1.1.0 ne))
-      (λ o. ap (λ z. answered_by es o z) is ∙ does-by o ∙ ap (λ i. if is_client o d then performed_in d a (event_at es i) else []) (sym y.1.1.0))
+      (λ o. ap (λ z. answered_by es o z) is ∙ does-by o ∙ ap (λ i. if is_its_client o d then performed_in d a (event_at es i) else []) (sym y.1.1.0))
       (λ c b. ap (λ z. begun_after c b z) is ∙ keeps c b)
     where
       both : (b c : Bool) → b ≡ true → c ≡ true → (b && c) ≡ true
@@ -402,7 +402,7 @@ module _ (es : List Event) (ls : List Line) (out : Outstanding) (l : Line) (h : 
           second : (b c : Bool) → c ≡ false → (b && c) ≡ false
           second b c e = grind arith
 
-      does-by : (o : Option ClientNo) → answered_by es o x ≡ (if is_client o d then performed_in d a (event_at es j) else [])
+      does-by : (o : Option ClientNo) → answered_by es o x ≡ (if is_its_client o d then performed_in d a (event_at es j) else [])
       does-by None = refl
       does-by (Some c) = does c ∙ same (client_tells c d)
         where

@@ -33,9 +33,9 @@ abbrev pub answered_by : List Event → Option ClientNo → Text → List Perfor
 answered_by events None text = []
 answered_by events (Some c) text = answered events c text
 
-abbrev pub is_client : Option ClientNo → ClientNo → Bool
-is_client None d = false
-is_client (Some c) d = client_eq c d
+abbrev pub is_its_client : Option ClientNo → ClientNo → Bool
+is_its_client None d = false
+is_its_client (Some c) d = client_eq c d
 
 -- the client was told that it began T
 abbrev pub begins_for : ClientNo → Tid → Text → Bool
@@ -44,7 +44,7 @@ begins_for c t _ = false
 
 -- whose transaction T is after a line, if it is anyone's: a client has it from its `begun` line to the client's next one
 abbrev pub owner_after : Tid → Option ClientNo → Text → Option ClientNo
-owner_after t owner (says.Begun c j u) = if tid_eq t u then Some c else (if is_client owner c then None else owner)
+owner_after t owner (says.Begun c j u) = if tid_eq t u then Some c else (if is_its_client owner c then None else owner)
 owner_after t owner _ = owner
 
 abbrev pub told_from : List Event → Tid → Option ClientNo → List Line → List Performed

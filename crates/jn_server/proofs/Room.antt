@@ -33,7 +33,7 @@ use Rattle.jn_found.specs.Pages.{pool_on, heads_on, listed}
 use Rattle.jn_found.specs.Puts.{contents_by}
 use Rattle.jn_found.proofs.HeldLaws.{contents_held}
 use Rattle.jn_found.proofs.Slots.{passes_at}
-use Rattle.jn_recovery.specs.Matches.{Matches, IsKept}
+use Rattle.jn_recovery.specs.Matches.{Matches, IsKeptMemory}
 use Rattle.jn_recovery.specs.Memory.{Memory as Kept, view_of, rubbish_in}
 use Rattle.jn_recovery.proofs.Erasing.{rubbish_length}
 use Rattle.jn_recovery.proofs.Standing.{named_head}
@@ -222,7 +222,7 @@ module _ (m : Kept) (s : StoreView) (t : WorkerView) (r : Remembered) (k : Ticke
   heads_counted : Matches m s → free_numbers m.table.free_heads ≡ count_by is_free_head (heads_on g pages)
   heads_counted now = heads_free m.table now.table m.records now.held ∙ ap (λ (l : List Head). count_by is_free_head l) (sym (heads_held now))
 
-  pub counts_of_pages : IsKept m s → CountsPages view
+  pub counts_of_pages : IsKeptMemory m s → CountsPages view
   counts_of_pages kept power = record {
     free = ap (λ (l : List Record). free_count l) (sym (pool_held (kept power)));
     rubbish = rubbish_length m.records m.records ∙ ap (λ (l : List Record). rubbish_count l) (sym (pool_held (kept power)));
@@ -260,5 +260,5 @@ module _ (m : Kept) (s : StoreView) (t : WorkerView) (r : Remembered) (k : Ticke
       rubbish = sym (some_rubbish m.records m.records ∙ not_none (rubbish_in m.records m.records)) ∙ ap (λ (l : List Record). list_any (is_rubbish l) l) (sym pool_is);
     }
 
-  pub room_of_pages : IsServer view → are_rising t.table ≡ true → IsKept m s → IsRoomOfPages view
+  pub room_of_pages : IsServer view → are_rising t.table ≡ true → IsKeptMemory m s → IsRoomOfPages view
   room_of_pages serves rising kept = of_pages serves rising (kept serves.works.serving.power)

@@ -5,7 +5,7 @@ use Rattle.jn_storage.specs.Storage.{StorageView}
 use Rattle.jn_recovery.specs.Memory.{Memory as Kept, view_of}
 use Rattle.jn_worker.specs.Fitting.{WorkerView, seen, Fits as WorkerFits, TicketsFit as WorkerTickets}
 use Rattle.jn_coord.specs.Remembered.{Remembered, table_of}
-use Rattle.jn_coord.specs.Calls.{Fits as CoordinatorFits}
+use Rattle.jn_coord.specs.Calls.{FitsStorage as CoordinatorFits}
 use Rattle.jn_coord.specs.Beginning.{TicketsFit as CoordinatorTickets}
 use Rattle.jn_system.specs.WholeSystem.World.{Memory}
 use Rattle.jn_system.specs.WholeSystem.Servers.{Room}

@@ -30,7 +30,7 @@ use Rattle.jn_server.specs.Handling.{Does, Steps, TimesOut}
 use Rattle.jn_server.specs.Restarting.{IsRestarted, IsLeft}
 use Rattle.jn_server.specs.Seen.{ServerView, memory_of, room_of, IsServer}
 use Rattle.jn_server.specs.Showing.{IsShown}
-use Rattle.jn_server_tests.specs.Trial.{the_server, IsOn, Leaves}
+use Rattle.jn_server_tests.specs.Trial.{the_server, IsOn, LeavesServer}
 
 -- ---- names
 
@@ -70,7 +70,7 @@ module _ (n : PageCounts) (k : ℕ) (v w : ServerView) (on : IsOn n k v) where
   pages : StorageLater v.storage w.storage → w.storage.store.count ≡ page_count (counts_by n)
   pages later = later.store.count ∙ on.count
 
-  done : {A : Type 0} (most names : ℕ) (row : RowOutcome Memory) (answer : Result A ServerFault) (before after : Collected) → row.table.tickets.next ≤ names → Does most row v before answer w after → Leaves n names answer w
+  done : {A : Type 0} (most names : ℕ) (row : RowOutcome Memory) (answer : Result A ServerFault) (before after : Collected) → row.table.tickets.next ≤ names → Does most row v before answer w after → LeavesServer n names answer w
   done most names row (Ok x) before after few does = record {
     serves = does.serves;
     of = kept does.later;
@@ -80,20 +80,20 @@ module _ (n : PageCounts) (k : ℕ) (v w : ServerView) (on : IsOn n k v) where
   done most names row (Err Stopped) before after few does = kept does.later
   done most names row (Err NoMemory) before after few does = tt
 
-  pub told : {A : Type 0} (message : Message) (answer : Result A ServerFault) (before after : Collected) → Does 1024 (server_row (memory_of v) (state v.storage) (room_of v.storage) message) v before answer w after → Leaves n (k + 1) answer w
+  pub told : {A : Type 0} (message : Message) (answer : Result A ServerFault) (before after : Collected) → Does 1024 (server_row (memory_of v) (state v.storage) (room_of v.storage) message) v before answer w after → LeavesServer n (k + 1) answer w
   told message answer before after does = done 1024 (k + 1) _ answer before after (let few = row-names (memory_of v) (state v.storage) (room_of v.storage) message in let drawn = on.drawn in omega (arith, few, drawn)) does
 
-  pub closed : {A : Type 0} (answer : Result A ServerFault) (before after : Collected) → Does 1024 (of_coordinator (memory_of v) (close_clients_row (memory_of v).coordinator v.tickets)) v before answer w after → Leaves n k answer w
+  pub closed : {A : Type 0} (answer : Result A ServerFault) (before after : Collected) → Does 1024 (of_coordinator (memory_of v) (close_clients_row (memory_of v).coordinator v.tickets)) v before answer w after → LeavesServer n k answer w
   closed answer before after does = done 1024 k _ answer before after on.drawn does
 
   same : w ≡ v → IsOn n k w
   same e = subst (IsOn n k) (sym e) on
 
-  pub stepped : (answer : Result Bool ServerFault) (before after : Collected) → Steps (server_step (memory_of v) (state v.storage) (room_of v.storage)) v before answer w after → Leaves n (k + 1) answer w
+  pub stepped : (answer : Result Bool ServerFault) (before after : Collected) → Steps (server_step (memory_of v) (state v.storage) (room_of v.storage)) v before answer w after → LeavesServer n (k + 1) answer w
   stepped answer before after steps = by (worker_step v.worker.table (storage_of (memory_of v) (state v.storage) (room_of v.storage)) v.tickets) refl steps
     where
-      by : (o : Option (RowOutcome WorkerTable)) → worker_step v.worker.table (storage_of (memory_of v) (state v.storage) (room_of v.storage)) v.tickets ≡ o → Steps (of_step (memory_of v) o) v before answer w after → Leaves n (k + 1) answer w
-      by None e h = subst (λ (a : Result Bool ServerFault). Leaves n (k + 1) a w) (sym h.0) (let on = same h.1 in record { serves = on.serves; of = on.of; count = on.count; drawn = let d = on.drawn in omega (arith, d) })
+      by : (o : Option (RowOutcome WorkerTable)) → worker_step v.worker.table (storage_of (memory_of v) (state v.storage) (room_of v.storage)) v.tickets ≡ o → Steps (of_step (memory_of v) o) v before answer w after → LeavesServer n (k + 1) answer w
+      by None e h = subst (λ (a : Result Bool ServerFault). LeavesServer n (k + 1) a w) (sym h.0) (let on = same h.1 in record { serves = on.serves; of = on.of; count = on.count; drawn = let d = on.drawn in omega (arith, d) })
       by (Some row) e h = done 40 (k + 1) _ answer before after (let few = one-more v.tickets row.tickets (step-aside v.worker.table (storage_of (memory_of v) (state v.storage) (room_of v.storage)) v.tickets row e).tickets in let drawn = on.drawn in omega (arith, few, drawn)) h.0
 
   pub timed-out : (T : Tid) (answer : Bool) → TimesOut T v answer w → IsOn n k w

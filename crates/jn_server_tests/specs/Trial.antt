@@ -20,7 +20,7 @@ pub record IsOn (n : PageCounts) (names : ℕ) (v : ServerView) : Type 0 where
   pub drawn : v.tickets.next ≤ names
 
 -- After a call. Where it was stopped a restart may begin; without memory the server is of no use any more.
-abbrev pub Leaves : {A : Type 0} → PageCounts → ℕ → Result A ServerFault → ServerView → Type 0
-Leaves n names (Ok x) v = IsOn n names v
-Leaves n names (Err Stopped) v = IsOf the_server n v.storage
-Leaves n names (Err Memory) v = ⊤
+abbrev pub LeavesServer : {A : Type 0} → PageCounts → ℕ → Result A ServerFault → ServerView → Type 0
+LeavesServer n names (Ok x) v = IsOn n names v
+LeavesServer n names (Err Stopped) v = IsOf the_server n v.storage
+LeavesServer n names (Err Memory) v = ⊤

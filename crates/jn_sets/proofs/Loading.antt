@@ -11,7 +11,7 @@ use Rattle.jn_records.specs.declared.record.Record.TheVariants.{Free}
 use Rattle.jn_records.specs.Records.{has_page}
 use Rattle.jn_store.specs.Store.{StoreView, IsServed}
 use Rattle.jn_store.proofs.Laws.{later_refl, later_trans, same_refl, same_trans}
-use Rattle.jn_sets.specs.Pool.{page_of, record_in, IsRecordPage, IsReadable, IsStored, Holds}
+use Rattle.jn_sets.specs.Pool.{slot_page, record_in, IsRecordPage, IsReadable, IsStored, HoldsRecords}
 use Rattle.jn_sets.specs.Sets.{IsIndex, StoreRead}
 use Rattle.jn_sets.proofs.Slots.{push_numbered, values_push}
 
@@ -19,7 +19,7 @@ use Rattle.jn_sets.proofs.Slots.{push_numbered, values_push}
 pub record LoadedTo (v : StoreView) (slots : ℕ) (index : List (ℕ × Record)) (w : StoreView) : Type 0 where
   pub length_is : length (values_of index) ≡ slots
   pub numbered : index ≡ enumerate_from 0 (values_of index)
-  pub held : Holds (values_of index) v
+  pub held : HoldsRecords (values_of index) v
   pub read : StoreRead v slots w
   pub power : 0 < slots → w.power ≡ true
   pub stops : w.stops ≡ v.stops
@@ -38,7 +38,7 @@ read_more u v w n before after = record {
 module _ (u v : StoreView) (n : ℕ) (index : List (ℕ × Record)) (loaded : LoadedTo u n index v) where
   pub still_readable : (slot : ℕ) → IsReadable u slot → IsReadable v slot
   still_readable slot readable =
-      let same = loaded.read.same (page_of slot) in
+      let same = loaded.read.same (slot_page slot) in
       record { clean = same.first ∙ readable.clean ∙ sym same.second; page = subst IsRecordPage (sym same.first) readable.page }
 
   module _ (value : Record) (w : StoreView) (next : List (ℕ × Record)) (stored : IsStored v n value) (read : StoreRead v 1 w) (e : next ≡ index ++ (n, value) ∷ []) where
@@ -47,10 +47,10 @@ module _ (u v : StoreView) (n : ℕ) (index : List (ℕ × Record)) (loaded : Lo
 
     stored_first : IsStored u n value
     stored_first =
-        let same = loaded.read.same (page_of n) in
+        let same = loaded.read.same (slot_page n) in
         record { of_format = stored.of_format; only = record { first = sym same.first ∙ stored.only.first; second = sym same.second ∙ stored.only.second } }
 
-    holds_more : Holds (values_of index ++ value ∷ []) u
+    holds_more : HoldsRecords (values_of index ++ value ∷ []) u
     holds_more slot below = elim (cases_lt slot (length (values_of index))) [
       | inl lt ↦ subst (IsStored u slot) (sym (get_or-append (values_of index) (value ∷ []) Free slot lt)) (loaded.held slot lt)
       | inr ge ↦ let last : slot ≡ length (values_of index) = omega (arith, ge, below, length-append (values_of index) (value ∷ [])) in
@@ -64,7 +64,7 @@ module _ (u v : StoreView) (n : ℕ) (index : List (ℕ × Record)) (loaded : Lo
       length_is = ap length its_values ∙ length-append (values_of index) (value ∷ []) ∙ ap (λ k. k + 1) loaded.length_is;
       numbered = e ∙ ap (λ l. l ++ (n, value) ∷ []) loaded.numbered ∙ ap (λ k. enumerate_from 0 (values_of index) ++ (k, value) ∷ []) at
           ∙ sym (push_numbered (values_of index) 0 value) ∙ ap (enumerate_from 0) (sym its_values);
-      held = subst (λ l. Holds l u) (sym its_values) holds_more;
+      held = subst (λ l. HoldsRecords l u) (sym its_values) holds_more;
       read = read_more u v w n loaded.read read;
       power = λ _. served.power;
       stops = served.stops ∙ loaded.stops;

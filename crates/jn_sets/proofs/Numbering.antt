@@ -18,7 +18,7 @@ use Rattle.jn_records.specs.declared.record.Record.{Record}
 use Rattle.jn_records.specs.declared.record.Record.TheVariants.{Free, Intention, Ready, Going, Flag as FlagRecord}
 use Rattle.jn_sets.specs.declared.find.Wanted.{Wanted}
 use Rattle.jn_sets.specs.declared.find.Wanted.TheVariants.{Prepared, Intention as WantedIntention, Flag as WantedFlag}
-use Rattle.jn_sets.specs.Pool.{record_in, is_free, prepares, is_wanted, number_of, number_wanted, spread}
+use Rattle.jn_sets.specs.Pool.{record_in, is_free, prepares, is_wanted, record_number, number_wanted, spread}
 use Rattle.jn_sets.specs.Sets.{AreCounted, ones}
 use Rattle.jn_sets.proofs.Slots.{values_push}
 
@@ -33,7 +33,7 @@ same_intention a b o p w n ew en tw tn =
     let same : o ≡ p = let t : nat_eq o p ≡ true = en ∙ tn in grind (arith, nat_tests, t) in
     same_work a b (o + 2) (ew ∙ tw) ∙ ap (λ (k : ℕ). spread b.ticket (k + 2)) same
 
-pub has_number : (wanted : Wanted) (r : Record) → is_wanted wanted r ≡ true → number_of r ≡ Some (number_wanted wanted)
+pub has_number : (wanted : Wanted) (r : Record) → is_wanted wanted r ≡ true → record_number r ≡ Some (number_wanted wanted)
 has_number (Prepared work) Free e = absurd (cc e)
 has_number (Prepared work) (Intention w t o i) e = absurd (cc e)
 has_number (Prepared work) (Ready h n rs) e = ap (λ (k : ℕ). Some k) (same_work h.work work 0 e)
@@ -117,20 +117,20 @@ last_counts test records before after value was sum =
 module _ (numbers : List (Option ℕ)) (free prepared : ℕ) (records : List Record) (are : AreCounted numbers free prepared records) (value : Record) (count works : ℕ) where
   pub counted_set : (slot : ℕ) → slot < length records → length numbers ≡ length records → count + ones (is_free (record_in records slot)) ≡ free + ones (is_free value)
       → works + ones (prepares (record_in records slot)) ≡ prepared + ones (prepares value)
-      → AreCounted (slice_set numbers slot (number_of value)) count works (slice_set records slot value)
+      → AreCounted (slice_set numbers slot (record_number value)) count works (slice_set records slot value)
   counted_set slot below slots sum sums = record {
     each = λ k lt. elim (cases_eq k slot) [
-      | inl same ↦ subst (λ (i : ℕ). number_at (slice_set numbers slot (number_of value)) i ≡ number_of (record_in (slice_set records slot value) i)) (sym same)
-          (get_or-set_same numbers slot (number_of value) None (omega arith) ∙ ap number_of (sym (get_or-set_same records slot value Free below)))
-      | inr ne ↦ get_or-set_other numbers slot k (number_of value) None ne ∙ are.each k (let same = length-set records slot value in omega arith)
-          ∙ ap number_of (sym (get_or-set_other records slot k value Free ne))
+      | inl same ↦ subst (λ (i : ℕ). number_at (slice_set numbers slot (record_number value)) i ≡ record_number (record_in (slice_set records slot value) i)) (sym same)
+          (get_or-set_same numbers slot (record_number value) None (omega arith) ∙ ap record_number (sym (get_or-set_same records slot value Free below)))
+      | inr ne ↦ get_or-set_other numbers slot k (record_number value) None ne ∙ are.each k (let same = length-set records slot value in omega arith)
+          ∙ ap record_number (sym (get_or-set_other records slot k value Free ne))
     ];
     free_is = set_counts is_free records slot free count value below are.free_is sum;
     prepared_is = set_counts prepares records slot prepared works value below are.prepared_is sums;
   }
 
   -- a record that is found and counted as the one before
-  pub counted_like : (slot : ℕ) → slot < length records → length numbers ≡ length records → number_of value ≡ number_of (record_in records slot) → is_free value ≡ is_free (record_in records slot)
+  pub counted_like : (slot : ℕ) → slot < length records → length numbers ≡ length records → record_number value ≡ record_number (record_in records slot) → is_free value ≡ is_free (record_in records slot)
       → prepares value ≡ prepares (record_in records slot) → count ≡ free → works ≡ prepared → AreCounted numbers count works (slice_set records slot value)
   counted_like slot below slots number is is_one same sames =
       subst (λ (l : List (Option ℕ)). AreCounted l count works (slice_set records slot value))
@@ -138,13 +138,13 @@ module _ (numbers : List (Option ℕ)) (free prepared : ℕ) (records : List Rec
       (counted_set slot below slots (let flag = ap ones is in omega arith) (let flag = ap ones is_one in omega arith))
 
   pub counted_last : length numbers ≡ length records → count ≡ free + ones (is_free value) → works ≡ prepared + ones (prepares value)
-      → AreCounted (numbers ++ number_of value ∷ []) count works (records ++ value ∷ [])
+      → AreCounted (numbers ++ record_number value ∷ []) count works (records ++ value ∷ [])
   counted_last slots sum sums = record {
     each = λ k lt. elim (cases_eq k (length records)) [
-      | inl same ↦ subst (λ (i : ℕ). number_at (numbers ++ number_of value ∷ []) i ≡ number_of (record_in (records ++ value ∷ []) i)) (sym same)
-          (ap (number_at (numbers ++ number_of value ∷ [])) (sym slots) ∙ get_or-append_seam numbers (number_of value) [] None ∙ ap number_of (sym (get_or-append_seam records value [] Free)))
+      | inl same ↦ subst (λ (i : ℕ). number_at (numbers ++ record_number value ∷ []) i ≡ record_number (record_in (records ++ value ∷ []) i)) (sym same)
+          (ap (number_at (numbers ++ record_number value ∷ [])) (sym slots) ∙ get_or-append_seam numbers (record_number value) [] None ∙ ap record_number (sym (get_or-append_seam records value [] Free)))
       | inr ne ↦ let low : k < length records = let long = length-append records (value ∷ []) in omega arith in
-          get_or-append numbers (number_of value ∷ []) None k (omega arith) ∙ are.each k low ∙ ap number_of (sym (get_or-append records (value ∷ []) Free k low))
+          get_or-append numbers (record_number value ∷ []) None k (omega arith) ∙ are.each k low ∙ ap record_number (sym (get_or-append records (value ∷ []) Free k low))
     ];
     free_is = last_counts is_free records free count value are.free_is sum;
     prepared_is = last_counts prepares records prepared works value are.prepared_is sums;
@@ -152,7 +152,7 @@ module _ (numbers : List (Option ℕ)) (free prepared : ℕ) (records : List Rec
 
 -- as the code has it, where the last record is put into the index
 pub counted_more : (numbers : List (Option ℕ)) (free prepared : ℕ) (entries next : List (ℕ × Record)) (n : ℕ) (value : Record) (after : List (Option ℕ)) (number : Option ℕ) (count works : ℕ) (is is_one : Bool)
-    → AreCounted numbers free prepared (values_of entries) → length (values_of entries) ≡ n → length numbers ≡ n → number ≡ number_of value → after ≡ numbers ++ number ∷ []
+    → AreCounted numbers free prepared (values_of entries) → length (values_of entries) ≡ n → length numbers ≡ n → number ≡ record_number value → after ≡ numbers ++ number ∷ []
     → is ≡ is_free value → count + ones false ≡ free + ones is → is_one ≡ prepares value → works + ones false ≡ prepared + ones is_one → next ≡ entries ++ (n, value) ∷ []
     → AreCounted after count works (values_of next)
 counted_more numbers free prepared entries next n value after number count works is is_one are long slots number_is after_is is_is sum one_is sums e =

@@ -15,28 +15,28 @@ use Rattle.jn_device.specs.Device.{blank_page}
 use Rattle.jn_store.specs.Store.{StoreView, IsOnly, IsSamePage, StorePut}
 use Rattle.jn_store.specs.Choices.{IsChoice, Leads, with_page}
 use Rattle.jn_store.proofs.Choices.{choice_only, put_leads, with_same, with_other}
-use Rattle.jn_sets.specs.Pool.{page_of, is_free, is_ready, prepares, number_of, going_of, ready_of, marked, record_in, members_in, IsRecord, IsReadable, IsStored, Holds, Says}
+use Rattle.jn_sets.specs.Pool.{slot_page, is_free, is_ready, prepares, record_number, going_of, ready_of, marked, record_in, members_in, IsRecord, IsReadable, IsStored, HoldsRecords, Says}
 use Rattle.jn_sets.specs.Sets.{IsIndex, Puts}
 use Rattle.jn_sets.proofs.Slots.{set_numbered, values_set}
 
 -- a record is read again from its page
-pub page_says : (pages : ℕ → List ℕ) (slot : ℕ) (r : Record) → IsRecord r → pages (page_of slot) ≡ record_page r → members_in pages slot ≡ Some r
-page_says pages slot r is e = record_is_read (pages (page_of slot)) r is.whole is.fits e
+pub page_says : (pages : ℕ → List ℕ) (slot : ℕ) (r : Record) → IsRecord r → pages (slot_page slot) ≡ record_page r → members_in pages slot ≡ Some r
+page_says pages slot r is e = record_is_read (pages (slot_page slot)) r is.whole is.fits e
 
 -- each choice says what the pool holds
-pub holds_says : (records : List Record) (v : StoreView) (d : ℕ → List ℕ) → length records < v.count → Holds records v → IsChoice v d → Says d records
+pub holds_says : (records : List Record) (v : StoreView) (d : ℕ → List ℕ) → length records < v.count → HoldsRecords records v → IsChoice v d → Says d records
 holds_says records v d there holds choice slot below =
     let stored = holds slot below in
-    page_says d slot (record_in records slot) stored.of_format (choice_only v d (page_of slot) (record_page (record_in records slot)) choice (omega arith) stored.only)
+    page_says d slot (record_in records slot) stored.of_format (choice_only v d (slot_page slot) (record_page (record_in records slot)) choice (omega arith) stored.only)
 
-pub same_stored : (v w : StoreView) (slot : ℕ) (r : Record) → IsSamePage v w (page_of slot) → IsStored v slot r → IsStored w slot r
+pub same_stored : (v w : StoreView) (slot : ℕ) (r : Record) → IsSamePage v w (slot_page slot) → IsStored v slot r → IsStored w slot r
 same_stored v w slot r same stored = record {
   of_format = stored.of_format;
   only = record { first = same.first ∙ stored.only.first; second = same.second ∙ stored.only.second };
 }
 
 module _ (old : List Record) (v : StoreView) (slot : ℕ) (value : Record) (ok : Bool) (w : StoreView)
-    (put : StorePut v (page_of slot) (record_page value) ok w) (is : IsRecord value) (below : slot < length old) (there : length old < v.count) (holds : Holds old v) where
+    (put : StorePut v (slot_page slot) (record_page value) ok w) (is : IsRecord value) (below : slot < length old) (there : length old < v.count) (holds : HoldsRecords old v) where
   in_set : (j : ℕ) → j ≡ slot → record_in (slice_set old slot value) j ≡ value
   in_set j e = subst (λ k. record_in (slice_set old slot value) k ≡ value) (sym e) (get_or-set_same old slot value Free below)
 
@@ -46,37 +46,37 @@ module _ (old : List Record) (v : StoreView) (slot : ℕ) (value : Record) (ok :
   within : (j : ℕ) → j < length (slice_set old slot value) → j < length old
   within j lt = subst (λ n. j < n) (length-set old slot value) lt
 
-  pub new_holds : ok ≡ true → Holds (slice_set old slot value) w
+  pub new_holds : ok ≡ true → HoldsRecords (slice_set old slot value) w
   new_holds done j lt = elim (cases_eq j slot) [
-    | inl e ↦ subst (IsStored w j) (sym (in_set j e)) (record { of_format = is; only = subst (λ k. IsOnly w (page_of k) (record_page value)) (sym e) (put.done done) })
-    | inr ne ↦ subst (IsStored w j) (sym (out_of_set j ne)) (same_stored v w j (record_in old j) (put.others (page_of j) (omega (arith, within j lt)) (λ e. ne (omega (arith, e)))) (holds j (within j lt)))
+    | inl e ↦ subst (IsStored w j) (sym (in_set j e)) (record { of_format = is; only = subst (λ k. IsOnly w (slot_page k) (record_page value)) (sym e) (put.done done) })
+    | inr ne ↦ subst (IsStored w j) (sym (out_of_set j ne)) (same_stored v w j (record_in old j) (put.others (slot_page j) (omega (arith, within j lt)) (λ e. ne (omega (arith, e)))) (holds j (within j lt)))
   ]
 
   says_old : (d : ℕ → List ℕ) → Leads v (λ c. c) d → Says d old
-  says_old d leads j lt = ap record_at (leads.2 (page_of j) (omega arith)) ∙ holds_says old v leads.0 there holds leads.1 j lt
+  says_old d leads j lt = ap record_at (leads.2 (slot_page j) (omega arith)) ∙ holds_says old v leads.0 there holds leads.1 j lt
 
-  says_new : (d : ℕ → List ℕ) → Leads v (λ c. with_page c (page_of slot) (record_page value)) d → Says d (slice_set old slot value)
+  says_new : (d : ℕ → List ℕ) → Leads v (λ c. with_page c (slot_page slot) (record_page value)) d → Says d (slice_set old slot value)
   says_new d leads j lt = elim (cases_eq j slot) [
-    | inl e ↦ page_says d j value is (leads.2 (page_of j) (omega (arith, within j lt)) ∙ with_same leads.0 (page_of slot) (record_page value) (page_of j) (ap page_of (sym e))) ∙ ap (λ (r : Record). Some r) (sym (in_set j e))
-    | inr ne ↦ ap record_at (leads.2 (page_of j) (omega (arith, within j lt)) ∙ with_other leads.0 (page_of slot) (record_page value) (page_of j) (λ e. ne (omega (arith, e))))
+    | inl e ↦ page_says d j value is (leads.2 (slot_page j) (omega (arith, within j lt)) ∙ with_same leads.0 (slot_page slot) (record_page value) (slot_page j) (ap slot_page (sym e))) ∙ ap (λ (r : Record). Some r) (sym (in_set j e))
+    | inr ne ↦ ap record_at (leads.2 (slot_page j) (omega (arith, within j lt)) ∙ with_other leads.0 (slot_page slot) (record_page value) (slot_page j) (λ e. ne (omega (arith, e))))
         ∙ holds_says old v leads.0 there holds leads.1 j (within j lt) ∙ ap (λ (r : Record). Some r) (sym (out_of_set j ne))
   ]
 
   pub says_old_or_new : (d : ℕ → List ℕ) → IsChoice w d → Says d old ⊎ Says d (slice_set old slot value)
-  says_old_or_new d choice = ⊎_elim (λ h. inl (says_old d h)) (λ h. inr (says_new d h)) (put_leads v (page_of slot) (record_page value) ok w put (omega arith) d choice)
+  says_old_or_new d choice = ⊎_elim (λ h. inl (says_old d h)) (λ h. inr (says_new d h)) (put_leads v (slot_page slot) (record_page value) ok w put (omega arith) d choice)
 
 module _ (old : List Record) (v : StoreView) (slot : ℕ) (value : Record) (w : StoreView) (is : IsRecord value) (below : slot < length old) (there : length old < v.count) where
-  pub puts_done : (new : List Record) → StorePut v (page_of slot) (record_page value) true w → new ≡ slice_set old slot value → Puts old v slot value true new w
+  pub puts_done : (new : List Record) → StorePut v (slot_page slot) (record_page value) true w → new ≡ slice_set old slot value → Puts old v slot value true new w
   puts_done new put e = record {
     put = put;
     done = λ _. e;
     slots = ap length e ∙ length-set old slot value;
     stopped = λ h. absurd (cc h);
-    holds = λ holds ok. subst (λ l. Holds l w) (sym e) (new_holds old v slot value true w put is below there holds ok);
+    holds = λ holds ok. subst (λ l. HoldsRecords l w) (sym e) (new_holds old v slot value true w put is below there holds ok);
     old_or_new = λ holds d choice. says_old_or_new old v slot value true w put is below there holds d choice;
   }
 
-  pub puts_stopped : (ok : Bool) → ok ≡ false → StorePut v (page_of slot) (record_page value) false w → Puts old v slot value ok old w
+  pub puts_stopped : (ok : Bool) → ok ≡ false → StorePut v (slot_page slot) (record_page value) false w → Puts old v slot value ok old w
   puts_stopped ok err put = subst (λ b. Puts old v slot value b old w) (sym err) (record {
     put = put;
     done = λ h. absurd (cc h);
@@ -118,7 +118,7 @@ ready_within records slot ready = elim (cases_lt slot (length records)) [
 
 -- it is found by the same number, and has a page
 pub record IsLike (old new : Record) : Type 0 where
-  pub number : number_of new ≡ number_of old
+  pub number : record_number new ≡ record_number old
   pub free : is_free new ≡ is_free old
   pub prepares : prepares new ≡ prepares old
   pub page : has_page new ≡ has_page old

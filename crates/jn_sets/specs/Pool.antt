@@ -87,12 +87,12 @@ number_wanted (WantedFlag tid) = spread tid.ticket 1
 number_wanted (WantedIntention work order) = spread work.ticket (order + 2)
 
 -- a free slot has none
-abbrev pub number_of : Record → Option ℕ
-number_of Free = None
-number_of (Intention work tid order i) = Some (spread work.ticket (order + 2))
-number_of (Ready head intentions reads) = Some (spread head.work.ticket 0)
-number_of (Going head intentions reads) = Some (spread head.work.ticket 0)
-number_of (FlagRecord f) = Some (spread f.tid.ticket 1)
+abbrev pub record_number : Record → Option ℕ
+record_number Free = None
+record_number (Intention work tid order i) = Some (spread work.ticket (order + 2))
+record_number (Ready head intentions reads) = Some (spread head.work.ticket 0)
+record_number (Going head intentions reads) = Some (spread head.work.ticket 0)
+record_number (FlagRecord f) = Some (spread f.tid.ticket 1)
 
 -- an intention whose work has no ready or going record
 abbrev pub is_rubbish : List Record → Record → Bool
@@ -120,12 +120,12 @@ kept_by records _ = 0
 -- ---- records on pages
 
 -- a slot's page stands behind the root
-abbrev pub page_of : ℕ → ℕ
-page_of slot = slot + 1
+abbrev pub slot_page : ℕ → ℕ
+slot_page slot = slot + 1
 
 -- what the pool's pages say: of each slot its record, where its page is one
 abbrev pub members_in : (ℕ → List ℕ) → ℕ → Option Record
-members_in pages slot = record_at (pages (page_of slot))
+members_in pages slot = record_at (pages (slot_page slot))
 
 -- a value that a page of the pool can have
 pub record IsRecord (r : Record) : Type 0 where
@@ -139,17 +139,17 @@ IsRecordPage page = (r : Record) × IsRecord r × (page ≡ record_page r)
 
 -- a slot's page has one candidate, which is of the format
 pub record IsReadable (v : StoreView) (slot : ℕ) : Type 0 where
-  pub clean : IsClean v (page_of slot)
-  pub page : IsRecordPage (v.first (page_of slot))
+  pub clean : IsClean v (slot_page slot)
+  pub page : IsRecordPage (v.first (slot_page slot))
 
 -- the one candidate of a slot's page is the page of this record
 pub record IsStored (v : StoreView) (slot : ℕ) (r : Record) : Type 0 where
   pub of_format : IsRecord r
-  pub only : IsOnly v (page_of slot) (record_page r)
+  pub only : IsOnly v (slot_page slot) (record_page r)
 
 -- so it is with each slot
-abbrev pub Holds : List Record → StoreView → Type 0
-Holds records v = (slot : ℕ) → slot < length records → IsStored v slot (record_in records slot)
+abbrev pub HoldsRecords : List Record → StoreView → Type 0
+HoldsRecords records v = (slot : ℕ) → slot < length records → IsStored v slot (record_in records slot)
 
 -- the pool's pages say these records
 abbrev pub Says : (ℕ → List ℕ) → List Record → Type 0

@@ -6,7 +6,7 @@ use Rattle.jn_records.specs.declared.record.Record.{Record}
 use Rattle.jn_records.specs.Records.{record_page, has_page}
 use Rattle.jn_store.specs.Store.{StoreView, StoreLater, StorePut, IsSamePage}
 use Rattle.jn_store.specs.Choices.{IsChoice}
-use Rattle.jn_sets.specs.Pool.{page_of, record_in, number_of, is_free, free_count, prepares, is_rubbish, rubbish_count, Holds, Says}
+use Rattle.jn_sets.specs.Pool.{slot_page, record_in, record_number, is_free, free_count, prepares, is_rubbish, rubbish_count, HoldsRecords, Says}
 use Rattle.jn_index.specs.Numbers.{number_at}
 
 -- an index: it numbers its records from 0 on, and each has a page
@@ -17,7 +17,7 @@ pub record IsIndex (entries : List (ℕ × Record)) : Type 0 where
 
 -- each record's number, how many are free, and how many make their works prepared ones
 pub record AreCounted (numbers : List (Option ℕ)) (free prepared : ℕ) (records : List Record) : Type 0 where
-  pub each : (slot : ℕ) → slot < length records → number_at numbers slot ≡ number_of (record_in records slot)
+  pub each : (slot : ℕ) → slot < length records → number_at numbers slot ≡ record_number (record_in records slot)
   pub free_is : free ≡ free_count records
   pub prepared_is : prepared ≡ count_by prepares records
 
@@ -54,11 +54,11 @@ pub record StoreRead (v : StoreView) (gets : ℕ) (w : StoreView) : Type 0 where
 
 -- one slot gets this record by one put of its page: the set and the store before, then after
 pub record Puts (old : List Record) (v : StoreView) (slot : ℕ) (value : Record) (ok : Bool) (new : List Record) (w : StoreView) : Type 0 where
-  pub put : StorePut v (page_of slot) (record_page value) ok w
+  pub put : StorePut v (slot_page slot) (record_page value) ok w
   pub done : ok ≡ true → new ≡ slice_set old slot value
   pub slots : length new ≡ length old
   -- the set is as before a stop, whatever the store holds
   pub stopped : ok ≡ false → new ≡ old
-  pub holds : Holds old v → ok ≡ true → Holds new w
+  pub holds : HoldsRecords old v → ok ≡ true → HoldsRecords new w
   -- and the pages, as they turn out to be, say the old records or the new
-  pub old_or_new : Holds old v → (d : ℕ → List ℕ) → IsChoice w d → Says d old ⊎ Says d (slice_set old slot value)
+  pub old_or_new : HoldsRecords old v → (d : ℕ → List ℕ) → IsChoice w d → Says d old ⊎ Says d (slice_set old slot value)

@@ -56,7 +56,7 @@ impl Slots {
         requires counts { (S.view store.old).count ≡ 1 + root.now.pool + root.now.heads + root.now.leaves }
         requires readable { (slot : ℕ) → slot < root.now.pool → pool.IsReadable (S.view store.old) slot }
         ensures slots { IfOk result (λ slots. length slots ≡ root.now.pool) }
-        ensures holds { IfOk result (λ slots. pool.Holds slots (S.view store.new)) }
+        ensures holds { IfOk result (λ slots. pool.HoldsRecords slots (S.view store.new)) }
         ensures read { StoreRead (S.view store.old) root.now.pool (S.view store.new) }
         ensures served { IsOk result → 0 < root.now.pool → IsServed (S.view store.old) (S.view store.new) }
         ensures stops { IsOk result → (S.view store.new).stops ≡ (S.view store.old).stops }
@@ -249,7 +249,7 @@ impl Slots {
 
 /// The slot's page, behind the root.
 fn page_of(slot: u16) -> u32
-    ensures { result ≡ pool.page_of slot }
+    ensures { result ≡ pool.slot_page slot }
 {
     u32::from(slot) + 1
 }
@@ -281,7 +281,7 @@ pub(crate) fn write_slot<S: StableStore>(
     requires there { slot + 1 < (S.view store.old).count }
     requires page { has_page value.now ≡ true }
     ensures is_record { pool.IsRecord value.now }
-    ensures put { StorePut (S.view store.old) (pool.page_of slot) (record_page value.now) (is_ok result) (S.view store.new) }
+    ensures put { StorePut (S.view store.old) (pool.slot_page slot) (record_page value.now) (is_ok result) (S.view store.new) }
 {
     record_fits(value);
     store.put(page_of(slot), &value.encode())

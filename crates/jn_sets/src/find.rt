@@ -49,7 +49,7 @@ pub(crate) fn number_wanted(wanted: Wanted) -> u32
 
 /// A record's number. A free slot has none.
 pub(crate) fn number_of(value: &Record) -> Option<u32>
-    ensures { result ≡ pool.number_of value.now }
+    ensures { result ≡ pool.record_number value.now }
 {
     match value {
         Record::Free => None,

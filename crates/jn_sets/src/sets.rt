@@ -57,7 +57,7 @@ impl Sets {
         requires counts { (S.view store.old).count ≡ 1 + root.now.pool + root.now.heads + root.now.leaves }
         requires readable { (slot : ℕ) → slot < root.now.pool → pool.IsReadable (S.view store.old) slot }
         ensures slots { IfOk result (λ sets. length sets ≡ root.now.pool) }
-        ensures holds { IfOk result (λ sets. pool.Holds sets (S.view store.new)) }
+        ensures holds { IfOk result (λ sets. pool.HoldsRecords sets (S.view store.new)) }
         ensures read { StoreRead (S.view store.old) root.now.pool (S.view store.new) }
         ensures served { IsOk result → 0 < root.now.pool → IsServed (S.view store.old) (S.view store.new) }
         ensures stops { IsOk result → (S.view store.new).stops ≡ (S.view store.old).stops }

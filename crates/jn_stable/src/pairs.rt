@@ -1,7 +1,7 @@
 // Pairs of careful pages as a store.
 ghost use Rattle.std.specs.Prelude.{◌≡◌, ◌≤◌, ◌<◌, ◌/◌, ◌^◌, ◌*◌, ℕ, is_ok};
 ghost use Rattle.std.proofs.Common.{arith};
-ghost use Rattle.jn_device.specs.Device.{IsSound};
+ghost use Rattle.jn_device.specs.Device.{IsSoundDevice};
 ghost use Rattle.jn_store.specs.Pairs.{pairs_view};
 ghost use Rattle.jn_store.specs.Store.{StoreGot, StorePut, StoreCleaned};
 ghost use Rattle.jn_stable.specs.Order.{GetsInOrder, PutsInOrder, CleansInOrder};
@@ -24,14 +24,14 @@ impl<D: PhysDisk> Model for Pairs<D> {
 
     ghost view = { λ s. s.disk };
 
-    ghost invariant = { λ s. IsSound (D.state s.disk) };
+    ghost invariant = { λ s. IsSoundDevice (D.state s.disk) };
 }
 
 impl<D: PhysDisk> Pairs<D> {
     /// A store on a disk with an even number of pages, of whose pairs at least one half is good.
     pub fn new(disk: D) -> Self
         requires even { 2 * ((D.state disk).count / 2) ≡ (D.state disk).count }
-        requires sound { IsSound (D.state disk) }
+        requires sound { IsSoundDevice (D.state disk) }
         ensures { result ≡ disk }
     {
         Pairs {
@@ -42,7 +42,7 @@ impl<D: PhysDisk> Pairs<D> {
     /// The disk, of whose pairs at least one half is good.
     pub fn into_inner(self) -> D
         ensures disk { result ≡ self }
-        ensures sound { IsSound (D.state result) }
+        ensures sound { IsSoundDevice (D.state result) }
     {
         let Pairs { disk } = self;
         disk.into_inner()

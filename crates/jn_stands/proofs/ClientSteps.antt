@@ -25,7 +25,7 @@ use Rattle.jn_written.specs.Deeds.{plain, delivered, no_room}
 use Rattle.jn_written.specs.Runs.{Moment}
 use Rattle.jn_written.specs.Steps.{message_texts, traced, lines_at}
 use Rattle.jn_written.specs.Tasks.{Task, when_of}
-use Rattle.jn_stands.specs.Stands.{Standing, is_client, Stands, posted_by, with_sent}
+use Rattle.jn_stands.specs.Stands.{Standing, is_client_number, Stands, posted_by, with_sent}
 use Rattle.jn_stands.specs.Clients.{with_client, texts_taken}
 use Rattle.jn_stands.specs.Going.{ActsNext, IsStepTo}
 use Rattle.jn_stands.proofs.Core.{ClientsStand}
@@ -87,11 +87,11 @@ module _ {S : Type 0} (look : S → StoreView) (device : S → DeviceState) (see
         (λ s n. ap (λ (o : Option Sent). left_by_sent v s no_room o n) (is-sent look device seen x w m stand k one posted (Client c) to)) (sent_for what) (texts_taken k what) (taken-none k t one.message) so.sent so.lines
         w.places (servers-same look device seen x w m stand _ (record { memory = λ q. ap (λ f. f q) so.memory; found = λ q. ap (λ f. f q) so.found; devices = λ q. refl })) ts clients (with_delivered k w.net.sent) refl lines
 
-  here-of : (c : ClientNo) → is_client c.0 ≡ true → (t : ClientTable) → slice_get w.clients (c.0 - 1) ≡ Some t → v.clients c ≡ t
+  here-of : (c : ClientNo) → is_client_number c.0 ≡ true → (t : ClientTable) → slice_get w.clients (c.0 - 1) ≡ Some t → v.clients c ≡ t
   here-of c is t at = subst (λ (n : ℕ). v.clients (record { 0 = n }) ≡ t) (one-of c is) (stand.clients (c.0 - 1) t at)
 
   -- one of the eight takes a message
-  pub client-took-step : (k : ℕ) (one : Posted) → slice_get w.net.sent k ≡ Some one → (c : ClientNo) → one.to ≡ Client c → is_client c.0 ≡ true → (t : ClientTable) → slice_get w.clients (c.0 - 1) ≡ Some t
+  pub client-took-step : (k : ℕ) (one : Posted) → slice_get w.net.sent k ≡ Some one → (c : ClientNo) → one.to ≡ Client c → is_client_number c.0 ≡ true → (t : ClientTable) → slice_get w.clients (c.0 - 1) ≡ Some t
       → (more : List Task) → ActsNext x m (events.Deliver k) more → (lines : List Line)
       → IsStepTo look device x m (more ++ drop 1 m.state.tasks)
       (with_sent (posted_by (Client c) (sent_for (take_row t one.message).1)) (with_client c (take_row t one.message).0 (record w { net = record w.net { sent = with_delivered k w.net.sent } })))
@@ -100,7 +100,7 @@ module _ {S : Type 0} (look : S → StoreView) (device : S → DeviceState) (see
       (client-moved look device seen x w m stand c is (take_row t one.message).0 (after (Deliver k no_room) v) (table-here k one posted c to more next t (here-of c is t at)) (table-there k one posted c to more next t (here-of c is t at))) lines
 
   -- another one is as new, and stays so
-  pub other-took-step : (k : ℕ) (one : Posted) → slice_get w.net.sent k ≡ Some one → (c : ClientNo) → one.to ≡ Client c → is_client c.0 ≡ false → (more : List Task) → ActsNext x m (events.Deliver k) more → (lines : List Line)
+  pub other-took-step : (k : ℕ) (one : Posted) → slice_get w.net.sent k ≡ Some one → (c : ClientNo) → one.to ≡ Client c → is_client_number c.0 ≡ false → (more : List Task) → ActsNext x m (events.Deliver k) more → (lines : List Line)
       → IsStepTo look device x m (more ++ drop 1 m.state.tasks)
       (with_sent (posted_by (Client c) (sent_for (take_row (new_table c x.servers) one.message).1)) (record w { net = record w.net { sent = with_delivered k w.net.sent } }))
       lines (lines ++ lines_at (when_of m.state) (texts_taken k (take_row (new_table c x.servers) one.message).1 ++ traced w.trace (message_texts (Client c) (length w.net.sent) (sent_for (take_row (new_table c x.servers) one.message).1))))

@@ -24,7 +24,7 @@ use Rattle.jn_store.specs.Pairs.{pairs_view}
 use Rattle.jn_store.specs.Store.{StoreView}
 use Rattle.jn_written.specs.Chances.{Setup}
 use Rattle.jn_written.specs.Runs.{Moment}
-use Rattle.jn_stands.specs.Stands.{Standing, is_client, Stands}
+use Rattle.jn_stands.specs.Stands.{Standing, is_client_number, Stands}
 use Rattle.jn_stands.specs.Clients.{texts_taken}
 use Rattle.jn_stands.proofs.Placed.{each-set}
 use Rattle.jn_stands.proofs.Core.{ClientsStand}
@@ -41,7 +41,7 @@ other-client c n h d = by (client_tells c (record { 0 = suc n }))
     by (inl t) = absurd (d (less c.0 (ap (λ (e : ClientNo). e.0) t.1)))
     by (inr t) = t.0
 
-pub one-of : (c : ClientNo) → is_client c.0 ≡ true → suc (c.0 - 1) ≡ c.0
+pub one-of : (c : ClientNo) → is_client_number c.0 ≡ true → suc (c.0 - 1) ≡ c.0
 one-of c h = grind (arith, nat_tests, h)
 
 not-first : (a b : Bool) → (a && b) ≡ true → a ≡ true
@@ -49,7 +49,7 @@ not-first a b h = grind arith
 
 module _ {S : Type 0} (look : S → StoreView) (device : S → DeviceState) (seen : (s : S) → look s ≡ pairs_view (device s)) (x : Setup) (w : Standing S) (m : Moment) (stand : Stands look device x w m) where
   -- one of the eight has this table now
-  pub client-moved : (c : ClientNo) → is_client c.0 ≡ true → (t : ClientTable) (u : World) → u.clients c ≡ t → ((d : ClientNo) → client_eq c d ≡ false → u.clients d ≡ m.state.course.world.clients d)
+  pub client-moved : (c : ClientNo) → is_client_number c.0 ≡ true → (t : ClientTable) (u : World) → u.clients c ≡ t → ((d : ClientNo) → client_eq c d ≡ false → u.clients d ≡ m.state.course.world.clients d)
       → ClientsStand x (slice_set w.clients (c.0 - 1) t) u
   client-moved c is t u here others = record {
     eight = length-set w.clients (c.0 - 1) t ∙ stand.eight;
@@ -58,15 +58,15 @@ module _ {S : Type 0} (look : S → StoreView) (device : S → DeviceState) (see
     others = λ d o. others d (apart d o (client_tells c d)) ∙ stand.other_clients d o;
   }
     where
-      apart : (d : ClientNo) → is_client d.0 ≡ false → ((client_eq c d ≡ true) × (c ≡ d)) ⊎ ((client_eq c d ≡ false) × (c ≢ d)) → client_eq c d ≡ false
-      apart d o (inl z) = absurd (clash (sym (subst (λ (e : ClientNo). is_client e.0 ≡ true) z.1 is) ∙ o))
+      apart : (d : ClientNo) → is_client_number d.0 ≡ false → ((client_eq c d ≡ true) × (c ≡ d)) ⊎ ((client_eq c d ≡ false) × (c ≢ d)) → client_eq c d ≡ false
+      apart d o (inl z) = absurd (clash (sym (subst (λ (e : ClientNo). is_client_number e.0 ≡ true) z.1 is) ∙ o))
         where
           clash : true ≡ false → ⊥
           clash e = cc
       apart d o (inr z) = z.0
 
   -- one that isn't stays as it begins
-  pub other-stays : (c : ClientNo) → is_client c.0 ≡ false → (u : World) → u.clients c ≡ new_table c x.servers → ((d : ClientNo) → client_eq c d ≡ false → u.clients d ≡ m.state.course.world.clients d)
+  pub other-stays : (c : ClientNo) → is_client_number c.0 ≡ false → (u : World) → u.clients c ≡ new_table c x.servers → ((d : ClientNo) → client_eq c d ≡ false → u.clients d ≡ m.state.course.world.clients d)
       → ClientsStand x w.clients u
   other-stays c is u here others = record {
     eight = stand.eight;
@@ -78,7 +78,7 @@ module _ {S : Type 0} (look : S → StoreView) (device : S → DeviceState) (see
       clients-are n t e (inl z) = subst (λ (d : ClientNo). u.clients d ≡ t) z.1 (here ∙ sym (stand.other_clients c is) ∙ ap m.state.course.world.clients z.1 ∙ stand.clients n t e)
       clients-are n t e (inr z) = others (record { 0 = suc n }) z.0 ∙ stand.clients n t e
 
-      others-are : (d : ClientNo) → is_client d.0 ≡ false → ((client_eq c d ≡ true) × (c ≡ d)) ⊎ ((client_eq c d ≡ false) × (c ≢ d)) → u.clients d ≡ new_table d x.servers
+      others-are : (d : ClientNo) → is_client_number d.0 ≡ false → ((client_eq c d ≡ true) × (c ≡ d)) ⊎ ((client_eq c d ≡ false) × (c ≢ d)) → u.clients d ≡ new_table d x.servers
       others-are d o (inl z) = subst (λ (e : ClientNo). u.clients e ≡ new_table e x.servers) z.1 here
       others-are d o (inr z) = others d z.0 ∙ stand.other_clients d o
 

@@ -32,7 +32,7 @@ use Rattle.jn_written.specs.Deeds.{served}
 use Rattle.jn_written.specs.Runs.{Moment}
 use Rattle.jn_written.specs.Steps.{lines_at}
 use Rattle.jn_written.specs.Tasks.{ClosesClients, when_of, next_task}
-use Rattle.jn_stands.specs.Stands.{Standing, is_client, Stands}
+use Rattle.jn_stands.specs.Stands.{Standing, is_client_number, Stands}
 use Rattle.jn_stands.specs.Pages.{HasCounts}
 use Rattle.jn_stands.specs.Going.{IsStepTo}
 use Rattle.jn_stands.proofs.Dismissing.{there-is}
@@ -46,7 +46,7 @@ module _ {S : Type 0} (look : S → StoreView) (device : S → DeviceState) (see
   pub all-idle : ((n : ℕ) (t : ClientTable) → slice_get w.clients n ≡ Some t → IsIdle t) → (c : ClientNo) → IsIdle (m.state.course.world.clients c)
   all-idle idle c = by c.0
     where
-      others : (k : ℕ) → is_client k ≡ false → IsIdle (m.state.course.world.clients (record { 0 = k }))
+      others : (k : ℕ) → is_client_number k ≡ false → IsIdle (m.state.course.world.clients (record { 0 = k }))
       others k e = subst (λ (t : ClientTable). IsIdle t) (sym (stand.other_clients (record { 0 = k }) e)) (refl, refl)
 
       one : (n : ℕ) → (t : ClientTable) × (slice_get w.clients n ≡ Some t) → IsIdle (m.state.course.world.clients (record { 0 = suc n }))
@@ -55,7 +55,7 @@ module _ {S : Type 0} (look : S → StoreView) (device : S → DeviceState) (see
       below : (n : ℕ) → nat_lt n 8 ≡ true → n < 8
       below n e = grind (arith, nat_tests, e)
 
-      past : (n : ℕ) → nat_lt n 8 ≡ false → is_client (suc n) ≡ false
+      past : (n : ℕ) → nat_lt n 8 ≡ false → is_client_number (suc n) ≡ false
       past n e = grind (arith, nat_tests, e)
 
       either : (n : ℕ) (b : Bool) → nat_lt n 8 ≡ b → IsIdle (m.state.course.world.clients (record { 0 = suc n }))

@@ -18,7 +18,7 @@ use Rattle.jn_written.specs.Chances.{Setup}
 use Rattle.jn_written.specs.Runs.{Moment}
 use Rattle.jn_written.specs.Steps.{message_texts, traced, lines_at}
 use Rattle.jn_written.specs.Tasks.{Task, when_of}
-use Rattle.jn_stands.specs.Stands.{Standing, is_client, Stands, posted_by, with_sent}
+use Rattle.jn_stands.specs.Stands.{Standing, is_client_number, Stands, posted_by, with_sent}
 use Rattle.jn_stands.specs.Clients.{with_client, texts_commanded, sent_commanded, table_commanded}
 use Rattle.jn_stands.specs.Going.{ActsNext, IsStepTo}
 use Rattle.jn_stands.proofs.Servers.{servers-same, clients-same}
@@ -53,7 +53,7 @@ names-none c event (Refuses refusal) = refl
 names-none c event (Sends t to message) = refl
 
 module _ {S : Type 0} (look : S → StoreView) (device : S → DeviceState) (seen : (s : S) → look s ≡ pairs_view (device s)) (x : Setup) (w : Standing S) (m : Moment) (stand : Stands look device x w m)
-    (c : ClientNo) (is : is_client c.0 ≡ true) (t : ClientTable) (at : slice_get w.clients (c.0 - 1) ≡ Some t) (more : List Task) where
+    (c : ClientNo) (is : is_client_number c.0 ≡ true) (t : ClientTable) (at : slice_get w.clients (c.0 - 1) ≡ Some t) (more : List Task) where
   abbrev v : World
   v = m.state.course.world
 

@@ -29,7 +29,7 @@ use Rattle.jn_written.specs.Steps.{texts_of, lines_at, come_to, cut_short}
 use Rattle.jn_written.specs.Tasks.{Task, State, when_of, next_task, begun}
 use Rattle.jn_written.proofs.Computed.{may-lead}
 use Rattle.jn_written.proofs.Named.{names}
-use Rattle.jn_stands.specs.Stands.{Standing, is_client, PlaceStands, Stands}
+use Rattle.jn_stands.specs.Stands.{Standing, is_client_number, PlaceStands, Stands}
 use Rattle.jn_stands.specs.Going.{ActsNext, IsStepTo}
 use Rattle.jn_stands.proofs.Made.{Makes, made-leads, made-cuts, carried-length, not-too-much, too-much}
 
@@ -55,7 +55,7 @@ pub record ServersStand {S : Type 0} (look : S → StoreView) (device : S → De
 pub record ClientsStand (x : Setup) (ts : List ClientTable) (w : World) : Type 0 where
   pub eight : length ts ≡ 8
   pub clients : (n : ℕ) (t : ClientTable) → slice_get ts n ≡ Some t → w.clients (record { 0 = suc n }) ≡ t
-  pub others : (c : ClientNo) → is_client c.0 ≡ false → w.clients c ≡ new_table c x.servers
+  pub others : (c : ClientNo) → is_client_number c.0 ≡ false → w.clients c ≡ new_table c x.servers
 
 pub record NetStands (n : Carried) (its : Tid → Bool) (count : ℕ) (c : Course) : Type 0 where
   pub net : Carries n c

@@ -43,8 +43,8 @@ pub record Standing (S : Type 0) : Type 0 where
   pub commits : ℕ
   pub trace : Bool
 
-abbrev pub is_client : ℕ → Bool
-is_client c = nat_lt 0 c && nat_lt c 9
+abbrev pub is_client_number : ℕ → Bool
+is_client_number c = nat_lt 0 c && nat_lt c 9
 
 -- a server with its memory, what is found of it, which is one state while it is up, and its device
 abbrev pub StandsAt : {S : Type 0} → (S → StoreView) → (S → DeviceState) → Counts → Slot S → Option Memory → (Pick → StableState) → DeviceState → Type 0
@@ -66,7 +66,7 @@ pub record Stands {S : Type 0} (look : S → StoreView) (device : S → DeviceSt
   pub eight : length w.clients ≡ 8
   pub clients : (n : ℕ) (t : ClientTable) → slice_get w.clients n ≡ Some t → m.state.course.world.clients (record { 0 = suc n }) ≡ t
   -- a client that isn't one of the eight stays as it begins
-  pub other_clients : (c : ClientNo) → is_client c.0 ≡ false → m.state.course.world.clients c ≡ new_table c x.servers
+  pub other_clients : (c : ClientNo) → is_client_number c.0 ≡ false → m.state.course.world.clients c ≡ new_table c x.servers
   pub net : Carries w.net m.state.course
   pub named : (T : Tid) → w.named T ≡ has_line T m.state.course.world.lines
   pub commits : w.commits ≡ length (commits_in m.state.course.world.lines)

@@ -12,7 +12,7 @@ use Rattle.jn_order.specs.Files.{Files, change}
 use Rattle.jn_records.specs.declared.intention.What.{What}
 use Rattle.jn_records.specs.declared.intention.What.TheVariants.{Fresh, Gone, Cut, Put}
 use Rattle.jn_records.specs.declared.intention.Intention.{Intention}
-use Rattle.jn_records.specs.NetLists.{intention_change, place_of, in_order, entry, is_fresh, needs_a_head}
+use Rattle.jn_records.specs.NetLists.{intention_change, intention_place, in_order, entry, is_fresh, needs_a_head}
 use Rattle.jn_records.proofs.NetLemmas.{no_entry}
 use Rattle.jn_locks.specs.declared.words.Mode.{Mode}
 use Rattle.jn_locks.specs.declared.words.Mode.TheVariants.{Read, Commit}
@@ -25,10 +25,10 @@ use Rattle.jn_storage.specs.Storage.{file_there}
 -- ---- an intention of a list
 
 -- it is what its file has at its place
-pub entry-of : (list : List Intention) (n : ℕ) (i : Intention) (last : Option Intention) → in_order last list ≡ true → slice_get list n ≡ Some i → entry list i.file (place_of i) ≡ Some i
+pub entry-of : (list : List Intention) (n : ℕ) (i : Intention) (last : Option Intention) → in_order last list ≡ true → slice_get list n ≡ Some i → entry list i.file (intention_place i) ≡ Some i
 entry-of [] n i last h e = absurd (cc e)
 entry-of (x ∷ xs) zero i last h e = grind (arith, nat_tests, e)
-entry-of (x ∷ xs) (suc n) i last h e = let again = entry-of xs n i (Some x) (grind arith) e in let none = no_entry x xs i.file (place_of i) (grind arith) in grind (arith, nat_tests)
+entry-of (x ∷ xs) (suc n) i last h e = let again = entry-of xs n i (Some x) (grind arith) e in let none = no_entry x xs i.file (intention_place i) (grind arith) in grind (arith, nat_tests)
 
 -- and its unit is one of the list's
 pub unit-of : (list : List Intention) (n : ℕ) (i : Intention) → slice_get list n ≡ Some i → is_unit (map unit_of list) (unit_of i) ≡ true
@@ -106,8 +106,8 @@ as_few a b c d false q e f g t = grind (arith, g)
 
 fresh-step : (x : Intention) (xs : List Intention) (i : Intention) (there after : FileNo → Bool) (w : What) → x.what ≡ w → i.what ≡ Fresh → there i.file ≡ false
     → ((f : FileNo) → after f ≡ made_there Fresh (file_eq i.file f) (there f))
-    → ((file_eq x.file i.file && nat_eq (place_of x) zero) ≡ true → needs after xs ≡ needs there xs)
-    → (entry xs i.file zero ≡ Some i → needs after xs + 1 ≡ needs there xs) → (b : Bool) → (file_eq x.file i.file && nat_eq (place_of x) zero) ≡ b → (if b then Some x else entry xs i.file zero) ≡ Some i → needs after (x ∷ xs) + 1 ≡ needs there (x ∷ xs)
+    → ((file_eq x.file i.file && nat_eq (intention_place x) zero) ≡ true → needs after xs ≡ needs there xs)
+    → (entry xs i.file zero ≡ Some i → needs after xs + 1 ≡ needs there xs) → (b : Bool) → (file_eq x.file i.file && nat_eq (intention_place x) zero) ≡ b → (if b then Some x else entry xs i.file zero) ≡ Some i → needs after (x ∷ xs) + 1 ≡ needs there (x ∷ xs)
 fresh-step x xs i there after w is fresh absent f same again true m e = fewer _ _ _ _ _ _ (needs-cons there x xs) (needs-cons after x xs) one none (same m)
   where
     own : x ≡ i
@@ -123,7 +123,7 @@ fresh-step x xs i there after Gone is fresh absent f same again false m e = as_f
 fresh-step x xs i there after Cut is fresh absent f same again false m e = as_few _ _ _ _ _ _ (needs-cons there x xs) (needs-cons after x xs) (grind (arith, is)) (again e)
 fresh-step x xs i there after Put is fresh absent f same again false m e = as_few _ _ _ _ _ _ (needs-cons there x xs) (needs-cons after x xs) (grind (arith, is)) (again e)
 
-none-behind : (x : Intention) (xs : List Intention) (f : FileNo) → in_order (Some x) xs ≡ true → (file_eq x.file f && nat_eq (place_of x) zero) ≡ true → is_not_fresh (entry xs f zero) ≡ true
+none-behind : (x : Intention) (xs : List Intention) (f : FileNo) → in_order (Some x) xs ≡ true → (file_eq x.file f && nat_eq (intention_place x) zero) ≡ true → is_not_fresh (entry xs f zero) ≡ true
 none-behind x xs f h m = let none = no_entry x xs f zero h (inr (grind (arith, nat_tests, m), omega arith)) in subst (λ o. is_not_fresh o ≡ true) (sym none) refl
 
 pub needs-fresh : (i : Intention) (there after : FileNo → Bool) (list : List Intention) (last : Option Intention) → i.what ≡ Fresh → there i.file ≡ false

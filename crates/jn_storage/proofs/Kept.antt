@@ -15,7 +15,7 @@ use Rattle.jn_records.specs.declared.flag.Flag.{Flag}
 use Rattle.jn_records.specs.declared.intention.What.{What}
 use Rattle.jn_records.specs.declared.intention.What.TheVariants.{Fresh, Gone, Cut, Put}
 use Rattle.jn_records.specs.declared.intention.Intention.{Intention}
-use Rattle.jn_records.specs.NetLists.{intention_change, place_of, in_order, entry, first_by, as_first, net_of, is_put, is_fresh}
+use Rattle.jn_records.specs.NetLists.{intention_change, intention_place, in_order, entry, first_by, as_first, net_of, is_put, is_fresh}
 use Rattle.jn_locks.specs.declared.words.Mode.{Mode}
 use Rattle.jn_locks.specs.declared.words.Mode.TheVariants.{Read, IntentionWrite, Commit}
 use Rattle.jn_locks.specs.Asked.{rebuilt}
@@ -267,7 +267,7 @@ needs-own i k files list h at = by i.what refl
         still_by true e h = absurd (cc e)
         still_by false e h = add-zero _ ∙ h
 
-    entry_is : place_of i ≡ zero → entry list i.file zero ≡ Some i
+    entry_is : intention_place i ≡ zero → entry list i.file zero ≡ Some i
     entry_is e = subst (λ n. entry list i.file n ≡ Some i) e (entry-of list k i None h at)
 
     fresh : (b : Bool) → file_there files i.file ≡ b → i.what ≡ Fresh → needs after list + one_if (makes_file i files) ≡ needs (file_there files) list

@@ -36,7 +36,7 @@ pub record IsOnly (v : StoreView) (i : ℕ) (page : List ℕ) : Type 0 where
   pub second : v.second i ≡ page
 
 -- both halves of a page are good and equal
-pub record IsWhole (v : StoreView) (i : ℕ) : Type 0 where
+pub record IsWholePage (v : StoreView) (i : ℕ) : Type 0 where
   pub both : v.both i ≡ true
   pub clean : IsClean v i
 
@@ -69,7 +69,7 @@ pub record StoreLater (v w : StoreView) : Type 0 where
   pub quiet : v.waiting ≡ [] → w.waiting ≡ []
   pub calm : IsCalm v → IsCalm w
   pub no_stop : IsCalm v → w.stops ≡ v.stops
-  pub whole : IsCalm v → (i : ℕ) → i < v.count → IsWhole v i → IsWhole w i
+  pub whole : IsCalm v → (i : ℕ) → i < v.count → IsWholePage v i → IsWholePage w i
 
 -- a call that is answered Ok
 pub record IsServed (v w : StoreView) : Type 0 where
@@ -102,7 +102,7 @@ pub record StorePut (v : StoreView) (i : ℕ) (page : List ℕ) (ok : Bool) (w :
   pub others : (j : ℕ) → j < v.count → j ≢ i → IsSamePage v w j
   pub served : ok ≡ true → IsServed v w
   pub stop : ok ≡ false → IsStop v w
-  pub calm : IsCalm v → (ok ≡ true) × IsWhole w i
+  pub calm : IsCalm v → (ok ≡ true) × IsWholePage w i
 
 -- the store step of a cleanup of page i
 pub record StoreCleaned (v : StoreView) (i : ℕ) (answer : Result Bool Stopped) (w : StoreView) : Type 0 where
@@ -114,16 +114,16 @@ pub record StoreCleaned (v : StoreView) (i : ℕ) (answer : Result Bool Stopped)
   -- it answers whether it wrote, and a whole page needs no write
   pub wrote : answer ≡ Ok true → Rose v.puts w.puts
   pub unwritten : answer ≡ Ok false → (w.puts ≡ v.puts) × ((j : ℕ) → IsSamePage v w j)
-  pub needless : IsCalm v → IsWhole v i → answer ≡ Ok false
+  pub needless : IsCalm v → IsWholePage v i → answer ≡ Ok false
   pub served : is_ok answer ≡ true → IsServed v w
   pub stop : is_ok answer ≡ false → IsStop v w
-  pub calm : IsCalm v → (is_ok answer ≡ true) × IsWhole w i
+  pub calm : IsCalm v → (is_ok answer ≡ true) × IsWholePage w i
 
 -- pages of zeros, and no fault
 pub record IsBlank (count : ℕ) (v : StoreView) : Type 0 where
   pub count_is : v.count ≡ count
   pub pages : (i : ℕ) → i < count → IsOnly v i blank_page
-  pub whole : (i : ℕ) → i < count → IsWhole v i
+  pub whole : (i : ℕ) → i < count → IsWholePage v i
   pub calm : IsCalm v
   pub told : v.told ≡ []
   pub calls : v.calls ≡ 0

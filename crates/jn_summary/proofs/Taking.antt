@@ -10,7 +10,7 @@ use Rattle.jn_report.specs.declared.line.Text.{Text}
 use Rattle.jn_report.specs.Text.{report_text, text_of}
 use Rattle.jn_summary.specs.declared.counts.Counts.{Counts}
 use Rattle.jn_summary.specs.declared.summary.Summary.{Summary}
-use Rattle.jn_summary.specs.Summary.{count_of, counted, counts_of, is_aborted, is_commit, is_outside, is_refused, is_stopped, more, summary_text, told}
+use Rattle.jn_summary.specs.Summary.{count_of, counted, line_counts, is_aborted, is_commit, is_outside, is_refused, is_stopped, more, summary_text, told}
 use Rattle.jn_summary.specs.Taken.{HasTaken}
 
 capped : (n : ℕ) (one : Bool) → min (n + cond one 1 0) (2 ^ 64 - 1) ≡ more one (min n (2 ^ 64 - 1))
@@ -30,7 +30,7 @@ report_more (m ∷ ls) l = ap (λ (t : List ℕ). text_of m ++ t) (report_more l
 same_five : (f : ℕ → ℕ → ℕ → ℕ → ℕ → Counts) (a a' b b' c c' d d' e e' : ℕ) → a ≡ a' → b ≡ b' → c ≡ c' → d ≡ d' → e ≡ e' → f a b c d e ≡ f a' b' c' d' e'
 same_five f a a' b b' c c' d d' e e' p q r s t = cc
 
-counts_more : (ls : List Line) (l : Line) → counts_of (ls ++ l ∷ []) ≡ counted (counts_of ls) l.text
+counts_more : (ls : List Line) (l : Line) → line_counts (ls ++ l ∷ []) ≡ counted (line_counts ls) l.text
 counts_more ls l =
     same_five (λ a b c d e. record { commits = a; aborted = b; refused = c; stopped = d; outside = e })
     (count_of is_commit (ls ++ l ∷ [])) (more (is_commit l.text) (count_of is_commit ls))

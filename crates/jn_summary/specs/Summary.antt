@@ -36,8 +36,8 @@ is_outside _ = false
 abbrev pub count_of : (Text → Bool) → List Line → ℕ
 count_of kind ls = min (count_by (λ (l : Line). kind l.text) ls) (2 ^ 64 - 1)
 
-abbrev pub counts_of : List Line → Counts
-counts_of ls = record {
+abbrev pub line_counts : List Line → Counts
+line_counts ls = record {
   commits = count_of is_commit ls;
   aborted = count_of is_aborted ls;
   refused = count_of is_refused ls;
@@ -65,7 +65,7 @@ told seed events c digest =
     ++ 10 ∷ []
 
 abbrev pub summary_text : ℕ → ℕ → List Line → List ℕ
-summary_text seed events ls = told seed events (counts_of ls) (encode_lower (sha256 (report_text ls)))
+summary_text seed events ls = told seed events (line_counts ls) (encode_lower (sha256 (report_text ls)))
 
 -- ---- counting, line by line
 

@@ -1,6 +1,6 @@
 //! How many lines of each kind a report has.
 ghost use Rattle.std.specs.Prelude.{◌≡◌, []};
-ghost use Rattle.jn_summary.specs.Summary.{counted, counts_of, is_aborted, is_commit, is_outside, is_refused, is_stopped, more};
+ghost use Rattle.jn_summary.specs.Summary.{counted, line_counts, is_aborted, is_commit, is_outside, is_refused, is_stopped, more};
 
 use jn_report::Text;
 
@@ -17,7 +17,7 @@ pub(crate) struct Counts {
 impl Counts {
     /// The counts of no lines.
     pub(crate) fn new() -> Counts
-        ensures { result ≡ counts_of [] }
+        ensures { result ≡ line_counts [] }
     {
         Counts {
             commits: 0,

@@ -7,7 +7,7 @@ ghost use Rattle.jn_system.specs.WholeSystem.World.{opening};
 ghost use Rattle.jn_system.specs.WholeSystem.Steps.{Step, IsRun};
 ghost use Rattle.jn_system_settling.specs.Settling.Course.{opening_course, go_on};
 ghost use Rattle.jn_system_settling.specs.Settling.Settle.{Chance};
-ghost use Rattle.jn_system_settling.specs.AtRest.Settled.{AreDecided, IsSettled, Leaves};
+ghost use Rattle.jn_system_settling.specs.AtRest.Settled.{AreDecided, IsSettled, LeavesBetween};
 ghost use Rattle.jn_system_settling.specs.AtRest.Example.{forgotten_work};
 
 /// A settle that ends with all servers up settles, whatever ran before and whatever befalls its steps: no message waits and no
@@ -16,7 +16,7 @@ ghost use Rattle.jn_system_settling.specs.AtRest.Example.{forgotten_work};
 /// undecided, or whose commit or abort was told in this settle.
 pub fn a_settle_settles()
     ensures { (servers : ℕ) (files : AllFiles) (epochs : ServerNo → ℕ) (steps : List Step) → servers ≤ 8 → IsRun steps (opening servers files epochs)
-        → (first second : ℕ → Chance) → Leaves servers first second (go_on steps (opening_course servers files epochs)) (IsSettled servers) }
+        → (first second : ℕ → Chance) → LeavesBetween servers first second (go_on steps (opening_course servers files epochs)) (IsSettled servers) }
 {}
 
 /// A work of a transaction that no one holds or tells of isn't left by it.

@@ -4,7 +4,7 @@ ghost use Rattle.std.specs.Prelude.{◌≡◌, not, true, ◌&&◌, [], ◌∷�
 ghost use Rattle.std.specs.Option.{option_copied};
 ghost use Rattle.jn_rows.specs.Coordinator as rows;
 ghost use Rattle.jn_transactions.specs.declared.faults.CoordFault.TheVariants.{Memory};
-ghost use Rattle.jn_transactions.specs.Listed.{place_of};
+ghost use Rattle.jn_transactions.specs.Listed.{transaction_place};
 ghost use Rattle.jn_transactions.specs.Stages.{is_aborted, ready_in};
 
 use crate::faults::CoordFault;
@@ -14,8 +14,8 @@ use jn_rows::{Committed, Stage, Transaction, Voting};
 use std::alloc::{AllocError, Global};
 
 /// The place of a transaction.
-fn place_of(transactions: &[Transaction], tid: Tid) -> Option<usize>
-    ensures { result ≡ place_of tid transactions.now }
+fn transaction_place(transactions: &[Transaction], tid: Tid) -> Option<usize>
+    ensures { result ≡ transaction_place tid transactions.now }
 {
     for i in 0..transactions.len() {
         if transactions[i].tid == tid {
@@ -41,7 +41,7 @@ pub fn find(transactions: &[Transaction], tid: Tid) -> Option<&Transaction>
 pub fn set_stage(transactions: &mut [Transaction], tid: Tid, stage: Stage)
     ensures { transactions.new ≡ rows.with_stage tid stage transactions.old }
 {
-    if let Some(i) = place_of(transactions, tid) {
+    if let Some(i) = transaction_place(transactions, tid) {
         transactions[i].stage = stage;
     }
 }
@@ -52,7 +52,7 @@ pub fn remove(transactions: &mut Vec<Transaction>, tid: Tid)
     ensures items { transactions.new.items ≡ rows.without tid transactions.old.items }
     ensures capacity { vec_capacity transactions.new ≡ vec_capacity transactions.old }
 {
-    if let Some(i) = place_of(transactions, tid) {
+    if let Some(i) = transaction_place(transactions, tid) {
         transactions.remove(i);
     }
 }

@@ -16,7 +16,7 @@ use Rattle.jn_records.specs.declared.intention.What.{What}
 use Rattle.jn_records.specs.declared.intention.What.TheVariants.{Fresh, Gone, Cut, Put}
 use Rattle.jn_records.specs.declared.work.WorkState.{WorkState}
 use Rattle.jn_locks.specs.Locks.{Table, is_unit}
-use Rattle.jn_locks.specs.Asked.{Fits as LocksFit, Rebuilds, rebuilt}
+use Rattle.jn_locks.specs.Asked.{LocksFit, Rebuilds, rebuilt}
 use Rattle.jn_locks.proofs.Orders.{unit_tells}
 use Rattle.jn_rows.specs.declared.worker.Work.{Work}
 use Rattle.jn_rows.specs.declared.worker.Phase.TheVariants.{Prepared as Stored}

@@ -22,7 +22,7 @@ use Rattle.jn_rows.specs.Outcomes.{Sent}
 use Rattle.jn_schedule.specs.declared.Event.TheVariants as events
 use Rattle.jn_stands.specs.Clients.{with_client, texts_taken, texts_commanded, sent_commanded, table_commanded}
 use Rattle.jn_stands.specs.Going.{IsStepTo}
-use Rattle.jn_stands.specs.Stands.{Standing, is_client, posted_by, with_sent}
+use Rattle.jn_stands.specs.Stands.{Standing, is_client_number, posted_by, with_sent}
 use Rattle.jn_stands.proofs.ClientSteps.{client-took-step, other-took-step}
 use Rattle.jn_stands.proofs.Commands.{told-step, asked-step}
 use Rattle.jn_report.specs.declared.line.Refusal.{Refusal}
@@ -47,7 +47,7 @@ unsent : {S : Type 0} (w : Standing S) → w ≡ record w { net = record w.net {
 unsent {S} w = ap (λ (ms : List Posted). record w { net = record w.net { sent = ms } }) (sym (append-nil w.net.sent))
 
 -- the table that an index reads
-pub client-is : (ts : List ClientTable) (c : ClientNo) (i : ℕ) (t : ClientTable) → is_client c.0 ≡ true → i + 1 ≡ c.0 → length ts ≡ 8 → t ≡ get_or ts i t → slice_get ts i ≡ Some t
+pub client-is : (ts : List ClientTable) (c : ClientNo) (i : ℕ) (t : ClientTable) → is_client_number c.0 ≡ true → i + 1 ≡ c.0 → length ts ≡ 8 → t ≡ get_or ts i t → slice_get ts i ≡ Some t
 client-is ts c i t is index eight read =
     let within : i < length ts = grind (arith, nat_tests) in
     slice_get-get_or ts i t within ∙ ap (λ (x : ClientTable). Some x) (sym read)
@@ -62,7 +62,7 @@ pub sent-to : (ms : List Posted) (k : ℕ) (one : Posted) (c : ClientNo) → sli
 sent-to ms k one c at to = subst (λ (o : Option Posted). IsSentTo (Client c) o) at to
 
 module _ {S : Type 0} (look : S → StoreView) (device : S → DeviceState) (seen : (s : S) → look s ≡ pairs_view (device s)) {A : Type 0} (w : Standing S) (c : ClientNo) (r : Result A Ended) (u : Standing S) (first later : List Line) where
-  module _ (is : is_client c.0 ≡ true) (i : ℕ) (index : i + 1 ≡ c.0) (t : ClientTable) (at : slice_get w.clients i ≡ Some t) where
+  module _ (is : is_client_number c.0 ≡ true) (i : ℕ) (index : i + 1 ≡ c.0) (t : ClientTable) (at : slice_get w.clients i ≡ Some t) where
     index-is : i ≡ c.0 - 1
     index-is = omega arith
 
@@ -152,7 +152,7 @@ module _ {S : Type 0} (look : S → StoreView) (device : S → DeviceState) (see
             (first ++ lines_at when (texts_taken k taken ++ traced w.trace (message_texts (Client c) (length net.sent) (sent_for taken)))) later) e h)
 
   -- one that isn't there takes a message
-  pub other-took-does : (when : When) (k : ℕ) (one : Posted) → slice_get w.net.sent k ≡ Some one → one.to ≡ Client c → is_client c.0 ≡ false
+  pub other-took-does : (when : When) (k : ℕ) (one : Posted) → slice_get w.net.sent k ≡ Some one → one.to ≡ Client c → is_client_number c.0 ≡ false
       → EndsStep r (with_sent (posted_by (Client c) (sent_for (take_row (new_table c (length w.places)) one.message).1)) (record w { net = record w.net { sent = with_delivered k w.net.sent } })) u first
       (first ++ lines_at when (texts_taken k (take_row (new_table c (length w.places)) one.message).1 ++ traced w.trace (message_texts (Client c) (length w.net.sent) (sent_for (take_row (new_table c (length w.places)) one.message).1)))) later
       → DoesEvent look device (events.Deliver k) when w r u first later
@@ -166,7 +166,7 @@ module _ {S : Type 0} (look : S → StoreView) (device : S → DeviceState) (see
       (other-took-step look device seen x w m stands k one posted c to is more next first)))
       ends
 
-  pub other-took-now : (when : When) (k : ℕ) (one : Posted) → slice_get w.net.sent k ≡ Some one → one.to ≡ Client c → is_client c.0 ≡ false
+  pub other-took-now : (when : When) (k : ℕ) (one : Posted) → slice_get w.net.sent k ≡ Some one → one.to ≡ Client c → is_client_number c.0 ≡ false
       → (servers : ℕ) (taken : Taken) (net : Carried) → servers ≡ length w.places → taken ≡ (take_row (new_table c servers) one.message).1 → net ≡ record w.net { sent = with_delivered k w.net.sent }
       → EndsStep r (with_sent (posted_by (Client c) (sent_for taken)) (record w { net = net })) u first
       (first ++ lines_at when (texts_taken k taken ++ traced w.trace (message_texts (Client c) (length net.sent) (sent_for taken)))) later

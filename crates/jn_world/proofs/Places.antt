@@ -34,7 +34,8 @@ use Rattle.jn_place.specs.declared.place.Slot.{Slot}
 use Rattle.jn_place.specs.declared.place.Slot.TheVariants.{Up, Down, Gone}
 use Rattle.jn_world.specs.declared.world.World.{World}
 use Rattle.jn_place.specs.Places.{Stands, IsPlace, is_up}
-use Rattle.jn_world.specs.Standing.{ArePlaces, IsClientOf, ArePosted, IsWorld, posted_by, messages_in, is_up_at, is_client, AreStores, AreClosed}
+use Rattle.jn_stands.specs.Stands.{is_client_number}
+use Rattle.jn_world.specs.Standing.{ArePlaces, IsClientOf, ArePosted, IsWorld, posted_by, messages_in, is_up_at, AreStores, AreClosed}
 
 -- ---- one place
 
@@ -217,11 +218,11 @@ sent-world look a b from messages (Ok x) h can places clients sent limit = world
 
 -- ---- a client in the world
 
-client-within : (n i : ℕ) → is_client n ≡ true → i + 1 ≡ n → i < 8
+client-within : (n i : ℕ) → is_client_number n ≡ true → i + 1 ≡ n → i < 8
 client-within n i e at = grind (arith, nat_tests)
 
 -- the table that an index reads
-pub client-here : {S : Type 0} (look : S → StoreView) (w : World S) (n i : ℕ) (t : ClientTable) → IsWorld look w → is_client n ≡ true → i + 1 ≡ n → t ≡ get_or w.clients.items i t → IsClientOf (length w.net.sent) t
+pub client-here : {S : Type 0} (look : S → StoreView) (w : World S) (n i : ℕ) (t : ClientTable) → IsWorld look w → is_client_number n ≡ true → i + 1 ≡ n → t ≡ get_or w.clients.items i t → IsClientOf (length w.net.sent) t
 client-here look w n i t h e at read =
     let below = client-within n i e at in
     subst (IsClientOf (length w.net.sent)) (sym read) (All-get_or (IsClientOf (length w.net.sent)) w.clients.items i t (let few = h.eight in omega (arith, w.clients.ok.0)) h.clients)
@@ -240,7 +241,7 @@ commanded-by t j command now to message most h range e =
     (record { fits = fits.0; numbers = (let before = h.numbers in omega arith) }, fits.1)
 
 pub commanded-world : {S A E : Type 0} (look : S → StoreView) (a b : World S) (from : Party) (n i j : ℕ) (t now : ClientTable) (command : Command) (to : Party) (message : Message) (r : Result A E)
-    → IsWorld look a → is_client n ≡ true → i + 1 ≡ n → t ≡ get_or a.clients.items i t → CommandInRange command → command_row t j command ≡ Sends now to message
+    → IsWorld look a → is_client_number n ≡ true → i + 1 ≡ n → t ≡ get_or a.clients.items i t → CommandInRange command → command_row t j command ≡ Sends now to message
     → b.places ≡ a.places → b.clients ≡ with_item a.clients i now
     → OnOk r (b.net.sent ≡ a.net.sent ++ posted_by from ((to, message) ∷ [])) → OnOk r (length b.net.sent ≤ 1000000) → OnOk r (IsWorld look b)
 commanded-world look a b from n i j t now command to message (Err e) h is at read range row places clients sent limit = tt
@@ -250,7 +251,7 @@ commanded-world {S} look a b from n i j t now command to message (Ok x) h is at 
 
 -- a message is taken by one of the clients
 pub taken-world : {S A E : Type 0} (look : S → StoreView) (a b : World S) (from : Party) (n i : ℕ) (t now : ClientTable) (message : Message) (taken : Taken) (r : Result A E)
-    → IsWorld look a → is_client n ≡ true → i + 1 ≡ n → t ≡ get_or a.clients.items i t → (now, taken) ≡ take_row t message
+    → IsWorld look a → is_client_number n ≡ true → i + 1 ≡ n → t ≡ get_or a.clients.items i t → (now, taken) ≡ take_row t message
     → b.places ≡ a.places → b.clients ≡ with_item a.clients i now
     → OnOk r (b.net.sent ≡ a.net.sent ++ posted_by from (sent_for taken)) → OnOk r (length b.net.sent ≤ 1000000) → OnOk r (IsWorld look b)
 taken-world look a b from n i t now message taken (Err e) h is at read row places clients sent limit = tt

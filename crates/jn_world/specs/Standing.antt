@@ -1,5 +1,5 @@
 -- When the world stands so that every event can be done.
-use Rattle.std.specs.Prelude.{◌≡◌, ◌≤◌, ◌+◌, ℕ, Bool, false, nat_lt, ◌&&◌, List, [], ◌∷◌, map, length, slice_get, All, vec_len, Option, Some, None}
+use Rattle.std.specs.Prelude.{◌≡◌, ◌≤◌, ◌+◌, ℕ, Bool, false, List, [], ◌∷◌, map, length, slice_get, All, vec_len, Option, Some, None}
 use Rattle.jn_base.specs.declared.names.Party.{Party}
 use Rattle.jn_found.specs.Recoverable.{IsRecoverable}
 use Rattle.jn_msgs.specs.Collected.{Collected}
@@ -67,10 +67,6 @@ works_in look (Some p) = has_work_at look p.slot
 
 abbrev pub works_at : {S : Type 0} → (S → StoreView) → ℕ → List (Place S) → Bool
 works_at look n ps = works_in look (slice_get ps n)
-
--- whether a client is one of the eight
-abbrev pub is_client : ℕ → Bool
-is_client c = nat_lt 0 c && nat_lt c 9
 
 -- ---- the start and the end
 

@@ -6,17 +6,17 @@ ghost use Rattle.jn_report.specs.declared.line.When.TheVariants.{Event as AtEven
 ghost use Rattle.jn_rows.specs.Client.{new_table, take_row};
 ghost use Rattle.jn_schedule.specs.declared.Event.TheVariants as events;
 ghost use Rattle.jn_stands.specs.Clients.{texts_taken};
-ghost use Rattle.jn_stands.specs.Stands.{with_sent};
+ghost use Rattle.jn_stands.specs.Stands.{is_client_number, with_sent};
 ghost use Rattle.jn_within.specs.Taking.{sent_for, AllCanBeTaken, CommandInRange};
 ghost use Rattle.jn_world.specs.Calm.{StayUp};
 ghost use Rattle.jn_world.specs.Opening.{AreNew};
 ghost use Rattle.jn_world.specs.Settling.{handed};
-ghost use Rattle.jn_world.specs.Standing.{IsWorld, IsClientOf, is_client, posted_by};
+ghost use Rattle.jn_world.specs.Standing.{IsWorld, IsClientOf, posted_by};
 ghost use Rattle.jn_world.specs.Written.{DoesEvent, EndsStep, IsSentTo, standing_of};
 ghost use Rattle.jn_written.specs.Steps.{lines_at, message_texts, traced};
 
 use crate::ended::Ended;
-use crate::world::{CLIENTS, World, is_client};
+use crate::world::{CLIENTS, World, is_client_number};
 use jn_base::{ClientNo, Command, Party};
 use jn_client::{Client, CommandFault};
 use jn_msgs::Message;
@@ -66,7 +66,7 @@ impl<S: Powered + Drop> World<S> {
         lines: &mut Vec<Line>,
     ) -> Result<(), Ended>
         requires world { IsWorld (λ s. S.view s) self.old }
-        requires client { is_client client.0 ≡ true }
+        requires client { is_client_number client.0 ≡ true }
         requires range { CommandInRange command.now }
         ensures world { OnOk result (IsWorld (λ s. S.view s) self.new) }
         ensures does { DoesEvent (λ s. S.view s) (λ s. S.device s) (events.Command client command.now) (AtEvent number) (standing_of self.old) result (standing_of self.new) lines.old.items lines.new.items }
@@ -110,7 +110,7 @@ impl<S: Powered + Drop> World<S> {
         lines: &mut Vec<Line>,
     ) -> Result<(), Ended>
         requires world { IsWorld (λ s. S.view s) self.old }
-        requires client { is_client client.0 ≡ true }
+        requires client { is_client_number client.0 ≡ true }
         ensures world { OnOk result (IsWorld (λ s. S.view s) self.new) }
         ensures calm { OnOk result (StayUp (λ s. S.view s) self.old.places.items self.new.places.items) }
         ensures does { DoesEvent (λ s. S.view s) (λ s. S.device s) (events.Again client) when (standing_of self.old) result (standing_of self.new) lines.old.items lines.new.items }
@@ -141,7 +141,7 @@ impl<S: Powered + Drop> World<S> {
         ensures does { DoesEvent (λ s. S.view s) (λ s. S.device s) (events.Deliver k) when (standing_of self.old) result (standing_of self.new) lines.old.items lines.new.items }
         ensures hands { OnOk result (handed self.new.net.sent ≡ handed (with_delivered k self.old.net.sent)) }
     {
-        if is_client(client) {
+        if is_client_number(client) {
             return self.take_at_own(client, k, when, lines);
         }
         self.take_at_other(client, k, when, lines)
@@ -158,7 +158,7 @@ impl<S: Powered + Drop> World<S> {
         requires world { IsWorld (λ s. S.view s) self.old }
         requires sent { k < length self.old.net.sent }
         requires to { IsSentTo (AClient client) (slice_get self.old.net.sent k) }
-        requires client { is_client client.0 ≡ true }
+        requires client { is_client_number client.0 ≡ true }
         ensures world { OnOk result (IsWorld (λ s. S.view s) self.new) }
         ensures calm { OnOk result (StayUp (λ s. S.view s) self.old.places.items self.new.places.items) }
         ensures does { DoesEvent (λ s. S.view s) (λ s. S.device s) (events.Deliver k) when (standing_of self.old) result (standing_of self.new) lines.old.items lines.new.items }
@@ -183,7 +183,7 @@ impl<S: Powered + Drop> World<S> {
         requires world { IsWorld (λ s. S.view s) self.old }
         requires sent { k < length self.old.net.sent }
         requires to { IsSentTo (AClient client) (slice_get self.old.net.sent k) }
-        requires other { is_client client.0 ≡ false }
+        requires other { is_client_number client.0 ≡ false }
         ensures world { OnOk result (IsWorld (λ s. S.view s) self.new) }
         ensures calm { OnOk result (StayUp (λ s. S.view s) self.old.places.items self.new.places.items) }
         ensures does { DoesEvent (λ s. S.view s) (λ s. S.device s) (events.Deliver k) when (standing_of self.old) result (standing_of self.new) lines.old.items lines.new.items }

@@ -4,7 +4,8 @@ ghost use Rattle.jn_report.specs.declared.line.Text.TheVariants.{RefusedEvent};
 ghost use Rattle.jn_report.specs.declared.line.When.TheVariants.{Event as AtEvent};
 ghost use Rattle.jn_schedule.specs.Ranges.{EventInRange};
 ghost use Rattle.jn_world.specs.declared.ended.Ended.TheVariants.{Memory};
-ghost use Rattle.jn_world.specs.Standing.{IsWorld, is_client, is_up_at};
+ghost use Rattle.jn_stands.specs.Stands.{is_client_number};
+ghost use Rattle.jn_world.specs.Standing.{IsWorld, is_up_at};
 ghost use Rattle.jn_world.specs.Meeting.{IsAtUp};
 ghost use Rattle.jn_world.specs.Settling.{IsAtRest};
 ghost use Rattle.jn_world.specs.Written.{DoesScheduled, DoesTasks, standing_of};
@@ -170,8 +171,8 @@ pub(crate) fn refuse(lines: &mut Vec<Line>, when: When, refusal: EventRefusal) -
 pub(crate) const CLIENTS: u8 = 8;
 
 /// Whether it is one of the clients there are.
-pub(crate) fn is_client(client: ClientNo) -> bool
-    ensures { result ≡ is_client client.0 }
+pub(crate) fn is_client_number(client: ClientNo) -> bool
+    ensures { result ≡ is_client_number client.0 }
 {
     client.0 >= 1 && client.0 <= CLIENTS
 }

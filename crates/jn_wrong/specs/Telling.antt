@@ -32,7 +32,7 @@ abbrev pub outside_at : ServerNo → List Outside → List Text
 outside_at q told = map (λ (fault : Outside). says.Outside q fault) told
 
 -- the device is called, any number of times, and tells these faults meanwhile
-pub record Tells (told : List Outside) (d e : DeviceState) : Type 0 where
+pub record TellsMeanwhile (told : List Outside) (d e : DeviceState) : Type 0 where
   pub last : DeviceState
   pub calls : StoreLater (pairs_view d) (pairs_view last)
   pub told_is : told ≡ last.told
@@ -41,7 +41,7 @@ pub record Tells (told : List Outside) (d e : DeviceState) : Type 0 where
 -- a server's device tells these faults
 pub record TellsOf (q : ServerNo) (d e : DeviceState) (texts : List Text) : Type 0 where
   pub told : List Outside
-  pub tells : Tells told d e
+  pub tells : TellsMeanwhile told d e
   pub texts_are : texts ≡ outside_at q told
 
 -- once its power is there, which goes where the server doesn't come up

@@ -3,7 +3,7 @@ ghost use Rattle.std.specs.Prelude.{IfOk, IfErr};
 ghost use Rattle.jn_coord.specs.Handling.{FewWorks};
 ghost use Rattle.jn_restarts.specs.Restarts.{MayBegin, IsOf};
 ghost use Rattle.jn_server.specs.Seen.{view_with};
-ghost use Rattle.jn_server_tests.specs.Trial.{IsOn, Leaves};
+ghost use Rattle.jn_server_tests.specs.Trial.{IsOn, LeavesServer};
 ghost use Rattle.jn_worker.specs.Handling.{InRange};
 
 use super::moves::{Move, SERVER, message_of};
@@ -139,7 +139,7 @@ impl<S: StableStore> Bench<S> {
         requires on { IsOn self.old.counts self.old.names (view_with (λ s. S.view s) self.old.server) }
         requires range { InRange message.now }
         requires few { FewWorks message.now }
-        ensures leaves { Leaves self.new.counts self.new.names result (view_with (λ s. S.view s) self.new.server) }
+        ensures leaves { LeavesServer self.new.counts self.new.names result (view_with (λ s. S.view s) self.new.server) }
     {
         if self.names > 1000 {
             return Err(ServerFault::Memory);
@@ -154,7 +154,7 @@ impl<S: StableStore> Bench<S> {
     /// Makes one background step, where there is one to make.
     fn step_once(&mut self) -> Result<bool, ServerFault>
         requires on { IsOn self.old.counts self.old.names (view_with (λ s. S.view s) self.old.server) }
-        ensures leaves { Leaves self.new.counts self.new.names result (view_with (λ s. S.view s) self.new.server) }
+        ensures leaves { LeavesServer self.new.counts self.new.names result (view_with (λ s. S.view s) self.new.server) }
     {
         if self.names > 1000 {
             return Err(ServerFault::Memory);
@@ -168,7 +168,7 @@ impl<S: StableStore> Bench<S> {
 
     fn step(&mut self) -> Result<(), ServerFault>
         requires on { IsOn self.old.counts self.old.names (view_with (λ s. S.view s) self.old.server) }
-        ensures leaves { Leaves self.new.counts self.new.names result (view_with (λ s. S.view s) self.new.server) }
+        ensures leaves { LeavesServer self.new.counts self.new.names result (view_with (λ s. S.view s) self.new.server) }
     {
         if !self.step_once()? {
             self.said.word("idle")?;
@@ -178,7 +178,7 @@ impl<S: StableStore> Bench<S> {
 
     fn again(&mut self) -> Result<(), ServerFault>
         requires on { IsOn self.old.counts self.old.names (view_with (λ s. S.view s) self.old.server) }
-        ensures leaves { Leaves self.new.counts self.new.names result (view_with (λ s. S.view s) self.new.server) }
+        ensures leaves { LeavesServer self.new.counts self.new.names result (view_with (λ s. S.view s) self.new.server) }
     {
         let mut out = Out::new(self.alloc);
         self.server.again(&mut out)?;
@@ -188,7 +188,7 @@ impl<S: StableStore> Bench<S> {
 
     fn timeout(&mut self, tid: Tid) -> Result<(), ServerFault>
         requires on { IsOn self.old.counts self.old.names (view_with (λ s. S.view s) self.old.server) }
-        ensures leaves { Leaves self.new.counts self.new.names result (view_with (λ s. S.view s) self.new.server) }
+        ensures leaves { LeavesServer self.new.counts self.new.names result (view_with (λ s. S.view s) self.new.server) }
     {
         let is_live = self.server.timeout(tid);
         if !is_live {
@@ -199,7 +199,7 @@ impl<S: StableStore> Bench<S> {
 
     fn scrub(&mut self) -> Result<(), ServerFault>
         requires on { IsOn self.old.counts self.old.names (view_with (λ s. S.view s) self.old.server) }
-        ensures leaves { Leaves self.new.counts self.new.names result (view_with (λ s. S.view s) self.new.server) }
+        ensures leaves { LeavesServer self.new.counts self.new.names result (view_with (λ s. S.view s) self.new.server) }
     {
         match self.server.scrub() {
             Ok(()) => Ok(()),
@@ -209,7 +209,7 @@ impl<S: StableStore> Bench<S> {
 
     fn show(&mut self) -> Result<(), ServerFault>
         requires on { IsOn self.old.counts self.old.names (view_with (λ s. S.view s) self.old.server) }
-        ensures leaves { Leaves self.new.counts self.new.names result (view_with (λ s. S.view s) self.new.server) }
+        ensures leaves { LeavesServer self.new.counts self.new.names result (view_with (λ s. S.view s) self.new.server) }
     {
         match self.server.show(self.alloc) {
             Ok(list) => Ok(self.said.shown(list.as_slice())?),
@@ -219,7 +219,7 @@ impl<S: StableStore> Bench<S> {
 
     fn close(&mut self) -> Result<(), ServerFault>
         requires on { IsOn self.old.counts self.old.names (view_with (λ s. S.view s) self.old.server) }
-        ensures leaves { Leaves self.new.counts self.new.names result (view_with (λ s. S.view s) self.new.server) }
+        ensures leaves { LeavesServer self.new.counts self.new.names result (view_with (λ s. S.view s) self.new.server) }
     {
         self.server.close_clients()
     }
@@ -227,7 +227,7 @@ impl<S: StableStore> Bench<S> {
     /// Does a move, and keeps what the server says of it.
     pub(crate) fn advance(&mut self, step: Move) -> Result<(), ServerFault>
         requires on { IsOn self.old.counts self.old.names (view_with (λ s. S.view s) self.old.server) }
-        ensures leaves { Leaves self.new.counts self.new.names result (view_with (λ s. S.view s) self.new.server) }
+        ensures leaves { LeavesServer self.new.counts self.new.names result (view_with (λ s. S.view s) self.new.server) }
     {
         self.said = Words::new(self.alloc);
         match message_of(self.alloc, step)? {
@@ -239,7 +239,7 @@ impl<S: StableStore> Bench<S> {
     /// Does what is no message.
     fn does(&mut self, step: Move) -> Result<(), ServerFault>
         requires on { IsOn self.old.counts self.old.names (view_with (λ s. S.view s) self.old.server) }
-        ensures leaves { Leaves self.new.counts self.new.names result (view_with (λ s. S.view s) self.new.server) }
+        ensures leaves { LeavesServer self.new.counts self.new.names result (view_with (λ s. S.view s) self.new.server) }
     {
         match step {
             Move::Step => self.step(),
@@ -259,7 +259,7 @@ impl<S: StableStore> Bench<S> {
         words: &str,
     ) -> Result<(), ServerFault>
         requires on { IsOn self.old.counts self.old.names (view_with (λ s. S.view s) self.old.server) }
-        ensures leaves { Leaves self.new.counts self.new.names result (view_with (λ s. S.view s) self.new.server) }
+        ensures leaves { LeavesServer self.new.counts self.new.names result (view_with (λ s. S.view s) self.new.server) }
     {
         self.advance(step)?;
         assert_eq!(rt; self.said.text.as_str(), words);
@@ -270,7 +270,7 @@ impl<S: StableStore> Bench<S> {
     /// answered as a want of memory.
     pub(crate) fn plays(&mut self, rt: &impl Abort, lines: &[&str]) -> Result<(), ServerFault>
         requires on { IsOn self.old.counts self.old.names (view_with (λ s. S.view s) self.old.server) }
-        ensures leaves { Leaves self.new.counts self.new.names result (view_with (λ s. S.view s) self.new.server) }
+        ensures leaves { LeavesServer self.new.counts self.new.names result (view_with (λ s. S.view s) self.new.server) }
     {
         for line in lines {
             let Some(scene) = scene_of(line) else {
@@ -284,7 +284,7 @@ impl<S: StableStore> Bench<S> {
     /// Does the moves of a script, and finds that the server says of each what its line says.
     pub(crate) fn follows(&mut self, rt: &impl Abort, script: &str) -> Result<(), ServerFault>
         requires on { IsOn self.old.counts self.old.names (view_with (λ s. S.view s) self.old.server) }
-        ensures leaves { Leaves self.new.counts self.new.names result (view_with (λ s. S.view s) self.new.server) }
+        ensures leaves { LeavesServer self.new.counts self.new.names result (view_with (λ s. S.view s) self.new.server) }
     {
         let lines: Vec<&str> = script.lines().collect(self.alloc)?;
         self.plays(rt, &lines)
@@ -299,7 +299,7 @@ impl<S: StableStore> Bench<S> {
         last: &str,
     ) -> Result<(), ServerFault>
         requires on { IsOn self.old.counts self.old.names (view_with (λ s. S.view s) self.old.server) }
-        ensures leaves { Leaves self.new.counts self.new.names result (view_with (λ s. S.view s) self.new.server) }
+        ensures leaves { LeavesServer self.new.counts self.new.names result (view_with (λ s. S.view s) self.new.server) }
     {
         self.follows(rt, first)?;
         self.follows(rt, then)?;

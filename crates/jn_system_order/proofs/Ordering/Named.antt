@@ -30,7 +30,7 @@ use Rattle.jn_system.specs.WholeSystem.Servers.{Room, server_row, server_step, l
 use Rattle.jn_system.specs.WholeSystem.Steps.{Step, NextEvent, Tell, Again, Deliver, Work, Nudge, Timeout, StopDelivery, StopWork, Crash, Narrow, StopRestart, Restart, Dismiss, CloseClients, after, commanded, took, ends, at_memory, handed, works, work, nudge, timeout, crash, narrow, stop_restart, restart, close_clients}
 use Rattle.jn_system_order.specs.Mirroring.Mirrors.{Mirrors, IsTrue}
 use Rattle.jn_system_order.proofs.Mirroring.StepMoves.{holds-of}
-use Rattle.jn_system_order.specs.Ordering.Runs.{IsNamed, AreNamed}
+use Rattle.jn_system_order.specs.Ordering.Runs.{IsNamedBefore, AreNamed}
 
 append-append : (a b c : List Text) → (a ++ b) ++ c ≡ a ++ (b ++ c)
 append-append [] b c = refl
@@ -50,7 +50,7 @@ abbrev ArePlain : List Text → Type 0
 ArePlain [] = Unit {0}
 ArePlain (text ∷ texts) = IsPlain text × ArePlain texts
 
-plain-one : (before : List Text) (text : Text) → IsPlain text → IsNamed before text
+plain-one : (before : List Text) (text : Text) → IsPlain text → IsNamedBefore before text
 plain-one before (says.Committed c event T) h = absurd h
 plain-one before _ h = tt
 
@@ -96,7 +96,7 @@ answer-plain c j answers.Closing = tt
 
 module _ (w : Machine) (lines : List Text) (named : (T : Tid) → w.named T ≡ has_line T lines) (t : ClientTable) where
   abbrev TellsNamed : Taken → Type 0
-  TellsNamed (taken.Told line answer) = IsNamed lines line
+  TellsNamed (taken.Told line answer) = IsNamedBefore lines line
   TellsNamed what = Unit {0}
 
   abbrev RowNamed : ClientTable × Taken → Type 0
@@ -122,7 +122,7 @@ module _ (w : Machine) (lines : List Text) (named : (T : Tid) → w.named T ≡ 
   opened-named j (Some W) = tt
   opened-named j None = tt
 
-  decided-named : (T : Tid) (line : ℕ → Text) → ((j : ℕ) → IsNamed lines (line j)) → RowNamed (decided_row t T line)
+  decided-named : (T : Tid) (line : ℕ → Text) → ((j : ℕ) → IsNamedBefore lines (line j)) → RowNamed (decided_row t T line)
   decided-named T line h = either (is_current t T) _ _ (where-waits t.outstanding _ _ h) tt
 
   outcome-named : (T : Tid) (outcome : Outcome) → OutcomeSays w T outcome → RowNamed (outcome_row t T outcome)

@@ -41,10 +41,10 @@ pub record IsInOrder (files : AllFiles) (r : World) : Type 0 where
       → (stable (r.found s)).files u ≡ replay files history s u
 
 -- a client is told of a commit only where its line came before
-abbrev pub IsNamed : List Text → Text → Type 0
-IsNamed before (says.Committed c event T) = has_line T before ≡ true
-IsNamed before text = Unit {0}
+abbrev pub IsNamedBefore : List Text → Text → Type 0
+IsNamedBefore before (says.Committed c event T) = has_line T before ≡ true
+IsNamedBefore before text = Unit {0}
 
 abbrev pub AreNamed : List Text → List Text → Type 0
 AreNamed before [] = Unit {0}
-AreNamed before (text ∷ texts) = IsNamed before text × AreNamed (before ++ text ∷ []) texts
+AreNamed before (text ∷ texts) = IsNamedBefore before text × AreNamed (before ++ text ∷ []) texts

@@ -19,7 +19,7 @@ use Rattle.jn_system.proofs.SmallSteps.Updates.{not_both, false_unless, clash, n
 use Rattle.jn_system.specs.WholeSystem.World.{World, Memory}
 use Rattle.jn_system.specs.WholeSystem.LockFacts.{IsSoundWork}
 use Rattle.jn_system_order.specs.Mirroring.Mirrors.{working_in}
-use Rattle.jn_system_reports.specs.BetweenSteps.Sent.{WasSent, IsNamed}
+use Rattle.jn_system_reports.specs.BetweenSteps.Sent.{WasSent, HasCommitLine}
 use Rattle.jn_system_reports.specs.BetweenSteps.Parts.{IsNoPart}
 use Rattle.jn_system_reports.specs.BetweenSteps.Drops.{IsOver}
 use Rattle.jn_system_reports.proofs.BetweenSteps.Breaking.{is_broken, is_stored}
@@ -27,7 +27,7 @@ use Rattle.jn_system_reports.proofs.BetweenSteps.Broken.{NeverReady, goes-on}
 use Rattle.jn_system_reports.proofs.BetweenSteps.Standing.{Standing}
 use Rattle.jn_system_reports.proofs.BetweenSteps.Laws.{inv, named, said, up-fact, not-aborted, its-part, was-ended}
 
-module _ (files : AllFiles) (epochs : ServerNo → ℕ) (r : World) (h : Standing files epochs r) (T : Tid) (W : WorkId) (is-named : IsNamed r T) (sent : WasSent r (messages.Drop T W)) where
+module _ (files : AllFiles) (epochs : ServerNo → ℕ) (r : World) (h : Standing files epochs r) (T : Tid) (W : WorkId) (is-named : HasCommitLine r T) (sent : WasSent r (messages.Drop T W)) where
   abbrev w : Machine
   w = run_atoms h.atoms (opening_world files epochs)
 

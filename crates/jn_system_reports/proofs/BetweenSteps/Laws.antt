@@ -34,7 +34,7 @@ use Rattle.jn_system_order.proofs.Mirroring.StepMoves.{holds-of}
 use Rattle.jn_system_order.proofs.Ordering.Openings.{Opening, opening_in, openings, Has}
 use Rattle.jn_system_order.proofs.Ordering.Facts.{opening}
 use Rattle.jn_system_order.proofs.Ordering.ClientFacts.{all-have-theirs}
-use Rattle.jn_system_reports.specs.BetweenSteps.Sent.{WasSent, IsNamed}
+use Rattle.jn_system_reports.specs.BetweenSteps.Sent.{WasSent, HasCommitLine}
 use Rattle.jn_system_reports.specs.BetweenSteps.Names.{WasMade, AreMadeOnce}
 use Rattle.jn_system_reports.specs.BetweenSteps.Doubt.{IsDownInDoubt}
 use Rattle.jn_system_reports.specs.BetweenSteps.Commits.{AreToldAfter}
@@ -116,7 +116,7 @@ module _ (files : AllFiles) (epochs : ServerNo → ℕ) (r : World) (h : Standin
   pub active-is : (W : WorkId) (a : ActiveWork) → IsActive r W a → (run_atoms h.atoms (opening_world files epochs)).active W ≡ Some (record { list = a.list; reads = a.reads })
   active-is W a k = h.mirrors.active W ∙ ap (λ o. active_in o W) k.up ∙ ap working_of k.is ∙ ap working_in k.active
 
-  not-named : (T : Tid) → (IsNamed r T → ⊥) → (run_atoms h.atoms (opening_world files epochs)).named T ≡ false
+  not-named : (T : Tid) → (HasCommitLine r T → ⊥) → (run_atoms h.atoms (opening_world files epochs)).named T ≡ false
   not-named T none = false_unless (w.named T) (λ e. none (sym (named T) ∙ e))
 
   pub answers-stand : DoAnswersStand files r
@@ -150,14 +150,14 @@ module _ (files : AllFiles) (epochs : ServerNo → ℕ) (r : World) (h : Standin
   pub not-aborted : (T : Tid) → w.named T ≡ true → w.aborted T ≡ false
   not-aborted T n = false_unless (w.aborted T) (λ a. not_both (w.named T) n (inv.core.aborted T a).not_named)
 
-  named-stays : (T : Tid) (W : WorkId) → w.named T ≡ true → w.part T W.server ≡ Some W → IsPrepared r W ⊎ (IsNamed r T × IsCarriedOut r W)
+  named-stays : (T : Tid) (W : WorkId) → w.named T ≡ true → w.part T W.server ≡ Some W → IsPrepared r W ⊎ (HasCommitLine r T × IsCarriedOut r W)
   named-stays T W n part = by (stays W ((inv.core.named T n).ready W.server W part) (subst (λ (U : Tid). w.aborted U ≡ false) (sym (inv.core.parts T W.server W part).owner) (not-aborted T n)))
     where
-      by : IsPrepared r W ⊎ IsCarriedOut r W → IsPrepared r W ⊎ (IsNamed r T × IsCarriedOut r W)
+      by : IsPrepared r W ⊎ IsCarriedOut r W → IsPrepared r W ⊎ (HasCommitLine r T × IsCarriedOut r W)
       by (inl k) = inl k
       by (inr k) = inr (sym (named T) ∙ n, k)
 
-  flagged-stays : (T : Tid) (W : WorkId) → IsFlagged r T W → (b : Bool) → w.named T ≡ b → IsPrepared r W ⊎ (IsNamed r T × IsCarriedOut r W)
+  flagged-stays : (T : Tid) (W : WorkId) → IsFlagged r T W → (b : Bool) → w.named T ≡ b → IsPrepared r W ⊎ (HasCommitLine r T × IsCarriedOut r W)
   flagged-stays T W k b e = by b e
     where
       flag-is : (w.found T.server k.pick).flags T ≡ Some k.flag
@@ -175,7 +175,7 @@ module _ (files : AllFiles) (epochs : ServerNo → ℕ) (r : World) (h : Standin
       clear : w.aborted T ≡ false
       clear = false_unless (w.aborted T) (λ a. clash ((w.found T.server k.pick).flags T) k.flag flag-is ((inv.core.states T.server k.pick).aborted T refl a))
 
-      by : (b : Bool) → w.named T ≡ b → IsPrepared r W ⊎ (IsNamed r T × IsCarriedOut r W)
+      by : (b : Bool) → w.named T ≡ b → IsPrepared r W ⊎ (HasCommitLine r T × IsCarriedOut r W)
       by true n = named-stays T W n part
       by false n = inl (λ c. ap (λ (x : StableState). is_some (x.works W)) (sym (h.mirrors.found W.server c)) ∙ (inv.core.states W.server c).ready W refl (flag.ready W.server W part)
           (subst (λ (U : Tid). w.aborted U ≡ false) (sym owner) clear) (subst (λ (U : Tid). w.named U ≡ false) (sym owner) n))
@@ -184,7 +184,7 @@ module _ (files : AllFiles) (epochs : ServerNo → ℕ) (r : World) (h : Standin
   its-part T W p = (said (messages.End p.0.client p.0.request T p.0.works) p.0.sent).2.each W p.1
 
   -- a named transaction was ended
-  pub was-ended : (T : Tid) → IsNamed r T → WasEnded r T
+  pub was-ended : (T : Tid) → HasCommitLine r T → WasEnded r T
   was-ended T n = h.ended T (inv.core.named T (named T ∙ n)).ended
 
   of-both : (T : Tid) (e f : WasEnded r T) (W : WorkId) → is_work W e.works ≡ true → is_work W f.works ≡ true
@@ -198,7 +198,7 @@ module _ (files : AllFiles) (epochs : ServerNo → ℕ) (r : World) (h : Standin
   pub works-stay : DoWorksStay r
   works-stay = record { ended = was-ended; same = λ T e f W. same-works T e f W (is_work W e.works) (is_work W f.works) refl refl; stay = λ T W k. by T W k }
     where
-      by : (T : Tid) (W : WorkId) → IsFlagged r T W ⊎ (IsNamed r T × IsPart r T W) → IsPrepared r W ⊎ (IsNamed r T × IsCarriedOut r W)
+      by : (T : Tid) (W : WorkId) → IsFlagged r T W ⊎ (HasCommitLine r T × IsPart r T W) → IsPrepared r W ⊎ (HasCommitLine r T × IsCarriedOut r W)
       by T W (inl k) = flagged-stays T W k (w.named T) refl
       by T W (inr k) = named-stays T W (named T ∙ k.0) (its-part T W k.1)
 

@@ -19,7 +19,7 @@ use Rattle.jn_system_reports.proofs.Reporting.Lists.{each-in, get-in}
 use Rattle.jn_system_reports.proofs.Reporting.Known as known
 use Rattle.jn_system_reports.proofs.Reporting.Past.{Past, SaysPast}
 use Rattle.jn_system_reports.proofs.Reporting.Reached.{Reached, Free, named-is, invariant, next-reached, opening-reached}
-use Rattle.jn_system_reports.specs.BetweenSteps.Sent.{WasSent, IsNamed}
+use Rattle.jn_system_reports.specs.BetweenSteps.Sent.{WasSent, HasCommitLine}
 use Rattle.jn_system_reports.specs.BetweenSteps.Drops.{IsPast}
 
 -- ---- every run
@@ -54,7 +54,7 @@ module _ (files : AllFiles) (epochs : ServerNo → ℕ) (r : World) (h : Reached
   past-is : (c : ClientNo) (T : Tid) → known.IsPast (openings r.sent) c (r.clients c) T → IsPast r c T
   past-is c T p = let s = sent-at r.sent (opening c p.request T) p.has in record { request = p.request; began = record { to = s.0; number = s.1; is = s.2 }; drawn = p.drawn; answered = p.answered; over = p.over }
 
-  pub unknown : (c : ClientNo) (T : Tid) (s : ServerNo) (epoch : ℕ) → IsNamed r T → WasSent r (messages.Outcome c T (outcomes.NotKnown s epoch)) → IsPast r c T
+  pub unknown : (c : ClientNo) (T : Tid) (s : ServerNo) (epoch : ℕ) → HasCommitLine r T → WasSent r (messages.Outcome c T (outcomes.NotKnown s epoch)) → IsPast r c T
   unknown c T s epoch named sent = by (each-in (SaysPast (openings r.sent) r.clients (run_atoms h.atoms (opening_world files epochs)) Free) r.sent (sent.to, messages.Outcome c T (outcomes.NotKnown s epoch)) h.past.says (get-in r.sent sent.number _ sent.is))
     where
       by : Past (openings r.sent) r.clients (run_atoms h.atoms (opening_world files epochs)) Free c T ⊎ (((run_atoms h.atoms (opening_world files epochs)).aborted T ≡ true) × Unit {0}) → IsPast r c T

@@ -22,7 +22,7 @@ use Rattle.jn_system_order.proofs.Mirroring.Mirrored.{commits-more}
 use Rattle.jn_system_order.proofs.Mirroring.StepMoves.{committed-any}
 use Rattle.jn_system.specs.WholeSystem.World.{World, opening, committed_in, commits_in}
 use Rattle.jn_system.specs.WholeSystem.Steps.{Step, NextEvent, Tell, Dismiss, after, run, IsStep, IsRun, commanded}
-use Rattle.jn_system_order.specs.Ordering.Runs.{IsNamed, AreNamed}
+use Rattle.jn_system_order.specs.Ordering.Runs.{IsNamedBefore, AreNamed}
 use Rattle.jn_system.specs.WholeSystem.Printing.{Printed, FileThere, PageStored, UnitLocked}
 use Rattle.jn_system_reports.specs.Reporting.Printing.{text_printed}
 use Rattle.jn_system_reports.specs.Reporting.Reported.{Act, Does, Refuses as Refused, Tells, Shows, Item, steps_in, steps_of, told_by, told_in, told_under, after_item, at_event, lines_of, world_of}
@@ -75,7 +75,7 @@ names-split : (before a b : List Text) → AreNamed before (a ++ b) → AreNamed
 names-split before [] b h = subst (λ l. AreNamed l b) (sym (append-nil before)) h
 names-split before (x ∷ a) b h = subst (λ l. AreNamed l b) (append_assoc before (x ∷ []) a) (names-split (before ++ x ∷ []) a b h.1)
 
-named-one : (before : List Text) (text : Text) → IsNamed before text → IsNamedWhere (commits_in before) text
+named-one : (before : List Text) (text : Text) → IsNamedBefore before text → IsNamedWhere (commits_in before) text
 named-one before (says.Committed c j T) h = h
 named-one before _ h = tt
 

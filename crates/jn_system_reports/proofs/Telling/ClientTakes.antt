@@ -31,7 +31,7 @@ use Rattle.jn_rows.specs.declared.client.Taken.TheVariants as taken
 use Rattle.jn_rows.specs.Outcomes.{Sent}
 use Rattle.jn_rows.specs.Client.{ClientTable, work_at as open_at, is_begin, is_operation, is_end_or_abort, opens, is_current, is_tid, if_waits, idle, over, begun_row, opened_row, answer_line, decided_row, outcome_row, take_row}
 use Rattle.jn_serial.specs.Lines.{event_at}
-use Rattle.jn_serial.specs.InTurn.{performed_in, answered_by, begins_for, owner_after, is_client}
+use Rattle.jn_serial.specs.InTurn.{performed_in, answered_by, begins_for, owner_after, is_its_client}
 use Rattle.jn_lock_rows.proofs.Works.{work_same}
 use Rattle.jn_system.specs.SmallSteps.Traces.{Answered}
 use Rattle.jn_system.specs.SmallSteps.World.{World as Machine}
@@ -353,8 +353,8 @@ module _ (events : List Event) (r : World) (w : Machine) (mirrors : Mirrors r w)
     own-owner : owner_in T None (r.lines ++ says.Begun c o.event T ∷ []) ≡ Some c
     own-owner = owner-now T ∙ by (tid_tells T T)
       where
-        by : IsTid T → (if tid_eq T T then Some c else (if is_client (owner_in T None r.lines) c then None else owner_in T None r.lines)) ≡ Some c
-        by (inl p) = ap (λ (b : Bool). if b then Some c else (if is_client (owner_in T None r.lines) c then None else owner_in T None r.lines)) p.0
+        by : IsTid T → (if tid_eq T T then Some c else (if is_its_client (owner_in T None r.lines) c then None else owner_in T None r.lines)) ≡ Some c
+        by (inl p) = ap (λ (b : Bool). if b then Some c else (if is_its_client (owner_in T None r.lines) c then None else owner_in T None r.lines)) p.0
         by (inr p) = absurd (p.1 refl)
 
     owners-now : (U : Tid) (d : ClientNo) → owner_in U None (r.lines ++ says.Begun c o.event T ∷ []) ≡ Some d → ((at_client r.clients c in-it d).transaction ≡ None) ⊎ ((at_client r.clients c in-it d).transaction ≡ Some U)
@@ -363,7 +363,7 @@ module _ (events : List Event) (r : World) (w : Machine) (mirrors : Mirrors r w)
         its : U ≡ T → c ≡ d → ((at_client r.clients c in-it d).transaction ≡ None) ⊎ ((at_client r.clients c in-it d).transaction ≡ Some U)
         its f g = inr (subst (λ (z : ClientNo). (at_client r.clients c in-it z).transaction ≡ Some U) g (ap (λ (z : ClientTable). z.transaction) (at-own r.clients c in-it) ∙ ap Some (sym f)))
 
-        another : (x : Option ClientNo) → owner_in U None r.lines ≡ x → (if is_client x c then None else x) ≡ Some d → ((at_client r.clients c in-it d).transaction ≡ None) ⊎ ((at_client r.clients c in-it d).transaction ≡ Some U)
+        another : (x : Option ClientNo) → owner_in U None r.lines ≡ x → (if is_its_client x c then None else x) ≡ Some d → ((at_client r.clients c in-it d).transaction ≡ None) ⊎ ((at_client r.clients c in-it d).transaction ≡ Some U)
         another None f g = absurd (none_some d g)
         another (Some h) f g = on (client_tells h c)
           where
@@ -372,9 +372,9 @@ module _ (events : List Event) (r : World) (w : Machine) (mirrors : Mirrors r w)
             on (inr p) = let same = some_is h d (subst (λ (b : Bool). (if b then None else Some h) ≡ Some d) p.0 g) in
                 subst (λ (z : ClientTable). (z.transaction ≡ None) ⊎ (z.transaction ≡ Some U)) (sym (at-other r.clients c d in-it (λ l. p.1 (same ∙ sym l)))) (talk.owners U d (f ∙ ap Some same))
 
-        by : IsTid U → (if tid_eq U T then Some c else (if is_client (owner_in U None r.lines) c then None else owner_in U None r.lines)) ≡ Some d → ((at_client r.clients c in-it d).transaction ≡ None) ⊎ ((at_client r.clients c in-it d).transaction ≡ Some U)
-        by (inl p) f = its p.1 (some_is c d (subst (λ (b : Bool). (if b then Some c else (if is_client (owner_in U None r.lines) c then None else owner_in U None r.lines)) ≡ Some d) p.0 f))
-        by (inr p) f = another (owner_in U None r.lines) refl (subst (λ (b : Bool). (if b then Some c else (if is_client (owner_in U None r.lines) c then None else owner_in U None r.lines)) ≡ Some d) p.0 f)
+        by : IsTid U → (if tid_eq U T then Some c else (if is_its_client (owner_in U None r.lines) c then None else owner_in U None r.lines)) ≡ Some d → ((at_client r.clients c in-it d).transaction ≡ None) ⊎ ((at_client r.clients c in-it d).transaction ≡ Some U)
+        by (inl p) f = its p.1 (some_is c d (subst (λ (b : Bool). (if b then Some c else (if is_its_client (owner_in U None r.lines) c then None else owner_in U None r.lines)) ≡ Some d) p.0 f))
+        by (inr p) f = another (owner_in U None r.lines) refl (subst (λ (b : Bool). (if b then Some c else (if is_its_client (owner_in U None r.lines) c then None else owner_in U None r.lines)) ≡ Some d) p.0 f)
 
     begun-own : IsTalking events begun-world w c in-it
     begun-own = record {

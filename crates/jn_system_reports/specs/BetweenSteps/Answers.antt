@@ -12,7 +12,7 @@ use Rattle.jn_system.specs.SmallSteps.Held.{HasRead}
 use Rattle.jn_system.specs.SmallSteps.World.{Commit, IsSerial, replay}
 use Rattle.jn_system.specs.WholeSystem.World.{World, commits_in}
 use Rattle.jn_system_order.specs.Mirroring.Mirrors.{commits_of}
-use Rattle.jn_system_reports.specs.BetweenSteps.Sent.{IsNamed}
+use Rattle.jn_system_reports.specs.BetweenSteps.Sent.{HasCommitLine}
 use Rattle.jn_system_reports.specs.BetweenSteps.Works.{IsActive}
 
 -- These files give its operations the answers that it gave. Its intentions do what these operations do, and it has read each
@@ -30,4 +30,4 @@ pub record DoAnswersStand (files : AllFiles) (r : World) : Type 0 where
   pub serial : IsSerial files history
   pub did : WorkId → List Answered
   pub active : (W : WorkId) (a : ActiveWork) → IsActive r W a → Stands (replay files history W.server) (did W) a.list a.reads
-  pub ready : (W : WorkId) (c : Pick) (p : Prepared) → (r.found W.server c).works W ≡ Some p → (IsNamed r p.tid → ⊥) → Stands (replay files history W.server) (did W) p.list p.reads
+  pub ready : (W : WorkId) (c : Pick) (p : Prepared) → (r.found W.server c).works W ≡ Some p → (HasCommitLine r p.tid → ⊥) → Stands (replay files history W.server) (did W) p.list p.reads

@@ -3,7 +3,7 @@ use Rattle.std.specs.Prelude.{◌≡◌, true, None, is_some}
 use Rattle.jn_base.specs.declared.names.Tid.{Tid}
 use Rattle.jn_rows.specs.Stable.{Pick}
 use Rattle.jn_system.specs.WholeSystem.World.{World}
-use Rattle.jn_system_reports.specs.BetweenSteps.Sent.{IsNamed}
+use Rattle.jn_system_reports.specs.BetweenSteps.Sent.{HasCommitLine}
 
 -- some pick at its coordinator finds its flag
 pub record HasFlag (r : World) (T : Tid) : Type 0 where
@@ -13,7 +13,7 @@ pub record HasFlag (r : World) (T : Tid) : Type 0 where
 -- its flag may be found, and its commit has no line
 pub record IsInDoubt (r : World) (T : Tid) : Type 0 where
   pub flag : HasFlag r T
-  pub unnamed : IsNamed r T → ⊥
+  pub unnamed : HasCommitLine r T → ⊥
 
 -- where one is in doubt, its coordinator is down
 abbrev pub IsDownInDoubt : World → Type 0

@@ -10,7 +10,7 @@ use Rattle.jn_rows.specs.declared.client.Outstanding.{Outstanding}
 use Rattle.jn_rows.specs.Stable.{Pick}
 use Rattle.jn_rows.specs.Worker.{work_at}
 use Rattle.jn_system.specs.WholeSystem.World.{World, Memory}
-use Rattle.jn_system_reports.specs.BetweenSteps.Sent.{WasSent, IsNamed}
+use Rattle.jn_system_reports.specs.BetweenSteps.Sent.{WasSent, HasCommitLine}
 use Rattle.jn_system_reports.specs.BetweenSteps.Parts.{IsNoPart}
 
 -- no pick finds the work, and its server, where it is up, doesn't have it in its table
@@ -30,5 +30,5 @@ pub record IsPast (r : World) (c : ClientNo) (T : Tid) : Type 0 where
 -- A Drop goes only to a work that is over, or that isn't in the transaction's end, and a client that is past it alone is
 -- told that it isn't known. As messages stay sent, the work is over for good.
 pub record AreOfThePast (r : World) : Type 0 where
-  pub drops : (T : Tid) (W : WorkId) → IsNamed r T → WasSent r (Drop T W) → IsOver r W ⊎ IsNoPart r T W
-  pub unknown : (c : ClientNo) (T : Tid) (s : ServerNo) (epoch : ℕ) → IsNamed r T → WasSent r (Outcome c T (NotKnown s epoch)) → IsPast r c T
+  pub drops : (T : Tid) (W : WorkId) → HasCommitLine r T → WasSent r (Drop T W) → IsOver r W ⊎ IsNoPart r T W
+  pub unknown : (c : ClientNo) (T : Tid) (s : ServerNo) (epoch : ℕ) → HasCommitLine r T → WasSent r (Outcome c T (NotKnown s epoch)) → IsPast r c T

@@ -16,7 +16,7 @@ use Rattle.jn_serial.specs.Order.{ops_of, replay}
 use Rattle.jn_system.specs.SmallSteps.Traces.{Agrees}
 use Rattle.jn_system.specs.WholeSystem.World.{World}
 use Rattle.jn_system_reports.specs.Telling.Told.{at_place}
-use Rattle.jn_system_reports.specs.BetweenSteps.Sent.{WasSent, IsNamed}
+use Rattle.jn_system_reports.specs.BetweenSteps.Sent.{WasSent, HasCommitLine}
 use Rattle.jn_system_reports.specs.BetweenSteps.Works.{IsActive}
 
 -- some operation was sent to the work
@@ -35,4 +35,4 @@ StandAt files events lines T s = Agrees (replay files events lines (history_of l
 -- has no commit line.
 pub record DoLinesStand (files : AllFiles) (events : List Event) (lines : List Line) (r : World) : Type 0 where
   pub active : (W : WorkId) (a : ActiveWork) (is : IsActive r W a) → WasAsked r W → StandAt files events lines is.work.tid W.server
-  pub ready : (W : WorkId) (c : Pick) (p : Prepared) → (r.found W.server c).works W ≡ Some p → (IsNamed r p.tid → ⊥) → WasAsked r W → StandAt files events lines p.tid W.server
+  pub ready : (W : WorkId) (c : Pick) (p : Prepared) → (r.found W.server c).works W ≡ Some p → (HasCommitLine r p.tid → ⊥) → WasAsked r W → StandAt files events lines p.tid W.server

@@ -12,5 +12,5 @@ pub record WasSent (r : World) (message : Message) : Type 0 where
   pub is : slice_get r.sent number ≡ Some (to, message)
 
 -- the transaction's commit has its line
-abbrev pub IsNamed : World → Tid → Type 0
-IsNamed r T = has_line T r.lines ≡ true
+abbrev pub HasCommitLine : World → Tid → Type 0
+HasCommitLine r T = has_line T r.lines ≡ true

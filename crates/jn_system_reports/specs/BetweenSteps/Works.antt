@@ -14,7 +14,7 @@ use Rattle.jn_rows.specs.Worker.{work_at}
 use Rattle.jn_rows.specs.Coordinator.{is_work}
 use Rattle.jn_system.specs.SmallSteps.Held.{HasRead}
 use Rattle.jn_system.specs.WholeSystem.World.{World, Memory}
-use Rattle.jn_system_reports.specs.BetweenSteps.Sent.{IsNamed}
+use Rattle.jn_system_reports.specs.BetweenSteps.Sent.{HasCommitLine}
 use Rattle.jn_system_reports.specs.BetweenSteps.Parts.{WasEnded, IsPart}
 
 -- some pick finds its flag, with this work
@@ -38,12 +38,12 @@ IsCarriedOut r W = (c : Pick) (p : Prepared) → (r.found W.server c).works W �
 
 pub record DoWorksStay (r : World) : Type 0 where
   -- a named transaction was ended
-  pub ended : (T : Tid) → IsNamed r T → WasEnded r T
+  pub ended : (T : Tid) → HasCommitLine r T → WasEnded r T
   -- all ends of a transaction have the same works
   pub same : (T : Tid) (e f : WasEnded r T) (W : WorkId) → is_work W e.works ≡ is_work W f.works
   -- Each work of a flag, and of a named transaction's end, is found prepared by every pick, or the transaction is named and the work
   -- is carried out.
-  pub stay : (T : Tid) (W : WorkId) → IsFlagged r T W ⊎ (IsNamed r T × IsPart r T W) → IsPrepared r W ⊎ (IsNamed r T × IsCarriedOut r W)
+  pub stay : (T : Tid) (W : WorkId) → IsFlagged r T W ⊎ (HasCommitLine r T × IsPart r T W) → IsPrepared r W ⊎ (HasCommitLine r T × IsCarriedOut r W)
 
 -- a work of a server that is up, while it takes operations
 pub record IsActive (r : World) (W : WorkId) (a : ActiveWork) : Type 0 where

@@ -29,7 +29,7 @@ use Rattle.jn_system_settling.specs.Settling.Settle.{Chance, clients_from, until
 use Rattle.jn_system_settling.specs.Settling.Bounds.{IsAtRest}
 use Rattle.jn_system_settling.proofs.Settling.Settling.{nothing-goes}
 use Rattle.jn_system_reports.proofs.Reporting.Lists.{get-in}
-use Rattle.jn_system_settling.specs.AtRest.Settled.{AreUp, entry_in, live_at, holds_undecided, tells_outcome, told_since, AreDecided, IsSettled, Leaves}
+use Rattle.jn_system_settling.specs.AtRest.Settled.{AreUp, entry_in, live_at, holds_undecided, tells_outcome, told_since, AreDecided, IsSettled, LeavesBetween}
 use Rattle.jn_system_settling.proofs.AtRest.Ways.{Has}
 use Rattle.jn_system_settling.proofs.AtRest.Talk.{FitsCommand}
 use Rattle.jn_system_settling.proofs.AtRest.Begins.{Good, good-go}
@@ -289,7 +289,7 @@ module _ (n : ℕ) (at_most : n ≤ 8) (files : AllFiles) (epochs : ServerNo →
         by None e = inr (inr e)
         by (Some v) e = then-live v e (work_at W memory-d.0.worker) refl
 
-  pub settle-settles : (first second : ℕ → Chance) (c : Course) → IsGood c → Leaves n first second c (IsSettled n)
+  pub settle-settles : (first second : ℕ → Chance) (c : Course) → IsGood c → LeavesBetween n first second c (IsSettled n)
   settle-settles first second c h = settles n at_most files epochs first second c (IsSettled n) h (λ i k one two up. record {
     waits = two.waits;
     goes = last-idle n at_most files epochs first second c i k h two up;

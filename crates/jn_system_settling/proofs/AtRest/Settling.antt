@@ -14,7 +14,7 @@ use Rattle.jn_system_settling.proofs.Settling.Resting.{PartEnds, part-ends}
 use Rattle.jn_system_settling.proofs.Settling.Settling.{opening-sound}
 use Rattle.jn_system_settling.proofs.Settling.Courses.{Sound}
 use Rattle.jn_system_settling.proofs.AtRest.Twins.{HasTwin, run-has-twin}
-use Rattle.jn_system_settling.specs.AtRest.Settled.{AreUp, AreAnswered, Leaves}
+use Rattle.jn_system_settling.specs.AtRest.Settled.{AreUp, AreAnswered, LeavesBetween}
 use Rattle.jn_system_reports.proofs.Reporting.Reached.{opening-reached}
 use Rattle.jn_system_settling.proofs.AtRest.Within.{opening-within}
 use Rattle.jn_system_settling.proofs.AtRest.Answered.{Talking}
@@ -97,7 +97,7 @@ module _ (n : ℕ) (at_most : n ≤ 8) (files : AllFiles) (epochs : ServerNo →
   -- what holds where both parts come to rest
   pub settles : (first second : ℕ → Chance) (c : Course) (Q : Course → Course → Type 0) → IsGood c
       → ((i k : ℕ) → IsAtRest n (first_part first i c) → IsAtRest n (second_part second k (first_part first i c)) → AreUp n (second_part second k (first_part first i c)).world → Q c (second_part second k (first_part first i c)))
-      → Leaves n first second c Q
+      → LeavesBetween n first second c Q
   settles first second c Q h at_rest = record {
     steps = one.steps + two.steps;
     each = λ j l. subst (λ (z : Course). AreUp n z.world → Q c z) (sym (whole j l)) (at_rest one.steps two.steps (subst (λ (z : Course). IsAtRest n z) (sym first-ends) one.rests) (subst (λ (z : Course). IsAtRest n z) (sym (two.each two.steps (omega arith))) two.rests));

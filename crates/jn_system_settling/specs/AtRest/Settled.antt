@@ -95,7 +95,7 @@ pub record IsSettled (servers : ℕ) (before now : Course) : Type 0 where
   pub works : AreDecided servers before.world now.world
 
 -- from some number of steps on, where all of so many servers are up then, this holds of the course before the settle and after it
-pub record Leaves (servers : ℕ) (first second : ℕ → Chance) (c : Course) (what : Course → Course → Type 0) : Type 0 where
+pub record LeavesBetween (servers : ℕ) (first second : ℕ → Chance) (c : Course) (what : Course → Course → Type 0) : Type 0 where
   pub steps : ℕ
   pub each : (n : ℕ) → steps ≤ n → AreUp servers (settled servers (record { first = first; second = second; steps = n }) c).world
       → what c (settled servers (record { first = first; second = second; steps = n }) c)

@@ -1,7 +1,7 @@
 use Rattle.std.proofs.Common.{◌≡◌, inl, inr, length, None, sym, ap, subst, ◌∙◌, arith}
 use Rattle.std.proofs.lemmas.Bool.{cases_lt}
 use Rattle.std.proofs.lemmas.List.{get_or_past}
-use Rattle.jn_files.specs.Inside.{AreIndexed, number_of}
+use Rattle.jn_files.specs.Inside.{AreIndexed, head_number}
 use Rattle.jn_records.specs.declared.head.Head.TheVariants.{Free}
 use Rattle.jn_files.proofs.heads.index_of.Goals as goal
 
@@ -19,6 +19,6 @@ returns c =
       slots = long ∙ so_many;
       each = λ k. elim (cases_lt k (length slots)) [
         | inl lt ↦ c.loop-head.invariant.seen k (omega (arith, lt, so_many))
-        | inr le ↦ get_or_past c.loop-head.files.items k None (omega (arith, le, so_many, long)) ∙ sym (ap number_of (get_or_past slots k Free le))
+        | inr le ↦ get_or_past c.loop-head.files.items k None (omega (arith, le, so_many, long)) ∙ sym (ap head_number (get_or_past slots k Free le))
       ];
     })

@@ -1,11 +1,11 @@
 use Rattle.std.proofs.Common.{◌≡◌, ◌<◌, ℕ, length}
 use Rattle.jn_index.specs.Numbers.{number_at}
 use Rattle.jn_files.specs.Table.{head_in}
-use Rattle.jn_files.specs.Inside.{number_of}
+use Rattle.jn_files.specs.Inside.{head_number}
 use Rattle.jn_files.proofs.heads.index_of.Given as goal
 
 abbrev pub invariant-loop-head : goal.invariant-loop-head
 invariant-loop-head l = record {
   slots : length l.files.items ≡ l.head-index;
-  seen : (k : ℕ) → k < l.head-index → number_at l.files.items k ≡ number_of (head_in l.slots k);
+  seen : (k : ℕ) → k < l.head-index → number_at l.files.items k ≡ head_number (head_in l.slots k);
 }

@@ -1,7 +1,7 @@
 use Rattle.std.proofs.Common.{ℕ, ◌<◌}
-use Rattle.jn_image.specs.Rules.{Holds}
+use Rattle.jn_image.specs.Rules.{RuleHolds}
 use Rattle.jn_image.specs.Unsound.{seen}
 use Rattle.jn_image.proofs.soundness.first_failing.Given as goal
 
 abbrev pub invariant-loop-i : goal.invariant-loop-i
-invariant-loop-i l = (k : ℕ) → k < l.i → Holds (seen l.image) l.rule k
+invariant-loop-i l = (k : ℕ) → k < l.i → RuleHolds (seen l.image) l.rule k

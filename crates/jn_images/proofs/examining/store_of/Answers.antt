@@ -2,7 +2,7 @@ use Rattle.std.proofs.Common.{◌≡◌, List, refl, sym, subst}
 use Rattle.jn_device.specs.declared.Half.{Half}
 use Rattle.jn_disks.specs.Disks.{AreSound, HasPages, IsStoreOfPages}
 use Rattle.jn_image.proofs.SoundPages.{sound_pages}
-use Rattle.jn_image.specs.Form.{counts_of}
+use Rattle.jn_image.specs.Form.{image_counts}
 use Rattle.jn_images.proofs.Disks.{look, device}
 use Rattle.jn_images.proofs.examining.store_of.Goals as goal
 
@@ -12,7 +12,7 @@ returns-clause-store c =
     let found = c.in_ok-image.ensures.sound in
     let sound = sound_pages m c.args.server found.0.form found.0.sound in
     let given = c.in_ok-store.ensures in
-    let are : AreSound c.args.server (counts_of m) c.into_vec.result.items = subst (λ (xs : List Half). AreSound c.args.server (counts_of m) xs) (sym c.into_vec.ensures) sound in
+    let are : AreSound c.args.server (image_counts m) c.into_vec.result.items = subst (λ (xs : List Half). AreSound c.args.server (image_counts m) xs) (sym c.into_vec.ensures) sound in
     record {
       disk = record {
         image = m;
@@ -22,5 +22,5 @@ returns-clause-store c =
         pages = subst (λ (xs : List Half). HasPages xs (device c.in_ok-store.store)) c.into_vec.ensures given.pages;
         new = given.new;
       };
-      store = subst (λ (xs : List Half). IsStoreOfPages c.args.server (counts_of m) xs (look c.in_ok-store.store)) c.into_vec.ensures (given.found c.args.server (counts_of m) are);
+      store = subst (λ (xs : List Half). IsStoreOfPages c.args.server (image_counts m) xs (look c.in_ok-store.store)) c.into_vec.ensures (given.found c.args.server (image_counts m) are);
     }

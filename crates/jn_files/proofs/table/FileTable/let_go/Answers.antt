@@ -3,7 +3,7 @@ use Rattle.std.proofs.lemmas.List.{length-set}
 use Rattle.std.specs.Prelude.{slice_index_or, slice_set}
 use Rattle.jn_alloc.specs.Free.{FreeNumbers}
 use Rattle.jn_files.specs.Table.{TableView, IsTable, IsUnnamed}
-use Rattle.jn_files.specs.Inside.{view_of, IsNamed}
+use Rattle.jn_files.specs.Inside.{table_view, IsNamedPage}
 use Rattle.jn_files.proofs.Leaves.{let_go_named, let_go_free}
 use Rattle.jn_files.proofs.Setting.{set_below}
 use Rattle.jn_files.proofs.table.FileTable.let_go.Goals as goal
@@ -19,7 +19,7 @@ invariant_of-self c =
     let was = ap (λ (x : TableView). slice_index_or x.held c.args.a false) c.self.view_is ∙ c.requires in
     let unnamed = subst (λ (x : TableView). IsUnnamed x.heads c.args.a) (sym c.self.view_is) (c.is_named-named.ensures.unnamed c.if-not-named.true) in
     record {
-      table = subst (λ (x : FreeNumbers). IsTable (view_of t.pool t.heads (slice_set t.held.items c.args.a false) t.touched.items t.free_heads x)) (sym c.give.ensures.given)
+      table = subst (λ (x : FreeNumbers). IsTable (table_view t.pool t.heads (slice_set t.held.items c.args.a false) t.touched.items t.free_heads x)) (sym c.give.ensures.given)
           (let_go_free t.pool t.heads t.held.items t.touched.items t.free_heads t.free_leaves c.args.a c.self.invariant.table was unnamed);
       pages = c.self.invariant.pages ∙ sym (length-set t.held.items c.args.a false);
       names = c.self.invariant.names;
@@ -29,7 +29,7 @@ pub invariant_of-self-else-not-named : goal.invariant_of-self-else-not-named
 invariant_of-self-else-not-named c =
     let t = c.self.inside in
     let was = ap (λ (x : TableView). slice_index_or x.held c.args.a false) c.self.view_is ∙ c.requires in
-    let named = subst (λ (x : TableView). IsNamed x.heads c.args.a) (sym c.self.view_is) (c.is_named-named.ensures.named c.if-not-named.false) in
+    let named = subst (λ (x : TableView). IsNamedPage x.heads c.args.a) (sym c.self.view_is) (c.is_named-named.ensures.named c.if-not-named.false) in
     record {
       table = let_go_named t.pool t.heads t.held.items t.touched.items t.free_heads t.free_leaves c.args.a c.self.invariant.table was named;
       pages = c.self.invariant.pages ∙ sym (length-set t.held.items c.args.a false);

@@ -2,7 +2,7 @@ use Rattle.std.proofs.Common.{ℕ, ◌<◌, length, sym, subst, ◌∙◌, List,
 use Rattle.jn_records.specs.declared.head.Head.{Head}
 use Rattle.jn_files.specs.Table.{TableView, IsHeadOf, head_in}
 use Rattle.jn_files.specs.Calls.{IsChanged}
-use Rattle.jn_files.specs.Inside.{MayStand, ChangesBlocks, view_of, AreNamed, Marks}
+use Rattle.jn_files.specs.Inside.{MayStand, ChangesBlocks, table_view, AreNamed, Marks}
 use Rattle.jn_files.proofs.Standing.{read_is, code_may_drop, code_table, code_changed}
 use Rattle.jn_files.proofs.Naming.{pages_below, renamed}
 use Rattle.jn_files.proofs.table.FileTable.set_head.Goals as goal
@@ -57,7 +57,7 @@ pub returns : goal.returns
 returns c =
     let t = c.self.inside in
     let may = subst (λ (x : TableView). MayStand x c.args.slot c.args.head) (sym c.self.view_is) c.requires.may in
-    subst (λ (x : TableView). IsChanged x c.args.slot c.args.head (view_of t.pool c.replace-old.new.self t.held.items t.touched.items c.count_head.new.free_heads c.free_dropped.new.free)) c.self.view_is
+    subst (λ (x : TableView). IsChanged x c.args.slot c.args.head (table_view t.pool c.replace-old.new.self t.held.items t.touched.items c.count_head.new.free_heads c.free_dropped.new.free)) c.self.view_is
     (code_changed t.pool t.heads t.held.items t.touched.items t.free_heads t.free_leaves c.count_head.new.free_heads c.free_dropped.new.free c.args.slot c.args.head c.replace-old.result c.slot-new.result.now c.replace-old.new.self c.deref.result.now c.is_free-2.result
     c.self.invariant.table may c.replace-old.ensures.old c.replace-old.ensures.new c.slot-new.ensures c.deref.ensures.value
     c.is_free-2.ensures c.count_head.ensures c.free_dropped.ensures)

@@ -1,6 +1,6 @@
 use Rattle.std.proofs.Common.{subst}
-use Rattle.jn_recovery.specs.Matches.{IsKept}
+use Rattle.jn_recovery.specs.Matches.{IsKeptMemory}
 use Rattle.jn_intent.proofs.intents.Intents.is_kept.Goals as goal
 
 pub returns : goal.returns
-returns g c = subst (λ s. IsKept s.1 (g.S.StableStore.view s.0)) c.self.view_is c.self.invariant.kept
+returns g c = subst (λ s. IsKeptMemory s.1 (g.S.StableStore.view s.0)) c.self.view_is c.self.invariant.kept

@@ -2,9 +2,9 @@ use Rattle.std.proofs.Common.{ℕ, List, Option, ap}
 use Rattle.std.specs.Map.{lookup}
 use Rattle.std.specs.Global.{Vec}
 use Rattle.jn_locks.specs.declared.words.Holder.{Holder}
-use Rattle.jn_locks.specs.Tables.{place_of, place_eq, holders_in}
+use Rattle.jn_locks.specs.Tables.{unit_place, place_eq, holders_in}
 use Rattle.jn_locks.proofs.units.Units.new.Goals as goal
 
 pub returns : goal.returns
 returns c =
-    λ u. ap (λ (es : List ((ℕ × Option ℕ) × Vec Holder)). holders_in (lookup (place_eq (place_of u)) es)) c.new.ensures.empty
+    λ u. ap (λ (es : List ((ℕ × Option ℕ) × Vec Holder)). holders_in (lookup (place_eq (unit_place u)) es)) c.new.ensures.empty

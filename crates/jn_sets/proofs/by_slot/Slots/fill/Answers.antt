@@ -4,7 +4,7 @@ use Rattle.std.specs.Map.{values_of}
 use Rattle.std.specs.Prelude.{slice_set}
 use Rattle.jn_records.specs.declared.record.Record.{Record}
 use Rattle.jn_records.specs.declared.record.Record.TheVariants.{Free}
-use Rattle.jn_sets.specs.Pool.{record_in, number_of, is_free, prepares}
+use Rattle.jn_sets.specs.Pool.{record_in, record_number, is_free, prepares}
 use Rattle.jn_sets.specs.Sets.{AreCounted, ones}
 use Rattle.jn_sets.proofs.Slots.{values_set}
 use Rattle.jn_sets.proofs.Stored.{index_set}
@@ -26,7 +26,7 @@ invariant_of-self c =
     let below : c.args.slot < length records = subst (λ (l : List Record). c.args.slot < length l) (sym c.self.view_is) c.requires.slot in
     let free : record_in records c.args.slot ≡ Free = subst (λ (l : List Record). record_in l c.args.slot ≡ Free) (sym c.self.view_is) c.requires.free in
     let value = c.args.value in
-    let numbers : c.set.new.self ≡ slice_set c.self.inside.numbers c.args.slot (number_of value) = c.set.ensures ∙ ap (slice_set c.self.inside.numbers c.args.slot) c.number_of.ensures in
+    let numbers : c.set.new.self ≡ slice_set c.self.inside.numbers c.args.slot (record_number value) = c.set.ensures ∙ ap (slice_set c.self.inside.numbers c.args.slot) c.number_of.ensures in
     let was : ones (is_free (record_in records c.args.slot)) ≡ 1 = ap (λ (r : Record). ones (is_free r)) free in
     let now : ones (is_free value) ≡ 0 = ap ones c.requires.used in
     let was_one : ones (prepares (record_in records c.args.slot)) ≡ ones false = ap (λ (r : Record). ones (prepares r)) free in
@@ -37,7 +37,7 @@ invariant_of-self c =
     let values = values_set c.self.inside.index.entries c.args.slot value in
     record {
       index = index_set c.self.inside.index.entries c.args.slot value c.self.invariant.index below c.requires.page;
-      slots = ap length numbers ∙ length-set c.self.inside.numbers c.args.slot (number_of value) ∙ c.self.invariant.slots ∙ sym (ap length values ∙ length-set records c.args.slot value);
+      slots = ap length numbers ∙ length-set c.self.inside.numbers c.args.slot (record_number value) ∙ c.self.invariant.slots ∙ sym (ap length values ∙ length-set records c.args.slot value);
       counted = subst (λ (l : List Record). AreCounted c.set.new.self (c.self.inside.free - 1) c.recount-self-inside.result l) (sym values)
           (subst (λ (l : List (Option ℕ)). AreCounted l (c.self.inside.free - 1) c.recount-self-inside.result (slice_set records c.args.slot value)) (sym numbers)
           (counted_set c.self.inside.numbers c.self.inside.free c.self.inside.prepared records c.self.invariant.counted value (c.self.inside.free - 1) c.recount-self-inside.result c.args.slot below c.self.invariant.slots (omega arith) (omega arith)));
