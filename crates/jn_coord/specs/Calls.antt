@@ -7,6 +7,7 @@ use Rattle.jn_base.specs.declared.names.Tickets.{Tickets}
 use Rattle.jn_base.specs.Names.{tid_eq}
 use Rattle.jn_msgs.specs.Collected.{Collected}
 use Rattle.jn_base.specs.declared.names.Party.TheVariants.{Client}
+use Rattle.jn_base.specs.Limits.{most_transactions}
 use Rattle.jn_msgs.specs.declared.message.Message.TheVariants as messages
 use Rattle.jn_msgs.specs.declared.message.Outcome.{Outcome}
 use Rattle.jn_store.specs.Store.{IsStop}
@@ -54,7 +55,7 @@ ballots_fit (x ∷ xs) = ballot_fits x.stage && ballots_fit xs
 pub record FitsWith (spare : ℕ) (r : Remembered) (v : StorageView) : Type 0 where
   pub serving : IsServing v
   pub clients : length r.requests ≡ 256
-  pub few : length r.transactions ≤ 64
+  pub few : length r.transactions ≤ most_transactions
   pub rising : rises r.transactions ≡ true
   pub flags : (T : Tid) → flag_told ((state v).flags T) ≡ committed_at T r.transactions
   pub promises : v.accounts.promised_records ≡ promised r.transactions + spare

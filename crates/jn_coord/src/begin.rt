@@ -3,6 +3,7 @@
 ghost use Rattle.std.specs.Prelude.{◌≡◌, ◌≤◌, ◌<◌, ◌+◌, ◌^◌, [], ◌∷◌, true, false, nat_lt, length, None, Some, OnOk, OnErr};
 ghost use Rattle.jn_base.specs.declared.names.Tickets.{Tickets};
 ghost use Rattle.jn_base.specs.declared.names.Party.TheVariants as parties;
+ghost use Rattle.jn_base.specs.Limits.{most_transactions};
 ghost use Rattle.jn_msgs.specs.declared.message.Message.TheVariants as messages;
 ghost use Rattle.jn_rows.specs.Coordinator as rows;
 ghost use Rattle.jn_rows.specs.Coordinator.{CoordinatorTable};
@@ -13,7 +14,7 @@ ghost use Rattle.jn_transactions.specs.Closing.{count_left};
 ghost use Rattle.jn_coord.specs.Beginning.{TicketsFit, new_transaction, with_request, with_begun};
 
 use crate::coordinator::Coordinator;
-use jn_base::{ClientNo, Party, Tickets, Tid};
+use jn_base::{ClientNo, MOST_TRANSACTIONS, Party, Tickets, Tid};
 use jn_msgs::{Message, Note, Out};
 use jn_rows::{Stage, Transaction};
 use jn_storage::FlagStore;
@@ -46,7 +47,7 @@ impl Coordinator {
 
     /// A new transaction is open.
     fn add(&mut self, client: ClientNo, request: u32, tid: Tid)
-        requires room { length self.old.transactions < 64 }
+        requires room { length self.old.transactions < most_transactions }
         ensures added { self.new ≡ with_begun self.old client request tid }
         ensures client { nat_lt client.0 256 ≡ true }
     {
@@ -84,7 +85,7 @@ impl Coordinator {
         requires tickets { TicketsFit self.old (F.view store.old) tickets.old }
         requires next { tickets.old.next + 1 < 2 ^ 32 }
         requires new { nat_lt (seen_by self.old.requests client) request ≡ true }
-        requires room { count_left client self.old.transactions < 64 }
+        requires room { count_left client self.old.transactions < most_transactions }
         ensures does { Does (rows.begin_row (table_of self.old) tickets.old client request) self.old (F.view store.old) out.old result self.new (F.view store.new) out.new }
         ensures drawn { OnOk result (tickets.new ≡ (rows.begin_row (table_of self.old) tickets.old client request).tickets) }
         ensures kept { OnErr result (tickets.new ≡ tickets.old) }
@@ -110,7 +111,7 @@ impl Coordinator {
     ) -> Result<(), CoordFault>
         requires fits { FitsStorage self.old (F.view store.old) }
         requires new { nat_lt (seen_by self.old.requests client) request ≡ true }
-        requires full { 64 ≤ count_left client self.old.transactions }
+        requires full { most_transactions ≤ count_left client self.old.transactions }
         ensures { (k : Tickets)
             → Does (rows.begin_row (table_of self.old) k client request) self.old (F.view store.old) out.old result self.new (F.view store.new) out.new }
     {
@@ -142,7 +143,7 @@ impl Coordinator {
         if self.seen(client) >= request {
             return self.begin_seen(client, request, out);
         }
-        if count_left(&self.transactions, client) < 64 {
+        if count_left(&self.transactions, client) < MOST_TRANSACTIONS {
             return self.begin_open(store, client, request, tickets, out);
         }
         self.begin_full(store, client, request, out)

@@ -51,13 +51,14 @@ pub struct Coordinator {
 
 impl Model for Coordinator {
     ghost use Rattle.std.specs.Prelude.{◌≤◌, vec_capacity};
+    ghost use Rattle.jn_base.specs.Limits.{most_transactions};
     ghost use Rattle.jn_coord.specs.Remembered.{Remembered};
 
     ghost Value = { Remembered };
 
     ghost view = { λ c. record { transactions = c.transactions.items; requests = c.requests } };
 
-    ghost invariant = { λ c. 64 ≤ vec_capacity c.transactions };
+    ghost invariant = { λ c. most_transactions ≤ vec_capacity c.transactions };
 }
 
 /// Gives back a promise, where there is one.

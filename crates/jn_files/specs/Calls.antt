@@ -12,6 +12,7 @@ use Rattle.jn_records.specs.Heads.{head_page}
 use Rattle.jn_records.specs.StablePages.{Counts, counts_of, Pages, head_place, data_place, page_count, files_of_pages}
 use Rattle.jn_store.specs.Store.{StoreView, StoreLater, StoreGot, StorePut, StoreCleaned, IsSamePage, IsCalm, IsServed, IsStop, IsWholePage}
 use Rattle.jn_store.specs.Choices.{IsChoice}
+use Rattle.jn_store.specs.DeviceCalls.{cleaned_get_calls}
 use Rattle.jn_files.specs.Table.{TableView, IsTable, head_in, is_of, exists, is_held, is_touched, IsUnnamed, files_of, address_of}
 use Rattle.jn_files.specs.Pages.{Says, IsLeaf, leaf_page, HoldsTable, files_in}
 
@@ -141,7 +142,7 @@ pub record BlockGot (t : TableView) (v : StoreView) (f : FileNo) (p : BlockNo) (
   pub found : (block : Option (List ℕ)) → answer ≡ Ok block → block ≡ files_in t.counts v (Block f p)
   -- no page has another candidate, and while no fault waits both halves of a page that wasn't touched are good afterwards
   pub later : StoreLater v w
-  pub calls : w.calls ≤ v.calls + 24
+  pub calls : w.calls ≤ v.calls + cleaned_get_calls
   pub same : (j : ℕ) → j < v.count → IsSamePage v w j
   pub whole : IsCalm v → is_touched t a ≡ false → IsWholePage w (data_place t.counts a)
   pub served : is_ok answer ≡ true → IsServed v w

@@ -2,6 +2,7 @@
 use Rattle.std.specs.Prelude.{◌≡◌, ◌≢◌, ◌⊎◌, ℕ, suc, ◌-◌, ◌^◌, ◌<◌, ◌≤◌, Bool, true, false, nat_eq, if◌then◌else◌, not, List, length, slice_set, slice_index_or, take, ◌↔◌, ◌≢◌, Some, None, Option}
 use Rattle.jn_alloc.specs.Free.{FreeNumbers, count_of, free_count, is_free as is_free_number, with_free, IsLeastFree}
 use Rattle.jn_base.specs.declared.names.FileNo.{FileNo}
+use Rattle.jn_base.specs.Limits.{most_blocks}
 use Rattle.jn_index.specs.Numbers.{number_at}
 use Rattle.jn_order.specs.Files.{Change, change}
 use Rattle.jn_records.specs.declared.head.Head.{Head}
@@ -62,8 +63,8 @@ pub record NamedBefore (heads : List Head) (n : ℕ) (named : List Bool) : Type 
 -- none but these blocks have another data page
 pub record ChangesBlocks (old new : Head) (first end : ℕ) : Type 0 where
   pub range : first ≤ end
-  pub within : end ≤ 120
-  pub same : (p : ℕ) → p < 120 → (p < first) ⊎ (end ≤ p) → address_of new p ≡ address_of old p
+  pub within : end ≤ most_blocks
+  pub same : (p : ℕ) → p < most_blocks → (p < first) ⊎ (end ≤ p) → address_of new p ≡ address_of old p
 
 pub record NamesAmong (h : Head) (first n a : ℕ) : Type 0 where
   pub block : ℕ

@@ -4,6 +4,7 @@ use Rattle.jn_alloc.specs.Free.{FreeNumbers, count_of, is_free as is_free_number
 use Rattle.jn_base.specs.declared.names.FileNo.{FileNo}
 use Rattle.jn_base.specs.declared.names.LockUnit.TheVariants.{File, Block}
 use Rattle.jn_base.specs.Names.{file_eq}
+use Rattle.jn_base.specs.Limits.{most_blocks}
 use Rattle.jn_order.specs.Files.{Files, there}
 use Rattle.jn_records.specs.declared.head.Head.{Head}
 use Rattle.jn_records.specs.declared.head.Head.TheVariants.{Free, Used}
@@ -134,7 +135,7 @@ is_mapped heads f p = nat_lt 0 (address_for heads f p)
 
 -- a file's head without blocks
 abbrev pub fresh_head : FileNo → Head
-fresh_head f = Used f (replicate 120 0)
+fresh_head f = Used f (replicate most_blocks 0)
 
 -- addresses, without those from a block on
 abbrev pub cut_addresses : ℕ → List ℕ → List ℕ

@@ -1,5 +1,6 @@
 //! The heads in memory, each found by its file's number.
 ghost use Rattle.std.specs.Prelude.{◌≡◌, ◌<◌, ◌≤◌, ℕ, true, length, List, slice_set, is_some, IfOk, IfSome};
+ghost use Rattle.jn_base.specs.Limits.{most_blocks};
 ghost use Rattle.jn_files.specs.Table as table;
 ghost use Rattle.jn_files.specs.Calls as calls;
 ghost use Rattle.jn_files.specs.Inside as inside;
@@ -64,7 +65,7 @@ impl Heads {
 
     /// A block's address in its file's head, 0 where there is none.
     pub fn address_for(&self, f: FileNo, p: BlockNo) -> u16
-        requires { p.0 < 120 }
+        requires { p.0 < most_blocks }
         ensures { result ≡ table.address_for self.now f p.0 }
     {
         match self.slot_of(f) {

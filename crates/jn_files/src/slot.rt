@@ -1,5 +1,6 @@
 //! A head as the table keeps it.
 ghost use Rattle.std.specs.Prelude.{◌≡◌, ◌^◌, ◌<◌, ◌≤◌, ◌≢◌, ℕ, suc, true, false, length};
+ghost use Rattle.jn_base.specs.Limits.{most_blocks};
 ghost use Rattle.jn_records.specs.declared.head.Head.TheVariants.{Free};
 ghost use Rattle.jn_records.specs.Heads.{head_page, has_page};
 ghost use Rattle.jn_files.specs.Table as table;
@@ -95,7 +96,7 @@ impl Slot {
 
     /// A block's address, 0 where there is none.
     pub fn address(&self, p: u16) -> u16
-        requires { p < 120 }
+        requires { p < most_blocks }
         ensures { result ≡ table.address_of self.now p }
     {
         match self.file {
@@ -116,7 +117,7 @@ impl Slot {
 
     /// The head with a data page for a block.
     pub fn with_leaf(&self, p: u16, a: u16) -> Self
-        requires block { p < 120 }
+        requires block { p < most_blocks }
         requires leaf { a < 65535 }
         ensures { result ≡ table.with_leaf p a self.now }
     {
@@ -130,7 +131,7 @@ impl Slot {
 }
 
 fn array_of(list: &[u16]) -> Addresses
-    requires { length list.now ≡ 120 }
+    requires { length list.now ≡ most_blocks }
     ensures { result ≡ list.now }
 {
     let mut addresses = [0; 120];

@@ -1,5 +1,6 @@
 //! The table of files.
 ghost use Rattle.std.specs.Prelude.{◌≡◌, ◌^◌, ◌≢◌, ◌↔◌, ◌<◌, ◌≤◌, ◌+◌, ◌-◌, ℕ, suc, true, false, length, List, slice_set, slice_index_or, Option, Some, None, Ok, Err, is_ok, is_some, IfOk, IfSome, IfNone, IfErr, IsOk, IsSome, OnOk, OnErr, take};
+ghost use Rattle.jn_base.specs.Limits.{most_blocks};
 ghost use Rattle.jn_alloc.specs.Free.{free_count, with_free, is_free as is_free_number, count_of, IsLeastFree};
 ghost use Rattle.jn_order.specs.Files.{Change, created, removed, cut_from, written};
 ghost use Rattle.jn_records.specs.declared.head.Head.{Head as HeadOf};
@@ -110,7 +111,7 @@ impl FileTable {
 
     /// Whether a block is stored.
     pub fn mapped(&self, f: FileNo, p: BlockNo) -> bool
-        requires { p.0 < 120 }
+        requires { p.0 < most_blocks }
         ensures { result ≡ table.is_mapped self.now.heads f p.0 }
     {
         self.heads.address_for(f, p) > 0
@@ -212,7 +213,7 @@ impl FileTable {
     ) -> Result<(), Stopped>
         requires fits { calls.HasPagesOfTable self.old (S.view store.old) }
         requires there { table.exists self.old.heads f ≡ true }
-        requires range { n.0 < 120 }
+        requires range { n.0 < most_blocks }
         ensures { calls.SetsHead self.old (S.view store.old) f (table.cut_head n.0) (λ leaves. cut_from f n) (is_ok result) self.new (S.view store.new) }
     {
         let Some(slot) = self.heads.slot_of(f) else {
@@ -232,7 +233,7 @@ impl FileTable {
     ) -> Result<(), Stopped>
         requires fits { calls.HasPagesOfTable self.old (S.view store.old) }
         requires there { table.exists self.old.heads f ≡ true }
-        requires range { p.0 < 120 }
+        requires range { p.0 < most_blocks }
         requires leaf { calls.MayBecome self.old (S.view store.old) f p.0 a }
         ensures { calls.SetsHead self.old (S.view store.old) f (table.with_leaf p.0 a) (λ leaves. written f p (take 448 (leaves a))) (is_ok result) self.new (S.view store.new) }
     {
@@ -270,7 +271,7 @@ impl FileTable {
     ) -> Result<Option<Block>, Stopped>
         requires fits { calls.HasPagesOfTable self.old (S.view store.old) }
         requires holds { pages.HoldsTable self.old (S.view store.old) }
-        requires range { p.0 < 120 }
+        requires range { p.0 < most_blocks }
         ensures got { (a : ℕ) → table.address_for self.old.heads f p.0 ≡ suc a → calls.BlockGot self.old (S.view store.old) f p a result self.new (S.view store.new) }
         ensures unasked { table.is_mapped self.old.heads f p.0 ≡ false → (result ≡ Ok None) × (self.new ≡ self.old) × (S.view store.new ≡ S.view store.old) }
     {
@@ -488,7 +489,7 @@ fn free_leaves(alloc: Global, leaves: u16, slots: &[Slot]) -> Result<FreeList, A
 /// Takes the data pages that a head names.
 fn take_named(free: &mut FreeList, head: &Slot)
     requires { inside.MayTakeNamed head.now free.old }
-    ensures { inside.TakesNamed head.now 120 free.old free.new }
+    ensures { inside.TakesNamed head.now most_blocks free.old free.new }
 {
     for p in 0..BLOCKS {
         take_one(free, head.address(p));
@@ -565,7 +566,7 @@ fn named_pages(alloc: Global, leaves: u16, slots: &[Slot]) -> Result<Vec<bool>, 
 /// Sets the flags of the data pages that a head names for its blocks from `first` to `end`.
 fn mark(flags: &mut Vec<bool>, head: &Slot, first: u16, end: u16, is: bool)
     requires range { first ≤ end }
-    requires within { end ≤ 120 }
+    requires within { end ≤ most_blocks }
     requires below { (p a : ℕ) → table.address_of head.now p ≡ suc a → a < length flags.old.items }
     ensures { inside.Marks head.now is first end flags.old.items flags.new.items }
 {
@@ -602,7 +603,7 @@ fn count_head(free_heads: &mut FreeList, slot: u16, was: bool, is: bool)
 fn free_dropped(free: &mut FreeList, held: &[bool], old: &Slot, new: &Slot, first: u16, end: u16)
     requires may { inside.MayDrop held.now old.now free.old }
     requires blocks { inside.ChangesBlocks old.now new.now first end }
-    ensures { inside.Drops held.now old.now new.now 120 free.old free.new }
+    ensures { inside.Drops held.now old.now new.now most_blocks free.old free.new }
 {
     for p in first..end {
         free_one(free, held, old.address(p), new.address(p));

@@ -1,6 +1,7 @@
 //! Whether an image is sound.
 ghost use Rattle.std.specs.Prelude.{◌≡◌, ◌⊎◌, ◌<◌, ◌*◌, ◌^◌, ◌↔◌, ◌++◌, ℕ, length, drop, map, flat_map, replicate, Err, IfOk, IfErr, OnOk, IsTrue, MatchOption};
 ghost use Rattle.jn_base.specs.declared.names.ServerNo.{ServerNo as AnyServer};
+ghost use Rattle.jn_base.specs.Limits.{most_blocks};
 ghost use Rattle.jn_records.specs.Pages.{IsRoot};
 ghost use Rattle.jn_records.specs.Sound as sound;
 ghost use Rattle.jn_records.specs.Sound.{HasRoot, IsSound, HasOneHead};
@@ -323,7 +324,7 @@ fn address_of(address: u16) -> Option<u32>
 
 /// No address for each block that a head may have.
 fn push_none(out: &mut Vec<Option<u32>>) -> Result<(), AllocError>
-    ensures { OnOk result (out.new.items ≡ out.old.items ++ replicate 120 None) }
+    ensures { OnOk result (out.new.items ≡ out.old.items ++ replicate most_blocks None) }
 {
     for _ in 0..BLOCKS {
         out.push(None)?;

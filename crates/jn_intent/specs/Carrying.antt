@@ -2,6 +2,7 @@
 use Rattle.std.specs.Prelude.{◌≡◌, ◌≤◌, ◌<◌, ◌+◌, ◌-◌, ◌^◌, ℕ, suc, Bool, true, false, not, ◌&&◌, if◌then◌else◌}
 use Rattle.jn_alloc.specs.Free.{free_count}
 use Rattle.jn_base.specs.declared.names.FileNo.{FileNo}
+use Rattle.jn_base.specs.Limits.{most_blocks}
 use Rattle.jn_files.specs.Table.{TableView, IsTable, IsHeadOf, exists}
 use Rattle.jn_files.specs.Calls.{HasPagesOfTable, IsChanged, MayBecome, with_promised_heads}
 use Rattle.jn_found.specs.Changes.{IsHeadPut}
@@ -50,7 +51,7 @@ pub record MayCarry (t : TableView) (v : StoreView) (i : StoredIntention) : Type
   pub promised : heads_taken t i ≤ t.free_heads.promised
   pub free : t.free_heads.promised ≤ free_count t.free_heads
   pub there : needs_file i.what ≡ true → exists t.heads i.file ≡ true
-  pub range : i.block.0 < 120
+  pub range : i.block.0 < most_blocks
   pub leaf : (a : ℕ) → i.address ≡ suc a → MayBecome t v i.file i.block.0 a
 
 -- by one put of one head

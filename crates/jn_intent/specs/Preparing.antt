@@ -5,6 +5,7 @@ use Rattle.jn_alloc.specs.Free.{IsLeastFree, free_count as free_numbers}
 use Rattle.jn_base.specs.declared.device.Stopped.{Stopped}
 use Rattle.jn_base.specs.declared.names.WorkId.{WorkId}
 use Rattle.jn_base.specs.Names.{work_eq}
+use Rattle.jn_base.specs.Limits.{most_intentions}
 use Rattle.jn_files.specs.Table.{TableView, IsTable, is_held}
 use Rattle.jn_files.specs.Calls.{Fills, with_held}
 use Rattle.jn_found.specs.Contents.{intended, heads_name, works_name}
@@ -68,7 +69,7 @@ pub record MayStore (m : Memory) (v : StoreView) (work : WorkId) (list : List In
   pub now : Matches m v
   pub records : length list < free_count m.records
   pub pages : count_by is_put_intention list ≤ free_numbers m.table.free_leaves
-  pub few : length list ≤ 24
+  pub few : length list ≤ most_intentions
   pub plain : AllPlain list
 
 -- no prepared work has another record, and no other work has more rubbish

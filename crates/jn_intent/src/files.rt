@@ -1,6 +1,7 @@
 //! The files of a storage.
 ghost use Rattle.std.specs.Prelude.{◌≡◌, ◌<◌, Ok, None};
 ghost use Rattle.jn_base.specs.declared.names.LockUnit.TheVariants.{Block as BlockUnit};
+ghost use Rattle.jn_base.specs.Limits.{most_blocks};
 ghost use Rattle.jn_storage.specs.Storage.{IsServing};
 ghost use Rattle.jn_storage.specs.Calls.{state, BlockRead};
 
@@ -25,7 +26,7 @@ impl<S: StableStore> StoredFiles for Intents<S> {
     /// A block that isn't stored is told without a device call. The page of one that is stored is cleaned before its first get.
     fn read_block(&mut self, f: FileNo, p: BlockNo) -> Result<Option<Block>, Stopped>
         requires serving { IsServing (⟦<Intents<S> as Storage>⟧.view self.old) }
-        requires range { p.0 < 120 }
+        requires range { p.0 < most_blocks }
         ensures read { BlockRead (⟦<Intents<S> as Storage>⟧.view self.old) f p result (⟦<Intents<S> as Storage>⟧.view self.new) }
         ensures unasked { (state (⟦<Intents<S> as Storage>⟧.view self.old)).files (BlockUnit f p) ≡ None → (result ≡ Ok None) × (⟦<Intents<S> as Storage>⟧.view self.new ≡ ⟦<Intents<S> as Storage>⟧.view self.old) }
     {

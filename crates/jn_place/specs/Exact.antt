@@ -9,6 +9,7 @@ use Rattle.jn_base.specs.declared.names.Tid.{Tid}
 use Rattle.jn_base.specs.declared.names.WorkId.{WorkId}
 use Rattle.jn_base.specs.declared.device.Outside.{Outside}
 use Rattle.jn_base.specs.Names.{tid_eq, work_eq}
+use Rattle.jn_base.specs.Limits.{most_blocks}
 use Rattle.jn_device.specs.Device.{DeviceState}
 use Rattle.jn_device.specs.Events.{PowersUp, powered_off, cleared}
 use Rattle.jn_found.specs.Images.{IsImage}
@@ -140,7 +141,7 @@ ScrubbedBy look device q g when before done after lines lines' = ⊥
 
 -- each block of which there is something to print is one of the 120
 abbrev pub PrintsInRange : ServerView → Type 0
-PrintsInRange v = (f : FileNo) (b : BlockNo) → is_some (prints_in v.worker.table (state v.storage).files (Block f b)) ≡ true → b.0 < 120
+PrintsInRange v = (f : FileNo) (b : BlockNo) → is_some (prints_in v.worker.table (state v.storage).files (Block f b)) ≡ true → b.0 < most_blocks
 
 -- what it told of its files
 abbrev pub Prints : ServerView → Option (List Shown) → Type 0

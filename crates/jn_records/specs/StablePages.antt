@@ -4,6 +4,7 @@ use Rattle.byteorder.specs.Endian.{big_number}
 use Rattle.jn_base.specs.declared.names.FileNo.{FileNo}
 use Rattle.jn_base.specs.declared.names.BlockNo.{BlockNo}
 use Rattle.jn_base.specs.declared.names.LockUnit.TheVariants.{File, Block}
+use Rattle.jn_base.specs.Limits.{most_blocks}
 use Rattle.jn_order.specs.Files.{Files, there}
 use Rattle.jn_records.specs.declared.root.Root.{Root}
 
@@ -60,7 +61,7 @@ block_behind g pages zero = None
 block_behind g pages (suc a) = Some (take 448 (pages (data_place g a)))
 
 abbrev pub block_in : Counts → Pages → BlockNo → List ℕ → Option (List ℕ)
-block_in g pages p head = if nat_lt p.0 120 then block_behind g pages (address_in head p.0) else None
+block_in g pages p head = if nat_lt p.0 most_blocks then block_behind g pages (address_in head p.0) else None
 
 -- each used head's file, with the blocks that have an address
 abbrev pub files_of_pages : Counts → Pages → Files

@@ -1,6 +1,7 @@
 //! The heads of files.
 ghost use Rattle.std.specs.Prelude.{◌≡◌, ◌≤◌, ◌^◌, ◌<◌, true, List, length, nat_le, Option, Some, IfOk, IfSome, IsTrue, ◌↔◌};
 ghost use Rattle.std.specs.List.{list_all};
+ghost use Rattle.jn_base.specs.Limits.{most_blocks};
 ghost use Rattle.jn_records.specs.declared.head.Head.{Head};
 ghost use Rattle.jn_records.specs.declared.head.Head.TheVariants.{Used};
 ghost use Rattle.jn_records.specs.Heads.{head_page, has_page, within, IsHead, FileFits, used_at, head_at};
@@ -101,7 +102,7 @@ fn all_within(addresses: &[u16], leaves: u16) -> bool
 /// The page of a file's head with these addresses. It takes no memory.
 #[tactic(auto, unfolding(crate::specs::Heads::head_page))]
 pub fn used_page(file: FileNo, addresses: &[u16]) -> Page
-    requires { length addresses.now ≡ 120 }
+    requires { length addresses.now ≡ most_blocks }
     ensures { result ≡ head_page (Used file addresses.now) }
 {
     let mut bytes = [0; 240];

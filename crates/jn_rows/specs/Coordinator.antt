@@ -10,6 +10,7 @@ use Rattle.jn_base.specs.declared.names.Cause.TheVariants.{Requested, Broken as 
 use Rattle.jn_base.specs.declared.names.Party.TheVariants.{Client, Server}
 use Rattle.jn_base.specs.declared.names.Resource.TheVariants as resources
 use Rattle.jn_base.specs.Names.{client_eq, tid_eq, work_eq}
+use Rattle.jn_base.specs.Limits.{most_transactions}
 use Rattle.jn_msgs.specs.declared.message.Message.{Message}
 use Rattle.jn_msgs.specs.declared.message.Message.TheVariants as messages
 use Rattle.jn_msgs.specs.declared.message.Outcome.TheVariants as outcomes
@@ -130,7 +131,7 @@ abbrev pub seen_now : (ClientNo → ℕ) → ClientNo → ℕ → ClientNo → �
 seen_now seen c request d = if client_eq c d then request else seen d
 
 abbrev pub begin_new : CoordinatorTable → List Change → Tickets → ClientNo → ℕ → RowOutcome CoordinatorTable
-begin_new t changes k c request = if nat_lt (length t.transactions) 64
+begin_new t changes k c request = if nat_lt (length t.transactions) most_transactions
     then record (sends (record t { transactions = t.transactions ++ (record { tid = name_from k; client = c; begun = Some request; stage = Open }) ∷ [] })
     (record k { next = k.next + 1 }) ((Client c, messages.Begun c request (Some (name_from k))) ∷ [])) { changes = changes }
     else record (sends t k ((Client c, messages.Begun c request None) ∷ [])) { changes = changes }

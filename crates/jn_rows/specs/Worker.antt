@@ -15,6 +15,7 @@ use Rattle.jn_base.specs.declared.op.Answer.{Answer}
 use Rattle.jn_base.specs.declared.op.Answer.TheVariants.{NoFile, Exists, Locked, TooManyReads, TooManyWrites, Broken as BrokenAnswer, Lost as LostAnswer, Closing}
 use Rattle.jn_base.specs.declared.names.Resource.TheVariants as resources
 use Rattle.jn_base.specs.Names.{tid_eq, work_eq}
+use Rattle.jn_base.specs.Limits.{most_works, most_reads, most_intentions}
 use Rattle.jn_order.specs.Files.{Files, change, answer_to, file_of}
 use Rattle.jn_records.specs.declared.intention.What.{What}
 use Rattle.jn_records.specs.declared.intention.What.TheVariants as whats
@@ -179,10 +180,10 @@ name_from k = record { server = k.server; epoch = k.epoch; ticket = k.next }
 abbrev pub new_work : WorkId → Tid → Work
 new_work W T = record { name = W; tid = T; phase = Active (record { list = []; reads = []; writes = []; last = 0; kept = None; vulnerable = false }) }
 
--- a live work of T is told again; else there is a new one, unless 64 are live
+-- a live work of T is told again; else there is a new one, unless as many are live as may be
 abbrev pub open_row : WorkerTable → Tickets → ClientNo → ℕ → Tid → Option Work → RowOutcome WorkerTable
 open_row t k c request T (Some w) = sends t k ((Client c, messages.Opened c request T (Some w.name)) ∷ [])
-open_row t k c request T None = if nat_lt (length t) 64
+open_row t k c request T None = if nat_lt (length t) most_works
     then sends (t ++ new_work (name_from k) T ∷ []) (record k { next = k.next + 1 }) ((Client c, messages.Opened c request T (Some (name_from k))) ∷ [])
     else sends t k ((Client c, messages.Opened c request T None) ∷ [])
 
@@ -216,7 +217,7 @@ done a op answer wants = record (counted a answer) {
 
 -- at the 41st read unit, or the 25th intention
 abbrev pub past_limit : ℕ → ℕ → Option Answer
-past_limit reads intentions = if nat_lt 40 reads then Some TooManyReads else (if nat_lt 24 intentions then Some TooManyWrites else None)
+past_limit reads intentions = if nat_lt most_reads reads then Some TooManyReads else (if nat_lt most_intentions intentions then Some TooManyWrites else None)
 
 abbrev pub locked : Option Held → Option Answer
 locked None = None

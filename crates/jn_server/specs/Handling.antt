@@ -7,6 +7,7 @@ use Rattle.jn_rows.specs.Worker.{timeout_row}
 use Rattle.jn_rows.specs.Stable.{Change, Pick, IsStopState, made_all}
 use Rattle.jn_storage.specs.Storage.{StorageLater}
 use Rattle.jn_storage.specs.Calls.{state, CountsErased}
+use Rattle.jn_storage.specs.DeviceCalls.{step_calls}
 use Rattle.jn_store.specs.Store.{IsCalm, IsStop}
 use Rattle.jn_transactions.specs.Telling.{added}
 use Rattle.jn_worker.specs.Leaving.{left_over}
@@ -54,7 +55,7 @@ StepLeaves v row w = (row.changes ≡ [] → CountsErased v.storage.accounts w.s
 abbrev pub Steps : Option (RowOutcome Memory) → ServerView → Collected → Result Bool ServerFault → ServerView → Collected → Type 0
 Steps None v before answer w after = (answer ≡ Ok false) × (w ≡ v) × (after ≡ before)
 Steps (Some row) v before answer w after =
-    Does 40 row v before answer w after × (is_ok answer ≡ true → answer ≡ Ok true) × (is_ok answer ≡ true → StepLeaves v row w)
+    Does step_calls row v before answer w after × (is_ok answer ≡ true → answer ≡ Ok true) × (is_ok answer ≡ true → StepLeaves v row w)
 
 -- A timeout of a transaction: true exactly where a work of it is live. Only the worker's table changes.
 pub record TimesOut (T : Tid) (v : ServerView) (answer : Bool) (w : ServerView) : Type 0 where

@@ -5,12 +5,14 @@ use Rattle.jn_base.specs.declared.names.BlockNo.{BlockNo}
 use Rattle.jn_base.specs.declared.names.LockUnit.{LockUnit}
 use Rattle.jn_base.specs.declared.names.LockUnit.TheVariants.{File, Block}
 use Rattle.jn_base.specs.Names.{file_eq}
+use Rattle.jn_base.specs.Limits.{most_blocks}
 use Rattle.jn_locks.specs.Locks.{unit_eq}
 use Rattle.jn_storage.specs.Listing.{IsListing}
 use Rattle.jn_storage.specs.Storage.{StorageLater, is_stored}
 use Rattle.jn_storage.specs.Calls.{state}
 use Rattle.jn_rows.specs.Stable.{Unchanged}
 use Rattle.jn_store.specs.Store.{IsStop}
+use Rattle.jn_store.specs.DeviceCalls.{cleaned_get_calls}
 use Rattle.jn_system.specs.WholeSystem.Printing.{Printed, prints_in, print_file, print_blocks}
 use Rattle.jn_server.specs.declared.show.Shown.{Shown}
 use Rattle.jn_server.specs.declared.fault.ServerFault.{ServerFault}
@@ -59,13 +61,13 @@ blocks_below there zero = []
 blocks_below there (suc n) = blocks_below there n ++ name_if (block_at n) (there (block_at n))
 
 abbrev pub blocks_of : (LockUnit → Option Printed) → FileNo → List BlockNo
-blocks_of prints f = blocks_below (λ p. prints (Block f p)) 120
+blocks_of prints f = blocks_below (λ p. prints (Block f p)) most_blocks
 
 abbrev pub prints_of_blocks : (LockUnit → Option Printed) → FileNo → ℕ → List Printed
 prints_of_blocks prints f n = print_blocks prints f (blocks_below (λ p. prints (Block f p)) n)
 
 abbrev pub prints_of_file : (LockUnit → Option Printed) → FileNo → List Printed
-prints_of_file prints f = print_file (prints (File f)) (prints_of_blocks prints f 120)
+prints_of_file prints f = print_file (prints (File f)) (prints_of_blocks prints f most_blocks)
 
 -- the number after a file, or the first one
 abbrev pub number_after : Option FileNo → ℕ
@@ -88,7 +90,7 @@ NextShown there from None = (g : FileNo) → there g ≡ true → g.0 < from
 pub record LooksOver (test : LockUnit → Bool) (v w : ServerView) : Type 0 where
   pub found : Unchanged (state v.storage) w.storage.found
   pub later : StorageLater v.storage w.storage
-  pub calls : (blocks : List LockUnit) → IsListing unit_eq (is_stored (state v.storage).files) blocks → w.storage.store.calls ≤ v.storage.store.calls + 24 * count_of test blocks
+  pub calls : (blocks : List LockUnit) → IsListing unit_eq (is_stored (state v.storage).files) blocks → w.storage.store.calls ≤ v.storage.store.calls + cleaned_get_calls * count_of test blocks
   pub tables : w ≡ record v { storage = w.storage }
 
 -- it has told this at the list's end

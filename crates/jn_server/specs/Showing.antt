@@ -3,10 +3,12 @@ use Rattle.std.specs.Prelude.{◌≡◌, ◌≤◌, ◌<◌, ◌+◌, ◌*◌, �
 use Rattle.jn_base.specs.declared.names.FileNo.{FileNo}
 use Rattle.jn_base.specs.declared.names.BlockNo.{BlockNo}
 use Rattle.jn_base.specs.declared.names.LockUnit.TheVariants.{Block}
+use Rattle.jn_base.specs.Limits.{most_blocks}
 use Rattle.jn_storage.specs.Storage.{StorageLater}
 use Rattle.jn_storage.specs.Calls.{state}
 use Rattle.jn_rows.specs.Stable.{Unchanged}
 use Rattle.jn_store.specs.Store.{IsCalm, IsStop}
+use Rattle.jn_store.specs.DeviceCalls.{cleaned_get_calls}
 use Rattle.jn_system.specs.WholeSystem.Printing.{Printed, FileThere, PageStored, UnitLocked, prints_in, ArePrints}
 use Rattle.jn_server.specs.declared.show.Shown.{Shown}
 use Rattle.jn_server.specs.declared.show.Shown.TheVariants as shown
@@ -25,7 +27,7 @@ pub record Looks (v w : ServerView) : Type 0 where
   pub found : Unchanged (state v.storage) w.storage.found
   pub later : StorageLater v.storage w.storage
   -- 24 for each data page
-  pub calls : w.storage.store.calls ≤ v.storage.store.calls + 24 * v.storage.accounts.leaves
+  pub calls : w.storage.store.calls ≤ v.storage.store.calls + cleaned_get_calls * v.storage.accounts.leaves
   pub tables : w ≡ record v { storage = w.storage }
 
 -- It tells of each file what is stored, or who holds it for commit, in rising order, and of each file that is there so of each block.
@@ -33,7 +35,7 @@ pub record IsShown (v : ServerView) (list : List Shown) (w : ServerView) : Type 
   pub looks : Looks v w
   pub prints : ArePrints (prints_in v.worker.table (state v.storage).files) (map print_of list)
   -- a block of which there is something to print is one of the 120
-  pub in_range : (f : FileNo) (p : BlockNo) → is_some (prints_in v.worker.table (state v.storage).files (Block f p)) ≡ true → p.0 < 120
+  pub in_range : (f : FileNo) (p : BlockNo) → is_some (prints_in v.worker.table (state v.storage).files (Block f p)) ≡ true → p.0 < most_blocks
   pub accounts : w.storage.accounts ≡ v.storage.accounts
   pub serves : IsServer w
   pub no_stop : w.storage.store.stops ≡ v.storage.store.stops

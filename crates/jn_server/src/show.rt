@@ -1,6 +1,7 @@
 //! What a server shows of its files.
 ghost use Rattle.std.specs.Prelude.{◌≡◌, ◌<◌, [], ◌∷◌, ◌++◌, is_some, true, None, Ok, OnOk, IfOk, IfErr};
 ghost use Rattle.jn_base.specs.declared.names.LockUnit.TheVariants.{File, Block as BlockUnit};
+ghost use Rattle.jn_base.specs.Limits.{most_blocks};
 ghost use Rattle.jn_system.specs.WholeSystem.Printing.{print_one};
 ghost use Rattle.jn_recovery.specs.Memory.{view_of};
 ghost use Rattle.jn_rows.specs.Worker.{commit_holder};
@@ -60,8 +61,8 @@ impl<S: StableStore> Server<S> {
     fn show_file(&mut self, file: FileNo, list: &mut Vec<Shown>) -> Result<(), ServerFault>
         requires serves { IsServer (view_with (λ s. S.view s) self.old) }
         requires there { is_some (to_print (view_with (λ s. S.view s) self.old) (File file)) ≡ true }
-        ensures shown { let v = view_with (λ s. S.view s) self.old in OnOk result (TellsPiece (is_of_first file 120) v list.old.items (prints_of_file (to_print v) file) (view_with (λ s. S.view s) self.new) list.new.items) }
-        ensures cut { IfErr result (λ fault. CutsPiece fault (is_of_first file 120) (view_with (λ s. S.view s) self.old) (view_with (λ s. S.view s) self.new)) }
+        ensures shown { let v = view_with (λ s. S.view s) self.old in OnOk result (TellsPiece (is_of_first file most_blocks) v list.old.items (prints_of_file (to_print v) file) (view_with (λ s. S.view s) self.new) list.new.items) }
+        ensures cut { IfErr result (λ fault. CutsPiece fault (is_of_first file most_blocks) (view_with (λ s. S.view s) self.old) (view_with (λ s. S.view s) self.new)) }
     {
         let unit = LockUnit::File(file);
         if let Some(tid) = self.holder(unit) {
@@ -76,8 +77,8 @@ impl<S: StableStore> Server<S> {
         requires serves { IsServer (view_with (λ s. S.view s) self.old) }
         requires there { is_some (to_print (view_with (λ s. S.view s) self.old) (File file)) ≡ true }
         requires free { commit_holder (File file) self.old.worker.table ≡ None }
-        ensures shown { let v = view_with (λ s. S.view s) self.old in OnOk result (TellsPiece (is_of_first file 120) v list.old.items (prints_of_file (to_print v) file) (view_with (λ s. S.view s) self.new) list.new.items) }
-        ensures cut { IfErr result (λ fault. CutsPiece fault (is_of_first file 120) (view_with (λ s. S.view s) self.old) (view_with (λ s. S.view s) self.new)) }
+        ensures shown { let v = view_with (λ s. S.view s) self.old in OnOk result (TellsPiece (is_of_first file most_blocks) v list.old.items (prints_of_file (to_print v) file) (view_with (λ s. S.view s) self.new) list.new.items) }
+        ensures cut { IfErr result (λ fault. CutsPiece fault (is_of_first file most_blocks) (view_with (λ s. S.view s) self.old) (view_with (λ s. S.view s) self.new)) }
     {
         tell(list, Shown::File(file))?;
         self.show_blocks(file, list)
@@ -85,8 +86,8 @@ impl<S: StableStore> Server<S> {
 
     fn show_blocks(&mut self, file: FileNo, list: &mut Vec<Shown>) -> Result<(), ServerFault>
         requires serves { IsServer (view_with (λ s. S.view s) self.old) }
-        ensures shown { let v = view_with (λ s. S.view s) self.old in OnOk result (TellsPiece (is_of_first file 120) v list.old.items (prints_of_blocks (to_print v) file 120) (view_with (λ s. S.view s) self.new) list.new.items) }
-        ensures cut { IfErr result (λ fault. CutsPiece fault (is_of_first file 120) (view_with (λ s. S.view s) self.old) (view_with (λ s. S.view s) self.new)) }
+        ensures shown { let v = view_with (λ s. S.view s) self.old in OnOk result (TellsPiece (is_of_first file most_blocks) v list.old.items (prints_of_blocks (to_print v) file most_blocks) (view_with (λ s. S.view s) self.new) list.new.items) }
+        ensures cut { IfErr result (λ fault. CutsPiece fault (is_of_first file most_blocks) (view_with (λ s. S.view s) self.old) (view_with (λ s. S.view s) self.new)) }
     {
         for block in 0..120 {
             self.show_block(file, BlockNo(block), list)?;
@@ -101,7 +102,7 @@ impl<S: StableStore> Server<S> {
         list: &mut Vec<Shown>,
     ) -> Result<(), ServerFault>
         requires serves { IsServer (view_with (λ s. S.view s) self.old) }
-        requires range { block.0 < 120 }
+        requires range { block.0 < most_blocks }
         ensures shown { let v = view_with (λ s. S.view s) self.old in OnOk result (TellsPiece (is_at (BlockUnit file block)) v list.old.items (print_one (to_print v (BlockUnit file block))) (view_with (λ s. S.view s) self.new) list.new.items) }
         ensures cut { IfErr result (λ fault. CutsPiece fault (is_at (BlockUnit file block)) (view_with (λ s. S.view s) self.old) (view_with (λ s. S.view s) self.new)) }
     {
@@ -121,7 +122,7 @@ impl<S: StableStore> Server<S> {
         list: &mut Vec<Shown>,
     ) -> Result<(), ServerFault>
         requires serves { IsServer (view_with (λ s. S.view s) self.old) }
-        requires range { block.0 < 120 }
+        requires range { block.0 < most_blocks }
         requires free { commit_holder (BlockUnit file block) self.old.worker.table ≡ None }
         ensures shown { let v = view_with (λ s. S.view s) self.old in OnOk result (TellsPiece (is_at (BlockUnit file block)) v list.old.items (print_one (to_print v (BlockUnit file block))) (view_with (λ s. S.view s) self.new) list.new.items) }
         ensures cut { IfErr result (λ fault. CutsPiece fault (is_at (BlockUnit file block)) (view_with (λ s. S.view s) self.old) (view_with (λ s. S.view s) self.new)) }
@@ -139,7 +140,7 @@ impl<S: StableStore> Server<S> {
     /// Whether the block is stored. Most blocks aren't, and an answer without a block costs less than one with room for it.
     fn is_stored(&self, file: FileNo, block: BlockNo) -> bool
         requires serves { IsServer (view_with (λ s. S.view s) self.now) }
-        requires range { block.0 < 120 }
+        requires range { block.0 < most_blocks }
         ensures { result ≡ is_some ((state (view_with (λ s. S.view s) self.now).storage).files (BlockUnit file block)) }
     {
         self.storage.mapped(file, block)
@@ -155,7 +156,7 @@ impl<S: StableStore> Server<S> {
     /// The block, where it is stored.
     fn read(&mut self, file: FileNo, block: BlockNo) -> Result<Option<Block>, Stopped>
         requires serves { IsServer (view_with (λ s. S.view s) self.old) }
-        requires range { block.0 < 120 }
+        requires range { block.0 < most_blocks }
         ensures read { BlockRead (view_with (λ s. S.view s) self.old).storage file block result (view_with (λ s. S.view s) self.new).storage }
         ensures unasked { (state (view_with (λ s. S.view s) self.old).storage).files (BlockUnit file block) ≡ None → (view_with (λ s. S.view s) self.new).storage ≡ (view_with (λ s. S.view s) self.old).storage }
         ensures tables { view_with (λ s. S.view s) self.new ≡ record (view_with (λ s. S.view s) self.old) { storage = (view_with (λ s. S.view s) self.new).storage } }

@@ -21,6 +21,7 @@ use Rattle.jn_records.specs.declared.work.WorkState.{WorkState}
 use Rattle.jn_records.specs.Intentions.{intention_has_page}
 use Rattle.jn_records.specs.NetLists.{is_put}
 use Rattle.jn_store.specs.Store.{IsStop}
+use Rattle.jn_store.specs.DeviceCalls.{cleaned_get_calls, put_calls}
 use Rattle.jn_rows.specs.Stable.{StableState, Prepared, Pick, stable, AddReady, MarkGoing, CarryOut, RemoveWork, AddFlag, DropFlag, made_by, Changed, Unchanged, at_work, flag_state, is_ready, is_going}
 use Rattle.jn_storage.specs.declared.faults.PrepareFault.{PrepareFault}
 use Rattle.jn_storage.specs.declared.faults.PrepareFault.TheVariants.{Records, Pages, Heads, Stopped as Stops, Memory}
@@ -29,6 +30,7 @@ use Rattle.jn_storage.specs.declared.faults.PromiseFault.TheVariants.{Short as S
 use Rattle.jn_storage.specs.Listing.{is_in, IsListing, AtMost}
 use Rattle.jn_storage.specs.Orderly.{IsOrderly, IsGiven}
 use Rattle.jn_storage.specs.Storage.{Accounts, StorageView, StorageLater, IsLoadable, IsServing, file_there, is_stored, needed, list_of}
+use Rattle.jn_storage.specs.DeviceCalls.{prepare_calls, step_calls}
 
 -- the state, while no call has been stopped
 abbrev pub state : StorageView → StableState
@@ -62,7 +64,7 @@ NextFile files after None = (g : FileNo) → file_there files g ≡ true → is_
 
 -- a block is read, or none is stored there
 pub record BlockRead (v : StorageView) (f : FileNo) (p : BlockNo) (answer : Result (Option (List ℕ)) Stopped) (w : StorageView) : Type 0 where
-  pub called : Called v 24 (is_ok answer) w
+  pub called : Called v cleaned_get_calls (is_ok answer) w
   pub found : (block : Option (List ℕ)) → answer ≡ Ok block → block ≡ (state v).files (Block f p)
   pub unchanged : Unchanged (state v) w.found
   pub same : is_ok answer ≡ true → w.accounts ≡ v.accounts
@@ -141,12 +143,12 @@ pub record WorkPrepared {A : Type 0} (v : StorageView) (head : WorkHead) (list :
   pub refused : (fault : PrepareFault) → answer ≡ Err fault → is_shortage fault ≡ true → shortage v.accounts (needed (state v) list) ≡ Some fault
   pub enough : reached answer ≡ true → shortage v.accounts (needed (state v) list) ≡ None
   pub kept : reached answer ≡ false → w ≡ v
-  pub called : reached answer ≡ true → Called v 784 (is_ok answer) w
+  pub called : reached answer ≡ true → Called v prepare_calls (is_ok answer) w
   pub change : reached answer ≡ true → Changed (state v) (AddReady head list reads) (is_ok answer) w.found
   pub accounts : is_ok answer ≡ true → w.accounts ≡ with_work v.accounts head.work (needed (state v) list)
 
 pub record MarkedGoing (v : StorageView) (work : WorkId) (ok : Bool) (w : StorageView) : Type 0 where
-  pub called : Called v 16 ok w
+  pub called : Called v put_calls ok w
   pub change : Changed (state v) (MarkGoing work) ok w.found
   pub accounts : ok ≡ true → w.accounts ≡ v.accounts
 
@@ -178,7 +180,7 @@ pub record PageStands (x : StableState) (i : Intention) (a : Accounts) (work : W
 
 -- One intention is carried out. It is answered false, and nothing is done, exactly where none is left.
 pub record StepApplied (v : StorageView) (work : WorkId) (answer : Result Bool Stopped) (w : StorageView) : Type 0 where
-  pub called : Called v 40 (is_ok answer) w
+  pub called : Called v step_calls (is_ok answer) w
   pub none_left : next_of v work ≡ None → (answer ≡ Ok false) × (w ≡ v)
   pub carried : (i : Intention) → next_of v work ≡ Some i → Changed (state v) (CarryOut work i) (is_ok answer) w.found
   pub done : is_some (next_of v work) ≡ true → is_ok answer ≡ true → (answer ≡ Ok true) × CountsOn v.accounts work w.accounts
@@ -198,7 +200,7 @@ pub record CountsOff (a : Accounts) (work : WorkId) (intentions : ℕ) (b : Acco
 
 -- a work is forgotten or dropped
 pub record WorkRemoved (v : StorageView) (work : WorkId) (ok : Bool) (w : StorageView) : Type 0 where
-  pub called : Called v 16 ok w
+  pub called : Called v put_calls ok w
   pub change : Changed (state v) (RemoveWork work) ok w.found
   pub accounts : ok ≡ true → CountsOff v.accounts work (length (list_of (state v) work)) w.accounts
 
@@ -211,7 +213,7 @@ pub record CountsErased (a b : Accounts) : Type 0 where
 -- One rubbish record is erased, which is no change of the stable state. It is answered false, and nothing
 -- is done, exactly where there is none.
 pub record RecordErased (v : StorageView) (answer : Result Bool Stopped) (w : StorageView) : Type 0 where
-  pub called : Called v 16 (is_ok answer) w
+  pub called : Called v put_calls (is_ok answer) w
   pub unchanged : Unchanged (state v) w.found
   pub none : v.accounts.rubbish ≡ [] → (answer ≡ Ok false) × (w ≡ v)
   pub one : v.accounts.rubbish ≢ [] → is_ok answer ≡ true → (answer ≡ Ok true) × CountsErased v.accounts w.accounts
@@ -244,12 +246,12 @@ pub record MayPutFlag (v : StorageView) (flag : Flag) : Type 0 where
 
 -- a flag is put, which uses up its promise
 pub record FlagPut (v : StorageView) (flag : Flag) (ok : Bool) (w : StorageView) : Type 0 where
-  pub called : Called v 16 ok w
+  pub called : Called v put_calls ok w
   pub change : Changed (state v) (AddFlag flag) ok w.found
   pub accounts : ok ≡ true → w.accounts ≡ record v.accounts { free_records = v.accounts.free_records - 1; promised_records = v.accounts.promised_records - 1 }
 
 pub record FlagDropped (v : StorageView) (t : Tid) (ok : Bool) (w : StorageView) : Type 0 where
-  pub called : Called v 16 ok w
+  pub called : Called v put_calls ok w
   pub change : Changed (state v) (DropFlag t) ok w.found
   pub accounts : ok ≡ true → w.accounts ≡ record v.accounts { free_records = v.accounts.free_records + 1 }
 

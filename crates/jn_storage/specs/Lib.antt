@@ -4,3 +4,4 @@ pub mod Storage
 pub mod Calls
 pub mod Viewing
 pub mod Finding
+pub mod DeviceCalls

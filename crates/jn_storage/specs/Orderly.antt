@@ -9,6 +9,7 @@ use Rattle.jn_base.specs.declared.names.LockUnit.TheVariants.{File, Block}
 use Rattle.jn_base.specs.declared.names.Tid.{Tid}
 use Rattle.jn_base.specs.declared.names.WorkId.{WorkId}
 use Rattle.jn_base.specs.Names.{tid_eq, work_eq}
+use Rattle.jn_base.specs.Limits.{most_blocks, most_intentions, most_reads, most_works, most_transactions}
 use Rattle.jn_order.specs.Files.{Files}
 use Rattle.jn_records.specs.Records.{ascends}
 use Rattle.jn_records.specs.declared.intention.Intention.{Intention}
@@ -38,7 +39,7 @@ held_by p = rebuilt (map unit_of p.list) p.reads
 
 abbrev pub unit_in_range : LockUnit → Bool
 unit_in_range (File f) = true
-unit_in_range (Block f p) = nat_lt p.0 120
+unit_in_range (Block f p) = nat_lt p.0 most_blocks
 
 -- a list that neither makes nor removes the file needs it there
 abbrev pub needs_file : First → Bool
@@ -57,10 +58,10 @@ first_of list i = (net_of list i.file).first
 pub record IsPrepared (files : Files) (list : List Intention) (reads : List LockUnit) : Type 0 where
   -- a net list of at most 24 intentions, each block one of the 120
   pub order : InOrder list
-  pub length_fits : length list ≤ 24
-  pub in_range : list_all (λ i. nat_lt i.block.0 120) list ≡ true
+  pub length_fits : length list ≤ most_intentions
+  pub in_range : list_all (λ i. nat_lt i.block.0 most_blocks) list ≡ true
   -- at most 40 read units, ascending
-  pub reads_fit : length reads ≤ 40
+  pub reads_fit : length reads ≤ most_reads
   pub reads_ascend : ascends None reads ≡ true
   pub reads_in_range : list_all (λ u. unit_in_range u) reads ≡ true
   -- it read each file of its list
@@ -84,8 +85,8 @@ GoTogether p q = (u : LockUnit) (m n : Mode) → held_by p u m ≡ true → held
 -- What a recovery asks of the state, apart from what is free. The names of works and flags differ, since
 -- the state is a function of them.
 pub record IsOrderly (server : ServerNo) (x : StableState) : Type 0 where
-  pub works_few : AtMost 64 work_eq (λ w. is_some (x.works w))
-  pub flags_few : AtMost 64 tid_eq (λ t. is_some (x.flags t))
+  pub works_few : AtMost most_works work_eq (λ w. is_some (x.works w))
+  pub flags_few : AtMost most_transactions tid_eq (λ t. is_some (x.flags t))
   pub works_given : (w : WorkId) → is_some (x.works w) ≡ true → IsGiven server x.epoch w.server w.epoch
   pub flags_given : (t : Tid) → is_some (x.flags t) ≡ true → IsGiven server x.epoch t.server t.epoch
   pub prepared : (w : WorkId) (p : Prepared) → x.works w ≡ Some p → IsPrepared x.files p.list p.reads

@@ -1,5 +1,6 @@
 -- Stored files seen through a list that isn't prepared yet.
 use Rattle.std.specs.Prelude.{◌≡◌, ◌<◌, ℕ, Bool, true, false, not, ◌&&◌, List, is_some, Result, Ok, Err, is_ok}
+use Rattle.jn_store.specs.DeviceCalls.{cleaned_get_calls}
 use Rattle.jn_base.specs.declared.device.Stopped.{Stopped}
 use Rattle.jn_base.specs.declared.names.BlockNo.{BlockNo}
 use Rattle.jn_base.specs.declared.names.FileNo.{FileNo}
@@ -7,6 +8,7 @@ use Rattle.jn_base.specs.declared.names.LockUnit.TheVariants.{Block}
 use Rattle.jn_base.specs.declared.op.Answer.{Answer}
 use Rattle.jn_base.specs.declared.op.Op.{Op}
 use Rattle.jn_base.specs.declared.op.Op.TheVariants.{Read}
+use Rattle.jn_base.specs.Limits.{most_blocks}
 use Rattle.jn_order.specs.Files.{Files, change, answer_to, or_else, zeros}
 use Rattle.jn_records.specs.declared.intention.Intention.{Intention}
 use Rattle.jn_records.specs.NetLists.{list_change, block_of}
@@ -17,7 +19,7 @@ use Rattle.jn_storage.specs.Storage.{StorageView}
 use Rattle.jn_storage.specs.Calls.{state, Called}
 
 abbrev pub BlockInRange : Op → Type 0
-BlockInRange op = (block_of op).0 < 120
+BlockInRange op = (block_of op).0 < most_blocks
 
 -- whether it is a read of a stored block of which the list says nothing
 abbrev pub reads_stored : List Intention → Op → Files → Bool
@@ -33,7 +35,7 @@ served _ = true
 -- for the answer, the storage is as after it.
 pub record Viewed (list : List Intention) (v : StorageView) (op : Op) (answer : Result Answer ViewFault) (w : StorageView) : Type 0 where
   pub answered : (a : Answer) → answer ≡ Ok a → a ≡ answer_to op (change (list_change list) (state v).files)
-  pub called : Called v 24 (served answer) w
+  pub called : Called v cleaned_get_calls (served answer) w
   pub unchanged : Unchanged (state v) w.found
   pub same : served answer ≡ true → w.accounts ≡ v.accounts
   pub others : reads_stored list op (state v).files ≡ false → (served answer ≡ true) × (w ≡ v)
@@ -41,7 +43,7 @@ pub record Viewed (list : List Intention) (v : StorageView) (op : Op) (answer : 
 -- a stored block, or zeros where none is stored and the device isn't asked
 pub record ReadOrZeros (v : StorageView) (f : FileNo) (p : BlockNo) (answer : Result (List ℕ) Stopped) (w : StorageView) : Type 0 where
   pub found : (block : List ℕ) → answer ≡ Ok block → block ≡ or_else ((state v).files (Block f p)) zeros
-  pub called : Called v 24 (is_ok answer) w
+  pub called : Called v cleaned_get_calls (is_ok answer) w
   pub unchanged : Unchanged (state v) w.found
   pub same : is_ok answer ≡ true → w.accounts ≡ v.accounts
   pub others : is_some ((state v).files (Block f p)) ≡ false → (is_ok answer ≡ true) × (w ≡ v)

@@ -1,5 +1,6 @@
 // Stored files seen through the list of a work that isn't prepared yet.
 ghost use Rattle.std.specs.Prelude.{◌≡◌, ◌<◌, ◌+◌, ◌^◌, length, count_by};
+ghost use Rattle.jn_base.specs.Limits.{most_blocks};
 ghost use Rattle.jn_order.specs.Files.{file_of, zeros};
 ghost use Rattle.jn_records.specs.NetLists.{needs_a_head, block_of};
 ghost use Rattle.jn_storage.specs.Storage.{IsServing, file_there, needed};
@@ -85,7 +86,7 @@ fn zeros() -> Block
 /// A stored block, or zeros where none is stored, without asking the device.
 fn read_or_zeros<W: StoredFiles>(files: &mut W, f: FileNo, p: BlockNo) -> Result<Block, Stopped>
     requires serving { IsServing (W.view files.old) }
-    requires range { p.0 < 120 }
+    requires range { p.0 < most_blocks }
     ensures read { ReadOrZeros (W.view files.old) f p result (W.view files.new) }
 {
     if !files.mapped(f, p) {

@@ -1,6 +1,7 @@
 // The traits of a server's storage.
 ghost use Rattle.std.specs.Prelude.{◌≡◌, ◌<◌, is_ok, is_some};
 ghost use Rattle.jn_base.specs.declared.names.LockUnit.TheVariants.{File, Block};
+ghost use Rattle.jn_base.specs.Limits.{most_blocks};
 ghost use Rattle.jn_storage.specs.Storage.{StorageView, IsServing, file_there};
 ghost use Rattle.jn_storage.specs.Calls.{state, NextFile, BlockRead, TellsWorks, TellsFlags, WorkPrepared, MarkedGoing, StepApplied, WorkRemoved, RecordErased, FlagPromised, PromiseReleased, MayPutFlag, FlagPut, FlagDropped, MayPrepare, IsReady, IsGoing, IsCarriedOut, HasFlag};
 
@@ -30,13 +31,13 @@ pub trait StoredFiles: Storage {
     /// Whether the block is stored.
     fn mapped(&self, f: FileNo, p: BlockNo) -> bool
         requires serving { IsServing (Self.view self.now) }
-        requires range { p.0 < 120 }
+        requires range { p.0 < most_blocks }
         ensures { result ≡ is_some ((state (Self.view self.now)).files (Block f p)) };
 
     /// The block, where it is stored.
     fn read_block(&mut self, f: FileNo, p: BlockNo) -> Result<Option<Block>, Stopped>
         requires serving { IsServing (Self.view self.old) }
-        requires range { p.0 < 120 }
+        requires range { p.0 < most_blocks }
         ensures read { BlockRead (Self.view self.old) f p result (Self.view self.new) };
 }
 

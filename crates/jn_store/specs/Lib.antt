@@ -1,3 +1,4 @@
 pub mod Store
 pub mod Pairs
 pub mod Choices
+pub mod DeviceCalls

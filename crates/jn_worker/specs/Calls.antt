@@ -32,6 +32,7 @@ use Rattle.jn_rows.specs.Worker.{WorkerTable, worker_again, timeout_row, with_ph
 use Rattle.jn_storage.specs.Listing.{is_in}
 use Rattle.jn_storage.specs.Storage.{Accounts, StorageView}
 use Rattle.jn_storage.specs.Calls.{state, Called, CountsErased}
+use Rattle.jn_storage.specs.DeviceCalls.{step_calls}
 use Rattle.jn_worker.specs.declared.words.WorkerFault.{WorkerFault}
 use Rattle.jn_worker.specs.declared.words.WorkerFault.TheVariants.{Stopped, Memory}
 use Rattle.jn_worker.specs.Leaving.{left_by}
@@ -87,7 +88,7 @@ pub record AsksAgain (t : WorkerView) (before : Collected) (ok : Bool) (after : 
 -- changes is the erasing of one rubbish record.
 abbrev pub Steps : Option (RowOutcome WorkerTable) → WorkerView → StorageView → Collected → Tickets → Result Bool WorkerFault → WorkerView → StorageView → Collected → Tickets → Type 0
 Steps None t v before k answer u w after l = (answer ≡ Ok false) × (u ≡ t) × (w ≡ v) × (after ≡ before)
-Steps (Some row) t v before k answer u w after l = Takes 40 row t v before k answer u w after l × (is_ok answer ≡ true → answer ≡ Ok true) × (row.changes ≡ [] → is_ok answer ≡ true → CountsErased v.accounts w.accounts)
+Steps (Some row) t v before k answer u w after l = Takes step_calls row t v before k answer u w after l × (is_ok answer ≡ true → answer ≡ Ok true) × (row.changes ≡ [] → is_ok answer ≡ true → CountsErased v.accounts w.accounts)
 
 -- a timeout of a transaction: true where a work of it is live
 pub record TimesOut (T : Tid) (t : WorkerView) (answer : Bool) (u : WorkerView) : Type 0 where

@@ -6,6 +6,7 @@ use Rattle.jn_base.specs.declared.names.Tid.{Tid}
 use Rattle.jn_base.specs.declared.names.Tickets.{Tickets}
 use Rattle.jn_base.specs.declared.names.WorkId.{WorkId}
 use Rattle.jn_base.specs.Names.{work_eq}
+use Rattle.jn_base.specs.Limits.{most_works}
 use Rattle.jn_order.specs.Files.{Files}
 use Rattle.jn_records.specs.declared.intention.Intention.{Intention}
 use Rattle.jn_locks.specs.Locks.{is_unit, work_before}
@@ -94,10 +95,10 @@ pub record NameFits (v : StorageView) (W : WorkId) : Type 0 where
   pub given : IsGiven v.accounts.server (state v).epoch W.server W.epoch
   pub no_rubbish : is_in work_eq W v.accounts.rubbish ≡ false
 
--- the works and the storage fit: at most 64 are live
+-- the works and the storage fit: no more are live than a server may have
 pub record Fits (t : WorkerView) (v : StorageView) : Type 0 where
   pub serving : IsServing v
-  pub few : length t.table ≤ 64
+  pub few : length t.table ≤ most_works
   pub stored : (W : WorkId) → WorkFits (work_at W t.table) ((state v).works W)
   pub going : (W : WorkId) → is_in work_eq W t.going ≡ is_going ((state v).works W)
   pub lists : (W : WorkId) → WorkListFits (state v).files (work_at W t.table)

@@ -1,5 +1,6 @@
 -- An operation whose answer is a stored block.
 use Rattle.std.specs.Prelude.{◌≡◌, ◌+◌, ℕ, Bool, true, false, not, nat_eq, ◌&&◌, Option, Some, None, is_some}
+use Rattle.jn_store.specs.DeviceCalls.{cleaned_get_calls}
 use Rattle.jn_base.specs.declared.names.Tid.{Tid}
 use Rattle.jn_base.specs.declared.names.WorkId.{WorkId}
 use Rattle.jn_base.specs.declared.op.Answer.{Answer}
@@ -35,7 +36,7 @@ pub record ReadSettles (t : WorkerView) (v : StorageView) (T : Tid) (W : WorkId)
 
 -- a call that changes nothing of the storage, and asks the device only so
 pub record OnlyReads (asks : Bool) (v : StorageView) (ok : Bool) (w : StorageView) : Type 0 where
-  pub called : Called v 24 ok w
+  pub called : Called v cleaned_get_calls ok w
   pub unchanged : Unchanged (state v) w.found
   pub same : ok ≡ true → w.accounts ≡ v.accounts
   pub quiet : asks ≡ false → w ≡ v

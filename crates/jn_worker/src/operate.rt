@@ -8,6 +8,7 @@ ghost use Rattle.jn_order.specs.Files.{answer_to, change};
 ghost use Rattle.jn_records.specs.NetLists.{list_change};
 ghost use Rattle.jn_storage.specs.Calls.{state};
 ghost use Rattle.jn_storage.specs.Viewing.{BlockInRange};
+ghost use Rattle.jn_storage.specs.DeviceCalls.{prepare_calls};
 ghost use Rattle.jn_locks.specs.declared.words.Mode.TheVariants as modes;
 ghost use Rattle.jn_records.specs.NetLists.{length_with};
 ghost use Rattle.jn_records.specs.Reading.{Gives};
@@ -20,7 +21,9 @@ ghost use Rattle.jn_worker.specs.Fitting.{Fits, seen, is_active};
 
 use crate::words::WorkerFault;
 use crate::worker::Worker;
-use jn_base::{Answer, ClientNo, LockUnit, Op, Party, Tid, WorkId};
+use jn_base::{
+    Answer, ClientNo, LockUnit, MOST_INTENTIONS, MOST_READS, Op, Party, Tid, WorkId,
+};
 use jn_lock_rows::{Refused, grant_operation, note_breaks, operation_wants, units_with, work_at};
 use jn_locks::Mode;
 use jn_msgs::{Message, Note, Out};
@@ -33,9 +36,9 @@ use std::alloc::{AllocError, Global};
 fn past_limit(reads: usize, intentions: usize) -> Option<Answer>
     ensures { result ≡ rows.past_limit reads intentions }
 {
-    if reads > 40 {
+    if reads > MOST_READS {
         Some(Answer::TooManyReads)
-    } else if intentions > 24 {
+    } else if intentions > MOST_INTENTIONS {
         Some(Answer::TooManyWrites)
     } else {
         None
@@ -206,7 +209,7 @@ impl Worker {
     ) -> Result<(), WorkerFault>
         requires active { is_active (rows.work_at name self.old.table) ≡ true }
         requires next { (T : Tid) (a : ActiveWork) → IsActive self.old.table T name a → number ≡ a.last + 1 }
-        ensures takes { (v : StorageView) (k : Tickets) → Fits self.old v → BlockInRange op.now → ((T : Tid) (a : ActiveWork) → IsActive self.old.table T name a → answer ≡ answer_to op.now (change (list_change a.list) (state v).files)) → Takes 784 (rows.op_row self.old.table (state v).files k client request name number op.now (rows.work_at name self.old.table)) self.old v out.old k result self.new v out.new k }
+        ensures takes { (v : StorageView) (k : Tickets) → Fits self.old v → BlockInRange op.now → ((T : Tid) (a : ActiveWork) → IsActive self.old.table T name a → answer ≡ answer_to op.now (change (list_change a.list) (state v).files)) → Takes prepare_calls (rows.op_row self.old.table (state v).files k client request name number op.now (rows.work_at name self.old.table)) self.old v out.old k result self.new v out.new k }
     {
         let kept = answer.copy()?;
         let refusal = self.settle(name, number, op, kept, out)?;
@@ -226,7 +229,7 @@ impl Worker {
     ) -> Result<(), WorkerFault>
         requires active { is_active (rows.work_at name self.now.table) ≡ true }
         requires other { (T : Tid) (a : ActiveWork) → IsActive self.now.table T name a → nat_eq number (a.last + 1) ≡ false }
-        ensures takes { (v : StorageView) (k : Tickets) (op : AnyOp) → Fits self.now v → Takes 784 (rows.op_row self.now.table (state v).files k client request name number op (rows.work_at name self.now.table)) self.now v out.old k result self.now v out.new k }
+        ensures takes { (v : StorageView) (k : Tickets) (op : AnyOp) → Fits self.now v → Takes prepare_calls (rows.op_row self.now.table (state v).files k client request name number op (rows.work_at name self.now.table)) self.now v out.old k result self.now v out.new k }
     {
         if let Some(answer) = self.kept_answer(name, number) {
             let again = answer.copy()?;

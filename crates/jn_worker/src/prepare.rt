@@ -6,6 +6,7 @@ ghost use Rattle.jn_rows.specs.declared.worker.ActiveWork.{ActiveWork};
 ghost use Rattle.jn_rows.specs.Worker as rows;
 ghost use Rattle.jn_lock_rows.specs.Calls.{IsActive};
 ghost use Rattle.jn_storage.specs.Calls.{WorkPrepared};
+ghost use Rattle.jn_storage.specs.DeviceCalls.{prepare_calls};
 ghost use Rattle.jn_worker.specs.Calls.{Takes, Stores, head_of, refusal_of};
 ghost use Rattle.jn_worker.specs.declared.words.WorkerFault.TheVariants.{Memory};
 ghost use Rattle.jn_worker.specs.Fitting.{Fits, seen, is_active};
@@ -98,7 +99,7 @@ impl Worker {
     ) -> Result<(), WorkerFault>
         requires fits { Fits self.old (W.view store.old) }
         requires active { is_active (rows.work_at name self.old.table) ≡ true }
-        ensures takes { (k : Tickets) → Takes 784 (rows.prepare_row self.old.table (seen (W.view store.old)) k tid client name (rows.work_at name self.old.table)) self.old (W.view store.old) out.old k result self.new (W.view store.new) out.new k }
+        ensures takes { (k : Tickets) → Takes prepare_calls (rows.prepare_row self.old.table (seen (W.view store.old)) k tid client name (rows.work_at name self.old.table)) self.old (W.view store.old) out.old k result self.new (W.view store.new) out.new k }
         ensures kept { (k : Tickets) → (rows.prepare_row self.old.table (seen (W.view store.old)) k tid client name (rows.work_at name self.old.table)).changes ≡ [] → W.view store.new ≡ W.view store.old }
     {
         if let Some((unit, by)) = test_storing(&self.locks, &self.works, name) {
@@ -134,7 +135,7 @@ impl Worker {
         out: &mut Out,
     ) -> Result<(), WorkerFault>
         requires fits { Fits self.old (W.view store.old) }
-        ensures takes { Takes 784 (rows.prepare_row self.old.table (seen (W.view store.old)) tickets.now tid client name (rows.work_at name self.old.table)) self.old (W.view store.old) out.old tickets.now result self.new (W.view store.new) out.new tickets.now }
+        ensures takes { Takes prepare_calls (rows.prepare_row self.old.table (seen (W.view store.old)) tickets.now tid client name (rows.work_at name self.old.table)) self.old (W.view store.old) out.old tickets.now result self.new (W.view store.new) out.new tickets.now }
         ensures kept { (rows.prepare_row self.old.table (seen (W.view store.old)) tickets.now tid client name (rows.work_at name self.old.table)).changes ≡ [] → W.view store.new ≡ W.view store.old }
     {
         if self.is_active(name) {

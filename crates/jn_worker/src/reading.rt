@@ -10,6 +10,7 @@ ghost use Rattle.jn_lock_rows.specs.Calls.{IsActive, rephased};
 ghost use Rattle.jn_storage.specs.Calls.{state};
 ghost use Rattle.jn_storage.specs.Storage.{IsServing};
 ghost use Rattle.jn_storage.specs.Viewing.{BlockInRange, Viewed};
+ghost use Rattle.jn_storage.specs.DeviceCalls.{prepare_calls};
 ghost use Rattle.jn_worker.specs.Calls.{Takes, has_stopped};
 ghost use Rattle.jn_works.specs.Changing.{tallied};
 ghost use Rattle.jn_worker.specs.Reading.{ReadSettles, OnlyReads, asks_now, asks_for, is_unknown};
@@ -144,7 +145,7 @@ impl Worker {
         requires active { is_active (rows.work_at name self.old.table) ≡ true }
         requires next { (T : Tid) (a : ActiveWork) → IsActive self.old.table T name a → number ≡ a.last + 1 }
         requires unknown { (T : Tid) (a : ActiveWork) → IsActive self.old.table T name a → is_unknown a op.now (W.view store.old) }
-        ensures takes { (k : Tickets) → Takes 784 (rows.op_row self.old.table (state (W.view store.old)).files k client request name number op.now (rows.work_at name self.old.table)) self.old (W.view store.old) out.old k result self.new (W.view store.new) out.new k }
+        ensures takes { (k : Tickets) → Takes prepare_calls (rows.op_row self.old.table (state (W.view store.old)).files k client request name number op.now (rows.work_at name self.old.table)) self.old (W.view store.old) out.old k result self.new (W.view store.new) out.new k }
         ensures asks { asks_for self.old.table (W.view store.old) name number op.now (rows.work_at name self.old.table) ≡ false → W.view store.new ≡ W.view store.old }
         ensures same { is_ok result ≡ true → (W.view store.new).accounts ≡ (W.view store.old).accounts }
     {
@@ -167,7 +168,7 @@ impl Worker {
     ) -> Result<(), WorkerFault>
         requires fits { Fits self.old (W.view store.old) }
         requires range { BlockInRange op.now }
-        ensures takes { Takes 784 (rows.op_row self.old.table (state (W.view store.old)).files tickets.now client request name number op.now (rows.work_at name self.old.table)) self.old (W.view store.old) out.old tickets.now result self.new (W.view store.new) out.new tickets.now }
+        ensures takes { Takes prepare_calls (rows.op_row self.old.table (state (W.view store.old)).files tickets.now client request name number op.now (rows.work_at name self.old.table)) self.old (W.view store.old) out.old tickets.now result self.new (W.view store.new) out.new tickets.now }
         ensures asks { asks_for self.old.table (W.view store.old) name number op.now (rows.work_at name self.old.table) ≡ false → W.view store.new ≡ W.view store.old }
         ensures same { is_ok result ≡ true → (W.view store.new).accounts ≡ (W.view store.old).accounts }
     {

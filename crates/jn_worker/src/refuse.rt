@@ -5,6 +5,7 @@ ghost use Rattle.jn_base.specs.declared.op.Op.{Op};
 ghost use Rattle.jn_rows.specs.Worker as rows;
 ghost use Rattle.jn_storage.specs.Storage.{StorageView};
 ghost use Rattle.jn_storage.specs.Calls.{state};
+ghost use Rattle.jn_storage.specs.DeviceCalls.{prepare_calls};
 ghost use Rattle.jn_worker.specs.Calls.{Takes, vote_inactive, answer_inactive};
 ghost use Rattle.jn_worker.specs.Fitting.{Fits, seen, is_active};
 
@@ -46,7 +47,7 @@ impl Worker {
         out: &mut Out,
     ) -> Result<(), WorkerFault>
         requires inactive { is_active (rows.work_at name self.now.table) ≡ false }
-        ensures takes { (v : StorageView) (c : ClientNo) → Fits self.now v → Takes 784 (rows.prepare_row self.now.table (seen v) tickets.now tid c name (rows.work_at name self.now.table)) self.now v out.old tickets.now result self.now v out.new tickets.now }
+        ensures takes { (v : StorageView) (c : ClientNo) → Fits self.now v → Takes prepare_calls (rows.prepare_row self.now.table (seen v) tickets.now tid c name (rows.work_at name self.now.table)) self.now v out.old tickets.now result self.now v out.new tickets.now }
     {
         let Some(work) = work_at(&self.works, name) else {
             let lost = Vote::Lost(name.epoch, tickets.epoch);
@@ -69,7 +70,7 @@ impl Worker {
         out: &mut Out,
     ) -> Result<(), WorkerFault>
         requires inactive { is_active (rows.work_at name self.now.table) ≡ false }
-        ensures takes { (v : StorageView) (number : ℕ) (op : Op) → Fits self.now v → Takes 784 (rows.op_row self.now.table (state v).files tickets.now client request name number op (rows.work_at name self.now.table)) self.now v out.old tickets.now result self.now v out.new tickets.now }
+        ensures takes { (v : StorageView) (number : ℕ) (op : Op) → Fits self.now v → Takes prepare_calls (rows.op_row self.now.table (state v).files tickets.now client request name number op (rows.work_at name self.now.table)) self.now v out.old tickets.now result self.now v out.new tickets.now }
     {
         let answer = match work_at(&self.works, name) {
             None => Answer::Lost(name.epoch, tickets.epoch),

@@ -4,6 +4,7 @@ ghost use Rattle.jn_base.specs.declared.names.Tickets.{Tickets};
 ghost use Rattle.jn_rows.specs.Worker as rows;
 ghost use Rattle.jn_storage.specs.Calls.{IsGoing, next_of};
 ghost use Rattle.jn_storage.specs.Storage.{StorageView};
+ghost use Rattle.jn_storage.specs.DeviceCalls.{step_calls};
 ghost use Rattle.jn_worker.specs.Calls.{Takes, Steps};
 ghost use Rattle.jn_worker.specs.Fitting.{Fits, seen};
 ghost use Rattle.jn_works.specs.Changing.{going_in};
@@ -49,7 +50,7 @@ impl Worker {
         requires fits { Fits self.old (W.view store.old) }
         requires live { is_some (rows.work_at name self.old.table) ≡ true }
         requires going { IsGoing (W.view store.old) name }
-        ensures takes { (k : Tickets) → Takes 40 (rows.carried_row self.old.table k (rows.new_work name tid) (next_of (W.view store.old) name)) self.old (W.view store.old) out.old k result self.new (W.view store.new) out.new k }
+        ensures takes { (k : Tickets) → Takes step_calls (rows.carried_row self.old.table k (rows.new_work name tid) (next_of (W.view store.old) name)) self.old (W.view store.old) out.old k result self.new (W.view store.new) out.new k }
     {
         // For the proof alone: the worker's invariant is known from here on.
         let _locks = &self.locks;

@@ -1,0 +1,22 @@
+-- How much there may be of each thing.
+use Rattle.std.specs.Prelude.{ℕ}
+
+-- the blocks of a file
+abbrev pub most_blocks : ℕ
+most_blocks = 120
+
+-- the live works of a server
+abbrev pub most_works : ℕ
+most_works = 64
+
+-- the live transactions of a coordinator
+abbrev pub most_transactions : ℕ
+most_transactions = 64
+
+-- the units that a work reads
+abbrev pub most_reads : ℕ
+most_reads = 40
+
+-- the intentions of a work
+abbrev pub most_intentions : ℕ
+most_intentions = 24

@@ -1,0 +1,13 @@
+//! How much there may be of each thing.
+
+/// The live works of a server.
+pub const MOST_WORKS: usize = 64;
+
+/// The live transactions of a coordinator.
+pub const MOST_TRANSACTIONS: usize = 64;
+
+/// The units that a work reads.
+pub const MOST_READS: usize = 40;
+
+/// The intentions of a work.
+pub const MOST_INTENTIONS: usize = 24;

@@ -1,0 +1,10 @@
+-- How many calls of the device a call of the storage makes at most.
+use Rattle.std.specs.Prelude.{ℕ}
+
+-- a step of a work that commits: a page is read, after its first cleanup, and one is put
+abbrev pub step_calls : ℕ
+step_calls = 40
+
+-- a preparation: for each intention a data page and a record are put, and then the ready record
+abbrev pub prepare_calls : ℕ
+prepare_calls = 784
