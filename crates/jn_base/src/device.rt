@@ -1,10 +1,13 @@
 //! What a device of pages meets.
 
+use thiserror::Error;
+
 /// The bytes of a page.
 pub type Page = [u8; 512];
 
 /// The device has no power.
-#[derive(Clone, Copy, Debug, PartialEq, Eq, Drop)]
+#[derive(Clone, Copy, Debug, PartialEq, Eq, Drop, Error)]
+#[error("the device has no power")]
 pub struct Stopped;
 
 /// A fault of the device. A page's number stands where the fault strikes another page than the call's.

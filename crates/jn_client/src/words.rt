@@ -2,13 +2,16 @@
 
 use jn_report::Refusal;
 use std::alloc::AllocError;
+use thiserror::Error;
 
 /// Why a command sends nothing. After either the client is as it was.
-#[derive(Clone, Copy, Drop)]
+#[derive(Clone, Copy, Drop, Debug, Error)]
 pub enum CommandFault {
     /// The first refusal that applies.
+    #[error("the command is refused: {0:?}")]
     Refused(Refusal),
     /// There is no memory.
+    #[error("there is no memory")]
     Memory,
 }
 

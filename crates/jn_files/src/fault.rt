@@ -4,12 +4,15 @@ ghost use Rattle.jn_files.specs.declared.fault.LoadFault.TheVariants.{Stopped as
 
 use jn_base::Stopped;
 use std::alloc::{AllocError, AllocFailed};
+use thiserror::Error;
 
 /// Why a table isn't loaded.
-#[derive(Clone, Copy, Debug, PartialEq, Eq)]
+#[derive(Clone, Copy, Debug, PartialEq, Eq, Drop, Error)]
 pub enum LoadFault {
+    #[error("the device has no power")]
     Stopped,
     /// There is no memory.
+    #[error("there is no memory")]
     Memory,
 }
 

@@ -4,24 +4,32 @@ ghost use Rattle.jn_image.specs.Faults as faults;
 ghost use Rattle.jn_image.specs.Unsound as unsound;
 
 use std::alloc::{AllocError, AllocFailed};
+use thiserror::Error;
 
 /// What is wrong with bytes that are no image: the first that holds, in this order, but `Short` also behind
 /// `Geometry`, where there are fewer bytes than the counts ask for.
-#[derive(Clone, Copy, Debug, PartialEq, Eq, Drop)]
+#[derive(Clone, Copy, Debug, PartialEq, Eq, Drop, Error)]
 pub enum BadImage {
     /// There are fewer than the 16 bytes of the header, or than there are to be by it.
+    #[error("there are too few bytes")]
     Short,
     /// They don't begin with `JUNIMAGE`.
+    #[error("the bytes do not begin with JUNIMAGE")]
     Magic,
     /// The version isn't 1.
+    #[error("the version is not 1")]
     Version,
     /// The server is above 7, or a count isn't in its range.
+    #[error("the server or a count is not in its range")]
     Geometry,
     /// A page's status is above 1.
+    #[error("the status of a page is above 1")]
     Status,
     /// The digest isn't that of the bytes before it.
+    #[error("the digest is not that of the bytes before it")]
     Digest,
     /// There are more bytes than there are to be.
+    #[error("there are too many bytes")]
     Trailing,
 }
 
@@ -43,9 +51,11 @@ impl BadImage {
 }
 
 /// Why an image was not read.
-#[derive(Clone, Copy, Debug, PartialEq, Eq, Drop)]
+#[derive(Clone, Copy, Debug, PartialEq, Eq, Drop, Error)]
 pub enum DecodeError {
+    #[error("no image: {0}")]
     Bad(BadImage),
+    #[error("there is no memory")]
     Memory,
 }
 
@@ -60,25 +70,34 @@ impl From<AllocError> for DecodeError {
 }
 
 /// Why an image is unsound: the first that holds, in this order. Indices count from 0, each among its kind.
-#[derive(Clone, Copy, Debug, PartialEq, Eq, Drop)]
+#[derive(Clone, Copy, Debug, PartialEq, Eq, Drop, Error)]
 pub enum Unsound {
     /// It is another server's.
+    #[error("the image is another server's")]
     Server,
     /// Stable page 0 isn't a root with this server and these counts.
+    #[error("the root is none")]
     Root,
     /// This physical page is bad.
+    #[error("page {0} is bad")]
     BadPage(u32),
     /// The halves of this stable page differ.
+    #[error("the halves of page {0} differ")]
     PairDiffers(u32),
     /// This slot of the pool isn't free.
+    #[error("record {0} of the pool is in use")]
     PoolInUse(u32),
     /// Two heads have this file.
+    #[error("two heads have file {0}")]
     SameFile(u32),
     /// This head's page is no head, or has an address past the data pages.
+    #[error("head {0} is none, or has an address past the data pages")]
     Address(u32),
     /// This data page's index and 1 is named twice.
+    #[error("address {0} is named twice")]
     AddressTwice(u32),
     /// This data page has other bytes than zeros behind its block.
+    #[error("data page {0} has more than its block")]
     DataTail(u32),
 }
 
@@ -118,9 +137,11 @@ impl Unsound {
 }
 
 /// Why an image wasn't found sound.
-#[derive(Clone, Copy, Debug, PartialEq, Eq, Drop)]
+#[derive(Clone, Copy, Debug, PartialEq, Eq, Drop, Error)]
 pub enum CheckError {
+    #[error("the image is not sound: {0}")]
     Unsound(Unsound),
+    #[error("there is no memory")]
     Memory,
 }
 

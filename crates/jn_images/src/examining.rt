@@ -17,13 +17,16 @@ use jn_recovery::PageCounts;
 use jn_stable::Pairs;
 use jn_store::{Powered, StableStore};
 use std::alloc::{AllocError, AllocFailed, Global};
+use thiserror::Error;
 
 /// Why there are no disks of images.
-#[derive(Clone, Copy, Debug, PartialEq, Eq, Drop)]
+#[derive(Clone, Copy, Debug, PartialEq, Eq, Drop, Error)]
 pub enum ExamineFault {
     /// An image is refused.
+    #[error("an image is refused: {0:?}")]
     Refused(Refusal),
     /// There is no memory.
+    #[error("there is no memory")]
     Memory,
 }
 

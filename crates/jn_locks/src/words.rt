@@ -2,6 +2,7 @@
 
 use jn_base::{LockUnit, WorkId};
 use std::alloc::AllocError;
+use thiserror::Error;
 
 /// How a unit is held.
 #[derive(Clone, Copy, Debug, PartialEq, Eq)]
@@ -58,10 +59,12 @@ pub struct Broken {
 }
 
 /// Why locks aren't granted.
-#[derive(Clone, Copy, Debug, PartialEq, Eq)]
+#[derive(Clone, Copy, Debug, PartialEq, Eq, Drop, Error)]
 pub enum LockFault {
+    #[error("another work holds the unit: {0:?}")]
     Conflict(Conflict),
     /// There is no memory.
+    #[error("there is no memory")]
     Memory,
 }
 

@@ -11,6 +11,7 @@ use jn_msgs::{Message, Out};
 use std::alloc::{AllocFailed, Global};
 use std::marker::Model;
 use std::mem;
+use thiserror::Error;
 
 /// How many messages a network carries.
 pub const MESSAGE_LIMIT: u32 = 1_000_000;
@@ -25,11 +26,13 @@ pub struct Sent {
 }
 
 /// Why a message isn't sent.
-#[derive(Clone, Copy, Debug, PartialEq, Eq, Drop)]
+#[derive(Clone, Copy, Debug, PartialEq, Eq, Drop, Error)]
 pub enum SendFault {
     /// As many messages as the network carries were sent.
+    #[error("as many messages were sent as the network carries")]
     Limit,
     /// There is no memory.
+    #[error("there is no memory")]
     Memory,
 }
 

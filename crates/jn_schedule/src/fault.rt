@@ -4,17 +4,22 @@ ghost use Rattle.jn_schedule.specs.Faults.{line_fault_number};
 ghost use Rattle.jn_schedule.specs.declared.fault.ParseFault.TheVariants.{Memory};
 
 use std::alloc::{AllocError, AllocFailed};
+use thiserror::Error;
 
 /// What is wrong with a line: the first that holds, in this order.
-#[derive(Clone, Copy, Debug, PartialEq, Eq, Drop)]
+#[derive(Clone, Copy, Debug, PartialEq, Eq, Drop, Error)]
 pub enum LineFault {
     /// The first word, the second after a client, or the fourth of an `arm`, isn't one that can stand there.
+    #[error("a word that cannot stand there")]
     Keyword,
     /// There are too few words, or too many.
+    #[error("too few words, or too many")]
     Count,
     /// A number or a name isn't spelled as one, or isn't in its range.
+    #[error("a number or a name that is not one, or not in its range")]
     Value,
     /// The bytes of a block aren't spelled as pairs of digits.
+    #[error("bytes that are not pairs of digits")]
     Bytes,
 }
 
@@ -60,10 +65,12 @@ impl From<AllocError> for ReadFault {
 }
 
 /// Why a text was not read.
-#[derive(Clone, Copy, Debug, PartialEq, Eq, Drop)]
+#[derive(Clone, Copy, Debug, PartialEq, Eq, Drop, Error)]
 pub enum ParseFault {
     /// The first line that is at fault, where lines count from 1, and the number of its fault.
+    #[error("line {line} has fault {number}")]
     Syntax { line: usize, number: u8 },
+    #[error("there is no memory")]
     Memory,
 }
 

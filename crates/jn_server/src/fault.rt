@@ -4,13 +4,16 @@ use jn_base::Stopped as Stop;
 use jn_transactions::CoordFault;
 use jn_worker::WorkerFault;
 use std::alloc::AllocError;
+use thiserror::Error;
 
 /// Why a server's call isn't done. After either the server is of no use any more.
-#[derive(Clone, Copy, Debug, PartialEq, Eq, Drop)]
+#[derive(Clone, Copy, Debug, PartialEq, Eq, Drop, Error)]
 pub enum ServerFault {
     /// The device has no power.
+    #[error("the device has no power")]
     Stopped,
     /// There is no memory.
+    #[error("there is no memory")]
     Memory,
 }
 

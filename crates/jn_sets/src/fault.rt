@@ -5,20 +5,25 @@ ghost use Rattle.jn_sets.specs.declared.fault.SetFault.TheVariants.{Stopped as S
 
 use jn_base::Stopped;
 use std::alloc::{AllocError, AllocFailed};
+use thiserror::Error;
 
 /// Why a set isn't loaded.
-#[derive(Clone, Copy, Debug, PartialEq, Eq)]
+#[derive(Clone, Copy, Debug, PartialEq, Eq, Drop, Error)]
 pub enum LoadFault {
+    #[error("the device has no power")]
     Stopped,
     /// There is no memory.
+    #[error("there is no memory")]
     Memory,
 }
 
 /// Why a record isn't inserted.
-#[derive(Clone, Copy, Debug, PartialEq, Eq)]
+#[derive(Clone, Copy, Debug, PartialEq, Eq, Drop, Error)]
 pub enum SetFault {
     /// Each slot holds a record.
+    #[error("each slot holds a record")]
     Full,
+    #[error("the device has no power")]
     Stopped,
 }
 

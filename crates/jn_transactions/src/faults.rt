@@ -4,13 +4,16 @@ ghost use Rattle.std.specs.Prelude.{◌≡◌};
 
 use jn_base::Stopped as Stop;
 use std::alloc::AllocError;
+use thiserror::Error;
 
 /// Why a call fails. It sends nothing then.
-#[derive(Clone, Copy, Debug, PartialEq, Eq, Drop)]
+#[derive(Clone, Copy, Debug, PartialEq, Eq, Drop, Error)]
 pub enum CoordFault {
     /// The device has no power. The coordinator is of no more use.
+    #[error("the device has no power")]
     Stopped,
     /// There is no memory. Nothing has changed.
+    #[error("there is no memory")]
     Memory,
 }
 

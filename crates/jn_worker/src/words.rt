@@ -3,13 +3,16 @@
 use jn_base::Stopped;
 use jn_storage::ViewFault;
 use std::alloc::AllocError;
+use thiserror::Error;
 
 /// Why a worker's call isn't done. After `Stopped` the worker is of no use any more.
-#[derive(Clone, Copy, Debug, PartialEq, Eq, Drop)]
+#[derive(Clone, Copy, Debug, PartialEq, Eq, Drop, Error)]
 pub enum WorkerFault {
     /// The device has no power.
+    #[error("the device has no power")]
     Stopped,
     /// There is no memory.
+    #[error("there is no memory")]
     Memory,
 }
 

@@ -3,13 +3,16 @@ ghost use Rattle.std.specs.Prelude.{◌≡◌};
 ghost use Rattle.jn_writing.specs.declared.fault.ReportFault.TheVariants as reports;
 
 use std::alloc::AllocError;
+use thiserror::Error;
 
 /// Why lines weren't reported.
-#[derive(Clone, Copy, Debug, PartialEq, Eq, Drop)]
+#[derive(Clone, Copy, Debug, PartialEq, Eq, Drop, Error)]
 pub enum ReportFault {
     /// The output failed.
+    #[error("the output failed")]
     Write,
     /// There is no memory for their text.
+    #[error("there is no memory")]
     Memory,
 }
 
