@@ -1,15 +1,6 @@
 -- Answers to clients, without lines aside.
-use Rattle.std.proofs.Common.{◌≡◌, inl, inr, ℕ, ◌+◌, ◌≤◌, Bool, true, List, [], ◌∷◌, length, Some, None, refl, ◌∙◌, ap, subst}
-use Rattle.std.specs.Prelude.{if◌then◌else◌}
-use Rattle.std.proofs.lemmas.Bool.{cases_Bool}
-use Rattle.jn_schedule.specs.declared.Event.{Event}
+use Rattle.jn_aside.proofs.Common.{◌≡◌, inl, inr, ℕ, ◌+◌, ◌≤◌, Bool, true, List, [], ◌∷◌, length, Some, None, refl, ◌∙◌, ap, subst, if◌then◌else◌, cases_Bool, Event, AtEvent, Text, Line, when_eq, lines_at, Outstanding, nothing_asked, with_asked, answer_in, fits, after_answer, AllFit, after_answers, refuses_own, after_event, own_in_place, AllOwnInPlace, is_own_refusal, own_refusals, FollowsEvent, after_one, FollowsFrom, is_answer, IsOfEvent, AllOfEvents, Follows, is_aside, plain}
 use Rattle.jn_schedule.specs.declared.Event.TheVariants as events
-use Rattle.jn_report.specs.declared.line.When.TheVariants.{Event as AtEvent}
-use Rattle.jn_report.specs.declared.line.Text.{Text}
-use Rattle.jn_report.specs.declared.line.Line.{Line}
-use Rattle.jn_serial.specs.Lines.{when_eq, lines_at}
-use Rattle.jn_serial.specs.Follows.{Outstanding, nothing_asked, with_asked, answer_in, fits, after_answer, AllFit, after_answers, refuses_own, after_event, own_in_place, AllOwnInPlace, is_own_refusal, own_refusals, FollowsEvent, after_one, FollowsFrom, is_answer, IsOfEvent, AllOfEvents, Follows}
-use Rattle.jn_aside.specs.Aside.{is_aside, plain}
 use Rattle.jn_aside.proofs.Plain.{of-aside, mute, same-of, filter-aside, says-plain, count-plain, Passes, passes-aside, whole}
 
 -- ---- the lines of an event

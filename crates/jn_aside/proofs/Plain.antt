@@ -1,21 +1,9 @@
 -- What is said of lines, without those aside.
-use Rattle.std.proofs.Common.{◌≡◌, inl, inr, ℕ, ◌+◌, Bool, true, false, if◌then◌else◌, List, [], ◌∷◌, ◌++◌, Option, None, filter, refl, sym, ◌∙◌, ap, subst, arith}
-use Rattle.std.specs.Prelude.{◌||◌}
+use Rattle.jn_aside.proofs.Common.{◌≡◌, inl, inr, ℕ, ◌+◌, Bool, true, false, if◌then◌else◌, List, [], ◌∷◌, ◌++◌, Option, None, filter, refl, sym, ◌∙◌, ap, subst, arith, ◌||◌, cases_Bool, ServerNo, ClientNo, Tid, When, AtEvent, Text, Line, is_before, lines_before, says_it, count_lines, commit_in, history_of, begun_after, begun_then, is_tid, is_in, is_aside, plain}
 use Rattle.std.specs.List.{fold, list_all}
-use Rattle.std.proofs.lemmas.Bool.{cases_Bool}
-use Rattle.jn_base.specs.declared.names.ServerNo.{ServerNo}
-use Rattle.jn_base.specs.declared.names.ClientNo.{ClientNo}
-use Rattle.jn_base.specs.declared.names.Tid.{Tid}
 use Rattle.jn_base.specs.declared.names.Party.{Party}
 use Rattle.jn_base.specs.declared.names.MsgKind.{MsgKind}
-use Rattle.jn_report.specs.declared.line.When.{When}
-use Rattle.jn_report.specs.declared.line.When.TheVariants.{Event as AtEvent}
-use Rattle.jn_report.specs.declared.line.Text.{Text}
 use Rattle.jn_report.specs.declared.line.Text.TheVariants as says
-use Rattle.jn_report.specs.declared.line.Line.{Line}
-use Rattle.jn_serial.specs.Lines.{is_before, lines_before, says as says_it, count_lines, commit_in, history_of}
-use Rattle.jn_serial.specs.Begun.{begun_after, begun_then, is_tid, is_in}
-use Rattle.jn_aside.specs.Aside.{is_aside, plain}
 
 -- what is so of both kinds of lines aside is so of each text aside
 pub of-aside : (P : Text → Type 0) → ((s : ServerNo) (epoch : ℕ) → P (says.Up s epoch)) → ((k : ℕ) (from to : Party) (kind : MsgKind) → P (says.Message k from to kind)) → (x : Text) → is_aside x ≡ true → P x

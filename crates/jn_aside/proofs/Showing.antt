@@ -1,23 +1,8 @@
 -- What transactions did, and what shows print, without lines aside.
-use Rattle.std.proofs.Common.{◌≡◌, inl, inr, ℕ, ◌+◌, Bool, List, [], ◌∷◌, ◌++◌, None, refl, sym, ◌∙◌, ap, subst}
-use Rattle.std.specs.Prelude.{if◌then◌else◌}
-use Rattle.std.proofs.lemmas.Bool.{cases_Bool}
-use Rattle.jn_base.specs.declared.names.ServerNo.{ServerNo}
-use Rattle.jn_base.specs.declared.names.ClientNo.{ClientNo}
-use Rattle.jn_base.specs.declared.names.Tid.{Tid}
+use Rattle.jn_aside.proofs.Common.{◌≡◌, inl, inr, ℕ, ◌+◌, Bool, List, [], ◌∷◌, ◌++◌, None, refl, sym, ◌∙◌, ap, subst, if◌then◌else◌, cases_Bool, ServerNo, ClientNo, Tid, AllFiles, Event, AtEvent, End, Text, Line, when_eq, is_before, lines_at, lines_before, says_it, history_of, is_in, answer_told, or_later, first_told, performed, op_in, ops_from, ops_of, replay, AgreesFrom, Agrees, IsAsIn, AllAsIn, prints_file, accounts_file, accounts_block, ShowsFiles, is_no_show, is_locked, ShownSoFar, ShownAtEnd, is_aside, plain}
 use Rattle.jn_base.specs.declared.op.Command.TheVariants as commands
-use Rattle.jn_order.specs.Files.{AllFiles}
 use Rattle.jn_replay.specs.Operations.{files_then, GivesAnswers}
-use Rattle.jn_schedule.specs.declared.Event.{Event}
 use Rattle.jn_schedule.specs.declared.Event.TheVariants as events
-use Rattle.jn_report.specs.declared.line.When.TheVariants.{Event as AtEvent, End}
-use Rattle.jn_report.specs.declared.line.Text.{Text}
-use Rattle.jn_report.specs.declared.line.Line.{Line}
-use Rattle.jn_serial.specs.Lines.{when_eq, is_before, lines_at, lines_before, says as says_it, history_of}
-use Rattle.jn_serial.specs.Begun.{is_in}
-use Rattle.jn_serial.specs.Order.{answer_told, or_later, first_told, performed, op_in, ops_from, ops_of, replay, AgreesFrom, Agrees}
-use Rattle.jn_serial.specs.Shown.{IsAsIn, AllAsIn, prints_file, accounts_file, accounts_block, ShowsFiles, is_no_show, is_locked, ShownSoFar, ShownAtEnd}
-use Rattle.jn_aside.specs.Aside.{is_aside, plain}
 use Rattle.jn_aside.proofs.Plain.{of-aside, IsMute, mute, same-of, filter-aside, says-plain, history-plain, is_in-plain, Passes, passes-aside, whole}
 
 -- ---- what a transaction did

@@ -1,33 +1,16 @@
 -- One more event, of which no line tells.
-use Rattle.std.proofs.Common.{◌≡◌, ◌⊎◌, inl, inr, ℕ, zero, suc, ◌+◌, ◌<◌, ◌≤◌, Bool, true, false, nat_eq, ◌&&◌, if◌then◌else◌, List, [], ◌∷◌, ◌++◌, append-nil, length, Option, Some, None, refl, sym, ◌∙◌, ap, subst, arith}
-use Rattle.std.proofs.lemmas.Bool.{cases_Bool}
+use Rattle.jn_aside.proofs.Common.{◌≡◌, ◌⊎◌, inl, inr, ℕ, zero, suc, ◌+◌, ◌<◌, ◌≤◌, Bool, true, false, nat_eq, ◌&&◌, if◌then◌else◌, List, [], ◌∷◌, ◌++◌, append-nil, length, Option, Some, None, refl, sym, ◌∙◌, ap, subst, arith, cases_Bool, ServerNo, ClientNo, Tid, client_eq, AllFiles, Event, When, AtEvent, End, Text, Line, when_eq, lines_at, lines_before, event_at, says_it, history_of, is_in, answer_told, or_later, first_told, performed, op_in, ops_from, ops_of, Agrees, ShowsFiles, ShownSoFar, Outstanding, nothing_asked, with_asked, answer_in, is_last, fits_asked, fits, after_answer, AllFit, after_answers, refuses_own, after_event, FollowsEvent, after_one, FollowsFrom, is_answer, IsOfEvent, AllOfEvents, Follows, is_show}
 use Rattle.std.proofs.lemmas.Bool.Decides.{nat_tests}
-use Rattle.jn_base.specs.declared.names.ServerNo.{ServerNo}
-use Rattle.jn_base.specs.declared.names.ClientNo.{ClientNo}
-use Rattle.jn_base.specs.declared.names.Tid.{Tid}
 use Rattle.jn_base.specs.declared.op.Answer.{Answer}
 use Rattle.jn_base.specs.declared.op.Command.TheVariants as commands
-use Rattle.jn_base.specs.Names.{client_eq}
-use Rattle.jn_order.specs.Files.{AllFiles}
 use Rattle.jn_replay.specs.declared.files.Performed.{Performed}
-use Rattle.jn_schedule.specs.declared.Event.{Event}
 use Rattle.jn_schedule.specs.declared.Event.TheVariants as events
-use Rattle.jn_report.specs.declared.line.When.{When}
-use Rattle.jn_report.specs.declared.line.When.TheVariants.{Event as AtEvent, End}
 use Rattle.jn_report.specs.declared.line.Refusal.TheVariants as refusals
-use Rattle.jn_report.specs.declared.line.Text.{Text}
 use Rattle.jn_report.specs.declared.line.Text.TheVariants as says
-use Rattle.jn_report.specs.declared.line.Line.{Line}
-use Rattle.jn_serial.specs.Lines.{when_eq, lines_at, lines_before, event_at, says as says_it, history_of}
-use Rattle.jn_serial.specs.Begun.{is_in}
-use Rattle.jn_serial.specs.Order.{answer_told, or_later, first_told, performed, op_in, ops_from, ops_of, Agrees}
-use Rattle.jn_serial.specs.Shown.{ShowsFiles, ShownSoFar}
 use Rattle.jn_serial.specs.declared.following.Asked.{Asked}
 use Rattle.jn_serial.specs.declared.following.Addressed.{Addressed}
-use Rattle.jn_serial.specs.Follows.{Outstanding, nothing_asked, with_asked, answer_in, is_last, fits_asked, fits, after_answer, AllFit, after_answers, refuses_own, after_event, FollowsEvent, after_one, FollowsFrom, is_answer, IsOfEvent, AllOfEvents, Follows}
 use Rattle.jn_serial.proofs.Growth.{outstanding_after, follows-more}
 use Rattle.jn_serial.proofs.Ops.{DidTheSame, replay-by_ops, AgreesFrom-by_ops}
-use Rattle.jn_aside.specs.Aside.{is_show}
 
 abbrev In : Line → List Line → Type 0
 In l [] = ⊥

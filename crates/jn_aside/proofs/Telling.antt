@@ -1,10 +1,6 @@
 -- Outcomes, without lines aside.
-use Rattle.std.proofs.Common.{◌≡◌, List, [], ◌++◌, append-nil, refl, subst}
-use Rattle.jn_base.specs.declared.names.Tid.{Tid}
-use Rattle.jn_report.specs.declared.line.Line.{Line}
-use Rattle.jn_serial.specs.Lines.{commit_in, history_of}
+use Rattle.jn_aside.proofs.Common.{◌≡◌, List, [], ◌++◌, append-nil, refl, subst, Tid, Line, commit_in, history_of, plain}
 use Rattle.jn_serial.specs.Told.{IsNamedWhere, NamesBefore, NamesOnce, IsNotNamedWhere, NamesNone, Told}
-use Rattle.jn_aside.specs.Aside.{plain}
 use Rattle.jn_aside.proofs.Plain.{of-aside, same-of, history-plain, Passes, passes-aside, whole}
 
 before : Passes (List Tid) NamesBefore (λ named (l : Line). IsNamedWhere named l.text) (λ named (l : Line). named ++ commit_in l.text) (λ named. named)

@@ -1,41 +1,14 @@
 -- What holds after the end.
-use Rattle.std.proofs.Common.{◌≡◌, ◌⊎◌, inl, inr, ◌≤◌, ◌<◌, ℕ, true, false, List, [], ◌++◌, Option, Some, None, is_some, refl, sym, ◌∙◌, ap, subst}
-use Rattle.std.specs.List.{AllByRecursion}
-use Rattle.jn_base.specs.declared.names.ServerNo.{ServerNo}
+use Rattle.jn_between.proofs.Common.{◌≡◌, ◌⊎◌, inl, inr, ◌≤◌, ◌<◌, ℕ, true, false, List, [], ◌++◌, Option, Some, None, is_some, refl, sym, ◌∙◌, ap, subst, AllByRecursion, ServerNo, Tid, WorkId, AllFiles, Event, EventInRange, Line, history_of, replay, StableState, Pick, plain, history-aside, replay-aside, World, Memory, opening, events_of, steps_of, world_of, IsReported, go_on, AreAsTold, Setup, Devices, AreFound, Moment, AtEnd, CutShort, before, IsWritten, behind, IsAsIn, IsRetold, as-behind, run-both, is-run-both, whole-run, IsConsistent, state_on, files_told, IsTrueAtEnd}
 use Rattle.jn_base.specs.declared.names.LockUnit.{LockUnit}
-use Rattle.jn_base.specs.declared.names.Tid.{Tid}
-use Rattle.jn_base.specs.declared.names.WorkId.{WorkId}
-use Rattle.jn_order.specs.Files.{AllFiles}
-use Rattle.jn_schedule.specs.declared.Event.{Event}
-use Rattle.jn_schedule.specs.Ranges.{EventInRange}
-use Rattle.jn_report.specs.declared.line.Line.{Line}
-use Rattle.jn_serial.specs.Lines.{history_of}
-use Rattle.jn_serial.specs.Order.{replay}
-use Rattle.jn_rows.specs.Stable.{StableState, Pick}
 use Rattle.jn_rows.specs.Worker.{commit_holder}
 use Rattle.jn_system.specs.SmallSteps.Held.{file_unit}
-use Rattle.jn_aside.specs.Aside.{plain}
-use Rattle.jn_aside.proofs.Showing.{history-aside, replay-aside}
-use Rattle.jn_system.specs.WholeSystem.World.{World, Memory, opening}
-use Rattle.jn_system_reports.specs.Reporting.Reported.{events_of, steps_of, world_of, IsReported}
 use Rattle.jn_system_reports.specs.Reporting.Ending.{Ending, IsWholeRun, all_lines, steps_at_end, world_at_end}
-use Rattle.jn_system_settling.specs.Settling.Course.{go_on}
-use Rattle.jn_system_reports.specs.Telling.Agreement.{AreAsTold}
 use Rattle.jn_system_reports.proofs.Showing.Ends.{end-agrees}
 use Rattle.jn_system_settling.specs.Closing.Ending.{IsEmpty}
-use Rattle.jn_written.specs.Chances.{Setup}
-use Rattle.jn_written.specs.Devices.{Devices, AreFound}
-use Rattle.jn_written.specs.Runs.{Moment}
-use Rattle.jn_written.specs.Tasks.{AtEnd, CutShort}
-use Rattle.jn_written.specs.Whole.{before, IsWritten}
-use Rattle.jn_retold.specs.Retold.{behind, IsAsIn, IsRetold}
-use Rattle.jn_retold.proofs.Forms.{as-behind}
-use Rattle.jn_retold.proofs.Items.{run-both, is-run-both}
 use Rattle.jn_headline.proofs.Begins.{begins}
 use Rattle.jn_headline.proofs.Ended.{PartOf, WholeOf, dismissed, ending, is-whole, lines-are, world-is, up, empty, free, prints}
-use Rattle.jn_headline.proofs.Headline.{whole-run}
 use Rattle.jn_headline.proofs.Through.{asked_steps}
-use Rattle.jn_between.specs.Between.{IsConsistent, state_on, files_told, IsTrueAtEnd}
 use Rattle.jn_between.proofs.Found.{pages-stay}
 use Rattle.jn_between.proofs.Seen.{seen}
 use Rattle.jn_between.proofs.Moments.{run-consistent, found-now, retold-end}

@@ -1,23 +1,10 @@
 -- The world of each moment is what steps of the system lead to, and what is found in it is what is found on the pages.
-use Rattle.std.proofs.Common.{◌≡◌, ◌≢◌, ◌⊎◌, inl, inr, ℕ, ◌/◌, Bool, true, false, if◌then◌else◌, is_some, List, [], ◌++◌, refl, sym, ◌∙◌, ap, subst}
-use Rattle.jn_base.specs.declared.names.ServerNo.{ServerNo}
-use Rattle.jn_base.specs.Names.{server_eq}
+use Rattle.jn_between.proofs.Common.{◌≡◌, ◌≢◌, ◌⊎◌, inl, inr, ℕ, ◌/◌, Bool, true, false, if◌then◌else◌, is_some, List, [], ◌++◌, refl, sym, ◌∙◌, ap, subst, ServerNo, server_eq, World, Step, IsRun, run, go_on, Setup, Chance, Task, Dismisses, InSchedule, AtEnd, CutShort, State, begun, deed_of, is_too_much, come_to, cut_short, Devices, Alone, IsServed, IsLookedOver, IsRecovery, IsUsed, AreFound, none, more, Moment, DoesStep, Leads, goes-or-cut, go-world, run-both, is-run-both}
 use Rattle.jn_base.proofs.Tells.{server_tells}
 use Rattle.jn_device.specs.Device.{DeviceState}
 use Rattle.jn_device.specs.Events.{powered_off, Decays as PageDecays, Revives as PageRevives, Arms as FaultArmed}
 use Rattle.jn_store.specs.Pairs.{pairs_view}
-use Rattle.jn_system.specs.WholeSystem.World.{World}
-use Rattle.jn_system.specs.WholeSystem.Steps.{Step, IsRun, run}
-use Rattle.jn_system_settling.specs.Settling.Course.{go_on}
-use Rattle.jn_written.specs.Chances.{Setup, Chance}
-use Rattle.jn_written.specs.Tasks.{Task, Dismisses, InSchedule, AtEnd, CutShort, State, begun}
 use Rattle.jn_written.specs.Deeds.{Use, Nothing, Calls, Reads, Recovers, PowersOff, Decays, Revives, Arms, Disarms, Deed}
-use Rattle.jn_written.specs.Events.{deed_of}
-use Rattle.jn_written.specs.Steps.{is_too_much, come_to, cut_short}
-use Rattle.jn_written.specs.Devices.{Devices, Alone, IsServed, IsLookedOver, IsRecovery, IsUsed, AreFound}
-use Rattle.jn_written.specs.Runs.{none, more, Moment, DoesStep, Leads}
-use Rattle.jn_retold.proofs.Going.{goes-or-cut, go-world}
-use Rattle.jn_retold.proofs.Items.{run-both, is-run-both}
 use Rattle.jn_headline.proofs.Came.{stuck}
 
 -- a task is begun in the same world

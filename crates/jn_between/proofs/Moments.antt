@@ -1,22 +1,6 @@
 -- What holds at each moment, and between two events.
-use Rattle.std.proofs.Common.{◌≡◌, ◌⊎◌, inl, inr, ◌≤◌, ◌<◌, ℕ, ◌+◌, Bool, true, false, List, [], ◌∷◌, ◌++◌, append-nil, length, map, drop, Some, refl, sym, ◌∙◌, ap, subst, arith}
-use Rattle.std.specs.Prelude.{◌&&◌}
-use Rattle.std.specs.List.{list_all, AllByRecursion}
+use Rattle.jn_between.proofs.Common.{◌≡◌, ◌⊎◌, inl, inr, ◌≤◌, ◌<◌, ℕ, ◌+◌, Bool, true, false, List, [], ◌∷◌, ◌++◌, append-nil, length, map, drop, Some, refl, sym, ◌∙◌, ap, subst, arith, ◌&&◌, list_all, AllByRecursion, ServerNo, AllFiles, Event, EventInRange, Line, history_of, replay, StableState, Pick, plain, history-aside, replay-aside, World, opening, Step, NextEvent, IsRun, run, after, Item, events_of, steps_of, world_of, lines_of, IsReported, AreAsTold, Setup, Task, Begins, Dismisses, InSchedule, AtEnd, CutShort, Stage, State, begun, first_of_tasks, Devices, AreFound, ending, dismissing, none, more, Moment, Leads, is_too_much, come_to, cut_short, before, IsWritten, go_on, behind, IsAsIn, IsToldBy, IsRetold, IsRetoldInPart, ups-name-none, run-behind, as-behind, Between, between, meeting, settling, cut, ended, between-part, meeting-part, amid-part, Next, does-next, goes-or-cut, run-both, is-run-both, part-so-far, run-so-far, IsConsistent, state_on, files_told, AreOnPages, IsTrueBetween}
 use Rattle.std.proofs.lemmas.List.{length-map}
-use Rattle.jn_base.specs.declared.names.ServerNo.{ServerNo}
-use Rattle.jn_order.specs.Files.{AllFiles}
-use Rattle.jn_schedule.specs.declared.Event.{Event}
-use Rattle.jn_schedule.specs.Ranges.{EventInRange}
-use Rattle.jn_report.specs.declared.line.Line.{Line}
-use Rattle.jn_serial.specs.Lines.{history_of}
-use Rattle.jn_serial.specs.Order.{replay}
-use Rattle.jn_rows.specs.Stable.{StableState, Pick}
-use Rattle.jn_aside.specs.Aside.{plain}
-use Rattle.jn_aside.proofs.Showing.{history-aside, replay-aside}
-use Rattle.jn_system.specs.WholeSystem.World.{World, opening}
-use Rattle.jn_system.specs.WholeSystem.Steps.{Step, NextEvent, IsRun, run, after}
-use Rattle.jn_system_reports.specs.Reporting.Reported.{Item, events_of, steps_of, world_of, lines_of, IsReported}
-use Rattle.jn_system_reports.specs.Telling.Agreement.{AreAsTold}
 use Rattle.jn_system_reports.proofs.Telling.Reports.{run-as-told}
 use Rattle.jn_system_reports.proofs.BetweenSteps.Standing.{Standing, stand}
 use Rattle.jn_system_reports.proofs.BetweenSteps.Laws.{up-fact, made-once, doubt, told-after, answers-stand, works-stay}
@@ -24,29 +8,14 @@ use Rattle.jn_system_reports.proofs.BetweenSteps.Dropping.{dropped}
 use Rattle.jn_system_reports.proofs.BetweenSteps.Passing.{reached, unknown}
 use Rattle.jn_system_reports.proofs.BetweenSteps.Lined.{run-lines-stand}
 use Rattle.jn_headline.proofs.CutReports.Cut.{run-true}
-use Rattle.jn_written.specs.Chances.{Setup}
-use Rattle.jn_written.specs.Tasks.{Task, Begins, Dismisses, InSchedule, AtEnd, CutShort, Stage, State, begun, first_of_tasks}
-use Rattle.jn_written.specs.Devices.{Devices, AreFound}
-use Rattle.jn_written.specs.Events.{ending, dismissing}
-use Rattle.jn_written.specs.Runs.{none, more, Moment, Leads}
-use Rattle.jn_written.specs.Steps.{is_too_much, come_to, cut_short}
-use Rattle.jn_written.specs.Whole.{before, IsWritten}
-use Rattle.jn_system_settling.specs.Settling.Course.{go_on}
-use Rattle.jn_retold.specs.Retold.{behind, IsAsIn, IsToldBy, IsRetold, IsRetoldInPart}
-use Rattle.jn_retold.proofs.Behind.{ups-name-none, run-behind}
 use Rattle.jn_retold.proofs.Besides.{is_settling}
-use Rattle.jn_retold.proofs.Forms.{as-behind, Between, between, meeting, settling, cut, ended, between-part, meeting-part, amid-part}
-use Rattle.jn_retold.proofs.Going.{Next, does-next, goes-or-cut}
-use Rattle.jn_retold.proofs.Items.{run-both, is-run-both}
 use Rattle.jn_retold.proofs.Partly.{raised}
 use Rattle.jn_retold.proofs.Seen.{may-run}
 use Rattle.jn_retold.proofs.Starting.{start-part}
 use Rattle.jn_retold.proofs.Whole.{So, starting, held, so-written}
 use Rattle.jn_headline.specs.Headline.{IsTrueOfBegun}
-use Rattle.jn_headline.proofs.Headline.{part-so-far, run-so-far}
 use Rattle.jn_headline.proofs.Numbered.{items-begin}
 use Rattle.jn_headline.proofs.SoFar.{true-aside}
-use Rattle.jn_between.specs.Between.{IsConsistent, state_on, files_told, AreOnPages, IsTrueBetween}
 use Rattle.jn_between.proofs.Seen.{seen, lines-seen, named-out}
 use Rattle.jn_between.proofs.Found.{Led, led-by, found-then, ended-stays}
 

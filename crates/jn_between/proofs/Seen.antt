@@ -1,27 +1,12 @@
 -- What holds of a world holds of one that is the same but for lines of servers that came up, and for servers that haven't come up yet.
-use Rattle.std.proofs.Common.{◌≡◌, ◌⊎◌, inl, inr, ◌≤◌, ◌<◌, ℕ, List, ◌++◌, Option, Some, None, is_some, refl, sym, ◌∙◌, ap, subst}
-use Rattle.std.specs.Prelude.{slice_get}
-use Rattle.std.specs.List.{list_any}
-use Rattle.jn_base.specs.declared.names.ServerNo.{ServerNo}
+use Rattle.jn_between.proofs.Common.{◌≡◌, ◌⊎◌, inl, inr, ◌≤◌, ◌<◌, ℕ, List, ◌++◌, Option, Some, None, is_some, refl, sym, ◌∙◌, ap, subst, slice_get, list_any, ServerNo, Tid, WorkId, tid_eq, AllFiles, Line, Event, StableState, Pick, IsUp, history_of, ops_of, replay, plain, ops-aside, history-aside, replay-aside, World, Memory, commits_in, IsAsIn, ups-name-none, IsConsistent}
 use Rattle.jn_base.specs.declared.names.ClientNo.{ClientNo}
-use Rattle.jn_base.specs.declared.names.Tid.{Tid}
-use Rattle.jn_base.specs.declared.names.WorkId.{WorkId}
-use Rattle.jn_base.specs.Names.{tid_eq}
-use Rattle.jn_order.specs.Files.{AllFiles}
 use Rattle.jn_msgs.specs.declared.message.Message.{Message}
-use Rattle.jn_report.specs.declared.line.Line.{Line}
-use Rattle.jn_schedule.specs.declared.Event.{Event}
 use Rattle.jn_rows.specs.Outcomes.{Sent}
 use Rattle.jn_rows.specs.Client.{ClientTable, work_at}
-use Rattle.jn_rows.specs.Stable.{StableState, Pick, IsUp}
 use Rattle.jn_rows.specs.declared.worker.ActiveWork.{ActiveWork}
 use Rattle.jn_system.specs.SmallSteps.Traces.{Agrees}
-use Rattle.jn_serial.specs.Lines.{history_of}
-use Rattle.jn_serial.specs.Order.{ops_of, replay}
 use Rattle.jn_replay.specs.declared.files.Performed.{Performed}
-use Rattle.jn_aside.specs.Aside.{plain}
-use Rattle.jn_aside.proofs.Showing.{ops-aside, history-aside, replay-aside}
-use Rattle.jn_system.specs.WholeSystem.World.{World, Memory, commits_in}
 use Rattle.jn_system_reports.specs.Telling.Told.{at_place}
 use Rattle.jn_system_reports.specs.BetweenSteps.Sent.{WasSent, HasCommitLine}
 use Rattle.jn_system_reports.specs.BetweenSteps.Names.{WasMade, AreMadeOnce}
@@ -32,10 +17,7 @@ use Rattle.jn_system_reports.specs.BetweenSteps.Commits.{AreToldAfter}
 use Rattle.jn_system_reports.specs.BetweenSteps.Drops.{IsOver, IsPast, AreOfThePast}
 use Rattle.jn_system_reports.specs.BetweenSteps.Answers.{DoAnswersStand}
 use Rattle.jn_system_reports.specs.BetweenSteps.Lines.{WasAsked, StandAt, DoLinesStand}
-use Rattle.jn_retold.specs.Retold.{IsAsIn}
-use Rattle.jn_retold.proofs.Behind.{ups-name-none}
 use Rattle.jn_system_order.proofs.Mirroring.Mirrored.{commits-more}
-use Rattle.jn_between.specs.Between.{IsConsistent}
 
 module _ (w v : World) (k : IsAsIn w v) where
   pub commits : commits_in v.lines ≡ commits_in w.lines

@@ -1,23 +1,8 @@
 -- A settle, task by task, is within its bound.
-use Rattle.std.proofs.Common.{◌≡◌, ◌⊎◌, inl, inr, ◌≤◌, ◌<◌, ℕ, ◌+◌, ◌*◌, List, [], ◌∷◌, ◌++◌, append_assoc, length, Option, Some, None, refl, sym, ◌∙◌, ap, subst, arith}
-use Rattle.std.specs.Prelude.{map}
-use Rattle.jn_base.specs.declared.names.ServerNo.{ServerNo}
-use Rattle.jn_base.specs.declared.names.ClientNo.{ClientNo}
-use Rattle.jn_schedule.specs.declared.Event.{Event}
+use Rattle.jn_bounds.proofs.Common.{◌≡◌, ◌⊎◌, inl, inr, ◌≤◌, ◌<◌, ℕ, ◌+◌, ◌*◌, List, [], ◌∷◌, ◌++◌, append_assoc, length, Option, Some, None, refl, sym, ◌∙◌, ap, subst, arith, map, ServerNo, ClientNo, Event, World, servers_from, Course, go_on, clients_from, Sound, IsBalanced, Bounded, Asked, servers-length, waiting-light, waiting-weighs, Setup, Chance, Task, Acts, Rests, State, begun, servers_of, settling, next_in, resting, deed_of, none, more, Steps, Moment, DoesStep, DoesEarlier, Settles, IsWithinBound}
 use Rattle.jn_schedule.specs.declared.Event.TheVariants as events
-use Rattle.jn_system.specs.WholeSystem.World.{World, servers_from}
-use Rattle.jn_system_settling.specs.Settling.Course.{Course, go_on}
-use Rattle.jn_system_settling.specs.Settling.Settle.{clients_from}
 use Rattle.jn_system_settling.specs.Settling.Weights.{burden}
 use Rattle.jn_system_settling.specs.Settling.Bounds.{deliveries}
-use Rattle.jn_system_settling.proofs.Settling.Courses.{Sound, IsBalanced}
-use Rattle.jn_system_settling.proofs.Settling.Parts.{Bounded}
-use Rattle.jn_system_settling.proofs.Settling.Asking.{Asked, servers-length, waiting-light, waiting-weighs}
-use Rattle.jn_written.specs.Chances.{Setup, Chance}
-use Rattle.jn_written.specs.Tasks.{Task, Acts, Rests, State, begun}
-use Rattle.jn_written.specs.Events.{servers_of, settling, next_in, resting, deed_of}
-use Rattle.jn_written.specs.Runs.{none, more, Steps, Moment, DoesStep}
-use Rattle.jn_bounds.specs.Settles.{DoesEarlier, Settles, IsWithinBound}
 use Rattle.jn_bounds.proofs.Doing.{GoesOn, IsCut, does}
 use Rattle.jn_bounds.proofs.Lighter.{rests, client-asks, server-asks}
 

@@ -1,13 +1,5 @@
 -- What one step of a run leaves to do, and where the system is then.
-use Rattle.std.proofs.Common.{◌≡◌, ◌⊎◌, inl, inr, Bool, true, false, List, ◌∷◌, ◌++◌, drop, Some, None, refl, sym, ◌∙◌, ap}
-use Rattle.std.specs.Prelude.{if◌then◌else◌}
-use Rattle.jn_system_settling.specs.Settling.Course.{go_on}
-use Rattle.jn_written.specs.Chances.{Setup, Chance}
-use Rattle.jn_written.specs.Tasks.{Task, Dismisses, Stage, InSchedule, AtEnd, CutShort, State, next_at, begun}
-use Rattle.jn_written.specs.Deeds.{Deed}
-use Rattle.jn_written.specs.Events.{deed_of}
-use Rattle.jn_written.specs.Steps.{is_too_much, come_to, cut_short, done}
-use Rattle.jn_written.specs.Runs.{none, more, Moment, DoesStep, Leads}
+use Rattle.jn_bounds.proofs.Common.{◌≡◌, ◌⊎◌, inl, inr, Bool, true, false, List, ◌∷◌, ◌++◌, drop, Some, None, refl, sym, ◌∙◌, ap, if◌then◌else◌, go_on, Setup, Chance, Task, Dismisses, Stage, InSchedule, AtEnd, CutShort, State, next_at, begun, Deed, deed_of, is_too_much, come_to, cut_short, done, none, more, Moment, DoesStep, Leads}
 
 only-task : (stage : Stage) (task t : Task) (behind : List Task) → next_at stage (t ∷ behind) ≡ Some task → task ≡ t
 only-task InSchedule task t behind e = sym (some e)

@@ -1,3 +1,4 @@
+mod Common
 pub mod Doing
 pub mod Passing
 pub mod Sounds

@@ -1,24 +1,11 @@
 -- What each task of a settle does to what waits and goes: it adds no more than it weighs itself, and each message that is handed over weighs less than before.
-use Rattle.std.proofs.Common.{◌≡◌, inl, inr, ◌≤◌, ◌<◌, ℕ, zero, suc, ◌+◌, Bool, true, false, List, [], ◌∷◌, append-nil, Option, Some, None, refl, sym, ap, arith}
-use Rattle.std.specs.Prelude.{if◌then◌else◌, slice_get}
-use Rattle.jn_base.specs.declared.names.ServerNo.{ServerNo}
-use Rattle.jn_base.specs.declared.names.ClientNo.{ClientNo}
+use Rattle.jn_bounds.proofs.Common.{◌≡◌, inl, inr, ◌≤◌, ◌<◌, ℕ, zero, suc, ◌+◌, Bool, true, false, List, [], ◌∷◌, append-nil, Option, Some, None, refl, sym, ap, arith, if◌then◌else◌, slice_get, ServerNo, ClientNo, World, Memory, servers_from, Again, Nudge, Work, StopWork, after, work, works, Course, go, go_on, Befalling, first_going, handing, working, next_step, Sound, go-sound, go-balance, burden-after, deliveries-more, Bounded, Asked, asked, Setup, Chance, Deed, room, no_room, nothing, served, delivered, delivered_at, is_busy, working_steps, servers_of, first_busy, next_event, next_in, resting}
 use Rattle.jn_base.specs.declared.names.Party.TheVariants.{Client, Server}
 use Rattle.jn_rows.specs.Stable.{Pick, stable}
 use Rattle.jn_rows.specs.Outcomes.{RowOutcome, Sent}
-use Rattle.jn_system.specs.WholeSystem.World.{World, Memory, servers_from}
 use Rattle.jn_system.specs.WholeSystem.Servers.{Room, server_step}
-use Rattle.jn_system.specs.WholeSystem.Steps.{Again, Nudge, Work, StopWork, after, work, works}
-use Rattle.jn_system_settling.specs.Settling.Course.{Course, go, go_on}
-use Rattle.jn_system_settling.specs.Settling.Settle.{Chance as Befalling, first_busy as first_going, handing, working, next_step}
 use Rattle.jn_system_settling.proofs.Settling.Burdens.{Leads, work-leads}
-use Rattle.jn_system_settling.proofs.Settling.Courses.{Sound, go-sound, go-balance, burden-after, deliveries-more}
-use Rattle.jn_system_settling.proofs.Settling.Parts.{Bounded}
-use Rattle.jn_system_settling.proofs.Settling.Asking.{Asked, asked}
 use Rattle.jn_rests.proofs.Bounded.{list-bounded}
-use Rattle.jn_written.specs.Chances.{Setup, Chance}
-use Rattle.jn_written.specs.Deeds.{Deed, room, no_room, nothing, served, delivered, delivered_at, is_busy, working_steps}
-use Rattle.jn_written.specs.Events.{servers_of, first_busy, next_event, next_in, resting}
 
 -- the first of these that has something to do is one of them
 busy-within : (rubbish : ServerNo → Bool) (w : World) (n j : ℕ) (s : ServerNo) → first_busy rubbish w (servers_from j n) ≡ Some s → s.0 < j + n

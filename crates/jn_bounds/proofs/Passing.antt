@@ -1,10 +1,5 @@
 -- A run that has these tasks behind others comes to where they are what is left, or isn't as far.
-use Rattle.std.proofs.Common.{◌≡◌, ◌⊎◌, inl, inr, ◌<◌, List, [], ◌∷◌, ◌++◌, append_assoc, length, length-append, sym, ◌∙◌, subst, arith}
-use Rattle.jn_written.specs.Chances.{Setup}
-use Rattle.jn_written.specs.Tasks.{Task, AtEnd, CutShort}
-use Rattle.jn_written.specs.Events.{settling, deed_of}
-use Rattle.jn_written.specs.Runs.{none, more, Steps, Moment, Leads}
-use Rattle.jn_bounds.specs.Settles.{DoesEarlier, IsOver, IsUnderWay}
+use Rattle.jn_bounds.proofs.Common.{◌≡◌, ◌⊎◌, inl, inr, ◌<◌, List, [], ◌∷◌, ◌++◌, append_assoc, length, length-append, sym, ◌∙◌, subst, arith, Setup, Task, AtEnd, CutShort, settling, deed_of, none, more, Steps, Moment, Leads, DoesEarlier, IsOver, IsUnderWay}
 use Rattle.jn_bounds.proofs.Doing.{GoesOn, IsCut, does, stays}
 
 pub longer : (front behind : List Task) (t : Task) → length behind < length (t ∷ front ++ behind)

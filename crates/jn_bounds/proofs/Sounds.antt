@@ -1,25 +1,10 @@
 -- What holds of the course of a run at each moment.
-use Rattle.std.proofs.Common.{◌≡◌, ◌≤◌, ℕ, Bool, true, false, List, [], Some, None, refl, sym, subst, arith}
-use Rattle.std.specs.Prelude.{nat_lt, if◌then◌else◌}
-use Rattle.jn_base.specs.declared.names.ServerNo.{ServerNo}
+use Rattle.jn_bounds.proofs.Common.{◌≡◌, ◌≤◌, ℕ, Bool, true, false, List, [], Some, None, refl, sym, subst, arith, nat_lt, if◌then◌else◌, ServerNo, Event, World, new_memory, IsRun, go_on, Sound, go-on-sound, Setup, Task, Dismisses, State, begun, Deed, Devices, deed_of, is_too_much, come_to, cut_short, none, more, Moment, DoesStep, Leads, closed_world, IsWritten}
 use Rattle.jn_order.specs.Files.{AllFiles}
-use Rattle.jn_schedule.specs.declared.Event.{Event}
-use Rattle.jn_system.specs.WholeSystem.World.{World, new_memory}
-use Rattle.jn_system.specs.WholeSystem.Steps.{IsRun}
 use Rattle.jn_system.specs.WholeSystem.LockFacts.{ServerFact, LockFacts}
 use Rattle.jn_system.proofs.WholeSystem.Steps.{opening-keeps}
-use Rattle.jn_system_settling.specs.Settling.Course.{go_on}
 use Rattle.jn_system_settling.specs.Settling.Sizes.{ServerSizes, Sizes}
 use Rattle.jn_system_settling.proofs.Settling.WorldSizes.{opening-sizes}
-use Rattle.jn_system_settling.proofs.Settling.Courses.{Sound, go-on-sound}
-use Rattle.jn_written.specs.Chances.{Setup}
-use Rattle.jn_written.specs.Tasks.{Task, Dismisses, State, begun}
-use Rattle.jn_written.specs.Deeds.{Deed}
-use Rattle.jn_written.specs.Devices.{Devices}
-use Rattle.jn_written.specs.Events.{deed_of}
-use Rattle.jn_written.specs.Steps.{is_too_much, come_to, cut_short}
-use Rattle.jn_written.specs.Runs.{none, more, Moment, DoesStep, Leads}
-use Rattle.jn_written.specs.Whole.{closed_world, IsWritten}
 
 -- ---- from one moment to another
 

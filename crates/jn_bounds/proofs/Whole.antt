@@ -1,20 +1,9 @@
 -- Every whole run has each settle of its schedule's events and that of its end.
-use Rattle.std.proofs.Common.{◌≡◌, ◌⊎◌, inl, inr, ◌≤◌, List, [], ◌∷◌, ◌++◌, append_assoc, sym, ◌∙◌, ap}
+use Rattle.jn_bounds.proofs.Common.{◌≡◌, ◌⊎◌, inl, inr, ◌≤◌, List, [], ◌∷◌, ◌++◌, append_assoc, sym, ◌∙◌, ap, map, Event, World, Sound, Setup, Task, Begins, Meets, Dismisses, GoesDown, ClosesClients, CountsCommits, AtEnd, CutShort, Devices, servers_of, settling, coming_up, ending, printing, none, more, Moment, DoesStep, Leads, before, closed_world, IsWhole, HasSettle, HasItsSettles}
 use Rattle.std.proofs.lemmas.List.{map-append}
-use Rattle.std.specs.Prelude.{map}
-use Rattle.jn_schedule.specs.declared.Event.{Event}
 use Rattle.jn_schedule.specs.declared.Event.TheVariants as events
 use Rattle.jn_report.specs.declared.line.Line.{Line}
-use Rattle.jn_system.specs.WholeSystem.World.{World}
-use Rattle.jn_system_settling.proofs.Settling.Courses.{Sound}
-use Rattle.jn_written.specs.Chances.{Setup}
-use Rattle.jn_written.specs.Tasks.{Task, Begins, Meets, Dismisses, GoesDown, ClosesClients, CountsCommits, AtEnd, CutShort}
-use Rattle.jn_written.specs.Devices.{Devices}
-use Rattle.jn_written.specs.Events.{servers_of, settling, coming_up, ending, printing}
-use Rattle.jn_written.specs.Runs.{none, more, Moment, DoesStep, Leads}
-use Rattle.jn_written.specs.Whole.{before, closed_world, IsWhole}
 use Rattle.jn_written.proofs.Computed.{join}
-use Rattle.jn_bounds.specs.Settles.{HasSettle, HasItsSettles}
 use Rattle.jn_bounds.proofs.Doing.{GoesOn, IsCut, does, stays}
 use Rattle.jn_bounds.proofs.Passing.{comes-to, forget}
 use Rattle.jn_bounds.proofs.Sounds.{all-steps, closed-sound}

@@ -1,19 +1,5 @@
 -- The looks of a careful get.
-use Rattle.std.proofs.Common.{◌≡◌, ◌≢◌, ◌⊎◌, ⊎_elim, ℕ, ◌+◌, ◌≤◌, ◌<◌, Bool, true, false, List, Some, None, Result, Ok, Err, refl, ◌∙◌, ap, sym, arith}
-use Rattle.std.proofs.lemmas.Bool.Decides.{nat_tests}
-use Rattle.std.specs.Prelude.{IsErr}
-use Rattle.jn_base.specs.declared.device.Stopped.{Stopped}
-use Rattle.jn_device.specs.declared.Look.{Look}
-use Rattle.jn_device.specs.declared.Look.TheVariants.{Good, LooksBad}
-use Rattle.jn_device.specs.Device.{DeviceState, partner_of}
-use Rattle.jn_device.specs.Calls.{GetStep}
-use Rattle.jn_device.specs.Later.{Later, Struck}
-use Rattle.jn_device.proofs.Later.{later_trans, struck_trans}
-use Rattle.jn_device.proofs.Steps.{get_later, get_struck, get_bytes}
-use Rattle.jn_phys.specs.declared.Found.{Found}
-use Rattle.jn_phys.specs.declared.Found.TheVariants.{Same, Other, LooksBad as FoundBad}
-use Rattle.jn_phys.specs.Answers.{look_compared}
-use Rattle.jn_careful.specs.Careful.{CarefulGot, IsServed, IsStopped, page_read, page_compared}
+use Rattle.jn_careful.proofs.Common.{◌≡◌, ◌≢◌, ◌⊎◌, ℕ, ◌+◌, ◌≤◌, ◌<◌, Bool, true, false, List, Some, Result, Ok, Err, refl, ◌∙◌, ap, sym, arith, nat_tests, IsErr, Stopped, Look, Good, LooksBad, DeviceState, partner_of, GetStep, Later, Struck, later_trans, struck_trans, get_later, get_struck, get_bytes, Found, Same, Other, FoundBad, look_compared, CarefulGot, IsServed, IsStopped, page_read, page_compared}
 
 -- after n looks that failed
 pub record Looking (s : DeviceState) (p n : ℕ) (t : DeviceState) : Type 0 where

@@ -1,2 +1,3 @@
+mod Common
 pub mod Get
 pub mod Put

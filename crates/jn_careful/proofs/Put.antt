@@ -1,20 +1,6 @@
 -- The turns of a careful put.
-use Rattle.std.proofs.Common.{◌≡◌, ◌≢◌, ◌⊎◌, inl, inr, ⊎_elim, ℕ, ◌+◌, ◌*◌, ◌≤◌, Bool, true, false, List, [], Result, Ok, Err, refl, sym, ◌∙◌, subst, arith}
-use Rattle.std.proofs.lemmas.Bool.Decides.{nat_tests}
-use Rattle.std.specs.Prelude.{IsErr, is_err}
-use Rattle.jn_base.specs.declared.device.Stopped.{Stopped}
-use Rattle.jn_device.specs.declared.Look.{Look}
-use Rattle.jn_device.specs.declared.Look.TheVariants.{Good, LooksBad}
-use Rattle.jn_device.specs.Device.{DeviceState, Rose}
-use Rattle.jn_device.specs.Calls.{GetStep, PutStep}
-use Rattle.jn_device.specs.Later.{Later, Struck}
-use Rattle.jn_device.proofs.Later.{later_trans, struck_trans, rose_since, rose_then}
-use Rattle.jn_device.proofs.Steps.{get_later, put_later, get_struck, put_struck, get_bytes, put_bytes, put_bytes_at}
-use Rattle.jn_phys.specs.declared.Found.{Found}
-use Rattle.jn_phys.specs.declared.Found.TheVariants.{Same, Other, LooksBad as FoundBad}
-use Rattle.jn_phys.specs.Answers.{look_compared, IsCompared, PutCompared}
+use Rattle.jn_careful.proofs.Common.{◌≡◌, ◌≢◌, ◌⊎◌, inl, inr, ⊎_elim, ℕ, ◌+◌, ◌*◌, ◌≤◌, Bool, true, false, List, [], Result, Ok, Err, refl, sym, ◌∙◌, subst, arith, nat_tests, IsErr, is_err, Stopped, Look, Good, LooksBad, DeviceState, Rose, GetStep, PutStep, Later, Struck, later_trans, struck_trans, rose_since, rose_then, get_later, put_later, get_struck, put_struck, get_bytes, put_bytes, put_bytes_at, Found, Same, Other, FoundBad, look_compared, IsCompared, PutCompared, CarefulPut, IsServed, IsStopped}
 use Rattle.jn_careful.proofs.Get.{gets_up}
-use Rattle.jn_careful.specs.Careful.{CarefulPut, IsServed, IsStopped}
 
 -- after n puts whose page was not there
 pub record Putting (s : DeviceState) (p : ℕ) (new : List ℕ) (n : ℕ) (t : DeviceState) : Type 0 where

@@ -1,27 +1,7 @@
 -- A commit is told once its flag is put, row by row.
-use Rattle.std.proofs.Common.{◌≡◌, ◌⊎◌, inl, inr, ⊎_elim, ℕ, Bool, true, false, not, nat_eq, nat_lt, ◌&&◌, ◌||◌, if◌then◌else◌, List, [], ◌∷◌, ◌++◌, length, Option, Some, None, refl, sym, ◌∙◌, ap, subst, true≢false}
-use Rattle.std.specs.Prelude.{is_some}
-use Rattle.std.specs.List.{list_any}
-use Rattle.jn_base.specs.declared.names.ClientNo.{ClientNo}
-use Rattle.jn_base.specs.declared.names.Tid.{Tid}
-use Rattle.jn_base.specs.declared.names.WorkId.{WorkId}
-use Rattle.jn_base.specs.declared.names.Cause.{Cause}
-use Rattle.jn_base.specs.declared.names.Tickets.{Tickets}
-use Rattle.jn_base.specs.Names.{tid_eq}
-use Rattle.jn_base.proofs.Tells.{tid_tells}
-use Rattle.jn_msgs.specs.declared.message.Message.{Message}
+use Rattle.jn_coord.proofs.Common.{◌≡◌, ◌⊎◌, inl, inr, ⊎_elim, ℕ, Bool, true, false, not, nat_eq, nat_lt, ◌&&◌, ◌||◌, if◌then◌else◌, List, [], ◌∷◌, ◌++◌, length, Option, Some, None, refl, sym, ◌∙◌, ap, subst, true≢false, is_some, list_any, ClientNo, Tid, WorkId, Cause, Tickets, tid_eq, tid_tells, Message, Vote, Transaction, Stage, Open, Voting, Committed, Aborted, Commitment, Ballot, Change, RowOutcome, Sent, ignored, CoordinatorTable, transaction_at, is_work, with_work, all_in, drops, commits, prepares, committed_to, aborted_to, abort_row, commit_row, not_known, after_closing, changes_of_closing, seen_now, begun_by, begin_new, begin_again, begin_row, end_promised, end_stage, end_row, abort_stage, abort_request, forget_row, thanks_stage, thanks_row, told_stage, inquire_row, counted_vote, vote_stage, vote_row, done_stage, done_row, coordinator_row, committed_at}
 use Rattle.jn_msgs.specs.declared.message.Message.TheVariants as messages
-use Rattle.jn_msgs.specs.declared.message.Vote.{Vote}
 use Rattle.jn_msgs.specs.declared.message.Vote.TheVariants as votes
-use Rattle.jn_rows.specs.declared.coordinator.Transaction.{Transaction}
-use Rattle.jn_rows.specs.declared.coordinator.Stage.{Stage}
-use Rattle.jn_rows.specs.declared.coordinator.Stage.TheVariants.{Open, Voting, Committed, Aborted}
-use Rattle.jn_rows.specs.declared.coordinator.Committed.{Committed as Commitment}
-use Rattle.jn_rows.specs.declared.coordinator.Voting.{Voting as Ballot}
-use Rattle.jn_rows.specs.Stable.{Change}
-use Rattle.jn_rows.specs.Outcomes.{RowOutcome, Sent, ignored}
-use Rattle.jn_rows.specs.Coordinator.{CoordinatorTable, transaction_at, is_work, with_work, all_in, drops, commits, prepares, committed_to, aborted_to, abort_row, commit_row, not_known, after_closing, changes_of_closing, seen_now, begun_by, begin_new, begin_again, begin_row, end_promised, end_stage, end_row, abort_stage, abort_request, forget_row, thanks_stage, thanks_row, told_stage, inquire_row, counted_vote, vote_stage, vote_row, done_stage, done_row, coordinator_row}
-use Rattle.jn_coord.specs.Calls.{committed_at}
 use Rattle.jn_coord.specs.AfterFlag.{is_commit_of, tells_commit, FollowsFlag}
 use Rattle.jn_coord.proofs.Tables.{at-named}
 use Rattle.jn_coord.proofs.Fitting.{committed-found}

@@ -1,35 +1,6 @@
 -- A client's new transaction.
-use Rattle.std.proofs.Common.{◌≡◌, ◌⊎◌, inl, inr, ⊎_elim, ℕ, Bool, true, false, nat_eq, nat_lt, ◌+◌, ◌≤◌, ◌<◌, ◌&&◌, if◌then◌else◌, List, [], ◌∷◌, ◌++◌, Option, Some, None, Result, Ok, Err, length, length-append, slice_set, refl, sym, true≢false, ◌∙◌, ap, subst, arith}
-use Rattle.std.proofs.Math.Path.{fun_ext}
-use Rattle.std.specs.Prelude.{is_some, is_ok, OnOk}
-use Rattle.std.proofs.lemmas.Bool.Decides.{nat_tests}
-use Rattle.std.proofs.lemmas.List.{length-set}
-use Rattle.jn_base.specs.declared.names.ClientNo.{ClientNo}
-use Rattle.jn_base.specs.declared.names.Tid.{Tid}
-use Rattle.jn_base.specs.declared.names.Tickets.{Tickets}
-use Rattle.jn_base.specs.declared.names.Party.TheVariants.{Client}
-use Rattle.jn_base.specs.Names.{client_eq, tid_eq}
-use Rattle.jn_base.proofs.Tells.{tid_tells}
-use Rattle.jn_msgs.specs.Collected.{Collected}
+use Rattle.jn_coord.proofs.Common.{◌≡◌, ◌⊎◌, inl, inr, ⊎_elim, ℕ, Bool, true, false, nat_eq, nat_lt, ◌+◌, ◌≤◌, ◌<◌, ◌&&◌, if◌then◌else◌, List, [], ◌∷◌, ◌++◌, Option, Some, None, Result, Ok, Err, length, length-append, slice_set, refl, sym, true≢false, ◌∙◌, ap, subst, arith, fun_ext, is_some, is_ok, OnOk, nat_tests, length-set, ClientNo, Tid, Tickets, Client, client_eq, tid_eq, tid_tells, Collected, Transaction, Stage, Open, Voting, Committed, Aborted, Change, DropFlag, StableState, made_by, made_all, ignored, CoordinatorTable, transaction_at, is_voting, promised, all_in, closed, thanked_changes, after_closing, changes_of_closing, name_from, seen_now, begun_by, begin_again, begin_row, IsGiven, StorageView, state, name_below, Remembered, table_of, seen_by, are_above, rises, added, committed_as, committed_at, ballot_fits, ballots_fit, FitsStorage, IsDone, CoordFault, goes, ClientClosed, ClosesClient, count_left, are_before, TicketsFit, new_transaction, with_request, with_begun}
 use Rattle.jn_msgs.specs.declared.message.Message.TheVariants as messages
-use Rattle.jn_rows.specs.declared.coordinator.Transaction.{Transaction}
-use Rattle.jn_rows.specs.declared.coordinator.Stage.{Stage}
-use Rattle.jn_rows.specs.declared.coordinator.Stage.TheVariants.{Open, Voting, Committed, Aborted}
-use Rattle.jn_rows.specs.Stable.{Change, DropFlag, StableState, made_by, made_all}
-use Rattle.jn_rows.specs.Outcomes.{ignored}
-use Rattle.jn_rows.specs.Coordinator.{CoordinatorTable, transaction_at, is_voting, promised, all_in, closed, thanked_changes, after_closing, changes_of_closing, name_from, seen_now, begun_by, begin_again, begin_row}
-use Rattle.jn_storage.specs.Orderly.{IsGiven}
-use Rattle.jn_storage.specs.Storage.{StorageView}
-use Rattle.jn_storage.specs.Calls.{state}
-use Rattle.jn_transactions.specs.Listed.{name_below}
-use Rattle.jn_coord.specs.Remembered.{Remembered, table_of, seen_by, are_above, rises}
-use Rattle.jn_transactions.specs.Telling.{added}
-use Rattle.jn_coord.specs.Calls.{committed_as, committed_at, ballot_fits, ballots_fit, FitsStorage, IsDone}
-use Rattle.jn_transactions.specs.declared.faults.CoordFault.{CoordFault}
-use Rattle.jn_transactions.specs.Stages.{goes}
-use Rattle.jn_coord.specs.Closing.{ClientClosed, ClosesClient}
-use Rattle.jn_transactions.specs.Closing.{count_left}
-use Rattle.jn_coord.specs.Beginning.{are_before, TicketsFit, new_transaction, with_request, with_begun}
 use Rattle.jn_coord.proofs.Restart.{both-of, seen-set}
 
 -- ---- how many are left

@@ -1,26 +1,6 @@
 -- A client's transactions are closed one by one.
-use Rattle.std.proofs.Common.{◌≡◌, ⊎_elim, ℕ, suc, Bool, true, false, ◌+◌, ◌≤◌, ◌&&◌, if◌then◌else◌, List, [], ◌∷◌, ◌++◌, Option, Some, None, Result, Ok, Err, length, take, refl, sym, ◌∙◌, ap, subst, arith, length-append, append_assoc}
-use Rattle.jn_base.specs.declared.names.ClientNo.{ClientNo}
-use Rattle.jn_base.specs.declared.names.Tid.{Tid}
-use Rattle.jn_base.specs.Names.{tid_eq}
-use Rattle.jn_base.proofs.Tells.{tid_tells}
-use Rattle.jn_rows.specs.declared.coordinator.Transaction.{Transaction}
-use Rattle.jn_rows.specs.declared.coordinator.Stage.{Stage}
-use Rattle.jn_rows.specs.declared.coordinator.Stage.TheVariants.{Open, Voting, Committed, Aborted}
-use Rattle.jn_rows.specs.Stable.{Change, DropFlag, StableState, made_all, made_by}
-use Rattle.jn_rows.specs.Coordinator.{transaction_at, without, is_voting, all_in, closed, thanked, thanked_changes}
-use Rattle.jn_storage.specs.Storage.{StorageView, IsLoadable}
-use Rattle.jn_storage.specs.Calls.{state, FlagDropped}
+use Rattle.jn_coord.proofs.Common.{◌≡◌, ⊎_elim, ℕ, suc, Bool, true, false, ◌+◌, ◌≤◌, ◌&&◌, if◌then◌else◌, List, [], ◌∷◌, ◌++◌, Option, Some, None, Result, Ok, Err, length, take, refl, sym, ◌∙◌, ap, subst, arith, length-append, append_assoc, ClientNo, Tid, tid_eq, tid_tells, Transaction, Stage, Open, Voting, Committed, Aborted, Change, DropFlag, StableState, made_all, made_by, transaction_at, without, is_voting, all_in, closed, thanked, thanked_changes, StorageView, IsLoadable, state, FlagDropped, storage_refl, storage_trans, Remembered, are_above, rises, is_ok, CoordFault, Memory, Stopped, flag_told, committed_as, FitsStorage, Releases, goes, is_committed, is_decided, takes_part, next_closing, tid_in, left_by, changes_by, going_in, LetsGo, GoneFrom, StaysOrGoes, ClosesOn, ClosesNext, ClosingStopped, ClosesAll}
 use Rattle.jn_store.proofs.Laws.{stop_since}
-use Rattle.jn_storage.proofs.Laws.{storage_refl, storage_trans}
-use Rattle.jn_coord.specs.Remembered.{Remembered, are_above, rises}
-use Rattle.std.specs.Prelude.{is_ok}
-use Rattle.jn_transactions.specs.declared.faults.CoordFault.{CoordFault}
-use Rattle.jn_transactions.specs.declared.faults.CoordFault.TheVariants.{Memory, Stopped}
-use Rattle.jn_coord.specs.Calls.{flag_told, committed_as, FitsStorage, Releases}
-use Rattle.jn_transactions.specs.Stages.{goes, is_committed, is_decided}
-use Rattle.jn_transactions.specs.Closing.{takes_part, next_closing, tid_in}
-use Rattle.jn_coord.specs.Closing.{left_by, changes_by, going_in, LetsGo, GoneFrom, StaysOrGoes, ClosesOn, ClosesNext, ClosingStopped, ClosesAll}
 use Rattle.jn_coord.proofs.Tables.{at-named, for-found, counted, counted-then}
 use Rattle.jn_coord.proofs.Fitting.{below-not, flags-without, no-votes, promise_held, fits-without}
 use Rattle.jn_coord.proofs.Rows.{released-reaches, told-but}

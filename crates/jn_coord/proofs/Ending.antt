@@ -1,22 +1,5 @@
 -- How a transaction ends that was open.
-use Rattle.std.proofs.Common.{◌≡◌, ℕ, true, false, not, nat_lt, nat_eq, ◌+◌, ◌-◌, ◌≤◌, ◌<◌, List, [], ◌∷◌, Option, Some, None, Result, Ok, Err, length, refl, sym, ◌∙◌, ap, subst, arith}
-use Rattle.std.proofs.lemmas.Bool.Decides.{nat_tests}
-use Rattle.jn_base.specs.declared.names.Tid.{Tid}
-use Rattle.jn_base.specs.declared.names.WorkId.{WorkId}
-use Rattle.jn_base.specs.declared.names.Tickets.{Tickets}
-use Rattle.jn_msgs.specs.Collected.{Collected}
-use Rattle.jn_rows.specs.declared.coordinator.Transaction.{Transaction}
-use Rattle.jn_rows.specs.declared.coordinator.Stage.TheVariants.{Open, Voting}
-use Rattle.jn_rows.specs.declared.coordinator.Voting.{Voting as Ballot}
-use Rattle.jn_rows.specs.Outcomes.{RowOutcome}
-use Rattle.jn_rows.specs.Coordinator.{CoordinatorTable, transaction_at, with_stage, prepares, end_promised}
-use Rattle.jn_storage.specs.Storage.{StorageView}
-use Rattle.jn_storage.specs.Calls.{with_promises}
-use Rattle.jn_transactions.specs.declared.faults.CoordFault.{CoordFault}
-use Rattle.jn_transactions.specs.declared.faults.CoordFault.TheVariants.{Memory, Stopped}
-use Rattle.jn_coord.specs.Remembered.{Remembered, table_of}
-use Rattle.jn_transactions.specs.Telling.{added}
-use Rattle.jn_coord.specs.Calls.{FitsWith, stage_in, committed_at, Releases, Reaches, IsDone, IsStopped, Does, IsPromised, is_memory, ballot_row}
+use Rattle.jn_coord.proofs.Common.{◌≡◌, ℕ, true, false, not, nat_lt, nat_eq, ◌+◌, ◌-◌, ◌≤◌, ◌<◌, List, [], ◌∷◌, Option, Some, None, Result, Ok, Err, length, refl, sym, ◌∙◌, ap, subst, arith, nat_tests, Tid, WorkId, Tickets, Collected, Transaction, Open, Voting, Ballot, RowOutcome, CoordinatorTable, transaction_at, with_stage, prepares, end_promised, StorageView, with_promises, CoordFault, Memory, Stopped, Remembered, table_of, added, FitsWith, stage_in, committed_at, Releases, Reaches, IsDone, IsStopped, Does, IsPromised, is_memory, ballot_row}
 use Rattle.jn_coord.proofs.Tables.{at-named, for-found}
 use Rattle.jn_coord.proofs.Fitting.{fits-staged, same-flags, committed-found}
 use Rattle.jn_coord.proofs.Rows.{stays}

@@ -1,19 +1,5 @@
 -- What one change of a table keeps.
-use Rattle.std.proofs.Common.{◌≡◌, ⊎_elim, ℕ, Bool, true, false, ◌+◌, ◌≤◌, ◌<◌, if◌then◌else◌, List, [], ◌∷◌, Option, Some, None, length, refl, sym, ◌∙◌, ap, subst, arith}
-use Rattle.std.specs.Prelude.{is_some}
-use Rattle.std.proofs.lemmas.Bool.Decides.{nat_tests}
-use Rattle.jn_base.specs.declared.names.Tid.{Tid}
-use Rattle.jn_base.specs.Names.{tid_eq}
-use Rattle.jn_base.proofs.Tells.{tid_tells}
-use Rattle.jn_rows.specs.declared.coordinator.Transaction.{Transaction}
-use Rattle.jn_rows.specs.declared.coordinator.Stage.{Stage}
-use Rattle.jn_rows.specs.Coordinator.{transaction_at, with_stage, without, is_voting, promised}
-use Rattle.jn_storage.specs.Orderly.{IsGiven}
-use Rattle.jn_storage.specs.Storage.{StorageView, IsServing}
-use Rattle.jn_storage.specs.Calls.{state}
-use Rattle.jn_transactions.specs.Listed.{name_below}
-use Rattle.jn_coord.specs.Remembered.{Remembered, are_above, rises}
-use Rattle.jn_coord.specs.Calls.{flag_told, committed_as, committed_at, ballot_fits, ballots_fit, spare_of, FitsWith}
+use Rattle.jn_coord.proofs.Common.{◌≡◌, ⊎_elim, ℕ, Bool, true, false, ◌+◌, ◌≤◌, ◌<◌, if◌then◌else◌, List, [], ◌∷◌, Option, Some, None, length, refl, sym, ◌∙◌, ap, subst, arith, is_some, nat_tests, Tid, tid_eq, tid_tells, Transaction, Stage, transaction_at, with_stage, without, is_voting, promised, IsGiven, StorageView, IsServing, state, name_below, Remembered, are_above, rises, flag_told, committed_as, committed_at, ballot_fits, ballots_fit, spare_of, FitsWith}
 
 -- the promises of a stage
 abbrev pub votes : Stage → ℕ

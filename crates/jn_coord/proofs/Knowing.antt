@@ -1,26 +1,6 @@
 -- A client that knows of its transactions.
-use Rattle.std.proofs.Common.{◌≡◌, Bool, true, false, ◌&&◌, if◌then◌else◌, List, [], ◌∷◌, ◌++◌, Option, Some, None, Result, Ok, Err, length, refl, sym, ◌∙◌, ap, subst, arith, append-nil}
-use Rattle.std.specs.Prelude.{is_some, is_ok}
-use Rattle.jn_base.specs.declared.names.ClientNo.{ClientNo}
-use Rattle.jn_base.specs.declared.names.Tid.{Tid}
-use Rattle.jn_base.specs.declared.names.Tickets.{Tickets}
-use Rattle.jn_base.specs.Names.{tid_eq}
-use Rattle.jn_msgs.specs.Collected.{Collected}
-use Rattle.jn_rows.specs.declared.coordinator.Transaction.{Transaction}
-use Rattle.jn_rows.specs.declared.coordinator.Stage.{Stage}
-use Rattle.jn_rows.specs.declared.coordinator.Stage.TheVariants.{Open, Voting, Committed, Aborted}
-use Rattle.jn_rows.specs.Coordinator.{transaction_at, is_voting, promised, all_in, closed, thanked, close_clients_row}
-use Rattle.jn_storage.specs.Storage.{StorageView}
-use Rattle.jn_transactions.specs.declared.faults.CoordFault.{CoordFault}
-use Rattle.jn_transactions.specs.declared.faults.CoordFault.TheVariants.{Memory, Stopped}
-use Rattle.jn_coord.specs.Remembered.{Remembered, table_of, are_above, rises}
-use Rattle.jn_transactions.specs.Telling.{Longer}
-use Rattle.jn_coord.specs.Calls.{committed_as, committed_at, ballot_fits, ballots_fit, FitsStorage, IsStopped}
-use Rattle.jn_transactions.specs.Stages.{goes, is_decided}
-use Rattle.jn_transactions.specs.Closing.{is_of, next_closing, known_stage, known, knowing}
-use Rattle.jn_coord.specs.Closing.{left_by, changes_by, ClosesOn, ClientClosed, ClosesClient}
+use Rattle.jn_coord.proofs.Common.{◌≡◌, Bool, true, false, ◌&&◌, if◌then◌else◌, List, [], ◌∷◌, ◌++◌, Option, Some, None, Result, Ok, Err, length, refl, sym, ◌∙◌, ap, subst, arith, append-nil, is_some, is_ok, ClientNo, Tid, Tickets, tid_eq, Collected, Transaction, Stage, Open, Voting, Committed, Aborted, transaction_at, is_voting, promised, all_in, closed, thanked, close_clients_row, StorageView, CoordFault, Memory, Stopped, Remembered, table_of, are_above, rises, Longer, committed_as, committed_at, ballot_fits, ballots_fit, FitsStorage, IsStopped, goes, is_decided, is_of, next_closing, known_stage, known, knowing, left_by, changes_by, ClosesOn, ClientClosed, ClosesClient, longer_same}
 use Rattle.jn_coord.proofs.ClosingLemmas.{changes-none}
-use Rattle.jn_transactions.proofs.Sends.{longer_same}
 
 -- what is the same of a transaction that is known of
 record AreAlike (x y : Transaction) : Type 0 where

@@ -1,33 +1,7 @@
 -- The next name comes after all that are live, row by row.
-use Rattle.std.proofs.Common.{◌≡◌, ℕ, Bool, true, false, not, nat_eq, nat_lt, ◌+◌, ◌&&◌, if◌then◌else◌, List, [], ◌∷◌, ◌++◌, Option, Some, None, Result, Ok, Err, length, refl, sym, ◌∙◌, ap, arith}
-use Rattle.std.specs.Prelude.{is_ok}
-use Rattle.std.proofs.lemmas.Bool.Decides.{nat_tests}
-use Rattle.jn_base.specs.declared.names.ClientNo.{ClientNo}
-use Rattle.jn_base.specs.declared.names.Tid.{Tid}
-use Rattle.jn_base.specs.declared.names.WorkId.{WorkId}
-use Rattle.jn_base.specs.declared.names.Tickets.{Tickets}
-use Rattle.jn_base.specs.Names.{tid_eq}
-use Rattle.jn_msgs.specs.Collected.{Collected}
-use Rattle.jn_msgs.specs.declared.message.Message.{Message}
+use Rattle.jn_coord.proofs.Common.{◌≡◌, ℕ, Bool, true, false, not, nat_eq, nat_lt, ◌+◌, ◌&&◌, if◌then◌else◌, List, [], ◌∷◌, ◌++◌, Option, Some, None, Result, Ok, Err, length, refl, sym, ◌∙◌, ap, arith, is_ok, nat_tests, ClientNo, Tid, WorkId, Tickets, tid_eq, Collected, Message, Vote, Transaction, Stage, Open, Voting, Committed, Aborted, Commitment, Ballot, Change, AddReady, MarkGoing, CarryOut, RemoveWork, AddFlag, DropFlag, StableState, made_by, made_all, RowOutcome, CoordinatorTable, transaction_at, with_stage, without, is_work, with_work, all_in, changes_of_closing, name_from, begun_by, begin_new, begin_again, begin_row, end_promised, end_stage, end_row, abort_stage, abort_request, forget_row, thanks_stage, thanks_row, told_stage, inquire_row, counted_vote, vote_stage, vote_row, done_stage, done_row, coordinator_row, thanked, all_thanked, flags_of_thanked, StorageView, state, name_below, Remembered, table_of, CoordFault, IsDone, ClosesClient, are_before, TicketsFit}
 use Rattle.jn_msgs.specs.declared.message.Message.TheVariants as messages
-use Rattle.jn_msgs.specs.declared.message.Vote.{Vote}
 use Rattle.jn_msgs.specs.declared.message.Vote.TheVariants as votes
-use Rattle.jn_rows.specs.declared.coordinator.Transaction.{Transaction}
-use Rattle.jn_rows.specs.declared.coordinator.Stage.{Stage}
-use Rattle.jn_rows.specs.declared.coordinator.Stage.TheVariants.{Open, Voting, Committed, Aborted}
-use Rattle.jn_rows.specs.declared.coordinator.Committed.{Committed as Commitment}
-use Rattle.jn_rows.specs.declared.coordinator.Voting.{Voting as Ballot}
-use Rattle.jn_rows.specs.Stable.{Change, AddReady, MarkGoing, CarryOut, RemoveWork, AddFlag, DropFlag, StableState, made_by, made_all}
-use Rattle.jn_rows.specs.Outcomes.{RowOutcome}
-use Rattle.jn_rows.specs.Coordinator.{CoordinatorTable, transaction_at, with_stage, without, is_work, with_work, all_in, changes_of_closing, name_from, begun_by, begin_new, begin_again, begin_row, end_promised, end_stage, end_row, abort_stage, abort_request, forget_row, thanks_stage, thanks_row, told_stage, inquire_row, counted_vote, vote_stage, vote_row, done_stage, done_row, coordinator_row, thanked, all_thanked, flags_of_thanked}
-use Rattle.jn_storage.specs.Storage.{StorageView}
-use Rattle.jn_storage.specs.Calls.{state}
-use Rattle.jn_transactions.specs.Listed.{name_below}
-use Rattle.jn_coord.specs.Remembered.{Remembered, table_of}
-use Rattle.jn_transactions.specs.declared.faults.CoordFault.{CoordFault}
-use Rattle.jn_coord.specs.Calls.{IsDone}
-use Rattle.jn_coord.specs.Closing.{ClosesClient}
-use Rattle.jn_coord.specs.Beginning.{are_before, TicketsFit}
 use Rattle.jn_coord.proofs.Restart.{both-of}
 use Rattle.jn_coord.proofs.Beginnings.{before-closing}
 

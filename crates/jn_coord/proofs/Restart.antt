@@ -1,28 +1,8 @@
 -- Flags come to their places after a restart.
-use Rattle.std.proofs.Common.{◌≡◌, ⊎_elim, ℕ, zero, suc, Bool, true, false, ◌⊎◌, ◌≢◌, nat_eq, ◌+◌, ◌≤◌, ◌<◌, ◌&&◌, ◌||◌, nat_lt, if◌then◌else◌, List, [], ◌∷◌, ◌++◌, Option, Some, None, length, map, replicate, slice_set, slice_index_or, refl, sym, true≢false, ◌∙◌, ap, subst, arith}
-use Rattle.std.proofs.Math.Path.{fun_ext}
-use Rattle.std.specs.Prelude.{is_some}
-use Rattle.std.proofs.lemmas.Bool.Decides.{nat_tests}
-use Rattle.std.proofs.lemmas.List.{length-set}
+use Rattle.jn_coord.proofs.Common.{◌≡◌, ⊎_elim, ℕ, zero, suc, Bool, true, false, ◌⊎◌, ◌≢◌, nat_eq, ◌+◌, ◌≤◌, ◌<◌, ◌&&◌, ◌||◌, nat_lt, if◌then◌else◌, List, [], ◌∷◌, ◌++◌, Option, Some, None, length, map, replicate, slice_set, slice_index_or, refl, sym, true≢false, ◌∙◌, ap, subst, arith, fun_ext, is_some, nat_tests, length-set, AllByRecursion, ClientNo, Tid, WorkId, client_eq, tid_eq, client_tells, tid_tells, Transaction, StableState, FlagState, flag_state, transaction_at, promised, restored_transaction, restored_transactions, seen_in_flag, seen_in_flags, is_in, are_different, StorageView, IsServing, state, tid_of, TellsFlags, name_below, restored_from, inserted, with_flags, seen_by, are_above, rises, flag_told, committed_at, ballots_fit, with_seen, with_requests, clients_fit, Restored}
 use Rattle.std.proofs.lemmas.List.Elements.{recursion_from_All}
-use Rattle.std.specs.List.{AllByRecursion}
-use Rattle.jn_base.specs.declared.names.ClientNo.{ClientNo}
-use Rattle.jn_base.specs.declared.names.Tid.{Tid}
-use Rattle.jn_base.specs.declared.names.WorkId.{WorkId}
-use Rattle.jn_base.specs.Names.{client_eq, tid_eq}
-use Rattle.jn_base.proofs.Tells.{client_tells, tid_tells}
 use Rattle.jn_records.specs.declared.flag.Flag.{Flag}
-use Rattle.jn_rows.specs.declared.coordinator.Transaction.{Transaction}
-use Rattle.jn_rows.specs.Stable.{StableState, FlagState, flag_state}
-use Rattle.jn_rows.specs.Coordinator.{transaction_at, promised, restored_transaction, restored_transactions, seen_in_flag, seen_in_flags}
-use Rattle.jn_storage.specs.Listing.{is_in, are_different}
-use Rattle.jn_storage.specs.Storage.{StorageView, IsServing}
-use Rattle.jn_storage.specs.Calls.{state, tid_of, TellsFlags}
 use Rattle.jn_storage.proofs.Listings.{but, is_in-but, length-but}
-use Rattle.jn_transactions.specs.Listed.{name_below, restored_from, inserted, with_flags}
-use Rattle.jn_coord.specs.Remembered.{seen_by, are_above, rises}
-use Rattle.jn_coord.specs.Calls.{flag_told, committed_at, ballots_fit}
-use Rattle.jn_coord.specs.Restoring.{with_seen, with_requests, clients_fit, Restored}
 
 -- ---- names in their order
 

@@ -1,22 +1,5 @@
 -- A flag that is to be put has its room.
-use Rattle.std.proofs.Common.{◌≡◌, ℕ, true, ◌+◌, ◌≤◌, if◌then◌else◌, List, [], ◌∷◌, Option, Some, None, length, refl, sym, ◌∙◌, ap, arith}
-use Rattle.std.specs.Prelude.{is_some}
-use Rattle.jn_base.specs.declared.names.ClientNo.{ClientNo}
-use Rattle.jn_base.specs.declared.names.Tid.{Tid}
-use Rattle.jn_base.specs.declared.names.WorkId.{WorkId}
-use Rattle.jn_base.specs.Names.{tid_eq}
-use Rattle.jn_base.proofs.Tells.{tid_tells}
-use Rattle.jn_rows.specs.declared.coordinator.Transaction.{Transaction}
-use Rattle.jn_rows.specs.declared.coordinator.Stage.{Stage}
-use Rattle.jn_rows.specs.declared.coordinator.Stage.TheVariants.{Open, Voting, Committed, Aborted}
-use Rattle.jn_rows.specs.Stable.{FlagState}
-use Rattle.jn_rows.specs.Coordinator.{transaction_at}
-use Rattle.jn_storage.specs.Listing.{is_in, are_different}
-use Rattle.jn_storage.specs.Storage.{StorageView}
-use Rattle.jn_storage.specs.Calls.{state, MayPutFlag, HasFlag}
-use Rattle.jn_coord.specs.Remembered.{Remembered, rises}
-use Rattle.jn_coord.specs.Calls.{flag_told, committed_as, committed_at, works_in, spare_of, FitsWith}
-use Rattle.jn_transactions.specs.Stages.{is_committed}
+use Rattle.jn_coord.proofs.Common.{◌≡◌, ℕ, true, ◌+◌, ◌≤◌, if◌then◌else◌, List, [], ◌∷◌, Option, Some, None, length, refl, sym, ◌∙◌, ap, arith, is_some, ClientNo, Tid, WorkId, tid_eq, tid_tells, Transaction, Stage, Open, Voting, Committed, Aborted, FlagState, transaction_at, is_in, are_different, StorageView, state, MayPutFlag, HasFlag, Remembered, rises, flag_told, committed_as, committed_at, spare_of, FitsWith, is_committed}
 use Rattle.jn_coord.proofs.Fitting.{above-none, has-promise, committed-found}
 
 -- the names of the committed transactions

@@ -1,38 +1,10 @@
 -- What a step of a coordinator comes to, row by row.
-use Rattle.std.proofs.Common.{⊎_elim, ◌≢◌, not, nat_lt, ◌&&◌, ◌-◌, Result, Ok, Err, ◌≡◌, ℕ, Bool, true, false, ◌+◌, ◌≤◌, if◌then◌else◌, List, [], ◌∷◌, ◌++◌, Option, Some, None, length, refl, sym, ◌∙◌, ap, subst, arith}
-use Rattle.std.proofs.lemmas.Bool.Decides.{nat_tests}
-use Rattle.jn_base.specs.declared.names.ClientNo.{ClientNo}
-use Rattle.jn_base.specs.declared.names.Tid.{Tid}
-use Rattle.jn_base.specs.Names.{tid_eq}
-use Rattle.jn_base.specs.declared.names.Cause.{Cause}
-use Rattle.jn_base.specs.declared.names.WorkId.{WorkId}
-use Rattle.jn_base.specs.declared.names.Tickets.{Tickets}
-use Rattle.jn_base.specs.declared.names.Party.TheVariants.{Client}
+use Rattle.jn_coord.proofs.Common.{⊎_elim, ◌≢◌, not, nat_lt, ◌&&◌, ◌-◌, Result, Ok, Err, ◌≡◌, ℕ, Bool, true, false, ◌+◌, ◌≤◌, if◌then◌else◌, List, [], ◌∷◌, ◌++◌, Option, Some, None, length, refl, sym, ◌∙◌, ap, subst, arith, nat_tests, ClientNo, Tid, tid_eq, Cause, WorkId, Tickets, Client, Vote, Collected, Transaction, Stage, Open, Voting, Committed, Aborted, Commitment, Ballot, FlagState, Change, Changed, AddFlag, DropFlag, made_by, RowOutcome, ignored, sends, CoordinatorTable, transaction_at, with_stage, without, is_voting, drops, commits, all_in, abort_row, commit_row, forget_row, noted, thanks_row, thanks_stage, vote_stage, told_stage, inquire_row, dropped, is_work, StorageView, state, PromiseReleased, Called, FlagPut, FlagDropped, storage_refl, is_aborted, Remembered, table_of, CoordFault, Memory, Stopped, added, Adds, Longer, flag_told, committed_as, committed_at, works_in, voting_in, spare_of, FitsStorage, FitsWith, ballot_in, ballot_of, ballot_fits, ballots_fit, waiting_row, Releases, Reaches, IsDone, IsStopped, Does, added_none, longer_same}
 use Rattle.jn_msgs.specs.declared.message.Message.TheVariants as messages
 use Rattle.jn_msgs.specs.declared.message.Outcome.{Outcome}
 use Rattle.jn_msgs.specs.declared.message.Outcome.TheVariants as outcomes
-use Rattle.jn_msgs.specs.declared.message.Vote.{Vote}
 use Rattle.jn_msgs.specs.declared.message.Note.TheVariants as notes
-use Rattle.jn_msgs.specs.Collected.{Collected}
-use Rattle.jn_rows.specs.declared.coordinator.Transaction.{Transaction}
-use Rattle.jn_rows.specs.declared.coordinator.Stage.{Stage}
 use Rattle.jn_rows.specs.declared.coordinator.Stage.TheVariants as stages
-use Rattle.jn_rows.specs.declared.coordinator.Stage.TheVariants.{Open, Voting, Committed, Aborted}
-use Rattle.jn_rows.specs.declared.coordinator.Committed.{Committed as Commitment}
-use Rattle.jn_rows.specs.declared.coordinator.Voting.{Voting as Ballot}
-use Rattle.jn_rows.specs.Stable.{FlagState, Change, Changed, AddFlag, DropFlag, made_by}
-use Rattle.jn_rows.specs.Outcomes.{RowOutcome, ignored, sends}
-use Rattle.jn_rows.specs.Coordinator.{CoordinatorTable, transaction_at, with_stage, without, is_voting, drops, commits, all_in, abort_row, commit_row, forget_row, noted, thanks_row, thanks_stage, vote_stage, told_stage, inquire_row, dropped, is_work}
-use Rattle.jn_storage.specs.Storage.{StorageView}
-use Rattle.jn_storage.specs.Calls.{state, PromiseReleased, Called, FlagPut, FlagDropped}
-use Rattle.jn_storage.proofs.Laws.{storage_refl}
-use Rattle.jn_transactions.specs.Stages.{is_aborted}
-use Rattle.jn_coord.specs.Remembered.{Remembered, table_of}
-use Rattle.jn_transactions.specs.declared.faults.CoordFault.{CoordFault}
-use Rattle.jn_transactions.specs.declared.faults.CoordFault.TheVariants.{Memory, Stopped}
-use Rattle.jn_transactions.specs.Telling.{added, Adds, Longer}
-use Rattle.jn_coord.specs.Calls.{flag_told, committed_as, committed_at, works_in, voting_in, spare_of, FitsStorage, FitsWith, ballot_in, ballot_of, ballot_fits, ballots_fit, waiting_row, Releases, Reaches, IsDone, IsStopped, Does}
-use Rattle.jn_transactions.proofs.Sends.{added_none, longer_same}
 use Rattle.jn_coord.proofs.Tables.{at-named, for-found, counted}
 use Rattle.jn_coord.proofs.Fitting.{votes, fits-staged, fits-without, same-flags, committed-found, flags-without, promise_held, spare-one, has-promise, no-votes}
 

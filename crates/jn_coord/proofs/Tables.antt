@@ -1,11 +1,5 @@
 -- What stands at a name.
-use Rattle.std.proofs.Common.{◌≡◌, ℕ, List, [], ◌∷◌, Option, Some, None, refl, sym, ◌∙◌, ap, subst, arith}
-use Rattle.jn_base.specs.declared.names.Tid.{Tid}
-use Rattle.jn_base.proofs.Tells.{tid_tells}
-use Rattle.jn_rows.specs.declared.coordinator.Transaction.{Transaction}
-use Rattle.jn_rows.specs.Coordinator.{transaction_at}
-use Rattle.jn_storage.specs.Storage.{Accounts}
-use Rattle.jn_coord.specs.Calls.{CountsRecords}
+use Rattle.jn_coord.proofs.Common.{◌≡◌, ℕ, List, [], ◌∷◌, Option, Some, None, refl, sym, ◌∙◌, ap, subst, arith, Tid, tid_tells, Transaction, transaction_at, Accounts, CountsRecords}
 
 pub at-named : (T : Tid) (xs : List Transaction) (x : Transaction) → transaction_at T xs ≡ Some x → x.tid ≡ T
 at-named T [] x e = absurd (cc e)

@@ -1,21 +1,9 @@
 -- The pages of a server that was closed, as a store, and a store's as those of a server that is closed.
-use Rattle.std.proofs.Common.{◌≡◌, ⊎_elim, ◌<◌, ◌≤◌, ◌+◌, ◌*◌, ◌/◌, ◌-◌, ◌^◌, ◌||◌, ◌&&◌, ℕ, Bool, true, false, if◌then◌else◌, List, [], length, sym, ◌∙◌, ap, subst, arith}
+use Rattle.jn_disks.proofs.Common.{◌≡◌, ⊎_elim, ◌<◌, ◌≤◌, ◌+◌, ◌*◌, ◌/◌, ◌-◌, ◌^◌, ◌||◌, ◌&&◌, ℕ, Bool, true, false, if◌then◌else◌, List, [], length, sym, ◌∙◌, ap, subst, arith, nat_lt, take, drop, ServerNo, Half, DeviceState, IsSoundDevice, HasHalves, IsNew, Files, Image, IsSound, Names, Counts, Pages, page_count, slot_place, head_place, data_place, is_used, file_in, address_in, pairs_view, IsStoreOf, IsImage, image_on, files_agree, image_fresh, AreSound, HasPages, image_of, files_in, IsStoreOfPages}
 use Rattle.std.proofs.lemmas.Bool.{cases_lt}
 use Rattle.std.proofs.lemmas.Bool.Decides.{nat_tests}
 use Rattle.std.proofs.lemmas.List.{get_or-take, length-take-le}
-use Rattle.std.specs.Prelude.{nat_lt, take, drop}
-use Rattle.jn_base.specs.declared.names.ServerNo.{ServerNo}
-use Rattle.jn_device.specs.declared.Half.{Half}
-use Rattle.jn_device.specs.Device.{DeviceState, IsSoundDevice}
-use Rattle.jn_memdisk.specs.Disk.{HasHalves, IsNew}
 use Rattle.jn_memdisk.specs.Pages.{half_at}
-use Rattle.jn_order.specs.Files.{Files}
-use Rattle.jn_records.specs.Sound.{Image, IsSound, Names}
-use Rattle.jn_records.specs.StablePages.{Counts, Pages, page_count, slot_place, head_place, data_place, is_used, file_in, address_in}
-use Rattle.jn_store.specs.Pairs.{pairs_view}
-use Rattle.jn_found.specs.Images.{IsStoreOf, IsImage, image_on}
-use Rattle.jn_found.proofs.ImageStates.{files_agree, image_fresh}
-use Rattle.jn_disks.specs.Disks.{AreSound, HasPages, image_of, files_in, IsStoreOfPages}
 
 -- an image with the same bytes, each page of which is good
 module _ (s server : ServerNo) (g : Counts) (good_one good_two : ℕ → Bool) (one two : Pages) (same : (p : ℕ) → p < 2 * page_count g → two p ≡ one p) (good : (p : ℕ) → p < 2 * page_count g → good_two p ≡ true) where

@@ -1,2 +1,3 @@
+mod Common
 pub mod NewStores
 pub mod Closed

@@ -1,29 +1,17 @@
 -- A store of zeros with a root, as a new server has it.
-use Rattle.std.proofs.Common.{◌≡◌, ℕ, zero, suc, ◌+◌, ◌*◌, ◌/◌, ◌<◌, ◌^◌, ◌||◌, ◌&&◌, ◌≤◌, nat_eq, Bool, true, false, true≢false, if◌then◌else◌, List, [], ◌∷◌, Some, None, drop, replicate, refl, sym, ◌∙◌, ap, subst, arith}
+use Rattle.jn_disks.proofs.Common.{◌≡◌, ℕ, zero, suc, ◌+◌, ◌<◌, ◌^◌, ◌||◌, ◌&&◌, ◌≤◌, nat_eq, Bool, true, false, true≢false, if◌then◌else◌, List, [], ◌∷◌, Some, None, drop, replicate, refl, sym, ◌∙◌, ap, subst, arith, option_map, option_and_then, ServerNo, there, blank_page, IsNewStore, new_page, no_files, CountsFit, IsFresh, image_fresh, Image, IsSound, Counts, page_count, slot_place, head_place, data_place, is_used, file_in, is_head_of, head_from, block_in, files_of_pages, StoreView, StorePut, IsBlank, IsOnly}
 use Rattle.std.proofs.Math.Path.{fun_ext}
-use Rattle.std.specs.Prelude.{option_map, option_and_then}
 use Rattle.jn_base.specs.declared.device.Outside.{Outside}
 use Rattle.jn_base.specs.declared.names.FileNo.{FileNo}
 use Rattle.jn_base.specs.declared.names.LockUnit.{LockUnit}
 use Rattle.jn_base.specs.declared.names.LockUnit.TheVariants.{File, Block}
-use Rattle.jn_base.specs.declared.names.ServerNo.{ServerNo}
 use Rattle.jn_device.specs.Later.{count_kind, count_told}
-use Rattle.jn_order.specs.Files.{there}
-use Rattle.jn_device.specs.Device.{DeviceState, blank_page}
-use Rattle.jn_disks.specs.Disks.{IsNewStore, new_page, no_files}
-use Rattle.jn_found.specs.Images.{CountsFit, IsFresh}
-use Rattle.jn_found.proofs.ImageStates.{image_fresh}
-use Rattle.jn_memdisk.specs.Disk.{IsNew, IsBlank as IsBlankDisk}
 use Rattle.jn_records.specs.declared.head.Head.TheVariants.{Free as FreeHead}
 use Rattle.jn_records.specs.declared.record.Record.TheVariants.{Free}
 use Rattle.jn_records.specs.declared.root.Root.{Root}
 use Rattle.jn_records.specs.Heads.{head_page}
 use Rattle.jn_records.specs.Pages.{root_page}
 use Rattle.jn_records.specs.Records.{record_page}
-use Rattle.jn_records.specs.Sound.{Image, IsSound}
-use Rattle.jn_records.specs.StablePages.{Counts, page_count, slot_place, head_place, data_place, is_used, file_in, is_head_of, head_from, block_in, files_of_pages}
-use Rattle.jn_store.specs.Pairs.{pairs_view}
-use Rattle.jn_store.specs.Store.{StoreView, StorePut, IsBlank, IsOnly}
 
 -- ---- the page of zeros
 

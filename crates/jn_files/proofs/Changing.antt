@@ -1,19 +1,6 @@
 -- What another head in a slot makes of the files.
-use Rattle.std.proofs.Common.{◌≡◌, ◌≢◌, inl, inr, ◌<◌, ℕ, zero, suc, true, false, List, length, replicate, Option, Some, None, refl, sym, ap, subst, ◌∙◌, arith}
-use Rattle.std.proofs.Math.Path.{fun_ext}
-use Rattle.std.proofs.lemmas.Bool.{cases_eq, cases_lt, false_from_ne_true, eq-eqb}
-use Rattle.std.proofs.lemmas.Bool.Decides.{nat_tests}
-use Rattle.std.proofs.lemmas.List.{get_or-set_same, get_or-set_other}
-use Rattle.std.specs.Prelude.{slice_set, slice_index, take, nat_le, ◌&&◌, option_map}
-use Rattle.jn_base.specs.declared.names.FileNo.{FileNo}
-use Rattle.jn_base.specs.declared.names.BlockNo.{BlockNo}
-use Rattle.jn_base.specs.declared.names.LockUnit.{LockUnit}
-use Rattle.jn_base.specs.declared.names.LockUnit.TheVariants.{File, Block}
+use Rattle.jn_files.proofs.Common.{◌≡◌, ◌≢◌, inl, inr, ◌<◌, ℕ, zero, suc, true, false, List, length, replicate, Option, Some, None, refl, sym, ap, subst, ◌∙◌, arith, fun_ext, cases_eq, cases_lt, false_from_ne_true, eq-eqb, nat_tests, get_or-set_same, get_or-set_other, slice_set, slice_index, take, nat_le, ◌&&◌, option_map, FileNo, BlockNo, LockUnit, File, Block, Files, Change, change, or_else, there, created, removed, cut_from, written, Head, Free, Used, head_in, is_of, addresses_of, addresses, or_nil, behind, files_of, fresh_head, cut_addresses}
 use Rattle.jn_base.specs.Names.{file_eq, block_eq}
-use Rattle.jn_order.specs.Files.{Files, Change, change, or_else, there, created, removed, cut_from, written}
-use Rattle.jn_records.specs.declared.head.Head.{Head}
-use Rattle.jn_records.specs.declared.head.Head.TheVariants.{Free, Used}
-use Rattle.jn_files.specs.Table.{head_in, is_of, addresses_of, addresses, or_nil, behind, files_of, fresh_head, cut_addresses}
 use Rattle.jn_files.proofs.Lookup.{when_true, when_false, none_has, addresses_at, addresses_other}
 use Rattle.jn_files.proofs.Cutting.{cut_kept, cut_gone}
 use Rattle.jn_files.proofs.Standing.{head_at_slot, head_off_slot}

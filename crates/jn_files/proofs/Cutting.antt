@@ -1,14 +1,5 @@
 -- The addresses of a head, place by place.
-use Rattle.std.proofs.Common.{inl, inr, ◌≡◌, ◌≤◌, ◌<◌, ℕ, zero, suc, true, List, [], ◌∷◌, length, refl, sym, ap, ◌∙◌, arith}
-use Rattle.std.proofs.lemmas.Bool.{cases_lt}
-use Rattle.std.proofs.lemmas.Bool.Decides.{nat_tests}
-use Rattle.std.proofs.lemmas.List.{ext_get_or}
-use Rattle.std.specs.Prelude.{slice_index, nat_le}
-use Rattle.std.specs.List.{list_all}
-use Rattle.jn_records.specs.declared.head.Head.{Head}
-use Rattle.jn_records.specs.declared.head.Head.TheVariants.{Free, Used}
-use Rattle.jn_records.specs.Heads.{has_page, within}
-use Rattle.jn_files.specs.Table.{address_of, cut_addresses}
+use Rattle.jn_files.proofs.Common.{inl, inr, ◌≡◌, ◌≤◌, ◌<◌, ℕ, zero, suc, true, List, [], ◌∷◌, length, refl, sym, ap, ◌∙◌, arith, cases_lt, nat_tests, ext_get_or, slice_index, nat_le, list_all, Head, Free, Used, has_page, within, address_of, cut_addresses}
 
 pub cut_length : (n : ℕ) (xs : List ℕ) → length (cut_addresses n xs) ≡ length xs
 cut_length n [] = refl

@@ -1,16 +1,5 @@
 -- A file's head by the index of the files' numbers.
-use Rattle.std.proofs.Common.{◌≡◌, ◌<◌, ◌≤◌, ℕ, suc, Bool, true, false, List, [], ◌∷◌, length, Option, Some, None, inl, inr, refl, sym, ap, ◌∙◌, arith}
-use Rattle.std.proofs.lemmas.Bool.{cases_lt}
-use Rattle.std.proofs.lemmas.Bool.Decides.{nat_tests}
-use Rattle.std.proofs.lemmas.List.{get_or_past}
-use Rattle.std.specs.Prelude.{is_some, slice_index, IfSome, IfNone}
-use Rattle.jn_base.specs.declared.names.FileNo.{FileNo}
-use Rattle.jn_index.specs.Numbers.{number_at, is_above as is_number_above, IsSlotFrom, IsNumberAbove}
-use Rattle.jn_records.specs.declared.head.Head.{Head}
-use Rattle.jn_records.specs.declared.head.Head.TheVariants.{Free, Used}
-use Rattle.jn_files.specs.Table.{head_in, is_of, exists, addresses, addresses_of, address_of, address_for, or_nil}
-use Rattle.jn_files.specs.Calls.{is_above, NextFile}
-use Rattle.jn_files.specs.Inside.{AreIndexed, head_number, file_number}
+use Rattle.jn_files.proofs.Common.{◌≡◌, ◌<◌, ◌≤◌, ℕ, suc, Bool, true, false, List, [], ◌∷◌, length, Option, Some, None, inl, inr, refl, sym, ap, ◌∙◌, arith, cases_lt, nat_tests, get_or_past, is_some, slice_index, IfSome, IfNone, FileNo, number_at, is_number_above, IsSlotFrom, IsNumberAbove, Head, Free, Used, head_in, is_of, exists, addresses, addresses_of, address_of, address_for, or_nil, is_above, NextFile, AreIndexed, head_number, file_number}
 use Rattle.jn_files.proofs.Lookup.{absent_none, when_false, addresses_lowest}
 
 -- a head that the file has

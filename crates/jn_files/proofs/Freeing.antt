@@ -1,13 +1,6 @@
 -- Data pages become free one by one, as a head leads to them no more.
-use Rattle.std.proofs.Common.{◌≡◌, ◌⊎◌, inl, inr, ⊎_elim, ℕ, zero, suc, ◌+◌, ◌-◌, ◌≤◌, ◌<◌, Bool, true, false, List, length, refl, sym, subst, ◌∙◌, arith}
-use Rattle.std.proofs.lemmas.Bool.{cases_eq, cases_lt, false_from_ne_true}
-use Rattle.std.proofs.lemmas.Bool.Decides.{nat_tests}
-use Rattle.std.proofs.lemmas.List.{get_or-set_same, get_or-set_other, length-set}
-use Rattle.std.specs.Prelude.{nat_eq, slice_index_or, if◌then◌else◌}
-use Rattle.jn_alloc.specs.Free.{FreeNumbers, is_free, with_free}
-use Rattle.jn_records.specs.declared.head.Head.{Head}
-use Rattle.jn_files.specs.Table.{address_of}
-use Rattle.jn_files.specs.Inside.{ChangesBlocks, MayDrop, IsDropped, DropsAmong, Drops, freed_one}
+use Rattle.jn_files.proofs.Common.{◌≡◌, ◌⊎◌, inl, inr, ⊎_elim, ℕ, zero, suc, ◌+◌, ◌-◌, ◌≤◌, ◌<◌, Bool, true, false, List, length, refl, sym, subst, ◌∙◌, arith, cases_eq, cases_lt, false_from_ne_true, nat_tests, get_or-set_same, get_or-set_other, length-set, nat_eq, slice_index_or, if◌then◌else◌, FreeNumbers, with_free, Head, address_of, ChangesBlocks, MayDrop, IsDropped, DropsAmong, Drops, freed_one}
+use Rattle.jn_alloc.specs.Free.{is_free}
 
 one_less : (b : ℕ) → suc b - 1 ≡ b
 one_less b = omega arith

@@ -1,18 +1,5 @@
 -- Data pages: one is filled, held, or let go.
-use Rattle.std.proofs.Common.{◌≡◌, ◌≢◌, inl, inr, ◌<◌, ◌↔◌, ◌-◌, ℕ, suc, Bool, true, false, List, length, drop, replicate, refl, sym, ap, subst, ◌∙◌, arith}
-use Rattle.std.proofs.lemmas.Bool.{cases_eq, false_from_ne_true}
-use Rattle.std.proofs.lemmas.List.{drop_at, get_or-set_same, get_or-set_other, length-set}
-use Rattle.std.specs.Prelude.{slice_set, slice_index_or}
-use Rattle.jn_alloc.specs.Free.{FreeNumbers, count_of, is_free as is_free_number, with_free}
-use Rattle.jn_records.specs.declared.head.Head.{Head}
-use Rattle.jn_records.specs.Heads.{head_page}
-use Rattle.jn_records.specs.StablePages.{Pages, head_place, data_place, files_of_pages}
-use Rattle.jn_store.specs.Store.{StoreView, StorePut}
-use Rattle.jn_store.specs.Choices.{IsChoice}
-use Rattle.jn_files.specs.Table.{TableView, head_in, address_of, IsUnnamed, IsFreeLeaf, IsTable, AreHeads}
-use Rattle.jn_files.specs.Pages.{leaves_in, leaf_page, IsLeaf, HoldsTable, files_in}
-use Rattle.jn_files.specs.Calls.{HasPagesOfTable, Fills, with_touched}
-use Rattle.jn_files.specs.Inside.{table_view, IsNamedPage}
+use Rattle.jn_files.proofs.Common.{◌≡◌, ◌≢◌, inl, inr, ◌<◌, ◌↔◌, ◌-◌, ℕ, suc, Bool, true, false, List, length, drop, replicate, refl, sym, ap, subst, ◌∙◌, arith, cases_eq, false_from_ne_true, drop_at, get_or-set_same, get_or-set_other, length-set, slice_set, slice_index_or, FreeNumbers, count_of, is_free_number, with_free, Head, head_page, Pages, head_place, data_place, files_of_pages, StoreView, StorePut, IsChoice, TableView, head_in, address_of, IsUnnamed, IsFreeLeaf, IsTable, AreHeads, leaves_in, leaf_page, IsLeaf, HoldsTable, files_in, HasPagesOfTable, Fills, with_touched, table_view, IsNamedPage}
 use Rattle.jn_files.proofs.Putting.{files_said, same_leaves, says_choice, leaf_choice, files_first, named_below, same_leaf, same_only}
 use Rattle.jn_files.proofs.Setting.{set_below}
 

@@ -1,21 +1,6 @@
 -- A table is loaded, head by head, and what is free is counted out.
-use Rattle.std.proofs.Common.{◌≡◌, ◌≢◌, inl, inr, ◌<◌, ◌+◌, ◌-◌, ◌^◌, ℕ, zero, suc, Bool, true, false, List, [], ◌∷◌, ◌++◌, length, refl, sym, ap, subst, ◌∙◌, arith}
-use Rattle.std.proofs.lemmas.Bool.{cases_eq, cases_lt}
-use Rattle.std.proofs.lemmas.Bool.Decides.{nat_tests}
-use Rattle.std.proofs.lemmas.List.{get_or-set_same, get_or-set_other, length-set, get_or_past}
-use Rattle.std.specs.Prelude.{slice_index_or, take, nat_eq, if◌then◌else◌}
-use Rattle.jn_alloc.specs.Free.{FreeNumbers, is_free as is_free_number, with_free}
-use Rattle.jn_records.specs.declared.head.Head.{Head}
-use Rattle.jn_records.specs.declared.head.Head.TheVariants.{Free}
-use Rattle.jn_records.specs.Heads.{head_page}
-use Rattle.jn_records.specs.StablePages.{counts_of, Counts, head_place}
-use Rattle.jn_store.specs.Store.{StoreView, IsServed}
-use Rattle.jn_store.proofs.Laws.{later_refl, later_trans, same_refl, same_trans}
-use Rattle.jn_files.specs.Table.{head_in, address_of, AreHeads, IsTable}
-use Rattle.jn_files.specs.Pages.{IsLoadable}
+use Rattle.jn_files.proofs.Common.{◌≡◌, ◌≢◌, inl, inr, ◌<◌, ◌+◌, ◌-◌, ◌^◌, ℕ, zero, suc, Bool, true, false, List, [], ◌∷◌, ◌++◌, length, refl, sym, ap, subst, ◌∙◌, arith, cases_eq, cases_lt, nat_tests, get_or-set_same, get_or-set_other, length-set, get_or_past, slice_index_or, take, nat_eq, if◌then◌else◌, FreeNumbers, is_free_number, with_free, Head, Free, head_page, counts_of, Counts, head_place, StoreView, IsServed, later_refl, later_trans, same_refl, same_trans, head_in, address_of, AreHeads, IsTable, IsLoadable, StoreRead, IsLoaded, table_view, IsHeadAt, AreFreeHeads, AreFreeLeaves, MayTakeNamed, TakesNamed, taken_one, ReadTo}
 use Rattle.jn_records.specs.declared.root.Root.{Root}
-use Rattle.jn_files.specs.Calls.{StoreRead, IsLoaded}
-use Rattle.jn_files.specs.Inside.{table_view, IsHeadAt, AreFreeHeads, AreFreeLeaves, MayTakeNamed, TakesNamed, taken_one, ReadTo}
 use Rattle.jn_files.proofs.Cutting.{address_below}
 use Rattle.jn_files.proofs.Putting.{named_below, same_only}
 use Rattle.jn_files.proofs.Setting.{set_below}

@@ -1,12 +1,5 @@
 -- The head of a file among the heads.
-use Rattle.std.proofs.Common.{◌≡◌, ◌≤◌, ℕ, zero, suc, Bool, true, false, List, [], ◌∷◌, Option, Some, None, refl, sym, ap, ◌∙◌, arith}
-use Rattle.std.proofs.lemmas.Bool.{false_from_ne_true}
-use Rattle.std.proofs.lemmas.Bool.Decides.{nat_tests}
-use Rattle.std.specs.Prelude.{is_some, slice_set, slice_index, if◌then◌else◌}
-use Rattle.jn_base.specs.declared.names.FileNo.{FileNo}
-use Rattle.jn_records.specs.declared.head.Head.{Head}
-use Rattle.jn_records.specs.declared.head.Head.TheVariants.{Free, Used}
-use Rattle.jn_files.specs.Table.{head_in, is_of, exists, addresses_of, address_of, addresses, address_for, or_nil}
+use Rattle.jn_files.proofs.Common.{◌≡◌, ◌≤◌, ℕ, zero, suc, Bool, true, false, List, [], ◌∷◌, Option, Some, None, refl, sym, ap, ◌∙◌, arith, false_from_ne_true, nat_tests, is_some, slice_set, slice_index, if◌then◌else◌, FileNo, Head, Free, Used, head_in, is_of, exists, addresses_of, address_of, addresses, address_for, or_nil}
 
 -- either one, by a test that is known
 pub when_true : {A : Type 0} (b : Bool) (x y : A) → b ≡ true → (if b then x else y) ≡ x

@@ -1,12 +1,5 @@
 -- The flags of the data pages that heads name.
-use Rattle.std.proofs.Common.{◌≡◌, ◌≢◌, ◌⊎◌, inl, inr, ⊎_elim, ℕ, zero, suc, ◌+◌, ◌-◌, ◌≤◌, ◌<◌, Bool, true, false, List, length, refl, sym, ap, subst, ◌∙◌, arith}
-use Rattle.std.proofs.lemmas.Bool.{cases_eq, cases_lt}
-use Rattle.std.proofs.lemmas.Bool.Decides.{nat_tests}
-use Rattle.std.proofs.lemmas.List.{get_or-set_same, get_or-set_other, length-set}
-use Rattle.std.specs.Prelude.{nat_eq, not, slice_index_or, slice_set}
-use Rattle.jn_records.specs.declared.head.Head.{Head}
-use Rattle.jn_files.specs.Table.{head_in, address_of, AreHeads, IsHeadOf, IsUnnamed}
-use Rattle.jn_files.specs.Inside.{IsNamedPage, AreNamed, NamesAmong, NamedBefore, Marks, ChangesBlocks, marked_one}
+use Rattle.jn_files.proofs.Common.{◌≡◌, ◌≢◌, ◌⊎◌, inl, inr, ⊎_elim, ℕ, zero, suc, ◌+◌, ◌-◌, ◌≤◌, ◌<◌, Bool, true, false, List, length, refl, sym, ap, subst, ◌∙◌, arith, cases_eq, cases_lt, nat_tests, get_or-set_same, get_or-set_other, length-set, nat_eq, not, slice_index_or, slice_set, Head, head_in, address_of, AreHeads, IsHeadOf, IsUnnamed, IsNamedPage, AreNamed, NamesAmong, NamedBefore, Marks, ChangesBlocks, marked_one}
 use Rattle.jn_files.proofs.Cutting.{address_within, address_below}
 use Rattle.jn_files.proofs.Lookup.{when_false}
 use Rattle.jn_files.proofs.Standing.{head_at_slot, head_off_slot}

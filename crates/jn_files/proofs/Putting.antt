@@ -1,26 +1,6 @@
 -- What a store holds over the put of a head.
-use Rattle.std.proofs.Common.{◌≡◌, ◌≢◌, ◌⊎◌, inl, inr, ⊎_elim, ◌<◌, ◌+◌, ◌^◌, ℕ, zero, suc, Bool, true, false, List, [], ◌∷◌, length, drop, Option, Some, None, refl, sym, ap, subst, ◌∙◌, arith}
-use Rattle.std.proofs.Math.Path.{fun_ext}
-use Rattle.std.proofs.lemmas.Bool.{cases_eq, cases_lt}
-use Rattle.std.proofs.lemmas.Bool.Decides.{nat_tests}
-use Rattle.std.proofs.lemmas.List.{length-set}
-use Rattle.std.specs.Prelude.{slice_set, slice_index, take, nat_lt, option_map, option_and_then}
-use Rattle.jn_base.specs.declared.names.FileNo.{FileNo}
-use Rattle.jn_base.specs.declared.names.BlockNo.{BlockNo}
-use Rattle.jn_base.specs.declared.names.LockUnit.{LockUnit}
-use Rattle.jn_base.specs.declared.names.LockUnit.TheVariants.{File, Block}
-use Rattle.jn_order.specs.Files.{Change, change, there}
-use Rattle.jn_records.specs.declared.head.Head.{Head}
-use Rattle.jn_records.specs.declared.head.Head.TheVariants.{Used}
-use Rattle.jn_records.specs.Heads.{head_page, FileFits, IsHead}
-use Rattle.jn_records.specs.StablePages.{Counts, Pages, head_place, data_place, page_count, is_head_of, head_from, head_of, address_in, block_behind, block_in, files_of_pages}
-use Rattle.jn_store.specs.Store.{StoreView, IsOnly, IsSamePage, StorePut}
-use Rattle.jn_store.specs.Choices.{IsChoice, Leads, with_page}
+use Rattle.jn_files.proofs.Common.{◌≡◌, ◌≢◌, ◌⊎◌, inl, inr, ⊎_elim, ◌<◌, ◌+◌, ◌^◌, ℕ, zero, suc, Bool, true, false, List, [], ◌∷◌, length, drop, Option, Some, None, refl, sym, ap, subst, ◌∙◌, arith, fun_ext, cases_eq, cases_lt, nat_tests, length-set, slice_set, slice_index, take, nat_lt, option_map, option_and_then, FileNo, BlockNo, LockUnit, File, Block, Change, change, there, Head, Used, head_page, FileFits, IsHead, Counts, Pages, head_place, data_place, page_count, is_head_of, head_from, head_of, address_in, block_behind, block_in, files_of_pages, StoreView, IsOnly, IsSamePage, StorePut, IsChoice, Leads, with_page, TableView, head_in, is_of, addresses_of, address_of, addresses, address_for, or_nil, behind, files_of, AreHeads, IsTable, Says, leaves_in, IsLeaf, HoldsHeads, HoldsTable, files_in, HasPagesOfTable, IsChanged, PutsHead, IsChange, AreLeaves}
 use Rattle.jn_store.proofs.Choices.{choice_only, put_leads, done_leads, with_same, with_other, some_choice}
-use Rattle.jn_files.specs.Table.{TableView, head_in, is_of, addresses_of, address_of, addresses, address_for, or_nil, behind, files_of, AreHeads, IsTable}
-use Rattle.jn_files.specs.Pages.{Says, leaves_in, IsLeaf, HoldsHeads, HoldsTable, files_in}
-use Rattle.jn_files.specs.Calls.{HasPagesOfTable, IsChanged, PutsHead}
-use Rattle.jn_files.specs.Inside.{IsChange, AreLeaves}
 use Rattle.jn_files.proofs.Cutting.{address_within, address_past}
 use Rattle.jn_files.proofs.Lookup.{when_true, when_false, named_by, of_used}
 use Rattle.jn_files.proofs.Standing.{head_at_slot, head_off_slot}

@@ -1,22 +1,5 @@
 -- The heads that the calls put may stand in their slots, and what each makes of the files.
-use Rattle.std.proofs.Common.{◌≡◌, ◌⊎◌, inl, inr, ⊎_elim, ◌<◌, ◌≤◌, ◌+◌, ◌^◌, ℕ, zero, suc, Bool, true, false, List, [], ◌∷◌, length, replicate, refl, sym, ap, subst, ◌∙◌, arith}
-use Rattle.std.proofs.lemmas.Bool.{cases_eq, cases_lt, false_from_ne_true}
-use Rattle.std.proofs.lemmas.Bool.Decides.{nat_tests}
-use Rattle.std.proofs.lemmas.List.{get_or_past, get_or-set_same, get_or-set_other, length-set}
-use Rattle.std.specs.Prelude.{slice_set, slice_index, slice_index_or, take, nat_le}
-use Rattle.std.specs.List.{list_all}
-use Rattle.jn_alloc.specs.Free.{free_count, is_free as is_free_number, IsLeastFree}
-use Rattle.jn_base.specs.declared.names.FileNo.{FileNo}
-use Rattle.jn_base.specs.declared.names.BlockNo.{BlockNo}
-use Rattle.jn_order.specs.Files.{Change, created, removed, cut_from, written}
-use Rattle.jn_records.specs.declared.head.Head.{Head}
-use Rattle.jn_records.specs.declared.head.Head.TheVariants.{Free, Used}
-use Rattle.jn_store.specs.Store.{StoreView}
-use Rattle.jn_files.specs.Table.{TableView, head_in, is_free, is_of, exists, address_of, IsHeadOf, IsTable, fresh_head, cut_addresses}
-use Rattle.jn_files.specs.Pages.{IsLeaf}
-use Rattle.jn_records.specs.StablePages.{data_place}
-use Rattle.jn_files.specs.Calls.{IsPlaceOf, MayBecome, PutsHead, SetsHead}
-use Rattle.jn_files.specs.Inside.{MayStand, ChangesBlocks, IsChange, AreLeaves}
+use Rattle.jn_files.proofs.Common.{◌≡◌, ◌⊎◌, inl, inr, ⊎_elim, ◌<◌, ◌≤◌, ◌+◌, ◌^◌, ℕ, zero, suc, Bool, true, false, List, [], ◌∷◌, length, replicate, refl, sym, ap, subst, ◌∙◌, arith, cases_eq, cases_lt, false_from_ne_true, nat_tests, get_or_past, get_or-set_same, get_or-set_other, length-set, slice_set, slice_index, slice_index_or, take, nat_le, list_all, free_count, is_free_number, IsLeastFree, FileNo, BlockNo, Change, created, removed, cut_from, written, Head, Free, Used, StoreView, TableView, head_in, is_free, is_of, exists, address_of, IsHeadOf, IsTable, fresh_head, cut_addresses, IsLeaf, data_place, IsPlaceOf, MayBecome, PutsHead, SetsHead, MayStand, ChangesBlocks, IsChange, AreLeaves}
 use Rattle.jn_files.proofs.Cutting.{cut_length, cut_kept, cut_gone}
 use Rattle.jn_files.proofs.Lookup.{absent_none, of_one}
 use Rattle.jn_files.proofs.Changing.{zeros_at, becomes_fresh, becomes_gone, becomes_cut, becomes_written}

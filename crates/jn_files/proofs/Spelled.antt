@@ -1,17 +1,7 @@
 -- What the page of a head says.
-use Rattle.std.proofs.Common.{◌≡◌, ◌<◌, ◌≤◌, ◌+◌, ◌*◌, ◌-◌, ◌^◌, ◌++◌, ℕ, zero, suc, true, List, [], ◌∷◌, length, replicate, drop, refl, ap, ◌∙◌, arith}
-use Rattle.std.specs.Prelude.{slice_index, flat_map, nat_le, nat_eq}
-use Rattle.std.specs.List.{list_all}
-use Rattle.std.proofs.lemmas.Bool.Decides.{nat_tests}
-use Rattle.std.proofs.lemmas.List.{append_assoc}
+use Rattle.jn_files.proofs.Common.{◌≡◌, ◌<◌, ◌≤◌, ◌+◌, ◌*◌, ◌-◌, ◌^◌, ◌++◌, ℕ, zero, suc, true, List, [], ◌∷◌, length, replicate, drop, refl, ap, ◌∙◌, arith, slice_index, flat_map, nat_le, nat_eq, list_all, nat_tests, append_assoc, FileNo, Head, Free, Used, head_page, head_bytes, FileFits, is_head_of, address_in, is_of}
 use Rattle.byteorder.specs.Endian.{big_bytes, big_number}
 use Rattle.byteorder.specs.Numbers.{big_number-reads_back, length-bytes_high_first}
-use Rattle.jn_base.specs.declared.names.FileNo.{FileNo}
-use Rattle.jn_records.specs.declared.head.Head.{Head}
-use Rattle.jn_records.specs.declared.head.Head.TheVariants.{Free, Used}
-use Rattle.jn_records.specs.Heads.{head_page, head_bytes, FileFits}
-use Rattle.jn_records.specs.StablePages.{is_head_of, address_in}
-use Rattle.jn_files.specs.Table.{is_of}
 
 abbrev used_page : (f : FileNo) (xs : List ℕ) → List ℕ
 used_page f xs = 1 ∷ (big_bytes 4 f.0 ++ (flat_map (λ a. big_bytes 2 a) xs ++ replicate (512 - length (head_bytes (Used f xs))) 0))

@@ -1,15 +1,6 @@
 -- A head takes the place of a slot's, and the table stays one.
-use Rattle.std.proofs.Common.{◌≡◌, ◌≢◌, inl, inr, ⊎_elim, ℕ, suc, ◌<◌, Bool, true, false, List, length, refl, sym, ap, subst, ◌∙◌, arith}
-use Rattle.std.proofs.lemmas.Bool.{cases_eq, cases_Bool, false_from_ne_true}
-use Rattle.std.proofs.lemmas.List.{get_or-set_same, get_or-set_other, length-set}
-use Rattle.std.specs.Prelude.{slice_set, slice_index_or}
-use Rattle.jn_alloc.specs.Free.{FreeNumbers, is_free as is_free_number}
-use Rattle.jn_records.specs.declared.head.Head.{Head}
-use Rattle.jn_records.specs.declared.head.Head.TheVariants.{Free}
-use Rattle.jn_records.specs.StablePages.{Counts as PageCounts}
-use Rattle.jn_files.specs.Table.{TableView, head_in, is_free, is_of, address_of, AreHeads, IsHeadOf, IsFreeLeaf, IsTable, IsUnnamed}
-use Rattle.jn_files.specs.Calls.{IsChanged}
-use Rattle.jn_files.specs.Inside.{table_view, MayStand, MayDrop, DropsAmong, Drops, Counts}
+use Rattle.jn_files.proofs.Common.{◌≡◌, ◌≢◌, inl, inr, ⊎_elim, ℕ, suc, ◌<◌, Bool, true, false, List, length, refl, sym, ap, subst, ◌∙◌, arith, cases_eq, cases_Bool, false_from_ne_true, get_or-set_same, get_or-set_other, length-set, slice_set, slice_index_or, FreeNumbers, is_free_number, Head, Free, PageCounts, TableView, head_in, is_free, is_of, address_of, AreHeads, IsHeadOf, IsFreeLeaf, IsTable, IsUnnamed, IsChanged, table_view, MayStand, MayDrop, DropsAmong, Drops}
+use Rattle.jn_files.specs.Inside.{Counts}
 use Rattle.jn_files.proofs.Cutting.{address_within, address_below}
 
 pub head_at_slot : (heads : List Head) (slot : ℕ) (h : Head) (j : ℕ) → slot < length heads → j ≡ slot → head_in (slice_set heads slot h) j ≡ h

@@ -1,19 +1,6 @@
 -- Data pages are touched: cleaned before their first get, or put.
-use Rattle.std.proofs.Common.{◌≡◌, ◌≢◌, ⊎_elim, ◌<◌, ◌≤◌, ◌+◌, ◌-◌, ℕ, suc, Bool, true, false, List, length, Option, Some, Result, Ok, refl, sym, ap, subst, ◌∙◌, true≢false, arith}
-use Rattle.std.proofs.lemmas.Bool.{cases_eq}
-use Rattle.std.proofs.lemmas.List.{get_or-set_same, get_or-set_other}
-use Rattle.std.specs.Prelude.{slice_set, slice_index_or, take, is_ok}
+use Rattle.jn_files.proofs.Common.{◌≡◌, ◌≢◌, ⊎_elim, ◌<◌, ◌≤◌, ◌+◌, ◌-◌, ℕ, suc, Bool, true, false, List, length, Option, Some, Result, Ok, refl, sym, ap, subst, ◌∙◌, true≢false, arith, cases_eq, get_or-set_same, get_or-set_other, slice_set, slice_index_or, take, is_ok, FileNo, BlockNo, Block, Files, Counts, data_place, StoreView, StoreLater, StoreGot, StoreCleaned, Candidate, IsSamePage, IsStop, IsCalm, IsWholePage, IsOnly, later_refl, later_trans, same_refl, same_trans, shrinks_only, stop_since, TableView, address_of, address_for, behind, head_in, is_touched, IsTable, leaves_in, IsLeaf, HoldsTable, files_in, HasPagesOfTable, Touches, BlockGot}
 use Rattle.jn_base.specs.declared.device.Stopped.{Stopped}
-use Rattle.jn_base.specs.declared.names.FileNo.{FileNo}
-use Rattle.jn_base.specs.declared.names.BlockNo.{BlockNo}
-use Rattle.jn_base.specs.declared.names.LockUnit.TheVariants.{Block}
-use Rattle.jn_order.specs.Files.{Files}
-use Rattle.jn_records.specs.StablePages.{Counts, data_place}
-use Rattle.jn_store.specs.Store.{StoreView, StoreLater, StoreGot, StoreCleaned, Candidate, IsSamePage, IsStop, IsCalm, IsWholePage, IsOnly}
-use Rattle.jn_store.proofs.Laws.{later_refl, later_trans, same_refl, same_trans, shrinks_only, stop_since}
-use Rattle.jn_files.specs.Table.{TableView, address_of, address_for, behind, head_in, is_touched, IsTable}
-use Rattle.jn_files.specs.Pages.{leaves_in, IsLeaf, HoldsTable, files_in}
-use Rattle.jn_files.specs.Calls.{HasPagesOfTable, Touches, BlockGot}
 use Rattle.jn_files.proofs.Lookup.{named_by}
 use Rattle.jn_files.proofs.Putting.{files_first, named_below}
 

@@ -1,11 +1,7 @@
 -- A work that is carried out again.
-use Rattle.std.proofs.Common.{◌≡◌, ℕ, List, [], ◌∷◌, map, refl, sym, ◌∙◌, ap}
-use Rattle.jn_base.specs.declared.names.WorkId.{WorkId}
+use Rattle.jn_found.proofs.Common.{◌≡◌, ℕ, List, [], ◌∷◌, map, refl, sym, ◌∙◌, ap, WorkId, carried_out, after_turns, intention_change, change, StableState, made_all, CarryOut}
 use Rattle.jn_records.specs.declared.intention.Intention.{Intention}
-use Rattle.jn_records.specs.NetLists.{carried_out, after_turns, intention_change}
 use Rattle.jn_records.proofs.CarriedLemmas.{turns-again}
-use Rattle.jn_order.specs.Files.{change}
-use Rattle.jn_rows.specs.Stable.{StableState, made_all, CarryOut}
 
 pub carried_files : (work : WorkId) (list : List Intention) (x : StableState) → made_all (map (λ i. CarryOut work i) list) x ≡ record x { files = carried_out list x.files }
 carried_files work [] x = refl

@@ -1,21 +1,5 @@
 -- One more intention of a work that is being prepared.
-use Rattle.std.proofs.Common.{◌≡◌, ◌≢◌, inl, inr, ⊎_elim, ◌<◌, ◌+◌, ◌++◌, ℕ, zero, suc, Bool, true, false, ◌&&◌, if◌then◌else◌, List, [], ◌∷◌, length, Option, Some, None, refl, sym, ap, subst, ◌∙◌, true≢false, arith}
-use Rattle.std.proofs.lemmas.Bool.{cases_eq}
-use Rattle.std.proofs.lemmas.Bool.Decides.{nat_tests}
-use Rattle.std.proofs.lemmas.List.{length-append}
-use Rattle.std.proofs.lemmas.List.Folds.{find_past}
-use Rattle.std.specs.Prelude.{slice_set, nat_eq, is_some, option_and_then}
-use Rattle.std.specs.List.{list_any}
-use Rattle.jn_base.specs.declared.names.Tid.{Tid}
-use Rattle.jn_base.specs.declared.names.WorkId.{WorkId}
-use Rattle.jn_base.specs.Names.{work_eq}
-use Rattle.jn_base.proofs.Tells.{work_tells}
-use Rattle.jn_records.specs.declared.intention.StoredIntention.{StoredIntention}
-use Rattle.jn_records.specs.declared.record.Record.{Record}
-use Rattle.jn_records.specs.declared.record.Record.TheVariants.{Free, Intention}
-use Rattle.jn_sets.specs.Pool.{record_in, is_intention}
-use Rattle.jn_found.specs.Contents.{stored_in, intention_of, with_first, intentions_from, stored_list}
-use Rattle.jn_found.specs.Recoverable.{HasIntentions, HasFirst, HasNone}
+use Rattle.jn_found.proofs.Common.{◌≡◌, ◌≢◌, inl, inr, ⊎_elim, ◌<◌, ◌+◌, ◌++◌, ℕ, zero, suc, Bool, true, false, ◌&&◌, if◌then◌else◌, List, [], ◌∷◌, length, Option, Some, None, refl, sym, ap, subst, ◌∙◌, true≢false, arith, cases_eq, nat_tests, length-append, find_past, slice_set, nat_eq, is_some, option_and_then, list_any, Tid, WorkId, work_eq, work_tells, StoredIntention, Record, Free, Intention, record_in, is_intention, stored_in, intention_of, with_first, intentions_from, stored_list, HasIntentions, HasFirst, HasNone}
 use Rattle.jn_found.proofs.Found.{found_written}
 use Rattle.jn_found.proofs.Slots.{passes_at, at_set, once_set}
 

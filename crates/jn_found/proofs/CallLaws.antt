@@ -1,30 +1,6 @@
 -- The puts of a storage's calls on a store that stands.
-use Rattle.std.proofs.Common.{◌≡◌, ⊎_elim, ◌<◌, ◌≤◌, ◌||◌, ℕ, suc, Bool, true, false, List, refl, sym, ap, subst, ◌∙◌, true≢false, arith}
-use Rattle.std.proofs.lemmas.Bool.Decides.{nat_tests}
-use Rattle.std.specs.Prelude.{nat_eq}
-use Rattle.jn_base.specs.declared.names.LockUnit.{LockUnit}
-use Rattle.jn_base.specs.declared.names.ServerNo.{ServerNo}
-use Rattle.jn_base.specs.declared.names.Tid.{Tid}
-use Rattle.jn_base.specs.declared.names.WorkId.{WorkId}
-use Rattle.jn_records.specs.declared.flag.Flag.{Flag}
-use Rattle.jn_records.specs.declared.head.Head.{Head}
+use Rattle.jn_found.proofs.Common.{◌≡◌, ⊎_elim, ◌<◌, ◌≤◌, ◌||◌, ℕ, suc, Bool, true, false, List, refl, sym, ap, subst, ◌∙◌, true≢false, arith, nat_tests, nat_eq, LockUnit, ServerNo, Tid, WorkId, Flag, Head, StoredIntention, Record, Free, Ready, Going, FlagRecord, WorkHead, Counts, data_place, StableState, Pick, made_by, AddReady, MarkGoing, CarryOut, RemoveWork, AddFlag, DropFlag, record_in, IsLoadable, StoreView, IsClean, Contents, state_in, intended, heads_name, works_name, IsIdlePut, IsReadyPut, IsReadySlot, IsPreparedSlot, IsFlagPut, IsFlagSlot, IsHeadPut, held_contents, block_on, pages_by, RootPut, RecordPut, HeadPut, BlockPut, put_in, contents_by, IsPut, IsCompleteBy, Intends, HasAt, IsWholeWork, IsRecoverable, IsStanding, IsPutStep, MayChange, Makes, MakesNothing, MakesEpoch, standing_state}
 use Rattle.jn_records.specs.declared.intention.Intention.{Intention}
-use Rattle.jn_records.specs.declared.intention.StoredIntention.{StoredIntention}
-use Rattle.jn_records.specs.declared.record.Record.{Record}
-use Rattle.jn_records.specs.declared.record.Record.TheVariants.{Free, Ready, Going, Flag as FlagRecord}
-use Rattle.jn_records.specs.declared.work.WorkHead.{WorkHead}
-use Rattle.jn_records.specs.StablePages.{Counts, data_place}
-use Rattle.jn_rows.specs.Stable.{StableState, Pick, made_by, AddReady, MarkGoing, CarryOut, RemoveWork, AddFlag, DropFlag}
-use Rattle.jn_sets.specs.Pool.{record_in}
-use Rattle.jn_storage.specs.Storage.{IsLoadable}
-use Rattle.jn_store.specs.Store.{StoreView, IsClean}
-use Rattle.jn_found.specs.Contents.{Contents, state_in, intended, heads_name, works_name}
-use Rattle.jn_found.specs.Changes.{IsIdlePut, IsReadyPut, IsReadySlot, IsPreparedSlot, IsFlagPut, IsFlagSlot, IsHeadPut}
-use Rattle.jn_found.specs.Held.{held_contents}
-use Rattle.jn_found.specs.Pages.{block_on, pages_by}
-use Rattle.jn_found.specs.Puts.{RootPut, RecordPut, HeadPut, BlockPut, put_in, contents_by, IsPut}
-use Rattle.jn_found.specs.Recoverable.{IsCompleteBy, Intends, HasAt, IsWholeWork, IsRecoverable}
-use Rattle.jn_found.specs.Standing.{IsStanding, IsPutStep, MayChange, Makes, MakesNothing, MakesEpoch, standing_state}
 use Rattle.jn_found.proofs.ConsistentPuts.{idle_consistent, idle_named, going_consistent, going_named, removed_consistent, removed_named, flag_consistent, flag_named, dropped_consistent, dropped_named}
 use Rattle.jn_found.proofs.FillLaws.{fill_law}
 use Rattle.jn_found.proofs.HeadKept.{head_consistent, head_named}

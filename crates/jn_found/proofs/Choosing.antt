@@ -1,12 +1,5 @@
 -- Picks of halves and choices of candidates are the same.
-use Rattle.std.proofs.Common.{◌≡◌, ◌⊎◌, inl, inr, ◌<◌, ◌≤◌, ℕ, Bool, true, false, if◌then◌else◌, List, [], refl, sym, ap, subst, ◌∙◌, arith}
-use Rattle.std.specs.Prelude.{nat_lt}
-use Rattle.std.proofs.lemmas.Bool.{cases_lt}
-use Rattle.std.proofs.lemmas.Bool.Decides.{nat_tests}
-use Rattle.jn_rows.specs.Stable.{Pick}
-use Rattle.jn_store.specs.Store.{StoreView, Candidate}
-use Rattle.jn_store.specs.Choices.{IsChoice, Agree}
-use Rattle.jn_found.specs.Pages.{half_of, pages_by}
+use Rattle.jn_found.proofs.Common.{◌≡◌, ◌⊎◌, inl, inr, ◌<◌, ◌≤◌, ℕ, Bool, true, false, if◌then◌else◌, List, [], refl, sym, ap, subst, ◌∙◌, arith, nat_lt, cases_lt, nat_tests, Pick, StoreView, Candidate, IsChoice, Agree, half_of, pages_by}
 
 module _ (v : StoreView) where
   inside : (a b : ℕ) → a < b → nat_lt a b ≡ true

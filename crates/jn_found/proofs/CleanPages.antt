@@ -1,19 +1,5 @@
 -- Where what is read has one candidate, all picks find one state.
-use Rattle.std.proofs.Common.{◌≡◌, ⊎_elim, ◌≤◌, ℕ, Bool, true, false, if◌then◌else◌, [], refl, sym, ap, ◌∙◌, arith}
-use Rattle.std.proofs.lemmas.Bool.{cases_lt}
-use Rattle.std.proofs.lemmas.Bool.Decides.{nat_tests}
-use Rattle.std.specs.Prelude.{nat_lt, take}
-use Rattle.jn_base.specs.declared.names.ServerNo.{ServerNo}
-use Rattle.jn_records.specs.Heads.{head_at}
-use Rattle.jn_records.specs.Reading.{root_at}
-use Rattle.jn_records.specs.Records.{record_at}
-use Rattle.jn_records.specs.StablePages.{Counts, page_count, slot_place, head_place, data_place}
-use Rattle.jn_rows.specs.Stable.{Pick, IsUp}
-use Rattle.jn_store.specs.Store.{StoreView, IsClean}
-use Rattle.jn_found.specs.Contents.{state_in}
-use Rattle.jn_found.specs.Pages.{half_of, pages_by, found_on, contents_of, epoch_by, record_or_free, head_or_free, record_on, head_on, block_on}
-use Rattle.jn_found.specs.Recoverable.{NamedAreClean, is_named}
-use Rattle.jn_found.specs.Puts.{IsReadable, IsFrontClean}
+use Rattle.jn_found.proofs.Common.{◌≡◌, ⊎_elim, ◌≤◌, ℕ, Bool, true, false, if◌then◌else◌, [], refl, sym, ap, ◌∙◌, arith, cases_lt, nat_tests, nat_lt, take, ServerNo, head_at, root_at, record_at, Counts, page_count, slot_place, head_place, data_place, Pick, IsUp, StoreView, IsClean, state_in, half_of, pages_by, found_on, contents_of, epoch_by, record_or_free, head_or_free, record_on, head_on, block_on, NamedAreClean, is_named, IsReadable, IsFrontClean}
 use Rattle.jn_found.proofs.FilesOnPages.{state_on_pages}
 use Rattle.jn_found.proofs.FillLaws.{named_read}
 use Rattle.jn_found.proofs.PageChanges.{contents_as, listed_same}

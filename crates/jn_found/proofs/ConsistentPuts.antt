@@ -1,24 +1,5 @@
 -- Each put of a record leaves what a recovery asks.
-use Rattle.std.proofs.Common.{◌≡◌, ◌⊎◌, inl, inr, ℕ, suc, ◌<◌, Bool, true, false, ◌||◌, List, length, refl, sym, ◌∙◌, ap, subst, true≢false, arith}
-use Rattle.std.specs.Prelude.{slice_set}
-use Rattle.std.specs.List.{list_any}
-use Rattle.jn_base.specs.declared.names.LockUnit.{LockUnit}
-use Rattle.jn_base.specs.declared.names.ServerNo.{ServerNo}
-use Rattle.jn_base.specs.declared.names.Tid.{Tid}
-use Rattle.jn_base.specs.declared.names.WorkId.{WorkId}
-use Rattle.jn_base.specs.Names.{tid_eq}
-use Rattle.jn_base.proofs.Tells.{tid_tells}
-use Rattle.jn_records.specs.declared.flag.Flag.{Flag}
-use Rattle.jn_records.specs.declared.record.Record.{Record}
-use Rattle.jn_records.specs.declared.record.Record.TheVariants.{Free, Intention, Ready, Going, Flag as FlagRecord}
-use Rattle.jn_records.specs.declared.work.WorkHead.{WorkHead}
-use Rattle.jn_records.specs.StablePages.{Counts}
-use Rattle.jn_rows.specs.Stable.{made_by, MarkGoing, RemoveWork, AddFlag, DropFlag}
-use Rattle.jn_sets.specs.Pool.{record_in, is_prepared, is_intention, is_flag}
-use Rattle.jn_storage.specs.Storage.{IsLoadable}
-use Rattle.jn_found.specs.Contents.{Contents, state_in, heads_name, works_name}
-use Rattle.jn_found.specs.Changes.{with_record, is_idle, IsIdlePut, IsReadySlot, IsPreparedSlot, IsFlagPut, IsFlagSlot}
-use Rattle.jn_found.specs.Recoverable.{IsCompleteBy, IsConsistent, is_named}
+use Rattle.jn_found.proofs.Common.{◌≡◌, ◌⊎◌, inl, inr, ℕ, suc, ◌<◌, Bool, true, false, ◌||◌, List, length, refl, sym, ◌∙◌, ap, subst, true≢false, arith, slice_set, list_any, LockUnit, ServerNo, Tid, WorkId, tid_eq, tid_tells, Flag, Record, Free, Intention, Ready, Going, FlagRecord, WorkHead, Counts, made_by, MarkGoing, RemoveWork, AddFlag, DropFlag, record_in, is_prepared, is_intention, is_flag, IsLoadable, Contents, state_in, heads_name, works_name, with_record, is_idle, IsIdlePut, IsReadySlot, IsPreparedSlot, IsFlagPut, IsFlagSlot, IsCompleteBy, IsConsistent, is_named}
 use Rattle.jn_found.proofs.Slots.{any_fewer}
 use Rattle.jn_found.proofs.Naming.{named_intends, intends_named}
 use Rattle.jn_found.proofs.PoolLemmas.{idle_kept, idle_flag, idle_list}

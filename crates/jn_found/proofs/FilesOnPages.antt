@@ -1,23 +1,5 @@
 -- The files of pages are those of the heads that stand on them.
-use Rattle.std.proofs.Common.{◌≡◌, ⊎_elim, ◌<◌, ◌≤◌, ◌+◌, ◌^◌, ℕ, zero, suc, Bool, true, false, if◌then◌else◌, List, Option, Some, None, refl, sym, ap, subst, ◌∙◌, true≢false, arith}
-use Rattle.std.proofs.Math.Path.{fun_ext}
-use Rattle.std.specs.Prelude.{slice_index_or, nat_lt, option_map, option_and_then}
-use Rattle.std.specs.List.{find}
-use Rattle.std.proofs.lemmas.Bool.{cases_lt}
-use Rattle.std.proofs.lemmas.Bool.Decides.{nat_tests}
-use Rattle.std.proofs.lemmas.List.{get_or_past}
-use Rattle.jn_base.specs.declared.names.FileNo.{FileNo}
-use Rattle.jn_base.specs.declared.names.BlockNo.{BlockNo}
-use Rattle.jn_base.specs.declared.names.LockUnit.{LockUnit}
-use Rattle.jn_base.specs.declared.names.LockUnit.TheVariants.{File, Block}
-use Rattle.jn_order.specs.Files.{there}
-use Rattle.jn_records.specs.declared.head.Head.{Head}
-use Rattle.jn_records.specs.declared.head.Head.TheVariants.{Free as FreeHead, Used}
-use Rattle.jn_records.specs.Heads.{head_page, IsHead, FileFits}
-use Rattle.jn_records.specs.StablePages.{Counts, Pages, head_place, address_in, is_head_of as is_page_of, head_from, head_of, block_behind, block_in as block_on_page, files_of_pages}
-use Rattle.jn_records.proofs.Heads.{head_is_read}
-use Rattle.jn_found.specs.Contents.{is_head_of, behind, block_in, files_in, state_in}
-use Rattle.jn_found.specs.Pages.{head_or_free, head_on, heads_on, block_on, listed, IsHeadPage, state_of, contents_of}
+use Rattle.jn_found.proofs.Common.{◌≡◌, ⊎_elim, ◌<◌, ◌≤◌, ◌+◌, ◌^◌, ℕ, zero, suc, Bool, true, false, if◌then◌else◌, List, Option, Some, None, refl, sym, ap, subst, ◌∙◌, true≢false, arith, fun_ext, slice_index_or, nat_lt, option_map, option_and_then, find, cases_lt, nat_tests, get_or_past, FileNo, BlockNo, LockUnit, File, Block, there, Head, FreeHead, Used, head_page, IsHead, FileFits, Counts, Pages, head_place, address_in, is_page_of, head_from, head_of, block_behind, block_on_page, files_of_pages, head_is_read, is_head_of, behind, block_in, files_in, state_in, head_or_free, head_on, heads_on, block_on, listed, IsHeadPage, state_of, contents_of}
 use Rattle.jn_found.proofs.HeadPages.{free_unused, used_kind, used_file, used_address, whole}
 
 module _ (g : Counts) (pages : Pages) (few : g.leaves < 2 ^ 16) where

@@ -1,28 +1,5 @@
 -- The state reads named data pages alone.
-use Rattle.std.proofs.Common.{◌≡◌, ℕ, zero, suc, Bool, true, false, ◌&&◌, if◌then◌else◌, List, ◌∷◌, map, Option, None, Some, get_or, refl, sym, ◌∙◌, ap, subst, true≢false, arith}
-use Rattle.std.proofs.Math.Path.{fun_ext}
-use Rattle.std.proofs.lemmas.Bool.Decides.{nat_tests}
-use Rattle.std.specs.List.{find, list_any}
-use Rattle.std.specs.Prelude.{nat_eq, option_and_then}
-use Rattle.jn_base.specs.declared.names.BlockNo.{BlockNo}
-use Rattle.jn_base.specs.declared.names.FileNo.{FileNo}
-use Rattle.jn_base.specs.declared.names.LockUnit.{LockUnit}
-use Rattle.jn_base.specs.declared.names.LockUnit.TheVariants.{File, Block}
-use Rattle.jn_base.specs.declared.names.WorkId.{WorkId}
-use Rattle.jn_base.specs.Names.{work_eq}
-use Rattle.jn_base.proofs.Tells.{work_tells}
-use Rattle.jn_records.specs.declared.head.Head.{Head}
-use Rattle.jn_records.specs.declared.head.Head.TheVariants.{Free as FreeHead, Used}
-use Rattle.jn_records.specs.declared.intention.Intention.{Intention as FullIntention}
-use Rattle.jn_records.specs.declared.intention.StoredIntention.{StoredIntention}
-use Rattle.jn_records.specs.declared.intention.What.{What}
-use Rattle.jn_records.specs.declared.intention.What.TheVariants.{Fresh, Gone, Cut, Put}
-use Rattle.jn_records.specs.declared.record.Record.{Record}
-use Rattle.jn_records.specs.declared.record.Record.TheVariants.{Free, Intention, Ready, Going, Flag as FlagRecord}
-use Rattle.jn_sets.specs.Pool.{is_prepared, is_intention}
-use Rattle.jn_found.specs.Contents.{Contents, is_head_of, behind, address_at, block_in, files_in, bytes_by, intended, stored_in, intention_of, with_first, intentions_from, prepared_as, prepared_by, works_in, has_address, holds_address, heads_name, works_name, state_in}
-use Rattle.jn_found.specs.Changes.{with_block}
-use Rattle.jn_found.specs.Recoverable.{is_named}
+use Rattle.jn_found.proofs.Common.{◌≡◌, ℕ, zero, suc, Bool, true, false, ◌&&◌, if◌then◌else◌, List, ◌∷◌, map, Option, None, Some, get_or, refl, sym, ◌∙◌, ap, subst, true≢false, arith, fun_ext, nat_tests, find, list_any, nat_eq, option_and_then, BlockNo, FileNo, LockUnit, File, Block, WorkId, work_eq, work_tells, Head, FreeHead, Used, FullIntention, StoredIntention, What, Fresh, Gone, Cut, Put, Record, Free, Intention, Ready, Going, FlagRecord, is_prepared, is_intention, Contents, is_head_of, behind, address_at, block_in, files_in, bytes_by, intended, stored_in, intention_of, with_first, intentions_from, prepared_as, prepared_by, works_in, has_address, holds_address, heads_name, works_name, state_in, with_block, is_named}
 use Rattle.jn_found.proofs.Found.{found_passes, found_any, found_any_by}
 use Rattle.jn_found.proofs.Slots.{passes_any}
 

@@ -1,8 +1,5 @@
 -- What is found in a list of which one place is written.
-use Rattle.std.proofs.Common.{◌≡◌, inl, inr, ℕ, zero, suc, ◌<◌, Bool, true, false, cond, ◌||◌, if◌then◌else◌, List, [], ◌∷◌, length, Option, None, Some, get_or, set, refl, sym, ◌∙◌, ap, subst, true≢false, arith}
-use Rattle.std.proofs.lemmas.Bool.{cases_eq}
-use Rattle.std.proofs.lemmas.List.{get_or-set_same, get_or-set_other}
-use Rattle.std.specs.List.{find, list_any}
+use Rattle.jn_found.proofs.Common.{◌≡◌, inl, inr, ℕ, zero, suc, ◌<◌, Bool, true, false, cond, ◌||◌, if◌then◌else◌, List, [], ◌∷◌, length, Option, None, Some, get_or, set, refl, sym, ◌∙◌, ap, subst, true≢false, arith, cases_eq, get_or-set_same, get_or-set_other, find, list_any}
 
 module _ {X : Type 0} (p : X → Bool) (d : X) where
   pub none_found : (xs : List X) → ((j : ℕ) → p (get_or xs j d) ≡ false) → find p xs ≡ None

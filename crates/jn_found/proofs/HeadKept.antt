@@ -1,23 +1,5 @@
 -- The put of a head leaves what a recovery asks.
-use Rattle.std.proofs.Common.{◌≡◌, ◌⊎◌, inl, inr, ⊎_elim, ℕ, suc, Bool, true, false, ◌||◌, if◌then◌else◌, Some, refl, sym, ◌∙◌, ap, subst, true≢false, arith}
-use Rattle.std.specs.Prelude.{slice_set, nat_le}
-use Rattle.jn_base.specs.declared.names.BlockNo.{BlockNo}
-use Rattle.jn_base.specs.declared.names.FileNo.{FileNo}
-use Rattle.jn_base.specs.declared.names.ServerNo.{ServerNo}
-use Rattle.jn_base.specs.declared.names.WorkId.{WorkId}
-use Rattle.jn_base.proofs.Tells.{file_tells, block_tells}
-use Rattle.jn_records.specs.declared.head.Head.{Head}
-use Rattle.jn_records.specs.declared.head.Head.TheVariants.{Free as FreeHead, Used}
-use Rattle.jn_records.specs.declared.intention.StoredIntention.{StoredIntention}
-use Rattle.jn_records.specs.declared.intention.What.{What}
-use Rattle.jn_records.specs.declared.intention.What.TheVariants.{Fresh, Gone, Cut, Put}
-use Rattle.jn_records.specs.StablePages.{Counts}
-use Rattle.jn_rows.specs.Stable.{made_by, CarryOut}
-use Rattle.jn_sets.specs.Pool.{record_in}
-use Rattle.jn_storage.specs.Storage.{IsLoadable}
-use Rattle.jn_found.specs.Contents.{Contents, state_in, head_in, is_head_of, address_at, intended, stored_in, heads_name, works_name}
-use Rattle.jn_found.specs.Changes.{with_head, address_after, serves_for, is_head_after, IsHeadPut}
-use Rattle.jn_found.specs.Recoverable.{PassesOnce, Intends, Addresses, AddressesDiffer, IsConsistent, is_named}
+use Rattle.jn_found.proofs.Common.{◌≡◌, ◌⊎◌, inl, inr, ⊎_elim, ℕ, suc, Bool, true, false, ◌||◌, if◌then◌else◌, Some, refl, sym, ◌∙◌, ap, subst, true≢false, arith, slice_set, nat_le, BlockNo, FileNo, ServerNo, WorkId, file_tells, block_tells, Head, FreeHead, Used, StoredIntention, What, Fresh, Gone, Cut, Put, Counts, made_by, CarryOut, record_in, IsLoadable, Contents, state_in, head_in, is_head_of, address_at, intended, stored_in, heads_name, works_name, with_head, address_after, serves_for, is_head_after, IsHeadPut, PassesOnce, Intends, Addresses, AddressesDiffer, IsConsistent, is_named}
 use Rattle.jn_found.proofs.Slots.{at_set, once_set}
 use Rattle.jn_found.proofs.Naming.{intends_named, addresses_named, named_addresses}
 use Rattle.jn_found.proofs.HeadLaws.{carried_law}

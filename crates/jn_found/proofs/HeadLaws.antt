@@ -1,25 +1,7 @@
 -- One head's change as an intention that is carried out.
-use Rattle.std.proofs.Common.{◌≡◌, ◌≢◌, ◌⊎◌, inl, inr, ℕ, true, false, if◌then◌else◌, List, Option, None, Some, refl, sym, ◌∙◌, ap, subst, true≢false, arith}
-use Rattle.std.proofs.Math.Path.{fun_ext}
-use Rattle.std.proofs.lemmas.List.Folds.{find_past}
-use Rattle.std.specs.List.{find, list_any}
-use Rattle.std.specs.Prelude.{slice_set, option_map, option_and_then}
-use Rattle.jn_base.specs.declared.names.BlockNo.{BlockNo}
-use Rattle.jn_base.specs.declared.names.FileNo.{FileNo}
-use Rattle.jn_base.specs.declared.names.LockUnit.{LockUnit}
-use Rattle.jn_base.specs.declared.names.LockUnit.TheVariants.{File, Block}
-use Rattle.jn_base.specs.Names.{file_eq}
-use Rattle.jn_base.proofs.Tells.{file_tells, block_tells}
-use Rattle.jn_order.specs.Files.{Files, Change, change, or_else, there, removed}
-use Rattle.jn_records.specs.declared.head.Head.{Head}
-use Rattle.jn_records.specs.declared.head.Head.TheVariants.{Free as FreeHead, Used}
-use Rattle.jn_records.specs.declared.intention.StoredIntention.{StoredIntention}
-use Rattle.jn_records.specs.declared.intention.What.{What}
-use Rattle.jn_records.specs.declared.intention.What.TheVariants.{Fresh, Gone, Cut, Put}
-use Rattle.jn_records.specs.NetLists.{change_by, intention_change}
+use Rattle.jn_found.proofs.Common.{◌≡◌, ◌≢◌, ◌⊎◌, inl, inr, ℕ, true, false, if◌then◌else◌, List, Option, None, Some, refl, sym, ◌∙◌, ap, subst, true≢false, arith, fun_ext, find_past, find, list_any, slice_set, option_map, option_and_then, BlockNo, FileNo, LockUnit, File, Block, file_eq, file_tells, block_tells, Files, change, or_else, there, removed, Head, FreeHead, Used, StoredIntention, What, Fresh, Gone, Cut, Put, change_by, intention_change, Contents, head_in, is_head_of, address_at, block_in, files_in, bytes_by, intended, state_in, with_head, address_after, serves_for, is_head_after, IsHeadPut}
+use Rattle.jn_order.specs.Files.{Change}
 use Rattle.jn_records.specs.Intentions.{names_what_it_needs}
-use Rattle.jn_found.specs.Contents.{Contents, head_in, is_head_of, address_at, block_in, files_in, bytes_by, intended, state_in}
-use Rattle.jn_found.specs.Changes.{with_head, address_after, serves_for, is_head_after, IsHeadPut}
 use Rattle.jn_found.proofs.Found.{none_passes, found_once, found_written}
 
 -- a change of one file, register by register

@@ -1,15 +1,7 @@
 -- A head's page, field by field.
-use Rattle.std.proofs.Common.{◌≡◌, ◌<◌, ◌+◌, ◌*◌, ◌^◌, ◌++◌, ◌-◌, ℕ, zero, suc, true, false, List, [], ◌∷◌, length, drop, replicate, refl, sym, ap, ◌∙◌, arith}
-use Rattle.std.specs.Prelude.{slice_index, nat_le, flat_map}
-use Rattle.std.specs.List.{list_all, AllByRecursion}
-use Rattle.std.proofs.lemmas.Bool.Decides.{nat_tests}
-use Rattle.std.proofs.lemmas.List.{append_assoc, drop_at, length-append}
+use Rattle.jn_found.proofs.Common.{◌≡◌, ◌<◌, ◌+◌, ◌*◌, ◌^◌, ◌++◌, ◌-◌, ℕ, zero, suc, true, false, List, [], ◌∷◌, length, drop, replicate, refl, sym, ap, ◌∙◌, arith, slice_index, nat_le, flat_map, list_all, AllByRecursion, nat_tests, append_assoc, drop_at, length-append, FileNo, FreeHead, Used, head_bytes, head_page, IsHead, FileFits, is_used, file_in, address_in}
 use Rattle.byteorder.specs.Endian.{big_bytes, big_number}
 use Rattle.byteorder.specs.Numbers.{big_number-reads_back, length-bytes_high_first}
-use Rattle.jn_base.specs.declared.names.FileNo.{FileNo}
-use Rattle.jn_records.specs.declared.head.Head.TheVariants.{Free as FreeHead, Used}
-use Rattle.jn_records.specs.Heads.{head_bytes, head_page, IsHead, FileFits}
-use Rattle.jn_records.specs.StablePages.{is_used, file_in, address_in}
 
 abbrev two : ℕ → List ℕ
 two a = big_bytes 2 a

@@ -1,22 +1,5 @@
 -- What a store holds after a put that is done.
-use Rattle.std.proofs.Common.{◌≡◌, ◌≢◌, ⊎_elim, ◌<◌, ℕ, true, List, length, refl, sym, subst, ◌∙◌, arith}
-use Rattle.std.specs.Prelude.{slice_set}
-use Rattle.std.proofs.lemmas.List.{length-set}
-use Rattle.jn_base.specs.declared.names.ServerNo.{ServerNo}
-use Rattle.jn_records.specs.declared.head.Head.{Head}
-use Rattle.jn_records.specs.declared.head.Head.TheVariants.{Free as FreeHead}
-use Rattle.jn_records.specs.declared.record.Record.{Record}
-use Rattle.jn_records.specs.declared.record.Record.TheVariants.{Free}
-use Rattle.jn_records.specs.Heads.{head_page}
-use Rattle.jn_records.specs.Pages.{root_page}
-use Rattle.jn_records.specs.Records.{record_page}
-use Rattle.jn_records.specs.StablePages.{Counts, page_count, slot_place, head_place}
-use Rattle.jn_sets.specs.Pool.{slot_page, record_in, IsStored}
-use Rattle.jn_store.specs.Store.{StoreView, IsOnly}
-use Rattle.jn_found.specs.Contents.{head_in}
-use Rattle.jn_found.specs.Pages.{root_by}
-use Rattle.jn_found.specs.Puts.{PagePut, RootPut, RecordPut, HeadPut, BlockPut, put_place, IsPagePut, PutStep}
-use Rattle.jn_found.specs.Held.{IsHeadStored, IsHeld, epoch_after, records_after, heads_after}
+use Rattle.jn_found.proofs.Common.{◌≡◌, ◌≢◌, ⊎_elim, ◌<◌, ℕ, true, List, length, refl, sym, subst, ◌∙◌, arith, slice_set, length-set, ServerNo, Head, FreeHead, Record, Free, head_page, root_page, record_page, Counts, page_count, slot_place, head_place, slot_page, record_in, IsStored, StoreView, IsOnly, head_in, root_by, PagePut, RootPut, RecordPut, HeadPut, BlockPut, put_place, IsPagePut, PutStep, IsHeadStored, IsHeld, epoch_after, records_after, heads_after}
 use Rattle.jn_found.proofs.Slots.{at_set}
 
 module _ (server : ServerNo) (g : Counts) (v w : StoreView) (epoch : ℕ) (records : List Record) (heads : List Head) (held : IsHeld server g v epoch records heads) where

@@ -1,25 +1,7 @@
 -- What each pick says where root, records and heads have one candidate each.
-use Rattle.std.proofs.Common.{◌≡◌, ◌<◌, ℕ, Bool, true, false, if◌then◌else◌, List, [], length, Result, refl, sym, ap, subst, ◌∙◌, arith}
-use Rattle.std.specs.Prelude.{nat_lt}
-use Rattle.std.proofs.lemmas.Bool.{cases_eq}
-use Rattle.std.proofs.lemmas.Bool.Decides.{nat_tests}
+use Rattle.jn_found.proofs.Common.{◌≡◌, ◌<◌, ℕ, Bool, true, false, if◌then◌else◌, List, [], length, Result, refl, sym, ap, subst, ◌∙◌, arith, nat_lt, cases_eq, nat_tests, ServerNo, Head, Record, head_page, IsHead, FileFits, root_page, Counts, page_count, slot_place, head_place, root_is_read, Pick, slot_page, record_in, Says, StoreView, IsOnly, IsClean, StoreGot, StoreCleaned, same_shrinks, cleaned_kept, head_in, half_of, pages_by, root_by, epoch_by, IsFrontClean, IsFewer, contents_by, IsHeld, held_contents}
 use Rattle.jn_base.specs.declared.device.Stopped.{Stopped}
-use Rattle.jn_base.specs.declared.names.ServerNo.{ServerNo}
-use Rattle.jn_records.specs.declared.head.Head.{Head}
-use Rattle.jn_records.specs.declared.record.Record.{Record}
-use Rattle.jn_records.specs.Heads.{head_page, IsHead, FileFits}
-use Rattle.jn_records.specs.Pages.{root_page}
-use Rattle.jn_records.specs.StablePages.{Counts, page_count, slot_place, head_place}
-use Rattle.jn_records.proofs.Roots.{root_is_read}
-use Rattle.jn_rows.specs.Stable.{Pick}
-use Rattle.jn_sets.specs.Pool.{slot_page, record_in, Says}
 use Rattle.jn_sets.proofs.Stored.{page_says}
-use Rattle.jn_store.specs.Store.{StoreView, IsOnly, IsClean, StoreGot, StoreCleaned}
-use Rattle.jn_store.proofs.Laws.{same_shrinks, cleaned_kept}
-use Rattle.jn_found.specs.Contents.{head_in}
-use Rattle.jn_found.specs.Pages.{half_of, pages_by, root_by, epoch_by}
-use Rattle.jn_found.specs.Puts.{IsFrontClean, IsFewer, contents_by}
-use Rattle.jn_found.specs.Held.{IsHeld, held_contents}
 use Rattle.jn_found.proofs.PageChanges.{contents_as}
 use Rattle.jn_found.proofs.Saying.{pool_says, heads_say}
 

@@ -1,26 +1,5 @@
 -- A store without records, each page of which is whole, is one of a sound image.
-use Rattle.std.proofs.Common.{◌≡◌, ◌<◌, ◌≤◌, ◌+◌, ◌*◌, ◌-◌, ◌^◌, ℕ, zero, suc, Bool, true, false, if◌then◌else◌, List, [], refl, sym, ◌∙◌, ap, subst, true≢false, arith}
-use Rattle.std.proofs.lemmas.Bool.Decides.{nat_tests}
-use Rattle.std.specs.Prelude.{nat_lt, drop}
-use Rattle.jn_base.specs.declared.names.BlockNo.{BlockNo}
-use Rattle.jn_base.specs.declared.names.FileNo.{FileNo}
-use Rattle.jn_base.specs.declared.names.ServerNo.{ServerNo}
-use Rattle.jn_records.specs.declared.head.Head.{Head}
-use Rattle.jn_records.specs.declared.head.Head.TheVariants.{Free as FreeHead, Used}
-use Rattle.jn_records.specs.declared.record.Record.{Record}
-use Rattle.jn_records.specs.declared.record.Record.TheVariants.{Free}
-use Rattle.jn_records.specs.Heads.{head_page, IsHead, FileFits}
-use Rattle.jn_records.specs.Records.{record_page}
-use Rattle.jn_records.specs.Sound.{Image, IsSound, Names}
-use Rattle.jn_records.specs.StablePages.{Counts, page_count, slot_place, head_place, data_place, is_used, file_in, address_in}
-use Rattle.jn_sets.specs.Pool.{record_in, slot_page}
-use Rattle.jn_store.specs.Store.{StoreView, IsWholePage}
-use Rattle.jn_found.specs.Contents.{head_in, is_head_of, address_at}
-use Rattle.jn_found.specs.Held.{held_contents}
-use Rattle.jn_found.specs.Images.{image_on, place_in, IsImage}
-use Rattle.jn_found.specs.Pages.{pages_by}
-use Rattle.jn_found.specs.Recoverable.{IsConsistent, Addresses}
-use Rattle.jn_found.specs.Standing.{IsStanding, standing_state}
+use Rattle.jn_found.proofs.Common.{◌≡◌, ◌<◌, ◌≤◌, ◌+◌, ◌*◌, ◌-◌, ◌^◌, ℕ, zero, suc, Bool, true, false, if◌then◌else◌, List, [], refl, sym, ◌∙◌, ap, subst, true≢false, arith, nat_tests, nat_lt, drop, BlockNo, FileNo, ServerNo, Head, FreeHead, Used, Record, Free, head_page, IsHead, FileFits, record_page, Image, IsSound, Names, Counts, page_count, slot_place, head_place, data_place, is_used, file_in, address_in, record_in, slot_page, StoreView, IsWholePage, head_in, is_head_of, address_at, held_contents, image_on, place_in, IsImage, pages_by, IsConsistent, Addresses, IsStanding, standing_state}
 use Rattle.jn_found.proofs.FilesOnPages.{stands}
 use Rattle.jn_found.proofs.HeadPages.{free_unused, used_address}
 use Rattle.jn_found.proofs.HeldLaws.{contents_held}

@@ -1,27 +1,5 @@
 -- What is found on the pages of a sound image: its files alone.
-use Rattle.std.proofs.Common.{◌≡◌, ⊎_elim, ◌<◌, ◌+◌, ◌^◌, ℕ, suc, Bool, true, [], length, get_or, refl, sym, ◌∙◌, ap, subst, true≢false, arith}
-use Rattle.std.proofs.Math.Path.{fun_ext}
-use Rattle.std.proofs.lemmas.Bool.{cases_lt}
-use Rattle.std.proofs.lemmas.Bool.Decides.{nat_tests}
-use Rattle.std.proofs.lemmas.List.{get_or_past}
-use Rattle.std.proofs.lemmas.List.Folds.{list_all_at}
-use Rattle.std.specs.Prelude.{false, nat_le, take, None}
-use Rattle.jn_base.specs.declared.names.BlockNo.{BlockNo}
-use Rattle.jn_base.specs.declared.names.ServerNo.{ServerNo}
-use Rattle.jn_records.specs.declared.head.Head.{Head}
-use Rattle.jn_records.specs.declared.head.Head.TheVariants.{Free as FreeHead, Used}
-use Rattle.jn_records.specs.Heads.{head_at, IsHead}
-use Rattle.jn_records.specs.Pages.{root_page}
-use Rattle.jn_records.specs.Sound.{Image, IsSound, root_of}
-use Rattle.jn_records.specs.StablePages.{Counts, Pages, page_count, head_place, data_place, files_of_pages}
-use Rattle.jn_records.proofs.Heads.{head_is_read}
-use Rattle.jn_records.proofs.Roots.{root_is_read}
-use Rattle.jn_rows.specs.Stable.{StableState, Pick}
-use Rattle.jn_store.specs.Store.{StoreView}
-use Rattle.jn_found.specs.Contents.{Contents, head_in, is_head_of, address_at, files_in, state_in}
-use Rattle.jn_found.specs.Images.{CountsFit, IsStoreOf, IsFresh, only_files}
-use Rattle.jn_found.specs.Pages.{head_on, heads_on, head_or_free, block_on, epoch_by, root_by, pages_by, found_on, contents_of, IsHeadPage}
-use Rattle.jn_found.specs.Recoverable.{is_named}
+use Rattle.jn_found.proofs.Common.{◌≡◌, ⊎_elim, ◌<◌, ◌+◌, ◌^◌, ℕ, suc, Bool, true, [], length, get_or, refl, sym, ◌∙◌, ap, subst, true≢false, arith, fun_ext, cases_lt, nat_tests, get_or_past, list_all_at, false, nat_le, take, None, BlockNo, ServerNo, Head, FreeHead, Used, head_at, IsHead, root_page, Image, IsSound, root_of, Counts, Pages, page_count, head_place, data_place, files_of_pages, head_is_read, root_is_read, StableState, Pick, StoreView, Contents, head_in, is_head_of, address_at, files_in, state_in, CountsFit, IsStoreOf, IsFresh, only_files, head_on, heads_on, head_or_free, block_on, epoch_by, root_by, pages_by, found_on, contents_of, IsHeadPage, is_named}
 use Rattle.jn_found.proofs.FillLaws.{named_read}
 use Rattle.jn_found.proofs.FilesOnPages.{files_on_pages, state_on_pages}
 use Rattle.jn_found.proofs.Naming.{named_addresses}

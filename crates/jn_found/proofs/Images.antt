@@ -1,16 +1,6 @@
 -- From a sound image a recovery may begin.
-use Rattle.std.proofs.Common.{◌≡◌, ◌≤◌, zero, suc, Bool, true, false, not, ◌&&◌, ◌||◌, if◌then◌else◌, List, [], ◌∷◌, length, Some, refl, sym, ◌∙◌, true≢false, arith}
-use Rattle.std.specs.Prelude.{is_some, option_map}
-use Rattle.std.specs.List.{find, list_any}
-use Rattle.jn_base.specs.declared.names.FileNo.{FileNo}
-use Rattle.jn_base.specs.Names.{file_eq}
-use Rattle.jn_base.proofs.Tells.{file_tells}
-use Rattle.jn_order.specs.Files.{there}
-use Rattle.jn_records.specs.declared.head.Head.{Head}
-use Rattle.jn_records.specs.declared.head.Head.TheVariants.{Free as FreeHead, Used}
+use Rattle.jn_found.proofs.Common.{◌≡◌, ◌≤◌, zero, suc, Bool, true, false, not, ◌&&◌, ◌||◌, if◌then◌else◌, List, [], ◌∷◌, length, Some, refl, sym, ◌∙◌, true≢false, arith, is_some, option_map, find, list_any, FileNo, file_eq, file_tells, there, Head, FreeHead, Used, head_in, is_head_of, PassesOnce}
 use Rattle.jn_storage.specs.Listing.{is_in, are_different, IsListing}
-use Rattle.jn_found.specs.Contents.{head_in, is_head_of}
-use Rattle.jn_found.specs.Recoverable.{PassesOnce}
 use Rattle.jn_found.proofs.Slots.{passes_at}
 
 -- ---- the files of heads, each once

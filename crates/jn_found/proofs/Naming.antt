@@ -1,18 +1,5 @@
 -- Which data pages heads and prepared works name, place by place.
-use Rattle.std.proofs.Common.{◌≡◌, ℕ, suc, Bool, true, false, ◌&&◌, List, get_or, refl, sym, ◌∙◌, ap, true≢false, arith}
-use Rattle.std.proofs.lemmas.Bool.Decides.{nat_tests}
-use Rattle.std.specs.Prelude.{nat_eq}
-use Rattle.std.specs.List.{list_any}
-use Rattle.jn_base.specs.declared.names.BlockNo.{BlockNo}
-use Rattle.jn_base.specs.declared.names.FileNo.{FileNo}
-use Rattle.jn_records.specs.declared.head.Head.{Head}
-use Rattle.jn_records.specs.declared.head.Head.TheVariants.{Free as FreeHead, Used}
-use Rattle.jn_records.specs.declared.intention.StoredIntention.{StoredIntention}
-use Rattle.jn_records.specs.declared.record.Record.{Record}
-use Rattle.jn_records.specs.declared.record.Record.TheVariants.{Free, Intention, Ready, Going, Flag as FlagRecord}
-use Rattle.jn_sets.specs.Pool.{record_in, is_prepared}
-use Rattle.jn_found.specs.Contents.{Contents, head_in, is_head_of, address_at, has_address, holds_address, heads_name, works_name}
-use Rattle.jn_found.specs.Recoverable.{Intends, Addresses}
+use Rattle.jn_found.proofs.Common.{◌≡◌, ℕ, suc, Bool, true, false, ◌&&◌, List, get_or, refl, sym, ◌∙◌, ap, true≢false, arith, nat_tests, nat_eq, list_any, BlockNo, FileNo, Head, FreeHead, Used, StoredIntention, Record, Free, Intention, Ready, Going, FlagRecord, record_in, is_prepared, Contents, head_in, is_head_of, address_at, has_address, holds_address, heads_name, works_name, Intends, Addresses}
 use Rattle.jn_found.proofs.Slots.{passes_at, passes_any}
 
 both : (a b : Bool) → (a && b) ≡ true → (a ≡ true) × (b ≡ true)

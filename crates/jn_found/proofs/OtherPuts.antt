@@ -1,13 +1,6 @@
 -- The puts of a data page and of the root leave what a recovery asks.
-use Rattle.std.proofs.Common.{◌≡◌, ℕ, ◌≤◌, false, List, sym, subst, arith}
-use Rattle.jn_base.specs.declared.names.ServerNo.{ServerNo}
-use Rattle.jn_records.specs.StablePages.{Counts}
+use Rattle.jn_found.proofs.Common.{◌≡◌, ℕ, ◌≤◌, false, List, sym, subst, arith, ServerNo, Counts, IsLoadable, StableState, Contents, state_in, with_block, with_epoch, AddressesDiffer, IsConsistent, is_named}
 use Rattle.jn_storage.specs.Orderly.{IsGiven}
-use Rattle.jn_storage.specs.Storage.{IsLoadable}
-use Rattle.jn_rows.specs.Stable.{StableState}
-use Rattle.jn_found.specs.Contents.{Contents, state_in}
-use Rattle.jn_found.specs.Changes.{with_block, with_epoch}
-use Rattle.jn_found.specs.Recoverable.{AddressesDiffer, IsConsistent, is_named}
 use Rattle.jn_found.proofs.FillLaws.{fill_law}
 
 -- where pool and heads are the same, so are the addresses

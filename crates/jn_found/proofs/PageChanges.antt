@@ -1,26 +1,6 @@
 -- One page's put as a change of what the pages say.
-use Rattle.std.proofs.Common.{◌≡◌, ◌≢◌, inl, inr, ◌<◌, ◌≤◌, ◌+◌, ◌^◌, ℕ, zero, suc, true, false, if◌then◌else◌, List, ◌∷◌, length, set, refl, sym, ap, ◌∙◌, arith}
-use Rattle.std.proofs.Math.Path.{fun_ext}
-use Rattle.std.specs.Prelude.{nat_eq, take}
-use Rattle.std.proofs.lemmas.Bool.{cases_eq}
-use Rattle.std.proofs.lemmas.Bool.Decides.{nat_tests}
-use Rattle.jn_records.specs.declared.head.Head.{Head}
-use Rattle.jn_records.specs.declared.record.Record.{Record}
+use Rattle.jn_found.proofs.Common.{◌≡◌, ◌≢◌, inl, inr, ◌<◌, ◌≤◌, ◌+◌, ◌^◌, ℕ, zero, suc, true, false, if◌then◌else◌, List, ◌∷◌, length, set, refl, sym, ap, ◌∙◌, arith, fun_ext, nat_eq, take, cases_eq, nat_tests, Head, Record, head_page, head_at, IsHead, FileFits, root_page, IsRoot, record_page, record_at, root_at, Counts, Pages, slot_place, head_place, data_place, head_is_read, record_is_read, root_is_read, IsRecord, with_page, with_same, with_other, Contents, with_record, with_head, with_block, with_epoch, epoch_by, epoch_in, record_or_free, head_or_free, record_on, head_on, block_on, listed, pool_on, heads_on, contents_of}
 use Rattle.jn_records.specs.declared.root.Root.{Root}
-use Rattle.jn_records.specs.Heads.{head_page, head_at, IsHead, FileFits}
-use Rattle.jn_records.specs.Pages.{root_page, IsRoot}
-use Rattle.jn_records.specs.Records.{record_page, record_at}
-use Rattle.jn_records.specs.Reading.{root_at}
-use Rattle.jn_records.specs.StablePages.{Counts, Pages, slot_place, head_place, data_place}
-use Rattle.jn_records.proofs.Heads.{head_is_read}
-use Rattle.jn_records.proofs.RecordsAgain.{record_is_read}
-use Rattle.jn_records.proofs.Roots.{root_is_read}
-use Rattle.jn_sets.specs.Pool.{IsRecord}
-use Rattle.jn_store.specs.Choices.{with_page}
-use Rattle.jn_store.proofs.Choices.{with_same, with_other}
-use Rattle.jn_found.specs.Contents.{Contents}
-use Rattle.jn_found.specs.Changes.{with_record, with_head, with_block, with_epoch}
-use Rattle.jn_found.specs.Pages.{epoch_by, epoch_in, record_or_free, head_or_free, record_on, head_on, block_on, listed, pool_on, heads_on, contents_of}
 
 -- ---- lists of values by number
 

@@ -1,16 +1,5 @@
 -- A put of any page, as a change of what the pages say.
-use Rattle.std.proofs.Common.{◌≡◌, ◌≢◌, inl, inr, ◌<◌, ◌^◌, ◌++◌, ℕ, List, refl, sym, ap, subst, ◌∙◌, arith}
-use Rattle.std.specs.Prelude.{replicate}
-use Rattle.std.proofs.lemmas.Bool.{cases_eq}
-use Rattle.std.proofs.lemmas.List.{take_at, drop_at}
-use Rattle.jn_base.specs.declared.names.ServerNo.{ServerNo}
-use Rattle.jn_records.specs.StablePages.{Counts, Pages, slot_place, head_place, data_place}
-use Rattle.jn_sets.specs.Pool.{IsRecordPage}
-use Rattle.jn_store.specs.Choices.{with_page}
-use Rattle.jn_store.proofs.Choices.{with_same, with_other}
-use Rattle.jn_found.specs.Changes.{with_block}
-use Rattle.jn_found.specs.Pages.{root_by, contents_of, IsRootPage, IsHeadPage, IsDataPage, IsOfFormat}
-use Rattle.jn_found.specs.Puts.{PagePut, RootPut, RecordPut, HeadPut, BlockPut, put_place, put_page, IsPagePut, put_in}
+use Rattle.jn_found.proofs.Common.{◌≡◌, ◌≢◌, inl, inr, ◌<◌, ◌^◌, ◌++◌, ℕ, List, refl, sym, ap, subst, ◌∙◌, arith, replicate, cases_eq, take_at, drop_at, ServerNo, Counts, Pages, slot_place, head_place, data_place, IsRecordPage, with_page, with_same, with_other, with_block, root_by, contents_of, IsRootPage, IsHeadPage, IsDataPage, IsOfFormat, PagePut, RootPut, RecordPut, HeadPut, BlockPut, put_place, put_page, IsPagePut, put_in}
 use Rattle.jn_found.proofs.PageChanges.{record_put, head_put, data_put, root_put}
 
 module _ (server : ServerNo) (g : Counts) (pages : Pages) (format : IsOfFormat server g pages) where

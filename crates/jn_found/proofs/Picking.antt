@@ -1,20 +1,6 @@
 -- What a pick of halves finds after a put, done or stopped.
-use Rattle.std.proofs.Common.{◌≡◌, ◌≢◌, ◌⊎◌, inl, inr, ⊎_elim, ◌<◌, ◌≤◌, ℕ, Bool, true, false, if◌then◌else◌, List, [], refl, sym, ap, subst, ◌∙◌, arith}
-use Rattle.std.proofs.Math.Path.{fun_ext}
-use Rattle.std.specs.Prelude.{nat_eq, nat_lt}
-use Rattle.std.proofs.lemmas.Bool.{cases_eq, cases_lt}
-use Rattle.std.proofs.lemmas.Bool.Decides.{nat_tests}
-use Rattle.jn_base.specs.declared.names.ServerNo.{ServerNo}
-use Rattle.jn_records.specs.StablePages.{Counts, page_count, data_place}
-use Rattle.jn_rows.specs.Stable.{StableState, Pick, Change, made_by, Changed, Unchanged}
-use Rattle.jn_store.specs.Store.{StoreView, Candidate, IsClean, HasSamePages, StorePut}
-use Rattle.jn_store.specs.Choices.{with_page}
-use Rattle.jn_store.proofs.Choices.{with_same, with_other}
-use Rattle.jn_store.proofs.Laws.{same_shrinks}
-use Rattle.jn_found.specs.Contents.{state_in}
-use Rattle.jn_found.specs.Pages.{half_of, pages_by, found_on, contents_of, state_of, IsOfFormat}
-use Rattle.jn_found.specs.Recoverable.{IsConsistent, IsFound, NamedAreClean, IsRecoverable, is_named}
-use Rattle.jn_found.specs.Puts.{PagePut, RootPut, RecordPut, HeadPut, BlockPut, put_place, put_page, IsPagePut, put_in, IsReadable, contents_by, Makes, is_written, KeepsClean, KeepsConsistent, IsPut, IsFewer}
+use Rattle.jn_found.proofs.Common.{◌≡◌, ◌≢◌, ◌⊎◌, inl, inr, ⊎_elim, ◌<◌, ◌≤◌, ℕ, Bool, true, false, if◌then◌else◌, List, [], refl, sym, ap, subst, ◌∙◌, arith, fun_ext, nat_eq, nat_lt, cases_eq, cases_lt, nat_tests, ServerNo, Counts, page_count, data_place, StableState, Pick, Change, made_by, Changed, Unchanged, StoreView, Candidate, IsClean, HasSamePages, StorePut, with_page, with_same, with_other, same_shrinks, state_in, half_of, pages_by, found_on, contents_of, state_of, IsOfFormat, IsConsistent, IsFound, NamedAreClean, IsRecoverable, is_named, PagePut, RootPut, RecordPut, HeadPut, BlockPut, put_place, put_page, IsPagePut, put_in, IsReadable, contents_by, is_written, KeepsClean, KeepsConsistent, IsPut, IsFewer}
+use Rattle.jn_found.specs.Puts.{Makes}
 use Rattle.jn_found.proofs.FilesOnPages.{state_on_pages}
 use Rattle.jn_found.proofs.PagePuts.{put_is_read, keeps_format}
 

@@ -1,20 +1,5 @@
 -- What a recovery asks of a pool goes on over the put of a record.
-use Rattle.std.proofs.Common.{◌≡◌, ◌⊎◌, ⊎_elim, ℕ, ◌<◌, true, false, ◌&&◌, List, length, refl, sym, ◌∙◌, ap, subst, true≢false, arith}
-use Rattle.std.proofs.lemmas.List.Folds.{find_past}
-use Rattle.std.specs.Prelude.{slice_set, nat_eq, option_and_then, is_some}
-use Rattle.std.specs.List.{list_any}
-use Rattle.jn_base.specs.declared.names.Tid.{Tid}
-use Rattle.jn_base.specs.declared.names.WorkId.{WorkId}
-use Rattle.jn_base.specs.Names.{work_eq}
-use Rattle.jn_base.proofs.Tells.{work_tells}
-use Rattle.std.proofs.lemmas.Bool.Decides.{nat_tests}
-use Rattle.jn_records.specs.declared.intention.StoredIntention.{StoredIntention}
-use Rattle.jn_records.specs.declared.record.Record.{Record}
-use Rattle.jn_records.specs.declared.record.Record.TheVariants.{Free, Intention, Ready, Going, Flag as FlagRecord}
-use Rattle.jn_sets.specs.Pool.{record_in, is_prepared, is_intention, is_flag}
-use Rattle.jn_found.specs.Contents.{Contents, stored_in}
-use Rattle.jn_found.specs.Changes.{with_record}
-use Rattle.jn_found.specs.Recoverable.{IsDistinct, HasIntentions, IsCompleteBy, Intends, AddressesDiffer}
+use Rattle.jn_found.proofs.Common.{◌≡◌, ◌⊎◌, ⊎_elim, ℕ, ◌<◌, true, false, ◌&&◌, List, length, refl, sym, ◌∙◌, ap, subst, true≢false, arith, find_past, slice_set, nat_eq, option_and_then, is_some, list_any, Tid, WorkId, work_eq, work_tells, nat_tests, StoredIntention, Record, Free, Intention, Ready, Going, FlagRecord, record_in, is_prepared, is_intention, is_flag, Contents, stored_in, with_record, IsDistinct, HasIntentions, IsCompleteBy, Intends, AddressesDiffer}
 use Rattle.jn_found.proofs.Slots.{passes_any, at_set, once_set, any_fewer}
 
 module _ (c : Contents) (slot : ℕ) (new : Record) (there : slot < length c.pool) where

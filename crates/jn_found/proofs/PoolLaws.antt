@@ -1,22 +1,5 @@
 -- One record's change as a change of the stable state.
-use Rattle.std.proofs.Common.{◌≡◌, ◌≢◌, ℕ, Bool, true, false, if◌then◌else◌, List, Option, None, Some, refl, sym, ◌∙◌, ap, true≢false, arith}
-use Rattle.std.proofs.Math.Path.{fun_ext}
-use Rattle.std.specs.List.{list_any}
-use Rattle.std.specs.Prelude.{slice_set}
-use Rattle.jn_base.specs.declared.names.LockUnit.{LockUnit}
-use Rattle.jn_base.specs.declared.names.Tid.{Tid}
-use Rattle.jn_base.specs.declared.names.WorkId.{WorkId}
-use Rattle.jn_base.specs.Names.{work_eq, tid_eq}
-use Rattle.jn_base.proofs.Tells.{work_tells, tid_tells}
-use Rattle.jn_records.specs.declared.flag.Flag.{Flag}
-use Rattle.jn_records.specs.declared.intention.Intention.{Intention as FullIntention}
-use Rattle.jn_records.specs.declared.record.Record.{Record}
-use Rattle.jn_records.specs.declared.record.Record.TheVariants.{Free, Intention, Ready, Going, Flag as FlagRecord}
-use Rattle.jn_records.specs.declared.work.WorkHead.{WorkHead}
-use Rattle.jn_rows.specs.Stable.{StableState, Prepared, FlagState, made_by, AddReady, MarkGoing, RemoveWork, AddFlag, DropFlag, at_work, at_tid, gone_on, flag_state}
-use Rattle.jn_sets.specs.Pool.{record_in, is_prepared, is_intention, is_flag}
-use Rattle.jn_found.specs.Contents.{Contents, state_in, works_in, flags_in, prepared_by, prepared_as, full_list, flag_by}
-use Rattle.jn_found.specs.Changes.{with_record, IsIdlePut, IsFreeSlot, IsReadyPut, IsReadySlot, IsPreparedSlot, IsFlagPut, IsFlagSlot}
+use Rattle.jn_found.proofs.Common.{◌≡◌, ◌≢◌, ℕ, Bool, true, false, if◌then◌else◌, List, Option, None, Some, refl, sym, ◌∙◌, ap, true≢false, arith, fun_ext, list_any, slice_set, LockUnit, Tid, WorkId, work_eq, tid_eq, work_tells, tid_tells, Flag, FullIntention, Record, Free, Intention, Ready, Going, FlagRecord, WorkHead, StableState, Prepared, FlagState, made_by, AddReady, MarkGoing, RemoveWork, AddFlag, DropFlag, at_work, at_tid, gone_on, flag_state, record_in, is_prepared, is_intention, is_flag, Contents, state_in, works_in, flags_in, prepared_by, prepared_as, full_list, flag_by, with_record, IsIdlePut, IsFreeSlot, IsReadyPut, IsReadySlot, IsPreparedSlot, IsFlagPut, IsFlagSlot}
 use Rattle.jn_found.proofs.Found.{found_once, none_at}
 use Rattle.jn_found.proofs.PoolLemmas.{works_written, work_kept, flags_kept, flags_written, idle_works, idle_flags}
 

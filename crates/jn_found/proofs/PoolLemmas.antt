@@ -1,17 +1,5 @@
 -- What one record's change does to the works and flags of a pool.
-use Rattle.std.proofs.Common.{◌≡◌, ◌≢◌, ◌⊎◌, inl, inr, ℕ, zero, suc, ◌<◌, Bool, true, false, not, ◌&&◌, ◌||◌, if◌then◌else◌, List, length, map, Option, None, Some, refl, sym, ◌∙◌, ap, subst, true≢false, arith}
-use Rattle.std.proofs.Math.Path.{fun_ext}
-use Rattle.std.proofs.lemmas.List.Folds.{find_past}
-use Rattle.std.specs.Prelude.{slice_set, nat_eq, option_and_then}
-use Rattle.std.specs.List.{find, list_any}
-use Rattle.jn_base.specs.declared.names.Tid.{Tid}
-use Rattle.jn_base.specs.declared.names.WorkId.{WorkId}
-use Rattle.jn_base.proofs.Tells.{work_tells, tid_tells}
-use Rattle.jn_records.specs.declared.record.Record.{Record}
-use Rattle.jn_records.specs.declared.record.Record.TheVariants.{Free, Intention, Ready, Going, Flag as FlagRecord}
-use Rattle.jn_rows.specs.Stable.{Prepared, FlagState, at_work, at_tid}
-use Rattle.jn_sets.specs.Pool.{record_in, is_free, is_prepared, is_intention, is_flag, is_rubbish}
-use Rattle.jn_found.specs.Contents.{stored_in, intention_of, with_first, intentions_from, full_list, intended, prepared_as, prepared_by, works_in, flag_by, flags_in}
+use Rattle.jn_found.proofs.Common.{◌≡◌, ◌≢◌, ◌⊎◌, inl, inr, ℕ, zero, suc, ◌<◌, Bool, true, false, not, ◌&&◌, ◌||◌, if◌then◌else◌, List, length, map, Option, None, Some, refl, sym, ◌∙◌, ap, subst, true≢false, arith, fun_ext, find_past, slice_set, nat_eq, option_and_then, find, list_any, Tid, WorkId, work_tells, tid_tells, Record, Free, Intention, Ready, Going, FlagRecord, Prepared, FlagState, at_work, at_tid, record_in, is_free, is_prepared, is_intention, is_flag, is_rubbish, stored_in, intention_of, with_first, intentions_from, full_list, intended, prepared_as, prepared_by, works_in, flag_by, flags_in}
 use Rattle.jn_found.proofs.Found.{found_written, none_passes}
 
 -- a record at a slot gives way to another

@@ -1,26 +1,5 @@
 -- The put of a ready record leaves what a recovery asks.
-use Rattle.std.proofs.Common.{◌≡◌, ◌⊎◌, inl, inr, ⊎_elim, ℕ, suc, ◌<◌, ◌≤◌, Bool, true, false, ◌||◌, List, length, refl, sym, ◌∙◌, ap, subst, true≢false, arith}
-use Rattle.std.specs.Prelude.{slice_set}
-use Rattle.std.specs.List.{list_any}
-use Rattle.jn_base.specs.declared.names.BlockNo.{BlockNo}
-use Rattle.jn_base.specs.declared.names.FileNo.{FileNo}
-use Rattle.jn_base.specs.declared.names.LockUnit.{LockUnit}
-use Rattle.jn_base.specs.declared.names.ServerNo.{ServerNo}
-use Rattle.jn_base.specs.declared.names.WorkId.{WorkId}
-use Rattle.jn_base.specs.Names.{work_eq}
-use Rattle.jn_base.proofs.Tells.{work_tells}
-use Rattle.jn_records.specs.declared.intention.Intention.{Intention as FullIntention}
-use Rattle.jn_records.specs.declared.intention.StoredIntention.{StoredIntention}
-use Rattle.jn_records.specs.declared.record.Record.{Record}
-use Rattle.jn_records.specs.declared.record.Record.TheVariants.{Free, Intention, Ready}
-use Rattle.jn_records.specs.declared.work.WorkHead.{WorkHead}
-use Rattle.jn_records.specs.StablePages.{Counts}
-use Rattle.jn_rows.specs.Stable.{made_by, AddReady}
-use Rattle.jn_sets.specs.Pool.{record_in, is_prepared, is_intention}
-use Rattle.jn_storage.specs.Storage.{IsLoadable}
-use Rattle.jn_found.specs.Contents.{Contents, state_in, heads_name, works_name}
-use Rattle.jn_found.specs.Changes.{with_record, IsReadyPut}
-use Rattle.jn_found.specs.Recoverable.{Intends, Addresses, AddressesDiffer, IsConsistent, is_named, HasAt, AreFresh, IsWholeWork}
+use Rattle.jn_found.proofs.Common.{◌≡◌, ◌⊎◌, inl, inr, ⊎_elim, ℕ, suc, ◌<◌, ◌≤◌, Bool, true, false, ◌||◌, List, length, refl, sym, ◌∙◌, ap, subst, true≢false, arith, slice_set, list_any, BlockNo, FileNo, LockUnit, ServerNo, WorkId, work_eq, work_tells, FullIntention, StoredIntention, Record, Free, Intention, Ready, WorkHead, Counts, made_by, AddReady, record_in, is_prepared, is_intention, IsLoadable, Contents, state_in, heads_name, works_name, with_record, IsReadyPut, Intends, Addresses, AddressesDiffer, IsConsistent, is_named, HasAt, AreFresh, IsWholeWork}
 use Rattle.jn_found.proofs.Slots.{any_fewer}
 use Rattle.jn_found.proofs.Naming.{named_intends, intends_named, addresses_named}
 use Rattle.jn_found.proofs.PoolLaws.{ready_law}

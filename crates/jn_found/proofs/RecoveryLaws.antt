@@ -1,15 +1,5 @@
 -- Any steps of recoveries find what was there, and leave a store for the next one.
-use Rattle.std.proofs.Common.{◌≡◌, ⊎_elim, ℕ, Bool, refl, sym, ap, subst, ◌∙◌, arith}
-use Rattle.jn_base.specs.declared.names.ServerNo.{ServerNo}
-use Rattle.jn_records.specs.declared.record.Record.TheVariants.{Free}
-use Rattle.jn_records.specs.StablePages.{Counts}
-use Rattle.jn_rows.specs.Stable.{StableState, Pick}
-use Rattle.jn_store.specs.Store.{StoreView}
-use Rattle.jn_found.specs.Contents.{state_in}
-use Rattle.jn_found.specs.Changes.{IsIdlePut}
-use Rattle.jn_found.specs.Pages.{found_on, pages_by}
-use Rattle.jn_found.specs.Puts.{PagePut, RootPut, RecordPut, IsPagePut, PutStep, put_in, IsReadable, KeepsClean, contents_by}
-use Rattle.jn_found.specs.Recoverable.{IsRecoverable}
+use Rattle.jn_found.proofs.Common.{◌≡◌, ⊎_elim, ℕ, Bool, refl, sym, ap, subst, ◌∙◌, arith, ServerNo, Free, Counts, StableState, Pick, StoreView, state_in, IsIdlePut, found_on, pages_by, PagePut, RootPut, RecordPut, IsPagePut, PutStep, put_in, IsReadable, KeepsClean, contents_by, IsRecoverable}
 use Rattle.jn_found.specs.Recovery.{Recovers, cleans, counts, erases, joined, IsSameButEpoch, FindsSame}
 use Rattle.jn_found.proofs.ConsistentPuts.{idle_consistent, idle_named}
 use Rattle.jn_found.proofs.FilesOnPages.{state_on_pages}

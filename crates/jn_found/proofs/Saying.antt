@@ -1,16 +1,5 @@
 -- Pages that say a list of values, as the list that is read of them.
-use Rattle.std.proofs.Common.{◌≡◌, ◌<◌, ◌+◌, ◌^◌, ℕ, zero, suc, List, [], ◌∷◌, length, get_or, refl, ap, ◌∙◌, arith}
-use Rattle.jn_records.specs.declared.head.Head.{Head}
-use Rattle.jn_records.specs.declared.head.Head.TheVariants.{Free as FreeHead}
-use Rattle.jn_records.specs.declared.record.Record.{Record}
-use Rattle.jn_records.specs.declared.record.Record.TheVariants.{Free}
-use Rattle.jn_records.specs.Heads.{head_page, IsHead, FileFits}
-use Rattle.jn_records.specs.Records.{record_at}
-use Rattle.jn_records.specs.StablePages.{Counts, Pages, slot_place, head_place}
-use Rattle.jn_records.proofs.Heads.{head_is_read}
-use Rattle.jn_sets.specs.Pool.{slot_page, Says}
-use Rattle.jn_found.specs.Contents.{head_in}
-use Rattle.jn_found.specs.Pages.{listed, record_or_free, head_or_free, record_on, head_on, pool_on, heads_on}
+use Rattle.jn_found.proofs.Common.{◌≡◌, ◌<◌, ◌+◌, ◌^◌, ℕ, zero, suc, List, [], ◌∷◌, length, get_or, refl, ap, ◌∙◌, arith, Head, FreeHead, Record, Free, head_page, IsHead, FileFits, record_at, Counts, Pages, slot_place, head_place, head_is_read, slot_page, Says, head_in, listed, record_or_free, head_or_free, record_on, head_on, pool_on, heads_on}
 
 -- a list is that of its values by number
 listed_is : {A : Type 0} (d : A) (f : ℕ → A) (xs : List A) (i n : ℕ) → length xs ≡ n → ((k : ℕ) → k < n → f (i + k) ≡ get_or xs k d) → listed f i n ≡ xs

@@ -1,9 +1,5 @@
 -- What passes in a list of which one place is written, place by place.
-use Rattle.std.proofs.Common.{◌≡◌, ◌≢◌, ◌⊎◌, inl, inr, ⊎_elim, ℕ, suc, ◌<◌, Bool, true, false, ◌||◌, List, [], ◌∷◌, length, get_or, set, refl, sym, ◌∙◌, ap, subst, true≢false}
-use Rattle.std.proofs.lemmas.Bool.{cases_eq}
-use Rattle.std.proofs.lemmas.List.{get_or-set_same, get_or-set_other}
-use Rattle.std.specs.List.{list_any}
-use Rattle.jn_found.specs.Recoverable.{PassesOnce}
+use Rattle.jn_found.proofs.Common.{◌≡◌, ◌≢◌, ◌⊎◌, inl, inr, ⊎_elim, ℕ, suc, ◌<◌, Bool, true, false, ◌||◌, List, [], ◌∷◌, length, get_or, set, refl, sym, ◌∙◌, ap, subst, true≢false, cases_eq, get_or-set_same, get_or-set_other, list_any, PassesOnce}
 use Rattle.jn_found.proofs.Found.{none_at}
 
 module _ {X : Type 0} (p : X → Bool) (d : X) where

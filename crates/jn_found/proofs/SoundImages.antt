@@ -1,33 +1,5 @@
 -- A store of a sound image is one from which a recovery may begin.
-use Rattle.std.proofs.Common.{◌≡◌, ⊎_elim, ◌<◌, ◌≤◌, ◌+◌, ℕ, zero, suc, Bool, true, false, if◌then◌else◌, List, [], length, Option, Some, None, get_or, refl, sym, ap, subst, ◌∙◌, true≢false, arith}
-use Rattle.std.specs.Prelude.{nat_lt, is_some, drop}
-use Rattle.std.proofs.lemmas.Bool.{cases_lt}
-use Rattle.std.proofs.lemmas.Bool.Decides.{nat_tests}
-use Rattle.std.proofs.lemmas.List.{get_or_past}
-use Rattle.jn_base.specs.declared.names.BlockNo.{BlockNo}
-use Rattle.jn_base.specs.declared.names.FileNo.{FileNo}
-use Rattle.jn_base.specs.declared.names.ServerNo.{ServerNo}
-use Rattle.jn_base.specs.declared.names.Tid.{Tid}
-use Rattle.jn_base.specs.declared.names.WorkId.{WorkId}
-use Rattle.jn_base.specs.Names.{file_eq}
-use Rattle.jn_records.specs.declared.head.Head.{Head}
-use Rattle.jn_records.specs.declared.head.Head.TheVariants.{Free as FreeHead, Used}
-use Rattle.jn_records.specs.declared.intention.StoredIntention.{StoredIntention}
-use Rattle.jn_records.specs.declared.record.Record.TheVariants.{Free, Intention}
-use Rattle.jn_records.specs.Heads.{head_page, IsHead, FileFits}
-use Rattle.jn_records.specs.Pages.{root_page}
-use Rattle.jn_records.specs.Sound.{Image, IsSound, Names}
-use Rattle.jn_records.specs.StablePages.{Counts, Pages, page_count, slot_place, head_place, data_place, is_used, file_in, address_in}
-use Rattle.jn_records.proofs.Heads.{head_is_read}
-use Rattle.jn_records.proofs.RecordsAgain.{record_is_read}
-use Rattle.jn_rows.specs.Stable.{Pick}
-use Rattle.jn_sets.specs.Pool.{record_in, is_prepared, is_flag}
-use Rattle.jn_storage.specs.Storage.{IsLoadable}
-use Rattle.jn_store.specs.Store.{StoreView, IsOnly}
-use Rattle.jn_found.specs.Contents.{Contents, head_in, is_head_of, address_at, state_in, works_in, flags_in, flag_by, prepared_by}
-use Rattle.jn_found.specs.Images.{CountsFit, IsStoreOf}
-use Rattle.jn_found.specs.Pages.{listed, record_or_free, head_or_free, record_on, head_on, pool_on, heads_on, contents_of, pages_by, half_of, root_by, IsOfFormat}
-use Rattle.jn_found.specs.Recoverable.{PassesOnce, IsCompleteBy, Intends, Addresses, AddressesDiffer, IsConsistent, IsRecoverable}
+use Rattle.jn_found.proofs.Common.{◌≡◌, ⊎_elim, ◌<◌, ◌≤◌, ◌+◌, ℕ, zero, suc, Bool, true, false, if◌then◌else◌, List, [], length, Option, Some, None, get_or, refl, sym, ap, subst, ◌∙◌, true≢false, arith, nat_lt, is_some, drop, cases_lt, nat_tests, get_or_past, BlockNo, FileNo, ServerNo, Tid, WorkId, file_eq, Head, FreeHead, Used, StoredIntention, Free, Intention, head_page, IsHead, FileFits, root_page, Image, IsSound, Names, Counts, Pages, page_count, slot_place, head_place, data_place, is_used, file_in, address_in, head_is_read, record_is_read, Pick, record_in, is_prepared, is_flag, IsLoadable, StoreView, IsOnly, Contents, head_in, is_head_of, address_at, state_in, works_in, flags_in, flag_by, prepared_by, CountsFit, IsStoreOf, listed, record_or_free, head_or_free, record_on, head_on, pool_on, heads_on, contents_of, pages_by, half_of, root_by, IsOfFormat, PassesOnce, IsCompleteBy, Intends, Addresses, AddressesDiffer, IsConsistent, IsRecoverable}
 use Rattle.jn_found.proofs.Found.{none_found}
 use Rattle.jn_found.proofs.HeadPages.{used_kind, used_file, used_address, whole}
 use Rattle.jn_found.proofs.HeadKept.{one_file}

@@ -1,18 +1,5 @@
 -- Puts on a store that stands.
-use Rattle.std.proofs.Common.{◌≡◌, ◌<◌, ℕ, Bool, true, false, List, sym, ap, subst, ◌∙◌}
-use Rattle.jn_base.specs.declared.names.ServerNo.{ServerNo}
-use Rattle.jn_records.specs.declared.head.Head.{Head}
-use Rattle.jn_records.specs.declared.record.Record.{Record}
-use Rattle.jn_records.specs.StablePages.{Counts, data_place}
-use Rattle.jn_rows.specs.Stable.{Pick, Change, made_by}
-use Rattle.jn_storage.specs.Storage.{IsLoadable}
-use Rattle.jn_store.specs.Store.{StoreView, IsClean}
-use Rattle.jn_found.specs.Contents.{Contents, state_in}
-use Rattle.jn_found.specs.Pages.{found_on, pages_by}
-use Rattle.jn_found.specs.Puts.{PagePut, PutStep, put_in, IsReadable, IsPut, is_written, contents_by}
-use Rattle.jn_found.specs.Recoverable.{IsConsistent, IsRecoverable, is_named}
-use Rattle.jn_found.specs.Held.{held_contents, epoch_after, records_after, heads_after}
-use Rattle.jn_found.specs.Standing.{IsStanding, standing_state, IsPutStep, MayChange, Makes, MakesNothing}
+use Rattle.jn_found.proofs.Common.{◌≡◌, ◌<◌, ℕ, Bool, true, false, List, sym, ap, subst, ◌∙◌, ServerNo, Head, Record, Counts, data_place, Pick, Change, made_by, IsLoadable, StoreView, IsClean, Contents, state_in, found_on, pages_by, PagePut, PutStep, put_in, IsReadable, IsPut, is_written, contents_by, IsConsistent, IsRecoverable, is_named, held_contents, epoch_after, records_after, heads_after, IsStanding, standing_state, IsPutStep, MayChange, Makes, MakesNothing}
 use Rattle.jn_found.proofs.CleanPages.{one_state}
 use Rattle.jn_found.proofs.FilesOnPages.{state_on_pages}
 use Rattle.jn_found.proofs.HeldAfter.{held_after}

@@ -1,15 +1,9 @@
 -- Which event the first draw chooses.
-use Rattle.std.proofs.Common.{◌≡◌, ◌∙◌, ℕ, zero, suc, ◌+◌, ◌-◌, ◌<◌, ◌≤◌, cond, nat_lt, [], ◌∷◌, get_or, inl, inr, refl, ap, arith}
+use Rattle.jn_gen.proofs.Common.{◌≡◌, ◌∙◌, ℕ, zero, suc, ◌+◌, ◌-◌, ◌<◌, ◌≤◌, cond, nat_lt, [], ◌∷◌, get_or, inl, inr, refl, ap, arith, nat_tests, get_or_past, Event, Draws, filled, choices, does, event_of, first_epoch, tells}
 use Rattle.std.proofs.lemmas.Bool.{cases_lt}
-use Rattle.std.proofs.lemmas.Bool.Decides.{nat_tests}
-use Rattle.std.proofs.lemmas.List.{get_or_past}
 use Rattle.jn_base.specs.declared.op.Command.TheVariants as commands
 use Rattle.jn_base.specs.declared.op.Op.TheVariants as ops
-use Rattle.jn_schedule.specs.declared.Event.{Event}
 use Rattle.jn_schedule.specs.declared.Event.TheVariants as events
-use Rattle.jn_gen.specs.declared.draws.Draws.{Draws}
-use Rattle.jn_schedule.specs.Grammar.{filled}
-use Rattle.jn_gen.specs.Trial.{choices, does, event_of, first_epoch, tells}
 
 -- the event at a number of the list
 pub chosen : (d : Draws) (k : ℕ) → d.choice ≡ k → event_of d ≡ get_or (choices d) k (events.Restart d.server)

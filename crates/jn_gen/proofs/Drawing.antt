@@ -1,15 +1,8 @@
 -- Draws and events are in range.
-use Rattle.std.proofs.Common.{◌≡◌, ◌∙◌, ℕ, zero, suc, ◌+◌, ◌-◌, ◌^◌, ◌<◌, ◌≤◌, min, Bool, true, false, List, [], ◌∷◌, ◌++◌, length, get_or, drop, take, refl, ap, sym, arith, nat_lt, cond, lit<, append_assoc}
-use Rattle.std.proofs.lemmas.List.{append-nil, length-replicate, take-append-drop}
-use Rattle.std.specs.List.{AllByRecursion}
+use Rattle.jn_gen.proofs.Common.{◌≡◌, ◌∙◌, ℕ, zero, suc, ◌+◌, ◌-◌, ◌^◌, ◌<◌, ◌≤◌, min, Bool, true, false, List, [], ◌∷◌, ◌++◌, length, get_or, drop, take, refl, ap, sym, arith, nat_lt, cond, lit<, append_assoc, append-nil, length-replicate, take-append-drop, AllByRecursion, Event, filled, kind_parts, EventInRange, PartsInRange, Draws, after_event, choices, does, draw, draws_from, event_of, events_from, fault_of, first_epoch, next_state, state_after, tells}
 use Rattle.jn_base.specs.declared.op.Command.TheVariants as commands
 use Rattle.jn_base.specs.declared.op.Op.TheVariants as ops
-use Rattle.jn_schedule.specs.declared.Event.{Event}
 use Rattle.jn_schedule.specs.declared.Event.TheVariants as events
-use Rattle.jn_schedule.specs.Grammar.{filled, kind_parts}
-use Rattle.jn_schedule.specs.Ranges.{EventInRange, PartsInRange}
-use Rattle.jn_gen.specs.declared.draws.Draws.{Draws}
-use Rattle.jn_gen.specs.Trial.{after_event, choices, does, draw, draws_from, event_of, events_from, fault_of, first_epoch, next_state, state_after, tells}
 
 pub state_fits : (x : ℕ) → next_state x < 2 ^ 64
 unfolding next_state

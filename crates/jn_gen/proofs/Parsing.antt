@@ -1,14 +1,6 @@
 -- The text of events is a schedule of them.
-use Rattle.std.proofs.Common.{◌≡◌, ◌∙◌, ℕ, true, false, nat_eq, ◌+◌, ◌<◌, ◌≤◌, List, [], ◌∷◌, ◌++◌, length, take, drop, get_or, filter, map, inl, inr, refl, ap, sym, subst, arith, append_assoc}
-use Rattle.std.proofs.lemmas.Bool.Decides.{nat_tests}
-use Rattle.std.proofs.lemmas.List.{append-nil, at_drop_all, at_drop_more, take_all, take_more}
+use Rattle.jn_gen.proofs.Common.{◌≡◌, ◌∙◌, ℕ, true, false, nat_eq, ◌+◌, ◌<◌, ◌≤◌, List, [], ◌∷◌, ◌++◌, length, take, drop, get_or, filter, map, inl, inr, refl, ap, sym, subst, arith, append_assoc, nat_tests, append-nil, at_drop_all, at_drop_more, take_all, take_more, AllByRecursion, onto_first, slice_split, Event, AreLines, IsSchedule, has_bytes, parts_of, word_lines, words_of, EventInRange, IsOfBytes, event_words, joined, line_of, spaced, text_of}
 use Rattle.std.proofs.lemmas.List.Splits.{slice_split-cons_no, slice_split-cons_yes}
-use Rattle.std.specs.List.{AllByRecursion, onto_first, slice_split}
-use Rattle.jn_schedule.specs.declared.Event.{Event}
-use Rattle.jn_schedule.specs.Grammar.{AreLines, IsSchedule, has_bytes, parts_of, word_lines, words_of}
-use Rattle.jn_schedule.specs.Ranges.{EventInRange}
-use Rattle.jn_gen.specs.Spell.{IsOfBytes}
-use Rattle.jn_gen.specs.Texts.{event_words, joined, line_of, spaced, text_of}
 use Rattle.jn_gen.proofs.Words.{IsWord, event_is_words, event_spelled, lacks, lacks-append}
 
 -- ---- cutting

@@ -1,11 +1,7 @@
 -- The words of an event's parts: each spells its part, and can stand in a line.
-use Rattle.std.proofs.Common.{◌≡◌, ◌∙◌, ℕ, ◌+◌, ◌-◌, ◌/◌, ◌%◌, ◌^◌, ◌<◌, ◌≤◌, zero, suc, Bool, true, false, not, ◌&&◌, nat_eq, nat_lt, List, [], ◌∷◌, ◌++◌, length, replicate, get_or, codes, decimal, map, refl, ap, sym, arith, append_assoc, lit<}
-use Rattle.std.proofs.lemmas.Bool.Decides.{nat_tests}
+use Rattle.jn_gen.proofs.Common.{◌≡◌, ◌∙◌, ℕ, ◌+◌, ◌-◌, ◌/◌, ◌%◌, ◌^◌, ◌<◌, ◌≤◌, zero, suc, Bool, true, false, not, ◌&&◌, nat_eq, nat_lt, List, [], ◌∷◌, ◌++◌, length, replicate, get_or, codes, decimal, map, refl, ap, sym, arith, append_assoc, lit<, nat_tests, length-append, length-replicate, AllByRecursion, FaultKind, Event, Part, Keyword, Client, Number, Name, Bytes, IsByte, SpellsBlock, SpellsName, SpellsPart, SpellsParts, has_bytes, parts_of, op_parts, command_parts, kind_parts, PartInRange, PartsInRange, part_word, tid_word, IsOfBytes}
 use Rattle.std.proofs.lemmas.Fmt.{decimal_by_steps, decimal_digit, decimal_nonempty}
-use Rattle.std.proofs.lemmas.List.{length-append, length-replicate}
-use Rattle.std.specs.List.{AllByRecursion}
 use Rattle.hex.specs.Hex.{encode_lower, encode_with, lower_digits}
-use Rattle.jn_base.specs.declared.device.FaultKind.{FaultKind}
 use Rattle.jn_base.specs.declared.device.FaultKind.TheVariants as kinds
 use Rattle.jn_base.specs.declared.names.ServerNo.{ServerNo}
 use Rattle.jn_base.specs.declared.names.Tid.{Tid}
@@ -13,13 +9,8 @@ use Rattle.jn_base.specs.declared.op.Command.{Command}
 use Rattle.jn_base.specs.declared.op.Command.TheVariants as commands
 use Rattle.jn_base.specs.declared.op.Op.{Op}
 use Rattle.jn_base.specs.declared.op.Op.TheVariants as ops
-use Rattle.jn_schedule.specs.declared.Event.{Event}
 use Rattle.jn_schedule.specs.declared.Event.TheVariants as events
-use Rattle.jn_schedule.specs.Grammar.{Part, Keyword, Client, Number, Name, Bytes, IsByte, SpellsBlock, SpellsName, SpellsPart, SpellsParts, has_bytes, parts_of, op_parts, command_parts, kind_parts}
-use Rattle.jn_schedule.specs.Ranges.{PartInRange, PartsInRange}
 use Rattle.jn_text.specs.Words.{before_zeros, block_word, hex_word, without_end_zeros}
-use Rattle.jn_gen.specs.Texts.{part_word, tid_word}
-use Rattle.jn_gen.specs.Spell.{IsOfBytes}
 
 -- ---- bytes that aren't there
 

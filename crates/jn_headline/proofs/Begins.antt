@@ -1,27 +1,6 @@
 -- The end of a run begins: what it comes to from there.
-use Rattle.std.proofs.Common.{◌≡◌, ◌⊎◌, inl, ℕ, ◌<◌, Bool, true, false, List, [], ◌∷◌, ◌++◌, append-nil, length, drop, Option, Some, None, is_some, refl, sym, ◌∙◌, ap, subst}
-use Rattle.std.specs.Prelude.{slice_get, if◌then◌else◌}
-use Rattle.jn_base.specs.declared.names.ServerNo.{ServerNo}
-use Rattle.jn_base.specs.declared.names.Party.TheVariants.{Server}
-use Rattle.jn_msgs.specs.declared.message.Message.{Message}
-use Rattle.jn_order.specs.Files.{AllFiles}
-use Rattle.jn_device.specs.Device.{DeviceState}
-use Rattle.jn_report.specs.declared.line.Text.{Text}
-use Rattle.jn_report.specs.declared.line.Line.{Line}
-use Rattle.jn_aside.specs.Aside.{plain}
-use Rattle.jn_system.specs.WholeSystem.World.{World, Memory, opening}
-use Rattle.jn_system.specs.WholeSystem.Steps.{Step, Dismiss, after, run}
-use Rattle.jn_system_settling.specs.Settling.Course.{Course, go, go_on, newly_sent}
-use Rattle.jn_system_reports.specs.Reporting.Reported.{Item, steps_of, world_of, lines_of}
-use Rattle.jn_system_reports.specs.Reporting.Ending.{at_end}
+use Rattle.jn_headline.proofs.Common.{◌≡◌, ◌⊎◌, inl, ℕ, ◌<◌, Bool, true, false, List, [], ◌∷◌, ◌++◌, append-nil, length, drop, Option, Some, None, is_some, refl, sym, ◌∙◌, ap, subst, slice_get, if◌then◌else◌, ServerNo, Server, Message, AllFiles, DeviceState, Text, Line, plain, World, Memory, opening, Step, Dismiss, after, run, Course, go, go_on, newly_sent, Item, steps_of, world_of, lines_of, at_end, Setup, Chance, Task, Dismisses, InSchedule, AtEnd, CutShort, Stage, State, next_at, begun, Befalls, ending, deed_of, dismissing, own_texts, is_too_much, come_to, cut_short, made, done, none, more, Moment, Leads, IsToldBy}
 use Rattle.jn_within.proofs.WorldSteps.{run-within, opening-within, sent-near}
-use Rattle.jn_written.specs.Chances.{Setup, Chance}
-use Rattle.jn_written.specs.Tasks.{Task, Dismisses, InSchedule, AtEnd, CutShort, Stage, State, next_at, begun}
-use Rattle.jn_written.specs.Devices.{Befalls}
-use Rattle.jn_written.specs.Events.{ending, deed_of, dismissing}
-use Rattle.jn_written.specs.Steps.{own_texts, is_too_much, come_to, cut_short, made, done}
-use Rattle.jn_written.specs.Runs.{none, more, Moment, Leads}
-use Rattle.jn_retold.specs.Retold.{IsToldBy}
 use Rattle.jn_headline.proofs.Behind.{GoesWith, go-behind}
 use Rattle.jn_headline.proofs.Texts.{no-messages, lines-left, lines-more}
 use Rattle.jn_headline.proofs.Quiet.{IsQuiet}

@@ -1,14 +1,5 @@
 -- A course with lines of servers that came up before its own goes as it does without them.
-use Rattle.std.proofs.Common.{◌≡◌, ℕ, true, List, [], ◌∷◌, ◌++◌, append-nil, length, drop, sym, ◌∙◌, ap}
-use Rattle.std.specs.List.{list_all}
-use Rattle.jn_report.specs.declared.line.Text.{Text}
-use Rattle.jn_system.specs.WholeSystem.World.{World, commits_in}
-use Rattle.jn_system.specs.WholeSystem.Steps.{Step, IsStep, after}
-use Rattle.jn_system_settling.specs.Settling.Course.{Course, go, numbered, newly_sent, still_waiting}
-use Rattle.jn_system_reports.specs.Reporting.Reported.{Does, told_by}
-use Rattle.jn_written.specs.Kinds.{is_up}
-use Rattle.jn_written.specs.Steps.{own_texts}
-use Rattle.jn_retold.specs.Retold.{behind}
+use Rattle.jn_headline.proofs.Common.{◌≡◌, ℕ, true, List, [], ◌∷◌, ◌++◌, append-nil, length, drop, sym, ◌∙◌, ap, list_all, Text, World, commits_in, Step, IsStep, after, Course, go, numbered, newly_sent, still_waiting, Does, told_by, is_up, own_texts, behind}
 use Rattle.jn_retold.proofs.Behind.{ups-name-none, step-behind}
 use Rattle.jn_retold.proofs.Seen.{told-behind, may-run}
 

@@ -1,17 +1,5 @@
 -- Which server works next, where rubbish counts and where it doesn't.
-use Rattle.std.proofs.Common.{◌≡◌, ℕ, zero, suc, ◌+◌, ◌<◌, ◌≤◌, Bool, true, false, List, [], ◌∷◌, Option, Some, None, refl, sym, subst, arith}
-use Rattle.std.proofs.lemmas.Bool.Decides.{nat_tests}
-use Rattle.std.specs.Prelude.{◌&&◌, ◌||◌, if◌then◌else◌, nat_lt}
-use Rattle.jn_base.specs.declared.names.ServerNo.{ServerNo}
-use Rattle.jn_rows.specs.Outcomes.{RowOutcome}
-use Rattle.jn_rows.specs.Stable.{StableState, Change, stable}
-use Rattle.jn_system.specs.WholeSystem.World.{World, Memory, servers_from}
-use Rattle.jn_system.specs.WholeSystem.Servers.{Room, server_step}
-use Rattle.jn_system.specs.WholeSystem.Steps.{Work, after}
-use Rattle.jn_system_settling.specs.Settling.Settle.{is_busy as has_going}
-use Rattle.jn_rests.proofs.BusyServers.{goes, nothing, erased-same}
-use Rattle.jn_written.specs.Deeds.{is_busy, is_busy_with}
-use Rattle.jn_written.specs.Events.{first_busy}
+use Rattle.jn_headline.proofs.Common.{◌≡◌, ℕ, zero, suc, ◌+◌, ◌<◌, ◌≤◌, Bool, true, false, List, [], ◌∷◌, Option, Some, None, refl, sym, subst, arith, nat_tests, ◌&&◌, ◌||◌, if◌then◌else◌, nat_lt, ServerNo, RowOutcome, StableState, Change, stable, World, Memory, servers_from, Room, server_step, Work, after, has_going, goes, nothing, erased-same, is_busy, is_busy_with, first_busy}
 
 -- ---- the first of them
 

@@ -1,29 +1,7 @@
 -- A run that has come so far within its end, step by step.
-use Rattle.std.proofs.Common.{◌≡◌, ◌⊎◌, inl, inr, ℕ, Bool, true, false, List, [], ◌∷◌, ◌++◌, append_assoc, append-nil, length, drop, Some, None, refl, sym, ◌∙◌, ap, subst, arith}
+use Rattle.jn_headline.proofs.Common.{◌≡◌, ◌⊎◌, inl, inr, ℕ, Bool, true, false, List, [], ◌∷◌, ◌++◌, append_assoc, append-nil, length, drop, Some, None, refl, sym, ◌∙◌, ap, subst, arith, ◌&&◌, if◌then◌else◌, list_all, Text, Line, plain, Sent, World, Step, IsStep, IsRun, after, run, Course, numbered, newly_sent, still_waiting, go, go_on, on-world, Does, told_by, told_by_steps, at_end, is_of_end, is_print, Setup, Chance, Task, AtEnd, CutShort, Stage, State, when_at, next_at, begun, is_up, Deed, Befalls, deed_of, outside_texts, own_texts, texts_of, is_too_much, come_to, cut_short, made, done, none, more, Moment, DoesStep, Leads, both, behind}
 use Rattle.std.proofs.Math.Seq.{drop-append_seam}
-use Rattle.std.specs.Prelude.{◌&&◌, if◌then◌else◌}
-use Rattle.std.specs.List.{list_all}
-use Rattle.jn_report.specs.declared.line.Text.{Text}
-use Rattle.jn_report.specs.declared.line.Line.{Line}
-use Rattle.jn_aside.specs.Aside.{plain}
-use Rattle.jn_rows.specs.Outcomes.{Sent}
-use Rattle.jn_system.specs.WholeSystem.World.{World}
-use Rattle.jn_system.specs.WholeSystem.Steps.{Step, IsStep, IsRun, after, run}
-use Rattle.jn_system_settling.specs.Settling.Course.{Course, numbered, newly_sent, still_waiting, go, go_on}
-use Rattle.jn_system_settling.proofs.Settling.Settling.{on-world}
-use Rattle.jn_system_reports.specs.Reporting.Reported.{Does, told_by}
-use Rattle.jn_system_reports.specs.Reporting.Ending.{told_by_steps, at_end}
-use Rattle.jn_headline.specs.CutReports.Cut.{is_of_end, is_print}
-use Rattle.jn_written.specs.Chances.{Setup, Chance}
-use Rattle.jn_written.specs.Tasks.{Task, AtEnd, CutShort, Stage, State, when_at, next_at, begun}
-use Rattle.jn_written.specs.Kinds.{is_up}
-use Rattle.jn_written.specs.Deeds.{Deed}
-use Rattle.jn_written.specs.Devices.{Befalls}
-use Rattle.jn_written.specs.Events.{deed_of}
-use Rattle.jn_written.specs.Steps.{outside_texts, own_texts, texts_of, lines_at, is_too_much, come_to, cut_short, made, done}
-use Rattle.jn_written.specs.Runs.{none, more, Moment, DoesStep, Leads}
-use Rattle.jn_written.proofs.Telling.{both}
-use Rattle.jn_retold.specs.Retold.{behind}
+use Rattle.jn_written.specs.Steps.{lines_at}
 use Rattle.jn_retold.proofs.Items.{is-run-both}
 use Rattle.jn_headline.proofs.Behind.{GoesWith, go-behind, may-behind, own-behind}
 use Rattle.jn_headline.proofs.Texts.{told-append, no-messages, lines-left, lines-more}

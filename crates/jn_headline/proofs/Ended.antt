@@ -1,38 +1,6 @@
 -- An end that was done whole is an ending of the whole system, which settles until nothing is left to do.
-use Rattle.std.proofs.Common.{◌≡◌, ℕ, suc, ◌+◌, ◌<◌, ◌≤◌, Bool, true, false, List, [], ◌∷◌, ◌++◌, append_assoc, append-nil, length, Option, Some, None, is_some, refl, sym, ◌∙◌, ap, subst, arith}
-use Rattle.std.specs.Prelude.{map, nat_lt}
-use Rattle.std.specs.List.{list_all}
-use Rattle.std.proofs.lemmas.Bool.Decides.{nat_tests}
-use Rattle.jn_base.specs.declared.names.ServerNo.{ServerNo}
-use Rattle.jn_base.specs.declared.names.ClientNo.{ClientNo}
-use Rattle.jn_base.specs.declared.names.FileNo.{FileNo}
-use Rattle.jn_base.specs.declared.names.BlockNo.{BlockNo}
-use Rattle.jn_base.specs.declared.names.Tid.{Tid}
-use Rattle.jn_base.specs.declared.names.LockUnit.{LockUnit}
-use Rattle.jn_base.specs.declared.names.LockUnit.TheVariants.{Block}
-use Rattle.jn_order.specs.Files.{AllFiles}
-use Rattle.jn_report.specs.declared.line.Text.{Text}
-use Rattle.jn_report.specs.declared.line.Line.{Line}
-use Rattle.jn_rows.specs.Stable.{Pick, StableState, stable}
-use Rattle.jn_rows.specs.Worker.{commit_holder}
-use Rattle.jn_aside.specs.Aside.{plain}
-use Rattle.jn_system.specs.WholeSystem.World.{World, Memory, opening, servers_from}
-use Rattle.jn_system.specs.WholeSystem.Printing.{Printed, print_unit, prints_in, print_files}
-use Rattle.jn_system.specs.WholeSystem.Steps.{Step, Again, Nudge, Dismiss, run, IsRun}
-use Rattle.jn_system_settling.specs.Settling.Course.{Course, go, go_on}
-use Rattle.jn_system_settling.specs.Settling.Settle.{settled, until_rest, ask_again}
-use Rattle.jn_system_settling.proofs.Settling.Settling.{on-world}
-use Rattle.jn_system_settling.specs.AtRest.Settled.{AreUp}
-use Rattle.jn_system_settling.specs.Closing.Ending.{IsEmpty}
-use Rattle.jn_rests.specs.Rests.{ComeToRest, chances_of, asked}
-use Rattle.jn_rests.proofs.Loops.{reached}
-use Rattle.jn_system_reports.specs.Reporting.Printing.{IsPrinted}
-use Rattle.jn_system_reports.specs.Reporting.Reported.{Item, Does, told_by, world_of, lines_of, IsReported}
-use Rattle.jn_system_reports.specs.Reporting.Ending.{Ending, settles, world_at_end, ArePrinted, told_by_steps, texts_from, at_end, counted, IsWholeRun, all_lines}
-use Rattle.jn_headline.specs.WholeReports.Whole.{IsSettledEnd}
+use Rattle.jn_headline.proofs.Common.{◌≡◌, ℕ, suc, ◌+◌, ◌<◌, ◌≤◌, Bool, true, false, List, [], ◌∷◌, ◌++◌, append_assoc, append-nil, length, Option, Some, None, is_some, refl, sym, ◌∙◌, ap, subst, arith, map, nat_lt, list_all, nat_tests, ServerNo, ClientNo, FileNo, BlockNo, Tid, LockUnit, Block, AllFiles, Text, Line, Pick, StableState, stable, commit_holder, plain, World, Memory, opening, servers_from, Printed, print_unit, prints_in, print_files, Step, Again, Nudge, Dismiss, run, IsRun, Course, go, go_on, settled, until_rest, ask_again, on-world, AreUp, IsEmpty, ComeToRest, chances_of, asked, reached, IsPrinted, Item, Does, told_by, world_of, lines_of, IsReported, Ending, settles, world_at_end, ArePrinted, told_by_steps, texts_from, at_end, counted, IsWholeRun, all_lines, IsSettledEnd, blocks_from, Moment}
 use Rattle.jn_headline.proofs.WholeReports.Whole.{empty-where-up}
-use Rattle.jn_written.specs.Deeds.{blocks_from}
-use Rattle.jn_written.specs.Runs.{Moment}
 use Rattle.jn_retold.proofs.Showing.{all-printed}
 use Rattle.jn_headline.proofs.Came.{all-append, on-append, drop-all}
 use Rattle.jn_headline.proofs.Parts.{Part}

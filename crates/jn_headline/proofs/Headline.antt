@@ -1,26 +1,7 @@
 -- What a run comes to whose schedule is retold.
-use Rattle.std.proofs.Common.{◌≡◌, ◌⊎◌, inl, inr, ℕ, ◌+◌, ◌≤◌, List, [], append-nil, length, sym, ◌∙◌, ap, subst, arith}
-use Rattle.std.proofs.lemmas.List.{length-map}
-use Rattle.jn_base.specs.declared.names.ServerNo.{ServerNo}
-use Rattle.jn_order.specs.Files.{AllFiles}
-use Rattle.jn_schedule.specs.declared.Event.{Event}
-use Rattle.jn_aside.specs.Aside.{plain}
-use Rattle.jn_system.specs.WholeSystem.World.{opening}
-use Rattle.jn_system_reports.specs.Reporting.Reported.{Item, events_of, world_of, IsReported}
-use Rattle.jn_system_reports.specs.Reporting.Ending.{Ending, IsWholeRun, AreFilesOf, all_lines}
-use Rattle.jn_system_reports.proofs.Reporting.Following.{run-follows}
-use Rattle.jn_system_reports.proofs.Causing.Ends.{end-causes, end-told}
-use Rattle.jn_system_reports.proofs.Showing.Ends.{end-agrees, end-whole, end-free}
-use Rattle.jn_system_reports.proofs.Showing.Follows.{follows-to-end, counted-follows}
-use Rattle.jn_headline.specs.WholeReports.Whole.{IsSettledEnd, IsOfItsCommits}
+use Rattle.jn_headline.proofs.Common.{◌≡◌, ◌⊎◌, inl, inr, ℕ, ◌+◌, ◌≤◌, List, [], append-nil, length, sym, ◌∙◌, ap, subst, arith, length-map, ServerNo, AllFiles, Event, plain, opening, Item, events_of, world_of, IsReported, Ending, IsWholeRun, AreFilesOf, all_lines, run-follows, end-causes, end-told, end-agrees, end-whole, end-free, follows-to-end, counted-follows, IsSettledEnd, IsOfItsCommits, CutEnd, IsCutEnd, IsTrueSoFar, cut_lines, Setup, AtEnd, Moment, IsRetold, IsRetoldInPart, IsTrueOfBegun}
 use Rattle.jn_headline.proofs.WholeReports.Outcomes.{told-to-end}
 use Rattle.jn_headline.proofs.WholeReports.Whole.{end-holds}
-use Rattle.jn_headline.specs.CutReports.Cut.{CutEnd, IsCutEnd, IsTrueSoFar, cut_lines}
-use Rattle.jn_written.specs.Chances.{Setup}
-use Rattle.jn_written.specs.Tasks.{AtEnd}
-use Rattle.jn_written.specs.Runs.{Moment}
-use Rattle.jn_retold.specs.Retold.{IsRetold, IsRetoldInPart}
-use Rattle.jn_headline.specs.Headline.{IsTrueOfBegun}
 use Rattle.jn_headline.proofs.Numbered.{items-begin}
 use Rattle.jn_headline.proofs.Ended.{PartOf, WholeOf, ending, is-whole, is-settled, lines-are}
 use Rattle.jn_headline.proofs.Begins.{begins}

@@ -1,19 +1,8 @@
 -- Runs of the written machine have reports of their commits.
-use Rattle.std.proofs.Common.{◌≡◌, ◌⊎◌, inl, inr, ℕ, ◌≤◌, List, subst}
-use Rattle.std.specs.List.{AllByRecursion}
-use Rattle.jn_base.specs.declared.names.ServerNo.{ServerNo}
-use Rattle.jn_order.specs.Files.{AllFiles}
-use Rattle.jn_schedule.specs.declared.Event.{Event}
+use Rattle.jn_headline.proofs.Common.{◌≡◌, ◌⊎◌, inl, inr, ℕ, ◌≤◌, List, subst, AllByRecursion, ServerNo, AllFiles, Event, Line, IsOfItsCommits, Setup, Devices, Moment, IsRetold, IsRetoldInPart, IsTrueOfBegun}
 use Rattle.jn_schedule.specs.Ranges.{EventInRange}
-use Rattle.jn_report.specs.declared.line.Line.{Line}
-use Rattle.jn_headline.specs.WholeReports.Whole.{IsOfItsCommits}
-use Rattle.jn_written.specs.Chances.{Setup}
-use Rattle.jn_written.specs.Devices.{Devices}
-use Rattle.jn_written.specs.Runs.{Moment}
 use Rattle.jn_written.specs.Whole.{AreImages, IsWritten, IsWhole, IsLimited, IsPartOfRun}
-use Rattle.jn_retold.specs.Retold.{IsRetold, IsRetoldInPart}
 use Rattle.jn_retold.proofs.Whole.{run-retold, done-retold}
-use Rattle.jn_headline.specs.Headline.{IsTrueOfBegun}
 use Rattle.jn_headline.proofs.Headline.{whole-run, run-so-far, part-so-far}
 
 module _ (x : Setup) (schedule : List Event) (images : Devices) (few : x.servers ≤ 8) (ranges : AllByRecursion EventInRange schedule) where

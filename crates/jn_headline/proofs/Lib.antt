@@ -1,3 +1,4 @@
+mod Common
 pub mod WholeReports
 pub mod CutReports
 pub mod Behind

@@ -1,15 +1,6 @@
 -- How many events have begun.
-use Rattle.std.proofs.Common.{◌≡◌, ℕ, suc, ◌+◌, true, false, List, [], ◌∷◌, length, refl, sym, ◌∙◌, ap, arith}
-use Rattle.std.specs.List.{list_all}
-use Rattle.jn_schedule.specs.declared.Event.{Event}
+use Rattle.jn_headline.proofs.Common.{◌≡◌, ℕ, suc, ◌+◌, true, false, List, [], ◌∷◌, length, refl, sym, ◌∙◌, ap, arith, list_all, Event, World, Step, NextEvent, Tell, after, run, steps-append, Act, Does, Refuses, Tells, Shows, Item, steps_in, steps_of, world_of, may_do, may_act, IsUnder, AreUnder, is_of_end, event_after, adds, first, second}
 use Rattle.jn_schedule.specs.declared.Event.TheVariants as events
-use Rattle.jn_system.specs.WholeSystem.World.{World}
-use Rattle.jn_system.specs.WholeSystem.Steps.{Step, NextEvent, Tell, after, run}
-use Rattle.jn_system_reports.proofs.Telling.Reports.{steps-append}
-use Rattle.jn_system_reports.specs.Reporting.Reported.{Act, Does, Refuses, Tells, Shows, Item, steps_in, steps_of, world_of, may_do, may_act, IsUnder, AreUnder}
-use Rattle.jn_headline.specs.CutReports.Cut.{is_of_end}
-use Rattle.jn_written.specs.Kinds.{event_after}
-use Rattle.jn_written.proofs.Telling.{adds, first, second}
 
 -- ---- steps of an end begin none
 

@@ -1,20 +1,5 @@
 -- Where a run is cut off within its end, and where it goes on behind a task.
-use Rattle.std.proofs.Common.{◌≡◌, ◌⊎◌, inl, inr, true, List, [], ◌∷◌, ◌++◌, append_assoc, append-nil, sym, ◌∙◌, ap, subst}
-use Rattle.std.specs.Prelude.{map}
-use Rattle.std.specs.List.{list_all, AllByRecursion}
-use Rattle.jn_report.specs.declared.line.Text.{Text}
-use Rattle.jn_report.specs.declared.line.Line.{Line}
-use Rattle.jn_aside.specs.Aside.{plain}
-use Rattle.jn_system.specs.WholeSystem.World.{World}
-use Rattle.jn_system.specs.WholeSystem.Steps.{Step, IsRun}
-use Rattle.jn_system_settling.specs.Settling.Course.{Course}
-use Rattle.jn_system_settling.proofs.Settling.Settling.{on-world}
-use Rattle.jn_system_reports.specs.Reporting.Ending.{told_by_steps, at_end}
-use Rattle.jn_headline.specs.CutReports.Cut.{is_of_end, is_print}
-use Rattle.jn_written.specs.Chances.{Setup}
-use Rattle.jn_written.specs.Tasks.{Task, AtEnd, CutShort, State}
-use Rattle.jn_written.specs.Steps.{cut_short}
-use Rattle.jn_written.specs.Runs.{none, more, Moment, Leads}
+use Rattle.jn_headline.proofs.Common.{◌≡◌, ◌⊎◌, inl, inr, true, List, [], ◌∷◌, ◌++◌, append_assoc, append-nil, sym, ◌∙◌, ap, subst, map, list_all, AllByRecursion, Text, Line, plain, World, Step, IsRun, Course, on-world, told_by_steps, at_end, is_of_end, is_print, Setup, Task, AtEnd, CutShort, State, cut_short, none, more, Moment, Leads}
 use Rattle.jn_headline.proofs.Numbered.{end-begins-none}
 use Rattle.jn_headline.proofs.Came.{Came, Makes, IsOrdinary, one-step, stuck}
 

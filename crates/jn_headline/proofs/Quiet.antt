@@ -1,27 +1,11 @@
 -- Devices at which no fault waits strike nothing, and stay so.
-use Rattle.std.proofs.Common.{◌≡◌, ◌≢◌, ◌⊎◌, inl, inr, ℕ, ◌<◌, Bool, true, false, List, [], Option, Some, None, is_some, refl, sym, ◌∙◌, ap, subst}
-use Rattle.std.specs.Prelude.{not, if◌then◌else◌, slice_get}
-use Rattle.jn_base.specs.declared.names.ServerNo.{ServerNo}
-use Rattle.jn_base.specs.declared.names.ClientNo.{ClientNo}
-use Rattle.jn_base.specs.declared.names.Tid.{Tid}
+use Rattle.jn_headline.proofs.Common.{◌≡◌, ◌≢◌, ◌⊎◌, inl, inr, ℕ, ◌<◌, Bool, true, false, List, [], Option, Some, None, is_some, refl, sym, ◌∙◌, ap, subst, not, if◌then◌else◌, slice_get, ServerNo, ClientNo, Tid, Client, Server, server_eq, server_tells, Message, DeviceState, RowOutcome, Sent, Pick, stable, World, Memory, at_server, Room, server_row, server_step, of_coordinator, restored, Deliver, Work, Nudge, Crash, Restart, CloseClients, after, at_memory, handed, work, works, nudge, crash, close_clients, restart, took, Setup, Chance, Devices, IsCalled, IsRecovery}
 use Rattle.jn_base.specs.declared.names.WorkId.{WorkId}
-use Rattle.jn_base.specs.declared.names.Party.TheVariants.{Client, Server}
-use Rattle.jn_base.specs.Names.{server_eq}
-use Rattle.jn_base.proofs.Tells.{server_tells}
-use Rattle.jn_msgs.specs.declared.message.Message.{Message}
-use Rattle.jn_device.specs.Device.{DeviceState}
 use Rattle.jn_device.specs.Events.{powered_off}
 use Rattle.jn_rows.specs.declared.client.Taken.{Taken}
 use Rattle.jn_rows.specs.declared.client.Taken.TheVariants as taken
 use Rattle.jn_rows.specs.Client.{ClientTable, take_row}
 use Rattle.jn_rows.specs.Coordinator.{close_clients_row}
-use Rattle.jn_rows.specs.Outcomes.{RowOutcome, Sent}
-use Rattle.jn_rows.specs.Stable.{Pick, stable}
-use Rattle.jn_system.specs.WholeSystem.World.{World, Memory, at_server}
-use Rattle.jn_system.specs.WholeSystem.Servers.{Room, server_row, server_step, of_coordinator, restored}
-use Rattle.jn_system.specs.WholeSystem.Steps.{Deliver, Work, Nudge, Crash, Restart, CloseClients, after, at_memory, handed, work, works, nudge, crash, close_clients, restart, took}
-use Rattle.jn_written.specs.Chances.{Setup, Chance}
-use Rattle.jn_written.specs.Devices.{Devices, IsCalled, IsRecovery}
 use Rattle.jn_written.proofs.Struck.{nothing-strikes}
 
 -- each server that is up has power, and no device has told a fault or lets one wait

@@ -1,33 +1,6 @@
 -- A rest within the end: its steps, but for erasures, are each what comes next.
-use Rattle.std.proofs.Common.{◌≡◌, ◌⊎◌, inl, inr, ℕ, ◌+◌, ◌<◌, ◌≤◌, Bool, true, false, List, [], ◌∷◌, ◌++◌, append_assoc, append-nil, Option, Some, None, is_some, refl, sym, ◌∙◌, ap, subst, arith}
-use Rattle.std.specs.Prelude.{◌&&◌, slice_get, if◌then◌else◌}
-use Rattle.std.specs.List.{list_all}
-use Rattle.jn_base.specs.declared.names.ServerNo.{ServerNo}
-use Rattle.jn_base.specs.declared.names.Party.TheVariants.{Client, Server}
-use Rattle.jn_base.specs.Names.{server_eq}
-use Rattle.jn_msgs.specs.declared.message.Message.{Message}
-use Rattle.jn_report.specs.declared.line.Text.{Text}
-use Rattle.jn_report.specs.declared.line.Line.{Line}
-use Rattle.jn_rows.specs.Outcomes.{Sent}
-use Rattle.jn_rows.specs.Stable.{Pick, stable}
-use Rattle.jn_system.specs.WholeSystem.World.{World, Memory, servers_from}
-use Rattle.jn_system.specs.WholeSystem.Servers.{Room}
-use Rattle.jn_system.specs.WholeSystem.Steps.{Step, Deliver, Work, after, run}
-use Rattle.jn_system_settling.specs.Settling.Course.{Course, go_on}
-use Rattle.jn_system_settling.specs.Settling.Settle.{first_busy as first_going, is_busy as has_going, handing, working, next_step}
-use Rattle.jn_system_settling.proofs.Settling.Settling.{on-world}
-use Rattle.jn_rests.specs.Rests.{ComesNext, AreNext, ComeToRest}
-use Rattle.jn_rests.proofs.Loops.{in-turn}
-use Rattle.jn_rests.proofs.BusyServers.{first-is, first-none}
-use Rattle.jn_system_reports.specs.Reporting.Ending.{settles}
-use Rattle.jn_written.specs.Chances.{Setup, Chance}
-use Rattle.jn_written.specs.Tasks.{Task, Rests}
-use Rattle.jn_written.specs.Deeds.{Deed, plain, served, nothing, room, no_room, delivered, delivered_at, is_busy_with, worked, working_steps}
-use Rattle.jn_written.specs.Devices.{Befalls, IsServed, Alone}
-use Rattle.jn_written.specs.Events.{first_busy, next_event, resting}
-use Rattle.jn_written.specs.Kinds.{is_up}
-use Rattle.jn_written.specs.Steps.{come_to, cut_short}
-use Rattle.jn_written.specs.Runs.{none, more, Moment, Leads}
+use Rattle.jn_headline.proofs.Common.{◌≡◌, ◌⊎◌, inl, inr, ℕ, ◌+◌, ◌<◌, ◌≤◌, Bool, true, false, List, [], ◌∷◌, ◌++◌, append_assoc, append-nil, Option, Some, None, is_some, refl, sym, ◌∙◌, ap, subst, arith, ◌&&◌, slice_get, if◌then◌else◌, list_all, ServerNo, Client, Server, server_eq, Message, Text, Line, Sent, Pick, stable, World, Memory, servers_from, Room, Step, Deliver, Work, after, run, Course, go_on, first_going, has_going, handing, working, next_step, on-world, ComesNext, AreNext, ComeToRest, in-turn, first-is, first-none, settles, Setup, Chance, Task, Rests, Deed, served, room, no_room, delivered, delivered_at, is_busy_with, worked, working_steps, Befalls, IsServed, Alone, first_busy, next_event, resting, is_up, come_to, cut_short, none, more, Moment, Leads}
+use Rattle.jn_written.specs.Deeds.{plain, nothing}
 use Rattle.jn_headline.proofs.Quiet.{Calm, called-calm, quiet-same, quiet-called, delivered-up, worked-up}
 use Rattle.jn_headline.proofs.Came.{Came, Makes, all-append, on-append, one-step, came-none, came-same, came-one, tasks-then}
 use Rattle.jn_headline.proofs.Parts.{Part, Past, left, cut-off}

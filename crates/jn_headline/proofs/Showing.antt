@@ -1,34 +1,9 @@
 -- Shows and scrubs at the end: what each server prints, and that nothing else happens.
-use Rattle.std.proofs.Common.{◌≡◌, ◌⊎◌, inl, inr, ℕ, zero, suc, ◌+◌, ◌<◌, ◌≤◌, Bool, true, false, List, [], ◌∷◌, ◌++◌, append_assoc, append-nil, length, Option, Some, None, is_some, refl, sym, ◌∙◌, ap, subst, arith}
-use Rattle.std.specs.Prelude.{map, nat_lt, if◌then◌else◌, option_and_then}
-use Rattle.std.specs.List.{list_all}
-use Rattle.std.proofs.lemmas.Bool.Decides.{nat_tests}
-use Rattle.jn_base.specs.declared.names.ServerNo.{ServerNo}
-use Rattle.jn_base.specs.declared.names.FileNo.{FileNo}
-use Rattle.jn_base.specs.declared.names.BlockNo.{BlockNo}
-use Rattle.jn_base.specs.declared.names.LockUnit.TheVariants.{File, Block}
-use Rattle.jn_base.specs.Names.{server_eq, file_eq}
+use Rattle.jn_headline.proofs.Common.{◌≡◌, ◌⊎◌, inl, inr, ℕ, zero, suc, ◌+◌, ◌<◌, ◌≤◌, Bool, true, false, List, [], ◌∷◌, ◌++◌, append_assoc, append-nil, length, Option, Some, None, is_some, refl, sym, ◌∙◌, ap, subst, arith, map, nat_lt, if◌then◌else◌, option_and_then, list_all, nat_tests, ServerNo, FileNo, BlockNo, File, Block, server_eq, file_eq, Text, Line, StableState, Pick, stable, World, Memory, servers_from, Printed, FileThere, PageStored, UnitLocked, prints_in, print_files, file_before, Step, AreNames, Course, go_on, text_printed, is_print, Setup, Chance, Task, Acts, Deed, Reads, served, stopped_idle, shown, showing, scrubbed, blocks_from, Befalls, AreFound, IsServed, IsLookedOver, Alone, is_up, come_to, Moment, Leads, both}
 use Rattle.jn_schedule.specs.declared.Event.TheVariants as events
 use Rattle.jn_records.specs.StablePages.{Counts, Pages, block_behind, address_in, block_in, head_of, files_of_pages}
-use Rattle.jn_report.specs.declared.line.Text.{Text}
-use Rattle.jn_report.specs.declared.line.Line.{Line}
-use Rattle.jn_rows.specs.Stable.{StableState, Pick, stable}
 use Rattle.jn_store.specs.Pairs.{pairs_view}
 use Rattle.jn_found.specs.Pages.{pages_by}
-use Rattle.jn_system.specs.WholeSystem.World.{World, Memory, servers_from}
-use Rattle.jn_system.specs.WholeSystem.Printing.{Printed, FileThere, PageStored, UnitLocked, prints_in, print_files, file_before}
-use Rattle.jn_system.specs.WholeSystem.Steps.{Step, AreNames}
-use Rattle.jn_system_settling.specs.Settling.Course.{Course, go_on}
-use Rattle.jn_system_reports.specs.Reporting.Printing.{text_printed}
-use Rattle.jn_headline.specs.CutReports.Cut.{is_print}
-use Rattle.jn_written.specs.Chances.{Setup, Chance}
-use Rattle.jn_written.specs.Tasks.{Task, Acts}
-use Rattle.jn_written.specs.Deeds.{Deed, Reads, served, stopped_idle, shown, showing, scrubbed, blocks_from}
-use Rattle.jn_written.specs.Devices.{Befalls, AreFound, IsServed, IsLookedOver, Alone}
-use Rattle.jn_written.specs.Kinds.{is_up}
-use Rattle.jn_written.specs.Steps.{come_to}
-use Rattle.jn_written.specs.Runs.{Moment, Leads}
-use Rattle.jn_written.proofs.Telling.{both}
 use Rattle.jn_headline.proofs.Quiet.{Calm, called-calm, quiet-called}
 use Rattle.jn_headline.proofs.Came.{Came, came-none, tasks-then}
 use Rattle.jn_headline.proofs.Parts.{Part, Past, Onward, drive}

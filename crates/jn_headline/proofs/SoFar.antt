@@ -1,37 +1,12 @@
 -- The report of a run that was cut off, and that of a whole run.
-use Rattle.std.proofs.Common.{◌≡◌, inr, ℕ, suc, ◌+◌, ◌≤◌, ◌<◌, Bool, true, false, List, [], ◌∷◌, ◌++◌, append-nil, length, refl, sym, ◌∙◌, ap, subst, arith}
-use Rattle.std.proofs.lemmas.List.{length-map}
-use Rattle.std.specs.Prelude.{not, if◌then◌else◌}
-use Rattle.jn_base.specs.declared.names.ServerNo.{ServerNo}
-use Rattle.jn_order.specs.Files.{AllFiles}
-use Rattle.jn_schedule.specs.declared.Event.{Event}
-use Rattle.jn_report.specs.declared.line.When.TheVariants.{Event as AtEvent}
-use Rattle.jn_report.specs.declared.line.Text.{Text}
-use Rattle.jn_report.specs.declared.line.Line.{Line}
-use Rattle.jn_serial.specs.Lines.{when_eq, lines_at}
+use Rattle.jn_headline.proofs.Common.{◌≡◌, inr, ℕ, suc, ◌+◌, ◌≤◌, ◌<◌, Bool, true, false, List, [], ◌∷◌, ◌++◌, append-nil, length, refl, sym, ◌∙◌, ap, subst, arith, length-map, not, if◌then◌else◌, ServerNo, AllFiles, Event, AtEvent, Text, Line, when_eq, lines_at, ShownSoFar, nothing_asked, Follows, Caused-events, lines_at-outside, plain, is_show, filter-aside, silent-agrees, silent-follows, opening, Item, events_of, world_of, lines_of, IsReported, told_by_steps, at_end, items-follow, opening-reached, IsOfItsCommits, IsCutEnd, IsTrueSoFar, cut_lines, Moment, IsTrueOfBegun, but_shows}
 use Rattle.jn_serial.specs.Order.{Agrees}
-use Rattle.jn_serial.specs.Shown.{ShownSoFar}
 use Rattle.jn_serial.specs.Caused.{Caused}
-use Rattle.jn_serial.specs.Follows.{nothing_asked, Follows}
-use Rattle.jn_serial.proofs.CausedGrowth.{Caused-events}
-use Rattle.jn_serial.proofs.Growth.{lines_at-outside}
-use Rattle.jn_aside.specs.Aside.{plain, is_show}
-use Rattle.jn_aside.proofs.Plain.{filter-aside}
-use Rattle.jn_aside.proofs.Silent.{silent-agrees, silent-follows}
 use Rattle.jn_aside.proofs.Telling.{told-aside}
 use Rattle.jn_aside.proofs.Answering.{follows-aside}
 use Rattle.jn_aside.proofs.Showing.{agrees-aside, so-far-aside, at-end-aside}
 use Rattle.jn_aside.proofs.Causing.{caused-aside}
-use Rattle.jn_system.specs.WholeSystem.World.{opening}
-use Rattle.jn_system_reports.specs.Reporting.Reported.{Item, events_of, world_of, lines_of, IsReported}
-use Rattle.jn_system_reports.specs.Reporting.Ending.{told_by_steps, at_end}
-use Rattle.jn_system_reports.proofs.Reporting.Following.{items-follow}
-use Rattle.jn_system_reports.proofs.Reporting.Reached.{opening-reached}
-use Rattle.jn_headline.specs.WholeReports.Whole.{IsOfItsCommits}
-use Rattle.jn_headline.specs.CutReports.Cut.{IsCutEnd, IsTrueSoFar, cut_lines}
 use Rattle.jn_headline.proofs.CutReports.Cut.{cut-true, run-true, next-true}
-use Rattle.jn_written.specs.Runs.{Moment}
-use Rattle.jn_headline.specs.Headline.{IsTrueOfBegun, but_shows}
 use Rattle.jn_headline.proofs.Ended.{PartOf, dismissed, dismissal-untold}
 
 -- ---- lines that are one but for those aside

@@ -1,30 +1,9 @@
 -- What each of an end's tasks does that makes a step.
-use Rattle.std.proofs.Common.{◌≡◌, ◌≢◌, ◌⊎◌, inl, inr, ℕ, zero, suc, ◌+◌, ◌<◌, ◌≤◌, Bool, true, false, List, [], ◌∷◌, ◌++◌, append_assoc, append-nil, length, Option, Some, None, is_some, refl, sym, ◌∙◌, ap, subst, arith}
-use Rattle.std.specs.Prelude.{map, if◌then◌else◌}
-use Rattle.std.specs.List.{list_all}
-use Rattle.jn_base.specs.declared.names.ServerNo.{ServerNo}
-use Rattle.jn_base.specs.declared.names.ClientNo.{ClientNo}
-use Rattle.jn_base.specs.declared.names.Party.TheVariants.{Client, Server}
+use Rattle.jn_headline.proofs.Common.{◌≡◌, ◌≢◌, ◌⊎◌, inl, inr, ℕ, zero, suc, ◌+◌, ◌<◌, ◌≤◌, Bool, true, false, List, [], ◌∷◌, ◌++◌, append_assoc, append-nil, length, Option, Some, None, is_some, refl, sym, ◌∙◌, ap, subst, arith, map, if◌then◌else◌, list_all, ServerNo, ClientNo, Client, Server, server_eq, server_tells, DeviceState, Text, Line, Pick, World, Memory, servers_from, Step, Again, Nudge, Crash, Restart, CloseClients, after, run, crash, Course, go_on, Comeback, restarts_from, Setup, Chance, Task, Acts, ComesUp, GoesDown, ClosesClients, Deed, crashed_at, served, recovers, recovering, recovered, given_up, is_used_up, pick_read, Befalls, IsServed, IsRecovery, Alone, is_up, is_too_much, come_to, Moment, Leads}
 use Rattle.jn_base.specs.declared.device.Outside.{Outside}
-use Rattle.jn_base.specs.Names.{server_eq}
-use Rattle.jn_base.proofs.Tells.{server_tells}
-use Rattle.jn_device.specs.Device.{DeviceState}
 use Rattle.jn_schedule.specs.declared.Event.TheVariants as events
-use Rattle.jn_report.specs.declared.line.Text.{Text}
 use Rattle.jn_report.specs.declared.line.Text.TheVariants as says
-use Rattle.jn_report.specs.declared.line.Line.{Line}
-use Rattle.jn_rows.specs.Stable.{Pick}
-use Rattle.jn_system.specs.WholeSystem.World.{World, Memory, servers_from}
-use Rattle.jn_system.specs.WholeSystem.Steps.{Step, Again, Nudge, Crash, Restart, CloseClients, after, run, crash}
-use Rattle.jn_system_settling.specs.Settling.Course.{Course, go_on}
-use Rattle.jn_system_reports.specs.Reporting.Ending.{Comeback, restarts_from}
-use Rattle.jn_written.specs.Chances.{Setup, Chance}
-use Rattle.jn_written.specs.Tasks.{Task, Acts, ComesUp, GoesDown, ClosesClients}
-use Rattle.jn_written.specs.Deeds.{Deed, plain, crashed_at, served, recovers, recovering, recovered, given_up, is_used_up, pick_read}
-use Rattle.jn_written.specs.Devices.{Befalls, IsServed, IsRecovery, Alone}
-use Rattle.jn_written.specs.Kinds.{is_up}
-use Rattle.jn_written.specs.Steps.{is_too_much, come_to}
-use Rattle.jn_written.specs.Runs.{Moment, Leads}
+use Rattle.jn_written.specs.Deeds.{plain}
 use Rattle.jn_headline.proofs.Quiet.{called-calm, recovered-calm, quiet-same, quiet-alone, quiet-called, nudged-up, closed-up, crashed-up, restarted-up}
 use Rattle.jn_headline.proofs.Came.{Came, came-none, came-one, came-extra, tasks-then}
 use Rattle.jn_headline.proofs.Parts.{Part, Past, Onward, drive, MakesOne}

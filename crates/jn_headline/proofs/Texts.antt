@@ -1,19 +1,6 @@
 -- What steps tell at the end, and which lines are left of it without those aside.
-use Rattle.std.proofs.Common.{◌≡◌, ℕ, ◌+◌, Bool, true, false, List, [], ◌∷◌, ◌++◌, append_assoc, append-nil, refl, sym, ◌∙◌, ap}
-use Rattle.std.proofs.lemmas.List.{map-append}
-use Rattle.std.specs.List.{list_all}
+use Rattle.jn_headline.proofs.Common.{◌≡◌, ℕ, ◌+◌, Bool, true, false, List, [], ◌∷◌, ◌++◌, append_assoc, append-nil, refl, sym, ◌∙◌, ap, map-append, list_all, End, Text, Line, Sent, is_aside, plain, plain-append, plain-none, World, Step, after, run, Does, told_by, told_by_steps, at_end, message_texts, traced}
 use Rattle.jn_base.specs.declared.names.Party.{Party}
-use Rattle.jn_report.specs.declared.line.When.TheVariants.{End}
-use Rattle.jn_report.specs.declared.line.Text.{Text}
-use Rattle.jn_report.specs.declared.line.Line.{Line}
-use Rattle.jn_rows.specs.Outcomes.{Sent}
-use Rattle.jn_aside.specs.Aside.{is_aside, plain}
-use Rattle.jn_aside.proofs.Plain.{plain-append, plain-none}
-use Rattle.jn_system.specs.WholeSystem.World.{World}
-use Rattle.jn_system.specs.WholeSystem.Steps.{Step, after, run}
-use Rattle.jn_system_reports.specs.Reporting.Reported.{Does, told_by}
-use Rattle.jn_system_reports.specs.Reporting.Ending.{told_by_steps, at_end}
-use Rattle.jn_written.specs.Steps.{message_texts, traced}
 
 pub told-append : (a b : List Step) (w : World) → told_by_steps (a ++ b) w ≡ told_by_steps a w ++ told_by_steps b (run a w)
 told-append [] b w = refl

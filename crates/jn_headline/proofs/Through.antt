@@ -1,32 +1,7 @@
 -- An end from its beginning to its last line.
-use Rattle.std.proofs.Common.{◌≡◌, ◌⊎◌, inl, inr, ℕ, zero, suc, ◌+◌, ◌<◌, ◌≤◌, true, List, [], ◌∷◌, ◌++◌, append_assoc, length, Some, None, refl, sym, ◌∙◌, ap, arith}
-use Rattle.std.specs.Prelude.{map, slice_get}
-use Rattle.std.specs.List.{list_all, AllByRecursion}
-use Rattle.jn_base.specs.declared.names.ServerNo.{ServerNo}
-use Rattle.jn_base.specs.declared.names.ClientNo.{ClientNo}
-use Rattle.jn_base.specs.declared.names.Tid.{Tid}
-use Rattle.jn_base.specs.declared.names.Party.TheVariants.{Server}
-use Rattle.jn_msgs.specs.declared.message.Message.{Message}
+use Rattle.jn_headline.proofs.Common.{◌≡◌, ◌⊎◌, inl, inr, ℕ, zero, suc, ◌+◌, ◌<◌, ◌≤◌, true, List, [], ◌∷◌, ◌++◌, append_assoc, length, Some, None, refl, sym, ◌∙◌, ap, arith, map, slice_get, list_all, AllByRecursion, ServerNo, ClientNo, Tid, Server, Message, Text, Line, history_of, plain, history-plain, same-of, servers_from, Step, Again, Nudge, Crash, CloseClients, run, IsRun, Course, go_on, clients_from, ComeToRest, Comeback, restarts_from, settles, told_by_steps, at_end, counted, Setup, Task, Acts, Rests, ComesUp, GoesDown, ClosesClients, CountsCommits, AtEnd, Stage, State, next_at, Deed, tells, servers_of, settling, coming_up, printing, counting, is_up, none, more, Moment, Leads, behind}
 use Rattle.jn_schedule.specs.declared.Event.TheVariants as events
-use Rattle.jn_report.specs.declared.line.Text.{Text}
 use Rattle.jn_report.specs.declared.line.Text.TheVariants.{Commits}
-use Rattle.jn_report.specs.declared.line.Line.{Line}
-use Rattle.jn_serial.specs.Lines.{history_of}
-use Rattle.jn_aside.specs.Aside.{plain}
-use Rattle.jn_aside.proofs.Plain.{history-plain, same-of}
-use Rattle.jn_system.specs.WholeSystem.World.{servers_from}
-use Rattle.jn_system.specs.WholeSystem.Steps.{Step, Again, Nudge, Crash, CloseClients, run, IsRun}
-use Rattle.jn_system_settling.specs.Settling.Course.{Course, go_on}
-use Rattle.jn_system_settling.specs.Settling.Settle.{clients_from}
-use Rattle.jn_rests.specs.Rests.{ComeToRest}
-use Rattle.jn_system_reports.specs.Reporting.Ending.{Comeback, restarts_from, settles, told_by_steps, at_end, counted}
-use Rattle.jn_written.specs.Chances.{Setup}
-use Rattle.jn_written.specs.Tasks.{Task, Acts, Rests, ComesUp, GoesDown, ClosesClients, CountsCommits, AtEnd, Stage, State, next_at}
-use Rattle.jn_written.specs.Deeds.{Deed, tells}
-use Rattle.jn_written.specs.Events.{servers_of, settling, coming_up, printing, counting}
-use Rattle.jn_written.specs.Kinds.{is_up}
-use Rattle.jn_written.specs.Runs.{none, more, Moment, Leads}
-use Rattle.jn_retold.specs.Retold.{behind}
 use Rattle.jn_headline.proofs.Texts.{at-end-append}
 use Rattle.jn_headline.proofs.Came.{Came, drop-all, lines-then, tasks-then}
 use Rattle.jn_headline.proofs.Parts.{Part, Onward, same-event, drive, MakesOne, many}

@@ -1,19 +1,7 @@
 -- The bytes of an image are read as that image, and what was read is the image of these bytes.
-use Rattle.std.proofs.Common.{◌≡◌, ◌≤◌, ◌+◌, ◌*◌, ℕ, Bool, true, false, List, [], ◌++◌, length, take, drop, None, refl, sym, ap, ap₂, subst, ◌∙◌, append_assoc, arith, length-append, length-drop}
-use Rattle.std.specs.Prelude.{◌&&◌, nat_eq, nat_le, slice_index, codes, bytes_eq}
-use Rattle.std.proofs.Math.Seq.{take-add}
-use Rattle.std.proofs.lemmas.Bool.{false≢true}
-use Rattle.std.proofs.lemmas.Bool.Decides.{nat_tests}
-use Rattle.std.proofs.lemmas.List.{append-nil, take_at, drop_at}
+use Rattle.jn_image.proofs.Common.{◌≡◌, ◌≤◌, ◌+◌, ◌*◌, ℕ, Bool, true, false, List, [], ◌++◌, length, take, drop, None, refl, sym, ap, ap₂, subst, ◌∙◌, append_assoc, arith, length-append, length-drop, ◌&&◌, nat_eq, nat_le, slice_index, codes, bytes_eq, take-add, false≢true, nat_tests, append-nil, take_at, drop_at, sha256, Half, Counts, page_count, Image, bad_of, server_in, counts_in, in_range, within, statuses_fit, has_digest, image_counts, header_bytes, body_bytes, image_bytes, body_size, image_size, HasForm, IsWithin, PagesFit, halves_in, image_in}
 use Rattle.std.proofs.lemmas.Slice.Eq.{bytes_eq-Decides}
 use Rattle.sha2.proofs.Facts256.{length-sha256}
-use Rattle.sha2.specs.Sha256.{sha256}
-use Rattle.jn_device.specs.declared.Half.{Half}
-use Rattle.jn_records.specs.StablePages.{Counts, page_count}
-use Rattle.jn_image.specs.declared.image.Image.{Image}
-use Rattle.jn_image.specs.Faults.{bad_of, server_in, counts_in, in_range, within, statuses_fit, has_digest}
-use Rattle.jn_image.specs.Form.{image_counts, header_bytes, body_bytes, image_bytes, body_size, image_size, HasForm, IsWithin, PagesFit}
-use Rattle.jn_image.specs.Reading.{halves_in, image_in}
 use Rattle.jn_image.proofs.Halves.{written, halves_again, statuses_again, length-written, length-halves_in, halves_written}
 use Rattle.jn_image.proofs.Headers.{server_again, counts_again, AreBytes, header_written}
 use Rattle.jn_image.proofs.Passing.{Passes, PassesBehind, passes, was_passed}

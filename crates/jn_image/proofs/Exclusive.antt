@@ -1,16 +1,9 @@
 -- An image is sound or has a fault, and not both, and it has one first fault.
-use Rattle.std.proofs.Common.{◌≡◌, ◌⊎◌, inl, inr, ⊎_elim, ◌<◌, ◌+◌, ℕ, zero, suc, Result, Ok, Err, refl, sym, ap, ap₂, ◌∙◌, subst, arith}
-use Rattle.std.specs.Prelude.{IfOk, IfErr}
-use Rattle.std.proofs.lemmas.Bool.{cases_lt}
-use Rattle.jn_base.specs.declared.names.ServerNo.{ServerNo}
+use Rattle.jn_image.proofs.Common.{◌≡◌, ◌⊎◌, inl, inr, ⊎_elim, ◌<◌, ◌+◌, ℕ, zero, suc, Result, Ok, Err, refl, sym, ap, ap₂, ◌∙◌, subst, arith, IfOk, IfErr, cases_lt, ServerNo, HasRoot, HasOneHead, IsSound, Unsound, IsLeastFailing, PagesGood, PairsAgree, SlotsFree, HeadsWhole, AddressesOnce, TailsZeros, ToRoot, ToPages, ToPairs, ToPool, ToFiles, ToHeads, ToAddresses, IsFirstFault, TellsSound}
 use Rattle.jn_records.specs.Sound as sound
-use Rattle.jn_records.specs.Sound.{HasRoot, HasOneHead, IsSound}
 use Rattle.jn_image.specs.declared.fault.CheckError.{CheckError}
 use Rattle.jn_image.specs.declared.fault.CheckError.TheVariants.{Unsound as AnUnsound, Memory}
-use Rattle.jn_image.specs.declared.fault.Unsound.{Unsound}
 use Rattle.jn_image.specs.declared.fault.Unsound.TheVariants.{Server, Root, BadPage, PairDiffers, PoolInUse, SameFile, Address, AddressTwice, DataTail}
-use Rattle.jn_image.specs.Repeats.{IsLeastFailing}
-use Rattle.jn_image.specs.Unsound.{PagesGood, PairsAgree, SlotsFree, HeadsWhole, AddressesOnce, TailsZeros, ToRoot, ToPages, ToPairs, ToPool, ToFiles, ToHeads, ToAddresses, IsFirstFault, TellsSound}
 
 level : Unsound → ℕ
 level Server = 0

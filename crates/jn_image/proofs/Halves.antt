@@ -1,14 +1,5 @@
 -- Physical pages are read as they were written, and written as they were read.
-use Rattle.std.proofs.Common.{◌≡◌, ◌≤◌, ◌+◌, ◌*◌, ℕ, zero, suc, Bool, true, false, List, [], ◌∷◌, ◌++◌, length, take, drop, refl, sym, ap, ◌∙◌, append_assoc, arith, length-append, length-drop}
-use Rattle.std.specs.Prelude.{◌&&◌, nat_eq, nat_le, slice_index, flat_map, if◌then◌else◌}
-use Rattle.std.specs.List.{AllByRecursion}
-use Rattle.std.proofs.Math.Seq.{take-add}
-use Rattle.std.proofs.lemmas.Bool.Decides.{nat_tests}
-use Rattle.std.proofs.lemmas.List.{take_at, drop_at}
-use Rattle.jn_device.specs.declared.Half.{Half}
-use Rattle.jn_image.specs.Faults.{statuses_fit}
-use Rattle.jn_image.specs.Form.{half_bytes}
-use Rattle.jn_image.specs.Reading.{half_in, halves_in}
+use Rattle.jn_image.proofs.Common.{◌≡◌, ◌≤◌, ◌+◌, ◌*◌, ℕ, zero, suc, Bool, true, false, List, [], ◌∷◌, ◌++◌, length, take, drop, refl, sym, ap, ◌∙◌, append_assoc, arith, length-append, length-drop, ◌&&◌, nat_eq, nat_le, slice_index, flat_map, if◌then◌else◌, AllByRecursion, take-add, nat_tests, take_at, drop_at, Half, statuses_fit, half_bytes, half_in, halves_in}
 
 abbrev made : Bool → List ℕ → Half
 made good bytes = record { good = good; bytes = bytes }

@@ -1,19 +1,8 @@
 -- What the heads that were read say of the image.
-use Rattle.std.proofs.Common.{◌≡◌, ⊎_elim, ◌<◌, ◌+◌, ◌*◌, ◌/◌, ◌%◌, ℕ, zero, suc, Bool, true, false, List, [], ◌∷◌, ◌++◌, length, get_or, replicate, map, Option, Some, None, refl, sym, ap, ◌∙◌, arith}
-use Rattle.std.specs.Prelude.{nat_eq, is_some, flat_map, if◌then◌else◌}
-use Rattle.std.specs.List.{AllByRecursion}
-use Rattle.std.proofs.lemmas.Bool.{cases_lt, false≢true}
-use Rattle.std.proofs.lemmas.Bool.Decides.{nat_tests}
-use Rattle.std.proofs.lemmas.List.{get_or_past, get_or-append-add}
+use Rattle.jn_image.proofs.Common.{◌≡◌, ⊎_elim, ◌<◌, ◌+◌, ◌*◌, ◌/◌, ◌%◌, ℕ, zero, suc, Bool, true, false, List, [], ◌∷◌, ◌++◌, length, get_or, replicate, map, Option, Some, None, refl, sym, ap, ◌∙◌, arith, nat_eq, is_some, flat_map, if◌then◌else◌, AllByRecursion, cases_lt, false≢true, nat_tests, get_or_past, get_or-append-add, Head, HasOneHead, IsWholeHead, Names, head_bytes_of, is_used, file_in, Finds, StandsOnce, IsHeadAt, AreHeads, IsRead, head_file_number, address_of, addresses_of, HeadsWhole, AddressesOnce}
 use Rattle.std.proofs.Math.ListN.{get_or-map, get_or-append}
-use Rattle.jn_records.specs.declared.head.Head.{Head}
 use Rattle.jn_records.specs.declared.head.Head.TheVariants.{Free, Used}
 use Rattle.jn_records.specs.Sound as sound
-use Rattle.jn_records.specs.Sound.{HasOneHead, IsWholeHead, IsNamedOnce, Names, head_bytes_of}
-use Rattle.jn_records.specs.StablePages.{is_used, file_in}
-use Rattle.jn_image.specs.Repeats.{Finds, StandsOnce}
-use Rattle.jn_image.specs.Rules.{IsHeadAt, AreHeads, IsRead, head_file_number, address_of, addresses_of}
-use Rattle.jn_image.specs.Unsound.{HeadsWhole, AddressesOnce}
 use Rattle.jn_found.proofs.HeadPages.{free_unused, used_kind, used_file, used_address, whole}
 
 -- what is found for one rule is found for another that says the same

@@ -1,14 +1,7 @@
 -- A header is read as it was written, and written as it was read.
-use Rattle.std.proofs.Common.{◌≡◌, ◌<◌, ◌≤◌, ◌+◌, ◌*◌, ◌/◌, ◌%◌, ℕ, List, [], ◌∷◌, ◌++◌, length, take, drop, get_or, sym, ap, ap₂, ◌∙◌, arith, length-drop}
-use Rattle.std.specs.Prelude.{slice_index, codes}
-use Rattle.std.proofs.Math.Seq.{take-add, drop-cons}
-use Rattle.std.proofs.lemmas.List.{get_or-drop}
+use Rattle.jn_image.proofs.Common.{◌≡◌, ◌<◌, ◌≤◌, ◌+◌, ◌*◌, ◌/◌, ◌%◌, ℕ, List, [], ◌∷◌, ◌++◌, length, take, drop, get_or, sym, ap, ap₂, ◌∙◌, arith, length-drop, slice_index, codes, take-add, drop-cons, get_or-drop, Counts, Image, server_in, counts_in, image_counts, header_bytes, HasForm}
 use Rattle.byteorder.specs.Endian.{big_bytes, big_number}
 use Rattle.byteorder.specs.Numbers.{big_number-reads_back}
-use Rattle.jn_records.specs.StablePages.{Counts}
-use Rattle.jn_image.specs.declared.image.Image.{Image}
-use Rattle.jn_image.specs.Faults.{server_in, counts_in}
-use Rattle.jn_image.specs.Form.{image_counts, header_bytes, HasForm}
 
 abbrev counts_by : ℕ → ℕ → ℕ → Counts
 counts_by pool heads leaves = record { pool = pool; heads = heads; leaves = leaves }

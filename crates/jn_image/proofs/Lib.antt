@@ -1,3 +1,4 @@
+mod Common
 pub mod Halves
 pub mod Headers
 pub mod Passing

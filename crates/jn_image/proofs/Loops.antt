@@ -1,10 +1,5 @@
 -- One more page of a loop that goes over physical pages.
-use Rattle.std.proofs.Common.{◌≡◌, ◌<◌, ◌≤◌, ◌+◌, ◌*◌, ◌-◌, ℕ, suc, Bool, true, false, List, [], ◌∷◌, ◌++◌, length, get_or, drop, sym, ap, ◌∙◌, append_assoc, arith, length-drop}
-use Rattle.std.specs.Prelude.{◌&&◌, nat_le}
-use Rattle.std.proofs.lemmas.Bool.Decides.{nat_tests}
-use Rattle.jn_device.specs.declared.Half.{Half}
-use Rattle.jn_image.specs.Faults.{statuses_fit}
-use Rattle.jn_image.specs.Reading.{half_in, halves_in}
+use Rattle.jn_image.proofs.Common.{◌≡◌, ◌<◌, ◌≤◌, ◌+◌, ◌*◌, ◌-◌, ℕ, suc, Bool, true, false, List, [], ◌∷◌, ◌++◌, length, get_or, drop, sym, ap, ◌∙◌, append_assoc, arith, length-drop, ◌&&◌, nat_le, nat_tests, Half, statuses_fit, half_in, halves_in}
 
 next : (count i : ℕ) → i < count → count - i ≡ suc (count - (i + 1))
 next count i lt = omega (arith, lt)

@@ -1,13 +1,6 @@
 -- What holds of bytes with which nothing is wrong.
-use Rattle.std.proofs.Common.{◌≡◌, ◌≤◌, ◌*◌, ℕ, Bool, true, false, List, length, take, drop, Option, Some, None, refl, sym, ap, arith}
-use Rattle.std.specs.Prelude.{not, nat_eq, nat_lt, codes, slice_index, bytes_eq, if◌then◌else◌}
-use Rattle.std.proofs.lemmas.Bool.{false≢true}
-use Rattle.std.proofs.lemmas.Bool.Decides.{nat_tests}
-use Rattle.jn_records.specs.StablePages.{Counts, page_count}
-use Rattle.jn_image.specs.declared.fault.BadImage.{BadImage}
+use Rattle.jn_image.proofs.Common.{◌≡◌, ◌≤◌, ◌*◌, ℕ, Bool, true, false, List, length, take, drop, Option, Some, None, refl, sym, ap, arith, not, nat_eq, nat_lt, codes, slice_index, bytes_eq, if◌then◌else◌, false≢true, nat_tests, Counts, page_count, BadImage, bad_of, bad_behind_header, server_in, counts_in, in_range, statuses_fit, has_digest, body_size, image_size}
 use Rattle.jn_image.specs.declared.fault.BadImage.TheVariants.{Short, Magic, Version, Geometry, Status, Digest, Trailing}
-use Rattle.jn_image.specs.Faults.{bad_of, bad_behind_header, server_in, counts_in, in_range, statuses_fit, has_digest}
-use Rattle.jn_image.specs.Form.{body_size, image_size}
 
 pub record PassesBehind (g : Counts) (bytes : List ℕ) : Type 0 where
   pub whole : length bytes ≡ image_size g

@@ -1,12 +1,8 @@
 -- Whether a page is a root like another.
-use Rattle.std.proofs.Common.{◌≡◌, ◌<◌, ◌^◌, ℕ, Bool, false, List, Some, None, sym, ap, ◌∙◌}
-use Rattle.std.specs.Prelude.{IsTrue, ◌↔◌}
-use Rattle.std.proofs.lemmas.Bool.{false≢true}
+use Rattle.jn_image.proofs.Common.{◌≡◌, ◌<◌, ◌^◌, ℕ, Bool, false, List, Some, None, sym, ap, ◌∙◌, IsTrue, ◌↔◌, false≢true, HasRoot, root_of, at_epoch}
 use Rattle.jn_records.specs.declared.root.Root.{Root}
 use Rattle.jn_records.specs.Pages.{root_page, IsRoot}
 use Rattle.jn_records.specs.Sound as sound
-use Rattle.jn_records.specs.Sound.{HasRoot, root_of}
-use Rattle.jn_image.specs.Rules.{at_epoch}
 
 same_root : (a b : Root) → Some a ≡ Some b → a ≡ b
 same_root a b e = cc

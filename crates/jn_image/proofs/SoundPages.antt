@@ -1,9 +1,6 @@
 -- The pages of a sound image are sound.
-use Rattle.std.proofs.Common.{◌<◌, ◌≤◌, ◌^◌, ℕ, subst, arith}
-use Rattle.jn_base.specs.declared.names.ServerNo.{ServerNo}
+use Rattle.jn_image.proofs.Common.{◌<◌, ◌≤◌, ◌^◌, ℕ, subst, arith, ServerNo, IsSound, image_counts}
 use Rattle.jn_disks.specs.Disks.{image_of}
-use Rattle.jn_records.specs.Sound.{IsSound}
-use Rattle.jn_image.specs.Form.{image_counts}
 use Rattle.jn_image.specs.Laws.{SoundImagesHaveSoundPages}
 
 one_byte : (n : ℕ) → n ≤ 7 → n < 2 ^ 8

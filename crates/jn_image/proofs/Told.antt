@@ -1,13 +1,7 @@
 -- What an answer to bytes says of them.
-use Rattle.std.proofs.Common.{◌≡◌, ◌⊎◌, inl, inr, ℕ, List, Some, None, Result, Ok, Err, refl, sym, ap, ◌∙◌, subst}
-use Rattle.std.specs.Prelude.{IfOk, MatchResult}
-use Rattle.jn_image.specs.declared.fault.BadImage.{BadImage}
+use Rattle.jn_image.proofs.Common.{◌≡◌, ◌⊎◌, inl, inr, ℕ, List, Some, None, Result, Ok, Err, refl, sym, ap, ◌∙◌, subst, IfOk, MatchResult, BadImage, Image, bad_of, TellsImage, HasForm, PagesFit, image_bytes, image_in}
 use Rattle.jn_image.specs.declared.fault.DecodeError.{DecodeError}
 use Rattle.jn_image.specs.declared.fault.DecodeError.TheVariants.{Bad, Memory}
-use Rattle.jn_image.specs.declared.image.Image.{Image}
-use Rattle.jn_image.specs.Faults.{bad_of, TellsImage}
-use Rattle.jn_image.specs.Form.{HasForm, PagesFit, image_bytes}
-use Rattle.jn_image.specs.Reading.{image_in}
 use Rattle.jn_image.proofs.Again.{nothing_bad, image_again, found_form, found_bytes}
 use Rattle.jn_image.proofs.Headers.{AreBytes}
 

@@ -1,8 +1,7 @@
 -- Pairs of pages on a disk in memory.
-use Rattle.jn_device.specs.Device.{DeviceState}
+use Rattle.jn_images.proofs.Common.{DeviceState, StoreView}
 use Rattle.jn_memdisk.specs.declared.disk.MemDisk.{MemDisk}
 use Rattle.jn_store.specs.Pairs.{pairs_view}
-use Rattle.jn_store.specs.Store.{StoreView}
 
 -- what is seen of them
 abbrev pub look : MemDisk → StoreView

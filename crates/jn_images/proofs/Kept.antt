@@ -1,24 +1,9 @@
 -- What is kept, from save to save.
-use Rattle.std.proofs.Common.{◌≡◌, ◌≢◌, ℕ, zero, suc, ◌+◌, ◌<◌, ◌≤◌, Bool, true, false, List, [], ◌∷◌, ◌++◌, length, slice_get, Option, Some, None, Result, Ok, Err, refl, sym, ◌∙◌, ap, subst, arith, true≢false}
-use Rattle.std.proofs.lemmas.Bool.Decides.{nat_tests}
-use Rattle.std.specs.Prelude.{nat_lt, is_some, is_ok, get_or}
-use Rattle.jn_base.specs.declared.names.ServerNo.{ServerNo}
-use Rattle.jn_device.specs.Device.{DeviceState}
-use Rattle.jn_host.specs.Outside.{Contents, KeeperSaved, Rose, kept_at}
+use Rattle.jn_images.proofs.Common.{◌≡◌, ◌≢◌, ℕ, zero, suc, ◌+◌, ◌<◌, ◌≤◌, Bool, true, false, List, [], ◌∷◌, length, slice_get, Option, Some, None, Result, Err, refl, sym, ◌∙◌, ap, subst, arith, true≢false, nat_tests, nat_lt, is_some, is_ok, get_or, ServerNo, DeviceState, Contents, KeeperSaved, kept_at, image_counts, image_bytes, Image, Half, AreSound, HasPages, Counts, counts_by, PageCounts, Has, IsClosed, IsKept, IsSoundImage, image_name, SavesOne, SavedTo, SavesAll}
 use Rattle.jn_host.specs.declared.KeepFailure.{KeepFailure}
-use Rattle.jn_image.specs.Form.{image_counts, image_bytes}
-use Rattle.jn_image.specs.declared.image.Image.{Image}
-use Rattle.jn_device.specs.declared.Half.{Half}
-use Rattle.jn_disks.specs.Disks.{AreSound, HasPages}
 use Rattle.std.proofs.lemmas.Slice.Eq.{bytes_eq-Decides}
 use Rattle.std.specs.Str.{bytes_eq}
 use Rattle.jn_host.proofs.Faults.{rose_since}
-use Rattle.jn_host.specs.declared.KeepFailure.TheVariants.{Failed as CallFailed}
-use Rattle.jn_records.specs.StablePages.{Counts}
-use Rattle.jn_recovery.specs.Loading.{counts_by}
-use Rattle.jn_recovery.specs.declared.counts.PageCounts.{PageCounts}
-use Rattle.jn_images.specs.Kept.{Has, IsClosed, IsKept, IsSoundImage, image_name}
-use Rattle.jn_images.specs.Saved.{OthersStay, SavesOne, SavedTo, SavesAll}
 use Rattle.jn_images.proofs.Naming.{same-server}
 
 some-is : (a b : Option (List ℕ)) → Some a ≡ Some b → a ≡ b

@@ -1,11 +1,5 @@
 -- One more image was loaded.
-use Rattle.std.proofs.Common.{◌≡◌, ℕ, ◌+◌, ◌<◌, Bool, true, false, List, [], ◌∷◌, ◌++◌, length, Option, Some, None, Vec, refl, sym, ◌∙◌, ap, subst, arith}
-use Rattle.std.proofs.lemmas.Bool.Decides.{nat_tests}
-use Rattle.std.proofs.lemmas.List.{get_or_append_left, get_or_push}
-use Rattle.std.specs.Prelude.{get_or, nat_lt, is_some}
-use Rattle.std.specs.declared.alloc.Global.{Global}
-use Rattle.jn_host.specs.Outside.{Contents, kept_at, found_bytes}
-use Rattle.jn_images.specs.Kept.{Has, found_at, image_name}
+use Rattle.jn_images.proofs.Common.{◌≡◌, ℕ, ◌+◌, ◌<◌, Bool, true, false, List, [], ◌∷◌, ◌++◌, length, Option, Some, None, Vec, refl, sym, ◌∙◌, subst, arith, nat_tests, get_or_append_left, get_or_push, nat_lt, Global, Contents, found_bytes, Has, found_at, image_name}
 
 some-is : (a b : Option (List ℕ)) → Some a ≡ Some b → a ≡ b
 some-is a b h = cc

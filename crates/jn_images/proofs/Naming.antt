@@ -1,9 +1,6 @@
 -- Images of different servers have different names.
-use Rattle.std.proofs.Common.{◌≡◌, ℕ, ◌+◌, ◌<◌, List, [], ◌∷◌, ◌++◌, sym, ◌∙◌, arith}
+use Rattle.jn_images.proofs.Common.{◌≡◌, ℕ, ◌+◌, ◌<◌, List, [], ◌∷◌, ◌++◌, sym, ◌∙◌, arith, append_cancel_left, codes, decimal, image_name}
 use Rattle.std.proofs.lemmas.Fmt.{decimal_digit}
-use Rattle.std.proofs.lemmas.List.{append_cancel_left}
-use Rattle.std.specs.Prelude.{codes, decimal}
-use Rattle.jn_images.specs.Kept.{image_name}
 
 one : (a b : ℕ) → (48 + a) ∷ [] ≡ (48 + b) ∷ [] → 48 + a ≡ 48 + b
 one a b h = cc

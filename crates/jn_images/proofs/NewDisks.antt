@@ -1,10 +1,5 @@
 -- The disk of a new server is that of one that was closed.
-use Rattle.std.proofs.Common.{◌≡◌, ℕ, zero, suc, ◌+◌, ◌*◌, ◌-◌, ◌/◌, ◌<◌, ◌≤◌, ◌^◌, Bool, true, false, true≢false, if◌then◌else◌, List, [], ◌∷◌, slice_get, Some, None, Result, Ok, Err, drop, replicate, refl, sym, ◌∙◌, ap, subst, arith}
-use Rattle.std.proofs.lemmas.Bool.Decides.{nat_tests}
-use Rattle.std.specs.Prelude.{IfOk, nat_lt, nat_eq}
-use Rattle.jn_base.specs.declared.names.ServerNo.{ServerNo}
-use Rattle.jn_device.specs.Device.{DeviceState, blank_page}
-use Rattle.jn_disks.specs.Disks.{IsNewStore, new_page}
+use Rattle.jn_images.proofs.Common.{◌≡◌, ℕ, ◌+◌, ◌*◌, ◌-◌, ◌<◌, ◌^◌, Bool, true, false, true≢false, if◌then◌else◌, drop, replicate, refl, sym, ◌∙◌, ap, subst, arith, nat_tests, nat_lt, nat_eq, blank_page, IsNewStore, new_page, counts_of, Counts, page_count, slot_place, head_place, data_place, is_used, files_of_pages, StoreView}
 use Rattle.jn_found.specs.Images.{CountsFit, IsImage, image_on, place_in}
 use Rattle.jn_records.specs.declared.head.Head.TheVariants.{Free as FreeHead}
 use Rattle.jn_records.specs.declared.record.Record.TheVariants.{Free}
@@ -13,12 +8,6 @@ use Rattle.jn_records.specs.Heads.{head_page}
 use Rattle.jn_records.specs.Pages.{root_page}
 use Rattle.jn_records.specs.Records.{record_page}
 use Rattle.jn_records.specs.Sound.{Image, IsSound}
-use Rattle.jn_records.specs.StablePages.{counts_of, Counts, page_count, slot_place, head_place, data_place, is_used, files_of_pages}
-use Rattle.jn_recovery.specs.Loading.{counts_by}
-use Rattle.jn_recovery.specs.declared.counts.PageCounts.{PageCounts}
-use Rattle.jn_store.specs.Pairs.{pairs_view}
-use Rattle.jn_store.specs.Store.{StoreView}
-use Rattle.jn_images.specs.Kept.{AreClosed, AreWithin, IsClosed}
 
 -- ---- the page of zeros
 

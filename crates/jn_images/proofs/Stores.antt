@@ -1,15 +1,5 @@
 -- The stores of images, one after another.
-use Rattle.std.proofs.Common.{◌≡◌, ℕ, zero, suc, ◌+◌, ◌<◌, ◌≤◌, Bool, true, false, List, [], ◌∷◌, ◌++◌, length, slice_get, Option, Some, None, Result, Err, Vec, refl, sym, ◌∙◌, ap, subst, arith}
-use Rattle.std.proofs.lemmas.Bool.Decides.{nat_tests}
-use Rattle.std.specs.Prelude.{nat_lt, get_or}
-use Rattle.std.specs.declared.alloc.Global.{Global}
-use Rattle.jn_base.specs.declared.names.ServerNo.{ServerNo}
-use Rattle.jn_device.specs.Device.{DeviceState}
-use Rattle.jn_recovery.specs.declared.counts.PageCounts.{PageCounts}
-use Rattle.jn_store.specs.Store.{StoreView}
-use Rattle.jn_host.specs.Outside.{found_bytes}
-use Rattle.jn_images.specs.Examined.{AreStoresOf, IsAccepted, IsFirstRefused, IsRefused, IsStoreOf}
-use Rattle.jn_images.specs.Kept.{found_at}
+use Rattle.jn_images.proofs.Common.{◌≡◌, ℕ, zero, suc, ◌+◌, ◌<◌, ◌≤◌, Bool, true, false, List, [], ◌∷◌, ◌++◌, length, slice_get, Option, Some, None, Result, Err, Vec, refl, sym, ◌∙◌, ap, subst, arith, nat_tests, nat_lt, get_or, Global, ServerNo, DeviceState, PageCounts, StoreView, found_bytes, AreStoresOf, IsAccepted, IsFirstRefused, IsRefused, IsStoreOf, found_at}
 use Rattle.jn_images.specs.declared.examining.ExamineFault.{ExamineFault}
 use Rattle.jn_images.specs.declared.examining.ExamineFault.TheVariants as faults
 use Rattle.jn_images.specs.declared.refusal.Refusal.{Refusal}

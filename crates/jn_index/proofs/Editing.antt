@@ -1,14 +1,5 @@
 -- An entry is taken out, or put in.
-use Rattle.std.proofs.Common.{◌≡◌, ◌≢◌, inl, inr, ◌<◌, ◌≤◌, ◌+◌, ◌-◌, ℕ, Bool, true, false, List, length, Option, Some, None, refl, sym, ap, subst, ◌∙◌, arith, ◌^◌}
-use Rattle.std.proofs.lemmas.Bool.{cases_eq, cases_lt}
-use Rattle.std.proofs.lemmas.Bool.Decides.{nat_tests}
-use Rattle.std.proofs.lemmas.List.{get_or-set_same, get_or-set_other, get_or_past}
-use Rattle.std.proofs.lemmas.List.Edits.{length-remove, get_or-insert_at, get_or-insert_below, get_or-insert_above, get_or-remove_below, get_or-remove_above}
-use Rattle.std.specs.List.{insert, remove}
-use Rattle.std.specs.Prelude.{slice_set, nat_lt, if◌then◌else◌}
-use Rattle.jn_index.specs.declared.Entry.{Entry}
-use Rattle.jn_index.specs.Numbers.{number_at, is_above, IsNumberAbove}
-use Rattle.jn_index.specs.Entries.{entry, entry_at, is_before, AreEntries}
+use Rattle.jn_index.proofs.Common.{◌≡◌, ◌≢◌, inl, inr, ◌<◌, ◌≤◌, ◌+◌, ◌-◌, ℕ, Bool, true, false, List, length, Option, Some, None, refl, sym, ap, subst, ◌∙◌, arith, ◌^◌, cases_eq, cases_lt, nat_tests, get_or-set_same, get_or-set_other, get_or_past, length-remove, get_or-insert_at, get_or-insert_below, get_or-insert_above, get_or-remove_below, get_or-remove_above, insert, remove, slice_set, nat_lt, if◌then◌else◌, Entry, number_at, is_above, IsNumberAbove, entry, entry_at, is_before, AreEntries}
 use Rattle.jn_index.proofs.Order.{not_itself, before_or_same}
 
 pub has_slot : (numbers : List (Option ℕ)) (slot number : ℕ) → number_at numbers slot ≡ Some number → slot < length numbers

@@ -1,13 +1,6 @@
 -- An index in memory, as it is changed.
-use Rattle.std.proofs.Common.{◌≡◌, ◌<◌, ◌≤◌, ◌+◌, ℕ, true, false, List, length, Option, Some, None, refl, sym, ap, subst, ◌∙◌, arith}
-use Rattle.std.proofs.lemmas.List.{length-set, set-set, get_or-set_same}
-use Rattle.std.proofs.lemmas.List.Edits.{length-insert, length-remove}
+use Rattle.jn_index.proofs.Common.{◌≡◌, ◌<◌, ◌≤◌, ◌+◌, ℕ, true, false, List, length, Option, Some, None, refl, sym, ap, subst, ◌∙◌, arith, length-set, set-set, get_or-set_same, length-insert, length-remove, insert, remove, slice_set, count_by, cond, Entry, number_at, is_none, entry_at, is_before, IsIndex}
 use Rattle.std.proofs.lemmas.List.Sums.{sum_by-set}
-use Rattle.std.specs.List.{insert, remove}
-use Rattle.std.specs.Prelude.{slice_set, count_by, cond}
-use Rattle.jn_index.specs.declared.Entry.{Entry}
-use Rattle.jn_index.specs.Numbers.{number_at}
-use Rattle.jn_index.specs.Entries.{is_none, entry_at, is_before, IsIndex}
 use Rattle.jn_index.proofs.Editing.{cleared, filled, has_slot}
 
 abbrev ones : Option ℕ → ℕ

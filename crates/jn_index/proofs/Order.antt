@@ -1,9 +1,5 @@
 -- The order of entries: by number, and then by slot.
-use Rattle.std.proofs.Common.{◌≡◌, ◌⊎◌, inl, inr, ◌<◌, ◌≤◌, ℕ, Bool, true, false, List, length, refl, ap, ◌∙◌, arith}
-use Rattle.std.proofs.lemmas.Bool.{cases_eq}
-use Rattle.std.proofs.lemmas.Bool.Decides.{nat_tests}
-use Rattle.jn_index.specs.declared.Entry.{Entry}
-use Rattle.jn_index.specs.Entries.{entry, entry_at, is_before, AreRising}
+use Rattle.jn_index.proofs.Common.{◌≡◌, ◌⊎◌, inl, inr, ◌<◌, ◌≤◌, ℕ, Bool, true, false, List, length, refl, ap, ◌∙◌, arith, cases_eq, nat_tests, Entry, entry, entry_at, is_before, AreRising}
 
 pub before_then : (a b c : Entry) → is_before a b ≡ true → is_before b c ≡ true → is_before a c ≡ true
 before_then a b c ab bc = grind (arith, nat_tests, ab, bc)

@@ -1,13 +1,6 @@
 -- An index that takes its numbers one after another, in whichever order.
-use Rattle.std.proofs.Common.{◌≡◌, ◌⊎◌, inl, inr, ◌<◌, ◌≤◌, ◌+◌, ℕ, List, [], ◌∷◌, ◌++◌, length, Option, Some, None, refl, sym, ap, subst, ◌∙◌, arith}
-use Rattle.std.proofs.lemmas.Bool.{cases_eq}
-use Rattle.std.proofs.lemmas.List.{get_or-set_same, get_or-set_other, length-set, same_lists, get_or_default}
+use Rattle.jn_index.proofs.Common.{◌≡◌, ◌⊎◌, inl, inr, ◌<◌, ◌≤◌, ◌+◌, ℕ, List, [], ◌∷◌, ◌++◌, length, Option, Some, None, refl, sym, ap, subst, ◌∙◌, arith, cases_eq, get_or-set_same, get_or-set_other, length-set, same_lists, get_or_default, Contains, slice_set, slice_index_or, All, number_at, AreOf}
 use Rattle.std.proofs.lemmas.List.Elements.{All-get_or, All-push, Contains-append_left, Contains-push}
-use Rattle.std.proofs.lemmas.List.Sorted.{All-permutation, Contains-permutation}
-use Rattle.std.specs.List.{Contains}
-use Rattle.std.specs.Prelude.{slice_set, slice_index_or, All, IsPermutation}
-use Rattle.jn_index.specs.Numbers.{number_at}
-use Rattle.jn_index.specs.Entries.{AreOf}
 use Rattle.jn_index.proofs.Editing.{has_slot}
 
 abbrev pub pair_at : List (ℕ × ℕ) → ℕ → ℕ × ℕ

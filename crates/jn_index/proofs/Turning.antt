@@ -1,11 +1,5 @@
 -- An entry that is taken out, and one that is inserted, where only the entries between both places move.
-use Rattle.std.proofs.Common.{◌≡◌, ◌<◌, ◌+◌, ℕ, zero, suc, List, [], ◌∷◌, length, refl, sym, ap, subst, ◌∙◌, arith}
-use Rattle.std.proofs.lemmas.List.{get_or-set_other}
-use Rattle.std.proofs.lemmas.List.Edits.{get_or-insert_below, get_or-insert_above}
-use Rattle.std.specs.List.{insert, remove}
-use Rattle.std.specs.Prelude.{slice_set}
-use Rattle.jn_index.specs.declared.Entry.{Entry}
-use Rattle.jn_index.specs.Entries.{entry, entry_at}
+use Rattle.jn_index.proofs.Common.{◌≡◌, ◌<◌, ◌+◌, ℕ, zero, suc, List, [], ◌∷◌, length, refl, sym, ap, subst, ◌∙◌, arith, get_or-set_other, get_or-insert_below, get_or-insert_above, insert, remove, slice_set, Entry, entry, entry_at}
 
 pub turned_here : (xs : List Entry) (i : ℕ) (x : Entry) → i < length xs → slice_set xs i x ≡ insert (remove xs i) i x
 turned_here [] i x lt = absurd (let no_way : ⊥ = omega (arith, lt) in no_way)

@@ -1,70 +1,14 @@
 -- A work's next intention is carried out, by one put of one head or by none.
-use Rattle.std.proofs.Common.{◌≡◌, ◌≢◌, ◌⊎◌, inl, inr, ⊎_elim, ◌<◌, ◌≤◌, ◌+◌, ℕ, suc, Bool, true, false, not, ◌&&◌, ◌||◌, if◌then◌else◌, List, [], ◌∷◌, length, map, Option, Some, None, Result, Ok, refl, sym, ◌∙◌, ap, subst, true≢false, arith}
-use Rattle.std.proofs.Math.Path.{fun_ext}
-use Rattle.std.proofs.lemmas.Bool.{cases_eq}
-use Rattle.std.proofs.lemmas.Bool.Decides.{nat_tests}
-use Rattle.std.proofs.lemmas.List.{get_or_read}
-use Rattle.std.proofs.lemmas.List.Sums.{sum_by-cons}
-use Rattle.std.proofs.lemmas.Option.{slice_get-map, slice_get_within}
-use Rattle.std.specs.Prelude.{nat_lt, nat_eq, is_ok, is_some, count_by, slice_get, slice_set, slice_index_or, option_map}
-use Rattle.std.specs.List.{find, list_all, list_any}
-use Rattle.jn_alloc.specs.Free.{free_count as free_numbers, is_free as is_free_number}
-use Rattle.jn_base.specs.declared.device.Stopped.{Stopped}
-use Rattle.jn_base.specs.declared.names.FileNo.{FileNo}
-use Rattle.jn_base.specs.declared.names.LockUnit.TheVariants.{Block}
-use Rattle.jn_base.specs.declared.names.WorkId.{WorkId}
-use Rattle.jn_base.specs.Names.{file_eq, work_eq}
-use Rattle.jn_base.proofs.Tells.{file_tells, work_tells}
-use Rattle.jn_locks.specs.Locks.{unit_eq}
-use Rattle.jn_order.specs.Files.{there as there_it_is}
-use Rattle.jn_files.specs.Table.{TableView, IsTable, IsFreeLeaf, exists}
-use Rattle.jn_files.specs.Calls.{IsChanged}
-use Rattle.jn_found.specs.Contents.{intended, heads_name, works_name, is_head_of}
-use Rattle.jn_found.specs.Held.{held_contents}
-use Rattle.jn_found.specs.Pages.{found_on}
-use Rattle.jn_found.specs.Puts.{HeadPut}
-use Rattle.jn_found.specs.Recoverable.{IsRecoverable}
-use Rattle.jn_found.specs.Standing.{IsStanding, Makes}
-use Rattle.jn_found.proofs.CallLaws.{carries}
-use Rattle.jn_found.proofs.HeadKept.{head_named}
+use Rattle.jn_intent.proofs.Common.{◌≡◌, ◌≢◌, ◌⊎◌, inl, inr, ⊎_elim, ◌<◌, ◌≤◌, ◌+◌, ℕ, suc, Bool, true, false, not, ◌&&◌, ◌||◌, if◌then◌else◌, List, [], ◌∷◌, length, map, Option, Some, None, Result, Ok, refl, sym, ◌∙◌, ap, subst, true≢false, arith, fun_ext, cases_eq, nat_tests, get_or_read, sum_by-cons, slice_get-map, slice_get_within, nat_lt, nat_eq, is_ok, is_some, count_by, slice_get, slice_set, slice_index_or, option_map, find, list_all, list_any, free_numbers, is_free_number, Stopped, FileNo, Block, WorkId, file_eq, work_eq, file_tells, work_tells, unit_eq, there_it_is, TableView, IsTable, IsFreeLeaf, exists, IsChanged, intended, heads_name, works_name, is_head_of, held_contents, found_on, HeadPut, IsRecoverable, IsStanding, Makes, carries, head_named, named_addresses, Head, FullIntention, StoredIntention, What, Fresh, Gone, Cut, Put, WorkState, intention_has_page, names_what_it_needs, is_fresh, is_put, is_put_intention, Counts, head_place, StableState, Pick, Changed, CarryOut, made_by, at_work, is_prepared, record_in, has_page, state, name_of, next_of, Called, CountsOn, PageTaken, PageStands, StepApplied, find_by, are_different, IsListing, IsServing, file_there, is_stored, intentions, list_of, needed, find-set, keys-set, made_there, there-after, StoreView, Carries, PutsOne, MayCarry, heads_taken, without_promise, is_gone, is_gone_already, counted_on, Matches, IsKeptMemory, IsMade, AreMade, stored_work, Memory, accounts_of, view_of, next_by, next_in, stored_by, holds_page, held_in, same_there, same_address, one, listed_length, none_any, serves_of, serving_by, called_put, finds, there_found, named_head, prepared_of, stored_pages}
 use Rattle.jn_found.proofs.HeadLaws.{gone_law}
-use Rattle.jn_found.proofs.Naming.{named_addresses}
-use Rattle.jn_records.specs.declared.head.Head.{Head}
-use Rattle.jn_records.specs.declared.intention.Intention.{Intention as FullIntention}
-use Rattle.jn_records.specs.declared.intention.StoredIntention.{StoredIntention}
-use Rattle.jn_records.specs.declared.intention.What.{What}
-use Rattle.jn_records.specs.declared.intention.What.TheVariants.{Fresh, Gone, Cut, Put}
-use Rattle.jn_records.specs.declared.work.WorkState.{WorkState}
 use Rattle.jn_records.specs.Heads.{head_page}
-use Rattle.jn_records.specs.Intentions.{intention_has_page, names_what_it_needs}
-use Rattle.jn_records.specs.NetLists.{is_fresh, is_put, is_put_intention}
-use Rattle.jn_records.specs.StablePages.{Counts, head_place}
-use Rattle.jn_rows.specs.Stable.{StableState, Pick, Changed, CarryOut, made_by, at_work}
-use Rattle.jn_sets.specs.Pool.{is_prepared, record_in}
-use Rattle.jn_records.specs.Records.{has_page}
-use Rattle.jn_storage.specs.Calls.{state, name_of, next_of, Called, CountsOn, PageTaken, PageStands, StepApplied}
-use Rattle.jn_storage.specs.Finding.{find_by}
-use Rattle.jn_storage.specs.Listing.{are_different, IsListing}
-use Rattle.jn_storage.specs.Storage.{IsServing, file_there, is_stored, intentions, list_of, needed}
-use Rattle.jn_storage.proofs.Finds.{find-set, keys-set}
-use Rattle.jn_storage.proofs.Intended.{made_there, there-after}
 use Rattle.jn_storage.proofs.Laws.{called_not}
-use Rattle.jn_store.specs.Store.{StoreView}
-use Rattle.jn_intent.specs.Carrying.{Carries, PutsOne, MayCarry, heads_taken, without_promise, is_gone, is_gone_already, counted_on}
-use Rattle.jn_recovery.specs.Matches.{Matches, IsKeptMemory, IsMade, AreMade, stored_work}
-use Rattle.jn_recovery.specs.Memory.{Memory, accounts_of, view_of, next_by, next_in, stored_by, holds_page, held_in}
-use Rattle.jn_recovery.proofs.Bridge.{same_there, same_address}
 use Rattle.jn_intent.proofs.CarryStates.{IsCountedOn, carried_loadable, serves_carried}
-use Rattle.jn_recovery.proofs.Counting.{one, listed_length}
-use Rattle.jn_recovery.proofs.FlagCalls.{none_any}
 use Rattle.jn_intent.proofs.HeldPages.{PutCounts, page_of_put, other_holds, put_counted}
 use Rattle.jn_intent.proofs.NetOrder.{one_first, not_both}
 use Rattle.jn_intent.proofs.NextIntention.{its_work, its_stands, next_seen, at_full, its_slot, same_bytes, taken_is, may_carry}
 use Rattle.jn_intent.proofs.Numbers.{how_many, flags_count, more_pass}
 use Rattle.jn_intent.proofs.Removing.{found_work}
-use Rattle.jn_recovery.proofs.Serving.{serves_of, serving_by, called_put}
-use Rattle.jn_recovery.proofs.Standing.{finds, there_found, named_head}
-use Rattle.jn_recovery.proofs.Telling.{prepared_of, stored_pages}
 use Rattle.jn_intent.proofs.WorkPages.{first_blocks, its_list, work_told, census}
 
 -- ---- the listed works

@@ -1,27 +1,7 @@
 -- A storage serves on once an intention of a work is carried out.
-use Rattle.std.proofs.Common.{◌≡◌, ⊎_elim, ◌≤◌, ◌+◌, ℕ, Bool, true, false, not, ◌&&◌, ◌||◌, if◌then◌else◌, List, ◌∷◌, length, Some, refl, sym, ◌∙◌, ap, subst, arith}
-use Rattle.std.proofs.lemmas.Option.{slice_get_within}
-use Rattle.std.specs.Prelude.{slice_get}
-use Rattle.jn_base.specs.declared.names.FileNo.{FileNo}
-use Rattle.jn_base.specs.declared.names.LockUnit.{LockUnit}
-use Rattle.jn_base.specs.declared.names.WorkId.{WorkId}
-use Rattle.jn_base.specs.Names.{file_eq, work_eq}
-use Rattle.jn_base.proofs.Tells.{file_tells, work_tells}
-use Rattle.jn_locks.specs.Locks.{unit_eq}
-use Rattle.jn_order.specs.Files.{Files, change}
+use Rattle.jn_intent.proofs.Common.{◌≡◌, ⊎_elim, ◌≤◌, ◌+◌, ℕ, Bool, true, false, not, ◌&&◌, ◌||◌, if◌then◌else◌, List, ◌∷◌, length, Some, refl, sym, ◌∙◌, ap, subst, arith, slice_get_within, slice_get, FileNo, LockUnit, WorkId, file_eq, work_eq, file_tells, work_tells, unit_eq, Files, change, What, Fresh, Gone, Cut, Put, intention_change, StableState, Prepared, CarryOut, made_by, at_work, IsListing, total, IsOrderly, Accounts, IsLoadable, file_there, is_stored, intentions, list_of, needed, made_there, there-after, one_if, makes_file, orderly-carried, promises-carried, but, listing-less, listing-more, listing-same, length-but, Serves}
 use Rattle.jn_records.specs.declared.intention.Intention.{Intention}
-use Rattle.jn_records.specs.declared.intention.What.{What}
-use Rattle.jn_records.specs.declared.intention.What.TheVariants.{Fresh, Gone, Cut, Put}
-use Rattle.jn_records.specs.NetLists.{intention_change}
-use Rattle.jn_rows.specs.Stable.{StableState, Prepared, CarryOut, made_by, at_work}
-use Rattle.jn_storage.specs.Listing.{IsListing, total}
-use Rattle.jn_storage.specs.Orderly.{IsOrderly}
-use Rattle.jn_storage.specs.Storage.{Accounts, IsLoadable, file_there, is_stored, intentions, list_of, needed}
-use Rattle.jn_storage.proofs.Intended.{made_there, there-after, one_if}
-use Rattle.jn_storage.proofs.Kept.{makes_file, orderly-carried, promises-carried}
-use Rattle.jn_storage.proofs.Listings.{but, listing-less, listing-more, listing-same, length-but}
 use Rattle.jn_intent.proofs.Numbers.{listing_length}
-use Rattle.jn_recovery.proofs.Serving.{Serves}
 
 -- the files after an intention, each once: one more at most, where it makes one
 record IsAfter (i : Intention) (files : Files) (most : ℕ) (keys : List FileNo) : Type 0 where

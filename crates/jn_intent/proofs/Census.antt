@@ -1,31 +1,8 @@
 -- Each data page is free, or has a stored block, or is held for an intention; and each head is free or a file's.
-use Rattle.std.proofs.Common.{◌≡◌, ◌<◌, ◌≤◌, ◌+◌, ℕ, zero, suc, Bool, true, false, not, ◌&&◌, if◌then◌else◌, List, [], ◌∷◌, length, Some, refl, sym, ◌∙◌, ap, subst, true≢false, arith}
-use Rattle.std.proofs.lemmas.Bool.Decides.{nat_tests}
-use Rattle.std.proofs.lemmas.List.Sums.{sum_by-cons}
-use Rattle.std.specs.Prelude.{nat_lt, nat_le, is_some, count_by, slice_index, slice_index_or, option_map}
-use Rattle.std.specs.List.{find}
-use Rattle.jn_alloc.specs.Free.{free_count as free_numbers, is_free as is_free_number}
-use Rattle.jn_base.specs.declared.names.BlockNo.{BlockNo}
-use Rattle.jn_base.specs.declared.names.FileNo.{FileNo}
-use Rattle.jn_base.specs.declared.names.LockUnit.{LockUnit}
-use Rattle.jn_base.specs.declared.names.LockUnit.TheVariants.{File, Block}
-use Rattle.jn_base.specs.Names.{file_eq}
-use Rattle.jn_order.specs.Files.{there}
-use Rattle.jn_files.specs.Table.{TableView, IsTable, AreHeads, head_in, is_of, is_free, is_held, addresses, addresses_of, address_of, address_for, or_nil}
-use Rattle.jn_files.proofs.Lookup.{of_one, addresses_at}
-use Rattle.jn_files.proofs.Putting.{named_below}
-use Rattle.jn_found.specs.Contents.{heads_name, is_head_of}
-use Rattle.jn_found.proofs.Images.{listed_files, files_listing}
-use Rattle.jn_found.proofs.Naming.{named_addresses}
-use Rattle.jn_locks.specs.Locks.{unit_eq}
+use Rattle.jn_intent.proofs.Common.{◌≡◌, ◌<◌, ◌≤◌, ◌+◌, ℕ, zero, suc, Bool, true, false, not, ◌&&◌, if◌then◌else◌, List, [], ◌∷◌, length, Some, refl, sym, ◌∙◌, ap, subst, true≢false, arith, nat_tests, sum_by-cons, nat_lt, nat_le, is_some, count_by, slice_index, slice_index_or, option_map, find, free_numbers, is_free_number, BlockNo, FileNo, LockUnit, File, Block, file_eq, there, TableView, IsTable, AreHeads, head_in, is_of, is_held, addresses, addresses_of, address_of, address_for, or_nil, of_one, addresses_at, named_below, heads_name, is_head_of, listed_files, files_listing, named_addresses, unit_eq, Head, FreeHead, Used, IsListing, same_test, same_address, one, named_head}
+use Rattle.jn_files.specs.Table.{is_free}
 use Rattle.jn_locks.proofs.Orders.{unit_tells}
-use Rattle.jn_records.specs.declared.head.Head.{Head}
-use Rattle.jn_records.specs.declared.head.Head.TheVariants.{Free as FreeHead, Used}
-use Rattle.jn_storage.specs.Listing.{IsListing}
-use Rattle.jn_recovery.proofs.Bridge.{same_test, same_address}
-use Rattle.jn_recovery.proofs.Counting.{one}
 use Rattle.jn_intent.proofs.Numbers.{how_many, flags_count, one_kind, numbered}
-use Rattle.jn_recovery.proofs.Standing.{named_head}
 
 -- ---- files and heads
 

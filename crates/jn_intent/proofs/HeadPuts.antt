@@ -1,33 +1,10 @@
 -- The put of a head by the table of files carries out an intention.
-use Rattle.std.proofs.Common.{◌≡◌, ◌⊎◌, inl, inr, ⊎_elim, ◌<◌, ◌≤◌, ◌-◌, ℕ, zero, suc, Bool, true, false, not, ◌&&◌, if◌then◌else◌, List, length, replicate, refl, sym, ◌∙◌, ap, subst, true≢false, arith}
-use Rattle.std.proofs.lemmas.Bool.{cases_lt}
-use Rattle.std.proofs.lemmas.Bool.Decides.{nat_tests}
-use Rattle.std.proofs.lemmas.List.{get_or-set_same, get_or-set_other}
-use Rattle.std.specs.Prelude.{nat_le, nat_eq, slice_set, slice_index, take}
-use Rattle.std.specs.List.{list_all}
-use Rattle.jn_alloc.specs.Free.{is_free as is_free_number}
-use Rattle.jn_base.specs.declared.names.BlockNo.{BlockNo}
-use Rattle.jn_base.specs.declared.names.FileNo.{FileNo}
-use Rattle.jn_base.proofs.Tells.{block_tells}
-use Rattle.jn_order.specs.Files.{Change, created, removed, cut_from, written}
-use Rattle.jn_files.specs.Table.{TableView, IsTable, IsHeadOf, head_in, is_of, exists, is_free, fresh_head, cut_head, cut_addresses, with_leaf, addresses_of}
-use Rattle.jn_files.specs.Calls.{SetsHead, IsPlaceOf, with_promised_heads}
+use Rattle.jn_intent.proofs.Common.{◌≡◌, ◌⊎◌, inl, inr, ⊎_elim, ◌<◌, ◌≤◌, ◌-◌, ℕ, zero, suc, Bool, true, false, not, ◌&&◌, if◌then◌else◌, List, length, replicate, refl, sym, ◌∙◌, ap, subst, true≢false, arith, cases_lt, nat_tests, get_or-set_same, get_or-set_other, nat_le, nat_eq, slice_set, slice_index, take, list_all, is_free_number, BlockNo, FileNo, block_tells, Change, created, removed, cut_from, written, TableView, IsTable, IsHeadOf, head_in, is_of, exists, fresh_head, cut_head, cut_addresses, with_leaf, addresses_of, SetsHead, IsPlaceOf, with_promised_heads, absent_none, of_used, serves_for, is_head_after, address_after, is_head_of, address_at, Head, Used, StoredIntention, What, Fresh, Gone, Cut, Put, names_what_it_needs, is_fresh, StoreView, MayCarry, PutsOne, Carries, without_promise, with_fresh_promise, is_gone, needs_file, same_test}
+use Rattle.jn_files.specs.Table.{is_free}
 use Rattle.jn_files.proofs.Changing.{zeros_at}
 use Rattle.jn_files.proofs.Cutting.{cut_kept, cut_gone}
-use Rattle.jn_files.proofs.Lookup.{absent_none, of_used}
 use Rattle.jn_files.proofs.Setting.{cut_stands, leaf_stands}
-use Rattle.jn_found.specs.Changes.{serves_for, is_head_after, address_after}
-use Rattle.jn_found.specs.Contents.{is_head_of, address_at}
-use Rattle.jn_records.specs.declared.head.Head.{Head}
-use Rattle.jn_records.specs.declared.head.Head.TheVariants.{Free, Used}
-use Rattle.jn_records.specs.declared.intention.StoredIntention.{StoredIntention}
-use Rattle.jn_records.specs.declared.intention.What.{What}
-use Rattle.jn_records.specs.declared.intention.What.TheVariants.{Fresh, Gone, Cut, Put}
-use Rattle.jn_records.specs.Intentions.{names_what_it_needs}
-use Rattle.jn_records.specs.NetLists.{is_fresh}
-use Rattle.jn_store.specs.Store.{StoreView}
-use Rattle.jn_intent.specs.Carrying.{MayCarry, PutsOne, Carries, without_promise, with_fresh_promise, is_gone, needs_file}
-use Rattle.jn_recovery.proofs.Bridge.{same_test}
+use Rattle.jn_records.specs.declared.head.Head.TheVariants.{Free}
 
 -- ---- the place of a head
 

@@ -1,57 +1,6 @@
 -- What works hold, and what is free, once an intention is carried out by one put of one head.
-use Rattle.std.proofs.Common.{◌≡◌, ◌≢◌, ◌⊎◌, inl, inr, ⊎_elim, ◌<◌, ◌+◌, ℕ, zero, suc, Bool, true, false, not, ◌&&◌, ◌||◌, if◌then◌else◌, List, [], ◌∷◌, length, Option, Some, None, refl, sym, ◌∙◌, ap, subst, true≢false, arith}
-use Rattle.std.proofs.lemmas.Bool.{cases_eq, false_from_ne_true}
-use Rattle.std.proofs.lemmas.Bool.Decides.{nat_tests}
-use Rattle.std.proofs.lemmas.Option.{slice_get-map}
-use Rattle.std.specs.Prelude.{nat_lt, nat_eq, is_some, count_by, slice_get, slice_set, slice_index_or, option_map, option_and_then}
-use Rattle.std.specs.List.{find, list_any}
-use Rattle.jn_alloc.specs.Free.{free_count as free_numbers}
-use Rattle.jn_base.specs.declared.names.BlockNo.{BlockNo}
-use Rattle.jn_base.specs.declared.names.FileNo.{FileNo}
-use Rattle.jn_base.specs.declared.names.LockUnit.TheVariants.{Block}
-use Rattle.jn_base.specs.declared.names.Tid.{Tid}
-use Rattle.jn_base.specs.declared.names.WorkId.{WorkId}
-use Rattle.jn_base.specs.Names.{work_eq}
-use Rattle.jn_base.proofs.Tells.{work_tells, block_tells}
-use Rattle.jn_files.specs.Table.{TableView, IsTable, is_held}
-use Rattle.jn_files.proofs.Putting.{named_below}
-use Rattle.jn_found.specs.Changes.{IsHeadPut, address_after, is_head_after, serves_for}
-use Rattle.jn_found.specs.Contents.{Contents, intended, bytes_by, behind, block_in, heads_name, works_name, is_head_of, address_at, head_in}
-use Rattle.jn_found.specs.Held.{held_contents}
-use Rattle.jn_found.specs.Recoverable.{Addresses, Intends, IsConsistent}
-use Rattle.jn_found.proofs.Found.{found_once}
-use Rattle.jn_found.proofs.HeadKept.{one_file, split}
-use Rattle.jn_found.proofs.Naming.{addresses_named, intends_named, named_addresses}
-use Rattle.jn_found.proofs.Slots.{at_set}
-use Rattle.jn_records.specs.declared.head.Head.{Head}
-use Rattle.jn_records.specs.declared.head.Head.TheVariants.{Free as FreeHead, Used}
-use Rattle.jn_records.specs.declared.intention.Intention.{Intention as FullIntention}
-use Rattle.jn_records.specs.declared.intention.StoredIntention.{StoredIntention}
-use Rattle.jn_records.specs.declared.intention.What.{What}
-use Rattle.jn_records.specs.declared.intention.What.TheVariants.{Fresh, Gone, Cut, Put}
-use Rattle.jn_records.specs.declared.record.Record.{Record}
-use Rattle.jn_records.specs.declared.record.Record.TheVariants.{Intention}
-use Rattle.jn_records.specs.declared.work.WorkState.{WorkState}
-use Rattle.jn_records.specs.Intentions.{intention_has_page, names_what_it_needs}
-use Rattle.jn_records.specs.NetLists.{is_put, in_order, place_by}
-use Rattle.jn_records.specs.Records.{has_page}
-use Rattle.jn_records.specs.StablePages.{Counts}
-use Rattle.jn_rows.specs.Stable.{StableState}
-use Rattle.jn_sets.specs.Pool.{record_in, is_prepared}
-use Rattle.jn_storage.specs.Calls.{state, name_of}
-use Rattle.jn_storage.specs.Finding.{find_by}
-use Rattle.jn_storage.specs.Listing.{is_in, IsListing}
-use Rattle.jn_storage.specs.Storage.{IsServing, is_stored}
-use Rattle.jn_storage.proofs.Listings.{but, is_in-but, total-but, total-same}
-use Rattle.jn_store.specs.Store.{StoreView}
-use Rattle.jn_recovery.specs.Matches.{Matches, stored_work}
-use Rattle.jn_recovery.specs.Memory.{Memory, view_of, stored_by, holds_page}
-use Rattle.jn_recovery.specs.Pages.{is_at}
-use Rattle.jn_recovery.proofs.Bridge.{same_address}
-use Rattle.jn_recovery.proofs.Counting.{one}
-use Rattle.jn_recovery.proofs.Serving.{serves_of}
-use Rattle.jn_recovery.proofs.Standing.{finds, consistent}
-use Rattle.jn_recovery.proofs.Telling.{prepared_of, stored_pages}
+use Rattle.jn_intent.proofs.Common.{◌≡◌, ◌≢◌, ◌⊎◌, inl, inr, ⊎_elim, ◌<◌, ◌+◌, ℕ, zero, suc, Bool, true, false, not, ◌&&◌, ◌||◌, if◌then◌else◌, List, [], ◌∷◌, length, Option, Some, None, refl, sym, ◌∙◌, ap, subst, true≢false, arith, cases_eq, false_from_ne_true, nat_tests, slice_get-map, nat_lt, nat_eq, is_some, count_by, slice_get, slice_set, slice_index_or, option_map, option_and_then, find, list_any, free_numbers, BlockNo, FileNo, Block, Tid, WorkId, work_eq, work_tells, block_tells, TableView, IsTable, is_held, named_below, IsHeadPut, address_after, is_head_after, serves_for, Contents, intended, bytes_by, behind, block_in, heads_name, works_name, is_head_of, address_at, held_contents, Addresses, Intends, IsConsistent, found_once, one_file, split, addresses_named, intends_named, named_addresses, at_set, Head, FreeHead, Used, FullIntention, StoredIntention, What, Fresh, Gone, Cut, Put, Record, Intention, WorkState, intention_has_page, names_what_it_needs, is_put, in_order, place_by, has_page, Counts, StableState, record_in, is_prepared, state, name_of, find_by, is_in, IsListing, IsServing, is_stored, but, is_in-but, total-but, total-same, StoreView, Matches, stored_work, Memory, view_of, stored_by, holds_page, is_at, same_address, one, serves_of, finds, consistent, prepared_of, stored_pages}
+use Rattle.jn_found.specs.Contents.{head_in}
 use Rattle.jn_intent.proofs.Census.{pages_counted}
 use Rattle.jn_intent.proofs.NetOrder.{all_at, one_index, not_both_put, not_whole}
 use Rattle.jn_intent.proofs.NextIntention.{its_slot}

@@ -1,20 +1,5 @@
 -- Where no work, no flag and no rubbish is left, no record stands.
-use Rattle.std.proofs.Common.{◌≡◌, ◌+◌, ◌||◌, ℕ, zero, suc, Bool, true, false, if◌then◌else◌, List, [], ◌∷◌, length, Option, None, refl, sym, ◌∙◌, ap, true≢false, arith}
-use Rattle.std.proofs.lemmas.List.Sums.{count_by-le-length, sum_by-cons}
-use Rattle.std.specs.Prelude.{count_by, is_some}
-use Rattle.jn_base.specs.declared.names.Tid.{Tid}
-use Rattle.jn_base.specs.declared.names.WorkId.{WorkId}
-use Rattle.jn_base.specs.Names.{tid_eq, work_eq}
-use Rattle.jn_base.proofs.Tells.{tid_tells, work_tells}
-use Rattle.jn_records.specs.declared.record.Record.{Record}
-use Rattle.jn_records.specs.declared.record.Record.TheVariants.{Free, Intention, Ready, Going, Flag as FlagRecord}
-use Rattle.jn_sets.specs.Pool.{record_in, is_free}
-use Rattle.jn_storage.specs.Listing.{IsListing, is_in, total}
-use Rattle.jn_storage.specs.Storage.{IsServing, list_of}
-use Rattle.jn_storage.specs.Calls.{state}
-use Rattle.jn_store.specs.Store.{StoreView}
-use Rattle.jn_recovery.specs.Memory.{Memory, view_of}
-use Rattle.jn_intent.specs.Scrubbing.{IsIdle}
+use Rattle.jn_intent.proofs.Common.{◌≡◌, ◌+◌, ◌||◌, ℕ, zero, suc, Bool, true, false, if◌then◌else◌, List, [], ◌∷◌, length, Option, None, refl, sym, ◌∙◌, ap, true≢false, arith, count_by-le-length, sum_by-cons, count_by, is_some, Tid, WorkId, tid_eq, work_eq, tid_tells, work_tells, Record, Free, Intention, Ready, Going, FlagRecord, record_in, is_free, IsListing, is_in, total, IsServing, list_of, state, StoreView, Memory, view_of, IsIdle}
 
 -- a listing of what isn't there
 no_keys : {A : Type 0} (eq : A → A → Bool) (test : A → Bool) → ((a : A) → eq a a ≡ true) → ((a : A) → test a ≡ false) → (keys : List A) → IsListing eq test keys → length keys ≡ 0

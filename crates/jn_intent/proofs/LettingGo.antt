@@ -1,22 +1,6 @@
 -- What is held and free once the pages of some intentions were let go.
-use Rattle.std.proofs.Common.{◌≡◌, ◌≢◌, ⊎_elim, ◌<◌, ◌+◌, ℕ, zero, suc, Bool, true, false, not, ◌&&◌, ◌||◌, if◌then◌else◌, List, [], ◌∷◌, length, refl, sym, ◌∙◌, ap, subst, true≢false, arith}
-use Rattle.std.proofs.lemmas.Bool.{cases_eq}
-use Rattle.std.proofs.lemmas.Bool.Decides.{nat_tests}
-use Rattle.std.proofs.lemmas.List.{get_or-set_same, get_or-set_other, length-set}
-use Rattle.std.proofs.lemmas.List.Sums.{sum_by-cons, sum_by-set}
-use Rattle.std.specs.Prelude.{nat_eq, nat_lt, slice_set, slice_index_or, count_by}
-use Rattle.std.specs.List.{list_any}
-use Rattle.jn_alloc.specs.Free.{count_of, is_free, free_count, with_free}
-use Rattle.jn_files.specs.Table.{TableView, IsTable, is_held, head_in}
-use Rattle.jn_files.specs.Calls.{LetsGo}
-use Rattle.jn_found.proofs.Naming.{named_addresses}
-use Rattle.jn_recovery.proofs.Bridge.{same_address}
-use Rattle.jn_recovery.proofs.Standing.{named_head}
-use Rattle.jn_found.specs.Contents.{heads_name}
-use Rattle.jn_records.specs.declared.intention.StoredIntention.{StoredIntention}
-use Rattle.jn_recovery.specs.Memory.{holds_page}
-use Rattle.jn_recovery.proofs.Counting.{one}
-use Rattle.jn_recovery.specs.Pages.{page_let_go, pages_let_go, IsHeldAt, MayLetGo, is_at, ArePagesApart}
+use Rattle.jn_intent.proofs.Common.{◌≡◌, ◌≢◌, ⊎_elim, ◌<◌, ◌+◌, ℕ, zero, suc, Bool, true, false, not, ◌&&◌, ◌||◌, if◌then◌else◌, List, [], ◌∷◌, length, refl, sym, ◌∙◌, ap, subst, true≢false, arith, cases_eq, nat_tests, get_or-set_same, get_or-set_other, length-set, sum_by-cons, sum_by-set, nat_eq, nat_lt, slice_set, slice_index_or, count_by, list_any, count_of, with_free, TableView, IsTable, is_held, head_in, LetsGo, named_addresses, same_address, named_head, heads_name, StoredIntention, holds_page, one, page_let_go, pages_let_go, IsHeldAt, MayLetGo, is_at, ArePagesApart}
+use Rattle.jn_alloc.specs.Free.{is_free, free_count}
 
 -- what is held is there, and isn't free
 pub record HeldAreTaken (t : TableView) : Type 0 where

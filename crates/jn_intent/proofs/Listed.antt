@@ -1,24 +1,5 @@
 -- The pages that a prepared work's intentions name.
-use Rattle.std.proofs.Common.{◌≡◌, ⊎_elim, ◌<◌, ◌≤◌, ◌+◌, ℕ, zero, suc, Bool, true, false, not, ◌&&◌, ◌||◌, if◌then◌else◌, List, length, Option, Some, None, refl, sym, ◌∙◌, ap, true≢false, arith}
-use Rattle.std.proofs.lemmas.Bool.{cases_eq}
-use Rattle.std.proofs.lemmas.Bool.Decides.{nat_tests}
-use Rattle.std.specs.Prelude.{nat_eq, slice_set, option_and_then}
-use Rattle.std.specs.List.{find, list_any}
-use Rattle.jn_base.specs.declared.names.Tid.{Tid}
-use Rattle.jn_base.specs.declared.names.WorkId.{WorkId}
-use Rattle.jn_base.specs.Names.{work_eq}
-use Rattle.jn_base.proofs.Tells.{work_tells}
-use Rattle.jn_found.specs.Contents.{Contents, stored_in, with_first, intentions_from, works_name}
-use Rattle.jn_found.specs.Recoverable.{PassesOnce, HasIntentions, Intends, AddressesDiffer}
-use Rattle.jn_found.proofs.Found.{found_once}
-use Rattle.jn_found.proofs.Naming.{named_intends, intends_named}
-use Rattle.jn_found.proofs.Slots.{at_set}
-use Rattle.jn_records.specs.declared.intention.StoredIntention.{StoredIntention}
-use Rattle.jn_records.specs.declared.record.Record.{Record}
-use Rattle.jn_records.specs.declared.record.Record.TheVariants.{Free, Intention, Ready, Going, Flag as FlagRecord}
-use Rattle.jn_sets.specs.Pool.{record_in, is_prepared, is_intention}
-use Rattle.jn_recovery.proofs.Counting.{found_at}
-use Rattle.jn_recovery.specs.Pages.{is_at, ArePagesApart}
+use Rattle.jn_intent.proofs.Common.{◌≡◌, ⊎_elim, ◌<◌, ◌≤◌, ◌+◌, ℕ, zero, suc, Bool, true, false, not, ◌&&◌, ◌||◌, if◌then◌else◌, List, length, Option, Some, None, refl, sym, ◌∙◌, ap, true≢false, arith, cases_eq, nat_tests, nat_eq, slice_set, option_and_then, find, list_any, Tid, WorkId, work_eq, work_tells, Contents, stored_in, with_first, intentions_from, works_name, PassesOnce, HasIntentions, Intends, AddressesDiffer, found_once, named_intends, intends_named, at_set, StoredIntention, Record, Free, Intention, Ready, Going, FlagRecord, record_in, is_prepared, is_intention, found_at, is_at, ArePagesApart}
 
 -- an intention of the work, from a place among them on, has the page
 pub record IsListed (pool : List Record) (work : WorkId) (a low : ℕ) : Type 0 where

@@ -1,42 +1,6 @@
 -- A ready work goes on, by one put of its record.
-use Rattle.std.proofs.Common.{◌≡◌, ◌≢◌, ⊎_elim, ◌<◌, ℕ, zero, suc, Bool, true, false, if◌then◌else◌, List, [], ◌∷◌, length, map, Option, Some, None, refl, sym, ◌∙◌, ap, subst, true≢false, arith}
-use Rattle.std.proofs.Math.Path.{fun_ext}
-use Rattle.std.specs.Prelude.{is_some, position, slice_set, slice_index_or, count_by, option_map, option_and_then}
-use Rattle.std.specs.List.{find}
-use Rattle.jn_base.specs.declared.names.LockUnit.{LockUnit}
-use Rattle.jn_base.specs.declared.names.WorkId.{WorkId}
-use Rattle.jn_base.specs.Names.{work_eq}
-use Rattle.jn_base.proofs.Tells.{work_tells}
-use Rattle.jn_found.specs.Changes.{IsReadySlot}
-use Rattle.jn_found.specs.Contents.{prepared_by, stored_list, holds_address}
-use Rattle.jn_found.specs.Puts.{RecordPut}
-use Rattle.jn_found.specs.Recoverable.{IsRecoverable}
-use Rattle.jn_found.specs.Standing.{Makes}
-use Rattle.jn_found.proofs.CallLaws.{marks}
-use Rattle.jn_found.proofs.Found.{found_written}
-use Rattle.jn_found.proofs.PoolLemmas.{intentions_kept}
-use Rattle.jn_records.specs.declared.record.Record.{Record}
-use Rattle.jn_records.specs.declared.record.Record.TheVariants.{Free, Intention, Ready, Going, Flag as FlagRecord}
-use Rattle.jn_records.specs.declared.work.WorkHead.{WorkHead}
-use Rattle.jn_records.specs.declared.work.WorkState.{WorkState}
-use Rattle.jn_records.specs.Records.{record_page}
-use Rattle.jn_rows.specs.Stable.{MarkGoing, made_by, is_ready}
-use Rattle.jn_sets.specs.Pool.{IsRecord, record_in, slot_page, is_free, is_prepared, is_intention, is_flag, is_ready as is_ready_record, going_of}
-use Rattle.jn_sets.specs.Sets.{Puts}
-use Rattle.jn_storage.specs.Listing.{are_different, is_in}
-use Rattle.jn_storage.specs.Storage.{IsServing}
-use Rattle.jn_storage.specs.Calls.{state, name_of, IsReady, MarkedGoing}
-use Rattle.jn_storage.specs.Finding.{find_by}
-use Rattle.jn_storage.proofs.Finds.{find-set, find-at, find-listed, keys-set}
-use Rattle.jn_store.specs.Store.{StoreView}
-use Rattle.jn_recovery.specs.Memory.{Memory, accounts_of, view_of, next_by, next_in, held_in, holds_page, stored_by, rubbish_of, rubbish_in}
-use Rattle.jn_recovery.specs.Matches.{Matches, IsKeptMemory, IsMade, WorksMatch, StoredWork, stored_work, work_by}
+use Rattle.jn_intent.proofs.Common.{◌≡◌, ◌≢◌, ⊎_elim, ◌<◌, ℕ, zero, suc, Bool, true, false, if◌then◌else◌, List, [], ◌∷◌, length, map, Option, Some, None, refl, sym, ◌∙◌, ap, subst, true≢false, arith, fun_ext, is_some, position, slice_set, slice_index_or, count_by, option_map, option_and_then, find, LockUnit, WorkId, work_eq, work_tells, IsReadySlot, prepared_by, stored_list, holds_address, RecordPut, IsRecoverable, Makes, marks, found_written, intentions_kept, Record, Free, Intention, Ready, Going, FlagRecord, WorkHead, WorkState, record_page, MarkGoing, made_by, is_ready, IsRecord, record_in, slot_page, is_free, is_prepared, is_intention, is_flag, is_ready_record, going_of, Puts, are_different, is_in, IsServing, state, name_of, IsReady, MarkedGoing, find_by, find-set, find-at, find-listed, keys-set, StoreView, Memory, accounts_of, view_of, next_by, next_in, held_in, holds_page, stored_by, rubbish_of, rubbish_in, Matches, IsKeptMemory, IsMade, WorksMatch, StoredWork, stored_work, work_by, position_at, none_position, step_of, free_same, names_kept, rubbish_kept, work_stays, flags_stay, Serves, serves_of, serving_by, may_load, called_put, consistent, works_seen, serves_marked}
 use Rattle.jn_intent.specs.Works.{MarksWork, going_on}
-use Rattle.jn_recovery.proofs.Pool.{position_at, none_position, step_of, free_same, names_kept, rubbish_kept, work_stays, flags_stay}
-use Rattle.jn_recovery.proofs.Serving.{Serves, serves_of, serving_by, may_load, called_put}
-use Rattle.jn_recovery.proofs.Standing.{consistent}
-use Rattle.jn_recovery.proofs.Telling.{works_seen}
-use Rattle.jn_recovery.proofs.WorkStates.{serves_marked}
 
 -- ---- in memory
 

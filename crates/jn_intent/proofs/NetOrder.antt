@@ -1,25 +1,8 @@
 -- Where the intentions of one file stand in a work's list.
-use Rattle.std.proofs.Common.{◌≡◌, inr, ◌<◌, ℕ, zero, suc, Bool, true, false, not, ◌&&◌, ◌||◌, if◌then◌else◌, List, [], ◌∷◌, map, Option, Some, None, refl, sym, ◌∙◌, ap, subst, true≢false, arith}
-use Rattle.std.proofs.lemmas.Bool.Decides.{nat_tests}
-use Rattle.std.specs.Prelude.{slice_get, nat_eq}
-use Rattle.std.specs.List.{list_all}
-use Rattle.jn_base.specs.declared.names.FileNo.{FileNo}
-use Rattle.jn_base.specs.declared.names.LockUnit.TheVariants.{File, Block}
-use Rattle.jn_base.specs.Names.{file_eq}
-use Rattle.jn_base.proofs.Tells.{file_tells}
+use Rattle.jn_intent.proofs.Common.{◌≡◌, inr, ◌<◌, ℕ, zero, suc, Bool, true, false, not, ◌&&◌, ◌||◌, if◌then◌else◌, List, [], ◌∷◌, map, Option, Some, None, refl, sym, ◌∙◌, ap, subst, true≢false, arith, nat_tests, slice_get, nat_eq, list_all, FileNo, File, Block, file_eq, file_tells, is_unit, Files, What, Fresh, Gone, Cut, Put, in_order, entry, intention_place, is_put, is_fresh, as_first, first_by, place_by, Prepared, IsPrepared, GoTogether, unit_of, unit_by, needs_first, takes_away, first_of, file_there, entry-of, unit-of, needs_file}
 use Rattle.jn_locks.specs.declared.words.Mode.TheVariants.{Read, Commit}
-use Rattle.jn_locks.specs.Locks.{is_unit}
-use Rattle.jn_order.specs.Files.{Files}
 use Rattle.jn_records.specs.declared.intention.Intention.{Intention}
-use Rattle.jn_records.specs.declared.intention.What.{What}
-use Rattle.jn_records.specs.declared.intention.What.TheVariants.{Fresh, Gone, Cut, Put}
-use Rattle.jn_records.specs.NetLists.{in_order, entry, intention_place, is_put, is_fresh, as_first, first_by, place_by}
 use Rattle.jn_records.proofs.NetLemmas.{no_entry}
-use Rattle.jn_rows.specs.Stable.{Prepared}
-use Rattle.jn_storage.specs.Orderly.{IsPrepared, GoTogether, unit_of, unit_by, needs_file as needs_first, takes_away, first_of}
-use Rattle.jn_storage.specs.Storage.{file_there}
-use Rattle.jn_storage.proofs.Intended.{entry-of, unit-of}
-use Rattle.jn_intent.specs.Carrying.{needs_file}
 
 pub all_at : {A : Type 0} (p : A → Bool) (xs : List A) (k : ℕ) (x : A) → list_all p xs ≡ true → slice_get xs k ≡ Some x → p x ≡ true
 all_at p [] zero x all e = absurd (cc e)

@@ -1,48 +1,8 @@
 -- What is asked to carry out a work's next intention holds while the storage serves.
-use Rattle.std.proofs.Common.{◌≡◌, ◌<◌, ℕ, zero, suc, Bool, true, false, not, ◌&&◌, ◌||◌, if◌then◌else◌, List, [], length, map, drop, Option, Some, None, refl, sym, ◌∙◌, ap, subst, arith}
-use Rattle.std.proofs.lemmas.Bool.Decides.{nat_tests}
-use Rattle.std.proofs.lemmas.Option.{slice_get-map}
-use Rattle.std.specs.Prelude.{nat_lt, slice_get, option_map, take}
-use Rattle.jn_base.specs.declared.names.BlockNo.{BlockNo}
-use Rattle.jn_base.specs.declared.names.FileNo.{FileNo}
-use Rattle.jn_base.specs.declared.names.Tid.{Tid}
-use Rattle.jn_base.specs.declared.names.WorkId.{WorkId}
-use Rattle.jn_base.specs.Names.{file_eq, work_eq}
-use Rattle.jn_files.specs.Table.{head_in, is_of, exists, address_of}
-use Rattle.jn_files.specs.Calls.{MayBecome}
-use Rattle.jn_found.specs.Contents.{intended, bytes_by, heads_name, works_name, is_head_of, address_at}
-use Rattle.jn_found.specs.Held.{held_contents}
-use Rattle.jn_found.specs.Pages.{block_on, pages_by}
-use Rattle.jn_found.specs.Recoverable.{IsConsistent, Intends, is_named}
+use Rattle.jn_intent.proofs.Common.{◌≡◌, ◌<◌, ℕ, zero, suc, Bool, true, false, not, ◌&&◌, ◌||◌, if◌then◌else◌, List, [], length, map, drop, Option, Some, None, refl, sym, ◌∙◌, ap, subst, arith, nat_tests, slice_get-map, nat_lt, slice_get, option_map, take, BlockNo, FileNo, Tid, WorkId, file_eq, work_eq, head_in, is_of, exists, address_of, MayBecome, intended, bytes_by, heads_name, works_name, is_head_of, address_at, held_contents, block_on, pages_by, IsConsistent, Intends, is_named, intends_named, Head, FreeHead, Used, FullIntention, StoredIntention, What, Fresh, Gone, Cut, Put, Intention, WorkState, is_fresh, data_place, Prepared, Pick, record_in, IsRecord, state, name_of, next_of, find_by, IsPrepared, IsServing, file_there, intentions, one_if, makes_file, StoreView, IsClean, Memory, accounts_of, view_of, next_by, Matches, IsMade, stored_work, MayCarry, heads_taken, serves_of, there_found, consistent, prepared_of}
 use Rattle.jn_found.proofs.HeldLaws.{contents_held}
-use Rattle.jn_found.proofs.Naming.{intends_named}
-use Rattle.jn_records.specs.declared.head.Head.{Head}
-use Rattle.jn_records.specs.declared.head.Head.TheVariants.{Free as FreeHead, Used}
-use Rattle.jn_records.specs.declared.intention.Intention.{Intention as FullIntention}
-use Rattle.jn_records.specs.declared.intention.StoredIntention.{StoredIntention}
-use Rattle.jn_records.specs.declared.intention.What.{What}
-use Rattle.jn_records.specs.declared.intention.What.TheVariants.{Fresh, Gone, Cut, Put}
-use Rattle.jn_records.specs.declared.record.Record.TheVariants.{Intention}
-use Rattle.jn_records.specs.declared.work.WorkState.{WorkState}
-use Rattle.jn_records.specs.NetLists.{is_fresh}
-use Rattle.jn_records.specs.StablePages.{data_place}
-use Rattle.jn_rows.specs.Stable.{Prepared, Pick}
-use Rattle.jn_sets.specs.Pool.{record_in, IsRecord}
-use Rattle.jn_storage.specs.Calls.{state, name_of, next_of}
-use Rattle.jn_storage.specs.Finding.{find_by}
-use Rattle.jn_storage.specs.Orderly.{IsPrepared}
-use Rattle.jn_storage.specs.Storage.{IsServing, file_there, intentions}
-use Rattle.jn_storage.proofs.Intended.{one_if}
-use Rattle.jn_storage.proofs.Kept.{makes_file}
-use Rattle.jn_store.specs.Store.{StoreView, IsClean}
-use Rattle.jn_recovery.specs.Memory.{Memory, accounts_of, view_of, next_by}
-use Rattle.jn_recovery.specs.Matches.{Matches, IsMade, stored_work}
-use Rattle.jn_intent.specs.Carrying.{MayCarry, heads_taken}
 use Rattle.jn_intent.proofs.CarryStates.{promises}
 use Rattle.jn_intent.proofs.NetOrder.{all_at, file_needed}
-use Rattle.jn_recovery.proofs.Serving.{serves_of}
-use Rattle.jn_recovery.proofs.Standing.{there_found, consistent}
-use Rattle.jn_recovery.proofs.Telling.{prepared_of}
 use Rattle.jn_intent.proofs.WorkPages.{first_blocks, IsStored, its_list, work_told, stands_listed}
 
 module _ (m : Memory) (v : StoreView) (now : Matches m v) (serving : IsServing (view_of m v)) (work : WorkId) (s : WorkState) (here : find_by work_eq name_of m.works work ≡ Some s) where

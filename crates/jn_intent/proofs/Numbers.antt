@@ -1,12 +1,5 @@
 -- How many numbers below a bound pass a test, and what is listed by numbers.
-use Rattle.std.proofs.Common.{◌≡◌, ◌≢◌, ⊎_elim, ◌<◌, ◌≤◌, ◌+◌, ℕ, zero, suc, Bool, true, false, not, ◌&&◌, ◌||◌, if◌then◌else◌, List, [], ◌∷◌, length, Some, refl, sym, ◌∙◌, ap, true≢false, arith}
-use Rattle.std.proofs.lemmas.Bool.{cases_eq}
-use Rattle.std.proofs.lemmas.Bool.Decides.{nat_tests}
-use Rattle.std.proofs.lemmas.List.Sums.{sum_by-cons}
-use Rattle.std.specs.Prelude.{nat_lt, nat_le, count_by, slice_get, slice_index_or}
-use Rattle.jn_storage.specs.Listing.{is_in, are_different, IsListing, total}
-use Rattle.jn_storage.proofs.Listings.{Tells, but, listing-more, listing-same, listing-less}
-use Rattle.jn_recovery.proofs.Counting.{one}
+use Rattle.jn_intent.proofs.Common.{◌≡◌, ◌≢◌, ⊎_elim, ◌<◌, ◌≤◌, ◌+◌, ℕ, zero, suc, Bool, true, false, not, ◌&&◌, ◌||◌, if◌then◌else◌, List, [], ◌∷◌, length, Some, refl, sym, ◌∙◌, ap, true≢false, arith, cases_eq, nat_tests, sum_by-cons, nat_lt, nat_le, count_by, slice_get, slice_index_or, is_in, are_different, IsListing, total, Tells, but, listing-more, listing-same, listing-less, one}
 use Rattle.jn_recovery.proofs.FlagStates.{length-one}
 
 abbrev pub how_many : (ℕ → Bool) → ℕ → ℕ

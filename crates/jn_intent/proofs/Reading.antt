@@ -1,28 +1,5 @@
 -- Reading files changes nothing that is found.
-use Rattle.std.proofs.Common.{◌≡◌, ◌<◌, ◌≤◌, ◌+◌, ℕ, zero, suc, Bool, true, false, List, Option, Some, None, Result, Ok, refl, sym, ◌∙◌, ap, subst, true≢false, arith}
-use Rattle.std.proofs.lemmas.Bool.Decides.{nat_tests}
-use Rattle.std.specs.Prelude.{is_some, is_ok, slice_set}
-use Rattle.jn_base.specs.declared.device.Stopped.{Stopped}
-use Rattle.jn_base.specs.declared.names.BlockNo.{BlockNo}
-use Rattle.jn_base.specs.declared.names.FileNo.{FileNo}
-use Rattle.jn_base.specs.declared.names.LockUnit.TheVariants.{Block}
-use Rattle.jn_order.specs.Files.{Files}
-use Rattle.jn_files.specs.Table.{TableView, IsTable, address_for, exists, is_mapped, is_touched}
-use Rattle.jn_files.specs.Calls.{NextFile as NextHead, is_above as is_above_head, HasPagesOfTable, Touches, BlockGot}
-use Rattle.jn_files.specs.Pages.{HoldsTable, files_in}
-use Rattle.jn_rows.specs.Stable.{Unchanged}
-use Rattle.jn_found.specs.Pages.{found_on}
-use Rattle.jn_found.specs.Puts.{IsFewer}
-use Rattle.jn_found.proofs.Picking.{fewer_found}
-use Rattle.jn_records.specs.declared.head.Head.{Head}
-use Rattle.jn_storage.specs.Storage.{IsServing, file_there}
-use Rattle.jn_storage.specs.Calls.{state, NextFile, is_above, BlockRead}
-use Rattle.jn_store.specs.Store.{StoreView, StoreLater, IsSamePage, IsServed, IsStop}
-use Rattle.jn_store.proofs.Laws.{later_refl, same_refl, same_shrinks}
-use Rattle.jn_recovery.specs.Memory.{Memory, view_of}
-use Rattle.jn_recovery.specs.Matches.{IsKeptMemory, Matches}
-use Rattle.jn_recovery.proofs.Serving.{serves_of, serving_by, loadable_found}
-use Rattle.jn_recovery.proofs.Standing.{there_found, mapped_found, holds, files_are}
+use Rattle.jn_intent.proofs.Common.{◌≡◌, ◌<◌, ◌≤◌, ◌+◌, ℕ, zero, suc, Bool, true, false, List, Option, Some, None, Result, Ok, refl, sym, ◌∙◌, ap, subst, true≢false, arith, nat_tests, is_some, is_ok, slice_set, Stopped, BlockNo, FileNo, Block, Files, TableView, IsTable, address_for, exists, is_mapped, is_touched, NextHead, is_above_head, Touches, BlockGot, HoldsTable, files_in, Unchanged, found_on, IsFewer, fewer_found, Head, IsServing, file_there, state, NextFile, is_above, BlockRead, StoreView, StoreLater, IsSamePage, IsServed, IsStop, later_refl, same_refl, same_shrinks, Memory, view_of, IsKeptMemory, Matches, serves_of, serving_by, loadable_found, there_found, mapped_found, holds, files_are}
 use Rattle.jn_intent.proofs.Scrubbing.{IsSafe, fewer_kept}
 
 -- what stands while it serves

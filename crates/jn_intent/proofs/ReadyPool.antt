@@ -1,37 +1,6 @@
 -- The records once the ready record of a work stands behind its intentions.
-use Rattle.std.proofs.Common.{◌≡◌, ⊎_elim, ◌<◌, ◌≤◌, ◌+◌, ℕ, zero, suc, Bool, true, false, not, ◌||◌, if◌then◌else◌, List, [], ◌∷◌, ◌++◌, length, map, Option, Some, None, refl, sym, ◌∙◌, ap, subst, true≢false, arith}
-use Rattle.std.proofs.lemmas.Bool.{cases_eq}
-use Rattle.std.proofs.lemmas.Bool.Decides.{nat_tests}
-use Rattle.std.proofs.lemmas.List.Elements.{filter-append}
-use Rattle.std.specs.Prelude.{is_some, filter, position, slice_set, option_map, option_and_then}
-use Rattle.std.specs.List.{find, list_any}
-use Rattle.jn_base.specs.declared.names.LockUnit.{LockUnit}
-use Rattle.jn_base.specs.declared.names.Tid.{Tid}
-use Rattle.jn_base.specs.declared.names.WorkId.{WorkId}
-use Rattle.jn_base.specs.Names.{work_eq}
-use Rattle.jn_base.proofs.Tells.{work_tells}
-use Rattle.jn_found.specs.Contents.{Contents, stored_in, stored_list, with_first, intentions_from, intention_of, heads_name, works_name}
-use Rattle.jn_found.specs.Recoverable.{PassesOnce, HasAt, Intends, AreFresh}
-use Rattle.jn_found.proofs.Found.{none_passes, any_same, found_once, found_written, none_at}
-use Rattle.jn_found.proofs.Naming.{named_intends, intends_named}
-use Rattle.jn_found.proofs.PoolLemmas.{intentions_kept}
-use Rattle.jn_found.proofs.Slots.{at_set, passes_any}
-use Rattle.jn_records.specs.declared.intention.StoredIntention.{StoredIntention}
-use Rattle.jn_records.specs.declared.record.Record.{Record}
-use Rattle.jn_records.specs.declared.record.Record.TheVariants.{Free, Intention, Ready, Going, Flag as FlagRecord}
-use Rattle.jn_records.specs.declared.work.WorkHead.{WorkHead}
-use Rattle.jn_records.specs.declared.work.WorkState.{WorkState}
-use Rattle.jn_sets.specs.Pool.{record_in, is_free, free_count, is_prepared, is_intention, is_flag}
-use Rattle.jn_storage.specs.Listing.{are_different}
-use Rattle.jn_storage.specs.Calls.{name_of}
-use Rattle.jn_storage.specs.Finding.{find_by}
-use Rattle.jn_storage.proofs.Finds.{find-add, find-listed, different-add, map-add}
-use Rattle.jn_recovery.specs.Memory.{Memory, rubbish_of, rubbish_in}
-use Rattle.jn_recovery.specs.Matches.{WorksMatch, FlagsMatch, stored_work, work_by}
-use Rattle.jn_recovery.specs.Pages.{is_at, ArePagesApart}
-use Rattle.jn_intent.specs.Preparing.{PoolPreparing}
+use Rattle.jn_intent.proofs.Common.{◌≡◌, ⊎_elim, ◌<◌, ◌≤◌, ◌+◌, ℕ, zero, suc, Bool, true, false, not, ◌||◌, if◌then◌else◌, List, [], ◌∷◌, ◌++◌, length, map, Option, Some, None, refl, sym, ◌∙◌, ap, subst, true≢false, arith, cases_eq, nat_tests, filter-append, is_some, filter, position, slice_set, option_map, option_and_then, find, list_any, LockUnit, Tid, WorkId, work_eq, work_tells, Contents, stored_in, stored_list, with_first, intentions_from, intention_of, heads_name, works_name, PassesOnce, HasAt, Intends, AreFresh, none_passes, any_same, found_once, found_written, none_at, named_intends, intends_named, intentions_kept, at_set, passes_any, StoredIntention, Record, Free, Intention, Ready, Going, FlagRecord, WorkHead, WorkState, record_in, is_free, free_count, is_prepared, is_intention, is_flag, are_different, name_of, find_by, find-add, find-listed, different-add, map-add, Memory, rubbish_of, rubbish_in, WorksMatch, FlagsMatch, stored_work, work_by, is_at, ArePagesApart, PoolPreparing, free_more, work_stays, flags_stay}
 use Rattle.jn_intent.proofs.Listed.{listed_at, listed_back}
-use Rattle.jn_recovery.proofs.Pool.{free_more, work_stays, flags_stay}
 use Rattle.jn_intent.proofs.StoringPages.{or_first, or_rest}
 use Rattle.jn_intent.proofs.StoringPool.{is_other, same_work, others_past, free_there, stands_free}
 

@@ -1,20 +1,6 @@
 -- A storage serves on with a work that is prepared.
-use Rattle.std.proofs.Common.{◌≡◌, ◌≤◌, ◌+◌, ℕ, Bool, true, false, ◌||◌, if◌then◌else◌, List, ◌∷◌, length, Option, Some, None, refl, sym, ◌∙◌, ap, subst, true≢false, arith}
-use Rattle.std.specs.Prelude.{is_some}
-use Rattle.jn_base.specs.declared.names.LockUnit.{LockUnit}
-use Rattle.jn_base.specs.declared.names.WorkId.{WorkId}
-use Rattle.jn_base.specs.Names.{work_eq}
-use Rattle.jn_base.proofs.Tells.{work_tells}
+use Rattle.jn_intent.proofs.Common.{◌≡◌, ◌≤◌, ◌+◌, ℕ, Bool, true, false, ◌||◌, if◌then◌else◌, List, ◌∷◌, length, Option, Some, None, refl, sym, ◌∙◌, ap, subst, true≢false, arith, is_some, LockUnit, WorkId, work_eq, work_tells, Need, WorkHead, StableState, Prepared, AddReady, made_by, ready_work, at_work, is_in, total, IsOrderly, IsPrepared, Accounts, intentions, list_of, needed, shortage, with_work, listing-more, total-same, Serves}
 use Rattle.jn_records.specs.declared.intention.Intention.{Intention}
-use Rattle.jn_records.specs.declared.net_list.Need.{Need}
-use Rattle.jn_records.specs.declared.work.WorkHead.{WorkHead}
-use Rattle.jn_rows.specs.Stable.{StableState, Prepared, AddReady, made_by, ready_work, at_work}
-use Rattle.jn_storage.specs.Listing.{is_in, total}
-use Rattle.jn_storage.specs.Orderly.{IsOrderly, IsPrepared}
-use Rattle.jn_storage.specs.Storage.{Accounts, intentions, list_of, needed}
-use Rattle.jn_storage.specs.Calls.{shortage, with_work}
-use Rattle.jn_storage.proofs.Listings.{listing-more, total-same}
-use Rattle.jn_recovery.proofs.Serving.{Serves}
 use Rattle.jn_intent.proofs.StoringPool.{same_work}
 
 -- enough is free and not promised

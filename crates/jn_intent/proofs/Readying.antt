@@ -1,64 +1,10 @@
 -- A work is prepared: its intentions are stored, and then its ready record is put.
-use Rattle.std.proofs.Common.{◌≡◌, ◌<◌, ◌≤◌, ◌+◌, ◌-◌, ◌^◌, ◌&&◌, ◌||◌, ℕ, zero, suc, Bool, true, false, not, if◌then◌else◌, List, [], ◌∷◌, ◌++◌, length, map, take, Option, Some, None, refl, sym, ◌∙◌, ap, subst, true≢false, arith, inl}
-use Rattle.std.proofs.Math.Path.{fun_ext}
-use Rattle.std.proofs.Math.Seq.{take-length}
-use Rattle.std.proofs.lemmas.Bool.Decides.{nat_tests}
-use Rattle.std.proofs.lemmas.List.Sums.{sum_by-cons}
-use Rattle.std.specs.Prelude.{Ok, Err, Result, is_ok, nat_eq, nat_lt, nat_le, position, slice_set, count_by}
-use Rattle.std.specs.List.{find, list_all, list_any}
-use Rattle.jn_alloc.specs.Free.{FreeNumbers, free_count as free_numbers}
-use Rattle.jn_base.specs.declared.names.LockUnit.{LockUnit}
-use Rattle.jn_base.specs.declared.names.LockUnit.TheVariants.{File, Block}
-use Rattle.jn_base.specs.declared.names.WorkId.{WorkId}
-use Rattle.jn_base.specs.Names.{work_eq}
-use Rattle.jn_files.specs.Table.{TableView, IsTable, is_held}
-use Rattle.jn_files.specs.Calls.{with_promised_heads, with_promised_leaves}
-use Rattle.jn_found.specs.Changes.{IsReadyPut}
-use Rattle.jn_found.specs.Contents.{intended, stored_list, prepared_by, heads_name, works_name}
-use Rattle.jn_found.specs.Held.{held_contents}
-use Rattle.jn_found.specs.Pages.{found_on, block_on, pages_by}
-use Rattle.jn_found.specs.Puts.{RecordPut}
-use Rattle.jn_found.specs.Recoverable.{IsRecoverable, HasIntentions, IsWholeWork}
-use Rattle.jn_found.specs.Standing.{IsStanding, Makes}
-use Rattle.jn_found.proofs.CallLaws.{readies}
-use Rattle.jn_found.proofs.Found.{found_passes}
-use Rattle.jn_records.specs.declared.head.Head.{Head}
-use Rattle.jn_records.specs.declared.intention.Intention.{Intention as FullIntention}
-use Rattle.jn_records.specs.declared.intention.StoredIntention.{StoredIntention}
-use Rattle.jn_records.specs.declared.intention.What.{What}
-use Rattle.jn_records.specs.declared.intention.What.TheVariants.{Fresh, Gone, Cut, Put}
-use Rattle.jn_records.specs.declared.net_list.Need.{Need}
-use Rattle.jn_records.specs.declared.record.Record.{Record}
-use Rattle.jn_records.specs.declared.record.Record.TheVariants.{Free, Intention, Ready, Going, Flag as FlagRecord}
-use Rattle.jn_records.specs.declared.work.WorkHead.{WorkHead}
-use Rattle.jn_records.specs.declared.work.WorkState.{WorkState}
-use Rattle.jn_records.specs.Intentions.{intention_has_page, names_what_it_needs}
-use Rattle.jn_records.specs.NetLists.{is_put, is_put_intention}
-use Rattle.jn_records.specs.Records.{RecordFits, ascends, reads_have_page, unit_has_page}
-use Rattle.jn_records.specs.StablePages.{Counts}
-use Rattle.jn_rows.specs.Stable.{Pick, AddReady, Changed, made_by, ready_work, at_work}
-use Rattle.jn_sets.specs.Pool.{IsRecord, is_free, free_count, is_prepared}
-use Rattle.jn_sets.specs.Sets.{Puts}
+use Rattle.jn_intent.proofs.Common.{◌≡◌, ◌<◌, ◌≤◌, ◌+◌, ◌-◌, ◌^◌, ◌&&◌, ◌||◌, ℕ, zero, suc, Bool, true, false, not, if◌then◌else◌, List, [], ◌∷◌, ◌++◌, length, map, take, Option, Some, None, refl, sym, ◌∙◌, ap, subst, true≢false, arith, inl, fun_ext, take-length, nat_tests, sum_by-cons, Ok, Err, Result, is_ok, nat_eq, nat_lt, nat_le, position, slice_set, count_by, find, list_all, list_any, FreeNumbers, free_numbers, LockUnit, File, Block, WorkId, work_eq, TableView, IsTable, is_held, with_promised_heads, with_promised_leaves, IsReadyPut, intended, stored_list, prepared_by, heads_name, works_name, held_contents, found_on, block_on, pages_by, RecordPut, IsRecoverable, HasIntentions, IsWholeWork, IsStanding, Makes, readies, found_passes, Head, FullIntention, StoredIntention, What, Fresh, Gone, Cut, Put, Need, Record, Free, Intention, Ready, Going, FlagRecord, WorkHead, WorkState, intention_has_page, names_what_it_needs, is_put, is_put_intention, RecordFits, ascends, reads_have_page, unit_has_page, Counts, Pick, AddReady, Changed, made_by, ready_work, at_work, IsRecord, is_free, free_count, is_prepared, Puts, Records, Pages, Heads, Stops, IsPrepared, unit_in_range, Accounts, StorageView, IsServing, IsLoadable, needed, state, name_of, Called, MayPrepare, WorkPrepared, shortage, short_of, reached, with_work, is_shortage, find_by, StoreView, StoreLater, IsStop, later_refl, later_trans, stop_since, Memory, accounts_of, view_of, next_by, next_in, held_in, holds_page, stored_by, rubbish_in, Matches, IsMade, IsKeptMemory, is_at, IsPreparing, StopsUnchanged, Begins, ListStored, none_any, step_of, Serves, serves_of, serving_by, may_load, loadable_found, works_seen, listed_pages}
 use Rattle.jn_storage.specs.declared.faults.PrepareFault.{PrepareFault}
-use Rattle.jn_storage.specs.declared.faults.PrepareFault.TheVariants.{Records, Pages, Heads, Stopped as Stops}
-use Rattle.jn_storage.specs.Orderly.{IsPrepared, unit_in_range}
-use Rattle.jn_storage.specs.Storage.{Accounts, StorageView, IsServing, IsLoadable, needed}
-use Rattle.jn_storage.specs.Calls.{state, name_of, Called, MayPrepare, WorkPrepared, shortage, short_of, reached, with_work, is_shortage}
-use Rattle.jn_storage.specs.Finding.{find_by}
-use Rattle.jn_store.specs.Store.{StoreView, StoreLater, IsStop}
-use Rattle.jn_store.proofs.Laws.{later_refl, later_trans, stop_since}
-use Rattle.jn_recovery.specs.Memory.{Memory, accounts_of, view_of, next_by, next_in, held_in, holds_page, stored_by, rubbish_in}
-use Rattle.jn_recovery.specs.Matches.{Matches, IsMade, IsKeptMemory}
-use Rattle.jn_recovery.specs.Pages.{is_at}
-use Rattle.jn_intent.specs.Preparing.{IsPreparing, StopsUnchanged, Begins, ListStored}
-use Rattle.jn_recovery.proofs.FlagCalls.{none_any}
-use Rattle.jn_recovery.proofs.Pool.{step_of}
 use Rattle.jn_intent.proofs.ReadyPool.{ready_state, are_fresh, listed_page, ready_flags, ready_free, ready_works, ready_rubbish, ready_names, work_found}
 use Rattle.jn_intent.proofs.ReadyStates.{HasRoom, has_room, its_work, serves_ready}
-use Rattle.jn_recovery.proofs.Serving.{Serves, serves_of, serving_by, may_load, loadable_found}
 use Rattle.jn_intent.proofs.StoringPages.{or_first, or_rest}
 use Rattle.jn_intent.proofs.StoringPool.{same_work, pool_begins, free_there, stands_free}
-use Rattle.jn_recovery.proofs.Telling.{works_seen, listed_pages}
 
 -- ---- a list of puts and their pages
 

@@ -1,55 +1,9 @@
 -- A prepared work is removed, by one put of its record.
-use Rattle.std.proofs.Common.{◌≡◌, ◌≢◌, ⊎_elim, ◌<◌, ◌≤◌, ◌+◌, ◌-◌, ◌^◌, ℕ, suc, Bool, true, false, not, ◌&&◌, if◌then◌else◌, List, length, map, Option, Some, None, refl, sym, ◌∙◌, ap, subst, true≢false, arith}
-use Rattle.std.proofs.Math.Path.{fun_ext}
-use Rattle.std.proofs.lemmas.List.{length-map}
-use Rattle.std.specs.Prelude.{is_some, position, slice_set, slice_index_or, filter, count_by, option_map, option_and_then}
-use Rattle.std.specs.List.{find, list_any}
-use Rattle.jn_alloc.specs.Free.{FreeNumbers, free_count as free_numbers}
-use Rattle.jn_base.specs.declared.names.Tid.{Tid}
-use Rattle.jn_base.specs.declared.names.WorkId.{WorkId}
-use Rattle.jn_base.specs.Names.{work_eq}
-use Rattle.jn_base.proofs.Tells.{work_tells}
-use Rattle.jn_files.specs.Table.{TableView, IsTable}
-use Rattle.jn_files.specs.Calls.{with_promised_heads}
-use Rattle.jn_found.specs.Contents.{intended, stored_list, prepared_by, works_name}
-use Rattle.jn_found.specs.Held.{held_contents}
-use Rattle.jn_found.specs.Pages.{block_on, pages_by, found_on}
-use Rattle.jn_found.specs.Puts.{RecordPut}
-use Rattle.jn_found.specs.Recoverable.{IsRecoverable, IsConsistent, IsCompleteBy, HasIntentions}
-use Rattle.jn_found.specs.Standing.{IsStanding, Makes}
-use Rattle.jn_found.proofs.CallLaws.{removes}
-use Rattle.jn_found.proofs.Found.{found_any}
-use Rattle.jn_records.specs.declared.intention.Intention.{Intention as FullIntention}
-use Rattle.jn_records.specs.declared.intention.StoredIntention.{StoredIntention}
-use Rattle.jn_records.specs.declared.record.Record.{Record}
-use Rattle.jn_records.specs.declared.record.Record.TheVariants.{Free, Intention, Ready, Going, Flag as FlagRecord}
-use Rattle.jn_records.specs.declared.work.WorkState.{WorkState}
-use Rattle.jn_records.specs.Records.{record_page, RecordFits}
-use Rattle.jn_records.specs.StablePages.{Counts}
-use Rattle.jn_rows.specs.Stable.{Changed, Prepared, RemoveWork, made_by, is_ready, is_going}
-use Rattle.jn_sets.specs.Pool.{record_in, slot_page, is_free, is_prepared, is_intention, is_flag, is_rubbish}
-use Rattle.jn_sets.specs.Sets.{Puts}
-use Rattle.jn_storage.specs.Listing.{is_in, are_different}
-use Rattle.jn_storage.specs.Storage.{IsServing, IsLoadable, file_there, intentions, list_of, needed}
-use Rattle.jn_storage.specs.Calls.{state, name_of, WorkRemoved}
-use Rattle.jn_storage.specs.Finding.{find_by}
-use Rattle.jn_storage.proofs.Finds.{find-at, find-kept, find-listed, keys-kept, different-kept}
-use Rattle.jn_storage.proofs.Listings.{total-but}
-use Rattle.jn_store.specs.Store.{StoreView}
-use Rattle.jn_recovery.specs.Memory.{Memory, accounts_of, view_of, next_by, stored_by, holds_page, rubbish_in}
-use Rattle.jn_recovery.specs.Matches.{Matches, IsKeptMemory, IsMade, WorksMatch, StoredWork, stored_work, work_by}
-use Rattle.jn_recovery.specs.Pages.{pages_let_go, MayLetGo, heads_needed, is_at, ArePagesApart}
-use Rattle.jn_recovery.proofs.Counting.{is_of_work, listed_length, gone_found, prepared_gone, removed_rubbish, removed_names}
-use Rattle.jn_recovery.proofs.FlagCalls.{free_record}
+use Rattle.jn_intent.proofs.Common.{◌≡◌, ◌≢◌, ⊎_elim, ◌<◌, ◌≤◌, ◌+◌, ◌-◌, ◌^◌, ℕ, suc, Bool, true, false, not, ◌&&◌, if◌then◌else◌, List, length, map, Option, Some, None, refl, sym, ◌∙◌, ap, subst, true≢false, arith, fun_ext, length-map, is_some, position, slice_set, slice_index_or, filter, count_by, option_map, option_and_then, find, list_any, FreeNumbers, free_numbers, Tid, WorkId, work_eq, work_tells, TableView, IsTable, with_promised_heads, intended, stored_list, prepared_by, works_name, held_contents, block_on, pages_by, found_on, RecordPut, IsRecoverable, IsConsistent, IsCompleteBy, HasIntentions, IsStanding, Makes, removes, found_any, FullIntention, StoredIntention, Record, Free, Intention, Ready, Going, FlagRecord, WorkState, record_page, RecordFits, Counts, Changed, Prepared, RemoveWork, made_by, is_ready, is_going, record_in, slot_page, is_free, is_prepared, is_intention, is_flag, is_rubbish, Puts, is_in, are_different, IsServing, IsLoadable, file_there, intentions, list_of, needed, state, name_of, WorkRemoved, find_by, find-at, find-kept, find-listed, keys-kept, different-kept, total-but, StoreView, Memory, accounts_of, view_of, next_by, stored_by, holds_page, rubbish_in, Matches, IsKeptMemory, IsMade, WorksMatch, StoredWork, stored_work, work_by, pages_let_go, MayLetGo, heads_needed, is_at, ArePagesApart, is_of_work, listed_length, gone_found, prepared_gone, removed_rubbish, removed_names, free_record, position_at, none_position, step_of, free_less, work_stays, flags_stay, Serves, serves_of, serving_by, may_load, called_put, consistent, works_seen, works_told, prepared_of, IsRemoved, serves_removed}
 use Rattle.jn_recovery.proofs.HeadsNeeded.{heads_are}
 use Rattle.jn_intent.proofs.LettingGo.{AreLetGo, let_go, table_taken}
 use Rattle.jn_intent.proofs.Listed.{listed_at, listed_named, pages_apart, names_after}
-use Rattle.jn_recovery.proofs.Pool.{position_at, none_position, step_of, free_less, work_stays, flags_stay}
 use Rattle.jn_intent.proofs.Reading.{there_seen}
-use Rattle.jn_recovery.proofs.Serving.{Serves, serves_of, serving_by, may_load, called_put}
-use Rattle.jn_recovery.proofs.Standing.{consistent}
-use Rattle.jn_recovery.proofs.Telling.{works_seen, works_told, prepared_of}
-use Rattle.jn_recovery.proofs.WorkStates.{IsRemoved, serves_removed}
 
 -- ---- the record of a prepared work
 

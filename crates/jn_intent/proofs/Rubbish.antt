@@ -1,13 +1,5 @@
 -- Whether a record is rubbish, by the works that are named as rubbish.
-use Rattle.std.proofs.Common.{◌≡◌, ◌+◌, ℕ, suc, Bool, true, false, ◌||◌, if◌then◌else◌, List, [], ◌∷◌, length, refl, sym, ◌∙◌, ap, arith, length-append}
-use Rattle.std.proofs.lemmas.Bool.Decides.{nat_tests}
-use Rattle.std.specs.Prelude.{nat_lt}
-use Rattle.std.specs.List.{list_any}
-use Rattle.jn_base.specs.declared.names.WorkId.{WorkId}
-use Rattle.jn_records.specs.declared.record.Record.{Record}
-use Rattle.jn_sets.specs.Pool.{is_rubbish}
-use Rattle.jn_recovery.specs.Memory.{rubbish_of, rubbish_in}
-use Rattle.jn_recovery.proofs.Erasing.{rubbish_one}
+use Rattle.jn_intent.proofs.Common.{◌≡◌, ◌+◌, ℕ, suc, Bool, true, false, ◌||◌, if◌then◌else◌, List, [], ◌∷◌, length, refl, sym, ◌∙◌, ap, arith, length-append, nat_tests, nat_lt, list_any, WorkId, Record, is_rubbish, rubbish_of, rubbish_in, rubbish_one}
 
 pub some_rubbish : (pool rs : List Record) → list_any (is_rubbish pool) rs ≡ nat_lt 0 (length (rubbish_in pool rs))
 some_rubbish pool [] = refl

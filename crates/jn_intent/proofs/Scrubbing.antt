@@ -1,29 +1,9 @@
 -- What a scrub of a storage leaves, and what befalls its device.
-use Rattle.std.proofs.Common.{◌≡◌, ◌<◌, ◌≤◌, ◌+◌, ◌*◌, ℕ, Bool, true, false, refl, sym, ◌∙◌, ap, subst, arith}
-use Rattle.jn_device.specs.Device.{DeviceState}
-use Rattle.jn_files.specs.Table.{TableView, IsTable}
-use Rattle.jn_files.specs.Calls.{TouchesAll}
+use Rattle.jn_intent.proofs.Common.{◌≡◌, ◌<◌, ◌≤◌, ◌+◌, ◌*◌, ℕ, Bool, true, false, refl, sym, ◌∙◌, ap, subst, arith, DeviceState, TableView, IsTable, TouchesAll, found_on, IsFewer, IsRecoverable, IsStanding, fewer_found, fewer_recoverable, same_found, same_recoverable, Pick, StableState, Unchanged, IsServing, state, StoreView, StoreLater, HasSamePages, IsCalm, IsWholePage, IsStop, shrinks_only, Memory, view_of, Matches, IsKeptMemory, Befalls, CleansAll, Scrubbed, serves_of, serving_by, loadable_found, standing_same}
 use Rattle.jn_found.specs.Images.{IsImage}
-use Rattle.jn_found.specs.Pages.{found_on}
-use Rattle.jn_found.specs.Puts.{IsFewer}
-use Rattle.jn_found.specs.Recoverable.{IsRecoverable}
-use Rattle.jn_found.specs.Standing.{IsStanding}
 use Rattle.jn_found.proofs.ImageEnds.{is_image}
-use Rattle.jn_found.proofs.Picking.{fewer_found, fewer_recoverable, same_found, same_recoverable}
-use Rattle.jn_rows.specs.Stable.{Pick, StableState, Unchanged}
-use Rattle.jn_storage.specs.Storage.{IsServing}
-use Rattle.jn_storage.specs.Calls.{state}
 use Rattle.jn_store.specs.Pairs.{pairs_view}
-use Rattle.jn_store.specs.Store.{StoreView, StoreLater, HasSamePages, IsCalm, IsWholePage, IsStop}
-use Rattle.jn_store.proofs.Laws.{shrinks_only}
-use Rattle.jn_recovery.specs.Memory.{Memory, view_of}
-use Rattle.jn_recovery.specs.Matches.{Matches, IsKeptMemory}
-use Rattle.jn_intent.specs.Events.{Befalls}
-use Rattle.jn_recovery.specs.Cleaning.{CleansAll}
-use Rattle.jn_intent.specs.Scrubbing.{Scrubbed}
 use Rattle.jn_intent.proofs.Idle.{idle_free}
-use Rattle.jn_recovery.proofs.Serving.{serves_of, serving_by, loadable_found}
-use Rattle.jn_recovery.proofs.Standing.{standing_same}
 
 -- ---- what a scrub leaves
 

@@ -1,38 +1,6 @@
 -- One intention is stored: a put's block, and then its record.
-use Rattle.std.proofs.Common.{◌≡◌, ◌<◌, ◌≤◌, ◌+◌, ◌*◌, ◌||◌, ℕ, zero, suc, Bool, true, false, List, [], ◌∷◌, ◌++◌, length, Some, refl, sym, ◌∙◌, ap, subst, true≢false, arith, length-append}
-use Rattle.std.proofs.lemmas.Bool.Decides.{nat_tests}
-use Rattle.std.proofs.lemmas.Option.{slice_get-get_or}
-use Rattle.std.specs.Prelude.{Ok, Err, Result, is_ok, IfOk, position, slice_get, slice_index_or}
-use Rattle.jn_alloc.specs.Free.{is_free as is_free_number}
-use Rattle.jn_base.specs.declared.device.Stopped.{Stopped}
-use Rattle.jn_files.specs.Table.{TableView, IsTable, is_held}
-use Rattle.jn_files.specs.Pages.{leaf_page}
-use Rattle.jn_found.specs.Contents.{heads_name, works_name}
-use Rattle.jn_found.specs.Pages.{found_on}
-use Rattle.jn_found.specs.Puts.{RecordPut, BlockPut}
-use Rattle.jn_found.specs.Recoverable.{IsRecoverable}
-use Rattle.jn_found.specs.Standing.{IsStanding, MakesNothing, standing_state}
-use Rattle.jn_found.proofs.CallLaws.{fills, idles}
+use Rattle.jn_intent.proofs.Common.{◌≡◌, ◌<◌, ◌≤◌, ◌+◌, ◌*◌, ◌||◌, ℕ, zero, suc, Bool, true, false, List, [], ◌∷◌, ◌++◌, length, Some, refl, sym, ◌∙◌, ap, subst, true≢false, arith, length-append, nat_tests, slice_get-get_or, Ok, Err, Result, is_ok, IfOk, position, slice_get, slice_index_or, is_free_number, Stopped, TableView, IsTable, is_held, leaf_page, heads_name, works_name, found_on, RecordPut, BlockPut, IsRecoverable, IsStanding, MakesNothing, standing_state, fills, idles, StoredIntention, What, Fresh, Gone, Cut, Put, Record, IntentionRecord, WorkHead, intention_has_page, names_what_it_needs, AllPlain, Plain, is_put, RecordFits, record_page, Counts, data_place, Unchanged, is_free, slot_page, Puts, state, StoreView, StorePut, later_trans, stop_since, Memory, view_of, stored_as, BlockStored, RecordStored, IntentionStored, MayStore, PagesPreparing, StorePreparing, IsPreparing, StopsUnchanged, ListStored, step_of}
 use Rattle.jn_records.specs.declared.intention.Intention.{Intention}
-use Rattle.jn_records.specs.declared.intention.StoredIntention.{StoredIntention}
-use Rattle.jn_records.specs.declared.intention.What.{What}
-use Rattle.jn_records.specs.declared.intention.What.TheVariants.{Fresh, Gone, Cut, Put}
-use Rattle.jn_records.specs.declared.record.Record.{Record}
-use Rattle.jn_records.specs.declared.record.Record.TheVariants.{Intention as IntentionRecord}
-use Rattle.jn_records.specs.declared.work.WorkHead.{WorkHead}
-use Rattle.jn_records.specs.Intentions.{intention_has_page, names_what_it_needs}
-use Rattle.jn_records.specs.NetLists.{AllPlain, Plain, is_put}
-use Rattle.jn_records.specs.Records.{RecordFits, record_page}
-use Rattle.jn_records.specs.StablePages.{Counts, data_place}
-use Rattle.jn_rows.specs.Stable.{Unchanged}
-use Rattle.jn_sets.specs.Pool.{is_free, slot_page}
-use Rattle.jn_sets.specs.Sets.{Puts}
-use Rattle.jn_storage.specs.Calls.{state}
-use Rattle.jn_store.specs.Store.{StoreView, StorePut}
-use Rattle.jn_store.proofs.Laws.{later_trans, stop_since}
-use Rattle.jn_recovery.specs.Memory.{Memory, view_of}
-use Rattle.jn_intent.specs.Preparing.{stored_as, BlockStored, RecordStored, IntentionStored, MayStore, PagesPreparing, StorePreparing, IsPreparing, StopsUnchanged, ListStored}
-use Rattle.jn_recovery.proofs.Pool.{step_of}
 use Rattle.jn_intent.proofs.StoringPages.{pages_moved, pages_none, pages_put, not_yet, page_below, page_unnamed}
 use Rattle.jn_intent.proofs.StoringPool.{free_there, stored_idle, pool_goes_on}
 

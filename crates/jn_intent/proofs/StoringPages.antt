@@ -1,34 +1,8 @@
 -- The data pages of a work that is being prepared: each is taken free, and filled with the block of its put.
-use Rattle.std.proofs.Common.{◌≡◌, ⊎_elim, ◌<◌, ◌+◌, ℕ, zero, suc, Bool, true, false, ◌||◌, if◌then◌else◌, List, [], ◌∷◌, ◌++◌, length, map, take, Some, refl, sym, ◌∙◌, ap, subst, true≢false, arith, length-append}
-use Rattle.std.proofs.Math.Seq.{take-suc, take-append_seam}
-use Rattle.std.proofs.lemmas.Bool.{cases_eq}
-use Rattle.std.proofs.lemmas.Bool.Decides.{nat_tests}
-use Rattle.std.proofs.lemmas.List.{get_or-set_same, get_or-set_other, map-append}
+use Rattle.jn_intent.proofs.Common.{◌≡◌, ⊎_elim, ◌<◌, ◌+◌, ℕ, zero, suc, Bool, true, false, ◌||◌, if◌then◌else◌, List, [], ◌∷◌, ◌++◌, length, map, take, Some, refl, sym, ◌∙◌, ap, subst, true≢false, arith, length-append, take-suc, take-append_seam, cases_eq, nat_tests, get_or-set_same, get_or-set_other, map-append, sum_by-append, sum_by-cons, sum_by-set, slice_get_within, get_or_from_slice_get, nat_eq, nat_lt, replicate, slice_get, slice_set, slice_index_or, count_by, list_any, free_numbers, TableView, IsTable, IsFreeLeaf, is_held, head_in, with_held, with_touched, leaf_page, bytes_by, intended, heads_name, block_on, pages_by, named_addresses, StoredIntention, What, Fresh, Gone, Cut, Put, Plain, is_put, is_put_intention, Counts, page_count, data_place, Pick, StoreView, StorePut, IsSamePage, Memory, is_at, ArePagesApart, stored_as, IsOwnPage, PagesPreparing, same_address, one}
 use Rattle.std.proofs.lemmas.List.Folds.{list_any-append}
-use Rattle.std.proofs.lemmas.List.Sums.{sum_by-append, sum_by-cons, sum_by-set}
-use Rattle.std.proofs.lemmas.Option.{slice_get_within, get_or_from_slice_get}
-use Rattle.std.specs.Prelude.{nat_eq, nat_lt, replicate, slice_get, slice_set, slice_index_or, count_by}
-use Rattle.std.specs.List.{list_any}
-use Rattle.jn_alloc.specs.Free.{is_free, free_count as free_numbers}
-use Rattle.jn_files.specs.Table.{TableView, IsTable, IsFreeLeaf, is_held, head_in}
-use Rattle.jn_files.specs.Calls.{with_held, with_touched}
-use Rattle.jn_files.specs.Pages.{leaf_page}
-use Rattle.jn_found.specs.Contents.{bytes_by, intended, heads_name}
-use Rattle.jn_found.specs.Pages.{block_on, pages_by}
-use Rattle.jn_found.proofs.Naming.{named_addresses}
+use Rattle.jn_alloc.specs.Free.{is_free}
 use Rattle.jn_records.specs.declared.intention.Intention.{Intention}
-use Rattle.jn_records.specs.declared.intention.StoredIntention.{StoredIntention}
-use Rattle.jn_records.specs.declared.intention.What.{What}
-use Rattle.jn_records.specs.declared.intention.What.TheVariants.{Fresh, Gone, Cut, Put}
-use Rattle.jn_records.specs.NetLists.{Plain, is_put, is_put_intention}
-use Rattle.jn_records.specs.StablePages.{Counts, page_count, data_place}
-use Rattle.jn_rows.specs.Stable.{Pick}
-use Rattle.jn_store.specs.Store.{StoreView, StorePut, IsSamePage}
-use Rattle.jn_recovery.specs.Memory.{Memory}
-use Rattle.jn_recovery.specs.Pages.{is_at, ArePagesApart}
-use Rattle.jn_intent.specs.Preparing.{stored_as, IsOwnPage, PagesPreparing}
-use Rattle.jn_recovery.proofs.Bridge.{same_address}
-use Rattle.jn_recovery.proofs.Counting.{one}
 
 -- ---- blocks
 

@@ -1,28 +1,7 @@
 -- The records of a work that is being prepared: intentions that count for nothing, and then its ready record.
-use Rattle.std.proofs.Common.{◌≡◌, ◌<◌, ℕ, zero, suc, Bool, true, false, not, ◌&&◌, ◌||◌, if◌then◌else◌, List, [], ◌∷◌, ◌++◌, length, Option, Some, None, refl, sym, ◌∙◌, ap, subst, true≢false, arith, length-append}
-use Rattle.std.proofs.lemmas.List.Elements.{filter-append}
-use Rattle.std.specs.Prelude.{nat_eq, filter, position, slice_set}
-use Rattle.std.specs.List.{list_any}
-use Rattle.jn_base.specs.declared.names.Tid.{Tid}
-use Rattle.jn_base.specs.declared.names.WorkId.{WorkId}
-use Rattle.jn_base.specs.Names.{work_eq}
-use Rattle.jn_base.proofs.Tells.{work_tells}
-use Rattle.jn_found.specs.Changes.{IsIdlePut}
-use Rattle.jn_found.specs.Contents.{holds_address}
-use Rattle.jn_found.specs.Recoverable.{HasNone}
+use Rattle.jn_intent.proofs.Common.{◌≡◌, ◌<◌, ℕ, zero, suc, Bool, true, false, not, ◌&&◌, ◌||◌, if◌then◌else◌, List, [], ◌∷◌, ◌++◌, length, Option, Some, None, refl, sym, ◌∙◌, ap, subst, true≢false, arith, length-append, filter-append, nat_eq, filter, position, slice_set, list_any, Tid, WorkId, work_eq, work_tells, IsIdlePut, holds_address, HasNone, any_same, StoredIntention, Record, Free, Intention, Ready, Going, FlagRecord, record_in, is_free, free_count, is_prepared, is_intention, is_flag, is_rubbish, is_in, Memory, rubbish_of, rubbish_in, WorksMatch, FlagsMatch, PoolPreparing, in_both, idle_same, idle_works, position_at, free_is, free_more, flags_stay, names_kept, rubbish_moves}
 use Rattle.jn_found.proofs.Behind.{none_first, next_first}
-use Rattle.jn_found.proofs.Found.{any_same}
-use Rattle.jn_records.specs.declared.intention.StoredIntention.{StoredIntention}
-use Rattle.jn_records.specs.declared.record.Record.{Record}
-use Rattle.jn_records.specs.declared.record.Record.TheVariants.{Free, Intention, Ready, Going, Flag as FlagRecord}
-use Rattle.jn_sets.specs.Pool.{record_in, is_free, free_count, is_prepared, is_intention, is_flag, is_rubbish}
 use Rattle.jn_sets.proofs.Slots.{none_counted}
-use Rattle.jn_storage.specs.Listing.{is_in}
-use Rattle.jn_recovery.specs.Memory.{Memory, rubbish_of, rubbish_in}
-use Rattle.jn_recovery.specs.Matches.{WorksMatch, FlagsMatch}
-use Rattle.jn_intent.specs.Preparing.{PoolPreparing}
-use Rattle.jn_recovery.proofs.Erasing.{in_both}
-use Rattle.jn_recovery.proofs.Pool.{idle_same, idle_works, position_at, free_is, free_more, flags_stay, names_kept, rubbish_moves}
 
 -- ---- rubbish of other works
 

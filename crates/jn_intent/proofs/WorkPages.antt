@@ -1,52 +1,9 @@
 -- How many data pages are held for the intentions of works, and named by no head.
-use Rattle.std.proofs.Common.{◌≡◌, ◌≢◌, ◌⊎◌, inl, inr, ⊎_elim, ◌<◌, ◌≤◌, ◌+◌, ◌^◌, ℕ, zero, suc, Bool, true, false, not, ◌&&◌, ◌||◌, if◌then◌else◌, List, [], ◌∷◌, length, Option, Some, None, refl, sym, ◌∙◌, ap, subst, true≢false, arith}
-use Rattle.std.proofs.Math.Path.{fun_ext}
-use Rattle.std.proofs.lemmas.Bool.{cases_eq}
-use Rattle.std.proofs.lemmas.Bool.Decides.{nat_tests}
-use Rattle.std.proofs.lemmas.List.Sums.{sum_by-cons}
-use Rattle.std.specs.Prelude.{nat_lt, nat_le, nat_eq, is_some, count_by, slice_get, option_map, option_and_then}
-use Rattle.std.specs.List.{find, list_any}
-use Rattle.jn_alloc.specs.Free.{free_count as free_numbers}
-use Rattle.jn_base.specs.declared.names.FileNo.{FileNo}
-use Rattle.jn_base.specs.declared.names.LockUnit.{LockUnit}
-use Rattle.jn_base.specs.declared.names.LockUnit.TheVariants.{File, Block}
-use Rattle.jn_base.specs.declared.names.Tid.{Tid}
-use Rattle.jn_base.specs.declared.names.WorkId.{WorkId}
-use Rattle.jn_base.specs.Names.{file_eq, work_eq}
-use Rattle.jn_base.proofs.Tells.{work_tells}
-use Rattle.jn_found.specs.Contents.{heads_name, works_name, stored_in, with_first, intentions_from, stored_list}
-use Rattle.jn_found.specs.Held.{held_contents}
-use Rattle.jn_found.specs.Pages.{block_on, pages_by}
-use Rattle.jn_found.specs.Recoverable.{IsConsistent, IsCompleteBy, HasIntentions}
-use Rattle.jn_found.proofs.Found.{found_any, found_passes}
-use Rattle.jn_found.proofs.Images.{listed_files}
-use Rattle.jn_found.proofs.Naming.{named_intends}
-use Rattle.jn_locks.specs.Locks.{unit_eq}
-use Rattle.jn_records.specs.declared.head.Head.{Head}
-use Rattle.jn_records.specs.declared.intention.StoredIntention.{StoredIntention}
-use Rattle.jn_records.specs.declared.record.Record.{Record}
-use Rattle.jn_records.specs.declared.record.Record.TheVariants.{Free, Intention, Ready, Going, Flag as FlagRecord}
-use Rattle.jn_records.specs.declared.work.WorkState.{WorkState}
-use Rattle.jn_records.specs.Records.{RecordFits}
-use Rattle.jn_rows.specs.Stable.{StableState}
-use Rattle.jn_sets.specs.Pool.{record_in, is_prepared, is_intention}
-use Rattle.jn_storage.specs.Calls.{state, name_of}
-use Rattle.jn_storage.specs.Finding.{find_by}
-use Rattle.jn_storage.specs.Storage.{file_there, is_stored}
-use Rattle.jn_storage.specs.Listing.{is_in, are_different, IsListing, total}
-use Rattle.jn_storage.proofs.Listings.{Tells, but, is_in-but, total-but, total-same}
-use Rattle.jn_store.specs.Store.{StoreView}
-use Rattle.jn_recovery.specs.Memory.{Memory, view_of, stored_by, holds_page, held_in}
-use Rattle.jn_recovery.specs.Pages.{is_at, ArePagesApart}
-use Rattle.jn_recovery.specs.Matches.{Matches, stored_work, work_by}
+use Rattle.jn_intent.proofs.Common.{◌≡◌, ◌≢◌, ◌⊎◌, inl, inr, ⊎_elim, ◌<◌, ◌≤◌, ◌+◌, ◌^◌, ℕ, zero, suc, Bool, true, false, not, ◌&&◌, ◌||◌, if◌then◌else◌, List, [], ◌∷◌, length, Option, Some, None, refl, sym, ◌∙◌, ap, subst, true≢false, arith, fun_ext, cases_eq, nat_tests, sum_by-cons, nat_lt, nat_le, nat_eq, is_some, count_by, slice_get, option_map, option_and_then, find, list_any, free_numbers, FileNo, LockUnit, File, Block, Tid, WorkId, file_eq, work_eq, work_tells, heads_name, works_name, stored_in, with_first, intentions_from, stored_list, held_contents, block_on, pages_by, IsConsistent, IsCompleteBy, HasIntentions, found_any, found_passes, listed_files, named_intends, unit_eq, Head, StoredIntention, Record, Free, Intention, Ready, Going, FlagRecord, WorkState, RecordFits, StableState, record_in, is_prepared, is_intention, state, name_of, find_by, file_there, is_stored, is_in, are_different, IsListing, total, Tells, but, is_in-but, total-but, total-same, StoreView, Memory, view_of, stored_by, holds_page, held_in, is_at, ArePagesApart, Matches, stored_work, work_by, one, found_at, counts_plus, none_any, finds, consistent, mapped_found, prepared_of, works_by}
 use Rattle.jn_intent.proofs.Census.{files_counted, blocks_counted, pages_counted, page_of}
-use Rattle.jn_recovery.proofs.Counting.{one, found_at, counts_plus}
-use Rattle.jn_recovery.proofs.FlagCalls.{none_any}
 use Rattle.jn_intent.proofs.Listed.{IsListed, listed_at, listed_back, listed_named, pages_apart}
 use Rattle.jn_intent.proofs.Numbers.{how_many, same_members, total_plus, total_none}
 use Rattle.jn_intent.proofs.Removing.{work_record}
-use Rattle.jn_recovery.proofs.Standing.{finds, consistent, mapped_found}
-use Rattle.jn_recovery.proofs.Telling.{prepared_of, works_by}
 
 -- ---- an intention of a list stands in a record
 

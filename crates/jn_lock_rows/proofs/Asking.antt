@@ -1,17 +1,5 @@
 -- What is wanted: units with their modes, in order of units, and where a phase collides with it.
-use Rattle.std.proofs.Common.{◌≡◌, ◌⊎◌, inl, inr, Bool, true, false, List, [], ◌∷◌, ◌++◌, Some, None, refl, sym, ◌∙◌, ap, subst, arith}
-use Rattle.std.proofs.Math.Path.{fun_ext}
-use Rattle.std.specs.Prelude.{◌&&◌, ◌||◌, not, if◌then◌else◌}
-use Rattle.jn_base.specs.declared.names.LockUnit.{LockUnit}
-use Rattle.jn_locks.specs.declared.words.Mode.{Mode}
-use Rattle.jn_locks.specs.declared.words.Mode.TheVariants.{Read, IntentionWrite, Commit}
-use Rattle.jn_locks.specs.declared.words.Want.{Want}
-use Rattle.jn_locks.specs.Locks.{together, mode_eq, some_mode, unit_eq, unit_before, is_unit, wanted as wanted_by}
-use Rattle.jn_locks.proofs.Orders.{unit_tells, unit_before-irreflexive, unit_before-transitive}
-use Rattle.jn_locks.proofs.Collisions.{unit_same, unit_is}
-use Rattle.jn_rows.specs.declared.worker.Phase.{Phase}
-use Rattle.jn_rows.specs.Worker.{Wanted, has_mode, holds, collides_at, collision}
-use Rattle.jn_lock_rows.specs.Matching.{wants_in, units_in, wants_at, want_list, units_rise, is_unit_before}
+use Rattle.jn_lock_rows.proofs.Common.{◌≡◌, ◌⊎◌, inl, inr, Bool, true, false, List, [], ◌∷◌, ◌++◌, Some, None, refl, sym, ◌∙◌, ap, subst, arith, fun_ext, ◌&&◌, ◌||◌, not, if◌then◌else◌, LockUnit, Mode, Read, IntentionWrite, Commit, Want, together, mode_eq, some_mode, unit_eq, unit_before, is_unit, wanted_by, unit_tells, unit_before-irreflexive, unit_before-transitive, unit_same, unit_is, Phase, Wanted, has_mode, holds, collides_at, collision, wants_in, units_in, wants_at, want_list, units_rise, is_unit_before}
 use Rattle.jn_lock_rows.proofs.Works.{not_both}
 
 -- ---- the wants as a list

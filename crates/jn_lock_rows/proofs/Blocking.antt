@@ -1,20 +1,5 @@
 -- The lock table's conflict is the first of the rows'.
-use Rattle.std.proofs.Common.{◌≡◌, ◌⊎◌, inl, inr, Bool, true, false, List, [], ◌∷◌, Option, Some, None, refl, sym, ◌∙◌, ap, subst, arith}
-use Rattle.std.proofs.Math.Path.{fun_ext}
-use Rattle.std.specs.Prelude.{◌&&◌, not, if◌then◌else◌}
-use Rattle.jn_base.specs.declared.names.WorkId.{WorkId}
-use Rattle.jn_base.specs.declared.names.LockUnit.{LockUnit}
-use Rattle.jn_base.specs.Names.{work_eq}
-use Rattle.jn_locks.specs.declared.words.Conflict.{Conflict}
-use Rattle.jn_locks.specs.Locks.{Table, unit_before, work_before, is_vulnerable, blocks}
-use Rattle.jn_locks.specs.Asked.{NoConflict, IsConflict}
-use Rattle.jn_locks.proofs.Orders.{unit_before-irreflexive, unit_before-total, work_before-irreflexive, work_before-total}
-use Rattle.jn_rows.specs.declared.worker.Work.{Work}
-use Rattle.jn_rows.specs.declared.worker.Phase.{Phase}
-use Rattle.jn_rows.specs.declared.worker.Phase.TheVariants.{Active, Broken, Prepared as Stored}
-use Rattle.jn_rows.specs.Worker.{Wanted, Held, holds, gives_way, work_at, collides_at, holder_at, held_by, conflict}
-use Rattle.jn_lock_rows.specs.Matching.{LocksMatch, locks_of, held_in, standing_in, standing_of, are_rising, is_before, wants_in, units_in, units_rise, is_unit_before}
-use Rattle.jn_lock_rows.specs.Calls.{FindsConflict}
+use Rattle.jn_lock_rows.proofs.Common.{◌≡◌, ◌⊎◌, inl, inr, Bool, true, false, List, [], ◌∷◌, Option, Some, None, refl, sym, ◌∙◌, ap, subst, arith, fun_ext, ◌&&◌, not, if◌then◌else◌, WorkId, LockUnit, work_eq, Conflict, Table, unit_before, work_before, is_vulnerable, blocks, NoConflict, IsConflict, unit_before-irreflexive, unit_before-total, work_before-irreflexive, work_before-total, Work, Phase, Active, Broken, Stored, Wanted, Held, holds, gives_way, work_at, collides_at, holder_at, held_by, conflict, LocksMatch, locks_of, held_in, standing_in, standing_of, are_rising, is_before, wants_in, units_in, units_rise, is_unit_before, FindsConflict}
 use Rattle.jn_lock_rows.proofs.Works.{not_both, work_same, work_is, asymmetric, not-before, found-name, found-behind}
 use Rattle.jn_lock_rows.proofs.Asking.{clash, clash-free, clash-none, clash-wants, clash-first, clash-split, clash-more, apart-behind, unit-asymmetric}
 

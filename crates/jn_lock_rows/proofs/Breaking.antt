@@ -1,23 +1,7 @@
 -- The works that a grant breaks are those of the rows.
-use Rattle.std.proofs.Common.{◌≡◌, Bool, true, false, List, [], ◌∷◌, ◌++◌, Option, Some, None, refl, sym, ◌∙◌, ap, subst, arith}
-use Rattle.std.specs.Prelude.{◌&&◌, ◌||◌, not, if◌then◌else◌, is_some, MatchOption}
-use Rattle.std.specs.List.{list_all}
-use Rattle.jn_base.specs.declared.names.Tid.{Tid}
-use Rattle.jn_base.specs.declared.names.WorkId.{WorkId}
-use Rattle.jn_base.specs.declared.names.LockUnit.{LockUnit}
-use Rattle.jn_base.specs.Names.{work_eq}
-use Rattle.jn_locks.specs.declared.words.Broken.{Broken as BrokenAt}
-use Rattle.jn_locks.specs.Locks.{Table, unit_before, work_before, is_vulnerable}
-use Rattle.jn_locks.specs.Asked.{AreBroken, broken_at, is_broken, is_rising}
-use Rattle.jn_locks.proofs.Orders.{unit_before-total, work_before-transitive, work_before-total}
+use Rattle.jn_lock_rows.proofs.Common.{◌≡◌, Bool, true, false, List, [], ◌∷◌, ◌++◌, Option, Some, None, refl, sym, ◌∙◌, ap, subst, arith, ◌&&◌, ◌||◌, not, if◌then◌else◌, is_some, MatchOption, list_all, Tid, WorkId, LockUnit, work_eq, BrokenAt, Table, unit_before, work_before, is_vulnerable, AreBroken, broken_at, is_broken, is_rising, unit_before-total, work_before-transitive, work_before-total, Work, Phase, Broken, Wanted, holds, gives_way, work_at, with_phase, collision, breaks_at, broken_by, note_of, after_grant, break_notes, conflict, LocksMatch, held_in, standing_in, standing_of, are_rising, is_before, wants_in, units_in, units_rise, BreaksAs, broken_if, broken_list, after_breaks, notes_of, note_if}
 use Rattle.jn_msgs.specs.declared.message.Note.{Note}
 use Rattle.jn_msgs.specs.declared.message.Note.TheVariants.{Broke}
-use Rattle.jn_rows.specs.declared.worker.Work.{Work}
-use Rattle.jn_rows.specs.declared.worker.Phase.{Phase}
-use Rattle.jn_rows.specs.declared.worker.Phase.TheVariants.{Broken}
-use Rattle.jn_rows.specs.Worker.{Wanted, holds, gives_way, work_at, with_phase, collision, breaks_at, broken_by, note_of, after_grant, break_notes, conflict}
-use Rattle.jn_lock_rows.specs.Matching.{LocksMatch, held_in, standing_in, standing_of, are_rising, is_before, wants_in, units_in, units_rise}
-use Rattle.jn_lock_rows.specs.Calls.{BreaksAs, broken_if, broken_list, after_breaks, notes_of, note_if}
 use Rattle.jn_lock_rows.proofs.Works.{not_both, work_same, work_is, not-before, work_eq-sym, found-name, none-behind, in_phase, at-phase, once_granted, at-grant}
 use Rattle.jn_lock_rows.proofs.Asking.{clash, clash-free, no_collision, collision-first}
 use Rattle.jn_lock_rows.proofs.Blocking.{matched, vulnerable-is}

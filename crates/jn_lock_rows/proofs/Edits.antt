@@ -1,11 +1,5 @@
 -- Changing one work of a list.
-use Rattle.std.proofs.Common.{◌≡◌, ℕ, zero, suc, true, ◌≤◌, ◌<◌, List, [], ◌∷◌, ◌++◌, length, take, drop, slice_set, slice_index_or, Bool, false, Some, if◌then◌else◌, refl, ◌∙◌, ap, arith}
-use Rattle.jn_base.specs.declared.names.WorkId.{WorkId}
-use Rattle.jn_base.specs.Names.{work_eq}
-use Rattle.jn_rows.specs.declared.worker.Work.{Work}
-use Rattle.jn_rows.specs.declared.worker.Phase.{Phase}
-use Rattle.jn_rows.specs.Worker.{with_phase, work_at}
-use Rattle.jn_lock_rows.specs.Calls.{rephased}
+use Rattle.jn_lock_rows.proofs.Common.{◌≡◌, ℕ, zero, suc, true, ◌≤◌, ◌<◌, List, [], ◌∷◌, ◌++◌, length, take, drop, slice_set, slice_index_or, Bool, false, Some, if◌then◌else◌, refl, ◌∙◌, ap, arith, WorkId, work_eq, Work, Phase, with_phase, work_at, rephased}
 
 -- the work at place i has the name
 pub set_at : (W : WorkId) (phase : Phase) (d : Work) (ws : List Work) (i : ℕ) → i < length ws → work_eq (slice_index_or ws i d).name W ≡ true

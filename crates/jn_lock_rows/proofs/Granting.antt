@@ -1,32 +1,8 @@
 -- What a grant leaves is what its row says.
-use Rattle.std.proofs.Common.{◌≡◌, Bool, true, false, List, [], ◌∷◌, ◌++◌, Some, None, refl, sym, ◌∙◌, ap, subst, arith}
-use Rattle.std.proofs.Math.Path.{fun_ext}
-use Rattle.std.proofs.lemmas.Bool.Decides.{nat_tests}
-use Rattle.std.specs.Prelude.{◌&&◌, ◌||◌, not, if◌then◌else◌}
-use Rattle.jn_base.specs.declared.names.Tid.{Tid}
-use Rattle.jn_base.specs.declared.names.WorkId.{WorkId}
-use Rattle.jn_base.specs.declared.names.LockUnit.{LockUnit}
-use Rattle.jn_base.specs.declared.op.Op.{Op}
+use Rattle.jn_lock_rows.proofs.Common.{◌≡◌, Bool, true, false, List, [], ◌∷◌, ◌++◌, Some, None, refl, sym, ◌∙◌, ap, subst, arith, fun_ext, nat_tests, ◌&&◌, ◌||◌, not, if◌then◌else◌, Tid, WorkId, LockUnit, Op, work_eq, Mode, Read, IntentionWrite, Commit, Want, Conflict, BrokenAt, Table, Wants, is_unit, unit_eq, unit_before, or_active, wanted, table_wants, NoConflict, IsConflict, AreBroken, Asks, Commits, also, committed, is_broken, unit_before-transitive, unit_before-total, unit_same, unit_is, Work, ActiveWork, Phase, Active, Stored, Wanted, has_mode, holds, gives_way, work_at, with_phase, with_unit, with_units, units_for, wants_of, commit_wants, counted, new_work, conflict, LocksMatch, held_in, standing_in, standing_of, is_ordered, is_after, wants_in, units_in, want_list, units_of_mode, units_rise, is_unit_before, FindsConflict, BreaksAs, broken_if, broken_list, granted}
 use Rattle.jn_base.specs.declared.op.Op.TheVariants as ops
 use Rattle.jn_base.specs.declared.op.Answer.{Answer}
-use Rattle.jn_base.specs.Names.{work_eq}
-use Rattle.jn_locks.specs.declared.words.Mode.{Mode}
-use Rattle.jn_locks.specs.declared.words.Mode.TheVariants.{Read, IntentionWrite, Commit}
 use Rattle.jn_locks.specs.declared.words.Standing.TheVariants as standings
-use Rattle.jn_locks.specs.declared.words.Want.{Want}
-use Rattle.jn_locks.specs.declared.words.Conflict.{Conflict}
-use Rattle.jn_locks.specs.declared.words.Broken.{Broken as BrokenAt}
-use Rattle.jn_locks.specs.Locks.{Table, Wants, is_unit, unit_eq, unit_before, or_active, wanted, commit_wants as table_wants}
-use Rattle.jn_locks.specs.Asked.{NoConflict, IsConflict, AreBroken, Asks, Commits, also, committed, is_broken}
-use Rattle.jn_locks.proofs.Orders.{unit_before-transitive, unit_before-total}
-use Rattle.jn_locks.proofs.Collisions.{unit_same, unit_is}
-use Rattle.jn_rows.specs.declared.worker.Work.{Work}
-use Rattle.jn_rows.specs.declared.worker.ActiveWork.{ActiveWork}
-use Rattle.jn_rows.specs.declared.worker.Phase.{Phase}
-use Rattle.jn_rows.specs.declared.worker.Phase.TheVariants.{Active, Prepared as Stored}
-use Rattle.jn_rows.specs.Worker.{Wanted, has_mode, holds, gives_way, work_at, with_phase, with_unit, with_units, units_for, wants_of, commit_wants, counted, new_work, conflict}
-use Rattle.jn_lock_rows.specs.Matching.{LocksMatch, held_in, standing_in, standing_of, is_ordered, is_after, wants_in, units_in, want_list, units_of_mode, units_rise, is_unit_before}
-use Rattle.jn_lock_rows.specs.Calls.{FindsConflict, BreaksAs, broken_if, broken_list, granted}
 use Rattle.jn_lock_rows.proofs.Works.{none-front}
 use Rattle.jn_lock_rows.proofs.Keeping.{match-more, match_kept, match-granted, found-ordered}
 use Rattle.jn_lock_rows.proofs.Asking.{wanted-same}

@@ -1,22 +1,8 @@
 -- Each call of the lock table keeps what it says of the works, once their rows have done the same.
-use Rattle.std.proofs.Common.{◌≡◌, Bool, true, false, List, [], ◌∷◌, ◌++◌, Option, Some, None, refl, sym, ◌∙◌, ap, subst, arith}
-use Rattle.std.specs.Prelude.{◌&&◌, ◌||◌, if◌then◌else◌, is_some}
-use Rattle.jn_base.specs.declared.names.Tid.{Tid}
-use Rattle.jn_base.specs.declared.names.WorkId.{WorkId}
-use Rattle.jn_base.specs.declared.names.LockUnit.{LockUnit}
-use Rattle.jn_base.specs.Names.{work_eq}
-use Rattle.jn_locks.specs.declared.words.Mode.{Mode}
-use Rattle.jn_locks.specs.declared.words.Mode.TheVariants.{Read, IntentionWrite, Commit}
+use Rattle.jn_lock_rows.proofs.Common.{◌≡◌, Bool, true, false, List, [], ◌∷◌, ◌++◌, Option, Some, None, refl, sym, ◌∙◌, ap, subst, arith, ◌&&◌, ◌||◌, if◌then◌else◌, is_some, Tid, WorkId, LockUnit, work_eq, Mode, Read, IntentionWrite, Commit, BrokenAt, Table, Wants, made_vulnerable, is_broken, Rebuilds, Releases, Exposes, rebuilt, also, Work, Phase, Active, Broken, Stored, Wanted, holds, work_at, with_phase, without, vulnerable, breaks_at, broken_by, after_grant, LocksMatch, held_in, standing_in, standing_of, are_rising, are_ordered, is_ordered, is_after}
 use Rattle.jn_locks.specs.declared.words.Standing.{Standing}
 use Rattle.jn_locks.specs.declared.words.Standing.TheVariants as standings
-use Rattle.jn_locks.specs.declared.words.Broken.{Broken as BrokenAt}
-use Rattle.jn_locks.specs.Locks.{Table, Wants, made_vulnerable}
-use Rattle.jn_locks.specs.Asked.{is_broken, Grants, Rebuilds, Releases, Exposes, rebuilt, also}
-use Rattle.jn_rows.specs.declared.worker.Work.{Work}
-use Rattle.jn_rows.specs.declared.worker.Phase.{Phase}
-use Rattle.jn_rows.specs.declared.worker.Phase.TheVariants.{Active, Broken, Prepared as Stored}
-use Rattle.jn_rows.specs.Worker.{Wanted, holds, work_at, with_phase, without, vulnerable, breaks_at, broken_by, after_grant}
-use Rattle.jn_lock_rows.specs.Matching.{LocksMatch, held_in, standing_in, standing_of, are_rising, are_ordered, is_ordered, is_after}
+use Rattle.jn_locks.specs.Asked.{Grants}
 use Rattle.jn_lock_rows.proofs.Works.{work_same, work_is, none-front, at-less, rising-less, ordered-less, at-more, rising-more, ordered-more, in_phase, at-phase, rising-phase, ordered-phase, once_granted, at-grant, rising-grant, ordered-grant}
 
 pub match_none : (t : Table) → ((V : WorkId) (u : LockUnit) (m : Mode) → t.holds V u m ≡ false) → ((V : WorkId) → t.standing V ≡ None) → LocksMatch [] t

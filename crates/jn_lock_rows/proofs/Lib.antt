@@ -1,3 +1,4 @@
+mod Common
 pub mod Works
 pub mod Keeping
 pub mod Asking

@@ -1,17 +1,7 @@
 -- The lock table that a restart makes.
-use Rattle.std.proofs.Common.{◌≡◌, Bool, true, false, List, [], ◌∷◌, ◌++◌, Option, Some, None, refl, sym, ◌∙◌, ap, subst, arith}
-use Rattle.std.specs.Prelude.{if◌then◌else◌}
-use Rattle.jn_base.specs.declared.names.WorkId.{WorkId}
-use Rattle.jn_base.specs.declared.names.LockUnit.{LockUnit}
-use Rattle.jn_base.specs.Names.{work_eq}
-use Rattle.jn_locks.specs.declared.words.Mode.{Mode}
-use Rattle.jn_locks.specs.declared.words.Mode.TheVariants.{Read, IntentionWrite, Commit}
-use Rattle.jn_locks.specs.Locks.{Table}
-use Rattle.jn_locks.specs.Asked.{LocksFit, Rebuilds}
-use Rattle.jn_rows.specs.declared.worker.Work.{Work}
+use Rattle.jn_lock_rows.proofs.Common.{◌≡◌, Bool, true, false, List, [], ◌∷◌, ◌++◌, Option, Some, None, refl, sym, ◌∙◌, ap, subst, arith, if◌then◌else◌, WorkId, LockUnit, work_eq, Mode, Read, IntentionWrite, Commit, Table, LocksFit, Rebuilds, Work, holds, work_at, restored_work, restored_worker, LocksMatch, held_in, is_after, is_name_after, units_of, GoTogether}
 use Rattle.jn_rows.specs.Stable.{StableState, Prepared}
-use Rattle.jn_rows.specs.Worker.{holds, work_at, restored_work, restored_worker}
-use Rattle.jn_lock_rows.specs.Matching.{LocksMatch, held_in, is_after, is_name_after, units_of, wants_of, GoTogether}
+use Rattle.jn_lock_rows.specs.Matching.{wants_of}
 use Rattle.jn_lock_rows.proofs.Works.{work_is, not_both}
 use Rattle.jn_lock_rows.proofs.Keeping.{stored_work, match_rebuilt}
 

@@ -1,26 +1,9 @@
 -- A call of the lock table and what is then done to the works are one row.
-use Rattle.std.proofs.Common.{◌≡◌, Bool, List, Option, Some, None, sym, ◌∙◌, ap, subst}
-use Rattle.std.specs.Prelude.{◌&&◌, not, if◌then◌else◌}
-use Rattle.jn_base.specs.declared.names.Tid.{Tid}
-use Rattle.jn_base.specs.declared.names.WorkId.{WorkId}
-use Rattle.jn_base.specs.declared.names.LockUnit.{LockUnit}
-use Rattle.jn_base.specs.declared.op.Op.{Op}
-use Rattle.jn_locks.specs.declared.words.Broken.{Broken as BrokenAt}
-use Rattle.jn_locks.specs.declared.words.Conflict.{Conflict}
+use Rattle.jn_lock_rows.proofs.Common.{◌≡◌, Bool, List, Option, Some, None, sym, ◌∙◌, ap, subst, ◌&&◌, not, if◌then◌else◌, Tid, WorkId, LockUnit, Op, BrokenAt, Conflict, Want, table_wants, Table, wanted, Asks, Commits, NoConflict, IsConflict, IsConflictFault, IsRefusal, ActiveWork, Phase, Active, Work, Wanted, work_at, with_phase, wants_of, commit_wants, after_grant, conflict, broken_by, gives_way, collision, LocksMatch, want_list, FindsConflict, BreaksAs, Grants, IsRefused, Becomes, IsActive, stored, rephased, refused_by, held_as, after_breaks, notes_of}
 use Rattle.jn_locks.specs.declared.words.LockFault.{LockFault}
 use Rattle.jn_locks.specs.declared.words.LockFault.TheVariants.{Conflict as Conflicts, Memory as NoMemory}
-use Rattle.jn_locks.specs.declared.words.Want.{Want}
-use Rattle.jn_locks.specs.Locks.{commit_wants as table_wants, Table, wanted}
-use Rattle.jn_locks.specs.Asked.{Asks, Commits, NoConflict, IsConflict, IsConflictFault, IsRefusal}
-use Rattle.jn_rows.specs.declared.worker.ActiveWork.{ActiveWork}
-use Rattle.jn_rows.specs.declared.worker.Phase.{Phase}
-use Rattle.jn_rows.specs.declared.worker.Phase.TheVariants.{Active}
-use Rattle.jn_rows.specs.declared.worker.Work.{Work}
-use Rattle.jn_rows.specs.Worker.{Wanted, work_at, with_phase, wants_of, commit_wants, after_grant, conflict, broken_by, gives_way, collision}
 use Rattle.jn_lock_rows.specs.declared.grants.Refused.{Refused}
 use Rattle.jn_lock_rows.specs.declared.grants.Refused.TheVariants.{Held, Memory}
-use Rattle.jn_lock_rows.specs.Matching.{LocksMatch, want_list}
-use Rattle.jn_lock_rows.specs.Calls.{FindsConflict, BreaksAs, Grants, IsRefused, Becomes, IsActive, stored, rephased, refused_by, held_as, after_breaks, notes_of}
 use Rattle.jn_lock_rows.proofs.Works.{found-name, work_same, once_granted, at-grant}
 use Rattle.jn_lock_rows.proofs.Edits.{rephased-is}
 use Rattle.jn_lock_rows.proofs.Granting.{operation_conflict, match_next, breaks_next, commit_free, commit_conflict, match_stored, breaks_stored}

@@ -1,18 +1,6 @@
 -- A worker's works, looked for by name, once one or more of them change.
-use Rattle.std.proofs.Common.{◌≡◌, inl, inr, Bool, true, false, List, [], ◌∷◌, ◌++◌, Option, Some, None, refl, sym, ◌∙◌, subst, arith}
-use Rattle.std.proofs.lemmas.Bool.Decides.{nat_tests}
-use Rattle.std.specs.Prelude.{◌&&◌, if◌then◌else◌}
-use Rattle.jn_base.specs.declared.names.Tid.{Tid}
-use Rattle.jn_base.specs.declared.names.WorkId.{WorkId}
-use Rattle.jn_base.specs.declared.names.LockUnit.{LockUnit}
-use Rattle.jn_base.specs.Names.{work_eq}
+use Rattle.jn_lock_rows.proofs.Common.{◌≡◌, inl, inr, Bool, true, false, List, [], ◌∷◌, ◌++◌, Option, Some, None, refl, sym, ◌∙◌, subst, arith, nat_tests, ◌&&◌, if◌then◌else◌, Tid, WorkId, LockUnit, work_eq, work_before, work_before-irreflexive, work_before-transitive, Work, Phase, Wanted, work_at, with_phase, without, breaks_at, broken_by, after_grant, is_before, is_after, are_rising, is_ordered, are_ordered}
 use Rattle.jn_base.proofs.Tells.{work_tells}
-use Rattle.jn_locks.specs.Locks.{work_before}
-use Rattle.jn_locks.proofs.Orders.{work_before-irreflexive, work_before-transitive}
-use Rattle.jn_rows.specs.declared.worker.Work.{Work}
-use Rattle.jn_rows.specs.declared.worker.Phase.{Phase}
-use Rattle.jn_rows.specs.Worker.{Wanted, work_at, with_phase, without, breaks_at, broken_by, after_grant}
-use Rattle.jn_lock_rows.specs.Matching.{is_before, is_after, are_rising, is_ordered, are_ordered}
 
 pub not_both : {B : Type 0} → true ≡ false → B
 not_both e = absurd (cc e)

@@ -1,22 +1,5 @@
 -- The collisions at the wanted units, and what is said of works and units.
-use Rattle.std.proofs.Common.{◌≡◌, ◌≢◌, ◌⊎◌, inl, inr, Bool, true, false, List, [], ◌∷◌, ◌++◌, refl, sym, ap, subst, arith}
-use Rattle.std.proofs.lemmas.Bool.Decides.{nat_tests}
-use Rattle.std.specs.Prelude.{not, ◌&&◌, ◌||◌, if◌then◌else◌}
-use Rattle.jn_base.specs.declared.names.WorkId.{WorkId}
-use Rattle.jn_base.specs.declared.names.LockUnit.{LockUnit}
-use Rattle.jn_base.specs.Names.{work_eq}
-use Rattle.jn_base.proofs.Tells.{work_tells}
-use Rattle.jn_locks.specs.declared.words.Mode.{Mode}
-use Rattle.jn_locks.specs.declared.words.Mode.TheVariants.{Read, IntentionWrite, Commit}
-use Rattle.jn_locks.specs.declared.words.Modes.{Modes}
-use Rattle.jn_locks.specs.declared.words.Holder.{Holder}
-use Rattle.jn_locks.specs.declared.words.Want.{Want}
-use Rattle.jn_locks.specs.declared.words.Broken.{Broken}
-use Rattle.jn_locks.specs.declared.held.Held.{Held}
-use Rattle.jn_locks.specs.Locks.{together, mode_eq, unit_eq, wanted, Wants, some_mode, collides}
-use Rattle.jn_locks.specs.Holders.{has, holds_in, clashes}
-use Rattle.jn_locks.specs.Tables.{at, table_of}
-use Rattle.jn_locks.specs.Loops.{holder_collides, collisions_at, collisions}
+use Rattle.jn_locks.proofs.Common.{◌≡◌, ◌≢◌, ◌⊎◌, inl, inr, Bool, true, false, List, [], ◌∷◌, ◌++◌, refl, sym, ap, subst, arith, nat_tests, not, ◌&&◌, ◌||◌, if◌then◌else◌, WorkId, LockUnit, work_eq, work_tells, Mode, Read, IntentionWrite, Commit, Modes, Holder, Want, Broken, Held, together, mode_eq, unit_eq, wanted, Wants, some_mode, collides, has, holds_in, clashes, at, table_of, holder_collides, collisions_at, collisions}
 use Rattle.jn_locks.proofs.Orders.{unit_tells}
 
 abbrev pub Among : {A : Type 0} → A → List A → Type 0

@@ -1,18 +1,5 @@
 -- The least conflict is the first wanted unit's least holder.
-use Rattle.std.proofs.Common.{◌≡◌, ◌⊎◌, inl, inr, ℕ, suc, ◌+◌, ◌<◌, length, get_or, drop, drop-cons, add-one, Bool, true, false, List, [], ◌∷◌, ◌++◌, Option, Some, None, ap, refl, sym, ◌∙◌, subst, arith}
-use Rattle.std.specs.Prelude.{not, ◌&&◌, ◌||◌, if◌then◌else◌}
-use Rattle.jn_base.specs.declared.names.WorkId.{WorkId}
-use Rattle.jn_base.specs.declared.names.LockUnit.{LockUnit}
-use Rattle.jn_locks.specs.declared.words.Mode.TheVariants.{IntentionWrite, Commit}
-use Rattle.jn_locks.specs.declared.words.Conflict.{Conflict}
-use Rattle.jn_locks.specs.Holders.{holds_in}
-use Rattle.jn_locks.specs.declared.words.Want.{Want}
-use Rattle.jn_locks.specs.declared.words.Broken.{Broken}
-use Rattle.jn_locks.specs.declared.held.Held.{Held}
-use Rattle.jn_locks.specs.Locks.{unit_eq, unit_before, work_before, wanted, gives_way, blocks}
-use Rattle.jn_locks.specs.Asked.{NoConflict, IsConflict}
-use Rattle.jn_locks.specs.Tables.{at, table_of}
-use Rattle.jn_locks.specs.Loops.{collisions_at, collisions, intentions, intended_at, stays_in_way, least_conflict, conflict_at, conflict_before}
+use Rattle.jn_locks.proofs.Common.{◌≡◌, ◌⊎◌, inl, inr, ℕ, suc, ◌+◌, ◌<◌, length, get_or, drop, drop-cons, add-one, Bool, true, false, List, [], ◌∷◌, ◌++◌, Option, Some, None, ap, refl, sym, ◌∙◌, subst, arith, not, ◌&&◌, ◌||◌, if◌then◌else◌, WorkId, LockUnit, IntentionWrite, Commit, Conflict, holds_in, Want, Broken, Held, unit_eq, unit_before, work_before, wanted, gives_way, blocks, NoConflict, IsConflict, at, table_of, collisions_at, collisions, intentions, intended_at, stays_in_way, least_conflict, conflict_at, conflict_before}
 use Rattle.jn_locks.proofs.Orders.{unit_before-irreflexive, work_before-irreflexive, conflict_before-transitive, conflict_before-total, onward}
 use Rattle.jn_locks.proofs.Collisions.{Among, every_among, by_collision, collision_by, unit_same}
 use Rattle.jn_locks.proofs.Least.{IsLeast, none_passes, least_is, least_of-append}

@@ -1,17 +1,5 @@
 -- A grant keeps the locks compatible.
-use Rattle.std.proofs.Common.{◌≡◌, ◌≢◌, ◌⊎◌, inl, inr, Bool, true, false, List, Option, Result, Ok, Err, sym, ◌∙◌, ap, subst, arith}
-use Rattle.std.specs.Prelude.{not, ◌&&◌, ◌||◌, if◌then◌else◌, MatchOption, IfOk, OnOk, OnErr}
-use Rattle.jn_base.specs.declared.names.WorkId.{WorkId}
-use Rattle.jn_base.specs.declared.names.LockUnit.{LockUnit}
-use Rattle.jn_base.specs.Names.{work_eq}
-use Rattle.jn_base.proofs.Tells.{work_tells}
-use Rattle.jn_locks.specs.declared.words.Mode.{Mode}
-use Rattle.jn_locks.specs.declared.words.Mode.TheVariants.{Read, IntentionWrite, Commit}
-use Rattle.jn_locks.specs.declared.words.Standing.{Standing}
-use Rattle.jn_locks.specs.declared.words.Standing.TheVariants.{Prepared}
-use Rattle.jn_locks.specs.declared.words.Broken.{Broken}
-use Rattle.jn_locks.specs.Locks.{together, Table, Wants, holds, IsCompatible, gives_way, some_mode, collides, yields, unit_before, commit_wants, or_active}
-use Rattle.jn_locks.specs.Asked.{is_broken, NoConflict, AreBroken, Grants, Asks, Commits, Rebuilds, Releases, Exposes, LocksFit, also, committed}
+use Rattle.jn_locks.proofs.Common.{◌≡◌, ◌≢◌, ◌⊎◌, inl, inr, Bool, true, false, List, Option, Result, Ok, Err, sym, ◌∙◌, ap, subst, arith, not, ◌&&◌, ◌||◌, if◌then◌else◌, MatchOption, IfOk, OnOk, OnErr, WorkId, LockUnit, work_eq, work_tells, Mode, Read, IntentionWrite, Commit, Standing, Prepared, Broken, together, Table, Wants, holds, IsCompatible, gives_way, some_mode, collides, yields, unit_before, commit_wants, or_active, is_broken, NoConflict, AreBroken, Grants, Asks, Commits, Rebuilds, LocksFit, also, committed}
 use Rattle.jn_locks.proofs.Collisions.{and_true, either_true, some_mode_of}
 use Rattle.jn_locks.proofs.Breaks.{is_broken_none}
 

@@ -1,13 +1,5 @@
 -- The list of a unit's holders, with one taken away or put.
-use Rattle.std.proofs.Common.{◌≡◌, ◌≢◌, ◌⊎◌, inl, inr, ◌≤◌, ◌<◌, Bool, true, false, List, [], ◌∷◌, length, refl, arith}
-use Rattle.std.specs.Prelude.{not, ◌||◌, if◌then◌else◌}
-use Rattle.jn_base.specs.declared.names.WorkId.{WorkId}
-use Rattle.jn_base.specs.Names.{work_eq}
-use Rattle.jn_base.proofs.Tells.{work_tells}
-use Rattle.jn_locks.specs.declared.words.Mode.{Mode}
-use Rattle.jn_locks.specs.declared.words.Modes.{Modes}
-use Rattle.jn_locks.specs.declared.words.Holder.{Holder}
-use Rattle.jn_locks.specs.Holders.{has, holds_in, is_among, without, with_holder, each_once}
+use Rattle.jn_locks.proofs.Common.{◌≡◌, ◌≢◌, ◌⊎◌, inl, inr, ◌≤◌, ◌<◌, Bool, true, false, List, [], ◌∷◌, length, refl, arith, not, ◌||◌, if◌then◌else◌, WorkId, work_eq, work_tells, Mode, Modes, Holder, has, holds_in, is_among, without, with_holder, each_once}
 
 pub length_without : (W : WorkId) (hs : List Holder) → length (without W hs) ≤ length hs
 length_without W [] = omega arith

@@ -1,23 +1,6 @@
 -- What a work wants for commit, and what it holds.
-use Rattle.std.proofs.Common.{◌≡◌, ◌≢◌, ◌⊎◌, inl, inr, Bool, true, false, List, [], ◌∷◌, Option, Some, None, refl, sym, ◌∙◌, ap, arith}
+use Rattle.jn_locks.proofs.Common.{◌≡◌, ◌≢◌, ◌⊎◌, inl, inr, Bool, true, false, List, [], ◌∷◌, Option, Some, None, refl, sym, ◌∙◌, ap, arith, ◌&&◌, ◌||◌, if◌then◌else◌, is_some, WorkId, LockUnit, work_eq, work_tells, Mode, Read, IntentionWrite, Commit, Standing, Prepared, Holder, Broken, Held, unit_eq, is_unit, wanted, commit_wants, is_wanted_unit, is_broken, committed, holds_in, is_among, at, units_of, prepared, table_of, IsSoundTable, intentions}
 use Rattle.std.proofs.Math.Path.{fun_ext}
-use Rattle.std.specs.Prelude.{◌&&◌, ◌||◌, if◌then◌else◌, is_some}
-use Rattle.jn_base.specs.declared.names.WorkId.{WorkId}
-use Rattle.jn_base.specs.declared.names.LockUnit.{LockUnit}
-use Rattle.jn_base.specs.Names.{work_eq}
-use Rattle.jn_base.proofs.Tells.{work_tells}
-use Rattle.jn_locks.specs.declared.words.Mode.{Mode}
-use Rattle.jn_locks.specs.declared.words.Mode.TheVariants.{Read, IntentionWrite, Commit}
-use Rattle.jn_locks.specs.declared.words.Standing.{Standing}
-use Rattle.jn_locks.specs.declared.words.Standing.TheVariants.{Prepared}
-use Rattle.jn_locks.specs.declared.words.Holder.{Holder}
-use Rattle.jn_locks.specs.declared.words.Broken.{Broken}
-use Rattle.jn_locks.specs.declared.held.Held.{Held}
-use Rattle.jn_locks.specs.Locks.{unit_eq, is_unit, wanted, commit_wants}
-use Rattle.jn_locks.specs.Asked.{is_wanted_unit, is_broken, committed}
-use Rattle.jn_locks.specs.Holders.{holds_in, is_among}
-use Rattle.jn_locks.specs.Tables.{at, units_of, prepared, table_of, IsSoundTable}
-use Rattle.jn_locks.specs.Loops.{intentions}
 use Rattle.jn_locks.proofs.Orders.{unit_tells}
 use Rattle.jn_locks.proofs.Holding.{among_if_held}
 use Rattle.jn_locks.proofs.Collisions.{work_same}

@@ -1,8 +1,5 @@
 -- The least of the collisions' keys.
-use Rattle.std.proofs.Common.{◌≡◌, ◌⊎◌, inl, inr, Bool, true, false, List, [], ◌∷◌, ◌++◌, Option, Some, None, refl, sym, ◌∙◌, subst, arith}
-use Rattle.std.specs.Prelude.{if◌then◌else◌}
-use Rattle.jn_locks.specs.declared.words.Broken.{Broken}
-use Rattle.jn_locks.specs.Loops.{lesser, least_of}
+use Rattle.jn_locks.proofs.Common.{◌≡◌, ◌⊎◌, inl, inr, Bool, true, false, List, [], ◌∷◌, ◌++◌, Option, Some, None, refl, sym, ◌∙◌, subst, arith, if◌then◌else◌, Broken, lesser, least_of}
 use Rattle.jn_locks.proofs.Collisions.{Among, Every}
 
 -- the key is one of the collisions that pass, or was the best before, and none comes before it

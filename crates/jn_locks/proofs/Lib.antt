@@ -1,3 +1,4 @@
+mod Common
 pub mod Orders
 pub mod Maps
 pub mod Holding

@@ -1,19 +1,5 @@
 -- The locks of a unit, each once.
-use Rattle.std.proofs.Common.{◌≡◌, ◌≢◌, ◌⊎◌, inl, inr, Bool, true, false, List, [], ◌∷◌, ◌++◌, refl, sym, ◌∙◌, ap, subst, arith}
-use Rattle.std.specs.Prelude.{◌&&◌, ◌||◌}
-use Rattle.jn_base.specs.declared.names.WorkId.{WorkId}
-use Rattle.jn_base.specs.declared.names.LockUnit.{LockUnit}
-use Rattle.jn_base.specs.Names.{work_eq}
-use Rattle.jn_base.proofs.Tells.{work_tells}
-use Rattle.jn_locks.specs.declared.words.Mode.{Mode}
-use Rattle.jn_locks.specs.declared.words.Mode.TheVariants.{Read, IntentionWrite, Commit}
-use Rattle.jn_locks.specs.declared.words.Holder.{Holder}
-use Rattle.jn_locks.specs.declared.held.Held.{Held}
-use Rattle.jn_locks.specs.Locks.{mode_eq}
-use Rattle.jn_locks.specs.Asked.{is_lock, stands_in, stand_once, AreHolders}
-use Rattle.jn_locks.specs.Holders.{has, holds_in, is_among, each_once}
-use Rattle.jn_locks.specs.Tables.{at, table_of, IsSoundTable}
-use Rattle.jn_locks.specs.Loops.{lock_if, locks_of, all_locks}
+use Rattle.jn_locks.proofs.Common.{◌≡◌, ◌≢◌, ◌⊎◌, inl, inr, Bool, true, false, List, [], ◌∷◌, ◌++◌, refl, sym, ◌∙◌, ap, subst, arith, ◌&&◌, ◌||◌, WorkId, LockUnit, work_eq, work_tells, Mode, Read, IntentionWrite, Commit, Holder, Held, mode_eq, is_lock, stands_in, stand_once, AreHolders, has, holds_in, is_among, each_once, at, table_of, IsSoundTable, lock_if, locks_of, all_locks}
 use Rattle.jn_locks.proofs.Collisions.{work_same, mode_same}
 use Rattle.jn_locks.proofs.Holding.{among_if_held}
 

@@ -1,18 +1,8 @@
 -- What a change of one entry makes of the maps.
-use Rattle.std.proofs.Common.{◌≡◌, ◌≢◌, ◌⊎◌, inl, inr, ℕ, Bool, true, false, Option, Result, Ok, Err, refl, sym, ◌∙◌, ap, subst, arith}
-use Rattle.std.specs.Prelude.{if◌then◌else◌, OnErr}
+use Rattle.jn_locks.proofs.Common.{◌≡◌, ◌≢◌, ◌⊎◌, inl, inr, ℕ, Bool, true, false, Option, Result, Ok, Err, refl, sym, ◌∙◌, ap, subst, arith, if◌then◌else◌, OnErr, Vec, WorkId, LockUnit, File, Block, work_eq, work_tells, Holder, unit_eq, unit_place, place_eq, name_of, name_eq}
 use Rattle.std.specs.HashMap.{HashMap, get, Updates}
-use Rattle.std.specs.Global.{Vec}
-use Rattle.jn_base.specs.declared.names.WorkId.{WorkId}
-use Rattle.jn_base.specs.declared.names.LockUnit.{LockUnit}
-use Rattle.jn_base.specs.declared.names.LockUnit.TheVariants.{File, Block}
-use Rattle.jn_base.specs.Names.{work_eq}
-use Rattle.jn_base.proofs.Tells.{work_tells}
 use Rattle.jn_locks.proofs.Orders.{unit_tells}
-use Rattle.jn_locks.specs.declared.words.Holder.{Holder}
 use Rattle.jn_locks.specs.declared.works.Work.{Work}
-use Rattle.jn_locks.specs.Locks.{unit_eq}
-use Rattle.jn_locks.specs.Tables.{unit_place, place_eq, name_of, name_eq}
 
 pub place_eq_is : (u v : LockUnit) → place_eq (unit_place u) (unit_place v) ≡ unit_eq u v
 place_eq_is (File f) (File g) = grind arith

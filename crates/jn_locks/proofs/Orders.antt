@@ -1,12 +1,5 @@
 -- The orders of works, units and conflicts.
-use Rattle.std.proofs.Common.{◌≡◌, ◌≢◌, ◌⊎◌, Bool, true, false, arith, refl, sym, subst}
-use Rattle.std.proofs.lemmas.Bool.Decides.{nat_tests}
-use Rattle.jn_base.specs.declared.names.WorkId.{WorkId}
-use Rattle.jn_base.specs.declared.names.LockUnit.{LockUnit}
-use Rattle.jn_base.specs.declared.names.LockUnit.TheVariants.{File, Block}
-use Rattle.jn_locks.specs.declared.words.Conflict.{Conflict}
-use Rattle.jn_locks.specs.Locks.{unit_eq, unit_before, work_before}
-use Rattle.jn_locks.specs.Loops.{conflict_before}
+use Rattle.jn_locks.proofs.Common.{◌≡◌, ◌≢◌, ◌⊎◌, Bool, true, false, arith, refl, sym, subst, nat_tests, WorkId, LockUnit, File, Block, Conflict, unit_eq, unit_before, work_before, conflict_before}
 
 pub unit_tells : (a b : LockUnit) → ((unit_eq a b ≡ true) × (a ≡ b)) ⊎ ((unit_eq a b ≡ false) × (a ≢ b))
 unit_tells (File f) (File g) = grind (arith, nat_tests)

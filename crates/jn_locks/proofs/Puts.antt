@@ -1,16 +1,6 @@
 -- What is held once one unit's holders have changed.
-use Rattle.std.proofs.Common.{◌≡◌, ◌≢◌, ◌⊎◌, inl, inr, Bool, true, false, List, [], ◌∷◌, ◌++◌, refl, sym, ◌∙◌, ap, subst, arith}
-use Rattle.std.specs.Prelude.{◌&&◌, ◌||◌, if◌then◌else◌}
-use Rattle.jn_base.specs.declared.names.WorkId.{WorkId}
-use Rattle.jn_base.specs.declared.names.LockUnit.{LockUnit}
-use Rattle.jn_base.specs.Names.{work_eq}
-use Rattle.jn_base.proofs.Tells.{work_tells}
-use Rattle.jn_locks.specs.declared.words.Mode.{Mode}
-use Rattle.jn_locks.specs.declared.words.Mode.TheVariants.{Read, IntentionWrite, Commit}
-use Rattle.jn_locks.specs.declared.words.Modes.{Modes}
-use Rattle.jn_locks.specs.declared.words.Holder.{Holder}
-use Rattle.jn_locks.specs.Locks.{unit_eq, mode_eq, is_unit}
-use Rattle.jn_locks.specs.Holders.{has, holds_in, is_among, each_once, with_mode, committed, with_holder}
+use Rattle.jn_locks.proofs.Common.{◌≡◌, ◌≢◌, ◌⊎◌, inl, inr, Bool, true, false, List, [], ◌∷◌, ◌++◌, refl, sym, ◌∙◌, ap, subst, arith, ◌&&◌, ◌||◌, if◌then◌else◌, WorkId, LockUnit, work_eq, work_tells, Mode, Read, IntentionWrite, Commit, Modes, Holder, unit_eq, mode_eq, is_unit, has, holds_in, is_among, each_once, with_holder}
+use Rattle.jn_locks.specs.Holders.{committed}
 use Rattle.jn_locks.specs.Asked as asked
 use Rattle.jn_locks.proofs.Orders.{unit_tells}
 use Rattle.jn_locks.proofs.Collisions.{unit_same, work_same}

@@ -1,19 +1,5 @@
 -- One step of the loops over wants, units and broken works.
-use Rattle.std.proofs.Common.{◌≡◌, ◌≢◌, ◌⊎◌, inl, inr, ℕ, zero, suc, ◌+◌, ◌<◌, ◌≤◌, length, get_or, drop, drop-cons, add-one, Bool, true, false, List, [], ◌∷◌, ◌++◌, refl, sym, ◌∙◌, ap, arith}
-use Rattle.std.specs.Prelude.{not, ◌&&◌, ◌||◌, if◌then◌else◌}
-use Rattle.jn_base.specs.declared.names.WorkId.{WorkId}
-use Rattle.jn_base.specs.declared.names.LockUnit.{LockUnit}
-use Rattle.jn_base.specs.declared.names.LockUnit.TheVariants.{File}
-use Rattle.jn_base.specs.Names.{work_eq}
-use Rattle.jn_base.proofs.Tells.{work_tells}
-use Rattle.jn_locks.specs.declared.words.Mode.{Mode}
-use Rattle.jn_locks.specs.declared.words.Mode.TheVariants.{Read, IntentionWrite, Commit}
-use Rattle.jn_locks.specs.declared.words.Holder.{Holder}
-use Rattle.jn_locks.specs.declared.words.Want.{Want}
-use Rattle.jn_locks.specs.declared.words.Broken.{Broken}
-use Rattle.jn_locks.specs.Locks.{wanted, unit_eq, mode_eq, is_unit}
-use Rattle.jn_locks.specs.Asked.{is_wanted_unit, is_broken, committed}
-use Rattle.jn_locks.specs.Holders.{holds_in, is_among, each_once, without}
+use Rattle.jn_locks.proofs.Common.{◌≡◌, ◌≢◌, ◌⊎◌, inl, inr, ℕ, zero, suc, ◌+◌, ◌<◌, ◌≤◌, length, get_or, drop, drop-cons, add-one, Bool, true, false, List, [], ◌∷◌, ◌++◌, refl, sym, ◌∙◌, ap, arith, not, ◌&&◌, ◌||◌, if◌then◌else◌, WorkId, LockUnit, File, work_eq, work_tells, Mode, Read, IntentionWrite, Commit, Holder, Want, Broken, wanted, unit_eq, mode_eq, is_unit, is_wanted_unit, is_broken, committed, holds_in, is_among, each_once, without}
 use Rattle.jn_locks.proofs.Orders.{unit_tells}
 use Rattle.jn_locks.proofs.Collisions.{unit_same, work_same}
 use Rattle.jn_locks.proofs.Holding.{holds_in-without, is_among-without, each_once-without}

@@ -1,11 +1,8 @@
 -- What `clap` makes of words for a command that is the program's.
-use Rattle.std.proofs.Common.{◌≡◌, ◌≢◌, ◌∙◌, ap, subst, refl, true, List, [], inl, inr}
-use Rattle.clap.specs.Words.{App, HasMatchesOf, Text, fault_of, is_simple, is_simple_and_free, kind_of, subcommand_of, subcommand_rows_of, HasKind, IsAmong}
+use Rattle.jn_options.proofs.Common.{◌≡◌, ◌≢◌, ◌∙◌, ap, subst, refl, true, List, [], inl, inr, App, HasMatchesOf, Text, fault_of, is_simple, is_simple_and_free, kind_of, subcommand_of, subcommand_rows_of, HasKind, IsAmong, clap_on_literals, program_app, run_app, trial_app}
 use Rattle.clap.specs.declared.error.Error.{Error}
 use Rattle.clap.specs.declared.error.kind.ErrorKind.TheVariants as kinds
 use Rattle.clap.specs.declared.parser.matches.ArgMatches.{ArgMatches}
-use Rattle.clap.proofs.OnLiterals.{clap_on_literals}
-use Rattle.jn_options.specs.Command.{program_app, run_app, trial_app}
 
 simple_and_free : is_simple_and_free program_app ≡ true
 unfolding clap_on_literals program_app run_app trial_app

@@ -1,7 +1,6 @@
 -- What `clap` found for an option, as its first value.
-use Rattle.std.proofs.Common.{◌≡◌, ◌∙◌, ap, sym, refl, Option, Some, None, is_some, option_map}
+use Rattle.jn_options.proofs.Common.{◌≡◌, ◌∙◌, ap, sym, refl, Option, Some, None, is_some, option_map, Text, first_of, first_value, rows_of}
 use Rattle.std.specs.Borrow.{Bor}
-use Rattle.clap.specs.Words.{Text, first_of, first_value, rows_of}
 use Rattle.clap.specs.declared.parser.matches.Found.{Found}
 use Rattle.clap.proofs.WalkLemmas.{first_value-rows}
 

@@ -1,3 +1,4 @@
+mod Common
 mod Commands
 mod Found
 mod Limits

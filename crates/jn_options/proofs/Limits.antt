@@ -1,20 +1,10 @@
 -- What holds of each command that words ask for.
-use Rattle.std.proofs.Common.{◌≡◌, ◌∙◌, ◌<◌, ◌≤◌, ◌^◌, ◌-◌, ◌&&◌, ℕ, Bool, true, false, cond, leb, leb-true, length, List, Option, Some, None, is_some, option_map, unwrap_or, refl, sym, subst, ap, arith, codes, IfSome}
-use Rattle.std.specs.Prelude.{option_and_then}
-use Rattle.std.specs.Option.{option_map_or}
-use Rattle.std.specs.Str.{bytes_eq}
-use Rattle.std.proofs.lemmas.Bool.{and_parts, false≢true}
-use Rattle.clap.specs.Words.{Row, Text, fault_of, first_of, subcommand_of}
-use Rattle.clap.specs.Walk.{is_empty}
-use Rattle.jn_options.specs.Command.{program_app}
+use Rattle.jn_options.proofs.Common.{◌≡◌, ◌≤◌, ◌^◌, ◌-◌, ◌&&◌, ℕ, Bool, true, false, cond, leb, leb-true, length, List, Option, Some, None, is_some, option_map, unwrap_or, refl, sym, subst, ap, arith, codes, IfSome, option_and_then, option_map_or, bytes_eq, and_parts, false≢true, Row, Text, fault_of, first_of, subcommand_of, is_empty, program_app, AreWithinLimits, IsCommandInRange, IsGeometry, IsOpening, IsTrialInRange, command_given, command_in, count_given, geometry_given, has_geometry, images_given, is_of, kept_as, number_given, number_in, opening_given, options_given, run_from, trial_given, New, Images, Options}
 use Rattle.jn_options.specs.Names.{IsName, name_in}
-use Rattle.jn_options.specs.Words.{AreWithinLimits, IsCommandInRange, IsGeometry, IsOpening, IsTrialInRange, command_given, command_in, count_given, geometry_given, has_geometry, images_given, is_of, kept_as, number_given, number_in, opening_given, options_given, run_from, trial_given}
 use Rattle.jn_options.specs.declared.asked.Command.{Command}
 use Rattle.jn_options.specs.declared.asked.Command.TheVariants as commands
 use Rattle.jn_options.specs.declared.asked.Geometry.{Geometry}
 use Rattle.jn_options.specs.declared.asked.Opening.{Opening}
-use Rattle.jn_options.specs.declared.asked.Opening.TheVariants.{New, Images}
-use Rattle.jn_options.specs.declared.asked.Options.{Options}
 use Rattle.jn_options.specs.declared.asked.Trial.{Trial}
 use Rattle.jn_options.proofs.Numbers.{number_stands}
 

@@ -1,15 +1,7 @@
 -- Runs for which no name is given.
-use Rattle.std.proofs.Common.{◌≡◌, ◌∙◌, ap, refl, cond, codes, List, [], Option, Some, None, option_map}
-use Rattle.std.specs.Prelude.{option_and_then}
-use Rattle.std.specs.Option.{option_map_or}
-use Rattle.clap.specs.Words.{Row, Text, fault_of, first_of, subcommand_of}
+use Rattle.jn_options.proofs.Common.{◌≡◌, ◌∙◌, ap, refl, cond, codes, List, [], Option, Some, None, option_map, option_and_then, option_map_or, Row, Text, fault_of, first_of, subcommand_of, is_empty, program_app, command_given, command_in, geometry_given, images_given, kept_as, opening_given, options_given, run_from, New, Options}
 use Rattle.clap.specs.Kinds.{Kinds}
-use Rattle.clap.specs.Walk.{is_empty}
-use Rattle.jn_options.specs.Command.{program_app}
-use Rattle.jn_options.specs.Words.{command_given, command_in, geometry_given, images_given, kept_as, opening_given, options_given, run_from}
 use Rattle.jn_options.specs.declared.asked.Command.TheVariants as commands
-use Rattle.jn_options.specs.declared.asked.Opening.TheVariants.{New}
-use Rattle.jn_options.specs.declared.asked.Options.{Options}
 
 then_itself : {X : Type 0} (o : Option X) → option_and_then (λ (x : X). Some x) o ≡ o
 then_itself None = refl

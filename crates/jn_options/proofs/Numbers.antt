@@ -1,17 +1,13 @@
 -- A count is the number that stands in its text, whole.
-use Rattle.std.proofs.Common.{◌≡◌, ◌≢◌, ℕ, ◌^◌, ◌<◌, ◌≤◌, ◌-◌, ◌&&◌, take, drop, Bool, cond, true, false, leb, le-leb, leb-true, length, Option, Some, None, decimal, refl, sym, subst, ap, ◌∙◌, arith, is_some, unwrap_or}
-use Rattle.std.specs.Str.{bytes_eq}
+use Rattle.jn_options.proofs.Common.{◌≡◌, ◌≢◌, ℕ, ◌^◌, ◌<◌, ◌≤◌, ◌-◌, ◌&&◌, take, drop, Bool, cond, true, false, leb, le-leb, leb-true, length, Option, Some, None, decimal, refl, sym, subst, ap, ◌∙◌, arith, is_some, unwrap_or, bytes_eq, and_from, and_parts, false≢true, Text, number_in}
 use Rattle.std.specs.Str.Parse.{digits_value}
 use Rattle.std.specs.Char.{is_ascii_digit}
-use Rattle.std.proofs.lemmas.Bool.{and_from, and_parts, false≢true}
 use Rattle.std.proofs.lemmas.Fmt.{decimal_is_IsNumeral}
 use Rattle.std.proofs.lemmas.List.{get_or_past}
 use Rattle.std.proofs.lemmas.Slice.Eq.{bytes_eq-Decides}
 use Rattle.std.proofs.Math.Seq.{take-length}
-use Rattle.clap.specs.Words.{Text}
 use Rattle.jn_text.specs.Read.{IsNumberAt}
 use Rattle.jn_text.proofs.Numbers.{number_is_one}
-use Rattle.jn_options.specs.Words.{number_in}
 
 -- what the number's text is
 abbrev IsNumber : ℕ → ℕ → Text → ℕ → Type 0

@@ -1,27 +1,5 @@
 -- What befalls the device of a place, and calls of a server that reach no device.
-use Rattle.std.proofs.Common.{◌≡◌, ℕ, Bool, [], sym, ◌∙◌, ap, subst}
-use Rattle.jn_base.specs.declared.names.ServerNo.{ServerNo}
-use Rattle.jn_base.specs.declared.names.Tid.{Tid}
-use Rattle.jn_device.specs.Device.{DeviceState}
-use Rattle.jn_device.specs.Events.{powered_off}
-use Rattle.jn_found.specs.Pages.{found_on}
-use Rattle.jn_found.proofs.Picking.{same_found}
-use Rattle.jn_msgs.specs.Collected.{Collected}
-use Rattle.jn_system.specs.WholeSystem.Servers.{server_again}
-use Rattle.jn_records.specs.StablePages.{Counts}
-use Rattle.jn_server.specs.Befalling.{Befalls}
-use Rattle.jn_server.specs.Handling.{TimesOut}
-use Rattle.jn_server.specs.Seen.{Parts, view_with, memory_of}
-use Rattle.jn_storage.specs.Calls.{state}
-use Rattle.jn_storage.specs.Storage.{Accounts}
-use Rattle.jn_store.specs.Store.{StoreView, HasSamePages}
-use Rattle.jn_transactions.specs.Telling.{added}
-use Rattle.jn_place.specs.declared.place.Slot.{Slot}
-use Rattle.jn_place.specs.declared.place.Slot.TheVariants.{Up, Down, Gone}
-use Rattle.jn_place.specs.Calls.{LeavesStore}
-use Rattle.jn_place.specs.Exact.{AsksAgain, TimedOut, Crashed, Befell}
-use Rattle.jn_place.specs.Inner.{SaysSame, IsAsBefore, StaysAs}
-use Rattle.jn_place.specs.Places.{Stands}
+use Rattle.jn_place.proofs.Common.{◌≡◌, ℕ, Bool, [], sym, ◌∙◌, ap, subst, ServerNo, Tid, DeviceState, powered_off, found_on, same_found, Collected, server_again, Counts, Befalls, TimesOut, Parts, view_with, memory_of, state, Accounts, StoreView, HasSamePages, added, Slot, Up, Down, Gone, LeavesStore, AsksAgain, TimedOut, Crashed, Befell, SaysSame, IsAsBefore, StaysAs, Stands}
 use Rattle.jn_place.proofs.Served.{nothing}
 
 module _ {S : Type 0} (look : S → StoreView) (device : S → DeviceState) where

@@ -1,30 +1,7 @@
 -- What a server's call does, by its row.
-use Rattle.std.proofs.Common.{◌≡◌, ℕ, Bool, true, false, length, Option, Some, None, Ok, Err, is_some, true≢false, refl, sym, ◌∙◌, ap, subst, arith}
-use Rattle.std.specs.Prelude.{List}
-use Rattle.jn_msgs.specs.declared.message.Message.{Message}
-use Rattle.jn_msgs.specs.Collected.{Collected}
-use Rattle.jn_system.specs.WholeSystem.Servers.{server_row, of_coordinator}
-use Rattle.jn_system.specs.WholeSystem.World.{Memory}
-use Rattle.jn_coord.specs.Remembered.{table_of}
-use Rattle.jn_intent.specs.Scrubbing.{Scrubbed}
-use Rattle.jn_rows.specs.Coordinator.{close_clients_row}
-use Rattle.jn_rows.specs.Outcomes.{RowOutcome}
-use Rattle.jn_rows.specs.Stable.{Unchanged}
+use Rattle.jn_place.proofs.Common.{◌≡◌, ℕ, Bool, true, false, length, Option, Some, None, Ok, Err, is_some, true≢false, refl, sym, ◌∙◌, ap, subst, arith, List, Message, Collected, server_row, of_coordinator, Memory, table_of, Scrubbed, close_clients_row, RowOutcome, Unchanged, IsDone, IsStopped, Steps, Shown, ServerView, Parts, view_with, memory_of, room_of, state, Accounts, StorageLater, StoreView, IsCalm, added, AllCanBeTaken, Slot, Up, Answered, Sends, work_of, has_work_at, idle_row, IsRowDone, IsRowStopped, RowEnds, Handles, IsWorking, Works, Idles, Shows, Closes}
 use Rattle.jn_server.specs.declared.fault.ServerFault.TheVariants.{Stopped}
-use Rattle.jn_server.specs.Handling.{IsDone, IsStopped, Steps}
-use Rattle.jn_server.specs.declared.show.Shown.{Shown}
-use Rattle.jn_server.specs.Seen.{ServerView, Parts, view_with, memory_of, room_of}
 use Rattle.jn_server.specs.Showing.{IsShown, IsCutShort}
-use Rattle.jn_storage.specs.Calls.{state}
-use Rattle.jn_storage.specs.Storage.{Accounts, StorageLater}
-use Rattle.jn_store.specs.Store.{StoreView, IsCalm}
-use Rattle.jn_transactions.specs.Telling.{added}
-use Rattle.jn_within.specs.Taking.{AllCanBeTaken}
-use Rattle.jn_place.specs.declared.place.Slot.{Slot}
-use Rattle.jn_place.specs.declared.place.Slot.TheVariants.{Up}
-use Rattle.jn_place.specs.Calls.{Answered}
-use Rattle.jn_place.specs.Exact.{Sends, work_of, has_work_at, idle_row}
-use Rattle.jn_place.specs.Inner.{IsRowDone, IsRowStopped, RowEnds, Handles, IsWorking, Works, Idles, Shows, Closes}
 use Rattle.jn_place.proofs.Rows.{step-taken, step-draws}
 use Rattle.jn_place.proofs.Served.{nothing}
 use Rattle.jn_place.proofs.Slots.{done-called, stopped-called}

@@ -1,19 +1,5 @@
 -- What befalls the device of a server that is down, and how servers go down and come up.
-use Rattle.std.proofs.Common.{◌≡◌, ℕ, true, [], sym, ◌∙◌, ap, subst}
-use Rattle.jn_base.specs.declared.names.ServerNo.{ServerNo}
-use Rattle.jn_device.specs.Device.{DeviceState}
-use Rattle.jn_found.proofs.Picking.{same_recoverable}
-use Rattle.jn_found.specs.Recoverable.{IsRecoverable}
-use Rattle.jn_records.specs.StablePages.{Counts}
-use Rattle.jn_recovery.specs.Loading.{counts_by}
-use Rattle.jn_recovery.specs.declared.counts.PageCounts.{PageCounts}
-use Rattle.jn_store.specs.Pairs.{pairs_view}
-use Rattle.jn_store.specs.Store.{StoreView, HasSamePages}
-use Rattle.jn_place.specs.declared.place.Place.{Place}
-use Rattle.jn_place.specs.declared.place.Slot.{Slot}
-use Rattle.jn_place.specs.declared.place.Slot.TheVariants.{Up, Down, Gone}
-use Rattle.jn_place.specs.Calls.{LeavesStore}
-use Rattle.jn_place.specs.Places.{HoldsUp, Stands, NoneTold, IsPlace, IsDownAt, CountsAt}
+use Rattle.jn_place.proofs.Common.{◌≡◌, ℕ, true, [], sym, ◌∙◌, ap, subst, ServerNo, DeviceState, same_recoverable, IsRecoverable, Counts, counts_by, PageCounts, pairs_view, StoreView, HasSamePages, Place, Slot, Up, Down, Gone, LeavesStore, HoldsUp, Stands, NoneTold, IsPlace, IsDownAt, CountsAt}
 use Rattle.jn_place.proofs.Steps.{down-stands}
 
 -- what a device has told is what its store has

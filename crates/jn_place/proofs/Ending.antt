@@ -1,32 +1,8 @@
 -- A call and what follows it, as one step by its row.
-use Rattle.std.proofs.Common.{◌≡◌, Bool, true, false, true≢false, List, [], ◌∷◌, ◌++◌, refl, sym, ◌∙◌, ap, subst, append_assoc}
-use Rattle.std.specs.Prelude.{Result, Ok, Err, OnOk, map}
+use Rattle.jn_place.proofs.Common.{◌≡◌, Bool, true, false, true≢false, List, [], ◌∷◌, ◌++◌, refl, sym, ◌∙◌, ap, subst, append_assoc, Result, Ok, Err, OnOk, map, Outside, ServerNo, DeviceState, cleared, found_on, counts_in, Memory, Counts, When, Line, RowOutcome, StableState, Pick, IsStopState, Parts, view_with, state, Accounts, pairs_view, StoreView, StoreLater, IsCalm, Slot, Up, Down, Gone, LeavesStore, IsSpent, lines_at, texts_of_step, IsStepOf, StaysCalm, RowEnds, told_at, StaysAs, Follows, is_up}
 use Rattle.std.proofs.lemmas.List.{append-nil, map-append}
-use Rattle.jn_base.specs.declared.device.Outside.{Outside}
-use Rattle.jn_base.specs.declared.names.ServerNo.{ServerNo}
-use Rattle.jn_device.specs.Device.{DeviceState}
-use Rattle.jn_device.specs.Events.{cleared}
-use Rattle.jn_found.specs.Pages.{found_on}
-use Rattle.jn_intent.specs.Scrubbing.{counts_in}
-use Rattle.jn_system.specs.WholeSystem.World.{Memory}
-use Rattle.jn_records.specs.StablePages.{Counts}
-use Rattle.jn_report.specs.declared.line.When.{When}
 use Rattle.jn_report.specs.declared.line.Text.{Text}
 use Rattle.jn_report.specs.declared.line.Text.TheVariants as says
-use Rattle.jn_report.specs.declared.line.Line.{Line}
-use Rattle.jn_rows.specs.Outcomes.{RowOutcome}
-use Rattle.jn_rows.specs.Stable.{StableState, Pick, IsStopState}
-use Rattle.jn_server.specs.Seen.{Parts, view_with}
-use Rattle.jn_storage.specs.Calls.{state}
-use Rattle.jn_storage.specs.Storage.{Accounts}
-use Rattle.jn_store.specs.Pairs.{pairs_view}
-use Rattle.jn_store.specs.Store.{StoreView, StoreLater, IsCalm}
-use Rattle.jn_place.specs.declared.place.Slot.{Slot}
-use Rattle.jn_place.specs.declared.place.Slot.TheVariants.{Up, Down, Gone}
-use Rattle.jn_place.specs.Calls.{LeavesStore}
-use Rattle.jn_place.specs.Exact.{IsSpent, lines_at, texts_of_step, IsStepOf, StaysCalm}
-use Rattle.jn_place.specs.Inner.{RowEnds, told_at, StaysAs, Follows}
-use Rattle.jn_place.specs.Places.{is_up}
 
 pub on-ok : {A E : Type 0} (P Q : Type 0) (answer : Result A E) → (P → Q) → OnOk answer P → OnOk answer Q
 on-ok P Q (Ok x) f h = f h

@@ -1,32 +1,13 @@
 -- Each background step leaves one less to make.
-use Rattle.std.proofs.Common.{◌≡◌, ◌≢◌, ◌⊎◌, inl, inr, ◌≤◌, ◌<◌, ℕ, ◌+◌, Bool, true, false, true≢false, List, [], ◌∷◌, length, Option, Some, None, is_some, refl, sym, ◌∙◌, ap, subst, arith}
-use Rattle.std.specs.Prelude.{if◌then◌else◌, not, slice_get}
+use Rattle.jn_place.proofs.Common.{◌≡◌, ◌≢◌, ◌⊎◌, inl, inr, ◌≤◌, ◌<◌, ℕ, ◌+◌, Bool, true, false, true≢false, List, [], ◌∷◌, length, Option, Some, None, is_some, refl, sym, ◌∙◌, ap, subst, arith, if◌then◌else◌, not, slice_get, work_tells, work_eq, DeviceState, Collected, Files, change, of_worker, of_step, storage_of, Memory, RowOutcome, quiet, StableState, Prepared, CarryOut, RemoveWork, is_going, at_work, made_by, made_all, StepLeaves, ServerView, view_with, memory_of, room_of, state, intentions, StoreView, Slot, Up, Down, Gone, WhereUp, WorkLeaves, work_of, Works, Follows}
 use Rattle.std.proofs.lemmas.Option.{slice_get_within}
-use Rattle.jn_base.proofs.Tells.{work_tells}
 use Rattle.jn_base.specs.declared.names.WorkId.{WorkId}
-use Rattle.jn_base.specs.Names.{work_eq}
-use Rattle.jn_device.specs.Device.{DeviceState}
-use Rattle.jn_msgs.specs.Collected.{Collected}
-use Rattle.jn_order.specs.Files.{Files, change}
 use Rattle.jn_system.proofs.WholeSystem.WorkerRows.{going-is}
-use Rattle.jn_system.specs.WholeSystem.Servers.{of_worker, of_step, storage_of}
-use Rattle.jn_system.specs.WholeSystem.World.{Memory}
 use Rattle.jn_records.specs.NetLists.{intention_change}
 use Rattle.jn_records.specs.declared.intention.Intention.{Intention}
 use Rattle.jn_rows.specs.declared.worker.Work.{Work}
-use Rattle.jn_rows.specs.Outcomes.{RowOutcome, quiet}
-use Rattle.jn_rows.specs.Stable.{StableState, Prepared, CarryOut, RemoveWork, is_going, at_work, made_by, made_all}
 use Rattle.jn_rows.specs.Worker.{WorkerTable, going_work, intentions_of, without, carried_row, going_row}
-use Rattle.jn_server.specs.Handling.{StepLeaves}
-use Rattle.jn_server.specs.Seen.{ServerView, view_with, memory_of, room_of}
-use Rattle.jn_storage.specs.Calls.{state}
-use Rattle.jn_storage.specs.Storage.{intentions}
-use Rattle.jn_store.specs.Store.{StoreView}
 use Rattle.jn_worker.specs.Fitting.{is_none}
-use Rattle.jn_place.specs.declared.place.Slot.{Slot}
-use Rattle.jn_place.specs.declared.place.Slot.TheVariants.{Up, Down, Gone}
-use Rattle.jn_place.specs.Exact.{WhereUp, WorkLeaves, work_of}
-use Rattle.jn_place.specs.Inner.{Works, Follows}
 use Rattle.jn_place.specs.Remaining.{steps_of, steps_of_work, steps_of_works, steps_left, steps_at}
 
 -- ---- numbers

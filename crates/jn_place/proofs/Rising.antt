@@ -1,44 +1,12 @@
 -- A restart, from the store with power to the server.
-use Rattle.std.proofs.Common.{◌≡◌, ◌<◌, ◌+◌, ℕ, suc, Bool, true, false, true≢false, List, [], ◌∷◌, ◌++◌, map, Option, Some, None, is_some, ⊎_elim, ◌||◌, refl, sym, ◌∙◌, ap, subst, arith}
+use Rattle.jn_place.proofs.Common.{◌≡◌, ◌<◌, ◌+◌, ℕ, suc, Bool, true, false, true≢false, List, [], ◌∷◌, ◌++◌, map, Option, Some, None, is_some, ⊎_elim, ◌||◌, refl, sym, ◌∙◌, ap, subst, arith, Result, Ok, Err, IfOk, ServerNo, Tid, tid_eq, tid_tells, DeviceState, PowersUp, powered_off, cleared, found_on, fewer_picked, restored, Memory, Counts, Found, Transaction, restored_transaction, restored_transactions, StableState, FlagState, IsRestarted, IsNotRestarted, Parts, view_with, memory_of, StoreView, IsCalm, work_eq, IsSameOrNext, When, Line, Accounts, StoreLater, Restarted, Slot, Up, Down, Gone, lines_at, texts_of_step, IsTried, IsUpAt, IsStoppedUp, IsUsedUpAt, CameTo, IsRestart, IsCalmAt, ComesCalm, is_stopped, IsRisen, IsCutUp, IsAtLast, SaysSame, StaysAs, StandsUp, Rises, Lifts, told_at, CameUp, IsHeld}
 use Rattle.std.specs.List.{list_any}
-use Rattle.std.specs.Prelude.{Result, Ok, Err, IfOk}
-use Rattle.jn_base.specs.declared.names.ServerNo.{ServerNo}
-use Rattle.jn_base.specs.declared.names.Tid.{Tid}
-use Rattle.jn_base.specs.Names.{tid_eq}
-use Rattle.jn_base.proofs.Tells.{tid_tells}
-use Rattle.jn_device.specs.Device.{DeviceState}
-use Rattle.jn_device.specs.Events.{PowersUp, powered_off, cleared}
-use Rattle.jn_found.specs.Pages.{found_on}
-use Rattle.jn_found.proofs.Picking.{fewer_picked}
 use Rattle.jn_system.specs.WholeSystem.Steps.{AreNames, tid_before}
-use Rattle.jn_system.specs.WholeSystem.Servers.{restored}
-use Rattle.jn_system.specs.WholeSystem.World.{Memory}
-use Rattle.jn_records.specs.StablePages.{Counts}
 use Rattle.jn_recovery.specs.declared.load.DownCause.{DownCause}
 use Rattle.jn_recovery.specs.declared.load.DownCause.TheVariants.{Stopped, EpochsUsedUp}
-use Rattle.jn_recovery.specs.declared.load.Found.{Found}
-use Rattle.jn_rows.specs.declared.coordinator.Transaction.{Transaction}
-use Rattle.jn_rows.specs.Coordinator.{restored_transaction, restored_transactions}
-use Rattle.jn_rows.specs.Stable.{StableState, FlagState}
-use Rattle.jn_server.specs.Restarting.{IsRestarted, IsNotRestarted}
-use Rattle.jn_server.specs.Seen.{Parts, view_with, memory_of}
-use Rattle.jn_store.specs.Store.{StoreView, IsCalm}
-use Rattle.jn_base.specs.Names.{work_eq}
 use Rattle.jn_locks.specs.Locks.{work_before}
 use Rattle.jn_system.specs.SmallSteps.Steps.{with_epoch}
-use Rattle.jn_recovery.specs.Loading.{IsSameOrNext}
-use Rattle.jn_report.specs.declared.line.When.{When}
-use Rattle.jn_report.specs.declared.line.Line.{Line}
-use Rattle.jn_storage.specs.Storage.{Accounts}
-use Rattle.jn_store.specs.Store.{StoreLater}
-use Rattle.jn_place.specs.declared.place.Restarted.{Restarted}
 use Rattle.jn_place.specs.declared.place.Restarted.TheVariants as came
-use Rattle.jn_place.specs.declared.place.Slot.{Slot}
-use Rattle.jn_place.specs.declared.place.Slot.TheVariants.{Up, Down, Gone}
-use Rattle.jn_place.specs.Exact.{lines_at, texts_of_step, IsTried, IsUpAt, IsStoppedUp, IsUsedUpAt, CameTo, IsRestart, IsCalmAt, ComesCalm, is_stopped}
-use Rattle.jn_place.specs.Inner.{IsRisen, IsCutUp, IsAtLast, SaysSame, StaysAs, StandsUp, Rises, Lifts, told_at}
-use Rattle.jn_place.specs.Calls.{CameUp}
-use Rattle.jn_place.specs.Places.{IsHeld}
 use Rattle.jn_place.proofs.Ending.{Sees, later-below, spent, calm-cleared}
 
 -- ---- the names of the flags

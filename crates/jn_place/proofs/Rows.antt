@@ -1,13 +1,5 @@
 -- What holds of each row by itself.
-use Rattle.std.proofs.Common.{◌≡◌, ◌≤◌, ◌+◌, length, Some, ap, arith}
-use Rattle.jn_base.specs.declared.names.Tickets.{Tickets}
-use Rattle.jn_msgs.specs.declared.message.Message.{Message}
-use Rattle.jn_rows.specs.Coordinator.{close_clients_row}
-use Rattle.jn_rows.specs.Outcomes.{RowOutcome}
-use Rattle.jn_rows.specs.Stable.{StableState}
-use Rattle.jn_system.specs.WholeSystem.Servers.{Room, server_row, server_step, server_again, of_coordinator}
-use Rattle.jn_system.specs.WholeSystem.World.{Memory}
-use Rattle.jn_within.specs.Taking.{AllCanBeTaken}
+use Rattle.jn_place.proofs.Common.{◌≡◌, ◌≤◌, ◌+◌, length, Some, ap, arith, Tickets, Message, close_clients_row, RowOutcome, StableState, Room, server_row, server_step, server_again, of_coordinator, Memory, AllCanBeTaken}
 use Rattle.jn_within.proofs.Taking.{servers-taken}
 use Rattle.jn_within.proofs.ServerRows.{row-requests, row-drawn, step-requests, step-tickets, again-requests}
 

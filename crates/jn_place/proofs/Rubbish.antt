@@ -1,28 +1,6 @@
 -- What calls of a server leave as rubbish, and that a scrub leaves an image.
-use Rattle.std.proofs.Common.{◌≡◌, ℕ, Bool, true, false, length, Option, Ok, refl, sym, ◌∙◌, ap, subst}
-use Rattle.jn_base.specs.declared.names.ServerNo.{ServerNo}
-use Rattle.jn_device.specs.Device.{DeviceState}
-use Rattle.jn_device.specs.Events.{cleared}
+use Rattle.jn_place.proofs.Common.{◌≡◌, ℕ, Bool, true, false, length, Option, Ok, refl, sym, ◌∙◌, ap, subst, ServerNo, DeviceState, cleared, Scrubbed, counts_in, Message, Collected, Files, Memory, Counts, RowOutcome, Befalls, Steps, ServerView, Parts, view_with, state, CountsErased, Accounts, pairs_view, StoreView, Slot, Up, Down, Gone, WhereUp, TakeLeaves, WorkLeaves, KeepsRubbish, LeavesImage, work_of, WhereDone, IsAsBefore, Follows, LeavesOwnImage, Stands}
 use Rattle.jn_found.specs.Images.{IsImage}
-use Rattle.jn_intent.specs.Scrubbing.{Scrubbed, counts_in}
-use Rattle.jn_msgs.specs.declared.message.Message.{Message}
-use Rattle.jn_msgs.specs.Collected.{Collected}
-use Rattle.jn_order.specs.Files.{Files}
-use Rattle.jn_system.specs.WholeSystem.World.{Memory}
-use Rattle.jn_records.specs.StablePages.{Counts}
-use Rattle.jn_rows.specs.Outcomes.{RowOutcome}
-use Rattle.jn_server.specs.Befalling.{Befalls}
-use Rattle.jn_server.specs.Handling.{Steps}
-use Rattle.jn_server.specs.Seen.{ServerView, Parts, view_with}
-use Rattle.jn_storage.specs.Calls.{state, CountsErased}
-use Rattle.jn_storage.specs.Storage.{Accounts}
-use Rattle.jn_store.specs.Pairs.{pairs_view}
-use Rattle.jn_store.specs.Store.{StoreView}
-use Rattle.jn_place.specs.declared.place.Slot.{Slot}
-use Rattle.jn_place.specs.declared.place.Slot.TheVariants.{Up, Down, Gone}
-use Rattle.jn_place.specs.Exact.{WhereUp, TakeLeaves, WorkLeaves, KeepsRubbish, LeavesImage, work_of}
-use Rattle.jn_place.specs.Inner.{WhereDone, IsAsBefore, Follows, LeavesOwnImage}
-use Rattle.jn_place.specs.Places.{Stands}
 use Rattle.jn_place.proofs.Ending.{Sees}
 
 -- what holds before and after a call holds once its faults are told

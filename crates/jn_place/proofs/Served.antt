@@ -1,21 +1,5 @@
 -- What a server's calls leave, each by what it answers.
-use Rattle.std.proofs.Common.{◌≡◌, ℕ, true, false, length, [], ◌++◌, Some, sym, ◌∙◌, ap, subst}
-use Rattle.jn_coord.specs.Remembered.{table_of}
-use Rattle.jn_msgs.specs.declared.message.Message.{Message}
-use Rattle.jn_msgs.specs.Collected.{Collected}
-use Rattle.jn_system.specs.WholeSystem.Servers.{server_row, server_again, of_coordinator}
-use Rattle.jn_system.specs.WholeSystem.World.{Memory}
-use Rattle.jn_rows.specs.Coordinator.{close_clients_row}
-use Rattle.jn_rows.specs.Stable.{StableState}
-use Rattle.jn_server.specs.Handling.{IsDone, IsStopped}
-use Rattle.jn_server.specs.Seen.{ServerView, Parts, view_with, memory_of, room_of}
-use Rattle.jn_storage.specs.Calls.{state}
-use Rattle.jn_store.specs.Store.{StoreView}
-use Rattle.jn_transactions.specs.Telling.{added}
-use Rattle.jn_within.specs.Taking.{AllCanBeTaken}
-use Rattle.jn_place.specs.declared.place.Slot.{Slot}
-use Rattle.jn_place.specs.declared.place.Slot.TheVariants.{Up}
-use Rattle.jn_place.specs.Calls.{IsCalled, Answered}
+use Rattle.jn_place.proofs.Common.{◌≡◌, ℕ, true, false, length, [], ◌++◌, Some, sym, ◌∙◌, ap, subst, table_of, Message, Collected, server_row, server_again, of_coordinator, Memory, close_clients_row, StableState, IsDone, IsStopped, ServerView, Parts, view_with, memory_of, room_of, state, StoreView, added, AllCanBeTaken, Slot, Up, IsCalled, Answered}
 use Rattle.jn_place.proofs.Rows.{row-taken, row-draws, close-draws, again-taken}
 use Rattle.jn_place.proofs.Slots.{done-called, stopped-called}
 

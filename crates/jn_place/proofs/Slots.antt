@@ -1,23 +1,5 @@
 -- How a server's place goes on from step to step.
-use Rattle.std.proofs.Common.{◌≡◌, ◌≤◌, ℕ, ◌+◌, Bool, true, false, true≢false, refl, sym, ◌∙◌, ap, subst, arith}
-use Rattle.jn_base.specs.declared.names.ServerNo.{ServerNo}
-use Rattle.jn_base.specs.declared.names.Tickets.{Tickets}
-use Rattle.jn_found.specs.Recoverable.{IsRecoverable}
-use Rattle.jn_intent.specs.Scrubbing.{counts_in}
-use Rattle.jn_msgs.specs.Collected.{Collected}
-use Rattle.jn_system.specs.WholeSystem.World.{Memory}
-use Rattle.jn_records.specs.StablePages.{Counts}
-use Rattle.jn_rows.specs.Outcomes.{RowOutcome}
-use Rattle.jn_server.specs.Handling.{IsDone, IsStopped}
-use Rattle.jn_server.specs.Restarting.{IsRestarted}
-use Rattle.jn_recovery.specs.declared.load.Found.{Found}
-use Rattle.jn_server.specs.Seen.{ServerView, view_with}
-use Rattle.jn_storage.specs.Storage.{Accounts}
-use Rattle.jn_store.specs.Store.{StoreView}
-use Rattle.jn_place.specs.declared.place.Slot.{Slot}
-use Rattle.jn_place.specs.declared.place.Slot.TheVariants.{Up, Down, Gone}
-use Rattle.jn_place.specs.Calls.{Serves, IsCalled, Called}
-use Rattle.jn_place.specs.Places.{IsHeld, HoldsUp, Stands, HasPages, is_up, is_there}
+use Rattle.jn_place.proofs.Common.{◌≡◌, ◌≤◌, ℕ, ◌+◌, Bool, true, false, true≢false, refl, sym, ◌∙◌, ap, subst, arith, ServerNo, Tickets, IsRecoverable, counts_in, Collected, Memory, Counts, RowOutcome, IsDone, IsStopped, IsRestarted, Found, ServerView, view_with, Accounts, StoreView, Slot, Up, Down, Gone, Serves, IsCalled, Called, IsHeld, HoldsUp, Stands, HasPages, is_up, is_there}
 
 -- ---- calls
 

@@ -1,19 +1,6 @@
 -- A step at a server's place: a call, and what follows it.
-use Rattle.std.proofs.Common.{◌≡◌, ℕ, ◌+◌, Bool, true, false, length, Option, Some, None, Ok, Err, is_some, true≢false, refl, sym, subst, arith}
-use Rattle.std.specs.Prelude.{Result, OnOk}
-use Rattle.jn_base.specs.declared.names.ServerNo.{ServerNo}
-use Rattle.jn_msgs.specs.Collected.{Collected}
-use Rattle.jn_records.specs.StablePages.{Counts}
-use Rattle.jn_recovery.specs.Loading.{counts_by}
-use Rattle.jn_recovery.specs.declared.counts.PageCounts.{PageCounts}
-use Rattle.jn_store.specs.Store.{StoreView}
-use Rattle.jn_place.specs.declared.place.Place.{Place}
-use Rattle.jn_place.specs.declared.place.Restarted.{Restarted}
+use Rattle.jn_place.proofs.Common.{◌≡◌, ℕ, ◌+◌, Bool, true, false, length, Option, Some, None, Ok, Err, is_some, true≢false, refl, sym, subst, arith, Result, OnOk, ServerNo, Collected, Counts, counts_by, PageCounts, StoreView, Place, Restarted, Slot, Up, Down, Gone, Called, Answered, CameUp, Left, HoldsUp, Stands, IsPlace, IsDownAt, is_up, is_there}
 use Rattle.jn_place.specs.declared.place.Restarted.TheVariants as came
-use Rattle.jn_place.specs.declared.place.Slot.{Slot}
-use Rattle.jn_place.specs.declared.place.Slot.TheVariants.{Up, Down, Gone}
-use Rattle.jn_place.specs.Calls.{Called, Answered, CameUp, Left}
-use Rattle.jn_place.specs.Places.{HoldsUp, Stands, IsPlace, IsDownAt, is_up, is_there}
 use Rattle.jn_place.proofs.Slots.{stepped-slot}
 
 pub any-ok : {A E : Type 0} (P : Type 0) (answer : Result A E) → P → OnOk answer P

@@ -1,23 +1,5 @@
 -- Each call of a server that is up, with what follows it.
-use Rattle.std.proofs.Common.{◌≡◌, ℕ, Bool, List, ◌++◌, Option, is_some}
-use Rattle.jn_base.specs.declared.names.ServerNo.{ServerNo}
-use Rattle.jn_device.specs.Device.{DeviceState}
-use Rattle.jn_msgs.specs.declared.message.Message.{Message}
-use Rattle.jn_msgs.specs.Collected.{Collected}
-use Rattle.jn_system.specs.WholeSystem.Servers.{server_row, of_coordinator}
-use Rattle.jn_records.specs.StablePages.{Counts}
-use Rattle.jn_report.specs.declared.line.When.{When}
-use Rattle.jn_report.specs.declared.line.Line.{Line}
-use Rattle.jn_rows.specs.Coordinator.{close_clients_row}
-use Rattle.jn_server.specs.declared.show.Shown.{Shown}
-use Rattle.jn_server.specs.Seen.{view_with, memory_of, room_of}
-use Rattle.jn_storage.specs.Calls.{state}
-use Rattle.jn_store.specs.Store.{StoreView}
-use Rattle.jn_place.specs.declared.place.Slot.{Slot}
-use Rattle.jn_place.specs.declared.place.Slot.TheVariants.{Up, Down, Gone}
-use Rattle.jn_place.specs.Exact.{lines_at, texts_of_step, Took, WorkedBy, ScrubbedBy, Showed, Closed, StaysCalm, idle_row}
-use Rattle.jn_place.specs.Inner.{Handles, Works, Idles, Shows, Closes, told_at, Follows}
-use Rattle.jn_place.specs.Places.{Stands}
+use Rattle.jn_place.proofs.Common.{◌≡◌, ℕ, Bool, List, ◌++◌, Option, is_some, ServerNo, DeviceState, Message, Collected, server_row, of_coordinator, Counts, When, Line, close_clients_row, Shown, view_with, memory_of, room_of, state, StoreView, Slot, Up, Down, Gone, lines_at, texts_of_step, Took, WorkedBy, ScrubbedBy, Showed, Closed, StaysCalm, idle_row, Handles, Works, Idles, Shows, Closes, told_at, Follows, Stands}
 use Rattle.jn_place.proofs.Ending.{Sees, step-of, calm-of}
 
 module _ {S : Type 0} (look : S → StoreView) (device : S → DeviceState) (sees : Sees look device) (q : ServerNo) (g : Counts) (most : ℕ) (when : When) (lines lines' : List Line) where

@@ -1,16 +1,7 @@
 -- What carrying out a list comes to: at once, in the place of its operations, and once more.
-use Rattle.std.proofs.Common.{◌≡◌, ℕ, zero, suc, Bool, true, List, [], ◌∷◌, take, None, refl, sym, ◌∙◌, ap, subst, arith}
-use Rattle.std.proofs.Math.Path.{fun_ext}
-use Rattle.std.specs.Prelude.{◌&&◌}
-use Rattle.jn_base.specs.declared.names.LockUnit.{LockUnit}
-use Rattle.jn_base.specs.declared.names.LockUnit.TheVariants.{File, Block}
-use Rattle.jn_base.specs.declared.op.Op.{Op}
-use Rattle.jn_order.specs.Files.{Files, change, effect, answer_to, is_did, files_after}
-use Rattle.jn_order.specs.Changes.{files_then, all_did}
+use Rattle.jn_records.proofs.Common.{◌≡◌, ℕ, zero, suc, Bool, true, List, [], ◌∷◌, take, None, refl, sym, ◌∙◌, ap, subst, arith, fun_ext, ◌&&◌, LockUnit, File, Block, Op, Files, change, effect, answer_to, is_did, files_after, files_then, all_did, Intention, intention_change, list_change, carried_out, after_turns, in_order, Net, net_of, no_net, added, added_all, net_change}
 use Rattle.jn_order.proofs.ChangeLemmas.{change-then, change-nothing}
 use Rattle.jn_order.proofs.FilesLemmas.{files_after-did}
-use Rattle.jn_records.specs.declared.intention.Intention.{Intention}
-use Rattle.jn_records.specs.NetLists.{intention_change, list_change, carried_out, after_turns, in_order, Net, net_of, no_net, added, added_all, net_change}
 use Rattle.jn_records.proofs.NetLemmas.{added-change, list-net}
 
 pub carried-change : (list : List Intention) (files : Files) → carried_out list files ≡ change (list_change list) files

@@ -1,22 +1,8 @@
 -- What is seen through a net list, and a net list after an operation was added.
-use Rattle.std.proofs.Common.{◌≡◌, ◌≢◌, ◌⊎◌, ◌<◌, inl, inr, ◌+◌, ℕ, zero, suc, Bool, true, false, List, [], ◌∷◌, ◌++◌, length, take, drop, filter, Option, Some, None, refl, sym, ◌∙◌, ap, subst, arith}
-use Rattle.std.proofs.Math.Path.{fun_ext}
+use Rattle.jn_records.proofs.Common.{◌≡◌, ◌≢◌, ◌⊎◌, ◌<◌, inl, inr, ◌+◌, ℕ, zero, suc, Bool, true, false, List, [], ◌∷◌, ◌++◌, length, take, drop, filter, Option, Some, None, refl, sym, ◌∙◌, ap, subst, arith, fun_ext, nat_tests, nat_eq, nat_lt, ◌&&◌, if◌then◌else◌, is_some, count_by, FileNo, BlockNo, File, Block, Op, Create, Remove, CutBlocks, Read, Write, file_eq, file_tells, Files, change, Intention, block_of, blocks_below, list_change, comes_behind, adds, length_with, intention_place, stands_before, in_order, InOrder, Plain, AllPlain, entry, First, Kept, MadeFresh, TakenAway, CutFrom, FileNet, as_first, as_put, net_of, added, net_change, stays_at, stays, seen_block, there_by, seen_by, cut_again, intention_for, front, in_its_place, with_intention}
 use Rattle.std.proofs.lemmas.Option.{same_Some}
 use Rattle.std.proofs.lemmas.List.Sums.{length-filter}
 use Rattle.std.proofs.lemmas.List.Recursion.{is_count_by}
-use Rattle.std.proofs.lemmas.Bool.Decides.{nat_tests}
-use Rattle.std.specs.Prelude.{nat_eq, nat_lt, ◌&&◌, if◌then◌else◌, is_some, count_by}
-use Rattle.jn_base.specs.declared.names.FileNo.{FileNo}
-use Rattle.jn_base.specs.declared.names.BlockNo.{BlockNo}
-use Rattle.jn_base.specs.declared.names.LockUnit.TheVariants.{File, Block}
-use Rattle.jn_base.specs.declared.op.Op.{Op}
-use Rattle.jn_base.specs.declared.op.Op.TheVariants.{Create, Remove, Cut as CutBlocks, Read, Write}
-use Rattle.jn_base.specs.Names.{file_eq}
-use Rattle.jn_base.proofs.Tells.{file_tells}
-use Rattle.jn_order.specs.Files.{Files, change}
-use Rattle.jn_records.specs.declared.intention.Intention.{Intention}
-use Rattle.jn_records.specs.NetLists.{block_of, blocks_below, list_change, comes_behind, adds, length_with, intention_place, stands_before, in_order, InOrder, Plain, AllPlain, entry, First, Kept, MadeFresh, TakenAway, CutFrom, FileNet, as_first, as_put, net_of, added, net_change, stays_at, stays, seen_block}
-use Rattle.jn_records.specs.NetEdits.{there_by, seen_by, cut_again, intention_for, front, in_its_place, with_intention}
 use Rattle.jn_records.proofs.NetLemmas.{list-net}
 
 -- ---- what is seen

@@ -1,10 +1,6 @@
 -- What is spelled is read again, whatever follows it.
-use Rattle.std.proofs.Common.{◌≡◌, ℕ, ◌^◌, ◌<◌, false, ltb, List, ◌++◌, length, Option, Some, refl, ap, arith, length-append}
-use Rattle.std.proofs.lemmas.Bool.{le-ltb}
-use Rattle.std.proofs.lemmas.List.{take_at, drop_at}
-use Rattle.byteorder.specs.Endian.{big_bytes}
+use Rattle.jn_records.proofs.Common.{◌≡◌, ℕ, ◌^◌, ◌<◌, false, ltb, List, ◌++◌, length, Option, Some, refl, ap, arith, length-append, le-ltb, take_at, drop_at, big_bytes, number_at, bytes_at}
 use Rattle.byteorder.specs.Numbers.{big_number-reads_back, length-bytes_high_first}
-use Rattle.jn_records.specs.Reading.{number_at, bytes_at}
 
 pub number_again : (n x : ℕ) (rest : List ℕ) → x < 256 ^ n → number_at n (big_bytes n x ++ rest) ≡ Some (x, rest)
 unfolding number_at

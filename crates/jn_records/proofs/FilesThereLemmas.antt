@@ -1,20 +1,6 @@
 -- Each cut and put finds its file there exactly where the net says so of each file, and so it stays with one more operation.
-use Rattle.std.proofs.Common.{◌≡◌, ℕ, zero, suc, Bool, true, false, List, [], ◌∷◌, Option, Some, None, refl, sym, ◌∙◌, ap, subst, arith}
-use Rattle.std.proofs.lemmas.Bool.Decides.{nat_tests}
-use Rattle.std.specs.Prelude.{◌&&◌, ◌||◌, not, is_some}
-use Rattle.jn_base.specs.declared.names.FileNo.{FileNo}
-use Rattle.jn_base.specs.declared.names.BlockNo.{BlockNo}
-use Rattle.jn_base.specs.declared.names.LockUnit.TheVariants.{File}
-use Rattle.jn_base.specs.declared.op.Op.{Op}
-use Rattle.jn_base.specs.declared.op.Op.TheVariants.{Create, Remove, Cut as CutBlocks, Read, Write}
+use Rattle.jn_records.proofs.Common.{◌≡◌, ℕ, zero, suc, Bool, true, false, List, [], ◌∷◌, Option, Some, None, refl, sym, ◌∙◌, ap, subst, arith, nat_tests, ◌&&◌, ◌||◌, not, is_some, FileNo, BlockNo, File, Op, Create, Remove, CutBlocks, Read, Write, file_eq, file_tells, block_tells, Files, change, file_of, answer_to, or_else, What, Fresh, Gone, Cut, Put, Intention, names_file, intention_change, list_change, finds_file, files_there, in_order, entry, First, CutFrom, FileNet, Net, as_first, as_put, net_of, file_added, added, first_file}
 use Rattle.jn_base.specs.declared.op.Answer.TheVariants.{Did}
-use Rattle.jn_base.specs.Names.{file_eq}
-use Rattle.jn_base.proofs.Tells.{file_tells, block_tells}
-use Rattle.jn_order.specs.Files.{Files, change, file_of, answer_to, or_else}
-use Rattle.jn_records.specs.declared.intention.What.{What}
-use Rattle.jn_records.specs.declared.intention.What.TheVariants.{Fresh, Gone, Cut, Put}
-use Rattle.jn_records.specs.declared.intention.Intention.{Intention}
-use Rattle.jn_records.specs.NetLists.{names_file, intention_change, list_change, finds_file, files_there, in_order, entry, First, CutFrom, FileNet, Net, as_first, as_put, net_of, file_added, added, first_file}
 use Rattle.jn_records.proofs.NetLemmas.{no_entry, list-net}
 
 abbrev is_cut : First → Bool

@@ -1,14 +1,5 @@
 -- A head is read again from its page.
-use Rattle.std.proofs.Common.{◌≡◌, ◌<◌, ◌^◌, ◌-◌, ℕ, true, List, [], ◌∷◌, ◌++◌, length, replicate, Some, refl, ap, subst, ◌∙◌, arith}
-use Rattle.std.specs.Prelude.{flat_map, nat_le}
-use Rattle.std.specs.List.{list_all, AllByRecursion}
-use Rattle.std.proofs.lemmas.Bool.Decides.{nat_tests}
-use Rattle.byteorder.specs.Endian.{big_bytes}
-use Rattle.jn_base.specs.declared.names.FileNo.{FileNo}
-use Rattle.jn_records.specs.declared.head.Head.{Head}
-use Rattle.jn_records.specs.declared.head.Head.TheVariants.{Free, Used}
-use Rattle.jn_records.specs.Reading.{number_at, list_at}
-use Rattle.jn_records.specs.Heads.{head_bytes, head_page, IsHead, FileFits, used_at, head_at}
+use Rattle.jn_records.proofs.Common.{◌≡◌, ◌<◌, ◌^◌, ◌-◌, ℕ, true, List, [], ◌∷◌, ◌++◌, length, replicate, Some, refl, ap, subst, ◌∙◌, arith, flat_map, nat_le, list_all, AllByRecursion, nat_tests, big_bytes, FileNo, Head, Free, Used, number_at, list_at, head_bytes, head_page, IsHead, FileFits, used_at, head_at}
 use Rattle.jn_records.proofs.Fields.{number_again}
 use Rattle.jn_records.proofs.Lists.{list_again}
 

@@ -1,10 +1,5 @@
 -- A page that begins like a head and is none.
-use Rattle.std.proofs.Common.{◌≡◌, ◌<◌, ◌+◌, ℕ, zero, suc, nat_eq, Bool, true, false, if◌then◌else◌, ◌∷◌, replicate, Some, refl, sym, ◌∙◌, subst, arith}
-use Rattle.std.proofs.lemmas.Bool.{true≢false}
-use Rattle.jn_records.specs.declared.head.Head.{Head}
-use Rattle.jn_records.specs.declared.head.Head.TheVariants.{Used}
-use Rattle.jn_records.specs.Heads.{head_page, within, used_at, head_at}
-use Rattle.jn_records.specs.Reading.{number_at, list_at}
+use Rattle.jn_records.proofs.Common.{◌≡◌, ◌<◌, ◌+◌, ℕ, zero, suc, nat_eq, Bool, true, false, if◌then◌else◌, ◌∷◌, replicate, Some, refl, sym, ◌∙◌, subst, arith, true≢false, Head, Used, head_page, within, used_at, head_at, number_at, list_at}
 use Rattle.jn_records.specs.Malformed.{head_of_9, malformed_page, malformed_image}
 use Rattle.jn_records.specs.Sound.{head_bytes_of, HasOneHead, IsWholeHead}
 use Rattle.jn_records.specs.StablePages.{is_used, file_in}

@@ -1,18 +1,5 @@
 -- Names, units and intentions are read again from their bytes.
-use Rattle.std.proofs.Common.{◌≡◌, ◌<◌, ◌^◌, ℕ, true, false, List, ◌++◌, length, Some, refl, ap, ◌∙◌, arith}
-use Rattle.std.specs.Prelude.{nat_eq}
-use Rattle.std.proofs.lemmas.Bool.Decides.{nat_tests}
-use Rattle.byteorder.specs.Endian.{big_bytes}
-use Rattle.jn_base.specs.declared.names.LockUnit.{LockUnit}
-use Rattle.jn_base.specs.declared.names.LockUnit.TheVariants.{File, Block}
-use Rattle.jn_base.specs.declared.names.Tid.{Tid}
-use Rattle.jn_base.specs.declared.names.WorkId.{WorkId}
-use Rattle.jn_records.specs.declared.intention.What.{What}
-use Rattle.jn_records.specs.declared.intention.What.TheVariants.{Fresh, Gone, Cut, Put}
-use Rattle.jn_records.specs.declared.intention.StoredIntention.{StoredIntention}
-use Rattle.jn_records.specs.Names.{tid_bytes, work_bytes, unit_bytes, TidFits, WorkFits, tid_at, work_at, unit_at}
-use Rattle.jn_records.specs.Intentions.{what_code, what_of, intention_bytes, IntentionFits, intention_at}
-use Rattle.jn_records.specs.Records.{UnitFits, unit_has_page}
+use Rattle.jn_records.proofs.Common.{◌≡◌, ◌<◌, ◌^◌, ℕ, true, false, List, ◌++◌, length, Some, refl, ap, ◌∙◌, arith, nat_eq, nat_tests, big_bytes, LockUnit, File, Block, Tid, WorkId, What, Fresh, Gone, Cut, Put, StoredIntention, tid_bytes, work_bytes, unit_bytes, TidFits, WorkFits, tid_at, work_at, unit_at, what_code, what_of, intention_bytes, IntentionFits, intention_at, UnitFits, unit_has_page}
 use Rattle.jn_records.proofs.Fields.{number_again}
 
 pub length-unit : (u : LockUnit) → length (unit_bytes u) ≡ 6

@@ -1,20 +1,5 @@
 -- A list in order changes what its net says, and one more operation changes what it does.
-use Rattle.std.proofs.Common.{◌≡◌, ◌⊎◌, ◌<◌, ◌≤◌, ℕ, zero, suc, true, List, [], ◌∷◌, Option, Some, None, refl, arith}
-use Rattle.std.proofs.Math.Path.{fun_ext}
-use Rattle.std.proofs.lemmas.Bool.Decides.{nat_tests}
-use Rattle.std.specs.Prelude.{nat_le, if◌then◌else◌}
-use Rattle.jn_base.specs.declared.names.FileNo.{FileNo}
-use Rattle.jn_base.specs.declared.names.BlockNo.{BlockNo}
-use Rattle.jn_base.specs.declared.names.LockUnit.{LockUnit}
-use Rattle.jn_base.specs.declared.names.LockUnit.TheVariants.{File, Block}
-use Rattle.jn_base.specs.declared.op.Op.{Op}
-use Rattle.jn_base.specs.declared.op.Op.TheVariants.{Create, Remove, Cut as CutBlocks, Read, Write}
-use Rattle.jn_order.specs.Files.{effect}
-use Rattle.jn_order.specs.Changes.{or_also, and_then}
-use Rattle.jn_records.specs.declared.intention.What.{What}
-use Rattle.jn_records.specs.declared.intention.What.TheVariants.{Fresh, Gone, Cut, Put}
-use Rattle.jn_records.specs.declared.intention.Intention.{Intention}
-use Rattle.jn_records.specs.NetLists.{list_change, intention_place, in_order, entry, First, Kept, MadeFresh, TakenAway, CutFrom, Net, as_first, as_put, net_of, cut_first, added, first_file, first_block, put_or, net_change}
+use Rattle.jn_records.proofs.Common.{◌≡◌, ◌⊎◌, ◌<◌, ◌≤◌, ℕ, zero, suc, true, List, [], ◌∷◌, Option, Some, None, refl, arith, fun_ext, nat_tests, nat_le, if◌then◌else◌, FileNo, BlockNo, LockUnit, File, Block, Op, Create, Remove, CutBlocks, Read, Write, effect, or_also, and_then, What, Fresh, Gone, Cut, Put, Intention, list_change, intention_place, in_order, entry, First, Kept, MadeFresh, TakenAway, CutFrom, Net, as_first, as_put, net_of, cut_first, added, first_file, first_block, put_or, net_change}
 
 -- ---- one more operation
 

@@ -1,20 +1,9 @@
 -- A record is read again from its page.
-use Rattle.std.proofs.Common.{◌≡◌, ◌<◌, ◌≤◌, ◌^◌, ◌-◌, ℕ, Bool, true, false, List, [], ◌∷◌, ◌++◌, length, replicate, Some, refl, ap, ◌∙◌, arith}
-use Rattle.std.specs.Prelude.{flat_map}
-use Rattle.std.specs.List.{list_all, AllByRecursion}
-use Rattle.std.proofs.lemmas.Bool.Decides.{nat_tests}
-use Rattle.byteorder.specs.Endian.{big_bytes}
-use Rattle.jn_base.specs.declared.names.LockUnit.{LockUnit}
-use Rattle.jn_base.specs.declared.names.Tid.{Tid}
-use Rattle.jn_base.specs.declared.names.WorkId.{WorkId}
-use Rattle.jn_records.specs.declared.intention.StoredIntention.{StoredIntention}
+use Rattle.jn_records.proofs.Common.{◌≡◌, ◌<◌, ◌≤◌, ◌^◌, ◌-◌, ℕ, Bool, true, false, List, [], ◌∷◌, ◌++◌, length, replicate, Some, refl, ap, ◌∙◌, arith, flat_map, list_all, AllByRecursion, nat_tests, big_bytes, LockUnit, Tid, WorkId, StoredIntention, tid_bytes, work_bytes, unit_bytes, WorkFits, work_at, unit_at, intention_bytes, prepared_bytes, record_bytes, record_page, unit_has_page, reads_have_page, has_page, UnitFits, PreparedFits, FlagFits, IntentionRecordFits, RecordFits, intention_record_at, work_head_at, prepared, prepared_at, flag_at, record_at}
 use Rattle.jn_records.specs.declared.flag.Flag.{Flag}
 use Rattle.jn_records.specs.declared.work.WorkHead.{WorkHead}
 use Rattle.jn_records.specs.declared.record.Record.{Record}
 use Rattle.jn_records.specs.declared.record.Record.TheVariants.{Free, Intention, Ready, Going, Flag as FlagRecord}
-use Rattle.jn_records.specs.Names.{tid_bytes, work_bytes, unit_bytes, WorkFits, work_at, unit_at}
-use Rattle.jn_records.specs.Intentions.{intention_bytes}
-use Rattle.jn_records.specs.Records.{prepared_bytes, record_bytes, record_page, unit_has_page, reads_have_page, has_page, UnitFits, PreparedFits, FlagFits, IntentionRecordFits, RecordFits, intention_record_at, work_head_at, prepared, prepared_at, flag_at, record_at}
 use Rattle.jn_records.proofs.Fields.{number_again}
 use Rattle.jn_records.proofs.Lists.{list_again}
 use Rattle.jn_records.proofs.NamesAgain.{UnitIsRead, tid_again, work_again, unit_again, intention_again}

@@ -1,10 +1,5 @@
 -- A root is read again from its page.
-use Rattle.std.proofs.Common.{◌≡◌, ℕ, List, ◌++◌, Some, refl, ap, ◌∙◌, replicate}
-use Rattle.std.specs.Prelude.{codes}
-use Rattle.byteorder.specs.Endian.{big_bytes}
-use Rattle.jn_records.specs.declared.root.Root.{Root}
-use Rattle.jn_records.specs.Pages.{root_bytes, root_page, IsRoot}
-use Rattle.jn_records.specs.Reading.{root_at}
+use Rattle.jn_records.proofs.Common.{◌≡◌, ℕ, List, ◌++◌, Some, refl, ap, ◌∙◌, replicate, codes, big_bytes, Root, root_bytes, root_page, IsRoot, root_at}
 use Rattle.jn_records.proofs.Fields.{number_again, bytes_again}
 
 root_again : (r : Root) (rest : List ℕ) → IsRoot r → root_at (root_bytes r ++ rest) ≡ Some (r, rest)

@@ -48,7 +48,8 @@ fn place_in_file(unit: LockUnit) -> u32
 fn is_below(a: LockUnit, b: LockUnit) -> bool
     ensures { result ≡ unit_lt a b }
 {
-    unit_file(a) < unit_file(b) || unit_file(a) == unit_file(b) && place_in_file(a) < place_in_file(b)
+    unit_file(a) < unit_file(b)
+        || unit_file(a) == unit_file(b) && place_in_file(a) < place_in_file(b)
 }
 
 fn follows(last: Option<LockUnit>, unit: LockUnit) -> bool

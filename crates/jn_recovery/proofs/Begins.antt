@@ -1,26 +1,5 @@
 -- A restart is counted in the root, and rubbish is erased.
-use Rattle.std.proofs.Common.{◌≡◌, ◌⊎◌, inl, inr, ⊎_elim, ◌<◌, ◌≤◌, ◌+◌, ◌*◌, ℕ, suc, Bool, true, false, List, [], refl, sym, ◌∙◌, ap, subst, true≢false, arith}
-use Rattle.std.proofs.lemmas.Bool.{cases_eq}
-use Rattle.jn_base.specs.declared.names.ServerNo.{ServerNo}
-use Rattle.jn_files.specs.Table.{TableView}
-use Rattle.jn_files.specs.Calls.{IsLoaded as IsTableLoaded}
-use Rattle.jn_found.specs.Pages.{found_on, root_by}
-use Rattle.jn_found.specs.Puts.{RootPut}
-use Rattle.jn_found.specs.Standing.{IsPutStep, MakesEpoch, standing_state}
-use Rattle.jn_found.proofs.CallLaws.{counts_on}
-use Rattle.jn_records.specs.declared.head.Head.{Head}
-use Rattle.jn_records.specs.declared.record.Record.{Record}
-use Rattle.jn_records.specs.declared.root.Root.{Root}
-use Rattle.jn_records.specs.Pages.{root_page}
-use Rattle.jn_records.specs.StablePages.{Counts, data_place}
-use Rattle.jn_rows.specs.Stable.{StableState}
-use Rattle.jn_store.specs.Store.{StoreView, StorePut, IsClean, IsWholePage}
-use Rattle.jn_store.proofs.Laws.{later_trans, same_trans, only_clean, stop_since, calm_on}
-use Rattle.jn_recovery.specs.Loading.{IsSameOrNext, IsDown, front_count, reading_calls, most_calls, KeepsDataPages}
-use Rattle.jn_recovery.specs.Memory.{rubbish_in}
-use Rattle.jn_recovery.specs.Opening.{next_root, Stands, IsOpened, ErasesAll, EraseStopped, IsBegun}
-use Rattle.jn_recovery.specs.declared.load.DownCause.TheVariants.{Stopped}
-use Rattle.jn_recovery.specs.declared.opening.Opened.{Opened}
+use Rattle.jn_recovery.proofs.Common.{◌≡◌, ◌⊎◌, inl, inr, ⊎_elim, ◌<◌, ◌≤◌, ◌+◌, ◌*◌, ℕ, suc, Bool, true, false, List, [], refl, sym, ◌∙◌, ap, subst, true≢false, arith, cases_eq, ServerNo, TableView, IsTableLoaded, found_on, root_by, RootPut, IsPutStep, MakesEpoch, standing_state, counts_on, Head, Record, Root, root_page, Counts, data_place, StableState, StoreView, StorePut, IsClean, IsWholePage, later_trans, same_trans, only_clean, stop_since, calm_on, IsSameOrNext, IsDown, front_count, reading_calls, most_calls, KeepsDataPages, rubbish_in, next_root, Stands, IsOpened, ErasesAll, EraseStopped, IsBegun, Stopped, Opened}
 use Rattle.jn_recovery.proofs.Downs.{recovering_by, stopped_down}
 
 pub same_or_next_at : (x y : StableState) (e : ℕ) → y ≡ record x { epoch = e } → (e ≡ x.epoch) ⊎ (e ≡ suc x.epoch) → IsSameOrNext x y

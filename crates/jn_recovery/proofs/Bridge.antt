@@ -1,15 +1,6 @@
 -- The words for heads of the table of files, and those of what is found on pages, say the same.
-use Rattle.std.proofs.Common.{◌≡◌, ℕ, zero, suc, Bool, true, false, if◌then◌else◌, List, [], ◌∷◌, Option, Some, None, refl, ◌∙◌, ap, arith}
-use Rattle.std.proofs.lemmas.Bool.Decides.{nat_tests}
-use Rattle.std.specs.Prelude.{nat_lt, is_some, option_map, option_and_then, slice_index}
-use Rattle.std.specs.List.{find}
-use Rattle.jn_base.specs.declared.names.BlockNo.{BlockNo}
-use Rattle.jn_base.specs.declared.names.FileNo.{FileNo}
+use Rattle.jn_recovery.proofs.Common.{◌≡◌, ℕ, zero, suc, Bool, true, false, if◌then◌else◌, List, [], ◌∷◌, Option, Some, None, refl, ◌∙◌, ap, arith, nat_tests, nat_lt, is_some, option_map, option_and_then, slice_index, find, BlockNo, FileNo, Head, FreeHead, Used, is_of, addresses_of, address_of, addresses, or_nil, exists, is_mapped, is_head_of, address_at, behind, block_in}
 use Rattle.jn_order.specs.Files.{there}
-use Rattle.jn_records.specs.declared.head.Head.{Head}
-use Rattle.jn_records.specs.declared.head.Head.TheVariants.{Free as FreeHead, Used}
-use Rattle.jn_files.specs.Table.{is_of, addresses_of, address_of, addresses, or_nil, exists, is_mapped}
-use Rattle.jn_found.specs.Contents.{is_head_of, address_at, behind, block_in}
 
 -- whether it is a file's head
 pub same_test : (f : FileNo) (h : Head) → is_of f h ≡ is_head_of f h

@@ -1,12 +1,6 @@
 -- A store is cleaned, page by page.
-use Rattle.std.proofs.Common.{◌≡◌, ◌≢◌, ◌⊎◌, inl, inr, ⊎_elim, ◌<◌, ◌≤◌, ◌+◌, ℕ, Bool, true, false, Result, Ok, Err, refl, sym, ◌∙◌, subst, true≢false, arith}
-use Rattle.std.proofs.lemmas.Bool.{cases_eq}
-use Rattle.std.specs.Prelude.{is_ok, OnOk, OnErr}
+use Rattle.jn_recovery.proofs.Common.{◌≡◌, ◌≢◌, ◌⊎◌, inl, inr, ⊎_elim, ◌<◌, ◌≤◌, ◌+◌, ℕ, Bool, true, false, Result, Ok, Err, sym, ◌∙◌, subst, true≢false, arith, cases_eq, is_ok, OnOk, OnErr, cleaned_fewer, fewer_trans, StoreView, StoreCleaned, IsClean, IsSamePage, IsWholePage, later_trans, same_trans, Cleans}
 use Rattle.jn_base.specs.declared.device.Stopped.{Stopped}
-use Rattle.jn_found.proofs.HeldLaws.{cleaned_fewer, fewer_refl, fewer_trans}
-use Rattle.jn_store.specs.Store.{StoreView, StoreCleaned, IsClean, IsSamePage, IsWholePage}
-use Rattle.jn_store.proofs.Laws.{later_refl, later_trans, same_refl, same_trans}
-use Rattle.jn_recovery.specs.Cleaning.{Cleans}
 
 module _ (u v : StoreView) (from n : ℕ) (to : Cleans u from n v) (below : n < u.count) where
   below_now : n < v.count

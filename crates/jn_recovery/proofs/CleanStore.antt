@@ -1,31 +1,7 @@
 -- What stands on a store of which root, records and heads are clean.
-use Rattle.std.proofs.Common.{◌≡◌, ⊎_elim, ◌<◌, ◌+◌, ℕ, zero, suc, true, false, if◌then◌else◌, List, [], length, get_or, refl, sym, ◌∙◌, ap, subst, arith}
-use Rattle.std.proofs.lemmas.Bool.{cases_lt}
-use Rattle.std.proofs.lemmas.Bool.Decides.{nat_tests}
-use Rattle.std.proofs.lemmas.List.{get_or_past}
-use Rattle.std.specs.Prelude.{nat_lt}
-use Rattle.jn_base.specs.declared.names.BlockNo.{BlockNo}
-use Rattle.jn_base.specs.declared.names.FileNo.{FileNo}
-use Rattle.jn_base.specs.declared.names.ServerNo.{ServerNo}
-use Rattle.jn_files.specs.Table.{address_of, head_in, IsHeadOf, AreHeads}
-use Rattle.jn_files.specs.Pages.{IsLoadable}
-use Rattle.jn_found.specs.Contents.{is_head_of}
-use Rattle.jn_found.specs.Held.{IsHeadStored, held_contents}
-use Rattle.jn_found.specs.Pages.{found_on, pages_by, root_by, epoch_by, listed, head_on, head_or_free, heads_on, IsOfFormat}
-use Rattle.jn_found.specs.Recoverable.{IsRecoverable, IsConsistent}
-use Rattle.jn_found.specs.Standing.{IsStanding}
+use Rattle.jn_recovery.proofs.Common.{◌≡◌, ⊎_elim, ◌<◌, ◌+◌, ℕ, zero, suc, true, false, if◌then◌else◌, List, [], length, get_or, refl, sym, ◌∙◌, ap, subst, arith, cases_lt, nat_tests, get_or_past, nat_lt, BlockNo, FileNo, ServerNo, address_of, head_in, IsHeadOf, AreHeads, IsLoadable, is_head_of, IsHeadStored, held_contents, found_on, pages_by, root_by, epoch_by, listed, head_on, head_or_free, heads_on, IsOfFormat, IsRecoverable, IsConsistent, IsStanding, Head, FreeHead, Used, Record, head_page, root_page, IsRoot, Counts, page_count, slot_place, head_place, root_is_read, slot_page, HoldsRecords, IsReadable, IsRecordPage, StoreView, IsClean, IsOnly, front_count}
 use Rattle.jn_found.proofs.PageChanges.{length-listed}
-use Rattle.jn_records.specs.declared.head.Head.{Head}
-use Rattle.jn_records.specs.declared.head.Head.TheVariants.{Free as FreeHead, Used}
-use Rattle.jn_records.specs.declared.record.Record.{Record}
-use Rattle.jn_records.specs.Heads.{head_page}
-use Rattle.jn_records.specs.Pages.{root_page, IsRoot}
-use Rattle.jn_records.specs.StablePages.{Counts, page_count, slot_place, head_place}
 use Rattle.jn_records.proofs.Heads.{head_is_read}
-use Rattle.jn_records.proofs.Roots.{root_is_read}
-use Rattle.jn_sets.specs.Pool.{slot_page, HoldsRecords, IsReadable, IsRecordPage}
-use Rattle.jn_store.specs.Store.{StoreView, IsClean, IsOnly}
-use Rattle.jn_recovery.specs.Loading.{front_count}
 use Rattle.jn_recovery.proofs.Bridge.{same_test, same_address}
 use Rattle.jn_recovery.proofs.Standing.{consistent, holds}
 

@@ -1,42 +1,9 @@
 -- Everything is counted: of what a recovery finds, and of what it keeps in memory.
-use Rattle.std.proofs.Common.{◌≡◌, inl, inr, ◌⊎◌, ⊎_elim, ◌<◌, ◌≤◌, ◌^◌, ℕ, zero, suc, Bool, true, false, not, ◌||◌, ◌&&◌, if◌then◌else◌, List, [], ◌∷◌, length, map, Option, Some, None, refl, sym, ◌∙◌, ap, subst, true≢false, arith}
-use Rattle.std.proofs.lemmas.Bool.{cases_lt}
-use Rattle.std.proofs.lemmas.Bool.Decides.{nat_tests}
-use Rattle.std.proofs.lemmas.List.{get_or_past}
+use Rattle.jn_recovery.proofs.Common.{◌≡◌, inl, inr, ◌⊎◌, ⊎_elim, ◌<◌, ◌≤◌, ◌^◌, ℕ, zero, suc, Bool, true, false, not, ◌||◌, ◌&&◌, if◌then◌else◌, List, [], ◌∷◌, length, map, Option, Some, None, refl, sym, ◌∙◌, ap, subst, true≢false, arith, cases_lt, nat_tests, get_or_past, sum_by-cons, All, nat_eq, nat_lt, count_by, option_map, find, list_any, list_all, ServerNo, Tid, WorkId, file_eq, work_eq, file_tells, work_tells, TableView, IsTable, file_of_head, is_held, Contents, state_in, files_in, with_first, intended, stored_list, intentions_from, intention_of, heads_name, IsConsistent, Intends, PassesOnce, FullIntention, StoredIntention, Record, Free, Intention, Ready, Going, FlagRecord, WorkState, intention_has_page, needs_a_head, is_put, is_put_intention, has_page, RecordFits, Counts, record_in, is_prepared, name_of, find_by, total, is_in, are_different, IsCounted, file_there, needed, list_of, intentions, Tells, but, is_in-but, different-but, total-but, collected, state_on, works_on, IsFew, address_in, names_page, all_needed, stored_work, Memory, accounts_of, held_in, next_in, next_by, stored_by, holds_page, rubbish_in, heads_needed}
 use Rattle.std.proofs.lemmas.List.Elements.{All-nil, All-cons}
-use Rattle.std.proofs.lemmas.List.Sums.{sum_by-cons}
-use Rattle.std.specs.Prelude.{All, nat_eq, nat_lt, count_by, option_map}
-use Rattle.std.specs.List.{find, list_any, list_all}
 use Rattle.jn_alloc.specs.Free.{free_count}
-use Rattle.jn_base.specs.declared.names.ServerNo.{ServerNo}
-use Rattle.jn_base.specs.declared.names.Tid.{Tid}
-use Rattle.jn_base.specs.declared.names.WorkId.{WorkId}
-use Rattle.jn_base.specs.Names.{file_eq, work_eq}
-use Rattle.jn_base.proofs.Tells.{file_tells, work_tells}
-use Rattle.jn_files.specs.Table.{TableView, IsTable, file_of_head, is_held}
-use Rattle.jn_found.specs.Contents.{Contents, state_in, files_in, with_first, intended, stored_list, intentions_from, intention_of, heads_name}
-use Rattle.jn_found.specs.Recoverable.{IsConsistent, Intends, PassesOnce}
-use Rattle.jn_records.specs.declared.intention.Intention.{Intention as FullIntention}
-use Rattle.jn_records.specs.declared.intention.StoredIntention.{StoredIntention}
 use Rattle.jn_records.specs.declared.intention.What.{What}
 use Rattle.jn_records.specs.declared.intention.What.TheVariants.{Fresh, Gone, Cut, Put}
-use Rattle.jn_records.specs.declared.record.Record.{Record}
-use Rattle.jn_records.specs.declared.record.Record.TheVariants.{Free, Intention, Ready, Going, Flag as FlagRecord}
-use Rattle.jn_records.specs.declared.work.WorkState.{WorkState}
-use Rattle.jn_records.specs.Intentions.{intention_has_page}
-use Rattle.jn_records.specs.NetLists.{needs_a_head, is_put, is_put_intention}
-use Rattle.jn_records.specs.Records.{has_page, RecordFits}
-use Rattle.jn_records.specs.StablePages.{Counts}
-use Rattle.jn_sets.specs.Pool.{record_in, is_prepared}
-use Rattle.jn_storage.specs.Calls.{name_of}
-use Rattle.jn_storage.specs.Finding.{find_by}
-use Rattle.jn_storage.specs.Listing.{total, is_in, are_different}
-use Rattle.jn_storage.specs.Storage.{IsCounted, file_there, needed, list_of, intentions}
-use Rattle.jn_storage.proofs.Listings.{Tells, but, is_in-but, different-but, total-but}
-use Rattle.jn_recovery.specs.Gathering.{collected, state_on, works_on, IsFew, address_in, names_page, all_needed}
-use Rattle.jn_recovery.specs.Matches.{stored_work}
-use Rattle.jn_recovery.specs.Memory.{Memory, accounts_of, held_in, next_in, next_by, stored_by, holds_page, rubbish_in}
-use Rattle.jn_recovery.specs.Pages.{heads_needed}
 use Rattle.jn_recovery.proofs.Counting.{one, is_of_work}
 use Rattle.jn_recovery.proofs.Keys.{on_key, keys_total, keys_same}
 use Rattle.jn_recovery.proofs.PoolCounted.{named, flagged, on_intention, counts_listed, works_match, prepared_for, IsPreparedAt, prepared_at, works_listed, flags_listed, tested_intentions, records_counted}

@@ -1,24 +1,5 @@
 -- How many records are intentions of a work, and how many are rubbish once it is removed.
-use Rattle.std.proofs.Common.{◌≡◌, ◌≢◌, ⊎_elim, ◌<◌, ◌≤◌, ◌+◌, ℕ, zero, suc, Bool, true, false, not, ◌&&◌, ◌||◌, if◌then◌else◌, List, [], ◌∷◌, length, Option, Some, None, get_or, refl, sym, ◌∙◌, ap, subst, true≢false, arith}
-use Rattle.std.proofs.lemmas.Bool.Decides.{nat_tests}
-use Rattle.std.proofs.lemmas.List.Folds.{find_at}
-use Rattle.std.proofs.lemmas.List.Sums.{sum_by-cons, sum_by-set}
-use Rattle.std.proofs.lemmas.Option.{slice_get_within, get_or_from_slice_get}
-use Rattle.std.specs.Prelude.{is_some, nat_eq, nat_lt, count_by, slice_set, option_and_then}
-use Rattle.std.specs.List.{find, list_any, position_or_len}
-use Rattle.jn_base.specs.declared.names.WorkId.{WorkId}
-use Rattle.jn_base.specs.Names.{work_eq}
-use Rattle.jn_base.proofs.Tells.{work_tells}
-use Rattle.jn_found.specs.Contents.{stored_in, intention_of, with_first, intentions_from}
-use Rattle.jn_found.specs.Recoverable.{PassesOnce, HasIntentions}
-use Rattle.jn_found.proofs.Found.{none_found, found_passes, any_same}
-use Rattle.jn_found.proofs.Slots.{at_set}
-use Rattle.jn_records.specs.declared.intention.StoredIntention.{StoredIntention}
-use Rattle.jn_records.specs.declared.record.Record.{Record}
-use Rattle.jn_records.specs.declared.record.Record.TheVariants.{Free, Intention, Ready, Going, Flag as FlagRecord}
-use Rattle.jn_sets.specs.Pool.{record_in, is_prepared, is_intention, is_rubbish}
-use Rattle.jn_storage.specs.Listing.{is_in}
-use Rattle.jn_recovery.specs.Memory.{rubbish_of, rubbish_in}
+use Rattle.jn_recovery.proofs.Common.{◌≡◌, ◌≢◌, ⊎_elim, ◌<◌, ◌≤◌, ◌+◌, ℕ, zero, suc, Bool, true, false, not, ◌&&◌, ◌||◌, if◌then◌else◌, List, [], ◌∷◌, length, Option, Some, None, get_or, refl, sym, ◌∙◌, ap, subst, true≢false, arith, nat_tests, find_at, sum_by-cons, sum_by-set, slice_get_within, get_or_from_slice_get, is_some, nat_eq, nat_lt, count_by, slice_set, option_and_then, find, list_any, position_or_len, WorkId, work_eq, work_tells, stored_in, intention_of, with_first, intentions_from, PassesOnce, HasIntentions, none_found, found_passes, any_same, at_set, StoredIntention, Record, Free, Intention, Ready, Going, FlagRecord, record_in, is_prepared, is_intention, is_rubbish, is_in, rubbish_of, rubbish_in}
 use Rattle.jn_recovery.proofs.Erasing.{rubbish_length, rubbish_fewer, in_both}
 use Rattle.jn_recovery.proofs.FlagCalls.{none_any}
 

@@ -1,16 +1,6 @@
 -- What a recovery leaves where it ends before there is a storage.
-use Rattle.std.proofs.Common.{◌≡◌, inl, ⊎_elim, ◌≤◌, ◌+◌, Result, Err, sym, ◌∙◌, ap, subst, arith}
-use Rattle.std.specs.Prelude.{IfErr}
-use Rattle.jn_base.specs.declared.names.ServerNo.{ServerNo}
-use Rattle.jn_found.specs.Pages.{found_on}
-use Rattle.jn_found.specs.Puts.{IsFewer}
-use Rattle.jn_found.specs.Recoverable.{IsRecoverable}
-use Rattle.jn_found.proofs.Picking.{fewer_picked, fewer_recoverable}
-use Rattle.jn_records.specs.StablePages.{Counts}
-use Rattle.jn_rows.specs.Stable.{StableState, Pick}
-use Rattle.jn_store.specs.Store.{StoreView, StoreLater, IsCalm, IsStop}
-use Rattle.jn_recovery.specs.Loading.{IsSameOrNext, most_calls, KeepsDataPages, Recovering, IsDown, IsUsedUp, IsNotUsedUp}
-use Rattle.jn_recovery.specs.declared.load.DownCause.TheVariants.{Stopped, Memory, EpochsUsedUp}
+use Rattle.jn_recovery.proofs.Common.{◌≡◌, inl, ⊎_elim, ◌≤◌, ◌+◌, Result, Err, sym, ◌∙◌, ap, subst, arith, IfErr, ServerNo, found_on, IsFewer, IsRecoverable, fewer_picked, fewer_recoverable, Counts, StableState, Pick, StoreView, StoreLater, IsCalm, IsStop, IsSameOrNext, most_calls, KeepsDataPages, Recovering, IsDown, IsUsedUp, IsNotUsedUp, Stopped, EpochsUsedUp}
+use Rattle.jn_recovery.specs.declared.load.DownCause.TheVariants.{Memory}
 
 same_or_next : (x y : StableState) → y ≡ x → IsSameOrNext x y
 same_or_next x y e = record { same = e ∙ ap (λ k. record x { epoch = k }) (sym (ap (λ (z : StableState). z.epoch) e)); epoch = inl (ap (λ (z : StableState). z.epoch) e) }

@@ -1,32 +1,8 @@
 -- A record that counts for nothing is erased.
-use Rattle.std.proofs.Common.{◌≡◌, ◌⊎◌, inl, inr, ⊎_elim, ◌<◌, ◌+◌, ℕ, zero, suc, Bool, true, false, not, ◌&&◌, ◌||◌, if◌then◌else◌, List, [], ◌∷◌, ◌++◌, length, Option, Some, None, refl, sym, ◌∙◌, ap, subst, true≢false, arith, length-append}
-use Rattle.std.proofs.lemmas.List.Sums.{sum_by-set, sum_by-cons}
-use Rattle.std.specs.Prelude.{is_ok, IfOk, Result, Ok, Err, nat_eq, position, slice_set, count_by}
-use Rattle.std.specs.List.{list_any}
+use Rattle.jn_recovery.proofs.Common.{◌≡◌, ◌⊎◌, inl, inr, ⊎_elim, ◌<◌, ◌+◌, ℕ, zero, suc, Bool, true, false, not, ◌||◌, if◌then◌else◌, List, [], ◌∷◌, ◌++◌, length, Option, Some, None, refl, sym, ◌∙◌, ap, subst, true≢false, arith, length-append, sum_by-set, sum_by-cons, is_ok, IfOk, Result, Ok, Err, nat_eq, position, slice_set, count_by, list_any, Tid, WorkId, work_eq, IsIdlePut, holds_address, found_on, RecordPut, IsRecoverable, MakesNothing, idles, StoredIntention, Record, Free, Intention, Ready, Going, FlagRecord, record_page, record_in, slot_page, is_free, is_prepared, is_flag, is_rubbish, Puts, is_in, IsServing, state, Called, RecordErased, CountsErased, StoreView, Memory, accounts_of, view_of, rubbish_of, rubbish_in, Matches, IsKeptMemory}
+use Rattle.std.proofs.Common.{◌&&◌}
 use Rattle.jn_base.specs.declared.device.Stopped.{Stopped}
-use Rattle.jn_base.specs.declared.names.Tid.{Tid}
-use Rattle.jn_base.specs.declared.names.WorkId.{WorkId}
-use Rattle.jn_base.specs.Names.{work_eq}
-use Rattle.jn_found.specs.Changes.{IsIdlePut}
-use Rattle.jn_found.specs.Contents.{holds_address}
-use Rattle.jn_found.specs.Pages.{found_on}
-use Rattle.jn_found.specs.Puts.{RecordPut}
-use Rattle.jn_found.specs.Recoverable.{IsRecoverable}
-use Rattle.jn_found.specs.Standing.{MakesNothing}
-use Rattle.jn_found.proofs.CallLaws.{idles}
-use Rattle.jn_records.specs.declared.intention.StoredIntention.{StoredIntention}
-use Rattle.jn_records.specs.declared.record.Record.{Record}
-use Rattle.jn_records.specs.declared.record.Record.TheVariants.{Free, Intention, Ready, Going, Flag as FlagRecord}
-use Rattle.jn_records.specs.Records.{record_page}
-use Rattle.jn_sets.specs.Pool.{record_in, slot_page, is_free, is_prepared, is_flag, is_rubbish}
-use Rattle.jn_sets.specs.Sets.{Puts}
-use Rattle.jn_storage.specs.Listing.{is_in}
-use Rattle.jn_storage.specs.Storage.{IsServing}
-use Rattle.jn_storage.specs.Calls.{state, Called, RecordErased, CountsErased}
 use Rattle.jn_storage.proofs.Laws.{called_not}
-use Rattle.jn_store.specs.Store.{StoreView}
-use Rattle.jn_recovery.specs.Memory.{Memory, accounts_of, view_of, rubbish_of, rubbish_in}
-use Rattle.jn_recovery.specs.Matches.{Matches, IsKeptMemory}
 use Rattle.jn_recovery.proofs.FlagCalls.{none_any, free_record}
 use Rattle.jn_recovery.proofs.Pool.{position_at, none_position, step_of, free_less, names_kept, rubbish_moves, idle_works, flags_stay}
 use Rattle.jn_recovery.proofs.Serving.{serves_of, serving_by, called_put}

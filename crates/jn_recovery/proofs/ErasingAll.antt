@@ -1,25 +1,6 @@
 -- Rubbish is erased, record by record.
-use Rattle.std.proofs.Common.{◌≡◌, ⊎_elim, ◌<◌, ◌≤◌, ◌+◌, ℕ, Bool, true, false, List, [], ◌∷◌, length, Option, Some, None, Result, Ok, Err, refl, sym, ◌∙◌, ap, subst, true≢false, arith}
-use Rattle.std.proofs.lemmas.Bool.{cases_eq}
-use Rattle.std.proofs.lemmas.List.Sums.{count_by-le-length}
-use Rattle.std.specs.Prelude.{is_ok, IfOk, OnErr, position, slice_set}
+use Rattle.jn_recovery.proofs.Common.{◌≡◌, ⊎_elim, ◌<◌, ◌≤◌, ◌+◌, ℕ, Bool, true, false, List, [], ◌∷◌, length, Option, Some, None, Result, Ok, Err, refl, sym, ◌∙◌, ap, subst, true≢false, arith, cases_eq, count_by-le-length, is_ok, IfOk, OnErr, position, slice_set, ServerNo, WorkId, RecordPut, IsStanding, MakesNothing, standing_state, idles, Head, Record, Free, Counts, data_place, slot_page, is_rubbish, Puts, StoreView, IsClean, later_refl, later_trans, same_refl, same_trans, only_clean, stop_since, KeepsDataPages, rubbish_in, Erases, EraseStopped, ErasesAll}
 use Rattle.jn_base.specs.declared.device.Stopped.{Stopped}
-use Rattle.jn_base.specs.declared.names.ServerNo.{ServerNo}
-use Rattle.jn_base.specs.declared.names.WorkId.{WorkId}
-use Rattle.jn_found.specs.Puts.{RecordPut}
-use Rattle.jn_found.specs.Standing.{IsStanding, MakesNothing, standing_state}
-use Rattle.jn_found.proofs.CallLaws.{idles}
-use Rattle.jn_records.specs.declared.head.Head.{Head}
-use Rattle.jn_records.specs.declared.record.Record.{Record}
-use Rattle.jn_records.specs.declared.record.Record.TheVariants.{Free}
-use Rattle.jn_records.specs.StablePages.{Counts, data_place}
-use Rattle.jn_sets.specs.Pool.{slot_page, is_rubbish}
-use Rattle.jn_sets.specs.Sets.{Puts}
-use Rattle.jn_store.specs.Store.{StoreView, IsClean}
-use Rattle.jn_store.proofs.Laws.{later_refl, later_trans, same_refl, same_trans, only_clean, stop_since}
-use Rattle.jn_recovery.specs.Loading.{KeepsDataPages}
-use Rattle.jn_recovery.specs.Memory.{rubbish_in}
-use Rattle.jn_recovery.specs.Opening.{Erases, EraseStopped, ErasesAll}
 use Rattle.jn_recovery.proofs.Erasing.{rubbish_length, no_rubbish, rubbish_there, rubbish_idle, rubbish_less}
 use Rattle.jn_recovery.proofs.FlagCalls.{none_any, free_record}
 use Rattle.jn_recovery.proofs.Pool.{none_position, step_of}

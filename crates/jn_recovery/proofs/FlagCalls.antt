@@ -1,36 +1,6 @@
 -- A flag is put and dropped, each by one put of its record.
-use Rattle.std.proofs.Common.{◌≡◌, ◌≢◌, ⊎_elim, ◌<◌, ◌≤◌, ◌+◌, ◌-◌, ℕ, suc, Bool, true, false, not, ◌||◌, if◌then◌else◌, List, [], ◌∷◌, ◌++◌, map, Option, Some, None, refl, sym, ◌∙◌, ap, subst, true≢false, arith}
-use Rattle.std.proofs.lemmas.List.Folds.{find_past}
-use Rattle.std.specs.Prelude.{Ok, MatchOption, is_some, filter, position, slice_set, slice_index_or, option_map, option_and_then}
-use Rattle.std.specs.List.{find, list_any, AllByRecursion}
-use Rattle.std.proofs.lemmas.Bool.Decides.{nat_tests}
-use Rattle.jn_base.specs.declared.names.Tid.{Tid}
-use Rattle.jn_base.specs.Names.{tid_eq}
-use Rattle.jn_base.proofs.Tells.{tid_tells}
-use Rattle.jn_found.specs.Changes.{IsFlagSlot, IsFlagPut}
-use Rattle.jn_found.specs.Contents.{flag_by, flags_in}
-use Rattle.jn_found.specs.Puts.{RecordPut}
-use Rattle.jn_found.specs.Recoverable.{IsRecoverable}
-use Rattle.jn_found.specs.Standing.{Makes}
-use Rattle.jn_found.proofs.CallLaws.{flags as flags_put, drops}
-use Rattle.jn_found.proofs.Found.{found_written, none_at}
-use Rattle.jn_records.specs.declared.flag.Flag.{Flag}
-use Rattle.jn_records.specs.declared.record.Record.{Record}
-use Rattle.jn_records.specs.declared.record.Record.TheVariants.{Free, Intention, Ready, Going, Flag as FlagRecord}
-use Rattle.jn_records.specs.Records.{record_page, FlagFits}
-use Rattle.jn_found.specs.Pages.{found_on}
-use Rattle.jn_rows.specs.Stable.{StableState, Changed, AddFlag, DropFlag, made_by, flag_state}
-use Rattle.jn_sets.specs.Pool.{IsRecord, record_in, slot_page, is_free, free_count, is_flag}
-use Rattle.jn_sets.specs.Sets.{Puts}
+use Rattle.jn_recovery.proofs.Common.{◌≡◌, ◌≢◌, ⊎_elim, ◌<◌, ◌≤◌, ◌+◌, ◌-◌, ℕ, suc, Bool, true, false, not, ◌||◌, if◌then◌else◌, List, [], ◌∷◌, ◌++◌, map, Option, Some, None, refl, sym, ◌∙◌, ap, subst, true≢false, arith, find_past, Ok, MatchOption, is_some, filter, position, slice_set, slice_index_or, option_map, option_and_then, find, list_any, AllByRecursion, nat_tests, Tid, tid_eq, tid_tells, IsFlagSlot, IsFlagPut, flag_by, flags_in, RecordPut, IsRecoverable, Makes, flags_put, drops, found_written, none_at, Flag, Record, Free, Intention, Ready, Going, FlagRecord, record_page, FlagFits, found_on, StableState, Changed, AddFlag, DropFlag, made_by, flag_state, IsRecord, record_in, slot_page, is_free, free_count, is_flag, Puts, are_different, IsServing, state, tid_of, HasFlag, MayPutFlag, FlagPut, FlagDropped, FlagPromised, PromiseReleased, TellsFlags, find_by, find-kept, find-add, find-at, find-listed, keys-kept, different-kept, different-add, map-add, StoreView, Memory, accounts_of, view_of, rubbish_in, Matches, IsKeptMemory, FlagsMatch, flag_on}
 use Rattle.jn_sets.proofs.Slots.{none_counted}
-use Rattle.jn_storage.specs.Listing.{are_different}
-use Rattle.jn_storage.specs.Storage.{IsServing}
-use Rattle.jn_storage.specs.Calls.{state, tid_of, HasFlag, MayPutFlag, FlagPut, FlagDropped, FlagPromised, PromiseReleased, TellsFlags}
-use Rattle.jn_storage.specs.Finding.{find_by}
-use Rattle.jn_storage.proofs.Finds.{find-kept, find-add, find-at, find-listed, keys-kept, different-kept, different-add, map-add}
-use Rattle.jn_store.specs.Store.{StoreView}
-use Rattle.jn_recovery.specs.Memory.{Memory, accounts_of, view_of, rubbish_in}
-use Rattle.jn_recovery.specs.Matches.{Matches, IsKeptMemory, FlagsMatch, flag_on}
 use Rattle.jn_recovery.proofs.FlagStates.{with_flag_less, with_flag_more, serves_dropped, serves_flagged, serves_promised}
 use Rattle.jn_recovery.proofs.Pool.{position_at, none_position, step_of, free_less, free_more, IsOfNoWork, free_no_work, flag_no_work, flag_is, free_is, rubbish_stays, names_stay, match_stays}
 use Rattle.jn_recovery.proofs.Serving.{Serves, serves_of, serving_by, may_load, called_put}

@@ -1,17 +1,5 @@
 -- A storage serves on with one flag more or less, and with another count of promises.
-use Rattle.std.proofs.Common.{◌≡◌, ◌<◌, ◌≤◌, ◌+◌, ◌-◌, ℕ, Bool, true, List, [], ◌∷◌, length, None, refl, ◌∙◌, ap, arith}
-use Rattle.std.specs.Prelude.{is_some}
-use Rattle.jn_base.specs.declared.names.Tid.{Tid}
-use Rattle.jn_base.specs.Names.{tid_eq}
-use Rattle.jn_base.proofs.Tells.{tid_tells}
-use Rattle.jn_records.specs.declared.flag.Flag.{Flag}
-use Rattle.jn_rows.specs.Stable.{StableState, AddFlag, DropFlag, made_by}
-use Rattle.jn_storage.specs.Listing.{is_in, are_different, total, AtMost}
-use Rattle.jn_storage.specs.Orderly.{IsGiven}
-use Rattle.jn_storage.specs.Storage.{Accounts}
-use Rattle.jn_storage.specs.Calls.{with_promises}
-use Rattle.jn_storage.proofs.Kept.{orderly-put, orderly-dropped}
-use Rattle.jn_storage.proofs.Listings.{Tells, but, listing-less, listing-more, total-but}
+use Rattle.jn_recovery.proofs.Common.{◌≡◌, ◌<◌, ◌≤◌, ◌+◌, ◌-◌, ℕ, Bool, true, List, [], ◌∷◌, length, None, refl, ◌∙◌, ap, arith, is_some, Tid, tid_eq, tid_tells, Flag, StableState, AddFlag, DropFlag, made_by, is_in, are_different, total, AtMost, IsGiven, Accounts, with_promises, orderly-put, orderly-dropped, Tells, but, listing-less, listing-more, total-but}
 use Rattle.jn_recovery.proofs.Serving.{Serves}
 
 -- one key less

@@ -1,19 +1,5 @@
 -- What is collected of the records, one after another.
-use Rattle.std.proofs.Common.{◌≡◌, ◌≢◌, ⊎_elim, ◌<◌, ◌+◌, ◌-◌, ℕ, zero, suc, Bool, true, false, ◌||◌, List, [], ◌∷◌, ◌++◌, length, take, get_or, Some, None, refl, sym, ◌∙◌, ap, subst, arith}
-use Rattle.std.proofs.lemmas.Bool.{cases_eq}
-use Rattle.std.proofs.lemmas.Bool.Decides.{nat_tests}
-use Rattle.std.specs.Prelude.{nat_eq, position, option_and_then}
-use Rattle.std.specs.List.{list_any}
-use Rattle.std.proofs.lemmas.List.{get_or-set_same, get_or-set_other, length-set}
-use Rattle.jn_files.specs.Table.{TableView, is_held}
-use Rattle.jn_files.specs.Calls.{with_held}
-use Rattle.jn_base.specs.declared.names.WorkId.{WorkId}
-use Rattle.jn_found.specs.Contents.{with_first, stored_in, intention_of, intentions_from}
-use Rattle.jn_records.specs.declared.record.Record.{Record}
-use Rattle.jn_records.specs.declared.record.Record.TheVariants.{Free}
-use Rattle.jn_records.specs.declared.intention.StoredIntention.{StoredIntention}
-use Rattle.jn_sets.specs.Pool.{record_in, is_intention}
-use Rattle.jn_recovery.specs.Gathering.{address_in, names_page, MayHold, HoldsNamed}
+use Rattle.jn_recovery.proofs.Common.{◌≡◌, ◌≢◌, ⊎_elim, ◌<◌, ◌+◌, ◌-◌, ℕ, zero, suc, Bool, true, false, ◌||◌, List, [], ◌∷◌, ◌++◌, length, take, get_or, Some, None, refl, sym, ◌∙◌, ap, subst, arith, cases_eq, nat_tests, nat_eq, position, option_and_then, list_any, get_or-set_same, get_or-set_other, length-set, TableView, is_held, with_held, WorkId, with_first, stored_in, intention_of, intentions_from, Record, Free, StoredIntention, record_in, is_intention, address_in, names_page, MayHold, HoldsNamed}
 use Rattle.jn_recovery.proofs.Pool.{position_at, none_position}
 
 -- ---- the intentions of a work

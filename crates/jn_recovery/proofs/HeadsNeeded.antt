@@ -1,15 +1,5 @@
 -- The heads that a list needs, counted of its intentions as they are stored.
-use Rattle.std.proofs.Common.{◌≡◌, ◌&&◌, ℕ, Bool, not, if◌then◌else◌, List, [], ◌∷◌, map, refl, sym, ap, arith}
-use Rattle.std.proofs.lemmas.List.Sums.{sum_by-cons}
-use Rattle.std.specs.Prelude.{count_by}
-use Rattle.jn_base.specs.declared.names.FileNo.{FileNo}
-use Rattle.jn_files.specs.Table.{exists}
-use Rattle.jn_found.specs.Contents.{intended}
-use Rattle.jn_records.specs.declared.head.Head.{Head}
-use Rattle.jn_records.specs.declared.intention.Intention.{Intention as FullIntention}
-use Rattle.jn_records.specs.declared.intention.StoredIntention.{StoredIntention}
-use Rattle.jn_records.specs.NetLists.{is_fresh, needs_a_head}
-use Rattle.jn_recovery.specs.Pages.{heads_needed}
+use Rattle.jn_recovery.proofs.Common.{◌≡◌, ◌&&◌, ℕ, Bool, not, if◌then◌else◌, List, [], ◌∷◌, map, refl, sym, ap, arith, sum_by-cons, count_by, FileNo, exists, intended, Head, FullIntention, StoredIntention, is_fresh, needs_a_head, heads_needed}
 
 pub heads_are : (blocks : ℕ → List ℕ) (heads : List Head) (there : FileNo → Bool) → ((f : FileNo) → exists heads f ≡ there f) → (list : List StoredIntention)
     → count_by (λ (i : FullIntention). needs_a_head (there i.file) i) (map (intended blocks) list) ≡ heads_needed heads list

@@ -1,13 +1,5 @@
 -- What is collected of a list, by its keys.
-use Rattle.std.proofs.Common.{◌≡◌, ⊎_elim, ◌+◌, ℕ, Bool, true, false, not, ◌||◌, ◌&&◌, if◌then◌else◌, List, [], ◌∷◌, length, map, get_or, Option, Some, None, refl, sym, ◌∙◌, ap, true≢false, arith}
-use Rattle.std.specs.Prelude.{option_map, option_and_then}
-use Rattle.std.specs.List.{find, list_any}
-use Rattle.jn_found.specs.Contents.{with_first}
-use Rattle.jn_found.specs.Recoverable.{PassesOnce}
-use Rattle.jn_storage.specs.Finding.{find_by}
-use Rattle.jn_storage.specs.Listing.{total, is_in, are_different}
-use Rattle.jn_storage.proofs.Listings.{Tells}
-use Rattle.jn_recovery.specs.Gathering.{collected}
+use Rattle.jn_recovery.proofs.Common.{◌≡◌, ⊎_elim, ◌+◌, ℕ, Bool, true, false, not, ◌||◌, ◌&&◌, if◌then◌else◌, List, [], ◌∷◌, length, map, get_or, Option, Some, None, refl, sym, ◌∙◌, ap, true≢false, arith, option_map, option_and_then, find, list_any, with_first, PassesOnce, find_by, total, is_in, are_different, Tells, collected}
 use Rattle.jn_recovery.proofs.Totals.{total_same, total_ones, none_later, once_later}
 
 abbrev pub is_key : {K : Type 0} → (K → K → Bool) → K → Option K → Bool

@@ -1,3 +1,4 @@
+mod Common
 pub mod Bridge
 pub mod Standing
 pub mod Serving

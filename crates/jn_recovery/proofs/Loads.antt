@@ -1,38 +1,9 @@
 -- What a recovery keeps in memory is what stands on the pages, and the storage serves.
-use Rattle.std.proofs.Common.{◌≡◌, inr, ◌<◌, ◌≤◌, ◌+◌, ℕ, suc, true, false, List, [], Option, Some, None, get_or, refl, sym, ◌∙◌, ap, subst, arith}
-use Rattle.std.proofs.lemmas.List.Sums.{count_by-le-length}
-use Rattle.std.specs.Prelude.{is_some}
-use Rattle.std.specs.List.{list_any}
-use Rattle.jn_base.specs.declared.names.ServerNo.{ServerNo}
-use Rattle.jn_base.specs.declared.names.Tid.{Tid}
-use Rattle.jn_base.specs.declared.names.WorkId.{WorkId}
-use Rattle.jn_base.specs.Names.{work_eq}
-use Rattle.jn_files.specs.Table.{TableView, IsTable, is_held, is_touched}
-use Rattle.jn_found.specs.Contents.{state_in}
-use Rattle.jn_found.specs.Held.{held_contents}
-use Rattle.jn_found.specs.Pages.{found_on, pages_by, block_on}
-use Rattle.jn_found.specs.Recoverable.{IsConsistent, IsRecoverable}
-use Rattle.jn_records.specs.declared.head.Head.{Head}
-use Rattle.jn_records.specs.declared.record.Record.{Record}
-use Rattle.jn_records.specs.declared.root.Root.{Root}
-use Rattle.jn_records.specs.declared.work.WorkState.{WorkState}
-use Rattle.jn_records.specs.StablePages.{Counts, slot_place, head_place}
-use Rattle.jn_rows.specs.Stable.{StableState}
-use Rattle.jn_sets.specs.Pool.{record_in}
-use Rattle.jn_storage.specs.Storage.{IsServing, IsLoadable}
-use Rattle.jn_storage.specs.Calls.{state, TellsFlags, name_of}
-use Rattle.jn_storage.specs.Finding.{find_by}
-use Rattle.jn_store.specs.Store.{StoreView}
-use Rattle.jn_recovery.specs.Gathering.{works_on, flags_on, names_page, address_in, all_needed, MayHold, MayPromise, IsGathered}
+use Rattle.jn_recovery.proofs.Common.{◌≡◌, inr, ◌<◌, ◌≤◌, ◌+◌, ℕ, suc, true, false, List, [], Option, Some, None, get_or, refl, sym, ◌∙◌, ap, subst, arith, count_by-le-length, is_some, list_any, ServerNo, Tid, WorkId, work_eq, TableView, IsTable, is_held, is_touched, state_in, held_contents, found_on, pages_by, block_on, IsConsistent, IsRecoverable, Head, Record, Root, WorkState, Counts, slot_place, head_place, StableState, record_in, IsServing, state, TellsFlags, name_of, find_by, StoreView, works_on, flags_on, names_page, address_in, all_needed, MayHold, MayPromise, IsGathered, IsLoaded, IsDown, IsUntouched, Recovering, most_calls, Matches, IsMade, Memory, accounts_of, view_of, next_by, rubbish_in, Stands, IsBegun, NoMemory, Opened}
+use Rattle.jn_storage.specs.Storage.{IsLoadable}
 use Rattle.jn_recovery.specs.Kept.{memory_kept}
-use Rattle.jn_recovery.specs.Loading.{IsLoaded, IsDown, IsUntouched, Recovering, most_calls}
-use Rattle.jn_recovery.specs.Matches.{Matches, IsMade}
-use Rattle.jn_recovery.specs.Memory.{Memory, accounts_of, view_of, next_by, rubbish_in}
-use Rattle.jn_recovery.specs.Opening.{Stands, IsBegun}
 use Rattle.jn_recovery.specs.declared.gathering.Kept.{Kept as KeptParts}
-use Rattle.jn_recovery.specs.declared.load.DownCause.TheVariants.{Memory as NoMemory}
 use Rattle.jn_recovery.specs.declared.load.Found.{Found}
-use Rattle.jn_recovery.specs.declared.opening.Opened.{Opened}
 use Rattle.jn_recovery.proofs.Begins.{same_or_next_at}
 use Rattle.jn_recovery.proofs.Counted.{pages_fit, pages_once, lists_few, heads_fit, counted, none_next, holds_fit}
 use Rattle.jn_recovery.proofs.Downs.{recovering_by, memory_down}

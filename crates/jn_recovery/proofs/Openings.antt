@@ -1,40 +1,11 @@
 -- A store is cleaned and read.
-use Rattle.std.proofs.Common.{◌≡◌, ◌≢◌, inr, ◌<◌, ◌≤◌, ◌+◌, ◌*◌, ℕ, Bool, true, false, if◌then◌else◌, List, [], length, Result, Ok, Err, refl, sym, ◌∙◌, ap, subst, true≢false, arith}
-use Rattle.std.proofs.lemmas.Bool.Decides.{nat_tests}
-use Rattle.std.specs.Prelude.{nat_lt}
-use Rattle.jn_base.specs.declared.names.ServerNo.{ServerNo}
+use Rattle.jn_recovery.proofs.Common.{◌≡◌, ◌≢◌, inr, ◌<◌, ◌≤◌, ◌+◌, ◌*◌, ℕ, Bool, true, false, if◌then◌else◌, List, [], length, Result, Ok, Err, refl, sym, ◌∙◌, ap, subst, true≢false, arith, nat_tests, nat_lt, ServerNo, TableView, IsTableLoaded, TableRead, IsLoadable, same_only, root_page, IsRoot, IsReadable, HoldsRecords, SetsRead, found_on, root_by, epoch_by, heads_on, half_of, pages_by, IsFewer, IsRecoverable, IsStanding, fewer_trans, fewer_picked, fewer_recoverable, Head, Record, Root, counts_of, Counts, data_place, root_is_read, StableState, Pick, StoreView, StoreLater, IsSamePage, IsCalm, IsStop, IsServed, IsOnly, later_trans, same_shrinks, same_trans, stop_since, of_sets, of_table, Recovering, IsDown, IsNotUsedUp, front_count, reading_calls, most_calls, IsRead, Stands, RootRead, IsOpened, Cleans, Opened, Stopped, EpochsUsedUp}
 use Rattle.jn_files.specs.declared.fault.LoadFault.{LoadFault as TableFault}
 use Rattle.jn_files.specs.declared.fault.LoadFault.TheVariants.{Stopped as TableStopped, Memory as TableMemory}
-use Rattle.jn_files.specs.Table.{TableView}
-use Rattle.jn_files.specs.Calls.{IsLoaded as IsTableLoaded, StoreRead as TableRead}
-use Rattle.jn_files.specs.Pages.{IsLoadable}
-use Rattle.jn_files.proofs.Putting.{same_only}
-use Rattle.jn_records.specs.Pages.{root_page, IsRoot}
-use Rattle.jn_sets.specs.Pool.{IsReadable, HoldsRecords}
-use Rattle.jn_sets.specs.Sets.{StoreRead as SetsRead}
-use Rattle.jn_found.specs.Pages.{found_on, root_by, epoch_by, heads_on, half_of, pages_by}
-use Rattle.jn_found.specs.Puts.{IsFewer}
-use Rattle.jn_found.specs.Recoverable.{IsRecoverable}
-use Rattle.jn_found.specs.Standing.{IsStanding}
-use Rattle.jn_found.proofs.HeldLaws.{fewer_trans}
-use Rattle.jn_found.proofs.Picking.{fewer_picked, fewer_recoverable}
-use Rattle.jn_records.specs.declared.head.Head.{Head}
-use Rattle.jn_records.specs.declared.record.Record.{Record}
-use Rattle.jn_records.specs.declared.root.Root.{Root}
-use Rattle.jn_records.specs.StablePages.{counts_of, Counts, data_place}
-use Rattle.jn_records.proofs.Roots.{root_is_read}
-use Rattle.jn_rows.specs.Stable.{StableState, Pick}
 use Rattle.jn_sets.specs.declared.fault.LoadFault.{LoadFault as SetsFault}
 use Rattle.jn_sets.specs.declared.fault.LoadFault.TheVariants.{Stopped as SetsStopped, Memory as SetsMemory}
-use Rattle.jn_store.specs.Store.{StoreView, StoreLater, IsSamePage, IsCalm, IsStop, IsServed, IsOnly}
-use Rattle.jn_store.proofs.Laws.{later_trans, same_shrinks, same_trans, stop_since}
-use Rattle.jn_recovery.specs.Causes.{of_sets, of_table}
-use Rattle.jn_recovery.specs.Loading.{Recovering, IsDown, IsNotUsedUp, front_count, reading_calls, most_calls}
-use Rattle.jn_recovery.specs.Opening.{IsRead, Stands, RootRead, IsOpened}
-use Rattle.jn_recovery.specs.Cleaning.{Cleans}
 use Rattle.jn_recovery.specs.declared.load.DownCause.{DownCause}
-use Rattle.jn_recovery.specs.declared.opening.Opened.{Opened}
-use Rattle.jn_recovery.specs.declared.load.DownCause.TheVariants.{Stopped, Memory, EpochsUsedUp}
+use Rattle.jn_recovery.specs.declared.load.DownCause.TheVariants.{Memory}
 use Rattle.jn_recovery.proofs.CleanStore.{root_epoch, root_is, root_only, root_found, slots_readable, standing, loadable}
 use Rattle.jn_recovery.proofs.Downs.{recovering_fewer, stopped_down, memory_down, used_down}
 use Rattle.jn_recovery.proofs.Standing.{up, finds, standing_same}

@@ -1,31 +1,6 @@
 -- One record of the pool gives way to another.
-use Rattle.std.proofs.Common.{◌≡◌, ◌<◌, ◌+◌, ℕ, zero, suc, Bool, true, false, if◌then◌else◌, List, [], ◌∷◌, ◌++◌, length, Option, Some, None, get_or, refl, sym, ◌∙◌, ap, subst, true≢false, arith}
-use Rattle.std.proofs.Math.Path.{fun_ext}
-use Rattle.std.proofs.lemmas.Bool.Decides.{nat_tests}
-use Rattle.std.proofs.lemmas.List.Folds.{find_at, find_past}
-use Rattle.std.proofs.lemmas.List.Sums.{passes_at_first, sum_by-set}
-use Rattle.std.proofs.lemmas.Option.{slice_get_past, slice_get-get_or}
-use Rattle.std.specs.Prelude.{nat_eq, ◌&&◌, nat_lt, position, slice_set, option_and_then}
-use Rattle.std.specs.List.{position_or_len, find, list_any}
-use Rattle.jn_base.specs.declared.names.ServerNo.{ServerNo}
-use Rattle.jn_base.specs.declared.names.Tid.{Tid}
-use Rattle.jn_base.specs.declared.names.WorkId.{WorkId}
-use Rattle.jn_found.specs.Contents.{holds_address, works_name, stored_list}
-use Rattle.jn_found.specs.Puts.{RecordPut}
-use Rattle.jn_found.specs.Standing.{IsPutStep}
-use Rattle.jn_found.specs.Changes.{IsIdlePut}
-use Rattle.jn_found.proofs.Found.{any_same, none_passes}
+use Rattle.jn_recovery.proofs.Common.{◌≡◌, ◌<◌, ◌+◌, ℕ, zero, suc, Bool, true, false, if◌then◌else◌, List, [], ◌∷◌, ◌++◌, length, Option, Some, None, get_or, refl, sym, ◌∙◌, ap, subst, true≢false, arith, fun_ext, nat_tests, find_at, find_past, passes_at_first, sum_by-set, slice_get_past, slice_get-get_or, nat_eq, ◌&&◌, nat_lt, position, slice_set, option_and_then, position_or_len, find, list_any, ServerNo, Tid, WorkId, holds_address, works_name, stored_list, RecordPut, IsPutStep, IsIdlePut, any_same, none_passes, Flag, Record, Free, Intention, Ready, Going, FlagRecord, WorkState, record_page, Counts, IsRecord, record_in, slot_page, is_free, free_count, is_prepared, is_intention, is_flag, StoreView, StorePut, rubbish_of, rubbish_in, WorksMatch, FlagsMatch, work_by, flag_on}
 use Rattle.jn_found.proofs.PoolLemmas.{intentions_kept, idle_kept, idle_list}
-use Rattle.jn_records.specs.declared.flag.Flag.{Flag}
-use Rattle.jn_records.specs.declared.record.Record.{Record}
-use Rattle.jn_records.specs.declared.record.Record.TheVariants.{Free, Intention, Ready, Going, Flag as FlagRecord}
-use Rattle.jn_records.specs.declared.work.WorkState.{WorkState}
-use Rattle.jn_records.specs.Records.{record_page}
-use Rattle.jn_records.specs.StablePages.{Counts}
-use Rattle.jn_sets.specs.Pool.{IsRecord, record_in, slot_page, is_free, free_count, is_prepared, is_intention, is_flag}
-use Rattle.jn_store.specs.Store.{StoreView, StorePut}
-use Rattle.jn_recovery.specs.Memory.{rubbish_of, rubbish_in}
-use Rattle.jn_recovery.specs.Matches.{WorksMatch, FlagsMatch, work_by, flag_on}
 
 -- ---- the first that passes
 

@@ -1,32 +1,5 @@
 -- What is counted of the pool: its works, its flags and their records.
-use Rattle.std.proofs.Common.{◌≡◌, ◌<◌, ◌≤◌, ◌+◌, ℕ, zero, suc, Bool, true, false, not, ◌||◌, ◌&&◌, if◌then◌else◌, List, [], ◌∷◌, length, map, get_or, Option, Some, None, refl, sym, ◌∙◌, ap, subst, true≢false, arith}
-use Rattle.std.proofs.lemmas.Bool.Decides.{nat_tests}
-use Rattle.std.proofs.lemmas.List.{length-map}
-use Rattle.std.proofs.lemmas.List.Sums.{sum_by-cons}
-use Rattle.std.specs.Prelude.{nat_eq, nat_lt, nat_le, is_some, count_by, option_map, option_and_then}
-use Rattle.std.specs.List.{find, list_any}
-use Rattle.jn_base.specs.declared.names.Tid.{Tid}
-use Rattle.jn_base.specs.declared.names.ServerNo.{ServerNo}
-use Rattle.jn_base.specs.declared.names.WorkId.{WorkId}
-use Rattle.jn_base.specs.Names.{tid_eq, work_eq}
-use Rattle.jn_base.proofs.Tells.{tid_tells, work_tells}
-use Rattle.jn_found.specs.Contents.{Contents, state_in, stored_in, stored_list, intention_of, intentions_from, with_first, intended, prepared_by, flag_by, holds_address, works_name}
-use Rattle.jn_found.specs.Recoverable.{IsConsistent, HasIntentions, IsCompleteBy, PassesOnce}
-use Rattle.jn_found.proofs.Found.{found_once, found_passes, found_any, none_at}
-use Rattle.jn_found.proofs.Slots.{passes_at}
-use Rattle.jn_records.specs.declared.intention.StoredIntention.{StoredIntention}
-use Rattle.jn_records.specs.declared.record.Record.{Record}
-use Rattle.jn_records.specs.declared.record.Record.TheVariants.{Free, Intention, Ready, Going, Flag as FlagRecord}
-use Rattle.jn_records.specs.declared.work.WorkState.{WorkState}
-use Rattle.jn_records.specs.StablePages.{Counts}
-use Rattle.jn_sets.specs.Pool.{record_in, is_free, free_count, is_prepared, is_intention, is_flag, is_rubbish}
-use Rattle.jn_storage.specs.Calls.{name_of, tid_of}
-use Rattle.jn_storage.specs.Finding.{find_by}
-use Rattle.jn_storage.specs.Listing.{total, are_different, IsListing}
-use Rattle.jn_storage.specs.Storage.{intentions, list_of}
-use Rattle.jn_recovery.specs.Gathering.{collected, state_on, works_on, flags_on, names_page}
-use Rattle.jn_recovery.specs.Matches.{stored_work, work_by, flag_on, WorksMatch, FlagsMatch}
-use Rattle.jn_recovery.specs.Memory.{rubbish_in}
+use Rattle.jn_recovery.proofs.Common.{◌≡◌, ◌<◌, ◌≤◌, ◌+◌, ℕ, zero, suc, Bool, true, false, not, ◌||◌, ◌&&◌, if◌then◌else◌, List, [], ◌∷◌, length, map, get_or, Option, Some, None, refl, sym, ◌∙◌, ap, subst, true≢false, arith, nat_tests, length-map, sum_by-cons, nat_eq, nat_lt, nat_le, is_some, count_by, option_map, option_and_then, find, list_any, Tid, ServerNo, WorkId, tid_eq, work_eq, tid_tells, work_tells, Contents, state_in, stored_in, stored_list, intention_of, intentions_from, with_first, intended, prepared_by, flag_by, holds_address, works_name, IsConsistent, HasIntentions, IsCompleteBy, PassesOnce, found_once, found_passes, found_any, none_at, passes_at, StoredIntention, Record, Free, Intention, Ready, Going, FlagRecord, WorkState, Counts, record_in, is_free, free_count, is_prepared, is_intention, is_flag, is_rubbish, name_of, tid_of, find_by, total, are_different, IsListing, intentions, list_of, collected, state_on, works_on, flags_on, names_page, stored_work, work_by, flag_on, WorksMatch, FlagsMatch, rubbish_in}
 use Rattle.jn_recovery.proofs.Counting.{one, is_of_work, none_counts, one_counts, found_at, same_counts, counts_plus, work_count, listed_length}
 use Rattle.jn_recovery.proofs.Erasing.{rubbish_length}
 use Rattle.jn_recovery.proofs.FlagCalls.{none_any}

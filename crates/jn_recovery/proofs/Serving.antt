@@ -1,17 +1,6 @@
 -- When a storage serves, and what its calls keep.
-use Rattle.std.proofs.Common.{◌≡◌, ◌≤◌, ℕ, Bool, true, false, List, length, sym, ◌∙◌, ap, subst, arith}
-use Rattle.jn_base.specs.declared.names.ServerNo.{ServerNo}
-use Rattle.jn_base.specs.declared.names.WorkId.{WorkId}
-use Rattle.jn_found.specs.Pages.{found_on, pages_by}
-use Rattle.jn_found.specs.Recoverable.{IsRecoverable}
-use Rattle.jn_found.proofs.FilesOnPages.{state_on_pages}
-use Rattle.jn_records.specs.StablePages.{Counts}
-use Rattle.jn_rows.specs.Stable.{Pick, StableState, stable}
-use Rattle.jn_storage.specs.Orderly.{IsOrderly}
-use Rattle.jn_storage.specs.Storage.{Accounts, IsServing, IsCounted, IsLoadable, list_of, needed}
-use Rattle.jn_storage.specs.Calls.{state, Called}
-use Rattle.jn_store.specs.Store.{StoreView, StorePut}
-use Rattle.jn_recovery.specs.Memory.{Memory, accounts_of, view_of}
+use Rattle.jn_recovery.proofs.Common.{◌≡◌, ◌≤◌, ℕ, Bool, true, false, List, length, sym, ◌∙◌, ap, subst, arith, ServerNo, WorkId, found_on, pages_by, IsRecoverable, state_on_pages, Counts, Pick, StableState, stable, IsOrderly, Accounts, IsServing, IsCounted, list_of, needed, state, Called, StoreView, StorePut, Memory, accounts_of, view_of}
+use Rattle.jn_storage.specs.Storage.{IsLoadable}
 
 -- a storage that serves, apart from its store
 pub record Serves (x : StableState) (a : Accounts) : Type 0 where

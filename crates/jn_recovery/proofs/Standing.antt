@@ -1,36 +1,10 @@
 -- What is found on a store that stands, and what it holds in the words of the table of files.
-use Rattle.std.proofs.Common.{◌≡◌, ◌<◌, ◌||◌, ℕ, suc, true, false, if◌then◌else◌, List, [], refl, sym, ◌∙◌, ap, subst, get_or, arith}
-use Rattle.std.proofs.lemmas.Bool.Decides.{nat_tests}
-use Rattle.std.specs.Prelude.{is_some, drop, nat_lt, nat_eq}
-use Rattle.jn_base.specs.declared.names.BlockNo.{BlockNo}
-use Rattle.jn_base.specs.declared.names.FileNo.{FileNo}
-use Rattle.jn_base.specs.declared.names.LockUnit.TheVariants.{File, Block}
-use Rattle.jn_base.specs.declared.names.ServerNo.{ServerNo}
-use Rattle.jn_files.specs.Table.{exists, is_mapped, address_of, AreHeads}
-use Rattle.jn_files.specs.Pages.{HoldsHeads, leaves_in, files_in}
-use Rattle.jn_files.proofs.Putting.{files_said, same_leaves, says_choice, files_first, named_below, same_only}
-use Rattle.jn_found.specs.Contents.{state_in, head_in, has_address, heads_name, works_name}
-use Rattle.jn_found.specs.Held.{held_contents}
-use Rattle.jn_found.specs.Pages.{found_on, pages_by, block_on}
+use Rattle.jn_recovery.proofs.Common.{◌≡◌, ◌<◌, ◌||◌, ℕ, suc, true, false, if◌then◌else◌, List, [], refl, sym, ◌∙◌, ap, subst, get_or, arith, nat_tests, is_some, drop, nat_lt, nat_eq, BlockNo, FileNo, File, Block, ServerNo, exists, is_mapped, address_of, AreHeads, HoldsHeads, leaves_in, files_said, same_leaves, says_choice, files_first, named_below, same_only, state_in, has_address, heads_name, works_name, held_contents, found_on, pages_by, block_on, is_named, IsConsistent, IsStanding, state_on_pages, contents_held, front_held, same_recoverable, passes_any, Head, FreeHead, Used, Record, head_page, record_page, Counts, page_count, head_place, data_place, Pick, IsUp, stable, slot_page, record_in, file_there, StoreView, HasSamePages}
+use Rattle.jn_files.specs.Pages.{files_in}
+use Rattle.jn_found.specs.Contents.{head_in}
 use Rattle.jn_found.specs.Puts.{IsReadable}
-use Rattle.jn_found.specs.Recoverable.{is_named, IsConsistent}
-use Rattle.jn_found.specs.Standing.{IsStanding}
 use Rattle.jn_found.proofs.Choosing.{pick_chooses}
 use Rattle.jn_found.proofs.CleanPages.{one_state}
-use Rattle.jn_found.proofs.FilesOnPages.{state_on_pages}
-use Rattle.jn_found.proofs.HeldLaws.{contents_held, front_held}
-use Rattle.jn_found.proofs.Picking.{same_recoverable}
-use Rattle.jn_found.proofs.Slots.{passes_any}
-use Rattle.jn_records.specs.declared.head.Head.{Head}
-use Rattle.jn_records.specs.declared.head.Head.TheVariants.{Free as FreeHead, Used}
-use Rattle.jn_records.specs.declared.record.Record.{Record}
-use Rattle.jn_records.specs.Heads.{head_page}
-use Rattle.jn_records.specs.Records.{record_page}
-use Rattle.jn_records.specs.StablePages.{Counts, page_count, head_place, data_place}
-use Rattle.jn_rows.specs.Stable.{Pick, IsUp, stable}
-use Rattle.jn_sets.specs.Pool.{slot_page, record_in}
-use Rattle.jn_storage.specs.Storage.{file_there}
-use Rattle.jn_store.specs.Store.{StoreView, HasSamePages}
 use Rattle.jn_recovery.proofs.Bridge.{same_there, same_mapped}
 
 -- a data page that a head has at a block is named by the heads

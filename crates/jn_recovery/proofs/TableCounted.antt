@@ -1,32 +1,10 @@
 -- What is counted of the heads and the data pages.
-use Rattle.std.proofs.Common.{◌≡◌, ◌<◌, ◌≤◌, ◌+◌, ℕ, zero, suc, Bool, true, false, not, ◌||◌, ◌&&◌, if◌then◌else◌, List, [], ◌∷◌, ◌++◌, length, get_or, Option, Some, None, refl, sym, ◌∙◌, ap, true≢false, arith}
-use Rattle.std.proofs.lemmas.Bool.Decides.{nat_tests}
+use Rattle.jn_recovery.proofs.Common.{◌≡◌, ◌<◌, ◌≤◌, ◌+◌, ℕ, zero, suc, Bool, true, false, not, ◌||◌, ◌&&◌, if◌then◌else◌, List, [], ◌∷◌, ◌++◌, length, get_or, Option, Some, None, refl, sym, ◌∙◌, ap, true≢false, arith, nat_tests, sum_by-cons, nat_eq, nat_lt, is_some, count_by, slice_index, slice_index_or, list_any, BlockNo, FileNo, File, Block, file_eq, file_tells, TableView, IsTable, is_held, is_of, file_of_head, head_in, exists, is_mapped, address_of, addresses, addresses_of, or_nil, IsUnnamed, named_below, files_in, with_first, has_address, heads_name, PassesOnce, passes_at, Head, FreeHead, Used, Record, Free, Intention, Ready, Going, FlagRecord, record_in, total, is_in, are_different, IsListing, file_there, is_stored, collected, address_in, names_page, holds_page}
 use Rattle.std.proofs.lemmas.List.{length-append}
-use Rattle.std.proofs.lemmas.List.Sums.{sum_by-cons}
-use Rattle.std.specs.Prelude.{nat_eq, nat_lt, is_some, count_by, slice_index, slice_index_or}
-use Rattle.std.specs.List.{list_any}
 use Rattle.jn_alloc.specs.Free.{free_count, is_free as is_free_number}
-use Rattle.jn_base.specs.declared.names.BlockNo.{BlockNo}
-use Rattle.jn_base.specs.declared.names.FileNo.{FileNo}
 use Rattle.jn_base.specs.declared.names.LockUnit.{LockUnit}
-use Rattle.jn_base.specs.declared.names.LockUnit.TheVariants.{File, Block}
-use Rattle.jn_base.specs.Names.{file_eq}
-use Rattle.jn_base.proofs.Tells.{file_tells}
-use Rattle.jn_files.specs.Table.{TableView, IsTable, is_held, is_of, file_of_head, head_in, is_free, exists, is_mapped, address_of, addresses, addresses_of, or_nil, IsUnnamed}
-use Rattle.jn_files.proofs.Putting.{named_below}
-use Rattle.jn_found.specs.Contents.{files_in, with_first, has_address, heads_name}
-use Rattle.jn_found.specs.Recoverable.{PassesOnce}
-use Rattle.jn_found.proofs.Slots.{passes_at}
+use Rattle.jn_files.specs.Table.{is_free}
 use Rattle.jn_locks.specs.Locks.{unit_eq}
-use Rattle.jn_records.specs.declared.head.Head.{Head}
-use Rattle.jn_records.specs.declared.head.Head.TheVariants.{Free as FreeHead, Used}
-use Rattle.jn_records.specs.declared.record.Record.{Record}
-use Rattle.jn_records.specs.declared.record.Record.TheVariants.{Free, Intention, Ready, Going, Flag as FlagRecord}
-use Rattle.jn_sets.specs.Pool.{record_in}
-use Rattle.jn_storage.specs.Listing.{total, is_in, are_different, IsListing}
-use Rattle.jn_storage.specs.Storage.{file_there, is_stored}
-use Rattle.jn_recovery.specs.Gathering.{collected, address_in, names_page}
-use Rattle.jn_recovery.specs.Memory.{holds_page}
 use Rattle.jn_recovery.proofs.Bridge.{same_there, same_mapped}
 use Rattle.jn_recovery.proofs.Counting.{one}
 use Rattle.jn_recovery.proofs.Keys.{is_key, on_key, keys_length, keys_in, keys_differ}

@@ -1,29 +1,5 @@
 -- The prepared works, as they are listed in memory.
-use Rattle.std.proofs.Common.{◌≡◌, ◌<◌, ◌&&◌, ℕ, zero, suc, Bool, true, false, List, [], ◌∷◌, length, map, Option, Some, None, refl, sym, ◌∙◌, ap, subst}
-use Rattle.std.proofs.lemmas.List.Folds.{find_at}
-use Rattle.std.proofs.lemmas.Option.{slice_get_within, get_or_from_slice_get}
-use Rattle.std.specs.Prelude.{is_some, slice_index_or, option_map, option_and_then}
-use Rattle.std.specs.List.{find, list_all, position_or_len}
-use Rattle.jn_base.specs.declared.names.WorkId.{WorkId}
-use Rattle.jn_base.specs.Names.{work_eq}
-use Rattle.jn_base.proofs.Tells.{work_tells}
-use Rattle.jn_found.specs.Contents.{stored_in, with_first, intentions_from, intended, prepared_as, prepared_by, works_in}
-use Rattle.jn_found.specs.Pages.{block_on, pages_by}
-use Rattle.jn_records.specs.declared.intention.StoredIntention.{StoredIntention}
-use Rattle.jn_records.specs.declared.record.Record.{Record}
-use Rattle.jn_records.specs.declared.record.Record.TheVariants.{Free, Intention, Ready, Going, Flag as FlagRecord}
-use Rattle.jn_records.specs.declared.work.WorkState.{WorkState}
-use Rattle.jn_records.specs.Intentions.{intention_has_page}
-use Rattle.jn_records.specs.Records.{has_page}
-use Rattle.jn_rows.specs.Stable.{StableState, Prepared}
-use Rattle.jn_sets.specs.Pool.{record_in, is_prepared, is_intention}
-use Rattle.jn_storage.specs.Storage.{IsServing}
-use Rattle.jn_storage.specs.Calls.{state, outline, outline_of, name_of, IsTold, TellsWorks}
-use Rattle.jn_storage.specs.Finding.{find_by}
-use Rattle.jn_storage.proofs.Finds.{find-at, find-listed}
-use Rattle.jn_store.specs.Store.{StoreView}
-use Rattle.jn_recovery.specs.Memory.{Memory, view_of, next_by}
-use Rattle.jn_recovery.specs.Matches.{Matches, StoredWork, stored_work, work_by}
+use Rattle.jn_recovery.proofs.Common.{◌≡◌, ◌<◌, ◌&&◌, ℕ, zero, suc, Bool, true, false, List, [], ◌∷◌, length, map, Option, Some, None, refl, sym, ◌∙◌, ap, subst, find_at, slice_get_within, get_or_from_slice_get, is_some, slice_index_or, option_map, option_and_then, find, list_all, position_or_len, WorkId, work_eq, work_tells, stored_in, with_first, intentions_from, intended, prepared_as, prepared_by, works_in, block_on, pages_by, StoredIntention, Record, Free, Intention, Ready, Going, FlagRecord, WorkState, intention_has_page, has_page, StableState, Prepared, record_in, is_prepared, is_intention, IsServing, state, outline, outline_of, name_of, IsTold, TellsWorks, find_by, find-at, find-listed, StoreView, Memory, view_of, next_by, Matches, StoredWork, stored_work, work_by}
 use Rattle.jn_recovery.proofs.Standing.{finds}
 
 -- a work with the bytes of its puts

@@ -1,14 +1,5 @@
 -- Sums over lists, and over the numbers below one.
-use Rattle.std.proofs.Common.{◌≡◌, ⊎_elim, ◌<◌, ◌≤◌, ◌+◌, ℕ, zero, suc, Bool, true, false, ◌||◌, ◌&&◌, if◌then◌else◌, List, [], ◌∷◌, length, get_or, refl, sym, ◌∙◌, ap, subst, true≢false, arith}
-use Rattle.std.proofs.lemmas.Bool.{cases_eq}
-use Rattle.std.proofs.lemmas.Bool.Decides.{nat_tests}
-use Rattle.std.proofs.lemmas.List.Sums.{sum_by-cons}
-use Rattle.std.specs.Prelude.{nat_eq, nat_lt, slice_index_or, count_by}
-use Rattle.std.specs.List.{list_any}
-use Rattle.jn_storage.proofs.Listings.{Tells}
-use Rattle.jn_found.proofs.Slots.{passes_at}
-use Rattle.jn_found.specs.Recoverable.{PassesOnce}
-use Rattle.jn_storage.specs.Listing.{total, is_in, are_different}
+use Rattle.jn_recovery.proofs.Common.{◌≡◌, ⊎_elim, ◌<◌, ◌≤◌, ◌+◌, ℕ, zero, suc, Bool, true, false, ◌||◌, ◌&&◌, if◌then◌else◌, List, [], ◌∷◌, length, get_or, refl, sym, ◌∙◌, ap, subst, true≢false, arith, cases_eq, nat_tests, sum_by-cons, nat_eq, nat_lt, slice_index_or, count_by, list_any, Tells, passes_at, PassesOnce, total, is_in, are_different}
 use Rattle.jn_recovery.proofs.Counting.{one}
 
 -- ---- over a list

@@ -1,17 +1,5 @@
 -- A storage serves on with a work that goes, and with a rubbish record less.
-use Rattle.std.proofs.Common.{◌≡◌, ◌≤◌, ◌+◌, ◌&&◌, ℕ, Bool, true, false, not, if◌then◌else◌, length, Option, Some, None, refl, sym, ◌∙◌, ap, subst, arith}
-use Rattle.std.proofs.Math.Path.{fun_ext}
-use Rattle.std.specs.Prelude.{is_some}
-use Rattle.jn_base.specs.declared.names.WorkId.{WorkId}
-use Rattle.jn_base.specs.Names.{work_eq}
-use Rattle.jn_base.proofs.Tells.{work_tells}
-use Rattle.jn_rows.specs.Stable.{StableState, Prepared, MarkGoing, RemoveWork, made_by, gone_on, at_work}
-use Rattle.jn_storage.specs.Listing.{is_in, total}
-use Rattle.jn_storage.specs.Orderly.{IsOrderly}
-use Rattle.jn_storage.specs.Storage.{Accounts, intentions, list_of, needed}
-use Rattle.jn_storage.specs.Calls.{CountsErased, CountsOff}
-use Rattle.jn_storage.proofs.Kept.{orderly-marked, orderly-removed}
-use Rattle.jn_storage.proofs.Listings.{but, is_in-but, listing-same, listing-less, total-but, total-same}
+use Rattle.jn_recovery.proofs.Common.{◌≡◌, ◌≤◌, ◌+◌, ◌&&◌, ℕ, Bool, true, false, not, if◌then◌else◌, length, Option, Some, None, refl, sym, ◌∙◌, ap, subst, arith, fun_ext, is_some, WorkId, work_eq, work_tells, StableState, Prepared, MarkGoing, RemoveWork, made_by, gone_on, at_work, is_in, total, IsOrderly, Accounts, intentions, list_of, needed, CountsErased, CountsOff, orderly-marked, orderly-removed, but, is_in-but, listing-same, listing-less, total-but, total-same}
 use Rattle.jn_recovery.proofs.FlagStates.{length-one}
 use Rattle.jn_recovery.proofs.Serving.{Serves}
 

@@ -1,25 +1,9 @@
 -- Each operation, from what it does to the list of stored files.
-use Rattle.std.proofs.Common.{◌≡◌, ℕ, ◌+◌, ◌≤◌, nat_lt, Bool, true, false, not, ◌&&◌, if◌then◌else◌, List, [], ◌∷◌, ◌++◌, length, filter, set, Option, Some, None, refl, sym, ap, ◌∙◌, subst, inl, inr, arith, length-append, eqb-true}
-use Rattle.std.specs.Prelude.{option_map, option_and_then, Result, Ok, Err, IsErr, MatchResult}
+use Rattle.jn_replay.proofs.Common.{◌≡◌, ℕ, ◌+◌, ◌≤◌, nat_lt, Bool, true, false, not, ◌&&◌, if◌then◌else◌, List, [], ◌∷◌, ◌++◌, length, filter, set, Option, Some, None, refl, sym, ap, ◌∙◌, subst, inl, inr, arith, length-append, eqb-true, option_map, option_and_then, Result, Ok, Err, IsErr, MatchResult, cases_Bool, cond-false, and_left, nat_tests, ServerNo, FileNo, BlockNo, LockUnit, File, Block, Answer, server_eq, file_eq, block_eq, there, zeros, or_else, change, effect, answer_to, is_did, all_files_after, server_eq-true, server_eq-refl, all_files_after-here, all_files_after-elsewhere, files_after-did, files_after-not_did, StoredBlock, StoredFile, stored_file, stored_block, registers, AreSame, is_file, Does, Keeps}
 use Rattle.std.proofs.Math.ListN.{length-set}
-use Rattle.std.proofs.lemmas.Bool.{cases_Bool, cond-false, and_left}
-use Rattle.std.proofs.lemmas.Bool.Decides.{nat_tests}
-use Rattle.jn_base.specs.declared.names.ServerNo.{ServerNo}
-use Rattle.jn_base.specs.declared.names.FileNo.{FileNo}
-use Rattle.jn_base.specs.declared.names.BlockNo.{BlockNo}
-use Rattle.jn_base.specs.declared.names.LockUnit.{LockUnit}
-use Rattle.jn_base.specs.declared.names.LockUnit.TheVariants.{File, Block}
 use Rattle.jn_base.specs.declared.op.Op.{Op}
 use Rattle.jn_base.specs.declared.op.Op.TheVariants.{Create, Remove, Cut, Read, Write}
-use Rattle.jn_base.specs.declared.op.Answer.{Answer}
 use Rattle.jn_base.specs.declared.op.Answer.TheVariants.{Did, Read as Found, NoFile, Exists}
-use Rattle.jn_base.specs.Names.{server_eq, file_eq, block_eq}
-use Rattle.jn_order.specs.Files.{there, zeros, or_else, change, effect, answer_to, is_did, all_files_after}
-use Rattle.jn_order.proofs.FilesLemmas.{server_eq-true, server_eq-refl, all_files_after-here, all_files_after-elsewhere, files_after-did, files_after-not_did}
-use Rattle.jn_replay.specs.declared.files.StoredBlock.{StoredBlock}
-use Rattle.jn_replay.specs.declared.files.StoredFile.{StoredFile}
-use Rattle.jn_replay.specs.Stored.{stored_file, stored_block, registers, AreSame}
-use Rattle.jn_replay.specs.Edits.{is_file, Does, Keeps}
 use Rattle.jn_replay.proofs.StoredLemmas.{IsPlace, stored_file-set, stored_file-push, stored_file-filter, stored_block-filter, block_count-set, block_count-push, block_count-filter, length-filter}
 
 -- only the file of this name changes

@@ -1,3 +1,4 @@
+mod Common
 pub mod StoredLemmas
 pub mod DoesLemmas
 pub mod Same

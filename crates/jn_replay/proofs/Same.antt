@@ -1,11 +1,6 @@
 -- Operations in a row, on the same files and on lists joined end to end.
-use Rattle.std.proofs.Common.{ℕ, length, ◌≡◌, ◌<◌, List, [], ◌∷◌, ◌++◌, refl, sym, ap, ◌∙◌, subst, ◌+◌, ◌↔◌, drop, get_or, add-one, drop-cons}
-use Rattle.jn_base.specs.declared.op.Answer.{Answer}
-use Rattle.jn_order.specs.Files.{AllFiles, answer_to, all_files_after}
-use Rattle.jn_order.proofs.FilesLemmas.{same_files}
+use Rattle.jn_replay.proofs.Common.{ℕ, length, ◌≡◌, ◌<◌, List, ◌∷◌, sym, ap, ◌∙◌, subst, ◌+◌, ◌↔◌, drop, get_or, add-one, drop-cons, Answer, AllFiles, answer_to, all_files_after, same_files, AreSame, files_then, GivesAnswers}
 use Rattle.jn_replay.specs.declared.files.Performed.{Performed}
-use Rattle.jn_replay.specs.Stored.{AreSame}
-use Rattle.jn_replay.specs.Operations.{files_then, GivesAnswers}
 
 pub AreSame-from_equal : (a b : AllFiles) → a ≡ b → AreSame a b
 AreSame-from_equal a b e s u = ap (λ (f : AllFiles). f s u) e

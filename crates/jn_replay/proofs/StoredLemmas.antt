@@ -1,22 +1,8 @@
 -- The stored files and blocks, read by name after an edit of the list.
-use Rattle.std.proofs.Common.{sym, map, ◌≡◌, ℕ, zero, suc, ◌+◌, ◌<◌, ◌≤◌, nat_lt, Bool, true, not, ◌&&◌, if◌then◌else◌, List, [], ◌∷◌, ◌++◌, length, filter, position, set, get_or, Option, Some, None, refl, ap, ◌∙◌, subst, inl, inr, arith}
+use Rattle.jn_replay.proofs.Common.{sym, map, ◌≡◌, ℕ, zero, suc, ◌+◌, ◌<◌, ◌≤◌, nat_lt, Bool, true, not, ◌&&◌, if◌then◌else◌, List, [], ◌∷◌, ◌++◌, length, filter, position, set, get_or, Option, Some, None, refl, ap, ◌∙◌, subst, inl, inr, arith, option_map, is_some, cases_Bool, false≢true, nat_tests, ServerNo, FileNo, BlockNo, server_eq, file_eq, block_eq, StoredBlock, StoredFile, LockUnit, File, Block, there, registers, AreSame, stored_file, stored_block, block_count, Contents, contents, is_file, is_block}
 use Rattle.std.specs.List.{position_or_len, find}
-use Rattle.std.specs.Prelude.{option_map, is_some}
 use Rattle.std.proofs.lemmas.Option.{slice_get_read, slice_get_past, same_Some}
 use Rattle.std.proofs.lemmas.List.Folds.{find_at}
-use Rattle.std.proofs.lemmas.Bool.{cases_Bool, false≢true}
-use Rattle.std.proofs.lemmas.Bool.Decides.{nat_tests}
-use Rattle.jn_base.specs.declared.names.ServerNo.{ServerNo}
-use Rattle.jn_base.specs.declared.names.FileNo.{FileNo}
-use Rattle.jn_base.specs.declared.names.BlockNo.{BlockNo}
-use Rattle.jn_base.specs.Names.{server_eq, file_eq, block_eq}
-use Rattle.jn_replay.specs.declared.files.StoredBlock.{StoredBlock}
-use Rattle.jn_replay.specs.declared.files.StoredFile.{StoredFile}
-use Rattle.jn_base.specs.declared.names.LockUnit.{LockUnit}
-use Rattle.jn_base.specs.declared.names.LockUnit.TheVariants.{File, Block}
-use Rattle.jn_order.specs.Files.{there}
-use Rattle.jn_replay.specs.Stored.{registers, AreSame, stored_file, stored_block, block_count}
-use Rattle.jn_replay.specs.Edits.{Contents, contents, is_file, is_block}
 
 -- the first file of a name, after another was put in its place
 pub stored_file-set : (s : ServerNo) (f : FileNo) (xs : List StoredFile) (i : ℕ) (y : StoredFile) → position_or_len (is_file s f) xs ≡ i → i < length xs → is_file s f y ≡ true → (q : ServerNo) (g : FileNo) → stored_file q g (set xs i y) ≡ (if server_eq s q && file_eq f g then Some y else stored_file q g xs)

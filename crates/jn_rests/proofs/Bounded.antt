@@ -1,18 +1,9 @@
 -- A settle's bound, where servers that only erase may be stopped too.
-use Rattle.std.proofs.Common.{◌≡◌, ◌⊎◌, inl, inr, ◌≤◌, ◌<◌, ℕ, List, [], ◌∷◌, append-nil, Option, Some, None, refl, sym, subst, arith}
-use Rattle.jn_base.specs.declared.names.ServerNo.{ServerNo}
-use Rattle.jn_rows.specs.Stable.{Pick, stable}
-use Rattle.jn_rows.specs.Outcomes.{RowOutcome}
-use Rattle.jn_system.specs.WholeSystem.World.{World, Memory, servers_from}
-use Rattle.jn_system.specs.WholeSystem.Servers.{Room, server_step}
-use Rattle.jn_system.specs.WholeSystem.Steps.{Step, StopWork, after, work, works}
-use Rattle.jn_system_settling.specs.Settling.Course.{Course, go, go_on}
-use Rattle.jn_system_settling.specs.Settling.Settle.{onward, clients_from, ask_again}
+use Rattle.jn_rests.proofs.Common.{◌≡◌, ◌⊎◌, inl, inr, ◌≤◌, ◌<◌, ℕ, List, [], ◌∷◌, append-nil, Option, Some, None, refl, sym, subst, arith, ServerNo, Pick, stable, RowOutcome, World, Memory, servers_from, Room, server_step, Step, StopWork, after, work, works, Course, go, go_on, onward, clients_from, ask_again, ComesNext, IsHalt, EachComes, IsBounded, in_two, asked_again}
 use Rattle.jn_system_settling.proofs.Settling.Burdens.{Leads, stopped-leads}
 use Rattle.jn_system_settling.proofs.Settling.Courses.{Sound, go-sound, go-balance, burden-after, deliveries-more}
 use Rattle.jn_system_settling.proofs.Settling.Parts.{Bounded, part-bounded}
 use Rattle.jn_system_settling.proofs.Settling.Asking.{asked, servers-length, waiting-light, waiting-weighs}
-use Rattle.jn_rests.specs.Rests.{ComesNext, IsHalt, EachComes, IsBounded, in_two, asked as asked_again}
 
 module _ (n : ℕ) (at_most : n ≤ 8) (start : World) where
   halt-weighs : (c : Course) → Sound n start c → (s : ServerNo) (room : Room) (made : Pick → ℕ) → s.0 < n → Leads n c.world (after (StopWork s room made) c.world) 0 0

@@ -1,3 +1,4 @@
+mod Common
 pub mod Loops
 pub mod Bounded
 pub mod Numbers

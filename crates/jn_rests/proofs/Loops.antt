@@ -1,12 +1,5 @@
 -- A loop's steps are those of a settle.
-use Rattle.std.proofs.Common.{◌≡◌, ◌≤◌, ℕ, zero, suc, ◌+◌, List, [], ◌∷◌, ◌++◌, length, None, refl, ◌∙◌, ap, arith}
-use Rattle.std.proofs.Math.Path.{fun_ext}
-use Rattle.jn_base.specs.declared.names.ServerNo.{ServerNo}
-use Rattle.jn_system.specs.WholeSystem.World.{servers_from}
-use Rattle.jn_system.specs.WholeSystem.Steps.{Step}
-use Rattle.jn_system_settling.specs.Settling.Course.{Course, go, go_on}
-use Rattle.jn_system_settling.specs.Settling.Settle.{Chance, first_busy, next_step, onward, until_rest, settled}
-use Rattle.jn_rests.specs.Rests.{EachInTurn, AreNext, NothingIsLeft, ComeToRest, chances_of, asked, in_two, both_parts}
+use Rattle.jn_rests.proofs.Common.{◌≡◌, ◌≤◌, ℕ, zero, suc, ◌+◌, List, [], ◌∷◌, ◌++◌, length, None, refl, ◌∙◌, ap, arith, fun_ext, ServerNo, servers_from, Step, Course, go, go_on, Chance, first_busy, next_step, onward, until_rest, settled, EachInTurn, AreNext, NothingIsLeft, ComeToRest, chances_of, asked, in_two, both_parts}
 
 pub in-turn : (P : Course → Step → Type 0) (steps more : List Step) (c : Course) → EachInTurn P steps c → EachInTurn P more (go_on steps c) → EachInTurn P (steps ++ more) c
 in-turn P [] more c h k = k

@@ -1,17 +1,11 @@
 -- The numbers of the messages that wait in a network.
-use Rattle.std.proofs.Common.{◌≡◌, ◌≤◌, ◌<◌, ℕ, zero, suc, ◌+◌, ◌-◌, Bool, true, false, List, [], ◌∷◌, ◌++◌, length, length-append, drop, length-drop, Option, Some, None, refl, sym, ◌∙◌, ap, subst, arith}
+use Rattle.jn_rests.proofs.Common.{◌≡◌, ◌≤◌, ◌<◌, ℕ, zero, suc, ◌+◌, ◌-◌, Bool, true, false, List, [], ◌∷◌, ◌++◌, length, length-append, drop, length-drop, Option, Some, None, refl, sym, ◌∙◌, ap, subst, arith, nat_tests, ◌&&◌, not, nat_eq, if◌then◌else◌, slice_get, ServerNo, Step, NextEvent, Tell, Again, Deliver, Work, Nudge, Timeout, StopDelivery, StopWork, Crash, Narrow, StopRestart, Restart, Dismiss, CloseClients, after, Course, opening_course, without_number, still_waiting, numbered, go, Chance, next_step, handing}
 use Rattle.std.proofs.Math.Seq.{drop-length, drop-append_seam}
 use Rattle.std.proofs.lemmas.List.{drop-append-le, length-map, map-append}
-use Rattle.std.proofs.lemmas.Bool.Decides.{nat_tests}
-use Rattle.std.specs.Prelude.{◌&&◌, not, nat_eq, if◌then◌else◌, slice_get}
 use Rattle.std.specs.List.{position_from}
-use Rattle.jn_base.specs.declared.names.ServerNo.{ServerNo}
 use Rattle.jn_order.specs.Files.{AllFiles}
 use Rattle.jn_net.specs.declared.Sent.{Sent as Posted}
 use Rattle.jn_net.specs.Carried.{Carried, waiting, with_delivered}
-use Rattle.jn_system.specs.WholeSystem.Steps.{Step, NextEvent, Tell, Again, Deliver, Work, Nudge, Timeout, StopDelivery, StopWork, Crash, Narrow, StopRestart, Restart, Dismiss, CloseClients, after}
-use Rattle.jn_system_settling.specs.Settling.Course.{Course, opening_course, without_number, still_waiting, numbered, go}
-use Rattle.jn_system_settling.specs.Settling.Settle.{Chance, next_step, handing}
 use Rattle.jn_rests.specs.Waiting.{undelivered, waiting_numbers, sent_of, are_new, Carries, delivered_by}
 
 -- ---- messages that are sent

@@ -1,35 +1,11 @@
 -- What a deed does and tells, as acts under an event.
-use Rattle.std.proofs.Common.{◌≡◌, ℕ, ◌+◌, Bool, true, false, List, [], ◌∷◌, ◌++◌, append-nil, append_assoc, length, drop, map, Option, Some, None, refl, sym, ◌∙◌, ap, subst}
-use Rattle.std.specs.Prelude.{if◌then◌else◌}
-use Rattle.std.specs.List.{list_all}
+use Rattle.jn_retold.proofs.Common.{◌≡◌, ℕ, ◌+◌, Bool, true, false, List, [], ◌∷◌, ◌++◌, append-nil, append_assoc, length, drop, map, Option, Some, None, refl, sym, ◌∙◌, ap, subst, if◌then◌else◌, list_all, ServerNo, Outside, Event, TooManyArmed, EpochsUsedUp, Text, Line, Pick, Sent, World, Memory, Step, after, run, print_files, Act, Does, Refuses, Tells, Shows, steps_in, told_in, prints_of, is_aside, plain, plain-append, plain-none, Setup, Chance, Use, Calls, Reads, Recovers, Deed, blocks_from, is_used_up, acted, outside_texts, own_texts, message_texts, traced, texts_of, lines_at, may_tell, Adds, adds, behind}
 use Rattle.std.proofs.Math.Seq.{drop-append_seam}
-use Rattle.jn_base.specs.declared.names.ServerNo.{ServerNo}
 use Rattle.jn_base.specs.declared.names.Party.{Party}
 use Rattle.jn_base.specs.declared.device.FaultKind.TheVariants as faults
-use Rattle.jn_base.specs.declared.device.Outside.{Outside}
-use Rattle.jn_schedule.specs.declared.Event.{Event}
 use Rattle.jn_schedule.specs.declared.Event.TheVariants as events
-use Rattle.jn_report.specs.declared.line.EventRefusal.TheVariants.{TooManyArmed, EpochsUsedUp}
 use Rattle.jn_report.specs.declared.line.When.{When}
-use Rattle.jn_report.specs.declared.line.Text.{Text}
 use Rattle.jn_report.specs.declared.line.Text.TheVariants as says
-use Rattle.jn_report.specs.declared.line.Line.{Line}
-use Rattle.jn_rows.specs.Stable.{Pick}
-use Rattle.jn_rows.specs.Outcomes.{Sent}
-use Rattle.jn_system.specs.WholeSystem.World.{World, Memory}
-use Rattle.jn_system.specs.WholeSystem.Steps.{Step, after, run}
-use Rattle.jn_system.specs.WholeSystem.Printing.{print_files}
-use Rattle.jn_system_reports.specs.Reporting.Reported.{Act, Does, Refuses, Tells, Shows, steps_in, told_in}
-use Rattle.jn_system_reports.specs.Reporting.Printing.{prints_of}
-use Rattle.jn_aside.specs.Aside.{is_aside, plain}
-use Rattle.jn_aside.proofs.Plain.{plain-append, plain-none}
-use Rattle.jn_written.specs.Chances.{Setup, Chance}
-use Rattle.jn_written.specs.Deeds.{Use, Calls, Reads, Recovers, Deed, blocks_from, is_used_up}
-use Rattle.jn_written.specs.Events.{acted}
-use Rattle.jn_written.specs.Steps.{outside_texts, own_texts, message_texts, traced, texts_of, lines_at}
-use Rattle.jn_written.specs.Kinds.{may_tell}
-use Rattle.jn_written.proofs.Telling.{Adds, adds}
-use Rattle.jn_retold.specs.Retold.{behind}
 use Rattle.jn_retold.proofs.Items.{steps-join, told-join}
 
 -- ---- acts

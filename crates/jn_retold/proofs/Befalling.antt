@@ -1,27 +1,9 @@
 -- What befalls the devices in a step of an event, and what it leaves waiting.
-use Rattle.std.proofs.Common.{◌≡◌, ◌≢◌, ◌⊎◌, inl, inr, ◌≤◌, ◌<◌, ℕ, ◌+◌, Bool, true, false, List, [], ◌∷◌, ◌++◌, Option, Some, None, refl, sym, ◌∙◌, ap, subst, arith}
-use Rattle.std.specs.Prelude.{◌||◌, if◌then◌else◌, is_some}
-use Rattle.std.specs.List.{list_all}
-use Rattle.jn_base.specs.declared.names.ServerNo.{ServerNo}
-use Rattle.jn_base.specs.declared.device.FaultKind.{FaultKind}
+use Rattle.jn_retold.proofs.Common.{◌≡◌, ◌≢◌, ◌⊎◌, inl, inr, ◌≤◌, ◌<◌, ℕ, ◌+◌, Bool, true, false, List, [], ◌∷◌, ◌++◌, Option, Some, None, refl, sym, ◌∙◌, ap, subst, arith, ◌||◌, if◌then◌else◌, is_some, list_all, ServerNo, FaultKind, Outside, server_eq, server_tells, Armed, DeviceState, powered_off, Becomes, PageDecays, FaultArmed, count_kind, is_stop, EventRefusal, TooManyArmed, Text, Event, World, Memory, Waiting, one_more, armed, with_event, strikes, strike_all, AreStruck, Devices, Alone}
 use Rattle.jn_base.specs.declared.device.FaultKind.TheVariants as faults
-use Rattle.jn_base.specs.declared.device.Outside.{Outside}
-use Rattle.jn_base.specs.Names.{server_eq}
-use Rattle.jn_base.proofs.Tells.{server_tells}
-use Rattle.jn_device.specs.declared.Armed.{Armed}
-use Rattle.jn_device.specs.Device.{DeviceState}
-use Rattle.jn_device.specs.Events.{powered_off, Becomes, Decays as PageDecays, Arms as FaultArmed}
-use Rattle.jn_device.specs.Later.{count_kind, is_stop}
-use Rattle.jn_report.specs.declared.line.EventRefusal.{EventRefusal}
-use Rattle.jn_report.specs.declared.line.EventRefusal.TheVariants.{TooManyArmed}
-use Rattle.jn_report.specs.declared.line.Text.{Text}
 use Rattle.jn_report.specs.declared.line.Text.TheVariants as says
-use Rattle.jn_schedule.specs.declared.Event.{Event}
 use Rattle.jn_schedule.specs.declared.Event.TheVariants as events
 use Rattle.jn_serial.specs.Caused.{is_stop as stops_server}
-use Rattle.jn_system.specs.WholeSystem.World.{World, Memory}
-use Rattle.jn_system_reports.specs.Reporting.Reported.{Waiting, one_more, armed, with_event, strikes, strike_all, AreStruck}
-use Rattle.jn_written.specs.Devices.{Devices, Alone}
 use Rattle.jn_retold.proofs.Strikes.{any, is_harmless, same-server, Strikes, unstruck, none-strike, fault-strikes}
 use Rattle.jn_retold.proofs.Standing.{Stands, alone-stands}
 

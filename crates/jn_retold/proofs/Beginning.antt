@@ -1,39 +1,7 @@
 -- An event begins, and then it is refused or done.
-use Rattle.std.proofs.Common.{◌≡◌, ◌⊎◌, inl, inr, ◌≤◌, ◌<◌, ℕ, Bool, true, false, List, [], ◌∷◌, ◌++◌, append-nil, drop, length, Option, Some, None, refl, sym, ◌∙◌, ap, subst}
-use Rattle.std.specs.Prelude.{nat_lt, slice_get, is_some}
-use Rattle.jn_base.specs.declared.names.ServerNo.{ServerNo}
-use Rattle.jn_base.specs.declared.names.FileNo.{FileNo}
-use Rattle.jn_base.specs.declared.names.BlockNo.{BlockNo}
-use Rattle.jn_base.specs.declared.names.LockUnit.TheVariants.{Block}
-use Rattle.jn_base.specs.declared.names.Party.TheVariants.{Server}
-use Rattle.jn_msgs.specs.declared.message.Message.{Message}
-use Rattle.jn_order.specs.Files.{AllFiles}
-use Rattle.jn_schedule.specs.declared.Event.{Event}
+use Rattle.jn_retold.proofs.Common.{◌≡◌, ◌⊎◌, inl, inr, ◌≤◌, ◌<◌, ℕ, Bool, true, false, List, [], ◌∷◌, ◌++◌, append-nil, drop, length, Option, Some, None, refl, sym, ◌∙◌, ap, subst, nat_lt, slice_get, is_some, ServerNo, FileNo, BlockNo, Block, Server, Message, AllFiles, Event, EventRefusal, Line, Text, RowOutcome, Sent, Pick, stable, Room, server_step, World, Memory, opening, NextEvent, run, after, work, works, Item, Act, Does, Refuses, Waiting, IsUnder, IsShown, AreStruck, steps_in, world_of, with_event, strike_all, told_in, at_event, lines_of, none_wait, prints_of, plain, is_show, plain-append, sent-near, Setup, Chance, Task, Begins, Meets, Rests, State, Deed, nobody, no_room, plain_deed, stopped_idle, tells, refusal_of, settling, acted, met, go_on, most_messages, is_too_much, come_to, cut_short, made, own_texts, IsUsed, Befalls, Moment, DoesStep, behind}
 use Rattle.jn_schedule.specs.declared.Event.TheVariants as events
-use Rattle.jn_report.specs.declared.line.EventRefusal.{EventRefusal}
-use Rattle.jn_report.specs.declared.line.Line.{Line}
-use Rattle.jn_report.specs.declared.line.Text.{Text}
 use Rattle.jn_report.specs.declared.line.Text.TheVariants as says
-use Rattle.jn_rows.specs.Outcomes.{RowOutcome, Sent}
-use Rattle.jn_rows.specs.Stable.{Pick, stable}
-use Rattle.jn_system.specs.WholeSystem.Servers.{Room, server_step}
-use Rattle.jn_system.specs.WholeSystem.World.{World, Memory, opening}
-use Rattle.jn_system.specs.WholeSystem.Steps.{NextEvent, run, after, work, works}
-use Rattle.jn_system_reports.specs.Reporting.Reported.{Item, Act, Does, Refuses, Waiting, IsUnder, IsShown, AreStruck, steps_in, world_of, with_event, strike_all, told_in, at_event, lines_of, none_wait}
-use Rattle.jn_system_reports.specs.Reporting.Printing.{prints_of}
-use Rattle.jn_aside.specs.Aside.{plain, is_show}
-use Rattle.jn_aside.proofs.Plain.{plain-append}
-use Rattle.jn_within.proofs.WorldSteps.{sent-near}
-use Rattle.jn_written.specs.Chances.{Setup, Chance}
-use Rattle.jn_written.specs.Tasks.{Task, Begins, Meets, Rests, State}
-use Rattle.jn_written.specs.Deeds.{Deed, nobody, no_room, plain as plain_deed, stopped_idle, tells}
-use Rattle.jn_written.specs.Refusals.{refusal_of}
-use Rattle.jn_written.specs.Events.{settling, acted, met}
-use Rattle.jn_system_settling.specs.Settling.Course.{go_on}
-use Rattle.jn_written.specs.Steps.{most_messages, is_too_much, come_to, cut_short, made, own_texts}
-use Rattle.jn_written.specs.Devices.{IsUsed, Befalls}
-use Rattle.jn_written.specs.Runs.{Moment, DoesStep}
-use Rattle.jn_retold.specs.Retold.{behind}
 use Rattle.jn_retold.proofs.Behind.{ups-name-none}
 use Rattle.jn_retold.proofs.Items.{waits_after, one_more, lines-more}
 use Rattle.jn_retold.proofs.Acts.{besides, acts_by, texts_by, grown-own, besides-steps, steps-of-acts, told-of-acts}

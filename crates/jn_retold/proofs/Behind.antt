@@ -1,27 +1,9 @@
 -- With lines of servers that came up before its own, a world goes the same way.
-use Rattle.std.proofs.Common.{◌≡◌, ℕ, ◌+◌, Bool, true, List, [], ◌∷◌, ◌++◌, append_assoc, Option, Some, None, refl, sym, ◌∙◌, ap, arith}
-use Rattle.std.specs.Prelude.{◌&&◌, if◌then◌else◌, slice_get}
-use Rattle.std.specs.List.{list_all, list_any}
-use Rattle.jn_base.specs.declared.names.ServerNo.{ServerNo}
-use Rattle.jn_base.specs.declared.names.ClientNo.{ClientNo}
-use Rattle.jn_base.specs.declared.names.Tid.{Tid}
-use Rattle.jn_base.specs.declared.names.WorkId.{WorkId}
-use Rattle.jn_base.specs.declared.names.Party.TheVariants.{Client, Server}
-use Rattle.jn_base.specs.Names.{tid_eq}
-use Rattle.jn_msgs.specs.declared.message.Message.{Message}
-use Rattle.jn_report.specs.declared.line.Text.{Text}
+use Rattle.jn_retold.proofs.Common.{◌≡◌, ℕ, ◌+◌, Bool, true, List, [], ◌∷◌, ◌++◌, append_assoc, Option, Some, None, refl, sym, ◌∙◌, ap, arith, ◌&&◌, if◌then◌else◌, slice_get, list_all, list_any, ServerNo, ClientNo, Tid, WorkId, Client, Server, tid_eq, Message, Text, Taken, Pick, stable, RowOutcome, Sent, close_clients_row, World, Memory, committed_in, commits_in, has_line, Room, server_row, server_step, of_coordinator, named_now, Step, NextEvent, Tell, Again, Deliver, Work, Nudge, Timeout, StopDelivery, StopWork, Crash, Narrow, StopRestart, Restart, Dismiss, CloseClients, after, run, ends, at_memory, handed, work, works, nudge, timeout, crash, narrow, stop_restart, restart, close_clients, commanded, took, is_up, behind}
 use Rattle.jn_report.specs.declared.line.Text.TheVariants as says
-use Rattle.jn_rows.specs.declared.client.Taken.{Taken}
 use Rattle.jn_rows.specs.declared.client.Taken.TheVariants as taken
-use Rattle.jn_rows.specs.Stable.{Pick, stable}
-use Rattle.jn_rows.specs.Outcomes.{RowOutcome, Sent}
 use Rattle.jn_rows.specs.Client.{ClientTable, Commanded, Refuses, Sends, command_row, take_row}
-use Rattle.jn_rows.specs.Coordinator.{close_clients_row}
-use Rattle.jn_system.specs.WholeSystem.World.{World, Memory, committed_in, commits_in, has_line}
-use Rattle.jn_system.specs.WholeSystem.Servers.{Room, server_row, server_step, of_coordinator, lines_of, named_now}
-use Rattle.jn_system.specs.WholeSystem.Steps.{Step, NextEvent, Tell, Again, Deliver, Work, Nudge, Timeout, StopDelivery, StopWork, Crash, Narrow, StopRestart, Restart, Dismiss, CloseClients, after, run, ends, at_memory, handed, work, works, nudge, timeout, crash, narrow, stop_restart, restart, close_clients, commanded, took}
-use Rattle.jn_written.specs.Kinds.{is_up}
-use Rattle.jn_retold.specs.Retold.{behind}
+use Rattle.jn_system.specs.WholeSystem.Servers.{lines_of}
 
 first-of : (a b : Bool) → (a && b) ≡ true → a ≡ true
 first-of a b h = grind arith

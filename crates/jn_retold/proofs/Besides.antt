@@ -1,26 +1,8 @@
 -- What an event tells besides its steps, and what it leaves to be done.
-use Rattle.std.proofs.Common.{◌≡◌, ◌⊎◌, inl, inr, ℕ, Bool, true, false, List, [], ◌∷◌, ◌++◌, append-nil, map, Option, Some, None, refl, sym, ◌∙◌, ap}
-use Rattle.std.specs.Prelude.{◌&&◌, if◌then◌else◌, slice_get}
-use Rattle.std.specs.List.{list_all}
-use Rattle.std.proofs.lemmas.List.Folds.{list_all-append}
-use Rattle.jn_base.specs.declared.names.ServerNo.{ServerNo}
-use Rattle.jn_base.specs.declared.names.ClientNo.{ClientNo}
-use Rattle.jn_base.specs.declared.names.Party.TheVariants.{Client, Server}
+use Rattle.jn_retold.proofs.Common.{◌≡◌, ◌⊎◌, inl, inr, ℕ, Bool, true, false, List, [], ◌∷◌, ◌++◌, append-nil, map, Option, Some, None, refl, sym, ◌∙◌, ap, ◌&&◌, if◌then◌else◌, slice_get, list_all, list_all-append, ServerNo, ClientNo, Client, Server, Event, EventRefusal, TooManyArmed, EpochsUsedUp, Pick, Sent, World, Memory, clients_from, Refuses, Tells, IsShown, told_in, Setup, Chance, Task, Acts, Rests, served, nothing, delivered, delivered_at, is_busy, working_steps, shown, crashed_at, is_used_up, given_up, recovered, servers_of, asking, settling, told_unless, acted}
 use Rattle.jn_base.specs.declared.device.FaultKind.TheVariants as faults
-use Rattle.jn_schedule.specs.declared.Event.{Event}
 use Rattle.jn_schedule.specs.declared.Event.TheVariants as events
-use Rattle.jn_report.specs.declared.line.EventRefusal.{EventRefusal}
-use Rattle.jn_report.specs.declared.line.EventRefusal.TheVariants.{TooManyArmed, EpochsUsedUp}
 use Rattle.jn_report.specs.declared.line.Text.TheVariants as says
-use Rattle.jn_rows.specs.Stable.{Pick}
-use Rattle.jn_rows.specs.Outcomes.{Sent}
-use Rattle.jn_system.specs.WholeSystem.World.{World, Memory}
-use Rattle.jn_system_settling.specs.Settling.Settle.{clients_from}
-use Rattle.jn_system_reports.specs.Reporting.Reported.{Refuses, Tells, IsShown, told_in}
-use Rattle.jn_written.specs.Chances.{Setup, Chance}
-use Rattle.jn_written.specs.Tasks.{Task, Acts, Rests}
-use Rattle.jn_written.specs.Deeds.{served, nothing, delivered, delivered_at, is_busy, working_steps, shown, crashed_at, is_used_up, given_up, recovered}
-use Rattle.jn_written.specs.Events.{servers_of, asking, settling, told_unless, acted}
 use Rattle.jn_written.proofs.Texts.{delivers, works, crashes}
 use Rattle.jn_retold.proofs.Acts.{shown_acts, besides}
 

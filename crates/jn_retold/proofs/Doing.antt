@@ -1,40 +1,10 @@
 -- What befalls the devices in each event that is done.
-use Rattle.std.proofs.Common.{◌≡◌, ◌≢◌, ◌⊎◌, inl, inr, ◌<◌, ℕ, Bool, true, false, List, [], ◌∷◌, ◌++◌, append-nil, map, Option, Some, None, refl, sym, ◌∙◌, ap, subst, arith}
-use Rattle.std.specs.Prelude.{⊤, ◌&&◌, ◌||◌, if◌then◌else◌, nat_eq, slice_get, is_some}
-use Rattle.std.specs.List.{list_all}
-use Rattle.jn_base.specs.declared.names.ServerNo.{ServerNo}
-use Rattle.jn_base.specs.declared.names.ClientNo.{ClientNo}
-use Rattle.jn_base.specs.declared.names.Tid.{Tid}
-use Rattle.jn_base.specs.declared.names.Party.TheVariants.{Client, Server}
+use Rattle.jn_retold.proofs.Common.{◌≡◌, ◌≢◌, ◌⊎◌, inl, inr, ◌<◌, ℕ, Bool, true, false, List, [], ◌∷◌, ◌++◌, append-nil, map, Option, Some, None, refl, sym, ◌∙◌, ap, subst, arith, ⊤, ◌&&◌, ◌||◌, if◌then◌else◌, nat_eq, slice_get, is_some, list_all, ServerNo, ClientNo, Tid, Client, Server, Command, server_eq, server_tells, Message, EventRefusal, EpochsUsedUp, TooManyArmed, Text, Event, Taken, Pick, stable, Sent, World, Memory, Printed, FileThere, PageStored, UnitLocked, print_files, Tell, Again, Deliver, Nudge, Timeout, Crash, after, run, commanded, took, at_memory, handed, nudge, timeout, crash, has_going, text_printed, prints_of, Waiting, with_event, strike_all, AreStruck, Setup, Chance, Deed, room, no_room, served, nothing, tells, delivered, delivered_at, is_busy, working_steps, scrubbed, blocks_from, shown, showing, crashed_at, pick_read, is_used_up, given_up, recovered, restarted, told_unless, acted, own_texts, Devices, IsUsed, is_answer, is_of_delivery, Adds, adds, weaker}
 use Rattle.jn_base.specs.declared.device.FaultKind.TheVariants as faults
-use Rattle.jn_base.specs.declared.op.Command.{Command}
-use Rattle.jn_base.specs.Names.{server_eq}
-use Rattle.jn_base.proofs.Tells.{server_tells}
-use Rattle.jn_msgs.specs.declared.message.Message.{Message}
-use Rattle.jn_report.specs.declared.line.EventRefusal.{EventRefusal}
-use Rattle.jn_report.specs.declared.line.EventRefusal.TheVariants.{EpochsUsedUp, TooManyArmed}
-use Rattle.jn_report.specs.declared.line.Text.{Text}
 use Rattle.jn_report.specs.declared.line.Text.TheVariants as says
-use Rattle.jn_schedule.specs.declared.Event.{Event}
 use Rattle.jn_schedule.specs.declared.Event.TheVariants as events
-use Rattle.jn_rows.specs.declared.client.Taken.{Taken}
 use Rattle.jn_rows.specs.declared.client.Taken.TheVariants as taken
-use Rattle.jn_rows.specs.Stable.{Pick, stable}
-use Rattle.jn_rows.specs.Outcomes.{Sent}
 use Rattle.jn_rows.specs.Client.{ClientTable, Commanded, Refuses, Sends, command_row, take_row}
-use Rattle.jn_system.specs.WholeSystem.World.{World, Memory}
-use Rattle.jn_system.specs.WholeSystem.Printing.{Printed, FileThere, PageStored, UnitLocked, print_files}
-use Rattle.jn_system.specs.WholeSystem.Steps.{Tell, Again, Deliver, Nudge, Timeout, Crash, after, run, commanded, took, at_memory, handed, nudge, timeout, crash}
-use Rattle.jn_system_settling.specs.Settling.Settle.{is_busy as has_going}
-use Rattle.jn_system_reports.specs.Reporting.Printing.{text_printed, prints_of}
-use Rattle.jn_system_reports.specs.Reporting.Reported.{Waiting, with_event, strike_all, AreStruck}
-use Rattle.jn_written.specs.Chances.{Setup, Chance}
-use Rattle.jn_written.specs.Deeds.{Deed, room, no_room, served, nothing, tells, delivered, delivered_at, is_busy, working_steps, scrubbed, blocks_from, shown, showing, crashed_at, pick_read, is_used_up, given_up, recovered, restarted}
-use Rattle.jn_written.specs.Events.{told_unless, acted}
-use Rattle.jn_written.specs.Steps.{own_texts}
-use Rattle.jn_written.specs.Devices.{Devices, IsUsed}
-use Rattle.jn_written.specs.Kinds.{is_answer, is_of_delivery}
-use Rattle.jn_written.proofs.Telling.{Adds, adds, weaker}
 use Rattle.jn_retold.proofs.Acts.{texts_by, grown-own}
 use Rattle.jn_retold.proofs.Strikes.{is_harmless, same-server, told_texts}
 use Rattle.jn_retold.proofs.Turns.{Turns, at-self, at-other, delivery-harmless, delivery-turns, working-turns, idle-turns, recovering-turns, narrow-turns}

@@ -1,22 +1,6 @@
 -- Where a run under its schedule stands: between two events, with one that has begun, or within a settle.
-use Rattle.std.proofs.Common.{◌≡◌, ◌<◌, ℕ, Bool, ◌+◌, true, false, List, [], ◌∷◌, ◌++◌, append-nil, append_assoc, length, map, refl, sym, ◌∙◌, ap, subst, arith}
-use Rattle.std.specs.Prelude.{◌||◌}
-use Rattle.std.specs.List.{list_all, list_any}
-use Rattle.jn_base.specs.declared.names.ServerNo.{ServerNo}
-use Rattle.jn_order.specs.Files.{AllFiles}
-use Rattle.jn_schedule.specs.declared.Event.{Event}
+use Rattle.jn_retold.proofs.Common.{◌≡◌, ◌<◌, ℕ, Bool, ◌+◌, true, false, List, [], ◌∷◌, ◌++◌, append-nil, append_assoc, length, map, refl, sym, ◌∙◌, ap, subst, arith, ◌||◌, list_all, list_any, ServerNo, AllFiles, Event, World, opening, NextEvent, after, run, Text, Item, Act, Waiting, IsReported, events_of, world_of, after_item, waiting_in, strike_all, told_under, lines_of, none_wait, plain, is_show, Setup, Task, Begins, Meets, CutShort, ending, is_up, Moment, behind, IsAsIn, IsToldBy, IsRetold, IsRetoldInPart}
 use Rattle.jn_schedule.specs.declared.Event.TheVariants as events
-use Rattle.jn_system.specs.WholeSystem.World.{World, Memory, opening}
-use Rattle.jn_system.specs.WholeSystem.Steps.{NextEvent, after, run}
-use Rattle.jn_report.specs.declared.line.Text.{Text}
-use Rattle.jn_system_reports.specs.Reporting.Reported.{Item, Act, Waiting, IsReported, events_of, world_of, after_item, waiting_in, strike_all, told_under, lines_of, none_wait}
-use Rattle.jn_aside.specs.Aside.{plain, is_show}
-use Rattle.jn_written.specs.Chances.{Setup}
-use Rattle.jn_written.specs.Tasks.{Task, Begins, Meets, CutShort}
-use Rattle.jn_written.specs.Events.{ending}
-use Rattle.jn_written.specs.Kinds.{is_up}
-use Rattle.jn_written.specs.Runs.{Moment}
-use Rattle.jn_retold.specs.Retold.{behind, IsAsIn, IsToldBy, IsRetold, IsRetoldInPart}
 use Rattle.jn_retold.proofs.Items.{waits_after, IsNext, one_more, reported-more, world-more, waits-more, events-more, length-more}
 use Rattle.jn_retold.proofs.Besides.{is_settling}
 use Rattle.jn_retold.proofs.Going.{At}

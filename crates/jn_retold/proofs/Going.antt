@@ -1,27 +1,6 @@
 -- Where a run under its schedule stands, and how a step of it goes on.
-use Rattle.std.proofs.Common.{◌≡◌, ◌⊎◌, inl, inr, Bool, true, false, List, [], ◌∷◌, ◌++◌, length, Some, refl, sym, ◌∙◌, ap, subst, arith}
-use Rattle.std.specs.Prelude.{◌||◌, nat_lt, if◌then◌else◌}
-use Rattle.std.specs.List.{list_all}
-use Rattle.jn_report.specs.declared.line.When.TheVariants.{Event as AtEvent}
-use Rattle.jn_report.specs.declared.line.Line.{Line}
-use Rattle.jn_report.specs.declared.line.Text.{Text}
-use Rattle.jn_system.specs.WholeSystem.World.{World, commits_in}
-use Rattle.jn_system.specs.WholeSystem.Steps.{Step, IsRun, run}
-use Rattle.jn_system_settling.specs.Settling.Course.{Course, go, go_on}
-use Rattle.jn_system_reports.specs.Reporting.Reported.{Act, Waiting, steps_in, told_in, at_event}
-use Rattle.jn_aside.specs.Aside.{plain}
-use Rattle.jn_aside.proofs.Plain.{plain-append}
+use Rattle.jn_retold.proofs.Common.{◌≡◌, ◌⊎◌, inl, inr, Bool, true, false, List, [], ◌∷◌, ◌++◌, length, Some, refl, sym, ◌∙◌, ap, subst, arith, ◌||◌, nat_lt, if◌then◌else◌, list_all, AtEvent, Line, Text, World, commits_in, Step, IsRun, run, Course, go, go_on, Act, Waiting, steps_in, told_in, at_event, plain, plain-append, run-within, Setup, Chance, Task, Stage, InSchedule, State, when_at, when_of, next_at, begun, Deed, deed_of, texts_of, lines_at, most_messages, is_too_much, come_to, cut_short, made, Devices, Befalls, AreFound, is_up, Moment, DoesStep, behind}
 use Rattle.jn_within.specs.Within.{Within}
-use Rattle.jn_within.proofs.WorldSteps.{run-within}
-use Rattle.jn_written.specs.Chances.{Setup, Chance}
-use Rattle.jn_written.specs.Tasks.{Task, Stage, InSchedule, State, when_at, when_of, next_at, begun}
-use Rattle.jn_written.specs.Deeds.{Deed}
-use Rattle.jn_written.specs.Events.{deed_of}
-use Rattle.jn_written.specs.Steps.{texts_of, lines_at, most_messages, is_too_much, come_to, cut_short, made}
-use Rattle.jn_written.specs.Devices.{Devices, Befalls, AreFound}
-use Rattle.jn_written.specs.Kinds.{is_up}
-use Rattle.jn_written.specs.Runs.{Moment, DoesStep}
-use Rattle.jn_retold.specs.Retold.{behind}
 use Rattle.jn_retold.proofs.Behind.{ups-name-none, run-behind}
 use Rattle.jn_retold.proofs.Acts.{texts_by, plain-texts}
 use Rattle.jn_retold.proofs.Seen.{told-behind, may-run}

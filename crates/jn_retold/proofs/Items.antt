@@ -1,11 +1,5 @@
 -- A run that goes on by one event.
-use Rattle.std.proofs.Common.{◌≡◌, ℕ, suc, ◌+◌, List, [], ◌∷◌, ◌++◌, append-nil, append_assoc, length, refl, sym, ◌∙◌, ap, subst, arith}
-use Rattle.jn_report.specs.declared.line.Line.{Line}
-use Rattle.jn_report.specs.declared.line.Text.{Text}
-use Rattle.jn_schedule.specs.declared.Event.{Event}
-use Rattle.jn_system.specs.WholeSystem.World.{World}
-use Rattle.jn_system.specs.WholeSystem.Steps.{Step, NextEvent, IsRun, run, after}
-use Rattle.jn_system_reports.specs.Reporting.Reported.{Item, Act, Waiting, IsReported, IsUnder, AreUnder, IsShown, AreShown, AreStruck, FaultsWait, events_of, step_of, steps_of, steps_in, world_of, after_item, waiting_in, strikes, strike_all, told_by, told_in, told_under, at_event, lines_of, none_wait}
+use Rattle.jn_retold.proofs.Common.{◌≡◌, ℕ, suc, ◌+◌, List, [], ◌∷◌, ◌++◌, append-nil, append_assoc, length, refl, sym, ◌∙◌, ap, subst, arith, Line, Text, Event, World, Step, NextEvent, IsRun, run, after, Item, Act, Waiting, IsReported, IsUnder, AreUnder, IsShown, AreShown, AreStruck, FaultsWait, events_of, step_of, steps_of, steps_in, world_of, after_item, waiting_in, strikes, strike_all, told_by, told_in, told_under, at_event, lines_of, none_wait}
 
 -- what waits after these items
 abbrev pub waits_after : Waiting → List Item → World → Waiting

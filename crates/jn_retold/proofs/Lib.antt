@@ -1,3 +1,4 @@
+mod Common
 pub mod Behind
 pub mod Items
 pub mod Acts

@@ -1,33 +1,8 @@
 -- What is done under each event is what it may have, and what is known of an event that isn't refused.
-use Rattle.std.proofs.Common.{◌≡◌, ◌<◌, ℕ, Bool, true, false, List, [], ◌∷◌, ◌++◌, map, Option, Some, None, refl, ◌∙◌, arith}
-use Rattle.std.specs.Prelude.{◌&&◌, if◌then◌else◌, nat_eq, slice_get}
-use Rattle.std.specs.List.{list_all}
-use Rattle.std.proofs.lemmas.Bool.Decides.{nat_tests}
-use Rattle.std.proofs.lemmas.List.Folds.{list_all-append}
-use Rattle.jn_base.specs.declared.names.ServerNo.{ServerNo}
-use Rattle.jn_base.specs.declared.names.ClientNo.{ClientNo}
-use Rattle.jn_base.specs.declared.names.Tid.{Tid}
-use Rattle.jn_base.specs.declared.names.WorkId.{WorkId}
-use Rattle.jn_base.specs.declared.names.Party.TheVariants.{Client, Server}
+use Rattle.jn_retold.proofs.Common.{◌≡◌, ◌<◌, ℕ, Bool, true, false, List, [], ◌∷◌, ◌++◌, map, Option, Some, None, refl, ◌∙◌, arith, ◌&&◌, if◌then◌else◌, nat_eq, slice_get, list_all, nat_tests, list_all-append, ServerNo, ClientNo, Tid, WorkId, Client, Server, Outside, client_eq, tid_eq, EventRefusal, EpochsUsedUp, TooManyArmed, Event, Pick, Sent, World, Memory, Printed, Room, Deliver, StopDelivery, Work, StopWork, Narrow, StopRestart, Restart, handing, working, Act, Does, Refuses, Tells, Shows, may_refuse, may_act, IsUnder, Setup, Chance, Deed, served, nothing, delivered, delivered_at, is_busy, no_room, working_steps, stopped_idle, scrubbed, showing, given_up, recovering, recovered, crashed_at, is_used_up, room, refusal_of, if_down}
 use Rattle.jn_base.specs.declared.device.FaultKind.TheVariants as faults
-use Rattle.jn_base.specs.declared.device.Outside.{Outside}
-use Rattle.jn_base.specs.Names.{client_eq, tid_eq}
-use Rattle.jn_report.specs.declared.line.EventRefusal.{EventRefusal}
-use Rattle.jn_report.specs.declared.line.EventRefusal.TheVariants.{EpochsUsedUp, TooManyArmed}
 use Rattle.jn_report.specs.declared.line.Text.TheVariants as says
-use Rattle.jn_schedule.specs.declared.Event.{Event}
 use Rattle.jn_schedule.specs.declared.Event.TheVariants as events
-use Rattle.jn_rows.specs.Stable.{Pick}
-use Rattle.jn_rows.specs.Outcomes.{Sent}
-use Rattle.jn_system.specs.WholeSystem.World.{World, Memory}
-use Rattle.jn_system.specs.WholeSystem.Printing.{Printed}
-use Rattle.jn_system.specs.WholeSystem.Servers.{Room}
-use Rattle.jn_system.specs.WholeSystem.Steps.{Deliver, StopDelivery, Work, StopWork, Narrow, StopRestart, Restart}
-use Rattle.jn_system_settling.specs.Settling.Settle.{handing, working}
-use Rattle.jn_system_reports.specs.Reporting.Reported.{Act, Does, Refuses, Tells, Shows, may_refuse, may_act, IsUnder}
-use Rattle.jn_written.specs.Chances.{Setup, Chance}
-use Rattle.jn_written.specs.Deeds.{Deed, served, nothing, delivered, delivered_at, is_busy, no_room, working_steps, stopped_idle, scrubbed, showing, given_up, recovering, recovered, crashed_at, is_used_up, room}
-use Rattle.jn_written.specs.Refusals.{refusal_of, if_down}
 use Rattle.jn_retold.proofs.Strikes.{same-server}
 use Rattle.jn_retold.proofs.Acts.{outside_acts, all_done, shown_acts, acts_of, acts_by}
 use Rattle.jn_retold.proofs.Doing.{IsReady}

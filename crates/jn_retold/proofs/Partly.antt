@@ -1,22 +1,8 @@
 -- The system while its servers come up, one after another.
-use Rattle.std.proofs.Common.{◌≡◌, ◌≢◌, ◌⊎◌, inl, inr, ◌<◌, ℕ, ◌+◌, Bool, true, false, List, [], ◌∷◌, ◌++◌, append-nil, Option, Some, None, refl, sym, ◌∙◌, ap, arith}
-use Rattle.std.specs.Prelude.{not, ◌||◌, if◌then◌else◌, nat_lt, is_some}
+use Rattle.jn_retold.proofs.Common.{◌≡◌, ◌≢◌, ◌⊎◌, inl, inr, ◌<◌, ℕ, ◌+◌, Bool, true, false, List, [], ◌∷◌, ◌++◌, append-nil, Option, Some, None, refl, sym, ◌∙◌, ap, arith, not, ◌||◌, if◌then◌else◌, nat_lt, is_some, cases_Bool, nat_tests, ServerNo, server_eq, server_tells, AllFiles, Text, StableState, Pick, World, Memory, new_memory, opening, at_server, restored, Restart, AreNames, after, restart, closed_world, behind}
 use Rattle.std.proofs.Math.Path.{fun_ext}
-use Rattle.std.proofs.lemmas.Bool.{cases_Bool}
-use Rattle.std.proofs.lemmas.Bool.Decides.{nat_tests}
-use Rattle.jn_base.specs.declared.names.ServerNo.{ServerNo}
-use Rattle.jn_base.specs.Names.{server_eq}
-use Rattle.jn_base.proofs.Tells.{server_tells}
-use Rattle.jn_order.specs.Files.{AllFiles}
-use Rattle.jn_report.specs.declared.line.Text.{Text}
 use Rattle.jn_report.specs.declared.line.Text.TheVariants as says
 use Rattle.jn_system.specs.SmallSteps.Steps.{with_epoch}
-use Rattle.jn_rows.specs.Stable.{StableState, Pick}
-use Rattle.jn_system.specs.WholeSystem.World.{World, Memory, new_memory, opening, at_server}
-use Rattle.jn_system.specs.WholeSystem.Servers.{restored}
-use Rattle.jn_system.specs.WholeSystem.Steps.{Restart, AreNames, after, restart}
-use Rattle.jn_written.specs.Whole.{closed_world}
-use Rattle.jn_retold.specs.Retold.{behind}
 
 -- names of nothing
 pub none-named : {A B : Type 0} (eq before : A → A → Bool) → ((a : A) → eq a a ≡ true) → (there : A → Option B) → ((a : A) → is_some (there a) ≡ false) → (names : List A) → AreNames eq before there names → names ≡ []

@@ -1,37 +1,9 @@
 -- What is printed of a server's files has blocks with numbers below 120.
-use Rattle.std.proofs.Common.{◌≡◌, ◌≤◌, ℕ, Bool, true, false, List, [], ◌∷◌, ◌++◌, Option, Some, None, refl, sym, ◌∙◌, ap, subst, arith}
-use Rattle.std.specs.Prelude.{◌&&◌, if◌then◌else◌, nat_lt, option_and_then}
-use Rattle.std.specs.List.{list_all, AllByRecursion}
-use Rattle.std.proofs.lemmas.Bool.Decides.{nat_tests}
-use Rattle.jn_base.specs.declared.names.ServerNo.{ServerNo}
-use Rattle.jn_base.specs.declared.names.ClientNo.{ClientNo}
-use Rattle.jn_base.specs.declared.names.FileNo.{FileNo}
-use Rattle.jn_base.specs.declared.names.BlockNo.{BlockNo}
-use Rattle.jn_base.specs.declared.names.Tid.{Tid}
-use Rattle.jn_base.specs.declared.names.LockUnit.{LockUnit}
-use Rattle.jn_base.specs.declared.names.LockUnit.TheVariants.{File, Block}
-use Rattle.jn_base.specs.declared.op.Command.{Command}
-use Rattle.jn_order.specs.Files.{AllFiles}
-use Rattle.jn_schedule.specs.declared.Event.{Event}
+use Rattle.jn_retold.proofs.Common.{◌≡◌, ◌≤◌, ℕ, Bool, true, false, List, [], ◌∷◌, ◌++◌, Option, Some, None, refl, sym, ◌∙◌, ap, subst, arith, ◌&&◌, if◌then◌else◌, nat_lt, option_and_then, list_all, AllByRecursion, nat_tests, ServerNo, ClientNo, FileNo, BlockNo, Tid, LockUnit, File, Block, Command, AllFiles, Event, EventInRange, is_unit, Commit, Phase, Active, Broken, Stored, StableState, WorkerTable, holds, commit_holder, unit_in_range, World, opening, print_unit, Step, NextEvent, Tell, after, Item, Act, Does, Refuses, Tells, Shows, IsUnder, AreUnder, IsReported, may_do, may_act, events_of, steps_in, steps_of, world_of, scheduled-in-range, Setup, Devices, AreFound}
 use Rattle.jn_schedule.specs.declared.Event.TheVariants as events
-use Rattle.jn_schedule.specs.Ranges.{EventInRange}
-use Rattle.jn_locks.specs.Locks.{is_unit}
-use Rattle.jn_locks.specs.declared.words.Mode.TheVariants.{Commit}
 use Rattle.jn_records.specs.StablePages.{Counts, Pages, files_of_pages, head_of, block_in, block_behind, address_in}
-use Rattle.jn_rows.specs.declared.worker.Phase.{Phase}
-use Rattle.jn_rows.specs.declared.worker.Phase.TheVariants.{Active, Broken, Prepared as Stored}
-use Rattle.jn_rows.specs.Stable.{StableState}
-use Rattle.jn_rows.specs.Worker.{WorkerTable, holds, commit_holder}
 use Rattle.jn_found.specs.Pages.{pages_by}
 use Rattle.jn_store.specs.Pairs.{pairs_view}
-use Rattle.jn_storage.specs.Orderly.{unit_in_range}
-use Rattle.jn_system.specs.WholeSystem.World.{World, opening}
-use Rattle.jn_system.specs.WholeSystem.Printing.{print_unit}
-use Rattle.jn_system.specs.WholeSystem.Steps.{Step, NextEvent, Tell, after}
-use Rattle.jn_system_reports.specs.Reporting.Reported.{Item, Act, Does, Refuses, Tells, Shows, IsUnder, AreUnder, IsReported, may_do, may_act, events_of, steps_in, steps_of, world_of}
-use Rattle.jn_within.proofs.Taking.{scheduled-in-range}
-use Rattle.jn_written.specs.Chances.{Setup}
-use Rattle.jn_written.specs.Devices.{Devices, AreFound}
 use Rattle.jn_retold.proofs.Beginning.{Blocks}
 use Rattle.jn_retold.proofs.RowRanges.{IsRanged, AreRanged}
 use Rattle.jn_retold.proofs.WorldRanges.{Ranged, StepInRange, run-ranged, opening-ranged}

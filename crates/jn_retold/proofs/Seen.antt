@@ -1,16 +1,6 @@
 -- What is done and told under an event is the same with lines of servers that came up before.
-use Rattle.std.proofs.Common.{◌≡◌, List, [], ◌∷◌, ◌++◌, refl, sym, ◌∙◌, ap, subst}
-use Rattle.jn_base.specs.declared.names.ServerNo.{ServerNo}
-use Rattle.jn_report.specs.declared.line.Text.{Text}
-use Rattle.jn_schedule.specs.declared.Event.{Event}
+use Rattle.jn_retold.proofs.Common.{◌≡◌, List, [], ◌∷◌, ◌++◌, refl, sym, ◌∙◌, ap, subst, ServerNo, Text, Event, World, commits_in, Step, Restart, CloseClients, IsStep, IsRun, run, after, Printed, Act, Does, Refuses, Tells, Shows, step_of, told_by, told_in, GoesOver, IsShow, IsShown, IsPrinted, own_texts, behind}
 use Rattle.jn_schedule.specs.declared.Event.TheVariants as events
-use Rattle.jn_system.specs.WholeSystem.World.{World, commits_in}
-use Rattle.jn_system.specs.WholeSystem.Steps.{Step, Restart, CloseClients, IsStep, IsRun, run, after}
-use Rattle.jn_system.specs.WholeSystem.Printing.{Printed}
-use Rattle.jn_system_reports.specs.Reporting.Reported.{Act, Does, Refuses, Tells, Shows, step_of, told_by, told_in, GoesOver, IsShow, IsShown}
-use Rattle.jn_system_reports.specs.Reporting.Printing.{IsPrinted}
-use Rattle.jn_written.specs.Steps.{own_texts}
-use Rattle.jn_retold.specs.Retold.{behind}
 use Rattle.jn_retold.proofs.Behind.{step-behind, run-behind}
 use Rattle.jn_retold.proofs.Acts.{grown-one, own-behind}
 

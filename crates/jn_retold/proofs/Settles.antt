@@ -1,32 +1,6 @@
 -- A step of a settle.
-use Rattle.std.proofs.Common.{◌≡◌, ◌⊎◌, inl, inr, ◌<◌, ℕ, zero, suc, ◌+◌, Bool, true, false, List, [], ◌∷◌, ◌++◌, append-nil, append_assoc, drop, Option, Some, None, refl, sym, ◌∙◌, ap, subst, arith}
-use Rattle.std.specs.Prelude.{◌&&◌, if◌then◌else◌, slice_get}
-use Rattle.std.specs.List.{list_all}
-use Rattle.std.proofs.lemmas.List.Folds.{list_all-append}
-use Rattle.jn_base.specs.declared.names.ServerNo.{ServerNo}
-use Rattle.jn_base.specs.declared.names.Party.TheVariants.{Server}
-use Rattle.jn_msgs.specs.declared.message.Message.{Message}
-use Rattle.jn_order.specs.Files.{AllFiles}
-use Rattle.jn_schedule.specs.declared.Event.{Event}
+use Rattle.jn_retold.proofs.Common.{◌≡◌, ◌⊎◌, inl, inr, ◌<◌, ℕ, zero, suc, ◌+◌, Bool, true, false, List, [], ◌∷◌, ◌++◌, append-nil, append_assoc, drop, Option, Some, None, refl, sym, ◌∙◌, ap, subst, arith, ◌&&◌, if◌then◌else◌, slice_get, list_all, list_all-append, ServerNo, Server, Message, AllFiles, Event, Line, AtEvent, Text, World, opening, servers_from, Step, NextEvent, IsRun, run, after, go_on, Item, Act, Waiting, AreStruck, may_act, steps_in, world_of, after_item, strike_all, told_in, at_event, lines_of, none_wait, plain, plain-append, sent-near, Setup, Chance, Task, Acts, Rests, State, Deed, nothing, is_busy, servers_of, first_busy, next_event, resting, acted, is_too_much, come_to, cut_short, made, own_texts, Befalls, Moment, DoesStep, behind}
 use Rattle.jn_schedule.specs.declared.Event.TheVariants as events
-use Rattle.jn_report.specs.declared.line.Line.{Line}
-use Rattle.jn_report.specs.declared.line.When.TheVariants.{Event as AtEvent}
-use Rattle.jn_report.specs.declared.line.Text.{Text}
-use Rattle.jn_system.specs.WholeSystem.World.{World, opening, servers_from}
-use Rattle.jn_system.specs.WholeSystem.Steps.{Step, NextEvent, IsRun, run, after}
-use Rattle.jn_system_settling.specs.Settling.Course.{go_on}
-use Rattle.jn_system_reports.specs.Reporting.Reported.{Item, Act, Waiting, AreStruck, may_act, steps_in, world_of, after_item, strike_all, told_in, at_event, lines_of, none_wait}
-use Rattle.jn_aside.specs.Aside.{plain}
-use Rattle.jn_aside.proofs.Plain.{plain-append}
-use Rattle.jn_within.proofs.WorldSteps.{sent-near}
-use Rattle.jn_written.specs.Chances.{Setup, Chance}
-use Rattle.jn_written.specs.Tasks.{Task, Acts, Rests, State}
-use Rattle.jn_written.specs.Deeds.{Deed, nothing, is_busy}
-use Rattle.jn_written.specs.Events.{servers_of, first_busy, next_event, resting, acted}
-use Rattle.jn_written.specs.Steps.{is_too_much, come_to, cut_short, made, own_texts}
-use Rattle.jn_written.specs.Devices.{Befalls}
-use Rattle.jn_written.specs.Runs.{Moment, DoesStep}
-use Rattle.jn_retold.specs.Retold.{behind}
 use Rattle.jn_retold.proofs.Behind.{ups-name-none}
 use Rattle.jn_retold.proofs.Items.{waits_after, one_more, run-both, is-run-both, lines-more, steps-join, told-join, strike-join, struck-join}
 use Rattle.jn_retold.proofs.Acts.{acts_by, texts_by, grown-own, steps-of-acts, told-of-acts, plain-lines-join}

@@ -1,27 +1,6 @@
 -- What a show prints, block by block, is what there is to print.
-use Rattle.std.proofs.Common.{◌≡◌, ◌≤◌, ◌<◌, ◌⊎◌, inl, inr, ℕ, zero, suc, ◌+◌, Bool, true, false, List, [], ◌∷◌, ◌++◌, append_assoc, map, Option, Some, None, refl, sym, ◌∙◌, ap, subst, arith}
-use Rattle.std.specs.Prelude.{◌&&◌, nat_lt, nat_le, is_some}
-use Rattle.std.specs.List.{list_all, list_any}
-use Rattle.std.proofs.lemmas.Bool.{cases_Bool}
-use Rattle.std.proofs.lemmas.Bool.Decides.{nat_tests}
-use Rattle.jn_base.specs.declared.names.ServerNo.{ServerNo}
-use Rattle.jn_base.specs.declared.names.FileNo.{FileNo}
-use Rattle.jn_base.specs.declared.names.BlockNo.{BlockNo}
-use Rattle.jn_base.specs.declared.names.LockUnit.{LockUnit}
-use Rattle.jn_base.specs.declared.names.LockUnit.TheVariants.{File, Block}
-use Rattle.jn_base.specs.declared.device.Outside.{Outside}
-use Rattle.jn_base.specs.Names.{file_eq, block_eq}
-use Rattle.jn_base.proofs.Tells.{block_tells}
+use Rattle.jn_retold.proofs.Common.{◌≡◌, ◌≤◌, ◌<◌, ◌⊎◌, inl, inr, ℕ, zero, suc, ◌+◌, Bool, true, false, List, [], ◌∷◌, ◌++◌, append_assoc, map, Option, Some, None, refl, sym, ◌∙◌, ap, subst, arith, ◌&&◌, nat_lt, nat_le, is_some, list_all, list_any, cases_Bool, nat_tests, ServerNo, FileNo, BlockNo, LockUnit, File, Block, Outside, file_eq, block_eq, block_tells, Pick, World, Memory, StopWork, AreNames, are_rising, after, Printed, print_one, print_blocks, print_file, print_files, file_before, block_before, ArePrints, Act, Does, Tells, Shows, told_by, GoesOver, IsShow, prints_of, IsPrinted, Chance, no_room, stopped_idle, blocks_from, showing, IsLookedOver}
 use Rattle.jn_report.specs.declared.line.Text.TheVariants as says
-use Rattle.jn_rows.specs.Stable.{Pick}
-use Rattle.jn_system.specs.WholeSystem.World.{World, Memory}
-use Rattle.jn_system.specs.WholeSystem.Steps.{StopWork, AreNames, are_rising, after}
-use Rattle.jn_system.specs.WholeSystem.Printing.{Printed, print_one, print_blocks, print_file, print_files, file_before, block_before, ArePrints}
-use Rattle.jn_system_reports.specs.Reporting.Reported.{Act, Does, Tells, Shows, told_by, GoesOver, IsShow}
-use Rattle.jn_system_reports.specs.Reporting.Printing.{prints_of, IsPrinted}
-use Rattle.jn_written.specs.Chances.{Chance}
-use Rattle.jn_written.specs.Deeds.{no_room, stopped_idle, blocks_from, showing}
-use Rattle.jn_written.specs.Devices.{IsLookedOver}
 use Rattle.jn_retold.proofs.Strikes.{same-server}
 use Rattle.jn_retold.proofs.Acts.{all_done, shown_acts, acts_of, grown-own}
 use Rattle.jn_retold.proofs.Turns.{idle-turns}

@@ -1,22 +1,6 @@
 -- What stands at each device between two steps, and how it stands after one with a server's device.
-use Rattle.std.proofs.Common.{◌≡◌, ◌≢◌, ◌⊎◌, inl, inr, ◌≤◌, ◌<◌, ℕ, ◌+◌, Bool, true, false, List, [], ◌∷◌, ◌++◌, Option, Some, None, sym, ◌∙◌, ap, subst, arith}
-use Rattle.std.specs.Prelude.{not, if◌then◌else◌, is_some}
-use Rattle.std.specs.List.{list_all}
-use Rattle.jn_base.specs.declared.names.ServerNo.{ServerNo}
-use Rattle.jn_base.specs.Names.{server_eq}
-use Rattle.jn_base.proofs.Tells.{server_tells}
-use Rattle.jn_device.specs.Device.{DeviceState}
-use Rattle.jn_device.specs.Events.{powered_off}
-use Rattle.jn_device.specs.Later.{count_kind, count_told, is_stop}
-use Rattle.jn_report.specs.declared.line.Text.{Text}
+use Rattle.jn_retold.proofs.Common.{◌≡◌, ◌≢◌, ◌⊎◌, inl, inr, ◌≤◌, ◌<◌, ℕ, ◌+◌, Bool, true, false, List, [], ◌∷◌, ◌++◌, Option, Some, None, sym, ◌∙◌, ap, subst, arith, not, if◌then◌else◌, is_some, list_all, ServerNo, server_eq, server_tells, DeviceState, powered_off, count_kind, count_told, is_stop, Text, Pick, World, Memory, Waiting, strike_all, AreStruck, Chance, own_texts, Devices, IsCalled, IsRecovery, stop-had-waited, told-had-waited}
 use Rattle.jn_report.specs.declared.line.Text.TheVariants as says
-use Rattle.jn_rows.specs.Stable.{Pick}
-use Rattle.jn_system.specs.WholeSystem.World.{World, Memory}
-use Rattle.jn_system_reports.specs.Reporting.Reported.{Waiting, strike_all, AreStruck}
-use Rattle.jn_written.specs.Chances.{Chance}
-use Rattle.jn_written.specs.Steps.{own_texts}
-use Rattle.jn_written.specs.Devices.{Devices, IsCalled, IsRecovery}
-use Rattle.jn_written.proofs.Struck.{stop-had-waited, told-had-waited}
 use Rattle.jn_retold.proofs.Acts.{grown-own}
 use Rattle.jn_retold.proofs.Strikes.{any, is_harmless, told_texts, Strikes, calm-strikes, halt-strikes}
 use Rattle.jn_retold.proofs.Turns.{Turns}

@@ -1,43 +1,6 @@
 -- Until every server has come up.
-use Rattle.std.proofs.Common.{◌≡◌, ◌⊎◌, inl, inr, ◌≤◌, ◌<◌, ℕ, suc, ◌+◌, Bool, true, false, List, [], ◌∷◌, ◌++◌, append-nil, map, drop, Option, Some, None, refl, sym, ◌∙◌, ap, subst, arith, length}
-use Rattle.std.specs.Prelude.{not, ◌&&◌, ◌||◌, if◌then◌else◌, nat_lt, is_some}
-use Rattle.std.specs.List.{list_all}
-use Rattle.std.proofs.lemmas.List.Folds.{list_all-append}
-use Rattle.std.proofs.lemmas.Bool.Decides.{nat_tests}
-use Rattle.jn_base.specs.declared.names.ServerNo.{ServerNo}
-use Rattle.jn_base.specs.declared.names.Tid.{Tid}
-use Rattle.jn_base.specs.declared.names.WorkId.{WorkId}
-use Rattle.jn_base.specs.declared.device.Outside.{Outside}
-use Rattle.jn_base.specs.Names.{server_eq, tid_eq, work_eq}
-use Rattle.jn_base.proofs.Tells.{server_tells}
-use Rattle.jn_device.specs.declared.Armed.{Armed}
-use Rattle.jn_device.specs.Device.{DeviceState}
-use Rattle.jn_device.specs.Events.{powered_off}
-use Rattle.jn_device.specs.Later.{count_kind, is_stop}
-use Rattle.jn_order.specs.Files.{AllFiles}
-use Rattle.jn_schedule.specs.declared.Event.{Event}
-use Rattle.jn_report.specs.declared.line.Line.{Line}
-use Rattle.jn_report.specs.declared.line.Text.{Text}
+use Rattle.jn_retold.proofs.Common.{◌≡◌, ◌⊎◌, inl, inr, ◌≤◌, ◌<◌, ℕ, suc, ◌+◌, Bool, true, false, List, [], ◌∷◌, ◌++◌, append-nil, map, drop, Option, Some, None, refl, sym, ◌∙◌, ap, subst, arith, length, not, ◌&&◌, ◌||◌, if◌then◌else◌, nat_lt, is_some, list_all, list_all-append, nat_tests, ServerNo, Tid, WorkId, Outside, server_eq, tid_eq, work_eq, server_tells, Armed, DeviceState, powered_off, count_kind, is_stop, AllFiles, Event, Line, Text, Pick, work_before, World, Memory, new_memory, opening, servers_from, Step, Restart, IsRun, run, after, tid_before, go_on, IsReported, plain, plain-append, opening-within, Setup, Chance, Task, Begins, ComesUp, InSchedule, State, when_at, pick_read, is_used_up, given_up, recovering, recovered, brought_up, ending, is_too_much, most_messages, own_texts, texts_of, lines_at, come_to, cut_short, made, IsRecovery, Befalls, AreFound, is_up, Moment, DoesStep, nothing-strikes, IsAsIn, IsRetoldInPart}
 use Rattle.jn_report.specs.declared.line.Text.TheVariants as says
-use Rattle.jn_rows.specs.Stable.{Pick}
-use Rattle.jn_locks.specs.Locks.{work_before}
-use Rattle.jn_system.specs.WholeSystem.World.{World, Memory, new_memory, opening, servers_from}
-use Rattle.jn_system.specs.WholeSystem.Steps.{Step, Restart, IsRun, run, after, tid_before}
-use Rattle.jn_system_settling.specs.Settling.Course.{go_on}
-use Rattle.jn_system_reports.specs.Reporting.Reported.{IsReported}
-use Rattle.jn_aside.specs.Aside.{plain}
-use Rattle.jn_aside.proofs.Plain.{plain-append}
-use Rattle.jn_within.proofs.WorldSteps.{opening-within}
-use Rattle.jn_written.specs.Chances.{Setup, Chance}
-use Rattle.jn_written.specs.Tasks.{Task, Begins, ComesUp, InSchedule, State, when_at}
-use Rattle.jn_written.specs.Deeds.{pick_read, is_used_up, given_up, recovering, recovered, brought_up}
-use Rattle.jn_written.specs.Events.{ending}
-use Rattle.jn_written.specs.Steps.{is_too_much, most_messages, own_texts, texts_of, lines_at, come_to, cut_short, made}
-use Rattle.jn_written.specs.Devices.{IsRecovery, Befalls, AreFound}
-use Rattle.jn_written.specs.Kinds.{is_up}
-use Rattle.jn_written.specs.Runs.{Moment, DoesStep}
-use Rattle.jn_written.proofs.Struck.{nothing-strikes}
-use Rattle.jn_retold.specs.Retold.{IsAsIn, IsRetoldInPart}
 use Rattle.jn_retold.proofs.Acts.{texts_by, grown-own, plain-texts}
 use Rattle.jn_retold.proofs.Going.{does-next, goes-or-cut, go-world}
 use Rattle.jn_retold.proofs.Forms.{Between, Held, cut}

@@ -1,16 +1,6 @@
 -- What strikes a server, and what is left waiting.
-use Rattle.std.proofs.Common.{◌≡◌, ◌≤◌, ℕ, ◌+◌, ◌-◌, Bool, true, false, List, [], ◌∷◌, ◌++◌, map, refl, sym, ◌∙◌, ap, subst, arith}
-use Rattle.std.specs.Prelude.{◌&&◌, if◌then◌else◌}
-use Rattle.std.specs.List.{list_all}
-use Rattle.std.proofs.lemmas.Bool.Decides.{nat_tests}
-use Rattle.jn_base.specs.declared.names.ServerNo.{ServerNo}
-use Rattle.jn_base.specs.declared.device.FaultKind.{FaultKind}
-use Rattle.jn_base.specs.declared.device.Outside.{Outside}
-use Rattle.jn_base.specs.Names.{server_eq}
-use Rattle.jn_device.specs.Later.{count_told}
-use Rattle.jn_report.specs.declared.line.Text.{Text}
+use Rattle.jn_retold.proofs.Common.{◌≡◌, ◌≤◌, ℕ, ◌+◌, ◌-◌, Bool, true, false, List, [], ◌∷◌, ◌++◌, map, refl, sym, ◌∙◌, ap, subst, arith, ◌&&◌, if◌then◌else◌, list_all, nat_tests, ServerNo, FaultKind, Outside, server_eq, count_told, Text, Waiting, one_less, strikes, strike_all, IsStruck, AreStruck}
 use Rattle.jn_report.specs.declared.line.Text.TheVariants as says
-use Rattle.jn_system_reports.specs.Reporting.Reported.{Waiting, one_less, strikes, strike_all, IsStruck, AreStruck}
 use Rattle.jn_retold.proofs.Items.{strike-join, struck-join}
 
 abbrev pub any : FaultKind → Bool

@@ -1,25 +1,7 @@
 -- How a step with a server's device turns out: the server goes on, or is stopped.
-use Rattle.std.proofs.Common.{◌≡◌, ℕ, Bool, true, false, List, [], ◌∷◌, ◌++◌, append-nil, Option, Some, None, refl, sym, ap, subst, arith}
-use Rattle.std.specs.Prelude.{◌||◌, if◌then◌else◌, nat_lt, slice_get, is_some}
-use Rattle.std.specs.List.{list_all}
-use Rattle.jn_base.specs.declared.names.ServerNo.{ServerNo}
-use Rattle.jn_base.specs.declared.names.Party.TheVariants.{Server}
-use Rattle.jn_base.specs.Names.{server_eq}
-use Rattle.jn_msgs.specs.declared.message.Message.{Message}
-use Rattle.jn_report.specs.declared.line.Text.{Text}
+use Rattle.jn_retold.proofs.Common.{◌≡◌, ℕ, Bool, true, false, List, [], ◌∷◌, ◌++◌, append-nil, Option, Some, None, refl, sym, ap, subst, arith, ◌||◌, if◌then◌else◌, nat_lt, slice_get, is_some, list_all, ServerNo, Server, server_eq, Message, Text, Pick, stable, RowOutcome, Sent, going_work, World, Memory, at_server, Room, server_row, server_step, Deliver, Work, Narrow, StopRestart, Restart, after, run, ends, at_memory, handed, work, works, narrow, stop_restart, restart, handing, working, has_going, Chance, no_room, stopped_idle, pick_read, recovering, is_note, is_up, is_of_delivery, Adds, adds, weaker}
 use Rattle.jn_report.specs.declared.line.Text.TheVariants as says
-use Rattle.jn_rows.specs.Stable.{Pick, stable}
-use Rattle.jn_rows.specs.Outcomes.{RowOutcome, Sent}
 use Rattle.jn_rows.specs.declared.worker.Work.{Work as WorkEntry}
-use Rattle.jn_rows.specs.Worker.{going_work}
-use Rattle.jn_system.specs.WholeSystem.World.{World, Memory, at_server}
-use Rattle.jn_system.specs.WholeSystem.Servers.{Room, server_row, server_step}
-use Rattle.jn_system.specs.WholeSystem.Steps.{Deliver, Work, Narrow, StopRestart, Restart, after, run, ends, at_memory, handed, work, works, narrow, stop_restart, restart}
-use Rattle.jn_system_settling.specs.Settling.Settle.{handing, working, is_busy as has_going}
-use Rattle.jn_written.specs.Chances.{Chance}
-use Rattle.jn_written.specs.Deeds.{no_room, stopped_idle, pick_read, recovering}
-use Rattle.jn_written.specs.Kinds.{is_note, is_up, is_of_delivery}
-use Rattle.jn_written.proofs.Telling.{Adds, adds, weaker}
 use Rattle.jn_retold.proofs.Strikes.{is_harmless}
 
 -- the server goes on, perhaps as one that came up

@@ -1,19 +1,6 @@
 -- Every written run is retold.
-use Rattle.std.proofs.Common.{◌≡◌, ◌⊎◌, inl, inr, ◌≤◌, ◌<◌, ℕ, zero, suc, ◌+◌, List, [], ◌∷◌, ◌++◌, append-nil, Some, None, refl, sym, ◌∙◌, ap, subst, arith}
-use Rattle.std.specs.List.{AllByRecursion}
-use Rattle.jn_base.specs.declared.names.ServerNo.{ServerNo}
-use Rattle.jn_order.specs.Files.{AllFiles}
-use Rattle.jn_schedule.specs.declared.Event.{Event}
-use Rattle.jn_schedule.specs.Ranges.{EventInRange}
-use Rattle.jn_system.specs.WholeSystem.World.{World}
-use Rattle.jn_system_reports.specs.Reporting.Reported.{Item, events_of}
-use Rattle.jn_written.specs.Chances.{Setup}
-use Rattle.jn_written.specs.Tasks.{Task, InSchedule, AtEnd, CutShort, Stage, next_at}
-use Rattle.jn_written.specs.Devices.{Devices, AreFound}
-use Rattle.jn_written.specs.Runs.{none, more, Moment, DoesStep, Leads}
-use Rattle.jn_written.specs.Whole.{before, AreImages, IsWritten}
+use Rattle.jn_retold.proofs.Common.{◌≡◌, ◌⊎◌, inl, inr, ◌≤◌, ◌<◌, ℕ, zero, suc, ◌+◌, List, [], ◌∷◌, ◌++◌, append-nil, Some, None, refl, sym, ◌∙◌, ap, subst, arith, AllByRecursion, ServerNo, AllFiles, Event, EventInRange, World, Item, events_of, Setup, Task, InSchedule, AtEnd, CutShort, Stage, next_at, Devices, AreFound, none, more, Moment, DoesStep, Leads, before, AreImages, IsWritten, IsRetold, IsRetoldInPart}
 use Rattle.jn_written.proofs.Computed.{join}
-use Rattle.jn_retold.specs.Retold.{IsRetold, IsRetoldInPart}
 use Rattle.jn_retold.proofs.Forms.{Between, Held, between, meeting, settling, cut, ended, between-part, meeting-part, amid-part, told-by}
 use Rattle.jn_retold.proofs.Beginning.{begin-step, meet-step}
 use Rattle.jn_retold.proofs.Settles.{settle-step}

@@ -1,30 +1,9 @@
 -- Blocks stay below 120 in every run whose commands name only such.
-use Rattle.std.proofs.Common.{◌≡◌, ◌≤◌, ℕ, zero, suc, ◌+◌, Bool, true, false, List, [], ◌∷◌, ◌++◌, take, Option, Some, None, refl, subst, arith}
-use Rattle.std.specs.Prelude.{⊤, ◌&&◌, if◌then◌else◌, slice_get}
-use Rattle.std.specs.List.{list_all, AllByRecursion}
+use Rattle.jn_retold.proofs.Common.{◌≡◌, ◌≤◌, ℕ, zero, suc, ◌+◌, Bool, true, false, List, [], ◌∷◌, ◌++◌, take, Option, Some, None, refl, subst, arith, ⊤, ◌&&◌, if◌then◌else◌, slice_get, list_all, AllByRecursion, ServerNo, ClientNo, Tid, WorkId, Client, Server, server_eq, client_eq, work_eq, AllFiles, Message, blocks_below, Taken, coordinator_row, flags_of_thanked, close_clients_row, RowOutcome, Sent, StableState, Prepared, Change, AddReady, MarkGoing, CarryOut, RemoveWork, AddFlag, DropFlag, gone_on, made_by, made_all, Pick, stable, WorkerTable, worker_row, worker_step, timeout_row, World, Memory, at_server, at_client, new_memory, opening, Room, storage_of, is_for_worker, of_worker, server_row, of_step, server_step, server_again, of_timeout, server_timeout, of_coordinator, restored, Step, NextEvent, Tell, Again, Deliver, Work, Nudge, Timeout, StopDelivery, StopWork, Crash, Narrow, StopRestart, Restart, Dismiss, CloseClients, after, run, ends, at_memory, handed, work, works, nudge, timeout, crash, narrow, stop_restart, restart, close_clients, took, commanded, sent_now, InRange, servers-taken, command-fits, take-fits, new-fits, over-fits}
 use Rattle.std.proofs.lemmas.List.Elements.{All-nil, All-head, All-tail, All-append, All-cons}
-use Rattle.jn_base.specs.declared.names.ServerNo.{ServerNo}
-use Rattle.jn_base.specs.declared.names.ClientNo.{ClientNo}
-use Rattle.jn_base.specs.declared.names.Tid.{Tid}
-use Rattle.jn_base.specs.declared.names.WorkId.{WorkId}
-use Rattle.jn_base.specs.declared.names.Party.TheVariants.{Client, Server}
-use Rattle.jn_base.specs.Names.{server_eq, client_eq, work_eq}
-use Rattle.jn_order.specs.Files.{AllFiles}
-use Rattle.jn_msgs.specs.declared.message.Message.{Message}
-use Rattle.jn_records.specs.NetLists.{blocks_below}
-use Rattle.jn_rows.specs.declared.client.Taken.{Taken}
 use Rattle.jn_rows.specs.declared.client.Taken.TheVariants as taken
 use Rattle.jn_rows.specs.Client.{ClientTable, Commanded, Refuses, Sends, command_row, take_row, again_row}
-use Rattle.jn_rows.specs.Coordinator.{coordinator_row, flags_of_thanked, close_clients_row}
-use Rattle.jn_rows.specs.Outcomes.{RowOutcome, Sent}
-use Rattle.jn_rows.specs.Stable.{StableState, Prepared, Change, AddReady, MarkGoing, CarryOut, RemoveWork, AddFlag, DropFlag, gone_on, made_by, made_all, Pick, stable}
-use Rattle.jn_rows.specs.Worker.{WorkerTable, worker_row, worker_step, timeout_row}
-use Rattle.jn_system.specs.WholeSystem.World.{World, Memory, at_server, at_client, new_memory, opening}
-use Rattle.jn_system.specs.WholeSystem.Servers.{Room, storage_of, is_for_worker, of_worker, server_row, of_step, server_step, server_again, of_timeout, server_timeout, of_coordinator, restored}
-use Rattle.jn_system.specs.WholeSystem.Steps.{Step, NextEvent, Tell, Again, Deliver, Work, Nudge, Timeout, StopDelivery, StopWork, Crash, Narrow, StopRestart, Restart, Dismiss, CloseClients, after, run, ends, at_memory, handed, work, works, nudge, timeout, crash, narrow, stop_restart, restart, close_clients, took, commanded, sent_now}
-use Rattle.jn_worker.specs.Handling.{InRange}
 use Rattle.jn_within.specs.Taking.{CanBeTaken, AllCanBeTaken, CommandInRange, ClientFits, CommandFits, sent_for}
-use Rattle.jn_within.proofs.Taking.{servers-taken, command-fits, take-fits, new-fits, over-fits}
 use Rattle.jn_within.proofs.ServerRows.{row-requests, step-requests, again-requests}
 use Rattle.jn_retold.proofs.RowRanges.{AreRanged, is_ranged, WorksRanged, row-ranged, step-ranged, timeout-ranged, restored-ranged}
 use Rattle.jn_retold.proofs.Coordinating.{is_of_flag, row-flags, all-thanked-flags}

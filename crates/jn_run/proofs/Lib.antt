@@ -1,3 +1,4 @@
+mod Common
 pub mod Opened
 pub mod Outcomes
 pub mod Told

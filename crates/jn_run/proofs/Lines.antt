@@ -1,11 +1,7 @@
 -- The lines of one call, which are reported.
-use Rattle.std.proofs.Common.{◌≡◌, true, List, Result}
-use Rattle.std.specs.Prelude.{is_ok}
-use Rattle.jn_report.specs.declared.line.Line.{Line}
-use Rattle.jn_writing.specs.Reporting.{Reporting, Reports, Joins}
+use Rattle.jn_run.proofs.Common.{◌≡◌, true, List, Result, is_ok, Line, Reporting, Reports, Joins, ReportedLast}
 use Rattle.jn_writing.specs.declared.fault.ReportFault.{ReportFault}
 use Rattle.jn_run.specs.declared.running.RunFault.TheVariants as runs
-use Rattle.jn_run.specs.Running.{ReportedLast}
 
 limit-no-write : runs.Limit ≡ runs.Write → ⊥
 limit-no-write h = cc

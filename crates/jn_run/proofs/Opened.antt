@@ -1,38 +1,10 @@
 -- What a run begins with, of the stores that were opened.
-use Rattle.std.proofs.Common.{◌≡◌, ℕ, zero, suc, ◌≤◌, ◌<◌, Bool, true, false, List, [], ◌∷◌, length, slice_get, Option, Some, None, refl, sym, ◌∙◌, ap, subst, arith}
+use Rattle.jn_run.proofs.Common.{◌≡◌, ℕ, zero, suc, ◌≤◌, ◌<◌, Bool, true, false, List, [], ◌∷◌, length, slice_get, Option, Some, None, refl, sym, ◌∙◌, ap, subst, arith, slice_get_past, nat_lt, ServerNo, DeviceState, IsNewStore, image_of, files_in, IsFresh, Contents, sound_pages, IsStoreOf, AreStoresOfImages, AreWithin, Has, image_name, IsOpening, Geometry, New, Images, Options, Files, AllFiles, HasRoot, Counts, PageCounts, counts_by, StableState, Pick, pairs_view, StoreView, Setup, Devices, closed_world, AreImages, AreDisks, AreOpened, geometry_counts, root_of, AreNew, BeginsWith, IsOpened, Opens, no_files, AreDevices}
 use Rattle.std.proofs.Math.Path.{fun_ext}
-use Rattle.std.proofs.lemmas.Option.{slice_get_past}
-use Rattle.std.specs.Prelude.{nat_lt}
-use Rattle.jn_base.specs.declared.names.ServerNo.{ServerNo}
 use Rattle.jn_base.specs.declared.names.LockUnit.{LockUnit}
-use Rattle.jn_device.specs.Device.{DeviceState}
-use Rattle.jn_disks.specs.Disks.{IsNewStore, image_of, files_in}
-use Rattle.jn_found.specs.Images.{IsFresh}
 use Rattle.jn_found.specs.Pages.{found_on}
-use Rattle.jn_host.specs.Outside.{Contents}
-use Rattle.jn_image.proofs.SoundPages.{sound_pages}
-use Rattle.jn_images.specs.Examined.{IsStoreOf, AreStoresOf as AreStoresOfImages}
-use Rattle.jn_images.specs.Kept.{AreWithin, Has, image_name}
-use Rattle.jn_options.specs.Words.{IsOpening}
-use Rattle.jn_options.specs.declared.asked.Geometry.{Geometry}
 use Rattle.jn_options.specs.declared.asked.Opening.{Opening}
-use Rattle.jn_options.specs.declared.asked.Opening.TheVariants.{New, Images}
-use Rattle.jn_options.specs.declared.asked.Options.{Options}
-use Rattle.jn_order.specs.Files.{Files, AllFiles}
-use Rattle.jn_records.specs.Sound.{HasRoot}
-use Rattle.jn_records.specs.StablePages.{Counts}
-use Rattle.jn_recovery.specs.declared.counts.PageCounts.{PageCounts}
-use Rattle.jn_recovery.specs.Loading.{counts_by}
-use Rattle.jn_rows.specs.Stable.{StableState, Pick}
-use Rattle.jn_store.specs.Pairs.{pairs_view}
-use Rattle.jn_store.specs.Store.{StoreView}
 use Rattle.jn_world.specs.Written.{AreStoresOf}
-use Rattle.jn_written.specs.Chances.{Setup}
-use Rattle.jn_written.specs.Devices.{Devices}
-use Rattle.jn_written.specs.Whole.{closed_world, AreImages}
-use Rattle.jn_run.specs.Opening.{AreDisks, AreOpened}
-use Rattle.jn_run.specs.Outcome.{geometry_counts, root_of, AreNew, BeginsWith, IsOpened, Opens, no_files}
-use Rattle.jn_run.specs.Running.{AreDevices}
 
 pub some-at : {A : Type 0} (xs : List A) (n : ℕ) → n < length xs → (x : A) × (slice_get xs n ≡ Some x)
 some-at [] n lt = absurd (omega (arith, lt))

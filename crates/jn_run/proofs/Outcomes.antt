@@ -1,49 +1,20 @@
 -- What a call leaves, by its status.
-use Rattle.std.proofs.Common.{◌≡◌, inl, inr, ℕ, ◌≤◌, ◌<◌, List, length, map, slice_get, Option, Some, None, Result, Ok, Err, refl, sym, ap, subst, false, ◌∙◌, arith}
-use Rattle.std.proofs.lemmas.Option.{slice_get-map}
-use Rattle.std.specs.Prelude.{is_ok, option_map}
-use Rattle.std.specs.List.{AllByRecursion}
-use Rattle.jn_base.specs.declared.names.ServerNo.{ServerNo}
-use Rattle.jn_device.specs.Device.{DeviceState}
-use Rattle.jn_host.specs.Outside.{Contents, Rose}
-use Rattle.jn_host.proofs.Faults.{rose_since}
-use Rattle.jn_found.specs.Images.{IsImage}
-use Rattle.jn_images.specs.Kept.{AreClosed, AreWithin, IsKept}
+use Rattle.jn_run.proofs.Common.{◌≡◌, inl, inr, ℕ, ◌≤◌, ◌<◌, List, length, map, slice_get, Option, Some, None, Result, Ok, Err, refl, sym, ap, subst, false, ◌∙◌, arith, slice_get-map, is_ok, option_map, AllByRecursion, ServerNo, DeviceState, Contents, Rose, rose_since, IsImage, AreClosed, AreWithin, IsKept, Counts, page_count, counts_by, PageCounts, StableState, stable, Event, EventInRange, IsSchedule, Command, Options, Images, AllFiles, Took, TookFront, writes_to, pairs_view, Devices, Moment, AreImages, IsWholeRun, IsLimited, IsPartOfRun, Line, RunFault, LeavesFiles, Accepted, AreKept, IsRefusedImage, Keeps, KeepsFirst, OfImage, OfRefusal, OfReport, OutcomeOf, OutcomeOn, IsUntouched, Outputs, Outside, IsText, most_bytes, most_events, Ran, Reads, Refuses, refused_line, IsWholeReport, IsPart, IsCutShort, RanInPart, RanUnkept, RanWhole, course_of, AreLeft, RunsFrom, TookWhole}
 use Rattle.jn_images.specs.Saved.{SavedTo}
 use Rattle.jn_images.specs.Texts.{refusal_text}
 use Rattle.jn_images.specs.declared.refusal.Refusal.{Refusal}
-use Rattle.jn_records.specs.StablePages.{Counts, page_count}
-use Rattle.jn_recovery.specs.Loading.{counts_by}
-use Rattle.jn_recovery.specs.declared.counts.PageCounts.{PageCounts}
-use Rattle.jn_rows.specs.Stable.{StableState, stable}
-use Rattle.jn_schedule.specs.declared.Event.{Event}
-use Rattle.jn_schedule.specs.Ranges.{EventInRange}
 use Rattle.jn_schedule.specs.Faults.{IsFirstFault}
-use Rattle.jn_schedule.specs.Grammar.{IsSchedule}
 use Rattle.jn_between.proofs.Ended.{at-the-end}
 use Rattle.jn_headline.proofs.Joined.{whole-report, part-report, limited-report}
 use Rattle.jn_headline.specs.Headline.{IsTrueOfBegun}
 use Rattle.jn_headline.specs.WholeReports.Whole.{IsOfItsCommits}
-use Rattle.jn_options.specs.declared.asked.Command.{Command}
 use Rattle.jn_options.specs.declared.asked.Command.TheVariants.{Run, Trial}
-use Rattle.jn_options.specs.declared.asked.Options.{Options}
-use Rattle.jn_options.specs.declared.asked.Opening.TheVariants.{Images}
-use Rattle.jn_order.specs.Files.{AllFiles}
-use Rattle.jn_writing.specs.Writing.{Took, TookFront, writes_to}
-use Rattle.jn_store.specs.Pairs.{pairs_view}
 use Rattle.jn_world.specs.Images.{HasFilesAlone}
-use Rattle.jn_written.specs.Devices.{Devices}
-use Rattle.jn_written.specs.Runs.{Moment}
-use Rattle.jn_written.specs.Whole.{AreImages, IsWhole as IsWholeRun, IsLimited, IsPartOfRun}
-use Rattle.jn_report.specs.declared.line.Line.{Line}
 use Rattle.jn_report.specs.Text.{report_text}
 use Rattle.jn_run.specs.declared.status.Status.{Status}
 use Rattle.jn_run.specs.declared.status.Status.TheVariants as statuses
-use Rattle.jn_run.specs.declared.running.RunFault.{RunFault}
 use Rattle.jn_run.specs.declared.running.RunFault.TheVariants as runs
 use Rattle.jn_run.specs.Keeping.{KeptWith}
-use Rattle.jn_run.specs.Outcome.{LeavesFiles, Accepted, AreKept, IsRefusedImage, Keeps, KeepsFirst, OfImage, OfRefusal, OfReport, OfWords, OutcomeOf, OutcomeOn, IsUntouched, Outputs, Outside, IsText, most_bytes, most_events, Ran, Reads, Refuses, RefusesWords, refused_line, IsWholeReport, IsPart, IsCutShort, RanInPart, RanUnkept, RanWhole}
-use Rattle.jn_run.specs.Running.{course_of, AreLeft, RunsFrom, TookWhole}
 use Rattle.jn_run.proofs.Opened.{Opened, get-below, one-files, some-at}
 
 -- no memory for the words

@@ -1,21 +1,5 @@
 -- The stores of servers, one after another.
-use Rattle.std.proofs.Common.{◌≡◌, ℕ, zero, suc, ◌+◌, ◌<◌, ◌≤◌, Bool, true, false, List, [], ◌∷◌, ◌++◌, length, slice_get, Option, Some, None, refl, sym, ◌∙◌, subst, arith}
-use Rattle.std.specs.Prelude.{nat_lt}
-use Rattle.jn_base.specs.declared.names.ServerNo.{ServerNo}
-use Rattle.jn_image.proofs.SoundPages.{sound_pages}
-use Rattle.jn_images.specs.Examined.{IsStoreOf, AreStoresOf}
-use Rattle.jn_options.specs.declared.asked.Geometry.{Geometry}
-use Rattle.jn_records.specs.Sound.{HasRoot}
-use Rattle.jn_records.specs.StablePages.{Counts}
-use Rattle.jn_disks.specs.Disks.{image_of}
-use Rattle.jn_device.specs.Device.{DeviceState}
-use Rattle.jn_memdisk.specs.declared.disk.MemDisk.{MemDisk}
-use Rattle.jn_recovery.specs.declared.counts.PageCounts.{PageCounts}
-use Rattle.jn_store.specs.Pairs.{pairs_view}
-use Rattle.jn_store.specs.Store.{StoreView}
-use Rattle.jn_world.specs.Standing.{AreStores}
-use Rattle.jn_run.specs.Opening.{IsDisk, AreDisks}
-use Rattle.jn_run.specs.Running.{IsStore}
+use Rattle.jn_run.proofs.Common.{◌≡◌, ℕ, zero, suc, ◌+◌, ◌<◌, ◌≤◌, Bool, true, false, List, [], ◌∷◌, ◌++◌, length, slice_get, Option, Some, None, refl, sym, ◌∙◌, subst, arith, nat_lt, ServerNo, sound_pages, IsStoreOf, AreStoresOf, Geometry, HasRoot, Counts, image_of, DeviceState, MemDisk, PageCounts, pairs_view, StoreView, AreStores, IsDisk, AreDisks, IsStore}
 
 -- a place in front of what is added, and the one that is added
 get-front : {A : Type 0} (xs ys : List A) (n : ℕ) → n < length xs → slice_get (xs ++ ys) n ≡ slice_get xs n

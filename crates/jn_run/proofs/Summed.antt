@@ -1,25 +1,12 @@
 -- A run that a summary is told.
-use Rattle.std.proofs.Common.{◌≡◌, ◌∙◌, inl, inr, ℕ, ◌≤◌, List, [], length, Option, Result, Ok, Err, Vec, sym, ap, subst, true≢false, arith}
-use Rattle.std.specs.Prelude.{is_ok}
-use Rattle.std.specs.declared.alloc.Global.{Global}
-use Rattle.std.specs.List.{AllByRecursion}
-use Rattle.jn_device.specs.Device.{DeviceState}
+use Rattle.jn_run.proofs.Common.{◌≡◌, ◌∙◌, inl, inr, ℕ, ◌≤◌, List, [], length, Option, Result, Ok, Err, Vec, sym, ap, subst, true≢false, arith, is_ok, Global, AllByRecursion, DeviceState, Contents, Rose, PageCounts, Line, Event, EventInRange, Moment, trial_events, trial_options, IsCutShort, IsWholeReport, RanTrial, TrialToLimit, course_of, RunsFrom, RunFault}
 use Rattle.jn_gen.proofs.Drawing.{events_count, events_in_range}
-use Rattle.jn_host.specs.Outside.{Contents, Rose}
 use Rattle.jn_options.specs.declared.asked.Trial.{Trial}
-use Rattle.jn_recovery.specs.declared.counts.PageCounts.{PageCounts}
-use Rattle.jn_report.specs.declared.line.Line.{Line}
-use Rattle.jn_schedule.specs.declared.Event.{Event}
-use Rattle.jn_schedule.specs.Ranges.{EventInRange}
 use Rattle.jn_summary.specs.Summary.{summary_text}
 use Rattle.jn_summary.specs.Summing.{sums_up}
 use Rattle.jn_summary.specs.Taken.{HasTaken}
 use Rattle.jn_summary.specs.declared.summary.Summary.{Summary}
-use Rattle.jn_written.specs.Runs.{Moment}
-use Rattle.jn_run.specs.Outcome.{trial_events, trial_options, IsCutShort, IsWholeReport, RanTrial, TrialToLimit}
-use Rattle.jn_run.specs.Running.{course_of, RunsFrom}
 use Rattle.jn_run.specs.Trial.{SumsUp}
-use Rattle.jn_run.specs.declared.running.RunFault.{RunFault}
 use Rattle.jn_run.specs.declared.running.RunFault.TheVariants as runs
 use Rattle.jn_run.proofs.Opened.{Opened}
 use Rattle.jn_run.proofs.Outcomes.{whole-holds, limit-holds}

@@ -1,32 +1,17 @@
 -- A run that is reported, call by call.
-use Rattle.std.proofs.Common.{◌≡◌, ℕ, zero, suc, ◌≤◌, ◌<◌, false, List, [], ◌∷◌, ◌++◌, ◌+◌, map, length, drop, drop-cons, get_or, append-nil, Result, Ok, Err, refl, sym, ◌∙◌, ap, subst, arith, true≢false}
-use Rattle.std.specs.Prelude.{is_ok}
-use Rattle.std.proofs.lemmas.List.{length-append}
-use Rattle.jn_device.specs.Device.{DeviceState}
-use Rattle.jn_store.specs.Store.{StoreView}
-use Rattle.jn_report.specs.declared.line.Line.{Line}
-use Rattle.jn_host.proofs.Faults.{rose_since}
-use Rattle.jn_writing.specs.Reporting.{Reporting, Joins}
-use Rattle.jn_written.specs.Runs.{Moment, Leads, MayLead, DoesStep}
+use Rattle.jn_run.proofs.Common.{◌≡◌, ℕ, zero, suc, ◌≤◌, ◌<◌, false, List, [], ◌∷◌, ◌++◌, ◌+◌, map, length, drop, drop-cons, get_or, append-nil, Result, Ok, Err, refl, sym, ◌∙◌, ap, subst, arith, true≢false, is_ok, length-append, DeviceState, StoreView, Line, rose_since, Reporting, Joins, Moment, Leads, MayLead, DoesStep, Setup, Event, ServerNo, AllFiles, before, AreImages, IsWritten, RunFault, Course, AreLeft, HasTold, StandsBefore, TookLimited, TookPart, ToldTo, Reaches, RunsFrom, TookWhole, Reported, lines_kept, is_limit}
 use Rattle.jn_written.specs.Kinds.{events_left}
 use Rattle.jn_written.proofs.Counted.{events-counted, left-of}
-use Rattle.jn_written.specs.Chances.{Setup}
 use Rattle.jn_written.specs.Events.{ending}
 use Rattle.jn_written.specs.Tasks.{Task, Begins, InSchedule, CutShort}
-use Rattle.jn_schedule.specs.declared.Event.{Event}
 use Rattle.jn_world.specs.declared.world.World.{World}
-use Rattle.jn_base.specs.declared.names.ServerNo.{ServerNo}
-use Rattle.jn_order.specs.Files.{AllFiles}
-use Rattle.jn_written.specs.Whole.{before, AreImages, IsWritten}
 use Rattle.jn_written.proofs.Computed.{join, may-lead}
 use Rattle.jn_stands.specs.Stands.{Standing, Stands}
 use Rattle.jn_stands.specs.Going.{WentOn}
 use Rattle.jn_world.specs.declared.ended.Ended.{Ended}
 use Rattle.jn_world.specs.declared.ended.Ended.TheVariants.{Messages, Epoch, Memory}
 use Rattle.jn_world.specs.Written.{standing_of, GoesTo, StartsAt, Closes, IsClosed}
-use Rattle.jn_run.specs.declared.running.RunFault.{RunFault}
 use Rattle.jn_run.specs.declared.running.RunFault.TheVariants as runs
-use Rattle.jn_run.specs.Running.{Course, AreLeft, HasTold, StandsBefore, TookLimited, TookPart, ToldTo, Reaches, RunsFrom, TookWhole, Reported, lines_kept, is_limit}
 
 -- a run that goes on from where it is
 pub further : {O : Type 0} (c : Course O) (m last : Moment) → IsWritten c.setup c.schedule c.images m → Leads c.setup m last → IsWritten c.setup c.schedule c.images last

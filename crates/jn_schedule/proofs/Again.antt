@@ -1,25 +1,12 @@
 -- What is spelled is read: the words of each event.
-use Rattle.std.proofs.Common.{codes, ◌≡◌, ℕ, ◌+◌, ◌-◌, inl, inr, Bool, true, false, cond, nat_eq, nat_le, List, [], ◌∷◌, length, map, Option, Some, None, Result, Ok, Err, MatchResult, MatchBool, refl, sym, ap, ◌∙◌, subst, arith}
-use Rattle.std.proofs.lemmas.Bool.Decides.{nat_tests}
-use Rattle.jn_base.specs.declared.device.FaultKind.{FaultKind}
+use Rattle.jn_schedule.proofs.Common.{codes, ◌≡◌, ℕ, ◌+◌, ◌-◌, inl, inr, Bool, true, false, cond, nat_eq, nat_le, List, [], ◌∷◌, length, map, Option, Some, None, Result, Ok, Err, MatchResult, MatchBool, refl, sym, ap, ◌∙◌, subst, arith, nat_tests, FaultKind, BlockNo, ClientNo, FileNo, ServerNo, Tid, Command, Event, LineFault, Part, Spells, SpellsClient, SpellsParts, begins_comment, block_part, command_parts, file_part, is_passed, kind_parts, page_part, parts_of, server_part, FirstUnfilled, HasFault, Place, PlacesFault, command_places, is_client_word, places_of, ◌>>=◌, arm_of, by_client, client_event, client_of, command_of, event_of, fault_kind_of, has_count, kind_of, message_alone, no_client_event, nothing, one, opening_of, other_event, page_alone, server_alone, server_file, server_file_block, server_name, server_of, server_page, value_of, verb_of, write_of, written}
 use Rattle.jn_base.specs.declared.device.FaultKind.TheVariants as kinds
-use Rattle.jn_base.specs.declared.names.BlockNo.{BlockNo}
-use Rattle.jn_base.specs.declared.names.ClientNo.{ClientNo}
-use Rattle.jn_base.specs.declared.names.FileNo.{FileNo}
-use Rattle.jn_base.specs.declared.names.ServerNo.{ServerNo}
-use Rattle.jn_base.specs.declared.names.Tid.{Tid}
-use Rattle.jn_base.specs.declared.op.Command.{Command}
 use Rattle.jn_base.specs.declared.op.Command.TheVariants as commands
 use Rattle.jn_base.specs.declared.op.Op.TheVariants as ops
-use Rattle.jn_schedule.specs.declared.Event.{Event}
 use Rattle.jn_schedule.specs.declared.Event.TheVariants as events
-use Rattle.jn_schedule.specs.declared.fault.LineFault.{LineFault}
 use Rattle.jn_schedule.specs.declared.fault.LineFault.TheVariants as faults
 use Rattle.jn_schedule.specs.Grammar as grammar
-use Rattle.jn_schedule.specs.Grammar.{Part, Spells, SpellsBlock, SpellsClient, SpellsPart, SpellsParts, begins_comment, block_part, command_parts, file_part, is_passed, kind_parts, page_part, parts_of, server_part}
 use Rattle.jn_schedule.specs.Faults as places
-use Rattle.jn_schedule.specs.Faults.{FirstUnfilled, HasFault, Place, PlacesFault, command_places, is_client_word, places_of}
-use Rattle.jn_schedule.specs.Reading.{◌>>=◌, arm_of, by_client, client_event, client_of, command_of, event_of, fault_kind_of, has_count, kind_of, message_alone, no_client_event, nothing, one, opening_of, other_event, page_alone, server_alone, server_file, server_file_block, server_name, server_of, server_page, value_of, verb_of, write_of, written}
 use Rattle.jn_schedule.proofs.Values.{value_again, server_again, file_again, block_no_again, page_again, name_again, bytes_again}
 use Rattle.jn_schedule.proofs.Arguments.{place_of, none_unfilled}
 use Rattle.jn_schedule.proofs.Numbers.{all_of, is-le}

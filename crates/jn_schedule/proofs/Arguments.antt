@@ -1,20 +1,10 @@
 -- What the readers of the words behind the keywords tell.
-use Rattle.std.proofs.Common.{codes, ◌≡◌, ◌≢◌, ℕ, inl, inr, Bool, false, nat_eq, List, [], ◌∷◌, length, map, Result, Ok, Err, MatchResult, MatchBool, refl, sym, subst, arith}
-use Rattle.std.proofs.lemmas.Bool.Decides.{nat_tests}
-use Rattle.jn_base.specs.declared.names.BlockNo.{BlockNo}
-use Rattle.jn_base.specs.declared.names.FileNo.{FileNo}
-use Rattle.jn_base.specs.declared.names.ServerNo.{ServerNo}
-use Rattle.jn_base.specs.declared.names.Tid.{Tid}
-use Rattle.jn_base.specs.declared.op.Command.{Command}
+use Rattle.jn_schedule.proofs.Common.{codes, ◌≡◌, ◌≢◌, ℕ, inl, inr, Bool, false, nat_eq, List, [], ◌∷◌, length, map, Result, Ok, Err, MatchResult, MatchBool, refl, sym, subst, arith, nat_tests, BlockNo, FileNo, ServerNo, Tid, Command, LineFault, Part, SpellsPart, SpellsParts, command_parts, block_part, file_part, page_part, server_part, Fills, FirstUnfilled, Place, PlacesFault, block_place, file_place, page_place, server_place, ◌>>=◌, block_no_of, bytes_of, file_of, message_alone, name_of, nothing, page_of, server_alone, server_file, server_file_block, server_name, server_of, server_page, value_of, write_of, written}
 use Rattle.jn_base.specs.declared.op.Command.TheVariants as commands
 use Rattle.jn_base.specs.declared.op.Op.TheVariants as ops
-use Rattle.jn_schedule.specs.declared.fault.LineFault.{LineFault}
 use Rattle.jn_schedule.specs.declared.fault.LineFault.TheVariants as faults
 use Rattle.jn_schedule.specs.Grammar as grammar
-use Rattle.jn_schedule.specs.Grammar.{Part, SpellsPart, SpellsParts, command_parts, block_part, file_part, page_part, server_part}
 use Rattle.jn_schedule.specs.Faults as places
-use Rattle.jn_schedule.specs.Faults.{Fills, FirstUnfilled, Place, PlacesFault, block_place, fault_at, file_place, page_place, server_place}
-use Rattle.jn_schedule.specs.Reading.{◌>>=◌, block_no_of, bytes_of, file_of, message_alone, name_of, nothing, page_alone, page_of, server_alone, server_file, server_file_block, server_name, server_of, server_page, value_of, write_of, written}
 use Rattle.jn_schedule.proofs.Values.{Told, number_told, server_told, file_told, block_no_told, page_told, name_told, bytes_told}
 
 -- what stands where a part does

@@ -1,17 +1,6 @@
 -- Words that spell blocks.
-use Rattle.std.proofs.Common.{◌≡◌, ℕ, ◌<◌, ◌≤◌, ◌&&◌, Bool, true, false, cond, List, [], ◌∷◌, length, Option, Some, None, Result, Ok, Err, ok_or, nat_le, nat_lt, refl, sym, ap, ◌∙◌, arith}
-use Rattle.std.proofs.lemmas.Bool.Decides.{nat_tests}
-use Rattle.std.proofs.lemmas.Option.{cond_some}
-use Rattle.std.proofs.lemmas.Slice.Eq.{bytes_eq-Decides}
-use Rattle.std.specs.List.{AllByRecursion}
-use Rattle.hex.specs.declared.error.FromHexError.{FromHexError}
-use Rattle.hex.specs.Hex.{decode_of, encode_lower, lower_digits}
-use Rattle.hex.proofs.HexLemmas.{decode_of-ok, decode_of-encode_lower, length-encode_with}
-use Rattle.jn_text.specs.Words.{hex_word}
-use Rattle.jn_schedule.specs.Faults.{same}
-use Rattle.jn_schedule.specs.Grammar.{IsByte, SpellsBlock, filled}
+use Rattle.jn_schedule.proofs.Common.{◌≡◌, ℕ, ◌<◌, ◌≤◌, ◌&&◌, Bool, true, false, cond, List, [], ◌∷◌, length, Option, Some, None, Result, Ok, Err, ok_or, nat_le, nat_lt, refl, sym, ap, ◌∙◌, arith, nat_tests, cond_some, bytes_eq-Decides, AllByRecursion, FromHexError, decode_of, encode_lower, lower_digits, decode_of-ok, decode_of-encode_lower, length-encode_with, hex_word, same, IsByte, SpellsBlock, filled, Reads, block_if, block_in, bytes_of}
 use Rattle.jn_schedule.specs.declared.fault.LineFault.TheVariants as faults
-use Rattle.jn_schedule.specs.Reading.{Reads, block_if, block_in, bytes_of}
 use Rattle.jn_schedule.proofs.HexWords.{bytes_at, bytes_from, hex_word-some}
 use Rattle.jn_schedule.proofs.Numbers.{both, all_of, is-le, le-is}
 use Rattle.jn_schedule.proofs.Told.{reads_same}

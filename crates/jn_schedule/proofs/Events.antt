@@ -1,18 +1,9 @@
 -- What reading the words of a line tells: the event that they spell, or their fault.
-use Rattle.std.proofs.Common.{codes, ◌≡◌, ℕ, ◌+◌, ◌-◌, ◌≤◌, ◌++◌, ◌&&◌, inl, inr, Bool, true, false, cond, nat_eq, nat_le, List, [], ◌∷◌, length, map, Option, Some, None, MatchOption, Result, Ok, Err, MatchResult, MatchBool, ok_or, refl, sym, ap, ◌∙◌, subst, arith}
-use Rattle.std.proofs.lemmas.Bool.{eqb-true}
-use Rattle.std.proofs.lemmas.Bool.Decides.{nat_tests}
-use Rattle.std.proofs.lemmas.Slice.Eq.{bytes_eq-Decides}
-use Rattle.std.specs.List.{AllByRecursion}
-use Rattle.jn_base.specs.declared.device.FaultKind.{FaultKind}
+use Rattle.jn_schedule.proofs.Common.{codes, ◌≡◌, ℕ, ◌+◌, ◌-◌, ◌≤◌, ◌++◌, ◌&&◌, inl, inr, Bool, true, false, cond, nat_eq, nat_le, List, [], ◌∷◌, length, map, Option, Some, None, MatchOption, Result, Ok, Err, MatchResult, MatchBool, ok_or, refl, sym, ap, ◌∙◌, subst, arith, eqb-true, nat_tests, bytes_eq-Decides, AllByRecursion, FaultKind, ClientNo, ServerNo, Event, LineFault, Spells, SpellsClient, SpellsPart, SpellsParts, command_parts, kind_parts, page_part, server_part, Fills, FirstUnfilled, HasFault, Place, PlacesFault, arm_places, block_place, command_places, file_place, is_client_word, page_place, places_by, same, server_place, ◌>>=◌, arm_of, by_client, client_event, client_of, command_of, event_of, fault_kind_of, has_count, kind_of, kind_words, lookup, message_alone, no_client_event, nothing, one, opening_of, opening_words, other_event, page_alone, page_of, server_alone, server_file, server_file_block, server_name, server_of, server_page, value_of, verb_of, verb_words, written}
 use Rattle.jn_base.specs.declared.device.FaultKind.TheVariants as kinds
-use Rattle.jn_base.specs.declared.names.ClientNo.{ClientNo}
-use Rattle.jn_base.specs.declared.names.ServerNo.{ServerNo}
 use Rattle.jn_base.specs.declared.op.Command.TheVariants as commands
 use Rattle.jn_base.specs.declared.op.Op.TheVariants as ops
-use Rattle.jn_schedule.specs.declared.Event.{Event}
 use Rattle.jn_schedule.specs.declared.Event.TheVariants as events
-use Rattle.jn_schedule.specs.declared.fault.LineFault.{LineFault}
 use Rattle.jn_schedule.specs.declared.fault.LineFault.TheVariants as faults
 use Rattle.jn_schedule.specs.declared.reading.Kind.{Kind}
 use Rattle.jn_schedule.specs.declared.reading.Kind.TheVariants as armed
@@ -21,10 +12,7 @@ use Rattle.jn_schedule.specs.declared.reading.Opening.TheVariants as openings
 use Rattle.jn_schedule.specs.declared.reading.Verb.{Verb}
 use Rattle.jn_schedule.specs.declared.reading.Verb.TheVariants as verbs
 use Rattle.jn_schedule.specs.Grammar as grammar
-use Rattle.jn_schedule.specs.Grammar.{Part, Spells, SpellsClient, SpellsPart, SpellsParts, command_parts, kind_parts, page_part, server_part}
 use Rattle.jn_schedule.specs.Faults as places
-use Rattle.jn_schedule.specs.Faults.{Fills, FirstUnfilled, HasFault, Place, PlacesFault, arm_places, block_place, command_places, file_place, is_client_word, page_place, places_by, places_of, same, server_place}
-use Rattle.jn_schedule.specs.Reading.{◌>>=◌, arm_of, by_client, client_event, client_of, command_of, event_of, fault_kind_of, has_count, kind_of, kind_words, lookup, message_alone, no_client_event, nothing, one, opening_of, opening_words, other_event, page_alone, page_of, server_alone, server_file, server_file_block, server_name, server_of, server_page, value_of, verb_of, verb_words, written}
 use Rattle.jn_schedule.proofs.Numbers.{both, le-is}
 use Rattle.jn_schedule.proofs.Values.{Told, number_told, page_told, server_told}
 use Rattle.jn_schedule.proofs.Arguments.{fills, wrong_count, nothing_told, server_alone_told, message_alone_told, server_file_told, server_file_block_told, server_name_told, server_page_told, written_told}

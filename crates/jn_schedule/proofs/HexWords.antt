@@ -1,20 +1,9 @@
 -- Words that spell bytes.
-use Rattle.std.proofs.Common.{◌≡◌, ◌≢◌, ℕ, zero, suc, ◌*◌, ◌/◌, ◌%◌, ◌<◌, ◌≤◌, Bool, true, false, not, ◌||◌, eqb, List, [], ◌∷◌, length, get_or, refl, sym, ap, ◌∙◌, arith}
-use Rattle.std.proofs.lemmas.Bool.{eqb-true, false≢true}
-use Rattle.std.proofs.lemmas.Bool.Decides.{nat_tests}
+use Rattle.jn_schedule.proofs.Common.{◌≡◌, ◌≢◌, ℕ, zero, suc, ◌*◌, ◌/◌, ◌%◌, ◌<◌, ◌≤◌, Bool, true, false, not, ◌||◌, eqb, List, [], ◌∷◌, length, get_or, refl, sym, ap, ◌∙◌, arith, eqb-true, false≢true, nat_tests, MatchResult-at_ok, is_ascii_uppercase, AllByRecursion, AllPass, list_any, FromHexError, IsBytes, decode_sized, encode_lower, encode_with, is_hex_digit, lower_digits, decode_of-ok, decode_sized-encode_lower, decode_sized-ok, decode_sized-twice, length-encode_with, is_lower_hex_digit, hex_word, IsByte, SpellsBlock, filled}
 use Rattle.std.proofs.lemmas.List.Elements.{All-cons, All-get_or, All-head, All-nil, All-tail}
 use Rattle.std.proofs.lemmas.List.Sums.{AllPass-from_list_all}
-use Rattle.std.proofs.lemmas.Result.{MatchResult-at_ok}
-use Rattle.std.specs.Char.{is_ascii_uppercase}
-use Rattle.std.specs.List.{AllByRecursion, AllPass, list_any}
 use Rattle.std.specs.Prelude.{MatchBool, MatchResult, Result, Ok, Err, is_ok}
-use Rattle.hex.specs.declared.error.FromHexError.{FromHexError}
-use Rattle.hex.specs.Hex.{IsBytes, decode_sized, encode_lower, encode_with, is_hex_digit, lower_digits}
-use Rattle.hex.proofs.HexLemmas.{decode_of-ok, decode_sized-encode_lower, decode_sized-ok, decode_sized-twice, length-encode_with}
-use Rattle.jn_text.specs.Read.{is_lower_hex_digit}
-use Rattle.jn_text.specs.Words.{hex_word}
 use Rattle.jn_text.proofs.HexDigits.{decode_of-spelled}
-use Rattle.jn_schedule.specs.Grammar.{IsByte, SpellsBlock, filled}
 
 pub bytes_at : (bytes : List ℕ) → AllByRecursion IsByte bytes → IsBytes bytes
 bytes_at [] fits i = omega arith

@@ -1,14 +1,8 @@
 -- Reading lines one after the other: what is told, and that what is there is told.
-use Rattle.std.proofs.Common.{◌≡◌, ℕ, ◌+◌, ◌<◌, ◌≤◌, ◌++◌, ◌⊎◌, inl, inr, Bool, true, false, cond, List, [], ◌∷◌, length, Option, Some, None, Result, Ok, Err, IfOk, MatchOption, MatchResult, MatchBool, refl, sym, ap, ◌∙◌, subst, append_assoc, arith}
-use Rattle.std.proofs.lemmas.List.{append-nil, length-append}
+use Rattle.jn_schedule.proofs.Common.{◌≡◌, ℕ, ◌+◌, ◌<◌, ◌≤◌, ◌++◌, ◌⊎◌, inl, inr, Bool, true, false, cond, List, [], ◌∷◌, length, Option, Some, None, Result, Ok, Err, IfOk, MatchOption, MatchResult, MatchBool, refl, sym, ap, ◌∙◌, subst, append_assoc, arith, append-nil, length-append, Event, LineFault, AreLines, IsSchedule, Spells, is_passed, word_lines, HasFault, IsFirstFault, LinesFault, line_fault_number, ◌>>=◌, AddsLine, Fails, GivesUpTo, event_of, in_front, read_line, read_lines, then_lines}
 use Rattle.std.specs.Global.{Vec}
-use Rattle.jn_schedule.specs.declared.Event.{Event}
-use Rattle.jn_schedule.specs.declared.fault.LineFault.{LineFault}
 use Rattle.jn_schedule.specs.declared.fault.ParseFault.{ParseFault}
 use Rattle.jn_schedule.specs.declared.fault.ParseFault.TheVariants as parse
-use Rattle.jn_schedule.specs.Grammar.{AreLines, IsSchedule, Spells, is_passed, word_lines}
-use Rattle.jn_schedule.specs.Faults.{HasFault, IsFirstFault, LinesFault, line_fault_number}
-use Rattle.jn_schedule.specs.Reading.{◌>>=◌, AddsLine, Fails, GivesUpTo, event_of, in_front, read_line, read_lines, then_lines}
 use Rattle.jn_schedule.proofs.Again.{fault_one, spelled_no_fault, spelled_read}
 use Rattle.jn_schedule.proofs.Events.{event_told}
 

@@ -1,19 +1,8 @@
 -- Words that spell numbers.
-use Rattle.std.proofs.Common.{◌≡◌, ◌≢◌, ◌⊎◌, inl, inr, ℕ, ◌^◌, ◌<◌, ◌≤◌, ◌&&◌, Bool, true, false, List, length, Option, Some, decimal, nat_le, refl, ap, ◌∙◌, subst, arith}
-use Rattle.std.proofs.lemmas.Bool.Decides.{nat_tests}
-use Rattle.std.proofs.lemmas.Fmt.{digits_value-decimal}
-use Rattle.std.proofs.lemmas.Grind.{common_steps}
-use Rattle.std.proofs.lemmas.List.{get_or_past}
-use Rattle.std.proofs.lemmas.Option.{cond_some}
-use Rattle.std.proofs.lemmas.Slice.Eq.{bytes_eq-Decides}
+use Rattle.jn_schedule.proofs.Common.{◌≡◌, ◌≢◌, ◌⊎◌, inl, inr, ℕ, ◌^◌, ◌<◌, ◌≤◌, ◌&&◌, Bool, true, false, List, length, Option, Some, decimal, nat_le, refl, ap, ◌∙◌, subst, arith, nat_tests, digits_value-decimal, common_steps, get_or_past, cond_some, bytes_eq-Decides, is_ascii_digit, IsNumberAt, same, SpellsNumber, number_in, Reads}
 use Rattle.std.proofs.lemmas.Str.Parse.{IsNumeralModel, numerals_by_value, tells_digits}
-use Rattle.std.specs.Char.{is_ascii_digit}
 use Rattle.std.specs.Str.Parse.{AllDigits, digits_value}
-use Rattle.jn_text.specs.Read.{IsNumberAt}
 use Rattle.jn_text.proofs.Numbers.{number_is_one}
-use Rattle.jn_schedule.specs.Faults.{same}
-use Rattle.jn_schedule.specs.Grammar.{SpellsNumber}
-use Rattle.jn_schedule.specs.Reading.{number_in, Reads}
 use Rattle.jn_schedule.proofs.Told.{reads_same}
 
 own : IsNumeralModel (AllDigits 10) (digits_value 10)

@@ -1,6 +1,5 @@
 -- The line of an event, found line by line.
-use Rattle.std.proofs.Common.{◌≡◌, ℕ, ◌+◌, ◌-◌, Bool, true, false, nat_eq, if◌then◌else◌, List, ◌∷◌, Option, Some, ap, sym, ◌∙◌}
-use Rattle.jn_schedule.specs.Grammar.{event_line, is_passed}
+use Rattle.jn_schedule.proofs.Common.{◌≡◌, ℕ, ◌+◌, ◌-◌, Bool, false, nat_eq, if◌then◌else◌, List, ◌∷◌, Option, Some, ap, sym, ◌∙◌, event_line, is_passed}
 
 -- an event before the one that is looked for
 pub at_event : (n left : ℕ) (ws : List (List ℕ)) (lines : List (List (List ℕ))) (total : Option ℕ) → is_passed ws ≡ false → nat_eq left 0 ≡ false

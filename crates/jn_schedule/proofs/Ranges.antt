@@ -1,9 +1,5 @@
 -- What a schedule's words spell is in range.
-use Rattle.std.proofs.Common.{◌≡◌, ◌≤◌, ◌+◌, ◌-◌, ◌∙◌, ℕ, List, [], ◌∷◌, inl, inr, length, replicate, ap, sym, subst, arith}
-use Rattle.std.specs.List.{AllByRecursion}
-use Rattle.std.proofs.lemmas.List.{length-append, length-replicate}
-use Rattle.jn_schedule.specs.declared.Event.{Event}
-use Rattle.jn_schedule.specs.Grammar.{Part, Keyword, Client, Number, Name, Bytes, SpellsPart, SpellsParts, AreLines, parts_of, filled}
+use Rattle.jn_schedule.proofs.Common.{◌≡◌, ◌≤◌, ◌+◌, ◌-◌, ◌∙◌, ℕ, List, [], ◌∷◌, inl, inr, length, replicate, ap, sym, subst, arith, AllByRecursion, length-append, length-replicate, Event, Part, Keyword, Client, Number, Name, Bytes, SpellsPart, SpellsParts, AreLines, parts_of, filled}
 use Rattle.jn_schedule.specs.Ranges.{PartInRange, PartsInRange, EventInRange}
 
 filled-length : (bytes : List ℕ) → length bytes ≤ 448 → length (filled bytes) ≡ 448

@@ -1,12 +1,6 @@
 -- The words of a text's first line, found one after the other, and the lines behind it.
-use Rattle.std.proofs.Common.{◌≡◌, ◌≢◌, ◌⊎◌, inl, inr, ℕ, ◌+◌, ◌-◌, ◌<◌, ◌≤◌, Bool, true, false, nat_eq, nat_le, if◌then◌else◌, List, [], ◌∷◌, ◌++◌, append_assoc, length, filter, take, drop, get_or, refl, sym, ap, ◌∙◌, subst, arith}
-use Rattle.std.specs.List.{slice_split}
+use Rattle.jn_schedule.proofs.Common.{◌≡◌, ◌≢◌, ◌⊎◌, inl, inr, ℕ, ◌+◌, ◌-◌, ◌<◌, ◌≤◌, Bool, true, false, nat_eq, nat_le, if◌then◌else◌, List, [], ◌∷◌, ◌++◌, append_assoc, length, filter, take, drop, get_or, refl, sym, ap, ◌∙◌, subst, arith, slice_split, nat_tests, common_steps, drop-drop, length-drop, take_all, has_bytes, lines_of, words_of, lacks, lines_from}
 use Rattle.std.proofs.Math.Seq.{take-add}
-use Rattle.std.proofs.lemmas.Bool.Decides.{nat_tests}
-use Rattle.std.proofs.lemmas.Grind.{common_steps}
-use Rattle.std.proofs.lemmas.List.{drop-drop, length-drop, take_all}
-use Rattle.jn_schedule.specs.Grammar.{has_bytes, lines_of, words_of}
-use Rattle.jn_schedule.specs.Reading.{lacks, lines_from}
 use Rattle.jn_schedule.proofs.TextParts.{front_other, lacks-append}
 
 is_same : (b : ℕ) → nat_eq b b ≡ true

@@ -1,11 +1,5 @@
 -- What stands before and behind the first full stop of a word.
-use Rattle.std.proofs.Common.{◌≡◌, ◌≢◌, ap, cond, ℕ, ◌+◌, ◌<◌, true, List, [], ◌∷◌, ◌++◌, length, take, get_or, refl, sym, ◌∙◌, arith}
-use Rattle.std.proofs.lemmas.Bool.Decides.{nat_tests}
-use Rattle.std.proofs.lemmas.Grind.{common_steps}
-use Rattle.std.proofs.Common.{false, sym, ◌∙◌, get_or, ◌-◌, ◌^◌, ◌∷◌, Bool, Some, None, Option, nat_eq, decimal, drop}
-use Rattle.std.proofs.lemmas.Fmt.{decimal_by_steps}
-use Rattle.std.proofs.lemmas.Option.{some_pair_parts}
-use Rattle.jn_schedule.specs.Reading.{cut_at_stop, lacks, with_first}
+use Rattle.jn_schedule.proofs.Common.{◌≡◌, ◌≢◌, ap, cond, ℕ, ◌+◌, ◌<◌, true, List, [], ◌∷◌, ◌++◌, length, take, get_or, refl, sym, ◌∙◌, arith, nat_tests, common_steps, decimal_by_steps, some_pair_parts, cut_at_stop, lacks, with_first, false, ◌-◌, ◌^◌, Bool, Some, None, Option, nat_eq, decimal, drop}
 
 pub lacks-append : (byte : ℕ) (xs ys : List ℕ) → lacks byte xs ≡ true → lacks byte ys ≡ true → lacks byte (xs ++ ys) ≡ true
 lacks-append byte [] ys front back = back

@@ -1,7 +1,5 @@
 -- What tests and matches have told.
-use Rattle.std.proofs.Common.{◌≡◌, true, Ok, Err, Option, Some, None, Result, is_err, is_ok, OnOk, refl, sym, ap, ◌∙◌}
-use Rattle.std.proofs.lemmas.Bool.{false≢true}
-use Rattle.jn_schedule.specs.Reading.{Reads}
+use Rattle.jn_schedule.proofs.Common.{◌≡◌, true, Ok, Err, Option, Some, None, Result, is_ok, OnOk, refl, sym, false≢true, Reads}
 
 -- what holds of an `Ok`
 pub on_ok : {T E P : Type 0} (r : Result T E) → true ≡ is_ok r → OnOk r P → P

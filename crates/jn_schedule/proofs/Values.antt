@@ -1,17 +1,8 @@
 -- What each reader of a word tells: what the word spells, or that it spells nothing of the kind.
-use Rattle.std.proofs.Common.{◌≡◌, ℕ, ◌-◌, ◌^◌, ◌<◌, ◌++◌, List, ◌∷◌, Option, Some, None, Result, Ok, Err, MatchResult, option_map, ok_or, decimal, refl, ap, ◌∙◌, subst, arith}
-use Rattle.std.proofs.lemmas.Option.{option_and_then_some}
-use Rattle.jn_base.specs.declared.names.BlockNo.{BlockNo}
-use Rattle.jn_base.specs.declared.names.FileNo.{FileNo}
-use Rattle.jn_base.specs.declared.names.ServerNo.{ServerNo}
-use Rattle.jn_base.specs.declared.names.Tid.{Tid}
-use Rattle.jn_schedule.specs.declared.fault.LineFault.{LineFault}
+use Rattle.jn_schedule.proofs.Common.{◌≡◌, ℕ, ◌-◌, ◌^◌, ◌<◌, ◌++◌, List, ◌∷◌, Option, Some, None, Result, Ok, Err, MatchResult, option_map, ok_or, decimal, refl, ap, ◌∙◌, subst, arith, option_and_then_some, BlockNo, FileNo, ServerNo, Tid, LineFault, Part, SpellsBlock, SpellsName, SpellsNumber, SpellsPart, block_part, file_part, page_part, server_part, Fills, Place, block_place, fault_at, file_place, page_place, server_place, ◌>>=◌, block_in, block_no_of, bytes_of, cut_at_stop, file_of, name_in, name_of, number_in, page_of, server_in, server_of, value_of}
 use Rattle.jn_schedule.specs.declared.fault.LineFault.TheVariants as faults
 use Rattle.jn_schedule.specs.Grammar as grammar
-use Rattle.jn_schedule.specs.Grammar.{Part, SpellsBlock, SpellsName, SpellsNumber, SpellsPart, block_part, file_part, page_part, server_part}
 use Rattle.jn_schedule.specs.Faults as places
-use Rattle.jn_schedule.specs.Faults.{Fills, Place, block_place, fault_at, file_place, page_place, server_place}
-use Rattle.jn_schedule.specs.Reading.{◌>>=◌, block_in, block_no_of, bytes_of, cut_at_stop, file_of, name_in, name_of, number_in, page_of, server_in, server_of, value_of}
 use Rattle.jn_schedule.proofs.Blocks.{block_again, block_sound, some_is}
 use Rattle.jn_schedule.proofs.Numbers.{number_again, number_sound}
 use Rattle.jn_schedule.proofs.TextParts.{cut-at, cut-is, decimal-lacks}

@@ -1,27 +1,12 @@
 -- One more event, with its lines: what stands before an abort, a stop and a refused fault is kept.
-use Rattle.std.proofs.Common.{◌≡◌, ℕ, zero, suc, ◌+◌, ◌<◌, ◌≤◌, Bool, true, false, nat_le, ◌&&◌, List, [], ◌∷◌, ◌++◌, length, Option, Some, refl, sym, ◌∙◌, ap, subst, arith, inl, inr, append_assoc, append-nil}
-use Rattle.std.proofs.lemmas.Bool.{cases_Bool}
-use Rattle.std.proofs.lemmas.Bool.Decides.{nat_tests}
-use Rattle.std.proofs.lemmas.Option.{same_Some}
-use Rattle.jn_base.specs.declared.names.ServerNo.{ServerNo}
-use Rattle.jn_base.specs.declared.names.ClientNo.{ClientNo}
-use Rattle.jn_base.specs.declared.names.Tid.{Tid}
+use Rattle.jn_serial.proofs.Common.{◌≡◌, ℕ, ◌+◌, ◌<◌, ◌≤◌, Bool, true, false, nat_le, List, [], ◌∷◌, ◌++◌, Option, Some, refl, ap, arith, inl, inr, append_assoc, append-nil, cases_Bool, nat_tests, ClientNo, Tid, Event, When, AtEvent, End, Text, Line, is_before, lines_before, event_at, begun_after, begun_then, is_in}
 use Rattle.jn_base.specs.declared.names.Cause.{Cause}
 use Rattle.jn_base.specs.declared.names.Cause.TheVariants as causes
 use Rattle.jn_base.specs.declared.op.Command.TheVariants.{Abort}
-use Rattle.jn_base.proofs.Tells.{client_tells, tid_tells}
-use Rattle.jn_schedule.specs.declared.Event.{Event}
 use Rattle.jn_schedule.specs.declared.Event.TheVariants.{Command}
-use Rattle.jn_report.specs.declared.line.When.{When}
-use Rattle.jn_report.specs.declared.line.When.TheVariants.{Event as AtEvent, End}
-use Rattle.jn_report.specs.declared.line.Text.{Text}
 use Rattle.jn_report.specs.declared.line.Text.TheVariants as says
-use Rattle.jn_report.specs.declared.line.Line.{Line}
-use Rattle.jn_serial.specs.Lines.{is_before, lines_before, event_at}
-use Rattle.jn_serial.specs.Begun.{begun_after, begun_then, last_begun, is_tid, is_in}
-use Rattle.jn_serial.specs.Caused.{any_event, count_events, aborts, is_caused_by, is_caused, CausedFrom, Caused}
-use Rattle.jn_serial.proofs.Growth.{IsWithin, AreWithin, event_at-front, event_at-next}
-use Rattle.jn_serial.proofs.Orders.{lines_before-append}
+use Rattle.jn_serial.specs.Caused.{any_event, count_events, is_caused_by, is_caused, CausedFrom, Caused}
+use Rattle.jn_serial.proofs.Growth.{IsWithin, AreWithin}
 
 any_event-more : (test : ℕ → Event → Bool) (n : ℕ) (es fs : List Event) → any_event test n es ≡ true → any_event test n (es ++ fs) ≡ true
 any_event-more test n [] fs h = cc

@@ -1,13 +1,6 @@
 -- One more event, with its lines: what holds of the events and lines so far is kept.
-use Rattle.std.proofs.Common.{◌≡◌, ◌⊎◌, inl, inr, ℕ, zero, suc, ◌+◌, ◌<◌, ◌≤◌, true, false, List, [], ◌∷◌, ◌++◌, length, Some, refl, sym, ◌∙◌, ap, subst, arith, append-nil}
-use Rattle.std.proofs.lemmas.Bool.Decides.{nat_tests}
-use Rattle.jn_schedule.specs.declared.Event.{Event}
-use Rattle.jn_report.specs.declared.line.When.{When}
-use Rattle.jn_report.specs.declared.line.When.TheVariants.{Event as AtEvent, End}
-use Rattle.jn_report.specs.declared.line.Line.{Line}
-use Rattle.jn_serial.specs.Lines.{when_eq, lines_at, event_at}
+use Rattle.jn_serial.proofs.Common.{◌≡◌, ◌⊎◌, inl, inr, ℕ, zero, suc, ◌+◌, ◌<◌, ◌≤◌, true, false, List, [], ◌∷◌, ◌++◌, length, Some, refl, sym, ◌∙◌, ap, subst, arith, append-nil, nat_tests, Event, When, AtEvent, End, Line, when_eq, lines_at, event_at, Outstanding, FollowsEvent, FollowsFrom, after_one}
 use Rattle.jn_serial.proofs.Orders.{lines_at-append}
-use Rattle.jn_serial.specs.Follows.{Outstanding, FollowsEvent, FollowsFrom, after_one}
 
 -- each line stands at an event from low on and below high
 abbrev pub IsWithin : ℕ → ℕ → When → Type 0

@@ -1,3 +1,4 @@
+mod Common
 pub mod Growth
 pub mod Refused
 pub mod Ops

@@ -1,20 +1,7 @@
 -- What a transaction did, and what the commits give, with more events and more lines.
-use Rattle.std.proofs.Common.{◌≡◌, ℕ, ◌≤◌, cond, List, [], ◌∷◌, ◌++◌, length, Option, Some, None, refl, sym, ◌∙◌, ap, subst, arith}
-use Rattle.jn_base.specs.declared.names.ClientNo.{ClientNo}
-use Rattle.jn_base.specs.declared.names.Tid.{Tid}
-use Rattle.jn_base.specs.declared.op.Answer.{Answer}
-use Rattle.jn_base.specs.Names.{client_eq}
-use Rattle.jn_order.specs.Files.{AllFiles}
-use Rattle.jn_replay.specs.Operations.{files_then, GivesAnswers}
-use Rattle.jn_schedule.specs.declared.Event.{Event}
+use Rattle.jn_serial.proofs.Common.{◌≡◌, ℕ, ◌≤◌, cond, List, [], ◌∷◌, ◌++◌, length, Option, Some, None, refl, sym, ◌∙◌, ap, subst, arith, ClientNo, Tid, Answer, client_eq, AllFiles, files_then, GivesAnswers, Event, Text, Line, Performed, event_at, ops_of, replay, AgreesFrom, performed_in, answered, answered_by, owner_after, told_from}
 use Rattle.jn_report.specs.declared.line.Refusal.TheVariants as refusals
-use Rattle.jn_report.specs.declared.line.Text.{Text}
 use Rattle.jn_report.specs.declared.line.Text.TheVariants as says
-use Rattle.jn_report.specs.declared.line.Line.{Line}
-use Rattle.jn_replay.specs.declared.files.Performed.{Performed}
-use Rattle.jn_serial.specs.Lines.{event_at}
-use Rattle.jn_serial.specs.Order.{ops_of, replay, AgreesFrom}
-use Rattle.jn_serial.specs.InTurn.{performed_in, answered, answered_by, owner_after, told_from}
 use Rattle.jn_serial.proofs.Growth.{event_at-front}
 
 -- the number of the command that a line answers from the files, if it does so, is at most n

@@ -1,25 +1,7 @@
 -- The order of commits, on the same files and on lists joined end to end.
-use Rattle.std.proofs.Common.{ℕ, length, ◌≡◌, Bool, ◌||◌, List, [], ◌∷◌, ◌++◌, filter, refl, sym, ap, ◌∙◌, subst, inl, inr, append_assoc, append-nil, ◌+◌, ◌<◌, ◌↔◌, drop, get_or}
+use Rattle.jn_serial.proofs.Common.{ℕ, length, ◌≡◌, Bool, ◌||◌, List, [], ◌∷◌, ◌++◌, filter, refl, sym, ap, ◌∙◌, inl, inr, append_assoc, ◌+◌, ◌<◌, ◌↔◌, drop, get_or, Option, None, cases_Bool, ClientNo, Tid, tid_eq, AllFiles, Performed, AreSame, files_then, GivesAnswers, AreSame-from_equal, drop_here, Event, When, Text, Line, when_eq, is_before, lines_at, lines_before, says, has_tid, ops_of, replay, AgreesFrom, answered_by, owner_after, told_from, ops_told, NamesNone}
 use Rattle.std.specs.List.{list_any}
-use Rattle.std.specs.Prelude.{Option, None}
-use Rattle.std.proofs.lemmas.Bool.{cases_Bool}
-use Rattle.jn_base.specs.declared.names.ClientNo.{ClientNo}
-use Rattle.jn_base.specs.declared.names.Tid.{Tid}
-use Rattle.jn_base.specs.Names.{tid_eq}
-use Rattle.jn_order.specs.Files.{AllFiles}
 use Rattle.jn_order.proofs.FilesLemmas.{same_files}
-use Rattle.jn_replay.specs.declared.files.Performed.{Performed}
-use Rattle.jn_replay.specs.Stored.{AreSame}
-use Rattle.jn_replay.specs.Operations.{files_then, GivesAnswers}
-use Rattle.jn_replay.proofs.Same.{AreSame-from_equal, drop_here}
-use Rattle.jn_schedule.specs.declared.Event.{Event}
-use Rattle.jn_report.specs.declared.line.When.{When}
-use Rattle.jn_report.specs.declared.line.Text.{Text}
-use Rattle.jn_report.specs.declared.line.Line.{Line}
-use Rattle.jn_serial.specs.Lines.{when_eq, is_before, lines_at, lines_before, says, has_tid, commit_in, history_of}
-use Rattle.jn_serial.specs.Order.{ops_of, replay, AgreesFrom, Agrees}
-use Rattle.jn_serial.specs.InTurn.{answered_by, owner_after, told_from, ops_told}
-use Rattle.jn_serial.specs.Told.{NamesBefore, NamesNone}
 
 pub replay-same : (events : List Event) (lines : List Line) (ts : List Tid) (a b : AllFiles) → AreSame a b → AreSame (replay a events lines ts) (replay b events lines ts)
 replay-same events lines ts a b same = AreSame-from_equal (replay a events lines ts) (replay b events lines ts) (ap (λ (f : AllFiles). replay f events lines ts) (same_files a b same))

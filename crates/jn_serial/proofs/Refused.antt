@@ -1,13 +1,6 @@
 -- Where clients refuse commands themselves.
-use Rattle.std.proofs.Common.{◌≡◌, ℕ, ◌+◌, ◌≤◌, Bool, true, false, ◌&&◌, ◌||◌, not, if◌then◌else◌, List, [], ◌∷◌, fold, refl, sym, ◌∙◌, ap, arith}
-use Rattle.std.proofs.lemmas.Bool.{true≢false}
-use Rattle.std.specs.Prelude.{nat_eq}
-use Rattle.jn_base.specs.declared.names.ClientNo.{ClientNo}
-use Rattle.jn_schedule.specs.declared.Event.{Event}
-use Rattle.jn_report.specs.declared.line.Text.{Text}
+use Rattle.jn_serial.proofs.Common.{◌≡◌, ℕ, ◌+◌, ◌≤◌, Bool, true, false, ◌&&◌, ◌||◌, not, if◌then◌else◌, List, [], ◌∷◌, fold, refl, sym, ◌∙◌, ap, arith, true≢false, nat_eq, ClientNo, Event, Text, Line, is_own, is_command_of, own_in_place, AllOwnInPlace, is_own_refusal, own_refusals}
 use Rattle.jn_report.specs.declared.line.Text.TheVariants as says
-use Rattle.jn_report.specs.declared.line.Line.{Line}
-use Rattle.jn_serial.specs.Follows.{is_own, is_command_of, own_in_place, AllOwnInPlace, is_own_refusal, own_refusals}
 
 not-in-place : (number : ℕ) (e : Event) (text : Text) → ((c : ClientNo) → is_command_of e c ≡ false) → own_in_place number e text ≡ true → is_own_refusal text ≡ false
 not-in-place number e (says.Refused c j refusal) plain h = by (is_own refusal) (nat_eq number j) (is_command_of e c) (plain c) h

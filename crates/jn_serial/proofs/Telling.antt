@@ -1,10 +1,5 @@
 -- What is told of outcomes, with more lines.
-use Rattle.std.proofs.Common.{◌≡◌, Bool, true, false, ◌||◌, List, [], ◌∷◌, ◌++◌, refl, ◌∙◌, arith}
-use Rattle.jn_base.specs.declared.names.Tid.{Tid}
-use Rattle.jn_base.specs.Names.{tid_eq}
-use Rattle.jn_serial.specs.Lines.{has_tid}
-use Rattle.jn_serial.specs.Told.{NamesOnce}
-use Rattle.jn_base.proofs.Tells.{tid_tells}
+use Rattle.jn_serial.proofs.Common.{◌≡◌, Bool, true, false, ◌||◌, List, [], ◌∷◌, ◌++◌, refl, ◌∙◌, arith, Tid, tid_eq, has_tid, NamesOnce, tid_tells}
 use Rattle.jn_serial.proofs.Orders.{has_tid-append}
 
 other_way : (u t : Tid) → tid_eq u t ≡ false → tid_eq t u ≡ false

@@ -1,39 +1,11 @@
 -- What the coordinator does by its row, the whole server does.
-use Rattle.std.proofs.Common.{◌≡◌, ◌⊎◌, inl, inr, ℕ, ◌+◌, ◌*◌, ◌≤◌, Bool, true, false, List, [], ◌∷◌, Option, Result, Ok, Err, refl, sym, ◌∙◌, ap, subst, arith, true≢false}
-use Rattle.std.specs.Prelude.{length, ◌&&◌}
-use Rattle.std.specs.Result.{IsErr, IsErrAnd}
-use Rattle.std.proofs.lemmas.Bool.Decides.{nat_tests}
-use Rattle.jn_base.specs.declared.names.Tickets.{Tickets}
-use Rattle.jn_base.specs.declared.names.WorkId.{WorkId}
-use Rattle.jn_base.specs.Names.{work_eq}
-use Rattle.jn_locks.specs.Locks.{work_before}
-use Rattle.jn_lock_rows.specs.Matching.{is_after}
-use Rattle.jn_msgs.specs.Collected.{Collected}
-use Rattle.jn_order.specs.Files.{Files}
-use Rattle.jn_rows.specs.Stable.{StableState, Prepared, Change, AddReady, MarkGoing, CarryOut, RemoveWork, AddFlag, DropFlag, is_going, made_by, made_all}
-use Rattle.jn_rows.specs.Outcomes.{RowOutcome}
-use Rattle.jn_rows.specs.declared.worker.Work.{Work}
-use Rattle.jn_rows.specs.Worker.{work_at, name_from as work_from}
-use Rattle.jn_rows.specs.Coordinator.{CoordinatorTable}
-use Rattle.jn_storage.specs.Storage.{Accounts, StorageView}
-use Rattle.jn_storage.specs.Calls.{state}
-use Rattle.jn_storage.specs.Listing.{is_in}
-use Rattle.jn_store.proofs.Laws.{calm_on}
-use Rattle.jn_worker.specs.Leaving.{left_by, left_over}
-use Rattle.jn_worker.specs.Fitting.{WorkFits, WorkListFits}
-use Rattle.jn_coord.specs.Remembered.{Remembered}
-use Rattle.jn_coord.specs.Calls.{IsDone as CoordinatorDone, IsStopped as CoordinatorStopped, Does as CoordinatorDoes}
-use Rattle.jn_coord.specs.Beginning.{TicketsFit as CoordinatorTickets}
+use Rattle.jn_server.proofs.Common.{◌≡◌, ◌⊎◌, inl, inr, ℕ, ◌+◌, ◌*◌, ◌≤◌, Bool, true, false, List, [], ◌∷◌, Option, refl, sym, ◌∙◌, ap, subst, arith, true≢false, length, IsErr, IsErrAnd, nat_tests, Tickets, WorkId, work_eq, work_before, is_after, Collected, Files, StableState, Prepared, Change, AddReady, MarkGoing, CarryOut, RemoveWork, AddFlag, DropFlag, is_going, made_by, made_all, RowOutcome, Work, work_at, work_from, CoordinatorTable, Accounts, StorageView, state, is_in, calm_on, left_by, left_over, WorkFits, WorkListFits, Remembered, CoordinatorDone, CoordinatorStopped, CoordinatorDoes, CoordinatorTickets, of_coordinator, Aside, is_of_flag, are_of_flags, first-of, second-of, flags-all, epoch-all, DrawsOne, ServerFault, ServerView, memory_of, IsServer, IsDone, IsStopped, Does, LeavesRubbish}
+use Rattle.std.proofs.Common.{Result, Ok, Err}
+use Rattle.std.specs.Prelude.{◌&&◌}
 use Rattle.jn_coord.specs.Handling.{Handles}
 use Rattle.jn_transactions.specs.declared.faults.CoordFault.{CoordFault}
 use Rattle.jn_transactions.specs.declared.faults.CoordFault.TheVariants as faults
-use Rattle.jn_system.specs.WholeSystem.Servers.{of_coordinator}
-use Rattle.jn_system.proofs.WholeSystem.CoordinatorRows.{Aside, is_of_flag, are_of_flags, first-of, second-of, flags-all, epoch-all}
-use Rattle.jn_system.proofs.WholeSystem.WorkerChanges.{DrawsOne}
-use Rattle.jn_server.specs.declared.fault.ServerFault.{ServerFault}
 use Rattle.jn_server.specs.Faults.{of_coordinator as fault_of}
-use Rattle.jn_server.specs.Seen.{ServerView, memory_of, IsServer}
-use Rattle.jn_server.specs.Handling.{IsDone, IsStopped, Does, LeavesRubbish}
 
 -- changes of flags leave the files
 flags-files : (changes : List Change) (x : StableState) → are_of_flags changes ≡ true → (made_all changes x).files ≡ x.files

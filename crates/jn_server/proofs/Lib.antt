@@ -1,3 +1,4 @@
+mod Common
 mod Ranges
 mod Working
 mod Coordinating

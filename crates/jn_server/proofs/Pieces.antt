@@ -1,33 +1,8 @@
 -- Pieces of a show, one after another.
-use Rattle.std.proofs.Common.{◌≡◌, ◌≢◌, ◌⊎◌, inl, inr, ℕ, suc, ◌+◌, ◌*◌, ◌<◌, ◌≤◌, Bool, true, false, ◌&&◌, ◌||◌, List, [], ◌∷◌, ◌++◌, Option, Some, None, is_some, refl, sym, ◌∙◌, ap, subst, arith, true≢false, append_assoc}
-use Rattle.std.specs.Prelude.{nat_lt, length, map, Result, Ok, Err, is_ok, IfErr, OnOk}
-use Rattle.std.specs.Result.{IsErr, IsErrAnd}
-use Rattle.std.proofs.lemmas.Bool.Decides.{nat_tests}
-use Rattle.std.proofs.lemmas.List.{append-nil, map-append}
+use Rattle.jn_server.proofs.Common.{◌≡◌, ◌≢◌, ◌⊎◌, inl, inr, ℕ, suc, ◌+◌, ◌*◌, ◌<◌, ◌≤◌, Bool, true, false, ◌&&◌, ◌||◌, List, [], ◌∷◌, ◌++◌, Option, Some, None, is_some, refl, sym, ◌∙◌, ap, subst, arith, true≢false, append_assoc, nat_lt, length, map, Result, Ok, Err, is_ok, IfErr, OnOk, IsErr, IsErrAnd, nat_tests, append-nil, map-append, FileNo, BlockNo, LockUnit, File, Block, Tid, file_eq, block_eq, file_tells, unit_eq, StableState, commit_holder, IsListing, is_in, StorageView, is_stored, state, BlockRead, stop_since, Printed, print_unit, prints_in, print_one, print_blocks, ServerFault, Stopped, NoMemory, Shown, ServerView, IsServer, print_of, one_if, count_of, is_at, is_of_first, is_of_lesser, to_print, name_if, block_at, blocks_below, prints_of_blocks, LooksOver, TellsPiece, CutsPiece}
 use Rattle.jn_base.specs.declared.device.Stopped.{Stopped as Stop}
-use Rattle.jn_base.specs.declared.names.FileNo.{FileNo}
-use Rattle.jn_base.specs.declared.names.BlockNo.{BlockNo}
-use Rattle.jn_base.specs.declared.names.LockUnit.{LockUnit}
-use Rattle.jn_base.specs.declared.names.LockUnit.TheVariants.{File, Block}
-use Rattle.jn_base.specs.declared.names.Tid.{Tid}
-use Rattle.jn_base.specs.Names.{file_eq, block_eq}
-use Rattle.jn_base.proofs.Tells.{file_tells}
-use Rattle.jn_locks.specs.Locks.{unit_eq}
-use Rattle.jn_rows.specs.Stable.{StableState}
-use Rattle.jn_rows.specs.Worker.{commit_holder}
-use Rattle.jn_storage.specs.Listing.{IsListing, is_in}
-use Rattle.jn_storage.specs.Storage.{StorageView, is_stored}
-use Rattle.jn_storage.specs.Calls.{state, BlockRead}
 use Rattle.jn_storage.proofs.Laws.{storage_refl, storage_trans}
-use Rattle.jn_store.proofs.Laws.{stop_since}
-use Rattle.jn_system.specs.WholeSystem.Printing.{Printed, print_unit, prints_in, print_one, print_blocks}
-use Rattle.jn_server.specs.declared.fault.ServerFault.{ServerFault}
-use Rattle.jn_server.specs.declared.fault.ServerFault.TheVariants.{Stopped, Memory as NoMemory}
-use Rattle.jn_server.specs.declared.show.Shown.{Shown}
 use Rattle.jn_server.specs.declared.show.Shown.TheVariants as shown
-use Rattle.jn_server.specs.Seen.{ServerView, IsServer}
-use Rattle.jn_server.specs.Showing.{print_of}
-use Rattle.jn_server.specs.Pieces.{one_if, count_of, is_at, is_of_first, is_of_lesser, to_print, name_if, block_at, blocks_below, prints_of_blocks, LooksOver, TellsPiece, CutsPiece}
 use Rattle.jn_server.proofs.Serving.{still-serves}
 
 -- ---- counts

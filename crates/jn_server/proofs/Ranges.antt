@@ -1,38 +1,21 @@
 -- Each row of a worker keeps what it has written in range.
-use Rattle.std.proofs.Common.{◌≡◌, ℕ, ◌+◌, ◌<◌, Bool, true, false, List, [], ◌∷◌, ◌++◌, Option, Some, None, refl, subst, arith}
-use Rattle.std.specs.Prelude.{if◌then◌else◌, ◌&&◌, nat_lt, nat_eq, length, map, slice_get}
-use Rattle.std.specs.List.{list_all}
-use Rattle.std.proofs.lemmas.Bool.Decides.{nat_tests}
+use Rattle.jn_server.proofs.Common.{◌≡◌, ℕ, ◌+◌, ◌<◌, Bool, true, false, List, [], ◌∷◌, ◌++◌, Option, Some, None, refl, subst, arith, if◌then◌else◌, nat_lt, nat_eq, length, map, slice_get, list_all, nat_tests, LockUnit, Tid, Tickets, WorkId, work_eq, tid_eq, IntentionWrite, unit_eq, unit_before, change, answer_to, Work, Phase, Active, Broken, Stored, RowOutcome, StableState, Prepared, is_going, WorkerTable, WorkStorage, Wanted, work_at, work_of, with_phase, without, with_unit, with_units, units_for, wants_of, is_fit, breaks_at, broken_by, after_grant, new_work, open_row, granted_row, refusal_of, repeated, op_phase, op_row, conflict, commit_wants, vote_of, shortage, need_in, prepared_row, prepare_phase, prepare_row, commit_phase, commit_row, drop_phase, drop_row, worker_row, going_work, intentions_of, carried_row, going_row, worker_step, vulnerable, timed_out, timeout_row, written_unit, restored_work, restored_worker, unit_in_range, IsPrepared, IsInRange, AreInRange}
+use Rattle.std.specs.Prelude.{◌&&◌}
 use Rattle.jn_base.specs.declared.names.ClientNo.{ClientNo}
-use Rattle.jn_base.specs.declared.names.LockUnit.{LockUnit}
-use Rattle.jn_base.specs.declared.names.Tid.{Tid}
-use Rattle.jn_base.specs.declared.names.Tickets.{Tickets}
-use Rattle.jn_base.specs.declared.names.WorkId.{WorkId}
 use Rattle.jn_base.specs.declared.op.Answer.{Answer}
 use Rattle.jn_base.specs.declared.op.Op.{Op}
 use Rattle.jn_base.specs.declared.op.Op.TheVariants as ops
-use Rattle.jn_base.specs.Names.{work_eq, tid_eq}
-use Rattle.jn_locks.specs.declared.words.Mode.TheVariants.{IntentionWrite}
-use Rattle.jn_locks.specs.Locks.{unit_eq, unit_before}
 use Rattle.jn_msgs.specs.declared.message.Message.{Message}
 use Rattle.jn_msgs.specs.declared.message.Message.TheVariants as messages
 use Rattle.jn_msgs.specs.declared.message.Vote.{Vote}
 use Rattle.jn_msgs.specs.declared.message.Vote.TheVariants as votes
-use Rattle.jn_order.specs.Files.{change, answer_to}
 use Rattle.jn_records.specs.NetLists.{list_change}
 use Rattle.jn_records.specs.declared.intention.Intention.{Intention}
 use Rattle.jn_records.specs.declared.intention.What.TheVariants as whats
-use Rattle.jn_rows.specs.declared.worker.Work.{Work}
-use Rattle.jn_rows.specs.declared.worker.Phase.{Phase}
-use Rattle.jn_rows.specs.declared.worker.Phase.TheVariants.{Active, Broken, Prepared as Stored}
 use Rattle.jn_rows.specs.declared.worker.ActiveWork.{ActiveWork}
-use Rattle.jn_rows.specs.Outcomes.{RowOutcome}
-use Rattle.jn_rows.specs.Stable.{StableState, Prepared, is_going}
-use Rattle.jn_rows.specs.Worker.{WorkerTable, WorkStorage, Wanted, work_at, work_of, with_phase, without, with_unit, with_units, units_for, wants_of, is_fit, breaks_at, broken_by, after_grant, name_from, new_work, open_row, granted_row, refusal_of, repeated, op_phase, op_row, conflict, commit_wants, vote_of, shortage, need_in, prepared_row, prepare_phase, prepare_row, commit_phase, commit_row, drop_phase, drop_row, worker_row, going_work, intentions_of, carried_row, going_row, worker_step, vulnerable, timed_out, timeout_row, written_unit, restored_work, restored_worker}
-use Rattle.jn_storage.specs.Orderly.{unit_in_range, IsPrepared}
+use Rattle.jn_rows.specs.Worker.{name_from}
 use Rattle.jn_storage.specs.Viewing.{BlockInRange}
 use Rattle.jn_worker.specs.Handling.{InRange}
-use Rattle.jn_server.specs.Ranges.{IsInRange, AreInRange}
 
 -- ---- lists of units
 

@@ -1,41 +1,13 @@
 -- A server that comes up is the restarted one of the whole system.
-use Rattle.std.proofs.Common.{◌≡◌, ◌⊎◌, inl, inr, ℕ, suc, ◌+◌, ◌≤◌, ◌<◌, ◌^◌, Bool, true, false, List, [], ◌∷◌, ◌++◌, Option, Some, None, is_some, refl, sym, ◌∙◌, ap, subst, arith, true≢false}
+use Rattle.jn_server.proofs.Common.{◌≡◌, ◌⊎◌, inl, inr, ℕ, suc, ◌+◌, ◌≤◌, ◌<◌, ◌^◌, Bool, true, false, List, [], ◌∷◌, ◌++◌, Option, Some, None, is_some, refl, sym, ◌∙◌, ap, subst, arith, true≢false, list_all, list_any, nat_tests, ServerNo, Tickets, Tid, WorkId, tid_eq, work_eq, tid_tells, work_before, is_after, Counts, StableState, Prepared, FlagState, Change, Pick, restored_worker, restored_work, work_from, restored_coordinator, restored_transactions, restored_transaction, tid_from, seen_in_flags, seen_in_flag, is_in, StorageView, state, StoreView, found_on, IsLoaded, IsDown, Recovering, IsSameOrNext, WorkerView, Remembered, table_of, rises, are_above, are_before, restored, are_rising, tid_before, ServerView, memory_of, AreInRange, AreTables, IsRestarted, IsNotRestarted, IsWithin, Composes}
 use Rattle.std.proofs.Math.Path.{fun_ext}
 use Rattle.std.specs.Prelude.{◌&&◌, ◌||◌}
-use Rattle.std.specs.List.{list_all, list_any}
-use Rattle.std.proofs.lemmas.Bool.Decides.{nat_tests}
-use Rattle.jn_base.specs.declared.names.ServerNo.{ServerNo}
-use Rattle.jn_base.specs.declared.names.Tickets.{Tickets}
-use Rattle.jn_base.specs.declared.names.Tid.{Tid}
-use Rattle.jn_base.specs.declared.names.WorkId.{WorkId}
-use Rattle.jn_base.specs.Names.{tid_eq, work_eq}
-use Rattle.jn_base.proofs.Tells.{tid_tells}
-use Rattle.jn_locks.specs.Locks.{work_before}
-use Rattle.jn_lock_rows.specs.Matching.{is_after}
-use Rattle.jn_records.specs.StablePages.{Counts}
-use Rattle.jn_rows.specs.Stable.{StableState, Prepared, FlagState, Change, Pick}
-use Rattle.jn_rows.specs.Worker.{restored_worker, restored_work, name_from as work_from}
-use Rattle.jn_rows.specs.Coordinator.{restored_coordinator, restored_transactions, restored_transaction, name_from as tid_from, seen_in_flags, seen_in_flag}
-use Rattle.jn_storage.specs.Listing.{is_in}
-use Rattle.jn_storage.specs.Storage.{StorageView}
-use Rattle.jn_storage.specs.Calls.{state}
-use Rattle.jn_store.specs.Store.{StoreView}
-use Rattle.jn_found.specs.Pages.{found_on}
 use Rattle.jn_recovery.specs.declared.load.Found.{Found}
 use Rattle.jn_recovery.specs.declared.load.DownCause.{DownCause}
 use Rattle.jn_recovery.specs.declared.load.DownCause.TheVariants.{Stopped, Memory, EpochsUsedUp}
-use Rattle.jn_recovery.specs.Loading.{IsLoaded, IsDown, Recovering, IsSameOrNext}
-use Rattle.jn_worker.specs.Fitting.{WorkerView}
 use Rattle.jn_worker.specs.Restoring.{comes_before, names_rise}
-use Rattle.jn_coord.specs.Remembered.{Remembered, table_of, rises, are_above}
-use Rattle.jn_coord.specs.Beginning.{are_before}
 use Rattle.jn_transactions.specs.Listed.{name_below}
-use Rattle.jn_system.specs.WholeSystem.Servers.{restored}
-use Rattle.jn_system.specs.WholeSystem.Steps.{are_rising, tid_before}
-use Rattle.jn_server.specs.Seen.{ServerView, memory_of}
-use Rattle.jn_server.specs.Ranges.{AreInRange}
 use Rattle.jn_server.proofs.Ranges.{restored-in-range}
-use Rattle.jn_server.specs.Restarting.{AreTables, IsRestarted, IsNotRestarted, IsWithin, Composes}
 
 -- ---- any number of restarts
 

@@ -1,47 +1,27 @@
 -- What the rows read of a storage is what stands on its pages.
-use Rattle.std.proofs.Common.{◌≡◌, ⊎_elim, ◌<◌, ◌+◌, ◌-◌, ℕ, suc, Bool, true, false, not, ◌&&◌, ◌||◌, if◌then◌else◌, List, [], ◌∷◌, length, get_or, Option, Some, None, refl, sym, ◌∙◌, ap, subst, true≢false, arith}
-use Rattle.std.proofs.lemmas.Bool.Decides.{nat_tests}
+use Rattle.jn_server.proofs.Common.{◌≡◌, ⊎_elim, ◌<◌, ◌+◌, ◌-◌, ℕ, suc, Bool, true, false, not, ◌&&◌, ◌||◌, List, [], ◌∷◌, get_or, Option, Some, None, refl, sym, ◌∙◌, ap, subst, true≢false, arith, nat_tests, count_by, nat_eq, nat_lt, slice_index_or, list_any, Tickets, WorkId, work_eq, work_tells, Counts, Pages, Work, StableState, Prepared, WorkerTable, work_at, intentions_of, need_in, promised, is_before, is_in, are_different, total, Accounts, IsCounted, needed, intentions, list_of, state, StoreView, pool_on, heads_on, listed, Kept, view_of, rubbish_in, WorkerView, WorkFits, is_none, Remembered, ServerView, IsServer, IsRoomOfPages, CountsPages}
+use Rattle.std.proofs.Common.{if◌then◌else◌, length}
 use Rattle.std.proofs.lemmas.List.Sums.{sum_by-cons}
-use Rattle.std.specs.Prelude.{is_some, count_by, nat_eq, nat_lt, slice_index_or}
-use Rattle.std.specs.List.{list_any}
-use Rattle.jn_base.specs.declared.names.Tickets.{Tickets}
-use Rattle.jn_base.specs.declared.names.WorkId.{WorkId}
-use Rattle.jn_base.specs.Names.{work_eq}
-use Rattle.jn_base.proofs.Tells.{work_tells}
+use Rattle.std.specs.Prelude.{is_some}
 use Rattle.jn_alloc.specs.Free.{free_count as free_numbers, is_free as is_free_number}
 use Rattle.jn_files.specs.Table.{TableView, IsTable, is_held, is_free, head_in, address_of, IsUnnamed}
 use Rattle.jn_records.specs.declared.head.Head.{Head}
 use Rattle.jn_records.specs.declared.head.Head.TheVariants.{Free as FreeHead, Used}
 use Rattle.jn_records.specs.declared.net_list.Need.{Need}
 use Rattle.jn_records.specs.declared.record.Record.{Record}
-use Rattle.jn_records.specs.StablePages.{Counts, Pages}
-use Rattle.jn_rows.specs.declared.worker.Work.{Work}
-use Rattle.jn_rows.specs.Stable.{StableState, Prepared}
-use Rattle.jn_rows.specs.Worker.{WorkerTable, work_at, intentions_of, need_in}
-use Rattle.jn_rows.specs.Coordinator.{promised}
-use Rattle.jn_lock_rows.specs.Matching.{are_rising, is_before}
+use Rattle.jn_lock_rows.specs.Matching.{are_rising}
 use Rattle.jn_lock_rows.proofs.Works.{none-behind}
-use Rattle.jn_storage.specs.Listing.{is_in, are_different, total}
-use Rattle.jn_storage.specs.Storage.{Accounts, IsCounted, needed, intentions, list_of}
-use Rattle.jn_storage.specs.Calls.{state}
 use Rattle.jn_storage.proofs.Listings.{but, is_in-but, different-but, total-but}
-use Rattle.jn_store.specs.Store.{StoreView}
 use Rattle.jn_sets.specs.Pool.{free_count, is_rubbish, rubbish_count}
 use Rattle.jn_found.specs.Contents.{Contents, has_address, heads_name, works_name}
 use Rattle.jn_found.specs.Held.{held_contents}
-use Rattle.jn_found.specs.Pages.{pool_on, heads_on, listed}
 use Rattle.jn_found.specs.Puts.{contents_by}
 use Rattle.jn_found.proofs.HeldLaws.{contents_held}
 use Rattle.jn_found.proofs.Slots.{passes_at}
 use Rattle.jn_recovery.specs.Matches.{Matches, IsKeptMemory}
-use Rattle.jn_recovery.specs.Memory.{Memory as Kept, view_of, rubbish_in}
 use Rattle.jn_recovery.proofs.Erasing.{rubbish_length}
 use Rattle.jn_recovery.proofs.Standing.{named_head}
 use Rattle.jn_intent.proofs.Rubbish.{some_rubbish}
-use Rattle.jn_worker.specs.Fitting.{WorkerView, WorkFits, is_none}
-use Rattle.jn_coord.specs.Remembered.{Remembered}
-use Rattle.jn_server.specs.Seen.{ServerView, IsServer}
-use Rattle.jn_server.specs.Reading.{IsRoomOfPages, CountsPages}
 use Rattle.jn_server.specs.Standing.{standing_pages, is_free_head, promised_heads}
 
 -- ---- the heads that are promised to prepared works

@@ -1,26 +1,7 @@
 -- A server whose storage finds and counts the same still serves, and so does one whose work times out.
-use Rattle.std.proofs.Common.{◌≡◌, ℕ, Bool, true, false, Option, Some, None, is_some, refl, sym, ◌∙◌, ap, subst, arith}
-use Rattle.std.specs.Prelude.{if◌then◌else◌, Result, Ok, Err, is_ok, OnOk}
-use Rattle.jn_base.specs.declared.names.ServerNo.{ServerNo}
-use Rattle.jn_base.specs.declared.names.Tid.{Tid}
-use Rattle.jn_base.specs.Names.{work_eq}
-use Rattle.jn_rows.specs.Stable.{StableState, Pick, is_going}
-use Rattle.jn_storage.specs.Listing.{is_in}
-use Rattle.jn_storage.specs.Orderly.{IsGiven}
-use Rattle.jn_coord.specs.Calls.{flag_told}
-use Rattle.jn_system.specs.WholeSystem.Servers.{of_timeout}
-use Rattle.jn_rows.specs.Worker.{WorkerTable, work_at, timeout_row}
-use Rattle.jn_storage.specs.Storage.{Accounts, StorageView, IsServing}
-use Rattle.jn_storage.specs.Calls.{state}
-use Rattle.jn_worker.specs.Calls.{TimesOut as WorkerTimesOut}
-use Rattle.jn_worker.specs.Fitting.{WorkerView, WorkFits, WorkListFits}
+use Rattle.jn_server.proofs.Common.{◌≡◌, ℕ, Bool, true, false, Option, Some, None, is_some, refl, sym, ◌∙◌, ap, subst, arith, if◌then◌else◌, Result, Ok, Err, is_ok, OnOk, ServerNo, Tid, work_eq, StableState, Pick, is_going, is_in, IsGiven, flag_told, of_timeout, WorkerTable, work_at, timeout_row, Accounts, StorageView, IsServing, state, WorkerTimesOut, WorkerView, WorkFits, WorkListFits, Scrubbed, Befalls, AreInRange, TimesOut, ServerView, memory_of, IsServer}
 use Rattle.jn_intent.specs.Events.{Befalls as StorageBefalls}
-use Rattle.jn_intent.specs.Scrubbing.{Scrubbed}
-use Rattle.jn_server.specs.Befalling.{Befalls}
-use Rattle.jn_server.specs.Ranges.{AreInRange}
 use Rattle.jn_server.proofs.Ranges.{timeout-in-range}
-use Rattle.jn_server.specs.Handling.{TimesOut}
-use Rattle.jn_server.specs.Seen.{ServerView, memory_of, IsServer}
 
 pub still-serves : (v : ServerView) (w : StorageView) → state w ≡ state v.storage → w.accounts ≡ v.storage.accounts → IsServing w → IsServer v → IsServer (record v { storage = w })
 still-serves v w found same serving h = record {

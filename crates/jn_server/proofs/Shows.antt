@@ -1,45 +1,9 @@
 -- A whole show, file after file.
-use Rattle.std.proofs.Common.{◌≡◌, ◌≢◌, ◌⊎◌, inl, inr, ℕ, zero, suc, ◌+◌, ◌<◌, ◌≤◌, Bool, true, false, ◌&&◌, ◌||◌, List, [], ◌∷◌, ◌++◌, Option, Some, None, is_some, refl, sym, ◌∙◌, ap, subst, arith, true≢false, append_assoc}
-use Rattle.std.specs.Prelude.{nat_lt, map, if◌then◌else◌, option_and_then, Result, Ok, Err, IfErr}
-use Rattle.std.specs.Result.{IsErr, IsErrAnd}
-use Rattle.std.specs.List.{list_all}
+use Rattle.jn_server.proofs.Common.{◌≡◌, ◌≢◌, ◌⊎◌, inl, inr, ℕ, zero, suc, ◌+◌, ◌<◌, ◌≤◌, Bool, true, false, ◌&&◌, ◌||◌, List, [], ◌∷◌, ◌++◌, Option, Some, None, is_some, refl, sym, ◌∙◌, ap, subst, arith, true≢false, append_assoc, nat_lt, map, if◌then◌else◌, option_and_then, Result, Ok, Err, IfErr, IsErr, IsErrAnd, list_all, nat_tests, append-nil, map-append, FileNo, BlockNo, LockUnit, File, Block, Tid, file_eq, block_eq, file_tells, block_tells, Commit, unit_eq, is_unit, Files, address_in, block_behind, block_in, head_of, Phase, Active, Broken, Stored, WorkerTable, commit_holder, holds, Kept, view_of, pages_by, unit_in_range, file_there, state, is_above, NextFile, StoreView, calm_on, Printed, FileThere, print_unit, print_blocks, print_file, print_files, block_before, AreNames, first-of, second-of, ServerFault, Stopped, NoMemory, Shown, IsInRange, AreInRange, ServerView, IsServer, print_of, Looks, IsShown, CutsShort, is_of_first, is_of_lesser, to_print, name_if, block_at, blocks_below, blocks_of, prints_of_blocks, prints_of_file, number_after, IsNextShown, NextShown, LooksOver, TellsPiece, CutsPiece}
 use Rattle.std.proofs.lemmas.Bool.{cases_lt}
-use Rattle.std.proofs.lemmas.Bool.Decides.{nat_tests}
-use Rattle.std.proofs.lemmas.List.{append-nil, map-append}
-use Rattle.jn_base.specs.declared.names.FileNo.{FileNo}
-use Rattle.jn_base.specs.declared.names.BlockNo.{BlockNo}
-use Rattle.jn_base.specs.declared.names.LockUnit.{LockUnit}
-use Rattle.jn_base.specs.declared.names.LockUnit.TheVariants.{File, Block}
-use Rattle.jn_base.specs.declared.names.Tid.{Tid}
-use Rattle.jn_base.specs.Names.{file_eq, block_eq}
-use Rattle.jn_base.proofs.Tells.{file_tells, block_tells}
-use Rattle.jn_locks.specs.declared.words.Mode.TheVariants.{Commit}
-use Rattle.jn_locks.specs.Locks.{unit_eq, is_unit}
-use Rattle.jn_order.specs.Files.{Files}
-use Rattle.jn_records.specs.StablePages.{address_in, block_behind, block_in, head_of}
-use Rattle.jn_rows.specs.declared.worker.Phase.{Phase}
-use Rattle.jn_rows.specs.declared.worker.Phase.TheVariants.{Active, Broken, Prepared as Stored}
-use Rattle.jn_rows.specs.Worker.{WorkerTable, commit_holder, holds}
-use Rattle.jn_recovery.specs.Memory.{Memory as Kept, view_of}
-use Rattle.jn_found.specs.Pages.{pages_by}
-use Rattle.jn_storage.specs.Orderly.{unit_in_range}
-use Rattle.jn_storage.specs.Storage.{file_there}
-use Rattle.jn_storage.specs.Calls.{state, is_above, NextFile}
-use Rattle.jn_store.specs.Store.{StoreView}
-use Rattle.jn_store.proofs.Laws.{calm_on}
 use Rattle.jn_works.specs.Locked.{lesser, next_locked, is_held, LeastOf}
 use Rattle.jn_works.proofs.LeastFiles.{next_is_least}
-use Rattle.jn_system.specs.WholeSystem.Printing.{Printed, FileThere, print_unit, print_blocks, print_file, print_files, block_before}
-use Rattle.jn_system.specs.WholeSystem.Steps.{AreNames}
-use Rattle.jn_system.proofs.WholeSystem.CoordinatorRows.{first-of, second-of}
-use Rattle.jn_server.specs.declared.fault.ServerFault.{ServerFault}
-use Rattle.jn_server.specs.declared.fault.ServerFault.TheVariants.{Stopped, Memory as NoMemory}
-use Rattle.jn_server.specs.declared.show.Shown.{Shown}
 use Rattle.jn_server.specs.declared.show.Shown.TheVariants as shown
-use Rattle.jn_server.specs.Ranges.{IsInRange, AreInRange}
-use Rattle.jn_server.specs.Seen.{ServerView, IsServer}
-use Rattle.jn_server.specs.Showing.{print_of, Looks, IsShown, CutsShort}
-use Rattle.jn_server.specs.Pieces.{is_of_first, is_of_lesser, to_print, name_if, block_at, blocks_below, blocks_of, prints_of_blocks, prints_of_file, number_after, IsNextShown, NextShown, LooksOver, TellsPiece, CutsPiece}
 use Rattle.jn_server.proofs.Listed.{ListsBelow, lists-nothing, lists-on, lists-more, lists-all}
 use Rattle.jn_server.proofs.Pieces.{next-number, count-all, files-join, same-prints, tells-then, cut-then, tells-nothing, tells-one}
 

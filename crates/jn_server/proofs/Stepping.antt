@@ -1,23 +1,7 @@
 -- A background step of the worker, and what is sent again, as the whole server's.
-use Rattle.std.proofs.Common.{◌≡◌, Bool, true, false, ◌||◌, [], ◌++◌, length, append_assoc, Option, Some, None, refl, sym, ◌∙◌, ap, arith}
-use Rattle.std.specs.Prelude.{Result, Ok, Err, OnOk, is_ok, is_some, nat_lt}
-use Rattle.std.specs.Result.{IsErr, IsErrAnd}
-use Rattle.jn_msgs.specs.Collected.{Collected}
-use Rattle.jn_rows.specs.Outcomes.{RowOutcome}
-use Rattle.jn_rows.specs.Worker.{WorkerTable, worker_step, worker_again}
-use Rattle.jn_rows.specs.Coordinator.{coordinator_again}
-use Rattle.jn_storage.specs.Storage.{StorageView}
-use Rattle.jn_storage.specs.Calls.{state}
-use Rattle.jn_transactions.specs.Telling.{added}
-use Rattle.jn_worker.specs.declared.words.WorkerFault.{WorkerFault}
-use Rattle.jn_worker.specs.Calls.{Steps as WorkerSteps, AsksAgain}
-use Rattle.jn_worker.specs.Fitting.{WorkerView, seen}
-use Rattle.jn_system.specs.WholeSystem.Servers.{of_step, server_step, server_again}
-use Rattle.jn_system.proofs.WholeSystem.WorkerChanges.{step-aside}
-use Rattle.jn_server.specs.declared.fault.ServerFault.{ServerFault}
-use Rattle.jn_server.specs.Faults.{of_worker as fault_of}
-use Rattle.jn_server.specs.Handling.{Steps}
-use Rattle.jn_server.specs.Seen.{ServerView, memory_of, room_of, IsServer}
+use Rattle.jn_server.proofs.Common.{◌≡◌, Bool, true, false, ◌||◌, [], ◌++◌, append_assoc, Option, Some, None, refl, sym, ◌∙◌, ap, arith, Result, Ok, Err, OnOk, is_ok, nat_lt, IsErr, IsErrAnd, Collected, RowOutcome, WorkerTable, worker_step, worker_again, coordinator_again, StorageView, state, added, WorkerFault, WorkerSteps, AsksAgain, WorkerView, seen, of_step, server_step, server_again, step-aside, ServerFault, fault_of, Steps, ServerView, memory_of, room_of, IsServer}
+use Rattle.std.proofs.Common.{length}
+use Rattle.std.specs.Prelude.{is_some}
 use Rattle.jn_server.proofs.Room.{not_none}
 use Rattle.jn_server.proofs.Ranges.{step-in-range}
 use Rattle.jn_server.proofs.Working.{worked, one-leaves, worker_failed}

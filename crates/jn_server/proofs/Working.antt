@@ -1,34 +1,9 @@
 -- What the worker does by its row, the whole server does.
-use Rattle.std.proofs.Common.{◌≡◌, inl, inr, ℕ, ◌+◌, ◌≤◌, true, false, List, [], ◌∷◌, Result, Ok, Err, refl, sym, ◌∙◌, ap, subst, arith}
-use Rattle.std.specs.Prelude.{length}
-use Rattle.std.specs.Result.{IsErr, IsErrAnd}
-use Rattle.std.proofs.lemmas.Bool.Decides.{nat_tests}
-use Rattle.jn_base.specs.declared.names.Tickets.{Tickets}
-use Rattle.jn_msgs.specs.Collected.{Collected}
-use Rattle.jn_rows.specs.Stable.{StableState, Change}
-use Rattle.jn_rows.specs.Outcomes.{RowOutcome}
-use Rattle.jn_rows.specs.Worker.{WorkerTable}
-use Rattle.jn_rows.specs.Coordinator.{name_from}
+use Rattle.jn_server.proofs.Common.{◌≡◌, inl, inr, ℕ, ◌+◌, ◌≤◌, true, false, List, [], ◌∷◌, refl, sym, ◌∙◌, ap, subst, arith, length, IsErr, IsErrAnd, nat_tests, Tickets, Collected, StableState, Change, RowOutcome, WorkerTable, name_from, Accounts, StorageView, state, calm_on, WorkerFault, Takes, CountsBy, WorkerView, flag_told, are_before, added, of_worker, epoch-all, DrawsOne, works-flags, ServerFault, fault_of, ServerView, memory_of, IsServer, AreInRange, IsDone, IsStopped, Does, LeavesRubbish, left_over}
+use Rattle.std.proofs.Common.{Result, Ok, Err}
 use Rattle.jn_rows.specs.declared.coordinator.Transaction.{Transaction}
-use Rattle.jn_storage.specs.Storage.{Accounts, StorageView}
-use Rattle.jn_storage.specs.Calls.{state}
-use Rattle.jn_store.proofs.Laws.{calm_on}
-use Rattle.jn_worker.specs.declared.words.WorkerFault.{WorkerFault}
 use Rattle.jn_worker.specs.declared.words.WorkerFault.TheVariants as faults
-use Rattle.jn_worker.specs.Calls.{Takes, CountsBy}
-use Rattle.jn_worker.specs.Fitting.{WorkerView}
-use Rattle.jn_coord.specs.Calls.{flag_told}
-use Rattle.jn_coord.specs.Beginning.{are_before}
-use Rattle.jn_transactions.specs.Telling.{added}
-use Rattle.jn_system.specs.WholeSystem.Servers.{of_worker}
-use Rattle.jn_system.proofs.WholeSystem.CoordinatorRows.{epoch-all}
-use Rattle.jn_system.proofs.WholeSystem.WorkerChanges.{Aside, DrawsOne, works-flags}
-use Rattle.jn_server.specs.declared.fault.ServerFault.{ServerFault}
-use Rattle.jn_server.specs.Faults.{of_worker as fault_of}
-use Rattle.jn_server.specs.Seen.{ServerView, memory_of, IsServer}
-use Rattle.jn_server.specs.Ranges.{AreInRange}
-use Rattle.jn_server.specs.Handling.{IsDone, IsStopped, Does, LeavesRubbish}
-use Rattle.jn_worker.specs.Leaving.{left_over}
+use Rattle.jn_system.proofs.WholeSystem.WorkerChanges.{Aside}
 
 -- a later ticket comes after the same names
 pub later-name : (xs : List Transaction) (k l : Tickets) → DrawsOne k l → are_before xs (name_from k) ≡ true → are_before xs (name_from l) ≡ true

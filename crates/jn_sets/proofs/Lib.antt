@@ -1,3 +1,4 @@
+mod Common
 pub mod Slots
 pub mod Stored
 pub mod Loading

@@ -1,18 +1,6 @@
 -- A pool that is loaded, slot by slot.
-use Rattle.std.proofs.Common.{◌≡◌, inl, inr, ℕ, true, ◌+◌, ◌<◌, ◌^◌, List, [], ◌∷◌, ◌++◌, length, refl, sym, ◌∙◌, ap, subst, arith}
-use Rattle.std.proofs.Math.ListN.{get_or-append}
-use Rattle.std.proofs.Math.Seq.{get_or-append_seam}
-use Rattle.std.proofs.lemmas.Bool.{cases_lt}
-use Rattle.std.proofs.lemmas.List.{length-append, get_or_past}
-use Rattle.std.specs.List.{enumerate_from}
-use Rattle.std.specs.Map.{values_of}
-use Rattle.jn_records.specs.declared.record.Record.{Record}
-use Rattle.jn_records.specs.declared.record.Record.TheVariants.{Free}
-use Rattle.jn_records.specs.Records.{has_page}
-use Rattle.jn_store.specs.Store.{StoreView, IsServed}
+use Rattle.jn_sets.proofs.Common.{◌≡◌, inl, inr, ℕ, true, ◌+◌, ◌<◌, ◌^◌, List, [], ◌∷◌, ◌++◌, length, refl, sym, ◌∙◌, ap, subst, arith, get_or-append, get_or-append_seam, cases_lt, length-append, get_or_past, enumerate_from, values_of, Record, Free, has_page, StoreView, IsServed, slot_page, record_in, IsRecordPage, IsReadable, IsStored, HoldsRecords, IsIndex, StoreRead}
 use Rattle.jn_store.proofs.Laws.{later_refl, later_trans, same_refl, same_trans}
-use Rattle.jn_sets.specs.Pool.{slot_page, record_in, IsRecordPage, IsReadable, IsStored, HoldsRecords}
-use Rattle.jn_sets.specs.Sets.{IsIndex, StoreRead}
 use Rattle.jn_sets.proofs.Slots.{push_numbered, values_push}
 
 -- the index has the first slots' records, which the store held at first and holds still

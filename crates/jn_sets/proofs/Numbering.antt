@@ -1,25 +1,8 @@
 -- Records are found by their numbers.
-use Rattle.std.proofs.Common.{◌≡◌, inl, inr, ⊎_elim, ℕ, ◌+◌, ◌≤◌, ◌<◌, Bool, true, false, List, [], ◌∷◌, ◌++◌, length, Option, Some, None, refl, sym, ◌∙◌, ap, subst, arith}
-use Rattle.std.proofs.Math.ListN.{get_or-append}
-use Rattle.std.proofs.Math.Seq.{get_or-append_seam}
-use Rattle.std.proofs.lemmas.Bool.{cases_eq, cases_lt, false_from_ne_true}
-use Rattle.std.proofs.lemmas.Bool.Decides.{nat_tests}
-use Rattle.std.proofs.lemmas.List.{get_or-set_same, get_or-set_other, get_or_past, length-set, length-append, set-get_or}
-use Rattle.std.proofs.lemmas.List.Sums.{position_or_len_is, sum_by-set, sum_by-append, sum_by-remove}
-use Rattle.std.specs.Prelude.{position, nat_eq, nat_lt, slice_set, count_by, cond, ◌&&◌}
-use Rattle.std.specs.Map.{values_of}
-use Rattle.std.specs.List.{position_or_len, sum_by, remove}
+use Rattle.jn_sets.proofs.Common.{◌≡◌, inl, inr, ⊎_elim, ℕ, ◌+◌, ◌≤◌, ◌<◌, Bool, true, false, List, [], ◌∷◌, ◌++◌, length, Option, Some, None, refl, sym, ◌∙◌, ap, subst, arith, get_or-append, get_or-append_seam, cases_eq, cases_lt, false_from_ne_true, nat_tests, get_or-set_same, get_or-set_other, get_or_past, length-set, length-append, set-get_or, position_or_len_is, sum_by-set, sum_by-append, sum_by-remove, position, nat_eq, nat_lt, slice_set, count_by, cond, ◌&&◌, values_of, position_or_len, sum_by, remove, WorkId, tid_eq, work_eq, tid_tells, work_tells, number_at, IsSlotFrom, Record, Free, Intention, Ready, Going, FlagRecord, record_in, is_free, prepares, is_wanted, record_number, number_wanted, spread, AreCounted, ones}
 use Rattle.jn_base.specs.declared.names.Tid.{Tid}
-use Rattle.jn_base.specs.declared.names.WorkId.{WorkId}
-use Rattle.jn_base.specs.Names.{tid_eq, work_eq}
-use Rattle.jn_base.proofs.Tells.{tid_tells, work_tells}
-use Rattle.jn_index.specs.Numbers.{number_at, IsSlotFrom}
-use Rattle.jn_records.specs.declared.record.Record.{Record}
-use Rattle.jn_records.specs.declared.record.Record.TheVariants.{Free, Intention, Ready, Going, Flag as FlagRecord}
 use Rattle.jn_sets.specs.declared.find.Wanted.{Wanted}
 use Rattle.jn_sets.specs.declared.find.Wanted.TheVariants.{Prepared, Intention as WantedIntention, Flag as WantedFlag}
-use Rattle.jn_sets.specs.Pool.{record_in, is_free, prepares, is_wanted, record_number, number_wanted, spread}
-use Rattle.jn_sets.specs.Sets.{AreCounted, ones}
 use Rattle.jn_sets.proofs.Slots.{values_push}
 
 same_work : (a b : WorkId) (kind : ℕ) → work_eq a b ≡ true → spread a.ticket kind ≡ spread b.ticket kind

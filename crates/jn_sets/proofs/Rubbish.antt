@@ -1,19 +1,6 @@
 -- How many records are rubbish, and below which slot none is.
-use Rattle.std.proofs.Common.{◌≡◌, ◌≢◌, inl, inr, ⊎_elim, ℕ, zero, suc, ◌+◌, ◌≤◌, ◌<◌, ◌^◌, Bool, true, false, List, [], ◌∷◌, length, Some, None, refl, sym, ◌∙◌, ap, subst, true≢false, arith}
+use Rattle.jn_sets.proofs.Common.{◌≡◌, ◌≢◌, inl, inr, ⊎_elim, ℕ, zero, suc, ◌+◌, ◌≤◌, ◌<◌, ◌^◌, Bool, true, false, List, [], ◌∷◌, length, Some, None, refl, sym, ◌∙◌, ap, subst, true≢false, arith, cases_eq, false_from_ne_true, nat_tests, get_or-set_same, get_or-set_other, length-set, set-set, set-get_or, position_or_len_is, sum_by-set, sum_by-cons, count_by-le-length, position, nat_lt, slice_set, filter, count_by, cond, if◌then◌else◌, not, ◌||◌, ◌&&◌, list_any, position_or_len, WorkId, work_eq, work_tells, Record, Free, Intention, Ready, Going, FlagRecord, record_in, is_free, is_prepared, is_rubbish, rubbish_count, prepares, intends, intends_for, left_of, kept_by, is_ready, going_of, AreCleanTo, AreUsedTo, IsWatched, ones}
 use Rattle.std.proofs.Math.Path.{fun_ext}
-use Rattle.std.proofs.lemmas.Bool.{cases_eq, false_from_ne_true}
-use Rattle.std.proofs.lemmas.Bool.Decides.{nat_tests}
-use Rattle.std.proofs.lemmas.List.{get_or-set_same, get_or-set_other, length-set, set-set, set-get_or}
-use Rattle.std.proofs.lemmas.List.Sums.{position_or_len_is, sum_by-set, sum_by-cons, count_by-le-length}
-use Rattle.std.specs.Prelude.{position, nat_lt, slice_set, filter, count_by, cond, if◌then◌else◌, not, ◌||◌, ◌&&◌}
-use Rattle.std.specs.List.{list_any, position_or_len}
-use Rattle.jn_base.specs.declared.names.WorkId.{WorkId}
-use Rattle.jn_base.specs.Names.{work_eq}
-use Rattle.jn_base.proofs.Tells.{work_tells}
-use Rattle.jn_records.specs.declared.record.Record.{Record}
-use Rattle.jn_records.specs.declared.record.Record.TheVariants.{Free, Intention, Ready, Going, Flag as FlagRecord}
-use Rattle.jn_sets.specs.Pool.{record_in, is_free, is_prepared, is_rubbish, rubbish_count, prepares, intends, intends_for, left_of, kept_by, is_ready, going_of}
-use Rattle.jn_sets.specs.Sets.{AreCleanTo, AreUsedTo, IsWatched, ones}
 
 -- ---- a slot has another record
 

@@ -1,12 +1,5 @@
 -- Lists by slot, and the index that numbers them.
-use Rattle.std.proofs.Common.{◌≡◌, ◌⊎◌, inr, ⊎_elim, ◌≤◌, ◌<◌, ℕ, zero, suc, ◌+◌, Bool, true, false, List, [], ◌∷◌, ◌++◌, length, Option, None, Some, refl, sym, ◌∙◌, ap, subst, arith}
-use Rattle.std.proofs.lemmas.Bool.Decides.{nat_tests}
-use Rattle.std.proofs.lemmas.List.Sums.{length-filter, sum_by-cons}
-use Rattle.std.specs.Prelude.{nat_eq, nat_lt, slice_set, position, filter, count_by, is_some, cond, not}
-use Rattle.std.specs.List.{enumerate_from, position_or_len, list_any}
-use Rattle.std.specs.Map.{values_of, lookup}
-use Rattle.indexmap.specs.IndexMap.{IndexMap, set_value_at, insert_entry}
-use Rattle.indexmap.proofs.CallerLemmas.{insert_entry-new}
+use Rattle.jn_sets.proofs.Common.{◌≡◌, ◌⊎◌, inr, ⊎_elim, ◌≤◌, ◌<◌, ℕ, zero, suc, ◌+◌, Bool, true, false, List, [], ◌∷◌, ◌++◌, length, Option, None, Some, refl, sym, ◌∙◌, ap, subst, arith, nat_tests, length-filter, sum_by-cons, nat_eq, nat_lt, slice_set, position, filter, count_by, is_some, cond, not, enumerate_from, position_or_len, list_any, values_of, lookup, IndexMap, set_value_at, insert_entry, insert_entry-new}
 
 -- a value of the index is changed in its place
 pub set_numbered : {X : Type 0} (xs : List X) (n i : ℕ) (w : X) → set_value_at (enumerate_from n xs) i w ≡ enumerate_from n (slice_set xs i w)

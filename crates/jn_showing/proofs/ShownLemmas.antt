@@ -1,10 +1,7 @@
 -- Going through the lists of stored files and of lines tells what the report shows of every file and block.
-use Rattle.std.proofs.Common.{◌≡◌, ℕ, zero, suc, ◌+◌, Bool, true, false, ◌&&◌, ◌||◌, not, List, [], ◌∷◌, Option, Some, None, refl, sym, ◌∙◌, ap, subst, arith, inl, inr, ◌↔◌, IsTrue}
-use Rattle.std.specs.Prelude.{option_and_then, option_map, is_some, position}
+use Rattle.jn_showing.proofs.Common.{◌≡◌, ℕ, zero, suc, ◌+◌, Bool, true, false, ◌&&◌, ◌||◌, not, List, [], ◌∷◌, Option, Some, None, refl, sym, ◌∙◌, ap, subst, arith, inl, inr, ◌↔◌, IsTrue, option_and_then, option_map, is_some, position, cases_Bool, false≢true, ServerNo, StoredFile, registers, AreSame, stored_file, stored_block, says, event_at, lines_at, lines_before, history_of, AllAsIn, prints_file, accounts_file, accounts_block, is_no_show, is_locked, ShowsFiles, ShownSoFar, ShownAtEnd, Shown, some_file_place, no_file_place, file_accounted, block_accounted, blocks_accounted, line_accounted, is_accounted, ShowsServer, ShowsEvent, ShowsFrom}
 use Rattle.std.specs.List.{list_all, list_any}
-use Rattle.std.proofs.lemmas.Bool.{cases_Bool, false≢true}
 use Rattle.std.proofs.lemmas.Option.{same_Some}
-use Rattle.jn_base.specs.declared.names.ServerNo.{ServerNo}
 use Rattle.jn_base.specs.declared.names.FileNo.{FileNo}
 use Rattle.jn_base.specs.declared.names.BlockNo.{BlockNo}
 use Rattle.jn_base.specs.declared.names.LockUnit.TheVariants.{File, Block}
@@ -20,14 +17,8 @@ use Rattle.jn_report.specs.declared.line.Text.{Text}
 use Rattle.jn_report.specs.declared.line.Text.TheVariants as says
 use Rattle.jn_report.specs.declared.line.Line.{Line}
 use Rattle.jn_replay.specs.declared.files.StoredBlock.{StoredBlock}
-use Rattle.jn_replay.specs.declared.files.StoredFile.{StoredFile}
-use Rattle.jn_replay.specs.Stored.{registers, AreSame, stored_file, stored_block}
 use Rattle.jn_replay.specs.Edits.{is_file}
-use Rattle.jn_serial.specs.Lines.{says, event_at, lines_at, lines_before, history_of}
 use Rattle.jn_serial.specs.Order.{replay}
-use Rattle.jn_serial.specs.Shown.{AllAsIn, prints_file, accounts_file, accounts_block, is_no_show, is_locked, ShowsFiles, ShownSoFar, ShownAtEnd, Shown}
-use Rattle.jn_replay.proofs.StoredLemmas.{some_file_place, no_file_place}
-use Rattle.jn_showing.specs.Accounts.{file_accounted, block_accounted, blocks_accounted, line_accounted, is_accounted, ShowsServer, ShowsEvent, ShowsFrom}
 
 both : (a b : Bool) → (a && b) ≡ true → (a ≡ true) × (b ≡ true)
 both true b h = (refl, h)

@@ -1,39 +1,13 @@
 -- What befalls a server's device by an event: a page goes bad or good, or a fault is to wait.
-use Rattle.std.proofs.Common.{◌≡◌, ℕ, Bool, true, false, List, [], ◌++◌, append-nil, drop, slice_get, slice_set, Some, refl, sym, ap, subst, length}
-use Rattle.jn_base.specs.declared.names.ServerNo.{ServerNo}
+use Rattle.jn_stands.proofs.Common.{◌≡◌, ℕ, Bool, true, false, List, [], ◌++◌, append-nil, drop, slice_get, slice_set, Some, refl, sym, ap, subst, length, ServerNo, DeviceState, PageDecays, PageRevives, FaultArmed, Place, Slot, Befell, WhereUp, KeepsRubbish, commits_in, counts_by, TooManyArmed, Line, Text, Event, pairs_view, StoreView, Setup, Chance, Use, Decays, Revives, Arms, uses, Devices, Alone, IsUsed, told_unless, acted, Moment, outside_texts, lines_at, Task, when_of, Standing, StandsAt, Stands, HasCounts, ActsNext, IsStepTo, WorkId, Up, Down}
 use Rattle.jn_base.specs.declared.device.FaultKind.{FaultKind}
 use Rattle.jn_base.specs.declared.device.FaultKind.TheVariants as faults
-use Rattle.jn_device.specs.Device.{DeviceState}
-use Rattle.jn_device.specs.Events.{Decays as PageDecays, Revives as PageRevives, Arms as FaultArmed}
-use Rattle.jn_place.specs.declared.place.Place.{Place}
-use Rattle.jn_place.specs.declared.place.Slot.{Slot}
-use Rattle.jn_place.specs.Exact.{Befell, WhereUp, KeepsRubbish}
-use Rattle.jn_system.specs.WholeSystem.World.{commits_in}
-use Rattle.jn_recovery.specs.Loading.{counts_by}
-use Rattle.jn_report.specs.declared.line.EventRefusal.TheVariants.{TooManyArmed}
-use Rattle.jn_report.specs.declared.line.Line.{Line}
-use Rattle.jn_report.specs.declared.line.Text.{Text}
 use Rattle.jn_report.specs.declared.line.Text.TheVariants as says
-use Rattle.jn_schedule.specs.declared.Event.{Event}
 use Rattle.jn_schedule.specs.declared.Event.TheVariants as events
-use Rattle.jn_store.specs.Pairs.{pairs_view}
-use Rattle.jn_store.specs.Store.{StoreView}
-use Rattle.jn_written.specs.Chances.{Setup, Chance}
-use Rattle.jn_written.specs.Deeds.{Use, Decays, Revives, Arms, uses}
-use Rattle.jn_written.specs.Devices.{Devices, Alone, IsUsed}
-use Rattle.jn_written.specs.Events.{told_unless, acted}
-use Rattle.jn_written.specs.Runs.{Moment}
-use Rattle.jn_written.specs.Steps.{outside_texts, lines_at}
-use Rattle.jn_written.specs.Tasks.{Task, when_of}
-use Rattle.jn_stands.specs.Stands.{Standing, StandsAt, Stands}
-use Rattle.jn_stands.specs.Pages.{HasCounts}
-use Rattle.jn_stands.specs.Going.{ActsNext, IsStepTo}
 use Rattle.jn_stands.proofs.Made.{quiet_chance}
 use Rattle.jn_stands.proofs.Dismissing.{StandsStill, still-there}
 use Rattle.jn_stands.proofs.Moving.{does-next, devices-now, device-here, device-there, moved-step}
 use Rattle.jn_stands.proofs.Left.{Leaves}
-use Rattle.jn_base.specs.declared.names.WorkId.{WorkId}
-use Rattle.jn_place.specs.declared.place.Slot.TheVariants.{Up, Down}
 
 module _ {S : Type 0} (look : S → StoreView) (device : S → DeviceState) (seen : (s : S) → look s ≡ pairs_view (device s)) (x : Setup) (w : Standing S) (m : Moment) (stand : Stands look device x w m)
     (q : ServerNo) (place : Place S) (at : slice_get w.places q.0 ≡ Some place) (slot : Slot S) (counts : HasCounts look (counts_by place.counts) slot)

@@ -1,39 +1,14 @@
 -- Steps of clients: each takes a message, is told a command, or sends once more.
-use Rattle.std.proofs.Common.{◌≡◌, ◌-◌, ℕ, Bool, true, false, List, [], ◌∷◌, ◌++◌, append-nil, length, slice_get, drop, Option, Some, None, refl, sym, ◌∙◌, ap, subst}
-use Rattle.std.specs.Prelude.{if◌then◌else◌}
-use Rattle.std.proofs.lemmas.Bool.Decides.{nat_tests}
-use Rattle.std.proofs.Common.{arith}
-use Rattle.jn_base.specs.declared.names.ClientNo.{ClientNo}
-use Rattle.jn_base.specs.declared.names.Party.TheVariants.{Client}
-use Rattle.jn_base.specs.Names.{client_eq}
-use Rattle.jn_device.specs.Device.{DeviceState}
-use Rattle.jn_net.specs.declared.Sent.{Sent as Posted}
-use Rattle.jn_net.specs.Carried.{with_delivered}
-use Rattle.jn_system.specs.WholeSystem.Steps.{Deliver, after, took, taken_by, handed}
-use Rattle.jn_system.specs.WholeSystem.World.{World, at_client}
-use Rattle.jn_report.specs.declared.line.Line.{Line}
-use Rattle.jn_rows.specs.declared.client.Taken.{Taken}
+use Rattle.jn_stands.proofs.Common.{◌≡◌, ◌-◌, ℕ, Bool, true, false, List, [], ◌∷◌, ◌++◌, append-nil, length, drop, Option, Some, None, refl, sym, ◌∙◌, ap, subst, if◌then◌else◌, nat_tests, ClientNo, Client, client_eq, DeviceState, Posted, with_delivered, Deliver, after, took, taken_by, handed, World, at_client, Line, Taken, ClientTable, new_table, take_row, Sent, pairs_view, StoreView, Setup, plain, delivered, no_room, Moment, message_texts, traced, lines_at, Task, when_of, Standing, is_client_number, Stands, posted_by, with_sent, with_client, texts_taken, ActsNext, IsStepTo, left_by_sent, arith}
+use Rattle.std.proofs.Common.{slice_get}
 use Rattle.jn_rows.specs.declared.client.Taken.TheVariants as taken
-use Rattle.jn_rows.specs.Client.{ClientTable, new_table, take_row}
-use Rattle.jn_rows.specs.Outcomes.{Sent}
 use Rattle.jn_schedule.specs.declared.Event.TheVariants as events
-use Rattle.jn_store.specs.Pairs.{pairs_view}
-use Rattle.jn_store.specs.Store.{StoreView}
 use Rattle.jn_within.specs.Taking.{sent_for}
-use Rattle.jn_written.specs.Chances.{Setup}
-use Rattle.jn_written.specs.Deeds.{plain, delivered, no_room}
-use Rattle.jn_written.specs.Runs.{Moment}
-use Rattle.jn_written.specs.Steps.{message_texts, traced, lines_at}
-use Rattle.jn_written.specs.Tasks.{Task, when_of}
-use Rattle.jn_stands.specs.Stands.{Standing, is_client_number, Stands, posted_by, with_sent}
-use Rattle.jn_stands.specs.Clients.{with_client, texts_taken}
-use Rattle.jn_stands.specs.Going.{ActsNext, IsStepTo}
 use Rattle.jn_stands.proofs.Core.{ClientsStand}
 use Rattle.jn_stands.proofs.Servers.{servers-same}
 use Rattle.jn_stands.proofs.Clients.{one-of, client-moved, other-stays, taken-none, new-stays}
 use Rattle.jn_stands.proofs.Plain.{no-chance, plain-step}
 use Rattle.jn_stands.proofs.Took.{is-sent}
-use Rattle.jn_written.specs.Rubbish.{left_by_sent}
 
 same-client : (c : ClientNo) → client_eq c c ≡ true
 same-client c = grind (arith, nat_tests)

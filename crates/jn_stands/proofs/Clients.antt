@@ -1,31 +1,11 @@
 -- Where clients stand, and what they tell.
-use Rattle.std.proofs.Common.{◌≡◌, ◌⊎◌, inl, inr, ◌≢◌, ◌-◌, ℕ, suc, Bool, true, false, [], ◌∷◌, slice_get, slice_set, Option, Some, None, refl, sym, ◌∙◌, ap, subst, arith}
-use Rattle.std.specs.Prelude.{◌&&◌, nat_lt, if◌then◌else◌}
-use Rattle.std.proofs.lemmas.List.{length-set}
-use Rattle.std.proofs.lemmas.Bool.Decides.{nat_tests}
-use Rattle.jn_base.specs.declared.names.ClientNo.{ClientNo}
-use Rattle.jn_base.specs.declared.names.Tid.{Tid}
-use Rattle.jn_base.specs.declared.names.WorkId.{WorkId}
+use Rattle.jn_stands.proofs.Common.{◌≡◌, ◌⊎◌, inl, inr, ◌≢◌, ◌-◌, ℕ, suc, Bool, true, false, [], ◌∷◌, slice_get, slice_set, Option, Some, None, refl, sym, ◌∙◌, ap, subst, arith, ◌&&◌, nat_lt, if◌then◌else◌, length-set, nat_tests, ClientNo, Tid, WorkId, client_eq, client_tells, DeviceState, Message, World, commits_in, Text, Taken, ClientTable, new_table, take_row, if_waits, ignored, begun_row, opened_row, answer_line, is_current, decided_row, outcome_row, pairs_view, StoreView, Setup, Moment, Standing, is_client_number, Stands, texts_taken}
 use Rattle.jn_base.specs.declared.op.Answer.{Answer}
 use Rattle.jn_base.specs.declared.op.Answer.TheVariants as answers
-use Rattle.jn_base.specs.Names.{client_eq}
-use Rattle.jn_base.proofs.Tells.{client_tells}
-use Rattle.jn_device.specs.Device.{DeviceState}
-use Rattle.jn_msgs.specs.declared.message.Message.{Message}
 use Rattle.jn_msgs.specs.declared.message.Message.TheVariants as messages
 use Rattle.jn_msgs.specs.declared.message.Outcome.{Outcome}
 use Rattle.jn_msgs.specs.declared.message.Outcome.TheVariants.{Committed, Aborted, Waiting, NotKnown}
-use Rattle.jn_system.specs.WholeSystem.World.{World, commits_in}
-use Rattle.jn_report.specs.declared.line.Text.{Text}
 use Rattle.jn_rows.specs.declared.client.Outstanding.{Outstanding}
-use Rattle.jn_rows.specs.declared.client.Taken.{Taken}
-use Rattle.jn_rows.specs.Client.{ClientTable, new_table, take_row, if_waits, ignored, begun_row, opened_row, answer_line, is_current, decided_row, outcome_row}
-use Rattle.jn_store.specs.Pairs.{pairs_view}
-use Rattle.jn_store.specs.Store.{StoreView}
-use Rattle.jn_written.specs.Chances.{Setup}
-use Rattle.jn_written.specs.Runs.{Moment}
-use Rattle.jn_stands.specs.Stands.{Standing, is_client_number, Stands}
-use Rattle.jn_stands.specs.Clients.{texts_taken}
 use Rattle.jn_stands.proofs.Placed.{each-set}
 use Rattle.jn_stands.proofs.Core.{ClientsStand}
 

@@ -1,45 +1,10 @@
 -- Each outcome at a server counts as thanked, once the clients are dismissed.
-use Rattle.std.proofs.Common.{◌≡◌, ◌<◌, ℕ, zero, suc, Bool, true, false, List, [], ◌∷◌, ◌++◌, append-nil, drop, slice_get, slice_set, Option, Some, None, refl, sym, ◌∙◌, ap, subst, arith, true≢false, length}
-use Rattle.std.specs.Prelude.{if◌then◌else◌, nat_lt}
-use Rattle.std.proofs.Math.Path.{fun_ext}
-use Rattle.std.proofs.lemmas.Bool.Decides.{nat_tests}
-use Rattle.jn_base.specs.declared.names.ServerNo.{ServerNo}
-use Rattle.jn_base.specs.declared.names.ClientNo.{ClientNo}
-use Rattle.jn_base.specs.declared.device.Outside.{Outside}
-use Rattle.jn_device.specs.Device.{DeviceState}
-use Rattle.jn_place.specs.declared.place.Place.{Place}
-use Rattle.jn_place.specs.declared.place.Slot.{Slot}
-use Rattle.jn_place.specs.declared.place.Slot.TheVariants.{Up, Down, Gone}
-use Rattle.jn_place.specs.Exact.{IsDoneAt, Closed, texts_of_step, WhereUp, KeepsRubbish}
-use Rattle.jn_place.specs.Places.{is_up}
-use Rattle.jn_system.specs.WholeSystem.World.{World, Memory}
-use Rattle.jn_system.specs.WholeSystem.Servers.{of_coordinator}
-use Rattle.jn_system.specs.WholeSystem.Steps.{CloseClients, IsIdle, after, done, close_clients}
-use Rattle.jn_recovery.specs.Loading.{counts_by}
-use Rattle.jn_report.specs.declared.line.Line.{Line}
-use Rattle.jn_report.specs.declared.line.Text.{Text}
-use Rattle.jn_rows.specs.Client.{ClientTable}
+use Rattle.jn_stands.proofs.Common.{◌≡◌, ◌<◌, ℕ, zero, suc, Bool, true, false, List, [], ◌∷◌, ◌++◌, append-nil, drop, slice_get, slice_set, Option, Some, None, refl, sym, ◌∙◌, ap, subst, arith, true≢false, length, if◌then◌else◌, nat_lt, fun_ext, nat_tests, ServerNo, ClientNo, Outside, DeviceState, Place, Slot, Up, Down, Gone, IsDoneAt, Closed, texts_of_step, WhereUp, KeepsRubbish, is_up, World, Memory, of_coordinator, CloseClients, IsIdle, after, done, close_clients, counts_by, Line, Text, ClientTable, RowOutcome, StableState, Pick, made_all, Parts, view_with, memory_of, go_on, state, pairs_view, StoreView, Setup, Chance, served, Moment, lines_at, ClosesClients, when_of, next_task, Standing, is_client_number, Stands, HasCounts, IsStepTo, WorkId}
 use Rattle.jn_rows.specs.Coordinator.{close_clients_row}
-use Rattle.jn_rows.specs.Outcomes.{RowOutcome}
-use Rattle.jn_rows.specs.Stable.{StableState, Pick, made_all}
-use Rattle.jn_server.specs.Seen.{Parts, view_with, memory_of}
-use Rattle.jn_system_settling.specs.Settling.Course.{go_on}
-use Rattle.jn_storage.specs.Calls.{state}
-use Rattle.jn_store.specs.Pairs.{pairs_view}
-use Rattle.jn_store.specs.Store.{StoreView}
-use Rattle.jn_written.specs.Chances.{Setup, Chance}
-use Rattle.jn_written.specs.Deeds.{served}
-use Rattle.jn_written.specs.Runs.{Moment}
-use Rattle.jn_written.specs.Steps.{lines_at}
-use Rattle.jn_written.specs.Tasks.{ClosesClients, when_of, next_task}
-use Rattle.jn_stands.specs.Stands.{Standing, is_client_number, Stands}
-use Rattle.jn_stands.specs.Pages.{HasCounts}
-use Rattle.jn_stands.specs.Going.{IsStepTo}
 use Rattle.jn_stands.proofs.Dismissing.{there-is}
 use Rattle.jn_stands.proofs.Moving.{same-server, carries-on, net-quiet, device-here, device-there, moved-step}
 use Rattle.jn_stands.proofs.Idle.{here, idling, calling}
 use Rattle.jn_stands.proofs.Left.{leaves-from}
-use Rattle.jn_base.specs.declared.names.WorkId.{WorkId}
 
 module _ {S : Type 0} (look : S → StoreView) (device : S → DeviceState) (seen : (s : S) → look s ≡ pairs_view (device s)) (x : Setup) (w : Standing S) (m : Moment) (stand : Stands look device x w m) where
   -- every client of the machine is idle where the code's eight are

@@ -1,26 +1,8 @@
 -- Steps of clients without a message: each is told a command, or sends once more.
-use Rattle.std.proofs.Common.{◌≡◌, ◌-◌, ℕ, Bool, true, false, List, [], ◌++◌, append-nil, length, slice_get, drop, Some, refl, sym, ◌∙◌, ap, subst, arith}
-use Rattle.std.specs.Prelude.{if◌then◌else◌}
-use Rattle.std.proofs.lemmas.Bool.Decides.{nat_tests}
-use Rattle.jn_base.specs.declared.names.ClientNo.{ClientNo}
-use Rattle.jn_base.specs.declared.names.Party.TheVariants.{Client}
+use Rattle.jn_stands.proofs.Common.{◌≡◌, ◌-◌, ℕ, Bool, true, false, List, [], ◌++◌, append-nil, length, slice_get, drop, Some, refl, sym, ◌∙◌, ap, subst, arith, if◌then◌else◌, nat_tests, ClientNo, Client, client_eq, DeviceState, Tell, Again, after, commanded, sent_now, World, commits_in, Line, ClientTable, Commanded, Refuses, command_row, again_row, pairs_view, StoreView, Setup, Moment, message_texts, traced, lines_at, Task, when_of, Standing, is_client_number, Stands, posted_by, with_sent, with_client, texts_commanded, sent_commanded, table_commanded, ActsNext, IsStepTo}
 use Rattle.jn_base.specs.declared.op.Command.{Command}
-use Rattle.jn_base.specs.Names.{client_eq}
-use Rattle.jn_device.specs.Device.{DeviceState}
-use Rattle.jn_system.specs.WholeSystem.Steps.{Tell, Again, after, commanded, sent_now}
-use Rattle.jn_system.specs.WholeSystem.World.{World, commits_in}
-use Rattle.jn_report.specs.declared.line.Line.{Line}
-use Rattle.jn_rows.specs.Client.{ClientTable, Commanded, Refuses, Sends, command_row, again_row}
+use Rattle.jn_rows.specs.Client.{Sends}
 use Rattle.jn_schedule.specs.declared.Event.TheVariants as events
-use Rattle.jn_store.specs.Pairs.{pairs_view}
-use Rattle.jn_store.specs.Store.{StoreView}
-use Rattle.jn_written.specs.Chances.{Setup}
-use Rattle.jn_written.specs.Runs.{Moment}
-use Rattle.jn_written.specs.Steps.{message_texts, traced, lines_at}
-use Rattle.jn_written.specs.Tasks.{Task, when_of}
-use Rattle.jn_stands.specs.Stands.{Standing, is_client_number, Stands, posted_by, with_sent}
-use Rattle.jn_stands.specs.Clients.{with_client, texts_commanded, sent_commanded, table_commanded}
-use Rattle.jn_stands.specs.Going.{ActsNext, IsStepTo}
 use Rattle.jn_stands.proofs.Servers.{servers-same, clients-same}
 use Rattle.jn_stands.proofs.Clients.{one-of, client-moved}
 use Rattle.jn_stands.proofs.Plain.{plain-step}

@@ -1,36 +1,7 @@
 -- From the next task to where the code stands once it is done.
-use Rattle.std.proofs.Common.{◌≡◌, ◌≤◌, ℕ, suc, Bool, true, false, List, [], ◌∷◌, ◌++◌, length, slice_get, drop, append-nil, Option, Some, refl, sym, ◌∙◌, ap, subst}
-use Rattle.jn_base.specs.declared.names.ServerNo.{ServerNo}
-use Rattle.jn_base.specs.declared.names.ClientNo.{ClientNo}
-use Rattle.jn_base.specs.declared.names.Tid.{Tid}
-use Rattle.jn_base.specs.declared.device.Outside.{Outside}
-use Rattle.jn_device.specs.Device.{DeviceState}
-use Rattle.jn_net.specs.Carried.{Carried}
-use Rattle.jn_place.specs.declared.place.Place.{Place}
-use Rattle.jn_system.specs.WholeSystem.World.{World, commits_in, has_line}
-use Rattle.jn_system.specs.WholeSystem.Steps.{Step, run, IsRun}
+use Rattle.jn_stands.proofs.Common.{◌≡◌, ◌≤◌, ℕ, suc, Bool, true, false, List, [], ◌∷◌, ◌++◌, length, slice_get, drop, append-nil, Option, Some, refl, sym, ◌∙◌, ap, subst, ServerNo, ClientNo, Tid, Outside, DeviceState, Carried, Place, World, commits_in, has_line, Step, run, IsRun, Line, Carries, ClientTable, new_table, Pick, Event, Course, go, go_on, StoreView, Within, run-within, Setup, Chance, Deed, Devices, IsUsed, AreFound, rubbish_on, acted, deed_of, AreLeft, AreAllCounted, Moment, Leads, texts_of, lines_at, come_to, cut_short, Task, State, when_of, next_task, begun, may-lead, Standing, is_client_number, PlaceStands, Stands, ActsNext, IsStepTo}
 use Rattle.jn_records.specs.declared.net_list.Need.{Need}
-use Rattle.jn_report.specs.declared.line.Line.{Line}
-use Rattle.jn_rests.specs.Waiting.{Carries}
-use Rattle.jn_rows.specs.Client.{ClientTable, new_table}
-use Rattle.jn_rows.specs.Stable.{Pick}
-use Rattle.jn_schedule.specs.declared.Event.{Event}
-use Rattle.jn_system_settling.specs.Settling.Course.{Course, go, go_on}
-use Rattle.jn_store.specs.Store.{StoreView}
-use Rattle.jn_within.specs.Within.{Within}
-use Rattle.jn_within.proofs.WorldSteps.{run-within}
-use Rattle.jn_written.specs.Chances.{Setup, Chance}
-use Rattle.jn_written.specs.Deeds.{Deed}
-use Rattle.jn_written.specs.Devices.{Devices, IsUsed, AreFound, rubbish_on}
-use Rattle.jn_written.specs.Events.{acted, deed_of}
-use Rattle.jn_written.specs.Rubbish.{AreLeft, AreAllCounted}
-use Rattle.jn_written.specs.Runs.{Moment, Leads}
-use Rattle.jn_written.specs.Steps.{texts_of, lines_at, come_to, cut_short}
-use Rattle.jn_written.specs.Tasks.{Task, State, when_of, next_task, begun}
-use Rattle.jn_written.proofs.Computed.{may-lead}
 use Rattle.jn_written.proofs.Named.{names}
-use Rattle.jn_stands.specs.Stands.{Standing, is_client_number, PlaceStands, Stands}
-use Rattle.jn_stands.specs.Going.{ActsNext, IsStepTo}
 use Rattle.jn_stands.proofs.Made.{Makes, made-leads, made-cuts, carried-length, not-too-much, too-much}
 
 -- a chance of a step that tells these faults, and perhaps is stopped

@@ -1,34 +1,7 @@
 -- A server goes down.
-use Rattle.std.proofs.Common.{◌≡◌, Bool, false, List, [], ◌∷◌, ◌++◌, append-nil, drop, slice_get, slice_set, Option, Some, None, refl, sym, ◌∙◌, ap, subst, true≢false}
-use Rattle.std.specs.Prelude.{if◌then◌else◌}
-use Rattle.std.proofs.Math.Path.{fun_ext}
-use Rattle.jn_base.specs.declared.names.ServerNo.{ServerNo}
-use Rattle.jn_base.specs.declared.names.Party.TheVariants.{Server}
-use Rattle.jn_device.specs.Device.{DeviceState}
-use Rattle.jn_device.specs.Events.{powered_off}
-use Rattle.jn_place.specs.declared.place.Place.{Place}
-use Rattle.jn_place.specs.declared.place.Slot.{Slot}
-use Rattle.jn_place.specs.declared.place.Slot.TheVariants.{Up, Down, Gone}
-use Rattle.jn_place.specs.Exact.{Crashed}
-use Rattle.jn_place.specs.Places.{is_up}
-use Rattle.jn_system.specs.WholeSystem.World.{World, Memory, at_server}
-use Rattle.jn_system.specs.WholeSystem.Steps.{Crash, crash}
-use Rattle.jn_recovery.specs.Loading.{counts_by}
-use Rattle.jn_report.specs.declared.line.Line.{Line}
-use Rattle.jn_report.specs.declared.line.Text.{Text}
+use Rattle.jn_stands.proofs.Common.{◌≡◌, Bool, false, List, [], ◌∷◌, ◌++◌, append-nil, drop, slice_get, slice_set, Option, Some, None, refl, sym, ◌∙◌, ap, subst, true≢false, if◌then◌else◌, fun_ext, ServerNo, Server, DeviceState, powered_off, Place, Slot, Up, Down, Gone, Crashed, is_up, World, Memory, at_server, Crash, crash, counts_by, Line, Text, Parts, go_on, pairs_view, StoreView, Setup, PowersOff, Deed, plain, nothing, crashed_at, Moment, lines_at, Task, when_of, Standing, StandsAt, Stands, ActsNext, IsStepTo}
 use Rattle.jn_report.specs.declared.line.Text.TheVariants as says
 use Rattle.jn_schedule.specs.declared.Event.TheVariants as events
-use Rattle.jn_server.specs.Seen.{Parts}
-use Rattle.jn_system_settling.specs.Settling.Course.{go_on}
-use Rattle.jn_store.specs.Pairs.{pairs_view}
-use Rattle.jn_store.specs.Store.{StoreView}
-use Rattle.jn_written.specs.Chances.{Setup}
-use Rattle.jn_written.specs.Deeds.{PowersOff, Deed, plain, nothing, crashed_at}
-use Rattle.jn_written.specs.Runs.{Moment}
-use Rattle.jn_written.specs.Steps.{lines_at}
-use Rattle.jn_written.specs.Tasks.{Task, when_of}
-use Rattle.jn_stands.specs.Stands.{Standing, StandsAt, Stands}
-use Rattle.jn_stands.specs.Going.{ActsNext, IsStepTo}
 use Rattle.jn_stands.proofs.Made.{quiet_chance, quiet-texts}
 use Rattle.jn_stands.proofs.Core.{step-made}
 use Rattle.jn_stands.proofs.Servers.{servers-same, clients-same, net-same}

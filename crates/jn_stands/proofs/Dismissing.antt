@@ -1,40 +1,9 @@
 -- The end begins.
-use Rattle.std.proofs.Common.{◌≡◌, ◌<◌, ℕ, zero, suc, List, [], ◌∷◌, ◌++◌, length, append-nil, drop, Option, Some, None, refl, sym, ◌∙◌, ap, subst, arith}
-use Rattle.std.specs.Prelude.{map, slice_get}
-use Rattle.std.proofs.lemmas.List.{length-map}
-use Rattle.std.proofs.lemmas.Option.{slice_get_within, slice_get-map}
+use Rattle.jn_stands.proofs.Common.{◌≡◌, ◌<◌, ℕ, zero, suc, List, [], ◌∷◌, ◌++◌, length, append-nil, drop, Option, Some, None, refl, sym, ◌∙◌, ap, subst, arith, map, slice_get, length-map, slice_get_within, slice_get-map, DeviceState, disarmed, Posted, Place, Slot, Up, Down, Befell, Memory, commits_in, Dismiss, Counts, counts_by, Line, Text, Carries, carries-step, carries-forgotten, ClientTable, over, StableState, Pick, IsUp, Course, go, StoreView, run-within, Setup, Dismisses, AtEnd, State, when_of, next_task, Devices, dismissing, Moment, texts_of, lines_at, come_to, cut_short, Standing, StandsAt, PlaceStands, Stands, HasCounts}
 use Rattle.std.specs.Option.{option_map}
-use Rattle.jn_device.specs.Device.{DeviceState}
-use Rattle.jn_device.specs.Events.{disarmed}
-use Rattle.jn_net.specs.declared.Sent.{Sent as Posted}
-use Rattle.jn_place.specs.declared.place.Place.{Place}
-use Rattle.jn_place.specs.declared.place.Slot.{Slot}
-use Rattle.jn_place.specs.declared.place.Slot.TheVariants.{Up, Down}
-use Rattle.jn_place.specs.Exact.{Befell}
-use Rattle.jn_system.specs.WholeSystem.World.{Memory, commits_in}
-use Rattle.jn_system.specs.WholeSystem.Steps.{Dismiss}
-use Rattle.jn_records.specs.StablePages.{Counts}
-use Rattle.jn_recovery.specs.Loading.{counts_by}
-use Rattle.jn_report.specs.declared.line.Line.{Line}
-use Rattle.jn_report.specs.declared.line.Text.{Text}
-use Rattle.jn_rests.specs.Waiting.{Carries}
-use Rattle.jn_rests.proofs.Numbers.{carries-step, carries-forgotten}
-use Rattle.jn_rows.specs.Client.{ClientTable, over}
-use Rattle.jn_rows.specs.Stable.{StableState, Pick, IsUp}
-use Rattle.jn_system_settling.specs.Settling.Course.{Course, go}
-use Rattle.jn_store.specs.Store.{StoreView}
-use Rattle.jn_within.proofs.WorldSteps.{run-within}
-use Rattle.jn_written.specs.Chances.{Setup}
-use Rattle.jn_written.specs.Tasks.{Dismisses, AtEnd, State, when_of, next_task}
-use Rattle.jn_written.specs.Devices.{Devices}
-use Rattle.jn_written.specs.Events.{dismissing}
-use Rattle.jn_written.specs.Runs.{Moment}
-use Rattle.jn_written.specs.Steps.{texts_of, lines_at, come_to, cut_short}
-use Rattle.jn_stands.specs.Stands.{Standing, StandsAt, PlaceStands, Stands}
 use Rattle.jn_stands.specs.Ending.{AreDisarmed, dismissed, BeginsEnd}
 use Rattle.jn_stands.proofs.Lines.{history-same}
 use Rattle.jn_stands.proofs.Made.{quiet_chance, Makes, made-leads, made-cuts, carried-length, not-too-much, too-much, quiet-texts}
-use Rattle.jn_stands.specs.Pages.{HasCounts}
 
 pub there-is : {A : Type 0} (xs : List A) (n : ℕ) → n < length xs → (x : A) × (slice_get xs n ≡ Some x)
 there-is [] n h = absurd (omega (arith, h))

@@ -1,17 +1,7 @@
 -- What a server's own calls say of its pages.
-use Rattle.std.proofs.Common.{◌≡◌, ◌∙◌, ap}
-use Rattle.jn_device.specs.Device.{DeviceState}
-use Rattle.jn_found.specs.Pages.{pool_on}
+use Rattle.jn_stands.proofs.Common.{◌≡◌, ◌∙◌, ap, DeviceState, pool_on, Up, Counts, Parts, view_with, memory_of, standing_pages, free_on, has_rubbish, state, pairs_view, StoreView, ReadsPages}
 use Rattle.jn_intent.specs.Scrubbing.{counts_in}
-use Rattle.jn_place.specs.declared.place.Slot.TheVariants.{Up}
-use Rattle.jn_records.specs.StablePages.{Counts}
-use Rattle.jn_server.specs.Seen.{Parts, view_with, memory_of}
 use Rattle.jn_server.specs.Reading.{IsRoomOfPages}
-use Rattle.jn_server.specs.Standing.{standing_pages, free_on, has_rubbish}
-use Rattle.jn_storage.specs.Calls.{state}
-use Rattle.jn_store.specs.Pairs.{pairs_view}
-use Rattle.jn_store.specs.Store.{StoreView}
-use Rattle.jn_stands.specs.Pages.{ReadsPages}
 
 module _ {S : Type 0} (look : S → StoreView) (device : S → DeviceState) (seen : (s : S) → look s ≡ pairs_view (device s)) where
   pub reads-pages : (g : Counts) (p : Parts S) → counts_in (view_with look p).storage.accounts ≡ g → IsRoomOfPages (view_with look p) → ReadsPages look device g (Up p)

@@ -1,39 +1,6 @@
 -- A server cleans its pages, or shows its files, and nothing else changes.
-use Rattle.std.proofs.Common.{◌≡◌, ℕ, zero, suc, Bool, true, false, not, List, [], ◌∷◌, ◌++◌, slice_get, take, Option, Some, None, is_some, refl, sym, ◌∙◌, ap, subst}
-use Rattle.std.specs.Prelude.{if◌then◌else◌}
-use Rattle.std.proofs.Math.Path.{fun_ext}
-use Rattle.jn_base.specs.declared.names.ServerNo.{ServerNo}
-use Rattle.jn_base.specs.declared.names.FileNo.{FileNo}
-use Rattle.jn_base.specs.declared.device.Outside.{Outside}
-use Rattle.jn_base.specs.Names.{server_eq}
-use Rattle.jn_device.specs.Device.{DeviceState}
-use Rattle.jn_found.specs.Pages.{found_on}
-use Rattle.jn_place.specs.declared.place.Place.{Place}
-use Rattle.jn_place.specs.declared.place.Slot.{Slot}
-use Rattle.jn_place.specs.declared.place.Slot.TheVariants.{Up, Down}
-use Rattle.jn_place.specs.Exact.{IsSpent, IsDoneAt, IsStoppedAt, idle_row}
-use Rattle.jn_system.specs.WholeSystem.World.{World, Memory, at_server}
-use Rattle.jn_system.specs.WholeSystem.Servers.{Room, server_step, of_step}
-use Rattle.jn_system.specs.WholeSystem.Steps.{Step, StopWork, after, work, works}
-use Rattle.jn_recovery.specs.Loading.{counts_by}
+use Rattle.jn_stands.proofs.Common.{◌≡◌, ℕ, zero, suc, Bool, true, false, not, List, [], ◌∷◌, ◌++◌, slice_get, take, Option, Some, None, is_some, refl, sym, ◌∙◌, ap, subst, if◌then◌else◌, fun_ext, ServerNo, FileNo, Outside, server_eq, DeviceState, found_on, Place, Slot, Up, Down, IsSpent, IsDoneAt, IsStoppedAt, idle_row, World, Memory, at_server, Room, server_step, of_step, Step, StopWork, after, work, works, counts_by, Carries, Work, RowOutcome, StableState, Pick, Change, stable, made_all, going_work, going_row, Parts, view_with, memory_of, go_on, state, pairs_view, StoreView, Setup, Chance, no_room, free_on, Devices, IsCalled, rubbish_on, pages_of, Moment, HasCounts, Standing, StandsAt, Stands}
 use Rattle.jn_report.specs.declared.line.Text.TheVariants as says
-use Rattle.jn_rests.specs.Waiting.{Carries}
-use Rattle.jn_rows.specs.declared.worker.Work.{Work}
-use Rattle.jn_rows.specs.Outcomes.{RowOutcome}
-use Rattle.jn_rows.specs.Stable.{StableState, Pick, Change, stable, made_all}
-use Rattle.jn_rows.specs.Worker.{going_work, going_row}
-use Rattle.jn_server.specs.Seen.{Parts, view_with, memory_of}
-use Rattle.jn_system_settling.specs.Settling.Course.{go_on}
-use Rattle.jn_storage.specs.Calls.{state}
-use Rattle.jn_store.specs.Pairs.{pairs_view}
-use Rattle.jn_store.specs.Store.{StoreView}
-use Rattle.jn_written.specs.Chances.{Setup, Chance}
-use Rattle.jn_written.specs.Deeds.{no_room}
-use Rattle.jn_server.specs.Standing.{free_on}
-use Rattle.jn_written.specs.Devices.{Devices, IsCalled, rubbish_on, pages_of}
-use Rattle.jn_written.specs.Runs.{Moment}
-use Rattle.jn_stands.specs.Pages.{HasCounts}
-use Rattle.jn_stands.specs.Stands.{Standing, StandsAt, Stands}
 use Rattle.jn_stands.proofs.Servers.{IsAlone}
 use Rattle.jn_stands.proofs.Moving.{same-server, carries-on, devices-now, device-here, device-there}
 

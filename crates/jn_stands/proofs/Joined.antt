@@ -1,14 +1,5 @@
 -- Calls of the code one after another.
-use Rattle.std.proofs.Common.{List, [], ◌++◌, append-nil, append_assoc, refl, sym, ◌∙◌, ap}
-use Rattle.jn_device.specs.Device.{DeviceState}
-use Rattle.jn_report.specs.declared.line.Line.{Line}
-use Rattle.jn_store.specs.Store.{StoreView}
-use Rattle.jn_written.specs.Chances.{Setup}
-use Rattle.jn_written.specs.Runs.{Moment, DoesStep, none}
-use Rattle.jn_written.specs.Tasks.{Task}
-use Rattle.jn_written.proofs.Computed.{join}
-use Rattle.jn_stands.specs.Stands.{Standing, Stands}
-use Rattle.jn_stands.specs.Going.{IsTold, WentOn, WasCut}
+use Rattle.jn_stands.proofs.Common.{List, [], ◌++◌, append-nil, append_assoc, refl, sym, ◌∙◌, ap, DeviceState, Line, StoreView, Setup, Moment, DoesStep, none, Task, join, Standing, Stands, IsTold, WentOn, WasCut}
 
 told-both : (m n last : Moment) (a b c : List Line) → IsTold m n a b → IsTold n last b c → IsTold m last a c
 told-both m n last a b c first second = record {

@@ -1,34 +1,6 @@
 -- How many rubbish records a step leaves on the pages of each server that is up afterwards.
-use Rattle.std.proofs.Common.{◌≡◌, ◌⊎◌, inl, inr, ◌≢◌, ℕ, Bool, true, false, List, length, slice_get, Option, Some, None, is_some, true≢false, sym, ◌∙◌, ap, subst}
-use Rattle.std.specs.Prelude.{⊤, if◌then◌else◌}
-use Rattle.jn_base.specs.declared.names.ServerNo.{ServerNo}
-use Rattle.jn_base.specs.declared.names.Party.TheVariants.{Server}
-use Rattle.jn_base.specs.Names.{server_eq}
-use Rattle.jn_base.proofs.Tells.{server_tells}
-use Rattle.jn_device.specs.Device.{DeviceState}
-use Rattle.jn_found.specs.Pages.{pool_on}
-use Rattle.jn_msgs.specs.declared.message.Message.{Message}
-use Rattle.jn_place.specs.declared.place.Place.{Place}
-use Rattle.jn_place.specs.declared.place.Slot.{Slot}
-use Rattle.jn_place.specs.declared.place.Slot.TheVariants.{Up, Down, Gone}
-use Rattle.jn_place.specs.Exact.{WhereUp}
-use Rattle.jn_records.specs.StablePages.{Counts}
-use Rattle.jn_recovery.specs.Loading.{counts_by}
-use Rattle.jn_rows.specs.Stable.{StableState, Pick, stable}
-use Rattle.jn_server.specs.Seen.{Parts, ServerView, view_with}
-use Rattle.jn_server.specs.Standing.{standing_pages}
+use Rattle.jn_stands.proofs.Common.{◌≡◌, ◌⊎◌, inl, inr, ◌≢◌, ℕ, Bool, true, false, List, length, slice_get, Option, Some, None, is_some, true≢false, sym, ◌∙◌, ap, subst, ⊤, if◌then◌else◌, ServerNo, Server, server_eq, server_tells, DeviceState, pool_on, Message, Place, Slot, Up, Down, Gone, WhereUp, Counts, counts_by, StableState, Pick, stable, Parts, ServerView, view_with, standing_pages, pairs_view, StoreView, Room, World, Memory, Step, run, Setup, Devices, rubbish_records, left_by_message, left_by_sent, left_by_steps, AreLeft, Moment, Standing, StandsAt, Stands, HasCounts}
 use Rattle.jn_sets.specs.Pool.{rubbish_count}
-use Rattle.jn_store.specs.Pairs.{pairs_view}
-use Rattle.jn_store.specs.Store.{StoreView}
-use Rattle.jn_system.specs.WholeSystem.Servers.{Room}
-use Rattle.jn_system.specs.WholeSystem.World.{World, Memory}
-use Rattle.jn_system.specs.WholeSystem.Steps.{Step, run}
-use Rattle.jn_written.specs.Chances.{Setup}
-use Rattle.jn_written.specs.Devices.{Devices}
-use Rattle.jn_written.specs.Rubbish.{rubbish_records, left_by_message, left_by_sent, left_by_steps, AreLeft}
-use Rattle.jn_written.specs.Runs.{Moment}
-use Rattle.jn_stands.specs.Stands.{Standing, StandsAt, Stands}
-use Rattle.jn_stands.specs.Pages.{HasCounts}
 use Rattle.jn_stands.proofs.Servers.{IsAlone}
 
 -- steps change nothing of how many a server has

@@ -1,18 +1,6 @@
 -- Commits in texts and lines that are joined.
-use Rattle.std.proofs.Common.{◌≡◌, ◌+◌, Bool, List, [], ◌∷◌, ◌++◌, append-nil, append_assoc, length, length-append, refl, sym, ◌∙◌, ap, arith}
-use Rattle.std.specs.Prelude.{◌||◌, map}
-use Rattle.std.specs.List.{list_any}
-use Rattle.jn_base.specs.declared.names.ServerNo.{ServerNo}
-use Rattle.jn_base.specs.declared.names.Tid.{Tid}
-use Rattle.jn_base.specs.declared.device.Outside.{Outside}
-use Rattle.jn_base.specs.Names.{tid_eq}
-use Rattle.jn_report.specs.declared.line.When.{When}
-use Rattle.jn_report.specs.declared.line.Text.{Text}
+use Rattle.jn_stands.proofs.Common.{◌≡◌, ◌+◌, Bool, List, [], ◌∷◌, ◌++◌, append-nil, append_assoc, length, length-append, refl, sym, ◌∙◌, ap, arith, ◌||◌, map, list_any, ServerNo, Tid, Outside, tid_eq, When, Text, Line, commit_in, history_of, committed_in, commits_in, has_line, lines_at}
 use Rattle.jn_report.specs.declared.line.Text.TheVariants as says
-use Rattle.jn_report.specs.declared.line.Line.{Line}
-use Rattle.jn_serial.specs.Lines.{commit_in, history_of}
-use Rattle.jn_system.specs.WholeSystem.World.{committed_in, commits_in, has_line}
-use Rattle.jn_written.specs.Steps.{lines_at}
 
 same : (text : Text) → commit_in text ≡ committed_in text
 same (says.Commit T) = refl

@@ -1,35 +1,11 @@
 -- A message for a server that is down, or that isn't there.
-use Rattle.std.proofs.Common.{◌≡◌, ◌<◌, ℕ, List, [], ◌∷◌, ◌++◌, length, slice_get, drop, Option, Some, None, refl, sym, ◌∙◌, ap, subst}
-use Rattle.jn_base.specs.declared.names.ServerNo.{ServerNo}
-use Rattle.jn_base.specs.declared.names.Party.TheVariants.{Server}
-use Rattle.jn_device.specs.Device.{DeviceState}
-use Rattle.jn_net.specs.declared.Sent.{Sent as Posted}
-use Rattle.jn_net.specs.Carried.{with_delivered}
-use Rattle.jn_place.specs.declared.place.Place.{Place}
-use Rattle.jn_place.specs.declared.place.Slot.{Slot}
-use Rattle.jn_place.specs.declared.place.Slot.TheVariants.{Down}
-use Rattle.jn_system.specs.WholeSystem.Steps.{Deliver, after, at_memory, handed}
-use Rattle.jn_system.specs.WholeSystem.World.{World, Memory}
-use Rattle.jn_recovery.specs.Loading.{counts_by}
+use Rattle.jn_stands.proofs.Common.{◌≡◌, ◌<◌, ℕ, List, [], ◌∷◌, ◌++◌, length, slice_get, drop, Option, Some, None, refl, sym, ◌∙◌, ap, subst, ServerNo, Server, DeviceState, Posted, with_delivered, Place, Slot, Down, Deliver, after, at_memory, handed, World, Memory, counts_by, Line, Sent, pairs_view, StoreView, sent-near, Setup, room, delivered, delivered_at, Moment, lines_at, Task, when_of, Standing, StandsAt, Stands, ActsNext, IsStepTo, left_by_sent}
 use Rattle.jn_report.specs.declared.line.Text.TheVariants as says
-use Rattle.jn_report.specs.declared.line.Line.{Line}
-use Rattle.jn_rows.specs.Outcomes.{Sent}
 use Rattle.jn_schedule.specs.declared.Event.TheVariants as events
-use Rattle.jn_store.specs.Pairs.{pairs_view}
-use Rattle.jn_store.specs.Store.{StoreView}
-use Rattle.jn_within.proofs.WorldSteps.{sent-near}
-use Rattle.jn_written.specs.Chances.{Setup}
-use Rattle.jn_written.specs.Deeds.{room, delivered, delivered_at}
-use Rattle.jn_written.specs.Runs.{Moment}
-use Rattle.jn_written.specs.Steps.{lines_at}
-use Rattle.jn_written.specs.Tasks.{Task, when_of}
-use Rattle.jn_stands.specs.Stands.{Standing, StandsAt, Stands}
-use Rattle.jn_stands.specs.Going.{ActsNext, IsStepTo}
 use Rattle.jn_stands.proofs.Servers.{servers-same, clients-same}
 use Rattle.jn_stands.proofs.Plain.{no-chance, silent-step}
 use Rattle.jn_stands.proofs.Took.{is-sent}
 use Rattle.jn_stands.proofs.Left.{lost-quiet}
-use Rattle.jn_written.specs.Rubbish.{left_by_sent}
 
 module _ {S : Type 0} (look : S → StoreView) (device : S → DeviceState) (seen : (s : S) → look s ≡ pairs_view (device s)) (x : Setup) (w : Standing S) (m : Moment) (stand : Stands look device x w m) where
   abbrev v : World

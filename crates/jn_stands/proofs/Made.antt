@@ -1,27 +1,5 @@
 -- A step that is made, or that cuts the run short.
-use Rattle.std.proofs.Common.{◌≡◌, ◌≤◌, ◌<◌, ℕ, Bool, true, false, List, [], ◌++◌, length, append-nil, drop, Some, None, refl, sym, ◌∙◌, ap, subst, arith}
-use Rattle.std.specs.Prelude.{◌||◌, nat_lt, if◌then◌else◌}
-use Rattle.std.proofs.Math.Seq.{drop-length}
-use Rattle.std.proofs.lemmas.List.{length-map}
-use Rattle.std.proofs.lemmas.Bool.Decides.{nat_tests}
-use Rattle.jn_device.specs.Device.{DeviceState}
-use Rattle.jn_net.specs.declared.Sent.{Sent as Posted}
-use Rattle.jn_report.specs.declared.line.Line.{Line}
-use Rattle.jn_report.specs.declared.line.Text.{Text}
-use Rattle.jn_store.specs.Store.{StoreView}
-use Rattle.jn_system.specs.WholeSystem.World.{World}
-use Rattle.jn_system_settling.specs.Settling.Course.{Course, go_on}
-use Rattle.jn_rests.specs.Waiting.{sent_of}
-use Rattle.jn_written.specs.Chances.{Setup, Chance}
-use Rattle.jn_written.specs.Tasks.{Task, State, when_of, next_task, begun}
-use Rattle.jn_rows.specs.Outcomes.{Sent}
-use Rattle.jn_written.specs.Deeds.{Nothing, Deed}
-use Rattle.jn_written.specs.Events.{deed_of}
-use Rattle.jn_written.specs.Steps.{message_texts, traced, texts_of, lines_at, is_too_much, come_to, cut_short, made_to}
-use Rattle.jn_written.specs.Devices.{Devices, Befalls, rubbish_on}
-use Rattle.jn_written.specs.Runs.{Moment, Leads, none, more}
-use Rattle.jn_stands.specs.Stands.{Standing, Stands}
-use Rattle.jn_stands.specs.Going.{IsStepTo}
+use Rattle.jn_stands.proofs.Common.{◌≡◌, ◌≤◌, ◌<◌, ℕ, Bool, true, false, List, [], ◌++◌, length, append-nil, drop, Some, None, refl, sym, ◌∙◌, ap, subst, arith, ◌||◌, nat_lt, if◌then◌else◌, drop-length, length-map, nat_tests, DeviceState, Posted, Line, Text, StoreView, World, Course, go_on, sent_of, Setup, Chance, Task, State, when_of, next_task, begun, Sent, Nothing, Deed, deed_of, message_texts, traced, texts_of, lines_at, is_too_much, come_to, cut_short, made_to, Devices, Befalls, rubbish_on, Moment, Leads, none, more, Standing, Stands, IsStepTo}
 
 -- a chance of which no step asks anything more
 abbrev pub quiet_chance : Setup → Devices → Chance

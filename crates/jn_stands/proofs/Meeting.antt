@@ -1,22 +1,7 @@
 -- An event that isn't refused, and one of a settle or of the end, is what the next task does.
-use Rattle.std.proofs.Common.{◌≡◌, ℕ, Bool, true, false, List, [], ◌∷◌, Option, Some, None, refl, ◌∙◌, ap}
-use Rattle.std.specs.Prelude.{if◌then◌else◌, slice_get}
-use Rattle.jn_base.specs.declared.names.ServerNo.{ServerNo}
-use Rattle.jn_base.specs.declared.names.Party.TheVariants.{Client, Server}
-use Rattle.jn_report.specs.declared.line.EventRefusal.TheVariants.{EpochsUsedUp}
+use Rattle.jn_stands.proofs.Common.{◌≡◌, ℕ, Bool, true, false, List, [], ◌∷◌, Option, Some, None, refl, ◌∙◌, ap, if◌then◌else◌, slice_get, ServerNo, Client, Server, EpochsUsedUp, Event, Sent, World, Memory, Setup, Chance, Task, Meets, Acts, GoesDown, next_task, Deed, served, nothing, delivered_at, delivered, is_busy, working_steps, worked, crashed_at, is_used_up, given_up, recovered, restarted, acted, met, refusal_of, Moment, ActsNext, is_settle}
 use Rattle.jn_report.specs.declared.line.Text.TheVariants as says
-use Rattle.jn_schedule.specs.declared.Event.{Event}
 use Rattle.jn_schedule.specs.declared.Event.TheVariants as events
-use Rattle.jn_rows.specs.Outcomes.{Sent}
-use Rattle.jn_system.specs.WholeSystem.World.{World, Memory}
-use Rattle.jn_written.specs.Chances.{Setup, Chance}
-use Rattle.jn_written.specs.Tasks.{Task, Meets, Acts, GoesDown, next_task}
-use Rattle.jn_written.specs.Deeds.{Deed, served, nothing, delivered_at, delivered, is_busy, working_steps, worked, crashed_at, is_used_up, given_up, recovered, restarted}
-use Rattle.jn_written.specs.Events.{acted, met}
-use Rattle.jn_written.specs.Refusals.{refusal_of}
-use Rattle.jn_written.specs.Runs.{Moment}
-use Rattle.jn_stands.specs.Going.{ActsNext}
-use Rattle.jn_stands.specs.Meeting.{is_settle}
 
 no-tasks : (d : Deed) → d.tasks ≡ [] → d ≡ record d { tasks = [] }
 no-tasks d e = ap (λ (tasks : List Task). record d { tasks = tasks }) e

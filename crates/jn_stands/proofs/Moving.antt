@@ -1,42 +1,10 @@
 -- A task at one server, in which nothing is sent.
-use Rattle.std.proofs.Common.{◌≡◌, ℕ, ◌+◌, Bool, true, false, List, [], ◌++◌, append-nil, drop, length, slice_get, slice_set, Some, refl, sym, ◌∙◌, ap, subst, arith}
-use Rattle.std.specs.Prelude.{◌||◌, if◌then◌else◌}
-use Rattle.std.specs.List.{list_any}
-use Rattle.std.proofs.lemmas.Bool.Decides.{nat_tests}
-use Rattle.jn_base.specs.declared.names.ServerNo.{ServerNo}
-use Rattle.jn_base.specs.declared.names.Tid.{Tid}
-use Rattle.jn_base.specs.Names.{server_eq, tid_eq}
-use Rattle.jn_device.specs.Device.{DeviceState}
-use Rattle.jn_net.specs.declared.Sent.{Sent as Posted}
-use Rattle.jn_net.specs.Carried.{Carried}
-use Rattle.jn_place.specs.declared.place.Place.{Place}
-use Rattle.jn_place.specs.declared.place.Slot.{Slot}
-use Rattle.jn_system.specs.WholeSystem.World.{at_server, commits_in, has_line}
-use Rattle.jn_system.specs.WholeSystem.Steps.{Step, after, run, IsRun}
-use Rattle.jn_recovery.specs.Loading.{counts_by}
-use Rattle.jn_report.specs.declared.line.Line.{Line}
-use Rattle.jn_report.specs.declared.line.Text.{Text}
-use Rattle.jn_rests.specs.Waiting.{Carries, delivered_by}
-use Rattle.jn_rests.proofs.Numbers.{carries-step}
-use Rattle.jn_schedule.specs.declared.Event.{Event}
-use Rattle.jn_system_settling.specs.Settling.Course.{Course, go, go_on}
-use Rattle.jn_store.specs.Pairs.{pairs_view}
-use Rattle.jn_store.specs.Store.{StoreView}
-use Rattle.jn_written.specs.Chances.{Setup, Chance}
-use Rattle.jn_written.specs.Deeds.{Deed}
-use Rattle.jn_written.specs.Devices.{Devices, IsUsed, rubbish_on}
-use Rattle.jn_written.specs.Events.{acted, deed_of}
-use Rattle.jn_written.specs.Runs.{Moment}
-use Rattle.jn_written.specs.Steps.{outside_texts, texts_of, lines_at, come_to}
-use Rattle.jn_written.specs.Tasks.{Task, when_of, next_task, begun}
-use Rattle.jn_stands.specs.Stands.{Standing, Stands}
-use Rattle.jn_stands.specs.Going.{ActsNext, IsStepTo}
+use Rattle.jn_stands.proofs.Common.{◌≡◌, ℕ, ◌+◌, Bool, true, false, List, [], ◌++◌, append-nil, drop, length, slice_get, slice_set, Some, refl, sym, ◌∙◌, ap, subst, arith, ◌||◌, if◌then◌else◌, list_any, nat_tests, ServerNo, Tid, server_eq, tid_eq, DeviceState, Posted, Carried, Place, Slot, at_server, commits_in, has_line, Step, after, run, IsRun, counts_by, Line, Text, Carries, delivered_by, carries-step, Event, Course, go, go_on, pairs_view, StoreView, Setup, Chance, Deed, Devices, IsUsed, rubbish_on, acted, deed_of, Moment, outside_texts, texts_of, lines_at, come_to, Task, when_of, next_task, begun, Standing, Stands, ActsNext, IsStepTo, AreLeft}
 use Rattle.jn_stands.proofs.Lines.{line-append, count-append}
 use Rattle.jn_stands.proofs.Posted.{none-traced, texts-are}
 use Rattle.jn_stands.proofs.Core.{PartsStand, NetStands, deed-made as task-made, run-is}
 use Rattle.jn_stands.proofs.Servers.{IsAlone, server-moved, clients-same}
 use Rattle.jn_stands.proofs.Left.{AreQuiet, Leaves, left-alone}
-use Rattle.jn_written.specs.Rubbish.{AreLeft}
 
 pub same-server : (q : ServerNo) → server_eq q q ≡ true
 same-server q = grind (arith, nat_tests)

@@ -1,18 +1,6 @@
 -- A loop that names each transaction that isn't named yet tells what a restart of the system tells.
-use Rattle.std.proofs.Common.{◌≡◌, Bool, true, false, List, [], ◌∷◌, refl, ◌∙◌, ap, subst, arith}
-use Rattle.std.specs.Prelude.{◌||◌, ◌&&◌, if◌then◌else◌}
-use Rattle.std.specs.List.{list_any, list_all}
-use Rattle.std.proofs.Math.Path.{fun_ext}
-use Rattle.std.proofs.lemmas.Bool.Decides.{nat_tests}
-use Rattle.jn_base.specs.declared.names.Tid.{Tid}
-use Rattle.jn_base.specs.Names.{tid_eq}
-use Rattle.jn_base.proofs.Tells.{tid_tells}
-use Rattle.jn_report.specs.declared.line.Text.{Text}
+use Rattle.jn_stands.proofs.Common.{◌≡◌, Bool, true, false, List, [], ◌∷◌, refl, ◌∙◌, ap, subst, arith, ◌||◌, ◌&&◌, if◌then◌else◌, list_any, list_all, fun_ext, nat_tests, Tid, tid_eq, tid_tells, Text, has_line, named_now, are_rising, tid_before, with_name, named_by, names_told}
 use Rattle.jn_report.specs.declared.line.Text.TheVariants as says
-use Rattle.jn_system.specs.WholeSystem.World.{has_line}
-use Rattle.jn_system.specs.WholeSystem.Servers.{named_now}
-use Rattle.jn_system.specs.WholeSystem.Steps.{are_rising, tid_before}
-use Rattle.jn_stands.specs.Naming.{with_name, named_by, names_told}
 
 -- ---- names in rising order
 

@@ -1,34 +1,7 @@
 -- A server sends again what waits for an answer, or a work of its may be broken from now on.
-use Rattle.std.proofs.Common.{◌≡◌, ℕ, ◌+◌, Bool, List, [], ◌++◌, append-nil, length, slice_get, slice_set, drop, Option, Some, None, refl, sym, ◌∙◌, ap, subst, arith}
-use Rattle.std.specs.Prelude.{if◌then◌else◌}
-use Rattle.jn_base.specs.declared.names.ServerNo.{ServerNo}
-use Rattle.jn_base.specs.declared.names.Tid.{Tid}
-use Rattle.jn_base.specs.declared.names.Party.TheVariants.{Server}
-use Rattle.jn_device.specs.Device.{DeviceState}
-use Rattle.jn_msgs.specs.Collected.{Collected}
-use Rattle.jn_place.specs.declared.place.Place.{Place}
-use Rattle.jn_place.specs.declared.place.Slot.{Slot}
-use Rattle.jn_place.specs.declared.place.Slot.TheVariants.{Up, Down, Gone}
-use Rattle.jn_place.specs.Exact.{AsksAgain, TimedOut, IsTimedOut}
-use Rattle.jn_system.specs.WholeSystem.Servers.{server_again, server_timeout}
-use Rattle.jn_system.specs.WholeSystem.Steps.{Nudge, Timeout, after, nudge, timeout}
-use Rattle.jn_system.specs.WholeSystem.World.{World, Memory, at_server}
-use Rattle.jn_recovery.specs.Loading.{counts_by}
-use Rattle.jn_report.specs.declared.line.Line.{Line}
-use Rattle.jn_rows.specs.Stable.{StableState, Pick, stable, IsUp}
+use Rattle.jn_stands.proofs.Common.{◌≡◌, ℕ, ◌+◌, Bool, List, [], ◌++◌, append-nil, length, slice_get, slice_set, drop, Option, Some, None, refl, sym, ◌∙◌, ap, subst, arith, if◌then◌else◌, ServerNo, Tid, Server, DeviceState, Collected, Place, Slot, Up, Down, Gone, AsksAgain, TimedOut, IsTimedOut, server_again, server_timeout, Nudge, Timeout, after, nudge, timeout, World, Memory, at_server, counts_by, Line, StableState, Pick, stable, IsUp, Parts, view_with, memory_of, state, pairs_view, StoreView, Setup, Moment, lines_at, Task, when_of, Standing, StandsAt, Stands, texts_sent, with_answer, HasCounts, ActsNext, IsStepTo}
 use Rattle.jn_recovery.specs.Memory.{Memory as Kept, view_of}
 use Rattle.jn_schedule.specs.declared.Event.TheVariants as events
-use Rattle.jn_server.specs.Seen.{Parts, view_with, memory_of}
-use Rattle.jn_storage.specs.Calls.{state}
-use Rattle.jn_store.specs.Pairs.{pairs_view}
-use Rattle.jn_store.specs.Store.{StoreView}
-use Rattle.jn_written.specs.Chances.{Setup}
-use Rattle.jn_written.specs.Runs.{Moment}
-use Rattle.jn_written.specs.Steps.{lines_at}
-use Rattle.jn_written.specs.Tasks.{Task, when_of}
-use Rattle.jn_stands.specs.Stands.{Standing, StandsAt, Stands, texts_sent, with_answer}
-use Rattle.jn_stands.specs.Pages.{HasCounts}
-use Rattle.jn_stands.specs.Going.{ActsNext, IsStepTo}
 use Rattle.jn_stands.proofs.Servers.{servers-same, server-moved, clients-same}
 use Rattle.jn_stands.proofs.Served.{same-server}
 use Rattle.jn_stands.proofs.Plain.{plain-step, silent-step}

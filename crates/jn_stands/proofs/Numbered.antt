@@ -1,37 +1,9 @@
 -- The number of the event under way rises where an event begins, and nowhere else.
-use Rattle.std.proofs.Common.{◌≡◌, ℕ, ◌+◌, Bool, true, false, List, [], ◌∷◌, ◌++◌, drop, map, Option, Some, None, refl, sym, ◌∙◌, ap, arith}
-use Rattle.std.specs.Prelude.{◌&&◌, if◌then◌else◌, slice_get}
-use Rattle.std.specs.List.{list_all}
-use Rattle.jn_base.specs.declared.names.ServerNo.{ServerNo}
-use Rattle.jn_base.specs.declared.names.ClientNo.{ClientNo}
-use Rattle.jn_base.specs.declared.names.Party.TheVariants.{Client, Server}
-use Rattle.jn_device.specs.Device.{DeviceState}
-use Rattle.jn_report.specs.declared.line.EventRefusal.{EventRefusal}
-use Rattle.jn_report.specs.declared.line.EventRefusal.TheVariants.{EpochsUsedUp}
-use Rattle.jn_report.specs.declared.line.Line.{Line}
+use Rattle.jn_stands.proofs.Common.{◌≡◌, ℕ, ◌+◌, Bool, true, false, List, [], ◌∷◌, ◌++◌, drop, map, Option, Some, None, refl, sym, ◌∙◌, ap, arith, ◌&&◌, if◌then◌else◌, slice_get, list_all, ServerNo, ClientNo, Client, Server, DeviceState, EventRefusal, EpochsUsedUp, Line, Sent, Pick, Event, StoreView, World, Memory, Room, Step, NextEvent, Course, go, go_on, handing, working, clients_from, Setup, Chance, Task, Begins, Meets, Acts, Rests, ComesUp, Dismisses, GoesDown, ClosesClients, CountsCommits, Stage, InSchedule, CutShort, AtEnd, State, when_at, when_of, next_at, next_task, begun, Deed, served, nothing, delivered_at, delivered, is_busy, working_steps, worked, stopped_idle, crashed_at, recovering, is_used_up, given_up, recovered, restarted, brought_up, servers_of, asking, settling, next_in, acted, met, resting, deed_of, refusal_of, Moment, DoesStep, Leads, none, more, is_too_much, come_to, cut_short, Standing, WentOn, begun_by, begins_in}
 use Rattle.jn_report.specs.declared.line.Text.TheVariants as says
-use Rattle.jn_rows.specs.Outcomes.{Sent}
-use Rattle.jn_rows.specs.Stable.{Pick}
-use Rattle.jn_schedule.specs.declared.Event.{Event}
 use Rattle.jn_schedule.specs.declared.Event.TheVariants as events
-use Rattle.jn_store.specs.Store.{StoreView}
-use Rattle.jn_system.specs.WholeSystem.World.{World, Memory}
-use Rattle.jn_system.specs.WholeSystem.Servers.{Room}
-use Rattle.jn_system.specs.WholeSystem.Steps.{Step, NextEvent}
-use Rattle.jn_system_settling.specs.Settling.Course.{Course, go, go_on}
-use Rattle.jn_system_settling.specs.Settling.Settle.{handing, working, clients_from}
-use Rattle.jn_written.specs.Chances.{Setup, Chance}
-use Rattle.jn_written.specs.Tasks.{Task, Begins, Meets, Acts, Rests, ComesUp, Dismisses, GoesDown, ClosesClients, CountsCommits, Stage, InSchedule, CutShort, AtEnd, State, when_at, when_of, next_at, next_task, begun}
-use Rattle.jn_written.specs.Deeds.{Deed, served, nothing, delivered_at, delivered, is_busy, working_steps, worked, stopped_idle, crashed_at, recovering, is_used_up, given_up, recovered, restarted, brought_up}
-use Rattle.jn_written.specs.Events.{servers_of, asking, settling, next_in, acted, met, resting, deed_of}
 use Rattle.jn_written.specs.Kinds.{event_after}
-use Rattle.jn_written.specs.Refusals.{refusal_of}
-use Rattle.jn_written.specs.Runs.{Moment, DoesStep, Leads, none, more}
-use Rattle.jn_written.specs.Steps.{is_too_much, come_to, cut_short}
 use Rattle.jn_written.proofs.Telling.{adds}
-use Rattle.jn_stands.specs.Stands.{Standing}
-use Rattle.jn_stands.specs.Going.{WentOn}
-use Rattle.jn_stands.specs.Meeting.{begun_by, begins_in}
 
 -- ---- steps that begin no event
 

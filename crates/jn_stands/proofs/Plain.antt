@@ -1,39 +1,10 @@
 -- A step of the system for which no device is called.
-use Rattle.std.proofs.Common.{◌≡◌, ℕ, ◌+◌, Bool, List, [], ◌∷◌, ◌++◌, append-nil, length, drop, Some, None, refl, sym, ◌∙◌, ap, subst, arith}
-use Rattle.std.specs.Prelude.{◌||◌}
-use Rattle.std.specs.List.{list_any}
-use Rattle.jn_base.specs.declared.names.ServerNo.{ServerNo}
-use Rattle.jn_base.specs.declared.names.Tid.{Tid}
-use Rattle.jn_base.specs.declared.names.Party.{Party}
-use Rattle.jn_base.specs.Names.{tid_eq}
-use Rattle.jn_device.specs.Device.{DeviceState}
-use Rattle.jn_net.specs.declared.Sent.{Sent as Posted}
-use Rattle.jn_place.specs.declared.place.Place.{Place}
-use Rattle.jn_system.specs.WholeSystem.Steps.{Step, IsStep, after}
-use Rattle.jn_system.specs.WholeSystem.World.{World, commits_in, has_line}
-use Rattle.jn_report.specs.declared.line.Text.{Text}
-use Rattle.jn_report.specs.declared.line.Line.{Line}
-use Rattle.jn_rests.specs.Waiting.{Carries, delivered_by}
-use Rattle.jn_rows.specs.Client.{ClientTable}
-use Rattle.jn_rows.specs.Outcomes.{Sent}
-use Rattle.jn_schedule.specs.declared.Event.{Event}
-use Rattle.jn_system_settling.specs.Settling.Course.{go}
-use Rattle.jn_store.specs.Pairs.{pairs_view}
-use Rattle.jn_store.specs.Store.{StoreView}
-use Rattle.jn_written.specs.Chances.{Setup, Chance}
-use Rattle.jn_written.specs.Deeds.{plain, nothing}
-use Rattle.jn_written.specs.Events.{acted, deed_of}
-use Rattle.jn_written.specs.Runs.{Moment}
-use Rattle.jn_written.specs.Steps.{message_texts, traced, lines_at}
-use Rattle.jn_written.specs.Tasks.{Task, when_of, next_task, begun}
-use Rattle.jn_stands.specs.Stands.{Standing, Stands, posted_by, with_sent}
-use Rattle.jn_stands.specs.Going.{ActsNext, IsStepTo}
+use Rattle.jn_stands.proofs.Common.{◌≡◌, ℕ, ◌+◌, Bool, List, [], ◌∷◌, ◌++◌, append-nil, length, drop, Some, None, refl, sym, ◌∙◌, ap, subst, arith, ◌||◌, list_any, ServerNo, Tid, Party, tid_eq, DeviceState, Posted, Place, Step, IsStep, after, World, commits_in, has_line, Text, Line, Carries, delivered_by, ClientTable, Sent, Event, go, pairs_view, StoreView, Setup, Chance, plain, nothing, acted, deed_of, Moment, message_texts, traced, lines_at, Task, when_of, next_task, begun, Standing, Stands, posted_by, with_sent, ActsNext, IsStepTo, left_by_step}
 use Rattle.jn_stands.proofs.Made.{carried-length, quiet-texts}
 use Rattle.jn_stands.proofs.Posted.{sent-posted, new-posted, none-traced, texts-are}
 use Rattle.jn_stands.proofs.Core.{ServersStand, ClientsStand, NetStands, chance-of, no-need, last-by, last-of, deed-made, step-made}
 use Rattle.jn_stands.proofs.Servers.{AreSame, servers-same, clients-same, net-moved, net-same}
 use Rattle.jn_stands.proofs.Left.{left-same}
-use Rattle.jn_written.specs.Rubbish.{left_by_step}
 
 module _ {S : Type 0} (look : S → StoreView) (device : S → DeviceState) (seen : (s : S) → look s ≡ pairs_view (device s)) (x : Setup) (w : Standing S) (m : Moment) (stand : Stands look device x w m) where
   abbrev v : World

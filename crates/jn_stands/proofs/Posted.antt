@@ -1,18 +1,5 @@
 -- What a step tells and sends, as the machine and the code have it.
-use Rattle.std.proofs.Common.{◌≡◌, Bool, true, false, List, [], ◌∷◌, ◌++◌, append_assoc, length, drop, refl, sym, ◌∙◌, ap}
-use Rattle.std.proofs.Math.Seq.{drop-append_seam}
-use Rattle.std.proofs.lemmas.List.{map-append}
-use Rattle.jn_base.specs.declared.names.Party.{Party}
-use Rattle.jn_system.specs.WholeSystem.World.{World}
-use Rattle.jn_report.specs.declared.line.When.{When}
-use Rattle.jn_report.specs.declared.line.Text.{Text}
-use Rattle.jn_report.specs.declared.line.Line.{Line}
-use Rattle.jn_rests.specs.Waiting.{sent_of, are_new}
-use Rattle.jn_rows.specs.Outcomes.{Sent}
-use Rattle.jn_written.specs.Chances.{Setup, Chance}
-use Rattle.jn_written.specs.Deeds.{Deed}
-use Rattle.jn_written.specs.Steps.{outside_texts, message_texts, traced, texts_of, lines_at}
-use Rattle.jn_stands.specs.Stands.{posted_by}
+use Rattle.jn_stands.proofs.Common.{◌≡◌, Bool, true, false, List, [], ◌∷◌, ◌++◌, append_assoc, length, drop, refl, sym, ◌∙◌, ap, drop-append_seam, map-append, Party, World, When, Text, Line, sent_of, are_new, Sent, Setup, Chance, Deed, outside_texts, message_texts, traced, texts_of, lines_at, posted_by}
 
 pub sent-posted : (from : Party) (messages : List Sent) → sent_of (posted_by from messages) ≡ messages
 sent-posted from [] = refl

@@ -1,20 +1,7 @@
 -- What a show prints of the blocks that there are is what is printed block by block, from the first number on.
-use Rattle.std.proofs.Common.{◌≡◌, ◌≢◌, ◌≤◌, ◌<◌, ◌⊎◌, inl, inr, ℕ, zero, suc, ◌+◌, Bool, true, false, List, [], ◌∷◌, ◌++◌, Option, Some, None, is_some, refl, sym, ◌∙◌, ap, subst, arith}
-use Rattle.std.specs.Prelude.{◌||◌}
-use Rattle.std.specs.List.{list_any, list_all}
-use Rattle.std.proofs.lemmas.Bool.Decides.{nat_tests}
-use Rattle.jn_base.specs.declared.names.FileNo.{FileNo}
+use Rattle.jn_stands.proofs.Common.{◌≡◌, ◌≢◌, ◌≤◌, ◌<◌, ◌⊎◌, inl, inr, ℕ, zero, suc, ◌+◌, Bool, true, false, List, [], ◌∷◌, ◌++◌, Option, Some, None, is_some, refl, sym, ◌∙◌, ap, subst, arith, ◌||◌, list_any, list_all, nat_tests, FileNo, Tid, File, Block, block_eq, block_tells, Files, WorkerTable, commit_holder, are_rising, AreNames, Printed, FileThere, print_unit, prints_in, print_one, print_blocks, print_file, print_files, block_before, ArePrints, blocks_from}
 use Rattle.jn_base.specs.declared.names.BlockNo.{BlockNo}
-use Rattle.jn_base.specs.declared.names.Tid.{Tid}
 use Rattle.jn_base.specs.declared.names.LockUnit.{LockUnit}
-use Rattle.jn_base.specs.declared.names.LockUnit.TheVariants.{File, Block}
-use Rattle.jn_base.specs.Names.{block_eq}
-use Rattle.jn_base.proofs.Tells.{block_tells}
-use Rattle.jn_order.specs.Files.{Files}
-use Rattle.jn_rows.specs.Worker.{WorkerTable, commit_holder}
-use Rattle.jn_system.specs.WholeSystem.Steps.{are_rising, AreNames}
-use Rattle.jn_system.specs.WholeSystem.Printing.{Printed, FileThere, print_unit, prints_in, print_one, print_blocks, print_file, print_files, block_before, ArePrints}
-use Rattle.jn_written.specs.Deeds.{blocks_from}
 use Rattle.jn_stands.proofs.Naming.{all-first, all-second, of-all}
 
 -- these blocks, which rise, are those from a number on of which there is something, and those are so many at most

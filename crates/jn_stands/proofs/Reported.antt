@@ -1,16 +1,5 @@
 -- From the start of a run by calls of the code to its end, or to where it is cut short.
-use Rattle.std.proofs.Common.{◌≡◌, ℕ, List, [], ◌++◌, refl, sym, ◌∙◌, ap}
-use Rattle.jn_base.specs.declared.names.ServerNo.{ServerNo}
-use Rattle.jn_order.specs.Files.{AllFiles}
-use Rattle.jn_report.specs.declared.line.Line.{Line}
-use Rattle.jn_schedule.specs.declared.Event.{Event}
-use Rattle.jn_written.specs.Chances.{Setup}
-use Rattle.jn_written.specs.Devices.{Devices}
-use Rattle.jn_written.specs.Runs.{Moment, DoesStep, Leads, none}
-use Rattle.jn_written.specs.Tasks.{CutShort, AtEnd}
-use Rattle.jn_written.specs.Whole.{before, AreImages, IsWhole, IsLimited, IsPartOfRun}
-use Rattle.jn_written.proofs.Computed.{join}
-use Rattle.jn_stands.specs.Going.{IsTold}
+use Rattle.jn_stands.proofs.Common.{◌≡◌, ℕ, List, [], ◌++◌, refl, sym, ◌∙◌, ap, ServerNo, AllFiles, Line, Event, Setup, Devices, Moment, DoesStep, Leads, none, CutShort, AtEnd, before, AreImages, IsWhole, IsLimited, IsPartOfRun, join, IsTold}
 use Rattle.jn_stands.specs.Written.{IsReported}
 
 module _ (x : Setup) (schedule : List Event) (images : Devices) where

@@ -1,30 +1,6 @@
 -- What a rest does next.
-use Rattle.std.proofs.Common.{◌≡◌, ◌<◌, ◌≤◌, ℕ, zero, suc, ◌+◌, Bool, true, false, List, [], ◌∷◌, length, slice_get, drop, Option, Some, None, refl, sym, ◌∙◌, ap, subst, arith}
-use Rattle.std.specs.Prelude.{if◌then◌else◌}
-use Rattle.std.proofs.Math.Path.{fun_ext}
-use Rattle.jn_base.specs.declared.names.ServerNo.{ServerNo}
-use Rattle.jn_device.specs.Device.{DeviceState}
-use Rattle.jn_net.specs.Carried.{waiting}
-use Rattle.jn_place.specs.declared.place.Place.{Place}
-use Rattle.jn_place.specs.Exact.{has_work_at}
-use Rattle.jn_system.specs.WholeSystem.World.{World, servers_from}
-use Rattle.jn_recovery.specs.Loading.{counts_by}
-use Rattle.jn_report.specs.declared.line.Line.{Line}
-use Rattle.jn_rests.specs.Waiting.{waiting_numbers}
-use Rattle.jn_rests.proofs.Numbers.{least-waits, none-waits}
-use Rattle.jn_schedule.specs.declared.Event.{Event}
+use Rattle.jn_stands.proofs.Common.{◌≡◌, ◌<◌, ◌≤◌, ℕ, zero, suc, ◌+◌, Bool, true, false, List, [], ◌∷◌, length, slice_get, drop, Option, Some, None, refl, sym, ◌∙◌, ap, subst, arith, if◌then◌else◌, fun_ext, ServerNo, DeviceState, waiting, Place, has_work_at, World, servers_from, counts_by, Line, waiting_numbers, least-waits, none-waits, Event, pairs_view, StoreView, Setup, is_busy, rubbish_on, servers_of, first_busy, next_event, next_in, resting, Moment, Rests, next_task, Standing, Stands, ReadsPages, IsIdleAt, ActsNext, IsStepTo}
 use Rattle.jn_schedule.specs.declared.Event.TheVariants as events
-use Rattle.jn_store.specs.Pairs.{pairs_view}
-use Rattle.jn_store.specs.Store.{StoreView}
-use Rattle.jn_written.specs.Chances.{Setup}
-use Rattle.jn_written.specs.Deeds.{is_busy}
-use Rattle.jn_written.specs.Devices.{rubbish_on}
-use Rattle.jn_written.specs.Events.{servers_of, first_busy, next_event, next_in, resting}
-use Rattle.jn_written.specs.Runs.{Moment}
-use Rattle.jn_written.specs.Tasks.{Rests, next_task}
-use Rattle.jn_stands.specs.Stands.{Standing, Stands}
-use Rattle.jn_stands.specs.Pages.{ReadsPages, IsIdleAt}
-use Rattle.jn_stands.specs.Going.{ActsNext, IsStepTo}
 use Rattle.jn_stands.proofs.Placed.{get-below, get-there}
 use Rattle.jn_stands.proofs.Working.{busy-here}
 use Rattle.jn_stands.proofs.Plain.{no-chance, nothing-step}

@@ -1,49 +1,11 @@
 -- A server comes up, or is stopped while it does.
-use Rattle.std.proofs.Common.{◌≡◌, ◌<◌, ℕ, ◌+◌, Bool, true, false, not, List, [], ◌∷◌, ◌++◌, append-nil, drop, length, map, slice_get, slice_set, Option, Some, None, is_some, refl, sym, ◌∙◌, ap, subst, arith}
-use Rattle.std.specs.Prelude.{◌||◌, if◌then◌else◌, nat_eq}
-use Rattle.std.proofs.Math.Path.{fun_ext}
-use Rattle.std.proofs.lemmas.Bool.Decides.{nat_tests}
-use Rattle.jn_base.specs.declared.names.ServerNo.{ServerNo}
-use Rattle.jn_base.specs.declared.names.Tid.{Tid}
-use Rattle.jn_base.specs.declared.names.WorkId.{WorkId}
-use Rattle.jn_base.specs.declared.device.Outside.{Outside}
-use Rattle.jn_base.specs.Names.{tid_eq, work_eq}
-use Rattle.jn_device.specs.Device.{DeviceState}
-use Rattle.jn_device.specs.Events.{powered_off}
-use Rattle.jn_found.specs.Pages.{found_on}
+use Rattle.jn_stands.proofs.Common.{◌≡◌, ◌<◌, ℕ, ◌+◌, Bool, true, false, not, List, [], ◌∷◌, ◌++◌, append-nil, drop, length, map, slice_get, slice_set, Option, Some, None, is_some, refl, sym, ◌∙◌, ap, subst, arith, ◌||◌, if◌then◌else◌, nat_eq, fun_ext, nat_tests, ServerNo, Tid, WorkId, Outside, tid_eq, work_eq, DeviceState, powered_off, found_on, with_epoch, Place, Slot, Up, Down, IsTried, IsUpAt, texts_of_step, World, Memory, commits_in, has_line, restored, named_now, Restart, AreNames, tid_before, restart, restart_with, counts_by, Line, Text, StableState, Pick, Parts, go_on, pairs_view, StoreView, Setup, Chance, Deed, recovered, last_epoch, is_used_up, IsRecovery, rubbish_on, Moment, lines_at, when_of, names_told, HasCounts, Standing, StandsAt, Stands, with_named, IsStepTo, left_by_restart, left_by_step}
 use Rattle.jn_locks.specs.Locks.{work_before}
-use Rattle.jn_system.specs.SmallSteps.Steps.{with_epoch}
-use Rattle.jn_place.specs.declared.place.Place.{Place}
-use Rattle.jn_place.specs.declared.place.Slot.{Slot}
-use Rattle.jn_place.specs.declared.place.Slot.TheVariants.{Up, Down}
-use Rattle.jn_place.specs.Exact.{IsTried, IsUpAt, texts_of_step}
-use Rattle.jn_system.specs.WholeSystem.World.{World, Memory, commits_in, has_line}
-use Rattle.jn_system.specs.WholeSystem.Servers.{restored, named_now}
-use Rattle.jn_system.specs.WholeSystem.Steps.{Restart, AreNames, tid_before, restart, restart_with}
-use Rattle.jn_recovery.specs.Loading.{counts_by}
-use Rattle.jn_report.specs.declared.line.Line.{Line}
-use Rattle.jn_report.specs.declared.line.Text.{Text}
 use Rattle.jn_report.specs.declared.line.Text.TheVariants as says
-use Rattle.jn_rows.specs.Stable.{StableState, Pick}
-use Rattle.jn_server.specs.Seen.{Parts}
-use Rattle.jn_system_settling.specs.Settling.Course.{go_on}
-use Rattle.jn_store.specs.Pairs.{pairs_view}
-use Rattle.jn_store.specs.Store.{StoreView}
-use Rattle.jn_written.specs.Chances.{Setup, Chance}
-use Rattle.jn_written.specs.Deeds.{Deed, recovered, last_epoch, is_used_up}
-use Rattle.jn_written.specs.Devices.{IsRecovery, rubbish_on}
-use Rattle.jn_written.specs.Runs.{Moment}
-use Rattle.jn_written.specs.Steps.{lines_at}
-use Rattle.jn_written.specs.Tasks.{when_of}
-use Rattle.jn_stands.specs.Naming.{names_told}
-use Rattle.jn_stands.specs.Pages.{HasCounts}
-use Rattle.jn_stands.specs.Stands.{Standing, StandsAt, Stands, with_named}
-use Rattle.jn_stands.specs.Going.{IsStepTo}
 use Rattle.jn_stands.proofs.Naming.{told-names}
 use Rattle.jn_stands.proofs.Posted.{lines-in-two}
 use Rattle.jn_stands.proofs.Moving.{same-server, carries-on, Does, net-named, devices-now, device-here, device-there, moved-step}
 use Rattle.jn_stands.proofs.Left.{counted, leaves-from}
-use Rattle.jn_written.specs.Rubbish.{left_by_restart, left_by_step}
 
 -- what a restart tells its device
 pub recovery : (h : Chance) (up : Bool) (told : List Outside) (power : Bool) (d e f : DeviceState) → h.told ≡ told → is_some h.stop ≡ not power → IsTried told power d e → f ≡ (if up then e else powered_off e) → IsRecovery h up d f

@@ -1,35 +1,9 @@
 -- A restart of the schedule, and a server that comes up at the start or the end.
-use Rattle.std.proofs.Common.{◌≡◌, ℕ, ◌+◌, Bool, true, false, List, [], ◌∷◌, ◌++◌, drop, length, slice_get, slice_set, Some, refl, sym, ◌∙◌, ap, subst, arith}
-use Rattle.std.specs.Prelude.{◌||◌, if◌then◌else◌}
-use Rattle.std.proofs.Math.Path.{fun_ext}
-use Rattle.jn_base.specs.declared.names.ServerNo.{ServerNo}
-use Rattle.jn_base.specs.declared.names.Tid.{Tid}
-use Rattle.jn_base.specs.declared.device.Outside.{Outside}
-use Rattle.jn_device.specs.Device.{DeviceState}
-use Rattle.jn_place.specs.declared.place.Place.{Place}
-use Rattle.jn_place.specs.declared.place.Slot.{Slot}
-use Rattle.jn_place.specs.declared.place.Slot.TheVariants.{Up, Down, Gone}
+use Rattle.jn_stands.proofs.Common.{◌≡◌, ℕ, ◌+◌, Bool, true, false, List, [], ◌∷◌, ◌++◌, drop, length, slice_get, slice_set, Some, refl, sym, ◌∙◌, ap, subst, arith, ◌||◌, if◌then◌else◌, fun_ext, ServerNo, Tid, Outside, DeviceState, Place, Slot, Up, Down, Gone, CameTo, IsRestart, texts_of_step, World, commits_in, has_line, counts_by, EpochsUsedUp, Line, Text, pairs_view, StoreView, Setup, recovered, given_up, Moment, lines_at, Task, ComesUp, when_of, next_task, Standing, Stands, with_named, HasCounts, ActsNext, IsStepTo, names_told}
 use Rattle.jn_place.specs.declared.place.Restarted.{Restarted}
 use Rattle.jn_place.specs.declared.place.Restarted.TheVariants as came
-use Rattle.jn_place.specs.Exact.{CameTo, IsRestart, texts_of_step}
-use Rattle.jn_system.specs.WholeSystem.World.{World, commits_in, has_line}
-use Rattle.jn_recovery.specs.Loading.{counts_by}
-use Rattle.jn_report.specs.declared.line.EventRefusal.TheVariants.{EpochsUsedUp}
-use Rattle.jn_report.specs.declared.line.Line.{Line}
-use Rattle.jn_report.specs.declared.line.Text.{Text}
 use Rattle.jn_report.specs.declared.line.Text.TheVariants as says
 use Rattle.jn_schedule.specs.declared.Event.TheVariants as events
-use Rattle.jn_store.specs.Pairs.{pairs_view}
-use Rattle.jn_store.specs.Store.{StoreView}
-use Rattle.jn_written.specs.Chances.{Setup}
-use Rattle.jn_written.specs.Deeds.{recovered, given_up}
-use Rattle.jn_written.specs.Runs.{Moment}
-use Rattle.jn_written.specs.Steps.{lines_at}
-use Rattle.jn_written.specs.Tasks.{Task, ComesUp, when_of, next_task}
-use Rattle.jn_stands.specs.Stands.{Standing, Stands, with_named}
-use Rattle.jn_stands.specs.Pages.{HasCounts}
-use Rattle.jn_stands.specs.Going.{ActsNext, IsStepTo}
-use Rattle.jn_stands.specs.Naming.{names_told}
 use Rattle.jn_stands.specs.Restarting.{texts_restarted, ComesTo}
 use Rattle.jn_stands.proofs.Moving.{does-next}
 use Rattle.jn_stands.proofs.Restarting.{up-chance, not-used-up, up-step}

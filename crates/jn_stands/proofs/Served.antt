@@ -1,34 +1,5 @@
 -- A step of a server that is up, by a row, done or stopped.
-use Rattle.std.proofs.Common.{◌≡◌, ℕ, Bool, true, false, not, List, slice_get, take, Option, Some, None, is_some, sym, ◌∙◌, ap, subst, arith}
-use Rattle.std.specs.Prelude.{if◌then◌else◌}
-use Rattle.std.proofs.Math.Path.{fun_ext}
-use Rattle.std.proofs.lemmas.Bool.Decides.{nat_tests}
-use Rattle.jn_base.specs.declared.names.ServerNo.{ServerNo}
-use Rattle.jn_base.specs.declared.device.Outside.{Outside}
-use Rattle.jn_base.specs.Names.{server_eq}
-use Rattle.jn_device.specs.Device.{DeviceState}
-use Rattle.jn_found.specs.Pages.{pool_on}
-use Rattle.jn_place.specs.declared.place.Place.{Place}
-use Rattle.jn_place.specs.declared.place.Slot.{Slot}
-use Rattle.jn_place.specs.declared.place.Slot.TheVariants.{Up, Down, Gone}
-use Rattle.jn_place.specs.Exact.{IsSpent, IsDoneAt, IsStoppedAt}
-use Rattle.jn_system.specs.WholeSystem.Steps.{done, stopped}
-use Rattle.jn_system.specs.WholeSystem.World.{World, Memory, at_server}
-use Rattle.jn_records.specs.StablePages.{Counts}
-use Rattle.jn_recovery.specs.Loading.{counts_by}
-use Rattle.jn_rows.specs.Outcomes.{RowOutcome}
-use Rattle.jn_rows.specs.Stable.{StableState, Pick, stable, made_all}
-use Rattle.jn_server.specs.Seen.{Parts, view_with, memory_of, room_of}
-use Rattle.jn_server.specs.Standing.{free_on, has_rubbish}
-use Rattle.jn_storage.specs.Calls.{state}
-use Rattle.jn_store.specs.Pairs.{pairs_view}
-use Rattle.jn_store.specs.Store.{StoreView}
-use Rattle.jn_written.specs.Chances.{Setup, Chance}
-use Rattle.jn_written.specs.Deeds.{room}
-use Rattle.jn_written.specs.Devices.{Devices, Alone, IsCalled, IsServed, pages_of, rubbish_on}
-use Rattle.jn_written.specs.Runs.{Moment}
-use Rattle.jn_stands.specs.Stands.{Standing, StandsAt, Stands}
-use Rattle.jn_stands.specs.Pages.{HasCounts, ReadsPages}
+use Rattle.jn_stands.proofs.Common.{◌≡◌, ℕ, Bool, true, false, not, List, slice_get, take, Option, Some, None, is_some, sym, ◌∙◌, ap, subst, arith, if◌then◌else◌, fun_ext, nat_tests, ServerNo, Outside, server_eq, DeviceState, pool_on, Place, Slot, Up, Down, Gone, IsSpent, IsDoneAt, IsStoppedAt, done, stopped, World, Memory, at_server, Counts, counts_by, RowOutcome, StableState, Pick, stable, made_all, Parts, view_with, memory_of, room_of, free_on, has_rubbish, state, pairs_view, StoreView, Setup, Chance, room, Devices, Alone, IsCalled, IsServed, pages_of, rubbish_on, Moment, Standing, StandsAt, Stands, HasCounts, ReadsPages}
 use Rattle.jn_stands.proofs.Core.{chance-of}
 use Rattle.jn_stands.proofs.Servers.{IsAlone}
 

@@ -1,47 +1,12 @@
 -- A row of a server that is up, done or stopped, is a step of the machine.
-use Rattle.std.proofs.Common.{◌≡◌, ℕ, ◌+◌, Bool, true, false, List, [], ◌∷◌, ◌++◌, append-nil, append_assoc, length, slice_get, slice_set, drop, Option, Some, None, is_some, refl, sym, ◌∙◌, ap, subst}
-use Rattle.std.specs.Prelude.{◌||◌}
-use Rattle.jn_base.specs.declared.names.ServerNo.{ServerNo}
-use Rattle.jn_base.specs.declared.names.Party.TheVariants.{Server}
-use Rattle.jn_base.specs.declared.device.Outside.{Outside}
-use Rattle.jn_device.specs.Device.{DeviceState}
-use Rattle.jn_msgs.specs.Collected.{Collected}
-use Rattle.jn_net.specs.declared.Sent.{Sent as Posted}
-use Rattle.jn_place.specs.declared.place.Place.{Place}
-use Rattle.jn_place.specs.declared.place.Slot.{Slot}
-use Rattle.jn_place.specs.declared.place.Slot.TheVariants.{Up, Down, Gone}
-use Rattle.jn_place.specs.Exact.{texts_of_step, IsDoneAt, IsStoppedAt, IsStepOf, Sends}
-use Rattle.jn_system.specs.WholeSystem.Servers.{lines_of}
-use Rattle.jn_system.specs.WholeSystem.Steps.{Step, IsStep, after, ends}
-use Rattle.jn_system.specs.WholeSystem.World.{World, Memory, commits_in, has_line}
-use Rattle.jn_recovery.specs.Loading.{counts_by}
-use Rattle.jn_report.specs.declared.line.Text.{Text}
+use Rattle.jn_stands.proofs.Common.{◌≡◌, ℕ, ◌+◌, Bool, true, false, List, [], ◌∷◌, ◌++◌, append-nil, append_assoc, length, slice_get, slice_set, drop, Option, Some, None, is_some, refl, sym, ◌∙◌, ap, subst, ◌||◌, ServerNo, Server, Outside, DeviceState, Collected, Posted, Place, Slot, Up, Down, Gone, texts_of_step, IsDoneAt, IsStoppedAt, IsStepOf, Sends, lines_of, Step, IsStep, after, ends, World, Memory, commits_in, has_line, counts_by, Text, Line, delivered_by, RowOutcome, Sent, Pick, Event, Parts, go, pairs_view, StoreView, Setup, Chance, Calls, served, acted, Moment, outside_texts, message_texts, traced, texts_of, lines_at, Task, when_of, Standing, Stands, posted_by, texts_sent, with_answer, HasCounts, ReadsPages, ActsNext, IsStepTo, server_eq}
 use Rattle.jn_report.specs.declared.line.Text.TheVariants as says
-use Rattle.jn_report.specs.declared.line.Line.{Line}
-use Rattle.jn_rests.specs.Waiting.{delivered_by}
-use Rattle.jn_rows.specs.Outcomes.{RowOutcome, Sent}
-use Rattle.jn_rows.specs.Stable.{Pick}
-use Rattle.jn_schedule.specs.declared.Event.{Event}
-use Rattle.jn_server.specs.Seen.{Parts}
-use Rattle.jn_system_settling.specs.Settling.Course.{go}
-use Rattle.jn_store.specs.Pairs.{pairs_view}
-use Rattle.jn_store.specs.Store.{StoreView}
-use Rattle.jn_written.specs.Chances.{Setup, Chance}
-use Rattle.jn_written.specs.Deeds.{Calls, served}
-use Rattle.jn_written.specs.Events.{acted}
-use Rattle.jn_written.specs.Runs.{Moment}
-use Rattle.jn_written.specs.Steps.{outside_texts, message_texts, traced, texts_of, lines_at}
-use Rattle.jn_written.specs.Tasks.{Task, when_of}
-use Rattle.jn_stands.specs.Stands.{Standing, Stands, posted_by, texts_sent, with_answer}
-use Rattle.jn_stands.specs.Pages.{HasCounts, ReadsPages}
-use Rattle.jn_stands.specs.Going.{ActsNext, IsStepTo}
 use Rattle.jn_stands.proofs.Made.{carried-length}
 use Rattle.jn_stands.proofs.Posted.{sent-posted, new-posted, none-traced, texts-are, lines-in-two}
 use Rattle.jn_stands.proofs.Core.{NetStands, PartsStand, last-of, step-made}
 use Rattle.jn_stands.proofs.Servers.{server-moved, clients-same, net-moved, IsAlone}
 use Rattle.jn_stands.proofs.Served.{chance, devices-with, called, made-by, done-here, stopped-here}
 use Rattle.jn_stands.proofs.Left.{AreQuiet, Leaves, leaves-from, left-alone}
-use Rattle.jn_base.specs.Names.{server_eq}
 
 in-order : (faults own sent more : List Text) → sent ≡ more → faults ++ own ++ [] ++ sent ≡ faults ++ [] ++ (own ++ more)
 in-order faults own sent more e = ap (λ (ts : List Text). ts ++ sent) (append-nil (faults ++ own)) ∙ ap (λ (ts : List Text). faults ++ own ++ ts) e ∙ append_assoc faults own more ∙ ap (λ (ts : List Text). ts ++ (own ++ more)) (sym (append-nil faults))

@@ -1,37 +1,5 @@
 -- Where the code's parts stand after a step of the system.
-use Rattle.std.proofs.Common.{◌≡◌, ◌⊎◌, inl, inr, ◌≢◌, ℕ, suc, ◌+◌, Bool, true, false, ◌<◌, List, ◌++◌, length, slice_get, slice_set, Option, Some, sym, ◌∙◌, ap, subst, arith, is_some, true≢false}
-use Rattle.std.specs.Prelude.{◌||◌}
-use Rattle.std.proofs.lemmas.List.{length-set}
-use Rattle.jn_base.specs.declared.names.ServerNo.{ServerNo}
-use Rattle.jn_base.specs.declared.names.ClientNo.{ClientNo}
-use Rattle.jn_base.specs.Names.{server_eq}
-use Rattle.jn_base.proofs.Tells.{server_tells}
-use Rattle.jn_device.specs.Device.{DeviceState}
-use Rattle.jn_found.specs.Pages.{found_on}
-use Rattle.jn_net.specs.declared.Sent.{Sent as Posted}
-use Rattle.jn_place.specs.declared.place.Place.{Place}
-use Rattle.jn_place.specs.declared.place.Slot.{Slot}
-use Rattle.jn_place.specs.declared.place.Slot.TheVariants.{Up, Down, Gone}
-use Rattle.jn_system.specs.WholeSystem.World.{World, Memory, commits_in, has_line}
-use Rattle.jn_system.specs.WholeSystem.Steps.{Step, after}
-use Rattle.jn_records.specs.StablePages.{Counts}
-use Rattle.jn_recovery.specs.Loading.{counts_by}
-use Rattle.jn_report.specs.declared.line.Text.{Text}
-use Rattle.jn_rests.specs.Waiting.{sent_of, are_new, delivered_by}
-use Rattle.jn_rests.proofs.Numbers.{carries-step}
-use Rattle.jn_rows.specs.Client.{ClientTable}
-use Rattle.jn_rows.specs.Stable.{StableState, Pick, stable}
-use Rattle.jn_system_settling.specs.Settling.Course.{go}
-use Rattle.jn_server.specs.Seen.{view_with}
-use Rattle.jn_server.specs.Standing.{standing_pages}
-use Rattle.jn_storage.specs.Calls.{state}
-use Rattle.jn_store.specs.Pairs.{pairs_view}
-use Rattle.jn_store.specs.Store.{StoreView}
-use Rattle.jn_written.specs.Chances.{Setup}
-use Rattle.jn_written.specs.Rubbish.{CountsAll}
-use Rattle.jn_written.specs.Runs.{Moment}
-use Rattle.jn_stands.specs.Stands.{Standing, StandsAt, PlaceStands, Stands}
-use Rattle.jn_stands.specs.Pages.{HasCounts}
+use Rattle.jn_stands.proofs.Common.{◌≡◌, ◌⊎◌, inl, inr, ◌≢◌, ℕ, suc, ◌+◌, Bool, true, false, ◌<◌, List, ◌++◌, length, slice_get, slice_set, Option, Some, sym, ◌∙◌, ap, subst, arith, is_some, true≢false, ◌||◌, length-set, ServerNo, ClientNo, server_eq, server_tells, DeviceState, found_on, Posted, Place, Slot, Up, Down, Gone, World, Memory, commits_in, has_line, Step, after, Counts, counts_by, Text, sent_of, are_new, delivered_by, carries-step, ClientTable, StableState, Pick, stable, go, view_with, standing_pages, state, pairs_view, StoreView, Setup, CountsAll, Moment, Standing, StandsAt, PlaceStands, Stands, HasCounts}
 use Rattle.jn_stands.proofs.Placed.{each-set}
 use Rattle.jn_stands.proofs.Lines.{line-append, count-append}
 use Rattle.jn_stands.proofs.Core.{ServersStand, ClientsStand, NetStands}

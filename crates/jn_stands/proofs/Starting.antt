@@ -1,32 +1,6 @@
 -- Where a run starts, and what it leaves at its end.
-use Rattle.std.proofs.Common.{◌≡◌, ◌<◌, ℕ, Bool, true, false, List, Some, None, refl, sym, ◌∙◌, ap, subst, arith, true≢false, Option}
-use Rattle.std.specs.Prelude.{nat_lt, if◌then◌else◌, slice_get, is_some}
-use Rattle.std.proofs.Math.Path.{fun_ext}
-use Rattle.std.proofs.lemmas.Bool.Decides.{nat_tests}
-use Rattle.std.proofs.lemmas.Option.{slice_get_within}
-use Rattle.jn_base.specs.declared.names.ServerNo.{ServerNo}
-use Rattle.jn_device.specs.Device.{DeviceState}
-use Rattle.jn_found.specs.Pages.{found_on}
-use Rattle.jn_order.specs.Files.{AllFiles}
-use Rattle.jn_place.specs.declared.place.Place.{Place}
-use Rattle.jn_place.specs.declared.place.Slot.{Slot}
-use Rattle.jn_place.specs.declared.place.Slot.TheVariants.{Up, Down, Gone}
-use Rattle.jn_system.specs.WholeSystem.World.{Memory, new_memory}
-use Rattle.jn_records.specs.StablePages.{Counts}
-use Rattle.jn_rests.specs.Waiting.{Carries}
-use Rattle.jn_recovery.specs.Loading.{counts_by}
-use Rattle.jn_schedule.specs.declared.Event.{Event}
-use Rattle.jn_store.specs.Pairs.{pairs_view}
-use Rattle.jn_store.specs.Store.{StoreView}
-use Rattle.jn_within.specs.Within.{Within}
-use Rattle.jn_within.proofs.WorldSteps.{opening-within}
-use Rattle.jn_written.specs.Chances.{Setup}
-use Rattle.jn_written.specs.Devices.{Devices, AreFound}
-use Rattle.jn_written.specs.Runs.{Moment}
-use Rattle.jn_written.specs.Whole.{closed_world, before}
-use Rattle.jn_stands.specs.Stands.{Standing, StandsAt, PlaceStands, Stands}
+use Rattle.jn_stands.proofs.Common.{◌≡◌, ◌<◌, ℕ, Bool, true, false, List, Some, None, refl, sym, ◌∙◌, ap, subst, arith, true≢false, Option, nat_lt, if◌then◌else◌, slice_get, is_some, fun_ext, nat_tests, slice_get_within, ServerNo, DeviceState, found_on, AllFiles, Place, Slot, Up, Down, Gone, Memory, new_memory, Counts, Carries, counts_by, Event, pairs_view, StoreView, Within, opening-within, Setup, Devices, AreFound, Moment, closed_world, before, Standing, StandsAt, PlaceStands, Stands, HasCounts}
 use Rattle.jn_stands.specs.Starting.{IsFirst, IsStoreOf}
-use Rattle.jn_stands.specs.Pages.{HasCounts}
 
 closed-within : (n : ℕ) (files : AllFiles) (epochs : ServerNo → ℕ) → Within n (closed_world n files epochs)
 closed-within n files epochs = let o = opening-within n files epochs in record {

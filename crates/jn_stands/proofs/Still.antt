@@ -1,30 +1,7 @@
 -- Steps in which no server and no client does anything.
-use Rattle.std.proofs.Common.{◌≡◌, ℕ, List, [], ◌∷◌, ◌++◌, length, append-nil, drop, Some, refl, sym, ◌∙◌, ap, subst}
-use Rattle.jn_device.specs.Device.{DeviceState}
-use Rattle.jn_net.specs.declared.Sent.{Sent as Posted}
-use Rattle.jn_report.specs.declared.line.EventRefusal.{EventRefusal}
-use Rattle.jn_report.specs.declared.line.Line.{Line}
-use Rattle.jn_report.specs.declared.line.Text.{Text}
+use Rattle.jn_stands.proofs.Common.{◌≡◌, ℕ, List, [], ◌∷◌, ◌++◌, length, append-nil, drop, Some, refl, sym, ◌∙◌, ap, subst, DeviceState, Posted, EventRefusal, Line, Text, Event, history_of, StoreView, commits_in, NextEvent, go, Carries, carries-step, run-within, Setup, Task, Begins, Meets, CountsCommits, Stage, when_of, next_task, begun, Deed, plain, nobody, nothing, settling, met, deed_of, refusal_of, texts_of, lines_at, Moment, Standing, Stands, IsStepTo}
 use Rattle.jn_report.specs.declared.line.Text.TheVariants as says
-use Rattle.jn_schedule.specs.declared.Event.{Event}
 use Rattle.jn_schedule.specs.declared.Event.TheVariants as events
-use Rattle.jn_serial.specs.Lines.{history_of}
-use Rattle.jn_store.specs.Store.{StoreView}
-use Rattle.jn_system.specs.WholeSystem.World.{commits_in}
-use Rattle.jn_system.specs.WholeSystem.Steps.{NextEvent}
-use Rattle.jn_system_settling.specs.Settling.Course.{go}
-use Rattle.jn_rests.specs.Waiting.{Carries}
-use Rattle.jn_rests.proofs.Numbers.{carries-step}
-use Rattle.jn_within.proofs.WorldSteps.{run-within}
-use Rattle.jn_written.specs.Chances.{Setup}
-use Rattle.jn_written.specs.Tasks.{Task, Begins, Meets, CountsCommits, Stage, when_of, next_task, begun}
-use Rattle.jn_written.specs.Deeds.{Deed, plain, nobody, nothing}
-use Rattle.jn_written.specs.Events.{settling, met, deed_of}
-use Rattle.jn_written.specs.Refusals.{refusal_of}
-use Rattle.jn_written.specs.Steps.{texts_of, lines_at}
-use Rattle.jn_written.specs.Runs.{Moment}
-use Rattle.jn_stands.specs.Stands.{Standing, Stands}
-use Rattle.jn_stands.specs.Going.{IsStepTo}
 use Rattle.jn_stands.proofs.Lines.{history-same}
 use Rattle.jn_stands.proofs.Made.{quiet_chance, made-step, quiet-texts}
 

@@ -1,37 +1,6 @@
 -- A server that is stopped while it comes up, and one whose epochs are used up.
-use Rattle.std.proofs.Common.{◌≡◌, ◌⊎◌, inl, inr, ℕ, suc, ◌+◌, Bool, true, false, List, [], ◌∷◌, ◌++◌, append-nil, drop, map, slice_get, slice_set, Option, Some, None, is_some, refl, sym, ◌∙◌, ap, subst, arith}
-use Rattle.std.specs.Prelude.{if◌then◌else◌, nat_eq, nat_lt}
-use Rattle.std.proofs.Math.Path.{fun_ext}
-use Rattle.jn_base.specs.declared.names.ServerNo.{ServerNo}
-use Rattle.jn_base.specs.declared.device.Outside.{Outside}
-use Rattle.jn_base.specs.Names.{server_eq}
-use Rattle.jn_device.specs.Device.{DeviceState}
-use Rattle.jn_device.specs.Events.{powered_off, cleared}
-use Rattle.jn_found.specs.Pages.{found_on}
-use Rattle.jn_system.specs.SmallSteps.Steps.{changed, with_epoch}
-use Rattle.jn_place.specs.declared.place.Place.{Place}
-use Rattle.jn_place.specs.declared.place.Slot.TheVariants.{Down}
-use Rattle.jn_place.specs.Exact.{IsTried, IsStoppedUp, IsUsedUpAt, texts_of_step}
-use Rattle.jn_system.specs.WholeSystem.World.{World, Memory}
-use Rattle.jn_system.specs.WholeSystem.Steps.{Narrow, StopRestart, after, narrow, stop_restart}
-use Rattle.jn_recovery.specs.Loading.{counts_by}
-use Rattle.jn_report.specs.declared.line.EventRefusal.TheVariants.{EpochsUsedUp}
-use Rattle.jn_report.specs.declared.line.Line.{Line}
-use Rattle.jn_report.specs.declared.line.Text.{Text}
+use Rattle.jn_stands.proofs.Common.{◌≡◌, ◌⊎◌, inl, inr, ℕ, suc, ◌+◌, Bool, true, false, List, [], ◌∷◌, ◌++◌, append-nil, drop, map, slice_get, slice_set, Option, Some, None, is_some, refl, sym, ◌∙◌, ap, subst, arith, if◌then◌else◌, nat_eq, nat_lt, fun_ext, ServerNo, Outside, server_eq, DeviceState, powered_off, cleared, found_on, changed, with_epoch, Place, Down, IsTried, IsStoppedUp, IsUsedUpAt, texts_of_step, World, Memory, Narrow, StopRestart, after, narrow, stop_restart, counts_by, EpochsUsedUp, Line, Text, Carries, StableState, Pick, go, go_on, pairs_view, StoreView, Setup, Chance, Deed, recovered, given_up, last_epoch, is_used_up, Devices, Alone, IsRecovery, AreFound, Moment, lines_at, cut_short, when_of, Standing, StandsAt, Stands, WasCut, IsStepTo, AreLeft}
 use Rattle.jn_report.specs.declared.line.Text.TheVariants as says
-use Rattle.jn_rests.specs.Waiting.{Carries}
-use Rattle.jn_rows.specs.Stable.{StableState, Pick}
-use Rattle.jn_system_settling.specs.Settling.Course.{go, go_on}
-use Rattle.jn_store.specs.Pairs.{pairs_view}
-use Rattle.jn_store.specs.Store.{StoreView}
-use Rattle.jn_written.specs.Chances.{Setup, Chance}
-use Rattle.jn_written.specs.Deeds.{Deed, recovered, given_up, last_epoch, is_used_up}
-use Rattle.jn_written.specs.Devices.{Devices, Alone, IsRecovery, AreFound}
-use Rattle.jn_written.specs.Runs.{Moment}
-use Rattle.jn_written.specs.Steps.{lines_at, cut_short}
-use Rattle.jn_written.specs.Tasks.{when_of}
-use Rattle.jn_stands.specs.Stands.{Standing, StandsAt, Stands}
-use Rattle.jn_stands.specs.Going.{WasCut, IsStepTo}
 use Rattle.jn_stands.proofs.Made.{made-cuts}
 use Rattle.jn_stands.proofs.Servers.{IsAlone, server-moved}
 use Rattle.jn_stands.proofs.Posted.{lines-in-two}
@@ -39,7 +8,6 @@ use Rattle.jn_stands.proofs.Moving.{same-server, carries-on, Does, led-to, net-q
 use Rattle.jn_stands.proofs.Restarting.{recovery, here, trying}
 use Rattle.jn_stands.proofs.Left.{left-alone}
 use Rattle.jn_stands.proofs.Core.{ServersStand}
-use Rattle.jn_written.specs.Rubbish.{AreLeft}
 
 -- a device that has lost its power is as without
 dark : (told : List Outside) (d e : DeviceState) → IsTried told false d e → e ≡ powered_off e

@@ -1,45 +1,9 @@
 -- A server that is up takes a message.
-use Rattle.std.proofs.Common.{◌≡◌, ℕ, zero, suc, List, [], ◌∷◌, ◌++◌, length, slice_get, slice_set, drop, Option, Some, None, refl, ◌∙◌, ap, Bool, false, sym}
-use Rattle.jn_base.specs.declared.names.ServerNo.{ServerNo}
-use Rattle.jn_base.specs.declared.names.Party.{Party}
-use Rattle.jn_base.specs.declared.names.Party.TheVariants.{Server}
-use Rattle.jn_base.specs.declared.device.Outside.{Outside}
-use Rattle.jn_device.specs.Device.{DeviceState}
-use Rattle.jn_msgs.specs.Collected.{Collected}
-use Rattle.jn_net.specs.declared.Sent.{Sent as Posted}
-use Rattle.jn_net.specs.Carried.{with_delivered}
-use Rattle.jn_place.specs.declared.place.Place.{Place}
-use Rattle.jn_place.specs.declared.place.Slot.{Slot}
-use Rattle.jn_place.specs.declared.place.Slot.TheVariants.{Up, Down, Gone}
-use Rattle.jn_place.specs.Exact.{Took, WhereUp, TakeLeaves}
-use Rattle.jn_system.specs.WholeSystem.Servers.{Room, server_row}
-use Rattle.jn_system.specs.WholeSystem.Steps.{IsStep, after, ends, at_memory, handed, Deliver}
-use Rattle.jn_system.specs.WholeSystem.World.{Memory, World}
-use Rattle.jn_recovery.specs.Loading.{counts_by}
-use Rattle.jn_report.specs.declared.line.Line.{Line}
-use Rattle.jn_rests.specs.Waiting.{sent_of, delivered_by}
-use Rattle.jn_rows.specs.Outcomes.{Sent}
-use Rattle.jn_rows.specs.Stable.{StableState, Pick, stable}
+use Rattle.jn_stands.proofs.Common.{◌≡◌, ℕ, zero, suc, List, [], ◌∷◌, ◌++◌, length, slice_get, slice_set, drop, Option, Some, None, refl, ◌∙◌, ap, Bool, false, sym, ServerNo, Party, Server, Outside, DeviceState, Collected, Posted, with_delivered, Place, Slot, Up, Down, Gone, Took, WhereUp, TakeLeaves, Room, server_row, IsStep, after, ends, at_memory, handed, Deliver, Memory, World, counts_by, Line, sent_of, delivered_by, Sent, StableState, Pick, stable, Parts, view_with, memory_of, room_of, handing, state, pairs_view, StoreView, Setup, served, delivered, delivered_at, Moment, lines_at, Task, when_of, Standing, Stands, texts_sent, with_answer, HasCounts, ReadsPages, ActsNext, IsStepTo, left_by_row, left_by_message, left_by_sent, left_by_step, server_eq, if◌then◌else◌}
 use Rattle.jn_schedule.specs.declared.Event.TheVariants as events
-use Rattle.jn_server.specs.Seen.{Parts, view_with, memory_of, room_of}
-use Rattle.jn_system_settling.specs.Settling.Settle.{handing}
-use Rattle.jn_storage.specs.Calls.{state}
-use Rattle.jn_store.specs.Pairs.{pairs_view}
-use Rattle.jn_store.specs.Store.{StoreView}
-use Rattle.jn_written.specs.Chances.{Setup}
-use Rattle.jn_written.specs.Deeds.{served, delivered, delivered_at}
-use Rattle.jn_written.specs.Runs.{Moment}
-use Rattle.jn_written.specs.Steps.{lines_at}
-use Rattle.jn_written.specs.Tasks.{Task, when_of}
-use Rattle.jn_stands.specs.Stands.{Standing, Stands, texts_sent, with_answer}
-use Rattle.jn_stands.specs.Pages.{HasCounts, ReadsPages}
-use Rattle.jn_stands.specs.Going.{ActsNext, IsStepTo}
 use Rattle.jn_stands.proofs.Served.{chance, room-is, here, same-server}
 use Rattle.jn_stands.proofs.ServedSteps.{IsRowStep, row-step}
 use Rattle.jn_stands.proofs.Left.{AreQuiet, counted, leaves-by}
-use Rattle.jn_written.specs.Rubbish.{left_by_row, left_by_message, left_by_sent, left_by_step}
-use Rattle.jn_base.specs.Names.{server_eq}
-use Rattle.std.specs.Prelude.{if◌then◌else◌}
 
 pub sent-there : (ms : List Posted) (k : ℕ) (one : Posted) → slice_get ms k ≡ Some one → slice_get (sent_of ms) k ≡ Some (one.to, one.message)
 sent-there [] k one e = absurd (cc e)

@@ -1,48 +1,14 @@
 -- Background steps of servers that are up.
-use Rattle.std.proofs.Common.{◌≡◌, ℕ, Bool, true, false, List, [], ◌∷◌, ◌++◌, length, slice_get, slice_set, drop, Option, Some, None, is_some, refl, sym, ◌∙◌, ap, subst, ◌+◌, ◌-◌, arith}
-use Rattle.std.specs.Prelude.{◌||◌, if◌then◌else◌}
-use Rattle.jn_base.specs.declared.names.ServerNo.{ServerNo}
-use Rattle.jn_base.specs.declared.device.Outside.{Outside}
-use Rattle.jn_device.specs.Device.{DeviceState}
-use Rattle.jn_msgs.specs.Collected.{Collected}
-use Rattle.jn_place.specs.declared.place.Place.{Place}
-use Rattle.jn_place.specs.declared.place.Slot.{Slot}
-use Rattle.jn_place.specs.declared.place.Slot.TheVariants.{Up, Down, Gone}
-use Rattle.jn_place.specs.Exact.{has_work_at, work_of, WorkedBy, WhereUp, WorkLeaves}
-use Rattle.jn_system.specs.WholeSystem.Servers.{Room, server_step, storage_of, of_step, of_worker}
-use Rattle.jn_system.specs.WholeSystem.Steps.{IsStep, after, ends, work, works, Work}
-use Rattle.jn_system.specs.WholeSystem.World.{World, Memory}
-use Rattle.jn_recovery.specs.Loading.{counts_by}
-use Rattle.jn_report.specs.declared.line.Line.{Line}
-use Rattle.jn_rests.specs.Waiting.{delivered_by}
+use Rattle.jn_stands.proofs.Common.{◌≡◌, ℕ, Bool, true, false, List, [], ◌∷◌, ◌++◌, length, slice_get, slice_set, drop, Option, Some, None, is_some, refl, sym, ◌∙◌, ap, subst, ◌+◌, ◌-◌, arith, ◌||◌, if◌then◌else◌, ServerNo, Outside, DeviceState, Collected, Place, Slot, Up, Down, Gone, has_work_at, work_of, WorkedBy, WhereUp, WorkLeaves, Room, server_step, storage_of, of_step, of_worker, IsStep, after, ends, work, works, World, Memory, counts_by, Line, delivered_by, RowOutcome, quiet_row, StableState, Change, Pick, stable, Parts, view_with, memory_of, room_of, ServerView, working, has_going, state, pairs_view, StoreView, Setup, served, nothing, is_busy, is_busy_with, working_steps, worked, rubbish_on, Moment, lines_at, Task, when_of, Standing, StandsAt, Stands, texts_sent, with_answer, HasCounts, ReadsPages, ActsNext, IsStepTo, left_by_changes, left_by_work, left_at_work, left_by_step, WorkEntry, going_work, going_row, carried_row, intentions_of, server_eq}
+use Rattle.jn_system.specs.WholeSystem.Steps.{Work}
 use Rattle.jn_rests.proofs.BusyServers.{goes, erases, nothing as none-to-do}
-use Rattle.jn_rows.specs.Outcomes.{RowOutcome, quiet as quiet_row}
-use Rattle.jn_rows.specs.Stable.{StableState, Change, Pick, stable}
 use Rattle.jn_schedule.specs.declared.Event.TheVariants as events
-use Rattle.jn_server.specs.Seen.{Parts, view_with, memory_of, room_of, ServerView}
-use Rattle.jn_system_settling.specs.Settling.Settle.{working, is_busy as has_going}
-use Rattle.jn_storage.specs.Calls.{state}
-use Rattle.jn_store.specs.Pairs.{pairs_view}
-use Rattle.jn_store.specs.Store.{StoreView}
-use Rattle.jn_written.specs.Chances.{Setup}
-use Rattle.jn_written.specs.Deeds.{served, nothing, is_busy, is_busy_with, working_steps, worked}
-use Rattle.jn_written.specs.Devices.{rubbish_on}
-use Rattle.jn_written.specs.Runs.{Moment}
-use Rattle.jn_written.specs.Steps.{lines_at}
-use Rattle.jn_written.specs.Tasks.{Task, when_of}
-use Rattle.jn_stands.specs.Stands.{Standing, StandsAt, Stands, texts_sent, with_answer}
-use Rattle.jn_stands.specs.Pages.{HasCounts, ReadsPages}
-use Rattle.jn_stands.specs.Going.{ActsNext, IsStepTo}
 use Rattle.jn_stands.proofs.Served.{chance, room-is, rubbish-is, here, same-server}
 use Rattle.jn_stands.proofs.ServedSteps.{IsRowStep, row-step}
 use Rattle.jn_stands.proofs.Plain.{no-chance, nothing-step}
 use Rattle.jn_stands.proofs.Losing.{down-is}
 use Rattle.jn_stands.proofs.Left.{AreQuiet, Leaves, counted, leaves-by}
-use Rattle.jn_written.specs.Rubbish.{left_by_changes, left_by_work, left_at_work, left_by_step}
 use Rattle.jn_records.specs.declared.intention.Intention.{Intention}
-use Rattle.jn_rows.specs.declared.worker.Work.{Work as WorkEntry}
-use Rattle.jn_rows.specs.Worker.{going_work, going_row, carried_row, intentions_of}
-use Rattle.jn_base.specs.Names.{server_eq}
 use Rattle.jn_server.specs.Handling.{StepLeaves}
 use Rattle.jn_worker.specs.Leaving.{left_over}
 

@@ -1,8 +1,6 @@
 -- Finding in lists whose elements have keys.
-use Rattle.std.proofs.Common.{◌≡◌, ℕ, zero, suc, ◌<◌, ◌≤◌, ◌+◌, Bool, true, false, not, ◌||◌, if◌then◌else◌, List, [], ◌∷◌, ◌++◌, Some, None, length, map, refl, ap, arith, slice_index_or, slice_set}
-use Rattle.std.specs.Prelude.{filter, is_some}
-use Rattle.jn_storage.specs.Listing.{is_in, are_different, total}
-use Rattle.jn_storage.proofs.Listings.{Tells, but}
+use Rattle.jn_storage.proofs.Common.{◌≡◌, ℕ, zero, suc, ◌<◌, ◌+◌, Bool, true, false, ◌||◌, if◌then◌else◌, List, [], ◌∷◌, ◌++◌, Some, None, length, map, refl, ap, arith, slice_index_or, slice_set, filter, is_some, is_in, are_different}
+use Rattle.jn_storage.proofs.Listings.{Tells}
 use Rattle.jn_storage.specs.Finding.{find_by}
 
 pub find-listed : {A K : Type 0} (eq : K → K → Bool) (key : A → K) (xs : List A) (k : K) → is_in eq k (map key xs) ≡ is_some (find_by eq key xs k)

@@ -1,26 +1,8 @@
 -- What one intention of a prepared work does to the files that prepared works need.
-use Rattle.std.proofs.Common.{◌≡◌, inr, ◌+◌, ℕ, zero, suc, Bool, true, false, not, ◌&&◌, ◌||◌, if◌then◌else◌, List, [], ◌∷◌, Option, Some, None, refl, sym, subst, arith, map}
-use Rattle.std.specs.Prelude.{slice_get, count_by, is_some, nat_eq}
-use Rattle.std.specs.List.{list_all}
+use Rattle.jn_storage.proofs.Common.{◌≡◌, inr, ◌+◌, ℕ, zero, suc, Bool, true, false, not, ◌&&◌, ◌||◌, if◌then◌else◌, List, [], ◌∷◌, Option, Some, None, refl, sym, subst, arith, map, slice_get, count_by, is_some, nat_eq, list_all, FileNo, LockUnit, File, Block, file_eq, Files, change, What, Fresh, Gone, Cut, Put, Intention, intention_change, intention_place, in_order, entry, is_fresh, needs_a_head, Mode, Read, Commit, unit_eq, together, rebuilt, is_unit, unit_of, file_there}
 use Rattle.std.proofs.lemmas.List.Sums.{sum_by-cons}
 use Rattle.std.proofs.lemmas.Bool.Decides.{nat_tests}
-use Rattle.jn_base.specs.declared.names.FileNo.{FileNo}
-use Rattle.jn_base.specs.declared.names.LockUnit.{LockUnit}
-use Rattle.jn_base.specs.declared.names.LockUnit.TheVariants.{File, Block}
-use Rattle.jn_base.specs.Names.{file_eq}
-use Rattle.jn_order.specs.Files.{Files, change}
-use Rattle.jn_records.specs.declared.intention.What.{What}
-use Rattle.jn_records.specs.declared.intention.What.TheVariants.{Fresh, Gone, Cut, Put}
-use Rattle.jn_records.specs.declared.intention.Intention.{Intention}
-use Rattle.jn_records.specs.NetLists.{intention_change, intention_place, in_order, entry, is_fresh, needs_a_head}
 use Rattle.jn_records.proofs.NetLemmas.{no_entry}
-use Rattle.jn_locks.specs.declared.words.Mode.{Mode}
-use Rattle.jn_locks.specs.declared.words.Mode.TheVariants.{Read, Commit}
-use Rattle.jn_locks.specs.Locks.{unit_eq, together}
-use Rattle.jn_locks.specs.Asked.{rebuilt}
-use Rattle.jn_locks.specs.Locks.{is_unit}
-use Rattle.jn_storage.specs.Orderly.{unit_of}
-use Rattle.jn_storage.specs.Storage.{file_there}
 
 -- ---- an intention of a list
 

@@ -1,29 +1,10 @@
 -- Each change of the stable state keeps what a recovery asks of it.
-use Rattle.std.proofs.Common.{◌≡◌, ◌≢◌, ⊎_elim, ◌+◌, ℕ, zero, Bool, true, false, not, ◌&&◌, ◌||◌, List, [], ◌∷◌, Option, Some, None, refl, sym, ◌∙◌, ap, subst, arith, map, add-zero, true≢false}
-use Rattle.std.specs.Prelude.{slice_get, is_some}
-use Rattle.std.specs.List.{list_all}
-use Rattle.jn_base.specs.declared.names.FileNo.{FileNo}
+use Rattle.jn_storage.proofs.Common.{◌≡◌, ◌≢◌, ⊎_elim, ◌+◌, ℕ, zero, Bool, true, false, not, ◌&&◌, ◌||◌, List, [], ◌∷◌, Option, Some, None, refl, sym, ◌∙◌, ap, subst, arith, map, add-zero, true≢false, slice_get, is_some, list_all, FileNo, LockUnit, File, file_eq, tid_eq, work_eq, Files, change, What, Fresh, Gone, Cut, Put, Intention, intention_change, intention_place, in_order, entry, first_by, as_first, net_of, is_put, is_fresh, Mode, Read, IntentionWrite, Commit, rebuilt, is_unit, together, StableState, Prepared, MarkGoing, CarryOut, RemoveWork, AddFlag, DropFlag, made_by, at_work, gone_on, is_in, IsListing, AtMost, total, IsOrderly, IsPrepared, IsGiven, GoTogether, unit_by, unit_of, held_by, needs_file, first_of, file_there, needed, intentions, list_of}
+use Rattle.jn_base.specs.declared.names.WorkId.{WorkId}
+use Rattle.jn_base.proofs.Tells.{file_tells, tid_tells, work_tells}
+use Rattle.jn_records.specs.declared.flag.Flag.{Flag}
 use Rattle.jn_base.specs.declared.names.ServerNo.{ServerNo}
 use Rattle.jn_base.specs.declared.names.Tid.{Tid}
-use Rattle.jn_base.specs.declared.names.WorkId.{WorkId}
-use Rattle.jn_base.specs.declared.names.LockUnit.{LockUnit}
-use Rattle.jn_base.specs.declared.names.LockUnit.TheVariants.{File}
-use Rattle.jn_base.specs.Names.{file_eq, tid_eq, work_eq}
-use Rattle.jn_base.proofs.Tells.{file_tells, tid_tells, work_tells}
-use Rattle.jn_order.specs.Files.{Files, change}
-use Rattle.jn_records.specs.declared.flag.Flag.{Flag}
-use Rattle.jn_records.specs.declared.intention.What.{What}
-use Rattle.jn_records.specs.declared.intention.What.TheVariants.{Fresh, Gone, Cut, Put}
-use Rattle.jn_records.specs.declared.intention.Intention.{Intention}
-use Rattle.jn_records.specs.NetLists.{intention_change, intention_place, in_order, entry, first_by, as_first, net_of, is_put, is_fresh}
-use Rattle.jn_locks.specs.declared.words.Mode.{Mode}
-use Rattle.jn_locks.specs.declared.words.Mode.TheVariants.{Read, IntentionWrite, Commit}
-use Rattle.jn_locks.specs.Asked.{rebuilt}
-use Rattle.jn_locks.specs.Locks.{is_unit, together}
-use Rattle.jn_rows.specs.Stable.{StableState, Prepared, MarkGoing, CarryOut, RemoveWork, AddFlag, DropFlag, made_by, at_work, gone_on}
-use Rattle.jn_storage.specs.Listing.{is_in, IsListing, AtMost, total}
-use Rattle.jn_storage.specs.Orderly.{IsOrderly, IsPrepared, IsGiven, GoTogether, unit_by, unit_of, held_by, needs_file, first_of}
-use Rattle.jn_storage.specs.Storage.{file_there, needed, intentions, list_of}
 use Rattle.jn_storage.proofs.Listings.{but, listing-less, listing-more, listing-same, length-but, is_in-but, total-same, total-but}
 use Rattle.jn_storage.proofs.Intended.{made_there, there-after, entry-of, unit-of, all-by, apart-files, needs, needs-cons, needs-else, needs-fresh, one_if, makes-none, is_not_fresh}
 

@@ -1,17 +1,6 @@
 -- The laws of what every run of calls of a storage keeps.
-use Rattle.std.proofs.Common.{◌≡◌, ℕ, Bool, true, false, List, Option, Some, None, Result, Ok, refl, sym, ◌∙◌, subst, ap, arith}
-use Rattle.std.specs.Prelude.{is_some}
-use Rattle.jn_base.specs.declared.device.Stopped.{Stopped}
-use Rattle.jn_base.specs.declared.names.LockUnit.{LockUnit}
-use Rattle.jn_base.specs.declared.names.WorkId.{WorkId}
-use Rattle.jn_base.proofs.Tells.{tid_tells, work_tells}
-use Rattle.jn_records.specs.declared.flag.Flag.{Flag}
-use Rattle.jn_records.specs.declared.intention.Intention.{Intention}
-use Rattle.jn_records.specs.declared.work.WorkHead.{WorkHead}
+use Rattle.jn_storage.proofs.Common.{ℕ, true, refl, sym, ◌∙◌, subst, arith, Pick, StorageView, StorageLater, IsLoadable, IsServing, state, Called}
 use Rattle.jn_store.proofs.Laws.{later_refl, later_trans}
-use Rattle.jn_rows.specs.Stable.{Pick, Prepared, is_ready, is_going, gone_on}
-use Rattle.jn_storage.specs.Storage.{StorageView, StorageLater, IsLoadable, IsServing}
-use Rattle.jn_storage.specs.Calls.{state, next_of, Called, IsReady, IsGoing, IsCarriedOut, WorkPrepared, MarkedGoing, StepApplied, FlagPut, HasFlag}
 
 pub storage_refl : (v : StorageView) → StorageLater v v
 storage_refl v = record { server = refl; pool = refl; heads = refl; leaves = refl; store = later_refl v.store }

@@ -1,3 +1,4 @@
+mod Common
 pub mod Laws
 pub mod Listings
 pub mod Intended

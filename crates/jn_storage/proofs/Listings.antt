@@ -1,6 +1,5 @@
 -- Listings with one key more and one key less.
-use Rattle.std.proofs.Common.{◌≡◌, ◌≢◌, ◌⊎◌, ℕ, ◌≤◌, ◌+◌, Bool, true, false, not, ◌&&◌, ◌||◌, if◌then◌else◌, List, [], ◌∷◌, length, refl, sym, ◌∙◌, ap, arith}
-use Rattle.jn_storage.specs.Listing.{is_in, are_different, IsListing, total}
+use Rattle.jn_storage.proofs.Common.{◌≡◌, ◌≢◌, ◌⊎◌, ℕ, ◌≤◌, ◌+◌, Bool, true, false, not, ◌&&◌, ◌||◌, if◌then◌else◌, List, [], ◌∷◌, length, refl, sym, ◌∙◌, ap, arith, is_in, are_different, IsListing, total}
 
 -- what a test of two keys tells
 abbrev pub Tells : {A : Type 0} → (A → A → Bool) → Type 0

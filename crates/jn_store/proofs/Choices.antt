@@ -1,12 +1,11 @@
 -- How the choices of a store go on over its calls.
-use Rattle.std.proofs.Common.{◌≡◌, ◌≢◌, ◌⊎◌, inl, inr, ⊎_elim, ℕ, ◌<◌, Bool, true, false, List, Result, refl, sym, ◌∙◌, ap, subst, arith}
+use Rattle.std.proofs.Common.{◌≡◌, ◌≢◌, ◌⊎◌, inl, inr, ⊎_elim, ℕ, ◌<◌, Bool, true, false, List, refl, sym, ◌∙◌, ap, subst, arith}
 use Rattle.std.proofs.lemmas.Bool.{cases_eq}
 use Rattle.std.proofs.lemmas.Bool.Decides.{nat_tests}
 use Rattle.std.specs.Prelude.{nat_eq, if◌then◌else◌}
-use Rattle.jn_base.specs.declared.device.Stopped.{Stopped}
-use Rattle.jn_store.specs.Store.{StoreView, Candidate, IsOnly, Shrinks, StoreGot, StorePut, StoreCleaned}
-use Rattle.jn_store.specs.Choices.{IsChoice, with_page, Respects, Leads, Everywhere, Reads}
-use Rattle.jn_store.proofs.Laws.{same_shrinks, only_is, cleaned_kept}
+use Rattle.jn_store.specs.Store.{StoreView, Candidate, IsOnly, StorePut}
+use Rattle.jn_store.specs.Choices.{IsChoice, with_page, Leads}
+use Rattle.jn_store.proofs.Laws.{same_shrinks, only_is}
 
 pub with_same : (c : ℕ → List ℕ) (i : ℕ) (page : List ℕ) (j : ℕ) → i ≡ j → with_page c i page j ≡ page
 with_same c i page j e = let t : nat_eq i j ≡ true = grind (arith, nat_tests) in ap (λ b. if b then page else c j) t

@@ -1,12 +1,11 @@
 -- What befalls a store's device between calls, as the store's users see it.
 use Rattle.std.proofs.Common.{◌≡◌, ℕ, ◌+◌, ◌/◌, Bool, true, Option, Some, refl, ◌∙◌, ap, arith}
 use Rattle.std.proofs.lemmas.Bool.Decides.{nat_tests}
-use Rattle.std.specs.Prelude.{◌&&◌}
 use Rattle.jn_base.specs.declared.device.FaultKind.{FaultKind}
 use Rattle.jn_base.specs.declared.device.FaultKind.TheVariants.{Decay, Revive}
 use Rattle.jn_device.specs.Device.{PageState, DeviceState, page_met}
 use Rattle.jn_device.specs.Events.{Becomes, PowersUp, Decays, Revives, Arms, powered_off, disarmed, cleared}
-use Rattle.jn_store.specs.Store.{IsSamePage, IsWholePage, HasSamePages}
+use Rattle.jn_store.specs.Store.{IsSamePage, HasSamePages}
 use Rattle.jn_store.specs.Pairs.{pairs_view}
 
 met_bytes : (s : DeviceState) (k : Option FaultKind) (q : ℕ) → (page_met s k q).bytes ≡ (s.pages q).bytes

@@ -1,8 +1,8 @@
 -- The laws of what every run of calls of a store keeps.
-use Rattle.std.proofs.Common.{◌≡◌, ◌⊎◌, inl, inr, ⊎_elim, ℕ, ◌<◌, Bool, List, Result, Ok, refl, sym, ◌∙◌, subst, arith}
+use Rattle.std.proofs.Common.{◌≡◌, ◌⊎◌, inl, inr, ⊎_elim, ℕ, ◌<◌, Bool, List, Result, refl, sym, ◌∙◌, subst, arith}
 use Rattle.jn_base.specs.declared.device.Stopped.{Stopped}
 use Rattle.jn_device.proofs.Later.{spends_refl, spends_trans, rose_since}
-use Rattle.jn_store.specs.Store.{StoreView, Candidate, IsClean, IsOnly, IsCalm, IsStop, IsSamePage, Shrinks, StoreLater, StoreGot, StoreCleaned}
+use Rattle.jn_store.specs.Store.{StoreView, Candidate, IsClean, IsOnly, IsCalm, IsStop, IsSamePage, Shrinks, StoreLater, StoreCleaned}
 
 pub later_refl : (v : StoreView) → StoreLater v v
 later_refl v = record {

@@ -1,2 +1,3 @@
+mod Common
 pub mod SmallSteps
 pub mod WholeSystem

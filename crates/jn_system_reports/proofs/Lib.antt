@@ -1,3 +1,4 @@
+mod Common
 pub mod Reporting
 pub mod Telling
 pub mod Causing

@@ -1,3 +1,4 @@
+mod Common
 pub mod Settling
 pub mod AtRest
 pub mod Closing

@@ -1,3 +1,4 @@
+mod Common
 pub mod Taking
 pub mod Sending
 pub mod NamedByClients

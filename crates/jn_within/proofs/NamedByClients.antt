@@ -1,26 +1,9 @@
 -- A client names servers that there are.
-use Rattle.std.proofs.Common.{◌≡◌, ℕ, Bool, true, false, List, [], ◌∷◌, Option, Some, None, refl, ◌∙◌, subst, arith}
-use Rattle.std.specs.Prelude.{◌&&◌, nat_eq, if◌then◌else◌}
-use Rattle.std.proofs.lemmas.Bool.Decides.{nat_tests}
-use Rattle.jn_base.specs.declared.names.ServerNo.{ServerNo}
-use Rattle.jn_base.specs.declared.names.ClientNo.{ClientNo}
-use Rattle.jn_base.specs.declared.names.WorkId.{WorkId}
-use Rattle.jn_base.specs.declared.op.Command.{Command}
+use Rattle.jn_within.proofs.Common.{◌≡◌, ℕ, Bool, true, false, List, [], ◌∷◌, Option, Some, None, refl, ◌∙◌, subst, arith, ◌&&◌, nat_eq, if◌then◌else◌, nat_tests, ServerNo, ClientNo, WorkId, Command, client_eq, Message, OpenWork, Outstanding, Taken, ClientTable, Commanded, Refuses, Sends, new_table, command_row, take_row, names_of, over, if_waits, is_current, opens, opened_row, work_at, IsClient, are_apart, after_command, command_keeps, take_keeps, names_are_few, sent_for, are_near, is_few, is_near, is_any_near, names_near, is_within, are_within, is_again_within, ClientWithin, CommandWithin}
 use Rattle.jn_base.specs.declared.op.Command.TheVariants as commands
-use Rattle.jn_base.specs.Names.{client_eq}
-use Rattle.jn_msgs.specs.declared.message.Message.{Message}
 use Rattle.jn_msgs.specs.declared.message.Message.TheVariants as messages
 use Rattle.jn_msgs.specs.declared.message.Outcome.TheVariants as outcomes
-use Rattle.jn_rows.specs.declared.client.OpenWork.{OpenWork}
-use Rattle.jn_rows.specs.declared.client.Outstanding.{Outstanding}
-use Rattle.jn_rows.specs.declared.client.Taken.{Taken}
 use Rattle.jn_rows.specs.declared.client.Taken.TheVariants as taken
-use Rattle.jn_rows.specs.Client.{ClientTable, Commanded, Refuses, Sends, new_table, command_row, take_row, names_of, over, if_waits, is_current, opens, opened_row, work_at}
-use Rattle.jn_rows.specs.ClientLaws.{IsClient, are_apart, after_command}
-use Rattle.jn_rows.proofs.ClientKeeps.{command_keeps, take_keeps, names_are_few}
-use Rattle.jn_within.specs.Taking.{sent_for}
-use Rattle.jn_system_settling.specs.Settling.Sizes.{are_near, is_few}
-use Rattle.jn_within.specs.Naming.{is_near, is_any_near, names_near, is_within, are_within, is_again_within, ClientWithin, CommandWithin}
 
 -- ---- commands
 

@@ -1,24 +1,8 @@
 -- A worker names servers that there are.
-use Rattle.std.proofs.Common.{◌≡◌, ℕ, ◌+◌, Bool, true, false, List, [], ◌∷◌, ◌++◌, length, Option, Some, None, refl, subst, arith}
-use Rattle.std.specs.Prelude.{if◌then◌else◌, nat_eq, nat_lt, slice_get}
-use Rattle.jn_base.specs.declared.names.ClientNo.{ClientNo}
-use Rattle.jn_base.specs.declared.names.Tid.{Tid}
-use Rattle.jn_base.specs.declared.names.WorkId.{WorkId}
-use Rattle.jn_base.specs.declared.names.Tickets.{Tickets}
-use Rattle.jn_base.specs.declared.op.Op.{Op}
-use Rattle.jn_base.specs.declared.op.Answer.{Answer}
-use Rattle.jn_order.specs.Files.{change, answer_to}
-use Rattle.jn_records.specs.NetLists.{list_change}
-use Rattle.jn_records.specs.declared.intention.Intention.{Intention}
-use Rattle.jn_msgs.specs.declared.message.Message.{Message}
+use Rattle.jn_within.proofs.Common.{◌≡◌, ℕ, ◌+◌, Bool, true, false, List, [], ◌∷◌, ◌++◌, length, Option, Some, None, refl, subst, arith, if◌then◌else◌, nat_eq, nat_lt, slice_get, ClientNo, Tid, WorkId, Tickets, Op, Answer, change, answer_to, list_change, Intention, Message, WorkEntry, Phase, StableState, Change, RowOutcome, Sent, is_near, are_both_near, names_near, are_within, are_works_within, are_changes_within}
 use Rattle.jn_msgs.specs.declared.message.Message.TheVariants as messages
-use Rattle.jn_rows.specs.declared.worker.Work.{Work as WorkEntry}
-use Rattle.jn_rows.specs.declared.worker.Phase.{Phase}
 use Rattle.jn_rows.specs.declared.worker.Phase.TheVariants as phases
-use Rattle.jn_rows.specs.Stable.{StableState, Change}
-use Rattle.jn_rows.specs.Outcomes.{RowOutcome, Sent}
 use Rattle.jn_rows.specs.Worker.{WorkerTable, WorkStorage, Wanted, work_at, work_of, with_phase, without, after_grant, wants_of, is_fit, refusal_of, granted_row, repeated, op_phase, op_row, prepare_phase, prepare_row, commit_phase, commit_row, drop_phase, drop_row, worker_row, going_work, going_row, carried_row, intentions_of, worker_step, worker_again, timed_out, vulnerable, open_row, new_work, name_from}
-use Rattle.jn_within.specs.Naming.{is_near, are_both_near, names_near, are_within, are_works_within, are_changes_within}
 
 -- ---- the works of a table
 

@@ -1,35 +1,10 @@
 -- Servers send no requests, and draw a name only with a message.
-use Rattle.std.proofs.Common.{◌≡◌, ℕ, ◌+◌, Bool, true, false, List, [], ◌∷◌, ◌++◌, length, Option, Some, None, refl, subst, arith}
-use Rattle.std.specs.Prelude.{◌&&◌, not, if◌then◌else◌, nat_lt, nat_eq, slice_get}
-use Rattle.jn_base.specs.declared.names.ClientNo.{ClientNo}
-use Rattle.jn_base.specs.declared.names.Tid.{Tid}
-use Rattle.jn_base.specs.declared.names.WorkId.{WorkId}
-use Rattle.jn_base.specs.declared.names.Tickets.{Tickets}
-use Rattle.jn_base.specs.declared.names.Cause.{Cause}
-use Rattle.jn_base.specs.declared.op.Op.{Op}
-use Rattle.jn_base.specs.declared.op.Answer.{Answer}
-use Rattle.jn_order.specs.Files.{change, answer_to}
-use Rattle.jn_records.specs.NetLists.{list_change}
-use Rattle.jn_records.specs.declared.intention.Intention.{Intention}
-use Rattle.jn_msgs.specs.declared.message.Message.{Message}
+use Rattle.jn_within.proofs.Common.{◌≡◌, ℕ, ◌+◌, Bool, true, false, List, [], ◌∷◌, ◌++◌, length, Option, Some, None, refl, subst, arith, ◌&&◌, not, if◌then◌else◌, nat_lt, nat_eq, slice_get, ClientNo, Tid, WorkId, Tickets, Cause, Op, Answer, change, answer_to, list_change, Intention, Message, Vote, WorkEntry, Phase, Transaction, Stage, Open, Voting, Committed, Aborted, Ballot, Commitment, StableState, Change, RowOutcome, Sent, CoordinatorTable, transaction_at, all_in, is_work, besides, drops, commits, prepares, commit_row, abort_row, forget_row, begin_new, begin_again, begun_by, begin_row, after_closing, changes_of_closing, seen_now, end_promised, end_stage, end_row, abort_stage, abort_request, told_stage, inquire_row, counted_vote, vote_stage, vote_row, done_stage, done_row, thanks_stage, thanks_row, with_work, coordinator_row, told_again, coordinator_again, is_from_server, are_from_server, AreDrawn}
 use Rattle.jn_msgs.specs.declared.message.Message.TheVariants as messages
-use Rattle.jn_msgs.specs.declared.message.Vote.{Vote}
 use Rattle.jn_msgs.specs.declared.message.Vote.TheVariants as votes
-use Rattle.jn_rows.specs.declared.worker.Work.{Work as WorkEntry}
-use Rattle.jn_rows.specs.declared.worker.Phase.{Phase}
 use Rattle.jn_rows.specs.declared.worker.Phase.TheVariants as phases
-use Rattle.jn_rows.specs.declared.coordinator.Transaction.{Transaction}
-use Rattle.jn_rows.specs.declared.coordinator.Stage.{Stage}
-use Rattle.jn_rows.specs.declared.coordinator.Stage.TheVariants.{Open, Voting, Committed, Aborted}
-use Rattle.jn_rows.specs.declared.coordinator.Voting.{Voting as Ballot}
-use Rattle.jn_rows.specs.declared.coordinator.Committed.{Committed as Commitment}
-use Rattle.jn_rows.specs.Stable.{StableState, Change}
-use Rattle.jn_rows.specs.Outcomes.{RowOutcome, Sent}
 use Rattle.jn_rows.specs.Worker.{WorkerTable, WorkStorage, work_at, work_of, open_row, op_row, prepare_row, drop_row, worker_row, worker_step, worker_again}
 use Rattle.jn_rows.specs.Worker as worker
-use Rattle.jn_rows.specs.Coordinator.{CoordinatorTable, transaction_at, all_in, is_work, besides, drops, commits, prepares, commit_row, abort_row, forget_row, begin_new, begin_again, begun_by, begin_row, after_closing, changes_of_closing, seen_now, end_promised, end_stage, end_row, abort_stage, abort_request, told_stage, inquire_row, counted_vote, vote_stage, vote_row, done_stage, done_row, thanks_stage, thanks_row, with_work, coordinator_row, told_again, coordinator_again}
-use Rattle.jn_within.specs.Taking.{is_from_server, are_from_server}
-use Rattle.jn_within.specs.Drawing.{AreDrawn}
 
 -- ---- lists of messages
 

@@ -1,23 +1,6 @@
 -- The rows of a server, as those of its two tables.
-use Rattle.std.proofs.Common.{◌≡◌, ℕ, Bool, true, false, List, [], ◌∷◌, take, zero, suc, Option, Some, None, refl, sym, ◌∙◌, ap, subst, arith}
-use Rattle.std.specs.Prelude.{◌&&◌, if◌then◌else◌}
-use Rattle.jn_base.specs.declared.names.ServerNo.{ServerNo}
-use Rattle.jn_base.specs.declared.names.Tid.{Tid}
-use Rattle.jn_base.specs.declared.names.WorkId.{WorkId}
-use Rattle.jn_base.specs.declared.names.Tickets.{Tickets}
-use Rattle.jn_base.proofs.Tells.{tid_tells, work_tells}
-use Rattle.jn_msgs.specs.declared.message.Message.{Message}
-use Rattle.jn_rows.specs.Stable.{StableState, Prepared, FlagState, Change, AddReady, MarkGoing, RemoveWork, AddFlag, DropFlag, made_by, made_all}
-use Rattle.jn_rows.specs.Outcomes.{RowOutcome}
+use Rattle.jn_within.proofs.Common.{◌≡◌, ℕ, Bool, true, false, List, [], ◌∷◌, take, zero, suc, Option, Some, None, refl, sym, ◌∙◌, ap, subst, arith, ◌&&◌, if◌then◌else◌, ServerNo, Tid, WorkId, Tickets, tid_tells, work_tells, Message, StableState, Prepared, FlagState, Change, AddReady, MarkGoing, RemoveWork, AddFlag, DropFlag, made_by, made_all, RowOutcome, coordinator_row, coordinator_again, close_clients_row, restored_transaction, restored_transactions, Memory, Room, storage_of, server_row, server_step, server_again, server_timeout, of_worker, of_coordinator, of_step, of_timeout, is_for_worker, restored, are_from_server, AreDrawn, is_few, is_near, are_both_near, names_near, are_within, are_works_within, are_transactions_within, is_change_within, are_changes_within, StateWithin, MemoryWithin, RowWithin}
 use Rattle.jn_rows.specs.Worker.{WorkerTable, work_of, worker_row, worker_step, worker_again, timed_out, restored_work, restored_worker}
-use Rattle.jn_rows.specs.Coordinator.{coordinator_row, coordinator_again, close_clients_row, restored_transaction, restored_transactions}
-use Rattle.jn_system.specs.WholeSystem.World.{Memory}
-use Rattle.jn_system.specs.WholeSystem.Servers.{Room, storage_of, server_row, server_step, server_again, server_timeout, of_worker, of_coordinator, of_step, of_timeout, is_for_worker, restored}
-use Rattle.jn_within.specs.Taking.{are_from_server}
-use Rattle.jn_within.specs.Drawing.{AreDrawn}
-use Rattle.jn_system_settling.specs.Settling.Sizes.{is_few}
-use Rattle.jn_within.specs.Naming.{is_near, are_both_near, names_near, are_within, are_works_within, are_transactions_within, is_change_within, are_changes_within, StateWithin}
-use Rattle.jn_within.specs.Within.{MemoryWithin, RowWithin}
 use Rattle.jn_within.proofs.Sending.{IsPlain, both, worker-plain, step-plain, worker-again-are, coordinator-plain, coordinator-again-are}
 use Rattle.jn_within.proofs.NamedByWorkers.{worker-within, step-within, timeout-within, worker-again-within, more-works}
 use Rattle.jn_within.proofs.NamedByCoordinators.{coordinator-within, close-within, coordinator-again-within, sent-both, more-transactions}

@@ -1,30 +1,7 @@
 -- Each step of the whole system leaves what is named at the servers that there are.
-use Rattle.std.proofs.Common.{◌≡◌, ◌<◌, ℕ, Bool, true, false, List, [], ◌∷◌, ◌++◌, take, zero, suc, Option, Some, None, refl, sym, ◌∙◌, ap, ◌⊎◌, inl, inr, ◌≢◌, subst, arith}
-use Rattle.std.specs.Prelude.{◌&&◌, if◌then◌else◌, slice_get}
-use Rattle.std.proofs.lemmas.Bool.Decides.{nat_tests}
-use Rattle.jn_base.specs.declared.names.ServerNo.{ServerNo}
-use Rattle.jn_base.specs.declared.names.ClientNo.{ClientNo}
-use Rattle.jn_base.specs.declared.names.Tid.{Tid}
-use Rattle.jn_base.specs.declared.names.WorkId.{WorkId}
-use Rattle.jn_base.specs.declared.names.Party.TheVariants.{Client, Server}
-use Rattle.jn_base.specs.Names.{server_eq, client_eq}
-use Rattle.jn_base.proofs.Tells.{server_tells}
-use Rattle.jn_order.specs.Files.{AllFiles}
-use Rattle.jn_msgs.specs.declared.message.Message.{Message}
-use Rattle.jn_rows.specs.declared.client.Outstanding.{Outstanding}
-use Rattle.jn_rows.specs.declared.client.Taken.{Taken}
+use Rattle.jn_within.proofs.Common.{◌≡◌, ◌<◌, ℕ, Bool, true, false, List, [], ◌∷◌, ◌++◌, take, zero, suc, Option, Some, None, refl, sym, ◌∙◌, ap, ◌⊎◌, inl, inr, ◌≢◌, subst, arith, ◌&&◌, if◌then◌else◌, slice_get, nat_tests, ServerNo, ClientNo, Tid, WorkId, Client, Server, server_eq, client_eq, server_tells, AllFiles, Message, Outstanding, Taken, ClientTable, Commanded, Refuses, Sends, take_row, sent_again, close_clients_row, RowOutcome, Sent, StableState, Prepared, FlagState, Pick, made_all, stable, World, Memory, at_server, at_client, new_memory, opening, Room, server_step, server_timeout, of_coordinator, restored, Step, NextEvent, Tell, Again, Deliver, Work, Nudge, Timeout, StopDelivery, StopWork, Crash, Narrow, StopRestart, Restart, Dismiss, CloseClients, after, run, ends, at_memory, handed, work, works, nudge, timeout, crash, narrow, stop_restart, restart, close_clients, took, commanded, sent_now, sent_for, is_near, is_for_near, names_near, is_within, are_within, is_again_within, ClientWithin, CommandWithin, StateWithin, MemoryWithin, RowWithin, Within}
 use Rattle.jn_rows.specs.declared.client.Taken.TheVariants as taken
-use Rattle.jn_rows.specs.Client.{ClientTable, Commanded, Refuses, Sends, take_row, sent_again}
-use Rattle.jn_rows.specs.Coordinator.{close_clients_row}
-use Rattle.jn_rows.specs.Outcomes.{RowOutcome, Sent}
-use Rattle.jn_rows.specs.Stable.{StableState, Prepared, FlagState, Pick, made_all, stable}
 use Rattle.jn_system.specs.SmallSteps.Steps.{with_epoch}
-use Rattle.jn_system.specs.WholeSystem.World.{World, Memory, at_server, at_client, new_memory, opening}
-use Rattle.jn_system.specs.WholeSystem.Servers.{Room, server_step, server_timeout, of_coordinator, restored}
-use Rattle.jn_system.specs.WholeSystem.Steps.{Step, NextEvent, Tell, Again, Deliver, Work, Nudge, Timeout, StopDelivery, StopWork, Crash, Narrow, StopRestart, Restart, Dismiss, CloseClients, after, run, ends, at_memory, handed, work, works, nudge, timeout, crash, narrow, stop_restart, restart, close_clients, took, commanded, sent_now}
-use Rattle.jn_within.specs.Taking.{sent_for}
-use Rattle.jn_within.specs.Naming.{is_near, is_for_near, names_near, is_within, are_within, is_again_within, ClientWithin, CommandWithin, StateWithin}
-use Rattle.jn_within.specs.Within.{MemoryWithin, RowWithin, Within}
 use Rattle.jn_within.proofs.NamedByClients.{new-within, command-within, take-within, over-within}
 use Rattle.jn_within.proofs.NamedByCoordinators.{sent-both}
 use Rattle.jn_within.proofs.ServerRows.{row-within, step-row-within, again-within, timeout-memory-within, close-row-within, changes-within, all-changes-within, restored-within}

@@ -1,17 +1,5 @@
 -- A worker that asks again.
-use Rattle.std.proofs.Common.{◌≡◌, ◌≤◌, ℕ, zero, suc, true, List, [], ◌∷◌, ◌++◌, length, drop, refl, sym, ◌∙◌, ap, arith}
-use Rattle.std.proofs.lemmas.List.{append-nil}
-use Rattle.jn_base.specs.declared.names.WorkId.{WorkId}
-use Rattle.jn_base.specs.Names.{work_eq}
-use Rattle.jn_msgs.specs.Collected.{Collected}
-use Rattle.jn_rows.specs.declared.worker.Work.{Work}
-use Rattle.jn_rows.specs.Stable.{StableState, is_going}
-use Rattle.jn_rows.specs.Worker.{worker_again}
-use Rattle.jn_storage.specs.Listing.{is_in}
-use Rattle.jn_storage.specs.Storage.{StorageView}
-use Rattle.jn_storage.specs.Calls.{state}
-use Rattle.jn_worker.specs.Fitting.{WorkerView, Fits}
-use Rattle.jn_worker.specs.Calls.{asked_again, AsksAgain}
+use Rattle.jn_worker.proofs.Common.{◌≡◌, ◌≤◌, ℕ, zero, suc, true, List, [], ◌∷◌, ◌++◌, length, drop, refl, sym, ◌∙◌, ap, arith, append-nil, WorkId, work_eq, Collected, Work, StableState, is_going, worker_again, is_in, StorageView, state, WorkerView, Fits, asked_again, AsksAgain}
 
 again_same : (x : StableState) (going : List WorkId) (ws : List Work) → ((W : WorkId) → is_in work_eq W going ≡ is_going (x.works W)) → asked_again going ws ≡ worker_again x ws
 again_same x going [] h = refl

@@ -1,32 +1,7 @@
 -- A work that is to be prepared goes together with those that are.
-use Rattle.std.proofs.Common.{◌≡◌, ◌≢◌, ◌≤◌, ◌+◌, Bool, true, false, not, List, [], ◌∷◌, Option, Some, None, map, length, if◌then◌else◌, refl, sym, ◌∙◌, ap, subst, arith, true≢false}
-use Rattle.std.specs.Prelude.{◌&&◌, ◌||◌, is_some}
-use Rattle.jn_base.specs.declared.names.LockUnit.{LockUnit}
-use Rattle.jn_base.specs.declared.names.WorkId.{WorkId}
-use Rattle.jn_base.specs.Names.{work_eq}
-use Rattle.jn_base.proofs.Tells.{work_tells}
-use Rattle.jn_records.specs.declared.work.WorkHead.{WorkHead}
-use Rattle.jn_locks.specs.declared.words.Mode.{Mode}
-use Rattle.jn_locks.specs.declared.words.Mode.TheVariants.{Read, IntentionWrite, Commit}
-use Rattle.jn_locks.specs.Asked.{rebuilt}
-use Rattle.jn_locks.specs.Locks.{Table, IsCompatible, is_unit, unit_eq, together}
-use Rattle.jn_locks.proofs.Orders.{unit_tells}
+use Rattle.jn_worker.proofs.Common.{◌≡◌, ◌≢◌, ◌≤◌, ◌+◌, Bool, true, false, not, List, [], ◌∷◌, Option, Some, None, map, length, if◌then◌else◌, refl, sym, ◌∙◌, ap, subst, arith, true≢false, ◌&&◌, ◌||◌, is_some, LockUnit, WorkId, work_eq, work_tells, WorkHead, Mode, Read, IntentionWrite, Commit, rebuilt, Table, IsCompatible, is_unit, unit_eq, together, unit_tells, Work, Phase, ActiveWork, PreparedWork, Active, Broken, Stored, Prepared, at_work, ready_work, WorkerTable, work_at, wanted, holds, commit_wants, conflict, holder_at, held_by, collides_at, gives_way, LocksMatch, are_rising, is_before, held_in, none-behind, work_is, is_in, are_different, AtMost, IsOrderly, IsPrepared, IsGiven, unit_of, StorageView, state, MayPrepare, listing-more, WorkerView, Fits, WorkFits, PhaseFits, WorkListFits, ListFits, is_stored}
 use Rattle.jn_locks.proofs.Granting.{together_sym}
-use Rattle.jn_rows.specs.declared.worker.Work.{Work}
-use Rattle.jn_rows.specs.declared.worker.Phase.{Phase}
-use Rattle.jn_rows.specs.declared.worker.ActiveWork.{ActiveWork}
-use Rattle.jn_rows.specs.declared.worker.PreparedWork.{PreparedWork}
-use Rattle.jn_rows.specs.declared.worker.Phase.TheVariants.{Active, Broken, Prepared as Stored}
-use Rattle.jn_rows.specs.Stable.{Prepared, at_work, ready_work}
-use Rattle.jn_rows.specs.Worker.{WorkerTable, work_at, wanted, holds, commit_wants, conflict, holder_at, held_by, collides_at, gives_way}
-use Rattle.jn_lock_rows.specs.Matching.{LocksMatch, are_rising, is_before, held_in}
-use Rattle.jn_lock_rows.proofs.Works.{none-behind, work_is}
-use Rattle.jn_storage.specs.Listing.{is_in, are_different, AtMost}
-use Rattle.jn_storage.specs.Orderly.{IsOrderly, IsPrepared, IsGiven, GoTogether, unit_of}
-use Rattle.jn_storage.specs.Storage.{StorageView}
-use Rattle.jn_storage.specs.Calls.{state, MayPrepare}
-use Rattle.jn_storage.proofs.Listings.{listing-more}
-use Rattle.jn_worker.specs.Fitting.{WorkerView, Fits, WorkFits, PhaseFits, WorkListFits, ListFits, is_stored}
+use Rattle.jn_storage.specs.Orderly.{GoTogether}
 use Rattle.jn_worker.proofs.Carried.{written-among}
 
 -- ---- the stored works of a table

@@ -1,39 +1,8 @@
 -- A going work is carried on.
-use Rattle.std.proofs.Common.{◌≡◌, ◌≢◌, Bool, true, false, List, [], ◌∷◌, ◌++◌, Option, Some, None, map, refl, sym, ◌∙◌, ap, subst, arith, true≢false}
-use Rattle.std.specs.Prelude.{Result, Ok, Err, is_some, not, ◌&&◌, ◌||◌, filter, slice_get, if◌then◌else◌}
-use Rattle.std.proofs.lemmas.List.{append-nil}
-use Rattle.jn_base.specs.declared.device.Stopped.{Stopped}
-use Rattle.jn_base.specs.declared.names.Tid.{Tid}
-use Rattle.jn_base.specs.declared.names.Tickets.{Tickets}
-use Rattle.jn_base.specs.declared.names.WorkId.{WorkId}
-use Rattle.jn_base.specs.declared.names.LockUnit.{LockUnit}
-use Rattle.jn_base.specs.declared.names.Party.TheVariants.{Server}
-use Rattle.jn_base.specs.Names.{work_eq}
-use Rattle.jn_base.proofs.Tells.{work_tells}
-use Rattle.jn_order.specs.Files.{change}
-use Rattle.jn_records.specs.declared.intention.Intention.{Intention}
-use Rattle.jn_records.specs.NetLists.{intention_change}
-use Rattle.jn_locks.specs.declared.words.Mode.TheVariants.{Read, Commit}
-use Rattle.jn_locks.specs.Locks.{Table, IsCompatible, is_unit, unit_eq}
-use Rattle.jn_locks.proofs.Orders.{unit_tells}
-use Rattle.jn_msgs.specs.Collected.{Collected}
+use Rattle.jn_worker.proofs.Common.{◌≡◌, ◌≢◌, Bool, true, false, List, [], ◌∷◌, ◌++◌, Option, Some, None, map, refl, sym, ◌∙◌, ap, subst, arith, true≢false, Result, Ok, Err, is_some, ◌&&◌, ◌||◌, filter, slice_get, append-nil, Stopped, Tid, Tickets, WorkId, LockUnit, Server, work_eq, work_tells, change, Intention, intention_change, Read, Commit, Table, IsCompatible, is_unit, unit_eq, unit_tells, Collected, Work, Phase, ActiveWork, Active, Broken, Stored, Prepared, CarryOut, RemoveWork, made_by, is_going, WorkerTable, work_at, without, new_work, carried_row, holds, LocksMatch, are_rising, held_in, is_in, unit_of, StorageView, intentions, state, IsGoing, next_of, StepApplied, CountsOn, WorkRemoved, WorkerFault, Stops, Memory, WorkerView, Fits, TicketsFit, WorkFits, PhaseFits, WorkListFits, ListFits, are_written, Takes}
+use Rattle.std.specs.Prelude.{not, if◌then◌else◌}
 use Rattle.jn_msgs.specs.declared.message.Message.TheVariants as messages
-use Rattle.jn_rows.specs.declared.worker.Work.{Work}
-use Rattle.jn_rows.specs.declared.worker.Phase.{Phase}
-use Rattle.jn_rows.specs.declared.worker.ActiveWork.{ActiveWork}
-use Rattle.jn_rows.specs.declared.worker.Phase.TheVariants.{Active, Broken, Prepared as Stored}
-use Rattle.jn_rows.specs.Stable.{Prepared, CarryOut, RemoveWork, made_by, is_going}
-use Rattle.jn_rows.specs.Worker.{WorkerTable, work_at, without, new_work, carried_row, holds}
-use Rattle.jn_lock_rows.specs.Matching.{LocksMatch, are_rising, held_in}
-use Rattle.jn_storage.specs.Listing.{is_in}
-use Rattle.jn_storage.specs.Orderly.{unit_of}
-use Rattle.jn_storage.specs.Storage.{StorageView, intentions}
-use Rattle.jn_storage.specs.Calls.{state, IsGoing, next_of, StepApplied, CountsOn, WorkRemoved}
 use Rattle.jn_storage.proofs.Kept.{AreApart, prepared-carried}
-use Rattle.jn_worker.specs.declared.words.WorkerFault.{WorkerFault}
-use Rattle.jn_worker.specs.declared.words.WorkerFault.TheVariants.{Stopped as Stops, Memory}
-use Rattle.jn_worker.specs.Fitting.{WorkerView, Fits, TicketsFit, WorkFits, PhaseFits, WorkListFits, ListFits, are_written}
-use Rattle.jn_worker.specs.Calls.{Takes}
 use Rattle.jn_worker.proofs.Counts.{counts_on, counts_off}
 use Rattle.jn_worker.proofs.Exits.{one_stopped, one_untold, one_made}
 use Rattle.jn_worker.proofs.Fit.{name-later, fits_removed, tickets_removed}

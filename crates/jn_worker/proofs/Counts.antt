@@ -1,24 +1,7 @@
 -- What a row's changes leave of the accounts.
-use Rattle.std.proofs.Common.{◌≡◌, ℕ, Bool, true, false, List, [], ◌∷◌, length, Option, Some, None, if◌then◌else◌, refl, sym, ◌∙◌, ap, subst, arith, inl, inr}
-use Rattle.std.specs.Prelude.{not, ◌+◌, ◌⊎◌, ◌||◌}
+use Rattle.jn_worker.proofs.Common.{◌≡◌, ℕ, Bool, true, false, List, [], ◌∷◌, length, Option, Some, None, if◌then◌else◌, refl, sym, ◌∙◌, ap, subst, arith, inl, inr, ◌||◌, LockUnit, Tid, WorkId, work_eq, work_is, Intention, Need, WorkHead, ActiveWork, Active, Change, StableState, Prepared, AddReady, CarryOut, RemoveWork, next_after, IsActive, is_in, Accounts, StorageView, intentions, list_of, state, with_work, CountsOn, CountsOff, CountsErased, is_none, WorkerView, Fits, WorkFits, PhaseFits, CountsBy}
+use Rattle.std.specs.Prelude.{not, ◌+◌, ◌⊎◌}
 use Rattle.std.proofs.Math.Path.{fun_ext}
-use Rattle.jn_base.specs.declared.names.LockUnit.{LockUnit}
-use Rattle.jn_base.specs.declared.names.Tid.{Tid}
-use Rattle.jn_base.specs.declared.names.WorkId.{WorkId}
-use Rattle.jn_base.specs.Names.{work_eq}
-use Rattle.jn_lock_rows.proofs.Works.{work_is}
-use Rattle.jn_records.specs.declared.intention.Intention.{Intention}
-use Rattle.jn_records.specs.declared.net_list.Need.{Need}
-use Rattle.jn_records.specs.declared.work.WorkHead.{WorkHead}
-use Rattle.jn_rows.specs.declared.worker.ActiveWork.{ActiveWork}
-use Rattle.jn_rows.specs.declared.worker.Phase.TheVariants.{Active}
-use Rattle.jn_rows.specs.Stable.{Change, StableState, Prepared, AddReady, CarryOut, RemoveWork, next_after}
-use Rattle.jn_lock_rows.specs.Calls.{IsActive}
-use Rattle.jn_storage.specs.Listing.{is_in}
-use Rattle.jn_storage.specs.Storage.{Accounts, StorageView, intentions, list_of}
-use Rattle.jn_storage.specs.Calls.{state, with_work, CountsOn, CountsOff, CountsErased}
-use Rattle.jn_worker.specs.Fitting.{is_none, WorkerView, Fits, WorkFits, PhaseFits}
-use Rattle.jn_worker.specs.Calls.{CountsBy}
 use Rattle.jn_worker.specs.Leaving.{left_by}
 
 pub filled : {c : Change} {cs : List Change} → c ∷ cs ≡ [] → ⊥

@@ -1,25 +1,6 @@
 -- A work whose transaction's outcome is known.
-use Rattle.std.proofs.Common.{◌≡◌, Bool, true, false, List, [], ◌∷◌, ◌++◌, Option, Some, refl, sym, ◌∙◌, ap, subst, arith, ◌⊎◌, inl, inr}
-use Rattle.std.specs.Prelude.{Ok, is_some, not, ◌&&◌}
-use Rattle.jn_base.proofs.Tells.{work_tells}
-use Rattle.std.proofs.lemmas.List.{append-nil}
-use Rattle.jn_base.specs.declared.names.Tid.{Tid}
-use Rattle.jn_base.specs.declared.names.Tickets.{Tickets}
-use Rattle.jn_base.specs.declared.names.WorkId.{WorkId}
-use Rattle.jn_base.specs.Names.{work_eq}
-use Rattle.jn_msgs.specs.Collected.{Collected}
-use Rattle.jn_rows.specs.declared.worker.Work.{Work}
-use Rattle.jn_rows.specs.declared.worker.Phase.{Phase}
-use Rattle.jn_rows.specs.declared.worker.Phase.TheVariants.{Active, Broken, Prepared as Stored}
-use Rattle.jn_rows.specs.Outcomes.{RowOutcome, quiet}
-use Rattle.jn_rows.specs.Stable.{MarkGoing, RemoveWork, is_going}
-use Rattle.jn_rows.specs.Worker.{WorkerTable, WorkStorage, work_at, commit_row, commit_phase, drop_row, drop_phase, without}
-use Rattle.jn_storage.specs.Listing.{is_in}
-use Rattle.jn_storage.specs.Storage.{StorageView}
-use Rattle.jn_storage.specs.Calls.{state, MarkedGoing, WorkRemoved}
-use Rattle.jn_worker.specs.Fitting.{WorkerView, Fits, is_stored, seen}
-use Rattle.jn_worker.specs.Calls.{Takes}
-use Rattle.jn_lock_rows.specs.Matching.{are_rising}
+use Rattle.jn_worker.proofs.Common.{◌≡◌, Bool, true, false, List, [], ◌∷◌, ◌++◌, Option, Some, refl, sym, ◌∙◌, ap, subst, arith, ◌⊎◌, inl, inr, Ok, is_some, ◌&&◌, work_tells, append-nil, Tid, Tickets, WorkId, work_eq, Collected, Work, Phase, Active, Broken, Stored, RowOutcome, quiet, MarkGoing, RemoveWork, is_going, WorkerTable, WorkStorage, work_at, commit_row, commit_phase, drop_row, drop_phase, without, is_in, StorageView, state, MarkedGoing, WorkRemoved, WorkerView, Fits, is_stored, seen, Takes, are_rising}
+use Rattle.std.specs.Prelude.{not}
 use Rattle.jn_worker.proofs.Counts.{counts_same, counts_off, left_only, filled}
 use Rattle.jn_worker.proofs.Exits.{without_change, one_made}
 use Rattle.jn_worker.proofs.Fit.{ready_here, fits_marked, tickets_marked, fits_let_go, tickets_let_go, fits_removed, tickets_removed}

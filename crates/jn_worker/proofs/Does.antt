@@ -1,30 +1,6 @@
 -- An operation that is performed meets its row.
-use Rattle.std.proofs.lemmas.Bool.Decides.{nat_tests}
-use Rattle.std.proofs.Common.{◌≡◌, ◌<◌, ◌+◌, ℕ, true, [], ◌∷◌, ◌++◌, length, Option, Some, None, if◌then◌else◌, refl, sym, ◌∙◌, ap, subst, arith}
-use Rattle.std.specs.Prelude.{Ok, nat_eq}
-use Rattle.jn_base.specs.declared.names.ClientNo.{ClientNo}
-use Rattle.jn_base.specs.declared.names.Party.TheVariants.{Client}
-use Rattle.jn_base.specs.declared.names.Tid.{Tid}
-use Rattle.jn_base.specs.declared.names.Tickets.{Tickets}
-use Rattle.jn_base.specs.declared.names.WorkId.{WorkId}
-use Rattle.jn_base.specs.declared.op.Answer.{Answer}
-use Rattle.jn_base.specs.declared.op.Op.{Op}
-use Rattle.jn_msgs.specs.Collected.{Collected}
+use Rattle.jn_worker.proofs.Common.{nat_tests, ◌≡◌, ◌<◌, ◌+◌, ℕ, true, [], ◌∷◌, ◌++◌, length, Option, Some, None, if◌then◌else◌, refl, sym, ◌∙◌, ap, subst, arith, Ok, nat_eq, ClientNo, Client, Tid, Tickets, WorkId, Answer, Op, Collected, answer_to, change, list_change, length_with, block_of, Read, ActiveWork, Active, ignored, Prepared, work_at, with_phase, after_grant, op_row, op_phase, performed, repeated, granted_row, refusal_of, past_limit, first_of_two, locked, conflict, wants_of, with_units, units_for, is_fit, counted, done, IsActive, found-name, StorageView, state, WorkerView, Fits, TicketsFit, WorkFits, PhaseFits, WorkListFits, ListFits, ActiveFits, Takes, Settles, settled, told_breaks, told_of}
 use Rattle.jn_msgs.specs.declared.message.Message.TheVariants as messages
-use Rattle.jn_order.specs.Files.{answer_to, change}
-use Rattle.jn_records.specs.NetLists.{list_change, length_with, block_of}
-use Rattle.jn_locks.specs.declared.words.Mode.TheVariants.{Read}
-use Rattle.jn_rows.specs.declared.worker.ActiveWork.{ActiveWork}
-use Rattle.jn_rows.specs.declared.worker.Phase.TheVariants.{Active}
-use Rattle.jn_rows.specs.Outcomes.{ignored}
-use Rattle.jn_rows.specs.Stable.{Prepared}
-use Rattle.jn_rows.specs.Worker.{work_at, with_phase, after_grant, op_row, op_phase, performed, repeated, granted_row, refusal_of, past_limit, first_of_two, locked, conflict, wants_of, with_units, units_for, is_fit, counted, done}
-use Rattle.jn_lock_rows.specs.Calls.{IsActive}
-use Rattle.jn_lock_rows.proofs.Works.{found-name}
-use Rattle.jn_storage.specs.Storage.{StorageView}
-use Rattle.jn_storage.specs.Calls.{state}
-use Rattle.jn_worker.specs.Fitting.{WorkerView, Fits, TicketsFit, WorkFits, PhaseFits, WorkListFits, ListFits, ActiveFits}
-use Rattle.jn_worker.specs.Calls.{Takes, Settles, settled, told_breaks, told_of}
 use Rattle.jn_worker.proofs.Exits.{without_change}
 use Rattle.jn_worker.proofs.Fit.{fits_phase, tickets_phase}
 use Rattle.jn_worker.proofs.Granted.{fits_broken, tickets_broken, granted_itself}

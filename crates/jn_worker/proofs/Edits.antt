@@ -1,15 +1,5 @@
 -- The first work of a transaction, or that is going, is found by its name.
-use Rattle.std.proofs.Common.{◌≡◌, true, false, List, [], ◌∷◌, Bool, Some, if◌then◌else◌, refl, sym, ◌∙◌, ap, subst, arith}
-use Rattle.std.specs.Prelude.{◌&&◌}
-use Rattle.jn_base.specs.declared.names.Tid.{Tid}
-use Rattle.jn_base.specs.declared.names.WorkId.{WorkId}
-use Rattle.jn_base.specs.Names.{tid_eq, work_eq}
-use Rattle.jn_rows.specs.declared.worker.Work.{Work}
-use Rattle.jn_rows.specs.Worker.{work_at, work_of}
-use Rattle.jn_lock_rows.specs.Matching.{are_rising, is_before}
-use Rattle.jn_lock_rows.proofs.Works.{work_same, not-before, found-behind}
-use Rattle.jn_storage.specs.Listing.{is_in}
-use Rattle.jn_works.specs.Changing.{going_in}
+use Rattle.jn_worker.proofs.Common.{◌≡◌, true, false, List, [], ◌∷◌, Bool, Some, if◌then◌else◌, refl, sym, ◌∙◌, ap, subst, arith, ◌&&◌, Tid, WorkId, tid_eq, work_eq, Work, work_at, work_of, are_rising, is_before, work_same, not-before, found-behind, is_in, going_in}
 
 same : (x w : Work) → Some x ≡ Some w → x ≡ w
 same x w h = cc

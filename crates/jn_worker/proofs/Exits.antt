@@ -1,20 +1,8 @@
 -- The exits of a call that does one message.
-use Rattle.std.proofs.Common.{◌≡◌, ◌≤◌, ℕ, Bool, true, false, List, [], ◌∷◌, ◌++◌, refl, sym, ◌∙◌, ap, subst, arith, inl, inr}
-use Rattle.std.specs.Prelude.{Result, Ok, Err, not}
-use Rattle.std.specs.Result.{IsErr, IsErrAnd}
-use Rattle.std.proofs.lemmas.Result.{err_from_is_err_and}
-use Rattle.jn_base.specs.declared.names.Tickets.{Tickets}
-use Rattle.jn_msgs.specs.Collected.{Collected}
-use Rattle.jn_rows.specs.Outcomes.{RowOutcome}
-use Rattle.jn_rows.specs.Stable.{StableState, Change, Changed, ChangedAll, Pick}
-use Rattle.jn_rows.specs.Worker.{WorkerTable}
-use Rattle.jn_storage.specs.Storage.{StorageView, IsServing}
-use Rattle.jn_storage.specs.Calls.{state, Called}
+use Rattle.jn_worker.proofs.Common.{◌≡◌, ◌≤◌, ℕ, Bool, true, false, List, [], ◌∷◌, ◌++◌, refl, sym, ◌∙◌, ap, subst, arith, inl, inr, Result, Ok, Err, IsErr, IsErrAnd, err_from_is_err_and, Tickets, Collected, RowOutcome, StableState, Change, Changed, ChangedAll, Pick, WorkerTable, StorageView, IsServing, state, Called, WorkerFault, Memory, WorkerView, Fits, TicketsFit, Takes, CountsBy, has_stopped}
+use Rattle.std.specs.Prelude.{not}
 use Rattle.jn_storage.proofs.Laws.{called_not}
-use Rattle.jn_worker.specs.declared.words.WorkerFault.{WorkerFault}
-use Rattle.jn_worker.specs.declared.words.WorkerFault.TheVariants.{Stopped, Memory}
-use Rattle.jn_worker.specs.Fitting.{WorkerView, Fits, TicketsFit}
-use Rattle.jn_worker.specs.Calls.{Takes, CountsBy, has_stopped}
+use Rattle.jn_worker.specs.declared.words.WorkerFault.TheVariants.{Stopped}
 use Rattle.jn_worker.proofs.Counts.{counts_kept}
 
 pub none-made : (x : StableState) (changes : List Change) (found : Pick → StableState) → ((c : Pick) → found c ≡ x) → ChangedAll x changes false found

@@ -1,46 +1,11 @@
 -- An operation whose answer is a stored block.
-use Rattle.std.proofs.Common.{◌≡◌, ◌<◌, ◌+◌, ℕ, Bool, true, false, not, List, [], ◌∷◌, ◌++◌, length, take, Option, Some, None, Result, Ok, Err, if◌then◌else◌, refl, sym, ◌∙◌, ap, subst, arith, true≢false}
-use Rattle.std.specs.Prelude.{◌&&◌, is_some}
-use Rattle.std.specs.Result.{IsErrAnd}
-use Rattle.std.proofs.lemmas.Result.{err_from_is_err_and}
-use Rattle.std.proofs.lemmas.List.{take_at}
+use Rattle.jn_worker.proofs.Common.{◌≡◌, ◌<◌, ◌+◌, ℕ, Bool, true, false, not, List, [], ◌∷◌, ◌++◌, length, take, Option, Some, None, if◌then◌else◌, refl, sym, ◌∙◌, ap, subst, arith, true≢false, ◌&&◌, is_some, IsErrAnd, err_from_is_err_and, take_at, ClientNo, Client, Tid, Tickets, WorkId, Answer, Did, Op, Create, Remove, CutBlocks, ReadOp, WriteOp, work_eq, Collected, Files, answer_to, change, Intention, list_change, length_with, block_of, answered, intention_for, Read, IntentionWrite, Active, ActiveWork, RowOutcome, WorkerTable, work_at, with_phase, after_grant, break_notes, op_row, conflict, locked, wants_of, with_units, units_for, is_fit, past_limit, first_of_two, refusal_of, list_with, counted, done, IsActive, rephased, is_in, StorageView, IsServing, state, Viewed, reads_stored, served, WorkerFault, Stops, Memory, WorkerView, Fits, is_active, is_active_phase, tallied, Takes, CountsBy, Settles, has_stopped, unseen, ReadSettles, OnlyReads, answer_now, asks_now, asks_in, asks_for, is_unknown, rephased-is}
+use Rattle.std.proofs.Common.{Result, Ok, Err}
 use Rattle.std.proofs.Math.Seq.{take-length}
 use Rattle.jn_storage.specs.declared.faults.ViewFault.{ViewFault}
 use Rattle.jn_storage.specs.declared.faults.ViewFault.TheVariants.{Stopped as NotSeen, Memory as NoBytes}
-use Rattle.jn_base.specs.declared.names.ClientNo.{ClientNo}
-use Rattle.jn_base.specs.declared.names.Party.TheVariants.{Client}
-use Rattle.jn_base.specs.declared.names.Tid.{Tid}
-use Rattle.jn_base.specs.declared.names.Tickets.{Tickets}
-use Rattle.jn_base.specs.declared.names.WorkId.{WorkId}
-use Rattle.jn_base.specs.declared.op.Answer.{Answer}
-use Rattle.jn_base.specs.declared.op.Answer.TheVariants.{Did}
-use Rattle.jn_base.specs.declared.op.Op.{Op}
-use Rattle.jn_base.specs.declared.op.Op.TheVariants.{Create, Remove, Cut as CutBlocks, Read as ReadOp, Write as WriteOp}
-use Rattle.jn_base.specs.Names.{work_eq}
-use Rattle.jn_msgs.specs.Collected.{Collected}
 use Rattle.jn_msgs.specs.declared.message.Message.TheVariants as messages
 use Rattle.jn_msgs.specs.declared.message.Note.{Note}
-use Rattle.jn_order.specs.Files.{Files, answer_to, change}
-use Rattle.jn_records.specs.declared.intention.Intention.{Intention}
-use Rattle.jn_records.specs.NetLists.{list_change, length_with, block_of, answered}
-use Rattle.jn_records.specs.NetEdits.{intention_for}
-use Rattle.jn_locks.specs.declared.words.Mode.TheVariants.{Read, IntentionWrite}
-use Rattle.jn_rows.specs.declared.worker.Phase.TheVariants.{Active}
-use Rattle.jn_rows.specs.declared.worker.ActiveWork.{ActiveWork}
-use Rattle.jn_rows.specs.Outcomes.{RowOutcome}
-use Rattle.jn_rows.specs.Worker.{WorkerTable, work_at, with_phase, after_grant, break_notes, op_row, conflict, locked, wants_of, with_units, units_for, is_fit, past_limit, first_of_two, refusal_of, list_with, counted, done}
-use Rattle.jn_lock_rows.specs.Calls.{IsActive, rephased}
-use Rattle.jn_storage.specs.Listing.{is_in}
-use Rattle.jn_storage.specs.Storage.{StorageView, IsServing}
-use Rattle.jn_storage.specs.Calls.{state}
-use Rattle.jn_storage.specs.Viewing.{Viewed, reads_stored, served}
-use Rattle.jn_worker.specs.declared.words.WorkerFault.{WorkerFault}
-use Rattle.jn_worker.specs.declared.words.WorkerFault.TheVariants.{Stopped as Stops, Memory}
-use Rattle.jn_worker.specs.Fitting.{WorkerView, Fits, is_active, is_active_phase}
-use Rattle.jn_works.specs.Changing.{tallied}
-use Rattle.jn_worker.specs.Calls.{Takes, CountsBy, Settles, has_stopped, unseen}
-use Rattle.jn_worker.specs.Reading.{ReadSettles, OnlyReads, answer_now, asks_now, asks_in, asks_for, is_unknown}
-use Rattle.jn_lock_rows.proofs.Edits.{rephased-is}
 use Rattle.jn_worker.proofs.Exits.{none-made, called-within}
 use Rattle.jn_worker.proofs.Granted.{granted_itself}
 use Rattle.jn_worker.proofs.Operated.{at-with}

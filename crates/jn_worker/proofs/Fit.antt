@@ -1,24 +1,6 @@
 -- The works and the storage still fit after a change.
-use Rattle.std.proofs.Common.{◌≡◌, ◌≤◌, Bool, true, false, not, List, [], ◌∷◌, ◌++◌, length, Option, Some, None, if◌then◌else◌, refl, sym, ◌∙◌, ap, subst, arith}
-use Rattle.std.specs.Prelude.{◌&&◌, ◌||◌, is_some}
-use Rattle.jn_base.specs.declared.names.Tickets.{Tickets}
-use Rattle.jn_base.specs.declared.names.WorkId.{WorkId}
-use Rattle.jn_base.specs.Names.{work_eq}
-use Rattle.jn_base.proofs.Tells.{work_tells}
-use Rattle.jn_order.specs.Files.{Files}
-use Rattle.jn_locks.specs.Locks.{work_before}
-use Rattle.jn_rows.specs.declared.worker.Work.{Work}
-use Rattle.jn_rows.specs.declared.worker.Phase.{Phase}
-use Rattle.jn_rows.specs.declared.worker.Phase.TheVariants.{Active, Broken, Prepared as Stored}
-use Rattle.jn_rows.specs.Stable.{Prepared, MarkGoing, RemoveWork, made_by, at_work, gone_on, is_ready, is_going}
-use Rattle.jn_rows.specs.Worker.{WorkerTable, work_at, without, with_phase, vulnerable, name_from}
-use Rattle.jn_lock_rows.specs.Matching.{are_rising, is_after}
-use Rattle.jn_lock_rows.proofs.Works.{at-less, in_phase, at-phase}
+use Rattle.jn_worker.proofs.Common.{◌≡◌, ◌≤◌, Bool, true, false, not, List, [], ◌∷◌, ◌++◌, length, Option, Some, None, if◌then◌else◌, refl, sym, ◌∙◌, ap, subst, arith, ◌&&◌, ◌||◌, is_some, Tickets, WorkId, work_eq, work_tells, Files, work_before, Work, Phase, Active, Broken, Stored, Prepared, MarkGoing, RemoveWork, made_by, at_work, gone_on, is_ready, is_going, WorkerTable, work_at, without, with_phase, vulnerable, name_from, are_rising, is_after, at-less, in_phase, at-phase, is_in, StorageView, state, IsReady, MarkedGoing, WorkRemoved, WorkerView, Fits, TicketsFit, WorkFits, PhaseFits, WorkListFits, ListFits, NameFits, is_stored}
 use Rattle.std.proofs.lemmas.Bool.{true≢false}
-use Rattle.jn_storage.specs.Listing.{is_in}
-use Rattle.jn_storage.specs.Storage.{StorageView}
-use Rattle.jn_storage.specs.Calls.{state, IsReady, MarkedGoing, WorkRemoved}
-use Rattle.jn_worker.specs.Fitting.{WorkerView, Fits, TicketsFit, WorkFits, PhaseFits, WorkListFits, ListFits, NameFits, is_stored}
 
 -- ---- marked
 

@@ -1,22 +1,5 @@
 -- The works and the storage still fit after a grant.
-use Rattle.std.proofs.Common.{◌≡◌, Bool, true, false, not, List, [], ◌∷◌, length, Option, Some, None, if◌then◌else◌, refl, sym, ◌∙◌, ap, subst, arith}
-use Rattle.std.specs.Prelude.{◌&&◌, is_some}
-use Rattle.jn_base.specs.declared.names.LockUnit.{LockUnit}
-use Rattle.jn_base.specs.declared.names.Tid.{Tid}
-use Rattle.jn_base.specs.declared.names.Tickets.{Tickets}
-use Rattle.jn_base.specs.declared.names.WorkId.{WorkId}
-use Rattle.jn_base.specs.Names.{work_eq}
-use Rattle.jn_order.specs.Files.{Files}
-use Rattle.jn_rows.specs.declared.worker.Work.{Work}
-use Rattle.jn_rows.specs.declared.worker.Phase.{Phase}
-use Rattle.jn_rows.specs.declared.worker.Phase.TheVariants.{Active, Broken, Prepared as Stored}
-use Rattle.jn_rows.specs.Stable.{Prepared}
-use Rattle.jn_rows.specs.Worker.{Wanted, WorkerTable, work_at, after_grant, breaks_at, broken_by, gives_way, collision, name_from}
-use Rattle.jn_lock_rows.specs.Matching.{is_after}
-use Rattle.jn_lock_rows.proofs.Works.{at-grant, once_granted, work_same, found-name}
-use Rattle.jn_storage.specs.Storage.{StorageView}
-use Rattle.jn_storage.specs.Calls.{state}
-use Rattle.jn_worker.specs.Fitting.{WorkerView, Fits, TicketsFit, WorkFits, PhaseFits, WorkListFits, ListFits}
+use Rattle.jn_worker.proofs.Common.{◌≡◌, Bool, true, false, not, List, [], ◌∷◌, length, Option, Some, None, if◌then◌else◌, refl, sym, ◌∙◌, ap, subst, arith, ◌&&◌, is_some, LockUnit, Tid, Tickets, WorkId, work_eq, Files, Work, Phase, Active, Broken, Stored, Prepared, Wanted, WorkerTable, work_at, after_grant, breaks_at, broken_by, gives_way, collision, name_from, is_after, at-grant, once_granted, work_same, found-name, StorageView, state, WorkerView, Fits, TicketsFit, WorkFits, PhaseFits, WorkListFits, ListFits}
 
 name-kept : (T : Tid) (o : Option LockUnit) (v : Work) → (broken_by T o v).name ≡ v.name
 name-kept T None v = refl

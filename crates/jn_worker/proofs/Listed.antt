@@ -1,22 +1,7 @@
 -- An active work could still be prepared after one more operation.
-use Rattle.std.proofs.Common.{◌≡◌, ◌<◌, zero, suc, Bool, true, false, not, List, [], ◌∷◌, ◌++◌, take, drop, length, Option, Some, None, if◌then◌else◌, refl, sym, ◌∙◌, ap, subst, arith}
-use Rattle.std.specs.Prelude.{◌&&◌, ◌||◌, is_some, filter, nat_lt}
-use Rattle.std.specs.List.{list_all}
-use Rattle.std.proofs.lemmas.Bool.Decides.{nat_tests}
-use Rattle.jn_base.specs.declared.names.FileNo.{FileNo}
-use Rattle.jn_base.specs.declared.names.LockUnit.{LockUnit}
-use Rattle.jn_base.specs.declared.names.LockUnit.TheVariants.{File, Block}
-use Rattle.jn_base.specs.declared.op.Op.{Op}
-use Rattle.jn_base.specs.declared.op.Op.TheVariants.{Create, Remove, Cut as CutBlocks, Read, Write}
-use Rattle.jn_base.specs.Names.{file_eq}
-use Rattle.jn_base.proofs.Tells.{file_tells}
-use Rattle.jn_order.specs.Files.{Files, change, answer_to, file_of}
-use Rattle.jn_records.specs.declared.intention.Intention.{Intention}
-use Rattle.jn_records.specs.NetLists.{InOrder, First, Kept, MadeFresh, TakenAway, CutFrom, FileNet, as_first, entry, net_of, added, file_added, stays, stands_before, is_put, list_change, length_with, block_of}
-use Rattle.jn_records.specs.NetEdits.{there_by, cut_again, intention_for, front, in_its_place}
+use Rattle.jn_worker.proofs.Common.{◌≡◌, ◌<◌, zero, suc, Bool, true, false, not, List, [], ◌∷◌, ◌++◌, take, drop, length, Option, Some, None, if◌then◌else◌, refl, sym, ◌∙◌, ap, subst, arith, ◌&&◌, ◌||◌, is_some, filter, nat_lt, list_all, nat_tests, FileNo, LockUnit, File, Block, Op, Create, Remove, CutBlocks, Write, file_eq, file_tells, Files, change, answer_to, file_of, Intention, InOrder, First, Kept, MadeFresh, TakenAway, CutFrom, FileNet, as_first, entry, net_of, added, file_added, stays, stands_before, is_put, list_change, length_with, block_of, there_by, cut_again, intention_for, front, in_its_place, is_fit, list_with, needs_file, takes_away, first_of, unit_of}
+use Rattle.jn_base.specs.declared.op.Op.TheVariants.{Read}
 use Rattle.jn_records.proofs.EditLemmas.{list-there, edited-in_order, edited-length, unchanged-length, unchanged-net, edited-net}
-use Rattle.jn_rows.specs.Worker.{is_fit, list_with}
-use Rattle.jn_storage.specs.Orderly.{needs_file, takes_away, first_of, unit_of}
 
 first_of_two : (a b : Bool) → (a && b) ≡ true → a ≡ true
 first_of_two a b h = grind (arith, h)

@@ -1,24 +1,5 @@
 -- An active work after one more operation, and after a change that its locks don't see.
-use Rattle.std.proofs.Common.{◌≡◌, ◌≤◌, ◌<◌, ◌+◌, ℕ, Bool, true, false, List, [], ◌∷◌, length, Option, Some, None, if◌then◌else◌, refl, sym, ap, subst, arith}
-use Rattle.std.specs.Prelude.{nat_lt}
-use Rattle.std.specs.List.{list_all}
-use Rattle.std.proofs.lemmas.Bool.Decides.{nat_tests}
-use Rattle.jn_base.specs.declared.names.LockUnit.{LockUnit}
-use Rattle.jn_base.specs.declared.names.LockUnit.TheVariants.{File, Block}
-use Rattle.jn_base.specs.declared.op.Answer.{Answer}
-use Rattle.jn_base.specs.declared.op.Answer.TheVariants.{TooManyReads, TooManyWrites}
-use Rattle.jn_base.specs.declared.op.Op.{Op}
-use Rattle.jn_base.specs.declared.op.Op.TheVariants.{Create, Remove, Cut as CutBlocks, Read as ReadOp, Write as WriteOp}
-use Rattle.jn_order.specs.Files.{Files, change, answer_to, file_of}
-use Rattle.jn_records.specs.declared.intention.Intention.{Intention}
-use Rattle.jn_records.specs.NetLists.{list_change, length_with, block_of}
-use Rattle.jn_records.specs.NetEdits.{intention_for}
-use Rattle.jn_locks.specs.declared.words.Mode.TheVariants.{Read, IntentionWrite}
-use Rattle.jn_locks.specs.Locks.{is_unit}
-use Rattle.jn_rows.specs.declared.worker.ActiveWork.{ActiveWork}
-use Rattle.jn_rows.specs.Worker.{with_units, units_for, wants_of, is_fit, list_with, done, past_limit}
-use Rattle.jn_storage.specs.Orderly.{unit_of, unit_in_range}
-use Rattle.jn_worker.specs.Fitting.{ActiveFits}
+use Rattle.jn_worker.proofs.Common.{◌≡◌, ◌≤◌, ◌<◌, ◌+◌, ℕ, Bool, true, false, List, [], ◌∷◌, length, Option, Some, None, if◌then◌else◌, refl, sym, ap, subst, arith, nat_lt, list_all, nat_tests, LockUnit, File, Block, Answer, TooManyReads, TooManyWrites, Op, Create, Remove, CutBlocks, ReadOp, WriteOp, Files, change, answer_to, file_of, Intention, list_change, length_with, block_of, intention_for, Read, IntentionWrite, is_unit, ActiveWork, with_units, units_for, wants_of, is_fit, list_with, done, past_limit, unit_of, unit_in_range, ActiveFits}
 use Rattle.jn_worker.proofs.Units.{ascends_more, all_more, kept_more, there_one}
 use Rattle.jn_worker.proofs.Listed.{all_after, order_after, length_after, new_file, new_in_range, target, new_unit, there_after, lost_after}
 

@@ -1,32 +1,7 @@
 -- A work is opened.
-use Rattle.std.proofs.Common.{◌≡◌, ◌<◌, ◌+◌, ℕ, Bool, true, false, List, [], ◌∷◌, ◌++◌, Option, Some, None, length, refl, sym, ◌∙◌, ap, subst, arith, true≢false}
-use Rattle.std.specs.Prelude.{Ok, nat_lt, is_some, if◌then◌else◌}
-use Rattle.std.proofs.lemmas.List.{append-nil}
-use Rattle.std.proofs.lemmas.Bool.Decides.{nat_tests}
-use Rattle.jn_base.specs.declared.names.ClientNo.{ClientNo}
-use Rattle.jn_base.specs.declared.names.Tid.{Tid}
-use Rattle.jn_base.specs.declared.names.Tickets.{Tickets}
-use Rattle.jn_base.specs.declared.names.WorkId.{WorkId}
-use Rattle.jn_base.specs.declared.names.Party.TheVariants.{Client}
-use Rattle.jn_base.specs.Names.{work_eq}
-use Rattle.jn_base.proofs.Tells.{work_tells}
-use Rattle.jn_order.specs.Files.{Files}
-use Rattle.jn_locks.specs.Locks.{work_before}
-use Rattle.jn_locks.proofs.Orders.{work_before-irreflexive}
-use Rattle.jn_msgs.specs.Collected.{Collected}
+use Rattle.jn_worker.proofs.Common.{◌≡◌, ◌<◌, ◌+◌, ℕ, Bool, true, false, List, [], ◌∷◌, ◌++◌, Option, Some, None, length, refl, sym, ◌∙◌, ap, subst, arith, true≢false, Ok, nat_lt, is_some, append-nil, nat_tests, ClientNo, Tid, Tickets, WorkId, Client, work_eq, work_tells, Files, work_before, work_before-irreflexive, Collected, Work, sends, Prepared, WorkerTable, work_at, work_of, name_from, new_work, open_row, is_after, at-more, none-front, is_in, IsPrepared, StorageView, state, WorkerView, Fits, TicketsFit, WorkFits, WorkListFits, NameFits, Takes}
+use Rattle.std.specs.Prelude.{if◌then◌else◌}
 use Rattle.jn_msgs.specs.declared.message.Message.TheVariants as messages
-use Rattle.jn_rows.specs.declared.worker.Work.{Work}
-use Rattle.jn_rows.specs.Outcomes.{sends}
-use Rattle.jn_rows.specs.Stable.{Prepared}
-use Rattle.jn_rows.specs.Worker.{WorkerTable, work_at, work_of, name_from, new_work, open_row}
-use Rattle.jn_lock_rows.specs.Matching.{is_after}
-use Rattle.jn_lock_rows.proofs.Works.{at-more, none-front}
-use Rattle.jn_storage.specs.Listing.{is_in}
-use Rattle.jn_storage.specs.Orderly.{IsPrepared}
-use Rattle.jn_storage.specs.Storage.{StorageView}
-use Rattle.jn_storage.specs.Calls.{state}
-use Rattle.jn_worker.specs.Fitting.{WorkerView, Fits, TicketsFit, WorkFits, WorkListFits, NameFits}
-use Rattle.jn_worker.specs.Calls.{Takes}
 use Rattle.jn_worker.proofs.Exits.{without_change}
 
 -- the next name comes after this one

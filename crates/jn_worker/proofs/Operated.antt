@@ -1,34 +1,8 @@
 -- An operation is granted, or refused.
-use Rattle.std.proofs.Common.{◌≡◌, ◌+◌, ℕ, Bool, true, false, List, [], ◌∷◌, ◌++◌, Option, Some, None, if◌then◌else◌, refl, sym, ◌∙◌, ap, subst}
-use Rattle.std.specs.Prelude.{Ok, Result}
-use Rattle.std.proofs.lemmas.List.{append-nil}
-use Rattle.jn_base.specs.declared.names.Tid.{Tid}
-use Rattle.jn_base.specs.declared.names.WorkId.{WorkId}
-use Rattle.jn_base.specs.declared.names.LockUnit.{LockUnit}
-use Rattle.jn_base.specs.declared.op.Answer.{Answer}
-use Rattle.jn_base.specs.declared.op.Answer.TheVariants.{Locked}
-use Rattle.jn_base.specs.declared.op.Op.{Op}
-use Rattle.jn_base.specs.Names.{work_eq}
-use Rattle.jn_msgs.specs.Collected.{Collected}
-use Rattle.jn_msgs.specs.declared.message.Note.TheVariants.{Broke}
-use Rattle.jn_records.specs.declared.intention.Intention.{Intention}
-use Rattle.jn_records.specs.NetEdits.{intention_for, list_after}
-use Rattle.jn_locks.specs.declared.words.Broken.{Broken as BrokenAt}
-use Rattle.jn_locks.specs.declared.words.Mode.TheVariants.{Read, IntentionWrite}
-use Rattle.jn_rows.specs.declared.worker.Work.{Work}
-use Rattle.jn_rows.specs.declared.worker.Phase.{Phase}
-use Rattle.jn_rows.specs.declared.worker.ActiveWork.{ActiveWork}
-use Rattle.jn_rows.specs.declared.worker.Phase.TheVariants.{Active}
-use Rattle.jn_rows.specs.Worker.{work_at, with_phase, after_grant, break_notes, conflict, locked, counted, done, wants_of, with_units, units_for, is_fit, list_with}
+use Rattle.jn_worker.proofs.Common.{◌≡◌, ◌+◌, ℕ, Bool, true, false, List, [], ◌∷◌, ◌++◌, Option, Some, None, if◌then◌else◌, refl, sym, ◌∙◌, ap, subst, Ok, Result, append-nil, Tid, WorkId, LockUnit, Answer, Locked, Op, work_eq, Collected, Broke, Intention, intention_for, list_after, BrokenAt, Read, IntentionWrite, Work, Phase, ActiveWork, Active, work_at, with_phase, after_grant, break_notes, conflict, locked, counted, done, wants_of, with_units, units_for, is_fit, list_with, IsActive, Becomes, Grants, IsRefused, note_if, notes_of, rephased, at-phase, in_phase, work_same, WorkerFault, WorkerView, relisted, tallied, Granted, locked_by, rephased-is}
 use Rattle.jn_lock_rows.specs.declared.grants.Refused.{Refused}
 use Rattle.jn_lock_rows.specs.declared.grants.Refused.TheVariants.{Held as HeldBy, Memory as NotGranted}
-use Rattle.jn_lock_rows.specs.Calls.{IsActive, Becomes, Grants, IsRefused, note_if, notes_of, rephased}
-use Rattle.jn_lock_rows.proofs.Works.{at-phase, in_phase, work_same}
-use Rattle.jn_worker.specs.declared.words.WorkerFault.{WorkerFault}
-use Rattle.jn_worker.specs.Fitting.{WorkerView}
-use Rattle.jn_works.specs.Changing.{relisted, tallied, list_of}
-use Rattle.jn_worker.specs.Calls.{Granted, locked_by}
-use Rattle.jn_lock_rows.proofs.Edits.{rephased-is}
+use Rattle.jn_works.specs.Changing.{list_of}
 use Rattle.jn_worker.proofs.Performed.{conflict_own, grant_own, notes_own, phase_twice}
 use Rattle.jn_worker.proofs.Granted.{granted_itself}
 

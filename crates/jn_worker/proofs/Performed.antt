@@ -1,22 +1,5 @@
 -- An operation that is performed.
-use Rattle.std.proofs.Common.{◌≡◌, ℕ, Bool, true, false, not, List, [], ◌∷◌, ◌++◌, Option, Some, None, if◌then◌else◌, refl, sym, ◌∙◌, ap, arith}
-use Rattle.std.specs.Prelude.{◌&&◌}
-use Rattle.jn_base.specs.declared.names.LockUnit.{LockUnit}
-use Rattle.jn_base.specs.declared.names.Tid.{Tid}
-use Rattle.jn_base.specs.declared.names.WorkId.{WorkId}
-use Rattle.jn_base.specs.declared.op.Answer.{Answer}
-use Rattle.jn_base.specs.Names.{work_eq}
-use Rattle.jn_records.specs.declared.intention.Intention.{Intention}
-use Rattle.jn_locks.specs.declared.words.Mode.{Mode}
-use Rattle.jn_locks.specs.declared.words.Mode.TheVariants.{Read, IntentionWrite, Commit}
-use Rattle.jn_locks.specs.Locks.{Table}
-use Rattle.jn_rows.specs.declared.worker.Work.{Work}
-use Rattle.jn_rows.specs.declared.worker.Phase.{Phase}
-use Rattle.jn_rows.specs.declared.worker.Phase.TheVariants.{Active, Broken, Prepared as Stored}
-use Rattle.jn_rows.specs.Worker.{Wanted, work_at, with_phase, holds, conflict, held_by, holder_at, collides_at, gives_way, collision, breaks_at, broken_by, note_of, after_grant, break_notes}
-use Rattle.jn_lock_rows.specs.Matching.{LocksMatch, held_in, standing_in, standing_of, is_ordered, are_ordered, is_before, are_rising}
-use Rattle.jn_lock_rows.specs.Calls.{rephased}
-use Rattle.jn_works.specs.Changing.{relisted, tallied}
+use Rattle.jn_worker.proofs.Common.{◌≡◌, ℕ, Bool, true, false, not, List, [], ◌∷◌, ◌++◌, Option, Some, None, if◌then◌else◌, refl, sym, ◌∙◌, ap, arith, ◌&&◌, LockUnit, Tid, WorkId, Answer, work_eq, Intention, Mode, Read, IntentionWrite, Commit, Table, Work, Phase, Active, Broken, Stored, Wanted, work_at, with_phase, holds, conflict, held_by, holder_at, collides_at, gives_way, collision, breaks_at, broken_by, note_of, after_grant, break_notes, LocksMatch, held_in, standing_in, standing_of, is_ordered, are_ordered, is_before, are_rising, rephased, relisted, tallied}
 
 -- ---- the locks don't see a change of a phase that keeps what it holds
 

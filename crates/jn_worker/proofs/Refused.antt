@@ -1,30 +1,8 @@
 -- A vote for a work that isn't active.
-use Rattle.std.proofs.Common.{◌≡◌, true, false, List, [], ◌∷◌, ◌++◌, Option, Some, None, refl, sym, ◌∙◌, ap, subst}
-use Rattle.std.specs.Prelude.{Ok, if◌then◌else◌}
-use Rattle.std.proofs.lemmas.List.{append-nil}
-use Rattle.jn_base.specs.declared.names.ClientNo.{ClientNo}
-use Rattle.jn_base.specs.declared.names.Tid.{Tid}
-use Rattle.jn_base.specs.declared.names.Tickets.{Tickets}
-use Rattle.jn_base.specs.declared.names.WorkId.{WorkId}
-use Rattle.jn_base.specs.declared.names.Party.TheVariants.{Server}
-use Rattle.jn_base.specs.Names.{work_eq}
-use Rattle.jn_msgs.specs.Collected.{Collected}
+use Rattle.jn_worker.proofs.Common.{◌≡◌, true, false, List, [], ◌∷◌, ◌++◌, Option, Some, None, refl, sym, ◌∙◌, ap, subst, Ok, append-nil, ClientNo, Tid, Tickets, WorkId, Server, work_eq, Collected, Ignored, Vote, Work, Phase, Active, Broken, Stored, ignored, Prepared, is_going, WorkerTable, WorkStorage, work_at, prepare_row, prepare_phase, voted, found-name, is_in, StorageView, state, WorkerView, Fits, WorkFits, PhaseFits, seen, is_active, is_active_phase, Takes, vote_inactive}
+use Rattle.std.specs.Prelude.{if◌then◌else◌}
 use Rattle.jn_msgs.specs.declared.message.Message.TheVariants as messages
-use Rattle.jn_msgs.specs.declared.message.Note.TheVariants.{Ignored}
-use Rattle.jn_msgs.specs.declared.message.Vote.{Vote}
 use Rattle.jn_msgs.specs.declared.message.Vote.TheVariants as votes
-use Rattle.jn_rows.specs.declared.worker.Work.{Work}
-use Rattle.jn_rows.specs.declared.worker.Phase.{Phase}
-use Rattle.jn_rows.specs.declared.worker.Phase.TheVariants.{Active, Broken, Prepared as Stored}
-use Rattle.jn_rows.specs.Outcomes.{ignored}
-use Rattle.jn_rows.specs.Stable.{Prepared, is_going}
-use Rattle.jn_rows.specs.Worker.{WorkerTable, WorkStorage, work_at, prepare_row, prepare_phase, voted}
-use Rattle.jn_lock_rows.proofs.Works.{found-name}
-use Rattle.jn_storage.specs.Listing.{is_in}
-use Rattle.jn_storage.specs.Storage.{StorageView}
-use Rattle.jn_storage.specs.Calls.{state}
-use Rattle.jn_worker.specs.Fitting.{WorkerView, Fits, WorkFits, PhaseFits, seen, is_active, is_active_phase}
-use Rattle.jn_worker.specs.Calls.{Takes, vote_inactive}
 use Rattle.jn_worker.proofs.Exits.{without_change}
 
 -- a going work is prepared

@@ -1,27 +1,7 @@
 -- An operation of an active work that isn't its next one.
-use Rattle.std.proofs.Common.{◌≡◌, ◌+◌, ℕ, Bool, true, false, [], ◌∷◌, ◌++◌, Option, Some, None, refl, sym, ◌∙◌, ap, subst}
-use Rattle.std.specs.Prelude.{Ok, nat_eq, if◌then◌else◌}
-use Rattle.std.proofs.lemmas.List.{append-nil}
-use Rattle.jn_base.specs.declared.names.ClientNo.{ClientNo}
-use Rattle.jn_base.specs.declared.names.Party.TheVariants.{Client}
-use Rattle.jn_base.specs.declared.names.Tid.{Tid}
-use Rattle.jn_base.specs.declared.names.Tickets.{Tickets}
-use Rattle.jn_base.specs.declared.names.WorkId.{WorkId}
-use Rattle.jn_base.specs.declared.op.Answer.{Answer}
-use Rattle.jn_base.specs.declared.op.Op.{Op}
-use Rattle.jn_msgs.specs.Collected.{Collected}
+use Rattle.jn_worker.proofs.Common.{◌≡◌, ◌+◌, ℕ, Bool, true, false, [], ◌∷◌, ◌++◌, Option, Some, None, refl, sym, ◌∙◌, ap, subst, Ok, nat_eq, append-nil, ClientNo, Client, Tid, Tickets, WorkId, Answer, Op, Collected, Ignored, answer_to, change, list_change, ActiveWork, ignored, work_at, op_row, op_phase, performed, repeated, replies, IsActive, StorageView, state, WorkerView, Fits, is_active, Takes}
+use Rattle.std.specs.Prelude.{if◌then◌else◌}
 use Rattle.jn_msgs.specs.declared.message.Message.TheVariants as messages
-use Rattle.jn_msgs.specs.declared.message.Note.TheVariants.{Ignored}
-use Rattle.jn_order.specs.Files.{answer_to, change}
-use Rattle.jn_records.specs.NetLists.{list_change}
-use Rattle.jn_rows.specs.declared.worker.ActiveWork.{ActiveWork}
-use Rattle.jn_rows.specs.Outcomes.{ignored}
-use Rattle.jn_rows.specs.Worker.{work_at, op_row, op_phase, performed, repeated, replies}
-use Rattle.jn_lock_rows.specs.Calls.{IsActive}
-use Rattle.jn_storage.specs.Storage.{StorageView}
-use Rattle.jn_storage.specs.Calls.{state}
-use Rattle.jn_worker.specs.Fitting.{WorkerView, Fits, is_active}
-use Rattle.jn_worker.specs.Calls.{Takes}
 use Rattle.jn_worker.proofs.Exits.{without_change}
 use Rattle.jn_worker.proofs.Voted.{found_active}
 

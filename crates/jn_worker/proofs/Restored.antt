@@ -1,38 +1,13 @@
 -- The works that are restored.
-use Rattle.std.proofs.Common.{◌≡◌, ◌≤◌, ◌<◌, ◌+◌, ℕ, zero, suc, Bool, true, false, List, [], ◌∷◌, ◌++◌, Option, Some, None, length, map, take, slice_index_or, if◌then◌else◌, refl, sym, ◌∙◌, ap, subst, arith, true≢false}
-use Rattle.std.specs.Prelude.{◌&&◌, ◌||◌, All, is_some}
-use Rattle.std.proofs.lemmas.List.{take_more}
+use Rattle.jn_worker.proofs.Common.{◌≡◌, ◌≤◌, ◌<◌, ◌+◌, ℕ, zero, suc, Bool, true, false, List, [], ◌∷◌, ◌++◌, Option, Some, None, length, map, take, slice_index_or, if◌then◌else◌, refl, sym, ◌∙◌, ap, subst, arith, true≢false, ◌&&◌, ◌||◌, All, is_some, take_more, FileNo, LockUnit, WorkId, work_eq, work_tells, Intention, Table, is_unit, LocksFit, Rebuilds, rebuilt, unit_tells, Work, Stored, PreparedWork, StableState, Prepared, is_going, work_at, written_unit, restored_work, restored_worker, LocksMatch, GoTogether, units_of, is_in, are_different, AtMost, IsOrderly, unit_of, unit_by, StorageView, IsServing, IsRecovered, state, name_of, outline, outline_of, IsTold, TellsWorks, but, is_in-but, length-but, WorkerView, Fits, WorkFits, WorkListFits, are_written, state_of, sorted, IsFor, RestoredTo, Restores}
 use Rattle.std.proofs.lemmas.List.Elements.{All-head, All-tail}
-use Rattle.jn_base.specs.declared.names.FileNo.{FileNo}
 use Rattle.jn_base.specs.declared.names.BlockNo.{BlockNo}
-use Rattle.jn_base.specs.declared.names.LockUnit.{LockUnit}
 use Rattle.jn_base.specs.declared.names.ServerNo.{ServerNo}
-use Rattle.jn_base.specs.declared.names.WorkId.{WorkId}
-use Rattle.jn_base.specs.Names.{work_eq}
-use Rattle.jn_base.proofs.Tells.{work_tells}
-use Rattle.jn_records.specs.declared.intention.Intention.{Intention}
 use Rattle.jn_records.specs.declared.intention.StoredIntention.{StoredIntention}
 use Rattle.jn_records.specs.declared.intention.What.{What}
 use Rattle.jn_records.specs.declared.intention.What.TheVariants.{Fresh, Gone, Cut, Put}
 use Rattle.jn_records.specs.declared.work.WorkState.{WorkState}
-use Rattle.jn_locks.specs.Locks.{Table, is_unit}
-use Rattle.jn_locks.specs.Asked.{LocksFit, Rebuilds, rebuilt}
-use Rattle.jn_locks.proofs.Orders.{unit_tells}
-use Rattle.jn_rows.specs.declared.worker.Work.{Work}
-use Rattle.jn_rows.specs.declared.worker.Phase.TheVariants.{Prepared as Stored}
-use Rattle.jn_rows.specs.declared.worker.PreparedWork.{PreparedWork}
-use Rattle.jn_rows.specs.Stable.{StableState, Prepared, is_going}
-use Rattle.jn_rows.specs.Worker.{work_at, written_unit, restored_work, restored_worker}
-use Rattle.jn_lock_rows.specs.Matching.{LocksMatch, GoTogether, units_of}
 use Rattle.jn_lock_rows.proofs.Restoring.{restored_more, restored_fits, match_restored}
-use Rattle.jn_storage.specs.Listing.{is_in, are_different, AtMost}
-use Rattle.jn_storage.specs.Orderly.{IsOrderly, unit_of, unit_by}
-use Rattle.jn_storage.specs.Storage.{StorageView, IsServing, IsRecovered}
-use Rattle.jn_storage.specs.Calls.{state, name_of, outline, outline_of, IsTold, TellsWorks}
-use Rattle.jn_storage.proofs.Listings.{but, is_in-but, length-but}
-use Rattle.jn_worker.specs.Fitting.{WorkerView, Fits, WorkFits, WorkListFits, are_written}
-use Rattle.jn_works.specs.Sorting.{state_of, sorted}
-use Rattle.jn_worker.specs.Restoring.{IsFor, RestoredTo, Restores}
 use Rattle.jn_worker.proofs.Sorting.{after-front, rise-different, sorted-rise, sorted-in}
 
 -- ---- the units of a listed work

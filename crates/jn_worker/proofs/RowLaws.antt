@@ -1,31 +1,9 @@
 -- What a worker's rows never do.
-use Rattle.std.proofs.Common.{◌≡◌, ◌+◌, ℕ, Bool, true, false, not, List, [], ◌∷◌, ◌++◌, length, Option, Some, None, if◌then◌else◌, refl, sym, ◌∙◌, ap, subst, arith, true≢false, inl, inr}
-use Rattle.std.specs.Prelude.{◌⊎◌, ◌&&◌, nat_eq, nat_lt}
-use Rattle.std.proofs.lemmas.Bool.Decides.{nat_tests}
-use Rattle.jn_base.specs.declared.names.ClientNo.{ClientNo}
-use Rattle.jn_base.specs.declared.names.Party.TheVariants.{Client}
-use Rattle.jn_base.specs.declared.names.Tickets.{Tickets}
-use Rattle.jn_base.specs.declared.names.Tid.{Tid}
-use Rattle.jn_base.specs.declared.names.WorkId.{WorkId}
-use Rattle.jn_base.specs.declared.op.Answer.{Answer}
-use Rattle.jn_base.specs.declared.op.Op.{Op as AnyOp}
-use Rattle.jn_base.specs.Names.{work_eq}
-use Rattle.jn_order.specs.Files.{Files, answer_to, change}
-use Rattle.jn_records.specs.NetLists.{list_change}
+use Rattle.jn_worker.proofs.Common.{◌≡◌, ◌+◌, ℕ, Bool, true, false, not, List, [], ◌∷◌, ◌++◌, length, Option, Some, None, if◌then◌else◌, refl, sym, ◌∙◌, ap, subst, arith, true≢false, inl, inr, ◌&&◌, nat_eq, nat_lt, nat_tests, ClientNo, Client, Tickets, Tid, WorkId, Answer, AnyOp, work_eq, Files, answer_to, change, list_change, Vote, ActiveWork, Phase, Active, Broken, Stored, Work, ignored, quiet, sends, MarkGoing, RemoveWork, is_going, WorkerTable, WorkStorage, Wanted, wants_of, is_fit, counted, done, commit_wants, conflict, vote_of, shortage, need_in, work_at, work_of, with_phase, without, after_grant, broken_by, collision, gives_way, name_from, new_work, open_row, op_row, op_phase, performed, repeated, granted_row, refusal_of, prepare_row, prepare_phase, prepared_row, voted, commit_row, commit_phase, drop_row, drop_phase, worker_row, timed_out, vulnerable, are_rising, work_is, found-name, at-less, at-phase, in_phase, at-grant, once_granted, is_stored}
+use Rattle.std.specs.Prelude.{◌⊎◌}
 use Rattle.jn_msgs.specs.declared.message.Message.{Message}
 use Rattle.jn_msgs.specs.declared.message.Message.TheVariants as messages
-use Rattle.jn_msgs.specs.declared.message.Vote.{Vote}
 use Rattle.jn_msgs.specs.declared.message.Vote.TheVariants as votes
-use Rattle.jn_rows.specs.declared.worker.ActiveWork.{ActiveWork}
-use Rattle.jn_rows.specs.declared.worker.Phase.{Phase}
-use Rattle.jn_rows.specs.declared.worker.Phase.TheVariants.{Active, Broken, Prepared as Stored}
-use Rattle.jn_rows.specs.declared.worker.Work.{Work}
-use Rattle.jn_rows.specs.Outcomes.{ignored, quiet, sends}
-use Rattle.jn_rows.specs.Stable.{MarkGoing, RemoveWork, is_going}
-use Rattle.jn_rows.specs.Worker.{WorkerTable, WorkStorage, Wanted, wants_of, is_fit, counted, done, commit_wants, conflict, vote_of, shortage, need_in, work_at, work_of, with_phase, without, after_grant, broken_by, collision, gives_way, name_from, new_work, open_row, op_row, op_phase, performed, repeated, granted_row, refusal_of, prepare_row, prepare_phase, prepared_row, voted, commit_row, commit_phase, drop_row, drop_phase, worker_row, timed_out, vulnerable}
-use Rattle.jn_lock_rows.specs.Matching.{are_rising}
-use Rattle.jn_lock_rows.proofs.Works.{work_is, found-name, at-less, at-phase, in_phase, at-grant, once_granted}
-use Rattle.jn_worker.specs.Fitting.{is_stored}
 use Rattle.jn_worker.proofs.Does.{nat_same}
 use Rattle.jn_worker.proofs.Edits.{found_by_name}
 use Rattle.jn_worker.specs.Laws.{MessagesKeepPrepared, TimeoutsKeepPrepared, SaysAgain, OldOperationsDoNothing}

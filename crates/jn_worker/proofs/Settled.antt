@@ -1,23 +1,5 @@
 -- An operation is done, or refused for a limit or for another work.
-use Rattle.std.proofs.Common.{◌≡◌, ◌+◌, ℕ, Bool, List, length, Option, Some, None, if◌then◌else◌, refl, sym, ◌∙◌, ap, subst}
-use Rattle.std.proofs.lemmas.List.{append-nil}
-use Rattle.jn_base.specs.declared.names.Tid.{Tid}
-use Rattle.jn_base.specs.declared.names.WorkId.{WorkId}
-use Rattle.jn_base.specs.declared.names.LockUnit.{LockUnit}
-use Rattle.jn_base.specs.declared.op.Answer.{Answer}
-use Rattle.jn_base.specs.declared.op.Op.{Op}
-use Rattle.jn_msgs.specs.Collected.{Collected}
-use Rattle.jn_records.specs.NetLists.{length_with}
-use Rattle.jn_locks.specs.declared.words.Mode.TheVariants.{Read}
-use Rattle.jn_rows.specs.declared.worker.Work.{Work}
-use Rattle.jn_rows.specs.declared.worker.ActiveWork.{ActiveWork}
-use Rattle.jn_rows.specs.declared.worker.Phase.TheVariants.{Active}
-use Rattle.jn_rows.specs.Worker.{work_at, with_phase, conflict, locked, wants_of, with_units, units_for, is_fit, past_limit, first_of_two}
-use Rattle.jn_lock_rows.specs.Calls.{IsActive, rephased}
-use Rattle.jn_worker.specs.Fitting.{WorkerView}
-use Rattle.jn_works.specs.Changing.{tallied}
-use Rattle.jn_worker.specs.Calls.{Granted, Settles}
-use Rattle.jn_lock_rows.proofs.Edits.{rephased-is}
+use Rattle.jn_worker.proofs.Common.{◌≡◌, ◌+◌, ℕ, Bool, List, length, Option, Some, None, if◌then◌else◌, refl, sym, ◌∙◌, ap, subst, append-nil, Tid, WorkId, LockUnit, Answer, Op, Collected, length_with, Read, Work, ActiveWork, Active, work_at, with_phase, conflict, locked, wants_of, with_units, units_for, is_fit, past_limit, first_of_two, IsActive, rephased, WorkerView, tallied, Granted, Settles, rephased-is}
 
 is_work : (x y : Work) → Some x ≡ Some y → x ≡ y
 is_work x y e = cc e

@@ -1,15 +1,5 @@
 -- Names in rising order.
-use Rattle.std.proofs.Common.{◌≡◌, ◌<◌, ℕ, zero, suc, Bool, true, false, List, [], ◌∷◌, length, take, slice_index_or, if◌then◌else◌, refl, ◌∙◌, arith}
-use Rattle.std.specs.Prelude.{◌||◌}
-use Rattle.jn_base.specs.declared.names.WorkId.{WorkId}
-use Rattle.jn_base.specs.Names.{work_eq}
-use Rattle.jn_base.proofs.Tells.{work_tells}
-use Rattle.jn_locks.specs.Locks.{work_before}
-use Rattle.jn_locks.proofs.Orders.{work_before-irreflexive, work_before-transitive, work_before-total}
-use Rattle.jn_lock_rows.specs.Matching.{is_name_after}
-use Rattle.jn_storage.specs.Listing.{is_in, are_different}
-use Rattle.jn_works.specs.Sorting.{placed, sorted_into, sorted}
-use Rattle.jn_worker.specs.Restoring.{comes_before, names_rise}
+use Rattle.jn_worker.proofs.Common.{◌≡◌, ◌<◌, ℕ, zero, suc, Bool, true, false, List, [], ◌∷◌, length, take, slice_index_or, if◌then◌else◌, refl, ◌∙◌, arith, ◌||◌, WorkId, work_eq, work_tells, work_before, work_before-irreflexive, work_before-transitive, work_before-total, is_name_after, is_in, are_different, placed, sorted_into, sorted, comes_before, names_rise}
 
 in-placed : (W U : WorkId) (Vs : List WorkId) → is_in work_eq U (placed W Vs) ≡ (work_eq W U || is_in work_eq U Vs)
 in-placed W U [] = refl

@@ -1,27 +1,7 @@
 -- A step without a message.
-use Rattle.std.proofs.Common.{◌≡◌, ℕ, Bool, true, false, List, [], ◌∷◌, Option, Some, None, refl, sym, ◌∙◌, ap, subst, arith, true≢false}
-use Rattle.std.specs.Prelude.{Result, Ok, Err, is_ok, is_some, not, ◌||◌, slice_get, if◌then◌else◌}
-use Rattle.std.proofs.lemmas.List.{append-nil}
-use Rattle.jn_base.specs.declared.device.Stopped.{Stopped}
-use Rattle.jn_base.specs.declared.names.Tickets.{Tickets}
-use Rattle.jn_base.specs.declared.names.WorkId.{WorkId}
-use Rattle.jn_base.specs.Names.{work_eq}
-use Rattle.jn_records.specs.declared.intention.Intention.{Intention}
+use Rattle.jn_worker.proofs.Common.{◌≡◌, ℕ, Bool, true, false, List, [], ◌∷◌, Option, Some, None, refl, sym, ◌∙◌, ap, subst, arith, true≢false, Result, Ok, Err, is_ok, is_some, ◌||◌, slice_get, append-nil, Stopped, Tickets, WorkId, work_eq, Intention, Collected, Work, RowOutcome, Performs, quiet, StableState, Prepared, is_going, WorkerTable, work_at, new_work, carried_row, going_work, going_row, worker_step, intentions_of, are_rising, is_in, StorageView, intentions, state, next_of, Called, RecordErased, CountsErased, IsGoing, WorkerFault, Stops, Memory, WorkerView, Fits, TicketsFit, WorkFits, WorkListFits, seen, is_none, going_in, Takes, Steps, has_stopped}
+use Rattle.std.specs.Prelude.{not, if◌then◌else◌}
 use Rattle.jn_records.specs.Reading.{Gives}
-use Rattle.jn_msgs.specs.Collected.{Collected}
-use Rattle.jn_rows.specs.declared.worker.Work.{Work}
-use Rattle.jn_rows.specs.Outcomes.{RowOutcome, Performs, quiet}
-use Rattle.jn_rows.specs.Stable.{StableState, Prepared, is_going}
-use Rattle.jn_rows.specs.Worker.{WorkerTable, work_at, new_work, carried_row, going_work, going_row, worker_step, intentions_of}
-use Rattle.jn_lock_rows.specs.Matching.{are_rising}
-use Rattle.jn_storage.specs.Listing.{is_in}
-use Rattle.jn_storage.specs.Storage.{StorageView, intentions}
-use Rattle.jn_storage.specs.Calls.{state, next_of, Called, RecordErased, CountsErased, IsGoing}
-use Rattle.jn_worker.specs.declared.words.WorkerFault.{WorkerFault}
-use Rattle.jn_worker.specs.declared.words.WorkerFault.TheVariants.{Stopped as Stops, Memory}
-use Rattle.jn_worker.specs.Fitting.{WorkerView, Fits, TicketsFit, WorkFits, WorkListFits, seen, is_none}
-use Rattle.jn_works.specs.Changing.{going_in}
-use Rattle.jn_worker.specs.Calls.{Takes, Steps, has_stopped}
 use Rattle.jn_worker.proofs.Edits.{going_by_name}
 use Rattle.jn_worker.proofs.Counts.{counts_erased}
 use Rattle.jn_worker.proofs.Exits.{called-within}

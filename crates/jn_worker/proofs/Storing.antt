@@ -1,29 +1,6 @@
 -- An active work is prepared.
-use Rattle.std.proofs.Common.{◌≡◌, Bool, true, false, List, Option, Some, None, refl, sym, ◌∙◌, ap, subst, arith}
-use Rattle.jn_base.specs.declared.names.ClientNo.{ClientNo}
-use Rattle.jn_base.specs.declared.names.Tid.{Tid}
-use Rattle.jn_base.specs.declared.names.WorkId.{WorkId}
-use Rattle.jn_base.specs.declared.names.LockUnit.{LockUnit}
-use Rattle.jn_records.specs.declared.intention.Intention.{Intention}
-use Rattle.jn_records.specs.declared.work.WorkHead.{WorkHead}
-use Rattle.jn_locks.specs.Locks.{Table, IsCompatible}
-use Rattle.jn_rows.specs.declared.worker.Work.{Work}
-use Rattle.jn_rows.specs.declared.worker.ActiveWork.{ActiveWork}
-use Rattle.jn_rows.specs.declared.worker.Phase.TheVariants.{Active}
-use Rattle.std.specs.Prelude.{Ok, is_some, if◌then◌else◌}
-use Rattle.jn_base.specs.declared.names.Tickets.{Tickets}
-use Rattle.jn_base.specs.Names.{work_eq}
-use Rattle.jn_base.proofs.Tells.{work_tells}
-use Rattle.jn_rows.specs.Stable.{Prepared, AddReady, made_by, at_work, ready_work, is_going}
-use Rattle.jn_rows.specs.Worker.{WorkerTable, work_at, with_phase, commit_wants, conflict, name_from}
-use Rattle.jn_lock_rows.specs.Calls.{IsActive, stored}
-use Rattle.jn_lock_rows.proofs.Works.{at-phase, in_phase}
-use Rattle.jn_storage.specs.Listing.{is_in}
-use Rattle.jn_lock_rows.specs.Matching.{LocksMatch}
-use Rattle.jn_storage.specs.Storage.{Accounts, StorageView}
-use Rattle.jn_storage.specs.Calls.{state, MayPrepare, WorkPrepared}
-use Rattle.jn_worker.specs.Fitting.{WorkerView, Fits, TicketsFit, WorkFits, PhaseFits, WorkListFits, ListFits}
-use Rattle.jn_worker.specs.Calls.{head_of}
+use Rattle.jn_worker.proofs.Common.{◌≡◌, Bool, true, false, List, Option, Some, None, refl, sym, ◌∙◌, ap, subst, arith, ClientNo, Tid, WorkId, LockUnit, Intention, WorkHead, Table, IsCompatible, Work, ActiveWork, Active, Ok, is_some, Tickets, work_eq, work_tells, Prepared, AddReady, made_by, at_work, ready_work, is_going, WorkerTable, work_at, with_phase, commit_wants, conflict, name_from, IsActive, stored, at-phase, in_phase, is_in, LocksMatch, Accounts, StorageView, state, MayPrepare, WorkPrepared, WorkerView, Fits, TicketsFit, WorkFits, PhaseFits, WorkListFits, ListFits, head_of}
+use Rattle.std.specs.Prelude.{if◌then◌else◌}
 use Rattle.jn_worker.proofs.Apart.{may_prepare}
 use Rattle.jn_worker.proofs.Fit.{name-later, length-phase, after-phase}
 

@@ -1,17 +1,5 @@
 -- A timeout.
-use Rattle.std.proofs.Common.{◌≡◌, true, List, Some, sym, ◌∙◌, ap, subst}
-use Rattle.jn_base.specs.declared.names.Tid.{Tid}
-use Rattle.jn_base.specs.declared.names.WorkId.{WorkId}
-use Rattle.jn_rows.specs.declared.worker.Work.{Work}
-use Rattle.jn_rows.specs.Worker.{work_of, with_phase, vulnerable, timed_out}
-use Rattle.jn_lock_rows.specs.Matching.{LocksMatch, are_rising}
-use Rattle.jn_lock_rows.proofs.Keeping.{match_exposed}
-use Rattle.jn_locks.specs.Locks.{Table}
-use Rattle.jn_locks.specs.Asked.{Exposes}
-use Rattle.jn_worker.specs.Fitting.{WorkerView, Fits, TicketsFit}
-use Rattle.jn_lock_rows.specs.Calls.{rephased}
-use Rattle.jn_worker.specs.Calls.{TimesOut}
-use Rattle.jn_lock_rows.proofs.Edits.{rephased-is}
+use Rattle.jn_worker.proofs.Common.{◌≡◌, true, List, Some, sym, ◌∙◌, ap, subst, Tid, WorkId, Work, work_of, with_phase, vulnerable, timed_out, LocksMatch, are_rising, match_exposed, Table, Exposes, WorkerView, Fits, TicketsFit, rephased, TimesOut, rephased-is}
 use Rattle.jn_worker.proofs.Edits.{found_by_name}
 use Rattle.jn_worker.proofs.Fit.{fits_vulnerable, tickets_phase}
 

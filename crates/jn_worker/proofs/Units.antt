@@ -1,14 +1,6 @@
 -- Units put in their places.
-use Rattle.std.proofs.Common.{◌≡◌, Bool, true, false, List, [], ◌∷◌, Option, Some, None, if◌then◌else◌, refl, ◌∙◌, ap, subst, arith}
-use Rattle.std.specs.Prelude.{◌&&◌, ◌||◌}
-use Rattle.std.specs.List.{list_all}
-use Rattle.std.proofs.lemmas.Bool.Decides.{nat_tests}
-use Rattle.jn_base.specs.declared.names.LockUnit.{LockUnit}
-use Rattle.jn_base.specs.declared.names.LockUnit.TheVariants.{File, Block}
+use Rattle.jn_worker.proofs.Common.{◌≡◌, Bool, true, false, List, [], ◌∷◌, Option, Some, None, if◌then◌else◌, refl, ◌∙◌, ap, subst, arith, ◌&&◌, ◌||◌, list_all, nat_tests, LockUnit, File, Block, is_unit, unit_eq, unit_before, unit_tells, unit_before-total, with_unit, with_units}
 use Rattle.jn_records.specs.Records.{ascends, follows, unit_lt}
-use Rattle.jn_locks.specs.Locks.{is_unit, unit_eq, unit_before}
-use Rattle.jn_locks.proofs.Orders.{unit_tells, unit_before-total}
-use Rattle.jn_rows.specs.Worker.{with_unit, with_units}
 
 lt-before : (a b : LockUnit) → unit_lt a b ≡ unit_before a b
 unfolding unit_before

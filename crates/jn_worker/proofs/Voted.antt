@@ -1,36 +1,13 @@
 -- The exits of a call that prepares an active work.
-use Rattle.std.proofs.Common.{◌≡◌, ℕ, Bool, true, false, List, [], ◌∷◌, ◌++◌, Option, Some, None, refl, sym, ◌∙◌, ap, subst, arith}
-use Rattle.std.specs.Prelude.{Result, Ok, Err, nat_lt, if◌then◌else◌}
-use Rattle.std.proofs.lemmas.List.{append-nil}
-use Rattle.jn_base.specs.declared.names.ClientNo.{ClientNo}
-use Rattle.jn_base.specs.declared.names.Party.TheVariants.{Server}
-use Rattle.jn_base.specs.declared.names.Tid.{Tid}
-use Rattle.jn_base.specs.declared.names.Tickets.{Tickets}
-use Rattle.jn_base.specs.declared.names.WorkId.{WorkId}
+use Rattle.jn_worker.proofs.Common.{◌≡◌, ℕ, Bool, true, false, List, [], ◌∷◌, ◌++◌, Option, Some, None, refl, sym, ◌∙◌, ap, subst, arith, Result, Ok, Err, nat_lt, append-nil, ClientNo, Server, Tid, Tickets, WorkId, Need, BrokenAt, Collected, Vote, Work, Phase, ActiveWork, Active, Broken, Stored, RowOutcome, AddReady, WorkerTable, Held, work_at, with_phase, after_grant, break_notes, commit_wants, conflict, prepare_row, prepare_phase, prepared_row, voted, vote_of, need_in, shortage, IsActive, Grants, notes_of, stored, found-name, StorageView, needed, state, WorkPrepared, reached, first_short, storage_shortage, WorkerFault, Memory, WorkerView, Fits, seen, is_active, Takes, Stores, head_of}
+use Rattle.std.specs.Prelude.{if◌then◌else◌}
 use Rattle.jn_base.specs.declared.names.Resource.TheVariants as resources
-use Rattle.jn_records.specs.declared.net_list.Need.{Need}
-use Rattle.jn_locks.specs.declared.words.Broken.{Broken as BrokenAt}
-use Rattle.jn_msgs.specs.Collected.{Collected}
 use Rattle.jn_msgs.specs.declared.message.Message.TheVariants as messages
-use Rattle.jn_msgs.specs.declared.message.Vote.{Vote}
 use Rattle.jn_msgs.specs.declared.message.Vote.TheVariants as votes
-use Rattle.jn_rows.specs.declared.worker.Work.{Work}
-use Rattle.jn_rows.specs.declared.worker.Phase.{Phase}
-use Rattle.jn_rows.specs.declared.worker.ActiveWork.{ActiveWork}
-use Rattle.jn_rows.specs.declared.worker.Phase.TheVariants.{Active, Broken, Prepared as Stored}
-use Rattle.jn_rows.specs.Outcomes.{RowOutcome}
-use Rattle.jn_rows.specs.Stable.{AddReady}
-use Rattle.jn_rows.specs.Worker.{WorkerTable, Held, work_at, with_phase, after_grant, break_notes, commit_wants, conflict, prepare_row, prepare_phase, prepared_row, voted, vote_of, need_in, shortage}
-use Rattle.jn_lock_rows.specs.Calls.{IsActive, Grants, notes_of, stored}
-use Rattle.jn_lock_rows.proofs.Works.{found-name}
 use Rattle.jn_storage.specs.declared.faults.PrepareFault.{PrepareFault}
 use Rattle.jn_storage.specs.declared.faults.PrepareFault.TheVariants.{Records, Pages, Heads, Stopped as NotServed, Memory as NoMemory}
-use Rattle.jn_storage.specs.Storage.{StorageView, needed}
-use Rattle.jn_storage.specs.Calls.{state, WorkPrepared, reached, first_short, shortage as storage_shortage}
-use Rattle.jn_worker.specs.declared.words.WorkerFault.{WorkerFault}
-use Rattle.jn_worker.specs.declared.words.WorkerFault.TheVariants.{Stopped, Memory}
-use Rattle.jn_worker.specs.Fitting.{WorkerView, Fits, seen, is_active}
-use Rattle.jn_worker.specs.Calls.{Takes, Stores, head_of, refusal_of}
+use Rattle.jn_worker.specs.declared.words.WorkerFault.TheVariants.{Stopped}
+use Rattle.jn_worker.specs.Calls.{refusal_of}
 use Rattle.jn_worker.proofs.Counts.{counts_ready, none_carried, filled}
 use Rattle.jn_worker.proofs.Exits.{without_memory, without_change, one_stopped, one_untold, one_made}
 use Rattle.jn_worker.proofs.Granted.{fits_broken, tickets_broken, granted_itself}

@@ -1,55 +1,15 @@
 -- A server that is down comes up, as the written machine has it.
-use Rattle.std.proofs.Common.{◌≡◌, ◌≤◌, ◌<◌, ℕ, zero, suc, Bool, true, false, List, [], ◌∷◌, ◌++◌, drop, get_or, length, length-append, append-nil, append_assoc, slice_get, slice_set, Some, Result, Ok, Err, true≢false, refl, sym, ◌∙◌, ap, subst, arith, ◌+◌}
-use Rattle.std.specs.Prelude.{◌||◌, if◌then◌else◌, IsErrAnd, count_by}
-use Rattle.std.specs.List.{list_any}
-use Rattle.std.specs.Vec.{with_item}
-use Rattle.std.proofs.Math.Path.{fun_ext}
-use Rattle.jn_base.specs.declared.names.ServerNo.{ServerNo}
-use Rattle.jn_base.specs.declared.names.Tid.{Tid}
-use Rattle.jn_base.specs.Names.{tid_eq}
-use Rattle.jn_device.specs.Device.{DeviceState}
-use Rattle.jn_place.specs.declared.place.Place.{Place}
-use Rattle.jn_place.specs.declared.place.Restarted.{Restarted}
+use Rattle.jn_world.proofs.Common.{◌≡◌, ◌≤◌, ◌<◌, ℕ, zero, suc, Bool, true, false, [], ◌∷◌, ◌++◌, get_or, length, length-append, append-nil, append_assoc, slice_set, Some, Ok, Err, true≢false, refl, sym, ◌∙◌, ap, subst, arith, ◌+◌, ◌||◌, if◌then◌else◌, IsErrAnd, count_by, list_any, with_item, fun_ext, ServerNo, Tid, tid_eq, DeviceState, Place, Restarted, Slot, Up, Down, Gone, IsRestart, IsPlace, StandsThere, CountsAt, commits_in, has_line, Counts, Pages, counts_by, Line, Text, When, EpochsUsedUp, pool_on, heads_on, standing_pages, is_free_head, free_count, rubbish_count, view_with, IsServer, state, WentOn, WasCut, HasCounts, Standing, Stands, with_named, pairs_view, StoreView, Ended, Epoch, Memory, World, BroughtUp, texts_so_far, left_to_tell, is_among, newly_named, restart_texts, has_come, standing_of, DoesEvent, DoesTasks, is_going, Setup, Moment, lines_at, Task, ComesUp, when_of}
+use Rattle.std.proofs.Common.{List, drop, slice_get, Result}
 use Rattle.jn_place.specs.declared.place.Restarted.TheVariants as came
-use Rattle.jn_place.specs.declared.place.Slot.{Slot}
-use Rattle.jn_place.specs.declared.place.Slot.TheVariants.{Up, Down, Gone}
-use Rattle.jn_place.specs.Exact.{IsRestart}
-use Rattle.jn_place.specs.Places.{IsPlace, Stands as StandsThere, CountsAt}
-use Rattle.jn_system.specs.WholeSystem.World.{commits_in, has_line}
-use Rattle.jn_records.specs.StablePages.{Counts, Pages}
-use Rattle.jn_recovery.specs.Loading.{counts_by}
-use Rattle.jn_report.specs.declared.line.Line.{Line}
-use Rattle.jn_report.specs.declared.line.Text.{Text}
 use Rattle.jn_report.specs.declared.line.Text.TheVariants as says
-use Rattle.jn_report.specs.declared.line.When.{When}
-use Rattle.jn_report.specs.declared.line.EventRefusal.TheVariants.{EpochsUsedUp}
 use Rattle.jn_schedule.specs.declared.Event.TheVariants as events
-use Rattle.jn_found.specs.Pages.{pool_on, heads_on}
-use Rattle.jn_server.specs.Standing.{standing_pages, is_free_head}
-use Rattle.jn_sets.specs.Pool.{free_count, rubbish_count}
-use Rattle.jn_server.specs.Seen.{view_with, IsServer}
 use Rattle.jn_server.specs.Reading.{AreCountsOfPages}
-use Rattle.jn_storage.specs.Calls.{state}
 use Rattle.jn_storage.specs.Storage.{IsCounted}
 use Rattle.jn_stands.proofs.Restarts.{restarted-step, came-up-step}
-use Rattle.jn_stands.specs.Going.{WentOn, WasCut}
 use Rattle.jn_stands.specs.Naming.{with_name, names_told}
-use Rattle.jn_stands.specs.Pages.{HasCounts}
 use Rattle.jn_stands.specs.Restarting.{texts_restarted, ComesTo}
-use Rattle.jn_stands.specs.Stands.{Standing, Stands, with_named}
-use Rattle.jn_store.specs.Pairs.{pairs_view}
-use Rattle.jn_store.specs.Store.{StoreView}
-use Rattle.jn_world.specs.declared.ended.Ended.{Ended}
-use Rattle.jn_world.specs.declared.ended.Ended.TheVariants.{Epoch, Memory}
-use Rattle.jn_world.specs.declared.world.World.{World}
-use Rattle.jn_world.specs.Bringing.{BroughtUp, texts_so_far, left_to_tell}
-use Rattle.jn_world.specs.Naming.{is_among, newly_named, restart_texts, has_come}
-use Rattle.jn_world.specs.Written.{standing_of, DoesEvent, DoesTasks, is_going}
 use Rattle.jn_world.proofs.Turns.{next-first}
-use Rattle.jn_written.specs.Chances.{Setup}
-use Rattle.jn_written.specs.Runs.{Moment}
-use Rattle.jn_written.specs.Steps.{lines_at}
-use Rattle.jn_written.specs.Tasks.{Task, ComesUp, when_of}
 
 -- ---- names
 

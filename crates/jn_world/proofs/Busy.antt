@@ -1,68 +1,18 @@
 -- A server that is up takes a message, or makes a step where it has something to do, and which one is first.
-use Rattle.std.proofs.Common.{inl, inr, append-nil, ◌≡◌, ◌≤◌, ◌<◌, ℕ, zero, suc, ◌+◌, Bool, true, false, List, [], ◌∷◌, ◌++◌, length, Option, Some, None, Result, Ok, Err, true≢false, refl, sym, ◌∙◌, ap, subst, arith}
-use Rattle.std.proofs.Math.ListN.{set}
-use Rattle.std.proofs.lemmas.Bool.Decides.{nat_tests}
-use Rattle.std.proofs.lemmas.List.{length-set}
-use Rattle.std.proofs.lemmas.Option.{slice_get_within}
-use Rattle.std.specs.Prelude.{◌⊎◌, nat_lt, slice_get, IsErr, IsErrAnd, IfErr, OnOk, drop, is_some}
-use Rattle.jn_base.specs.declared.names.Party.TheVariants.{Server}
-use Rattle.jn_base.specs.declared.names.ServerNo.{ServerNo}
-use Rattle.jn_base.specs.declared.names.Tid.{Tid}
-use Rattle.jn_device.specs.Device.{DeviceState}
-use Rattle.jn_msgs.specs.Collected.{Collected}
-use Rattle.jn_net.specs.Carried.{Carried, with_delivered, waiting}
-use Rattle.jn_net.specs.declared.Sent.{Sent as Posted}
-use Rattle.jn_place.specs.Calls.{Left}
-use Rattle.jn_place.specs.declared.place.Place.{Place}
-use Rattle.jn_place.specs.declared.place.Slot.{Slot}
-use Rattle.jn_place.specs.declared.place.Slot.TheVariants.{Up, Down, Gone}
-use Rattle.jn_place.specs.Exact.{Took, WorkedBy, AsksAgain, TimedOut, IsTimedOut, has_work_at, ReadsPages as PlaceReads, WhereUp, TakeLeaves, WorkLeaves}
-use Rattle.jn_place.specs.Places.{Stands as StandsThere, IsPlace, is_up}
-use Rattle.jn_system.specs.WholeSystem.Servers.{server_timeout, of_timeout}
-use Rattle.jn_system.specs.WholeSystem.World.{Memory as ServerMemory}
-use Rattle.jn_records.specs.StablePages.{Counts}
+use Rattle.jn_world.proofs.Common.{inl, inr, append-nil, ◌≡◌, ◌≤◌, ◌<◌, ℕ, zero, suc, ◌+◌, Bool, true, false, List, [], ◌∷◌, ◌++◌, length, Option, Some, None, Result, Ok, Err, true≢false, refl, sym, ◌∙◌, ap, subst, arith, set, nat_tests, length-set, slice_get_within, ◌⊎◌, nat_lt, slice_get, IsErr, IsErrAnd, IfErr, OnOk, drop, is_some, Server, ServerNo, Tid, DeviceState, Collected, Carried, with_delivered, waiting, Posted, Left, Place, Slot, Up, Down, Gone, Took, WorkedBy, AsksAgain, TimedOut, IsTimedOut, has_work_at, PlaceReads, WhereUp, TakeLeaves, WorkLeaves, StandsThere, IsPlace, is_up, server_timeout, of_timeout, ServerMemory, Counts, counts_by, NoSuchWork, Line, When, StableState, Pick, IsUp, Parts, view_with, memory_of, pool_on, standing_pages, rubbish_count, next-works, next-none, refused-step, WentOn, HasCounts, ReadsPages, IsIdleAt, Standing, Stands, StandsAt, PlaceStands, with_answer, texts_sent, state, pairs_view, StoreView, Ended, Messages, Epoch, Memory, AreIdleBelow, IsBusyAt, IsFirstBusy, ReadsAt, TellsBusy, is_up_at, is_up_in, works_at, works_in, DoesEvent, DoesTasks, EndsStep, GoesTo, TakesTurn, Setup, rubbish_on, next_in, has_work, refusal_of, unless, Moment, lines_at, Task, Meets, when_of}
 use Rattle.jn_recovery.specs.Memory.{Memory as Kept, view_of}
-use Rattle.jn_recovery.specs.Loading.{counts_by}
-use Rattle.jn_report.specs.declared.line.EventRefusal.TheVariants.{NoSuchWork}
-use Rattle.jn_report.specs.declared.line.Line.{Line}
 use Rattle.jn_report.specs.declared.line.Text.TheVariants as says
-use Rattle.jn_report.specs.declared.line.When.{When}
-use Rattle.jn_rows.specs.Stable.{StableState, Pick, IsUp}
 use Rattle.jn_rows.specs.Worker.{WorkerTable, timeout_row}
 use Rattle.jn_schedule.specs.declared.Event.TheVariants as events
-use Rattle.jn_server.specs.Seen.{Parts, view_with, memory_of}
-use Rattle.jn_found.specs.Pages.{pool_on}
-use Rattle.jn_server.specs.Standing.{standing_pages}
-use Rattle.jn_sets.specs.Pool.{rubbish_count}
 use Rattle.jn_stands.proofs.Held.{reads-pages}
 use Rattle.jn_stands.proofs.Placed.{each-set}
-use Rattle.jn_stands.proofs.RestNext.{next-works, next-none}
-use Rattle.jn_stands.proofs.Still.{refused-step}
-use Rattle.jn_stands.specs.Going.{WentOn}
-use Rattle.jn_stands.specs.Pages.{HasCounts, ReadsPages, IsIdleAt}
-use Rattle.jn_stands.specs.Stands.{Standing, Stands, StandsAt, PlaceStands, with_answer, texts_sent}
-use Rattle.jn_storage.specs.Calls.{state}
-use Rattle.jn_store.specs.Pairs.{pairs_view}
-use Rattle.jn_store.specs.Store.{StoreView}
-use Rattle.jn_world.specs.declared.ended.Ended.{Ended}
-use Rattle.jn_world.specs.declared.ended.Ended.TheVariants.{Messages, Epoch, Memory}
-use Rattle.jn_world.specs.Settling.{AreIdleBelow, IsBusyAt, IsFirstBusy, ReadsAt, TellsBusy}
-use Rattle.jn_world.specs.Standing.{is_up_at, is_up_in, works_at, works_in}
-use Rattle.jn_world.specs.Written.{DoesEvent, DoesTasks, EndsStep, GoesTo, TakesTurn}
 use Rattle.jn_world.proofs.Bringing.{has-counts}
 use Rattle.jn_world.proofs.LostCalls.{as-many}
 use Rattle.jn_world.proofs.Places.{up-within}
 use Rattle.jn_world.proofs.Refusing.{place-there, refused-up, meets-done}
 use Rattle.jn_world.proofs.ServerCalls.{took-does, worked-does, nudged-does, timed-out-does}
 use Rattle.jn_world.proofs.Turns.{next-first}
-use Rattle.jn_written.specs.Chances.{Setup}
-use Rattle.jn_written.specs.Devices.{rubbish_on}
-use Rattle.jn_written.specs.Events.{next_in}
 use Rattle.jn_written.specs.Rubbish.{CountsAll}
-use Rattle.jn_written.specs.Refusals.{has_work, refusal_of, unless}
-use Rattle.jn_written.specs.Runs.{Moment}
-use Rattle.jn_written.specs.Steps.{lines_at}
-use Rattle.jn_written.specs.Tasks.{Task, Meets, when_of}
 
 some-of : {X : Type 0} (a b : X) → Some a ≡ Some b → a ≡ b
 some-of a b e = cc

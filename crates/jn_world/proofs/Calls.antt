@@ -1,25 +1,6 @@
 -- Calls one after another, each from where the machine stands.
-use Rattle.std.proofs.Common.{◌≡◌, ◌≤◌, ℕ, zero, suc, ◌+◌, ◌-◌, true, List, [], ◌∷◌, ◌++◌, map, length, append-nil, append_assoc, Result, Ok, Err, refl, sym, ◌∙◌, ap, subst, arith}
-use Rattle.std.proofs.lemmas.List.{map-append}
-use Rattle.jn_base.specs.declared.names.ServerNo.{ServerNo}
-use Rattle.jn_base.specs.declared.names.ClientNo.{ClientNo}
-use Rattle.jn_device.specs.Device.{DeviceState}
-use Rattle.jn_system.specs.WholeSystem.World.{servers_from}
-use Rattle.jn_report.specs.declared.line.Line.{Line}
-use Rattle.jn_report.specs.declared.line.When.{When}
-use Rattle.jn_system_settling.specs.Settling.Settle.{clients_from}
-use Rattle.jn_stands.specs.Going.{IsTold, WentOn, WasCut, IsStepTo}
-use Rattle.jn_stands.specs.Stands.{Standing, Stands}
-use Rattle.jn_store.specs.Store.{StoreView}
-use Rattle.jn_world.specs.declared.ended.Ended.{Ended}
-use Rattle.jn_world.specs.declared.ended.Ended.TheVariants.{Messages, Epoch, Memory}
-use Rattle.jn_world.specs.Written.{GoesTo, DoesTasks, EndsStep, is_going}
+use Rattle.jn_world.proofs.Common.{◌≡◌, ◌≤◌, ℕ, zero, suc, ◌+◌, ◌-◌, true, List, [], ◌∷◌, ◌++◌, map, length, append-nil, append_assoc, Result, Ok, Err, refl, sym, ◌∙◌, ap, subst, arith, map-append, ServerNo, ClientNo, DeviceState, servers_from, Line, When, clients_from, IsTold, WentOn, WasCut, IsStepTo, Standing, Stands, StoreView, Ended, Messages, Epoch, Memory, GoesTo, DoesTasks, EndsStep, is_going, join, Setup, servers_of, none, Moment, DoesStep, Task, Stage, when_at, when_of}
 use Rattle.jn_world.proofs.Numbers.{count_begins, begins-append, same-number}
-use Rattle.jn_written.proofs.Computed.{join}
-use Rattle.jn_written.specs.Chances.{Setup}
-use Rattle.jn_written.specs.Events.{servers_of}
-use Rattle.jn_written.specs.Runs.{none, Moment, DoesStep}
-use Rattle.jn_written.specs.Tasks.{Task, Stage, when_at, when_of}
 
 -- ---- lines and steps
 

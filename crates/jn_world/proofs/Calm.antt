@@ -1,33 +1,7 @@
 -- While no fault waits: servers stay up, go down and come up.
-use Rattle.std.proofs.Common.{◌≡◌, ◌≤◌, ◌<◌, ℕ, zero, suc, ◌+◌, Bool, true, false, List, [], ◌∷◌, get_or, length, slice_get, Option, Some, None, Result, Ok, Err, inl, inr, true≢false, refl, sym, ◌∙◌, ap, subst, arith}
-use Rattle.std.proofs.Math.ListN.{set}
-use Rattle.std.proofs.lemmas.List.Elements.{All-nil, All-set, All-get_or, All-from_get_or}
-use Rattle.std.proofs.lemmas.Option.{slice_get_within, get_or_from_slice_get}
-use Rattle.std.specs.Prelude.{◌⊎◌, All, OnOk}
-use Rattle.std.specs.Vec.{with_item}
-use Rattle.jn_base.specs.declared.names.ServerNo.{ServerNo}
-use Rattle.jn_device.specs.Device.{DeviceState}
-use Rattle.jn_device.specs.Events.{disarmed}
-use Rattle.jn_place.specs.declared.place.Place.{Place}
-use Rattle.jn_place.specs.declared.place.Restarted.{Restarted}
+use Rattle.jn_world.proofs.Common.{◌≡◌, ◌≤◌, ◌<◌, ℕ, zero, suc, ◌+◌, Bool, true, false, [], ◌∷◌, get_or, length, Option, Some, None, Ok, Err, inl, inr, true≢false, refl, sym, ◌∙◌, ap, subst, arith, set, All-nil, All-set, All-get_or, All-from_get_or, slice_get_within, get_or_from_slice_get, ◌⊎◌, All, OnOk, with_item, ServerNo, DeviceState, disarmed, Place, Restarted, Slot, Up, Down, Gone, StaysCalm, ComesCalm, IsCalmAt, IsRestart, Befell, Crashed, is_up, Counts, counts_by, PageCounts, Line, When, AreDisarmed, pairs_view, StoreView, World, IsQuietAt, AreQuiet, IsUpAndCalm, AreUpAndCalm, StayUp, AreDown, IsTakenDown, IsRisen, has_come, StandFor, is_up_at, is_up_in}
+use Rattle.std.proofs.Common.{List, slice_get, Result}
 use Rattle.jn_place.specs.declared.place.Restarted.TheVariants as came
-use Rattle.jn_place.specs.declared.place.Slot.{Slot}
-use Rattle.jn_place.specs.declared.place.Slot.TheVariants.{Up, Down, Gone}
-use Rattle.jn_place.specs.Exact.{StaysCalm, ComesCalm, IsCalmAt, IsRestart, Befell, Crashed}
-use Rattle.jn_place.specs.Places.{is_up}
-use Rattle.jn_records.specs.StablePages.{Counts}
-use Rattle.jn_recovery.specs.Loading.{counts_by}
-use Rattle.jn_recovery.specs.declared.counts.PageCounts.{PageCounts}
-use Rattle.jn_report.specs.declared.line.Line.{Line}
-use Rattle.jn_report.specs.declared.line.When.{When}
-use Rattle.jn_stands.specs.Ending.{AreDisarmed}
-use Rattle.jn_store.specs.Pairs.{pairs_view}
-use Rattle.jn_store.specs.Store.{StoreView}
-use Rattle.jn_world.specs.declared.world.World.{World}
-use Rattle.jn_world.specs.Calm.{IsQuietAt, AreQuiet, IsUpAndCalm, AreUpAndCalm, StayUp, AreDown, IsTakenDown, IsRisen}
-use Rattle.jn_world.specs.Naming.{has_come}
-use Rattle.jn_world.specs.Opening.{StandFor}
-use Rattle.jn_world.specs.Standing.{is_up_at, is_up_in}
 use Rattle.jn_world.proofs.Bringing.{get-slice}
 use Rattle.jn_world.proofs.Finishing.{get-other, get-same, either}
 

@@ -1,40 +1,15 @@
 -- What a call of a client does, and its messages, is an event of the written machine.
-use Rattle.std.proofs.Common.{◌≡◌, ◌<◌, ℕ, zero, suc, ◌+◌, ◌-◌, true, false, List, [], ◌∷◌, ◌++◌, length, append-nil, Option, Some, None, Result, refl, sym, ◌∙◌, ap, subst, arith}
-use Rattle.std.proofs.Math.ListN.{set, get_or}
-use Rattle.std.proofs.lemmas.Bool.Decides.{nat_tests}
-use Rattle.std.proofs.lemmas.Option.{slice_get-get_or}
-use Rattle.std.specs.Prelude.{drop, slice_get}
-use Rattle.jn_base.specs.declared.names.ClientNo.{ClientNo}
-use Rattle.jn_base.specs.declared.names.Party.TheVariants.{Client}
-use Rattle.jn_base.specs.declared.op.Command.{Command}
-use Rattle.jn_device.specs.Device.{DeviceState}
-use Rattle.jn_net.specs.Carried.{Carried, with_delivered}
-use Rattle.jn_rows.specs.declared.client.Taken.{Taken}
-use Rattle.jn_net.specs.declared.Sent.{Sent as Posted}
-use Rattle.jn_system.specs.WholeSystem.Steps.{sent_now}
-use Rattle.jn_report.specs.declared.line.Line.{Line}
-use Rattle.jn_report.specs.declared.line.Text.{Text}
+use Rattle.jn_world.proofs.Common.{◌≡◌, ◌<◌, ℕ, zero, suc, ◌+◌, ◌-◌, true, false, List, [], ◌∷◌, ◌++◌, length, append-nil, Option, Some, None, Result, refl, sym, ◌∙◌, ap, subst, arith, set, nat_tests, slice_get-get_or, drop, slice_get, ClientNo, Client, Command, DeviceState, Carried, with_delivered, Taken, Posted, sent_now, Line, Text, When, AtEvent, ClientTable, Commanded, Refuses, command_row, take_row, again_row, new_table, Sent, IsStepTo, Standing, is_client_number, with_sent, pairs_view, StoreView, sent_for, Ended, DoesEvent, EndsStep, IsSentTo, lines_at, message_texts, traced, Stage, InSchedule, AtEnd, CutShort, when_at, when_of}
+use Rattle.std.proofs.Math.ListN.{get_or}
 use Rattle.jn_report.specs.declared.line.Text.TheVariants as says
-use Rattle.jn_report.specs.declared.line.When.{When}
-use Rattle.jn_report.specs.declared.line.When.TheVariants.{Event as AtEvent}
-use Rattle.jn_rows.specs.Client.{ClientTable, Commanded, Refuses, command_row, take_row, again_row, new_table}
-use Rattle.jn_rows.specs.Outcomes.{Sent}
 use Rattle.jn_schedule.specs.declared.Event.TheVariants as events
 use Rattle.jn_stands.specs.Clients.{with_client, texts_taken, texts_commanded, sent_commanded, table_commanded}
-use Rattle.jn_stands.specs.Going.{IsStepTo}
-use Rattle.jn_stands.specs.Stands.{Standing, is_client_number, posted_by, with_sent}
+use Rattle.jn_stands.specs.Stands.{posted_by}
 use Rattle.jn_stands.proofs.ClientSteps.{client-took-step, other-took-step}
 use Rattle.jn_stands.proofs.Commands.{told-step, asked-step}
 use Rattle.jn_report.specs.declared.line.Refusal.{Refusal}
 use Rattle.jn_stands.proofs.Posted.{none-traced}
-use Rattle.jn_store.specs.Pairs.{pairs_view}
-use Rattle.jn_store.specs.Store.{StoreView}
-use Rattle.jn_within.specs.Taking.{sent_for}
-use Rattle.jn_world.specs.declared.ended.Ended.{Ended}
-use Rattle.jn_world.specs.Written.{DoesEvent, EndsStep, IsSentTo}
 use Rattle.jn_world.proofs.Calls.{step-ends}
-use Rattle.jn_written.specs.Steps.{lines_at, message_texts, traced}
-use Rattle.jn_written.specs.Tasks.{Stage, InSchedule, AtEnd, CutShort, when_at, when_of}
 
 -- the number of the event under way
 event-number : (stage : Stage) (event number : ℕ) → when_at stage event ≡ AtEvent number → event ≡ number

@@ -1,43 +1,13 @@
 -- The parts of the end, as the written machine has them.
-use Rattle.std.proofs.Common.{◌≡◌, ◌≤◌, ◌<◌, ℕ, zero, suc, ◌+◌, Bool, true, false, List, [], ◌∷◌, ◌++◌, map, drop, get_or, length, slice_get, slice_set, Option, Some, None, Ok, true≢false, refl, sym, ◌∙◌, ap, subst, arith}
+use Rattle.jn_world.proofs.Common.{◌≡◌, ◌≤◌, ◌<◌, ℕ, zero, suc, ◌+◌, Bool, true, false, [], ◌∷◌, ◌++◌, map, get_or, length, slice_set, Option, Some, None, Ok, true≢false, refl, sym, ◌∙◌, ap, subst, arith, set, All-set, All-get_or, slice_get-map, with_item, over-fits, ServerNo, DeviceState, Place, Slot, Up, Down, Gone, Closed, WhereUp, KeepsRubbish, StandsThere, is_up, IsIdle, Counts, counts_by, Line, When, ClientTable, over, down-already-step, there-is, counts-step, WentOn, HasCounts, Standing, pairs_view, StoreView, World, AreIdle, IsWorld, IsClientOf, is_up_at, is_up_in, standing_of, DoesEvent, DoesTasks, Task, ClosesClients, CountsCommits, when_of}
+use Rattle.std.proofs.Common.{List, drop, slice_get}
 use Rattle.std.specs.Option.{option_map}
-use Rattle.std.proofs.Math.ListN.{set}
-use Rattle.std.proofs.lemmas.List.Elements.{All-set, All-get_or}
-use Rattle.std.proofs.lemmas.Option.{slice_get-map}
-use Rattle.std.specs.Vec.{with_item}
-use Rattle.jn_within.proofs.Taking.{over-fits}
-use Rattle.jn_base.specs.declared.names.ServerNo.{ServerNo}
-use Rattle.jn_device.specs.Device.{DeviceState}
-use Rattle.jn_place.specs.declared.place.Place.{Place}
-use Rattle.jn_place.specs.declared.place.Slot.{Slot}
-use Rattle.jn_place.specs.declared.place.Slot.TheVariants.{Up, Down, Gone}
-use Rattle.jn_place.specs.Exact.{Closed, WhereUp, KeepsRubbish}
-use Rattle.jn_place.specs.Places.{Stands as StandsThere, is_up}
-use Rattle.jn_system.specs.WholeSystem.Steps.{IsIdle}
-use Rattle.jn_records.specs.StablePages.{Counts}
-use Rattle.jn_recovery.specs.Loading.{counts_by}
-use Rattle.jn_report.specs.declared.line.Line.{Line}
 use Rattle.jn_report.specs.declared.line.Text.TheVariants as says
-use Rattle.jn_report.specs.declared.line.When.{When}
-use Rattle.jn_rows.specs.Client.{ClientTable, over}
 use Rattle.jn_schedule.specs.declared.Event.TheVariants as events
 use Rattle.jn_stands.proofs.Closing.{closed-step}
-use Rattle.jn_stands.proofs.Crashing.{down-already-step}
-use Rattle.jn_stands.proofs.Dismissing.{there-is}
-use Rattle.jn_stands.proofs.Still.{counts-step}
-use Rattle.jn_stands.specs.Going.{WentOn}
-use Rattle.jn_stands.specs.Pages.{HasCounts}
-use Rattle.jn_stands.specs.Stands.{Standing}
-use Rattle.jn_store.specs.Pairs.{pairs_view}
-use Rattle.jn_store.specs.Store.{StoreView}
-use Rattle.jn_world.specs.declared.world.World.{World}
-use Rattle.jn_world.specs.Closing.{AreIdle}
-use Rattle.jn_world.specs.Standing.{IsWorld, IsClientOf, is_up_at, is_up_in}
-use Rattle.jn_world.specs.Written.{standing_of, DoesEvent, DoesTasks}
 use Rattle.jn_world.proofs.Bringing.{get-slice, same-place}
 use Rattle.jn_world.proofs.Places.{place-at}
 use Rattle.jn_world.proofs.Turns.{next-first}
-use Rattle.jn_written.specs.Tasks.{Task, ClosesClients, CountsCommits, when_of}
 
 -- ---- a server that is down
 

@@ -1,14 +1,8 @@
 -- Where a call ends early.
-use Rattle.std.proofs.Common.{◌≡◌, ◌<◌, List, length, Result, Ok, Err, true≢false, refl, sym, subst}
-use Rattle.std.specs.Prelude.{IsErr, IsErrAnd}
+use Rattle.jn_world.proofs.Common.{◌≡◌, ◌<◌, List, length, Result, Ok, Err, true≢false, refl, sym, subst, IsErr, IsErrAnd, Line, Standing, Ended, Messages, Epoch, Memory, EndsStep, EndsPart}
 use Rattle.jn_net.specs.declared.SendFault.{SendFault}
 use Rattle.jn_net.specs.declared.SendFault.TheVariants.{Limit, Memory as NoMemory}
-use Rattle.jn_report.specs.declared.line.Line.{Line}
-use Rattle.jn_stands.specs.Stands.{Standing}
-use Rattle.jn_world.specs.declared.ended.Ended.{Ended}
-use Rattle.jn_world.specs.declared.ended.Ended.TheVariants.{Messages, Epoch, Memory}
 use Rattle.jn_world.specs.Faults.{ended_by}
-use Rattle.jn_world.specs.Written.{EndsStep, EndsPart}
 
 pub ends-memory : {S A : Type 0} (r : Result A Ended) (w now : Standing S) (lines wanted later : List Line) → IsErr r → IsErrAnd r (λ e. e ≡ Memory) → EndsStep r w now lines wanted later
 ends-memory (Ok a) w now lines wanted later is which = absurd (true≢false (sym is))

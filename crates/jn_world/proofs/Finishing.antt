@@ -1,39 +1,8 @@
 -- The start and the end of a run, as the written machine has them.
-use Rattle.std.proofs.Common.{◌≡◌, ◌≤◌, ◌<◌, ℕ, zero, suc, ◌+◌, Bool, true, List, [], ◌∷◌, ◌++◌, map, drop, length, append_assoc, append-nil, slice_get, Some, Result, Ok, Err, inl, inr, true≢false, refl, sym, ◌∙◌, ap, subst, arith}
-use Rattle.std.proofs.Math.ListN.{set}
-use Rattle.std.specs.Prelude.{◌⊎◌, IsErr, IsErrAnd}
-use Rattle.jn_base.specs.declared.names.ServerNo.{ServerNo}
-use Rattle.jn_device.specs.Device.{DeviceState}
-use Rattle.jn_order.specs.Files.{AllFiles}
-use Rattle.jn_place.specs.declared.place.Place.{Place}
-use Rattle.jn_recovery.specs.declared.counts.PageCounts.{PageCounts}
-use Rattle.jn_report.specs.declared.line.Line.{Line}
-use Rattle.jn_report.specs.declared.line.When.TheVariants.{Event as AtEvent, End}
-use Rattle.jn_schedule.specs.declared.Event.{Event as AnEvent}
-use Rattle.jn_stands.proofs.Dismissing.{dismissed-step}
+use Rattle.jn_world.proofs.Common.{◌≡◌, ◌≤◌, ◌<◌, ℕ, zero, suc, ◌+◌, Bool, true, List, [], ◌∷◌, ◌++◌, map, drop, length, append_assoc, append-nil, slice_get, Some, Result, Ok, Err, inl, inr, true≢false, refl, sym, ◌∙◌, ap, subst, arith, set, ◌⊎◌, IsErr, IsErrAnd, ServerNo, DeviceState, AllFiles, Place, PageCounts, Line, AtEvent, End, AnEvent, dismissed-step, IsDisarmed, AreDisarmed, dismissed, BeganEnd, WentOn, WasCut, Standing, Stands, IsFirst, pairs_view, StoreView, Ended, Messages, Epoch, Memory, World, Carried, ClientTable, over, Show, Scrub, AreTheirs, going_down, closing_clients, showing_all, scrubbing_all, turning, thanking, telling, finishing, standing_of, GoesTo, DoesTasks, Starts, AreStoresOf, GivesImage, IsClosed, Closes, is_going, join, Setup, Devices, ending, coming_up, settling, printing, servers_of, Moment, DoesStep, Task, Acts, Begins, GoesDown, ComesUp, ClosesClients, Dismisses, CountsCommits, Stage, InSchedule, AtEnd, when_at, next_at}
 use Rattle.jn_stands.proofs.Starting.{first-stands, closed-stores}
-use Rattle.jn_stands.specs.Ending.{IsDisarmed, AreDisarmed, dismissed, BeganEnd}
-use Rattle.jn_stands.specs.Going.{WentOn, WasCut}
-use Rattle.jn_stands.specs.Stands.{Standing, Stands}
-use Rattle.jn_stands.specs.Starting.{IsFirst}
-use Rattle.jn_store.specs.Pairs.{pairs_view}
-use Rattle.jn_store.specs.Store.{StoreView}
-use Rattle.jn_world.specs.declared.ended.Ended.{Ended}
-use Rattle.jn_world.specs.declared.ended.Ended.TheVariants.{Messages, Epoch, Memory}
-use Rattle.jn_world.specs.declared.world.World.{World}
-use Rattle.jn_net.specs.Carried.{Carried}
-use Rattle.jn_rows.specs.Client.{ClientTable, over}
-use Rattle.jn_schedule.specs.declared.Event.TheVariants.{Show, Scrub}
-use Rattle.jn_world.specs.Closing.{AreTheirs, going_down, closing_clients, showing_all, scrubbing_all, turning, thanking, telling, finishing}
-use Rattle.jn_world.specs.Written.{standing_of, GoesTo, DoesTasks, Starts, AreStoresOf, GivesImage, IsClosed, Closes, is_going}
 use Rattle.jn_world.proofs.Calls.{told-then, servers-quiet}
 use Rattle.jn_world.proofs.Numbers.{count_begins, begins-append, settling-begins}
-use Rattle.jn_written.proofs.Computed.{join}
-use Rattle.jn_written.specs.Chances.{Setup}
-use Rattle.jn_written.specs.Devices.{Devices}
-use Rattle.jn_written.specs.Events.{ending, coming_up, settling, printing, servers_of}
-use Rattle.jn_written.specs.Runs.{Moment, DoesStep}
-use Rattle.jn_written.specs.Tasks.{Task, Acts, Begins, GoesDown, ComesUp, ClosesClients, Dismisses, CountsCommits, Stage, InSchedule, AtEnd, when_at, next_at}
 use Rattle.jn_written.specs.Whole.{AreImages, before}
 
 -- ---- places that are disarmed one after another

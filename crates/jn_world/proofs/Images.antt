@@ -1,39 +1,10 @@
 -- What a settle, a show and a scrub leave of images.
-use Rattle.std.proofs.Common.{◌≡◌, ◌<◌, ◌≤◌, ℕ, ◌+◌, Bool, true, false, List, [], ◌∷◌, length, slice_get, Option, Some, None, Result, Ok, Err, is_some, inl, inr, true≢false, refl, sym, ◌∙◌, ap, subst, arith}
-use Rattle.std.proofs.Math.ListN.{set}
-use Rattle.std.proofs.lemmas.List.Elements.{All-set}
-use Rattle.std.proofs.lemmas.Option.{slice_get_within}
-use Rattle.std.specs.Prelude.{◌⊎◌, not, OnOk}
-use Rattle.jn_base.specs.declared.names.ServerNo.{ServerNo}
-use Rattle.jn_device.specs.Device.{DeviceState}
+use Rattle.jn_world.proofs.Common.{◌≡◌, ◌<◌, ◌≤◌, ℕ, ◌+◌, Bool, true, false, List, [], ◌∷◌, length, slice_get, Option, Some, None, Result, Ok, Err, is_some, inl, inr, true≢false, refl, sym, ◌∙◌, ap, subst, arith, set, All-set, slice_get_within, ◌⊎◌, not, OnOk, ServerNo, DeviceState, Carried, Files, Place, Slot, Up, Down, Gone, ScrubbedBy, WhereUp, KeepsRubbish, LeavesImage, IsCalmAt, has_work_at, work_of, is_up, Counts, counts_by, Line, When, StableState, stable, view_with, memory_of, room_of, IsStoreOf, Standing, Stands, StandsAt, state, pairs_view, StoreView, IsUpAndCalm, AreUpAndCalm, HasFilesAlone, HasNoRubbish, AreClean, StayClean, HoldsImage, HoldsImageAt, HoldImages, IsScrubbedAt, IsAtRest, Setup, Moment}
 use Rattle.jn_found.specs.Images.{IsImage}
-use Rattle.jn_net.specs.Carried.{Carried}
-use Rattle.jn_order.specs.Files.{Files}
-use Rattle.jn_place.specs.declared.place.Place.{Place}
-use Rattle.jn_place.specs.declared.place.Slot.{Slot}
-use Rattle.jn_place.specs.declared.place.Slot.TheVariants.{Up, Down, Gone}
-use Rattle.jn_place.specs.Exact.{ScrubbedBy, WhereUp, KeepsRubbish, LeavesImage, IsCalmAt, has_work_at, work_of}
-use Rattle.jn_place.specs.Places.{is_up}
-use Rattle.jn_records.specs.StablePages.{Counts}
-use Rattle.jn_recovery.specs.Loading.{counts_by}
-use Rattle.jn_report.specs.declared.line.Line.{Line}
-use Rattle.jn_report.specs.declared.line.When.{When}
 use Rattle.jn_rests.proofs.BusyServers.{nothing}
-use Rattle.jn_rows.specs.Stable.{StableState, stable}
-use Rattle.jn_server.specs.Seen.{view_with, memory_of, room_of}
-use Rattle.jn_stands.specs.Starting.{IsStoreOf}
-use Rattle.jn_stands.specs.Stands.{Standing, Stands, StandsAt}
-use Rattle.jn_storage.specs.Calls.{state}
-use Rattle.jn_store.specs.Pairs.{pairs_view}
-use Rattle.jn_store.specs.Store.{StoreView}
-use Rattle.jn_world.specs.Calm.{IsUpAndCalm, AreUpAndCalm}
-use Rattle.jn_world.specs.Images.{HasFilesAlone, HasNoRubbish, AreClean, StayClean, HoldsImage, HoldsImageAt, HoldImages, IsScrubbedAt}
-use Rattle.jn_world.specs.Settling.{IsAtRest}
 use Rattle.jn_world.proofs.Calm.{all-at, all-by}
 use Rattle.jn_world.proofs.Finishing.{get-other, get-same, either}
 use Rattle.jn_worker.specs.Fitting.{is_none}
-use Rattle.jn_written.specs.Chances.{Setup}
-use Rattle.jn_written.specs.Runs.{Moment}
 
 some-same : {A : Type 0} (a b : A) → Some a ≡ Some b → a ≡ b
 some-same a b e = cc

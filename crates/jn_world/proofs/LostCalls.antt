@@ -1,40 +1,11 @@
 -- Messages that are lost, and messages that were never sent.
-use Rattle.std.proofs.Common.{◌≡◌, ◌≤◌, ◌<◌, ℕ, zero, suc, Bool, true, false, List, [], ◌∷◌, ◌++◌, length, Option, Some, None, Result, true≢false, refl, sym, ◌∙◌, ap, subst, arith}
-use Rattle.std.specs.Prelude.{drop, nat_lt, slice_get}
-use Rattle.jn_base.specs.declared.names.Party.TheVariants.{Server}
-use Rattle.jn_base.specs.declared.names.ServerNo.{ServerNo}
-use Rattle.jn_device.specs.Device.{DeviceState}
-use Rattle.jn_net.specs.Carried.{with_delivered}
-use Rattle.jn_net.specs.declared.Sent.{Sent as Posted}
-use Rattle.jn_place.specs.declared.place.Place.{Place}
-use Rattle.jn_place.specs.declared.place.Slot.{Slot}
-use Rattle.jn_place.specs.declared.place.Slot.TheVariants.{Up, Down, Gone}
-use Rattle.jn_recovery.specs.Loading.{counts_by}
-use Rattle.jn_report.specs.declared.line.EventRefusal.TheVariants.{TooManyArmed}
-use Rattle.jn_report.specs.declared.line.Line.{Line}
+use Rattle.jn_world.proofs.Common.{◌≡◌, ◌≤◌, ◌<◌, ℕ, zero, suc, Bool, true, false, List, [], ◌∷◌, ◌++◌, length, Option, Some, None, Result, true≢false, refl, sym, ◌∙◌, ap, subst, arith, drop, nat_lt, slice_get, Server, ServerNo, DeviceState, with_delivered, Posted, Place, Slot, Up, Down, Gone, counts_by, Line, When, Standing, Stands, pairs_view, StoreView, Ended, GoesTo, DoesEvent, EndsStep, Party, Carried, is_up, never-sent, StandsAt, is_up_at, is_up_in, IsSentTo, refusal_of, unless, Setup, Moment, lines_at}
 use Rattle.jn_report.specs.declared.line.Text.TheVariants as says
-use Rattle.jn_report.specs.declared.line.When.{When}
 use Rattle.jn_schedule.specs.declared.Event.TheVariants as events
-use Rattle.jn_stands.specs.Stands.{Standing, Stands}
-use Rattle.jn_store.specs.Pairs.{pairs_view}
-use Rattle.jn_store.specs.Store.{StoreView}
-use Rattle.jn_world.specs.declared.ended.Ended.{Ended}
-use Rattle.jn_world.specs.Written.{GoesTo, DoesEvent, EndsStep}
-use Rattle.jn_base.specs.declared.names.Party.{Party}
-use Rattle.jn_net.specs.Carried.{Carried}
-use Rattle.jn_place.specs.Places.{is_up}
 use Rattle.jn_report.specs.declared.line.EventRefusal.TheVariants as refusals
 use Rattle.jn_rests.specs.Waiting.{sent_of}
-use Rattle.jn_stands.proofs.Losing.{never-sent}
-use Rattle.jn_stands.specs.Stands.{StandsAt}
-use Rattle.jn_world.specs.Standing.{is_up_at, is_up_in}
-use Rattle.jn_world.specs.Written.{IsSentTo}
 use Rattle.jn_world.proofs.Refusing.{place-there}
 use Rattle.jn_world.proofs.ServerCalls.{lost-does, nudged-down-does}
-use Rattle.jn_written.specs.Refusals.{refusal_of, unless}
-use Rattle.jn_written.specs.Chances.{Setup}
-use Rattle.jn_written.specs.Runs.{Moment}
-use Rattle.jn_written.specs.Steps.{lines_at}
 
 pub sent-for : (ms : List Posted) (k : ℕ) (one : Posted) (party : Party) → slice_get ms k ≡ Some one → IsSentTo party (slice_get ms k) → one.to ≡ party
 sent-for ms k one party at to = subst (λ (o : Option Posted). IsSentTo party o) at to

@@ -1,19 +1,7 @@
 -- What falls at each turn of a rest: the messages still to be handed over, and the steps that servers have still to make.
-use Rattle.std.proofs.Common.{◌≡◌, ◌≤◌, ◌<◌, ℕ, zero, suc, ◌+◌, ◌-◌, Bool, true, false, cond, List, [], ◌∷◌, ◌++◌, map, drop, length, Option, Some, None, Result, Ok, Err, is_some, true≢false, refl, sym, ◌∙◌, ap, subst, arith}
-use Rattle.std.proofs.Math.ListN.{set}
-use Rattle.std.specs.List.{position_from}
-use Rattle.std.specs.Option.{option_map_or}
-use Rattle.std.specs.Prelude.{not, if◌then◌else◌, slice_get, OnOk}
-use Rattle.jn_base.specs.declared.names.Party.{Party}
-use Rattle.jn_net.specs.Carried.{Carried, waiting, with_delivered}
+use Rattle.jn_world.proofs.Common.{◌≡◌, ◌≤◌, ◌<◌, ℕ, zero, suc, ◌+◌, ◌-◌, Bool, true, false, cond, List, [], ◌∷◌, ◌++◌, drop, length, Some, Result, Ok, Err, is_some, true≢false, refl, sym, ◌∙◌, ap, subst, arith, set, position_from, not, if◌then◌else◌, slice_get, OnOk, Party, Carried, waiting, with_delivered, Posted, Place, Sent, StoreView, handed, steps_of_all, posted_by}
 use Rattle.jn_net.specs.Cursor.{waits_at}
-use Rattle.jn_net.specs.declared.Sent.{Sent as Posted}
-use Rattle.jn_place.specs.declared.place.Place.{Place}
 use Rattle.jn_place.specs.Remaining.{steps_at}
-use Rattle.jn_rows.specs.Outcomes.{Sent}
-use Rattle.jn_store.specs.Store.{StoreView}
-use Rattle.jn_world.specs.Settling.{handed, steps_of_all}
-use Rattle.jn_world.specs.Standing.{posted_by}
 
 -- ---- messages
 

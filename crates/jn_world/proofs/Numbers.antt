@@ -1,29 +1,12 @@
 -- The event under way changes only as one begins.
-use Rattle.std.proofs.Common.{◌≡◌, ℕ, ◌+◌, Bool, true, false, List, [], ◌∷◌, ◌++◌, map, drop, Option, Some, None, is_some, true≢false, refl, sym, ◌∙◌, ap, subst, arith}
-use Rattle.std.specs.Prelude.{if◌then◌else◌, slice_get}
-use Rattle.jn_base.specs.declared.names.ClientNo.{ClientNo}
-use Rattle.jn_base.specs.declared.names.ServerNo.{ServerNo}
-use Rattle.jn_base.specs.declared.names.Party.TheVariants.{Client, Server}
+use Rattle.jn_world.proofs.Common.{◌≡◌, ℕ, ◌+◌, Bool, true, false, List, [], ◌∷◌, ◌++◌, map, drop, Option, Some, None, is_some, true≢false, refl, sym, ◌∙◌, ap, subst, arith, if◌then◌else◌, slice_get, ClientNo, ServerNo, Client, Server, EventRefusal, Sent, Pick, Event, clients_from, handing, working, is_going, Setup, Chance, EpochsUsedUp, acted, met, resting, deed_of, settling, asking, servers_of, next_in, refusal_of, none, more, Moment, DoesStep, Leads, is_too_much, come_to, cut_short, made_to, Task, Begins, Meets, Acts, Rests, ComesUp, Dismisses, GoesDown, ClosesClients, CountsCommits, Stage, InSchedule, AtEnd, CutShort, State, begun, next_at}
 use Rattle.jn_system.specs.WholeSystem.Steps.{Step}
 use Rattle.jn_system.specs.WholeSystem.World.{World, Memory}
-use Rattle.jn_report.specs.declared.line.EventRefusal.{EventRefusal}
-use Rattle.jn_rows.specs.Outcomes.{Sent}
-use Rattle.jn_rows.specs.Stable.{Pick}
-use Rattle.jn_schedule.specs.declared.Event.{Event}
 use Rattle.jn_schedule.specs.declared.Event.TheVariants as events
 use Rattle.jn_system_settling.specs.Settling.Course.{Course, go, go_on}
-use Rattle.jn_system_settling.specs.Settling.Settle.{clients_from, handing, working}
-use Rattle.jn_world.specs.Written.{is_going}
-use Rattle.jn_written.specs.Chances.{Setup, Chance}
-use Rattle.jn_report.specs.declared.line.EventRefusal.TheVariants.{EpochsUsedUp}
 use Rattle.jn_report.specs.declared.line.Text.TheVariants as says
 use Rattle.jn_written.specs.Deeds.{Deed, nothing, served, working_steps, given_up, delivered, delivered_at, worked, is_busy, room, stopped_idle, scrubbed, showing, crashed_at, recovering, recovered, is_used_up, restarted, brought_up}
-use Rattle.jn_written.specs.Events.{acted, met, resting, deed_of, settling, asking, servers_of, next_in}
 use Rattle.jn_written.specs.Kinds.{event_after}
-use Rattle.jn_written.specs.Refusals.{refusal_of}
-use Rattle.jn_written.specs.Runs.{none, more, Moment, DoesStep, Leads}
-use Rattle.jn_written.specs.Steps.{is_too_much, come_to, cut_short, made_to}
-use Rattle.jn_written.specs.Tasks.{Task, Begins, Meets, Acts, Rests, ComesUp, Dismisses, GoesDown, ClosesClients, CountsCommits, Stage, InSchedule, AtEnd, CutShort, State, begun, next_at}
 use Rattle.jn_written.proofs.Telling.{adds}
 
 -- how many events are still to begin

@@ -1,30 +1,9 @@
 -- Why an event of a server's device is refused beforehand, and what is refused behind it.
-use Rattle.std.proofs.Common.{◌≡◌, ◌≤◌, ℕ, zero, suc, ◌+◌, Bool, true, false, List, [], ◌∷◌, length, slice_get, Some, None, Result, Ok, Err, refl, sym, ◌∙◌, ap, subst, arith}
-use Rattle.std.proofs.Math.ListN.{set, get_or}
-use Rattle.std.proofs.lemmas.Bool.Decides.{nat_tests}
-use Rattle.std.proofs.lemmas.Option.{slice_get_within}
-use Rattle.std.specs.Prelude.{nat_lt, IfErr, OnOk}
-use Rattle.jn_base.specs.declared.device.FaultKind.{FaultKind}
-use Rattle.jn_base.specs.declared.names.ServerNo.{ServerNo}
-use Rattle.jn_device.specs.Device.{DeviceState}
-use Rattle.jn_device.specs.Events.{is_within}
-use Rattle.jn_place.specs.declared.place.Place.{Place}
-use Rattle.jn_records.specs.StablePages.{Counts, page_count}
-use Rattle.jn_recovery.specs.Loading.{counts_by}
+use Rattle.jn_world.proofs.Common.{◌≡◌, ◌≤◌, ℕ, zero, suc, ◌+◌, Bool, true, false, List, [], ◌∷◌, length, slice_get, Some, None, Result, Ok, Err, refl, sym, ◌∙◌, ap, subst, arith, set, nat_tests, slice_get_within, nat_lt, IfErr, OnOk, FaultKind, ServerNo, DeviceState, is_within, Place, Counts, page_count, counts_by, Line, Event, Standing, Stands, StoreView, Ended, Memory, IsBefalling, EndsStep, Setup, physical_pages, refusal_of, if_there, unless, Moment}
+use Rattle.std.proofs.Math.ListN.{get_or}
 use Rattle.jn_report.specs.declared.line.EventRefusal.TheVariants as refusals
-use Rattle.jn_report.specs.declared.line.Line.{Line}
-use Rattle.jn_schedule.specs.declared.Event.{Event}
 use Rattle.jn_schedule.specs.declared.Event.TheVariants as events
-use Rattle.jn_stands.specs.Stands.{Standing, Stands}
-use Rattle.jn_store.specs.Store.{StoreView}
-use Rattle.jn_world.specs.declared.ended.Ended.{Ended}
-use Rattle.jn_world.specs.declared.ended.Ended.TheVariants.{Memory}
-use Rattle.jn_world.specs.Meeting.{IsBefalling}
-use Rattle.jn_world.specs.Written.{EndsStep}
 use Rattle.jn_world.proofs.Refusing.{is-there, not-there}
-use Rattle.jn_written.specs.Chances.{Setup, physical_pages}
-use Rattle.jn_written.specs.Refusals.{refusal_of, if_there, unless}
-use Rattle.jn_written.specs.Runs.{Moment}
 
 -- what was read is written again
 set-got : {A : Type 0} (xs : List A) (n : ℕ) (d : A) → set xs n (get_or xs n d) ≡ xs

@@ -1,41 +1,10 @@
 -- The places of a list of servers, and the world whose places they are.
-use Rattle.std.proofs.Common.{◌≡◌, ◌≤◌, ◌<◌, ℕ, zero, suc, ◌+◌, true, false, length, length-append, append-nil, List, [], ◌∷◌, ◌++◌, get_or, vec_len, Option, Some, None, Ok, Err, true≢false, refl, sym, ◌∙◌, ap, subst, arith}
-use Rattle.std.proofs.Math.ListN.{set}
-use Rattle.std.proofs.lemmas.Bool.Decides.{nat_tests}
-use Rattle.std.proofs.lemmas.List.Elements.{All-append, All-map, All-nil, All-cons, All-set, All-weaker, All-get_or, All-from_recursion, recursion_from_All}
-use Rattle.std.proofs.lemmas.Option.{slice_get_within, slice_get-get_or, get_or_from_slice_get}
-use Rattle.std.specs.List.{AllByRecursion as ByRecursion}
-use Rattle.std.specs.Prelude.{All, Result, OnOk, slice_get}
-use Rattle.std.specs.Vec.{with_item}
-use Rattle.jn_base.specs.declared.names.ClientNo.{ClientNo}
-use Rattle.jn_base.specs.declared.names.Party.{Party}
-use Rattle.jn_base.specs.declared.names.Party.TheVariants.{Server}
-use Rattle.jn_base.specs.declared.names.ServerNo.{ServerNo}
-use Rattle.jn_base.specs.declared.op.Command.{Command}
+use Rattle.jn_world.proofs.Common.{◌≡◌, ◌≤◌, ◌<◌, ℕ, zero, suc, ◌+◌, true, false, length, length-append, append-nil, [], ◌∷◌, ◌++◌, get_or, Option, Some, None, Ok, Err, true≢false, refl, sym, ◌∙◌, ap, subst, arith, set, nat_tests, All-append, All-map, All-nil, All-cons, All-set, All-weaker, All-get_or, All-from_recursion, recursion_from_All, slice_get_within, slice_get-get_or, get_or_from_slice_get, ByRecursion, All, Result, OnOk, slice_get, with_item, ClientNo, Party, Server, ServerNo, Command, Collected, Carried, with_delivered, Posted, sent_now, Counts, counts_by, PageCounts, ClientTable, Sends, command_row, take_row, again_row, new_table, Taken, Sent, StoreView, command-fits, command-draws, take-fits, take-number, new-fits, CanBeTaken, AllCanBeTaken, ClientFits, CommandInRange, CommandFits, sent_for, Left, Place, Slot, Up, Down, Gone, World, IsPlace, is_up, is_client_number, ArePlaces, IsClientOf, ArePosted, IsWorld, posted_by, messages_in, is_up_at, AreStores, AreClosed}
+use Rattle.std.proofs.Common.{List, vec_len}
 use Rattle.jn_found.specs.Recoverable.{IsRecoverable}
-use Rattle.jn_msgs.specs.Collected.{Collected}
 use Rattle.jn_msgs.specs.declared.message.Message.{Message}
-use Rattle.jn_net.specs.Carried.{Carried, with_delivered}
-use Rattle.jn_net.specs.declared.Sent.{Sent as Posted}
-use Rattle.jn_system.specs.WholeSystem.Steps.{sent_now}
-use Rattle.jn_records.specs.StablePages.{Counts}
-use Rattle.jn_recovery.specs.Loading.{counts_by}
-use Rattle.jn_recovery.specs.declared.counts.PageCounts.{PageCounts}
-use Rattle.jn_rows.specs.Client.{ClientTable, Sends, command_row, take_row, again_row, new_table}
-use Rattle.jn_rows.specs.declared.client.Taken.{Taken}
-use Rattle.jn_rows.specs.Outcomes.{Sent}
-use Rattle.jn_store.specs.Store.{StoreView}
-use Rattle.jn_within.proofs.Taking.{command-fits, command-draws, take-fits, take-number, new-fits}
 use Rattle.jn_within.specs.Drawing.{DrawsOne}
-use Rattle.jn_within.specs.Taking.{CanBeTaken, AllCanBeTaken, ClientFits, CommandInRange, CommandFits, sent_for}
-use Rattle.jn_place.specs.Calls.{Left}
-use Rattle.jn_place.specs.declared.place.Place.{Place}
-use Rattle.jn_place.specs.declared.place.Slot.{Slot}
-use Rattle.jn_place.specs.declared.place.Slot.TheVariants.{Up, Down, Gone}
-use Rattle.jn_world.specs.declared.world.World.{World}
-use Rattle.jn_place.specs.Places.{Stands, IsPlace, is_up}
-use Rattle.jn_stands.specs.Stands.{is_client_number}
-use Rattle.jn_world.specs.Standing.{ArePlaces, IsClientOf, ArePosted, IsWorld, posted_by, messages_in, is_up_at, AreStores, AreClosed}
+use Rattle.jn_place.specs.Places.{Stands}
 
 -- ---- one place
 

@@ -1,18 +1,5 @@
 -- Lists that are built one by one.
-use Rattle.std.proofs.Common.{◌≡◌, ℕ, false, zero, suc, ◌+◌, List, [], ◌∷◌, ◌++◌, map, length, slice_get, Some, refl, sym, ◌∙◌, ap, subst, arith}
-use Rattle.jn_base.specs.declared.names.Tid.{Tid}
-use Rattle.jn_device.specs.Device.{DeviceState}
-use Rattle.jn_place.specs.declared.place.Place.{Place}
-use Rattle.jn_place.specs.declared.place.Slot.{Slot}
-use Rattle.jn_place.specs.declared.place.Slot.TheVariants.{Up, Down, Gone}
-use Rattle.jn_place.specs.Calls.{StandsOn}
-use Rattle.jn_recovery.specs.declared.counts.PageCounts.{PageCounts}
-use Rattle.jn_rows.specs.Client.{ClientTable, new_table}
-use Rattle.jn_stands.specs.Stands.{Standing}
-use Rattle.jn_stands.specs.Starting.{IsStoreOf}
-use Rattle.jn_world.specs.Closing.{HasStore, AreTheirs}
-use Rattle.jn_world.specs.Opening.{AreNew, StandsFor, StandFor, Opens}
-use Rattle.jn_recovery.specs.Loading.{counts_by}
+use Rattle.jn_world.proofs.Common.{◌≡◌, ℕ, false, zero, suc, ◌+◌, List, [], ◌∷◌, ◌++◌, map, length, slice_get, Some, refl, sym, ◌∙◌, ap, subst, arith, Tid, DeviceState, Place, Slot, Up, Down, Gone, StandsOn, PageCounts, ClientTable, new_table, Standing, IsStoreOf, HasStore, AreTheirs, AreNew, StandsFor, StandFor, Opens, counts_by}
 
 some-same : {A : Type 0} (a b : A) → Some a ≡ Some b → a ≡ b
 some-same a b e = cc

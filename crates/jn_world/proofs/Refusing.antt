@@ -1,40 +1,10 @@
 -- Events of the schedule that are refused, or done.
-use Rattle.std.proofs.Common.{◌≡◌, ◌<◌, ◌≤◌, ℕ, zero, suc, Bool, true, false, List, [], ◌∷◌, ◌++◌, length, Option, Some, None, is_some, Result, Ok, Err, refl, sym, ◌∙◌, ap, subst, arith}
-use Rattle.std.proofs.lemmas.Bool.Decides.{nat_tests}
+use Rattle.jn_world.proofs.Common.{◌≡◌, ◌<◌, ◌≤◌, ℕ, zero, suc, Bool, true, false, List, [], ◌∷◌, ◌++◌, length, Option, Some, None, is_some, Result, Ok, Err, refl, sym, ◌∙◌, ap, subst, arith, nat_tests, vec_len, drop, nat_lt, slice_get, IfErr, OnOk, ServerNo, DeviceState, Place, Slot, Up, Down, Gone, is_up, Protocol, ServerMemory, counts_by, EventRefusal, Line, When, StableState, Pick, Event, meets-acts, refused-step, WentOn, is_settle, Standing, Stands, StandsAt, StoreView, Ended, Memory, is_up_at, is_up_in, IsAtUp, refusal_up, GoesTo, DoesEvent, DoesTasks, Setup, refusal_of, if_there, if_up, unless, Moment, Task, Meets, when_of}
 use Rattle.std.specs.Global.{Vec}
-use Rattle.std.specs.Prelude.{vec_len, drop, nat_lt, slice_get, IfErr, OnOk}
-use Rattle.jn_base.specs.declared.names.ServerNo.{ServerNo}
-use Rattle.jn_device.specs.Device.{DeviceState}
-use Rattle.jn_place.specs.declared.place.Place.{Place}
-use Rattle.jn_place.specs.declared.place.Slot.{Slot}
-use Rattle.jn_place.specs.declared.place.Slot.TheVariants.{Up, Down, Gone}
-use Rattle.jn_place.specs.Places.{is_up}
-use Rattle.jn_system.specs.WholeSystem.World.{World as Protocol, Memory as ServerMemory}
-use Rattle.jn_recovery.specs.Loading.{counts_by}
-use Rattle.jn_report.specs.declared.line.EventRefusal.{EventRefusal}
 use Rattle.jn_report.specs.declared.line.EventRefusal.TheVariants as refusals
-use Rattle.jn_report.specs.declared.line.Line.{Line}
 use Rattle.jn_report.specs.declared.line.Text.TheVariants as says
-use Rattle.jn_report.specs.declared.line.When.{When}
-use Rattle.jn_rows.specs.Stable.{StableState, Pick}
-use Rattle.jn_schedule.specs.declared.Event.{Event}
 use Rattle.jn_schedule.specs.declared.Event.TheVariants as events
-use Rattle.jn_stands.proofs.Meeting.{meets-acts}
-use Rattle.jn_stands.proofs.Still.{refused-step}
-use Rattle.jn_stands.specs.Going.{WentOn}
-use Rattle.jn_stands.specs.Meeting.{is_settle}
-use Rattle.jn_stands.specs.Stands.{Standing, Stands, StandsAt}
-use Rattle.jn_store.specs.Store.{StoreView}
-use Rattle.jn_world.specs.declared.ended.Ended.{Ended}
-use Rattle.jn_world.specs.declared.ended.Ended.TheVariants.{Memory}
-use Rattle.jn_world.specs.Standing.{is_up_at, is_up_in}
-use Rattle.jn_world.specs.Meeting.{IsAtUp, refusal_up}
-use Rattle.jn_world.specs.Written.{GoesTo, DoesEvent, DoesTasks}
 use Rattle.jn_world.proofs.Turns.{next-first}
-use Rattle.jn_written.specs.Chances.{Setup}
-use Rattle.jn_written.specs.Refusals.{refusal_of, if_there, if_up, unless}
-use Rattle.jn_written.specs.Runs.{Moment}
-use Rattle.jn_written.specs.Tasks.{Task, Meets, when_of}
 
 pub lt-none : {A : Type 0} (n : ℕ) (v : Vec A) → nat_lt n (vec_len v) ≡ false → nat_lt n (length v.items) ≡ false
 lt-none n v h = let same = v.ok.0 in grind (arith, nat_tests)

@@ -1,18 +1,8 @@
 -- Why a restart is refused beforehand.
-use Rattle.std.proofs.Common.{◌≡◌, ◌<◌, true, false, length, Option, Some, None, is_some, true≢false, sym, ◌∙◌}
-use Rattle.std.specs.Prelude.{nat_lt}
-use Rattle.jn_base.specs.declared.names.ServerNo.{ServerNo}
-use Rattle.jn_device.specs.Device.{DeviceState}
+use Rattle.jn_world.proofs.Common.{◌≡◌, ◌<◌, true, false, length, Option, Some, None, is_some, true≢false, sym, ◌∙◌, nat_lt, ServerNo, DeviceState, Restart, Standing, Stands, StoreView, is_up_at, Setup, refusal_of, if_down, Moment}
 use Rattle.jn_system.specs.WholeSystem.World.{Memory}
 use Rattle.jn_report.specs.declared.line.EventRefusal.TheVariants as refusals
-use Rattle.jn_schedule.specs.declared.Event.TheVariants.{Restart}
-use Rattle.jn_stands.specs.Stands.{Standing, Stands}
-use Rattle.jn_store.specs.Store.{StoreView}
-use Rattle.jn_world.specs.Standing.{is_up_at}
 use Rattle.jn_world.proofs.Refusing.{up-as, not-there, is-there}
-use Rattle.jn_written.specs.Chances.{Setup}
-use Rattle.jn_written.specs.Refusals.{refusal_of, if_down}
-use Rattle.jn_written.specs.Runs.{Moment}
 
 module _ {S : Type 0} (look : S → StoreView) (device : S → DeviceState) (w : Standing S) (q : ServerNo) (x : Setup) (m : Moment) (stands : Stands look device x w m) where
   pub restart-not-there : nat_lt q.0 (length w.places) ≡ false → refusal_of x m.state.course.world (Restart q) ≡ Some refusals.NoSuchServer

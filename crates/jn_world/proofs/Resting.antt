@@ -1,23 +1,6 @@
 -- One turn of a rest: a message is handed over, a server makes a step, or nothing is left.
-use Rattle.std.proofs.Common.{◌≡◌, ◌≤◌, false, List, [], ◌∷◌, length, Some, None, Result, Ok, subst}
-use Rattle.std.specs.Prelude.{drop}
-use Rattle.jn_device.specs.Device.{DeviceState}
-use Rattle.jn_report.specs.declared.line.Line.{Line}
-use Rattle.jn_report.specs.declared.line.When.{When}
-use Rattle.jn_schedule.specs.declared.Event.{Event}
-use Rattle.jn_stands.proofs.RestNext.{rest-next, rest-over-step}
-use Rattle.jn_stands.specs.Going.{WentOn}
-use Rattle.jn_stands.specs.Stands.{Standing, Stands}
-use Rattle.jn_store.specs.Pairs.{pairs_view}
-use Rattle.jn_store.specs.Store.{StoreView}
-use Rattle.jn_world.specs.declared.ended.Ended.{Ended}
-use Rattle.jn_world.specs.Written.{GoesTo, DoesEvent, KeepsOn, TakesTurn}
+use Rattle.jn_world.proofs.Common.{◌≡◌, ◌≤◌, false, List, [], ◌∷◌, length, Some, None, Result, Ok, subst, drop, DeviceState, Line, When, Event, rest-next, rest-over-step, WentOn, Standing, Stands, pairs_view, StoreView, Ended, GoesTo, DoesEvent, KeepsOn, TakesTurn, Setup, rubbish_on, next_in, Moment, Task, Rests}
 use Rattle.jn_world.proofs.Turns.{next-first}
-use Rattle.jn_written.specs.Chances.{Setup}
-use Rattle.jn_written.specs.Devices.{rubbish_on}
-use Rattle.jn_written.specs.Events.{next_in}
-use Rattle.jn_written.specs.Runs.{Moment}
-use Rattle.jn_written.specs.Tasks.{Task, Rests}
 
 module _ {S : Type 0} (look : S → StoreView) (device : S → DeviceState) (seen : (s : S) → look s ≡ pairs_view (device s)) (when : When) (w : Standing S) where
   -- this event is next, and was done or failed

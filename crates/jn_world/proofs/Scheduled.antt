@@ -1,23 +1,9 @@
 -- An event of the schedule, from where it begins.
-use Rattle.std.proofs.Common.{◌≡◌, ◌≤◌, ℕ, true, List, [], ◌∷◌, ◌++◌, length, Result, ◌∙◌, ap, arith}
-use Rattle.std.specs.Prelude.{drop}
-use Rattle.jn_device.specs.Device.{DeviceState}
-use Rattle.jn_report.specs.declared.line.Line.{Line}
-use Rattle.jn_report.specs.declared.line.When.{When}
-use Rattle.jn_report.specs.declared.line.When.TheVariants.{Event as AtEvent}
-use Rattle.jn_schedule.specs.declared.Event.{Event}
+use Rattle.jn_world.proofs.Common.{◌≡◌, ◌≤◌, ℕ, true, List, [], ◌∷◌, ◌++◌, length, Result, ◌∙◌, ap, arith, drop, DeviceState, Line, When, AtEvent, Event, begins-step, settles-step, WentOn, Standing, StoreView, Ended, DoesTasks, DoesScheduled, is_going, settling, Task, Begins, Meets, Stage, InSchedule, when_at, when_of}
 use Rattle.jn_schedule.specs.declared.Event.TheVariants as events
-use Rattle.jn_stands.proofs.Still.{begins-step, settles-step}
-use Rattle.jn_stands.specs.Going.{WentOn}
-use Rattle.jn_stands.specs.Stands.{Standing}
-use Rattle.jn_store.specs.Store.{StoreView}
-use Rattle.jn_world.specs.declared.ended.Ended.{Ended}
-use Rattle.jn_world.specs.Written.{DoesTasks, DoesScheduled, is_going}
 use Rattle.jn_world.proofs.Calls.{goes-then, went-going, went-when}
 use Rattle.jn_world.proofs.Numbers.{count_begins, begins-append, settling-begins, same-number}
 use Rattle.jn_world.proofs.Turns.{next-first}
-use Rattle.jn_written.specs.Events.{settling}
-use Rattle.jn_written.specs.Tasks.{Task, Begins, Meets, Stage, InSchedule, when_at, when_of}
 
 module _ {S : Type 0} (look : S → StoreView) (device : S → DeviceState) where
   -- it begins, and then it is refused or done

@@ -1,32 +1,12 @@
 -- Messages and notes of a step one after another, and what the world has then.
-use Rattle.std.proofs.Common.{◌≡◌, ◌≤◌, ◌<◌, ℕ, suc, ◌+◌, Bool, true, false, ◌||◌, List, [], ◌∷◌, ◌++◌, length, length-append, append_assoc, append-nil, Option, Some, Result, refl, sym, ◌∙◌, ap, arith}
-use Rattle.std.proofs.Math.Path.{fun_ext}
-use Rattle.std.proofs.lemmas.List.{map-append}
+use Rattle.jn_world.proofs.Common.{◌≡◌, ◌≤◌, ◌<◌, ℕ, suc, ◌+◌, Bool, true, false, ◌||◌, List, [], ◌∷◌, ◌++◌, length, length-append, append_assoc, Option, Some, Result, refl, sym, ◌∙◌, ap, arith, fun_ext, map-append, Party, Server, ServerNo, Tid, tid_eq, Posted, lines_of, commits_in, has_line, Line, Text, When, Sent, Collected, Standing, with_sent, with_named, with_answer, texts_sent, Ended, World, is_among, standing_of, EndsPart, lines_at, message_texts, traced}
 use Rattle.std.proofs.lemmas.List.Folds.{list_any-append}
 use Rattle.std.proofs.Math.Bool.{or_comm}
-use Rattle.jn_base.specs.declared.names.Party.{Party}
-use Rattle.jn_base.specs.declared.names.Party.TheVariants.{Server}
-use Rattle.jn_base.specs.declared.names.ServerNo.{ServerNo}
-use Rattle.jn_base.specs.declared.names.Tid.{Tid}
-use Rattle.jn_base.specs.Names.{tid_eq}
 use Rattle.jn_msgs.specs.declared.message.Note.{Note}
 use Rattle.jn_msgs.specs.Kinds.{kind_of}
-use Rattle.jn_net.specs.declared.Sent.{Sent as Posted}
-use Rattle.jn_system.specs.WholeSystem.Servers.{line_of, lines_of}
-use Rattle.jn_system.specs.WholeSystem.World.{commits_in, has_line}
-use Rattle.jn_report.specs.declared.line.Line.{Line}
-use Rattle.jn_report.specs.declared.line.Text.{Text}
 use Rattle.jn_report.specs.declared.line.Text.TheVariants as says
-use Rattle.jn_report.specs.declared.line.When.{When}
-use Rattle.jn_rows.specs.Outcomes.{Sent}
-use Rattle.jn_msgs.specs.Collected.{Collected}
-use Rattle.jn_stands.specs.Stands.{Standing, posted_by, with_sent, with_named, with_answer, texts_sent}
+use Rattle.jn_stands.specs.Stands.{posted_by}
 use Rattle.jn_world.proofs.Exits.{part-as}
-use Rattle.jn_world.specs.declared.ended.Ended.{Ended}
-use Rattle.jn_world.specs.declared.world.World.{World}
-use Rattle.jn_world.specs.Naming.{is_among}
-use Rattle.jn_world.specs.Written.{standing_of, EndsPart}
-use Rattle.jn_written.specs.Steps.{lines_at, message_texts, traced}
 
 -- ---- lines
 

@@ -1,50 +1,16 @@
 -- What a call of a server's place does, and its messages and notes, is an event of the written machine.
-use Rattle.std.proofs.Common.{◌≡◌, ℕ, Bool, false, List, [], ◌∷◌, ◌++◌, length, Option, Some, None, Result, Ok, Err, true≢false, sym, ap, subst}
-use Rattle.std.proofs.Math.ListN.{set}
-use Rattle.std.specs.Prelude.{drop, slice_get, slice_set, IsErr, IsErrAnd}
-use Rattle.jn_base.specs.declared.device.FaultKind.{FaultKind}
+use Rattle.jn_world.proofs.Common.{◌≡◌, ℕ, Bool, false, List, [], ◌∷◌, ◌++◌, length, Option, Some, None, Result, Ok, Err, true≢false, sym, ap, subst, set, drop, slice_get, IsErr, IsErrAnd, FaultKind, Server, ServerNo, Tid, DeviceState, PageDecays, PageRevives, FaultArmed, Collected, with_delivered, Posted, Place, Down, Took, WorkedBy, ScrubbedBy, Showed, AsksAgain, TimedOut, Crashed, Befell, has_work_at, WhereUp, TakeLeaves, WorkLeaves, KeepsRubbish, counts_by, TooManyArmed, Line, When, Event, IsStepTo, HasCounts, ReadsPages, texts_shown, Standing, texts_sent, with_answer, lost-step, crashed-step, pairs_view, StoreView, Ended, Memory, DoesEvent, EndsStep, Setup, told_unless, Moment, lines_at, Task}
+use Rattle.std.specs.Prelude.{slice_set}
 use Rattle.jn_base.specs.declared.device.FaultKind.TheVariants as faults
-use Rattle.jn_base.specs.declared.names.Party.TheVariants.{Server}
-use Rattle.jn_base.specs.declared.names.ServerNo.{ServerNo}
-use Rattle.jn_base.specs.declared.names.Tid.{Tid}
-use Rattle.jn_device.specs.Device.{DeviceState}
-use Rattle.jn_device.specs.Events.{Decays as PageDecays, Revives as PageRevives, Arms as FaultArmed}
-use Rattle.jn_msgs.specs.Collected.{Collected}
-use Rattle.jn_net.specs.Carried.{with_delivered}
-use Rattle.jn_net.specs.declared.Sent.{Sent as Posted}
-use Rattle.jn_place.specs.declared.place.Place.{Place}
-use Rattle.jn_place.specs.declared.place.Slot.TheVariants.{Down}
-use Rattle.jn_place.specs.Exact.{Took, WorkedBy, ScrubbedBy, Showed, AsksAgain, TimedOut, Crashed, Befell, has_work_at, WhereUp, TakeLeaves, WorkLeaves, KeepsRubbish}
-use Rattle.jn_recovery.specs.Loading.{counts_by}
-use Rattle.jn_report.specs.declared.line.EventRefusal.TheVariants.{TooManyArmed}
-use Rattle.jn_report.specs.declared.line.Line.{Line}
 use Rattle.jn_report.specs.declared.line.Text.TheVariants as says
-use Rattle.jn_report.specs.declared.line.When.{When}
-use Rattle.jn_schedule.specs.declared.Event.{Event}
 use Rattle.jn_schedule.specs.declared.Event.TheVariants as events
 use Rattle.jn_server.specs.declared.show.Shown.{Shown}
-use Rattle.jn_stands.specs.Going.{IsStepTo}
-use Rattle.jn_stands.specs.Pages.{HasCounts, ReadsPages}
-use Rattle.jn_stands.specs.Showing.{texts_shown}
-use Rattle.jn_stands.specs.Stands.{Standing, texts_sent, with_answer}
-use Rattle.jn_stands.proofs.Losing.{lost-step}
 use Rattle.jn_stands.proofs.Took.{took-step}
 use Rattle.jn_stands.proofs.Working.{idle-step, worked-step}
 use Rattle.jn_stands.proofs.Nudging.{nudged-step, nudged-down-step, timed-out-step}
 use Rattle.jn_stands.proofs.Looking.{scrubbed-step, showed-step}
-use Rattle.jn_stands.proofs.Crashing.{crashed-step}
 use Rattle.jn_stands.proofs.Befalling.{decayed-step, revived-step, armed-step}
-use Rattle.jn_store.specs.Pairs.{pairs_view}
-use Rattle.jn_store.specs.Store.{StoreView}
-use Rattle.jn_world.specs.declared.ended.Ended.{Ended}
-use Rattle.jn_world.specs.declared.ended.Ended.TheVariants.{Memory}
-use Rattle.jn_world.specs.Written.{DoesEvent, EndsStep}
 use Rattle.jn_world.proofs.Calls.{step-ends}
-use Rattle.jn_written.specs.Chances.{Setup}
-use Rattle.jn_written.specs.Events.{told_unless}
-use Rattle.jn_written.specs.Runs.{Moment}
-use Rattle.jn_written.specs.Steps.{lines_at}
-use Rattle.jn_written.specs.Tasks.{Task}
 
 module _ {S : Type 0} (look : S → StoreView) (device : S → DeviceState) (seen : (s : S) → look s ≡ pairs_view (device s)) where
   -- without memory nothing is said

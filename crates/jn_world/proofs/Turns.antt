@@ -1,24 +1,8 @@
 -- Turns of a rest, and events as tasks.
-use Rattle.std.proofs.Common.{◌≡◌, Bool, true, false, List, [], ◌∷◌, Some, Result, Ok, Err, true≢false, sym, ◌∙◌, ap, subst}
-use Rattle.std.specs.Prelude.{drop, IsErr, IsErrAnd}
-use Rattle.jn_base.specs.declared.names.ServerNo.{ServerNo}
-use Rattle.jn_device.specs.Device.{DeviceState}
-use Rattle.jn_report.specs.declared.line.Line.{Line}
-use Rattle.jn_report.specs.declared.line.When.{When}
-use Rattle.jn_schedule.specs.declared.Event.{Event}
+use Rattle.jn_world.proofs.Common.{◌≡◌, Bool, true, false, List, [], ◌∷◌, Some, Result, Ok, Err, true≢false, sym, ◌∙◌, ap, subst, drop, IsErr, IsErrAnd, ServerNo, DeviceState, Line, When, Event, acts-acts, down-acts, WentOn, is_settle, Standing, StoreView, Ended, Messages, Epoch, Memory, GoesTo, GoesTurn, DoesEvent, DoesTasks, KeepsOn, TakesTurn, is_going, Setup, Task, Acts, Rests, GoesDown, Stage, InSchedule, AtEnd, CutShort, State, next_task, next_at}
 use Rattle.jn_schedule.specs.declared.Event.TheVariants as events
-use Rattle.jn_stands.proofs.Meeting.{acts-acts, down-acts}
-use Rattle.jn_stands.specs.Going.{WentOn}
-use Rattle.jn_stands.specs.Meeting.{is_settle}
-use Rattle.jn_stands.specs.Stands.{Standing}
-use Rattle.jn_store.specs.Store.{StoreView}
-use Rattle.jn_world.specs.declared.ended.Ended.{Ended}
-use Rattle.jn_world.specs.declared.ended.Ended.TheVariants.{Messages, Epoch, Memory}
-use Rattle.jn_world.specs.Written.{GoesTo, GoesTurn, DoesEvent, DoesTasks, KeepsOn, TakesTurn, is_going}
 use Rattle.jn_world.proofs.Calls.{goes-then, fails-anyhow, went-nowhere, went-going, went-when}
 use Rattle.jn_world.proofs.Numbers.{count_begins}
-use Rattle.jn_written.specs.Chances.{Setup}
-use Rattle.jn_written.specs.Tasks.{Task, Acts, Rests, GoesDown, Stage, InSchedule, AtEnd, CutShort, State, next_task, next_at}
 
 -- the first task of a run that goes on is next
 next-by : (stage : Stage) (tasks : List Task) (task : Task) (rest : List Task) → tasks ≡ task ∷ rest → is_going stage ≡ true → next_at stage tasks ≡ Some task

@@ -1,8 +1,5 @@
 -- The message that waits is one that was sent.
-use Rattle.std.proofs.Common.{◌≡◌, ◌≤◌, ◌<◌, ℕ, ◌+◌, Bool, true, false, cond, List, [], ◌∷◌, length, drop, length-drop, Option, Some, None, is_some, true≢false, refl, sym, ◌∙◌, ap, arith}
-use Rattle.std.specs.List.{position_from}
-use Rattle.std.specs.Prelude.{not}
-use Rattle.jn_net.specs.Carried.{Carried, waiting}
+use Rattle.jn_world.proofs.Common.{◌≡◌, ◌≤◌, ◌<◌, ℕ, ◌+◌, Bool, true, false, cond, List, [], ◌∷◌, length, drop, length-drop, Option, Some, None, is_some, true≢false, refl, sym, ◌∙◌, ap, arith, position_from, not, Carried, waiting}
 use Rattle.jn_net.specs.declared.Sent.{Sent}
 
 some-same : (a b : ℕ) → Some a ≡ Some b → a ≡ b

@@ -1,8 +1,5 @@
 -- Parts of the world that a call leaves.
-use Rattle.std.proofs.Common.{◌≡◌, ap, sym, subst}
-use Rattle.jn_store.specs.Store.{StoreView}
-use Rattle.jn_world.specs.declared.world.World.{World}
-use Rattle.jn_world.specs.Standing.{IsWorld}
+use Rattle.jn_world.proofs.Common.{◌≡◌, ap, World}
 
 pub places-of : {S : Type 0} (a b : World S) → b ≡ record a { net = b.net; named = b.named } → b.places ≡ a.places
 places-of {S} a b e = ap (λ (w : World S). w.places) e

@@ -1,27 +1,8 @@
 -- A refusal is told only where its cause holds.
-use Rattle.std.proofs.Common.{◌≡◌, ℕ, Bool, true, false, List, [], ◌∷◌, map, Option, Some, None, refl, sym, subst, arith}
-use Rattle.std.specs.Prelude.{if◌then◌else◌, slice_get}
-use Rattle.std.specs.List.{list_all}
-use Rattle.jn_base.specs.declared.names.ServerNo.{ServerNo}
+use Rattle.jn_written.proofs.Common.{◌≡◌, ℕ, Bool, true, false, List, [], ◌∷◌, map, Option, Some, None, refl, sym, subst, arith, if◌then◌else◌, slice_get, list_all, ServerNo, Event, EventRefusal, TooManyArmed, EpochsUsedUp, Text, Pick, World, Memory, Printed, FileThere, PageStored, UnitLocked, print_files, go_on, text_printed, prints_of, Setup, Chance, Task, Begins, Meets, Acts, Rests, ComesUp, Dismisses, GoesDown, ClosesClients, CountsCommits, State, Deed, delivered, worked, blocks_from, shown, crashed_at, is_used_up, brought_up, given_up, recovered, refusal_of, servers_of, first_busy, next_event, told_unless, acted, met, resting, deed_of, texts_of, no_refusal, refused_while, or_else, cause_of}
 use Rattle.jn_base.specs.declared.device.FaultKind.TheVariants as faults
-use Rattle.jn_schedule.specs.declared.Event.{Event}
 use Rattle.jn_schedule.specs.declared.Event.TheVariants as events
-use Rattle.jn_report.specs.declared.line.EventRefusal.{EventRefusal}
-use Rattle.jn_report.specs.declared.line.EventRefusal.TheVariants.{TooManyArmed, EpochsUsedUp}
-use Rattle.jn_report.specs.declared.line.Text.{Text}
 use Rattle.jn_report.specs.declared.line.Text.TheVariants as says
-use Rattle.jn_rows.specs.Stable.{Pick}
-use Rattle.jn_system.specs.WholeSystem.World.{World, Memory}
-use Rattle.jn_system.specs.WholeSystem.Printing.{Printed, FileThere, PageStored, UnitLocked, print_files}
-use Rattle.jn_system_settling.specs.Settling.Course.{go_on}
-use Rattle.jn_system_reports.specs.Reporting.Printing.{text_printed, prints_of}
-use Rattle.jn_written.specs.Chances.{Setup, Chance}
-use Rattle.jn_written.specs.Tasks.{Task, Begins, Meets, Acts, Rests, ComesUp, Dismisses, GoesDown, ClosesClients, CountsCommits, State}
-use Rattle.jn_written.specs.Deeds.{Deed, delivered, worked, blocks_from, shown, crashed_at, is_used_up, brought_up, given_up, recovered}
-use Rattle.jn_written.specs.Refusals.{refusal_of}
-use Rattle.jn_written.specs.Events.{servers_of, first_busy, next_event, told_unless, acted, met, resting, deed_of}
-use Rattle.jn_written.specs.Steps.{texts_of}
-use Rattle.jn_written.specs.Kinds.{no_refusal, refused_while, or_else, cause_of}
 use Rattle.jn_written.proofs.Texts.{deed-texts, delivers, works, crashes, comes}
 use Rattle.jn_written.proofs.Quiet.{is_of_system, of-step}
 

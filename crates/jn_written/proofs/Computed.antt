@@ -1,9 +1,6 @@
 -- What is computed with chances is a run by steps.
-use Rattle.std.proofs.Common.{◌≡◌, ℕ, zero, suc, ◌+◌, Option, Some, None, refl}
-use Rattle.jn_written.specs.Chances.{Setup, Chance}
-use Rattle.jn_written.specs.Tasks.{Task, State, next_task}
-use Rattle.jn_written.specs.Steps.{done, next_by, after}
-use Rattle.jn_written.specs.Runs.{Steps, none, more, MayLead, Moment, Leads}
+use Rattle.jn_written.proofs.Common.{◌≡◌, ℕ, zero, suc, ◌+◌, Option, Some, None, refl, Setup, Chance, Task, State, next_task, done, next_by, Steps, none, more, MayLead, Moment, Leads}
+use Rattle.jn_written.specs.Steps.{after}
 
 module _ (x : Setup) (chances : ℕ → Chance) where
   pub computed : (n steps : ℕ) (s : State) → MayLead x s (after x chances n steps s)

@@ -1,30 +1,8 @@
 -- Each event begins once: those that began and those that are left are all.
-use Rattle.std.proofs.Common.{◌≡◌, ℕ, zero, suc, ◌+◌, Bool, true, false, List, [], ◌∷◌, ◌++◌, map, length, Option, Some, None, refl, sym, ◌∙◌, ap, subst, arith}
-use Rattle.std.specs.Prelude.{if◌then◌else◌, drop, slice_get, is_some}
-use Rattle.std.specs.List.{list_all}
-use Rattle.jn_order.specs.Files.{AllFiles}
-use Rattle.jn_base.specs.declared.names.ServerNo.{ServerNo}
-use Rattle.jn_base.specs.declared.names.ClientNo.{ClientNo}
-use Rattle.jn_base.specs.declared.names.Party.TheVariants.{Client, Server}
-use Rattle.jn_schedule.specs.declared.Event.{Event}
+use Rattle.jn_written.proofs.Common.{◌≡◌, ℕ, ◌+◌, Bool, true, false, List, [], ◌∷◌, ◌++◌, map, length, Option, Some, None, refl, sym, ◌∙◌, ap, subst, arith, if◌then◌else◌, slice_get, list_all, AllFiles, ServerNo, ClientNo, Client, Server, Event, EventRefusal, Sent, Pick, Room, World, Memory, Step, NextEvent, Course, go, go_on, Setup, Chance, Task, Begins, Meets, Acts, Rests, ComesUp, Dismisses, GoesDown, ClosesClients, CountsCommits, Stage, InSchedule, AtEnd, CutShort, State, next_at, begun, Deed, delivered, delivered_at, is_busy, worked, working_steps, served, nothing, stopped_idle, crashed_at, restarted, recovered, recovering, brought_up, is_used_up, servers_of, asking, settling, acted, met, resting, next_in, deed_of, printing, coming_up, ending, tasks_of, refusal_of, is_too_much, come_to, cut_short, made_to, none, more, MayStep, MayLead, before, event_after, events_left}
+use Rattle.std.specs.Prelude.{drop}
 use Rattle.jn_schedule.specs.declared.Event.TheVariants as events
-use Rattle.jn_report.specs.declared.line.EventRefusal.{EventRefusal}
-use Rattle.jn_rows.specs.Outcomes.{Sent}
-use Rattle.jn_rows.specs.Stable.{Pick}
-use Rattle.jn_system.specs.WholeSystem.Servers.{Room}
-use Rattle.jn_system.specs.WholeSystem.World.{World, Memory, servers_from}
-use Rattle.jn_system.specs.WholeSystem.Steps.{Step, NextEvent}
-use Rattle.jn_system_settling.specs.Settling.Course.{Course, go, go_on}
 use Rattle.jn_system_settling.specs.Settling.Settle.{clients_from, handing, working}
-use Rattle.jn_written.specs.Chances.{Setup, Chance}
-use Rattle.jn_written.specs.Tasks.{Task, Begins, Meets, Acts, Rests, ComesUp, Dismisses, GoesDown, ClosesClients, CountsCommits, Stage, InSchedule, AtEnd, CutShort, State, next_at, next_task, begun, first_of_tasks}
-use Rattle.jn_written.specs.Deeds.{Deed, delivered, delivered_at, is_busy, worked, working_steps, served, nothing, scrubbed, stopped_idle, showing, crashed_at, restarted, recovered, recovering, given_up, brought_up, is_used_up}
-use Rattle.jn_written.specs.Events.{servers_of, asking, settling, acted, met, resting, next_in, deed_of, printing, coming_up, ending, tasks_of}
-use Rattle.jn_written.specs.Refusals.{refusal_of}
-use Rattle.jn_written.specs.Steps.{is_too_much, come_to, cut_short, made_to}
-use Rattle.jn_written.specs.Runs.{none, more, MayStep, MayLead}
-use Rattle.jn_written.specs.Whole.{before}
-use Rattle.jn_written.specs.Kinds.{event_after, events_left}
 use Rattle.jn_written.proofs.Telling.{adds}
 
 -- ---- lists of tasks

@@ -1,15 +1,5 @@
 -- The steps of a run with devices are a run of the whole system.
-use Rattle.std.proofs.Common.{◌≡◌, Bool, true, false, List, [], ◌∷◌, ◌++◌, refl, sym, ◌∙◌, ap, subst}
-use Rattle.std.specs.Prelude.{if◌then◌else◌}
-use Rattle.jn_system.specs.WholeSystem.World.{World}
-use Rattle.jn_system.specs.WholeSystem.Steps.{Step, IsStep, IsRun, after, run}
-use Rattle.jn_system_settling.specs.Settling.Course.{Course, go, go_on}
-use Rattle.jn_written.specs.Chances.{Setup, Chance}
-use Rattle.jn_written.specs.Tasks.{Task, Dismisses, State, begun}
-use Rattle.jn_written.specs.Deeds.{Deed}
-use Rattle.jn_written.specs.Events.{deed_of}
-use Rattle.jn_written.specs.Steps.{is_too_much, come_to, cut_short, made}
-use Rattle.jn_written.specs.Runs.{none, more, Moment, DoesStep, Leads, IsOnCourse}
+use Rattle.jn_written.proofs.Common.{◌≡◌, Bool, true, false, List, [], ◌∷◌, ◌++◌, refl, sym, ◌∙◌, ap, subst, if◌then◌else◌, World, Step, IsStep, IsRun, after, run, Course, go, go_on, Setup, Chance, Task, Dismisses, State, begun, Deed, deed_of, is_too_much, come_to, cut_short, made, none, more, Moment, DoesStep, Leads, IsOnCourse}
 
 run-more : (a : List Step) (step : Step) (w : World) → run (a ++ step ∷ []) w ≡ after step (run a w)
 run-more [] step w = refl

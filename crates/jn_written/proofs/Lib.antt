@@ -1,3 +1,4 @@
+mod Common
 pub mod Reports
 pub mod Computed
 pub mod Telling

@@ -1,27 +1,6 @@
 -- The commits that the lines name are those that the system names.
-use Rattle.std.proofs.Common.{◌≡◌, ℕ, ◌+◌, Bool, true, false, List, [], ◌∷◌, ◌++◌, append-nil, append_assoc, length, drop, map, refl, sym, ◌∙◌, ap, subst}
-use Rattle.std.specs.Prelude.{if◌then◌else◌}
-use Rattle.std.specs.List.{list_all}
-use Rattle.std.proofs.Math.Seq.{drop-append_seam}
-use Rattle.jn_base.specs.declared.names.ServerNo.{ServerNo}
-use Rattle.jn_base.specs.declared.names.Tid.{Tid}
-use Rattle.jn_base.specs.declared.names.Party.{Party}
-use Rattle.jn_base.specs.declared.device.Outside.{Outside}
-use Rattle.jn_report.specs.declared.line.When.{When}
-use Rattle.jn_report.specs.declared.line.Text.{Text}
+use Rattle.jn_written.proofs.Common.{◌≡◌, ℕ, ◌+◌, Bool, true, false, List, [], ◌∷◌, ◌++◌, append-nil, append_assoc, length, drop, map, refl, sym, ◌∙◌, ap, subst, if◌then◌else◌, list_all, drop-append_seam, ServerNo, Tid, Party, Outside, When, Text, Line, commit_in, history_of, Sent, World, committed_in, commits_in, Step, Course, go_on, newly_sent, Setup, Chance, Task, Begins, Meets, Acts, Rests, ComesUp, Dismisses, GoesDown, ClosesClients, CountsCommits, State, when_of, begun, Use, Calls, Reads, Recovers, Deed, deed_of, outside_texts, own_texts, message_texts, traced, texts_of, lines_at, is_too_much, come_to, cut_short, made, none, more, MayStep, MayLead}
 use Rattle.jn_report.specs.declared.line.Text.TheVariants as says
-use Rattle.jn_report.specs.declared.line.Line.{Line}
-use Rattle.jn_serial.specs.Lines.{commit_in, history_of}
-use Rattle.jn_rows.specs.Outcomes.{Sent}
-use Rattle.jn_system.specs.WholeSystem.World.{World, committed_in, commits_in}
-use Rattle.jn_system.specs.WholeSystem.Steps.{Step}
-use Rattle.jn_system_settling.specs.Settling.Course.{Course, go_on, newly_sent}
-use Rattle.jn_written.specs.Chances.{Setup, Chance}
-use Rattle.jn_written.specs.Tasks.{Task, Begins, Meets, Acts, Rests, ComesUp, Dismisses, GoesDown, ClosesClients, CountsCommits, State, when_of, begun}
-use Rattle.jn_written.specs.Deeds.{Use, Calls, Reads, Recovers, Deed}
-use Rattle.jn_written.specs.Events.{deed_of}
-use Rattle.jn_written.specs.Steps.{outside_texts, own_texts, message_texts, traced, texts_of, lines_at, is_too_much, come_to, cut_short, made}
-use Rattle.jn_written.specs.Runs.{none, more, MayStep, MayLead}
 use Rattle.jn_written.proofs.Telling.{first, second}
 use Rattle.jn_written.proofs.Texts.{gone-on, More, task-texts, Besides}
 

@@ -1,26 +1,6 @@
 -- Lines are only added, each at the event that is under way, and events come in their order.
-use Rattle.std.proofs.Common.{◌≡◌, ◌≤◌, ℕ, Bool, true, false, List, [], ◌∷◌, ◌++◌, append-nil, append_assoc, Some, None, refl, sym, ◌∙◌, ap, subst, arith}
-use Rattle.std.specs.Prelude.{not, if◌then◌else◌, nat_lt}
-use Rattle.std.specs.List.{list_all}
-use Rattle.std.proofs.lemmas.List.Folds.{list_all-append}
-use Rattle.jn_order.specs.Files.{AllFiles}
-use Rattle.jn_base.specs.declared.names.ServerNo.{ServerNo}
-use Rattle.jn_schedule.specs.declared.Event.{Event}
-use Rattle.jn_report.specs.declared.line.When.{When}
+use Rattle.jn_written.proofs.Common.{◌≡◌, ◌≤◌, ℕ, Bool, true, false, List, [], ◌∷◌, ◌++◌, append-nil, append_assoc, Some, None, refl, sym, ◌∙◌, ap, subst, arith, not, if◌then◌else◌, nat_lt, list_all, list_all-append, AllFiles, ServerNo, Event, When, Text, Line, is_before, Step, NextEvent, Course, go, go_on, Setup, Chance, Task, Dismisses, Stage, InSchedule, AtEnd, CutShort, State, when_at, when_of, next_at, next_task, begun, Deed, deed_of, texts_of, lines_at, is_too_much, come_to, cut_short, made_to, none, more, MayStep, MayLead, before, event_after, none_before, are_in_order}
 use Rattle.jn_report.specs.declared.line.When.TheVariants.{Event as AtEvent, End}
-use Rattle.jn_report.specs.declared.line.Text.{Text}
-use Rattle.jn_report.specs.declared.line.Line.{Line}
-use Rattle.jn_serial.specs.Lines.{is_before}
-use Rattle.jn_system.specs.WholeSystem.Steps.{Step, NextEvent}
-use Rattle.jn_system_settling.specs.Settling.Course.{Course, go, go_on}
-use Rattle.jn_written.specs.Chances.{Setup, Chance}
-use Rattle.jn_written.specs.Tasks.{Task, Dismisses, Stage, InSchedule, AtEnd, CutShort, State, when_at, when_of, next_at, next_task, begun}
-use Rattle.jn_written.specs.Deeds.{Deed}
-use Rattle.jn_written.specs.Events.{deed_of}
-use Rattle.jn_written.specs.Steps.{texts_of, lines_at, is_too_much, come_to, cut_short, made_to}
-use Rattle.jn_written.specs.Runs.{none, more, MayStep, MayLead}
-use Rattle.jn_written.specs.Whole.{before}
-use Rattle.jn_written.specs.Kinds.{event_after, none_before, are_in_order}
 use Rattle.jn_written.proofs.Telling.{both, first, second, adds}
 
 -- ---- lines are only added

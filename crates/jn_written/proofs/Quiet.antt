@@ -1,24 +1,6 @@
 -- Messages have lines only where they are asked for, and each line that counts commits counts those before it.
-use Rattle.std.proofs.Common.{◌≡◌, ℕ, Bool, true, false, List, [], ◌∷◌, ◌++◌, append-nil, append_assoc, length, drop, refl, sym, ◌∙◌, subst, arith}
-use Rattle.std.specs.Prelude.{◌||◌, if◌then◌else◌}
-use Rattle.std.specs.List.{list_all}
-use Rattle.std.proofs.Math.Seq.{drop-append_seam}
-use Rattle.std.proofs.lemmas.List.Folds.{list_all-append}
-use Rattle.jn_report.specs.declared.line.When.{When}
-use Rattle.jn_report.specs.declared.line.Text.{Text}
+use Rattle.jn_written.proofs.Common.{◌≡◌, ℕ, Bool, true, false, List, [], ◌∷◌, ◌++◌, append-nil, append_assoc, length, drop, refl, sym, ◌∙◌, subst, arith, ◌||◌, if◌then◌else◌, list_all, drop-append_seam, list_all-append, When, Text, Line, history_of, Sent, Step, Tell, Deliver, Work, StopDelivery, StopWork, Crash, StopRestart, Restart, CloseClients, go_on, newly_sent, Setup, Chance, Task, Begins, Meets, Acts, Rests, ComesUp, Dismisses, GoesDown, ClosesClients, CountsCommits, State, when_of, begun, Deed, nobody, deed_of, own_texts, texts_of, lines_at, is_too_much, come_to, cut_short, made_to, traced, message_texts, none, more, MayStep, MayLead, is_answer, is_note, is_of_delivery, is_up, is_down, is_stopped, no_message, are_quiet, may_tell, counts_right, count_right}
 use Rattle.jn_report.specs.declared.line.Text.TheVariants as says
-use Rattle.jn_report.specs.declared.line.Line.{Line}
-use Rattle.jn_serial.specs.Lines.{history_of}
-use Rattle.jn_rows.specs.Outcomes.{Sent}
-use Rattle.jn_system.specs.WholeSystem.Steps.{Step, Tell, Deliver, Work, StopDelivery, StopWork, Crash, StopRestart, Restart, CloseClients}
-use Rattle.jn_system_settling.specs.Settling.Course.{go_on, newly_sent}
-use Rattle.jn_written.specs.Chances.{Setup, Chance}
-use Rattle.jn_written.specs.Tasks.{Task, Begins, Meets, Acts, Rests, ComesUp, Dismisses, GoesDown, ClosesClients, CountsCommits, State, when_of, begun}
-use Rattle.jn_written.specs.Deeds.{Deed, nobody}
-use Rattle.jn_written.specs.Events.{deed_of}
-use Rattle.jn_written.specs.Steps.{own_texts, texts_of, lines_at, is_too_much, come_to, cut_short, made_to, traced, message_texts}
-use Rattle.jn_written.specs.Runs.{none, more, MayStep, MayLead}
-use Rattle.jn_written.specs.Kinds.{is_answer, is_note, is_of_delivery, is_up, is_down, is_stopped, no_message, are_quiet, may_tell, counts_right, count_right}
 use Rattle.jn_written.proofs.Telling.{both, first, second}
 use Rattle.jn_written.proofs.Ordered.{begun-lines}
 use Rattle.jn_written.proofs.Texts.{deed-texts, task-texts, Besides}

@@ -1,9 +1,5 @@
 -- Reports that no run tells.
-use Rattle.std.proofs.Common.{◌≡◌, Bool, true, false, List, [], refl, sym, ◌∙◌, ap}
-use Rattle.jn_report.specs.declared.line.Line.{Line}
-use Rattle.jn_written.specs.Kinds.{are_in_order, are_quiet, count_right}
-use Rattle.jn_written.specs.Whole.{before}
-use Rattle.jn_written.specs.Wrong.{IsNoReport, IsNoPlainReport}
+use Rattle.jn_written.proofs.Common.{◌≡◌, Bool, true, false, List, [], refl, sym, ◌∙◌, ap, Line, are_in_order, are_quiet, count_right, before, IsNoReport, IsNoPlainReport}
 use Rattle.jn_written.proofs.Ordered.{in-order}
 use Rattle.jn_written.proofs.Quiet.{quiet-run, count-run}
 

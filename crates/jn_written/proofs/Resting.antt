@@ -1,23 +1,6 @@
 -- When a rest is over, and whether an event is refused.
-use Rattle.std.proofs.Common.{◌≡◌, ◌≤◌, ◌<◌, ◌≢◌, ℕ, zero, suc, ◌+◌, Bool, true, false, List, [], ◌∷◌, ◌++◌, append-nil, length, drop, Option, Some, None, refl, sym, ◌∙◌, ap, subst, arith}
-use Rattle.std.proofs.Math.Seq.{drop-append_seam}
-use Rattle.std.specs.Prelude.{if◌then◌else◌, nat_lt}
-use Rattle.jn_base.specs.declared.names.ServerNo.{ServerNo}
-use Rattle.jn_schedule.specs.declared.Event.{Event}
-use Rattle.jn_report.specs.declared.line.EventRefusal.{EventRefusal}
-use Rattle.jn_report.specs.declared.line.Line.{Line}
-use Rattle.jn_report.specs.declared.line.Text.{Text}
+use Rattle.jn_written.proofs.Common.{◌≡◌, ◌≤◌, ◌<◌, ◌≢◌, ℕ, zero, suc, ◌+◌, Bool, true, false, List, [], ◌∷◌, ◌++◌, append-nil, length, drop, Option, Some, None, refl, sym, ◌∙◌, ap, subst, arith, drop-append_seam, if◌then◌else◌, nat_lt, ServerNo, Event, EventRefusal, Line, Text, Sent, World, servers_from, Course, newly_sent, Setup, Chance, Task, Meets, Rests, CutShort, State, when_of, begun, Deed, is_busy, nobody, nothing, tells, refusal_of, servers_of, first_busy, next_event, next_in, acted, met, resting, own_texts, message_texts, traced, texts_of, lines_at, most_messages, is_too_much, come_to, cut_short, made_to, made, done, IsAtRest}
 use Rattle.jn_report.specs.declared.line.Text.TheVariants.{RefusedEvent}
-use Rattle.jn_rows.specs.Outcomes.{Sent}
-use Rattle.jn_system.specs.WholeSystem.World.{World, servers_from}
-use Rattle.jn_system_settling.specs.Settling.Course.{Course, newly_sent}
-use Rattle.jn_written.specs.Chances.{Setup, Chance}
-use Rattle.jn_written.specs.Tasks.{Task, Meets, Rests, CutShort, State, when_of, begun}
-use Rattle.jn_written.specs.Deeds.{Deed, is_busy, nobody, nothing, tells}
-use Rattle.jn_written.specs.Refusals.{refusal_of}
-use Rattle.jn_written.specs.Events.{servers_of, first_busy, next_event, next_in, acted, met, resting}
-use Rattle.jn_written.specs.Steps.{own_texts, message_texts, traced, texts_of, lines_at, most_messages, is_too_much, come_to, cut_short, made_to, made, done}
-use Rattle.jn_written.specs.Wrong.{IsAtRest}
 
 -- the tasks of a deed come first
 made-tasks : (x : Setup) (h : Chance) (deed : Deed) (c : Course) (s : State) → (made_to x h deed c s).stage ≢ CutShort → (made_to x h deed c s).tasks ≡ deed.tasks ++ s.tasks

@@ -1,12 +1,8 @@
 -- A stop and each fault that is told had waited.
-use Rattle.std.proofs.Common.{◌≡◌, ◌≤◌, ℕ, ◌+◌, Bool, true, false, List, [], ◌∷◌, Option, Some, None, refl, sym, ◌∙◌, ap, arith}
-use Rattle.std.specs.Prelude.{not, is_some}
+use Rattle.jn_written.proofs.Common.{◌≡◌, ◌≤◌, ℕ, ◌+◌, Bool, true, false, List, [], ◌∷◌, Option, Some, None, refl, sym, ◌∙◌, ap, arith, not, is_some, Outside, Pick, Chance}
 use Rattle.jn_base.specs.declared.device.FaultKind.{FaultKind}
-use Rattle.jn_base.specs.declared.device.Outside.{Outside}
 use Rattle.jn_device.specs.Device.{DeviceState}
 use Rattle.jn_device.specs.Later.{count_kind, count_told, is_stop, darkness}
-use Rattle.jn_rows.specs.Stable.{Pick}
-use Rattle.jn_written.specs.Chances.{Chance}
 use Rattle.jn_written.specs.Devices.{IsCalled}
 
 module _ (h : Chance) (d e : DeviceState) (c : IsCalled h d e) where

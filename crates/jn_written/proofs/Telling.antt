@@ -1,12 +1,6 @@
 -- What each step of the system adds to the lines, and the event under way after it.
-use Rattle.std.proofs.Common.{◌≡◌, ℕ, ◌+◌, Bool, true, false, List, [], ◌∷◌, ◌++◌, append-nil, Option, Some, None, refl, sym, ◌∙◌, subst, arith}
-use Rattle.std.specs.Prelude.{◌&&◌, ◌||◌, if◌then◌else◌, slice_get}
-use Rattle.std.specs.List.{list_all}
-use Rattle.jn_base.specs.declared.names.ServerNo.{ServerNo}
-use Rattle.jn_base.specs.declared.names.ClientNo.{ClientNo}
-use Rattle.jn_base.specs.declared.names.Tid.{Tid}
+use Rattle.jn_written.proofs.Common.{◌≡◌, ℕ, ◌+◌, Bool, true, false, List, [], ◌∷◌, ◌++◌, append-nil, Option, Some, None, refl, sym, ◌∙◌, subst, arith, ◌&&◌, ◌||◌, if◌then◌else◌, slice_get, list_all, ServerNo, ClientNo, Tid, Client, Server, Text, Pick, stable, RowOutcome, Sent, World, Memory, has_line, Room, server_step, server_row, of_coordinator, lines_of, named_now, Step, NextEvent, Tell, Again, Deliver, Work, Nudge, Timeout, StopDelivery, StopWork, Crash, Narrow, StopRestart, Restart, Dismiss, CloseClients, after, ends, at_memory, handed, work, works, nudge, timeout, crash, narrow, stop_restart, restart, close_clients, commanded, took, is_answer, is_note, is_of_delivery, is_up, is_stopped, may_tell, event_after}
 use Rattle.jn_base.specs.declared.names.WorkId.{WorkId}
-use Rattle.jn_base.specs.declared.names.Party.TheVariants.{Client, Server}
 use Rattle.jn_base.specs.declared.op.Answer.{Answer}
 use Rattle.jn_base.specs.declared.op.Answer.TheVariants as answers
 use Rattle.jn_base.specs.Names.{client_eq}
@@ -16,19 +10,12 @@ use Rattle.jn_msgs.specs.declared.message.Outcome.{Outcome}
 use Rattle.jn_msgs.specs.declared.message.Outcome.TheVariants.{Committed, Aborted, Waiting, NotKnown}
 use Rattle.jn_msgs.specs.declared.message.Note.{Note}
 use Rattle.jn_msgs.specs.declared.message.Note.TheVariants as notes
-use Rattle.jn_report.specs.declared.line.Text.{Text}
 use Rattle.jn_report.specs.declared.line.Text.TheVariants as says
 use Rattle.jn_rows.specs.declared.client.Outstanding.{Outstanding}
 use Rattle.jn_rows.specs.declared.client.Taken.{Taken}
 use Rattle.jn_rows.specs.declared.client.Taken.TheVariants as taken
-use Rattle.jn_rows.specs.Stable.{Pick, stable}
-use Rattle.jn_rows.specs.Outcomes.{RowOutcome, Sent}
 use Rattle.jn_rows.specs.Client.{ClientTable, Commanded, Refuses, Sends, command_row, take_row, if_waits, begun_row, opened_row, answer_line, outcome_row, is_current, is_end_or_abort, over}
 use Rattle.jn_rows.specs.Coordinator.{close_clients_row}
-use Rattle.jn_system.specs.WholeSystem.World.{World, Memory, has_line}
-use Rattle.jn_system.specs.WholeSystem.Servers.{Room, server_step, server_row, of_coordinator, lines_of, named_now}
-use Rattle.jn_system.specs.WholeSystem.Steps.{Step, NextEvent, Tell, Again, Deliver, Work, Nudge, Timeout, StopDelivery, StopWork, Crash, Narrow, StopRestart, Restart, Dismiss, CloseClients, after, ends, at_memory, handed, work, works, nudge, timeout, crash, narrow, stop_restart, restart, close_clients, commanded, took}
-use Rattle.jn_written.specs.Kinds.{is_answer, is_note, is_of_delivery, is_up, is_stopped, may_tell, event_after}
 
 pub record Adds (test : Text → Bool) (event : ℕ) (w now : World) : Type 0 where
   pub event_is : now.event ≡ event

@@ -1,38 +1,11 @@
 -- What holds of all that is told, where it holds of what each step of the system may tell and of what deeds tell besides.
-use Rattle.std.proofs.Common.{◌≡◌, ℕ, ◌+◌, Bool, true, false, List, [], ◌∷◌, ◌++◌, append-nil, append_assoc, map, length, drop, Option, Some, None, refl, sym, ◌∙◌, ap, subst}
-use Rattle.std.specs.Prelude.{if◌then◌else◌, slice_get}
-use Rattle.std.specs.List.{list_all}
-use Rattle.std.proofs.Math.Seq.{drop-append_seam}
-use Rattle.std.proofs.lemmas.List.Folds.{list_all-append}
-use Rattle.jn_base.specs.declared.names.ServerNo.{ServerNo}
+use Rattle.jn_written.proofs.Common.{◌≡◌, ℕ, ◌+◌, Bool, true, false, List, [], ◌∷◌, ◌++◌, append-nil, append_assoc, map, length, drop, Option, Some, None, refl, sym, ◌∙◌, ap, subst, if◌then◌else◌, slice_get, list_all, drop-append_seam, list_all-append, ServerNo, Tid, Party, Client, Server, Outside, Event, EventRefusal, EpochsUsedUp, Text, Pick, Sent, World, Memory, Step, after, Printed, FileThere, PageStored, UnitLocked, Course, go, go_on, newly_sent, text_printed, Setup, Chance, Task, Begins, Meets, Acts, Rests, ComesUp, Dismisses, GoesDown, ClosesClients, CountsCommits, State, Use, Calls, Reads, Recovers, Deed, delivered, delivered_at, is_busy, worked, shown, crashed_at, is_used_up, restarted, brought_up, given_up, recovered, served, nothing, working_steps, refusal_of, told_unless, acted, met, next_in, resting, deed_of, outside_texts, own_texts, message_texts, traced, texts_of, may_tell, event_after}
 use Rattle.jn_base.specs.declared.names.FileNo.{FileNo}
 use Rattle.jn_base.specs.declared.names.BlockNo.{BlockNo}
-use Rattle.jn_base.specs.declared.names.Tid.{Tid}
 use Rattle.jn_base.specs.declared.names.LockUnit.{LockUnit}
-use Rattle.jn_base.specs.declared.names.Party.{Party}
-use Rattle.jn_base.specs.declared.names.Party.TheVariants.{Client, Server}
 use Rattle.jn_base.specs.declared.names.MsgKind.{MsgKind}
-use Rattle.jn_base.specs.declared.device.Outside.{Outside}
-use Rattle.jn_schedule.specs.declared.Event.{Event}
 use Rattle.jn_schedule.specs.declared.Event.TheVariants as events
-use Rattle.jn_report.specs.declared.line.EventRefusal.{EventRefusal}
-use Rattle.jn_report.specs.declared.line.EventRefusal.TheVariants.{EpochsUsedUp}
-use Rattle.jn_report.specs.declared.line.Text.{Text}
 use Rattle.jn_report.specs.declared.line.Text.TheVariants as says
-use Rattle.jn_rows.specs.Stable.{Pick}
-use Rattle.jn_rows.specs.Outcomes.{Sent}
-use Rattle.jn_system.specs.WholeSystem.World.{World, Memory}
-use Rattle.jn_system.specs.WholeSystem.Steps.{Step, after}
-use Rattle.jn_system.specs.WholeSystem.Printing.{Printed, FileThere, PageStored, UnitLocked}
-use Rattle.jn_system_settling.specs.Settling.Course.{Course, go, go_on, newly_sent}
-use Rattle.jn_system_reports.specs.Reporting.Printing.{text_printed}
-use Rattle.jn_written.specs.Chances.{Setup, Chance}
-use Rattle.jn_written.specs.Tasks.{Task, Begins, Meets, Acts, Rests, ComesUp, Dismisses, GoesDown, ClosesClients, CountsCommits, State}
-use Rattle.jn_written.specs.Deeds.{Use, Calls, Reads, Recovers, Deed, delivered, delivered_at, is_busy, worked, shown, crashed_at, is_used_up, restarted, brought_up, given_up, recovered, served, nothing, working_steps}
-use Rattle.jn_written.specs.Refusals.{refusal_of}
-use Rattle.jn_written.specs.Events.{told_unless, acted, met, next_in, resting, deed_of}
-use Rattle.jn_written.specs.Steps.{outside_texts, own_texts, message_texts, traced, texts_of}
-use Rattle.jn_written.specs.Kinds.{may_tell, event_after}
 use Rattle.jn_written.proofs.Telling.{both, Adds, adds, weaker}
 
 -- ---- a deed's texts

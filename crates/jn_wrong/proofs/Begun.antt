@@ -1,17 +1,6 @@
 -- What runs tell, computed: of one server and of two.
-use Rattle.std.proofs.Common.{◌≡◌, ℕ, Bool, true, false, List, [], ◌∷◌, None, refl}
-use Rattle.jn_base.specs.declared.names.ServerNo.{ServerNo}
-use Rattle.jn_order.specs.Files.{no_files}
+use Rattle.jn_wrong.proofs.Common.{◌≡◌, ℕ, Bool, true, false, List, [], ◌∷◌, None, refl, ServerNo, no_files, Counts, Event, Line, Setup, State, next_task, before, begins, begun_report, traced_report, two_begin, two_report, opens_other, opened_report, settles_twice, settled_report, reads_and_aborts, read_report, shows_unmade, shown_report, begins_and_aborts, aborted_report, IsOnly, goes}
 use Rattle.jn_locks.specs.Locks as locks
-use Rattle.jn_records.specs.StablePages.{Counts}
-use Rattle.jn_schedule.specs.declared.Event.{Event}
-use Rattle.jn_report.specs.declared.line.Line.{Line}
-use Rattle.jn_written.specs.Chances.{Setup}
-use Rattle.jn_written.specs.Tasks.{State, next_task}
-use Rattle.jn_written.specs.Whole.{before}
-use Rattle.jn_wrong.specs.Wrong.{begins, begun_report}
-use Rattle.jn_wrong.specs.Reports.{traced_report, two_begin, two_report, opens_other, opened_report, settles_twice, settled_report, reads_and_aborts, read_report, shows_unmade, shown_report, begins_and_aborts, aborted_report}
-use Rattle.jn_wrong.specs.Still.{IsOnly, goes}
 use Rattle.jn_wrong.proofs.Exact.{new_epochs, setup_of, IsRunOf, only}
 use Rattle.jn_wrong.proofs.Computed.{Pieces, total, pieces-so}
 

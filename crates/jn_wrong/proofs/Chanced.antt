@@ -1,33 +1,6 @@
 -- A restart, a show and a settle where nothing strikes: what is found and what is free doesn't matter.
-use Rattle.std.proofs.Common.{◌≡◌, ℕ, Bool, true, false, List, [], ◌∷◌, Option, Some, None, is_some, refl, sym, ◌∙◌, ap, subst}
-use Rattle.std.specs.Prelude.{if◌then◌else◌, nat_eq, map}
-use Rattle.jn_base.specs.declared.names.ServerNo.{ServerNo}
-use Rattle.jn_base.specs.declared.names.FileNo.{FileNo}
-use Rattle.jn_base.specs.declared.names.Tid.{Tid}
-use Rattle.jn_base.specs.declared.names.WorkId.{WorkId}
-use Rattle.jn_base.specs.declared.names.LockUnit.TheVariants.{File}
-use Rattle.jn_base.specs.Names.{file_eq, tid_eq, work_eq}
-use Rattle.jn_base.proofs.Tells.{file_tells, tid_tells, work_tells}
+use Rattle.jn_wrong.proofs.Common.{◌≡◌, ℕ, Bool, true, false, List, [], ◌∷◌, Option, Some, None, is_some, refl, sym, ◌∙◌, ap, subst, if◌then◌else◌, nat_eq, map, ServerNo, FileNo, Tid, WorkId, File, file_eq, tid_eq, work_eq, file_tells, tid_tells, work_tells, Text, StableState, Pick, work_before, World, Memory, print_files, file_before, Step, Restart, tid_before, after, run, IsRun, restart, restart_with, text_printed, prints_of, go_on, course_to, Setup, Chance, Meets, Acts, ComesUp, State, begun, Deed, Reads, last_epoch, served, stopped_idle, blocks_from, shown, showing, pick_read, recovering, recovered, given_up, is_used_up, brought_up, Devices, IsLookedOver, IsRecovery, Alone, Befalls, EventRefusal, NoSuchServer, ServerDown, unless, met, deed_of, made, IsQuiet, Raised, called-calm, recovered-calm, quiet-alone, quiet-called, restarted-up, still, IsBlank, PrintsNothing}
 use Rattle.jn_schedule.specs.declared.Event.TheVariants as events
-use Rattle.jn_report.specs.declared.line.Text.{Text}
-use Rattle.jn_rows.specs.Stable.{StableState, Pick}
-use Rattle.jn_locks.specs.Locks.{work_before}
-use Rattle.jn_system.specs.WholeSystem.World.{World, Memory}
-use Rattle.jn_system.specs.WholeSystem.Printing.{print_files, file_before}
-use Rattle.jn_system.specs.WholeSystem.Steps.{Step, Restart, tid_before, after, run, IsRun, restart, restart_with}
-use Rattle.jn_system_reports.specs.Reporting.Printing.{text_printed, prints_of}
-use Rattle.jn_system_settling.specs.Settling.Course.{go_on, course_to}
-use Rattle.jn_written.specs.Chances.{Setup, Chance}
-use Rattle.jn_written.specs.Tasks.{Meets, Acts, ComesUp, State, begun}
-use Rattle.jn_written.specs.Deeds.{Deed, Reads, last_epoch, served, stopped_idle, blocks_from, shown, showing, pick_read, recovering, recovered, given_up, is_used_up, brought_up}
-use Rattle.jn_written.specs.Devices.{Devices, IsLookedOver, IsRecovery, Alone, Befalls}
-use Rattle.jn_report.specs.declared.line.EventRefusal.{EventRefusal}
-use Rattle.jn_report.specs.declared.line.EventRefusal.TheVariants.{NoSuchServer, ServerDown}
-use Rattle.jn_written.specs.Refusals.{unless}
-use Rattle.jn_written.specs.Events.{met, deed_of}
-use Rattle.jn_written.specs.Steps.{made}
-use Rattle.jn_headline.proofs.Quiet.{IsQuiet, Raised, called-calm, recovered-calm, quiet-alone, quiet-called, restarted-up}
-use Rattle.jn_wrong.specs.Still.{still, IsBlank, PrintsNothing}
 use Rattle.jn_wrong.proofs.Bare.{bare_course, bare, made-same}
 use Rattle.jn_wrong.proofs.Doing.{Follows, no-faults, below, none-named, itself}
 

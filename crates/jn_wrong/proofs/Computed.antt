@@ -1,11 +1,6 @@
 -- Runs without chances, computed.
-use Rattle.std.proofs.Common.{◌≡◌, ℕ, zero, suc, Bool, true, false, List, [], ◌∷◌, Option, Some, None, refl}
-use Rattle.std.specs.Prelude.{◌&&◌}
+use Rattle.jn_wrong.proofs.Common.{◌≡◌, ℕ, zero, suc, Bool, true, false, List, [], ◌∷◌, Option, Some, None, refl, ◌&&◌, Setup, Task, Begins, Meets, Acts, Rests, ComesUp, Dismisses, GoesDown, ClosesClients, CountsCommits, State, next_task, next, still, goes, does_so, DoesSo, DoesNext, GoesSo}
 use Rattle.jn_schedule.specs.declared.Event.TheVariants as events
-use Rattle.jn_written.specs.Chances.{Setup}
-use Rattle.jn_written.specs.Tasks.{Task, Begins, Meets, Acts, Rests, ComesUp, Dismisses, GoesDown, ClosesClients, CountsCommits, State, next_task}
-use Rattle.jn_written.specs.Steps.{next}
-use Rattle.jn_wrong.specs.Still.{still, goes, does_so, DoesSo, DoesNext, GoesSo}
 use Rattle.jn_wrong.proofs.Resting.{never}
 
 -- neither a restart nor a show

@@ -1,20 +1,7 @@
 -- Reports that differ from the only one.
-use Rattle.std.proofs.Common.{◌≡◌, ℕ, Bool, true, false, List, length, Option, Some, None, refl, sym, ◌∙◌, ap}
-use Rattle.std.specs.Prelude.{◌&&◌, nat_eq, slice_get}
-use Rattle.std.specs.List.{list_any}
-use Rattle.jn_order.specs.Files.{zeros}
-use Rattle.jn_schedule.specs.declared.Event.{Event}
-use Rattle.jn_report.specs.declared.line.EventRefusal.{EventRefusal}
+use Rattle.jn_wrong.proofs.Common.{◌≡◌, ℕ, Bool, true, false, List, length, Option, Some, None, refl, sym, ◌∙◌, ap, ◌&&◌, nat_eq, slice_get, list_any, zeros, Event, EventRefusal, When, AtEvent, Text, Line, block_of, IsOnly, IsNoneOfNew, begins, begun_report, traced_report, settles_twice, settled_report, two_begin, two_report, reads_and_aborts, read_report, opens_other, opened_report, shows_unmade, shown_report, begins_and_aborts, aborted_report}
 use Rattle.jn_report.specs.declared.line.Refusal.{Refusal}
-use Rattle.jn_report.specs.declared.line.When.{When}
-use Rattle.jn_report.specs.declared.line.When.TheVariants.{Event as AtEvent}
-use Rattle.jn_report.specs.declared.line.Text.{Text}
 use Rattle.jn_report.specs.declared.line.Text.TheVariants as says
-use Rattle.jn_report.specs.declared.line.Line.{Line}
-use Rattle.jn_written.specs.Examples.{block_of}
-use Rattle.jn_wrong.specs.Still.{IsOnly, IsNoneOfNew}
-use Rattle.jn_wrong.specs.Wrong.{begins, begun_report}
-use Rattle.jn_wrong.specs.Reports.{traced_report, settles_twice, settled_report, two_begin, two_report, reads_and_aborts, read_report, opens_other, opened_report, shows_unmade, shown_report, begins_and_aborts, aborted_report}
 use Rattle.jn_wrong.specs.Others.{nothing_answered, refused_by_client, refused_as_event, with_another, ended_with_another, commit_of_nobody, answered_later, one_for_two, aborted_for_another, committed_for_another, opened_another, answered_at_once, epoch_skipped, downs_swapped, ups_swapped, read_otherwise, show_tells, messages_swapped, thanked_too_soon}
 use Rattle.jn_wrong.proofs.Exact.{differs}
 use Rattle.jn_wrong.proofs.Begun.{begun-only, traced-only, settled-only, two-only, read-only, opened-only, shown-only, aborted-only}

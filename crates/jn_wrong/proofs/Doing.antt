@@ -1,31 +1,7 @@
 -- What each task does where nothing strikes: the same as without chances.
-use Rattle.std.proofs.Common.{◌≡◌, ◌≢◌, ◌⊎◌, inl, inr, ℕ, ◌<◌, Bool, true, false, List, [], ◌∷◌, Option, Some, None, is_some, refl, sym, ◌∙◌, ap, subst, arith}
-use Rattle.std.proofs.lemmas.Bool.Decides.{nat_tests}
-use Rattle.std.specs.Prelude.{◌||◌, if◌then◌else◌, nat_lt, map}
-use Rattle.std.specs.List.{list_any}
-use Rattle.jn_base.specs.declared.names.ServerNo.{ServerNo}
-use Rattle.jn_base.specs.declared.names.ClientNo.{ClientNo}
-use Rattle.jn_base.specs.declared.device.Outside.{Outside}
-use Rattle.jn_base.specs.declared.op.Command.{Command}
-use Rattle.jn_base.specs.Names.{server_eq}
-use Rattle.jn_base.proofs.Tells.{server_tells}
-use Rattle.jn_device.specs.Device.{DeviceState}
-use Rattle.jn_schedule.specs.declared.Event.{Event}
+use Rattle.jn_wrong.proofs.Common.{◌≡◌, ◌≢◌, ◌⊎◌, inl, inr, ℕ, ◌<◌, Bool, true, false, List, [], ◌∷◌, Option, Some, None, is_some, refl, sym, ◌∙◌, ap, subst, arith, nat_tests, ◌||◌, if◌then◌else◌, nat_lt, map, list_any, ServerNo, ClientNo, Outside, Command, server_eq, server_tells, DeviceState, Event, Pick, Commanded, Refuses, Sends, command_row, World, Memory, NextEvent, Tell, Again, Nudge, Crash, CloseClients, AreNames, after, commanded, crash, go_on, Setup, Chance, Task, Begins, Meets, Acts, Dismisses, GoesDown, ClosesClients, CountsCommits, State, begun, served, stopped_idle, crashed_at, Devices, IsServed, Alone, Befalls, deed_of, made, done, IsQuiet, Calm, called-calm, quiet-same, quiet-alone, quiet-called, nudged-up, closed-up, crashed-up, still}
 use Rattle.jn_schedule.specs.declared.Event.TheVariants as events
 use Rattle.jn_report.specs.declared.line.Text.TheVariants as says
-use Rattle.jn_rows.specs.Stable.{Pick}
-use Rattle.jn_rows.specs.Client.{Commanded, Refuses, Sends, command_row}
-use Rattle.jn_system.specs.WholeSystem.World.{World, Memory}
-use Rattle.jn_system.specs.WholeSystem.Steps.{NextEvent, Tell, Again, Nudge, Crash, CloseClients, AreNames, after, commanded, crash}
-use Rattle.jn_system_settling.specs.Settling.Course.{go_on}
-use Rattle.jn_written.specs.Chances.{Setup, Chance}
-use Rattle.jn_written.specs.Tasks.{Task, Begins, Meets, Acts, Dismisses, GoesDown, ClosesClients, CountsCommits, State, begun}
-use Rattle.jn_written.specs.Deeds.{served, stopped_idle, crashed_at}
-use Rattle.jn_written.specs.Devices.{Devices, IsServed, Alone, Befalls}
-use Rattle.jn_written.specs.Events.{deed_of}
-use Rattle.jn_written.specs.Steps.{made, done}
-use Rattle.jn_headline.proofs.Quiet.{IsQuiet, Calm, called-calm, quiet-same, quiet-alone, quiet-called, nudged-up, closed-up, crashed-up}
-use Rattle.jn_wrong.specs.Still.{still}
 use Rattle.jn_wrong.proofs.Bare.{bare_course, bare, made-same}
 
 -- it comes to what is done without chances, and nothing strikes later

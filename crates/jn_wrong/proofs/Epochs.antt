@@ -1,36 +1,7 @@
 -- A server comes up in a later epoch each time.
-use Rattle.std.proofs.Common.{◌≡◌, ◌≢◌, ◌⊎◌, inl, inr, ℕ, ◌+◌, ◌≤◌, Bool, true, false, List, [], ◌∷◌, ◌++◌, append-nil, Option, Some, None, refl, sym, ◌∙◌, subst, arith}
-use Rattle.std.specs.Prelude.{◌&&◌, ◌||◌, not, if◌then◌else◌, nat_lt, slice_get, take}
-use Rattle.std.specs.List.{list_all}
-use Rattle.std.proofs.lemmas.Bool.Decides.{nat_tests}
-use Rattle.jn_base.specs.declared.names.ServerNo.{ServerNo}
-use Rattle.jn_base.specs.declared.names.ClientNo.{ClientNo}
-use Rattle.jn_base.specs.declared.names.Tid.{Tid}
-use Rattle.jn_base.specs.declared.names.WorkId.{WorkId}
-use Rattle.jn_base.specs.declared.names.Party.TheVariants.{Client, Server}
-use Rattle.jn_base.specs.Names.{server_eq}
-use Rattle.jn_base.proofs.Tells.{server_tells}
-use Rattle.jn_order.specs.Files.{AllFiles}
-use Rattle.jn_msgs.specs.declared.message.Message.{Message}
-use Rattle.jn_schedule.specs.declared.Event.{Event}
-use Rattle.jn_report.specs.declared.line.Text.{Text}
+use Rattle.jn_wrong.proofs.Common.{◌≡◌, ◌≢◌, ◌⊎◌, inl, inr, ℕ, ◌+◌, ◌≤◌, Bool, true, false, List, [], ◌∷◌, ◌++◌, append-nil, Option, Some, None, refl, sym, ◌∙◌, subst, arith, ◌&&◌, ◌||◌, not, if◌then◌else◌, nat_lt, slice_get, take, list_all, nat_tests, ServerNo, ClientNo, Tid, WorkId, Client, Server, server_eq, server_tells, AllFiles, Message, Event, Text, Taken, Commanded, Refuses, Sends, ClientTable, command_row, take_row, close_clients_row, RowOutcome, Sent, StableState, Change, AddReady, MarkGoing, CarryOut, RemoveWork, AddFlag, DropFlag, Pick, stable, made_by, made_all, World, Memory, Room, server_row, server_step, of_coordinator, named_now, Step, NextEvent, Tell, Again, Deliver, Works, Nudge, Timeout, StopDelivery, StopWork, Crash, Narrow, StopRestart, Restart, Dismiss, CloseClients, after, commanded, took, ends, at_memory, handed, works, work, nudge, timeout, crash, narrow, stop_restart, restart, close_clients, Setup, State, MayLead, before, is_note, is_of_delivery, is_answer, Adds, adds, weaker, epoch_after, may_rise, epochs_rise}
 use Rattle.jn_report.specs.declared.line.Text.TheVariants as says
-use Rattle.jn_rows.specs.declared.client.Taken.{Taken}
 use Rattle.jn_rows.specs.declared.client.Taken.TheVariants as taken
-use Rattle.jn_rows.specs.Client.{Commanded, Refuses, Sends, ClientTable, command_row, take_row}
-use Rattle.jn_rows.specs.Coordinator.{close_clients_row}
-use Rattle.jn_rows.specs.Outcomes.{RowOutcome, Sent}
-use Rattle.jn_rows.specs.Stable.{StableState, Change, AddReady, MarkGoing, CarryOut, RemoveWork, AddFlag, DropFlag, Pick, stable, made_by, made_all}
-use Rattle.jn_system.specs.WholeSystem.World.{World, Memory}
-use Rattle.jn_system.specs.WholeSystem.Servers.{Room, server_row, server_step, of_coordinator, named_now}
-use Rattle.jn_system.specs.WholeSystem.Steps.{Step, NextEvent, Tell, Again, Deliver, Work as Works, Nudge, Timeout, StopDelivery, StopWork, Crash, Narrow, StopRestart, Restart, Dismiss, CloseClients, after, commanded, took, ends, at_memory, handed, works, work, nudge, timeout, crash, narrow, stop_restart, restart, close_clients}
-use Rattle.jn_written.specs.Chances.{Setup}
-use Rattle.jn_written.specs.Tasks.{State}
-use Rattle.jn_written.specs.Runs.{MayLead}
-use Rattle.jn_written.specs.Whole.{before}
-use Rattle.jn_written.specs.Kinds.{is_note, is_of_delivery, is_answer}
-use Rattle.jn_written.proofs.Telling.{Adds, adds, weaker}
-use Rattle.jn_wrong.specs.Turns.{epoch_after, may_rise, epochs_rise}
 use Rattle.jn_wrong.proofs.Reading.{no_turn, of-answer, of-note, of-delivery, named-quiet, reads, behind, quiet-reads, quiet-behind, Reading, run-read}
 
 both : (a b : Bool) → a ≡ true → b ≡ true → (a && b) ≡ true

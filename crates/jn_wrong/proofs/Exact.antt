@@ -1,30 +1,7 @@
 -- A whole run at which nothing can strike is the one without chances, whatever befalls it.
-use Rattle.std.proofs.Common.{◌≡◌, ◌⊎◌, inl, inr, ℕ, zero, suc, ◌≤◌, ◌<◌, Bool, true, false, List, [], ◌∷◌, drop, Option, Some, None, is_some, refl, sym, ◌∙◌, ap, subst, arith}
+use Rattle.jn_wrong.proofs.Common.{◌≡◌, ◌⊎◌, inl, inr, ℕ, zero, suc, ◌≤◌, ◌<◌, Bool, true, false, List, [], ◌∷◌, drop, Option, Some, None, is_some, refl, sym, ◌∙◌, ap, subst, arith, nat_tests, if◌then◌else◌, nat_lt, ServerNo, LockUnit, AllFiles, no_files, Counts, Event, Line, StableState, World, new_memory, run, go_on, on-world, Setup, Chance, Task, Begins, Meets, Acts, Rests, ComesUp, Dismisses, GoesDown, ClosesClients, CountsCommits, Stage, InSchedule, AtEnd, CutShort, State, next_at, next_task, begun, Deed, Devices, Befalls, deed_of, is_too_much, come_to, cut_short, done, next, next_by, none, more, Moment, Leads, before, AreImages, IsWhole, IsQuiet, blank, AreNew, IsOnly, IsNoneOfNew, still, goes, DoesSo, DoesNext, GoesSo}
 use Rattle.std.proofs.Math.Path.{fun_ext}
-use Rattle.std.proofs.lemmas.Bool.Decides.{nat_tests}
-use Rattle.std.specs.Prelude.{if◌then◌else◌, nat_lt}
-use Rattle.jn_base.specs.declared.names.ServerNo.{ServerNo}
-use Rattle.jn_base.specs.declared.names.LockUnit.{LockUnit}
-use Rattle.jn_order.specs.Files.{AllFiles, no_files}
-use Rattle.jn_records.specs.StablePages.{Counts}
-use Rattle.jn_schedule.specs.declared.Event.{Event}
 use Rattle.jn_schedule.specs.declared.Event.TheVariants as events
-use Rattle.jn_report.specs.declared.line.Line.{Line}
-use Rattle.jn_rows.specs.Stable.{StableState}
-use Rattle.jn_system.specs.WholeSystem.World.{World, new_memory}
-use Rattle.jn_system.specs.WholeSystem.Steps.{run}
-use Rattle.jn_system_settling.specs.Settling.Course.{go_on}
-use Rattle.jn_system_settling.proofs.Settling.Settling.{on-world}
-use Rattle.jn_written.specs.Chances.{Setup, Chance}
-use Rattle.jn_written.specs.Tasks.{Task, Begins, Meets, Acts, Rests, ComesUp, Dismisses, GoesDown, ClosesClients, CountsCommits, Stage, InSchedule, AtEnd, CutShort, State, next_at, next_task, begun}
-use Rattle.jn_written.specs.Deeds.{Deed}
-use Rattle.jn_written.specs.Devices.{Devices, Befalls}
-use Rattle.jn_written.specs.Events.{deed_of}
-use Rattle.jn_written.specs.Steps.{is_too_much, come_to, cut_short, done, next, next_by}
-use Rattle.jn_written.specs.Runs.{none, more, Moment, Leads}
-use Rattle.jn_written.specs.Whole.{before, AreImages, IsWhole}
-use Rattle.jn_headline.proofs.Quiet.{IsQuiet}
-use Rattle.jn_wrong.specs.Still.{blank, AreNew, IsOnly, IsNoneOfNew, still, goes, DoesSo, DoesNext, GoesSo}
 use Rattle.jn_wrong.proofs.Bare.{bare, done-bare}
 use Rattle.jn_wrong.proofs.Doing.{Follows, below, begins, tells-client, settles, asks, nudges, dismisses, counts, closes, scrubs, goes-down}
 use Rattle.jn_wrong.proofs.Chanced.{comes-up, shows, meets}

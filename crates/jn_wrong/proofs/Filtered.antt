@@ -1,16 +1,6 @@
 -- The lines of one kind among those that a step tells.
-use Rattle.std.proofs.Common.{◌≡◌, Bool, true, false, List, [], ◌∷◌, ◌++◌, length, drop, refl, ◌∙◌, ap, arith}
-use Rattle.std.specs.Prelude.{◌||◌, ◌&&◌, not, filter, if◌then◌else◌}
-use Rattle.std.specs.List.{list_all}
-use Rattle.std.proofs.Math.Seq.{drop-append_seam}
-use Rattle.jn_report.specs.declared.line.When.{When}
-use Rattle.jn_report.specs.declared.line.Text.{Text}
-use Rattle.jn_report.specs.declared.line.Line.{Line}
-use Rattle.jn_system.specs.WholeSystem.Steps.{Step, Tell, Deliver, Work, StopDelivery, StopWork, Crash, StopRestart, Restart, CloseClients}
-use Rattle.jn_system_settling.specs.Settling.Course.{Course, go_on}
-use Rattle.jn_written.specs.Steps.{own_texts, lines_at}
-use Rattle.jn_written.specs.Kinds.{may_tell, is_answer, is_note, is_of_delivery, is_up, is_down, is_stopped}
-use Rattle.jn_written.proofs.Texts.{More, gone-on}
+use Rattle.jn_wrong.proofs.Common.{◌≡◌, Bool, true, false, List, [], ◌∷◌, ◌++◌, length, drop, refl, ◌∙◌, ap, arith, ◌||◌, ◌&&◌, not, filter, if◌then◌else◌, list_all, drop-append_seam, When, Text, Line, Step, Tell, Deliver, StopDelivery, StopWork, Crash, StopRestart, Restart, CloseClients, Course, go_on, own_texts, lines_at, may_tell, is_answer, is_note, is_of_delivery, is_up, is_down, is_stopped, More, gone-on}
+use Rattle.jn_system.specs.WholeSystem.Steps.{Work}
 
 pub filter-both : {A : Type 0} (test : A → Bool) (xs ys : List A) → filter test (xs ++ ys) ≡ filter test xs ++ filter test ys
 filter-both test [] ys = refl

@@ -1,31 +1,10 @@
 -- A message that a settle hands over waits no more, so that no settle hands it over again.
-use Rattle.std.proofs.Common.{◌≡◌, ◌<◌, ℕ, ◌+◌, Bool, true, false, List, [], ◌∷◌, ◌++◌, length, length-append, drop, Option, Some, None, refl, sym, ◌∙◌, ap, subst, arith}
-use Rattle.std.specs.Prelude.{◌&&◌, not, nat_eq, nat_lt, if◌then◌else◌, slice_get}
-use Rattle.std.proofs.Math.Seq.{drop-append_seam}
-use Rattle.std.proofs.lemmas.Bool.Decides.{nat_tests}
-use Rattle.jn_base.specs.declared.names.ServerNo.{ServerNo}
-use Rattle.jn_base.specs.declared.names.Party.TheVariants.{Client, Server}
-use Rattle.jn_order.specs.Files.{AllFiles}
-use Rattle.jn_schedule.specs.declared.Event.{Event}
+use Rattle.jn_wrong.proofs.Common.{◌≡◌, ◌<◌, ℕ, ◌+◌, Bool, true, false, List, [], ◌∷◌, ◌++◌, length, length-append, drop, Option, Some, None, refl, sym, ◌∙◌, ap, subst, arith, ◌&&◌, not, nat_eq, nat_lt, if◌then◌else◌, slice_get, drop-append_seam, nat_tests, ServerNo, Client, Server, AllFiles, Event, Sent, Pick, World, Memory, Room, Step, NextEvent, Tell, Again, Deliver, Nudge, Timeout, StopDelivery, StopWork, Crash, Narrow, StopRestart, Restart, Dismiss, CloseClients, after, Course, without_number, still_waiting, numbered, go, go_on, handing, Setup, Chance, Task, Begins, Meets, Acts, Rests, ComesUp, Dismisses, GoesDown, ClosesClients, CountsCommits, Stage, CutShort, State, next_at, next_task, begun, Deed, room, no_room, delivered, delivered_at, servers_of, first_busy, next_event, next_in, resting, deed_of, is_too_much, come_to, cut_short, made, done, none, more, MayLead, before, HandsOver}
 use Rattle.jn_schedule.specs.declared.Event.TheVariants as events
-use Rattle.jn_rows.specs.Outcomes.{Sent}
-use Rattle.jn_rows.specs.Stable.{Pick}
-use Rattle.jn_system.specs.WholeSystem.World.{World, Memory}
-use Rattle.jn_system.specs.WholeSystem.Servers.{Room}
-use Rattle.jn_system.specs.WholeSystem.Steps.{Step, NextEvent, Tell, Again, Deliver, Work, Nudge, Timeout, StopDelivery, StopWork, Crash, Narrow, StopRestart, Restart, Dismiss, CloseClients, after}
-use Rattle.jn_system_settling.specs.Settling.Course.{Course, without_number, still_waiting, numbered, go, go_on}
-use Rattle.jn_system_settling.specs.Settling.Settle.{handing}
+use Rattle.jn_system.specs.WholeSystem.Steps.{Work}
 use Rattle.jn_system_settling.proofs.Settling.Burdens.{are_below, below-both, below-more, below-new}
 use Rattle.jn_system_settling.proofs.Settling.Courses.{Grows, grows, below-still}
 use Rattle.jn_system_settling.proofs.Settling.Parts.{get-some}
-use Rattle.jn_written.specs.Chances.{Setup, Chance}
-use Rattle.jn_written.specs.Tasks.{Task, Begins, Meets, Acts, Rests, ComesUp, Dismisses, GoesDown, ClosesClients, CountsCommits, Stage, CutShort, State, next_at, next_task, begun}
-use Rattle.jn_written.specs.Deeds.{Deed, room, no_room, delivered, delivered_at}
-use Rattle.jn_written.specs.Events.{servers_of, first_busy, next_event, next_in, resting, deed_of}
-use Rattle.jn_written.specs.Steps.{is_too_much, come_to, cut_short, made, done}
-use Rattle.jn_written.specs.Runs.{none, more, MayLead}
-use Rattle.jn_written.specs.Whole.{before}
-use Rattle.jn_wrong.specs.Settles.{HandsOver}
 
 -- ---- numbers that wait
 

@@ -1,20 +1,9 @@
 -- A settle is over only where nothing is left to do.
-use Rattle.std.proofs.Common.{◌≡◌, ◌≢◌, ◌⊎◌, inl, inr, ℕ, suc, ◌+◌, Bool, List, [], ◌∷◌, ◌++◌, append_assoc, length, length-append, drop, Option, Some, None, refl, sym, ◌∙◌, ap, subst, arith}
-use Rattle.jn_base.specs.declared.names.ServerNo.{ServerNo}
-use Rattle.jn_schedule.specs.declared.Event.{Event}
+use Rattle.jn_wrong.proofs.Common.{◌≡◌, ◌≢◌, ◌⊎◌, inl, inr, ℕ, suc, ◌+◌, Bool, List, [], ◌∷◌, ◌++◌, append_assoc, length, length-append, drop, Option, Some, None, refl, sym, ◌∙◌, ap, subst, arith, ServerNo, Event, Course, go_on, Setup, Task, Meets, Rests, CutShort, State, Deed, nothing, is_busy, Befalls, rubbish_on, asking, settling, next_in, resting, deed_of, done, none, more, Moment, DoesStep, Leads, ComesToRest}
 use Rattle.jn_schedule.specs.declared.Event.TheVariants as events
-use Rattle.jn_system_settling.specs.Settling.Course.{Course, go_on}
-use Rattle.jn_written.specs.Chances.{Setup}
-use Rattle.jn_written.specs.Tasks.{Task, Meets, Rests, CutShort, State}
-use Rattle.jn_written.specs.Deeds.{Deed, nothing, is_busy}
-use Rattle.jn_written.specs.Devices.{Befalls, rubbish_on}
-use Rattle.jn_written.specs.Events.{asking, settling, next_in, resting, deed_of}
-use Rattle.jn_written.specs.Steps.{done}
-use Rattle.jn_written.specs.Runs.{none, more, Moment, DoesStep, Leads}
 use Rattle.jn_written.specs.Wrong.{IsAtRest}
 use Rattle.jn_written.proofs.Resting.{rest-ends}
 use Rattle.jn_bounds.proofs.Doing.{GoesOn, IsCut, its-task, its-state, does, stays}
-use Rattle.jn_wrong.specs.Settles.{ComesToRest}
 
 -- no list is longer than itself
 no-longer : (front rest : List Task) (task : Task) → front ++ task ∷ rest ≡ rest → ⊥

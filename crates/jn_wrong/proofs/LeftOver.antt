@@ -1,22 +1,8 @@
 -- How many rubbish records a step leaves.
-use Rattle.std.proofs.Common.{◌≡◌, ◌<◌, ◌+◌, ◌-◌, ℕ, Bool, true, false, List, [], ◌∷◌, Option, Some, None, true≢false, refl, sym, ◌∙◌, ap, arith}
-use Rattle.std.specs.Prelude.{if◌then◌else◌, slice_get}
-use Rattle.std.proofs.lemmas.Bool.Decides.{nat_tests}
-use Rattle.jn_base.specs.declared.names.Party.TheVariants.{Server}
-use Rattle.jn_base.specs.declared.names.ServerNo.{ServerNo}
-use Rattle.jn_base.specs.declared.names.Tid.{Tid}
-use Rattle.jn_base.specs.declared.names.WorkId.{WorkId}
-use Rattle.jn_base.specs.Names.{server_eq}
-use Rattle.jn_msgs.specs.declared.message.Message.{Message}
-use Rattle.jn_rows.specs.Outcomes.{RowOutcome, Sent}
-use Rattle.jn_rows.specs.Stable.{StableState, Change, AddReady, MarkGoing, CarryOut, RemoveWork, AddFlag, DropFlag, Pick, stable}
+use Rattle.jn_wrong.proofs.Common.{◌≡◌, ◌<◌, ◌+◌, ◌-◌, ℕ, Bool, true, List, [], ◌∷◌, Option, Some, None, true≢false, refl, sym, ◌∙◌, ap, arith, if◌then◌else◌, slice_get, nat_tests, Server, ServerNo, Tid, WorkId, server_eq, Message, RowOutcome, Sent, StableState, Change, AddReady, MarkGoing, CarryOut, RemoveWork, AddFlag, DropFlag, Pick, stable, Room, server_row, server_step, Step, Deliver, Restart, World, Memory, Setup, Moment, DoesStep}
 use Rattle.jn_worker.specs.Leaving.{left_over}
-use Rattle.jn_system.specs.WholeSystem.Servers.{Room, server_row, server_step}
-use Rattle.jn_system.specs.WholeSystem.Steps.{Step, Deliver, Work, Restart}
-use Rattle.jn_system.specs.WholeSystem.World.{World, Memory}
-use Rattle.jn_written.specs.Chances.{Setup}
+use Rattle.jn_system.specs.WholeSystem.Steps.{Work}
 use Rattle.jn_written.specs.Rubbish.{rubbish_records, left_by_changes, left_by_work, left_by_message, left_at_work, left_by_restart, left_by_sent, left_by_steps}
-use Rattle.jn_written.specs.Runs.{Moment, DoesStep}
 use Rattle.jn_wrong.specs.Leaving.{steps_in, IsUpBehind, removes_none}
 
 same-server : (q : ServerNo) → server_eq q q ≡ true

@@ -1,3 +1,4 @@
+mod Common
 pub mod Refuted
 pub mod Bare
 pub mod Doing

@@ -1,28 +1,7 @@
 -- No line stands at an event that has not begun.
-use Rattle.std.proofs.Common.{◌≡◌, ◌≤◌, ℕ, ◌+◌, Bool, true, false, List, [], ◌∷◌, length, refl, sym, ◌∙◌, ap, subst, arith}
-use Rattle.std.specs.Prelude.{◌&&◌, if◌then◌else◌}
+use Rattle.jn_wrong.proofs.Common.{◌≡◌, ◌≤◌, ℕ, ◌+◌, Bool, true, false, List, [], ◌∷◌, length, refl, sym, ◌∙◌, ap, subst, arith, ◌&&◌, if◌then◌else◌, nat_tests, ServerNo, AllFiles, Event, When, AtEvent, End, Text, Line, World, go_on, Setup, Chance, Task, Dismisses, Stage, InSchedule, AtEnd, CutShort, State, when_at, when_of, begun, Deed, deed_of, texts_of, lines_at, is_too_much, come_to, cut_short, done, none, more, MayLead, before, events_left, begun-lines, events-rise, is_by, are_by}
 use Rattle.std.proofs.lemmas.List.Folds.{list_all-append}
-use Rattle.std.proofs.lemmas.Bool.Decides.{nat_tests}
-use Rattle.jn_base.specs.declared.names.ServerNo.{ServerNo}
-use Rattle.jn_order.specs.Files.{AllFiles}
-use Rattle.jn_schedule.specs.declared.Event.{Event}
-use Rattle.jn_report.specs.declared.line.When.{When}
-use Rattle.jn_report.specs.declared.line.When.TheVariants.{Event as AtEvent, End}
-use Rattle.jn_report.specs.declared.line.Text.{Text}
-use Rattle.jn_report.specs.declared.line.Line.{Line}
-use Rattle.jn_system.specs.WholeSystem.World.{World}
-use Rattle.jn_system_settling.specs.Settling.Course.{go_on}
-use Rattle.jn_written.specs.Chances.{Setup, Chance}
-use Rattle.jn_written.specs.Tasks.{Task, Dismisses, Stage, InSchedule, AtEnd, CutShort, State, when_at, when_of, begun}
-use Rattle.jn_written.specs.Deeds.{Deed}
-use Rattle.jn_written.specs.Events.{deed_of}
-use Rattle.jn_written.specs.Steps.{texts_of, lines_at, is_too_much, come_to, cut_short, done}
-use Rattle.jn_written.specs.Runs.{none, more, MayLead}
-use Rattle.jn_written.specs.Whole.{before}
-use Rattle.jn_written.specs.Kinds.{events_left}
-use Rattle.jn_written.proofs.Ordered.{begun-lines, events-rise}
 use Rattle.jn_written.proofs.Counted.{events-counted}
-use Rattle.jn_wrong.specs.Turns.{is_by, are_by}
 
 both : (a b : Bool) → a ≡ true → b ≡ true → (a && b) ≡ true
 both a b h k = grind arith

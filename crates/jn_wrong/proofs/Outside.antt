@@ -1,37 +1,9 @@
 -- The lines of a step that tell of refused faults are those that its device told.
-use Rattle.std.proofs.Common.{◌≡◌, ◌≢◌, ◌⊎◌, inl, inr, ℕ, ◌+◌, Bool, true, false, List, [], ◌∷◌, ◌++◌, append-nil, map, length, Option, Some, None, is_some, refl, ◌∙◌, ap, arith}
-use Rattle.std.specs.Prelude.{not, filter, if◌then◌else◌, slice_get}
-use Rattle.jn_base.specs.declared.names.ServerNo.{ServerNo}
-use Rattle.jn_base.specs.declared.names.Party.{Party}
-use Rattle.jn_base.specs.declared.names.Party.TheVariants.{Client, Server}
+use Rattle.jn_wrong.proofs.Common.{◌≡◌, ◌≢◌, ◌⊎◌, inl, inr, ℕ, ◌+◌, Bool, true, false, List, [], ◌∷◌, ◌++◌, append-nil, map, length, Option, Some, None, is_some, refl, ◌∙◌, ap, arith, not, filter, if◌then◌else◌, slice_get, ServerNo, Party, Client, Server, Outside, DeviceState, Event, EventRefusal, TooManyArmed, EpochsUsedUp, Text, Line, Sent, Pick, World, Memory, Printed, FileThere, PageStored, UnitLocked, print_files, Step, run, Course, go_on, newly_sent, text_printed, prints_of, Setup, Chance, Task, Begins, Meets, Acts, Rests, ComesUp, Dismisses, GoesDown, ClosesClients, CountsCommits, CutShort, State, when_of, begun, Use, Nothing, Calls, Reads, Recovers, PowersOff, Decays, Revives, Arms, Disarms, Deed, blocks_from, delivered, delivered_at, is_busy, worked, served, working_steps, nothing, shown, crashed_at, is_used_up, restarted, recovered, given_up, brought_up, Devices, IsCalled, IsRecovery, IsUsed, refusal_of, told_unless, acted, met, next_in, resting, deed_of, outside_texts, own_texts, message_texts, traced, texts_of, lines_at, is_too_much, come_to, cut_short, Moment, DoesStep, may_tell, begun-lines}
 use Rattle.jn_base.specs.declared.device.FaultKind.TheVariants as faults
-use Rattle.jn_base.specs.declared.device.Outside.{Outside}
-use Rattle.jn_device.specs.Device.{DeviceState}
 use Rattle.jn_device.specs.Events.{powered_off}
-use Rattle.jn_schedule.specs.declared.Event.{Event}
 use Rattle.jn_schedule.specs.declared.Event.TheVariants as events
-use Rattle.jn_report.specs.declared.line.EventRefusal.{EventRefusal}
-use Rattle.jn_report.specs.declared.line.EventRefusal.TheVariants.{TooManyArmed, EpochsUsedUp}
-use Rattle.jn_report.specs.declared.line.Text.{Text}
 use Rattle.jn_report.specs.declared.line.Text.TheVariants as says
-use Rattle.jn_report.specs.declared.line.Line.{Line}
-use Rattle.jn_rows.specs.Outcomes.{Sent}
-use Rattle.jn_rows.specs.Stable.{Pick}
-use Rattle.jn_system.specs.WholeSystem.World.{World, Memory}
-use Rattle.jn_system.specs.WholeSystem.Printing.{Printed, FileThere, PageStored, UnitLocked, print_files}
-use Rattle.jn_system.specs.WholeSystem.Steps.{Step, run}
-use Rattle.jn_system_settling.specs.Settling.Course.{Course, go_on, newly_sent}
-use Rattle.jn_system_reports.specs.Reporting.Printing.{text_printed, prints_of}
-use Rattle.jn_written.specs.Chances.{Setup, Chance}
-use Rattle.jn_written.specs.Tasks.{Task, Begins, Meets, Acts, Rests, ComesUp, Dismisses, GoesDown, ClosesClients, CountsCommits, CutShort, State, when_of, begun}
-use Rattle.jn_written.specs.Deeds.{Use, Nothing, Calls, Reads, Recovers, PowersOff, Decays, Revives, Arms, Disarms, Deed, blocks_from, delivered, delivered_at, is_busy, worked, served, working_steps, nothing, shown, crashed_at, is_used_up, restarted, recovered, given_up, brought_up}
-use Rattle.jn_written.specs.Devices.{Devices, IsCalled, IsRecovery, IsUsed}
-use Rattle.jn_written.specs.Refusals.{refusal_of}
-use Rattle.jn_written.specs.Events.{told_unless, acted, met, next_in, resting, deed_of}
-use Rattle.jn_written.specs.Steps.{outside_texts, own_texts, message_texts, traced, texts_of, lines_at, is_too_much, come_to, cut_short}
-use Rattle.jn_written.specs.Runs.{Moment, DoesStep}
-use Rattle.jn_written.specs.Kinds.{may_tell}
-use Rattle.jn_written.proofs.Ordered.{begun-lines}
 use Rattle.jn_wrong.proofs.Filtered.{filter-both, lines-left, is_of_step, step-tells, own-filtered}
 use Rattle.jn_wrong.specs.Telling.{is_outside, outside_lines, outside_at, TellsOf, TellsRaised, AreToldBy, TellsFaults}
 

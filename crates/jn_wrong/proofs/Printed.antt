@@ -1,22 +1,8 @@
 -- A show prints each file and each of its blocks once, in order, as they are there.
-use Rattle.std.proofs.Common.{◌≡◌, ◌≢◌, ◌≤◌, ◌<◌, ◌⊎◌, inl, inr, ℕ, zero, suc, ◌+◌, Bool, true, false, List, [], ◌∷◌, ◌++◌, map, Option, Some, None, is_some, refl, sym, ◌∙◌, ap, subst, arith}
-use Rattle.std.specs.Prelude.{◌&&◌, ◌||◌, nat_lt, nat_eq}
-use Rattle.std.specs.List.{list_all, list_any}
-use Rattle.std.proofs.lemmas.Bool.Decides.{nat_tests}
-use Rattle.jn_base.specs.declared.names.FileNo.{FileNo}
+use Rattle.jn_wrong.proofs.Common.{◌≡◌, ◌≢◌, ◌≤◌, ◌<◌, ◌⊎◌, inl, inr, ℕ, zero, suc, ◌+◌, Bool, true, false, List, [], ◌∷◌, ◌++◌, map, Option, Some, None, is_some, refl, sym, ◌∙◌, ap, subst, arith, ◌&&◌, ◌||◌, nat_lt, nat_eq, list_all, list_any, nat_tests, FileNo, Tid, LockUnit, File, Block, file_eq, file_tells, unit_eq, unit_before, are_rising, AreNames, Printed, FileThere, PageStored, UnitLocked, print_unit, print_one, print_blocks, print_file, print_files, file_before, blocks_from, unit_printed, prints_unit, AreThere, PrintsAll}
 use Rattle.jn_base.specs.declared.names.BlockNo.{BlockNo}
-use Rattle.jn_base.specs.declared.names.Tid.{Tid}
-use Rattle.jn_base.specs.declared.names.LockUnit.{LockUnit}
-use Rattle.jn_base.specs.declared.names.LockUnit.TheVariants.{File, Block}
-use Rattle.jn_base.specs.Names.{file_eq}
-use Rattle.jn_base.proofs.Tells.{file_tells}
 use Rattle.jn_locks.specs.Locks as locks
-use Rattle.jn_locks.specs.Locks.{unit_eq, unit_before}
 use Rattle.jn_locks.proofs.Orders.{unit_tells}
-use Rattle.jn_system.specs.WholeSystem.Steps.{are_rising, AreNames}
-use Rattle.jn_system.specs.WholeSystem.Printing.{Printed, FileThere, PageStored, UnitLocked, print_unit, print_one, print_blocks, print_file, print_files, file_before}
-use Rattle.jn_written.specs.Deeds.{blocks_from}
-use Rattle.jn_wrong.specs.Showing.{unit_printed, prints_unit, AreThere, PrintsAll}
 
 both : (a b : Bool) → a ≡ true → b ≡ true → (a && b) ≡ true
 both a b h k = grind arith

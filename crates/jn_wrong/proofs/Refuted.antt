@@ -1,22 +1,11 @@
 -- Reports that aren't those of their commits.
-use Rattle.std.proofs.Common.{◌≡◌, ℕ, Bool, true, false, List, [], ◌∷◌, refl, sym, ◌∙◌, ap, arith, Option, Some, None, is_some}
-use Rattle.std.specs.Prelude.{if◌then◌else◌, slice_get, nat_eq, nat_lt}
-use Rattle.jn_base.specs.declared.names.LockUnit.TheVariants.{File, Block}
-use Rattle.jn_base.specs.declared.op.Op.{Op}
+use Rattle.jn_wrong.proofs.Common.{◌≡◌, ℕ, Bool, true, false, List, [], ◌∷◌, refl, sym, ◌∙◌, ap, arith, Option, Some, None, is_some, if◌then◌else◌, slice_get, nat_eq, nat_lt, File, Block, Op, block_of, AllByRecursion, AllFiles, Files, change, effect, answer_to, files_after, is_did, zeros, ServerNo, Event, Line, AreImages, IsNone, begins, makes_one, makes_and_reads, opens_and_loses, answered_too_soon, stopped_by_nothing, fault_of_nothing, lost_without_opening, file_left_out, file_locked, page_unwritten, other_bytes, named_again, full_of}
 use Rattle.jn_base.specs.declared.op.Op.TheVariants as ops
 use Rattle.jn_base.specs.declared.op.Answer.TheVariants.{Did, Exists, Read as Found}
 use Rattle.jn_system_settling.specs.Settling.Rows.{s0, file, block}
-use Rattle.jn_written.specs.Examples.{block_of}
-use Rattle.std.specs.List.{AllByRecursion}
-use Rattle.jn_order.specs.Files.{AllFiles, Files, change, effect, answer_to, files_after, is_did, zeros}
-use Rattle.jn_base.specs.declared.names.ServerNo.{ServerNo}
-use Rattle.jn_schedule.specs.declared.Event.{Event}
 use Rattle.jn_schedule.specs.Ranges.{EventInRange}
-use Rattle.jn_report.specs.declared.line.Line.{Line}
 use Rattle.jn_headline.specs.WholeReports.Whole.{IsOfItsCommits}
-use Rattle.jn_written.specs.Whole.{AreImages}
 use Rattle.jn_headline.proofs.Joined.{whole-report}
-use Rattle.jn_wrong.specs.Wrong.{IsNone, begins, makes_one, makes_and_reads, opens_and_loses, answered_too_soon, stopped_by_nothing, fault_of_nothing, lost_without_opening, file_left_out, file_locked, page_unwritten, other_bytes, named_again, full_of}
 
 -- a report that isn't that of its commits, from whatever files
 by-clause : (schedule : List Event) (lines : List Line) → AllByRecursion EventInRange schedule → ((files : AllFiles) → IsOfItsCommits files schedule lines → ⊥) → IsNone schedule lines

@@ -1,33 +1,8 @@
 -- One step of a settle where nothing strikes: the message that a calm run hands over, or an erasure, which changes nothing.
-use Rattle.std.proofs.Common.{◌≡◌, ◌⊎◌, inl, inr, ℕ, ◌<◌, Bool, true, false, List, [], ◌∷◌, ◌++◌, append-nil, length, drop, Option, Some, None, is_some, refl, sym, ◌∙◌, ap, subst, arith}
-use Rattle.std.proofs.Math.Seq.{drop-append_seam}
-use Rattle.std.specs.Prelude.{◌&&◌, not, if◌then◌else◌, nat_lt, slice_get}
-use Rattle.jn_base.specs.declared.names.ServerNo.{ServerNo}
-use Rattle.jn_base.specs.declared.names.Party.TheVariants.{Client, Server}
-use Rattle.jn_msgs.specs.declared.message.Message.{Message}
+use Rattle.jn_wrong.proofs.Common.{◌≡◌, ◌⊎◌, inl, inr, ℕ, ◌<◌, Bool, true, false, List, [], ◌∷◌, ◌++◌, append-nil, length, drop, Option, Some, None, is_some, refl, sym, ◌∙◌, ap, subst, arith, drop-append_seam, ◌&&◌, not, if◌then◌else◌, nat_lt, slice_get, ServerNo, Client, Server, Message, StableState, Pick, stable, RowOutcome, Sent, Work, Active, Broken, Stored, WorkId, Phase, drop_row, drop_phase, work_at, World, Memory, Room, server_row, storage_of, of_worker, Deliver, Works, after, at_memory, handed, has_going, handing, working, go_on, course_to, newly_sent, numbered, Setup, Chance, Rests, State, begun, Deed, room, no_room, nothing, served, delivered, delivered_at, is_busy, is_busy_with, worked, working_steps, Devices, IsServed, Alone, Befalls, servers_of, first_busy, next_event, resting, deed_of, most_messages, made, done, IsQuiet, Calm, quiet-same, quiet-called, delivered-up, still, is_fixed, is_sent_so, rests_so}
 use Rattle.jn_msgs.specs.declared.message.Message.TheVariants as messages
-use Rattle.jn_rows.specs.Stable.{StableState, Pick, stable}
-use Rattle.jn_rows.specs.Outcomes.{RowOutcome, Sent}
-use Rattle.jn_rows.specs.declared.worker.Work.{Work}
-use Rattle.jn_rows.specs.declared.worker.Phase.TheVariants.{Active, Broken, Prepared as Stored}
-use Rattle.jn_base.specs.declared.names.WorkId.{WorkId}
-use Rattle.jn_rows.specs.declared.worker.Phase.{Phase}
-use Rattle.jn_rows.specs.Worker.{drop_row, drop_phase, work_at}
-use Rattle.jn_system.specs.WholeSystem.World.{World, Memory}
-use Rattle.jn_system.specs.WholeSystem.Servers.{Room, server_row, storage_of, of_worker}
-use Rattle.jn_system.specs.WholeSystem.Steps.{Step, Deliver, Work as Works, after, at_memory, handed}
 use Rattle.jn_system.specs.WholeSystem.Steps as steps
-use Rattle.jn_system_settling.specs.Settling.Settle.{is_busy as has_going, handing, working}
-use Rattle.jn_system_settling.specs.Settling.Course.{go_on, course_to, newly_sent, numbered}
-use Rattle.jn_written.specs.Chances.{Setup, Chance}
-use Rattle.jn_written.specs.Tasks.{Rests, State, begun}
-use Rattle.jn_written.specs.Deeds.{Deed, room, no_room, nothing, served, delivered, delivered_at, is_busy, is_busy_with, worked, working_steps}
-use Rattle.jn_written.specs.Devices.{Devices, IsServed, Alone, Befalls}
-use Rattle.jn_written.specs.Events.{servers_of, first_busy, next_event, resting, deed_of}
-use Rattle.jn_written.specs.Steps.{most_messages, made, done}
-use Rattle.jn_headline.proofs.Quiet.{IsQuiet, Calm, quiet-same, quiet-called, delivered-up}
 use Rattle.jn_headline.proofs.Busy.{IsFirst, first-busy-is, none-busy, idle-goes-not, erases}
-use Rattle.jn_wrong.specs.Still.{still, is_fixed, is_sent_so, rests_so}
 use Rattle.jn_wrong.proofs.Bare.{bare_course, bare, made-same, idles}
 use Rattle.jn_wrong.proofs.Doing.{no-faults, below, is-calm}
 

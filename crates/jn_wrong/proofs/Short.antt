@@ -1,47 +1,9 @@
 -- In any run, each abort that is told for want of room was short of it at a step.
-use Rattle.std.proofs.Common.{◌≡◌, ℕ, zero, suc, ◌+◌, Bool, true, false, List, [], ◌∷◌, ◌++◌, map, length, drop, Option, Some, None, refl, sym, ◌∙◌, ap, subst, arith}
-use Rattle.std.specs.Prelude.{if◌then◌else◌, ◌&&◌, nat_lt, slice_get}
-use Rattle.std.specs.List.{list_all}
-use Rattle.jn_base.specs.declared.names.ServerNo.{ServerNo}
-use Rattle.jn_base.specs.declared.names.ClientNo.{ClientNo}
-use Rattle.jn_base.specs.declared.names.Party.{Party}
-use Rattle.jn_base.specs.declared.names.Party.TheVariants.{Client, Server}
-use Rattle.jn_base.specs.declared.names.Resource.{Resource}
-use Rattle.jn_base.specs.declared.device.Outside.{Outside}
-use Rattle.jn_order.specs.Files.{AllFiles}
-use Rattle.jn_records.specs.declared.net_list.Need.{Need}
-use Rattle.jn_msgs.specs.declared.message.Message.{Message}
-use Rattle.jn_schedule.specs.declared.Event.{Event}
+use Rattle.jn_wrong.proofs.Common.{◌≡◌, ℕ, zero, suc, ◌+◌, Bool, true, false, List, [], ◌∷◌, ◌++◌, map, length, drop, Option, Some, None, refl, sym, ◌∙◌, ap, subst, arith, if◌then◌else◌, ◌&&◌, nat_lt, slice_get, list_all, ServerNo, ClientNo, Party, Client, Server, Resource, Outside, AllFiles, Need, Message, Event, EventRefusal, EpochsUsedUp, When, Text, Line, Sent, Pick, World, Memory, new_memory, Room, Step, Deliver, IsRun, run, after, LockFacts, ServerFact, Course, go, go_on, handing, working, on-world, Setup, Chance, Task, Begins, Meets, Acts, Rests, ComesUp, Dismisses, GoesDown, ClosesClients, CountsCommits, State, when_of, begun, Use, Nothing, Calls, Reads, Recovers, PowersOff, Decays, Revives, Arms, Disarms, Deed, room, delivered, delivered_at, is_busy, worked, working_steps, served, nothing, stopped_idle, crashed_at, recovering, recovered, restarted, given_up, brought_up, is_used_up, Devices, IsServed, Alone, IsUsed, refusal_of, acted, met, next_in, resting, deed_of, outside_texts, message_texts, traced, texts_of, lines_at, is_too_much, come_to, cut_short, none, more, Moment, DoesStep, Leads, before, closed_world, IsWritten, begun-lines, task-texts, Besides, IsShort, WasShort, OfText, OfLines}
 use Rattle.jn_schedule.specs.declared.Event.TheVariants as events
-use Rattle.jn_report.specs.declared.line.EventRefusal.{EventRefusal}
-use Rattle.jn_report.specs.declared.line.EventRefusal.TheVariants.{EpochsUsedUp}
-use Rattle.jn_report.specs.declared.line.When.{When}
-use Rattle.jn_report.specs.declared.line.Text.{Text}
 use Rattle.jn_report.specs.declared.line.Text.TheVariants as says
-use Rattle.jn_report.specs.declared.line.Line.{Line}
-use Rattle.jn_rows.specs.Outcomes.{Sent}
-use Rattle.jn_rows.specs.Stable.{Pick}
-use Rattle.jn_system.specs.WholeSystem.World.{World, Memory, new_memory}
-use Rattle.jn_system.specs.WholeSystem.Servers.{Room}
-use Rattle.jn_system.specs.WholeSystem.Steps.{Step, Deliver, IsRun, run, after}
-use Rattle.jn_system.specs.WholeSystem.LockFacts.{LockFacts, ServerFact}
 use Rattle.jn_system.proofs.WholeSystem.Steps.{locks-keep, run-keeps, opening-keeps}
-use Rattle.jn_system_settling.specs.Settling.Course.{Course, go, go_on}
-use Rattle.jn_system_settling.specs.Settling.Settle.{handing, working}
-use Rattle.jn_system_settling.proofs.Settling.Settling.{on-world}
-use Rattle.jn_written.specs.Chances.{Setup, Chance}
-use Rattle.jn_written.specs.Tasks.{Task, Begins, Meets, Acts, Rests, ComesUp, Dismisses, GoesDown, ClosesClients, CountsCommits, State, when_of, begun}
-use Rattle.jn_written.specs.Deeds.{Use, Nothing, Calls, Reads, Recovers, PowersOff, Decays, Revives, Arms, Disarms, Deed, room, delivered, delivered_at, is_busy, worked, working_steps, served, nothing, stopped_idle, crashed_at, recovering, recovered, restarted, given_up, brought_up, is_used_up}
-use Rattle.jn_written.specs.Devices.{Devices, IsServed, Alone, IsUsed}
-use Rattle.jn_written.specs.Refusals.{refusal_of}
-use Rattle.jn_written.specs.Events.{acted, met, next_in, resting, deed_of}
-use Rattle.jn_written.specs.Steps.{outside_texts, message_texts, traced, texts_of, lines_at, is_too_much, come_to, cut_short}
-use Rattle.jn_written.specs.Runs.{none, more, Moment, DoesStep, Leads}
-use Rattle.jn_written.specs.Whole.{before, closed_world, IsWritten}
-use Rattle.jn_written.proofs.Ordered.{begun-lines}
-use Rattle.jn_written.proofs.Texts.{task-texts, Besides}
 use Rattle.jn_written.proofs.Computed.{join}
-use Rattle.jn_wrong.specs.Wanting.{IsShort, WasShort, OfText, OfLines}
 use Rattle.jn_wrong.proofs.ShortRows.{OfTable}
 use Rattle.jn_wrong.proofs.ShortSteps.{OfTexts, both-tell, OfWorld, Finds, FindsAt, step-so}
 

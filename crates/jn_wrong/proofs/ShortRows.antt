@@ -1,31 +1,16 @@
 -- Whatever holds where a server is short of room holds of all that a coordinator's rows say of it.
-use Rattle.std.proofs.Common.{◌≡◌, ℕ, zero, suc, Bool, true, false, List, [], ◌∷◌, ◌++◌, length, Option, Some, None, refl, subst}
-use Rattle.std.specs.Prelude.{if◌then◌else◌, nat_eq, nat_lt, slice_get, ◌&&◌, not}
-use Rattle.jn_base.specs.declared.names.ServerNo.{ServerNo}
-use Rattle.jn_base.specs.declared.names.ClientNo.{ClientNo}
-use Rattle.jn_base.specs.declared.names.Tid.{Tid}
-use Rattle.jn_base.specs.declared.names.WorkId.{WorkId}
-use Rattle.jn_base.specs.declared.names.Tickets.{Tickets}
+use Rattle.jn_wrong.proofs.Common.{◌≡◌, ℕ, zero, suc, Bool, true, false, List, [], ◌∷◌, ◌++◌, length, Option, Some, None, refl, subst, if◌then◌else◌, nat_eq, nat_lt, slice_get, ◌&&◌, not, ServerNo, ClientNo, Tid, WorkId, Tickets, Resource, client_eq, tid_eq, Message, Outcome, Vote, StableState, FlagState, RowOutcome, Sent, ignored, quiet, sends, CoordinatorTable, transaction_at, with_stage, without, besides, all_in, is_work, drops, commits, prepares, committed_to, aborted_to, commit_row, abort_row, forget_row, thanked, closed, after_closing, begin_new, begun_by, begin_again, begin_row, seen_now, changes_of_closing, end_promised, end_open, end_stage, end_row, abort_stage, abort_request, told_stage, inquire_row, noted, with_work, counted_vote, vote_stage, vote_row, done_stage, done_row, thanks_stage, thanks_row, coordinator_row, told_again, coordinator_again, all_thanked, restored_transaction, restored_transactions, OfCause}
 use Rattle.jn_base.specs.declared.names.Cause.{Cause}
 use Rattle.jn_base.specs.declared.names.Cause.TheVariants.{Requested, Broken as BrokenAt, Lost as LostAt, Full as FullAt}
 use Rattle.jn_base.specs.declared.names.Resource.TheVariants as resources
-use Rattle.jn_base.specs.declared.names.Resource.{Resource}
-use Rattle.jn_base.specs.Names.{client_eq, tid_eq}
-use Rattle.jn_msgs.specs.declared.message.Message.{Message}
 use Rattle.jn_msgs.specs.declared.message.Message.TheVariants as messages
-use Rattle.jn_msgs.specs.declared.message.Outcome.{Outcome}
 use Rattle.jn_msgs.specs.declared.message.Outcome.TheVariants as outcomes
-use Rattle.jn_msgs.specs.declared.message.Vote.{Vote}
 use Rattle.jn_msgs.specs.declared.message.Vote.TheVariants as votes
 use Rattle.jn_rows.specs.declared.coordinator.Transaction.{Transaction}
 use Rattle.jn_rows.specs.declared.coordinator.Stage.{Stage}
 use Rattle.jn_rows.specs.declared.coordinator.Stage.TheVariants.{Open, Voting, Committed, Aborted}
 use Rattle.jn_rows.specs.declared.coordinator.Voting.{Voting as Ballot}
 use Rattle.jn_rows.specs.declared.coordinator.Committed.{Committed as Commitment}
-use Rattle.jn_rows.specs.Stable.{StableState, FlagState}
-use Rattle.jn_rows.specs.Outcomes.{RowOutcome, Sent, ignored, quiet, sends}
-use Rattle.jn_rows.specs.Coordinator.{CoordinatorTable, transaction_at, with_stage, without, besides, all_in, is_work, drops, commits, prepares, committed_to, aborted_to, commit_row, abort_row, forget_row, thanked, closed, after_closing, begin_new, begun_by, begin_again, begin_row, seen_now, changes_of_closing, end_promised, end_open, end_stage, end_row, abort_stage, abort_request, told_stage, inquire_row, noted, with_work, counted_vote, vote_stage, vote_row, done_stage, done_row, thanks_stage, thanks_row, coordinator_row, told_again, coordinator_again, all_thanked, restored_transaction, restored_transactions}
-use Rattle.jn_wrong.specs.Wanting.{OfCause}
 
 module _ (P : ServerNo → Resource → ℕ → ℕ → Type 0) where
   -- ---- messages

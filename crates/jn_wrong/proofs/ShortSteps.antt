@@ -1,43 +1,18 @@
 -- And so of the whole system, step by step: of all messages, outcomes and lines.
-use Rattle.std.proofs.Common.{◌≡◌, ◌≢◌, ◌⊎◌, inl, inr, ℕ, Bool, true, false, List, [], ◌∷◌, ◌++◌, Option, Some, None, refl, sym, ◌∙◌, ap, subst}
-use Rattle.std.specs.Prelude.{if◌then◌else◌, nat_lt, slice_get}
-use Rattle.jn_base.specs.declared.names.ServerNo.{ServerNo}
-use Rattle.jn_base.specs.declared.names.ClientNo.{ClientNo}
-use Rattle.jn_base.specs.declared.names.Tid.{Tid}
-use Rattle.jn_base.specs.declared.names.WorkId.{WorkId}
-use Rattle.jn_base.specs.declared.names.Party.TheVariants.{Client, Server}
+use Rattle.jn_wrong.proofs.Common.{◌≡◌, ◌≢◌, ◌⊎◌, inl, inr, ℕ, Bool, true, false, List, [], ◌∷◌, ◌++◌, Option, Some, None, refl, sym, ◌∙◌, ap, subst, if◌then◌else◌, nat_lt, slice_get, ServerNo, ClientNo, Tid, WorkId, Client, Server, Resource, Answer, Command, server_eq, client_eq, work_eq, work_tells, Message, Outcome, Text, Taken, Work, StableState, Pick, stable, RowOutcome, Sent, ClientTable, Commanded, Refuses, Sends, command_row, if_server, if_idle, if_transaction, if_no_transaction, if_open, if_not_open, open_at, take_row, again_row, sent_again, if_waits, begun_row, opened_row, answer_line, outcome_row, decided_row, is_current, is_end_or_abort, over, WorkerTable, work_at, worker_row, worker_step, timeout_row, coordinator_row, close_clients_row, World, Memory, at_server, at_client, has_line, Room, storage_of, of_worker, of_coordinator, is_for_worker, server_row, of_step, server_again, of_timeout, server_timeout, restored, line_of, lines_of, named_now, Step, NextEvent, Tell, Again, Deliver, Works, Nudge, Timeout, StopDelivery, StopWork, Crash, Narrow, StopRestart, Restart, Dismiss, CloseClients, after, commanded, took, sent_now, stopped, at_memory, handed, works, work, nudge, timeout, crash, narrow, stop_restart, restart, close_clients, LockFacts, ServerFact, UpFact, IsShort, OfText}
 use Rattle.jn_base.specs.declared.names.Resource.TheVariants as resources
-use Rattle.jn_base.specs.declared.names.Resource.{Resource}
-use Rattle.jn_base.specs.declared.op.Answer.{Answer}
 use Rattle.jn_base.specs.declared.op.Answer.TheVariants as answers
-use Rattle.jn_base.specs.declared.op.Command.{Command}
 use Rattle.jn_base.specs.declared.op.Command.TheVariants.{Begin, Open, Do, End, Abort}
-use Rattle.jn_base.specs.Names.{server_eq, client_eq, work_eq}
-use Rattle.jn_base.proofs.Tells.{work_tells}
-use Rattle.jn_msgs.specs.declared.message.Message.{Message}
 use Rattle.jn_msgs.specs.declared.message.Message.TheVariants as messages
-use Rattle.jn_msgs.specs.declared.message.Outcome.{Outcome}
 use Rattle.jn_msgs.specs.declared.message.Outcome.TheVariants.{Committed, Aborted, Waiting, NotKnown}
 use Rattle.jn_msgs.specs.declared.message.Note.{Note}
 use Rattle.jn_msgs.specs.declared.message.Note.TheVariants as notes
-use Rattle.jn_report.specs.declared.line.Text.{Text}
 use Rattle.jn_report.specs.declared.line.Text.TheVariants as says
 use Rattle.jn_report.specs.declared.line.Refusal.TheVariants.{NoSuchServer}
 use Rattle.jn_rows.specs.declared.client.OpenWork.{OpenWork}
 use Rattle.jn_rows.specs.declared.client.Outstanding.{Outstanding}
-use Rattle.jn_rows.specs.declared.client.Taken.{Taken}
 use Rattle.jn_rows.specs.declared.client.Taken.TheVariants as taken
-use Rattle.jn_rows.specs.declared.worker.Work.{Work}
-use Rattle.jn_rows.specs.Stable.{StableState, Pick, stable}
-use Rattle.jn_rows.specs.Outcomes.{RowOutcome, Sent}
-use Rattle.jn_rows.specs.Client.{ClientTable, Commanded, Refuses, Sends, command_row, if_server, if_idle, if_transaction, if_no_transaction, if_open, if_not_open, work_at as open_at, take_row, again_row, sent_again, if_waits, begun_row, opened_row, answer_line, outcome_row, decided_row, is_current, is_end_or_abort, over}
-use Rattle.jn_rows.specs.Worker.{WorkerTable, work_at, worker_row, worker_step, timeout_row}
-use Rattle.jn_rows.specs.Coordinator.{coordinator_row, close_clients_row}
-use Rattle.jn_system.specs.WholeSystem.World.{World, Memory, at_server, at_client, has_line}
-use Rattle.jn_system.specs.WholeSystem.Servers.{Room, storage_of, of_worker, of_coordinator, is_for_worker, server_row, of_step, server_again, of_timeout, server_timeout, restored, line_of, lines_of, named_now}
-use Rattle.jn_system.specs.WholeSystem.Steps.{Step, NextEvent, Tell, Again, Deliver, Work as Works, Nudge, Timeout, StopDelivery, StopWork, Crash, Narrow, StopRestart, Restart, Dismiss, CloseClients, after, commanded, took, sent_now, done, stopped, at_memory, handed, works, work, nudge, timeout, crash, narrow, stop_restart, restart, close_clients}
-use Rattle.jn_system.specs.WholeSystem.LockFacts.{LockFacts, ServerFact, UpFact}
-use Rattle.jn_wrong.specs.Wanting.{IsShort, OfText}
+use Rattle.jn_system.specs.WholeSystem.Steps.{done}
 use Rattle.jn_wrong.proofs.ShortRows.{OfMessage, OfAll, OfOutcome, OfTable, OfRow, both-say, said, coordinates-so, again-so, all-thanked-so, restored-so}
 use Rattle.jn_wrong.proofs.ShortWorks.{works-so, steps-so, asks-so}
 

@@ -1,32 +1,12 @@
 -- And of all that a worker's rows say of it.
-use Rattle.std.proofs.Common.{◌≡◌, ℕ, ◌+◌, Bool, true, false, List, [], ◌∷◌, length, Option, Some, None, refl, subst}
-use Rattle.std.specs.Prelude.{if◌then◌else◌, nat_eq, nat_lt, slice_get}
-use Rattle.jn_base.specs.declared.names.ServerNo.{ServerNo}
-use Rattle.jn_base.specs.declared.names.ClientNo.{ClientNo}
-use Rattle.jn_base.specs.declared.names.Tid.{Tid}
-use Rattle.jn_base.specs.declared.names.WorkId.{WorkId}
-use Rattle.jn_base.specs.declared.names.Tickets.{Tickets}
-use Rattle.jn_base.specs.declared.names.Party.TheVariants.{Server}
-use Rattle.jn_base.specs.declared.op.Op.{Op}
-use Rattle.jn_base.specs.declared.op.Answer.{Answer}
+use Rattle.jn_wrong.proofs.Common.{◌≡◌, ℕ, ◌+◌, Bool, true, false, List, [], ◌∷◌, length, Option, Some, None, refl, subst, if◌then◌else◌, nat_eq, nat_lt, slice_get, ServerNo, ClientNo, Tid, WorkId, Tickets, Server, Op, Answer, Resource, Need, Files, answer_to, change, Message, Vote, Work, Phase, Active, Broken, Stored, StableState, is_going, RowOutcome, ignored, WorkerTable, WorkStorage, Held, Wanted, shortage, vote_of, voted, prepared_row, prepare_phase, prepare_row, need_in, conflict, commit_wants, open_row, op_row, op_phase, by_number, granted_row, repeated, wants_of, is_fit, commit_phase, drop_row, drop_phase, worker_row, work_at, work_of, going_row, going_work, carried_row, intentions_of, worker_step, worker_again, IsShort}
 use Rattle.jn_base.specs.declared.names.Resource.TheVariants as resources
-use Rattle.jn_base.specs.declared.names.Resource.{Resource}
-use Rattle.jn_records.specs.declared.net_list.Need.{Need}
 use Rattle.jn_records.specs.declared.intention.Intention.{Intention}
-use Rattle.jn_order.specs.Files.{Files, answer_to, change}
 use Rattle.jn_records.specs.NetLists.{list_change}
-use Rattle.jn_msgs.specs.declared.message.Message.{Message}
 use Rattle.jn_msgs.specs.declared.message.Message.TheVariants as messages
-use Rattle.jn_msgs.specs.declared.message.Vote.{Vote}
 use Rattle.jn_msgs.specs.declared.message.Vote.TheVariants as votes
-use Rattle.jn_rows.specs.declared.worker.Work.{Work}
-use Rattle.jn_rows.specs.declared.worker.Phase.{Phase}
-use Rattle.jn_rows.specs.declared.worker.Phase.TheVariants.{Active, Broken, Prepared as Stored}
 use Rattle.jn_rows.specs.declared.worker.ActiveWork.{ActiveWork}
-use Rattle.jn_rows.specs.Stable.{StableState, is_going}
-use Rattle.jn_rows.specs.Outcomes.{RowOutcome, ignored}
-use Rattle.jn_rows.specs.Worker.{WorkerTable, WorkStorage, Held, Wanted, shortage, vote_of, voted, prepared_row, prepare_phase, prepare_row, need_in, conflict, commit_wants, open_row, op_row, op_phase, by_number, granted_row, repeated, refusal_of, wants_of, is_fit, commit_row, commit_phase, drop_row, drop_phase, worker_row, work_at, work_of, going_row, going_work, carried_row, intentions_of, worker_step, worker_again}
-use Rattle.jn_wrong.specs.Wanting.{IsShort}
+use Rattle.jn_rows.specs.Worker.{refusal_of, commit_row}
 use Rattle.jn_wrong.proofs.ShortRows.{OfVote, OfAll}
 
 module _ (P : ServerNo → Resource → ℕ → ℕ → Type 0) where

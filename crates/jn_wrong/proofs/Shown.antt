@@ -1,34 +1,7 @@
 -- The lines of a show are those of what there is to print.
-use Rattle.std.proofs.Common.{◌≡◌, ◌≢◌, ℕ, ◌+◌, Bool, true, false, List, [], ◌∷◌, ◌++◌, append-nil, map, length, Option, None, refl, ◌∙◌, ap, subst, arith}
-use Rattle.std.specs.Prelude.{not, filter, if◌then◌else◌}
-use Rattle.jn_base.specs.declared.names.ServerNo.{ServerNo}
-use Rattle.jn_base.specs.declared.names.FileNo.{FileNo}
-use Rattle.jn_base.specs.declared.names.Party.{Party}
-use Rattle.jn_base.specs.declared.device.Outside.{Outside}
+use Rattle.jn_wrong.proofs.Common.{◌≡◌, ◌≢◌, ℕ, ◌+◌, Bool, true, false, List, [], ◌∷◌, ◌++◌, append-nil, map, length, Option, None, refl, ◌∙◌, ap, subst, arith, not, filter, if◌then◌else◌, ServerNo, Party, Outside, EventRefusal, Text, Line, Sent, Pick, stable, commit_holder, World, Memory, Printed, FileThere, PageStored, UnitLocked, print_files, Step, Course, go_on, newly_sent, text_printed, prints_of, Setup, Chance, Task, Meets, Acts, CutShort, State, when_of, begun, Deed, Reads, served, stopped_idle, blocks_from, shown, showing, IsLookedOver, Alone, Befalls, refusal_of, met, deed_of, own_texts, message_texts, traced, texts_of, lines_at, is_too_much, come_to, cut_short, Moment, DoesStep, may_tell, begun-lines, is_printed, printed_lines, Shows}
 use Rattle.jn_schedule.specs.declared.Event.TheVariants as events
-use Rattle.jn_report.specs.declared.line.EventRefusal.{EventRefusal}
-use Rattle.jn_report.specs.declared.line.Text.{Text}
 use Rattle.jn_report.specs.declared.line.Text.TheVariants as says
-use Rattle.jn_report.specs.declared.line.Line.{Line}
-use Rattle.jn_rows.specs.Outcomes.{Sent}
-use Rattle.jn_rows.specs.Stable.{Pick, stable}
-use Rattle.jn_rows.specs.Worker.{commit_holder}
-use Rattle.jn_system.specs.WholeSystem.World.{World, Memory}
-use Rattle.jn_system.specs.WholeSystem.Printing.{Printed, FileThere, PageStored, UnitLocked, print_files}
-use Rattle.jn_system.specs.WholeSystem.Steps.{Step}
-use Rattle.jn_system_settling.specs.Settling.Course.{Course, go_on, newly_sent}
-use Rattle.jn_system_reports.specs.Reporting.Printing.{text_printed, prints_of}
-use Rattle.jn_written.specs.Chances.{Setup, Chance}
-use Rattle.jn_written.specs.Tasks.{Task, Meets, Acts, CutShort, State, when_of, begun}
-use Rattle.jn_written.specs.Deeds.{Deed, Reads, served, stopped_idle, blocks_from, shown, showing}
-use Rattle.jn_written.specs.Devices.{IsLookedOver, Alone, Befalls}
-use Rattle.jn_written.specs.Refusals.{refusal_of}
-use Rattle.jn_written.specs.Events.{met, deed_of}
-use Rattle.jn_written.specs.Steps.{own_texts, message_texts, traced, texts_of, lines_at, is_too_much, come_to, cut_short}
-use Rattle.jn_written.specs.Runs.{Moment, DoesStep}
-use Rattle.jn_written.specs.Kinds.{may_tell}
-use Rattle.jn_written.proofs.Ordered.{begun-lines}
-use Rattle.jn_wrong.specs.Showing.{is_printed, printed_lines, Shows}
 use Rattle.jn_wrong.proofs.Filtered.{filter-both, lines-left, is_of_step, step-tells, own-filtered}
 use Rattle.jn_wrong.proofs.Printed.{all-printed, unit-of}
 

@@ -1,36 +1,7 @@
 -- A server comes up and goes down by turns, as the lines tell it.
-use Rattle.std.proofs.Common.{◌≡◌, ◌≢◌, ◌⊎◌, inl, inr, ℕ, ◌+◌, ◌<◌, Bool, true, false, List, [], ◌∷◌, ◌++◌, append-nil, Option, Some, None, is_some, refl, sym, ◌∙◌, ap, subst, arith}
-use Rattle.std.specs.Prelude.{◌&&◌, ◌||◌, not, if◌then◌else◌, nat_lt, slice_get}
-use Rattle.std.specs.List.{list_all}
-use Rattle.std.proofs.lemmas.Bool.Decides.{nat_tests}
-use Rattle.jn_base.specs.declared.names.ServerNo.{ServerNo}
-use Rattle.jn_base.specs.declared.names.ClientNo.{ClientNo}
-use Rattle.jn_base.specs.declared.names.Tid.{Tid}
-use Rattle.jn_base.specs.declared.names.WorkId.{WorkId}
-use Rattle.jn_base.specs.declared.names.Party.TheVariants.{Client, Server}
-use Rattle.jn_base.specs.Names.{server_eq}
-use Rattle.jn_base.proofs.Tells.{server_tells}
-use Rattle.jn_order.specs.Files.{AllFiles}
-use Rattle.jn_msgs.specs.declared.message.Message.{Message}
-use Rattle.jn_schedule.specs.declared.Event.{Event}
-use Rattle.jn_report.specs.declared.line.Text.{Text}
+use Rattle.jn_wrong.proofs.Common.{◌≡◌, ◌≢◌, ◌⊎◌, inl, inr, ℕ, ◌+◌, ◌<◌, Bool, true, false, List, [], ◌∷◌, ◌++◌, append-nil, Option, Some, None, is_some, refl, sym, ◌∙◌, ap, subst, arith, ◌&&◌, ◌||◌, not, if◌then◌else◌, nat_lt, slice_get, list_all, nat_tests, ServerNo, ClientNo, Tid, WorkId, Client, Server, server_eq, server_tells, AllFiles, Message, Event, Text, Taken, Commanded, Refuses, Sends, ClientTable, command_row, take_row, close_clients_row, RowOutcome, Sent, Pick, stable, World, Memory, at_server, new_memory, Room, server_row, server_step, server_timeout, of_coordinator, restored, named_now, Step, NextEvent, Tell, Again, Deliver, Works, Nudge, Timeout, StopDelivery, StopWork, Crash, Narrow, StopRestart, Restart, Dismiss, CloseClients, after, commanded, took, ends, at_memory, handed, works, work, nudge, timeout, crash, narrow, stop_restart, restart, close_clients, Setup, State, MayLead, before, is_note, is_of_delivery, is_answer, Adds, adds, weaker, is_up_after, may_be_told, takes_turns}
 use Rattle.jn_report.specs.declared.line.Text.TheVariants as says
-use Rattle.jn_rows.specs.declared.client.Taken.{Taken}
 use Rattle.jn_rows.specs.declared.client.Taken.TheVariants as taken
-use Rattle.jn_rows.specs.Client.{Commanded, Refuses, Sends, ClientTable, command_row, take_row}
-use Rattle.jn_rows.specs.Coordinator.{close_clients_row}
-use Rattle.jn_rows.specs.Outcomes.{RowOutcome, Sent}
-use Rattle.jn_rows.specs.Stable.{Pick, stable}
-use Rattle.jn_system.specs.WholeSystem.World.{World, Memory, at_server, new_memory}
-use Rattle.jn_system.specs.WholeSystem.Servers.{Room, server_row, server_step, server_timeout, of_coordinator, restored, named_now}
-use Rattle.jn_system.specs.WholeSystem.Steps.{Step, NextEvent, Tell, Again, Deliver, Work as Works, Nudge, Timeout, StopDelivery, StopWork, Crash, Narrow, StopRestart, Restart, Dismiss, CloseClients, after, commanded, took, ends, at_memory, handed, works, work, nudge, timeout, crash, narrow, stop_restart, restart, close_clients}
-use Rattle.jn_written.specs.Chances.{Setup}
-use Rattle.jn_written.specs.Tasks.{State}
-use Rattle.jn_written.specs.Runs.{MayLead}
-use Rattle.jn_written.specs.Whole.{before}
-use Rattle.jn_written.specs.Kinds.{is_note, is_of_delivery, is_answer}
-use Rattle.jn_written.proofs.Telling.{Adds, adds, weaker}
-use Rattle.jn_wrong.specs.Turns.{is_up_after, may_be_told, takes_turns}
 use Rattle.jn_wrong.proofs.Reading.{no_turn, of-answer, of-note, of-delivery, named-quiet, reads, behind, quiet-reads, quiet-behind as still-behind, Reading, run-read}
 
 both : (a b : Bool) → a ≡ true → b ≡ true → (a && b) ≡ true

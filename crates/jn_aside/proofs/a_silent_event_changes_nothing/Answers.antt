@@ -1,4 +1,4 @@
-use Rattle.std.specs.Prelude.{[], ◌∷◌}
+use Rattle.jn_aside.proofs.Common.{[], ◌∷◌}
 use Rattle.jn_serial.proofs.CausedGrowth.{Caused-events}
 use Rattle.jn_aside.proofs.Silent.{silent-agrees, silent-shown, silent-follows}
 use Rattle.jn_aside.proofs.a_silent_event_changes_nothing.Goals as goal

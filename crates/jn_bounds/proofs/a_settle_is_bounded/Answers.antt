@@ -1,4 +1,4 @@
-use Rattle.jn_written.specs.Whole.{closed_world}
+use Rattle.jn_bounds.proofs.Common.{closed_world}
 use Rattle.jn_bounds.proofs.Sounds.{written-sound}
 use Rattle.jn_bounds.proofs.Bounded.{is-bounded}
 use Rattle.jn_bounds.proofs.a_settle_is_bounded.Goals as goal

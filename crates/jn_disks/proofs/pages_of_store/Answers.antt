@@ -1,11 +1,4 @@
-use Rattle.std.proofs.Common.{◌≡◌, ◌*◌, ◌/◌, ◌∙◌, sym, subst, ap, List, take}
-use Rattle.jn_device.specs.declared.Half.{Half}
-use Rattle.jn_device.specs.Device.{DeviceState}
-use Rattle.jn_found.specs.Images.{IsImage}
-use Rattle.jn_memdisk.specs.contracts.disk.MemDiskPhysDisk.TheImpl.{ghosts}
-use Rattle.jn_records.specs.StablePages.{page_count}
-use Rattle.jn_store.specs.Pairs.{pairs_view}
-use Rattle.jn_disks.specs.Disks.{AreSound, HasPages, files_in}
+use Rattle.jn_disks.proofs.Common.{◌≡◌, ◌*◌, ◌/◌, ◌∙◌, sym, subst, ap, List, take, Half, IsImage, ghosts, page_count, pairs_view, AreSound, HasPages, files_in}
 use Rattle.jn_disks.proofs.Closed.{closed, closed_files, paired_pages}
 use Rattle.jn_disks.proofs.pages_of_store.Goals as goal
 

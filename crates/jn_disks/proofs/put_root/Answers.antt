@@ -1,8 +1,6 @@
-use Rattle.std.proofs.Common.{true, subst, arith, List, ℕ}
-use Rattle.jn_store.specs.Store.{StorePut}
+use Rattle.jn_disks.proofs.Common.{true, subst, arith, List, ℕ, StorePut, counts_of}
 use Rattle.jn_disks.proofs.NewStores.{new_is}
 use Rattle.jn_disks.proofs.put_root.Goals as goal
-use Rattle.jn_records.specs.StablePages.{counts_of}
 
 pub returns : goal.returns
 returns g c =

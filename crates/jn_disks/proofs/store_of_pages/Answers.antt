@@ -1,8 +1,4 @@
-use Rattle.std.proofs.Common.{sym, subst}
-use Rattle.jn_memdisk.specs.contracts.disk.MemDiskPhysDisk.TheImpl.{ghosts}
-use Rattle.jn_memdisk.specs.Disk.{IsNew}
-use Rattle.jn_store.specs.Pairs.{pairs_view}
-use Rattle.jn_disks.specs.Disks.{HasPages, IsStoreOfPages}
+use Rattle.jn_disks.proofs.Common.{sym, subst, ghosts, IsNew, pairs_view, HasPages, IsStoreOfPages}
 use Rattle.jn_disks.proofs.Closed.{all_pages, even, is_store}
 use Rattle.jn_disks.proofs.store_of_pages.Goals as goal
 

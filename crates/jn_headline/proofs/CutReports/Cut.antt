@@ -1,41 +1,13 @@
 -- What the lines say up to where the end of a run is cut off.
-use Rattle.std.proofs.Common.{◌≡◌, ℕ, ◌+◌, ◌≤◌, inr, length, Bool, true, false, List, [], ◌∷◌, ◌++◌, refl, sym, ◌∙◌, ap, subst, arith}
-use Rattle.std.proofs.lemmas.List.{length-map}
-use Rattle.std.specs.Prelude.{◌&&◌}
-use Rattle.std.specs.List.{list_all}
-use Rattle.jn_base.specs.declared.names.ServerNo.{ServerNo}
-use Rattle.jn_order.specs.Files.{AllFiles}
-use Rattle.jn_schedule.specs.declared.Event.{Event}
-use Rattle.jn_report.specs.declared.line.When.TheVariants.{Event as AtEvent}
-use Rattle.jn_report.specs.declared.line.Text.{Text}
+use Rattle.jn_headline.proofs.Common.{◌≡◌, ℕ, ◌+◌, ◌≤◌, inr, length, Bool, true, false, List, [], ◌∷◌, ◌++◌, refl, sym, ◌∙◌, ap, subst, arith, length-map, ◌&&◌, list_all, ServerNo, AllFiles, Event, AtEvent, Text, Line, lines_at, nothing_asked, Follows, ShownSoFar, Caused-events, lines_at-outside, World, opening, commits_in, Step, NextEvent, Tell, StopDelivery, StopWork, StopRestart, Dismiss, run, IsRun, Item, events_of, lines_of, world_of, IsReported, told_by_steps, at_end, Each, each-append, items-follow, run-in-turn, run-follows, opening-reached, IsApart, run-outcomes, IsOfEnd, IsFinal, dismissed-told, with-end, IsCalm, texts-more, end-as-told, beginning-told, run-as-told, follows-to-end, is_show, silent-agrees, silent-shown, silent-follows, CutEnd, IsCutEnd, IsTrueSoFar, is_of_end, is_print, cut_lines}
 use Rattle.jn_report.specs.declared.line.Text.TheVariants as says
-use Rattle.jn_report.specs.declared.line.Line.{Line}
-use Rattle.jn_serial.specs.Lines.{lines_at}
-use Rattle.jn_serial.specs.Follows.{nothing_asked, Follows}
-use Rattle.jn_serial.specs.Shown.{ShownSoFar}
-use Rattle.jn_serial.proofs.CausedGrowth.{Caused-events}
-use Rattle.jn_serial.proofs.Growth.{lines_at-outside}
 use Rattle.jn_serial.proofs.InTurn.{AreAtEnd, AreInTurn, turn-to-end}
-use Rattle.jn_system.specs.WholeSystem.World.{World, opening, commits_in}
-use Rattle.jn_system.specs.WholeSystem.Steps.{Step, NextEvent, Tell, StopDelivery, StopWork, StopRestart, Dismiss, run, IsRun}
-use Rattle.jn_system_reports.specs.Reporting.Reported.{Item, events_of, lines_of, world_of, IsReported}
-use Rattle.jn_system_reports.specs.Reporting.Ending.{told_by_steps, at_end}
-use Rattle.jn_system_reports.proofs.Reporting.Lists.{Each, each-append}
-use Rattle.jn_system_reports.proofs.Reporting.Following.{items-follow, run-in-turn, run-follows}
-use Rattle.jn_system_reports.proofs.Reporting.Reached.{opening-reached}
-use Rattle.jn_system_reports.proofs.Reporting.Unnamed.{IsApart, run-outcomes}
 use Rattle.jn_system_reports.proofs.Causing.Causing.{run-causes}
-use Rattle.jn_system_reports.proofs.Causing.Ends.{IsOfEnd, IsFinal, dismissed-told, with-end}
 use Rattle.jn_system_reports.specs.Telling.Agreement.{AreAsTold}
 use Rattle.jn_system_reports.proofs.Telling.Tellings.{texts_of}
 use Rattle.jn_system_reports.proofs.Telling.Quiet.{AreDumb}
-use Rattle.jn_system_reports.proofs.Telling.Reports.{IsCalm, texts-more, end-as-told, beginning-told, run-as-told}
 use Rattle.jn_system_reports.proofs.Showing.Shows.{shown-with, run-shown}
-use Rattle.jn_system_reports.proofs.Showing.Follows.{follows-to-end}
 use Rattle.jn_headline.proofs.WholeReports.Outcomes.{told-with}
-use Rattle.jn_aside.specs.Aside.{is_show}
-use Rattle.jn_aside.proofs.Silent.{silent-agrees, silent-shown, silent-follows}
-use Rattle.jn_headline.specs.CutReports.Cut.{CutEnd, IsCutEnd, IsTrueSoFar, is_of_end, is_print, cut_lines}
 
 first-of : (a b : Bool) → (a && b) ≡ true → a ≡ true
 first-of a b k = grind arith

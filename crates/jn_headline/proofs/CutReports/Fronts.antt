@@ -1,16 +1,5 @@
 -- A front of an end is an end that is cut off.
-use Rattle.std.proofs.Common.{◌≡◌, ℕ, ◌+◌, Bool, true, List, [], ◌∷◌, ◌++◌, refl, subst, arith}
-use Rattle.std.specs.Prelude.{◌&&◌, map}
-use Rattle.std.specs.List.{list_all}
-use Rattle.jn_base.specs.declared.names.ServerNo.{ServerNo}
-use Rattle.jn_report.specs.declared.line.Text.{Text}
-use Rattle.jn_system.specs.WholeSystem.World.{World, servers_from}
-use Rattle.jn_system.specs.WholeSystem.Steps.{Step, Deliver, Work, Nudge, Again, Crash, CloseClients, Dismiss, IsRun}
-use Rattle.jn_system.specs.WholeSystem.Printing.{Printed, FileThere, PageStored, UnitLocked}
-use Rattle.jn_system_reports.specs.Reporting.Printing.{text_printed}
-use Rattle.jn_system_reports.specs.Reporting.Ending.{Comeback, Ending, restarts_from, steps_at_end, settles, IsEnding, texts_from}
-use Rattle.jn_system_reports.proofs.Reporting.Following.{run-split}
-use Rattle.jn_headline.specs.CutReports.Cut.{IsCutEnd, is_of_end, is_print}
+use Rattle.jn_headline.proofs.Common.{◌≡◌, ℕ, ◌+◌, Bool, true, List, [], ◌∷◌, ◌++◌, refl, subst, arith, ◌&&◌, map, list_all, ServerNo, Text, World, servers_from, Step, Deliver, Work, Nudge, Again, Crash, CloseClients, Dismiss, IsRun, Printed, FileThere, PageStored, UnitLocked, text_printed, Comeback, Ending, restarts_from, steps_at_end, settles, IsEnding, texts_from, run-split, IsCutEnd, is_of_end, is_print}
 
 both : (a b : Bool) → a ≡ true → b ≡ true → (a && b) ≡ true
 both a b h k = grind arith

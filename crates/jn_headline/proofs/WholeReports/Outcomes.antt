@@ -1,33 +1,15 @@
 -- What is told of outcomes, by all lines of a run: its last world says what is named.
-use Rattle.std.proofs.Common.{◌≡◌, ◌⊎◌, inl, inr, ℕ, ◌+◌, false, List, [], ◌∷◌, ◌++◌, append-nil, append_assoc, length, refl, sym, ◌∙◌, ap, subst, arith}
-use Rattle.std.specs.Prelude.{map}
-use Rattle.jn_base.specs.declared.names.ServerNo.{ServerNo}
-use Rattle.jn_base.specs.declared.names.Tid.{Tid}
-use Rattle.jn_order.specs.Files.{AllFiles}
-use Rattle.jn_report.specs.declared.line.Text.{Text}
+use Rattle.jn_headline.proofs.Common.{◌≡◌, ◌⊎◌, inl, inr, ℕ, ◌+◌, false, List, [], ◌∷◌, ◌++◌, append-nil, append_assoc, length, refl, sym, ◌∙◌, ap, subst, arith, map, ServerNo, Tid, AllFiles, Text, Line, commit_in, has_tid, history_of, is_answer, World, opening, committed_in, commits_in, Step, after, run, IsRun, Printed, FileThere, PageStored, UnitLocked, text_printed, Does, Item, told_by, at_event, lines_of, world_of, IsReported, Ending, IsEnding, steps_at_end, told_by_steps, texts_from, at_end, counted, lines_to_end, In, Each, in-first, in-second, in-either, each-in, each-append, Reached, LineFact, named-is, invariant, next-reached, opening-reached, IsApart, lines-in, IsOfEnd, end-told}
 use Rattle.jn_report.specs.declared.line.Text.TheVariants as says
-use Rattle.jn_report.specs.declared.line.Line.{Line}
-use Rattle.jn_serial.specs.Lines.{commit_in, has_tid, history_of}
-use Rattle.jn_serial.specs.Follows.{is_answer}
 use Rattle.jn_serial.proofs.Orders.{NamesNone-append}
 use Rattle.jn_serial.specs.Told.{IsNamedWhere, NamesBefore, NamesOnce, IsNotNamedWhere, NamesNone, Told}
 use Rattle.jn_system.specs.SmallSteps.World.{World as Machine}
 use Rattle.jn_system.specs.SmallSteps.Steps.{run as run_atoms, opening_world}
 use Rattle.jn_system.proofs.SmallSteps.History.{in_order}
 use Rattle.jn_system_order.proofs.Mirroring.Mirrored.{commits-more}
-use Rattle.jn_system.specs.WholeSystem.World.{World, opening, committed_in, commits_in}
-use Rattle.jn_system.specs.WholeSystem.Steps.{Step, after, run, IsRun}
-use Rattle.jn_system.specs.WholeSystem.Printing.{Printed, FileThere, PageStored, UnitLocked}
-use Rattle.jn_system_reports.specs.Reporting.Printing.{text_printed}
-use Rattle.jn_system_reports.specs.Reporting.Reported.{Does, Item, told_by, at_event, lines_of, world_of, IsReported}
-use Rattle.jn_system_reports.specs.Reporting.Ending.{Ending, IsEnding, steps_at_end, told_by_steps, texts_from, at_end, counted, lines_to_end}
-use Rattle.jn_system_reports.proofs.Reporting.Lists.{In, Each, in-first, in-second, in-either, each-in, each-append}
 use Rattle.jn_system_reports.proofs.Reporting.Prints.{each-print}
-use Rattle.jn_system_reports.proofs.Reporting.Reached.{Reached, LineFact, named-is, invariant, next-reached, opening-reached}
 use Rattle.jn_system_reports.proofs.Reporting.Outcomes.{NeverNamed, not-named}
 use Rattle.jn_system_reports.proofs.Reporting.Naming.{RunTold, adds, once-more, same-history, history-more, before-more, run-told}
-use Rattle.jn_system_reports.proofs.Reporting.Unnamed.{IsApart, lines-in}
-use Rattle.jn_system_reports.proofs.Causing.Ends.{IsOfEnd, end-told}
 
 -- ---- lines at the end
 

@@ -1,30 +1,10 @@
 -- After an end that settles until nothing is left to do, nothing is left at a server, so nothing is held for commit.
-use Rattle.std.proofs.Common.{◌≡◌, ◌≢◌, ◌⊎◌, inl, inr, ◌≤◌, ◌<◌, ℕ, zero, suc, ◌+◌, Bool, true, false, List, [], ◌∷◌, ◌++◌, append-nil, append_assoc, length, Option, Some, None, is_some, refl, sym, ◌∙◌, ap, subst, arith}
+use Rattle.jn_headline.proofs.Common.{◌≡◌, ◌≢◌, ◌⊎◌, inl, inr, ◌≤◌, ◌<◌, ℕ, zero, suc, ◌+◌, Bool, true, false, List, [], ◌∷◌, ◌++◌, append-nil, append_assoc, length, Option, Some, None, is_some, refl, sym, ◌∙◌, ap, subst, arith, if◌then◌else◌, map, nat_tests, ServerNo, LockUnit, server_eq, server_tells, AllFiles, StableState, Pick, commit_holder, World, Memory, opening, servers_from, Step, Dismiss, Crash, Narrow, Restart, CloseClients, IsStep, after, narrow, run, IsRun, Printed, Item, steps_of, world_of, IsReported, Comeback, Ending, restarts_from, steps_at_end, world_at_end, ArePrinted, IsEnding, Course, opening_course, go, go_on, Chances, clients_from, next_step, onward, until_rest, ask_again, settled, steps-append, on-world, AreUp, Start, restarts, end_steps, without_messages, ended, IsClosed, IsEmpty, Leaves, course_at_end, IsSettledEnd}
 use Rattle.std.proofs.Math.Path.{fun_ext}
-use Rattle.std.specs.Prelude.{if◌then◌else◌, map}
-use Rattle.std.proofs.lemmas.Bool.Decides.{nat_tests}
-use Rattle.jn_base.specs.declared.names.ServerNo.{ServerNo}
-use Rattle.jn_base.specs.declared.names.LockUnit.{LockUnit}
-use Rattle.jn_base.specs.Names.{server_eq}
-use Rattle.jn_base.proofs.Tells.{server_tells}
-use Rattle.jn_order.specs.Files.{AllFiles}
-use Rattle.jn_rows.specs.Stable.{StableState, Pick}
-use Rattle.jn_rows.specs.Worker.{commit_holder}
-use Rattle.jn_system.specs.WholeSystem.World.{World, Memory, opening, servers_from}
-use Rattle.jn_system.specs.WholeSystem.Steps.{Step, Dismiss, Crash, Narrow, Restart, CloseClients, IsStep, after, narrow, run, IsRun}
-use Rattle.jn_system.specs.WholeSystem.Printing.{Printed}
-use Rattle.jn_system_reports.specs.Reporting.Reported.{Item, steps_of, world_of, IsReported}
-use Rattle.jn_system_reports.specs.Reporting.Ending.{Comeback, Ending, restarts_from, steps_at_end, world_at_end, ArePrinted, IsEnding}
-use Rattle.jn_system_settling.specs.Settling.Course.{Course, opening_course, go, go_on}
-use Rattle.jn_system_settling.specs.Settling.Settle.{Chance, Chances, clients_from, first_busy, next_step, onward, until_rest, ask_again, settled}
+use Rattle.jn_system_settling.specs.Settling.Settle.{Chance, first_busy}
 use Rattle.jn_system_settling.proofs.Settling.Courses.{waiting-is}
-use Rattle.jn_system_reports.proofs.Telling.Reports.{steps-append}
-use Rattle.jn_system_settling.proofs.Settling.Settling.{on-world}
 use Rattle.jn_system_settling.proofs.AtRest.Answered.{rest-keeps, ask-keeps}
-use Rattle.jn_system_settling.specs.AtRest.Settled.{AreUp}
-use Rattle.jn_system_settling.specs.Closing.Ending.{Start, restarts, end_steps, without_messages, ended, IsClosed, IsEmpty, Leaves}
 use Rattle.jn_system_settling.proofs.Closing.Ends.{end-leaves-nothing}
-use Rattle.jn_headline.specs.WholeReports.Whole.{course_at_end, IsSettledEnd}
 
 -- ---- courses that are one but for the steps so far
 

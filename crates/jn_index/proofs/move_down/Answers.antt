@@ -1,8 +1,4 @@
-use Rattle.std.proofs.Common.{◌+◌, arith, refl, sym, ◌∙◌}
-use Rattle.std.proofs.lemmas.List.{get_or_default, length-set}
-use Rattle.std.proofs.lemmas.List.Edits.{length-remove}
-use Rattle.std.specs.List.{remove}
-use Rattle.jn_index.specs.Entries.{entry}
+use Rattle.jn_index.proofs.Common.{◌+◌, arith, refl, sym, ◌∙◌, get_or_default, length-set, length-remove, remove, entry}
 use Rattle.jn_index.proofs.Turning.{turned_here, hole_up}
 use Rattle.jn_index.proofs.move_down.Goals as goal
 

@@ -1,9 +1,4 @@
-use Rattle.std.proofs.Common.{◌≡◌, ◌+◌, ◌-◌, ℕ, arith, refl, sym, subst, ◌∙◌}
-use Rattle.std.proofs.lemmas.List.{get_or_default, length-set}
-use Rattle.std.proofs.lemmas.List.Edits.{length-remove}
-use Rattle.std.specs.List.{remove}
-use Rattle.std.specs.Prelude.{slice_set}
-use Rattle.jn_index.specs.Entries.{entry}
+use Rattle.jn_index.proofs.Common.{◌≡◌, ◌+◌, ◌-◌, ℕ, arith, refl, sym, subst, ◌∙◌, get_or_default, length-set, length-remove, remove, slice_set, entry}
 use Rattle.jn_index.proofs.Turning.{HasHole, turned_here, hole_down}
 use Rattle.jn_index.proofs.move_up.Goals as goal
 

@@ -1,5 +1,4 @@
-use Rattle.std.proofs.Common.{◌≡◌, ◌≤◌, length, vec_capacity}
-use Rattle.std.specs.List.{remove}
+use Rattle.jn_index.proofs.Common.{◌≡◌, ◌≤◌, length, vec_capacity, remove}
 use Rattle.jn_index.proofs.Turning.{HasHole}
 use Rattle.jn_index.proofs.move_up.Given as goal
 

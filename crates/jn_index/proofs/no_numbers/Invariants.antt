@@ -1,7 +1,4 @@
-use Rattle.std.proofs.Common.{◌≡◌, ℕ, None, length}
-use Rattle.std.specs.Prelude.{count_by}
-use Rattle.jn_index.specs.Numbers.{number_at}
-use Rattle.jn_index.specs.Entries.{is_none}
+use Rattle.jn_index.proofs.Common.{◌≡◌, ℕ, None, length, count_by, number_at, is_none}
 use Rattle.jn_index.proofs.no_numbers.Given as goal
 
 abbrev pub invariant-loop : goal.invariant-loop

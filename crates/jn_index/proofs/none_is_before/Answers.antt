@@ -1,5 +1,4 @@
-use Rattle.std.proofs.Common.{◌≡◌, Bool, true, false, refl, sym, ◌∙◌}
-use Rattle.std.specs.Prelude.{not}
+use Rattle.jn_index.proofs.Common.{◌≡◌, Bool, true, false, refl, sym, ◌∙◌, not}
 use Rattle.jn_index.proofs.Order.{after_from}
 use Rattle.jn_index.proofs.none_is_before.Goals as goal
 

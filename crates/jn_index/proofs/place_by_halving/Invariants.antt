@@ -1,5 +1,4 @@
-use Rattle.std.proofs.Common.{◌-◌, ◌≡◌, ◌<◌, ◌≤◌, ℕ, true, false, length}
-use Rattle.jn_index.specs.Entries.{is_before, entry_at}
+use Rattle.jn_index.proofs.Common.{◌-◌, ◌≡◌, ◌<◌, ◌≤◌, ℕ, true, false, length, is_before, entry_at}
 use Rattle.jn_index.proofs.place_by_halving.Given as goal
 
 abbrev pub invariant-loop-low : goal.invariant-loop-low

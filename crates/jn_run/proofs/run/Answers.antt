@@ -1,7 +1,4 @@
-use Rattle.std.proofs.Common.{◌∙◌, Option, Some, ap, refl, subst, sym}
-use Rattle.jn_options.specs.declared.asked.Command.{Command}
-use Rattle.jn_options.specs.Words.{command_of}
-use Rattle.jn_run.specs.Outcome.{OutcomeOf}
+use Rattle.jn_run.proofs.Common.{◌∙◌, Option, Some, ap, refl, subst, sym, Command, command_of, OutcomeOf}
 use Rattle.jn_run.proofs.Outcomes.{memory-outcome}
 use Rattle.jn_run.proofs.run.Goals as goal
 

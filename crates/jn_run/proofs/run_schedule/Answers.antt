@@ -1,7 +1,4 @@
-use Rattle.std.proofs.Common.{◌∙◌, Option, Err, ap, refl, subst, sym}
-use Rattle.jn_host.specs.Outside.{Contents}
-use Rattle.jn_run.specs.Opening.{AreOpened}
-use Rattle.jn_run.specs.Outcome.{OutcomeOn}
+use Rattle.jn_run.proofs.Common.{◌∙◌, Option, Err, ap, refl, subst, sym, Contents, AreOpened, OutcomeOn}
 use Rattle.jn_run.proofs.Outcomes.{image-outcome, load-outcome}
 use Rattle.jn_run.proofs.Stores.{look, device}
 use Rattle.jn_run.proofs.run_schedule.Goals as goal

@@ -1,5 +1,4 @@
-use Rattle.std.proofs.Common.{◌≤◌, ℕ, List, length, sym, subst}
-use Rattle.jn_run.specs.Outcome.{IsText, most_bytes}
+use Rattle.jn_run.proofs.Common.{◌≤◌, ℕ, List, length, sym, subst, IsText, most_bytes}
 use Rattle.jn_run.proofs.run_source.Goals as goal
 
 pub returns : goal.returns

@@ -1,8 +1,4 @@
-use Rattle.std.proofs.Common.{◌∙◌, ℕ, ◌≤◌, Err, List, Vec, ap, length, map, refl, subst, sym}
-use Rattle.std.proofs.lemmas.List.{length-map}
-use Rattle.std.specs.declared.alloc.Global.{Global}
-use Rattle.jn_memdisk.specs.declared.disk.MemDisk.{MemDisk}
-use Rattle.jn_recovery.specs.declared.counts.PageCounts.{PageCounts}
+use Rattle.jn_run.proofs.Common.{◌∙◌, ℕ, ◌≤◌, Err, List, Vec, ap, length, map, refl, subst, sym, length-map, Global, MemDisk, PageCounts}
 use Rattle.jn_run.proofs.Opened.{opened-so, within-of}
 use Rattle.jn_run.proofs.Outcomes.{left-closed, run-kept, run-limit, run-write, run-memory}
 use Rattle.jn_run.proofs.Stores.{look, device}

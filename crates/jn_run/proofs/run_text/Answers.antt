@@ -1,7 +1,5 @@
-use Rattle.std.proofs.Common.{List, rules, refl, subst, sym}
+use Rattle.jn_run.proofs.Common.{List, rules, refl, subst, sym, Event, word_lines, IsSchedule}
 use Rattle.jn_schedule.proofs.Ranges.{lines_in_range}
-use Rattle.jn_schedule.specs.declared.Event.{Event}
-use Rattle.jn_schedule.specs.Grammar.{word_lines, IsSchedule}
 use Rattle.jn_run.proofs.Outcomes.{line-outcome, long-outcome}
 use Rattle.jn_run.proofs.run_text.Goals as goal
 

@@ -1,6 +1,4 @@
-use Rattle.std.proofs.Common.{◌∙◌, ℕ, List, Err, None, ap, refl, subst}
-use Rattle.std.specs.Prelude.{is_ok}
-use Rattle.jn_writing.specs.Writing.{Took, TookFront}
+use Rattle.jn_run.proofs.Common.{◌∙◌, ℕ, List, Err, None, ap, refl, subst, is_ok, Took, TookFront}
 use Rattle.jn_run.proofs.Summed.{written-so}
 use Rattle.jn_run.proofs.run_trial.Goals as goal
 

@@ -1,21 +1,5 @@
 -- A named work is carried out, and goes.
-use Rattle.std.proofs.Common.{◌≡◌, ◌≢◌, ◌⊎◌, inl, inr, ℕ, Bool, true, false, List, take, Option, Some, None, is_some, refl, sym, ◌∙◌, ap, subst, arith}
-use Rattle.jn_base.specs.declared.names.ServerNo.{ServerNo}
-use Rattle.jn_base.specs.declared.names.LockUnit.{LockUnit}
-use Rattle.jn_base.specs.declared.names.WorkId.{WorkId}
-use Rattle.jn_base.specs.Names.{work_eq}
-use Rattle.jn_base.proofs.Tells.{work_tells}
-use Rattle.jn_order.specs.Files.{Files, or_else, change}
-use Rattle.jn_records.specs.declared.intention.Intention.{Intention}
-use Rattle.jn_records.specs.NetLists.{intention_change, list_change}
-use Rattle.jn_rows.specs.Stable.{StableState, Prepared, Pick, MarkGoing, CarryOut, RemoveWork, made_by, gone_on}
-use Rattle.jn_locks.specs.Locks.{is_unit}
-use Rattle.jn_system.specs.SmallSteps.Held.{commit_units, HoldsForCommit, Writes}
-use Rattle.jn_system.specs.SmallSteps.World.{World, base}
-use Rattle.jn_system.specs.SmallSteps.FoundStates.{IsPrepared, MayBeFound}
-use Rattle.jn_system.specs.SmallSteps.Invariant.{CoreFacts}
-use Rattle.jn_system.specs.SmallSteps.Steps.{count_to}
-use Rattle.jn_system.specs.SmallSteps.Premises.{MayGoOn, MayCarryOut, MayRemove, MayCount}
+use Rattle.jn_system.proofs.Common.{◌≡◌, ◌≢◌, ◌⊎◌, inl, inr, ℕ, Bool, true, false, List, take, Option, Some, None, is_some, refl, sym, ◌∙◌, ap, subst, arith, ServerNo, LockUnit, WorkId, work_eq, work_tells, Files, or_else, change, Intention, intention_change, list_change, StableState, Prepared, Pick, MarkGoing, CarryOut, RemoveWork, made_by, gone_on, is_unit, commit_units, HoldsForCommit, Writes, World, base, IsPrepared, MayBeFound, CoreFacts, count_to, MayGoOn, MayCarryOut, MayRemove, MayCount}
 use Rattle.jn_system.proofs.SmallSteps.TraceLemmas.{take_zero, take_writes}
 use Rattle.jn_system.proofs.SmallSteps.HeldLemmas.{writes_apart}
 use Rattle.jn_system.proofs.SmallSteps.Updates.{false_unless, not_both, at_work_other, at_work_cases, some_is, none_some, clash}

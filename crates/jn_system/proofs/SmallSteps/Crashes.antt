@@ -1,19 +1,5 @@
 -- A server goes down, and is up again.
-use Rattle.std.proofs.Common.{◌≡◌, ◌≢◌, ◌⊎◌, inl, inr, ℕ, Bool, true, false, List, take, Option, Some, None, is_some, if◌then◌else◌, refl, sym, ◌∙◌, ap, subst, arith}
-use Rattle.jn_base.specs.declared.names.ServerNo.{ServerNo}
-use Rattle.jn_base.specs.declared.names.LockUnit.{LockUnit}
-use Rattle.jn_base.specs.declared.names.Tid.{Tid}
-use Rattle.jn_base.specs.declared.names.WorkId.{WorkId}
-use Rattle.jn_base.specs.Names.{server_eq}
-use Rattle.jn_base.proofs.Tells.{server_tells}
-use Rattle.jn_records.specs.NetLists.{list_change}
-use Rattle.jn_rows.specs.Stable.{StableState, Prepared, Pick}
-use Rattle.jn_system.specs.SmallSteps.World.{World, Working, Knowledge, Unknown, Begun, Voting, Committed}
-use Rattle.jn_system.specs.SmallSteps.FoundStates.{AllOver, MayBeFound}
-use Rattle.jn_system.specs.SmallSteps.Transactions.{IsAborted, Knows}
-use Rattle.jn_system.specs.SmallSteps.Invariant.{CoreFacts}
-use Rattle.jn_system.specs.SmallSteps.Steps.{crash, found_of, restart}
-use Rattle.jn_system.specs.SmallSteps.Premises.{MayRestart}
+use Rattle.jn_system.proofs.Common.{◌≡◌, ◌≢◌, ◌⊎◌, inl, inr, ℕ, Bool, true, false, List, take, Option, Some, None, is_some, if◌then◌else◌, refl, sym, ◌∙◌, ap, subst, arith, ServerNo, LockUnit, Tid, WorkId, server_eq, server_tells, list_change, StableState, Prepared, Pick, World, Working, Knowledge, Unknown, Begun, Voting, Committed, AllOver, MayBeFound, IsAborted, Knows, CoreFacts, crash, found_of, restart, MayRestart}
 use Rattle.jn_system.proofs.SmallSteps.TraceLemmas.{take_zero}
 use Rattle.jn_system.proofs.SmallSteps.Updates.{TellsServer, none_of, false_unless, not_both, some_of}
 

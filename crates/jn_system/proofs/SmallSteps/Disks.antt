@@ -1,25 +1,6 @@
 -- Stable states change, or fewer may be found.
-use Rattle.std.proofs.Common.{◌≡◌, ◌≢◌, ◌⊎◌, inl, inr, Bool, true, false, List, Option, Some, None, is_some, if◌then◌else◌, refl, sym, ◌∙◌, subst, arith}
-use Rattle.jn_base.specs.declared.names.ServerNo.{ServerNo}
-use Rattle.jn_base.specs.declared.names.LockUnit.{LockUnit}
-use Rattle.jn_base.specs.declared.names.Tid.{Tid}
-use Rattle.jn_base.specs.declared.names.WorkId.{WorkId}
-use Rattle.jn_base.specs.Names.{server_eq}
-use Rattle.jn_base.proofs.Tells.{server_tells, tid_tells, work_tells}
-use Rattle.jn_records.specs.declared.intention.Intention.{Intention}
-use Rattle.jn_records.specs.declared.flag.Flag.{Flag}
+use Rattle.jn_system.proofs.Common.{◌≡◌, ◌≢◌, ◌⊎◌, inl, inr, Bool, true, false, List, Option, Some, None, is_some, if◌then◌else◌, refl, sym, ◌∙◌, subst, arith, ServerNo, LockUnit, Tid, WorkId, server_eq, server_tells, tid_tells, work_tells, Intention, Flag, list_change, StableState, Prepared, FlagState, Pick, AddReady, AddFlag, DropFlag, at_work, made_by, ready_work, flag_state, is_unit, asked, effects, Agrees, commit_units, HoldsForCommit, HasRead, ReadsFiles, World, Working, base, AllOver, IsPrepared, HasFlag, MayBeFound, IsActive, CoreFacts, changed, put, narrow, lose, MayPrepare, MayFlag}
 use Rattle.jn_records.specs.declared.work.WorkHead.{WorkHead}
-use Rattle.jn_records.specs.NetLists.{list_change}
-use Rattle.jn_rows.specs.Stable.{StableState, Prepared, FlagState, Pick, AddReady, AddFlag, DropFlag, at_work, made_by, ready_work, flag_state}
-use Rattle.jn_locks.specs.Locks.{is_unit}
-use Rattle.jn_system.specs.SmallSteps.Traces.{asked, effects, Agrees}
-use Rattle.jn_system.specs.SmallSteps.Held.{commit_units, HoldsForCommit, HasRead, ReadsFiles}
-use Rattle.jn_system.specs.SmallSteps.World.{World, Working, base}
-use Rattle.jn_system.specs.SmallSteps.FoundStates.{AllOver, IsPrepared, HasFlag, MayBeFound}
-use Rattle.jn_system.specs.SmallSteps.Works.{IsActive}
-use Rattle.jn_system.specs.SmallSteps.Invariant.{CoreFacts}
-use Rattle.jn_system.specs.SmallSteps.Steps.{changed, put, narrow, lose}
-use Rattle.jn_system.specs.SmallSteps.Premises.{MayPrepare, MayFlag}
 use Rattle.jn_system.proofs.SmallSteps.Updates.{none_unless, false_unless, not_both, at_work_here, at_work_other, at_work_cases, at_tid_other, at_tid_cases, some_is, none_some}
 
 -- A change of each state that may be found, in doubt or not.

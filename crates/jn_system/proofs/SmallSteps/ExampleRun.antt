@@ -1,22 +1,5 @@
 -- The steps of the example may come.
-use Rattle.std.proofs.Common.{◌≡◌, ◌≢◌, inl, inr, ℕ, true, false, List, [], ◌∷◌, ◌++◌, take, Option, Some, None, is_some, refl, sym, ◌∙◌, ap, subst, arith}
-use Rattle.jn_base.specs.declared.names.ServerNo.{ServerNo}
-use Rattle.jn_base.specs.declared.names.LockUnit.{LockUnit}
-use Rattle.jn_base.specs.declared.names.Tid.{Tid}
-use Rattle.jn_base.specs.declared.names.WorkId.{WorkId}
-use Rattle.jn_base.proofs.Tells.{server_tells, tid_tells, work_tells}
-use Rattle.jn_order.specs.Files.{or_else, change}
-use Rattle.jn_order.specs.Changes.{and_then}
-use Rattle.jn_records.specs.NetLists.{intention_change, list_change}
-use Rattle.jn_rows.specs.Stable.{Prepared, FlagState, at_work, at_tid, ready_work, flag_state}
-use Rattle.jn_rows.specs.Coordinator.{is_work}
-use Rattle.jn_system.specs.SmallSteps.Traces.{asks, effect_of}
-use Rattle.jn_system.specs.SmallSteps.Held.{HasRead, ReadsFiles}
-use Rattle.jn_system.specs.SmallSteps.World.{World, Working}
-use Rattle.jn_system.specs.SmallSteps.Steps.{new_work, Atom, after, run}
-use Rattle.jn_system.specs.SmallSteps.Premises.{MayRun}
-use Rattle.jn_order.specs.Files.{no_files}
-use Rattle.jn_base.specs.declared.names.LockUnit.TheVariants.{File, Block}
+use Rattle.jn_system.proofs.Common.{◌≡◌, ◌≢◌, inl, inr, ℕ, true, false, List, [], ◌∷◌, ◌++◌, take, Option, Some, None, is_some, refl, sym, ◌∙◌, ap, subst, arith, ServerNo, LockUnit, Tid, WorkId, server_tells, tid_tells, work_tells, or_else, change, and_then, intention_change, list_change, Prepared, FlagState, at_work, at_tid, ready_work, flag_state, is_work, asks, effect_of, HasRead, ReadsFiles, World, Working, new_work, Atom, after, run, MayRun, no_files, File, Block}
 use Rattle.jn_system.specs.SmallSteps.Example.{example_server, example_transaction, example_work, its_answer, its_intention, its_reads, its_working, its_head, its_flag, its_works, example_opening, to_the_vote, to_the_flag, to_the_second_stop, to_the_end, example_atoms}
 use Rattle.jn_system.proofs.SmallSteps.Updates.{not_both, some_is, none_some}
 

@@ -1,15 +1,5 @@
 -- At a server that is up each flag is of a transaction that has committed.
-use Rattle.std.proofs.Common.{◌≡◌, ◌≢◌, ◌⊎◌, inl, inr, Bool, true, false, Some, is_some, if◌then◌else◌, sym, ◌∙◌, ap, subst, arith}
-use Rattle.jn_base.specs.declared.names.ServerNo.{ServerNo}
-use Rattle.jn_base.specs.declared.names.Tid.{Tid}
-use Rattle.jn_base.specs.Names.{server_eq, tid_eq}
-use Rattle.jn_base.proofs.Tells.{server_tells, tid_tells}
-use Rattle.jn_records.specs.declared.flag.Flag.{Flag}
-use Rattle.jn_rows.specs.Stable.{Change, StableState, Pick, AddReady, MarkGoing, CarryOut, RemoveWork, AddFlag, DropFlag, at_tid, made_by, flag_state}
-use Rattle.jn_system.specs.SmallSteps.World.{World}
-use Rattle.jn_system.specs.SmallSteps.Steps.{Prepare, lose, Atom, Make, Name, Decide, Narrow, RaiseEpoch, Crash, Restart, server_of, put, with_epoch, always, name_it, restart, after}
-use Rattle.jn_system.specs.SmallSteps.Premises.{MayMake, MayRestart, May}
-use Rattle.jn_system.specs.SmallSteps.FlagFacts.{FlagFact}
+use Rattle.jn_system.proofs.Common.{◌≡◌, ◌≢◌, ◌⊎◌, inl, inr, Bool, true, false, Some, is_some, if◌then◌else◌, sym, ◌∙◌, ap, subst, arith, ServerNo, Tid, server_eq, tid_eq, server_tells, tid_tells, Flag, Change, StableState, Pick, AddReady, MarkGoing, CarryOut, RemoveWork, AddFlag, DropFlag, at_tid, made_by, flag_state, World, Prepare, lose, Atom, Make, Name, Decide, Narrow, RaiseEpoch, Crash, Restart, server_of, put, with_epoch, always, name_it, restart, after, MayMake, MayRestart, May, FlagFact}
 use Rattle.jn_system.proofs.SmallSteps.Updates.{TellsServer, not_both, at_tid_here, at_tid_other}
 
 -- a change that adds no flag

@@ -1,19 +1,8 @@
 -- Works whose units are apart write and read no common register.
-use Rattle.std.proofs.Common.{◌≡◌, ◌⊎◌, inl, inr, ℕ, Bool, true, false, List, [], ◌∷◌, Option, is_some, arith}
-use Rattle.std.specs.Prelude.{◌||◌}
-use Rattle.jn_base.specs.declared.names.FileNo.{FileNo}
-use Rattle.jn_base.specs.declared.names.BlockNo.{BlockNo}
-use Rattle.jn_base.specs.declared.names.LockUnit.{LockUnit}
-use Rattle.jn_base.specs.declared.names.LockUnit.TheVariants.{File, Block}
-use Rattle.jn_order.specs.Changes.{or_also}
-use Rattle.jn_locks.specs.Locks.{unit_eq, is_unit}
+use Rattle.jn_system.proofs.Common.{◌≡◌, ◌⊎◌, inl, inr, ℕ, Bool, true, false, List, [], ◌∷◌, Option, is_some, arith, ◌||◌, FileNo, BlockNo, LockUnit, File, Block, or_also, unit_eq, is_unit, Intention, change_by, intention_change, list_change, written_unit, commit_units, HoldsForCommit, HasRead, Writes, file_unit, ReadsFiles}
 use Rattle.jn_records.specs.declared.intention.What.{What}
 use Rattle.jn_records.specs.declared.intention.What.TheVariants.{Fresh, Gone, Cut, Put}
-use Rattle.jn_records.specs.declared.intention.Intention.{Intention}
-use Rattle.jn_records.specs.NetLists.{change_by, intention_change, list_change}
-use Rattle.jn_rows.specs.Worker.{written_unit}
 use Rattle.jn_system.proofs.SmallSteps.Updates.{false_unless, not_both}
-use Rattle.jn_system.specs.SmallSteps.Held.{commit_units, HoldsForCommit, HasRead, Writes, file_unit, ReadsFiles}
 
 -- what an intention writes stands at its unit or in its file
 one_writes : (what : What) (f : FileNo) (p : BlockNo) (bytes : List ℕ) (u : LockUnit) → is_some (change_by what f p bytes u) ≡ true

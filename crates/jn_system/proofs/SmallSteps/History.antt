@@ -1,19 +1,6 @@
 -- What the history says stays so, and the theorem.
-use Rattle.std.proofs.Common.{◌≡◌, ◌≢◌, ℕ, true, false, List, [], ◌∷◌, ◌++◌, Option, Some, None, refl, sym, ◌∙◌, ap, subst, arith}
-use Rattle.jn_base.specs.declared.names.ServerNo.{ServerNo}
-use Rattle.jn_base.specs.declared.names.LockUnit.{LockUnit}
-use Rattle.jn_base.specs.declared.names.Tid.{Tid}
-use Rattle.jn_base.specs.declared.names.WorkId.{WorkId}
-use Rattle.jn_base.proofs.Tells.{tid_tells}
-use Rattle.jn_order.specs.Files.{AllFiles}
-use Rattle.jn_rows.specs.Stable.{StableState, at_work, at_tid}
-use Rattle.jn_system.specs.SmallSteps.Traces.{Answered}
-use Rattle.jn_system.specs.SmallSteps.World.{World, Working, Commit, replay, IsSerial}
-use Rattle.jn_system.specs.SmallSteps.FoundStates.{MayBeFound}
-use Rattle.jn_system.specs.SmallSteps.Invariant.{CoreFacts, Invariant}
-use Rattle.jn_system.specs.SmallSteps.Steps.{Atom, Perform, End, Name, Decide, perform, end_it, trace_of, name_it, after, run, opening_world}
-use Rattle.jn_system.specs.SmallSteps.Premises.{MayPerform, MayEnd, May, MayRun}
-use Rattle.jn_system.specs.SmallSteps.Order.{has_committed, CommitsOnce, HasTraces, IsDone, IsInOrder}
+use Rattle.jn_system.proofs.Common.{◌≡◌, ◌≢◌, ℕ, true, false, List, [], ◌∷◌, ◌++◌, Option, Some, None, refl, sym, ◌∙◌, ap, subst, arith, ServerNo, LockUnit, Tid, WorkId, tid_tells, AllFiles, StableState, at_work, at_tid, Answered, World, Working, replay, IsSerial, MayBeFound, CoreFacts, Invariant, Atom, Perform, End, Name, Decide, perform, end_it, trace_of, name_it, after, run, opening_world, MayPerform, MayEnd, May, MayRun, has_committed, CommitsOnce, HasTraces, IsDone, IsInOrder}
+use Rattle.jn_system.specs.SmallSteps.World.{Commit}
 use Rattle.jn_system.proofs.SmallSteps.Updates.{not_both, at_work_other, at_tid_other}
 use Rattle.jn_system.proofs.SmallSteps.Runs.{step_kept, opening_kept}
 

@@ -1,16 +1,5 @@
 -- Steps in memory: works lost, ready and over, transactions begun, ended, aborted and closed, what coordinators learn.
-use Rattle.std.proofs.Common.{◌≡◌, ◌≢◌, ◌⊎◌, inl, inr, true, false, Option, Some, None, is_some, refl, sym, ◌∙◌, subst, arith}
-use Rattle.jn_base.specs.declared.names.ServerNo.{ServerNo}
-use Rattle.jn_base.specs.declared.names.Tid.{Tid}
-use Rattle.jn_base.specs.declared.names.WorkId.{WorkId}
-use Rattle.jn_base.proofs.Tells.{tid_tells, work_tells}
-use Rattle.jn_rows.specs.Stable.{Pick}
-use Rattle.jn_system.specs.SmallSteps.World.{World, Knowledge, Unknown, Begun, Voting, Committed}
-use Rattle.jn_system.specs.SmallSteps.FoundStates.{AllReady, AllOver, IsPrepared, MayBeFound}
-use Rattle.jn_system.specs.SmallSteps.Transactions.{IsPart, IsAborted, Knows, KnowledgeFact}
-use Rattle.jn_system.specs.SmallSteps.Invariant.{CoreFacts}
-use Rattle.jn_system.specs.SmallSteps.Steps.{begin_it, lose, end_it, learn, note_ready, note_over, abort, close}
-use Rattle.jn_system.specs.SmallSteps.Premises.{MayEnd, MayLearn, MayBeOver, MayAbort}
+use Rattle.jn_system.proofs.Common.{◌≡◌, ◌≢◌, ◌⊎◌, inl, inr, true, false, Option, Some, None, is_some, refl, sym, ◌∙◌, subst, arith, ServerNo, Tid, WorkId, tid_tells, work_tells, Pick, World, Knowledge, Unknown, Begun, Voting, Committed, AllReady, AllOver, IsPrepared, MayBeFound, IsPart, IsAborted, Knows, KnowledgeFact, CoreFacts, begin_it, lose, end_it, learn, note_ready, note_over, abort, close, MayEnd, MayLearn, MayBeOver, MayAbort}
 use Rattle.jn_system.proofs.SmallSteps.Updates.{not_both, at_work_other, at_work_cases, at_tid_here, at_tid_other, at_tid_cases, some_of, none_some, clash}
 
 -- A work is lost.

@@ -1,25 +1,10 @@
 -- What a message says stays true.
-use Rattle.std.proofs.Common.{◌≡◌, ◌≢◌, ◌⊎◌, inl, inr, ℕ, Bool, true, false, List, [], ◌∷◌, Option, Some, None, not, refl, sym, ◌∙◌, ap, subst, arith}
-use Rattle.std.specs.Prelude.{◌&&◌, ◌||◌}
-use Rattle.jn_base.specs.declared.names.ServerNo.{ServerNo}
-use Rattle.jn_base.specs.declared.names.Tid.{Tid}
-use Rattle.jn_base.specs.declared.names.WorkId.{WorkId}
-use Rattle.jn_base.specs.Names.{server_eq}
-use Rattle.jn_base.proofs.Tells.{tid_tells, work_tells}
-use Rattle.jn_order.specs.Files.{AllFiles}
-use Rattle.jn_rows.specs.Stable.{at_work, at_tid}
-use Rattle.jn_system.specs.SmallSteps.World.{World}
-use Rattle.jn_system.specs.SmallSteps.Invariant.{Invariant}
-use Rattle.jn_system.specs.SmallSteps.Steps.{Atom, Begin, Open, End, NoteReady, NoteOver, Abort, Close, Name, Decide, Restart, after, run, opening_world}
-use Rattle.jn_system.specs.SmallSteps.Premises.{May, MayRun}
-use Rattle.jn_msgs.specs.declared.message.Message.{Message}
+use Rattle.jn_system.proofs.Common.{◌≡◌, ◌≢◌, ◌⊎◌, inl, inr, ℕ, Bool, true, false, List, [], ◌∷◌, Option, Some, None, not, refl, sym, ◌∙◌, ap, subst, arith, ◌&&◌, ◌||◌, ServerNo, Tid, WorkId, server_eq, tid_tells, work_tells, AllFiles, at_work, at_tid, World, Invariant, Atom, Begin, Open, End, NoteReady, NoteOver, Abort, Close, Name, Decide, Restart, after, run, opening_world, May, MayRun, Message, Vote, NamesFact}
 use Rattle.jn_msgs.specs.declared.message.Message.TheVariants as messages
 use Rattle.jn_msgs.specs.declared.message.Outcome.{Outcome}
 use Rattle.jn_msgs.specs.declared.message.Outcome.TheVariants as outcomes
-use Rattle.jn_msgs.specs.declared.message.Vote.{Vote}
 use Rattle.jn_msgs.specs.declared.message.Vote.TheVariants as votes
 use Rattle.jn_system.specs.SmallSteps.Messages.{IsPartOf, IsWorkOf, BegunSays, OpenedSays, OutcomeSays, VoteSays, DropSays, Says}
-use Rattle.jn_system.specs.SmallSteps.NameFacts.{NamesFact}
 use Rattle.jn_system.proofs.SmallSteps.NameLemmas.{fresh_work}
 use Rattle.jn_system.proofs.SmallSteps.Runs.{step_kept, run_kept, opening_kept}
 use Rattle.jn_system.proofs.SmallSteps.Updates.{not_both, at_work_other, at_tid_other}

@@ -1,15 +1,5 @@
 -- Names are given once.
-use Rattle.std.proofs.Common.{◌≡◌, ◌≢◌, ◌⊎◌, inl, inr, ℕ, ◌+◌, ◌≤◌, ◌<◌, Bool, true, false, if◌then◌else◌, refl, sym, ◌∙◌, ap, subst, arith}
-use Rattle.jn_base.specs.declared.names.ServerNo.{ServerNo}
-use Rattle.jn_base.specs.declared.names.Tid.{Tid}
-use Rattle.jn_base.specs.declared.names.WorkId.{WorkId}
-use Rattle.jn_base.specs.Names.{server_eq}
-use Rattle.jn_base.proofs.Tells.{server_tells}
-use Rattle.jn_rows.specs.Stable.{Change, StableState, Pick, AddReady, MarkGoing, CarryOut, RemoveWork, AddFlag, DropFlag, made_by}
-use Rattle.jn_system.specs.SmallSteps.World.{World, at_server}
-use Rattle.jn_system.specs.SmallSteps.Steps.{Prepare, lose, Atom, Begin, Open, Make, Decide, Narrow, RaiseEpoch, Crash, Restart, server_of, put, with_epoch, always, restart, after}
-use Rattle.jn_system.specs.SmallSteps.Premises.{MayBegin, MayOpen, MayRestart, May}
-use Rattle.jn_system.specs.SmallSteps.NameFacts.{IsGiven, NamesFact}
+use Rattle.jn_system.proofs.Common.{◌≡◌, ◌≢◌, ◌⊎◌, inl, inr, ℕ, ◌+◌, ◌≤◌, ◌<◌, Bool, true, false, if◌then◌else◌, refl, sym, ◌∙◌, ap, subst, arith, ServerNo, Tid, WorkId, server_eq, server_tells, Change, StableState, Pick, AddReady, MarkGoing, CarryOut, RemoveWork, AddFlag, DropFlag, made_by, World, at_server, Prepare, lose, Atom, Begin, Open, Make, Decide, Narrow, RaiseEpoch, Crash, Restart, server_of, put, with_epoch, always, restart, after, MayBegin, MayOpen, MayRestart, May, IsGiven, NamesFact}
 use Rattle.jn_system.proofs.SmallSteps.Updates.{TellsServer, not_both, false_unless, at_work_cases, at_tid_cases}
 
 -- a new name was never given

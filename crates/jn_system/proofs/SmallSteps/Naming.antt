@@ -1,23 +1,5 @@
 -- The commit point: a transaction is named.
-use Rattle.std.proofs.Common.{◌≡◌, ◌≢◌, ◌⊎◌, inl, inr, ℕ, Bool, true, false, List, Option, Some, None, is_some, if◌then◌else◌, refl, sym, ◌∙◌, ap, subst, arith}
-use Rattle.jn_base.specs.declared.names.ServerNo.{ServerNo}
-use Rattle.jn_base.specs.declared.names.LockUnit.{LockUnit}
-use Rattle.jn_base.specs.declared.names.Tid.{Tid}
-use Rattle.jn_base.specs.declared.names.WorkId.{WorkId}
-use Rattle.jn_base.specs.Names.{tid_eq}
-use Rattle.jn_base.proofs.Tells.{tid_tells}
-use Rattle.jn_order.specs.Files.{Files, or_else, change}
-use Rattle.jn_records.specs.NetLists.{list_change}
-use Rattle.jn_rows.specs.Stable.{Prepared, FlagState, Pick}
-use Rattle.jn_locks.specs.Locks.{is_unit}
-use Rattle.jn_system.specs.SmallSteps.Traces.{Answered, asked, effects, Agrees}
-use Rattle.jn_system.specs.SmallSteps.Held.{Writes}
-use Rattle.jn_system.specs.SmallSteps.World.{World, Working, Knowledge, Unknown, Begun, Voting, Committed, IsSerial, base}
-use Rattle.jn_system.specs.SmallSteps.FoundStates.{AllOver, HasFlag, MayBeFound}
-use Rattle.jn_system.specs.SmallSteps.Transactions.{IsNamed, Knows}
-use Rattle.jn_system.specs.SmallSteps.Invariant.{CoreFacts}
-use Rattle.jn_system.specs.SmallSteps.Steps.{trace_of, name_it}
-use Rattle.jn_system.specs.SmallSteps.Premises.{MayName}
+use Rattle.jn_system.proofs.Common.{◌≡◌, ◌≢◌, ◌⊎◌, inl, inr, ℕ, Bool, true, false, List, Option, Some, None, is_some, if◌then◌else◌, refl, sym, ◌∙◌, ap, subst, arith, ServerNo, LockUnit, Tid, WorkId, tid_eq, tid_tells, Files, or_else, change, list_change, Prepared, FlagState, Pick, is_unit, Answered, asked, effects, Agrees, Writes, World, Working, Knowledge, Unknown, Begun, Voting, Committed, IsSerial, base, AllOver, HasFlag, MayBeFound, IsNamed, Knows, CoreFacts, trace_of, name_it, MayName}
 use Rattle.jn_system.proofs.SmallSteps.TraceLemmas.{agrees_local}
 use Rattle.jn_system.proofs.SmallSteps.HeldLemmas.{reads_apart, writes_apart}
 use Rattle.jn_system.proofs.SmallSteps.Updates.{false_unless, not_both, at_tid_here, at_tid_other, at_tid_cases, some_of, some_none}

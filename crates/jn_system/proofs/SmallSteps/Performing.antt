@@ -1,23 +1,6 @@
 -- A work is opened, and an operation is answered.
-use Rattle.std.proofs.Common.{◌≡◌, ◌≢◌, ◌⊎◌, inl, inr, ℕ, Bool, true, false, List, [], ◌∷◌, ◌++◌, Option, Some, None, is_some, refl, sym, ◌∙◌, ap, subst, arith}
-use Rattle.jn_base.specs.declared.names.ServerNo.{ServerNo}
-use Rattle.jn_base.specs.declared.names.LockUnit.{LockUnit}
-use Rattle.jn_base.specs.declared.names.Tid.{Tid}
-use Rattle.jn_base.specs.declared.names.WorkId.{WorkId}
-use Rattle.jn_base.proofs.Tells.{work_tells}
-use Rattle.jn_order.specs.Files.{Files, Change, change, answer_to}
-use Rattle.jn_order.specs.Changes.{or_also}
-use Rattle.jn_records.specs.NetLists.{list_change}
-use Rattle.jn_rows.specs.Stable.{Prepared, Pick, at_work}
-use Rattle.jn_locks.specs.Locks.{is_unit}
-use Rattle.jn_system.specs.SmallSteps.Traces.{Answered, asks, asked, effect_of, effects, Agrees}
-use Rattle.jn_system.specs.SmallSteps.Held.{HoldsForCommit, HasRead, file_unit}
-use Rattle.jn_system.specs.SmallSteps.World.{World, Working, base}
-use Rattle.jn_system.specs.SmallSteps.FoundStates.{MayBeFound}
-use Rattle.jn_system.specs.SmallSteps.Works.{IsActive}
-use Rattle.jn_system.specs.SmallSteps.Invariant.{CoreFacts}
-use Rattle.jn_system.specs.SmallSteps.Steps.{new_work, open_work, perform}
-use Rattle.jn_system.specs.SmallSteps.Premises.{MayPerform}
+use Rattle.jn_system.proofs.Common.{◌≡◌, ◌≢◌, ◌⊎◌, inl, inr, ℕ, Bool, true, false, List, [], ◌∷◌, ◌++◌, Option, Some, None, is_some, refl, sym, ◌∙◌, ap, subst, arith, ServerNo, LockUnit, Tid, WorkId, work_tells, Files, change, answer_to, or_also, list_change, Prepared, Pick, at_work, is_unit, Answered, asks, asked, effect_of, effects, Agrees, HoldsForCommit, HasRead, file_unit, World, Working, base, MayBeFound, IsActive, CoreFacts, new_work, open_work, perform, MayPerform}
+use Rattle.jn_order.specs.Files.{Change}
 use Rattle.jn_system.proofs.SmallSteps.TraceLemmas.{effects_more, asked_more, agrees_more, answer_local}
 use Rattle.jn_system.proofs.SmallSteps.HeldLemmas.{reads_apart}
 use Rattle.jn_system.proofs.SmallSteps.Updates.{unless, false_unless, not_both, at_work_here, at_work_other, at_work_cases, some_is, none_some}

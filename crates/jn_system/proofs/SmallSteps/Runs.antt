@@ -1,18 +1,5 @@
 -- Every step keeps the invariant, and so does every run.
-use Rattle.std.proofs.Common.{◌≡◌, inl, inr, ℕ, true, false, List, [], ◌∷◌, Some, None, is_some, if◌then◌else◌, refl, sym, ◌∙◌, ap}
-use Rattle.jn_base.specs.declared.names.ServerNo.{ServerNo}
-use Rattle.jn_base.specs.declared.names.Tid.{Tid}
-use Rattle.jn_base.proofs.Tells.{server_tells}
-use Rattle.jn_order.specs.Files.{AllFiles}
-use Rattle.jn_records.specs.declared.flag.Flag.{Flag}
-use Rattle.jn_rows.specs.Stable.{Change, StableState, Pick, AddReady, MarkGoing, CarryOut, RemoveWork, AddFlag, DropFlag, made_by, flag_state}
-use Rattle.jn_system.specs.SmallSteps.World.{World}
-use Rattle.jn_system.specs.SmallSteps.FoundStates.{MayBeFound}
-use Rattle.jn_system.specs.SmallSteps.Invariant.{CoreFacts, Invariant}
-use Rattle.jn_system.specs.SmallSteps.Steps.{Prepare, lose, Atom, Begin, Open, Perform, Lose, End, Learn, NoteReady, NoteOver, Abort, Close, Make, Count, Name, Decide, Narrow, RaiseEpoch, Crash, Restart, server_of, put, with_epoch, always, after, run, opening_world}
-use Rattle.jn_system.specs.SmallSteps.Premises.{MayAbort, MayMake, MayRestart, May, MayRun}
-use Rattle.jn_system.specs.SmallSteps.NameFacts.{NamesFact}
-use Rattle.jn_system.specs.SmallSteps.FlagFacts.{FlagFact}
+use Rattle.jn_system.proofs.Common.{◌≡◌, inl, inr, ℕ, true, false, List, [], ◌∷◌, Some, None, is_some, if◌then◌else◌, refl, sym, ◌∙◌, ap, ServerNo, Tid, server_tells, AllFiles, Flag, Change, StableState, Pick, AddReady, MarkGoing, CarryOut, RemoveWork, AddFlag, DropFlag, made_by, flag_state, World, MayBeFound, CoreFacts, Invariant, Prepare, lose, Atom, Begin, Open, Perform, Lose, End, Learn, NoteReady, NoteOver, Abort, Close, Make, Count, Name, Decide, Narrow, RaiseEpoch, Crash, Restart, server_of, put, with_epoch, always, after, run, opening_world, MayAbort, MayMake, MayRestart, May, MayRun, NamesFact, FlagFact}
 use Rattle.jn_system.proofs.SmallSteps.NameLemmas.{fresh_work, fresh_tid, names_kept}
 use Rattle.jn_system.proofs.SmallSteps.FlagLemmas.{flags_kept}
 use Rattle.jn_system.proofs.SmallSteps.Updates.{TellsServer, none_of, false_unless, not_both, none_some, at_tid_here}

@@ -1,22 +1,8 @@
 -- Traces: what their answers depend on, one more operation, and lists of intentions carried out in part.
-use Rattle.std.proofs.Common.{◌≡◌, ℕ, zero, suc, true, false, List, [], ◌∷◌, ◌++◌, take, Option, is_some, if◌then◌else◌, refl, sym, subst, arith}
-use Rattle.std.proofs.lemmas.Bool.Decides.{nat_tests}
-use Rattle.std.specs.Prelude.{◌&&◌}
-use Rattle.jn_base.specs.declared.names.FileNo.{FileNo}
-use Rattle.jn_base.specs.declared.names.BlockNo.{BlockNo}
-use Rattle.jn_base.specs.declared.names.LockUnit.{LockUnit}
-use Rattle.jn_base.specs.declared.names.LockUnit.TheVariants.{File, Block}
-use Rattle.jn_base.specs.declared.op.Op.{Op}
+use Rattle.jn_system.proofs.Common.{◌≡◌, ℕ, zero, suc, true, false, List, [], ◌∷◌, ◌++◌, take, Option, is_some, if◌then◌else◌, refl, sym, subst, arith, nat_tests, ◌&&◌, FileNo, BlockNo, LockUnit, File, Block, Op, Answer, Found, file_eq, block_eq, Files, change, file_of, answer_to, and_then, or_also, Intention, intention_change, list_change, Answered, asks_block, asks, asked, effect_of, effects, Agrees}
 use Rattle.jn_base.specs.declared.op.Op.TheVariants.{Create, Remove, Cut, Read, Write}
-use Rattle.jn_base.specs.declared.op.Answer.{Answer}
-use Rattle.jn_base.specs.declared.op.Answer.TheVariants.{Read as Found}
-use Rattle.jn_base.specs.Names.{file_eq, block_eq}
-use Rattle.jn_order.specs.Files.{Files, Change, change, file_of, answer_to}
-use Rattle.jn_order.specs.Changes.{and_then, or_also}
-use Rattle.jn_records.specs.declared.intention.Intention.{Intention}
-use Rattle.jn_records.specs.NetLists.{intention_change, list_change}
+use Rattle.jn_order.specs.Files.{Change}
 use Rattle.jn_system.proofs.SmallSteps.Updates.{not_both}
-use Rattle.jn_system.specs.SmallSteps.Traces.{Answered, asks_block, asks, asked, effect_of, effects, Agrees}
 
 change_then : (a b : Change) (files : Files) (u : LockUnit) → change (and_then a b) files u ≡ change b (change a files) u
 change_then a b files u = grind arith

@@ -1,11 +1,5 @@
 -- Tables changed at one name, and small facts that the steps use.
-use Rattle.std.proofs.Common.{◌≡◌, ◌≢◌, ◌⊎◌, Bool, true, false, Option, Some, None, is_some, refl, arith}
-use Rattle.jn_base.specs.declared.names.ServerNo.{ServerNo}
-use Rattle.jn_base.specs.declared.names.Tid.{Tid}
-use Rattle.jn_base.specs.declared.names.WorkId.{WorkId}
-use Rattle.jn_base.specs.Names.{server_eq}
-use Rattle.jn_base.proofs.Tells.{tid_tells, work_tells}
-use Rattle.jn_rows.specs.Stable.{at_work, at_tid}
+use Rattle.jn_system.proofs.Common.{◌≡◌, ◌≢◌, ◌⊎◌, Bool, true, false, Option, Some, None, is_some, refl, arith, ServerNo, Tid, WorkId, server_eq, tid_tells, work_tells, at_work, at_tid}
 
 pub unless : (x b : Bool) → (x ≡ true → b ≡ false) → b ≡ true → x ≡ false
 unless x b h t = grind arith

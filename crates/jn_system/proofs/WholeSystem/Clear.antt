@@ -1,16 +1,5 @@
 -- What is granted stands in nobody's way.
-use Rattle.std.proofs.Common.{◌≡◌, ◌⊎◌, inl, inr, Bool, true, false, List, [], ◌∷◌, Option, Some, None, refl, sym, subst, arith}
-use Rattle.std.specs.Prelude.{◌&&◌, not, if◌then◌else◌}
-use Rattle.jn_base.specs.declared.names.WorkId.{WorkId}
-use Rattle.jn_base.specs.declared.names.LockUnit.{LockUnit}
-use Rattle.jn_base.specs.Names.{work_eq}
-use Rattle.jn_locks.specs.declared.words.Mode.{Mode}
-use Rattle.jn_locks.specs.declared.words.Mode.TheVariants.{Read, IntentionWrite, Commit}
-use Rattle.jn_locks.specs.Locks.{together, is_unit}
-use Rattle.jn_locks.proofs.Orders.{unit_tells}
-use Rattle.jn_rows.specs.declared.worker.Work.{Work}
-use Rattle.jn_rows.specs.declared.worker.Phase.{Phase}
-use Rattle.jn_rows.specs.Worker.{WorkerTable, Wanted, Held, has_mode, units_for, holds, gives_way, collides_at, collision, holder_at, held_by, conflict, breaks_at, work_at}
+use Rattle.jn_system.proofs.Common.{◌≡◌, ◌⊎◌, inl, inr, Bool, true, false, List, [], ◌∷◌, Option, Some, None, refl, sym, subst, arith, ◌&&◌, not, if◌then◌else◌, WorkId, LockUnit, work_eq, Mode, Read, IntentionWrite, Commit, together, is_unit, unit_tells, Work, Phase, WorkerTable, Wanted, Held, has_mode, units_for, holds, gives_way, collides_at, collision, holder_at, held_by, conflict, breaks_at, work_at}
 
 -- what a work in this phase holds goes with what is wanted
 abbrev pub Clear : Phase → List Wanted → Type 0

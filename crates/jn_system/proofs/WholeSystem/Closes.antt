@@ -1,15 +1,6 @@
 -- What is left of a table in which transactions are closed, and which flags are dropped.
-use Rattle.std.proofs.Common.{◌≡◌, ◌≢◌, ◌⊎◌, inl, inr, Bool, true, false, List, [], ◌∷◌, ◌++◌, true≢false, refl, sym, subst}
-use Rattle.std.specs.Prelude.{if◌then◌else◌}
-use Rattle.jn_base.specs.declared.names.ClientNo.{ClientNo}
-use Rattle.jn_base.specs.Names.{client_eq}
-use Rattle.jn_base.proofs.Tells.{client_tells}
-use Rattle.jn_rows.specs.declared.coordinator.Transaction.{Transaction}
-use Rattle.jn_rows.specs.declared.coordinator.Stage.{Stage}
+use Rattle.jn_system.proofs.Common.{◌≡◌, ◌≢◌, ◌⊎◌, inl, inr, Bool, true, false, List, [], ◌∷◌, ◌++◌, true≢false, refl, sym, subst, if◌then◌else◌, ClientNo, client_eq, client_tells, Transaction, Stage, Commitment, Change, DropFlag, all_in, closed, thanked, thanked_changes, after_closing, changes_of_closing, all_thanked, flags_of_thanked}
 use Rattle.jn_rows.specs.declared.coordinator.Stage.TheVariants.{Open, Voting, Committed, Aborted}
-use Rattle.jn_rows.specs.declared.coordinator.Committed.{Committed as Commitment}
-use Rattle.jn_rows.specs.Stable.{Change, DropFlag}
-use Rattle.jn_rows.specs.Coordinator.{all_in, closed, thanked, thanked_changes, after_closing, changes_of_closing, all_thanked, flags_of_thanked}
 
 abbrev pub is_committed : Stage → Bool
 is_committed (Committed d) = true

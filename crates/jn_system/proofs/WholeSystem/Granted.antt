@@ -1,17 +1,5 @@
 -- What becomes of the works of a table when one of them changes its phase, and others break at what it is granted.
-use Rattle.std.proofs.Common.{◌≡◌, ◌≢◌, Bool, true, false, List, [], ◌∷◌, Option, Some, None, is_some, refl, sym, ◌∙◌, ap, subst, arith}
-use Rattle.std.specs.Prelude.{◌&&◌, not, if◌then◌else◌}
-use Rattle.jn_base.specs.declared.names.Tid.{Tid}
-use Rattle.jn_base.specs.declared.names.WorkId.{WorkId}
-use Rattle.jn_base.specs.declared.names.LockUnit.{LockUnit}
-use Rattle.jn_base.specs.Names.{work_eq}
-use Rattle.jn_base.proofs.Tells.{work_tells}
-use Rattle.jn_rows.specs.declared.worker.Work.{Work}
-use Rattle.jn_rows.specs.declared.worker.Phase.{Phase}
-use Rattle.jn_rows.specs.declared.worker.Phase.TheVariants.{Broken}
-use Rattle.jn_rows.specs.Worker.{WorkerTable, Wanted, gives_way, breaks_at, broken_by, after_grant, with_phase, work_at, collision, conflict}
-use Rattle.jn_lock_rows.specs.Matching.{are_rising, is_after}
-use Rattle.jn_lock_rows.proofs.Works.{work_is, work_same, found-name, in_phase, at-phase, rising-phase, once_granted, at-grant, rising-grant}
+use Rattle.jn_system.proofs.Common.{◌≡◌, ◌≢◌, Bool, true, false, List, [], ◌∷◌, Option, Some, None, is_some, refl, sym, ◌∙◌, ap, subst, arith, ◌&&◌, not, if◌then◌else◌, Tid, WorkId, LockUnit, work_eq, work_tells, Work, Phase, Broken, WorkerTable, Wanted, gives_way, breaks_at, broken_by, after_grant, with_phase, work_at, collision, conflict, are_rising, is_after, work_is, work_same, found-name, in_phase, at-phase, rising-phase, once_granted, at-grant, rising-grant}
 use Rattle.jn_system.proofs.WholeSystem.Clear.{Clear, unbroken}
 
 -- where a work of the new table comes from

@@ -1,20 +1,5 @@
 -- What holds of a table's works and locks holds once one work has changed, with what it was granted.
-use Rattle.std.proofs.Common.{◌≡◌, ◌≢◌, ◌⊎◌, inl, inr, true, false, List, Option, Some, None, is_some, refl, sym, ◌∙◌, ap, subst, arith}
-use Rattle.jn_base.specs.declared.names.Tid.{Tid}
-use Rattle.jn_base.specs.declared.names.WorkId.{WorkId}
-use Rattle.jn_base.specs.declared.names.Tickets.{Tickets}
-use Rattle.jn_base.specs.declared.names.LockUnit.{LockUnit}
-use Rattle.jn_base.specs.Names.{work_eq}
-use Rattle.jn_base.proofs.Tells.{work_tells}
-use Rattle.jn_locks.specs.declared.words.Mode.{Mode}
-use Rattle.jn_locks.specs.declared.words.Mode.TheVariants.{Read, IntentionWrite, Commit}
-use Rattle.jn_locks.specs.Locks.{together, is_unit}
-use Rattle.jn_rows.specs.declared.worker.Work.{Work}
-use Rattle.jn_rows.specs.declared.worker.Phase.{Phase}
-use Rattle.jn_rows.specs.declared.worker.Phase.TheVariants.{Active, Broken, Prepared as Stored}
-use Rattle.jn_rows.specs.Stable.{Prepared}
-use Rattle.jn_rows.specs.Worker.{WorkerTable, Wanted, units_for, holds, gives_way, work_at, name_from}
-use Rattle.jn_system.specs.WholeSystem.LockFacts.{GoTogether, IsSoundWork, TableFact}
+use Rattle.jn_system.proofs.Common.{◌≡◌, ◌≢◌, ◌⊎◌, inl, inr, true, false, List, Option, Some, None, is_some, refl, sym, ◌∙◌, ap, subst, arith, Tid, WorkId, Tickets, LockUnit, work_eq, work_tells, Mode, Read, IntentionWrite, Commit, together, is_unit, Work, Phase, Active, Broken, Stored, Prepared, WorkerTable, Wanted, units_for, holds, gives_way, work_at, name_from, GoTogether, IsSoundWork, TableFact}
 use Rattle.jn_system.proofs.WholeSystem.Clear.{Clear}
 use Rattle.jn_system.proofs.WholeSystem.Granted.{Origin, Mine, Kept, Broke, Regrants}
 

@@ -1,12 +1,5 @@
 -- How a run shows that its commits aren't in order.
-use Rattle.std.proofs.Common.{◌≡◌, ℕ, false, List, Some, None, sym, ◌∙◌}
-use Rattle.jn_base.specs.declared.names.ServerNo.{ServerNo}
-use Rattle.jn_base.specs.declared.names.LockUnit.{LockUnit}
-use Rattle.jn_base.specs.declared.names.WorkId.{WorkId}
-use Rattle.jn_order.specs.Files.{no_files}
-use Rattle.jn_rows.specs.Stable.{Prepared}
-use Rattle.jn_system.specs.SmallSteps.World.{World, replay}
-use Rattle.jn_system.specs.SmallSteps.Order.{IsInOrder}
+use Rattle.jn_system.proofs.Common.{◌≡◌, ℕ, false, List, Some, None, sym, ◌∙◌, ServerNo, LockUnit, WorkId, no_files, Prepared, World, replay, IsInOrder}
 
 -- a register isn't as the commits left it, and no work is there that would write it
 pub is-lost : (w : World) (s : ServerNo) (u : LockUnit) (v : List ℕ) → ((W : WorkId) → (w.found s (λ n. false)).works W ≡ None) → (w.found s (λ n. false)).files u ≡ None → replay no_files w.history s u ≡ Some v

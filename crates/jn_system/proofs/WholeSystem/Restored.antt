@@ -1,27 +1,6 @@
 -- What a server that stops leaves of its works, and what a restart makes of them.
-use Rattle.std.proofs.Common.{◌≡◌, ◌≢◌, ◌⊎◌, ◌≤◌, inl, inr, ℕ, ◌+◌, Bool, true, false, List, [], ◌∷◌, ◌++◌, Option, Some, None, is_some, refl, sym, ◌∙◌, ap, subst, arith}
-use Rattle.std.specs.Prelude.{◌&&◌, ◌||◌, if◌then◌else◌}
-use Rattle.std.specs.List.{list_any, list_all}
-use Rattle.std.proofs.lemmas.Bool.Decides.{nat_tests}
-use Rattle.jn_base.specs.declared.names.ServerNo.{ServerNo}
-use Rattle.jn_base.specs.declared.names.WorkId.{WorkId}
-use Rattle.jn_base.specs.declared.names.Tickets.{Tickets}
-use Rattle.jn_base.specs.declared.names.LockUnit.{LockUnit}
-use Rattle.jn_base.specs.Names.{work_eq}
-use Rattle.jn_base.proofs.Tells.{work_tells}
-use Rattle.jn_locks.specs.declared.words.Mode.{Mode}
-use Rattle.jn_locks.specs.declared.words.Mode.TheVariants.{Read, IntentionWrite, Commit}
-use Rattle.jn_locks.specs.Locks.{is_unit, work_before}
-use Rattle.jn_system.specs.SmallSteps.Held.{commit_units, HoldsForCommit, HasRead, ReadsFiles, file_unit}
-use Rattle.jn_rows.specs.declared.worker.Work.{Work}
-use Rattle.jn_rows.specs.declared.worker.Phase.{Phase}
-use Rattle.jn_rows.specs.declared.worker.Phase.TheVariants.{Active, Broken, Prepared as Stored}
+use Rattle.jn_system.proofs.Common.{◌≡◌, ◌≢◌, ◌⊎◌, ◌≤◌, inl, inr, ℕ, ◌+◌, Bool, true, false, List, [], ◌∷◌, ◌++◌, Option, Some, None, is_some, refl, sym, ◌∙◌, ap, subst, arith, ◌&&◌, ◌||◌, if◌then◌else◌, list_any, list_all, nat_tests, ServerNo, WorkId, Tickets, LockUnit, work_eq, work_tells, Mode, Read, IntentionWrite, Commit, is_unit, work_before, commit_units, HoldsForCommit, HasRead, ReadsFiles, file_unit, Work, Phase, Active, Broken, Stored, StableState, Prepared, WorkerTable, work_at, name_from, holds, restored_work, restored_worker, is_after, is_before, are_rising, AreNames, names_rise, GoTogether, IsSoundWork, IsSoundPrepared, ReadFiles, TableFact, StoredFact, stored_phase}
 use Rattle.jn_rows.specs.declared.worker.PreparedWork.{PreparedWork}
-use Rattle.jn_rows.specs.Stable.{StableState, Prepared}
-use Rattle.jn_rows.specs.Worker.{WorkerTable, work_at, name_from, holds, restored_work, restored_worker}
-use Rattle.jn_lock_rows.specs.Matching.{is_after, is_before, are_rising}
-use Rattle.jn_system.specs.WholeSystem.Steps.{AreNames, are_rising as names_rise}
-use Rattle.jn_system.specs.WholeSystem.LockFacts.{GoTogether, IsSoundWork, IsSoundPrepared, ReadFiles, TableFact, StoredFact, stored_phase}
 
 some-same : {A : Type 0} → (a b : A) → Some a ≡ Some b → a ≡ b
 some-same a b e = cc

@@ -1,28 +1,6 @@
 -- Each row of a worker keeps what holds of its works and locks.
-use Rattle.std.proofs.Common.{◌≡◌, ◌≢◌, ◌⊎◌, inl, inr, ℕ, zero, suc, Bool, true, false, List, [], ◌∷◌, take, Option, Some, None, refl, sym, ◌∙◌, subst, arith}
-use Rattle.std.specs.Prelude.{◌||◌, if◌then◌else◌}
-use Rattle.jn_base.specs.declared.names.WorkId.{WorkId}
-use Rattle.jn_base.specs.declared.names.Tickets.{Tickets}
-use Rattle.jn_base.specs.declared.names.LockUnit.{LockUnit}
-use Rattle.jn_base.specs.declared.op.Op.{Op}
-use Rattle.jn_base.specs.declared.op.Answer.{Answer}
-use Rattle.jn_records.specs.declared.intention.Intention.{Intention}
-use Rattle.jn_records.specs.NetLists.{InOrder}
-use Rattle.jn_records.specs.NetEdits.{intention_for}
+use Rattle.jn_system.proofs.Common.{◌≡◌, ◌≢◌, ◌⊎◌, inl, inr, ℕ, zero, suc, Bool, true, false, List, [], ◌∷◌, take, Option, Some, None, refl, sym, ◌∙◌, subst, arith, ◌||◌, if◌then◌else◌, WorkId, Tickets, LockUnit, Op, Answer, Intention, InOrder, intention_for, Mode, Read, IntentionWrite, Commit, is_unit, Work, Phase, Active, Stored, ActiveWork, StableState, Prepared, Change, made_all, is_going, next_after, RowOutcome, WorkerTable, Wanted, units_for, with_units, wants_of, commit_wants, holds, work_at, with_phase, after_grant, conflict, done, list_with, is_fit, written_unit, HoldsForCommit, HasRead, file_unit, found-name, IsSoundWork, IsSoundActive, IsSoundPrepared, ReadFiles, TableFact}
 use Rattle.jn_records.proofs.EditLemmas.{edited-in_order}
-use Rattle.jn_locks.specs.declared.words.Mode.{Mode}
-use Rattle.jn_locks.specs.declared.words.Mode.TheVariants.{Read, IntentionWrite, Commit}
-use Rattle.jn_locks.specs.Locks.{is_unit}
-use Rattle.jn_rows.specs.declared.worker.Work.{Work}
-use Rattle.jn_rows.specs.declared.worker.Phase.{Phase}
-use Rattle.jn_rows.specs.declared.worker.Phase.TheVariants.{Active, Prepared as Stored}
-use Rattle.jn_rows.specs.declared.worker.ActiveWork.{ActiveWork}
-use Rattle.jn_rows.specs.Stable.{StableState, Prepared, Change, made_all, is_going, next_after}
-use Rattle.jn_rows.specs.Outcomes.{RowOutcome}
-use Rattle.jn_rows.specs.Worker.{WorkerTable, Wanted, units_for, with_units, wants_of, commit_wants, holds, work_at, with_phase, after_grant, conflict, done, list_with, is_fit, written_unit}
-use Rattle.jn_system.specs.SmallSteps.Held.{HoldsForCommit, HasRead, file_unit}
-use Rattle.jn_lock_rows.proofs.Works.{found-name}
-use Rattle.jn_system.specs.WholeSystem.LockFacts.{IsSoundWork, IsSoundActive, IsSoundPrepared, ReadFiles, TableFact}
 use Rattle.jn_system.proofs.WholeSystem.Granted.{phase_changed, granted}
 use Rattle.jn_system.proofs.WholeSystem.Keeping.{kept}
 use Rattle.jn_system.proofs.WholeSystem.Units.{with_units-is, wants-file, reads-file, writes-wanted, units-more, commit_wants-are}

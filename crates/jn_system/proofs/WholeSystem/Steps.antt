@@ -1,28 +1,12 @@
 -- Each step of the whole system keeps what holds of the works and locks of each server.
-use Rattle.std.proofs.Common.{◌≡◌, ◌≢◌, ◌⊎◌, ◌≤◌, inl, inr, ℕ, ◌+◌, Bool, true, false, List, [], ◌∷◌, take, Option, Some, None, refl, sym, ◌∙◌, ap, subst, arith}
-use Rattle.std.specs.Prelude.{if◌then◌else◌, length, slice_get}
-use Rattle.jn_base.specs.declared.names.ServerNo.{ServerNo}
-use Rattle.jn_base.specs.declared.names.ClientNo.{ClientNo}
-use Rattle.jn_base.specs.declared.names.Tid.{Tid}
-use Rattle.jn_base.specs.declared.names.WorkId.{WorkId}
-use Rattle.jn_base.specs.declared.names.Tickets.{Tickets}
+use Rattle.jn_system.proofs.Common.{◌≡◌, ◌≢◌, ◌⊎◌, ◌≤◌, inl, inr, ℕ, ◌+◌, Bool, true, false, List, [], ◌∷◌, take, Option, Some, None, refl, sym, ◌∙◌, ap, subst, arith, if◌then◌else◌, length, slice_get, ServerNo, ClientNo, Tid, WorkId, Tickets, server_eq, server_tells, AllFiles, Message, StableState, Pick, Change, stable, made_all, is_going, RowOutcome, Sent, WorkerTable, worker_row, worker_step, timeout_row, CoordinatorTable, coordinator_row, close_clients_row, with_epoch, Step, NextEvent, Tell, Again, Deliver, Nudge, Timeout, StopDelivery, StopWork, StopRestart, Dismiss, CloseClients, IsStep, IsRun, ends, stopped, at_memory, handed, work, works, nudge, timeout, stop_restart, close_clients, commanded, took, TableFact, StoredFact, UpFact, ServerFact, LockFacts}
 use Rattle.jn_base.specs.declared.names.Party.TheVariants.{Client, Server}
-use Rattle.jn_base.specs.Names.{server_eq}
-use Rattle.jn_base.proofs.Tells.{server_tells}
-use Rattle.jn_order.specs.Files.{AllFiles}
-use Rattle.jn_msgs.specs.declared.message.Message.{Message}
 use Rattle.jn_rows.specs.declared.client.Taken.{Taken}
 use Rattle.jn_rows.specs.declared.client.Taken.TheVariants as taken
-use Rattle.jn_rows.specs.Stable.{StableState, Pick, Change, stable, made_all, is_going}
-use Rattle.jn_rows.specs.Outcomes.{RowOutcome, Sent}
-use Rattle.jn_rows.specs.Worker.{WorkerTable, worker_row, worker_step, timeout_row}
-use Rattle.jn_rows.specs.Coordinator.{CoordinatorTable, coordinator_row, close_clients_row}
 use Rattle.jn_rows.specs.Client.{Commanded, Refuses, Sends, ClientTable, command_row, take_row}
-use Rattle.jn_system.specs.SmallSteps.Steps.{with_epoch}
 use Rattle.jn_system.specs.WholeSystem.World.{World, Memory, opening, at_server}
 use Rattle.jn_system.specs.WholeSystem.Servers.{Room, server_row, server_step, of_worker, of_coordinator, of_step, storage_of, is_for_worker, server_timeout, of_timeout}
-use Rattle.jn_system.specs.WholeSystem.Steps.{Step, NextEvent, Tell, Again, Deliver, Work, Nudge, Timeout, StopDelivery, StopWork, Crash, Narrow, StopRestart, Restart, Dismiss, CloseClients, IsStep, IsRun, after, run, ends, done, stopped, at_memory, handed, work, works, nudge, timeout, crash, narrow, stop_restart, restart, close_clients, commanded, took}
-use Rattle.jn_system.specs.WholeSystem.LockFacts.{TableFact, StoredFact, UpFact, ServerFact, LockFacts}
+use Rattle.jn_system.specs.WholeSystem.Steps.{Work, Crash, Narrow, Restart, after, run, done, crash, narrow, restart}
 use Rattle.jn_system.proofs.WholeSystem.Rows.{RowKeeps}
 use Rattle.jn_system.proofs.WholeSystem.Tables.{drawn-keeps}
 use Rattle.jn_system.proofs.WholeSystem.WorkerRows.{worker-keeps, step-keeps, timeout-keeps}

@@ -1,26 +1,6 @@
 -- What holds of a table's works and locks holds with one work more, one work less, and where a stable work goes on.
-use Rattle.std.proofs.Common.{◌≡◌, ◌≢◌, ◌⊎◌, inl, inr, ◌+◌, Bool, true, false, [], ◌∷◌, ◌++◌, Option, Some, None, is_some, refl, sym, ◌∙◌, ap, subst, arith}
-use Rattle.std.specs.Prelude.{◌&&◌, if◌then◌else◌}
-use Rattle.std.proofs.lemmas.Bool.Decides.{nat_tests}
-use Rattle.jn_base.specs.declared.names.Tid.{Tid}
-use Rattle.jn_base.specs.declared.names.WorkId.{WorkId}
-use Rattle.jn_base.specs.declared.names.Tickets.{Tickets}
-use Rattle.jn_base.specs.declared.names.LockUnit.{LockUnit}
-use Rattle.jn_base.specs.Names.{work_eq, tid_eq}
-use Rattle.jn_base.proofs.Tells.{work_tells}
-use Rattle.jn_locks.specs.declared.words.Mode.{Mode}
-use Rattle.jn_locks.specs.declared.words.Mode.TheVariants.{Read, IntentionWrite, Commit}
-use Rattle.jn_locks.specs.Locks.{together, is_unit, work_before}
-use Rattle.jn_locks.proofs.Orders.{work_before-transitive}
-use Rattle.jn_system.specs.SmallSteps.Held.{HasRead}
-use Rattle.jn_rows.specs.declared.worker.Work.{Work}
-use Rattle.jn_rows.specs.declared.worker.Phase.{Phase}
-use Rattle.jn_rows.specs.declared.worker.Phase.TheVariants.{Active, Broken, Prepared as Stored}
-use Rattle.jn_rows.specs.Stable.{Prepared, at_work, gone_on}
-use Rattle.jn_rows.specs.Worker.{WorkerTable, work_at, work_of, without, name_from, new_work, holds}
-use Rattle.jn_lock_rows.specs.Matching.{are_rising, is_after, is_before}
-use Rattle.jn_lock_rows.proofs.Works.{at-more, rising-more, at-less, rising-less, none-front, found-behind, not-before, work_same}
-use Rattle.jn_system.specs.WholeSystem.LockFacts.{GoTogether, IsSoundWork, IsSoundActive, TableFact}
+use Rattle.jn_system.proofs.Common.{◌≡◌, ◌≢◌, ◌⊎◌, inl, inr, ◌+◌, Bool, true, false, [], ◌∷◌, ◌++◌, Option, Some, None, is_some, refl, sym, ◌∙◌, ap, subst, arith, ◌&&◌, if◌then◌else◌, nat_tests, Tid, WorkId, Tickets, LockUnit, work_eq, tid_eq, work_tells, Mode, Read, IntentionWrite, Commit, together, is_unit, work_before, work_before-transitive, HasRead, Work, Phase, Active, Broken, Stored, Prepared, at_work, gone_on, WorkerTable, work_at, work_of, without, name_from, holds, are_rising, is_after, is_before, at-more, rising-more, at-less, rising-less, none-front, found-behind, not-before, work_same, GoTogether, IsSoundWork, IsSoundActive, TableFact}
+use Rattle.jn_rows.specs.Worker.{new_work}
 
 -- ---- tickets that go on
 

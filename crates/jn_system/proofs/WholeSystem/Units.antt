@@ -1,21 +1,6 @@
 -- The units that an operation wants, and those that its intention writes.
-use Rattle.std.proofs.Common.{◌≡◌, ◌≢◌, ◌⊎◌, inl, inr, ℕ, zero, suc, Bool, true, false, List, [], ◌∷◌, ◌++◌, take, drop, Some, refl, sym, ◌∙◌, ap, subst, arith}
-use Rattle.std.specs.Prelude.{◌||◌, if◌then◌else◌, filter}
-use Rattle.jn_base.specs.declared.names.FileNo.{FileNo}
-use Rattle.jn_base.specs.declared.names.LockUnit.{LockUnit}
-use Rattle.jn_base.specs.declared.names.LockUnit.TheVariants.{File, Block}
-use Rattle.jn_base.specs.declared.op.Op.{Op}
+use Rattle.jn_system.proofs.Common.{◌≡◌, ◌≢◌, ◌⊎◌, inl, inr, ℕ, zero, suc, Bool, true, false, List, [], ◌∷◌, ◌++◌, take, drop, Some, refl, sym, ◌∙◌, ap, subst, arith, ◌||◌, if◌then◌else◌, filter, FileNo, LockUnit, File, Block, Op, file_of, Intention, First, Kept, MadeFresh, TakenAway, CutFrom, as_first, entry, stays, intention_for, with_intention, cut_again, front, Mode, Read, IntentionWrite, Commit, is_unit, unit_eq, unit_before, unit_tells, wants_of, commit_wants, units_for, with_unit, with_units, written_unit, commit_units, HoldsForCommit, file_unit}
 use Rattle.jn_base.specs.declared.op.Op.TheVariants as ops
-use Rattle.jn_order.specs.Files.{file_of}
-use Rattle.jn_records.specs.declared.intention.Intention.{Intention}
-use Rattle.jn_records.specs.NetLists.{First, Kept, MadeFresh, TakenAway, CutFrom, as_first, entry, stays}
-use Rattle.jn_records.specs.NetEdits.{intention_for, with_intention, cut_again, front}
-use Rattle.jn_locks.specs.declared.words.Mode.{Mode}
-use Rattle.jn_locks.specs.declared.words.Mode.TheVariants.{Read, IntentionWrite, Commit}
-use Rattle.jn_locks.specs.Locks.{is_unit, unit_eq, unit_before}
-use Rattle.jn_locks.proofs.Orders.{unit_tells}
-use Rattle.jn_rows.specs.Worker.{wants_of, commit_wants, units_for, with_unit, with_units, written_unit}
-use Rattle.jn_system.specs.SmallSteps.Held.{commit_units, HoldsForCommit, file_unit}
 
 -- ---- units put in order
 

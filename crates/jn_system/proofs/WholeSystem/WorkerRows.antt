@@ -1,34 +1,8 @@
 -- Each row of a worker keeps what holds of its works and locks: every message, every background step, a timeout.
-use Rattle.std.proofs.Common.{ap, ◌∙◌, ◌⊎◌, inr, inl, ◌≡◌, ◌≢◌, ℕ, ◌+◌, Bool, true, false, List, [], ◌∷◌, Option, Some, None, refl, sym, subst, arith}
-use Rattle.std.specs.Prelude.{if◌then◌else◌, nat_lt, nat_eq, length, slice_get}
-use Rattle.jn_base.specs.declared.names.ClientNo.{ClientNo}
-use Rattle.jn_base.specs.declared.names.Tid.{Tid}
-use Rattle.jn_base.specs.declared.names.WorkId.{WorkId}
-use Rattle.jn_base.specs.declared.names.Tickets.{Tickets}
-use Rattle.jn_base.specs.declared.names.LockUnit.{LockUnit}
-use Rattle.jn_base.specs.declared.op.Op.{Op}
-use Rattle.jn_base.specs.declared.op.Answer.{Answer}
-use Rattle.jn_base.specs.Names.{work_eq}
-use Rattle.jn_base.proofs.Tells.{work_tells}
-use Rattle.jn_order.specs.Files.{answer_to, change}
-use Rattle.jn_records.specs.declared.intention.Intention.{Intention}
-use Rattle.jn_records.specs.NetLists.{list_change}
-use Rattle.jn_locks.specs.declared.words.Mode.{Mode}
-use Rattle.jn_locks.specs.declared.words.Mode.TheVariants.{Read, IntentionWrite, Commit}
-use Rattle.jn_msgs.specs.declared.message.Message.{Message}
+use Rattle.jn_system.proofs.Common.{ap, ◌∙◌, ◌⊎◌, inr, inl, ◌≡◌, ◌≢◌, ℕ, ◌+◌, Bool, true, false, List, [], ◌∷◌, Option, Some, None, refl, sym, subst, arith, if◌then◌else◌, nat_lt, nat_eq, length, slice_get, ClientNo, Tid, WorkId, Tickets, LockUnit, Op, Answer, work_eq, work_tells, answer_to, change, Intention, list_change, Mode, Read, IntentionWrite, Commit, Message, Vote, Note, Work, Phase, Active, Broken, Stored, ActiveWork, StableState, Prepared, RemoveWork, made_all, at_work, is_going, gone_on, RowOutcome, Sent, WorkerTable, WorkStorage, Held, wants_of, commit_wants, holds, work_at, work_of, with_phase, without, conflict, counted, is_fit, granted_row, refusal_of, first_of_two, locked, past_limit, by_number, repeated, op_phase, op_row, open_row, vote_of, shortage, need_in, prepared_row, prepare_phase, prepare_row, commit_phase, drop_phase, drop_row, worker_row, worker_step, going_row, going_work, carried_row, intentions_of, vulnerable, timed_out, timeout_row, units_for, with_units, length_with, IsSoundWork, IsSoundActive, TableFact}
 use Rattle.jn_msgs.specs.declared.message.Message.TheVariants as messages
-use Rattle.jn_msgs.specs.declared.message.Vote.{Vote}
 use Rattle.jn_msgs.specs.declared.message.Vote.TheVariants as votes
-use Rattle.jn_msgs.specs.declared.message.Note.{Note}
-use Rattle.jn_rows.specs.declared.worker.Work.{Work}
-use Rattle.jn_rows.specs.declared.worker.Phase.{Phase}
-use Rattle.jn_rows.specs.declared.worker.Phase.TheVariants.{Active, Broken, Prepared as Stored}
-use Rattle.jn_rows.specs.declared.worker.ActiveWork.{ActiveWork}
-use Rattle.jn_rows.specs.Stable.{StableState, Prepared, RemoveWork, made_all, at_work, is_going, gone_on}
-use Rattle.jn_rows.specs.Outcomes.{RowOutcome, Sent}
-use Rattle.jn_rows.specs.Worker.{WorkerTable, WorkStorage, Held, wants_of, commit_wants, holds, work_at, work_of, with_phase, without, conflict, counted, is_fit, granted_row, refusal_of, first_of_two, locked, past_limit, by_number, repeated, op_phase, op_row, open_row, vote_of, shortage, need_in, prepared_row, prepare_phase, prepare_row, commit_phase, commit_row, drop_phase, drop_row, worker_row, worker_step, going_row, going_work, carried_row, intentions_of, vulnerable, timed_out, timeout_row, units_for, with_units}
-use Rattle.jn_records.specs.NetLists.{length_with}
-use Rattle.jn_system.specs.WholeSystem.LockFacts.{IsSoundWork, IsSoundActive, TableFact}
+use Rattle.jn_rows.specs.Worker.{commit_row}
 use Rattle.jn_system.proofs.WholeSystem.Rows.{by-name, RowKeeps, none-of, one-of, phase-keeps, done-keeps, prepared-keeps}
 use Rattle.jn_system.proofs.WholeSystem.Tables.{opened-keeps, less-keeps, going-keeps, of-found}
 

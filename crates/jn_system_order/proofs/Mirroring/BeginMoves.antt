@@ -1,33 +1,7 @@
 -- What a coordinator does with a Begin, as steps of the machine.
-use Rattle.std.proofs.Common.{◌≡◌, ◌≢◌, ◌⊎◌, inl, inr, ℕ, ◌+◌, Bool, true, false, List, [], ◌∷◌, ◌++◌, append-nil, Option, Some, None, refl, sym, ◌∙◌, ap, subst}
-use Rattle.std.specs.Prelude.{◌&&◌, if◌then◌else◌, length, nat_lt, nat_eq}
-use Rattle.std.proofs.lemmas.List.Elements.{All-nil, All-cons}
-use Rattle.jn_base.specs.declared.names.ServerNo.{ServerNo}
-use Rattle.jn_base.specs.declared.names.ClientNo.{ClientNo}
-use Rattle.jn_base.specs.declared.names.Tid.{Tid}
-use Rattle.jn_base.specs.declared.names.Party.TheVariants.{Client}
-use Rattle.jn_base.specs.Names.{server_eq, client_eq, tid_eq}
-use Rattle.jn_base.proofs.Tells.{server_tells, tid_tells}
-use Rattle.jn_msgs.specs.declared.message.Message.{Message}
+use Rattle.jn_system_order.proofs.Common.{◌≡◌, ◌≢◌, ◌⊎◌, inl, inr, ℕ, ◌+◌, Bool, true, false, List, [], ◌∷◌, ◌++◌, append-nil, Option, Some, None, refl, sym, ◌∙◌, ap, subst, ◌&&◌, if◌then◌else◌, length, nat_lt, nat_eq, All-nil, All-cons, ServerNo, ClientNo, Tid, Client, server_eq, client_eq, tid_eq, server_tells, tid_tells, Message, Transaction, Open, StableState, made_all, at_tid, RowOutcome, CoordinatorTable, transaction_at, after_closing, changes_of_closing, seen_now, name_from, begin_again, begun_by, begin_row, is_begun, Machine, Begun, Invariant, Atom, begin_it, run, MayRun, MayBegin, Says, run_kept, fresh_tid, at_tid_here, not_both, World, Memory, of_coordinator, UpFact, Mirrors, IsTrue, IsAddressed, AreTransactions, commits_of, knowledge_of, Closes, client-closes}
 use Rattle.jn_msgs.specs.declared.message.Message.TheVariants as messages
-use Rattle.jn_rows.specs.declared.coordinator.Transaction.{Transaction}
-use Rattle.jn_rows.specs.declared.coordinator.Stage.TheVariants.{Open}
-use Rattle.jn_rows.specs.Stable.{StableState, made_all, at_tid}
-use Rattle.jn_rows.specs.Outcomes.{RowOutcome}
-use Rattle.jn_rows.specs.Coordinator.{CoordinatorTable, transaction_at, after_closing, changes_of_closing, seen_now, name_from, begin_again, begun_by, begin_row, is_begun}
-use Rattle.jn_system.specs.SmallSteps.World.{World as Machine, Begun}
-use Rattle.jn_system.specs.SmallSteps.Invariant.{Invariant}
-use Rattle.jn_system.specs.SmallSteps.Steps.{Atom, Begin, begin_it, run}
-use Rattle.jn_system.specs.SmallSteps.Premises.{MayRun, MayBegin}
-use Rattle.jn_system.specs.SmallSteps.Messages.{Says}
-use Rattle.jn_system.proofs.SmallSteps.Runs.{run_kept}
-use Rattle.jn_system.proofs.SmallSteps.NameLemmas.{fresh_tid}
-use Rattle.jn_system.proofs.SmallSteps.Updates.{at_tid_here, not_both}
-use Rattle.jn_system.specs.WholeSystem.World.{World, Memory}
-use Rattle.jn_system.specs.WholeSystem.Servers.{of_coordinator}
-use Rattle.jn_system.specs.WholeSystem.LockFacts.{UpFact}
-use Rattle.jn_system_order.specs.Mirroring.Mirrors.{Mirrors, IsTrue, IsAddressed, AreTransactions, commits_of, knowledge_of}
-use Rattle.jn_system.proofs.WholeSystem.Closes.{Closes, client-closes}
+use Rattle.jn_system.specs.SmallSteps.Steps.{Begin}
 use Rattle.jn_system.proofs.WholeSystem.CoordinatorRows.{epoch-all}
 use Rattle.jn_system_order.proofs.Mirroring.GrantMoves.{found-here}
 use Rattle.jn_system_order.proofs.Mirroring.Losing.{run-append, may-append}

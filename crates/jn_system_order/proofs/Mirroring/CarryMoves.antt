@@ -1,38 +1,7 @@
 -- What a worker does with a prepared work, as steps of the machine: its next intention is carried out, or it goes.
-use Rattle.std.proofs.Common.{◌≡◌, ◌≢◌, ◌⊎◌, inl, inr, ℕ, suc, ◌+◌, Bool, true, false, List, [], ◌∷◌, take, Option, Some, None, is_some, refl, sym, ◌∙◌, ap, subst, arith}
-use Rattle.std.specs.Prelude.{if◌then◌else◌, slice_get, All}
-use Rattle.std.proofs.lemmas.List.Elements.{All-nil, All-cons}
-use Rattle.jn_base.specs.declared.names.ServerNo.{ServerNo}
-use Rattle.jn_base.specs.declared.names.Tid.{Tid}
-use Rattle.jn_base.specs.declared.names.WorkId.{WorkId}
-use Rattle.jn_base.specs.declared.names.LockUnit.{LockUnit}
-use Rattle.jn_base.specs.declared.names.Party.TheVariants.{Server}
-use Rattle.jn_base.specs.Names.{server_eq, work_eq}
-use Rattle.jn_base.proofs.Tells.{server_tells, work_tells}
-use Rattle.jn_order.specs.Files.{change, or_else}
-use Rattle.jn_order.specs.Changes.{or_also}
-use Rattle.jn_records.specs.declared.intention.Intention.{Intention}
-use Rattle.jn_records.specs.NetLists.{intention_change, list_change}
-use Rattle.jn_msgs.specs.declared.message.Message.{Message}
+use Rattle.jn_system_order.proofs.Common.{◌≡◌, ◌≢◌, ◌⊎◌, inl, inr, ℕ, suc, ◌+◌, Bool, true, false, List, [], ◌∷◌, take, Option, Some, None, is_some, refl, sym, ◌∙◌, ap, subst, arith, if◌then◌else◌, slice_get, All, All-nil, All-cons, ServerNo, Tid, WorkId, LockUnit, Server, server_eq, work_eq, server_tells, work_tells, change, or_else, or_also, Intention, intention_change, list_change, Message, Work, StableState, Prepared, Pick, CarryOut, RemoveWork, is_going, made_by, at_work, stable, RowOutcome, Sent, WorkerTable, work_at, going_work, going_row, carried_row, intentions_of, worker_step, at-less, Machine, Invariant, Atom, Count, Make, NoteOver, always, run, MayRun, MayCount, MayCarryOut, MayRemove, MayBeOver, IsPrepared, Says, take_zero, World, Memory, UpFact, Mirrors, IsTrue, IsAddressed, working_of, next_in, Room, storage_of, going-is, stored-fact}
 use Rattle.jn_msgs.specs.declared.message.Message.TheVariants as messages
-use Rattle.jn_rows.specs.declared.worker.Work.{Work}
-use Rattle.jn_rows.specs.Stable.{StableState, Prepared, Pick, CarryOut, RemoveWork, is_going, made_by, at_work, stable}
-use Rattle.jn_rows.specs.Outcomes.{RowOutcome, Sent}
-use Rattle.jn_rows.specs.Worker.{WorkerTable, work_at, without, going_work, going_row, carried_row, intentions_of, worker_step}
-use Rattle.jn_lock_rows.proofs.Works.{at-less}
-use Rattle.jn_system.specs.SmallSteps.World.{World as Machine}
-use Rattle.jn_system.specs.SmallSteps.Invariant.{Invariant}
-use Rattle.jn_system.specs.SmallSteps.Steps.{Atom, Count, Make, NoteOver, always, run}
-use Rattle.jn_system.specs.SmallSteps.Premises.{MayRun, MayCount, MayCarryOut, MayRemove, MayBeOver}
-use Rattle.jn_system.specs.SmallSteps.FoundStates.{IsPrepared}
-use Rattle.jn_system.specs.SmallSteps.Messages.{Says}
-use Rattle.jn_system.proofs.SmallSteps.TraceLemmas.{take_zero}
-use Rattle.jn_system.specs.WholeSystem.World.{World, Memory}
-use Rattle.jn_system.specs.WholeSystem.LockFacts.{UpFact}
-use Rattle.jn_system_order.specs.Mirroring.Mirrors.{Mirrors, IsTrue, IsAddressed, working_of, next_in}
-use Rattle.jn_system.specs.WholeSystem.Servers.{Room, storage_of}
-use Rattle.jn_system.proofs.WholeSystem.WorkerRows.{going-is}
-use Rattle.jn_system.proofs.WholeSystem.Restored.{stored-fact}
+use Rattle.jn_rows.specs.Worker.{without}
 use Rattle.jn_system_order.proofs.Mirroring.GrantMoves.{active-here, found-here}
 use Rattle.jn_system_order.proofs.Mirroring.Mirrored.{some_made, made-one, DoesStop}
 use Rattle.jn_system_order.proofs.Mirroring.QuietMoves.{RowMoves, sends-moves}

@@ -1,28 +1,8 @@
 -- What a client does, as steps of the machine: it sends what is true, and where it thanks, it asks nothing more.
-use Rattle.std.proofs.Common.{◌≡◌, Bool, true, false, List, [], ◌∷◌, ◌++◌, append-nil, ℕ, Option, Some, None, refl, sym, ◌∙◌, ap}
-use Rattle.std.specs.Prelude.{if◌then◌else◌, All}
-use Rattle.std.proofs.lemmas.List.Elements.{All-nil, All-cons, All-append}
-use Rattle.jn_base.specs.declared.names.ClientNo.{ClientNo}
-use Rattle.jn_base.specs.declared.names.Party.TheVariants.{Client, Server}
-use Rattle.jn_base.specs.declared.op.Command.{Command}
-use Rattle.jn_base.specs.Names.{client_eq}
-use Rattle.jn_msgs.specs.declared.message.Message.{Message}
+use Rattle.jn_system_order.proofs.Common.{◌≡◌, Bool, true, false, List, [], ◌∷◌, ◌++◌, append-nil, ℕ, Option, Some, None, refl, sym, ◌∙◌, ap, if◌then◌else◌, All, All-nil, All-cons, All-append, ClientNo, Client, Server, Command, client_eq, Message, Text, Outstanding, Taken, Sent, ClientTable, Commanded, Refuses, Sends, command_row, take_row, is_end, sent_again, Machine, Atom, Close, run, MayRun, Says, at_tid_here, World, at_client, commits_in, committed_in, commanded, tell, again, sent_now, took, taken_by, Mirrors, MovesTo, IsTrue, IsAddressed, IsOutstanding, IsClient, commits_of}
 use Rattle.jn_msgs.specs.declared.message.Message.TheVariants as messages
-use Rattle.jn_report.specs.declared.line.Text.{Text}
 use Rattle.jn_report.specs.declared.line.Text.TheVariants as says
-use Rattle.jn_rows.specs.declared.client.Outstanding.{Outstanding}
-use Rattle.jn_rows.specs.declared.client.Taken.{Taken}
 use Rattle.jn_rows.specs.declared.client.Taken.TheVariants as taken
-use Rattle.jn_rows.specs.Outcomes.{Sent}
-use Rattle.jn_rows.specs.Client.{ClientTable, Commanded, Refuses, Sends, command_row, take_row, is_end, sent_again}
-use Rattle.jn_system.specs.SmallSteps.World.{World as Machine}
-use Rattle.jn_system.specs.SmallSteps.Steps.{Atom, Close, run}
-use Rattle.jn_system.specs.SmallSteps.Premises.{MayRun}
-use Rattle.jn_system.specs.SmallSteps.Messages.{Says}
-use Rattle.jn_system.proofs.SmallSteps.Updates.{at_tid_here}
-use Rattle.jn_system.specs.WholeSystem.World.{World, at_client, commits_in, committed_in}
-use Rattle.jn_system.specs.WholeSystem.Steps.{commanded, tell, again, sent_now, took, taken_by}
-use Rattle.jn_system_order.specs.Mirroring.Mirrors.{Mirrors, MovesTo, IsTrue, IsAddressed, IsOutstanding, IsClient, commits_of}
 use Rattle.jn_system_order.proofs.Mirroring.Mirrored.{All-grows, transactions-still, client-still, commits-more}
 use Rattle.jn_system_order.proofs.Mirroring.ClientRows.{Tells, commands-tell, IsThanks, Takes, takes}
 

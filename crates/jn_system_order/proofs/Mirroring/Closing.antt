@@ -1,28 +1,6 @@
 -- A coordinator closes a transaction, as steps of the machine.
-use Rattle.std.proofs.Common.{◌≡◌, ◌≢◌, ◌⊎◌, inl, inr, ℕ, Bool, true, false, List, [], ◌∷◌, ◌++◌, Option, Some, None, true≢false, refl, sym, ◌∙◌, ap, subst}
-use Rattle.std.specs.Prelude.{if◌then◌else◌, take}
-use Rattle.jn_base.specs.declared.names.ServerNo.{ServerNo}
-use Rattle.jn_base.specs.declared.names.Tid.{Tid}
-use Rattle.jn_base.specs.Names.{server_eq, tid_eq}
-use Rattle.jn_base.proofs.Tells.{server_tells, tid_tells}
-use Rattle.jn_msgs.specs.declared.message.Message.{Message}
-use Rattle.jn_rows.specs.declared.coordinator.Transaction.{Transaction}
-use Rattle.jn_rows.specs.declared.coordinator.Stage.{Stage}
-use Rattle.jn_rows.specs.declared.coordinator.Stage.TheVariants.{Open, Voting, Committed, Aborted}
-use Rattle.jn_rows.specs.declared.coordinator.Committed.{Committed as Commitment}
-use Rattle.jn_rows.specs.Stable.{StableState, Change, Pick, DropFlag, made_by, made_all, at_tid}
-use Rattle.jn_rows.specs.Coordinator.{all_in}
-use Rattle.jn_system.specs.SmallSteps.World.{World as Machine, Knowledge, Unknown}
-use Rattle.jn_system.specs.SmallSteps.FoundStates.{AllOver}
-use Rattle.jn_system.specs.SmallSteps.Transactions.{Knows}
-use Rattle.jn_system.specs.SmallSteps.Invariant.{Invariant}
-use Rattle.jn_system.specs.SmallSteps.Steps.{Atom, Abort, Close, Learn, Make, always, run}
-use Rattle.jn_system.specs.SmallSteps.Premises.{MayRun}
-use Rattle.jn_system.specs.SmallSteps.Messages.{Says}
-use Rattle.jn_system.proofs.SmallSteps.MessageLemmas.{run_grows, says_still}
-use Rattle.jn_system.proofs.SmallSteps.Updates.{at_tid_here}
-use Rattle.jn_system.proofs.WholeSystem.Closes.{is_committed}
-use Rattle.jn_system_order.specs.Mirroring.Mirrors.{IsStage, IsTransaction, knowledge_in, knowledge_of}
+use Rattle.jn_system_order.proofs.Common.{◌≡◌, ◌≢◌, ◌⊎◌, inl, inr, ℕ, Bool, true, false, List, [], ◌∷◌, ◌++◌, Option, Some, None, true≢false, refl, sym, ◌∙◌, ap, subst, if◌then◌else◌, take, ServerNo, Tid, server_eq, tid_eq, server_tells, tid_tells, Message, Transaction, Stage, Open, Voting, Committed, Aborted, Commitment, StableState, Change, Pick, DropFlag, made_by, made_all, at_tid, all_in, Machine, Knowledge, Unknown, AllOver, Knows, Invariant, Atom, Close, Learn, Make, always, run, MayRun, Says, run_grows, says_still, at_tid_here, is_committed, IsStage, IsTransaction, knowledge_in, knowledge_of}
+use Rattle.jn_system.specs.SmallSteps.Steps.{Abort}
 use Rattle.jn_system_order.proofs.Mirroring.Mirrored.{some_made, made-one}
 use Rattle.jn_system_order.proofs.Mirroring.Transactions.{in-all}
 

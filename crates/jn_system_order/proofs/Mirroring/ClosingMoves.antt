@@ -1,28 +1,5 @@
 -- A coordinator closes transactions of its table, one after another, as steps of the machine.
-use Rattle.std.proofs.Common.{◌≡◌, ◌≢◌, ◌⊎◌, inl, inr, ℕ, zero, suc, Bool, true, false, List, [], ◌∷◌, ◌++◌, append-nil, Option, Some, None, refl, sym, ◌∙◌, ap, subst}
-use Rattle.std.specs.Prelude.{if◌then◌else◌, take, All}
-use Rattle.std.proofs.lemmas.List.Elements.{All-nil}
-use Rattle.jn_base.specs.declared.names.ServerNo.{ServerNo}
-use Rattle.jn_base.specs.declared.names.ClientNo.{ClientNo}
-use Rattle.jn_base.specs.declared.names.Tid.{Tid}
-use Rattle.jn_base.specs.Names.{server_eq, tid_eq}
-use Rattle.jn_base.proofs.Tells.{tid_tells}
-use Rattle.jn_msgs.specs.declared.message.Message.{Message}
-use Rattle.jn_rows.specs.declared.coordinator.Transaction.{Transaction}
-use Rattle.jn_rows.specs.Stable.{StableState, Change, DropFlag, Pick, made_all, at_tid}
-use Rattle.jn_rows.specs.Outcomes.{RowOutcome, Sent}
-use Rattle.jn_rows.specs.Coordinator.{CoordinatorTable, transaction_at, close_clients_row}
-use Rattle.jn_system.specs.SmallSteps.World.{World as Machine, Knowledge}
-use Rattle.jn_system.specs.SmallSteps.Invariant.{Invariant}
-use Rattle.jn_system.specs.SmallSteps.Steps.{Atom, run}
-use Rattle.jn_system.specs.SmallSteps.Premises.{MayRun}
-use Rattle.jn_system.specs.SmallSteps.Messages.{Says}
-use Rattle.jn_system.proofs.SmallSteps.Runs.{run_kept}
-use Rattle.jn_system.specs.WholeSystem.World.{World, Memory}
-use Rattle.jn_system.specs.WholeSystem.Servers.{of_coordinator}
-use Rattle.jn_system.specs.WholeSystem.LockFacts.{UpFact}
-use Rattle.jn_system_order.specs.Mirroring.Mirrors.{Mirrors, IsTrue, IsAddressed, IsTransaction, AreTransactions, commits_of, knowledge_in, knowledge_of}
-use Rattle.jn_system.proofs.WholeSystem.Closes.{Closes, Empty, Stays, Goes, Waits, Forgets, outcomes-close}
+use Rattle.jn_system_order.proofs.Common.{◌≡◌, ◌≢◌, ◌⊎◌, inl, inr, ℕ, zero, suc, Bool, true, false, List, [], ◌∷◌, ◌++◌, append-nil, Option, Some, None, refl, sym, ◌∙◌, ap, subst, if◌then◌else◌, take, All, All-nil, ServerNo, ClientNo, Tid, server_eq, tid_eq, tid_tells, Message, Transaction, StableState, Change, DropFlag, Pick, made_all, at_tid, RowOutcome, Sent, CoordinatorTable, transaction_at, close_clients_row, Machine, Knowledge, Invariant, Atom, run, MayRun, Says, run_kept, World, Memory, of_coordinator, UpFact, Mirrors, IsTrue, IsAddressed, IsTransaction, AreTransactions, commits_of, knowledge_in, knowledge_of, Closes, Empty, Stays, Goes, Waits, Forgets, outcomes-close}
 use Rattle.jn_system_order.proofs.Mirroring.Losing.{run-append, may-append}
 use Rattle.jn_system_order.proofs.Mirroring.Mirrored.{StopsServer, transaction-still, transactions-still}
 use Rattle.jn_system_order.proofs.Mirroring.QuietMoves.{ServerMoves, ServerStops}

@@ -1,30 +1,7 @@
 -- What a worker does with a Commit, as steps of the machine: its work goes on, or is over.
-use Rattle.std.proofs.Common.{◌≡◌, ◌≢◌, ◌⊎◌, inl, inr, ℕ, Bool, true, false, List, [], ◌∷◌, Option, Some, None, is_some, refl, sym, ◌∙◌, ap, subst, arith}
-use Rattle.std.specs.Prelude.{if◌then◌else◌}
-use Rattle.std.proofs.lemmas.List.Elements.{All-nil, All-cons}
-use Rattle.jn_base.specs.declared.names.ServerNo.{ServerNo}
-use Rattle.jn_base.specs.declared.names.Tid.{Tid}
-use Rattle.jn_base.specs.declared.names.WorkId.{WorkId}
-use Rattle.jn_base.specs.declared.names.Party.TheVariants.{Server}
-use Rattle.jn_base.specs.Names.{server_eq, work_eq}
-use Rattle.jn_base.proofs.Tells.{work_tells}
-use Rattle.jn_msgs.specs.declared.message.Message.{Message}
+use Rattle.jn_system_order.proofs.Common.{◌≡◌, ◌≢◌, ◌⊎◌, inl, inr, ℕ, Bool, true, false, List, [], ◌∷◌, Option, Some, None, is_some, refl, sym, ◌∙◌, ap, subst, arith, if◌then◌else◌, All-nil, All-cons, ServerNo, Tid, WorkId, Server, server_eq, work_eq, work_tells, Message, Ignored, Work, Phase, Active, Broken, Stored, StableState, Prepared, Pick, MarkGoing, made_by, at_work, stable, is_going, work_at, commit_phase, Machine, PartFact, Atom, NoteOver, Make, always, run, MayRun, MayGoOn, Says, World, Memory, Room, storage_of, UpFact, Mirrors, IsTrue, IsAddressed, working_of, next_in}
 use Rattle.jn_msgs.specs.declared.message.Message.TheVariants as messages
-use Rattle.jn_msgs.specs.declared.message.Note.TheVariants.{Ignored}
-use Rattle.jn_rows.specs.declared.worker.Work.{Work}
-use Rattle.jn_rows.specs.declared.worker.Phase.{Phase}
-use Rattle.jn_rows.specs.declared.worker.Phase.TheVariants.{Active, Broken, Prepared as Stored}
-use Rattle.jn_rows.specs.Stable.{StableState, Prepared, Pick, MarkGoing, made_by, at_work, stable, is_going}
-use Rattle.jn_rows.specs.Worker.{work_at, commit_phase, commit_row}
-use Rattle.jn_system.specs.SmallSteps.World.{World as Machine}
-use Rattle.jn_system.specs.SmallSteps.Transactions.{PartFact}
-use Rattle.jn_system.specs.SmallSteps.Steps.{Atom, NoteOver, Make, always, run}
-use Rattle.jn_system.specs.SmallSteps.Premises.{MayRun, MayGoOn}
-use Rattle.jn_system.specs.SmallSteps.Messages.{Says}
-use Rattle.jn_system.specs.WholeSystem.World.{World, Memory}
-use Rattle.jn_system.specs.WholeSystem.Servers.{Room, storage_of}
-use Rattle.jn_system.specs.WholeSystem.LockFacts.{UpFact}
-use Rattle.jn_system_order.specs.Mirroring.Mirrors.{Mirrors, IsTrue, IsAddressed, working_of, next_in}
+use Rattle.jn_rows.specs.Worker.{commit_row}
 use Rattle.jn_system_order.proofs.Mirroring.GrantMoves.{active-here, found-here, found-same}
 use Rattle.jn_system_order.proofs.Mirroring.Mirrored.{some_made, made-one, DoesStop}
 use Rattle.jn_system_order.proofs.Mirroring.QuietMoves.{RowMoves, still-stops, sends-moves}

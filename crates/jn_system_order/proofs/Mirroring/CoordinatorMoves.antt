@@ -1,42 +1,9 @@
 -- What a coordinator does with a message of one of its transactions, as steps of the machine.
-use Rattle.std.proofs.Common.{◌≡◌, ◌≢◌, ◌⊎◌, inl, inr, ℕ, Bool, true, false, List, [], ◌∷◌, ◌++◌, Option, Some, None, refl, sym, ap, subst, arith}
-use Rattle.std.specs.Prelude.{◌&&◌, not, nat_lt, if◌then◌else◌, All}
-use Rattle.std.proofs.lemmas.List.Elements.{All-nil, All-cons, All-append}
-use Rattle.jn_base.specs.declared.names.ServerNo.{ServerNo}
-use Rattle.jn_base.specs.declared.names.ClientNo.{ClientNo}
-use Rattle.jn_base.specs.declared.names.Tid.{Tid}
-use Rattle.jn_base.specs.declared.names.WorkId.{WorkId}
-use Rattle.jn_base.specs.declared.names.Cause.{Cause}
-use Rattle.jn_base.specs.declared.names.Party.TheVariants.{Client, Server}
-use Rattle.jn_base.proofs.Tells.{work_tells}
-use Rattle.jn_base.specs.Names.{work_eq}
-use Rattle.jn_records.specs.declared.flag.Flag.{Flag}
-use Rattle.jn_msgs.specs.declared.message.Message.{Message}
+use Rattle.jn_system_order.proofs.Common.{◌≡◌, ◌≢◌, ◌⊎◌, inl, inr, ℕ, Bool, true, false, List, [], ◌∷◌, ◌++◌, Option, Some, None, refl, sym, ap, subst, arith, ◌&&◌, not, nat_lt, if◌then◌else◌, All, All-nil, All-cons, All-append, ServerNo, ClientNo, Tid, WorkId, Cause, Client, Server, work_tells, work_eq, Flag, Message, Vote, Ignored, Transaction, Stage, Open, Voting, Committed, Aborted, Ballot, Commitment, DropFlag, RowOutcome, Sent, CoordinatorTable, transaction_at, is_work, besides, all_in, with_work, drops, commits, prepares, committed_to, aborted_to, staged, without, commit_row, abort_row, forget_row, not_known, end_promised, end_stage, end_row, abort_stage, abort_request, told_stage, inquire_row, counted_vote, vote_stage, vote_row, done_stage, done_row, thanks_stage, thanks_row, Machine, Unknown, Notes, Finishes, AllReady, AllOver, AreParts, Knows, Invariant, Atom, Learn, Decide, after, run, MayRun, MayLearn, Says, IsPartOf, IsWorkOf, AreWorksOf, DropSays, VoteSays, at_tid_here, World, Memory, of_coordinator, UpFact, Mirrors, IsTrue, IsAddressed, IsStage, knowledge_of, knowledge_in}
 use Rattle.jn_msgs.specs.declared.message.Message.TheVariants as messages
 use Rattle.jn_msgs.specs.declared.message.Outcome.TheVariants as outcomes
-use Rattle.jn_msgs.specs.declared.message.Vote.{Vote}
 use Rattle.jn_msgs.specs.declared.message.Vote.TheVariants as votes
-use Rattle.jn_msgs.specs.declared.message.Note.TheVariants.{Ignored}
-use Rattle.jn_rows.specs.declared.coordinator.Transaction.{Transaction}
-use Rattle.jn_rows.specs.declared.coordinator.Stage.{Stage}
-use Rattle.jn_rows.specs.declared.coordinator.Stage.TheVariants.{Open, Voting, Committed, Aborted}
-use Rattle.jn_rows.specs.declared.coordinator.Voting.{Voting as Ballot}
-use Rattle.jn_rows.specs.declared.coordinator.Committed.{Committed as Commitment}
-use Rattle.jn_rows.specs.Stable.{DropFlag}
-use Rattle.jn_rows.specs.Outcomes.{RowOutcome, Sent}
-use Rattle.jn_rows.specs.Coordinator.{CoordinatorTable, transaction_at, is_work, besides, all_in, with_work, drops, commits, prepares, committed_to, aborted_to, staged, without, commit_row, abort_row, forget_row, not_known, end_promised, end_stage, end_row, abort_stage, abort_request, told_stage, inquire_row, counted_vote, vote_stage, vote_row, done_stage, done_row, thanks_stage, thanks_row}
-use Rattle.jn_system.specs.SmallSteps.World.{World as Machine, Unknown, Voting as Notes, Committed as Finishes}
-use Rattle.jn_system.specs.SmallSteps.FoundStates.{AllReady, AllOver, AreParts}
-use Rattle.jn_system.specs.SmallSteps.Transactions.{Knows}
-use Rattle.jn_system.specs.SmallSteps.Invariant.{Invariant}
-use Rattle.jn_system.specs.SmallSteps.Steps.{Atom, Abort, Learn, Decide, after, run}
-use Rattle.jn_system.specs.SmallSteps.Premises.{MayRun, MayLearn}
-use Rattle.jn_system.specs.SmallSteps.Messages.{Says, IsPartOf, IsWorkOf, AreWorksOf, DropSays, VoteSays}
-use Rattle.jn_system.proofs.SmallSteps.Updates.{at_tid_here}
-use Rattle.jn_system.specs.WholeSystem.World.{World, Memory}
-use Rattle.jn_system.specs.WholeSystem.Servers.{of_coordinator}
-use Rattle.jn_system.specs.WholeSystem.LockFacts.{UpFact}
-use Rattle.jn_system_order.specs.Mirroring.Mirrors.{Mirrors, IsTrue, IsAddressed, IsStage, knowledge_of, knowledge_in}
+use Rattle.jn_system.specs.SmallSteps.Steps.{Abort}
 use Rattle.jn_system_order.proofs.Mirroring.QuietMoves.{ServerMoves}
 use Rattle.jn_system_order.proofs.Mirroring.Transactions.{is-work-one, in-besides, in-either, in-with, in-all, All-works}
 use Rattle.jn_system_order.proofs.Mirroring.StageMoves.{knows, is-up, tells-moves, its, place, begun, stage-is, stage-known, stage-moves, decide-moves, forget-moves, leave-moves}

@@ -1,32 +1,7 @@
 -- What a worker does with a Drop, as steps of the machine: its work goes from memory, or from the stable state.
-use Rattle.std.proofs.Common.{◌≡◌, ◌≢◌, ◌⊎◌, inl, inr, Bool, true, false, List, [], ◌∷◌, Option, Some, None, refl, sym, ◌∙◌, ap, subst}
-use Rattle.std.specs.Prelude.{if◌then◌else◌}
-use Rattle.std.proofs.lemmas.List.Elements.{All-nil}
-use Rattle.jn_base.specs.declared.names.ServerNo.{ServerNo}
-use Rattle.jn_base.specs.declared.names.Tid.{Tid}
-use Rattle.jn_base.specs.declared.names.WorkId.{WorkId}
-use Rattle.jn_base.specs.Names.{work_eq}
-use Rattle.jn_base.proofs.Tells.{work_tells}
-use Rattle.jn_msgs.specs.declared.message.Message.{Message}
+use Rattle.jn_system_order.proofs.Common.{◌≡◌, ◌≢◌, ◌⊎◌, inl, inr, Bool, true, false, List, [], ◌∷◌, Option, Some, None, refl, sym, ◌∙◌, ap, subst, if◌then◌else◌, All-nil, ServerNo, Tid, WorkId, work_eq, work_tells, Message, Ignored, Work, Phase, Active, Broken, Stored, Prepared, Pick, RemoveWork, at_work, stable, is_going, work_at, drop_phase, drop_row, at-less, Machine, IsPrepared, Invariant, Atom, Count, Make, NoteOver, Lose, always, run, MayRun, MayRemove, Says, not_both, World, Memory, Room, storage_of, UpFact, IsSoundWork, Mirrors, IsTrue, IsAddressed, working_of, next_in}
 use Rattle.jn_msgs.specs.declared.message.Message.TheVariants as messages
-use Rattle.jn_msgs.specs.declared.message.Note.TheVariants.{Ignored}
-use Rattle.jn_rows.specs.declared.worker.Work.{Work}
-use Rattle.jn_rows.specs.declared.worker.Phase.{Phase}
-use Rattle.jn_rows.specs.declared.worker.Phase.TheVariants.{Active, Broken, Prepared as Stored}
-use Rattle.jn_rows.specs.Stable.{Prepared, Pick, RemoveWork, at_work, stable, is_going}
-use Rattle.jn_rows.specs.Worker.{work_at, without, drop_phase, drop_row}
-use Rattle.jn_lock_rows.proofs.Works.{at-less}
-use Rattle.jn_system.specs.SmallSteps.World.{World as Machine}
-use Rattle.jn_system.specs.SmallSteps.FoundStates.{IsPrepared}
-use Rattle.jn_system.specs.SmallSteps.Invariant.{Invariant}
-use Rattle.jn_system.specs.SmallSteps.Steps.{Atom, Count, Make, NoteOver, Lose, always, run}
-use Rattle.jn_system.specs.SmallSteps.Premises.{MayRun, MayRemove}
-use Rattle.jn_system.specs.SmallSteps.Messages.{Says}
-use Rattle.jn_system.proofs.SmallSteps.Updates.{not_both}
-use Rattle.jn_system.specs.WholeSystem.World.{World, Memory}
-use Rattle.jn_system.specs.WholeSystem.Servers.{Room, storage_of}
-use Rattle.jn_system.specs.WholeSystem.LockFacts.{UpFact, IsSoundWork}
-use Rattle.jn_system_order.specs.Mirroring.Mirrors.{Mirrors, IsTrue, IsAddressed, working_of, next_in}
+use Rattle.jn_rows.specs.Worker.{without}
 use Rattle.jn_system_order.proofs.Mirroring.GrantMoves.{active-here, found-same}
 use Rattle.jn_system_order.proofs.Mirroring.QuietMoves.{RowMoves, still-stops, sends-moves}
 use Rattle.jn_system_order.proofs.Mirroring.CarryMoves.{prepared, remove-moves}

@@ -1,22 +1,5 @@
 -- What a grant changes of a server's active works, as steps of the machine: the works that break are lost.
-use Rattle.std.proofs.Common.{◌≡◌, ◌≢◌, ◌⊎◌, inl, inr, Bool, true, false, List, Option, Some, None, is_some, refl, sym, ◌∙◌, ap, subst, arith}
-use Rattle.std.specs.Prelude.{◌&&◌, ◌||◌, not, if◌then◌else◌}
-use Rattle.jn_base.specs.declared.names.ServerNo.{ServerNo}
-use Rattle.jn_base.specs.declared.names.WorkId.{WorkId}
-use Rattle.jn_base.specs.Names.{server_eq, work_eq}
-use Rattle.jn_base.proofs.Tells.{server_tells, work_tells}
-use Rattle.jn_msgs.specs.declared.message.Message.TheVariants.{Inquire}
-use Rattle.jn_rows.specs.declared.worker.Work.{Work}
-use Rattle.jn_rows.specs.declared.worker.Phase.{Phase}
-use Rattle.jn_rows.specs.Stable.{Pick, stable}
-use Rattle.jn_rows.specs.Worker.{WorkerTable, Wanted, work_at}
-use Rattle.jn_rows.specs.Coordinator.{is_work}
-use Rattle.jn_system.specs.SmallSteps.World.{World as Machine, Working}
-use Rattle.jn_system.specs.SmallSteps.Messages.{Says}
-use Rattle.jn_system.specs.WholeSystem.World.{World, Memory}
-use Rattle.jn_system.specs.WholeSystem.LockFacts.{UpFact}
-use Rattle.jn_system_order.specs.Mirroring.Mirrors.{Mirrors, working_of, working_in, active_in}
-use Rattle.jn_system.proofs.WholeSystem.Granted.{Origin, Mine, Kept, Broke, Regrants}
+use Rattle.jn_system_order.proofs.Common.{◌≡◌, ◌≢◌, ◌⊎◌, inl, inr, Bool, true, false, List, Option, Some, None, is_some, refl, sym, ◌∙◌, ap, subst, arith, ◌&&◌, ◌||◌, not, if◌then◌else◌, ServerNo, WorkId, server_eq, work_eq, server_tells, work_tells, Inquire, Work, Phase, Pick, stable, WorkerTable, Wanted, work_at, is_work, Machine, Working, Says, World, Memory, UpFact, Mirrors, working_of, working_in, active_in, Origin, Mine, Kept, Broke, Regrants}
 use Rattle.jn_system_order.proofs.Mirroring.Losing.{lost, missing, missing-is, left-active}
 
 some-same : {A : Type 0} → (a b : A) → Some a ≡ Some b → a ≡ b

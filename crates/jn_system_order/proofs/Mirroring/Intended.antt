@@ -1,11 +1,5 @@
 -- The next intention of a list that is carried out in order.
-use Rattle.std.proofs.Common.{◌≡◌, ℕ, zero, suc, true, List, [], ◌∷◌, take, Option, Some, None, is_some, refl, sym, ◌∙◌, ap, subst, arith}
-use Rattle.std.specs.Prelude.{slice_get}
-use Rattle.jn_base.specs.declared.names.LockUnit.{LockUnit}
-use Rattle.jn_order.specs.Changes.{or_also}
-use Rattle.jn_records.specs.declared.intention.Intention.{Intention}
-use Rattle.jn_records.specs.NetLists.{intention_change, list_change}
-use Rattle.jn_system.proofs.SmallSteps.TraceLemmas.{take_zero}
+use Rattle.jn_system_order.proofs.Common.{◌≡◌, ℕ, zero, suc, true, List, [], ◌∷◌, take, Option, Some, None, is_some, refl, sym, ◌∙◌, ap, subst, arith, slice_get, LockUnit, or_also, Intention, intention_change, list_change, take_zero}
 
 take_one : (i : Intention) (list : List Intention) (n : ℕ) → take (suc n) (i ∷ list) ≡ i ∷ take n list
 take_one i list n = grind arith

@@ -1,18 +1,6 @@
 -- The works that a grant breaks go from the machine's memory, one by one.
-use Rattle.std.proofs.Common.{◌≡◌, ◌≢◌, ◌⊎◌, inl, inr, Bool, true, false, List, [], ◌∷◌, ◌++◌, Option, Some, None, is_some, refl, sym, ◌∙◌, ap, arith}
+use Rattle.jn_system_order.proofs.Common.{◌≡◌, ◌≢◌, ◌⊎◌, inl, inr, Bool, true, false, List, [], ◌∷◌, ◌++◌, Option, Some, None, is_some, refl, sym, ◌∙◌, ap, arith, ◌&&◌, ◌||◌, not, if◌then◌else◌, WorkId, work_eq, work_tells, Work, at_work, WorkerTable, work_at, is_work, Machine, Working, Atom, Lose, lose, run, MayRun, working_of}
 use Rattle.std.proofs.Math.Path.{fun_ext}
-use Rattle.std.specs.Prelude.{◌&&◌, ◌||◌, not, if◌then◌else◌}
-use Rattle.jn_base.specs.declared.names.WorkId.{WorkId}
-use Rattle.jn_base.specs.Names.{work_eq}
-use Rattle.jn_base.proofs.Tells.{work_tells}
-use Rattle.jn_rows.specs.declared.worker.Work.{Work}
-use Rattle.jn_rows.specs.Stable.{at_work}
-use Rattle.jn_rows.specs.Worker.{WorkerTable, work_at}
-use Rattle.jn_rows.specs.Coordinator.{is_work}
-use Rattle.jn_system.specs.SmallSteps.World.{World as Machine, Working}
-use Rattle.jn_system.specs.SmallSteps.Steps.{Atom, Lose, lose, run}
-use Rattle.jn_system.specs.SmallSteps.Premises.{MayRun}
-use Rattle.jn_system_order.specs.Mirroring.Mirrors.{working_of}
 
 abbrev pub loses : List WorkId → List Atom
 loses [] = []

@@ -1,39 +1,10 @@
 -- Where the machine's steps do what a row does, the machine stands again where the whole system does.
-use Rattle.std.proofs.Common.{◌≡◌, ◌≢◌, ◌⊎◌, inl, inr, ℕ, zero, suc, Bool, true, false, List, [], ◌∷◌, ◌++◌, append-nil, Option, Some, None, is_some, refl, sym, ◌∙◌, ap, subst}
-use Rattle.std.specs.Prelude.{if◌then◌else◌, take, All}
-use Rattle.std.proofs.lemmas.List.Elements.{All-append}
-use Rattle.jn_base.specs.declared.names.ServerNo.{ServerNo}
-use Rattle.jn_base.specs.declared.names.Tid.{Tid}
-use Rattle.jn_base.specs.declared.names.WorkId.{WorkId}
-use Rattle.jn_base.specs.Names.{server_eq}
-use Rattle.jn_base.proofs.Tells.{server_tells}
-use Rattle.jn_msgs.specs.declared.message.Message.{Message}
+use Rattle.jn_system_order.proofs.Common.{◌≡◌, ◌≢◌, ◌⊎◌, inl, inr, ℕ, zero, suc, Bool, true, false, List, [], ◌∷◌, ◌++◌, append-nil, Option, Some, None, is_some, refl, sym, ◌∙◌, ap, subst, if◌then◌else◌, take, All, All-append, ServerNo, Tid, WorkId, server_eq, server_tells, Message, Inquire, Note, Text, Transaction, Stage, Open, Voting, Committed, Aborted, transaction_at, Work, OpenWork, Outstanding, ClientTable, StableState, Change, Pick, made_by, made_all, next_after, RowOutcome, Sent, WorkerTable, work_at, Machine, Unknown, AreParts, Says, World, Memory, at_server, commits_in, committed_in, of_worker, line_of, lines_of, done, stopped, Mirrors, IsTrue, IsAddressed, AreOpen, IsCurrent, IsOutstanding, IsClient, IsStage, IsTransaction, AreTransactions, commits_of, working_of, active_in, next_in, knowledge_of, known_in}
 use Rattle.jn_msgs.specs.declared.message.Message.TheVariants as messages
-use Rattle.jn_msgs.specs.declared.message.Message.TheVariants.{Inquire}
 use Rattle.jn_msgs.specs.declared.message.Outcome.TheVariants as outcomes
-use Rattle.jn_msgs.specs.declared.message.Note.{Note}
 use Rattle.jn_msgs.specs.declared.message.Note.TheVariants as notes
-use Rattle.jn_report.specs.declared.line.Text.{Text}
 use Rattle.jn_report.specs.declared.line.Text.TheVariants as says
-use Rattle.jn_rows.specs.declared.coordinator.Transaction.{Transaction}
-use Rattle.jn_rows.specs.declared.coordinator.Stage.{Stage}
-use Rattle.jn_rows.specs.declared.coordinator.Stage.TheVariants.{Open, Voting, Committed, Aborted}
-use Rattle.jn_rows.specs.Coordinator.{transaction_at}
-use Rattle.jn_rows.specs.declared.worker.Work.{Work}
-use Rattle.jn_rows.specs.declared.client.OpenWork.{OpenWork}
-use Rattle.jn_rows.specs.declared.client.Outstanding.{Outstanding}
-use Rattle.jn_rows.specs.Client.{ClientTable}
-use Rattle.jn_rows.specs.Stable.{StableState, Change, Pick, made_by, made_all, next_after}
-use Rattle.jn_rows.specs.Outcomes.{RowOutcome, Sent}
-use Rattle.jn_rows.specs.Worker.{WorkerTable, work_at}
-use Rattle.jn_system.specs.SmallSteps.World.{World as Machine, Unknown}
 use Rattle.jn_system.specs.SmallSteps.Steps.{crash}
-use Rattle.jn_system.specs.SmallSteps.FoundStates.{AreParts}
-use Rattle.jn_system.specs.SmallSteps.Messages.{Says}
-use Rattle.jn_system.specs.WholeSystem.World.{World, Memory, at_server, commits_in, committed_in}
-use Rattle.jn_system.specs.WholeSystem.Servers.{of_worker, line_of, lines_of}
-use Rattle.jn_system.specs.WholeSystem.Steps.{done, stopped}
-use Rattle.jn_system_order.specs.Mirroring.Mirrors.{Mirrors, IsTrue, IsAddressed, AreOpen, IsCurrent, IsOutstanding, IsClient, IsStage, IsTransaction, AreTransactions, commits_of, working_of, active_in, next_in, knowledge_of, known_in}
 
 -- what the machine's steps have changed at the server of a worker's row
 pub record DoesRow (s : ServerNo) (m : Memory) (row : RowOutcome WorkerTable) (w v : Machine) : Type 0 where

@@ -1,35 +1,7 @@
 -- What a server sends again is true.
-use Rattle.std.proofs.Common.{◌≡◌, ◌≢◌, ◌⊎◌, inl, inr, Bool, true, false, List, [], ◌∷◌, ◌++◌, Some, None, refl, sym, ◌∙◌, ap, subst, arith}
-use Rattle.std.specs.Prelude.{◌&&◌, if◌then◌else◌, All}
-use Rattle.std.proofs.lemmas.List.Elements.{All-nil, All-cons, All-append}
-use Rattle.jn_base.specs.declared.names.ServerNo.{ServerNo}
-use Rattle.jn_base.specs.declared.names.Tid.{Tid}
-use Rattle.jn_base.specs.declared.names.WorkId.{WorkId}
-use Rattle.jn_base.specs.declared.names.Party.TheVariants.{Server}
-use Rattle.jn_base.specs.Names.{tid_eq}
-use Rattle.jn_base.proofs.Tells.{tid_tells}
-use Rattle.jn_msgs.specs.declared.message.Message.{Message}
+use Rattle.jn_system_order.proofs.Common.{◌≡◌, ◌≢◌, ◌⊎◌, inl, inr, Bool, true, false, List, [], ◌∷◌, ◌++◌, Some, None, refl, sym, ◌∙◌, ap, subst, arith, ◌&&◌, if◌then◌else◌, All, All-nil, All-cons, All-append, ServerNo, Tid, WorkId, Server, tid_eq, tid_tells, Message, Work, Transaction, Stage, Open, Voting, Committed, Aborted, StableState, stable, is_going, Sent, WorkerTable, work_at, worker_again, transaction_at, besides, commits, committed_to, aborted_to, told_again, coordinator_again, work_same, found-behind, not-before, Machine, Knows, Invariant, Atom, run, MayRun, Says, World, Memory, server_again, UpFact, Mirrors, IsTrue, IsAddressed, IsStage, AreTransactions, knowledge_in, knowledge_of}
 use Rattle.jn_msgs.specs.declared.message.Message.TheVariants as messages
-use Rattle.jn_rows.specs.declared.worker.Work.{Work}
-use Rattle.jn_rows.specs.declared.coordinator.Transaction.{Transaction}
-use Rattle.jn_rows.specs.declared.coordinator.Stage.{Stage}
-use Rattle.jn_rows.specs.declared.coordinator.Stage.TheVariants.{Open, Voting, Committed, Aborted}
-use Rattle.jn_rows.specs.Stable.{StableState, stable, is_going}
-use Rattle.jn_rows.specs.Outcomes.{Sent}
-use Rattle.jn_rows.specs.Worker.{WorkerTable, work_at, worker_again}
-use Rattle.jn_rows.specs.Coordinator.{transaction_at, besides, commits, committed_to, aborted_to, told_again, coordinator_again}
 use Rattle.jn_lock_rows.specs.Matching.{is_before, are_rising}
-use Rattle.jn_lock_rows.proofs.Works.{work_same, found-behind, not-before}
-use Rattle.jn_system.specs.SmallSteps.World.{World as Machine}
-use Rattle.jn_system.specs.SmallSteps.Transactions.{Knows}
-use Rattle.jn_system.specs.SmallSteps.Invariant.{Invariant}
-use Rattle.jn_system.specs.SmallSteps.Steps.{Atom, run}
-use Rattle.jn_system.specs.SmallSteps.Premises.{MayRun}
-use Rattle.jn_system.specs.SmallSteps.Messages.{Says}
-use Rattle.jn_system.specs.WholeSystem.World.{World, Memory}
-use Rattle.jn_system.specs.WholeSystem.Servers.{server_again}
-use Rattle.jn_system.specs.WholeSystem.LockFacts.{UpFact}
-use Rattle.jn_system_order.specs.Mirroring.Mirrors.{Mirrors, IsTrue, IsAddressed, IsStage, AreTransactions, knowledge_in, knowledge_of}
 use Rattle.jn_system_order.proofs.Mirroring.Transactions.{in-besides, All-works}
 use Rattle.jn_system_order.proofs.Mirroring.StageMoves.{knows, place, begun}
 

@@ -1,41 +1,7 @@
 -- An operation that is granted, as steps of the machine: the works that break are lost, and the operation is performed.
-use Rattle.std.proofs.Common.{◌≡◌, ◌≢◌, ◌⊎◌, inl, inr, ℕ, Bool, true, false, List, [], ◌∷◌, ◌++◌, Option, Some, None, refl, sym, ◌∙◌, ap, subst, arith}
-use Rattle.std.specs.Prelude.{◌||◌, if◌then◌else◌}
-use Rattle.std.proofs.lemmas.List.Elements.{All-nil, All-cons}
-use Rattle.jn_base.specs.declared.names.ServerNo.{ServerNo}
-use Rattle.jn_base.specs.declared.names.ClientNo.{ClientNo}
-use Rattle.jn_base.specs.declared.names.WorkId.{WorkId}
-use Rattle.jn_base.specs.declared.names.LockUnit.{LockUnit}
-use Rattle.jn_base.specs.declared.names.Party.TheVariants.{Client}
-use Rattle.jn_base.specs.declared.op.Op.{Op}
-use Rattle.jn_base.specs.declared.op.Answer.{Answer}
-use Rattle.jn_base.specs.Names.{work_eq}
-use Rattle.jn_base.proofs.Tells.{work_tells}
-use Rattle.jn_order.specs.Files.{change, answer_to}
-use Rattle.jn_records.specs.NetLists.{list_change}
-use Rattle.jn_locks.specs.declared.words.Mode.TheVariants.{Read, Commit}
-use Rattle.jn_locks.specs.Locks.{is_unit}
-use Rattle.jn_msgs.specs.declared.message.Message.{Message}
+use Rattle.jn_system_order.proofs.Common.{◌≡◌, ◌≢◌, ◌⊎◌, inl, inr, ℕ, Bool, true, false, List, [], ◌∷◌, ◌++◌, Option, Some, None, refl, sym, ◌∙◌, ap, subst, arith, ◌||◌, if◌then◌else◌, All-nil, All-cons, ServerNo, ClientNo, WorkId, LockUnit, Client, Op, Answer, work_eq, work_tells, change, answer_to, list_change, Read, Commit, is_unit, Message, Work, Phase, Active, ActiveWork, StableState, Prepared, at_work, stable, WorkerTable, work_at, wants_of, units_for, is_fit, after_grant, with_phase, granted_row, conflict, holds, HoldsForCommit, HasRead, file_unit, Answered, Machine, Working, Atom, Perform, perform, run, MayRun, MayPerform, Says, World, Memory, UpFact, TableFact, IsSoundWork, IsSoundActive, Mirrors, IsTrue, IsAddressed, working_of, working_in, next_in, Regrants, granted, done-keeps, Entry, entry-of, with_units-is}
 use Rattle.jn_msgs.specs.declared.message.Message.TheVariants as messages
-use Rattle.jn_rows.specs.declared.worker.Work.{Work}
-use Rattle.jn_rows.specs.declared.worker.Phase.{Phase}
-use Rattle.jn_rows.specs.declared.worker.Phase.TheVariants.{Active}
-use Rattle.jn_rows.specs.declared.worker.ActiveWork.{ActiveWork}
-use Rattle.jn_rows.specs.Stable.{StableState, Prepared, at_work, stable}
-use Rattle.jn_rows.specs.Worker.{WorkerTable, work_at, wants_of, units_for, is_fit, done, after_grant, with_phase, granted_row, conflict, holds}
-use Rattle.jn_system.specs.SmallSteps.Held.{HoldsForCommit, HasRead, file_unit}
-use Rattle.jn_system.specs.SmallSteps.Traces.{Answered}
-use Rattle.jn_system.specs.SmallSteps.World.{World as Machine, Working}
-use Rattle.jn_system.specs.SmallSteps.Steps.{Atom, Perform, perform, run}
-use Rattle.jn_system.specs.SmallSteps.Premises.{MayRun, MayPerform}
-use Rattle.jn_system.specs.SmallSteps.Messages.{Says}
-use Rattle.jn_system.specs.WholeSystem.World.{World, Memory}
-use Rattle.jn_system.specs.WholeSystem.LockFacts.{UpFact, TableFact, IsSoundWork, IsSoundActive}
-use Rattle.jn_system_order.specs.Mirroring.Mirrors.{Mirrors, IsTrue, IsAddressed, working_of, working_in, next_in}
-use Rattle.jn_system.proofs.WholeSystem.Granted.{Regrants, granted}
-use Rattle.jn_system.proofs.WholeSystem.Rows.{done-keeps}
-use Rattle.jn_system.proofs.WholeSystem.Restored.{Entry, entry-of}
-use Rattle.jn_system.proofs.WholeSystem.Units.{with_units-is}
+use Rattle.jn_rows.specs.Worker.{done}
 use Rattle.jn_system_order.proofs.Mirroring.Performed.{done-changes, wants-asked}
 use Rattle.jn_system_order.proofs.Mirroring.Losing.{loses, lost, lose_all, run-loses, run-append, may-lose}
 use Rattle.jn_system_order.proofs.Mirroring.GrantMoves.{found-here, found-same, broken, its-server, own-now, left-own, left-here, left-elsewhere, elsewhere-other, owner-now}

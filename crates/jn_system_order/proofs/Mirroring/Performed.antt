@@ -1,27 +1,13 @@
 -- What an operation that is granted does, as the machine's step sees it.
-use Rattle.std.proofs.Common.{◌≡◌, ◌⊎◌, inl, inr, Bool, true, false, List, Option, Some, None, is_some, refl, sym, ◌∙◌, ap, subst, arith}
-use Rattle.std.specs.Prelude.{if◌then◌else◌}
+use Rattle.jn_system_order.proofs.Common.{◌≡◌, ◌⊎◌, inl, inr, Bool, true, false, List, Option, Some, None, is_some, refl, sym, ◌∙◌, ap, subst, arith, if◌then◌else◌, LockUnit, Op, Answer, file_eq, file_tells, Files, nothing, effect, file_of, answer_to, is_did, and_then, Intention, InOrder, list_change, net_change, net_of, Read, is_unit, wants_of, units_for, is_fit, list_with, asks, effect_of, reads-file}
 use Rattle.jn_base.specs.declared.names.FileNo.{FileNo}
-use Rattle.jn_base.specs.declared.names.LockUnit.{LockUnit}
 use Rattle.jn_base.specs.declared.names.LockUnit.TheVariants.{File, Block}
-use Rattle.jn_base.specs.declared.op.Op.{Op}
 use Rattle.jn_base.specs.declared.op.Op.TheVariants as ops
-use Rattle.jn_base.specs.declared.op.Answer.{Answer}
 use Rattle.jn_base.specs.declared.op.Answer.TheVariants as answers
-use Rattle.jn_base.specs.Names.{file_eq}
-use Rattle.jn_base.proofs.Tells.{file_tells}
-use Rattle.jn_order.specs.Files.{Files, Change, nothing, effect, file_of, answer_to, is_did}
-use Rattle.jn_order.specs.Changes.{and_then}
-use Rattle.jn_records.specs.declared.intention.Intention.{Intention}
-use Rattle.jn_records.specs.NetLists.{InOrder, list_change, net_change, net_of}
+use Rattle.jn_order.specs.Files.{Change}
 use Rattle.jn_records.specs.NetEdits.{intention_for, with_intention}
 use Rattle.jn_records.proofs.EditLemmas.{edited-in_order, edited-net}
 use Rattle.jn_records.proofs.NetLemmas.{list-net, added-change}
-use Rattle.jn_locks.specs.declared.words.Mode.TheVariants.{Read}
-use Rattle.jn_locks.specs.Locks.{is_unit}
-use Rattle.jn_rows.specs.Worker.{wants_of, units_for, is_fit, list_with}
-use Rattle.jn_system.specs.SmallSteps.Traces.{asks, effect_of}
-use Rattle.jn_system.proofs.WholeSystem.Units.{reads-file}
 
 -- only a read has an answer that is neither done nor a refusal
 fit-did : (op : Op) (list : List Intention) (files : Files) → (is_fit (answer_to op files) ≡ is_did (answer_to op files)) ⊎ ((intention_for list op ≡ None) × (effect op ≡ nothing))

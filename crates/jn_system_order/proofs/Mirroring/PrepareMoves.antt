@@ -1,39 +1,8 @@
 -- A work that is prepared, as steps of the machine: the works that break are lost, and the work goes to the stable state.
-use Rattle.std.proofs.Common.{◌≡◌, ◌≢◌, ◌⊎◌, inl, inr, ℕ, Bool, true, false, List, [], ◌∷◌, ◌++◌, Option, Some, None, is_some, refl, sym, ◌∙◌, ap, subst, arith}
-use Rattle.std.specs.Prelude.{if◌then◌else◌}
-use Rattle.std.proofs.lemmas.List.Elements.{All-nil, All-cons}
-use Rattle.jn_base.specs.declared.names.ServerNo.{ServerNo}
-use Rattle.jn_base.specs.declared.names.ClientNo.{ClientNo}
-use Rattle.jn_base.specs.declared.names.Tid.{Tid}
-use Rattle.jn_base.specs.declared.names.WorkId.{WorkId}
-use Rattle.jn_base.specs.declared.names.LockUnit.{LockUnit}
-use Rattle.jn_base.specs.declared.names.Party.TheVariants.{Server}
-use Rattle.jn_base.specs.Names.{server_eq, work_eq}
-use Rattle.jn_base.proofs.Tells.{server_tells, work_tells}
+use Rattle.jn_system_order.proofs.Common.{◌≡◌, ◌≢◌, ◌⊎◌, inl, inr, ℕ, Bool, true, false, List, [], ◌∷◌, ◌++◌, Option, Some, None, is_some, refl, sym, ◌∙◌, ap, subst, arith, if◌then◌else◌, All-nil, All-cons, ServerNo, ClientNo, Tid, WorkId, LockUnit, Server, server_eq, work_eq, server_tells, work_tells, Read, Commit, is_unit, Message, Work, Phase, Active, Broken, Stored, ActiveWork, StableState, Prepared, Pick, AddReady, made_by, at_work, stable, ready_work, WorkerTable, work_at, commit_wants, after_grant, with_phase, prepared_row, conflict, commit_units, HoldsForCommit, Machine, Working, PartFact, Atom, Prepare, NoteReady, after, always, run, MayRun, MayPrepare, Says, IsPartOf, World, Memory, UpFact, TableFact, StoredFact, IsSoundWork, IsSoundActive, Mirrors, IsTrue, IsAddressed, working_of, working_in, next_in, Regrants, granted, prepared-keeps, stored-fact}
 use Rattle.jn_records.specs.declared.work.WorkHead.{WorkHead}
-use Rattle.jn_locks.specs.declared.words.Mode.TheVariants.{Read, Commit}
-use Rattle.jn_locks.specs.Locks.{is_unit}
-use Rattle.jn_msgs.specs.declared.message.Message.{Message}
 use Rattle.jn_msgs.specs.declared.message.Message.TheVariants as messages
 use Rattle.jn_msgs.specs.declared.message.Vote.TheVariants as votes
-use Rattle.jn_rows.specs.declared.worker.Work.{Work}
-use Rattle.jn_rows.specs.declared.worker.Phase.{Phase}
-use Rattle.jn_rows.specs.declared.worker.Phase.TheVariants.{Active, Broken, Prepared as Stored}
-use Rattle.jn_rows.specs.declared.worker.ActiveWork.{ActiveWork}
-use Rattle.jn_rows.specs.Stable.{StableState, Prepared, Pick, AddReady, made_by, at_work, stable, ready_work}
-use Rattle.jn_rows.specs.Worker.{WorkerTable, work_at, commit_wants, after_grant, with_phase, prepared_row, conflict}
-use Rattle.jn_system.specs.SmallSteps.Held.{commit_units, HoldsForCommit}
-use Rattle.jn_system.specs.SmallSteps.World.{World as Machine, Working}
-use Rattle.jn_system.specs.SmallSteps.Transactions.{PartFact}
-use Rattle.jn_system.specs.SmallSteps.Steps.{Atom, Prepare, NoteReady, after, always, run}
-use Rattle.jn_system.specs.SmallSteps.Premises.{MayRun, MayPrepare}
-use Rattle.jn_system.specs.SmallSteps.Messages.{Says, IsPartOf}
-use Rattle.jn_system.specs.WholeSystem.World.{World, Memory}
-use Rattle.jn_system.specs.WholeSystem.LockFacts.{UpFact, TableFact, StoredFact, IsSoundWork, IsSoundActive}
-use Rattle.jn_system_order.specs.Mirroring.Mirrors.{Mirrors, IsTrue, IsAddressed, working_of, working_in, next_in}
-use Rattle.jn_system.proofs.WholeSystem.Granted.{Regrants, granted}
-use Rattle.jn_system.proofs.WholeSystem.Rows.{prepared-keeps}
-use Rattle.jn_system.proofs.WholeSystem.Restored.{stored-fact}
 use Rattle.jn_system_order.proofs.Mirroring.Losing.{loses, lost, lose_all, run-loses, run-append, may-lose}
 use Rattle.jn_system_order.proofs.Mirroring.GrantMoves.{found-here, broken, its-server, own-now, left-own, left-here, left-elsewhere, elsewhere-other, owner-now}
 use Rattle.jn_system_order.proofs.Mirroring.OpMoves.{reads-free}

@@ -1,31 +1,8 @@
 -- Rows that change no stable state and no active work, and the opening of a work, as steps of the machine.
-use Rattle.std.proofs.Common.{◌≡◌, ◌≢◌, ◌⊎◌, inl, inr, ℕ, zero, suc, ◌+◌, Bool, true, false, List, [], ◌∷◌, ◌++◌, Some, is_some, refl, sym, ◌∙◌, ap, subst}
-use Rattle.std.specs.Prelude.{if◌then◌else◌, take, All}
-use Rattle.std.proofs.lemmas.List.Elements.{All-nil, All-cons}
-use Rattle.jn_base.specs.declared.names.ServerNo.{ServerNo}
-use Rattle.jn_base.specs.declared.names.ClientNo.{ClientNo}
-use Rattle.jn_base.specs.declared.names.Tid.{Tid}
-use Rattle.jn_base.specs.declared.names.WorkId.{WorkId}
-use Rattle.jn_base.specs.declared.names.Party.TheVariants.{Client}
-use Rattle.jn_base.specs.Names.{server_eq, work_eq}
-use Rattle.jn_base.proofs.Tells.{server_tells, work_tells}
-use Rattle.jn_msgs.specs.declared.message.Message.{Message}
+use Rattle.jn_system_order.proofs.Common.{◌≡◌, ◌≢◌, ◌⊎◌, inl, inr, ℕ, zero, suc, ◌+◌, Bool, true, false, List, [], ◌∷◌, ◌++◌, Some, is_some, refl, sym, ◌∙◌, ap, subst, if◌then◌else◌, take, All, All-nil, All-cons, ServerNo, ClientNo, Tid, WorkId, Client, server_eq, work_eq, server_tells, work_tells, Message, Note, Work, Phase, StableState, Pick, at_work, made_all, RowOutcome, Sent, WorkerTable, work_at, with_phase, new_work, at-more, at-phase, in_phase, work_is, Machine, Atom, open_work, run, MayRun, Says, World, Memory, UpFact, of_worker, Mirrors, IsTrue, IsAddressed, working_of, working_in, next_in}
 use Rattle.jn_msgs.specs.declared.message.Message.TheVariants as messages
-use Rattle.jn_msgs.specs.declared.message.Note.{Note}
-use Rattle.jn_rows.specs.declared.worker.Work.{Work}
-use Rattle.jn_rows.specs.declared.worker.Phase.{Phase}
-use Rattle.jn_rows.specs.Stable.{StableState, Pick, at_work, made_all}
-use Rattle.jn_rows.specs.Outcomes.{RowOutcome, Sent}
-use Rattle.jn_rows.specs.Worker.{WorkerTable, work_at, with_phase, name_from, new_work}
-use Rattle.jn_lock_rows.proofs.Works.{at-more, at-phase, in_phase, work_is}
-use Rattle.jn_system.specs.SmallSteps.World.{World as Machine}
-use Rattle.jn_system.specs.SmallSteps.Steps.{Atom, Open, open_work, run}
-use Rattle.jn_system.specs.SmallSteps.Premises.{MayRun}
-use Rattle.jn_system.specs.SmallSteps.Messages.{Says}
-use Rattle.jn_system.specs.WholeSystem.World.{World, Memory}
-use Rattle.jn_system.specs.WholeSystem.LockFacts.{UpFact}
-use Rattle.jn_system.specs.WholeSystem.Servers.{of_worker}
-use Rattle.jn_system_order.specs.Mirroring.Mirrors.{Mirrors, IsTrue, IsAddressed, working_of, working_in, next_in}
+use Rattle.jn_rows.specs.Worker.{name_from}
+use Rattle.jn_system.specs.SmallSteps.Steps.{Open}
 use Rattle.jn_system_order.proofs.Mirroring.GrantMoves.{active-here, found-here, found-same}
 use Rattle.jn_system_order.proofs.Mirroring.Mirrored.{DoesRow, DoesStop, DoesServer, StopsServer, named_by, worker-does, worker-stops}
 

@@ -1,34 +1,8 @@
 -- A restart as steps of the machine: fewer states may be found, what its flags say is named, and the server comes up.
-use Rattle.std.proofs.Common.{◌≡◌, ◌≢◌, ◌⊎◌, inl, inr, ◌+◌, Bool, true, false, List, [], ◌∷◌, ◌++◌, Option, Some, None, is_some, refl, sym, ◌∙◌, ap, subst, arith}
-use Rattle.std.specs.Prelude.{◌&&◌, ◌||◌, if◌then◌else◌}
-use Rattle.std.specs.List.{list_any, list_all}
-use Rattle.std.proofs.lemmas.Bool.Decides.{nat_tests}
-use Rattle.jn_base.specs.declared.names.ServerNo.{ServerNo}
-use Rattle.jn_base.specs.declared.names.Tid.{Tid}
-use Rattle.jn_base.specs.declared.names.WorkId.{WorkId}
-use Rattle.jn_base.specs.Names.{server_eq, tid_eq}
-use Rattle.jn_base.proofs.Tells.{server_tells, tid_tells}
-use Rattle.jn_msgs.specs.declared.message.Message.{Message}
+use Rattle.jn_system_order.proofs.Common.{◌≡◌, ◌≢◌, ◌⊎◌, inl, inr, ◌+◌, Bool, true, false, List, [], ◌∷◌, ◌++◌, Option, Some, None, is_some, refl, sym, ◌∙◌, ap, subst, arith, ◌&&◌, ◌||◌, if◌then◌else◌, list_any, list_all, nat_tests, ServerNo, Tid, WorkId, server_eq, tid_eq, server_tells, tid_tells, Message, Text, Work, Committed, StableState, FlagState, Pick, at_tid, work_at, restored_worker, transaction_at, restored_transaction, restored_transactions, Machine, Unknown, Finishes, MayBeFound, HasFlag, Invariant, Atom, Name, with_epoch, name_it, found_of, run, MayRun, MayName, MayRestart, Says, not_both, at_tid_here, at_tid_other, some_of, some_is, World, Memory, at_server, has_line, commits_in, restored, named_now, AreNames, are_rising, tid_before, restart_with, Mirrors, MovesTo, IsTransaction, AreTransactions, commits_of, working_of, active_in, next_in, knowledge_of, known_in, restored-is}
 use Rattle.jn_msgs.specs.declared.message.Message.TheVariants as messages
-use Rattle.jn_report.specs.declared.line.Text.{Text}
 use Rattle.jn_report.specs.declared.line.Text.TheVariants as says
-use Rattle.jn_rows.specs.declared.worker.Work.{Work}
-use Rattle.jn_rows.specs.declared.coordinator.Stage.TheVariants.{Committed}
-use Rattle.jn_rows.specs.Stable.{StableState, FlagState, Pick, at_tid}
-use Rattle.jn_rows.specs.Worker.{work_at, restored_worker}
-use Rattle.jn_rows.specs.Coordinator.{transaction_at, restored_transaction, restored_transactions}
-use Rattle.jn_system.specs.SmallSteps.World.{World as Machine, Unknown, Committed as Finishes}
-use Rattle.jn_system.specs.SmallSteps.FoundStates.{MayBeFound, HasFlag}
-use Rattle.jn_system.specs.SmallSteps.Invariant.{Invariant}
-use Rattle.jn_system.specs.SmallSteps.Steps.{Atom, Name, Narrow, Restart, with_epoch, narrow, name_it, found_of, run}
-use Rattle.jn_system.specs.SmallSteps.Premises.{MayRun, MayName, MayRestart}
-use Rattle.jn_system.specs.SmallSteps.Messages.{Says}
-use Rattle.jn_system.proofs.SmallSteps.Updates.{not_both, at_tid_here, at_tid_other, some_of, some_is}
-use Rattle.jn_system.specs.WholeSystem.World.{World, Memory, at_server, has_line, commits_in}
-use Rattle.jn_system.specs.WholeSystem.Servers.{restored, named_now}
-use Rattle.jn_system.specs.WholeSystem.Steps.{AreNames, are_rising, tid_before, restart_with}
-use Rattle.jn_system_order.specs.Mirroring.Mirrors.{Mirrors, MovesTo, IsTransaction, AreTransactions, commits_of, working_of, active_in, next_in, knowledge_of, known_in}
-use Rattle.jn_system.proofs.WholeSystem.Restored.{restored-is}
+use Rattle.jn_system.specs.SmallSteps.Steps.{Narrow, Restart, narrow}
 use Rattle.jn_system_order.proofs.Mirroring.Losing.{run-append, may-append}
 use Rattle.jn_system_order.proofs.Mirroring.Mirrored.{commits-more, append-append, transactions-still, client-still}
 

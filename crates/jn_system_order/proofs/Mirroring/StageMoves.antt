@@ -1,34 +1,8 @@
 -- What a coordinator does to one transaction, as steps of the machine: nothing, a new stage, a commit, or its end.
-use Rattle.std.proofs.Common.{◌≡◌, ◌≢◌, ◌⊎◌, inl, inr, ℕ, zero, suc, Bool, true, false, List, [], ◌∷◌, ◌++◌, append-nil, Some, None, is_some, refl, sym, ◌∙◌, ap, subst}
-use Rattle.std.specs.Prelude.{if◌then◌else◌, take, All}
-use Rattle.std.proofs.lemmas.List.Elements.{All-nil}
-use Rattle.jn_base.specs.declared.names.ServerNo.{ServerNo}
-use Rattle.jn_base.specs.declared.names.Tid.{Tid}
-use Rattle.jn_base.specs.declared.names.WorkId.{WorkId}
-use Rattle.jn_base.specs.Names.{server_eq, tid_eq}
-use Rattle.jn_base.proofs.Tells.{server_tells, tid_tells}
-use Rattle.jn_records.specs.declared.flag.Flag.{Flag}
-use Rattle.jn_msgs.specs.declared.message.Message.{Message}
+use Rattle.jn_system_order.proofs.Common.{◌≡◌, ◌≢◌, ◌⊎◌, inl, inr, ℕ, zero, suc, Bool, true, false, List, [], ◌∷◌, ◌++◌, append-nil, Some, None, is_some, refl, sym, ◌∙◌, ap, subst, if◌then◌else◌, take, All, All-nil, ServerNo, Tid, WorkId, server_eq, tid_eq, server_tells, tid_tells, Flag, Message, Note, Transaction, Stage, Committed, StableState, Pick, AddFlag, DropFlag, made_by, made_all, at_tid, RowOutcome, Sent, CoordinatorTable, transaction_at, staged, with_stage, without, Machine, Knowledge, Unknown, Finishes, AllOver, AreParts, Knows, Invariant, Atom, Learn, Make, Decide, always, after, run, MayRun, May, MayFlag, Says, World, Memory, of_coordinator, UpFact, Mirrors, IsTrue, IsAddressed, IsStage, IsTransaction, AreTransactions, commits_of, knowledge_of, knowledge_in, known_in, next_in}
 use Rattle.jn_msgs.specs.declared.message.Message.TheVariants as messages
-use Rattle.jn_msgs.specs.declared.message.Note.{Note}
 use Rattle.jn_msgs.specs.declared.message.Note.TheVariants as notes
-use Rattle.jn_rows.specs.declared.coordinator.Transaction.{Transaction}
-use Rattle.jn_rows.specs.declared.coordinator.Stage.{Stage}
-use Rattle.jn_rows.specs.declared.coordinator.Stage.TheVariants.{Committed}
-use Rattle.jn_rows.specs.Stable.{StableState, Pick, AddFlag, DropFlag, made_by, made_all, at_tid}
-use Rattle.jn_rows.specs.Outcomes.{RowOutcome, Sent}
-use Rattle.jn_rows.specs.Coordinator.{CoordinatorTable, transaction_at, staged, with_stage, without}
-use Rattle.jn_system.specs.SmallSteps.World.{World as Machine, Knowledge, Unknown, Committed as Finishes}
-use Rattle.jn_system.specs.SmallSteps.FoundStates.{AllOver, AreParts}
-use Rattle.jn_system.specs.SmallSteps.Transactions.{Knows}
-use Rattle.jn_system.specs.SmallSteps.Invariant.{Invariant}
-use Rattle.jn_system.specs.SmallSteps.Steps.{Atom, Learn, Make, Decide, Crash, always, after, crash, run}
-use Rattle.jn_system.specs.SmallSteps.Premises.{MayRun, May, MayFlag}
-use Rattle.jn_system.specs.SmallSteps.Messages.{Says}
-use Rattle.jn_system.specs.WholeSystem.World.{World, Memory}
-use Rattle.jn_system.specs.WholeSystem.Servers.{of_coordinator}
-use Rattle.jn_system.specs.WholeSystem.LockFacts.{UpFact}
-use Rattle.jn_system_order.specs.Mirroring.Mirrors.{Mirrors, IsTrue, IsAddressed, IsStage, IsTransaction, AreTransactions, commits_of, knowledge_of, knowledge_in, known_in, next_in}
+use Rattle.jn_system.specs.SmallSteps.Steps.{Crash, crash}
 use Rattle.jn_system_order.proofs.Mirroring.GrantMoves.{active-here, found-same}
 use Rattle.jn_system_order.proofs.Mirroring.Mirrored.{DoesServer, named_by, some_made, made-one, transactions-still}
 use Rattle.jn_system_order.proofs.Mirroring.QuietMoves.{ServerMoves, ServerStops}

@@ -1,46 +1,12 @@
 -- Steps of the whole system as steps of the machine.
-use Rattle.std.proofs.Common.{◌≡◌, ◌≢◌, ◌⊎◌, ◌<◌, ◌≤◌, inl, inr, ℕ, Bool, true, false, List, [], ◌∷◌, ◌++◌, Option, Some, None, is_some, length, refl, sym, ◌∙◌, ap, subst, arith}
-use Rattle.std.specs.Prelude.{◌||◌, not, if◌then◌else◌, slice_get, All, get_or}
-use Rattle.std.specs.List.{list_any}
-use Rattle.std.proofs.lemmas.List.Elements.{All-get_or, All-nil}
-use Rattle.std.proofs.Common.{append-nil}
+use Rattle.jn_system_order.proofs.Common.{◌≡◌, ◌≢◌, ◌⊎◌, ◌<◌, ◌≤◌, inl, inr, Bool, true, false, List, [], ◌∷◌, ◌++◌, Option, Some, None, is_some, refl, sym, ◌∙◌, ap, subst, arith, ◌||◌, not, if◌then◌else◌, slice_get, All, get_or, list_any, All-get_or, All-nil, ServerNo, Tid, WorkId, Client, Server, server_eq, tid_eq, server_tells, AllFiles, Message, Work, Phase, Active, Broken, Stored, Outstanding, Pick, stable, RowOutcome, Sent, transaction_at, is_end, over, worker_row, worker_step, WorkerTable, work_at, work_of, timed_out, vulnerable, Text, Machine, Unknown, PartFact, Atom, Crashes, Narrows, RaiseEpoch, with_epoch, run, opening_world, MayRun, Says, run_kept, opening_kept, Invariant, run_told, opening_told, still_true, grows, says_still, World, Memory, at_server, opening, new_memory, commits_in, storage_of, of_step, Room, of_worker, server_row, of_timeout, works, work, Step, NextEvent, Tell, Again, Deliver, Works, Nudge, Timeout, StopDelivery, StopWork, Crash, Narrow, StopRestart, Restart, Dismiss, CloseClients, done, stopped, ends, at_memory, handed, nudge, timeout, crash, narrow, stop_restart, restart, dismiss, close_clients, IsStep, LockFacts, ServerFact, UpFact, Mirrors, AreTransactions, IsClient, commits_of, MovesTo, IsTrue, IsAddressed, is_shown, active_in, next_in, known_in, working_in, of-found, append-nil}
+use Rattle.std.proofs.Common.{ℕ, length}
 use Rattle.std.proofs.lemmas.Option.{slice_get_cases}
-use Rattle.jn_base.specs.declared.names.ServerNo.{ServerNo}
-use Rattle.jn_base.specs.declared.names.Tid.{Tid}
-use Rattle.jn_base.specs.declared.names.WorkId.{WorkId}
-use Rattle.jn_base.specs.declared.names.Party.TheVariants.{Client, Server}
-use Rattle.jn_base.specs.Names.{server_eq, tid_eq}
-use Rattle.jn_base.proofs.Tells.{server_tells}
-use Rattle.jn_order.specs.Files.{AllFiles}
-use Rattle.jn_msgs.specs.declared.message.Message.{Message}
 use Rattle.jn_msgs.specs.declared.message.Message.TheVariants as messages
-use Rattle.jn_rows.specs.declared.worker.Work.{Work}
-use Rattle.jn_rows.specs.declared.worker.Phase.{Phase}
-use Rattle.jn_rows.specs.declared.worker.Phase.TheVariants.{Active, Broken, Prepared as Stored}
-use Rattle.jn_rows.specs.declared.client.Outstanding.{Outstanding}
-use Rattle.jn_rows.specs.Stable.{Pick, stable}
-use Rattle.jn_rows.specs.Outcomes.{RowOutcome, Sent}
-use Rattle.jn_rows.specs.Coordinator.{transaction_at}
-use Rattle.jn_rows.specs.Client.{is_end, over}
-use Rattle.jn_rows.specs.Worker.{worker_row, worker_step, WorkerTable, work_at, work_of, timed_out, vulnerable}
-use Rattle.jn_report.specs.declared.line.Text.{Text}
 use Rattle.jn_report.specs.declared.line.Text.TheVariants as says
-use Rattle.jn_system.specs.SmallSteps.World.{World as Machine, Commit, Unknown}
-use Rattle.jn_system.specs.SmallSteps.Transactions.{PartFact}
-use Rattle.jn_system.specs.SmallSteps.Steps.{Atom, Crash as Crashes, Narrow as Narrows, RaiseEpoch, with_epoch, run, opening_world}
-use Rattle.jn_system.specs.SmallSteps.Premises.{MayRun}
-use Rattle.jn_system.specs.SmallSteps.Messages.{Says}
-use Rattle.jn_system.proofs.SmallSteps.Runs.{run_kept, opening_kept}
-use Rattle.jn_system.specs.SmallSteps.Invariant.{Invariant}
+use Rattle.jn_system.specs.SmallSteps.World.{Commit}
 use Rattle.jn_system.specs.SmallSteps.Order.{has_committed}
-use Rattle.jn_system.proofs.SmallSteps.History.{run_told, opening_told}
-use Rattle.jn_system.proofs.SmallSteps.MessageLemmas.{still_true, grows, says_still}
-use Rattle.jn_system.specs.WholeSystem.World.{World, Memory, at_server, opening, new_memory, commits_in}
-use Rattle.jn_system.specs.WholeSystem.Servers.{storage_of, of_step, Room, of_worker, server_row, of_timeout}
-use Rattle.jn_system.specs.WholeSystem.Steps.{works, work, Step, NextEvent, Tell, Again, Deliver, Work as Works, Nudge, Timeout, StopDelivery, StopWork, Crash, Narrow, StopRestart, Restart, Dismiss, CloseClients, after, done, stopped, ends, at_memory, handed, nudge, timeout, crash, narrow, stop_restart, restart, dismiss, close_clients, IsStep}
-use Rattle.jn_system.specs.WholeSystem.LockFacts.{LockFacts, ServerFact, UpFact}
-use Rattle.jn_system_order.specs.Mirroring.Mirrors.{Mirrors, AreTransactions, IsClient, commits_of, MovesTo, IsTrue, IsAddressed, is_shown, active_in, next_in, known_in, working_in}
-use Rattle.jn_system.proofs.WholeSystem.Tables.{of-found}
+use Rattle.jn_system.specs.WholeSystem.Steps.{after}
 use Rattle.jn_system_order.proofs.Mirroring.Mirrored.{mirrored, stop-mirrored, transactions-still, client-still}
 use Rattle.jn_system_order.proofs.Mirroring.WorkerNotes.{worker-none, step-none}
 use Rattle.jn_system_order.proofs.Mirroring.QuietMoves.{RowMoves, ServerMoves, ServerStops, worker-moves, phase-moves}

@@ -1,18 +1,5 @@
 -- A coordinator's transactions, looked for by name, once one or more of them change, and lists of works.
-use Rattle.std.proofs.Common.{◌≡◌, ◌≢◌, ◌⊎◌, inl, inr, Bool, true, false, List, [], ◌∷◌, ◌++◌, Option, Some, None, map, refl, sym, ◌∙◌, ap, subst, arith}
-use Rattle.std.specs.Prelude.{◌&&◌, ◌||◌, not, if◌then◌else◌, All}
-use Rattle.std.proofs.lemmas.List.Elements.{All-nil, All-cons}
-use Rattle.jn_base.specs.declared.names.ServerNo.{ServerNo}
-use Rattle.jn_base.specs.declared.names.Tid.{Tid}
-use Rattle.jn_base.specs.declared.names.WorkId.{WorkId}
-use Rattle.jn_base.specs.Names.{tid_eq, work_eq}
-use Rattle.jn_base.proofs.Tells.{tid_tells, work_tells}
-use Rattle.jn_rows.specs.declared.coordinator.Transaction.{Transaction}
-use Rattle.jn_rows.specs.declared.coordinator.Stage.{Stage}
-use Rattle.jn_rows.specs.Outcomes.{Sent}
-use Rattle.jn_rows.specs.Coordinator.{transaction_at, with_stage, without, is_work, besides, all_in, with_work}
-use Rattle.jn_system.specs.SmallSteps.World.{World as Machine}
-use Rattle.jn_system_order.specs.Mirroring.Mirrors.{IsStage, IsTransaction, AreTransactions}
+use Rattle.jn_system_order.proofs.Common.{◌≡◌, ◌≢◌, ◌⊎◌, inl, inr, Bool, true, false, List, [], ◌∷◌, ◌++◌, Option, Some, None, map, refl, sym, ◌∙◌, ap, subst, arith, ◌&&◌, ◌||◌, not, if◌then◌else◌, All, All-nil, All-cons, ServerNo, Tid, WorkId, tid_eq, work_eq, tid_tells, work_tells, Transaction, Stage, Sent, transaction_at, with_stage, without, is_work, besides, all_in, with_work, Machine, IsStage, IsTransaction, AreTransactions}
 
 -- ---- works
 

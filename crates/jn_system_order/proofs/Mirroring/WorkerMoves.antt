@@ -1,44 +1,8 @@
 -- What a worker does with an Open, an Op and a Prepare, as steps of the machine.
-use Rattle.std.proofs.Common.{◌≡◌, ◌≢◌, ◌⊎◌, inl, inr, ℕ, ◌+◌, Bool, true, false, List, [], ◌∷◌, Option, Some, None, is_some, refl, sym, ◌∙◌, ap, subst, arith}
-use Rattle.std.specs.Prelude.{if◌then◌else◌, nat_lt, nat_eq, length, All}
-use Rattle.std.proofs.lemmas.List.Elements.{All-nil, All-cons}
-use Rattle.jn_base.specs.declared.names.ServerNo.{ServerNo}
-use Rattle.jn_base.specs.declared.names.ClientNo.{ClientNo}
-use Rattle.jn_base.specs.declared.names.Tid.{Tid}
-use Rattle.jn_base.specs.declared.names.WorkId.{WorkId}
-use Rattle.jn_base.specs.declared.names.Party.TheVariants.{Client, Server}
-use Rattle.jn_base.specs.declared.op.Op.{Op}
-use Rattle.jn_base.specs.declared.op.Answer.{Answer}
-use Rattle.jn_base.specs.Names.{work_eq}
-use Rattle.jn_base.proofs.Tells.{tid_tells, work_tells}
-use Rattle.jn_order.specs.Files.{change, answer_to}
-use Rattle.jn_records.specs.NetLists.{list_change, length_with}
-use Rattle.jn_msgs.specs.declared.message.Message.{Message}
+use Rattle.jn_system_order.proofs.Common.{◌≡◌, ◌≢◌, ◌⊎◌, inl, inr, ℕ, ◌+◌, Bool, true, false, List, [], ◌∷◌, Option, Some, None, is_some, refl, sym, ◌∙◌, ap, subst, arith, if◌then◌else◌, nat_lt, nat_eq, length, All, All-nil, All-cons, ServerNo, ClientNo, Tid, WorkId, Client, Server, Op, Answer, work_eq, tid_tells, work_tells, change, answer_to, list_change, length_with, Message, Vote, Work, Phase, Active, Broken, Stored, ActiveWork, StableState, stable, is_going, at_work, RowOutcome, Sent, WorkerTable, Held, work_at, work_of, wants_of, is_fit, units_for, with_units, granted_row, refusal_of, past_limit, conflict, counted, repeated, by_number, op_phase, op_row, open_row, commit_wants, vote_of, shortage, need_in, prepared_row, prepare_phase, prepare_row, Read, Machine, PartFact, Atom, NoteReady, run, MayRun, Says, IsPartOf, found-name, World, Memory, Room, storage_of, UpFact, IsSoundWork, IsSoundPrepared, Mirrors, IsTrue, IsAddressed, working_in, next_in, by-name, of-found, no-lock}
 use Rattle.jn_msgs.specs.declared.message.Message.TheVariants as messages
-use Rattle.jn_msgs.specs.declared.message.Vote.{Vote}
 use Rattle.jn_msgs.specs.declared.message.Vote.TheVariants as votes
-use Rattle.jn_rows.specs.declared.worker.Work.{Work}
-use Rattle.jn_rows.specs.declared.worker.Phase.{Phase}
-use Rattle.jn_rows.specs.declared.worker.Phase.TheVariants.{Active, Broken, Prepared as Stored}
-use Rattle.jn_rows.specs.declared.worker.ActiveWork.{ActiveWork}
 use Rattle.jn_rows.specs.declared.worker.PreparedWork.{PreparedWork}
-use Rattle.jn_rows.specs.Stable.{StableState, stable, is_going, at_work}
-use Rattle.jn_rows.specs.Outcomes.{RowOutcome, Sent}
-use Rattle.jn_rows.specs.Worker.{WorkerTable, Held, work_at, work_of, wants_of, is_fit, units_for, with_units, granted_row, refusal_of, past_limit, conflict, counted, repeated, by_number, op_phase, op_row, open_row, commit_wants, vote_of, shortage, need_in, prepared_row, prepare_phase, prepare_row}
-use Rattle.jn_locks.specs.declared.words.Mode.TheVariants.{Read}
-use Rattle.jn_system.specs.SmallSteps.World.{World as Machine}
-use Rattle.jn_system.specs.SmallSteps.Transactions.{PartFact}
-use Rattle.jn_system.specs.SmallSteps.Steps.{Atom, NoteReady, run}
-use Rattle.jn_system.specs.SmallSteps.Premises.{MayRun}
-use Rattle.jn_system.specs.SmallSteps.Messages.{Says, IsPartOf}
-use Rattle.jn_lock_rows.proofs.Works.{found-name}
-use Rattle.jn_system.specs.WholeSystem.World.{World, Memory}
-use Rattle.jn_system.specs.WholeSystem.Servers.{Room, storage_of}
-use Rattle.jn_system.specs.WholeSystem.LockFacts.{UpFact, IsSoundWork, IsSoundPrepared}
-use Rattle.jn_system_order.specs.Mirroring.Mirrors.{Mirrors, IsTrue, IsAddressed, working_in, next_in}
-use Rattle.jn_system.proofs.WholeSystem.Rows.{by-name}
-use Rattle.jn_system.proofs.WholeSystem.Tables.{of-found}
-use Rattle.jn_system.proofs.WholeSystem.WorkerRows.{no-lock}
 use Rattle.jn_system_order.proofs.Mirroring.GrantMoves.{found-here, found-same, active-here}
 use Rattle.jn_system_order.proofs.Mirroring.Mirrored.{DoesRow}
 use Rattle.jn_system_order.proofs.Mirroring.QuietMoves.{RowMoves, still-stops, sends-moves, phase-moves, open-moves}

@@ -1,37 +1,12 @@
 -- A client's steps: what holds of the openings stays, and an End is a step of the machine.
-use Rattle.std.proofs.Common.{◌≡◌, ◌≢◌, ◌⊎◌, inl, inr, ◌<◌, ℕ, ◌+◌, Bool, true, false, List, [], ◌∷◌, ◌++◌, append-nil, Option, Some, None, refl, sym, ◌∙◌, ap, subst, arith}
-use Rattle.std.specs.Prelude.{◌||◌, if◌then◌else◌, slice_get}
-use Rattle.std.proofs.lemmas.List.Elements.{All-nil, All-cons, All-append}
-use Rattle.jn_base.specs.declared.names.ServerNo.{ServerNo}
-use Rattle.jn_base.specs.declared.names.ClientNo.{ClientNo}
-use Rattle.jn_base.specs.declared.names.Tid.{Tid}
-use Rattle.jn_base.specs.declared.names.WorkId.{WorkId}
-use Rattle.jn_base.specs.declared.names.Party.TheVariants.{Client, Server}
-use Rattle.jn_base.specs.declared.op.Command.{Command}
+use Rattle.jn_system_order.proofs.Common.{◌≡◌, ◌≢◌, ◌⊎◌, inl, inr, ◌<◌, ℕ, ◌+◌, Bool, true, false, List, [], ◌∷◌, ◌++◌, append-nil, Option, Some, None, refl, sym, ◌∙◌, ap, subst, arith, ◌||◌, if◌then◌else◌, slice_get, All-nil, All-cons, All-append, ServerNo, ClientNo, Tid, WorkId, Client, Server, Command, server_eq, client_eq, tid_eq, work_eq, server_tells, client_tells, tid_tells, work_tells, Message, OpenWork, Outstanding, Taken, Sent, is_work, ClientTable, Commanded, Refuses, Sends, names_of, if_idle, if_transaction, command_row, take_row, sends, is_begin, sent_again, Machine, Invariant, Atom, Ends, end_it, run, MayRun, MayEnd, Says, IsWorkOf, at_tid_here, at_tid_other, at_tid_cases, World, at_client, commanded, tell, again, sent_now, took, taken_by, dismiss, Mirrors, IsTrue, IsAddressed, AreOpen, IsCurrent, IsClient}
 use Rattle.jn_base.specs.declared.op.Command.TheVariants.{Open, End}
-use Rattle.jn_base.specs.Names.{server_eq, client_eq, tid_eq, work_eq}
-use Rattle.jn_base.proofs.Tells.{server_tells, client_tells, tid_tells, work_tells}
-use Rattle.jn_msgs.specs.declared.message.Message.{Message}
 use Rattle.jn_msgs.specs.declared.message.Message.TheVariants as messages
 use Rattle.jn_report.specs.declared.line.Refusal.{Refusal}
 use Rattle.jn_report.specs.declared.line.Refusal.TheVariants as refusals
 use Rattle.jn_report.specs.declared.line.Text.TheVariants as says
-use Rattle.jn_rows.specs.declared.client.OpenWork.{OpenWork}
-use Rattle.jn_rows.specs.declared.client.Outstanding.{Outstanding}
-use Rattle.jn_rows.specs.declared.client.Taken.{Taken}
 use Rattle.jn_rows.specs.declared.client.Taken.TheVariants as taken
-use Rattle.jn_rows.specs.Outcomes.{Sent}
-use Rattle.jn_rows.specs.Coordinator.{is_work}
-use Rattle.jn_rows.specs.Client.{ClientTable, Commanded, Refuses, Sends, work_at, names_of, if_idle, if_transaction, command_row, take_row, sends, is_begin, sent_again}
-use Rattle.jn_system.specs.SmallSteps.World.{World as Machine}
-use Rattle.jn_system.specs.SmallSteps.Invariant.{Invariant}
-use Rattle.jn_system.specs.SmallSteps.Steps.{Atom, End as Ends, end_it, run}
-use Rattle.jn_system.specs.SmallSteps.Premises.{MayRun, MayEnd}
-use Rattle.jn_system.specs.SmallSteps.Messages.{Says, IsWorkOf}
-use Rattle.jn_system.proofs.SmallSteps.Updates.{at_tid_here, at_tid_other, at_tid_cases}
-use Rattle.jn_system.specs.WholeSystem.World.{World, at_client}
-use Rattle.jn_system.specs.WholeSystem.Steps.{commanded, tell, again, sent_now, took, taken_by, dismiss}
-use Rattle.jn_system_order.specs.Mirroring.Mirrors.{Mirrors, IsTrue, IsAddressed, AreOpen, IsCurrent, IsClient}
+use Rattle.jn_rows.specs.Client.{work_at}
 use Rattle.jn_system_order.proofs.Mirroring.Mirrored.{All-grows, client-still}
 use Rattle.jn_system_order.proofs.Mirroring.ClientRows.{found-open, Tells, sends-it}
 use Rattle.jn_system_order.proofs.Mirroring.ClientMoves.{quiet-line, mirrors-still, at-one, stays-with}

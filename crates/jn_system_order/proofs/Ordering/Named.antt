@@ -1,36 +1,13 @@
 -- Each step keeps that a client is told of a commit only once its line was told.
-use Rattle.std.proofs.Common.{◌≡◌, ℕ, ◌+◌, Bool, true, false, List, [], ◌∷◌, ◌++◌, append-nil, Option, Some, None, refl, sym, ◌∙◌, ap, subst}
-use Rattle.std.specs.Prelude.{if◌then◌else◌, slice_get}
-use Rattle.jn_base.specs.declared.names.ServerNo.{ServerNo}
-use Rattle.jn_base.specs.declared.names.ClientNo.{ClientNo}
-use Rattle.jn_base.specs.declared.names.Tid.{Tid}
-use Rattle.jn_base.specs.declared.names.WorkId.{WorkId}
-use Rattle.jn_base.specs.declared.names.Party.TheVariants.{Client, Server}
-use Rattle.jn_base.specs.declared.op.Answer.{Answer}
+use Rattle.jn_system_order.proofs.Common.{◌≡◌, ℕ, ◌+◌, Bool, true, false, List, [], ◌∷◌, ◌++◌, append-nil, Option, Some, None, refl, sym, ◌∙◌, ap, subst, if◌then◌else◌, slice_get, ServerNo, ClientNo, Tid, WorkId, Client, Server, Answer, client_eq, Message, Note, Outcome, Text, Outstanding, Taken, Pick, stable, RowOutcome, Sent, ClientTable, Commanded, Refuses, Sends, command_row, take_row, if_waits, is_current, begun_row, opened_row, answer_line, decided_row, outcome_row, Machine, Says, OutcomeSays, World, Memory, has_line, Room, server_row, server_step, line_of, lines_of, named_now, Step, NextEvent, Tell, Again, Deliver, Nudge, Timeout, StopDelivery, StopWork, Crash, Narrow, StopRestart, Restart, Dismiss, CloseClients, commanded, took, ends, at_memory, handed, works, work, nudge, timeout, crash, narrow, stop_restart, restart, close_clients, Mirrors, IsTrue, IsNamedBefore, AreNamed}
 use Rattle.jn_base.specs.declared.op.Answer.TheVariants as answers
-use Rattle.jn_base.specs.Names.{client_eq}
-use Rattle.jn_msgs.specs.declared.message.Message.{Message}
 use Rattle.jn_msgs.specs.declared.message.Message.TheVariants as messages
-use Rattle.jn_msgs.specs.declared.message.Note.{Note}
 use Rattle.jn_msgs.specs.declared.message.Note.TheVariants as notes
-use Rattle.jn_msgs.specs.declared.message.Outcome.{Outcome}
 use Rattle.jn_msgs.specs.declared.message.Outcome.TheVariants as outcomes
-use Rattle.jn_report.specs.declared.line.Text.{Text}
 use Rattle.jn_report.specs.declared.line.Text.TheVariants as says
-use Rattle.jn_rows.specs.declared.client.Outstanding.{Outstanding}
-use Rattle.jn_rows.specs.declared.client.Taken.{Taken}
 use Rattle.jn_rows.specs.declared.client.Taken.TheVariants as taken
-use Rattle.jn_rows.specs.Stable.{Pick, stable}
-use Rattle.jn_rows.specs.Outcomes.{RowOutcome, Sent}
-use Rattle.jn_rows.specs.Client.{ClientTable, Commanded, Refuses, Sends, command_row, take_row, if_waits, is_current, begun_row, opened_row, answer_line, decided_row, outcome_row}
-use Rattle.jn_system.specs.SmallSteps.World.{World as Machine}
-use Rattle.jn_system.specs.SmallSteps.Messages.{Says, OutcomeSays}
-use Rattle.jn_system.specs.WholeSystem.World.{World, Memory, has_line}
-use Rattle.jn_system.specs.WholeSystem.Servers.{Room, server_row, server_step, line_of, lines_of, named_now}
-use Rattle.jn_system.specs.WholeSystem.Steps.{Step, NextEvent, Tell, Again, Deliver, Work, Nudge, Timeout, StopDelivery, StopWork, Crash, Narrow, StopRestart, Restart, Dismiss, CloseClients, after, commanded, took, ends, at_memory, handed, works, work, nudge, timeout, crash, narrow, stop_restart, restart, close_clients}
-use Rattle.jn_system_order.specs.Mirroring.Mirrors.{Mirrors, IsTrue}
+use Rattle.jn_system.specs.WholeSystem.Steps.{Work, after}
 use Rattle.jn_system_order.proofs.Mirroring.StepMoves.{holds-of}
-use Rattle.jn_system_order.specs.Ordering.Runs.{IsNamedBefore, AreNamed}
 
 append-append : (a b c : List Text) → (a ++ b) ++ c ≡ a ++ (b ++ c)
 append-append [] b c = refl

@@ -1,36 +1,10 @@
 -- Each run of the whole system is a run of the machine, and so its commits are in order.
-use Rattle.std.proofs.Common.{◌≡◌, inl, ℕ, true, false, List, [], ◌∷◌, ◌++◌, Option, Some, None, refl, sym, ◌∙◌, ap, subst, arith}
-use Rattle.std.specs.Prelude.{slice_get}
-use Rattle.std.specs.List.{list_any}
-use Rattle.jn_base.specs.declared.names.ServerNo.{ServerNo}
-use Rattle.jn_base.specs.declared.names.LockUnit.{LockUnit}
-use Rattle.jn_base.specs.declared.names.Tid.{Tid}
-use Rattle.jn_base.specs.declared.names.Party.TheVariants.{Client, Server}
+use Rattle.jn_system_order.proofs.Common.{◌≡◌, inl, ℕ, true, false, List, [], ◌∷◌, ◌++◌, Option, Some, None, refl, sym, ◌∙◌, ap, subst, arith, slice_get, list_any, ServerNo, LockUnit, Tid, Client, Server, tid_eq, AllFiles, Message, Outstanding, Pick, stable, Sent, Machine, replay, Invariant, Atom, run_atoms, opening_world, MayRun, Says, run_kept, opening_kept, run_grows, says_still, in_order, run_told, opening_told, World, Memory, opening, new_memory, Room, Step, NextEvent, Tell, Again, Deliver, Nudge, Timeout, StopDelivery, StopWork, Crash, Narrow, StopRestart, Restart, Dismiss, CloseClients, IsStep, IsRun, handed, LockFacts, ServerFact, Mirrors, is_shown, locks-keep, opening-keeps, IsMoves, IsDone, IsInOrder, AreNamed}
 use Rattle.jn_base.specs.declared.op.Command.TheVariants.{Begin, Open, Do, End, Abort}
-use Rattle.jn_base.specs.Names.{tid_eq}
-use Rattle.jn_order.specs.Files.{AllFiles}
-use Rattle.jn_msgs.specs.declared.message.Message.{Message}
 use Rattle.jn_msgs.specs.declared.message.Message.TheVariants as messages
-use Rattle.jn_rows.specs.declared.client.Outstanding.{Outstanding}
-use Rattle.jn_rows.specs.Stable.{Pick, stable}
-use Rattle.jn_rows.specs.Outcomes.{Sent}
-use Rattle.jn_system.specs.SmallSteps.World.{World as Machine, replay}
-use Rattle.jn_system.specs.SmallSteps.Invariant.{Invariant}
-use Rattle.jn_system.specs.SmallSteps.Steps.{Atom, run as run_atoms, opening_world}
-use Rattle.jn_system.specs.SmallSteps.Premises.{MayRun}
-use Rattle.jn_system.specs.SmallSteps.Messages.{Says}
-use Rattle.jn_system.proofs.SmallSteps.Runs.{run_kept, opening_kept}
-use Rattle.jn_system.proofs.SmallSteps.MessageLemmas.{run_grows, says_still}
-use Rattle.jn_system.proofs.SmallSteps.History.{in_order, run_told, opening_told}
-use Rattle.jn_system.specs.WholeSystem.World.{World, Memory, opening, new_memory}
-use Rattle.jn_system.specs.WholeSystem.Servers.{Room}
-use Rattle.jn_system.specs.WholeSystem.Steps.{Step, NextEvent, Tell, Again, Deliver, Work, Nudge, Timeout, StopDelivery, StopWork, Crash, Narrow, StopRestart, Restart, Dismiss, CloseClients, IsStep, IsRun, after, run, handed}
-use Rattle.jn_system.specs.WholeSystem.LockFacts.{LockFacts, ServerFact}
-use Rattle.jn_system_order.specs.Mirroring.Mirrors.{Mirrors, is_shown}
+use Rattle.jn_system.specs.WholeSystem.Steps.{Work, after, run}
 use Rattle.jn_system_order.proofs.Mirroring.Losing.{run-append, may-append}
-use Rattle.jn_system.proofs.WholeSystem.Steps.{locks-keep, opening-keeps}
 use Rattle.jn_system_order.proofs.Mirroring.StepMoves.{step-moves, opening-mirrors, committed-any}
-use Rattle.jn_system_order.specs.Ordering.Runs.{IsMoves, IsDone, IsInOrder, AreNamed}
 use Rattle.jn_system_order.proofs.Ordering.Named.{step-names}
 use Rattle.jn_system_order.proofs.Ordering.Unlocked.{writes-nothing}
 use Rattle.jn_system_order.proofs.Ordering.Openings.{HaveOpenings}

@@ -1,31 +1,6 @@
 -- A server's steps keep what holds of the openings.
-use Rattle.std.proofs.Common.{◌≡◌, ◌≢◌, ◌⊎◌, inl, inr, ℕ, Bool, true, false, List, [], ◌∷◌, ◌++◌, append-nil, Option, Some, None, is_some, ◌+◌, refl, sym, ◌∙◌, ap, subst, arith}
-use Rattle.std.specs.Prelude.{◌&&◌, if◌then◌else◌, nat_eq, nat_lt, length}
-use Rattle.std.proofs.lemmas.Bool.Decides.{nat_tests}
-use Rattle.jn_base.specs.declared.names.ServerNo.{ServerNo}
-use Rattle.jn_base.specs.declared.names.ClientNo.{ClientNo}
-use Rattle.jn_base.specs.declared.names.Tid.{Tid}
-use Rattle.jn_base.specs.declared.names.WorkId.{WorkId}
-use Rattle.jn_base.specs.declared.names.Party.TheVariants.{Client}
-use Rattle.jn_base.specs.Names.{server_eq, client_eq}
-use Rattle.jn_base.proofs.Tells.{client_tells}
-use Rattle.jn_msgs.specs.declared.message.Message.{Message}
+use Rattle.jn_system_order.proofs.Common.{◌≡◌, ◌≢◌, ◌⊎◌, inl, inr, ℕ, Bool, true, false, List, [], ◌∷◌, ◌++◌, append-nil, Option, Some, None, is_some, ◌+◌, refl, sym, ◌∙◌, ap, subst, arith, ◌&&◌, if◌then◌else◌, nat_eq, nat_lt, length, nat_tests, ServerNo, ClientNo, Tid, WorkId, Client, server_eq, client_eq, client_tells, Message, Transaction, Open, StableState, Pick, stable, RowOutcome, WorkerTable, worker_step, worker_again, timeout_row, CoordinatorTable, transaction_at, coordinator_again, name_from, after_closing, changes_of_closing, seen_now, begin_again, begun_by, begin_row, is_begun, close_clients_row, Machine, Invariant, fresh_tid, World, Memory, at_server, Room, storage_of, of_worker, of_coordinator, of_step, server_row, server_again, of_timeout, restored, done, stopped, ends, at_memory, works, work, nudge, timeout, crash, narrow, stop_restart, restart, close_clients, ServerFact, UpFact, client-closes, outcomes-close, Mirrors}
 use Rattle.jn_msgs.specs.declared.message.Message.TheVariants as messages
-use Rattle.jn_rows.specs.declared.coordinator.Transaction.{Transaction}
-use Rattle.jn_rows.specs.declared.coordinator.Stage.TheVariants.{Open}
-use Rattle.jn_rows.specs.Stable.{StableState, Pick, stable}
-use Rattle.jn_rows.specs.Outcomes.{RowOutcome}
-use Rattle.jn_rows.specs.Worker.{WorkerTable, worker_step, worker_again, timeout_row}
-use Rattle.jn_rows.specs.Coordinator.{CoordinatorTable, transaction_at, coordinator_again, name_from, after_closing, changes_of_closing, seen_now, begin_again, begun_by, begin_row, is_begun, close_clients_row}
-use Rattle.jn_system.specs.SmallSteps.World.{World as Machine}
-use Rattle.jn_system.specs.SmallSteps.Invariant.{Invariant}
-use Rattle.jn_system.proofs.SmallSteps.NameLemmas.{fresh_tid}
-use Rattle.jn_system.specs.WholeSystem.World.{World, Memory, at_server}
-use Rattle.jn_system.specs.WholeSystem.Servers.{Room, storage_of, of_worker, of_coordinator, of_step, server_row, server_again, of_timeout, restored}
-use Rattle.jn_system.specs.WholeSystem.Steps.{done, stopped, ends, at_memory, works, work, nudge, timeout, crash, narrow, stop_restart, restart, close_clients}
-use Rattle.jn_system.specs.WholeSystem.LockFacts.{ServerFact, UpFact}
-use Rattle.jn_system.proofs.WholeSystem.Closes.{client-closes, outcomes-close}
-use Rattle.jn_system_order.specs.Mirroring.Mirrors.{Mirrors}
 use Rattle.jn_system_order.proofs.Mirroring.GrantMoves.{found-here}
 use Rattle.jn_system_order.proofs.Ordering.Openings.{Opening, openings, openings-more, Has, has-first, has-second, has-either, HasOpening, HaveOpenings, more-openings}
 use Rattle.jn_system_order.proofs.Ordering.RowOpenings.{worker-none, step-none, again-none, Quiet, closes-have, ends-quiet, aborts-quiet, inquires-quiet, votes-quiet, dones-quiet, thanks-quiet, coordinator-again-quiet, restored-have}

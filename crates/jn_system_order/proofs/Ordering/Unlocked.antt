@@ -1,21 +1,6 @@
 -- No prepared work of a server writes what none of its works holds for commit.
-use Rattle.std.proofs.Common.{◌≡◌, ◌⊎◌, inl, inr, Bool, true, false, [], ◌∷◌, Option, Some, None, is_some, refl, sym, subst}
-use Rattle.std.specs.Prelude.{if◌then◌else◌}
-use Rattle.jn_base.specs.declared.names.WorkId.{WorkId}
-use Rattle.jn_base.specs.declared.names.Tickets.{Tickets}
-use Rattle.jn_base.specs.declared.names.LockUnit.{LockUnit}
-use Rattle.jn_base.specs.Names.{work_eq}
-use Rattle.jn_records.specs.NetLists.{list_change}
-use Rattle.jn_locks.specs.declared.words.Mode.TheVariants.{Commit}
-use Rattle.jn_rows.specs.declared.worker.Work.{Work}
-use Rattle.jn_rows.specs.declared.worker.Phase.{Phase}
-use Rattle.jn_rows.specs.Stable.{Prepared}
-use Rattle.jn_rows.specs.Worker.{WorkerTable, work_at, holds, commit_holder}
-use Rattle.jn_system.specs.SmallSteps.Held.{HoldsForCommit, file_unit}
+use Rattle.jn_system_order.proofs.Common.{◌≡◌, ◌⊎◌, inl, inr, Bool, true, false, [], ◌∷◌, Option, Some, None, is_some, refl, sym, subst, if◌then◌else◌, WorkId, Tickets, LockUnit, work_eq, list_change, Commit, Work, Phase, Prepared, WorkerTable, work_at, holds, commit_holder, HoldsForCommit, file_unit, false_unless, not_both, TableFact, Entry, entry-of}
 use Rattle.jn_system.proofs.SmallSteps.HeldLemmas.{writes_held}
-use Rattle.jn_system.proofs.SmallSteps.Updates.{false_unless, not_both}
-use Rattle.jn_system.specs.WholeSystem.LockFacts.{TableFact}
-use Rattle.jn_system.proofs.WholeSystem.Restored.{Entry, entry-of}
 
 -- a work that is found doesn't hold it
 no-holder : (u : LockUnit) (t : WorkerTable) (W : WorkId) (v : Work) → commit_holder u t ≡ None → work_at W t ≡ Some v → holds v.phase u Commit ≡ false

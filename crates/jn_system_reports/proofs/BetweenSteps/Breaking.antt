@@ -1,47 +1,9 @@
 -- A broken work of a table was broken there before a step, or active; where a step names a commit, it breaks none.
-use Rattle.std.proofs.Common.{◌≡◌, ◌≢◌, ◌⊎◌, inl, inr, ℕ, ◌+◌, Bool, true, false, List, [], ◌∷◌, ◌++◌, append-nil, Option, Some, None, refl, sym, ◌∙◌, ap, subst}
-use Rattle.std.specs.Prelude.{if◌then◌else◌, nat_eq, nat_lt, length, slice_get}
-use Rattle.jn_base.specs.declared.names.ServerNo.{ServerNo}
-use Rattle.jn_base.specs.declared.names.ClientNo.{ClientNo}
-use Rattle.jn_base.specs.declared.names.Tid.{Tid}
-use Rattle.jn_base.specs.declared.names.WorkId.{WorkId}
-use Rattle.jn_base.specs.declared.names.Tickets.{Tickets}
-use Rattle.jn_base.specs.declared.names.Party.TheVariants.{Client, Server}
-use Rattle.jn_base.specs.declared.op.Op.{Op}
-use Rattle.jn_base.specs.declared.op.Answer.{Answer}
-use Rattle.jn_base.specs.Names.{server_eq, work_eq}
-use Rattle.jn_order.specs.Files.{Files, change, answer_to}
-use Rattle.jn_records.specs.NetLists.{list_change, length_with}
-use Rattle.jn_locks.specs.declared.words.Mode.TheVariants.{Read}
-use Rattle.jn_records.specs.declared.intention.Intention.{Intention}
-use Rattle.jn_msgs.specs.declared.message.Message.{Message}
+use Rattle.jn_system_reports.proofs.Common.{◌≡◌, ◌≢◌, ◌⊎◌, inl, inr, ℕ, ◌+◌, Bool, true, false, List, [], ◌∷◌, ◌++◌, append-nil, Option, Some, None, refl, sym, ◌∙◌, ap, subst, if◌then◌else◌, nat_eq, nat_lt, length, slice_get, ServerNo, ClientNo, Tid, WorkId, Tickets, Client, Server, Op, Answer, server_eq, work_eq, Files, change, answer_to, list_change, length_with, Read, Intention, Message, Vote, Work, Phase, Active, Broken, Stored, ActiveWork, Taken, Pick, is_going, stable, RowOutcome, Sent, ClientTable, Commanded, Refuses, Sends, command_row, take_row, WorkerTable, WorkStorage, Wanted, Held, gives_way, work_at, work_of, without, new_work, name_from, open_row, conflict, commit_wants, wants_of, is_fit, past_limit, units_for, with_units, refusal_of, counted, performed-work, granted_row, performed, repeated, op_phase, op_row, vote_of, shortage, need_in, prepared_row, prepare_phase, prepare_row, commit_phase, drop_phase, drop_row, worker_row, going_work, intentions_of, carried_row, going_row, worker_step, vulnerable, timed_out, timeout_row, coordinator_row, close_clients_row, are_rising, is_after, at-more, at-less, some_is, none_some, not_both, World, Memory, at_server, commits_in, Room, storage_of, is_for_worker, server_row, of_step, of_worker, of_coordinator, of_timeout, lines_of, restored, Step, NextEvent, Tell, Again, Deliver, Works, Nudge, Timeout, StopDelivery, StopWork, Crash, Narrow, StopRestart, Restart, Dismiss, CloseClients, after, commanded, took, ends, at_memory, handed, works, work, nudge, timeout, crash, narrow, stop_restart, restart, close_clients, LockFacts, ServerFact, UpFact, Regrants, Origin, Mine, Kept, Broke, granted, phase_changed, restored-is, of-found, no-lock, named_by, commits-more, lines-commit, worker-none, step-none}
 use Rattle.jn_msgs.specs.declared.message.Message.TheVariants as messages
-use Rattle.jn_msgs.specs.declared.message.Vote.{Vote}
 use Rattle.jn_msgs.specs.declared.message.Vote.TheVariants as votes
-use Rattle.jn_rows.specs.declared.worker.Work.{Work}
-use Rattle.jn_rows.specs.declared.worker.Phase.{Phase}
-use Rattle.jn_rows.specs.declared.worker.Phase.TheVariants.{Active, Broken, Prepared as Stored}
-use Rattle.jn_rows.specs.declared.worker.ActiveWork.{ActiveWork}
-use Rattle.jn_rows.specs.declared.client.Taken.{Taken}
 use Rattle.jn_rows.specs.declared.client.Taken.TheVariants as taken
-use Rattle.jn_rows.specs.Stable.{Pick, is_going, stable}
-use Rattle.jn_rows.specs.Outcomes.{RowOutcome, Sent}
-use Rattle.jn_rows.specs.Client.{ClientTable, Commanded, Refuses, Sends, command_row, take_row}
-use Rattle.jn_rows.specs.Worker.{WorkerTable, WorkStorage, Wanted, Held, gives_way, work_at, work_of, without, new_work, name_from, open_row, conflict, commit_wants, wants_of, is_fit, past_limit, units_for, with_units, refusal_of, counted, done as performed-work, granted_row, performed, repeated, op_phase, op_row, vote_of, shortage, need_in, prepared_row, prepare_phase, prepare_row, commit_phase, commit_row, drop_phase, drop_row, worker_row, going_work, intentions_of, carried_row, going_row, worker_step, vulnerable, timed_out, timeout_row}
-use Rattle.jn_rows.specs.Coordinator.{coordinator_row, close_clients_row}
-use Rattle.jn_lock_rows.specs.Matching.{are_rising, is_after}
-use Rattle.jn_lock_rows.proofs.Works.{at-more, at-less}
-use Rattle.jn_system.proofs.SmallSteps.Updates.{some_is, none_some, not_both}
-use Rattle.jn_system.specs.WholeSystem.World.{World, Memory, at_server, commits_in}
-use Rattle.jn_system.specs.WholeSystem.Servers.{Room, storage_of, is_for_worker, server_row, of_step, of_worker, of_coordinator, of_timeout, lines_of, restored}
-use Rattle.jn_system.specs.WholeSystem.Steps.{Step, NextEvent, Tell, Again, Deliver, Work as Works, Nudge, Timeout, StopDelivery, StopWork, Crash, Narrow, StopRestart, Restart, Dismiss, CloseClients, after, commanded, took, ends, at_memory, handed, works, work, nudge, timeout, crash, narrow, stop_restart, restart, close_clients}
-use Rattle.jn_system.specs.WholeSystem.LockFacts.{LockFacts, ServerFact, UpFact}
-use Rattle.jn_system.proofs.WholeSystem.Granted.{Regrants, Origin, Mine, Kept, Broke, granted, phase_changed}
-use Rattle.jn_system.proofs.WholeSystem.Restored.{restored-is}
-use Rattle.jn_system.proofs.WholeSystem.Tables.{of-found}
-use Rattle.jn_system.proofs.WholeSystem.WorkerRows.{no-lock}
-use Rattle.jn_system_order.proofs.Mirroring.Mirrored.{named_by, commits-more, lines-commit}
-use Rattle.jn_system_order.proofs.Mirroring.WorkerNotes.{worker-none, step-none}
+use Rattle.jn_rows.specs.Worker.{commit_row}
 
 abbrev pub is_broken : Phase → Bool
 is_broken (Broken u by) = true

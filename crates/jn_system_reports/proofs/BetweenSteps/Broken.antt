@@ -1,26 +1,5 @@
 -- A broken work of a table was never ready, or its transaction is aborted.
-use Rattle.std.proofs.Common.{◌≡◌, ◌⊎◌, inl, inr, Bool, true, false, List, Option, Some, None, refl, sym, ◌∙◌, ap, subst}
-use Rattle.std.specs.List.{list_any}
-use Rattle.jn_base.specs.declared.names.ServerNo.{ServerNo}
-use Rattle.jn_base.specs.declared.names.Tid.{Tid}
-use Rattle.jn_base.specs.declared.names.WorkId.{WorkId}
-use Rattle.jn_base.specs.Names.{tid_eq}
-use Rattle.jn_rows.specs.declared.worker.Work.{Work}
-use Rattle.jn_rows.specs.declared.worker.Phase.{Phase}
-use Rattle.jn_rows.specs.declared.worker.Phase.TheVariants.{Active, Broken, Prepared as Stored}
-use Rattle.jn_rows.specs.Stable.{StableState, Pick, stable}
-use Rattle.jn_rows.specs.Worker.{work_at}
-use Rattle.jn_system.specs.SmallSteps.World.{World as Machine}
-use Rattle.jn_system.specs.SmallSteps.Invariant.{Invariant}
-use Rattle.jn_system.specs.SmallSteps.Steps.{Atom, run as run_atoms}
-use Rattle.jn_system.specs.SmallSteps.Premises.{MayRun}
-use Rattle.jn_system.specs.SmallSteps.Messages.{IsWorkOf}
-use Rattle.jn_system.proofs.SmallSteps.MessageLemmas.{Grows, run_grows}
-use Rattle.jn_system.proofs.SmallSteps.Runs.{run_kept}
-use Rattle.jn_system.proofs.SmallSteps.Updates.{not_both, false_unless, some_is, some_none, none_some}
-use Rattle.jn_system.specs.WholeSystem.World.{World, Memory, has_line, commits_in}
-use Rattle.jn_system.specs.WholeSystem.LockFacts.{LockFacts, ServerFact, UpFact, IsSoundWork}
-use Rattle.jn_system_order.specs.Mirroring.Mirrors.{Mirrors, active_in, working_in, working_of}
+use Rattle.jn_system_reports.proofs.Common.{◌≡◌, ◌⊎◌, inl, inr, Bool, true, false, List, Option, Some, None, refl, sym, ◌∙◌, ap, subst, list_any, ServerNo, Tid, WorkId, tid_eq, Work, Phase, Active, Broken, Stored, StableState, Pick, stable, work_at, Machine, Invariant, Atom, run_atoms, MayRun, IsWorkOf, Grows, run_grows, run_kept, not_both, false_unless, some_is, some_none, none_some, World, Memory, has_line, commits_in, LockFacts, ServerFact, UpFact, IsSoundWork, Mirrors, active_in, working_in, working_of}
 use Rattle.jn_system_reports.proofs.Reporting.Gone.{run-gone}
 use Rattle.jn_system_reports.proofs.BetweenSteps.Breaking.{is_broken, is_stored, table_of, BreaksNone, Breaks}
 

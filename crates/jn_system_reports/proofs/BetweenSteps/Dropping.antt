@@ -1,27 +1,6 @@
 -- What is dropped of a named transaction is over, or none of its own.
-use Rattle.std.proofs.Common.{◌≡◌, ◌≢◌, ◌⊎◌, inl, inr, ℕ, true, false, Option, Some, None, refl, sym, ◌∙◌, ap, subst}
-use Rattle.jn_base.specs.declared.names.ServerNo.{ServerNo}
-use Rattle.jn_base.specs.declared.names.Tid.{Tid}
-use Rattle.jn_base.specs.declared.names.WorkId.{WorkId}
-use Rattle.jn_base.specs.Names.{work_eq}
-use Rattle.jn_base.proofs.Tells.{work_tells}
-use Rattle.jn_order.specs.Files.{AllFiles}
+use Rattle.jn_system_reports.proofs.Common.{◌≡◌, ◌≢◌, ◌⊎◌, inl, inr, ℕ, true, false, Option, Some, None, refl, sym, ◌∙◌, ap, subst, ServerNo, Tid, WorkId, work_eq, work_tells, AllFiles, Work, Phase, Active, Broken, Stored, StableState, Prepared, Pick, stable, is_work, work_at, Machine, run_atoms, opening_world, not_both, false_unless, clash, none_some, some_is, World, Memory, IsSoundWork, working_in, WasSent, HasCommitLine, IsNoPart, IsOver}
 use Rattle.jn_msgs.specs.declared.message.Message.TheVariants as messages
-use Rattle.jn_rows.specs.declared.worker.Work.{Work}
-use Rattle.jn_rows.specs.declared.worker.Phase.{Phase}
-use Rattle.jn_rows.specs.declared.worker.Phase.TheVariants.{Active, Broken, Prepared as Stored}
-use Rattle.jn_rows.specs.Stable.{StableState, Prepared, Pick, stable}
-use Rattle.jn_rows.specs.Coordinator.{is_work}
-use Rattle.jn_rows.specs.Worker.{work_at}
-use Rattle.jn_system.specs.SmallSteps.World.{World as Machine}
-use Rattle.jn_system.specs.SmallSteps.Steps.{run as run_atoms, opening_world}
-use Rattle.jn_system.proofs.SmallSteps.Updates.{not_both, false_unless, clash, none_some, some_is}
-use Rattle.jn_system.specs.WholeSystem.World.{World, Memory}
-use Rattle.jn_system.specs.WholeSystem.LockFacts.{IsSoundWork}
-use Rattle.jn_system_order.specs.Mirroring.Mirrors.{working_in}
-use Rattle.jn_system_reports.specs.BetweenSteps.Sent.{WasSent, HasCommitLine}
-use Rattle.jn_system_reports.specs.BetweenSteps.Parts.{IsNoPart}
-use Rattle.jn_system_reports.specs.BetweenSteps.Drops.{IsOver}
 use Rattle.jn_system_reports.proofs.BetweenSteps.Breaking.{is_broken, is_stored}
 use Rattle.jn_system_reports.proofs.BetweenSteps.Broken.{NeverReady, goes-on}
 use Rattle.jn_system_reports.proofs.BetweenSteps.Standing.{Standing}

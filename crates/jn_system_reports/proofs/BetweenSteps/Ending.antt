@@ -1,44 +1,9 @@
 -- Each step of the whole system as steps of the machine that end a transaction only where its End is sent.
-use Rattle.std.proofs.Common.{◌≡◌, ◌≢◌, ◌⊎◌, inl, inr, ℕ, zero, suc, true, List, [], ◌∷◌, ◌++◌, append-nil, length, Option, Some, None, refl, sym, subst}
-use Rattle.std.specs.Prelude.{slice_get}
-use Rattle.jn_base.specs.declared.names.ServerNo.{ServerNo}
-use Rattle.jn_base.specs.declared.names.ClientNo.{ClientNo}
-use Rattle.jn_base.specs.declared.names.Tid.{Tid}
-use Rattle.jn_base.specs.declared.names.Party.TheVariants.{Client, Server}
-use Rattle.jn_base.specs.declared.op.Command.TheVariants.{Begin, Open, Do, End, Abort}
-use Rattle.jn_order.specs.Files.{AllFiles}
-use Rattle.jn_msgs.specs.declared.message.Message.{Message}
+use Rattle.jn_system_reports.proofs.Common.{◌≡◌, ◌≢◌, ◌⊎◌, inl, inr, ℕ, zero, suc, true, List, [], ◌∷◌, ◌++◌, append-nil, length, Option, Some, None, refl, sym, subst, slice_get, ServerNo, ClientNo, Tid, Client, Server, Begin, Open, Do, End, Abort, AllFiles, Message, Refusal, Outstanding, Taken, Pick, stable, RowOutcome, Sent, close_clients_row, ClientTable, Commanded, Refuses, Sends, names_of, if_idle, if_transaction, sends, command_row, take_row, again_row, Machine, Invariant, Says, Atom, Ends, run_atoms, opening_world, MayRun, run_grows, says_still, run_kept, opening_kept, at_tid_cases, World, Memory, Room, server_row, server_step, server_again, of_coordinator, Step, NextEvent, Tell, Again, Deliver, Works, Nudge, Timeout, StopDelivery, StopWork, Crash, Narrow, StopRestart, Restart, Dismiss, CloseClients, IsStep, after, commanded, sent_now, took, ends, at_memory, handed, works, work, nudge, timeout, crash, narrow, stop_restart, restart, close_clients, LockFacts, Mirrors, MovesTo, is_shown, quiet-line, stays-with, step-moves, Facts, step-facts, still-facts, parts_of, end-may, end-mirrors, end-facts, WasEnded}
 use Rattle.jn_msgs.specs.declared.message.Message.TheVariants as messages
-use Rattle.jn_report.specs.declared.line.Refusal.{Refusal}
 use Rattle.jn_report.specs.declared.line.Refusal.TheVariants as refusals
 use Rattle.jn_report.specs.declared.line.Text.TheVariants as says
-use Rattle.jn_rows.specs.declared.client.Outstanding.{Outstanding}
-use Rattle.jn_rows.specs.declared.client.Taken.{Taken}
 use Rattle.jn_rows.specs.declared.client.Taken.TheVariants as taken
-use Rattle.jn_rows.specs.Stable.{Pick, stable}
-use Rattle.jn_rows.specs.Outcomes.{RowOutcome, Sent}
-use Rattle.jn_rows.specs.Coordinator.{close_clients_row}
-use Rattle.jn_rows.specs.Client.{ClientTable, Commanded, Refuses, Sends, names_of, if_idle, if_transaction, sends, command_row, take_row, again_row}
-use Rattle.jn_system.specs.SmallSteps.World.{World as Machine}
-use Rattle.jn_system.specs.SmallSteps.Invariant.{Invariant}
-use Rattle.jn_system.specs.SmallSteps.Messages.{Says}
-use Rattle.jn_system.specs.SmallSteps.Steps.{Atom, End as Ends, run as run_atoms, opening_world}
-use Rattle.jn_system.specs.SmallSteps.Premises.{MayRun}
-use Rattle.jn_system.proofs.SmallSteps.MessageLemmas.{run_grows, says_still}
-use Rattle.jn_system.proofs.SmallSteps.Runs.{run_kept, opening_kept}
-use Rattle.jn_system.proofs.SmallSteps.Updates.{at_tid_cases}
-use Rattle.jn_system.specs.WholeSystem.World.{World, Memory}
-use Rattle.jn_system.specs.WholeSystem.Servers.{Room, server_row, server_step, server_again, of_coordinator}
-use Rattle.jn_system.specs.WholeSystem.Steps.{Step, NextEvent, Tell, Again, Deliver, Work as Works, Nudge, Timeout, StopDelivery, StopWork, Crash, Narrow, StopRestart, Restart, Dismiss, CloseClients, IsStep, after, commanded, sent_now, took, ends, at_memory, handed, works, work, nudge, timeout, crash, narrow, stop_restart, restart, close_clients}
-use Rattle.jn_system.specs.WholeSystem.LockFacts.{LockFacts}
-use Rattle.jn_system_order.specs.Mirroring.Mirrors.{Mirrors, MovesTo, is_shown}
-use Rattle.jn_system_order.proofs.Mirroring.ClientMoves.{quiet-line, stays-with}
-use Rattle.jn_system_order.proofs.Mirroring.StepMoves.{step-moves}
-use Rattle.jn_system_order.proofs.Ordering.Facts.{Facts}
-use Rattle.jn_system_order.proofs.Ordering.Runs.{step-facts}
-use Rattle.jn_system_order.proofs.Ordering.ServerFacts.{still-facts}
-use Rattle.jn_system_order.proofs.Ordering.ClientSteps.{parts_of, end-may, end-mirrors, end-facts}
-use Rattle.jn_system_reports.specs.BetweenSteps.Parts.{WasEnded}
 
 -- ---- what was sent stays sent
 

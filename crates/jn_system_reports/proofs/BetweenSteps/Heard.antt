@@ -1,35 +1,6 @@
 -- Whatever files give a work's operations the answers that it gave give those that the lines tell of them.
-use Rattle.std.proofs.Common.{◌≡◌, ◌⊎◌, inl, inr, ℕ, suc, ◌+◌, true, false, List, [], ◌∷◌, ◌++◌, append_assoc, length, Option, Some, None, refl, sym, ◌∙◌, ap, subst, arith}
-use Rattle.jn_base.specs.declared.names.ServerNo.{ServerNo}
-use Rattle.jn_base.specs.declared.names.Tid.{Tid}
-use Rattle.jn_base.specs.declared.names.WorkId.{WorkId}
-use Rattle.jn_base.specs.declared.op.Op.{Op}
-use Rattle.jn_order.specs.Files.{Files, AllFiles, change}
-use Rattle.jn_schedule.specs.declared.Event.{Event}
+use Rattle.jn_system_reports.proofs.Common.{◌≡◌, ◌⊎◌, inl, inr, ℕ, suc, ◌+◌, true, false, List, [], ◌∷◌, ◌++◌, append_assoc, length, Option, Some, None, refl, sym, ◌∙◌, ap, subst, arith, ServerNo, Tid, WorkId, Op, Files, AllFiles, change, Event, event_at, event_at-next, ActiveWork, OpenWork, Commanded, Refuses, Sends, command_row, open_at, Machine, Answered, effect_of, Agrees, Invariant, Atom, run_atoms, opening_world, MayRun, run_grows, run_kept, opening_kept, clash, World, opening, Step, NextEvent, Tell, IsStep, IsRun, after, run, commanded, LockFacts, locks-keep, opening-keeps, Mirrors, run-append, may-append, opening-mirrors, Facts, opening-facts, Act, Does, Refused, Faults, Shows, Item, events_of, steps_in, steps_of, after_item, IsUnder, AreUnder, ops_in, at_place}
 use Rattle.jn_schedule.specs.declared.Event.TheVariants as kinds
-use Rattle.jn_serial.specs.Lines.{event_at}
-use Rattle.jn_serial.proofs.Growth.{event_at-next}
-use Rattle.jn_rows.specs.declared.worker.ActiveWork.{ActiveWork}
-use Rattle.jn_rows.specs.declared.client.OpenWork.{OpenWork}
-use Rattle.jn_rows.specs.Client.{Commanded, Refuses, Sends, command_row, work_at as open_at}
-use Rattle.jn_system.specs.SmallSteps.World.{World as Machine}
-use Rattle.jn_system.specs.SmallSteps.Traces.{Answered, effect_of, Agrees}
-use Rattle.jn_system.specs.SmallSteps.Invariant.{Invariant}
-use Rattle.jn_system.specs.SmallSteps.Steps.{Atom, run as run_atoms, opening_world}
-use Rattle.jn_system.specs.SmallSteps.Premises.{MayRun}
-use Rattle.jn_system.proofs.SmallSteps.MessageLemmas.{run_grows}
-use Rattle.jn_system.proofs.SmallSteps.Runs.{run_kept, opening_kept}
-use Rattle.jn_system.proofs.SmallSteps.Updates.{clash}
-use Rattle.jn_system.specs.WholeSystem.World.{World, opening}
-use Rattle.jn_system.specs.WholeSystem.Steps.{Step, NextEvent, Tell, IsStep, IsRun, after, run, commanded}
-use Rattle.jn_system.specs.WholeSystem.LockFacts.{LockFacts}
-use Rattle.jn_system.proofs.WholeSystem.Steps.{locks-keep, opening-keeps}
-use Rattle.jn_system_order.specs.Mirroring.Mirrors.{Mirrors}
-use Rattle.jn_system_order.proofs.Mirroring.Losing.{run-append, may-append}
-use Rattle.jn_system_order.proofs.Mirroring.StepMoves.{opening-mirrors}
-use Rattle.jn_system_order.proofs.Ordering.Facts.{Facts}
-use Rattle.jn_system_order.proofs.Ordering.Runs.{opening-facts}
-use Rattle.jn_system_reports.specs.Reporting.Reported.{Act, Does, Refuses as Refused, Tells as Faults, Shows, Item, events_of, steps_in, steps_of, after_item, IsUnder, AreUnder}
 use Rattle.jn_system_reports.proofs.Reporting.Lists.{Each}
 use Rattle.jn_system_reports.proofs.Reporting.Following.{IsQuietAct, under-quiet, run-split}
 use Rattle.jn_system_reports.proofs.Reporting.Hearing.{IsQuiet, step-hears}
@@ -39,7 +10,6 @@ use Rattle.jn_system_reports.proofs.Telling.Agreeing.{opening-talk}
 use Rattle.jn_system_reports.proofs.Telling.Atoms.{IsPresent, extends, present-back}
 use Rattle.jn_system_reports.proofs.Telling.Facts.{said, counts, op_asked, op_sent, IsOpenAt, Hears, IsRunningAt, Talk}
 use Rattle.jn_system_reports.proofs.Telling.Runs.{TellsAs, goes-on}
-use Rattle.jn_system_reports.specs.Telling.Told.{ops_in, at_place}
 use Rattle.jn_system_reports.proofs.BetweenSteps.Telling.{GoesOn, Tells, step-tells}
 
 pub agrees-front : (a b : List Answered) (files : Files) → Agrees files (a ++ b) → Agrees files a

@@ -1,45 +1,15 @@
 -- The laws that are the machine's, in the words of the whole system.
-use Rattle.std.proofs.Common.{◌≡◌, ◌⊎◌, inl, inr, ◌≤◌, ◌<◌, ℕ, Bool, true, false, List, [], Option, Some, None, is_some, refl, sym, ◌∙◌, ap, subst}
-use Rattle.jn_base.specs.declared.names.ServerNo.{ServerNo}
-use Rattle.jn_base.specs.declared.names.ClientNo.{ClientNo}
-use Rattle.jn_base.specs.declared.names.LockUnit.{LockUnit}
-use Rattle.jn_base.specs.declared.names.Tid.{Tid}
-use Rattle.jn_base.specs.declared.names.WorkId.{WorkId}
-use Rattle.jn_order.specs.Files.{AllFiles}
-use Rattle.jn_records.specs.declared.intention.Intention.{Intention}
-use Rattle.jn_msgs.specs.declared.message.Message.{Message}
+use Rattle.jn_system_reports.proofs.Common.{◌≡◌, ◌⊎◌, inl, inr, ◌≤◌, ◌<◌, ℕ, Bool, true, false, List, [], Option, Some, None, is_some, refl, sym, ◌∙◌, ap, subst, ServerNo, ClientNo, LockUnit, Tid, WorkId, AllFiles, Intention, Message, ActiveWork, StableState, Pick, OpenWork, is_work, Sent, Machine, Working, HasRead, Invariant, run_atoms, opening_world, IsGiven, Says, not_both, some_is, false_unless, clash, run_told, opening_told, IsTold, opening_kept, World, Memory, has_line, ServerFact, UpFact, found-open, IsTrue, IsCurrent, active_in, working_in, working_of, holds-of, Opening, opening_in, openings, Has, all-have-theirs, WasSent, HasCommitLine, WasEnded, IsFlagged, IsPrepared, IsCarriedOut, DoWorksStay, IsActive, AreAsPrepared, AreReadsKept}
 use Rattle.jn_msgs.specs.declared.message.Message.TheVariants as messages
 use Rattle.jn_msgs.specs.declared.message.Outcome.TheVariants as outcomes
-use Rattle.jn_rows.specs.declared.worker.ActiveWork.{ActiveWork}
-use Rattle.jn_rows.specs.Stable.{StableState, Pick}
-use Rattle.jn_rows.specs.declared.client.OpenWork.{OpenWork}
 use Rattle.jn_rows.specs.Client.{work_at}
-use Rattle.jn_rows.specs.Coordinator.{is_work}
-use Rattle.jn_rows.specs.Outcomes.{Sent}
-use Rattle.jn_system.specs.SmallSteps.World.{World as Machine, Working, replay}
-use Rattle.jn_system.specs.SmallSteps.Held.{HasRead}
-use Rattle.jn_system.specs.SmallSteps.Invariant.{Invariant}
-use Rattle.jn_system.specs.SmallSteps.Steps.{run as run_atoms, opening_world}
+use Rattle.jn_system.specs.SmallSteps.World.{replay}
 use Rattle.jn_system.specs.SmallSteps.FoundStates as states
-use Rattle.jn_system.specs.SmallSteps.NameFacts.{IsGiven}
-use Rattle.jn_system.specs.SmallSteps.Messages.{Says}
-use Rattle.jn_system.proofs.SmallSteps.Updates.{not_both, some_is, false_unless, clash}
-use Rattle.jn_system.proofs.SmallSteps.History.{run_told, opening_told, IsTold}
-use Rattle.jn_system.proofs.SmallSteps.Runs.{opening_kept}
-use Rattle.jn_system.specs.WholeSystem.World.{World, Memory, has_line}
-use Rattle.jn_system.specs.WholeSystem.LockFacts.{ServerFact, UpFact}
-use Rattle.jn_system_order.proofs.Mirroring.ClientRows.{found-open}
-use Rattle.jn_system_order.specs.Mirroring.Mirrors.{IsTrue, IsCurrent, active_in, working_in, working_of}
-use Rattle.jn_system_order.proofs.Mirroring.StepMoves.{holds-of}
-use Rattle.jn_system_order.proofs.Ordering.Openings.{Opening, opening_in, openings, Has}
 use Rattle.jn_system_order.proofs.Ordering.Facts.{opening}
-use Rattle.jn_system_order.proofs.Ordering.ClientFacts.{all-have-theirs}
-use Rattle.jn_system_reports.specs.BetweenSteps.Sent.{WasSent, HasCommitLine}
 use Rattle.jn_system_reports.specs.BetweenSteps.Names.{WasMade, AreMadeOnce}
 use Rattle.jn_system_reports.specs.BetweenSteps.Doubt.{IsDownInDoubt}
 use Rattle.jn_system_reports.specs.BetweenSteps.Commits.{AreToldAfter}
-use Rattle.jn_system_reports.specs.BetweenSteps.Parts.{WasEnded, IsPart}
-use Rattle.jn_system_reports.specs.BetweenSteps.Works.{IsFlagged, IsPrepared, IsCarriedOut, DoWorksStay, IsActive, AreAsPrepared, AreReadsKept}
+use Rattle.jn_system_reports.specs.BetweenSteps.Parts.{IsPart}
 use Rattle.jn_system_reports.specs.BetweenSteps.Answers.{DoAnswersStand}
 use Rattle.jn_system_reports.proofs.BetweenSteps.Standing.{Standing, Later, named-is, invariant}
 use Rattle.jn_system_reports.proofs.BetweenSteps.Staying.{IsThere, IsDone, Stays, StayFact, run-stays, HasReadAll, StoredAs, IsSo, SoFact, so-still, run-so, reads-still}

@@ -1,34 +1,10 @@
 -- What the lines tell of works that may yet commit stands in the files that the commits so far leave.
-use Rattle.std.proofs.Common.{◌≡◌, inl, inr, ℕ, false, List, [], ◌∷◌, ◌++◌, append-nil, None, refl, sym, ◌∙◌, ap, subst}
-use Rattle.std.specs.List.{list_any}
-use Rattle.jn_base.specs.declared.names.ServerNo.{ServerNo}
-use Rattle.jn_base.specs.declared.names.Tid.{Tid}
-use Rattle.jn_base.specs.declared.names.WorkId.{WorkId}
-use Rattle.jn_base.specs.Names.{tid_eq}
-use Rattle.jn_order.specs.Files.{AllFiles}
-use Rattle.jn_schedule.specs.declared.Event.{Event}
-use Rattle.jn_report.specs.declared.line.Line.{Line}
-use Rattle.jn_report.specs.declared.line.Text.{Text}
+use Rattle.jn_system_reports.proofs.Common.{◌≡◌, inl, inr, ℕ, false, List, [], ◌∷◌, ◌++◌, append-nil, None, refl, sym, ◌∙◌, ap, subst, list_any, ServerNo, Tid, WorkId, tid_eq, AllFiles, Event, Line, Text, StableState, commit_in, history_of, ops_of, replay-lines, work_same, Agrees, Machine, Invariant, run_atoms, opening_world, IsInOrder, IsTold, run_told, opening_told, in_order, run_kept, opening_kept, false_unless, World, opening, committed_in, commits_in, has_line, active_in, working_in, working_of, committed-any, Item, events_of, steps_of, world_of, IsReported, ops_in, at_place}
 use Rattle.jn_report.specs.declared.line.Text.TheVariants as says
-use Rattle.jn_rows.specs.Stable.{StableState}
-use Rattle.jn_serial.specs.Lines.{commit_in, history_of}
-use Rattle.jn_serial.specs.Order.{ops_of, replay as replay-lines}
-use Rattle.jn_lock_rows.proofs.Works.{work_same}
 use Rattle.jn_msgs.specs.declared.message.Message.TheVariants as messages
-use Rattle.jn_system.specs.SmallSteps.Traces.{Agrees}
-use Rattle.jn_system.specs.SmallSteps.World.{World as Machine, replay}
-use Rattle.jn_system.specs.SmallSteps.Invariant.{Invariant}
-use Rattle.jn_system.specs.SmallSteps.Steps.{run as run_atoms, opening_world}
-use Rattle.jn_system.specs.SmallSteps.Order.{IsInOrder}
-use Rattle.jn_system.proofs.SmallSteps.History.{IsTold, run_told, opening_told, in_order}
-use Rattle.jn_system.proofs.SmallSteps.Runs.{run_kept, opening_kept}
-use Rattle.jn_system.proofs.SmallSteps.Updates.{false_unless}
-use Rattle.jn_system.specs.WholeSystem.World.{World, opening, committed_in, commits_in, has_line}
-use Rattle.jn_system_order.specs.Mirroring.Mirrors.{active_in, working_in, working_of}
-use Rattle.jn_system_order.proofs.Mirroring.StepMoves.{committed-any}
-use Rattle.jn_system_reports.specs.Reporting.Reported.{Item, events_of, steps_of, world_of, lines_of, IsReported}
+use Rattle.jn_system.specs.SmallSteps.World.{replay}
+use Rattle.jn_system_reports.specs.Reporting.Reported.{lines_of}
 use Rattle.jn_system_reports.proofs.Reporting.Reached.{opening-reached}
-use Rattle.jn_system_reports.specs.Telling.Told.{ops_in, at_place}
 use Rattle.jn_system_reports.proofs.Telling.Tellings.{texts_of}
 use Rattle.jn_system_reports.proofs.Telling.Quiet.{sent-op}
 use Rattle.jn_system_reports.proofs.Telling.Agreeing.{commits-told, told-agree, opening-stands}

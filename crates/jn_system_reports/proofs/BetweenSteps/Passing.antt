@@ -1,26 +1,13 @@
 -- A client that is told that a named transaction isn't known is past it.
-use Rattle.std.proofs.Common.{◌≡◌, ◌⊎◌, inl, inr, ℕ, zero, suc, true, List, [], ◌∷◌, Some, None, ◌∙◌, ap}
-use Rattle.std.specs.Prelude.{slice_get}
-use Rattle.jn_base.specs.declared.names.ServerNo.{ServerNo}
-use Rattle.jn_base.specs.declared.names.ClientNo.{ClientNo}
-use Rattle.jn_base.specs.declared.names.Tid.{Tid}
-use Rattle.jn_base.specs.declared.names.Party.{Party}
-use Rattle.jn_order.specs.Files.{AllFiles}
+use Rattle.jn_system_reports.proofs.Common.{◌≡◌, ◌⊎◌, inl, inr, ℕ, zero, suc, true, List, [], ◌∷◌, Some, None, ◌∙◌, ap, slice_get, ServerNo, ClientNo, Tid, Party, AllFiles, Sent, run_atoms, opening_world, not_both, World, Step, after, run, IsRun, Opening, opening_in, openings, Has, has-either, WasSent, HasCommitLine, IsPast}
 use Rattle.jn_msgs.specs.declared.message.Message.TheVariants as messages
 use Rattle.jn_msgs.specs.declared.message.Outcome.TheVariants as outcomes
-use Rattle.jn_rows.specs.Outcomes.{Sent}
-use Rattle.jn_system.specs.SmallSteps.Steps.{run as run_atoms, opening_world}
-use Rattle.jn_system.proofs.SmallSteps.Updates.{not_both}
-use Rattle.jn_system.specs.WholeSystem.World.{World, opening as start}
-use Rattle.jn_system.specs.WholeSystem.Steps.{Step, after, run, IsRun}
-use Rattle.jn_system_order.proofs.Ordering.Openings.{Opening, opening_in, openings, Has, has-either}
+use Rattle.jn_system.specs.WholeSystem.World.{opening as start}
 use Rattle.jn_system_order.proofs.Ordering.Facts.{opening}
 use Rattle.jn_system_reports.proofs.Reporting.Lists.{each-in, get-in}
 use Rattle.jn_system_reports.proofs.Reporting.Known as known
 use Rattle.jn_system_reports.proofs.Reporting.Past.{Past, SaysPast}
 use Rattle.jn_system_reports.proofs.Reporting.Reached.{Reached, Free, named-is, invariant, next-reached, opening-reached}
-use Rattle.jn_system_reports.specs.BetweenSteps.Sent.{WasSent, HasCommitLine}
-use Rattle.jn_system_reports.specs.BetweenSteps.Drops.{IsPast}
 
 -- ---- every run
 

@@ -1,28 +1,5 @@
 -- After any steps from an opening the machine stands where the whole system does.
-use Rattle.std.proofs.Common.{◌≡◌, ◌⊎◌, inl, inr, ℕ, true, List, [], ◌∷◌, ◌++◌, refl, sym, ◌∙◌, ap, subst}
-use Rattle.std.specs.List.{list_any}
-use Rattle.jn_base.specs.declared.names.ServerNo.{ServerNo}
-use Rattle.jn_base.specs.declared.names.Tid.{Tid}
-use Rattle.jn_base.specs.Names.{tid_eq}
-use Rattle.jn_order.specs.Files.{AllFiles}
-use Rattle.jn_rows.specs.Worker.{work_at}
-use Rattle.jn_system.specs.SmallSteps.World.{World as Machine}
-use Rattle.jn_system.specs.SmallSteps.Invariant.{Invariant}
-use Rattle.jn_system.specs.SmallSteps.Steps.{Atom, run as run_atoms, opening_world}
-use Rattle.jn_system.specs.SmallSteps.Premises.{MayRun}
-use Rattle.jn_system.proofs.SmallSteps.Runs.{run_kept, opening_kept}
-use Rattle.jn_system.proofs.SmallSteps.History.{run_told, opening_told}
-use Rattle.jn_system.proofs.SmallSteps.Updates.{not_both, some_is, none_some}
-use Rattle.jn_system.specs.WholeSystem.World.{World, Memory, opening, has_line, new_memory}
-use Rattle.jn_system.specs.WholeSystem.Steps.{Step, IsStep, IsRun, after, run}
-use Rattle.jn_system.specs.WholeSystem.LockFacts.{LockFacts}
-use Rattle.jn_system.proofs.WholeSystem.Steps.{locks-keep, opening-keeps}
-use Rattle.jn_system_order.specs.Mirroring.Mirrors.{Mirrors}
-use Rattle.jn_system_order.proofs.Mirroring.Losing.{run-append, may-append}
-use Rattle.jn_system_order.proofs.Mirroring.StepMoves.{opening-mirrors, committed-any}
-use Rattle.jn_system_order.proofs.Ordering.Facts.{Facts}
-use Rattle.jn_system_order.proofs.Ordering.Runs.{opening-facts}
-use Rattle.jn_system_reports.specs.BetweenSteps.Parts.{WasEnded}
+use Rattle.jn_system_reports.proofs.Common.{◌≡◌, ◌⊎◌, inl, inr, ℕ, true, List, [], ◌∷◌, ◌++◌, refl, sym, ◌∙◌, ap, subst, list_any, ServerNo, Tid, tid_eq, AllFiles, work_at, Machine, Invariant, Atom, run_atoms, opening_world, MayRun, run_kept, opening_kept, run_told, opening_told, not_both, some_is, none_some, World, Memory, opening, has_line, new_memory, Step, IsStep, IsRun, after, run, LockFacts, locks-keep, opening-keeps, Mirrors, run-append, may-append, opening-mirrors, committed-any, Facts, opening-facts, WasEnded}
 use Rattle.jn_system_reports.proofs.BetweenSteps.Ending.{NextEnds, next-ends, step-sends, ended-still}
 use Rattle.jn_system_reports.proofs.BetweenSteps.Breaking.{step-breaks}
 use Rattle.jn_system_reports.proofs.BetweenSteps.Broken.{BrokenFact, broken-on}

@@ -1,30 +1,10 @@
 -- What the machine's states keep of a work: where it was ready it stays prepared, or is carried out, and wherever it is found it
 -- has one list and the same reads.
-use Rattle.std.proofs.Common.{◌≡◌, ◌≢◌, ◌⊎◌, inl, inr, ℕ, Bool, true, false, List, [], ◌∷◌, Option, Some, None, is_some, refl, sym, ◌∙◌, ap, subst, arith}
-use Rattle.std.specs.Prelude.{if◌then◌else◌}
-use Rattle.jn_base.specs.declared.names.ServerNo.{ServerNo}
-use Rattle.jn_base.specs.declared.names.LockUnit.{LockUnit}
-use Rattle.jn_base.specs.declared.names.Tid.{Tid}
-use Rattle.jn_base.specs.declared.names.WorkId.{WorkId}
-use Rattle.jn_base.specs.Names.{server_eq, work_eq}
-use Rattle.jn_base.proofs.Tells.{server_tells, work_tells}
-use Rattle.jn_order.specs.Files.{Files, or_else, change}
-use Rattle.jn_records.specs.declared.intention.Intention.{Intention}
-use Rattle.jn_records.specs.NetLists.{intention_change, list_change}
-use Rattle.jn_rows.specs.Stable.{StableState, Prepared, Pick, Change, AddReady, MarkGoing, CarryOut, RemoveWork, AddFlag, DropFlag, at_work, gone_on, ready_work, made_by}
-use Rattle.jn_system.specs.SmallSteps.World.{World, Working}
-use Rattle.jn_system.specs.SmallSteps.Held.{HasRead, Writes}
-use Rattle.jn_system.specs.SmallSteps.NameFacts.{NamesFact}
-use Rattle.jn_system.specs.SmallSteps.Invariant.{Invariant}
-use Rattle.jn_system.specs.SmallSteps.Steps.{Atom, Open, Perform, Lose, Crash, new_work, Prepare, NoteReady, Make, Decide, Narrow, RaiseEpoch, Restart, changed, server_of, with_epoch, after, run}
-use Rattle.jn_system.specs.SmallSteps.Premises.{MayCarryOut, MayRemove, MayMake, May, MayRun}
+use Rattle.jn_system_reports.proofs.Common.{◌≡◌, ◌≢◌, ◌⊎◌, inl, inr, ℕ, Bool, true, false, List, [], ◌∷◌, Option, Some, None, is_some, refl, sym, ◌∙◌, ap, subst, arith, if◌then◌else◌, ServerNo, LockUnit, Tid, WorkId, server_eq, work_eq, server_tells, work_tells, Files, or_else, change, Intention, intention_change, list_change, StableState, Prepared, Pick, Change, AddReady, MarkGoing, CarryOut, RemoveWork, AddFlag, DropFlag, at_work, gone_on, ready_work, made_by, Working, HasRead, Writes, NamesFact, Invariant, Atom, Perform, Lose, Prepare, NoteReady, Make, Decide, RaiseEpoch, changed, server_of, with_epoch, MayCarryOut, MayRemove, MayMake, May, MayRun, grows, fresh_work, step_kept, not_both, false_unless, at_work_cases, some_is, none_some, clash, AreCarriedOut}
+use Rattle.jn_system.specs.SmallSteps.World.{World}
+use Rattle.jn_system.specs.SmallSteps.Steps.{Open, Crash, new_work, Narrow, Restart, after, run}
 use Rattle.jn_system.proofs.SmallSteps.HeldLemmas.{writes_apart}
-use Rattle.jn_system.proofs.SmallSteps.MessageLemmas.{grows}
-use Rattle.jn_system.proofs.SmallSteps.NameLemmas.{fresh_work}
-use Rattle.jn_system.proofs.SmallSteps.Runs.{step_kept}
-use Rattle.jn_system.proofs.SmallSteps.Updates.{not_both, false_unless, at_work_cases, some_is, none_some, clash}
 use Rattle.jn_system_reports.proofs.Telling.Atoms.{IsStill, still}
-use Rattle.jn_system_reports.specs.BetweenSteps.Works.{AreCarriedOut}
 
 -- ---- what holds of each pick
 

@@ -1,58 +1,14 @@
 -- A step tells an answer of a transaction only to its client, which goes on in it, and only such a client sends an operation.
-use Rattle.std.proofs.Common.{◌≡◌, ◌≢◌, ◌⊎◌, inl, inr, ℕ, ◌+◌, Bool, true, false, List, [], ◌∷◌, ◌++◌, append-nil, Option, Some, None, refl, sym, ◌∙◌, ap, subst, arith}
-use Rattle.std.specs.Prelude.{◌&&◌, ◌||◌, if◌then◌else◌, nat_eq, nat_lt, slice_get}
-use Rattle.jn_base.specs.declared.names.ServerNo.{ServerNo}
-use Rattle.jn_base.specs.declared.names.ClientNo.{ClientNo}
-use Rattle.jn_base.specs.declared.names.Tid.{Tid}
-use Rattle.jn_base.specs.declared.names.WorkId.{WorkId}
-use Rattle.jn_base.specs.declared.names.Tickets.{Tickets}
-use Rattle.jn_base.specs.declared.names.Party.TheVariants.{Client, Server}
-use Rattle.jn_base.specs.declared.op.Op.{Op}
-use Rattle.jn_base.specs.declared.op.Answer.{Answer}
+use Rattle.jn_system_reports.proofs.Common.{◌≡◌, ◌≢◌, ◌⊎◌, inl, inr, ℕ, ◌+◌, Bool, true, false, List, [], ◌∷◌, ◌++◌, append-nil, Option, Some, None, refl, sym, ◌∙◌, ap, subst, arith, ◌&&◌, ◌||◌, if◌then◌else◌, nat_eq, nat_lt, slice_get, ServerNo, ClientNo, Tid, WorkId, Tickets, Client, Server, Op, Answer, Command, Begin, Open, Do, End, Abort, client_eq, client_tells, Files, change, answer_to, list_change, Event, event_at, performed_in, answered, answered_by, is_own, Message, Outcome, Refusal, Text, Work, Phase, Active, Broken, Stored, ActiveWork, OpenWork, Outstanding, Taken, Pick, stable, RowOutcome, Sent, ClientTable, Commanded, Refuses, Sends, if_server, if_idle, if_transaction, if_no_transaction, if_open, if_not_open, command_row, is_operation, is_end_or_abort, is_current, if_waits, idle, begun_row, opened_row, answer_line, outcome_row, take_row, sent_again, Machine, not_both, World, Memory, at_client, Room, lines_of, Step, NextEvent, Tell, Again, Deliver, Works, Nudge, Timeout, StopDelivery, StopWork, Crash, Narrow, StopRestart, Restart, Dismiss, CloseClients, after, commanded, sent_now, took, at_memory, handed, LockFacts, Mirrors, IsTrue, IsCurrent, found-open, IsThanks, Takes, takes, holds-of, Facts, is_closing, work_is, ops_in, owner_in}
 use Rattle.jn_base.specs.declared.op.Answer.TheVariants as answers
-use Rattle.jn_base.specs.declared.op.Command.{Command}
-use Rattle.jn_base.specs.declared.op.Command.TheVariants.{Begin, Open, Do, End, Abort}
-use Rattle.jn_base.specs.Names.{client_eq}
-use Rattle.jn_base.proofs.Tells.{client_tells}
-use Rattle.jn_order.specs.Files.{Files, change, answer_to}
-use Rattle.jn_records.specs.NetLists.{list_change}
-use Rattle.jn_schedule.specs.declared.Event.{Event}
-use Rattle.jn_serial.specs.Lines.{event_at}
-use Rattle.jn_serial.specs.InTurn.{performed_in, answered, answered_by}
-use Rattle.jn_serial.specs.Follows.{is_own}
-use Rattle.jn_msgs.specs.declared.message.Message.{Message}
 use Rattle.jn_msgs.specs.declared.message.Message.TheVariants as messages
-use Rattle.jn_msgs.specs.declared.message.Outcome.{Outcome}
 use Rattle.jn_msgs.specs.declared.message.Outcome.TheVariants as outcomes
-use Rattle.jn_report.specs.declared.line.Refusal.{Refusal}
 use Rattle.jn_report.specs.declared.line.Refusal.TheVariants as refusals
-use Rattle.jn_report.specs.declared.line.Text.{Text}
 use Rattle.jn_report.specs.declared.line.Text.TheVariants as says
-use Rattle.jn_rows.specs.declared.worker.Work.{Work}
-use Rattle.jn_rows.specs.declared.worker.Phase.{Phase}
-use Rattle.jn_rows.specs.declared.worker.Phase.TheVariants.{Active, Broken, Prepared as Stored}
-use Rattle.jn_rows.specs.declared.worker.ActiveWork.{ActiveWork}
-use Rattle.jn_rows.specs.declared.client.OpenWork.{OpenWork}
-use Rattle.jn_rows.specs.declared.client.Outstanding.{Outstanding}
-use Rattle.jn_rows.specs.declared.client.Taken.{Taken}
 use Rattle.jn_rows.specs.declared.client.Taken.TheVariants as taken
-use Rattle.jn_rows.specs.Stable.{Pick, stable}
-use Rattle.jn_rows.specs.Outcomes.{RowOutcome, Sent}
 use Rattle.jn_rows.specs.Worker as worker
-use Rattle.jn_rows.specs.Client.{ClientTable, Commanded, Refuses, Sends, work_at, if_server, if_idle, if_transaction, if_no_transaction, if_open, if_not_open, command_row, is_operation, is_end_or_abort, is_current, if_waits, idle, begun_row, opened_row, answer_line, outcome_row, take_row, sent_again}
-use Rattle.jn_system.specs.SmallSteps.World.{World as Machine}
-use Rattle.jn_system.proofs.SmallSteps.Updates.{not_both}
-use Rattle.jn_system.specs.WholeSystem.World.{World, Memory, at_client}
-use Rattle.jn_system.specs.WholeSystem.Servers.{Room, lines_of}
-use Rattle.jn_system.specs.WholeSystem.Steps.{Step, NextEvent, Tell, Again, Deliver, Work as Works, Nudge, Timeout, StopDelivery, StopWork, Crash, Narrow, StopRestart, Restart, Dismiss, CloseClients, after, commanded, sent_now, took, at_memory, handed}
-use Rattle.jn_system.specs.WholeSystem.LockFacts.{LockFacts}
-use Rattle.jn_system_order.specs.Mirroring.Mirrors.{Mirrors, IsTrue, IsCurrent}
-use Rattle.jn_system_order.proofs.Mirroring.ClientRows.{found-open, IsThanks, Takes, takes}
-use Rattle.jn_system_order.proofs.Mirroring.StepMoves.{holds-of}
-use Rattle.jn_system_order.proofs.Ordering.Facts.{Facts, is_closing}
+use Rattle.jn_rows.specs.Client.{work_at}
 use Rattle.jn_system_reports.proofs.Reporting.Hearing.{commands, Commands}
-use Rattle.jn_lock_rows.proofs.Works.{work_is}
-use Rattle.jn_system_reports.specs.Telling.Told.{ops_in, owner_in}
 use Rattle.jn_system_reports.proofs.Telling.Tellings.{ops-more}
 use Rattle.jn_system_reports.proofs.Telling.Acting.{IsSilent}
 use Rattle.jn_system_reports.proofs.Telling.Facts.{is_op_of, op_sent, IsAsking, Talk}

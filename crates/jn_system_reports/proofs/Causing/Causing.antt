@@ -1,32 +1,8 @@
 -- The lines of a run have their causes, event by event.
-use Rattle.std.proofs.Common.{◌≡◌, ◌≤◌, ℕ, ◌+◌, true, false, List, [], ◌∷◌, ◌++◌, append-nil, append_assoc, length, Some, None, refl, sym, ◌∙◌, ap, subst, arith}
-use Rattle.jn_base.specs.declared.names.ServerNo.{ServerNo}
-use Rattle.jn_base.specs.declared.names.ClientNo.{ClientNo}
-use Rattle.jn_base.specs.declared.names.Tid.{Tid}
-use Rattle.jn_base.specs.declared.op.Command.{Command}
-use Rattle.jn_order.specs.Files.{AllFiles}
-use Rattle.jn_schedule.specs.declared.Event.{Event}
+use Rattle.jn_system_reports.proofs.Common.{◌≡◌, ◌≤◌, ℕ, ◌+◌, true, false, List, [], ◌∷◌, ◌++◌, append-nil, append_assoc, length, Some, None, refl, sym, ◌∙◌, ap, subst, arith, ServerNo, ClientNo, Tid, Command, AllFiles, Event, When, AtEvent, Text, Line, Outstanding, Commanded, Refuses, Sends, command_row, opening_world, World, Memory, opening, new_memory, Step, NextEvent, Tell, after, run, IsRun, commanded, opening-keeps, opening-mirrors, opening-facts, is_caused_by, is_caused, CausedFrom, Caused, AreWithin, AreWithin-wider, AreWithin-append, is_fault, ArmedFrom, map, Printed, FileThere, PageStored, UnitLocked, text_printed, Act, Does, Refused, Tells, Shows, Item, events_of, steps_in, steps_of, told_by, told_in, told_under, after_item, at_event, IsUnder, AreUnder, IsReported}
 use Rattle.jn_schedule.specs.declared.Event.TheVariants as events
-use Rattle.jn_report.specs.declared.line.When.{When}
-use Rattle.jn_report.specs.declared.line.When.TheVariants.{Event as AtEvent}
-use Rattle.jn_report.specs.declared.line.Text.{Text}
 use Rattle.jn_report.specs.declared.line.Text.TheVariants as says
-use Rattle.jn_report.specs.declared.line.Line.{Line}
-use Rattle.jn_rows.specs.declared.client.Outstanding.{Outstanding}
-use Rattle.jn_rows.specs.Client.{Commanded, Refuses, Sends, command_row}
-use Rattle.jn_system.specs.SmallSteps.Steps.{opening_world}
-use Rattle.jn_system.specs.WholeSystem.World.{World, Memory, opening, new_memory}
-use Rattle.jn_system.specs.WholeSystem.Steps.{Step, NextEvent, Tell, after, run, IsRun, commanded}
-use Rattle.jn_system.proofs.WholeSystem.Steps.{opening-keeps}
-use Rattle.jn_system_order.proofs.Mirroring.StepMoves.{opening-mirrors}
-use Rattle.jn_system_order.proofs.Ordering.Runs.{opening-facts}
-use Rattle.jn_serial.specs.Caused.{is_caused_by, is_caused, CausedFrom, Caused}
-use Rattle.jn_serial.proofs.Growth.{AreWithin, AreWithin-wider, AreWithin-append}
-use Rattle.jn_system_reports.specs.Reporting.Armed.{is_fault, ArmedFrom}
-use Rattle.std.specs.Prelude.{map}
-use Rattle.jn_system.specs.WholeSystem.Printing.{Printed, FileThere, PageStored, UnitLocked}
-use Rattle.jn_system_reports.specs.Reporting.Printing.{text_printed}
-use Rattle.jn_system_reports.specs.Reporting.Reported.{Act, Does, Refuses as Refused, Tells, Shows, Item, events_of, steps_in, steps_of, told_by, told_in, told_under, after_item, at_event, lines_of, IsUnder, AreUnder, IsReported}
+use Rattle.jn_system_reports.specs.Reporting.Reported.{lines_of}
 use Rattle.jn_system_reports.proofs.Reporting.Lists.{Each}
 use Rattle.jn_system_reports.proofs.Reporting.ArmedRuns.{run-armed, length-more}
 use Rattle.jn_system_reports.proofs.Reporting.Following.{IsQuietAct, IsPlain, under-quiet, run-split, texts-within}

@@ -1,35 +1,10 @@
 -- A coordinator's row: a transaction that isn't past stays in its table, and what is dropped has its outcome.
-use Rattle.std.proofs.Common.{◌≡◌, ◌≢◌, ◌⊎◌, inl, inr, ℕ, ◌+◌, Bool, true, false, List, [], ◌∷◌, ◌++◌, Option, Some, None, is_some, refl, sym, ap, subst, arith}
-use Rattle.std.specs.Prelude.{◌&&◌, not, if◌then◌else◌, nat_lt, nat_eq, length}
-use Rattle.jn_base.specs.declared.names.ServerNo.{ServerNo}
-use Rattle.jn_base.specs.declared.names.ClientNo.{ClientNo}
-use Rattle.jn_base.specs.declared.names.Tid.{Tid}
-use Rattle.jn_base.specs.declared.names.WorkId.{WorkId}
-use Rattle.jn_base.specs.declared.names.Tickets.{Tickets}
-use Rattle.jn_base.specs.declared.names.Cause.{Cause}
-use Rattle.jn_base.specs.declared.names.Cause.TheVariants.{Requested, Broken as BrokenAt, Lost as LostAt, Full as FullAt}
+use Rattle.jn_system_reports.proofs.Common.{◌≡◌, ◌≢◌, ◌⊎◌, inl, inr, ℕ, ◌+◌, Bool, true, false, List, [], ◌∷◌, ◌++◌, Option, Some, None, is_some, refl, sym, ap, subst, arith, ◌&&◌, not, if◌then◌else◌, nat_lt, nat_eq, length, ServerNo, ClientNo, Tid, WorkId, Tickets, Cause, Requested, BrokenAt, LostAt, FullAt, Resource, client_eq, tid_eq, client_tells, tid_tells, Message, Note, Vote, Outstanding, Transaction, Stage, Ballot, Commitment, StableState, Change, DropFlag, RowOutcome, Sent, ClientTable, CoordinatorTable, transaction_at, with_stage, with_work, is_work, all_in, besides, drops, commits, prepares, aborted_to, committed_to, commit_row, abort_row, forget_row, begin_new, begin_again, closed, after_closing, changes_of_closing, seen_now, end_promised, end_stage, end_row, abort_stage, abort_request, told_stage, inquire_row, counted_vote, vote_stage, vote_row, done_stage, done_row, thanks_stage, thanks_row, coordinator_row, Machine, IsTrue, Opening, Has}
 use Rattle.jn_base.specs.declared.names.Resource.TheVariants as resources
-use Rattle.jn_base.specs.declared.names.Resource.{Resource}
-use Rattle.jn_base.specs.Names.{client_eq, tid_eq}
-use Rattle.jn_base.proofs.Tells.{client_tells, tid_tells}
-use Rattle.jn_msgs.specs.declared.message.Message.{Message}
 use Rattle.jn_msgs.specs.declared.message.Message.TheVariants as messages
-use Rattle.jn_msgs.specs.declared.message.Note.{Note}
-use Rattle.jn_msgs.specs.declared.message.Vote.{Vote}
 use Rattle.jn_msgs.specs.declared.message.Vote.TheVariants as votes
-use Rattle.jn_rows.specs.declared.client.Outstanding.{Outstanding}
-use Rattle.jn_rows.specs.declared.coordinator.Transaction.{Transaction}
-use Rattle.jn_rows.specs.declared.coordinator.Stage.{Stage}
 use Rattle.jn_rows.specs.declared.coordinator.Stage.TheVariants.{Open, Voting, Committed, Aborted}
-use Rattle.jn_rows.specs.declared.coordinator.Voting.{Voting as Ballot}
-use Rattle.jn_rows.specs.declared.coordinator.Committed.{Committed as Commitment}
-use Rattle.jn_rows.specs.Stable.{StableState, Change, DropFlag}
-use Rattle.jn_rows.specs.Outcomes.{RowOutcome, Sent}
-use Rattle.jn_rows.specs.Client.{ClientTable}
-use Rattle.jn_rows.specs.Coordinator.{CoordinatorTable, transaction_at, with_stage, without, with_work, is_work, all_in, besides, drops, commits, prepares, aborted_to, committed_to, commit_row, abort_row, forget_row, begin_new, begin_again, begun_by, is_begun, name_from, closed, after_closing, changes_of_closing, seen_now, end_promised, end_stage, end_row, abort_stage, abort_request, told_stage, inquire_row, counted_vote, vote_stage, vote_row, done_stage, done_row, thanks_stage, thanks_row, coordinator_row}
-use Rattle.jn_system.specs.SmallSteps.World.{World as Machine}
-use Rattle.jn_system_order.specs.Mirroring.Mirrors.{IsTrue}
-use Rattle.jn_system_order.proofs.Ordering.Openings.{Opening, Has}
+use Rattle.jn_rows.specs.Coordinator.{without, begun_by, is_begun, name_from}
 use Rattle.jn_system_reports.proofs.Reporting.Lists.{In, in-second, Each, each-append}
 use Rattle.jn_system_reports.proofs.Reporting.Past.{BeganBy, Past, StageFact, EntryFact}
 use Rattle.jn_system_reports.proofs.Reporting.PastRows.{IsThere, each-found, there-staged, there-less, there-more, begin-past}

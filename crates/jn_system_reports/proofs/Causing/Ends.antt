@@ -1,41 +1,12 @@
 -- The end of a run tells nothing that needs a cause or answers a client, as no client waits for anything.
-use Rattle.std.proofs.Common.{◌≡◌, ℕ, ◌+◌, Bool, true, false, List, [], ◌∷◌, ◌++◌, append-nil, length, Option, Some, None, refl, sym, ◌∙◌, subst, arith}
-use Rattle.std.specs.Prelude.{◌&&◌, if◌then◌else◌, map, slice_get}
-use Rattle.std.specs.List.{list_all}
-use Rattle.jn_base.specs.declared.names.ServerNo.{ServerNo}
-use Rattle.jn_base.specs.declared.names.ClientNo.{ClientNo}
-use Rattle.jn_base.specs.declared.names.Tid.{Tid}
-use Rattle.jn_base.specs.declared.names.WorkId.{WorkId}
-use Rattle.jn_base.specs.declared.names.Party.TheVariants.{Client, Server}
-use Rattle.jn_base.specs.Names.{client_eq}
-use Rattle.jn_order.specs.Files.{AllFiles}
-use Rattle.jn_msgs.specs.declared.message.Message.{Message}
+use Rattle.jn_system_reports.proofs.Common.{◌≡◌, ℕ, ◌+◌, Bool, true, false, List, [], ◌∷◌, ◌++◌, append-nil, length, Option, Some, None, refl, sym, ◌∙◌, subst, arith, ◌&&◌, if◌then◌else◌, map, slice_get, list_all, ServerNo, ClientNo, Tid, WorkId, Client, Server, client_eq, AllFiles, Message, Note, Outcome, Event, Line, Text, Outstanding, Taken, Pick, stable, RowOutcome, Sent, ClientTable, is_current, if_waits, decided_row, outcome_row, take_row, World, Memory, at_client, has_line, opening, servers_from, Room, server_row, server_step, line_of, lines_of, named_now, Step, NextEvent, Tell, Again, Deliver, Nudge, Timeout, StopDelivery, StopWork, Crash, Narrow, StopRestart, Restart, Dismiss, CloseClients, IsIdle, after, took, at_memory, handed, works, work, nudge, timeout, crash, narrow, restart, close_clients, history_of, is_answer, Caused, Caused-lines, needs_cause, NeedNoCause, CausedFrom-plain, Printed, FileThere, PageStored, UnitLocked, text_printed, Does, Item, events_of, told_by, lines_of_items, world_of, IsReported, Comeback, Ending, restarts_from, steps_at_end, settles, IsEnding, told_by_steps, texts_from, at_end, lines_to_end}
 use Rattle.jn_msgs.specs.declared.message.Message.TheVariants as messages
-use Rattle.jn_msgs.specs.declared.message.Note.{Note}
 use Rattle.jn_msgs.specs.declared.message.Note.TheVariants as notes
-use Rattle.jn_msgs.specs.declared.message.Outcome.{Outcome}
 use Rattle.jn_msgs.specs.declared.message.Outcome.TheVariants as outcomes
-use Rattle.jn_schedule.specs.declared.Event.{Event}
-use Rattle.jn_report.specs.declared.line.Line.{Line}
-use Rattle.jn_report.specs.declared.line.Text.{Text}
 use Rattle.jn_report.specs.declared.line.Text.TheVariants as says
-use Rattle.jn_rows.specs.declared.client.Outstanding.{Outstanding}
-use Rattle.jn_rows.specs.declared.client.Taken.{Taken}
 use Rattle.jn_rows.specs.declared.client.Taken.TheVariants as taken
-use Rattle.jn_rows.specs.Stable.{Pick, stable}
-use Rattle.jn_rows.specs.Outcomes.{RowOutcome, Sent}
-use Rattle.jn_rows.specs.Client.{ClientTable, is_current, if_waits, decided_row, outcome_row, take_row}
-use Rattle.jn_system.specs.WholeSystem.World.{World, Memory, at_client, has_line, opening, servers_from}
-use Rattle.jn_system.specs.WholeSystem.Servers.{Room, server_row, server_step, line_of, lines_of, named_now}
-use Rattle.jn_system.specs.WholeSystem.Steps.{Step, NextEvent, Tell, Again, Deliver, Work, Nudge, Timeout, StopDelivery, StopWork, Crash, Narrow, StopRestart, Restart, Dismiss, CloseClients, IsIdle, after, took, at_memory, handed, works, work, nudge, timeout, crash, narrow, restart, close_clients}
-use Rattle.jn_serial.specs.Lines.{history_of}
-use Rattle.jn_serial.specs.Follows.{is_answer}
-use Rattle.jn_serial.specs.Caused.{Caused}
-use Rattle.jn_serial.proofs.CausedGrowth.{Caused-lines, needs_cause, NeedNoCause, CausedFrom-plain}
-use Rattle.jn_system.specs.WholeSystem.Printing.{Printed, FileThere, PageStored, UnitLocked}
-use Rattle.jn_system_reports.specs.Reporting.Printing.{text_printed}
-use Rattle.jn_system_reports.specs.Reporting.Reported.{Does, Item, events_of, told_by, lines_of as lines_of_items, world_of, IsReported}
-use Rattle.jn_system_reports.specs.Reporting.Ending.{Comeback, Ending, restarts_from, steps_at_end, settles, IsEnding, told_by_steps, texts_from, at_end, counted, lines_to_end}
+use Rattle.jn_system.specs.WholeSystem.Steps.{Work}
+use Rattle.jn_system_reports.specs.Reporting.Ending.{counted}
 use Rattle.jn_system_reports.proofs.Reporting.Lists.{Each, each-append}
 use Rattle.jn_system_reports.proofs.Reporting.Hearing.{told-is}
 use Rattle.jn_system_reports.proofs.Reporting.Prints.{each-print}

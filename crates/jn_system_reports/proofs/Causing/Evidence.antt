@@ -1,29 +1,9 @@
 -- What stands before an abort: events with their numbers, and lines.
-use Rattle.std.proofs.Common.{◌≡◌, ◌⊎◌, inl, inr, ◌<◌, ◌≤◌, ℕ, suc, ◌+◌, Bool, true, false, List, [], ◌∷◌, ◌++◌, Some, append-nil, length, refl, ◌∙◌, ap, subst, arith}
-use Rattle.std.specs.Prelude.{◌||◌, ◌&&◌, not, if◌then◌else◌, nat_lt}
-use Rattle.std.specs.List.{list_any}
-use Rattle.std.proofs.lemmas.Bool.Decides.{nat_tests}
-use Rattle.jn_base.specs.declared.names.ServerNo.{ServerNo}
-use Rattle.jn_base.specs.declared.names.ClientNo.{ClientNo}
-use Rattle.jn_base.specs.declared.names.Tid.{Tid}
-use Rattle.jn_base.specs.declared.names.Cause.{Cause}
-use Rattle.jn_base.specs.declared.names.Cause.TheVariants.{Requested, Broken as BrokenAt, Lost as LostAt, Full as FullAt}
+use Rattle.jn_system_reports.proofs.Common.{◌≡◌, ◌⊎◌, inl, inr, ◌<◌, ◌≤◌, ℕ, suc, ◌+◌, Bool, true, false, List, [], ◌∷◌, ◌++◌, Some, append-nil, length, refl, ◌∙◌, ap, subst, arith, ◌||◌, ◌&&◌, not, if◌then◌else◌, nat_lt, list_any, nat_tests, ServerNo, ClientNo, Tid, Cause, Requested, BrokenAt, LostAt, FullAt, client_eq, server_eq, tid_eq, tid_tells, Event, AtEvent, Text, Line, lines_at, lines_before, says, last_begun, is_in, any_event, lines_after, aborts, asks, begins, joins, goes_down, loses, breaks, is_caused_by, refuses_own, AreWithin, lines_at-earlier, lines_at-outside, lines_before-later, lines_before-whole, lines_before-append, at_event}
 use Rattle.jn_base.specs.declared.op.Command.TheVariants as commands
-use Rattle.jn_base.specs.Names.{client_eq, server_eq, tid_eq}
-use Rattle.jn_base.proofs.Tells.{tid_tells}
-use Rattle.jn_schedule.specs.declared.Event.{Event}
 use Rattle.jn_schedule.specs.declared.Event.TheVariants as events
-use Rattle.jn_report.specs.declared.line.When.TheVariants.{Event as AtEvent}
-use Rattle.jn_report.specs.declared.line.Text.{Text}
-use Rattle.jn_report.specs.declared.line.Line.{Line}
-use Rattle.jn_serial.specs.Lines.{is_before, lines_at, lines_before, says}
-use Rattle.jn_serial.specs.Begun.{last_begun, is_tid, is_in}
-use Rattle.jn_serial.specs.Caused.{any_event, lines_after, aborts, asks, begins, joins, goes_down, loses, breaks, is_caused_by}
-use Rattle.jn_serial.specs.Follows.{refuses_own}
-use Rattle.jn_serial.proofs.Growth.{AreWithin, lines_at-earlier, lines_at-outside}
-use Rattle.jn_serial.proofs.CausedGrowth.{lines_before-later, lines_before-whole}
-use Rattle.jn_serial.proofs.Orders.{lines_before-append}
-use Rattle.jn_system_reports.specs.Reporting.Reported.{at_event}
+use Rattle.jn_serial.specs.Lines.{is_before}
+use Rattle.jn_serial.specs.Begun.{is_tid}
 use Rattle.jn_system_reports.proofs.Reporting.Following.{texts-within}
 
 -- ---- an event of this number, among these from a number on

@@ -1,36 +1,9 @@
 -- What each message and each client says of the events that gave it, and of a server that went down after them.
-use Rattle.std.proofs.Common.{◌≡◌, ◌≢◌, ◌⊎◌, inl, inr, ◌<◌, ◌≤◌, ℕ, ◌+◌, Bool, true, false, List, [], ◌∷◌, ◌++◌, length, Option, Some, None, refl, sym, ◌∙◌, ap, subst, arith}
-use Rattle.std.specs.Prelude.{All, ◌||◌}
-use Rattle.std.specs.List.{list_any}
-use Rattle.jn_base.specs.declared.names.ServerNo.{ServerNo}
-use Rattle.jn_base.specs.declared.names.ClientNo.{ClientNo}
-use Rattle.jn_base.specs.declared.names.Tid.{Tid}
-use Rattle.jn_base.specs.declared.names.WorkId.{WorkId}
-use Rattle.jn_base.specs.declared.names.Cause.{Cause}
-use Rattle.jn_base.specs.declared.names.Party.{Party}
-use Rattle.jn_base.specs.declared.names.Party.TheVariants.{Server}
+use Rattle.jn_system_reports.proofs.Common.{◌≡◌, ◌≢◌, ◌⊎◌, inl, inr, ◌<◌, ◌≤◌, ℕ, ◌+◌, Bool, true, false, List, [], ◌∷◌, ◌++◌, length, Option, Some, None, refl, sym, ◌∙◌, ap, subst, arith, All, ◌||◌, list_any, ServerNo, ClientNo, Tid, WorkId, Cause, Party, Server, Event, Text, Line, Outstanding, Sent, is_work, ClientTable, names_of, Machine, IsWorkOf, Memory, IsTrue, all-have-theirs, Opening, opening_in, openings, openings-more, Has, has-first, Began, says, begun_then, last_begun, goes_down, begun_then-append, at_event}
 use Rattle.jn_base.specs.declared.op.Command.TheVariants as commands
 use Rattle.jn_msgs.specs.declared.message.Message.TheVariants as messages
-use Rattle.jn_schedule.specs.declared.Event.{Event}
 use Rattle.jn_schedule.specs.declared.Event.TheVariants as events
-use Rattle.jn_report.specs.declared.line.Text.{Text}
-use Rattle.jn_report.specs.declared.line.Line.{Line}
-use Rattle.jn_rows.specs.declared.client.Outstanding.{Outstanding}
-use Rattle.jn_rows.specs.Outcomes.{Sent}
-use Rattle.jn_rows.specs.Coordinator.{is_work}
-use Rattle.jn_rows.specs.Client.{ClientTable, names_of}
-use Rattle.jn_system.specs.SmallSteps.World.{World as Machine}
-use Rattle.jn_system.specs.SmallSteps.Messages.{IsWorkOf}
-use Rattle.jn_system.specs.WholeSystem.World.{Memory}
-use Rattle.jn_system_order.specs.Mirroring.Mirrors.{IsTrue}
-use Rattle.jn_system_order.proofs.Ordering.ClientFacts.{all-have-theirs}
-use Rattle.jn_system_order.proofs.Ordering.Openings.{Opening, opening_in, openings, openings-more, Has, has-first}
-use Rattle.jn_system_order.proofs.Ordering.Facts.{opening, Began}
-use Rattle.jn_serial.specs.Lines.{says}
-use Rattle.jn_serial.specs.Begun.{begun_then, last_begun}
-use Rattle.jn_serial.specs.Caused.{goes_down}
-use Rattle.jn_serial.proofs.CausedGrowth.{begun_then-append}
-use Rattle.jn_system_reports.specs.Reporting.Reported.{at_event}
+use Rattle.jn_system_order.proofs.Ordering.Facts.{opening}
 use Rattle.jn_system_reports.proofs.Reporting.Following.{texts-within}
 use Rattle.jn_system_reports.proofs.Reporting.Lists.{In, in-first, Each, each-in, each-of, each-append}
 use Rattle.jn_system_reports.proofs.Reporting.Known.{IsPast}

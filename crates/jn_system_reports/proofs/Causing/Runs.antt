@@ -1,40 +1,6 @@
 -- What holds after any steps, with the events that they stand under.
-use Rattle.std.proofs.Common.{◌≡◌, inr, ℕ, ◌+◌, true, List, [], ◌++◌, append-nil, length, Some, is_some, sym, ◌∙◌, ap, subst}
-use Rattle.std.specs.List.{list_any}
-use Rattle.jn_base.specs.declared.names.ServerNo.{ServerNo}
-use Rattle.jn_base.specs.declared.names.ClientNo.{ClientNo}
-use Rattle.jn_base.specs.declared.names.Tid.{Tid}
-use Rattle.jn_base.specs.declared.names.WorkId.{WorkId}
-use Rattle.jn_base.specs.declared.op.Command.{Command}
-use Rattle.jn_base.specs.Names.{tid_eq}
-use Rattle.jn_order.specs.Files.{AllFiles}
+use Rattle.jn_system_reports.proofs.Common.{◌≡◌, inr, ℕ, ◌+◌, true, List, [], ◌++◌, append-nil, length, Some, is_some, sym, ◌∙◌, ap, subst, list_any, ServerNo, ClientNo, Tid, WorkId, Command, tid_eq, AllFiles, Event, Text, Line, Pick, Sent, Machine, Invariant, Atom, run_atoms, opening_world, MayRun, run_told, opening_told, Grows, run_grows, run_kept, opening_kept, some_of, World, has_line, Step, Tell, IsStep, after, LockFacts, locks-keep, Mirrors, IsTrue, still-says, run-append, may-append, committed-any, openings, Facts, Next, step-next, Does, told_by, at_event}
 use Rattle.jn_msgs.specs.declared.message.Message.TheVariants as messages
-use Rattle.jn_schedule.specs.declared.Event.{Event}
-use Rattle.jn_report.specs.declared.line.Text.{Text}
-use Rattle.jn_report.specs.declared.line.Line.{Line}
-use Rattle.jn_rows.specs.Stable.{Pick}
-use Rattle.jn_rows.specs.Outcomes.{Sent}
-use Rattle.jn_system.specs.SmallSteps.World.{World as Machine}
-use Rattle.jn_system.specs.SmallSteps.Invariant.{Invariant}
-use Rattle.jn_system.specs.SmallSteps.Steps.{Atom, run as run_atoms, opening_world}
-use Rattle.jn_system.specs.SmallSteps.Premises.{MayRun}
-use Rattle.jn_system.proofs.SmallSteps.History.{run_told, opening_told}
-use Rattle.jn_system.proofs.SmallSteps.MessageLemmas.{Grows, run_grows}
-use Rattle.jn_system.proofs.SmallSteps.Runs.{run_kept, opening_kept}
-use Rattle.jn_system.proofs.SmallSteps.Updates.{some_of}
-use Rattle.jn_system.specs.WholeSystem.World.{World, has_line}
-use Rattle.jn_system.specs.WholeSystem.Steps.{Step, Tell, IsStep, after}
-use Rattle.jn_system.specs.WholeSystem.LockFacts.{LockFacts}
-use Rattle.jn_system.proofs.WholeSystem.Steps.{locks-keep}
-use Rattle.jn_system_order.specs.Mirroring.Mirrors.{Mirrors, IsTrue}
-use Rattle.jn_system_order.proofs.Mirroring.Closing.{still-says}
-use Rattle.jn_system_order.proofs.Mirroring.Losing.{run-append, may-append}
-use Rattle.jn_system_order.proofs.Mirroring.StepMoves.{committed-any}
-use Rattle.jn_system_order.proofs.Ordering.Openings.{openings}
-use Rattle.jn_system_order.proofs.Ordering.Facts.{Facts}
-use Rattle.jn_system_order.proofs.Ordering.ClientSteps.{Next}
-use Rattle.jn_system_order.proofs.Ordering.Runs.{step-next}
-use Rattle.jn_system_reports.specs.Reporting.Reported.{Does, told_by, at_event}
 use Rattle.jn_system_reports.proofs.Reporting.Lists.{Each}
 use Rattle.jn_system_reports.proofs.Reporting.Hearing.{told-is}
 use Rattle.jn_system_reports.proofs.Reporting.PastSteps.{PastFacts}

@@ -1,60 +1,11 @@
 -- A server's step: what it has it has after it, or went down, or knows the outcome of.
-use Rattle.std.proofs.Common.{◌≡◌, ◌≢◌, ◌⊎◌, inl, inr, ℕ, ◌+◌, Bool, true, false, List, [], ◌∷◌, ◌++◌, append-nil, Option, Some, None, is_some, refl, sym, ◌∙◌, ap, subst, arith}
-use Rattle.std.specs.Prelude.{if◌then◌else◌, nat_lt}
-use Rattle.std.specs.List.{list_any}
-use Rattle.jn_base.specs.declared.names.ServerNo.{ServerNo}
-use Rattle.jn_base.specs.declared.names.ClientNo.{ClientNo}
-use Rattle.jn_base.specs.declared.names.LockUnit.{LockUnit}
-use Rattle.jn_base.specs.declared.names.Tid.{Tid}
-use Rattle.jn_base.specs.declared.names.WorkId.{WorkId}
-use Rattle.jn_base.specs.declared.names.Cause.{Cause}
-use Rattle.jn_base.specs.declared.names.Cause.TheVariants.{Lost as LostAt, Full as FullAt}
-use Rattle.jn_base.specs.declared.names.Party.TheVariants.{Server}
-use Rattle.jn_base.specs.declared.names.Resource.{Resource}
-use Rattle.jn_base.specs.Names.{server_eq, client_eq}
-use Rattle.jn_base.proofs.Tells.{server_tells, client_tells}
-use Rattle.jn_msgs.specs.declared.message.Message.{Message}
+use Rattle.jn_system_reports.proofs.Common.{◌≡◌, ◌≢◌, ◌⊎◌, inl, inr, ℕ, ◌+◌, Bool, true, false, List, [], ◌∷◌, ◌++◌, append-nil, Option, Some, None, is_some, refl, sym, ◌∙◌, ap, subst, arith, if◌then◌else◌, nat_lt, list_any, ServerNo, ClientNo, LockUnit, Tid, WorkId, Cause, LostAt, FullAt, Server, Resource, server_eq, client_eq, server_tells, client_tells, Message, Note, Event, Text, Line, Work, Phase, Broken, Transaction, Stage, Commitment, Outstanding, Pick, Prepared, StableState, stable, is_going, RowOutcome, Sent, WorkerTable, work_at, worker_row, worker_step, worker_again, timeout_row, CoordinatorTable, transaction_at, coordinator_row, coordinator_again, commits, besides, told_again, committed_to, close_clients_row, found-name, Machine, Unknown, Invariant, Knows, Atom, run_atoms, MayRun, Says, not_both, some_of, World, Memory, at_server, has_line, Room, storage_of, of_worker, of_coordinator, of_step, server_row, server_again, of_timeout, restored, line_of, lines_of, named_now, done, ends, at_memory, works, work, nudge, timeout, crash, narrow, stop_restart, restart, close_clients, IsIdle, LockFacts, UpFact, ServerFact, Mirrors, AreTransactions, IsTrue, IsAddressed, knowledge_of, knowledge_in, IsStage, same-server, still-says, knows, stage-is, stage-known, openings, Facts, begun_then, goes_down, breaks, says, at_event}
 use Rattle.jn_msgs.specs.declared.message.Message.TheVariants as messages
-use Rattle.jn_msgs.specs.declared.message.Note.{Note}
 use Rattle.jn_msgs.specs.declared.message.Note.TheVariants as notes
 use Rattle.jn_msgs.specs.declared.message.Vote.TheVariants as votes
-use Rattle.jn_schedule.specs.declared.Event.{Event}
-use Rattle.jn_report.specs.declared.line.Text.{Text}
 use Rattle.jn_report.specs.declared.line.Text.TheVariants as texts
-use Rattle.jn_report.specs.declared.line.Line.{Line}
-use Rattle.jn_rows.specs.declared.worker.Work.{Work}
-use Rattle.jn_rows.specs.declared.worker.Phase.{Phase}
-use Rattle.jn_rows.specs.declared.worker.Phase.TheVariants.{Broken}
-use Rattle.jn_rows.specs.declared.coordinator.Transaction.{Transaction}
-use Rattle.jn_rows.specs.declared.coordinator.Stage.{Stage}
 use Rattle.jn_rows.specs.declared.coordinator.Stage.TheVariants.{Open, Voting, Committed, Aborted}
-use Rattle.jn_rows.specs.declared.coordinator.Committed.{Committed as Commitment}
-use Rattle.jn_rows.specs.declared.client.Outstanding.{Outstanding}
-use Rattle.jn_rows.specs.Stable.{Pick, Prepared, StableState, stable, is_going}
-use Rattle.jn_rows.specs.Outcomes.{RowOutcome, Sent}
-use Rattle.jn_rows.specs.Worker.{WorkerTable, work_at, worker_row, worker_step, worker_again, timeout_row}
-use Rattle.jn_rows.specs.Coordinator.{CoordinatorTable, transaction_at, coordinator_row, coordinator_again, commits, besides, told_again, committed_to, close_clients_row}
-use Rattle.jn_lock_rows.proofs.Works.{found-name}
-use Rattle.jn_system.specs.SmallSteps.World.{World as Machine, Unknown}
-use Rattle.jn_system.specs.SmallSteps.Invariant.{Invariant}
-use Rattle.jn_system.specs.SmallSteps.Transactions.{Knows}
-use Rattle.jn_system.specs.SmallSteps.Steps.{Atom, run as run_atoms}
-use Rattle.jn_system.specs.SmallSteps.Premises.{MayRun}
-use Rattle.jn_system.specs.SmallSteps.Messages.{Says}
-use Rattle.jn_system.proofs.SmallSteps.Updates.{not_both, some_of}
-use Rattle.jn_system.specs.WholeSystem.World.{World, Memory, at_server, has_line}
-use Rattle.jn_system.specs.WholeSystem.Servers.{Room, storage_of, of_worker, of_coordinator, of_step, server_row, server_again, of_timeout, restored, line_of, lines_of, named_now}
-use Rattle.jn_system.specs.WholeSystem.Steps.{done, ends, at_memory, works, work, nudge, timeout, crash, narrow, stop_restart, restart, close_clients, IsIdle}
-use Rattle.jn_system.specs.WholeSystem.LockFacts.{LockFacts, UpFact, ServerFact}
-use Rattle.jn_system_order.specs.Mirroring.Mirrors.{Mirrors, AreTransactions, IsTrue, IsAddressed, knowledge_of, knowledge_in, IsStage}
-use Rattle.jn_system_order.proofs.Mirroring.Closing.{same-server, still-says}
-use Rattle.jn_system_order.proofs.Mirroring.StageMoves.{knows, stage-is, stage-known}
-use Rattle.jn_system_order.proofs.Ordering.Openings.{openings}
-use Rattle.jn_system_order.proofs.Ordering.Facts.{opening, Facts}
-use Rattle.jn_serial.specs.Begun.{begun_then}
-use Rattle.jn_serial.specs.Caused.{goes_down, breaks}
-use Rattle.jn_serial.specs.Lines.{says}
-use Rattle.jn_system_reports.specs.Reporting.Reported.{at_event}
+use Rattle.jn_system_order.proofs.Ordering.Facts.{opening}
 use Rattle.jn_system_reports.proofs.Reporting.Lists.{In, in-second, Each, each-in, each-append, each-more}
 use Rattle.jn_system_reports.proofs.Reporting.Known.{IsPast}
 use Rattle.jn_system_reports.proofs.Reporting.Past.{VoteFact, SaysPast, EntryFact}

@@ -1,51 +1,10 @@
 -- After any steps, with the events that they stand under: each abort that is told has its cause.
-use Rattle.std.proofs.Common.{◌≡◌, ◌≢◌, ◌⊎◌, inl, inr, ℕ, ◌+◌, Bool, true, false, List, [], ◌∷◌, ◌++◌, append-nil, length, Option, Some, None, is_some, refl, sym, ◌∙◌, ap, subst, arith}
-use Rattle.std.specs.Prelude.{◌&&◌, slice_get, nat_lt}
-use Rattle.std.specs.List.{list_any}
-use Rattle.jn_base.specs.declared.names.ServerNo.{ServerNo}
-use Rattle.jn_base.specs.declared.names.ClientNo.{ClientNo}
-use Rattle.jn_base.specs.declared.names.Tid.{Tid}
-use Rattle.jn_base.specs.declared.names.WorkId.{WorkId}
-use Rattle.jn_base.specs.declared.names.Cause.{Cause}
-use Rattle.jn_base.specs.declared.names.Cause.TheVariants.{Requested, Lost as LostAt, Full as FullAt}
-use Rattle.jn_base.specs.declared.names.Party.TheVariants.{Client, Server}
-use Rattle.jn_base.specs.declared.op.Command.{Command}
-use Rattle.jn_base.specs.declared.op.Command.TheVariants.{Abort}
-use Rattle.jn_base.specs.declared.names.Resource.{Resource}
-use Rattle.jn_base.specs.Names.{client_eq, tid_eq}
-use Rattle.jn_base.proofs.Tells.{client_tells, tid_tells}
-use Rattle.jn_msgs.specs.declared.message.Message.{Message}
+use Rattle.jn_system_reports.proofs.Common.{◌≡◌, ◌≢◌, ◌⊎◌, inl, inr, ℕ, ◌+◌, Bool, true, false, List, [], ◌∷◌, ◌++◌, append-nil, length, Option, Some, None, is_some, refl, sym, ◌∙◌, ap, subst, arith, ◌&&◌, slice_get, nat_lt, list_any, ServerNo, ClientNo, Tid, WorkId, Cause, Requested, LostAt, FullAt, Client, Server, Command, Abort, Resource, client_eq, tid_eq, client_tells, tid_tells, Message, Event, Text, Line, Outstanding, Taken, Pick, stable, Sent, worker_row, transaction_at, coordinator_row, ClientTable, Commanded, Refuses, Sends, command_row, take_row, sent_again, Machine, Invariant, Grows, not_both, World, Memory, has_line, Room, storage_of, Step, NextEvent, Tell, Again, Deliver, Nudge, Timeout, StopDelivery, StopWork, Crash, Narrow, StopRestart, Restart, Dismiss, CloseClients, IsStep, after, commanded, sent_now, took, handed, LockFacts, UpFact, ServerFact, Mirrors, AreOpen, IsCurrent, IsTrue, IsAddressed, holds-of, Opening, opening_in, openings, openings-more, Has, has-first, began_by, Began, Facts, all-have-theirs, EndsNow, is_in, AreWithin, at_event}
 use Rattle.jn_msgs.specs.declared.message.Message.TheVariants as messages
-use Rattle.jn_schedule.specs.declared.Event.{Event}
 use Rattle.jn_schedule.specs.declared.Event.TheVariants as events
-use Rattle.jn_report.specs.declared.line.Text.{Text}
 use Rattle.jn_report.specs.declared.line.Text.TheVariants as texts
-use Rattle.jn_report.specs.declared.line.Line.{Line}
-use Rattle.jn_rows.specs.declared.client.Outstanding.{Outstanding}
-use Rattle.jn_rows.specs.declared.client.Taken.{Taken}
 use Rattle.jn_rows.specs.declared.client.Taken.TheVariants as taken
-use Rattle.jn_rows.specs.Stable.{Pick, stable}
-use Rattle.jn_rows.specs.Outcomes.{Sent}
-use Rattle.jn_rows.specs.Worker.{worker_row}
-use Rattle.jn_rows.specs.Coordinator.{transaction_at, coordinator_row}
-use Rattle.jn_rows.specs.Client.{ClientTable, Commanded, Refuses, Sends, command_row, take_row, sent_again}
-use Rattle.jn_system.specs.SmallSteps.World.{World as Machine}
-use Rattle.jn_system.specs.SmallSteps.Invariant.{Invariant}
-use Rattle.jn_system.proofs.SmallSteps.MessageLemmas.{Grows}
-use Rattle.jn_system.proofs.SmallSteps.Updates.{not_both}
-use Rattle.jn_system.specs.WholeSystem.World.{World, Memory, has_line}
-use Rattle.jn_system.specs.WholeSystem.Servers.{Room, storage_of}
-use Rattle.jn_system.specs.WholeSystem.Steps.{Step, NextEvent, Tell, Again, Deliver, Work, Nudge, Timeout, StopDelivery, StopWork, Crash, Narrow, StopRestart, Restart, Dismiss, CloseClients, IsStep, after, commanded, sent_now, took, handed}
-use Rattle.jn_system.specs.WholeSystem.LockFacts.{LockFacts, UpFact, ServerFact}
-use Rattle.jn_system_order.specs.Mirroring.Mirrors.{Mirrors, AreOpen, IsCurrent, IsTrue, IsAddressed}
-use Rattle.jn_system_order.proofs.Mirroring.StepMoves.{holds-of}
-use Rattle.jn_system_order.proofs.Ordering.Openings.{Opening, opening_in, openings, openings-more, Has, has-first}
-use Rattle.jn_system_order.proofs.Ordering.Facts.{opening as began_by, Began, Facts}
-use Rattle.jn_system_order.proofs.Ordering.ClientFacts.{all-have-theirs}
-use Rattle.jn_system_order.proofs.Ordering.ClientSteps.{EndsNow}
-use Rattle.jn_serial.specs.Begun.{is_in}
-use Rattle.jn_serial.proofs.Growth.{AreWithin}
-use Rattle.jn_system_reports.specs.Reporting.Reported.{at_event}
+use Rattle.jn_system.specs.WholeSystem.Steps.{Work}
 use Rattle.jn_system_reports.proofs.Reporting.Lists.{In, Each, each-in, get-in}
 use Rattle.jn_system_reports.proofs.Reporting.ClientTalk.{TableGoes, CommandTalks, command-talks, take-talks}
 use Rattle.jn_system_reports.proofs.Reporting.Talk.{Talk}

@@ -1,48 +1,12 @@
 -- A worker's row: broken works have their lines, what it had it has, and its votes have causes.
-use Rattle.std.proofs.Common.{◌≡◌, ◌≢◌, ◌⊎◌, inl, inr, ℕ, ◌+◌, Bool, true, false, List, [], ◌∷◌, ◌++◌, Option, Some, None, is_some, refl, sym, ◌∙◌, ap, subst, arith}
-use Rattle.std.specs.Prelude.{if◌then◌else◌, nat_eq, nat_lt, length, slice_get}
-use Rattle.std.specs.List.{list_any}
-use Rattle.jn_base.specs.declared.names.ServerNo.{ServerNo}
-use Rattle.jn_base.specs.declared.names.ClientNo.{ClientNo}
-use Rattle.jn_base.specs.declared.names.LockUnit.{LockUnit}
-use Rattle.jn_base.specs.declared.names.Tid.{Tid}
-use Rattle.jn_base.specs.declared.names.WorkId.{WorkId}
-use Rattle.jn_base.specs.declared.names.Tickets.{Tickets}
-use Rattle.jn_base.specs.declared.names.Cause.{Cause}
-use Rattle.jn_base.specs.declared.names.Cause.TheVariants.{Full as FullAt}
-use Rattle.jn_base.specs.declared.op.Op.{Op}
-use Rattle.jn_base.specs.declared.op.Answer.{Answer}
+use Rattle.jn_system_reports.proofs.Common.{◌≡◌, ◌≢◌, ◌⊎◌, inl, inr, ℕ, ◌+◌, Bool, true, false, List, [], ◌∷◌, ◌++◌, Option, Some, None, is_some, refl, sym, ◌∙◌, ap, subst, arith, if◌then◌else◌, nat_eq, nat_lt, length, slice_get, list_any, ServerNo, ClientNo, LockUnit, Tid, WorkId, Tickets, Cause, FullAt, Op, Answer, Resource, work_eq, server_tells, tid_tells, work_tells, Files, change, answer_to, Intention, list_change, Message, Note, Vote, Text, Work, Phase, Active, Broken, Stored, ActiveWork, Change, Prepared, is_going, StableState, RowOutcome, Sent, WorkerTable, WorkStorage, Wanted, Held, work_at, work_of, with_phase, without, after_grant, breaks_at, broken_by, note_of, break_notes, name_from, new_work, open_row, wants_of, is_fit, refusal_of, granted_row, repeated, op_phase, op_row, conflict, commit_wants, shortage, vote_of, need_in, prepared_row, prepare_phase, prepare_row, commit_phase, drop_phase, drop_row, worker_row, going_work, going_row, carried_row, intentions_of, worker_step, vulnerable, timed_out, timeout_row, restored_work, restored_worker, ClientTable, are_rising, work_same, at-less, at-phase, in_phase, at-grant, once_granted, of-found, Machine, line_of, lines_of, Opening, unit_eq, breaks}
 use Rattle.jn_base.specs.declared.names.Resource.TheVariants as resources
-use Rattle.jn_base.specs.declared.names.Resource.{Resource}
-use Rattle.jn_base.specs.Names.{work_eq}
-use Rattle.jn_base.proofs.Tells.{server_tells, tid_tells, work_tells}
-use Rattle.jn_order.specs.Files.{Files, change, answer_to}
-use Rattle.jn_records.specs.declared.intention.Intention.{Intention}
 use Rattle.jn_records.specs.declared.net_list.Need.{Need}
-use Rattle.jn_records.specs.NetLists.{list_change}
-use Rattle.jn_msgs.specs.declared.message.Message.{Message}
 use Rattle.jn_msgs.specs.declared.message.Message.TheVariants as messages
-use Rattle.jn_msgs.specs.declared.message.Note.{Note}
 use Rattle.jn_msgs.specs.declared.message.Note.TheVariants as notes
-use Rattle.jn_msgs.specs.declared.message.Vote.{Vote}
 use Rattle.jn_msgs.specs.declared.message.Vote.TheVariants as votes
-use Rattle.jn_report.specs.declared.line.Text.{Text}
 use Rattle.jn_report.specs.declared.line.Text.TheVariants as says
-use Rattle.jn_rows.specs.declared.worker.Work.{Work}
-use Rattle.jn_rows.specs.declared.worker.Phase.{Phase}
-use Rattle.jn_rows.specs.declared.worker.Phase.TheVariants.{Active, Broken, Prepared as Stored}
-use Rattle.jn_rows.specs.declared.worker.ActiveWork.{ActiveWork}
-use Rattle.jn_rows.specs.Stable.{Change, Prepared, is_going, StableState}
-use Rattle.jn_rows.specs.Outcomes.{RowOutcome, Sent}
-use Rattle.jn_rows.specs.Worker.{WorkerTable, WorkStorage, Wanted, Held, work_at, work_of, with_phase, without, after_grant, breaks_at, broken_by, note_of, break_notes, name_from, new_work, open_row, wants_of, is_fit, refusal_of, granted_row, repeated, op_phase, op_row, conflict, commit_wants, shortage, vote_of, need_in, prepared_row, prepare_phase, prepare_row, commit_phase, commit_row, drop_phase, drop_row, worker_row, going_work, going_row, carried_row, intentions_of, worker_step, vulnerable, timed_out, timeout_row, restored_work, restored_worker}
-use Rattle.jn_rows.specs.Client.{ClientTable}
-use Rattle.jn_lock_rows.specs.Matching.{are_rising}
-use Rattle.jn_lock_rows.proofs.Works.{work_same, at-less, at-phase, in_phase, at-grant, once_granted}
-use Rattle.jn_system.proofs.WholeSystem.Tables.{of-found}
-use Rattle.jn_system.specs.SmallSteps.World.{World as Machine}
-use Rattle.jn_system.specs.WholeSystem.Servers.{line_of, lines_of}
-use Rattle.jn_system_order.proofs.Ordering.Openings.{Opening}
-use Rattle.jn_serial.specs.Caused.{unit_eq, breaks}
+use Rattle.jn_rows.specs.Worker.{commit_row}
 use Rattle.jn_system_reports.proofs.Reporting.Lists.{In, in-second, Each, each-append, each-more}
 use Rattle.jn_system_reports.proofs.Reporting.WorkerTalk.{each-phase, each-less}
 use Rattle.jn_system_reports.proofs.Reporting.Past.{VoteFact, SaysPast}

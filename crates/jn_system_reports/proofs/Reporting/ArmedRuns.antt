@@ -1,26 +1,10 @@
 -- Each stop and each refused fault of a run's lines has an arm, or a decay of its event.
-use Rattle.std.proofs.Common.{◌≡◌, ◌≢◌, ◌⊎◌, inl, inr, ◌≤◌, ℕ, suc, ◌+◌, Bool, true, false, List, [], ◌∷◌, ◌++◌, append-nil, append_assoc, length, refl, sym, ◌∙◌, ap, subst, arith}
-use Rattle.std.specs.Prelude.{◌&&◌, ◌||◌, not, if◌then◌else◌, nat_lt}
-use Rattle.std.specs.List.{list_any, list_all}
-use Rattle.std.proofs.lemmas.Bool.Decides.{nat_tests}
-use Rattle.jn_base.specs.declared.names.ServerNo.{ServerNo}
+use Rattle.jn_system_reports.proofs.Common.{◌≡◌, ◌≢◌, ◌⊎◌, inl, inr, ◌≤◌, ℕ, suc, ◌+◌, Bool, true, false, List, [], ◌∷◌, ◌++◌, append-nil, append_assoc, length, refl, sym, ◌∙◌, ap, subst, arith, ◌&&◌, ◌||◌, not, if◌then◌else◌, nat_lt, list_any, list_all, nat_tests, ServerNo, server_eq, server_tells, AllFiles, Event, AtEvent, Text, Line, lines_at, says, count_lines, count_events, is_stop, refuses_event, stops, arms_stop, refuses_fault, gives_fault, AreWithin, lines_at-newest, AreWithin-append, AreWithin-wider, World, opening, Step, NextEvent, Tell, Again, Deliver, Nudge, Timeout, StopDelivery, StopWork, Crash, Narrow, StopRestart, Restart, Dismiss, CloseClients, after, IsRun, Act, Does, Tells, Shows, Item, events_of, steps_in, steps_of, told_in, told_under, after_item, at_event, may_do, may_act, IsUnder, AreUnder, Waiting, none_wait, one_more, armed, with_event, strike_all, AreStruck, FaultsWait, IsReported, ArmedFrom, AreArmed}
 use Rattle.jn_base.specs.declared.device.FaultKind.{FaultKind}
-use Rattle.jn_base.specs.Names.{server_eq}
-use Rattle.jn_base.proofs.Tells.{server_tells}
-use Rattle.jn_order.specs.Files.{AllFiles}
-use Rattle.jn_schedule.specs.declared.Event.{Event}
 use Rattle.jn_schedule.specs.declared.Event.TheVariants as events
-use Rattle.jn_report.specs.declared.line.When.TheVariants.{Event as AtEvent}
-use Rattle.jn_report.specs.declared.line.Text.{Text}
 use Rattle.jn_report.specs.declared.line.Text.TheVariants as says
-use Rattle.jn_report.specs.declared.line.Line.{Line}
-use Rattle.jn_serial.specs.Lines.{lines_at, says, count_lines}
-use Rattle.jn_serial.specs.Caused.{count_events, is_stop, refuses_event, stops, arms_stop, refuses_fault, gives_fault}
-use Rattle.jn_serial.proofs.Growth.{AreWithin, lines_at-newest, AreWithin-append, AreWithin-wider}
-use Rattle.jn_system.specs.WholeSystem.World.{World, opening}
-use Rattle.jn_system.specs.WholeSystem.Steps.{Step, NextEvent, Tell, Again, Deliver, Work, Nudge, Timeout, StopDelivery, StopWork, Crash, Narrow, StopRestart, Restart, Dismiss, CloseClients, after, IsRun}
-use Rattle.jn_system_reports.specs.Reporting.Reported.{Act, Does, Refuses, Tells, Shows, Item, events_of, steps_in, steps_of, told_in, told_under, after_item, at_event, lines_of, may_do, may_act, IsUnder, AreUnder, Waiting, none_wait, one_more, armed, with_event, strike_all, AreStruck, FaultsWait, IsReported}
-use Rattle.jn_system_reports.specs.Reporting.Armed.{ArmedFrom, AreArmed}
+use Rattle.jn_system.specs.WholeSystem.Steps.{Work}
+use Rattle.jn_system_reports.specs.Reporting.Reported.{Refuses, lines_of}
 use Rattle.jn_system_reports.proofs.Reporting.Lists.{Each}
 use Rattle.jn_system_reports.proofs.Reporting.Reached.{Reached, next-reached, opening-reached}
 use Rattle.jn_system_reports.proofs.Reporting.Fitting.{asked_of}

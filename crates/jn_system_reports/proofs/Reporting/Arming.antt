@@ -1,23 +1,7 @@
 -- Each stop and each refused fault of a run has an arm, or a decay of its event.
-use Rattle.std.proofs.Common.{◌≡◌, ◌≢◌, ◌⊎◌, inl, inr, ◌<◌, ◌≤◌, ℕ, suc, ◌+◌, ◌-◌, Bool, true, false, List, [], ◌∷◌, ◌++◌, append-nil, append_assoc, length, refl, sym, ◌∙◌, ap, subst, arith}
-use Rattle.std.specs.Prelude.{◌&&◌, not, if◌then◌else◌, nat_le, nat_lt}
-use Rattle.std.specs.List.{fold}
-use Rattle.std.proofs.lemmas.Bool.Decides.{nat_tests}
-use Rattle.jn_base.specs.declared.names.ServerNo.{ServerNo}
-use Rattle.jn_base.specs.Names.{server_eq}
-use Rattle.jn_base.proofs.Tells.{server_tells}
-use Rattle.jn_schedule.specs.declared.Event.{Event}
+use Rattle.jn_system_reports.proofs.Common.{◌≡◌, ◌≢◌, ◌⊎◌, inl, inr, ◌<◌, ◌≤◌, ℕ, suc, ◌+◌, ◌-◌, Bool, true, false, List, [], ◌∷◌, ◌++◌, append-nil, append_assoc, length, refl, sym, ◌∙◌, ap, subst, arith, ◌&&◌, not, if◌then◌else◌, nat_le, nat_lt, fold, nat_tests, ServerNo, server_eq, server_tells, Event, When, AtEvent, Text, Line, lines_at, says, count_lines, count_events, is_stop, refuses_event, is_accepted, stops, arms_stop, refuses_fault, gives_fault, is_caused, AreWithin, lines_at-earlier, at_event, Waiting, strikes, strike_all, IsStruck, AreStruck, is_fault, ArmedFrom}
 use Rattle.jn_schedule.specs.declared.Event.TheVariants as events
-use Rattle.jn_report.specs.declared.line.When.{When}
-use Rattle.jn_report.specs.declared.line.When.TheVariants.{Event as AtEvent}
-use Rattle.jn_report.specs.declared.line.Text.{Text}
 use Rattle.jn_report.specs.declared.line.Text.TheVariants as says
-use Rattle.jn_report.specs.declared.line.Line.{Line}
-use Rattle.jn_serial.specs.Lines.{lines_at, says, count_lines}
-use Rattle.jn_serial.specs.Caused.{count_events, is_stop, refuses_event, is_accepted, stops, arms_stop, refuses_fault, gives_fault, is_caused}
-use Rattle.jn_serial.proofs.Growth.{AreWithin, lines_at-earlier}
-use Rattle.jn_system_reports.specs.Reporting.Reported.{at_event, Waiting, strikes, strike_all, IsStruck, AreStruck}
-use Rattle.jn_system_reports.specs.Reporting.Armed.{is_fault, ArmedFrom}
 
 abbrev pub bit : Bool → ℕ
 bit b = if b then 1 else 0

@@ -1,34 +1,12 @@
 -- What each step tells a client answers the command that it waits for.
-use Rattle.std.proofs.Common.{◌≡◌, ℕ, Bool, true, false, List, [], ◌∷◌, ◌++◌, Option, Some, None, refl, sym, ◌∙◌, ap, subst, arith}
-use Rattle.std.specs.Prelude.{◌&&◌, if◌then◌else◌, nat_eq}
-use Rattle.jn_base.specs.declared.names.ServerNo.{ServerNo}
-use Rattle.jn_base.specs.declared.names.ClientNo.{ClientNo}
-use Rattle.jn_base.specs.declared.names.Tid.{Tid}
-use Rattle.jn_base.specs.declared.names.WorkId.{WorkId}
-use Rattle.jn_base.specs.declared.op.Op.{Op}
-use Rattle.jn_base.specs.declared.op.Answer.{Answer}
+use Rattle.jn_system_reports.proofs.Common.{◌≡◌, ℕ, Bool, true, false, List, [], ◌∷◌, ◌++◌, Option, Some, None, refl, sym, ◌∙◌, ap, subst, arith, ◌&&◌, if◌then◌else◌, nat_eq, ServerNo, ClientNo, Tid, WorkId, Op, Answer, Command, Begin, Open, Do, End, Abort, client_eq, Message, Note, Outcome, Text, Outstanding, Taken, ClientTable, take_row, if_waits, is_begin, is_operation, is_end, is_end_or_abort, is_current, opens, begun_row, opened_row, answer_line, outcome_row, Asked, Waited, is_own, answers_command, addressed, answer_in, is_last, fits, after_answer, has_line, line_of, lines_of, named_now, after, ends}
 use Rattle.jn_base.specs.declared.op.Answer.TheVariants as answers
-use Rattle.jn_base.specs.declared.op.Command.{Command}
-use Rattle.jn_base.specs.declared.op.Command.TheVariants.{Begin, Open, Do, End, Abort}
-use Rattle.jn_base.specs.Names.{client_eq}
-use Rattle.jn_msgs.specs.declared.message.Message.{Message}
 use Rattle.jn_msgs.specs.declared.message.Message.TheVariants as messages
-use Rattle.jn_msgs.specs.declared.message.Note.{Note}
 use Rattle.jn_msgs.specs.declared.message.Note.TheVariants as notes
-use Rattle.jn_msgs.specs.declared.message.Outcome.{Outcome}
 use Rattle.jn_msgs.specs.declared.message.Outcome.TheVariants as outcomes
 use Rattle.jn_report.specs.declared.line.Refusal.TheVariants as refusals
-use Rattle.jn_report.specs.declared.line.Text.{Text}
 use Rattle.jn_report.specs.declared.line.Text.TheVariants as says
-use Rattle.jn_rows.specs.declared.client.Outstanding.{Outstanding}
-use Rattle.jn_rows.specs.declared.client.Taken.{Taken}
 use Rattle.jn_rows.specs.declared.client.Taken.TheVariants as taken
-use Rattle.jn_rows.specs.Client.{ClientTable, take_row, if_waits, is_begin, is_operation, is_end, is_end_or_abort, is_current, opens, begun_row, opened_row, answer_line, outcome_row}
-use Rattle.jn_serial.specs.declared.following.Asked.{Asked}
-use Rattle.jn_serial.specs.Follows.{Outstanding as Waited, is_own, answers_command, addressed, answer_in, is_last, fits, after_answer}
-use Rattle.jn_system.specs.WholeSystem.World.{has_line}
-use Rattle.jn_system.specs.WholeSystem.Servers.{line_of, lines_of, named_now}
-use Rattle.jn_system.specs.WholeSystem.Steps.{after, ends}
 use Rattle.jn_system_reports.proofs.Reporting.Lists.{Each, each-append}
 use Rattle.jn_system_reports.proofs.Reporting.Asking.{can_answer, fits-op}
 use Rattle.jn_system_reports.proofs.Reporting.Known.{Does}

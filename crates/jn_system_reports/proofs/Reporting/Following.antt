@@ -1,37 +1,10 @@
 -- The lines of a run answer what its clients were told to do.
-use Rattle.std.proofs.Common.{◌≡◌, ℕ, suc, ◌+◌, ◌≤◌, ◌<◌, Bool, true, false, List, [], ◌∷◌, ◌++◌, append-nil, append_assoc, length, drop, Some, None, refl, sym, ◌∙◌, ap, subst, arith}
-use Rattle.std.specs.Prelude.{◌&&◌, ◌||◌, not, nat_eq, if◌then◌else◌, map}
-use Rattle.std.specs.List.{list_all}
-use Rattle.std.proofs.lemmas.Bool.Decides.{nat_tests}
-use Rattle.std.proofs.Math.Seq.{drop-append_seam}
+use Rattle.jn_system_reports.proofs.Common.{◌≡◌, ℕ, suc, ◌+◌, ◌≤◌, ◌<◌, Bool, true, false, List, [], ◌∷◌, ◌++◌, append-nil, append_assoc, length, drop, Some, None, refl, sym, ◌∙◌, ap, subst, arith, ◌&&◌, ◌||◌, not, nat_eq, if◌then◌else◌, map, list_all, nat_tests, drop-append_seam, ServerNo, ClientNo, Party, Command, Message, client_eq, client_tells, AllFiles, Event, When, AtEvent, AtEnd, Refusal, Text, Line, ClientTable, Commanded, Refuses, Sends, command_row, lines_at, Waited, nothing_asked, with_asked, is_own, answer_in, AllFit, after_answers, after_answer, after_event, own_in_place, is_command_of, AllOwnInPlace, FollowsEvent, after_one, FollowsFrom, IsOfEvent, AllOfEvents, Follows, fits, addressed, AreInTurn, IsWithin, AreWithin, lines_at-earlier, lines_at-newest, AreWithin-wider, AreWithin-append, World, opening, Step, NextEvent, Tell, Dismiss, after, run, IsRun, commanded, Printed, FileThere, PageStored, UnitLocked, text_printed, Act, Does, Refused, Tells, Shows, Item, events_of, steps_in, steps_of, told_in, told_under, after_item, at_event, may_do, may_act, IsUnder, AreUnder, IsReported}
 use Rattle.std.proofs.lemmas.List.{length-map}
-use Rattle.jn_base.specs.declared.names.ServerNo.{ServerNo}
-use Rattle.jn_base.specs.declared.names.ClientNo.{ClientNo}
-use Rattle.jn_base.specs.declared.names.Party.{Party}
-use Rattle.jn_base.specs.declared.op.Command.{Command}
-use Rattle.jn_msgs.specs.declared.message.Message.{Message}
-use Rattle.jn_base.specs.Names.{client_eq}
-use Rattle.jn_base.proofs.Tells.{client_tells}
-use Rattle.jn_order.specs.Files.{AllFiles}
-use Rattle.jn_schedule.specs.declared.Event.{Event}
 use Rattle.jn_schedule.specs.declared.Event.TheVariants as events
-use Rattle.jn_report.specs.declared.line.When.{When}
-use Rattle.jn_report.specs.declared.line.When.TheVariants.{Event as AtEvent, End as AtEnd}
-use Rattle.jn_report.specs.declared.line.Refusal.{Refusal}
-use Rattle.jn_report.specs.declared.line.Text.{Text}
 use Rattle.jn_report.specs.declared.line.Text.TheVariants as says
-use Rattle.jn_report.specs.declared.line.Line.{Line}
-use Rattle.jn_rows.specs.Client.{ClientTable, Commanded, Refuses, Sends, command_row}
-use Rattle.jn_serial.specs.Lines.{lines_at}
-use Rattle.jn_serial.specs.Follows.{Outstanding as Waited, nothing_asked, with_asked, is_own, answer_in, AllFit, after_answers, after_answer, after_event, own_in_place, is_command_of, AllOwnInPlace, FollowsEvent, after_one, FollowsFrom, IsOfEvent, AllOfEvents, Follows, fits, addressed}
-use Rattle.jn_serial.proofs.InTurn.{AreInTurn}
 use Rattle.jn_serial.proofs.Refused.{refused-nowhere, refused-once}
-use Rattle.jn_serial.proofs.Growth.{IsWithin, AreWithin, lines_at-earlier, lines_at-newest, AreWithin-wider, AreWithin-append}
-use Rattle.jn_system.specs.WholeSystem.World.{World, opening}
-use Rattle.jn_system.specs.WholeSystem.Steps.{Step, NextEvent, Tell, Dismiss, after, run, IsRun, commanded}
-use Rattle.jn_system.specs.WholeSystem.Printing.{Printed, FileThere, PageStored, UnitLocked}
-use Rattle.jn_system_reports.specs.Reporting.Printing.{text_printed}
-use Rattle.jn_system_reports.specs.Reporting.Reported.{Act, Does, Refuses as Refused, Tells, Shows, Item, events_of, steps_in, steps_of, told_in, told_under, after_item, at_event, lines_of, may_do, may_act, IsUnder, AreUnder, IsReported}
+use Rattle.jn_system_reports.specs.Reporting.Reported.{lines_of}
 use Rattle.jn_system_reports.proofs.Reporting.Lists.{Each}
 use Rattle.jn_system_reports.proofs.Reporting.Prints.{each-print}
 use Rattle.jn_system_reports.proofs.Reporting.Reached.{Reached, next-reached, opening-reached}

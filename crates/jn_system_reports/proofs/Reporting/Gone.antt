@@ -1,19 +1,7 @@
 -- A work that is nowhere stays so, and never becomes ready.
-use Rattle.std.proofs.Common.{◌≡◌, ◌≢◌, ◌⊎◌, inl, inr, Bool, true, false, List, [], ◌∷◌, Option, Some, None, is_some, refl, sym, ◌∙◌, ap, subst}
-use Rattle.std.specs.Prelude.{if◌then◌else◌}
-use Rattle.jn_base.specs.declared.names.ServerNo.{ServerNo}
-use Rattle.jn_base.specs.declared.names.WorkId.{WorkId}
-use Rattle.jn_base.specs.Names.{server_eq, work_eq}
-use Rattle.jn_base.proofs.Tells.{server_tells, work_tells}
-use Rattle.jn_rows.specs.Stable.{StableState, Pick, Change, AddReady, MarkGoing, CarryOut, RemoveWork, AddFlag, DropFlag, at_work, gone_on, made_by}
+use Rattle.jn_system_reports.proofs.Common.{◌≡◌, ◌≢◌, ◌⊎◌, inl, inr, Bool, true, false, List, [], ◌∷◌, Option, Some, None, is_some, refl, sym, ◌∙◌, ap, subst, if◌then◌else◌, ServerNo, WorkId, server_eq, work_eq, server_tells, work_tells, StableState, Pick, Change, AddReady, MarkGoing, CarryOut, RemoveWork, AddFlag, DropFlag, at_work, gone_on, made_by, NamesFact, Invariant, Atom, Perform, Lose, Prepare, Learn, NoteReady, NoteOver, Close, Make, Count, Name, Decide, RaiseEpoch, changed, server_of, with_epoch, May, MayRun, MayMake, fresh_work, step_kept, not_both, clash, some_none}
 use Rattle.jn_system.specs.SmallSteps.World.{World}
-use Rattle.jn_system.specs.SmallSteps.NameFacts.{NamesFact}
-use Rattle.jn_system.specs.SmallSteps.Invariant.{Invariant}
-use Rattle.jn_system.specs.SmallSteps.Steps.{Atom, Begin, Open, Perform, Lose, Prepare, End, Learn, NoteReady, NoteOver, Abort, Close, Make, Count, Name, Decide, Narrow, RaiseEpoch, Crash, Restart, changed, server_of, with_epoch, after, run}
-use Rattle.jn_system.specs.SmallSteps.Premises.{May, MayRun, MayMake}
-use Rattle.jn_system.proofs.SmallSteps.NameLemmas.{fresh_work}
-use Rattle.jn_system.proofs.SmallSteps.Runs.{step_kept}
-use Rattle.jn_system.proofs.SmallSteps.Updates.{not_both, clash, some_none}
+use Rattle.jn_system.specs.SmallSteps.Steps.{Begin, Open, End, Abort, Narrow, Crash, Restart, after, run}
 
 -- its server has it neither in memory nor in a state that may be found
 pub record Gone (w : World) (W : WorkId) : Type 0 where

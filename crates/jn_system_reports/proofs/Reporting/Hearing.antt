@@ -1,41 +1,11 @@
 -- The lines that a step adds answer what its clients wait for.
-use Rattle.std.proofs.Common.{◌≡◌, ◌≢◌, ◌⊎◌, inl, inr, ℕ, ◌+◌, Bool, true, false, List, [], ◌∷◌, ◌++◌, append-nil, Option, Some, None, refl, sym, ◌∙◌, ap, subst, arith, length, drop}
-use Rattle.std.specs.Prelude.{◌&&◌, if◌then◌else◌, nat_eq, nat_lt, slice_get}
-use Rattle.std.proofs.lemmas.Bool.Decides.{nat_tests}
-use Rattle.std.proofs.Math.Seq.{drop-append_seam}
-use Rattle.jn_base.specs.declared.names.ServerNo.{ServerNo}
-use Rattle.jn_base.specs.declared.names.ClientNo.{ClientNo}
-use Rattle.jn_base.specs.declared.names.Tid.{Tid}
-use Rattle.jn_base.specs.declared.names.WorkId.{WorkId}
-use Rattle.jn_base.specs.declared.names.Party.TheVariants.{Client, Server}
-use Rattle.jn_base.specs.declared.op.Op.{Op}
-use Rattle.jn_base.specs.declared.op.Answer.{Answer}
-use Rattle.jn_base.specs.declared.op.Command.{Command}
-use Rattle.jn_base.specs.declared.op.Command.TheVariants.{Begin, Open, Do, End, Abort}
-use Rattle.jn_base.specs.Names.{client_eq}
-use Rattle.jn_base.proofs.Tells.{client_tells}
-use Rattle.jn_msgs.specs.declared.message.Message.{Message}
+use Rattle.jn_system_reports.proofs.Common.{◌≡◌, ◌≢◌, ◌⊎◌, inl, inr, ℕ, ◌+◌, Bool, true, false, List, [], ◌∷◌, ◌++◌, append-nil, Option, Some, None, refl, sym, ◌∙◌, ap, subst, arith, length, drop, ◌&&◌, if◌then◌else◌, nat_eq, nat_lt, slice_get, nat_tests, drop-append_seam, ServerNo, ClientNo, Tid, WorkId, Client, Server, Op, Answer, Command, Begin, Open, Do, End, Abort, client_eq, client_tells, Message, Text, OpenWork, Outstanding, Taken, Pick, stable, RowOutcome, Sent, close_clients_row, ClientTable, Commanded, Refuses, Sends, if_server, if_idle, if_transaction, if_no_transaction, if_open, if_not_open, command_row, take_row, Asked, Waited, with_asked, is_own, addressed, answer_in, is_last, fits_asked, fits, after_answer, World, Memory, at_client, Room, server_row, server_step, of_coordinator, lines_of, named_now, Step, NextEvent, Tell, Again, Deliver, Nudge, Timeout, StopDelivery, StopWork, Crash, Narrow, StopRestart, Restart, Dismiss, CloseClients, after, took, ends, at_memory, handed, works, work, nudge, timeout, crash, narrow, stop_restart, restart, close_clients, Machine, not_both, Facts, told_by, Done}
 use Rattle.jn_msgs.specs.declared.message.Message.TheVariants as messages
 use Rattle.jn_report.specs.declared.line.Refusal.TheVariants as refusals
-use Rattle.jn_report.specs.declared.line.Text.{Text}
 use Rattle.jn_report.specs.declared.line.Text.TheVariants as says
-use Rattle.jn_rows.specs.declared.client.OpenWork.{OpenWork}
-use Rattle.jn_rows.specs.declared.client.Outstanding.{Outstanding}
-use Rattle.jn_rows.specs.declared.client.Taken.{Taken}
 use Rattle.jn_rows.specs.declared.client.Taken.TheVariants as taken
-use Rattle.jn_rows.specs.Stable.{Pick, stable}
-use Rattle.jn_rows.specs.Outcomes.{RowOutcome, Sent}
-use Rattle.jn_rows.specs.Coordinator.{close_clients_row}
-use Rattle.jn_rows.specs.Client.{ClientTable, Commanded, Refuses, Sends, work_at, if_server, if_idle, if_transaction, if_no_transaction, if_open, if_not_open, command_row, take_row}
-use Rattle.jn_serial.specs.declared.following.Asked.{Asked}
-use Rattle.jn_serial.specs.Follows.{Outstanding as Waited, with_asked, is_own, addressed, answer_in, is_last, fits_asked, fits, after_answer}
-use Rattle.jn_system.specs.WholeSystem.World.{World, Memory, at_client}
-use Rattle.jn_system.specs.WholeSystem.Servers.{Room, server_row, server_step, of_coordinator, lines_of, named_now}
-use Rattle.jn_system.specs.WholeSystem.Steps.{Step, NextEvent, Tell, Again, Deliver, Work, Nudge, Timeout, StopDelivery, StopWork, Crash, Narrow, StopRestart, Restart, Dismiss, CloseClients, after, took, ends, at_memory, handed, works, work, nudge, timeout, crash, narrow, stop_restart, restart, close_clients}
-use Rattle.jn_system.specs.SmallSteps.World.{World as Machine}
-use Rattle.jn_system.proofs.SmallSteps.Updates.{not_both}
-use Rattle.jn_system_order.proofs.Ordering.Facts.{Facts}
-use Rattle.jn_system_reports.specs.Reporting.Reported.{told_by, Does as Done}
+use Rattle.jn_rows.specs.Client.{work_at}
+use Rattle.jn_system.specs.WholeSystem.Steps.{Work}
 use Rattle.jn_system_reports.proofs.Reporting.Lists.{Each, each-in, get-in}
 use Rattle.jn_system_reports.proofs.Reporting.Asking.{can_answer, IsAnswered}
 use Rattle.jn_system_reports.proofs.Reporting.Known.{Does}

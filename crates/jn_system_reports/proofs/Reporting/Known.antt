@@ -1,19 +1,7 @@
 -- What a client has asked for stays known as its table changes.
-use Rattle.std.proofs.Common.{◌≡◌, ◌≢◌, ◌⊎◌, inl, inr, ◌<◌, ◌≤◌, ℕ, List, Some, None, sym, ◌∙◌, subst, arith}
-use Rattle.jn_base.specs.declared.names.ServerNo.{ServerNo}
-use Rattle.jn_base.specs.declared.names.ClientNo.{ClientNo}
-use Rattle.jn_base.specs.declared.names.Tid.{Tid}
-use Rattle.jn_base.specs.declared.names.WorkId.{WorkId}
-use Rattle.jn_base.specs.declared.op.Op.{Op}
-use Rattle.jn_base.specs.declared.op.Command.{Command}
-use Rattle.jn_base.specs.declared.op.Command.TheVariants.{Do}
-use Rattle.jn_rows.specs.declared.client.OpenWork.{OpenWork}
-use Rattle.jn_rows.specs.declared.client.Outstanding.{Outstanding}
-use Rattle.jn_rows.specs.Client.{ClientTable, work_at}
-use Rattle.jn_system.specs.SmallSteps.World.{World as Machine}
-use Rattle.jn_system.specs.SmallSteps.Messages.{IsWorkOf}
-use Rattle.jn_system_order.proofs.Ordering.Openings.{Opening, Has}
-use Rattle.jn_system_order.proofs.Ordering.Facts.{opening, Began}
+use Rattle.jn_system_reports.proofs.Common.{◌≡◌, ◌≢◌, ◌⊎◌, inl, inr, ◌<◌, ◌≤◌, ℕ, List, Some, None, sym, ◌∙◌, subst, arith, ServerNo, ClientNo, Tid, WorkId, Op, Command, Do, OpenWork, Outstanding, ClientTable, Machine, IsWorkOf, Opening, Has, Began}
+use Rattle.jn_rows.specs.Client.{work_at}
+use Rattle.jn_system_order.proofs.Ordering.Facts.{opening}
 use Rattle.jn_system_reports.proofs.Reporting.Asking.{Asking}
 
 -- the client took its beginning, and has gone on from it

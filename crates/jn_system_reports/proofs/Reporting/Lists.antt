@@ -1,7 +1,5 @@
 -- What stands in a list, and what holds of each of its elements.
-use Rattle.std.proofs.Common.{◌≡◌, ◌⊎◌, inl, inr, ℕ, zero, suc, List, [], ◌∷◌, ◌++◌, Some, None, refl, subst}
-use Rattle.std.specs.Prelude.{slice_get}
-use Rattle.std.specs.List.{AllByRecursion}
+use Rattle.jn_system_reports.proofs.Common.{◌≡◌, ◌⊎◌, inl, inr, ℕ, zero, suc, List, [], ◌∷◌, ◌++◌, Some, None, refl, subst, slice_get, AllByRecursion}
 
 abbrev pub In : {A : Type 0} → A → List A → Type 0
 In a [] = ⊥

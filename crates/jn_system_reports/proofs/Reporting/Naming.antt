@@ -1,31 +1,8 @@
 -- The commits of a run's lines are those of its world's, each named once and before it is acknowledged.
-use Rattle.std.proofs.Common.{◌≡◌, ℕ, ◌+◌, List, [], ◌∷◌, ◌++◌, append-nil, append_assoc, length, drop, refl, sym, ◌∙◌, ap, subst}
-use Rattle.std.proofs.Math.Seq.{drop-append_seam}
-use Rattle.std.specs.Prelude.{map}
-use Rattle.jn_base.specs.declared.names.ServerNo.{ServerNo}
-use Rattle.jn_base.specs.declared.names.ClientNo.{ClientNo}
-use Rattle.jn_base.specs.declared.names.Tid.{Tid}
-use Rattle.jn_order.specs.Files.{AllFiles}
-use Rattle.jn_report.specs.declared.line.When.TheVariants.{Event as AtEvent}
-use Rattle.jn_report.specs.declared.line.Text.{Text}
+use Rattle.jn_system_reports.proofs.Common.{◌≡◌, ℕ, ◌+◌, List, [], ◌∷◌, ◌++◌, append-nil, append_assoc, length, drop, refl, sym, ◌∙◌, ap, subst, drop-append_seam, map, ServerNo, ClientNo, Tid, AllFiles, AtEvent, Text, Line, Commanded, Refuses, Sends, command_row, commit_in, history_of, IsNamedWhere, NamesBefore, NamesOnce, Commit, CommitsOnce, in_order, commits_of, commits-more, committed-any, World, opening, committed_in, commits_in, Step, NextEvent, Tell, Dismiss, after, run, IsStep, IsRun, commanded, IsNamedBefore, AreNamed, Printed, FileThere, PageStored, UnitLocked, text_printed, Act, Does, Refused, Tells, Shows, Item, steps_in, steps_of, told_by, told_in, told_under, after_item, at_event, world_of}
 use Rattle.jn_report.specs.declared.line.Text.TheVariants as says
-use Rattle.jn_report.specs.declared.line.Line.{Line}
-use Rattle.jn_rows.specs.Client.{Commanded, Refuses, Sends, command_row}
-use Rattle.jn_serial.specs.Lines.{commit_in, history_of}
-use Rattle.jn_serial.specs.Told.{IsNamedWhere, NamesBefore, NamesOnce}
 use Rattle.jn_serial.proofs.Telling.{NamesOnce-more}
-use Rattle.jn_system.specs.SmallSteps.World.{Commit}
-use Rattle.jn_system.specs.SmallSteps.Order.{CommitsOnce}
-use Rattle.jn_system.proofs.SmallSteps.History.{in_order}
-use Rattle.jn_system_order.specs.Mirroring.Mirrors.{commits_of}
-use Rattle.jn_system_order.proofs.Mirroring.Mirrored.{commits-more}
-use Rattle.jn_system_order.proofs.Mirroring.StepMoves.{committed-any}
-use Rattle.jn_system.specs.WholeSystem.World.{World, opening, committed_in, commits_in}
-use Rattle.jn_system.specs.WholeSystem.Steps.{Step, NextEvent, Tell, Dismiss, after, run, IsStep, IsRun, commanded}
-use Rattle.jn_system_order.specs.Ordering.Runs.{IsNamedBefore, AreNamed}
-use Rattle.jn_system.specs.WholeSystem.Printing.{Printed, FileThere, PageStored, UnitLocked}
-use Rattle.jn_system_reports.specs.Reporting.Printing.{text_printed}
-use Rattle.jn_system_reports.specs.Reporting.Reported.{Act, Does, Refuses as Refused, Tells, Shows, Item, steps_in, steps_of, told_by, told_in, told_under, after_item, at_event, lines_of, world_of}
+use Rattle.jn_system_reports.specs.Reporting.Reported.{lines_of}
 use Rattle.jn_system_reports.proofs.Reporting.Reached.{Reached, next-reached}
 use Rattle.jn_system_reports.proofs.Reporting.Hearing.{IsQuiet, step-hears, told-is}
 use Rattle.jn_system_reports.proofs.Reporting.Following.{run-split}

@@ -1,45 +1,10 @@
 -- What is told aborted or broken isn't named, and never will be.
-use Rattle.std.proofs.Common.{◌≡◌, ◌≢◌, ◌⊎◌, inl, inr, ℕ, Bool, true, false, List, [], ◌++◌, append-nil, Option, Some, None, refl, sym, ◌∙◌, ap, subst, arith}
-use Rattle.std.specs.Prelude.{if◌then◌else◌}
-use Rattle.std.specs.List.{list_any}
-use Rattle.jn_base.specs.declared.names.ServerNo.{ServerNo}
-use Rattle.jn_base.specs.declared.names.ClientNo.{ClientNo}
-use Rattle.jn_base.specs.declared.names.Tid.{Tid}
-use Rattle.jn_base.specs.declared.names.WorkId.{WorkId}
-use Rattle.jn_base.specs.declared.names.LockUnit.{LockUnit}
-use Rattle.jn_base.specs.declared.names.Cause.{Cause}
-use Rattle.jn_base.specs.declared.names.Party.TheVariants.{Client}
-use Rattle.jn_base.specs.declared.op.Answer.{Answer}
+use Rattle.jn_system_reports.proofs.Common.{◌≡◌, ◌≢◌, ◌⊎◌, inl, inr, ℕ, Bool, true, false, List, [], ◌++◌, append-nil, Option, Some, None, refl, sym, ◌∙◌, ap, subst, arith, if◌then◌else◌, list_any, ServerNo, ClientNo, Tid, WorkId, LockUnit, Cause, Client, Answer, server_eq, client_eq, tid_eq, server_tells, client_tells, tid_tells, Message, Outcome, Text, Phase, Broken, Outstanding, Taken, Pick, RowOutcome, Sent, WorkerTable, ClientTable, is_tid, is_current, if_waits, begun_row, opened_row, answer_line, outcome_row, take_row, found-name, Machine, Invariant, IsWorkOf, OutcomeSays, Says, not_both, some_none, false_unless, World, Memory, at_server, commits_in, has_line, of_worker, lines_of, done, LockFacts, UpFact, ServerFact, Mirrors, active_in, working_in, working_of, commits-more, lines-commit, named_by, Opening}
 use Rattle.jn_base.specs.declared.op.Answer.TheVariants as answers
-use Rattle.jn_base.specs.Names.{server_eq, client_eq, tid_eq}
-use Rattle.jn_base.proofs.Tells.{server_tells, client_tells, tid_tells}
-use Rattle.jn_msgs.specs.declared.message.Message.{Message}
 use Rattle.jn_msgs.specs.declared.message.Message.TheVariants as messages
-use Rattle.jn_msgs.specs.declared.message.Outcome.{Outcome}
 use Rattle.jn_msgs.specs.declared.message.Outcome.TheVariants as outcomes
-use Rattle.jn_report.specs.declared.line.Text.{Text}
 use Rattle.jn_report.specs.declared.line.Text.TheVariants as says
-use Rattle.jn_rows.specs.declared.worker.Phase.{Phase}
-use Rattle.jn_rows.specs.declared.worker.Phase.TheVariants.{Broken}
-use Rattle.jn_rows.specs.declared.client.Outstanding.{Outstanding}
-use Rattle.jn_rows.specs.declared.client.Taken.{Taken}
 use Rattle.jn_rows.specs.declared.client.Taken.TheVariants as taken
-use Rattle.jn_rows.specs.Stable.{Pick}
-use Rattle.jn_rows.specs.Outcomes.{RowOutcome, Sent}
-use Rattle.jn_rows.specs.Worker.{WorkerTable}
-use Rattle.jn_rows.specs.Client.{ClientTable, is_tid, is_current, if_waits, begun_row, opened_row, answer_line, outcome_row, take_row}
-use Rattle.jn_lock_rows.proofs.Works.{found-name}
-use Rattle.jn_system.specs.SmallSteps.World.{World as Machine}
-use Rattle.jn_system.specs.SmallSteps.Invariant.{Invariant}
-use Rattle.jn_system.specs.SmallSteps.Messages.{IsWorkOf, OutcomeSays, Says}
-use Rattle.jn_system.proofs.SmallSteps.Updates.{not_both, some_none, false_unless}
-use Rattle.jn_system.specs.WholeSystem.World.{World, Memory, at_server, commits_in, has_line}
-use Rattle.jn_system.specs.WholeSystem.Servers.{of_worker, lines_of}
-use Rattle.jn_system.specs.WholeSystem.Steps.{done}
-use Rattle.jn_system.specs.WholeSystem.LockFacts.{LockFacts, UpFact, ServerFact}
-use Rattle.jn_system_order.specs.Mirroring.Mirrors.{Mirrors, active_in, working_in, working_of}
-use Rattle.jn_system_order.proofs.Mirroring.Mirrored.{commits-more, lines-commit, named_by}
-use Rattle.jn_system_order.proofs.Ordering.Openings.{Opening}
 use Rattle.jn_system_reports.proofs.Reporting.Asking.{Asking, IsAsked, WasAsked, KeepsPhase, KeepsWork}
 use Rattle.jn_system_reports.proofs.Reporting.WorkerTalk.{each-work}
 use Rattle.jn_system_reports.proofs.Reporting.Gone.{Gone}

@@ -1,39 +1,10 @@
 -- Every step keeps what holds of transactions that are past.
-use Rattle.std.proofs.Common.{◌≡◌, ◌⊎◌, inl, ℕ, ◌+◌, true, List, [], ◌∷◌, ◌++◌, append-nil, Option, Some, None, refl, sym, ◌∙◌, ap, subst}
-use Rattle.std.specs.Prelude.{slice_get, nat_lt}
-use Rattle.jn_base.specs.declared.names.ServerNo.{ServerNo}
-use Rattle.jn_base.specs.declared.names.ClientNo.{ClientNo}
-use Rattle.jn_base.specs.declared.names.Tid.{Tid}
-use Rattle.jn_base.specs.declared.names.Cause.{Cause}
-use Rattle.jn_base.specs.declared.names.Cause.TheVariants.{Requested, Lost as LostAt, Full as FullAt}
-use Rattle.jn_base.specs.declared.op.Command.{Command}
-use Rattle.jn_base.specs.declared.op.Command.TheVariants.{Abort}
-use Rattle.jn_base.specs.declared.names.Party.TheVariants.{Client, Server}
-use Rattle.jn_base.specs.declared.names.Resource.{Resource}
-use Rattle.jn_msgs.specs.declared.message.Message.{Message}
+use Rattle.jn_system_reports.proofs.Common.{◌≡◌, ◌⊎◌, inl, ℕ, ◌+◌, true, List, [], ◌∷◌, ◌++◌, append-nil, Option, Some, None, refl, sym, ◌∙◌, ap, subst, slice_get, nat_lt, ServerNo, ClientNo, Tid, Cause, Requested, LostAt, FullAt, Command, Abort, Client, Server, Resource, Message, Text, Outstanding, Taken, Pick, stable, Sent, worker_row, transaction_at, ClientTable, Commanded, Refuses, Sends, command_row, take_row, sent_again, Machine, Invariant, World, Memory, at_client, commits_in, committed_in, has_line, Room, storage_of, Step, NextEvent, Tell, Again, Deliver, Nudge, Timeout, StopDelivery, StopWork, Crash, Narrow, StopRestart, Restart, Dismiss, CloseClients, IsStep, after, commanded, sent_now, took, handed, LockFacts, Mirrors, IsTrue, IsAddressed, IsCurrent, AreOpen, IsThanks, Takes, takes, holds-of, Opening, opening_in, openings, openings-more, Has, Facts, Began, CommandFacts, command-facts, all-have-theirs}
 use Rattle.jn_msgs.specs.declared.message.Message.TheVariants as messages
-use Rattle.jn_report.specs.declared.line.Text.{Text}
 use Rattle.jn_report.specs.declared.line.Text.TheVariants as says
-use Rattle.jn_rows.specs.declared.client.Outstanding.{Outstanding}
-use Rattle.jn_rows.specs.declared.client.Taken.{Taken}
 use Rattle.jn_rows.specs.declared.client.Taken.TheVariants as taken
-use Rattle.jn_rows.specs.Stable.{Pick, stable}
-use Rattle.jn_rows.specs.Outcomes.{Sent}
-use Rattle.jn_rows.specs.Worker.{worker_row}
-use Rattle.jn_rows.specs.Coordinator.{transaction_at}
-use Rattle.jn_rows.specs.Client.{ClientTable, Commanded, Refuses, Sends, command_row, take_row, sent_again}
-use Rattle.jn_system.specs.SmallSteps.World.{World as Machine}
-use Rattle.jn_system.specs.SmallSteps.Invariant.{Invariant}
-use Rattle.jn_system.specs.WholeSystem.World.{World, Memory, at_client, commits_in, committed_in, has_line}
-use Rattle.jn_system.specs.WholeSystem.Servers.{Room, storage_of}
-use Rattle.jn_system.specs.WholeSystem.Steps.{Step, NextEvent, Tell, Again, Deliver, Work, Nudge, Timeout, StopDelivery, StopWork, Crash, Narrow, StopRestart, Restart, Dismiss, CloseClients, IsStep, after, commanded, sent_now, took, handed}
-use Rattle.jn_system.specs.WholeSystem.LockFacts.{LockFacts}
-use Rattle.jn_system_order.specs.Mirroring.Mirrors.{Mirrors, IsTrue, IsAddressed, IsCurrent, AreOpen}
-use Rattle.jn_system_order.proofs.Mirroring.ClientRows.{IsThanks, Takes, takes}
-use Rattle.jn_system_order.proofs.Mirroring.StepMoves.{holds-of}
-use Rattle.jn_system_order.proofs.Ordering.Openings.{Opening, opening_in, openings, openings-more, Has}
-use Rattle.jn_system_order.proofs.Ordering.Facts.{Facts, opening, Began}
-use Rattle.jn_system_order.proofs.Ordering.ClientFacts.{CommandFacts, command-facts, all-have-theirs}
+use Rattle.jn_system.specs.WholeSystem.Steps.{Work}
+use Rattle.jn_system_order.proofs.Ordering.Facts.{opening}
 use Rattle.jn_system_reports.proofs.Reporting.Lists.{In, Each, each-in, get-in}
 use Rattle.jn_system_reports.proofs.Reporting.ClientTalk.{TableGoes, CommandTalks, command-talks, TakeTalks, take-talks}
 use Rattle.jn_system_reports.proofs.Reporting.Talk.{Talk}

@@ -1,36 +1,11 @@
 -- A client's steps keep what is past for it, and what it sends says what is past.
-use Rattle.std.proofs.Common.{◌≡◌, ◌≢◌, ◌⊎◌, inl, inr, ◌<◌, ◌≤◌, ℕ, ◌+◌, Bool, true, false, List, [], ◌++◌, append-nil, Option, Some, None, is_some, refl, sym, ◌∙◌, ap, subst, arith}
-use Rattle.std.specs.Prelude.{if◌then◌else◌, nat_lt}
-use Rattle.jn_base.specs.declared.names.ServerNo.{ServerNo}
-use Rattle.jn_base.specs.declared.names.ClientNo.{ClientNo}
-use Rattle.jn_base.specs.declared.names.Tid.{Tid}
-use Rattle.jn_base.specs.declared.names.WorkId.{WorkId}
-use Rattle.jn_base.specs.declared.names.Cause.{Cause}
-use Rattle.jn_base.specs.declared.names.Cause.TheVariants.{Requested}
-use Rattle.jn_base.specs.declared.names.Party.{Party}
-use Rattle.jn_base.specs.declared.names.Party.TheVariants.{Client, Server}
-use Rattle.jn_base.specs.declared.op.Command.{Command}
-use Rattle.jn_base.specs.declared.op.Command.TheVariants.{Begin, Open, Do, End, Abort}
-use Rattle.jn_base.specs.Names.{client_eq, tid_eq}
-use Rattle.jn_base.proofs.Tells.{client_tells, tid_tells}
-use Rattle.jn_msgs.specs.declared.message.Message.{Message}
+use Rattle.jn_system_reports.proofs.Common.{◌≡◌, ◌≢◌, ◌⊎◌, inl, inr, ◌<◌, ◌≤◌, ℕ, ◌+◌, Bool, true, false, List, [], ◌++◌, append-nil, Option, Some, None, is_some, refl, sym, ◌∙◌, ap, subst, arith, if◌then◌else◌, nat_lt, ServerNo, ClientNo, Tid, WorkId, Cause, Requested, Party, Client, Server, Command, Begin, Open, Do, End, Abort, client_eq, tid_eq, client_tells, tid_tells, Message, Outcome, Text, OpenWork, Outstanding, Taken, StableState, Pick, Sent, ClientTable, Commanded, Refuses, Sends, names_of, if_server, if_idle, if_transaction, if_no_transaction, if_open, if_not_open, command_row, is_tid, is_current, if_waits, over, begun_row, opened_row, decided_row, outcome_row, take_row, Machine, not_both, Memory, at_client, Opening, openings, Has, Began}
 use Rattle.jn_msgs.specs.declared.message.Message.TheVariants as messages
-use Rattle.jn_msgs.specs.declared.message.Outcome.{Outcome}
 use Rattle.jn_msgs.specs.declared.message.Outcome.TheVariants as outcomes
 use Rattle.jn_report.specs.declared.line.Refusal.TheVariants as refusals
-use Rattle.jn_report.specs.declared.line.Text.{Text}
-use Rattle.jn_rows.specs.declared.client.OpenWork.{OpenWork}
-use Rattle.jn_rows.specs.declared.client.Outstanding.{Outstanding}
-use Rattle.jn_rows.specs.declared.client.Taken.{Taken}
 use Rattle.jn_rows.specs.declared.client.Taken.TheVariants as taken
-use Rattle.jn_rows.specs.Stable.{StableState, Pick}
-use Rattle.jn_rows.specs.Outcomes.{Sent}
-use Rattle.jn_rows.specs.Client.{ClientTable, Commanded, Refuses, Sends, work_at, names_of, if_server, if_idle, if_transaction, if_no_transaction, if_open, if_not_open, command_row, is_tid, is_current, if_waits, over, begun_row, opened_row, decided_row, outcome_row, take_row}
-use Rattle.jn_system.specs.SmallSteps.World.{World as Machine}
-use Rattle.jn_system.proofs.SmallSteps.Updates.{not_both}
-use Rattle.jn_system.specs.WholeSystem.World.{Memory, at_client}
-use Rattle.jn_system_order.proofs.Ordering.Openings.{Opening, openings, Has}
-use Rattle.jn_system_order.proofs.Ordering.Facts.{opening, Began}
+use Rattle.jn_rows.specs.Client.{work_at}
+use Rattle.jn_system_order.proofs.Ordering.Facts.{opening}
 use Rattle.jn_system_reports.proofs.Reporting.Lists.{Each, each-append, each-more}
 use Rattle.jn_system_reports.proofs.Reporting.Known.{IsPast}
 use Rattle.jn_system_reports.proofs.Reporting.ClientTalk.{TableGoes}

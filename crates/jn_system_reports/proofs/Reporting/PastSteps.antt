@@ -1,21 +1,7 @@
 -- Each step keeps what holds of transactions that are past: a server forgets no other, and a client asks nothing more of it.
-use Rattle.std.proofs.Common.{◌≡◌, ◌≢◌, ◌⊎◌, inl, inr, ◌<◌, ℕ, zero, suc, ◌+◌, Bool, true, false, List, [], ◌∷◌, ◌++◌, take, Option, Some, None, is_some, refl, sym, ◌∙◌, ap, subst}
-use Rattle.std.specs.Prelude.{if◌then◌else◌}
-use Rattle.jn_base.specs.declared.names.ServerNo.{ServerNo}
-use Rattle.jn_base.specs.declared.names.ClientNo.{ClientNo}
-use Rattle.jn_base.specs.declared.names.Tid.{Tid}
-use Rattle.jn_base.specs.declared.names.Cause.{Cause}
-use Rattle.jn_base.specs.Names.{tid_eq}
-use Rattle.jn_base.proofs.Tells.{tid_tells}
+use Rattle.jn_system_reports.proofs.Common.{◌≡◌, ◌≢◌, ◌⊎◌, inl, inr, ◌<◌, ℕ, zero, suc, ◌+◌, Bool, true, false, List, [], ◌∷◌, ◌++◌, take, Option, Some, None, is_some, refl, sym, ◌∙◌, ap, subst, if◌then◌else◌, ServerNo, ClientNo, Tid, Cause, tid_eq, tid_tells, Outstanding, StableState, Pick, Change, AddReady, MarkGoing, CarryOut, RemoveWork, AddFlag, DropFlag, made_by, made_all, stable, Sent, ClientTable, Machine, World, Memory, Opening, opening_in, openings, openings-more, Has, has-first, has-either, Began}
 use Rattle.jn_msgs.specs.declared.message.Message.TheVariants as messages
-use Rattle.jn_rows.specs.declared.client.Outstanding.{Outstanding}
-use Rattle.jn_rows.specs.Stable.{StableState, Pick, Change, AddReady, MarkGoing, CarryOut, RemoveWork, AddFlag, DropFlag, made_by, made_all, stable}
-use Rattle.jn_rows.specs.Outcomes.{Sent}
-use Rattle.jn_rows.specs.Client.{ClientTable}
-use Rattle.jn_system.specs.SmallSteps.World.{World as Machine}
-use Rattle.jn_system.specs.WholeSystem.World.{World, Memory}
-use Rattle.jn_system_order.proofs.Ordering.Openings.{Opening, opening_in, openings, openings-more, Has, has-first, has-either}
-use Rattle.jn_system_order.proofs.Ordering.Facts.{opening, Began}
+use Rattle.jn_system_order.proofs.Ordering.Facts.{opening}
 use Rattle.jn_system_reports.proofs.Reporting.Lists.{Each, each-append, each-more}
 use Rattle.jn_system_reports.proofs.Reporting.Past.{EndedBy, Past, SaysPast, EntryFact, ChangeFact, FlagPast, Goes, says-goes, entry-goes, flag-goes, opened-goes}
 use Rattle.jn_system_reports.proofs.Reporting.PastRows.{IsThere}

@@ -1,53 +1,11 @@
 -- What is past after each step.
-use Rattle.std.proofs.Common.{◌≡◌, ◌≢◌, ◌⊎◌, inl, inr, ℕ, ◌+◌, Bool, true, false, List, [], ◌∷◌, ◌++◌, take, append-nil, Option, Some, None, is_some, refl, sym, ◌∙◌, ap, subst, arith}
-use Rattle.std.specs.Prelude.{◌||◌, if◌then◌else◌, slice_get, nat_lt}
-use Rattle.std.specs.List.{list_any}
-use Rattle.jn_base.specs.declared.names.ServerNo.{ServerNo}
-use Rattle.jn_base.specs.declared.names.ClientNo.{ClientNo}
-use Rattle.jn_base.specs.declared.names.Tid.{Tid}
-use Rattle.jn_base.specs.declared.names.WorkId.{WorkId}
-use Rattle.jn_base.specs.declared.names.Cause.{Cause}
-use Rattle.jn_base.specs.declared.names.Cause.TheVariants.{Lost as LostAt, Full as FullAt}
-use Rattle.jn_base.specs.declared.names.Party.TheVariants.{Server}
-use Rattle.jn_base.specs.Names.{server_eq, tid_eq}
-use Rattle.jn_base.proofs.Tells.{server_tells, tid_tells}
-use Rattle.jn_msgs.specs.declared.message.Message.{Message}
+use Rattle.jn_system_reports.proofs.Common.{◌≡◌, ◌≢◌, ◌⊎◌, inl, inr, ℕ, ◌+◌, Bool, true, false, List, [], ◌∷◌, ◌++◌, take, append-nil, Option, Some, None, is_some, refl, sym, ◌∙◌, ap, subst, arith, ◌||◌, if◌then◌else◌, slice_get, nat_lt, list_any, ServerNo, ClientNo, Tid, WorkId, Cause, LostAt, FullAt, Server, server_eq, tid_eq, server_tells, tid_tells, Message, Text, Transaction, Stage, Ballot, StableState, FlagState, Pick, Change, AddFlag, DropFlag, made_all, stable, is_going, RowOutcome, Tickets, Resource, Intention, Work, WorkerTable, WorkStorage, going_work, carried_row, intentions_of, going_row, worker_row, worker_step, worker_again, timeout_row, ClientTable, CoordinatorTable, transaction_at, coordinator_row, close_clients_row, coordinator_again, seen_in_flags, restored_transaction, restored_transactions, Machine, Unknown, Invariant, Knows, Atom, with_epoch, changed, MayRun, Says, none_of, false_unless, not_both, World, Memory, at_server, commits_in, has_line, Room, storage_of, of_worker, of_coordinator, of_step, server_row, server_again, of_timeout, restored, lines_of, named_now, AreNames, tid_before, done, stopped, ends, at_memory, works, work, nudge, timeout, crash, narrow, stop_restart, restart, close_clients, IsIdle, LockFacts, ServerFact, UpFact, is_committed, Mirrors, IsAddressed, IsStage, knowledge_in, knowledge_of, knows, stage-is, stage-known, commits-more, lines-commit, named_by, worker-none, step-none, same-server, still-says, Opening, openings, Has, Began, openings-begun}
 use Rattle.jn_msgs.specs.declared.message.Message.TheVariants as messages
 use Rattle.jn_msgs.specs.declared.message.Outcome.TheVariants as outcomes
-use Rattle.jn_report.specs.declared.line.Text.{Text}
 use Rattle.jn_report.specs.declared.line.Text.TheVariants as says
-use Rattle.jn_rows.specs.declared.coordinator.Transaction.{Transaction}
-use Rattle.jn_rows.specs.declared.coordinator.Stage.{Stage}
 use Rattle.jn_rows.specs.declared.coordinator.Stage.TheVariants.{Open, Voting, Committed, Aborted}
-use Rattle.jn_rows.specs.declared.coordinator.Voting.{Voting as Ballot}
-use Rattle.jn_rows.specs.Stable.{StableState, FlagState, Pick, Change, AddFlag, DropFlag, made_all, stable, is_going}
-use Rattle.jn_rows.specs.Outcomes.{RowOutcome}
-use Rattle.jn_base.specs.declared.names.Tickets.{Tickets}
-use Rattle.jn_base.specs.declared.names.Resource.{Resource}
-use Rattle.jn_records.specs.declared.intention.Intention.{Intention}
-use Rattle.jn_rows.specs.declared.worker.Work.{Work}
-use Rattle.jn_rows.specs.Worker.{WorkerTable, WorkStorage, going_work, carried_row, intentions_of, going_row, worker_row, worker_step, worker_again, timeout_row}
-use Rattle.jn_rows.specs.Client.{ClientTable}
-use Rattle.jn_rows.specs.Coordinator.{CoordinatorTable, transaction_at, coordinator_row, close_clients_row, coordinator_again, seen_in_flags, restored_transaction, restored_transactions}
-use Rattle.jn_system.specs.SmallSteps.World.{World as Machine, Unknown}
-use Rattle.jn_system.specs.SmallSteps.Invariant.{Invariant}
-use Rattle.jn_system.specs.SmallSteps.Transactions.{Knows}
-use Rattle.jn_system.specs.SmallSteps.Steps.{Atom, with_epoch, changed, run}
-use Rattle.jn_system.specs.SmallSteps.Premises.{MayRun}
-use Rattle.jn_system.specs.SmallSteps.Messages.{Says}
-use Rattle.jn_system.proofs.SmallSteps.Updates.{none_of, false_unless, not_both}
-use Rattle.jn_system.specs.WholeSystem.World.{World, Memory, at_server, commits_in, has_line}
-use Rattle.jn_system.specs.WholeSystem.Servers.{Room, storage_of, of_worker, of_coordinator, of_step, server_row, server_again, of_timeout, restored, lines_of, named_now}
-use Rattle.jn_system.specs.WholeSystem.Steps.{AreNames, tid_before, done, stopped, ends, at_memory, works, work, nudge, timeout, crash, narrow, stop_restart, restart, close_clients, IsIdle}
-use Rattle.jn_system.specs.WholeSystem.LockFacts.{LockFacts, ServerFact, UpFact}
-use Rattle.jn_system.proofs.WholeSystem.Closes.{is_committed}
-use Rattle.jn_system_order.specs.Mirroring.Mirrors.{Mirrors, IsAddressed, IsStage, knowledge_in, knowledge_of}
-use Rattle.jn_system_order.proofs.Mirroring.StageMoves.{knows, stage-is, stage-known}
-use Rattle.jn_system_order.proofs.Mirroring.Mirrored.{commits-more, lines-commit, named_by}
-use Rattle.jn_system_order.proofs.Mirroring.WorkerNotes.{worker-none, step-none}
-use Rattle.jn_system_order.proofs.Mirroring.Closing.{same-server, still-says}
-use Rattle.jn_system_order.proofs.Ordering.Openings.{Opening, openings, Has}
-use Rattle.jn_system_order.proofs.Ordering.Facts.{opening, Began, openings-begun}
+use Rattle.jn_system.specs.SmallSteps.Steps.{run}
+use Rattle.jn_system_order.proofs.Ordering.Facts.{opening}
 use Rattle.jn_system_reports.proofs.Reporting.Lists.{In, Each, each-append, each-more}
 use Rattle.jn_system_reports.proofs.Reporting.Past.{Had, Past, OutcomeFact, SaysPast, EntryFact, ChangeFact, FlagPast}
 use Rattle.jn_system_reports.proofs.Reporting.PastRows.{IsThere, NoFlag, entry-opened, is_broke, ComesHere, row-past, close-past as row-closes, again-says, restored-past}

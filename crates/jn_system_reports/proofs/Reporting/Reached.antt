@@ -1,65 +1,12 @@
 -- What holds after any steps from an opening: the machine stands there too, and all facts hold.
-use Rattle.std.proofs.Common.{◌≡◌, ◌⊎◌, inl, inr, ℕ, Bool, true, false, List, [], ◌∷◌, ◌++◌, Some, None, is_some, sym, ◌∙◌, ap, subst, arith}
-use Rattle.std.specs.List.{list_any}
-use Rattle.jn_base.specs.declared.names.ServerNo.{ServerNo}
-use Rattle.jn_base.specs.declared.names.Tid.{Tid}
-use Rattle.jn_base.specs.Names.{tid_eq}
+use Rattle.jn_system_reports.proofs.Common.{◌≡◌, ◌⊎◌, inl, inr, ℕ, Bool, true, false, List, [], ◌∷◌, ◌++◌, Some, None, is_some, sym, ◌∙◌, ap, subst, arith, list_any, ServerNo, Tid, tid_eq, AllFiles, Machine, Invariant, Atom, run_atoms, opening_world, MayRun, run_kept, opening_kept, still-says, run-append, may-append, opening-mirrors, committed-any, run_told, opening_told, AreNamed, Mirrors, World, opening, new_memory, has_line, Step, IsStep, after, LockFacts, locks-keep, opening-keeps, Facts, step-next, opening-facts, Next, ◌||◌, if◌then◌else◌, All, All-head, All-tail, ClientNo, WorkId, LockUnit, Cause, Server, server_eq, work_eq, work_tells, Message, Vote, Text, OpenWork, Outstanding, Pick, stable, Sent, worker_row, is_work, coordinator_row, ClientTable, names_of, IsWorkOf, Grows, run_grows, not_both, some_of, Memory, Room, storage_of, of_worker, done, ServerFact, UpFact, IsAddressed, worker-none, Opening, openings, Has, began_by, is_closing, EndsNow}
 use Rattle.jn_msgs.specs.declared.message.Message.TheVariants as messages
-use Rattle.jn_order.specs.Files.{AllFiles}
-use Rattle.jn_system.specs.SmallSteps.World.{World as Machine}
-use Rattle.jn_system.specs.SmallSteps.Invariant.{Invariant}
-use Rattle.jn_system.specs.SmallSteps.Steps.{Atom, run as run_atoms, opening_world}
-use Rattle.jn_system.specs.SmallSteps.Premises.{MayRun}
-use Rattle.jn_system.proofs.SmallSteps.Runs.{run_kept, opening_kept}
-use Rattle.jn_system_order.proofs.Mirroring.Closing.{still-says}
-use Rattle.jn_system_order.proofs.Mirroring.Losing.{run-append, may-append}
-use Rattle.jn_system_order.proofs.Mirroring.StepMoves.{opening-mirrors, committed-any}
-use Rattle.jn_system.proofs.SmallSteps.History.{run_told, opening_told}
-use Rattle.jn_system_order.specs.Ordering.Runs.{AreNamed}
 use Rattle.jn_system_order.proofs.Ordering.Named.{step-names}
-use Rattle.jn_system_order.specs.Mirroring.Mirrors.{Mirrors}
-use Rattle.jn_system.specs.WholeSystem.World.{World, opening, new_memory, has_line}
-use Rattle.jn_system.specs.WholeSystem.Steps.{Step, IsStep, after}
-use Rattle.jn_system.specs.WholeSystem.LockFacts.{LockFacts}
-use Rattle.jn_system.proofs.WholeSystem.Steps.{locks-keep, opening-keeps}
-use Rattle.jn_system_order.proofs.Ordering.Facts.{Facts}
-use Rattle.jn_system_order.proofs.Ordering.Runs.{step-next, opening-facts}
-use Rattle.jn_system_order.proofs.Ordering.ClientSteps.{Next}
 use Rattle.jn_system_reports.proofs.Reporting.Talk.{Talk, step-talk, opening-talk}
-use Rattle.std.specs.Prelude.{◌||◌, if◌then◌else◌, All}
-use Rattle.std.proofs.lemmas.List.Elements.{All-head, All-tail}
-use Rattle.jn_base.specs.declared.names.ClientNo.{ClientNo}
-use Rattle.jn_base.specs.declared.names.WorkId.{WorkId}
-use Rattle.jn_base.specs.declared.names.LockUnit.{LockUnit}
-use Rattle.jn_base.specs.declared.names.Cause.{Cause}
-use Rattle.jn_base.specs.declared.names.Party.TheVariants.{Server}
-use Rattle.jn_base.specs.Names.{server_eq, work_eq}
-use Rattle.jn_base.proofs.Tells.{work_tells}
-use Rattle.jn_msgs.specs.declared.message.Message.{Message}
 use Rattle.jn_msgs.specs.declared.message.Note.TheVariants as notes
-use Rattle.jn_msgs.specs.declared.message.Vote.{Vote}
 use Rattle.jn_msgs.specs.declared.message.Vote.TheVariants as votes
-use Rattle.jn_report.specs.declared.line.Text.{Text}
 use Rattle.jn_report.specs.declared.line.Text.TheVariants as says
-use Rattle.jn_rows.specs.declared.client.OpenWork.{OpenWork}
-use Rattle.jn_rows.specs.declared.client.Outstanding.{Outstanding}
-use Rattle.jn_rows.specs.Stable.{Pick, stable}
-use Rattle.jn_rows.specs.Outcomes.{Sent}
-use Rattle.jn_rows.specs.Worker.{worker_row}
-use Rattle.jn_rows.specs.Coordinator.{is_work, coordinator_row}
-use Rattle.jn_rows.specs.Client.{ClientTable, work_at, names_of}
-use Rattle.jn_system.specs.SmallSteps.Messages.{IsWorkOf}
-use Rattle.jn_system.proofs.SmallSteps.MessageLemmas.{Grows, run_grows}
-use Rattle.jn_system.proofs.SmallSteps.Updates.{not_both, some_of}
-use Rattle.jn_system.specs.WholeSystem.World.{Memory}
-use Rattle.jn_system.specs.WholeSystem.Servers.{Room, storage_of, of_worker}
-use Rattle.jn_system.specs.WholeSystem.Steps.{done}
-use Rattle.jn_system.specs.WholeSystem.LockFacts.{ServerFact, UpFact}
-use Rattle.jn_system_order.specs.Mirroring.Mirrors.{IsAddressed}
-use Rattle.jn_system_order.proofs.Mirroring.WorkerNotes.{worker-none}
-use Rattle.jn_system_order.proofs.Ordering.Openings.{Opening, openings, Has}
-use Rattle.jn_system_order.proofs.Ordering.Facts.{opening as began_by, is_closing}
-use Rattle.jn_system_order.proofs.Ordering.ClientSteps.{EndsNow}
+use Rattle.jn_rows.specs.Client.{work_at}
 use Rattle.jn_system_reports.proofs.Reporting.Lists.{In, Each, each-append, each-more, each-in}
 use Rattle.jn_system_reports.proofs.Reporting.Asking.{IsAsked, IsWorkers}
 use Rattle.jn_system_reports.proofs.Reporting.WorkerTalk.{worker-talks}

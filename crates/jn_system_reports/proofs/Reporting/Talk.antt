@@ -1,37 +1,11 @@
 -- Each step keeps what holds of the operations that clients ask for, and of their answers.
-use Rattle.std.proofs.Common.{◌≡◌, ◌≢◌, ◌⊎◌, inl, inr, ◌≤◌, ℕ, ◌+◌, Bool, true, false, List, [], ◌∷◌, ◌++◌, append-nil, Option, Some, None, refl, sym, ◌∙◌, ap, subst, arith}
-use Rattle.std.specs.Prelude.{if◌then◌else◌, slice_get}
-use Rattle.jn_base.specs.declared.names.ServerNo.{ServerNo}
-use Rattle.jn_base.specs.declared.names.ClientNo.{ClientNo}
-use Rattle.jn_base.specs.declared.names.Tid.{Tid}
-use Rattle.jn_base.specs.declared.names.WorkId.{WorkId}
-use Rattle.jn_base.specs.declared.names.Party.{Party}
-use Rattle.jn_base.specs.declared.names.Party.TheVariants.{Client, Server}
-use Rattle.jn_base.specs.Names.{server_eq, client_eq}
-use Rattle.jn_base.proofs.Tells.{client_tells}
-use Rattle.jn_msgs.specs.declared.message.Message.{Message}
+use Rattle.jn_system_reports.proofs.Common.{◌≡◌, ◌≢◌, ◌⊎◌, inl, inr, ◌≤◌, ℕ, ◌+◌, Bool, true, false, List, [], ◌∷◌, ◌++◌, append-nil, Option, Some, None, refl, sym, ◌∙◌, ap, subst, arith, if◌then◌else◌, slice_get, ServerNo, ClientNo, Tid, WorkId, Party, Client, Server, server_eq, client_eq, client_tells, Message, OpenWork, Outstanding, Taken, StableState, Pick, stable, RowOutcome, Sent, WorkerTable, worker_row, worker_step, worker_again, timeout_row, coordinator_row, coordinator_again, close_clients_row, ClientTable, Commanded, Refuses, Sends, command_row, take_row, sent_again, over, Machine, IsWorkOf, World, Memory, at_server, at_client, new_memory, AllFiles, Room, storage_of, of_worker, of_coordinator, of_step, server_row, of_timeout, restored, Step, NextEvent, Tell, Again, Deliver, Nudge, Timeout, StopDelivery, StopWork, Crash, Narrow, StopRestart, Restart, Dismiss, CloseClients, after, commanded, sent_now, took, ends, at_memory, handed, works, work, nudge, timeout, crash, narrow, stop_restart, restart, dismiss, close_clients, Mirrors, IsCurrent, AreOpen, found-open, Opening, opening_in, openings, openings-more, Has, has-first, Began, Facts, all-have-theirs, holds-of}
 use Rattle.jn_msgs.specs.declared.message.Message.TheVariants as messages
-use Rattle.jn_rows.specs.declared.client.OpenWork.{OpenWork}
-use Rattle.jn_rows.specs.declared.client.Outstanding.{Outstanding}
-use Rattle.jn_rows.specs.declared.client.Taken.{Taken}
 use Rattle.jn_rows.specs.declared.client.Taken.TheVariants as taken
-use Rattle.jn_rows.specs.Stable.{StableState, Pick, stable}
-use Rattle.jn_rows.specs.Outcomes.{RowOutcome, Sent}
-use Rattle.jn_rows.specs.Worker.{WorkerTable, worker_row, worker_step, worker_again, timeout_row}
-use Rattle.jn_rows.specs.Coordinator.{coordinator_row, coordinator_again, close_clients_row}
-use Rattle.jn_rows.specs.Client.{ClientTable, Commanded, Refuses, Sends, command_row, take_row, sent_again, work_at, over}
-use Rattle.jn_system.specs.SmallSteps.World.{World as Machine}
-use Rattle.jn_system.specs.SmallSteps.Messages.{IsWorkOf}
-use Rattle.jn_system.specs.WholeSystem.World.{World, Memory, at_server, at_client, new_memory, opening as opening_world}
-use Rattle.jn_order.specs.Files.{AllFiles}
-use Rattle.jn_system.specs.WholeSystem.Servers.{Room, storage_of, of_worker, of_coordinator, of_step, server_row, of_timeout, restored}
-use Rattle.jn_system.specs.WholeSystem.Steps.{Step, NextEvent, Tell, Again, Deliver, Work, Nudge, Timeout, StopDelivery, StopWork, Crash, Narrow, StopRestart, Restart, Dismiss, CloseClients, after, commanded, sent_now, took, ends, at_memory, handed, works, work, nudge, timeout, crash, narrow, stop_restart, restart, dismiss, close_clients}
-use Rattle.jn_system_order.specs.Mirroring.Mirrors.{Mirrors, IsCurrent, AreOpen}
-use Rattle.jn_system_order.proofs.Mirroring.ClientRows.{found-open}
-use Rattle.jn_system_order.proofs.Ordering.Openings.{Opening, opening_in, openings, openings-more, Has, has-first}
-use Rattle.jn_system_order.proofs.Ordering.Facts.{opening, Began, Facts}
-use Rattle.jn_system_order.proofs.Ordering.ClientFacts.{all-have-theirs}
-use Rattle.jn_system_order.proofs.Mirroring.StepMoves.{holds-of}
+use Rattle.jn_rows.specs.Client.{work_at}
+use Rattle.jn_system.specs.WholeSystem.World.{opening as opening_world}
+use Rattle.jn_system.specs.WholeSystem.Steps.{Work}
+use Rattle.jn_system_order.proofs.Ordering.Facts.{opening}
 use Rattle.jn_system_reports.proofs.Reporting.Lists.{In, in-first, in-second, in-either, Each, each-in, each-append, each-more, get-in}
 use Rattle.jn_system_reports.proofs.Reporting.Asking.{asked-more, Asking, IsAsked, IsReply, IsWorkers, workers-reply, KeepsWork, keeps-more, reply-more}
 use Rattle.jn_system_reports.proofs.Reporting.WorkerTalk.{Talks, WasSent, worker-talks, step-talks, timeout-talks, restored-talks, again-talks}

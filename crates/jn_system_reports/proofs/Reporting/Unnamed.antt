@@ -1,22 +1,7 @@
 -- No transaction that a run's lines tell as aborted or broken is named in them.
-use Rattle.std.proofs.Common.{◌≡◌, ◌⊎◌, inl, inr, ℕ, ◌+◌, false, List, [], ◌∷◌, ◌++◌, refl, sym, ◌∙◌, ap, subst}
-use Rattle.std.specs.Prelude.{map}
-use Rattle.std.specs.List.{list_any}
-use Rattle.jn_base.specs.declared.names.ServerNo.{ServerNo}
-use Rattle.jn_base.specs.declared.names.Tid.{Tid}
-use Rattle.jn_base.specs.Names.{tid_eq}
-use Rattle.jn_order.specs.Files.{AllFiles}
-use Rattle.jn_report.specs.declared.line.Text.{Text}
+use Rattle.jn_system_reports.proofs.Common.{◌≡◌, ◌⊎◌, inl, inr, ℕ, ◌+◌, false, List, [], ◌∷◌, ◌++◌, refl, sym, ◌∙◌, ap, subst, map, list_any, ServerNo, Tid, tid_eq, AllFiles, Text, Line, has_tid, history_of, IsNotNamedWhere, NamesNone, Told, run_atoms, opening_world, World, opening, Step, NextEvent, after, run, IsRun, Printed, FileThere, PageStored, UnitLocked, text_printed, Act, Does, Tells, Shows, Item, steps_in, steps_of, told_by, told_in, told_under, after_item, at_event, world_of, IsReported}
 use Rattle.jn_report.specs.declared.line.Text.TheVariants as says
-use Rattle.jn_report.specs.declared.line.Line.{Line}
-use Rattle.jn_serial.specs.Lines.{has_tid, history_of}
-use Rattle.jn_serial.specs.Told.{IsNotNamedWhere, NamesNone, Told}
-use Rattle.jn_system.specs.SmallSteps.Steps.{run as run_atoms, opening_world}
-use Rattle.jn_system.specs.WholeSystem.World.{World, opening}
-use Rattle.jn_system.specs.WholeSystem.Steps.{Step, NextEvent, after, run, IsRun}
-use Rattle.jn_system.specs.WholeSystem.Printing.{Printed, FileThere, PageStored, UnitLocked}
-use Rattle.jn_system_reports.specs.Reporting.Printing.{text_printed}
-use Rattle.jn_system_reports.specs.Reporting.Reported.{Act, Does, Refuses, Tells, Shows, Item, steps_in, steps_of, told_by, told_in, told_under, after_item, at_event, lines_of, world_of, IsReported}
+use Rattle.jn_system_reports.specs.Reporting.Reported.{Refuses, lines_of}
 use Rattle.jn_system_reports.proofs.Reporting.Lists.{In, in-first, in-second, in-either, each-in}
 use Rattle.jn_system_reports.proofs.Reporting.Prints.{each-print}
 use Rattle.jn_system_reports.proofs.Reporting.Reached.{Reached, LineFact, named-is, invariant, next-reached, opening-reached}

@@ -1,37 +1,12 @@
 -- What a worker answers can be the answer of what was asked, and so can what it keeps.
-use Rattle.std.proofs.Common.{◌≡◌, ◌⊎◌, inl, inr, ◌≤◌, ℕ, ◌+◌, Bool, true, false, List, [], ◌∷◌, ◌++◌, Option, Some, None, refl, sym, ◌∙◌, ap, subst, arith}
-use Rattle.std.specs.Prelude.{if◌then◌else◌, nat_eq, nat_lt, length, slice_get, is_some}
-use Rattle.std.proofs.lemmas.Bool.Decides.{nat_tests}
-use Rattle.jn_base.specs.declared.names.ClientNo.{ClientNo}
-use Rattle.jn_base.specs.declared.names.Tid.{Tid}
-use Rattle.jn_base.specs.declared.names.WorkId.{WorkId}
-use Rattle.jn_base.specs.declared.names.Tickets.{Tickets}
-use Rattle.jn_base.specs.declared.names.LockUnit.{LockUnit}
-use Rattle.jn_base.specs.declared.names.LockUnit.TheVariants.{File, Block}
-use Rattle.jn_base.specs.declared.names.Party.TheVariants.{Server}
-use Rattle.jn_base.specs.declared.op.Op.{Op}
+use Rattle.jn_system_reports.proofs.Common.{◌≡◌, ◌⊎◌, inl, inr, ◌≤◌, ℕ, ◌+◌, Bool, true, false, List, [], ◌∷◌, ◌++◌, Option, Some, None, refl, sym, ◌∙◌, ap, subst, arith, if◌then◌else◌, nat_eq, nat_lt, length, slice_get, is_some, nat_tests, ClientNo, Tid, WorkId, Tickets, LockUnit, File, Block, Server, Op, Answer, tid_eq, work_eq, Files, change, answer_to, or_else, zeros, Intention, list_change, length_with, Message, Vote, Work, Phase, Active, Broken, Stored, ActiveWork, StableState, Prepared, is_going, RowOutcome, Sent, WorkerTable, WorkStorage, Wanted, Held, work_at, work_of, with_phase, without, after_grant, breaks_at, broken_by, units_for, with_units, open_row, wants_of, is_fit, list_with, locked, first_of_two, refusal_of, granted_row, repeated, op_phase, op_row, conflict, commit_wants, vote_of, shortage, need_in, prepared_row, prepare_phase, prepare_row, commit_phase, drop_phase, drop_row, worker_row, going_work, intentions_of, carried_row, going_row, worker_step, worker_again, timed_out, timeout_row, vulnerable, restored_worker, restored_work, Read, found-name, work_is}
 use Rattle.jn_base.specs.declared.op.Op.TheVariants as ops
-use Rattle.jn_base.specs.declared.op.Answer.{Answer}
 use Rattle.jn_base.specs.declared.op.Answer.TheVariants as answers
-use Rattle.jn_base.specs.Names.{tid_eq, work_eq}
-use Rattle.jn_order.specs.Files.{Files, change, answer_to, or_else, zeros}
-use Rattle.jn_records.specs.declared.intention.Intention.{Intention}
-use Rattle.jn_records.specs.NetLists.{list_change, length_with}
 use Rattle.jn_records.specs.NetEdits.{intention_for}
 use Rattle.jn_records.proofs.EditLemmas.{edited-length, unchanged-length}
-use Rattle.jn_msgs.specs.declared.message.Message.{Message}
 use Rattle.jn_msgs.specs.declared.message.Message.TheVariants as messages
-use Rattle.jn_msgs.specs.declared.message.Vote.{Vote}
 use Rattle.jn_msgs.specs.declared.message.Vote.TheVariants as votes
-use Rattle.jn_rows.specs.declared.worker.Work.{Work}
-use Rattle.jn_rows.specs.declared.worker.Phase.{Phase}
-use Rattle.jn_rows.specs.declared.worker.Phase.TheVariants.{Active, Broken, Prepared as Stored}
-use Rattle.jn_rows.specs.declared.worker.ActiveWork.{ActiveWork}
-use Rattle.jn_rows.specs.Stable.{StableState, Prepared, is_going}
-use Rattle.jn_rows.specs.Outcomes.{RowOutcome, Sent}
-use Rattle.jn_rows.specs.Worker.{WorkerTable, WorkStorage, Wanted, Held, work_at, work_of, with_phase, without, after_grant, breaks_at, broken_by, units_for, with_units, open_row, wants_of, is_fit, list_with, locked, first_of_two, refusal_of, granted_row, repeated, op_phase, op_row, done, conflict, commit_wants, vote_of, shortage, need_in, prepared_row, prepare_phase, prepare_row, commit_phase, commit_row, drop_phase, drop_row, worker_row, going_work, intentions_of, carried_row, going_row, worker_step, worker_again, timed_out, timeout_row, vulnerable, restored_worker, restored_work}
-use Rattle.jn_locks.specs.declared.words.Mode.TheVariants.{Read}
-use Rattle.jn_lock_rows.proofs.Works.{found-name, work_is}
+use Rattle.jn_rows.specs.Worker.{done, commit_row}
 use Rattle.jn_system_reports.proofs.Reporting.Lists.{Each, each-append}
 use Rattle.jn_system_reports.proofs.Reporting.Asking.{WasAsked, Asking, IsAsked, can_answer, Answers, IsAnswered, IsWorkers, IsKept, KeepsAnswer, KeepsPhase, KeepsWork}
 

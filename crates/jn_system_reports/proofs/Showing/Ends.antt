@@ -1,40 +1,12 @@
 -- The end of a run prints what all commits leave.
-use Rattle.std.proofs.Common.{◌≡◌, ◌⊎◌, inl, inr, ℕ, suc, ◌+◌, ◌≤◌, ◌<◌, Bool, true, false, List, [], ◌∷◌, ◌++◌, append-nil, append_assoc, length, Some, None, refl, sym, ◌∙◌, ap, subst, arith}
-use Rattle.std.specs.Prelude.{◌&&◌, map, nat_lt}
-use Rattle.std.proofs.lemmas.Bool.Decides.{nat_tests}
-use Rattle.std.specs.List.{list_all}
-use Rattle.jn_base.specs.declared.names.ServerNo.{ServerNo}
-use Rattle.jn_base.specs.declared.names.FileNo.{FileNo}
-use Rattle.jn_base.specs.declared.names.LockUnit.{LockUnit}
-use Rattle.jn_base.specs.declared.names.LockUnit.TheVariants.{File, Block}
-use Rattle.jn_base.specs.Names.{server_eq, file_eq}
-use Rattle.jn_base.proofs.Tells.{server_tells}
-use Rattle.jn_order.specs.Files.{AllFiles}
-use Rattle.jn_report.specs.declared.line.When.TheVariants.{End as AtEnd}
-use Rattle.jn_report.specs.declared.line.Text.{Text}
+use Rattle.jn_system_reports.proofs.Common.{◌≡◌, ◌⊎◌, inl, inr, ℕ, suc, ◌+◌, ◌≤◌, ◌<◌, Bool, true, false, List, [], ◌∷◌, ◌++◌, append-nil, append_assoc, length, Some, None, refl, sym, ◌∙◌, ap, subst, arith, ◌&&◌, map, nat_lt, nat_tests, list_all, ServerNo, FileNo, LockUnit, File, Block, server_eq, file_eq, server_tells, AllFiles, AtEnd, Text, Line, lines_at, says_it, history_of, replay, IsAsIn, AllAsIn, prints_file, is_locked, ShowsFiles, ShownSoFar, Shown, Follows, lines_at-append, AreAtEnd, AreInTurn, turn-to-end, run_atoms, opening_world, commits-more, commit_holder, World, Memory, opening, commits_in, servers_from, Step, NextEvent, Tell, Crash, CloseClients, after, run, IsRun, Printed, FileThere, PageStored, UnitLocked, text_printed, IsPrinted, Does, Item, events_of, steps_of, told_by, told_under, world_of, after_item, at_event, IsReported, Comeback, Ending, AreFilesOf, restarts_from, steps_at_end, world_at_end, settles, ArePrinted, IsEnding, told_by_steps, texts_from, at_end, lines_to_end, AreAsTold}
 use Rattle.jn_report.specs.declared.line.Text.TheVariants as says
-use Rattle.jn_report.specs.declared.line.Line.{Line}
-use Rattle.jn_serial.specs.Lines.{lines_at, says as says_it, history_of}
-use Rattle.jn_serial.specs.Order.{replay}
-use Rattle.jn_serial.specs.Shown.{IsAsIn, AllAsIn, prints_file, is_locked, ShowsFiles, ShownSoFar, Shown}
-use Rattle.jn_serial.specs.Follows.{Follows}
-use Rattle.jn_serial.proofs.Orders.{lines_at-append}
-use Rattle.jn_serial.proofs.InTurn.{AreAtEnd, AreInTurn, turn-to-end}
-use Rattle.jn_system.specs.SmallSteps.Steps.{run as run_atoms, opening_world}
-use Rattle.jn_system_order.proofs.Mirroring.Mirrored.{commits-more}
-use Rattle.jn_rows.specs.Worker.{commit_holder}
-use Rattle.jn_system.specs.WholeSystem.World.{World, Memory, opening, commits_in, servers_from}
-use Rattle.jn_system.specs.WholeSystem.Steps.{Step, NextEvent, Tell, Crash, CloseClients, after, run, IsRun}
-use Rattle.jn_system.specs.WholeSystem.Printing.{Printed, FileThere, PageStored, UnitLocked}
-use Rattle.jn_system_reports.specs.Reporting.Printing.{text_printed, IsPrinted}
-use Rattle.jn_system_reports.specs.Reporting.Reported.{Does, Item, events_of, steps_of, told_by, told_under, world_of, after_item, at_event, lines_of, IsReported}
-use Rattle.jn_system_reports.specs.Reporting.Ending.{Comeback, Ending, AreFilesOf, restarts_from, steps_at_end, world_at_end, settles, ArePrinted, IsEnding, told_by_steps, texts_from, at_end, lines_to_end}
+use Rattle.jn_system_reports.specs.Reporting.Reported.{lines_of}
 use Rattle.jn_system_reports.proofs.Reporting.Lists.{In, Each, in-first, in-second, in-either, each-in, each-append}
 use Rattle.jn_system_reports.proofs.Reporting.Reached.{Reached, LineFact, next-reached, opening-reached}
 use Rattle.jn_system_reports.proofs.Reporting.Naming.{adds}
 use Rattle.jn_system_reports.proofs.Reporting.Following.{run-in-turn, run-follows}
 use Rattle.jn_system_reports.proofs.Causing.Ends.{end-told}
-use Rattle.jn_system_reports.specs.Telling.Agreement.{AreAsTold}
 use Rattle.jn_system_reports.proofs.Telling.Tellings.{texts_of}
 use Rattle.jn_system_reports.proofs.Telling.Quiet.{AreDumb}
 use Rattle.jn_system_reports.proofs.Telling.Reports.{IsCalm, prints-dumb, texts-more, last-reached, end-reached, end-ops, end-as-told, beginning-told}

@@ -1,13 +1,5 @@
 -- What the examples compute.
-use Rattle.std.proofs.Common.{◌≡◌, Bool, true, false, Option, Some, None, is_some, refl, arith}
-use Rattle.std.specs.Prelude.{if◌then◌else◌, ◌||◌}
-use Rattle.jn_base.specs.declared.names.FileNo.{FileNo}
-use Rattle.jn_base.specs.declared.names.BlockNo.{BlockNo}
-use Rattle.jn_base.specs.declared.names.LockUnit.TheVariants.{File, Block}
-use Rattle.jn_order.specs.Files.{there, or_else}
-use Rattle.jn_system.specs.WholeSystem.World.{Memory, new_memory}
-use Rattle.jn_system.specs.WholeSystem.Example.{the_server}
-use Rattle.jn_system.specs.WholeSystem.Printing.{print_unit}
+use Rattle.jn_system_reports.proofs.Common.{◌≡◌, Bool, true, false, Option, Some, None, is_some, refl, arith, if◌then◌else◌, ◌||◌, FileNo, BlockNo, File, Block, there, or_else, Memory, new_memory, the_server, print_unit}
 
 abbrev pub memory_in : Option Memory → Memory
 memory_in None = new_memory the_server 0

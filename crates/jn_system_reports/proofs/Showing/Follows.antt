@@ -1,15 +1,7 @@
 -- Lines at the end that answer nobody leave what the answers before them are.
-use Rattle.std.proofs.Common.{◌≡◌, ℕ, Bool, true, false, List, [], ◌∷◌, ◌++◌, append-nil, length, refl, ◌∙◌, ap, arith}
-use Rattle.jn_schedule.specs.declared.Event.{Event}
-use Rattle.jn_report.specs.declared.line.When.TheVariants.{Event as AtEvent}
-use Rattle.jn_report.specs.declared.line.Text.{Text}
+use Rattle.jn_system_reports.proofs.Common.{◌≡◌, ℕ, Bool, true, false, List, [], ◌∷◌, ◌++◌, append-nil, length, refl, ◌∙◌, ap, arith, Event, AtEvent, Text, Line, lines_at, history_of, is_answer, AllOfEvents, Follows, follows-same, lines_at-append, at_end}
 use Rattle.jn_report.specs.declared.line.Text.TheVariants.{Commits}
-use Rattle.jn_report.specs.declared.line.Line.{Line}
-use Rattle.jn_serial.specs.Lines.{lines_at, history_of}
-use Rattle.jn_serial.specs.Follows.{is_answer, AllOfEvents, Follows}
-use Rattle.jn_serial.proofs.Growth.{follows-same}
-use Rattle.jn_serial.proofs.Orders.{lines_at-append}
-use Rattle.jn_system_reports.specs.Reporting.Ending.{at_end, counted}
+use Rattle.jn_system_reports.specs.Reporting.Ending.{counted}
 use Rattle.jn_system_reports.proofs.Reporting.Lists.{Each}
 use Rattle.jn_system_reports.proofs.Causing.Ends.{IsOfEnd}
 

@@ -1,27 +1,5 @@
 -- What is printed shows the files, where they are as found at each unit that isn't locked.
-use Rattle.std.proofs.Common.{◌≡◌, ◌⊎◌, inl, inr, ℕ, Bool, true, false, List, [], ◌∷◌, Option, Some, None, is_some, refl, sym, ◌∙◌, ap, subst, arith}
-use Rattle.std.specs.Prelude.{◌&&◌, ◌||◌, map}
-use Rattle.std.specs.List.{list_any}
-use Rattle.jn_base.specs.declared.names.ServerNo.{ServerNo}
-use Rattle.jn_base.specs.declared.names.FileNo.{FileNo}
-use Rattle.jn_base.specs.declared.names.BlockNo.{BlockNo}
-use Rattle.jn_base.specs.declared.names.Tid.{Tid}
-use Rattle.jn_base.specs.declared.names.LockUnit.{LockUnit}
-use Rattle.jn_base.specs.declared.names.LockUnit.TheVariants.{File, Block}
-use Rattle.jn_base.specs.Names.{server_eq, file_eq, block_eq}
-use Rattle.jn_base.proofs.Tells.{server_tells, file_tells, block_tells}
-use Rattle.jn_order.specs.Files.{Files, AllFiles}
-use Rattle.jn_report.specs.declared.line.When.{When}
-use Rattle.jn_report.specs.declared.line.Text.{Text}
-use Rattle.jn_report.specs.declared.line.Line.{Line}
-use Rattle.jn_rows.specs.Stable.{stable}
-use Rattle.jn_rows.specs.Worker.{commit_holder}
-use Rattle.jn_serial.specs.Lines.{says}
-use Rattle.jn_serial.specs.Shown.{IsAsIn, AllAsIn, prints_file, accounts_file, accounts_block, is_locked, ShowsFiles}
-use Rattle.jn_system.specs.SmallSteps.Held.{file_unit}
-use Rattle.jn_system.specs.WholeSystem.World.{World, Memory}
-use Rattle.jn_system.specs.WholeSystem.Printing.{Printed, FileThere, PageStored, UnitLocked, print_unit, print_one, print_blocks, print_file, print_files}
-use Rattle.jn_system_reports.specs.Reporting.Printing.{text_printed, prints_of, IsPrinted}
+use Rattle.jn_system_reports.proofs.Common.{◌≡◌, ◌⊎◌, inl, inr, ℕ, Bool, true, false, List, [], ◌∷◌, Option, Some, None, is_some, refl, sym, ◌∙◌, ap, subst, arith, ◌&&◌, ◌||◌, map, list_any, ServerNo, FileNo, BlockNo, Tid, LockUnit, File, Block, server_eq, file_eq, block_eq, server_tells, file_tells, block_tells, Files, AllFiles, When, Text, Line, stable, commit_holder, says, IsAsIn, AllAsIn, prints_file, accounts_file, accounts_block, is_locked, ShowsFiles, file_unit, World, Memory, Printed, FileThere, PageStored, UnitLocked, print_unit, print_one, print_blocks, print_file, print_files, text_printed, prints_of, IsPrinted}
 use Rattle.jn_system_reports.proofs.Reporting.Lists.{In, in-first, in-second, in-either}
 
 some : {A : Type 0} {a b : A} → Some a ≡ Some b → a ≡ b

@@ -1,34 +1,9 @@
 -- Each show of a run prints what the commits before it leave.
-use Rattle.std.proofs.Common.{◌≡◌, ℕ, zero, suc, ◌+◌, ◌≤◌, Bool, true, false, List, [], ◌∷◌, ◌++◌, append-nil, length, Some, None, refl, sym, ◌∙◌, ap, subst, arith}
-use Rattle.std.specs.Prelude.{◌&&◌, map}
-use Rattle.std.specs.List.{list_all}
-use Rattle.jn_base.specs.declared.names.ServerNo.{ServerNo}
-use Rattle.jn_base.specs.declared.names.FileNo.{FileNo}
-use Rattle.jn_base.specs.Names.{server_eq}
-use Rattle.jn_base.proofs.Tells.{server_tells}
-use Rattle.jn_order.specs.Files.{AllFiles}
-use Rattle.jn_schedule.specs.declared.Event.{Event}
-use Rattle.jn_schedule.specs.declared.Event.TheVariants.{Show}
-use Rattle.jn_report.specs.declared.line.When.TheVariants.{Event as AtEvent}
-use Rattle.jn_report.specs.declared.line.Text.{Text}
-use Rattle.jn_report.specs.declared.line.Line.{Line}
-use Rattle.jn_serial.specs.Lines.{lines_at, lines_before, says as says_it, event_at, history_of}
-use Rattle.jn_serial.specs.Order.{replay}
-use Rattle.jn_serial.specs.Shown.{IsAsIn, prints_file, is_no_show, ShowsFiles, ShownSoFar}
-use Rattle.jn_serial.specs.Follows.{nothing_asked}
-use Rattle.jn_serial.proofs.Growth.{AreWithin, AreWithin-wider}
-use Rattle.jn_serial.proofs.Orders.{lines_at-append, lines_before-append}
-use Rattle.jn_serial.proofs.CausedGrowth.{lines_before-later, lines_before-whole}
-use Rattle.jn_system.specs.WholeSystem.World.{World, opening}
-use Rattle.jn_system.specs.WholeSystem.Steps.{NextEvent, after, IsRun}
-use Rattle.jn_system.specs.WholeSystem.Printing.{Printed}
-use Rattle.jn_system_reports.specs.Reporting.Printing.{text_printed, IsPrinted}
-use Rattle.jn_system_reports.specs.Reporting.Reported.{Act, Does, Refuses, Tells, Shows, Item, events_of, steps_in, steps_of, world_of, told_in, told_under, after_item, at_event, lines_of, may_act, IsUnder, AreUnder, GoesOver, IsShow, IsShown, AreShown, IsReported}
-use Rattle.jn_system_reports.specs.Reporting.Ending.{at_end}
+use Rattle.jn_system_reports.proofs.Common.{◌≡◌, ℕ, zero, suc, ◌+◌, ◌≤◌, Bool, true, false, List, [], ◌∷◌, ◌++◌, append-nil, length, Some, None, refl, sym, ◌∙◌, ap, subst, arith, ◌&&◌, map, list_all, ServerNo, FileNo, server_eq, server_tells, AllFiles, Event, Show, AtEvent, Text, Line, lines_at, lines_before, says_it, event_at, history_of, replay, IsAsIn, prints_file, is_no_show, ShowsFiles, ShownSoFar, nothing_asked, AreWithin, AreWithin-wider, lines_at-append, lines_before-append, lines_before-later, lines_before-whole, World, opening, NextEvent, after, IsRun, Printed, text_printed, IsPrinted, Act, Does, Tells, Shows, Item, events_of, steps_in, steps_of, world_of, told_in, told_under, after_item, at_event, may_act, IsUnder, AreUnder, GoesOver, IsShow, IsShown, AreShown, IsReported, at_end, AreAsTold}
+use Rattle.jn_system_reports.specs.Reporting.Reported.{Refuses, lines_of}
 use Rattle.jn_system_reports.proofs.Reporting.Reached.{Reached, next-reached, opening-reached}
 use Rattle.jn_system_reports.proofs.Reporting.Fitting.{asked_of}
 use Rattle.jn_system_reports.proofs.Reporting.Following.{event-follows, items-follow, lines-here, run-split, texts-within}
-use Rattle.jn_system_reports.specs.Telling.Agreement.{AreAsTold}
 use Rattle.jn_system_reports.proofs.Telling.Reports.{steps-append, steps-more, under-split, lines-more, beginning-as-told}
 use Rattle.jn_system_reports.proofs.Reporting.Lists.{In}
 use Rattle.jn_system_reports.proofs.Showing.Prints.{AreSame, says-it, said-it, all-as, in-texts, from-texts, is-there, shows-files}

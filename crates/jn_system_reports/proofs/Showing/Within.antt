@@ -1,55 +1,18 @@
 -- No operation is told at a server that there isn't.
-use Rattle.std.proofs.Common.{◌≡◌, ◌≢◌, ◌⊎◌, inl, inr, ℕ, suc, ◌+◌, ◌≤◌, ◌<◌, Bool, true, false, List, [], ◌∷◌, ◌++◌, append_assoc, length, Option, Some, None, refl, sym, ◌∙◌, ap, subst, arith}
-use Rattle.std.specs.Prelude.{◌&&◌, if◌then◌else◌, nat_eq, nat_lt, slice_get}
-use Rattle.std.proofs.lemmas.Bool.Decides.{nat_tests}
-use Rattle.jn_base.specs.declared.names.ServerNo.{ServerNo}
-use Rattle.jn_base.specs.declared.names.ClientNo.{ClientNo}
-use Rattle.jn_base.specs.declared.names.Tid.{Tid}
-use Rattle.jn_base.specs.declared.names.WorkId.{WorkId}
-use Rattle.jn_base.specs.declared.names.Party.TheVariants.{Client, Server}
-use Rattle.jn_base.specs.declared.op.Op.{Op}
-use Rattle.jn_base.specs.declared.op.Answer.{Answer}
-use Rattle.jn_base.specs.declared.op.Command.{Command}
-use Rattle.jn_base.specs.declared.op.Command.TheVariants.{Begin, Open, Do, End, Abort}
-use Rattle.jn_base.specs.Names.{server_eq, client_eq}
-use Rattle.jn_base.proofs.Tells.{server_tells}
-use Rattle.jn_order.specs.Files.{AllFiles, files_after, all_files_after}
-use Rattle.jn_msgs.specs.declared.message.Message.{Message}
+use Rattle.jn_system_reports.proofs.Common.{◌≡◌, ◌≢◌, ◌⊎◌, inl, inr, ℕ, suc, ◌+◌, ◌≤◌, ◌<◌, Bool, true, false, List, [], ◌∷◌, ◌++◌, append_assoc, length, Option, Some, None, refl, sym, ◌∙◌, ap, subst, arith, ◌&&◌, if◌then◌else◌, nat_eq, nat_lt, slice_get, nat_tests, ServerNo, ClientNo, Tid, WorkId, Client, Server, Op, Answer, Command, Begin, Open, Do, End, Abort, server_eq, client_eq, server_tells, AllFiles, files_after, all_files_after, Message, Outcome, Event, CommandOf, Text, Line, Outstanding, OpenWork, Taken, Pick, stable, RowOutcome, Sent, ClientTable, Commanded, Refuses, Sends, if_server, if_idle, if_transaction, if_no_transaction, if_open, if_not_open, command_row, is_current, is_end, is_end_or_abort, if_waits, begun_row, opened_row, decided_row, outcome_row, take_row, Performed, Asked, Waited, with_asked, answer_in, is_last, fits, fits_asked, answers_command, after_answer, event_at, files_then, ops_of, replay, performed_in, answered, answered_by, owner_after, event_at-next, World, Memory, at_client, opening, Room, server_row, server_step, Step, NextEvent, Tell, Again, Deliver, Nudge, Timeout, StopDelivery, StopWork, Crash, Narrow, StopRestart, Restart, Dismiss, CloseClients, after, run, IsRun, commanded, took, ends, at_memory, handed, works, work, nudge, timeout, crash, narrow, stop_restart, restart, close_clients, Act, Does, Refused, Tells, Shows, Item, events_of, steps_in, steps_of, after_item, IsUnder, AreUnder, ops_in}
 use Rattle.jn_msgs.specs.declared.message.Message.TheVariants as messages
-use Rattle.jn_msgs.specs.declared.message.Outcome.{Outcome}
 use Rattle.jn_msgs.specs.declared.message.Outcome.TheVariants as outcomes
-use Rattle.jn_schedule.specs.declared.Event.{Event}
-use Rattle.jn_schedule.specs.declared.Event.TheVariants.{Command as CommandOf}
 use Rattle.jn_report.specs.declared.line.Refusal.TheVariants as refusals
-use Rattle.jn_report.specs.declared.line.Text.{Text}
 use Rattle.jn_report.specs.declared.line.Text.TheVariants as says
-use Rattle.jn_report.specs.declared.line.Line.{Line}
-use Rattle.jn_rows.specs.declared.client.Outstanding.{Outstanding}
-use Rattle.jn_rows.specs.declared.client.OpenWork.{OpenWork}
-use Rattle.jn_rows.specs.declared.client.Taken.{Taken}
 use Rattle.jn_rows.specs.declared.client.Taken.TheVariants as taken
-use Rattle.jn_rows.specs.Stable.{Pick, stable}
-use Rattle.jn_rows.specs.Outcomes.{RowOutcome, Sent}
-use Rattle.jn_rows.specs.Client.{ClientTable, Commanded, Refuses, Sends, work_at, if_server, if_idle, if_transaction, if_no_transaction, if_open, if_not_open, command_row, is_current, is_end, is_end_or_abort, if_waits, begun_row, opened_row, decided_row, outcome_row, take_row}
-use Rattle.jn_replay.specs.declared.files.Performed.{Performed}
-use Rattle.jn_serial.specs.declared.following.Asked.{Asked}
+use Rattle.jn_rows.specs.Client.{work_at}
 use Rattle.jn_serial.specs.declared.following.Addressed.{Addressed}
-use Rattle.jn_serial.specs.Follows.{Outstanding as Waited, with_asked, answer_in, is_last, fits, fits_asked, answers_command, after_answer}
-use Rattle.jn_serial.specs.Lines.{event_at}
-use Rattle.jn_replay.specs.Operations.{files_then}
-use Rattle.jn_serial.specs.Order.{ops_of, replay}
-use Rattle.jn_serial.specs.InTurn.{performed_in, answered, answered_by, owner_after}
-use Rattle.jn_serial.proofs.Growth.{event_at-next}
-use Rattle.jn_system.specs.WholeSystem.World.{World, Memory, at_client, opening}
-use Rattle.jn_system.specs.WholeSystem.Servers.{Room, server_row, server_step}
-use Rattle.jn_system.specs.WholeSystem.Steps.{Step, NextEvent, Tell, Again, Deliver, Work, Nudge, Timeout, StopDelivery, StopWork, Crash, Narrow, StopRestart, Restart, Dismiss, CloseClients, after, run, IsRun, commanded, took, ends, at_memory, handed, works, work, nudge, timeout, crash, narrow, stop_restart, restart, close_clients}
-use Rattle.jn_system_reports.specs.Reporting.Reported.{Act, Does, Refuses as Refused, Tells, Shows, Item, events_of, steps_in, steps_of, after_item, IsUnder, AreUnder}
+use Rattle.jn_system.specs.WholeSystem.Steps.{Work}
 use Rattle.jn_system_reports.proofs.Reporting.Lists.{Each, each-append}
 use Rattle.jn_system_reports.proofs.Reporting.Reached.{Reached, next-reached}
 use Rattle.jn_system_reports.proofs.Reporting.Fitting.{asked_of, Fit, left}
 use Rattle.jn_system_reports.proofs.Reporting.Hearing.{IsQuiet, step-hears, Commands, commands}
 use Rattle.jn_system_reports.proofs.Reporting.Following.{IsQuietAct, under-quiet, event-follows, run-split}
-use Rattle.jn_system_reports.specs.Telling.Told.{ops_in}
 use Rattle.jn_system_reports.proofs.Telling.Runs.{TellsAs}
 use Rattle.jn_system_reports.proofs.Telling.Reports.{IsCalm}
 

@@ -1,34 +1,7 @@
 -- The works that take operations: no row but that of an operation changes what they did, or sends an operation or an answer.
-use Rattle.std.proofs.Common.{◌≡◌, ◌≢◌, ◌⊎◌, inl, inr, ℕ, zero, suc, Bool, true, false, List, [], ◌∷◌, ◌++◌, Option, Some, None, refl, sym, ◌∙◌, ap, subst, arith}
-use Rattle.std.specs.Prelude.{if◌then◌else◌, nat_lt, length, slice_get, take}
-use Rattle.jn_base.specs.declared.names.ClientNo.{ClientNo}
-use Rattle.jn_base.specs.declared.names.Tid.{Tid}
-use Rattle.jn_base.specs.declared.names.WorkId.{WorkId}
-use Rattle.jn_base.specs.declared.names.Tickets.{Tickets}
-use Rattle.jn_base.specs.declared.names.Party.TheVariants.{Server}
-use Rattle.jn_base.specs.Names.{work_eq}
-use Rattle.jn_order.specs.Files.{change}
-use Rattle.jn_records.specs.declared.intention.Intention.{Intention}
+use Rattle.jn_system_reports.proofs.Common.{◌≡◌, ◌≢◌, ◌⊎◌, inl, inr, ℕ, zero, suc, Bool, true, false, List, [], ◌∷◌, ◌++◌, Option, Some, None, refl, sym, ◌∙◌, ap, subst, arith, if◌then◌else◌, nat_lt, length, slice_get, take, ClientNo, Tid, WorkId, Tickets, Server, work_eq, change, Intention, Vote, Work, Phase, Active, Broken, Stored, ActiveWork, StableState, Prepared, Change, AddReady, MarkGoing, CarryOut, RemoveWork, AddFlag, DropFlag, gone_on, is_going, ready_work, made_by, made_all, RowOutcome, Sent, WorkerTable, WorkStorage, Wanted, Held, work_at, work_of, with_phase, without, new_work, name_from, open_row, conflict, commit_wants, vote_of, shortage, need_in, prepared_row, prepare_phase, prepare_row, commit_phase, work_commit_row, drop_phase, drop_row, going_work, intentions_of, carried_row, going_row, worker_step, worker_again, vulnerable, timed_out, timeout_row, are_rising, is_after, at-more, at-less, none-front, work_is, Working, some_is, none_some, at_work_cases, World, Memory, TableFact, Regrants, Origin, Mine, Kept, Broke, granted, phase_changed, by-name, of-found, active_in, working_in, working_of}
 use Rattle.jn_msgs.specs.declared.message.Message.TheVariants as messages
-use Rattle.jn_msgs.specs.declared.message.Vote.{Vote}
 use Rattle.jn_msgs.specs.declared.message.Vote.TheVariants as votes
-use Rattle.jn_rows.specs.declared.worker.Work.{Work}
-use Rattle.jn_rows.specs.declared.worker.Phase.{Phase}
-use Rattle.jn_rows.specs.declared.worker.Phase.TheVariants.{Active, Broken, Prepared as Stored}
-use Rattle.jn_rows.specs.declared.worker.ActiveWork.{ActiveWork}
-use Rattle.jn_rows.specs.Stable.{StableState, Prepared, Change, AddReady, MarkGoing, CarryOut, RemoveWork, AddFlag, DropFlag, gone_on, is_going, ready_work, made_by, made_all}
-use Rattle.jn_rows.specs.Outcomes.{RowOutcome, Sent}
-use Rattle.jn_rows.specs.Worker.{WorkerTable, WorkStorage, Wanted, Held, work_at, work_of, with_phase, without, new_work, name_from, open_row, conflict, commit_wants, vote_of, shortage, need_in, prepared_row, prepare_phase, prepare_row, commit_phase, commit_row as work_commit_row, drop_phase, drop_row, going_work, intentions_of, carried_row, going_row, worker_step, worker_again, vulnerable, timed_out, timeout_row}
-use Rattle.jn_lock_rows.specs.Matching.{are_rising, is_after}
-use Rattle.jn_lock_rows.proofs.Works.{at-more, at-less, none-front, work_is}
-use Rattle.jn_system.specs.SmallSteps.World.{Working}
-use Rattle.jn_system.proofs.SmallSteps.Updates.{some_is, none_some, at_work_cases}
-use Rattle.jn_system.specs.WholeSystem.World.{World, Memory}
-use Rattle.jn_system.specs.WholeSystem.LockFacts.{TableFact}
-use Rattle.jn_system.proofs.WholeSystem.Granted.{Regrants, Origin, Mine, Kept, Broke, granted, phase_changed}
-use Rattle.jn_system.proofs.WholeSystem.Rows.{by-name}
-use Rattle.jn_system.proofs.WholeSystem.Tables.{of-found}
-use Rattle.jn_system_order.specs.Mirroring.Mirrors.{active_in, working_in, working_of}
 
 -- ---- works that take operations
 

@@ -1,47 +1,7 @@
 -- The commits of the lines are those of the machine, with what its works did.
-use Rattle.std.proofs.Common.{◌≡◌, ◌⊎◌, inl, inr, ℕ, ◌+◌, Bool, true, false, List, [], ◌∷◌, ◌++◌, append-nil, Option, Some, None, refl, sym, ◌∙◌, ap, subst, arith}
-use Rattle.std.proofs.Math.Path.{fun_ext}
-use Rattle.std.specs.Prelude.{◌||◌}
-use Rattle.std.specs.List.{list_any}
-use Rattle.std.proofs.lemmas.List.Elements.{All-nil}
-use Rattle.jn_base.specs.declared.names.ServerNo.{ServerNo}
-use Rattle.jn_base.specs.declared.names.LockUnit.{LockUnit}
-use Rattle.jn_base.specs.declared.names.Tid.{Tid}
-use Rattle.jn_base.specs.declared.names.WorkId.{WorkId}
-use Rattle.jn_base.specs.Names.{tid_eq}
-use Rattle.jn_base.proofs.Tells.{tid_tells}
-use Rattle.jn_order.specs.Files.{AllFiles, change}
-use Rattle.jn_schedule.specs.declared.Event.{Event}
-use Rattle.jn_report.specs.declared.line.Line.{Line}
-use Rattle.jn_rows.specs.Stable.{Pick, stable}
-use Rattle.jn_serial.specs.Lines.{history_of}
-use Rattle.jn_replay.specs.declared.files.Performed.{Performed}
-use Rattle.jn_replay.specs.Operations.{files_then, GivesAnswers}
-use Rattle.jn_serial.specs.Order.{ops_of, replay as replay-lines, AgreesFrom}
-use Rattle.jn_system.specs.SmallSteps.Traces.{Answered, effects, Agrees}
-use Rattle.jn_system.specs.SmallSteps.World.{World as Machine, Commit, replay, IsSerial}
-use Rattle.jn_system.specs.SmallSteps.Steps.{Atom, trace_of, run as run_atoms, opening_world}
-use Rattle.jn_system.specs.SmallSteps.Premises.{MayRun}
-use Rattle.jn_system.specs.SmallSteps.Invariant.{Invariant}
-use Rattle.jn_system.specs.SmallSteps.Order.{has_committed, HasTraces, IsInOrder as InOrder}
-use Rattle.jn_system.proofs.SmallSteps.Updates.{not_both, false_unless}
-use Rattle.jn_system.proofs.SmallSteps.Runs.{run_kept, opening_kept}
-use Rattle.jn_system.proofs.SmallSteps.MessageLemmas.{run_grows}
-use Rattle.jn_report.specs.declared.line.Text.{Text}
-use Rattle.jn_system.proofs.SmallSteps.History.{IsTold, run_told, opening_told, in_order}
-use Rattle.jn_system.specs.WholeSystem.World.{World, commits_in, opening}
-use Rattle.jn_system.specs.WholeSystem.Steps.{Step, IsStep, after}
-use Rattle.jn_system.specs.WholeSystem.LockFacts.{LockFacts, ServerFact}
-use Rattle.jn_system.proofs.WholeSystem.Steps.{locks-keep, opening-keeps}
-use Rattle.jn_system_order.specs.Mirroring.Mirrors.{Mirrors, commits_of}
-use Rattle.jn_system_order.proofs.Mirroring.Losing.{run-append, may-append}
-use Rattle.jn_system_order.proofs.Mirroring.StepMoves.{committed-any, opening-mirrors}
-use Rattle.jn_system_order.specs.Ordering.Runs.{IsDone}
-use Rattle.jn_system_order.proofs.Ordering.Facts.{Facts}
-use Rattle.jn_system_order.proofs.Ordering.Runs.{opening-facts}
+use Rattle.jn_system_reports.proofs.Common.{◌≡◌, ◌⊎◌, inl, inr, ℕ, ◌+◌, Bool, true, false, List, [], ◌∷◌, ◌++◌, Option, Some, None, refl, sym, ◌∙◌, ap, subst, arith, fun_ext, ◌||◌, list_any, All-nil, ServerNo, LockUnit, Tid, WorkId, tid_eq, tid_tells, AllFiles, change, Event, Line, Pick, stable, history_of, Performed, files_then, GivesAnswers, ops_of, replay-lines, AgreesFrom, Answered, effects, Agrees, Machine, Commit, IsSerial, Atom, trace_of, run_atoms, opening_world, MayRun, Invariant, has_committed, HasTraces, InOrder, not_both, false_unless, run_kept, opening_kept, run_grows, Text, IsTold, run_told, opening_told, in_order, World, commits_in, opening, Step, IsStep, after, LockFacts, ServerFact, locks-keep, opening-keeps, Mirrors, commits_of, run-append, may-append, committed-any, opening-mirrors, IsDone, Facts, opening-facts, ops_in, at_place, AreAsTold}
+use Rattle.jn_system.specs.SmallSteps.World.{replay}
 use Rattle.jn_system_order.proofs.Ordering.Unlocked.{writes-nothing}
-use Rattle.jn_system_reports.specs.Telling.Told.{ops_in, at_place}
-use Rattle.jn_system_reports.specs.Telling.Agreement.{AreAsTold}
 use Rattle.jn_system_reports.proofs.Telling.Tellings.{SaysAs, as-itself, all-answers}
 use Rattle.jn_system_reports.proofs.Telling.Facts.{said, IsDrawn, IsEndedAt, Talk}
 use Rattle.jn_system_reports.proofs.Telling.Runs.{TellsAs, goes-on}

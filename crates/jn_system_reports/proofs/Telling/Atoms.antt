@@ -1,20 +1,7 @@
 -- What any steps of the machine leave of a work: what it did grows at its end, and where it doesn't go on it stays as it is.
-use Rattle.std.proofs.Common.{◌≡◌, ◌≢◌, ◌⊎◌, inl, inr, Bool, true, false, List, [], ◌∷◌, ◌++◌, append-nil, Option, Some, None, if◌then◌else◌, refl, sym, ◌∙◌, ap, subst}
-use Rattle.jn_base.specs.declared.names.ServerNo.{ServerNo}
-use Rattle.jn_base.specs.declared.names.WorkId.{WorkId}
-use Rattle.jn_base.specs.Names.{server_eq, work_eq}
-use Rattle.jn_base.proofs.Tells.{server_tells, work_tells}
-use Rattle.jn_rows.specs.Stable.{StableState, Prepared, Pick, Change, AddReady, MarkGoing, CarryOut, RemoveWork, AddFlag, DropFlag, at_work, gone_on, ready_work, made_by}
-use Rattle.jn_system.specs.SmallSteps.World.{World, Working}
-use Rattle.jn_system.specs.SmallSteps.Traces.{Answered}
-use Rattle.jn_system.specs.SmallSteps.Invariant.{Invariant}
-use Rattle.jn_system.specs.SmallSteps.NameFacts.{NamesFact}
-use Rattle.jn_system.specs.SmallSteps.Steps.{Atom, Open, Perform, Lose, Prepare, NoteReady, Make, Decide, Narrow, RaiseEpoch, Crash, Restart, server_of, changed, with_epoch, after, run}
-use Rattle.jn_system.specs.SmallSteps.Premises.{MayMake, May, MayRun}
-use Rattle.jn_system.proofs.SmallSteps.Updates.{not_both, at_work_other, at_work_cases, none_some, some_of}
-use Rattle.jn_system.proofs.SmallSteps.NameLemmas.{fresh_work}
-use Rattle.jn_system.proofs.SmallSteps.MessageLemmas.{grows}
-use Rattle.jn_system.proofs.SmallSteps.Runs.{step_kept}
+use Rattle.jn_system_reports.proofs.Common.{◌≡◌, ◌≢◌, ◌⊎◌, inl, inr, Bool, true, false, List, [], ◌∷◌, ◌++◌, append-nil, Option, Some, None, if◌then◌else◌, refl, sym, ◌∙◌, ap, subst, ServerNo, WorkId, server_eq, work_eq, server_tells, work_tells, StableState, Prepared, Pick, Change, AddReady, MarkGoing, CarryOut, RemoveWork, AddFlag, DropFlag, at_work, gone_on, ready_work, made_by, Working, Answered, Invariant, NamesFact, Atom, Perform, Lose, Prepare, NoteReady, Make, Decide, RaiseEpoch, server_of, changed, with_epoch, MayMake, May, MayRun, not_both, at_work_other, at_work_cases, none_some, some_of, fresh_work, grows, step_kept}
+use Rattle.jn_system.specs.SmallSteps.World.{World}
+use Rattle.jn_system.specs.SmallSteps.Steps.{Open, Narrow, Crash, Restart, after, run}
 
 -- ---- what a work did
 

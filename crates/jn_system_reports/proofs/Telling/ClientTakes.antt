@@ -1,52 +1,11 @@
 -- A client takes a message.
-use Rattle.std.proofs.Common.{◌≡◌, ◌≢◌, ◌⊎◌, inl, inr, ◌<◌, ◌≤◌, ℕ, ◌+◌, Bool, true, false, List, [], ◌∷◌, ◌++◌, append-nil, Option, Some, None, refl, sym, ◌∙◌, ap, subst, arith}
-use Rattle.std.specs.Prelude.{if◌then◌else◌, ◌||◌, ◌&&◌, nat_eq, All, slice_get}
-use Rattle.std.proofs.lemmas.Bool.Decides.{nat_tests}
-use Rattle.std.proofs.lemmas.List.Elements.{All-nil}
-use Rattle.jn_base.specs.declared.names.ServerNo.{ServerNo}
-use Rattle.jn_base.specs.declared.names.ClientNo.{ClientNo}
-use Rattle.jn_base.specs.declared.names.Tid.{Tid}
-use Rattle.jn_base.specs.declared.names.WorkId.{WorkId}
-use Rattle.jn_base.specs.declared.names.Party.TheVariants.{Client, Server}
-use Rattle.jn_base.specs.declared.op.Op.{Op}
-use Rattle.jn_base.specs.declared.op.Answer.{Answer}
+use Rattle.jn_system_reports.proofs.Common.{◌≡◌, ◌≢◌, ◌⊎◌, inl, inr, ◌<◌, ◌≤◌, ℕ, ◌+◌, Bool, true, false, List, [], ◌∷◌, ◌++◌, append-nil, Option, Some, None, refl, sym, ◌∙◌, ap, subst, arith, if◌then◌else◌, ◌||◌, ◌&&◌, nat_eq, All, slice_get, nat_tests, All-nil, ServerNo, ClientNo, Tid, WorkId, Client, Server, Op, Answer, Command, Begin, Open, Do, End, Abort, server_eq, client_eq, tid_eq, work_eq, server_tells, client_tells, tid_tells, Event, CommandOf, Message, Outcome, Text, ActiveWork, OpenWork, Outstanding, Taken, Sent, ClientTable, open_at, is_begin, is_operation, is_end_or_abort, opens, is_current, is_tid, if_waits, idle, over, begun_row, opened_row, answer_line, decided_row, outcome_row, take_row, event_at, performed_in, answered_by, begins_for, owner_after, is_its_client, work_same, Answered, Machine, Says, IsWorkOf, not_both, false_unless, some_is, none_some, World, at_client, took, taken_by, Mirrors, IsCurrent, found-open, holds-of, Opening, opening_in, openings, Has, is_closing, Facts, all-have-theirs, any-append, ops_in, owner_in, begins_it, is_begun, begun_by, at_place}
 use Rattle.jn_base.specs.declared.op.Answer.TheVariants as answers
-use Rattle.jn_base.specs.declared.op.Command.{Command}
-use Rattle.jn_base.specs.declared.op.Command.TheVariants.{Begin, Open, Do, End, Abort}
-use Rattle.jn_base.specs.Names.{server_eq, client_eq, tid_eq, work_eq}
-use Rattle.jn_base.proofs.Tells.{server_tells, client_tells, tid_tells}
-use Rattle.jn_schedule.specs.declared.Event.{Event}
-use Rattle.jn_schedule.specs.declared.Event.TheVariants.{Command as CommandOf}
-use Rattle.jn_msgs.specs.declared.message.Message.{Message}
 use Rattle.jn_msgs.specs.declared.message.Message.TheVariants as messages
-use Rattle.jn_msgs.specs.declared.message.Outcome.{Outcome}
 use Rattle.jn_msgs.specs.declared.message.Outcome.TheVariants as outcomes
-use Rattle.jn_report.specs.declared.line.Text.{Text}
 use Rattle.jn_report.specs.declared.line.Text.TheVariants as says
-use Rattle.jn_rows.specs.declared.worker.ActiveWork.{ActiveWork}
-use Rattle.jn_rows.specs.declared.client.OpenWork.{OpenWork}
-use Rattle.jn_rows.specs.declared.client.Outstanding.{Outstanding}
-use Rattle.jn_rows.specs.declared.client.Taken.{Taken}
 use Rattle.jn_rows.specs.declared.client.Taken.TheVariants as taken
-use Rattle.jn_rows.specs.Outcomes.{Sent}
-use Rattle.jn_rows.specs.Client.{ClientTable, work_at as open_at, is_begin, is_operation, is_end_or_abort, opens, is_current, is_tid, if_waits, idle, over, begun_row, opened_row, answer_line, decided_row, outcome_row, take_row}
-use Rattle.jn_serial.specs.Lines.{event_at}
-use Rattle.jn_serial.specs.InTurn.{performed_in, answered_by, begins_for, owner_after, is_its_client}
-use Rattle.jn_lock_rows.proofs.Works.{work_same}
-use Rattle.jn_system.specs.SmallSteps.Traces.{Answered}
-use Rattle.jn_system.specs.SmallSteps.World.{World as Machine}
-use Rattle.jn_system.specs.SmallSteps.Messages.{Says, IsWorkOf}
-use Rattle.jn_system.proofs.SmallSteps.Updates.{not_both, false_unless, some_is, none_some}
-use Rattle.jn_system.specs.WholeSystem.World.{World, at_client}
-use Rattle.jn_system.specs.WholeSystem.Steps.{took, taken_by}
-use Rattle.jn_system_order.specs.Mirroring.Mirrors.{Mirrors, IsCurrent}
-use Rattle.jn_system_order.proofs.Mirroring.ClientRows.{found-open}
-use Rattle.jn_system_order.proofs.Mirroring.StepMoves.{holds-of}
-use Rattle.jn_system_order.proofs.Ordering.Openings.{Opening, opening_in, openings, Has}
-use Rattle.jn_system_order.proofs.Ordering.Facts.{opening, is_closing, Facts}
-use Rattle.jn_system_order.proofs.Ordering.ClientFacts.{all-have-theirs}
-use Rattle.jn_serial.proofs.Orders.{any-append}
-use Rattle.jn_system_reports.specs.Telling.Told.{ops_in, owner_in, begins_it, is_begun, begun_by, at_place}
+use Rattle.jn_system_order.proofs.Ordering.Facts.{opening}
 use Rattle.jn_system_reports.proofs.Telling.Tellings.{SaysAs, ops-more, owner-more, begun-more, by-begun, place-more, none-told}
 use Rattle.jn_system_reports.proofs.Telling.Acting.{acting, AreSilent}
 use Rattle.jn_system_reports.proofs.Telling.Facts.{said, counts, op_in, op_asked, IsOperation, IsAsking, IsNumbered, Hears, IsRunningAt, IsTalking, IsKept, IsDrawn, is_op_of, op_sent, IsOpenAt, IsKnown, IsStarted, Talk}

@@ -1,43 +1,9 @@
 -- A client does a command, or sends its outstanding message once more.
-use Rattle.std.proofs.Common.{nat_lt, ◌≡◌, ◌≢◌, ◌⊎◌, inl, inr, ◌<◌, ◌≤◌, ℕ, ◌+◌, Bool, true, false, List, [], ◌∷◌, ◌++◌, append-nil, Option, Some, None, refl, sym, ◌∙◌, ap, subst, arith}
-use Rattle.std.specs.Prelude.{if◌then◌else◌, ◌||◌, All}
-use Rattle.std.proofs.lemmas.List.Elements.{All-nil, All-cons, All-append}
-use Rattle.jn_base.specs.declared.names.ServerNo.{ServerNo}
-use Rattle.jn_base.specs.declared.names.ClientNo.{ClientNo}
-use Rattle.jn_base.specs.declared.names.Tid.{Tid}
-use Rattle.jn_base.specs.declared.names.WorkId.{WorkId}
-use Rattle.jn_base.specs.declared.names.Party.{Party}
-use Rattle.jn_base.specs.declared.names.Party.TheVariants.{Server}
-use Rattle.jn_base.specs.declared.op.Op.{Op}
-use Rattle.jn_base.specs.declared.op.Command.{Command}
-use Rattle.jn_base.specs.declared.op.Command.TheVariants.{Begin, Open, Do, End, Abort}
-use Rattle.jn_base.specs.Names.{server_eq, work_eq}
-use Rattle.jn_base.proofs.Tells.{server_tells, work_tells}
-use Rattle.jn_schedule.specs.declared.Event.{Event}
-use Rattle.jn_schedule.specs.declared.Event.TheVariants.{Command as CommandOf}
-use Rattle.jn_msgs.specs.declared.message.Message.{Message}
+use Rattle.jn_system_reports.proofs.Common.{nat_lt, ◌≡◌, ◌≢◌, ◌⊎◌, inl, inr, ◌<◌, ◌≤◌, ℕ, ◌+◌, Bool, true, false, List, [], ◌∷◌, ◌++◌, append-nil, Option, Some, None, refl, sym, ◌∙◌, ap, subst, arith, if◌then◌else◌, ◌||◌, All, All-nil, All-cons, All-append, ServerNo, ClientNo, Tid, WorkId, Party, Server, Op, Command, Begin, Open, Do, End, Abort, server_eq, work_eq, server_tells, work_tells, Event, CommandOf, Message, Refusal, ActiveWork, OpenWork, Outstanding, Sent, ClientTable, Commanded, if_server, if_idle, if_transaction, if_no_transaction, if_open, if_not_open, Refuses, open_at, with_operation, sent_again, is_end_or_abort, sends, event_at, work_same, Machine, Invariant, IsWorkOf, not_both, some_is, none_some, World, at_client, tell, again, commanded, sent_now, Mirrors, IsCurrent, found-open, are-counted, openings, openings-more, Has, has-first, is_closing, Facts, owner_in, is_begun}
 use Rattle.jn_msgs.specs.declared.message.Message.TheVariants as messages
-use Rattle.jn_report.specs.declared.line.Refusal.{Refusal}
 use Rattle.jn_report.specs.declared.line.Refusal.TheVariants as refusals
 use Rattle.jn_report.specs.declared.line.Text.TheVariants as says
-use Rattle.jn_rows.specs.declared.worker.ActiveWork.{ActiveWork}
-use Rattle.jn_rows.specs.declared.client.OpenWork.{OpenWork}
-use Rattle.jn_rows.specs.declared.client.Outstanding.{Outstanding}
-use Rattle.jn_rows.specs.Outcomes.{Sent}
-use Rattle.jn_rows.specs.Client.{ClientTable, Commanded, if_server, if_idle, if_transaction, if_no_transaction, if_open, if_not_open, Refuses, work_at as open_at, with_operation, sent_again, is_end_or_abort, sends}
-use Rattle.jn_serial.specs.Lines.{event_at}
-use Rattle.jn_lock_rows.proofs.Works.{work_same}
-use Rattle.jn_system.specs.SmallSteps.World.{World as Machine}
-use Rattle.jn_system.specs.SmallSteps.Invariant.{Invariant}
-use Rattle.jn_system.specs.SmallSteps.Messages.{IsWorkOf}
-use Rattle.jn_system.proofs.SmallSteps.Updates.{not_both, some_is, none_some}
-use Rattle.jn_system.specs.WholeSystem.World.{World, at_client}
-use Rattle.jn_system.specs.WholeSystem.Steps.{tell, again, commanded, sent_now}
-use Rattle.jn_system_order.specs.Mirroring.Mirrors.{Mirrors, IsCurrent}
-use Rattle.jn_system_order.proofs.Mirroring.ClientRows.{found-open, are-counted}
-use Rattle.jn_system_order.proofs.Ordering.Openings.{openings, openings-more, Has, has-first}
-use Rattle.jn_system_order.proofs.Ordering.Facts.{opening, is_closing, Facts}
-use Rattle.jn_system_reports.specs.Telling.Told.{owner_in, is_begun}
+use Rattle.jn_system_order.proofs.Ordering.Facts.{opening}
 use Rattle.jn_system_reports.proofs.Telling.Tellings.{none-told}
 use Rattle.jn_system_reports.proofs.Telling.Acting.{IsSilent}
 use Rattle.jn_system_reports.proofs.Telling.Facts.{said, op_in, op_asked, IsOperation, IsAsking, IsNumbered, Hears, IsRunningAt, IsTalking, IsPast, IsEndedAt, IsDrawn, op_sent, IsOpenAt, IsKnown, Talk}

@@ -1,29 +1,7 @@
 -- One client changes, and perhaps something is told: what keeps the talk.
-use Rattle.std.proofs.Common.{◌≡◌, ◌≢◌, ◌⊎◌, inl, inr, ◌<◌, ◌≤◌, ℕ, Bool, true, false, List, ◌++◌, Option, Some, None, refl, sym, ◌∙◌, ap, subst, arith}
-use Rattle.std.proofs.Math.Path.{fun_ext}
-use Rattle.std.specs.Prelude.{if◌then◌else◌, All}
-use Rattle.std.proofs.lemmas.List.Elements.{All-append}
-use Rattle.jn_base.specs.declared.names.ServerNo.{ServerNo}
-use Rattle.jn_base.specs.declared.names.ClientNo.{ClientNo}
-use Rattle.jn_base.specs.declared.names.Tid.{Tid}
-use Rattle.jn_base.specs.declared.names.WorkId.{WorkId}
-use Rattle.jn_base.specs.Names.{client_eq}
-use Rattle.jn_base.proofs.Tells.{client_tells}
-use Rattle.jn_schedule.specs.declared.Event.{Event}
-use Rattle.jn_msgs.specs.declared.message.Message.{Message}
+use Rattle.jn_system_reports.proofs.Common.{◌≡◌, ◌≢◌, ◌⊎◌, inl, inr, ◌<◌, ◌≤◌, ℕ, Bool, true, false, List, ◌++◌, Option, Some, None, refl, sym, ◌∙◌, ap, subst, arith, fun_ext, if◌then◌else◌, All, All-append, ServerNo, ClientNo, Tid, WorkId, client_eq, client_tells, Event, Message, Text, OpenWork, Outstanding, Sent, ClientTable, is_begin, open_at, Machine, some_is, none_some, World, at_client, dismiss, openings, openings-more, Has, has-first, is_closing, owner_in, is_begun, begun_by}
 use Rattle.jn_msgs.specs.declared.message.Message.TheVariants as messages
-use Rattle.jn_report.specs.declared.line.Text.{Text}
-use Rattle.jn_rows.specs.declared.client.OpenWork.{OpenWork}
-use Rattle.jn_rows.specs.declared.client.Outstanding.{Outstanding}
-use Rattle.jn_rows.specs.Outcomes.{Sent}
-use Rattle.jn_rows.specs.Client.{ClientTable, is_begin, work_at as open_at}
-use Rattle.jn_system.specs.SmallSteps.World.{World as Machine}
-use Rattle.jn_system.proofs.SmallSteps.Updates.{some_is, none_some}
-use Rattle.jn_system.specs.WholeSystem.World.{World, at_client}
-use Rattle.jn_system.specs.WholeSystem.Steps.{dismiss}
-use Rattle.jn_system_order.proofs.Ordering.Openings.{openings, openings-more, Has, has-first}
-use Rattle.jn_system_order.proofs.Ordering.Facts.{opening, is_closing}
-use Rattle.jn_system_reports.specs.Telling.Told.{owner_in, is_begun, begun_by}
+use Rattle.jn_system_order.proofs.Ordering.Facts.{opening}
 use Rattle.jn_system_reports.proofs.Telling.Tellings.{SaysAs}
 use Rattle.jn_system_reports.proofs.Telling.Acting.{AreSilent}
 use Rattle.jn_system_reports.proofs.Telling.Facts.{said, op_asked, IsAsking, IsNumbered, Hears, IsRunningAt, IsTalking, IsEndedAt, IsKept, IsDrawn, op_sent, IsOpenAt, IsKnown, IsStarted, Talk}

@@ -1,30 +1,8 @@
 -- A client ends its transaction: what was told is what its works did.
-use Rattle.std.proofs.Common.{◌≡◌, ◌≢◌, ◌⊎◌, inl, inr, ◌≤◌, ◌+◌, true, false, List, [], ◌∷◌, Option, Some, None, refl, sym, ◌∙◌, ap, subst}
-use Rattle.jn_base.specs.declared.names.ServerNo.{ServerNo}
-use Rattle.jn_base.specs.declared.names.ClientNo.{ClientNo}
-use Rattle.jn_base.specs.declared.names.Tid.{Tid}
-use Rattle.jn_base.specs.declared.names.WorkId.{WorkId}
-use Rattle.jn_base.specs.declared.names.Party.TheVariants.{Server}
-use Rattle.jn_base.specs.declared.op.Command.TheVariants.{End}
-use Rattle.jn_schedule.specs.declared.Event.{Event}
-use Rattle.jn_msgs.specs.declared.message.Message.{Message}
+use Rattle.jn_system_reports.proofs.Common.{◌≡◌, ◌≢◌, ◌⊎◌, inl, inr, ◌≤◌, ◌+◌, true, false, List, [], ◌∷◌, Option, Some, None, refl, sym, ◌∙◌, ap, subst, ServerNo, ClientNo, Tid, WorkId, Server, End, Event, Message, ActiveWork, OpenWork, Sent, ClientTable, Sends, names_of, Machine, Invariant, Atom, end_it, MayRun, Says, IsWorkOf, not_both, at_tid_here, at_tid_other, at_tid_cases, World, commanded, Mirrors, AreOpen, IsCurrent, found-open, is_closing, Facts, work_in, parts_of}
 use Rattle.jn_msgs.specs.declared.message.Message.TheVariants as messages
-use Rattle.jn_rows.specs.declared.worker.ActiveWork.{ActiveWork}
-use Rattle.jn_rows.specs.declared.client.OpenWork.{OpenWork}
-use Rattle.jn_rows.specs.Outcomes.{Sent}
-use Rattle.jn_rows.specs.Client.{ClientTable, Sends, work_at, names_of}
-use Rattle.jn_system.specs.SmallSteps.World.{World as Machine}
-use Rattle.jn_system.specs.SmallSteps.Invariant.{Invariant}
-use Rattle.jn_system.specs.SmallSteps.Steps.{Atom, end_it, run}
-use Rattle.jn_system.specs.SmallSteps.Premises.{MayRun}
-use Rattle.jn_system.specs.SmallSteps.Messages.{Says, IsWorkOf}
-use Rattle.jn_system.proofs.SmallSteps.Updates.{not_both, at_tid_here, at_tid_other, at_tid_cases}
-use Rattle.jn_system.specs.WholeSystem.World.{World}
-use Rattle.jn_system.specs.WholeSystem.Steps.{commanded}
-use Rattle.jn_system_order.specs.Mirroring.Mirrors.{Mirrors, AreOpen, IsCurrent}
-use Rattle.jn_system_order.proofs.Mirroring.ClientRows.{found-open}
-use Rattle.jn_system_order.proofs.Ordering.Facts.{is_closing, Facts}
-use Rattle.jn_system_order.proofs.Ordering.ClientSteps.{work_in, parts_of}
+use Rattle.jn_rows.specs.Client.{work_at}
+use Rattle.jn_system.specs.SmallSteps.Steps.{run}
 use Rattle.jn_system_reports.proofs.Telling.Atoms.{IsPresent}
 use Rattle.jn_system_reports.proofs.Telling.Acting.{acting, acting-of-active}
 use Rattle.jn_system_reports.proofs.Telling.Facts.{IsNumbered, IsRunningAt, IsPast, IsEndedAt, Talk}

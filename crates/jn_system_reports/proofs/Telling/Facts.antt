@@ -1,34 +1,9 @@
 -- What holds of the talk between clients and workers: which operations a client sent, which of them its work has performed,
 -- and that the answers told so far are what the work did.
-use Rattle.std.proofs.Common.{◌≡◌, ◌⊎◌, ◌<◌, ◌≤◌, ℕ, ◌+◌, Bool, true, false, List, [], ◌∷◌, ◌++◌, Option, Some, None}
-use Rattle.std.specs.Prelude.{◌||◌, if◌then◌else◌, All}
-use Rattle.jn_base.specs.declared.names.ServerNo.{ServerNo}
-use Rattle.jn_base.specs.declared.names.ClientNo.{ClientNo}
-use Rattle.jn_base.specs.declared.names.Tid.{Tid}
-use Rattle.jn_base.specs.declared.names.WorkId.{WorkId}
-use Rattle.jn_base.specs.declared.op.Op.{Op}
-use Rattle.jn_base.specs.declared.op.Answer.{Answer}
+use Rattle.jn_system_reports.proofs.Common.{◌≡◌, ◌⊎◌, ◌<◌, ◌≤◌, ℕ, ◌+◌, Bool, true, false, List, [], ◌∷◌, ◌++◌, Option, Some, None, ◌||◌, if◌then◌else◌, All, ServerNo, ClientNo, Tid, WorkId, Op, Answer, Command, Do, work_eq, Event, CommandOf, Message, Text, ActiveWork, OpenWork, Outstanding, Sent, ClientTable, is_begin, open_at, event_at, Answered, Machine, World, openings, Has, is_closing, ops_in, owner_in, is_begun, begun_by, at_place}
 use Rattle.jn_base.specs.declared.op.Answer.TheVariants as answers
-use Rattle.jn_base.specs.declared.op.Command.{Command}
-use Rattle.jn_base.specs.declared.op.Command.TheVariants.{Do}
-use Rattle.jn_base.specs.Names.{work_eq}
-use Rattle.jn_schedule.specs.declared.Event.{Event}
-use Rattle.jn_schedule.specs.declared.Event.TheVariants.{Command as CommandOf}
-use Rattle.jn_msgs.specs.declared.message.Message.{Message}
 use Rattle.jn_msgs.specs.declared.message.Message.TheVariants as messages
-use Rattle.jn_report.specs.declared.line.Text.{Text}
-use Rattle.jn_rows.specs.declared.worker.ActiveWork.{ActiveWork}
-use Rattle.jn_rows.specs.declared.client.OpenWork.{OpenWork}
-use Rattle.jn_rows.specs.declared.client.Outstanding.{Outstanding}
-use Rattle.jn_rows.specs.Outcomes.{Sent}
-use Rattle.jn_rows.specs.Client.{ClientTable, is_begin, work_at as open_at}
-use Rattle.jn_serial.specs.Lines.{event_at}
-use Rattle.jn_system.specs.SmallSteps.Traces.{Answered}
-use Rattle.jn_system.specs.SmallSteps.World.{World as Machine}
-use Rattle.jn_system.specs.WholeSystem.World.{World}
-use Rattle.jn_system_order.proofs.Ordering.Openings.{openings, Has}
-use Rattle.jn_system_order.proofs.Ordering.Facts.{opening, is_closing}
-use Rattle.jn_system_reports.specs.Telling.Told.{ops_in, owner_in, is_begun, begun_by, at_place}
+use Rattle.jn_system_order.proofs.Ordering.Facts.{opening}
 use Rattle.jn_system_reports.proofs.Telling.Tellings.{SaysAs}
 use Rattle.jn_system_reports.proofs.Telling.Atoms.{IsPresent}
 use Rattle.jn_system_reports.proofs.Telling.Acting.{acting, IsSilent}

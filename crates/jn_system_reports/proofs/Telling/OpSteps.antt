@@ -1,56 +1,11 @@
 -- A server takes an operation: it performs the next one, or answers the last one again.
-use Rattle.std.proofs.Common.{◌≡◌, ◌≢◌, ◌⊎◌, inl, inr, ℕ, ◌+◌, Bool, true, false, List, [], ◌∷◌, ◌++◌, append-nil, Option, Some, None, is_some, refl, sym, ◌∙◌, ap, subst, arith}
-use Rattle.std.specs.Prelude.{if◌then◌else◌, nat_eq, nat_lt, length, slice_get}
-use Rattle.std.proofs.lemmas.Bool.Decides.{nat_tests}
-use Rattle.std.proofs.lemmas.List.Elements.{All-nil, All-cons}
-use Rattle.jn_base.specs.declared.names.ServerNo.{ServerNo}
-use Rattle.jn_base.specs.declared.names.ClientNo.{ClientNo}
-use Rattle.jn_base.specs.declared.names.Tid.{Tid}
-use Rattle.jn_base.specs.declared.names.WorkId.{WorkId}
-use Rattle.jn_base.specs.declared.names.Tickets.{Tickets}
-use Rattle.jn_base.specs.declared.names.LockUnit.{LockUnit}
-use Rattle.jn_base.specs.declared.names.Party.TheVariants.{Client, Server}
-use Rattle.jn_base.specs.declared.op.Op.{Op}
+use Rattle.jn_system_reports.proofs.Common.{◌≡◌, ◌≢◌, ◌⊎◌, inl, inr, ℕ, ◌+◌, Bool, true, false, List, [], ◌∷◌, ◌++◌, append-nil, Option, Some, None, is_some, refl, sym, ◌∙◌, ap, subst, arith, if◌then◌else◌, nat_eq, nat_lt, length, slice_get, nat_tests, All-nil, All-cons, ServerNo, ClientNo, Tid, WorkId, Tickets, LockUnit, Client, Server, Op, Answer, server_eq, server_tells, Files, change, answer_to, list_change, length_with, Read, Message, Note, Work, Phase, Active, Broken, Stored, ActiveWork, Prepared, Pick, stable, RowOutcome, ignored, WorkerTable, Wanted, Held, work_at, with_phase, breaks_at, note_of, break_notes, wants_of, is_fit, units_for, with_units, refusal_of, past_limit, locked, first_of_two, conflict, counted, performed-work, granted_row, repeated, performed, op_phase, op_row, found-name, at-phase, in_phase, work_same, Answered, Machine, Atom, run_atoms, MayRun, Says, Invariant, has_committed, some_is, none_some, at_work_here, World, Memory, commits_in, has_line, Room, of_worker, lines_of, done, at_memory, LockFacts, ServerFact, UpFact, Regrants, Origin, Mine, Kept, Broke, phase_changed, by-name, no-lock, Mirrors, MovesTo, DoesRow, named_by, commits-more, lines-commit, mirrored, worker-does, committed-any}
 use Rattle.jn_base.specs.declared.op.Op.TheVariants as ops
-use Rattle.jn_base.specs.declared.op.Answer.{Answer}
 use Rattle.jn_base.specs.declared.op.Answer.TheVariants as answers
-use Rattle.jn_base.specs.Names.{server_eq}
-use Rattle.jn_base.proofs.Tells.{server_tells}
-use Rattle.jn_order.specs.Files.{Files, change, answer_to}
-use Rattle.jn_records.specs.NetLists.{list_change, length_with}
-use Rattle.jn_locks.specs.declared.words.Mode.TheVariants.{Read}
-use Rattle.jn_msgs.specs.declared.message.Message.{Message}
 use Rattle.jn_msgs.specs.declared.message.Message.TheVariants as messages
-use Rattle.jn_msgs.specs.declared.message.Note.{Note}
 use Rattle.jn_msgs.specs.declared.message.Note.TheVariants as notes
 use Rattle.jn_report.specs.declared.line.Text.TheVariants as says
-use Rattle.jn_rows.specs.declared.worker.Work.{Work}
-use Rattle.jn_rows.specs.declared.worker.Phase.{Phase}
-use Rattle.jn_rows.specs.declared.worker.Phase.TheVariants.{Active, Broken, Prepared as Stored}
-use Rattle.jn_rows.specs.declared.worker.ActiveWork.{ActiveWork}
-use Rattle.jn_rows.specs.Stable.{Prepared, Pick, stable}
-use Rattle.jn_rows.specs.Outcomes.{RowOutcome, ignored}
-use Rattle.jn_rows.specs.Worker.{WorkerTable, Wanted, Held, work_at, with_phase, breaks_at, note_of, break_notes, wants_of, is_fit, units_for, with_units, refusal_of, past_limit, locked, first_of_two, conflict, counted, done as performed-work, granted_row, repeated, performed, op_phase, op_row}
-use Rattle.jn_lock_rows.proofs.Works.{found-name, at-phase, in_phase, work_same}
-use Rattle.jn_system.specs.SmallSteps.Traces.{Answered}
-use Rattle.jn_system.specs.SmallSteps.World.{World as Machine}
-use Rattle.jn_system.specs.SmallSteps.Steps.{Atom, run as run_atoms}
-use Rattle.jn_system.specs.SmallSteps.Premises.{MayRun}
-use Rattle.jn_system.specs.SmallSteps.Messages.{Says}
-use Rattle.jn_system.specs.SmallSteps.Invariant.{Invariant}
-use Rattle.jn_system.specs.SmallSteps.Order.{has_committed}
-use Rattle.jn_system.proofs.SmallSteps.Updates.{some_is, none_some, at_work_here}
-use Rattle.jn_system.specs.WholeSystem.World.{World, Memory, commits_in, has_line}
-use Rattle.jn_system.specs.WholeSystem.Servers.{Room, of_worker, lines_of}
-use Rattle.jn_system.specs.WholeSystem.Steps.{done, at_memory}
-use Rattle.jn_system.specs.WholeSystem.LockFacts.{LockFacts, ServerFact, UpFact}
-use Rattle.jn_system.proofs.WholeSystem.Granted.{Regrants, Origin, Mine, Kept, Broke, phase_changed}
-use Rattle.jn_system.proofs.WholeSystem.Rows.{by-name}
-use Rattle.jn_system.proofs.WholeSystem.WorkerRows.{no-lock}
-use Rattle.jn_system_order.specs.Mirroring.Mirrors.{Mirrors, MovesTo}
-use Rattle.jn_system_order.proofs.Mirroring.Mirrored.{DoesRow, named_by, commits-more, lines-commit, mirrored, worker-does}
 use Rattle.jn_system_order.proofs.Mirroring.OpMoves.{atoms, performed-world, may-op, op-does, op-ran, g}
-use Rattle.jn_system_order.proofs.Mirroring.StepMoves.{committed-any}
 use Rattle.jn_system_reports.proofs.Telling.Tellings.{SaysAs, both-more}
 use Rattle.jn_system_reports.proofs.Telling.Acting.{acting, acting_at, acting_of, acting_in, its-work, DidTheSame, same-did, none-new, TableNew, table-same, Adds}
 use Rattle.jn_system_reports.proofs.Telling.Facts.{counts, IsKept, IsDrawn}

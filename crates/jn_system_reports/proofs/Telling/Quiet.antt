@@ -1,53 +1,10 @@
 -- A step keeps the talk in which no client changes and no client is told anything, and in which each work that takes operations does
 -- as much as before, or performs the operation that comes next.
-use Rattle.std.proofs.Common.{◌≡◌, ◌⊎◌, inl, inr, ℕ, ◌+◌, ◌≤◌, ◌<◌, Bool, true, false, List, [], ◌∷◌, ◌++◌, append-nil, Option, Some, None, refl, sym, ◌∙◌, ap, subst, arith}
-use Rattle.std.proofs.Math.Path.{fun_ext}
-use Rattle.std.specs.Prelude.{◌||◌, if◌then◌else◌, All, get_or, slice_get}
-use Rattle.std.specs.List.{list_any}
-use Rattle.std.proofs.lemmas.List.Elements.{All-nil, All-cons, All-append}
-use Rattle.jn_base.specs.declared.names.ServerNo.{ServerNo}
-use Rattle.jn_base.specs.declared.names.ClientNo.{ClientNo}
-use Rattle.jn_base.specs.declared.names.Tid.{Tid}
-use Rattle.jn_base.specs.declared.names.WorkId.{WorkId}
-use Rattle.jn_base.specs.declared.names.Party.{Party}
-use Rattle.jn_base.specs.declared.op.Command.{Command}
-use Rattle.jn_base.specs.declared.op.Command.TheVariants.{Begin, Open, Do, End, Abort}
-use Rattle.jn_base.specs.declared.op.Op.{Op}
-use Rattle.jn_base.specs.declared.op.Answer.{Answer}
-use Rattle.jn_base.specs.Names.{tid_eq}
-use Rattle.jn_schedule.specs.declared.Event.{Event}
-use Rattle.jn_records.specs.NetLists.{list_change}
-use Rattle.jn_msgs.specs.declared.message.Message.{Message}
+use Rattle.jn_system_reports.proofs.Common.{◌≡◌, ◌⊎◌, inl, inr, ℕ, ◌+◌, ◌≤◌, ◌<◌, Bool, true, false, List, [], ◌∷◌, ◌++◌, append-nil, Option, Some, None, refl, sym, ◌∙◌, ap, subst, arith, fun_ext, ◌||◌, if◌then◌else◌, All, get_or, slice_get, list_any, All-nil, All-cons, All-append, ServerNo, ClientNo, Tid, WorkId, Party, Command, Begin, Open, Do, End, Abort, Op, Answer, tid_eq, Event, list_change, Message, Text, ActiveWork, OpenWork, Outstanding, Prepared, Pick, Sent, is_end_or_abort, ClientTable, open_at, answered_by, begins_for, owner_after, Answered, effects, Machine, Working, Atom, run_atoms, MayRun, Invariant, Grows, run_grows, run_kept, not_both, false_unless, none_some, some_of, work_same, holds-of, World, commits_in, has_line, Mirrors, IsCurrent, IsOutstanding, found-open, Says, IsPart, openings, openings-more, Has, has-first, is_closing, any-append, ops_in, owner_in, begins_it, is_begun, at_place, begun_by}
 use Rattle.jn_msgs.specs.declared.message.Message.TheVariants as messages
 use Rattle.jn_report.specs.declared.line.Refusal.TheVariants as refusals
-use Rattle.jn_report.specs.declared.line.Text.{Text}
 use Rattle.jn_report.specs.declared.line.Text.TheVariants as says
-use Rattle.jn_rows.specs.declared.worker.ActiveWork.{ActiveWork}
-use Rattle.jn_rows.specs.declared.client.OpenWork.{OpenWork}
-use Rattle.jn_rows.specs.declared.client.Outstanding.{Outstanding}
-use Rattle.jn_rows.specs.Stable.{Prepared, Pick}
-use Rattle.jn_rows.specs.Outcomes.{Sent}
-use Rattle.jn_rows.specs.Client.{is_end_or_abort, ClientTable, work_at as open_at}
-use Rattle.jn_serial.specs.InTurn.{answered_by, begins_for, owner_after}
-use Rattle.jn_system.specs.SmallSteps.Traces.{Answered, effects}
-use Rattle.jn_system.specs.SmallSteps.World.{World as Machine, Working}
-use Rattle.jn_system.specs.SmallSteps.Steps.{Atom, run as run_atoms}
-use Rattle.jn_system.specs.SmallSteps.Premises.{MayRun}
-use Rattle.jn_system.specs.SmallSteps.Invariant.{Invariant}
-use Rattle.jn_system.proofs.SmallSteps.MessageLemmas.{Grows, run_grows}
-use Rattle.jn_system.proofs.SmallSteps.Runs.{run_kept}
-use Rattle.jn_system.proofs.SmallSteps.Updates.{not_both, false_unless, none_some, some_of}
-use Rattle.jn_lock_rows.proofs.Works.{work_same}
-use Rattle.jn_system_order.proofs.Mirroring.StepMoves.{holds-of}
-use Rattle.jn_system.specs.WholeSystem.World.{World, commits_in, has_line}
-use Rattle.jn_system_order.specs.Mirroring.Mirrors.{Mirrors, IsCurrent, IsOutstanding}
-use Rattle.jn_system_order.proofs.Mirroring.ClientRows.{found-open}
-use Rattle.jn_system.specs.SmallSteps.Messages.{Says}
-use Rattle.jn_system.specs.SmallSteps.Transactions.{IsPart}
-use Rattle.jn_system_order.proofs.Ordering.Openings.{openings, openings-more, Has, has-first}
-use Rattle.jn_system_order.proofs.Ordering.Facts.{opening, is_closing}
-use Rattle.jn_serial.proofs.Orders.{any-append}
-use Rattle.jn_system_reports.specs.Telling.Told.{ops_in, owner_in, begins_it, is_begun, at_place, begun_by}
+use Rattle.jn_system_order.proofs.Ordering.Facts.{opening}
 use Rattle.jn_system_reports.proofs.Telling.Tellings.{first-false, second-false, SaysAs, trace-more, ops-more, owner-more, begun-more}
 use Rattle.jn_system_reports.proofs.Telling.Atoms.{Extends, extends, IsStill, still, IsPresent, present-back}
 use Rattle.jn_system_reports.proofs.Telling.Acting.{acting, working, acting-of-active, active-of-acting, DidTheSame, IsSilent, AreSilent}

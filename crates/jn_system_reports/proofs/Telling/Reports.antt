@@ -1,40 +1,14 @@
 -- What the lines of a run with its schedule tell of a transaction is what the world's lines tell.
-use Rattle.std.proofs.Common.{Bool, true, false, ◌≡◌, ℕ, suc, ◌+◌, List, [], ◌∷◌, ◌++◌, append-nil, append_assoc, length, Option, Some, None, refl, sym, ◌∙◌, ap, subst, arith}
-use Rattle.std.specs.Prelude.{map, ◌||◌}
-use Rattle.jn_base.specs.declared.names.ServerNo.{ServerNo}
-use Rattle.jn_base.specs.declared.names.ClientNo.{ClientNo}
-use Rattle.jn_base.specs.declared.names.Tid.{Tid}
-use Rattle.jn_base.specs.declared.op.Command.{Command}
-use Rattle.jn_order.specs.Files.{AllFiles}
-use Rattle.jn_schedule.specs.declared.Event.{Event}
+use Rattle.jn_system_reports.proofs.Common.{Bool, true, false, ◌≡◌, ℕ, suc, ◌+◌, List, [], ◌∷◌, ◌++◌, append-nil, append_assoc, length, Option, Some, None, refl, sym, ◌∙◌, ap, subst, arith, map, ◌||◌, ServerNo, ClientNo, Tid, Command, AllFiles, Event, Text, Line, Commanded, Refuses, Sends, command_row, commit_in, history_of, event_at, says_of, begins_for, Follows, event_at-next, ops_of, any-append, AreInTurn, ops-in-turn, run_atoms, opening_world, commits-more, World, opening, committed_in, commits_in, Step, NextEvent, Tell, Dismiss, IsStep, IsRun, after, run, commanded, Printed, FileThere, PageStored, UnitLocked, text_printed, Act, Does, Refused, Tells, Shows, Item, events_of, steps_in, steps_of, world_of, told_by, told_in, told_under, after_item, at_event, IsUnder, AreUnder, IsReported, told_by_steps, ops_in, owner_in, is_begun, begun_by, AreAsTold}
 use Rattle.jn_schedule.specs.declared.Event.TheVariants as kinds
-use Rattle.jn_report.specs.declared.line.Text.{Text}
 use Rattle.jn_report.specs.declared.line.Text.TheVariants as says
-use Rattle.jn_report.specs.declared.line.Line.{Line}
-use Rattle.jn_rows.specs.Client.{Commanded, Refuses, Sends, command_row}
-use Rattle.jn_serial.specs.Lines.{commit_in, history_of, event_at, says as says_of}
-use Rattle.jn_serial.specs.InTurn.{begins_for}
-use Rattle.jn_serial.specs.Follows.{Follows}
-use Rattle.jn_serial.proofs.Growth.{event_at-next}
-use Rattle.jn_serial.specs.Order.{ops_of}
-use Rattle.jn_serial.proofs.Orders.{any-append}
 use Rattle.jn_serial.proofs.Beginners.{HasOneClient}
-use Rattle.jn_serial.proofs.InTurn.{AreInTurn, ops-in-turn}
-use Rattle.jn_system.specs.SmallSteps.Steps.{run as run_atoms, opening_world}
-use Rattle.jn_system_order.proofs.Mirroring.Mirrored.{commits-more}
-use Rattle.jn_system.specs.WholeSystem.World.{World, opening, committed_in, commits_in}
-use Rattle.jn_system.specs.WholeSystem.Steps.{Step, NextEvent, Tell, Dismiss, IsStep, IsRun, after, run, commanded}
-use Rattle.jn_system.specs.WholeSystem.Printing.{Printed, FileThere, PageStored, UnitLocked}
-use Rattle.jn_system_reports.specs.Reporting.Printing.{text_printed}
-use Rattle.jn_system_reports.specs.Reporting.Reported.{Act, Does, Refuses as Refused, Tells, Shows, Item, events_of, steps_in, steps_of, world_of, told_by, told_in, told_under, after_item, at_event, lines_of, IsUnder, AreUnder, IsReported}
-use Rattle.jn_system_reports.specs.Reporting.Ending.{told_by_steps}
+use Rattle.jn_system_reports.specs.Reporting.Reported.{lines_of}
 use Rattle.jn_system_reports.proofs.Reporting.Lists.{Each}
 use Rattle.jn_system_reports.proofs.Reporting.Hearing.{IsQuiet, step-hears}
 use Rattle.jn_system_reports.proofs.Reporting.Following.{IsQuietAct, under-quiet, run-split, run-in-turn, run-follows}
 use Rattle.jn_system_reports.proofs.Reporting.Reached.{Reached, next-reached, opening-reached}
 use Rattle.jn_system_reports.proofs.Reporting.Naming.{adds}
-use Rattle.jn_system_reports.specs.Telling.Told.{ops_in, owner_in, is_begun, begun_by}
-use Rattle.jn_system_reports.specs.Telling.Agreement.{AreAsTold}
 use Rattle.jn_system_reports.proofs.Telling.Tellings.{texts_of, ops-of-texts, ops-more, owner-more, by-begun, by-texts}
 use Rattle.jn_system_reports.proofs.Telling.Quiet.{AreDumb, dumb-ops, dumb-owners, dumb-by}
 use Rattle.jn_system_reports.proofs.Telling.Runs.{TellsAs}

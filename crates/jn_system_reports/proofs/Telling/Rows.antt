@@ -1,30 +1,9 @@
 -- No row of a server but that of an operation changes what a work did, or sends an operation or an answer.
-use Rattle.std.proofs.Common.{◌≡◌, ◌⊎◌, inl, inr, ℕ, Bool, true, false, not, List, [], ◌∷◌, ◌++◌, Option, Some, None, refl, arith}
-use Rattle.std.specs.Prelude.{◌&&◌, if◌then◌else◌, nat_lt, nat_eq, length}
-use Rattle.jn_base.specs.declared.names.ClientNo.{ClientNo}
-use Rattle.jn_base.specs.declared.names.Tid.{Tid}
-use Rattle.jn_base.specs.declared.names.WorkId.{WorkId}
-use Rattle.jn_base.specs.declared.names.Tickets.{Tickets}
-use Rattle.jn_base.specs.declared.names.Cause.{Cause}
-use Rattle.jn_msgs.specs.declared.message.Message.{Message}
+use Rattle.jn_system_reports.proofs.Common.{◌≡◌, ◌⊎◌, inl, inr, ℕ, Bool, true, false, not, List, [], ◌∷◌, ◌++◌, Option, Some, None, refl, arith, ◌&&◌, if◌then◌else◌, nat_lt, nat_eq, length, ClientNo, Tid, WorkId, Tickets, Cause, Message, Vote, Transaction, Stage, Ballot, Commitment, StableState, Change, RowOutcome, Sent, WorkerTable, work_at, work_of, CoordinatorTable, all_in, is_work, besides, drops, commits, prepares, committed_to, commit_row, abort_row, forget_row, after_closing, close_clients_row, begin_again, begin_row, end_promised, end_stage, end_row, abort_stage, abort_request, not_known, told_stage, inquire_row, noted, counted_vote, vote_stage, vote_row, done_stage, done_row, thanks_stage, thanks_row, told_again, coordinator_again, transaction_at, with_work, Memory, storage_of, Room, of_worker, of_coordinator, server_row, server_again, TableFact, Closes, Empty, Remains, Goes, Waits, Forgets, client-closes, outcomes-close, named_by, worker-none}
 use Rattle.jn_msgs.specs.declared.message.Message.TheVariants as messages
-use Rattle.jn_msgs.specs.declared.message.Vote.{Vote}
 use Rattle.jn_msgs.specs.declared.message.Vote.TheVariants as votes
-use Rattle.jn_rows.specs.declared.coordinator.Transaction.{Transaction}
-use Rattle.jn_rows.specs.declared.coordinator.Stage.{Stage}
 use Rattle.jn_rows.specs.declared.coordinator.Stage.TheVariants.{Open, Voting, Committed, Aborted}
-use Rattle.jn_rows.specs.declared.coordinator.Voting.{Voting as Ballot}
-use Rattle.jn_rows.specs.declared.coordinator.Committed.{Committed as Commitment}
-use Rattle.jn_rows.specs.Stable.{StableState, Change}
-use Rattle.jn_rows.specs.Outcomes.{RowOutcome, Sent}
-use Rattle.jn_rows.specs.Worker.{WorkerTable, work_at, work_of}
-use Rattle.jn_rows.specs.Coordinator.{CoordinatorTable, all_in, is_work, besides, drops, commits, prepares, committed_to, commit_row, abort_row, forget_row, after_closing, close_clients_row, begin_again, begun_by, begin_row, end_promised, end_stage, end_row, abort_stage, abort_request, not_known, told_stage, inquire_row, noted, counted_vote, vote_stage, vote_row, done_stage, done_row, thanks_stage, thanks_row, told_again, coordinator_again, transaction_at, with_work}
-use Rattle.jn_system.specs.WholeSystem.World.{Memory}
-use Rattle.jn_system.specs.WholeSystem.Servers.{storage_of, Room, of_worker, of_coordinator, server_row, server_again}
-use Rattle.jn_system.specs.WholeSystem.LockFacts.{TableFact}
-use Rattle.jn_system.proofs.WholeSystem.Closes.{Closes, Empty, Stays as Remains, Goes, Waits, Forgets, client-closes, outcomes-close}
-use Rattle.jn_system_order.proofs.Mirroring.Mirrored.{named_by}
-use Rattle.jn_system_order.proofs.Mirroring.WorkerNotes.{worker-none}
+use Rattle.jn_rows.specs.Coordinator.{begun_by}
 use Rattle.jn_system_reports.proofs.Telling.Acting.{TableGoes, table-same, Adds, AreSilent, silent-more, Stays, open-stays, prepare-stays, commit-stays, drop-stays, works-again}
 
 -- ---- what a coordinator sends

@@ -1,53 +1,11 @@
 -- Every step keeps the talk, whatever steps come one after another.
-use Rattle.std.proofs.Common.{◌≡◌, inl, ℕ, true, List, [], ◌∷◌, ◌++◌, append-nil, Option, Some, None, refl, sym, ◌∙◌, ap, subst}
-use Rattle.std.specs.Prelude.{slice_get, is_some}
-use Rattle.jn_base.specs.declared.names.ServerNo.{ServerNo}
-use Rattle.jn_base.specs.declared.names.ClientNo.{ClientNo}
-use Rattle.jn_base.specs.declared.names.Tid.{Tid}
-use Rattle.jn_base.specs.declared.names.Party.TheVariants.{Client, Server}
-use Rattle.jn_base.specs.declared.op.Command.{Command}
-use Rattle.jn_base.specs.declared.op.Command.TheVariants.{Begin, Open, Do, End, Abort}
-use Rattle.jn_order.specs.Files.{AllFiles}
-use Rattle.jn_schedule.specs.declared.Event.{Event}
-use Rattle.jn_schedule.specs.declared.Event.TheVariants.{Command as CommandOf}
-use Rattle.jn_serial.specs.Lines.{event_at}
-use Rattle.jn_msgs.specs.declared.message.Message.{Message}
+use Rattle.jn_system_reports.proofs.Common.{◌≡◌, inl, ℕ, true, List, [], ◌∷◌, ◌++◌, append-nil, Option, Some, None, refl, sym, ◌∙◌, ap, subst, slice_get, is_some, ServerNo, ClientNo, Tid, Client, Server, Command, Begin, Open, Do, End, Abort, AllFiles, Event, CommandOf, event_at, Message, Refusal, Text, Outstanding, Taken, Pick, Sent, ClientTable, Commanded, Refuses, Sends, command_row, take_row, if_idle, if_transaction, names_of, sends, Machine, Invariant, Atom, Ends, run_atoms, opening_world, MayRun, Says, has_committed, run_kept, opening_kept, run_grows, says_still, run_told, opening_told, World, commits_in, Room, Step, NextEvent, Tell, Again, Deliver, Nudge, Timeout, StopDelivery, StopWork, Crash, Narrow, StopRestart, Restart, Dismiss, CloseClients, IsStep, after, handed, at_memory, commanded, tell, again, took, dismiss, LockFacts, Mirrors, MovesTo, IsAddressed, IsTrue, is_shown, active_in, next_in, known_in, All-grows, client-still, Takes, takes, quiet-line, stays-with, step-moves, holds-of, Facts, still-facts, message-facts, work-facts, nudge-facts, timeout-facts, crash-facts, narrow-facts, raise-facts, restart-facts, close-facts, tell-facts, again-facts, taken-facts, dismiss-facts, is_own, not_both, ops_in, parts_of, end-may, end-mirrors, end-facts}
 use Rattle.jn_msgs.specs.declared.message.Message.TheVariants as messages
-use Rattle.jn_report.specs.declared.line.Refusal.{Refusal}
 use Rattle.jn_report.specs.declared.line.Refusal.TheVariants as refusals
-use Rattle.jn_report.specs.declared.line.Text.{Text}
 use Rattle.jn_report.specs.declared.line.Text.TheVariants as says
-use Rattle.jn_rows.specs.declared.client.Outstanding.{Outstanding}
-use Rattle.jn_rows.specs.declared.client.Taken.{Taken}
 use Rattle.jn_rows.specs.declared.client.Taken.TheVariants as taken
-use Rattle.jn_rows.specs.Stable.{Pick}
-use Rattle.jn_rows.specs.Outcomes.{Sent}
-use Rattle.jn_rows.specs.Client.{ClientTable, Commanded, Refuses, Sends, command_row, take_row, if_idle, if_transaction, names_of, sends}
-use Rattle.jn_system.specs.SmallSteps.World.{World as Machine}
-use Rattle.jn_system.specs.SmallSteps.Invariant.{Invariant}
-use Rattle.jn_system.specs.SmallSteps.Steps.{Atom, End as Ends, run as run_atoms, opening_world}
-use Rattle.jn_system.specs.SmallSteps.Premises.{MayRun}
-use Rattle.jn_system.specs.SmallSteps.Messages.{Says}
-use Rattle.jn_system.specs.SmallSteps.Order.{has_committed}
-use Rattle.jn_system.proofs.SmallSteps.Runs.{run_kept, opening_kept}
-use Rattle.jn_system.proofs.SmallSteps.MessageLemmas.{run_grows, says_still}
-use Rattle.jn_system.proofs.SmallSteps.History.{run_told, opening_told}
-use Rattle.jn_system.specs.WholeSystem.World.{World, commits_in}
-use Rattle.jn_system.specs.WholeSystem.Servers.{Room}
-use Rattle.jn_system.specs.WholeSystem.Steps.{Step, NextEvent, Tell, Again, Deliver, Work, Nudge, Timeout, StopDelivery, StopWork, Crash, Narrow, StopRestart, Restart, Dismiss, CloseClients, IsStep, after, handed, at_memory, commanded, tell, again, took, dismiss}
-use Rattle.jn_system.specs.WholeSystem.LockFacts.{LockFacts}
-use Rattle.jn_system_order.specs.Mirroring.Mirrors.{Mirrors, MovesTo, IsAddressed, IsTrue, is_shown, active_in, next_in, known_in}
-use Rattle.jn_system_order.proofs.Mirroring.Mirrored.{All-grows, client-still}
-use Rattle.jn_system_order.proofs.Mirroring.ClientRows.{Takes, takes}
-use Rattle.jn_system_order.proofs.Mirroring.ClientMoves.{quiet-line, stays-with}
-use Rattle.jn_system_order.proofs.Mirroring.StepMoves.{step-moves, holds-of}
-use Rattle.jn_system_order.proofs.Ordering.Facts.{Facts}
-use Rattle.jn_system_order.proofs.Ordering.ServerFacts.{still-facts, message-facts, work-facts, nudge-facts, timeout-facts, crash-facts, narrow-facts, raise-facts, restart-facts, close-facts}
-use Rattle.jn_system_order.proofs.Ordering.ClientSteps.{tell-facts, again-facts, taken-facts, dismiss-facts}
-use Rattle.jn_serial.specs.Follows.{is_own}
-use Rattle.jn_system.proofs.SmallSteps.Updates.{not_both}
+use Rattle.jn_system.specs.WholeSystem.Steps.{Work}
 use Rattle.jn_system_reports.proofs.Reporting.Hearing.{Commands, commands}
-use Rattle.jn_system_reports.specs.Telling.Told.{ops_in}
 use Rattle.jn_system_reports.proofs.Telling.Facts.{IsDrawn, Talk}
 use Rattle.jn_system_reports.proofs.Telling.Quiet.{same-told, IsDumb, Moved, IsQuiet, told-same, of-quiet, serving-talks}
 use Rattle.jn_system_reports.proofs.Telling.ServerSteps.{nothing-quiet, at-memory-quiet, work-quiet, nudge-quiet, timeout-quiet, crash-quiet, narrow-quiet, raise-quiet, up-quiet, close-quiet}
@@ -55,7 +13,6 @@ use Rattle.jn_system_reports.proofs.Telling.OpSteps.{Serves, still-serves, moved
 use Rattle.jn_system_reports.proofs.Telling.Clients.{no-client-talks, dismiss-talks}
 use Rattle.jn_system_reports.proofs.Telling.ClientTells.{tell-talks, again-talks}
 use Rattle.jn_system_reports.proofs.Telling.ClientTakes.{take-talks}
-use Rattle.jn_system_order.proofs.Ordering.ClientSteps.{parts_of, end-may, end-mirrors, end-facts}
 use Rattle.jn_system_reports.proofs.Telling.Ends.{end-talks}
 
 -- a client is told in the event of its command

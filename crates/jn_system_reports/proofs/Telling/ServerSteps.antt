@@ -1,32 +1,7 @@
 -- Each step of a server is quiet, but that in which it takes an operation.
-use Rattle.std.proofs.Common.{◌≡◌, ◌≢◌, ◌⊎◌, inl, inr, ℕ, ◌+◌, Bool, true, false, List, [], ◌∷◌, ◌++◌, append-nil, Option, Some, None, refl, sym, ◌∙◌, ap, subst}
-use Rattle.std.specs.Prelude.{if◌then◌else◌, take}
-use Rattle.jn_base.specs.declared.names.ServerNo.{ServerNo}
-use Rattle.jn_base.specs.declared.names.Tid.{Tid}
-use Rattle.jn_base.specs.declared.names.WorkId.{WorkId}
-use Rattle.jn_base.specs.Names.{server_eq}
-use Rattle.jn_base.proofs.Tells.{server_tells}
-use Rattle.jn_msgs.specs.declared.message.Message.{Message}
-use Rattle.jn_msgs.specs.declared.message.Note.{Note}
+use Rattle.jn_system_reports.proofs.Common.{◌≡◌, ◌≢◌, ◌⊎◌, inl, inr, ℕ, ◌+◌, Bool, true, false, List, [], ◌∷◌, ◌++◌, append-nil, Option, Some, None, refl, sym, ◌∙◌, ap, subst, if◌then◌else◌, take, ServerNo, Tid, WorkId, server_eq, server_tells, Message, Note, Text, Work, Phase, ActiveWork, StableState, Prepared, Pick, Change, stable, made_all, RowOutcome, WorkerTable, work_at, worker_step, timeout_row, restored_worker, with_epoch, some_is, none_some, World, Memory, at_server, commits_in, has_line, storage_of, Room, of_worker, of_step, of_timeout, server_row, server_again, line_of, lines_of, named_now, restored, done, stopped, ends, at_memory, works, work, nudge, timeout, crash, narrow, stop_restart, restart, close_clients, LockFacts, ServerFact, UpFact, IsSoundWork, restored-is, named_by, commits-more, lines-commit, step-none, quiet-line}
 use Rattle.jn_msgs.specs.declared.message.Note.TheVariants as notes
-use Rattle.jn_report.specs.declared.line.Text.{Text}
 use Rattle.jn_report.specs.declared.line.Text.TheVariants as says
-use Rattle.jn_rows.specs.declared.worker.Work.{Work}
-use Rattle.jn_rows.specs.declared.worker.Phase.{Phase}
-use Rattle.jn_rows.specs.declared.worker.ActiveWork.{ActiveWork}
-use Rattle.jn_rows.specs.Stable.{StableState, Prepared, Pick, Change, stable, made_all}
-use Rattle.jn_rows.specs.Outcomes.{RowOutcome}
-use Rattle.jn_rows.specs.Worker.{WorkerTable, work_at, worker_step, timeout_row, restored_worker}
-use Rattle.jn_system.specs.SmallSteps.Steps.{with_epoch}
-use Rattle.jn_system.proofs.SmallSteps.Updates.{some_is, none_some}
-use Rattle.jn_system.specs.WholeSystem.World.{World, Memory, at_server, commits_in, has_line}
-use Rattle.jn_system.specs.WholeSystem.Servers.{storage_of, Room, of_worker, of_step, of_timeout, server_row, server_again, line_of, lines_of, named_now, restored}
-use Rattle.jn_system.specs.WholeSystem.Steps.{done, stopped, ends, at_memory, works, work, nudge, timeout, crash, narrow, stop_restart, restart, close_clients}
-use Rattle.jn_system.specs.WholeSystem.LockFacts.{LockFacts, ServerFact, UpFact, IsSoundWork}
-use Rattle.jn_system.proofs.WholeSystem.Restored.{restored-is}
-use Rattle.jn_system_order.proofs.Mirroring.Mirrored.{named_by, commits-more, lines-commit}
-use Rattle.jn_system_order.proofs.Mirroring.WorkerNotes.{step-none}
-use Rattle.jn_system_order.proofs.Mirroring.ClientMoves.{quiet-line}
 use Rattle.jn_system_reports.proofs.Telling.Acting.{acting, acting_at, acting_of, its-work, DidTheSame, same-did, none-new, Adds, FoundBack, all-back, adds-take, step-stays, timeout-stays}
 use Rattle.jn_system_reports.proofs.Telling.Rows.{ServerStays, is_op, row-stays, close-stays, of-worker, server-again}
 use Rattle.jn_system_reports.proofs.Telling.Quiet.{AreDumb, same-told, told-same, IsQuiet}

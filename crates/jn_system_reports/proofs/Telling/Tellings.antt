@@ -1,25 +1,9 @@
 -- What the lines tell of a transaction, with more lines, and what its operations do at each server.
-use Rattle.std.proofs.Common.{◌≡◌, ◌≢◌, ◌⊎◌, inl, inr, Bool, true, false, List, [], ◌∷◌, ◌++◌, Option, Some, None, refl, sym, ◌∙◌, ap, subst, arith}
-use Rattle.std.specs.Prelude.{if◌then◌else◌, map, ◌||◌, ◌&&◌}
-use Rattle.jn_base.specs.declared.names.ServerNo.{ServerNo}
-use Rattle.jn_base.specs.declared.names.ClientNo.{ClientNo}
-use Rattle.jn_base.specs.declared.names.Tid.{Tid}
-use Rattle.jn_base.specs.Names.{server_eq, client_eq, tid_eq}
-use Rattle.jn_base.proofs.Tells.{server_tells}
-use Rattle.jn_order.specs.Files.{Files, AllFiles, change, effect, answer_to, is_did, files_after, all_files_after, nothing}
+use Rattle.jn_system_reports.proofs.Common.{◌≡◌, ◌≢◌, ◌⊎◌, inl, inr, Bool, true, false, List, [], ◌∷◌, ◌++◌, Option, Some, None, refl, sym, ◌∙◌, ap, subst, arith, if◌then◌else◌, map, ◌||◌, ◌&&◌, ServerNo, ClientNo, Tid, server_eq, client_eq, tid_eq, server_tells, Files, AllFiles, change, effect, answer_to, is_did, files_after, all_files_after, nothing, Event, Text, Line, Performed, files_then, GivesAnswers, answered_by, begins_for, owner_after, told_from, Answered, effect_of, effects, Agrees, says_of, ops_in, owner_in, begins_it, is_begun, begun_by, at_place}
 use Rattle.jn_order.specs.Changes.{and_then}
 use Rattle.jn_order.proofs.ChangeLemmas.{change-then, change-nothing, and_then-assoc, nothing-then}
-use Rattle.jn_schedule.specs.declared.Event.{Event}
-use Rattle.jn_report.specs.declared.line.Text.{Text}
 use Rattle.jn_report.specs.declared.line.Text.TheVariants as says
-use Rattle.jn_report.specs.declared.line.Line.{Line}
-use Rattle.jn_replay.specs.declared.files.Performed.{Performed}
-use Rattle.jn_replay.specs.Operations.{files_then, GivesAnswers}
-use Rattle.jn_serial.specs.InTurn.{answered_by, begins_for, owner_after, told_from}
-use Rattle.jn_system.specs.SmallSteps.Traces.{Answered, effect_of, effects, Agrees}
 use Rattle.jn_system.proofs.SmallSteps.TraceLemmas.{agrees_more}
-use Rattle.jn_serial.specs.Lines.{says as says_of}
-use Rattle.jn_system_reports.specs.Telling.Told.{ops_in, owner_in, begins_it, is_begun, begun_by, at_place}
 
 -- ---- lists
 

@@ -1,48 +1,13 @@
 -- What a settle with all servers up answers.
-use Rattle.std.proofs.Common.{◌≡◌, ◌≢◌, ◌⊎◌, inl, inr, ◌≤◌, ◌<◌, ℕ, zero, suc, ◌+◌, Bool, true, false, List, [], ◌∷◌, ◌++◌, Option, Some, None, true≢false, refl, sym, ◌∙◌, ap, subst, arith}
-use Rattle.std.specs.Prelude.{if◌then◌else◌, slice_get, nat_eq, nat_lt, ◌&&◌, ◌||◌, length, map}
-use Rattle.std.specs.List.{list_any}
-use Rattle.std.proofs.lemmas.Bool.Decides.{nat_tests}
-use Rattle.jn_base.specs.declared.names.ServerNo.{ServerNo}
-use Rattle.jn_base.specs.declared.names.ClientNo.{ClientNo}
-use Rattle.jn_base.specs.declared.names.Tid.{Tid}
-use Rattle.jn_base.specs.declared.names.WorkId.{WorkId}
-use Rattle.jn_base.specs.declared.names.Party.TheVariants.{Client, Server}
-use Rattle.jn_base.specs.declared.op.Command.{Command}
+use Rattle.jn_system_settling.proofs.Common.{◌≡◌, ◌≢◌, ◌⊎◌, inl, inr, ◌≤◌, ◌<◌, ℕ, zero, suc, ◌+◌, Bool, true, false, List, [], ◌∷◌, ◌++◌, Option, Some, None, true≢false, refl, sym, ◌∙◌, ap, subst, arith, if◌then◌else◌, slice_get, nat_eq, nat_lt, ◌&&◌, ◌||◌, map, list_any, nat_tests, ServerNo, ClientNo, Tid, WorkId, Client, Server, Command, client_eq, server_eq, tid_eq, client_tells, server_tells, Message, WorkEntry, Taken, Ignored, Outstanding, Pick, stable, Sent, sends_row, work_of, new_work, open_row, ClientTable, Commanded, Refuses, Sends, command_row, take_row, is_current, is_tid, opens, opened_row, if_waits, outcome_row, is_end_or_abort, over, after_command, World, Memory, at_client, servers_from, Room, server_row, Step, Tell, Again, Deliver, Nudge, StopDelivery, StopWork, Dismiss, IsStep, after, handed, commanded, works, UpFact, ServerFact, of-found, Course, go, go_on, Chance, clients_from, first_busy, handing, working, next_step, onward, until_rest, ask_again, AllFiles, Requested, tid_tells, Outcome, Transaction, Stage, Open, Voting, Committed, Aborted, transaction_at, abort_stage, abort_request, drops, besides, aborted_to, Opening, openings, HasOpening, Reached, next-reached}
+use Rattle.std.specs.Prelude.{length}
 use Rattle.jn_base.specs.declared.op.Command.TheVariants as commands
-use Rattle.jn_base.specs.Names.{client_eq, server_eq, tid_eq}
-use Rattle.jn_base.proofs.Tells.{client_tells, server_tells}
-use Rattle.jn_msgs.specs.declared.message.Message.{Message}
 use Rattle.jn_msgs.specs.declared.message.Message.TheVariants as messages
-use Rattle.jn_rows.specs.declared.worker.Work.{Work as WorkEntry}
-use Rattle.jn_rows.specs.declared.client.Taken.{Taken}
-use Rattle.jn_rows.specs.declared.client.Taken.TheVariants.{Ignored}
-use Rattle.jn_rows.specs.declared.client.Outstanding.{Outstanding}
-use Rattle.jn_rows.specs.Stable.{Pick, stable}
-use Rattle.jn_rows.specs.Outcomes.{Sent, sends as sends_row}
-use Rattle.jn_rows.specs.Worker.{work_of, name_from, new_work, open_row}
-use Rattle.jn_rows.specs.Client.{ClientTable, Commanded, Refuses, Sends, command_row, take_row, is_current, is_tid, opens, opened_row, if_waits, outcome_row, is_end_or_abort, over}
-use Rattle.jn_rows.specs.ClientLaws.{after_command}
-use Rattle.jn_system.specs.WholeSystem.World.{World, Memory, at_client, servers_from}
-use Rattle.jn_system.specs.WholeSystem.Servers.{Room, server_row}
-use Rattle.jn_system.specs.WholeSystem.Steps.{Step, Tell, Again, Deliver, Work, Nudge, StopDelivery, StopWork, Dismiss, IsStep, after, handed, commanded, works}
-use Rattle.jn_system.specs.WholeSystem.LockFacts.{UpFact, ServerFact}
-use Rattle.jn_system.proofs.WholeSystem.Tables.{of-found}
-use Rattle.jn_system_settling.specs.Settling.Course.{Course, go, go_on}
-use Rattle.jn_system_settling.specs.Settling.Settle.{Chance, clients_from, first_busy, handing, working, next_step, onward, until_rest, ask_again}
+use Rattle.jn_rows.specs.Worker.{name_from}
+use Rattle.jn_system.specs.WholeSystem.Steps.{Work}
 use Rattle.jn_system_settling.proofs.Settling.Courses.{Sound, go-sound}
-use Rattle.jn_order.specs.Files.{AllFiles}
-use Rattle.jn_base.specs.declared.names.Cause.TheVariants.{Requested}
-use Rattle.jn_base.proofs.Tells.{tid_tells}
-use Rattle.jn_msgs.specs.declared.message.Outcome.{Outcome}
 use Rattle.jn_msgs.specs.declared.message.Outcome.TheVariants as outcomes
-use Rattle.jn_rows.specs.declared.coordinator.Transaction.{Transaction}
-use Rattle.jn_rows.specs.declared.coordinator.Stage.{Stage}
-use Rattle.jn_rows.specs.declared.coordinator.Stage.TheVariants.{Open, Voting, Committed, Aborted}
-use Rattle.jn_rows.specs.Coordinator.{transaction_at, abort_stage, abort_request, drops, besides, aborted_to}
-use Rattle.jn_system_order.proofs.Ordering.Openings.{Opening, openings, Has as HasOpening}
 use Rattle.jn_system_settling.proofs.Settling.CoordinatorFits.{found-name}
-use Rattle.jn_system_reports.proofs.Reporting.Reached.{Reached, next-reached}
 use Rattle.jn_system_settling.proofs.AtRest.Owners.{owner_in, owned-found}
 use Rattle.jn_system_settling.proofs.AtRest.Within.{Within, within-step}
 use Rattle.jn_system_settling.proofs.AtRest.Talk.{IsStill, IsFitting, still-fits, command-fits, take-still}

@@ -1,22 +1,7 @@
 -- What a settle with these servers up answers.
-use Rattle.std.proofs.Common.{◌≡◌, ◌⊎◌, inl, inr, ◌≤◌, ℕ, List, [], Some, None, refl, sym, ◌∙◌, ap, subst, arith}
-use Rattle.jn_base.specs.declared.names.ServerNo.{ServerNo}
-use Rattle.jn_base.specs.declared.names.ClientNo.{ClientNo}
-use Rattle.jn_base.specs.declared.names.Party.TheVariants.{Server}
-use Rattle.jn_base.specs.declared.op.Op.{Op}
-use Rattle.jn_base.specs.declared.op.Command.{Command}
+use Rattle.jn_system_settling.proofs.Common.{◌≡◌, ◌⊎◌, inl, inr, ◌≤◌, ℕ, List, [], Some, None, refl, sym, ◌∙◌, ap, subst, arith, ServerNo, ClientNo, Server, Op, Command, AllFiles, Message, Outstanding, stable, ClientTable, sent_again, is_begin, is_end_or_abort, names_of, World, Memory, servers_from, Room, server_row, Course, go_on, Chance, clients_from, until_rest, ask_again, AreUp, AreAnswered}
 use Rattle.jn_base.specs.declared.op.Command.TheVariants as commands
-use Rattle.jn_order.specs.Files.{AllFiles}
-use Rattle.jn_msgs.specs.declared.message.Message.{Message}
 use Rattle.jn_msgs.specs.declared.message.Message.TheVariants as messages
-use Rattle.jn_rows.specs.declared.client.Outstanding.{Outstanding}
-use Rattle.jn_rows.specs.Stable.{stable}
-use Rattle.jn_rows.specs.Client.{ClientTable, sent_again, is_begin, is_end_or_abort, names_of}
-use Rattle.jn_system.specs.WholeSystem.World.{World, Memory, servers_from}
-use Rattle.jn_system.specs.WholeSystem.Servers.{Room, server_row}
-use Rattle.jn_system_settling.specs.Settling.Course.{Course, go_on}
-use Rattle.jn_system_settling.specs.Settling.Settle.{Chance, clients_from, until_rest, ask_again}
-use Rattle.jn_system_settling.specs.AtRest.Settled.{AreUp, AreAnswered}
 use Rattle.jn_system_settling.proofs.AtRest.Talk.{IsStill, FitsCommand}
 use Rattle.jn_system_settling.proofs.AtRest.Ways.{Reply, Answering, OnTheWay, rest-answers, ask-on-the-way}
 use Rattle.jn_system_settling.proofs.AtRest.Answered.{open-reply, abort-reply, rest-keeps, ask-keeps, rest-on, ask-on, among-clients}

@@ -1,32 +1,10 @@
 -- A Begin is answered: its request was not seen before, or the reply to it still waits.
-use Rattle.std.proofs.Common.{◌≡◌, ◌⊎◌, inl, inr, ◌≤◌, ◌<◌, ℕ, suc, ◌+◌, Bool, true, false, List, [], ◌∷◌, ◌++◌, length, length-append, Option, Some, None, true≢false, refl, sym, ◌∙◌, ap, subst, arith}
-use Rattle.std.specs.Prelude.{◌&&◌, if◌then◌else◌, nat_lt, nat_eq, slice_get}
-use Rattle.std.specs.List.{list_any}
-use Rattle.std.proofs.lemmas.Bool.Decides.{nat_tests}
-use Rattle.std.proofs.lemmas.Option.{slice_get_within}
-use Rattle.jn_base.specs.declared.names.ServerNo.{ServerNo}
-use Rattle.jn_base.specs.declared.names.ClientNo.{ClientNo}
-use Rattle.jn_base.specs.declared.names.Tid.{Tid}
-use Rattle.jn_base.specs.declared.names.Party.TheVariants.{Client, Server}
-use Rattle.jn_base.specs.Names.{client_eq}
+use Rattle.jn_system_settling.proofs.Common.{◌≡◌, ◌⊎◌, inl, inr, ◌≤◌, ◌<◌, ℕ, suc, ◌+◌, Bool, true, false, List, [], ◌∷◌, ◌++◌, length, length-append, Option, Some, None, true≢false, refl, sym, ◌∙◌, ap, subst, arith, ◌&&◌, if◌then◌else◌, nat_lt, nat_eq, slice_get, list_any, nat_tests, slice_get_within, ServerNo, ClientNo, Tid, Client, Server, client_eq, AllFiles, Outstanding, Taken, Ignored, Transaction, Open, Pick, stable, RowOutcome, Sent, ignored_row, CoordinatorTable, after_closing, changes_of_closing, begin_new, begin_again, begun_by, seen_now, name_from, ClientTable, Commanded, Refuses, Sends, command_row, take_row, is_begin, if_waits, begun_row, over, World, Memory, Room, server_row, Step, NextEvent, Tell, Again, Deliver, Nudge, Timeout, StopDelivery, StopWork, Crash, Narrow, StopRestart, Restart, Dismiss, CloseClients, IsStep, after, handed, commanded, Course, numbered, without_number, still_waiting, go}
 use Rattle.jn_msgs.specs.declared.message.Message.TheVariants as messages
-use Rattle.jn_order.specs.Files.{AllFiles}
-use Rattle.jn_rows.specs.declared.client.Outstanding.{Outstanding}
-use Rattle.jn_rows.specs.declared.client.Taken.{Taken}
-use Rattle.jn_rows.specs.declared.client.Taken.TheVariants.{Ignored}
-use Rattle.jn_rows.specs.declared.coordinator.Transaction.{Transaction}
-use Rattle.jn_rows.specs.declared.coordinator.Stage.TheVariants.{Open}
-use Rattle.jn_rows.specs.Stable.{Pick, stable}
-use Rattle.jn_rows.specs.Outcomes.{RowOutcome, Sent, ignored as ignored_row}
-use Rattle.jn_rows.specs.Coordinator.{CoordinatorTable, after_closing, changes_of_closing, begin_new, begin_again, begun_by, seen_now, name_from}
-use Rattle.jn_rows.specs.Client.{ClientTable, Commanded, Refuses, Sends, command_row, take_row, is_begin, if_waits, begun_row, over}
-use Rattle.jn_system.specs.WholeSystem.World.{World, Memory}
-use Rattle.jn_system.specs.WholeSystem.Servers.{Room, server_row}
-use Rattle.jn_system.specs.WholeSystem.Steps.{Step, NextEvent, Tell, Again, Deliver, Work, Nudge, Timeout, StopDelivery, StopWork, Crash, Narrow, StopRestart, Restart, Dismiss, CloseClients, IsStep, after, handed, commanded}
-use Rattle.jn_system_settling.specs.Settling.Course.{Course, numbered, without_number, still_waiting, go}
+use Rattle.jn_system.specs.WholeSystem.Steps.{Work}
 use Rattle.jn_system_settling.proofs.Settling.Burdens.{get-more}
 use Rattle.jn_system_settling.proofs.Settling.Courses.{Grows, grows, waiting-is}
-use Rattle.jn_system_settling.proofs.AtRest.Talk.{IsStill, take-still}
+use Rattle.jn_system_settling.proofs.AtRest.Talk.{take-still}
 use Rattle.jn_system_settling.proofs.AtRest.Ways.{any-left, any-right, Has, IsEnd, Reply, Answering, any-without, handed-taken, took-clients, memory-clients, quiet-clients}
 use Rattle.jn_system_settling.proofs.AtRest.Requests.{Past, SeenFits, GoesOn, waits_on, waits_not, waits_anew, stays}
 use Rattle.jn_system_settling.proofs.AtRest.RequestSteps.{Requests, CommandsAs, commands-as, one-client, still-on, take-next, requests-go, has-at}

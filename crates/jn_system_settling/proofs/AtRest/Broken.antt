@@ -1,47 +1,13 @@
 -- Each broken work has its line.
-use Rattle.std.proofs.Common.{◌≡◌, ◌≢◌, ◌⊎◌, inl, inr, ℕ, ◌+◌, Bool, true, false, List, [], ◌∷◌, ◌++◌, length, Option, Some, None, refl, sym, ◌∙◌, ap, subst}
-use Rattle.std.specs.Prelude.{map, if◌then◌else◌, nat_lt, nat_eq, slice_get}
-use Rattle.jn_base.specs.declared.names.ServerNo.{ServerNo}
-use Rattle.jn_base.specs.declared.names.ClientNo.{ClientNo}
-use Rattle.jn_base.specs.declared.names.Tid.{Tid}
-use Rattle.jn_base.specs.declared.names.WorkId.{WorkId}
-use Rattle.jn_base.specs.declared.names.Tickets.{Tickets}
-use Rattle.jn_base.specs.declared.names.LockUnit.{LockUnit}
-use Rattle.jn_base.specs.declared.op.Op.{Op}
-use Rattle.jn_base.specs.declared.op.Answer.{Answer}
-use Rattle.jn_base.specs.Names.{work_eq}
-use Rattle.jn_base.proofs.Tells.{work_tells}
-use Rattle.jn_order.specs.Files.{AllFiles, change, answer_to}
-use Rattle.jn_records.specs.NetLists.{list_change}
-use Rattle.jn_records.specs.declared.intention.Intention.{Intention}
-use Rattle.jn_msgs.specs.declared.message.Message.{Message}
+use Rattle.jn_system_settling.proofs.Common.{◌≡◌, ◌≢◌, ◌⊎◌, inl, inr, ℕ, ◌+◌, Bool, true, false, List, [], ◌∷◌, ◌++◌, length, Option, Some, None, refl, sym, ◌∙◌, ap, subst, map, if◌then◌else◌, nat_lt, nat_eq, slice_get, ServerNo, ClientNo, Tid, WorkId, Tickets, LockUnit, Op, Answer, work_eq, work_tells, AllFiles, change, answer_to, list_change, Intention, Message, Vote, Note, Text, Work, Phase, Active, Broken, Stored, ActiveWork, StableState, Prepared, stable, is_going, RowOutcome, quiet, WorkerTable, WorkStorage, Wanted, work_at, work_of, with_phase, without, new_work, open_row, break_notes, breaks_at, broken_by, note_of, after_grant, granted_row, repeated, op_phase, op_row, refusal_of, wants_of, is_fit, commit_wants, conflict, vote_of, shortage, need_in, prepared_row, prepare_phase, prepare_row, commit_phase, drop_phase, drop_row, worker_row, worker_step, going_work, going_row, carried_row, intentions_of, timed_out, timeout_row, vulnerable, written_unit, restored_work, restored_worker, are_rising, is_after, in_phase, at-phase, at-grant, once_granted, at-less, at-more, World, Memory, Room, storage_of, of_worker, of_coordinator, of_step, of_timeout, server_step, server_timeout, is_for_worker, restored, line_of, lines_of, Step, IsRun, after, run, UpFact, ServerFact, of-found, coordinator_row, In, in-first, in-second, Reached, next-reached}
 use Rattle.jn_msgs.specs.declared.message.Message.TheVariants as messages
-use Rattle.jn_msgs.specs.declared.message.Vote.{Vote}
 use Rattle.jn_msgs.specs.declared.message.Vote.TheVariants as votes
-use Rattle.jn_msgs.specs.declared.message.Note.{Note}
 use Rattle.jn_msgs.specs.declared.message.Note.TheVariants as notes
-use Rattle.jn_report.specs.declared.line.Text.{Text}
 use Rattle.jn_report.specs.declared.line.Text.TheVariants as says
-use Rattle.jn_rows.specs.declared.worker.Work.{Work}
-use Rattle.jn_rows.specs.declared.worker.Phase.{Phase}
-use Rattle.jn_rows.specs.declared.worker.Phase.TheVariants.{Active, Broken, Prepared as Stored}
-use Rattle.jn_rows.specs.declared.worker.ActiveWork.{ActiveWork}
 use Rattle.jn_rows.specs.declared.worker.PreparedWork.{PreparedWork}
-use Rattle.jn_rows.specs.Stable.{StableState, Prepared, stable, is_going}
-use Rattle.jn_rows.specs.Outcomes.{RowOutcome, quiet}
-use Rattle.jn_rows.specs.Worker.{WorkerTable, WorkStorage, Wanted, work_at, work_of, with_phase, without, new_work, name_from, open_row, break_notes, breaks_at, broken_by, note_of, after_grant, granted_row, repeated, op_phase, op_row, refusal_of, wants_of, is_fit, commit_wants, conflict, vote_of, shortage, need_in, prepared_row, prepare_phase, prepare_row, commit_phase, commit_row, drop_phase, drop_row, worker_row, worker_step, going_work, going_row, carried_row, intentions_of, timed_out, timeout_row, vulnerable, written_unit, restored_work, restored_worker}
-use Rattle.jn_lock_rows.specs.Matching.{are_rising, is_after}
-use Rattle.jn_lock_rows.proofs.Works.{in_phase, at-phase, at-grant, once_granted, at-less, at-more}
-use Rattle.jn_system.specs.WholeSystem.World.{World, Memory}
-use Rattle.jn_system.specs.WholeSystem.Servers.{Room, storage_of, of_worker, of_coordinator, of_step, of_timeout, server_step, server_timeout, is_for_worker, restored, line_of, lines_of}
-use Rattle.jn_system.specs.WholeSystem.Steps.{Step, IsRun, after, run}
-use Rattle.jn_system.specs.WholeSystem.LockFacts.{UpFact, ServerFact}
-use Rattle.jn_system.proofs.WholeSystem.Tables.{of-found}
-use Rattle.jn_rows.specs.Coordinator.{coordinator_row}
+use Rattle.jn_rows.specs.Worker.{name_from, commit_row}
 use Rattle.jn_system_reports.specs.Reporting.Reported.{Does, told_by}
-use Rattle.jn_system_reports.proofs.Reporting.Lists.{In, in-first, in-second}
 use Rattle.jn_system_reports.proofs.Reporting.Naming.{adds}
-use Rattle.jn_system_reports.proofs.Reporting.Reached.{Reached, next-reached}
 use Rattle.jn_system_settling.proofs.AtRest.Memories.{Remembers, as_before, down, by_message, by_step, by_timeout, by_closing, by_restart, step-memory}
 
 -- where a broken work of a new table comes from: it was broken before, or breaks with its note

@@ -1,29 +1,10 @@
 -- A part of a settle at whose end all of so many servers are up: no step of it was stopped, so that it keeps what each message handed over
 -- and each step of a server keeps.
-use Rattle.std.proofs.Common.{length, length-append, append_assoc, ◌≡◌, ◌≢◌, ◌⊎◌, inl, inr, ◌≤◌, ◌<◌, ℕ, zero, suc, ◌+◌, Bool, true, false, List, [], ◌∷◌, ◌++◌, append-nil, Option, Some, None, is_some, true≢false, refl, sym, ◌∙◌, ap, subst, arith}
-use Rattle.std.specs.Prelude.{◌||◌, if◌then◌else◌, slice_get, nat_eq, map}
-use Rattle.std.specs.List.{list_any}
-use Rattle.std.proofs.lemmas.Bool.Decides.{nat_tests}
-use Rattle.jn_base.specs.declared.names.ServerNo.{ServerNo}
-use Rattle.jn_base.specs.declared.names.ClientNo.{ClientNo}
-use Rattle.jn_base.specs.declared.names.Party.TheVariants.{Client, Server}
-use Rattle.jn_base.specs.Names.{client_eq, server_eq}
-use Rattle.jn_base.proofs.Tells.{client_tells, server_tells}
-use Rattle.jn_msgs.specs.declared.message.Message.{Message}
-use Rattle.jn_rows.specs.declared.worker.Work.{Work as WorkEntry}
-use Rattle.jn_rows.specs.Stable.{StableState, Pick, stable}
-use Rattle.jn_rows.specs.Outcomes.{RowOutcome, Sent}
-use Rattle.jn_rows.specs.Worker.{going_work, going_row, carried_row, intentions_of}
-use Rattle.jn_rows.specs.Client.{take_row, again_row}
-use Rattle.jn_system.specs.WholeSystem.World.{World, Memory, servers_from}
-use Rattle.jn_system.specs.WholeSystem.Servers.{Room, storage_of, of_worker, of_step, server_row, server_again}
-use Rattle.jn_system.specs.WholeSystem.Steps.{Step, NextEvent, Tell, Timeout, Crash, Narrow, StopRestart, Restart, Dismiss, CloseClients, Again, Deliver, Work, Nudge, StopDelivery, StopWork, IsStep, after, sent_now, taken_by, done, at_memory, handed, work, works, nudge}
-use Rattle.jn_system_settling.specs.Settling.Course.{Course, numbered, still_waiting, without_number, go, go_on}
-use Rattle.jn_system_settling.specs.Settling.Settle.{Chance, is_busy, first_busy, handing, working, next_step, onward, until_rest, ask_again}
+use Rattle.jn_system_settling.proofs.Common.{length, length-append, append_assoc, ◌≡◌, ◌≢◌, ◌⊎◌, inl, inr, ◌≤◌, ◌<◌, ℕ, zero, suc, ◌+◌, Bool, true, false, List, [], ◌∷◌, ◌++◌, append-nil, Option, Some, None, is_some, true≢false, refl, sym, ◌∙◌, ap, subst, arith, ◌||◌, if◌then◌else◌, slice_get, nat_eq, map, list_any, nat_tests, ServerNo, ClientNo, Client, Server, client_eq, server_eq, client_tells, server_tells, Message, WorkEntry, StableState, Pick, stable, RowOutcome, Sent, going_work, going_row, carried_row, intentions_of, take_row, again_row, World, Memory, servers_from, Room, storage_of, of_worker, of_step, server_row, server_again, Step, NextEvent, Tell, Timeout, Crash, Narrow, StopRestart, Restart, Dismiss, CloseClients, Again, Deliver, Nudge, StopDelivery, StopWork, IsStep, after, sent_now, taken_by, done, at_memory, handed, work, works, nudge, Course, numbered, still_waiting, without_number, go, go_on, Chance, is_busy, first_busy, handing, working, next_step, onward, until_rest, ask_again, AreUp}
+use Rattle.jn_system.specs.WholeSystem.Steps.{Work}
 use Rattle.jn_system_settling.proofs.Settling.Burdens.{are_below, busy-within, busy-is, get-more, get-next}
 use Rattle.jn_system_settling.proofs.Settling.Courses.{Sound, waiting-is}
 use Rattle.jn_system_settling.proofs.Settling.Parts.{get-some}
-use Rattle.jn_system_settling.specs.AtRest.Settled.{AreUp}
 use Rattle.jn_system_settling.proofs.AtRest.Within.{Within, to-near}
 use Rattle.jn_system_settling.proofs.AtRest.Ways.{Has, Waits, any-without, still-waits, now-waits, below-any, rest-down}
 

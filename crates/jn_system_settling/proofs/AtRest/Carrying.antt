@@ -1,42 +1,10 @@
 -- A work that goes goes on until it is over, and a Commit of a work that isn't over makes it go.
-use Rattle.std.proofs.Common.{◌≡◌, ◌≢◌, ◌⊎◌, inl, inr, ℕ, ◌+◌, Bool, true, false, List, [], ◌∷◌, length, Option, Some, None, true≢false, refl, sym, ◌∙◌, ap, subst, arith}
-use Rattle.std.specs.Prelude.{if◌then◌else◌, nat_lt, nat_eq}
-use Rattle.jn_base.specs.declared.names.ServerNo.{ServerNo}
-use Rattle.jn_base.specs.declared.names.ClientNo.{ClientNo}
-use Rattle.jn_base.specs.declared.names.Tid.{Tid}
-use Rattle.jn_base.specs.declared.names.WorkId.{WorkId}
-use Rattle.jn_base.specs.declared.names.Tickets.{Tickets}
-use Rattle.jn_base.specs.declared.names.Party.TheVariants.{Server}
-use Rattle.jn_base.specs.declared.op.Op.{Op}
-use Rattle.jn_base.specs.declared.op.Answer.{Answer}
-use Rattle.jn_base.specs.Names.{work_eq}
-use Rattle.jn_base.proofs.Tells.{work_tells}
-use Rattle.jn_order.specs.Files.{AllFiles, change, answer_to}
-use Rattle.jn_records.specs.NetLists.{list_change}
-use Rattle.jn_msgs.specs.declared.message.Message.{Message}
+use Rattle.jn_system_settling.proofs.Common.{◌≡◌, ◌≢◌, ◌⊎◌, inl, inr, ℕ, ◌+◌, Bool, true, false, List, [], ◌∷◌, length, Option, Some, None, true≢false, refl, sym, ◌∙◌, ap, subst, arith, if◌then◌else◌, nat_lt, nat_eq, ServerNo, ClientNo, Tid, WorkId, Tickets, Server, Op, Answer, work_eq, work_tells, AllFiles, change, answer_to, list_change, Message, Vote, Work, Phase, Active, Broken, Stored, ActiveWork, StableState, Prepared, MarkGoing, at_work, gone_on, stable, is_going, made_all, RowOutcome, quiet, ignored, WorkerTable, WorkStorage, Wanted, work_at, work_of, open_row, granted_row, repeated, op_phase, op_row, refusal_of, wants_of, is_fit, commit_wants, conflict, vote_of, shortage, need_in, prepared_row, prepare_phase, prepare_row, commit_phase, drop_phase, drop_row, worker_row, coordinator_row, found-name, Machine, not_both, World, Memory, Room, storage_of, server_row, of_worker, of_coordinator, is_for_worker, TableFact, IsSoundWork, UpFact, flags-all, coordinator-aside, active_in, working_of, working_in, each-in, Reached, LineFact}
 use Rattle.jn_msgs.specs.declared.message.Message.TheVariants as messages
-use Rattle.jn_msgs.specs.declared.message.Vote.{Vote}
 use Rattle.jn_msgs.specs.declared.message.Vote.TheVariants as votes
 use Rattle.jn_report.specs.declared.line.Text.TheVariants as says
-use Rattle.jn_rows.specs.declared.worker.Work.{Work}
-use Rattle.jn_rows.specs.declared.worker.Phase.{Phase}
-use Rattle.jn_rows.specs.declared.worker.Phase.TheVariants.{Active, Broken, Prepared as Stored}
-use Rattle.jn_rows.specs.declared.worker.ActiveWork.{ActiveWork}
-use Rattle.jn_rows.specs.Stable.{StableState, Prepared, MarkGoing, at_work, gone_on, stable, is_going, made_all}
-use Rattle.jn_rows.specs.Outcomes.{RowOutcome, quiet, ignored}
-use Rattle.jn_rows.specs.Worker.{WorkerTable, WorkStorage, Wanted, work_at, work_of, open_row, granted_row, repeated, op_phase, op_row, refusal_of, wants_of, is_fit, commit_wants, conflict, vote_of, shortage, need_in, prepared_row, prepare_phase, prepare_row, commit_phase, commit_row, drop_phase, drop_row, worker_row}
-use Rattle.jn_rows.specs.Coordinator.{coordinator_row}
-use Rattle.jn_lock_rows.proofs.Works.{found-name}
-use Rattle.jn_system.specs.SmallSteps.World.{World as Machine}
-use Rattle.jn_system.proofs.SmallSteps.Updates.{not_both}
-use Rattle.jn_system.specs.WholeSystem.World.{World, Memory}
-use Rattle.jn_system.specs.WholeSystem.Servers.{Room, storage_of, server_row, of_worker, of_coordinator, is_for_worker}
-use Rattle.jn_system.specs.WholeSystem.LockFacts.{TableFact, IsSoundWork, UpFact}
-use Rattle.jn_system.proofs.WholeSystem.CoordinatorRows.{flags-all, coordinator-aside}
-use Rattle.jn_system_order.specs.Mirroring.Mirrors.{active_in, working_of, working_in}
-use Rattle.jn_system_reports.proofs.Reporting.Lists.{each-in}
+use Rattle.jn_rows.specs.Worker.{commit_row}
 use Rattle.jn_system_reports.proofs.Reporting.Outcomes.{not-named}
-use Rattle.jn_system_reports.proofs.Reporting.Reached.{Reached, LineFact}
 use Rattle.jn_system_settling.proofs.AtRest.Ways.{Has}
 use Rattle.jn_system_settling.proofs.AtRest.Broken.{BrokenTold}
 use Rattle.jn_system_settling.proofs.AtRest.Standing.{machine, inv, up-at}

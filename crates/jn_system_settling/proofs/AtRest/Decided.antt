@@ -1,35 +1,8 @@
 -- A settle with these servers up leaves a live work only of a transaction that is undecided or was told, or that it opened; and so
 -- it settles.
-use Rattle.std.proofs.Common.{◌≡◌, ◌≢◌, ◌⊎◌, inl, inr, ◌≤◌, ◌<◌, ℕ, Bool, true, false, List, [], ◌∷◌, length, Option, Some, None, is_some, true≢false, refl, sym, ◌∙◌, ap, subst, arith}
-use Rattle.std.specs.Prelude.{◌&&◌, ◌||◌, if◌then◌else◌, nat_eq}
-use Rattle.std.specs.List.{list_any}
-use Rattle.jn_base.specs.declared.names.ServerNo.{ServerNo}
-use Rattle.jn_base.specs.declared.names.ClientNo.{ClientNo}
-use Rattle.jn_base.specs.declared.names.Tid.{Tid}
-use Rattle.jn_base.specs.declared.names.WorkId.{WorkId}
-use Rattle.jn_base.specs.declared.names.Party.TheVariants.{Server}
-use Rattle.jn_base.specs.declared.op.Command.{Command}
-use Rattle.jn_base.specs.declared.op.Command.TheVariants.{Begin, Open as OpenAt, Do, End, Abort}
-use Rattle.jn_base.specs.Names.{client_eq, tid_eq, work_eq}
-use Rattle.jn_base.proofs.Tells.{client_tells, tid_tells, work_tells}
-use Rattle.jn_order.specs.Files.{AllFiles}
+use Rattle.jn_system_settling.proofs.Common.{◌≡◌, ◌≢◌, ◌⊎◌, inl, inr, ◌≤◌, ◌<◌, ℕ, Bool, true, false, List, [], ◌∷◌, length, Option, Some, None, is_some, true≢false, refl, sym, ◌∙◌, ap, subst, arith, ◌&&◌, ◌||◌, if◌then◌else◌, nat_eq, list_any, ServerNo, ClientNo, Tid, WorkId, Server, Command, Begin, OpenAt, Do, End, Abort, client_eq, tid_eq, work_eq, client_tells, tid_tells, work_tells, AllFiles, Outstanding, Work, StableState, stable, is_going, Sent, WorkerTable, work_at, worker_again, coordinator_again, ClientTable, is_tid, is_current, is_end_or_abort, sent_again, again_row, World, Memory, opening, servers_from, sent_now, is_closing, Course, Chance, clients_from, until_rest, IsAtRest, get-in, AreUp, entry_in, live_at, holds_undecided, tells_outcome, told_since, AreDecided, IsSettled, LeavesBetween}
 use Rattle.jn_msgs.specs.declared.message.Message.TheVariants as messages
-use Rattle.jn_rows.specs.declared.client.Outstanding.{Outstanding}
-use Rattle.jn_rows.specs.declared.worker.Work.{Work}
-use Rattle.jn_rows.specs.Stable.{StableState, stable, is_going}
-use Rattle.jn_rows.specs.Outcomes.{Sent}
-use Rattle.jn_rows.specs.Worker.{WorkerTable, work_at, worker_again}
-use Rattle.jn_rows.specs.Coordinator.{coordinator_again}
-use Rattle.jn_rows.specs.Client.{ClientTable, is_tid, is_current, is_end_or_abort, sent_again, again_row}
-use Rattle.jn_system.specs.WholeSystem.World.{World, Memory, opening, servers_from}
-use Rattle.jn_system.specs.WholeSystem.Steps.{sent_now}
-use Rattle.jn_system_order.proofs.Ordering.Facts.{is_closing}
-use Rattle.jn_system_settling.specs.Settling.Course.{Course}
-use Rattle.jn_system_settling.specs.Settling.Settle.{Chance, clients_from, until_rest}
-use Rattle.jn_system_settling.specs.Settling.Bounds.{IsAtRest}
 use Rattle.jn_system_settling.proofs.Settling.Settling.{nothing-goes}
-use Rattle.jn_system_reports.proofs.Reporting.Lists.{get-in}
-use Rattle.jn_system_settling.specs.AtRest.Settled.{AreUp, entry_in, live_at, holds_undecided, tells_outcome, told_since, AreDecided, IsSettled, LeavesBetween}
 use Rattle.jn_system_settling.proofs.AtRest.Ways.{Has}
 use Rattle.jn_system_settling.proofs.AtRest.Talk.{FitsCommand}
 use Rattle.jn_system_settling.proofs.AtRest.Begins.{Good, good-go}

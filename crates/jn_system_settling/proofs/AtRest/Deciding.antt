@@ -1,51 +1,14 @@
 -- What becomes in a settle of a work that asks for its outcome: it goes, or its transaction stays undecided or is told.
-use Rattle.std.proofs.Common.{length, length-append, ◌≡◌, ◌≢◌, ◌⊎◌, inl, inr, ◌≤◌, ◌<◌, ℕ, Bool, true, false, List, [], ◌∷◌, ◌++◌, Option, Some, None, is_some, true≢false, refl, sym, ◌∙◌, ap, subst, arith}
-use Rattle.std.specs.Prelude.{◌&&◌, ◌||◌, not, if◌then◌else◌, slice_get, nat_eq, drop}
-use Rattle.std.specs.List.{list_any}
-use Rattle.std.proofs.lemmas.Bool.Decides.{nat_tests}
-use Rattle.jn_base.specs.declared.names.ServerNo.{ServerNo}
-use Rattle.jn_base.specs.declared.names.ClientNo.{ClientNo}
-use Rattle.jn_base.specs.declared.names.Tid.{Tid}
-use Rattle.jn_base.specs.declared.names.WorkId.{WorkId}
-use Rattle.jn_base.specs.declared.names.Cause.{Cause}
-use Rattle.jn_base.specs.declared.names.Party.TheVariants.{Client, Server}
-use Rattle.jn_base.specs.Names.{client_eq, server_eq, tid_eq, work_eq}
-use Rattle.jn_base.proofs.Tells.{client_tells, server_tells, tid_tells, work_tells}
-use Rattle.jn_order.specs.Files.{AllFiles}
-use Rattle.jn_records.specs.declared.intention.Intention.{Intention}
-use Rattle.jn_msgs.specs.declared.message.Message.{Message}
+use Rattle.jn_system_settling.proofs.Common.{length, length-append, ◌≡◌, ◌≢◌, ◌⊎◌, inl, inr, ◌≤◌, ◌<◌, ℕ, Bool, true, false, List, [], ◌∷◌, ◌++◌, Option, Some, None, is_some, true≢false, refl, sym, ◌∙◌, ap, subst, arith, ◌&&◌, ◌||◌, not, if◌then◌else◌, slice_get, nat_eq, list_any, nat_tests, ServerNo, ClientNo, Tid, WorkId, Cause, Client, Server, client_eq, server_eq, tid_eq, work_eq, client_tells, server_tells, tid_tells, work_tells, AllFiles, Intention, Message, Note, Text, Taken, Work, Transaction, Stage, Open, Voting, Committed, Aborted, StableState, stable, is_going, made_all, RowOutcome, Sent, WorkerTable, work_at, without, worker_row, carried_row, intentions_of, CoordinatorTable, transaction_at, is_work, coordinator_row, inquire_row, told_stage, commits, dropped, ClientTable, take_row, at-less, Says, IsWorkOf, Knows, not_both, World, Memory, opening, has_line, commits_in, at_client, Room, storage_of, server_row, of_worker, of_coordinator, is_for_worker, line_of, lines_of, took, taken_by, done, IsTrue, knowledge_in, Course, In, in-first, get-in, Reached, named-is, in-all, is_undecided, is_held, holds_undecided, tells_outcome}
+use Rattle.std.specs.Prelude.{drop}
 use Rattle.jn_msgs.specs.declared.message.Message.TheVariants as messages
-use Rattle.jn_msgs.specs.declared.message.Note.{Note}
 use Rattle.jn_msgs.specs.declared.message.Note.TheVariants as notes
 use Rattle.jn_msgs.specs.declared.message.Outcome.TheVariants as outcomes
-use Rattle.jn_report.specs.declared.line.Text.{Text}
-use Rattle.jn_rows.specs.declared.client.Taken.{Taken}
 use Rattle.jn_rows.specs.declared.client.Taken.TheVariants as taken
-use Rattle.jn_rows.specs.declared.worker.Work.{Work}
-use Rattle.jn_rows.specs.declared.coordinator.Transaction.{Transaction}
-use Rattle.jn_rows.specs.declared.coordinator.Stage.{Stage}
-use Rattle.jn_rows.specs.declared.coordinator.Stage.TheVariants.{Open, Voting, Committed, Aborted}
-use Rattle.jn_rows.specs.Stable.{StableState, stable, is_going, made_all}
-use Rattle.jn_rows.specs.Outcomes.{RowOutcome, Sent}
-use Rattle.jn_rows.specs.Worker.{WorkerTable, work_at, without, worker_row, carried_row, intentions_of}
-use Rattle.jn_rows.specs.Coordinator.{CoordinatorTable, transaction_at, is_work, coordinator_row, inquire_row, told_stage, commits, dropped}
-use Rattle.jn_rows.specs.Client.{ClientTable, take_row}
-use Rattle.jn_lock_rows.proofs.Works.{at-less}
-use Rattle.jn_system.specs.SmallSteps.Messages.{Says, IsWorkOf}
-use Rattle.jn_system.specs.SmallSteps.Transactions.{Knows}
-use Rattle.jn_system.proofs.SmallSteps.Updates.{not_both}
-use Rattle.jn_system.specs.WholeSystem.World.{World, Memory, opening, has_line, commits_in, at_client}
-use Rattle.jn_system.specs.WholeSystem.Servers.{Room, storage_of, server_row, of_worker, of_coordinator, is_for_worker, line_of, lines_of}
-use Rattle.jn_system.specs.WholeSystem.Steps.{took, taken_by, done}
-use Rattle.jn_system_order.specs.Mirroring.Mirrors.{IsTrue, knowledge_in}
 use Rattle.jn_system_order.proofs.Mirroring.Mirrored.{commits-more}
-use Rattle.jn_system_settling.specs.Settling.Course.{Course}
 use Rattle.jn_system_settling.proofs.Settling.Burdens.{are_below}
 use Rattle.jn_system_settling.proofs.Settling.ClientFits.{sent_with}
 use Rattle.jn_system_settling.proofs.Settling.CoordinatorFits.{found-name as tid-name}
-use Rattle.jn_system_reports.proofs.Reporting.Lists.{In, in-first, get-in}
-use Rattle.jn_system_reports.proofs.Reporting.Reached.{Reached, named-is, in-all}
-use Rattle.jn_system_settling.specs.AtRest.Settled.{is_undecided, is_held, holds_undecided, tells_outcome}
 use Rattle.jn_system_settling.proofs.AtRest.Ways.{Has, Waits, any-left, took-memory, took-clients}
 use Rattle.jn_system_settling.proofs.AtRest.Votes.{is_begin_message}
 use Rattle.jn_system_settling.proofs.AtRest.Answered.{its-client}

@@ -1,64 +1,17 @@
 -- An End that a client waits for when a settle asks again is answered, or the client is told that it waits: each work that has no
 -- vote noted has a Prepare or a vote on its way.
-use Rattle.std.proofs.Common.{◌≡◌, ◌≢◌, ◌⊎◌, inl, inr, ◌≤◌, ℕ, zero, suc, Bool, true, false, List, [], ◌∷◌, ◌++◌, length, length-append, append-nil, drop, Option, Some, None, true≢false, refl, sym, ◌∙◌, ap, subst, arith}
-use Rattle.std.specs.Prelude.{◌&&◌, ◌||◌, not, if◌then◌else◌, nat_eq, nat_lt, slice_get}
-use Rattle.std.specs.List.{list_any}
-use Rattle.std.proofs.lemmas.Bool.Decides.{nat_tests}
-use Rattle.jn_base.specs.declared.names.ServerNo.{ServerNo}
-use Rattle.jn_base.specs.declared.names.ClientNo.{ClientNo}
-use Rattle.jn_base.specs.declared.names.Tid.{Tid}
-use Rattle.jn_base.specs.declared.names.WorkId.{WorkId}
-use Rattle.jn_base.specs.declared.names.LockUnit.{LockUnit}
-use Rattle.jn_base.specs.declared.names.Cause.{Cause}
-use Rattle.jn_base.specs.declared.names.Cause.TheVariants.{Full}
-use Rattle.jn_base.specs.declared.names.Tickets.{Tickets}
-use Rattle.jn_base.specs.declared.names.Party.TheVariants.{Client, Server}
-use Rattle.jn_base.specs.declared.op.Command.TheVariants.{End}
+use Rattle.jn_system_settling.proofs.Common.{◌≡◌, ◌≢◌, ◌⊎◌, inl, inr, ◌≤◌, ℕ, zero, suc, Bool, true, false, List, [], ◌∷◌, ◌++◌, length, length-append, append-nil, drop, Option, Some, None, true≢false, refl, sym, ◌∙◌, ap, subst, arith, ◌&&◌, ◌||◌, not, if◌then◌else◌, nat_eq, nat_lt, slice_get, list_any, nat_tests, ServerNo, ClientNo, Tid, WorkId, LockUnit, Cause, Full, Tickets, Client, Server, End, server_eq, client_eq, tid_eq, work_eq, server_tells, tid_tells, work_tells, AllFiles, Message, Outcome, Vote, Text, Work, Phase, Active, Broken, Stored, ActiveWork, Outstanding, Taken, Transaction, Stage, Open, Voting, Committed, Aborted, Ballot, Commitment, stable, is_going, RowOutcome, Sent, quiet, ignored, sends, WorkerTable, WorkStorage, worker_row, work_at, prepare_phase, prepare_row, prepared_row, conflict, commit_wants, vote_of, shortage, need_in, voted_row, CoordinatorTable, commit_row, abort_row, staged, transaction_at, all_in, is_work, with_work, besides, prepares, drops, commits, committed_to, aborted_to, end_stage, end_promised, end_row, counted_vote, vote_stage, vote_row, coordinator_row, ClientTable, take_row, outcome_row, is_current, is_tid, is_end, is_end_or_abort, if_waits, told, names_of, found-name, Machine, World, Memory, opening, Room, storage_of, server_row, of_worker, of_coordinator, is_for_worker, lines_of, took, taken_by, done, in_stage, at-stage, Course, In, get-in, Reached, tells_waiting, is_undecided}
 use Rattle.jn_base.specs.declared.names.Resource.TheVariants as resources
-use Rattle.jn_base.specs.Names.{server_eq, client_eq, tid_eq, work_eq}
-use Rattle.jn_base.proofs.Tells.{server_tells, tid_tells, work_tells}
-use Rattle.jn_order.specs.Files.{AllFiles}
-use Rattle.jn_msgs.specs.declared.message.Message.{Message}
 use Rattle.jn_msgs.specs.declared.message.Message.TheVariants as messages
-use Rattle.jn_msgs.specs.declared.message.Outcome.{Outcome}
 use Rattle.jn_msgs.specs.declared.message.Outcome.TheVariants as outcomes
-use Rattle.jn_msgs.specs.declared.message.Vote.{Vote}
 use Rattle.jn_msgs.specs.declared.message.Vote.TheVariants as votes
-use Rattle.jn_report.specs.declared.line.Text.{Text}
 use Rattle.jn_report.specs.declared.line.Text.TheVariants as says
-use Rattle.jn_rows.specs.declared.worker.Work.{Work}
-use Rattle.jn_rows.specs.declared.worker.Phase.{Phase}
-use Rattle.jn_rows.specs.declared.worker.Phase.TheVariants.{Active, Broken, Prepared as Stored}
-use Rattle.jn_rows.specs.declared.worker.ActiveWork.{ActiveWork}
-use Rattle.jn_rows.specs.declared.client.Outstanding.{Outstanding}
-use Rattle.jn_rows.specs.declared.client.Taken.{Taken}
 use Rattle.jn_rows.specs.declared.client.Taken.TheVariants as taken
-use Rattle.jn_rows.specs.declared.coordinator.Transaction.{Transaction}
-use Rattle.jn_rows.specs.declared.coordinator.Stage.{Stage}
-use Rattle.jn_rows.specs.declared.coordinator.Stage.TheVariants.{Open, Voting, Committed, Aborted}
-use Rattle.jn_rows.specs.declared.coordinator.Voting.{Voting as Ballot}
-use Rattle.jn_rows.specs.declared.coordinator.Committed.{Committed as Commitment}
-use Rattle.jn_rows.specs.Stable.{stable, is_going}
-use Rattle.jn_rows.specs.Outcomes.{RowOutcome, Sent, quiet, ignored, sends}
-use Rattle.jn_rows.specs.Worker.{WorkerTable, WorkStorage, worker_row, work_at, prepare_phase, prepare_row, prepared_row, conflict, commit_wants, vote_of, shortage, need_in, voted as voted_row}
-use Rattle.jn_rows.specs.Coordinator.{CoordinatorTable, commit_row, abort_row, staged, transaction_at, all_in, is_work, with_work, besides, prepares, drops, commits, committed_to, aborted_to, end_stage, end_promised, end_row, counted_vote, vote_stage, vote_row, coordinator_row}
-use Rattle.jn_rows.specs.Client.{ClientTable, take_row, outcome_row, is_current, is_tid, is_end, is_end_or_abort, if_waits, told, names_of}
-use Rattle.jn_lock_rows.proofs.Works.{found-name}
-use Rattle.jn_system.specs.SmallSteps.World.{World as Machine}
-use Rattle.jn_system.specs.WholeSystem.World.{World, Memory, opening}
-use Rattle.jn_system.specs.WholeSystem.Servers.{Room, storage_of, server_row, of_worker, of_coordinator, is_for_worker, lines_of}
-use Rattle.jn_system.specs.WholeSystem.Steps.{took, taken_by, done}
-use Rattle.jn_system_order.proofs.Mirroring.Transactions.{in_stage, at-stage}
-use Rattle.jn_system_settling.specs.Settling.Course.{Course}
 use Rattle.jn_system_settling.proofs.Settling.CoordinatorFits.{found-name as tid-name}
-use Rattle.jn_system_reports.proofs.Reporting.Lists.{In, get-in}
-use Rattle.jn_system_reports.proofs.Reporting.Reached.{Reached}
-use Rattle.jn_system_settling.specs.AtRest.Settled.{tells_waiting}
 use Rattle.jn_system_settling.proofs.AtRest.Talk.{IsStill}
 use Rattle.jn_system_settling.proofs.AtRest.Ways.{any-left, any-right, Has, Waits, IsEnd, none-still, taken-still, taken-taken, took-memory}
 use Rattle.jn_system_settling.proofs.AtRest.Answered.{ends_outcome, its-client, outcome-ends}
 use Rattle.jn_system_settling.proofs.AtRest.Begins.{Good}
-use Rattle.jn_system_settling.specs.AtRest.Settled.{is_undecided}
 use Rattle.jn_system_settling.proofs.AtRest.Fates.{is_unfinished, has-after, Move, starts, notes_one, commits_now, aborts_now, finishes, Fate, stays, moves, forgets, closes, row-fate}
 use Rattle.jn_system_settling.proofs.AtRest.Memories.{found-unfinished, Unfinished}
 use Rattle.jn_system_settling.proofs.AtRest.Calm.{Comes, carried}

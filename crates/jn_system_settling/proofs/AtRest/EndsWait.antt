@@ -1,23 +1,6 @@
 -- Each end that a settle with these servers up leaves was told to wait.
-use Rattle.std.proofs.Common.{◌≡◌, ◌⊎◌, inl, inr, ◌≤◌, ℕ, true, length, length-append, Option, Some, None, is_some, true≢false, refl, sym, ◌∙◌, ap, subst, arith}
-use Rattle.std.specs.List.{list_any}
-use Rattle.jn_base.specs.declared.names.ServerNo.{ServerNo}
-use Rattle.jn_base.specs.declared.names.Tid.{Tid}
-use Rattle.jn_base.specs.declared.names.Party.TheVariants.{Server}
-use Rattle.jn_base.specs.declared.op.Command.{Command}
-use Rattle.jn_base.specs.declared.op.Command.TheVariants.{End}
-use Rattle.jn_order.specs.Files.{AllFiles}
-use Rattle.jn_rows.specs.Stable.{stable}
-use Rattle.jn_rows.specs.Outcomes.{Sent}
-use Rattle.jn_rows.specs.Client.{ClientTable, sent_again, take_row}
-use Rattle.jn_system.specs.WholeSystem.World.{World, Memory, opening, new_memory, servers_from}
-use Rattle.jn_system.specs.WholeSystem.Servers.{server_row, lines_of}
-use Rattle.jn_system_settling.specs.Settling.Course.{Course}
-use Rattle.jn_system_settling.specs.Settling.Settle.{Chance, clients_from, until_rest}
-use Rattle.jn_system_settling.specs.Settling.Bounds.{IsAtRest}
+use Rattle.jn_system_settling.proofs.Common.{◌≡◌, ◌⊎◌, inl, inr, ◌≤◌, ℕ, true, length, length-append, Option, Some, None, is_some, true≢false, refl, sym, ◌∙◌, ap, subst, arith, list_any, ServerNo, Tid, Server, Command, End, AllFiles, stable, Sent, ClientTable, sent_again, take_row, World, Memory, opening, new_memory, servers_from, server_row, lines_of, Course, Chance, clients_from, until_rest, IsAtRest, Reached, AreUp, tells_waiting, told_since, EndsWait}
 use Rattle.jn_system_settling.proofs.Settling.Courses.{Sound}
-use Rattle.jn_system_reports.proofs.Reporting.Reached.{Reached}
-use Rattle.jn_system_settling.specs.AtRest.Settled.{AreUp, tells_waiting, told_since, EndsWait}
 use Rattle.jn_system_settling.proofs.AtRest.Talk.{FitsCommand}
 use Rattle.jn_system_settling.proofs.AtRest.Within.{Within}
 use Rattle.jn_system_settling.proofs.AtRest.Ways.{Waits, rest-down}

@@ -1,49 +1,11 @@
 -- A transaction that has committed is forgotten in a settle: each of its works is carried out, and its client thanks.
-use Rattle.std.proofs.Common.{◌≡◌, ◌≢◌, ◌⊎◌, inl, inr, ◌≤◌, ℕ, Bool, true, false, List, [], ◌∷◌, ◌++◌, append-nil, Option, Some, None, true≢false, refl, sym, ◌∙◌, ap, subst, arith}
-use Rattle.std.specs.Prelude.{if◌then◌else◌, nat_eq, slice_get}
-use Rattle.std.specs.List.{list_any}
-use Rattle.std.proofs.lemmas.Bool.Decides.{nat_tests}
-use Rattle.jn_base.specs.declared.names.ServerNo.{ServerNo}
-use Rattle.jn_base.specs.declared.names.ClientNo.{ClientNo}
-use Rattle.jn_base.specs.declared.names.Tid.{Tid}
-use Rattle.jn_base.specs.declared.names.WorkId.{WorkId}
-use Rattle.jn_base.specs.declared.names.Cause.{Cause}
-use Rattle.jn_base.specs.declared.names.Party.TheVariants.{Client, Server}
-use Rattle.jn_base.specs.Names.{server_eq, client_eq, tid_eq, work_eq}
-use Rattle.jn_base.proofs.Tells.{server_tells, tid_tells, work_tells}
-use Rattle.jn_order.specs.Files.{AllFiles}
-use Rattle.jn_records.specs.declared.intention.Intention.{Intention}
-use Rattle.jn_msgs.specs.declared.message.Message.{Message}
+use Rattle.jn_system_settling.proofs.Common.{◌≡◌, ◌≢◌, ◌⊎◌, inl, inr, ◌≤◌, ℕ, Bool, true, false, List, [], ◌∷◌, ◌++◌, append-nil, Option, Some, None, true≢false, refl, sym, ◌∙◌, ap, subst, arith, if◌then◌else◌, nat_eq, slice_get, list_any, nat_tests, ServerNo, ClientNo, Tid, WorkId, Cause, Client, Server, server_eq, client_eq, tid_eq, work_eq, server_tells, tid_tells, work_tells, AllFiles, Intention, Message, Text, Work, Outstanding, Taken, Transaction, Stage, Open, Voting, Committed, Aborted, Ballot, Commitment, stable, is_going, made_all, RowOutcome, Sent, work_at, worker_row, carried_row, intentions_of, going_work, worker_again, CoordinatorTable, transaction_at, is_work, besides, commits, committed_to, told_again, coordinator_again, coordinator_row, ClientTable, take_row, outcome_row, is_current, is_tid, is_end_or_abort, if_waits, over, Machine, Knows, not_both, World, Memory, opening, Room, storage_of, server_row, of_worker, of_coordinator, is_for_worker, took, taken_by, done, is_closing, IsStage, knowledge_in, Course, Reached}
 use Rattle.jn_msgs.specs.declared.message.Message.TheVariants as messages
 use Rattle.jn_msgs.specs.declared.message.Outcome.TheVariants as outcomes
-use Rattle.jn_report.specs.declared.line.Text.{Text}
 use Rattle.jn_report.specs.declared.line.Text.TheVariants as says
-use Rattle.jn_rows.specs.declared.worker.Work.{Work}
-use Rattle.jn_rows.specs.declared.client.Outstanding.{Outstanding}
-use Rattle.jn_rows.specs.declared.client.Taken.{Taken}
 use Rattle.jn_rows.specs.declared.client.Taken.TheVariants as taken
-use Rattle.jn_rows.specs.declared.coordinator.Transaction.{Transaction}
-use Rattle.jn_rows.specs.declared.coordinator.Stage.{Stage}
-use Rattle.jn_rows.specs.declared.coordinator.Stage.TheVariants.{Open, Voting, Committed, Aborted}
-use Rattle.jn_rows.specs.declared.coordinator.Voting.{Voting as Ballot}
-use Rattle.jn_rows.specs.declared.coordinator.Committed.{Committed as Commitment}
-use Rattle.jn_rows.specs.Stable.{stable, is_going, made_all}
-use Rattle.jn_rows.specs.Outcomes.{RowOutcome, Sent}
-use Rattle.jn_rows.specs.Worker.{work_at, worker_row, carried_row, intentions_of, going_work, worker_again}
-use Rattle.jn_rows.specs.Coordinator.{CoordinatorTable, transaction_at, is_work, besides, commits, committed_to, told_again, coordinator_again, coordinator_row}
-use Rattle.jn_rows.specs.Client.{ClientTable, take_row, outcome_row, is_current, is_tid, is_end_or_abort, if_waits, over}
-use Rattle.jn_system.specs.SmallSteps.World.{World as Machine}
-use Rattle.jn_system.specs.SmallSteps.Transactions.{Knows}
-use Rattle.jn_system.proofs.SmallSteps.Updates.{not_both}
-use Rattle.jn_system.specs.WholeSystem.World.{World, Memory, opening}
-use Rattle.jn_system.specs.WholeSystem.Servers.{Room, storage_of, server_row, of_worker, of_coordinator, is_for_worker}
-use Rattle.jn_system.specs.WholeSystem.Steps.{took, taken_by, done}
-use Rattle.jn_system_order.proofs.Ordering.Facts.{is_closing}
-use Rattle.jn_system_order.specs.Mirroring.Mirrors.{IsStage, knowledge_in}
-use Rattle.jn_system_settling.specs.Settling.Course.{Course}
 use Rattle.jn_system_settling.proofs.Settling.ClientFits.{sent_with}
 use Rattle.jn_system_settling.proofs.Settling.CoordinatorFits.{found-name as tid-name}
-use Rattle.jn_system_reports.proofs.Reporting.Reached.{Reached}
 use Rattle.jn_system_settling.proofs.AtRest.Ways.{Has, Waits, took-memory}
 use Rattle.jn_system_settling.proofs.AtRest.Begins.{Good}
 use Rattle.jn_system_settling.proofs.AtRest.Fates.{has-after, has-before, has-commit, Move, starts, notes_one, commits_now, aborts_now, finishes, Fate, stays, moves, forgets, closes, row-fate, row-new, done-leaves, thanks-leaves}

@@ -1,34 +1,10 @@
 -- A settle with these servers up leaves no flag.
-use Rattle.std.proofs.Common.{◌≡◌, ◌≢◌, ◌⊎◌, inl, inr, ◌≤◌, ◌<◌, ℕ, zero, suc, ◌+◌, Bool, true, false, List, [], ◌∷◌, Option, Some, None, is_some, true≢false, refl, sym, ◌∙◌, ap, subst, arith}
-use Rattle.std.specs.Prelude.{◌&&◌, not, if◌then◌else◌, nat_lt, nat_eq, length}
-use Rattle.std.specs.List.{list_any}
-use Rattle.std.proofs.lemmas.Bool.Decides.{nat_tests}
-use Rattle.jn_base.specs.declared.names.ServerNo.{ServerNo}
-use Rattle.jn_base.specs.declared.names.Tid.{Tid}
-use Rattle.jn_base.specs.declared.names.WorkId.{WorkId}
-use Rattle.jn_base.specs.Names.{server_eq, tid_eq, work_eq}
-use Rattle.jn_base.proofs.Tells.{work_tells}
-use Rattle.jn_order.specs.Files.{AllFiles}
-use Rattle.jn_rows.specs.declared.worker.Work.{Work}
-use Rattle.jn_rows.specs.declared.coordinator.Transaction.{Transaction}
-use Rattle.jn_rows.specs.declared.coordinator.Stage.{Stage}
-use Rattle.jn_rows.specs.declared.coordinator.Stage.TheVariants.{Committed}
-use Rattle.jn_rows.specs.declared.coordinator.Committed.{Committed as Commitment}
-use Rattle.jn_rows.specs.Stable.{StableState, FlagState, stable, is_going}
-use Rattle.jn_rows.specs.Outcomes.{Sent}
-use Rattle.jn_rows.specs.Worker.{WorkerTable, work_at, going_work}
-use Rattle.jn_rows.specs.Coordinator.{transaction_at, is_work, all_in}
-use Rattle.jn_system.specs.WholeSystem.World.{World, Memory, opening, new_memory, servers_from}
-use Rattle.jn_system_settling.specs.Settling.Course.{Course}
-use Rattle.jn_system_settling.specs.Settling.Settle.{Chance, clients_from, until_rest}
-use Rattle.jn_system_settling.specs.Settling.Sizes.{is_few, are_near, is_small_stage, is_committed, committed_at, TableSizes, ServerSizes}
-use Rattle.jn_system_settling.specs.Settling.Bounds.{IsAtRest, NothingGoes}
-use Rattle.jn_system_settling.specs.AtRest.Settled.{AreUp, AreForgotten}
+use Rattle.jn_system_settling.proofs.Common.{◌≡◌, ◌≢◌, ◌⊎◌, inl, inr, ◌≤◌, ◌<◌, ℕ, zero, suc, ◌+◌, Bool, true, false, List, [], ◌∷◌, Option, Some, None, is_some, true≢false, refl, sym, ◌∙◌, ap, subst, arith, ◌&&◌, not, if◌then◌else◌, nat_lt, nat_eq, list_any, nat_tests, ServerNo, Tid, WorkId, server_eq, tid_eq, work_eq, work_tells, AllFiles, Work, Transaction, Stage, Committed, Commitment, StableState, FlagState, stable, is_going, Sent, WorkerTable, work_at, going_work, transaction_at, is_work, all_in, World, Memory, opening, new_memory, servers_from, Course, Chance, clients_from, until_rest, is_few, are_near, is_small_stage, is_committed, committed_at, TableSizes, ServerSizes, IsAtRest, NothingGoes, AreUp, AreForgotten, going-is, opening-reached}
+use Rattle.std.specs.Prelude.{length}
 use Rattle.jn_system_settling.proofs.AtRest.Within.{found-small, near-one}
 use Rattle.jn_system_settling.proofs.AtRest.Ways.{Waits}
 use Rattle.jn_system_settling.proofs.AtRest.Ends.{all-ready}
 use Rattle.jn_system_settling.proofs.Settling.Settling.{nothing-goes}
-use Rattle.jn_system.proofs.WholeSystem.WorkerRows.{going-is}
 use Rattle.jn_system_settling.proofs.AtRest.Begins.{Good, good-go}
 use Rattle.jn_system_settling.proofs.AtRest.Answers.{rest-good}
 use Rattle.jn_system_settling.proofs.AtRest.Fates.{is_unfinished}
@@ -39,7 +15,6 @@ use Rattle.jn_system_settling.proofs.AtRest.Standing.{inv, up-at}
 use Rattle.jn_system_settling.proofs.AtRest.Flags.{Carries, to_commit, goes_on, to_finish, Thanking, to_client, to_server, Progress, FlagWay, client-flags, server-flags, work-flags, ask-flags}
 use Rattle.jn_system_settling.proofs.AtRest.Settling.{course-twin, first_part, asked_again, second_part}
 use Rattle.jn_system_settling.proofs.AtRest.EndsWait.{inside, reached, unfinished, good, good-middle, asked}
-use Rattle.jn_system_reports.proofs.Reporting.Reached.{opening-reached}
 
 -- ---- tables
 

@@ -1,29 +1,9 @@
 -- How a server's memory comes to be in a step, and what holds of every table of a coordinator: no vote or commit in it is complete.
-use Rattle.std.proofs.Common.{◌≡◌, ◌≢◌, ◌⊎◌, inl, inr, ℕ, Bool, true, false, List, [], ◌∷◌, ◌++◌, length, Option, Some, None, refl, sym, ◌∙◌, ap, subst, arith}
-use Rattle.std.specs.Prelude.{◌&&◌, not, if◌then◌else◌, nat_lt, nat_eq, slice_get}
-use Rattle.jn_base.specs.declared.names.ServerNo.{ServerNo}
-use Rattle.jn_base.specs.declared.names.ClientNo.{ClientNo}
-use Rattle.jn_base.specs.declared.names.Tid.{Tid}
-use Rattle.jn_base.specs.declared.names.Tickets.{Tickets}
-use Rattle.jn_base.specs.declared.names.WorkId.{WorkId}
-use Rattle.jn_base.specs.declared.names.Party.TheVariants.{Client, Server}
-use Rattle.jn_base.specs.Names.{server_eq, client_eq}
-use Rattle.jn_base.proofs.Tells.{server_tells}
-use Rattle.jn_msgs.specs.declared.message.Message.{Message}
+use Rattle.jn_system_settling.proofs.Common.{◌≡◌, ◌≢◌, ◌⊎◌, inl, inr, ℕ, Bool, true, false, List, [], ◌∷◌, ◌++◌, length, Option, Some, None, refl, sym, ◌∙◌, ap, subst, arith, ◌&&◌, not, if◌then◌else◌, nat_lt, nat_eq, slice_get, ServerNo, ClientNo, Tid, Tickets, WorkId, Client, Server, server_eq, client_eq, server_tells, Message, Taken, Transaction, Stage, Open, Voting, Committed, Aborted, StableState, FlagState, Pick, stable, RowOutcome, Sent, ClientTable, Commanded, Refuses, Sends, command_row, take_row, all_thanked, thanked, close_clients_row, CoordinatorTable, transaction_at, with_stage, all_in, closed, after_closing, begin_again, begun_by, end_row, abort_request, inquire_row, vote_row, done_row, thanks_row, coordinator_row, restored_transaction, restored_transactions, World, Memory, at_server, Room, server_row, server_step, server_timeout, storage_of, of_timeout, of_step, of_worker, of_coordinator, is_for_worker, restored, lines_of, WorkerTable, worker_row, worker_step, timeout_row, Step, NextEvent, Tell, Again, Deliver, Nudge, Timeout, StopDelivery, StopWork, Crash, Narrow, StopRestart, Restart, Dismiss, CloseClients, after, run, commanded, took, done, stopped, ends, at_memory, handed, work, works, nudge, timeout, crash, narrow, stop_restart, restart, close_clients}
 use Rattle.jn_msgs.specs.declared.message.Message.TheVariants as messages
-use Rattle.jn_rows.specs.declared.client.Taken.{Taken}
 use Rattle.jn_rows.specs.declared.client.Taken.TheVariants as taken
-use Rattle.jn_rows.specs.declared.coordinator.Transaction.{Transaction}
-use Rattle.jn_rows.specs.declared.coordinator.Stage.{Stage}
-use Rattle.jn_rows.specs.declared.coordinator.Stage.TheVariants.{Open, Voting, Committed, Aborted}
-use Rattle.jn_rows.specs.Stable.{StableState, FlagState, Pick, stable}
-use Rattle.jn_rows.specs.Outcomes.{RowOutcome, Sent}
-use Rattle.jn_rows.specs.Client.{ClientTable, Commanded, Refuses, Sends, command_row, take_row}
-use Rattle.jn_rows.specs.Coordinator.{all_thanked, thanked, close_clients_row, CoordinatorTable, transaction_at, with_stage, without, all_in, closed, after_closing, begin_again, begun_by, end_row, abort_request, inquire_row, vote_row, done_row, thanks_row, coordinator_row, restored_transaction, restored_transactions}
-use Rattle.jn_system.specs.WholeSystem.World.{World, Memory, at_server}
-use Rattle.jn_system.specs.WholeSystem.Servers.{Room, server_row, server_step, server_timeout, storage_of, of_timeout, of_step, of_worker, of_coordinator, is_for_worker, restored, lines_of}
-use Rattle.jn_rows.specs.Worker.{WorkerTable, worker_row, worker_step, timeout_row}
-use Rattle.jn_system.specs.WholeSystem.Steps.{Step, NextEvent, Tell, Again, Deliver, Work, Nudge, Timeout, StopDelivery, StopWork, Crash, Narrow, StopRestart, Restart, Dismiss, CloseClients, after, run, commanded, took, done, stopped, ends, at_memory, handed, work, works, nudge, timeout, crash, narrow, stop_restart, restart, close_clients}
+use Rattle.jn_rows.specs.Coordinator.{without}
+use Rattle.jn_system.specs.WholeSystem.Steps.{Work}
 use Rattle.jn_system_settling.proofs.AtRest.Ways.{Has}
 use Rattle.jn_system_settling.proofs.AtRest.RequestSteps.{has-at}
 use Rattle.jn_system_settling.proofs.AtRest.Fates.{is_unfinished, Kind, keeps, comes, goes, end-its, abort-stage-its, told-its, vote-its, done-its, thanks-its}

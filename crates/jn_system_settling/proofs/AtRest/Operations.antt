@@ -1,41 +1,8 @@
 -- An operation that a client waits for is answered: its work performs it next, has performed it last, or is closed for operations.
-use Rattle.std.proofs.Common.{◌≡◌, ◌⊎◌, inl, inr, ℕ, ◌+◌, Bool, true, false, List, [], ◌∷◌, Option, Some, None, refl, sym, ◌∙◌, ap, subst, arith}
-use Rattle.std.specs.Prelude.{◌&&◌, if◌then◌else◌, nat_eq}
-use Rattle.std.proofs.lemmas.Bool.Decides.{nat_tests}
-use Rattle.jn_base.specs.declared.names.ServerNo.{ServerNo}
-use Rattle.jn_base.specs.declared.names.ClientNo.{ClientNo}
-use Rattle.jn_base.specs.declared.names.WorkId.{WorkId}
-use Rattle.jn_base.specs.declared.names.Party.TheVariants.{Client}
-use Rattle.jn_base.specs.declared.op.Op.{Op}
-use Rattle.jn_base.specs.declared.op.Answer.{Answer}
+use Rattle.jn_system_settling.proofs.Common.{◌≡◌, ◌⊎◌, inl, inr, ℕ, ◌+◌, Bool, true, false, List, [], ◌∷◌, Option, Some, None, refl, sym, ◌∙◌, ap, subst, arith, ◌&&◌, if◌then◌else◌, nat_eq, nat_tests, ServerNo, ClientNo, WorkId, Client, Op, Answer, Command, Do, client_eq, work_eq, work_tells, Message, Files, AllFiles, change, answer_to, list_change, Work, Phase, Active, Broken, Stored, ActiveWork, OpenWork, Outstanding, Taken, Ignored, stable, RowOutcome, ignored, WorkerTable, Wanted, work_at, granted_row, performed, repeated, by_number, op_phase, op_row, refusal_of, wants_of, is_fit, ClientTable, open_at, is_operation, is_end_or_abort, if_waits, told, idle, answer_line, Machine, run_atoms, opening_world, World, Memory, Room, server_row, IsCurrent, is_closing}
 use Rattle.jn_base.specs.declared.op.Answer.TheVariants.{Broken as BrokenAnswer, Lost as LostAnswer, Closing}
-use Rattle.jn_base.specs.declared.op.Command.{Command}
-use Rattle.jn_base.specs.declared.op.Command.TheVariants.{Do}
-use Rattle.jn_base.specs.Names.{client_eq, work_eq}
-use Rattle.jn_base.proofs.Tells.{work_tells}
-use Rattle.jn_msgs.specs.declared.message.Message.{Message}
 use Rattle.jn_msgs.specs.declared.message.Message.TheVariants as messages
-use Rattle.jn_order.specs.Files.{Files, AllFiles, change, answer_to}
-use Rattle.jn_records.specs.NetLists.{list_change}
-use Rattle.jn_rows.specs.declared.worker.Work.{Work}
-use Rattle.jn_rows.specs.declared.worker.Phase.{Phase}
-use Rattle.jn_rows.specs.declared.worker.Phase.TheVariants.{Active, Broken, Prepared as Stored}
-use Rattle.jn_rows.specs.declared.worker.ActiveWork.{ActiveWork}
-use Rattle.jn_rows.specs.declared.client.OpenWork.{OpenWork}
-use Rattle.jn_rows.specs.declared.client.Outstanding.{Outstanding}
-use Rattle.jn_rows.specs.declared.client.Taken.{Taken}
-use Rattle.jn_rows.specs.declared.client.Taken.TheVariants.{Ignored}
-use Rattle.jn_rows.specs.Stable.{stable}
-use Rattle.jn_rows.specs.Outcomes.{RowOutcome, ignored}
-use Rattle.jn_rows.specs.Worker.{WorkerTable, Wanted, work_at, granted_row, performed, repeated, by_number, op_phase, op_row, refusal_of, wants_of, is_fit}
-use Rattle.jn_rows.specs.Client.{ClientTable, work_at as open_at, is_operation, is_end_or_abort, if_waits, told, idle, answer_line}
-use Rattle.jn_system.specs.SmallSteps.World.{World as Machine}
-use Rattle.jn_system.specs.SmallSteps.Steps.{run as run_atoms, opening_world}
-use Rattle.jn_system.specs.WholeSystem.World.{World, Memory}
-use Rattle.jn_system.specs.WholeSystem.Servers.{Room, server_row}
-use Rattle.jn_system_order.specs.Mirroring.Mirrors.{IsCurrent}
 use Rattle.jn_system_order.proofs.Mirroring.ClientRows.{found-open}
-use Rattle.jn_system_order.proofs.Ordering.Facts.{is_closing}
 use Rattle.jn_system_reports.proofs.Telling.Acting.{acting_at, acting_of, acting_in}
 use Rattle.jn_system_reports.proofs.Telling.Facts.{said, op_in, op_asked, IsOperation, IsAsking, Hears, IsRunningAt}
 use Rattle.jn_system_settling.proofs.AtRest.Ways.{Has, Reply, IsEnd}

@@ -1,28 +1,6 @@
 -- What a settle asks for again is handed over in its order: the clients ask first, so no Begin waits any more when a work's
 -- question for its outcome is handed over.
-use Rattle.std.proofs.Common.{length, length-append, append_assoc, ◌≡◌, ◌≢◌, ◌⊎◌, inl, inr, ◌≤◌, ◌<◌, ℕ, ◌+◌, Bool, true, false, List, [], ◌∷◌, ◌++◌, Option, Some, None, true≢false, refl, sym, ◌∙◌, ap, subst, arith}
-use Rattle.std.specs.Prelude.{◌&&◌, ◌||◌, if◌then◌else◌, slice_get, nat_eq, map}
-use Rattle.std.specs.List.{list_any}
-use Rattle.std.proofs.lemmas.Bool.Decides.{nat_tests}
-use Rattle.jn_base.specs.declared.names.ServerNo.{ServerNo}
-use Rattle.jn_base.specs.declared.names.ClientNo.{ClientNo}
-use Rattle.jn_base.specs.declared.names.Tid.{Tid}
-use Rattle.jn_base.specs.Names.{client_eq, server_eq}
-use Rattle.jn_base.proofs.Tells.{server_tells}
-use Rattle.jn_msgs.specs.declared.message.Message.{Message}
-use Rattle.jn_rows.specs.declared.coordinator.Transaction.{Transaction}
-use Rattle.jn_rows.specs.declared.coordinator.Stage.{Stage}
-use Rattle.jn_rows.specs.declared.coordinator.Stage.TheVariants.{Open, Voting, Committed, Aborted}
-use Rattle.jn_rows.specs.Stable.{StableState, Pick, stable}
-use Rattle.jn_rows.specs.Outcomes.{Sent}
-use Rattle.jn_rows.specs.Worker.{WorkerTable, worker_again}
-use Rattle.jn_rows.specs.Coordinator.{besides, commits, committed_to, told_again, coordinator_again}
-use Rattle.jn_rows.specs.Client.{again_row}
-use Rattle.jn_system.specs.WholeSystem.World.{World, Memory}
-use Rattle.jn_system.specs.WholeSystem.Servers.{server_again}
-use Rattle.jn_system.specs.WholeSystem.Steps.{Step, Again, Nudge, IsStep, sent_now}
-use Rattle.jn_system_settling.specs.Settling.Course.{Course, numbered, go, go_on}
-use Rattle.jn_system_settling.specs.Settling.Settle.{ask_again}
+use Rattle.jn_system_settling.proofs.Common.{length, length-append, append_assoc, ◌≡◌, ◌≢◌, ◌⊎◌, inl, inr, ◌≤◌, ◌<◌, ℕ, ◌+◌, Bool, true, false, List, [], ◌∷◌, ◌++◌, Option, Some, None, true≢false, refl, sym, ◌∙◌, ap, subst, arith, ◌&&◌, ◌||◌, if◌then◌else◌, slice_get, nat_eq, map, list_any, nat_tests, ServerNo, ClientNo, Tid, client_eq, server_eq, server_tells, Message, Transaction, Stage, Open, Voting, Committed, Aborted, StableState, Pick, stable, Sent, WorkerTable, worker_again, besides, commits, committed_to, told_again, coordinator_again, again_row, World, Memory, server_again, Step, Again, Nudge, IsStep, sent_now, Course, numbered, go, go_on, ask_again}
 use Rattle.jn_system_settling.proofs.Settling.Burdens.{are_below, get-more, get-next}
 use Rattle.jn_system_settling.proofs.Settling.Courses.{Sound, waiting-is}
 use Rattle.jn_system_settling.proofs.AtRest.Ways.{Has, Waits, any-right, below-any}

@@ -1,38 +1,11 @@
 -- Each step of the whole system keeps what is said of clients' requests.
-use Rattle.std.proofs.Common.{◌≡◌, ◌≢◌, ◌⊎◌, inl, inr, ◌≤◌, ℕ, zero, suc, ◌+◌, Bool, true, false, List, [], ◌∷◌, ◌++◌, take, Option, Some, None, true≢false, append-nil, refl, sym, ◌∙◌, ap, subst, arith}
-use Rattle.std.specs.Prelude.{◌&&◌, if◌then◌else◌, nat_lt, slice_get}
-use Rattle.std.proofs.lemmas.Bool.Decides.{nat_tests}
-use Rattle.jn_base.specs.declared.names.ServerNo.{ServerNo}
-use Rattle.jn_base.specs.declared.names.ClientNo.{ClientNo}
-use Rattle.jn_base.specs.declared.names.Tid.{Tid}
-use Rattle.jn_base.specs.declared.names.WorkId.{WorkId}
-use Rattle.jn_base.specs.declared.names.Party.{Party}
-use Rattle.jn_base.specs.declared.names.Party.TheVariants.{Client, Server}
-use Rattle.jn_base.specs.declared.op.Command.{Command}
+use Rattle.jn_system_settling.proofs.Common.{◌≡◌, ◌≢◌, ◌⊎◌, inl, inr, ◌≤◌, ℕ, zero, suc, ◌+◌, Bool, true, false, List, [], ◌∷◌, ◌++◌, take, Option, Some, None, true≢false, append-nil, refl, sym, ◌∙◌, ap, subst, arith, ◌&&◌, if◌then◌else◌, nat_lt, slice_get, nat_tests, ServerNo, ClientNo, Tid, WorkId, Party, Client, Server, Command, server_eq, client_eq, client_tells, Message, AllFiles, OpenWork, Outstanding, Taken, Transaction, StableState, FlagState, Pick, stable, made_all, RowOutcome, Sent, WorkerTable, worker_row, worker_step, work_of, timed_out, transaction_at, coordinator_row, close_clients_row, seen_in_flags, seen_in_flag, ClientTable, if_server, if_idle, if_transaction, if_no_transaction, if_open, if_not_open, with_operation, names_of, sends_command, Commanded, Refuses, Sends, command_row, take_row, again_row, sent_again, is_begin, over, with_epoch, World, Memory, at_server, at_client, Room, storage_of, server_row, server_step, server_again, of_worker, of_coordinator, of_step, of_timeout, server_timeout, is_for_worker, restored, Step, NextEvent, Tell, Again, Deliver, Nudge, Timeout, StopDelivery, StopWork, Crash, Narrow, StopRestart, Restart, Dismiss, CloseClients, after, ends, at_memory, handed, work, works, nudge, timeout, crash, narrow, stop_restart, restart, dismiss, close_clients, took, commanded, sent_now, UpFact, ServerFact, Opening, openings, openings-more, HasOpening, Course, go}
 use Rattle.jn_base.specs.declared.op.Command.TheVariants as commands
-use Rattle.jn_base.specs.Names.{server_eq, client_eq}
-use Rattle.jn_base.proofs.Tells.{client_tells}
-use Rattle.jn_msgs.specs.declared.message.Message.{Message}
 use Rattle.jn_msgs.specs.declared.message.Message.TheVariants as messages
-use Rattle.jn_order.specs.Files.{AllFiles}
 use Rattle.jn_report.specs.declared.line.Refusal.TheVariants as refusals
-use Rattle.jn_rows.specs.declared.client.OpenWork.{OpenWork}
-use Rattle.jn_rows.specs.declared.client.Outstanding.{Outstanding}
-use Rattle.jn_rows.specs.declared.client.Taken.{Taken}
 use Rattle.jn_rows.specs.declared.client.Taken.TheVariants as taken
-use Rattle.jn_rows.specs.declared.coordinator.Transaction.{Transaction}
-use Rattle.jn_rows.specs.Stable.{StableState, FlagState, Pick, stable, made_all}
-use Rattle.jn_rows.specs.Outcomes.{RowOutcome, Sent}
-use Rattle.jn_rows.specs.Worker.{WorkerTable, worker_row, worker_step, work_of, timed_out}
-use Rattle.jn_rows.specs.Coordinator.{transaction_at, coordinator_row, close_clients_row, seen_in_flags, seen_in_flag}
-use Rattle.jn_rows.specs.Client.{ClientTable, if_server, if_idle, if_transaction, if_no_transaction, if_open, if_not_open, work_at, with_operation, names_of, sends as sends_command, Commanded, Refuses, Sends, command_row, take_row, again_row, sent_again, is_begin, over}
-use Rattle.jn_system.specs.SmallSteps.Steps.{with_epoch}
-use Rattle.jn_system.specs.WholeSystem.World.{World, Memory, at_server, at_client}
-use Rattle.jn_system.specs.WholeSystem.Servers.{Room, storage_of, server_row, server_step, server_again, of_worker, of_coordinator, of_step, of_timeout, server_timeout, is_for_worker, restored}
-use Rattle.jn_system.specs.WholeSystem.Steps.{Step, NextEvent, Tell, Again, Deliver, Work, Nudge, Timeout, StopDelivery, StopWork, Crash, Narrow, StopRestart, Restart, Dismiss, CloseClients, after, ends, at_memory, handed, work, works, nudge, timeout, crash, narrow, stop_restart, restart, dismiss, close_clients, took, commanded, sent_now}
-use Rattle.jn_system.specs.WholeSystem.LockFacts.{UpFact, ServerFact}
-use Rattle.jn_system_order.proofs.Ordering.Openings.{Opening, openings, openings-more, Has as HasOpening}
-use Rattle.jn_system_settling.specs.Settling.Course.{Course, go}
+use Rattle.jn_rows.specs.Client.{work_at}
+use Rattle.jn_system.specs.WholeSystem.Steps.{Work}
 use Rattle.jn_system_settling.proofs.Settling.WorkerFits.{worker-fits, step-fits}
 use Rattle.jn_system_settling.proofs.Settling.CoordinatorFits.{found-name}
 use Rattle.jn_system_settling.proofs.Settling.ClientFits.{sent_with}

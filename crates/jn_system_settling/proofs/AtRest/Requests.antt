@@ -1,26 +1,6 @@
 -- What messages, tables and flags say of clients' requests, and that it stays true.
-use Rattle.std.proofs.Common.{◌≡◌, ◌≢◌, ◌⊎◌, inl, inr, ◌≤◌, ◌<◌, ℕ, ◌+◌, Bool, true, false, List, [], ◌∷◌, ◌++◌, length, Option, Some, None, true≢false, refl, sym, ◌∙◌, ap, subst, arith}
-use Rattle.std.specs.Prelude.{◌&&◌, if◌then◌else◌, nat_lt, nat_eq}
-use Rattle.jn_base.specs.declared.names.ClientNo.{ClientNo}
-use Rattle.jn_base.specs.declared.names.Tid.{Tid}
-use Rattle.jn_base.specs.declared.names.Tickets.{Tickets}
-use Rattle.jn_base.specs.declared.names.Party.TheVariants.{Client}
-use Rattle.jn_base.specs.Names.{client_eq}
-use Rattle.jn_base.proofs.Tells.{client_tells}
-use Rattle.jn_msgs.specs.declared.message.Message.{Message}
+use Rattle.jn_system_settling.proofs.Common.{◌≡◌, ◌≢◌, ◌⊎◌, inl, inr, ◌≤◌, ◌<◌, ℕ, ◌+◌, Bool, true, false, List, [], ◌∷◌, ◌++◌, length, Option, Some, None, true≢false, refl, sym, ◌∙◌, ap, subst, arith, ◌&&◌, if◌then◌else◌, nat_lt, nat_eq, ClientNo, Tid, Tickets, Client, client_eq, client_tells, Message, Outstanding, Transaction, Open, Change, AddReady, MarkGoing, CarryOut, RemoveWork, AddFlag, DropFlag, RowOutcome, Sent, WorkerTable, client-closes, CoordinatorTable, after_closing, changes_of_closing, begin_again, begun_by, begin_row, seen_now, name_from, ClientTable, is_begin, Memory, of_worker, of_coordinator, Opening}
 use Rattle.jn_msgs.specs.declared.message.Message.TheVariants as messages
-use Rattle.jn_rows.specs.declared.client.Outstanding.{Outstanding}
-use Rattle.jn_rows.specs.declared.coordinator.Transaction.{Transaction}
-use Rattle.jn_rows.specs.declared.coordinator.Stage.TheVariants.{Open}
-use Rattle.jn_rows.specs.Stable.{Change, AddReady, MarkGoing, CarryOut, RemoveWork, AddFlag, DropFlag}
-use Rattle.jn_rows.specs.Outcomes.{RowOutcome, Sent}
-use Rattle.jn_rows.specs.Worker.{WorkerTable}
-use Rattle.jn_system.proofs.WholeSystem.Closes.{client-closes}
-use Rattle.jn_rows.specs.Coordinator.{CoordinatorTable, after_closing, changes_of_closing, begin_again, begun_by, begin_row, seen_now, name_from}
-use Rattle.jn_rows.specs.Client.{ClientTable, is_begin}
-use Rattle.jn_system.specs.WholeSystem.World.{Memory}
-use Rattle.jn_system.specs.WholeSystem.Servers.{of_worker, of_coordinator}
-use Rattle.jn_system_order.proofs.Ordering.Openings.{Opening}
 use Rattle.jn_system_settling.proofs.Settling.WorkerFits.{keep_flags}
 use Rattle.jn_system_settling.proofs.AtRest.Ways.{Has}
 use Rattle.jn_system_settling.proofs.AtRest.Owners.{owner_in, owner-more}

@@ -1,31 +1,16 @@
 -- Every settle after every run answers.
-use Rattle.std.proofs.Common.{◌≡◌, ◌≤◌, ℕ, suc, ◌+◌, List, [], ◌∷◌, Some, None, refl, sym, ◌∙◌, ap, subst, arith, false, inl}
-use Rattle.jn_base.specs.declared.names.ServerNo.{ServerNo}
-use Rattle.jn_order.specs.Files.{AllFiles}
-use Rattle.jn_rows.specs.declared.client.Outstanding.{Outstanding}
-use Rattle.jn_rows.specs.Stable.{FlagState}
-use Rattle.jn_system.specs.WholeSystem.World.{World, Memory, opening, new_memory, servers_from}
-use Rattle.jn_system.specs.WholeSystem.Steps.{Step, IsRun}
-use Rattle.jn_system_settling.specs.Settling.Course.{Course, opening_course, go, go_on}
-use Rattle.jn_system_settling.specs.Settling.Settle.{Chance, clients_from, until_rest, ask_again, settled}
-use Rattle.jn_system_settling.specs.Settling.Weights.{burden}
-use Rattle.jn_system_settling.specs.Settling.Bounds.{IsAtRest}
+use Rattle.jn_system_settling.proofs.Common.{◌≡◌, ◌≤◌, ℕ, suc, ◌+◌, List, [], ◌∷◌, Some, None, refl, sym, ◌∙◌, ap, subst, arith, false, inl, ServerNo, AllFiles, Outstanding, FlagState, World, Memory, opening, new_memory, servers_from, Step, IsRun, Course, opening_course, go, go_on, Chance, clients_from, until_rest, ask_again, settled, burden, IsAtRest, AreUp, AreAnswered, LeavesBetween, opening-reached, Client, Sent, new_table}
 use Rattle.jn_system_settling.proofs.Settling.Resting.{PartEnds, part-ends}
 use Rattle.jn_system_settling.proofs.Settling.Settling.{opening-sound}
 use Rattle.jn_system_settling.proofs.Settling.Courses.{Sound}
 use Rattle.jn_system_settling.proofs.AtRest.Twins.{HasTwin, run-has-twin}
-use Rattle.jn_system_settling.specs.AtRest.Settled.{AreUp, AreAnswered, LeavesBetween}
-use Rattle.jn_system_reports.proofs.Reporting.Reached.{opening-reached}
 use Rattle.jn_system_settling.proofs.AtRest.Within.{opening-within}
 use Rattle.jn_system_settling.proofs.AtRest.Answered.{Talking}
 use Rattle.jn_system_settling.proofs.AtRest.Votes.{Votings}
 use Rattle.jn_system_settling.proofs.AtRest.Requests.{Past, SeenFits}
 use Rattle.jn_system_settling.proofs.AtRest.Begins.{Good, good-go}
 use Rattle.jn_system_settling.proofs.AtRest.Answers.{rest-good, ask-good, settled-answers}
-use Rattle.jn_base.specs.declared.names.Party.TheVariants.{Client}
 use Rattle.jn_msgs.specs.declared.message.Message.TheVariants as messages
-use Rattle.jn_rows.specs.Outcomes.{Sent}
-use Rattle.jn_rows.specs.Client.{new_table}
 
 module _ (n : ℕ) (at_most : n ≤ 8) (files : AllFiles) (epochs : ServerNo → ℕ) where
   opening-talking : Talking n at_most (opening n files epochs) files epochs (opening_course n files epochs)

@@ -1,35 +1,8 @@
 -- What holds of transactions and works at servers that are up, in every world that a run reaches.
-use Rattle.std.proofs.Common.{◌≡◌, ◌≢◌, ◌⊎◌, inl, inr, ◌<◌, ℕ, Bool, true, false, List, [], ◌∷◌, Option, Some, None, is_some, refl, sym, ◌∙◌, ap, subst, arith}
-use Rattle.std.specs.Prelude.{if◌then◌else◌, nat_lt}
-use Rattle.std.proofs.lemmas.Bool.Decides.{nat_tests}
-use Rattle.jn_base.specs.declared.names.ServerNo.{ServerNo}
-use Rattle.jn_base.specs.declared.names.Tid.{Tid}
-use Rattle.jn_base.specs.declared.names.WorkId.{WorkId}
-use Rattle.jn_base.specs.declared.names.Party.TheVariants.{Server}
-use Rattle.jn_base.specs.Names.{tid_eq}
-use Rattle.jn_base.proofs.Tells.{tid_tells}
-use Rattle.jn_order.specs.Files.{AllFiles}
+use Rattle.jn_system_settling.proofs.Common.{◌≡◌, ◌≢◌, ◌⊎◌, inl, inr, ◌<◌, ℕ, Bool, true, false, List, [], ◌∷◌, Option, Some, None, is_some, refl, sym, ◌∙◌, ap, subst, arith, if◌then◌else◌, nat_lt, nat_tests, ServerNo, Tid, WorkId, Server, tid_eq, tid_tells, AllFiles, Transaction, Stage, Voting, Ballot, Prepared, Pick, is_going, transaction_at, is_work, name_from, Machine, Knowledge, Invariant, Knows, run_atoms, opening_world, not_both, World, Memory, UpFact, ServerFact, IsTransaction, IsStage, knowledge_in, known_in, knowledge_of, found-is, openings, HasOpening, In, Each, each-in, Reached, Free, invariant}
 use Rattle.jn_msgs.specs.declared.message.Message.TheVariants as messages
-use Rattle.jn_rows.specs.declared.coordinator.Transaction.{Transaction}
-use Rattle.jn_rows.specs.declared.coordinator.Stage.{Stage}
-use Rattle.jn_rows.specs.declared.coordinator.Stage.TheVariants.{Voting}
-use Rattle.jn_rows.specs.declared.coordinator.Voting.{Voting as Ballot}
-use Rattle.jn_rows.specs.Stable.{Prepared, Pick, is_going}
-use Rattle.jn_rows.specs.Coordinator.{transaction_at, is_work, name_from}
-use Rattle.jn_system.specs.SmallSteps.World.{World as Machine, Knowledge}
-use Rattle.jn_system.specs.SmallSteps.Invariant.{Invariant}
-use Rattle.jn_system.specs.SmallSteps.Transactions.{Knows}
-use Rattle.jn_system.specs.SmallSteps.Steps.{run as run_atoms, opening_world}
-use Rattle.jn_system.proofs.SmallSteps.Updates.{not_both}
-use Rattle.jn_system.specs.WholeSystem.World.{World, Memory}
-use Rattle.jn_system.specs.WholeSystem.LockFacts.{UpFact, ServerFact}
-use Rattle.jn_system_order.specs.Mirroring.Mirrors.{IsTransaction, IsStage, knowledge_in, known_in, knowledge_of}
-use Rattle.jn_system_order.proofs.Mirroring.Transactions.{found-is}
-use Rattle.jn_system_order.proofs.Ordering.Openings.{openings, Has as HasOpening}
 use Rattle.jn_system_order.proofs.Ordering.Facts.{opening}
-use Rattle.jn_system_reports.proofs.Reporting.Lists.{In, Each, each-in}
 use Rattle.jn_system_reports.proofs.Reporting.Past.{SaysPast, EntryFact, BeganBy}
-use Rattle.jn_system_reports.proofs.Reporting.Reached.{Reached, Free, invariant}
 
 -- what holds of each transaction holds of one that is found
 pub each-found : (P : Transaction → Type 0) (T : Tid) (xs : List Transaction) (x : Transaction) → Each P xs → transaction_at T xs ≡ Some x → P x

@@ -1,38 +1,10 @@
 -- A client that waits for the outcome of its transaction is told of it, or goes on waiting.
-use Rattle.std.proofs.lemmas.Bool.Decides.{nat_tests}
-use Rattle.std.proofs.Common.{◌≡◌, ◌≢◌, ◌⊎◌, inl, inr, ℕ, Bool, true, false, List, [], ◌∷◌, length, Option, Some, None, true≢false, refl, sym, ◌∙◌, ap, subst, arith}
-use Rattle.std.specs.Prelude.{◌&&◌, if◌then◌else◌, nat_eq, nat_lt}
-use Rattle.jn_base.specs.declared.names.ClientNo.{ClientNo}
-use Rattle.jn_base.specs.declared.names.Tid.{Tid}
-use Rattle.jn_base.specs.declared.names.WorkId.{WorkId}
-use Rattle.jn_base.specs.declared.names.Tickets.{Tickets}
-use Rattle.jn_base.specs.declared.names.Cause.{Cause}
-use Rattle.jn_base.specs.declared.names.Party.TheVariants.{Server}
-use Rattle.jn_base.specs.declared.op.Command.{Command}
-use Rattle.jn_base.specs.declared.op.Command.TheVariants.{End, Abort}
-use Rattle.jn_base.specs.Names.{client_eq, tid_eq}
-use Rattle.jn_base.proofs.Tells.{client_tells, tid_tells}
-use Rattle.jn_msgs.specs.declared.message.Message.{Message}
+use Rattle.jn_system_settling.proofs.Common.{nat_tests, ◌≡◌, ◌≢◌, ◌⊎◌, inl, inr, ℕ, Bool, true, false, List, [], ◌∷◌, length, Option, Some, None, true≢false, refl, sym, ◌∙◌, ap, subst, arith, ◌&&◌, if◌then◌else◌, nat_eq, nat_lt, ClientNo, Tid, WorkId, Tickets, Cause, Server, Command, End, Abort, client_eq, tid_eq, client_tells, tid_tells, Message, Outcome, Text, Outstanding, Taken, Transaction, Stage, Open, Voting, Committed, Aborted, StableState, RowOutcome, Sent, worker_row, CoordinatorTable, after_closing, begun_by, begin_again, coordinator_row, ClientTable, is_begin, is_operation, is_end, is_end_or_abort, told, over, opens, is_tid, is_current, if_waits, outcome_row, take_row, Memory, Room, storage_of, server_row, of_worker, of_coordinator, is_for_worker, tells_outcome}
 use Rattle.jn_msgs.specs.declared.message.Message.TheVariants as messages
-use Rattle.jn_msgs.specs.declared.message.Outcome.{Outcome}
 use Rattle.jn_msgs.specs.declared.message.Outcome.TheVariants as outcomes
-use Rattle.jn_report.specs.declared.line.Text.{Text}
 use Rattle.jn_report.specs.declared.line.Text.TheVariants as says
-use Rattle.jn_rows.specs.declared.client.Outstanding.{Outstanding}
-use Rattle.jn_rows.specs.declared.client.Taken.{Taken}
 use Rattle.jn_rows.specs.declared.client.Taken.TheVariants as taken
-use Rattle.jn_rows.specs.declared.coordinator.Transaction.{Transaction}
-use Rattle.jn_rows.specs.declared.coordinator.Stage.{Stage}
-use Rattle.jn_rows.specs.declared.coordinator.Stage.TheVariants.{Open, Voting, Committed, Aborted}
-use Rattle.jn_rows.specs.Stable.{StableState}
-use Rattle.jn_rows.specs.Outcomes.{RowOutcome, Sent}
-use Rattle.jn_rows.specs.Worker.{worker_row}
-use Rattle.jn_rows.specs.Coordinator.{CoordinatorTable, after_closing, begun_by, begin_again, coordinator_row}
-use Rattle.jn_rows.specs.Client.{ClientTable, is_begin, is_operation, is_end, is_end_or_abort, told, over, opens, is_tid, is_current, if_waits, outcome_row, take_row}
-use Rattle.jn_system.specs.WholeSystem.World.{Memory}
-use Rattle.jn_system.specs.WholeSystem.Servers.{Room, storage_of, server_row, of_worker, of_coordinator, is_for_worker}
 use Rattle.jn_system_settling.proofs.Settling.ClientFits.{sent_with}
-use Rattle.jn_system_settling.specs.AtRest.Settled.{tells_outcome}
 use Rattle.jn_system_settling.proofs.AtRest.Ways.{Has}
 use Rattle.jn_system_settling.proofs.AtRest.Votes.{VoteOf, EndOf, Votings, RowVotes, coordinator-votes, is_begin_message, worker-plain}
 use Rattle.jn_system_settling.proofs.AtRest.About.{is_about, are_off, worker-off, coordinator-off}

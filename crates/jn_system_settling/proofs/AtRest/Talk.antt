@@ -1,25 +1,10 @@
 -- What a client waits for: the message that it sent fits its command, and it stays the same until it is answered.
-use Rattle.std.proofs.Common.{◌≡◌, ◌⊎◌, inl, inr, ℕ, ◌+◌, Bool, true, false, Option, Some, None, refl, sym, ◌∙◌, subst}
-use Rattle.std.specs.Prelude.{if◌then◌else◌, nat_lt}
-use Rattle.jn_base.specs.declared.names.Tid.{Tid}
-use Rattle.jn_base.specs.declared.names.WorkId.{WorkId}
-use Rattle.jn_base.specs.declared.names.Party.{Party}
-use Rattle.jn_base.specs.declared.names.Party.TheVariants.{Server}
-use Rattle.jn_base.specs.declared.op.Command.{Command}
-use Rattle.jn_base.specs.declared.op.Command.TheVariants.{Begin, Open, Do, End, Abort}
-use Rattle.jn_base.specs.Names.{client_eq}
-use Rattle.jn_msgs.specs.declared.message.Message.{Message}
+use Rattle.jn_system_settling.proofs.Common.{◌≡◌, ◌⊎◌, inl, inr, ℕ, ◌+◌, Bool, true, false, Option, Some, None, refl, sym, ◌∙◌, subst, if◌then◌else◌, nat_lt, Tid, WorkId, Party, Server, Command, Begin, Do, End, Abort, client_eq, Message, Outcome, Text, Taken, Ignored, Outstanding, OpenWork, ClientTable, Refuses, command_row, take_row, names_of, is_current, if_waits, if_idle, if_transaction, if_no_transaction, if_open, if_not_open, with_operation, begun_row, opened_row, decided_row, outcome_row, after_command}
+use Rattle.jn_base.specs.declared.op.Command.TheVariants.{Open}
 use Rattle.jn_msgs.specs.declared.message.Message.TheVariants as messages
-use Rattle.jn_msgs.specs.declared.message.Outcome.{Outcome}
 use Rattle.jn_msgs.specs.declared.message.Outcome.TheVariants as outcomes
 use Rattle.jn_report.specs.declared.line.Refusal.TheVariants as refusals
-use Rattle.jn_report.specs.declared.line.Text.{Text}
-use Rattle.jn_rows.specs.declared.client.Taken.{Taken}
-use Rattle.jn_rows.specs.declared.client.Taken.TheVariants.{Ignored}
-use Rattle.jn_rows.specs.declared.client.Outstanding.{Outstanding}
-use Rattle.jn_rows.specs.declared.client.OpenWork.{OpenWork}
-use Rattle.jn_rows.specs.Client.{ClientTable, Refuses, command_row, take_row, names_of, work_at, is_current, if_waits, if_idle, if_transaction, if_no_transaction, if_open, if_not_open, sends, with_operation, begun_row, opened_row, decided_row, outcome_row}
-use Rattle.jn_rows.specs.ClientLaws.{after_command}
+use Rattle.jn_rows.specs.Client.{work_at, sends}
 
 -- ---- a message leaves what is waited for, or ends the waiting
 

@@ -1,37 +1,10 @@
 -- The requests that a coordinator keeps, and which of a server's rows speak of requests.
-use Rattle.std.proofs.Common.{◌≡◌, ◌≢◌, ◌⊎◌, inl, inr, ℕ, zero, suc, ◌+◌, Bool, true, false, List, [], ◌∷◌, ◌++◌, length, take, Option, Some, None, true≢false, refl, sym, ◌∙◌, ap, subst, arith}
-use Rattle.std.specs.Prelude.{◌&&◌, not, if◌then◌else◌, nat_lt, nat_eq, slice_get}
-use Rattle.jn_base.specs.declared.names.ClientNo.{ClientNo}
-use Rattle.jn_base.specs.declared.names.Tid.{Tid}
-use Rattle.jn_base.specs.declared.names.WorkId.{WorkId}
-use Rattle.jn_base.specs.declared.names.Tickets.{Tickets}
-use Rattle.jn_base.specs.declared.names.Cause.{Cause}
-use Rattle.jn_base.specs.declared.op.Op.{Op}
-use Rattle.jn_base.specs.declared.op.Answer.{Answer}
-use Rattle.jn_base.specs.Names.{tid_eq}
-use Rattle.jn_base.proofs.Tells.{tid_tells}
-use Rattle.jn_order.specs.Files.{change, answer_to}
-use Rattle.jn_records.specs.NetLists.{list_change}
-use Rattle.jn_records.specs.declared.intention.Intention.{Intention}
-use Rattle.jn_msgs.specs.declared.message.Message.{Message}
+use Rattle.jn_system_settling.proofs.Common.{◌≡◌, ◌≢◌, ◌⊎◌, inl, inr, ℕ, zero, suc, ◌+◌, Bool, true, false, List, [], ◌∷◌, ◌++◌, length, take, Option, Some, None, true≢false, refl, sym, ◌∙◌, ap, subst, arith, ◌&&◌, not, if◌then◌else◌, nat_lt, nat_eq, slice_get, ClientNo, Tid, WorkId, Tickets, Cause, Op, Answer, tid_eq, tid_tells, change, answer_to, list_change, Intention, Message, Vote, Work, Phase, ActiveWork, Transaction, Stage, Open, Voting, Committed, Aborted, Ballot, Commitment, StableState, FlagState, Change, AddReady, MarkGoing, CarryOut, RemoveWork, AddFlag, DropFlag, made_by, made_all, at_tid, is_going, RowOutcome, Sent, WorkerTable, WorkStorage, Wanted, work_at, work_of, open_row, wants_of, is_fit, refusal_of, granted_row, repeated, op_phase, op_row, conflict, commit_wants, vote_of, shortage, need_in, prepared_row, prepare_phase, prepare_row, commit_phase, work_commit_row, drop_phase, drop_row, worker_row, going_work, going_row, carried_row, intentions_of, worker_step, worker_again, Closes, Empty, Stays, Goes, Waits, Forgets, outcomes-close, close_clients_row, CoordinatorTable, transaction_at, with_stage, all_in, is_work, besides, drops, commits, prepares, commit_row, abort_row, forget_row, end_promised, end_stage, end_row, abort_stage, abort_request, told_stage, inquire_row, counted_vote, vote_stage, vote_row, done_stage, done_row, thanks_stage, thanks_row, with_work, coordinator_row, committed_to, aborted_to, told_again, coordinator_again, restored_transaction, restored_transactions}
 use Rattle.jn_msgs.specs.declared.message.Message.TheVariants as messages
-use Rattle.jn_msgs.specs.declared.message.Vote.{Vote}
 use Rattle.jn_msgs.specs.declared.message.Vote.TheVariants as votes
-use Rattle.jn_rows.specs.declared.worker.Work.{Work}
-use Rattle.jn_rows.specs.declared.worker.Phase.{Phase}
 use Rattle.jn_rows.specs.declared.worker.Phase.TheVariants as phases
-use Rattle.jn_rows.specs.declared.worker.ActiveWork.{ActiveWork}
-use Rattle.jn_rows.specs.declared.coordinator.Transaction.{Transaction}
-use Rattle.jn_rows.specs.declared.coordinator.Stage.{Stage}
-use Rattle.jn_rows.specs.declared.coordinator.Stage.TheVariants.{Open, Voting, Committed, Aborted}
-use Rattle.jn_rows.specs.declared.coordinator.Voting.{Voting as Ballot}
-use Rattle.jn_rows.specs.declared.coordinator.Committed.{Committed as Commitment}
-use Rattle.jn_rows.specs.Stable.{StableState, FlagState, Change, AddReady, MarkGoing, CarryOut, RemoveWork, AddFlag, DropFlag, made_by, made_all, at_tid, is_going}
-use Rattle.jn_rows.specs.Outcomes.{RowOutcome, Sent}
-use Rattle.jn_rows.specs.Worker.{WorkerTable, WorkStorage, Wanted, work_at, work_of, open_row, wants_of, is_fit, refusal_of, granted_row, repeated, op_phase, op_row, conflict, commit_wants, vote_of, shortage, need_in, prepared_row, prepare_phase, prepare_row, commit_phase, commit_row as work_commit_row, drop_phase, drop_row, worker_row, going_work, going_row, carried_row, intentions_of, worker_step, worker_again}
 use Rattle.jn_system_settling.proofs.Settling.CoordinatorFits.{found-name}
-use Rattle.jn_system.proofs.WholeSystem.Closes.{Closes, Empty, Stays, Goes, Waits, Forgets, outcomes-close}
-use Rattle.jn_rows.specs.Coordinator.{close_clients_row, CoordinatorTable, transaction_at, with_stage, without, all_in, is_work, besides, drops, commits, prepares, commit_row, abort_row, forget_row, end_promised, end_stage, end_row, abort_stage, abort_request, told_stage, inquire_row, counted_vote, vote_stage, vote_row, done_stage, done_row, thanks_stage, thanks_row, with_work, coordinator_row, committed_to, aborted_to, told_again, coordinator_again, restored_transaction, restored_transactions}
+use Rattle.jn_rows.specs.Coordinator.{without}
 
 -- ---- messages that speak of no request that begins, opens or ends
 

@@ -1,25 +1,7 @@
 -- What a client waits for when a settle asks again is on its way until it is answered: its message waits, or a reply to it.
-use Rattle.std.proofs.Common.{◌≡◌, ◌≢◌, ◌⊎◌, inl, inr, ◌≤◌, ◌<◌, ℕ, zero, suc, ◌+◌, Bool, true, false, List, [], ◌∷◌, ◌++◌, length, length-append, Option, Some, None, is_some, true≢false, append_assoc, refl, sym, ◌∙◌, ap, subst, arith}
-use Rattle.std.specs.Prelude.{if◌then◌else◌, slice_get, nat_eq, map}
-use Rattle.std.specs.List.{list_any}
-use Rattle.std.proofs.lemmas.Bool.Decides.{nat_tests}
-use Rattle.jn_base.specs.declared.names.ServerNo.{ServerNo}
-use Rattle.jn_base.specs.declared.names.ClientNo.{ClientNo}
-use Rattle.jn_base.specs.declared.names.Party.{Party}
-use Rattle.jn_base.specs.declared.names.Party.TheVariants.{Client, Server}
-use Rattle.jn_base.specs.Names.{server_eq, client_eq}
-use Rattle.jn_base.proofs.Tells.{client_tells, server_tells}
-use Rattle.jn_msgs.specs.declared.message.Message.{Message}
-use Rattle.jn_rows.specs.declared.client.Taken.{Taken}
+use Rattle.jn_system_settling.proofs.Common.{◌≡◌, ◌≢◌, ◌⊎◌, inl, inr, ◌≤◌, ◌<◌, ℕ, zero, suc, ◌+◌, Bool, true, false, List, [], ◌∷◌, ◌++◌, length, length-append, Option, Some, None, is_some, true≢false, append_assoc, refl, sym, ◌∙◌, ap, subst, arith, if◌then◌else◌, slice_get, nat_eq, map, list_any, nat_tests, ServerNo, ClientNo, Party, Client, Server, server_eq, client_eq, client_tells, server_tells, Message, Taken, Pick, stable, RowOutcome, Sent, ClientTable, take_row, again_row, World, Memory, at_client, servers_from, Room, server_row, server_step, Step, NextEvent, Tell, Again, Deliver, Nudge, Timeout, StopDelivery, StopWork, Crash, Narrow, StopRestart, Restart, Dismiss, CloseClients, IsStep, after, ends, at_memory, handed, work, works, nudge, timeout, crash, narrow, stop_restart, restart, close_clients, took, taken_by, sent_now, Course, numbered, still_waiting, without_number, go, go_on, Chance, first_busy, handing, working, next_step, onward, until_rest, ask_again}
 use Rattle.jn_rows.specs.declared.client.Taken.TheVariants as taken
-use Rattle.jn_rows.specs.Stable.{Pick, stable}
-use Rattle.jn_rows.specs.Outcomes.{RowOutcome, Sent}
-use Rattle.jn_rows.specs.Client.{ClientTable, take_row, again_row}
-use Rattle.jn_system.specs.WholeSystem.World.{World, Memory, at_client, servers_from}
-use Rattle.jn_system.specs.WholeSystem.Servers.{Room, server_row, server_step}
-use Rattle.jn_system.specs.WholeSystem.Steps.{Step, NextEvent, Tell, Again, Deliver, Work, Nudge, Timeout, StopDelivery, StopWork, Crash, Narrow, StopRestart, Restart, Dismiss, CloseClients, IsStep, after, ends, at_memory, handed, work, works, nudge, timeout, crash, narrow, stop_restart, restart, close_clients, took, taken_by, sent_now}
-use Rattle.jn_system_settling.specs.Settling.Course.{Course, numbered, still_waiting, without_number, go, go_on}
-use Rattle.jn_system_settling.specs.Settling.Settle.{Chance, first_busy, handing, working, next_step, onward, until_rest, ask_again}
+use Rattle.jn_system.specs.WholeSystem.Steps.{Work}
 use Rattle.jn_system_settling.proofs.Settling.Burdens.{are_below, get-more, get-next}
 use Rattle.jn_system_settling.proofs.Settling.Courses.{Grows, Sound, grows, waiting-is}
 use Rattle.jn_system_settling.proofs.Settling.Parts.{get-some}

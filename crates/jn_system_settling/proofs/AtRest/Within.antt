@@ -1,54 +1,16 @@
 -- Whatever is named is at one of so many servers, and each message to a server is for one of these.
-use Rattle.std.proofs.Common.{◌≡◌, ◌≤◌, ◌<◌, ℕ, zero, suc, ◌+◌, Bool, true, false, List, [], ◌∷◌, ◌++◌, take, Option, Some, None, true≢false, refl, sym, ◌∙◌, ap, subst, arith}
-use Rattle.std.specs.Prelude.{if◌then◌else◌, slice_get, ◌&&◌, not, nat_lt, nat_eq, length}
-use Rattle.std.proofs.lemmas.Bool.Decides.{nat_tests}
-use Rattle.jn_base.specs.declared.names.ServerNo.{ServerNo}
-use Rattle.jn_base.specs.declared.names.ClientNo.{ClientNo}
-use Rattle.jn_base.specs.declared.names.Tid.{Tid}
-use Rattle.jn_base.specs.declared.names.WorkId.{WorkId}
-use Rattle.jn_base.specs.declared.names.Tickets.{Tickets}
-use Rattle.jn_base.specs.declared.names.Cause.{Cause}
-use Rattle.jn_base.specs.declared.names.Party.{Party}
-use Rattle.jn_base.specs.declared.names.Party.TheVariants.{Client, Server}
-use Rattle.jn_base.specs.declared.op.Op.{Op}
-use Rattle.jn_base.specs.declared.op.Answer.{Answer}
-use Rattle.jn_base.specs.declared.op.Command.{Command}
+use Rattle.jn_system_settling.proofs.Common.{◌≡◌, ◌≤◌, ◌<◌, ℕ, zero, suc, ◌+◌, Bool, true, false, List, [], ◌∷◌, ◌++◌, take, Option, Some, None, true≢false, refl, sym, ◌∙◌, ap, subst, arith, if◌then◌else◌, slice_get, ◌&&◌, not, nat_lt, nat_eq, nat_tests, ServerNo, ClientNo, Tid, WorkId, Tickets, Cause, Party, Client, Server, Op, Answer, Command, server_eq, client_eq, tid_tells, work_tells, AllFiles, change, answer_to, list_change, Intention, Message, Vote, Outstanding, Taken, WorkEntry, Phase, Transaction, Stage, Open, Voting, Committed, Aborted, StableState, Prepared, FlagState, Pick, Change, AddReady, MarkGoing, RemoveWork, made_by, made_all, stable, RowOutcome, Sent, ClientTable, Commanded, Refuses, Sends, command_row, take_row, if_waits, is_current, opens, opened_row, sent_again, WorkerTable, WorkStorage, Wanted, work_at, work_of, with_phase, without, after_grant, wants_of, is_fit, refusal_of, granted_row, repeated, op_phase, op_row, prepare_phase, prepare_row, commit_phase, drop_phase, drop_row, worker_row, going_work, going_row, carried_row, intentions_of, worker_step, worker_again, timed_out, restored_worker, CoordinatorTable, transaction_at, is_work, all_in, besides, drops, commits, prepares, end_stage, end_row, abort_stage, abort_request, told_stage, inquire_row, with_work, counted_vote, vote_stage, vote_row, begin_again, begun_by, after_closing, coordinator_row, commit_row, abort_row, told_again, coordinator_again, close_clients_row, with_epoch, World, Memory, at_server, new_memory, opening, Room, storage_of, server_row, server_step, of_worker, of_coordinator, of_step, of_timeout, server_timeout, is_for_worker, restored, Step, NextEvent, Tell, Again, Deliver, Nudge, Timeout, StopDelivery, StopWork, Crash, Narrow, StopRestart, Restart, Dismiss, CloseClients, IsStep, after, ends, at_memory, handed, work, works, nudge, timeout, crash, narrow, stop_restart, restart, close_clients, took, commanded, sent_now, LockFacts, are_of_flags, coordinator-aside, close-aside, are_near, is_few, IsSmall, is_small, is_small_stage, are_small_stages, Sizes, openings}
+use Rattle.std.specs.Prelude.{length}
 use Rattle.jn_base.specs.declared.op.Command.TheVariants as commands
-use Rattle.jn_base.specs.Names.{server_eq, client_eq}
-use Rattle.jn_base.proofs.Tells.{tid_tells, work_tells}
-use Rattle.jn_order.specs.Files.{AllFiles, change, answer_to}
-use Rattle.jn_records.specs.NetLists.{list_change}
-use Rattle.jn_records.specs.declared.intention.Intention.{Intention}
-use Rattle.jn_msgs.specs.declared.message.Message.{Message}
 use Rattle.jn_msgs.specs.declared.message.Message.TheVariants as messages
-use Rattle.jn_msgs.specs.declared.message.Vote.{Vote}
 use Rattle.jn_msgs.specs.declared.message.Vote.TheVariants as votes
 use Rattle.jn_msgs.specs.declared.message.Outcome.TheVariants as outcomes
-use Rattle.jn_rows.specs.declared.client.Outstanding.{Outstanding}
-use Rattle.jn_rows.specs.declared.client.Taken.{Taken}
 use Rattle.jn_rows.specs.declared.client.Taken.TheVariants as taken
-use Rattle.jn_rows.specs.declared.worker.Work.{Work as WorkEntry}
-use Rattle.jn_rows.specs.declared.worker.Phase.{Phase}
 use Rattle.jn_rows.specs.declared.worker.Phase.TheVariants as phases
-use Rattle.jn_rows.specs.declared.coordinator.Transaction.{Transaction}
-use Rattle.jn_rows.specs.declared.coordinator.Stage.{Stage}
-use Rattle.jn_rows.specs.declared.coordinator.Stage.TheVariants.{Open, Voting, Committed, Aborted}
-use Rattle.jn_rows.specs.Stable.{StableState, Prepared, FlagState, Pick, Change, AddReady, MarkGoing, RemoveWork, made_by, made_all, stable}
-use Rattle.jn_rows.specs.Outcomes.{RowOutcome, Sent}
-use Rattle.jn_rows.specs.Client.{ClientTable, Commanded, Refuses, Sends, command_row, take_row, if_waits, is_current, opens, opened_row, sent_again}
-use Rattle.jn_rows.specs.Worker.{WorkerTable, WorkStorage, Wanted, work_at, work_of, with_phase, without, after_grant, breaks_at, broken_by, open_row, wants_of, is_fit, refusal_of, granted_row, repeated, op_phase, op_row, conflict, commit_wants, vote_of, shortage, need_in, prepared_row, prepare_phase, prepare_row, commit_phase, drop_phase, drop_row, worker_row, going_work, going_row, carried_row, intentions_of, worker_step, worker_again, timed_out, restored_work, restored_worker}
 use Rattle.jn_rows.specs.Worker as worker
-use Rattle.jn_rows.specs.Coordinator.{CoordinatorTable, transaction_at, is_work, all_in, besides, drops, commits, prepares, end_stage, end_row, abort_stage, abort_request, told_stage, inquire_row, with_work, counted_vote, vote_stage, vote_row, begin_again, begun_by, after_closing, coordinator_row, commit_row, abort_row, told_again, coordinator_again, close_clients_row}
-use Rattle.jn_system.specs.SmallSteps.Steps.{with_epoch}
-use Rattle.jn_system.specs.WholeSystem.World.{World, Memory, at_server, new_memory, opening}
-use Rattle.jn_system.specs.WholeSystem.Servers.{Room, storage_of, server_row, server_step, of_worker, of_coordinator, of_step, of_timeout, server_timeout, is_for_worker, restored}
-use Rattle.jn_system.specs.WholeSystem.Steps.{Step, NextEvent, Tell, Again, Deliver, Work, Nudge, Timeout, StopDelivery, StopWork, Crash, Narrow, StopRestart, Restart, Dismiss, CloseClients, IsStep, after, ends, at_memory, handed, work, works, nudge, timeout, crash, narrow, stop_restart, restart, close_clients, took, commanded, sent_now}
-use Rattle.jn_system.specs.WholeSystem.LockFacts.{LockFacts}
-use Rattle.jn_system.proofs.WholeSystem.CoordinatorRows.{are_of_flags, coordinator-aside, close-aside}
-use Rattle.jn_system_settling.specs.Settling.Sizes.{are_near, is_few, IsSmall, is_small, is_small_stage, are_small_stages, Sizes}
+use Rattle.jn_system.specs.WholeSystem.Steps.{Work}
 use Rattle.jn_system_settling.proofs.Settling.ClientFits.{sent_with}
 use Rattle.jn_system_settling.proofs.Settling.WorldSizes.{holds-of, up-sizes, up-locks}
-use Rattle.jn_system_order.proofs.Ordering.Openings.{openings}
 use Rattle.jn_system_settling.proofs.AtRest.Owners.{Owner, owner_in, all_owned, grown, owned-found}
 use Rattle.jn_system_settling.proofs.AtRest.OwnerSteps.{AreOwned, some-memory, none-memory, step-keeps-owned}
 

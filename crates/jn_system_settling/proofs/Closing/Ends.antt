@@ -1,42 +1,11 @@
 -- The end of a run, and the settle after it.
-use Rattle.std.proofs.Common.{◌≡◌, ◌≢◌, ◌⊎◌, inl, inr, ◌≤◌, ◌<◌, ℕ, zero, suc, ◌+◌, Bool, true, false, List, [], ◌∷◌, ◌++◌, append-nil, Option, Some, None, is_some, true≢false, refl, sym, ◌∙◌, ap, subst, arith}
-use Rattle.std.specs.Prelude.{if◌then◌else◌, ◌&&◌, ◌||◌, nat_lt, nat_eq, map}
-use Rattle.std.specs.List.{list_any}
-use Rattle.std.proofs.lemmas.Bool.Decides.{nat_tests}
-use Rattle.jn_base.specs.declared.names.ServerNo.{ServerNo}
-use Rattle.jn_base.specs.declared.names.ClientNo.{ClientNo}
-use Rattle.jn_base.specs.declared.names.Tid.{Tid}
-use Rattle.jn_base.specs.declared.names.WorkId.{WorkId}
-use Rattle.jn_base.specs.Names.{server_eq}
-use Rattle.jn_base.proofs.Tells.{server_tells}
-use Rattle.jn_order.specs.Files.{AllFiles}
-use Rattle.jn_rows.specs.declared.coordinator.Transaction.{Transaction}
-use Rattle.jn_rows.specs.declared.coordinator.Stage.{Stage}
-use Rattle.jn_rows.specs.declared.coordinator.Stage.TheVariants.{Open, Voting, Committed, Aborted}
-use Rattle.jn_rows.specs.declared.coordinator.Committed.{Committed as Commitment}
-use Rattle.jn_rows.specs.Stable.{StableState, Prepared, FlagState, Pick, stable, is_ready, is_going}
-use Rattle.jn_rows.specs.Outcomes.{Sent}
-use Rattle.jn_rows.specs.Worker.{WorkerTable, work_at, restored_work, restored_worker}
-use Rattle.jn_rows.specs.Coordinator.{is_work, all_in, thanked, all_thanked, restored_transaction, restored_transactions, close_clients_row}
-use Rattle.jn_system.specs.SmallSteps.Steps.{run as run_atoms, opening_world}
-use Rattle.jn_system_order.specs.Mirroring.Mirrors.{AreTransactions}
-use Rattle.jn_system.proofs.SmallSteps.Updates.{none_unless, none_of, false_unless, some_of, clash}
-use Rattle.jn_system.specs.WholeSystem.World.{World, Memory, opening, servers_from}
-use Rattle.jn_system.specs.WholeSystem.Servers.{restored, of_coordinator}
-use Rattle.jn_system.specs.WholeSystem.Steps.{Step, Again, Nudge, Crash, Narrow, Restart, Dismiss, CloseClients, IsStep, IsRun, run, after, nudge, crash, narrow, restart, close_clients}
-use Rattle.jn_system.specs.WholeSystem.LockFacts.{UpFact}
+use Rattle.jn_system_settling.proofs.Common.{◌≡◌, ◌≢◌, ◌⊎◌, inl, inr, ◌≤◌, ◌<◌, ℕ, zero, suc, ◌+◌, Bool, true, false, List, [], ◌∷◌, ◌++◌, append-nil, Option, Some, None, is_some, true≢false, refl, sym, ◌∙◌, ap, subst, arith, if◌then◌else◌, ◌&&◌, ◌||◌, nat_lt, nat_eq, map, list_any, nat_tests, ServerNo, ClientNo, Tid, WorkId, server_eq, server_tells, AllFiles, Transaction, Stage, Open, Voting, Committed, Aborted, Commitment, StableState, Prepared, FlagState, Pick, stable, is_ready, is_going, Sent, WorkerTable, work_at, restored_work, restored_worker, is_work, all_in, thanked, all_thanked, restored_transaction, restored_transactions, close_clients_row, run_atoms, opening_world, AreTransactions, none_unless, none_of, false_unless, some_of, clash, World, Memory, opening, servers_from, restored, of_coordinator, Step, Again, Nudge, Crash, Narrow, Restart, Dismiss, CloseClients, IsStep, IsRun, run, after, nudge, crash, narrow, restart, close_clients, UpFact, Course, still_waiting, opening_course, go, go_on, Chance, clients_from, until_rest, ask_again, settled, committed_at, NothingGoes, Ends, AreUp, Reached, next-reached, opening-reached, invariant}
 use Rattle.jn_system.proofs.WholeSystem.Closes.{is_committed}
 use Rattle.jn_system_order.specs.Ordering.Runs.{IsInOrder}
 use Rattle.jn_system_order.proofs.Ordering.Runs.{moves-in-order}
-use Rattle.jn_system_settling.specs.Settling.Course.{Course, still_waiting, opening_course, go, go_on}
-use Rattle.jn_system_settling.specs.Settling.Settle.{Chance, clients_from, until_rest, ask_again, settled}
-use Rattle.jn_system_settling.specs.Settling.Sizes.{committed_at}
-use Rattle.jn_system_settling.specs.Settling.Bounds.{NothingGoes, Ends}
 use Rattle.jn_system_settling.proofs.Settling.Courses.{Sound, go-sound, waiting-is}
 use Rattle.jn_system_settling.proofs.Settling.Settling.{opening-sound, on-world, settle-ends}
 use Rattle.jn_system_settling.proofs.Settling.WorldSizes.{up-sizes, up-locks}
-use Rattle.jn_system_settling.specs.AtRest.Settled.{AreUp}
-use Rattle.jn_system_reports.proofs.Reporting.Reached.{Reached, next-reached, opening-reached, invariant}
 use Rattle.jn_system_settling.proofs.AtRest.Owners.{all_owned}
 use Rattle.jn_system_settling.proofs.AtRest.Within.{near_owner, table_near, Within, within-step, opening-within, tids-near}
 use Rattle.jn_system_settling.proofs.AtRest.Ways.{Waits, quiet-clients, rest-down}

@@ -1,42 +1,10 @@
 -- A settle after the end, where all of so many servers are up in the end: its steps keep what holds, and none is stopped.
-use Rattle.std.proofs.Common.{◌≡◌, ◌≢◌, ◌⊎◌, inl, inr, ◌≤◌, ◌<◌, ℕ, zero, suc, ◌+◌, Bool, true, false, List, [], ◌∷◌, ◌++◌, length, Option, Some, None, is_some, true≢false, refl, sym, ◌∙◌, ap, subst, arith}
-use Rattle.std.specs.Prelude.{if◌then◌else◌, slice_get, ◌&&◌, not, map, nat_eq}
-use Rattle.std.specs.List.{list_any}
-use Rattle.std.proofs.lemmas.Bool.Decides.{nat_tests}
-use Rattle.jn_base.specs.declared.names.ServerNo.{ServerNo}
-use Rattle.jn_base.specs.declared.names.ClientNo.{ClientNo}
-use Rattle.jn_base.specs.declared.names.Tid.{Tid}
-use Rattle.jn_base.specs.declared.names.WorkId.{WorkId}
-use Rattle.jn_base.specs.declared.names.Party.{Party}
-use Rattle.jn_base.specs.declared.names.Party.TheVariants.{Client, Server}
-use Rattle.jn_base.specs.Names.{server_eq, tid_eq, work_eq}
-use Rattle.jn_base.proofs.Tells.{server_tells, tid_tells, work_tells}
-use Rattle.jn_order.specs.Files.{AllFiles}
-use Rattle.jn_msgs.specs.declared.message.Message.{Message}
+use Rattle.jn_system_settling.proofs.Common.{◌≡◌, ◌≢◌, ◌⊎◌, inl, inr, ◌≤◌, ◌<◌, ℕ, zero, suc, ◌+◌, Bool, true, false, List, [], ◌∷◌, ◌++◌, length, Option, Some, None, is_some, true≢false, refl, sym, ◌∙◌, ap, subst, arith, if◌then◌else◌, slice_get, ◌&&◌, not, map, nat_eq, list_any, nat_tests, ServerNo, ClientNo, Tid, WorkId, Party, Client, Server, server_eq, tid_eq, work_eq, server_tells, tid_tells, work_tells, AllFiles, Message, Work, Transaction, Stage, Open, Voting, Committed, Aborted, StableState, Prepared, Pick, stable, is_ready, is_going, RowOutcome, Sent, sent_again, WorkerTable, work_at, worker_again, transaction_at, is_work, besides, commits_of, told_again, coordinator_again, committed_to, run_atoms, opening_world, some_of, World, Memory, servers_from, Room, server_row, server_again, Step, Again, Deliver, WorkStep, Nudge, StopDelivery, StopWork, IsStep, after, at_memory, handed, done, nudge, sent_now, IsTrue, IsAddressed, Course, numbered, still_waiting, without_number, go, go_on, Chance, first_busy, next_step, onward, until_rest, ask_again, AreUp, next-reached}
 use Rattle.jn_msgs.specs.declared.message.Message.TheVariants as messages
-use Rattle.jn_rows.specs.declared.worker.Work.{Work}
-use Rattle.jn_rows.specs.declared.coordinator.Transaction.{Transaction}
-use Rattle.jn_rows.specs.declared.coordinator.Stage.{Stage}
-use Rattle.jn_rows.specs.declared.coordinator.Stage.TheVariants.{Open, Voting, Committed, Aborted}
-use Rattle.jn_rows.specs.Stable.{StableState, Prepared, Pick, stable, is_ready, is_going}
-use Rattle.jn_rows.specs.Outcomes.{RowOutcome, Sent}
-use Rattle.jn_rows.specs.Client.{sent_again}
-use Rattle.jn_rows.specs.Worker.{WorkerTable, work_at, worker_again}
-use Rattle.jn_rows.specs.Coordinator.{transaction_at, is_work, besides, commits as commits_of, told_again, coordinator_again, committed_to}
-use Rattle.jn_system.specs.SmallSteps.Steps.{run as run_atoms, opening_world}
-use Rattle.jn_system.proofs.SmallSteps.Updates.{some_of}
-use Rattle.jn_system.specs.WholeSystem.World.{World, Memory, servers_from}
-use Rattle.jn_system.specs.WholeSystem.Servers.{Room, server_row, server_again}
-use Rattle.jn_system.specs.WholeSystem.Steps.{Step, Again, Deliver, Work as WorkStep, Nudge, StopDelivery, StopWork, IsStep, after, at_memory, handed, done, nudge, sent_now}
-use Rattle.jn_system_order.specs.Mirroring.Mirrors.{IsTrue, IsAddressed}
-use Rattle.jn_system_settling.specs.Settling.Course.{Course, numbered, still_waiting, without_number, go, go_on}
-use Rattle.jn_system_settling.specs.Settling.Settle.{Chance, first_busy, next_step, onward, until_rest, ask_again}
 use Rattle.jn_system_settling.proofs.Settling.Burdens.{are_below, busy-within, busy-is}
 use Rattle.jn_system_settling.proofs.Settling.Courses.{go-sound, waiting-is}
 use Rattle.jn_system_settling.proofs.Settling.Parts.{Busy, busy-has, get-some, next_intention, row_of, works-as}
 use Rattle.jn_system_settling.proofs.Settling.WorldSizes.{holds-of}
-use Rattle.jn_system_settling.specs.AtRest.Settled.{AreUp}
-use Rattle.jn_system_reports.proofs.Reporting.Reached.{next-reached}
 use Rattle.jn_system_settling.proofs.AtRest.Within.{to-near, within-step}
 use Rattle.jn_system_settling.proofs.AtRest.Requests.{has-new}
 use Rattle.jn_system_settling.proofs.AtRest.Ways.{Has, Waits, still-waits, now-waits, rest-down, any-without}

@@ -1,36 +1,9 @@
 -- What a server has once its outcomes are thanked, and what its rows do then.
-use Rattle.std.proofs.Common.{◌≡◌, ◌≢◌, ◌⊎◌, inl, inr, Bool, true, false, List, [], ◌∷◌, ◌++◌, Option, Some, None, is_some, true≢false, refl, sym, ◌∙◌, ap, subst, arith}
-use Rattle.std.specs.Prelude.{if◌then◌else◌, not, ◌&&◌}
-use Rattle.std.proofs.lemmas.Bool.Decides.{nat_tests}
-use Rattle.jn_base.specs.declared.names.ServerNo.{ServerNo}
-use Rattle.jn_base.specs.declared.names.Tid.{Tid}
-use Rattle.jn_base.specs.declared.names.WorkId.{WorkId}
-use Rattle.jn_base.specs.declared.names.Party.TheVariants.{Server}
-use Rattle.jn_base.specs.Names.{tid_eq, work_eq}
-use Rattle.jn_base.proofs.Tells.{tid_tells, work_tells}
-use Rattle.jn_records.specs.declared.intention.Intention.{Intention}
+use Rattle.jn_system_settling.proofs.Common.{◌≡◌, ◌≢◌, ◌⊎◌, inl, inr, Bool, true, false, List, [], ◌∷◌, ◌++◌, Option, Some, None, is_some, true≢false, refl, sym, ◌∙◌, ap, subst, arith, if◌then◌else◌, not, ◌&&◌, nat_tests, ServerNo, Tid, WorkId, Server, tid_eq, work_eq, tid_tells, work_tells, Intention, Note, Work, Phase, Active, Broken, Stored, Transaction, Stage, Open, Voting, Committed, Aborted, Commitment, StableState, Prepared, MarkGoing, RemoveWork, DropFlag, made_all, at_work, gone_on, is_ready, is_going, RowOutcome, Sent, WorkerTable, WorkStorage, work_at, without, commit_phase, drop_row, drop_phase, carried_row, going_work, CoordinatorTable, transaction_at, with_stage, without_tid, is_work, all_in, told_stage, inquire_row, done_row, done_stage, forget_row, Machine, at_work_here, some_is, none_of, false_unless, Memory, Room, storage_of, of_worker, of_coordinator, TableFact, IsSoundWork, AreTransactions, at-stage, in_stage, going-is}
 use Rattle.jn_msgs.specs.declared.message.Message.TheVariants as messages
-use Rattle.jn_msgs.specs.declared.message.Note.{Note}
 use Rattle.jn_msgs.specs.declared.message.Note.TheVariants as notes
-use Rattle.jn_rows.specs.declared.worker.Work.{Work}
-use Rattle.jn_rows.specs.declared.worker.Phase.{Phase}
-use Rattle.jn_rows.specs.declared.worker.Phase.TheVariants.{Active, Broken, Prepared as Stored}
-use Rattle.jn_rows.specs.declared.coordinator.Transaction.{Transaction}
-use Rattle.jn_rows.specs.declared.coordinator.Stage.{Stage}
-use Rattle.jn_rows.specs.declared.coordinator.Stage.TheVariants.{Open, Voting, Committed, Aborted}
-use Rattle.jn_rows.specs.declared.coordinator.Committed.{Committed as Commitment}
-use Rattle.jn_rows.specs.Stable.{StableState, Prepared, MarkGoing, RemoveWork, DropFlag, made_all, at_work, gone_on, is_ready, is_going}
-use Rattle.jn_rows.specs.Outcomes.{RowOutcome, Sent}
-use Rattle.jn_rows.specs.Worker.{WorkerTable, WorkStorage, work_at, without, commit_row, commit_phase, drop_row, drop_phase, carried_row, going_work}
-use Rattle.jn_rows.specs.Coordinator.{CoordinatorTable, transaction_at, with_stage, without as without_tid, is_work, all_in, told_stage, inquire_row, done_row, done_stage, forget_row}
-use Rattle.jn_system.specs.SmallSteps.World.{World as Machine}
-use Rattle.jn_system.proofs.SmallSteps.Updates.{at_work_here, some_is, none_of, false_unless}
-use Rattle.jn_system.specs.WholeSystem.World.{Memory}
-use Rattle.jn_system.specs.WholeSystem.Servers.{Room, storage_of, of_worker, of_coordinator}
-use Rattle.jn_system.specs.WholeSystem.LockFacts.{TableFact, IsSoundWork}
-use Rattle.jn_system_order.specs.Mirroring.Mirrors.{AreTransactions}
-use Rattle.jn_system_order.proofs.Mirroring.Transactions.{at-stage, at-less, in_stage}
-use Rattle.jn_system.proofs.WholeSystem.WorkerRows.{going-is}
+use Rattle.jn_rows.specs.Worker.{commit_row}
+use Rattle.jn_system_order.proofs.Mirroring.Transactions.{at-less}
 use Rattle.jn_system_settling.proofs.AtRest.Ways.{Has}
 
 -- ---- what a server has

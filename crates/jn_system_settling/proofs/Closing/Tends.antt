@@ -1,43 +1,10 @@
 -- What holds of a course after the end, and on what each work and each transaction waits.
-use Rattle.std.proofs.Common.{◌≡◌, ◌≢◌, ◌⊎◌, inl, inr, ◌≤◌, ℕ, ◌+◌, Bool, true, false, List, [], ◌∷◌, ◌++◌, length, length-append, append_assoc, Option, Some, None, is_some, true≢false, refl, sym, ◌∙◌, ap, subst, arith}
-use Rattle.std.specs.Prelude.{if◌then◌else◌, slice_get, ◌&&◌}
-use Rattle.std.proofs.lemmas.Bool.Decides.{nat_tests}
-use Rattle.jn_base.specs.declared.names.ServerNo.{ServerNo}
-use Rattle.jn_base.specs.declared.names.ClientNo.{ClientNo}
-use Rattle.jn_base.specs.declared.names.Tid.{Tid}
-use Rattle.jn_base.specs.declared.names.WorkId.{WorkId}
-use Rattle.jn_base.specs.declared.names.Party.TheVariants.{Server}
-use Rattle.jn_base.specs.Names.{server_eq}
-use Rattle.jn_base.proofs.Tells.{server_tells}
-use Rattle.jn_order.specs.Files.{AllFiles}
-use Rattle.jn_msgs.specs.declared.message.Message.{Message}
+use Rattle.jn_system_settling.proofs.Common.{◌≡◌, ◌≢◌, ◌⊎◌, inl, inr, ◌≤◌, ℕ, ◌+◌, Bool, true, false, List, [], ◌∷◌, ◌++◌, length, length-append, append_assoc, Option, Some, None, is_some, true≢false, refl, sym, ◌∙◌, ap, subst, arith, if◌then◌else◌, slice_get, ◌&&◌, nat_tests, ServerNo, ClientNo, Tid, WorkId, Server, server_eq, server_tells, AllFiles, Message, Work, Transaction, Stage, Open, Voting, Committed, Aborted, StableState, Prepared, Pick, stable, made_all, is_ready, RowOutcome, Sent, work_at, transaction_at, is_work, Machine, Invariant, Knows, Says, run_atoms, opening_world, some_is, some_of, not_both, World, Memory, Room, server_row, Step, IsStep, after, done, UpFact, ServerFact, IsAddressed, IsTransaction, IsStage, knowledge_of, known_in, found-is, Course, numbered, still_waiting, go, Reached, next-reached}
 use Rattle.jn_msgs.specs.declared.message.Message.TheVariants as messages
-use Rattle.jn_rows.specs.declared.worker.Work.{Work}
-use Rattle.jn_rows.specs.declared.coordinator.Transaction.{Transaction}
-use Rattle.jn_rows.specs.declared.coordinator.Stage.{Stage}
-use Rattle.jn_rows.specs.declared.coordinator.Stage.TheVariants.{Open, Voting, Committed, Aborted}
-use Rattle.jn_rows.specs.Stable.{StableState, Prepared, Pick, stable, made_all, is_ready}
-use Rattle.jn_rows.specs.Outcomes.{RowOutcome, Sent}
-use Rattle.jn_rows.specs.Worker.{work_at}
-use Rattle.jn_rows.specs.Coordinator.{transaction_at, is_work}
-use Rattle.jn_system.specs.SmallSteps.World.{World as Machine}
 use Rattle.jn_system.specs.SmallSteps.FoundStates.{MayBeFound}
-use Rattle.jn_system.specs.SmallSteps.Invariant.{Invariant}
-use Rattle.jn_system.specs.SmallSteps.Transactions.{Knows}
-use Rattle.jn_system.specs.SmallSteps.Messages.{Says}
-use Rattle.jn_system.specs.SmallSteps.Steps.{run as run_atoms, opening_world}
 use Rattle.jn_system.proofs.SmallSteps.Runs.{run_kept, opening_kept}
-use Rattle.jn_system.proofs.SmallSteps.Updates.{some_is, some_of, not_both}
-use Rattle.jn_system.specs.WholeSystem.World.{World, Memory}
-use Rattle.jn_system.specs.WholeSystem.Servers.{Room, server_row}
-use Rattle.jn_system.specs.WholeSystem.Steps.{Step, IsStep, after, done}
-use Rattle.jn_system.specs.WholeSystem.LockFacts.{UpFact, ServerFact}
-use Rattle.jn_system_order.specs.Mirroring.Mirrors.{IsAddressed, IsTransaction, IsStage, knowledge_of, known_in}
-use Rattle.jn_system_order.proofs.Mirroring.Transactions.{found-is}
-use Rattle.jn_system_settling.specs.Settling.Course.{Course, numbered, still_waiting, go}
 use Rattle.jn_system_settling.proofs.Settling.Burdens.{are_below, get-more, get-next}
 use Rattle.jn_system_settling.proofs.Settling.Courses.{Sound, go-sound, waiting-is, below-still}
-use Rattle.jn_system_reports.proofs.Reporting.Reached.{Reached, next-reached}
 use Rattle.jn_system_settling.proofs.AtRest.Within.{Within, within-step}
 use Rattle.jn_system_settling.proofs.AtRest.Ways.{Has, Waits, now-waits}
 use Rattle.jn_system_settling.proofs.Closing.Rows.{Kept, is_ours, are_ours, needs, needs_of, needs_in, RowTends, Own, Takes, commit-takes, drop-takes, inquire-answers, done-answers}

@@ -1,28 +1,6 @@
 -- What clients and servers send once more in the middle of a settle.
-use Rattle.std.proofs.Common.{◌≡◌, ◌≤◌, ℕ, zero, suc, ◌+◌, ◌*◌, Bool, true, false, List, [], ◌∷◌, length, append-nil, Option, Some, None, refl, sym, ◌∙◌, ap, arith}
-use Rattle.std.specs.Prelude.{if◌then◌else◌, map, slice_get}
-use Rattle.std.proofs.lemmas.Bool.Decides.{nat_tests}
-use Rattle.jn_base.specs.declared.names.ServerNo.{ServerNo}
-use Rattle.jn_base.specs.declared.names.ClientNo.{ClientNo}
-use Rattle.jn_base.specs.declared.names.Party.TheVariants.{Server}
+use Rattle.jn_system_settling.proofs.Common.{◌≡◌, ◌≤◌, ℕ, zero, suc, ◌+◌, ◌*◌, Bool, true, false, List, [], ◌∷◌, length, append-nil, Option, Some, None, refl, sym, ◌∙◌, ap, arith, if◌then◌else◌, map, slice_get, nat_tests, ServerNo, ClientNo, Server, Outstanding, Transaction, Stage, Open, Voting, Committed, Aborted, StableState, stable, is_going, Sent, WorkerTable, worker_again, commits, besides, told_again, coordinator_again, committed_to, again_row, sent_again, World, Memory, servers_from, server_again, Again, Nudge, after, nudge, sent_now, Course, go, go_on, Chances, clients_from, until_rest, ask_again, settled, weight_at, weigh_all, weigh, burden, are_small_stages, is_small_stage, deliveries, IsSettle}
 use Rattle.jn_msgs.specs.declared.message.Message.TheVariants as messages
-use Rattle.jn_rows.specs.declared.client.Outstanding.{Outstanding}
-use Rattle.jn_rows.specs.declared.coordinator.Transaction.{Transaction}
-use Rattle.jn_rows.specs.declared.coordinator.Stage.{Stage}
-use Rattle.jn_rows.specs.declared.coordinator.Stage.TheVariants.{Open, Voting, Committed, Aborted}
-use Rattle.jn_rows.specs.Stable.{StableState, stable, is_going}
-use Rattle.jn_rows.specs.Outcomes.{Sent}
-use Rattle.jn_rows.specs.Worker.{WorkerTable, worker_again}
-use Rattle.jn_rows.specs.Coordinator.{commits, besides, told_again, coordinator_again, committed_to}
-use Rattle.jn_rows.specs.Client.{again_row, sent_again}
-use Rattle.jn_system.specs.WholeSystem.World.{World, Memory, servers_from}
-use Rattle.jn_system.specs.WholeSystem.Servers.{server_again}
-use Rattle.jn_system.specs.WholeSystem.Steps.{Again, Nudge, after, nudge, sent_now}
-use Rattle.jn_system_settling.specs.Settling.Course.{Course, go, go_on}
-use Rattle.jn_system_settling.specs.Settling.Settle.{Chances, clients_from, until_rest, ask_again, settled}
-use Rattle.jn_system_settling.specs.Settling.Weights.{weight_at, weigh_all, weigh, burden}
-use Rattle.jn_system_settling.specs.Settling.Sizes.{are_small_stages, is_small_stage}
-use Rattle.jn_system_settling.specs.Settling.Bounds.{deliveries, IsSettle}
 use Rattle.jn_system_settling.proofs.Settling.CoordinatorFits.{weigh-commits, weigh-all-more, besides-few, few-of}
 use Rattle.jn_system_settling.proofs.Settling.WorldSizes.{weighs, up-sizes}
 use Rattle.jn_system_settling.proofs.Settling.Burdens.{Leads, are_below, weighs-some}

@@ -1,27 +1,7 @@
 -- What a step does to the weight of what waits and goes.
-use Rattle.std.proofs.Common.{◌≡◌, ◌≢◌, ◌⊎◌, inl, inr, ◌≤◌, ◌<◌, ℕ, zero, suc, ◌+◌, Bool, true, false, List, [], ◌∷◌, ◌++◌, length, length-append, append-nil, append_assoc, take, Option, Some, None, refl, sym, ap, subst, arith}
-use Rattle.std.specs.Prelude.{if◌then◌else◌, slice_get, nat_lt, ◌&&◌}
-use Rattle.std.proofs.lemmas.Bool.Decides.{nat_tests}
-use Rattle.jn_base.specs.declared.names.ServerNo.{ServerNo}
-use Rattle.jn_base.specs.declared.names.ClientNo.{ClientNo}
-use Rattle.jn_base.specs.declared.names.Party.TheVariants.{Client, Server}
-use Rattle.jn_base.specs.Names.{server_eq}
-use Rattle.jn_base.proofs.Tells.{server_tells}
-use Rattle.jn_msgs.specs.declared.message.Message.{Message}
+use Rattle.jn_system_settling.proofs.Common.{◌≡◌, ◌≢◌, ◌⊎◌, inl, inr, ◌≤◌, ◌<◌, ℕ, zero, suc, ◌+◌, Bool, true, false, List, [], ◌∷◌, ◌++◌, length, length-append, append-nil, append_assoc, take, Option, Some, None, refl, sym, ap, subst, arith, if◌then◌else◌, slice_get, nat_lt, ◌&&◌, nat_tests, ServerNo, ClientNo, Client, Server, server_eq, server_tells, Message, Taken, Pick, stable, made_all, RowOutcome, Sent, ClientTable, take_row, World, Memory, servers_from, Room, server_row, server_step, ends, done, stopped, at_memory, handed, works, took, sent_now, LockFacts, is_busy, first_busy, weight, weight_at, weigh_all, weigh, goings_at, sum_over, going_works, numbered, Sizes, IsSmall}
 use Rattle.jn_msgs.specs.declared.message.Message.TheVariants as messages
-use Rattle.jn_rows.specs.declared.client.Taken.{Taken}
 use Rattle.jn_rows.specs.declared.client.Taken.TheVariants as taken
-use Rattle.jn_rows.specs.Stable.{Pick, stable, made_all}
-use Rattle.jn_rows.specs.Outcomes.{RowOutcome, Sent}
-use Rattle.jn_rows.specs.Client.{ClientTable, take_row}
-use Rattle.jn_system.specs.WholeSystem.World.{World, Memory, servers_from}
-use Rattle.jn_system.specs.WholeSystem.Servers.{Room, server_row, server_step}
-use Rattle.jn_system.specs.WholeSystem.Steps.{ends, done, stopped, at_memory, handed, works, took, sent_now}
-use Rattle.jn_system.specs.WholeSystem.LockFacts.{LockFacts}
-use Rattle.jn_system_settling.specs.Settling.Settle.{is_busy, first_busy}
-use Rattle.jn_system_settling.specs.Settling.Weights.{weight, weight_at, weigh_all, weigh, goings_at, sum_over, going_works}
-use Rattle.jn_system_settling.specs.Settling.Course.{numbered}
-use Rattle.jn_system_settling.specs.Settling.Sizes.{Sizes, IsSmall}
 use Rattle.jn_system_settling.proofs.Settling.SizeSteps.{RowSizes}
 use Rattle.jn_system_settling.proofs.Settling.WorldSizes.{holds-of, row-at, step-at}
 use Rattle.jn_system_settling.proofs.Settling.ClientFits.{sent_with, take-light}

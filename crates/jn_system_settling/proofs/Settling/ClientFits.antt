@@ -1,21 +1,9 @@
 -- What a client's rows send is small, and weighs less than the message that it takes.
-use Rattle.std.proofs.Common.{◌≡◌, ◌≤◌, ℕ, ◌+◌, Bool, true, List, [], ◌∷◌, refl, ◌∙◌, subst, arith}
-use Rattle.std.specs.Prelude.{◌&&◌}
-use Rattle.std.proofs.lemmas.Bool.Decides.{nat_tests}
-use Rattle.jn_base.specs.declared.op.Command.{Command}
-use Rattle.jn_base.specs.declared.op.Command.TheVariants.{Begin, Open, Do, End, Abort}
-use Rattle.jn_msgs.specs.declared.message.Message.{Message}
+use Rattle.jn_system_settling.proofs.Common.{◌≡◌, ◌≤◌, ℕ, ◌+◌, Bool, true, List, [], ◌∷◌, refl, ◌∙◌, subst, arith, ◌&&◌, nat_tests, Command, Begin, Do, End, Abort, Message, OpenWork, Taken, Sent, ClientTable, Commanded, Refuses, Sends, command_row, take_row, names_of, are_apart, IsClient, after_command, sent_now, weight, weigh_all, are_near, is_few, is_small, sends_small, ClientSizes}
+use Rattle.jn_base.specs.declared.op.Command.TheVariants.{Open}
 use Rattle.jn_msgs.specs.declared.message.Message.TheVariants as messages
-use Rattle.jn_rows.specs.declared.client.OpenWork.{OpenWork}
-use Rattle.jn_rows.specs.declared.client.Taken.{Taken}
 use Rattle.jn_rows.specs.declared.client.Taken.TheVariants as taken
-use Rattle.jn_rows.specs.Outcomes.{Sent}
-use Rattle.jn_rows.specs.Client.{ClientTable, Commanded, Refuses, Sends, command_row, take_row, names_of}
-use Rattle.jn_rows.specs.ClientLaws.{are_apart, IsClient, after_command}
 use Rattle.jn_rows.proofs.ClientKeeps.{command_keeps, take_keeps, names_are_few}
-use Rattle.jn_system.specs.WholeSystem.Steps.{sent_now}
-use Rattle.jn_system_settling.specs.Settling.Weights.{weight, weigh_all}
-use Rattle.jn_system_settling.specs.Settling.Sizes.{are_near, is_few, is_small, sends_small, ClientSizes}
 
 -- ---- commands
 

@@ -1,31 +1,10 @@
 -- What a coordinator's row sends weighs less than the message, and its table stays small.
-use Rattle.std.proofs.Common.{◌≡◌, ◌≤◌, ℕ, ◌+◌, ◌*◌, Bool, true, false, List, [], ◌∷◌, ◌++◌, length, length-append, Option, Some, None, true≢false, refl, sym, subst, arith}
-use Rattle.std.specs.Prelude.{◌&&◌, not, if◌then◌else◌, nat_lt, nat_eq, is_some}
-use Rattle.std.proofs.lemmas.Bool.Decides.{nat_tests}
-use Rattle.jn_base.specs.declared.names.ClientNo.{ClientNo}
-use Rattle.jn_base.specs.declared.names.Tid.{Tid}
-use Rattle.jn_base.specs.declared.names.WorkId.{WorkId}
-use Rattle.jn_base.specs.declared.names.Tickets.{Tickets}
-use Rattle.jn_base.specs.declared.names.Cause.{Cause}
-use Rattle.jn_base.specs.declared.names.Party.TheVariants.{Client}
-use Rattle.jn_base.specs.Names.{tid_eq}
-use Rattle.jn_base.proofs.Tells.{tid_tells}
-use Rattle.jn_msgs.specs.declared.message.Message.{Message}
+use Rattle.jn_system_settling.proofs.Common.{◌≡◌, ◌≤◌, ℕ, ◌+◌, ◌*◌, Bool, true, false, List, [], ◌∷◌, ◌++◌, length, length-append, Option, Some, None, true≢false, refl, sym, subst, arith, ◌&&◌, not, if◌then◌else◌, nat_lt, nat_eq, nat_tests, ClientNo, Tid, WorkId, Tickets, Cause, Client, tid_eq, tid_tells, Message, Vote, Transaction, Stage, Open, Voting, Committed, Aborted, Ballot, Commitment, StableState, Change, AddFlag, DropFlag, made_by, made_all, RowOutcome, Sent, CoordinatorTable, transaction_at, with_stage, all_in, is_work, besides, drops, commits, prepares, commit_row, abort_row, forget_row, after_closing, changes_of_closing, begin_new, begin_again, begun_by, begin_row, seen_now, name_from, end_promised, end_stage, end_row, abort_stage, abort_request, told_stage, inquire_row, counted_vote, vote_stage, vote_row, done_stage, done_row, thanks_stage, thanks_row, with_work, coordinator_row, close_clients_row, committed_to, aborted_to, Closes, Empty, Stays, Goes, Waits, Forgets, client-closes, outcomes-close, weight, weigh_all, is_few, is_small, is_small_stage, are_small_stages, is_committed, committed_at, AreFlagsOf}
+use Rattle.std.specs.Prelude.{is_some}
 use Rattle.jn_msgs.specs.declared.message.Message.TheVariants as messages
 use Rattle.jn_msgs.specs.declared.message.Outcome.TheVariants as outcomes
-use Rattle.jn_msgs.specs.declared.message.Vote.{Vote}
 use Rattle.jn_msgs.specs.declared.message.Vote.TheVariants as votes
-use Rattle.jn_rows.specs.declared.coordinator.Transaction.{Transaction}
-use Rattle.jn_rows.specs.declared.coordinator.Stage.{Stage}
-use Rattle.jn_rows.specs.declared.coordinator.Stage.TheVariants.{Open, Voting, Committed, Aborted}
-use Rattle.jn_rows.specs.declared.coordinator.Voting.{Voting as Ballot}
-use Rattle.jn_rows.specs.declared.coordinator.Committed.{Committed as Commitment}
-use Rattle.jn_rows.specs.Stable.{StableState, Change, AddFlag, DropFlag, made_by, made_all}
-use Rattle.jn_rows.specs.Outcomes.{RowOutcome, Sent}
-use Rattle.jn_rows.specs.Coordinator.{CoordinatorTable, transaction_at, with_stage, without, all_in, is_work, besides, drops, commits, prepares, commit_row, abort_row, forget_row, after_closing, changes_of_closing, begin_new, begin_again, begun_by, begin_row, seen_now, name_from, end_promised, end_stage, end_row, abort_stage, abort_request, told_stage, inquire_row, counted_vote, vote_stage, vote_row, done_stage, done_row, thanks_stage, thanks_row, with_work, coordinator_row, close_clients_row, committed_to, aborted_to}
-use Rattle.jn_system.proofs.WholeSystem.Closes.{Closes, Empty, Stays, Goes, Waits, Forgets, client-closes, outcomes-close}
-use Rattle.jn_system_settling.specs.Settling.Weights.{weight, weigh_all}
-use Rattle.jn_system_settling.specs.Settling.Sizes.{is_few, is_small, is_small_stage, are_small_stages, is_committed, committed_at, AreFlagsOf}
+use Rattle.jn_rows.specs.Coordinator.{without}
 
 -- ---- lists of works
 

@@ -1,25 +1,8 @@
 -- What holds of a course after each of its steps, and what a step does to its burden.
-use Rattle.std.proofs.Common.{◌≡◌, ◌≤◌, ℕ, ◌+◌, true, List, [], ◌∷◌, ◌++◌, length, length-append, append-nil, drop, Option, Some, None, refl, sym, ◌∙◌, ap, subst, arith}
-use Rattle.std.specs.Prelude.{slice_get}
+use Rattle.jn_system_settling.proofs.Common.{◌≡◌, ◌≤◌, ℕ, ◌+◌, true, List, [], ◌∷◌, ◌++◌, length, length-append, append-nil, drop, Option, Some, None, refl, sym, ◌∙◌, ap, subst, arith, slice_get, ServerNo, ClientNo, Client, Server, Message, Taken, Pick, stable, RowOutcome, Sent, ClientTable, Commanded, Refuses, Sends, command_row, take_row, again_row, World, Memory, servers_from, Room, server_step, server_row, server_again, Step, NextEvent, Tell, Again, Deliver, Nudge, Timeout, StopDelivery, StopWork, Crash, Narrow, StopRestart, Restart, Dismiss, CloseClients, IsStep, IsRun, after, run, ends, at_memory, handed, work, works, nudge, timeout, crash, narrow, stop_restart, restart, close_clients, commanded, took, sent_now, LockFacts, locks-keep, Course, numbered, without_number, still_waiting, go, go_on, weigh, going_works, burden, Sizes, one_if_delivery, deliveries, IsCourse}
 use Rattle.std.proofs.Math.Seq.{drop-append_seam}
-use Rattle.jn_base.specs.declared.names.ServerNo.{ServerNo}
-use Rattle.jn_base.specs.declared.names.ClientNo.{ClientNo}
-use Rattle.jn_base.specs.declared.names.Party.TheVariants.{Client, Server}
-use Rattle.jn_msgs.specs.declared.message.Message.{Message}
-use Rattle.jn_rows.specs.declared.client.Taken.{Taken}
 use Rattle.jn_rows.specs.declared.client.Taken.TheVariants as taken
-use Rattle.jn_rows.specs.Stable.{Pick, stable}
-use Rattle.jn_rows.specs.Outcomes.{RowOutcome, Sent}
-use Rattle.jn_rows.specs.Client.{ClientTable, Commanded, Refuses, Sends, command_row, take_row, again_row}
-use Rattle.jn_system.specs.WholeSystem.World.{World, Memory, servers_from}
-use Rattle.jn_system.specs.WholeSystem.Servers.{Room, server_step, server_row, server_again}
-use Rattle.jn_system.specs.WholeSystem.Steps.{Step, NextEvent, Tell, Again, Deliver, Work, Nudge, Timeout, StopDelivery, StopWork, Crash, Narrow, StopRestart, Restart, Dismiss, CloseClients, IsStep, IsRun, after, run, ends, at_memory, handed, work, works, nudge, timeout, crash, narrow, stop_restart, restart, close_clients, commanded, took, sent_now}
-use Rattle.jn_system.specs.WholeSystem.LockFacts.{LockFacts}
-use Rattle.jn_system.proofs.WholeSystem.Steps.{locks-keep}
-use Rattle.jn_system_settling.specs.Settling.Course.{Course, numbered, without_number, still_waiting, go, go_on}
-use Rattle.jn_system_settling.specs.Settling.Weights.{weigh, going_works, burden}
-use Rattle.jn_system_settling.specs.Settling.Sizes.{Sizes}
-use Rattle.jn_system_settling.specs.Settling.Bounds.{one_if_delivery, deliveries, IsCourse}
+use Rattle.jn_system.specs.WholeSystem.Steps.{Work}
 use Rattle.jn_system_settling.proofs.Settling.WorldSizes.{sizes-keep}
 use Rattle.jn_system_settling.proofs.Settling.Burdens.{are_below, weigh-more, weigh-both, weigh-new, below-both, below-more, below-new, Leads}
 

@@ -1,20 +1,5 @@
 -- A part of a settle hands over no more messages than its burden, and comes to rest.
-use Rattle.std.proofs.Common.{◌≡◌, ◌≤◌, ◌<◌, ℕ, zero, suc, ◌+◌, true, List, [], ◌∷◌, length, Option, Some, None, is_some, true≢false, refl, sym, ◌∙◌, ap, subst, arith}
-use Rattle.std.specs.Prelude.{if◌then◌else◌, slice_get}
-use Rattle.std.proofs.lemmas.Bool.Decides.{nat_tests}
-use Rattle.jn_base.specs.declared.names.ServerNo.{ServerNo}
-use Rattle.jn_records.specs.declared.intention.Intention.{Intention}
-use Rattle.jn_rows.specs.declared.worker.Work.{Work as WorkEntry}
-use Rattle.jn_rows.specs.Stable.{StableState, Pick, stable}
-use Rattle.jn_rows.specs.Outcomes.{RowOutcome, Sent}
-use Rattle.jn_rows.specs.Worker.{WorkerTable, going_work, going_row, carried_row, intentions_of}
-use Rattle.jn_system.specs.WholeSystem.World.{World, Memory, servers_from}
-use Rattle.jn_system.specs.WholeSystem.Servers.{server_step, of_worker, of_step, storage_of}
-use Rattle.jn_system.specs.WholeSystem.Steps.{Step, after, ends, handed, work, works}
-use Rattle.jn_system_settling.specs.Settling.Course.{Course, still_waiting, go}
-use Rattle.jn_system_settling.specs.Settling.Settle.{Chance, is_busy, first_busy, handing, working, next_step, onward, until_rest}
-use Rattle.jn_system_settling.specs.Settling.Weights.{weight, weight_at, weigh, goings, goings_at, burden}
-use Rattle.jn_system_settling.specs.Settling.Bounds.{one_if_delivery, deliveries}
+use Rattle.jn_system_settling.proofs.Common.{◌≡◌, ◌≤◌, ◌<◌, ℕ, zero, suc, ◌+◌, true, List, [], ◌∷◌, length, Option, Some, None, is_some, true≢false, refl, sym, ◌∙◌, ap, subst, arith, if◌then◌else◌, slice_get, nat_tests, ServerNo, Intention, WorkEntry, StableState, Pick, stable, RowOutcome, Sent, WorkerTable, going_work, going_row, carried_row, intentions_of, World, Memory, servers_from, server_step, of_worker, of_step, storage_of, Step, after, ends, handed, work, works, Course, still_waiting, go, Chance, is_busy, first_busy, handing, working, next_step, onward, until_rest, weight, weight_at, weigh, goings, goings_at, burden, one_if_delivery, deliveries}
 use Rattle.jn_system_settling.proofs.Settling.Burdens.{are_below, Leads, handed-leads, work-leads, halt-leads, busy-within, busy-is}
 use Rattle.jn_system_settling.proofs.Settling.Courses.{Sound, IsBalanced, go-sound, go-balance, burden-after, deliveries-more}
 

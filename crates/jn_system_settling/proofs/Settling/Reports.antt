@@ -1,19 +1,10 @@
 -- What the runs report, computed.
-use Rattle.std.proofs.Common.{◌≡◌, [], ◌∷◌, Some, None, refl, arith}
+use Rattle.jn_system_settling.proofs.Common.{◌≡◌, [], ◌∷◌, Some, None, refl, arith, Requested, Lost, there, Prepared, FlagState, Pick, at_work, at_tid, AreNames, tid_before, Tid, WorkId, tid_eq, work_eq, work_tells, tid_tells, work_before, line, AreSteps}
 use Rattle.jn_base.specs.declared.names.LockUnit.TheVariants.{File, Block}
-use Rattle.jn_base.specs.declared.names.Cause.TheVariants.{Requested, Lost, Broken}
+use Rattle.jn_base.specs.declared.names.Cause.TheVariants.{Broken}
 use Rattle.jn_locks.specs.Locks as locks
 use Rattle.jn_report.specs.declared.line.Refusal.TheVariants.{NoFile, Locked}
 use Rattle.jn_report.specs.declared.line.Text.TheVariants as says
-use Rattle.jn_order.specs.Files.{there}
-use Rattle.jn_rows.specs.Stable.{Prepared, FlagState, Pick, at_work, at_tid}
-use Rattle.jn_system.specs.WholeSystem.Steps.{AreNames, tid_before}
-use Rattle.jn_base.specs.declared.names.Tid.{Tid}
-use Rattle.jn_base.specs.declared.names.WorkId.{WorkId}
-use Rattle.jn_base.specs.Names.{tid_eq, work_eq}
-use Rattle.jn_base.proofs.Tells.{work_tells, tid_tells}
-use Rattle.jn_locks.specs.Locks.{work_before}
-use Rattle.jn_system_settling.specs.Settling.Events.{line, AreSteps}
 use Rattle.jn_system_settling.specs.Settling.Rows.{s0, s1, c1, c2, tid, file, block, padded, start, told, report, without_stale, one_write, stopped_at_prepare, two_at_a_block, a_reader_breaks, two_wait, half_prepared, not_prepared, revived_and_prepared, half_committed, not_committed, goes_on_beside, the_work}
 
 -- ---- what the restarts find

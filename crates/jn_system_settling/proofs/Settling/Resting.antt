@@ -1,25 +1,6 @@
 -- A part of a settle comes to rest: each delivery lowers its burden, and each background step has an intention less to carry
 -- out, or leaves a message that waits.
-use Rattle.std.proofs.Common.{◌≡◌, ◌≢◌, ◌⊎◌, inl, inr, ◌≤◌, ◌<◌, ℕ, zero, suc, ◌+◌, Bool, true, false, List, [], ◌∷◌, ◌++◌, length, Option, Some, None, is_some, refl, sym, ◌∙◌, ap, subst, arith}
-use Rattle.std.specs.Prelude.{if◌then◌else◌, slice_get}
-use Rattle.std.proofs.lemmas.Option.{slice_get_within}
-use Rattle.std.proofs.lemmas.Bool.Decides.{nat_tests}
-use Rattle.jn_base.specs.declared.names.ServerNo.{ServerNo}
-use Rattle.jn_base.specs.Names.{server_eq}
-use Rattle.jn_base.proofs.Tells.{server_tells, work_tells}
-use Rattle.jn_base.specs.declared.names.WorkId.{WorkId}
-use Rattle.jn_order.specs.Files.{Files, change}
-use Rattle.jn_records.specs.NetLists.{intention_change}
-use Rattle.jn_records.specs.declared.intention.Intention.{Intention}
-use Rattle.jn_rows.specs.declared.worker.Work.{Work as WorkEntry}
-use Rattle.jn_rows.specs.Stable.{StableState, Pick, CarryOut, made_all, stable, at_work}
-use Rattle.jn_rows.specs.Worker.{WorkerTable, going_work, intentions_of}
-use Rattle.jn_system.specs.WholeSystem.World.{World, Memory, servers_from}
-use Rattle.jn_system.specs.WholeSystem.Steps.{Step, after, ends, done}
-use Rattle.jn_system_settling.specs.Settling.Course.{Course, numbered, still_waiting, go}
-use Rattle.jn_system_settling.specs.Settling.Settle.{Chance, is_busy, first_busy, working, next_step, onward, until_rest}
-use Rattle.jn_system_settling.specs.Settling.Weights.{burden}
-use Rattle.jn_system_settling.specs.Settling.Bounds.{IsAtRest}
+use Rattle.jn_system_settling.proofs.Common.{◌≡◌, ◌≢◌, ◌⊎◌, inl, inr, ◌≤◌, ◌<◌, ℕ, zero, suc, ◌+◌, Bool, true, false, List, [], ◌∷◌, ◌++◌, length, Option, Some, None, is_some, refl, sym, ◌∙◌, ap, subst, arith, if◌then◌else◌, slice_get, slice_get_within, nat_tests, ServerNo, server_eq, server_tells, work_tells, WorkId, Files, change, intention_change, Intention, WorkEntry, StableState, Pick, CarryOut, made_all, stable, at_work, WorkerTable, going_work, intentions_of, World, Memory, servers_from, Step, after, ends, done, Course, numbered, still_waiting, go, Chance, is_busy, first_busy, working, next_step, onward, until_rest, burden, IsAtRest}
 use Rattle.jn_system_settling.proofs.Settling.Burdens.{busy-is}
 use Rattle.jn_system_settling.proofs.Settling.Courses.{Sound, waiting-is}
 use Rattle.jn_system_settling.proofs.Settling.Parts.{busy-has, row_of, works-as, handing-sound, handing-lowers, working-sound, working-lowers}

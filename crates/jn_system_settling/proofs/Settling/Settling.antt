@@ -1,24 +1,5 @@
 -- Every settle after every run ends, and hands over no more than its bound.
-use Rattle.std.proofs.Common.{◌≡◌, ◌≢◌, ◌⊎◌, inl, inr, ◌≤◌, ◌<◌, ℕ, zero, suc, ◌+◌, Bool, true, false, List, [], ◌∷◌, ◌++◌, append-nil, append_assoc, Option, Some, None, is_some, true≢false, refl, sym, ◌∙◌, ap, subst, arith}
-use Rattle.std.specs.Prelude.{if◌then◌else◌}
-use Rattle.std.proofs.lemmas.Bool.Decides.{nat_tests}
-use Rattle.jn_base.specs.declared.names.ServerNo.{ServerNo}
-use Rattle.jn_base.specs.declared.names.WorkId.{WorkId}
-use Rattle.jn_base.specs.Names.{server_eq}
-use Rattle.jn_base.proofs.Tells.{server_tells, work_tells}
-use Rattle.jn_order.specs.Files.{AllFiles}
-use Rattle.jn_rows.specs.Stable.{StableState, Prepared, stable, is_going}
-use Rattle.jn_rows.specs.Worker.{WorkerTable, going_work, work_at}
-use Rattle.jn_system.specs.WholeSystem.World.{World, opening, servers_from}
-use Rattle.jn_system.specs.WholeSystem.Steps.{Step, NextEvent, IsRun, run}
-use Rattle.jn_system.specs.WholeSystem.LockFacts.{UpFact, ServerFact}
-use Rattle.jn_system.proofs.WholeSystem.Steps.{opening-keeps}
-use Rattle.jn_system_settling.specs.Settling.Course.{Course, opening_course, go, go_on}
-use Rattle.jn_system_settling.specs.Settling.Settle.{Chance, Chances, is_busy, first_busy, clients_from, until_rest, ask_again, settled}
-use Rattle.jn_system_settling.specs.Settling.Events.{Event, Does, Settles, Told, after_events, AreSteps}
-use Rattle.jn_system_settling.specs.Settling.Weights.{burden}
-use Rattle.jn_system_settling.specs.Settling.Sizes.{Sizes}
-use Rattle.jn_system_settling.specs.Settling.Bounds.{IsCourse, NothingGoes, Ends}
+use Rattle.jn_system_settling.proofs.Common.{◌≡◌, ◌≢◌, ◌⊎◌, inl, inr, ◌≤◌, ◌<◌, ℕ, zero, suc, ◌+◌, Bool, true, false, List, [], ◌∷◌, ◌++◌, append-nil, append_assoc, Option, Some, None, is_some, true≢false, refl, sym, ◌∙◌, ap, subst, arith, if◌then◌else◌, nat_tests, ServerNo, WorkId, server_eq, server_tells, work_tells, AllFiles, StableState, Prepared, stable, is_going, WorkerTable, going_work, work_at, World, opening, servers_from, Step, NextEvent, IsRun, run, UpFact, ServerFact, opening-keeps, Course, opening_course, go, go_on, Chance, Chances, is_busy, first_busy, clients_from, until_rest, ask_again, settled, Event, Does, Settles, Told, after_events, AreSteps, burden, Sizes, IsCourse, NothingGoes, Ends}
 use Rattle.jn_system_settling.proofs.Settling.WorldSizes.{opening-sizes}
 use Rattle.jn_system_settling.proofs.Settling.Courses.{Sound, go-sound, go-on-sound}
 use Rattle.jn_system_settling.proofs.Settling.Parts.{part-bounded}

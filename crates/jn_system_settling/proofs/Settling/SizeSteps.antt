@@ -1,33 +1,10 @@
 -- What holds of the sizes of a server's tables and of what it has stored, after each of its steps.
-use Rattle.std.proofs.Common.{◌≡◌, ◌≢◌, ◌⊎◌, inl, inr, ◌≤◌, ℕ, zero, suc, ◌+◌, Bool, true, false, List, [], ◌∷◌, ◌++◌, length, take, Option, Some, None, true≢false, refl, sym, ◌∙◌, ap, subst, arith}
-use Rattle.std.specs.Prelude.{if◌then◌else◌, is_some, map}
-use Rattle.std.specs.List.{list_any, list_all, IsDistinct, AllByRecursion}
+use Rattle.jn_system_settling.proofs.Common.{◌≡◌, ◌≢◌, ◌⊎◌, inl, inr, ◌≤◌, ℕ, zero, suc, ◌+◌, Bool, true, false, List, [], ◌∷◌, ◌++◌, length, take, Option, Some, None, true≢false, refl, sym, ◌∙◌, ap, subst, arith, if◌then◌else◌, map, list_any, list_all, IsDistinct, AllByRecursion, nat_tests, ServerNo, Tid, WorkId, tid_eq, work_eq, tid_tells, work_before, Message, Work, Transaction, StableState, Prepared, FlagState, Change, AddReady, MarkGoing, CarryOut, RemoveWork, AddFlag, DropFlag, made_by, made_all, at_tid, RowOutcome, WorkerTable, work_at, worker_row, worker_step, restored_work, restored_worker, CoordinatorTable, coordinator_row, close_clients_row, restored_transaction, restored_transactions, not-before, Memory, Room, storage_of, of_worker, of_coordinator, of_step, server_row, server_step, is_for_worker, restored, AreNames, tid_before, TableFact, worker-keeps, step-keeps, coordinator-aside, close-aside, are_of_flags, flags-keep, flags-all, weight, weigh_all, goings, goings_at, is_few, is_small, are_small_stages, committed_at, AreFlagsOf, AreSmallFlags, AreAtMost64, StoredSizes, TableSizes}
+use Rattle.std.specs.Prelude.{is_some}
 use Rattle.std.specs.Cmp.{IsEquivalence}
 use Rattle.std.proofs.lemmas.Map.Made.{length-le_from_is_member}
-use Rattle.std.proofs.lemmas.Bool.Decides.{nat_tests}
-use Rattle.jn_base.specs.declared.names.ServerNo.{ServerNo}
-use Rattle.jn_base.specs.declared.names.Tid.{Tid}
-use Rattle.jn_base.specs.declared.names.WorkId.{WorkId}
-use Rattle.jn_base.specs.Names.{tid_eq, work_eq}
-use Rattle.jn_base.proofs.Tells.{tid_tells}
-use Rattle.jn_locks.specs.Locks.{work_before}
-use Rattle.jn_msgs.specs.declared.message.Message.{Message}
-use Rattle.jn_rows.specs.declared.worker.Work.{Work}
-use Rattle.jn_rows.specs.declared.coordinator.Transaction.{Transaction}
-use Rattle.jn_rows.specs.Stable.{StableState, Prepared, FlagState, Change, AddReady, MarkGoing, CarryOut, RemoveWork, AddFlag, DropFlag, made_by, made_all, at_tid}
-use Rattle.jn_rows.specs.Outcomes.{RowOutcome}
-use Rattle.jn_rows.specs.Worker.{WorkerTable, work_at, worker_row, worker_step, restored_work, restored_worker}
-use Rattle.jn_rows.specs.Coordinator.{CoordinatorTable, coordinator_row, close_clients_row, restored_transaction, restored_transactions}
-use Rattle.jn_lock_rows.proofs.Works.{not-before}
-use Rattle.jn_system.specs.WholeSystem.World.{Memory}
-use Rattle.jn_system.specs.WholeSystem.Servers.{Room, storage_of, of_worker, of_coordinator, of_step, server_row, server_step, is_for_worker, restored}
-use Rattle.jn_system.specs.WholeSystem.Steps.{AreNames, are_rising, tid_before}
-use Rattle.jn_system.specs.WholeSystem.LockFacts.{TableFact}
+use Rattle.jn_system.specs.WholeSystem.Steps.{are_rising}
 use Rattle.jn_system.proofs.WholeSystem.Rows.{RowKeeps}
-use Rattle.jn_system.proofs.WholeSystem.WorkerRows.{worker-keeps, step-keeps}
-use Rattle.jn_system.proofs.WholeSystem.CoordinatorRows.{coordinator-aside, close-aside, are_of_flags, flags-keep, flags-all}
-use Rattle.jn_system_settling.specs.Settling.Weights.{weight, weigh_all, goings, goings_at}
-use Rattle.jn_system_settling.specs.Settling.Sizes.{is_few, is_small, are_small_stages, committed_at, AreFlagsOf, AreSmallFlags, AreAtMost64, StoredSizes, TableSizes}
 use Rattle.jn_system_settling.proofs.Settling.WorkerFits.{keep_flags, worker-fits, step-fits}
 use Rattle.jn_system_settling.proofs.Settling.CoordinatorFits.{CoordinatorFits, named_at, committed-named, flags_fit, coordinator-fits, close-fits}
 

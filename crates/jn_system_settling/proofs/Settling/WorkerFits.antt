@@ -1,37 +1,10 @@
 -- What a worker's row sends and sets going weighs less than the message, and its table stays small.
-use Rattle.std.proofs.Common.{◌≡◌, ◌≤◌, ℕ, ◌+◌, Bool, true, false, List, [], ◌∷◌, ◌++◌, length, length-append, Option, Some, None, true≢false, refl, sym, ◌∙◌, ap, subst, arith}
-use Rattle.std.specs.Prelude.{◌&&◌, if◌then◌else◌, nat_lt, nat_eq, slice_get, is_some}
-use Rattle.std.proofs.lemmas.Bool.Decides.{nat_tests}
-use Rattle.jn_base.specs.declared.names.ClientNo.{ClientNo}
-use Rattle.jn_base.specs.declared.names.Tid.{Tid}
-use Rattle.jn_base.specs.declared.names.WorkId.{WorkId}
-use Rattle.jn_base.specs.declared.names.LockUnit.{LockUnit}
-use Rattle.jn_base.specs.declared.names.Tickets.{Tickets}
-use Rattle.jn_base.specs.declared.names.Party.{Party}
-use Rattle.jn_base.specs.declared.names.Party.TheVariants.{Client}
-use Rattle.jn_base.specs.declared.op.Op.{Op}
-use Rattle.jn_base.specs.declared.op.Answer.{Answer}
-use Rattle.jn_base.proofs.Tells.{work_tells}
-use Rattle.jn_order.specs.Files.{change, answer_to}
-use Rattle.jn_records.specs.NetLists.{list_change}
-use Rattle.jn_records.specs.declared.intention.Intention.{Intention}
+use Rattle.jn_system_settling.proofs.Common.{◌≡◌, ◌≤◌, ℕ, ◌+◌, Bool, true, false, List, [], ◌∷◌, ◌++◌, length, length-append, Option, Some, None, true≢false, refl, sym, ◌∙◌, ap, subst, arith, ◌&&◌, if◌then◌else◌, nat_lt, nat_eq, slice_get, nat_tests, ClientNo, Tid, WorkId, LockUnit, Tickets, Party, Client, Op, Answer, work_tells, change, answer_to, list_change, Intention, Message, Vote, Work, Phase, Active, Broken, Stored, ActiveWork, StableState, Prepared, Change, RemoveWork, AddFlag, DropFlag, made_all, is_going, at_work, gone_on, ready_work, RowOutcome, sends, WorkerTable, WorkStorage, Wanted, work_at, work_of, with_phase, without, after_grant, broken_by, breaks_at, new_work, open_row, wants_of, is_fit, refusal_of, granted_row, repeated, op_phase, op_row, conflict, commit_wants, vote_of, shortage, need_in, prepared_row, prepare_phase, prepare_row, commit_phase, drop_phase, drop_row, worker_row, going_work, intentions_of, carried_row, going_row, worker_step, is_before, are_rising, none-front, TableFact, going-is, weight, weigh_all, goings}
+use Rattle.std.specs.Prelude.{is_some}
 use Rattle.jn_locks.proofs.Orders.{work_before-irreflexive}
-use Rattle.jn_msgs.specs.declared.message.Message.{Message}
 use Rattle.jn_msgs.specs.declared.message.Message.TheVariants as messages
-use Rattle.jn_msgs.specs.declared.message.Vote.{Vote}
 use Rattle.jn_msgs.specs.declared.message.Vote.TheVariants as votes
-use Rattle.jn_rows.specs.declared.worker.Work.{Work}
-use Rattle.jn_rows.specs.declared.worker.Phase.{Phase}
-use Rattle.jn_rows.specs.declared.worker.Phase.TheVariants.{Active, Broken, Prepared as Stored}
-use Rattle.jn_rows.specs.declared.worker.ActiveWork.{ActiveWork}
-use Rattle.jn_rows.specs.Stable.{StableState, Prepared, Change, RemoveWork, AddFlag, DropFlag, made_all, is_going, at_work, gone_on, ready_work}
-use Rattle.jn_rows.specs.Outcomes.{RowOutcome, sends}
-use Rattle.jn_rows.specs.Worker.{WorkerTable, WorkStorage, Wanted, work_at, work_of, with_phase, without, after_grant, broken_by, breaks_at, name_from, new_work, open_row, wants_of, is_fit, refusal_of, granted_row, repeated, op_phase, op_row, conflict, commit_wants, vote_of, shortage, need_in, prepared_row, prepare_phase, prepare_row, commit_phase, commit_row, drop_phase, drop_row, worker_row, going_work, intentions_of, carried_row, going_row, worker_step}
-use Rattle.jn_lock_rows.specs.Matching.{is_before, are_rising}
-use Rattle.jn_lock_rows.proofs.Works.{none-front}
-use Rattle.jn_system.specs.WholeSystem.LockFacts.{TableFact}
-use Rattle.jn_system.proofs.WholeSystem.WorkerRows.{going-is}
-use Rattle.jn_system_settling.specs.Settling.Weights.{weight, weigh_all, goings}
+use Rattle.jn_rows.specs.Worker.{name_from, commit_row}
 
 abbrev Stable : Type 0
 Stable = WorkId → Option Prepared

@@ -1,37 +1,9 @@
 -- Each step of the whole system keeps what holds of the sizes of tables and messages.
-use Rattle.std.proofs.Common.{◌≡◌, ◌≢◌, ◌⊎◌, inl, inr, ◌≤◌, ◌<◌, ℕ, ◌+◌, Bool, true, false, List, [], ◌∷◌, ◌++◌, length, take, Option, Some, None, refl, sym, ◌∙◌, subst, arith}
-use Rattle.std.specs.Prelude.{if◌then◌else◌, slice_get, get_or, All}
+use Rattle.jn_system_settling.proofs.Common.{◌≡◌, ◌≢◌, ◌⊎◌, inl, inr, ◌≤◌, ◌<◌, ℕ, ◌+◌, Bool, true, false, List, [], ◌∷◌, ◌++◌, length, take, Option, Some, None, refl, sym, ◌∙◌, subst, arith, if◌then◌else◌, slice_get, get_or, All, slice_get_cases, ServerNo, ClientNo, Tid, WorkId, Client, Server, server_eq, client_eq, server_tells, AllFiles, Message, WorkEntry, Transaction, Stage, Open, Voting, Committed, Aborted, Outstanding, Taken, StableState, FlagState, Pick, stable, made_all, is_going, RowOutcome, Sent, WorkerTable, timed_out, work_of, vulnerable, worker_again, commits, besides, told_again, coordinator_again, committed_to, ClientTable, Commanded, Refuses, Sends, command_row, take_row, sent_again, with_epoch, World, Memory, opening, at_server, at_client, Room, server_row, server_step, server_again, server_timeout, of_timeout, Step, NextEvent, Tell, Again, Deliver, Nudge, Timeout, StopDelivery, StopWork, Crash, Narrow, StopRestart, Restart, Dismiss, CloseClients, IsStep, after, ends, done, stopped, at_memory, handed, work, works, nudge, timeout, crash, narrow, stop_restart, restart, close_clients, commanded, took, sent_now, UpFact, ServerFact, LockFacts, weight, weigh_all, IsSmall, ClientSizes, StoredSizes, TableSizes, ServerSizes, Sizes, is_small, sends_small}
 use Rattle.std.proofs.lemmas.List.Elements.{All-nil, All-cons, All-append, All-get_or}
-use Rattle.std.proofs.lemmas.Option.{slice_get_cases}
-use Rattle.jn_base.specs.declared.names.ServerNo.{ServerNo}
-use Rattle.jn_base.specs.declared.names.ClientNo.{ClientNo}
-use Rattle.jn_base.specs.declared.names.Tid.{Tid}
-use Rattle.jn_base.specs.declared.names.WorkId.{WorkId}
-use Rattle.jn_base.specs.declared.names.Party.TheVariants.{Client, Server}
-use Rattle.jn_base.specs.Names.{server_eq, client_eq}
-use Rattle.jn_base.proofs.Tells.{server_tells}
-use Rattle.jn_order.specs.Files.{AllFiles}
-use Rattle.jn_msgs.specs.declared.message.Message.{Message}
 use Rattle.jn_msgs.specs.declared.message.Message.TheVariants as messages
-use Rattle.jn_rows.specs.declared.worker.Work.{Work as WorkEntry}
-use Rattle.jn_rows.specs.declared.coordinator.Transaction.{Transaction}
-use Rattle.jn_rows.specs.declared.coordinator.Stage.{Stage}
-use Rattle.jn_rows.specs.declared.coordinator.Stage.TheVariants.{Open, Voting, Committed, Aborted}
-use Rattle.jn_rows.specs.declared.client.Outstanding.{Outstanding}
-use Rattle.jn_rows.specs.declared.client.Taken.{Taken}
 use Rattle.jn_rows.specs.declared.client.Taken.TheVariants as taken
-use Rattle.jn_rows.specs.Stable.{StableState, FlagState, Pick, stable, made_all, is_going}
-use Rattle.jn_rows.specs.Outcomes.{RowOutcome, Sent}
-use Rattle.jn_rows.specs.Worker.{WorkerTable, timed_out, work_of, vulnerable, worker_again}
-use Rattle.jn_rows.specs.Coordinator.{commits, besides, told_again, coordinator_again, committed_to}
-use Rattle.jn_rows.specs.Client.{ClientTable, Commanded, Refuses, Sends, command_row, take_row, sent_again}
-use Rattle.jn_system.specs.SmallSteps.Steps.{with_epoch}
-use Rattle.jn_system.specs.WholeSystem.World.{World, Memory, opening, at_server, at_client}
-use Rattle.jn_system.specs.WholeSystem.Servers.{Room, server_row, server_step, server_again, server_timeout, of_timeout}
-use Rattle.jn_system.specs.WholeSystem.Steps.{Step, NextEvent, Tell, Again, Deliver, Work, Nudge, Timeout, StopDelivery, StopWork, Crash, Narrow, StopRestart, Restart, Dismiss, CloseClients, IsStep, after, ends, done, stopped, at_memory, handed, work, works, nudge, timeout, crash, narrow, stop_restart, restart, close_clients, commanded, took, sent_now}
-use Rattle.jn_system.specs.WholeSystem.LockFacts.{UpFact, ServerFact, LockFacts}
-use Rattle.jn_system_settling.specs.Settling.Weights.{weight, weigh_all}
-use Rattle.jn_system_settling.specs.Settling.Sizes.{IsSmall, ClientSizes, StoredSizes, TableSizes, ServerSizes, Sizes, is_small, sends_small}
+use Rattle.jn_system.specs.WholeSystem.Steps.{Work}
 use Rattle.jn_system_settling.proofs.Settling.SizeSteps.{RowSizes, row-sizes, step-sizes, close-sizes, restart-sizes, up-stored}
 use Rattle.jn_system_settling.proofs.Settling.ClientFits.{CommandedSizes, command-sizes, sent_with, take-light, take-sizes}
 use Rattle.jn_system_settling.proofs.Settling.WorkerFits.{length-phase}

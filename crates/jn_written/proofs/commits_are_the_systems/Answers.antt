@@ -1,5 +1,4 @@
-use Rattle.std.proofs.Common.{refl}
-use Rattle.jn_written.specs.Whole.{before}
+use Rattle.jn_written.proofs.Common.{refl, before}
 use Rattle.jn_written.proofs.Named.{names}
 use Rattle.jn_written.proofs.commits_are_the_systems.Goals as goal
 

@@ -1,5 +1,4 @@
-use Rattle.std.proofs.Common.{refl}
-use Rattle.jn_written.specs.Whole.{before}
+use Rattle.jn_written.proofs.Common.{refl, before}
 use Rattle.jn_written.proofs.Quiet.{quiet-run}
 use Rattle.jn_written.proofs.messages_are_told_where_asked.Goals as goal
 

@@ -1,6 +1,4 @@
-use Rattle.std.proofs.Common.{arith, sym}
-use denote.Enum.Bare.{differs_true, differs_false}
-use Rattle.jn_phys.specs.contracts.Found.{the_type}
+use Rattle.jn_careful.proofs.Common.{arith, sym, differs_true, differs_false, the_type}
 use Rattle.jn_careful.proofs.Get.{compared_good, compared_err, compared_again}
 use Rattle.jn_careful.proofs.Careful.compare.Goals as goal
 

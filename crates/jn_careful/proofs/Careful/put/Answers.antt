@@ -1,6 +1,4 @@
-use Rattle.std.proofs.Common.{arith, sym}
-use denote.Enum.Bare.{same_true, same_false}
-use Rattle.jn_phys.specs.contracts.Found.{the_type}
+use Rattle.jn_careful.proofs.Common.{arith, sym, same_true, same_false, the_type}
 use Rattle.jn_careful.proofs.Put.{compared_err, compared_same, compared_unlike}
 use Rattle.jn_careful.proofs.Careful.put.Goals as goal
 

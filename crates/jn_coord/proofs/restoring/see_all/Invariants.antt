@@ -1,5 +1,4 @@
-use Rattle.std.proofs.Common.{◌≡◌, drop, length}
-use Rattle.jn_coord.specs.Restoring.{with_requests, clients_fit}
+use Rattle.jn_coord.proofs.Common.{◌≡◌, drop, length, with_requests, clients_fit}
 use Rattle.jn_coord.proofs.restoring.see_all.Given as goal
 
 abbrev pub invariant-loop-flag : goal.invariant-loop-flag

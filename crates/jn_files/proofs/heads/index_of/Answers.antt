@@ -1,8 +1,4 @@
-use Rattle.std.proofs.Common.{◌≡◌, inl, inr, length, None, sym, ap, subst, ◌∙◌, arith}
-use Rattle.std.proofs.lemmas.Bool.{cases_lt}
-use Rattle.std.proofs.lemmas.List.{get_or_past}
-use Rattle.jn_files.specs.Inside.{AreIndexed, head_number}
-use Rattle.jn_records.specs.declared.head.Head.TheVariants.{Free}
+use Rattle.jn_files.proofs.Common.{◌≡◌, inl, inr, length, None, sym, ap, subst, ◌∙◌, arith, cases_lt, get_or_past, AreIndexed, head_number, Free}
 use Rattle.jn_files.proofs.heads.index_of.Goals as goal
 
 pub returns : goal.returns

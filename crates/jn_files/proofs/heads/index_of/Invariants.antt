@@ -1,7 +1,4 @@
-use Rattle.std.proofs.Common.{◌≡◌, ◌<◌, ℕ, length}
-use Rattle.jn_index.specs.Numbers.{number_at}
-use Rattle.jn_files.specs.Table.{head_in}
-use Rattle.jn_files.specs.Inside.{head_number}
+use Rattle.jn_files.proofs.Common.{◌≡◌, ◌<◌, ℕ, length, number_at, head_in, head_number}
 use Rattle.jn_files.proofs.heads.index_of.Given as goal
 
 abbrev pub invariant-loop-head : goal.invariant-loop-head

@@ -1,7 +1,4 @@
-use Rattle.std.proofs.Common.{◌≡◌, ◌+◌, ℕ, sym, ◌∙◌, subst, arith}
-use Rattle.jn_alloc.specs.Free.{FreeNumbers}
-use Rattle.jn_files.specs.Table.{address_of}
-use Rattle.jn_files.specs.Inside.{Drops, freed_one}
+use Rattle.jn_files.proofs.Common.{◌≡◌, ◌+◌, ℕ, sym, ◌∙◌, subst, arith, FreeNumbers, address_of, Drops, freed_one}
 use Rattle.jn_files.proofs.Freeing.{drop_below, still_used, drop_one, none_dropped, all_dropped}
 use Rattle.jn_files.proofs.table.free_dropped.Goals as goal
 

@@ -1,4 +1,4 @@
-use Rattle.jn_files.specs.Inside.{Drops}
+use Rattle.jn_files.proofs.Common.{Drops}
 use Rattle.jn_files.proofs.table.free_dropped.Given as goal
 
 abbrev pub invariant-loop-p : goal.invariant-loop-p

@@ -1,6 +1,4 @@
-use Rattle.std.proofs.Common.{◌≡◌, ◌<◌, ◌≤◌, ℕ, true, length}
-use Rattle.jn_alloc.specs.Free.{count_of, is_free as is_free_number}
-use Rattle.jn_files.specs.Table.{head_in, is_free}
+use Rattle.jn_files.proofs.Common.{◌≡◌, ◌<◌, ◌≤◌, ℕ, true, length, count_of, is_free_number, head_in, is_free}
 use Rattle.jn_files.proofs.table.free_heads.Given as goal
 
 abbrev pub invariant-loop-slot : goal.invariant-loop-slot

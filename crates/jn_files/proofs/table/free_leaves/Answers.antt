@@ -1,10 +1,4 @@
-use Rattle.std.proofs.Common.{◌≡◌, sym, subst}
-use Rattle.std.proofs.lemmas.List.{get_or_read}
-use Rattle.jn_records.specs.declared.head.Head.{Head}
-use Rattle.jn_records.specs.declared.head.Head.TheVariants.{Free}
-use Rattle.jn_records.specs.StablePages.{Counts}
-use Rattle.jn_files.specs.Table.{head_in}
-use Rattle.jn_files.specs.Inside.{MayTakeNamed, TakesNamed}
+use Rattle.jn_files.proofs.Common.{◌≡◌, sym, subst, get_or_read, Head, Free, Counts, head_in, MayTakeNamed, TakesNamed}
 use Rattle.jn_files.proofs.Loading.{may_take_named, leaves_more}
 use Rattle.jn_files.proofs.table.free_leaves.Goals as goal
 

@@ -1,4 +1,4 @@
-use Rattle.jn_files.specs.Inside.{AreFreeLeaves}
+use Rattle.jn_files.proofs.Common.{AreFreeLeaves}
 use Rattle.jn_files.proofs.table.free_leaves.Given as goal
 
 abbrev pub invariant-loop-head : goal.invariant-loop-head

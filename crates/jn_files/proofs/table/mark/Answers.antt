@@ -1,6 +1,4 @@
-use Rattle.std.proofs.Common.{◌≡◌, ◌+◌, ◌≤◌, sym, subst, List, Bool, length, ℕ, arith}
-use Rattle.jn_files.specs.Table.{address_of}
-use Rattle.jn_files.specs.Inside.{Marks, marked_one}
+use Rattle.jn_files.proofs.Common.{◌≡◌, ◌+◌, ◌≤◌, sym, subst, List, Bool, length, ℕ, arith, address_of, Marks, marked_one}
 use Rattle.jn_files.proofs.Naming.{mark_more, mark_within, unmarked}
 use Rattle.jn_files.proofs.table.mark.Goals as goal
 

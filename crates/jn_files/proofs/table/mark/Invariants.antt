@@ -1,5 +1,4 @@
-use Rattle.std.proofs.Common.{◌≤◌}
-use Rattle.jn_files.specs.Inside.{Marks}
+use Rattle.jn_files.proofs.Common.{◌≤◌, Marks}
 use Rattle.jn_files.proofs.table.mark.Given as goal
 
 abbrev pub invariant-loop-p : goal.invariant-loop-p

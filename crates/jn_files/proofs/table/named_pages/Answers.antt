@@ -1,9 +1,4 @@
-use Rattle.std.proofs.Common.{◌≡◌, ◌<◌, sym, ◌∙◌, subst, true, ℕ}
-use Rattle.std.proofs.lemmas.List.{get_or_read}
-use Rattle.jn_records.specs.declared.head.Head.{Head}
-use Rattle.jn_records.specs.declared.head.Head.TheVariants.{Free}
-use Rattle.jn_files.specs.Table.{head_in, IsHeadOf}
-use Rattle.jn_files.specs.Inside.{Marks}
+use Rattle.jn_files.proofs.Common.{◌≡◌, ◌<◌, sym, ◌∙◌, subst, true, ℕ, get_or_read, Head, Free, head_in, IsHeadOf, Marks}
 use Rattle.jn_files.proofs.Naming.{names_more, pages_below}
 use Rattle.jn_files.proofs.table.named_pages.Goals as goal
 

@@ -1,5 +1,4 @@
-use Rattle.std.proofs.Common.{◌≡◌, length}
-use Rattle.jn_files.specs.Inside.{NamedBefore}
+use Rattle.jn_files.proofs.Common.{◌≡◌, length, NamedBefore}
 use Rattle.jn_files.proofs.table.named_pages.Given as goal
 
 abbrev pub invariant-loop-head : goal.invariant-loop-head

@@ -1,5 +1,4 @@
-use Rattle.std.proofs.Common.{◌≡◌, ℕ, false, length}
-use Rattle.std.specs.Prelude.{slice_index_or}
+use Rattle.jn_files.proofs.Common.{◌≡◌, ℕ, false, length, slice_index_or}
 use Rattle.jn_files.proofs.table.none_set.Given as goal
 
 abbrev pub invariant-loop : goal.invariant-loop

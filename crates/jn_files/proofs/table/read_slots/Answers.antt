@@ -1,7 +1,4 @@
-use Rattle.std.proofs.Common.{◌≡◌, ◌+◌, ℕ, subst, refl, arith}
-use Rattle.jn_records.specs.StablePages.{counts_of, head_place}
-use Rattle.jn_files.specs.Table.{head_in}
-use Rattle.jn_files.specs.Inside.{IsHeadAt}
+use Rattle.jn_files.proofs.Common.{◌≡◌, ◌+◌, ℕ, subst, refl, arith, counts_of, head_place, head_in, IsHeadAt}
 use Rattle.jn_files.proofs.Loading.{head_stands, reads_more}
 use Rattle.jn_files.proofs.table.read_slots.Goals as goal
 

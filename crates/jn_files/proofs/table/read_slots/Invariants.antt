@@ -1,6 +1,5 @@
-use Rattle.jn_files.specs.Inside.{ReadTo}
+use Rattle.jn_files.proofs.Common.{ReadTo, counts_of}
 use Rattle.jn_files.proofs.table.read_slots.Given as goal
-use Rattle.jn_records.specs.StablePages.{counts_of}
 
 abbrev pub invariant-loop-slot : goal.invariant-loop-slot
 invariant-loop-slot g l = ReadTo (counts_of l.root) (g.S.StableStore.view l.fn.store) l.slot l.slots.items (g.S.StableStore.view l.store)

@@ -1,5 +1,4 @@
-use Rattle.std.proofs.Common.{true, ◌∙◌, arith}
-use Rattle.std.proofs.lemmas.List.{length-set}
+use Rattle.jn_files.proofs.Common.{true, ◌∙◌, arith, length-set}
 use Rattle.jn_files.proofs.Touching.{set_more}
 use Rattle.jn_files.proofs.table.set_all.Goals as goal
 

@@ -1,5 +1,4 @@
-use Rattle.std.proofs.Common.{◌≡◌, ◌<◌, ℕ, true, false, length}
-use Rattle.std.specs.Prelude.{slice_index_or}
+use Rattle.jn_files.proofs.Common.{◌≡◌, ◌<◌, ℕ, true, false, length, slice_index_or}
 use Rattle.jn_files.proofs.table.set_all.Given as goal
 
 abbrev pub invariant-loop-i : goal.invariant-loop-i

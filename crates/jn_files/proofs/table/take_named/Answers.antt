@@ -1,7 +1,4 @@
-use Rattle.std.proofs.Common.{◌≡◌, ◌+◌, sym, ◌∙◌, subst}
-use Rattle.jn_alloc.specs.Free.{FreeNumbers}
-use Rattle.jn_files.specs.Table.{address_of}
-use Rattle.jn_files.specs.Inside.{TakesNamed, taken_one}
+use Rattle.jn_files.proofs.Common.{◌≡◌, ◌+◌, sym, ◌∙◌, subst, FreeNumbers, address_of, TakesNamed, taken_one}
 use Rattle.jn_files.proofs.Loading.{still_free, take_more}
 use Rattle.jn_files.proofs.table.take_named.Goals as goal
 

@@ -1,4 +1,4 @@
-use Rattle.jn_files.specs.Inside.{TakesNamed}
+use Rattle.jn_files.proofs.Common.{TakesNamed}
 use Rattle.jn_files.proofs.table.take_named.Given as goal
 
 abbrev pub invariant-loop-p : goal.invariant-loop-p

@@ -1,9 +1,6 @@
-use Rattle.std.proofs.Common.{◌≡◌, ◌∙◌, ◌+◌, ◌-◌, ◌≤◌, ◌∷◌, [], ℕ, List, ap, sym, arith}
-use Rattle.jn_base.specs.declared.device.FaultKind.{FaultKind}
+use Rattle.jn_gen.proofs.Common.{◌≡◌, ◌∙◌, ◌+◌, ◌-◌, ◌≤◌, ◌∷◌, [], ℕ, List, ap, sym, arith, FaultKind, filled, does, first_epoch}
 use Rattle.jn_base.specs.declared.op.Op.TheVariants as ops
 use Rattle.jn_schedule.specs.declared.Event.TheVariants as events
-use Rattle.jn_schedule.specs.Grammar.{filled}
-use Rattle.jn_gen.specs.Trial.{does, first_epoch}
 use Rattle.jn_gen.proofs.Choosing.{aborts, chosen, crashes, cuts, decays, removes, restarts, sends_again, settles, times_out, writes}
 use Rattle.jn_gen.proofs.event.event_of.Goals as goal
 use Rattle.jn_gen.proofs.event.event_of.Goals.{in-0, in-1, in-2, in-5, in-6, in-7, in-7-2, in-8, in-8-2, in-8-3, in-13, in-14, in-14-2, in-3+in_ok-content-in-3, in-9-to-12, in_default}

@@ -1,5 +1,4 @@
-use Rattle.std.proofs.Common.{◌+◌, ◌-◌, arith}
-use Rattle.jn_gen.specs.Trial.{events_from}
+use Rattle.jn_gen.proofs.Common.{◌+◌, ◌-◌, arith, events_from}
 use Rattle.jn_gen.proofs.Drawing.{events_more, events_whole}
 use Rattle.jn_gen.proofs.schedule.draw_events.Goals as goal
 

@@ -1,5 +1,4 @@
-use Rattle.std.proofs.Common.{◌≡◌, ◌++◌, ◌+◌, ◌-◌, ◌≤◌, ℕ}
-use Rattle.jn_gen.specs.Trial.{events_from}
+use Rattle.jn_gen.proofs.Common.{◌≡◌, ◌++◌, ◌+◌, ◌-◌, ◌≤◌, ℕ, events_from}
 use Rattle.jn_gen.proofs.schedule.draw_events.Given as goal
 
 -- the events so far, then those that are left of the count, and then any more

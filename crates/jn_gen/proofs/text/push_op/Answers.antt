@@ -1,6 +1,4 @@
-use Rattle.std.proofs.Common.{◌∙◌, subst, List, ℕ}
-use Rattle.std.specs.List.{AllByRecursion}
-use Rattle.jn_schedule.specs.Grammar.{IsByte}
+use Rattle.jn_gen.proofs.Common.{◌∙◌, subst, List, ℕ, AllByRecursion, IsByte}
 use Rattle.jn_gen.proofs.text.push_op.Goals as goal
 
 pub returns-in-Write-clause-bytes : goal.returns-in-Write-clause-bytes

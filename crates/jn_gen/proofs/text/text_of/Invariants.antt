@@ -1,5 +1,4 @@
-use Rattle.std.proofs.Common.{◌≡◌, ◌++◌, drop, take}
-use Rattle.jn_gen.specs.Texts.{text_of}
+use Rattle.jn_gen.proofs.Common.{◌≡◌, ◌++◌, drop, take, text_of}
 use Rattle.jn_gen.proofs.Parsing.{AreOfBytes}
 use Rattle.jn_gen.proofs.text.text_of.Given as goal
 

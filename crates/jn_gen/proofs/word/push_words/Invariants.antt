@@ -1,6 +1,4 @@
-use Rattle.std.proofs.Common.{◌≡◌, ◌++◌, drop, map}
-use Rattle.jn_gen.specs.Spell.{spelled}
-use Rattle.jn_gen.specs.Texts.{spaced}
+use Rattle.jn_gen.proofs.Common.{◌≡◌, ◌++◌, drop, map, spelled, spaced}
 use Rattle.jn_gen.proofs.word.push_words.Given as goal
 
 -- the text so far, and then that of the rest

@@ -1,19 +1,9 @@
-use Rattle.std.proofs.Common.{◌≡◌, ◌≤◌, ℕ, zero, suc, [], ◌∷◌, Some, None, refl, arith}
-use Rattle.jn_base.specs.Names.{tid_eq, work_eq, file_eq}
-use Rattle.jn_base.proofs.Tells.{work_tells, tid_tells}
+use Rattle.jn_headline.proofs.Common.{◌≡◌, ◌≤◌, ℕ, zero, suc, [], ◌∷◌, Some, None, refl, arith, tid_eq, work_eq, file_eq, work_tells, tid_tells, Prepared, FlagState, at_work, at_tid, World, AreNames, tid_before, FileThere, IsPrinted, world_of, IsReported, steps_at_end, world_at_end, IsEnding, course_at_end, settled}
 use Rattle.jn_locks.specs.Locks.{work_before}
-use Rattle.jn_rows.specs.Stable.{Prepared, FlagState, at_work, at_tid}
-use Rattle.jn_system.specs.WholeSystem.World.{World}
-use Rattle.jn_system.specs.WholeSystem.Steps.{AreNames, tid_before}
 use Rattle.jn_system.specs.WholeSystem.Example.{the_server, the_file, the_transaction, the_work, much, start}
-use Rattle.jn_system.specs.WholeSystem.Printing.{FileThere}
-use Rattle.jn_system_reports.specs.Reporting.Printing.{IsPrinted}
-use Rattle.jn_system_reports.specs.Reporting.Reported.{world_of, IsReported}
-use Rattle.jn_system_reports.specs.Reporting.Ending.{steps_at_end, world_at_end, IsEnding}
 use Rattle.jn_system_reports.specs.Showing.Example.{a_commit_is_named}
-use Rattle.jn_headline.specs.WholeReports.Whole.{course_at_end}
 use Rattle.jn_headline.specs.WholeReports.Example.{an_end_that_settles}
-use Rattle.jn_system_settling.specs.Settling.Settle.{Chance, settled}
+use Rattle.jn_system_settling.specs.Settling.Settle.{Chance}
 use Rattle.jn_system_reports.proofs.Showing.Examples.{memory_in, is-up, once_there, no_block}
 use Rattle.jn_headline.proofs.whole_reports.an_end_settles.Goals as goal
 

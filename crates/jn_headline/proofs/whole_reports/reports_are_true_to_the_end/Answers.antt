@@ -1,8 +1,4 @@
-use Rattle.jn_system.specs.WholeSystem.World.{opening}
-use Rattle.jn_system_reports.specs.Reporting.Reported.{world_of}
-use Rattle.jn_system_reports.proofs.Reporting.Following.{run-follows}
-use Rattle.jn_system_reports.proofs.Causing.Ends.{end-causes, end-told}
-use Rattle.jn_system_reports.proofs.Showing.Follows.{follows-to-end, counted-follows}
+use Rattle.jn_headline.proofs.Common.{opening, world_of, run-follows, end-causes, end-told, follows-to-end, counted-follows}
 use Rattle.jn_headline.proofs.WholeReports.Outcomes.{told-to-end}
 use Rattle.jn_headline.proofs.whole_reports.reports_are_true_to_the_end.Goals as goal
 

@@ -1,4 +1,4 @@
-use Rattle.std.proofs.lemmas.List.{take_rest}
+use Rattle.jn_image.proofs.Common.{take_rest}
 use Rattle.jn_image.proofs.reading.behind_half.Goals as goal
 
 pub returns : goal.returns

@@ -1,6 +1,4 @@
-use Rattle.std.proofs.Common.{◌≡◌, ◌≤◌, ◌-◌, ◌+◌, ◌*◌, ◌∷◌, [], ◌++◌, ℕ, List, drop, length, sym, subst}
-use Rattle.jn_device.specs.declared.Half.{Half}
-use Rattle.jn_image.specs.Reading.{halves_in}
+use Rattle.jn_image.proofs.Common.{◌≡◌, ◌≤◌, ◌-◌, ◌+◌, ◌*◌, ◌∷◌, [], ◌++◌, ℕ, List, drop, length, sym, subst, Half, halves_in}
 use Rattle.jn_image.proofs.Loops.{fewer, half_read}
 use Rattle.jn_image.proofs.reading.halves_of.Goals as goal
 

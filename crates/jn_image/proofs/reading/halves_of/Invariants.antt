@@ -1,5 +1,4 @@
-use Rattle.std.proofs.Common.{◌≡◌, ◌≤◌, ◌-◌, ◌*◌, ◌++◌, length}
-use Rattle.jn_image.specs.Reading.{halves_in}
+use Rattle.jn_image.proofs.Common.{◌≡◌, ◌≤◌, ◌-◌, ◌*◌, ◌++◌, length, halves_in}
 use Rattle.jn_image.proofs.reading.halves_of.Given as goal
 
 -- the pages that were read and those still to be read are all

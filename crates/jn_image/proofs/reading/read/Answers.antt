@@ -1,6 +1,4 @@
-use Rattle.std.proofs.Common.{◌≡◌, length, sym, arith, length-drop}
-use Rattle.jn_image.specs.Faults.{counts_in}
-use Rattle.jn_image.specs.Form.{image_size}
+use Rattle.jn_image.proofs.Common.{◌≡◌, length, sym, arith, length-drop, counts_in, image_size}
 use Rattle.jn_image.proofs.Passing.{was_passed}
 use Rattle.jn_image.proofs.reading.read.Goals as goal
 

@@ -1,5 +1,4 @@
-use Rattle.std.proofs.Common.{◌≡◌, ◌≤◌, ◌-◌, ◌+◌, ◌*◌, ℕ, List, length, sym, subst}
-use Rattle.jn_image.specs.Faults.{statuses_fit}
+use Rattle.jn_image.proofs.Common.{◌≡◌, ◌≤◌, ◌-◌, ◌+◌, ◌*◌, ℕ, List, length, sym, subst, statuses_fit}
 use Rattle.jn_image.proofs.Loops.{fewer, status_over, status_within}
 use Rattle.jn_image.proofs.reading.statuses_fit.Goals as goal
 

@@ -1,5 +1,4 @@
-use Rattle.std.proofs.Common.{◌≡◌, ◌≤◌, ◌-◌, ◌*◌, length}
-use Rattle.jn_image.specs.Faults.{statuses_fit}
+use Rattle.jn_image.proofs.Common.{◌≡◌, ◌≤◌, ◌-◌, ◌*◌, length, statuses_fit}
 use Rattle.jn_image.proofs.reading.statuses_fit.Given as goal
 
 abbrev pub invariant-loop : goal.invariant-loop

@@ -1,4 +1,4 @@
-use Rattle.jn_image.specs.Repeats.{AreNoted}
+use Rattle.jn_image.proofs.Common.{AreNoted}
 use Rattle.jn_image.proofs.repeats.least_repeated.Given as goal
 
 abbrev pub invariant-loop-value : goal.invariant-loop-value

@@ -1,6 +1,4 @@
-use Rattle.std.proofs.Common.{◌≡◌, Bool, true, false, refl, sym, ◌∙◌}
-use Rattle.std.specs.Prelude.{not}
-use Rattle.std.proofs.lemmas.Bool.{false≢true}
+use Rattle.jn_image.proofs.Common.{◌≡◌, Bool, true, false, refl, sym, ◌∙◌, not, false≢true}
 use Rattle.jn_image.proofs.Repeated.{old_value}
 use Rattle.jn_image.proofs.repeats.note.Goals as goal
 

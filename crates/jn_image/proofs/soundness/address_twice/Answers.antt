@@ -1,9 +1,5 @@
-use Rattle.std.proofs.Common.{ℕ, List, Option, ◌∙◌, subst}
-use Rattle.std.proofs.lemmas.Result.{IfOk-weaker}
+use Rattle.jn_image.proofs.Common.{ℕ, List, Option, ◌∙◌, subst, IfOk-weaker, All, HeadsWhole, AddressesOnce, Finds, StandsOnce, AreHeads}
 use Rattle.jn_records.specs.Sound as sound
-use Rattle.jn_image.specs.Unsound.{All, HeadsWhole, AddressesOnce}
-use Rattle.jn_image.specs.Repeats.{Finds, StandsOnce}
-use Rattle.jn_image.specs.Rules.{AreHeads}
 use Rattle.jn_image.proofs.HeadLists.{address_twice}
 use Rattle.jn_image.proofs.soundness.address_twice.Goals as goal
 

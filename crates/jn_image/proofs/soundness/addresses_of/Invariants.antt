@@ -1,6 +1,4 @@
-use Rattle.std.proofs.Common.{◌≡◌, ◌++◌, drop}
-use Rattle.std.specs.Prelude.{flat_map}
-use Rattle.jn_image.specs.Rules.{addresses_of}
+use Rattle.jn_image.proofs.Common.{◌≡◌, ◌++◌, drop, flat_map, addresses_of}
 use Rattle.jn_image.proofs.soundness.addresses_of.Given as goal
 
 abbrev pub invariant-loop-head : goal.invariant-loop-head

@@ -1,4 +1,4 @@
-use Rattle.jn_image.specs.Unsound.{seen}
+use Rattle.jn_image.proofs.Common.{seen}
 use Rattle.jn_image.proofs.Exclusive.{tells_sound, tells_only, tells_fault, tells_first}
 use Rattle.jn_image.proofs.soundness.check.Goals as goal
 

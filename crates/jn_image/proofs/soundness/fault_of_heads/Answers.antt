@@ -1,7 +1,4 @@
-use Rattle.std.proofs.Common.{ℕ, Option, Some, None, subst}
-use Rattle.jn_records.specs.Sound.{HasOneHead}
-use Rattle.jn_image.specs.Repeats.{Finds}
-use Rattle.jn_image.specs.Unsound.{AddressesOnce}
+use Rattle.jn_image.proofs.Common.{ℕ, Option, Some, None, subst, HasOneHead, Finds, AddressesOnce}
 use Rattle.jn_image.proofs.HeadLists.{malformed}
 use Rattle.jn_image.proofs.soundness.fault_of_heads.Goals as goal
 

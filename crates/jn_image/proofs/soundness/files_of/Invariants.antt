@@ -1,5 +1,4 @@
-use Rattle.std.proofs.Common.{◌≡◌, ◌++◌, drop, map}
-use Rattle.jn_image.specs.Rules.{head_file_number}
+use Rattle.jn_image.proofs.Common.{◌≡◌, ◌++◌, drop, map, head_file_number}
 use Rattle.jn_image.proofs.soundness.files_of.Given as goal
 
 abbrev pub invariant-loop-head : goal.invariant-loop-head

@@ -1,6 +1,4 @@
-use Rattle.std.proofs.Common.{ℕ, ◌<◌}
-use Rattle.jn_image.specs.Rules.{RuleHolds}
-use Rattle.jn_image.specs.Unsound.{seen}
+use Rattle.jn_image.proofs.Common.{ℕ, ◌<◌, RuleHolds, seen}
 use Rattle.jn_image.proofs.soundness.first_failing.Given as goal
 
 abbrev pub invariant-loop-i : goal.invariant-loop-i

@@ -1,5 +1,4 @@
-use Rattle.std.proofs.Common.{ℕ, ◌<◌}
-use Rattle.jn_image.specs.Rules.{IsRead}
+use Rattle.jn_image.proofs.Common.{ℕ, ◌<◌, IsRead}
 use Rattle.jn_image.proofs.soundness.first_malformed.Given as goal
 
 abbrev pub invariant-loop-i : goal.invariant-loop-i

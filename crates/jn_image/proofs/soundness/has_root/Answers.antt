@@ -1,4 +1,4 @@
-use Rattle.jn_image.specs.Unsound.{seen}
+use Rattle.jn_image.proofs.Common.{seen}
 use Rattle.jn_image.proofs.Roots.{none_found, one_found}
 use Rattle.jn_image.proofs.soundness.has_root.Goals as goal
 

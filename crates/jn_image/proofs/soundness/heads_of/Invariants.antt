@@ -1,6 +1,4 @@
-use Rattle.std.proofs.Common.{◌≡◌, ℕ, ◌<◌, None, get_or, vec_len}
-use Rattle.jn_image.specs.Rules.{IsHeadAt}
-use Rattle.jn_image.specs.Unsound.{seen}
+use Rattle.jn_image.proofs.Common.{◌≡◌, ℕ, ◌<◌, None, get_or, vec_len, IsHeadAt, seen}
 use Rattle.jn_image.proofs.soundness.heads_of.Given as goal
 
 abbrev pub invariant-loop-i : goal.invariant-loop-i

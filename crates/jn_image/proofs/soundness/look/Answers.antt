@@ -1,11 +1,5 @@
-use Rattle.std.proofs.Common.{◌≡◌, ◌<◌, ◌^◌, ℕ, List, length, Option, Some, None, sym, ap, ◌∙◌, subst}
-use Rattle.std.specs.Prelude.{MatchOption}
-use Rattle.jn_base.specs.declared.names.ServerNo.{ServerNo}
-use Rattle.jn_records.specs.declared.head.Head.{Head}
+use Rattle.jn_image.proofs.Common.{◌≡◌, ◌<◌, ◌^◌, ℕ, List, length, Option, Some, None, sym, ap, ◌∙◌, subst, MatchOption, ServerNo, Head, Unsound, AreHeads, seen, ToPool, ToAddresses, IsFirstFault}
 use Rattle.jn_records.specs.Sound as sound
-use Rattle.jn_image.specs.declared.fault.Unsound.{Unsound}
-use Rattle.jn_image.specs.Rules.{AreHeads}
-use Rattle.jn_image.specs.Unsound.{seen, ToPool, ToAddresses, IsFirstFault}
 use Rattle.jn_image.proofs.Exclusive.{all_hold}
 use Rattle.jn_image.proofs.soundness.look.Goals as goal
 

@@ -1,5 +1,4 @@
-use Rattle.std.proofs.Common.{◌≡◌, ◌++◌, drop, map}
-use Rattle.jn_image.specs.Rules.{address_of}
+use Rattle.jn_image.proofs.Common.{◌≡◌, ◌++◌, drop, map, address_of}
 use Rattle.jn_image.proofs.soundness.push_addresses.Given as goal
 
 abbrev pub invariant-loop-address : goal.invariant-loop-address

@@ -1,9 +1,5 @@
-use Rattle.std.proofs.Common.{ℕ, List, Option, ◌∙◌, subst}
-use Rattle.std.proofs.lemmas.Result.{IfOk-weaker}
+use Rattle.jn_image.proofs.Common.{ℕ, List, Option, ◌∙◌, subst, IfOk-weaker, HasOneHead, Finds, StandsOnce, AreHeads}
 use Rattle.jn_records.specs.Sound as sound
-use Rattle.jn_records.specs.Sound.{HasOneHead}
-use Rattle.jn_image.specs.Repeats.{Finds, StandsOnce}
-use Rattle.jn_image.specs.Rules.{AreHeads}
 use Rattle.jn_image.proofs.HeadLists.{same_file}
 use Rattle.jn_image.proofs.soundness.same_file.Goals as goal
 

@@ -1,5 +1,4 @@
-use Rattle.std.proofs.Common.{drop, length-drop, arith}
-use Rattle.std.proofs.lemmas.List.{take_all}
+use Rattle.jn_image.proofs.Common.{drop, length-drop, arith, take_all}
 use Rattle.jn_image.proofs.soundness.tail_of.Goals as goal
 
 pub returns : goal.returns

@@ -1,6 +1,4 @@
-use Rattle.std.proofs.Common.{◌++◌, ℕ, List, ap, ap₂, ◌∙◌}
-use Rattle.sha2.specs.Sha256.{sha256}
-use Rattle.jn_image.specs.Form.{image_bytes}
+use Rattle.jn_image.proofs.Common.{◌++◌, ℕ, List, ap, ap₂, ◌∙◌, sha256, image_bytes}
 use Rattle.jn_image.proofs.writing.encode.Goals as goal
 
 pub returns : goal.returns

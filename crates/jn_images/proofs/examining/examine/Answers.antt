@@ -1,9 +1,5 @@
-use Rattle.std.proofs.Common.{◌≡◌, ◌+◌, ◌∙◌, ◌∷◌, [], ◌++◌, ℕ, List, Option, Err, None, Vec, length, refl, sym, ap, subst, arith}
+use Rattle.jn_images.proofs.Common.{◌∙◌, List, Err, length, sym, ap, subst, arith, err_from_is_err_and, AreStoresOf, found_at}
 use Rattle.std.proofs.lemmas.Grind.{common_steps}
-use Rattle.std.proofs.lemmas.Result.{err_from_is_err_and}
-use Rattle.std.specs.Prelude.{get_or}
-use Rattle.jn_images.specs.Examined.{AreStoresOf, IsFirstRefused, IsRefused, IsStoreOf}
-use Rattle.jn_images.specs.Kept.{found_at}
 use Rattle.jn_images.proofs.Disks.{look, device}
 use Rattle.jn_images.proofs.Stores.{first-refused, next-store}
 use Rattle.jn_images.proofs.examining.examine.Goals as goal

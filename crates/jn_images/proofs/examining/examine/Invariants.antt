@@ -1,8 +1,4 @@
-use Rattle.std.proofs.Common.{◌≡◌, length}
-use Rattle.jn_device.specs.Device.{DeviceState}
-use Rattle.jn_memdisk.specs.declared.disk.MemDisk.{MemDisk}
-use Rattle.jn_images.specs.Examined.{AreStoresOf}
-use Rattle.jn_images.specs.Kept.{found_at}
+use Rattle.jn_images.proofs.Common.{◌≡◌, length, AreStoresOf, found_at}
 use Rattle.jn_images.proofs.Disks.{look, device}
 use Rattle.jn_images.proofs.examining.examine.Given as goal
 

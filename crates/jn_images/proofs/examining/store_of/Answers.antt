@@ -1,8 +1,5 @@
-use Rattle.std.proofs.Common.{◌≡◌, List, refl, sym, subst}
-use Rattle.jn_device.specs.declared.Half.{Half}
-use Rattle.jn_disks.specs.Disks.{AreSound, HasPages, IsStoreOfPages}
+use Rattle.jn_images.proofs.Common.{List, refl, sym, subst, Half, AreSound, HasPages, IsStoreOfPages, image_counts}
 use Rattle.jn_image.proofs.SoundPages.{sound_pages}
-use Rattle.jn_image.specs.Form.{image_counts}
 use Rattle.jn_images.proofs.Disks.{look, device}
 use Rattle.jn_images.proofs.examining.store_of.Goals as goal
 

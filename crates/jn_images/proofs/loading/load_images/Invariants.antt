@@ -1,5 +1,4 @@
-use Rattle.std.proofs.Common.{◌≡◌, ◌<◌, ◌≤◌, ℕ, length}
-use Rattle.jn_images.specs.Kept.{Has, found_at, image_name}
+use Rattle.jn_images.proofs.Common.{◌≡◌, ◌<◌, ◌≤◌, ℕ, length, Has, found_at, image_name}
 use Rattle.jn_images.proofs.loading.load_images.Given as goal
 
 abbrev pub invariant-loop-server : goal.invariant-loop-server

@@ -1,8 +1,4 @@
-use Rattle.std.proofs.Common.{◌≡◌, ◌∙◌, List, refl, sym, subst}
-use Rattle.jn_device.specs.declared.Half.{Half}
-use Rattle.jn_disks.specs.Disks.{AreSound, HasPages}
-use Rattle.jn_image.specs.declared.image.Image.{Image}
-use Rattle.jn_recovery.specs.Loading.{counts_by}
+use Rattle.jn_images.proofs.Common.{◌∙◌, List, refl, sym, subst, Half, AreSound, HasPages, Image, counts_by}
 use Rattle.jn_images.proofs.Disks.{device}
 use Rattle.jn_images.proofs.Kept.{image-of, saves-one}
 use Rattle.jn_images.proofs.saving.save_image.Goals as goal

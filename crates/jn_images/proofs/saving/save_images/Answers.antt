@@ -1,14 +1,9 @@
-use Rattle.std.proofs.Common.{◌≡◌, ◌+◌, ◌<◌, ◌∙◌, ℕ, Err, Some, ap, sym, subst, slice_get, length, refl, arith}
+use Rattle.jn_images.proofs.Common.{◌≡◌, ◌+◌, ◌<◌, ◌∙◌, ℕ, Err, Some, ap, sym, subst, slice_get, length, refl, arith, length_push, err_from_is_err_and, PageCounts, get_or, is_ok}
 use Rattle.std.proofs.lemmas.Iterator.Adapters.{YieldsList-from_vec}
 use Rattle.std.proofs.lemmas.Iterator.Consumers.{YieldsList-turn}
-use Rattle.std.proofs.lemmas.List.{length_push}
-use Rattle.std.proofs.lemmas.Result.{err_from_is_err_and}
-use Rattle.jn_recovery.specs.Loading.{counts_by}
-use Rattle.jn_recovery.specs.declared.counts.PageCounts.{PageCounts}
 use Rattle.jn_images.proofs.Disks.{device}
 use Rattle.std.proofs.lemmas.Option.{slice_get-get_or}
 use Rattle.jn_images.proofs.Kept.{fails-all, saved-more, get-some}
-use Rattle.std.specs.Prelude.{get_or, is_ok}
 use Rattle.jn_images.proofs.saving.save_images.Goals as goal
 
 pub save_image-requires-clause-closed : goal.save_image-requires-clause-closed

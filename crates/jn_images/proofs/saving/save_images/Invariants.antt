@@ -1,5 +1,4 @@
-use Rattle.std.proofs.Common.{◌≡◌, ◌≤◌, length}
-use Rattle.jn_images.specs.Saved.{SavedTo}
+use Rattle.jn_images.proofs.Common.{◌≡◌, ◌≤◌, length, SavedTo}
 use Rattle.jn_images.proofs.Disks.{device}
 use Rattle.jn_images.proofs.saving.save_images.Given as goal
 

@@ -1,6 +1,4 @@
-use Rattle.std.proofs.Common.{◌≡◌, ◌<◌, ◌≤◌, arith, rules, subst, ℕ, List, length, true, false}
-use Rattle.jn_index.specs.declared.Entry.{Entry}
-use Rattle.jn_index.specs.Entries.{entry_at, is_before}
+use Rattle.jn_index.proofs.Common.{◌≡◌, ◌<◌, ◌≤◌, arith, rules, subst, ℕ, List, length, true, false, Entry, entry_at, is_before}
 use Rattle.jn_index.proofs.Indexed.{is_cleared}
 use Rattle.jn_index.proofs.Editing.{place_is}
 use Rattle.jn_index.proofs.Index.clear.Goals as goal

@@ -1,6 +1,4 @@
-use Rattle.std.proofs.Common.{◌≡◌, ◌<◌, ◌≤◌, rules, subst, ℕ, List, length, true, false}
-use Rattle.jn_index.specs.declared.Entry.{Entry}
-use Rattle.jn_index.specs.Entries.{entry_at, is_before}
+use Rattle.jn_index.proofs.Common.{◌≡◌, ◌<◌, ◌≤◌, rules, subst, ℕ, List, length, true, false, Entry, entry_at, is_before}
 use Rattle.jn_index.proofs.Indexed.{is_filled}
 use Rattle.jn_index.proofs.Index.fill.Goals as goal
 

@@ -1,8 +1,4 @@
-use Rattle.std.proofs.Common.{◌≡◌, ◌<◌, ◌≤◌, rules, sym, ◌∙◌, subst, ℕ, List, length, true, false, Option, Some}
-use Rattle.std.proofs.lemmas.List.{get_or_default}
-use Rattle.jn_index.specs.declared.Entry.{Entry}
-use Rattle.jn_index.specs.Numbers.{is_above, number_at}
-use Rattle.jn_index.specs.Entries.{entry, entry_at}
+use Rattle.jn_index.proofs.Common.{◌≡◌, ◌<◌, ◌≤◌, rules, sym, ◌∙◌, subst, ℕ, List, length, true, false, Option, Some, get_or_default, Entry, is_above, number_at, entry, entry_at}
 use Rattle.jn_index.proofs.Editing.{least_above, none_above, low_slots}
 use Rattle.jn_index.proofs.Index.number_above.Goals as goal
 

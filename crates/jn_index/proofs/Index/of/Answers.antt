@@ -1,5 +1,4 @@
-use Rattle.std.proofs.Common.{◌≡◌, ◌<◌, ◌+◌, length, sym, subst, ◌∙◌, arith}
-use Rattle.std.proofs.lemmas.List.{get_or_default}
+use Rattle.jn_index.proofs.Common.{◌≡◌, ◌<◌, ◌+◌, length, sym, subst, ◌∙◌, arith, get_or_default}
 use Rattle.jn_index.proofs.Taking.{HasTaken, pair_at, slot_within, takes_one, has_all}
 use Rattle.jn_index.proofs.Index.of.Goals as goal
 

@@ -1,7 +1,4 @@
-use Rattle.std.proofs.Common.{◌≡◌, ◌<◌, ◌≤◌, rules, arith, subst, ℕ, List, length, true, false}
-use Rattle.std.specs.List.{remove}
-use Rattle.jn_index.specs.declared.Entry.{Entry}
-use Rattle.jn_index.specs.Entries.{entry_at, is_before}
+use Rattle.jn_index.proofs.Common.{◌≡◌, ◌<◌, ◌≤◌, rules, arith, subst, ℕ, List, length, true, false, remove, Entry, entry_at, is_before}
 use Rattle.jn_index.proofs.Indexed.{is_renumbered}
 use Rattle.jn_index.proofs.Editing.{place_is}
 use Rattle.jn_index.proofs.Index.renumber.Goals as goal

@@ -1,5 +1,4 @@
-use Rattle.std.proofs.Common.{◌-◌}
-use Rattle.std.specs.Prelude.{is_ok}
+use Rattle.jn_intent.proofs.Common.{◌-◌, is_ok}
 use Rattle.jn_intent.proofs.HeadPuts.{carries_fresh, carries_gone, carries_cut, carries_put, put_names}
 use Rattle.jn_intent.proofs.carry.carry_out.Goals as goal
 

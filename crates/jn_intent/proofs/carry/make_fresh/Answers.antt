@@ -1,8 +1,4 @@
-use Rattle.std.proofs.Common.{subst}
-use Rattle.std.specs.Prelude.{is_ok}
-use Rattle.jn_order.specs.Files.{created}
-use Rattle.jn_files.specs.Table.{fresh_head}
-use Rattle.jn_files.specs.Calls.{SetsHead}
+use Rattle.jn_intent.proofs.Common.{subst, is_ok, created, fresh_head, SetsHead}
 use Rattle.jn_intent.proofs.carry.make_fresh.Goals as goal
 
 pub returns : goal.returns

@@ -1,5 +1,4 @@
-use Rattle.std.proofs.Common.{rules}
-use Rattle.std.proofs.lemmas.Fn.{filter_same}
+use Rattle.jn_intent.proofs.Common.{rules, filter_same}
 use Rattle.jn_intent.proofs.flags.take_flag.Goals as goal
 
 pub returns-clause-items : goal.returns-clause-items

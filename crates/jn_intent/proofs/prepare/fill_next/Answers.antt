@@ -1,7 +1,4 @@
-use Rattle.std.proofs.Common.{◌≡◌, true, ◌∙◌, sym, subst, arith, rules}
-use Rattle.std.proofs.lemmas.List.{length-set}
-use Rattle.std.specs.Prelude.{is_ok, slice_set}
-use Rattle.jn_files.specs.Table.{TableView, IsTable}
+use Rattle.jn_intent.proofs.Common.{◌≡◌, true, ◌∙◌, sym, subst, arith, rules, length-set, is_ok, slice_set, TableView, IsTable}
 use Rattle.jn_files.proofs.Touching.{touched_table}
 use Rattle.jn_intent.proofs.prepare.fill_next.Goals as goal
 

@@ -1,8 +1,4 @@
-use Rattle.std.proofs.Common.{List, [], ◌∷◌, length, ap, sym, subst, ◌∙◌, arith, length-append}
-use Rattle.std.proofs.lemmas.Result.{err_from_is_err_and}
-use Rattle.std.specs.Prelude.{is_ok}
-use Rattle.jn_records.specs.declared.intention.StoredIntention.{StoredIntention}
-use Rattle.jn_intent.specs.Preparing.{IsPreparing}
+use Rattle.jn_intent.proofs.Common.{List, [], ◌∷◌, length, ap, sym, subst, ◌∙◌, arith, length-append, err_from_is_err_and, is_ok, StoredIntention, IsPreparing}
 use Rattle.jn_intent.proofs.Storing.{plain_at, list_on, list_stops}
 use Rattle.jn_intent.proofs.prepare.store_all.Goals as goal
 

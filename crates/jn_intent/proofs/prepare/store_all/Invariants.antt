@@ -1,7 +1,4 @@
-use Rattle.std.proofs.Common.{◌≡◌, length, vec_capacity}
-use Rattle.jn_store.specs.Store.{StoreView}
-use Rattle.jn_recovery.specs.Memory.{Memory}
-use Rattle.jn_intent.specs.Preparing.{Begins, IsPreparing}
+use Rattle.jn_intent.proofs.Common.{◌≡◌, length, vec_capacity, StoreView, Memory, Begins, IsPreparing}
 use Rattle.jn_intent.proofs.prepare.store_all.Given as goal
 
 abbrev pub invariant-loop-order : goal.invariant-loop-order

@@ -1,5 +1,4 @@
-use Rattle.std.proofs.Common.{refl}
-use Rattle.std.specs.Prelude.{Ok, Err}
+use Rattle.jn_intent.proofs.Common.{refl, Ok, Err}
 use Rattle.jn_intent.proofs.Storing.{intention_stored}
 use Rattle.jn_intent.proofs.StoringPool.{free_slot}
 use Rattle.jn_intent.proofs.prepare.store_one.Goals as goal

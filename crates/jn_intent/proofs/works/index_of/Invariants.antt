@@ -1,7 +1,4 @@
-use Rattle.std.proofs.Common.{◌≡◌, drop, map}
-use Rattle.jn_base.specs.Names.{work_eq}
-use Rattle.jn_storage.specs.Listing.{is_in}
-use Rattle.jn_storage.specs.Calls.{name_of}
+use Rattle.jn_intent.proofs.Common.{◌≡◌, drop, map, work_eq, is_in, name_of}
 use Rattle.jn_intent.proofs.works.index_of.Given as goal
 
 abbrev pub invariant-loop-i : goal.invariant-loop-i

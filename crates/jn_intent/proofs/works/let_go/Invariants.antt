@@ -1,5 +1,4 @@
-use Rattle.std.proofs.Common.{◌≡◌, drop}
-use Rattle.jn_recovery.specs.Pages.{pages_let_go, MayLetGo}
+use Rattle.jn_intent.proofs.Common.{◌≡◌, drop, pages_let_go, MayLetGo}
 use Rattle.jn_intent.proofs.works.let_go.Given as goal
 
 abbrev pub invariant-loop-intention : goal.invariant-loop-intention

@@ -1,9 +1,4 @@
-use Rattle.std.proofs.Common.{◌≡◌, ◌<◌, length, map, true, false, subst}
-use Rattle.std.specs.Prelude.{slice_index_or}
-use Rattle.jn_base.specs.Names.{work_eq}
-use Rattle.jn_records.specs.declared.work.WorkState.{WorkState}
-use Rattle.jn_storage.specs.Listing.{is_in}
-use Rattle.jn_storage.specs.Calls.{name_of}
+use Rattle.jn_intent.proofs.Common.{◌≡◌, ◌<◌, length, map, true, false, subst, slice_index_or, work_eq, WorkState, is_in, name_of}
 use Rattle.jn_intent.proofs.Marking.{marks_at, marks_none}
 use Rattle.jn_intent.proofs.works.mark.Goals as goal
 

@@ -1,5 +1,4 @@
-use Rattle.std.proofs.Common.{rules}
-use Rattle.std.proofs.lemmas.Fn.{filter_same}
+use Rattle.jn_intent.proofs.Common.{rules, filter_same}
 use Rattle.jn_intent.proofs.works.take_work.Goals as goal
 
 pub returns : goal.returns

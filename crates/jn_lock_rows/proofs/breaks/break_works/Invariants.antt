@@ -1,5 +1,4 @@
-use Rattle.std.proofs.Common.{◌≡◌, drop}
-use Rattle.jn_lock_rows.specs.Calls.{after_breaks}
+use Rattle.jn_lock_rows.proofs.Common.{◌≡◌, drop, after_breaks}
 use Rattle.jn_lock_rows.proofs.breaks.break_works.Given as goal
 
 abbrev pub invariant-loop-b : goal.invariant-loop-b

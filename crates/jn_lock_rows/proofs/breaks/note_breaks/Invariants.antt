@@ -1,5 +1,4 @@
-use Rattle.std.proofs.Common.{◌≡◌, ◌++◌, drop}
-use Rattle.jn_lock_rows.specs.Calls.{notes_of}
+use Rattle.jn_lock_rows.proofs.Common.{◌≡◌, ◌++◌, drop, notes_of}
 use Rattle.jn_lock_rows.proofs.breaks.note_breaks.Given as goal
 
 abbrev pub invariant-loop-b : goal.invariant-loop-b

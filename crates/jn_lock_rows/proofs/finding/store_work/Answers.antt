@@ -1,7 +1,4 @@
-use Rattle.std.proofs.Common.{◌≡◌, true, sym, ◌∙◌, subst, arith}
-use Rattle.jn_base.specs.Names.{work_eq}
-use Rattle.jn_rows.specs.declared.worker.Work.{Work}
-use Rattle.jn_lock_rows.specs.Calls.{stored}
+use Rattle.jn_lock_rows.proofs.Common.{◌≡◌, true, sym, ◌∙◌, subst, arith, work_eq, Work, stored}
 use Rattle.jn_lock_rows.proofs.Edits.{rephased_here, same_there}
 use Rattle.jn_lock_rows.proofs.finding.store_work.Goals as goal
 

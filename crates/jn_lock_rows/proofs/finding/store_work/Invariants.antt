@@ -1,5 +1,4 @@
-use Rattle.std.proofs.Common.{◌≡◌, ◌++◌, take, drop}
-use Rattle.jn_lock_rows.specs.Calls.{rephased, stored}
+use Rattle.jn_lock_rows.proofs.Common.{◌≡◌, ◌++◌, take, drop, rephased, stored}
 use Rattle.jn_lock_rows.proofs.finding.store_work.Given as goal
 
 abbrev pub invariant-loop-i : goal.invariant-loop-i

@@ -1,8 +1,4 @@
-use Rattle.std.proofs.Common.{◌∙◌, ap}
-use Rattle.jn_locks.specs.LockTables.{table}
-use Rattle.jn_rows.specs.declared.worker.Phase.TheVariants.{Active}
-use Rattle.jn_rows.specs.Worker.{with_phase}
-use Rattle.jn_lock_rows.specs.Calls.{after_breaks}
+use Rattle.jn_lock_rows.proofs.Common.{◌∙◌, ap, table, Active, with_phase, after_breaks}
 use Rattle.jn_lock_rows.proofs.Together.{operation_grants, operation_refused}
 use Rattle.jn_lock_rows.proofs.grants.grant_operation.Goals as goal
 

@@ -1,6 +1,4 @@
-use Rattle.std.proofs.Common.{◌∙◌, ap}
-use Rattle.jn_locks.specs.LockTables.{table}
-use Rattle.jn_lock_rows.specs.Calls.{after_breaks, rephased, stored}
+use Rattle.jn_lock_rows.proofs.Common.{◌∙◌, ap, table, after_breaks, rephased, stored}
 use Rattle.jn_lock_rows.proofs.Together.{storing_grants, storing_refused}
 use Rattle.jn_lock_rows.proofs.grants.grant_storing.Goals as goal
 

@@ -1,9 +1,5 @@
-use Rattle.std.proofs.Common.{◌≡◌, List, [], ◌∷◌, ◌++◌, sym, ◌∙◌, subst}
-use Rattle.jn_locks.specs.LockTables.{table}
+use Rattle.jn_lock_rows.proofs.Common.{◌≡◌, List, [], ◌∷◌, ◌++◌, sym, ◌∙◌, subst, table, Work, new_work, LocksMatch}
 use Rattle.jn_lock_rows.proofs.Granting.{match_opened}
-use Rattle.jn_rows.specs.declared.worker.Work.{Work}
-use Rattle.jn_rows.specs.Worker.{new_work}
-use Rattle.jn_lock_rows.specs.Matching.{LocksMatch}
 use Rattle.jn_lock_rows.proofs.grants.open_work.Goals as goal
 
 pub returns-in-Ok-clause-matches : goal.returns-in-Ok-clause-matches

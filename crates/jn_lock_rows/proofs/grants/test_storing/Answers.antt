@@ -1,5 +1,4 @@
-use Rattle.std.proofs.Common.{sym}
-use Rattle.jn_locks.specs.LockTables.{table}
+use Rattle.jn_lock_rows.proofs.Common.{sym, table}
 use Rattle.jn_lock_rows.proofs.Together.{storing_free, storing_told, storing_told_all}
 use Rattle.jn_lock_rows.proofs.grants.test_storing.Goals as goal
 

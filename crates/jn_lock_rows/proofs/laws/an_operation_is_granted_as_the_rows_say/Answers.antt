@@ -1,5 +1,4 @@
-use Rattle.std.proofs.Common.{refl}
-use Rattle.jn_rows.specs.Worker.{done, is_fit, wants_of}
+use Rattle.jn_lock_rows.proofs.Common.{refl, done, is_fit, wants_of}
 use Rattle.jn_lock_rows.proofs.Granting.{match_next, breaks_next}
 use Rattle.jn_lock_rows.proofs.laws.an_operation_is_granted_as_the_rows_say.Goals as goal
 

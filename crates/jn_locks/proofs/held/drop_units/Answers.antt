@@ -1,5 +1,4 @@
-use Rattle.std.proofs.Common.{◌∙◌, arith}
-use Rattle.jn_locks.specs.Tables.{at}
+use Rattle.jn_locks.proofs.Common.{◌∙◌, arith, at}
 use Rattle.jn_locks.proofs.Steps.{drop_more}
 use Rattle.jn_locks.proofs.held.drop_units.Goals as goal
 

@@ -1,6 +1,4 @@
-use Rattle.std.proofs.Common.{◌≡◌, drop}
-use Rattle.jn_base.specs.declared.names.LockUnit.{LockUnit}
-use Rattle.jn_locks.specs.Tables.{at}
+use Rattle.jn_locks.proofs.Common.{◌≡◌, drop, LockUnit, at}
 use Rattle.jn_locks.proofs.Steps.{dropped_in}
 use Rattle.jn_locks.proofs.held.drop_units.Given as goal
 

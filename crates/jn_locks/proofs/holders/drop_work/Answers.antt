@@ -1,8 +1,5 @@
-use Rattle.std.proofs.Common.{◌≡◌, rules, arith, List, length, ap}
-use Rattle.std.proofs.lemmas.Bool.Decides.{nat_tests}
+use Rattle.jn_locks.proofs.Common.{◌≡◌, rules, arith, List, length, ap, nat_tests, Holder, without}
 use Rattle.std.proofs.lemmas.Fn.{filter_same}
-use Rattle.jn_locks.specs.declared.words.Holder.{Holder}
-use Rattle.jn_locks.specs.Holders.{without}
 use Rattle.jn_locks.proofs.Holding.{length_without, shorter_without}
 use Rattle.jn_locks.proofs.holders.drop_work.Goals as goal
 

@@ -1,5 +1,4 @@
-use Rattle.std.proofs.Common.{◌≡◌, drop}
-use Rattle.jn_locks.specs.Holders.{is_among}
+use Rattle.jn_locks.proofs.Common.{◌≡◌, drop, is_among}
 use Rattle.jn_locks.proofs.holders.is_among.Given as goal
 
 abbrev pub invariant-loop-h : goal.invariant-loop-h

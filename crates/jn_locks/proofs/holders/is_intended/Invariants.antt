@@ -1,6 +1,4 @@
-use Rattle.std.proofs.Common.{◌≡◌, drop}
-use Rattle.jn_locks.specs.declared.words.Mode.TheVariants.{IntentionWrite}
-use Rattle.jn_locks.specs.Holders.{holds_in}
+use Rattle.jn_locks.proofs.Common.{◌≡◌, drop, IntentionWrite, holds_in}
 use Rattle.jn_locks.proofs.holders.is_intended.Given as goal
 
 abbrev pub invariant-loop-h : goal.invariant-loop-h

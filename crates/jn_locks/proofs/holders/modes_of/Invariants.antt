@@ -1,7 +1,4 @@
-use Rattle.std.proofs.Common.{◌≡◌, drop}
-use Rattle.std.specs.Prelude.{◌||◌}
-use Rattle.jn_locks.specs.declared.words.Mode.{Mode}
-use Rattle.jn_locks.specs.Holders.{has, holds_in}
+use Rattle.jn_locks.proofs.Common.{◌≡◌, drop, ◌||◌, Mode, has, holds_in}
 use Rattle.jn_locks.proofs.holders.modes_of.Given as goal
 
 abbrev pub invariant-loop-h : goal.invariant-loop-h

@@ -1,6 +1,4 @@
-use Rattle.std.proofs.Common.{List, ap, ◌∙◌, arith}
-use Rattle.jn_locks.specs.declared.words.Want.{Want}
-use Rattle.jn_locks.specs.Locks.{wanted}
+use Rattle.jn_locks.proofs.Common.{List, ap, ◌∙◌, arith, Want, wanted}
 use Rattle.jn_locks.proofs.Steps.{wanted-append, unit_more}
 use Rattle.jn_locks.proofs.wants.push_units.Goals as goal
 

@@ -1,8 +1,4 @@
-use Rattle.std.proofs.Common.{◌≡◌, drop}
-use Rattle.std.specs.Prelude.{◌||◌, ◌&&◌}
-use Rattle.jn_base.specs.declared.names.LockUnit.{LockUnit}
-use Rattle.jn_locks.specs.declared.words.Mode.{Mode}
-use Rattle.jn_locks.specs.Locks.{wanted, is_unit, mode_eq}
+use Rattle.jn_locks.proofs.Common.{◌≡◌, drop, ◌||◌, ◌&&◌, LockUnit, Mode, wanted, is_unit, mode_eq}
 use Rattle.jn_locks.proofs.wants.push_units.Given as goal
 
 abbrev pub invariant-loop-unit : goal.invariant-loop-unit

@@ -1,5 +1,4 @@
-use Rattle.std.proofs.Common.{◌∙◌, map, string_bytes}
-use Rattle.clap.specs.Words.{app_of}
+use Rattle.jn_options.proofs.Common.{◌∙◌, map, string_bytes, app_of}
 use Rattle.jn_options.proofs.Commands.{refused, taken}
 use Rattle.jn_options.proofs.command.matches_in.Goals as goal
 

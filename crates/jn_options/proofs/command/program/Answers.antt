@@ -1,8 +1,5 @@
-use Rattle.std.proofs.Common.{◌≡◌, ◌∙◌, ap, ap₂, true, codes}
-use Rattle.std.proofs.lemmas.Result.{IfOk-weaker}
-use Rattle.clap.specs.Words.{App, app_of, new_app, with_subcommand}
+use Rattle.jn_options.proofs.Common.{◌≡◌, ◌∙◌, ap, ap₂, true, codes, IfOk-weaker, App, app_of, new_app, with_subcommand, program_app, without_help}
 use Rattle.clap.specs.Simple.{app_of_fields}
-use Rattle.jn_options.specs.Command.{program_app, without_help}
 use Rattle.jn_options.proofs.command.program.Goals as goal
 
 abbrev without_flag : App → App

@@ -1,7 +1,4 @@
-use Rattle.std.proofs.Common.{◌∙◌, ◌||◌, ap₂}
-use Rattle.std.proofs.lemmas.Result.{IfOk-weaker}
-use Rattle.clap.specs.Words.{with_rule}
-use Rattle.jn_options.specs.Command.{run_app}
+use Rattle.jn_options.proofs.Common.{◌∙◌, ◌||◌, ap₂, IfOk-weaker, with_rule, run_app}
 use Rattle.jn_options.proofs.command.run_command.Goals as goal
 
 pub returns-clause-app : goal.returns-clause-app

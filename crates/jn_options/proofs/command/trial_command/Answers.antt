@@ -1,7 +1,4 @@
-use Rattle.std.proofs.Common.{◌∙◌, ◌||◌, ap₂}
-use Rattle.std.proofs.lemmas.Result.{IfOk-weaker}
-use Rattle.clap.specs.Words.{with_rule}
-use Rattle.jn_options.specs.Command.{trial_app}
+use Rattle.jn_options.proofs.Common.{◌∙◌, ◌||◌, ap₂, IfOk-weaker, with_rule, trial_app}
 use Rattle.jn_options.proofs.command.trial_command.Goals as goal
 
 pub returns-clause-app : goal.returns-clause-app

@@ -1,7 +1,4 @@
-use Rattle.std.proofs.Common.{refl}
-use Rattle.std.specs.Fmt.{digits}
-use Rattle.clap.proofs.OnLiterals.{clap_on_literals}
-use Rattle.jn_options.specs.Command.{program_app, run_app, trial_app}
+use Rattle.jn_options.proofs.Common.{refl, digits, clap_on_literals, program_app, run_app, trial_app}
 use Rattle.jn_options.proofs.laws.options_are_read.Goals as goal
 
 pub returns : goal.returns

@@ -1,8 +1,5 @@
-use Rattle.std.proofs.Common.{◌≡◌, ◌∙◌, ap, Option, Some}
-use Rattle.std.specs.Option.{option_map_or}
-use Rattle.clap.specs.Words.{Text, found_of, rows_of}
+use Rattle.jn_options.proofs.Common.{◌∙◌, ap, Option, Some, option_map_or, Text, found_of, number_in}
 use Rattle.jn_options.proofs.Found.{none_found, text_found}
-use Rattle.jn_options.specs.Words.{number_in}
 use Rattle.jn_options.proofs.read.count_among.Goals as goal
 
 pub returns-in-Some-clause-value : goal.returns-in-Some-clause-value

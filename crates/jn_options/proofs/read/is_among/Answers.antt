@@ -1,7 +1,4 @@
-use Rattle.std.proofs.Common.{◌≡◌, ◌∙◌, ap, false, codes, Option}
-use Rattle.std.specs.Option.{option_map_or}
-use Rattle.std.specs.Str.{bytes_eq}
-use Rattle.clap.specs.Words.{Text, found_of, rows_of}
+use Rattle.jn_options.proofs.Common.{◌∙◌, ap, false, codes, Option, option_map_or, bytes_eq, Text, found_of}
 use Rattle.jn_options.proofs.Found.{none_found, text_found}
 use Rattle.jn_options.proofs.read.is_among.Goals as goal
 

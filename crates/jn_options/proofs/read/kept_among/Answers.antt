@@ -1,9 +1,5 @@
-use Rattle.std.proofs.Common.{◌≡◌, ◌∙◌, ap, codes, Option, Some}
-use Rattle.std.specs.Option.{option_map_or}
-use Rattle.std.proofs.lemmas.Result.{IfOk-weaker}
-use Rattle.clap.specs.Words.{Text, found_of, rows_of}
+use Rattle.jn_options.proofs.Common.{◌∙◌, ap, codes, Option, Some, option_map_or, IfOk-weaker, Text, found_of, kept_as}
 use Rattle.jn_options.proofs.Found.{none_found, text_found}
-use Rattle.jn_options.specs.Words.{kept_as}
 use Rattle.jn_options.proofs.read.kept_among.Goals as goal
 
 pub returns-in-Some : goal.returns-in-Some

@@ -1,9 +1,5 @@
-use Rattle.std.proofs.Common.{◌≡◌, ◌∙◌, ap, Option}
-use Rattle.std.specs.Option.{option_map_or}
-use Rattle.std.specs.Prelude.{option_and_then}
-use Rattle.clap.specs.Words.{Text, found_of, rows_of}
+use Rattle.jn_options.proofs.Common.{◌∙◌, ap, option_and_then, found_of, number_in}
 use Rattle.jn_options.proofs.Found.{none_found, text_found}
-use Rattle.jn_options.specs.Words.{number_in}
 use Rattle.jn_options.proofs.read.number_among.Goals as goal
 
 pub returns-in-Some-clause-value : goal.returns-in-Some-clause-value

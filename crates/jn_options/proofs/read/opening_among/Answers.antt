@@ -1,10 +1,5 @@
-use Rattle.std.proofs.Common.{◌≡◌, ◌∙◌, ap, codes, Option, option_map}
-use Rattle.std.specs.Option.{option_map_or}
-use Rattle.std.proofs.lemmas.Result.{IfOk-weaker}
-use Rattle.clap.specs.Words.{Text, found_of, rows_of}
+use Rattle.jn_options.proofs.Common.{◌∙◌, ap, codes, Option, option_map, option_map_or, IfOk-weaker, Text, found_of, rows_of, geometry_given, images_given, New}
 use Rattle.jn_options.proofs.Found.{none_found, text_found}
-use Rattle.jn_options.specs.Words.{geometry_given, images_given}
-use Rattle.jn_options.specs.declared.asked.Opening.TheVariants.{New}
 use Rattle.jn_options.proofs.read.opening_among.Goals as goal
 
 pub returns-in-Some : goal.returns-in-Some

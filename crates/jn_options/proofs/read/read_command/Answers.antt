@@ -1,5 +1,4 @@
-use Rattle.std.proofs.lemmas.Result.{IfOk-weaker}
-use Rattle.clap.specs.Words.{found_of, rows_of}
+use Rattle.jn_options.proofs.Common.{IfOk-weaker, found_of, rows_of}
 use Rattle.jn_options.proofs.Limits.{if_in_range}
 use Rattle.jn_options.proofs.read.read_command.Goals as goal
 

@@ -1,5 +1,4 @@
-use Rattle.std.proofs.Common.{◌∙◌}
-use Rattle.clap.specs.Words.{found_of}
+use Rattle.jn_options.proofs.Common.{◌∙◌, found_of}
 use Rattle.jn_options.proofs.Found.{if_found}
 use Rattle.jn_options.proofs.read.value_is_among.Goals as goal
 

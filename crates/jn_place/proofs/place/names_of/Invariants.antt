@@ -1,5 +1,4 @@
-use Rattle.std.proofs.Common.{◌≡◌, ◌++◌, drop, map}
-use Rattle.jn_rows.specs.declared.coordinator.Transaction.{Transaction}
+use Rattle.jn_place.proofs.Common.{◌≡◌, ◌++◌, drop, map, Transaction}
 use Rattle.jn_place.proofs.place.names_of.Given as goal
 
 abbrev pub invariant-loop-transaction : goal.invariant-loop-transaction

@@ -1,6 +1,4 @@
-use Rattle.jn_device.specs.Device.{DeviceState}
-use Rattle.jn_store.specs.Store.{StoreView}
-use Rattle.jn_found.proofs.Picking.{same_recoverable}
+use Rattle.jn_place.proofs.Common.{DeviceState, StoreView, same_recoverable}
 use Rattle.jn_place.proofs.Befalling.{same-says}
 use Rattle.jn_place.proofs.place.unpowered.Goals as goal
 

@@ -1,7 +1,5 @@
-use Rattle.std.proofs.Common.{◌≡◌, ◌++◌, drop, map}
-use Rattle.jn_base.specs.declared.device.Outside.{Outside}
+use Rattle.jn_place.proofs.Common.{◌≡◌, ◌++◌, drop, map, Outside, lines_at}
 use Rattle.jn_report.specs.declared.line.Text.TheVariants as says
-use Rattle.jn_place.specs.Exact.{lines_at}
 use Rattle.jn_place.proofs.telling.tell_faults.Given as goal
 
 abbrev pub invariant-loop-fault : goal.invariant-loop-fault

@@ -1,7 +1,4 @@
-use Rattle.std.proofs.Common.{◌≡◌, Option, Some, refl, replicate, sym, ◌∙◌}
-use Rattle.jn_records.specs.Pages.{root_page}
-use Rattle.jn_records.specs.Heads.{head_page}
-use Rattle.jn_records.specs.Records.{record_page}
+use Rattle.jn_records.proofs.Common.{◌≡◌, Option, Some, refl, replicate, sym, ◌∙◌, root_page, head_page, record_page}
 use Rattle.jn_records.proofs.Fields.{value_is}
 use Rattle.jn_records.proofs.Roots.{root_is_read}
 use Rattle.jn_records.proofs.Heads.{head_is_read}

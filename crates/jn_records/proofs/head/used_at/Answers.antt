@@ -1,5 +1,4 @@
-use Rattle.std.proofs.Common.{refl}
-use Rattle.jn_records.specs.Heads.{used_at}
+use Rattle.jn_records.proofs.Common.{refl, used_at}
 use Rattle.jn_records.proofs.head.used_at.Goals as goal
 
 pub returns : goal.returns

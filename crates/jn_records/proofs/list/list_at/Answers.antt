@@ -1,4 +1,4 @@
-use Rattle.jn_records.specs.Reading.{list_at}
+use Rattle.jn_records.proofs.Common.{list_at}
 use Rattle.jn_records.proofs.Lists.{goes_on, ends, is_done}
 use Rattle.jn_records.proofs.list.list_at.Goals as goal
 

@@ -1,5 +1,4 @@
-use Rattle.std.proofs.Common.{◌≡◌, ◌-◌}
-use Rattle.jn_records.specs.Reading.{list_at}
+use Rattle.jn_records.proofs.Common.{◌≡◌, ◌-◌, list_at}
 use Rattle.jn_records.proofs.Lists.{with_front}
 use Rattle.jn_records.proofs.list.list_at.Given as goal
 

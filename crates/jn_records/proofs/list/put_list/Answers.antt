@@ -1,5 +1,4 @@
-use Rattle.std.proofs.Common.{suc, ◌≡◌, ◌++◌, ◌∷◌, List, drop, sym, ap, ◌∙◌, arith, length-append, drop-cons}
-use Rattle.std.specs.Prelude.{flat_map}
+use Rattle.jn_records.proofs.Common.{suc, ◌≡◌, ◌++◌, ◌∷◌, List, drop, sym, ap, ◌∙◌, arith, length-append, drop-cons, flat_map}
 use Rattle.jn_records.proofs.Lists.{next_fits}
 use Rattle.jn_records.proofs.list.put_list.Goals as goal
 

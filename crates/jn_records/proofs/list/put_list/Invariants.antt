@@ -1,5 +1,4 @@
-use Rattle.std.proofs.Common.{◌≡◌, ◌++◌, drop}
-use Rattle.std.specs.Prelude.{flat_map}
+use Rattle.jn_records.proofs.Common.{◌≡◌, ◌++◌, drop, flat_map}
 use Rattle.jn_records.proofs.list.put_list.Given as goal
 
 -- what is put and what is still to be put are all

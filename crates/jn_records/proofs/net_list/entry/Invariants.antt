@@ -1,5 +1,4 @@
-use Rattle.std.proofs.Common.{◌≡◌, drop}
-use Rattle.jn_records.specs.NetLists.{entry}
+use Rattle.jn_records.proofs.Common.{◌≡◌, drop, entry}
 use Rattle.jn_records.proofs.net_list.entry.Given as goal
 
 abbrev pub invariant-loop-intention : goal.invariant-loop-intention

@@ -1,5 +1,4 @@
-use Rattle.std.proofs.Common.{◌≡◌, ◌+◌, drop}
-use Rattle.jn_records.specs.NetEdits.{front}
+use Rattle.jn_records.proofs.Common.{◌≡◌, ◌+◌, drop, front}
 use Rattle.jn_records.proofs.net_list.front.Given as goal
 
 abbrev pub invariant-loop-at : goal.invariant-loop-at

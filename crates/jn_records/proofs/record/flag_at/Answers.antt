@@ -1,5 +1,4 @@
-use Rattle.std.proofs.Common.{refl}
-use Rattle.jn_records.specs.Records.{flag_at}
+use Rattle.jn_records.proofs.Common.{refl, flag_at}
 use Rattle.jn_records.proofs.record.flag_at.Goals as goal
 
 pub returns : goal.returns

@@ -1,5 +1,4 @@
-use Rattle.std.proofs.Common.{refl}
-use Rattle.jn_records.specs.Records.{prepared_at}
+use Rattle.jn_records.proofs.Common.{refl, prepared_at}
 use Rattle.jn_records.proofs.record.prepared_at.Goals as goal
 
 pub returns : goal.returns

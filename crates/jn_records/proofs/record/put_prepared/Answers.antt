@@ -1,7 +1,4 @@
-use Rattle.std.proofs.Common.{◌≡◌, ℕ, length, refl, ap, List, arith}
-use Rattle.byteorder.specs.Endian.{big_bytes}
-use Rattle.jn_base.specs.declared.names.LockUnit.{LockUnit}
-use Rattle.jn_records.specs.Names.{tid_bytes, work_bytes, unit_bytes}
+use Rattle.jn_records.proofs.Common.{◌≡◌, ℕ, length, refl, ap, List, arith, big_bytes, LockUnit, tid_bytes, work_bytes, unit_bytes}
 use Rattle.jn_records.proofs.Lists.{length-fields, grows}
 use Rattle.jn_records.proofs.NamesAgain.{length-unit}
 use Rattle.jn_records.proofs.record.put_prepared.Goals as goal

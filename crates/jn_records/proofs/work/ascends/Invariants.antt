@@ -1,5 +1,4 @@
-use Rattle.std.proofs.Common.{◌≡◌, drop, None}
-use Rattle.jn_records.specs.Records.{ascends}
+use Rattle.jn_records.proofs.Common.{◌≡◌, drop, None, ascends}
 use Rattle.jn_records.proofs.work.ascends.Given as goal
 
 abbrev pub invariant-loop-unit : goal.invariant-loop-unit

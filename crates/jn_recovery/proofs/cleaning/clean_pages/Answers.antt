@@ -1,5 +1,4 @@
-use Rattle.std.proofs.Common.{inl, inr, ⊎_elim, refl, arith}
-use Rattle.jn_found.proofs.HeldLaws.{cleaned_fewer, fewer_trans}
+use Rattle.jn_recovery.proofs.Common.{inl, inr, ⊎_elim, refl, arith, cleaned_fewer, fewer_trans}
 use Rattle.jn_recovery.proofs.CleanPages.{cleans_more, others_more}
 use Rattle.jn_recovery.proofs.cleaning.clean_pages.Goals as goal
 

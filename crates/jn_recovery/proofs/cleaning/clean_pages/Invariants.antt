@@ -1,4 +1,4 @@
-use Rattle.jn_recovery.specs.Cleaning.{Cleans}
+use Rattle.jn_recovery.proofs.Common.{Cleans}
 use Rattle.jn_recovery.proofs.cleaning.clean_pages.Given as goal
 
 abbrev pub invariant-loop-i : goal.invariant-loop-i

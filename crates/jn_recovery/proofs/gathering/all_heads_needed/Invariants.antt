@@ -1,5 +1,4 @@
-use Rattle.std.proofs.Common.{◌≡◌, ◌+◌, drop}
-use Rattle.jn_recovery.specs.Gathering.{all_needed}
+use Rattle.jn_recovery.proofs.Common.{◌≡◌, ◌+◌, drop, all_needed}
 use Rattle.jn_recovery.proofs.gathering.all_heads_needed.Given as goal
 
 abbrev pub invariant-loop-state : goal.invariant-loop-state

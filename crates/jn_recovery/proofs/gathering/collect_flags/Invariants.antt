@@ -1,6 +1,4 @@
-use Rattle.std.proofs.Common.{◌≡◌, ◌++◌, drop}
-use Rattle.jn_recovery.specs.Gathering.{collected, flags_on}
-use Rattle.jn_recovery.specs.Matches.{flag_on}
+use Rattle.jn_recovery.proofs.Common.{◌≡◌, ◌++◌, drop, collected, flags_on, flag_on}
 use Rattle.jn_recovery.proofs.gathering.collect_flags.Given as goal
 
 abbrev pub invariant-loop-slot : goal.invariant-loop-slot

@@ -1,6 +1,4 @@
-use Rattle.std.proofs.Common.{◌+◌, ◌-◌, ◌++◌, ◌∙◌, ap, List, arith, rules}
-use Rattle.jn_found.specs.Contents.{intentions_from}
-use Rattle.jn_records.specs.declared.intention.StoredIntention.{StoredIntention}
+use Rattle.jn_recovery.proofs.Common.{◌+◌, ◌-◌, ◌++◌, ◌∙◌, ap, List, arith, rules, intentions_from, StoredIntention}
 use Rattle.jn_recovery.proofs.Gathered.{list_some, list_none}
 use Rattle.jn_recovery.proofs.gathering.collect_list.Goals as goal
 use Rattle.jn_recovery.proofs.gathering.collect_list.Goals.{in-Some+in_ok-push, in_default}

@@ -1,5 +1,4 @@
-use Rattle.std.proofs.Common.{◌≡◌, ◌++◌, ◌-◌}
-use Rattle.jn_found.specs.Contents.{intentions_from, stored_list}
+use Rattle.jn_recovery.proofs.Common.{◌≡◌, ◌++◌, ◌-◌, intentions_from, stored_list}
 use Rattle.jn_recovery.proofs.gathering.collect_list.Given as goal
 
 abbrev pub invariant-loop-order : goal.invariant-loop-order

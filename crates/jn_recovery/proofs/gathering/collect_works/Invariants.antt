@@ -1,5 +1,4 @@
-use Rattle.std.proofs.Common.{◌≡◌, ◌++◌, drop}
-use Rattle.jn_recovery.specs.Gathering.{collected, state_on, works_on}
+use Rattle.jn_recovery.proofs.Common.{◌≡◌, ◌++◌, drop, collected, state_on, works_on}
 use Rattle.jn_recovery.proofs.gathering.collect_works.Given as goal
 
 abbrev pub invariant-loop-slot : goal.invariant-loop-slot

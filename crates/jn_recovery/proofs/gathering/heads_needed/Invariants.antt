@@ -1,5 +1,4 @@
-use Rattle.std.proofs.Common.{◌≡◌, ◌≤◌, take}
-use Rattle.jn_recovery.specs.Pages.{heads_needed}
+use Rattle.jn_recovery.proofs.Common.{◌≡◌, ◌≤◌, take, heads_needed}
 use Rattle.jn_recovery.proofs.gathering.heads_needed.Given as goal
 
 abbrev pub invariant-loop-intention : goal.invariant-loop-intention

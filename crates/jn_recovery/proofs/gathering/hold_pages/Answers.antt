@@ -1,5 +1,4 @@
-use Rattle.std.proofs.Common.{◌-◌, ◌+◌, ◌<◌, ◌∙◌, sym, subst, length, take, rules}
-use Rattle.jn_recovery.specs.Gathering.{HoldsNamed}
+use Rattle.jn_recovery.proofs.Common.{◌-◌, ◌+◌, ◌<◌, ◌∙◌, sym, subst, length, take, rules, HoldsNamed}
 use Rattle.jn_recovery.proofs.Gathered.{hold_none, hold_some, hold_loose}
 use Rattle.jn_recovery.proofs.gathering.hold_pages.Goals as goal
 use Rattle.jn_recovery.proofs.gathering.hold_pages.Goals.{then-address-gt0, else-address-gt0}

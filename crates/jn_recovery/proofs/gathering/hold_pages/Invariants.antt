@@ -1,5 +1,4 @@
-use Rattle.std.specs.Prelude.{take}
-use Rattle.jn_recovery.specs.Gathering.{HoldsNamed}
+use Rattle.jn_recovery.proofs.Common.{take, HoldsNamed}
 use Rattle.jn_recovery.proofs.gathering.hold_pages.Given as goal
 
 abbrev pub invariant-loop-slot : goal.invariant-loop-slot

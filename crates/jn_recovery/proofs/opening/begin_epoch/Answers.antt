@@ -1,10 +1,4 @@
-use Rattle.std.proofs.Common.{◌≡◌, ◌+◌, true, refl, sym, subst, arith, rules}
-use Rattle.std.specs.Prelude.{is_ok}
-use Rattle.jn_records.specs.Pages.{root_page}
-use Rattle.jn_store.specs.Store.{StorePut}
-use Rattle.jn_recovery.specs.Loading.{counts_by, IsDown, reading_calls}
-use Rattle.jn_recovery.specs.Opening.{next_root, IsBegun}
-use Rattle.jn_recovery.specs.declared.load.DownCause.TheVariants.{Stopped}
+use Rattle.jn_recovery.proofs.Common.{◌≡◌, ◌+◌, true, refl, sym, subst, arith, rules, is_ok, root_page, StorePut, counts_by, IsDown, reading_calls, next_root, IsBegun, Stopped}
 use Rattle.jn_recovery.proofs.Begins.{has_root, put_down, put_stands, erase_down, begun}
 use Rattle.jn_recovery.proofs.Downs.{if_err_is}
 use Rattle.jn_recovery.proofs.CleanPages.{on_ok, on_err}

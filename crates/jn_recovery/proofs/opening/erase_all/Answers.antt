@@ -1,6 +1,4 @@
-use Rattle.std.proofs.Common.{◌≡◌, ◌≤◌, true, false, length, sym, subst, arith, rules}
-use Rattle.std.specs.Prelude.{is_ok}
-use Rattle.jn_recovery.specs.Opening.{Erases}
+use Rattle.jn_recovery.proofs.Common.{◌≡◌, ◌≤◌, true, false, length, sym, subst, arith, rules, is_ok, Erases}
 use Rattle.jn_recovery.proofs.ErasingAll.{not_ok_is, erases_none, erases_more, erases_all, erase_stopped, one_erased, fewer_left, none_left, nothing_left, few_rubbish, on_err_all}
 use Rattle.jn_recovery.proofs.opening.erase_all.Goals as goal
 

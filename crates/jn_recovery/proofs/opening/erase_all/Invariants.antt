@@ -1,10 +1,4 @@
-use Rattle.std.proofs.Common.{ℕ, ◌≤◌, ◌+◌, length, List}
-use Rattle.jn_base.specs.declared.names.ServerNo.{ServerNo}
-use Rattle.jn_found.specs.Standing.{IsStanding}
-use Rattle.jn_records.specs.declared.head.Head.{Head}
-use Rattle.jn_records.specs.StablePages.{Counts}
-use Rattle.jn_recovery.specs.Memory.{rubbish_in}
-use Rattle.jn_recovery.specs.Opening.{Erases}
+use Rattle.jn_recovery.proofs.Common.{ℕ, ◌≤◌, ◌+◌, length, List, ServerNo, IsStanding, Head, Counts, rubbish_in, Erases}
 use Rattle.jn_recovery.proofs.opening.erase_all.Given as goal
 
 -- what is left falls by one each time

@@ -1,10 +1,4 @@
-use Rattle.std.proofs.Common.{◌≡◌, inr, Err, false, refl, sym, ◌∙◌, ap, true≢false, arith, rules}
-use Rattle.std.specs.Prelude.{is_ok}
-use Rattle.jn_found.specs.Pages.{root_by, heads_on, pages_by}
-use Rattle.jn_records.specs.StablePages.{data_place}
-use Rattle.jn_recovery.specs.Causes.{of_sets, of_table}
-use Rattle.jn_recovery.specs.Loading.{counts_by, IsDown}
-use Rattle.jn_recovery.specs.declared.load.DownCause.TheVariants.{Stopped}
+use Rattle.jn_recovery.proofs.Common.{◌≡◌, inr, Err, false, refl, sym, ◌∙◌, ap, true≢false, arith, rules, is_ok, root_by, heads_on, pages_by, data_place, of_sets, of_table, counts_by, IsDown, Stopped}
 use Rattle.jn_recovery.proofs.CleanStore.{root_epoch, root_is, root_only}
 use Rattle.jn_recovery.proofs.Downs.{recovering_fewer, stopped_down, if_err_is}
 use Rattle.jn_recovery.proofs.Openings.{reads_none, root_exit, counts_fit, readable, sets_exit, heads_loadable, table_exit, opened}

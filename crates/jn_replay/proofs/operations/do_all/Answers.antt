@@ -1,5 +1,4 @@
-use Rattle.std.proofs.Common.{◌∙◌}
-use Rattle.jn_replay.specs.Stored.{files_of}
+use Rattle.jn_replay.proofs.Common.{◌∙◌, files_of}
 use Rattle.jn_replay.proofs.Same.{files_then-step}
 use Rattle.jn_replay.proofs.operations.do_all.Goals as goal
 

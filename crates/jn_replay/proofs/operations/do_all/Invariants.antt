@@ -1,6 +1,4 @@
-use Rattle.std.proofs.Common.{◌≡◌, drop}
-use Rattle.jn_replay.specs.Stored.{files_of}
-use Rattle.jn_replay.specs.Operations.{files_then}
+use Rattle.jn_replay.proofs.Common.{◌≡◌, drop, files_of, files_then}
 use Rattle.jn_replay.proofs.operations.do_all.Given as goal
 
 abbrev pub invariant-loop-p : goal.invariant-loop-p

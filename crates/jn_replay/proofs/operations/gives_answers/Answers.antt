@@ -1,5 +1,4 @@
-use Rattle.std.proofs.Common.{refl, ◌∙◌}
-use Rattle.jn_replay.specs.Stored.{files_of}
+use Rattle.jn_replay.proofs.Common.{refl, ◌∙◌, files_of}
 use Rattle.jn_replay.proofs.Same.{files_then-step, GivesAnswers-step, ↔-trans}
 use Rattle.jn_replay.proofs.operations.gives_answers.Goals as goal
 

@@ -1,5 +1,4 @@
-use Rattle.std.proofs.Common.{ap, sym}
-use Rattle.jn_order.specs.Files.{or_else, zeros}
+use Rattle.jn_replay.proofs.Common.{ap, sym, or_else, zeros}
 use Rattle.jn_replay.proofs.StoredLemmas.{block_place, no_block_place}
 use Rattle.jn_replay.proofs.perform.block_of.Goals as goal
 

@@ -1,6 +1,4 @@
-use Rattle.std.proofs.Common.{nat_lt, rules}
-use Rattle.std.proofs.lemmas.Fn.{filter_same}
-use Rattle.jn_replay.specs.declared.files.StoredBlock.{StoredBlock}
+use Rattle.jn_replay.proofs.Common.{nat_lt, rules, filter_same, StoredBlock}
 use Rattle.jn_replay.proofs.perform.keep_below.Goals as goal
 
 pub returns : goal.returns

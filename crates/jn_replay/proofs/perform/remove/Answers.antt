@@ -1,7 +1,4 @@
-use Rattle.std.proofs.Common.{not, rules, arith}
-use Rattle.std.proofs.lemmas.Fn.{filter_same}
-use Rattle.jn_replay.specs.declared.files.StoredFile.{StoredFile}
-use Rattle.jn_replay.specs.Edits.{is_file}
+use Rattle.jn_replay.proofs.Common.{not, rules, arith, filter_same, StoredFile, is_file}
 use Rattle.jn_replay.proofs.StoredLemmas.{no_file_place, some_file_place}
 use Rattle.jn_replay.proofs.DoesLemmas.{remove_absent, remove_there}
 use Rattle.jn_replay.proofs.perform.remove.Goals as goal

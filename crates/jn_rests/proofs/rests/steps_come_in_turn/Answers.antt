@@ -1,6 +1,4 @@
-use Rattle.std.specs.Prelude.{◌⊎◌}
-use Rattle.jn_system.specs.WholeSystem.World.{servers_from}
-use Rattle.jn_rests.specs.Rests.{ComesNext, IsHalt}
+use Rattle.jn_rests.proofs.Common.{◌⊎◌, servers_from, ComesNext, IsHalt}
 use Rattle.jn_rests.proofs.Loops.{in-turn}
 use Rattle.jn_rests.proofs.rests.steps_come_in_turn.Goals as goal
 

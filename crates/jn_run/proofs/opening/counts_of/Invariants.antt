@@ -1,6 +1,4 @@
-use Rattle.std.proofs.Common.{◌≡◌, ◌++◌, map, drop}
-use Rattle.jn_memdisk.specs.declared.disk.MemDisk.{MemDisk}
-use Rattle.jn_recovery.specs.declared.counts.PageCounts.{PageCounts}
+use Rattle.jn_run.proofs.Common.{◌≡◌, ◌++◌, map, drop, MemDisk, PageCounts}
 use Rattle.jn_run.proofs.opening.counts_of.Given as goal
 
 abbrev pub invariant-loop-store : goal.invariant-loop-store

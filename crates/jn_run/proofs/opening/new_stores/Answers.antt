@@ -1,8 +1,4 @@
-use Rattle.std.proofs.Common.{length, ◌∙◌, ◌≡◌, ◌+◌, ℕ, refl, sym, subst, arith}
-use Rattle.std.proofs.lemmas.Grind.{common_steps}
-use Rattle.jn_world.specs.Standing.{AreStores}
-use Rattle.jn_run.specs.Opening.{IsDisk, AreDisks}
-use Rattle.jn_run.specs.Running.{IsStore}
+use Rattle.jn_run.proofs.Common.{length, ◌∙◌, ◌≡◌, ◌+◌, ℕ, refl, sym, subst, arith, common_steps, AreStores, IsDisk, AreDisks, IsStore}
 use Rattle.jn_run.proofs.Stores.{look, one-more-store, one-more-disk}
 use Rattle.jn_run.proofs.opening.new_stores.Goals as goal
 

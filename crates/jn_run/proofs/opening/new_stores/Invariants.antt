@@ -1,6 +1,4 @@
-use Rattle.std.proofs.Common.{◌≡◌, length}
-use Rattle.jn_world.specs.Standing.{AreStores}
-use Rattle.jn_run.specs.Opening.{AreDisks}
+use Rattle.jn_run.proofs.Common.{◌≡◌, length, AreStores, AreDisks}
 use Rattle.jn_run.proofs.Stores.{look}
 use Rattle.jn_run.proofs.opening.new_stores.Given as goal
 

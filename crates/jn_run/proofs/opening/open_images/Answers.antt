@@ -1,6 +1,4 @@
-use Rattle.std.proofs.Common.{◌≡◌, ◌<◌, ◌∙◌, ℕ, List, Option, Vec, ap, length, subst, sym}
-use Rattle.std.specs.declared.alloc.Global.{Global}
-use Rattle.jn_images.specs.Kept.{Has, found_at, image_name}
+use Rattle.jn_run.proofs.Common.{◌≡◌, ◌<◌, ◌∙◌, ℕ, List, Option, Vec, ap, length, subst, sym, Global, Has, found_at, image_name}
 use Rattle.jn_run.proofs.Stores.{look, device, stores-of-images}
 use Rattle.jn_run.proofs.opening.open_images.Goals as goal
 

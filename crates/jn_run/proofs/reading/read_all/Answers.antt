@@ -1,8 +1,5 @@
-use Rattle.std.proofs.Common.{◌≡◌, ◌∙◌, ℕ, ◌<◌, ◌≤◌, length, take, List, Option, Some, None, Ok, Vec, arith, refl, sym, ap, subst}
-use Rattle.std.proofs.lemmas.Grind.{common_steps}
-use Rattle.std.specs.declared.alloc.Global.{Global}
+use Rattle.jn_run.proofs.Common.{◌≡◌, ◌∙◌, ℕ, ◌<◌, ◌≤◌, length, take, List, Option, Some, None, Ok, Vec, arith, refl, sym, ap, subst, common_steps, Global, IsText, most_bytes}
 use Rattle.jn_host.proofs.Reading.{reads_join, reads_end}
-use Rattle.jn_run.specs.Outcome.{IsText, most_bytes}
 use Rattle.jn_run.proofs.reading.read_all.Goals as goal
 
 is_text : (left : Option (List ℕ)) (bytes : List ℕ) → ((all : List ℕ) → left ≡ Some all → bytes ≡ all) → IsText left bytes

@@ -1,4 +1,4 @@
-use Rattle.jn_run.specs.Running.{course_of}
+use Rattle.jn_run.proofs.Common.{course_of}
 use Rattle.jn_run.proofs.Stores.{look, device}
 use Rattle.jn_run.proofs.Told.{start-told}
 use Rattle.jn_run.proofs.running.open_world.Goals as goal

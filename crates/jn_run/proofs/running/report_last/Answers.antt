@@ -1,5 +1,4 @@
-use Rattle.std.proofs.Common.{ap}
-use Rattle.std.specs.Prelude.{is_ok}
+use Rattle.jn_run.proofs.Common.{ap, is_ok}
 use Rattle.jn_run.proofs.Lines.{last-whole}
 use Rattle.jn_run.proofs.running.report_last.Goals as goal
 

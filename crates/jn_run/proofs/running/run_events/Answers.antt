@@ -1,7 +1,4 @@
-use Rattle.std.proofs.Common.{◌≡◌, ◌+◌, ◌++◌, [], List, drop, ap, sym, ◌∙◌, Err, subst, arith}
-use Rattle.std.proofs.lemmas.Result.{err_from_is_err_and}
-use Rattle.jn_schedule.specs.declared.Event.{Event}
-use Rattle.jn_run.specs.Running.{StandsBefore}
+use Rattle.jn_run.proofs.Common.{◌≡◌, ◌+◌, ◌++◌, [], List, drop, ap, sym, ◌∙◌, Err, subst, arith, err_from_is_err_and, Event, StandsBefore}
 use Rattle.jn_run.proofs.Stores.{look, device}
 use Rattle.jn_run.proofs.Told.{next-number, fault-reaches, there-reaches, drop-here, drop-past}
 use Rattle.jn_run.proofs.running.run_events.Goals as goal

@@ -1,8 +1,4 @@
-use Rattle.std.proofs.Common.{◌≡◌, ◌+◌, ◌++◌, List, drop}
-use Rattle.jn_schedule.specs.declared.Event.{Event}
-use Rattle.jn_written.specs.Runs.{Moment}
-use Rattle.jn_world.specs.Standing.{IsWorld}
-use Rattle.jn_run.specs.Running.{Course, HasTold, StandsBefore, ToldTo}
+use Rattle.jn_run.proofs.Common.{◌≡◌, ◌+◌, ◌++◌, List, drop, Event, Moment, IsWorld, Course, HasTold, StandsBefore, ToldTo}
 use Rattle.jn_run.proofs.Stores.{look, device}
 use Rattle.jn_run.proofs.running.run_events.Given as goal
 

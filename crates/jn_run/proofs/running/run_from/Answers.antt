@@ -1,6 +1,4 @@
-use Rattle.std.proofs.Common.{[], ap, sym, ◌∙◌, Err, refl}
-use Rattle.std.proofs.lemmas.Result.{err_from_is_err_and}
-use Rattle.jn_run.specs.Running.{course_of}
+use Rattle.jn_run.proofs.Common.{[], ap, sym, ◌∙◌, Err, refl, err_from_is_err_and, course_of}
 use Rattle.jn_run.proofs.Stores.{look, device}
 use Rattle.jn_run.proofs.Told.{before-all, faulted, none-begun}
 use Rattle.jn_run.proofs.running.run_from.Goals as goal

@@ -1,6 +1,4 @@
-use Rattle.std.proofs.Common.{ap, sym, ◌∙◌, Err, refl}
-use Rattle.std.proofs.lemmas.Result.{err_from_is_err_and}
-use Rattle.jn_run.specs.Running.{course_of}
+use Rattle.jn_run.proofs.Common.{ap, sym, ◌∙◌, Err, refl, err_from_is_err_and, course_of}
 use Rattle.jn_run.proofs.Told.{faulted}
 use Rattle.jn_run.proofs.trial.run_drawn.Goals as goal
 

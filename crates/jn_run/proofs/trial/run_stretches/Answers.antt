@@ -1,8 +1,4 @@
-use Rattle.std.proofs.Common.{List, ap, sym, ◌∙◌, Err, lit<, subst, arith}
-use Rattle.std.proofs.lemmas.Result.{err_from_is_err_and}
-use Rattle.jn_schedule.specs.declared.Event.{Event}
-use Rattle.jn_schedule.specs.Ranges.{EventInRange}
-use Rattle.jn_run.specs.Running.{StandsBefore}
+use Rattle.jn_run.proofs.Common.{List, ap, sym, ◌∙◌, Err, lit<, subst, arith, err_from_is_err_and, Event, EventInRange, StandsBefore}
 use Rattle.jn_run.proofs.Stores.{look, device}
 use Rattle.jn_run.proofs.Stretches.{left-all, stretch-all, stretch-joins, stretch-length, stretch-shorter}
 use Rattle.jn_run.proofs.Told.{drop-past, fault-reaches, out-of-memory, so-many-begun, there-reaches}

@@ -1,9 +1,4 @@
-use Rattle.std.proofs.Common.{◌≡◌, ◌+◌, length}
-use Rattle.std.specs.List.{AllByRecursion}
-use Rattle.jn_schedule.specs.Ranges.{EventInRange}
-use Rattle.jn_written.specs.Runs.{Moment}
-use Rattle.jn_world.specs.Standing.{IsWorld}
-use Rattle.jn_run.specs.Running.{Course, HasTold, StandsBefore, ToldTo}
+use Rattle.jn_run.proofs.Common.{◌≡◌, ◌+◌, length, AllByRecursion, EventInRange, Moment, IsWorld, Course, HasTold, StandsBefore, ToldTo}
 use Rattle.jn_run.proofs.Stores.{look, device}
 use Rattle.jn_run.proofs.trial.run_stretches.Given as goal
 

@@ -1,9 +1,4 @@
-use Rattle.std.proofs.Common.{◌∙◌, Vec, Err, ap, refl, sym}
-use Rattle.std.proofs.lemmas.Result.{err_from_is_err_and}
-use Rattle.std.specs.declared.alloc.Global.{Global}
-use Rattle.jn_memdisk.specs.declared.disk.MemDisk.{MemDisk}
-use Rattle.jn_run.specs.Outcome.{trial_options}
-use Rattle.jn_run.specs.Running.{AreLeft}
+use Rattle.jn_run.proofs.Common.{◌∙◌, Vec, Err, ap, refl, sym, err_from_is_err_and, Global, MemDisk, trial_options, AreLeft}
 use Rattle.jn_run.proofs.Opened.{opened-so}
 use Rattle.jn_run.proofs.Stores.{look, device}
 use Rattle.jn_run.proofs.Summed.{drawn-few, drawn-range, sum-told, fault-told}

@@ -1,6 +1,4 @@
-use Rattle.std.proofs.Common.{◌≡◌, ◌+◌, ◌-◌, ◌≤◌, length, map}
-use Rattle.jn_schedule.specs.Grammar.{event_line, line_of_event, words_of}
-use Rattle.jn_schedule.specs.Reading.{lines_from}
+use Rattle.jn_schedule.proofs.Common.{◌≡◌, ◌+◌, ◌-◌, ◌≤◌, length, map, event_line, line_of_event, words_of, lines_from}
 use Rattle.jn_schedule.proofs.place.line_of_event.Given as goal
 
 abbrev pub invariant-loop-at : goal.invariant-loop-at

@@ -1,9 +1,4 @@
-use Rattle.std.proofs.Common.{◌≡◌, ◌+◌, ◌-◌, ◌++◌, ◌≤◌, ℕ, List, Bool, length, map, take, drop, Ok, Err, ap, sym, ◌∙◌, subst, arith}
-use Rattle.std.proofs.lemmas.List.{length-drop}
-use Rattle.std.proofs.lemmas.Result.{err_from_is_err_and}
-use Rattle.jn_schedule.specs.declared.Event.{Event}
-use Rattle.jn_schedule.specs.Grammar.{word_lines, words_of}
-use Rattle.jn_schedule.specs.Reading.{AddsLine, in_front, read_line, read_lines, texts}
+use Rattle.jn_schedule.proofs.Common.{◌≡◌, ◌+◌, ◌-◌, ◌++◌, ◌≤◌, ℕ, List, Bool, length, map, take, drop, Ok, Err, ap, sym, ◌∙◌, subst, arith, length-drop, err_from_is_err_and, Event, word_lines, words_of, AddsLine, in_front, read_line, read_lines, texts}
 use Rattle.jn_schedule.proofs.Lines.{Keeps, exits, goes_on, is_done, keeps_on, lets_go}
 use Rattle.jn_schedule.proofs.Splits.{lines_done, lines_on}
 use Rattle.jn_schedule.proofs.TextParts.{rest_is}

@@ -1,7 +1,4 @@
-use Rattle.std.proofs.Common.{◌≡◌, ◌+◌, ◌-◌, ◌≤◌, List, length, map}
-use Rattle.jn_schedule.specs.declared.Event.{Event}
-use Rattle.jn_schedule.specs.Grammar.{word_lines, words_of}
-use Rattle.jn_schedule.specs.Reading.{in_front, lines_from, read_lines}
+use Rattle.jn_schedule.proofs.Common.{◌≡◌, ◌+◌, ◌-◌, ◌≤◌, List, length, map, Event, word_lines, words_of, in_front, lines_from, read_lines}
 use Rattle.jn_schedule.proofs.Lines.{Keeps}
 use Rattle.jn_schedule.proofs.schedule.read_text.Given as goal
 

@@ -1,5 +1,4 @@
-use Rattle.std.proofs.Common.{[], ◌∙◌, sym}
-use Rattle.std.proofs.lemmas.List.{length-take-le}
+use Rattle.jn_schedule.proofs.Common.{[], ◌∙◌, sym, length-take-le}
 use Rattle.std.specs.Cmp.Lexicographic.{same_text, other_text}
 use Rattle.jn_schedule.proofs.Blocks.{bytes_none, bytes_some}
 use Rattle.jn_schedule.proofs.HexWords.{not_empty, not_long, some_count, spells_none, spells_some, spells_these}

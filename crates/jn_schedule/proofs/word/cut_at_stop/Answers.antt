@@ -1,6 +1,4 @@
-use Rattle.std.proofs.Common.{◌+◌, ◌≡◌, take, ap, sym, ◌∙◌}
-use Rattle.std.proofs.lemmas.List.{take_all}
-use Rattle.jn_schedule.specs.Reading.{lacks}
+use Rattle.jn_schedule.proofs.Common.{◌+◌, ◌≡◌, take, ap, sym, ◌∙◌, take_all, lacks}
 use Rattle.jn_schedule.proofs.TextParts.{lacks-next, cut-here, cut-none, rest_is}
 use Rattle.jn_schedule.proofs.word.cut_at_stop.Goals as goal
 

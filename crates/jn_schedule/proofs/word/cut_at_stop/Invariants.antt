@@ -1,5 +1,4 @@
-use Rattle.std.proofs.Common.{◌≡◌, true, take}
-use Rattle.jn_schedule.specs.Reading.{lacks}
+use Rattle.jn_schedule.proofs.Common.{◌≡◌, true, take, lacks}
 use Rattle.jn_schedule.proofs.word.cut_at_stop.Given as goal
 
 abbrev pub invariant-loop-i : goal.invariant-loop-i

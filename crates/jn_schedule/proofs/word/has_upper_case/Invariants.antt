@@ -1,6 +1,4 @@
-use Rattle.std.proofs.Common.{◌≡◌, ◌||◌, drop}
-use Rattle.std.specs.Char.{is_ascii_uppercase}
-use Rattle.std.specs.List.{list_any}
+use Rattle.jn_schedule.proofs.Common.{◌≡◌, ◌||◌, drop, is_ascii_uppercase, list_any}
 use Rattle.jn_schedule.proofs.word.has_upper_case.Given as goal
 
 abbrev pub invariant-loop-byte : goal.invariant-loop-byte

@@ -1,5 +1,4 @@
-use Rattle.std.proofs.Common.{◌+◌, inl, inr, ap}
-use Rattle.jn_schedule.specs.Reading.{texts}
+use Rattle.jn_schedule.proofs.Common.{◌+◌, inl, inr, ap, texts}
 use Rattle.jn_schedule.proofs.Splits.{found_first, found_next, line_ends}
 use Rattle.jn_schedule.proofs.TextParts.{rest_is}
 use Rattle.jn_schedule.proofs.words.fill_words.Goals as goal

@@ -1,5 +1,4 @@
-use Rattle.std.proofs.Common.{length, ◌-◌}
-use Rattle.jn_schedule.specs.Reading.{texts}
+use Rattle.jn_schedule.proofs.Common.{length, ◌-◌, texts}
 use Rattle.jn_schedule.proofs.Splits.{Found}
 use Rattle.jn_schedule.proofs.words.fill_words.Given as goal
 

@@ -1,5 +1,4 @@
-use Rattle.std.proofs.Common.{◌+◌, ap, length, arith}
-use Rattle.std.proofs.lemmas.List.{length-drop}
+use Rattle.jn_schedule.proofs.Common.{◌+◌, ap, length, arith, length-drop}
 use Rattle.jn_schedule.proofs.Splits.{lacks_on}
 use Rattle.jn_schedule.proofs.TextParts.{rest_is}
 use Rattle.jn_schedule.proofs.words.word_length.Goals as goal

@@ -1,5 +1,4 @@
-use Rattle.std.proofs.Common.{◌≡◌, ◌≤◌, ◌-◌, true, take, length}
-use Rattle.jn_schedule.specs.Reading.{lacks}
+use Rattle.jn_schedule.proofs.Common.{◌≡◌, ◌≤◌, ◌-◌, true, take, length, lacks}
 use Rattle.jn_schedule.proofs.words.word_length.Given as goal
 
 abbrev pub invariant-loop-end : goal.invariant-loop-end

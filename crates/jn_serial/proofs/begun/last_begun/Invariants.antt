@@ -1,7 +1,4 @@
-use Rattle.std.proofs.Common.{◌≡◌, drop}
-use Rattle.jn_report.specs.declared.line.When.TheVariants.{Event as AtEvent}
-use Rattle.jn_serial.specs.Lines.{lines_before}
-use Rattle.jn_serial.specs.Begun.{begun_then, last_begun}
+use Rattle.jn_serial.proofs.Common.{◌≡◌, drop, AtEvent, lines_before, begun_then, last_begun}
 use Rattle.jn_serial.proofs.begun.last_begun.Given as goal
 
 abbrev pub invariant-loop-line : goal.invariant-loop-line

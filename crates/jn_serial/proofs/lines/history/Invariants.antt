@@ -1,5 +1,4 @@
-use Rattle.std.proofs.Common.{◌≡◌, ◌++◌, drop}
-use Rattle.jn_serial.specs.Lines.{history_of}
+use Rattle.jn_serial.proofs.Common.{◌≡◌, ◌++◌, drop, history_of}
 use Rattle.jn_serial.proofs.lines.history.Given as goal
 
 abbrev pub invariant-loop-line : goal.invariant-loop-line

@@ -1,6 +1,4 @@
-use Rattle.std.proofs.Common.{◌≡◌, ◌++◌, drop}
-use Rattle.jn_report.specs.declared.line.When.TheVariants.{Event as AtEvent}
-use Rattle.jn_serial.specs.Lines.{lines_at}
+use Rattle.jn_serial.proofs.Common.{◌≡◌, ◌++◌, drop, AtEvent, lines_at}
 use Rattle.jn_serial.proofs.lines.lines_at_event.Given as goal
 
 abbrev pub invariant-loop-line : goal.invariant-loop-line

@@ -1,6 +1,4 @@
-use Rattle.std.proofs.Common.{◌∙◌}
-use Rattle.jn_replay.specs.Stored.{files_of}
-use Rattle.jn_replay.proofs.Same.{↔-trans}
+use Rattle.jn_serial.proofs.Common.{◌∙◌, files_of, ↔-trans}
 use Rattle.jn_serial.proofs.Orders.{AgreesFrom-step}
 use Rattle.jn_serial.proofs.order.agrees.Goals as goal
 

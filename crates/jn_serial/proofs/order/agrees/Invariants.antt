@@ -1,6 +1,4 @@
-use Rattle.std.proofs.Common.{◌↔◌, drop}
-use Rattle.jn_replay.specs.Stored.{files_of}
-use Rattle.jn_serial.specs.Order.{Agrees, AgreesFrom}
+use Rattle.jn_serial.proofs.Common.{◌↔◌, drop, files_of, Agrees, AgreesFrom}
 use Rattle.jn_serial.proofs.order.agrees.Given as goal
 
 abbrev pub invariant-loop-t : goal.invariant-loop-t

@@ -1,6 +1,4 @@
-use Rattle.std.proofs.Common.{◌≡◌, drop}
-use Rattle.jn_replay.specs.Stored.{files_of}
-use Rattle.jn_serial.specs.Order.{replay}
+use Rattle.jn_serial.proofs.Common.{◌≡◌, drop, files_of, replay}
 use Rattle.jn_serial.proofs.order.replay.Given as goal
 
 abbrev pub invariant-loop-t : goal.invariant-loop-t

@@ -1,5 +1,4 @@
-use Rattle.std.proofs.Common.{◌↔◌, [], drop}
-use Rattle.jn_serial.specs.Told.{NamesBefore}
+use Rattle.jn_serial.proofs.Common.{◌↔◌, [], drop, NamesBefore}
 use Rattle.jn_serial.proofs.outcomes.names_before.Given as goal
 
 abbrev pub invariant-loop-line : goal.invariant-loop-line

@@ -1,5 +1,4 @@
-use Rattle.std.proofs.Common.{◌↔◌, drop}
-use Rattle.jn_serial.specs.Told.{NamesNone}
+use Rattle.jn_serial.proofs.Common.{◌↔◌, drop, NamesNone}
 use Rattle.jn_serial.proofs.outcomes.names_none.Given as goal
 
 abbrev pub invariant-loop-line : goal.invariant-loop-line

@@ -1,5 +1,4 @@
-use Rattle.std.proofs.Common.{◌↔◌, drop}
-use Rattle.jn_serial.specs.Told.{NamesOnce}
+use Rattle.jn_serial.proofs.Common.{◌↔◌, drop, NamesOnce}
 use Rattle.jn_serial.proofs.outcomes.names_once.Given as goal
 
 abbrev pub invariant-loop-i : goal.invariant-loop-i

@@ -1,5 +1,4 @@
-use Rattle.std.proofs.Common.{◌≡◌, drop}
-use Rattle.jn_serial.specs.Order.{first_told}
+use Rattle.jn_serial.proofs.Common.{◌≡◌, drop, first_told}
 use Rattle.jn_serial.proofs.transactions.first_told.Given as goal
 
 abbrev pub invariant-loop-line : goal.invariant-loop-line

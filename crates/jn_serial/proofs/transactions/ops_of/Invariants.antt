@@ -1,5 +1,4 @@
-use Rattle.std.proofs.Common.{◌≡◌, ◌+◌, ◌++◌, drop}
-use Rattle.jn_serial.specs.Order.{ops_from, ops_of}
+use Rattle.jn_serial.proofs.Common.{◌≡◌, ◌+◌, ◌++◌, drop, ops_from, ops_of}
 use Rattle.jn_serial.proofs.transactions.ops_of.Given as goal
 
 abbrev pub invariant-loop-i : goal.invariant-loop-i

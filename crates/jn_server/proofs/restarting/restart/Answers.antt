@@ -1,8 +1,4 @@
-use Rattle.std.proofs.Common.{ap, subst, sym}
-use Rattle.jn_recovery.specs.Loading.{counts_by}
-use Rattle.jn_recovery.specs.Memory.{view_of}
-use Rattle.jn_store.specs.Store.{StoreView}
-use Rattle.jn_server.specs.Restarting.{IsRestarted, IsNotRestarted}
+use Rattle.jn_server.proofs.Common.{ap, subst, sym, counts_by, view_of, StoreView, IsRestarted, IsNotRestarted}
 use Rattle.jn_server.proofs.Restarted.{restarted, not_restarted, no_tables}
 use Rattle.jn_server.proofs.restarting.restart.Goals as goal
 

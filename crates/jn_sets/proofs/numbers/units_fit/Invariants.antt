@@ -1,6 +1,4 @@
-use Rattle.std.proofs.Common.{drop}
-use Rattle.std.specs.List.{AllByRecursion}
-use Rattle.jn_records.specs.Records.{UnitFits}
+use Rattle.jn_sets.proofs.Common.{drop, AllByRecursion, UnitFits}
 use Rattle.jn_sets.proofs.numbers.units_fit.Given as goal
 
 -- all fit where the others do

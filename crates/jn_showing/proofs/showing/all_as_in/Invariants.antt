@@ -1,6 +1,4 @@
-use Rattle.std.proofs.Common.{◌↔◌, drop}
-use Rattle.jn_replay.specs.Stored.{registers}
-use Rattle.jn_serial.specs.Shown.{AllAsIn}
+use Rattle.jn_showing.proofs.Common.{◌↔◌, drop, registers, AllAsIn}
 use Rattle.jn_showing.proofs.showing.all_as_in.Given as goal
 
 abbrev pub invariant-loop-line : goal.invariant-loop-line

@@ -1,8 +1,4 @@
-use Rattle.std.proofs.Common.{sym, ap, ◌∙◌}
-use Rattle.std.specs.Prelude.{option_and_then}
-use Rattle.jn_replay.specs.declared.files.StoredFile.{StoredFile}
-use Rattle.jn_replay.specs.Stored.{stored_block}
-use Rattle.jn_replay.proofs.StoredLemmas.{file_place, no_file_place}
+use Rattle.jn_showing.proofs.Common.{sym, ap, ◌∙◌, option_and_then, StoredFile, stored_block, file_place, no_file_place}
 use Rattle.jn_showing.proofs.showing.block_at.Goals as goal
 
 pub returns-in-Some : goal.returns-in-Some

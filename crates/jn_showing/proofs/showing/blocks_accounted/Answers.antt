@@ -1,6 +1,4 @@
-use Rattle.std.proofs.Common.{sym, ap, ◌∙◌}
-use Rattle.jn_showing.specs.Accounts.{blocks_accounted}
-use Rattle.jn_replay.proofs.StoredLemmas.{file_place, no_file_place}
+use Rattle.jn_showing.proofs.Common.{sym, ap, ◌∙◌, blocks_accounted, file_place, no_file_place}
 use Rattle.jn_showing.proofs.showing.blocks_accounted.Goals as goal
 
 pub returns-in-Some : goal.returns-in-Some

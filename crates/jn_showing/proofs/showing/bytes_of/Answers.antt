@@ -1,5 +1,4 @@
-use Rattle.std.proofs.Common.{sym}
-use Rattle.jn_replay.proofs.StoredLemmas.{block_place, no_block_place}
+use Rattle.jn_showing.proofs.Common.{sym, block_place, no_block_place}
 use Rattle.jn_showing.proofs.showing.bytes_of.Goals as goal
 
 pub returns-in-Some : goal.returns-in-Some

@@ -1,5 +1,4 @@
-use Rattle.std.proofs.Common.{◌∙◌, ap}
-use Rattle.std.specs.Prelude.{is_some}
+use Rattle.jn_showing.proofs.Common.{◌∙◌, ap, is_some}
 use Rattle.jn_showing.proofs.ShownLemmas.{file_there}
 use Rattle.jn_showing.proofs.showing.is_file_there.Goals as goal
 

@@ -1,6 +1,4 @@
-use Rattle.std.proofs.Common.{sym, ◌∙◌}
-use Rattle.std.proofs.lemmas.Bool.{false≢true}
-use Rattle.jn_replay.specs.Stored.{files_of}
+use Rattle.jn_showing.proofs.Common.{sym, ◌∙◌, false≢true, files_of}
 use Rattle.jn_showing.proofs.ShownLemmas.{shown_where}
 use Rattle.jn_showing.proofs.showing.shown.Goals as goal
 

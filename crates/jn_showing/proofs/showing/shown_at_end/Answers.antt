@@ -1,6 +1,4 @@
-use Rattle.std.proofs.Common.{◌∙◌}
-use Rattle.jn_replay.specs.Stored.{files_of}
-use Rattle.jn_replay.proofs.Same.{↔-trans}
+use Rattle.jn_showing.proofs.Common.{◌∙◌, files_of, ↔-trans}
 use Rattle.jn_showing.proofs.ShownLemmas.{end_where}
 use Rattle.jn_showing.proofs.showing.shown_at_end.Goals as goal
 

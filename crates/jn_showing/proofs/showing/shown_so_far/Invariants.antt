@@ -1,6 +1,4 @@
-use Rattle.std.proofs.Common.{◌↔◌, ◌+◌, drop}
-use Rattle.jn_replay.specs.Stored.{files_of}
-use Rattle.jn_showing.specs.Accounts.{ShowsFrom}
+use Rattle.jn_showing.proofs.Common.{◌↔◌, ◌+◌, drop, files_of, ShowsFrom}
 use Rattle.jn_showing.proofs.showing.shown_so_far.Given as goal
 
 abbrev pub invariant-loop-i : goal.invariant-loop-i

@@ -1,8 +1,4 @@
-use Rattle.std.proofs.Common.{sym, subst, IsTrue, ◌↔◌, ◌∙◌, Bool}
-use Rattle.std.proofs.lemmas.Bool.{false≢true}
-use Rattle.jn_base.specs.declared.names.ServerNo.{ServerNo}
-use Rattle.jn_replay.specs.Stored.{registers}
-use Rattle.jn_serial.specs.Shown.{ShowsFiles}
+use Rattle.jn_showing.proofs.Common.{sym, subst, IsTrue, ◌↔◌, ◌∙◌, Bool, false≢true, ServerNo, registers, ShowsFiles}
 use Rattle.jn_showing.proofs.ShownLemmas.{shows_everywhere, shows_nowhere}
 use Rattle.jn_showing.proofs.showing.shows_all.Goals as goal
 

@@ -1,6 +1,4 @@
-use Rattle.std.proofs.Common.{sym, subst, IsTrue, ◌↔◌, Bool}
-use Rattle.jn_replay.specs.Stored.{registers}
-use Rattle.jn_serial.specs.Shown.{ShowsFiles}
+use Rattle.jn_showing.proofs.Common.{sym, subst, IsTrue, ◌↔◌, Bool, registers, ShowsFiles}
 use Rattle.jn_showing.proofs.ShownLemmas.{shows_where}
 use Rattle.jn_showing.proofs.showing.shows_files.Goals as goal
 

@@ -1,8 +1,4 @@
-use Rattle.std.proofs.Common.{sym, ap, ◌∙◌}
-use Rattle.jn_serial.specs.Lines.{says}
-use Rattle.jn_serial.specs.Shown.{is_no_show}
-use Rattle.jn_replay.specs.Stored.{files_of}
-use Rattle.jn_replay.proofs.Same.{↔-trans}
+use Rattle.jn_showing.proofs.Common.{sym, ap, ◌∙◌, says, is_no_show, files_of, ↔-trans}
 use Rattle.jn_showing.proofs.ShownLemmas.{server_where, no_show_where}
 use Rattle.jn_showing.proofs.showing.shows_server.Goals as goal
 

@@ -1,5 +1,4 @@
-use Rattle.std.proofs.Common.{refl}
-use Rattle.jn_written.specs.Tasks.{Begins}
+use Rattle.jn_stands.proofs.Common.{refl, Begins}
 use Rattle.jn_stands.proofs.Numbered.{same-when, next-number}
 use Rattle.jn_stands.proofs.tasks.the_event_under_way_stays.Goals as goal
 

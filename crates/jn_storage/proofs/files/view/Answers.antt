@@ -1,7 +1,4 @@
-use Rattle.std.proofs.Common.{sym, ◌∙◌, ap}
-use Rattle.std.specs.Prelude.{is_some}
-use Rattle.jn_base.specs.declared.names.LockUnit.TheVariants.{File}
-use Rattle.jn_storage.specs.Calls.{state}
+use Rattle.jn_storage.proofs.Common.{sym, ◌∙◌, ap, is_some, File, state}
 use Rattle.jn_storage.proofs.Seen.{viewed-stopped, viewed-without, viewed-found}
 use Rattle.jn_storage.proofs.files.view.Goals as goal
 

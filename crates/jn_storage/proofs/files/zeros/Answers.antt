@@ -1,5 +1,4 @@
-use Rattle.std.proofs.Common.{refl}
-use Rattle.jn_order.specs.Files.{zeros}
+use Rattle.jn_storage.proofs.Common.{refl, zeros}
 use Rattle.jn_storage.proofs.files.zeros.Goals as goal
 
 pub returns : goal.returns

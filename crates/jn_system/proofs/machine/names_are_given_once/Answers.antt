@@ -1,4 +1,4 @@
-use Rattle.jn_system.specs.SmallSteps.Steps.{run, opening_world}
+use Rattle.jn_system.proofs.Common.{run, opening_world}
 use Rattle.jn_system.proofs.SmallSteps.NameLemmas.{fresh_work, fresh_tid}
 use Rattle.jn_system.proofs.SmallSteps.Runs.{run_kept, opening_kept}
 use Rattle.jn_system.proofs.machine.names_are_given_once.Goals as goal

@@ -1,6 +1,5 @@
-use Rattle.jn_system.specs.WholeSystem.World.{opening}
+use Rattle.jn_system_order.proofs.Common.{opening, run-keeps, opening-keeps}
 use Rattle.jn_system.specs.WholeSystem.Steps.{run}
-use Rattle.jn_system.proofs.WholeSystem.Steps.{run-keeps, opening-keeps}
 use Rattle.jn_system_order.proofs.Mirroring.StepMoves.{step-moves, opening-mirrors}
 use Rattle.jn_system_order.proofs.moves.steps_are_moves.Goals as goal
 

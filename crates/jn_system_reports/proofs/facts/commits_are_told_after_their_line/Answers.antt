@@ -1,5 +1,4 @@
-use Rattle.jn_system.specs.WholeSystem.World.{opening}
-use Rattle.jn_system.specs.WholeSystem.Steps.{run}
+use Rattle.jn_system_reports.proofs.Common.{opening, run}
 use Rattle.jn_system_reports.proofs.BetweenSteps.Standing.{stand}
 use Rattle.jn_system_reports.proofs.BetweenSteps.Laws.{told-after}
 use Rattle.jn_system_reports.proofs.facts.commits_are_told_after_their_line.Goals as goal

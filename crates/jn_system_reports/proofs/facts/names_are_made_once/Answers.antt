@@ -1,5 +1,4 @@
-use Rattle.jn_system.specs.WholeSystem.World.{opening}
-use Rattle.jn_system.specs.WholeSystem.Steps.{run}
+use Rattle.jn_system_reports.proofs.Common.{opening, run}
 use Rattle.jn_system_reports.proofs.BetweenSteps.Standing.{stand}
 use Rattle.jn_system_reports.proofs.BetweenSteps.Laws.{made-once}
 use Rattle.jn_system_reports.proofs.facts.names_are_made_once.Goals as goal

@@ -1,5 +1,4 @@
-use Rattle.jn_system.specs.WholeSystem.World.{opening}
-use Rattle.jn_system.specs.WholeSystem.Steps.{run}
+use Rattle.jn_system_reports.proofs.Common.{opening, run}
 use Rattle.jn_system_reports.proofs.BetweenSteps.Standing.{stand, run-stands}
 use Rattle.jn_system_reports.proofs.BetweenSteps.Laws.{works-stay, as-prepared, reads-kept}
 use Rattle.jn_system_reports.proofs.facts.works_of_commits_stay.Goals as goal

@@ -1,15 +1,4 @@
-use Rattle.std.proofs.Common.{◌≡◌, Bool, true, false, [], ◌∷◌, Some, None, is_some, refl}
-use Rattle.std.specs.Prelude.{if◌then◌else◌, ◌||◌}
-use Rattle.jn_base.specs.declared.names.FileNo.{FileNo}
-use Rattle.jn_base.specs.declared.names.LockUnit.TheVariants.{File}
-use Rattle.jn_base.specs.Names.{file_eq}
-use Rattle.jn_system.specs.WholeSystem.World.{World}
-use Rattle.jn_system.specs.WholeSystem.Steps.{NextEvent, after}
-use Rattle.jn_system.specs.WholeSystem.Example.{the_server, the_file, the_transaction, start}
-use Rattle.jn_system.specs.WholeSystem.Printing.{FileThere, UnitLocked, print_unit}
-use Rattle.jn_system_reports.specs.Reporting.Printing.{IsPrinted}
-use Rattle.jn_system_reports.specs.Reporting.Reported.{world_of, after_item}
-use Rattle.jn_system_reports.specs.Showing.Example.{a_commit_is_named, carried_out, shown}
+use Rattle.jn_system_reports.proofs.Common.{◌≡◌, Bool, true, false, [], ◌∷◌, Some, None, is_some, refl, if◌then◌else◌, ◌||◌, FileNo, File, file_eq, World, NextEvent, after, the_server, the_file, the_transaction, start, FileThere, UnitLocked, print_unit, IsPrinted, world_of, after_item, a_commit_is_named, carried_out, shown}
 use Rattle.jn_system_reports.proofs.Showing.Examples.{memory_in, is-up, once_there, no_block}
 use Rattle.jn_system_reports.proofs.shown.a_file_is_shown_after_it_is_locked.Goals as goal
 

@@ -1,16 +1,4 @@
-use Rattle.std.proofs.Common.{[], ◌∷◌, Some, None, refl, arith}
-use Rattle.jn_base.specs.Names.{tid_eq, work_eq, file_eq}
-use Rattle.jn_base.proofs.Tells.{work_tells, tid_tells}
-use Rattle.jn_locks.specs.Locks.{work_before}
-use Rattle.jn_rows.specs.Stable.{Prepared, FlagState, at_work, at_tid}
-use Rattle.jn_system.specs.WholeSystem.World.{World}
-use Rattle.jn_system.specs.WholeSystem.Steps.{AreNames, tid_before}
-use Rattle.jn_system.specs.WholeSystem.Example.{the_server, the_file, the_transaction, the_work, start}
-use Rattle.jn_system.specs.WholeSystem.Printing.{FileThere}
-use Rattle.jn_system_reports.specs.Reporting.Printing.{IsPrinted}
-use Rattle.jn_system_reports.specs.Reporting.Reported.{world_of, IsReported}
-use Rattle.jn_system_reports.specs.Reporting.Ending.{world_at_end, IsEnding}
-use Rattle.jn_system_reports.specs.Showing.Example.{a_commit_is_named, an_end}
+use Rattle.jn_system_reports.proofs.Common.{[], ◌∷◌, Some, None, refl, arith, tid_eq, work_eq, file_eq, work_tells, tid_tells, work_before, Prepared, FlagState, at_work, at_tid, World, AreNames, tid_before, the_server, the_file, the_transaction, the_work, start, FileThere, IsPrinted, world_of, IsReported, world_at_end, IsEnding, a_commit_is_named, an_end}
 use Rattle.jn_system_reports.proofs.Showing.Examples.{memory_in, is-up, once_there, no_block}
 use Rattle.jn_system_reports.proofs.shown.a_run_ends.Goals as goal
 

@@ -1,5 +1,4 @@
-use Rattle.std.proofs.Common.{◌≡◌, Some, None, refl}
-use Rattle.jn_system.specs.WholeSystem.Example.{the_server, the_file}
+use Rattle.jn_system_reports.proofs.Common.{◌≡◌, Some, None, refl, the_server, the_file}
 use Rattle.jn_system_reports.proofs.shown.shows_need_locks.Goals as goal
 
 none : {A : Type 0} {a : A} → Some a ≡ None → ⊥

@@ -1,10 +1,5 @@
-use Rattle.std.proofs.Common.{◌≡◌, false, Option, None, Some, sym, ◌∙◌, arith}
-use Rattle.jn_base.specs.declared.names.WorkId.{WorkId}
-use Rattle.jn_base.specs.declared.names.LockUnit.TheVariants.{File}
+use Rattle.jn_system_reports.proofs.Common.{◌≡◌, false, Option, None, Some, sym, ◌∙◌, arith, WorkId, File, work_tells, Prepared, at_work, the_server, the_file, the_work}
 use Rattle.jn_base.specs.declared.op.Answer.TheVariants.{Did, NoFile}
-use Rattle.jn_base.proofs.Tells.{work_tells}
-use Rattle.jn_rows.specs.Stable.{Prepared, at_work}
-use Rattle.jn_system.specs.WholeSystem.Example.{the_server, the_file, the_work}
 use Rattle.jn_system_reports.proofs.talk.wrong_rows_tell_otherwise.Goals as goal
 
 apart : NoFile ≡ Did → ⊥

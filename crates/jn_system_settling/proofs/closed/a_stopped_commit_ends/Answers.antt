@@ -1,9 +1,4 @@
-use Rattle.std.proofs.Common.{[], ◌∷◌, Some, None, refl, arith}
-use Rattle.jn_base.specs.Names.{tid_eq, work_eq}
-use Rattle.jn_base.proofs.Tells.{work_tells, tid_tells}
-use Rattle.jn_locks.specs.Locks.{work_before}
-use Rattle.jn_rows.specs.Stable.{Prepared, FlagState, at_work, at_tid}
-use Rattle.jn_system.specs.WholeSystem.Steps.{AreNames, tid_before}
+use Rattle.jn_system_settling.proofs.Common.{[], ◌∷◌, Some, None, refl, arith, tid_eq, work_eq, work_tells, tid_tells, work_before, Prepared, FlagState, at_work, at_tid, AreNames, tid_before}
 use Rattle.jn_system.specs.WholeSystem.Example.{the_transaction, the_work}
 use Rattle.jn_system_settling.proofs.closed.a_stopped_commit_ends.Goals as goal
 

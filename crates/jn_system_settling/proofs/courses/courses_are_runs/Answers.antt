@@ -1,4 +1,4 @@
-use Rattle.jn_system_settling.specs.Settling.Course.{opening_course}
+use Rattle.jn_system_settling.proofs.Common.{opening_course}
 use Rattle.jn_system_settling.proofs.Settling.Settling.{on-world, course-is}
 use Rattle.jn_system_settling.proofs.courses.courses_are_runs.Goals as goal
 

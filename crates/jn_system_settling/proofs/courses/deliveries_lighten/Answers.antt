@@ -1,5 +1,4 @@
-use Rattle.jn_system.specs.WholeSystem.World.{opening}
-use Rattle.jn_system_settling.specs.Settling.Course.{opening_course, go_on}
+use Rattle.jn_system_settling.proofs.Common.{opening, opening_course, go_on}
 use Rattle.jn_system_settling.proofs.Settling.Parts.{next-lightens}
 use Rattle.jn_system_settling.proofs.Settling.Settling.{course-sound}
 use Rattle.jn_system_settling.proofs.courses.deliveries_lighten.Goals as goal

@@ -1,6 +1,4 @@
-use Rattle.std.proofs.Common.{[]}
-use Rattle.jn_system.specs.WholeSystem.World.{opening}
-use Rattle.jn_system_settling.specs.Settling.Course.{opening_course}
+use Rattle.jn_system_settling.proofs.Common.{[], opening, opening_course}
 use Rattle.jn_system_settling.proofs.Settling.Settling.{opening-sound, event-sound}
 use Rattle.jn_system_settling.proofs.courses.events_are_runs.Goals as goal
 

@@ -1,9 +1,4 @@
-use Rattle.std.proofs.Common.{◌≡◌, ◌⊎◌, inl, inr, ℕ, true, None, true≢false, refl, sym, arith}
-use Rattle.std.specs.List.{list_any}
-use Rattle.jn_base.specs.declared.names.ServerNo.{ServerNo}
-use Rattle.jn_order.specs.Files.{AllFiles}
-use Rattle.jn_rows.specs.Worker.{new_work}
-use Rattle.jn_system_settling.specs.AtRest.Settled.{holds_undecided, tells_outcome, told_since, live_at}
+use Rattle.jn_system_settling.proofs.Common.{◌≡◌, ◌⊎◌, inl, inr, ℕ, true, None, true≢false, refl, sym, arith, list_any, ServerNo, AllFiles, new_work, holds_undecided, tells_outcome, told_since, live_at}
 use Rattle.jn_system_settling.specs.AtRest.Example.{first_work, no_one's, forgotten_work}
 use Rattle.jn_system_settling.proofs.settled.a_forgotten_work_is_not_settled.Goals as goal
 

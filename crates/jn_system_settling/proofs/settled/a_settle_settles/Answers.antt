@@ -1,4 +1,4 @@
-use Rattle.jn_system_settling.specs.Settling.Course.{opening_course, go_on}
+use Rattle.jn_system_settling.proofs.Common.{opening_course, go_on}
 use Rattle.jn_system_settling.proofs.AtRest.Settling.{course-talking}
 use Rattle.jn_system_settling.proofs.AtRest.Decided.{settle-settles}
 use Rattle.jn_system_settling.proofs.settled.a_settle_settles.Goals as goal

@@ -1,4 +1,4 @@
-use Rattle.jn_system.specs.WholeSystem.World.{opening}
+use Rattle.jn_within.proofs.Common.{opening}
 use Rattle.jn_within.proofs.WorldNumbers.{run-covered, opening-covered}
 use Rattle.jn_within.proofs.runs.names_are_fewer_than_messages.Goals as goal
 

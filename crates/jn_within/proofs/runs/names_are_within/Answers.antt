@@ -1,5 +1,4 @@
-use Rattle.jn_system.specs.WholeSystem.World.{opening}
-use Rattle.jn_system.specs.WholeSystem.Steps.{run}
+use Rattle.jn_within.proofs.Common.{opening, run}
 use Rattle.jn_within.proofs.WorldSteps.{run-within, opening-within, sent-near}
 use Rattle.jn_within.proofs.runs.names_are_within.Goals as goal
 

@@ -1,4 +1,4 @@
-use Rattle.jn_system.specs.WholeSystem.Servers.{server_row, server_again}
+use Rattle.jn_within.proofs.Common.{server_row, server_again}
 use Rattle.jn_within.proofs.Taking.{servers-taken}
 use Rattle.jn_within.proofs.ServerRows.{row-requests, step-requests, again-requests}
 use Rattle.jn_within.proofs.servers.what_a_server_sends_can_be_taken.Goals as goal

@@ -1,9 +1,4 @@
-use Rattle.std.proofs.Common.{◌+◌, List, length, ap, subst, sym, arith}
-use Rattle.std.proofs.lemmas.List.Elements.{All-nil, All-push}
-use Rattle.std.specs.Prelude.{All}
-use Rattle.jn_rows.specs.Client.{ClientTable}
-use Rattle.jn_world.specs.Opening.{AreNew}
-use Rattle.jn_world.specs.Standing.{IsClientOf}
+use Rattle.jn_world.proofs.Common.{◌+◌, List, length, ap, subst, sym, arith, All-nil, All-push, All, ClientTable, AreNew, IsClientOf}
 use Rattle.jn_world.proofs.Pushed.{new-more, new-none}
 use Rattle.jn_world.proofs.Places.{new-client}
 use Rattle.jn_world.proofs.clients.new_clients.Goals as goal

@@ -1,7 +1,4 @@
-use Rattle.std.proofs.Common.{◌≡◌, vec_len}
-use Rattle.std.specs.Prelude.{All}
-use Rattle.jn_world.specs.Opening.{AreNew}
-use Rattle.jn_world.specs.Standing.{IsClientOf}
+use Rattle.jn_world.proofs.Common.{◌≡◌, vec_len, All, AreNew, IsClientOf}
 use Rattle.jn_world.proofs.clients.new_clients.Given as goal
 
 abbrev pub invariant-loop-c : goal.invariant-loop-c

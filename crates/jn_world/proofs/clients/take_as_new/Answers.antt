@@ -1,6 +1,4 @@
-use Rattle.std.proofs.Common.{ap, ◌∙◌}
-use Rattle.jn_rows.specs.declared.client.Taken.{Taken}
-use Rattle.jn_rows.specs.Client.{ClientTable, take_row}
+use Rattle.jn_world.proofs.Common.{ap, ◌∙◌, Taken, ClientTable, take_row}
 use Rattle.jn_world.proofs.Places.{new-taken}
 use Rattle.jn_world.proofs.clients.take_as_new.Goals as goal
 

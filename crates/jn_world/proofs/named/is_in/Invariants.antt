@@ -1,6 +1,4 @@
-use Rattle.std.proofs.Common.{◌≡◌, ◌≤◌, length}
-use Rattle.std.specs.Prelude.{take}
-use Rattle.jn_world.specs.Naming.{is_among}
+use Rattle.jn_world.proofs.Common.{◌≡◌, ◌≤◌, length, take, is_among}
 use Rattle.jn_world.proofs.named.is_in.Given as goal
 
 abbrev pub invariant-loop-left : goal.invariant-loop-left

@@ -1,7 +1,4 @@
-use Rattle.std.proofs.Common.{◌≡◌, ◌++◌, map}
-use Rattle.std.specs.Prelude.{drop}
-use Rattle.jn_stands.specs.Showing.{text_shown}
-use Rattle.jn_written.specs.Steps.{lines_at}
+use Rattle.jn_world.proofs.Common.{◌≡◌, ◌++◌, map, drop, text_shown, lines_at}
 use Rattle.jn_world.proofs.serving.tell_shown.Given as goal
 
 abbrev pub invariant-loop-shown : goal.invariant-loop-shown

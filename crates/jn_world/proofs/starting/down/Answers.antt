@@ -1,20 +1,5 @@
-use Rattle.std.proofs.Common.{ℕ, ◌+◌, ◌∷◌, [], ◌++◌, length, List, sym, subst, ◌∙◌, ap, arith}
-use Rattle.jn_base.specs.declared.names.Tid.{Tid}
-use Rattle.jn_device.specs.Device.{DeviceState}
-use Rattle.jn_recovery.specs.declared.counts.PageCounts.{PageCounts}
-use Rattle.jn_world.specs.declared.world.World.{World}
-use Rattle.jn_world.specs.Naming.{is_among}
-use Rattle.jn_world.specs.Opening.{AreNew, StandFor}
-use Rattle.jn_world.specs.Written.{standing_of}
+use Rattle.jn_world.proofs.Common.{ℕ, ◌+◌, ◌∷◌, [], ◌++◌, length, List, sym, subst, ◌∙◌, ap, arith, Tid, DeviceState, PageCounts, World, is_among, AreNew, StandFor, standing_of, YieldsList-from_vec, YieldsList-turn, YieldsList-end, length_push, Carried, StoreView, Place, Down, ArePlaces}
 use Rattle.jn_world.proofs.Pushed.{stand-more, opens, yielded-all}
-use Rattle.std.proofs.lemmas.Iterator.Adapters.{YieldsList-from_vec}
-use Rattle.std.proofs.lemmas.Iterator.Consumers.{YieldsList-turn, YieldsList-end}
-use Rattle.std.proofs.lemmas.List.{length_push}
-use Rattle.jn_net.specs.Carried.{Carried}
-use Rattle.jn_store.specs.Store.{StoreView}
-use Rattle.jn_place.specs.declared.place.Place.{Place}
-use Rattle.jn_place.specs.declared.place.Slot.TheVariants.{Down}
-use Rattle.jn_world.specs.Standing.{ArePlaces}
 use Rattle.jn_world.proofs.Places.{store-place, places-push, start-world}
 use Rattle.jn_world.proofs.Calm.{stand-down}
 use Rattle.jn_world.proofs.starting.down.Goals as goal

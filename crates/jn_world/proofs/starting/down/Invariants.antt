@@ -1,6 +1,4 @@
-use Rattle.std.proofs.Common.{◌≡◌, length}
-use Rattle.jn_world.specs.Opening.{StandFor}
-use Rattle.jn_world.specs.Standing.{ArePlaces}
+use Rattle.jn_world.proofs.Common.{◌≡◌, length, StandFor, ArePlaces}
 use Rattle.jn_world.proofs.starting.down.Given as goal
 
 abbrev pub invariant-loop-store : goal.invariant-loop-store

@@ -1,7 +1,4 @@
-use Rattle.std.proofs.Common.{ℕ}
-use Rattle.jn_device.specs.Device.{DeviceState}
-use Rattle.jn_store.specs.Store.{StoreView}
-use Rattle.jn_world.specs.Written.{standing_of}
+use Rattle.jn_world.proofs.Common.{ℕ, DeviceState, StoreView, standing_of}
 use Rattle.jn_world.proofs.Finishing.{starts-at, starts-not, starts-without}
 use Rattle.jn_world.proofs.starting.start.Goals as goal
 

@@ -1,5 +1,4 @@
-use Rattle.std.proofs.Common.{refl}
-use Rattle.jn_written.specs.Whole.{closed_world, before}
+use Rattle.jn_written.proofs.Common.{refl, closed_world, before}
 use Rattle.jn_written.proofs.Coursed.{on-course}
 use Rattle.jn_written.proofs.devices.steps_are_a_run_of_the_system.Goals as goal
 

@@ -1,4 +1,4 @@
-use Rattle.jn_written.specs.Runs.{Moment, DoesStep}
+use Rattle.jn_written.proofs.Common.{Moment, DoesStep}
 use Rattle.jn_written.proofs.Computed.{join}
 use Rattle.jn_written.proofs.devices.steps_follow_steps.Goals as goal
 

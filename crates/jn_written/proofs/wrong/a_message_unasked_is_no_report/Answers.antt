@@ -1,5 +1,4 @@
-use Rattle.std.proofs.Common.{refl}
-use Rattle.jn_written.specs.Wrong.{a_message_told}
+use Rattle.jn_written.proofs.Common.{refl, a_message_told}
 use Rattle.jn_written.proofs.Refuted.{unasked}
 use Rattle.jn_written.proofs.wrong.a_message_unasked_is_no_report.Goals as goal
 

@@ -1,5 +1,4 @@
-use Rattle.std.proofs.Common.{refl}
-use Rattle.jn_written.specs.Wrong.{counted_twice, counted_none}
+use Rattle.jn_written.proofs.Common.{refl, counted_twice, counted_none}
 use Rattle.jn_written.proofs.Refuted.{miscounted}
 use Rattle.jn_written.proofs.wrong.another_count_is_no_report.Goals as goal
 

@@ -1,5 +1,4 @@
-use Rattle.std.proofs.Common.{refl}
-use Rattle.jn_written.specs.Wrong.{out_of_order, shown_too_soon}
+use Rattle.jn_written.proofs.Common.{refl, out_of_order, shown_too_soon}
 use Rattle.jn_written.proofs.Refuted.{disordered}
 use Rattle.jn_written.proofs.wrong.lines_out_of_order_are_no_report.Goals as goal
 

@@ -1,5 +1,4 @@
-use Rattle.std.proofs.Common.{rules, sym, ◌∙◌, ap}
-use Rattle.std.specs.Option.{option_copied}
+use Rattle.jn_coord.proofs.Common.{rules, sym, ◌∙◌, ap, option_copied}
 use Rattle.jn_coord.proofs.Fitting.{promise_for}
 use Rattle.jn_coord.proofs.Rows.{aborted-found}
 use Rattle.jn_coord.proofs.coordinator.Coordinator.abort.Goals as goal

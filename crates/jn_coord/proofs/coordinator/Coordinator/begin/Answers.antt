@@ -1,6 +1,4 @@
-use Rattle.std.proofs.Common.{rules}
-use Rattle.jn_rows.specs.Coordinator.{begin_row}
-use Rattle.jn_coord.specs.Remembered.{table_of}
+use Rattle.jn_coord.proofs.Common.{rules, begin_row, table_of}
 use Rattle.jn_coord.proofs.Rows.{tells}
 use Rattle.jn_coord.proofs.Beginnings.{begin-still, full-tickets}
 use Rattle.jn_coord.proofs.coordinator.Coordinator.begin.Goals as goal

@@ -1,7 +1,4 @@
-use Rattle.std.proofs.Common.{rules, subst}
-use Rattle.jn_transactions.specs.Telling.{Adds}
-use Rattle.jn_rows.specs.Coordinator.{begin_again, begun_by}
-use Rattle.jn_coord.specs.Remembered.{table_of}
+use Rattle.jn_coord.proofs.Common.{rules, subst, Adds, begin_again, begun_by, table_of}
 use Rattle.jn_coord.proofs.Beginnings.{begun-again}
 use Rattle.jn_coord.proofs.coordinator.Coordinator.begin_seen.Goals as goal
 

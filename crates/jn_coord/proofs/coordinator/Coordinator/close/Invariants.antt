@@ -1,5 +1,4 @@
-use Rattle.std.proofs.Common.{◌≤◌, ◌+◌, length}
-use Rattle.jn_coord.specs.Closing.{ClosesOn}
+use Rattle.jn_coord.proofs.Common.{◌≤◌, ◌+◌, length, ClosesOn}
 use Rattle.jn_coord.proofs.coordinator.Coordinator.close.Given as goal
 
 abbrev pub invariant-loop-closed : goal.invariant-loop-closed

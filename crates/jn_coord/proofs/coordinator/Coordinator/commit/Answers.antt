@@ -1,5 +1,4 @@
-use Rattle.std.proofs.Common.{rules, sym, ◌∙◌, ap, is_ok}
-use Rattle.std.specs.Option.{option_copied}
+use Rattle.jn_coord.proofs.Common.{rules, sym, ◌∙◌, ap, is_ok, option_copied}
 use Rattle.jn_coord.proofs.Room.{may-put}
 use Rattle.jn_coord.proofs.Rows.{committed, not-committed}
 use Rattle.jn_coord.proofs.coordinator.Coordinator.commit.Goals as goal

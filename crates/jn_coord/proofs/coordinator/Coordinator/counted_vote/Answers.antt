@@ -1,4 +1,4 @@
-use Rattle.jn_coord.specs.Remembered.{table_of}
+use Rattle.jn_coord.proofs.Common.{table_of}
 use Rattle.jn_coord.proofs.Rows.{tells, waiting-still}
 use Rattle.jn_coord.proofs.coordinator.Coordinator.counted_vote.Goals as goal
 

@@ -1,5 +1,4 @@
-use Rattle.std.proofs.Common.{sym, ◌∙◌, ap}
-use Rattle.std.specs.Option.{option_copied}
+use Rattle.jn_coord.proofs.Common.{sym, ◌∙◌, ap, option_copied}
 use Rattle.jn_coord.proofs.Rows.{works-found}
 use Rattle.jn_coord.proofs.coordinator.Coordinator.done.Goals as goal
 

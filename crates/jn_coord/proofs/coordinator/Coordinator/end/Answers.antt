@@ -1,6 +1,4 @@
-use Rattle.std.proofs.Common.{◌≡◌, None, rules, refl}
-use Rattle.jn_rows.specs.Coordinator.{transaction_at}
-use Rattle.jn_coord.specs.Remembered.{table_of}
+use Rattle.jn_coord.proofs.Common.{◌≡◌, None, rules, refl, transaction_at, table_of}
 use Rattle.jn_coord.proofs.Rows.{tells}
 use Rattle.jn_coord.proofs.coordinator.Coordinator.end.Goals as goal
 

@@ -1,5 +1,4 @@
-use Rattle.std.proofs.Common.{refl}
-use Rattle.jn_transactions.proofs.Sends.{longer_same}
+use Rattle.jn_coord.proofs.Common.{refl, longer_same}
 use Rattle.jn_coord.proofs.coordinator.Coordinator.end_open.Goals as goal
 
 pub returns-in-Err-Memory : goal.returns-in-Err-Memory

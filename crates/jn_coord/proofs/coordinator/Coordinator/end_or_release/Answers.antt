@@ -1,5 +1,4 @@
-use Rattle.std.proofs.Common.{sym, ◌∙◌, subst}
-use Rattle.jn_storage.specs.Storage.{IsServing}
+use Rattle.jn_coord.proofs.Common.{sym, ◌∙◌, subst, IsServing}
 use Rattle.jn_coord.proofs.Ending.{opened, memory-kept, some-tickets, with-promise, promise-here}
 use Rattle.jn_coord.proofs.coordinator.Coordinator.end_or_release.Goals as goal
 

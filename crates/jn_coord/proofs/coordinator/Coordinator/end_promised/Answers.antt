@@ -1,7 +1,4 @@
-use Rattle.std.proofs.Common.{sym, ◌∙◌, subst}
-use Rattle.jn_rows.specs.Coordinator.{commit_row}
-use Rattle.jn_coord.specs.Remembered.{table_of}
-use Rattle.jn_coord.specs.Calls.{Does, ballot_row}
+use Rattle.jn_coord.proofs.Common.{sym, ◌∙◌, subst, commit_row, table_of, Does, ballot_row}
 use Rattle.jn_coord.proofs.Ending.{open-undecided, none-of, ended-with}
 use Rattle.jn_coord.proofs.coordinator.Coordinator.end_promised.Goals as goal
 

@@ -1,6 +1,4 @@
-use Rattle.std.proofs.Common.{sym, ◌∙◌, ap}
-use Rattle.std.specs.Option.{option_copied}
-use Rattle.jn_coord.specs.Remembered.{table_of}
+use Rattle.jn_coord.proofs.Common.{sym, ◌∙◌, ap, option_copied, table_of}
 use Rattle.jn_coord.proofs.coordinator.Coordinator.inquire.Goals as goal
 
 pub returns : goal.returns

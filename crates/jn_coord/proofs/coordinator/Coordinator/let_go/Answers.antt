@@ -1,6 +1,4 @@
-use Rattle.std.proofs.Common.{rules, sym, ◌∙◌, ap, is_ok}
-use Rattle.std.specs.Option.{option_copied}
-use Rattle.jn_coord.specs.Closing.{going_in}
+use Rattle.jn_coord.proofs.Common.{rules, sym, ◌∙◌, ap, is_ok, option_copied, going_in}
 use Rattle.jn_coord.proofs.Room.{has_flag_at}
 use Rattle.jn_coord.proofs.Fitting.{promise_for}
 use Rattle.jn_coord.proofs.ClosingLemmas.{went-released, went-dropped, not-dropped}

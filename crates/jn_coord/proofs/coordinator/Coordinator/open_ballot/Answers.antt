@@ -1,5 +1,4 @@
-use Rattle.std.proofs.Common.{rules, sym, ◌∙◌, ap}
-use Rattle.std.specs.Option.{option_copied}
+use Rattle.jn_coord.proofs.Common.{rules, sym, ◌∙◌, ap, option_copied}
 use Rattle.jn_coord.proofs.Ending.{ballot-opened}
 use Rattle.jn_coord.proofs.coordinator.Coordinator.open_ballot.Goals as goal
 

@@ -1,9 +1,4 @@
-use Rattle.std.proofs.Common.{sym, ◌∙◌, ap, subst}
-use Rattle.std.specs.Option.{option_copied}
-use Rattle.jn_rows.specs.declared.coordinator.Voting.{Voting as Ballot}
-use Rattle.jn_rows.specs.Coordinator.{noted, with_work}
-use Rattle.jn_coord.specs.Remembered.{table_of}
-use Rattle.jn_coord.specs.Calls.{Does}
+use Rattle.jn_coord.proofs.Common.{sym, ◌∙◌, ap, subst, option_copied, Ballot, noted, with_work, table_of, Does}
 use Rattle.jn_coord.proofs.Rows.{same-ballot, ballot-few}
 use Rattle.jn_coord.proofs.coordinator.Coordinator.ready.Goals as goal
 

@@ -1,6 +1,4 @@
-use Rattle.std.proofs.Common.{subst}
-use Rattle.jn_rows.specs.Coordinator.{transaction_at, inquire_row}
-use Rattle.jn_coord.specs.Remembered.{table_of}
+use Rattle.jn_coord.proofs.Common.{subst, transaction_at, inquire_row, table_of}
 use Rattle.jn_coord.specs.Handling.{FewWorks}
 use Rattle.jn_coord.proofs.Rows.{tells, inquire-still}
 use Rattle.jn_coord.proofs.coordinator.Coordinator.take.Goals as goal

@@ -1,7 +1,5 @@
-use Rattle.std.proofs.Common.{sym, ◌∙◌, ap}
-use Rattle.std.specs.Option.{option_copied}
+use Rattle.jn_coord.proofs.Common.{sym, ◌∙◌, ap, option_copied, table_of}
 use Rattle.jn_rows.specs.Coordinator as rows
-use Rattle.jn_coord.specs.Remembered.{table_of}
 use Rattle.jn_coord.proofs.Rows.{works-found, aborted-gone, known-now}
 use Rattle.jn_coord.proofs.coordinator.Coordinator.thanks.Goals as goal
 

@@ -1,6 +1,4 @@
-use Rattle.std.proofs.Common.{ap, ◌∙◌}
-use Rattle.jn_records.specs.declared.head.Head.{Head}
-use Rattle.jn_files.specs.Table.{address_of}
+use Rattle.jn_files.proofs.Common.{ap, ◌∙◌, Head, address_of}
 use Rattle.jn_files.proofs.Finding.{address_there}
 use Rattle.jn_files.proofs.heads.Heads.address_for.Goals as goal
 

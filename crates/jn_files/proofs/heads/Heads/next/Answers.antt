@@ -1,8 +1,5 @@
-use Rattle.std.proofs.Common.{◌≡◌, ℕ, sym, subst, false, List, Option, None, Some}
-use Rattle.jn_base.specs.declared.names.FileNo.{FileNo}
-use Rattle.jn_index.specs.Numbers.{IsNumberAbove, number_at, is_above}
-use Rattle.jn_records.specs.declared.head.Head.{Head}
-use Rattle.jn_files.specs.Calls.{NextFile}
+use Rattle.jn_files.proofs.Common.{◌≡◌, ℕ, sym, subst, false, List, Option, None, Some, FileNo, IsNumberAbove, number_at, Head, NextFile}
+use Rattle.jn_index.specs.Numbers.{is_above}
 use Rattle.jn_files.proofs.Finding.{next_found, next_none}
 use Rattle.jn_files.proofs.heads.Heads.next.Goals as goal
 

@@ -1,6 +1,4 @@
-use Rattle.std.proofs.Common.{ap, ◌∙◌, List}
-use Rattle.jn_records.specs.declared.head.Head.{Head}
-use Rattle.jn_files.specs.Table.{exists}
+use Rattle.jn_files.proofs.Common.{ap, ◌∙◌, List, Head, exists}
 use Rattle.jn_files.proofs.Finding.{there_by}
 use Rattle.jn_files.proofs.heads.Heads.slot_of.Goals as goal
 

@@ -1,7 +1,4 @@
-use Rattle.std.proofs.Common.{◌≡◌, ◌<◌, Bool, true, false, subst, sym, refl, true≢false, arith, rules, ◌∙◌}
-use Rattle.std.specs.Prelude.{is_ok}
-use Rattle.jn_store.specs.Store.{StorePut}
-use Rattle.jn_files.specs.Table.{TableView, IsTable}
+use Rattle.jn_files.proofs.Common.{◌≡◌, ◌<◌, Bool, true, false, subst, sym, refl, true≢false, arith, rules, ◌∙◌, is_ok, StorePut, TableView, IsTable}
 use Rattle.jn_files.proofs.Setting.{set_below}
 use Rattle.jn_files.proofs.Leaves.{fills}
 use Rattle.jn_files.proofs.table.FileTable.fill.Goals as goal

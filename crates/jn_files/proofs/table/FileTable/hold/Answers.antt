@@ -1,9 +1,4 @@
-use Rattle.std.proofs.Common.{◌<◌, true, ◌∙◌, subst, sym}
-use Rattle.std.proofs.lemmas.List.{length-set}
-use Rattle.std.specs.Prelude.{slice_set}
-use Rattle.jn_alloc.specs.Free.{FreeNumbers}
-use Rattle.jn_files.specs.Table.{TableView, IsTable}
-use Rattle.jn_files.specs.Inside.{table_view}
+use Rattle.jn_files.proofs.Common.{◌<◌, true, ◌∙◌, subst, sym, length-set, slice_set, FreeNumbers, TableView, IsTable, table_view}
 use Rattle.jn_files.proofs.Leaves.{hold_table}
 use Rattle.jn_files.proofs.table.FileTable.hold.Goals as goal
 

@@ -1,9 +1,4 @@
-use Rattle.std.proofs.Common.{◌<◌, ap, ◌∙◌, subst, sym, false}
-use Rattle.std.proofs.lemmas.List.{length-set}
-use Rattle.std.specs.Prelude.{slice_index_or, slice_set}
-use Rattle.jn_alloc.specs.Free.{FreeNumbers}
-use Rattle.jn_files.specs.Table.{TableView, IsTable, IsUnnamed}
-use Rattle.jn_files.specs.Inside.{table_view, IsNamedPage}
+use Rattle.jn_files.proofs.Common.{◌<◌, ap, ◌∙◌, subst, sym, false, length-set, slice_index_or, slice_set, FreeNumbers, TableView, IsTable, IsUnnamed, table_view, IsNamedPage}
 use Rattle.jn_files.proofs.Leaves.{let_go_named, let_go_free}
 use Rattle.jn_files.proofs.Setting.{set_below}
 use Rattle.jn_files.proofs.table.FileTable.let_go.Goals as goal

@@ -1,6 +1,4 @@
-use Rattle.std.proofs.Common.{◌≡◌, List, length, sym, ap, subst, ◌∙◌, arith}
-use Rattle.jn_records.specs.declared.head.Head.{Head}
-use Rattle.jn_files.specs.Inside.{AreNamed}
+use Rattle.jn_files.proofs.Common.{◌≡◌, List, length, sym, ap, subst, ◌∙◌, arith, Head, AreNamed}
 use Rattle.jn_files.proofs.Loading.{code_table, code_loaded}
 use Rattle.jn_files.proofs.table.FileTable.load.Goals as goal
 

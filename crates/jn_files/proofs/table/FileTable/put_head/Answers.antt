@@ -1,8 +1,4 @@
-use Rattle.std.proofs.Common.{◌≡◌, Bool, true, false, rules, sym, subst, refl}
-use Rattle.std.specs.Prelude.{slice_set, is_ok}
-use Rattle.jn_store.specs.Store.{StorePut}
-use Rattle.jn_files.specs.Table.{TableView, IsTable, AreHeads}
-use Rattle.jn_files.specs.Inside.{MayStand}
+use Rattle.jn_files.proofs.Common.{◌≡◌, Bool, true, false, rules, sym, subst, refl, slice_set, is_ok, StorePut, TableView, IsTable, AreHeads, MayStand}
 use Rattle.jn_files.proofs.Standing.{new_heads}
 use Rattle.jn_files.proofs.Putting.{puts_head}
 use Rattle.jn_files.proofs.table.FileTable.put_head.Goals as goal

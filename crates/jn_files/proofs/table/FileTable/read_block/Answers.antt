@@ -1,6 +1,4 @@
-use Rattle.std.proofs.Common.{◌≡◌, false, Err, Ok, Some, ap, ◌∙◌, subst, sym, refl, rules}
-use Rattle.std.specs.Prelude.{is_ok}
-use Rattle.jn_files.specs.Table.{TableView, IsTable, address_for}
+use Rattle.jn_files.proofs.Common.{◌≡◌, false, Err, Ok, Some, ap, ◌∙◌, subst, sym, refl, rules, is_ok, TableView, IsTable, address_for}
 use Rattle.jn_files.proofs.Touching.{code_below, code_place, code_got, code_stopped, no_block, the_block}
 use Rattle.jn_files.proofs.table.FileTable.read_block.Goals as goal
 

@@ -1,11 +1,4 @@
-use Rattle.std.proofs.Common.{◌≡◌, ◌+◌, inl, true, suc, sym, subst, ap, ◌∙◌}
-use Rattle.std.specs.Prelude.{is_ok, slice_set, take}
-use Rattle.jn_order.specs.Files.{written}
-use Rattle.jn_records.specs.declared.head.Head.{Head}
-use Rattle.jn_records.specs.declared.head.Head.TheVariants.{Used}
-use Rattle.jn_files.specs.Table.{TableView, IsTable, head_in, is_of, addresses_of, with_leaf}
-use Rattle.jn_files.specs.Calls.{IsPlaceOf}
-use Rattle.jn_files.specs.Inside.{MayStand, ChangesBlocks}
+use Rattle.jn_files.proofs.Common.{◌≡◌, ◌+◌, inl, true, suc, sym, subst, ap, ◌∙◌, is_ok, slice_set, take, written, Head, Used, TableView, IsTable, head_in, is_of, addresses_of, with_leaf, IsPlaceOf, MayStand, ChangesBlocks}
 use Rattle.jn_files.proofs.Lookup.{of_used}
 use Rattle.jn_files.proofs.Setting.{leaf_changes_blocks, leaf_stands, leaf_leaves, leaf_changes, sets_head}
 use Rattle.jn_files.proofs.table.FileTable.set_address.Goals as goal

@@ -1,11 +1,4 @@
-use Rattle.std.proofs.Common.{◌≡◌, inl, true, sym, subst, ap, ◌∙◌}
-use Rattle.std.specs.Prelude.{is_ok}
-use Rattle.jn_order.specs.Files.{cut_from}
-use Rattle.jn_records.specs.declared.head.Head.{Head}
-use Rattle.jn_records.specs.declared.head.Head.TheVariants.{Used}
-use Rattle.jn_files.specs.Table.{TableView, IsTable, head_in, is_of, addresses_of, cut_addresses, cut_head}
-use Rattle.jn_files.specs.Calls.{IsPlaceOf}
-use Rattle.jn_files.specs.Inside.{MayStand, ChangesBlocks}
+use Rattle.jn_files.proofs.Common.{◌≡◌, inl, true, sym, subst, ap, ◌∙◌, is_ok, cut_from, Head, Used, TableView, IsTable, head_in, is_of, addresses_of, cut_addresses, cut_head, IsPlaceOf, MayStand, ChangesBlocks}
 use Rattle.jn_files.proofs.Lookup.{of_used}
 use Rattle.jn_files.proofs.Setting.{cut_changes_blocks, cut_stands, cut_leaves, cut_changes, sets_head}
 use Rattle.jn_files.proofs.table.FileTable.set_cut.Goals as goal

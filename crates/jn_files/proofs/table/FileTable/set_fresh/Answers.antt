@@ -1,10 +1,4 @@
-use Rattle.std.proofs.Common.{sym, subst}
-use Rattle.std.specs.Prelude.{is_ok}
-use Rattle.jn_order.specs.Files.{created}
-use Rattle.jn_records.specs.declared.head.Head.{Head}
-use Rattle.jn_files.specs.Table.{TableView, IsTable, head_in}
-use Rattle.jn_files.specs.Calls.{IsPlaceOf, PutsHead}
-use Rattle.jn_files.specs.Inside.{MayStand, IsChange, AreLeaves}
+use Rattle.jn_files.proofs.Common.{sym, subst, is_ok, created, Head, TableView, IsTable, head_in, IsPlaceOf, PutsHead, MayStand, IsChange, AreLeaves}
 use Rattle.jn_files.proofs.Setting.{changes_any, place_below, fresh_stands, fresh_leaves, fresh_changes}
 use Rattle.jn_files.proofs.table.FileTable.set_fresh.Goals as goal
 

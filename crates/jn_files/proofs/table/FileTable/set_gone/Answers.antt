@@ -1,11 +1,4 @@
-use Rattle.std.proofs.Common.{◌≡◌, inl, true, sym, subst, refl, ap, ◌∙◌}
-use Rattle.std.specs.Prelude.{is_ok}
-use Rattle.jn_order.specs.Files.{removed}
-use Rattle.jn_records.specs.declared.head.Head.{Head}
-use Rattle.jn_records.specs.declared.head.Head.TheVariants.{Free}
-use Rattle.jn_files.specs.Table.{TableView, IsTable, head_in, is_of}
-use Rattle.jn_files.specs.Calls.{IsPlaceOf}
-use Rattle.jn_files.specs.Inside.{MayStand}
+use Rattle.jn_files.proofs.Common.{◌≡◌, inl, true, sym, subst, refl, ap, ◌∙◌, is_ok, removed, Head, Free, TableView, IsTable, head_in, is_of, IsPlaceOf, MayStand}
 use Rattle.jn_files.proofs.Setting.{changes_any, gone_stands, gone_leaves, gone_changes, sets_head}
 use Rattle.jn_files.proofs.table.FileTable.set_gone.Goals as goal
 

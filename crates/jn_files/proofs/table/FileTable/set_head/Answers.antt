@@ -1,8 +1,4 @@
-use Rattle.std.proofs.Common.{ℕ, ◌<◌, length, sym, subst, ◌∙◌, List, true, false}
-use Rattle.jn_records.specs.declared.head.Head.{Head}
-use Rattle.jn_files.specs.Table.{TableView, IsHeadOf, head_in}
-use Rattle.jn_files.specs.Calls.{IsChanged}
-use Rattle.jn_files.specs.Inside.{MayStand, ChangesBlocks, table_view, AreNamed, Marks}
+use Rattle.jn_files.proofs.Common.{ℕ, ◌<◌, length, sym, subst, ◌∙◌, List, true, false, Head, TableView, IsHeadOf, head_in, IsChanged, MayStand, ChangesBlocks, table_view, AreNamed, Marks}
 use Rattle.jn_files.proofs.Standing.{read_is, code_may_drop, code_table, code_changed}
 use Rattle.jn_files.proofs.Naming.{pages_below, renamed}
 use Rattle.jn_files.proofs.table.FileTable.set_head.Goals as goal

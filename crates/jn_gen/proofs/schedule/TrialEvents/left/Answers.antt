@@ -1,5 +1,4 @@
-use Rattle.std.proofs.Common.{◌∙◌, List, ap, length, sym}
-use Rattle.jn_schedule.specs.declared.Event.{Event}
+use Rattle.jn_gen.proofs.Common.{◌∙◌, List, ap, length, sym, Event}
 use Rattle.jn_gen.proofs.Drawing.{events_count}
 use Rattle.jn_gen.proofs.schedule.TrialEvents.left.Goals as goal
 

@@ -1,5 +1,4 @@
-use Rattle.std.proofs.Common.{◌∙◌, List, ap, drop, take}
-use Rattle.jn_schedule.specs.declared.Event.{Event}
+use Rattle.jn_gen.proofs.Common.{◌∙◌, List, ap, drop, take, Event}
 use Rattle.jn_gen.proofs.Drawing.{next_given, next_left}
 use Rattle.jn_gen.proofs.schedule.TrialEvents.next.Goals as goal
 

@@ -1,7 +1,4 @@
-use Rattle.std.proofs.Common.{◌≡◌, ◌∙◌, subst, sym}
-use Rattle.jn_storage.specs.Storage.{IsServing, file_there}
-use Rattle.jn_storage.specs.Calls.{state}
-use Rattle.jn_recovery.specs.Memory.{view_of}
+use Rattle.jn_intent.proofs.Common.{◌≡◌, ◌∙◌, subst, sym, IsServing, file_there, state, view_of}
 use Rattle.jn_intent.proofs.Reading.{there_seen}
 use Rattle.jn_intent.proofs.files.IntentsStoredFiles.file_there.Goals as goal
 

@@ -1,9 +1,4 @@
-use Rattle.std.proofs.Common.{◌≡◌, ◌∙◌, subst, sym}
-use Rattle.std.specs.Prelude.{is_some}
-use Rattle.jn_base.specs.declared.names.LockUnit.TheVariants.{Block}
-use Rattle.jn_storage.specs.Storage.{IsServing}
-use Rattle.jn_storage.specs.Calls.{state}
-use Rattle.jn_recovery.specs.Memory.{view_of}
+use Rattle.jn_intent.proofs.Common.{◌≡◌, ◌∙◌, subst, sym, is_some, Block, IsServing, state, view_of}
 use Rattle.jn_intent.proofs.Reading.{mapped_seen}
 use Rattle.jn_intent.proofs.files.IntentsStoredFiles.mapped.Goals as goal
 

@@ -1,7 +1,4 @@
-use Rattle.std.proofs.Common.{subst, sym}
-use Rattle.jn_storage.specs.Storage.{IsServing}
-use Rattle.jn_storage.specs.Calls.{state, NextFile}
-use Rattle.jn_recovery.specs.Memory.{view_of}
+use Rattle.jn_intent.proofs.Common.{subst, sym, IsServing, state, NextFile, view_of}
 use Rattle.jn_intent.proofs.Reading.{next_of}
 use Rattle.jn_intent.proofs.files.IntentsStoredFiles.next_file.Goals as goal
 

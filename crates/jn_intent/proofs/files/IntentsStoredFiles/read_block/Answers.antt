@@ -1,9 +1,4 @@
-use Rattle.std.proofs.Common.{◌≡◌, None, Ok, subst, sym}
-use Rattle.jn_base.specs.declared.names.LockUnit.TheVariants.{Block}
-use Rattle.jn_storage.specs.Storage.{IsServing}
-use Rattle.jn_storage.specs.Calls.{state, BlockRead}
-use Rattle.jn_recovery.specs.Memory.{view_of}
-use Rattle.jn_intent.specs.Inside.{memory_of}
+use Rattle.jn_intent.proofs.Common.{◌≡◌, None, Ok, subst, sym, Block, IsServing, state, BlockRead, view_of, memory_of}
 use Rattle.jn_intent.proofs.Reading.{holds_seen, read_now, read_safe, unasked_now}
 use Rattle.jn_intent.proofs.files.IntentsStoredFiles.read_block.Goals as goal
 

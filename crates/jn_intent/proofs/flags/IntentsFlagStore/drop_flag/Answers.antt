@@ -1,11 +1,4 @@
-use Rattle.std.proofs.Common.{sym, refl, ap, subst, ◌∙◌, true, false, true≢false, arith}
-use Rattle.std.proofs.lemmas.Result.{err_from_is_err_and}
-use Rattle.std.specs.Prelude.{is_ok}
-use Rattle.jn_storage.specs.Storage.{IsServing}
-use Rattle.jn_storage.specs.Calls.{HasFlag, FlagDropped}
-use Rattle.jn_recovery.specs.Memory.{view_of}
-use Rattle.jn_intent.specs.Inside.{memory_of}
-use Rattle.jn_recovery.proofs.FlagCalls.{flag_slotted, flag_held, drop_kept, drop_recovers, drop_done, drop_stopped}
+use Rattle.jn_intent.proofs.Common.{sym, refl, ap, subst, ◌∙◌, true, false, true≢false, arith, err_from_is_err_and, is_ok, IsServing, HasFlag, FlagDropped, view_of, memory_of, flag_slotted, flag_held, drop_kept, drop_recovers, drop_done, drop_stopped}
 use Rattle.jn_intent.proofs.flags.IntentsFlagStore.drop_flag.Goals as goal
 
 pub unreachable-requires : goal.unreachable-requires

@@ -1,9 +1,4 @@
-use Rattle.std.proofs.Common.{subst, sym}
-use Rattle.jn_storage.specs.Storage.{IsServing}
-use Rattle.jn_storage.specs.Calls.{TellsFlags}
-use Rattle.jn_recovery.specs.Memory.{view_of}
-use Rattle.jn_intent.specs.Inside.{memory_of}
-use Rattle.jn_recovery.proofs.FlagCalls.{tells_flags}
+use Rattle.jn_intent.proofs.Common.{subst, sym, IsServing, TellsFlags, view_of, memory_of, tells_flags}
 use Rattle.jn_intent.proofs.flags.IntentsFlagStore.flags.Goals as goal
 
 pub returns : goal.returns

@@ -1,10 +1,4 @@
-use Rattle.std.proofs.Common.{sym, subst, arith}
-use Rattle.std.specs.Prelude.{Ok, vec_len}
-use Rattle.jn_storage.specs.Storage.{IsServing}
-use Rattle.jn_storage.specs.Calls.{FlagPromised}
-use Rattle.jn_recovery.specs.Memory.{view_of}
-use Rattle.jn_intent.specs.Inside.{memory_of}
-use Rattle.jn_recovery.proofs.FlagCalls.{promises}
+use Rattle.jn_intent.proofs.Common.{sym, subst, arith, Ok, vec_len, IsServing, FlagPromised, view_of, memory_of, promises}
 use Rattle.jn_intent.proofs.flags.IntentsFlagStore.promise.Goals as goal
 
 pub returns : goal.returns

@@ -1,11 +1,4 @@
-use Rattle.std.proofs.Common.{sym, refl, ap, subst, ◌∙◌, true, false, true≢false, arith, [], ◌∷◌, ◌++◌}
-use Rattle.std.specs.Prelude.{vec_len}
-use Rattle.std.specs.List.{AllByRecursion}
-use Rattle.jn_storage.specs.Storage.{IsServing}
-use Rattle.jn_storage.specs.Calls.{MayPutFlag, FlagPut}
-use Rattle.jn_recovery.specs.Memory.{view_of}
-use Rattle.jn_intent.specs.Inside.{memory_of, IsRoom}
-use Rattle.jn_recovery.proofs.FlagCalls.{popped, all_front, last_of, put_kept, put_is_done, put_is_stopped, put_dark, put_recovers}
+use Rattle.jn_intent.proofs.Common.{sym, refl, ap, subst, ◌∙◌, true, false, true≢false, arith, [], ◌∷◌, ◌++◌, vec_len, AllByRecursion, IsServing, MayPutFlag, FlagPut, view_of, memory_of, IsRoom, popped, all_front, last_of, put_kept, put_is_done, put_is_stopped, put_dark, put_recovers}
 use Rattle.jn_intent.proofs.flags.IntentsFlagStore.put_flag.Goals as goal
 
 pub invariant_of-self : goal.invariant_of-self

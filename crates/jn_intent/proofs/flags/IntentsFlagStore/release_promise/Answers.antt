@@ -1,10 +1,4 @@
-use Rattle.std.proofs.Common.{◌<◌, sym, subst}
-use Rattle.std.specs.Prelude.{vec_len}
-use Rattle.jn_storage.specs.Storage.{IsServing}
-use Rattle.jn_storage.specs.Calls.{PromiseReleased}
-use Rattle.jn_recovery.specs.Memory.{view_of}
-use Rattle.jn_intent.specs.Inside.{memory_of}
-use Rattle.jn_recovery.proofs.FlagCalls.{popped, releases}
+use Rattle.jn_intent.proofs.Common.{◌<◌, sym, subst, vec_len, IsServing, PromiseReleased, view_of, memory_of, popped, releases}
 use Rattle.jn_intent.proofs.flags.IntentsFlagStore.release_promise.Goals as goal
 
 pub returns : goal.returns

@@ -1,12 +1,4 @@
-use Rattle.std.proofs.Common.{◌≡◌, sym, refl, ap, subst, true, false, Ok}
-use Rattle.std.proofs.lemmas.Result.{err_from_is_err_and}
-use Rattle.std.specs.Prelude.{is_ok, map}
-use Rattle.jn_base.specs.Names.{work_eq}
-use Rattle.jn_storage.specs.Listing.{is_in}
-use Rattle.jn_storage.specs.Storage.{IsServing}
-use Rattle.jn_storage.specs.Calls.{state, name_of, IsGoing, StepApplied}
-use Rattle.jn_recovery.specs.Memory.{view_of}
-use Rattle.jn_intent.specs.Inside.{memory_of}
+use Rattle.jn_intent.proofs.Common.{◌≡◌, sym, refl, ap, subst, true, false, Ok, err_from_is_err_and, is_ok, map, work_eq, is_in, IsServing, state, name_of, IsGoing, StepApplied, view_of, memory_of}
 use Rattle.jn_intent.proofs.Applying.{apply_none, apply_may, apply_few, apply_stopped, apply_dark, apply_recovers, apply_done}
 use Rattle.jn_intent.proofs.Removing.{work_listed, is_going_some}
 use Rattle.jn_intent.proofs.intents.Intents.carry_next.Goals as goal

@@ -1,8 +1,4 @@
-use Rattle.std.proofs.Common.{ap, subst}
-use Rattle.jn_device.specs.Device.{DeviceState}
-use Rattle.jn_intent.specs.Events.{Befalls}
-use Rattle.jn_intent.specs.Inside.{memory_of}
-use Rattle.jn_recovery.specs.Memory.{view_of}
+use Rattle.jn_intent.proofs.Common.{ap, subst, DeviceState, Befalls, memory_of, view_of}
 use Rattle.jn_intent.proofs.Scrubbing.{same_kept, same_power, befalls}
 use Rattle.jn_intent.proofs.intents.Intents.clear_outside.Goals as goal
 

@@ -1,7 +1,4 @@
-use Rattle.std.proofs.Common.{subst}
-use Rattle.jn_intent.specs.Events.{Befalls}
-use Rattle.jn_intent.specs.Inside.{memory_of}
-use Rattle.jn_recovery.specs.Memory.{view_of}
+use Rattle.jn_intent.proofs.Common.{subst, Befalls, memory_of, view_of}
 use Rattle.jn_intent.proofs.Scrubbing.{same_kept, same_power, befalls}
 use Rattle.jn_intent.proofs.intents.Intents.decay.Goals as goal
 

@@ -1,6 +1,4 @@
-use Rattle.std.proofs.Common.{◌≡◌, ◌∙◌, length, subst}
-use Rattle.std.specs.Prelude.{nat_lt}
-use Rattle.jn_recovery.specs.Memory.{view_of}
+use Rattle.jn_intent.proofs.Common.{◌≡◌, ◌∙◌, length, subst, nat_lt, view_of}
 use Rattle.jn_intent.proofs.Rubbish.{some_rubbish}
 use Rattle.jn_intent.proofs.intents.Intents.has_rubbish.Goals as goal
 

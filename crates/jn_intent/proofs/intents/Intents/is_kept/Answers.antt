@@ -1,5 +1,4 @@
-use Rattle.std.proofs.Common.{subst}
-use Rattle.jn_recovery.specs.Matches.{IsKeptMemory}
+use Rattle.jn_intent.proofs.Common.{subst, IsKeptMemory}
 use Rattle.jn_intent.proofs.intents.Intents.is_kept.Goals as goal
 
 pub returns : goal.returns

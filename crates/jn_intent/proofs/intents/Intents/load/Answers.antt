@@ -1,6 +1,5 @@
-use Rattle.std.proofs.Common.{sym, subst}
+use Rattle.jn_intent.proofs.Common.{sym, subst, view_of}
 use Rattle.jn_recovery.specs.Loading.{counts_by, IsLoaded, IsUntouched}
-use Rattle.jn_recovery.specs.Memory.{view_of}
 use Rattle.jn_intent.proofs.intents.Intents.load.Goals as goal
 
 pub returns-in-Ok-clause-loaded : goal.returns-in-Ok-clause-loaded

@@ -1,11 +1,4 @@
-use Rattle.std.proofs.Common.{sym, ap, subst, refl, ◌∙◌, true, false, true≢false, arith}
-use Rattle.std.proofs.lemmas.Result.{err_from_is_err_and}
-use Rattle.std.specs.Prelude.{Ok, Err}
-use Rattle.jn_found.specs.Recoverable.{IsRecoverable}
-use Rattle.jn_storage.specs.declared.faults.PrepareFault.TheVariants.{Stopped as Stops}
-use Rattle.jn_storage.specs.Calls.{WorkPrepared, shortage}
-use Rattle.jn_recovery.specs.Memory.{view_of, accounts_of}
-use Rattle.jn_intent.specs.Inside.{memory_of}
+use Rattle.jn_intent.proofs.Common.{sym, ap, subst, refl, ◌∙◌, true, false, true≢false, arith, err_from_is_err_and, Ok, Err, IsRecoverable, Stops, WorkPrepared, shortage, view_of, accounts_of, memory_of}
 use Rattle.jn_intent.proofs.Readying.{promising, given, begun, list_few, list_short, its_reads, stopped_list, insert_there, insert_left, prepare_stopped, prepare_recovers, prepare_kept, prepare_done, works_listed, refused_by}
 use Rattle.jn_intent.proofs.StoringPool.{free_slot}
 use Rattle.jn_intent.proofs.intents.Intents.prepare_work.Goals as goal

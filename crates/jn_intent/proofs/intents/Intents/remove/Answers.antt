@@ -1,15 +1,4 @@
-use Rattle.std.proofs.Common.{◌≡◌, ◌<◌, ◌≤◌, ◌-◌, sym, refl, ap, subst, ◌∙◌, true, false, true≢false, map, length, arith}
-use Rattle.std.proofs.lemmas.Result.{err_from_is_err_and}
-use Rattle.std.specs.Prelude.{is_ok, is_some, slice_index_or}
-use Rattle.jn_base.specs.Names.{work_eq}
-use Rattle.jn_records.specs.declared.work.WorkState.{WorkState}
-use Rattle.jn_storage.specs.Listing.{is_in}
-use Rattle.jn_storage.specs.Storage.{IsServing}
-use Rattle.jn_storage.specs.Calls.{state, name_of, WorkRemoved}
-use Rattle.jn_files.specs.Calls.{with_promised_heads}
-use Rattle.jn_recovery.specs.Memory.{view_of}
-use Rattle.jn_recovery.specs.Pages.{MayLetGo, heads_needed}
-use Rattle.jn_intent.specs.Inside.{memory_of}
+use Rattle.jn_intent.proofs.Common.{◌≡◌, ◌<◌, ◌≤◌, ◌-◌, sym, refl, ap, subst, ◌∙◌, true, false, true≢false, map, length, arith, err_from_is_err_and, is_ok, is_some, slice_index_or, work_eq, WorkState, is_in, IsServing, state, name_of, WorkRemoved, with_promised_heads, view_of, MayLetGo, heads_needed, memory_of}
 use Rattle.jn_intent.proofs.Removing.{found_work, work_slotted, work_listed, work_used, list_few, heads_enough, may_let_go, given_back, stopped_there, remove_kept, remove_recovers, remove_made}
 use Rattle.jn_intent.proofs.intents.Intents.remove.Goals as goal
 

@@ -1,12 +1,4 @@
-use Rattle.std.proofs.Common.{◌≡◌, true, false, sym, subst, ◌∙◌, arith, rules}
-use Rattle.std.specs.Prelude.{is_ok}
-use Rattle.jn_files.specs.Calls.{TouchesAll}
-use Rattle.jn_found.proofs.Picking.{fewer_recoverable}
-use Rattle.jn_storage.specs.Storage.{IsServing}
-use Rattle.jn_recovery.specs.Memory.{view_of}
-use Rattle.jn_intent.specs.Inside.{memory_of}
-use Rattle.jn_recovery.specs.Cleaning.{Cleans}
-use Rattle.jn_intent.specs.Scrubbing.{Scrubbed}
+use Rattle.jn_intent.proofs.Common.{◌≡◌, true, false, sym, subst, ◌∙◌, arith, rules, is_ok, TouchesAll, fewer_recoverable, IsServing, view_of, memory_of, Cleans, Scrubbed}
 use Rattle.jn_recovery.proofs.CleanPages.{on_ok, on_err}
 use Rattle.jn_intent.proofs.Scrubbing.{fewer_kept, touched_kept, scrubbed, scrubbed_touched}
 use Rattle.jn_intent.proofs.intents.Intents.scrub.Goals as goal

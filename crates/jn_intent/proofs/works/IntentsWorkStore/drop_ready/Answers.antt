@@ -1,5 +1,4 @@
-use Rattle.jn_storage.specs.Calls.{state}
-use Rattle.jn_recovery.specs.Memory.{view_of}
+use Rattle.jn_intent.proofs.Common.{state, view_of}
 use Rattle.jn_intent.proofs.Removing.{is_ready_some}
 use Rattle.jn_intent.proofs.works.IntentsWorkStore.drop_ready.Goals as goal
 

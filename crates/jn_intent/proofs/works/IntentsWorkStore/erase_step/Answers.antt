@@ -1,9 +1,4 @@
-use Rattle.std.proofs.Common.{sym, subst}
-use Rattle.jn_storage.specs.Storage.{IsServing}
-use Rattle.jn_storage.specs.Calls.{RecordErased}
-use Rattle.jn_recovery.specs.Memory.{view_of}
-use Rattle.jn_intent.specs.Inside.{memory_of}
-use Rattle.jn_recovery.proofs.Erasing.{erase_done, erase_kept, erase_recovers}
+use Rattle.jn_intent.proofs.Common.{sym, subst, IsServing, RecordErased, view_of, memory_of, erase_done, erase_kept, erase_recovers}
 use Rattle.jn_intent.proofs.works.IntentsWorkStore.erase_step.Goals as goal
 
 pub invariant_of-self : goal.invariant_of-self

@@ -1,10 +1,4 @@
-use Rattle.std.proofs.Common.{sym, refl, ap, subst, ◌∙◌, true, false, true≢false}
-use Rattle.std.proofs.lemmas.Result.{err_from_is_err_and}
-use Rattle.std.specs.Prelude.{is_ok}
-use Rattle.jn_storage.specs.Storage.{IsServing}
-use Rattle.jn_storage.specs.Calls.{IsReady, MarkedGoing}
-use Rattle.jn_recovery.specs.Memory.{view_of}
-use Rattle.jn_intent.specs.Inside.{memory_of}
+use Rattle.jn_intent.proofs.Common.{sym, refl, ap, subst, ◌∙◌, true, false, true≢false, err_from_is_err_and, is_ok, IsServing, IsReady, MarkedGoing, view_of, memory_of}
 use Rattle.jn_intent.proofs.Marking.{ready_slotted, mark_ready, mark_kept, mark_recovers, mark_done, mark_stopped}
 use Rattle.jn_intent.proofs.works.IntentsWorkStore.mark_going.Goals as goal
 

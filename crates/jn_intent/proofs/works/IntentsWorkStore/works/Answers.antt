@@ -1,9 +1,4 @@
-use Rattle.std.proofs.Common.{subst, sym}
-use Rattle.jn_storage.specs.Storage.{IsServing}
-use Rattle.jn_storage.specs.Calls.{TellsWorks}
-use Rattle.jn_recovery.specs.Memory.{view_of}
-use Rattle.jn_intent.specs.Inside.{memory_of}
-use Rattle.jn_recovery.proofs.Telling.{tells_works}
+use Rattle.jn_intent.proofs.Common.{subst, sym, IsServing, TellsWorks, view_of, memory_of, tells_works}
 use Rattle.jn_intent.proofs.works.IntentsWorkStore.works.Goals as goal
 
 pub returns : goal.returns

@@ -1,5 +1,4 @@
-use Rattle.std.proofs.Common.{arith}
-use Rattle.jn_locks.specs.Tables.{at, has_room_at, units_of}
+use Rattle.jn_locks.proofs.Common.{arith, at, has_room_at, units_of}
 use Rattle.jn_locks.proofs.Puts.{add_holds, put_once, put_here, put_still, listed_more, listed_same}
 use Rattle.jn_locks.proofs.held.Held.add.Goals as goal
 

@@ -1,13 +1,4 @@
-use Rattle.std.proofs.Common.{◌≡◌, ◌≤◌, true, drop, length}
-use Rattle.std.specs.Prelude.{◌||◌, ◌&&◌}
-use Rattle.jn_base.specs.declared.names.WorkId.{WorkId}
-use Rattle.jn_base.specs.declared.names.LockUnit.{LockUnit}
-use Rattle.jn_base.specs.Names.{work_eq}
-use Rattle.jn_locks.specs.declared.words.Mode.{Mode}
-use Rattle.jn_locks.specs.Locks.{wanted}
-use Rattle.jn_locks.specs.Holders.{is_among}
-use Rattle.jn_locks.specs.Asked.{is_wanted_unit}
-use Rattle.jn_locks.specs.Tables.{at, has_room_at, room_of, table_of, IsSoundTable}
+use Rattle.jn_locks.proofs.Common.{◌≡◌, ◌≤◌, true, drop, length, ◌||◌, ◌&&◌, WorkId, LockUnit, work_eq, Mode, wanted, is_among, is_wanted_unit, at, has_room_at, room_of, table_of, IsSoundTable}
 use Rattle.jn_locks.proofs.held.Held.add_all.Given as goal
 
 abbrev pub invariant-loop-want : goal.invariant-loop-want

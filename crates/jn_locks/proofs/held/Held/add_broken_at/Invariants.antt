@@ -1,6 +1,4 @@
-use Rattle.std.proofs.Common.{◌≡◌, drop}
-use Rattle.jn_locks.specs.Tables.{table_of, at}
-use Rattle.jn_locks.specs.Loops.{all_broken, makes_way, collisions_at}
+use Rattle.jn_locks.proofs.Common.{◌≡◌, drop, table_of, at, all_broken, makes_way, collisions_at}
 use Rattle.jn_locks.proofs.held.Held.add_broken_at.Given as goal
 
 abbrev pub invariant-loop-holder : goal.invariant-loop-holder

@@ -1,13 +1,4 @@
-use Rattle.std.proofs.Common.{false, List, None, Some, ap, ◌∙◌}
-use Rattle.std.specs.Prelude.{◌||◌, ◌&&◌, if◌then◌else◌}
-use Rattle.jn_base.specs.Names.{work_eq}
-use Rattle.jn_locks.specs.declared.words.Broken.{Broken}
-use Rattle.jn_locks.specs.declared.words.Holder.{Holder}
-use Rattle.jn_locks.specs.declared.works.Works.{Works}
-use Rattle.jn_locks.specs.Locks.{wanted, or_active}
-use Rattle.jn_locks.specs.Holders.{holds_in}
-use Rattle.jn_locks.specs.Asked.{is_broken}
-use Rattle.jn_locks.specs.Tables.{table_of, standing_of}
+use Rattle.jn_locks.proofs.Common.{false, List, None, Some, ap, ◌∙◌, ◌||◌, ◌&&◌, if◌then◌else◌, work_eq, Broken, Holder, Works, wanted, or_active, holds_in, is_broken, table_of, standing_of}
 use Rattle.jn_locks.proofs.Intends.{after_break, or_wanted}
 use Rattle.jn_locks.proofs.Breaks.{not_self}
 use Rattle.jn_locks.proofs.held.Held.ask.Goals as goal

@@ -1,10 +1,4 @@
-use Rattle.std.proofs.Common.{◌≡◌, drop, false, None}
-use Rattle.std.specs.Prelude.{if◌then◌else◌}
-use Rattle.jn_base.specs.declared.names.WorkId.{WorkId}
-use Rattle.jn_base.specs.declared.names.LockUnit.{LockUnit}
-use Rattle.jn_locks.specs.declared.words.Mode.{Mode}
-use Rattle.jn_locks.specs.Asked.{is_broken}
-use Rattle.jn_locks.specs.Tables.{table_of, IsSoundTable}
+use Rattle.jn_locks.proofs.Common.{◌≡◌, drop, false, None, if◌then◌else◌, WorkId, LockUnit, Mode, is_broken, table_of, IsSoundTable}
 use Rattle.jn_locks.proofs.held.Held.break_all.Given as goal
 
 abbrev pub invariant-loop-b : goal.invariant-loop-b

@@ -1,10 +1,4 @@
-use Rattle.std.proofs.Common.{List, sym, subst, ap, ◌∙◌, arith}
-use Rattle.jn_locks.specs.declared.words.Want.{Want}
-use Rattle.jn_locks.specs.declared.words.Broken.{Broken}
-use Rattle.jn_locks.specs.Locks.{wanted}
-use Rattle.jn_locks.specs.Asked.{AreBroken}
-use Rattle.jn_locks.specs.Tables.{at, table_of}
-use Rattle.jn_locks.specs.Loops.{all_broken, makes_way, collisions}
+use Rattle.jn_locks.proofs.Common.{List, sym, subst, ap, ◌∙◌, arith, Want, Broken, wanted, AreBroken, at, table_of, all_broken, makes_way, collisions}
 use Rattle.jn_locks.proofs.Steps.{drop_past}
 use Rattle.jn_locks.proofs.Breaks.{broken_step, are_broken}
 use Rattle.jn_locks.proofs.held.Held.broken.Goals as goal

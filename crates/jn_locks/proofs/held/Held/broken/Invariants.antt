@@ -1,6 +1,4 @@
-use Rattle.std.proofs.Common.{◌≡◌, drop, []}
-use Rattle.jn_locks.specs.Tables.{table_of, at}
-use Rattle.jn_locks.specs.Loops.{all_broken, makes_way, collisions}
+use Rattle.jn_locks.proofs.Common.{◌≡◌, drop, [], table_of, at, all_broken, makes_way, collisions}
 use Rattle.jn_locks.proofs.held.Held.broken.Given as goal
 
 abbrev pub invariant-loop-want : goal.invariant-loop-want

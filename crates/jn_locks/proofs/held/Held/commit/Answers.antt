@@ -1,12 +1,4 @@
-use Rattle.std.proofs.Common.{false, List, None, Some, rules, ap, refl, sym, subst, ◌∙◌}
-use Rattle.std.specs.Prelude.{◌&&◌, if◌then◌else◌, IfErr}
-use Rattle.jn_base.specs.Names.{work_eq}
-use Rattle.jn_locks.specs.declared.words.Broken.{Broken}
-use Rattle.jn_locks.specs.declared.words.Want.{Want}
-use Rattle.jn_locks.specs.declared.works.Works.{Works}
-use Rattle.jn_locks.specs.Locks.{Wants, wanted, commit_wants, or_active}
-use Rattle.jn_locks.specs.Asked.{NoConflict, AreBroken, IsRefusal, is_broken, is_wanted_unit, committed}
-use Rattle.jn_locks.specs.Tables.{table_of, standing_of, prepared}
+use Rattle.jn_locks.proofs.Common.{false, List, None, Some, rules, ap, refl, sym, subst, ◌∙◌, ◌&&◌, if◌then◌else◌, IfErr, work_eq, Broken, Want, Works, Wants, wanted, commit_wants, or_active, NoConflict, AreBroken, IsRefusal, is_broken, is_wanted_unit, committed, table_of, standing_of, prepared}
 use Rattle.jn_locks.proofs.Intends.{after_break, same_wants, intended_among, turned_all, prepared_after}
 use Rattle.jn_locks.proofs.Breaks.{not_self}
 use Rattle.jn_locks.proofs.held.Held.commit.Goals as goal

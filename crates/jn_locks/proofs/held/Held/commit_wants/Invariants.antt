@@ -1,6 +1,4 @@
-use Rattle.std.proofs.Common.{◌≡◌, ◌++◌, drop}
-use Rattle.jn_locks.specs.Tables.{at, units_of}
-use Rattle.jn_locks.specs.Loops.{intentions}
+use Rattle.jn_locks.proofs.Common.{◌≡◌, ◌++◌, drop, at, units_of, intentions}
 use Rattle.jn_locks.proofs.held.Held.commit_wants.Given as goal
 
 abbrev pub invariant-loop-unit : goal.invariant-loop-unit

@@ -1,6 +1,4 @@
-use Rattle.std.proofs.Common.{◌≡◌, drop}
-use Rattle.jn_locks.specs.Tables.{table_of}
-use Rattle.jn_locks.specs.Loops.{least_conflict, collisions_at}
+use Rattle.jn_locks.proofs.Common.{◌≡◌, drop, table_of, least_conflict, collisions_at}
 use Rattle.jn_locks.proofs.held.Held.conflict_among.Given as goal
 
 abbrev pub invariant-loop-holder : goal.invariant-loop-holder

@@ -1,7 +1,4 @@
-use Rattle.std.proofs.Common.{◌≡◌, ◌+◌, List, drop, ◌∙◌, subst, arith}
-use Rattle.jn_base.specs.declared.names.LockUnit.{LockUnit}
-use Rattle.jn_locks.specs.Tables.{at, table_of}
-use Rattle.jn_locks.specs.Loops.{least_conflict, collisions, intentions}
+use Rattle.jn_locks.proofs.Common.{◌≡◌, ◌+◌, List, drop, ◌∙◌, subst, arith, LockUnit, at, table_of, least_conflict, collisions, intentions}
 use Rattle.jn_locks.proofs.Conflicts.{intention_step}
 use Rattle.jn_locks.proofs.held.Held.first_commit_conflict.Goals as goal
 

@@ -1,6 +1,4 @@
-use Rattle.std.proofs.Common.{◌≡◌, drop, None}
-use Rattle.jn_locks.specs.Tables.{table_of, at, units_of}
-use Rattle.jn_locks.specs.Loops.{least_conflict, collisions, intentions}
+use Rattle.jn_locks.proofs.Common.{◌≡◌, drop, None, table_of, at, units_of, least_conflict, collisions, intentions}
 use Rattle.jn_locks.proofs.held.Held.first_commit_conflict.Given as goal
 
 abbrev pub invariant-loop-unit : goal.invariant-loop-unit

@@ -1,6 +1,4 @@
-use Rattle.std.proofs.Common.{◌≡◌, drop, None}
-use Rattle.jn_locks.specs.Tables.{table_of, at}
-use Rattle.jn_locks.specs.Loops.{least_conflict, collisions}
+use Rattle.jn_locks.proofs.Common.{◌≡◌, drop, None, table_of, at, least_conflict, collisions}
 use Rattle.jn_locks.proofs.held.Held.first_conflict.Given as goal
 
 abbrev pub invariant-loop-want : goal.invariant-loop-want

@@ -1,7 +1,4 @@
-use Rattle.std.proofs.Common.{List, ◌++◌, length, sym, ap, ◌∙◌, arith, append-nil}
-use Rattle.jn_locks.specs.declared.words.Holder.{Holder}
-use Rattle.jn_locks.specs.Tables.{at}
-use Rattle.jn_locks.specs.Loops.{all_locks}
+use Rattle.jn_locks.proofs.Common.{List, ◌++◌, length, sym, ap, ◌∙◌, arith, append-nil, Holder, at, all_locks}
 use Rattle.jn_locks.proofs.Steps.{drop_past}
 use Rattle.jn_locks.proofs.Listing.{holders_are}
 use Rattle.jn_locks.proofs.held.Held.holders.Goals as goal

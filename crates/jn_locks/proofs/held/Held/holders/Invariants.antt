@@ -1,6 +1,4 @@
-use Rattle.std.proofs.Common.{◌≡◌, ◌++◌, drop}
-use Rattle.jn_locks.specs.Tables.{at}
-use Rattle.jn_locks.specs.Loops.{all_locks}
+use Rattle.jn_locks.proofs.Common.{◌≡◌, ◌++◌, drop, at, all_locks}
 use Rattle.jn_locks.proofs.held.Held.holders.Given as goal
 
 abbrev pub invariant-loop-h : goal.invariant-loop-h

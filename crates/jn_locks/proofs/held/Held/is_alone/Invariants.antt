@@ -1,6 +1,4 @@
-use Rattle.std.proofs.Common.{◌≡◌, drop}
-use Rattle.jn_locks.specs.Tables.{at}
-use Rattle.jn_locks.specs.Loops.{collisions}
+use Rattle.jn_locks.proofs.Common.{◌≡◌, drop, at, collisions}
 use Rattle.jn_locks.proofs.held.Held.is_alone.Given as goal
 
 abbrev pub invariant-loop-want : goal.invariant-loop-want

@@ -1,6 +1,4 @@
-use Rattle.std.proofs.Common.{◌≡◌, drop}
-use Rattle.jn_locks.specs.Tables.{at}
-use Rattle.jn_locks.specs.Loops.{collisions_at}
+use Rattle.jn_locks.proofs.Common.{◌≡◌, drop, at, collisions_at}
 use Rattle.jn_locks.proofs.held.Held.is_alone_at.Given as goal
 
 abbrev pub invariant-loop-holder : goal.invariant-loop-holder

@@ -1,8 +1,4 @@
-use Rattle.std.proofs.Common.{◌≡◌, true, drop}
-use Rattle.std.specs.Prelude.{◌||◌}
-use Rattle.jn_base.specs.declared.names.LockUnit.{LockUnit}
-use Rattle.jn_locks.specs.Asked.{is_wanted_unit}
-use Rattle.jn_locks.specs.Tables.{at, has_room_at}
+use Rattle.jn_locks.proofs.Common.{◌≡◌, true, drop, ◌||◌, LockUnit, is_wanted_unit, at, has_room_at}
 use Rattle.jn_locks.proofs.held.Held.make_room.Given as goal
 
 abbrev pub invariant-loop-want : goal.invariant-loop-want

@@ -1,7 +1,4 @@
-use Rattle.std.proofs.Common.{List, [], refl, sym, ap, ◌∙◌}
-use Rattle.jn_base.specs.declared.names.LockUnit.{LockUnit}
-use Rattle.jn_locks.specs.Locks.{is_unit}
-use Rattle.jn_locks.specs.Tables.{at, units_of}
+use Rattle.jn_locks.proofs.Common.{List, [], refl, sym, ap, ◌∙◌, LockUnit, is_unit, at, units_of}
 use Rattle.jn_locks.proofs.Steps.{released_holds, released_listed, released_once}
 use Rattle.jn_locks.proofs.held.Held.release.Goals as goal
 

@@ -1,8 +1,4 @@
-use Rattle.std.proofs.Common.{sym, subst}
-use Rattle.jn_locks.specs.Locks.{Wants}
-use Rattle.jn_locks.specs.Asked.{NoConflict, IsConflict}
-use Rattle.jn_locks.specs.Tables.{at, units_of, table_of}
-use Rattle.jn_locks.specs.Loops.{intentions}
+use Rattle.jn_locks.proofs.Common.{sym, subst, Wants, NoConflict, IsConflict, at, units_of, table_of, intentions}
 use Rattle.jn_locks.proofs.Conflicts.{no_conflict, conflict_is}
 use Rattle.jn_locks.proofs.Intends.{same_wants}
 use Rattle.jn_locks.proofs.held.Held.test_commit.Goals as goal

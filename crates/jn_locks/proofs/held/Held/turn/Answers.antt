@@ -1,7 +1,4 @@
-use Rattle.std.proofs.Common.{List, get_or, ap, ◌∙◌, arith}
-use Rattle.jn_locks.specs.declared.words.Holder.{Holder}
-use Rattle.jn_locks.specs.Holders.{holds_in}
-use Rattle.jn_locks.specs.Tables.{at, table_of, units_of}
+use Rattle.jn_locks.proofs.Common.{List, get_or, ap, ◌∙◌, arith, Holder, holds_in, at, table_of, units_of}
 use Rattle.jn_locks.proofs.Steps.{turn_more, wanted_here, wanted_later, no_want}
 use Rattle.jn_locks.proofs.Puts.{turn_holds, listed_same, put_once, put_among}
 use Rattle.jn_locks.proofs.held.Held.turn.Goals as goal

@@ -1,10 +1,4 @@
-use Rattle.std.proofs.Common.{◌≡◌, true, drop}
-use Rattle.jn_base.specs.declared.names.WorkId.{WorkId}
-use Rattle.jn_base.specs.declared.names.LockUnit.{LockUnit}
-use Rattle.jn_locks.specs.declared.words.Mode.{Mode}
-use Rattle.jn_locks.specs.Holders.{is_among}
-use Rattle.jn_locks.specs.Asked.{is_wanted_unit}
-use Rattle.jn_locks.specs.Tables.{at, table_of, IsSoundTable}
+use Rattle.jn_locks.proofs.Common.{◌≡◌, true, drop, WorkId, LockUnit, Mode, is_among, is_wanted_unit, at, table_of, IsSoundTable}
 use Rattle.jn_locks.proofs.Steps.{turned_in}
 use Rattle.jn_locks.proofs.held.Held.turn.Given as goal
 

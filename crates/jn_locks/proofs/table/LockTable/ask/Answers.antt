@@ -1,5 +1,4 @@
-use Rattle.jn_locks.specs.Locks.{wanted}
-use Rattle.jn_locks.specs.Tables.{table_of}
+use Rattle.jn_locks.proofs.Common.{wanted, table_of}
 use Rattle.jn_locks.proofs.Granting.{asked_compatible, compatible_after}
 use Rattle.jn_locks.proofs.table.LockTable.ask.Goals as goal
 

@@ -1,5 +1,4 @@
-use Rattle.jn_locks.specs.Asked.{rebuilt}
-use Rattle.jn_locks.specs.Tables.{table_of}
+use Rattle.jn_locks.proofs.Common.{rebuilt, table_of}
 use Rattle.jn_locks.proofs.Granting.{rebuilt_compatible, compatible_after_ok}
 use Rattle.jn_locks.proofs.table.LockTable.rebuild.Goals as goal
 

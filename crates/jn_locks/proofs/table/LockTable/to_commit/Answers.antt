@@ -1,4 +1,4 @@
-use Rattle.jn_locks.specs.Tables.{table_of}
+use Rattle.jn_locks.proofs.Common.{table_of}
 use Rattle.jn_locks.proofs.Granting.{committed_compatible, compatible_after}
 use Rattle.jn_locks.proofs.table.LockTable.to_commit.Goals as goal
 

@@ -1,8 +1,4 @@
-use Rattle.std.proofs.Common.{rules, List, refl, sym, ap, ◌∙◌}
-use Rattle.std.specs.Prelude.{not}
-use Rattle.jn_locks.specs.declared.words.Holder.{Holder}
-use Rattle.jn_locks.specs.Holders.{is_among, with_holder}
-use Rattle.jn_locks.specs.Tables.{holders_in, room_in}
+use Rattle.jn_locks.proofs.Common.{rules, List, refl, sym, ap, ◌∙◌, not, Holder, is_among, with_holder, holders_in, room_in}
 use Rattle.jn_locks.proofs.Maps.{unit_at, unit_after}
 use Rattle.jn_locks.proofs.units.Units.add.Goals as goal
 

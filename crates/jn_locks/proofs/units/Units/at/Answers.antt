@@ -1,5 +1,4 @@
-use Rattle.std.proofs.Common.{sym, ap, ◌∙◌}
-use Rattle.jn_locks.specs.Tables.{holders_in}
+use Rattle.jn_locks.proofs.Common.{sym, ap, ◌∙◌, holders_in}
 use Rattle.jn_locks.proofs.Maps.{unit_at}
 use Rattle.jn_locks.proofs.units.Units.at.Goals as goal
 

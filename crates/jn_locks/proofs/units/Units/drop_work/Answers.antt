@@ -1,9 +1,4 @@
-use Rattle.std.proofs.Common.{rules, arith, List, sym, ap, ◌∙◌}
-use Rattle.std.proofs.lemmas.Bool.Decides.{nat_tests}
-use Rattle.jn_locks.specs.declared.words.Holder.{Holder}
-use Rattle.jn_locks.specs.Locks.{unit_eq}
-use Rattle.jn_locks.specs.Holders.{without}
-use Rattle.jn_locks.specs.Tables.{holders_in}
+use Rattle.jn_locks.proofs.Common.{rules, arith, List, sym, ap, ◌∙◌, nat_tests, Holder, unit_eq, without, holders_in}
 use Rattle.jn_locks.proofs.Maps.{unit_at, unit_after, twice}
 use Rattle.jn_locks.proofs.Holding.{none_if_empty}
 use Rattle.jn_locks.proofs.units.Units.drop_work.Goals as goal

@@ -1,6 +1,4 @@
-use Rattle.std.proofs.Common.{rules, arith, sym, ap, ◌∙◌}
-use Rattle.std.proofs.lemmas.Bool.Decides.{nat_tests}
-use Rattle.jn_locks.specs.Tables.{holders_in, room_in}
+use Rattle.jn_locks.proofs.Common.{rules, arith, sym, ap, ◌∙◌, nat_tests, holders_in, room_in}
 use Rattle.jn_locks.proofs.Maps.{unit_at, unit_kept, unit_stays}
 use Rattle.jn_locks.proofs.units.Units.make_room.Goals as goal
 

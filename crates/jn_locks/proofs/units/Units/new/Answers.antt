@@ -1,8 +1,5 @@
-use Rattle.std.proofs.Common.{ℕ, List, Option, ap}
+use Rattle.jn_locks.proofs.Common.{ℕ, List, Option, ap, Vec, Holder, unit_place, place_eq, holders_in}
 use Rattle.std.specs.Map.{lookup}
-use Rattle.std.specs.Global.{Vec}
-use Rattle.jn_locks.specs.declared.words.Holder.{Holder}
-use Rattle.jn_locks.specs.Tables.{unit_place, place_eq, holders_in}
 use Rattle.jn_locks.proofs.units.Units.new.Goals as goal
 
 pub returns : goal.returns

@@ -1,7 +1,4 @@
-use Rattle.std.proofs.Common.{rules, List, refl, sym, ap, ◌∙◌}
-use Rattle.jn_locks.specs.declared.words.Holder.{Holder}
-use Rattle.jn_locks.specs.Holders.{with_holder}
-use Rattle.jn_locks.specs.Tables.{holders_in, room_in}
+use Rattle.jn_locks.proofs.Common.{rules, List, refl, sym, ap, ◌∙◌, Holder, with_holder, holders_in, room_in}
 use Rattle.jn_locks.proofs.Maps.{unit_at, unit_after}
 use Rattle.jn_locks.proofs.units.Units.put.Goals as goal
 

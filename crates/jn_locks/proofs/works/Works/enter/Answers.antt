@@ -1,8 +1,4 @@
-use Rattle.std.proofs.Common.{rules, List, Option, Some, sym, ap, ◌∙◌}
-use Rattle.jn_base.specs.declared.names.LockUnit.{LockUnit}
-use Rattle.jn_locks.specs.declared.words.Standing.{Standing}
-use Rattle.jn_locks.specs.Locks.{or_active}
-use Rattle.jn_locks.specs.Tables.{standing_in, units_in}
+use Rattle.jn_locks.proofs.Common.{rules, List, Option, Some, sym, ap, ◌∙◌, LockUnit, Standing, or_active, standing_in, units_in}
 use Rattle.jn_locks.proofs.Maps.{work_at, work_after, work_kept, on_err}
 use Rattle.jn_locks.proofs.works.Works.enter.Goals as goal
 

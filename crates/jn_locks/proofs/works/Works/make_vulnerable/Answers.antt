@@ -1,8 +1,4 @@
-use Rattle.std.proofs.Common.{rules, Option, Some, sym, ap, ◌∙◌}
-use Rattle.std.specs.Option.{option_map}
-use Rattle.jn_locks.specs.declared.words.Standing.{Standing}
-use Rattle.jn_locks.specs.Locks.{once_vulnerable}
-use Rattle.jn_locks.specs.Tables.{standing_in, units_in}
+use Rattle.jn_locks.proofs.Common.{rules, Option, Some, sym, ap, ◌∙◌, option_map, Standing, once_vulnerable, standing_in, units_in}
 use Rattle.jn_locks.proofs.Maps.{work_at, work_after, work_kept}
 use Rattle.jn_locks.proofs.works.Works.make_vulnerable.Goals as goal
 

@@ -1,8 +1,4 @@
-use Rattle.std.proofs.Common.{rules, Option, sym, ap}
-use Rattle.std.specs.Option.{option_map}
-use Rattle.jn_locks.specs.declared.words.Standing.{Standing}
-use Rattle.jn_locks.specs.declared.words.Standing.TheVariants.{Prepared as IsPrepared}
-use Rattle.jn_locks.specs.Tables.{standing_in, units_in}
+use Rattle.jn_locks.proofs.Common.{rules, Option, sym, ap, option_map, Standing, IsPrepared, standing_in, units_in}
 use Rattle.jn_locks.proofs.Maps.{work_at, work_after, work_kept}
 use Rattle.jn_locks.proofs.works.Works.prepare.Goals as goal
 

@@ -1,6 +1,4 @@
-use Rattle.std.proofs.Common.{rules, arith, List, ◌∷◌, [], ◌++◌, sym, ap, ◌∙◌}
-use Rattle.jn_base.specs.declared.names.LockUnit.{LockUnit}
-use Rattle.jn_locks.specs.Tables.{standing_in, units_in}
+use Rattle.jn_locks.proofs.Common.{rules, arith, List, ◌∷◌, [], ◌++◌, sym, ap, ◌∙◌, LockUnit, standing_in, units_in}
 use Rattle.jn_locks.proofs.Maps.{work_at, work_after, work_kept}
 use Rattle.jn_locks.proofs.works.Works.push_unit.Goals as goal
 

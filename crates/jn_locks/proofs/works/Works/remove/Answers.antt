@@ -1,5 +1,4 @@
-use Rattle.std.proofs.Common.{refl}
-use Rattle.jn_locks.specs.Tables.{standing_in, units_in}
+use Rattle.jn_locks.proofs.Common.{refl, standing_in, units_in}
 use Rattle.jn_locks.proofs.Maps.{work_after}
 use Rattle.jn_locks.proofs.works.Works.remove.Goals as goal
 

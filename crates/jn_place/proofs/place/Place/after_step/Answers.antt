@@ -1,12 +1,4 @@
-use Rattle.std.specs.Prelude.{OnOk}
-use Rattle.std.proofs.Common.{◌≡◌, ◌++◌, ◌∙◌, true, false, ap, subst, sym}
-use Rattle.jn_device.specs.Device.{DeviceState}
-use Rattle.jn_device.specs.Events.{cleared}
-use Rattle.jn_recovery.specs.Loading.{counts_by}
-use Rattle.jn_store.specs.Store.{StoreView}
-use Rattle.jn_place.specs.Exact.{lines_at, texts_of_step}
-use Rattle.jn_place.specs.Inner.{told_at, StaysAs, Follows}
-use Rattle.jn_place.specs.Places.{IsPlace}
+use Rattle.jn_place.proofs.Common.{◌≡◌, ◌++◌, ◌∙◌, true, false, ap, subst, sym, OnOk, DeviceState, cleared, counts_by, StoreView, lines_at, texts_of_step, told_at, StaysAs, Follows, IsPlace}
 use Rattle.jn_place.proofs.Ending.{on-ok, lines-stopped, follows-done, follows-stopped, told-left}
 use Rattle.jn_place.proofs.Steps.{any-ok, down-stands, held-stands, stands-as}
 use Rattle.jn_place.proofs.place.Place.after_step.Goals as goal

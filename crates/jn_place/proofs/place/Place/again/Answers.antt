@@ -1,7 +1,4 @@
-use Rattle.jn_server.specs.Seen.{view_with, memory_of}
-use Rattle.jn_storage.specs.Calls.{state}
-use Rattle.jn_device.specs.Device.{DeviceState}
-use Rattle.jn_store.specs.Store.{StoreView}
+use Rattle.jn_place.proofs.Common.{view_with, memory_of, state, DeviceState, StoreView}
 use Rattle.jn_place.proofs.Befalling.{again-exact}
 use Rattle.jn_place.proofs.Served.{again-sent}
 use Rattle.jn_place.proofs.place.Place.again.Goals as goal

@@ -1,12 +1,7 @@
-use Rattle.std.proofs.Common.{ap}
-use Rattle.jn_device.specs.Device.{DeviceState}
-use Rattle.jn_device.specs.Events.{Arms}
-use Rattle.jn_store.specs.Store.{StoreView}
-use Rattle.jn_recovery.specs.Loading.{counts_by}
+use Rattle.jn_place.proofs.Common.{ap, DeviceState, Arms, StoreView, counts_by, KeepsRubbish}
 use Rattle.jn_place.proofs.Befalling.{befell-up, befell-down}
 use Rattle.jn_place.proofs.Devices.{told-still, befallen-down}
 use Rattle.jn_place.proofs.Rubbish.{befell-keeps, down-so}
-use Rattle.jn_place.specs.Exact.{KeepsRubbish}
 use Rattle.jn_place.proofs.place.Place.arm.Goals as goal
 
 pub returns-in-Down-clause-place : goal.returns-in-Down-clause-place

@@ -1,4 +1,4 @@
-use Rattle.jn_store.specs.Store.{StoreView}
+use Rattle.jn_place.proofs.Common.{StoreView}
 use Rattle.jn_place.proofs.Calling.{scrubs-done, scrubs-stopped}
 use Rattle.jn_place.proofs.Rubbish.{keeps-so, scrubs-image}
 use Rattle.jn_place.proofs.place.Place.clean.Goals as goal

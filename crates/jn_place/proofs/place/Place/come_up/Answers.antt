@@ -1,7 +1,4 @@
-use Rattle.jn_recovery.specs.Loading.{counts_by}
-use Rattle.std.proofs.Common.{◌∙◌}
-use Rattle.jn_device.specs.Device.{DeviceState}
-use Rattle.jn_store.specs.Store.{StoreView}
+use Rattle.jn_place.proofs.Common.{◌∙◌, counts_by, DeviceState, StoreView}
 use Rattle.jn_place.proofs.Rising.{restarted, comes-calm}
 use Rattle.jn_place.proofs.Steps.{stands-down, came-there, came-stands, stands-as}
 use Rattle.jn_place.proofs.place.Place.come_up.Goals as goal

@@ -1,7 +1,4 @@
-use Rattle.std.proofs.Common.{◌∙◌, true}
-use Rattle.jn_device.specs.Device.{DeviceState}
-use Rattle.jn_recovery.specs.Loading.{counts_by}
-use Rattle.jn_store.specs.Store.{StoreView}
+use Rattle.jn_place.proofs.Common.{◌∙◌, true, DeviceState, counts_by, StoreView}
 use Rattle.jn_place.proofs.Befalling.{crash-exact}
 use Rattle.jn_place.proofs.Devices.{crashed}
 use Rattle.jn_place.proofs.place.Place.crash.Goals as goal

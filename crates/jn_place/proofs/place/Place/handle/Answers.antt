@@ -1,5 +1,4 @@
-use Rattle.jn_store.specs.Store.{StoreView}
-use Rattle.jn_place.specs.Exact.{TakeLeaves}
+use Rattle.jn_place.proofs.Common.{StoreView, TakeLeaves}
 use Rattle.jn_place.proofs.Calling.{handles-done, handles-stopped}
 use Rattle.jn_place.proofs.Rubbish.{up-so}
 use Rattle.jn_place.proofs.Served.{handled-done}

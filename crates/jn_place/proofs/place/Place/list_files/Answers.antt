@@ -1,4 +1,4 @@
-use Rattle.jn_store.specs.Store.{StoreView}
+use Rattle.jn_place.proofs.Common.{StoreView}
 use Rattle.jn_place.proofs.Calling.{shows-done, shows-stopped}
 use Rattle.jn_place.proofs.Rubbish.{keeps-so}
 use Rattle.jn_place.proofs.place.Place.list_files.Goals as goal

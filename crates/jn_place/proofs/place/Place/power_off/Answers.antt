@@ -1,8 +1,4 @@
-use Rattle.jn_store.specs.Store.{StoreView}
-use Rattle.jn_found.proofs.Picking.{same_recoverable}
-use Rattle.jn_recovery.specs.Loading.{counts_by}
-use Rattle.jn_device.specs.Device.{DeviceState}
-use Rattle.jn_device.specs.Events.{powered_off}
+use Rattle.jn_place.proofs.Common.{StoreView, same_recoverable, counts_by, DeviceState, powered_off}
 use Rattle.jn_place.proofs.Befalling.{stays-down}
 use Rattle.jn_place.proofs.Devices.{down-at}
 use Rattle.jn_place.proofs.place.Place.power_off.Goals as goal

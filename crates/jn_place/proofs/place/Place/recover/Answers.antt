@@ -1,7 +1,4 @@
-use Rattle.jn_device.specs.Device.{DeviceState}
-use Rattle.jn_recovery.specs.Loading.{counts_by}
-use Rattle.jn_server.specs.Seen.{view_with}
-use Rattle.jn_store.specs.Store.{StoreView}
+use Rattle.jn_place.proofs.Common.{DeviceState, counts_by, view_with, StoreView}
 use Rattle.jn_place.proofs.Rising.{risen-ok, came-ok, cut-up, at-last}
 use Rattle.jn_place.proofs.Slots.{restarted-held}
 use Rattle.jn_place.proofs.place.Place.recover.Goals as goal

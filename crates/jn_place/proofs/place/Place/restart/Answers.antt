@@ -1,7 +1,4 @@
-use Rattle.std.proofs.Common.{sym, ◌∙◌}
-use Rattle.jn_recovery.specs.Loading.{counts_by}
-use Rattle.jn_store.specs.Store.{StoreView}
-use Rattle.jn_device.specs.Device.{DeviceState}
+use Rattle.jn_place.proofs.Common.{sym, ◌∙◌, counts_by, StoreView, DeviceState}
 use Rattle.jn_place.proofs.Devices.{down-at}
 use Rattle.jn_place.proofs.Rising.{lifted-ok}
 use Rattle.jn_place.proofs.place.Place.restart.Goals as goal

@@ -1,12 +1,4 @@
-use Rattle.std.specs.Prelude.{Bool, true, ◌≡◌, ◌++◌, is_some, OnOk}
-use Rattle.std.proofs.Common.{◌∙◌, sym, subst}
-use Rattle.jn_device.specs.Device.{DeviceState}
-use Rattle.jn_recovery.specs.Loading.{counts_by}
-use Rattle.jn_store.specs.Store.{StoreView}
-use Rattle.jn_place.specs.Calls.{Called}
-use Rattle.jn_place.specs.Exact.{lines_at, texts_of_step, ScrubbedBy, StaysCalm, WhereUp, KeepsRubbish, LeavesImage}
-use Rattle.jn_place.specs.Inner.{told_at, Follows, LeavesOwnImage}
-use Rattle.jn_place.specs.Places.{IsPlace}
+use Rattle.jn_place.proofs.Common.{◌∙◌, sym, subst, Bool, true, ◌≡◌, ◌++◌, is_some, OnOk, DeviceState, counts_by, StoreView, Called, lines_at, texts_of_step, ScrubbedBy, StaysCalm, WhereUp, KeepsRubbish, LeavesImage, told_at, Follows, LeavesOwnImage, IsPlace}
 use Rattle.jn_place.proofs.Ending.{on-ok, on-both, done-calm}
 use Rattle.jn_place.proofs.Rubbish.{left-up, keeps-lasts, image-lasts, its-image}
 use Rattle.jn_place.proofs.Steps.{quiet-left}

@@ -1,14 +1,5 @@
 use Rattle.std.specs.Global.{Vec}
-use Rattle.std.specs.Prelude.{Bool, Option, Some, None, ◌≡◌, ◌++◌, is_some}
-use Rattle.std.proofs.Common.{◌∙◌, refl, sym, subst}
-use Rattle.jn_device.specs.Device.{DeviceState}
-use Rattle.jn_recovery.specs.Loading.{counts_by}
-use Rattle.jn_server.specs.declared.show.Shown.{Shown}
-use Rattle.jn_store.specs.Store.{StoreView}
-use Rattle.jn_place.specs.Calls.{Called}
-use Rattle.jn_place.specs.Exact.{lines_at, texts_of_step, items_of, StaysCalm, KeepsRubbish}
-use Rattle.jn_place.specs.Inner.{told_at, Follows}
-use Rattle.jn_place.specs.Places.{IsPlace}
+use Rattle.jn_place.proofs.Common.{◌∙◌, refl, sym, subst, Bool, Option, Some, None, ◌≡◌, ◌++◌, is_some, DeviceState, counts_by, Shown, StoreView, Called, lines_at, texts_of_step, items_of, StaysCalm, KeepsRubbish, told_at, Follows, IsPlace}
 use Rattle.jn_place.proofs.Rubbish.{left-up, keeps-lasts}
 use Rattle.jn_place.proofs.Steps.{quiet-left}
 use Rattle.jn_place.proofs.Taking.{showed-by, showed-calm}

@@ -1,11 +1,4 @@
-use Rattle.std.specs.Prelude.{ℕ, Bool, ◌≡◌, ◌++◌, is_some}
-use Rattle.std.proofs.Common.{◌∙◌, subst}
-use Rattle.jn_device.specs.Device.{DeviceState}
-use Rattle.jn_recovery.specs.Loading.{counts_by}
-use Rattle.jn_store.specs.Store.{StoreView}
-use Rattle.jn_place.specs.Exact.{lines_at, texts_of_step, WorkLeaves}
-use Rattle.jn_place.specs.Inner.{told_at, Follows}
-use Rattle.jn_place.specs.Places.{IsPlace}
+use Rattle.jn_place.proofs.Common.{◌∙◌, subst, ℕ, Bool, ◌≡◌, ◌++◌, is_some, DeviceState, counts_by, StoreView, lines_at, texts_of_step, WorkLeaves, told_at, Follows, IsPlace}
 use Rattle.jn_place.proofs.Remaining.{step-less}
 use Rattle.jn_place.proofs.Rubbish.{left-up, work-lasts}
 use Rattle.jn_place.proofs.Steps.{taken-left, follows-as}

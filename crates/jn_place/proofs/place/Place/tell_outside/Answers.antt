@@ -1,9 +1,4 @@
-use Rattle.std.proofs.Common.{◌++◌, ap, sym, ◌∙◌, true}
-use Rattle.jn_device.specs.Device.{DeviceState}
-use Rattle.jn_device.specs.Events.{cleared}
-use Rattle.jn_store.specs.Store.{StoreView}
-use Rattle.jn_place.specs.Exact.{lines_at, texts_of_step}
-use Rattle.jn_place.specs.Inner.{told_at}
+use Rattle.jn_place.proofs.Common.{◌++◌, ap, sym, ◌∙◌, true, DeviceState, cleared, StoreView, lines_at, texts_of_step, told_at}
 use Rattle.jn_place.proofs.Befalling.{stays-up, stays-down}
 use Rattle.jn_place.proofs.Devices.{cleared-down}
 use Rattle.jn_place.proofs.place.Place.tell_outside.Goals as goal

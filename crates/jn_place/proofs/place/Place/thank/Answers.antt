@@ -1,10 +1,4 @@
-use Rattle.std.proofs.Common.{subst, sym, true, false}
-use Rattle.jn_server.specs.Seen.{view_with}
-use Rattle.jn_store.specs.Store.{StoreView}
-use Rattle.jn_place.specs.declared.place.Slot.{Slot}
-use Rattle.jn_place.specs.declared.place.Slot.TheVariants.{Up}
-use Rattle.jn_place.specs.Calls.{Called}
-use Rattle.jn_place.specs.Exact.{KeepsRubbish}
+use Rattle.jn_place.proofs.Common.{subst, sym, true, false, view_with, StoreView, Slot, Up, Called, KeepsRubbish}
 use Rattle.jn_place.proofs.Calling.{closes-done, closes-stopped}
 use Rattle.jn_place.proofs.Rubbish.{up-so}
 use Rattle.jn_place.proofs.Served.{nothing, closed-called, closed-stopped}

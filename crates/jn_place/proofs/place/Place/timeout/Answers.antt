@@ -1,5 +1,4 @@
-use Rattle.jn_device.specs.Device.{DeviceState}
-use Rattle.jn_store.specs.Store.{StoreView}
+use Rattle.jn_place.proofs.Common.{DeviceState, StoreView}
 use Rattle.jn_place.proofs.Befalling.{timeout-exact}
 use Rattle.jn_place.proofs.place.Place.timeout.Goals as goal
 

@@ -1,4 +1,4 @@
-use Rattle.jn_store.specs.Store.{StoreView}
+use Rattle.jn_place.proofs.Common.{StoreView}
 use Rattle.jn_place.proofs.Calling.{works-done, works-stopped, worked-done, worked-stopped}
 use Rattle.jn_place.proofs.Rubbish.{works-leave}
 use Rattle.jn_place.proofs.place.Place.work.Goals as goal

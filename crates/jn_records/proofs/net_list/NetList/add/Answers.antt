@@ -1,11 +1,4 @@
-use Rattle.std.proofs.Common.{◌≡◌, ◌<◌, true, List, Some, Result, Ok, Err, length, filter, sym, subst, ap, ◌∙◌, arith}
-use Rattle.std.proofs.lemmas.Bool.{false≢true}
-use Rattle.std.specs.Prelude.{IsOk, OnOk, vec_len, vec_capacity}
-use Rattle.jn_order.specs.Changes.{and_then}
-use Rattle.jn_order.specs.Files.{effect}
-use Rattle.jn_records.specs.declared.intention.Intention.{Intention}
-use Rattle.jn_records.specs.NetLists.{InOrder, blocks_below, net_of, added, net_change, stays}
-use Rattle.jn_records.specs.NetEdits.{intention_for, list_after, in_its_place, with_intention}
+use Rattle.jn_records.proofs.Common.{◌≡◌, ◌<◌, true, List, Some, Result, Ok, Err, length, filter, sym, subst, ap, ◌∙◌, arith, false≢true, IsOk, OnOk, vec_len, vec_capacity, and_then, effect, Intention, InOrder, blocks_below, net_of, added, net_change, stays, intention_for, list_after, in_its_place, with_intention}
 use Rattle.jn_records.proofs.NetLemmas.{list-net, added-change}
 use Rattle.jn_records.proofs.EditLemmas.{edited-in_order, edited-net, edited-length, edited-blocks, unchanged-length}
 use Rattle.jn_records.proofs.net_list.NetList.add.Goals as goal

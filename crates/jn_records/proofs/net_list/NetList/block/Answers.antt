@@ -1,9 +1,5 @@
-use Rattle.std.proofs.Common.{sym, subst, ◌≡◌, ◌∙◌, ◌+◌, List, ap}
-use Rattle.jn_base.specs.declared.names.LockUnit.TheVariants.{Block}
-use Rattle.jn_records.specs.declared.intention.Intention.{Intention}
+use Rattle.jn_records.proofs.Common.{sym, subst, ◌≡◌, ◌∙◌, ◌+◌, List, ap, Block, Intention, entry, as_first, as_put, seen_block, seen_by}
 use Rattle.jn_records.specs.declared.net_list.Seen.{Seen}
-use Rattle.jn_records.specs.NetLists.{entry, as_first, as_put, seen_block}
-use Rattle.jn_records.specs.NetEdits.{seen_by}
 use Rattle.jn_records.proofs.EditLemmas.{list-seen}
 use Rattle.jn_records.proofs.net_list.NetList.block.Goals as goal
 

@@ -1,6 +1,4 @@
-use Rattle.std.proofs.Common.{◌≡◌, Some, replicate, ap, sym, ◌∙◌}
-use Rattle.jn_records.specs.declared.root.Root.{Root}
-use Rattle.jn_records.specs.Pages.{root_page}
+use Rattle.jn_records.proofs.Common.{◌≡◌, Some, replicate, ap, sym, ◌∙◌, Root, root_page}
 use Rattle.jn_records.proofs.Fields.{value_is}
 use Rattle.jn_records.proofs.Roots.{root_is_read}
 use Rattle.jn_records.proofs.root.Root.decode.Goals as goal

@@ -1,11 +1,4 @@
-use Rattle.std.proofs.Common.{subst, sym}
-use Rattle.jn_store.specs.Store.{StoreView}
-use Rattle.std.proofs.Common.{◌≡◌, []}
-use Rattle.std.specs.Prelude.{OnOk}
-use Rattle.jn_storage.specs.Calls.{state}
-use Rattle.jn_system.specs.WholeSystem.Servers.{server_again}
-use Rattle.jn_transactions.specs.Telling.{added}
-use Rattle.jn_server.specs.Seen.{Parts, view_with, memory_of, IsServer}
+use Rattle.jn_server.proofs.Common.{subst, sym, StoreView, ◌≡◌, [], OnOk, state, server_again, added, Parts, view_with, memory_of, IsServer}
 use Rattle.jn_server.proofs.Stepping.{sent-again}
 use Rattle.jn_server.proofs.server.Server.again.Goals as goal
 

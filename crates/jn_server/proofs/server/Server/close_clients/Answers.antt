@@ -1,13 +1,4 @@
-use Rattle.std.proofs.Common.{◌≡◌, [], ap, refl, subst, sym}
-use Rattle.jn_store.specs.Store.{StoreView}
-use Rattle.jn_recovery.specs.Memory.{view_of}
-use Rattle.jn_storage.specs.Storage.{Accounts}
-use Rattle.jn_coord.specs.Remembered.{table_of}
-use Rattle.jn_rows.specs.Coordinator.{close_clients_row}
-use Rattle.jn_system.specs.WholeSystem.Servers.{of_coordinator}
-use Rattle.jn_system.proofs.WholeSystem.CoordinatorRows.{close-aside}
-use Rattle.jn_server.specs.Handling.{IsDone, Does}
-use Rattle.jn_server.specs.Seen.{Parts, view_with, memory_of, IsServer}
+use Rattle.jn_server.proofs.Common.{◌≡◌, [], ap, refl, subst, sym, StoreView, view_of, Accounts, table_of, close_clients_row, of_coordinator, close-aside, IsDone, Does, Parts, view_with, memory_of, IsServer}
 use Rattle.jn_server.proofs.Coordinating.{coordinated, closing_failed}
 use Rattle.jn_server.proofs.server.Server.close_clients.Goals as goal
 

@@ -1,13 +1,4 @@
-use Rattle.std.proofs.Common.{ap, subst, sym}
-use Rattle.jn_recovery.specs.Memory.{view_of}
-use Rattle.jn_storage.specs.Storage.{Accounts}
-use Rattle.jn_coord.specs.Calls.{free_of}
-use Rattle.jn_coord.specs.Remembered.{table_of}
-use Rattle.jn_rows.specs.Coordinator.{coordinator_row}
-use Rattle.jn_system.specs.WholeSystem.Servers.{of_coordinator}
-use Rattle.jn_system.proofs.WholeSystem.CoordinatorRows.{coordinator-aside}
-use Rattle.jn_server.specs.Seen.{Parts, view_with, memory_of, IsServer}
-use Rattle.jn_server.specs.Handling.{IsDone, Does, LeavesRubbish}
+use Rattle.jn_server.proofs.Common.{ap, subst, sym, view_of, Accounts, free_of, table_of, coordinator_row, of_coordinator, coordinator-aside, Parts, view_with, memory_of, IsServer, IsDone, Does, LeavesRubbish}
 use Rattle.jn_server.proofs.Coordinating.{coordinated, flags-leave-none, coordinator_failed}
 use Rattle.jn_server.proofs.server.Server.coordinate.Goals as goal
 

@@ -1,7 +1,4 @@
-use Rattle.std.proofs.Common.{subst}
-use Rattle.jn_store.specs.Store.{StoreView}
-use Rattle.jn_server.specs.Seen.{Parts, view_with}
-use Rattle.jn_server.specs.Reading.{CountsPages}
+use Rattle.jn_server.proofs.Common.{subst, StoreView, Parts, view_with, CountsPages}
 use Rattle.jn_server.proofs.Room.{counts_of_pages}
 use Rattle.jn_server.proofs.server.Server.counts_pages.Goals as goal
 

@@ -1,9 +1,4 @@
-use Rattle.std.proofs.Common.{ap, subst}
-use Rattle.jn_store.specs.Store.{StoreView}
-use Rattle.jn_found.specs.Pages.{found_on}
-use Rattle.jn_intent.specs.Scrubbing.{counts_in}
-use Rattle.jn_server.specs.Restarting.{IsLeft}
-use Rattle.jn_server.specs.Seen.{Parts, view_with}
+use Rattle.jn_server.proofs.Common.{ap, subst, StoreView, found_on, counts_in, IsLeft, Parts, view_with}
 use Rattle.jn_server.proofs.server.Server.crash.Goals as goal
 
 pub returns-clause-left : goal.returns-clause-left

@@ -1,8 +1,4 @@
-use Rattle.std.proofs.Common.{subst}
-use Rattle.jn_store.specs.Store.{StoreView}
-use Rattle.jn_recovery.specs.Memory.{view_of}
-use Rattle.jn_server.specs.Seen.{Parts, view_with}
-use Rattle.jn_server.specs.Befalling.{Befalls}
+use Rattle.jn_server.proofs.Common.{subst, StoreView, view_of, Parts, view_with, Befalls}
 use Rattle.jn_server.proofs.Serving.{befallen}
 use Rattle.jn_server.proofs.server.Server.disarm.Goals as goal
 

@@ -1,9 +1,5 @@
-use Rattle.std.proofs.Common.{◌≡◌, subst, sym}
+use Rattle.jn_server.proofs.Common.{◌≡◌, subst, sym, StoreView, state, server_step, Parts, view_with, memory_of, room_of, IsServer}
 use Rattle.std.specs.Prelude.{is_some}
-use Rattle.jn_store.specs.Store.{StoreView}
-use Rattle.jn_storage.specs.Calls.{state}
-use Rattle.jn_system.specs.WholeSystem.Servers.{server_step}
-use Rattle.jn_server.specs.Seen.{Parts, view_with, memory_of, room_of, IsServer}
 use Rattle.jn_server.proofs.Stepping.{work_goes, rubbish_left}
 use Rattle.jn_server.proofs.server.Server.has_work.Goals as goal
 

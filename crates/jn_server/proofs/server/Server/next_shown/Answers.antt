@@ -1,9 +1,5 @@
-use Rattle.std.proofs.Common.{sym, subst}
+use Rattle.jn_server.proofs.Common.{sym, subst, File, StoreView, to_print, number_after, NextShown, Parts, view_with}
 use Rattle.std.specs.Prelude.{is_some}
-use Rattle.jn_base.specs.declared.names.LockUnit.TheVariants.{File}
-use Rattle.jn_store.specs.Store.{StoreView}
-use Rattle.jn_server.specs.Pieces.{to_print, number_after, NextShown}
-use Rattle.jn_server.specs.Seen.{Parts, view_with}
 use Rattle.jn_server.proofs.Shows.{next-shown}
 use Rattle.jn_server.proofs.server.Server.next_shown.Goals as goal
 

@@ -1,10 +1,5 @@
-use Rattle.std.proofs.Common.{◌≡◌, subst}
+use Rattle.jn_server.proofs.Common.{◌≡◌, subst, Block, StoreView, view_of, state, Parts, view_with}
 use Rattle.std.specs.Prelude.{None}
-use Rattle.jn_base.specs.declared.names.LockUnit.TheVariants.{Block}
-use Rattle.jn_store.specs.Store.{StoreView}
-use Rattle.jn_recovery.specs.Memory.{view_of}
-use Rattle.jn_storage.specs.Calls.{state}
-use Rattle.jn_server.specs.Seen.{Parts, view_with}
 use Rattle.jn_server.proofs.server.Server.read.Goals as goal
 
 pub returns-clause-unasked : goal.returns-clause-unasked

@@ -1,7 +1,4 @@
-use Rattle.std.proofs.Common.{subst, sym}
-use Rattle.jn_store.specs.Store.{StoreView}
-use Rattle.jn_server.specs.Seen.{Parts, view_with, IsServer}
-use Rattle.jn_server.specs.Reading.{IsRoomOfPages}
+use Rattle.jn_server.proofs.Common.{subst, sym, StoreView, Parts, view_with, IsServer, IsRoomOfPages}
 use Rattle.jn_server.proofs.Room.{room_of_pages}
 use Rattle.jn_server.proofs.server.Server.reads_pages.Goals as goal
 

@@ -1,7 +1,4 @@
-use Rattle.std.proofs.Common.{subst, sym}
-use Rattle.jn_store.specs.Store.{StoreView}
-use Rattle.jn_recovery.specs.Memory.{view_of}
-use Rattle.jn_server.specs.Seen.{Parts, view_with, IsServer}
+use Rattle.jn_server.proofs.Common.{subst, sym, StoreView, view_of, Parts, view_with, IsServer}
 use Rattle.jn_server.proofs.Serving.{scrub-serves}
 use Rattle.jn_server.proofs.server.Server.scrub.Goals as goal
 

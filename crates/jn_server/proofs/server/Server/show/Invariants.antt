@@ -1,6 +1,4 @@
-use Rattle.std.proofs.Common.{◌-◌, ◌^◌}
-use Rattle.jn_server.specs.Pieces.{number_after}
-use Rattle.jn_server.specs.Seen.{view_with}
+use Rattle.jn_server.proofs.Common.{◌-◌, ◌^◌, number_after, view_with}
 use Rattle.jn_server.proofs.Shows.{ToldBelow}
 use Rattle.jn_server.proofs.server.Server.show.Given as goal
 

@@ -1,9 +1,4 @@
-use Rattle.std.proofs.Common.{sym, ◌∙◌}
-use Rattle.jn_base.specs.declared.names.LockUnit.TheVariants.{Block}
-use Rattle.jn_store.specs.Store.{StoreView}
-use Rattle.jn_server.specs.Pieces.{is_at, to_print, TellsPiece}
-use Rattle.jn_server.specs.Seen.{ServerView, view_with}
-use Rattle.jn_system.specs.WholeSystem.Printing.{print_one}
+use Rattle.jn_server.proofs.Common.{sym, ◌∙◌, Block, StoreView, is_at, to_print, TellsPiece, ServerView, view_with, print_one}
 use Rattle.jn_server.proofs.Pieces.{tells-locked, no-memory, no-show}
 use Rattle.jn_server.proofs.server.Server.show_block.Goals as goal
 

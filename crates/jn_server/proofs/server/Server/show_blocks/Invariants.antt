@@ -1,5 +1,4 @@
-use Rattle.jn_server.specs.Pieces.{is_of_first, to_print, prints_of_blocks, TellsPiece}
-use Rattle.jn_server.specs.Seen.{view_with}
+use Rattle.jn_server.proofs.Common.{is_of_first, to_print, prints_of_blocks, TellsPiece, view_with}
 use Rattle.jn_server.proofs.server.Server.show_blocks.Given as goal
 
 -- the first blocks are told

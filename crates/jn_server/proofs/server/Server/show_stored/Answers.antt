@@ -1,6 +1,4 @@
-use Rattle.jn_store.specs.Store.{StoreView}
-use Rattle.jn_server.specs.Pieces.{is_of_first, to_print, prints_of_blocks, prints_of_file, TellsPiece}
-use Rattle.jn_server.specs.Seen.{ServerView, view_with}
+use Rattle.jn_server.proofs.Common.{StoreView, is_of_first, to_print, prints_of_blocks, prints_of_file, TellsPiece, ServerView, view_with}
 use Rattle.jn_server.proofs.Pieces.{no-memory, no-show, on-ok}
 use Rattle.jn_server.proofs.Shows.{tells-file}
 use Rattle.jn_server.proofs.server.Server.show_stored.Goals as goal

@@ -1,10 +1,5 @@
-use Rattle.std.proofs.Common.{Ok, subst, sym}
-use Rattle.jn_store.specs.Store.{StoreView}
-use Rattle.jn_recovery.specs.Memory.{view_of}
-use Rattle.jn_storage.specs.Calls.{state}
-use Rattle.jn_system.specs.WholeSystem.Servers.{server_step}
-use Rattle.jn_server.specs.Handling.{Steps}
-use Rattle.jn_server.specs.Seen.{Parts, view_with, memory_of, room_of, IsServer}
+use Rattle.jn_server.proofs.Common.{subst, sym, StoreView, view_of, state, server_step, Steps, Parts, view_with, memory_of, room_of, IsServer}
+use Rattle.std.proofs.Common.{Ok}
 use Rattle.jn_server.proofs.Stepping.{stepped, step-failed}
 use Rattle.jn_server.proofs.server.Server.step.Goals as goal
 

@@ -1,7 +1,4 @@
-use Rattle.std.proofs.Common.{subst, sym, ap}
-use Rattle.jn_store.specs.Store.{StoreView}
-use Rattle.jn_server.specs.Handling.{TimesOut}
-use Rattle.jn_server.specs.Seen.{Parts, view_with, IsServer}
+use Rattle.jn_server.proofs.Common.{subst, sym, ap, StoreView, TimesOut, Parts, view_with, IsServer}
 use Rattle.jn_server.proofs.Serving.{timed-out}
 use Rattle.jn_server.proofs.server.Server.timeout.Goals as goal
 

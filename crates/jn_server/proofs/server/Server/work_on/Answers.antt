@@ -1,11 +1,4 @@
-use Rattle.std.proofs.Common.{arith, refl, subst, sym}
-use Rattle.jn_recovery.specs.Memory.{view_of}
-use Rattle.jn_worker.specs.Fitting.{seen}
-use Rattle.jn_rows.specs.Worker.{worker_row}
-use Rattle.jn_system.specs.WholeSystem.Servers.{of_worker}
-use Rattle.jn_system.proofs.WholeSystem.WorkerChanges.{worker-aside}
-use Rattle.jn_server.specs.Seen.{Parts, view_with, memory_of, IsServer}
-use Rattle.jn_server.specs.Handling.{IsDone, Does, LeavesRubbish}
+use Rattle.jn_server.proofs.Common.{arith, refl, subst, sym, view_of, seen, worker_row, of_worker, worker-aside, Parts, view_with, memory_of, IsServer, IsDone, Does, LeavesRubbish}
 use Rattle.jn_server.proofs.Ranges.{row-in-range}
 use Rattle.jn_server.proofs.Working.{worked, works-leave, worker_failed}
 use Rattle.jn_server.proofs.server.Server.work_on.Goals as goal

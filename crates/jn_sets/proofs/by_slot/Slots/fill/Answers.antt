@@ -1,11 +1,4 @@
-use Rattle.std.proofs.Common.{◌≡◌, ◌<◌, ◌-◌, ℕ, List, Option, length, false, true, sym, ◌∙◌, ap, subst, arith}
-use Rattle.std.proofs.lemmas.List.{length-set}
-use Rattle.std.specs.Map.{values_of}
-use Rattle.std.specs.Prelude.{slice_set}
-use Rattle.jn_records.specs.declared.record.Record.{Record}
-use Rattle.jn_records.specs.declared.record.Record.TheVariants.{Free}
-use Rattle.jn_sets.specs.Pool.{record_in, record_number, is_free, prepares}
-use Rattle.jn_sets.specs.Sets.{AreCounted, ones}
+use Rattle.jn_sets.proofs.Common.{◌≡◌, ◌<◌, ◌-◌, ℕ, List, Option, length, false, true, sym, ◌∙◌, ap, subst, arith, length-set, values_of, slice_set, Record, Free, record_in, record_number, is_free, prepares, AreCounted, ones}
 use Rattle.jn_sets.proofs.Slots.{values_set}
 use Rattle.jn_sets.proofs.Stored.{index_set}
 use Rattle.jn_sets.proofs.Numbering.{counted_set, some_pass}

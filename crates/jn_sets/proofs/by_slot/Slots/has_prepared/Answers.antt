@@ -1,8 +1,4 @@
-use Rattle.std.proofs.Common.{ℕ, Option, sym, ap, ◌∙◌, arith}
-use Rattle.std.specs.Map.{values_of}
-use Rattle.std.specs.Prelude.{is_some}
-use Rattle.std.specs.List.{list_any}
-use Rattle.jn_sets.specs.Pool.{is_prepared}
+use Rattle.jn_sets.proofs.Common.{ℕ, Option, sym, ap, ◌∙◌, arith, values_of, is_some, list_any, is_prepared}
 use Rattle.jn_sets.proofs.Rubbish.{none_prepared}
 use Rattle.jn_sets.proofs.Slots.{any_found}
 use Rattle.jn_sets.proofs.by_slot.Slots.has_prepared.Goals as goal

@@ -1,8 +1,4 @@
-use Rattle.std.proofs.Common.{◌≡◌, ◌-◌, ℕ, List, length, ◌∙◌, ap, sym, arith}
-use Rattle.std.proofs.lemmas.List.Sums.{count_by-le-length}
-use Rattle.std.specs.Prelude.{filter, count_by, not}
-use Rattle.jn_records.specs.declared.record.Record.{Record}
-use Rattle.jn_sets.specs.Pool.{intends_for, is_free}
+use Rattle.jn_sets.proofs.Common.{◌≡◌, ◌-◌, ℕ, List, length, ◌∙◌, ap, sym, arith, count_by-le-length, filter, count_by, not, Record, intends_for, is_free}
 use Rattle.jn_sets.proofs.Slots.{values_passing, values_others, none_yet}
 use Rattle.jn_sets.proofs.Rubbish.{fewer_intend}
 use Rattle.jn_sets.proofs.by_slot.Slots.intentions_of.Goals as goal

@@ -1,6 +1,4 @@
-use Rattle.std.proofs.Common.{◌≡◌, ◌+◌, ◌<◌, ◌^◌, length}
-use Rattle.std.specs.Prelude.{filter, count_by, not}
-use Rattle.jn_sets.specs.Pool.{intends_for, is_free}
+use Rattle.jn_sets.proofs.Common.{◌≡◌, ◌+◌, ◌<◌, ◌^◌, length, filter, count_by, not, intends_for, is_free}
 use Rattle.jn_sets.proofs.by_slot.Slots.intentions_of.Given as goal
 
 -- those so far, and those of the rest, are all; and how many records the rest has

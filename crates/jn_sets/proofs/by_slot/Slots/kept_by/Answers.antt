@@ -1,5 +1,4 @@
-use Rattle.std.proofs.Common.{sym, ◌∙◌, ap}
-use Rattle.jn_sets.specs.Pool.{kept_by}
+use Rattle.jn_sets.proofs.Common.{sym, ◌∙◌, ap, kept_by}
 use Rattle.jn_sets.proofs.by_slot.Slots.kept_by.Goals as goal
 
 pub returns-in-Ready : goal.returns-in-Ready

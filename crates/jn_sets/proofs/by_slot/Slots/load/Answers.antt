@@ -1,7 +1,4 @@
-use Rattle.std.proofs.Common.{refl, sym, ap, subst, length, ◌+◌, [], ◌∷◌, ◌∙◌, arith}
-use Rattle.std.proofs.lemmas.List.{length-append}
-use Rattle.std.specs.Map.{values_of}
-use Rattle.jn_sets.specs.Sets.{AreCounted}
+use Rattle.jn_sets.proofs.Common.{refl, sym, ap, subst, length, ◌+◌, [], ◌∷◌, ◌∙◌, arith, length-append, values_of, AreCounted}
 use Rattle.jn_sets.proofs.Loading.{read_more, still_readable, loads_more, loaded_index}
 use Rattle.jn_sets.proofs.Slots.{index_push}
 use Rattle.jn_sets.proofs.Numbering.{counted_more}

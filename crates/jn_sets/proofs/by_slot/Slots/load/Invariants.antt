@@ -1,6 +1,4 @@
-use Rattle.std.proofs.Common.{◌≡◌, length}
-use Rattle.std.specs.Map.{values_of}
-use Rattle.jn_sets.specs.Sets.{AreCounted}
+use Rattle.jn_sets.proofs.Common.{◌≡◌, length, values_of, AreCounted}
 use Rattle.jn_sets.proofs.Loading.{LoadedTo}
 use Rattle.jn_sets.proofs.by_slot.Slots.load.Given as goal
 

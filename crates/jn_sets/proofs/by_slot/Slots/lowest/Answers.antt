@@ -1,10 +1,4 @@
-use Rattle.std.proofs.Common.{◌≡◌, ◌≤◌, ℕ, true, false, Some, sym, ◌∙◌, ap, subst, arith}
-use Rattle.std.proofs.lemmas.Option.{get_or_from_slice_get}
-use Rattle.std.specs.Map.{values_of}
-use Rattle.std.specs.Prelude.{position}
-use Rattle.jn_index.specs.Numbers.{number_at, IsSlotFrom}
-use Rattle.jn_records.specs.declared.record.Record.TheVariants.{Free}
-use Rattle.jn_sets.specs.Pool.{is_wanted, record_in}
+use Rattle.jn_sets.proofs.Common.{◌≡◌, ◌≤◌, ℕ, true, false, Some, sym, ◌∙◌, ap, subst, arith, get_or_from_slice_get, values_of, position, number_at, IsSlotFrom, Free, is_wanted, record_in}
 use Rattle.jn_sets.proofs.Numbering.{found_first, none_found, past_it, slot_within}
 use Rattle.jn_sets.proofs.by_slot.Slots.lowest.Goals as goal
 

@@ -1,6 +1,4 @@
-use Rattle.std.proofs.Common.{◌≡◌, ◌<◌, ◌≤◌, ◌-◌, ℕ, false, length}
-use Rattle.std.specs.Map.{values_of}
-use Rattle.jn_sets.specs.Pool.{is_wanted, record_in}
+use Rattle.jn_sets.proofs.Common.{◌≡◌, ◌<◌, ◌≤◌, ◌-◌, ℕ, false, length, values_of, is_wanted, record_in}
 use Rattle.jn_sets.proofs.by_slot.Slots.lowest.Given as goal
 
 abbrev pub invariant-loop-slot : goal.invariant-loop-slot

@@ -1,16 +1,5 @@
-use Rattle.std.proofs.Common.{◌≡◌, ◌<◌, List, length, true, refl, sym, ◌∙◌, ap, subst, arith}
-use Rattle.std.proofs.lemmas.List.{length-set, set-set}
+use Rattle.jn_sets.proofs.Common.{◌≡◌, ◌<◌, List, length, true, refl, sym, ◌∙◌, ap, subst, arith, length-set, set-set, get_or_from_slice_get, values_of, slice_set, index_map_len-with_value_at, set_value_at, Record, Free, has_page, record_in, marked, prepares, AreCounted, IsIndex}
 use Rattle.std.proofs.lemmas.Map.Entries.{length-values_of}
-use Rattle.std.proofs.lemmas.Option.{get_or_from_slice_get}
-use Rattle.std.specs.Map.{values_of}
-use Rattle.std.specs.Prelude.{slice_set}
-use Rattle.indexmap.proofs.CallerLemmas.{index_map_len-with_value_at}
-use Rattle.indexmap.specs.IndexMap.{set_value_at}
-use Rattle.jn_records.specs.declared.record.Record.{Record}
-use Rattle.jn_records.specs.declared.record.Record.TheVariants.{Free}
-use Rattle.jn_records.specs.Records.{has_page}
-use Rattle.jn_sets.specs.Pool.{record_in, marked, prepares}
-use Rattle.jn_sets.specs.Sets.{AreCounted, IsIndex}
 use Rattle.jn_sets.proofs.Slots.{values_set}
 use Rattle.jn_sets.proofs.Stored.{index_set, marked_like}
 use Rattle.jn_sets.proofs.Numbering.{counted_like}

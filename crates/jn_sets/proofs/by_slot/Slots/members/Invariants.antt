@@ -1,6 +1,4 @@
-use Rattle.std.proofs.Common.{◌≡◌, ◌++◌, map}
-use Rattle.std.specs.Prelude.{filter, not}
-use Rattle.jn_sets.specs.Pool.{is_free, members_of}
+use Rattle.jn_sets.proofs.Common.{◌≡◌, ◌++◌, map, filter, not, is_free, members_of}
 use Rattle.jn_sets.proofs.by_slot.Slots.members.Given as goal
 
 -- the list so far, then what is left of the index, are all

@@ -1,8 +1,4 @@
-use Rattle.std.proofs.Common.{◌≡◌, ℕ, List, length, ◌∙◌, ap, arith}
-use Rattle.std.proofs.lemmas.List.Sums.{count_by-le-length}
-use Rattle.std.specs.Prelude.{filter, count_by}
-use Rattle.jn_records.specs.declared.record.Record.{Record}
-use Rattle.jn_sets.specs.Pool.{is_rubbish}
+use Rattle.jn_sets.proofs.Common.{◌≡◌, ℕ, List, length, ◌∙◌, ap, arith, count_by-le-length, filter, count_by, Record, is_rubbish}
 use Rattle.jn_sets.proofs.Slots.{values_passing, none_yet}
 use Rattle.jn_sets.proofs.by_slot.Slots.rubbish_count.Goals as goal
 

@@ -1,6 +1,4 @@
-use Rattle.std.proofs.Common.{◌≡◌, ◌+◌, ◌<◌, ◌^◌, length}
-use Rattle.std.specs.Prelude.{filter}
-use Rattle.jn_sets.specs.Pool.{is_rubbish, rubbish_count}
+use Rattle.jn_sets.proofs.Common.{◌≡◌, ◌+◌, ◌<◌, ◌^◌, length, filter, is_rubbish, rubbish_count}
 use Rattle.jn_sets.proofs.by_slot.Slots.rubbish_count.Given as goal
 
 -- those so far, and those of the rest, are all

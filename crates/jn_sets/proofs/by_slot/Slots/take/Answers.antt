@@ -1,14 +1,4 @@
-use Rattle.std.proofs.Common.{◌≡◌, ◌<◌, ◌+◌, ℕ, List, Option, length, false, sym, ◌∙◌, ap, subst, arith}
-use Rattle.std.proofs.lemmas.List.{length-set}
-use Rattle.std.proofs.lemmas.List.Sums.{count_by-le-length}
-use Rattle.std.proofs.lemmas.Option.{get_or_from_slice_get}
-use Rattle.std.specs.Map.{values_of}
-use Rattle.std.specs.Prelude.{slice_set}
-use Rattle.jn_records.specs.declared.record.Record.{Record}
-use Rattle.jn_records.specs.declared.record.Record.TheVariants.{Free}
-use Rattle.jn_records.specs.Records.{has_page}
-use Rattle.jn_sets.specs.Pool.{record_in, record_number, is_free, prepares}
-use Rattle.jn_sets.specs.Sets.{AreCounted, ones}
+use Rattle.jn_sets.proofs.Common.{◌≡◌, ◌<◌, ◌+◌, ℕ, List, Option, length, false, sym, ◌∙◌, ap, subst, arith, length-set, count_by-le-length, get_or_from_slice_get, values_of, slice_set, Record, Free, has_page, record_in, record_number, is_free, prepares, AreCounted, ones}
 use Rattle.jn_sets.proofs.Slots.{values_set}
 use Rattle.jn_sets.proofs.Stored.{index_set}
 use Rattle.jn_sets.proofs.Numbering.{counted_set, some_pass}

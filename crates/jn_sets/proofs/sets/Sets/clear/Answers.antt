@@ -1,7 +1,4 @@
-use Rattle.std.proofs.Common.{◌≡◌, ◌<◌, Bool, true, false, not, List, length, sym, ◌∙◌, ap, subst, arith}
-use Rattle.jn_records.specs.declared.record.Record.{Record}
-use Rattle.jn_sets.specs.Pool.{is_free, record_in}
-use Rattle.jn_sets.specs.Sets.{ones}
+use Rattle.jn_sets.proofs.Common.{◌≡◌, ◌<◌, Bool, true, false, not, List, length, sym, ◌∙◌, ap, subst, arith, Record, is_free, record_in, ones}
 use Rattle.jn_sets.proofs.Rubbish.{sum_cleared, watched_cleared, at_most_one, still_free}
 use Rattle.jn_sets.proofs.sets.Sets.clear.Goals as goal
 

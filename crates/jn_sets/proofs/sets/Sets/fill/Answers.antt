@@ -1,7 +1,4 @@
-use Rattle.std.proofs.Common.{◌≡◌, ◌<◌, ◌-◌, List, length, sym, ◌∙◌, subst, arith}
-use Rattle.jn_records.specs.declared.record.Record.{Record}
-use Rattle.jn_records.specs.declared.record.Record.TheVariants.{Free}
-use Rattle.jn_sets.specs.Pool.{record_in}
+use Rattle.jn_sets.proofs.Common.{◌≡◌, ◌<◌, ◌-◌, List, length, sym, ◌∙◌, subst, arith, Record, Free, record_in}
 use Rattle.jn_sets.proofs.Rubbish.{sum_filled, watched_filled, put_free}
 use Rattle.jn_sets.proofs.sets.Sets.fill.Goals as goal
 

@@ -1,7 +1,4 @@
-use Rattle.std.proofs.Common.{◌≡◌, List, Bool, true, false, not, sym, ◌∙◌, subst, arith}
-use Rattle.jn_records.specs.declared.record.Record.{Record}
-use Rattle.jn_sets.specs.Pool.{is_free, record_in}
-use Rattle.jn_sets.specs.Sets.{AreUsedTo}
+use Rattle.jn_sets.proofs.Common.{◌≡◌, List, Bool, true, false, not, sym, ◌∙◌, subst, arith, Record, is_free, record_in, AreUsedTo}
 use Rattle.jn_sets.proofs.Rubbish.{first_is, none_is, used_more}
 use Rattle.jn_sets.proofs.sets.Sets.free_slot.Goals as goal
 

@@ -1,4 +1,4 @@
-use Rattle.jn_sets.specs.Sets.{AreUsedTo}
+use Rattle.jn_sets.proofs.Common.{AreUsedTo}
 use Rattle.jn_sets.proofs.sets.Sets.free_slot.Given as goal
 
 abbrev pub invariant-loop-slot : goal.invariant-loop-slot

@@ -1,8 +1,4 @@
-use Rattle.std.proofs.Common.{List, sym, ◌∙◌, ap}
-use Rattle.std.specs.Prelude.{nat_lt}
-use Rattle.std.specs.List.{list_any}
-use Rattle.jn_records.specs.declared.record.Record.{Record}
-use Rattle.jn_sets.specs.Pool.{is_rubbish}
+use Rattle.jn_sets.proofs.Common.{List, sym, ◌∙◌, ap, nat_lt, list_any, Record, is_rubbish}
 use Rattle.jn_sets.proofs.Rubbish.{any_counted}
 use Rattle.jn_sets.proofs.sets.Sets.has_rubbish.Goals as goal
 

@@ -1,6 +1,5 @@
-use Rattle.std.proofs.Common.{sym, refl, arith}
+use Rattle.jn_sets.proofs.Common.{sym, refl, arith, is_free}
 use Rattle.std.proofs.lemmas.Result.{err_from_is_err_and}
-use Rattle.jn_sets.specs.Pool.{is_free}
 use Rattle.jn_sets.proofs.Slots.{none_counted, some_counted}
 use Rattle.jn_sets.proofs.sets.Sets.insert.Goals as goal
 

@@ -1,9 +1,4 @@
-use Rattle.std.proofs.Common.{List, sym, ◌∙◌, ap}
-use Rattle.std.proofs.lemmas.Option.{get_or_from_slice_get, unwrap_or-slice_get}
-use Rattle.std.specs.Option.{unwrap_or}
-use Rattle.jn_records.specs.declared.record.Record.{Record}
-use Rattle.jn_records.specs.declared.record.Record.TheVariants.{Free}
-use Rattle.jn_sets.specs.Pool.{is_rubbish, record_in}
+use Rattle.jn_sets.proofs.Common.{List, sym, ◌∙◌, ap, get_or_from_slice_get, unwrap_or-slice_get, unwrap_or, Record, Free, is_rubbish, record_in}
 use Rattle.jn_sets.proofs.sets.Sets.is_rubbish_at.Goals as goal
 
 pub returns-in-Some : goal.returns-in-Some

@@ -1,8 +1,4 @@
-use Rattle.std.proofs.Common.{rules, List, ap, ◌∙◌}
-use Rattle.std.proofs.lemmas.List.{set-set}
-use Rattle.std.specs.Prelude.{slice_set}
-use Rattle.jn_records.specs.declared.record.Record.{Record}
-use Rattle.jn_records.specs.declared.record.Record.TheVariants.{Free}
+use Rattle.jn_sets.proofs.Common.{rules, List, ap, ◌∙◌, set-set, slice_set, Record, Free}
 use Rattle.jn_sets.proofs.Stored.{puts_done, puts_stopped}
 use Rattle.jn_sets.proofs.sets.Sets.put.Goals as goal
 

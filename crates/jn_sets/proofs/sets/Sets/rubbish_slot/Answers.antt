@@ -1,7 +1,4 @@
-use Rattle.std.proofs.Common.{◌≡◌, List, true, false, sym, ◌∙◌, subst, arith}
-use Rattle.jn_records.specs.declared.record.Record.{Record}
-use Rattle.jn_sets.specs.Pool.{is_rubbish, record_in}
-use Rattle.jn_sets.specs.Sets.{AreCleanTo}
+use Rattle.jn_sets.proofs.Common.{◌≡◌, List, true, false, sym, ◌∙◌, subst, arith, Record, is_rubbish, record_in, AreCleanTo}
 use Rattle.jn_sets.proofs.Rubbish.{first_is, none_is, clean_more}
 use Rattle.jn_sets.proofs.Slots.{none_found_where}
 use Rattle.jn_sets.proofs.sets.Sets.rubbish_slot.Goals as goal

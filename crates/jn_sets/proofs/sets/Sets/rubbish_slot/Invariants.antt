@@ -1,4 +1,4 @@
-use Rattle.jn_sets.specs.Sets.{AreCleanTo}
+use Rattle.jn_sets.proofs.Common.{AreCleanTo}
 use Rattle.jn_sets.proofs.sets.Sets.rubbish_slot.Given as goal
 
 abbrev pub invariant-loop-slot : goal.invariant-loop-slot

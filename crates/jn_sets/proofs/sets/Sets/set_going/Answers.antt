@@ -1,9 +1,4 @@
-use Rattle.std.proofs.Common.{◌≡◌, ◌<◌, List, length, true, false, refl, sym, ◌∙◌, ap, subst}
-use Rattle.std.specs.Prelude.{slice_set}
-use Rattle.jn_records.specs.declared.record.Record.{Record}
-use Rattle.jn_records.specs.Records.{has_page}
-use Rattle.jn_sets.specs.Pool.{record_in, is_ready, going_of}
-use Rattle.jn_sets.specs.Sets.{Puts, IsWatched}
+use Rattle.jn_sets.proofs.Common.{◌≡◌, ◌<◌, List, length, true, false, refl, sym, ◌∙◌, ap, subst, slice_set, Record, has_page, record_in, is_ready, going_of, Puts, IsWatched}
 use Rattle.jn_sets.proofs.Rubbish.{watched_going}
 use Rattle.jn_sets.proofs.Stored.{ready_within, is_there, read_again, marked_back, puts_done, puts_stopped}
 use Rattle.jn_sets.proofs.sets.Sets.set_going.Goals as goal

@@ -1,9 +1,4 @@
-use Rattle.std.proofs.Common.{◌≡◌, Some, None, refl, arith}
-use Rattle.jn_base.specs.declared.names.LockUnit.TheVariants.{File}
-use Rattle.jn_base.specs.declared.names.WorkId.{WorkId}
-use Rattle.jn_base.proofs.Tells.{work_tells}
-use Rattle.jn_rows.specs.Stable.{Prepared, at_work}
-use Rattle.jn_system.specs.SmallSteps.Steps.{run}
+use Rattle.jn_system.proofs.Common.{◌≡◌, Some, None, refl, arith, File, WorkId, work_tells, Prepared, at_work, run}
 use Rattle.jn_system.specs.WholeSystem.WrongRuns.{worker, work, file, start, named_before_the_flag, ready_work_dropped, kept_without_a_record, committed_work_dropped, prepared_work_broken, old_begin_thanks, forgotten_too_soon}
 use Rattle.jn_system.proofs.WholeSystem.LostCommits.{is-lost}
 use Rattle.jn_system.proofs.protocol.wrong.wrong_rows_lose_a_commit.Goals as goal

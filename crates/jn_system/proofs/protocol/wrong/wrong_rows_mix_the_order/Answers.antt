@@ -1,6 +1,4 @@
-use Rattle.std.proofs.Common.{◌≡◌}
-use Rattle.jn_base.specs.declared.op.Answer.TheVariants.{NoFile, Read as Found}
-use Rattle.jn_order.specs.Files.{zeros}
+use Rattle.jn_system.proofs.Common.{◌≡◌, NoFile, Found, zeros}
 use Rattle.jn_system.specs.WholeSystem.WrongRuns.{worker}
 use Rattle.jn_system.proofs.protocol.wrong.wrong_rows_mix_the_order.Goals as goal
 

@@ -1,4 +1,4 @@
-use Rattle.jn_locks.specs.LockTables.{table}
+use Rattle.jn_worker.proofs.Common.{table}
 use Rattle.jn_worker.proofs.Restored.{zero_name, none_missing, rebuild_here, locks_here, restored_here}
 use Rattle.jn_worker.proofs.worker.Worker.add_restored.Goals as goal
 

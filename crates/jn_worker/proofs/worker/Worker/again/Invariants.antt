@@ -1,5 +1,4 @@
-use Rattle.std.proofs.Common.{◌≡◌, ◌++◌, drop}
-use Rattle.jn_worker.specs.Calls.{asked_again}
+use Rattle.jn_worker.proofs.Common.{◌≡◌, ◌++◌, drop, asked_again}
 use Rattle.jn_worker.proofs.worker.Worker.again.Given as goal
 
 abbrev pub invariant-loop-work : goal.invariant-loop-work

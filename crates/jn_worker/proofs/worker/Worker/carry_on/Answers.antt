@@ -1,12 +1,4 @@
-use Rattle.std.proofs.Common.{subst, sym, ap}
-use Rattle.jn_locks.specs.LockTables.{table}
-use Rattle.jn_lock_rows.specs.Matching.{LocksMatch}
-use Rattle.jn_lock_rows.proofs.Keeping.{match_released}
-use Rattle.std.specs.Prelude.{Ok}
-use Rattle.jn_msgs.specs.Collected.{Collected}
-use Rattle.jn_storage.specs.Calls.{StepApplied}
-use Rattle.jn_worker.specs.Fitting.{WorkerView}
-use Rattle.jn_worker.specs.declared.words.WorkerFault.TheVariants.{Stopped as Stops, Memory}
+use Rattle.jn_worker.proofs.Common.{subst, sym, ap, table, LocksMatch, match_released, Ok, Collected, StepApplied, WorkerView, Stops, Memory}
 use Rattle.jn_worker.proofs.Exits.{handed_on}
 use Rattle.jn_worker.proofs.Carried.{carry_stopped, carry_made, over_stopped, over_untold, over_made}
 use Rattle.jn_worker.proofs.worker.Worker.carry_on.Goals as goal

@@ -1,8 +1,5 @@
-use Rattle.std.proofs.Common.{◌≡◌, ◌∷◌, [], ◌++◌, ap, subst, sym, ◌∙◌, Some, true, false, arith}
-use Rattle.jn_base.specs.Names.{work_eq}
+use Rattle.jn_worker.proofs.Common.{◌≡◌, ◌∷◌, [], ◌++◌, ap, subst, sym, ◌∙◌, Some, true, false, arith, work_eq, is_in, is_stored}
 use Rattle.jn_rows.specs.Worker as rows
-use Rattle.jn_storage.specs.Listing.{is_in}
-use Rattle.jn_worker.specs.Fitting.{is_stored}
 use Rattle.jn_worker.proofs.Decided.{commit_made, commit_changes}
 use Rattle.jn_worker.proofs.worker.Worker.commit.Goals as goal
 

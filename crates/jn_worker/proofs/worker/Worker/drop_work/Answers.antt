@@ -1,12 +1,5 @@
-use Rattle.std.proofs.Common.{◌≡◌, ap, subst, sym, ◌∙◌, Some, true, false, ◌⊎◌, inl, inr}
-use Rattle.jn_base.specs.Names.{work_eq}
+use Rattle.jn_worker.proofs.Common.{◌≡◌, ap, subst, sym, ◌∙◌, Some, true, false, ◌⊎◌, inl, inr, work_eq, LocksMatch, match_released, table, is_in, WorkRemoved, is_stored}
 use Rattle.jn_rows.specs.Worker as rows
-use Rattle.jn_lock_rows.specs.Matching.{LocksMatch}
-use Rattle.jn_lock_rows.proofs.Keeping.{match_released}
-use Rattle.jn_locks.specs.LockTables.{table}
-use Rattle.jn_storage.specs.Listing.{is_in}
-use Rattle.jn_storage.specs.Calls.{WorkRemoved}
-use Rattle.jn_worker.specs.Fitting.{is_stored}
 use Rattle.jn_worker.proofs.Decided.{drop_made, drop_kept}
 use Rattle.jn_worker.proofs.worker.Worker.drop_work.Goals.{then-is_prepared+in_ok-drop_ready, else-is_prepared}
 use Rattle.jn_worker.proofs.worker.Worker.drop_work.Goals as goal

@@ -1,13 +1,6 @@
-use Rattle.std.proofs.Common.{◌≡◌, if◌then◌else◌, refl, sym, ◌∙◌, ap, subst, arith}
-use Rattle.std.specs.Vec.{with_items}
-use Rattle.std.proofs.lemmas.List.{with_items_is}
-use Rattle.jn_locks.specs.LockTables.{table}
-use Rattle.jn_lock_rows.specs.Matching.{LocksMatch}
-use Rattle.jn_lock_rows.specs.Calls.{rephased}
-use Rattle.jn_works.specs.Changing.{relisted, tallied}
+use Rattle.jn_worker.proofs.Common.{◌≡◌, if◌then◌else◌, refl, sym, ◌∙◌, ap, subst, arith, with_items, with_items_is, table, LocksMatch, rephased, relisted, tallied, intention_for, list_after}
 use Rattle.jn_worker.proofs.Performed.{match_rephased, relisted_keeps, tallied_keeps}
 use Rattle.jn_worker.proofs.Operated.{grant_becomes, grant_refused, grant_done}
-use Rattle.jn_records.specs.NetEdits.{intention_for, list_after}
 use Rattle.jn_worker.proofs.worker.Worker.grant.Goals.{then-fit+in_ok-add, else-fit}
 use Rattle.jn_worker.proofs.worker.Worker.grant.Goals as goal
 

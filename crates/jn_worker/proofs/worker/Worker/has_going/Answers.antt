@@ -1,7 +1,4 @@
-use Rattle.std.proofs.Common.{◌≡◌, ◌∙◌, ap, sym, subst}
-use Rattle.std.specs.Prelude.{◌||◌, is_some}
-use Rattle.jn_worker.specs.Fitting.{WorkerView, seen}
-use Rattle.jn_works.specs.Changing.{going_in}
+use Rattle.jn_worker.proofs.Common.{◌≡◌, ◌∙◌, ap, sym, subst, ◌||◌, is_some, WorkerView, seen, going_in}
 use Rattle.jn_worker.proofs.Stepped.{some_given, step_left}
 use Rattle.jn_worker.proofs.worker.Worker.has_going.Goals as goal
 

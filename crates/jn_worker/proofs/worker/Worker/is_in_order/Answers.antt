@@ -1,6 +1,4 @@
-use Rattle.std.proofs.Common.{◌≡◌, true, subst}
-use Rattle.jn_lock_rows.specs.Matching.{are_rising}
-use Rattle.jn_worker.specs.Fitting.{WorkerView}
+use Rattle.jn_worker.proofs.Common.{◌≡◌, true, subst, are_rising, WorkerView}
 use Rattle.jn_worker.proofs.worker.Worker.is_in_order.Goals as goal
 
 pub returns : goal.returns

@@ -1,7 +1,4 @@
-use Rattle.std.proofs.Common.{subst, sym}
-use Rattle.jn_locks.specs.LockTables.{table}
-use Rattle.jn_lock_rows.specs.Matching.{LocksMatch}
-use Rattle.jn_lock_rows.proofs.Keeping.{match_none}
+use Rattle.jn_worker.proofs.Common.{subst, sym, table, LocksMatch, match_none}
 use Rattle.jn_worker.proofs.worker.Worker.new.Goals as goal
 
 pub invariant_of-result : goal.invariant_of-result

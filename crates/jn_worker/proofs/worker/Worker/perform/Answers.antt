@@ -1,5 +1,4 @@
-use Rattle.std.proofs.Common.{◌+◌, subst}
-use Rattle.jn_worker.specs.Calls.{Settles}
+use Rattle.jn_worker.proofs.Common.{◌+◌, subst, Settles}
 use Rattle.jn_worker.proofs.Voted.{found_active}
 use Rattle.jn_worker.proofs.Does.{nat_same, perform_told}
 use Rattle.jn_worker.proofs.worker.Worker.perform.Goals as goal

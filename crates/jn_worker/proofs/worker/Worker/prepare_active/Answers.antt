@@ -1,6 +1,4 @@
-use Rattle.std.proofs.Common.{refl, sym, ◌∙◌, ap}
-use Rattle.std.specs.Prelude.{Err}
-use Rattle.jn_worker.specs.declared.words.WorkerFault.TheVariants.{Memory}
+use Rattle.jn_worker.proofs.Common.{refl, sym, ◌∙◌, ap, Err, Memory}
 use Rattle.jn_worker.proofs.Exits.{handed_on}
 use Rattle.jn_worker.proofs.Voted.{waiting_sent, is_free, full_sent, full_untold, not_stored, ready_untold, ready_told, prepare_kept}
 use Rattle.jn_worker.proofs.worker.Worker.prepare_active.Goals as goal

@@ -1,7 +1,4 @@
-use Rattle.std.proofs.Common.{refl, sym, ◌∙◌, ap, true≢false}
-use Rattle.std.specs.Prelude.{is_ok}
-use Rattle.jn_base.specs.declared.op.Answer.{Answer}
-use Rattle.jn_worker.specs.declared.words.WorkerFault.TheVariants.{Memory}
+use Rattle.jn_worker.proofs.Common.{refl, sym, ◌∙◌, ap, true≢false, is_ok, Answer, Memory}
 use Rattle.jn_worker.proofs.Exits.{handed_on}
 use Rattle.jn_worker.proofs.Fetched.{read_failed, read_told, quiet_read}
 use Rattle.jn_worker.proofs.Voted.{found_active}

@@ -1,9 +1,5 @@
-use Rattle.std.proofs.Common.{subst, sym, Ok}
-use Rattle.jn_rows.specs.declared.worker.ActiveWork.{ActiveWork}
-use Rattle.jn_storage.specs.Viewing.{Viewed}
-use Rattle.jn_locks.specs.LockTables.{table}
-use Rattle.jn_lock_rows.specs.Matching.{LocksMatch}
-use Rattle.jn_works.specs.Changing.{tallied}
+use Rattle.jn_worker.proofs.Common.{subst, sym, ActiveWork, Viewed, table, LocksMatch, tallied}
+use Rattle.std.proofs.Common.{Ok}
 use Rattle.jn_worker.proofs.Fetched.{viewed_lost}
 use Rattle.jn_worker.proofs.Settled.{one_active}
 use Rattle.jn_worker.proofs.Performed.{match_rephased, tallied_keeps}

@@ -1,5 +1,4 @@
-use Rattle.std.proofs.Common.{◌+◌, subst, sym, take, arith}
-use Rattle.jn_worker.specs.Restoring.{RestoredTo, IsFor}
+use Rattle.jn_worker.proofs.Common.{◌+◌, subst, sym, take, arith, RestoredTo, IsFor}
 use Rattle.jn_worker.proofs.Restored.{names_for, restores}
 use Rattle.jn_worker.proofs.worker.Worker.restore.Goals as goal
 

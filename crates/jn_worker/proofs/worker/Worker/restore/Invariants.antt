@@ -1,5 +1,4 @@
-use Rattle.std.proofs.Common.{take}
-use Rattle.jn_worker.specs.Restoring.{RestoredTo}
+use Rattle.jn_worker.proofs.Common.{take, RestoredTo}
 use Rattle.jn_worker.proofs.worker.Worker.restore.Given as goal
 
 abbrev pub invariant-loop-i : goal.invariant-loop-i

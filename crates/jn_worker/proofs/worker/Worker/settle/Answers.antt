@@ -1,8 +1,4 @@
-use Rattle.std.proofs.Common.{subst, sym, ap, ◌∙◌, arith}
-use Rattle.jn_locks.specs.LockTables.{table}
-use Rattle.jn_lock_rows.specs.Matching.{LocksMatch}
-use Rattle.jn_lock_rows.specs.Calls.{rephased}
-use Rattle.jn_works.specs.Changing.{tallied}
+use Rattle.jn_worker.proofs.Common.{subst, sym, ap, ◌∙◌, arith, table, LocksMatch, rephased, tallied}
 use Rattle.jn_worker.proofs.Performed.{match_rephased, tallied_keeps}
 use Rattle.jn_worker.proofs.Settled.{one_active, limit_is, limit_settles, grant_settles}
 use Rattle.jn_worker.proofs.worker.Worker.settle.Goals as goal

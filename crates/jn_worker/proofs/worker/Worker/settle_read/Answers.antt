@@ -1,7 +1,5 @@
-use Rattle.std.proofs.Common.{subst, sym, ap, ◌∙◌, length, not, Ok, Err}
-use Rattle.jn_base.specs.declared.op.Answer.{Answer}
-use Rattle.jn_worker.specs.Calls.{has_stopped}
-use Rattle.jn_worker.specs.Reading.{OnlyReads, asks_now}
+use Rattle.jn_worker.proofs.Common.{subst, sym, ap, ◌∙◌, length, not, Answer, has_stopped, OnlyReads, asks_now}
+use Rattle.std.proofs.Common.{Ok, Err}
 use Rattle.jn_worker.proofs.Fetched.{granted_active, refused_settles, granted_settles, granted_reads, unseen-stops, taken_back}
 use Rattle.jn_worker.proofs.Voted.{found_active}
 use Rattle.jn_worker.proofs.worker.Worker.settle_read.Goals as goal

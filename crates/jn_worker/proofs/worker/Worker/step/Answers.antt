@@ -1,7 +1,4 @@
-use Rattle.std.proofs.Common.{◌≡◌, subst, refl, Some, None}
-use Rattle.jn_worker.specs.Fitting.{WorkerView}
-use Rattle.jn_works.specs.Changing.{going_in}
-use Rattle.jn_worker.specs.declared.words.WorkerFault.TheVariants.{Stopped as Stops}
+use Rattle.jn_worker.proofs.Common.{◌≡◌, subst, refl, Some, None, WorkerView, going_in, Stops}
 use Rattle.jn_worker.proofs.Exits.{handed_on}
 use Rattle.jn_worker.proofs.Stepped.{erase_stopped, erase_made, live_going, going_made, going_failed}
 use Rattle.jn_worker.proofs.worker.Worker.step.Goals as goal

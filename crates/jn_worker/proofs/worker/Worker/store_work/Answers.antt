@@ -1,4 +1,4 @@
-use Rattle.jn_locks.specs.LockTables.{table}
+use Rattle.jn_worker.proofs.Common.{table}
 use Rattle.jn_worker.proofs.Storing.{may_store}
 use Rattle.jn_worker.proofs.worker.Worker.store_work.Goals as goal
 

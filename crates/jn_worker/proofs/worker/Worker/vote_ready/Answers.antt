@@ -1,6 +1,4 @@
-use Rattle.std.proofs.Common.{arith}
-use Rattle.std.specs.Vec.{with_items}
-use Rattle.std.proofs.lemmas.List.{with_items_is}
+use Rattle.jn_worker.proofs.Common.{arith, with_items, with_items_is}
 use Rattle.jn_worker.proofs.Voted.{grant_active, ready_stores}
 use Rattle.jn_worker.proofs.worker.Worker.vote_ready.Goals as goal
 

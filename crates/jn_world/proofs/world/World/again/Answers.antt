@@ -1,11 +1,7 @@
-use Rattle.jn_device.specs.Device.{DeviceState}
-use Rattle.jn_world.specs.Written.{standing_of}
+use Rattle.jn_world.proofs.Common.{DeviceState, standing_of, sent_again, StoreView, Client, ◌≡◌, ap, option_map, false, None, Option, Bor, [], ◌∷◌, sym, ◌∙◌, ℕ, Some, Ok, refl, arith}
 use Rattle.jn_world.proofs.ClientCalls.{asked-none, client-is, asked-now}
-use Rattle.std.proofs.Common.{◌≡◌, ap, option_map, is_some, false, None, Option, Bor, [], ◌∷◌, sym, ◌∙◌, ℕ, Some, Ok, refl, arith}
-use Rattle.jn_rows.specs.Client.{sent_again}
+use Rattle.std.proofs.Common.{is_some}
 use Rattle.jn_rows.specs.declared.client.Outstanding.{Outstanding}
-use Rattle.jn_store.specs.Store.{StoreView}
-use Rattle.jn_base.specs.declared.names.Party.TheVariants.{Client}
 use Rattle.jn_world.proofs.Places.{client-here, again-can, sent-world}
 use Rattle.jn_world.proofs.Worlds.{net-places, net-clients}
 use Rattle.jn_world.proofs.Calm.{stay-places}

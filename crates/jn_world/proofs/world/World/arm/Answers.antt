@@ -1,25 +1,12 @@
-use Rattle.std.proofs.Common.{◌<◌, List, [], ◌∷◌, ◌++◌, ℕ, Bool, true, false, refl, length, append-nil, Ok, sym, ◌∙◌, ap, subst, arith}
-use Rattle.std.specs.Vec.{with_item}
-use Rattle.jn_device.specs.Device.{DeviceState}
-use Rattle.jn_store.specs.Store.{StoreView}
-use Rattle.jn_place.specs.declared.place.Place.{Place}
-use Rattle.jn_recovery.specs.Loading.{counts_by}
+use Rattle.jn_world.proofs.Common.{◌<◌, List, [], ◌∷◌, ◌++◌, ℕ, Bool, true, false, refl, length, append-nil, Ok, sym, ◌∙◌, ap, subst, arith, with_item, DeviceState, StoreView, Place, counts_by, DoesTasks, EndsStep, standing_of, told_unless, lines_at, Meets, has-pages, IsWorld, any-ok, is_within}
 use Rattle.jn_report.specs.declared.line.EventRefusal.TheVariants as refusals
 use Rattle.jn_report.specs.declared.line.Text.TheVariants as says
 use Rattle.jn_schedule.specs.declared.Event.TheVariants as events
-use Rattle.jn_world.specs.Written.{DoesTasks, EndsStep, standing_of}
-use Rattle.jn_written.specs.Events.{told_unless}
-use Rattle.jn_written.specs.Steps.{lines_at}
-use Rattle.jn_written.specs.Tasks.{Meets}
 use Rattle.jn_world.proofs.Bringing.{place-got, has-counts}
 use Rattle.jn_world.proofs.PageRefusals.{fault-as, ends-refused, written-again}
 use Rattle.jn_world.proofs.Places.{place-there, moved-quiet}
 use Rattle.jn_world.proofs.Refusing.{meets-refused, meets-done}
 use Rattle.jn_world.proofs.ServerCalls.{armed-does}
-use Rattle.jn_place.proofs.Slots.{has-pages}
-use Rattle.jn_world.specs.Standing.{IsWorld}
-use Rattle.jn_place.proofs.Steps.{any-ok}
-use Rattle.jn_device.specs.Events.{is_within}
 use Rattle.jn_world.proofs.world.World.arm.Goals as goal
 
 pub arm-requires-clause-pages : goal.arm-requires-clause-pages

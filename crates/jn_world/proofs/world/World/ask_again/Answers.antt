@@ -1,12 +1,6 @@
-use Rattle.jn_base.specs.declared.names.ClientNo.{ClientNo}
-use Rattle.jn_schedule.specs.declared.Event.TheVariants.{Again}
-use Rattle.jn_device.specs.Device.{DeviceState}
-use Rattle.jn_store.specs.Store.{StoreView}
-use Rattle.jn_world.specs.Written.{standing_of}
+use Rattle.jn_world.proofs.Common.{ClientNo, Again, DeviceState, StoreView, standing_of, clients_from, asking_clients, asking_servers}
 use Rattle.jn_world.proofs.Calls.{does-then}
 use Rattle.jn_world.proofs.Numbers.{none-begin}
-use Rattle.jn_system_settling.specs.Settling.Settle.{clients_from}
-use Rattle.jn_world.specs.Settling.{asking_clients, asking_servers}
 use Rattle.jn_world.proofs.Calm.{stay-then}
 use Rattle.jn_world.proofs.world.World.ask_again.Goals as goal
 

@@ -1,12 +1,4 @@
-use Rattle.std.proofs.Common.{◌≡◌, ℕ, ◌+◌, Ok, Err, refl, subst, arith}
-use Rattle.jn_base.specs.declared.names.ClientNo.{ClientNo}
-use Rattle.jn_schedule.specs.declared.Event.TheVariants.{Again}
-use Rattle.jn_device.specs.Device.{DeviceState}
-use Rattle.jn_store.specs.Store.{StoreView}
-use Rattle.jn_world.specs.Written.{standing_of}
-use Rattle.jn_written.specs.Tasks.{Task, Acts}
-use Rattle.jn_world.specs.Settling.{asking_clients}
-use Rattle.jn_world.specs.Written.{DoesTasks}
+use Rattle.jn_world.proofs.Common.{◌≡◌, ℕ, ◌+◌, Ok, Err, refl, subst, arith, ClientNo, Again, DeviceState, StoreView, standing_of, Task, Acts, asking_clients, DoesTasks}
 use Rattle.jn_world.proofs.Calls.{at_clients, client-turn, clients-cut, does-nothing}
 use Rattle.jn_world.proofs.Turns.{acts-does, does-exit}
 use Rattle.jn_world.proofs.world.World.ask_clients.Goals as goal

@@ -1,11 +1,5 @@
-use Rattle.std.proofs.Common.{ℕ, Ok}
-use Rattle.jn_schedule.specs.declared.Event.TheVariants.{Again}
-use Rattle.jn_base.specs.declared.names.ClientNo.{ClientNo}
+use Rattle.jn_world.proofs.Common.{ℕ, Ok, Again, ClientNo, IsWorld, DoesTasks, standing_of, Acts, StayUp}
 use Rattle.jn_world.proofs.Calls.{at_clients}
-use Rattle.jn_world.specs.Standing.{IsWorld}
-use Rattle.jn_world.specs.Written.{DoesTasks, standing_of}
-use Rattle.jn_written.specs.Tasks.{Acts}
-use Rattle.jn_world.specs.Calm.{StayUp}
 use Rattle.jn_world.proofs.world.World.ask_clients.Given as goal
 
 abbrev pub invariant-loop-c : goal.invariant-loop-c

@@ -1,7 +1,4 @@
-use Rattle.std.proofs.Common.{ℕ, Ok, refl, sym, ◌∙◌, arith}
-use Rattle.jn_device.specs.Device.{DeviceState}
-use Rattle.jn_store.specs.Store.{StoreView}
-use Rattle.jn_world.specs.Written.{standing_of}
+use Rattle.jn_world.proofs.Common.{ℕ, Ok, refl, sym, ◌∙◌, arith, DeviceState, StoreView, standing_of}
 use Rattle.jn_world.proofs.LostCalls.{nudged-idle}
 use Rattle.jn_world.proofs.world.World.ask_server.Goals as goal
 

@@ -1,11 +1,4 @@
-use Rattle.std.proofs.Common.{ℕ, ◌+◌, Ok, Err, refl, ◌∙◌, arith}
-use Rattle.jn_base.specs.declared.names.ServerNo.{ServerNo}
-use Rattle.jn_schedule.specs.declared.Event.TheVariants.{Nudge}
-use Rattle.jn_device.specs.Device.{DeviceState}
-use Rattle.jn_store.specs.Store.{StoreView}
-use Rattle.jn_world.specs.Written.{standing_of}
-use Rattle.jn_written.specs.Tasks.{Task, Acts}
-use Rattle.jn_world.specs.Settling.{asking_servers}
+use Rattle.jn_world.proofs.Common.{ℕ, ◌+◌, Ok, Err, refl, ◌∙◌, arith, ServerNo, Nudge, DeviceState, StoreView, standing_of, Task, Acts, asking_servers}
 use Rattle.jn_world.proofs.Calls.{server-turn, servers-cut, servers-end, does-nothing}
 use Rattle.jn_world.proofs.Turns.{acts-does, does-exit}
 use Rattle.jn_world.proofs.world.World.ask_servers.Goals as goal

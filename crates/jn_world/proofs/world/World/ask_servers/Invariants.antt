@@ -1,11 +1,5 @@
-use Rattle.std.proofs.Common.{◌≡◌, ℕ, vec_len, Ok}
-use Rattle.jn_schedule.specs.declared.Event.TheVariants.{Nudge}
-use Rattle.jn_base.specs.declared.names.ServerNo.{ServerNo}
+use Rattle.jn_world.proofs.Common.{◌≡◌, ℕ, vec_len, Ok, Nudge, ServerNo, IsWorld, DoesTasks, standing_of, Acts, StayUp}
 use Rattle.jn_world.proofs.Calls.{at_servers}
-use Rattle.jn_world.specs.Standing.{IsWorld}
-use Rattle.jn_world.specs.Written.{DoesTasks, standing_of}
-use Rattle.jn_written.specs.Tasks.{Acts}
-use Rattle.jn_world.specs.Calm.{StayUp}
 use Rattle.jn_world.proofs.world.World.ask_servers.Given as goal
 
 abbrev pub invariant-loop-s : goal.invariant-loop-s

@@ -1,8 +1,4 @@
-use Rattle.std.proofs.Common.{sym, ◌∙◌}
-use Rattle.jn_device.specs.Device.{DeviceState}
-use Rattle.jn_report.specs.declared.line.EventRefusal.TheVariants.{NoSuchServer, ServerDown}
-use Rattle.jn_store.specs.Store.{StoreView}
-use Rattle.jn_world.specs.Written.{standing_of}
+use Rattle.jn_world.proofs.Common.{sym, ◌∙◌, DeviceState, NoSuchServer, ServerDown, StoreView, standing_of}
 use Rattle.jn_world.proofs.Refusing.{meets-refused, refused-not-there, refused-down, lt-there, lt-none}
 use Rattle.jn_world.proofs.world.World.at_server.Goals as goal
 

@@ -1,14 +1,6 @@
-use Rattle.std.proofs.Common.{◌∷◌, [], refl, sym, ◌∙◌, ap, subst}
-use Rattle.jn_base.specs.declared.names.ServerNo.{ServerNo}
-use Rattle.jn_device.specs.Device.{DeviceState}
-use Rattle.jn_schedule.specs.declared.Event.{Event}
-use Rattle.jn_schedule.specs.declared.Event.TheVariants.{Step, Nudge, Scrub, Crash, Show, Timeout}
-use Rattle.jn_store.specs.Store.{StoreView}
-use Rattle.jn_world.specs.Meeting.{IsAtUp}
-use Rattle.jn_world.specs.Written.{DoesTasks, standing_of}
+use Rattle.jn_world.proofs.Common.{◌∷◌, [], refl, sym, ◌∙◌, ap, subst, ServerNo, DeviceState, Event, Step, Nudge, Scrub, Crash, Show, Timeout, StoreView, IsAtUp, DoesTasks, standing_of, Meets}
 use Rattle.jn_world.proofs.Refusing.{meets-done, refused-up, lt-there}
 use Rattle.jn_world.proofs.world.World.at_up.Goals as goal
-use Rattle.jn_written.specs.Tasks.{Meets}
 
 pub returns-in-Step-clause-does : goal.returns-in-Step-clause-does
 returns-in-Step-clause-does g c =

@@ -1,8 +1,4 @@
-use Rattle.std.proofs.Common.{sym, ◌∙◌}
-use Rattle.jn_device.specs.Device.{DeviceState}
-use Rattle.jn_report.specs.declared.line.EventRefusal.TheVariants.{NoSuchServer}
-use Rattle.jn_store.specs.Store.{StoreView}
-use Rattle.jn_world.specs.Written.{standing_of}
+use Rattle.jn_world.proofs.Common.{sym, ◌∙◌, DeviceState, NoSuchServer, StoreView, standing_of}
 use Rattle.jn_world.proofs.PageRefusals.{befalls-nothing}
 use Rattle.jn_world.proofs.Refusing.{meets-refused, lt-none}
 use Rattle.jn_world.proofs.world.World.befall.Goals as goal

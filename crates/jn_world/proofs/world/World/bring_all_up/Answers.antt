@@ -1,11 +1,5 @@
-use Rattle.std.proofs.Common.{◌<◌, ℕ, ◌+◌, length, Ok, Err, refl, ◌∙◌, arith}
-use Rattle.jn_base.specs.declared.names.ServerNo.{ServerNo}
-use Rattle.jn_written.specs.Events.{coming_up}
-use Rattle.jn_written.specs.Tasks.{Task, ComesUp}
+use Rattle.jn_world.proofs.Common.{◌<◌, ℕ, ◌+◌, length, Ok, Err, refl, ◌∙◌, arith, ServerNo, coming_up, Task, ComesUp, DeviceState, StoreView, standing_of}
 use Rattle.jn_world.proofs.Turns.{does-exit}
-use Rattle.jn_device.specs.Device.{DeviceState}
-use Rattle.jn_store.specs.Store.{StoreView}
-use Rattle.jn_world.specs.Written.{standing_of}
 use Rattle.jn_world.proofs.Calls.{server-turn, servers-cut, servers-end, does-nothing}
 use Rattle.jn_world.proofs.Calm.{risen-none, risen-more, risen-all, still-down}
 use Rattle.jn_world.proofs.world.World.bring_all_up.Goals as goal

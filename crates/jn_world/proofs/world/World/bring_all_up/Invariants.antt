@@ -1,9 +1,5 @@
-use Rattle.std.proofs.Common.{◌≡◌, ℕ, vec_len, Ok}
-use Rattle.jn_base.specs.declared.names.ServerNo.{ServerNo}
+use Rattle.jn_world.proofs.Common.{◌≡◌, ℕ, vec_len, Ok, ServerNo, IsWorld, DoesTasks, standing_of, ComesUp}
 use Rattle.jn_world.proofs.Calls.{at_servers}
-use Rattle.jn_world.specs.Standing.{IsWorld}
-use Rattle.jn_world.specs.Written.{DoesTasks, standing_of}
-use Rattle.jn_written.specs.Tasks.{ComesUp}
 use Rattle.jn_world.proofs.Calm.{RisenTo}
 use Rattle.jn_world.proofs.world.World.bring_all_up.Given as goal
 

@@ -1,7 +1,4 @@
-use Rattle.std.proofs.Common.{◌<◌, length, ap, arith, sym, ◌∙◌}
-use Rattle.jn_store.specs.Store.{StoreView}
-use Rattle.jn_world.specs.declared.world.World.{World}
-use Rattle.jn_device.specs.Device.{DeviceState}
+use Rattle.jn_world.proofs.Common.{◌<◌, length, ap, arith, sym, ◌∙◌, StoreView, World, DeviceState}
 use Rattle.jn_world.proofs.Bringing.{brought, has-counts, place-got}
 use Rattle.jn_world.proofs.Places.{place-there, place-million, down-here, moved-quiet}
 use Rattle.jn_world.proofs.Calm.{risen-set, risen-by}

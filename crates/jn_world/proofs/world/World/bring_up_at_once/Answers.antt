@@ -1,11 +1,4 @@
-use Rattle.std.proofs.Common.{ℕ, ◌∷◌, [], ◌++◌, ◌∙◌, ap, Bool, Ok, true, false, sym, subst}
-use Rattle.jn_device.specs.Device.{DeviceState}
-use Rattle.jn_report.specs.declared.line.Line.{Line}
-use Rattle.std.specs.Prelude.{List}
-use Rattle.jn_store.specs.Store.{StoreView}
-use Rattle.jn_world.specs.Bringing.{BroughtUp}
-use Rattle.jn_world.specs.Written.{DoesTasks, standing_of}
-use Rattle.jn_written.specs.Tasks.{ComesUp}
+use Rattle.jn_world.proofs.Common.{ℕ, ◌∷◌, [], ◌++◌, ◌∙◌, ap, Bool, Ok, true, false, sym, subst, DeviceState, Line, List, StoreView, BroughtUp, DoesTasks, standing_of, ComesUp}
 use Rattle.jn_world.proofs.Bringing.{up-came, up-cut, memory-on}
 use Rattle.jn_world.proofs.Turns.{does-without}
 use Rattle.jn_world.proofs.world.World.bring_up_at_once.Goals as goal

@@ -1,10 +1,4 @@
-use Rattle.std.proofs.Common.{ℕ, Bool, false, Option, Ok, Err, subst}
-use Rattle.jn_base.specs.declared.names.ServerNo.{ServerNo}
-use Rattle.jn_device.specs.Device.{DeviceState}
-use Rattle.jn_schedule.specs.declared.Event.TheVariants.{Step}
-use Rattle.jn_store.specs.Store.{StoreView}
-use Rattle.jn_world.specs.Settling.{TellsFirst}
-use Rattle.jn_world.specs.Written.{standing_of}
+use Rattle.jn_world.proofs.Common.{ℕ, Bool, false, Option, Ok, Err, subst, ServerNo, DeviceState, Step, StoreView, TellsFirst, standing_of}
 use Rattle.jn_world.proofs.Busy.{works-next}
 use Rattle.jn_world.proofs.Resting.{turn-kept}
 use Rattle.jn_world.proofs.Turns.{turns-none, turns-exit}

@@ -1,7 +1,4 @@
-use Rattle.std.proofs.Common.{ℕ, Ok, Err, refl, ◌∙◌}
-use Rattle.jn_device.specs.Device.{DeviceState}
-use Rattle.jn_store.specs.Store.{StoreView}
-use Rattle.jn_world.specs.Written.{standing_of}
+use Rattle.jn_world.proofs.Common.{ℕ, Ok, Err, refl, ◌∙◌, DeviceState, StoreView, standing_of}
 use Rattle.jn_world.proofs.Turns.{turns-none, turns-more, turns-exit}
 use Rattle.jn_world.proofs.world.World.carry_out.Goals as goal
 

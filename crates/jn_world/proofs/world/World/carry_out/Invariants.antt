@@ -1,8 +1,4 @@
-use Rattle.std.proofs.Common.{◌≡◌, ℕ, Ok}
-use Rattle.jn_world.specs.Standing.{IsWorld}
-use Rattle.jn_world.specs.Settling.{handed, steps_of_all}
-use Rattle.jn_world.specs.Written.{KeepsOn, standing_of}
-use Rattle.jn_world.specs.Calm.{StayUp}
+use Rattle.jn_world.proofs.Common.{◌≡◌, ℕ, Ok, IsWorld, handed, steps_of_all, KeepsOn, standing_of, StayUp}
 use Rattle.jn_world.proofs.world.World.carry_out.Given as goal
 
 abbrev pub invariant-loop : goal.invariant-loop

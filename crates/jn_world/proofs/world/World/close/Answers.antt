@@ -1,9 +1,4 @@
-use Rattle.std.proofs.Common.{ℕ, sym, subst, ap}
-use Rattle.jn_device.specs.Device.{DeviceState}
-use Rattle.jn_store.specs.Store.{StoreView}
-use Rattle.jn_world.specs.Closing.{AreIdle}
-use Rattle.jn_world.specs.Written.{standing_of}
-use Rattle.jn_stands.specs.Stands.{Standing}
+use Rattle.jn_world.proofs.Common.{ℕ, sym, subst, ap, DeviceState, StoreView, AreIdle, standing_of, Standing}
 use Rattle.jn_world.proofs.Closing.{are-idle}
 use Rattle.jn_world.proofs.Finishing.{closes, closes-not, closes-without}
 use Rattle.jn_world.proofs.Images.{given-image}

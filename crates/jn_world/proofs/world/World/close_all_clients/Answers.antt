@@ -1,12 +1,5 @@
-use Rattle.std.proofs.Common.{◌<◌, ℕ, ◌+◌, length, Ok, Err, refl, ◌∙◌, arith}
-use Rattle.jn_base.specs.declared.names.ServerNo.{ServerNo}
-use Rattle.jn_world.specs.Closing.{closing_clients}
-use Rattle.jn_written.specs.Tasks.{Task, ClosesClients}
+use Rattle.jn_world.proofs.Common.{◌<◌, ℕ, ◌+◌, length, Ok, Err, refl, ◌∙◌, arith, ServerNo, closing_clients, Task, ClosesClients, DeviceState, End, StoreView, standing_of}
 use Rattle.jn_world.proofs.Turns.{does-exit}
-use Rattle.jn_device.specs.Device.{DeviceState}
-use Rattle.jn_report.specs.declared.line.When.TheVariants.{End}
-use Rattle.jn_store.specs.Store.{StoreView}
-use Rattle.jn_world.specs.Written.{standing_of}
 use Rattle.jn_world.proofs.Calls.{server-turn, servers-cut, servers-end, does-nothing}
 use Rattle.jn_world.proofs.Calm.{up-of-all}
 use Rattle.jn_world.proofs.world.World.close_all_clients.Goals as goal

@@ -1,11 +1,5 @@
-use Rattle.std.proofs.Common.{◌≡◌, ℕ, vec_len, Ok}
-use Rattle.jn_base.specs.declared.names.ServerNo.{ServerNo}
-use Rattle.jn_report.specs.declared.line.When.TheVariants.{End}
+use Rattle.jn_world.proofs.Common.{◌≡◌, ℕ, vec_len, Ok, ServerNo, End, IsWorld, DoesTasks, standing_of, ClosesClients, AreUpAndCalm}
 use Rattle.jn_world.proofs.Calls.{at_servers}
-use Rattle.jn_world.specs.Standing.{IsWorld}
-use Rattle.jn_world.specs.Written.{DoesTasks, standing_of}
-use Rattle.jn_written.specs.Tasks.{ClosesClients}
-use Rattle.jn_world.specs.Calm.{AreUpAndCalm}
 use Rattle.jn_world.proofs.world.World.close_all_clients.Given as goal
 
 abbrev pub invariant-loop-s : goal.invariant-loop-s

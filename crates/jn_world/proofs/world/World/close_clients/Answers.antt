@@ -1,8 +1,4 @@
-use Rattle.std.proofs.Common.{ℕ, refl, length, true}
-use Rattle.std.specs.Vec.{with_item}
-use Rattle.jn_store.specs.Store.{StoreView}
-use Rattle.jn_device.specs.Device.{DeviceState}
-use Rattle.jn_world.specs.Written.{standing_of}
+use Rattle.jn_world.proofs.Common.{ℕ, refl, length, true, with_item, StoreView, DeviceState, standing_of}
 use Rattle.jn_world.proofs.Bringing.{place-got, has-counts}
 use Rattle.jn_world.proofs.Closing.{closed-does}
 use Rattle.jn_world.proofs.Places.{place-here, place-million, up-here, up-within, moved-quiet}

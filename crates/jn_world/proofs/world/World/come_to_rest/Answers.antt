@@ -1,9 +1,4 @@
-use Rattle.std.proofs.Common.{ℕ, false, ◌∷◌, [], Ok, Err}
-use Rattle.jn_device.specs.Device.{DeviceState}
-use Rattle.jn_store.specs.Store.{StoreView}
-use Rattle.jn_world.specs.Settling.{handed}
-use Rattle.jn_world.specs.Written.{standing_of}
-use Rattle.jn_written.specs.Tasks.{Rests}
+use Rattle.jn_world.proofs.Common.{ℕ, false, ◌∷◌, [], Ok, Err, DeviceState, StoreView, handed, standing_of, Rests}
 use Rattle.jn_world.proofs.Measures.{handed-most, fewer-left}
 use Rattle.jn_world.proofs.Turns.{turns-none, turns-more, turn-then, turns-on, turns-over, turns-end, turns-cut, does-exit}
 use Rattle.jn_world.proofs.world.World.come_to_rest.Goals as goal

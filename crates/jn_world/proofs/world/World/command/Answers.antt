@@ -1,11 +1,5 @@
-use Rattle.std.proofs.Common.{ℕ, Ok, refl, arith}
-use Rattle.jn_device.specs.Device.{DeviceState}
-use Rattle.jn_world.specs.Written.{standing_of}
-use Rattle.jn_rows.specs.Client.{Sends}
+use Rattle.jn_world.proofs.Common.{ℕ, Ok, refl, arith, DeviceState, standing_of, Sends, with_item, StoreView, Client}
 use Rattle.jn_world.proofs.ClientCalls.{commanded-does, refused-does, client-is}
-use Rattle.std.specs.Vec.{with_item}
-use Rattle.jn_store.specs.Store.{StoreView}
-use Rattle.jn_base.specs.declared.names.Party.TheVariants.{Client}
 use Rattle.jn_world.proofs.Places.{commanded-world}
 use Rattle.jn_world.proofs.Worlds.{net-places, net-clients}
 use Rattle.jn_world.proofs.world.World.command.Goals as goal

@@ -1,8 +1,4 @@
-use Rattle.std.proofs.Common.{ℕ, length, refl, Ok}
-use Rattle.std.specs.Vec.{with_item}
-use Rattle.jn_device.specs.Device.{DeviceState}
-use Rattle.jn_store.specs.Store.{StoreView}
-use Rattle.jn_world.specs.Written.{standing_of}
+use Rattle.jn_world.proofs.Common.{ℕ, length, refl, Ok, with_item, DeviceState, StoreView, standing_of}
 use Rattle.jn_world.proofs.Bringing.{place-got, has-counts}
 use Rattle.jn_world.proofs.Places.{place-here, up-here, up-within, moved-quiet}
 use Rattle.jn_world.proofs.ServerCalls.{crashed-does}

@@ -1,12 +1,5 @@
-use Rattle.std.proofs.Common.{ℕ, ◌+◌, Ok, Err, refl, ◌∙◌, arith}
-use Rattle.jn_base.specs.declared.names.ServerNo.{ServerNo}
-use Rattle.jn_world.specs.Closing.{going_down}
-use Rattle.jn_written.specs.Tasks.{Task, GoesDown}
+use Rattle.jn_world.proofs.Common.{ℕ, ◌+◌, Ok, Err, refl, ◌∙◌, arith, ServerNo, going_down, Task, GoesDown, DeviceState, End, StoreView, standing_of}
 use Rattle.jn_world.proofs.Turns.{goes-down-does, does-exit}
-use Rattle.jn_device.specs.Device.{DeviceState}
-use Rattle.jn_report.specs.declared.line.When.TheVariants.{End}
-use Rattle.jn_store.specs.Store.{StoreView}
-use Rattle.jn_world.specs.Written.{standing_of}
 use Rattle.jn_world.proofs.Calls.{server-turn, servers-cut, servers-end, does-nothing}
 use Rattle.jn_world.proofs.Calm.{down-none, down-more, down-all}
 use Rattle.jn_world.proofs.world.World.crash_all.Goals as goal

@@ -1,11 +1,5 @@
-use Rattle.std.proofs.Common.{◌≡◌, ◌<◌, ℕ, false, vec_len, Ok}
-use Rattle.jn_base.specs.declared.names.ServerNo.{ServerNo}
-use Rattle.jn_report.specs.declared.line.When.TheVariants.{End}
+use Rattle.jn_world.proofs.Common.{◌≡◌, ◌<◌, ℕ, false, vec_len, Ok, ServerNo, End, IsWorld, is_up_at, DoesTasks, standing_of, GoesDown, AreQuiet}
 use Rattle.jn_world.proofs.Calls.{at_servers}
-use Rattle.jn_world.specs.Standing.{IsWorld, is_up_at}
-use Rattle.jn_world.specs.Written.{DoesTasks, standing_of}
-use Rattle.jn_written.specs.Tasks.{GoesDown}
-use Rattle.jn_world.specs.Calm.{AreQuiet}
 use Rattle.jn_world.proofs.world.World.crash_all.Given as goal
 
 abbrev pub invariant-loop-s : goal.invariant-loop-s

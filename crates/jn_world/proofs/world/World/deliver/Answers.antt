@@ -1,11 +1,4 @@
-use Rattle.std.proofs.Common.{◌≡◌, false, true, length, refl, arith}
-use Rattle.std.proofs.lemmas.Bool.Decides.{nat_tests}
-use Rattle.std.specs.Prelude.{nat_lt}
-use Rattle.jn_device.specs.Device.{DeviceState}
-use Rattle.jn_report.specs.declared.line.EventRefusal.TheVariants.{NoSuchMessage}
-use Rattle.jn_schedule.specs.declared.Event.TheVariants.{Deliver}
-use Rattle.jn_store.specs.Store.{StoreView}
-use Rattle.jn_world.specs.Written.{standing_of}
+use Rattle.jn_world.proofs.Common.{◌≡◌, false, true, length, refl, arith, nat_tests, nat_lt, DeviceState, NoSuchMessage, Deliver, StoreView, standing_of}
 use Rattle.jn_world.proofs.LostCalls.{no-message, some-message}
 use Rattle.jn_world.proofs.Refusing.{meets-refused, meets-done}
 use Rattle.jn_world.proofs.world.World.deliver.Goals as goal

@@ -1,11 +1,4 @@
-use Rattle.std.proofs.Common.{◌<◌, length, arith, refl, ap}
-use Rattle.std.specs.Vec.{with_item}
-use Rattle.jn_device.specs.Device.{DeviceState}
-use Rattle.jn_store.specs.Store.{StoreView}
-use Rattle.jn_base.specs.declared.names.ServerNo.{ServerNo}
-use Rattle.jn_recovery.specs.Loading.{counts_by}
-use Rattle.jn_place.proofs.Slots.{stands-there}
-use Rattle.jn_world.specs.declared.world.World.{World}
+use Rattle.jn_world.proofs.Common.{◌<◌, length, arith, refl, ap, with_item, DeviceState, StoreView, ServerNo, counts_by, stands-there, World}
 use Rattle.jn_world.proofs.Bringing.{place-got, has-counts}
 use Rattle.jn_world.proofs.Finishing.{disarmed-none, disarmed-more, disarmed-all}
 use Rattle.jn_world.proofs.Places.{place-there, moved-quiet}

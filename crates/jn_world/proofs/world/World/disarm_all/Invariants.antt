@@ -1,6 +1,5 @@
-use Rattle.std.proofs.Common.{◌≡◌, vec_len}
+use Rattle.jn_world.proofs.Common.{◌≡◌, vec_len, IsWorld}
 use Rattle.jn_world.proofs.Finishing.{DisarmedTo}
-use Rattle.jn_world.specs.Standing.{IsWorld}
 use Rattle.jn_world.proofs.world.World.disarm_all.Given as goal
 
 abbrev pub invariant-loop-s : goal.invariant-loop-s

@@ -1,14 +1,7 @@
-use Rattle.std.proofs.Common.{List, ap, sym, subst}
-use Rattle.jn_device.specs.Device.{DeviceState}
-use Rattle.jn_place.specs.declared.place.Place.{Place}
-use Rattle.jn_stands.specs.Ending.{AreDisarmed}
-use Rattle.jn_store.specs.Store.{StoreView}
-use Rattle.jn_net.specs.Carried.{Carried}
-use Rattle.jn_world.specs.declared.world.World.{World}
+use Rattle.jn_world.proofs.Common.{List, ap, sym, subst, DeviceState, Place, AreDisarmed, StoreView, Carried, World, AreQuiet}
 use Rattle.jn_world.proofs.Places.{world-net}
 use Rattle.jn_world.proofs.Finishing.{dismissed-standing}
 use Rattle.jn_world.proofs.Calm.{quiet-disarmed}
-use Rattle.jn_world.specs.Calm.{AreQuiet}
 use Rattle.jn_world.proofs.world.World.dismiss.Goals as goal
 
 pub dismiss_clients-requires : goal.dismiss_clients-requires

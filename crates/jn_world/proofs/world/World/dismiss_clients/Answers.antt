@@ -1,8 +1,4 @@
-use Rattle.std.proofs.Common.{◌<◌, ℕ, length, ◌∙◌, ap, arith}
-use Rattle.std.specs.Vec.{with_item}
-use Rattle.jn_store.specs.Store.{StoreView}
-use Rattle.jn_rows.specs.Client.{ClientTable}
-use Rattle.jn_world.specs.declared.world.World.{World}
+use Rattle.jn_world.proofs.Common.{◌<◌, ℕ, length, ◌∙◌, ap, arith, with_item, StoreView, ClientTable, World}
 use Rattle.jn_world.proofs.Closing.{over-next, over-all, over-world}
 use Rattle.jn_world.proofs.world.World.dismiss_clients.Goals as goal
 

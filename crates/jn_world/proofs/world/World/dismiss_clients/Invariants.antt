@@ -1,6 +1,5 @@
-use Rattle.std.proofs.Common.{◌≡◌, vec_len}
+use Rattle.jn_world.proofs.Common.{◌≡◌, vec_len, IsWorld}
 use Rattle.jn_world.proofs.Closing.{over_first}
-use Rattle.jn_world.specs.Standing.{IsWorld}
 use Rattle.jn_world.proofs.world.World.dismiss_clients.Given as goal
 
 abbrev pub invariant-loop-c : goal.invariant-loop-c

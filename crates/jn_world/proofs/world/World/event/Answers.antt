@@ -1,6 +1,4 @@
-use Rattle.jn_device.specs.Device.{DeviceState}
-use Rattle.jn_store.specs.Store.{StoreView}
-use Rattle.jn_world.specs.Written.{standing_of}
+use Rattle.jn_world.proofs.Common.{DeviceState, StoreView, standing_of}
 use Rattle.jn_world.proofs.Scheduled.{begins-meets}
 use Rattle.jn_world.proofs.world.World.event.Goals as goal
 

@@ -1,5 +1,4 @@
-use Rattle.jn_device.specs.Device.{DeviceState}
-use Rattle.jn_store.specs.Store.{StoreView}
+use Rattle.jn_world.proofs.Common.{DeviceState, StoreView}
 use Rattle.jn_world.proofs.Busy.{idle-more, tells-false}
 use Rattle.jn_world.proofs.world.World.first_busy.Goals as goal
 

@@ -1,4 +1,4 @@
-use Rattle.jn_world.specs.Settling.{AreIdleBelow}
+use Rattle.jn_world.proofs.Common.{AreIdleBelow}
 use Rattle.jn_world.proofs.world.World.first_busy.Given as goal
 
 abbrev pub invariant-loop-s : goal.invariant-loop-s

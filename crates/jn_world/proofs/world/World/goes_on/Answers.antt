@@ -1,9 +1,4 @@
-use Rattle.std.proofs.Common.{ℕ, suc, true, false, Ok, Err, sym, ◌∙◌, ap}
-use Rattle.jn_device.specs.Device.{DeviceState}
-use Rattle.jn_schedule.specs.declared.Event.TheVariants.{Deliver}
-use Rattle.jn_stands.proofs.RestNext.{next-delivers}
-use Rattle.jn_store.specs.Store.{StoreView}
-use Rattle.jn_world.specs.Written.{standing_of}
+use Rattle.jn_world.proofs.Common.{ℕ, suc, true, false, Ok, Err, sym, ◌∙◌, ap, DeviceState, Deliver, next-delivers, StoreView, standing_of}
 use Rattle.jn_world.proofs.Busy.{turn-exit, none-next}
 use Rattle.jn_world.proofs.Measures.{hands-more}
 use Rattle.jn_world.proofs.Resting.{turn-kept, turn-over}

@@ -1,5 +1,4 @@
-use Rattle.std.proofs.Common.{sym}
-use Rattle.jn_base.specs.declared.names.Party.TheVariants.{Client, Server}
+use Rattle.jn_world.proofs.Common.{sym, Client, Server}
 use Rattle.jn_world.proofs.LostCalls.{to-it}
 use Rattle.jn_world.proofs.world.World.hand_over.Goals as goal
 

@@ -1,17 +1,6 @@
-use Rattle.std.proofs.Common.{ℕ, ◌+◌, ◌∷◌, [], ◌++◌, length, List, sym, subst, ◌∙◌, ap}
-use Rattle.std.proofs.lemmas.Iterator.Adapters.{YieldsList-from_vec}
-use Rattle.std.proofs.lemmas.Iterator.Consumers.{YieldsList-turn, YieldsList-end}
-use Rattle.std.proofs.lemmas.List.{length_push}
-use Rattle.jn_base.specs.declared.names.ServerNo.{ServerNo}
-use Rattle.jn_recovery.specs.Loading.{counts_by}
-use Rattle.jn_store.specs.Store.{StoreView}
-use Rattle.jn_place.specs.declared.place.Place.{Place}
-use Rattle.jn_place.specs.Places.{IsPlace}
-use Rattle.jn_world.specs.Standing.{AreClosed}
-use Rattle.jn_world.specs.Closing.{AreTheirs}
+use Rattle.jn_world.proofs.Common.{ℕ, ◌+◌, ◌∷◌, [], ◌++◌, length, List, sym, subst, ◌∙◌, ap, YieldsList-from_vec, YieldsList-turn, YieldsList-end, length_push, ServerNo, counts_by, StoreView, Place, IsPlace, AreClosed, AreTheirs, stands-there}
 use Rattle.jn_world.proofs.Pushed.{theirs-more, yielded-all}
 use Rattle.jn_world.proofs.Places.{place-at, closed-more}
-use Rattle.jn_place.proofs.Slots.{stands-there}
 use Rattle.jn_world.proofs.world.World.into_stores.Goals as goal
 
 pub into_store-requires : goal.into_store-requires

@@ -1,6 +1,4 @@
-use Rattle.std.proofs.Common.{◌≡◌, length}
-use Rattle.jn_world.specs.Closing.{AreTheirs}
-use Rattle.jn_world.specs.Standing.{AreClosed}
+use Rattle.jn_world.proofs.Common.{◌≡◌, length, AreTheirs, AreClosed}
 use Rattle.jn_world.proofs.world.World.into_stores.Given as goal
 
 abbrev pub invariant-loop-place : goal.invariant-loop-place

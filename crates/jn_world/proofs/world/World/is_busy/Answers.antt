@@ -1,8 +1,4 @@
-use Rattle.std.proofs.Common.{length, sym, ◌∙◌}
-use Rattle.jn_device.specs.Device.{DeviceState}
-use Rattle.jn_place.proofs.Slots.{serves-here}
-use Rattle.jn_recovery.specs.Loading.{counts_by}
-use Rattle.jn_store.specs.Store.{StoreView}
+use Rattle.jn_world.proofs.Common.{length, sym, ◌∙◌, DeviceState, serves-here, counts_by, StoreView}
 use Rattle.jn_world.proofs.Busy.{reads-here, down-idle, up-tells}
 use Rattle.jn_world.proofs.Places.{place-is, place-here, place-million, up-here}
 use Rattle.jn_world.proofs.world.World.is_busy.Goals as goal

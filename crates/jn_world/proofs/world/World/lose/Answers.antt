@@ -1,7 +1,4 @@
-use Rattle.std.proofs.Common.{ℕ, Ok, refl}
-use Rattle.jn_device.specs.Device.{DeviceState}
-use Rattle.jn_store.specs.Store.{StoreView}
-use Rattle.jn_world.specs.Written.{standing_of}
+use Rattle.jn_world.proofs.Common.{ℕ, Ok, refl, DeviceState, StoreView, standing_of}
 use Rattle.jn_world.proofs.LostCalls.{lost-to, delivered-limit}
 use Rattle.jn_world.proofs.Places.{delivered-world}
 use Rattle.jn_world.proofs.Measures.{hands-one}

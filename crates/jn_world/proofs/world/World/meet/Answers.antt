@@ -1,11 +1,5 @@
-use Rattle.std.proofs.Common.{◌∷◌, [], refl, sym, subst}
-use Rattle.jn_device.specs.Device.{DeviceState}
-use Rattle.jn_report.specs.declared.line.When.TheVariants.{Event as AtEvent}
-use Rattle.jn_schedule.specs.declared.Event.{Event}
-use Rattle.jn_schedule.specs.declared.Event.TheVariants.{Command, Again}
-use Rattle.jn_store.specs.Store.{StoreView}
-use Rattle.jn_world.specs.Written.{DoesTasks, standing_of}
-use Rattle.jn_written.specs.Tasks.{Meets}
+use Rattle.jn_world.proofs.Common.{◌∷◌, [], refl, sym, subst, DeviceState, AtEvent, Event, Again, StoreView, DoesTasks, standing_of, Meets}
+use Rattle.jn_schedule.specs.declared.Event.TheVariants.{Command}
 use Rattle.jn_world.proofs.Refusing.{meets-done}
 use Rattle.jn_world.proofs.Scheduled.{meets-settle}
 use Rattle.jn_world.proofs.world.World.meet.Goals as goal

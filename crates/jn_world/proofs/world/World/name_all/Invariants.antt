@@ -1,8 +1,4 @@
-use Rattle.std.proofs.Common.{◌≡◌, ◌++◌}
-use Rattle.std.specs.Prelude.{drop}
-use Rattle.jn_system.specs.WholeSystem.World.{commits_in}
-use Rattle.jn_world.specs.Naming.{newly_named}
-use Rattle.jn_written.specs.Steps.{lines_at}
+use Rattle.jn_world.proofs.Common.{◌≡◌, ◌++◌, drop, commits_in, newly_named, lines_at}
 use Rattle.jn_world.proofs.world.World.name_all.Given as goal
 
 abbrev pub invariant-loop-tid : goal.invariant-loop-tid

@@ -1,11 +1,6 @@
-use Rattle.jn_device.specs.Device.{DeviceState}
-use Rattle.jn_world.specs.Written.{standing_of}
+use Rattle.jn_world.proofs.Common.{DeviceState, standing_of, StoreView, Server, counts_by, serves-here}
 use Rattle.jn_world.proofs.Busy.{nudged-now}
-use Rattle.jn_store.specs.Store.{StoreView}
-use Rattle.jn_base.specs.declared.names.Party.TheVariants.{Server}
-use Rattle.jn_recovery.specs.Loading.{counts_by}
 use Rattle.jn_world.proofs.Places.{place-is, place-here, place-million, up-here, sent-world}
-use Rattle.jn_place.proofs.Slots.{serves-here}
 use Rattle.jn_world.proofs.Worlds.{places-of, clients-of}
 use Rattle.jn_world.proofs.Calm.{stay-places}
 use Rattle.jn_world.proofs.world.World.nudge_into.Goals as goal

@@ -1,8 +1,4 @@
-use Rattle.std.proofs.Common.{Bool, ◌++◌, ◌∷◌, [], length, ap, ◌∙◌}
-use Rattle.jn_stands.specs.Stands.{Standing}
-use Rattle.jn_world.specs.declared.world.World.{World}
-use Rattle.jn_world.specs.Written.{standing_of}
-use Rattle.jn_written.specs.Steps.{lines_at, message_texts, traced}
+use Rattle.jn_world.proofs.Common.{Bool, ◌++◌, ◌∷◌, [], length, ap, ◌∙◌, Standing, World, standing_of, lines_at, message_texts, traced}
 use Rattle.jn_world.proofs.Sending.{sent-then, texts-then}
 use Rattle.jn_world.proofs.world.World.post_all.Goals as goal
 

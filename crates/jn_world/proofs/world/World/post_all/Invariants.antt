@@ -1,8 +1,4 @@
-use Rattle.std.proofs.Common.{◌≡◌, ◌≤◌, ◌++◌, length}
-use Rattle.jn_stands.specs.Stands.{with_sent}
-use Rattle.jn_world.specs.Standing.{posted_by}
-use Rattle.jn_world.specs.Written.{standing_of}
-use Rattle.jn_written.specs.Steps.{lines_at, message_texts, traced}
+use Rattle.jn_world.proofs.Common.{◌≡◌, ◌≤◌, ◌++◌, length, with_sent, posted_by, standing_of, lines_at, message_texts, traced}
 use Rattle.jn_world.proofs.world.World.post_all.Given as goal
 
 abbrev pub invariant-loop-to : goal.invariant-loop-to

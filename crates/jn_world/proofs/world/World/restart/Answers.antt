@@ -1,9 +1,4 @@
-use Rattle.std.proofs.Common.{sym, ◌∙◌, refl}
-use Rattle.jn_device.specs.Device.{DeviceState}
-use Rattle.jn_report.specs.declared.line.EventRefusal.TheVariants.{NoSuchServer, ServerUp}
-use Rattle.jn_schedule.specs.declared.Event.TheVariants.{Restart}
-use Rattle.jn_store.specs.Store.{StoreView}
-use Rattle.jn_world.specs.Written.{standing_of}
+use Rattle.jn_world.proofs.Common.{sym, ◌∙◌, refl, DeviceState, NoSuchServer, ServerUp, Restart, StoreView, standing_of}
 use Rattle.jn_world.proofs.Refusing.{meets-refused, meets-done, lt-there, lt-none}
 use Rattle.jn_world.proofs.RestartRefusals.{restart-not-there, restart-up, restart-down}
 use Rattle.jn_world.proofs.world.World.restart.Goals as goal

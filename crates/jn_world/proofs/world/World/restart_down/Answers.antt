@@ -1,10 +1,4 @@
-use Rattle.std.proofs.Common.{ℕ, [], ◌++◌, ◌∙◌, ap, List, Ok, sym, subst}
-use Rattle.jn_device.specs.Device.{DeviceState}
-use Rattle.jn_report.specs.declared.line.Line.{Line}
-use Rattle.jn_schedule.specs.declared.Event.TheVariants.{Restart}
-use Rattle.jn_store.specs.Store.{StoreView}
-use Rattle.jn_world.specs.Bringing.{BroughtUp}
-use Rattle.jn_world.specs.Written.{DoesEvent, standing_of}
+use Rattle.jn_world.proofs.Common.{ℕ, [], ◌++◌, ◌∙◌, ap, List, Ok, sym, subst, DeviceState, Line, Restart, StoreView, BroughtUp, DoesEvent, standing_of}
 use Rattle.jn_world.proofs.Bringing.{restarts-does, memory-on}
 use Rattle.jn_world.proofs.ServerCalls.{event-without}
 use Rattle.jn_world.proofs.world.World.restart_down.Goals as goal

@@ -1,22 +1,11 @@
-use Rattle.std.proofs.Common.{◌≡◌, ◌<◌, ◌+◌, List, [], ◌∷◌, ℕ, true, false, refl, length, Ok, subst, arith}
-use Rattle.std.proofs.lemmas.Bool.Decides.{nat_tests}
-use Rattle.std.specs.Prelude.{nat_lt}
-use Rattle.std.specs.Vec.{with_item}
-use Rattle.jn_device.specs.Device.{DeviceState}
-use Rattle.jn_store.specs.Store.{StoreView}
-use Rattle.jn_place.specs.declared.place.Place.{Place}
-use Rattle.jn_records.specs.StablePages.{page_count}
-use Rattle.jn_recovery.specs.Loading.{counts_by}
+use Rattle.jn_world.proofs.Common.{◌≡◌, ◌<◌, ◌+◌, List, [], ◌∷◌, ℕ, true, false, refl, length, Ok, subst, arith, nat_tests, nat_lt, with_item, DeviceState, StoreView, Place, page_count, counts_by, DoesTasks, standing_of, Meets, has-pages}
 use Rattle.jn_report.specs.declared.line.EventRefusal.TheVariants as refusals
 use Rattle.jn_schedule.specs.declared.Event.TheVariants as events
-use Rattle.jn_world.specs.Written.{DoesTasks, standing_of}
-use Rattle.jn_written.specs.Tasks.{Meets}
 use Rattle.jn_world.proofs.Bringing.{place-got, has-counts}
 use Rattle.jn_world.proofs.PageRefusals.{page-as, written-again}
 use Rattle.jn_world.proofs.Places.{place-there, moved-quiet}
 use Rattle.jn_world.proofs.Refusing.{meets-refused, meets-done}
 use Rattle.jn_world.proofs.ServerCalls.{revived-does}
-use Rattle.jn_place.proofs.Slots.{has-pages}
 use Rattle.jn_world.proofs.world.World.revive.Goals as goal
 
 pub revive-requires-clause-pages : goal.revive-requires-clause-pages

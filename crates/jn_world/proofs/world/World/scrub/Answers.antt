@@ -1,14 +1,9 @@
-use Rattle.std.proofs.Common.{ℕ, Ok, refl, length, true}
-use Rattle.std.specs.Vec.{with_item}
-use Rattle.jn_store.specs.Store.{StoreView}
-use Rattle.jn_device.specs.Device.{DeviceState}
-use Rattle.jn_world.specs.Written.{standing_of}
+use Rattle.jn_world.proofs.Common.{ℕ, Ok, refl, length, true, with_item, StoreView, DeviceState, standing_of, counts_by}
 use Rattle.jn_world.proofs.Bringing.{has-counts}
 use Rattle.jn_world.proofs.ServerCalls.{scrubbed-does}
 use Rattle.jn_world.proofs.Places.{place-here, place-is, place-million, up-here, moved-quiet}
 use Rattle.jn_world.proofs.Calm.{stay-put, stays-up}
 use Rattle.jn_world.proofs.Images.{clean-put, scrubbed-put}
-use Rattle.jn_recovery.specs.Loading.{counts_by}
 use Rattle.jn_world.proofs.world.World.scrub.Goals as goal
 
 pub scrub-requires-clause-place : goal.scrub-requires-clause-place

@@ -1,14 +1,5 @@
-use Rattle.std.proofs.Common.{◌≡◌, ◌<◌, ℕ, vec_len, slice_get, Some, Ok}
-use Rattle.jn_base.specs.declared.names.ServerNo.{ServerNo}
-use Rattle.jn_report.specs.declared.line.When.TheVariants.{End}
+use Rattle.jn_world.proofs.Common.{◌≡◌, ◌<◌, ℕ, vec_len, slice_get, Some, Ok, ServerNo, End, IsWorld, DoesTasks, standing_of, Scrub, Acts, AreUpAndCalm, Place, AreClean, HoldsImageAt}
 use Rattle.jn_world.proofs.Calls.{at_servers}
-use Rattle.jn_world.specs.Standing.{IsWorld}
-use Rattle.jn_world.specs.Written.{DoesTasks, standing_of}
-use Rattle.jn_schedule.specs.declared.Event.TheVariants.{Scrub}
-use Rattle.jn_written.specs.Tasks.{Acts}
-use Rattle.jn_world.specs.Calm.{AreUpAndCalm}
-use Rattle.jn_place.specs.declared.place.Place.{Place}
-use Rattle.jn_world.specs.Images.{AreClean, HoldsImageAt}
 use Rattle.jn_world.proofs.world.World.scrub_all.Given as goal
 
 abbrev pub invariant-loop-s : goal.invariant-loop-s

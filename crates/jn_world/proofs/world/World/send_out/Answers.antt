@@ -1,5 +1,4 @@
-use Rattle.std.proofs.Common.{◌∙◌}
-use Rattle.jn_world.specs.Written.{standing_of}
+use Rattle.jn_world.proofs.Common.{◌∙◌, standing_of}
 use Rattle.jn_world.proofs.Exits.{part-memory}
 use Rattle.jn_world.proofs.Sending.{sends-out}
 use Rattle.jn_world.proofs.world.World.send_out.Goals as goal

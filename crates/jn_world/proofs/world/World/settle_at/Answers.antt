@@ -1,9 +1,4 @@
-use Rattle.std.proofs.Common.{ℕ, ◌++◌, ◌∷◌, [], Err, refl}
-use Rattle.jn_device.specs.Device.{DeviceState}
-use Rattle.jn_store.specs.Store.{StoreView}
-use Rattle.jn_world.specs.Written.{standing_of}
-use Rattle.jn_written.specs.Events.{asking, settling}
-use Rattle.jn_written.specs.Tasks.{Rests}
+use Rattle.jn_world.proofs.Common.{ℕ, ◌++◌, ◌∷◌, [], Err, refl, DeviceState, StoreView, standing_of, asking, settling, Rests}
 use Rattle.jn_world.proofs.Calls.{does-then, does-cut}
 use Rattle.jn_world.proofs.Numbers.{asking-begins}
 use Rattle.jn_world.proofs.Turns.{does-exit}

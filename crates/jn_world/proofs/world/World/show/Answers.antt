@@ -1,11 +1,6 @@
-use Rattle.std.proofs.Common.{ℕ, Ok, refl, length, is_some}
-use Rattle.std.specs.Vec.{with_item}
-use Rattle.jn_store.specs.Store.{StoreView}
-use Rattle.jn_device.specs.Device.{DeviceState}
-use Rattle.jn_world.specs.Written.{standing_of}
+use Rattle.jn_world.proofs.Common.{ℕ, Ok, refl, length, is_some, with_item, StoreView, DeviceState, standing_of, items_of}
 use Rattle.jn_world.proofs.Bringing.{has-counts}
 use Rattle.jn_world.proofs.ServerCalls.{showed-does}
-use Rattle.jn_place.specs.Exact.{items_of}
 use Rattle.jn_world.proofs.Places.{place-here, place-is, place-million, up-here, moved-quiet}
 use Rattle.jn_world.proofs.Calm.{stay-put}
 use Rattle.jn_world.proofs.Images.{clean-put}

@@ -1,13 +1,5 @@
-use Rattle.std.proofs.Common.{◌<◌, ℕ, ◌+◌, length, Ok, Err, refl, ◌∙◌, arith}
-use Rattle.jn_base.specs.declared.names.ServerNo.{ServerNo}
-use Rattle.jn_schedule.specs.declared.Event.TheVariants.{Show}
-use Rattle.jn_world.specs.Closing.{showing_all}
-use Rattle.jn_written.specs.Tasks.{Task, Acts}
+use Rattle.jn_world.proofs.Common.{◌<◌, ℕ, ◌+◌, length, Ok, Err, refl, ◌∙◌, arith, ServerNo, Show, showing_all, Task, Acts, DeviceState, End, StoreView, standing_of}
 use Rattle.jn_world.proofs.Turns.{acts-does, does-exit}
-use Rattle.jn_device.specs.Device.{DeviceState}
-use Rattle.jn_report.specs.declared.line.When.TheVariants.{End}
-use Rattle.jn_store.specs.Store.{StoreView}
-use Rattle.jn_world.specs.Written.{standing_of}
 use Rattle.jn_world.proofs.Calls.{server-turn, servers-cut, servers-end, does-nothing}
 use Rattle.jn_world.proofs.Calm.{up-of-all}
 use Rattle.jn_world.proofs.world.World.show_all.Goals as goal

@@ -1,15 +1,9 @@
-use Rattle.std.proofs.Common.{length, sym, ◌∙◌, ap, is_some}
-use Rattle.std.specs.Vec.{with_item}
-use Rattle.jn_device.specs.Device.{DeviceState}
-use Rattle.jn_store.specs.Store.{StoreView}
-use Rattle.jn_world.specs.Written.{standing_of}
+use Rattle.jn_world.proofs.Common.{length, sym, ◌∙◌, ap, is_some, with_item, DeviceState, StoreView, standing_of, messages_in, Server}
 use Rattle.jn_world.proofs.Busy.{left-counts, reads-here, worked-now, works-here}
 use Rattle.jn_world.proofs.Places.{place-is, place-here, place-million, up-here, moved-sent}
 use Rattle.jn_world.proofs.Worlds.{places-of, clients-of}
 use Rattle.jn_world.proofs.Calm.{stay-moved}
 use Rattle.jn_world.proofs.Measures.{hands-none, steps-less}
-use Rattle.jn_world.specs.Standing.{messages_in}
-use Rattle.jn_base.specs.declared.names.Party.TheVariants.{Server}
 use Rattle.jn_world.proofs.world.World.step_into.Goals as goal
 
 pub step-requires-clause-place : goal.step-requires-clause-place

@@ -1,11 +1,6 @@
 use Rattle.jn_world.proofs.LostCalls.{delivered-limit}
-use Rattle.std.proofs.Common.{sym, ◌∙◌}
-use Rattle.jn_device.specs.Device.{DeviceState}
-use Rattle.jn_world.specs.Written.{standing_of}
+use Rattle.jn_world.proofs.Common.{sym, ◌∙◌, DeviceState, standing_of, StoreView, Client, sent_for}
 use Rattle.jn_world.proofs.ClientCalls.{other-took-now, sent-to}
-use Rattle.jn_store.specs.Store.{StoreView}
-use Rattle.jn_base.specs.declared.names.Party.TheVariants.{Client}
-use Rattle.jn_within.specs.Taking.{sent_for}
 use Rattle.jn_world.proofs.Places.{delivered-world, sent-world}
 use Rattle.jn_world.proofs.Worlds.{net-places, net-clients}
 use Rattle.jn_world.proofs.Calm.{stay-places}

@@ -1,16 +1,10 @@
 use Rattle.jn_world.proofs.LostCalls.{delivered-limit}
-use Rattle.std.proofs.Common.{arith, sym}
-use Rattle.jn_device.specs.Device.{DeviceState}
-use Rattle.jn_world.specs.Written.{standing_of}
+use Rattle.jn_world.proofs.Common.{arith, sym, DeviceState, standing_of, with_item, StoreView, Client, sent_for}
 use Rattle.jn_world.proofs.ClientCalls.{client-took-now, client-is, sent-to}
-use Rattle.std.specs.Vec.{with_item}
-use Rattle.jn_store.specs.Store.{StoreView}
-use Rattle.jn_base.specs.declared.names.Party.TheVariants.{Client}
 use Rattle.jn_world.proofs.Places.{delivered-world, taken-world}
 use Rattle.jn_world.proofs.Worlds.{net-places, net-clients}
 use Rattle.jn_world.proofs.Calm.{stay-places}
 use Rattle.jn_world.proofs.Measures.{hands-on}
-use Rattle.jn_within.specs.Taking.{sent_for}
 use Rattle.jn_world.proofs.world.World.take_at_own.Goals as goal
 
 pub tell_taken-requires : goal.tell_taken-requires

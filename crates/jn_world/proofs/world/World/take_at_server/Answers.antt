@@ -1,7 +1,4 @@
-use Rattle.std.proofs.Common.{subst, sym}
-use Rattle.jn_net.specs.Carried.{Carried}
-use Rattle.jn_store.specs.Store.{StoreView}
-use Rattle.jn_world.specs.Standing.{IsWorld}
+use Rattle.jn_world.proofs.Common.{subst, sym, Carried, StoreView, IsWorld}
 use Rattle.jn_world.proofs.world.World.take_at_server.Goals as goal
 
 pub take_at_up-requires-clause-world : goal.take_at_up-requires-clause-world

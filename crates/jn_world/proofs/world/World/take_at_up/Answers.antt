@@ -1,17 +1,10 @@
-use Rattle.std.proofs.Common.{ℕ, length, subst, sym, is_some}
-use Rattle.std.specs.Vec.{with_item}
-use Rattle.jn_base.specs.declared.names.Party.TheVariants.{Server}
-use Rattle.jn_device.specs.Device.{DeviceState}
-use Rattle.jn_place.specs.Calls.{Left}
-use Rattle.jn_store.specs.Store.{StoreView}
-use Rattle.jn_world.specs.Written.{standing_of}
+use Rattle.jn_world.proofs.Common.{ℕ, length, subst, sym, is_some, with_item, Server, DeviceState, Left, StoreView, standing_of, messages_in}
 use Rattle.jn_world.proofs.Busy.{left-counts, reads-here, took-now}
 use Rattle.jn_world.proofs.LostCalls.{sent-for}
 use Rattle.jn_world.proofs.Places.{place-is, delivered-world, delivered-many, place-here, place-million, up-here, moved-sent, posted-at}
 use Rattle.jn_world.proofs.Worlds.{places-of, clients-of}
 use Rattle.jn_world.proofs.Calm.{stay-moved}
 use Rattle.jn_world.proofs.Measures.{hands-on}
-use Rattle.jn_world.specs.Standing.{messages_in}
 use Rattle.jn_world.proofs.world.World.take_at_up.Goals as goal
 
 pub take-requires-clause-place : goal.take-requires-clause-place

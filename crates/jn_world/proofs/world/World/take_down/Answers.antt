@@ -1,7 +1,4 @@
-use Rattle.std.proofs.Common.{◌<◌, ℕ, length, sym, ◌∙◌, arith}
-use Rattle.jn_device.specs.Device.{DeviceState}
-use Rattle.jn_report.specs.declared.line.When.TheVariants.{End}
-use Rattle.jn_store.specs.Store.{StoreView}
+use Rattle.jn_world.proofs.Common.{◌<◌, ℕ, length, sym, ◌∙◌, arith, DeviceState, End, StoreView}
 use Rattle.jn_world.proofs.Closing.{down-does}
 use Rattle.jn_world.proofs.Calm.{down-there}
 use Rattle.jn_world.proofs.world.World.take_down.Goals as goal

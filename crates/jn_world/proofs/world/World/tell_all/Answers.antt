@@ -1,10 +1,4 @@
-use Rattle.std.proofs.Common.{ℕ, ◌∷◌, [], ◌++◌, Ok, Err}
-use Rattle.jn_device.specs.Device.{DeviceState}
-use Rattle.jn_report.specs.declared.line.When.TheVariants.{End}
-use Rattle.jn_store.specs.Store.{StoreView}
-use Rattle.jn_world.specs.Written.{standing_of}
-use Rattle.jn_written.specs.Tasks.{CountsCommits}
-use Rattle.jn_world.specs.Closing.{showing_all, scrubbing_all, telling}
+use Rattle.jn_world.proofs.Common.{ℕ, ◌∷◌, [], ◌++◌, Ok, Err, DeviceState, End, StoreView, standing_of, CountsCommits, showing_all, scrubbing_all, telling}
 use Rattle.jn_world.proofs.Calls.{does-then, does-cut}
 use Rattle.jn_world.proofs.Finishing.{showing-quiet, scrubbing-quiet, both-quiet}
 use Rattle.jn_world.proofs.Turns.{does-exit}

@@ -1,13 +1,6 @@
-use Rattle.std.proofs.Common.{ℕ, ◌≡◌, ◌∷◌, [], ◌++◌, Ok, sym, ◌∙◌, ap, subst, List}
-use Rattle.jn_device.specs.Device.{DeviceState}
-use Rattle.jn_report.specs.declared.line.When.TheVariants.{End}
-use Rattle.jn_store.specs.Store.{StoreView}
-use Rattle.jn_world.specs.Written.{standing_of}
-use Rattle.jn_written.specs.Tasks.{CountsCommits}
+use Rattle.jn_world.proofs.Common.{ℕ, ◌≡◌, ◌∷◌, [], ◌++◌, Ok, sym, ◌∙◌, ap, subst, List, DeviceState, End, StoreView, standing_of, CountsCommits, DoesTasks, Line}
 use Rattle.jn_report.specs.declared.line.Text.TheVariants.{Commits}
 use Rattle.jn_world.proofs.Closing.{counts-does}
-use Rattle.jn_world.specs.Written.{DoesTasks}
-use Rattle.jn_report.specs.declared.line.Line.{Line}
 use Rattle.jn_world.proofs.world.World.tell_count.Goals as goal
 
 pub returns : goal.returns

@@ -1,8 +1,4 @@
-use Rattle.std.proofs.Common.{◌≡◌, ◌++◌}
-use Rattle.std.specs.Prelude.{drop}
-use Rattle.jn_system.specs.WholeSystem.Servers.{lines_of}
-use Rattle.jn_system.specs.WholeSystem.World.{commits_in}
-use Rattle.jn_written.specs.Steps.{lines_at}
+use Rattle.jn_world.proofs.Common.{◌≡◌, ◌++◌, drop, lines_of, commits_in, lines_at}
 use Rattle.jn_world.proofs.world.World.tell_notes.Given as goal
 
 abbrev pub invariant-loop-note : goal.invariant-loop-note

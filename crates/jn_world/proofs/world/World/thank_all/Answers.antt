@@ -1,10 +1,4 @@
-use Rattle.std.proofs.Common.{ℕ, ◌++◌}
-use Rattle.jn_device.specs.Device.{DeviceState}
-use Rattle.jn_report.specs.declared.line.When.TheVariants.{End}
-use Rattle.jn_store.specs.Store.{StoreView}
-use Rattle.jn_world.specs.Written.{standing_of}
-use Rattle.jn_written.specs.Events.{settling}
-use Rattle.jn_world.specs.Closing.{closing_clients}
+use Rattle.jn_world.proofs.Common.{ℕ, ◌++◌, DeviceState, End, StoreView, standing_of, settling, closing_clients}
 use Rattle.jn_world.proofs.Calls.{does-then, does-cut}
 use Rattle.jn_world.proofs.Finishing.{closing-quiet}
 use Rattle.jn_world.proofs.Turns.{does-exit}

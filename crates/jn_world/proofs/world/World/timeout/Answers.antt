@@ -1,15 +1,7 @@
-use Rattle.std.proofs.Common.{ℕ, Ok, refl, length}
-use Rattle.std.specs.Vec.{with_item}
-use Rattle.jn_device.specs.Device.{DeviceState}
-use Rattle.jn_store.specs.Store.{StoreView}
-use Rattle.jn_recovery.specs.Loading.{counts_by}
-use Rattle.jn_world.specs.Written.{standing_of}
+use Rattle.jn_world.proofs.Common.{ℕ, Ok, refl, length, with_item, DeviceState, StoreView, counts_by, standing_of, IsWorld, any-ok, serves-here}
 use Rattle.jn_world.proofs.Bringing.{has-counts}
 use Rattle.jn_world.proofs.Busy.{timeout-refused, timeout-done}
 use Rattle.jn_world.proofs.Places.{place-is, place-here, place-million, up-here, moved-quiet}
-use Rattle.jn_world.specs.Standing.{IsWorld}
-use Rattle.jn_place.proofs.Steps.{any-ok}
-use Rattle.jn_place.proofs.Slots.{serves-here}
 use Rattle.jn_world.proofs.world.World.timeout.Goals as goal
 
 pub timeout-requires : goal.timeout-requires

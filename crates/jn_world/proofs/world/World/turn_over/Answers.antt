@@ -1,10 +1,4 @@
-use Rattle.std.proofs.Common.{ℕ, ◌++◌}
-use Rattle.jn_device.specs.Device.{DeviceState}
-use Rattle.jn_report.specs.declared.line.When.TheVariants.{End}
-use Rattle.jn_store.specs.Store.{StoreView}
-use Rattle.jn_world.specs.Written.{standing_of}
-use Rattle.jn_written.specs.Events.{coming_up}
-use Rattle.jn_world.specs.Closing.{going_down}
+use Rattle.jn_world.proofs.Common.{ℕ, ◌++◌, DeviceState, End, StoreView, standing_of, coming_up, going_down}
 use Rattle.jn_world.proofs.Calls.{does-then, does-cut}
 use Rattle.jn_world.proofs.Finishing.{going-quiet}
 use Rattle.jn_world.proofs.Turns.{does-exit}

@@ -1,9 +1,4 @@
-use Rattle.std.proofs.Common.{ℕ, length, Ok, refl, sym, ◌∙◌}
-use Rattle.jn_device.specs.Device.{DeviceState}
-use Rattle.jn_place.proofs.Slots.{serves-here}
-use Rattle.jn_recovery.specs.Loading.{counts_by}
-use Rattle.jn_store.specs.Store.{StoreView}
-use Rattle.jn_world.specs.Written.{standing_of}
+use Rattle.jn_world.proofs.Common.{ℕ, length, Ok, refl, sym, ◌∙◌, DeviceState, serves-here, counts_by, StoreView, standing_of}
 use Rattle.jn_world.proofs.Busy.{reads-here, works-here}
 use Rattle.jn_world.proofs.Places.{place-is, place-here, place-million, up-here}
 use Rattle.jn_world.proofs.ServerCalls.{idle-does}

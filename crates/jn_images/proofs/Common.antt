@@ -1,0 +1,22 @@
+-- The names from below that these proofs cite, passed on from one place. Declares nothing.
+pub use Rattle.std.proofs.Common.{◌≡◌, ◌≢◌, ℕ, zero, suc, ◌+◌, ◌<◌, ◌≤◌, Bool, true, false, List, [], ◌∷◌, length, slice_get, Option, Some, None, Result, Err, refl, sym, ◌∙◌, ap, subst, arith, true≢false, ◌++◌, Vec, ◌*◌, ◌-◌, ◌^◌, if◌then◌else◌, drop, replicate}
+pub use Rattle.jn_device.specs.Device.{DeviceState}
+unfoldable pub use Rattle.jn_device.specs.Device.{blank_page}
+pub use Rattle.jn_store.specs.Store.{StoreView}
+pub use Rattle.std.proofs.lemmas.Bool.Decides.{nat_tests}
+pub use Rattle.std.specs.Prelude.{nat_lt, is_some, is_ok, get_or, codes, decimal, nat_eq}
+pub use Rattle.jn_base.specs.declared.names.ServerNo.{ServerNo}
+pub use Rattle.jn_host.specs.Outside.{Contents, KeeperSaved, kept_at, found_bytes}
+pub use Rattle.jn_image.specs.Form.{image_counts, image_bytes}
+pub use Rattle.jn_image.specs.declared.image.Image.{Image}
+pub use Rattle.jn_device.specs.declared.Half.{Half}
+pub use Rattle.jn_disks.specs.Disks.{AreSound, HasPages, IsNewStore, new_page, IsStoreOfPages}
+pub use Rattle.jn_records.specs.StablePages.{Counts, counts_of, page_count, slot_place, head_place, data_place, is_used, files_of_pages}
+pub use Rattle.jn_recovery.specs.Loading.{counts_by}
+pub use Rattle.jn_recovery.specs.declared.counts.PageCounts.{PageCounts}
+pub use Rattle.jn_images.specs.Kept.{Has, IsClosed, IsKept, IsSoundImage, image_name, found_at}
+pub use Rattle.jn_images.specs.Saved.{SavesOne, SavedTo, SavesAll}
+pub use Rattle.std.proofs.lemmas.List.{get_or_append_left, get_or_push, append_cancel_left, length_push}
+pub use Rattle.std.specs.declared.alloc.Global.{Global}
+pub use Rattle.jn_images.specs.Examined.{AreStoresOf, IsAccepted, IsFirstRefused, IsRefused, IsStoreOf}
+pub use Rattle.std.proofs.lemmas.Result.{err_from_is_err_and}

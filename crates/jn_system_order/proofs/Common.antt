@@ -1,0 +1,81 @@
+-- The names from below that these proofs cite, passed on from one place. Declares nothing.
+pub use Rattle.std.proofs.Common.{◌≡◌, ◌≢◌, ◌⊎◌, inl, inr, Bool, true, false, List, [], ◌∷◌, ◌++◌, append-nil, Option, Some, None, refl, sym, ◌∙◌, ap, subst, suc, is_some, arith, true≢false, zero, ◌<◌, ◌≤◌, map}
+pub use Rattle.std.specs.Prelude.{ℕ, ◌+◌, ◌&&◌, if◌then◌else◌, length, nat_lt, nat_eq, take, slice_get, All, ◌||◌, not, get_or}
+pub use Rattle.std.proofs.lemmas.List.Elements.{All-nil, All-cons, All-append, All-get_or, All-head, All-tail}
+pub use Rattle.jn_base.specs.declared.names.ServerNo.{ServerNo}
+pub use Rattle.jn_base.specs.declared.names.ClientNo.{ClientNo}
+pub use Rattle.jn_base.specs.declared.names.Tid.{Tid}
+pub use Rattle.jn_base.specs.declared.names.Party.TheVariants.{Client, Server}
+pub use Rattle.jn_base.specs.Names.{server_eq, client_eq, tid_eq, work_eq, file_eq}
+pub use Rattle.jn_base.proofs.Tells.{server_tells, tid_tells, work_tells, file_tells, client_tells}
+pub use Rattle.jn_msgs.specs.declared.message.Message.{Message}
+pub use Rattle.jn_rows.specs.declared.coordinator.Transaction.{Transaction}
+pub use Rattle.jn_rows.specs.declared.coordinator.Stage.TheVariants.{Open, Voting, Committed, Aborted}
+pub use Rattle.jn_rows.specs.Stable.{StableState, made_all, at_tid, Prepared, Pick, CarryOut, RemoveWork, is_going, made_by, at_work, stable, Change, DropFlag, MarkGoing, next_after, AddReady, ready_work, FlagState, AddFlag}
+pub use Rattle.jn_rows.specs.Outcomes.{RowOutcome, Sent}
+pub use Rattle.jn_rows.specs.Coordinator.{CoordinatorTable, transaction_at, after_closing, changes_of_closing, seen_now, name_from, begin_again, begun_by, begin_row, is_begun, is_work, all_in, close_clients_row, besides, with_work, drops, commits, prepares, committed_to, aborted_to, staged, without, commit_row, abort_row, forget_row, not_known, end_promised, end_stage, end_row, abort_stage, abort_request, told_stage, inquire_row, counted_vote, vote_stage, vote_row, done_stage, done_row, thanks_stage, thanks_row, told_again, coordinator_again, restored_transaction, restored_transactions, with_stage}
+pub use Rattle.jn_system.specs.SmallSteps.World.{World as Machine, Begun, Knowledge, Unknown, Voting as Notes, Committed as Finishes, Working, replay}
+pub use Rattle.jn_system.specs.SmallSteps.Invariant.{Invariant}
+pub use Rattle.jn_system.specs.SmallSteps.Steps.{Atom, begin_it, run, Count, Make, NoteOver, always, Close, Learn, Decide, after, Lose, lose, Perform, perform, Prepare, NoteReady, open_work, Name, with_epoch, name_it, found_of, Crash as Crashes, Narrow as Narrows, RaiseEpoch, opening_world, End as Ends, end_it, run as run_atoms}
+pub use Rattle.jn_system.specs.SmallSteps.Premises.{MayRun, MayBegin, MayCount, MayCarryOut, MayRemove, MayBeOver, MayGoOn, MayLearn, MayPerform, MayPrepare, MayName, MayRestart, May, MayFlag, MayEnd}
+pub use Rattle.jn_system.specs.SmallSteps.Messages.{Says, IsWorkOf, AreWorksOf, IsPartOf, DropSays, VoteSays, OutcomeSays}
+pub use Rattle.jn_system.proofs.SmallSteps.Runs.{run_kept, opening_kept}
+pub use Rattle.jn_system.proofs.SmallSteps.NameLemmas.{fresh_tid}
+pub use Rattle.jn_system.proofs.SmallSteps.Updates.{at_tid_here, not_both, at_tid_other, some_of, some_is, false_unless, at_tid_cases}
+pub use Rattle.jn_system.specs.WholeSystem.World.{World, Memory, at_client, commits_in, committed_in, at_server, has_line, opening, new_memory}
+pub use Rattle.jn_system.specs.WholeSystem.Servers.{of_coordinator, Room, storage_of, of_worker, line_of, lines_of, server_again, restored, named_now, of_step, server_row, of_timeout, server_step}
+pub use Rattle.jn_system.specs.WholeSystem.LockFacts.{UpFact, IsSoundWork, TableFact, IsSoundActive, StoredFact, LockFacts, ServerFact, IsSoundPrepared}
+pub use Rattle.jn_system_order.specs.Mirroring.Mirrors.{Mirrors, IsTrue, IsAddressed, AreTransactions, commits_of, knowledge_of, working_of, next_in, MovesTo, IsOutstanding, IsClient, AreOpen, IsCurrent, IsStage, IsTransaction, knowledge_in, working_in, active_in, known_in, is_shown}
+pub use Rattle.jn_system.proofs.WholeSystem.Closes.{Closes, client-closes, is_committed, Empty, Stays, Goes, Waits, Forgets, outcomes-close}
+pub use Rattle.jn_base.specs.declared.names.WorkId.{WorkId}
+pub use Rattle.jn_base.specs.declared.names.LockUnit.{LockUnit}
+pub use Rattle.jn_order.specs.Files.{change, or_else, answer_to, Files, nothing, effect, file_of, is_did, AllFiles}
+pub use Rattle.jn_order.specs.Changes.{or_also, and_then}
+pub use Rattle.jn_records.specs.declared.intention.Intention.{Intention}
+pub use Rattle.jn_records.specs.NetLists.{intention_change, list_change, InOrder, net_change, net_of, length_with}
+pub use Rattle.jn_rows.specs.declared.worker.Work.{Work}
+pub use Rattle.jn_rows.specs.Worker.{WorkerTable, work_at, going_work, going_row, carried_row, intentions_of, worker_step, commit_phase, drop_phase, drop_row, Wanted, worker_again, wants_of, units_for, is_fit, after_grant, with_phase, granted_row, conflict, holds, list_with, commit_wants, prepared_row, new_work, restored_worker, worker_row, work_of, timed_out, vulnerable, Held, with_units, refusal_of, past_limit, counted, repeated, by_number, op_phase, op_row, open_row, vote_of, shortage, need_in, prepare_phase, prepare_row, WorkStorage, breaks_at, note_of, break_notes, commit_row as work_commit_row, timeout_row, commit_holder}
+pub use Rattle.jn_lock_rows.proofs.Works.{at-less, work_same, found-behind, not-before, at-more, at-phase, in_phase, work_is, found-name}
+pub use Rattle.jn_system.specs.SmallSteps.FoundStates.{IsPrepared, AllOver, AllReady, AreParts, MayBeFound, HasFlag}
+pub use Rattle.jn_system.proofs.SmallSteps.TraceLemmas.{take_zero}
+pub use Rattle.jn_system.proofs.WholeSystem.WorkerRows.{going-is, no-lock}
+pub use Rattle.jn_system.proofs.WholeSystem.Restored.{stored-fact, Entry, entry-of, restored-is}
+pub use Rattle.jn_base.specs.declared.op.Command.{Command}
+pub use Rattle.jn_report.specs.declared.line.Text.{Text}
+pub use Rattle.jn_rows.specs.declared.client.Outstanding.{Outstanding}
+pub use Rattle.jn_rows.specs.declared.client.Taken.{Taken}
+pub use Rattle.jn_rows.specs.Client.{ClientTable, Commanded, Refuses, Sends, command_row, take_row, is_end, sent_again, with_operation, names_of, if_server, if_idle, if_transaction, if_no_transaction, if_open, if_not_open, opens, is_tid, is_current, if_waits, idle, over, begun_row, opened_row, answer_line, decided_row, outcome_row, sends, is_begin, is_operation, is_end_or_abort}
+pub use Rattle.jn_system.specs.WholeSystem.Steps.{commanded, tell, again, sent_now, took, taken_by, done, stopped, AreNames, are_rising, tid_before, restart_with, works, work, Step, NextEvent, Tell, Again, Deliver, Work as Works, Nudge, Timeout, StopDelivery, StopWork, Crash, Narrow, StopRestart, Restart, Dismiss, CloseClients, ends, at_memory, handed, nudge, timeout, crash, narrow, stop_restart, restart, dismiss, close_clients, IsStep, IsRun}
+pub use Rattle.jn_base.specs.declared.names.Party.{Party}
+pub use Rattle.jn_base.specs.declared.op.Answer.{Answer}
+pub use Rattle.jn_msgs.specs.declared.message.Outcome.{Outcome}
+pub use Rattle.jn_rows.specs.declared.client.OpenWork.{OpenWork}
+pub use Rattle.jn_rows.specs.declared.coordinator.Stage.{Stage}
+pub use Rattle.jn_rows.specs.declared.coordinator.Committed.{Committed as Commitment}
+pub use Rattle.jn_system.specs.SmallSteps.Transactions.{Knows, PartFact}
+pub use Rattle.jn_system.proofs.SmallSteps.MessageLemmas.{run_grows, says_still, still_true, grows}
+pub use Rattle.jn_msgs.specs.declared.message.Note.TheVariants.{Ignored}
+pub use Rattle.jn_rows.specs.declared.worker.Phase.{Phase}
+pub use Rattle.jn_rows.specs.declared.worker.Phase.TheVariants.{Active, Broken, Prepared as Stored}
+pub use Rattle.jn_base.specs.declared.names.Cause.{Cause}
+pub use Rattle.jn_records.specs.declared.flag.Flag.{Flag}
+pub use Rattle.jn_msgs.specs.declared.message.Vote.{Vote}
+pub use Rattle.jn_rows.specs.declared.coordinator.Voting.{Voting as Ballot}
+pub use Rattle.jn_msgs.specs.declared.message.Message.TheVariants.{Inquire}
+pub use Rattle.jn_system.proofs.WholeSystem.Granted.{Origin, Mine, Kept, Broke, Regrants, granted}
+pub use Rattle.jn_msgs.specs.declared.message.Note.{Note}
+pub use Rattle.jn_base.specs.declared.op.Op.{Op}
+pub use Rattle.jn_locks.specs.declared.words.Mode.TheVariants.{Read, Commit}
+pub use Rattle.jn_locks.specs.Locks.{is_unit}
+pub use Rattle.jn_rows.specs.declared.worker.ActiveWork.{ActiveWork}
+pub use Rattle.jn_system.specs.SmallSteps.Held.{HoldsForCommit, HasRead, file_unit, commit_units}
+pub use Rattle.jn_system.specs.SmallSteps.Traces.{Answered, asks, effect_of}
+pub use Rattle.jn_system.proofs.WholeSystem.Rows.{done-keeps, prepared-keeps, by-name}
+pub use Rattle.jn_system.proofs.WholeSystem.Units.{with_units-is, reads-file}
+pub use Rattle.std.specs.List.{list_any, list_all}
+pub use Rattle.std.proofs.lemmas.Bool.Decides.{nat_tests}
+pub use Rattle.jn_system.proofs.SmallSteps.History.{run_told, opening_told, in_order}
+pub use Rattle.jn_system.proofs.WholeSystem.Tables.{of-found}
+pub use Rattle.jn_base.specs.declared.names.Tickets.{Tickets}
+pub use Rattle.jn_system_order.specs.Ordering.Runs.{IsNamedBefore, AreNamed, IsMoves, IsDone, IsInOrder}
+pub use Rattle.jn_system.proofs.WholeSystem.Steps.{locks-keep, opening-keeps, run-keeps}

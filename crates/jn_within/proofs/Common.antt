@@ -1,0 +1,45 @@
+-- The names from below that these proofs cite, passed on from one place. Declares nothing.
+pub use Rattle.std.proofs.Common.{◌≡◌, ℕ, Bool, true, false, List, [], ◌∷◌, Option, Some, None, refl, ◌∙◌, subst, arith, ◌++◌, length, ◌+◌, take, zero, suc, sym, ap, ◌≤◌, true≢false, length-append, ◌<◌, ◌⊎◌, inl, inr, ◌≢◌}
+pub use Rattle.std.specs.Prelude.{◌&&◌, nat_eq, if◌then◌else◌, not, nat_lt, slice_get, ⊤}
+pub use Rattle.std.proofs.lemmas.Bool.Decides.{nat_tests}
+pub use Rattle.jn_base.specs.declared.names.ServerNo.{ServerNo}
+pub use Rattle.jn_base.specs.declared.names.ClientNo.{ClientNo}
+pub use Rattle.jn_base.specs.declared.names.WorkId.{WorkId}
+pub use Rattle.jn_base.specs.declared.op.Command.{Command}
+pub use Rattle.jn_base.specs.Names.{client_eq, tid_eq, server_eq}
+pub use Rattle.jn_msgs.specs.declared.message.Message.{Message}
+pub use Rattle.jn_rows.specs.declared.client.OpenWork.{OpenWork}
+pub use Rattle.jn_rows.specs.declared.client.Outstanding.{Outstanding}
+pub use Rattle.jn_rows.specs.declared.client.Taken.{Taken}
+pub use Rattle.jn_rows.specs.Client.{ClientTable, Commanded, Refuses, Sends, new_table, command_row, take_row, names_of, over, if_waits, is_current, opens, opened_row, work_at, again_row, sent_again, if_server, if_idle, if_transaction, if_no_transaction, if_open, if_not_open, ignored, begun_row, decided_row, outcome_row}
+pub use Rattle.jn_rows.specs.ClientLaws.{IsClient, are_apart, after_command}
+pub use Rattle.jn_rows.proofs.ClientKeeps.{command_keeps, take_keeps, names_are_few}
+pub use Rattle.jn_within.specs.Taking.{sent_for, is_from_server, are_from_server, CanBeTaken, AllCanBeTaken, CommandInRange, ClientFits, CommandFits}
+pub use Rattle.jn_system_settling.specs.Settling.Sizes.{are_near, is_few, is_small_stage}
+pub use Rattle.jn_within.specs.Naming.{is_near, is_any_near, names_near, is_within, are_within, is_again_within, ClientWithin, CommandWithin, is_transaction_within, are_transactions_within, are_changes_within, are_both_near, are_works_within, is_change_within, StateWithin, is_for_near}
+pub use Rattle.jn_base.specs.declared.names.Tid.{Tid}
+pub use Rattle.jn_base.specs.declared.names.Tickets.{Tickets}
+pub use Rattle.jn_base.specs.declared.names.Cause.{Cause}
+pub use Rattle.jn_msgs.specs.declared.message.Vote.{Vote}
+pub use Rattle.jn_rows.specs.declared.coordinator.Transaction.{Transaction}
+pub use Rattle.jn_rows.specs.declared.coordinator.Stage.{Stage}
+pub use Rattle.jn_rows.specs.declared.coordinator.Stage.TheVariants.{Open, Voting, Committed, Aborted}
+pub use Rattle.jn_rows.specs.declared.coordinator.Voting.{Voting as Ballot}
+pub use Rattle.jn_rows.specs.declared.coordinator.Committed.{Committed as Commitment}
+pub use Rattle.jn_rows.specs.Stable.{Change, StableState, Prepared, FlagState, AddReady, MarkGoing, RemoveWork, AddFlag, DropFlag, made_by, made_all, Pick, stable}
+pub use Rattle.jn_rows.specs.Outcomes.{RowOutcome, Sent}
+pub use Rattle.jn_rows.specs.Coordinator.{CoordinatorTable, transaction_at, with_stage, without, all_in, is_work, besides, drops, commits, prepares, commit_row, abort_row, forget_row, thanked, thanked_changes, closed, after_closing, changes_of_closing, begin_new, begin_again, begun_by, begin_row, seen_now, end_promised, end_stage, end_row, not_known, abort_stage, abort_request, told_stage, inquire_row, counted_vote, vote_stage, vote_row, done_stage, done_row, thanks_stage, thanks_row, with_work, coordinator_row, told_again, coordinator_again, all_thanked, flags_of_thanked, close_clients_row, restored_transaction, restored_transactions}
+pub use Rattle.jn_base.specs.declared.op.Op.{Op}
+pub use Rattle.jn_base.specs.declared.op.Answer.{Answer}
+pub use Rattle.jn_order.specs.Files.{change, answer_to, AllFiles}
+pub use Rattle.jn_records.specs.NetLists.{list_change}
+pub use Rattle.jn_records.specs.declared.intention.Intention.{Intention}
+pub use Rattle.jn_rows.specs.declared.worker.Work.{Work as WorkEntry}
+pub use Rattle.jn_rows.specs.declared.worker.Phase.{Phase}
+pub use Rattle.jn_within.specs.Drawing.{AreDrawn, DrawsOne, AreCovered}
+pub use Rattle.jn_base.proofs.Tells.{tid_tells, work_tells, server_tells}
+pub use Rattle.jn_system.specs.WholeSystem.World.{Memory, World, at_server, at_client, new_memory, opening}
+pub use Rattle.jn_system.specs.WholeSystem.Servers.{Room, storage_of, server_row, server_step, server_again, server_timeout, of_worker, of_coordinator, of_step, of_timeout, is_for_worker, restored}
+pub use Rattle.jn_within.specs.Within.{MemoryWithin, RowWithin, Within}
+pub use Rattle.jn_system.specs.WholeSystem.Steps.{sent_now, Step, NextEvent, Tell, Again, Deliver, Work, Nudge, Timeout, StopDelivery, StopWork, Crash, Narrow, StopRestart, Restart, Dismiss, CloseClients, after, run, ends, at_memory, handed, work, works, nudge, timeout, crash, narrow, stop_restart, restart, close_clients, took, commanded}
+pub use Rattle.jn_base.specs.declared.names.Party.TheVariants.{Client, Server}

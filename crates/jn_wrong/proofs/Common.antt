@@ -1,0 +1,79 @@
+-- The names from below that these proofs cite, passed on from one place. Declares nothing.
+pub use Rattle.std.proofs.Common.{◌≡◌, ℕ, Bool, true, false, List, [], ◌∷◌, ◌++◌, append-nil, length, drop, refl, sym, ◌∙◌, ap, subst, None, Option, Some, is_some, zero, suc, ◌≢◌, ◌⊎◌, inl, inr, ◌<◌, arith, ◌+◌, ◌≤◌, length-append, append_assoc, ◌-◌, true≢false}
+pub use Rattle.std.proofs.Math.Seq.{drop-append_seam}
+pub use Rattle.jn_report.specs.declared.line.Line.{Line}
+pub use Rattle.jn_rows.specs.Outcomes.{Sent, RowOutcome, ignored, quiet, sends}
+pub use Rattle.jn_system.specs.WholeSystem.World.{World, Memory, new_memory, has_line, at_server, at_client}
+pub use Rattle.std.specs.Prelude.{◌||◌, if◌then◌else◌, nat_lt, nat_eq, map, ◌&&◌, slice_get, not, take, filter}
+pub use Rattle.jn_base.specs.declared.names.Party.{Party}
+pub use Rattle.jn_report.specs.declared.line.Text.{Text}
+pub use Rattle.jn_system.specs.WholeSystem.Steps.{Step, Restart, tid_before, after, run, IsRun, restart, restart_with, NextEvent, Tell, Again, Nudge, Crash, CloseClients, AreNames, commanded, crash, Deliver, Work as Works, Timeout, StopDelivery, StopWork, Narrow, StopRestart, Dismiss, took, ends, at_memory, handed, works, work, nudge, timeout, narrow, stop_restart, close_clients, are_rising, sent_now, stopped}
+pub use Rattle.jn_system_settling.specs.Settling.Course.{Course, go, go_on, newly_sent, course_to, without_number, still_waiting, numbered}
+pub use Rattle.jn_written.specs.Chances.{Setup, Chance}
+pub use Rattle.jn_written.specs.Tasks.{Task, Begins, Meets, Acts, Rests, ComesUp, Dismisses, GoesDown, ClosesClients, CountsCommits, State, when_of, begun, next_task, Stage, InSchedule, AtEnd, CutShort, next_at, when_at}
+pub use Rattle.jn_written.specs.Deeds.{Deed, Reads, last_epoch, served, stopped_idle, blocks_from, shown, showing, pick_read, recovering, recovered, given_up, is_used_up, brought_up, crashed_at, room, no_room, delivered, delivered_at, nothing, is_busy, Use, Nothing, Calls, Recovers, PowersOff, Decays, Revives, Arms, Disarms, worked, working_steps, restarted, is_busy_with}
+pub use Rattle.jn_written.specs.Events.{deed_of, met, servers_of, first_busy, next_event, next_in, resting, asking, settling, told_unless, acted}
+pub use Rattle.jn_written.specs.Steps.{outside_texts, own_texts, message_texts, traced, lines_at, most_messages, is_too_much, come_to, cut_short, made, done, next, next_by, texts_of}
+pub use Rattle.jn_wrong.specs.Still.{still, IsOnly, goes, IsBlank, PrintsNothing, does_so, DoesSo, DoesNext, GoesSo, IsNoneOfNew, blank, AreNew, is_fixed, is_sent_so, rests_so}
+pub use Rattle.jn_base.specs.declared.names.ServerNo.{ServerNo}
+pub use Rattle.jn_order.specs.Files.{no_files, AllFiles, Files, change, effect, answer_to, files_after, is_did}
+unfoldable pub use Rattle.jn_order.specs.Files.{zeros}
+pub use Rattle.jn_records.specs.StablePages.{Counts}
+pub use Rattle.jn_schedule.specs.declared.Event.{Event}
+pub use Rattle.jn_written.specs.Whole.{before, AreImages, IsWhole, closed_world, IsWritten}
+pub use Rattle.jn_wrong.specs.Wrong.{begins, begun_report, IsNone, makes_one, makes_and_reads, opens_and_loses, answered_too_soon, stopped_by_nothing, fault_of_nothing, lost_without_opening, file_left_out, file_locked, page_unwritten, other_bytes, named_again, full_of}
+pub use Rattle.jn_wrong.specs.Reports.{traced_report, two_begin, two_report, opens_other, opened_report, settles_twice, settled_report, reads_and_aborts, read_report, shows_unmade, shown_report, begins_and_aborts, aborted_report}
+pub use Rattle.jn_base.specs.declared.names.FileNo.{FileNo}
+pub use Rattle.jn_base.specs.declared.names.Tid.{Tid}
+pub use Rattle.jn_base.specs.declared.names.WorkId.{WorkId}
+pub use Rattle.jn_base.specs.declared.names.LockUnit.TheVariants.{File, Block}
+pub use Rattle.jn_base.specs.Names.{file_eq, tid_eq, work_eq, server_eq, client_eq}
+pub use Rattle.jn_base.proofs.Tells.{file_tells, tid_tells, work_tells, server_tells}
+pub use Rattle.jn_rows.specs.Stable.{StableState, Pick, Change, AddReady, MarkGoing, CarryOut, RemoveWork, AddFlag, DropFlag, stable, made_by, made_all, FlagState, is_going}
+pub use Rattle.jn_locks.specs.Locks.{work_before, unit_eq, unit_before}
+pub use Rattle.jn_system.specs.WholeSystem.Printing.{print_files, file_before, Printed, FileThere, PageStored, UnitLocked, print_unit, print_one, print_blocks, print_file}
+pub use Rattle.jn_system_reports.specs.Reporting.Printing.{text_printed, prints_of}
+pub use Rattle.jn_written.specs.Devices.{Devices, IsLookedOver, IsRecovery, Alone, Befalls, IsServed, rubbish_on, IsCalled, IsUsed}
+pub use Rattle.jn_report.specs.declared.line.EventRefusal.{EventRefusal}
+pub use Rattle.jn_report.specs.declared.line.EventRefusal.TheVariants.{NoSuchServer, ServerDown, TooManyArmed, EpochsUsedUp}
+pub use Rattle.jn_written.specs.Refusals.{unless, refusal_of}
+pub use Rattle.jn_headline.proofs.Quiet.{IsQuiet, Raised, called-calm, recovered-calm, quiet-alone, quiet-called, restarted-up, Calm, quiet-same, nudged-up, closed-up, crashed-up, delivered-up}
+pub use Rattle.std.specs.List.{list_any, list_all, AllByRecursion}
+pub use Rattle.jn_report.specs.declared.line.When.{When}
+pub use Rattle.jn_report.specs.declared.line.When.TheVariants.{Event as AtEvent, End}
+unfoldable pub use Rattle.jn_written.specs.Examples.{block_of}
+pub use Rattle.std.proofs.lemmas.Bool.Decides.{nat_tests}
+pub use Rattle.jn_base.specs.declared.names.ClientNo.{ClientNo}
+pub use Rattle.jn_base.specs.declared.device.Outside.{Outside}
+pub use Rattle.jn_base.specs.declared.op.Command.{Command}
+pub use Rattle.jn_device.specs.Device.{DeviceState}
+pub use Rattle.jn_rows.specs.Client.{Commanded, Refuses, Sends, command_row, ClientTable, take_row, if_server, if_idle, if_transaction, if_no_transaction, if_open, if_not_open, work_at as open_at, again_row, sent_again, if_waits, begun_row, opened_row, answer_line, outcome_row, decided_row, is_current, is_end_or_abort, over}
+pub use Rattle.jn_base.specs.declared.names.Party.TheVariants.{Client, Server}
+pub use Rattle.jn_msgs.specs.declared.message.Message.{Message}
+pub use Rattle.jn_rows.specs.declared.client.Taken.{Taken}
+pub use Rattle.jn_rows.specs.Coordinator.{close_clients_row, CoordinatorTable, transaction_at, with_stage, without, besides, all_in, is_work, drops, commits, prepares, committed_to, aborted_to, commit_row, abort_row, forget_row, thanked, closed, after_closing, begin_new, begun_by, begin_again, begin_row, seen_now, changes_of_closing, end_promised, end_open, end_stage, end_row, abort_stage, abort_request, told_stage, inquire_row, noted, with_work, counted_vote, vote_stage, vote_row, done_stage, done_row, thanks_stage, thanks_row, coordinator_row, told_again, coordinator_again, all_thanked, restored_transaction, restored_transactions}
+pub use Rattle.jn_system.specs.WholeSystem.Servers.{Room, server_row, server_step, of_coordinator, named_now, storage_of, of_worker, is_for_worker, of_step, server_again, of_timeout, server_timeout, restored, line_of, lines_of}
+pub use Rattle.jn_written.specs.Runs.{MayLead, none, more, Moment, Leads, DoesStep}
+pub use Rattle.jn_written.specs.Kinds.{is_note, is_of_delivery, is_answer, may_tell, is_up, is_down, is_stopped, events_left}
+pub use Rattle.jn_written.proofs.Telling.{Adds, adds, weaker}
+pub use Rattle.jn_wrong.specs.Turns.{epoch_after, may_rise, epochs_rise, is_by, are_by, are_read, is_up_after, may_be_told, takes_turns}
+pub use Rattle.jn_base.specs.declared.names.LockUnit.{LockUnit}
+pub use Rattle.jn_system_settling.proofs.Settling.Settling.{on-world}
+pub use Rattle.jn_written.proofs.Texts.{More, gone-on, task-texts, Besides}
+pub use Rattle.jn_system_settling.specs.Settling.Settle.{handing, is_busy as has_going, working}
+pub use Rattle.jn_wrong.specs.Settles.{HandsOver, ComesToRest}
+pub use Rattle.jn_written.proofs.Ordered.{begun-lines, events-rise}
+pub use Rattle.jn_wrong.specs.Showing.{unit_printed, prints_unit, AreThere, PrintsAll, is_printed, printed_lines, Shows}
+pub use Rattle.jn_base.specs.declared.op.Op.{Op}
+pub use Rattle.jn_rows.specs.declared.worker.Work.{Work}
+pub use Rattle.jn_rows.specs.declared.worker.Phase.TheVariants.{Active, Broken, Prepared as Stored}
+pub use Rattle.jn_rows.specs.declared.worker.Phase.{Phase}
+pub use Rattle.jn_rows.specs.Worker.{drop_row, drop_phase, work_at, WorkerTable, worker_row, worker_step, timeout_row, WorkStorage, Held, Wanted, shortage, vote_of, voted, prepared_row, prepare_phase, prepare_row, need_in, conflict, commit_wants, open_row, op_row, op_phase, by_number, granted_row, repeated, wants_of, is_fit, commit_phase, work_of, going_row, going_work, carried_row, intentions_of, worker_again, commit_holder}
+pub use Rattle.jn_base.specs.declared.names.Resource.{Resource}
+pub use Rattle.jn_records.specs.declared.net_list.Need.{Need}
+pub use Rattle.jn_system.specs.WholeSystem.LockFacts.{LockFacts, ServerFact, UpFact}
+pub use Rattle.jn_wrong.specs.Wanting.{IsShort, WasShort, OfText, OfLines, OfCause}
+pub use Rattle.jn_base.specs.declared.names.Tickets.{Tickets}
+pub use Rattle.jn_msgs.specs.declared.message.Outcome.{Outcome}
+pub use Rattle.jn_msgs.specs.declared.message.Vote.{Vote}
+pub use Rattle.jn_base.specs.declared.op.Answer.{Answer}
