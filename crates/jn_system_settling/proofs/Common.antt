@@ -1,6 +1,6 @@
 -- The names from below that these proofs cite, passed on from one place. Declares nothing.
-pub use Rattle.std.proofs.Common.{◌≡◌, ℕ, Bool, true, false, List, [], ◌∷◌, ◌++◌, length, Option, Some, None, refl, ◌∙◌, ap, arith, ◌≢◌, ◌⊎◌, inl, inr, ◌≤◌, ◌<◌, zero, suc, ◌+◌, true≢false, sym, subst, length-append, append_assoc, append-nil, is_some, drop, take, ◌*◌}
-pub use Rattle.std.specs.Prelude.{◌&&◌, not, if◌then◌else◌, nat_lt, nat_eq, slice_get, ◌||◌, map, get_or, All}
+pub use Rattle.std.proofs.Common.{◌≡◌, ℕ, Bool, true, false, List, [], ◌∷◌, ◌++◌, Option, Some, None, refl, ◌∙◌, ap, arith, ◌≢◌, ◌⊎◌, inl, inr, ◌≤◌, ◌<◌, zero, suc, true≢false, sym, subst, length-append, append_assoc, append-nil, take, ◌*◌}
+pub use Rattle.std.specs.Prelude.{length, ◌&&◌, not, if◌then◌else◌, nat_lt, nat_eq, ◌+◌, slice_get, ◌||◌, map, is_some, drop, get_or, All}
 pub use Rattle.jn_base.specs.declared.names.ClientNo.{ClientNo}
 pub use Rattle.jn_base.specs.declared.names.Tid.{Tid}
 pub use Rattle.jn_base.specs.declared.names.WorkId.{WorkId}
@@ -43,7 +43,7 @@ pub use Rattle.jn_system.specs.WholeSystem.LockFacts.{UpFact, ServerFact, TableF
 pub use Rattle.jn_system.proofs.WholeSystem.Tables.{of-found}
 pub use Rattle.jn_system_settling.specs.Settling.Course.{Course, go, go_on, numbered, without_number, still_waiting, opening_course}
 pub use Rattle.jn_system_settling.specs.Settling.Settle.{Chance, clients_from, first_busy, handing, working, next_step, onward, until_rest, ask_again, is_busy, settled, Chances}
-pub use Rattle.jn_base.specs.declared.names.Cause.TheVariants.{Requested, Full, Lost}
+pub use Rattle.jn_base.specs.declared.names.Cause.TheVariants.{Requested, Full}
 pub use Rattle.jn_msgs.specs.declared.message.Outcome.{Outcome}
 pub use Rattle.jn_system_order.proofs.Ordering.Openings.{Opening, openings, Has as HasOpening, openings-more}
 pub use Rattle.jn_system_reports.proofs.Reporting.Reached.{Reached, next-reached, LineFact, named-is, in-all, opening-reached, Free, invariant}

@@ -6,3 +6,4 @@ pub mod Rows
 pub mod Weights
 pub mod Sizes
 pub mod Bounds
+pub mod RowReports

@@ -1,6 +1,6 @@
 -- The names from below that these proofs cite, passed on from one place. Declares nothing.
-pub use Rattle.std.proofs.Common.{◌≡◌, ℕ, Bool, true, false, List, [], ◌∷◌, map, Option, Some, None, refl, sym, subst, arith, zero, suc, ◌+◌, ◌++◌, length, ◌∙◌, ap, append-nil, append_assoc, drop, ◌≤◌, ◌<◌, ◌≢◌}
-pub use Rattle.std.specs.Prelude.{if◌then◌else◌, slice_get, not, nat_lt, ◌||◌, is_some, ◌&&◌}
+pub use Rattle.std.proofs.Common.{◌≡◌, ℕ, Bool, true, false, List, [], ◌∷◌, map, Option, Some, None, refl, sym, subst, arith, zero, suc, ◌+◌, ◌++◌, length, ◌∙◌, ap, append-nil, append_assoc, ◌≤◌, ◌<◌, ◌≢◌}
+pub use Rattle.std.specs.Prelude.{if◌then◌else◌, slice_get, drop, not, nat_lt, ◌||◌, is_some, ◌&&◌}
 pub use Rattle.std.specs.List.{list_all}
 pub use Rattle.jn_base.specs.declared.names.ServerNo.{ServerNo}
 pub use Rattle.jn_schedule.specs.declared.Event.{Event}

@@ -11,3 +11,4 @@ pub mod Whole
 pub mod Examples
 pub mod Kinds
 pub mod Wrong
+pub mod ExampleReports

@@ -1,6 +1,5 @@
 -- What becomes in a settle of a work that asks for its outcome: it goes, or its transaction stays undecided or is told.
-use Rattle.jn_system_settling.proofs.Common.{length, length-append, ◌≡◌, ◌≢◌, ◌⊎◌, inl, inr, ◌≤◌, ◌<◌, ℕ, Bool, true, false, List, [], ◌∷◌, ◌++◌, Option, Some, None, is_some, true≢false, refl, sym, ◌∙◌, ap, subst, arith, ◌&&◌, ◌||◌, not, if◌then◌else◌, slice_get, nat_eq, list_any, nat_tests, ServerNo, ClientNo, Tid, WorkId, Cause, Client, Server, client_eq, server_eq, tid_eq, work_eq, client_tells, server_tells, tid_tells, work_tells, AllFiles, Intention, Message, Note, Text, Taken, Work, Transaction, Stage, Open, Voting, Committed, Aborted, StableState, stable, is_going, made_all, RowOutcome, Sent, WorkerTable, work_at, without, worker_row, carried_row, intentions_of, CoordinatorTable, transaction_at, is_work, coordinator_row, inquire_row, told_stage, commits, dropped, ClientTable, take_row, at-less, Says, IsWorkOf, Knows, not_both, World, Memory, opening, has_line, commits_in, at_client, Room, storage_of, server_row, of_worker, of_coordinator, is_for_worker, line_of, lines_of, took, taken_by, done, IsTrue, knowledge_in, Course, In, in-first, get-in, Reached, named-is, in-all, is_undecided, is_held, holds_undecided, tells_outcome}
-use Rattle.std.specs.Prelude.{drop}
+use Rattle.jn_system_settling.proofs.Common.{length, length-append, ◌≡◌, ◌≢◌, ◌⊎◌, inl, inr, ◌≤◌, ◌<◌, ℕ, Bool, true, false, List, [], ◌∷◌, ◌++◌, Option, Some, None, is_some, true≢false, refl, sym, ◌∙◌, ap, subst, arith, ◌&&◌, ◌||◌, not, if◌then◌else◌, slice_get, nat_eq, drop, list_any, nat_tests, ServerNo, ClientNo, Tid, WorkId, Cause, Client, Server, client_eq, server_eq, tid_eq, work_eq, client_tells, server_tells, tid_tells, work_tells, AllFiles, Intention, Message, Note, Text, Taken, Work, Transaction, Stage, Open, Voting, Committed, Aborted, StableState, stable, is_going, made_all, RowOutcome, Sent, WorkerTable, work_at, without, worker_row, carried_row, intentions_of, CoordinatorTable, transaction_at, is_work, coordinator_row, inquire_row, told_stage, commits, dropped, ClientTable, take_row, at-less, Says, IsWorkOf, Knows, not_both, World, Memory, opening, has_line, commits_in, at_client, Room, storage_of, server_row, of_worker, of_coordinator, is_for_worker, line_of, lines_of, took, taken_by, done, IsTrue, knowledge_in, Course, In, in-first, get-in, Reached, named-is, in-all, is_undecided, is_held, holds_undecided, tells_outcome}
 use Rattle.jn_msgs.specs.declared.message.Message.TheVariants as messages
 use Rattle.jn_msgs.specs.declared.message.Note.TheVariants as notes
 use Rattle.jn_msgs.specs.declared.message.Outcome.TheVariants as outcomes

@@ -1,11 +1,11 @@
 -- What the runs report, computed.
-use Rattle.jn_system_settling.proofs.Common.{◌≡◌, [], ◌∷◌, Some, None, refl, arith, Requested, Lost, there, Prepared, FlagState, Pick, at_work, at_tid, AreNames, tid_before, Tid, WorkId, tid_eq, work_eq, work_tells, tid_tells, work_before, line, AreSteps}
+use Rattle.jn_system_settling.proofs.Common.{◌≡◌, [], ◌∷◌, Some, None, refl, arith, there, Prepared, FlagState, Pick, at_work, at_tid, AreNames, tid_before, Tid, WorkId, tid_eq, work_eq, work_tells, tid_tells, work_before, line, AreSteps}
 use Rattle.jn_base.specs.declared.names.LockUnit.TheVariants.{File, Block}
-use Rattle.jn_base.specs.declared.names.Cause.TheVariants.{Broken}
 use Rattle.jn_locks.specs.Locks as locks
-use Rattle.jn_report.specs.declared.line.Refusal.TheVariants.{NoFile, Locked}
+use Rattle.jn_report.specs.declared.line.Refusal.TheVariants.{Locked}
 use Rattle.jn_report.specs.declared.line.Text.TheVariants as says
 use Rattle.jn_system_settling.specs.Settling.Rows.{s0, s1, c1, c2, tid, file, block, padded, start, told, report, without_stale, one_write, stopped_at_prepare, two_at_a_block, a_reader_breaks, two_wait, half_prepared, not_prepared, revived_and_prepared, half_committed, not_committed, goes_on_beside, the_work}
+use Rattle.jn_system_settling.specs.Settling.RowReports.{one_client_writes_report, a_prepare_is_stopped_report, a_write_waits_for_a_reader_report, a_reader_gives_way_report, two_clients_wait_report, a_stopped_prepare_is_found_report, a_stopped_prepare_is_lost_report, a_stopped_prepare_comes_back_report, a_stopped_commit_is_found_report, a_stopped_commit_is_lost_report}
 
 -- ---- what the restarts find
 
@@ -27,14 +27,7 @@ pub one_client_writes_page : (c : Pick) → ((told 1 (one_write (padded (104 ∷
 unfolding locks.unit_before
 one_client_writes_page c = refl
 
-pub one_client_writes : report 1 (one_write (padded (104 ∷ 105 ∷ [])))
-    ≡ line 2 (says.Begun c1 1 (tid s0 0))
-    ∷ line 4 (says.Opened c1 3 s0)
-    ∷ line 6 (says.Did c1 5)
-    ∷ line 8 (says.Did c1 7)
-    ∷ line 10 (says.Commit (tid s0 0))
-    ∷ line 10 (says.Committed c1 9 (tid s0 0))
-    ∷ []
+pub one_client_writes : report 1 (one_write (padded (104 ∷ 105 ∷ []))) ≡ one_client_writes_report
 unfolding locks.unit_before
 one_client_writes = refl
 
@@ -42,16 +35,7 @@ pub one_client_writes_steps : AreSteps 1 (one_write (padded (104 ∷ 105 ∷ [])
 unfolding locks.unit_before
 one_client_writes_steps = ((tt, tt), ((tt, tt), ((tt, tt), ((tt, tt), ((tt, tt), tt)))))
 
-pub a_prepare_is_stopped : report 1 stopped_at_prepare
-    ≡ line 2 (says.Begun c1 1 (tid s0 0))
-    ∷ line 4 (says.Opened c1 3 s0)
-    ∷ line 6 (says.Did c1 5)
-    ∷ line 9 (says.Stopped s0)
-    ∷ line 9 (says.Lost 10)
-    ∷ line 10 (says.Up s0 2)
-    ∷ line 11 (says.Aborted c1 8 (tid s0 0) (Lost s0))
-    ∷ line 11 (says.Ignored 13)
-    ∷ []
+pub a_prepare_is_stopped : report 1 stopped_at_prepare ≡ a_prepare_is_stopped_report
 unfolding locks.unit_before
 a_prepare_is_stopped = refl
 
@@ -59,22 +43,7 @@ pub a_prepare_is_stopped_steps : AreSteps 1 stopped_at_prepare (start 1)
 unfolding locks.unit_before
 a_prepare_is_stopped_steps = ((tt, tt), ((tt, tt), ((tt, tt), (tt, ((tt, tt), (((no-works, no-flags), tt), tt))))))
 
-pub a_write_waits_for_a_reader : report 1 two_at_a_block
-    ≡ line 2 (says.Begun c1 1 (tid s0 0))
-    ∷ line 4 (says.Opened c1 3 s0)
-    ∷ line 6 (says.Did c1 5)
-    ∷ line 8 (says.Did c1 7)
-    ∷ line 10 (says.Commit (tid s0 0))
-    ∷ line 10 (says.Committed c1 9 (tid s0 0))
-    ∷ line 12 (says.Begun c1 11 (tid s0 2))
-    ∷ line 14 (says.Opened c1 13 s0)
-    ∷ line 16 (says.Did c1 15)
-    ∷ line 18 (says.Begun c2 17 (tid s0 4))
-    ∷ line 20 (says.Opened c2 19 s0)
-    ∷ line 22 (says.Read c2 21 (padded (97 ∷ [])))
-    ∷ line 24 (says.Waiting c1 23 s0 (Block (file 7) (block 0)) (tid s0 4))
-    ∷ line 24 (says.Waiting c1 23 s0 (Block (file 7) (block 0)) (tid s0 4))
-    ∷ []
+pub a_write_waits_for_a_reader : report 1 two_at_a_block ≡ a_write_waits_for_a_reader_report
 unfolding locks.unit_before
 a_write_waits_for_a_reader = refl
 
@@ -86,26 +55,7 @@ pub a_reader_gives_way_page : (c : Pick) → ((told 1 a_reader_breaks).course.wo
 unfolding locks.unit_before
 a_reader_gives_way_page c = refl
 
-pub a_reader_gives_way : report 1 a_reader_breaks
-    ≡ line 2 (says.Begun c1 1 (tid s0 0))
-    ∷ line 4 (says.Opened c1 3 s0)
-    ∷ line 6 (says.Did c1 5)
-    ∷ line 8 (says.Did c1 7)
-    ∷ line 10 (says.Commit (tid s0 0))
-    ∷ line 10 (says.Committed c1 9 (tid s0 0))
-    ∷ line 12 (says.Begun c1 11 (tid s0 2))
-    ∷ line 14 (says.Opened c1 13 s0)
-    ∷ line 16 (says.Did c1 15)
-    ∷ line 18 (says.Begun c2 17 (tid s0 4))
-    ∷ line 20 (says.Opened c2 19 s0)
-    ∷ line 22 (says.Read c2 21 (padded (97 ∷ [])))
-    ∷ line 24 (says.Waiting c1 23 s0 (Block (file 7) (block 0)) (tid s0 4))
-    ∷ line 24 (says.Waiting c1 23 s0 (Block (file 7) (block 0)) (tid s0 4))
-    ∷ line 27 (says.Broke s0 (tid s0 4) (Block (file 7) (block 0)) (tid s0 2))
-    ∷ line 27 (says.Commit (tid s0 2))
-    ∷ line 27 (says.Committed c1 23 (tid s0 2))
-    ∷ line 29 (says.Aborted c2 28 (tid s0 4) (Broken s0 (Block (file 7) (block 0)) (tid s0 2)))
-    ∷ []
+pub a_reader_gives_way : report 1 a_reader_breaks ≡ a_reader_gives_way_report
 unfolding locks.unit_before
 a_reader_gives_way = refl
 
@@ -117,25 +67,7 @@ pub two_clients_wait_file : (c : Pick) → ((told 2 two_wait).course.world.found
 unfolding locks.unit_before
 two_clients_wait_file c = refl
 
-pub two_clients_wait : report 2 two_wait
-    ≡ line 3 (says.Begun c1 1 (tid s0 0))
-    ∷ line 3 (says.Begun c2 2 (tid s0 1))
-    ∷ line 6 (says.Opened c1 4 s0)
-    ∷ line 6 (says.Opened c2 5 s0)
-    ∷ line 9 (says.Opened c1 7 s1)
-    ∷ line 9 (says.Opened c2 8 s1)
-    ∷ line 12 (says.Refused c1 10 NoFile)
-    ∷ line 12 (says.Refused c2 11 NoFile)
-    ∷ line 15 (says.Did c1 13)
-    ∷ line 15 (says.Did c2 14)
-    ∷ line 18 (says.Waiting c1 16 s1 (File (file 8)) (tid s0 1))
-    ∷ line 18 (says.Waiting c2 17 s0 (File (file 7)) (tid s0 0))
-    ∷ line 18 (says.Waiting c1 16 s1 (File (file 8)) (tid s0 1))
-    ∷ line 18 (says.Waiting c2 17 s0 (File (file 7)) (tid s0 0))
-    ∷ line 20 (says.Aborted c1 19 (tid s0 0) Requested)
-    ∷ line 20 (says.Commit (tid s0 1))
-    ∷ line 20 (says.Committed c2 17 (tid s0 1))
-    ∷ []
+pub two_clients_wait : report 2 two_wait ≡ two_clients_wait_report
 unfolding locks.unit_before
 two_clients_wait = refl
 
@@ -147,16 +79,7 @@ pub a_stopped_prepare_is_found_or_not_found_file : (c : Pick) → ((told 2 half_
 unfolding locks.unit_before
 a_stopped_prepare_is_found_or_not_found_file c = refl
 
-pub a_stopped_prepare_is_found_or_not_found : report 2 half_prepared
-    ≡ line 2 (says.Begun c1 1 (tid s1 0))
-    ∷ line 4 (says.Opened c1 3 s0)
-    ∷ line 6 (says.Did c1 5)
-    ∷ line 9 (says.Stopped s0)
-    ∷ line 9 (says.Lost 11)
-    ∷ line 10 (says.Up s0 2)
-    ∷ line 11 (says.Commit (tid s1 0))
-    ∷ line 11 (says.Committed c1 8 (tid s1 0))
-    ∷ []
+pub a_stopped_prepare_is_found_or_not_found : report 2 half_prepared ≡ a_stopped_prepare_is_found_report
 unfolding locks.unit_before
 a_stopped_prepare_is_found_or_not_found = refl
 
@@ -164,15 +87,7 @@ pub a_stopped_prepare_is_found_or_not_found_steps : AreSteps 2 half_prepared (st
 unfolding locks.unit_before
 a_stopped_prepare_is_found_or_not_found_steps = ((tt, tt), ((tt, tt), ((tt, tt), (tt, ((tt, tt), (((one-work _, no-flags), tt), tt))))))
 
-pub a_stopped_prepare_is_found_or_not_decayed : report 2 not_prepared
-    ≡ line 2 (says.Begun c1 1 (tid s1 0))
-    ∷ line 4 (says.Opened c1 3 s0)
-    ∷ line 6 (says.Did c1 5)
-    ∷ line 9 (says.Stopped s0)
-    ∷ line 9 (says.Lost 11)
-    ∷ line 11 (says.Up s0 2)
-    ∷ line 12 (says.Aborted c1 8 (tid s1 0) (Lost s0))
-    ∷ []
+pub a_stopped_prepare_is_found_or_not_decayed : report 2 not_prepared ≡ a_stopped_prepare_is_lost_report
 unfolding locks.unit_before
 a_stopped_prepare_is_found_or_not_decayed = refl
 
@@ -180,16 +95,7 @@ pub a_stopped_prepare_is_found_or_not_decayed_steps : AreSteps 2 not_prepared (s
 unfolding locks.unit_before
 a_stopped_prepare_is_found_or_not_decayed_steps = ((tt, tt), ((tt, tt), ((tt, tt), (tt, ((tt, tt), (tt, (((no-works, no-flags), tt), tt)))))))
 
-pub a_stopped_prepare_is_found_or_not_revived : report 2 revived_and_prepared
-    ≡ line 2 (says.Begun c1 1 (tid s1 0))
-    ∷ line 4 (says.Opened c1 3 s0)
-    ∷ line 6 (says.Did c1 5)
-    ∷ line 9 (says.Stopped s0)
-    ∷ line 9 (says.Lost 11)
-    ∷ line 12 (says.Up s0 2)
-    ∷ line 13 (says.Commit (tid s1 0))
-    ∷ line 13 (says.Committed c1 8 (tid s1 0))
-    ∷ []
+pub a_stopped_prepare_is_found_or_not_revived : report 2 revived_and_prepared ≡ a_stopped_prepare_comes_back_report
 unfolding locks.unit_before
 a_stopped_prepare_is_found_or_not_revived = refl
 
@@ -205,19 +111,7 @@ pub a_stopped_commit_is_found_or_not_found_file : (c : Pick) → ((told 2 half_c
 unfolding locks.unit_before
 a_stopped_commit_is_found_or_not_found_file c = refl
 
-pub a_stopped_commit_is_found_or_not_found : report 2 half_committed
-    ≡ line 2 (says.Begun c1 1 (tid s1 0))
-    ∷ line 4 (says.Opened c1 3 s0)
-    ∷ line 6 (says.Did c1 5)
-    ∷ line 9 (says.Stopped s1)
-    ∷ line 9 (says.Lost 11)
-    ∷ line 9 (says.Lost 12)
-    ∷ line 10 (says.Up s1 2)
-    ∷ line 10 (says.Commit (tid s1 0))
-    ∷ line 11 (says.Committed c1 8 (tid s1 0))
-    ∷ line 11 (says.Ignored 18)
-    ∷ line 11 (says.Ignored 20)
-    ∷ []
+pub a_stopped_commit_is_found_or_not_found : report 2 half_committed ≡ a_stopped_commit_is_found_report
 unfolding locks.unit_before
 a_stopped_commit_is_found_or_not_found = refl
 
@@ -225,17 +119,7 @@ pub a_stopped_commit_is_found_or_not_found_steps : AreSteps 2 half_committed (st
 unfolding locks.unit_before
 a_stopped_commit_is_found_or_not_found_steps = ((tt, tt), ((tt, tt), ((tt, tt), (tt, ((tt, tt), (((no-works, one-flag _), tt), tt))))))
 
-pub a_stopped_commit_is_found_or_not_decayed : report 2 not_committed
-    ≡ line 2 (says.Begun c1 1 (tid s1 0))
-    ∷ line 4 (says.Opened c1 3 s0)
-    ∷ line 6 (says.Did c1 5)
-    ∷ line 9 (says.Stopped s1)
-    ∷ line 9 (says.Lost 11)
-    ∷ line 9 (says.Lost 12)
-    ∷ line 11 (says.Up s1 2)
-    ∷ line 12 (says.Aborted c1 8 (tid s1 0) (Lost s1))
-    ∷ line 12 (says.Ignored 17)
-    ∷ []
+pub a_stopped_commit_is_found_or_not_decayed : report 2 not_committed ≡ a_stopped_commit_is_lost_report
 unfolding locks.unit_before
 a_stopped_commit_is_found_or_not_decayed = refl
 

@@ -1,6 +1,5 @@
 -- What holds of the sizes of a server's tables and of what it has stored, after each of its steps.
-use Rattle.jn_system_settling.proofs.Common.{◌≡◌, ◌≢◌, ◌⊎◌, inl, inr, ◌≤◌, ℕ, zero, suc, ◌+◌, Bool, true, false, List, [], ◌∷◌, ◌++◌, length, take, Option, Some, None, true≢false, refl, sym, ◌∙◌, ap, subst, arith, if◌then◌else◌, map, list_any, list_all, IsDistinct, AllByRecursion, nat_tests, ServerNo, Tid, WorkId, tid_eq, work_eq, tid_tells, work_before, Message, Work, Transaction, StableState, Prepared, FlagState, Change, AddReady, MarkGoing, CarryOut, RemoveWork, AddFlag, DropFlag, made_by, made_all, at_tid, RowOutcome, WorkerTable, work_at, worker_row, worker_step, restored_work, restored_worker, CoordinatorTable, coordinator_row, close_clients_row, restored_transaction, restored_transactions, not-before, Memory, Room, storage_of, of_worker, of_coordinator, of_step, server_row, server_step, is_for_worker, restored, AreNames, tid_before, TableFact, worker-keeps, step-keeps, coordinator-aside, close-aside, are_of_flags, flags-keep, flags-all, weight, weigh_all, goings, goings_at, is_few, is_small, are_small_stages, committed_at, AreFlagsOf, AreSmallFlags, AreAtMost64, StoredSizes, TableSizes}
-use Rattle.std.specs.Prelude.{is_some}
+use Rattle.jn_system_settling.proofs.Common.{◌≡◌, ◌≢◌, ◌⊎◌, inl, inr, ◌≤◌, ℕ, zero, suc, ◌+◌, Bool, true, false, List, [], ◌∷◌, ◌++◌, length, take, Option, Some, None, true≢false, refl, sym, ◌∙◌, ap, subst, arith, if◌then◌else◌, is_some, map, list_any, list_all, IsDistinct, AllByRecursion, nat_tests, ServerNo, Tid, WorkId, tid_eq, work_eq, tid_tells, work_before, Message, Work, Transaction, StableState, Prepared, FlagState, Change, AddReady, MarkGoing, CarryOut, RemoveWork, AddFlag, DropFlag, made_by, made_all, at_tid, RowOutcome, WorkerTable, work_at, worker_row, worker_step, restored_work, restored_worker, CoordinatorTable, coordinator_row, close_clients_row, restored_transaction, restored_transactions, not-before, Memory, Room, storage_of, of_worker, of_coordinator, of_step, server_row, server_step, is_for_worker, restored, AreNames, tid_before, TableFact, worker-keeps, step-keeps, coordinator-aside, close-aside, are_of_flags, flags-keep, flags-all, weight, weigh_all, goings, goings_at, is_few, is_small, are_small_stages, committed_at, AreFlagsOf, AreSmallFlags, AreAtMost64, StoredSizes, TableSizes}
 use Rattle.std.specs.Cmp.{IsEquivalence}
 use Rattle.std.proofs.lemmas.Map.Made.{length-le_from_is_member}
 use Rattle.jn_system.specs.WholeSystem.Steps.{are_rising}
